@@ -1,0 +1,14 @@
+//! The outside as the program sees it: a source of bytes, a sink for bytes and named files.
+#![tactic(auto)]
+
+mod calls;
+mod mem_files;
+mod memory;
+mod outside;
+mod system;
+
+pub use calls::Calls;
+pub use mem_files::{MemFile, MemFiles};
+pub use memory::{MemSink, MemSource, SureSource};
+pub use outside::{Failed, FileErr, Files, Sink, Source};
+pub use system::{OsFiles, OsSink, OsSource};

@@ -1,0 +1,126 @@
+// Named files in memory.
+ghost use Rattle.std.specs.Prelude.{◌≡◌, ◌<◌, ◌≤◌, [], Some, None, OnOk, OnErr, IfOk, IsSome, length, take, drop};
+ghost use Rattle.std.specs.FinMap as map;
+ghost use Rattle.std.specs.Str.{bytes_eq};
+ghost use Rattle.ldb_edge.specs.Known.{appended};
+ghost use Rattle.ldb_edge.specs.MemFiles.{map_of, place_of};
+
+use crate::memory::fill;
+use crate::{Calls, Failed, FileErr, Files};
+use std::alloc::{AllocError, Global};
+
+/// A file in memory.
+#[derive(Drop)]
+pub struct MemFile {
+    pub name: String,
+    pub bytes: Vec<u8>,
+}
+
+/// Files in memory, of which some calls fail.
+#[derive(Drop)]
+pub struct MemFiles {
+    rows: Vec<MemFile>,
+    calls: Calls,
+    read_faults: u64,
+    write_faults: u64,
+}
+
+/// Where the file of a name stands, if there is one.
+fn place(rows: &[MemFile], name: &str) -> Option<usize>
+    ensures { result ≡ place_of rows.now name.now }
+{
+    rows.iter().position(|row| name == row.name.as_str())
+}
+
+impl MemFiles {
+    /// Files that hold `start` at first, and fail in the calls with these numbers. Of two files
+    /// with one name the first counts.
+    pub fn new(start: Vec<MemFile>, fails: Vec<u64>) -> Self
+        ensures held { ⟦<MemFiles as Files>⟧.held result ≡ Some (map_of start.items) }
+    {
+        MemFiles {
+            rows: start,
+            calls: Calls::new(fails),
+            read_faults: 0,
+            write_faults: 0,
+        }
+    }
+}
+
+impl Files for MemFiles {
+    ghost held = { λ s. Some (map_of s.rows.items) };
+
+    ghost read_faults = { λ s. s.read_faults };
+
+    ghost write_faults = { λ s. s.write_faults };
+
+    ghost created = { λ s name. IsSome (map.get (map_of s.rows.items) name) };
+
+    ghost missed = { λ _ _. Unit {0} };
+
+    ghost calls = { λ s. Some s.calls };
+
+    fn read_at(&mut self, name: &str, at: u64, buf: &mut [u8]) -> Result<usize, FileErr> {
+        if self.calls.count() {
+            self.read_faults = self.read_faults.saturating_add(1);
+            return Err(FileErr::Failed);
+        }
+        let Some(i) = place(&self.rows, name) else {
+            return Err(FileErr::Absent);
+        };
+        Ok(fill_from(&self.rows[i].bytes, at, buf))
+    }
+
+    fn create(&mut self, name: &str) -> Result<(), Failed> {
+        if self.calls.count() || put_empty(&mut self.rows, name).is_err() {
+            self.write_faults = self.write_faults.saturating_add(1);
+            return Err(Failed);
+        }
+        Ok(())
+    }
+
+    fn append(&mut self, name: &str, piece: &[u8]) -> Result<usize, FileErr> {
+        if self.calls.count() {
+            self.write_faults = self.write_faults.saturating_add(1);
+            return Err(FileErr::Failed);
+        }
+        let Some(i) = place(&self.rows, name) else {
+            return Err(FileErr::Absent);
+        };
+        if self.rows[i].bytes.extend_from_slice(piece).is_err() {
+            self.write_faults = self.write_faults.saturating_add(1);
+            return Err(FileErr::Failed);
+        }
+        Ok(piece.len())
+    }
+}
+
+/// Copies the bytes of a file from an offset on, and says how many.
+fn fill_from(bytes: &[u8], at: u64, buf: &mut [u8]) -> usize
+    ensures bound { result ≤ length buf.new }
+    ensures front { take result buf.new ≡ take result (drop at bytes.now) }
+    ensures ended { result ≡ 0 → 0 < length buf.new → length bytes.now ≤ at }
+{
+    let start = if at < bytes.len() as u64 {
+        at as usize
+    } else {
+        bytes.len()
+    };
+    fill(&bytes[start..], buf)
+}
+
+/// Makes a name hold no bytes.
+fn put_empty(rows: &mut Vec<MemFile>, name: &str) -> Result<(), AllocError>
+    ensures ok { OnOk result (map_of rows.new.items ≡ map.insert (map_of rows.old.items) name.now []) }
+    ensures err { OnErr result (rows.new.items ≡ rows.old.items) }
+{
+    let alloc = *rows.allocator();
+    if let Some(i) = place(rows, name) {
+        rows[i].bytes = Vec::new(alloc);
+        return Ok(());
+    }
+    let name = String::from_str(alloc, name)?;
+    let bytes = Vec::new(alloc);
+    rows.push(MemFile { name, bytes })?;
+    Ok(())
+}
