@@ -1,6 +1,6 @@
 // Which calls on an object in memory fail.
 ghost use Rattle.std.specs.Prelude.{◌≡◌};
-ghost use Rattle.ldb_edge.specs.Calls.{is_failing, next_call};
+ghost use Rattle.ldb_edge.specs.Calls.{is_failing, next_call, no_calls};
 
 /// The calls that an object in memory gets.
 #[derive(Drop)]
@@ -14,8 +14,7 @@ pub struct Calls {
 impl Calls {
     /// No call was made, and these fail.
     pub fn new(fails: Vec<u64>) -> Self
-        ensures fails { result.fails ≡ fails }
-        ensures made { result.made ≡ 0 }
+        ensures { result ≡ no_calls fails }
     {
         Calls { fails, made: 0 }
     }

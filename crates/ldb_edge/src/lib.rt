@@ -5,10 +5,12 @@ mod calls;
 mod mem_files;
 mod memory;
 mod outside;
+mod sure;
 mod system;
 
 pub use calls::Calls;
-pub use mem_files::{MemFile, MemFiles};
-pub use memory::{MemSink, MemSource, SureSource};
+pub use mem_files::MemFiles;
+pub use memory::{MemSink, MemSource};
 pub use outside::{Failed, FileErr, Files, Sink, Source};
+pub use sure::{SureFiles, SureSink, SureSource};
 pub use system::{OsFiles, OsSink, OsSource};

@@ -1,48 +1,55 @@
 // Named files in memory.
-ghost use Rattle.std.specs.Prelude.{◌≡◌, ◌<◌, ◌≤◌, [], Some, None, OnOk, OnErr, IfOk, IsSome, length, take, drop};
+ghost use Rattle.std.specs.Prelude.{◌≡◌, ◌<◌, ◌≤◌, [], Some, None, OnOk, OnErr, IfOk, IfSome, IsSome, MatchOption, length, take, drop};
 ghost use Rattle.std.specs.FinMap as map;
-ghost use Rattle.std.specs.Str.{bytes_eq};
-ghost use Rattle.ldb_edge.specs.Known.{appended};
+ghost use Rattle.ldb_edge.specs.Calls.{no_calls};
 ghost use Rattle.ldb_edge.specs.MemFiles.{map_of, place_of};
 
 use crate::memory::fill;
 use crate::{Calls, Failed, FileErr, Files};
 use std::alloc::{AllocError, Global};
 
-/// A file in memory.
-#[derive(Drop)]
-pub struct MemFile {
-    pub name: String,
-    pub bytes: Vec<u8>,
-}
-
 /// Files in memory, of which some calls fail.
 #[derive(Drop)]
 pub struct MemFiles {
-    rows: Vec<MemFile>,
+    rows: Vec<(String, Vec<u8>)>,
     calls: Calls,
     read_faults: u64,
     write_faults: u64,
 }
 
 /// Where the file of a name stands, if there is one.
-fn place(rows: &[MemFile], name: &str) -> Option<usize>
+fn place(rows: &[(String, Vec<u8>)], name: &str) -> Option<usize>
     ensures { result ≡ place_of rows.now name.now }
 {
-    rows.iter().position(|row| name == row.name.as_str())
+    rows.iter().position(|row| name == row.0.as_str())
 }
 
 impl MemFiles {
     /// Files that hold `start` at first, and fail in the calls with these numbers. Of two files
     /// with one name the first counts.
-    pub fn new(start: Vec<MemFile>, fails: Vec<u64>) -> Self
+    pub fn new(start: Vec<(String, Vec<u8>)>, fails: Vec<u64>) -> Self
         ensures held { ⟦<MemFiles as Files>⟧.held result ≡ Some (map_of start.items) }
+        ensures calls { ⟦<MemFiles as Files>⟧.calls result ≡ Some (no_calls fails) }
+        ensures read_faults { ⟦<MemFiles as Files>⟧.read_faults result ≡ 0 }
+        ensures write_faults { ⟦<MemFiles as Files>⟧.write_faults result ≡ 0 }
     {
         MemFiles {
             rows: start,
             calls: Calls::new(fails),
             read_faults: 0,
             write_faults: 0,
+        }
+    }
+
+    /// What a name holds.
+    pub fn get(&self, name: &str) -> Option<&[u8]>
+        ensures { IfSome (⟦<MemFiles as Files>⟧.held self.now) (λ files. MatchOption result
+            (map.get files name.now ≡ None)
+            (λ bytes. map.get files name.now ≡ Some bytes.now)) }
+    {
+        match place(&self.rows, name) {
+            Some(i) => Some(self.rows[i].1.as_slice()),
+            None => None,
         }
     }
 }
@@ -68,7 +75,7 @@ impl Files for MemFiles {
         let Some(i) = place(&self.rows, name) else {
             return Err(FileErr::Absent);
         };
-        Ok(fill_from(&self.rows[i].bytes, at, buf))
+        Ok(fill_from(&self.rows[i].1, at, buf))
     }
 
     fn create(&mut self, name: &str) -> Result<(), Failed> {
@@ -87,7 +94,7 @@ impl Files for MemFiles {
         let Some(i) = place(&self.rows, name) else {
             return Err(FileErr::Absent);
         };
-        if self.rows[i].bytes.extend_from_slice(piece).is_err() {
+        if self.rows[i].1.extend_from_slice(piece).is_err() {
             self.write_faults = self.write_faults.saturating_add(1);
             return Err(FileErr::Failed);
         }
@@ -110,17 +117,17 @@ fn fill_from(bytes: &[u8], at: u64, buf: &mut [u8]) -> usize
 }
 
 /// Makes a name hold no bytes.
-fn put_empty(rows: &mut Vec<MemFile>, name: &str) -> Result<(), AllocError>
+fn put_empty(rows: &mut Vec<(String, Vec<u8>)>, name: &str) -> Result<(), AllocError>
     ensures ok { OnOk result (map_of rows.new.items ≡ map.insert (map_of rows.old.items) name.now []) }
     ensures err { OnErr result (rows.new.items ≡ rows.old.items) }
 {
     let alloc = *rows.allocator();
     if let Some(i) = place(rows, name) {
-        rows[i].bytes = Vec::new(alloc);
+        rows[i].1 = Vec::new(alloc);
         return Ok(());
     }
     let name = String::from_str(alloc, name)?;
     let bytes = Vec::new(alloc);
-    rows.push(MemFile { name, bytes })?;
+    rows.push((name, bytes))?;
     Ok(())
 }

@@ -1,5 +1,6 @@
-// A source and a sink in memory.
-ghost use Rattle.std.specs.Prelude.{◌≡◌, ◌<◌, ◌≤◌, [], Some, None, vec_len, length, take, drop};
+// Sources and sinks in memory.
+ghost use Rattle.std.specs.Prelude.{◌≡◌, ◌<◌, ◌≤◌, [], Some, vec_len, length, take, drop};
+ghost use Rattle.ldb_edge.specs.Calls.{no_calls};
 
 use crate::{Calls, Failed, Sink, Source};
 
@@ -15,7 +16,7 @@ pub fn fill(rest: &[u8], buf: &mut [u8]) -> usize
     count
 }
 
-/// Bytes in memory, of which some reads fail.
+/// A source in memory, of which some reads fail.
 #[derive(Drop)]
 pub struct MemSource {
     bytes: Vec<u8>,
@@ -26,8 +27,11 @@ pub struct MemSource {
 }
 
 impl MemSource {
+    /// A source of these bytes, whose calls with these numbers fail, counted from 0.
     pub fn new(start: Vec<u8>, fails: Vec<u64>) -> Self
-        ensures { ⟦<MemSource as Source>⟧.left result ≡ Some start.items }
+        ensures left { ⟦<MemSource as Source>⟧.left result ≡ Some start.items }
+        ensures calls { ⟦<MemSource as Source>⟧.calls result ≡ Some (no_calls fails) }
+        ensures faults { ⟦<MemSource as Source>⟧.faults result ≡ 0 }
     {
         MemSource {
             bytes: start,
@@ -56,39 +60,6 @@ impl Source for MemSource {
     }
 }
 
-/// Bytes in memory, of which no read fails.
-#[derive(Drop)]
-pub struct SureSource {
-    bytes: Vec<u8>,
-    at: usize,
-    ghost in_range: { at ≤ vec_len bytes },
-}
-
-impl SureSource {
-    pub fn new(start: Vec<u8>) -> Self
-        ensures { ⟦<SureSource as Source>⟧.left result ≡ Some start.items }
-    {
-        SureSource {
-            bytes: start,
-            at: 0,
-        }
-    }
-}
-
-impl Source for SureSource {
-    ghost left = { λ s. Some (drop s.at s.bytes.items) };
-
-    ghost faults = { λ _. 0 };
-
-    ghost calls = { λ _. None };
-
-    fn read(&mut self, buf: &mut [u8]) -> Result<usize, Failed> {
-        let count = fill(&self.bytes[self.at..], buf);
-        self.at += count;
-        Ok(count)
-    }
-}
-
 /// A sink in memory, of which some writes fail. A write that finds no memory fails too.
 #[derive(Drop)]
 pub struct MemSink {
@@ -98,8 +69,11 @@ pub struct MemSink {
 }
 
 impl MemSink {
+    /// A sink that took these bytes, whose calls with these numbers fail, counted from 0.
     pub fn new(start: Vec<u8>, fails: Vec<u64>) -> Self
-        ensures { ⟦<MemSink as Sink>⟧.taken result ≡ Some start.items }
+        ensures taken { ⟦<MemSink as Sink>⟧.taken result ≡ Some start.items }
+        ensures calls { ⟦<MemSink as Sink>⟧.calls result ≡ Some (no_calls fails) }
+        ensures faults { ⟦<MemSink as Sink>⟧.faults result ≡ 0 }
     {
         MemSink {
             bytes: start,
@@ -108,6 +82,7 @@ impl MemSink {
         }
     }
 
+    /// The bytes that it took.
     pub fn bytes(&self) -> &[u8]
         ensures { ⟦<MemSink as Sink>⟧.taken self.now ≡ Some result.now }
     {

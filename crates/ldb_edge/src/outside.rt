@@ -2,7 +2,7 @@
 ghost use Rattle.std.specs.Prelude.{◌≡◌, ◌≢◌, ℕ, ◌<◌, ◌≤◌, List, [], Option, length, take, IsSome, IsErr, IfOk, OnOk, OnErr, IfSome};
 ghost use Rattle.std.specs.FinMap as map;
 ghost use Rattle.std.specs.Option.{option_map};
-ghost use Rattle.ldb_edge.specs.Calls.{next_call, FailsAsListed, FailsIfListed};
+ghost use Rattle.ldb_edge.specs.Calls.{next_call, FailsAsListed, FailsIfListed, TakesSome};
 ghost use Rattle.ldb_edge.specs.declared.calls.Calls.{Calls};
 ghost use Rattle.ldb_edge.specs.Count.{Rose, CountsFailure, CountsTaken, CountsFileCall, CountsAppend};
 ghost use Rattle.ldb_edge.specs.Known.{before_known, known_and, taken_of, FileMap, HoldsPiece, EndsBy, appended};
@@ -58,6 +58,7 @@ pub trait Sink {
         ensures cause { IfOk result (λ n. CountsTaken (faults self.old) (faults self.new) n (length piece.now)) }
         ensures failed { OnErr result (Rose (faults self.old) (faults self.new)) }
         ensures listed { FailsIfListed (calls self.old) (IsErr result) }
+        ensures some { IfOk result (λ n. TakesSome (calls self.old) n (length piece.now)) }
         ensures counted { calls self.new ≡ option_map next_call (calls self.old) };
 }
 
@@ -121,5 +122,6 @@ pub trait Files {
         ensures read_cause { read_faults self.new ≡ read_faults self.old }
         ensures write_cause { CountsAppend (write_faults self.old) (write_faults self.new) result (length piece.now) }
         ensures listed { FailsIfListed (calls self.old) (result ≡ Err FileErr.Failed) }
+        ensures some { IfOk result (λ n. TakesSome (calls self.old) n (length piece.now)) }
         ensures counted { calls self.new ≡ option_map next_call (calls self.old) };
 }

@@ -7,7 +7,7 @@ use std::fs::OpenOptions;
 use std::io::{ErrorKind, Read, Seek, SeekFrom, Write};
 use std::{fs, io, rt};
 
-/// A stream of the system.
+/// A stream of the system. It hands on at once what one read gives.
 #[derive(Drop)]
 pub struct OsSource<R: Read> {
     inner: R,
@@ -15,6 +15,7 @@ pub struct OsSource<R: Read> {
 }
 
 impl<R: Read> OsSource<R> {
+    /// What this reader gives.
     pub fn new(inner: R) -> Self {
         OsSource { inner, faults: 0 }
     }
@@ -38,7 +39,7 @@ impl<R: Read> Source for OsSource<R> {
     }
 }
 
-/// A writer of the system.
+/// A writer of the system. Each write is flushed.
 #[derive(Drop)]
 pub struct OsSink<W: Write> {
     inner: W,
@@ -46,6 +47,7 @@ pub struct OsSink<W: Write> {
 }
 
 impl<W: Write> OsSink<W> {
+    /// What this writer takes.
     pub fn new(inner: W) -> Self {
         OsSink { inner, faults: 0 }
     }
@@ -59,7 +61,7 @@ impl<W: Write> Sink for OsSink<W> {
     ghost calls = { λ _. None };
 
     fn write(&mut self, piece: &[u8]) -> Result<usize, Failed> {
-        match self.inner.write(piece) {
+        match write_through(&mut self.inner, piece) {
             Ok(count) => {
                 if count == 0 && !piece.is_empty() {
                     self.faults = self.faults.saturating_add(1);
@@ -74,6 +76,15 @@ impl<W: Write> Sink for OsSink<W> {
     }
 }
 
+/// Writes the front of a piece and flushes it, and says how many bytes.
+fn write_through<W: Write>(to: &mut W, piece: &[u8]) -> io::Result<usize>
+    ensures { IfOk result (λ n. n ≤ length piece.now) }
+{
+    let count = to.write(piece)?;
+    to.flush()?;
+    Ok(count)
+}
+
 /// The files of the system.
 #[derive(Drop)]
 pub struct OsFiles<R: rt::Files> {
@@ -83,21 +94,13 @@ pub struct OsFiles<R: rt::Files> {
 }
 
 impl<R: rt::Files> OsFiles<R> {
+    /// The files that this runtime reaches.
     pub fn new(rt: R) -> Self {
         OsFiles {
             rt,
             read_faults: 0,
             write_faults: 0,
         }
-    }
-
-    fn read_failed(&mut self) -> FileErr
-        ensures fault { result ≡ FileErr.Failed }
-        ensures read { Rose self.old.read_faults self.new.read_faults }
-        ensures write { self.new.write_faults ≡ self.old.write_faults }
-    {
-        self.read_faults = self.read_faults.saturating_add(1);
-        FileErr::Failed
     }
 }
 
@@ -115,21 +118,13 @@ impl<R: rt::Files> Files for OsFiles<R> {
     ghost calls = { λ _. None };
 
     fn read_at(&mut self, name: &str, at: u64, buf: &mut [u8]) -> Result<usize, FileErr> {
-        let mut file = match fs::open(&self.rt, name) {
-            Ok(file) => file,
-            Err(error) => {
-                if error.kind() == ErrorKind::NotFound {
-                    return Err(FileErr::Absent);
-                }
-                return Err(self.read_failed());
-            }
-        };
-        if file.seek(SeekFrom::Start(at)).is_err() {
-            return Err(self.read_failed());
-        }
-        match file.read(buf) {
+        match read_from(&self.rt, name, at, buf) {
             Ok(count) => Ok(count),
-            Err(_) => Err(self.read_failed()),
+            Err(FileErr::Absent) => Err(FileErr::Absent),
+            Err(FileErr::Failed) => {
+                self.read_faults = self.read_faults.saturating_add(1);
+                Err(FileErr::Failed)
+            }
         }
     }
 
@@ -156,6 +151,25 @@ impl<R: rt::Files> Files for OsFiles<R> {
                 Err(FileErr::Failed)
             }
         }
+    }
+}
+
+/// Fills the front of a buffer with the bytes of a file from an offset on. Absent says that there
+/// is no such file when it is opened.
+fn read_from<R: rt::Files>(rt: &R, name: &str, at: u64, buf: &mut [u8]) -> Result<usize, FileErr>
+    ensures { IfOk result (λ n. n ≤ length buf.new) }
+{
+    let mut file = match fs::open(rt, name) {
+        Ok(file) => file,
+        Err(error) if error.kind() == ErrorKind::NotFound => return Err(FileErr::Absent),
+        Err(_) => return Err(FileErr::Failed),
+    };
+    if file.seek(SeekFrom::Start(at)).is_err() {
+        return Err(FileErr::Failed);
+    }
+    match file.read(buf) {
+        Ok(count) => Ok(count),
+        Err(_) => Err(FileErr::Failed),
     }
 }
 

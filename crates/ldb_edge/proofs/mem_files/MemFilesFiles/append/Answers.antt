@@ -2,9 +2,8 @@ use Rattle.std.proofs.Common.{◌≡◌, List, ◌++◌, ℕ, true, false, lengt
 use Rattle.std.specs.Prelude.{IsSome}
 use Rattle.std.specs.FinMap as map
 use Rattle.std.proofs.Math.Seq.{take-length}
-use Rattle.ldb_edge.specs.declared.mem_files.MemFile.{MemFile}
 use Rattle.ldb_edge.specs.Known.{appended}
-use Rattle.ldb_edge.specs.MemFiles.{map_of, place_of}
+use Rattle.ldb_edge.specs.MemFiles.{Row, map_of, place_of}
 use Rattle.ldb_edge.proofs.Maps.{stays_held}
 use Rattle.ldb_edge.proofs.Rows.{absent_at, held_at, same_at, grown_at, stored_at}
 use Rattle.ldb_edge.proofs.mem_files.MemFilesFiles.append.Goals as goal
@@ -24,17 +23,17 @@ pub returns-then-is_err-clause-err : goal.returns-then-is_err-clause-err
 returns-then-is_err-clause-err c =
     let rows = c.args.self.now.rows.items in
     let at : place_of rows c.args.name.now ≡ Some c.in-Some.i = search rules in
-    let row : MemFile = record { name = c.index_mut.result.now.name; bytes = c.extend_from_slice.new.self } in
-    let kept : row.bytes.items ≡ c.index_mut.result.now.bytes.items = search rules in
+    let row : Row = (c.index_mut.result.now.0, c.extend_from_slice.new.self) in
+    let kept : row.1.items ≡ c.index_mut.result.now.1.items = search rules in
     ap Some (same_at c.args.name.now rows c.in-Some.i at c.index_mut.result.now c.index_mut.ensures.value row refl kept)
 
 pub returns-then-is_err-clause-keeps_created : goal.returns-then-is_err-clause-keeps_created
 returns-then-is_err-clause-keeps_created c =
     let rows = c.args.self.now.rows.items in
     let at : place_of rows c.args.name.now ≡ Some c.in-Some.i = search rules in
-    let row : MemFile = record { name = c.index_mut.result.now.name; bytes = c.extend_from_slice.new.self } in
+    let row : Row = (c.index_mut.result.now.0, c.extend_from_slice.new.self) in
     let stored = stored_at c.args.name.now rows c.in-Some.i at c.index_mut.result.now c.index_mut.ensures.value row refl in
-    λ other h. subst (λ m. IsSome (map.get m other)) (sym stored) (stays_held (map_of rows) c.args.name.now row.bytes.items other h)
+    λ other h. subst (λ m. IsSome (map.get m other)) (sym stored) (stays_held (map_of rows) c.args.name.now row.1.items other h)
 
 pub returns-clause-there : goal.returns-clause-there
 returns-clause-there c =
@@ -46,10 +45,10 @@ pub returns-clause-ok : goal.returns-clause-ok
 returns-clause-ok c =
     let rows = c.args.self.now.rows.items in
     let at : place_of rows c.args.name.now ≡ Some c.in-Some.i = search rules in
-    let row : MemFile = record { name = c.index_mut.result.now.name; bytes = c.extend_from_slice.new.self } in
+    let row : Row = (c.index_mut.result.now.0, c.extend_from_slice.new.self) in
     let piece = c.args.piece.now in
-    let old = c.index_mut.result.now.bytes.items in
-    let grown : row.bytes.items ≡ old ++ piece = search rules in
+    let old = c.index_mut.result.now.1.items in
+    let grown : row.1.items ≡ old ++ piece = search rules in
     let taken = grown ∙ ap (λ bs. old ++ bs) (sym (take-length piece)) in
     ap Some (grown_at c.args.name.now rows c.in-Some.i at c.index_mut.result.now c.index_mut.ensures.value row (take (length piece) piece) refl taken)
 
@@ -57,6 +56,6 @@ pub returns-clause-keeps_created : goal.returns-clause-keeps_created
 returns-clause-keeps_created c =
     let rows = c.args.self.now.rows.items in
     let at : place_of rows c.args.name.now ≡ Some c.in-Some.i = search rules in
-    let row : MemFile = record { name = c.index_mut.result.now.name; bytes = c.extend_from_slice.new.self } in
+    let row : Row = (c.index_mut.result.now.0, c.extend_from_slice.new.self) in
     let stored = stored_at c.args.name.now rows c.in-Some.i at c.index_mut.result.now c.index_mut.ensures.value row refl in
-    λ other h. subst (λ m. IsSome (map.get m other)) (sym stored) (stays_held (map_of rows) c.args.name.now row.bytes.items other h)
+    λ other h. subst (λ m. IsSome (map.get m other)) (sym stored) (stays_held (map_of rows) c.args.name.now row.1.items other h)

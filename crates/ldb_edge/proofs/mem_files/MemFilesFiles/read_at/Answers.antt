@@ -1,7 +1,6 @@
 use Rattle.std.proofs.Common.{◌≡◌, ◌≤◌, ◌<◌, Some, None, length, take, drop, sym, subst, rules}
-use Rattle.ldb_edge.specs.declared.mem_files.MemFile.{MemFile}
 use Rattle.ldb_edge.specs.Known.{HoldsPiece, EndsBy}
-use Rattle.ldb_edge.specs.MemFiles.{map_of, place_of}
+use Rattle.ldb_edge.specs.MemFiles.{Row, map_of, place_of}
 use Rattle.ldb_edge.proofs.Pieces.{front_of}
 use Rattle.ldb_edge.proofs.Rows.{absent_at, held_at}
 use Rattle.ldb_edge.proofs.mem_files.MemFilesFiles.read_at.Goals as goal
@@ -15,17 +14,17 @@ pub returns-clause-bytes : goal.returns-clause-bytes
 returns-clause-bytes c =
     let rows = c.args.self.now.rows.items in
     let at : place_of rows c.args.name.now ≡ Some c.in-Some.i = search rules in
-    let row : MemFile = c.index.result.now in
+    let row : Row = c.index.result.now in
     let held = held_at c.args.name.now rows c.in-Some.i at row (search rules) in
     let n = c.fill_from.result in
-    let front : take n c.fill_from.new.buf ≡ take n (drop c.args.at row.bytes.items) = search rules in
-    subst (λ o. HoldsPiece o c.args.at (take n c.fill_from.new.buf)) (sym held) (front_of c.args.at n row.bytes.items c.fill_from.new.buf c.fill_from.ensures.bound front)
+    let front : take n c.fill_from.new.buf ≡ take n (drop c.args.at row.1.items) = search rules in
+    subst (λ o. HoldsPiece o c.args.at (take n c.fill_from.new.buf)) (sym held) (front_of c.args.at n row.1.items c.fill_from.new.buf c.fill_from.ensures.bound front)
 
 pub returns-clause-ended : goal.returns-clause-ended
 returns-clause-ended c = λ none some.
     let rows = c.args.self.now.rows.items in
     let at : place_of rows c.args.name.now ≡ Some c.in-Some.i = search rules in
-    let row : MemFile = c.index.result.now in
+    let row : Row = c.index.result.now in
     let held = held_at c.args.name.now rows c.in-Some.i at row (search rules) in
-    let ended : length row.bytes.items ≤ c.args.at = search rules in
+    let ended : length row.1.items ≤ c.args.at = search rules in
     subst (λ o. EndsBy o c.args.at) (sym held) ended
