@@ -2,6 +2,7 @@
 #![tactic(auto)]
 
 mod calls;
+mod fault;
 mod mem_files;
 mod memory;
 mod outside;
@@ -14,3 +15,6 @@ pub use memory::{MemSink, MemSource};
 pub use outside::{Failed, FileErr, Files, Sink, Source};
 pub use sure::{SureFiles, SureSink, SureSource};
 pub use system::{OsFiles, OsSink, OsSource};
+
+#[cfg(test)]
+mod tests;

@@ -4,6 +4,7 @@ ghost use Rattle.std.specs.FinMap as map;
 ghost use Rattle.ldb_edge.specs.Calls.{no_calls};
 ghost use Rattle.ldb_edge.specs.MemFiles.{map_of, place_of};
 
+use crate::fault::raise;
 use crate::memory::fill;
 use crate::{Calls, Failed, FileErr, Files};
 use std::alloc::{AllocError, Global};
@@ -69,7 +70,7 @@ impl Files for MemFiles {
 
     fn read_at(&mut self, name: &str, at: u64, buf: &mut [u8]) -> Result<usize, FileErr> {
         if self.calls.count() {
-            self.read_faults = self.read_faults.saturating_add(1);
+            raise(&mut self.read_faults);
             return Err(FileErr::Failed);
         }
         let Some(i) = place(&self.rows, name) else {
@@ -80,7 +81,7 @@ impl Files for MemFiles {
 
     fn create(&mut self, name: &str) -> Result<(), Failed> {
         if self.calls.count() || put_empty(&mut self.rows, name).is_err() {
-            self.write_faults = self.write_faults.saturating_add(1);
+            raise(&mut self.write_faults);
             return Err(Failed);
         }
         Ok(())
@@ -88,14 +89,14 @@ impl Files for MemFiles {
 
     fn append(&mut self, name: &str, piece: &[u8]) -> Result<usize, FileErr> {
         if self.calls.count() {
-            self.write_faults = self.write_faults.saturating_add(1);
+            raise(&mut self.write_faults);
             return Err(FileErr::Failed);
         }
         let Some(i) = place(&self.rows, name) else {
             return Err(FileErr::Absent);
         };
         if self.rows[i].1.extend_from_slice(piece).is_err() {
-            self.write_faults = self.write_faults.saturating_add(1);
+            raise(&mut self.write_faults);
             return Err(FileErr::Failed);
         }
         Ok(piece.len())

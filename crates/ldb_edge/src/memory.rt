@@ -2,6 +2,7 @@
 ghost use Rattle.std.specs.Prelude.{◌≡◌, ◌<◌, ◌≤◌, [], Some, vec_len, length, take, drop};
 ghost use Rattle.ldb_edge.specs.Calls.{no_calls};
 
+use crate::fault::raise;
 use crate::{Calls, Failed, Sink, Source};
 
 /// Copies as many bytes as there are and fit, and says how many.
@@ -51,7 +52,7 @@ impl Source for MemSource {
 
     fn read(&mut self, buf: &mut [u8]) -> Result<usize, Failed> {
         if self.calls.count() {
-            self.faults = self.faults.saturating_add(1);
+            raise(&mut self.faults);
             return Err(Failed);
         }
         let count = fill(&self.bytes[self.at..], buf);
@@ -99,7 +100,7 @@ impl Sink for MemSink {
 
     fn write(&mut self, piece: &[u8]) -> Result<usize, Failed> {
         if self.calls.count() || self.bytes.extend_from_slice(piece).is_err() {
-            self.faults = self.faults.saturating_add(1);
+            raise(&mut self.faults);
             return Err(Failed);
         }
         Ok(piece.len())

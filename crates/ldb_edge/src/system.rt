@@ -1,7 +1,7 @@
 // The outside of the system. Its objects tell nothing of what they hold.
 ghost use Rattle.std.specs.Prelude.{◌≡◌, ◌≤◌, None, IfOk, length};
-ghost use Rattle.ldb_edge.specs.Count.{Rose};
 
+use crate::fault::{raise, raise_if_untaken};
 use crate::{Failed, FileErr, Files, Sink, Source};
 use std::fs::OpenOptions;
 use std::io::{ErrorKind, Read, Seek, SeekFrom, Write};
@@ -32,7 +32,7 @@ impl<R: Read> Source for OsSource<R> {
         match self.inner.read(buf) {
             Ok(count) => Ok(count),
             Err(_) => {
-                self.faults = self.faults.saturating_add(1);
+                raise(&mut self.faults);
                 Err(Failed)
             }
         }
@@ -63,13 +63,11 @@ impl<W: Write> Sink for OsSink<W> {
     fn write(&mut self, piece: &[u8]) -> Result<usize, Failed> {
         match write_through(&mut self.inner, piece) {
             Ok(count) => {
-                if count == 0 && !piece.is_empty() {
-                    self.faults = self.faults.saturating_add(1);
-                }
+                raise_if_untaken(&mut self.faults, count, piece);
                 Ok(count)
             }
             Err(_) => {
-                self.faults = self.faults.saturating_add(1);
+                raise(&mut self.faults);
                 Err(Failed)
             }
         }
@@ -122,7 +120,7 @@ impl<R: rt::Files> Files for OsFiles<R> {
             Ok(count) => Ok(count),
             Err(FileErr::Absent) => Err(FileErr::Absent),
             Err(FileErr::Failed) => {
-                self.read_faults = self.read_faults.saturating_add(1);
+                raise(&mut self.read_faults);
                 Err(FileErr::Failed)
             }
         }
@@ -132,7 +130,7 @@ impl<R: rt::Files> Files for OsFiles<R> {
         match fs::create(&self.rt, name) {
             Ok(_) => Ok(()),
             Err(_) => {
-                self.write_faults = self.write_faults.saturating_add(1);
+                raise(&mut self.write_faults);
                 Err(Failed)
             }
         }
@@ -141,13 +139,11 @@ impl<R: rt::Files> Files for OsFiles<R> {
     fn append(&mut self, name: &str, piece: &[u8]) -> Result<usize, FileErr> {
         match append_to(&self.rt, name, piece) {
             Ok(count) => {
-                if count == 0 && !piece.is_empty() {
-                    self.write_faults = self.write_faults.saturating_add(1);
-                }
+                raise_if_untaken(&mut self.write_faults, count, piece);
                 Ok(count)
             }
             Err(_) => {
-                self.write_faults = self.write_faults.saturating_add(1);
+                raise(&mut self.write_faults);
                 Err(FileErr::Failed)
             }
         }
@@ -180,3 +176,6 @@ fn append_to<R: rt::Files>(rt: &R, name: &str, piece: &[u8]) -> io::Result<usize
     let mut file = OpenOptions::new().append(true).open(rt, name)?;
     file.write(piece)
 }
+
+#[cfg(test)]
+mod tests;
