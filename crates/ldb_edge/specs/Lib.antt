@@ -1,0 +1,4 @@
+pub mod Calls
+pub mod Count
+pub mod Known
+pub mod MemFiles
