@@ -1,5 +1,5 @@
 -- A text has no more tokens than bytes.
-use Rattle.std.proofs.Common.{◌≡◌, ◌≤◌, ◌+◌, ℕ, Bool, true, false, cond, List, [], ◌∷◌, length, suc, arith, refl}
+use Rattle.std.proofs.Common.{◌≡◌, ◌≤◌, ℕ, Bool, true, false, cond, List, [], ◌∷◌, length, suc, arith, refl}
 use Rattle.c_model.specs.declared.tree.Place.{Place}
 use Rattle.c_model.specs.Scan.{Token, token, tokens_from, lengthened, next_place, is_word, is_space, begins_word}
 

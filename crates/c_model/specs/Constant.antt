@@ -1,5 +1,5 @@
 -- Constants: decimal numbers from 0 to 2147483647.
-use Rattle.std.specs.Prelude.{ℕ, ◌+◌, ◌-◌, ◌*◌, Bool, true, false, ◌||◌, ◌&&◌, not, List, [], ◌∷◌, length, if◌then◌else◌, ◌==◌, nat_le, fold, Option, None, Some}
+use Rattle.std.specs.Prelude.{ℕ, ◌+◌, ◌-◌, ◌*◌, Bool, false, ◌||◌, ◌&&◌, not, List, [], ◌∷◌, length, if◌then◌else◌, ◌==◌, nat_le, fold, Option, None, Some}
 use Rattle.std.specs.List.{list_all}
 use Rattle.c_model.specs.Scan.{is_between}
 

@@ -2,7 +2,7 @@
 --     program : { int NAME ; } int main ( void ) { { NAME = sum ; } return sum ; }
 --     sum     : operand | operand + operand | operand - operand
 --     operand : NAME | constant
-use Rattle.std.specs.Prelude.{ℕ, Bool, true, false, ◌&&◌, List, [], ◌∷◌, ◌++◌, length, if◌then◌else◌, ◌==◌, nat_le, codes, Option, None, Some, pos, is_none}
+use Rattle.std.specs.Prelude.{ℕ, Bool, false, ◌&&◌, List, [], ◌∷◌, ◌++◌, length, if◌then◌else◌, ◌==◌, nat_le, codes, Option, None, Some, pos, is_none}
 use Rattle.std.specs.Option.{option_map}
 use Rattle.std.specs.Str.{bytes_eq}
 use Rattle.c_model.specs.declared.tree.Place.{Place}

@@ -1,5 +1,5 @@
 -- A session with one program: the replies that the source allows to a list of command lines.
-use Rattle.std.specs.Prelude.{◌≡◌, ℕ, ◌⊎◌, Bool, true, false, List, [], ◌∷◌, ◌++◌, codes, Option, None, Some, MatchBool}
+use Rattle.std.specs.Prelude.{◌≡◌, ℕ, ◌⊎◌, List, [], ◌∷◌, ◌++◌, codes, Option, None, Some, MatchBool}
 use Rattle.std.specs.Fmt.{decimal, signed_decimal}
 use Rattle.c_model.specs.declared.command.Command.{Command}
 use Rattle.c_model.specs.declared.command.Command.TheVariants.{Step, Print, Quit}

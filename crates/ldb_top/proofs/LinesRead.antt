@@ -1,5 +1,5 @@
 -- Lines that are read one after another, and the counts of faults.
-use Rattle.std.proofs.Common.{◌≡◌, ℕ, Bool, true, false, List, [], ◌∷◌, Option, None, Some, refl, sym, ap, ◌∙◌, subst, cond}
+use Rattle.std.proofs.Common.{◌≡◌, ℕ, true, false, List, [], ◌∷◌, Option, None, Some, refl, sym, ap, ◌∙◌, subst, cond}
 use Rattle.std.proofs.Common.{Ok}
 use Rattle.c_model.specs.declared.tree.Program.{Program}
 use Rattle.c_model.specs.Command.{is_quit}

@@ -2,9 +2,9 @@
 use Rattle.std.specs.Prelude.{◌≡◌, ◌⊎◌, Bool, true, false, List, ℕ, Option, Some}
 use Rattle.ldb_edge.specs.Known.{FileMap}
 use Rattle.ldb_top.specs.declared.status.Status.{Status}
-use Rattle.ldb_top.specs.declared.status.Status.TheVariants.{Done, Words, TooLong}
+use Rattle.ldb_top.specs.declared.status.Status.TheVariants.{Done, TooLong}
 use Rattle.ldb_top.specs.Ahead.{is_late}
-use Rattle.ldb_top.specs.Outcome.{Names, Plan, Say, Serve, lines_of}
+use Rattle.ldb_top.specs.Outcome.{Plan, Say, Serve, lines_of}
 
 -- a plan is answered by its status, and a session by one of its two ends
 abbrev pub IsPlanned : Plan → Status → Type 0
