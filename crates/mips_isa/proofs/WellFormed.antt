@@ -1,11 +1,10 @@
 -- A step, a save and a restore leave a machine well formed, and the first one is.
-use Rattle.std.proofs.Common.{◌≡◌, ◌∙◌, refl, sym, ap, ℕ, ℤ, zero, suc, ◌+◌, ◌*◌, ◌%◌, ◌-◌, ◌^◌, ◌<◌, ◌≤◌, nat_eq, nat_lt, ◌&&◌, Bool, true, false, cond, if◌then◌else◌, List, [], ◌∷◌, length, take, Option, Some, None, Result, Ok, Err, lit<, lit≤, arith}
-use Rattle.std.specs.Prelude.{slice_set, slice_index, replicate}
+use Rattle.std.proofs.Common.{◌≡◌, ◌∙◌, refl, ℕ, ℤ, ◌-◌, ◌^◌, ◌≤◌, nat_eq, nat_lt, ◌&&◌, Bool, true, false, if◌then◌else◌, List, [], ◌∷◌, length, take, Option, Some, None, Result, Ok, Err, lit<, lit≤, arith}
+use Rattle.std.specs.Prelude.{slice_set}
 use Rattle.std.proofs.lemmas.List.{get_or-set_other, get_or-set_same, length-set, length-take-le}
 use Rattle.std.proofs.lemmas.Bool.Decides.{nat_tests}
 use Rattle.ldb_words.specs.declared.kinds.Order.TheVariants.{Little}
 use Rattle.ldb_words.specs.declared.event.FaultKind.{FaultKind}
-use Rattle.machine_state.specs.declared.layout.TheConstants.{FIRST_STACK_POINTER}
 use Rattle.machine_state.specs.Regions.{Regions, words_in, fetch_of}
 use Rattle.machine_state.specs.State.{MachineState}
 use Rattle.mips_isa.specs.declared.insn.Insn.{Insn}
@@ -13,7 +12,7 @@ use Rattle.mips_isa.specs.declared.insn.Insn.TheVariants.{Sll, Srl, Sra, Sllv, S
 use Rattle.mips_isa.specs.Codec.{insn_of}
 use Rattle.mips_isa.specs.Loaded.{first_state, saved_state, restored_state, restored_from}
 use Rattle.ldb_words.specs.Arithmetic.{divides}
-use Rattle.mips_isa.specs.Step.{Outcome, register, with_register, moved, writes, writes_special, reads_special, divides_signed, divides_unsigned, jumps, branches, loads, stores, byte_read, reads_input, puts, requests, act, is_hazard, decoded, fetched, step_of}
+use Rattle.mips_isa.specs.Step.{Outcome, with_register, moved, writes, writes_special, reads_special, divides_signed, divides_unsigned, jumps, branches, loads, stores, byte_read, reads_input, puts, requests, act, is_hazard, decoded, fetched, step_of}
 use Rattle.mips_isa.specs.WellFormed.{IsWellFormed}
 
 -- ---- what a step does with registers and the place

@@ -345,8 +345,9 @@ fn assembled_words(rt: HostRuntime) {
         ),
     ];
     for (word, insn) in rows {
+        let again = decode(word).map(|found| encode(found));
         assert_eq!(rt; decode(word), Some(insn));
-        assert_eq!(rt; encode(insn), word);
+        assert_eq!(rt; again, Some(word));
     }
 }
 
