@@ -8,8 +8,8 @@ struct line {
     unsigned char first;
 };
 
-static char store[40000];
-static struct line lines[1000];
+static char store[4000];
+static struct line lines[100];
 static signed char worth[256];
 static unsigned sum;
 
@@ -66,7 +66,7 @@ int main(void)
     int count = 0, used = 0, c, i, j, balance = 0;
     for (i = 0; i < 256; i++)
         worth[i] = (signed char)(i * 5 - 128);
-    while ((c = getchar()) != -1 && count < 1000 && used < 40000) {
+    while ((c = getchar()) != -1 && count < 100 && used < 4000) {
         if (lines[count].text == 0)
             lines[count].text = store + used;
         if (c == '\n') {
