@@ -1,9 +1,9 @@
 // Command lines.
-ghost use Rattle.std.specs.Prelude.{◌≡◌, ◌<◌, ◌≤◌, [], ◌∷◌, length, not, IfOk, OnErr, IsErrOf, MatchOption, Some, None};
+ghost use Rattle.std.specs.Prelude.{◌≡◌, ◌<◌, ◌≤◌, [], ◌∷◌, false, length, not, IfOk, OnErr, IsErrOf, MatchOption, Some, None};
 ghost use Rattle.std.specs.List.{prefix_len};
 ghost use Rattle.std.specs.Result.{result_ok};
 ghost use Rattle.std.specs.Str.{bytes_eq};
-ghost use Rattle.c_model.specs.Command.{is_blank, is_empty, words_of, lone_of, read_of};
+ghost use Rattle.c_model.specs.Command.{is_blank, is_empty, words_of, lone_of, read_of, is_quit};
 ghost use Rattle.c_model.specs.declared.command.CmdFault.TheVariants.{NoMemory};
 
 use ldb_words::Text;
@@ -99,10 +99,11 @@ pub fn is_empty(line: &[u8]) -> bool
     Words::new(line).next().is_none()
 }
 
-/// The command of a line.
+/// The command of a line. `quit` takes no memory.
 pub fn read_command(alloc: Global, line: &[u8]) -> Result<Command, CmdFault>
     ensures ok { IfOk result (λ command. read_of line.now ≡ Some command) }
     ensures line { IsErrOf result CmdFault.Line → read_of line.now ≡ None }
+    ensures no_memory { IsErrOf result CmdFault.NoMemory → is_quit line.now ≡ false }
 {
     if line.len() > 1000 {
         return Err(CmdFault::Line);
