@@ -1,9 +1,9 @@
 -- The words of the data, as loads and stores see them.
-use Rattle.std.proofs.Common.{◌≡◌, ◌≤◌, ◌<◌, ◌+◌, ◌-◌, ◌*◌, ◌^◌, ◌++◌, ◌∙◌, sym, ap, refl, subst, length, drop, take, get_or, set, replicate, ℕ, zero, suc, List, [], ◌∷◌, arith}
+use Rattle.std.proofs.Common.{◌≡◌, ◌≤◌, ◌<◌, ◌+◌, ◌-◌, ◌*◌, ◌^◌, ◌++◌, ◌∙◌, ap, refl, length, drop, take, get_or, set, replicate, ℕ, zero, suc, List, [], ◌∷◌, arith}
 use Rattle.byteorder.specs.Numbers.{little_number-reads_back}
 use Rattle.ldb_words.specs.declared.kinds.Order.TheVariants.{Little}
 use Rattle.machine_state.specs.Regions.{number_of, bytes_of, words_in, overwritten, zeros}
-use Rattle.machine_state.proofs.Words.{drop_four, dropped_twice}
+use Rattle.machine_state.proofs.Words.{dropped_twice}
 
 -- what holds of each list with four in front holds of each that is long enough
 pub on_four : (P : List ℕ → Type 0) → ((a b c d : ℕ) (xs : List ℕ) → P (a ∷ b ∷ c ∷ d ∷ xs)) → (xs : List ℕ) → 4 ≤ length xs → P xs
@@ -37,10 +37,10 @@ words_in-overwritten (suc n) zero v xs h room fits =
 words_in-overwritten (suc n) (suc k) v xs h room fits =
     let e : 4 * suc k ≡ four (4 * k) = omega arith in
     let P : List ℕ → Type 0 = λ zs. 4 * suc n ≤ length zs
-        → words_in Little (suc n) (overwritten zs (four (4 * k)) (bytes_of Little 4 v)) ≡ set (words_in Little (suc n) zs) (suc k) v in
+    → words_in Little (suc n) (overwritten zs (four (4 * k)) (bytes_of Little 4 v)) ≡ set (words_in Little (suc n) zs) (suc k) v in
     let go : P xs = on_four P (λ a b c d zs r.
-        rw (behind_four a b c d (4 * k) zs (bytes_of Little 4 v))
-        (ap (λ ws. number_of Little 4 (a ∷ b ∷ c ∷ d ∷ []) ∷ ws) (words_in-overwritten n k v zs (omega (arith, h)) (omega (arith, r)) fits))) xs (omega (arith, room)) in
+    rw (behind_four a b c d (4 * k) zs (bytes_of Little 4 v))
+    (ap (λ ws. number_of Little 4 (a ∷ b ∷ c ∷ d ∷ []) ∷ ws) (words_in-overwritten n k v zs (omega (arith, h)) (omega (arith, r)) fits))) xs (omega (arith, room)) in
     ap (λ j. words_in Little (suc n) (overwritten xs j (bytes_of Little 4 v))) e ∙ go room
 
 -- the word at a place

@@ -1,18 +1,16 @@
 -- What one step does at an instruction of the text, where nothing earlier is open.
-use Rattle.std.proofs.Common.{◌≡◌, ◌≢◌, ◌≤◌, ◌<◌, ◌+◌, ◌*◌, ◌^◌, ◌%◌, ◌++◌, ◌∙◌, sym, ap, refl, subst, length, drop, map, get_or, set, ℕ, zero, suc, List, [], ◌∷◌, Option, Some, None, Ok, true, false, Bool, nat_eq, arith, length-set}
+use Rattle.std.proofs.Common.{◌≡◌, ◌≢◌, ◌<◌, ◌+◌, ◌*◌, ◌^◌, ◌∙◌, sym, ap, refl, subst, length, drop, map, get_or, ℕ, zero, suc, List, [], ◌∷◌, Option, Some, true, false, nat_eq, arith, length-set}
 use Rattle.std.proofs.lemmas.List.{get_or-set_same, get_or-set_other}
 use Rattle.ldb_words.specs.Word.{sum_of}
 use Rattle.ldb_words.specs.declared.kinds.Order.TheVariants.{Little}
 use Rattle.machine_state.specs.declared.layout.TheConstants.{TEXT}
-use Rattle.machine_state.specs.Regions.{Regions, words_bytes, fetch_of}
-use Rattle.machine_state.specs.State.{MachineState, Facts, no_facts}
+use Rattle.machine_state.specs.Regions.{words_bytes}
+use Rattle.machine_state.specs.State.{MachineState, no_facts}
 use Rattle.machine_state.proofs.PlacedWords.{fetch_of-words}
 use Rattle.mips_isa.specs.declared.insn.Insn.{Insn}
-use Rattle.mips_isa.specs.declared.insn.Insn.TheVariants.{Sll}
 use Rattle.mips_isa.specs.Codec.{insn_of}
-use Rattle.mips_isa.specs.Step.{Outcome, register, with_register, moved, writes, act, step_of, is_hazard, decoded, fetched}
+use Rattle.mips_isa.specs.Step.{Outcome, register, with_register, moved, writes, act, step_of, is_hazard}
 use Rattle.assign_run.specs.Standing.{Stands}
-use Rattle.assign_run.specs.Code.{NO_OP}
 
 -- the words of a text, short enough for its region
 pub record Texts (ws : List ℕ) : Type 0 where

@@ -1,6 +1,6 @@
 -- Words as numbers with a sign: a sum of words is the sum of the numbers, where C defines it.
-use Rattle.std.proofs.Common.{◌≡◌, ◌<◌, ◌+◌, ◌-◌, ◌%◌, ◌^◌, ◌∙◌, sym, ap, refl, ℕ, ℤ, pos, negsuc, ◌+ℤ◌, ◌-ℤ◌, Bool, true, false, arith, w32}
-use Rattle.std.specs.Prelude.{FitsSigned, if◌then◌else◌, IfOk, Result, Ok, Err, nat_lt}
+use Rattle.std.proofs.Common.{◌≡◌, ◌<◌, ◌^◌, ◌∙◌, sym, refl, ℕ, ℤ, pos, negsuc, ◌+ℤ◌, ◌-ℤ◌, Bool, true, false, w32}
+use Rattle.std.specs.Prelude.{FitsSigned, if◌then◌else◌, Result, Ok, Err}
 use Rattle.std.proofs.lemmas.Int.{wrapping_add-bits, wrapping_sub-bits, int_wrap_fits, to_z-of_z}
 use Rattle.std.proofs.lemmas.Bool.{ltb-true}
 use Rattle.ldb_words.specs.Arithmetic.{is_int, checked}

@@ -1,18 +1,16 @@
 -- What the code of an operand, of an expression and of a store leaves.
-use Rattle.std.proofs.Common.{◌≡◌, ◌≢◌, ◌≤◌, ◌<◌, ◌+◌, ◌-◌, ◌*◌, ◌/◌, ◌%◌, ◌^◌, ◌++◌, ◌∙◌, sym, ap, refl, subst, length, drop, map, get_or, set, ℕ, zero, suc, List, [], ◌∷◌, Option, Some, None, Ok, true, false, Bool, nat_eq, nat_lt, bit_or, arith, length-set, zero-add}
+use Rattle.std.proofs.Common.{◌≡◌, ◌≢◌, ◌<◌, ◌+◌, ◌*◌, ◌/◌, ◌%◌, ◌^◌, ◌∙◌, sym, ap, refl, subst, length, drop, map, ℕ, zero, suc, List, ◌∷◌, Option, Some, Ok, false, nat_eq, bit_or, arith, length-set, zero-add}
 use Rattle.std.proofs.lemmas.Nat.{or_shifted}
 use Rattle.std.proofs.lemmas.List.{get_or-set_same, get_or-set_other}
-use Rattle.ldb_words.specs.Word.{sum_of}
 use Rattle.ldb_words.specs.declared.kinds.Order.TheVariants.{Little}
-use Rattle.ldb_words.specs.declared.event.FaultKind.{FaultKind}
 use Rattle.ldb_words.specs.declared.event.Event.TheVariants.{Went}
-use Rattle.machine_state.specs.Regions.{Regions, load_of, store_of, words_in, bytes_of, overwritten, number_of}
+use Rattle.machine_state.specs.Regions.{load_of}
 use Rattle.machine_state.specs.State.{MachineState, no_facts}
 use Rattle.mips_isa.specs.declared.insn.Insn.{Insn}
-use Rattle.mips_isa.specs.declared.insn.Insn.TheVariants.{Sll, Lui, Ori, Lw, Sw, Addu, Subu}
+use Rattle.mips_isa.specs.declared.insn.Insn.TheVariants.{Lui, Ori, Lw}
 use Rattle.mips_isa.specs.Codec.{insn_of}
-use Rattle.mips_isa.specs.Step.{Outcome, register, with_register, moved, writes, loads, stores, address, act, step_of, is_hazard}
-use Rattle.assign_run.specs.Code.{NO_OP, place_of, word_code, load_code}
+use Rattle.mips_isa.specs.Step.{Outcome, register, with_register, moved, writes, loads, address, act, step_of, is_hazard}
+use Rattle.assign_run.specs.Code.{NO_OP}
 use Rattle.assign_run.specs.Standing.{Stands, stepped}
 use Rattle.assign_run.proofs.Instructions.{Texts, HasAt, Wrote, has_first, has_rest, step_at, step_standing, stands_moved, writes_at, eqb_zero}
 
@@ -156,7 +154,7 @@ pub leaves_load : (ws : List ℕ) (k r v place : ℕ) (rest : List (Option Insn)
 leaves_load ws k r v place rest m t code s positive small free fits load =
     let first : Leaves ws k 2 r place m = leaves_word ws k r place _ m t code s positive small in
     let after : CodeAt ws (k + 2) (Some (Lw r r 0) ∷ Some NO_OP ∷ rest) =
-        subst (λ (n : ℕ). CodeAt ws n (Some (Lw r r 0) ∷ Some NO_OP ∷ rest)) e (has_rest ws (suc k) _ _ (has_rest ws k _ _ code)) in
+    subst (λ (n : ℕ). CodeAt ws n (Some (Lw r r 0) ∷ Some NO_OP ∷ rest)) e (has_rest ws (suc k) _ _ (has_rest ws k _ _ code)) in
     let there : load_of Little (stepped 2 m).memory place 4 ≡ Ok v = rw first.memory load in
     leaves_both ws k 2 2 r place v m first (leaves_loaded ws (k + 2) r v place rest (stepped 2 m) t after first.stands positive small free fits first.value there)
   where

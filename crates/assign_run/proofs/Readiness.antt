@@ -1,18 +1,13 @@
 -- A machine that is at the code of some tasks is at the code of the rest after the first, and did what the source does.
-use Rattle.std.proofs.Common.{◌≡◌, ◌≤◌, ◌<◌, ◌+◌, ◌-◌, ◌*◌, ◌%◌, ◌^◌, ◌++◌, ◌∙◌, sym, ap, refl, subst, length, drop, map, get_or, set, ℕ, ℤ, pos, zero, suc, List, [], ◌∷◌, Option, Some, Ok, Err, Result, true, false, Bool, ◌&&◌, nat_lt, arith, append_assoc, w32}
-use Rattle.std.specs.Prelude.{if◌then◌else◌, FitsSigned}
+use Rattle.std.proofs.Common.{◌≡◌, ◌<◌, ◌+◌, ◌^◌, ◌++◌, ◌∙◌, sym, ap, refl, subst, length, map, get_or, set, ℕ, ℤ, zero, suc, List, [], ◌∷◌, Some, Ok, Err, Result, true, false, Bool, ◌&&◌, arith, append_assoc, w32}
 use Rattle.std.specs.List.{list_all}
-use Rattle.std.proofs.lemmas.List.{map-append, map-set, get_or-set_same, get_or-set_other, length-set, get_or_past, set_past}
+use Rattle.std.proofs.lemmas.List.{map-append, map-set}
 use Rattle.std.proofs.Math.ListN.{get_or-map}
 use mir.ValLaws.{of_z_fits}
-use Rattle.ldb_words.specs.Arithmetic.{is_int, checked}
-use Rattle.ldb_words.specs.Word.{signed, word_of_signed, sum_of, difference_of}
+use Rattle.ldb_words.specs.Word.{signed}
 use Rattle.ldb_words.specs.declared.kinds.Undef.{Undef}
 use Rattle.machine_state.specs.State.{MachineState}
-use Rattle.mips_isa.specs.declared.insn.Insn.{Insn}
-use Rattle.mips_isa.specs.declared.insn.Insn.TheVariants.{Addu}
-use Rattle.mips_isa.specs.Codec.{insn_of}
-use Rattle.mips_isa.specs.Step.{register, act, step_of, moved}
+use Rattle.mips_isa.specs.Step.{register, step_of, moved}
 use Rattle.c_model.specs.declared.tree.Operand.{Operand}
 use Rattle.c_model.specs.declared.tree.Operand.TheVariants.{Object, Constant}
 use Rattle.c_model.specs.declared.tree.Sum.{Sum}
@@ -20,14 +15,13 @@ use Rattle.c_model.specs.declared.tree.Sum.TheVariants.{One, Plus, Minus}
 use Rattle.c_model.specs.declared.tree.Task.{Task}
 use Rattle.c_model.specs.declared.tree.Task.TheVariants.{Pass, Store, Give}
 use Rattle.c_model.specs.declared.tree.Place.{Place}
-use Rattle.c_model.specs.Source.{State, state, Next, Goes, Passes, Exits, Undefined, next, next_of, stored, given, operand_value, object_value, sum_value}
+use Rattle.c_model.specs.Source.{state, Goes, Passes, next, stored, given, operand_value, sum_value}
 use Rattle.assign_run.specs.declared.run.Step.{Step}
-use Rattle.assign_run.specs.declared.run.Step.TheVariants.{Went, Passed, Exited}
-use Rattle.assign_run.specs.Steps.{IsStep}
-use Rattle.assign_run.specs.Code.{NO_OP, task_code, tasks_code, sum_code, store_code}
-use Rattle.assign_run.specs.Standing.{Stands, Fits, Ready, AT_END, stepped, object_words, source_state, is_int_operand, has_ints, does_ints}
+use Rattle.assign_run.specs.declared.run.Step.TheVariants.{Went}
+use Rattle.assign_run.specs.Steps.{IsStep, kind_of}
+use Rattle.assign_run.specs.Code.{NO_OP, task_code, tasks_code}
+use Rattle.assign_run.specs.Standing.{Fits, Ready, AT_END, stepped, object_words, source_state, is_int_operand, has_ints, does_ints}
 use Rattle.assign_run.proofs.Numbers.{int_fits, signed_word, IsWordOf, sum_checked, difference_checked}
-use Rattle.assign_run.proofs.DataWords.{length-words_in}
 use Rattle.assign_run.proofs.Instructions.{HasAt, has_first, step_standing, stands_moved}
 use Rattle.assign_run.proofs.Pieces.{CodeAt, no_op_acts}
 use Rattle.assign_run.proofs.Tasks.{operand_word, sum_word, code_behind, texts}
@@ -77,12 +71,6 @@ given_step (Err why) w later values e = refl
 
 -- ---- the machine's
 
--- what a step answers at a task
-abbrev pub kind_of : Task → Step
-kind_of (Pass at) = Passed at
-kind_of (Store target e) = Went
-kind_of (Give e) = Went
-
 pub record Does (task : Task) (later : List Task) (ws : List ℕ) (k objects : ℕ) (m : MachineState) : Type 0 where
   pub ready : Ready later ws (k + length (task_code objects task)) objects (stepped (length (task_code objects task)) m)
   pub step : IsStep (next (source_state (task ∷ later) objects m)) (kind_of task) (source_state later objects (stepped (length (task_code objects task)) m))
@@ -130,12 +118,12 @@ store_does target e later ws k objects m r =
     let small : w < 2 ^ 32 = sum_small words r.small e ints.0 in
     let code = code_of_task (Store target e) later ws k objects m r in
     let n : ℕ = length (task_code objects (Store target e)) in
-    let done : Leads ws k n objects (set words target w) (register m 2) m = assignment_leads ws k objects target e (map Some (tasks_code objects later ++ AT_END)) m r.fits code r.stands small in
+    let done : Leads ws k n objects (set words target w) (register m 4) m = assignment_leads ws k objects target e (map Some (tasks_code objects later ++ AT_END)) m r.fits code r.stands small in
     let m₁ : MachineState = stepped n m in
     let values : map signed (object_words objects m₁) ≡ set (map signed words) target (signed w) = ap (map signed) done.words ∙ map-set signed words target w in
-    let there : state later (set (map signed words) target (signed w)) (signed (register m 2)) ≡ source_state later objects m₁ =
-        ap (λ vs. state later vs (signed (register m 2))) (sym values) ∙ ap (λ v. state later (map signed (object_words objects m₁)) (signed v)) (sym done.result) in
-    let step = stored_step (sum_value (map signed words) e) w target later (map signed words) (signed (register m 2)) (sum_is words r.small e ints.0) in
+    let there : state later (set (map signed words) target (signed w)) (signed (register m 4)) ≡ source_state later objects m₁ =
+    ap (λ vs. state later vs (signed (register m 4))) (sym values) ∙ ap (λ v. state later (map signed (object_words objects m₁)) (signed v)) (sym done.result) in
+    let step = stored_step (sum_value (map signed words) e) w target later (map signed words) (signed (register m 4)) (sum_is words r.small e ints.0) in
     record {
       ready = record {
         stands = done.stands;
@@ -158,7 +146,7 @@ give_does e later ws k objects m r =
     let done : Leads ws k n objects words w m = result_leads ws k objects e (map Some (tasks_code objects later ++ AT_END)) m r.fits code r.stands small in
     let m₁ : MachineState = stepped n m in
     let there : state later (map signed words) (signed w) ≡ source_state later objects m₁ =
-        ap (λ vs. state later vs (signed w)) (ap (map signed) (sym done.words)) ∙ ap (λ v. state later (map signed (object_words objects m₁)) (signed v)) (sym done.result) in
+    ap (λ vs. state later vs (signed w)) (ap (map signed) (sym done.words)) ∙ ap (λ v. state later (map signed (object_words objects m₁)) (signed v)) (sym done.result) in
     let step = given_step (sum_value (map signed words) e) w later (map signed words) (sum_is words r.small e ints.0) in
     record {
       ready = record {
@@ -170,3 +158,22 @@ give_does e later ws k objects m r =
       };
       step = subst (IsStep (next (source_state (Give e ∷ later) objects m)) Went) there step;
     }
+
+does : (task : Task) (later : List Task) (ws : List ℕ) (k objects : ℕ) (m : MachineState) → Ready (task ∷ later) ws k objects m → Does task later ws k objects m
+does (Pass at) later ws k objects m r = pass_does at later ws k objects m r
+does (Store target e) later ws k objects m r = store_does target e later ws k objects m r
+does (Give e) later ws k objects m r = give_does e later ws k objects m r
+
+-- the same, over what the code has at hand
+pub step_ready : (control later : List Task) (task : Task) (ws : List ℕ) (k n objects : ℕ) (m after : MachineState) → control ≡ task ∷ later
+    → n ≡ length (task_code objects task) → after ≡ stepped n m → Ready control ws k objects m → Ready later ws (k + n) objects after
+step_ready control later task ws k n objects m after c e a r =
+    let r₁ : Ready (task ∷ later) ws k objects m = subst (λ (ts : List Task). Ready ts ws k objects m) c r in
+    rw (a, e) (does task later ws k objects m r₁).ready
+
+pub step_is : (control later : List Task) (task : Task) (answer : Step) (ws : List ℕ) (k n objects : ℕ) (m after : MachineState) → control ≡ task ∷ later
+    → n ≡ length (task_code objects task) → after ≡ stepped n m → answer ≡ kind_of task → Ready control ws k objects m
+    → IsStep (next (source_state control objects m)) answer (source_state later objects after)
+step_is control later task answer ws k n objects m after c e a s r =
+    let r₁ : Ready (task ∷ later) ws k objects m = subst (λ (ts : List Task). Ready ts ws k objects m) c r in
+    rw (a, e, s, c) (does task later ws k objects m r₁).step

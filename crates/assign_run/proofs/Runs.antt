@@ -1,11 +1,9 @@
 -- Runs that go on from a later state.
-use Rattle.std.proofs.Common.{◌≡◌, ◌⊎◌, inl, inr, ℤ, subst, sym, refl}
-use Rattle.ldb_words.specs.declared.kinds.Undef.{Undef}
+use Rattle.std.proofs.Common.{◌≡◌, ◌⊎◌, inl, inr, subst, sym, refl}
 use Rattle.c_model.specs.declared.tree.Place.{Place}
 use Rattle.c_model.specs.declared.event.Event.{Event}
 use Rattle.c_model.specs.declared.event.Event.TheVariants.{Stop, Exit}
 use Rattle.c_model.specs.Source.{State, Next, Goes, Passes, Exits, Undefined, next, RunsTo, stops, exits, goes, RunsToUndefined, undefined, undefined_later}
-use Rattle.assign_run.specs.declared.run.Step.{Step}
 use Rattle.assign_run.specs.declared.run.Step.TheVariants.{Went, Passed, Exited}
 use Rattle.assign_run.specs.Steps.{IsStep}
 

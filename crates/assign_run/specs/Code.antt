@@ -1,5 +1,5 @@
 -- The MIPS code of a program of assignments: a no-op at each stopping point, then the words that compute and store.
-use Rattle.std.specs.Prelude.{ℕ, ◌+◌, ◌*◌, ◌^◌, ◌/◌, ◌%◌, nat_lt, if◌then◌else◌, List, [], ◌∷◌, ◌++◌}
+use Rattle.std.specs.Prelude.{ℕ, ◌+◌, ◌*◌, ◌^◌, ◌/◌, ◌%◌, nat_lt, if◌then◌else◌, Bool, true, false, List, [], ◌∷◌, ◌++◌}
 use Rattle.ldb_words.specs.Word.{word_of_signed}
 use Rattle.machine_state.specs.declared.layout.TheConstants.{DATA}
 use Rattle.mips_isa.specs.declared.insn.Insn.{Insn}
@@ -31,21 +31,32 @@ abbrev pub operand_code : ℕ → ℕ → Operand → List Insn
 operand_code objects register (Object k) = if nat_lt k objects then load_code register (place_of k) else word_code register 0
 operand_code objects register (Constant z) = word_code register (word_of_signed z)
 
+-- `$9` and `$10` are joined in `$9`
+abbrev pub join_code : Bool → Insn
+join_code is_sum = if is_sum then Addu 9 9 10 else Subu 9 9 10
+
+abbrev pub two_code : ℕ → Operand → Operand → Bool → List Insn
+two_code objects a b is_sum = operand_code objects 9 a ++ (operand_code objects 10 b ++ join_code is_sum ∷ [])
+
+-- `$9` becomes the result of `main`, which stands in `$4`, where a request has its argument
+abbrev pub RESULT : Insn
+RESULT = Addu 4 9 0
+
 -- the value of an expression is put into `$9`
 abbrev pub sum_code : ℕ → Sum → List Insn
 sum_code objects (One a) = operand_code objects 9 a
-sum_code objects (Plus a b) = operand_code objects 9 a ++ (operand_code objects 10 b ++ Addu 9 9 10 ∷ [])
-sum_code objects (Minus a b) = operand_code objects 9 a ++ (operand_code objects 10 b ++ Subu 9 9 10 ∷ [])
+sum_code objects (Plus a b) = two_code objects a b true
+sum_code objects (Minus a b) = two_code objects a b false
 
 -- `$9` is stored in an object
 abbrev pub store_code : ℕ → ℕ → List Insn
 store_code objects target = if nat_lt target objects then word_code 8 (place_of target) ++ Sw 9 8 0 ∷ [] else []
 
--- one task; the result of `main` stands in `$2`
+-- one task
 abbrev pub task_code : ℕ → Task → List Insn
 task_code objects (Pass at) = NO_OP ∷ []
 task_code objects (Store target sum) = sum_code objects sum ++ store_code objects target
-task_code objects (Give sum) = sum_code objects sum ++ Addu 2 9 0 ∷ []
+task_code objects (Give sum) = sum_code objects sum ++ RESULT ∷ []
 
 abbrev pub tasks_code : ℕ → List Task → List Insn
 tasks_code objects [] = []

@@ -1,5 +1,5 @@
 -- A machine that stands at the code of what a program has left to do, and what it holds of the source's state.
-use Rattle.std.specs.Prelude.{◌≡◌, ◌≤◌, ◌<◌, ◌^◌, ℕ, zero, suc, ◌+◌, ◌*◌, ℤ, List, [], ◌∷◌, ◌++◌, length, map, drop, slice_index, Option, Some, Bool, true, ◌&&◌}
+use Rattle.std.specs.Prelude.{◌≡◌, ◌≤◌, ◌<◌, ◌^◌, ℕ, zero, suc, ◌+◌, ◌*◌, List, [], ◌∷◌, ◌++◌, length, map, drop, slice_index, Some, Bool, true, ◌&&◌}
 use Rattle.std.specs.List.{list_all}
 use Rattle.ldb_words.specs.Arithmetic.{is_int}
 use Rattle.ldb_words.specs.Word.{signed}
@@ -8,6 +8,7 @@ use Rattle.machine_state.specs.declared.layout.TheConstants.{TEXT}
 use Rattle.machine_state.specs.Regions.{words_bytes, words_in}
 use Rattle.machine_state.specs.State.{MachineState, no_facts}
 use Rattle.mips_isa.specs.Codec.{insn_of}
+use Rattle.mips_isa.specs.Loaded.{first_state}
 use Rattle.mips_isa.specs.Step.{step_of, register}
 use Rattle.c_model.specs.declared.tree.Operand.{Operand}
 use Rattle.c_model.specs.declared.tree.Operand.TheVariants.{Object, Constant}
@@ -28,9 +29,9 @@ stepped (suc n) m = stepped n (step_of m).1
 abbrev pub object_words : ℕ → MachineState → List ℕ
 object_words objects m = words_in Little objects m.memory.data_bytes
 
--- the source's state that a machine stands for: the objects' numbers, and the result of `main` in `$2`
+-- the source's state that a machine stands for: the objects' numbers, and the result of `main` in `$4`
 abbrev pub source_state : List Task → ℕ → MachineState → State
-source_state control objects m = state control (map signed (object_words objects m)) (signed (register m 2))
+source_state control objects m = state control (map signed (object_words objects m)) (signed (register m 4))
 
 -- the machine is at word k of a text of words, and no earlier instruction is open
 pub record Stands (ws : List ℕ) (k : ℕ) (m : MachineState) : Type 0 where
@@ -74,3 +75,8 @@ pub record Ready (control : List Task) (ws : List ℕ) (k objects : ℕ) (m : Ma
   pub fits : Fits ws objects m
   pub ints : list_all does_ints control ≡ true
   pub small : (i : ℕ) → slice_index (object_words objects m) i < 2 ^ 32
+
+-- a machine at its start, whose text is made of these words
+pub record Begins (ws : List ℕ) (m : MachineState) : Type 0 where
+  pub machine : m ≡ first_state TEXT (words_bytes Little ws) []
+  pub words : (i : ℕ) → slice_index ws i < 2 ^ 32

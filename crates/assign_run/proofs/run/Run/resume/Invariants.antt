@@ -1,6 +1,4 @@
-use Rattle.std.proofs.Common.{◌≡◌, ◌⊎◌, length}
-use Rattle.c_model.specs.declared.event.Event.{Event}
-use Rattle.c_model.specs.Source.{State, RunsTo, RunsToUndefined}
+use Rattle.std.proofs.Common.{length}
 use Rattle.assign_run.proofs.Runs.{Leads}
 use Rattle.assign_run.proofs.run.Run.resume.Given as goal
 
