@@ -1,5 +1,7 @@
 -- What the answer of a step says of the source's step.
 use Rattle.std.specs.Prelude.{◌≡◌}
+use Rattle.c_model.specs.declared.tree.Task.{Task}
+use Rattle.c_model.specs.declared.tree.Task.TheVariants.{Pass, Store, Give}
 use Rattle.c_model.specs.Source.{State, Next, Goes, Passes, Exits, Undefined}
 use Rattle.assign_run.specs.declared.run.Step.{Step}
 use Rattle.assign_run.specs.declared.run.Step.TheVariants.{Went, Passed, Exited}
@@ -14,3 +16,9 @@ answered Exited new = Exits new.status
 abbrev pub IsStep : Next → Step → State → Type 0
 IsStep (Undefined why) step new = step ≡ Went
 IsStep next step new = next ≡ answered step new
+
+-- what a step answers at a task
+abbrev pub kind_of : Task → Step
+kind_of (Pass at) = Passed at
+kind_of (Store target e) = Went
+kind_of (Give e) = Went

@@ -1,11 +1,14 @@
-// A program that runs.
-ghost use Rattle.std.specs.Prelude.{◌≡◌, ◌<◌, ◌≤◌, ◌⊎◌, ◌+ℤ◌, ◌-ℤ◌, length, slice_set, IfOk};
-ghost use Rattle.ldb_words.specs.Arithmetic.{checked};
-ghost use Rattle.c_model.specs.Source.{operand_value, object_value, sum_value, first_state, next, RunsTo, RunsToUndefined};
-ghost use Rattle.assign_run.specs.Steps.{IsStep};
+// A program that runs on the machine.
+ghost use Rattle.std.specs.Prelude.{◌≡◌, ◌<◌, ◌≤◌, ◌⊎◌, ◌*◌, ◌^◌, [], ◌∷◌, length, slice_index, IfOk, MatchOption};
+ghost use Rattle.c_model.specs.Source.{object_value, first_state, next, RunsTo, RunsToUndefined};
+ghost use Rattle.assign_run.specs.Steps.{IsStep, kind_of};
+ghost use Rattle.assign_run.specs.Standing.{stepped, object_words, Begins};
 
-use c_model::{Event, Operand, Place, Program, Sum, Task};
-use ldb_words::{add_checked, sub_checked};
+use crate::code::{place_of, task_length, text_bytes, text_words};
+use c_model::{Event, Place, Program, Task};
+use machine_state::{MIPS, TEXT};
+use mips_sim::Machine;
+use obj_file::Image;
 use std::alloc::{AllocError, Global};
 use std::marker::Model;
 
@@ -17,20 +20,87 @@ pub enum Step {
     Exited,
 }
 
-/// A program that runs. Contracts see the state of its source.
+/// A program whose code a machine runs. Contracts see the state of its source: what is left to be done, the
+/// numbers that the objects hold in the machine's data, and the result so far in the register of a request's argument.
 #[derive(Drop)]
 pub struct Run<'a> {
     control: &'a [Task],
-    values: Vec<i32>,
-    status: i32,
+    /// The words of the text.
+    words: Vec<u32>,
+    /// The word at which the machine is.
+    at: usize,
+    objects: usize,
+    machine: Machine,
 }
 
 impl<'a> Model for Run<'a> {
-    ghost use Rattle.c_model.specs.Source.{State, state};
+    ghost use Rattle.std.specs.Prelude.{◌≤◌};
+    ghost use Rattle.c_model.specs.Source.{State};
+    ghost use Rattle.assign_run.specs.Standing.{Ready, source_state};
 
     ghost Value = { State };
 
-    ghost view = { λ r. state r.control.now r.values.items r.status };
+    ghost view = { λ r. source_state r.control.now r.objects r.machine };
+
+    ghost invariant = { λ r. Ready r.control.now r.words.items r.at r.objects r.machine × (r.objects ≤ 65536) };
+}
+
+/// A machine whose text is made of these words, at the first of them.
+fn machine_of(alloc: Global, words: &[u32]) -> Result<Machine, AllocError>
+    requires some { 0 < length words.now }
+    requires few { length words.now < 2 ^ 22 }
+    ensures { IfOk result (λ m. Begins words.now m) }
+{
+    let text = text_bytes(alloc, words)?;
+    let image = Image::new(MIPS, TEXT, text, Vec::new(alloc));
+    Machine::new(alloc, &image)
+}
+
+/// Runs the machine for some steps.
+#[tactic(auto, unfolding(crate::specs::Standing::stepped))]
+fn advance(machine: &mut Machine, count: usize)
+    ensures { machine.new ≡ stepped count machine.old }
+{
+    for _step in 0..count {
+        let _event = machine.step();
+    }
+}
+
+/// The word of an object, or 0 where there is none of this number.
+fn object_word(machine: &Machine, objects: usize, number: usize) -> u32
+    requires objects { objects ≤ 65536 }
+    requires text { length machine.now.memory.text_bytes ≤ 2 ^ 24 }
+    requires room { 4 * objects ≤ length machine.now.memory.data_bytes }
+    ensures { result ≡ slice_index (object_words objects machine.now) number }
+{
+    if number < objects {
+        match machine.read(place_of(number as u32), 4) {
+            Ok(word) => word,
+            Err(_outside) => 0,
+        }
+    } else {
+        0
+    }
+}
+
+/// The next task and those after it.
+fn first_of<'a>(control: &'a [Task]) -> Option<(Task, &'a [Task])>
+    ensures { MatchOption result (control.now ≡ []) (λ p. control.now ≡ p.0 ∷ p.1.now) }
+{
+    match control {
+        [] => None,
+        [task, later @ ..] => Some((*task, later)),
+    }
+}
+
+/// What a step answers at a task.
+fn kind_of(task: Task) -> Step
+    ensures { result ≡ kind_of task }
+{
+    match task {
+        Task::Pass(place) => Step::Passed(place),
+        Task::Store { .. } | Task::Give(_) => Step::Went,
+    }
 }
 
 impl<'a> Run<'a> {
@@ -40,11 +110,16 @@ impl<'a> Run<'a> {
         requires tasks { length program.now.body ≤ 65537 }
         ensures { IfOk result (λ run. run ≡ first_state program.now) }
     {
-        let values = vec![in alloc; 0i32; program.objects.len()]?;
+        let control = program.body.as_slice();
+        let objects = program.objects.len();
+        let words = text_words(alloc, objects, control)?;
+        let machine = machine_of(alloc, &words)?;
         Ok(Run {
-            control: program.body.as_slice(),
-            values,
-            status: 0,
+            control,
+            words,
+            at: 0,
+            objects,
+            machine,
         })
     }
 
@@ -61,81 +136,33 @@ impl<'a> Run<'a> {
         }
     }
 
-    /// The value of the object of this number.
+    /// The value of the object of this number, as the machine's memory holds it.
     pub fn value(&self, number: usize) -> i32
         ensures { result ≡ object_value self.now.values number }
     {
-        self.values.get(number).copied().unwrap_or(0)
+        object_word(&self.machine, self.objects, number).cast_signed()
     }
 
     /// The result of `main` so far.
     fn status(&self) -> i32
         ensures { result ≡ self.now.status }
     {
-        self.status
+        self.machine.argument().cast_signed()
     }
 
-    /// One step. A sum that is undefined wraps, as the machines do it.
+    /// One step of the source: the machine runs the code of the next task. A sum that is undefined wraps.
     fn step(&mut self) -> Step
         ensures step { IsStep (next self.old) result self.new }
         ensures shorter { result ≡ Step.Went → length self.new.control < length self.old.control }
         ensures ended { result ≡ Step.Exited → self.new ≡ self.old }
     {
-        let [task, later @ ..] = self.control else {
+        let Some((task, later)) = first_of(self.control) else {
             return Step::Exited;
         };
+        let count = task_length(self.objects, task);
+        advance(&mut self.machine, count);
+        self.at += count;
         self.control = later;
-        match *task {
-            Task::Pass(at) => Step::Passed(at),
-            Task::Store { target, value } => {
-                let value = sum_value(&self.values, value);
-                store(&mut self.values, target, value);
-                Step::Went
-            }
-            Task::Give(value) => {
-                self.status = sum_value(&self.values, value);
-                Step::Went
-            }
-        }
-    }
-}
-
-fn operand_value(values: &[i32], operand: Operand) -> i32
-    ensures { result ≡ operand_value values.now operand }
-{
-    match operand {
-        Operand::Object(number) => values.get(number).copied().unwrap_or(0),
-        Operand::Constant(value) => value,
-    }
-}
-
-/// The value of an expression, where it is defined.
-fn sum_value(values: &[i32], sum: Sum) -> i32
-    ensures { IfOk (sum_value values.now sum) (λ value. result ≡ value) }
-{
-    match sum {
-        Sum::One(a) => operand_value(values, a),
-        Sum::Plus(a, b) => add(operand_value(values, a), operand_value(values, b)),
-        Sum::Minus(a, b) => subtract(operand_value(values, a), operand_value(values, b)),
-    }
-}
-
-fn add(a: i32, b: i32) -> i32
-    ensures { IfOk (checked (a +ℤ b)) (λ value. result ≡ value) }
-{
-    add_checked(a, b).unwrap_or(a.wrapping_add(b))
-}
-
-fn subtract(a: i32, b: i32) -> i32
-    ensures { IfOk (checked (a -ℤ b)) (λ value. result ≡ value) }
-{
-    sub_checked(a, b).unwrap_or(a.wrapping_sub(b))
-}
-
-fn store(values: &mut Vec<i32>, target: usize, value: i32)
-    ensures { values.new.items ≡ slice_set values.old.items target value }
-{
-    if target < values.len() {
-        values[target] = value;
+        kind_of(task)
     }
 }
