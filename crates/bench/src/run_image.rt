@@ -1,14 +1,12 @@
 // Runs of images, from their start to their end.
 
-ghost use Rattle.std.specs.Prelude.{◌≡◌};
-
 use ldb_words::{Event, FaultKind};
 use machine_state::{CONTEXT, CONTEXT_WORDS, MIPS, Target};
 use mips_sim::Machine;
 use obj_file::{ImageFault, read_image};
 use std::alloc::{AllocError, Global};
 use std::process::ExitCode;
-use std::rt::{Files, Print};
+use std::rt::Files;
 use std::{fs, io};
 
 /// What a run came to.
@@ -74,10 +72,18 @@ fn name_of(event: Event) -> &'static str {
 }
 
 /// Prints the event, the completed steps, pc, and the 36 words of the context block.
-fn print_end<T: Target>(rt: &(impl Print + AllocGlobal), machine: &mut T, ran: &Ran) -> io::Result<()> {
+fn print_end<T: Target>(
+    rt: &(impl Print + AllocGlobal),
+    machine: &mut T,
+    ran: &Ran,
+) -> io::Result<()> {
     let _saved = machine.save();
     let pc = machine.read(CONTEXT + 4 * 34, 4).unwrap_or(0);
-    let mut line = format!(in rt.alloc(); "{} steps {} pc {pc:08x} registers", name_of(ran.event), ran.steps)?;
+    let mut line = format!(in rt.alloc();
+        "{} steps {} pc {pc:08x} registers",
+        name_of(ran.event),
+        ran.steps
+    )?;
     for word in 0..CONTEXT_WORDS as u32 {
         let value = machine.read(CONTEXT + 4 * word, 4).unwrap_or(0);
         line.push_str(format!(in rt.alloc(); " {value:08x}")?.as_str())?;
