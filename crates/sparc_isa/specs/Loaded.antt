@@ -55,9 +55,9 @@ saved_state m = let f = flush_of m in (f.0, with_block f.1)
 abbrev pub kept_facts : ℕ → ℕ → MachineState → Facts
 kept_facts pc next_pc m = if nat_eq pc m.pc && nat_eq next_pc m.next_pc then m.facts else no_facts
 
--- the machine with these words in its registers; the current window stays
+-- the machine with the words behind those of the registers in their places; the current window stays
 abbrev pub restored_from : List ℕ → MachineState → MachineState
-restored_from ws m = record (with_registers 0 (take 32 ws) m) {
+restored_from ws m = record m {
   special = slice_index ws 32 ∷ slice_index ws 33 / 2 ^ 20 % 16 ∷ current m ∷ invalid m ∷ [];
   pc = slice_index ws 34;
   next_pc = slice_index ws 35;
@@ -66,7 +66,9 @@ restored_from ws m = record (with_registers 0 (take 32 ws) m) {
 
 -- the machine with the registers of the context block
 unfoldable pub restored_state : MachineState → MachineState
-restored_state m = restored_from (words_in Big CONTEXT_WORDS m.memory.context_bytes) m
+restored_state m =
+    let ws = words_in Big CONTEXT_WORDS m.memory.context_bytes in
+    restored_from ws (with_registers 0 (take 32 ws) m)
 
 -- ---- what machines of this target do
 

@@ -1,6 +1,6 @@
 -- The register windows: the SPARC V8 manual, section 4.1, with 8 windows. Overflow and underflow of the
 -- windows are served by the step itself, and one bit of WIM is set at a time.
-use Rattle.std.specs.Prelude.{ℕ, zero, suc, Bool, true, false, ◌+◌, ◌-◌, ◌*◌, ◌%◌, nat_eq, nat_lt, if◌then◌else◌, List, [], ◌∷◌, take, drop, slice_index, slice_set, Result, Ok, Err, None}
+use Rattle.std.specs.Prelude.{ℕ, zero, suc, Bool, true, false, ◌+◌, ◌-◌, ◌*◌, ◌%◌, ◌&&◌, nat_eq, nat_lt, is_ok, if◌then◌else◌, List, [], ◌∷◌, take, drop, slice_index, slice_set, Result, Ok, Err, None}
 use Rattle.ldb_words.specs.declared.kinds.Order.TheVariants.{Big}
 use Rattle.ldb_words.specs.declared.event.Event.{Event}
 use Rattle.ldb_words.specs.declared.event.Event.TheVariants.{Went, Fault}
@@ -119,6 +119,12 @@ and_then (Ok x) next = next x
 abbrev pub stored_windows : ℕ → ℕ → List ℕ → Regions → Result Regions FaultKind
 stored_windows zero w words r = Ok r
 stored_windows (suc n) w words r = and_then (stored_window w words r) (stored_windows n (window_above w) words)
+
+-- whether so many windows, from one on upwards, can each be stored where the stack pointer says
+abbrev pub can_store_windows : ℕ → ℕ → List ℕ → Regions → Bool
+can_store_windows zero w words r = true
+can_store_windows (suc n) w words r =
+    is_ok (load_words_of Big r (stack_pointer words w) 16) && can_store_windows n (window_above w) words r
 
 abbrev pub flushed : Result Regions FaultKind → MachineState → Bool × MachineState
 flushed (Err kind) m = (false, m)
