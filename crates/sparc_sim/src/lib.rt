@@ -1,13 +1,8 @@
-// A library with one function.
+//! A simulator of SPARC V8: each step is the definition's.
 #![tactic(auto)]
 
-ghost use Rattle.std.specs.Prelude.{◌≡◌};
-ghost use Rattle.sparc_sim.specs.Echo.{echo_of};
+mod machine;
+mod target;
+mod windows;
 
-// The `ensures` clause is the contract: what `echo` returns is `echo_of` of its argument, a definition
-// in `specs/Echo.antt`, which a caller's clause can cite too.
-pub fn echo(x: usize) -> usize
-    ensures { result ≡ echo_of x }
-{
-    x
-}
+pub use machine::Machine;
