@@ -5,6 +5,8 @@ mod arithmetic;
 mod event;
 mod kinds;
 mod many;
+#[cfg(test)]
+mod tests;
 mod text;
 mod word;
 

@@ -1,13 +1,11 @@
 -- Words that stand in the text, as a fetch reads them.
-use Rattle.std.proofs.Common.{◌≡◌, ◌∙◌, sym, ap, refl, ℕ, zero, suc, ◌+◌, ◌-◌, ◌*◌, ◌%◌, ◌^◌, ◌<◌, ◌≤◌, List, [], ◌∷◌, ◌++◌, Some, length, drop, get_or, Ok, arith}
-use Rattle.std.proofs.lemmas.Grind.{common_steps}
+use Rattle.std.proofs.Common.{◌≡◌, ◌∙◌, sym, ap, ℕ, zero, suc, ◌+◌, ◌*◌, ◌%◌, ◌^◌, ◌<◌, ◌≤◌, List, [], ◌∷◌, ◌++◌, Some, length, drop, get_or, Ok, arith}
 use Rattle.std.proofs.lemmas.Bool.Decides.{nat_tests}
-use Rattle.std.specs.List.{All}
 use Rattle.byteorder.specs.Numbers.{big_number-reads_back, little_number-reads_back}
 use Rattle.ldb_words.specs.declared.kinds.Order.{Order}
 use Rattle.ldb_words.specs.declared.kinds.Order.TheVariants.{Little, Big}
 use Rattle.machine_state.specs.declared.layout.TheConstants.{TEXT}
-use Rattle.machine_state.specs.Regions.{Regions, number_of, bytes_of, words_bytes, offset_in, bytes_from, number_in, if_aligned, fetch_of}
+use Rattle.machine_state.specs.Regions.{Regions, number_of, bytes_of, words_bytes, offset_in, fetch_of}
 use Rattle.machine_state.proofs.Words.{drop_four, dropped_twice, length_words_bytes}
 
 reads_back : (order : Order) (w : ℕ) (rest : List ℕ) → w < 256 ^ 4 → number_of order 4 (bytes_of order 4 w ++ rest) ≡ w

@@ -5,6 +5,8 @@ mod layout;
 mod memory;
 mod number;
 mod target;
+#[cfg(test)]
+mod tests;
 mod turns;
 
 pub use layout::{

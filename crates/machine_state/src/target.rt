@@ -16,7 +16,7 @@ pub trait Target {
     ghost use Rattle.std.specs.Prelude.{ℕ, List, Option, None, is_ok, ◌⊎◌};
     ghost use Rattle.machine_state.specs.State.{MachineState, Behaviour, order_of, with_memory, given_input};
     ghost use Rattle.machine_state.specs.Regions.{read_of, write_of};
-    
+
     /// The plain record.
     ghost state: { Self → MachineState };
 
