@@ -1,5 +1,5 @@
 -- A flush either stores each window or none: whether one can be stored does not depend on those stored before it.
-use Rattle.std.proofs.Common.{◌≡◌, ◌≤◌, ◌<◌, ◌+◌, ◌-◌, ◌*◌, ◌%◌, ◌++◌, ◌∙◌, sym, ap, refl, length, drop, take, ℕ, zero, suc, Bool, true, false, ◌&&◌, cond, nat_eq, nat_le, List, [], ◌∷◌, Option, Some, None, IfSome, Result, Ok, Err, IfOk, is_ok, arith, length-append, length-drop}
+use Rattle.std.proofs.Common.{◌≡◌, ◌≤◌, ◌<◌, ◌+◌, ◌-◌, ◌%◌, ◌∙◌, sym, refl, length, ℕ, zero, suc, Bool, true, false, ◌&&◌, cond, nat_eq, nat_le, List, Option, Some, None, IfSome, Result, Ok, Err, IfOk, is_ok, arith}
 use Rattle.std.proofs.lemmas.Grind.{common_steps}
 use Rattle.std.proofs.lemmas.Bool.Decides.{nat_tests}
 use Rattle.std.specs.Prelude.{is_some, option_map, ok_or}

@@ -1,5 +1,5 @@
 -- Instruction words: the SPARC V8 manual, appendix F. A field that an instruction does not use is 0.
-use Rattle.std.specs.Prelude.{ℕ, Bool, ◌+◌, ◌*◌, ◌^◌, ◌/◌, ◌%◌, ◌<◌, nat_eq, if◌then◌else◌, List, [], ◌∷◌, Option, Some, None}
+use Rattle.std.specs.Prelude.{ℕ, ◌+◌, ◌*◌, ◌^◌, ◌/◌, ◌%◌, nat_eq, if◌then◌else◌, List, [], ◌∷◌, Option, Some, None}
 use Rattle.ldb_words.specs.Word.{bit_of}
 use Rattle.sparc_isa.specs.declared.operand.Operand.{Operand}
 use Rattle.sparc_isa.specs.declared.operand.Operand.TheVariants.{Register, Immediate}

@@ -7,7 +7,7 @@ use Rattle.ldb_words.specs.declared.kinds.Order.TheVariants.{Big}
 use Rattle.machine_state.specs.Regions.{fetch_of, words_bytes}
 use Rattle.machine_state.specs.State.{MachineState}
 use Rattle.sparc_isa.specs.declared.insn.Insn.{Insn}
-use Rattle.sparc_isa.specs.Codec.{word_of, insn_of}
+use Rattle.sparc_isa.specs.Codec.{word_of}
 use Rattle.sparc_isa.specs.RoundTrip.{FieldsFit, insn_of-word_of}
 use Rattle.sparc_isa.specs.Step.{is_hazard, act, step_of}
 

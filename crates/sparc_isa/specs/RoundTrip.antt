@@ -1,6 +1,6 @@
 -- What fits in the fields of each instruction, and that words and instructions are one another's.
 use Rattle.std.specs.Prelude.{◌≡◌, ℕ, ◌+◌, ◌*◌, ◌/◌, ◌%◌, ◌<◌, ◌^◌, nat_eq, Bool, true, false, cond, Option, Some, None, IfSome, refl}
-use Rattle.std.proofs.Common.{ap, ◌∙◌, eq-eqb, eqb→eq, lit<, arith}
+use Rattle.std.proofs.Common.{ap, eq-eqb, eqb→eq, lit<, arith}
 use Rattle.ldb_words.specs.Word.{bit_of}
 use Rattle.sparc_isa.specs.declared.operand.Operand.{Operand}
 use Rattle.sparc_isa.specs.declared.operand.Operand.TheVariants.{Register, Immediate}

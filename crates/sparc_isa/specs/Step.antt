@@ -1,5 +1,5 @@
 -- What each instruction does: the SPARC V8 manual, appendix B, with this profile's faults, hazards and requests.
-use Rattle.std.specs.Prelude.{ℕ, ℤ, Bool, true, false, ◌+◌, ◌-◌, ◌*◌, ◌^◌, ◌/◌, ◌%◌, ◌&&◌, ◌||◌, nat_eq, nat_lt, not, if◌then◌else◌, bit_and, bit_or, bit_xor, List, [], ◌∷◌, Option, Some, None, Result, Ok, Err}
+use Rattle.std.specs.Prelude.{ℕ, Bool, true, false, ◌+◌, ◌-◌, ◌*◌, ◌^◌, ◌/◌, ◌%◌, ◌&&◌, ◌||◌, nat_eq, nat_lt, not, if◌then◌else◌, bit_and, bit_or, bit_xor, List, [], ◌∷◌, Option, Some, None, Result, Ok, Err}
 use Rattle.ldb_words.specs.Word.{sum_of, difference_of, sign_extended, product_signed, high_of, low_of}
 use Rattle.ldb_words.specs.Arithmetic.{shifted}
 use Rattle.ldb_words.specs.declared.kinds.Order.TheVariants.{Big}

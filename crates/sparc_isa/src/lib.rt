@@ -9,6 +9,8 @@ mod field;
 mod hazard;
 mod insn;
 mod operand;
+#[cfg(test)]
+mod tests;
 
 pub use arithmetic::{quotient_signed, quotient_unsigned, subtraction_codes};
 pub use codec::{decode, encode};

@@ -3,6 +3,8 @@
 
 mod machine;
 mod target;
+#[cfg(test)]
+mod tests;
 mod windows;
 
 pub use machine::Machine;

@@ -76,7 +76,8 @@ impl Model for Machine {
 
 impl Machine {
     ghost use Rattle.ldb_words.specs.Word.{difference_of, product_signed, sum_of};
-    ghost use Rattle.machine_state.specs.State.{MachineState, order_of, with_memory, given_input};
+    ghost use Rattle.machine_state.specs.declared.layout.TheConstants.{SPARC};
+    ghost use Rattle.machine_state.specs.State.{order_of, with_memory, given_input};
     ghost use Rattle.machine_state.specs.Widths.{width_of};
     ghost use Rattle.machine_state.specs.Regions.{load_of, store_of, read_of, write_of, overwritten};
     ghost use Rattle.ldb_words.specs.declared.kinds.Order.TheVariants.{Big};
@@ -89,6 +90,7 @@ impl Machine {
     /// The machine at the start of an image for SPARC.
     #[tactic(auto, unfolding(sparc_isa::specs::Loaded::first_state, sparc_isa::specs::Windows::place_of))]
     pub fn new(alloc: Global, image: &Image) -> Result<Machine, AllocError>
+        requires { image.now.target ≡ SPARC }
         ensures { IfOk result (λ m. m ≡ first_state image.now.entry image.now.text image.now.statics) }
     {
         let memory = Memory::new(alloc, image.text(), image.statics())?;
