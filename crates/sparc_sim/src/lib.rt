@@ -2,6 +2,8 @@
 #![tactic(auto)]
 
 mod machine;
+#[cfg(test)]
+mod program;
 mod target;
 #[cfg(test)]
 mod tests;

@@ -2,13 +2,11 @@
 
 mod context;
 
-ghost use Rattle.std.specs.Prelude.{◌≡◌, ◌<◌, ◌+◌, ◌*◌, ◌%◌, ◌≤◌, ◌^◌, ◌⊎◌, is_ok, length, true, IfOk};
+ghost use Rattle.std.specs.Prelude.{◌≡◌, ◌<◌, ◌*◌, ◌⊎◌, is_ok, IfOk};
 
 use crate::windows::{REGISTERS, place_of, window_above, window_below, window_place};
-use ldb_words::{
-    Event, FaultKind, Order, Outside, WindowFault, extend_byte, extend_half, product_signed,
-};
-use machine_state::{CONTEXT_WORDS, FIRST_STACK_POINTER, Memory, Width, width_from};
+use ldb_words::{Event, FaultKind, Order, Outside, extend_byte, extend_half, product_signed};
+use machine_state::{FIRST_STACK_POINTER, Memory, Width, width_from};
 use obj_file::Image;
 use sparc_isa::{
     Condition, Decoded, Displacement22, Displacement30, Insn, Operand, Register, ShiftOperand,
@@ -75,17 +73,17 @@ impl Model for Machine {
 }
 
 impl Machine {
-    ghost use Rattle.ldb_words.specs.Word.{difference_of, product_signed, sum_of};
+    ghost use Rattle.ldb_words.specs.Word.{product_signed};
     ghost use Rattle.machine_state.specs.declared.layout.TheConstants.{SPARC};
     ghost use Rattle.machine_state.specs.State.{order_of, with_memory, given_input};
     ghost use Rattle.machine_state.specs.Widths.{width_of};
-    ghost use Rattle.machine_state.specs.Regions.{load_of, store_of, read_of, write_of, overwritten};
+    ghost use Rattle.machine_state.specs.Regions.{load_of, store_of, read_of, write_of};
     ghost use Rattle.ldb_words.specs.declared.kinds.Order.TheVariants.{Big};
     ghost use Rattle.sparc_isa.specs.Arithmetic.{quotient_unsigned, quotient_signed};
     ghost use Rattle.sparc_isa.specs.Codec.{insn_of};
-    ghost use Rattle.sparc_isa.specs.Loaded.{first_state, block_of, saved_state, restored_state};
+    ghost use Rattle.sparc_isa.specs.Loaded.{first_state};
     ghost use Rattle.sparc_isa.specs.Step.{value, distance, trap_number, address, dividend, moved, writes, multiplies, divides, subtracts, writes_y, jumps, skips, branches, calls, jumps_linked, loads, sign_loaded, stores, saves, restores, reads_input, traps, traps_if, act, step_of};
-    ghost use Rattle.sparc_isa.specs.Windows.{y, codes, current, register, with_register, with_registers, window_place, window_words, spills, fills, callers, stored_windows, can_store_windows, flush_of};
+    ghost use Rattle.sparc_isa.specs.Windows.{register, with_register, window_words, spills, fills};
 
     /// The machine at the start of an image for SPARC.
     #[tactic(auto, unfolding(sparc_isa::specs::Loaded::first_state, sparc_isa::specs::Windows::place_of))]

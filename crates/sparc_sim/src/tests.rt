@@ -11,7 +11,7 @@ const WENT: Option<Event> = Some(Event::Went);
 const HAZARD: Option<Event> = Some(Event::Fault(FaultKind::Hazard));
 
 /// The machine of some words, if they make an image.
-fn machine_of(alloc: Global, words: &[u32]) -> Option<Machine> {
+pub fn machine_of(alloc: Global, words: &[u32]) -> Option<Machine> {
     let length = u32::try_from(4 * words.len()).ok()?;
     let mut bytes = Vec::from_slice(alloc, b"LDBI\x01\x02\0\0").ok()?;
     for field in [TEXT, length, 0] {
