@@ -1,5 +1,5 @@
 -- Files in memory, row by row.
-use Rattle.std.proofs.Common.{◌≡◌, ℕ, ◌+◌, ◌<◌, Bool, true, false, not, cond, nat_lt, List, [], ◌∷◌, ◌++◌, length, suc, get_or, Option, Some, None, slice_set, refl, sym, ap, ◌∙◌, arith, subst, string_bytes}
+use Rattle.std.proofs.Common.{◌≡◌, ℕ, ◌+◌, ◌<◌, true, false, not, cond, nat_lt, List, [], ◌∷◌, ◌++◌, length, suc, get_or, Option, Some, None, slice_set, refl, sym, ap, ◌∙◌, arith, subst, string_bytes}
 use Rattle.std.specs.Prelude.{unwrap_or}
 use Rattle.std.specs.List.{position_or_len}
 use Rattle.std.specs.FinMap as map

@@ -32,7 +32,10 @@ fn streams_of_the_system_pass_bytes_and_faults(rt: HostRuntime) -> Result<(), Fa
     reads(&rt, &mut source, "ab");
     reads(&rt, &mut source, "c");
     reads(&rt, &mut source, "");
-    assert_eq!(rt; Source::read(&mut OsSource::new(Broken), &mut [0u8; 2]), Err(Failed));
+    assert_eq!(rt;
+        Source::read(&mut OsSource::new(Broken), &mut [0u8; 2]),
+        Err(Failed)
+    );
     let mut sink = OsSink::new(Vec::new(rt.alloc()));
     assert_eq!(rt; Sink::write(&mut sink, b"ab"), Ok(2));
     assert_eq!(rt; sink.inner.as_slice(), b"ab".as_slice());

@@ -1,8 +1,7 @@
-use Rattle.std.proofs.Common.{◌≡◌, List, ◌++◌, ℕ, true, false, length, take, Some, None, refl, sym, ap, ◌∙◌, subst, rules}
+use Rattle.std.proofs.Common.{◌≡◌, ◌++◌, true, false, length, take, Some, None, refl, sym, ap, ◌∙◌, subst, rules}
 use Rattle.std.specs.Prelude.{IsSome}
 use Rattle.std.specs.FinMap as map
 use Rattle.std.proofs.Math.Seq.{take-length}
-use Rattle.ldb_edge.specs.Known.{appended}
 use Rattle.ldb_edge.specs.MemFiles.{Row, map_of, place_of}
 use Rattle.ldb_edge.proofs.Maps.{stays_held}
 use Rattle.ldb_edge.proofs.Rows.{absent_at, held_at, same_at, grown_at, stored_at}

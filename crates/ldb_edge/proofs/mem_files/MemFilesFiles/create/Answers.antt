@@ -1,4 +1,4 @@
-use Rattle.std.proofs.Common.{◌≡◌, List, ℕ, [], sym, subst, rules}
+use Rattle.std.proofs.Common.{◌≡◌, [], sym, subst, rules}
 use Rattle.std.specs.Prelude.{IsSome}
 use Rattle.std.specs.FinMap as map
 use Rattle.ldb_edge.specs.MemFiles.{map_of}

@@ -1,6 +1,6 @@
-use Rattle.std.proofs.Common.{◌≡◌, ◌≤◌, ◌<◌, Some, None, length, take, drop, sym, subst, rules}
+use Rattle.std.proofs.Common.{◌≡◌, ◌≤◌, Some, None, length, take, drop, sym, subst, rules}
 use Rattle.ldb_edge.specs.Known.{HoldsPiece, EndsBy}
-use Rattle.ldb_edge.specs.MemFiles.{Row, map_of, place_of}
+use Rattle.ldb_edge.specs.MemFiles.{Row, place_of}
 use Rattle.ldb_edge.proofs.Pieces.{front_of}
 use Rattle.ldb_edge.proofs.Rows.{absent_at, held_at}
 use Rattle.ldb_edge.proofs.mem_files.MemFilesFiles.read_at.Goals as goal
