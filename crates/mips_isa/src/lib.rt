@@ -1,0 +1,18 @@
+//! The instructions of the R3000 and what each does.
+#![tactic(auto)]
+
+mod codec;
+mod decoded;
+mod field;
+mod hazard;
+mod insn;
+mod laws;
+#[cfg(test)]
+mod tests;
+
+pub use codec::{decode, encode};
+pub use decoded::Decoded;
+pub use field::{Register, ShiftAmount, Target};
+pub use hazard::is_hazard;
+pub use insn::Insn;
+pub use laws::machines_are_well_formed;
