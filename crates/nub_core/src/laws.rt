@@ -1,0 +1,16 @@
+// What holds of turns.
+
+ghost use Rattle.std.specs.Prelude.{◌≡◌, ℕ, ◌+◌, None, Some};
+ghost use Rattle.nub_wire.specs.declared.message.Msg.{Msg};
+ghost use Rattle.machine_state.specs.State.{Behaviour};
+ghost use Rattle.nub_wire.specs.Nub.{Host, turn_of};
+
+/// As long as no message is due, n turns and then m turns are n + m turns.
+pub fn turns_add()
+    ensures { (b : Behaviour) (n m : ℕ) (h h' : Host) → turn_of b n h ≡ (None, h') → turn_of b (n + m) h ≡ turn_of b m h' }
+{}
+
+/// Turns after a message is due are not run.
+pub fn turns_stop()
+    ensures { (b : Behaviour) (n k : ℕ) (h h' : Host) (m : Msg) → turn_of b n h ≡ (Some m, h') → turn_of b (n + k) h ≡ (Some m, h') }
+{}

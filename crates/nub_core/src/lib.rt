@@ -1,0 +1,8 @@
+//! The nub: it answers messages for a machine of any target.
+#![tactic(auto)]
+
+mod laws;
+mod nub;
+
+pub use laws::{turns_add, turns_stop};
+pub use nub::Nub;

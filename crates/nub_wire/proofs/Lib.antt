@@ -1,0 +1,6 @@
+pub mod Cuts
+pub mod Feeds
+pub mod Fronts
+pub mod LawsOfStreams
+pub mod Quiet
+pub mod Streams

@@ -1,0 +1,22 @@
+-- What a reader of frames holds.
+use Rattle.std.specs.Prelude.{◌≡◌, ℕ, ◌<◌, ◌≤◌, Bool, true, false, List, [], ◌++◌, length}
+use Rattle.nub_wire.specs.Spelling.{AllBytes}
+use Rattle.nub_wire.specs.Front.{front_of}
+use Rattle.nub_wire.specs.declared.front.Front.TheVariants.{Part}
+
+-- the bytes of the frame that has begun, where it began in all bytes fed, and whether they begin none
+pub record Feeding : Type 0 where
+  pub held : List ℕ
+  pub start : ℕ
+  pub is_bad : Bool
+
+-- Of what is held nothing is decided before so many bytes more have come.
+abbrev pub IsQuiet : List ℕ → ℕ → Type 0
+IsQuiet held missing = (more : List ℕ) → length more < missing → front_of (held ++ more) ≡ Part
+
+-- what is held are bytes, and where no bytes began no frame they are part of one
+pub record IsFeeding (held : List ℕ) (missing : ℕ) (is_bad : Bool) : Type 0 where
+  pub each : AllBytes held
+  pub partial : is_bad ≡ false → IsQuiet held missing
+  pub some : 1 ≤ missing
+  pub cleared : is_bad ≡ true → held ≡ []

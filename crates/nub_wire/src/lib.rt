@@ -1,0 +1,21 @@
+//! What a debugger and a nub say to each other: messages, their frames, and a reader of frames in any pieces.
+#![tactic(auto)]
+
+mod encoding;
+mod ending;
+mod feeder;
+mod front;
+mod laws;
+mod link;
+mod message;
+mod reply;
+#[cfg(test)]
+mod tests;
+
+pub use encoding::encode;
+pub use ending::{Cause, ending_of, is_final, reply_of};
+pub use feeder::{Fed, Feeder};
+pub use laws::{any_pieces, one_message};
+pub use link::{Entry, Link, Side};
+pub use message::{Chunk, Ending, Msg, Reason, Size};
+pub use reply::{Heard, ends_reply, hear};
