@@ -57,6 +57,7 @@ impl Entries {
     }
 
     /// The value under a key.
+    #[tactic(auto, using(crate::proofs::Pairs::lookup_value_at))]
     pub fn get(&self, key: &Key) -> Option<PsObj>
         ensures { result ≡ value_at self.now key.now }
     {
@@ -64,6 +65,7 @@ impl Entries {
     }
 
     /// The value under a name.
+    #[tactic(auto, using(crate::proofs::Pairs::lookup_value_at))]
     pub fn get_name(&self, name: NameQuery<'_>) -> Option<PsObj>
         ensures { result ≡ value_at self.now (NameKey name.entry.text.now) }
     {
@@ -74,6 +76,7 @@ impl Entries {
     }
 
     /// The place of a key.
+    #[tactic(auto, using(crate::proofs::Pairs::lookup_value_at, crate::proofs::Pairs::with_value_at_place))]
     pub fn place_of(&self, key: &Key) -> Option<usize>
         ensures found { is_some result ≡ is_some (value_at self.now key.now) }
         ensures place { IfSome result (λ i. (value : PsObj) → with_value self.now key.now value ≡ set_value_at self.now i value) }
@@ -83,6 +86,7 @@ impl Entries {
     }
 
     /// The place of a name.
+    #[tactic(auto, using(crate::proofs::Pairs::lookup_value_at, crate::proofs::Pairs::with_value_at_place))]
     pub fn place_of_name(&self, name: NameQuery<'_>) -> Option<usize>
         ensures found { is_some result ≡ is_some (value_at self.now (NameKey name.entry.text.now)) }
         ensures place { IfSome result (λ i. (value : PsObj) → with_value self.now (NameKey name.entry.text.now) value ≡ set_value_at self.now i value) }
@@ -100,6 +104,7 @@ impl Entries {
     }
 
     /// Puts a value under a key: in the place of the one before, or at the end.
+    #[tactic(auto, using(crate::proofs::Pairs::insert_entry_with_value))]
     pub fn put(&mut self, key: Key, value: PsObj) -> Result<(), AllocError>
         ensures ok { OnOk result (self.new ≡ with_value self.old key value) }
         ensures err { OnErr result (self.new ≡ self.old) }
