@@ -115,10 +115,15 @@ making_text most s bytes =
     then Ok (record { part = s.part; index = length h.strings }, with_held s s.part (record h { strings = h.strings ++ bytes ∷ []; units = h.units + text_units bytes }))
     else Err Limit
 
--- a string of these bytes; a name of these characters
+-- a string of these bytes
 abbrev pub making_string : StoreState → List ℕ → Given StringId
 making_string s bytes = making_text 16777216 s bytes
 
+-- a string of so many zeros
+abbrev pub making_zeros : StoreState → ℕ → Given StringId
+making_zeros s len = making_string s (replicate len 0)
+
+-- a name of these characters
 abbrev pub making_name : StoreState → List ℕ → Given StringId
 making_name s text = making_text 127 s text
 
@@ -166,10 +171,10 @@ abbrev pub Changes : Result (Unit {0}) ReadOnlyFault → StoreState → StoreSta
 Changes (Ok x) old new given = given ≡ Some new
 Changes (Err e) old new given = (given ≡ None) × (new ≡ old)
 
--- there is an executable string under the key
-pub record IsDeferred (s : StoreState) (d : DictId) (key : Key) : Type 0 where
-  pub text : StringId
-  pub there : value_at (entries_of s d) key ≡ Some (Str text true)
+-- whether what is under a key is an executable string
+abbrev pub is_deferred : Option PsObj → Bool
+is_deferred (Some (Str text executable)) = executable
+is_deferred other = false
 
 -- a new store: one base dictionary, which is empty and in the table's part
 abbrev pub new_store : StoreState

@@ -224,18 +224,16 @@ impl Objects {
         Ok(index)
     }
 
-    /// Makes a string of these bytes that counts `cost` units, and gives its index.
-    pub fn add_string(&mut self, bytes: &[u8], cost: u32) -> Result<u32, AllocError>
+    /// Adds a string that counts `cost` units, and gives its index.
+    pub fn add_string(&mut self, characters: Characters, cost: u32) -> Result<u32, AllocError>
         requires least { 1 ≤ cost }
         requires fits { self.old.units + cost ≤ 8000000 }
         ensures index { IfOk result (λ index. index ≡ length self.old.strings) }
-        ensures ok { OnOk result (self.new ≡ record self.old { strings = self.old.strings ++ bytes.now ∷ []; units = self.old.units + cost }) }
+        ensures ok { OnOk result (self.new ≡ record self.old { strings = self.old.strings ++ characters ∷ []; units = self.old.units + cost }) }
         ensures err { OnErr result (self.new ≡ self.old) }
     {
-        let alloc = *self.strings.allocator();
-        let copy = Characters::copy_of(alloc, bytes)?;
         let index = self.strings.len() as u32;
-        self.strings.push(copy)?;
+        self.strings.push(characters)?;
         self.units += cost;
         Ok(index)
     }
@@ -284,6 +282,6 @@ impl Objects {
         self.arrays.truncate(mark.arrays as usize);
         self.dicts.truncate(mark.dicts as usize);
         self.strings.truncate(mark.strings as usize);
-        self.units = mark.units;
+        self.units = self.units.min(mark.units);
     }
 }

@@ -1,12 +1,12 @@
 //! The store: arrays, dictionaries and strings, in two parts (PostScript Language Reference, 3.3 and 3.7).
 
-ghost use Rattle.std.specs.Prelude.{◌≡◌, ◌<◌, ◌+◌, ◌≤◌, ◌^◌, IfOk, IfSome, OnOk, OnErr, Some, List, [], ◌∷◌, ◌++◌, length, slice_get, bytes_eq, is_some, false};
+ghost use Rattle.std.specs.Prelude.{◌≡◌, ◌<◌, ◌+◌, ◌≤◌, ◌^◌, IfOk, IfSome, OnOk, OnErr, Some, List, [], ◌∷◌, ◌++◌, length, slice_get, bytes_eq, is_some, false, true, ◌&&◌, ◌/◌, nat_le, IsTrue};
 
 use crate::fault::{ReadOnly, StoreFault};
 use crate::key::{Key, NameQuery};
 use crate::object::{ArrayId, DictId, Mark, Part, PsObj, StringId};
 use crate::objects::Objects;
-use crate::texts::Elements;
+use crate::texts::{Characters, Elements};
 use std::alloc::{AllocError, Global};
 use std::marker::Model;
 
@@ -51,7 +51,7 @@ impl PsStore {
     ghost use Rattle.ps_store.specs.Entries.{value_at, with_value};
     ghost use Rattle.ps_store.specs.Operators.{operator_number};
     ghost use Rattle.ps_store.specs.Cut.{mark_of, cut, IsMark};
-    ghost use Rattle.ps_store.specs.Store.{KeepsClosed, IsDeferred, held, with_held, with_entries, elements_of, entries_of, bytes_of, is_closed, has_room, making_array, making_nulls, writing_elements, putting_element, making_dict, making_text, making_string, making_name, writing_bytes, putting_value, putting_under_text, new_store, Does, Changes, closed_part};
+    ghost use Rattle.ps_store.specs.Store.{KeepsClosed, is_deferred, held, with_held, with_entries, elements_of, entries_of, bytes_of, is_closed, has_room, making_array, making_nulls, writing_elements, putting_element, making_dict, making_text, making_string, making_zeros, making_name, text_units, writing_bytes, putting_value, putting_under_text, new_store, Does, Changes, closed_part};
     ghost use Rattle.indexmap.specs.IndexMap.{set_value_at};
 
     /// A store with the table's part in use and one base dictionary, which is empty.
@@ -238,22 +238,55 @@ impl PsStore {
         Ok(DictId { part, index })
     }
 
+    /// Adds a text to the part in use, for which there is room.
+    fn add_text(&mut self, characters: Characters, len: usize) -> Result<StringId, StoreFault>
+        requires length { len ≡ length characters }
+        requires short { len ≤ 16777216 }
+        requires room { has_room self.old (text_units characters) ≡ true }
+        ensures does { Does result self.old self.new (making_string self.old characters) }
+        ensures closed { closed_part self.new ≡ closed_part self.old }
+    {
+        let cost = 1 + len.div_ceil(16) as u32;
+        let part = self.part;
+        let index = match part {
+            Part::Table => self.table.add_string(characters, cost)?,
+            Part::Command => self.command.add_string(characters, cost)?,
+        };
+        Ok(StringId { part, index })
+    }
+
+    /// Whether a text of so many bytes may be made where `most` are allowed.
+    fn takes_text(&self, len: usize, most: usize) -> bool
+        requires { most ≤ 16777216 }
+        ensures { result ≡ (nat_le len most && has_room self.now (1 + (len + 15) / 16)) }
+    {
+        len <= most && self.has_room(1 + len.div_ceil(16))
+    }
+
     /// Makes a text of at most `most` bytes in the part in use.
     fn make_text(&mut self, bytes: &[u8], most: usize) -> Result<StringId, StoreFault>
         requires { most ≤ 16777216 }
         ensures does { Does result self.old self.new (making_text most self.old bytes.now) }
         ensures closed { closed_part self.new ≡ closed_part self.old }
     {
-        if bytes.len() > most || !self.has_room(1 + bytes.len().div_ceil(16)) {
+        if !self.takes_text(bytes.len(), most) {
             return Err(StoreFault::Limit);
         }
-        let cost = 1 + bytes.len().div_ceil(16) as u32;
-        let part = self.part;
-        let index = match part {
-            Part::Table => self.table.add_string(bytes, cost)?,
-            Part::Command => self.command.add_string(bytes, cost)?,
-        };
-        Ok(StringId { part, index })
+        let characters = Characters::copy_of(self.allocator(), bytes)?;
+        self.add_text(characters, bytes.len())
+    }
+
+    /// Makes a string of so many zeros in the part in use.
+    pub fn make_zeros(&mut self, len: u32) -> Result<StringId, StoreFault>
+        ensures does { Does result self.old self.new (making_zeros self.old len) }
+        ensures closed { closed_part self.new ≡ closed_part self.old }
+    {
+        let len = len as usize;
+        if !self.takes_text(len, MOST_BYTES) {
+            return Err(StoreFault::Limit);
+        }
+        let characters = Characters::zeros(self.allocator(), len)?;
+        self.add_text(characters, len)
     }
 
     /// Makes a string of these bytes in the part in use.
@@ -412,7 +445,7 @@ impl PsStore {
 
     /// Puts a value in place of the executable string under a key, in a closed dictionary too.
     pub fn settle(&mut self, d: DictId, key: &Key, value: PsObj)
-        requires { IsDeferred self.old d key.now }
+        requires { IsTrue (is_deferred (value_at (entries_of self.old d) key.now)) }
         ensures { self.new ≡ with_entries self.old d (with_value (entries_of self.old d) key.now value) }
     {
         if let Some(at) = self.held(d.part).place_of(d.index, key) {
@@ -482,7 +515,6 @@ impl PsStore {
     /// Drops what was made in the part in use since the mark.
     pub fn cut_back(&mut self, mark: Mark)
         requires counted { IsMark mark }
-        requires earlier { mark.units ≤ (held self.old self.old.part).units }
         requires keeps { KeepsClosed self.old mark }
         ensures cut { self.new ≡ with_held self.old self.old.part (cut (held self.old self.old.part) mark) }
         ensures closed { closed_part self.new ≡ closed_part self.old }

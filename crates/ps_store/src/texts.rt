@@ -92,18 +92,33 @@ impl Model for Characters {
 }
 
 impl Characters {
+    /// These bytes.
+    fn of(bytes: Vec<u8>) -> Characters
+        ensures { result ≡ bytes.items }
+    {
+        let hash = text_hash(bytes.as_slice());
+        let operator = operator_number(bytes.as_slice());
+        Characters {
+            bytes,
+            hash,
+            operator,
+        }
+    }
+
     /// A copy of these bytes.
     pub fn copy_of(alloc: Global, bytes: &[u8]) -> Result<Characters, AllocError>
         ensures { IfOk result (λ characters. characters ≡ bytes.now) }
     {
-        let hash = text_hash(bytes);
-        let operator = operator_number(bytes);
         let bytes = Vec::from_slice(alloc, bytes)?;
-        Ok(Characters {
-            bytes,
-            hash,
-            operator,
-        })
+        Ok(Characters::of(bytes))
+    }
+
+    /// So many zeros.
+    pub fn zeros(alloc: Global, len: usize) -> Result<Characters, AllocError>
+        ensures { IfOk result (λ characters. characters ≡ replicate len 0) }
+    {
+        let bytes = Vec::from_elem(alloc, 0u8, len)?;
+        Ok(Characters::of(bytes))
     }
 
     /// The bytes.
