@@ -24,11 +24,48 @@ fn reads(rt: &impl Abort, text: &str, want: &[(PsKind, &str)]) {
 #[test]
 fn tokens(rt: HostRuntime) {
     use PsKind::{Close, Integer, LiteralName, Name, Open, Str};
-    reads(&rt, "abc/def(g)12", &[(Name, "abc"), (LiteralName, "/def"), (Str, "(g)"), (Integer, "12")]);
-    reads(&rt, "/a/b/ /", &[(LiteralName, "/a"), (LiteralName, "/b"), (LiteralName, "/"), (LiteralName, "/")]);
-    reads(&rt, "a%c(\nb%\x0c+ 1-", &[(Name, "a"), (Name, "b"), (Name, "+"), (Name, "1-")]);
-    reads(&rt, "{[<<>>]}", &[(Open, "{"), (Name, "["), (Name, "<<"), (Name, ">>"), (Name, "]"), (Close, "}")]);
-    reads(&rt, "<4 1>(a(b)\\))x", &[(Str, "<4 1>"), (Str, "(a(b)\\))"), (Name, "x")]);
+    reads(
+        &rt,
+        "abc/def(g)12",
+        &[
+            (Name, "abc"),
+            (LiteralName, "/def"),
+            (Str, "(g)"),
+            (Integer, "12"),
+        ],
+    );
+    reads(
+        &rt,
+        "/a/b/ /",
+        &[
+            (LiteralName, "/a"),
+            (LiteralName, "/b"),
+            (LiteralName, "/"),
+            (LiteralName, "/"),
+        ],
+    );
+    reads(
+        &rt,
+        "a%c(\nb%\x0c+ 1-",
+        &[(Name, "a"), (Name, "b"), (Name, "+"), (Name, "1-")],
+    );
+    reads(
+        &rt,
+        "{[<<>>]}",
+        &[
+            (Open, "{"),
+            (Name, "["),
+            (Name, "<<"),
+            (Name, ">>"),
+            (Name, "]"),
+            (Close, "}"),
+        ],
+    );
+    reads(
+        &rt,
+        "<4 1>(a(b)\\))x",
+        &[(Str, "<4 1>"), (Str, "(a(b)\\))"), (Name, "x")],
+    );
     for text in ["<zz>", ">", ")", "(a", "<4", " (a(b)"] {
         assert!(rt; next_token(text.as_bytes(), 0).is_err(), "{text}");
     }
@@ -47,7 +84,18 @@ fn integers(rt: HostRuntime) {
     ] {
         assert_eq!(rt; integer_value(text.as_bytes()), Some(want), "{text}");
     }
-    for text in ["-", "1-", "0x1", "16#g", "1#1", "37#1", "#1", "16#1#1", "-16#1", "2147483648"] {
+    for text in [
+        "-",
+        "1-",
+        "0x1",
+        "16#g",
+        "1#1",
+        "37#1",
+        "#1",
+        "16#1#1",
+        "-16#1",
+        "2147483648",
+    ] {
         assert_eq!(rt; integer_value(text.as_bytes()), None, "{text}");
     }
 }
