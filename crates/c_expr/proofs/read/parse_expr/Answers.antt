@@ -1,0 +1,15 @@
+use Rattle.std.proofs.Common.{sym, ◌∙◌}
+use Rattle.c_expr.specs.Sign.{signs}
+use Rattle.c_expr.proofs.Joined.{read_is}
+use Rattle.c_expr.proofs.Exact.{is_tree, is_deep, of_fault}
+use Rattle.c_expr.proofs.read.parse_expr.Goals as goal
+
+pub returns-in-Some : goal.returns-in-Some
+returns-in-Some c =
+    rw c.in-Some.built-is (is_tree (signs c.args.text.now c.args.tokens.now) c.in-Ok.g c.in-Some.built (sym (read_is c.args.text.now c.args.tokens.now) ∙ c.in-Ok.ensures) c.in-Some.is)
+
+pub returns-in-None : goal.returns-in-None
+returns-in-None c = is_deep (signs c.args.text.now c.args.tokens.now) c.in-Ok.g (sym (read_is c.args.text.now c.args.tokens.now) ∙ c.in-Ok.ensures) c.in-None.is
+
+pub returns-in-Err : goal.returns-in-Err
+returns-in-Err c = of_fault c.args.text.now c.args.tokens.now c.in-Err.fault c.in-Err.ensures

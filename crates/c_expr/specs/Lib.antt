@@ -1,0 +1,13 @@
+pub mod First
+pub mod Symbols
+pub mod Sign
+pub mod Tree
+pub mod Stored
+pub mod View
+pub mod Levels
+pub mod Grown
+pub mod Frames
+pub mod Machine
+pub mod Reader
+pub mod Grammar
+pub mod Parses
