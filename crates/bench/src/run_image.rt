@@ -2,7 +2,6 @@
 
 use ldb_words::{Event, FaultKind};
 use machine_state::{CONTEXT, CONTEXT_WORDS, MIPS, Target};
-use mips_sim::Machine;
 use obj_file::{ImageFault, read_image};
 use std::alloc::{AllocError, Global};
 use std::process::ExitCode;
@@ -118,13 +117,15 @@ pub fn run_image(
     let bytes = fs::read(rt, image)?;
     let input = fs::read(rt, input)?;
     match read_image(rt.alloc(), bytes.as_slice()) {
-        Ok(image) if image.target() == MIPS => {
-            let mut machine = Machine::new(rt.alloc(), &image)?;
-            run_over(rt, &mut machine, input.as_slice(), output)
-        }
-        Ok(_) => {
-            println!(rt; "no simulator for this target")?;
-            Ok(ExitCode::from(1))
+        Ok(image) => {
+            let target = image.target();
+            if target == MIPS {
+                let mut machine = mips_sim::Machine::new(rt.alloc(), &image)?;
+                run_over(rt, &mut machine, input.as_slice(), output)
+            } else {
+                let mut machine = sparc_sim::Machine::new(rt.alloc(), &image)?;
+                run_over(rt, &mut machine, input.as_slice(), output)
+            }
         }
         Err(ImageFault::BadImage { at }) => {
             println!(rt; "bad image at {at}")?;
