@@ -1,14 +1,11 @@
 // Runs of images, from their start to their end.
 
-ghost use Rattle.std.specs.Prelude.{◌≡◌};
-
 use ldb_words::{Event, FaultKind};
 use machine_state::{CONTEXT, CONTEXT_WORDS, MIPS, Target};
-use mips_sim::Machine;
 use obj_file::{ImageFault, read_image};
 use std::alloc::{AllocError, Global};
 use std::process::ExitCode;
-use std::rt::{Files, Print};
+use std::rt::Files;
 use std::{fs, io};
 
 /// What a run came to.
@@ -74,10 +71,18 @@ fn name_of(event: Event) -> &'static str {
 }
 
 /// Prints the event, the completed steps, pc, and the 36 words of the context block.
-fn print_end<T: Target>(rt: &(impl Print + AllocGlobal), machine: &mut T, ran: &Ran) -> io::Result<()> {
+fn print_end<T: Target>(
+    rt: &(impl Print + AllocGlobal),
+    machine: &mut T,
+    ran: &Ran,
+) -> io::Result<()> {
     let _saved = machine.save();
     let pc = machine.read(CONTEXT + 4 * 34, 4).unwrap_or(0);
-    let mut line = format!(in rt.alloc(); "{} steps {} pc {pc:08x} registers", name_of(ran.event), ran.steps)?;
+    let mut line = format!(in rt.alloc();
+        "{} steps {} pc {pc:08x} registers",
+        name_of(ran.event),
+        ran.steps
+    )?;
     for word in 0..CONTEXT_WORDS as u32 {
         let value = machine.read(CONTEXT + 4 * word, 4).unwrap_or(0);
         line.push_str(format!(in rt.alloc(); " {value:08x}")?.as_str())?;
@@ -112,13 +117,15 @@ pub fn run_image(
     let bytes = fs::read(rt, image)?;
     let input = fs::read(rt, input)?;
     match read_image(rt.alloc(), bytes.as_slice()) {
-        Ok(image) if image.target() == MIPS => {
-            let mut machine = Machine::new(rt.alloc(), &image)?;
-            run_over(rt, &mut machine, input.as_slice(), output)
-        }
-        Ok(_) => {
-            println!(rt; "no simulator for this target")?;
-            Ok(ExitCode::from(1))
+        Ok(image) => {
+            let target = image.target();
+            if target == MIPS {
+                let mut machine = mips_sim::Machine::new(rt.alloc(), &image)?;
+                run_over(rt, &mut machine, input.as_slice(), output)
+            } else {
+                let mut machine = sparc_sim::Machine::new(rt.alloc(), &image)?;
+                run_over(rt, &mut machine, input.as_slice(), output)
+            }
         }
         Err(ImageFault::BadImage { at }) => {
             println!(rt; "bad image at {at}")?;

@@ -1,11 +1,11 @@
 -- Bytes cut into the fields of an image, and joined again.
-use Rattle.std.proofs.Common.{◌≡◌, ◌∙◌, refl, sym, ap, ℕ, zero, suc, ◌+◌, ◌*◌, ◌^◌, ◌<◌, ◌≤◌, nat_le, Bool, true, false, cond, List, [], ◌∷◌, ◌++◌, length, take, drop, get_or, Option, Some, None, arith, lit<}
+use Rattle.std.proofs.Common.{◌≡◌, ◌∙◌, refl, sym, ap, ℕ, zero, suc, ◌+◌, ◌<◌, ◌≤◌, nat_le, Bool, true, false, List, [], ◌∷◌, ◌++◌, length, take, drop, get_or, Option, Some, None, arith, lit<}
 use Rattle.std.specs.Prelude.{if◌then◌else◌}
-use Rattle.std.specs.Int.{w8, w16, w32, byte_len, from_be_bytes, to_be_bytes}
+use Rattle.std.specs.Int.{w8, w16, w32, from_be_bytes, to_be_bytes}
 use Rattle.std.proofs.lemmas.Bool.Decides.{nat_tests}
-use Rattle.std.proofs.lemmas.List.{take-append-drop, drop-drop, length-take, length-drop, length-take-le, get_or-take, get_or-drop}
+use Rattle.std.proofs.lemmas.List.{take-append-drop, drop-drop, length-drop, length-take-le, get_or-drop}
 use Rattle.std.proofs.lemmas.Nat.{be_bytes_2, be_bytes_4}
-use Rattle.obj_file.specs.Image.{ImageFields, magic, word_bytes, image_bytes, byte_at, half_at, word_at, wrong_in_header, wrong_in_body, or_zero, or_else, first_wrong, IsHeader}
+use Rattle.obj_file.specs.Image.{magic, word_bytes, image_bytes, byte_at, half_at, word_at, wrong_in_body, first_wrong, IsHeader}
 
 -- each number is a byte
 abbrev pub AreBytes : List ℕ → Type 0

@@ -1,7 +1,6 @@
 -- The bytes of an image have nothing wrong, and are those of no other image.
-use Rattle.std.proofs.Common.{◌≡◌, ◌∙◌, refl, sym, ap, ℕ, zero, suc, ◌+◌, ◌-◌, ◌*◌, ◌%◌, ◌^◌, ◌<◌, ◌≤◌, nat_le, nat_eq, nat_lt, ◌&&◌, ◌||◌, Bool, true, false, cond, List, [], ◌∷◌, ◌++◌, length, take, drop, get_or, Option, Some, None, Result, Ok, Err, arith, lit<, lit≤, inl, inr}
+use Rattle.std.proofs.Common.{◌≡◌, ◌∙◌, refl, sym, ap, ℕ, ◌+◌, ◌%◌, ◌^◌, ◌<◌, ◌≤◌, nat_le, nat_eq, nat_lt, ◌&&◌, ◌||◌, Bool, true, false, List, ◌++◌, length, drop, Option, Some, None, Result, Ok, Err, arith, lit<, lit≤, inl, inr}
 use Rattle.std.specs.Prelude.{◌⊎◌, if◌then◌else◌}
-use Rattle.std.specs.Int.{w8, w16, w32, byte_len, from_be_bytes, to_be_bytes}
 use Rattle.std.proofs.lemmas.Bool.Decides.{nat_tests}
 use Rattle.std.proofs.Math.Seq.{take-append_seam, drop-append_seam}
 use Rattle.std.proofs.lemmas.List.{length-append}
@@ -9,7 +8,7 @@ use Rattle.std.proofs.lemmas.Nat.{from_be_bytes-to_be_bytes_4}
 use Rattle.machine_state.specs.declared.layout.TheConstants.{MIPS, SPARC, TEXT}
 use Rattle.obj_file.specs.declared.image.ImageFault.{ImageFault}
 use Rattle.obj_file.specs.declared.image.ImageFault.TheVariants.{BadImage, NoMemory}
-use Rattle.obj_file.specs.Image.{ImageFields, IsImage, magic, word_bytes, image_bytes, byte_at, half_at, word_at, first_of, holds, are_there, or_zero, or_else, header_checks, body_checks, wrong_in_header, wrong_in_body, first_wrong, Reads}
+use Rattle.obj_file.specs.Image.{ImageFields, IsImage, magic, image_bytes, byte_at, half_at, word_at, holds, are_there, wrong_in_header, wrong_in_body, first_wrong, Reads}
 
 size : (i : ImageFields) → length (image_bytes i) ≡ 20 + (length i.text + length i.statics)
 unfolding image_bytes

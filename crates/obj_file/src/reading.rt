@@ -1,8 +1,7 @@
 // Bytes read as an image.
 
-ghost use Rattle.std.specs.Prelude.{◌≡◌, ◌⊎◌, ◌≤◌, ◌<◌, ◌+◌, ◌%◌, ◌^◌, Some, None, length, MatchResult};
-ghost use Rattle.obj_file.specs.Image.{byte_at, half_at, word_at, wrong_in_header, wrong_in_body, first_wrong, Reads, IsHeader, IsBody};
-ghost use Rattle.machine_state.specs.declared.layout.TheConstants.{MIPS, SPARC};
+ghost use Rattle.std.specs.Prelude.{◌≡◌, ◌≤◌, ◌^◌, Some, None, MatchResult};
+ghost use Rattle.obj_file.specs.Image.{byte_at, half_at, word_at, wrong_in_header, wrong_in_body, Reads, IsHeader, IsBody};
 
 use crate::image::{Image, ImageFault};
 use bytes::Buf;

@@ -73,7 +73,9 @@ fn bad_images(rt: HostRuntime) -> Result<(), Fail> {
     ];
     for (place, value, at) in changed {
         let mut bytes = IMAGE;
-        bytes[place] = value;
+        if let Some(byte) = bytes.get_mut(place) {
+            *byte = value;
+        }
         assert_eq!(rt; told(alloc, &bytes), Some(at));
     }
     Ok(())

@@ -1,6 +1,6 @@
 use Rattle.std.proofs.Common.{◌≡◌, ◌∙◌, sym, ap, ◌+◌, take, drop, None, arith}
 use Rattle.std.proofs.lemmas.List.{take_rest}
-use Rattle.obj_file.specs.Image.{IsHeader, IsBody, wrong_in_body, image_bytes}
+use Rattle.obj_file.specs.Image.{IsHeader, IsBody, wrong_in_body}
 use Rattle.obj_file.proofs.Cutting.{AreBytes, joined, right}
 use Rattle.obj_file.proofs.reading.read_image.Goals as goal
 

@@ -1,0 +1,4 @@
+pub mod Numbers
+pub mod Literals
+pub mod Front
+pub mod Lexing

@@ -1,0 +1,10 @@
+use Rattle.std.proofs.Common.{◌≡◌, ◌≤◌, ◌-◌, ℕ, List, length, drop}
+use Rattle.c_lex.specs.Literals.{Literal}
+use Rattle.c_lex.proofs.Literals.{Walk}
+use Rattle.c_lex.proofs.literal.closed_len.Given as goal
+
+abbrev pub invariant-loop-at : goal.invariant-loop-at
+invariant-loop-at l = Walk l.quote l.text l.at
+
+abbrev pub decreases-loop-at : goal.decreases-loop-at
+decreases-loop-at l = length l.text - l.at

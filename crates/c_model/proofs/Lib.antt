@@ -1,0 +1,4 @@
+pub mod Tokens
+pub mod Tasks
+pub mod LineWords
+pub mod Counted

@@ -1,0 +1,11 @@
+pub mod Hashed
+pub mod Object
+pub mod Overwritten
+pub mod Operators
+pub mod Key
+pub mod KeyLaws
+pub mod Entries
+pub mod Held
+pub mod Cut
+pub mod StoreState
+pub mod Store

@@ -1,0 +1,25 @@
+-- What contracts see of a store.
+use Rattle.std.specs.Prelude.{ℕ, Option, List}
+use Rattle.ps_store.specs.declared.object.Part.{Part}
+use Rattle.ps_store.specs.declared.object.DictId.{DictId}
+use Rattle.ps_store.specs.declared.object.Mark.{Mark}
+use Rattle.ps_store.specs.declared.object.PsObj.{PsObj}
+use Rattle.ps_store.specs.declared.key.Key.{Key}
+use Rattle.ps_store.specs.Held.{Held}
+
+-- The objects of both parts, the part in which objects are made, how many of the table's objects are closed,
+-- the base dictionaries and the table's top dictionary.
+pub record StoreState : Type 0 where
+  pub table : Held
+  pub command : Held
+  pub part : Part
+  pub closed : Mark
+  pub base : List DictId
+  pub top : Option DictId
+
+-- what is closed of a store, and how much that is
+pub record Closed : Type 0 where
+  pub arrays : List (List PsObj)
+  pub dicts : List (List (Key × PsObj))
+  pub strings : List (List ℕ)
+  pub mark : Mark

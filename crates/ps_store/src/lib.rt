@@ -1,0 +1,21 @@
+//! The shared composite objects of a PostScript interpreter: arrays, dictionaries and strings.
+#![tactic(auto)]
+
+mod entries;
+mod fault;
+mod hashed;
+mod key;
+mod object;
+mod objects;
+mod operators;
+mod store;
+mod texts;
+
+pub use fault::{ReadOnly, StoreFault};
+pub use key::{Key, NameText};
+pub use object::{ArrayId, DictId, Mark, Part, PsObj, StringId};
+pub use operators::{OPERATOR_NAMES, STANDARD_OPERATORS, operator_number};
+pub use store::PsStore;
+
+#[cfg(test)]
+mod tests;

@@ -1,0 +1,24 @@
+//! The instructions of SPARC V8 and what each does.
+#![tactic(auto)]
+
+mod arithmetic;
+mod codec;
+mod condition;
+mod decoded;
+mod field;
+mod hazard;
+mod insn;
+mod operand;
+#[cfg(test)]
+mod tests;
+
+pub use arithmetic::{quotient_signed, quotient_unsigned, subtraction_codes};
+pub use codec::{decode, encode};
+pub use condition::Condition;
+pub use decoded::Decoded;
+pub use field::{
+    Displacement22, Displacement30, Immediate22, Register, ShiftCount, Simm13, TrapNumber,
+};
+pub use hazard::is_hazard;
+pub use insn::Insn;
+pub use operand::{Operand, ShiftOperand, TrapOperand};
