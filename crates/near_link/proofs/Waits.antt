@@ -1,5 +1,5 @@
 -- A wait, byte by byte.
-use Rattle.std.proofs.Common.{◌≡◌, ◌≢◌, ◌∙◌, sym, ap, subst, refl, ℕ, zero, suc, ◌+◌, ◌-◌, ◌≤◌, ◌<◌, nat_eq, nat_le, ◌&&◌, not, is_none, is_some, List, [], ◌∷◌, ◌++◌, length, take, drop, Option, Some, None, Bool, true, false, arith}
+use Rattle.std.proofs.Common.{◌≡◌, ◌≢◌, ◌∙◌, sym, ap, subst, refl, ℕ, zero, suc, ◌+◌, ◌≤◌, ◌<◌, nat_eq, nat_le, ◌&&◌, not, is_none, is_some, List, [], ◌∷◌, ◌++◌, length, take, drop, Option, Some, None, Bool, true, false, arith}
 use Rattle.std.proofs.lemmas.Bool.Decides.{nat_tests}
 use Rattle.nub_wire.specs.declared.message.Msg.{Msg}
 use Rattle.nub_wire.specs.declared.link.Side.TheVariants.{First}
@@ -7,7 +7,7 @@ use Rattle.nub_wire.specs.Spelling.{frame_of}
 use Rattle.mips_isa.specs.Loaded.{first_state}
 use Rattle.nub_wire.specs.Stream.{Feeding}
 use Rattle.nub_wire.specs.Nub.{Host, turn_of}
-use Rattle.nub_wire.specs.Delivery.{Conduct, LinkSide, World, takes_bytes, is_roomy, LONGEST, ROOM, Reaches, Delivers, enough, none_left, takes_none, reaches, UntilAnswer, answered, shut, runs_on, all_ready, Answers, WaitsOut, Waits, has_ready, used_up, on_side, without_ready, Gets, Receives}
+use Rattle.nub_wire.specs.Delivery.{Conduct, LinkSide, World, takes_bytes, is_roomy, LONGEST, ROOM, Reaches, Delivers, reaches, UntilAnswer, answered, runs_on, all_ready, Answers, WaitsOut, Waits, has_ready, used_up, without_ready, Receives}
 
 -- ---- bytes
 
