@@ -1,14 +1,13 @@
 -- An open resume comes to a message within its turns.
-use Rattle.std.proofs.Common.{◌≡◌, ◌∙◌, refl, sym, ap, subst, ℕ, zero, suc, ◌+◌, ◌≤◌, nat_eq, Bool, true, false, if◌then◌else◌, length, Option, Some, None, IsSome, arith}
+use Rattle.std.proofs.Common.{◌≡◌, ◌∙◌, refl, sym, ap, subst, ℕ, zero, suc, ◌≤◌, nat_eq, Bool, true, false, if◌then◌else◌, length, Option, Some, None, IsSome, arith}
 use Rattle.ldb_words.specs.declared.event.Event.{Event}
 use Rattle.ldb_words.specs.declared.event.Event.TheVariants as event
 use Rattle.machine_state.specs.State.{MachineState, Behaviour}
-use Rattle.nub_wire.specs.declared.message.Msg.{Msg}
 use Rattle.nub_wire.specs.declared.message.Ending.{Ending}
 use Rattle.nub_wire.specs.declared.ending.Cause.{Cause}
 use Rattle.nub_wire.specs.declared.ending.Cause.TheVariants as cause
 use Rattle.nub_wire.specs.Endings.{ending_of}
-use Rattle.nub_wire.specs.Nub.{NubState, Host, Replied, host, due, due_of, settle, settled, concluded, ended_by, requested, acted, advance, advanced, turned, with_output, running, or_then, if_open, turn_of, told_ending, told_output, pc_of}
+use Rattle.nub_wire.specs.Nub.{NubState, Host, Replied, host, due, due_of, settle, settled, concluded, ended_by, requested, acted, advance, advanced, turned, running, or_then, if_open, turn_of, told_ending, told_output, pc_of}
 use Rattle.nub_core.proofs.Turns.{due_same}
 
 -- the run has ended, or so many turns are enough for it

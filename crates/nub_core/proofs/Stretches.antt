@@ -1,12 +1,12 @@
 -- Instructions one after another where no message is due.
-use Rattle.std.proofs.Common.{◌≡◌, ◌∙◌, refl, sym, ap, subst, ℕ, zero, suc, ◌+◌, ◌-◌, ◌<◌, ◌≤◌, nat_eq, Bool, true, false, if◌then◌else◌, List, length, Option, Some, None, arith}
+use Rattle.std.proofs.Common.{◌≡◌, ◌∙◌, refl, sym, ap, ℕ, zero, suc, ◌+◌, ◌-◌, ◌<◌, ◌≤◌, nat_eq, Bool, true, false, if◌then◌else◌, length, Option, Some, None, arith}
 use Rattle.std.proofs.lemmas.Bool.Decides.{nat_tests}
 use Rattle.ldb_words.specs.declared.event.Event.{Event}
 use Rattle.ldb_words.specs.declared.event.Event.TheVariants as event
 use Rattle.machine_state.specs.State.{MachineState, Behaviour}
 use Rattle.nub_wire.specs.declared.message.Msg.{Msg}
 use Rattle.nub_wire.specs.declared.message.Ending.{Ending}
-use Rattle.nub_wire.specs.Nub.{NubState, Host, Replied, host, due, due_of, settle, settled, acted, advance, advanced, turned, running, or_then, told_output}
+use Rattle.nub_wire.specs.Nub.{NubState, Host, Replied, host, due, due_of, settle, settled, acted, advanced, running, or_then, told_output}
 use Rattle.nub_core.proofs.Turns.{due_same}
 
 -- a nub with so many turns left, and its machine

@@ -1,5 +1,5 @@
 -- Turns one after another.
-use Rattle.std.proofs.Common.{◌≡◌, ◌∙◌, refl, sym, ap, subst, ℕ, zero, suc, ◌+◌, ◌-◌, nat_eq, Bool, true, false, if◌then◌else◌, List, length, Option, Some, None, arith}
+use Rattle.std.proofs.Common.{◌≡◌, ◌∙◌, refl, sym, ap, subst, ℕ, zero, suc, ◌+◌, nat_eq, Bool, true, false, if◌then◌else◌, length, Option, Some, None, arith}
 use Rattle.ldb_words.specs.declared.event.Event.{Event}
 use Rattle.ldb_words.specs.declared.event.Event.TheVariants as event
 use Rattle.machine_state.specs.State.{MachineState, Behaviour}
@@ -7,7 +7,7 @@ use Rattle.nub_wire.specs.declared.message.Msg.{Msg}
 use Rattle.nub_wire.specs.declared.message.Ending.{Ending}
 use Rattle.nub_wire.specs.declared.ending.Cause.{Cause}
 use Rattle.nub_wire.specs.declared.ending.Cause.TheVariants as cause
-use Rattle.nub_wire.specs.Nub.{NubState, Host, Replied, host, due, due_of, settled, concluded, requested, acted, advance, advanced, turned, with_output, running, or_then, if_open, turn_of, told_ending, told_output, pc_of, settle, ended_by}
+use Rattle.nub_wire.specs.Nub.{NubState, Host, Replied, host, due, due_of, settled, concluded, requested, acted, advance, advanced, turned, running, or_then, if_open, turn_of, told_ending, told_output, pc_of, settle, ended_by}
 use Rattle.nub_wire.specs.Endings.{ending_of}
 
 -- ---- where no message is due nothing changed

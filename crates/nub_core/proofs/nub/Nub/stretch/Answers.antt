@@ -1,4 +1,4 @@
-use Rattle.std.proofs.Common.{◌≡◌, ◌∙◌, refl, sym, ap, subst, ℕ, ◌+◌, ◌-◌, ◌<◌, ◌≤◌, None, length, arith}
+use Rattle.std.proofs.Common.{◌≡◌, ◌∙◌, refl, sym, ap, subst, ℕ, ◌-◌, ◌<◌, length, arith}
 use Rattle.ldb_words.specs.declared.event.Event.{Event}
 use Rattle.nub_wire.specs.Nub.{NubState, Host, running}
 use Rattle.nub_core.proofs.Stretches.{at, at_start, stretch_goes, stretch_acts}
