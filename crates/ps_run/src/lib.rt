@@ -2,7 +2,7 @@
 #![tactic(auto)]
 
 pub mod dialect;
-pub mod run;
+pub mod running;
 pub mod scan;
 pub mod step;
 #[cfg(test)]
@@ -11,4 +11,4 @@ mod tests;
 pub use dialect::{Dialect, NoDialect, Steps};
 pub use ps_step::fault::{PsError, PsFault};
 pub use ps_step::machine::PsCore;
-pub use run::run;
+pub use running::run;

@@ -306,6 +306,7 @@ fn step_loop(core: &mut PsCore, body: ArrayId) -> Result<Progress, PsFault>
 
 /// Makes one step. Where the object of a `stopped` has ended it leaves false, and where a text has ended it is dropped:
 /// the step is what comes then.
+#[tactic(auto, using(crate::proofs::Tops::full_guard, crate::proofs::Tops::ended_at))]
 pub fn step(core: &mut PsCore) -> Result<Progress, PsFault>
     ensures steps { Steps result core.new (step core.old) }
     ensures closed { closed_part core.new.store ≡ closed_part core.old.store }

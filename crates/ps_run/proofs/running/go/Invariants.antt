@@ -2,7 +2,7 @@ use Rattle.std.proofs.Common.{◌≡◌, ◌≤◌, ◌-◌, ℕ}
 use Rattle.ps_store.specs.Store.{closed_part}
 use Rattle.ps_step.specs.declared.machine.PsCore.{PsCore}
 use Rattle.ps_run.specs.Runs.{Answer, Runs}
-use Rattle.ps_run.proofs.run.go.Given as goal
+use Rattle.ps_run.proofs.running.go.Given as goal
 
 -- what is left of the run is the end of the whole
 abbrev pub invariant-loop-steps : goal.invariant-loop-steps

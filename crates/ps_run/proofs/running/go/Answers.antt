@@ -1,6 +1,6 @@
 use Rattle.std.proofs.Common.{◌≡◌, ◌-◌, ◌+◌, suc, Err, ◌∙◌, ap, arith}
 use Rattle.ps_run.proofs.Going.{at_limit, at_end, at_fault, at_next, at_asked, at_broken}
-use Rattle.ps_run.proofs.run.go.Goals as goal
+use Rattle.ps_run.proofs.running.go.Goals as goal
 
 pub returns-in-Ok-Ended-clause-runs : goal.returns-in-Ok-Ended-clause-runs
 returns-in-Ok-Ended-clause-runs g c = λ _.

@@ -1,4 +1,4 @@
-use Rattle.ps_run.proofs.run.run.Goals as goal
+use Rattle.ps_run.proofs.running.run.Goals as goal
 
 -- what was left of the execution stack of the run
 pub returns-clause-runs : goal.returns-clause-runs
