@@ -1,6 +1,6 @@
 //! The characters that strings stand for (PostScript Language Reference, 3.2.2).
 
-ghost use Rattle.std.specs.Prelude.{◌≡◌, ◌≤◌, ◌<◌, ◌+◌, IfOk, OnOk, Some, ◌++◌, length, take};
+ghost use Rattle.std.specs.Prelude.{◌≡◌, ◌≤◌, ◌<◌, ◌+◌, IfOk, OnOk, Some, ◌++◌, length, take, drop};
 ghost use Rattle.std.specs.Option.{option_to_list};
 ghost use Rattle.ps_scan.specs.Bytes.{is_octal};
 ghost use Rattle.ps_scan.specs.Characters.{octal_at, octal_len, octal_value, named_character, line_end, escape, part, characters, paired, hexadecimal_digits, inner, string_value};
@@ -132,6 +132,16 @@ fn part(text: &[u8]) -> (usize, Option<u8>)
     }
 }
 
+/// The part of a string at a place.
+fn part_at(text: &[u8], at: usize) -> (usize, Option<u8>)
+    requires { at ≤ length text.now }
+    ensures part { result ≡ part (drop at text.now) }
+    ensures some { 1 ≤ result.0 }
+    ensures few { result.0 ≤ 4 }
+{
+    part(&text[at..])
+}
+
 /// Adds the character that a part stands for.
 fn add(all: &mut Vec<u8>, character: Option<u8>) -> Result<(), AllocError>
     ensures { OnOk result (all.new.items ≡ all.old.items ++ option_to_list character) }
@@ -143,14 +153,13 @@ fn add(all: &mut Vec<u8>, character: Option<u8>) -> Result<(), AllocError>
 }
 
 /// The characters of what stands between parentheses.
-#[tactic(auto, using(crate::proofs::Parts::one_more))]
 fn characters(alloc: Global, body: &[u8]) -> Result<Vec<u8>, AllocError>
     ensures { IfOk result (λ all. all.items ≡ characters body.now) }
 {
     let mut all = Vec::new(alloc);
     let mut i = 0;
     while i < body.len() {
-        let (len, character) = part(&body[i..]);
+        let (len, character) = part_at(body, i);
         add(&mut all, character)?;
         i += len;
     }

@@ -1,9 +1,7 @@
 -- Keys of dictionaries.
-use Rattle.std.specs.Prelude.{ℕ, Bool, false, List, bytes_eq, ◌++◌}
+use Rattle.std.specs.Prelude.{Bool, false, bytes_eq}
 use Rattle.std.specs.Ordering.{int_eq}
 use Rattle.std.specs.Bool.{beq}
-use Rattle.std.specs.Hash as fed
-use Rattle.ps_store.specs.Hashed.{text_hash}
 use Rattle.ps_store.specs.declared.key.Key.{Key}
 use Rattle.ps_store.specs.declared.key.Key.TheVariants.{Name, Int, Bool as Truth}
 

@@ -1,8 +1,7 @@
 -- That keys are compared by an equivalence, and equal keys are hashed alike.
-use Rattle.std.specs.Prelude.{◌≡◌, ℕ, Bool, true, false, List, bytes_eq, IsTrue}
+use Rattle.std.specs.Prelude.{◌≡◌, Bool, true, false, IsTrue}
 use Rattle.std.specs.Bool.{beq, Decides}
-use Rattle.std.specs.Ordering.{int_eq}
-use Rattle.std.proofs.Common.{refl, sym, ap, subst, ◌∙◌, true≢false}
+use Rattle.std.proofs.Common.{refl, sym, ap, subst, true≢false}
 use Rattle.std.specs.Cmp.{IsEquivalence, decided, signed_Decides}
 use Rattle.std.specs.Cmp.Lexicographic.{bytes_decides}
 use Rattle.std.specs.Hash as fed

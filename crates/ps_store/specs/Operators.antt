@@ -1,5 +1,5 @@
 -- The operators' numbers.
-use Rattle.std.specs.Prelude.{ℕ, Option, List, position, bytes_eq, slice_get}
+use Rattle.std.specs.Prelude.{ℕ, Option, List, position, bytes_eq}
 use Rattle.ps_store.specs.declared.operators.TheConstants.{OPERATOR_NAMES}
 
 -- the number of the operator with a name: its place among the names

@@ -1,5 +1,5 @@
 -- A store: the arrays, dictionaries and strings that objects share, in two parts.
-use Rattle.std.specs.Prelude.{◌≡◌, ◌≤◌, ℕ, ◌+◌, ◌/◌, Bool, false, true, not, ◌&&◌, ◌||◌, nat_lt, nat_le, is_none, if◌then◌else◌, Option, Some, None, Result, Ok, Err, List, [], ◌∷◌, ◌++◌, length, take, replicate, slice_index_or, slice_set}
+use Rattle.std.specs.Prelude.{◌≡◌, ◌≤◌, ℕ, ◌+◌, ◌/◌, Bool, false, not, ◌&&◌, ◌||◌, nat_lt, nat_le, is_none, if◌then◌else◌, Option, Some, None, Result, Ok, Err, List, [], ◌∷◌, ◌++◌, length, take, replicate, slice_index_or, slice_set}
 use Rattle.ps_store.specs.declared.object.Part.{Part}
 use Rattle.ps_store.specs.declared.object.Part.TheVariants.{Table, Command}
 use Rattle.ps_store.specs.declared.object.ArrayId.{ArrayId}

@@ -1,4 +1,4 @@
-use Rattle.std.proofs.Common.{◌≡◌, ◌≤◌, ◌-◌, ◌+◌, drop, length}
+use Rattle.std.proofs.Common.{◌≡◌, ◌≤◌, ◌-◌, drop, length}
 use Rattle.ps_scan.specs.Spans.{hexadecimal_end}
 use Rattle.ps_scan.proofs.spans.hexadecimal_end.Given as goal
 
