@@ -1,0 +1,64 @@
+use Rattle.std.proofs.Common.{◌≡◌, ◌-◌, ◌+◌, suc, Err, ◌∙◌, ap, arith}
+use Rattle.ps_run.proofs.Going.{at_limit, at_end, at_fault, at_next, at_asked, at_broken}
+use Rattle.ps_run.proofs.running.go.Goals as goal
+
+pub returns-in-Ok-Ended-clause-runs : goal.returns-in-Ok-Ended-clause-runs
+returns-in-Ok-Ended-clause-runs g c = λ _.
+    let steps = c.loop-steps.steps in
+    let m = steps.limit - (steps.taken + 1) in
+    let e : steps.limit - steps.taken ≡ suc m = omega arith in
+    c.loop-steps.invariant.rest _ _ _ _ (at_end g.D.Dialect.operates (steps.limit - steps.taken) m c.loop-steps.dialect c.loop-steps.core c.step.new.core
+    e (rw c.in-Ok-Ended.field-0-is at c.in-Ok-Ended.ensures.steps))
+
+pub returns-clause-runs : goal.returns-clause-runs
+returns-clause-runs g c = λ _.
+    let steps = c.loop-steps.steps in
+    c.loop-steps.invariant.rest _ _ _ _ (at_limit g.D.Dialect.operates (steps.limit - steps.taken) c.loop-steps.dialect c.loop-steps.core (omega arith))
+
+pub returns-in-Err-clause-runs : goal.returns-in-Err-clause-runs
+returns-in-Err-clause-runs g c = λ other.
+    let steps = c.loop-steps.steps in
+    let m = steps.limit - (steps.taken + 1) in
+    let e : steps.limit - steps.taken ≡ suc m = omega arith in
+    c.loop-steps.invariant.rest _ _ _ _ (at_fault g.D.Dialect.operates (steps.limit - steps.taken) m c.loop-steps.dialect c.loop-steps.core c.step.new.core c.in-Err.fault
+    e c.in-Err.ensures.steps (λ h. other (ap Err h)))
+
+pub loop-steps-preserved-in-Ok-Went : goal.loop-steps-preserved-in-Ok-Went
+loop-steps-preserved-in-Ok-Went g c =
+    let steps = c.loop-steps.steps in
+    let k = steps.limit - (steps.taken + 1) in
+    let e : steps.limit - steps.taken ≡ suc k = omega arith in
+    record {
+      limit = c.loop-steps.invariant.limit;
+      closed = c.step.ensures.closed ∙ c.loop-steps.invariant.closed;
+      within = omega arith;
+      more = omega arith;
+      rest = λ r m d c' run. c.loop-steps.invariant.rest r m d c'
+          (at_next g.D.Dialect.operates (steps.limit - steps.taken) k m c.loop-steps.dialect d c.loop-steps.core c.step.new.core c' r
+          e (rw c.in-Ok-Went.field-0-is at c.in-Ok-Went.ensures.steps) run);
+    }
+
+pub returns-in-Err-ask-clause-runs : goal.returns-in-Err-ask-clause-runs
+returns-in-Err-ask-clause-runs g c = λ _.
+    let steps = c.loop-steps.steps in
+    let i = steps.limit - (steps.taken + 1) in
+    let e : steps.limit - steps.taken ≡ suc i = omega arith in
+    c.loop-steps.invariant.rest _ _ _ _ (at_broken g.D.Dialect.operates (steps.limit - steps.taken) i (c.ask.new.steps.limit - c.ask.new.steps.taken)
+    c.loop-steps.dialect c.ask.new.dialect c.loop-steps.core c.step.new.core c.ask.new.core c.in-Ok-Asked.op c.in-Err-ask.fault
+    e (rw c.in-Ok-Asked.field-0-is at c.in-Ok-Asked.ensures.steps) c.in-Err-ask.ensures.asked)
+
+pub loop-steps-preserved : goal.loop-steps-preserved
+loop-steps-preserved g c =
+    let steps = c.loop-steps.steps in
+    let i = steps.limit - (steps.taken + 1) in
+    let e : steps.limit - steps.taken ≡ suc i = omega arith in
+    record {
+      limit = c.ask.ensures.limit ∙ c.loop-steps.invariant.limit;
+      closed = c.ask.ensures.closed ∙ c.step.ensures.closed ∙ c.loop-steps.invariant.closed;
+      within = c.ask.ensures.within;
+      more = omega arith;
+      rest = λ r m d c' run. c.loop-steps.invariant.rest r m d c'
+          (at_asked g.D.Dialect.operates (steps.limit - steps.taken) i (c.ask.new.steps.limit - c.ask.new.steps.taken) m
+          c.loop-steps.dialect c.ask.new.dialect d c.loop-steps.core c.step.new.core c.ask.new.core c' c.in-Ok-Asked.op r
+          e (rw c.in-Ok-Asked.field-0-is at c.in-Ok-Asked.ensures.steps) c.in_default.ensures.asked run);
+    }

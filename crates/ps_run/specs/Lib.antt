@@ -1,0 +1,4 @@
+pub mod Scan
+pub mod Reads
+pub mod Step
+pub mod Runs

@@ -1,0 +1,102 @@
+-- One step of a run: one object is executed, or one turn of a loop is made.
+use Rattle.std.specs.Prelude.{ℕ, ℤ, ◌+ℤ◌, ◌+◌, ◌-◌, true, false, nat_lt, pos, if◌then◌else◌, Option, Some, None, Result, Ok, Err, List, [], ◌∷◌, length, slice_get, option_map, slice_index_or}
+use Rattle.ps_store.specs.declared.object.PsObj.{PsObj}
+use Rattle.ps_store.specs.declared.object.PsObj.TheVariants.{Int, Bool as Truth, Name, Null}
+use Rattle.ps_store.specs.declared.object.ArrayId.{ArrayId}
+use Rattle.ps_store.specs.declared.object.StringId.{StringId}
+use Rattle.ps_store.specs.declared.key.Key.{Key}
+use Rattle.ps_store.specs.declared.key.Key.TheVariants.{Name as NameKey, Int as IntKey, Bool as TruthKey}
+use Rattle.ps_store.specs.StoreState.{StoreState}
+use Rattle.ps_store.specs.Store.{elements_of, entries_of, bytes_of, making_name}
+use Rattle.ps_step.specs.declared.fault.PsError.{PsError}
+use Rattle.ps_step.specs.declared.fault.PsError.TheVariants.{StackOverflow}
+use Rattle.ps_step.specs.declared.item.Item.{Item}
+use Rattle.ps_step.specs.declared.item.Item.TheVariants.{Object, Procedure, Text, Repeat, For, ForArray, ForString, ForDict, Loop, Stopped}
+use Rattle.ps_step.specs.declared.machine.PsCore.{PsCore}
+use Rattle.ps_step.specs.Results.{◌>>=◌, stored, at}
+use Rattle.ps_step.specs.Item.{under_stopped}
+use Rattle.ps_step.specs.State.{with_operands, with_execution, pushing, calling}
+use Rattle.ps_step.specs.ControlOperators.{goes_on}
+use Rattle.ps_step.specs.CopyOperators.{MadeOrLeft}
+use Rattle.ps_step.specs.Executing.{Turn, alone, executing, meeting}
+use Rattle.ps_run.specs.Scan.{Read, More, Whole, Nothing, Bad, reading_object}
+
+-- What a step leads to: the end, where nothing is left to be executed; the next state; a question to the dialect;
+-- or the end by an error that no `stopped` catches.
+pub data Outcome : Type 0 where
+  Ended : (c : PsCore) → Outcome
+  Next : (c : PsCore) → Outcome
+  Asks : (op : ℕ) (c : PsCore) → Outcome
+  Failed : (e : PsError) (c : PsCore) → Outcome
+
+-- An error is raised: what is above the innermost `stopped` is left, and that one leaves true.
+abbrev pub raising : PsError → PsCore → Outcome
+raising e c = elim (under_stopped c.execution) [
+  | None ↦ Failed e (with_execution c [])
+  | Some rest ↦
+      if nat_lt (length c.operands) 100000 then Next (record c { operands = Truth true ∷ c.operands; execution = rest })
+      else Failed StackOverflow (with_execution c [])
+]
+
+-- what a turn leads to
+abbrev pub settled : Turn → Outcome
+settled (Ok turn) = elim turn.1 [ None ↦ Next turn.0 | Some op ↦ Asks op turn.0 ]
+settled (Err failed) = raising failed.0 failed.1
+
+-- a turn of a loop: an object is pushed, and the body is entered
+abbrev pub turning : PsObj → ArrayId → PsCore → MadeOrLeft
+turning x body c = at c (pushing x c) >>= λ c'. at c' (calling body c')
+
+-- the object that a key is
+abbrev pub key_object : StoreState → Key → Result (PsObj × StoreState) PsError
+key_object s (NameKey text) = stored (making_name s text) >>= λ given. Ok (Name given.0 false, given.1)
+key_object s (IntKey n) = Ok (Int n, s)
+key_object s (TruthKey b) = Ok (Truth b, s)
+
+-- a turn of `forall` over a dictionary: a key and its value are pushed, and the body is entered
+abbrev pub turning_pair : Option (Key × PsObj) → ArrayId → PsCore → MadeOrLeft
+turning_pair None body c = Ok c
+turning_pair (Some pair) body c =
+    if nat_lt 99998 (length c.operands) then Err (StackOverflow, c)
+    else at c (key_object c.store pair.0) >>= λ made.
+    let c' : PsCore = record c { store = made.1; operands = pair.1 ∷ made.0 ∷ c.operands } in at c' (calling body c')
+
+-- the rest of a loop: as it goes on, if there is a turn behind this one
+abbrev pub going_on : ℕ → ℕ → Item → List Item → List Item
+going_on next count item rest = if nat_lt next count then item ∷ rest else rest
+
+-- One step, by the item on top of the execution stack. A `stopped` whose object has ended leaves false,
+-- and a text whose tokens have ended is dropped: neither is a step.
+abbrev pub stepping : List Item → PsCore → Outcome
+stepping [] c = Ended c
+stepping (Stopped ∷ rest) c =
+    if nat_lt (length c.operands) 100000 then stepping rest (record c { operands = Truth false ∷ c.operands; execution = rest })
+    else Failed StackOverflow (with_execution c [])
+stepping (Text t n ∷ rest) c = elim (reading_object c.store t n) [
+  | Nothing s ↦ stepping rest (record c { store = s; execution = rest })
+  | Whole x s next ↦ settled (meeting x (record c { store = s; execution = Text t next ∷ rest }))
+  | Bad e s ↦ raising e (record c { store = s; execution = rest })
+  | More s xs next ↦ Ended c
+]
+stepping (Object x ∷ rest) c = settled (executing x (with_execution c rest))
+stepping (Procedure a n ∷ rest) c =
+    let items = elements_of c.store a in
+    settled (meeting (slice_index_or items n Null) (with_execution c (going_on (n + 1) (length items) (Procedure a (n + 1)) rest)))
+stepping (Repeat n body ∷ rest) c =
+    let c' : PsCore = with_execution c (going_on 1 n (Repeat (n - 1) body) rest) in settled (alone (at c' (calling body c')))
+stepping (For next by limit body ∷ rest) c =
+    let c' : PsCore = with_execution c (if goes_on (next +ℤ by) by limit then For (next +ℤ by) by limit body ∷ rest else rest) in
+    settled (alone (turning (Int next) body c'))
+stepping (ForArray a n body ∷ rest) c =
+    let items = elements_of c.store a in
+    settled (alone (turning (slice_index_or items n Null) body (with_execution c (going_on (n + 1) (length items) (ForArray a (n + 1) body) rest))))
+stepping (ForString t n body ∷ rest) c =
+    let bytes = bytes_of c.store t in
+    settled (alone (turning (Int (pos (slice_index_or bytes n 0))) body (with_execution c (going_on (n + 1) (length bytes) (ForString t (n + 1) body) rest))))
+stepping (ForDict d n body ∷ rest) c =
+    let pairs = entries_of c.store d in
+    settled (alone (turning_pair (slice_get pairs n) body (with_execution c (going_on (n + 1) (length pairs) (ForDict d (n + 1) body) rest))))
+stepping (Loop body ∷ rest) c = settled (alone (at c (calling body c)))
+
+abbrev pub step : PsCore → Outcome
+step c = stepping c.execution c

@@ -1,0 +1,4 @@
+pub mod Reversed
+pub mod Apart
+pub mod Firsts
+pub mod Names
