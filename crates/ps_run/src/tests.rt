@@ -4,6 +4,7 @@ use crate::{NoDialect, PsCore, PsError, PsFault, Steps, run};
 use ps_step::text::text_of;
 use ps_store::{PsObj, PsStore};
 use std::alloc::{AllocError, Global};
+use std::process::Abort;
 
 /// What a text leaves: the texts of the operands from the bottom, each behind a space, or the error's name, or `spent`.
 fn left(alloc: Global, text: &str, limit: u32) -> Result<Vec<u8>, AllocError> {
@@ -332,11 +333,16 @@ fn ps_rows(rt: HostRuntime) -> Result<(), AllocError> {
     Ok(())
 }
 
-#[test]
-fn texts_leave_what_ghostscript_leaves(rt: HostRuntime) -> Result<(), AllocError> {
-    for (text, want) in GHOSTSCRIPT {
-        let got = left(rt.alloc(), text, 1_000_000)?;
+/// Each text leaves what stands beside it.
+fn all_leave(rt: &impl Abort, alloc: Global, rows: &[(&str, &str)]) -> Result<(), AllocError> {
+    for (text, want) in rows {
+        let got = left(alloc, text, 1_000_000)?;
         assert_eq!(rt; got.as_slice(), want.as_bytes(), "at {text}");
     }
     Ok(())
+}
+
+#[test]
+fn texts_leave_what_ghostscript_leaves(rt: HostRuntime) -> Result<(), AllocError> {
+    all_leave(&rt, rt.alloc(), &GHOSTSCRIPT)
 }
