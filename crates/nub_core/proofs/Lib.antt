@@ -1,3 +1,4 @@
 pub mod Ends
+pub mod Outputs
 pub mod Stretches
 pub mod Turns

@@ -1,9 +1,11 @@
 // What holds of turns.
 
-ghost use Rattle.std.specs.Prelude.{◌≡◌, ℕ, ◌+◌, None, Some};
+ghost use Rattle.std.specs.Prelude.{◌≡◌, ℕ, ◌+◌, None, Some, false};
 ghost use Rattle.nub_wire.specs.declared.message.Msg.{Msg};
 ghost use Rattle.machine_state.specs.State.{Behaviour};
-ghost use Rattle.nub_wire.specs.Nub.{Host, turn_of};
+ghost use Rattle.nub_wire.specs.declared.message.Msg.TheVariants as msg;
+ghost use Rattle.nub_wire.specs.Nub.{Host, handled, turn_of};
+ghost use Rattle.nub_core.specs.Heard.{IsShut, IsWithin, Resumes};
 
 /// As long as no message is due, n turns and then m turns are n + m turns.
 pub fn turns_add()
@@ -13,4 +15,10 @@ pub fn turns_add()
 /// Turns after a message is due are not run.
 pub fn turns_stop()
     ensures { (b : Behaviour) (n k : ℕ) (h h' : Host) (m : Msg) → turn_of b n h ≡ (Some m, h') → turn_of b (n + k) h ≡ (Some m, h') }
+{}
+
+/// What a nub gives in a resume is heard as its reply: no more output than turns, and then one message that ends it.
+pub fn output_within_turns()
+    ensures begins { (b : Behaviour) (turns : ℕ) (h : Host) → h.nub.blocked ≡ false → h.nub.killed ≡ false → IsShut h.nub → Resumes turns 0 (handled b (msg.Resume turns) h) }
+    ensures goes_on { (b : Behaviour) (n turns printed : ℕ) (h : Host) → IsWithin turns printed h.nub → Resumes turns printed (turn_of b n h) }
 {}
