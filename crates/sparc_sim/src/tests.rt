@@ -5,6 +5,7 @@ use ldb_words::{Event, FaultKind};
 use machine_state::{CONTEXT, SPARC, TEXT};
 use obj_file::read_image;
 use std::alloc::Global;
+use std::process::Abort;
 
 const WENT: Option<Event> = Some(Event::Went);
 
@@ -174,79 +175,80 @@ fn sparc_hazards(rt: HostRuntime) {
     );
 }
 
-/// Each trap, with its argument and result in `%o0`.
+/// Pause and exit, with pc past them and the exit's argument.
 #[test]
 fn requests(rt: HostRuntime) {
-    let alloc = rt.alloc();
-    let Some(mut machine) = machine_of(alloc, &[0x9010_2007, 0x91d0_2014, 0x9010_2007, 0x91d0_2013])
-    else {
+    let words = [0x9010_2007, 0x91d0_2014, 0x9010_2007, 0x91d0_2013];
+    let Some(mut machine) = machine_of(rt.alloc(), &words) else {
         panic!(rt; "no machine");
     };
-    assert_eq!(rt; context(&mut machine, 14), Some(0x7ffe_ffa0));
-    assert_eq!(rt; context(&mut machine, 35), Some(TEXT + 4));
-    assert_eq!(rt; machine.step(), Event::Went);
-    assert_eq!(rt; machine.step(), Event::Request(4));
-    assert_eq!(rt; context(&mut machine, 34), Some(0x0040_0008));
-    assert_eq!(rt; machine.step(), Event::Went);
-    assert_eq!(rt; machine.step(), Event::Request(3));
+    let steps = [WENT, Some(Event::Request(4)), WENT, Some(Event::Request(3))];
+    all_step(&rt, &mut machine, &steps);
+    assert_eq!(rt; context(&mut machine, 34), Some(0x0040_0010));
     assert_eq!(rt; machine.argument(), 7);
-    // ta 17; ta 18; ta 17; ta 18
-    let Some(mut echo) = machine_of(alloc, &[0x91d02011, 0x91d02012, 0x91d02011, 0x91d02012]) else {
-        panic!(rt; "no machine");
-    };
-    assert!(rt; echo.give(b"A"));
-    assert_eq!(rt; echo.step(), Event::Request(1));
-    assert_eq!(rt; echo.argument(), 65);
-    assert_eq!(rt; echo.step(), Event::Request(2));
-    assert_eq!(rt; echo.written(), Some(65));
-    assert_eq!(rt; echo.written(), None);
-    assert_eq!(rt; echo.step(), Event::Request(1));
-    assert_eq!(rt; echo.argument(), 0xffff_ffff);
-    assert_eq!(rt; echo.step(), Event::Request(2));
-    assert_eq!(rt; echo.written(), Some(255));
-    assert_eq!(rt; echo.argument(), 255);
-    // ta 1; ta 21; ta 16; ta 22; tn 22
-    let rows = [
-        (0x91d02001, Event::Break),
-        (0x91d02015, Event::Request(5)),
-        (0x91d02010, Event::Fault(FaultKind::Request)),
-        (0x91d02016, Event::Fault(FaultKind::Request)),
-        (0x81d02016, Event::Went),
-    ];
-    for (word, event) in rows {
-        assert_eq!(rt; after(&mut machine, &[word], 1), Some(event));
+}
+
+/// What each of some steps does.
+fn all_step(rt: &impl Abort, machine: &mut Machine, events: &[Option<Event>]) {
+    for event in events {
+        assert_eq!(rt; Some(machine.step()), *event);
     }
 }
 
-/// A fault of each kind but those above; a spill and a fill that have no place.
+/// Input and its end, each put out again: ta 17; ta 18; ta 17; ta 18.
 #[test]
-fn faults(rt: HostRuntime) {
-    let alloc = rt.alloc();
-    let Some(mut machine) = machine_of(alloc, &[0; 8]) else {
+fn echoes(rt: HostRuntime) {
+    let words = [0x91d02011, 0x91d02012, 0x91d02011, 0x91d02012];
+    let Some(mut echo) = machine_of(rt.alloc(), &words) else {
         panic!(rt; "no machine");
     };
-    // udiv %g0,%g0,%g1; ld [%g0],%g1; ld [%sp+2],%g1; st %g1,[%sp+2]; sth %g1,[%sp+1]; unimp 0; jmpl %sp+2,%g1
-    let rows = [
-        (0x82700000, FaultKind::Division),
-        (0xc2000000, FaultKind::Outside),
-        (0xc203a002, FaultKind::Align),
-        (0xc223a002, FaultKind::Align),
-        (0xc233a001, FaultKind::Align),
-        (0x00000000, FaultKind::Illegal),
-        (0x83c3a002, FaultKind::Align),
-    ];
-    for (word, kind) in rows {
-        assert_eq!(rt; after(&mut machine, &[word], 1), Some(Event::Fault(kind)));
+    assert!(rt; echo.give(b"A"));
+    for byte in [65, 0xffff_ffff] {
+        assert_eq!(rt; echo.step(), Event::Request(1));
+        assert_eq!(rt; echo.argument(), byte);
+        assert_eq!(rt; echo.step(), Event::Request(2));
+        assert_eq!(rt; echo.argument(), byte & 255);
+        assert_eq!(rt; echo.written(), Some((byte & 255) as u8));
+        assert_eq!(rt; echo.written(), None);
     }
-    // a store to the text
+}
+
+/// A word, and the event of its step: ta 1; ta 21; ta 16; ta 22; tn 22; then udiv %g0,%g0,%g1; ld [%g0],%g1;
+/// ld [%sp+2],%g1; st %g1,[%sp+2]; sth %g1,[%sp+1]; unimp 0; jmpl %sp+2,%g1; and restore, whose window is to be
+/// filled from %i6, which is 0.
+static EVENTS: [(u32, Event); 13] = [
+    (0x91d02001, Event::Break),
+    (0x91d02015, Event::Request(5)),
+    (0x91d02010, Event::Fault(FaultKind::Request)),
+    (0x91d02016, Event::Fault(FaultKind::Request)),
+    (0x81d02016, Event::Went),
+    (0x82700000, Event::Fault(FaultKind::Division)),
+    (0xc2000000, Event::Fault(FaultKind::Outside)),
+    (0xc203a002, Event::Fault(FaultKind::Align)),
+    (0xc223a002, Event::Fault(FaultKind::Align)),
+    (0xc233a001, Event::Fault(FaultKind::Align)),
+    (0x00000000, Event::Fault(FaultKind::Illegal)),
+    (0x83c3a002, Event::Fault(FaultKind::Align)),
+    (0x81e80000, Event::Fault(FaultKind::Window)),
+];
+
+/// Each word alone has the event of its row.
+fn all_happen(rt: &impl Abort, machine: &mut Machine, rows: &[(u32, Event)]) {
+    for (word, event) in rows {
+        assert_eq!(rt; after(machine, &[*word], 1), Some(*event), "{word:08x}");
+    }
+}
+
+/// An event of each kind; a store to the text, and a spill that has no place.
+#[test]
+fn events(rt: HostRuntime) {
+    let Some(mut machine) = machine_of(rt.alloc(), &[0; 8]) else {
+        panic!(rt; "no machine");
+    };
+    all_happen(&rt, &mut machine, &EVENTS);
     assert_eq!(rt;
         after(&mut machine, &[0x03001000, 0xc2204000], 2),
         Some(Event::Fault(FaultKind::Outside))
-    );
-    // restore, whose window is to be filled from %i6, which is 0
-    assert_eq!(rt;
-        after(&mut machine, &[0x81e8_0000], 1),
-        Some(Event::Fault(FaultKind::Window))
     );
     // seven times save %g0, 0, %sp after mov 0, %sp: the seventh is to spill window 0 to 0
     let mut words = [0x81e0_0000; 8];
