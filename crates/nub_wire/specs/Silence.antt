@@ -3,7 +3,8 @@ use Rattle.std.specs.Prelude.{◌≡◌, ◌⊎◌, ℕ, suc, true, List, [], Op
 use Rattle.nub_wire.specs.declared.link.Side.{Side}
 use Rattle.nub_wire.specs.Delivery.{LinkSide, World, side_of, Conduct, Receives}
 
--- Nothing is on the way back, no resume is open, and of the bytes sent the nub took all, or those that begin no frame.
+-- Nothing is on the way back, no resume is open, and the nub took all bytes sent or, after bytes that begin no frame,
+-- takes none.
 pub record IsQuietSide (s : LinkSide) : Type 0 where
   pub none_ready : s.ready ≡ []
   pub none_answered : s.answers ≡ []
