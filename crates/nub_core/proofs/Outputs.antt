@@ -13,7 +13,7 @@ use Rattle.nub_wire.specs.declared.ending.Cause.{Cause}
 use Rattle.nub_wire.specs.declared.ending.Cause.TheVariants as cause
 use Rattle.nub_wire.specs.Endings.{reply_of}
 use Rattle.nub_wire.specs.Replies.{heard, printing}
-use Rattle.nub_wire.specs.Nub.{NubState, Host, Replied, host, due, due_of, settle, settled, concluded, requested, acted, advance, advanced, turned, running, or_then, if_open, turn_of, told_ending, told_output, resumed, handled, served}
+use Rattle.nub_wire.specs.Nub.{NubState, Host, Replied, host, due, due_of, settle, settled, concluded, requested, acted, advance, advanced, turned, running, or_then, if_open, turn_of, told_ending, told_output}
 use Rattle.nub_core.specs.Heard.{AreWithin, IsWithin, IsShut, IsHeard, Resumes}
 
 -- ---- what is told
@@ -156,17 +156,5 @@ turn_heard b n turns printed h w = open_heard turns printed h.nub.left (None, h)
 
 -- ---- the start of a resume
 
-resumed_heard : (b : Behaviour) (turns : ℕ) (e : Option Ending) (h : Host) → IsShut h.nub → Resumes turns 0 (resumed b turns e h)
-resumed_heard b turns (Some e) h s = reply_heard turns 0 e h.nub s
-resumed_heard b turns None h s = subst (λ (output : List ℕ). AreWithin turns 0 (Some turns) output) (sym s.none_left) (omega arith)
-
-chosen : (turns : ℕ) (x y : Bool) (p q r : Replied) → x ≡ false → y ≡ false → Resumes turns 0 r → Resumes turns 0 (if x then p else if y then q else r)
-chosen turns false false p q r e f h = h
-chosen turns true y p q r e f h = cc
-chosen turns false true p q r e f h = cc
-
-pub resume_heard : (b : Behaviour) (turns : ℕ) (h : Host) → h.nub.blocked ≡ false → h.nub.killed ≡ false → IsShut h.nub
-    → Resumes turns 0 (handled b (msg.Resume turns) h)
-unfolding handled served
-resume_heard b turns h e f s =
-    chosen turns h.nub.blocked h.nub.killed (None, h) (Some msg.Outside, h) (resumed b turns h.nub.ended h) e f (resumed_heard b turns h.nub.ended h s)
+pub opens_within : (turns : ℕ) (nub : NubState) → IsShut nub → AreWithin turns 0 (Some turns) nub.output
+opens_within turns nub s = subst (λ (output : List ℕ). AreWithin turns 0 (Some turns) output) (sym s.none_left) (omega arith)
