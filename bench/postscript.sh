@@ -6,6 +6,7 @@ set -eu
 turns=${1:-20000000}
 here=$(cd "$(dirname "$0")" && pwd)
 bench=${PS_BENCH:-$here/../crates/ps_bench/out/ps_bench}
+if [ ! -x "$bench" ]; then echo "ps_bench is not built: rt run in crates/ps_bench"; exit 0; fi
 folder=$(mktemp -d)
 trap 'rm -rf "$folder"' EXIT
 cd "$folder"

@@ -2,7 +2,7 @@ use Rattle.std.proofs.Common.{ap, is_some, ◌∙◌}
 use Rattle.ps_store.specs.declared.key.Key.TheVariants.{Name}
 use Rattle.ps_store.specs.Entries.{value_at}
 use Rattle.ps_store.proofs.Pairs.{lookup_value_at}
-use Rattle.ps_store.proofs.entries.Entries.place_of_name.Goals as goal
+use Rattle.ps_store.proofs.entries.Entries.search_place.Goals as goal
 
 pub returns-clause-found : goal.returns-clause-found
 returns-clause-found c =
