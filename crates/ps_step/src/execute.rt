@@ -7,7 +7,7 @@ ghost use Rattle.ps_step.specs.Executing.{on_stack, on_composites, on_values, on
 
 use crate::fault::{PsError, PsFault};
 use crate::item::Item;
-use crate::keys::named;
+use crate::keys::name_found;
 use crate::machine::PsCore;
 use crate::operator::{
     CompositeOperator, ControlOperator, Operator, StackOperator, ValueOperator, operator_at,
@@ -141,9 +141,12 @@ impl PsCore {
         ensures acts { Acts result self.new (naming (bytes_of self.old.store t) self.old) }
         ensures closed { closed_part self.new.store ≡ closed_part self.old.store }
     {
-        match named(&self.store, &self.dictionaries, t) {
+        match name_found(&self.store, &self.dictionaries, t) {
             Some(x) => self.act(x),
-            None => Err(PsFault::Error(PsError::Undefined)),
+            None => match self.store.operator_named(t) {
+                Some(number) => self.operate(number),
+                None => Err(PsFault::Error(PsError::Undefined)),
+            },
         }
     }
 

@@ -459,7 +459,19 @@ impl PsStore {
             self.replace_value(d, at, value);
             return Ok(());
         }
-        match Key::of_query(query) {
+        self.add_name(d, name, value)
+    }
+
+    /// Puts a value under a new name of a dictionary that is not closed. Its key is made here, apart from where names are
+    /// replaced.
+    #[inline(never)]
+    fn add_name(&mut self, d: DictId, name: StringId, value: PsObj) -> Result<(), StoreFault>
+        requires new { is_some (value_at (entries_of self.old d) (NameKey (bytes_of self.old name))) ≡ false }
+        requires open { is_closed d.part d.index self.old.closed.dicts ≡ false }
+        ensures does { Does result self.old self.new (putting_under_text self.old d name value) }
+        ensures closed { closed_part self.new ≡ closed_part self.old }
+    {
+        match Key::of_query(self.query(name)) {
             Some(key) => self.add_value(d, key, value),
             None => Err(StoreFault::Limit),
         }
