@@ -120,6 +120,7 @@ impl PsCore {
     }
 
     /// A value is executed. An executable name is executed in the next step.
+    #[inline(always)]
     fn act(&mut self, x: PsObj) -> Result<Option<u16>, PsFault>
         ensures acts { Acts result self.new (acting x self.old) }
         ensures closed { closed_part self.new.store ≡ closed_part self.old.store }
@@ -135,6 +136,7 @@ impl PsCore {
     }
 
     /// A name is executed: its value is.
+    #[inline(always)]
     fn execute_name(&mut self, t: StringId) -> Result<Option<u16>, PsFault>
         ensures acts { Acts result self.new (naming (bytes_of self.old.store t) self.old) }
         ensures closed { closed_part self.new.store ≡ closed_part self.old.store }
@@ -146,6 +148,7 @@ impl PsCore {
     }
 
     /// An object is executed. The answer is the number of the dialect's operator that is asked for, if one is.
+    #[inline(always)]
     pub fn execute(&mut self, x: PsObj) -> Result<Option<u16>, PsFault>
         ensures acts { Acts result self.new (executing x self.old) }
         ensures closed { closed_part self.new.store ≡ closed_part self.old.store }
@@ -157,6 +160,7 @@ impl PsCore {
     }
 
     /// An object is met in a procedure or a text. One that is a procedure itself is pushed.
+    #[inline(always)]
     pub fn meet(&mut self, x: PsObj) -> Result<Option<u16>, PsFault>
         ensures acts { Acts result self.new (meeting x self.old) }
         ensures closed { closed_part self.new.store ≡ closed_part self.old.store }

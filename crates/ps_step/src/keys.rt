@@ -85,6 +85,7 @@ pub fn put_under(store: &mut PsStore, d: DictId, place: PsObj, value: PsObj) -> 
 }
 
 /// The value of a name in the dictionaries, the topmost first.
+#[inline(always)]
 pub fn name_found(store: &PsStore, dictionaries: &Stack<DictId>, name: StringId) -> Option<PsObj>
     ensures { result ≡ found_in store.now dictionaries.now (NameKey (bytes_of store.now name)) }
 {
@@ -122,6 +123,7 @@ pub fn holder_of(store: &PsStore, dictionaries: &Stack<DictId>, key: &Key) -> Op
 }
 
 /// The value of a name: in the dictionaries, or else the operator of that name.
+#[inline(always)]
 pub fn named(store: &PsStore, dictionaries: &Stack<DictId>, name: StringId) -> Option<PsObj>
     ensures { result ≡ named store.now dictionaries.now (bytes_of store.now name) }
 {
