@@ -10,7 +10,9 @@ use Rattle.ldb_words.specs.declared.kinds.Kind.TheVariants.{Byte, Address}
 use Rattle.ldb_words.specs.declared.kinds.Kind.{Kind}
 use Rattle.c_store.specs.Bits.{low_byte}
 use Rattle.c_store.specs.Store.{Value, Number, Null, At, Object, Cell, World, Static, Text}
-use Rattle.c_store.specs.Frames.{Place}
+use Rattle.runs.specs.Runs.{Actions}
+use Rattle.c_store.specs.Frames.{Place, with_world}
+use Rattle.c_store.specs.Assigned.{History, all_assigned, at_stop}
 use Rattle.c_source.specs.Blocks.{cells_of, entered}
 use Rattle.c_source.specs.Control.{State, Activation, Item, body_of}
 
@@ -70,3 +72,7 @@ outer_places (a ∷ rest) = a.place ∷ outer_places rest
 
 abbrev pub places : State → List Place
 places s = s.here.place ∷ outer_places s.outer
+
+-- what a history of assignments does at the stop of each number
+abbrev pub acted : History → Actions State
+acted h i s = record s { here = with_world s.here (all_assigned (at_stop h i) s.here.world) }

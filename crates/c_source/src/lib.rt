@@ -3,4 +3,4 @@
 
 mod laws;
 
-pub use laws::{steps_give_the_assignment, steps_give_the_meaning};
+pub use laws::{assignments_are_of_leaves, steps_give_the_assignment, steps_give_the_meaning};
