@@ -1,0 +1,97 @@
+-- A session computed: one side, enough turns and memory, each run given so many steps.
+use Rattle.std.proofs.Common.{ℕ, List, [], ◌∷◌, ◌++◌, Bool, true, false, Option, Some}
+use Rattle.std.specs.Prelude.{codes, bytes_eq, ◌==◌, ◌&&◌, ◌||◌, nat_le, if◌then◌else◌}
+use Rattle.std.specs.List.{list_all}
+use Rattle.std.specs.Fmt.{digits}
+use Rattle.c_store.specs.Store.{is_stale, load, store, moved, load_struct, store_struct}
+use Rattle.c_store.specs.Frames.{made, left}
+use Rattle.c_source.specs.Operators.{combined, changed}
+use Rattle.c_tree.specs.declared.rows.Program.{Program}
+use Rattle.runs.specs.Runs.{Course, Comes, Failed, until}
+use Rattle.c_session.specs.declared.command.Command.{Command}
+use Rattle.c_source.specs.Control.{State}
+use Rattle.c_source.specs.Source.{step}
+use Rattle.c_show.specs.Shown.{shown, showing}
+use Rattle.c_session.specs.Commands.{Reader, Reading, Unread, BadSyntax, Resume, refusal_text, Answer, Refuses, Says, Shows, Sets, ShowsAny, EndsClaim, Resumes, Quits, Nothing, answer}
+use Rattle.c_session.specs.Allowed.{Lines, Standing, event_text, event_output, after_event, at_first, stops_by, with_state}
+
+-- what a session computes with
+unfoldable pub computing : ℕ
+unfolding digits is_stale load store moved load_struct store_struct made left combined changed
+computing = 0
+
+-- the lines of a session and its output
+pub record Session : Type 0 where
+  pub lines : Lines
+  pub output : List ℕ
+
+pub record Reply : Type 0 where
+  pub lines : Lines
+  pub next : Standing
+
+-- texts at a point with what they are read as
+pub record Text : Type 0 where
+  pub point : ℕ
+  pub text : List ℕ
+  pub reading : Reading
+
+abbrev read_from : List Text → ℕ → List ℕ → Reading
+read_from [] q text = Unread BadSyntax
+read_from (t ∷ ts) q text = if (t.point == q) && bytes_eq t.text text then t.reading else read_from ts q text
+
+abbrev is_letter : ℕ → Bool
+is_letter c = (nat_le 65 c && nat_le c 90) || (nat_le 97 c && nat_le c 122) || (c == 95)
+
+abbrev is_digit : ℕ → Bool
+is_digit c = nat_le 48 c && nat_le c 57
+
+abbrev is_word : List ℕ → Bool
+is_word [] = false
+is_word (c ∷ cs) = is_letter c && list_all (λ d. is_letter d || is_digit d) cs
+
+-- every word of letters and digits is a name, and these are the expressions and assignments
+abbrev pub reader : List Text → List Text → Reader
+reader values assignments = record { is_name = is_word; value = read_from values; assignment = read_from assignments }
+
+module _ (p : Program) (r : Reader) (fuel : ℕ) where
+  abbrev pub by_course : Standing → Course State → Reply
+  by_course st (Comes c (Failed w)) = record { lines = codes "no event" ∷ []; next = st }
+  by_course st (Comes c e) = record { lines = event_text p e ∷ []; next = record { session = after_event p st.session e; written = event_output e } }
+  by_course st _ = record { lines = codes "no event" ∷ []; next = st }
+
+  abbrev pub by_positions : Standing → Resume → List (Option State) → Reply
+  by_positions st how (Some s ∷ []) = by_course st (until State (step p) (stops_by st.session.breaks how) fuel s)
+  by_positions st how _ = record { lines = codes "no side" ∷ []; next = st }
+
+  abbrev pub by_answer : Standing → Answer → Reply
+  by_answer st (Refuses u) = record { lines = refusal_text u ∷ []; next = st }
+  by_answer st (Says lines session) = record { lines = lines; next = record st { session = session } }
+  by_answer st (Shows w t vs) = record { lines = (codes "value " ++ shown p.defs t (showing p w (λ n. codes "0") 0 vs)) ∷ []; next = st }
+  by_answer st (Sets s) = record { lines = codes "set" ∷ []; next = record st { session = record st.session { mode = with_state p st.session.mode s } } }
+  by_answer st (Resumes how ps) = by_positions st how ps
+  by_answer st ShowsAny = record { lines = codes "value 0" ∷ []; next = st }
+  by_answer st EndsClaim = record { lines = codes "the claim ends" ∷ []; next = st }
+  by_answer st Quits = record { lines = []; next = st }
+  by_answer st Nothing = record { lines = codes "nothing" ∷ []; next = st }
+
+  abbrev pub then_lines : Lines → Session → Session
+  then_lines lines s = record s { lines = lines ++ s.lines }
+
+  abbrev pub ends : Answer → Bool
+  ends Quits = true
+  ends EndsClaim = true
+  ends a = false
+
+  abbrev pub going_on : Bool → Session → Session → Session
+  going_on true s t = s
+  going_on false s t = t
+
+  abbrev pub from : Standing → List (Option Command) → Session
+  from st [] = record { lines = []; output = st.written }
+  from st (c ∷ cs) =
+      let a = answer p r 1 st.session c in
+      let reply = by_answer st a in
+      going_on (ends a) (record { lines = reply.lines; output = st.written }) (then_lines reply.lines (from reply.next cs))
+
+  abbrev pub session : List ℕ → List (Option Command) → Session
+  session input cs = from (at_first p r 1 input) cs

@@ -1,0 +1,255 @@
+-- What each command answers, and what it changes.
+use Rattle.std.specs.Prelude.{ℕ, suc, List, [], ◌∷◌, ◌++◌, Bool, not, ◌==◌, Option, Some, None, Result, Ok, Err, slice_get, length, map, take, filter, replicate, codes, decimal, if◌then◌else◌}
+use Rattle.std.specs.List.{list_any}
+use Rattle.ldb_words.specs.declared.kinds.Undef.{Undef}
+use Rattle.ldb_words.specs.declared.kinds.Undef.TheVariants.{Overflow, Division, Shift, Pointer}
+use Rattle.runs.specs.Runs.{Why, Reason, Stale, IllTyped}
+use Rattle.c_tree.specs.declared.types.CType.{CType}
+use Rattle.c_tree.specs.declared.types.CType.TheVariants.{Void, Pointer', Array'}
+use Rattle.c_tree.specs.declared.typed.Typed.{Typed}
+use Rattle.c_tree.specs.declared.rows.Program.{Program}
+use Rattle.c_tree.specs.declared.rows.ObjectRow.{ObjectRow}
+use Rattle.c_tree.specs.declared.rows.SymbolRow.{SymbolRow}
+use Rattle.c_tree.specs.declared.rows.Referent.{Referent}
+use Rattle.c_tree.specs.declared.rows.Referent.TheVariants as refers
+use Rattle.c_tree.specs.Types.{type_of}
+use Rattle.c_session.specs.declared.command.Command.{Command}
+use Rattle.c_session.specs.declared.command.Command.TheVariants as command
+use Rattle.c_store.specs.Store.{Value, Object, World}
+use Rattle.c_store.specs.Frames.{Place, bound}
+use Rattle.c_source.specs.Blocks.{local_type}
+use Rattle.c_source.specs.Control.{State}
+use Rattle.c_source.specs.Begin.{places}
+use Rattle.c_source.specs.Names.{named, place_text, activation_text}
+use Rattle.c_session.specs.Places.{point_at}
+use Rattle.c_source.specs.Meaning.{Given, values_meant, assigned}
+
+-- ---- refusals, in the order in which they are asked
+
+pub data Refusal : Type 0 where
+  BadLine HasEnded IsRunning NoPlace NoFrame BadSyntax NoScope BadType : Refusal
+  IsUndefined : (reason : Undef) → Refusal
+
+abbrev undef_text : Undef → List ℕ
+undef_text Overflow = codes "undefined overflow"
+undef_text Division = codes "undefined division"
+undef_text Shift = codes "undefined shift"
+undef_text Pointer = codes "undefined pointer"
+
+abbrev reason_text : Refusal → List ℕ
+reason_text BadLine = codes "line"
+reason_text HasEnded = codes "ended"
+reason_text IsRunning = codes "running"
+reason_text NoPlace = codes "place"
+reason_text NoFrame = codes "frame"
+reason_text BadSyntax = codes "syntax"
+reason_text NoScope = codes "scope"
+reason_text BadType = codes "type"
+reason_text (IsUndefined r) = undef_text r
+
+abbrev pub refusal_text : Refusal → List ℕ
+refusal_text r = codes "refused " ++ reason_text r
+
+-- ---- sessions
+
+-- `step` stops at each point, and `continue` at those with a breakpoint
+pub data Resume : Type 0 where
+  ByStep ByContinue : Resume
+
+-- A resume that ran out of turns leaves each side at a position of its own, or at its event.
+pub data Mode : Type 0 where
+  Fresh : (s : State) → Mode
+  Stopped : (s : State) → Mode
+  Running : (how : Resume) (positions : List (Option State)) → Mode
+  Ended : Mode
+
+pub record Session : Type 0 where
+  pub mode : Mode
+  pub breaks : List ℕ
+  pub frame : ℕ
+  pub limit : ℕ
+
+-- what reading a text gives: a refusal, or a typed expression over the program's symbols
+pub data Reading : Type 0 where
+  Unread : (r : Refusal) → Reading
+  Read : (e : Typed) → Reading
+
+-- The grammar and the typing rules: whether a text is one identifier, and what a text is at a point, as a value and as an assignment.
+pub record Reader : Type 0 where
+  pub is_name : List ℕ → Bool
+  pub value : (point : ℕ) → List ℕ → Reading
+  pub assignment : (point : ℕ) → List ℕ → Reading
+
+-- what a command answers
+pub data Answer : Type 0 where
+  Refuses : (r : Refusal) → Answer
+  -- these lines, and the session after them
+  Says : (lines : List (List ℕ)) (after : Session) → Answer
+  -- `value` and what these leaf values show
+  Shows : (w : World) (t : CType) (vs : List Value) → Answer
+  -- `set`
+  Sets : (s : State) → Answer
+  -- an evaluation that used a stale pointer, and an assignment that did
+  ShowsAny : Answer
+  EndsClaim : Answer
+  Resumes : (how : Resume) (positions : List (Option State)) → Answer
+  Quits : Answer
+  -- this comes to no accepted program
+  Nothing : Answer
+
+abbrev pub has : List ℕ → ℕ → Bool
+has qs q = list_any (λ r. r == q) qs
+
+abbrev without : ℕ → List ℕ → List ℕ
+without q qs = filter (λ r. not (r == q)) qs
+
+module _ (p : Program) (r : Reader) (sides : ℕ) (session : Session) where
+  -- ---- breakpoints
+
+  abbrev break_at : Option ℕ → Answer
+  break_at None = Refuses NoPlace
+  break_at (Some q) = Says ((codes "break " ++ place_text p q) ∷ []) (if has session.breaks q then session else record session { breaks = q ∷ session.breaks })
+
+  abbrev clear_at : Option ℕ → Answer
+  clear_at None = Refuses NoPlace
+  clear_at (Some q) = if has session.breaks q then Says ((codes "clear " ++ place_text p q) ∷ []) (record session { breaks = without q session.breaks }) else Refuses NoPlace
+
+  -- ---- frames
+
+  abbrev point_or_0 : Option ℕ → ℕ
+  point_or_0 None = 0
+  point_or_0 (Some q) = q
+
+  abbrev pub point_of : Place → ℕ
+  point_of a = point_or_0 a.point
+
+  abbrev frame_text : ℕ → Place → List ℕ
+  frame_text n a = codes "frame " ++ decimal n ++ codes " " ++ activation_text p (point_of a)
+
+  abbrev frame_texts : ℕ → List Place → List (List ℕ)
+  frame_texts n [] = []
+  frame_texts n (a ∷ rest) = frame_text n a ∷ frame_texts (suc n) rest
+
+  -- the list of frames is cut at 20,000
+  abbrev frames_of : State → List Place
+  frames_of s = take 20000 (places s)
+
+  abbrev all_frames : List Place → Answer
+  all_frames fs = Says ((codes "frames " ++ decimal (length fs)) ∷ frame_texts 0 fs) session
+
+  abbrev frame_at : ℕ → Option Place → Answer
+  frame_at n None = Refuses NoFrame
+  frame_at n (Some a) = Says (frame_text n a ∷ []) (record session { frame = n })
+
+  -- ---- `print`
+
+  abbrev cells_of : Option Object → List Value
+  cells_of None = []
+  cells_of (Some o) = map (λ c. c.value) o.cells
+
+  abbrev print_object : World → CType → Option ℕ → Answer
+  print_object w t None = Nothing
+  print_object w t (Some o) = Shows w t (cells_of (slice_get w.objects o))
+
+  abbrev row_type : Option ObjectRow → CType
+  row_type None = Void
+  row_type (Some row) = row.ctype
+
+  -- a function's name is of no object
+  abbrev print_referent : World → Place → Referent → Answer
+  print_referent w a (refers.Object o) = print_object w (row_type (slice_get p.objects o)) (Some o)
+  print_referent w a (refers.Local x) = print_object w (local_type p a.function x) (bound x a.locals)
+  print_referent w a (refers.Function f) = Refuses BadType
+  print_referent w a refers.Declared = Refuses BadType
+
+  abbrev print_symbol : World → Place → Option SymbolRow → Answer
+  print_symbol w a None = Refuses NoScope
+  print_symbol w a (Some s) = print_referent w a s.refers
+
+  -- ---- `eval` and `assign`
+
+  -- an array is shown as the pointer that it becomes
+  abbrev pub shown_type : CType → CType
+  shown_type (Array' b t n) = Pointer' b t
+  shown_type t = t
+
+  abbrev eval_gives : World → CType → Result (List Value) Why → Answer
+  eval_gives w t (Ok vs) = Shows w (shown_type t) vs
+  eval_gives w t (Err (Reason u)) = Refuses (IsUndefined u)
+  eval_gives w t (Err Stale) = ShowsAny
+  eval_gives w t (Err IllTyped) = Nothing
+
+  abbrev eval_read : World → Place → Reading → Answer
+  eval_read w a (Unread u) = Refuses u
+  eval_read w a (Read e) = eval_gives w (type_of e) (values_meant p (record { world = w; place = a }) e)
+
+  -- it changes the leaves that the assignment's steps change, and nothing else
+  abbrev assign_gives : State → Result Given Why → Answer
+  assign_gives s (Ok g) = Sets (record s { here = record s.here { world = g.world } })
+  assign_gives s (Err (Reason u)) = Refuses (IsUndefined u)
+  assign_gives s (Err Stale) = EndsClaim
+  assign_gives s (Err IllTyped) = Nothing
+
+  abbrev assign_read : State → Place → Reading → Answer
+  assign_read s a (Unread u) = Refuses u
+  assign_read s a (Read e) = assign_gives s (assigned p (record { world = s.here.world; place = a }) e)
+
+  abbrev in_frame : Option Place → (Place → Answer) → Answer
+  in_frame None go = Refuses NoFrame
+  in_frame (Some a) go = go a
+
+  abbrev chosen : State → Option Place
+  chosen s = slice_get (places s) session.frame
+
+  -- ---- commands by the session's state
+
+  abbrev with_limit : ℕ → Answer
+  with_limit n = Says ((codes "limit " ++ decimal n) ∷ []) (record session { limit = n })
+
+  -- each side stands at the stop
+  abbrev all_at : State → List (Option State)
+  all_at s = replicate sides (Some s)
+
+  abbrev in_stopped : State → Command → Answer
+  in_stopped s (command.Break place) = break_at (point_at p place)
+  in_stopped s (command.Clear place) = clear_at (point_at p place)
+  in_stopped s command.Continue = Resumes ByContinue (all_at s)
+  in_stopped s command.Step = Resumes ByStep (all_at s)
+  in_stopped s (command.Turns n) = with_limit n
+  in_stopped s command.Frames = all_frames (frames_of s)
+  in_stopped s (command.Frame n) = frame_at n (slice_get (frames_of s) n)
+  in_stopped s (command.Print name) = if r.is_name name then in_frame (chosen s) (λ a. print_symbol s.here.world a (named p name (point_of a))) else Refuses BadSyntax
+  in_stopped s (command.Eval text) = in_frame (chosen s) (λ a. eval_read s.here.world a (r.value (point_of a) text))
+  in_stopped s (command.Assign text) = in_frame (chosen s) (λ a. assign_read s a (r.assignment (point_of a) text))
+  in_stopped s command.Quit = Quits
+  in_stopped s c = Nothing
+
+  abbrev in_fresh : State → Command → Answer
+  in_fresh s command.Frames = Refuses IsRunning
+  in_fresh s (command.Frame n) = Refuses IsRunning
+  in_fresh s (command.Print name) = Refuses IsRunning
+  in_fresh s (command.Eval text) = Refuses IsRunning
+  in_fresh s (command.Assign text) = Refuses IsRunning
+  in_fresh s c = in_stopped s c
+
+  -- `continue` goes on with the interrupted resume, whichever command began it
+  abbrev in_running : Resume → List (Option State) → Command → Answer
+  in_running how ps command.Continue = Resumes how ps
+  in_running how ps (command.Turns n) = with_limit n
+  in_running how ps command.Quit = Quits
+  in_running how ps c = Refuses IsRunning
+
+  abbrev in_ended : Command → Answer
+  in_ended command.Quit = Quits
+  in_ended c = Refuses HasEnded
+
+  abbrev by_mode : Mode → Command → Answer
+  by_mode (Fresh s) c = in_fresh s c
+  by_mode (Stopped s) c = in_stopped s c
+  by_mode (Running how ps) c = in_running how ps c
+  by_mode Ended c = in_ended c
+
+  -- the answer to a line, which is a command or malformed
+  abbrev pub answer : Option Command → Answer
+  answer None = Refuses BadLine
+  answer (Some c) = by_mode session.mode c

@@ -1,0 +1,6 @@
+//! How a debugger shows the values of C.
+#![tactic(auto)]
+
+mod held;
+
+pub use held::Held;

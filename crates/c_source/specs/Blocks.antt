@@ -1,0 +1,95 @@
+-- The objects of a block and of a call.
+use Rattle.std.specs.Prelude.{ℕ, suc, ◌+◌, List, [], ◌∷◌, Option, Some, None, slice_get, length, map}
+use Rattle.c_tree.specs.declared.types.CType.{CType}
+use Rattle.c_tree.specs.declared.types.CType.TheVariants.{Char, Void, Pointer'}
+use Rattle.c_tree.specs.declared.types.StructDef.{StructDef}
+use Rattle.c_tree.specs.declared.types.Leaf.{Leaf}
+use Rattle.c_tree.specs.declared.typed.DeclaredLocal.{DeclaredLocal}
+use Rattle.c_tree.specs.declared.typed.Stmt.{Stmt}
+use Rattle.c_tree.specs.declared.typed.Stmt.TheVariants.{Block'}
+use Rattle.c_tree.specs.declared.rows.Program.{Program}
+use Rattle.c_tree.specs.declared.rows.Function.{Function}
+use Rattle.c_tree.specs.declared.rows.Local.{Local}
+use Rattle.c_tree.specs.Layout.{size_of, leaves_of}
+use Rattle.c_tree.specs.Rows.{stmts}
+use Rattle.c_store.specs.Bits.{low_byte}
+use Rattle.c_store.specs.Store.{Value, Number, Null, Cell, World, zero_of}
+use Rattle.c_store.specs.Frames.{Here, made, new_place}
+
+-- A value as one of an integer or pointer type (C90 6.2.1.2, 6.2.2.3). An `int` and an `unsigned` have the same pattern; an integer in place of a pointer is a null constant.
+abbrev pub converted : CType → Value → Value
+converted Char (Number n) = Number (low_byte n)
+converted (Pointer' _ t) (Number n) = Null
+converted _ v = v
+
+-- the leaves of a type, with zeros
+abbrev zero_cell : Leaf → Cell
+zero_cell l = record { at = l.at; kind = l.kind; value = zero_of l.kind }
+
+abbrev pub cells_of : List StructDef → CType → List Cell
+cells_of defs t = map zero_cell (leaves_of defs t)
+
+-- ---- rows
+
+abbrev pub locals_in : Option Function → List Local
+locals_in None = []
+locals_in (Some f) = f.locals
+
+abbrev type_in : Option Local → CType
+type_in None = Void
+type_in (Some l) = l.ctype
+
+-- the type of a local, by the numbers of its function and of itself
+abbrev pub local_type : Program → ℕ → ℕ → CType
+local_type p f x = type_in (slice_get (locals_in (slice_get p.functions f)) x)
+
+abbrev result_in : Option Function → CType
+result_in None = Void
+result_in (Some f) = f.result
+
+abbrev pub result_type : Program → ℕ → CType
+result_type p f = result_in (slice_get p.functions f)
+
+-- the declarations and the statements of a block
+abbrev pub declared_in : Stmt → List DeclaredLocal
+declared_in (Block' s ds _ row line column) = ds
+declared_in _ = []
+
+abbrev pub statements_in : Stmt → List Stmt
+statements_in (Block' s ds _ row line column) = stmts row
+statements_in _ = []
+
+-- ---- objects that begin
+
+-- a new object for a local of function f, with zeros
+abbrev pub opened_one : Program → (f local : ℕ) → Here → Here
+opened_one p f x h = made x (size_of p.defs (local_type p f x)) (cells_of p.defs (local_type p f x)) h
+
+-- a block of function f is entered: each of its objects is made anew
+abbrev pub opened : Program → (f : ℕ) → List DeclaredLocal → Here → Here
+opened p f [] h = h
+opened p f (d ∷ ds) h = opened p f ds (opened_one p f d.local h)
+
+-- how many leaves that makes
+abbrev pub leaf_count : Program → ℕ → List DeclaredLocal → ℕ
+leaf_count p f [] = 0
+leaf_count p f (d ∷ ds) = length (leaves_of p.defs (local_type p f d.local)) + leaf_count p f ds
+
+abbrev with_value : Value → List Cell → List Cell
+with_value v [] = []
+with_value v (c ∷ cs) = record c { value = v } ∷ cs
+
+-- a parameter of function f, with its argument
+abbrev given_one : Program → (f local : ℕ) → Value → Here → Here
+given_one p f x v h =
+    let t = local_type p f x in
+    made x (size_of p.defs t) (with_value (converted t v) (cells_of p.defs t)) h
+
+-- the parameters from number x on
+abbrev pub given : Program → (f local : ℕ) → List Value → Here → Here
+given p f x [] h = h
+given p f x (v ∷ vs) h = given p f (suc x) vs (given_one p f x v h)
+
+-- a new activation of a function
+abbrev pub entered : Program → (number function : ℕ) → List Value → World → Here
+entered p n f args w = given p f 0 args (record { world = w; place = new_place n f })

@@ -1,0 +1,9 @@
+pub mod Blocks
+pub mod Operators
+pub mod Control
+pub mod Source
+pub mod Begin
+pub mod Size
+pub mod Names
+pub mod Meaning
+pub mod Leads

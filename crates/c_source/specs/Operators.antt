@@ -1,0 +1,162 @@
+-- What the operators give (C90 6.3.3 to 6.3.12), and where they are undefined.
+use Rattle.std.specs.Prelude.{ℕ, suc, zero, ◌-◌, List, Bool, true, false, not, ◌&&◌, ◌==◌, nat_lt, nat_le, int_lt, int_le, int_div, ℤ, pos, neg_ℤ, ◌-ℤ◌, ◌*ℤ◌, Option, Some, None, Result, Ok, Err, bit_and, bit_or, bit_xor, if◌then◌else◌}
+use Rattle.ldb_words.specs.declared.kinds.Undef.{Undef}
+use Rattle.ldb_words.specs.declared.kinds.Undef.TheVariants.{Pointer}
+use Rattle.ldb_words.specs.Word.{signed, word_of_signed}
+use Rattle.c_store.specs.Bits.{minus_one, signed_add, signed_subtract, signed_multiply, signed_negate, signed_divide, signed_remainder, add, subtract, multiply, divide, remainder, shift_left, shift_right, signed_shift_right}
+use Rattle.runs.specs.Runs.{Why, Reason, IllTyped}
+use Rattle.c_tree.specs.declared.types.CType.{CType}
+use Rattle.c_tree.specs.declared.types.StructDef.{StructDef}
+use Rattle.c_tree.specs.declared.typed.BinaryOp.{BinaryOp}
+use Rattle.c_tree.specs.declared.typed.BinaryOp.TheVariants.{BitOr, BitXor, BitAnd, Equal, Unequal, Less, Greater, LessEqual, GreaterEqual, ShiftLeft, ShiftRight, Add, Subtract, Multiply, Divide, Remainder}
+use Rattle.c_tree.specs.declared.typed.UnaryOp.{UnaryOp}
+use Rattle.c_tree.specs.declared.typed.UnaryOp.TheVariants.{Plus, Minus, Complement, Not}
+use Rattle.c_tree.specs.Types.{target_of, is_unsigned, promoted, common}
+use Rattle.c_tree.specs.Layout.{size_of}
+use Rattle.c_store.specs.Store.{Value, Number, Null, At, World, used, moved, ◌>>=◌}
+
+abbrev pub bits_in : Value → Result ℕ Why
+bits_in (Number n) = Ok n
+bits_in Null = Err IllTyped
+bits_in (At o i) = Err IllTyped
+
+-- the number that an integer value is
+abbrev pub number_of : CType → ℕ → ℤ
+number_of t n = if is_unsigned t then pos n else signed n
+
+abbrev pub is_zero : Value → Bool
+is_zero (Number zero) = true
+is_zero (Number (suc n)) = false
+is_zero Null = true
+is_zero (At o i) = false
+
+abbrev pub truth : Bool → ℕ
+truth b = if b then 1 else 0
+
+abbrev because : Result ℕ Undef → Result Value Why
+because (Ok n) = Ok (Number n)
+because (Err r) = Err (Reason r)
+
+-- an operation on two numbers of type `int`
+abbrev pub on_ints : BinaryOp → ℕ → ℕ → Result ℕ Undef
+on_ints BitOr x y = Ok (bit_or x y)
+on_ints BitXor x y = Ok (bit_xor x y)
+on_ints BitAnd x y = Ok (bit_and x y)
+on_ints Equal x y = Ok (truth (x == y))
+on_ints Unequal x y = Ok (truth (not (x == y)))
+on_ints Less x y = Ok (truth (int_lt (signed x) (signed y)))
+on_ints Greater x y = Ok (truth (int_lt (signed y) (signed x)))
+on_ints LessEqual x y = Ok (truth (int_le (signed x) (signed y)))
+on_ints GreaterEqual x y = Ok (truth (int_le (signed y) (signed x)))
+on_ints ShiftLeft x y = shift_left x y
+on_ints ShiftRight x y = signed_shift_right x y
+on_ints Add x y = signed_add x y
+on_ints Subtract x y = signed_subtract x y
+on_ints Multiply x y = signed_multiply x y
+on_ints Divide x y = signed_divide x y
+on_ints Remainder x y = signed_remainder x y
+
+-- and of type `unsigned`
+abbrev pub on_unsigned : BinaryOp → ℕ → ℕ → Result ℕ Undef
+on_unsigned Less x y = Ok (truth (nat_lt x y))
+on_unsigned Greater x y = Ok (truth (nat_lt y x))
+on_unsigned LessEqual x y = Ok (truth (nat_le x y))
+on_unsigned GreaterEqual x y = Ok (truth (nat_le y x))
+on_unsigned ShiftRight x y = shift_right x y
+on_unsigned Add x y = Ok (add x y)
+on_unsigned Subtract x y = Ok (subtract x y)
+on_unsigned Multiply x y = Ok (multiply x y)
+on_unsigned Divide x y = divide x y
+on_unsigned Remainder x y = remainder x y
+on_unsigned op x y = on_ints op x y
+
+-- a shift has the type of its left operand, and the other operators the common one
+abbrev pub operating_type : BinaryOp → CType → CType → CType
+operating_type ShiftLeft s t = promoted s
+operating_type ShiftRight s t = promoted s
+operating_type op s t = common s t
+
+abbrev on_integers : BinaryOp → CType → CType → Value → Value → Result Value Why
+on_integers op s t x y = do
+  m ← bits_in x
+  n ← bits_in y
+  because (if is_unsigned (operating_type op s t) then on_unsigned op m n else on_ints op m n)
+
+-- ---- pointers
+
+-- a pointer operand of a comparison; an integer there is a null constant
+abbrev as_pointer : Value → Value
+as_pointer (Number n) = Null
+as_pointer v = v
+
+abbrev pub same_pointer : Value → Value → Bool
+same_pointer (Number m) (Number n) = m == n
+same_pointer Null Null = true
+same_pointer (At o i) (At o' j) = (o == o') && (i == j)
+same_pointer _ _ = false
+
+-- equality is always defined
+abbrev are_equal : World → Value → Value → Result Bool Why
+are_equal w x y = do
+  u ← used w (as_pointer x)
+  v ← used w (as_pointer y)
+  Ok (same_pointer u v)
+
+-- a pointer moved by some items of a size
+abbrev by_items : World → Value → ℕ → ℤ → Result Value Why
+by_items w x size n = moved w x (pos size *ℤ n)
+
+abbrev at_offsets : Value → Value → (ℕ → ℕ → Result Value Why) → Result Value Why
+at_offsets (At o i) (At o' j) f = if o == o' then f i j else Err (Reason Pointer)
+at_offsets _ _ f = Err (Reason Pointer)
+
+-- the offsets of two pointers into one object
+abbrev in_one : World → Value → Value → (ℕ → ℕ → Result Value Why) → Result Value Why
+in_one w x y f = do
+  u ← used w x
+  v ← used w y
+  at_offsets u v f
+
+-- a pointer and an integer
+abbrev pointer_integer : World → BinaryOp → ℕ → CType → Value → Value → Result Value Why
+pointer_integer w Add size t x y = bits_in y >>= λ n. by_items w x size (number_of t n)
+pointer_integer w Subtract size t x y = bits_in y >>= λ n. by_items w x size (neg_ℤ (number_of t n))
+pointer_integer w Equal size t x y = are_equal w x y >>= λ b. Ok (Number (truth b))
+pointer_integer w Unequal size t x y = are_equal w x y >>= λ b. Ok (Number (truth (not b)))
+pointer_integer w op size t x y = Err IllTyped
+
+-- two pointers
+abbrev two_pointers : World → BinaryOp → ℕ → Value → Value → Result Value Why
+two_pointers w Equal size x y = are_equal w x y >>= λ b. Ok (Number (truth b))
+two_pointers w Unequal size x y = are_equal w x y >>= λ b. Ok (Number (truth (not b)))
+two_pointers w Less size x y = in_one w x y (λ i j. Ok (Number (truth (nat_lt i j))))
+two_pointers w Greater size x y = in_one w x y (λ i j. Ok (Number (truth (nat_lt j i))))
+two_pointers w LessEqual size x y = in_one w x y (λ i j. Ok (Number (truth (nat_le i j))))
+two_pointers w GreaterEqual size x y = in_one w x y (λ i j. Ok (Number (truth (nat_le j i))))
+two_pointers w Subtract size x y = in_one w x y (λ i j. Ok (Number (word_of_signed (int_div (pos i -ℤ pos j) (pos size)))))
+two_pointers w op size x y = Err IllTyped
+
+module _ (defs : List StructDef) (w : World) where
+  abbrev by_targets : BinaryOp → CType → CType → Option CType → Option CType → Value → Value → Result Value Why
+  by_targets op s t None None x y = on_integers op s t x y
+  by_targets op s t (Some a) None x y = pointer_integer w op (size_of defs a) t x y
+  by_targets op s t None (Some b) x y = pointer_integer w op (size_of defs b) s y x
+  by_targets op s t (Some a) (Some b) x y = two_pointers w op (size_of defs a) x y
+
+  -- a binary operator on operands of types s and t
+  unfoldable pub combined : BinaryOp → CType → CType → Value → Value → Result Value Why
+  combined op s t x y = by_targets op s t (target_of s) (target_of t) x y
+
+abbrev pub negated : World → Value → Result Value Why
+negated w x = used w x >>= λ v. Ok (Number (truth (is_zero v)))
+
+abbrev on_integer : UnaryOp → CType → ℕ → Result ℕ Undef
+on_integer Plus t n = Ok n
+on_integer Minus t n = if is_unsigned t then Ok (subtract 0 n) else signed_negate n
+on_integer Complement t n = Ok (minus_one - n)
+on_integer Not t n = Ok (truth (n == 0))
+
+-- a unary operator on an operand of type t
+unfoldable pub changed : World → UnaryOp → CType → Value → Result Value Why
+changed w Not t x = negated w x
+changed w op t x = bits_in x >>= λ n. because (on_integer op t n)

@@ -1,0 +1,4 @@
+pub mod Bits
+pub mod Store
+pub mod Frames
+pub mod Assigned
