@@ -118,3 +118,5 @@ program=
 sparc_loop >sparc.img
 if command -v qemu-sparc >/dev/null && command -v sparc64-linux-gnu-as >/dev/null; then sparc_peer && program=sparc_loop; fi
 compared sparc qemu-sparc "$program"
+
+"$here/postscript.sh"

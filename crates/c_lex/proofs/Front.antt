@@ -1,9 +1,8 @@
 -- The longest token at the front.
-use Rattle.std.proofs.Common.{◌≡◌, ◌≢◌, ◌⊎◌, inl, inr, ℕ, suc, zero, ◌+◌, ◌-◌, ◌≤◌, ◌<◌, Bool, true, false, cond, nat_le, ◌==◌, ◌&&◌, ◌||◌, not, List, [], ◌∷◌, ◌++◌, length, take, drop, Option, Some, None, refl, sym, ◌∙◌, ap, ap₂, subst, le_refl, le_trans, le-leb, leb-true, leb-false, arith, length-append, length-drop, append_assoc, append-nil, one-add, add-one}
+use Rattle.std.proofs.Common.{◌≡◌, ◌⊎◌, inl, inr, ℕ, suc, ◌+◌, ◌-◌, ◌≤◌, ◌<◌, Bool, true, false, cond, nat_le, ◌==◌, ◌&&◌, ◌||◌, not, List, [], ◌∷◌, ◌++◌, length, take, drop, Option, Some, None, refl, sym, ◌∙◌, ap, ap₂, subst, le-leb, leb-true, arith, length-append, length-drop, append_assoc, one-add, add-one}
 use Rattle.std.specs.Prelude.{if◌then◌else◌}
-use Rattle.std.specs.List.{prefix_len, AllByRecursion}
-use Rattle.std.proofs.lemmas.Bool.{eqb-true, eq-eqb, cases_lt}
-use Rattle.std.proofs.lemmas.Grind.{common_steps}
+use Rattle.std.specs.List.{prefix_len}
+use Rattle.std.proofs.lemmas.Bool.{eqb-true, cases_lt}
 use Rattle.std.proofs.lemmas.Bool.Decides.{nat_tests}
 use Rattle.std.proofs.lemmas.List.{drop-drop, take-append-drop, length-take-le}
 use Rattle.std.proofs.lemmas.List.Sums.{prefix_len-le-length}
@@ -12,15 +11,15 @@ use Rattle.c_lex.specs.declared.token.TokenKind.{TokenKind}
 use Rattle.c_lex.specs.declared.token.TokenKind.TheVariants.{Identifier, Keyword, Integer, Character, Str, Punctuator}
 use Rattle.c_lex.specs.declared.longest.Class.{Class}
 use Rattle.c_lex.specs.declared.longest.Class.TheVariants.{Word, Number, Quote, DoubleQuote, Other}
-use Rattle.c_lex.specs.Bytes.{is_letter, is_digit, is_octal, is_hex, is_part, lookup, starts_with}
+use Rattle.c_lex.specs.Bytes.{is_letter, is_digit, is_octal, is_hex, is_part, lookup}
 use Rattle.c_lex.specs.Keywords as keywords
 use Rattle.c_lex.specs.declared.punctuator.Punctuator
 use Rattle.c_lex.specs.Punctuators.{ones, before_equal, before_greater, twins, shifts, two_bytes, three_bytes, punctuator_of}
 use Rattle.c_lex.specs.Numbers.{AllAre, IsNumber, decimal, octal, hexadecimal, is_suffix, IsSuffix, no_suffix, a_suffix, IsInteger, starts_hex, zero_len, number_len, suffix_len, integer_len}
 use Rattle.c_lex.specs.Literals.{Literal, starts, IsClosed, IsOne}
-use Rattle.c_lex.specs.Grammar.{is_some, IsWord, is_barred, IsToken, Longest, NoToken}
+use Rattle.c_lex.specs.Grammar.{is_some, IsWord, is_barred, IsToken, Longest}
 use Rattle.c_lex.specs.Front.{class_of, base, word_kind, has_mark, mark_len, Front}
-use Rattle.c_lex.proofs.Literals.{true_false, same, when_true, when_false, and_left, and_right, or_left, or_right, not_true, all_rows, lookup_test}
+use Rattle.c_lex.proofs.Literals.{true_false, when_true, when_false, and_left, and_right, not_true, lookup_test}
 
 -- the first bytes of each kind
 digit_no_letter : (b : ℕ) → is_digit b ≡ true → is_letter b ≡ false

@@ -1,14 +1,12 @@
 -- The tokens of a text, read from the front, and in one way.
-use Rattle.std.proofs.Common.{◌≡◌, ◌⊎◌, inl, inr, ℕ, suc, zero, ◌+◌, ◌-◌, ◌≤◌, ◌<◌, Bool, true, false, nat_le, List, [], ◌∷◌, ◌++◌, length, take, drop, Option, Some, None, refl, sym, ◌∙◌, ap, ap₂, subst, arith, length-drop, append_assoc, append-nil, one-add, le_antisymm}
-use Rattle.std.specs.Prelude.{if◌then◌else◌}
+use Rattle.std.proofs.Common.{◌≡◌, ℕ, ◌+◌, ◌≤◌, true, false, List, [], ◌∷◌, ◌++◌, length, take, drop, Some, None, refl, sym, ◌∙◌, ap, ap₂, subst, arith, length-drop, append_assoc, append-nil, le_antisymm}
 use Rattle.std.proofs.lemmas.List.{drop-drop, length-take-le, drop_all}
 use Rattle.c_lex.specs.declared.token.TokenKind.{TokenKind}
 use Rattle.c_lex.specs.declared.token.TokenKind.TheVariants.{Identifier, Keyword, Integer, Character, Str, Punctuator}
 use Rattle.c_lex.specs.declared.token.Token.{Token}
 use Rattle.c_lex.specs.declared.token.Place.{Place}
-use Rattle.c_lex.specs.Keywords as keywords
-use Rattle.c_lex.specs.Grammar.{is_some, IsToken, Longest, NoToken, fits, gap_of, past, after, token_at, Lexes, ended, gap, token, Faults, none_begins, out_of_range, behind_gap, behind_token, start, HasTokens, HasFault}
-use Rattle.c_lex.specs.Front.{class_of, base, Front, Begins}
+use Rattle.c_lex.specs.Grammar.{IsToken, Longest, fits, gap_of, after, token_at, Lexes, ended, gap, token, Faults, none_begins, out_of_range, behind_gap, behind_token, start}
+use Rattle.c_lex.specs.Front.{base, Front, Begins}
 use Rattle.c_lex.proofs.Literals.{true_false, none_some}
 use Rattle.c_lex.proofs.Front.{classed_at, token_some}
 

@@ -6,7 +6,7 @@ use Rattle.c_lex.specs.declared.token.Token.{Token}
 use Rattle.c_lex.specs.declared.token.Place.{Place}
 use Rattle.c_lex.specs.declared.token.LexFault.{LexFault}
 use Rattle.c_lex.specs.declared.token.LexFault.TheVariants.{Bad, TooMany, NoMemory}
-use Rattle.c_lex.specs.Bytes.{is_letter, is_digit, is_part, is_blank, starts_with}
+use Rattle.c_lex.specs.Bytes.{is_letter, is_part, is_blank, starts_with}
 use Rattle.c_lex.specs.Keywords as keywords
 use Rattle.c_lex.specs.Punctuators as punctuators
 use Rattle.c_lex.specs.Numbers.{AllAre, IsInteger, value_of}

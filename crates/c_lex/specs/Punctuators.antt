@@ -1,5 +1,5 @@
 -- Operators and punctuators (C90 6.1.5, 6.1.6), without `...` and `#`.
-use Rattle.std.specs.Prelude.{ℕ, ◌==◌, ◌&&◌, if◌then◌else◌, List, [], ◌∷◌, Option, Some, None}
+use Rattle.std.specs.Prelude.{ℕ, ◌==◌, ◌&&◌, if◌then◌else◌, List, [], ◌∷◌, Option, None}
 use Rattle.c_lex.specs.Bytes.{lookup}
 use Rattle.c_lex.specs.declared.punctuator.Punctuator.{Punctuator}
 use Rattle.c_lex.specs.declared.punctuator.Punctuator.TheVariants.{OpenBracket, CloseBracket, OpenParen, CloseParen, OpenBrace, CloseBrace, Dot, Comma, Semicolon, Colon, Question, Tilde, Exclamation, Ampersand, Star, Plus, Minus, Slash, Percent, Less, Greater, Caret, Bar, Equal, LessEqual, GreaterEqual, EqualEqual, ExclamationEqual, StarEqual, SlashEqual, PercentEqual, PlusEqual, MinusEqual, AmpersandEqual, CaretEqual, BarEqual, Arrow, GreaterGreater, PlusPlus, MinusMinus, LessLess, AmpersandAmpersand, BarBar, LessLessEqual, GreaterGreaterEqual}

@@ -8,6 +8,8 @@ mod lex;
 mod literal;
 mod longest;
 mod number;
+#[cfg(test)]
+mod outside;
 mod punctuator;
 #[cfg(test)]
 mod tests;

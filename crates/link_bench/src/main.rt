@@ -1,17 +1,25 @@
-//! Round trips over a link in this program: `link N` fetches a word N times.
+//! Measures a link in this program, on a MIPS machine or, with a third word `sparc`, on a SPARC machine: `link N` fetches
+//! a word N times, `resume N` resumes once for N turns.
 #![tactic(auto)]
 
 use near_link::NearLink;
-use nub_wire::{Link, Side};
+use nub_wire::{Link, Msg, Side, encode};
 use obj_file::read_image;
 use std::alloc::{AllocError, Global};
 use std::process::ExitCode;
 use std::rt::Env;
 use std::{env, io};
 
-/// An image of one instruction that does nothing.
-const IMAGE: [u8; 24] = [
-    0x4c, 0x44, 0x42, 0x49, 1, 1, 0, 0, 0, 0x40, 0, 0, 0, 0, 0, 4, 0, 0, 0, 0, 0, 0, 0, 0,
+/// A MIPS image of a branch to itself.
+const MIPS_IMAGE: [u8; 28] = [
+    0x4c, 0x44, 0x42, 0x49, 1, 1, 0, 0, 0, 0x40, 0, 0, 0, 0, 0, 8, 0, 0, 0, 0, // header
+    0xff, 0xff, 0, 0x10, 0, 0, 0, 0,
+];
+
+/// A SPARC image of a branch to itself.
+const SPARC_IMAGE: [u8; 28] = [
+    0x4c, 0x44, 0x42, 0x49, 1, 2, 0, 0, 0, 0x40, 0, 0, 0, 0, 0, 8, 0, 0, 0, 0, // header
+    0x10, 0x80, 0, 0, 1, 0, 0, 0,
 ];
 
 /// A fetch of the word at 00400000.
@@ -31,14 +39,23 @@ fn fetched<L: Link>(link: &mut L, count: u64) -> u64 {
     answered
 }
 
-/// The link to the machine of the image.
-fn link_of(alloc: Global) -> Result<Option<NearLink>, AllocError> {
-    match read_image(alloc, &IMAGE) {
-        Ok(image) if image.target() == 1 => {
+/// How many resumes, of one for so many turns, were answered by a frame of three bytes.
+fn resumed<L: Link>(link: &mut L, turns: u32) -> u64 {
+    let frame = encode(&Msg::Resume { turns });
+    let mut buf = [0; 64];
+    let sent = link.send(Side::First, frame.as_slice());
+    let got = link.receive(Side::First, &mut buf);
+    if sent == Ok(7) && got == Ok(3) { 1 } else { 0 }
+}
+
+/// The link to the machine of an image.
+fn link_of(alloc: Global, bytes: &[u8]) -> Result<Option<NearLink>, AllocError> {
+    match read_image(alloc, bytes) {
+        Ok(image) => {
             let link = NearLink::new(alloc, &[image], Vec::new(alloc))?;
             Ok(Some(link))
         }
-        _ => Ok(None),
+        Err(_) => Ok(None),
     }
 }
 
@@ -50,19 +67,45 @@ fn words_of(rt: &(impl Env + AllocGlobal), alloc: Global) -> Result<Vec<String>,
     }
 }
 
+/// What to measure.
+#[derive(Clone, Copy)]
+enum Work {
+    Fetches(u64),
+    Turns(u32),
+}
+
+/// What two words ask to measure.
+fn work_of(name: &str, number: &str) -> Option<Work> {
+    match name {
+        "link" => Some(Work::Fetches(number.parse::<u64>().ok()?)),
+        "resume" => Some(Work::Turns(number.parse::<u32>().ok()?)),
+        _ => None,
+    }
+}
+
+/// What the words ask to measure, and on which image.
+fn plan_of(words: &[String]) -> Option<(Work, &'static [u8])> {
+    match words {
+        [name, number] => Some((work_of(name.as_str(), number.as_str())?, &MIPS_IMAGE[..])),
+        [name, number, target] if target.as_str() == "sparc" => {
+            Some((work_of(name.as_str(), number.as_str())?, &SPARC_IMAGE[..]))
+        }
+        _ => None,
+    }
+}
+
 fn main(rt: HostRuntime) -> io::Result<ExitCode> {
     let words = words_of(&rt, rt.alloc())?;
-    if let [first, number] = words.as_slice() {
-        if first.as_str() == "link" {
-            if let Ok(count) = number.as_str().parse::<u64>() {
-                if let Some(mut link) = link_of(rt.alloc())? {
-                    let answered = fetched(&mut link, count);
-                    println!(rt; "link {count} answered {answered}")?;
-                    return Ok(ExitCode::SUCCESS);
-                }
-            }
+    if let Some((work, image)) = plan_of(words.as_slice()) {
+        if let Some(mut link) = link_of(rt.alloc(), image)? {
+            let answered = match work {
+                Work::Fetches(count) => fetched(&mut link, count),
+                Work::Turns(turns) => resumed(&mut link, turns),
+            };
+            println!(rt; "answered {answered}")?;
+            return Ok(ExitCode::SUCCESS);
         }
     }
-    println!(rt; "link_bench link N")?;
+    println!(rt; "link_bench link|resume N [sparc]")?;
     Ok(ExitCode::from(2))
 }

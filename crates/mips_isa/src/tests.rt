@@ -2,7 +2,10 @@
 
 ghost use Rattle.std.specs.Prelude.{◌<◌};
 
-use crate::{Insn, Register, ShiftAmount, Target, decode, encode};
+use crate::{Insn, Register, ShiftAmount, decode, encode};
+use std::alloc::Global;
+use std::process::Abort;
+use std::test::Fail;
 
 fn r(number: u8) -> Register
     requires { number < 32 }
@@ -10,345 +13,198 @@ fn r(number: u8) -> Register
     Register::new(number)
 }
 
-/// One word for each instruction, as the GNU assembler writes it (docs/machines.md says how they were made).
-#[test]
-fn assembled_words(rt: HostRuntime) {
-    let rows = [
-        (
-            0x000628c0,
-            Insn::Sll {
-                rd: r(5),
-                rt: r(6),
-                shamt: ShiftAmount::new(3),
-            },
-        ),
-        (
-            0x00062fc2,
-            Insn::Srl {
-                rd: r(5),
-                rt: r(6),
-                shamt: ShiftAmount::new(31),
-            },
-        ),
-        (
-            0x00062c43,
-            Insn::Sra {
-                rd: r(5),
-                rt: r(6),
-                shamt: ShiftAmount::new(17),
-            },
-        ),
-        (
-            0x01283804,
-            Insn::Sllv {
-                rd: r(7),
-                rt: r(8),
-                rs: r(9),
-            },
-        ),
-        (
-            0x01283806,
-            Insn::Srlv {
-                rd: r(7),
-                rt: r(8),
-                rs: r(9),
-            },
-        ),
-        (
-            0x01283807,
-            Insn::Srav {
-                rd: r(7),
-                rt: r(8),
-                rs: r(9),
-            },
-        ),
-        (0x03e00008, Insn::Jr { rs: r(31) }),
-        (
-            0x0320f009,
-            Insn::Jalr {
-                rd: r(30),
-                rs: r(25),
-            },
-        ),
-        (0x0000000c, Insn::Syscall),
-        (0x0000000d, Insn::Break),
-        (0x00005810, Insn::Mfhi { rd: r(11) }),
-        (0x01800011, Insn::Mthi { rs: r(12) }),
-        (0x00006812, Insn::Mflo { rd: r(13) }),
-        (0x01c00013, Insn::Mtlo { rs: r(14) }),
-        (
-            0x01f00018,
-            Insn::Mult {
-                rs: r(15),
-                rt: r(16),
-            },
-        ),
-        (
-            0x02320019,
-            Insn::Multu {
-                rs: r(17),
-                rt: r(18),
-            },
-        ),
-        (
-            0x0274001a,
-            Insn::Div {
-                rs: r(19),
-                rt: r(20),
-            },
-        ),
-        (
-            0x02b6001b,
-            Insn::Divu {
-                rs: r(21),
-                rt: r(22),
-            },
-        ),
-        (
-            0x00430821,
-            Insn::Addu {
-                rd: r(1),
-                rs: r(2),
-                rt: r(3),
-            },
-        ),
-        (
-            0x00430823,
-            Insn::Subu {
-                rd: r(1),
-                rs: r(2),
-                rt: r(3),
-            },
-        ),
-        (
-            0x00430824,
-            Insn::And {
-                rd: r(1),
-                rs: r(2),
-                rt: r(3),
-            },
-        ),
-        (
-            0x00430825,
-            Insn::Or {
-                rd: r(1),
-                rs: r(2),
-                rt: r(3),
-            },
-        ),
-        (
-            0x00430826,
-            Insn::Xor {
-                rd: r(1),
-                rs: r(2),
-                rt: r(3),
-            },
-        ),
-        (
-            0x00430827,
-            Insn::Nor {
-                rd: r(1),
-                rs: r(2),
-                rt: r(3),
-            },
-        ),
-        (
-            0x0043082a,
-            Insn::Slt {
-                rd: r(1),
-                rs: r(2),
-                rt: r(3),
-            },
-        ),
-        (
-            0x0043082b,
-            Insn::Sltu {
-                rd: r(1),
-                rs: r(2),
-                rt: r(3),
-            },
-        ),
-        (
-            0x0480fffb,
-            Insn::Bltz {
-                rs: r(4),
-                offset: 0xfffb,
-            },
-        ),
-        (
-            0x04810003,
-            Insn::Bgez {
-                rs: r(4),
-                offset: 3,
-            },
-        ),
-        (
-            0x082af378,
-            Insn::J {
-                target: Target::new(0x2_af378),
-            },
-        ),
-        (
-            0x0c3ffffe,
-            Insn::Jal {
-                target: Target::new(0x3_ffffe),
-            },
-        ),
-        (
-            0x114b0001,
-            Insn::Beq {
-                rs: r(10),
-                rt: r(11),
-                offset: 1,
-            },
-        ),
-        (
-            0x158dfffe,
-            Insn::Bne {
-                rs: r(12),
-                rt: r(13),
-                offset: 0xfffe,
-            },
-        ),
-        (
-            0x19c00000,
-            Insn::Blez {
-                rs: r(14),
-                offset: 0,
-            },
-        ),
-        (
-            0x1de00007,
-            Insn::Bgtz {
-                rs: r(15),
-                offset: 7,
-            },
-        ),
-        (
-            0x26308000,
-            Insn::Addiu {
-                rt: r(16),
-                rs: r(17),
-                immediate: 0x8000,
-            },
-        ),
-        (
-            0x2a30ffff,
-            Insn::Slti {
-                rt: r(16),
-                rs: r(17),
-                immediate: 0xffff,
-            },
-        ),
-        (
-            0x2e307fff,
-            Insn::Sltiu {
-                rt: r(16),
-                rs: r(17),
-                immediate: 0x7fff,
-            },
-        ),
-        (
-            0x3230ffff,
-            Insn::Andi {
-                rt: r(16),
-                rs: r(17),
-                immediate: 0xffff,
-            },
-        ),
-        (
-            0x36308000,
-            Insn::Ori {
-                rt: r(16),
-                rs: r(17),
-                immediate: 0x8000,
-            },
-        ),
-        (
-            0x3a301234,
-            Insn::Xori {
-                rt: r(16),
-                rs: r(17),
-                immediate: 0x1234,
-            },
-        ),
-        (
-            0x3c12fedc,
-            Insn::Lui {
-                rt: r(18),
-                immediate: 0xfedc,
-            },
-        ),
-        (
-            0x8293ffff,
-            Insn::Lb {
-                rt: r(19),
-                base: r(20),
-                offset: 0xffff,
-            },
-        ),
-        (
-            0x8693fffe,
-            Insn::Lh {
-                rt: r(19),
-                base: r(20),
-                offset: 0xfffe,
-            },
-        ),
-        (
-            0x8e93fffc,
-            Insn::Lw {
-                rt: r(19),
-                base: r(20),
-                offset: 0xfffc,
-            },
-        ),
-        (
-            0x92930001,
-            Insn::Lbu {
-                rt: r(19),
-                base: r(20),
-                offset: 0x1,
-            },
-        ),
-        (
-            0x96930002,
-            Insn::Lhu {
-                rt: r(19),
-                base: r(20),
-                offset: 0x2,
-            },
-        ),
-        (
-            0xa2937fff,
-            Insn::Sb {
-                rt: r(19),
-                base: r(20),
-                offset: 0x7fff,
-            },
-        ),
-        (
-            0xa6938000,
-            Insn::Sh {
-                rt: r(19),
-                base: r(20),
-                offset: 0x8000,
-            },
-        ),
-        (
-            0xae930010,
-            Insn::Sw {
-                rt: r(19),
-                base: r(20),
-                offset: 0x10,
-            },
-        ),
-    ];
+/// One word for each instruction: the words are those that the GNU assembler writes, and beside them stands
+/// what it was given (docs/machines.md says how the table was made).
+static ASSEMBLED: [(u32, &str); 49] = [
+    (
+        0x000628c0,
+        "Sll { rd: Register { number: 5 }, rt: Register { number: 6 }, shamt: ShiftAmount { bits: 3 } }",
+    ),
+    (
+        0x00062fc2,
+        "Srl { rd: Register { number: 5 }, rt: Register { number: 6 }, shamt: ShiftAmount { bits: 31 } }",
+    ),
+    (
+        0x00062c43,
+        "Sra { rd: Register { number: 5 }, rt: Register { number: 6 }, shamt: ShiftAmount { bits: 17 } }",
+    ),
+    (
+        0x01283804,
+        "Sllv { rd: Register { number: 7 }, rt: Register { number: 8 }, rs: Register { number: 9 } }",
+    ),
+    (
+        0x01283806,
+        "Srlv { rd: Register { number: 7 }, rt: Register { number: 8 }, rs: Register { number: 9 } }",
+    ),
+    (
+        0x01283807,
+        "Srav { rd: Register { number: 7 }, rt: Register { number: 8 }, rs: Register { number: 9 } }",
+    ),
+    (0x03e00008, "Jr { rs: Register { number: 31 } }"),
+    (
+        0x0320f009,
+        "Jalr { rd: Register { number: 30 }, rs: Register { number: 25 } }",
+    ),
+    (0x0000000c, "Syscall"),
+    (0x0000000d, "Break"),
+    (0x00005810, "Mfhi { rd: Register { number: 11 } }"),
+    (0x01800011, "Mthi { rs: Register { number: 12 } }"),
+    (0x00006812, "Mflo { rd: Register { number: 13 } }"),
+    (0x01c00013, "Mtlo { rs: Register { number: 14 } }"),
+    (
+        0x01f00018,
+        "Mult { rs: Register { number: 15 }, rt: Register { number: 16 } }",
+    ),
+    (
+        0x02320019,
+        "Multu { rs: Register { number: 17 }, rt: Register { number: 18 } }",
+    ),
+    (
+        0x0274001a,
+        "Div { rs: Register { number: 19 }, rt: Register { number: 20 } }",
+    ),
+    (
+        0x02b6001b,
+        "Divu { rs: Register { number: 21 }, rt: Register { number: 22 } }",
+    ),
+    (
+        0x00430821,
+        "Addu { rd: Register { number: 1 }, rs: Register { number: 2 }, rt: Register { number: 3 } }",
+    ),
+    (
+        0x00430823,
+        "Subu { rd: Register { number: 1 }, rs: Register { number: 2 }, rt: Register { number: 3 } }",
+    ),
+    (
+        0x00430824,
+        "And { rd: Register { number: 1 }, rs: Register { number: 2 }, rt: Register { number: 3 } }",
+    ),
+    (
+        0x00430825,
+        "Or { rd: Register { number: 1 }, rs: Register { number: 2 }, rt: Register { number: 3 } }",
+    ),
+    (
+        0x00430826,
+        "Xor { rd: Register { number: 1 }, rs: Register { number: 2 }, rt: Register { number: 3 } }",
+    ),
+    (
+        0x00430827,
+        "Nor { rd: Register { number: 1 }, rs: Register { number: 2 }, rt: Register { number: 3 } }",
+    ),
+    (
+        0x0043082a,
+        "Slt { rd: Register { number: 1 }, rs: Register { number: 2 }, rt: Register { number: 3 } }",
+    ),
+    (
+        0x0043082b,
+        "Sltu { rd: Register { number: 1 }, rs: Register { number: 2 }, rt: Register { number: 3 } }",
+    ),
+    (
+        0x0480fffb,
+        "Bltz { rs: Register { number: 4 }, offset: 65531 }",
+    ),
+    (0x04810003, "Bgez { rs: Register { number: 4 }, offset: 3 }"),
+    (0x082af378, "J { target: Target { index: 2814840 } }"),
+    (0x0c3ffffe, "Jal { target: Target { index: 4194302 } }"),
+    (
+        0x114b0001,
+        "Beq { rs: Register { number: 10 }, rt: Register { number: 11 }, offset: 1 }",
+    ),
+    (
+        0x158dfffe,
+        "Bne { rs: Register { number: 12 }, rt: Register { number: 13 }, offset: 65534 }",
+    ),
+    (
+        0x19c00000,
+        "Blez { rs: Register { number: 14 }, offset: 0 }",
+    ),
+    (
+        0x1de00007,
+        "Bgtz { rs: Register { number: 15 }, offset: 7 }",
+    ),
+    (
+        0x26308000,
+        "Addiu { rt: Register { number: 16 }, rs: Register { number: 17 }, immediate: 32768 }",
+    ),
+    (
+        0x2a30ffff,
+        "Slti { rt: Register { number: 16 }, rs: Register { number: 17 }, immediate: 65535 }",
+    ),
+    (
+        0x2e307fff,
+        "Sltiu { rt: Register { number: 16 }, rs: Register { number: 17 }, immediate: 32767 }",
+    ),
+    (
+        0x3230ffff,
+        "Andi { rt: Register { number: 16 }, rs: Register { number: 17 }, immediate: 65535 }",
+    ),
+    (
+        0x36308000,
+        "Ori { rt: Register { number: 16 }, rs: Register { number: 17 }, immediate: 32768 }",
+    ),
+    (
+        0x3a301234,
+        "Xori { rt: Register { number: 16 }, rs: Register { number: 17 }, immediate: 4660 }",
+    ),
+    (
+        0x3c12fedc,
+        "Lui { rt: Register { number: 18 }, immediate: 65244 }",
+    ),
+    (
+        0x8293ffff,
+        "Lb { rt: Register { number: 19 }, base: Register { number: 20 }, offset: 65535 }",
+    ),
+    (
+        0x8693fffe,
+        "Lh { rt: Register { number: 19 }, base: Register { number: 20 }, offset: 65534 }",
+    ),
+    (
+        0x8e93fffc,
+        "Lw { rt: Register { number: 19 }, base: Register { number: 20 }, offset: 65532 }",
+    ),
+    (
+        0x92930001,
+        "Lbu { rt: Register { number: 19 }, base: Register { number: 20 }, offset: 1 }",
+    ),
+    (
+        0x96930002,
+        "Lhu { rt: Register { number: 19 }, base: Register { number: 20 }, offset: 2 }",
+    ),
+    (
+        0xa2937fff,
+        "Sb { rt: Register { number: 19 }, base: Register { number: 20 }, offset: 32767 }",
+    ),
+    (
+        0xa6938000,
+        "Sh { rt: Register { number: 19 }, base: Register { number: 20 }, offset: 32768 }",
+    ),
+    (
+        0xae930010,
+        "Sw { rt: Register { number: 19 }, base: Register { number: 20 }, offset: 16 }",
+    ),
+];
+
+/// The instruction of a word, as `Debug` writes it.
+fn text_of(alloc: Global, word: u32) -> Result<String, Fail> {
+    let Some(insn) = decode(word) else {
+        return Ok(String::new(alloc));
+    };
+    Ok(format!(in alloc; "{insn:?}")?)
+}
+
+/// Each word decodes to the instruction of its row, which encodes to it.
+fn all_decode(rt: &impl Abort, alloc: Global, rows: &[(u32, &str)]) -> Result<(), Fail> {
     for (word, insn) in rows {
-        let again = decode(word).map(|found| encode(found));
-        assert_eq!(rt; decode(word), Some(insn));
-        assert_eq!(rt; again, Some(word));
+        let text = text_of(alloc, *word)?;
+        assert_eq!(rt; text.as_str(), *insn);
+        assert_eq!(rt; decode(*word).map(|found| encode(found)), Some(*word));
     }
+    Ok(())
+}
+
+#[test]
+fn assembled_words(rt: HostRuntime) -> Result<(), Fail> {
+    all_decode(&rt, rt.alloc(), &ASSEMBLED)
 }
 
 #[test]

@@ -7,7 +7,7 @@ use ldb_words::{
     Event, FaultKind, Order, Outside, WindowFault, div_checked, extend_byte, extend_half,
     product_signed, rem_checked,
 };
-use machine_state::{CONTEXT_WORDS, FIRST_STACK_POINTER, Memory, Width, width_from};
+use machine_state::{CONTEXT_WORDS, FIRST_STACK_POINTER, MIPS, Memory, Width, width_from};
 use mips_isa::{Decoded, Insn, Register, Target, is_hazard};
 use obj_file::Image;
 use std::alloc::{AllocError, Global};
@@ -106,6 +106,15 @@ impl Machine {
             taken: 0,
             put: None,
         })
+    }
+
+    /// The target byte of this machine, which is always that of the MIPS.
+    pub fn target(&self) -> u8
+        ensures target { result ≡ self.now.target }
+        ensures mips { result ≡ MIPS }
+    {
+        let _machine = &self.registers;
+        MIPS
     }
 
     /// What a register holds.

@@ -1,10 +1,15 @@
 -- A wait, byte by byte.
-use Rattle.std.proofs.Common.{◌≡◌, ◌≢◌, ◌∙◌, sym, ap, subst, refl, ℕ, zero, suc, ◌+◌, ◌≤◌, ◌<◌, nat_eq, nat_le, ◌&&◌, not, is_none, is_some, List, [], ◌∷◌, ◌++◌, length, take, drop, Option, Some, None, Bool, true, false, arith}
+use Rattle.std.proofs.Common.{◌≡◌, ◌≢◌, ◌∙◌, sym, ap, subst, refl, ℕ, zero, suc, ◌+◌, ◌≤◌, ◌<◌, nat_eq, nat_le, ◌&&◌, not, is_none, is_some, List, [], ◌∷◌, ◌++◌, length, take, drop, Option, Some, None, Bool, true, false, if◌then◌else◌, arith}
 use Rattle.std.proofs.lemmas.Bool.Decides.{nat_tests}
 use Rattle.nub_wire.specs.declared.message.Msg.{Msg}
 use Rattle.nub_wire.specs.declared.link.Side.TheVariants.{First}
 use Rattle.nub_wire.specs.Spelling.{frame_of}
-use Rattle.mips_isa.specs.Loaded.{first_state}
+use Rattle.mips_isa.specs.Loaded as mips
+use Rattle.sparc_isa.specs.Loaded as sparc
+use Rattle.obj_file.specs.Image.{ImageFields}
+use Rattle.machine_state.specs.State.{MachineState}
+use Rattle.near_link.specs.Near.{loaded}
+use Rattle.machine_state.specs.declared.layout.TheConstants.{SPARC}
 use Rattle.nub_wire.specs.Stream.{Feeding}
 use Rattle.nub_wire.specs.Nub.{Host, turn_of}
 use Rattle.nub_wire.specs.Delivery.{Conduct, LinkSide, World, takes_bytes, is_roomy, LONGEST, ROOM, Reaches, Delivers, reaches, UntilAnswer, answered, runs_on, all_ready, Answers, WaitsOut, Waits, has_ready, used_up, without_ready, Receives}
@@ -123,6 +128,18 @@ pub shut_of : (o : Option ℕ) → is_some o ≡ false → o ≡ None
 shut_of None h = refl
 shut_of (Some n) h = cc
 
-pub given_zero : (entry : ℕ) (text statics : List ℕ) → (first_state entry text statics).given ≡ 0
-unfolding first_state
-given_zero entry text statics = refl
+chosen_given : (b : Bool) (m n : MachineState) → m.given ≡ 0 → n.given ≡ 0 → (if b then m else n).given ≡ 0
+chosen_given true m n h k = h
+chosen_given false m n h k = k
+
+mips_given : (entry : ℕ) (text statics : List ℕ) → (mips.first_state entry text statics).given ≡ 0
+unfolding mips.first_state
+mips_given entry text statics = refl
+
+sparc_given : (entry : ℕ) (text statics : List ℕ) → (sparc.first_state entry text statics).given ≡ 0
+unfolding sparc.first_state
+sparc_given entry text statics = refl
+
+pub given_zero : (i : ImageFields) → (loaded i).given ≡ 0
+unfolding loaded
+given_zero i = chosen_given (nat_eq i.target SPARC) _ _ (sparc_given i.entry i.text i.statics) (mips_given i.entry i.text i.statics)

@@ -1,70 +1,120 @@
 // The machine of an image.
 
-ghost use Rattle.std.specs.Prelude.{◌≡◌};
-ghost use Rattle.near_link.specs.Near.{near_behaviour};
+ghost use Rattle.std.specs.Prelude.{◌≡◌, IfOk};
+ghost use Rattle.near_link.specs.Near.{machine_in, loaded};
 
 use ldb_words::{Event, Outside, WindowFault};
-use machine_state::Target;
-use mips_sim::Machine;
-use std::marker::Model;
+use machine_state::{SPARC, Target};
+use obj_file::Image;
+use std::alloc::{AllocError, Global};
 
-/// A machine of a known target.
+/// A machine of either target.
 #[derive(Drop)]
-pub struct NearMachine {
-    machine: Machine,
-}
-
-impl Model for NearMachine {
-    ghost use Rattle.machine_state.specs.State.{MachineState};
-
-    ghost Value = { MachineState };
-
-    ghost view = { λ n. n.machine };
+pub enum NearMachine {
+    Mips(mips_sim::Machine),
+    Sparc(sparc_sim::Machine),
 }
 
 impl NearMachine {
-    /// This machine.
-    pub fn new(machine: Machine) -> NearMachine
-        ensures { result ≡ machine }
+    /// The machine of an image, by its target byte.
+    #[tactic(auto, unfolding(crate::specs::Near::loaded))]
+    pub fn new(alloc: Global, image: &Image) -> Result<NearMachine, AllocError>
+        ensures { IfOk result (λ n. machine_in n ≡ loaded image.now) }
     {
-        NearMachine { machine }
+        if image.target() == SPARC {
+            Ok(NearMachine::Sparc(sparc_sim::Machine::new(alloc, image)?))
+        } else {
+            Ok(NearMachine::Mips(mips_sim::Machine::new(alloc, image)?))
+        }
     }
 }
 
+// Each call asks the machine for its target first, since what it does is said by the target in its record.
 impl Target for NearMachine {
-    ghost state = { λ m. m };
+    ghost use Rattle.near_link.specs.Near.{machine_in, near_behaviour};
+
+    ghost state = { machine_in };
 
     ghost behaviour = { near_behaviour };
 
+    #[inline(always)]
     fn step(&mut self) -> Event {
-        self.machine.step()
+        match self {
+            NearMachine::Mips(mips) => {
+                let _target = mips.target();
+                mips.step()
+            }
+            NearMachine::Sparc(sparc) => {
+                let _target = sparc.target();
+                sparc.step()
+            }
+        }
     }
 
     fn read(&self, at: u32, width: u8) -> Result<u32, Outside> {
-        self.machine.read(at, width)
+        match self {
+            NearMachine::Mips(mips) => mips.read(at, width),
+            NearMachine::Sparc(sparc) => sparc.read(at, width),
+        }
     }
 
     fn write(&mut self, at: u32, width: u8, value: u32) -> Result<(), Outside> {
-        self.machine.write(at, width, value)
+        match self {
+            NearMachine::Mips(mips) => mips.write(at, width, value),
+            NearMachine::Sparc(sparc) => sparc.write(at, width, value),
+        }
     }
 
     fn give(&mut self, bytes: &[u8]) -> bool {
-        self.machine.give(bytes)
+        match self {
+            NearMachine::Mips(mips) => mips.give(bytes),
+            NearMachine::Sparc(sparc) => sparc.give(bytes),
+        }
     }
 
     fn written(&mut self) -> Option<u8> {
-        self.machine.written()
+        match self {
+            NearMachine::Mips(mips) => mips.written(),
+            NearMachine::Sparc(sparc) => sparc.written(),
+        }
     }
 
     fn save(&mut self) -> Result<(), WindowFault> {
-        self.machine.save()
+        match self {
+            NearMachine::Mips(mips) => {
+                let _target = mips.target();
+                mips.save()
+            }
+            NearMachine::Sparc(sparc) => {
+                let _target = sparc.target();
+                sparc.save()
+            }
+        }
     }
 
     fn restore(&mut self) {
-        self.machine.restore();
+        match self {
+            NearMachine::Mips(mips) => {
+                let _target = mips.target();
+                mips.restore();
+            }
+            NearMachine::Sparc(sparc) => {
+                let _target = sparc.target();
+                sparc.restore();
+            }
+        }
     }
 
     fn argument(&self) -> u32 {
-        self.machine.argument()
+        match self {
+            NearMachine::Mips(mips) => {
+                let _target = mips.target();
+                mips.argument()
+            }
+            NearMachine::Sparc(sparc) => {
+                let _target = sparc.target();
+                sparc.argument()
+            }
+        }
     }
 }

@@ -1,7 +1,6 @@
 // The link.
 
 ghost use Rattle.std.specs.Prelude.{◌≡◌, ◌≤◌, length, take, IfOk, vec_len};
-ghost use Rattle.machine_state.specs.declared.layout.TheConstants.{MIPS};
 ghost use Rattle.near_link.specs.Near.{near_conduct, first_world, HoldsOfOne};
 ghost use Rattle.nub_wire.specs.declared.link.Side.TheVariants.{First};
 ghost use Rattle.nub_wire.specs.Delivery.{fitting, side_of, on_side, with_sent, Waits, Receives};
@@ -9,7 +8,6 @@ ghost use Rattle.nub_wire.specs.Delivery.{fitting, side_of, on_side, with_sent, 
 use crate::machine::NearMachine;
 use crate::side::NearSide;
 use ldb_edge::Failed;
-use mips_sim::Machine;
 use nub_wire::{Entry, Link, Side};
 use obj_file::Image;
 use std::alloc::{AllocError, Global};
@@ -37,13 +35,13 @@ impl NearLink {
         images: &[Image],
         schedule: Vec<Entry>,
     ) -> Result<NearLink, AllocError>
-        requires one { HoldsOfOne (λ i. i.target ≡ MIPS) images.now }
+        requires one { length images.now ≡ 1 }
         requires unscheduled { vec_len schedule ≡ 0 }
         ensures { IfOk result (λ l. HoldsOfOne (λ i. l ≡ first_world i) images.now) }
     {
-        let machine = Machine::new(alloc, &images[0])?;
+        let machine = NearMachine::new(alloc, &images[0])?;
         Ok(NearLink {
-            first: NearSide::new(NearMachine::new(machine)),
+            first: NearSide::new(machine),
         })
     }
 

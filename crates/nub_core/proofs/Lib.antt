@@ -1,3 +1,5 @@
 pub mod Ends
+pub mod Outputs
+pub mod Replies
 pub mod Stretches
 pub mod Turns

@@ -4,5 +4,5 @@
 mod laws;
 mod nub;
 
-pub use laws::{turns_add, turns_stop};
+pub use laws::{replies_are_heard, turns_add, turns_stop};
 pub use nub::Nub;

@@ -3,4 +3,5 @@ pub mod Feeds
 pub mod Fronts
 pub mod LawsOfStreams
 pub mod Quiet
+pub mod Silence
 pub mod Streams

@@ -3,6 +3,7 @@ pub mod Feeding
 pub mod Front
 pub mod Nub
 pub mod Replies
+pub mod Silence
 pub mod Spelling
 pub mod Stream
 pub mod Delivery

@@ -6,6 +6,8 @@ ghost use Rattle.nub_wire.specs.Spelling.{MsgFits, frame_of};
 ghost use Rattle.nub_wire.specs.Stream.{Feeding};
 ghost use Rattle.nub_wire.specs.Feeding.{FeedsAll, Feeds, nothing_fed, Splits, Breaks, joined};
 ghost use Rattle.nub_wire.specs.declared.feeder.Fed.TheVariants as fed;
+ghost use Rattle.nub_wire.specs.Delivery.{Conduct};
+ghost use Rattle.nub_wire.specs.Silence.{NothingSaysQuiet, QuietGivesNothing};
 
 /// No frame begins another, and no two messages have one frame.
 pub fn one_message()
@@ -20,4 +22,11 @@ pub fn any_pieces()
     ensures bad { (pieces : List (List ℕ)) (messages : List Msg) (last new : Feeding) (piece : List ℕ) (at : ℕ) →
         FeedsAll nothing_fed pieces messages last → last.is_bad ≡ false → Feeds last piece (fed.BadFrame at) new → Breaks (joined pieces ++ piece) messages at }
     ensures only { (stream : List ℕ) (ms ns : List Msg) (xs ys : List ℕ) → Splits stream ms xs → Splits stream ns ys → (ms ≡ ns) × (xs ≡ ys) }
+{}
+
+/// A receive into a buffer that isn't empty gives nothing exactly where nothing is ready on that side and nothing will be
+/// until something is sent.
+pub fn quiet_until_sent()
+    ensures only { (c : Conduct) → NothingSaysQuiet c }
+    ensures stays { (c : Conduct) → QuietGivesNothing c }
 {}

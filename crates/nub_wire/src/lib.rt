@@ -15,7 +15,7 @@ mod tests;
 pub use encoding::encode;
 pub use ending::{Cause, ending_of, is_final, reply_of};
 pub use feeder::{Fed, Feeder};
-pub use laws::{any_pieces, one_message};
+pub use laws::{any_pieces, one_message, quiet_until_sent};
 pub use link::{Entry, Link, Side};
 pub use message::{Chunk, Ending, Msg, Reason, Size};
 pub use reply::{Heard, ends_reply, hear};

@@ -15,7 +15,10 @@ fn a_fetch_in_two_pieces(rt: HostRuntime) {
     let first = feeder.feed(&bytes[..5]);
     assert!(rt; matches!(&first, Fed::NotYet));
     let second = feeder.feed(&bytes[5..]);
-    assert!(rt; matches!(&second, Fed::Msg { used: 3, .. }));
+    let want = Size::Word;
+    assert!(rt;
+        matches!(&second, Fed::Msg { msg: Msg::Fetch { address: 0x1000_0000, size }, used: 3 } if *size == want)
+    );
 }
 
 /// Whether the last byte of these begins no frame, and none before, and whether that is for good.
@@ -30,46 +33,70 @@ fn is_refused_at_last(bytes: &[u8]) -> bool {
     begun && refused && stays
 }
 
+/// Fronts of frames whose last byte is a length that is not the tag's, or one that no frame has.
+const WRONG_LENGTHS: [&[u8]; 16] = [
+    &[5],
+    &[0, 0],
+    &[4, 2],
+    &[0, 7, 0x02],
+    &[0, 5, 0x02],
+    &[0, 2, 0x01],
+    &[0, 9, 0x03],
+    &[0, 4, 0x04],
+    &[0, 2, 0x05],
+    &[0, 1, 0x06],
+    &[0, 6, 0x81],
+    &[0, 2, 0x82],
+    &[0, 7, 0x84],
+    &[0, 1, 0x85],
+    &[0, 5, 0x87],
+    &[0, 2, 0x88],
+];
+
+/// The front of a frame, and the bytes that may come next.
+const FIELDS: [(&[u8], &[u8]); 7] = [
+    // tags of messages without a payload
+    (&[0, 1], &[0x01, 0x05, 0x82, 0x83, 0x88, 0x89]),
+    // tags of messages with a payload of four bytes, and of those that hold bytes
+    (&[0, 5], &[0x04, 0x06, 0x81, 0x85, 0x86]),
+    // widths
+    (&[0, 6, 0x02, 1, 2, 3, 4], &[1, 4]),
+    (&[0, 10, 0x03, 1, 2, 3, 4], &[1, 4]),
+    // reasons
+    (&[0, 6, 0x84], &[1, 2]),
+    // kinds
+    (&[0, 6, 0x87], &[1, 2, 3, 4, 5, 6, 7, 8]),
+    // the first byte of a length
+    (&[], &[0, 1, 2, 3, 4]),
+];
+
+/// Whether a front is refused at a byte exactly where it is none of these.
+fn is_refused_elsewhere(front: &[u8], good: &[u8], byte: u8) -> bool {
+    let mut feeder = Feeder::new();
+    let begun = matches!(&feeder.feed(front), Fed::NotYet);
+    let refused = matches!(&feeder.feed(&[byte]), Fed::BadFrame { at: 0 });
+    begun && refused == !good.contains(&byte)
+}
+
 #[test]
 fn out_of_range(rt: HostRuntime) {
-    let rows: [&[u8]; 28] = [
-        // lengths
-        &[5],
-        &[0, 0],
-        &[4, 2],
-        &[0, 7, 0x02],
-        &[0, 5, 0x02],
-        &[0, 2, 0x01],
-        &[0, 9, 0x03],
-        &[0, 4, 0x04],
-        &[0, 2, 0x05],
-        &[0, 1, 0x06],
-        &[0, 6, 0x81],
-        &[0, 2, 0x82],
-        &[0, 7, 0x84],
-        &[0, 1, 0x85],
-        &[0, 5, 0x87],
-        // tags
-        &[0, 1, 0x00],
-        &[0, 1, 0x07],
-        &[0, 1, 0x80],
-        &[0, 1, 0x8a],
-        // widths
-        &[0, 6, 0x02, 1, 2, 3, 4, 0],
-        &[0, 6, 0x02, 1, 2, 3, 4, 2],
-        &[0, 10, 0x03, 1, 2, 3, 4, 2],
-        &[0, 10, 0x03, 1, 2, 3, 4, 5],
-        // reasons
-        &[0, 6, 0x84, 0],
-        &[0, 6, 0x84, 3],
-        // kinds
-        &[0, 6, 0x87, 0],
-        &[0, 6, 0x87, 9],
-        &[0, 6, 0x87, 255],
-    ];
-    for row in rows {
+    for row in WRONG_LENGTHS {
         assert!(rt; is_refused_at_last(row));
     }
+    for (front, good) in FIELDS {
+        for byte in 0..=u8::MAX {
+            assert!(rt; is_refused_elsewhere(front, good, byte));
+        }
+    }
+}
+
+#[test]
+fn a_bad_frame_behind_a_message(rt: HostRuntime) {
+    let mut feeder = Feeder::new();
+    let first = feeder.feed(&[0, 1, 1, 0, 7, 2]);
+    assert!(rt; matches!(&first, Fed::Msg { used: 3, .. }));
+    let second = feeder.feed(&[0, 7, 2]);
+    assert!(rt; matches!(&second, Fed::BadFrame { at: 3 }));
 }
 
 /// Ten messages.
@@ -104,7 +131,7 @@ fn spell_again(feeder: &mut Feeder, piece: &[u8], spelled: &mut Vec<u8>) -> Resu
 }
 
 #[test]
-fn every_cut(rt: HostRuntime) -> Result<(), Fail> {
+fn nub_every_cut(rt: HostRuntime) -> Result<(), Fail> {
     for cut in 0..STREAM.len() {
         let mut feeder = Feeder::new();
         let mut spelled = Vec::new(rt.alloc());

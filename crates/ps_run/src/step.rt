@@ -311,8 +311,8 @@ pub fn step(core: &mut PsCore) -> Result<Progress, PsFault>
     ensures steps { Steps result core.new (step core.old) }
     ensures closed { closed_part core.new.store ≡ closed_part core.old.store }
 {
-    while let Some(item) = core.execution.get(0) {
-        match item {
+    while let Some(item) = core.execution.top() {
+        match *item {
             Item::Stopped => {
                 if core.operands.len() >= MOST_OPERANDS {
                     core.execution.clear();

@@ -6,6 +6,9 @@ use ps_store::{PsObj, PsStore};
 use std::alloc::{AllocError, Global};
 use std::process::Abort;
 
+/// The most steps of a text, but where a test says otherwise.
+const MOST_STEPS: u32 = 10_000_000;
+
 /// What a text leaves: the texts of the operands from the bottom, each behind a space, or the error's name, or `spent`.
 fn left(alloc: Global, text: &str, limit: u32) -> Result<Vec<u8>, AllocError> {
     let mut store = PsStore::new(alloc)?;
@@ -324,25 +327,69 @@ static GHOSTSCRIPT: [(&str, &str); 196] = [
     ("[ 1 1 10 { } for ] length", " 10"),
 ];
 
+/// The limits, at and one past the edge.
+static LIMITS: [(&str, &str); 12] = [
+    ("/f { 1 sub dup 0 gt { f 0 pop } if } def 999 f", " 0"),
+    (
+        "/f { 1 sub dup 0 gt { f 0 pop } if } def 1000 f",
+        " error execstackoverflow",
+    ),
+    (
+        "7 { 999999 array pop } repeat 999982 array",
+        " --nostringval--",
+    ),
+    (
+        "7 { 999999 array pop } repeat 999983 array",
+        " error limitcheck",
+    ),
+    ("16777216 string length", " 16777216"),
+    ("16777217 string", " error limitcheck"),
+    (
+        "1 dict dup begin 0 1 999999 { dup def } for 7 8 def length",
+        " 1000000",
+    ),
+    (
+        "1 dict begin 0 1 1000000 { dup def } for",
+        " error limitcheck",
+    ),
+    ("1000000 array length", " 1000000"),
+    ("1000001 array", " error limitcheck"),
+    ("1 1 100000 { } for pop pop pop 99996 { pop } repeat", " 1"),
+    ("1 1 100000 { } for 1", " error stackoverflow"),
+];
+
+/// The name of what the text `1 2 add`, of four steps, ends with where so many steps may be made.
+fn ends(alloc: Global, limit: u32) -> Result<Vec<u8>, AllocError> {
+    left(alloc, "1 2 add", limit)
+}
+
 #[test]
-fn ps_rows(rt: HostRuntime) -> Result<(), AllocError> {
-    for (text, want) in ROWS {
-        let got = left(rt.alloc(), text, 1_000_000)?;
-        assert_eq!(rt; got.as_slice(), want.as_bytes(), "at {text}");
-    }
+fn steps_at_their_limit_are_spent(rt: HostRuntime) -> Result<(), AllocError> {
+    assert_eq!(rt; ends(rt.alloc(), 4)?.as_slice(), " spent".as_bytes());
+    assert_eq!(rt; ends(rt.alloc(), 5)?.as_slice(), " 3".as_bytes());
     Ok(())
 }
 
 /// Each text leaves what stands beside it.
 fn all_leave(rt: &impl Abort, alloc: Global, rows: &[(&str, &str)]) -> Result<(), AllocError> {
     for (text, want) in rows {
-        let got = left(alloc, text, 1_000_000)?;
+        let got = left(alloc, text, MOST_STEPS)?;
         assert_eq!(rt; got.as_slice(), want.as_bytes(), "at {text}");
     }
     Ok(())
 }
 
 #[test]
+fn ps_rows(rt: HostRuntime) -> Result<(), AllocError> {
+    all_leave(&rt, rt.alloc(), &ROWS)
+}
+
+#[test]
 fn texts_leave_what_ghostscript_leaves(rt: HostRuntime) -> Result<(), AllocError> {
     all_leave(&rt, rt.alloc(), &GHOSTSCRIPT)
+}
+
+#[test]
+fn limits_hold_at_their_edges(rt: HostRuntime) -> Result<(), AllocError> {
+    all_leave(&rt, rt.alloc(), &LIMITS)
 }

@@ -57,6 +57,10 @@ holder_of s (d ∷ ds) key = if is_some (value_at (entries_of s d) key) then Som
 abbrev pub named : StoreState → List DictId → List ℕ → Option PsObj
 named s ds text = or_else (found_in s ds (NameKey text)) (option_map (λ n. Op n) (operator_number text))
 
+-- the value in the dictionaries under the key that an object is
+abbrev pub value_of_key : StoreState → List DictId → PsObj → Result (Option PsObj) PsError
+value_of_key s ds object = key_of s object >>= λ key. Ok (found_in s ds key)
+
 -- the value of a key: that of a name, or the one in the dictionaries
 abbrev pub valued : StoreState → List DictId → Key → Option PsObj
 valued s ds (NameKey text) = named s ds text

@@ -7,7 +7,7 @@ ghost use Rattle.ps_step.specs.Executing.{on_stack, on_composites, on_values, on
 
 use crate::fault::{PsError, PsFault};
 use crate::item::Item;
-use crate::keys::named;
+use crate::keys::name_found;
 use crate::machine::PsCore;
 use crate::operator::{
     CompositeOperator, ControlOperator, Operator, StackOperator, ValueOperator, operator_at,
@@ -120,6 +120,7 @@ impl PsCore {
     }
 
     /// A value is executed. An executable name is executed in the next step.
+    #[inline(always)]
     fn act(&mut self, x: PsObj) -> Result<Option<u16>, PsFault>
         ensures acts { Acts result self.new (acting x self.old) }
         ensures closed { closed_part self.new.store ≡ closed_part self.old.store }
@@ -135,17 +136,22 @@ impl PsCore {
     }
 
     /// A name is executed: its value is.
+    #[inline(always)]
     fn execute_name(&mut self, t: StringId) -> Result<Option<u16>, PsFault>
         ensures acts { Acts result self.new (naming (bytes_of self.old.store t) self.old) }
         ensures closed { closed_part self.new.store ≡ closed_part self.old.store }
     {
-        match named(&self.store, &self.dictionaries, t) {
+        match name_found(&self.store, &self.dictionaries, t) {
             Some(x) => self.act(x),
-            None => Err(PsFault::Error(PsError::Undefined)),
+            None => match self.store.operator_named(t) {
+                Some(number) => self.operate(number),
+                None => Err(PsFault::Error(PsError::Undefined)),
+            },
         }
     }
 
     /// An object is executed. The answer is the number of the dialect's operator that is asked for, if one is.
+    #[inline(always)]
     pub fn execute(&mut self, x: PsObj) -> Result<Option<u16>, PsFault>
         ensures acts { Acts result self.new (executing x self.old) }
         ensures closed { closed_part self.new.store ≡ closed_part self.old.store }
@@ -157,6 +163,7 @@ impl PsCore {
     }
 
     /// An object is met in a procedure or a text. One that is a procedure itself is pushed.
+    #[inline(always)]
     pub fn meet(&mut self, x: PsObj) -> Result<Option<u16>, PsFault>
         ensures acts { Acts result self.new (meeting x self.old) }
         ensures closed { closed_part self.new.store ≡ closed_part self.old.store }

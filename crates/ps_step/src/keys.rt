@@ -3,7 +3,7 @@
 ghost use Rattle.ps_store.specs.Store.{closed_part, bytes_of};
 ghost use Rattle.ps_store.specs.declared.key.Key.TheVariants.{Name as NameKey};
 ghost use Rattle.std.specs.Prelude.{◌≡◌};
-ghost use Rattle.ps_step.specs.Keys.{text_key, key_of, current, value_under, put_under, found_in, holder_of, named, meant_by, under};
+ghost use Rattle.ps_step.specs.Keys.{text_key, key_of, current, value_under, put_under, found_in, holder_of, named, value_of_key, meant_by, under};
 ghost use Rattle.ps_step.specs.Effects.{Stores};
 
 use crate::fault::{PsError, PsFault};
@@ -63,6 +63,17 @@ pub fn value_under(store: &PsStore, d: DictId, place: PsObj) -> Result<Option<Ps
     }
 }
 
+/// Puts a value of a dictionary under the key that an object is, which is made here.
+#[inline(never)]
+fn put_key(store: &mut PsStore, d: DictId, place: PsObj, value: PsObj) -> Result<(), PsFault>
+    ensures stores { Stores result store.old store.new (put_under store.old d place value) }
+    ensures closed { closed_part store.new ≡ closed_part store.old }
+{
+    let key = key_of(store, place)?;
+    store.dict_put(d, key, value)?;
+    Ok(())
+}
+
 /// Puts a value of a dictionary under the key that an object is.
 pub fn put_under(store: &mut PsStore, d: DictId, place: PsObj, value: PsObj) -> Result<(), PsFault>
     ensures stores { Stores result store.old store.new (put_under store.old d place value) }
@@ -76,15 +87,12 @@ pub fn put_under(store: &mut PsStore, d: DictId, place: PsObj, value: PsObj) -> 
             store.name_put(d, t, value)?;
             Ok(())
         }
-        _ => {
-            let key = key_of(store, place)?;
-            store.dict_put(d, key, value)?;
-            Ok(())
-        }
+        _ => put_key(store, d, place, value),
     }
 }
 
 /// The value of a name in the dictionaries, the topmost first.
+#[inline(always)]
 pub fn name_found(store: &PsStore, dictionaries: &Stack<DictId>, name: StringId) -> Option<PsObj>
     ensures { result ≡ found_in store.now dictionaries.now (NameKey (bytes_of store.now name)) }
 {
@@ -122,6 +130,7 @@ pub fn holder_of(store: &PsStore, dictionaries: &Stack<DictId>, key: &Key) -> Op
 }
 
 /// The value of a name: in the dictionaries, or else the operator of that name.
+#[inline(always)]
 pub fn named(store: &PsStore, dictionaries: &Stack<DictId>, name: StringId) -> Option<PsObj>
     ensures { result ≡ named store.now dictionaries.now (bytes_of store.now name) }
 {
@@ -132,6 +141,19 @@ pub fn named(store: &PsStore, dictionaries: &Stack<DictId>, name: StringId) -> O
             None => None,
         },
     }
+}
+
+/// The value in the dictionaries under the key that an object is, which is made here.
+#[inline(never)]
+fn value_of_key(
+    store: &PsStore,
+    dictionaries: &Stack<DictId>,
+    object: PsObj,
+) -> Result<Option<PsObj>, PsError>
+    ensures { result ≡ value_of_key store.now dictionaries.now object }
+{
+    let key = key_of(store, object)?;
+    Ok(key_found(store, dictionaries, &key))
 }
 
 /// What `load` gives for an object: the value of the key that it is.
@@ -149,10 +171,7 @@ pub fn meant_by(
             }
             Ok(named(store, dictionaries, t))
         }
-        _ => {
-            let key = key_of(store, object)?;
-            Ok(key_found(store, dictionaries, &key))
-        }
+        _ => value_of_key(store, dictionaries, object),
     }
 }
 

@@ -64,6 +64,7 @@ impl PsCore {
     }
 
     /// Puts an object on top of the operands.
+    #[inline(always)]
     pub fn push(&mut self, x: PsObj) -> Result<(), PsFault>
         ensures does { Does result self.old self.new (pushing x self.old) }
         ensures kept { OnErr result (self.new ≡ self.old) }
@@ -77,6 +78,7 @@ impl PsCore {
     }
 
     /// Puts an item on top of the execution stack.
+    #[inline(always)]
     pub(crate) fn schedule_item(&mut self, item: Item) -> Result<(), PsFault>
         ensures does { Does result self.old self.new (scheduling item self.old) }
         ensures kept { OnErr result (self.new ≡ self.old) }
@@ -90,6 +92,7 @@ impl PsCore {
     }
 
     /// Enters a procedure. An empty one has nothing to do.
+    #[inline(always)]
     pub fn call(&mut self, a: ArrayId) -> Result<(), PsFault>
         ensures does { Does result self.old self.new (calling a self.old) }
         ensures closed { closed_part self.new.store ≡ closed_part self.old.store }

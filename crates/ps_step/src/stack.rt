@@ -1,6 +1,7 @@
 //! Stacks, which contracts see as lists with the topmost item first.
 
 ghost use Rattle.std.specs.Prelude.{◌≡◌, ◌<◌, ◌+◌, ◌-◌, ◌≤◌, OnOk, OnErr, IfNone, IfOk, List, [], ◌∷◌, ◌++◌, length, reverse, take, drop, slice_get, slice_index_or, option_to_list};
+ghost use Rattle.std.specs.Option.{option_copied};
 
 use std::alloc::{AllocError, Global};
 use std::marker::Model;
@@ -91,6 +92,14 @@ impl<T: Copy> Stack<T> {
         } else {
             None
         }
+    }
+
+    /// The topmost item.
+    #[inline(always)]
+    pub fn top(&self) -> Option<&T>
+        ensures { option_copied result ≡ slice_get self.now 0 }
+    {
+        self.items.last()
     }
 
     /// The item with so many above it, which is there.

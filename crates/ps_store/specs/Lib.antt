@@ -5,6 +5,7 @@ pub mod Operators
 pub mod Key
 pub mod KeyLaws
 pub mod Entries
+pub mod Hints
 pub mod Held
 pub mod Cut
 pub mod StoreState

@@ -172,6 +172,16 @@ impl Key {
         }
     }
 
+    /// Whether it is the name of a query.
+    pub fn is_name(&self, name: NameQuery<'_>) -> bool
+        ensures { result ≡ same_key (NameKey name.entry.text.now) self.now }
+    {
+        match self {
+            Key::Name(text) => name.hash == text.hash() && name.text == text.as_slice(),
+            _ => false,
+        }
+    }
+
     /// A copy, which takes no memory.
     pub fn copy(&self) -> Key
         ensures { result ≡ self.now }

@@ -1,6 +1,7 @@
 //! The shared composite objects of a PostScript interpreter: arrays, dictionaries and strings.
 #![tactic(auto)]
 
+mod bucket;
 mod entries;
 mod fault;
 mod hashed;

@@ -1,14 +1,17 @@
 //! The objects of one part of a store.
 
 ghost use Rattle.ps_store.specs.Cut.{mark_of, cut, IsMark};
-ghost use Rattle.std.specs.Prelude.{◌≡◌, ◌<◌, ◌+◌, ◌≤◌, ◌↔◌, IsSome, IfOk, OnOk, OnErr, None, List, [], ◌∷◌, ◌++◌, length, slice_set, slice_get, slice_index_or, take, is_some, IfSome};
+ghost use Rattle.std.specs.Prelude.{ℕ, ◌≡◌, ◌<◌, ◌+◌, ◌≤◌, ◌↔◌, IsSome, IfOk, OnOk, OnErr, None, List, [], ◌∷◌, ◌++◌, length, slice_set, slice_get, slice_index_or, take, is_some, IfSome};
 ghost use Rattle.ps_store.specs.declared.key.Key.TheVariants.{Name as NameKey};
 ghost use Rattle.ps_store.specs.Entries.{value_at, with_value};
+ghost use Rattle.ps_store.specs.Hints.{bucket_of};
 ghost use Rattle.ps_store.specs.Operators.{operator_number};
+ghost use Rattle.std.specs.Bool.{OnTrue};
 ghost use Rattle.ps_store.specs.Overwritten.{overwritten};
 ghost use Rattle.indexmap.specs.IndexMap.{set_value_at};
 ghost use Rattle.ps_store.specs.declared.object.PsObj.{PsObj};
 
+use crate::bucket::bucket_of;
 use crate::entries::Entries;
 use crate::key::{Key, NameQuery};
 use crate::object::{Mark, PsObj};
@@ -87,6 +90,26 @@ impl Objects {
         }
     }
 
+    /// The bucket of the name that the bytes of a string are.
+    pub fn bucket(&self, index: u32) -> u8
+        ensures { result ≡ bucket_of (slice_index_or self.now.strings index []) }
+    {
+        match self.strings.get(index as usize) {
+            Some(bytes) => bytes.bucket(),
+            None => bucket_of(&[]),
+        }
+    }
+
+    /// Whether it is certain that no key of a dictionary is a name of a bucket.
+    pub fn lacks(&self, index: u32, bucket: u8) -> bool
+        ensures { OnTrue result ((text : List ℕ) → bucket_of text ≡ bucket → value_at (slice_index_or self.now.dicts index []) (NameKey text) ≡ None) }
+    {
+        match self.dicts.get(index as usize) {
+            Some(entries) => entries.lacks(bucket),
+            None => true,
+        }
+    }
+
     /// The bytes of a string, none where there is no such string.
     pub fn bytes(&self, index: u32) -> &[u8]
         ensures { result.now ≡ slice_index_or self.now.strings index [] }
@@ -156,12 +179,22 @@ impl Objects {
         }
     }
 
-    /// The value under a name of a dictionary, none where there is no such dictionary.
-    pub fn name_value(&self, index: u32, name: NameQuery<'_>) -> Option<PsObj>
+    /// The value under a name of this bucket in a dictionary, none where there is no such dictionary.
+    pub fn name_value(&self, index: u32, name: NameQuery<'_>, bucket: u8) -> Option<PsObj>
         ensures { result ≡ value_at (slice_index_or self.now.dicts index []) (NameKey name.entry.text.now) }
     {
         match self.dicts.get(index as usize) {
-            Some(entries) => entries.get_name(name),
+            Some(entries) => entries.get_name(name, bucket),
+            None => None,
+        }
+    }
+
+    /// The same under a name whose bucket is not known.
+    pub fn text_value(&self, index: u32, name: NameQuery<'_>) -> Option<PsObj>
+        ensures { result ≡ value_at (slice_index_or self.now.dicts index []) (NameKey name.entry.text.now) }
+    {
+        match self.dicts.get(index as usize) {
+            Some(entries) => entries.search(name),
             None => None,
         }
     }
@@ -178,14 +211,14 @@ impl Objects {
         }
     }
 
-    /// The place of a name of a dictionary, none where there is no such dictionary.
-    pub fn place_of_name(&self, index: u32, name: NameQuery<'_>) -> Option<usize>
+    /// The place of a name of this bucket in a dictionary, none where there is no such dictionary.
+    pub fn place_of_name(&self, index: u32, name: NameQuery<'_>, bucket: u8) -> Option<usize>
         ensures found { is_some result ≡ is_some (value_at (slice_index_or self.now.dicts index []) (NameKey name.entry.text.now)) }
         ensures place { IfSome result (λ i. (value : PsObj) → with_value (slice_index_or self.now.dicts index []) (NameKey name.entry.text.now) value ≡ set_value_at (slice_index_or self.now.dicts index []) i value) }
         ensures within { IfSome result (λ i. i < length (slice_index_or self.now.dicts index [])) }
     {
         match self.dicts.get(index as usize) {
-            Some(entries) => entries.place_of_name(name),
+            Some(entries) => entries.place_of_name(name, bucket),
             None => None,
         }
     }

@@ -49,6 +49,7 @@ const MOST_UNITS: usize = 8_000_000;
 impl PsStore {
     ghost use Rattle.ps_store.specs.declared.key.Key.TheVariants.{Name as NameKey};
     ghost use Rattle.ps_store.specs.Entries.{value_at, with_value};
+    ghost use Rattle.ps_store.specs.Hints.{bucket_of};
     ghost use Rattle.ps_store.specs.Operators.{operator_number};
     ghost use Rattle.ps_store.specs.Cut.{mark_of, cut, IsMark};
     ghost use Rattle.ps_store.specs.Store.{KeepsClosed, is_deferred, held, with_held, with_entries, elements_of, entries_of, bytes_of, is_closed, has_room, making_array, making_nulls, writing_elements, putting_element, making_dict, making_text, making_string, making_zeros, making_name, text_units, writing_bytes, putting_value, putting_under_text, new_store, Does, Changes, closed_part};
@@ -338,18 +339,38 @@ impl PsStore {
         self.held(d.part).value(d.index, key)
     }
 
-    /// The value of a dictionary under the name that a text of the store is.
+    /// The bucket of the name that a text of the store is.
+    fn bucket(&self, name: StringId) -> u8
+        ensures { result ≡ bucket_of (bytes_of self.now name) }
+    {
+        self.held(name.part).bucket(name.index)
+    }
+
+    /// The value of a dictionary under the name that a text of the store is. Where no key has the name's bucket, as with
+    /// an operator's name that is not a key, it takes no search.
+    #[inline(always)]
     pub fn name_get(&self, d: DictId, name: StringId) -> Option<PsObj>
         ensures { result ≡ value_at (entries_of self.now d) (NameKey (bytes_of self.now name)) }
     {
-        self.held(d.part).name_value(d.index, self.query(name))
+        if self.held(d.part).lacks(d.index, self.bucket(name)) {
+            return None;
+        }
+        self.name_search(d, name)
+    }
+
+    /// The same, by a search.
+    fn name_search(&self, d: DictId, name: StringId) -> Option<PsObj>
+        ensures { result ≡ value_at (entries_of self.now d) (NameKey (bytes_of self.now name)) }
+    {
+        self.held(d.part)
+            .name_value(d.index, self.query(name), self.bucket(name))
     }
 
     /// The value of a dictionary under the name with these characters.
     pub fn text_get(&self, d: DictId, text: &[u8]) -> Option<PsObj>
         ensures { result ≡ value_at (entries_of self.now d) (NameKey text.now) }
     {
-        self.held(d.part).name_value(d.index, NameQuery::new(text))
+        self.held(d.part).text_value(d.index, NameQuery::new(text))
     }
 
     /// How many pairs a dictionary has.
@@ -433,11 +454,24 @@ impl PsStore {
         if self.is_closed_dict(d) {
             return Err(StoreFault::ReadOnly);
         }
-        if let Some(at) = self.held(d.part).place_of_name(d.index, query) {
+        let bucket = self.bucket(name);
+        if let Some(at) = self.held(d.part).place_of_name(d.index, query, bucket) {
             self.replace_value(d, at, value);
             return Ok(());
         }
-        match Key::of_query(query) {
+        self.add_name(d, name, value)
+    }
+
+    /// Puts a value under a new name of a dictionary that is not closed. Its key is made here, apart from where names are
+    /// replaced.
+    #[inline(never)]
+    fn add_name(&mut self, d: DictId, name: StringId, value: PsObj) -> Result<(), StoreFault>
+        requires new { is_some (value_at (entries_of self.old d) (NameKey (bytes_of self.old name))) ≡ false }
+        requires open { is_closed d.part d.index self.old.closed.dicts ≡ false }
+        ensures does { Does result self.old self.new (putting_under_text self.old d name value) }
+        ensures closed { closed_part self.new ≡ closed_part self.old }
+    {
+        match Key::of_query(self.query(name)) {
             Some(key) => self.add_value(d, key, value),
             None => Err(StoreFault::Limit),
         }

@@ -2,10 +2,12 @@
 
 ghost use Rattle.ps_store.specs.declared.object.PsObj.{PsObj};
 ghost use Rattle.ps_store.specs.Hashed.{text_hash};
+ghost use Rattle.ps_store.specs.Hints.{bucket_of};
 ghost use Rattle.ps_store.specs.Operators.{operator_number};
 ghost use Rattle.ps_store.specs.Overwritten.{overwritten};
 ghost use Rattle.std.specs.Prelude.{◌≡◌, ◌<◌, ◌+◌, ◌≤◌, IfOk, List, ◌++◌, length, slice_set, take, drop, replicate, bytes_eq};
 
+use crate::bucket::bucket;
 use crate::hashed::text_hash;
 use crate::key::NameQuery;
 use crate::object::PsObj;
@@ -71,28 +73,31 @@ impl Elements {
     }
 }
 
-/// The bytes of a string, or the characters of a name, with their hash and the operator of that name.
+/// The bytes of a string, or the characters of a name, with their hash, the operator of that name, and its bucket.
 #[derive(Drop)]
 pub struct Characters {
     bytes: Vec<u8>,
     hash: u64,
     operator: Option<u16>,
+    bucket: u8,
 }
 
 impl Model for Characters {
     ghost use Rattle.std.specs.Prelude.{List, ℕ, ◌≡◌};
     ghost use Rattle.ps_store.specs.Hashed.{text_hash};
+    ghost use Rattle.ps_store.specs.Hints.{bucket_of};
     ghost use Rattle.ps_store.specs.Operators.{operator_number};
 
     ghost Value = { List ℕ };
 
     ghost view = { λ b. b.bytes.items };
 
-    ghost invariant = { λ b. (b.hash ≡ text_hash b.bytes.items) × (b.operator ≡ operator_number b.bytes.items) };
+    ghost invariant = { λ b. (b.hash ≡ text_hash b.bytes.items) × (b.operator ≡ operator_number b.bytes.items) × (b.bucket ≡ bucket_of b.bytes.items) };
 }
 
 impl Characters {
     /// These bytes.
+    #[tactic(auto, unfolding(crate::specs::Hints::bucket_of))]
     fn of(bytes: Vec<u8>) -> Characters
         ensures { result ≡ bytes.items }
     {
@@ -102,6 +107,7 @@ impl Characters {
             bytes,
             hash,
             operator,
+            bucket: bucket(hash, operator),
         }
     }
 
@@ -145,7 +151,15 @@ impl Characters {
         self.operator
     }
 
+    /// The bucket of the name.
+    pub fn bucket(&self) -> u8
+        ensures { result ≡ bucket_of self.now }
+    {
+        self.bucket
+    }
+
     /// Puts bytes from a place on.
+    #[tactic(auto, unfolding(crate::specs::Hints::bucket_of))]
     pub fn write(&mut self, at: usize, bytes: &[u8])
         requires { at + length bytes.now ≤ length self.old }
         ensures { self.new ≡ overwritten self.old at bytes.now }
@@ -153,5 +167,6 @@ impl Characters {
         self.bytes[at..at + bytes.len()].copy_from_slice(bytes);
         self.hash = text_hash(self.bytes.as_slice());
         self.operator = operator_number(self.bytes.as_slice());
+        self.bucket = bucket(self.hash, self.operator);
     }
 }

@@ -7,6 +7,8 @@ mod program;
 mod target;
 #[cfg(test)]
 mod tests;
+#[cfg(test)]
+mod vectors;
 mod windows;
 
 pub use machine::Machine;

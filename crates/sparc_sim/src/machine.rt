@@ -6,7 +6,7 @@ ghost use Rattle.std.specs.Prelude.{◌≡◌, ◌<◌, ◌*◌, ◌⊎◌, is_o
 
 use crate::windows::{REGISTERS, place_of, window_above, window_below, window_place};
 use ldb_words::{Event, FaultKind, Order, Outside, extend_byte, extend_half, product_signed};
-use machine_state::{FIRST_STACK_POINTER, Memory, Width, width_from};
+use machine_state::{FIRST_STACK_POINTER, Memory, SPARC, Width, width_from};
 use obj_file::Image;
 use sparc_isa::{
     Condition, Decoded, Displacement22, Displacement30, Insn, Operand, Register, ShiftOperand,
@@ -113,6 +113,15 @@ impl Machine {
             put: None,
             slots,
         })
+    }
+
+    /// The target byte of this machine, which is always that of the SPARC.
+    pub fn target(&self) -> u8
+        ensures target { result ≡ self.now.target }
+        ensures sparc { result ≡ SPARC }
+    {
+        let _machine = &self.registers;
+        SPARC
     }
 
     // ---- registers and operands

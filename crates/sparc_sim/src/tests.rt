@@ -1,10 +1,11 @@
-// Programs of a few words, and results of an emulator (docs/sparc.md says how the tables were made).
+// Programs of a few words.
 
 use crate::Machine;
 use ldb_words::{Event, FaultKind};
-use machine_state::{CONTEXT, DATA, SPARC, TEXT};
+use machine_state::{CONTEXT, SPARC, TEXT};
 use obj_file::read_image;
 use std::alloc::Global;
+use std::process::Abort;
 
 const WENT: Option<Event> = Some(Event::Went);
 
@@ -47,12 +48,12 @@ fn after(machine: &mut Machine, words: &[u32], steps: u32) -> Option<Event> {
 }
 
 /// Where the word of the context block at an index stands.
-fn block_address(index: u32) -> u32 {
+pub fn block_address(index: u32) -> u32 {
     CONTEXT.wrapping_add(index.wrapping_mul(4))
 }
 
 /// The word of the context block at an index, once it was saved.
-fn context(machine: &mut Machine, index: u32) -> Option<u32> {
+pub fn context(machine: &mut Machine, index: u32) -> Option<u32> {
     let _flushed = machine.save();
     machine.read(block_address(index), 4).ok()
 }
@@ -174,79 +175,80 @@ fn sparc_hazards(rt: HostRuntime) {
     );
 }
 
-/// Each trap, with its argument and result in `%o0`.
+/// Pause and exit, with pc past them and the exit's argument.
 #[test]
 fn requests(rt: HostRuntime) {
-    let alloc = rt.alloc();
-    let Some(mut machine) = machine_of(alloc, &[0x9010_2007, 0x91d0_2014, 0x9010_2007, 0x91d0_2013])
-    else {
+    let words = [0x9010_2007, 0x91d0_2014, 0x9010_2007, 0x91d0_2013];
+    let Some(mut machine) = machine_of(rt.alloc(), &words) else {
         panic!(rt; "no machine");
     };
-    assert_eq!(rt; context(&mut machine, 14), Some(0x7ffe_ffa0));
-    assert_eq!(rt; context(&mut machine, 35), Some(TEXT + 4));
-    assert_eq!(rt; machine.step(), Event::Went);
-    assert_eq!(rt; machine.step(), Event::Request(4));
-    assert_eq!(rt; context(&mut machine, 34), Some(0x0040_0008));
-    assert_eq!(rt; machine.step(), Event::Went);
-    assert_eq!(rt; machine.step(), Event::Request(3));
+    let steps = [WENT, Some(Event::Request(4)), WENT, Some(Event::Request(3))];
+    all_step(&rt, &mut machine, &steps);
+    assert_eq!(rt; context(&mut machine, 34), Some(0x0040_0010));
     assert_eq!(rt; machine.argument(), 7);
-    // ta 17; ta 18; ta 17; ta 18
-    let Some(mut echo) = machine_of(alloc, &[0x91d02011, 0x91d02012, 0x91d02011, 0x91d02012]) else {
-        panic!(rt; "no machine");
-    };
-    assert!(rt; echo.give(b"A"));
-    assert_eq!(rt; echo.step(), Event::Request(1));
-    assert_eq!(rt; echo.argument(), 65);
-    assert_eq!(rt; echo.step(), Event::Request(2));
-    assert_eq!(rt; echo.written(), Some(65));
-    assert_eq!(rt; echo.written(), None);
-    assert_eq!(rt; echo.step(), Event::Request(1));
-    assert_eq!(rt; echo.argument(), 0xffff_ffff);
-    assert_eq!(rt; echo.step(), Event::Request(2));
-    assert_eq!(rt; echo.written(), Some(255));
-    assert_eq!(rt; echo.argument(), 255);
-    // ta 1; ta 21; ta 16; ta 22; tn 22
-    let rows = [
-        (0x91d02001, Event::Break),
-        (0x91d02015, Event::Request(5)),
-        (0x91d02010, Event::Fault(FaultKind::Request)),
-        (0x91d02016, Event::Fault(FaultKind::Request)),
-        (0x81d02016, Event::Went),
-    ];
-    for (word, event) in rows {
-        assert_eq!(rt; after(&mut machine, &[word], 1), Some(event));
+}
+
+/// What each of some steps does.
+fn all_step(rt: &impl Abort, machine: &mut Machine, events: &[Option<Event>]) {
+    for event in events {
+        assert_eq!(rt; Some(machine.step()), *event);
     }
 }
 
-/// A fault of each kind but those above; a spill and a fill that have no place.
+/// Input and its end, each put out again: ta 17; ta 18; ta 17; ta 18.
 #[test]
-fn faults(rt: HostRuntime) {
-    let alloc = rt.alloc();
-    let Some(mut machine) = machine_of(alloc, &[0; 8]) else {
+fn echoes(rt: HostRuntime) {
+    let words = [0x91d02011, 0x91d02012, 0x91d02011, 0x91d02012];
+    let Some(mut echo) = machine_of(rt.alloc(), &words) else {
         panic!(rt; "no machine");
     };
-    // udiv %g0,%g0,%g1; ld [%g0],%g1; ld [%sp+2],%g1; st %g1,[%sp+2]; sth %g1,[%sp+1]; unimp 0; jmpl %sp+2,%g1
-    let rows = [
-        (0x82700000, FaultKind::Division),
-        (0xc2000000, FaultKind::Outside),
-        (0xc203a002, FaultKind::Align),
-        (0xc223a002, FaultKind::Align),
-        (0xc233a001, FaultKind::Align),
-        (0x00000000, FaultKind::Illegal),
-        (0x83c3a002, FaultKind::Align),
-    ];
-    for (word, kind) in rows {
-        assert_eq!(rt; after(&mut machine, &[word], 1), Some(Event::Fault(kind)));
+    assert!(rt; echo.give(b"A"));
+    for byte in [65, 0xffff_ffff] {
+        assert_eq!(rt; echo.step(), Event::Request(1));
+        assert_eq!(rt; echo.argument(), byte);
+        assert_eq!(rt; echo.step(), Event::Request(2));
+        assert_eq!(rt; echo.argument(), byte & 255);
+        assert_eq!(rt; echo.written(), Some((byte & 255) as u8));
+        assert_eq!(rt; echo.written(), None);
     }
-    // a store to the text
+}
+
+/// A word, and the event of its step: ta 1; ta 21; ta 16; ta 22; tn 22; then udiv %g0,%g0,%g1; ld [%g0],%g1;
+/// ld [%sp+2],%g1; st %g1,[%sp+2]; sth %g1,[%sp+1]; unimp 0; jmpl %sp+2,%g1; and restore, whose window is to be
+/// filled from %i6, which is 0.
+static EVENTS: [(u32, Event); 13] = [
+    (0x91d02001, Event::Break),
+    (0x91d02015, Event::Request(5)),
+    (0x91d02010, Event::Fault(FaultKind::Request)),
+    (0x91d02016, Event::Fault(FaultKind::Request)),
+    (0x81d02016, Event::Went),
+    (0x82700000, Event::Fault(FaultKind::Division)),
+    (0xc2000000, Event::Fault(FaultKind::Outside)),
+    (0xc203a002, Event::Fault(FaultKind::Align)),
+    (0xc223a002, Event::Fault(FaultKind::Align)),
+    (0xc233a001, Event::Fault(FaultKind::Align)),
+    (0x00000000, Event::Fault(FaultKind::Illegal)),
+    (0x83c3a002, Event::Fault(FaultKind::Align)),
+    (0x81e80000, Event::Fault(FaultKind::Window)),
+];
+
+/// Each word alone has the event of its row.
+fn all_happen(rt: &impl Abort, machine: &mut Machine, rows: &[(u32, Event)]) {
+    for (word, event) in rows {
+        assert_eq!(rt; after(machine, &[*word], 1), Some(*event), "{word:08x}");
+    }
+}
+
+/// An event of each kind; a store to the text, and a spill that has no place.
+#[test]
+fn events(rt: HostRuntime) {
+    let Some(mut machine) = machine_of(rt.alloc(), &[0; 8]) else {
+        panic!(rt; "no machine");
+    };
+    all_happen(&rt, &mut machine, &EVENTS);
     assert_eq!(rt;
         after(&mut machine, &[0x03001000, 0xc2204000], 2),
         Some(Event::Fault(FaultKind::Outside))
-    );
-    // restore, whose window is to be filled from %i6, which is 0
-    assert_eq!(rt;
-        after(&mut machine, &[0x81e8_0000], 1),
-        Some(Event::Fault(FaultKind::Window))
     );
     // seven times save %g0, 0, %sp after mov 0, %sp: the seventh is to spill window 0 to 0
     let mut words = [0x81e0_0000; 8];
@@ -285,498 +287,4 @@ fn flushes(rt: HostRuntime) {
     assert!(rt; crooked.flush_windows().is_err());
     assert!(rt; crooked.save().is_err());
     assert_eq!(rt; crooked.read(CONTEXT + 120, 4).ok(), Some(2));
-}
-
-/// Sets `%g1`, `%g2`, Y, pc and next pc, and does one step.
-fn one_step(machine: &mut Machine, y: u32, a: u32, b: u32) -> Event {
-    for (index, value) in [(1, a), (2, b), (32, y), (34, TEXT), (35, TEXT + 4)] {
-        let _written = machine.write(block_address(index), 4, value);
-    }
-    machine.restore();
-    machine.step()
-}
-
-/// Arithmetic: the word of `op %g1, %g2, %g3`; then rows of Y, `%g1`, `%g2`, and what an emulator leaves in
-/// `%g3` and Y.
-#[test]
-fn emulated_arithmetic(rt: HostRuntime) {
-    let alloc = rt.alloc();
-    let Some(mut machine) = machine_of(alloc, &[0]) else {
-        panic!(rt; "no machine");
-    };
-    let rows = [
-        (
-            0x86004002, 0x00000055, 0x00000000, 0x00000000, 0x00000000, 0x00000055,
-        ),
-        (
-            0x86004002, 0x00000055, 0x00000001, 0x00000002, 0x00000003, 0x00000055,
-        ),
-        (
-            0x86004002, 0x00000055, 0x00000007, 0xffffffff, 0x00000006, 0x00000055,
-        ),
-        (
-            0x86004002, 0x00000055, 0x80000000, 0xffffffff, 0x7fffffff, 0x00000055,
-        ),
-        (
-            0x86004002, 0x00000055, 0x7fffffff, 0x80000000, 0xffffffff, 0x00000055,
-        ),
-        (
-            0x86004002, 0x00000055, 0x12345678, 0x9abcdef1, 0xacf13569, 0x00000055,
-        ),
-        (
-            0x86004002, 0x00000055, 0xffffffff, 0x00000001, 0x00000000, 0x00000055,
-        ),
-        (
-            0x86004002, 0x00000055, 0x00000005, 0x00000005, 0x0000000a, 0x00000055,
-        ),
-        (
-            0x86084002, 0x00000055, 0x00000000, 0x00000000, 0x00000000, 0x00000055,
-        ),
-        (
-            0x86084002, 0x00000055, 0x00000001, 0x00000002, 0x00000000, 0x00000055,
-        ),
-        (
-            0x86084002, 0x00000055, 0x00000007, 0xffffffff, 0x00000007, 0x00000055,
-        ),
-        (
-            0x86084002, 0x00000055, 0x80000000, 0xffffffff, 0x80000000, 0x00000055,
-        ),
-        (
-            0x86084002, 0x00000055, 0x7fffffff, 0x80000000, 0x00000000, 0x00000055,
-        ),
-        (
-            0x86084002, 0x00000055, 0x12345678, 0x9abcdef1, 0x12345670, 0x00000055,
-        ),
-        (
-            0x86084002, 0x00000055, 0xffffffff, 0x00000001, 0x00000001, 0x00000055,
-        ),
-        (
-            0x86084002, 0x00000055, 0x00000005, 0x00000005, 0x00000005, 0x00000055,
-        ),
-        (
-            0x86104002, 0x00000055, 0x00000000, 0x00000000, 0x00000000, 0x00000055,
-        ),
-        (
-            0x86104002, 0x00000055, 0x00000001, 0x00000002, 0x00000003, 0x00000055,
-        ),
-        (
-            0x86104002, 0x00000055, 0x00000007, 0xffffffff, 0xffffffff, 0x00000055,
-        ),
-        (
-            0x86104002, 0x00000055, 0x80000000, 0xffffffff, 0xffffffff, 0x00000055,
-        ),
-        (
-            0x86104002, 0x00000055, 0x7fffffff, 0x80000000, 0xffffffff, 0x00000055,
-        ),
-        (
-            0x86104002, 0x00000055, 0x12345678, 0x9abcdef1, 0x9abcdef9, 0x00000055,
-        ),
-        (
-            0x86104002, 0x00000055, 0xffffffff, 0x00000001, 0xffffffff, 0x00000055,
-        ),
-        (
-            0x86104002, 0x00000055, 0x00000005, 0x00000005, 0x00000005, 0x00000055,
-        ),
-        (
-            0x86184002, 0x00000055, 0x00000000, 0x00000000, 0x00000000, 0x00000055,
-        ),
-        (
-            0x86184002, 0x00000055, 0x00000001, 0x00000002, 0x00000003, 0x00000055,
-        ),
-        (
-            0x86184002, 0x00000055, 0x00000007, 0xffffffff, 0xfffffff8, 0x00000055,
-        ),
-        (
-            0x86184002, 0x00000055, 0x80000000, 0xffffffff, 0x7fffffff, 0x00000055,
-        ),
-        (
-            0x86184002, 0x00000055, 0x7fffffff, 0x80000000, 0xffffffff, 0x00000055,
-        ),
-        (
-            0x86184002, 0x00000055, 0x12345678, 0x9abcdef1, 0x88888889, 0x00000055,
-        ),
-        (
-            0x86184002, 0x00000055, 0xffffffff, 0x00000001, 0xfffffffe, 0x00000055,
-        ),
-        (
-            0x86184002, 0x00000055, 0x00000005, 0x00000005, 0x00000000, 0x00000055,
-        ),
-        (
-            0x86204002, 0x00000055, 0x00000000, 0x00000000, 0x00000000, 0x00000055,
-        ),
-        (
-            0x86204002, 0x00000055, 0x00000001, 0x00000002, 0xffffffff, 0x00000055,
-        ),
-        (
-            0x86204002, 0x00000055, 0x00000007, 0xffffffff, 0x00000008, 0x00000055,
-        ),
-        (
-            0x86204002, 0x00000055, 0x80000000, 0xffffffff, 0x80000001, 0x00000055,
-        ),
-        (
-            0x86204002, 0x00000055, 0x7fffffff, 0x80000000, 0xffffffff, 0x00000055,
-        ),
-        (
-            0x86204002, 0x00000055, 0x12345678, 0x9abcdef1, 0x77777787, 0x00000055,
-        ),
-        (
-            0x86204002, 0x00000055, 0xffffffff, 0x00000001, 0xfffffffe, 0x00000055,
-        ),
-        (
-            0x86204002, 0x00000055, 0x00000005, 0x00000005, 0x00000000, 0x00000055,
-        ),
-        (
-            0x86284002, 0x00000055, 0x00000000, 0x00000000, 0x00000000, 0x00000055,
-        ),
-        (
-            0x86284002, 0x00000055, 0x00000001, 0x00000002, 0x00000001, 0x00000055,
-        ),
-        (
-            0x86284002, 0x00000055, 0x00000007, 0xffffffff, 0x00000000, 0x00000055,
-        ),
-        (
-            0x86284002, 0x00000055, 0x80000000, 0xffffffff, 0x00000000, 0x00000055,
-        ),
-        (
-            0x86284002, 0x00000055, 0x7fffffff, 0x80000000, 0x7fffffff, 0x00000055,
-        ),
-        (
-            0x86284002, 0x00000055, 0x12345678, 0x9abcdef1, 0x00000008, 0x00000055,
-        ),
-        (
-            0x86284002, 0x00000055, 0xffffffff, 0x00000001, 0xfffffffe, 0x00000055,
-        ),
-        (
-            0x86284002, 0x00000055, 0x00000005, 0x00000005, 0x00000000, 0x00000055,
-        ),
-        (
-            0x86304002, 0x00000055, 0x00000000, 0x00000000, 0xffffffff, 0x00000055,
-        ),
-        (
-            0x86304002, 0x00000055, 0x00000001, 0x00000002, 0xfffffffd, 0x00000055,
-        ),
-        (
-            0x86304002, 0x00000055, 0x00000007, 0xffffffff, 0x00000007, 0x00000055,
-        ),
-        (
-            0x86304002, 0x00000055, 0x80000000, 0xffffffff, 0x80000000, 0x00000055,
-        ),
-        (
-            0x86304002, 0x00000055, 0x7fffffff, 0x80000000, 0x7fffffff, 0x00000055,
-        ),
-        (
-            0x86304002, 0x00000055, 0x12345678, 0x9abcdef1, 0x7777777e, 0x00000055,
-        ),
-        (
-            0x86304002, 0x00000055, 0xffffffff, 0x00000001, 0xffffffff, 0x00000055,
-        ),
-        (
-            0x86304002, 0x00000055, 0x00000005, 0x00000005, 0xffffffff, 0x00000055,
-        ),
-        (
-            0x86384002, 0x00000055, 0x00000000, 0x00000000, 0xffffffff, 0x00000055,
-        ),
-        (
-            0x86384002, 0x00000055, 0x00000001, 0x00000002, 0xfffffffc, 0x00000055,
-        ),
-        (
-            0x86384002, 0x00000055, 0x00000007, 0xffffffff, 0x00000007, 0x00000055,
-        ),
-        (
-            0x86384002, 0x00000055, 0x80000000, 0xffffffff, 0x80000000, 0x00000055,
-        ),
-        (
-            0x86384002, 0x00000055, 0x7fffffff, 0x80000000, 0x00000000, 0x00000055,
-        ),
-        (
-            0x86384002, 0x00000055, 0x12345678, 0x9abcdef1, 0x77777776, 0x00000055,
-        ),
-        (
-            0x86384002, 0x00000055, 0xffffffff, 0x00000001, 0x00000001, 0x00000055,
-        ),
-        (
-            0x86384002, 0x00000055, 0x00000005, 0x00000005, 0xffffffff, 0x00000055,
-        ),
-        (
-            0x86504002, 0x00000055, 0x00000000, 0x00000000, 0x00000000, 0x00000000,
-        ),
-        (
-            0x86504002, 0x00000055, 0x00000001, 0x00000002, 0x00000002, 0x00000000,
-        ),
-        (
-            0x86504002, 0x00000055, 0x00000007, 0xffffffff, 0xfffffff9, 0x00000006,
-        ),
-        (
-            0x86504002, 0x00000055, 0x80000000, 0xffffffff, 0x80000000, 0x7fffffff,
-        ),
-        (
-            0x86504002, 0x00000055, 0x7fffffff, 0x80000000, 0x80000000, 0x3fffffff,
-        ),
-        (
-            0x86504002, 0x00000055, 0x12345678, 0x9abcdef1, 0x366176f8, 0x0b00ea4e,
-        ),
-        (
-            0x86504002, 0x00000055, 0xffffffff, 0x00000001, 0xffffffff, 0x00000000,
-        ),
-        (
-            0x86504002, 0x00000055, 0x00000005, 0x00000005, 0x00000019, 0x00000000,
-        ),
-        (
-            0x86584002, 0x00000055, 0x00000000, 0x00000000, 0x00000000, 0x00000000,
-        ),
-        (
-            0x86584002, 0x00000055, 0x00000001, 0x00000002, 0x00000002, 0x00000000,
-        ),
-        (
-            0x86584002, 0x00000055, 0x00000007, 0xffffffff, 0xfffffff9, 0xffffffff,
-        ),
-        (
-            0x86584002, 0x00000055, 0x80000000, 0xffffffff, 0x80000000, 0x00000000,
-        ),
-        (
-            0x86584002, 0x00000055, 0x7fffffff, 0x80000000, 0x80000000, 0xc0000000,
-        ),
-        (
-            0x86584002, 0x00000055, 0x12345678, 0x9abcdef1, 0x366176f8, 0xf8cc93d6,
-        ),
-        (
-            0x86584002, 0x00000055, 0xffffffff, 0x00000001, 0xffffffff, 0xffffffff,
-        ),
-        (
-            0x86584002, 0x00000055, 0x00000005, 0x00000005, 0x00000019, 0x00000000,
-        ),
-        (
-            0x86a04002, 0x00000055, 0x00000000, 0x00000000, 0x00000000, 0x00000055,
-        ),
-        (
-            0x86a04002, 0x00000055, 0x00000001, 0x00000002, 0xffffffff, 0x00000055,
-        ),
-        (
-            0x86a04002, 0x00000055, 0x00000007, 0xffffffff, 0x00000008, 0x00000055,
-        ),
-        (
-            0x86a04002, 0x00000055, 0x80000000, 0xffffffff, 0x80000001, 0x00000055,
-        ),
-        (
-            0x86a04002, 0x00000055, 0x7fffffff, 0x80000000, 0xffffffff, 0x00000055,
-        ),
-        (
-            0x86a04002, 0x00000055, 0x12345678, 0x9abcdef1, 0x77777787, 0x00000055,
-        ),
-        (
-            0x86a04002, 0x00000055, 0xffffffff, 0x00000001, 0xfffffffe, 0x00000055,
-        ),
-        (
-            0x86a04002, 0x00000055, 0x00000005, 0x00000005, 0x00000000, 0x00000055,
-        ),
-        (
-            0x87284002, 0x00000055, 0x80000001, 0x00000001, 0x00000002, 0x00000055,
-        ),
-        (
-            0x87284002, 0x00000055, 0x89abcdef, 0x0000001f, 0x80000000, 0x00000055,
-        ),
-        (
-            0x87284002, 0x00000055, 0x7fffffff, 0x00000024, 0xfffffff0, 0x00000055,
-        ),
-        (
-            0x87284002, 0x00000055, 0x00000005, 0x00000000, 0x00000005, 0x00000055,
-        ),
-        (
-            0x87304002, 0x00000055, 0x80000001, 0x00000001, 0x40000000, 0x00000055,
-        ),
-        (
-            0x87304002, 0x00000055, 0x89abcdef, 0x0000001f, 0x00000001, 0x00000055,
-        ),
-        (
-            0x87304002, 0x00000055, 0x7fffffff, 0x00000024, 0x07ffffff, 0x00000055,
-        ),
-        (
-            0x87304002, 0x00000055, 0x00000005, 0x00000000, 0x00000005, 0x00000055,
-        ),
-        (
-            0x87384002, 0x00000055, 0x80000001, 0x00000001, 0xc0000000, 0x00000055,
-        ),
-        (
-            0x87384002, 0x00000055, 0x89abcdef, 0x0000001f, 0xffffffff, 0x00000055,
-        ),
-        (
-            0x87384002, 0x00000055, 0x7fffffff, 0x00000024, 0x07ffffff, 0x00000055,
-        ),
-        (
-            0x87384002, 0x00000055, 0x00000005, 0x00000000, 0x00000005, 0x00000055,
-        ),
-        (
-            0x86704002, 0x00000000, 0x00000064, 0x00000007, 0x0000000e, 0x00000000,
-        ),
-        (
-            0x86704002, 0x00000001, 0x00000005, 0x00000003, 0x55555557, 0x00000001,
-        ),
-        (
-            0x86704002, 0xffffffff, 0xffffff9c, 0x00000007, 0xffffffff, 0xffffffff,
-        ),
-        (
-            0x86704002, 0xffffffff, 0xffffff9c, 0xfffffff9, 0xffffffff, 0xffffffff,
-        ),
-        (
-            0x86704002, 0x00000005, 0x00000000, 0x00000002, 0xffffffff, 0x00000005,
-        ),
-        (
-            0x86704002, 0x80000000, 0x00000000, 0xffffffff, 0x80000000, 0x80000000,
-        ),
-        (
-            0x86704002, 0x7fffffff, 0xffffffff, 0x00000001, 0xffffffff, 0x7fffffff,
-        ),
-        (
-            0x86704002, 0x00000000, 0xfffffffe, 0xffffffff, 0x00000000, 0x00000000,
-        ),
-        (
-            0x86704002, 0xffffffff, 0x80000000, 0x00000001, 0xffffffff, 0xffffffff,
-        ),
-        (
-            0x86704002, 0x00000000, 0x80000000, 0x00000001, 0x80000000, 0x00000000,
-        ),
-        (
-            0x86704002, 0x00000001, 0x00000000, 0x80000000, 0x00000002, 0x00000001,
-        ),
-        (
-            0x86704002, 0xfffffffe, 0x00000001, 0x00000010, 0xffffffff, 0xfffffffe,
-        ),
-        (
-            0x86784002, 0x00000000, 0x00000064, 0x00000007, 0x0000000e, 0x00000000,
-        ),
-        (
-            0x86784002, 0x00000001, 0x00000005, 0x00000003, 0x55555557, 0x00000001,
-        ),
-        (
-            0x86784002, 0xffffffff, 0xffffff9c, 0x00000007, 0xfffffff2, 0xffffffff,
-        ),
-        (
-            0x86784002, 0xffffffff, 0xffffff9c, 0xfffffff9, 0x0000000e, 0xffffffff,
-        ),
-        (
-            0x86784002, 0x00000005, 0x00000000, 0x00000002, 0x7fffffff, 0x00000005,
-        ),
-        (
-            0x86784002, 0x80000000, 0x00000000, 0xffffffff, 0x7fffffff, 0x80000000,
-        ),
-        (
-            0x86784002, 0x7fffffff, 0xffffffff, 0x00000001, 0x7fffffff, 0x7fffffff,
-        ),
-        (
-            0x86784002, 0x00000000, 0xfffffffe, 0xffffffff, 0x80000000, 0x00000000,
-        ),
-        (
-            0x86784002, 0xffffffff, 0x80000000, 0x00000001, 0x80000000, 0xffffffff,
-        ),
-        (
-            0x86784002, 0x00000000, 0x80000000, 0x00000001, 0x7fffffff, 0x00000000,
-        ),
-        (
-            0x86784002, 0x00000001, 0x00000000, 0x80000000, 0xfffffffe, 0x00000001,
-        ),
-        (
-            0x86784002, 0xfffffffe, 0x00000001, 0x00000010, 0xe0000001, 0xfffffffe,
-        ),
-    ];
-    for (word, y, a, b, value, high) in rows {
-        assert!(rt; machine.write(TEXT, 4, word).is_ok());
-        assert_eq!(rt; one_step(&mut machine, y, a, b), Event::Went);
-        assert_eq!(rt; context(&mut machine, 3), Some(value));
-        assert_eq!(rt; context(&mut machine, 32), Some(high));
-    }
-}
-
-/// Which of the 16 branches an emulator takes after `subcc %g1, %g2, %g3`, as bits by condition.
-#[test]
-fn emulated_branches(rt: HostRuntime) {
-    let alloc = rt.alloc();
-    let Some(mut machine) = machine_of(alloc, &[0x86a04002, 0, 0]) else {
-        panic!(rt; "no machine");
-    };
-    let rows = [
-        (0x00000000, 0x00000000, 0xe916u32),
-        (0x00000001, 0x00000002, 0x837cu32),
-        (0x00000007, 0xffffffff, 0xcf30u32),
-        (0x80000000, 0xffffffff, 0x837cu32),
-        (0x7fffffff, 0x80000000, 0x0ff0u32),
-        (0x12345678, 0x9abcdef1, 0xcf30u32),
-        (0xffffffff, 0x00000001, 0xb34cu32),
-        (0x00000005, 0x00000005, 0xe916u32),
-        (0x00000003, 0xfffffffd, 0xcf30u32),
-        (0x80000001, 0x00000001, 0xb34cu32),
-        (0x00000002, 0x00000001, 0xff00u32),
-    ];
-    for (a, b, taken) in rows {
-        for condition in 0..16u32 {
-            // the branch goes 5 words on
-            let branch = 0x1080_0005 - (8 << 25) + (condition << 25);
-            assert!(rt; machine.write(TEXT + 4, 4, branch).is_ok());
-            assert_eq!(rt; one_step(&mut machine, 0, a, b), Event::Went);
-            assert_eq!(rt; machine.step(), Event::Went);
-            let target = if taken >> condition & 1 == 1 {
-                TEXT + 24
-            } else {
-                TEXT + 12
-            };
-            assert_eq!(rt; context(&mut machine, 35), Some(target));
-        }
-    }
-}
-
-/// What an emulator loads from eight bytes, and leaves of the word 81027ff3 after a store of 1234abcd.
-#[test]
-fn emulated_memory(rt: HostRuntime) {
-    let alloc = rt.alloc();
-    let Some(mut machine) = machine_of(alloc, &[0]) else {
-        panic!(rt; "no machine");
-    };
-    assert!(rt; machine.write(DATA, 4, 0x81027ff3).is_ok());
-    assert!(rt; machine.write(DATA + 4, 4, 0x00ff80fe).is_ok());
-    let rows = [
-        (0xc6004002, 0, 0x81027ff3),
-        (0xc6004002, 4, 0x00ff80fe),
-        (0xc6084002, 0, 0x00000081),
-        (0xc6084002, 1, 0x00000002),
-        (0xc6084002, 2, 0x0000007f),
-        (0xc6084002, 3, 0x000000f3),
-        (0xc6084002, 4, 0x00000000),
-        (0xc6084002, 5, 0x000000ff),
-        (0xc6104002, 0, 0x00008102),
-        (0xc6104002, 2, 0x00007ff3),
-        (0xc6104002, 4, 0x000000ff),
-        (0xc6104002, 6, 0x000080fe),
-        (0xc6484002, 0, 0xffffff81),
-        (0xc6484002, 1, 0x00000002),
-        (0xc6484002, 2, 0x0000007f),
-        (0xc6484002, 3, 0xfffffff3),
-        (0xc6484002, 4, 0x00000000),
-        (0xc6484002, 5, 0xffffffff),
-        (0xc6484002, 6, 0xffffff80),
-        (0xc6484002, 7, 0xfffffffe),
-        (0xc6504002, 0, 0xffff8102),
-        (0xc6504002, 2, 0x00007ff3),
-        (0xc6504002, 4, 0x000000ff),
-        (0xc6504002, 6, 0xffff80fe),
-    ];
-    for (word, offset, value) in rows {
-        assert!(rt; machine.write(TEXT, 4, word).is_ok());
-        assert_eq!(rt; one_step(&mut machine, 0, DATA, offset), Event::Went);
-        assert_eq!(rt; context(&mut machine, 3), Some(value));
-    }
-    let rows = [
-        (0xc6204002, 0, 0x1234abcd),
-        (0xc6284002, 0, 0xcd027ff3),
-        (0xc6284002, 1, 0x81cd7ff3),
-        (0xc6284002, 2, 0x8102cdf3),
-        (0xc6284002, 3, 0x81027fcd),
-        (0xc6304002, 0, 0xabcd7ff3),
-        (0xc6304002, 2, 0x8102abcd),
-    ];
-    for (word, offset, value) in rows {
-        assert!(rt; machine.write(TEXT, 4, word).is_ok());
-        assert!(rt; machine.write(DATA, 4, 0x8102_7ff3).is_ok());
-        assert!(rt; machine.write(CONTEXT + 12, 4, 0x1234_abcd).is_ok());
-        assert_eq!(rt; one_step(&mut machine, 0, DATA, offset), Event::Went);
-        assert_eq!(rt; machine.read(DATA, 4).ok(), Some(value));
-    }
 }

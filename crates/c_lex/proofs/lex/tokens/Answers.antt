@@ -1,6 +1,5 @@
 use Rattle.std.proofs.Common.{◌≡◌, ◌++◌, ◌∷◌, [], List, ℕ, Some, None, length, rules, drop, sym, ◌∙◌, ap, subst, arith}
 use Rattle.c_lex.specs.declared.token.Token.{Token}
-use Rattle.c_lex.specs.declared.token.TokenKind.{TokenKind}
 use Rattle.c_lex.specs.Grammar.{gap_of}
 use Rattle.c_lex.specs.Front.{Begins}
 use Rattle.c_lex.proofs.Lexing.{Lexed, next_of, gap_on, token_on, finish}

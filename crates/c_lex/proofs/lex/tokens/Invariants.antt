@@ -1,4 +1,4 @@
-use Rattle.std.proofs.Common.{◌≡◌, ◌-◌, length}
+use Rattle.std.proofs.Common.{◌-◌, length}
 use Rattle.c_lex.proofs.Lexing.{Lexed}
 use Rattle.c_lex.proofs.lex.tokens.Given as goal
 

@@ -1,4 +1,4 @@
-use Rattle.std.proofs.Common.{◌≡◌, ◌+◌, ◌≤◌, ◌∙◌, ℕ, List, [], drop, true, false, None, Some, sym, ap, arith, refl}
+use Rattle.std.proofs.Common.{◌≡◌, drop, true, false, None, Some}
 use Rattle.c_lex.specs.Bytes.{starts_with}
 use Rattle.c_lex.specs.Literals.{item_of}
 use Rattle.c_lex.proofs.Literals.{no_backslash, walk_on, walk_closed, walk_stuck, walk_ended}

@@ -1,5 +1,4 @@
-use Rattle.std.proofs.Common.{◌≡◌, ◌≤◌, ◌-◌, ℕ, List, length, drop}
-use Rattle.c_lex.specs.Literals.{Literal}
+use Rattle.std.proofs.Common.{◌-◌, length}
 use Rattle.c_lex.proofs.Literals.{Walk}
 use Rattle.c_lex.proofs.literal.closed_len.Given as goal
 

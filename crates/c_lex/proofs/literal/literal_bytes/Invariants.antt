@@ -1,4 +1,4 @@
-use Rattle.std.proofs.Common.{◌≡◌, ◌≤◌, ◌-◌, ℕ, List, length, drop}
+use Rattle.std.proofs.Common.{◌-◌, length}
 use Rattle.c_lex.proofs.Literals.{Reading}
 use Rattle.c_lex.proofs.literal.literal_bytes.Given as goal
 

@@ -1,4 +1,4 @@
-use Rattle.std.proofs.Common.{◌≡◌, ◌+◌, ◌≤◌, ◌∙◌, ℕ, List, [], drop, true, false, None, Some, sym, ap, arith, refl}
+use Rattle.std.proofs.Common.{◌≡◌, drop, true, false, sym}
 use Rattle.c_lex.specs.Bytes.{starts_with}
 use Rattle.c_lex.proofs.Literals.{one_none, one_some, one_more}
 use Rattle.c_lex.proofs.literal.one_len.Goals as goal

@@ -1,4 +1,4 @@
-use Rattle.std.proofs.Common.{Some, None, sym, ◌∙◌}
+use Rattle.std.proofs.Common.{Some, None, sym}
 use Rattle.c_lex.proofs.Front.{integer_front, mark_front, quote_some, double_some}
 use Rattle.c_lex.proofs.longest.lexeme.Goals as goal
 

@@ -3,5 +3,5 @@ use Rattle.machine_state.specs.State.{MachineState}
 use Rattle.near_link.proofs.Waits.{given_zero}
 use Rattle.near_link.proofs.near.NearLink.new.Goals as goal
 
-pub new-requires-3 : goal.new-requires-3
-new-requires-3 c = ap (λ (m : MachineState). m.given) (c.new-2.ensures ∙ c.in_ok-machine.ensures) ∙ given_zero _ _ _
+pub new-requires-2 : goal.new-requires-2
+new-requires-2 c = ap (λ (m : MachineState). m.given) c.in_ok-machine.ensures ∙ given_zero _

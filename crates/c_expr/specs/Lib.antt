@@ -1,0 +1,13 @@
+pub mod First
+pub mod Tree
+pub mod Sizes
+pub mod Stored
+pub mod View
+pub mod Levels
+pub mod Grammar
+pub mod Grown
+pub mod Frames
+pub mod Machine
+pub mod Feeding
+pub mod Inside
+pub mod Parses
