@@ -11,7 +11,8 @@ use Rattle.runs.specs.Runs.{Course, Comes, Failed, until}
 use Rattle.c_session.specs.declared.command.Command.{Command}
 use Rattle.c_source.specs.Control.{State}
 use Rattle.c_source.specs.Source.{step}
-use Rattle.c_show.specs.Shown.{shown, showing}
+use Rattle.c_show.specs.Printed.{shown}
+use Rattle.c_show.specs.Shown.{showing}
 use Rattle.c_session.specs.Commands.{Reader, Reading, Unread, BadSyntax, Resume, refusal_text, Answer, Refuses, Says, Shows, Sets, ShowsAny, EndsClaim, Resumes, Quits, Nothing, answer}
 use Rattle.c_session.specs.Allowed.{Lines, Standing, event_text, event_output, after_event, at_first, stops_by, with_state}
 

@@ -17,3 +17,4 @@ pub mod Row28
 pub mod Allows
 pub mod Only
 pub mod Ends
+pub mod Refusals

@@ -106,11 +106,11 @@ without q qs = filter (λ r. not (r == q)) qs
 module _ (p : Program) (r : Reader) (sides : ℕ) (session : Session) where
   -- ---- breakpoints
 
-  abbrev break_at : Option ℕ → Answer
+  abbrev pub break_at : Option ℕ → Answer
   break_at None = Refuses NoPlace
   break_at (Some q) = Says ((codes "break " ++ place_text p q) ∷ []) (if has session.breaks q then session else record session { breaks = q ∷ session.breaks })
 
-  abbrev clear_at : Option ℕ → Answer
+  abbrev pub clear_at : Option ℕ → Answer
   clear_at None = Refuses NoPlace
   clear_at (Some q) = if has session.breaks q then Says ((codes "clear " ++ place_text p q) ∷ []) (record session { breaks = without q session.breaks }) else Refuses NoPlace
 
@@ -131,13 +131,13 @@ module _ (p : Program) (r : Reader) (sides : ℕ) (session : Session) where
   frame_texts n (a ∷ rest) = frame_text n a ∷ frame_texts (suc n) rest
 
   -- the list of frames is cut at 20,000
-  abbrev frames_of : State → List Place
+  abbrev pub frames_of : State → List Place
   frames_of s = take 20000 (places s)
 
-  abbrev all_frames : List Place → Answer
+  abbrev pub all_frames : List Place → Answer
   all_frames fs = Says ((codes "frames " ++ decimal (length fs)) ∷ frame_texts 0 fs) session
 
-  abbrev frame_at : ℕ → Option Place → Answer
+  abbrev pub frame_at : ℕ → Option Place → Answer
   frame_at n None = Refuses NoFrame
   frame_at n (Some a) = Says (frame_text n a ∷ []) (record session { frame = n })
 
@@ -147,22 +147,22 @@ module _ (p : Program) (r : Reader) (sides : ℕ) (session : Session) where
   cells_of None = []
   cells_of (Some o) = map (λ c. c.value) o.cells
 
-  abbrev print_object : World → CType → Option ℕ → Answer
+  abbrev pub print_object : World → CType → Option ℕ → Answer
   print_object w t None = Nothing
   print_object w t (Some o) = Shows w t (cells_of (slice_get w.objects o))
 
-  abbrev row_type : Option ObjectRow → CType
+  abbrev pub row_type : Option ObjectRow → CType
   row_type None = Void
   row_type (Some row) = row.ctype
 
   -- a function's name is of no object
-  abbrev print_referent : World → Place → Referent → Answer
+  abbrev pub print_referent : World → Place → Referent → Answer
   print_referent w a (refers.Object o) = print_object w (row_type (slice_get p.objects o)) (Some o)
   print_referent w a (refers.Local x) = print_object w (local_type p a.function x) (bound x a.locals)
   print_referent w a (refers.Function f) = Refuses BadType
   print_referent w a refers.Declared = Refuses BadType
 
-  abbrev print_symbol : World → Place → Option SymbolRow → Answer
+  abbrev pub print_symbol : World → Place → Option SymbolRow → Answer
   print_symbol w a None = Refuses NoScope
   print_symbol w a (Some s) = print_referent w a s.refers
 
@@ -173,44 +173,44 @@ module _ (p : Program) (r : Reader) (sides : ℕ) (session : Session) where
   shown_type (Array' b t n) = Pointer' b t
   shown_type t = t
 
-  abbrev eval_gives : World → CType → Result (List Value) Why → Answer
+  abbrev pub eval_gives : World → CType → Result (List Value) Why → Answer
   eval_gives w t (Ok vs) = Shows w (shown_type t) vs
   eval_gives w t (Err (Reason u)) = Refuses (IsUndefined u)
   eval_gives w t (Err Stale) = ShowsAny
   eval_gives w t (Err IllTyped) = Nothing
 
-  abbrev eval_read : World → Place → Reading → Answer
+  abbrev pub eval_read : World → Place → Reading → Answer
   eval_read w a (Unread u) = Refuses u
   eval_read w a (Read e) = eval_gives w (type_of e) (values_meant p (record { world = w; place = a }) e)
 
   -- it changes the leaves that the assignment's steps change, and nothing else
-  abbrev assign_gives : State → Result Given Why → Answer
+  abbrev pub assign_gives : State → Result Given Why → Answer
   assign_gives s (Ok g) = Sets (record s { here = record s.here { world = g.world } })
   assign_gives s (Err (Reason u)) = Refuses (IsUndefined u)
   assign_gives s (Err Stale) = EndsClaim
   assign_gives s (Err IllTyped) = Nothing
 
-  abbrev assign_read : State → Place → Reading → Answer
+  abbrev pub assign_read : State → Place → Reading → Answer
   assign_read s a (Unread u) = Refuses u
   assign_read s a (Read e) = assign_gives s (assigned p (record { world = s.here.world; place = a }) e)
 
-  abbrev in_frame : Option Place → (Place → Answer) → Answer
+  abbrev pub in_frame : Option Place → (Place → Answer) → Answer
   in_frame None go = Refuses NoFrame
   in_frame (Some a) go = go a
 
-  abbrev chosen : State → Option Place
+  abbrev pub chosen : State → Option Place
   chosen s = slice_get (places s) session.frame
 
   -- ---- commands by the session's state
 
-  abbrev with_limit : ℕ → Answer
+  abbrev pub with_limit : ℕ → Answer
   with_limit n = Says ((codes "limit " ++ decimal n) ∷ []) (record session { limit = n })
 
   -- each side stands at the stop
   abbrev all_at : State → List (Option State)
   all_at s = replicate sides (Some s)
 
-  abbrev in_stopped : State → Command → Answer
+  abbrev pub in_stopped : State → Command → Answer
   in_stopped s (command.Break place) = break_at (point_at p place)
   in_stopped s (command.Clear place) = clear_at (point_at p place)
   in_stopped s command.Continue = Resumes ByContinue (all_at s)
@@ -218,13 +218,13 @@ module _ (p : Program) (r : Reader) (sides : ℕ) (session : Session) where
   in_stopped s (command.Turns n) = with_limit n
   in_stopped s command.Frames = all_frames (frames_of s)
   in_stopped s (command.Frame n) = frame_at n (slice_get (frames_of s) n)
-  in_stopped s (command.Print name) = if r.is_name name then in_frame (chosen s) (λ a. print_symbol s.here.world a (named p name (point_of a))) else Refuses BadSyntax
+  in_stopped s (command.Print name) = in_frame (chosen s) (λ a. if r.is_name name then print_symbol s.here.world a (named p name (point_of a)) else Refuses BadSyntax)
   in_stopped s (command.Eval text) = in_frame (chosen s) (λ a. eval_read s.here.world a (r.value (point_of a) text))
   in_stopped s (command.Assign text) = in_frame (chosen s) (λ a. assign_read s a (r.assignment (point_of a) text))
   in_stopped s command.Quit = Quits
   in_stopped s c = Nothing
 
-  abbrev in_fresh : State → Command → Answer
+  abbrev pub in_fresh : State → Command → Answer
   in_fresh s command.Frames = Refuses IsRunning
   in_fresh s (command.Frame n) = Refuses IsRunning
   in_fresh s (command.Print name) = Refuses IsRunning
@@ -233,17 +233,17 @@ module _ (p : Program) (r : Reader) (sides : ℕ) (session : Session) where
   in_fresh s c = in_stopped s c
 
   -- `continue` goes on with the interrupted resume, whichever command began it
-  abbrev in_running : Resume → List (Option State) → Command → Answer
+  abbrev pub in_running : Resume → List (Option State) → Command → Answer
   in_running how ps command.Continue = Resumes how ps
   in_running how ps (command.Turns n) = with_limit n
   in_running how ps command.Quit = Quits
   in_running how ps c = Refuses IsRunning
 
-  abbrev in_ended : Command → Answer
+  abbrev pub in_ended : Command → Answer
   in_ended command.Quit = Quits
   in_ended c = Refuses HasEnded
 
-  abbrev by_mode : Mode → Command → Answer
+  abbrev pub by_mode : Mode → Command → Answer
   by_mode (Fresh s) c = in_fresh s c
   by_mode (Stopped s) c = in_stopped s c
   by_mode (Running how ps) c = in_running how ps c

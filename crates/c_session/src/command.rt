@@ -12,7 +12,9 @@ pub enum Spot {
         column: Option<u32>,
     },
     /// A function's name, which means the `{` of its body.
-    Func { name: Text },
+    Func {
+        name: Text,
+    },
 }
 
 /// A command line that is well formed.

@@ -2,5 +2,7 @@
 #![tactic(auto)]
 
 mod command;
+mod laws;
 
 pub use command::{Command, Reply, Spot};
+pub use laws::{ended_sessions_refuse, refused_commands_change_nothing, resumes_have_one_event};

@@ -2,5 +2,11 @@
 #![tactic(auto)]
 
 mod held;
+mod letters;
+mod page;
+#[cfg(test)]
+mod tests;
+mod value;
 
 pub use held::Held;
+pub use value::show;
