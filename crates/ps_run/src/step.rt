@@ -91,7 +91,7 @@ fn step_procedure(core: &mut PsCore, a: ArrayId, at: usize) -> Result<Progress, 
         None => PsObj::Null,
     };
     if at < items.len() && at + 1 < items.len() {
-        core.execution.replace(1, Item::Procedure(a, at + 1));
+        core.execution.continue_at(a, at, at + 1);
     } else {
         core.execution.take(1);
     }
@@ -131,7 +131,7 @@ fn step_repeat(core: &mut PsCore, left: u32, body: ArrayId) -> Result<Progress, 
     ensures closed { closed_part core.new.store ≡ closed_part core.old.store }
 {
     if 1 < left {
-        core.execution.replace(1, Item::Repeat(left - 1, body));
+        core.execution.set_top(Item::Repeat(left - 1, body));
     } else {
         core.execution.take(1);
     }

@@ -1,7 +1,7 @@
 -- A list whose last items are a stack's topmost ones.
 use borrow.Rule.Slice.PartMut.{put_mid}
-use Rattle.std.proofs.Common.{◌≡◌, ℕ, ◌+◌, ◌-◌, ◌<◌, ◌≤◌, List, refl, [], ◌∷◌, ◌++◌, length, reverse, set, take, drop, sym, ◌∙◌, ap, arith, length-drop, length-append}
-use Rattle.std.proofs.lemmas.List.{take-append-drop, reverse-append, length-reverse, drop_at, take_at, take_more_set, reverse-reverse, take_all, drop_all, append-nil, drop-drop, drop-take, length-take-le}
+use Rattle.std.proofs.Common.{◌≡◌, ℕ, ◌+◌, ◌-◌, ◌<◌, ◌≤◌, List, refl, [], ◌∷◌, ◌++◌, length, reverse, set, get_or, take, drop, sym, ◌∙◌, ap, arith, length-drop, length-append}
+use Rattle.std.proofs.lemmas.List.{take-append-drop, get_or-reverse, reverse-append, length-reverse, length-set, drop_at, take_at, take_more_set, reverse-reverse, take_all, drop_all, append-nil, drop-drop, drop-take, length-take-le}
 
 -- without the n topmost items the first k are left
 pub drop-reverse : {T : Type 0} (xs : List T) (k n : ℕ) → k + n ≡ length xs → drop n (reverse xs) ≡ reverse (take k xs)
@@ -16,6 +16,18 @@ pub reverse-take-set : {T : Type 0} (xs : List T) (k n : ℕ) (x : T) → k + n 
     → reverse (take (k + 1) (set xs k x)) ≡ x ∷ drop n (reverse xs)
 reverse-take-set xs k n x h lt =
     ap reverse (take_more_set xs k x lt) ∙ reverse-append (take k xs) (x ∷ []) ∙ ap (λ l. x ∷ l) (sym (drop-reverse xs k n h))
+
+-- the topmost item was replaced
+pub reverse-set-last : {T : Type 0} (xs : List T) (k : ℕ) (x : T) → k + 1 ≡ length xs → reverse (set xs k x) ≡ x ∷ drop 1 (reverse xs)
+reverse-set-last xs k x h =
+    let whole : take (k + 1) (set xs k x) ≡ set xs k x = take_all (k + 1) (set xs k x) (omega (arith, length-set xs k x, h)) in
+    ap reverse (sym whole) ∙ reverse-take-set xs k 1 x h (omega (arith, h))
+
+-- the topmost item is the last one
+pub last-of-reverse : {T : Type 0} (xs : List T) (k : ℕ) (x d : T) (rest : List T) → k + 1 ≡ length xs → reverse xs ≡ x ∷ rest → get_or xs k d ≡ x
+last-of-reverse xs k x d rest h is =
+    let place : k ≡ length xs - 1 - 0 = omega (arith, h) in
+    ap (λ i. get_or xs i d) place ∙ sym (get_or-reverse xs 0 d (omega (arith, h))) ∙ ap (λ l. get_or l 0 d) is
 
 -- the items behind the first k are the n topmost ones
 pub drop-topmost : {T : Type 0} (xs : List T) (k n : ℕ) → k + n ≡ length xs → drop k xs ≡ reverse (take n (reverse xs))

@@ -72,7 +72,7 @@ impl PsCore {
         let place = one_of(&self.operands)?;
         let found = meant_by(&self.store, &self.dictionaries, place)?;
         let x = under(found)?;
-        self.operands.replace(1, x);
+        self.operands.set_top(x);
         Ok(())
     }
 

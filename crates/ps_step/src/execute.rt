@@ -169,11 +169,16 @@ impl PsCore {
         ensures closed { closed_part self.new.store ≡ closed_part self.old.store }
     {
         match x {
-            PsObj::Array(_, true) => {
+            PsObj::Name(t, true) => self.execute_name(t),
+            PsObj::Op(n) => self.operate(n),
+            PsObj::Str(t, true) => {
+                self.schedule_item(Item::Text(t, 0))?;
+                Ok(None)
+            }
+            _ => {
                 self.push(x)?;
                 Ok(None)
             }
-            _ => self.execute(x),
         }
     }
 }

@@ -75,15 +75,13 @@ fn put_key(store: &mut PsStore, d: DictId, place: PsObj, value: PsObj) -> Result
 }
 
 /// Puts a value of a dictionary under the key that an object is.
+#[inline(always)]
 pub fn put_under(store: &mut PsStore, d: DictId, place: PsObj, value: PsObj) -> Result<(), PsFault>
     ensures stores { Stores result store.old store.new (put_under store.old d place value) }
     ensures closed { closed_part store.new ≡ closed_part store.old }
 {
     match place {
         PsObj::Name(t, _) | PsObj::Str(t, _) => {
-            if store.string_get(t).len() > MOST_CHARACTERS {
-                return Err(PsFault::Error(PsError::LimitCheck));
-            }
             store.name_put(d, t, value)?;
             Ok(())
         }

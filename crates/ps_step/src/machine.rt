@@ -55,6 +55,7 @@ impl PsCore {
 
     /// Puts an object on the execution stack, so that it is executed next once the running operator has ended.
     /// execstackoverflow comes where 1,000 items stand there. An error and want of memory leave the state as it was.
+    #[inline(always)]
     pub fn schedule(&mut self, what: PsObj) -> Result<(), PsFault>
         ensures does { Does result self.old self.new (scheduling (Waiting what) self.old) }
         ensures kept { OnErr result (self.new ≡ self.old) }

@@ -2,7 +2,10 @@
 
 ghost use Rattle.std.specs.Prelude.{◌≡◌, ◌<◌, ◌+◌, ◌-◌, ◌≤◌, OnOk, OnErr, IfNone, IfOk, List, [], ◌∷◌, ◌++◌, length, reverse, take, drop, slice_get, slice_index_or, option_to_list};
 ghost use Rattle.std.specs.Option.{option_copied};
+ghost use Rattle.ps_step.specs.declared.item.Item.TheVariants.{Procedure};
 
+use crate::item::Item;
+use ps_store::ArrayId;
 use std::alloc::{AllocError, Global};
 use std::marker::Model;
 use std::mem;
@@ -130,6 +133,16 @@ impl<T: Copy> Stack<T> {
         self.items.truncate(rest + 1);
     }
 
+    /// Puts an item in place of the topmost one.
+    #[inline(always)]
+    pub fn set_top(&mut self, item: T)
+        requires { 1 ≤ length self.old }
+        ensures { self.new ≡ item ∷ drop 1 self.old }
+    {
+        let last = self.items.len() - 1;
+        self.items[last] = item;
+    }
+
     /// Takes the `count` topmost items.
     pub fn take(&mut self, count: usize)
         requires { count ≤ length self.old }
@@ -209,6 +222,20 @@ impl<T: Copy> Stack<T> {
     {
         Stack {
             items: Vec::new(*self.items.allocator()),
+        }
+    }
+}
+
+impl Stack<Item> {
+    /// The procedure on top goes on with the object at another index.
+    #[inline(always)]
+    pub fn continue_at(&mut self, a: ArrayId, at: usize, next: usize)
+        requires { self.old ≡ Procedure a at ∷ drop 1 self.old }
+        ensures { self.new ≡ Procedure a next ∷ drop 1 self.old }
+    {
+        let last = self.items.len() - 1;
+        if let Item::Procedure(_, index) = &mut self.items[last] {
+            *index = next;
         }
     }
 }

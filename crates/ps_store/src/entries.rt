@@ -88,6 +88,7 @@ impl Entries {
     }
 
     /// The value at the place of a hint, if the key there is this name.
+    #[inline(always)]
     #[tactic(auto, using(crate::proofs::Hinting::value_of_same))]
     fn hinted(&self, name: NameQuery<'_>, bucket: u8) -> Option<PsObj>
         ensures { IfSome result (λ value. value_at self.now (NameKey name.entry.text.now) ≡ Some value) }
@@ -127,6 +128,7 @@ impl Entries {
     }
 
     /// The value under a name, found by its hash.
+    #[inline(never)]
     #[tactic(auto, using(crate::proofs::Pairs::lookup_value_at))]
     pub fn search(&self, name: NameQuery<'_>) -> Option<PsObj>
         ensures { result ≡ value_at self.now (NameKey name.entry.text.now) }
@@ -135,6 +137,7 @@ impl Entries {
     }
 
     /// The value under a name of this bucket.
+    #[inline(always)]
     pub fn get_name(&self, name: NameQuery<'_>, bucket: u8) -> Option<PsObj>
         ensures { result ≡ value_at self.now (NameKey name.entry.text.now) }
     {
@@ -155,6 +158,7 @@ impl Entries {
     }
 
     /// The place of a hint, if the key there is this name.
+    #[inline(always)]
     #[tactic(auto, using(crate::proofs::Hinting::value_of_same))]
     fn hinted_place(&self, name: NameQuery<'_>, bucket: u8) -> Option<usize>
         ensures found { IfSome result (λ _. is_some (value_at self.now (NameKey name.entry.text.now)) ≡ true) }
@@ -174,6 +178,7 @@ impl Entries {
     }
 
     /// The place of a name, found by its hash.
+    #[inline(never)]
     #[tactic(auto, using(crate::proofs::Pairs::lookup_value_at, crate::proofs::Pairs::with_value_at_place))]
     fn search_place(&self, name: NameQuery<'_>) -> Option<usize>
         ensures found { is_some result ≡ is_some (value_at self.now (NameKey name.entry.text.now)) }
@@ -184,6 +189,7 @@ impl Entries {
     }
 
     /// The place of a name of this bucket.
+    #[inline(always)]
     pub fn place_of_name(&self, name: NameQuery<'_>, bucket: u8) -> Option<usize>
         ensures found { is_some result ≡ is_some (value_at self.now (NameKey name.entry.text.now)) }
         ensures place { IfSome result (λ i. (value : PsObj) → with_value self.now (NameKey name.entry.text.now) value ≡ set_value_at self.now i value) }
@@ -197,6 +203,7 @@ impl Entries {
 
     /// Puts a value at a place.
     #[tactic(auto, using(crate::proofs::Hinting::hinted_replaced))]
+    #[inline(always)]
     pub fn replace(&mut self, at: usize, value: PsObj)
         requires { at < length self.old }
         ensures { self.new ≡ set_value_at self.old at value }

@@ -173,6 +173,7 @@ impl Key {
     }
 
     /// Whether it is the name of a query.
+    #[inline(always)]
     pub fn is_name(&self, name: NameQuery<'_>) -> bool
         ensures { result ≡ same_key (NameKey name.entry.text.now) self.now }
     {

@@ -272,6 +272,7 @@ impl Objects {
     }
 
     /// Puts a value at a place of a dictionary.
+    #[inline(always)]
     pub fn replace_value(&mut self, index: u32, at: usize, value: PsObj)
         requires { at < length (slice_index_or self.old.dicts index []) }
         ensures { self.new ≡ record self.old { dicts = slice_set self.old.dicts index (set_value_at (slice_index_or self.old.dicts index []) at value) } }

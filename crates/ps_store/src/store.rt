@@ -398,6 +398,7 @@ impl PsStore {
     }
 
     /// Puts a value at a place of a dictionary.
+    #[inline(always)]
     fn replace_value(&mut self, d: DictId, at: usize, value: PsObj)
         requires { at < length (entries_of self.old d) }
         ensures { self.new ≡ with_entries self.old d (set_value_at (entries_of self.old d) at value) }
@@ -443,23 +444,33 @@ impl PsStore {
     }
 
     /// Puts a value of a dictionary under the name that a text of the store is.
+    #[inline(always)]
     pub fn name_put(&mut self, d: DictId, name: StringId, value: PsObj) -> Result<(), StoreFault>
         ensures does { Does result self.old self.new (putting_under_text self.old d name value) }
         ensures closed { closed_part self.new ≡ closed_part self.old }
     {
-        let query = self.query(name);
-        if query.text.len() > MOST_CHARACTERS {
+        if self.string_get(name).len() > MOST_CHARACTERS {
             return Err(StoreFault::Limit);
         }
         if self.is_closed_dict(d) {
             return Err(StoreFault::ReadOnly);
         }
-        let bucket = self.bucket(name);
-        if let Some(at) = self.held(d.part).place_of_name(d.index, query, bucket) {
+        if let Some(at) = self.place_of_name(d, name) {
             self.replace_value(d, at, value);
             return Ok(());
         }
         self.add_name(d, name, value)
+    }
+
+    /// The place in a dictionary of the name that a text of the store is.
+    #[inline(never)]
+    fn place_of_name(&self, d: DictId, name: StringId) -> Option<usize>
+        ensures found { is_some result ≡ is_some (value_at (entries_of self.now d) (NameKey (bytes_of self.now name))) }
+        ensures place { IfSome result (λ i. (value : PsObj) → with_value (entries_of self.now d) (NameKey (bytes_of self.now name)) value ≡ set_value_at (entries_of self.now d) i value) }
+        ensures within { IfSome result (λ i. i < length (entries_of self.now d)) }
+    {
+        self.held(d.part)
+            .place_of_name(d.index, self.query(name), self.bucket(name))
     }
 
     /// Puts a value under a new name of a dictionary that is not closed. Its key is made here, apart from where names are
