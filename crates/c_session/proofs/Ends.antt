@@ -42,6 +42,6 @@ module _ (b : Box (Unit {0}) Global) where
   }
 
   -- where a run meets an overflow before its event, every reply and every output is allowed from there on
-  row : (transcript : Lines) (output : List ℕ) → Allowed program (reader [] []) 1 [] (Some command.Continue ∷ []) transcript output
+  it_tells : (transcript : Lines) (output : List ℕ) → Allowed program (reader [] []) 1 [] (Some command.Continue ∷ []) transcript output
   unfolding computing
-  row transcript output = inr (inl ((begin program [], _, Failed (Reason Overflow), inl refl, (100, refl), tt), (output, refl)))
+  it_tells transcript output = inr (inl ((begin program [], _, Failed (Reason Overflow), inl refl, (100, refl), tt), (output, refl)))

@@ -12,7 +12,7 @@ use Rattle.c_session.specs.Commands.{ByStep}
 use Rattle.c_source.specs.Size.{need_of}
 use Rattle.c_session.specs.Allowed.{Lines, Allowed, AllowedFrom, stops_by, event_text, ResumeReplies, AllMove, IsOnTheWay, IsUndefined, event_output, at_first, Standing}
 use Rattle.c_session.proofs.Computed.{reader, computing}
-use Rattle.c_session.proofs.Row1.{program}
+use Rattle.c_session.proofs.AssignmentSession.{program}
 
 module _ (b : Box (Unit {0}) Global) where
   abbrev pub start : State

@@ -1,6 +1,7 @@
 // The machine.
 
 ghost use Rattle.std.specs.Prelude.{◌≡◌, ◌<◌, ◌+◌, ◌*◌, ◌^◌, ◌⊎◌, length, is_ok, None, IfOk};
+ghost use Rattle.ldb_words.specs.Word.{sign_extended};
 ghost use Rattle.machine_state.specs.declared.layout.TheConstants.{MIPS};
 
 use ldb_words::{
@@ -26,6 +27,14 @@ fn decoded_zeros(alloc: Global) -> Result<Vec<Decoded>, AllocError> {
         slots.push(Decoded::new(0))?;
     }
     Ok(slots)
+}
+
+/// A halfword, extended by its sign to a word.
+#[inline(always)]
+fn extended(half: u16) -> u32
+    ensures { result ≡ sign_extended 16 half }
+{
+    i32::from(half.cast_signed()).cast_unsigned()
 }
 
 /// An R3000 with its memory, input and output.
@@ -221,9 +230,7 @@ impl Machine {
         ensures { branches taken offset self.old ≡ (result, self.new) }
     {
         let target = if taken {
-            self.pc
-                .wrapping_add(4)
-                .wrapping_add(extend_half(u32::from(offset)) << 2)
+            self.pc.wrapping_add(4).wrapping_add(extended(offset) << 2)
         } else {
             self.next_pc.wrapping_add(4)
         };
@@ -243,8 +250,7 @@ impl Machine {
     fn address(&self, base: Register, offset: u16) -> u32
         ensures { result ≡ address self.now base offset }
     {
-        self.register(base)
-            .wrapping_add(extend_half(u32::from(offset)))
+        self.register(base).wrapping_add(extended(offset))
     }
 
     /// Leaves what was loaded in a register, which the next instruction may not read.
@@ -384,6 +390,20 @@ impl Machine {
         }
     }
 
+    /// The instruction of a word, decoded anew and kept in a slot.
+    #[inline(never)]
+    fn decode_into(&mut self, at: usize, word: u32) -> Option<Insn>
+        ensures insn { result ≡ insn_of word }
+        ensures kept { self.new ≡ self.old }
+    {
+        let fresh = Decoded::new(word);
+        let insn = fresh.insn();
+        if let Some(slot) = self.slots.get_mut(at) {
+            *slot = fresh;
+        }
+        insn
+    }
+
     /// The instruction of a word, taken from the slot of pc where that holds it.
     #[inline(always)]
     fn instruction(&mut self, word: u32) -> Option<Insn>
@@ -396,12 +416,7 @@ impl Machine {
                 return slot.insn();
             }
         }
-        let fresh = Decoded::new(word);
-        let insn = fresh.insn();
-        if let Some(slot) = self.slots.get_mut(at) {
-            *slot = fresh;
-        }
-        insn
+        self.decode_into(at, word)
     }
 
     /// What an instruction does.
@@ -510,19 +525,15 @@ impl Machine {
             ),
             Insn::Addiu { rt, rs, immediate } => self.write_register(
                 *rt,
-                self.register(*rs)
-                    .wrapping_add(extend_half(u32::from(*immediate))),
+                self.register(*rs).wrapping_add(extended(*immediate)),
             ),
             Insn::Slti { rt, rs, immediate } => self.write_register(
                 *rt,
-                u32::from(
-                    self.register(*rs).cast_signed()
-                        < extend_half(u32::from(*immediate)).cast_signed(),
-                ),
+                u32::from(self.register(*rs).cast_signed() < extended(*immediate).cast_signed()),
             ),
             Insn::Sltiu { rt, rs, immediate } => self.write_register(
                 *rt,
-                u32::from(self.register(*rs) < extend_half(u32::from(*immediate))),
+                u32::from(self.register(*rs) < extended(*immediate)),
             ),
             Insn::Andi { rt, rs, immediate } => self.write_register(
                 *rt,

@@ -2,9 +2,11 @@
 
 use crate::tests::machine_of;
 use ldb_words::Event;
+use std::alloc::Global;
+use std::process::Abort;
 use std::test::Fail;
 
-/// The text of a program that gcc made: it prints the primes below 100 and some factorials.
+/// The text of a program that gcc made for size: it prints the primes below 100 and some factorials.
 const PRIMES: [u32; 87] = [
     0x40000024, 0x01000000, 0x91d02013, 0x01000000, 0x91d02011, 0x81c3e008, 0x01000000, 0x91d02012,
     0x81c3e008, 0x01000000, 0x1b040000, 0xd8036000, 0x832b2005, 0x8220400c, 0x82004008, 0xc2236000,
@@ -19,17 +21,43 @@ const PRIMES: [u32; 87] = [
     0x7fffffba, 0x9010200a, 0x03040000, 0xf0006000, 0xb00e207f, 0x81c7e008, 0x81e80000,
 ];
 
+/// The same program as gcc made it without optimization.
+const PRIMES_PLAIN: [u32; 181] = [
+    0x40000079, 0x01000000, 0x91d02013, 0x01000000, 0x91d02011, 0x81c3e008, 0x01000000, 0x91d02012,
+    0x81c3e008, 0x01000000, 0x9de3bfa0, 0xf027a044, 0x03040000, 0x82106000, 0xfa004000, 0x8210001d,
+    0x83286005, 0xba20401d, 0xc207a044, 0xba074001, 0x03040000, 0x82106000, 0xfa204000, 0xd007a044,
+    0x7fffffef, 0x01000000, 0x01000000, 0x81e80000, 0x81c3e008, 0x01000000, 0x9de3bfa0, 0xf027a044,
+    0xc207a044, 0x80a06009, 0x0880000b, 0x01000000, 0xc207a044, 0x81802000, 0x01000000, 0x01000000,
+    0x01000000, 0x8270600a, 0x90100001, 0x7ffffff3, 0x01000000, 0xfa07a044, 0x81802000, 0x01000000,
+    0x01000000, 0x01000000, 0xb877600a, 0x8210001c, 0x83286002, 0x8200401c, 0x82004001, 0x82274001,
+    0x82006030, 0x90100001, 0x7fffffd0, 0x01000000, 0x01000000, 0x81e80000, 0x81c3e008, 0x01000000,
+    0x9de3bf98, 0xf027a044, 0x82102002, 0xc227bffc, 0x10800015, 0x01000000, 0xc207a044, 0xbb38601f,
+    0x81876000, 0xfa07bffc, 0x01000000, 0x01000000, 0xb878401d, 0xfa07bffc, 0xba5f001d, 0x8220401d,
+    0x80a06000, 0x12800005, 0x01000000, 0x82102000, 0x1080000c, 0x01000000, 0xc207bffc, 0x82006001,
+    0xc227bffc, 0xc207bffc, 0x82584001, 0xfa07a044, 0x80a74001, 0x16bfffe9, 0x01000000, 0x82102001,
+    0xb0100001, 0x81e80000, 0x81c3e008, 0x01000000, 0x9de3bfa0, 0xf027a044, 0xc207a044, 0x80a06000,
+    0x0280000c, 0x01000000, 0xc207a044, 0x82007fff, 0x90100001, 0x7ffffff7, 0x01000000, 0xba100008,
+    0xc207a044, 0x825f4001, 0x10800003, 0x01000000, 0x82102001, 0xb0100001, 0x81e80000, 0x81c3e008,
+    0x01000000, 0x9de3bf98, 0x82102002, 0xc227bff8, 0x10800013, 0x01000000, 0xd007bff8, 0x7fffffc1,
+    0x01000000, 0x82100008, 0x80a06000, 0x02800009, 0x01000000, 0xc207bff8, 0x90100001, 0x7fffff97,
+    0x01000000, 0x90102020, 0x7fffff80, 0x01000000, 0xc207bff8, 0x82006001, 0xc227bff8, 0xc207bff8,
+    0x80a06063, 0x04bfffed, 0x01000000, 0x9010200a, 0x7fffff76, 0x01000000, 0xc027bffc, 0x1080000f,
+    0x01000000, 0xd007bffc, 0x7fffffca, 0x01000000, 0x82100008, 0x90100001, 0x7fffff80, 0x01000000,
+    0x90102020, 0x7fffff69, 0x01000000, 0xc207bffc, 0x82006001, 0xc227bffc, 0xc207bffc, 0x80a0600c,
+    0x08bffff1, 0x01000000, 0x9010200a, 0x7fffff5f, 0x01000000, 0x03040000, 0x82106000, 0xc2004000,
+    0x8208607f, 0xb0100001, 0x81e80000, 0x81c3e008, 0x01000000,
+];
+
 /// What the same program prints where gcc made it for the host.
 const PRINTED: &str =
     "2 3 5 7 11 13 17 19 23 29 31 37 41 43 47 53 59 61 67 71 73 79 83 89 97 \n1 1 2 6 24 120 720 5040 40320 362880 3628800 39916800 479001600 \n";
 
-#[test]
-fn compiled_program(rt: HostRuntime) -> Result<(), Fail> {
-    let mut machine = match machine_of(rt.alloc(), &PRIMES) {
-        Some(machine) => machine,
-        None => panic!(rt; "no machine"),
+/// The machine of some words prints what the host's program prints, and exits with its status.
+fn prints_primes(rt: &impl Abort, alloc: Global, words: &[u32]) -> Result<(), Fail> {
+    let Some(mut machine) = machine_of(alloc, words) else {
+        panic!(rt; "no machine");
     };
-    let mut printed = Vec::new(rt.alloc());
+    let mut printed = Vec::new(alloc);
     let mut event = Event::Went;
     for _step in 0..1_000_000 {
         event = machine.step();
@@ -47,4 +75,10 @@ fn compiled_program(rt: HostRuntime) -> Result<(), Fail> {
     assert_eq!(rt; machine.argument(), 87);
     assert_eq!(rt; printed.as_slice(), PRINTED.as_bytes());
     Ok(())
+}
+
+#[test]
+fn compiled_program(rt: HostRuntime) -> Result<(), Fail> {
+    prints_primes(&rt, rt.alloc(), &PRIMES)?;
+    prints_primes(&rt, rt.alloc(), &PRIMES_PLAIN)
 }

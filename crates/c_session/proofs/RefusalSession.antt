@@ -38,7 +38,7 @@ module _ (b : Box (Unit {0}) Global) where
     symbols = (record { name = codes "getchar"; ctype = Int; refers = refers.Declared; up = None } ∷ record { name = codes "putchar"; ctype = Int; refers = refers.Declared; up = Some 0 } ∷ record { name = codes "exit"; ctype = Void; refers = refers.Declared; up = Some 1 } ∷ record { name = codes "x"; ctype = Int; refers = refers.Object 0; up = Some 2 } ∷ record { name = codes "main"; ctype = Int; refers = refers.Function 0; up = Some 3 } ∷ []);
   }
 
-  row : (session program (reader (record { point = 0; text = codes "2147483647 + 1"; reading = Read (Binary' (of_type Int) b (Constant (of_type Int) 2147483647) Add b (Constant (of_type Int) 1)) } ∷ record { point = 0; text = codes "4294967295u + 1u"; reading = Read (Binary' (of_type Unsigned) b (Constant (of_type Unsigned) 4294967295) Add b (Constant (of_type Unsigned) 1)) } ∷ record { point = 0; text = codes "(-2147483647 - 1) / -1"; reading = Read (Binary' (of_type Int) b (Parens' (of_type Int) b (Binary' (of_type Int) b (Unary' (of_type Int) Minus b (Constant (of_type Int) 2147483647)) Subtract b (Constant (of_type Int) 1))) Divide b (Unary' (of_type Int) Minus b (Constant (of_type Int) 1))) } ∷ record { point = 0; text = codes "1 << 32"; reading = Read (Binary' (of_type Int) b (Constant (of_type Int) 1) ShiftLeft b (Constant (of_type Int) 32)) } ∷ record { point = 0; text = codes "1 << 31"; reading = Read (Binary' (of_type Int) b (Constant (of_type Int) 1) ShiftLeft b (Constant (of_type Int) 31)) } ∷ record { point = 0; text = codes "1 +"; reading = Unread BadSyntax } ∷ record { point = 0; text = codes "putchar(1)"; reading = Unread BadType } ∷ []) []) 2000 [] ((Some command.Step) ∷ (Some (command.Eval (codes "2147483647 + 1"))) ∷ (Some (command.Eval (codes "4294967295u + 1u"))) ∷ (Some (command.Eval (codes "(-2147483647 - 1) / -1"))) ∷ (Some (command.Eval (codes "1 << 32"))) ∷ (Some (command.Eval (codes "1 << 31"))) ∷ None ∷ (Some (command.Frame 9)) ∷ (Some (command.Clear (spot.Line (codes "a.c") 1 (Some 25)))) ∷ (Some (command.Break (spot.Line (codes "a.c") 2 None))) ∷ (Some (command.Eval (codes "1 +"))) ∷ None ∷ (Some (command.Print (codes "main"))) ∷ (Some (command.Print (codes "y"))) ∷ (Some (command.Eval (codes "putchar(1)"))) ∷ (Some command.Continue) ∷ (Some command.Step) ∷ (Some command.Quit) ∷ (Some command.Step) ∷ [])).lines
+  it_tells : (session program (reader (record { point = 0; text = codes "2147483647 + 1"; reading = Read (Binary' (of_type Int) b (Constant (of_type Int) 2147483647) Add b (Constant (of_type Int) 1)) } ∷ record { point = 0; text = codes "4294967295u + 1u"; reading = Read (Binary' (of_type Unsigned) b (Constant (of_type Unsigned) 4294967295) Add b (Constant (of_type Unsigned) 1)) } ∷ record { point = 0; text = codes "(-2147483647 - 1) / -1"; reading = Read (Binary' (of_type Int) b (Parens' (of_type Int) b (Binary' (of_type Int) b (Unary' (of_type Int) Minus b (Constant (of_type Int) 2147483647)) Subtract b (Constant (of_type Int) 1))) Divide b (Unary' (of_type Int) Minus b (Constant (of_type Int) 1))) } ∷ record { point = 0; text = codes "1 << 32"; reading = Read (Binary' (of_type Int) b (Constant (of_type Int) 1) ShiftLeft b (Constant (of_type Int) 32)) } ∷ record { point = 0; text = codes "1 << 31"; reading = Read (Binary' (of_type Int) b (Constant (of_type Int) 1) ShiftLeft b (Constant (of_type Int) 31)) } ∷ record { point = 0; text = codes "1 +"; reading = Unread BadSyntax } ∷ record { point = 0; text = codes "putchar(1)"; reading = Unread BadType } ∷ []) []) 2000 [] ((Some command.Step) ∷ (Some (command.Eval (codes "2147483647 + 1"))) ∷ (Some (command.Eval (codes "4294967295u + 1u"))) ∷ (Some (command.Eval (codes "(-2147483647 - 1) / -1"))) ∷ (Some (command.Eval (codes "1 << 32"))) ∷ (Some (command.Eval (codes "1 << 31"))) ∷ None ∷ (Some (command.Frame 9)) ∷ (Some (command.Clear (spot.Line (codes "a.c") 1 (Some 25)))) ∷ (Some (command.Break (spot.Line (codes "a.c") 2 None))) ∷ (Some (command.Eval (codes "1 +"))) ∷ None ∷ (Some (command.Print (codes "main"))) ∷ (Some (command.Print (codes "y"))) ∷ (Some (command.Eval (codes "putchar(1)"))) ∷ (Some command.Continue) ∷ (Some command.Step) ∷ (Some command.Quit) ∷ (Some command.Step) ∷ [])).lines
       ≡ (codes "stop a.c:1.23 main" ∷ codes "refused undefined overflow" ∷ codes "value 0" ∷ codes "refused undefined division" ∷ codes "refused undefined shift" ∷ codes "value -2147483648" ∷ codes "refused line" ∷ codes "refused frame" ∷ codes "refused place" ∷ codes "refused place" ∷ codes "refused syntax" ∷ codes "refused line" ∷ codes "refused type" ∷ codes "refused scope" ∷ codes "refused type" ∷ codes "exited 3" ∷ codes "refused ended" ∷ [])
   unfolding computing
-  row = refl
+  it_tells = refl

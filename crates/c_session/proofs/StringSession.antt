@@ -36,7 +36,7 @@ module _ (b : Box (Unit {0}) Global) where
     symbols = (record { name = codes "getchar"; ctype = Int; refers = refers.Declared; up = None } ∷ record { name = codes "putchar"; ctype = Int; refers = refers.Declared; up = Some 0 } ∷ record { name = codes "exit"; ctype = Void; refers = refers.Declared; up = Some 1 } ∷ record { name = codes "t"; ctype = (Array' b Char 5); refers = refers.Object 0; up = Some 2 } ∷ record { name = codes "main"; ctype = Int; refers = refers.Function 0; up = Some 3 } ∷ []);
   }
 
-  row : (session program (reader (record { point = 4; text = codes "t[2]"; reading = Read (Index' (of_type Char) b (Name (of_type (Array' b Char 5)) 3) b (Constant (of_type Int) 2)) } ∷ record { point = 4; text = codes "t + 1"; reading = Read (Binary' (of_type (Pointer' b Char)) b (Name (of_type (Array' b Char 5)) 3) Add b (Constant (of_type Int) 1)) } ∷ []) []) 2000 [] ((Some command.Step) ∷ (Some command.Step) ∷ (Some command.Step) ∷ (Some command.Step) ∷ (Some command.Step) ∷ (Some (command.Print (codes "t"))) ∷ (Some (command.Eval (codes "t[2]"))) ∷ (Some (command.Eval (codes "t + 1"))) ∷ (Some command.Continue) ∷ [])).lines
+  it_tells : (session program (reader (record { point = 4; text = codes "t[2]"; reading = Read (Index' (of_type Char) b (Name (of_type (Array' b Char 5)) 3) b (Constant (of_type Int) 2)) } ∷ record { point = 4; text = codes "t + 1"; reading = Read (Binary' (of_type (Pointer' b Char)) b (Name (of_type (Array' b Char 5)) 3) Add b (Constant (of_type Int) 1)) } ∷ []) []) 2000 [] ((Some command.Step) ∷ (Some command.Step) ∷ (Some command.Step) ∷ (Some command.Step) ∷ (Some command.Step) ∷ (Some (command.Print (codes "t"))) ∷ (Some (command.Eval (codes "t[2]"))) ∷ (Some (command.Eval (codes "t + 1"))) ∷ (Some command.Continue) ∷ [])).lines
       ≡ (codes "stop t.c:1.27 main" ∷ codes "stop t.c:1.29 main" ∷ codes "stop t.c:1.41 main" ∷ codes "stop t.c:1.53 main" ∷ codes "stop t.c:1.64 main" ∷ codes "value \"h\\\"\\012\"" ∷ codes "value 10" ∷ codes "value &t+1 \"\\\"\\012\"" ∷ codes "exited 0" ∷ [])
   unfolding computing
-  row = refl
+  it_tells = refl

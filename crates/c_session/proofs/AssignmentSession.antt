@@ -34,7 +34,7 @@ module _ (b : Box (Unit {0}) Global) where
     symbols = (record { name = codes "getchar"; ctype = Int; refers = refers.Declared; up = None } ∷ record { name = codes "putchar"; ctype = Int; refers = refers.Declared; up = Some 0 } ∷ record { name = codes "exit"; ctype = Void; refers = refers.Declared; up = Some 1 } ∷ record { name = codes "x"; ctype = Int; refers = refers.Object 0; up = Some 2 } ∷ record { name = codes "main"; ctype = Int; refers = refers.Function 0; up = Some 3 } ∷ []);
   }
 
-  row : (session program (reader [] []) 2000 [] ((Some command.Step) ∷ (Some (command.Print (codes "x"))) ∷ (Some command.Step) ∷ (Some command.Step) ∷ (Some (command.Print (codes "x"))) ∷ (Some command.Step) ∷ (Some command.Step) ∷ [])).lines
+  it_tells : (session program (reader [] []) 2000 [] ((Some command.Step) ∷ (Some (command.Print (codes "x"))) ∷ (Some command.Step) ∷ (Some command.Step) ∷ (Some (command.Print (codes "x"))) ∷ (Some command.Step) ∷ (Some command.Step) ∷ [])).lines
       ≡ (codes "stop a.c:1.23 main" ∷ codes "value 0" ∷ codes "stop a.c:1.25 main" ∷ codes "stop a.c:1.32 main" ∷ codes "value 3" ∷ codes "stop a.c:1.42 main" ∷ codes "exited 3" ∷ [])
   unfolding computing
-  row = refl
+  it_tells = refl

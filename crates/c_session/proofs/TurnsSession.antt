@@ -12,7 +12,7 @@ use Rattle.c_source.specs.Source.{step}
 use Rattle.c_session.specs.Commands.{ByContinue}
 use Rattle.c_session.specs.Allowed.{Lines, Allowed, IsLate, stops_by}
 use Rattle.c_session.proofs.Computed.{reader, computing}
-use Rattle.c_session.proofs.Row1.{program}
+use Rattle.c_session.proofs.AssignmentSession.{program}
 use Rattle.c_session.proofs.Only.{start, stop}
 
 module _ (b : Box (Unit {0}) Global) where

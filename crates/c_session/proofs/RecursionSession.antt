@@ -46,7 +46,7 @@ module _ (b : Box (Unit {0}) Global) where
     symbols = (record { name = codes "getchar"; ctype = Int; refers = refers.Declared; up = None } ∷ record { name = codes "putchar"; ctype = Int; refers = refers.Declared; up = Some 0 } ∷ record { name = codes "exit"; ctype = Void; refers = refers.Declared; up = Some 1 } ∷ record { name = codes "fact"; ctype = Int; refers = refers.Function 0; up = Some 2 } ∷ record { name = codes "n"; ctype = Int; refers = refers.Local 0; up = Some 3 } ∷ record { name = codes "main"; ctype = Int; refers = refers.Function 1; up = Some 3 } ∷ []);
   }
 
-  row : (session program (reader (record { point = 3; text = codes "&n"; reading = Read (Address' (of_type (Pointer' b Int)) b (Name (of_type Int) 4)) } ∷ []) []) 2000 [] ((Some (command.Break (spot.Line (codes "f.c") 3 None))) ∷ (Some command.Continue) ∷ (Some command.Frames) ∷ (Some (command.Frame 2)) ∷ (Some (command.Print (codes "n"))) ∷ (Some (command.Eval (codes "&n"))) ∷ (Some command.Continue) ∷ [])).lines
+  it_tells : (session program (reader (record { point = 3; text = codes "&n"; reading = Read (Address' (of_type (Pointer' b Int)) b (Name (of_type Int) 4)) } ∷ []) []) 2000 [] ((Some (command.Break (spot.Line (codes "f.c") 3 None))) ∷ (Some command.Continue) ∷ (Some command.Frames) ∷ (Some (command.Frame 2)) ∷ (Some (command.Print (codes "n"))) ∷ (Some (command.Eval (codes "&n"))) ∷ (Some command.Continue) ∷ [])).lines
       ≡ (codes "break f.c:3.5" ∷ codes "stop f.c:3.5 fact" ∷ codes "frames 6" ∷ codes "frame 0 fact f.c:3.5" ∷ codes "frame 1 fact f.c:4.3" ∷ codes "frame 2 fact f.c:4.3" ∷ codes "frame 3 fact f.c:4.3" ∷ codes "frame 4 fact f.c:4.3" ∷ codes "frame 5 main f.c:6.18" ∷ codes "frame 2 fact f.c:4.3" ∷ codes "value 3" ∷ codes "value &n@3+0" ∷ codes "exited 120" ∷ [])
   unfolding computing
-  row = refl
+  it_tells = refl

@@ -46,7 +46,7 @@ module _ (b : Box (Unit {0}) Global) where
     symbols = (record { name = codes "getchar"; ctype = Int; refers = refers.Declared; up = None } ∷ record { name = codes "putchar"; ctype = Int; refers = refers.Declared; up = Some 0 } ∷ record { name = codes "exit"; ctype = Void; refers = refers.Declared; up = Some 1 } ∷ record { name = codes "deep"; ctype = Int; refers = refers.Function 0; up = Some 2 } ∷ record { name = codes "d"; ctype = Int; refers = refers.Local 0; up = Some 3 } ∷ record { name = codes "k"; ctype = Int; refers = refers.Local 1; up = Some 4 } ∷ record { name = codes "main"; ctype = Int; refers = refers.Function 1; up = Some 3 } ∷ []);
   }
 
-  row : (session program (reader (record { point = 3; text = codes "&k"; reading = Unread BadType } ∷ record { point = 3; text = codes "deep(1)"; reading = Unread BadType } ∷ record { point = 3; text = codes "kk + deep(1)"; reading = Unread NoScope } ∷ []) (record { point = 3; text = codes "k = 26"; reading = Read (Assign' (of_type Int) b (Name (of_type Int) 5) None b (Constant (of_type Int) 26)) } ∷ [])) 4000 [] ((Some (command.Break (spot.Line (codes "r.c") 6 None))) ∷ (Some command.Continue) ∷ (Some (command.Frame 9)) ∷ (Some (command.Assign (codes "k = 26"))) ∷ (Some (command.Eval (codes "&k"))) ∷ (Some (command.Eval (codes "deep(1)"))) ∷ (Some (command.Eval (codes "kk + deep(1)"))) ∷ (Some (command.Clear (spot.Line (codes "r.c") 6 None))) ∷ (Some command.Continue) ∷ [])).lines
+  it_tells : (session program (reader (record { point = 3; text = codes "&k"; reading = Unread BadType } ∷ record { point = 3; text = codes "deep(1)"; reading = Unread BadType } ∷ record { point = 3; text = codes "kk + deep(1)"; reading = Unread NoScope } ∷ []) (record { point = 3; text = codes "k = 26"; reading = Read (Assign' (of_type Int) b (Name (of_type Int) 5) None b (Constant (of_type Int) 26)) } ∷ [])) 4000 [] ((Some (command.Break (spot.Line (codes "r.c") 6 None))) ∷ (Some command.Continue) ∷ (Some (command.Frame 9)) ∷ (Some (command.Assign (codes "k = 26"))) ∷ (Some (command.Eval (codes "&k"))) ∷ (Some (command.Eval (codes "deep(1)"))) ∷ (Some (command.Eval (codes "kk + deep(1)"))) ∷ (Some (command.Clear (spot.Line (codes "r.c") 6 None))) ∷ (Some command.Continue) ∷ [])).lines
       ≡ (codes "break r.c:6.3" ∷ codes "stop r.c:6.3 deep" ∷ codes "frame 9 deep r.c:5.5" ∷ codes "set" ∷ codes "refused type" ∷ codes "refused type" ∷ codes "refused scope" ∷ codes "clear r.c:6.3" ∷ codes "exited 1" ∷ [])
   unfolding computing
-  row = refl
+  it_tells = refl

@@ -46,7 +46,7 @@ module _ (b : Box (Unit {0}) Global) where
     symbols = (record { name = codes "getchar"; ctype = Int; refers = refers.Declared; up = None } ∷ record { name = codes "putchar"; ctype = Int; refers = refers.Declared; up = Some 0 } ∷ record { name = codes "exit"; ctype = Void; refers = refers.Declared; up = Some 1 } ∷ record { name = codes "p"; ctype = (Pointer' b Int); refers = refers.Object 0; up = Some 2 } ∷ record { name = codes "f"; ctype = Void; refers = refers.Function 0; up = Some 3 } ∷ record { name = codes "z"; ctype = Int; refers = refers.Local 0; up = Some 4 } ∷ record { name = codes "main"; ctype = Int; refers = refers.Function 1; up = Some 4 } ∷ []);
   }
 
-  row : (session program (reader (record { point = 5; text = codes "p"; reading = Read (Name (of_type (Pointer' b Int)) 3) } ∷ record { point = 5; text = codes "&p"; reading = Read (Address' (of_type (Pointer' b (Pointer' b Int))) b (Name (of_type (Pointer' b Int)) 3)) } ∷ []) (record { point = 5; text = codes "p = 0"; reading = Read (Assign' (of_type (Pointer' b Int)) b (Name (of_type (Pointer' b Int)) 3) None b (Constant (of_type Int) 0)) } ∷ [])) 2000 [] ((Some (command.Break (spot.Line (codes "q.c") 1 (Some 63)))) ∷ (Some command.Continue) ∷ (Some (command.Print (codes "p"))) ∷ (Some (command.Eval (codes "p"))) ∷ (Some (command.Eval (codes "&p"))) ∷ (Some (command.Assign (codes "p = 0"))) ∷ (Some (command.Print (codes "p"))) ∷ (Some command.Continue) ∷ [])).lines
+  it_tells : (session program (reader (record { point = 5; text = codes "p"; reading = Read (Name (of_type (Pointer' b Int)) 3) } ∷ record { point = 5; text = codes "&p"; reading = Read (Address' (of_type (Pointer' b (Pointer' b Int))) b (Name (of_type (Pointer' b Int)) 3)) } ∷ []) (record { point = 5; text = codes "p = 0"; reading = Read (Assign' (of_type (Pointer' b Int)) b (Name (of_type (Pointer' b Int)) 3) None b (Constant (of_type Int) 0)) } ∷ [])) 2000 [] ((Some (command.Break (spot.Line (codes "q.c") 1 (Some 63)))) ∷ (Some command.Continue) ∷ (Some (command.Print (codes "p"))) ∷ (Some (command.Eval (codes "p"))) ∷ (Some (command.Eval (codes "&p"))) ∷ (Some (command.Assign (codes "p = 0"))) ∷ (Some (command.Print (codes "p"))) ∷ (Some command.Continue) ∷ [])).lines
       ≡ (codes "break q.c:1.63" ∷ codes "stop q.c:1.63 main" ∷ codes "value 0" ∷ codes "value 0" ∷ codes "value &p+0" ∷ codes "set" ∷ codes "value 0" ∷ codes "exited 0" ∷ [])
   unfolding computing
-  row = refl
+  it_tells = refl

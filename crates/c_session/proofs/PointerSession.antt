@@ -36,7 +36,7 @@ module _ (b : Box (Unit {0}) Global) where
     symbols = (record { name = codes "getchar"; ctype = Int; refers = refers.Declared; up = None } ∷ record { name = codes "putchar"; ctype = Int; refers = refers.Declared; up = Some 0 } ∷ record { name = codes "exit"; ctype = Void; refers = refers.Declared; up = Some 1 } ∷ record { name = codes "a"; ctype = (Array' b Int 4); refers = refers.Object 0; up = Some 2 } ∷ record { name = codes "b"; ctype = (Array' b Int 4); refers = refers.Object 1; up = Some 3 } ∷ record { name = codes "p"; ctype = (Pointer' b Int); refers = refers.Object 2; up = Some 4 } ∷ record { name = codes "q"; ctype = (Pointer' b Int); refers = refers.Object 3; up = Some 5 } ∷ record { name = codes "main"; ctype = Int; refers = refers.Function 0; up = Some 6 } ∷ []);
   }
 
-  row : (session program (reader (record { point = 3; text = codes "p == q"; reading = Read (Binary' (of_type Int) b (Name (of_type (Pointer' b Int)) 5) Equal b (Name (of_type (Pointer' b Int)) 6)) } ∷ record { point = 3; text = codes "*p"; reading = Read (Follow' (of_type Int) b (Name (of_type (Pointer' b Int)) 5)) } ∷ record { point = 3; text = codes "p - a"; reading = Read (Binary' (of_type Int) b (Name (of_type (Pointer' b Int)) 5) Subtract b (Name (of_type (Array' b Int 4)) 3)) } ∷ record { point = 3; text = codes "p + 1"; reading = Read (Binary' (of_type (Pointer' b Int)) b (Name (of_type (Pointer' b Int)) 5) Add b (Constant (of_type Int) 1)) } ∷ []) []) 2000 [] ((Some command.Step) ∷ (Some command.Step) ∷ (Some command.Step) ∷ (Some command.Step) ∷ (Some (command.Eval (codes "p == q"))) ∷ (Some (command.Print (codes "p"))) ∷ (Some (command.Eval (codes "*p"))) ∷ (Some (command.Eval (codes "p - a"))) ∷ (Some (command.Eval (codes "p + 1"))) ∷ (Some command.Step) ∷ (Some command.Step) ∷ [])).lines
+  it_tells : (session program (reader (record { point = 3; text = codes "p == q"; reading = Read (Binary' (of_type Int) b (Name (of_type (Pointer' b Int)) 5) Equal b (Name (of_type (Pointer' b Int)) 6)) } ∷ record { point = 3; text = codes "*p"; reading = Read (Follow' (of_type Int) b (Name (of_type (Pointer' b Int)) 5)) } ∷ record { point = 3; text = codes "p - a"; reading = Read (Binary' (of_type Int) b (Name (of_type (Pointer' b Int)) 5) Subtract b (Name (of_type (Array' b Int 4)) 3)) } ∷ record { point = 3; text = codes "p + 1"; reading = Read (Binary' (of_type (Pointer' b Int)) b (Name (of_type (Pointer' b Int)) 5) Add b (Constant (of_type Int) 1)) } ∷ []) []) 2000 [] ((Some command.Step) ∷ (Some command.Step) ∷ (Some command.Step) ∷ (Some command.Step) ∷ (Some (command.Eval (codes "p == q"))) ∷ (Some (command.Print (codes "p"))) ∷ (Some (command.Eval (codes "*p"))) ∷ (Some (command.Eval (codes "p - a"))) ∷ (Some (command.Eval (codes "p + 1"))) ∷ (Some command.Step) ∷ (Some command.Step) ∷ [])).lines
       ≡ (codes "stop p.c:1.44 main" ∷ codes "stop p.c:1.46 main" ∷ codes "stop p.c:1.57 main" ∷ codes "stop p.c:1.64 main" ∷ codes "value 0" ∷ codes "value &a+16" ∷ codes "refused undefined pointer" ∷ codes "value 4" ∷ codes "refused undefined pointer" ∷ codes "stop p.c:1.74 main" ∷ codes "exited 0" ∷ [])
   unfolding computing
-  row = refl
+  it_tells = refl

@@ -35,7 +35,7 @@ module _ (b : Box (Unit {0}) Global) where
     symbols = (record { name = codes "getchar"; ctype = Int; refers = refers.Declared; up = None } ∷ record { name = codes "putchar"; ctype = Int; refers = refers.Declared; up = Some 0 } ∷ record { name = codes "exit"; ctype = Void; refers = refers.Declared; up = Some 1 } ∷ record { name = codes "x"; ctype = Int; refers = refers.Object 0; up = Some 2 } ∷ record { name = codes "main"; ctype = Int; refers = refers.Function 0; up = Some 3 } ∷ record { name = codes "y"; ctype = Int; refers = refers.Local 0; up = Some 4 } ∷ record { name = codes "x"; ctype = Int; refers = refers.Local 1; up = Some 5 } ∷ record { name = codes "z"; ctype = Int; refers = refers.Local 2; up = Some 6 } ∷ []);
   }
 
-  row : (session program (reader [] []) 2000 [] ((Some (command.Break (spot.Line (codes "s.c") 8 (Some 12)))) ∷ (Some command.Continue) ∷ (Some (command.Print (codes "x"))) ∷ (Some (command.Break (spot.Line (codes "s.c") 10 None))) ∷ (Some command.Continue) ∷ (Some (command.Print (codes "x"))) ∷ (Some (command.Print (codes "z"))) ∷ (Some command.Step) ∷ (Some command.Step) ∷ [])).lines
+  it_tells : (session program (reader [] []) 2000 [] ((Some (command.Break (spot.Line (codes "s.c") 8 (Some 12)))) ∷ (Some command.Continue) ∷ (Some (command.Print (codes "x"))) ∷ (Some (command.Break (spot.Line (codes "s.c") 10 None))) ∷ (Some command.Continue) ∷ (Some (command.Print (codes "x"))) ∷ (Some (command.Print (codes "z"))) ∷ (Some command.Step) ∷ (Some command.Step) ∷ [])).lines
       ≡ (codes "break s.c:8.12" ∷ codes "stop s.c:8.12 main" ∷ codes "value 2" ∷ codes "break s.c:10.3" ∷ codes "stop s.c:10.3 main" ∷ codes "value 1" ∷ codes "refused scope" ∷ codes "stop s.c:11.1 main" ∷ codes "exited 1" ∷ [])
   unfolding computing
-  row = refl
+  it_tells = refl

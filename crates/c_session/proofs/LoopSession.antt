@@ -36,7 +36,7 @@ module _ (b : Box (Unit {0}) Global) where
     symbols = (record { name = codes "getchar"; ctype = Int; refers = refers.Declared; up = None } ∷ record { name = codes "putchar"; ctype = Int; refers = refers.Declared; up = Some 0 } ∷ record { name = codes "exit"; ctype = Void; refers = refers.Declared; up = Some 1 } ∷ record { name = codes "i"; ctype = Int; refers = refers.Object 0; up = Some 2 } ∷ record { name = codes "main"; ctype = Int; refers = refers.Function 0; up = Some 3 } ∷ []);
   }
 
-  row : (session program (reader [] []) 2000 [] ((Some (command.Break (spot.Line (codes "w.c") 1 (Some 32)))) ∷ (Some command.Continue) ∷ (Some command.Continue) ∷ (Some command.Continue) ∷ (Some command.Continue) ∷ (Some command.Continue) ∷ [])).lines
+  it_tells : (session program (reader [] []) 2000 [] ((Some (command.Break (spot.Line (codes "w.c") 1 (Some 32)))) ∷ (Some command.Continue) ∷ (Some command.Continue) ∷ (Some command.Continue) ∷ (Some command.Continue) ∷ (Some command.Continue) ∷ [])).lines
       ≡ (codes "break w.c:1.32" ∷ codes "stop w.c:1.32 main" ∷ codes "stop w.c:1.32 main" ∷ codes "stop w.c:1.32 main" ∷ codes "stop w.c:1.32 main" ∷ codes "exited 0" ∷ [])
   unfolding computing
-  row = refl
+  it_tells = refl

@@ -47,7 +47,7 @@ module _ (b : Box (Unit {0}) Global) where
     symbols = (record { name = codes "getchar"; ctype = Int; refers = refers.Declared; up = None } ∷ record { name = codes "putchar"; ctype = Int; refers = refers.Declared; up = Some 0 } ∷ record { name = codes "exit"; ctype = Void; refers = refers.Declared; up = Some 1 } ∷ record { name = codes "x"; ctype = Int; refers = refers.Object 0; up = Some 2 } ∷ record { name = codes "f"; ctype = Int; refers = refers.Function 0; up = Some 3 } ∷ record { name = codes "main"; ctype = Int; refers = refers.Function 1; up = Some 4 } ∷ []);
   }
 
-  row : (session program (reader [] (record { point = 5; text = codes "x = 100"; reading = Read (Assign' (of_type Int) b (Name (of_type Int) 3) None b (Constant (of_type Int) 100)) } ∷ [])) 2000 [] ((Some (command.Break (spot.Func (codes "f")))) ∷ (Some command.Continue) ∷ (Some (command.Frame 1)) ∷ (Some (command.Assign (codes "x = 100"))) ∷ (Some (command.Print (codes "x"))) ∷ (Some command.Continue) ∷ [])).lines
+  it_tells : (session program (reader [] (record { point = 5; text = codes "x = 100"; reading = Read (Assign' (of_type Int) b (Name (of_type Int) 3) None b (Constant (of_type Int) 100)) } ∷ [])) 2000 [] ((Some (command.Break (spot.Func (codes "f")))) ∷ (Some command.Continue) ∷ (Some (command.Frame 1)) ∷ (Some (command.Assign (codes "x = 100"))) ∷ (Some (command.Print (codes "x"))) ∷ (Some command.Continue) ∷ [])).lines
       ≡ (codes "break m.c:2.13" ∷ codes "stop m.c:2.13 f" ∷ codes "frame 1 main m.c:3.25" ∷ codes "set" ∷ codes "value 100" ∷ codes "exited 6" ∷ [])
   unfolding computing
-  row = refl
+  it_tells = refl
