@@ -1,5 +1,5 @@
 -- A plain assignment is a list of assignments to leaves.
-use Rattle.std.proofs.Common.{◌≡◌, refl, sym, ap, ◌∙◌, ℕ, ◌+◌, List, [], ◌∷◌, ◌++◌, Option, Some, None, Bool, true, false}
+use Rattle.std.proofs.Common.{◌≡◌, refl, sym, ap, ◌∙◌, ℕ, ◌+◌, List, [], ◌∷◌, Some, None, Bool, true, false}
 use Rattle.std.specs.Prelude.{Result, Ok, Err, if◌then◌else◌}
 use Rattle.c_tree.specs.declared.types.CType.{CType}
 use Rattle.c_tree.specs.declared.typed.Typed.{Typed}
@@ -8,7 +8,7 @@ use Rattle.c_tree.specs.declared.rows.Program.{Program}
 use Rattle.c_tree.specs.Types.{type_of, kind_of, is_struct}
 use Rattle.ldb_words.specs.declared.kinds.Kind.{Kind}
 use Rattle.runs.specs.Runs.{Why}
-use Rattle.c_store.specs.Store.{Value, Number, Null, At, World, Cell, load, store, load_struct, store_struct, store_all, ◌>>=◌}
+use Rattle.c_store.specs.Store.{Value, Number, Null, At, World, Cell, store, load_struct, store_struct, store_all, ◌>>=◌}
 use Rattle.c_store.specs.Frames.{Here}
 use Rattle.c_store.specs.Assigned.{Assignment, all_assigned, stored_or}
 use Rattle.c_source.specs.Blocks.{cells_of, converted}

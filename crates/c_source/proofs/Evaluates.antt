@@ -1,5 +1,5 @@
 -- The steps of an expression come to its meaning.
-use Rattle.std.proofs.Common.{◌≡◌, refl, subst, sym, ℕ, zero, suc, ◌+◌, ◌*◌, List, [], ◌∷◌, Option, Some, None, Bool, true, false}
+use Rattle.std.proofs.Common.{◌≡◌, refl, subst, sym, ℕ, zero, suc, ◌+◌, ◌*◌, List, ◌∷◌, Option, Some, None, Bool, true, false}
 use Rattle.std.specs.Prelude.{Result, Ok, Err, length, pos, slice_get, if◌then◌else◌}
 use Rattle.c_tree.specs.declared.types.CType.{CType}
 use Rattle.c_tree.specs.declared.typed.BinaryOp.{BinaryOp}
@@ -10,14 +10,14 @@ use Rattle.c_tree.specs.declared.typed.Typed.TheVariants.{Comma', Assign', Choic
 use Rattle.c_tree.specs.declared.rows.Program.{Program}
 use Rattle.c_tree.specs.Types.{type_of, kind_of, is_struct, is_array}
 use Rattle.c_tree.specs.Layout.{size_of}
-use Rattle.runs.specs.Runs.{Next, Goes, Undefined, Why}
-use Rattle.c_store.specs.Store.{Value, Number, At, World, used, load, store, moved, load_struct, store_struct, ◌>>=◌}
+use Rattle.runs.specs.Runs.{Next, Goes, Why}
+use Rattle.c_store.specs.Store.{Value, Number, At, used, load, store, moved, load_struct, store_struct, ◌>>=◌}
 use Rattle.c_store.specs.Frames.{Here, with_world}
 use Rattle.c_source.specs.Blocks.{cells_of, converted}
 use Rattle.c_source.specs.Operators.{is_zero, combined, changed}
 use Rattle.c_source.specs.Control.{Item, Eval, Locate, Load, Convert, Store, Copy, Change, Combine, Offset, Use, Discard, Truth, AndThen, OrElse, Pick, Joined, State, Activation}
 use Rattle.c_source.specs.Source.{step, on_ok, on_some, on_test, place_in, dot_offset, arrow_offset, no_value}
-use Rattle.c_source.specs.Meaning.{Given, Meant, or_ill_typed, value_at, tested, truth_of, chosen_as, indexed, member_at, value_of, place_of, assigned, scalar_assigned, struct_assigned, IsPlain, IsAssignment}
+use Rattle.c_source.specs.Meaning.{Given, Meant, or_ill_typed, value_at, truth_of, chosen_as, indexed, member_at, value_of, place_of, assigned, scalar_assigned, struct_assigned, IsPlain, IsAssignment}
 use Rattle.c_source.specs.Leads.{Steps, Leads}
 
 module _ (p : Program) where

@@ -1,5 +1,5 @@
 -- Names in scope, and how a stopping point is written.
-use Rattle.std.specs.Prelude.{ℕ, suc, zero, List, [], ◌∷◌, ◌++◌, Bool, true, not, ◌&&◌, ◌==◌, Option, Some, None, slice_get, length, filter, bytes_eq, codes, decimal, option_and_then, if◌then◌else◌}
+use Rattle.std.specs.Prelude.{ℕ, suc, zero, List, [], ◌++◌, Option, Some, None, slice_get, length, bytes_eq, codes, decimal, option_and_then, if◌then◌else◌}
 use Rattle.c_tree.specs.declared.rows.Program.{Program}
 use Rattle.c_tree.specs.declared.rows.Function.{Function}
 use Rattle.c_tree.specs.declared.rows.Point.{Point}

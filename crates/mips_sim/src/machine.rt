@@ -1,6 +1,6 @@
 // The machine.
 
-ghost use Rattle.std.specs.Prelude.{◌≡◌, ◌<◌, ◌+◌, ◌*◌, ◌^◌, ◌⊎◌, length, is_ok, None, IfOk};
+ghost use Rattle.std.specs.Prelude.{◌≡◌, ◌<◌, ◌+◌, ◌*◌, ◌^◌, ◌⊎◌, length, is_ok, None, IfOk, vec_len};
 ghost use Rattle.ldb_words.specs.Word.{sign_extended};
 ghost use Rattle.machine_state.specs.declared.layout.TheConstants.{MIPS};
 
@@ -21,9 +21,11 @@ const INPUT_SIZE: usize = 0x0100_0000;
 const SLOTS: usize = 4096;
 
 /// Slots for decoded words, which hold the word 0 at first.
-fn decoded_zeros(alloc: Global) -> Result<Vec<Decoded>, AllocError> {
-    let mut slots = Vec::with_capacity(alloc, SLOTS)?;
-    for _slot in 0..SLOTS {
+fn decoded_zeros(alloc: Global, count: usize) -> Result<Vec<Decoded>, AllocError>
+    ensures { IfOk result (λ slots. vec_len slots ≡ count) }
+{
+    let mut slots = Vec::with_capacity(alloc, count)?;
+    for _slot in 0..count {
         slots.push(Decoded::new(0))?;
     }
     Ok(slots)
@@ -76,7 +78,7 @@ impl Model for Machine {
       put = m.put;
     } };
 
-    ghost invariant = { λ m. (slice_index m.registers 0 ≡ 0) × (m.taken ≤ vec_len m.input) × (vec_len m.input ≤ 2 ^ 24) × (2 ^ 24 ≤ vec_capacity m.input) };
+    ghost invariant = { λ m. (slice_index m.registers 0 ≡ 0) × (m.taken ≤ vec_len m.input) × (vec_len m.input ≤ 2 ^ 24) × (2 ^ 24 ≤ vec_capacity m.input) × (vec_len m.slots ≡ 4096) };
 }
 
 impl Machine {
@@ -110,7 +112,7 @@ impl Machine {
             loaded: 0,
             wait: 0,
             memory,
-            slots: decoded_zeros(alloc)?,
+            slots: decoded_zeros(alloc, SLOTS)?,
             input,
             taken: 0,
             put: None,
@@ -153,7 +155,9 @@ impl Machine {
         self.next_pc = self.next_pc.wrapping_add(4);
         self.in_slot = false;
         self.loaded = 0;
-        self.wait = self.wait.saturating_sub(1);
+        if self.wait > 0 {
+            self.wait -= 1;
+        }
         self.put = None;
     }
 
@@ -393,14 +397,13 @@ impl Machine {
     /// The instruction of a word, decoded anew and kept in a slot.
     #[inline(never)]
     fn decode_into(&mut self, at: usize, word: u32) -> Option<Insn>
+        requires { at < 4096 }
         ensures insn { result ≡ insn_of word }
         ensures kept { self.new ≡ self.old }
     {
         let fresh = Decoded::new(word);
         let insn = fresh.insn();
-        if let Some(slot) = self.slots.get_mut(at) {
-            *slot = fresh;
-        }
+        self.slots[at] = fresh;
         insn
     }
 
@@ -411,10 +414,9 @@ impl Machine {
         ensures kept { self.new ≡ self.old }
     {
         let at = (self.pc >> 2 & 0xfff) as usize;
-        if let Some(slot) = self.slots.get(at) {
-            if slot.word() == word {
-                return slot.insn();
-            }
+        let slot = &self.slots[at];
+        if slot.word() == word {
+            return slot.insn();
         }
         self.decode_into(at, word)
     }

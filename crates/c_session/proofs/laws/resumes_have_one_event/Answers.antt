@@ -1,4 +1,4 @@
-use Rattle.runs.proofs.Once.{until_once, Same}
+use Rattle.runs.proofs.Once.{until_once}
 use Rattle.c_source.specs.Source.{step}
 use Rattle.c_session.proofs.laws.resumes_have_one_event.Goals as goal
 

@@ -1,4 +1,4 @@
-use Rattle.runs.proofs.Once.{until_once, Same}
+use Rattle.runs.proofs.Once.{until_once}
 use Rattle.runs.proofs.laws.one_event.Goals as goal
 
 pub returns : goal.returns
