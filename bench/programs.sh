@@ -1,5 +1,5 @@
 #!/usr/bin/env bash
-# programs.sh: makes each C program of bench/mips for both targets and for the host with gcc, and compares what the
+# programs.sh: makes each C program of bench/programs for both targets and for the host with gcc, and compares what the
 # simulator's run prints, and its status, with the host's. Needs gcc, gcc-mipsel-linux-gnu and gcc-sparc64-linux-gnu.
 set -eu
 here=$(cd "$(dirname "$0")" && pwd)
@@ -20,7 +20,7 @@ compared() {
     fi
 }
 
-for source in "$here"/mips/*.c; do
+for source in "$here"/programs/*.c; do
     name=$(basename "$source" .c)
     gcc -O2 -w -o "$folder/host" "$source"
     "$folder/host" <"$input" >"$folder/expected" && status=0 || status=$?
