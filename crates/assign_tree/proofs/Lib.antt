@@ -1,0 +1,4 @@
+pub mod Objects
+pub mod Sums
+pub mod Runs
+pub mod Resumes
