@@ -134,3 +134,6 @@ module _ (file : List ℕ) (names : List (List ℕ)) (tasks : List Task) (body :
       let exact : checked (signed (word_of_signed m) -ℤ signed (word_of_signed n)) ≡ checked (m -ℤ n) =
       ap (λ u. checked (u -ℤ signed (word_of_signed n))) (signed_word m (operand_is_int a x i)) ∙ ap (λ u. checked (m -ℤ u)) (signed_word n (operand_is_int b y j)) in
       rw (operand_means a x i) (rw (operand_means b y j) (rw (operand_int a x i) (rw (operand_int b y j) (subtracted [] h.world (word_of_signed m) (word_of_signed n) (checked (m -ℤ n)) exact))))
+
+  pub one_int : (a : Operand) (e : Typed) (z : ℤ) → IsSum (length names) (One a) e → sum_value values (One a) ≡ Ok z → is_int z ≡ true
+  one_int a e z (one _ x i) v = let same : operand_value values a ≡ z = cc in ap is_int (sym same) ∙ operand_is_int a x i
