@@ -2,3 +2,5 @@ pub mod Objects
 pub mod Sums
 pub mod Runs
 pub mod Resumes
+pub mod Begins
+pub mod Numbered

@@ -39,7 +39,7 @@ use Rattle.assign_tree.proofs.Runs.{Meets, meets_on, meets_along, meets_stop, me
 
 -- ---- the assignments' own runs
 
-pass_runs : (at : Place) (later : List Task) (values : List ℤ) (status : ℤ) (e : Event) (new : Left) → small.RunsTo (state (Pass at ∷ later) values status) e new → (e ≡ event.Stop at) × (new ≡ state later values status)
+pub pass_runs : (at : Place) (later : List Task) (values : List ℤ) (status : ℤ) (e : Event) (new : Left) → small.RunsTo (state (Pass at ∷ later) values status) e new → (e ≡ event.Stop at) × (new ≡ state later values status)
 pass_runs at later values status e new (small.stops s t a h) = (cc, cc)
 pass_runs at later values status e new (small.exits s v h) = absurd cc
 pass_runs at later values status e new (small.goes s m t a h r) = absurd cc
@@ -59,7 +59,7 @@ undefined_runs s why e new g (small.stops _ t a h) = absurd cc
 undefined_runs s why e new g (small.exits _ v h) = absurd cc
 undefined_runs s why e new g (small.goes _ n t a h r) = absurd cc
 
-pass_defined : (at : Place) (later : List Task) (values : List ℤ) (status : ℤ) → small.RunsToUndefined (state (Pass at ∷ later) values status) → ⊥
+pub pass_defined : (at : Place) (later : List Task) (values : List ℤ) (status : ℤ) → small.RunsToUndefined (state (Pass at ∷ later) values status) → ⊥
 pass_defined at later values status (small.undefined s why h) = absurd cc
 pass_defined at later values status (small.undefined_later s m h r) = absurd cc
 
