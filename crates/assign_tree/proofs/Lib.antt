@@ -4,3 +4,5 @@ pub mod Runs
 pub mod Resumes
 pub mod Begins
 pub mod Numbered
+pub mod Words
+pub mod Exists
