@@ -28,8 +28,8 @@ use Rattle.c_tree.specs.declared.typed.Stmt.{Stmt, Row_of-Stmt, end_of-Stmt, mor
 use Rattle.c_tree.specs.declared.typed.Stmt.TheVariants as stmt
 use Rattle.c_tree.specs.declared.rows.Program.{Program}
 use Rattle.c_tree.specs.Rows.{stmts}
-use Rattle.assign_tree.specs.Spelled.{symbol_of, int_at, site_at, IsOperand, name, constant, IsSum, one, plus, minus, assignment, AreStatements, assigns, returns, IsBody, block, program_with, IsSpelled}
-use Rattle.assign_tree.proofs.Words.{by_bool, AreNames, no_names, one_more, object_is}
+use Rattle.assign_tree.specs.Spelled.{symbol_of, int_at, site_at, IsOperand, name, constant, IsSum, one, plus, minus, assignment, AreStatements, assigns, returns, IsBody, block, program_with, AreNames, IsSpelled}
+use Rattle.assign_tree.proofs.Words.{no_names, one_more, object_is}
 
 some_same : {A : Type 0} {x y : A} → ◌≡◌ {A = Option A} (Some x) (Some y) → x ≡ y
 some_same e = cc
@@ -286,32 +286,29 @@ declared_is names (s ∷ t ∷ u ∷ rest) found are h =
 
 -- ---- texts
 
--- a text that is accepted: its names differ, and it spells a program
-pub record Taken (file : List ℕ) (tasks : Tasks) : Type 0 where
-  pub names : AreNames tasks.objects
-  pub body : Stmt
-  pub is : IsBody (length tasks.objects) tasks.body body
-
 module _ (b : Box (Unit {0}) Global) (file : List ℕ) where
+  abbrev pub Spells : Tasks → Type 0
+  Spells tasks = (p : Program) × IsSpelled file tasks p
+
   by_known : (found : Declared) (body : List Task) (o : Option (List ℕ)) (tasks : Tasks) → AreNames found.0 → length found.1 ≤ 65536 → body_of found.0 found.1 ≡ Some body → unknown_in found.0 found.1 ≡ o
-      → known_reading o found.0 body ≡ Accepted tasks → Taken file tasks
+      → known_reading o found.0 body ≡ Accepted tasks → Spells tasks
   by_known found body None tasks are few read known h =
       let same : ◌≡◌ {A = Tasks} (record { objects = found.0; body = body }) tasks = cc in
       let made = body_read b found.0 found.1 body (all_known found.0 found.1 known) few read in
-      subst (Taken file) same (record { names = are; body = made.0; is = made.1 })
+      subst Spells same (_, record { names = are; body = made.0; block = made.1; is = refl })
   by_known found body (Some w) tasks are few read known h = absurd cc
 
-  by_body : (found : Declared) (o : Option (List Task)) (tasks : Tasks) → AreNames found.0 → length found.1 ≤ 65536 → body_of found.0 found.1 ≡ o → body_reading found o ≡ Accepted tasks → Taken file tasks
+  by_body : (found : Declared) (o : Option (List Task)) (tasks : Tasks) → AreNames found.0 → length found.1 ≤ 65536 → body_of found.0 found.1 ≡ o → body_reading found o ≡ Accepted tasks → Spells tasks
   by_body found (Some body) tasks are few e h = by_known found body (unknown_in found.0 found.1) tasks are few e refl h
   by_body found None tasks are few e h = absurd cc
 
-  by_declared : (tokens : List Token) (o : Option Declared) (tasks : Tasks) → length tokens ≤ 65536 → declared_from [] tokens ≡ o → main_reading o ≡ Accepted tasks → Taken file tasks
+  by_declared : (tokens : List Token) (o : Option Declared) (tasks : Tasks) → length tokens ≤ 65536 → declared_from [] tokens ≡ o → main_reading o ≡ Accepted tasks → Spells tasks
   by_declared tokens (Some found) tasks few e h = let d = declared_is [] tokens found no_names e in by_body found (body_of found.0 found.1) tasks d.0 (omega (arith, few, d.1)) refl h
   by_declared tokens None tasks few e h = absurd cc
 
-  pub taken : (text : List ℕ) (tasks : Tasks) → reading_of text ≡ Accepted tasks → Taken file tasks
-  taken text tasks h = by (nat_le (length text) 65536) refl h
+  pub spells : (text : List ℕ) (tasks : Tasks) → reading_of text ≡ Accepted tasks → Spells tasks
+  spells text tasks h = by (nat_le (length text) 65536) refl h
     where
-      by : (x : Bool) → nat_le (length text) 65536 ≡ x → (if x then main_reading (declared_from [] (tokens_of text)) else Later) ≡ Accepted tasks → Taken file tasks
+      by : (x : Bool) → nat_le (length text) 65536 ≡ x → (if x then main_reading (declared_from [] (tokens_of text)) else Later) ≡ Accepted tasks → Spells tasks
       by true e g = let few = few_tokens (record { line = 1; column = 1 }) text in let low = leb-true (length text) 65536 e in by_declared (tokens_of text) (declared_from [] (tokens_of text)) tasks (omega (arith, few, low)) refl g
       by false e g = absurd cc

@@ -8,6 +8,7 @@ use Rattle.std.specs.Prelude.{slice_get, position, is_none}
 use Rattle.std.specs.List.{position_from}
 use Rattle.std.specs.Str.{bytes_eq}
 use Rattle.c_model.specs.Names.{is_name, object_of}
+use Rattle.assign_tree.specs.Spelled.{AreNames}
 
 pub by_bool : {A : Type 0} (b : Bool) → (b ≡ true → A) → (b ≡ false → A) → A
 by_bool true f g = f refl
@@ -62,10 +63,6 @@ pub object_absent : (names : List (List ℕ)) (w : List ℕ) (k : ℕ) → objec
 object_absent names w k e h = absent_from w 0 k names (sym (position_from-zero (bytes_eq w) names) ∙ e) h
 
 -- ---- different names of objects
-
-pub record AreNames (names : List (List ℕ)) : Type 0 where
-  pub named : (k : ℕ) (w : List ℕ) → slice_get names k ≡ Some w → is_name w ≡ true
-  pub differ : (i k : ℕ) (w : List ℕ) → slice_get names i ≡ Some w → slice_get names k ≡ Some w → i ≡ k
 
 pub no_names : AreNames []
 no_names = record { named = λ k w h. absurd cc; differ = λ i k w h g. absurd cc }

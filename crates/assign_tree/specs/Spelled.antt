@@ -1,5 +1,5 @@
 -- The program of C that a text of assignments spells.
-use Rattle.std.specs.Prelude.{◌≡◌, ℕ, suc, ◌<◌, ◌≤◌, List, [], ◌∷◌, ◌++◌, length, codes, pos, false, None, Some, Box, Vec}
+use Rattle.std.specs.Prelude.{◌≡◌, ℕ, suc, ◌<◌, List, [], ◌∷◌, ◌++◌, length, codes, pos, true, false, None, Some, Box, Vec, slice_get}
 use Rattle.std.specs.declared.alloc.Global.{Global}
 use Rattle.c_model.specs.declared.tree.Place.{Place}
 use Rattle.c_model.specs.declared.tree.Operand.{Operand}
@@ -25,6 +25,7 @@ use Rattle.c_tree.specs.declared.rows.Point.{Point}
 use Rattle.c_tree.specs.declared.rows.Start.TheVariants as start
 use Rattle.c_tree.specs.declared.rows.Referent.TheVariants as refers
 use Rattle.c_tree.specs.Rows.{stmts}
+use Rattle.c_model.specs.Names.{is_name}
 
 -- ---- rows
 
@@ -126,6 +127,14 @@ pub data IsBody (count : ℕ) : List Task → Stmt → Type 0 where
   block : (offset : ℕ) (brace close : Place) (tasks : List Task) (shape : Vec (Unit {0}) Global) (row : Row_of-Stmt _) → AreStatements count close 1 tasks (stmts row)
       → IsBody count (Pass brace ∷ tasks) (stmt.Block' (site_at offset brace) [] shape row close.line close.column)
 
--- A program is what a text of this tree in this file spells. Where nodes lie in memory, and where operands begin, is left open.
-abbrev pub IsSpelled : List ℕ → Tasks → Program → Type 0
-IsSpelled file tasks p = (body : Stmt) × IsBody (length tasks.objects) tasks.body body × (p ≡ program_with file tasks.objects tasks.body body)
+-- the names of objects: identifiers that are no function's, all different (C90 6.5, 6.1.2)
+pub record AreNames (names : List (List ℕ)) : Type 0 where
+  pub named : (k : ℕ) (w : List ℕ) → slice_get names k ≡ Some w → is_name w ≡ true
+  pub differ : (i k : ℕ) (w : List ℕ) → slice_get names i ≡ Some w → slice_get names k ≡ Some w → i ≡ k
+
+-- A text of this tree in this file spells the program. Where nodes lie in memory, and where operands begin, is left open.
+pub record IsSpelled (file : List ℕ) (tasks : Tasks) (p : Program) : Type 0 where
+  pub names : AreNames tasks.objects
+  pub body : Stmt
+  pub block : IsBody (length tasks.objects) tasks.body body
+  pub is : p ≡ program_with file tasks.objects tasks.body body

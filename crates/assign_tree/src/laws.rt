@@ -1,8 +1,20 @@
 // What holds of programs of assignments.
-ghost use Rattle.std.specs.Prelude.{◌≡◌, ◌<◌, ℕ, ℤ, List, length, slice_get, Some, pos, ◌+◌};
-ghost use Rattle.std.specs.List.{slice_index_or};
-ghost use Rattle.assign_tree.specs.Stands.{int_object, int_objects};
+ghost use Rattle.std.specs.Prelude.{◌≡◌, ℕ, List, Box};
+ghost use Rattle.std.specs.declared.alloc.Global.{Global};
+ghost use Rattle.c_model.specs.declared.tree.Task.{Task};
+ghost use Rattle.c_model.specs.declared.tree.Program.{Program as Tasks};
+ghost use Rattle.c_model.specs.Grammar.{Accepted, reading_of};
+ghost use Rattle.c_tree.specs.declared.rows.Program.{Program};
+ghost use Rattle.c_tree.specs.Points.{HasItsPoints};
+ghost use Rattle.c_tree.specs.declared.typed.Stmt.{Stmt};
+ghost use Rattle.assign_tree.specs.Spelled.{IsBody, IsSpelled, main_of};
 
-pub fn tasks_run_as_programs()
-    ensures { (k i : ℕ) (values : List ℤ) → i < length values → slice_get (int_objects k values) i ≡ Some (int_object (k + i) (slice_index_or values i (pos 0))) }
+/// Each text of the form spells a program.
+pub fn texts_spell_programs()
+    ensures { (b : Box (Unit {0}) Global) (file text : List ℕ) (tasks : Tasks) → reading_of text ≡ Accepted tasks → (p : Program) × IsSpelled file tasks p }
+{}
+
+/// The stopping points of `main` are those that its tree keeps.
+pub fn main_has_its_points()
+    ensures { (count : ℕ) (tasks : List Task) (body : Stmt) → IsBody count tasks body → HasItsPoints (main_of tasks body) }
 {}

@@ -3,4 +3,4 @@
 
 mod laws;
 
-pub use laws::tasks_run_as_programs;
+pub use laws::{main_has_its_points, texts_spell_programs};
