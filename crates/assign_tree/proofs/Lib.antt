@@ -6,3 +6,4 @@ pub mod Begins
 pub mod Numbered
 pub mod Words
 pub mod Exists
+pub mod Scope

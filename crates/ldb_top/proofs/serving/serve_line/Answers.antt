@@ -1,5 +1,5 @@
 use Rattle.std.proofs.Common.{inl, inr, refl, subst}
-use Rattle.c_model.specs.Session.{no_memory_text}
+use Rattle.ldb_top.specs.Follows.{no_memory_text}
 use Rattle.ldb_top.specs.Talk.{IsAnswered}
 use Rattle.ldb_top.proofs.Served.{wrote}
 use Rattle.ldb_top.proofs.serving.serve_line.Goals as goal
