@@ -7,3 +7,4 @@ pub mod Numbered
 pub mod Words
 pub mod Exists
 pub mod Scope
+pub mod Standing

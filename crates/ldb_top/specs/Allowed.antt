@@ -25,6 +25,10 @@ TakesNames r = (w : List ℕ) → r.is_name w ≡ is_identifier w
 abbrev pub MayWrite : Tasks → List ℕ → List (List ℕ) → Lines → Type 0
 MayWrite tasks file lines transcript = (p : Program) (r : Reader) → IsSpelled file tasks p → TakesNames r → whole.Allowed p r 1 [] (commands_of lines) transcript []
 
+-- these bytes are such lines
+abbrev pub IsTranscript : Tasks → List ℕ → List (List ℕ) → List ℕ → Type 0
+IsTranscript tasks file lines bytes = (transcript : Lines) × (bytes ≡ bytes_of transcript) × MayWrite tasks file lines transcript
+
 -- ---- on the way
 
 -- without breakpoints, in the innermost frame, with the first limit

@@ -82,9 +82,7 @@ IsResumable Ended = ⊥
 IsResumable _ = Unit {0}
 
 -- a resume meets an undefined task before its event, and its reply tells any event
-pub record Breaks (file : List ℕ) (command : Option Command) (old : Session) (reply : List ℕ) : Type 0 where
-  pub resumes : command ≡ Some Step
-  pub resumable : IsResumable old.phase
+pub record Breaks (file : List ℕ) (old : Session) (reply : List ℕ) : Type 0 where
   pub meets : RunsToUndefined old.source
   pub event : Event
   pub reply_is : reply ≡ event_text file event
