@@ -1,6 +1,6 @@
 // A program that runs on the machine.
 ghost use Rattle.std.specs.Prelude.{◌≡◌, ◌<◌, ◌≤◌, ◌⊎◌, ◌*◌, ◌^◌, [], ◌∷◌, length, slice_index, IfOk, MatchOption};
-ghost use Rattle.c_model.specs.Source.{object_value, first_state, next, RunsTo, RunsToUndefined};
+ghost use Rattle.assign_tree.specs.Tasks.{object_value, first_state, next, RunsTo, RunsToUndefined};
 ghost use Rattle.assign_run.specs.Steps.{IsStep, kind_of};
 ghost use Rattle.assign_run.specs.Standing.{stepped, object_words, Begins};
 
@@ -35,7 +35,7 @@ pub struct Run<'a> {
 
 impl<'a> Model for Run<'a> {
     ghost use Rattle.std.specs.Prelude.{◌≤◌};
-    ghost use Rattle.c_model.specs.Source.{State};
+    ghost use Rattle.assign_tree.specs.Tasks.{State};
     ghost use Rattle.assign_run.specs.Standing.{Ready, source_state};
 
     ghost Value = { State };

@@ -7,8 +7,8 @@ use Rattle.c_model.specs.declared.tree.Task.{Task}
 use Rattle.c_model.specs.declared.tree.Task.TheVariants.{Pass}
 use Rattle.c_model.specs.declared.event.Event.{Event}
 use Rattle.c_model.specs.declared.event.Event.TheVariants as event
-use Rattle.c_model.specs.Source as small
-use Rattle.c_model.specs.Source.{State as Left, state}
+use Rattle.assign_tree.specs.Tasks as small
+use Rattle.assign_tree.specs.Tasks.{State as Left, state}
 use Rattle.c_tree.specs.declared.typed.Stmt.{Stmt}
 use Rattle.c_tree.specs.declared.typed.Stmt.TheVariants as stmt
 use Rattle.c_tree.specs.Rows.{stmts}

@@ -8,3 +8,4 @@ pub mod Words
 pub mod Exists
 pub mod Scope
 pub mod Standing
+pub mod Besides

@@ -14,8 +14,8 @@ use Rattle.c_model.specs.declared.tree.Task.{Task}
 use Rattle.c_model.specs.declared.tree.Task.TheVariants.{Pass, Store, Give}
 use Rattle.c_model.specs.declared.event.Event.{Event}
 use Rattle.c_model.specs.declared.event.Event.TheVariants as event
-use Rattle.c_model.specs.Source as small
-use Rattle.c_model.specs.Source.{State as Left, state, operand_value, sum_value}
+use Rattle.assign_tree.specs.Tasks as small
+use Rattle.assign_tree.specs.Tasks.{State as Left, state, operand_value, sum_value}
 use Rattle.c_tree.specs.declared.types.CType.TheVariants.{Int}
 use Rattle.c_tree.specs.declared.typed.Site.{Site}
 use Rattle.c_tree.specs.declared.typed.Typed.{Typed}

@@ -5,7 +5,7 @@ use Rattle.std.specs.List.{list_all}
 use Rattle.ldb_words.specs.Arithmetic.{is_int}
 use Rattle.c_model.specs.declared.tree.Place.{Place}
 use Rattle.c_model.specs.declared.tree.Task.{Task}
-use Rattle.c_model.specs.Source.{State as Left}
+use Rattle.assign_tree.specs.Tasks.{State as Left}
 use Rattle.c_store.specs.Store.{Value}
 use Rattle.c_source.specs.Control.{State, Item}
 use Rattle.assign_tree.specs.Spelled.{point_row, point_rows}

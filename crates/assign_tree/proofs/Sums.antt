@@ -14,7 +14,7 @@ use Rattle.c_model.specs.declared.tree.Operand.TheVariants.{Object, Constant}
 use Rattle.c_model.specs.declared.tree.Sum.{Sum}
 use Rattle.c_model.specs.declared.tree.Sum.TheVariants.{One, Plus, Minus}
 use Rattle.c_model.specs.declared.tree.Task.{Task}
-use Rattle.c_model.specs.Source.{operand_value, sum_value}
+use Rattle.assign_tree.specs.Tasks.{operand_value, sum_value}
 use Rattle.c_tree.specs.declared.types.CType.{CType}
 use Rattle.c_tree.specs.declared.types.CType.TheVariants.{Int}
 use Rattle.c_tree.specs.declared.types.StructDef.{StructDef}

@@ -1,9 +1,10 @@
 -- Where a run of such a program stands, beside what the assignments themselves have left to do.
-use Rattle.std.specs.Prelude.{◌≡◌, ℕ, suc, ◌<◌, List, [], ◌∷◌, ◌++◌, length, drop, slice_get, ℤ, pos, true, Some, Box}
+use Rattle.std.specs.Prelude.{◌≡◌, ℕ, suc, ◌<◌, List, [], ◌∷◌, ◌++◌, length, drop, slice_get, ℤ, pos, Bool, true, replicate, Some, Box}
 use Rattle.std.specs.List.{list_all}
 use Rattle.std.specs.declared.alloc.Global.{Global}
 use Rattle.ldb_words.specs.Arithmetic.{is_int}
 use Rattle.ldb_words.specs.Word.{word_of_signed}
+use Rattle.ldb_words.specs.declared.kinds.Undef.{Undef}
 use Rattle.ldb_words.specs.declared.kinds.Kind.TheVariants.{Word}
 use Rattle.c_model.specs.declared.tree.Place.{Place}
 use Rattle.c_model.specs.declared.tree.Sum.{Sum}
@@ -11,15 +12,18 @@ use Rattle.c_model.specs.declared.tree.Task.{Task}
 use Rattle.c_model.specs.declared.tree.Task.TheVariants.{Pass, Store, Give}
 use Rattle.c_model.specs.declared.event.Event.{Event}
 use Rattle.c_model.specs.declared.event.Event.TheVariants as event
-use Rattle.c_model.specs.Source.{State as Left, state}
+use Rattle.assign_tree.specs.Tasks.{State as Left, state}
 use Rattle.c_tree.specs.declared.types.CType.TheVariants.{Int}
 use Rattle.c_tree.specs.declared.typed.Site.{Site}
 use Rattle.c_tree.specs.declared.typed.Typed.{Typed}
 use Rattle.c_tree.specs.declared.typed.Stmt.{Stmt}
 use Rattle.runs.specs.Runs as runs
+use Rattle.runs.specs.Runs.{RunsTo, Failed, Reason}
 use Rattle.c_store.specs.Store.{Object, Value, Number, Static}
 use Rattle.c_source.specs.Control.{State, Item, Eval, Convert, Discard, Push, Open, GiveBack, Leave, runs_of, last_of}
-use Rattle.assign_tree.specs.Spelled.{point_row, point_rows, numbers_from, assignment, IsSum, AreStatements}
+use Rattle.c_source.specs.Begin.{begin}
+use Rattle.c_source.specs.Source.{step}
+use Rattle.assign_tree.specs.Spelled.{point_row, point_rows, numbers_from, assignment, program_with, IsSum, AreStatements, IsBody}
 
 -- ---- the state
 
@@ -80,3 +84,28 @@ Answers names tasks (event.Stop at) left (runs.Stopped q s) =
     Stands names tasks left s × (slice_get (point_rows (length names) tasks) q ≡ Some (point_row (length names) at)) × (s.here.world.output ≡ [])
 Answers names tasks (event.Exit status) left (runs.Exited n s) = (n ≡ status) × (s.here.world.output ≡ [])
 Answers names tasks _ left _ = ⊥
+
+-- beside what is left stands the program before its start, or at a stop
+pub data IsBeside (file : List ℕ) (names : List (List ℕ)) (tasks : List Task) (body : Stmt) : Left → State → Type 0 where
+  beginning : IsBeside file names tasks body (state tasks (replicate (length names) (pos 0)) (pos 0)) (begin (program_with file names tasks body) [])
+  stopping : (left : Left) (s : State) → Stands names tasks left s → IsBeside file names tasks body left s
+
+-- `step` stops at each point
+abbrev pub every : ℕ → Bool
+every q = true
+
+-- a run of the program from a state to this event
+abbrev pub Meets : List ℕ → List (List ℕ) → List Task → Stmt → State → runs.Event State → Type 0
+Meets file names tasks body s whole = (count : ℕ) × RunsTo State (step (program_with file names tasks body)) every s count whole
+
+-- Each program that stands beside what is left comes to this event, and stands then beside what is left behind it.
+abbrev pub ComesTo : Left → Event → Left → Type 0
+ComesTo old e new =
+    (file : List ℕ) (names : List (List ℕ)) (tasks : List Task) (body : Stmt) (s : State) → IsBody (length names) tasks body → IsBeside file names tasks body old s
+    → (whole : runs.Event State) × Meets file names tasks body s whole × Answers names tasks e new whole
+
+-- Each program that stands beside what is left meets an undefined step first.
+abbrev pub Fails : Left → Type 0
+Fails old =
+    (file : List ℕ) (names : List (List ℕ)) (tasks : List Task) (body : Stmt) (s : State) → IsBody (length names) tasks body → IsBeside file names tasks body old s
+    → (why : Undef) × Meets file names tasks body s (Failed (Reason why))

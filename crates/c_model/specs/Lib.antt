@@ -2,6 +2,5 @@ pub mod Scan
 pub mod Names
 pub mod Constant
 pub mod Seen
-pub mod Source
 pub mod Grammar
 pub mod Read

@@ -11,8 +11,8 @@ use Rattle.c_model.specs.declared.tree.Program.{Program as Tasks}
 use Rattle.c_model.specs.declared.event.Event.{Event}
 use Rattle.c_model.specs.declared.event.Event.TheVariants as event
 use Rattle.c_model.specs.Names.{object_of, print_refusal, is_identifier, is_function, is_name}
-use Rattle.c_model.specs.Source as small
-use Rattle.c_model.specs.Source.{State as Left, object_value, first_state}
+use Rattle.assign_tree.specs.Tasks as small
+use Rattle.assign_tree.specs.Tasks.{State as Left, object_value, first_state}
 use Rattle.ldb_words.specs.declared.kinds.Undef.{Undef}
 use Rattle.ldb_words.specs.Arithmetic.{is_int}
 use Rattle.ldb_words.specs.Word.{signed, word_of_signed}

@@ -5,7 +5,7 @@ use Rattle.c_model.specs.Names.{is_identifier}
 use Rattle.c_tree.specs.declared.rows.Program.{Program}
 use Rattle.c_source.specs.Begin.{begin}
 use Rattle.c_source.specs.Control.{State}
-use Rattle.c_model.specs.Source.{State as Left}
+use Rattle.assign_tree.specs.Tasks.{State as Left}
 use Rattle.c_session.specs.declared.command.Command.{Command}
 use Rattle.c_session.specs.Commands.{Reader, Mode, answer}
 use Rattle.c_session.specs.Commands as mode

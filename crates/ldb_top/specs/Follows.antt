@@ -9,7 +9,7 @@ use Rattle.ldb_top.specs.declared.session.Phase.{Phase}
 use Rattle.ldb_top.specs.declared.session.Phase.TheVariants.{Fresh, Stopped, Ended}
 use Rattle.c_model.specs.declared.tree.Program.{Program}
 use Rattle.c_model.specs.Names.{object_of, print_refusal}
-use Rattle.c_model.specs.Source.{State, first_state, object_value, RunsTo, RunsToUndefined}
+use Rattle.assign_tree.specs.Tasks.{State, first_state, object_value, RunsTo, RunsToUndefined}
 
 -- where the session is, and what is left of the program
 pub record Session : Type 0 where
