@@ -11,7 +11,6 @@ use Rattle.c_model.specs.declared.tree.Program.{Program as Tasks}
 use Rattle.c_model.specs.declared.event.Event.{Event}
 use Rattle.c_model.specs.declared.event.Event.TheVariants as event
 use Rattle.c_model.specs.Names.{object_of, print_refusal, is_identifier, is_function, is_name}
-use Rattle.assign_tree.specs.Tasks as small
 use Rattle.assign_tree.specs.Tasks.{State as Left, object_value, first_state}
 use Rattle.ldb_words.specs.declared.kinds.Undef.{Undef}
 use Rattle.ldb_words.specs.Arithmetic.{is_int}
@@ -33,10 +32,7 @@ use Rattle.c_session.specs.Commands.{Reader, Answer, Refuses, BadSyntax, NoScope
 use Rattle.c_session.specs.Commands as mode
 use Rattle.c_session.specs.Allowed.{Lines, bytes_of, Standing, AnswerReplies, MemoryReplies, ClaimEnds, event_text, after_event, event_output}
 use Rattle.assign_tree.specs.Spelled.{IsBody, IsSpelled, AreNames, program_with, point_row, point_rows, object_row, object_rows, object_symbol, main_symbol}
-use Rattle.assign_tree.specs.Stands.{Stands, Answers, at_point, int_object}
-use Rattle.assign_tree.proofs.Resumes.{Resumed, resumed, fails}
-use Rattle.assign_tree.proofs.Runs.{Meets}
-use Rattle.assign_tree.proofs.Begins.{started, start_defined}
+use Rattle.assign_tree.specs.Stands.{Stands, Answers, Meets, IsBeside, beginning, stopping, ComesTo, Fails, at_point, int_object}
 use Rattle.assign_tree.proofs.Standing.{Stop, stop_of}
 use Rattle.assign_tree.proofs.Words.{object_is, object_absent, by_bool, bytes_same, bytes_differ, same_bytes}
 use Rattle.assign_tree.proofs.Objects.{object_here, int_at}
@@ -44,7 +40,8 @@ use Rattle.assign_tree.proofs.Sums.{signed_word}
 use Rattle.assign_tree.proofs.Scope.{names_object, names_other, built_in, exit_row, putchar_row, getchar_row}
 use Rattle.ldb_top.specs.declared.session.Phase.{Phase}
 use Rattle.ldb_top.specs.declared.session.Phase.TheVariants.{Fresh, Stopped, Ended}
-use Rattle.ldb_top.specs.Command.{is_quit, is_quit_command, read_of, command_of, lone_of, words_of}
+use Rattle.ldb_top.specs.Talk.{Tells}
+use Rattle.ldb_top.specs.Command.{is_empty, is_quit, is_quit_command, read_of, command_of, lone_of, words_of}
 use Rattle.ldb_top.specs.Follows.{Session, session, first_session, IsRefused, Resumes, Steps, IsPrinted, Shows, Prints, Follows, Breaks, IsResumable}
 use Rattle.ldb_top.specs.Follows as follows
 use Rattle.ldb_top.specs.Allowed.{TakesNames, Beside, before, at, behind, standing_in, OfEach, Replies, EndsClaim}
@@ -300,26 +297,30 @@ module _ (tasks : Tasks) (file : List ℕ) where
     first : MayResume body s (standing_in (mode.Fresh s))
     later : MayResume body s (standing_in (mode.Stopped s))
 
-  resumes : (body : Stmt) (is : IsBody (length tasks.objects) tasks.body body) (r : Reader) (s : State) (st : Standing) → MayResume body s st → (e : Event) (left : Left)
-      → Resumed file tasks.objects tasks.body body is s e left → AfterStep body r st (event_line e ∷ []) (session (follows.phase_after e) left)
-  resumes body is r s st may (event.Stop place) left d = by may d.whole d.meets d.answers
-    where
-      by : {st : Standing} → MayResume body s st → (w : WholeEvent State) → Meets (p body) s w → Answers tasks.objects tasks.body (event.Stop place) left w → AfterStep body r st (event_line (event.Stop place) ∷ []) (session Stopped left)
-      by first (StoppedAt q t) m a =
-          (_, inl (inl (StoppedAt q t, tt, (m, tt), ap (λ x. x ∷ []) (sym (stop_line body q place t a.1)), refl)), subst (λ x. Beside tasks (p body) (session Stopped left) (record { session = (standing_in (mode.Stopped t)).session; written = x })) (sym a.2) (at left t a.0))
-      by later (StoppedAt q t) m a =
-          (_, inl (inl (StoppedAt q t, tt, (m, tt), ap (λ x. x ∷ []) (sym (stop_line body q place t a.1)), refl)), subst (λ x. Beside tasks (p body) (session Stopped left) (record { session = (standing_in (mode.Stopped t)).session; written = x })) (sym a.2) (at left t a.0))
-      by may (Exited n t) m a = absurd a
-      by may (Failed w) m a = absurd a
-  resumes body is r s st may (event.Exit status) left d = by may d.whole d.meets d.answers
-    where
-      by : {st : Standing} → MayResume body s st → (w : WholeEvent State) → Meets (p body) s w → Answers tasks.objects tasks.body (event.Exit status) left w → AfterStep body r st (event_line (event.Exit status) ∷ []) (session Ended left)
-      by may (StoppedAt q t) m a = absurd a
-      by first (Exited n t) m a =
-          (_, inl (inl (Exited n t, tt, (m, tt), exit_line n status a.0, refl)), subst (λ x. Beside tasks (p body) (session Ended left) (record { session = (standing_in mode.Ended).session; written = x })) (sym a.1) (behind left))
-      by later (Exited n t) m a =
-          (_, inl (inl (Exited n t, tt, (m, tt), exit_line n status a.0, refl)), subst (λ x. Beside tasks (p body) (session Ended left) (record { session = (standing_in mode.Ended).session; written = x })) (sym a.1) (behind left))
-      by may (Failed w) m a = absurd a
+  abbrev Comes : Stmt → State → Event → Left → Type 0
+  Comes body s e left = (whole : WholeEvent State) × Meets file tasks.objects tasks.body body s whole × Answers tasks.objects tasks.body e left whole
+
+  stopped_at : (body : Stmt) (r : Reader) (s : State) (st : Standing) → MayResume body s st → (place : Place) (left : Left) (q : ℕ) (t : State)
+      → Meets file tasks.objects tasks.body body s (StoppedAt q t) → Answers tasks.objects tasks.body (event.Stop place) left (StoppedAt q t) → AfterStep body r st (event_line (event.Stop place) ∷ []) (session Stopped left)
+  stopped_at body r s _ first place left q t m a =
+      (_, inl (inl (StoppedAt q t, tt, (m, tt), ap (λ x. x ∷ []) (sym (stop_line body q place t a.1)), refl)), subst (λ x. Beside tasks (p body) (session Stopped left) (record { session = (standing_in (mode.Stopped t)).session; written = x })) (sym a.2) (at left t a.0))
+  stopped_at body r s _ later place left q t m a =
+      (_, inl (inl (StoppedAt q t, tt, (m, tt), ap (λ x. x ∷ []) (sym (stop_line body q place t a.1)), refl)), subst (λ x. Beside tasks (p body) (session Stopped left) (record { session = (standing_in (mode.Stopped t)).session; written = x })) (sym a.2) (at left t a.0))
+
+  exited_at : (body : Stmt) (r : Reader) (s : State) (st : Standing) → MayResume body s st → (status : ℤ) (left : Left) (n : ℤ) (t : State)
+      → Meets file tasks.objects tasks.body body s (Exited n t) → Answers tasks.objects tasks.body (event.Exit status) left (Exited n t) → AfterStep body r st (event_line (event.Exit status) ∷ []) (session Ended left)
+  exited_at body r s _ first status left n t m a =
+      (_, inl (inl (Exited n t, tt, (m, tt), exit_line n status a.0, refl)), subst (λ x. Beside tasks (p body) (session Ended left) (record { session = (standing_in mode.Ended).session; written = x })) (sym a.1) (behind left))
+  exited_at body r s _ later status left n t m a =
+      (_, inl (inl (Exited n t, tt, (m, tt), exit_line n status a.0, refl)), subst (λ x. Beside tasks (p body) (session Ended left) (record { session = (standing_in mode.Ended).session; written = x })) (sym a.1) (behind left))
+
+  resumes : (body : Stmt) (r : Reader) (s : State) (st : Standing) → MayResume body s st → (e : Event) (left : Left) → Comes body s e left → AfterStep body r st (event_line e ∷ []) (session (follows.phase_after e) left)
+  resumes body r s st may (event.Stop place) left (StoppedAt q t, m, a) = stopped_at body r s st may place left q t m a
+  resumes body r s st may (event.Stop place) left (Exited n t, m, a) = absurd a
+  resumes body r s st may (event.Stop place) left (Failed w, m, a) = absurd a
+  resumes body r s st may (event.Exit status) left (StoppedAt q t, m, a) = absurd a
+  resumes body r s st may (event.Exit status) left (Exited n t, m, a) = exited_at body r s st may status left n t m a
+  resumes body r s st may (event.Exit status) left (Failed w, m, a) = absurd a
 
   -- ---- any command
 
@@ -344,14 +345,14 @@ module _ (tasks : Tasks) (file : List ℕ) where
       by : (body : Stmt) (is : IsBody (length tasks.objects) tasks.body body) (r : Reader) (st : Standing) → Beside tasks (p body) (session Fresh left) st → AfterStep body r st (event_line e ∷ []) new
       by body is r _ before =
           subst (AfterStep body r (standing_in (mode.Fresh (begin (p body) []))) (event_line e ∷ [])) (ap (λ x. session x new.source) (sym d.phase_is))
-          (resumes body is r (begin (p body) []) _ first e new.source (started file tasks.objects tasks.body body is e new.source d.runs))
+          (resumes body r (begin (p body) []) _ first e new.source (d.runs file tasks.objects tasks.body body _ is beginning))
   told_step Stopped left text new (e, d) =
       (event_line e ∷ [], d.reply_is ∙ event_bytes e, inl (each (session Stopped left) _ (λ body are is r st takes beside. by body is r st beside)))
     where
       by : (body : Stmt) (is : IsBody (length tasks.objects) tasks.body body) (r : Reader) (st : Standing) → Beside tasks (p body) (session Stopped left) st → AfterStep body r st (event_line e ∷ []) new
       by body is r _ (at _ s stands) =
           subst (AfterStep body r (standing_in (mode.Stopped s)) (event_line e ∷ [])) (ap (λ x. session x new.source) (sym d.phase_is))
-          (resumes body is r s _ later e new.source (resumed file tasks.objects tasks.body body is left s stands e new.source d.runs))
+          (resumes body r s _ later e new.source (d.runs file tasks.objects tasks.body body s is (stopping left s stands)))
 
   told_print : (phase : Phase) (left : Left) (name text : List ℕ) (new : Session) → Prints (object_of tasks.objects name) name phase (session phase left) text new → Told_as (Some (command.Print name)) (session phase left) text new
   told_print Ended left name text new d = refuses (Some (command.Print name)) (codes "ended") mode.HasEnded (session Ended left) new text refl d (λ body r st beside. ended body r st beside)
@@ -387,14 +388,37 @@ module _ (tasks : Tasks) (file : List ℕ) where
 
   -- ---- undefined steps
 
-  doomed : (body : Stmt) (is : IsBody (length tasks.objects) tasks.body body) (r : Reader) (old : Session) (st : Standing) → Beside tasks (p body) old st → IsResumable old.phase → small.RunsToUndefined old.source
+  doomed : (body : Stmt) (is : IsBody (length tasks.objects) tasks.body body) (r : Reader) (old : Session) (st : Standing) → Beside tasks (p body) old st → IsResumable old.phase → Fails old.source
       → ClaimEnds (p body) st (answer (p body) r 1 st.session (Some command.Step))
-  doomed body is r _ _ before may run = absurd (start_defined file tasks.objects tasks.body body is run)
-  doomed body is r _ _ (at left s stands) may run =
-      let f = fails file tasks.objects tasks.body body is left s stands run in
-      (s, f.1.0, Failed (Reason f.0), inl refl, f.1.1, tt)
-  doomed body is r _ _ (behind left) may run = absurd may
+  doomed body is r _ _ before may f =
+      let fails = f file tasks.objects tasks.body body _ is beginning in
+      (begin (p body) [], fails.1.0, Failed (Reason fails.0), inl refl, fails.1.1, tt)
+  doomed body is r _ _ (at left s stands) may f =
+      let fails = f file tasks.objects tasks.body body s is (stopping left s stands) in
+      (s, fails.1.0, Failed (Reason fails.0), inl refl, fails.1.1, tt)
+  doomed body is r _ _ (behind left) may f = absurd may
 
   pub told_free : (old new : Session) (text : List ℕ) → IsResumable old.phase → Breaks file old text → Told_as (Some command.Step) old text new
   told_free old new text may d =
       (event_line d.event ∷ [], d.reply_is ∙ event_bytes d.event, inr (each old _ (λ body are is r st takes beside. doomed body is r old st beside may d.meets)))
+
+  -- ---- a line
+
+  tells : (line : List ℕ) (c : Option Command) (old new : Session) (text : List ℕ) → read_of line ≡ c → Told_as c old text new → Tells tasks file line old text new
+  tells line c old new text e t = subst (λ x. Told_as x old text new → Tells tasks file line old text new) e (λ d. record { lines = d.0; bytes = d.1; told = d.2 }) t
+
+  goes_on : (line : List ℕ) (c : Option Command) → read_of line ≡ c → is_quit_command c ≡ false → is_quit line ≡ false
+  goes_on line c e n = ap is_quit_command e ∙ n
+
+  pub answers_step : (line : List ℕ) (old new : Session) (text : List ℕ) → is_empty line ≡ false → read_of line ≡ Some command.Step
+      → Steps old.phase file old text new ⊎ (IsResumable old.phase × Breaks file old text) → (is_empty line ≡ false) × (is_quit line ≡ false) × Tells tasks file line old text new
+  answers_step line old new text b e (inl d) = (b, goes_on line _ e refl, tells line _ old new text e (told _ stepping old new text d))
+  answers_step line old new text b e (inr d) = (b, goes_on line _ e refl, tells line _ old new text e (told_free old new text d.0 d.1))
+
+  pub answers_print : (line name : List ℕ) (old : Session) (text : List ℕ) → is_empty line ≡ false → read_of line ≡ Some (command.Print name)
+      → Prints (object_of tasks.objects name) name old.phase old text old → (is_empty line ≡ false) × (is_quit line ≡ false) × Tells tasks file line old text old
+  answers_print line name old text b e d = (b, goes_on line _ e refl, tells line _ old old text e (told _ (printing name) old old text d))
+
+  pub answers_line : (line : List ℕ) (old : Session) (text : List ℕ) → is_empty line ≡ false → read_of line ≡ None
+      → text ≡ follows.refusal_text (codes "line") → (is_empty line ≡ false) × (is_quit line ≡ false) × Tells tasks file line old text old
+  answers_line line old text b e d = (b, goes_on line _ e refl, tells line _ old old text e (told _ malformed old old text (record { reply_is = d; same = refl })))

@@ -1,4 +1,4 @@
--- A session with the tasks of a program, command by command: what the code does, which is then shown to be what is allowed.
+-- A session command by command, as the code has it; that this is what is allowed is shown from it.
 use Rattle.std.specs.Prelude.{◌≡◌, ℕ, List, [], ◌∷◌, ◌++◌, codes, Option, None, Some}
 use Rattle.std.specs.Fmt.{decimal, signed_decimal}
 use Rattle.c_session.specs.declared.command.Command.{Command}
@@ -9,7 +9,8 @@ use Rattle.ldb_top.specs.declared.session.Phase.{Phase}
 use Rattle.ldb_top.specs.declared.session.Phase.TheVariants.{Fresh, Stopped, Ended}
 use Rattle.c_model.specs.declared.tree.Program.{Program}
 use Rattle.c_model.specs.Names.{object_of, print_refusal}
-use Rattle.assign_tree.specs.Tasks.{State, first_state, object_value, RunsTo, RunsToUndefined}
+use Rattle.assign_tree.specs.Tasks.{State, first_state, object_value}
+use Rattle.assign_tree.specs.Stands.{ComesTo, Fails}
 
 -- where the session is, and what is left of the program
 pub record Session : Type 0 where
@@ -42,9 +43,9 @@ pub record IsRefused (why : List ℕ) (old : Session) (reply : List ℕ) (new : 
   pub reply_is : reply ≡ refusal_text why
   pub same : new ≡ old
 
--- the tasks are done up to this event, and the reply tells it
+-- the program beside comes to this event, and the reply tells it
 pub record Resumes (file : List ℕ) (old : Session) (reply : List ℕ) (new : Session) (event : Event) : Type 0 where
-  pub runs : RunsTo old.source event new.source
+  pub runs : ComesTo old.source event new.source
   pub reply_is : reply ≡ event_text file event
   pub phase_is : new.phase ≡ phase_after event
 
@@ -81,8 +82,8 @@ abbrev pub IsResumable : Phase → Type 0
 IsResumable Ended = ⊥
 IsResumable _ = Unit {0}
 
--- a resume meets an undefined task before its event, and its reply tells any event
+-- the program beside meets an undefined step before its event, and the reply tells any event
 pub record Breaks (file : List ℕ) (old : Session) (reply : List ℕ) : Type 0 where
-  pub meets : RunsToUndefined old.source
+  pub meets : Fails old.source
   pub event : Event
   pub reply_is : reply ≡ event_text file event
