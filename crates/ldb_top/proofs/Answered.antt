@@ -1,5 +1,5 @@
 -- What the code answers to a command is what is allowed for each program that the text spells.
-use Rattle.std.proofs.Common.{◌≡◌, ℕ, zero, suc, Bool, true, false, List, [], ◌∷◌, ◌++◌, length, Option, Some, None, ◌⊎◌, inl, inr, refl, sym, ap, ◌∙◌, subst, append_assoc, append-nil, cond, ◌||◌, ◌&&◌, not, ℤ, pos, ◌<◌}
+use Rattle.std.proofs.Common.{◌≡◌, arith, ℕ, zero, suc, Bool, true, false, List, [], ◌∷◌, ◌++◌, length, Option, Some, None, ◌⊎◌, inl, inr, refl, sym, ap, ◌∙◌, subst, append_assoc, append-nil, cond, ◌||◌, ◌&&◌, not, ℤ, pos, ◌<◌}
 use Rattle.std.proofs.lemmas.Bool.{false≢true}
 use Rattle.std.proofs.lemmas.Option.{slice_get_within}
 use Rattle.std.specs.Prelude.{codes, decimal, slice_get, if◌then◌else◌, nat_le}
@@ -137,14 +137,14 @@ module _ (tasks : Tasks) (file : List ℕ) where
   asks body r s name = answer (p body) r 1 (standing_in (mode.Stopped s)).session (Some (command.Print name))
 
   -- by whether the word is a name, and what it names
-  abbrev Told : Stmt → State → Bool → Option SymbolRow → Answer
-  Told body s is_name o = if is_name then print_symbol (p body) (standing_in (mode.Stopped s)).session s.here.world s.here.place o else Refuses BadSyntax
+  abbrev Told : Stmt → Reader → State → Bool → Option SymbolRow → Answer
+  Told body r s is_name o = if is_name then print_symbol (p body) r 1 (standing_in (mode.Stopped s)).session s.here.world s.here.place o else Refuses BadSyntax
 
   -- at a stop of these numbers
   asks_at : (body : Stmt) (r : Reader) (left : Left) (s : State) (name : List ℕ) → TakesNames r → (d : Stop tasks.objects tasks.body left s)
-      → asks body r s name ≡ Told body (at_point left.values d.q d.computed d.control) (is_identifier name) (named (p body) name d.q)
+      → asks body r s name ≡ Told body r (at_point left.values d.q d.computed d.control) (is_identifier name) (named (p body) name d.q)
   asks_at body r left s name takes d =
-      ap (λ x. asks body r x name) d.is ∙ ap (λ b. Told body (at_point left.values d.q d.computed d.control) b (named (p body) name d.q)) (takes name)
+      ap (λ x. asks body r x name) d.is ∙ ap (λ b. Told body r (at_point left.values d.q d.computed d.control) b (named (p body) name d.q)) (takes name)
 
   -- an object's number is shown
   asks_object : (body : Stmt) (r : Reader) (left : Left) (s : State) (name : List ℕ) (k : ℕ) → AreNames tasks.objects → TakesNames r → (d : Stop tasks.objects tasks.body left s) → object_of tasks.objects name ≡ Some k
@@ -159,32 +159,32 @@ module _ (tasks : Tasks) (file : List ℕ) where
       asks_at body r left s name takes d ∙ rw identifier (rw found (rw object (rw row refl)))
 
   -- a word that names no object is refused
-  refused_word : (body : Stmt) (t : State) (count : ℕ) (w : List ℕ) (m e u g : Bool)
-      → Told body t true (if m then Some (main_symbol count) else (if e then Some (exit_row tasks.objects w) else (if u then Some (putchar_row tasks.objects w) else (if g then Some (getchar_row tasks.objects w) else None))))
+  refused_word : (body : Stmt) (r : Reader) (t : State) (count : ℕ) (w : List ℕ) (m e u g : Bool)
+      → Told body r t true (if m then Some (main_symbol count) else (if e then Some (exit_row tasks.objects w) else (if u then Some (putchar_row tasks.objects w) else (if g then Some (getchar_row tasks.objects w) else None))))
       ≡ (if m || (g || (u || (e || false))) then Refuses BadType else Refuses NoScope)
-  refused_word body t count w true e u g = refl
-  refused_word body t count w false true true true = refl
-  refused_word body t count w false true true false = refl
-  refused_word body t count w false true false true = refl
-  refused_word body t count w false true false false = refl
-  refused_word body t count w false false true true = refl
-  refused_word body t count w false false true false = refl
-  refused_word body t count w false false false true = refl
-  refused_word body t count w false false false false = refl
+  refused_word body r t count w true e u g = refl
+  refused_word body r t count w false true true true = refl
+  refused_word body r t count w false true true false = refl
+  refused_word body r t count w false true false true = refl
+  refused_word body r t count w false true false false = refl
+  refused_word body r t count w false false true true = refl
+  refused_word body r t count w false false true false = refl
+  refused_word body r t count w false false false true = refl
+  refused_word body r t count w false false false false = refl
 
   asks_other : (body : Stmt) (r : Reader) (left : Left) (s : State) (name : List ℕ) → TakesNames r → (d : Stop tasks.objects tasks.body left s) → object_of tasks.objects name ≡ None
       → asks body r s name ≡ (if is_identifier name then (if is_function name then Refuses BadType else Refuses NoScope) else Refuses BadSyntax)
   asks_other body r left s name takes d h =
       let t = at_point left.values d.q d.computed d.control in
       let found = names_other tasks.objects name file tasks.body body d.q d.at d.point (λ j e. object_absent tasks.objects name j h e) in
-      let other : Told body t true (named (p body) name d.q) ≡ (if is_function name then Refuses BadType else Refuses NoScope) =
-      ap (Told body t true) found
-      ∙ refused_word body t (length tasks.objects) name (bytes_eq (codes "main") name) (bytes_eq (codes "exit") name) (bytes_eq (codes "putchar") name) (bytes_eq (codes "getchar") name)
+      let other : Told body r t true (named (p body) name d.q) ≡ (if is_function name then Refuses BadType else Refuses NoScope) =
+      ap (Told body r t true) found
+      ∙ refused_word body r t (length tasks.objects) name (bytes_eq (codes "main") name) (bytes_eq (codes "exit") name) (bytes_eq (codes "putchar") name) (bytes_eq (codes "getchar") name)
       ∙ ap (λ b. if b then Refuses BadType else Refuses NoScope) (sym (functions name)) in
       asks_at body r left s name takes d ∙ by (is_identifier name) other
     where
-      by : (b : Bool) → Told body (at_point left.values d.q d.computed d.control) true (named (p body) name d.q) ≡ (if is_function name then Refuses BadType else Refuses NoScope)
-          → Told body (at_point left.values d.q d.computed d.control) b (named (p body) name d.q) ≡ (if b then (if is_function name then Refuses BadType else Refuses NoScope) else Refuses BadSyntax)
+      by : (b : Bool) → Told body r (at_point left.values d.q d.computed d.control) true (named (p body) name d.q) ≡ (if is_function name then Refuses BadType else Refuses NoScope)
+          → Told body r (at_point left.values d.q d.computed d.control) b (named (p body) name d.q) ≡ (if b then (if is_function name then Refuses BadType else Refuses NoScope) else Refuses BadSyntax)
       by true e = e
       by false e = refl
 
@@ -265,27 +265,27 @@ module _ (tasks : Tasks) (file : List ℕ) where
 
   -- an event's line
   abbrev event_line : Event → List ℕ
-  event_line (event.Stop at) = codes "stop " ++ ((file ++ (codes ":" ++ (decimal at.line ++ (codes "." ++ decimal at.column)))) ++ (codes " " ++ codes "main"))
+  event_line (event.Stop place) = codes "stop " ++ ((file ++ (codes ":" ++ (decimal place.line ++ (codes "." ++ decimal place.column)))) ++ (codes " " ++ codes "main"))
   event_line (event.Exit status) = codes "exited " ++ signed_decimal status
 
   event_bytes : (e : Event) → follows.event_text file e ≡ bytes_of (event_line e ∷ [])
-  event_bytes (event.Stop at) =
-      let l = decimal at.line in
-      let c = decimal at.column in
+  event_bytes (event.Stop place) =
+      let l = decimal place.line in
+      let c = decimal place.column in
       let m = codes " main" in
       let end : List ℕ = 10 ∷ [] in
       let number : (codes "." ++ c) ++ (m ++ end) ≡ codes "." ++ (c ++ (m ++ end)) = append_assoc (codes ".") c (m ++ end) in
-      let place : (codes ":" ++ (l ++ (codes "." ++ c))) ++ (m ++ end) ≡ codes ":" ++ (l ++ (codes "." ++ (c ++ (m ++ end)))) =
+      let spot : (codes ":" ++ (l ++ (codes "." ++ c))) ++ (m ++ end) ≡ codes ":" ++ (l ++ (codes "." ++ (c ++ (m ++ end)))) =
       append_assoc (codes ":") (l ++ (codes "." ++ c)) (m ++ end) ∙ ap (λ t. codes ":" ++ t) (append_assoc l (codes "." ++ c) (m ++ end) ∙ ap (λ t. l ++ t) number) in
       let front = file ++ (codes ":" ++ (l ++ (codes "." ++ c))) in
       let whole : (codes "stop " ++ (front ++ m)) ++ end ≡ codes "stop " ++ (file ++ (codes ":" ++ (l ++ (codes "." ++ (c ++ (m ++ end)))))) =
-      append_assoc (codes "stop ") (front ++ m) end ∙ ap (λ t. codes "stop " ++ t) (append_assoc front m end ∙ append_assoc file (codes ":" ++ (l ++ (codes "." ++ c))) (m ++ end) ∙ ap (λ t. file ++ t) place) in
+      append_assoc (codes "stop ") (front ++ m) end ∙ ap (λ t. codes "stop " ++ t) (append_assoc front m end ∙ append_assoc file (codes ":" ++ (l ++ (codes "." ++ c))) (m ++ end) ∙ ap (λ t. file ++ t) spot) in
       sym whole
   event_bytes (event.Exit status) = sym (append_assoc (codes "exited ") (signed_decimal status) (10 ∷ []))
 
-  stop_line : (body : Stmt) (q : ℕ) (at : Place) (s : State) → slice_get (point_rows (length tasks.objects) tasks.body) q ≡ Some (point_row (length tasks.objects) at)
-      → event_text (p body) (StoppedAt q s) ≡ event_line (event.Stop at)
-  stop_line body q at s h = rw h refl
+  stop_line : (body : Stmt) (q : ℕ) (place : Place) (s : State) → slice_get (point_rows (length tasks.objects) tasks.body) q ≡ Some (point_row (length tasks.objects) place)
+      → event_text (p body) (StoppedAt q s) ≡ event_line (event.Stop place)
+  stop_line body q place s h = rw h refl
 
   -- a session after an event, beside the tasks
   abbrev AfterStep : Stmt → Reader → Standing → Lines → Session → Type 0
@@ -331,54 +331,63 @@ module _ (tasks : Tasks) (file : List ℕ) where
   refuses : (c : Option Command) (why : List ℕ) (u : mode.Refusal) (old new : Session) (text : List ℕ) → mode.refusal_text u ≡ codes "refused " ++ why → IsRefused why old text new
       → ((body : Stmt) (r : Reader) (st : Standing) → Beside tasks (p body) old st → answer (p body) r 1 st.session c ≡ Refuses u) → Told_as c old text new
   refuses c why u old new text same d f =
-      (refusal_line why, d.reply_is ∙ refusal_bytes why, inl (each old _ (λ body are is r st takes beside.
-      (st, inl (refusal_said (p body) st _ u why same (f body r st beside)), subst (λ x. Beside tasks (p body) x st) (sym d.same) beside))))
+      let replies : Replies tasks file c old (refusal_line why) new = each old _ (λ body are is r st takes beside. (st, inl (refusal_said (p body) st _ u why same (f body r st beside)), subst (λ x. Beside tasks (p body) x st) (sym d.same) beside)) in
+      (refusal_line why, d.reply_is ∙ refusal_bytes why, inl replies)
+
+  ended : (c : Command) (left : Left) → (c ≡ command.Quit → ⊥) → (body : Stmt) (r : Reader) (st : Standing) → Beside tasks (p body) (session Ended left) st → answer (p body) r 1 st.session (Some c) ≡ Refuses mode.HasEnded
+  ended c left n body r _ (behind _) = other c n
+    where
+      other : (c : Command) → (c ≡ command.Quit → ⊥) → mode.in_ended (p body) r 1 (standing_in mode.Ended).session c ≡ Refuses mode.HasEnded
+      other command.Quit n = absurd (n refl)
+      other _ n = refl
+
+  running : (name : List ℕ) (left : Left) (body : Stmt) (r : Reader) (st : Standing) → Beside tasks (p body) (session Fresh left) st → answer (p body) r 1 st.session (Some (command.Print name)) ≡ Refuses mode.IsRunning
+  running name _ body r _ before = refl
+
+  from_start : (left : Left) (e : Event) (new : Left) → ComesTo left e new → (body : Stmt) (is : IsBody (length tasks.objects) tasks.body body) (r : Reader) (st : Standing) → Beside tasks (p body) (session Fresh left) st → AfterStep body r st (event_line e ∷ []) (session (follows.phase_after e) new)
+  from_start _ e new runs body is r _ before = resumes body r (begin (p body) []) _ first e new (runs file tasks.objects tasks.body body _ is beginning)
+
+  from_stop : (left : Left) (e : Event) (new : Left) → ComesTo left e new → (body : Stmt) (is : IsBody (length tasks.objects) tasks.body body) (r : Reader) (st : Standing) → Beside tasks (p body) (session Stopped left) st → AfterStep body r st (event_line e ∷ []) (session (follows.phase_after e) new)
+  from_stop left e new runs body is r _ (at _ s stands) = resumes body r s _ later e new (runs file tasks.objects tasks.body body s is (stopping left s stands))
+
+  said : (left : Left) (name : List ℕ) (k : ℕ) → object_of tasks.objects name ≡ Some k → (body : Stmt) → AreNames tasks.objects → (r : Reader) (st : Standing) → TakesNames r → Beside tasks (p body) (session Stopped left) st
+      → AnswerReplies (p body) st (answer (p body) r 1 st.session (Some (command.Print name))) (value_line (object_value left.values k)) st
+  said left name k h body are r _ takes (at _ s stands) =
+      let stop = stop_of tasks.objects tasks.body left s stands in
+      tells_value body _ left k _ stop.q stop.computed stop.control (int_at k left.values stop.ints) (asks_object body r left s name k are takes stop h)
+
+  unsaid : (left : Left) (name : List ℕ) → object_of tasks.objects name ≡ None → (body : Stmt) (r : Reader) (st : Standing) → TakesNames r → Beside tasks (p body) (session Stopped left) st
+      → AnswerReplies (p body) st (answer (p body) r 1 st.session (Some (command.Print name))) (refusal_line (print_refusal name)) st
+  unsaid left name h body r _ takes (at _ s stands) =
+      tells_other (p body) _ name _ (asks_other body r left s name takes (stop_of tasks.objects tasks.body left s stands) h)
+
+  -- nothing changes
+  same_beside : (old new : Session) → new ≡ old → (body : Stmt) (st : Standing) → Beside tasks (p body) old st → Beside tasks (p body) new st
+  same_beside old new same body st beside = subst (λ x. Beside tasks (p body) x st) (sym same) beside
 
   told_step : (phase : Phase) (left : Left) (text : List ℕ) (new : Session) → Steps phase file (session phase left) text new → Told_as (Some command.Step) (session phase left) text new
-  told_step Ended left text new d = refuses (Some command.Step) (codes "ended") mode.HasEnded (session Ended left) new text refl d (λ body r st beside. ended body r st beside)
-    where
-      ended : (body : Stmt) (r : Reader) (st : Standing) → Beside tasks (p body) (session Ended left) st → answer (p body) r 1 st.session (Some command.Step) ≡ Refuses mode.HasEnded
-      ended body r _ (behind _) = refl
+  told_step Ended left text new d = refuses (Some command.Step) (codes "ended") mode.HasEnded (session Ended left) new text refl d (ended command.Step left (λ e. cc))
   told_step Fresh left text new (e, d) =
-      (event_line e ∷ [], d.reply_is ∙ event_bytes e, inl (each (session Fresh left) _ (λ body are is r st takes beside. by body is r st beside)))
-    where
-      by : (body : Stmt) (is : IsBody (length tasks.objects) tasks.body body) (r : Reader) (st : Standing) → Beside tasks (p body) (session Fresh left) st → AfterStep body r st (event_line e ∷ []) new
-      by body is r _ before =
-          subst (AfterStep body r (standing_in (mode.Fresh (begin (p body) []))) (event_line e ∷ [])) (ap (λ x. session x new.source) (sym d.phase_is))
-          (resumes body r (begin (p body) []) _ first e new.source (d.runs file tasks.objects tasks.body body _ is beginning))
+      let after : session (follows.phase_after e) new.source ≡ new = ap (λ x. session x new.source) (sym d.phase_is) in
+      let replies : Replies tasks file (Some command.Step) (session Fresh left) (event_line e ∷ []) new = each (session Fresh left) _ (λ body are is r st takes beside. subst (AfterStep body r st (event_line e ∷ [])) after (from_start left e new.source d.runs body is r st beside)) in
+      (event_line e ∷ [], d.reply_is ∙ event_bytes e, inl replies)
   told_step Stopped left text new (e, d) =
-      (event_line e ∷ [], d.reply_is ∙ event_bytes e, inl (each (session Stopped left) _ (λ body are is r st takes beside. by body is r st beside)))
-    where
-      by : (body : Stmt) (is : IsBody (length tasks.objects) tasks.body body) (r : Reader) (st : Standing) → Beside tasks (p body) (session Stopped left) st → AfterStep body r st (event_line e ∷ []) new
-      by body is r _ (at _ s stands) =
-          subst (AfterStep body r (standing_in (mode.Stopped s)) (event_line e ∷ [])) (ap (λ x. session x new.source) (sym d.phase_is))
-          (resumes body r s _ later e new.source (d.runs file tasks.objects tasks.body body s is (stopping left s stands)))
+      let after : session (follows.phase_after e) new.source ≡ new = ap (λ x. session x new.source) (sym d.phase_is) in
+      let replies : Replies tasks file (Some command.Step) (session Stopped left) (event_line e ∷ []) new = each (session Stopped left) _ (λ body are is r st takes beside. subst (AfterStep body r st (event_line e ∷ [])) after (from_stop left e new.source d.runs body is r st beside)) in
+      (event_line e ∷ [], d.reply_is ∙ event_bytes e, inl replies)
+
+  told_object : (left : Left) (name text : List ℕ) (new : Session) (o : Option ℕ) → object_of tasks.objects name ≡ o → Shows o name (session Stopped left) text new → Told_as (Some (command.Print name)) (session Stopped left) text new
+  told_object left name text new (Some k) h d =
+      let replies : Replies tasks file (Some (command.Print name)) (session Stopped left) (value_line (object_value left.values k)) new = each (session Stopped left) _ (λ body are is r st takes beside. (st, inl (said left name k h body are r st takes beside), same_beside (session Stopped left) new d.same body st beside)) in
+      (value_line (object_value left.values k), d.reply_is ∙ value_bytes (object_value left.values k), inl replies)
+  told_object left name text new None h d =
+      let replies : Replies tasks file (Some (command.Print name)) (session Stopped left) (refusal_line (print_refusal name)) new = each (session Stopped left) _ (λ body are is r st takes beside. (st, inl (unsaid left name h body r st takes beside), same_beside (session Stopped left) new d.same body st beside)) in
+      (refusal_line (print_refusal name), d.reply_is ∙ refusal_bytes (print_refusal name), inl replies)
 
   told_print : (phase : Phase) (left : Left) (name text : List ℕ) (new : Session) → Prints (object_of tasks.objects name) name phase (session phase left) text new → Told_as (Some (command.Print name)) (session phase left) text new
-  told_print Ended left name text new d = refuses (Some (command.Print name)) (codes "ended") mode.HasEnded (session Ended left) new text refl d (λ body r st beside. ended body r st beside)
-    where
-      ended : (body : Stmt) (r : Reader) (st : Standing) → Beside tasks (p body) (session Ended left) st → answer (p body) r 1 st.session (Some (command.Print name)) ≡ Refuses mode.HasEnded
-      ended body r _ (behind _) = refl
-  told_print Fresh left name text new d = refuses (Some (command.Print name)) (codes "running") mode.IsRunning (session Fresh left) new text refl d (λ body r st beside. running body r st beside)
-    where
-      running : (body : Stmt) (r : Reader) (st : Standing) → Beside tasks (p body) (session Fresh left) st → answer (p body) r 1 st.session (Some (command.Print name)) ≡ Refuses mode.IsRunning
-      running body r _ before = refl
-  told_print Stopped left name text new d = by (object_of tasks.objects name) refl d
-    where
-      said : (k : ℕ) → object_of tasks.objects name ≡ Some k → (body : Stmt) → AreNames tasks.objects → (r : Reader) (st : Standing) → TakesNames r → Beside tasks (p body) (session Stopped left) st
-          → AnswerReplies (p body) st (answer (p body) r 1 st.session (Some (command.Print name))) (value_line (object_value left.values k)) st
-      said k h body are r _ takes (at _ s stands) =
-          let stop = stop_of tasks.objects tasks.body left s stands in
-          tells_value body _ left k _ stop.q stop.computed stop.control (int_at k left.values stop.ints) (asks_object body r left s name k are takes stop h)
-      other : object_of tasks.objects name ≡ None → (body : Stmt) (r : Reader) (st : Standing) → TakesNames r → Beside tasks (p body) (session Stopped left) st
-          → AnswerReplies (p body) st (answer (p body) r 1 st.session (Some (command.Print name))) (refusal_line (print_refusal name)) st
-      other h body r _ takes (at _ s stands) =
-          tells_other (p body) _ name _ (asks_other body r left s name takes (stop_of tasks.objects tasks.body left s stands) h)
-      by : (o : Option ℕ) → object_of tasks.objects name ≡ o → Shows o name (session Stopped left) text new → Told_as (Some (command.Print name)) (session Stopped left) text new
-      by (Some k) h d = (value_line (object_value left.values k), d.reply_is ∙ value_bytes (object_value left.values k), inl (each (session Stopped left) _ (λ body are is r st takes beside.
-      (st, inl (said k h body are r st takes beside), subst (λ x. Beside tasks (p body) x st) (sym d.same) beside))))
-      by None h d = (refusal_line (print_refusal name), d.reply_is ∙ refusal_bytes (print_refusal name), inl (each (session Stopped left) _ (λ body are is r st takes beside.
-      (st, inl (other h body r st takes beside), subst (λ x. Beside tasks (p body) x st) (sym d.same) beside))))
+  told_print Ended left name text new d = refuses (Some (command.Print name)) (codes "ended") mode.HasEnded (session Ended left) new text refl d (ended (command.Print name) left (λ e. cc))
+  told_print Fresh left name text new d = refuses (Some (command.Print name)) (codes "running") mode.IsRunning (session Fresh left) new text refl d (running name left)
+  told_print Stopped left name text new d = told_object left name text new (object_of tasks.objects name) refl d
 
   pub told : (c : Option Command) → IsAsked c → (old new : Session) (text : List ℕ) → Follows tasks file c old text new → Told_as c old text new
   told _ malformed old new text d = refuses None (codes "line") mode.BadLine old new text refl d (λ body r st beside. refl)

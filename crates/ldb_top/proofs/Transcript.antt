@@ -26,6 +26,11 @@ module _ (program : Tasks) (file : List ℕ) where
   pub allowed_end : (now : Session) → Allowed program file now [] []
   allowed_end now = record { transcript = []; bytes = refl; each = λ p r st is takes beside. (refl, nothing_written p now st beside) }
 
+  quits : (old : Session) (p : Program) (r : Reader) (st : Standing) → Beside program p old st → answer p r 1 st.session (Some Quit) ≡ Quits
+  quits _ p r _ before = refl
+  quits _ p r _ (at left s stands) = refl
+  quits _ p r _ (behind left) = refl
+
   module _ (line : List ℕ) (lines : List (List ℕ)) (old : Session) where
     abbrev LineCommands : Bool → List (Option Command)
     LineCommands blank = cond blank (commands_of lines) (read_of line ∷ commands_of lines)
@@ -48,23 +53,18 @@ module _ (program : Tasks) (file : List ℕ) where
         other Quit e = refl
         other _ e = absurd cc
 
-    quits : (p : Program) (r : Reader) (st : Standing) → Beside program p old st → answer p r 1 st.session (Some Quit) ≡ Quits
-    quits p r _ before = refl
-    quits p r _ (at left s stands) = refl
-    quits p r _ (behind left) = refl
-
     pub allowed_quit : is_empty line ≡ false → is_quit line ≡ true → Allowed program file old (line ∷ lines) []
     allowed_quit b q =
         let read : read_of line ≡ Some Quit = quit_read (read_of line) q in
         by_command [] [] refl b (λ p r st is takes beside.
-        inl (subst (IsQuit p) (sym (ap (answer p r 1 st.session) read ∙ quits p r st beside)) tt, refl, nothing_written p old st beside))
+        inl (subst (IsQuit p) (sym (ap (answer p r 1 st.session) read ∙ quits old p r st beside)) tt, refl, nothing_written p old st beside))
 
     -- the first line is allowed by what its reply and the rest allow
     pub allowed_reply : (new : Session) (reply : Lines) (more : List ℕ) → is_empty line ≡ false → is_quit line ≡ false → Replies program file (read_of line) old reply new → Allowed program file new lines more → Allowed program file old (line ∷ lines) (bytes_of reply ++ more)
     allowed_reply new reply more b q told h =
         by_command (bytes_of reply ++ more) (reply ++ h.transcript) (ap (λ t. bytes_of reply ++ t) h.bytes ∙ sym (bytes-append reply h.transcript)) b (λ p r st is takes beside.
         let t = told p r st is takes beside in
-        inr (inr (reply, h.transcript, t.0, refl, t.1.0, h.each p r t.0 is takes t.1.1)))
+        inr (inr (reply, h.transcript, t.0, refl, t.1, h.each p r t.0 is takes t.2)))
 
     -- it is allowed with any lines where it ends the claim
     pub allowed_free : (reply more : Lines) → is_empty line ≡ false → is_quit line ≡ false → EndsClaim program file (read_of line) old → Allowed program file old (line ∷ lines) (bytes_of reply ++ bytes_of more)
