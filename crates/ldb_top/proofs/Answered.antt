@@ -265,7 +265,7 @@ module _ (tasks : Tasks) (file : List ℕ) where
 
   -- an event's line
   abbrev event_line : Event → List ℕ
-  event_line (event.Stop place) = codes "stop " ++ ((file ++ (codes ":" ++ (decimal place.line ++ (codes "." ++ decimal place.column)))) ++ (codes " " ++ codes "main"))
+  event_line (event.Stop place) = codes "stop " ++ (file ++ (codes ":" ++ (decimal place.line ++ (codes "." ++ (decimal place.column ++ codes " main")))))
   event_line (event.Exit status) = codes "exited " ++ signed_decimal status
 
   event_bytes : (e : Event) → follows.event_text file e ≡ bytes_of (event_line e ∷ [])
@@ -274,18 +274,22 @@ module _ (tasks : Tasks) (file : List ℕ) where
       let c = decimal place.column in
       let m = codes " main" in
       let end : List ℕ = 10 ∷ [] in
-      let number : (codes "." ++ c) ++ (m ++ end) ≡ codes "." ++ (c ++ (m ++ end)) = append_assoc (codes ".") c (m ++ end) in
-      let spot : (codes ":" ++ (l ++ (codes "." ++ c))) ++ (m ++ end) ≡ codes ":" ++ (l ++ (codes "." ++ (c ++ (m ++ end)))) =
-      append_assoc (codes ":") (l ++ (codes "." ++ c)) (m ++ end) ∙ ap (λ t. codes ":" ++ t) (append_assoc l (codes "." ++ c) (m ++ end) ∙ ap (λ t. l ++ t) number) in
-      let front = file ++ (codes ":" ++ (l ++ (codes "." ++ c))) in
-      let whole : (codes "stop " ++ (front ++ m)) ++ end ≡ codes "stop " ++ (file ++ (codes ":" ++ (l ++ (codes "." ++ (c ++ (m ++ end)))))) =
-      append_assoc (codes "stop ") (front ++ m) end ∙ ap (λ t. codes "stop " ++ t) (append_assoc front m end ∙ append_assoc file (codes ":" ++ (l ++ (codes "." ++ c))) (m ++ end) ∙ ap (λ t. file ++ t) spot) in
-      sym whole
+      sym (append_assoc (codes "stop ") (file ++ (codes ":" ++ (l ++ (codes "." ++ (c ++ m))))) end
+      ∙ ap (λ t. codes "stop " ++ t) (append_assoc file (codes ":" ++ (l ++ (codes "." ++ (c ++ m)))) end
+      ∙ ap (λ t. file ++ t) (append_assoc (codes ":") (l ++ (codes "." ++ (c ++ m))) end
+      ∙ ap (λ t. codes ":" ++ t) (append_assoc l (codes "." ++ (c ++ m)) end
+      ∙ ap (λ t. l ++ t) (append_assoc (codes ".") (c ++ m) end ∙ ap (λ t. codes "." ++ t) (append_assoc c m end))))))
   event_bytes (event.Exit status) = sym (append_assoc (codes "exited ") (signed_decimal status) (10 ∷ []))
+
+  -- seven texts in a row
+  in_a_row : (s f c l d k m n : List ℕ) → (s ++ (f ++ c ++ l ++ d ++ k)) ++ m ++ n ≡ s ++ (f ++ (c ++ (l ++ (d ++ (k ++ (m ++ n))))))
+  in_a_row s f c l d k m n =
+      append_assoc (s ++ (f ++ c ++ l ++ d ++ k)) m n ∙ append_assoc s (f ++ c ++ l ++ d ++ k) (m ++ n)
+      ∙ ap (λ t. s ++ t) (append_assoc (f ++ c ++ l ++ d) k (m ++ n) ∙ append_assoc (f ++ c ++ l) d (k ++ (m ++ n)) ∙ append_assoc (f ++ c) l (d ++ (k ++ (m ++ n))) ∙ append_assoc f c (l ++ (d ++ (k ++ (m ++ n)))))
 
   stop_line : (body : Stmt) (q : ℕ) (place : Place) (s : State) → slice_get (point_rows (length tasks.objects) tasks.body) q ≡ Some (point_row (length tasks.objects) place)
       → event_text (p body) (StoppedAt q s) ≡ event_line (event.Stop place)
-  stop_line body q place s h = rw h refl
+  stop_line body q place s h = rw h (in_a_row (codes "stop ") file (codes ":") (decimal place.line) (codes ".") (decimal place.column) (codes " ") (codes "main"))
 
   -- a session after an event, beside the tasks
   abbrev AfterStep : Stmt → Reader → Standing → Lines → Session → Type 0
