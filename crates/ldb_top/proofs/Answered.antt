@@ -44,7 +44,7 @@ use Rattle.ldb_top.specs.Talk.{Tells}
 use Rattle.ldb_top.specs.Command.{is_empty, is_quit, is_quit_command, read_of, command_of, lone_of, words_of}
 use Rattle.ldb_top.specs.Follows.{Session, session, first_session, IsRefused, Resumes, Steps, IsPrinted, Shows, Prints, Follows, Breaks, IsResumable}
 use Rattle.ldb_top.specs.Follows as follows
-use Rattle.ldb_top.specs.Allowed.{TakesNames, Beside, before, at, behind, standing_in, OfEach, Replies, EndsClaim}
+use Rattle.ldb_top.specs.Allowed.{TakesNames, Beside, before, at, behind, standing_in, OfEach, IsPlain, ArePlain, Replies, EndsClaim}
 
 -- ---- the commands that a line may be
 
@@ -103,6 +103,24 @@ functions w =
     ∙ ap (λ b. bytes_eq (codes "main") w || (bytes_eq (codes "getchar") w || (b || (bytes_eq w (codes "exit") || false)))) (bytes_swap w (codes "putchar"))
     ∙ ap (λ b. bytes_eq (codes "main") w || (bytes_eq (codes "getchar") w || (bytes_eq (codes "putchar") w || (b || false)))) (bytes_swap w (codes "exit"))
 
+-- ---- lines that tell neither of turns nor of the stack
+
+first_byte : List ℕ → ℕ
+first_byte [] = 0
+first_byte (c ∷ cs) = c
+
+third_byte : List ℕ → ℕ
+third_byte (a ∷ b ∷ c ∷ cs) = c
+third_byte _ = 0
+
+plain_first : (c : ℕ) (cs : List ℕ) → (c ≡ 116 → ⊥) → (c ≡ 115 → ⊥) → IsPlain (c ∷ cs)
+unfolding first_byte
+plain_first c cs n m = (λ e. n (ap first_byte e), λ e. m (ap first_byte e))
+
+plain_third : (a b c : ℕ) (cs : List ℕ) → (c ≡ 114 → ⊥) → (c ≡ 97 → ⊥) → IsPlain (a ∷ b ∷ c ∷ cs)
+unfolding third_byte
+plain_third a b c cs n m = (λ e. n (ap third_byte e), λ e. m (ap third_byte e))
+
 -- ---- one program for all
 
 module _ (tasks : Tasks) (file : List ℕ) where
@@ -119,6 +137,9 @@ module _ (tasks : Tasks) (file : List ℕ) where
 
   abbrev pub NO_MEMORY : Lines
   NO_MEMORY = codes "no memory" ∷ []
+
+  pub no_memory_plain : ArePlain NO_MEMORY
+  no_memory_plain = (plain_first 110 _ (λ e. omega (arith, e)) (λ e. omega (arith, e)), tt)
 
   memory_any : (q : Program) (st : Standing) (a : Answer) → (a ≡ Quits → ⊥) → MemoryReplies q st a NO_MEMORY st
   memory_any q st Quits n = absurd (n refl)
@@ -208,12 +229,20 @@ module _ (tasks : Tasks) (file : List ℕ) where
   unfolding refusal_line
   refusal_said q st a u why same e = subst (λ x. AnswerReplies q st x ((codes "refused " ++ why) ∷ []) st) (sym e) (ap (λ t. t ∷ []) (sym same), refl)
 
+  refusal_plain : (why : List ℕ) → ArePlain (refusal_line why)
+  unfolding refusal_line
+  refusal_plain why = (plain_first 114 _ (λ e. omega (arith, e)) (λ e. omega (arith, e)), tt)
+
   value_line : ℤ → Lines
   value_line z = (codes "value " ++ signed_decimal z) ∷ []
 
   value_bytes : (z : ℤ) → codes "value " ++ (signed_decimal z ++ follows.end) ≡ bytes_of (value_line z)
   unfolding value_line
   value_bytes z = sym (append_assoc (codes "value ") (signed_decimal z) (10 ∷ []))
+
+  value_plain : (z : ℤ) → ArePlain (value_line z)
+  unfolding value_line
+  value_plain z = (plain_first 118 _ (λ e. omega (arith, e)) (λ e. omega (arith, e)), tt)
 
   exit_line : (n status : ℤ) → n ≡ status → (codes "exited " ++ signed_decimal status) ∷ [] ≡ (codes "exited " ++ signed_decimal n) ∷ []
   exit_line n status e = ap (λ x. (codes "exited " ++ signed_decimal x) ∷ []) (sym e)
@@ -281,6 +310,10 @@ module _ (tasks : Tasks) (file : List ℕ) where
       ∙ ap (λ t. l ++ t) (append_assoc (codes ".") (c ++ m) end ∙ ap (λ t. codes "." ++ t) (append_assoc c m end))))))
   event_bytes (event.Exit status) = sym (append_assoc (codes "exited ") (signed_decimal status) (10 ∷ []))
 
+  event_plain : (e : Event) → ArePlain (event_line e ∷ [])
+  event_plain (event.Stop place) = (plain_third 115 116 111 _ (λ e. omega (arith, e)) (λ e. omega (arith, e)), tt)
+  event_plain (event.Exit status) = (plain_first 101 _ (λ e. omega (arith, e)) (λ e. omega (arith, e)), tt)
+
   -- seven texts in a row
   in_a_row : (s f c l d k m n : List ℕ) → (s ++ (f ++ c ++ l ++ d ++ k)) ++ m ++ n ≡ s ++ (f ++ (c ++ (l ++ (d ++ (k ++ (m ++ n))))))
   in_a_row s f c l d k m n =
@@ -329,14 +362,14 @@ module _ (tasks : Tasks) (file : List ℕ) where
   -- ---- any command
 
   abbrev pub Told_as : Option Command → Session → List ℕ → Session → Type 0
-  Told_as c old text new = (lines : Lines) × (text ≡ bytes_of lines) × (Replies tasks file c old lines new ⊎ EndsClaim tasks file c old)
+  Told_as c old text new = (lines : Lines) × (text ≡ bytes_of lines) × ArePlain lines × (Replies tasks file c old lines new ⊎ EndsClaim tasks file c old)
 
   -- a refusal, whatever the standing beside this session
   refuses : (c : Option Command) (why : List ℕ) (u : mode.Refusal) (old new : Session) (text : List ℕ) → mode.refusal_text u ≡ codes "refused " ++ why → IsRefused why old text new
       → ((body : Stmt) (r : Reader) (st : Standing) → Beside tasks (p body) old st → answer (p body) r 1 st.session c ≡ Refuses u) → Told_as c old text new
   refuses c why u old new text same d f =
       let replies : Replies tasks file c old (refusal_line why) new = each old _ (λ body are is r st takes beside. (st, inl (refusal_said (p body) st _ u why same (f body r st beside)), subst (λ x. Beside tasks (p body) x st) (sym d.same) beside)) in
-      (refusal_line why, d.reply_is ∙ refusal_bytes why, inl replies)
+      (refusal_line why, d.reply_is ∙ refusal_bytes why, refusal_plain why, inl replies)
 
   ended : (c : Command) (left : Left) → (c ≡ command.Quit → ⊥) → (body : Stmt) (r : Reader) (st : Standing) → Beside tasks (p body) (session Ended left) st → answer (p body) r 1 st.session (Some c) ≡ Refuses mode.HasEnded
   ended c left n body r _ (behind _) = other c n
@@ -374,19 +407,19 @@ module _ (tasks : Tasks) (file : List ℕ) where
   told_step Fresh left text new (e, d) =
       let after : session (follows.phase_after e) new.source ≡ new = ap (λ x. session x new.source) (sym d.phase_is) in
       let replies : Replies tasks file (Some command.Step) (session Fresh left) (event_line e ∷ []) new = each (session Fresh left) _ (λ body are is r st takes beside. subst (AfterStep body r st (event_line e ∷ [])) after (from_start left e new.source d.runs body is r st beside)) in
-      (event_line e ∷ [], d.reply_is ∙ event_bytes e, inl replies)
+      (event_line e ∷ [], d.reply_is ∙ event_bytes e, event_plain e, inl replies)
   told_step Stopped left text new (e, d) =
       let after : session (follows.phase_after e) new.source ≡ new = ap (λ x. session x new.source) (sym d.phase_is) in
       let replies : Replies tasks file (Some command.Step) (session Stopped left) (event_line e ∷ []) new = each (session Stopped left) _ (λ body are is r st takes beside. subst (AfterStep body r st (event_line e ∷ [])) after (from_stop left e new.source d.runs body is r st beside)) in
-      (event_line e ∷ [], d.reply_is ∙ event_bytes e, inl replies)
+      (event_line e ∷ [], d.reply_is ∙ event_bytes e, event_plain e, inl replies)
 
   told_object : (left : Left) (name text : List ℕ) (new : Session) (o : Option ℕ) → object_of tasks.objects name ≡ o → Shows o name (session Stopped left) text new → Told_as (Some (command.Print name)) (session Stopped left) text new
   told_object left name text new (Some k) h d =
       let replies : Replies tasks file (Some (command.Print name)) (session Stopped left) (value_line (object_value left.values k)) new = each (session Stopped left) _ (λ body are is r st takes beside. (st, inl (said left name k h body are r st takes beside), same_beside (session Stopped left) new d.same body st beside)) in
-      (value_line (object_value left.values k), d.reply_is ∙ value_bytes (object_value left.values k), inl replies)
+      (value_line (object_value left.values k), d.reply_is ∙ value_bytes (object_value left.values k), value_plain (object_value left.values k), inl replies)
   told_object left name text new None h d =
       let replies : Replies tasks file (Some (command.Print name)) (session Stopped left) (refusal_line (print_refusal name)) new = each (session Stopped left) _ (λ body are is r st takes beside. (st, inl (unsaid left name h body r st takes beside), same_beside (session Stopped left) new d.same body st beside)) in
-      (refusal_line (print_refusal name), d.reply_is ∙ refusal_bytes (print_refusal name), inl replies)
+      (refusal_line (print_refusal name), d.reply_is ∙ refusal_bytes (print_refusal name), refusal_plain (print_refusal name), inl replies)
 
   told_print : (phase : Phase) (left : Left) (name text : List ℕ) (new : Session) → Prints (object_of tasks.objects name) name phase (session phase left) text new → Told_as (Some (command.Print name)) (session phase left) text new
   told_print Ended left name text new d = refuses (Some (command.Print name)) (codes "ended") mode.HasEnded (session Ended left) new text refl d (ended (command.Print name) left (λ e. cc))
@@ -413,12 +446,12 @@ module _ (tasks : Tasks) (file : List ℕ) where
 
   pub told_free : (old new : Session) (text : List ℕ) → IsResumable old.phase → Breaks file old text → Told_as (Some command.Step) old text new
   told_free old new text may d =
-      (event_line d.event ∷ [], d.reply_is ∙ event_bytes d.event, inr (each old _ (λ body are is r st takes beside. doomed body is r old st beside may d.meets)))
+      (event_line d.event ∷ [], d.reply_is ∙ event_bytes d.event, event_plain d.event, inr (each old _ (λ body are is r st takes beside. doomed body is r old st beside may d.meets)))
 
   -- ---- a line
 
   tells : (line : List ℕ) (c : Option Command) (old new : Session) (text : List ℕ) → read_of line ≡ c → Told_as c old text new → Tells tasks file line old text new
-  tells line c old new text e t = subst (λ x. Told_as x old text new → Tells tasks file line old text new) e (λ d. record { lines = d.0; bytes = d.1; told = d.2 }) t
+  tells line c old new text e t = subst (λ x. Told_as x old text new → Tells tasks file line old text new) e (λ d. record { lines = d.0; bytes = d.1; plain = d.2; told = d.3 }) t
 
   goes_on : (line : List ℕ) (c : Option Command) → read_of line ≡ c → is_quit_command c ≡ false → is_quit line ≡ false
   goes_on line c e n = ap is_quit_command e ∙ n

@@ -1,5 +1,6 @@
 -- What a session with a program that a text spells may write.
-use Rattle.std.specs.Prelude.{◌≡◌, ◌⊎◌, ℕ, List, [], ◌++◌, codes, Option, None, Some}
+use Rattle.std.specs.Prelude.{◌≡◌, ◌≢◌, ◌⊎◌, ℕ, List, [], ◌++◌, codes, Option, None, Some}
+use Rattle.std.specs.List.{AllByRecursion}
 use Rattle.c_model.specs.declared.tree.Program.{Program as Tasks}
 use Rattle.c_model.specs.Names.{is_identifier}
 use Rattle.c_tree.specs.declared.rows.Program.{Program}
@@ -25,9 +26,19 @@ TakesNames r = (w : List ℕ) → r.is_name w ≡ is_identifier w
 abbrev pub MayWrite : Tasks → List ℕ → List (List ℕ) → Lines → Type 0
 MayWrite tasks file lines transcript = (p : Program) (r : Reader) → IsSpelled file tasks p → TakesNames r → whole.Allowed p r 1 [] (commands_of lines) transcript []
 
+-- A program of this form never runs out of turns or stack: no line says so.
+abbrev pub IsPlain : List ℕ → Type 0
+IsPlain line = (line ≢ codes "turns") × (line ≢ codes "stack")
+
+abbrev pub ArePlain : Lines → Type 0
+ArePlain transcript = AllByRecursion IsPlain transcript
+
 -- these bytes are such lines
-abbrev pub IsTranscript : Tasks → List ℕ → List (List ℕ) → List ℕ → Type 0
-IsTranscript tasks file lines bytes = (transcript : Lines) × (bytes ≡ bytes_of transcript) × MayWrite tasks file lines transcript
+pub record IsTranscript (tasks : Tasks) (file : List ℕ) (lines : List (List ℕ)) (bytes : List ℕ) : Type 0 where
+  pub transcript : Lines
+  pub bytes_are : bytes ≡ bytes_of transcript
+  pub plain : ArePlain transcript
+  pub allowed : MayWrite tasks file lines transcript
 
 -- ---- on the way
 
@@ -58,4 +69,5 @@ EndsClaim tasks file command old = OfEach tasks file old (λ p r st. ClaimEnds p
 pub record Allowed (tasks : Tasks) (file : List ℕ) (old : Session) (lines : List (List ℕ)) (out : List ℕ) : Type 0 where
   pub transcript : Lines
   pub bytes : out ≡ bytes_of transcript
+  pub plain : ArePlain transcript
   pub each : OfEach tasks file old (λ p r st. AllowedFrom p r 1 st (commands_of lines) transcript [])
