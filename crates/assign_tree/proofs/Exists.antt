@@ -85,6 +85,7 @@ module _ (b : Box (Unit {0}) Global) (names : List (List ℕ)) where
       by_name : (y : Bool) → is_name t.text ≡ y → (if y then Some (Object (number_in names t.text)) else None) ≡ Some a → (x : Typed) × IsOperand count a x
       by_name true e k = let same : Object (number_in names t.text) ≡ a = some_same k in subst (λ o. (x : Typed) × IsOperand count o x) same (_, name (site_at 0 t.at) (number_in names t.text) (number_small names t.text (known e)))
       by_name false e k = absurd cc
+
       by : (o : Option ℕ) → constant_of t.text ≡ o → operand_or o names t.text ≡ Some a → (x : Typed) × IsOperand count a x
       by (Some n) e k = let same : Constant (pos n) ≡ a = some_same k in subst (λ o. (x : Typed) × IsOperand count o x) same (_, constant (site_at 0 t.at) n (constant_small t.text n e))
       by None e k = by_name (is_name t.text) refl k

@@ -214,7 +214,6 @@ module _ (file : List ℕ) (names : List (List ℕ)) (tasks : List Task) (body :
         let leads = assignment_leads q values f.all f.ints l r s k sum e (Err (Reason why)) (Discard ∷ control ss) is (assigned_err q values f.all f.ints l r s k sum e why low is v) in
         meets_along p leads.0 _ leads.1 _ leads.2 (meets_failure p (Reason why) leads.1 leads.3)
 
-
   module _ (close : Place) (q : ℕ) (sum : Sum) (e : Typed) (values : List ℤ) (status : ℤ) (is : IsSum (length names) sum e) (f : Facts names tasks q (Give sum ∷ Pass close ∷ []) values) where
     abbrev here : State
     here = at_point values q [] (Eval e ∷ Convert Int ∷ GiveBack ∷ BEHIND)

@@ -69,6 +69,7 @@ module _ (names : List (List ℕ)) (w : List ℕ) where
     where
       some_is : {x y : List ℕ} → ◌≡◌ {A = Option (List ℕ)} (Some x) (Some y) → x ≡ y
       some_is e = cc
+
       by_less : (i k : ℕ) → k ≤ i → (k ≡ i → ⊥) → k < i
       by_less i k a n = omega (arith, a, n)
 

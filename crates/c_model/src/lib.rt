@@ -9,7 +9,7 @@ mod scan;
 mod tree;
 
 pub use constant::constant_of;
-pub use event::{Event};
+pub use event::Event;
 pub use names::{is_identifier, is_name, object_of, print_refusal};
 pub use parse::{ProgramFault, read_program};
 pub use scan::{Scanner, Token};

@@ -262,10 +262,12 @@ module _ (tasks : Tasks) (file : List ℕ) where
     where
       d : Stop tasks.objects tasks.body left s
       d = stop_of tasks.objects tasks.body left s stands
+
       cases : (a b : Bool) → (if a then (if b then Refuses BadType else Refuses NoScope) else Refuses BadSyntax) ≡ Quits → ⊥
       cases true true h = cc
       cases true false h = cc
       cases false b h = cc
+
       by : (o : Option ℕ) → object_of tasks.objects name ≡ o → ⊥
       by (Some k) h = let shows = sym (asks_object body r left s name k are takes d h) ∙ e in cc
       by None h = cases (is_identifier name) (is_function name) (sym (asks_other body r left s name takes d h) ∙ e)
