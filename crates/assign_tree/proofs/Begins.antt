@@ -14,14 +14,14 @@ use Rattle.c_tree.specs.declared.typed.Stmt.TheVariants as stmt
 use Rattle.c_tree.specs.Rows.{stmts}
 use Rattle.c_tree.specs.declared.rows.Program.{Program}
 use Rattle.runs.specs.Runs.{Stopped}
-use Rattle.c_store.specs.Store.{Object, World}
+use Rattle.c_store.specs.Store.{World}
 use Rattle.c_store.specs.Frames.{new_place}
 use Rattle.c_source.specs.Control.{State, Stop, Open, runs_of}
 use Rattle.c_source.specs.Begin.{begin, static_objects, world_at_first}
-use Rattle.assign_tree.specs.Spelled.{object_rows, point_row, site_at, program_with, IsBody, block}
-use Rattle.assign_tree.specs.Stands.{int_objects, at_point, BEHIND, Facts, Stands, opening}
+use Rattle.assign_tree.specs.Spelled.{object_rows, site_at, program_with, IsBody, block}
+use Rattle.assign_tree.specs.Stands.{int_objects, at_point, BEHIND, Facts, opening}
 use Rattle.assign_tree.proofs.Resumes.{Resumed, pass_runs, pass_defined}
-use Rattle.assign_tree.proofs.Runs.{Meets, meets_stop}
+use Rattle.assign_tree.proofs.Runs.{meets_stop}
 
 -- what the objects hold at first
 abbrev pub zeros : List (List ℕ) → List ℤ

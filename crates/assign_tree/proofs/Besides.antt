@@ -1,8 +1,7 @@
 -- What the tasks come to, each program beside them comes to.
-use Rattle.std.proofs.Common.{◌≡◌, List, ℕ}
 use Rattle.c_model.specs.declared.event.Event.{Event}
 use Rattle.assign_tree.specs.Tasks.{State, RunsTo, RunsToUndefined}
-use Rattle.assign_tree.specs.Stands.{IsBeside, beginning, stopping, ComesTo, Fails}
+use Rattle.assign_tree.specs.Stands.{beginning, stopping, ComesTo, Fails}
 use Rattle.assign_tree.proofs.Resumes.{resumed, fails}
 use Rattle.assign_tree.proofs.Begins.{started, start_defined}
 

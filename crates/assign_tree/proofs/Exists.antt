@@ -1,10 +1,10 @@
 -- Each text of the form spells a program.
-use Rattle.std.proofs.Common.{◌≡◌, ◌<◌, ◌≤◌, ◌+◌, ◌*◌, ◌^◌, ◌⊎◌, inl, inr, refl, sym, ap, ◌∙◌, subst, ℕ, zero, suc, List, [], ◌∷◌, ◌++◌, length, length-append, Option, Some, None, pos, arith, Bool, true, false, ◌&&◌, cond, le_refl}
+use Rattle.std.proofs.Common.{◌≡◌, ◌<◌, ◌≤◌, ◌+◌, ◌^◌, refl, sym, ap, ◌∙◌, subst, ℕ, suc, List, [], ◌∷◌, ◌++◌, length, length-append, Option, Some, None, pos, arith, Bool, true, false, ◌&&◌, le_refl}
 use Rattle.std.proofs.lemmas.Bool.{false≢true, leb-true}
 use Rattle.std.proofs.lemmas.Option.{slice_get_within}
 use Rattle.std.specs.Option.{option_map}
-use Rattle.std.specs.Prelude.{slice_get, codes, ◌==◌, is_none, nat_le, Box, Vec, if◌then◌else◌}
-use mathlib.Core.Former.{Count, none_left, this, list_count}
+use Rattle.std.specs.Prelude.{codes, ◌==◌, is_none, nat_le, Box, Vec, if◌then◌else◌}
+use mathlib.Core.Former.{none_left, this, list_count}
 use Rattle.std.specs.declared.alloc.Global.{Global}
 use Rattle.std.specs.List.{AllByRecursion}
 use Rattle.std.specs.Str.{bytes_eq}
@@ -19,16 +19,13 @@ use Rattle.c_model.specs.declared.tree.Program.{Program as Tasks}
 use Rattle.c_model.specs.Scan.{Token, tokens_of}
 use Rattle.c_model.specs.Names.{is_name, object_of}
 use Rattle.c_model.specs.Constant.{constant_of, is_numeral, number_of}
-use Rattle.c_model.specs.Grammar.{number_or_zero, number_in, operand_or, operand_of, Declared, declares, declared_from, onto, followed, paired, sum_of, store_of, give_of, statement_of, is_return, tasks_of, body_of, unknown_in, Reading, Accepted, Unknown, Later, known_reading, body_reading, main_reading, reading_of}
+use Rattle.c_model.specs.Grammar.{number_or_zero, number_in, operand_or, operand_of, Declared, declared_from, onto, followed, paired, sum_of, store_of, give_of, statement_of, is_return, tasks_of, body_of, unknown_in, Accepted, Later, known_reading, body_reading, main_reading, reading_of}
 use Rattle.c_model.proofs.Counted.{few_tokens}
 use Rattle.c_tree.specs.declared.typed.Typed.{Typed}
-use Rattle.c_tree.specs.declared.typed.Typed.TheVariants as typed
-use Rattle.c_tree.specs.declared.typed.BinaryOp.TheVariants.{Add, Subtract}
 use Rattle.c_tree.specs.declared.typed.Stmt.{Stmt, Row_of-Stmt, end_of-Stmt, more_of-Stmt}
-use Rattle.c_tree.specs.declared.typed.Stmt.TheVariants as stmt
 use Rattle.c_tree.specs.declared.rows.Program.{Program}
 use Rattle.c_tree.specs.Rows.{stmts}
-use Rattle.assign_tree.specs.Spelled.{symbol_of, int_at, site_at, IsOperand, name, constant, IsSum, one, plus, minus, assignment, AreStatements, assigns, returns, IsBody, block, program_with, AreNames, IsSpelled}
+use Rattle.assign_tree.specs.Spelled.{site_at, IsOperand, name, constant, IsSum, one, plus, minus, AreStatements, assigns, returns, IsBody, block, AreNames, IsSpelled}
 use Rattle.assign_tree.proofs.Words.{no_names, one_more, object_is}
 
 some_same : {A : Type 0} {x y : A} → ◌≡◌ {A = Option A} (Some x) (Some y) → x ≡ y

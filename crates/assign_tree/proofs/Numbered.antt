@@ -1,5 +1,5 @@
 -- The stopping points of `main` are those that its tree keeps.
-use Rattle.std.proofs.Common.{◌≡◌, refl, sym, ap, ◌∙◌, subst, ℕ, suc, List, [], ◌∷◌, ◌++◌, append_assoc, length}
+use Rattle.std.proofs.Common.{◌≡◌, refl, sym, ap, ◌∙◌, ℕ, suc, List, [], ◌∷◌, ◌++◌}
 use Rattle.c_model.specs.declared.tree.Place.{Place}
 use Rattle.c_model.specs.declared.tree.Task.{Task}
 use Rattle.c_tree.specs.declared.typed.Stmt.{Stmt, Row_of-Stmt, end_of-Stmt, more_of-Stmt}

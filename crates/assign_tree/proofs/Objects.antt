@@ -1,13 +1,12 @@
 -- Static `int`s: the numbers that they hold, and what reading and writing them gives.
-use Rattle.std.proofs.Common.{◌≡◌, ◌<◌, ◌+◌, refl, sym, ap, ◌∙◌, ℕ, zero, suc, List, [], ◌∷◌, length, Option, Some, None, ℤ, pos, arith, Bool, true, false, ◌&&◌, zero-add}
+use Rattle.std.proofs.Common.{◌≡◌, ◌<◌, ◌+◌, refl, sym, ap, ◌∙◌, ℕ, zero, suc, List, [], ◌∷◌, length, Some, ℤ, pos, arith, Bool, true, false, ◌&&◌, zero-add}
 use Rattle.std.proofs.lemmas.Bool.{false≢true}
-use Rattle.std.specs.Prelude.{slice_get, slice_set, Result, Ok, Err}
+use Rattle.std.specs.Prelude.{slice_get, slice_set, Ok}
 use Rattle.std.specs.List.{slice_index_or, list_all}
 use Rattle.ldb_words.specs.Arithmetic.{is_int}
 use Rattle.ldb_words.specs.Word.{word_of_signed}
 use Rattle.ldb_words.specs.declared.kinds.Kind.TheVariants.{Word}
-use Rattle.runs.specs.Runs.{Why}
-use Rattle.c_store.specs.Store.{Object, Number, At, World, Value, load, store, is_stale}
+use Rattle.c_store.specs.Store.{Number, At, World, load, store, is_stale}
 use Rattle.assign_tree.specs.Stands.{int_object, int_objects}
 
 pub object_at : (k i : ℕ) (values : List ℤ) → i < length values → slice_get (int_objects k values) i ≡ Some (int_object (k + i) (slice_index_or values i (pos 0)))

@@ -1,10 +1,10 @@
 -- A resume of the assignments is one of the program.
-use Rattle.std.proofs.Common.{◌≡◌, ◌<◌, ◌+◌, ◌++◌, refl, sym, ap, ◌∙◌, subst, ℕ, zero, suc, List, [], ◌∷◌, length, drop, Option, Some, None, ℤ, pos, ◌+ℤ◌, ◌-ℤ◌, arith, Bool, true, false}
+use Rattle.std.proofs.Common.{◌≡◌, ◌<◌, ◌++◌, refl, sym, ap, ◌∙◌, subst, ℕ, zero, suc, List, [], ◌∷◌, length, drop, Some, ℤ, pos, ◌+ℤ◌, ◌-ℤ◌, arith, true}
 use Rattle.std.specs.Prelude.{slice_get, slice_set, Result, Ok, Err, Box}
 use Rattle.std.specs.declared.alloc.Global.{Global}
 use Rattle.std.specs.List.{slice_index_or, list_all}
-use Rattle.ldb_words.specs.Arithmetic.{is_int, checked}
-use Rattle.ldb_words.specs.Word.{signed, word_of_signed}
+use Rattle.ldb_words.specs.Arithmetic.{is_int}
+use Rattle.ldb_words.specs.Word.{word_of_signed}
 use Rattle.ldb_words.specs.declared.kinds.Undef.{Undef}
 use Rattle.ldb_words.specs.declared.kinds.Kind.TheVariants.{Word}
 use Rattle.c_model.specs.declared.tree.Place.{Place}
@@ -24,15 +24,15 @@ use Rattle.c_tree.specs.declared.rows.Program.{Program}
 use Rattle.c_tree.specs.declared.rows.Point.{Point}
 use Rattle.runs.specs.Runs.{Why, Reason, Goes, Passes, Exits, Undefined, Stopped, Exited, Failed}
 use Rattle.runs.specs.Runs as runs
-use Rattle.c_store.specs.Store.{Value, Number, At, World, store, ◌>>=◌}
+use Rattle.c_store.specs.Store.{Value, Number, At, World, store}
 use Rattle.c_store.specs.Frames.{Here, with_world, left}
-use Rattle.c_source.specs.Control.{State, Item, Eval, Convert, Discard, Push, Open, GiveBack, Leave, Run, Stop, runs_of, last_of, outermost_of}
+use Rattle.c_source.specs.Control.{State, Item, Eval, Convert, Discard, GiveBack, Leave, Stop, runs_of, last_of}
 use Rattle.c_source.specs.Source.{step}
-use Rattle.c_source.specs.Meaning.{Given, value_of, assigned}
+use Rattle.c_source.specs.Meaning.{Given, assigned}
 use Rattle.c_source.specs.Leads.{Leads}
 use Rattle.c_source.proofs.Evaluates.{eval_leads, assign_leads}
-use Rattle.assign_tree.specs.Spelled.{point_row, point_rows, numbers_from, assignment, program_with, main_of, IsSum, AreStatements, assigns, returns, IsBody, block}
-use Rattle.assign_tree.specs.Stands.{int_object, int_objects, at_point, BEHIND, Facts, Stands, opening, assigning, returning, closing, Answers}
+use Rattle.assign_tree.specs.Spelled.{point_row, point_rows, numbers_from, assignment, program_with, IsSum, AreStatements, assigns, returns, IsBody, block}
+use Rattle.assign_tree.specs.Stands.{int_objects, at_point, BEHIND, Facts, Stands, opening, assigning, returning, closing, Answers}
 use Rattle.assign_tree.proofs.Objects.{object_here, object_set_here, store_int, ints_set, length_set}
 use Rattle.assign_tree.proofs.Sums.{meant, symbol_here, signed_word, checked_int, one_int, sum_plain, sum_means}
 use Rattle.assign_tree.proofs.Runs.{Meets, meets_on, meets_along, meets_stop, meets_exit, meets_failure}

@@ -1,7 +1,7 @@
 -- Runs of a program, put together from steps.
-use Rattle.std.proofs.Common.{◌≡◌, refl, sym, ap, ◌∙◌, subst, ℕ, zero, suc, ◌+◌, Bool, true, ℤ}
+use Rattle.std.proofs.Common.{◌≡◌, sym, ap, ◌∙◌, subst, ℕ, zero, suc, ◌+◌, Bool, true, ℤ}
 use Rattle.c_tree.specs.declared.rows.Program.{Program}
-use Rattle.runs.specs.Runs.{Why, Next, Goes, Passes, Exits, Undefined, Event, Stopped, Exited, Failed, Course, Comes, RunsTo, until, onward, counted}
+use Rattle.runs.specs.Runs.{Why, Goes, Passes, Exits, Undefined, Event, Stopped, Exited, Failed, RunsTo, until, onward, counted}
 use Rattle.c_source.specs.Control.{State}
 use Rattle.c_source.specs.Source.{step}
 use Rattle.c_source.specs.Leads.{Steps}

@@ -1,10 +1,10 @@
 -- What a word names at a stopping point of such a program.
-use Rattle.std.proofs.Common.{◌≡◌, ◌<◌, ◌≤◌, ◌+◌, refl, sym, ap, ◌∙◌, subst, ℕ, zero, suc, List, [], ◌∷◌, ◌++◌, length, Option, Some, None, arith, Bool, true, false, ◌||◌, zero-add}
+use Rattle.std.proofs.Common.{◌≡◌, ◌<◌, ◌≤◌, ◌+◌, refl, sym, ap, ◌∙◌, ℕ, zero, suc, List, [], ◌∷◌, length, Option, Some, None, arith, true, false, ◌||◌, zero-add}
 use Rattle.std.proofs.lemmas.Bool.{false≢true}
 use Rattle.std.proofs.lemmas.Option.{slice_get_within}
 use Rattle.std.specs.Prelude.{slice_get, codes, if◌then◌else◌}
 use Rattle.std.specs.Str.{bytes_eq}
-use Rattle.c_model.specs.Names.{is_name, is_identifier, is_function, object_of}
+use Rattle.c_model.specs.Names.{is_name, is_function}
 use Rattle.c_model.specs.declared.tree.Place.{Place}
 use Rattle.c_model.specs.declared.tree.Task.{Task}
 use Rattle.c_tree.specs.declared.types.CType.TheVariants.{Int, Void}
@@ -13,7 +13,7 @@ use Rattle.c_tree.specs.declared.rows.Referent.TheVariants as refers
 use Rattle.c_tree.specs.declared.typed.Stmt.{Stmt}
 use Rattle.c_source.specs.Names.{named, named_in}
 use Rattle.assign_tree.specs.Spelled.{symbols_from, symbols_of, object_symbol, main_symbol, point_row, point_rows, program_with, AreNames}
-use Rattle.assign_tree.proofs.Words.{by_bool, same_bytes, bytes_same, bytes_differ, object_is, object_absent}
+use Rattle.assign_tree.proofs.Words.{by_bool, same_bytes, bytes_same, bytes_differ}
 use Rattle.assign_tree.proofs.Sums.{symbol_at, symbol_here, main_at}
 
 module _ (names : List (List ℕ)) (w : List ℕ) where

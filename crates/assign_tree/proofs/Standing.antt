@@ -1,5 +1,5 @@
 -- What each stop has in common.
-use Rattle.std.proofs.Common.{◌≡◌, refl, ℕ, List, length, Some, ℤ, true}
+use Rattle.std.proofs.Common.{◌≡◌, refl, ℕ, List, length, Some, true}
 use Rattle.std.specs.Prelude.{slice_get}
 use Rattle.std.specs.List.{list_all}
 use Rattle.ldb_words.specs.Arithmetic.{is_int}

@@ -1,36 +1,32 @@
 -- What the expressions of such a program mean.
-use Rattle.std.proofs.Common.{◌≡◌, ◌<◌, ◌+◌, ◌^◌, refl, sym, ap, ◌∙◌, ℕ, zero, suc, List, [], ◌∷◌, length, Option, Some, None, ℤ, pos, negsuc, ◌+ℤ◌, ◌-ℤ◌, arith, Bool, true, false, nat_lt, w32, zero-add}
-use Rattle.std.proofs.lemmas.Bool.{false≢true, ltb-true, lt-ltb}
+use Rattle.std.proofs.Common.{◌≡◌, ◌<◌, ◌+◌, ◌^◌, refl, sym, ap, ◌∙◌, ℕ, zero, suc, List, [], ◌∷◌, length, Some, ℤ, pos, negsuc, ◌+ℤ◌, ◌-ℤ◌, arith, Bool, true, false, w32, zero-add}
+use Rattle.std.proofs.lemmas.Bool.{ltb-true, lt-ltb}
 use Rattle.std.proofs.lemmas.Int.{to_z-of_z}
-use Rattle.std.specs.Prelude.{slice_get, slice_set, Result, Ok, Err, FitsSigned, if◌then◌else◌}
+use Rattle.std.specs.Prelude.{slice_get, Result, Ok, Err, FitsSigned, if◌then◌else◌}
 use Rattle.std.specs.List.{slice_index_or, list_all}
 use Rattle.ldb_words.specs.Arithmetic.{is_int, checked}
 use Rattle.ldb_words.specs.Word.{signed, word_of_signed}
 use Rattle.ldb_words.specs.declared.kinds.Undef.{Undef}
 use Rattle.ldb_words.specs.declared.kinds.Undef.TheVariants.{Overflow}
-use Rattle.ldb_words.specs.declared.kinds.Kind.TheVariants.{Word}
 use Rattle.c_model.specs.declared.tree.Operand.{Operand}
-use Rattle.c_model.specs.declared.tree.Operand.TheVariants.{Object, Constant}
 use Rattle.c_model.specs.declared.tree.Sum.{Sum}
-use Rattle.c_model.specs.declared.tree.Sum.TheVariants.{One, Plus, Minus}
+use Rattle.c_model.specs.declared.tree.Sum.TheVariants.{One}
 use Rattle.c_model.specs.declared.tree.Task.{Task}
 use Rattle.assign_tree.specs.Tasks.{operand_value, sum_value}
-use Rattle.c_tree.specs.declared.types.CType.{CType}
 use Rattle.c_tree.specs.declared.types.CType.TheVariants.{Int}
 use Rattle.c_tree.specs.declared.types.StructDef.{StructDef}
-use Rattle.c_tree.specs.declared.typed.BinaryOp.{BinaryOp}
 use Rattle.c_tree.specs.declared.typed.BinaryOp.TheVariants.{Add, Subtract}
 use Rattle.c_tree.specs.declared.typed.Typed.{Typed}
 use Rattle.c_tree.specs.declared.typed.Stmt.{Stmt}
 use Rattle.c_tree.specs.declared.rows.Program.{Program}
 use Rattle.c_tree.specs.Types.{type_of}
 use Rattle.runs.specs.Runs.{Why, Reason}
-use Rattle.c_store.specs.Store.{Value, Number, At, World}
+use Rattle.c_store.specs.Store.{Value, Number, World}
 use Rattle.c_store.specs.Frames.{Here}
 use Rattle.c_source.specs.Operators.{combined}
 use Rattle.c_source.specs.Meaning.{value_of, IsPlain}
 use Rattle.assign_tree.specs.Spelled.{symbols_from, object_symbol, main_symbol, program_with, IsOperand, name, constant, IsSum, one, plus, minus}
-use Rattle.assign_tree.specs.Stands.{int_objects, at_point}
+use Rattle.assign_tree.specs.Stands.{at_point}
 use Rattle.assign_tree.proofs.Objects.{object_here, load_int, int_at}
 
 -- a sum as a value of the program

@@ -1,6 +1,5 @@
 // What holds of programs of assignments.
-ghost use Rattle.std.specs.Prelude.{◌≡◌, ℕ, List, Box};
-ghost use Rattle.std.specs.declared.alloc.Global.{Global};
+ghost use Rattle.std.specs.Prelude.{◌≡◌, ℕ, List};
 ghost use Rattle.c_model.specs.declared.tree.Task.{Task};
 ghost use Rattle.c_model.specs.declared.tree.Program.{Program as Tasks};
 ghost use Rattle.c_model.specs.Grammar.{Accepted, reading_of};
@@ -11,7 +10,7 @@ ghost use Rattle.assign_tree.specs.Spelled.{IsBody, IsSpelled, main_of};
 
 /// Each text of the form spells a program.
 pub fn texts_spell_programs()
-    ensures { (b : Box (Unit {0}) Global) (file text : List ℕ) (tasks : Tasks) → reading_of text ≡ Accepted tasks → (p : Program) × IsSpelled file tasks p }
+    ensures { (file text : List ℕ) (tasks : Tasks) → reading_of text ≡ Accepted tasks → (p : Program) × IsSpelled file tasks p }
 {}
 
 /// The stopping points of `main` are those that its tree keeps.

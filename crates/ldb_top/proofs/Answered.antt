@@ -1,18 +1,16 @@
 -- What the code answers to a command is what is allowed for each program that the text spells.
-use Rattle.std.proofs.Common.{◌≡◌, arith, ℕ, zero, suc, Bool, true, false, List, [], ◌∷◌, ◌++◌, length, Option, Some, None, ◌⊎◌, inl, inr, refl, sym, ap, ◌∙◌, subst, append_assoc, append-nil, cond, ◌||◌, ◌&&◌, not, ℤ, pos, ◌<◌}
+use Rattle.std.proofs.Common.{◌≡◌, arith, ℕ, zero, suc, Bool, true, false, List, [], ◌∷◌, ◌++◌, length, Option, Some, None, ◌⊎◌, inl, inr, refl, sym, ap, ◌∙◌, subst, append_assoc, ◌||◌, ◌&&◌, not, ℤ, ◌<◌}
 use Rattle.std.proofs.lemmas.Bool.{false≢true}
 use Rattle.std.proofs.lemmas.Option.{slice_get_within}
 use Rattle.std.specs.Prelude.{codes, decimal, slice_get, if◌then◌else◌, nat_le}
 use Rattle.std.specs.Fmt.{signed_decimal}
-use Rattle.std.specs.List.{slice_index_or}
 use Rattle.std.specs.Str.{bytes_eq}
 use Rattle.c_model.specs.declared.tree.Place.{Place}
 use Rattle.c_model.specs.declared.tree.Program.{Program as Tasks}
 use Rattle.c_model.specs.declared.event.Event.{Event}
 use Rattle.c_model.specs.declared.event.Event.TheVariants as event
 use Rattle.c_model.specs.Names.{object_of, print_refusal, is_identifier, is_function, is_name}
-use Rattle.assign_tree.specs.Tasks.{State as Left, object_value, first_state}
-use Rattle.ldb_words.specs.declared.kinds.Undef.{Undef}
+use Rattle.assign_tree.specs.Tasks.{State as Left, object_value}
 use Rattle.ldb_words.specs.Arithmetic.{is_int}
 use Rattle.ldb_words.specs.Word.{signed, word_of_signed}
 use Rattle.runs.specs.Runs.{Event as WholeEvent, Stopped as StoppedAt, Exited, Failed, Reason}
@@ -24,20 +22,19 @@ use Rattle.c_store.specs.Store.{Number, is_stale}
 use Rattle.c_source.specs.Control.{State}
 use Rattle.c_source.specs.Begin.{begin}
 use Rattle.c_source.specs.Names.{named}
-use Rattle.c_source.specs.Source.{step}
 use Rattle.c_show.specs.Shown.{null}
 use Rattle.c_session.specs.declared.command.Command.{Command}
 use Rattle.c_session.specs.declared.command.Command.TheVariants as command
 use Rattle.c_session.specs.Commands.{Reader, Answer, Refuses, BadSyntax, NoScope, BadType, Quits, Nothing, answer, print_symbol}
 use Rattle.c_session.specs.Commands as mode
-use Rattle.c_session.specs.Allowed.{Lines, bytes_of, Standing, AnswerReplies, MemoryReplies, ClaimEnds, event_text, after_event, event_output}
-use Rattle.assign_tree.specs.Spelled.{IsBody, IsSpelled, AreNames, program_with, point_row, point_rows, object_row, object_rows, object_symbol, main_symbol}
-use Rattle.assign_tree.specs.Stands.{Stands, Answers, Meets, IsBeside, beginning, stopping, ComesTo, Fails, at_point, int_object}
+use Rattle.c_session.specs.Allowed.{Lines, bytes_of, Standing, AnswerReplies, MemoryReplies, ClaimEnds, event_text}
+use Rattle.assign_tree.specs.Spelled.{IsBody, AreNames, program_with, point_row, point_rows, object_row, object_rows, object_symbol, main_symbol}
+use Rattle.assign_tree.specs.Stands.{Stands, Answers, Meets, beginning, stopping, ComesTo, Fails, at_point}
 use Rattle.assign_tree.proofs.Standing.{Stop, stop_of}
 use Rattle.assign_tree.proofs.Words.{object_is, object_absent, by_bool, bytes_same, bytes_differ, same_bytes}
 use Rattle.assign_tree.proofs.Objects.{object_here, int_at}
 use Rattle.assign_tree.proofs.Sums.{signed_word}
-use Rattle.assign_tree.proofs.Scope.{names_object, names_other, built_in, exit_row, putchar_row, getchar_row}
+use Rattle.assign_tree.proofs.Scope.{names_object, names_other, exit_row, putchar_row, getchar_row}
 use Rattle.ldb_top.specs.declared.session.Phase.{Phase}
 use Rattle.ldb_top.specs.declared.session.Phase.TheVariants.{Fresh, Stopped, Ended}
 use Rattle.ldb_top.specs.Talk.{Tells}

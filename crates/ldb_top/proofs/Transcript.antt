@@ -1,15 +1,15 @@
 -- What a session may write, line by line.
-use Rattle.std.proofs.Common.{◌≡◌, ℕ, Bool, true, false, List, [], ◌∷◌, ◌++◌, Option, Some, None, ◌⊎◌, inl, inr, refl, sym, ap, ◌∙◌, subst, append_assoc, append-nil, cond}
+use Rattle.std.proofs.Common.{◌≡◌, ℕ, Bool, true, false, List, [], ◌∷◌, ◌++◌, Option, Some, None, inl, inr, refl, sym, ap, ◌∙◌, subst, append_assoc, cond}
 use Rattle.std.proofs.lemmas.Bool.{false≢true}
 use Rattle.c_model.specs.declared.tree.Program.{Program as Tasks}
 use Rattle.c_tree.specs.declared.rows.Program.{Program}
 use Rattle.c_session.specs.declared.command.Command.{Command}
 use Rattle.c_session.specs.declared.command.Command.TheVariants.{Quit}
-use Rattle.c_session.specs.Commands.{Reader, answer, Answer, Quits}
-use Rattle.c_session.specs.Allowed.{Lines, bytes_of, Standing, AllowedFrom, IsQuit, MemoryReplies}
+use Rattle.c_session.specs.Commands.{Reader, answer, Quits}
+use Rattle.c_session.specs.Allowed.{Lines, bytes_of, Standing, AllowedFrom, IsQuit}
 use Rattle.ldb_top.specs.Command.{is_empty, is_quit, is_quit_command, read_of, commands_of}
 use Rattle.ldb_top.specs.Follows.{Session, first_session}
-use Rattle.ldb_top.specs.Allowed.{TakesNames, Beside, before, at, behind, standing_in, OfEach, ArePlain, Replies, EndsClaim, Allowed, IsTranscript}
+use Rattle.ldb_top.specs.Allowed.{Beside, before, at, behind, OfEach, ArePlain, Replies, EndsClaim, Allowed, IsTranscript}
 use Rattle.ldb_top.proofs.Answered.{no_memory, no_memory_plain, NO_MEMORY}
 
 pub bytes-append : (xs ys : Lines) → bytes_of (xs ++ ys) ≡ bytes_of xs ++ bytes_of ys

@@ -1,5 +1,5 @@
 -- What a session with a program that a text spells may write.
-use Rattle.std.specs.Prelude.{◌≡◌, ◌≢◌, ◌⊎◌, ℕ, List, [], ◌++◌, codes, Option, None, Some}
+use Rattle.std.specs.Prelude.{◌≡◌, ◌≢◌, ◌⊎◌, ℕ, List, [], codes, Option}
 use Rattle.std.specs.List.{AllByRecursion}
 use Rattle.c_model.specs.declared.tree.Program.{Program as Tasks}
 use Rattle.c_model.specs.Names.{is_identifier}
@@ -14,7 +14,7 @@ use Rattle.c_session.specs.Allowed.{Lines, bytes_of, Standing, AnswerReplies, Me
 use Rattle.c_session.specs.Allowed as whole
 use Rattle.assign_tree.specs.Spelled.{IsSpelled}
 use Rattle.assign_tree.specs.Stands.{Stands}
-use Rattle.ldb_top.specs.declared.session.Phase.TheVariants.{Fresh, Stopped, Ended}
+use Rattle.ldb_top.specs.declared.session.Phase.TheVariants.{Stopped, Ended}
 use Rattle.ldb_top.specs.Command.{commands_of}
 use Rattle.ldb_top.specs.Follows.{Session, session, first_session}
 

@@ -1,7 +1,4 @@
 use Rattle.assign_tree.proofs.Numbered.{has_its_points}
-use Rattle.assign_tree.proofs.Standing.{stop_of}
-use Rattle.assign_tree.proofs.Besides.{comes, breaks}
-use Rattle.assign_tree.proofs.Scope.{names_object, names_other}
 use Rattle.assign_tree.proofs.laws.main_has_its_points.Goals as goal
 
 pub returns : goal.returns

@@ -1,4 +1,4 @@
-use Rattle.std.proofs.Common.{rules, ◌≡◌, ◌⊎◌, false, List, ℕ, Some, None, MatchOption, string_bytes, subst, sym, ◌∙◌}
+use Rattle.std.proofs.Common.{rules, ◌≡◌, ◌⊎◌, false, List, ℕ, Some, None, MatchOption, string_bytes, subst}
 use Rattle.std.specs.Prelude.{codes}
 use Rattle.c_session.specs.declared.command.Command.TheVariants as command
 use Rattle.c_model.specs.Names.{object_of}
