@@ -15,7 +15,7 @@ use Rattle.c_model.specs.declared.tree.Sum.TheVariants.{One, Plus, Minus}
 use Rattle.c_model.specs.declared.tree.Task.{Task}
 use Rattle.c_model.specs.declared.tree.Task.TheVariants.{Pass, Store, Give}
 use Rattle.c_model.specs.declared.tree.Place.{Place}
-use Rattle.c_model.specs.Source.{state, Goes, Passes, next, stored, given, operand_value, sum_value}
+use Rattle.assign_tree.specs.Tasks.{state, Goes, Passes, next, stored, given, operand_value, sum_value}
 use Rattle.assign_run.specs.declared.run.Step.{Step}
 use Rattle.assign_run.specs.declared.run.Step.TheVariants.{Went}
 use Rattle.assign_run.specs.Steps.{IsStep, kind_of}

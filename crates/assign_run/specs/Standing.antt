@@ -16,7 +16,7 @@ use Rattle.c_model.specs.declared.tree.Sum.{Sum}
 use Rattle.c_model.specs.declared.tree.Sum.TheVariants.{One, Plus, Minus}
 use Rattle.c_model.specs.declared.tree.Task.{Task}
 use Rattle.c_model.specs.declared.tree.Task.TheVariants.{Pass, Store, Give}
-use Rattle.c_model.specs.Source.{State, state}
+use Rattle.assign_tree.specs.Tasks.{State, state}
 use Rattle.mips_isa.specs.declared.insn.Insn.{Insn}
 use Rattle.assign_run.specs.Code.{NO_OP, tasks_code}
 

@@ -2,7 +2,7 @@
 use Rattle.std.specs.Prelude.{◌≡◌}
 use Rattle.c_model.specs.declared.tree.Task.{Task}
 use Rattle.c_model.specs.declared.tree.Task.TheVariants.{Pass, Store, Give}
-use Rattle.c_model.specs.Source.{State, Next, Goes, Passes, Exits, Undefined}
+use Rattle.assign_tree.specs.Tasks.{State, Next, Goes, Passes, Exits, Undefined}
 use Rattle.assign_run.specs.declared.run.Step.{Step}
 use Rattle.assign_run.specs.declared.run.Step.TheVariants.{Went, Passed, Exited}
 

@@ -1,6 +1,7 @@
 // A program that runs on the machine.
 ghost use Rattle.std.specs.Prelude.{◌≡◌, ◌<◌, ◌≤◌, ◌⊎◌, ◌*◌, ◌^◌, [], ◌∷◌, length, slice_index, IfOk, MatchOption};
-ghost use Rattle.c_model.specs.Source.{object_value, first_state, next, RunsTo, RunsToUndefined};
+ghost use Rattle.assign_tree.specs.Tasks.{object_value, first_state, next, RunsTo, RunsToUndefined};
+ghost use Rattle.assign_tree.specs.Stands.{ComesTo, Fails};
 ghost use Rattle.assign_run.specs.Steps.{IsStep, kind_of};
 ghost use Rattle.assign_run.specs.Standing.{stepped, object_words, Begins};
 
@@ -35,7 +36,7 @@ pub struct Run<'a> {
 
 impl<'a> Model for Run<'a> {
     ghost use Rattle.std.specs.Prelude.{◌≤◌};
-    ghost use Rattle.c_model.specs.Source.{State};
+    ghost use Rattle.assign_tree.specs.Tasks.{State};
     ghost use Rattle.assign_run.specs.Standing.{Ready, source_state};
 
     ghost Value = { State };
@@ -123,8 +124,16 @@ impl<'a> Run<'a> {
         })
     }
 
-    /// Runs to the next event. Where a step before it is undefined, nothing is said of the event or of what follows.
+    /// Runs to the next event. Each program that the text spells comes to it from beside here, and stands then beside
+    /// what is left; where it meets an undefined step before, nothing is said of the event or of what follows.
     pub fn resume(&mut self) -> Event
+        ensures { ComesTo self.old result self.new ⊎ Fails self.old }
+    {
+        self.run_on()
+    }
+
+    /// Runs the tasks up to the next event.
+    fn run_on(&mut self) -> Event
         ensures { RunsTo self.old result self.new ⊎ RunsToUndefined self.old }
     {
         loop {

@@ -1,4 +1,3 @@
 pub mod Tokens
 pub mod Tasks
-pub mod LineWords
 pub mod Counted

@@ -1,9 +1,6 @@
 pub mod Scan
 pub mod Names
 pub mod Constant
-pub mod Session
-pub mod Command
 pub mod Seen
-pub mod Source
 pub mod Grammar
 pub mod Read

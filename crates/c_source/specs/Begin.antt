@@ -31,7 +31,7 @@ starts_of p (c ∷ cs) (x ∷ xs) = record c { value = starting p c.kind x } ∷
 abbrev static_object : Program → ℕ → ObjectRow → Object
 static_object p o row = record { origin = Static o; live = true; size = size_of p.defs row.ctype; cells = starts_of p (cells_of p.defs row.ctype) row.start }
 
-abbrev static_objects : Program → ℕ → List ObjectRow → List Object
+abbrev pub static_objects : Program → ℕ → List ObjectRow → List Object
 static_objects p o [] = []
 static_objects p o (row ∷ rows) = static_object p o row ∷ static_objects p (suc o) rows
 

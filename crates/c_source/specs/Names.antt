@@ -8,7 +8,7 @@ use Rattle.c_tree.specs.declared.rows.SymbolRow.{SymbolRow}
 
 -- ---- scope
 
-abbrev named_in : List SymbolRow → List ℕ → (left : ℕ) → Option ℕ → Option SymbolRow
+abbrev pub named_in : List SymbolRow → List ℕ → (left : ℕ) → Option ℕ → Option SymbolRow
 named_in rows name zero s = None
 named_in rows name (suc left) None = None
 named_in rows name (suc left) (Some s) = option_and_then (λ row. if bytes_eq row.name name then Some row else named_in rows name left row.up) (slice_get rows s)

@@ -2,8 +2,8 @@
 use Rattle.std.proofs.Common.{◌≡◌, ℕ, true, false, List, [], ◌∷◌, Option, None, Some, refl, sym, ap, ◌∙◌, subst, cond}
 use Rattle.std.proofs.Common.{Ok}
 use Rattle.c_model.specs.declared.tree.Program.{Program}
-use Rattle.c_model.specs.Command.{is_quit}
-use Rattle.c_model.specs.Session.{Session}
+use Rattle.ldb_top.specs.Command.{is_quit}
+use Rattle.ldb_top.specs.Follows.{Session}
 use Rattle.ldb_edge.specs.Count.{Rose}
 use Rattle.ldb_top.specs.Faults.{CountsRead, CountsWrite}
 use Rattle.ldb_top.specs.Talk.{IsServed, CountsFaults}

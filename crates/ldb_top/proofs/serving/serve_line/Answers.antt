@@ -1,10 +1,20 @@
-use Rattle.std.proofs.Common.{inl, inr, refl, subst}
-use Rattle.c_model.specs.Session.{no_memory_text}
+use Rattle.std.proofs.Common.{inl, refl, sym, subst}
+use Rattle.std.specs.Prelude.{codes}
+use Rattle.ldb_top.specs.Command.{read_of}
+use Rattle.ldb_top.specs.Allowed.{Replies}
 use Rattle.ldb_top.specs.Talk.{IsAnswered}
+use Rattle.ldb_top.proofs.Answered.{no_memory, no_memory_plain, NO_MEMORY}
 use Rattle.ldb_top.proofs.Served.{wrote}
 use Rattle.ldb_top.proofs.serving.serve_line.Goals as goal
 
 pub returns-in-NoMemory-clause-served : goal.returns-in-NoMemory-clause-served
 returns-in-NoMemory-clause-served g c =
-    let a = subst (λ answer. IsAnswered c.args.program.now c.args.file.now c.args.line.now c.args.session.now answer c.answer_line.new.session) c.in-NoMemory.is c.in_ok-answer_line.ensures in
-    wrote c.args.program.now c.args.file.now c.args.line.now c.args.session.now c.answer_line.new.session no_memory_text (g.S.Sink.taken c.args.transcript.now) (g.S.Sink.taken c.reply.new.transcript) c.reply.result (record { some = a.0; goes_on = a.1; replies = inl (inr (record { reply_is = refl; same = a.2 })) }) c.reply.ensures.written
+    let program = c.args.program.now in
+    let file = c.args.file.now in
+    let line = c.args.line.now in
+    let old = c.args.session.now in
+    let new = c.answer_line.new.session in
+    let a = subst (λ answer. IsAnswered program file line old answer new) c.in-NoMemory.is c.in_ok-answer_line.ensures in
+    let told = subst (λ s. Replies program file (read_of line) old (NO_MEMORY program file) s) (sym a.2) (no_memory program file line old a.1) in
+    wrote program file line old new (codes "no memory\n") (g.S.Sink.taken c.args.transcript.now) (g.S.Sink.taken c.reply.new.transcript) c.reply.result
+    (record { some = a.0; goes_on = a.1; tells = record { lines = NO_MEMORY program file; bytes = refl; plain = no_memory_plain program file; told = inl told } }) c.reply.ensures.written

@@ -2,17 +2,19 @@
 ghost use Rattle.std.specs.Prelude.{◌≡◌, ◌<◌, ◌≤◌, [], ◌∷◌, false, length, not, IfOk, OnErr, IsErrOf, MatchOption, Some, None};
 ghost use Rattle.std.specs.List.{prefix_len};
 ghost use Rattle.std.specs.Result.{result_ok};
+ghost use Rattle.std.specs.Option.{option_map};
 ghost use Rattle.std.specs.Str.{bytes_eq};
-ghost use Rattle.c_model.specs.Command.{is_blank, is_empty, words_of, lone_of, read_of, is_quit};
-ghost use Rattle.c_model.specs.declared.command.CmdFault.TheVariants.{NoMemory};
+ghost use Rattle.ldb_top.specs.Named.{named};
+ghost use Rattle.ldb_top.specs.Command.{is_blank, is_empty, words_of, lone_of, read_of, is_quit};
+ghost use Rattle.ldb_top.specs.declared.command.CmdFault.TheVariants.{NoMemory};
 
 use ldb_words::Text;
 use std::alloc::{AllocError, AllocFailed, Global};
 use std::marker::Model;
 
-/// A command.
+/// A command that is answered.
 #[derive(Drop)]
-pub enum Command {
+pub enum Asked {
     Step,
     Print(Text),
     Quit,
@@ -61,7 +63,7 @@ pub struct Words<'a> {
 
 impl<'a> Model for Words<'a> {
     ghost use Rattle.std.specs.Prelude.{List, ℕ};
-    ghost use Rattle.c_model.specs.Command.{words_of};
+    ghost use Rattle.ldb_top.specs.Command.{words_of};
 
     ghost Value = { List (List ℕ) };
 
@@ -100,8 +102,8 @@ pub fn is_empty(line: &[u8]) -> bool
 }
 
 /// The command of a line. `quit` takes no memory.
-pub fn read_command(alloc: Global, line: &[u8]) -> Result<Command, CmdFault>
-    ensures ok { IfOk result (λ command. read_of line.now ≡ Some command) }
+pub fn read_command(alloc: Global, line: &[u8]) -> Result<Asked, CmdFault>
+    ensures ok { IfOk result (λ asked. read_of line.now ≡ Some (named asked)) }
     ensures line { IsErrOf result CmdFault.Line → read_of line.now ≡ None }
     ensures no_memory { IsErrOf result CmdFault.NoMemory → is_quit line.now ≡ false }
 {
@@ -118,18 +120,18 @@ pub fn read_command(alloc: Global, line: &[u8]) -> Result<Command, CmdFault>
     if !is_same(first, "print") || words.next().is_some() {
         return Err(CmdFault::Line);
     }
-    Ok(Command::Print(Text::from_slice(alloc, second)?))
+    Ok(Asked::Print(Text::from_slice(alloc, second)?))
 }
 
 /// The command of one word.
-fn lone_command(word: &[u8]) -> Result<Command, CmdFault>
-    ensures value { lone_of word.now ≡ result_ok result }
+fn lone_command(word: &[u8]) -> Result<Asked, CmdFault>
+    ensures value { lone_of word.now ≡ option_map named (result_ok result) }
     ensures err { OnErr result (result ≡ Err CmdFault.Line) }
 {
     if is_same(word, "step") {
-        Ok(Command::Step)
+        Ok(Asked::Step)
     } else if is_same(word, "quit") {
-        Ok(Command::Quit)
+        Ok(Asked::Quit)
     } else {
         Err(CmdFault::Line)
     }

@@ -1,18 +1,18 @@
--- A session with one program: the replies that the source allows to a list of command lines.
-use Rattle.std.specs.Prelude.{◌≡◌, ℕ, ◌⊎◌, List, [], ◌∷◌, ◌++◌, codes, Option, None, Some, MatchBool}
+-- A session command by command, as the code has it; that this is what is allowed is shown from it.
+use Rattle.std.specs.Prelude.{◌≡◌, ℕ, List, [], ◌∷◌, ◌++◌, codes, Option, None, Some}
 use Rattle.std.specs.Fmt.{decimal, signed_decimal}
-use Rattle.c_model.specs.declared.command.Command.{Command}
-use Rattle.c_model.specs.declared.command.Command.TheVariants.{Step, Print, Quit}
+use Rattle.c_session.specs.declared.command.Command.{Command}
+use Rattle.c_session.specs.declared.command.Command.TheVariants.{Step, Print}
 use Rattle.c_model.specs.declared.event.Event.{Event}
 use Rattle.c_model.specs.declared.event.Event.TheVariants.{Stop, Exit}
-use Rattle.c_model.specs.declared.event.Phase.{Phase}
-use Rattle.c_model.specs.declared.event.Phase.TheVariants.{Fresh, Stopped, Ended}
+use Rattle.ldb_top.specs.declared.session.Phase.{Phase}
+use Rattle.ldb_top.specs.declared.session.Phase.TheVariants.{Fresh, Stopped, Ended}
 use Rattle.c_model.specs.declared.tree.Program.{Program}
 use Rattle.c_model.specs.Names.{object_of, print_refusal}
-use Rattle.c_model.specs.Source.{State, first_state, object_value, RunsTo, RunsToUndefined}
-use Rattle.c_model.specs.Command.{read_of, is_empty, is_quit}
+use Rattle.assign_tree.specs.Tasks.{State, first_state, object_value}
+use Rattle.assign_tree.specs.Stands.{ComesTo, Fails}
 
--- where the session is, and the source
+-- where the session is, and what is left of the program
 pub record Session : Type 0 where
   pub phase : Phase
   pub source : State
@@ -43,9 +43,9 @@ pub record IsRefused (why : List ℕ) (old : Session) (reply : List ℕ) (new : 
   pub reply_is : reply ≡ refusal_text why
   pub same : new ≡ old
 
--- the source runs to this event, and the reply tells it
+-- the program beside comes to this event, and the reply tells it
 pub record Resumes (file : List ℕ) (old : Session) (reply : List ℕ) (new : Session) (event : Event) : Type 0 where
-  pub runs : RunsTo old.source event new.source
+  pub runs : ComesTo old.source event new.source
   pub reply_is : reply ≡ event_text file event
   pub phase_is : new.phase ≡ phase_after event
 
@@ -75,35 +75,15 @@ abbrev pub Follows : Program → List ℕ → Option Command → Session → Lis
 Follows program file None old reply new = IsRefused (codes "line") old reply new
 Follows program file (Some Step) old reply new = Steps old.phase file old reply new
 Follows program file (Some (Print name)) old reply new = Prints (object_of program.objects name) name old.phase old reply new
-Follows program file (Some Quit) old reply new = ⊥
-
-abbrev pub no_memory_text : List ℕ
-no_memory_text = codes "no memory" ++ end
-
--- the command found no memory, and nothing changes
-pub record FoundNoMemory (old : Session) (reply : List ℕ) (new : Session) : Type 0 where
-  pub reply_is : reply ≡ no_memory_text
-  pub same : new ≡ old
-
--- A line is answered.
-abbrev pub Replies : Program → List ℕ → List ℕ → Session → List ℕ → Session → Type 0
-Replies program file line old reply new = Follows program file (read_of line) old reply new ⊎ FoundNoMemory old reply new
+Follows program file (Some _) old reply new = ⊥
 
 -- a session that may be resumed
 abbrev pub IsResumable : Phase → Type 0
 IsResumable Ended = ⊥
 IsResumable _ = Unit {0}
 
--- A resume meets an undefined step before its event: from this line on nothing is claimed.
-pub record EndsClaim (line : List ℕ) (old : Session) : Type 0 where
-  pub resumes : read_of line ≡ Some Step
-  pub resumable : IsResumable old.phase
-  pub meets : RunsToUndefined old.source
-
--- The lines up to `quit` may be answered by this transcript: each by one reply, but for lines of blanks.
-abbrev pub Allowed : Program → List ℕ → Session → List (List ℕ) → List ℕ → Type 0
-Allowed program file old [] out = out ≡ []
-Allowed program file old (line ∷ lines) out =
-    MatchBool (is_empty line) (Allowed program file old lines out)
-    (MatchBool (is_quit line) (out ≡ [])
-    (((reply : List ℕ) × (new : Session) × (more : List ℕ) × Replies program file line old reply new × (out ≡ reply ++ more) × Allowed program file new lines more) ⊎ EndsClaim line old))
+-- the program beside meets an undefined step before its event, and the reply tells any event
+pub record Breaks (file : List ℕ) (old : Session) (reply : List ℕ) : Type 0 where
+  pub meets : Fails old.source
+  pub event : Event
+  pub reply_is : reply ≡ event_text file event

@@ -1,4 +1,4 @@
--- Running a program: its states, a step, and what a run comes to.
+-- What is left of a program of assignments as it runs: its tasks in order, and what each of them does. Its steps are the middle between the machine's words and the steps of C; no public promise cites them.
 use Rattle.std.specs.Prelude.{◌≡◌, ℕ, ℤ, pos, ◌+ℤ◌, ◌-ℤ◌, List, [], ◌∷◌, length, replicate, slice_set, Result, Ok, Err}
 use Rattle.std.specs.List.{slice_index_or}
 use Rattle.ldb_words.specs.Arithmetic.{checked}

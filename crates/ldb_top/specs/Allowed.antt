@@ -1,0 +1,73 @@
+-- What a session with a program that a text spells may write.
+use Rattle.std.specs.Prelude.{◌≡◌, ◌≢◌, ◌⊎◌, ℕ, List, [], codes, Option}
+use Rattle.std.specs.List.{AllByRecursion}
+use Rattle.c_model.specs.declared.tree.Program.{Program as Tasks}
+use Rattle.c_model.specs.Names.{is_identifier}
+use Rattle.c_tree.specs.declared.rows.Program.{Program}
+use Rattle.c_source.specs.Begin.{begin}
+use Rattle.c_source.specs.Control.{State}
+use Rattle.assign_tree.specs.Tasks.{State as Left}
+use Rattle.c_session.specs.declared.command.Command.{Command}
+use Rattle.c_session.specs.Commands.{Reader, Mode, answer}
+use Rattle.c_session.specs.Commands as mode
+use Rattle.c_session.specs.Allowed.{Lines, bytes_of, Standing, AnswerReplies, MemoryReplies, ClaimEnds, AllowedFrom}
+use Rattle.c_session.specs.Allowed as whole
+use Rattle.assign_tree.specs.Spelled.{IsSpelled}
+use Rattle.assign_tree.specs.Stands.{Stands}
+use Rattle.ldb_top.specs.declared.session.Phase.TheVariants.{Stopped, Ended}
+use Rattle.ldb_top.specs.Command.{commands_of}
+use Rattle.ldb_top.specs.Follows.{Session, session, first_session}
+
+-- its names are identifiers; what it makes of expressions is left open, since no command here has one
+abbrev pub TakesNames : Reader → Type 0
+TakesNames r = (w : List ℕ) → r.is_name w ≡ is_identifier w
+
+-- A session with the program that a text spells may write these lines for these command lines, with one side, no input and no output.
+abbrev pub MayWrite : Tasks → List ℕ → List (List ℕ) → Lines → Type 0
+MayWrite tasks file lines transcript = (p : Program) (r : Reader) → IsSpelled file tasks p → TakesNames r → whole.Allowed p r 1 [] (commands_of lines) transcript []
+
+-- A program of this form never runs out of turns or stack: no line says so.
+abbrev pub IsPlain : List ℕ → Type 0
+IsPlain line = (line ≢ codes "turns") × (line ≢ codes "stack")
+
+abbrev pub ArePlain : Lines → Type 0
+ArePlain transcript = AllByRecursion IsPlain transcript
+
+-- these bytes are such lines
+pub record IsTranscript (tasks : Tasks) (file : List ℕ) (lines : List (List ℕ)) (bytes : List ℕ) : Type 0 where
+  pub transcript : Lines
+  pub bytes_are : bytes ≡ bytes_of transcript
+  pub plain : ArePlain transcript
+  pub allowed : MayWrite tasks file lines transcript
+
+-- ---- on the way
+
+-- without breakpoints, in the innermost frame, with the first limit
+abbrev pub standing_in : Mode → Standing
+standing_in m = record { session = record { mode = m; breaks = []; frame = 0; limit = 10000000 }; written = [] }
+
+-- a session with the tasks, and one with the program
+pub data Beside (tasks : Tasks) (p : Program) : Session → Standing → Type 0 where
+  before : Beside tasks p (first_session tasks) (standing_in (mode.Fresh (begin p [])))
+  at : (left : Left) (s : State) → Stands tasks.objects tasks.body left s → Beside tasks p (session Stopped left) (standing_in (mode.Stopped s))
+  behind : (left : Left) → Beside tasks p (session Ended left) (standing_in mode.Ended)
+
+-- what holds of each program that the text spells, and each standing beside the session
+abbrev pub OfEach : Tasks → List ℕ → Session → (Program → Reader → Standing → Type 0) → Type 0
+OfEach tasks file old P = (p : Program) (r : Reader) (st : Standing) → IsSpelled file tasks p → TakesNames r → Beside tasks p old st → P p r st
+
+-- these lines answer a command
+abbrev pub Replies : Tasks → List ℕ → Option Command → Session → Lines → Session → Type 0
+Replies tasks file command old lines new =
+    OfEach tasks file old (λ p r st. (next : Standing) × (AnswerReplies p st (answer p r 1 st.session command) lines next ⊎ MemoryReplies p st (answer p r 1 st.session command) lines next) × Beside tasks p new next)
+
+-- from this command on nothing is claimed
+abbrev pub EndsClaim : Tasks → List ℕ → Option Command → Session → Type 0
+EndsClaim tasks file command old = OfEach tasks file old (λ p r st. ClaimEnds p st (answer p r 1 st.session command))
+
+-- a session may go on to write this
+pub record Allowed (tasks : Tasks) (file : List ℕ) (old : Session) (lines : List (List ℕ)) (out : List ℕ) : Type 0 where
+  pub transcript : Lines
+  pub bytes : out ≡ bytes_of transcript
+  pub plain : ArePlain transcript
+  pub each : OfEach tasks file old (λ p r st. AllowedFrom p r 1 st (commands_of lines) transcript [])
