@@ -1,5 +1,5 @@
 -- `int a[4], b[4]; int *p, *q; int main(void) { p = a + 4; q = b; return 0; }`
-use Rattle.std.proofs.Common.{◌≡◌, refl, [], ◌∷◌, Some, None, false, true, lit<, ℕ, ◌<◌, ◌^◌, le_refl, List, length, replicate}
+use Rattle.std.proofs.Common.{◌≡◌, refl, [], ◌∷◌, Some, None, false, true, lit<, lit≤, ℕ, ◌<◌, ◌^◌, le_refl, List, length, replicate}
 use Rattle.std.proofs.lemmas.List.{length-replicate}
 use Rattle.std.specs.Prelude.{Box, Vec, codes}
 use Rattle.std.specs.declared.alloc.Global.{Global}
@@ -54,11 +54,23 @@ module _ (b : Box (Unit {0}) Global) where
   it_is_accepted : IsAccepted program
   it_is_accepted = record {
     structs = Prim.search;
-    objects = Prim.search (lit<);
-    functions = Prim.search (lit<);
-    symbols = Prim.search (lit<);
+    objects = Prim.search (lit<, lit≤);
+    functions = (record {
+      result = refl;
+      few = Prim.search (lit≤);
+      scalars = tt;
+      locals = tt;
+      declared = refl;
+      block = tt;
+      body = Prim.search (lit<);
+      points = (0, 4, refl);
+      numbered = (0, refl);
+      placed = Prim.search;
+      unit = Prim.search (lit<);
+    }, tt);
+    symbols = Prim.search (lit<, lit≤);
     points = Prim.search (lit<);
     units = Prim.search (lit<);
     main = refl;
-    room = Prim.search (lit<);
+    room = Prim.search (lit≤);
   }

@@ -62,7 +62,7 @@ abbrev pub is_void : Plain → Bool
 is_void Void = true
 is_void _ = false
 
-abbrev is_empty : {A : Type 0} → List A → Bool
+abbrev pub is_empty : {A : Type 0} → List A → Bool
 is_empty [] = true
 is_empty (x ∷ xs) = false
 
