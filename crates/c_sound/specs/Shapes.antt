@@ -1,0 +1,39 @@
+-- Values of the shape that their type has: a number, or an address. And runs that keep to it.
+use Rattle.std.specs.Prelude.{◌≡◌, Bool, true, false, List}
+use Rattle.std.specs.List.{AllByRecursion}
+use Rattle.ldb_words.specs.declared.kinds.Kind.{Kind}
+use Rattle.ldb_words.specs.declared.kinds.Kind.TheVariants.{Byte, Word, Address}
+use Rattle.runs.specs.Runs.{Why, Reason, Stale, IllTyped, Outcome, Reached, Breaks, Nowhere}
+use Rattle.c_store.specs.Store.{Value, Number, Null, At}
+use Rattle.c_store.specs.Assigned.{Assignment, History}
+use Rattle.c_source.specs.Control.{State}
+
+-- the null pointer, or a pointer into an object, and no number
+abbrev pub is_place : Value → Bool
+is_place (Number n) = false
+is_place Null = true
+is_place (At o i) = true
+
+abbrev pub is_address : Kind → Bool
+is_address Byte = false
+is_address Word = false
+is_address Address = true
+
+-- a leaf of this kind may hold the value
+abbrev pub Fits : Kind → Value → Type 0
+Fits k v = is_place v ≡ is_address k
+
+-- the assignments of a debugger give each leaf a value that it may hold
+abbrev pub AreFitting : List Assignment → Type 0
+AreFitting all = AllByRecursion (λ a. Fits a.kind a.value) all
+
+abbrev pub IsFitting : History → Type 0
+IsFitting h = AllByRecursion AreFitting h
+
+-- a run goes on, ends, or is undefined for a reason of C's: no value has the wrong shape, and a step is never without an answer
+abbrev pub KeepsShapes : Outcome State → Type 0
+KeepsShapes (Reached m) = Unit {0}
+KeepsShapes (Breaks (Reason u)) = Unit {0}
+KeepsShapes (Breaks Stale) = Unit {0}
+KeepsShapes (Breaks IllTyped) = ⊥
+KeepsShapes Nowhere = ⊥

@@ -1,0 +1,6 @@
+//! Accepted programs never come to a value of the wrong shape.
+#![tactic(auto)]
+
+mod laws;
+
+pub use laws::accepted_programs_keep_shapes;
