@@ -1,1 +1,2 @@
 mod World
+mod Operators
