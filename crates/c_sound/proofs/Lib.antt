@@ -1,2 +1,4 @@
 mod World
 mod Operators
+mod Shaped
+mod Ready

@@ -153,7 +153,7 @@ abbrev pub compound_type : List StructDef → BinaryOp → Operand → Plain →
 compound_type defs op a t =
     only (a.lvalue && is_integer t && ((is_integer a.ctype && is_compound op) || (is_movable defs a.ctype && is_move op))) a.ctype
 
-abbrev stepping : StepOp → BinaryOp
+abbrev pub stepping : StepOp → BinaryOp
 stepping Up = Add
 stepping Down = Subtract
 
