@@ -2,3 +2,6 @@ mod World
 mod Operators
 mod Shaped
 mod Ready
+mod Lists
+mod Objects
+mod Continues

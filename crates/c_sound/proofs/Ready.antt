@@ -22,6 +22,10 @@ abbrev pub IsClear : List Bool → Type 0
 IsClear [] = Unit {0}
 IsClear (s ∷ ss) = ⊥
 
+abbrev pub locals_of : List Binding → List ℕ
+locals_of [] = []
+locals_of (b ∷ bs) = b.local ∷ locals_of bs
+
 module _ (p : Program) where
   -- ---- calls: the arguments on the stack, and then the result
 
@@ -101,10 +105,6 @@ module _ (p : Program) where
   abbrev pub HasFunction : Option Function → Type 0
   HasFunction None = ⊥
   HasFunction (Some fn) = Unit {0}
-
-  abbrev pub locals_of : List Binding → List ℕ
-  locals_of [] = []
-  locals_of (b ∷ bs) = b.local ∷ locals_of bs
 
   -- the outer activations can go on with a value of this shape
   abbrev pub Outside : Bool → List Activation → Type 0
