@@ -5,3 +5,4 @@ mod Ready
 mod Lists
 mod Objects
 mod Continues
+mod Fine
