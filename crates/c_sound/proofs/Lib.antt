@@ -6,3 +6,4 @@ mod Lists
 mod Objects
 mod Continues
 mod Fine
+mod Steps
