@@ -96,3 +96,7 @@ more_by false a b f h = f h
 pub has_more : (ls xs : List ℕ) (x : ℕ) → has ls x ≡ true → has (ls ++ xs) x ≡ true
 has_more [] xs x h = absurd (true≢false (sym h))
 has_more (y ∷ ls) xs x h = more_by (y == x) (has ls x) (has (ls ++ xs) x) (has_more ls xs x) h
+
+pub take_seam : (xs ys : List ℕ) → take (length xs) (xs ++ ys) ≡ xs
+take_seam [] ys = refl
+take_seam (x ∷ xs) ys = ap (λ zs. x ∷ zs) (take_seam xs ys)

@@ -1,5 +1,5 @@
 -- Each step from a good state leads to a good state, or has one of C's reasons.
-use Rattle.std.proofs.Common.{◌≡◌, refl, sym, ◌∙◌, subst, ap, ℕ, suc, zero, ◌+◌, ◌*◌, ◌%◌, List, [], ◌∷◌, ◌++◌, Bool, true, false, Option, Some, None, length, take, drop, reverse, map, true≢false}
+use Rattle.std.proofs.Common.{◌≡◌, refl, sym, ◌∙◌, subst, ap, ℕ, suc, zero, ◌+◌, ◌*◌, ◌%◌, List, [], ◌∷◌, ◌++◌, Bool, true, false, Option, Some, None, length, take, drop, reverse, map, true≢false, le_of_eq, take_all}
 use Rattle.std.specs.Prelude.{Result, Ok, Err, slice_get, if◌then◌else◌, pos, option_map, bytes_eq, codes, ◌==◌}
 use Rattle.ldb_words.specs.Word.{signed}
 use Rattle.runs.specs.Runs.{Next, Goes, Passes, Exits, Undefined, Stuck}
@@ -9,7 +9,8 @@ use Rattle.c_tree.specs.declared.typed.BinaryOp.{BinaryOp}
 use Rattle.c_tree.specs.declared.typed.BinaryOp.TheVariants.{Add}
 use Rattle.c_tree.specs.declared.typed.Typed.{Typed}
 use Rattle.c_tree.specs.declared.typed.Typed.TheVariants.{Comma', Assign', Choice', Or', And', Binary', Cast', Before', Address', Follow', Unary', SizeOf', SizeOfType, Index', Call', Dot', Arrow', After', Name, Constant, Literal, Parens'}
-use Rattle.c_tree.specs.declared.typed.Stmt.{Stmt}
+use Rattle.c_tree.specs.declared.typed.DeclaredLocal.{DeclaredLocal}
+use Rattle.c_tree.specs.declared.typed.Stmt.{Stmt, Row_of-Stmt}
 use Rattle.c_tree.specs.declared.typed.Stmt.TheVariants.{Value as Expression, Block', If', While', Do', For', Switch', Case', Default', Break, Continue, Return}
 use Rattle.c_tree.specs.declared.rows.Program.{Program}
 use Rattle.c_tree.specs.declared.rows.Function.{Function}
@@ -23,7 +24,7 @@ use Rattle.c_store.specs.Frames.{Here, Binding, with_world, with_point, left, bo
 use Rattle.c_store.specs.Bits.{minus_one}
 use Rattle.c_source.specs.Blocks.{cells_of, converted, local_type, result_type, opened, declared_in, statements_in, entered}
 use Rattle.c_source.specs.Operators.{bits_in, is_zero, combined, changed}
-use Rattle.c_source.specs.Control.{Item, Eval, Locate, Push, Bound, Load, Convert, Store, Copy, Update, Change, Combine, Offset, Use, Discard, Truth, AndThen, OrElse, Pick, Joined, Enter, Run, Stop, Choose, Open, Close, Turn, Again, Select, Seek, Switched, GiveBack, Leave, Label, State, Activation, runs_of, evals_of, inits_of, part_of, labels_in, default_in, broken, continued, last_of, body_of}
+use Rattle.c_source.specs.Control.{Item, Eval, Locate, Push, Bound, Load, Convert, Store, Copy, Update, Change, Combine, Offset, Use, Discard, Truth, AndThen, OrElse, Pick, Joined, Enter, Run, Stop, Choose, Open, Close, Turn, Again, Select, Seek, Switched, GiveBack, Leave, Label, Round, State, Activation, outermost_of, runs_of, evals_of, inits_of, part_of, labels_in, default_in, broken, continued, last_of, body_of}
 use Rattle.c_source.specs.Source.{on_ok, on_one, on_some, step, go, evaluate, locate, read, write, copy, update, on_test, built_in, call, end_with, execute, seek, act, on_control, no_value, place_in, dot_offset, arrow_offset}
 use Rattle.c_typing.specs.Rules.{stepping}
 use Rattle.c_typing.specs.Accepted.{numbers}
@@ -31,9 +32,9 @@ use Rattle.c_typing.specs.Declared.{has}
 use Rattle.c_sound.specs.Shapes.{is_place, is_address, Fits}
 use Rattle.c_sound.proofs.World.{Gives, used_gives, load_gives, store_gives, moved_gives, load_struct_gives, store_struct_gives, FitEach, WorldFits, left_fits}
 use Rattle.c_sound.proofs.Operators.{addr, conv, conv_own, converted_shape, takes, gives, takes_one, combined_gives, changed_gives, bits_give}
-use Rattle.c_sound.proofs.Shaped.{shape, Updates, is_getchar, row_shapes, Given, Named, NamedBy, ShapedE, ShapedL, ShapedPart, ShapedInits, ShapedS, EachShaped, ShapedLoop, local_numbers}
+use Rattle.c_sound.proofs.Shaped.{shape, Updates, is_getchar, row_shapes, Given, Named, NamedBy, ShapedE, ShapedL, ShapedPart, ShapedInits, ShapedRows, ShapedReturn, ShapedS, EachShaped, ShapedLoop, local_numbers}
 use Rattle.c_sound.proofs.Ready.{IsClear, locals_of, EntersFunction, EntersBuiltIn, EntersBy, Enters, EachLabel, Ready, Breaks, Continues, HasFunction, Outside, Good}
-use Rattle.c_sound.proofs.Lists.{locals_length, bound_here, take_map, drop_map, reverse_map, map_length, onto}
+use Rattle.c_sound.proofs.Lists.{locals_length, bound_here, take_map, drop_map, reverse_map, map_length, onto, take_seam}
 use Rattle.c_sound.proofs.Continues.{fit, assign_ready, args_ready, row_length, enters, runs_ready, rows_shaped, body_shaped, breaks_more, continues_more, Lands, breaks_land, continues_land, inits_ready, part_ready, else_shaped, turns_ready, goes_on_ready, for_begins, while_begins, do_begins, labels_shaped, default_shaped}
 use Rattle.c_sound.proofs.Fine.{shapes, Fine, ok_fine, some_fine, either_fine, there, left_good, opened_good, given_good, test_fine}
 
@@ -212,3 +213,147 @@ module _ (p : Program) where
     enter_fine : (s : Option SymbolRow) (n : ℕ) (vs : List Value) (k : List Item) → Enters p s n (shapes vs) (Ready p f k ls) → IsFine (on_some s (λ s. call p h out s.refers s.name n vs k))
     enter_fine None n vs k r = r
     enter_fine (Some s) n vs k r = call_fine s.refers s.name n vs k r
+
+    -- the innermost activation ends
+    end_fine : (v : Value) (rest : List Activation) → is_place v ≡ addr (result_type p f) → Outside p (addr (result_type p f)) rest → IsFine (end_with p h out v rest)
+    end_fine v [] e q = ok_fine p (λ _. Unit {0}) (bits_in v) _ (bits_give v (e ∙ q)) λ n u. tt
+    end_fine v (a ∷ rest) e q = record {
+      world = left_fits 0 h w;
+      inner = q.0;
+      control = fit p a.place.function a.control (locals_of a.place.locals) (shapes a.values) (is_place v) (addr (result_type p f)) e q.1;
+      outer = q.2;
+    }
+
+    -- ---- statements
+
+    left_fine : (n : ℕ) (vs : List Value) (k : List Item) → Ready p f k (take n ls) (shapes vs) → IsFine (go p h out 1 (left n h) vs k)
+    left_fine n vs k r = left_good p n h vs k out w i o r
+
+    land_fine : (k : List Item) (r : Option Round) → Lands p f k ls r → IsFine (on_some r (λ r. go p h out 1 (left r.scope h) [] r.control))
+    land_fine k r q = some_fine p r q.0 _ q.1 (left_fine q.0.scope [] q.0.control q.2)
+
+    abbrev count : ℕ
+    count = length h.place.locals
+
+    counted : count ≡ length ls
+    counted = locals_length h.place.locals
+
+    -- the statements of a block, and then its end
+    block_ready : {m : _} (ds : List DeclaredLocal) (row : Row_of-Stmt m) (l b : Bool) (k : List Item) → ShapedInits p f (ls ++ local_numbers ds) ds → ShapedRows p f (ls ++ local_numbers ds) l b row
+        → (b ≡ true → Breaks p f k ls) → (l ≡ true → Continues p f k ls) → Can k []
+        → Can (Open ds ∷ (inits_of p f ds ++ (runs_of (stmts row) ++ Close count ∷ k))) []
+    block_ready ds row l b k q s x y r =
+        let xs = local_numbers ds in
+        inits_ready p f ds (runs_of (stmts row) ++ Close count ∷ k) (ls ++ xs) q
+        (runs_ready p f (stmts row) (Close count ∷ k) (ls ++ xs) l b (rows_shaped p f row (ls ++ xs) l b s) (λ e. breaks_more p f k ls xs (x e)) (λ e. continues_more p f k ls xs (y e))
+        (subst (λ ys. Ready p f k ys []) (sym (ap (λ c. take c (ls ++ xs)) counted ∙ take_seam ls xs)) r))
+
+    returned : (o : Option Typed) (at : _) (q : ℕ) (k : List Item) → ShapedReturn p f ls o → IsFine (execute p h out (Return at q o) [] k)
+    returned None at q k r = goes 1 [] _ r
+    returned (Some e) at q k r = goes 1 [] _ (r.0, r.1)
+
+    execute_fine : (s : Stmt) (l b : Bool) (k : List Item) → ShapedS p f ls l b s → (b ≡ true → Breaks p f k ls) → (l ≡ true → Continues p f k ls) → Can k [] → IsFine (execute p h out s [] k)
+    execute_fine (Expression at e) l b k q x y r = goes 1 [] _ (part_ready p f e k ls q r)
+    execute_fine (Block' at ds t row line column) l b k q x y r = goes 1 [] _ (block_ready ds row l b k q.0 q.1 x y r)
+    execute_fine (If' at c t s e) l b k q x y r = goes 1 [] _ (q.0, (tt, (l, b, q.1, else_shaped p f e ls l b q.2, x, y), r))
+    execute_fine (Switch' at c t s) l b k q x y r = goes 1 [] _ (q.0, (q.1, tt, counted, (l, body_shaped p f s ls l q.2, y), r))
+    execute_fine (Case' at c t s) l b k q x y r = goes 1 [] _ (tt, (l, b, q, x, y), r)
+    execute_fine (Default' at t s) l b k q x y r = goes 1 [] _ (tt, (l, b, q, x, y), r)
+    execute_fine (Break at) l b k q x y r = land_fine k (broken k) (breaks_land p f k ls (x q))
+    execute_fine (Continue at) l b k q x y r = land_fine k (continued k) (continues_land p f k ls (y q))
+    execute_fine (Return at c e) l b k q x y r = returned e at c k q
+    execute_fine (While' at c t s) l b k q x y r = goes 1 [] _ (while_begins p f at c t s count k ls counted q r)
+    execute_fine (Do' at t s c) l b k q x y r = goes 1 [] _ (do_begins p f at c t s count k ls counted q r)
+    execute_fine (For' at i c j t s) l b k q x y r = goes 1 [] _ (for_begins p f at i c j t s count k ls counted q.0 (q.1, q.2, q.3) r)
+
+    in_switch : (xs : List Stmt) (n : ℕ) (l : Bool) (k : List Item) → n ≡ length ls → EachShaped p f ls l true xs → (l ≡ true → Continues p f k ls) → Can k [] → Can (runs_of xs ++ Switched n ∷ k) []
+    in_switch xs n l k e q y r =
+        runs_ready p f xs (Switched n ∷ k) ls l true q (λ _. (le_of_eq e, subst (λ ys. Ready p f k ys []) (sym (take_all n ls (le_of_eq (sym e)))) r)) y (tt, r)
+
+    either_can : (b : Bool) (k j : List Item) → Can k [] → Can j [] → Can (if b then k else j) []
+    either_can true k j q r = q
+    either_can false k j q r = r
+
+    seek_fine : (v : ℕ) (labels : List Label) (default : List Stmt) (n : ℕ) (k : List Item) → n ≡ length ls → (l : Bool) → EachLabel p f ls l labels → EachShaped p f ls l true default → (l ≡ true → Continues p f k ls) → Can k []
+        → IsFine (seek p h out v labels default n [] k)
+    seek_fine v [] default n k e l q d y r = goes 1 [] _ (in_switch default n l k e d y r)
+    seek_fine v (x ∷ xs) default n k e l q d y r =
+        goes 1 [] _ (either_can (x.constant == v) (runs_of x.from ++ Switched n ∷ k) (Seek v xs default n ∷ k) (in_switch x.from n l k e q.0 y r) (tt, e, (l, q.1, d, y), r))
+
+    -- ---- the first thing that remains to be done
+
+    act_fine : (x : Item) (vs : List Value) (k : List Item) → Can (x ∷ k) (shapes vs) → IsFine (act p h out x vs k)
+    act_fine (Eval e) vs k r = evaluate_fine e vs k r.0 r.1
+    act_fine (Locate e) vs k r = locate_fine e vs k r.0 r.1
+    act_fine (Push v) vs k r = goes 1 (v ∷ vs) k r
+    act_fine (Bound x) vs k r = let b = bound_here x h.place.locals r.0 in some_fine p (bound x h.place.locals) b.0 _ b.1 (goes 1 (At b.0 0 ∷ vs) k r.1)
+    act_fine (Load t) [] k r = r
+    act_fine (Load t) (v ∷ vs) k r = read_fine t v vs k r.0 r.1
+    act_fine (Convert t) [] k r = r
+    act_fine (Convert t) (v ∷ vs) k r = goes 1 (converted t v ∷ vs) k (fit p f k ls (shapes vs) (is_place (converted t v)) (conv t (is_place v)) (converted_shape t v) r)
+    act_fine (Store t) [] k r = r
+    act_fine (Store t) (v ∷ []) k r = r
+    act_fine (Store t) (v ∷ place ∷ vs) k r = let e = converted_shape t v ∙ r.0 in write_fine t place (converted t v) (converted t v) vs k e e r.1
+    act_fine (Copy t) [] k r = r
+    act_fine (Copy t) (v ∷ []) k r = r
+    act_fine (Copy t) (v ∷ place ∷ vs) k r = copy_fine t place v vs k r.1 r.0 r.2
+    act_fine (Update t op s new) [] k r = r
+    act_fine (Update t op s new) (v ∷ []) k r = r
+    act_fine (Update t op s new) (v ∷ place ∷ vs) k r = update_fine t op s new place v vs k r.0 r.1
+    act_fine (Change op t) [] k r = r
+    act_fine (Change op t) (v ∷ vs) k r = ok_fine p (λ z. is_place z ≡ false) (changed h.world op t v) _ (changed_gives h.world op t v r.0) λ x e. goes 1 (x ∷ vs) k (fit p f k ls (shapes vs) (is_place x) false e r.1)
+    act_fine (Combine op s t) [] k r = r
+    act_fine (Combine op s t) (y ∷ []) k r = r
+    act_fine (Combine op s t) (y ∷ x ∷ vs) k r =
+        ok_fine p (λ z. is_place z ≡ gives op s t) (combined p.defs h.world op s t x y) _ (combined_gives p.defs h.world op s t x y r.0) λ z e. goes 1 (z ∷ vs) k (fit p f k ls (shapes vs) (is_place z) (gives op s t) e r.1)
+    act_fine (Offset n) [] k r = r
+    act_fine (Offset n) (v ∷ vs) k r = ok_fine p (λ z. is_place z ≡ true) (moved h.world v (pos n)) _ (moved_gives h.world v (pos n) r.0) λ z e. goes 1 (z ∷ vs) k (fit p f k ls (shapes vs) (is_place z) true e r.1)
+    act_fine Use [] k r = r
+    act_fine Use (v ∷ vs) k r = ok_fine p (λ x. x ≡ v) (used h.world v) _ (used_gives h.world v) λ x e. goes 1 (x ∷ vs) k (fit p f k ls (shapes vs) (is_place x) (is_place v) (ap is_place e) r)
+    act_fine Discard [] k r = r
+    act_fine Discard (v ∷ vs) k r = goes 1 vs k r
+    act_fine Truth [] k r = r
+    act_fine Truth (v ∷ vs) k r = test_fine p h out v _ _ (goes 1 (Number 1 ∷ vs) k r) (goes 1 (Number 0 ∷ vs) k r)
+    act_fine (AndThen e) [] k r = r
+    act_fine (AndThen e) (v ∷ vs) k r = test_fine p h out v _ _ (goes 1 vs (Eval e ∷ Truth ∷ Joined ∷ k) r) (goes 1 (Number 0 ∷ vs) k r.1)
+    act_fine (OrElse e) [] k r = r
+    act_fine (OrElse e) (v ∷ vs) k r = test_fine p h out v _ _ (goes 1 (Number 1 ∷ vs) k r.1) (goes 1 vs (Eval e ∷ Truth ∷ Joined ∷ k) r)
+    act_fine (Pick t a b) [] k r = r
+    act_fine (Pick t a b) (v ∷ vs) k r =
+        test_fine p h out v _ _ (goes 1 vs (Eval a ∷ Use ∷ Convert t ∷ Joined ∷ k) (r.0, fit p f k ls (shapes vs) (conv t (shape a)) (addr t) r.2 r.4)) (goes 1 vs (Eval b ∷ Use ∷ Convert t ∷ k) (r.1, fit p f k ls (shapes vs) (conv t (shape b)) (addr t) r.3 r.4))
+    act_fine Joined vs k r = goes 1 vs k r
+    act_fine (Enter g n) vs k r = enter_fine (slice_get p.symbols g) n vs k r
+    act_fine (Run s) [] k r = execute_fine s r.1.0 r.1.1 k r.1.2 r.1.3 r.1.4 r.2
+    act_fine (Run s) (v ∷ vs) k r = absurd r.0
+    act_fine (Stop q) vs k r = record { world = w; inner = i; control = r; outer = o }
+    act_fine (Choose a b) [] k r = r
+    act_fine (Choose a b) (v ∷ []) k r =
+        test_fine p h out v _ _ (goes 1 [] (Run a ∷ Joined ∷ k) (tt, (r.1.0, r.1.1, r.1.2, r.1.4, r.1.5), r.2)) (goes 1 [] (runs_of b ++ k) (runs_ready p f b k ls r.1.0 r.1.1 r.1.3 r.1.4 r.1.5 r.2))
+    act_fine (Choose a b) (v ∷ u ∷ vs) k r = absurd r.0
+    act_fine (Open ds) vs k r = opened_good p f ds h vs k out w i o r
+    act_fine (Close n) vs k r = left_fine n vs k r
+    act_fine (Turn s n) [] k r = r
+    act_fine (Turn s n) (v ∷ []) k r = test_fine p h out v _ _ (goes 1 [] _ (turns_ready p f s n k ls r.1 r.2 r.3)) (goes 1 [] k r.3)
+    act_fine (Turn s n) (v ∷ u ∷ vs) k r = absurd r.0
+    act_fine (Again s n) [] k r = goes 1 [] _ (goes_on_ready p f s n k ls r.1 r.2 r.3)
+    act_fine (Again s n) (v ∷ vs) k r = absurd r.0
+    act_fine (Select body n) [] k r = r
+    act_fine (Select body n) (v ∷ []) k r =
+        ok_fine p (λ _. Unit {0}) (bits_in v) _ (bits_give v r.0) λ x u.
+        goes 1 [] _ (tt, r.2, (r.3.0, labels_shaped p f (statements_in body) ls r.3.0 r.3.1, default_shaped p f (statements_in body) ls r.3.0 r.3.1, r.3.2), r.4)
+    act_fine (Select body n) (v ∷ u ∷ vs) k r = absurd r.1
+    act_fine (Seek v labels default n) [] k r = seek_fine v labels default n k r.1 r.2.0 r.2.1 r.2.2 r.2.3 r.3
+    act_fine (Seek v labels default n) (u ∷ vs) k r = absurd r.0
+    act_fine (Switched n) [] k r = goes 1 [] k r.1
+    act_fine (Switched n) (v ∷ vs) k r = absurd r.0
+    act_fine GiveBack [] k r = absurd r
+    act_fine GiveBack (v ∷ vs) k r = let fn = there p (slice_get p.functions f) i in some_fine p (slice_get p.functions f) fn.0 _ fn.1 (left_fine (outermost_of fn.0) (v ∷ []) (Stop (last_of fn.0.points) ∷ Leave ∷ []) r)
+    act_fine Leave [] k r = r
+    act_fine Leave (v ∷ vs) k r = end_fine v out r o
+
+    control_fine : (k : List Item) (vs : List Value) → Can k (shapes vs) → IsFine (on_control p h out k vs)
+    control_fine [] vs r = r
+    control_fine (x ∷ k) vs r = act_fine x vs k r
+
+  pub step_fine : ((g : ℕ) → ShapedFunction g (slice_get p.functions g)) → (s : State) → Good p s → Fine p (step p s)
+  step_fine bodies s g = control_fine bodies s.here s.outer g.world g.inner g.outer s.control s.values g.control
