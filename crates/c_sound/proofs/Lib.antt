@@ -7,3 +7,5 @@ mod Objects
 mod Continues
 mod Fine
 mod Steps
+mod Runs
+mod Begins
