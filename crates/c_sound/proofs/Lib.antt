@@ -9,3 +9,4 @@ mod Fine
 mod Steps
 mod Runs
 mod Begins
+mod Rules

@@ -33,7 +33,7 @@ numbers from (suc count) = from ∷ numbers (suc from) count
 
 -- ---- functions
 
-abbrev IsBlock : Stmt → Type 0
+abbrev pub IsBlock : Stmt → Type 0
 IsBlock (Block' at ds _ row l c) = Unit {0}
 IsBlock _ = ⊥
 
@@ -45,7 +45,7 @@ abbrev pub AreScalars : List Plain → Type 0
 AreScalars ts = AllByRecursion (λ t. is_scalar t ≡ true) ts
 
 module _ (p : Program) where
-  abbrev IsPointOf : ℕ → Option Point → Type 0
+  abbrev pub IsPointOf : ℕ → Option Point → Type 0
   IsPointOf f None = ⊥
   IsPointOf f (Some q) = q.function ≡ f
 
@@ -70,25 +70,25 @@ module _ (p : Program) where
   agrees (Array s zero) (Array t n) = same s t
   agrees s t = same s t
 
-  abbrev IsOfObject : Plain → Option ObjectRow → Type 0
+  abbrev pub IsOfObject : Plain → Option ObjectRow → Type 0
   IsOfObject t None = ⊥
   IsOfObject t (Some row) = agrees t (plain row.ctype) ≡ true
 
-  abbrev IsOfFunction : Plain → Option Function → Type 0
+  abbrev pub IsOfFunction : Plain → Option Function → Type 0
   IsOfFunction t None = ⊥
   IsOfFunction t (Some fn) = t ≡ plain fn.result
 
-  abbrev IsOfBuiltIn : Plain → Denoted → Type 0
+  abbrev pub IsOfBuiltIn : Plain → Denoted → Type 0
   IsOfBuiltIn t (AFunction r ts) = t ≡ r
   IsOfBuiltIn t _ = ⊥
 
-  abbrev IsReferent : Plain → List ℕ → Referent → Type 0
+  abbrev pub IsReferent : Plain → List ℕ → Referent → Type 0
   IsReferent t name (refers.Object o) = IsOfObject t (slice_get p.objects o)
   IsReferent t name (refers.Local x) = Unit {0}
   IsReferent t name (refers.Function f) = IsOfFunction t (slice_get p.functions f)
   IsReferent t name refers.Declared = IsOfBuiltIn t (built_in name)
 
-  abbrev IsBelow : ℕ → Option ℕ → Type 0
+  abbrev pub IsBelow : ℕ → Option ℕ → Type 0
   IsBelow n None = Unit {0}
   IsBelow n (Some k) = k < n
 

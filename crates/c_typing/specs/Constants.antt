@@ -15,7 +15,7 @@ use Rattle.c_tree.specs.Layout.{size_of}
 use Rattle.c_store.specs.Bits.{low_byte, minus_one}
 use Rattle.c_source.specs.Operators.{on_ints, on_unsigned, operating_type, truth}
 
-abbrev defined : Result ℕ Undef → Option ℕ
+abbrev pub defined : Result ℕ Undef → Option ℕ
 defined (Ok n) = Some n
 defined (Err r) = None
 
@@ -39,10 +39,10 @@ abbrev pub is_true : ℕ → Bool
 is_true n = if n == 0 then false else true
 
 -- `&&`, `||` and `? :` evaluate no more than they need (C90 6.3.13 to 6.3.15)
-abbrev chosen : ℕ → Option ℕ → Option ℕ → Option ℕ
+abbrev pub chosen : ℕ → Option ℕ → Option ℕ → Option ℕ
 chosen c a b = if is_true c then a else b
 
-abbrev truth_of : Option ℕ → Option ℕ
+abbrev pub truth_of : Option ℕ → Option ℕ
 truth_of a = option_map (λ n. truth (is_true n)) a
 
 -- The value of a constant expression, as its bits. It is built of integer and character constants, `sizeof`, casts to integer types, unary and binary operators without assignment and comma, and `? :`, and its value is defined (C90 6.4).
@@ -59,7 +59,7 @@ constant_of defs (Choice' h _ c _ a _ b) = option_map (cast_to h.ctype) (option_
 constant_of defs (Parens' h _ a) = constant_of defs a
 constant_of defs _ = None
 
-abbrev is_zero : Option ℕ → Bool
+abbrev pub is_zero : Option ℕ → Bool
 is_zero None = false
 is_zero (Some n) = n == 0
 

@@ -20,7 +20,7 @@ has [] x = false
 has (y ∷ ys) x = if y == x then true else has ys x
 
 -- of a list of names no two are the same
-abbrev is_named : List (List ℕ) → List ℕ → Bool
+abbrev pub is_named : List (List ℕ) → List ℕ → Bool
 is_named [] name = false
 is_named (n ∷ ns) name = bytes_eq n name || is_named ns name
 
@@ -46,7 +46,7 @@ module _ (defs : List StructDef) where
 
 -- ---- functions
 
-abbrev local_type : Local → Plain
+abbrev pub local_type : Local → Plain
 local_type l = plain l.ctype
 
 abbrev pub parameters : Function → List Plain
@@ -65,11 +65,11 @@ built_in name =
 
 -- ---- what the names of a program denote in a function, where these locals are in scope (C90 6.1.2.1)
 
-abbrev function_in : Option Function → Denoted
+abbrev pub function_in : Option Function → Denoted
 function_in None = Hidden
 function_in (Some f) = AFunction (plain f.result) (parameters f)
 
-abbrev local_in : Plain → Option Local → Denoted
+abbrev pub local_in : Plain → Option Local → Denoted
 local_in t None = Hidden
 local_in t (Some l) = if same t (plain l.ctype) then Object t l.register else Hidden
 
@@ -78,7 +78,7 @@ locals_in None = []
 locals_in (Some f) = f.locals
 
 module _ (p : Program) (f : ℕ) (visible : List ℕ) where
-  abbrev denoted_by : Plain → List ℕ → Referent → Denoted
+  abbrev pub denoted_by : Plain → List ℕ → Referent → Denoted
   denoted_by t name (refers.Object o) = Object t false
   denoted_by t name (refers.Local x) = if has visible x then local_in t (slice_get (locals_in (slice_get p.functions f)) x) else Hidden
   denoted_by t name (refers.Function g) = function_in (slice_get p.functions g)

@@ -20,15 +20,15 @@ pub record Scope : Type 0 where
   pub defs : List StructDef
   pub strings : List (List ℕ)
 
-abbrev object_type : Denoted → Option Plain
+abbrev pub object_type : Denoted → Option Plain
 object_type (Object t r) = Some t
 object_type _ = None
 
-abbrev register_in : Option Denoted → Bool
+abbrev pub register_in : Option Denoted → Bool
 register_in (Some (Object t r)) = r
 register_in _ = false
 
-abbrev result_type : Denoted → List Operand → Option Plain
+abbrev pub result_type : Denoted → List Operand → Option Plain
 result_type (Function r ts) args = if takes ts args then Some r else None
 result_type _ args = None
 
@@ -48,7 +48,7 @@ is_string (Literal h n) = true
 is_string (Parens' h _ a) = is_string a
 is_string _ = false
 
-abbrev is_constant_type : Plain → Bool
+abbrev pub is_constant_type : Plain → Bool
 is_constant_type Int = true
 is_constant_type Unsigned = true
 is_constant_type _ = false

@@ -22,7 +22,7 @@ pub record Operand : Type 0 where
 abbrev pub value_of : Operand → Plain
 value_of a = value_type a.ctype
 
-abbrev only : Bool → Plain → Option Plain
+abbrev pub only : Bool → Plain → Option Plain
 only b t = if b then Some t else None
 
 -- 22. A `void` value and that of a struct assignment, which is no lvalue, stand where a value is dropped; so does each scalar (C90 6.2.2.2).
@@ -143,7 +143,7 @@ is_compound LessEqual = false
 is_compound GreaterEqual = false
 is_compound op = true
 
-abbrev is_move : BinaryOp → Bool
+abbrev pub is_move : BinaryOp → Bool
 is_move Add = true
 is_move Subtract = true
 is_move op = false
@@ -165,7 +165,7 @@ abbrev pub logical_type : Plain → Plain → Option Plain
 logical_type s t = only (is_scalar s && is_scalar t) Int
 
 -- `? :` takes a scalar, and two integers, one pointer type, or a pointer and a null constant (C90 6.3.15).
-abbrev branches_type : Operand → Operand → Option Plain
+abbrev pub branches_type : Operand → Operand → Option Plain
 branches_type a b =
     let s = value_of a in
     let t = value_of b in

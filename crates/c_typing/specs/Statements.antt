@@ -60,7 +60,7 @@ abbrev pub AreDifferent : List ℕ → Type 0
 AreDifferent [] = Unit {0}
 AreDifferent (c ∷ cs) = (has cs c ≡ false) × AreDifferent cs
 
-abbrev type_in : Option Local → Plain
+abbrev pub type_in : Option Local → Plain
 type_in None = Void
 type_in (Some l) = plain l.ctype
 
