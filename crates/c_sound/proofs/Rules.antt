@@ -9,7 +9,7 @@ use Rattle.c_tree.specs.declared.typed.BinaryOp.TheVariants.{BitOr, BitXor, BitA
 use Rattle.c_tree.specs.declared.typed.UnaryOp.{UnaryOp}
 use Rattle.c_tree.specs.declared.typed.UnaryOp.TheVariants.{Plus, Minus, Complement, Not}
 use Rattle.c_tree.specs.Types.{target_of, is_struct}
-use Rattle.c_typing.specs.Plain.{Plain, Char, Int, Unsigned, Void, Pointer, Array, Struct, plain, same, is_integer, is_pointer, is_scalar, is_complete, value_type, promoted, common}
+use Rattle.c_typing.specs.Plain.{Plain, Char, Int, Unsigned, Void, Pointer, Array, Struct, plain, same, is_integer, is_pointer, is_scalar, is_struct as is_a_struct, is_complete, value_type, promoted, common}
 use Rattle.c_typing.specs.Rules.{Operand, value_of, only, unary_type, followed, sum_type, difference_type, arithmetic_type, shift_type, order_type, equality_type, is_nulled, is_movable, is_move, is_compound, binary_type, converts, is_copied, compound_type, branches_type, choice_type}
 use Rattle.c_sound.proofs.Operators.{addr, conv, takes, gives, takes_by, gives_by, takes_pointer, takes_pointers, takes_one, is_move as moves}
 use Rattle.c_sound.proofs.Shaped.{ByCase, Updates}
@@ -249,3 +249,153 @@ order_operates op s t r c h =
   by_kind e (inr i) =
       let q = and_parts (is_pointer s) (same s t) i in
       operates_at op (ashape s) (ashape t) (ashape r) true true false (pointer_shape s q.0) (sym (same_shape s t q.1) ∙ pointer_shape s q.0) (ap ashape (sym e)) c
+
+-- a comparison for equality takes any operands but two of which one alone is an address that the other is no null constant for
+equal_any : (op : BinaryOp) (a b : Bool) → takes_shape op true true ≡ true → takes_pointer op true false ≡ true → moves op ≡ false → Operates op a b false
+equal_any op false false h k m = (refl, refl)
+equal_any op true false h k m = (k, m)
+equal_any op false true h k m = (k, m)
+equal_any op true true h k m = (h, refl)
+
+equality_operates : (op : BinaryOp) (a b : Operand) (r : Plain) → takes_shape op true true ≡ true → takes_pointer op true false ≡ true → moves op ≡ false → equality_type a b ≡ Some r → Operates op (ashape (value_of a)) (ashape (value_of b)) (ashape r)
+equality_operates op a b r h k m e =
+    let q = only_some _ Int r e in
+    subst (λ x. Operates op (ashape (value_of a)) (ashape (value_of b)) x) (ap ashape q.1) (equal_any op (ashape (value_of a)) (ashape (value_of b)) h k m)
+
+pub binary_operates : (defs : List StructDef) (op : BinaryOp) (a b : Operand) (r : Plain) → binary_type defs op a b ≡ Some r → Operates op (ashape (value_of a)) (ashape (value_of b)) (ashape r)
+binary_operates defs Equal a b r h = equality_operates Equal a b r refl refl refl h
+binary_operates defs Unequal a b r h = equality_operates Unequal a b r refl refl refl h
+binary_operates defs Less a b r h = order_operates Less (value_of a) (value_of b) r (refl, refl) h
+binary_operates defs Greater a b r h = order_operates Greater (value_of a) (value_of b) r (refl, refl) h
+binary_operates defs LessEqual a b r h = order_operates LessEqual (value_of a) (value_of b) r (refl, refl) h
+binary_operates defs GreaterEqual a b r h = order_operates GreaterEqual (value_of a) (value_of b) r (refl, refl) h
+binary_operates defs ShiftLeft a b r h = shift_operates ShiftLeft (value_of a) (value_of b) r h
+binary_operates defs ShiftRight a b r h = shift_operates ShiftRight (value_of a) (value_of b) r h
+binary_operates defs Add a b r h = sum_operates defs (value_of a) (value_of b) r h
+binary_operates defs Subtract a b r h = difference_operates defs (value_of a) (value_of b) r h
+binary_operates defs BitOr a b r h = arithmetic_operates BitOr (value_of a) (value_of b) r h
+binary_operates defs BitXor a b r h = arithmetic_operates BitXor (value_of a) (value_of b) r h
+binary_operates defs BitAnd a b r h = arithmetic_operates BitAnd (value_of a) (value_of b) r h
+binary_operates defs Multiply a b r h = arithmetic_operates Multiply (value_of a) (value_of b) r h
+binary_operates defs Divide a b r h = arithmetic_operates Divide (value_of a) (value_of b) r h
+binary_operates defs Remainder a b r h = arithmetic_operates Remainder (value_of a) (value_of b) r h
+
+pub followed_address : (defs : List StructDef) (t r : Plain) → followed defs t ≡ Some r → ashape t ≡ true
+followed_address defs (Pointer t) r h = refl
+followed_address defs Char r h = no_none r h
+followed_address defs Int r h = no_none r h
+followed_address defs Unsigned r h = no_none r h
+followed_address defs Void r h = no_none r h
+followed_address defs (Array t n) r h = no_none r h
+followed_address defs (Struct s) r h = no_none r h
+
+pub then_some : {A B : Type 0} (g : A → Option B) (o : Option A) (r : B) → option_and_then g o ≡ Some r → (x : A) × (o ≡ Some x) × (g x ≡ Some r)
+then_some g None r h = no_none r h
+then_some g (Some x) r h = (x, refl, h)
+
+pub index_operates : (defs : List StructDef) (s t r : Plain) → option_and_then (followed defs) (sum_type defs s t) ≡ Some r → Operates Add (ashape s) (ashape t) true
+index_operates defs s t r h =
+    let q = then_some (followed defs) (sum_type defs s t) r h in
+    subst (λ x. Operates Add (ashape s) (ashape t) x) (followed_address defs q.0 r q.2) (sum_operates defs s t q.0 q.1)
+
+-- ---- unary operators
+
+pub unary_takes : (op : UnaryOp) (t r : Plain) → unary_type op t ≡ Some r → (takes_one op (ashape t) ≡ true) × (ashape r ≡ false)
+unary_takes Not t r h = (refl, ap ashape (sym (only_some _ Int r h).1))
+unary_takes Plus t r h = let q = only_some (is_integer t) (promoted t) r h in (ap not (integer_shape t q.0), ap ashape (sym q.1) ∙ promoted_shape t)
+unary_takes Minus t r h = let q = only_some (is_integer t) (promoted t) r h in (ap not (integer_shape t q.0), ap ashape (sym q.1) ∙ promoted_shape t)
+unary_takes Complement t r h = let q = only_some (is_integer t) (promoted t) r h in (ap not (integer_shape t q.0), ap ashape (sym q.1) ∙ promoted_shape t)
+
+-- ---- conversions by assignment
+
+pub converts_shape : (t : Plain) (b : Operand) → converts t b ≡ true → pconv t (ashape (value_of b)) ≡ ashape t
+converts_shape t b h = by_null (or_parts ((is_integer t && is_integer (value_of b)) || (is_pointer t && same t (value_of b))) (is_nulled t b) h)
+  where
+  by_kind : (is_integer t && is_integer (value_of b) ≡ true) ⊎ (is_pointer t && same t (value_of b) ≡ true) → pconv t (ashape (value_of b)) ≡ ashape t
+  by_kind (inl q) = let i = and_parts (is_integer t) (is_integer (value_of b)) q in pconv_number t (ashape (value_of b)) (integer_shape t i.0) (integer_shape (value_of b) i.1)
+  by_kind (inr q) = pconv_pointer t (ashape (value_of b)) (and_parts (is_pointer t) (same t (value_of b)) q).0
+  by_null : ((is_integer t && is_integer (value_of b)) || (is_pointer t && same t (value_of b)) ≡ true) ⊎ (is_nulled t b ≡ true) → pconv t (ashape (value_of b)) ≡ ashape t
+  by_null (inl q) = by_kind (or_parts (is_integer t && is_integer (value_of b)) (is_pointer t && same t (value_of b)) q)
+  by_null (inr q) = pconv_pointer t (ashape (value_of b)) (and_parts (is_pointer t) (is_integer (value_of b) && b.null) q).0
+
+pub converts_scalar : (t : Plain) (b : Operand) → converts t b ≡ true → is_scalar t ≡ true
+converts_scalar Char b h = refl
+converts_scalar Int b h = refl
+converts_scalar Unsigned b h = refl
+converts_scalar (Pointer t) b h = refl
+converts_scalar Void b h = h
+converts_scalar (Array t n) b h = h
+converts_scalar (Struct s) b h = h
+
+-- to an integer only an integer
+pub converts_integer : (b : Operand) → converts Int b ≡ true → ashape (value_of b) ≡ false
+converts_integer b h = converts_shape Int b h
+
+-- ---- compound assignments
+
+abbrev Changes : Plain → BinaryOp → Bool → Type 0
+Changes t op s = (takes_shape op s false ≡ true) × (pconv t (gives_shape op s false) ≡ ashape t)
+
+pub compound_updates : (defs : List StructDef) (op : BinaryOp) (a : Operand) (t : Plain) (r : Plain) → compound_type defs op a t ≡ Some r
+    → (a.lvalue ≡ true) × (ashape t ≡ false) × (takes_shape op (ashape a.ctype) false ≡ true) × (pconv a.ctype (gives_shape op (ashape a.ctype) false) ≡ ashape a.ctype) × (a.ctype ≡ r)
+compound_updates defs op a t r h =
+    let q = only_some (a.lvalue && is_integer t && ((is_integer a.ctype && is_compound op) || (is_movable defs a.ctype && is_move op))) a.ctype r h in
+    let first = and_parts (a.lvalue && is_integer t) ((is_integer a.ctype && is_compound op) || (is_movable defs a.ctype && is_move op)) q.0 in
+    let second = and_parts a.lvalue (is_integer t) first.0 in
+    let u = by_kind (or_parts (is_integer a.ctype && is_compound op) (is_movable defs a.ctype && is_move op) first.1) in
+    (second.0, integer_shape t second.1, u.0, u.1, q.1)
+  where
+  moved : (op : BinaryOp) → is_movable defs a.ctype ≡ true → is_move op ≡ true → Changes a.ctype op true
+  moved Add m h = (refl, pconv_address defs a.ctype true m)
+  moved Subtract m h = (refl, pconv_address defs a.ctype true m)
+  moved _ m h = absurd (true≢false (sym h))
+  by_kind : (is_integer a.ctype && is_compound op ≡ true) ⊎ (is_movable defs a.ctype && is_move op ≡ true) → Changes a.ctype op (ashape a.ctype)
+  by_kind (inl q) = let i = integer_shape a.ctype (and_parts (is_integer a.ctype) (is_compound op) q).0 in subst (Changes a.ctype op) (sym i) (refl, pconv_number a.ctype false i refl)
+  by_kind (inr q) = let i = and_parts (is_movable defs a.ctype) (is_move op) q in subst (Changes a.ctype op) (sym (movable_shape defs a.ctype i.0)) (moved op i.0 i.1)
+
+-- ---- choices
+
+abbrev BothFit : Operand → Operand → Plain → Type 0
+BothFit a b r = (pconv r (ashape (value_of a)) ≡ ashape r) × (pconv r (ashape (value_of b)) ≡ ashape r)
+
+pub choice_shapes : (c : Plain) (a b : Operand) (r : Plain) → choice_type c a b ≡ Some r → (pconv r (ashape (value_of a)) ≡ ashape r) × (pconv r (ashape (value_of b)) ≡ ashape r)
+choice_shapes c a b r h = by_scalar (is_scalar c) h
+  where
+  pointers : (t : Plain) → is_pointer t ≡ true → t ≡ r → BothFit a b r
+  pointers t h e = let k = ap is_pointer (sym e) ∙ h in (pconv_pointer r _ k, pconv_pointer r _ k)
+  second : (only (is_nulled (value_of b) a) (value_of b) ≡ Some r) → BothFit a b r
+  second h = let q = only_some (is_nulled (value_of b) a) (value_of b) r h in pointers (value_of b) (and_parts (is_pointer (value_of b)) _ q.0).0 q.1
+  pointer_there : (is_pointer (value_of a) && same (value_of a) (value_of b) ≡ true) ⊎ (is_nulled (value_of a) b ≡ true) → is_pointer (value_of a) ≡ true
+  pointer_there (inl q) = (and_parts (is_pointer (value_of a)) _ q).0
+  pointer_there (inr q) = (and_parts (is_pointer (value_of a)) _ q).0
+  first : (((is_pointer (value_of a) && same (value_of a) (value_of b)) || is_nulled (value_of a) b ≡ true) × (value_of a ≡ r)) ⊎ (only (is_nulled (value_of b) a) (value_of b) ≡ Some r) → BothFit a b r
+  first (inl q) = pointers (value_of a) (pointer_there (or_parts (is_pointer (value_of a) && same (value_of a) (value_of b)) (is_nulled (value_of a) b) q.0)) q.1
+  first (inr q) = second q
+  numbers : ((is_integer (value_of a) && is_integer (value_of b) ≡ true) × (common (value_of a) (value_of b) ≡ r)) ⊎ ((if (is_pointer (value_of a) && same (value_of a) (value_of b)) || is_nulled (value_of a) b then Some (value_of a) else only (is_nulled (value_of b) a) (value_of b)) ≡ Some r) → BothFit a b r
+  numbers (inl q) =
+      let i = and_parts (is_integer (value_of a)) (is_integer (value_of b)) q.0 in
+      let e : ashape r ≡ false = ap ashape (sym q.1) ∙ common_shape (value_of a) (value_of b) in
+      (pconv_number r _ e (integer_shape (value_of a) i.0), pconv_number r _ e (integer_shape (value_of b) i.1))
+  numbers (inr q) = first (if_some ((is_pointer (value_of a) && same (value_of a) (value_of b)) || is_nulled (value_of a) b) (value_of a) r _ q)
+  by_scalar : (s : Bool) → (if s then branches_type a b else None) ≡ Some r → BothFit a b r
+  by_scalar true h = numbers (if_some (is_integer (value_of a) && is_integer (value_of b)) (common (value_of a) (value_of b)) r _ h)
+  by_scalar false h = no_none r h
+
+-- ---- assignments
+
+no_struct : (t : Plain) (a b : Operand) → is_a_struct t ≡ false → a.ctype ≡ t → converts t b || is_copied a b ≡ true → pconv t (ashape (value_of b)) ≡ ashape t
+no_struct t a b n e h = by_kind (or_parts (converts t b) (is_copied a b) h)
+  where
+  by_kind : (converts t b ≡ true) ⊎ (is_copied a b ≡ true) → pconv t (ashape (value_of b)) ≡ ashape t
+  by_kind (inl q) = converts_shape t b q
+  by_kind (inr q) = absurd (true≢false (sym (and_parts (is_a_struct a.ctype) (same a.ctype b.ctype) (and_parts (is_a_struct a.ctype && same a.ctype b.ctype) b.lvalue q).0).0 ∙ ap is_a_struct e ∙ n))
+
+-- of structs two lvalues, and else a value that is converted
+pub assigned_case : (t : CType) (a b : Operand) → a.ctype ≡ plain t → converts (plain t) b || is_copied a b ≡ true → ByCase (is_struct t) (b.lvalue ≡ true) (pconv (plain t) (ashape (value_of b)) ≡ ashape (plain t))
+assigned_case ctype.Char a b e h = no_struct Char a b refl e h
+assigned_case ctype.Int a b e h = no_struct Int a b refl e h
+assigned_case ctype.Unsigned a b e h = no_struct Unsigned a b refl e h
+assigned_case ctype.Void a b e h = no_struct Void a b refl e h
+assigned_case (ctype.Pointer' x t) a b e h = no_struct (Pointer (plain t)) a b refl e h
+assigned_case (ctype.Array' x t n) a b e h = no_struct (Array (plain t) n) a b refl e h
+assigned_case (ctype.Struct s) a b e h = (and_parts (is_a_struct a.ctype && same a.ctype b.ctype) b.lvalue h).1
