@@ -10,3 +10,4 @@ mod Steps
 mod Runs
 mod Begins
 mod Rules
+mod Typed
