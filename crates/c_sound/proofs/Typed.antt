@@ -18,9 +18,9 @@ use Rattle.c_tree.specs.declared.rows.Referent.{Referent}
 use Rattle.c_tree.specs.declared.rows.Referent.TheVariants.{Object, Local, Function as Defined, Declared}
 use Rattle.c_tree.specs.Types.{type_of, is_struct}
 use Rattle.c_source.specs.Blocks.{local_type, result_type}
-use Rattle.c_typing.specs.Plain.{Plain, Int, Unsigned, Void, plain, same, value_type, is_integer, is_scalar}
-use Rattle.c_typing.specs.Rules.{Operand, value_of, only, may_drop, converts, takes as takes_arguments, binary_type, stepping}
-use Rattle.c_typing.specs.Expressions.{Denoted, Object as AnObject, Function as AFunction, Hidden, Scope, object_type, result_type as called_type, is_lvalue, operand, value, operands, IsTyped, AreTyped}
+use Rattle.c_typing.specs.Plain.{Plain, Char, Int, Unsigned, Void, Pointer, Array, Struct, plain, same, value_type, is_integer, is_scalar, is_complete}
+use Rattle.c_typing.specs.Rules.{Operand, value_of, only, may_drop, converts, is_copied, compound_type, arrow_type, takes as takes_arguments, binary_type, stepping}
+use Rattle.c_typing.specs.Expressions.{Denoted, Object as AnObject, Function as AFunction, Hidden, Scope, object_type, result_type as called_type, is_lvalue, is_string, is_register, is_constant_type, operand, value, operands, IsTyped, AreTyped}
 use Rattle.c_typing.specs.Declared.{has, parameters, local_type as type_of_a_local, built_in, function_in, local_in, locals_in, denoted_by, denoted, scope_at}
 use Rattle.c_sound.proofs.Operators.{addr, conv, takes, gives, takes_one}
 use Rattle.c_sound.proofs.Shaped.{shape, ByCase, Updates, row_shapes, is_getchar, is_one_leaf, IsParameter, Given, CalledFunction, OneNumber, CalledBuiltIn, CalledBy, Called, NamedBy, Named, ShapedE, ShapedL, ShapedRow}
@@ -205,3 +205,95 @@ module _ (p : Program) (f : ℕ) (v ls : List ℕ) (within : (x : ℕ) → has v
 
   called_there : {m : _} (n : ℕ) (row : Row_of-Typed m) (u : Plain) → option_and_then (λ d. called_type d (operands s row)) (slice_get s.names n) ≡ Some u → Called p (slice_get p.symbols n) (row_shapes row) (ashape u)
   called_there n row u h = called (slice_get p.symbols n) row u (ap (option_and_then (λ d. called_type d (operands s row))) (sym (slice_get-map (denoted p f v) p.symbols n)) ∙ h)
+
+  -- ---- expressions
+
+  dot_lvalue : (b : Bool) (o : Option Plain) (r : Plain) → (if b then o else None) ≡ Some r → b ≡ true
+  dot_lvalue true o r h = refl
+  dot_lvalue false o r h = no_none r h
+
+  arrow_address : (t : Plain) (m : ℕ) (r : Plain) → arrow_type p.defs t m ≡ Some r → ashape t ≡ true
+  arrow_address (Pointer t) m r h = refl
+  arrow_address Int m r h = no_none r h
+  arrow_address Char m r h = no_none r h
+  arrow_address Unsigned m r h = no_none r h
+  arrow_address Void m r h = no_none r h
+  arrow_address (Array t n) m r h = no_none r h
+  arrow_address (Struct n) m r h = no_none r h
+
+  -- the operands of a binary operator whose result has the type of the whole
+  binary_there : (op : BinaryOp) (a b : Typed) (h : Head) → binary_type p.defs op (operand s a) (operand s b) ≡ Some (plain h.ctype)
+      → (takes op (type_of a) (type_of b) (shape a) (shape b) ≡ true) × (gives op (type_of a) (type_of b) ≡ addr h.ctype)
+  binary_there op a b h q = both op a b (addr h.ctype) (subst (λ r. Operates op (ashape (value s a)) (ashape (value s b)) r) (sym (addr_plain h.ctype)) (binary_operates p.defs op (operand s a) (operand s b) (plain h.ctype) q))
+
+  -- a compound assignment, whose type is that of the place
+  compound_there : (op : BinaryOp) (a : Typed) (u : CType) (b : Bool) (h : Head) → b ≡ ashape (value_type (plain u)) → compound_type p.defs op (operand s a) (value_type (plain u)) ≡ Some (plain h.ctype)
+      → (is_lvalue a ≡ true) × Updates (type_of a) op u b × (shape a ≡ addr h.ctype)
+  compound_there op a u b h e q =
+      let c = compound_updates p.defs op (operand s a) (value_type (plain u)) (plain h.ctype) q in
+      (c.0, updates op (type_of a) u b (addr_plain u ∙ sym (value_shape (plain u)) ∙ c.1) (e ∙ c.1) c.2 c.3, to_head a h c.4)
+
+  abbrev Located : Typed → Type 0
+  Located e = is_lvalue e ≡ true → ShapedL p ls e
+
+  mutual
+    pub evaluated : (e : Typed) → IsTyped s e → ShapedE p ls e
+    evaluated (Comma' h x a y b) q =
+        (evaluated a q.0, evaluated b q.1, sh b ∙ from_type (value s b) h (only_some (may_drop (operand s a) && is_scalar (value s b)) (value s b) (plain h.ctype) q.2).1)
+    evaluated (Assign' h x a None y b) q =
+        let c = only_some (is_lvalue a && (converts (plain (type_of a)) (operand s b) || is_copied (operand s a) (operand s b))) (plain (type_of a)) (plain h.ctype) q.2 in
+        let k = and_parts (is_lvalue a) (converts (plain (type_of a)) (operand s b) || is_copied (operand s a) (operand s b)) c.0 in
+        (located a q.0 k.0,
+          by_case (is_struct (type_of a)) _ _ _ _ (located b q.1) (λ z. (evaluated b q.1, ap (conv (type_of a)) (sh b) ∙ conv_there (type_of a) (ashape (value s b)) z)) (assigned_case (type_of a) (operand s a) (operand s b) refl k.1),
+          to_head a h c.1)
+    evaluated (Assign' h x a (Some op) y b) q =
+        let c = compound_there op a (type_of b) (shape b) h (sh b) q.2 in
+        (located a q.0 c.0, evaluated b q.1, c.1, c.2)
+    evaluated (Choice' h x c y a z b) q =
+        let k = choice_shapes (value s c) (operand s a) (operand s b) (plain h.ctype) q.3 in
+        (evaluated c q.0, evaluated a q.1, evaluated b q.2, ap (conv h.ctype) (sh a) ∙ conv_there h.ctype (ashape (value s a)) k.0, ap (conv h.ctype) (sh b) ∙ conv_there h.ctype (ashape (value s b)) k.1)
+    evaluated (Or' h x a y b) q = (evaluated a q.0, evaluated b q.1, from_type Int h (only_some (is_scalar (value s a) && is_scalar (value s b)) Int (plain h.ctype) q.2).1)
+    evaluated (And' h x a y b) q = (evaluated a q.0, evaluated b q.1, from_type Int h (only_some (is_scalar (value s a) && is_scalar (value s b)) Int (plain h.ctype) q.2).1)
+    evaluated (Binary' h x a op y b) q = let k = binary_there op a b h q.2 in (evaluated a q.0, evaluated b q.1, k.0, k.1)
+    evaluated (Cast' h x a) q =
+        let c = only_some (is_integer (plain h.ctype) && is_integer (value s a)) (plain h.ctype) (plain h.ctype) q.1 in
+        let k = and_parts (is_integer (plain h.ctype)) (is_integer (value s a)) c.0 in
+        (evaluated a q.0, ap (conv h.ctype) (sh a) ∙ conv_there h.ctype (ashape (value s a)) (pconv_number (plain h.ctype) (ashape (value s a)) (integer_shape (plain h.ctype) k.0) (integer_shape (value s a) k.1)))
+    evaluated (Before' h op x a) q = let c = compound_there (stepping op) a ctype.Int false h refl q.1 in (located a q.0 c.0, c.1, c.2)
+    evaluated (After' h x a op) q = let c = compound_there (stepping op) a ctype.Int false h refl q.1 in (located a q.0 c.0, c.1, c.2)
+    evaluated (Address' h x a) q =
+        let c = only_some (is_lvalue a && not (is_register s a) && not (is_string a)) (Pointer (plain (type_of a))) (plain h.ctype) q.1 in
+        (located a q.0 (and_parts (is_lvalue a) (not (is_register s a)) (and_parts (is_lvalue a && not (is_register s a)) (not (is_string a)) c.0).0).0, from_type (Pointer (plain (type_of a))) h c.1)
+    evaluated (Unary' h op x a) q =
+        let c = unary_takes op (value s a) (plain h.ctype) q.1 in
+        (evaluated a q.0, ap (takes_one op) (sh a) ∙ c.0, sym (addr_plain h.ctype ∙ c.1))
+    evaluated (SizeOf' h x a) q = from_type Unsigned h (only_some (is_complete p.defs (plain (type_of a))) Unsigned (plain h.ctype) q.1).1
+    evaluated (SizeOfType h t) q = from_type Unsigned h (only_some (is_complete p.defs (plain t)) Unsigned (plain h.ctype) q).1
+    evaluated (Call' h f x row) q = (rows_shaped row q.0, subst (Called p (slice_get p.symbols f) (row_shapes row)) (sym (addr_plain h.ctype)) (called_there f row (plain h.ctype) q.1))
+    evaluated (Constant h n) q = constant_shape (plain h.ctype) h refl q.0
+      where
+      constant_shape : (t : Plain) (h : Head) → t ≡ plain h.ctype → is_constant_type t ≡ true → false ≡ addr h.ctype
+      constant_shape Int h e k = from_type Int h e
+      constant_shape Unsigned h e k = from_type Unsigned h e
+      constant_shape _ h e k = absurd (true≢false (sym k))
+    evaluated (Parens' h x a) q = (evaluated a q.0, to_head a h q.1)
+    evaluated (Name h n) q = name_there n (plain h.ctype) q
+    evaluated (Literal h n) q = tt
+    evaluated (Follow' h x a) q = (evaluated a q.0, sh a ∙ followed_address p.defs (value s a) (plain h.ctype) q.1)
+    evaluated (Index' h x a y b) q = let k = both Add a b true (index_operates p.defs (value s a) (value s b) (plain h.ctype) q.2) in (evaluated a q.0, evaluated b q.1, k.0, k.1)
+    evaluated (Dot' h x a m) q = located a q.0 (dot_lvalue (is_lvalue a) _ (plain h.ctype) q.1)
+    evaluated (Arrow' h x a m) q = (evaluated a q.0, sh a ∙ arrow_address (value s a) m (plain h.ctype) q.1)
+
+    pub located : (e : Typed) → IsTyped s e → Located e
+    located (Name h n) q l = name_there n (plain h.ctype) q
+    located (Literal h n) q l = tt
+    located (Follow' h x a) q l = (evaluated a q.0, sh a ∙ followed_address p.defs (value s a) (plain h.ctype) q.1)
+    located (Index' h x a y b) q l = let k = both Add a b true (index_operates p.defs (value s a) (value s b) (plain h.ctype) q.2) in (evaluated a q.0, evaluated b q.1, k.0, k.1)
+    located (Dot' h x a m) q l = located a q.0 (dot_lvalue (is_lvalue a) _ (plain h.ctype) q.1)
+    located (Arrow' h x a m) q l = (evaluated a q.0, sh a ∙ arrow_address (value s a) m (plain h.ctype) q.1)
+    located (Parens' h x a) q l = located a q.0 l
+    located _ q l = absurd (true≢false (sym l))
+
+    pub rows_shaped : {m : _} (row : Row_of-Typed m) → AreTyped s row → ShapedRow p ls row
+    rows_shaped end_of-Typed q = tt
+    rows_shaped (more_of-Typed e rest) q = (evaluated e q.0, rows_shaped rest q.1)
