@@ -11,3 +11,5 @@ mod Runs
 mod Begins
 mod Rules
 mod Typed
+mod Bodies
+mod Accepted

@@ -210,30 +210,32 @@ if_some false t r rest h = inr h
 sum_operates : (defs : List StructDef) (s t r : Plain) → sum_type defs s t ≡ Some r → Operates Add (ashape s) (ashape t) (ashape r)
 sum_operates defs s t r h = by_first (if_some (is_movable defs s && is_integer t) s r _ h)
   where
-  by_second : ((is_integer s && is_movable defs t ≡ true) × (t ≡ r)) ⊎ (arithmetic_type s t ≡ Some r) → Operates Add (ashape s) (ashape t) (ashape r)
-  by_second (inl q) =
-      let i = and_parts (is_integer s) (is_movable defs t) q.0 in
-      operates_at Add (ashape s) (ashape t) (ashape r) false true true (integer_shape s i.0) (movable_shape defs t i.1) (ap ashape (sym q.1) ∙ movable_shape defs t i.1) (refl, refl)
-  by_second (inr q) = arithmetic_operates Add s t r q
-  by_first : ((is_movable defs s && is_integer t ≡ true) × (s ≡ r)) ⊎ ((if is_integer s && is_movable defs t then Some t else arithmetic_type s t) ≡ Some r) → Operates Add (ashape s) (ashape t) (ashape r)
-  by_first (inl q) =
-      let i = and_parts (is_movable defs s) (is_integer t) q.0 in
-      operates_at Add (ashape s) (ashape t) (ashape r) true false true (movable_shape defs s i.0) (integer_shape t i.1) (ap ashape (sym q.1) ∙ movable_shape defs s i.0) (refl, refl)
-  by_first (inr q) = by_second (if_some (is_integer s && is_movable defs t) t r _ q)
+    by_second : ((is_integer s && is_movable defs t ≡ true) × (t ≡ r)) ⊎ (arithmetic_type s t ≡ Some r) → Operates Add (ashape s) (ashape t) (ashape r)
+    by_second (inl q) =
+        let i = and_parts (is_integer s) (is_movable defs t) q.0 in
+        operates_at Add (ashape s) (ashape t) (ashape r) false true true (integer_shape s i.0) (movable_shape defs t i.1) (ap ashape (sym q.1) ∙ movable_shape defs t i.1) (refl, refl)
+    by_second (inr q) = arithmetic_operates Add s t r q
+
+    by_first : ((is_movable defs s && is_integer t ≡ true) × (s ≡ r)) ⊎ ((if is_integer s && is_movable defs t then Some t else arithmetic_type s t) ≡ Some r) → Operates Add (ashape s) (ashape t) (ashape r)
+    by_first (inl q) =
+        let i = and_parts (is_movable defs s) (is_integer t) q.0 in
+        operates_at Add (ashape s) (ashape t) (ashape r) true false true (movable_shape defs s i.0) (integer_shape t i.1) (ap ashape (sym q.1) ∙ movable_shape defs s i.0) (refl, refl)
+    by_first (inr q) = by_second (if_some (is_integer s && is_movable defs t) t r _ q)
 
 difference_operates : (defs : List StructDef) (s t r : Plain) → difference_type defs s t ≡ Some r → Operates Subtract (ashape s) (ashape t) (ashape r)
 difference_operates defs s t r h = by_first (if_some (is_movable defs s && is_integer t) s r _ h)
   where
-  by_second : ((is_movable defs s && same s t ≡ true) × (Int ≡ r)) ⊎ (arithmetic_type s t ≡ Some r) → Operates Subtract (ashape s) (ashape t) (ashape r)
-  by_second (inl q) =
-      let i = and_parts (is_movable defs s) (same s t) q.0 in
-      operates_at Subtract (ashape s) (ashape t) (ashape r) true true false (movable_shape defs s i.0) (sym (same_shape s t i.1) ∙ movable_shape defs s i.0) (ap ashape (sym q.1)) (refl, refl)
-  by_second (inr q) = arithmetic_operates Subtract s t r q
-  by_first : ((is_movable defs s && is_integer t ≡ true) × (s ≡ r)) ⊎ ((if is_movable defs s && same s t then Some Int else arithmetic_type s t) ≡ Some r) → Operates Subtract (ashape s) (ashape t) (ashape r)
-  by_first (inl q) =
-      let i = and_parts (is_movable defs s) (is_integer t) q.0 in
-      operates_at Subtract (ashape s) (ashape t) (ashape r) true false true (movable_shape defs s i.0) (integer_shape t i.1) (ap ashape (sym q.1) ∙ movable_shape defs s i.0) (refl, refl)
-  by_first (inr q) = by_second (if_some (is_movable defs s && same s t) Int r _ q)
+    by_second : ((is_movable defs s && same s t ≡ true) × (Int ≡ r)) ⊎ (arithmetic_type s t ≡ Some r) → Operates Subtract (ashape s) (ashape t) (ashape r)
+    by_second (inl q) =
+        let i = and_parts (is_movable defs s) (same s t) q.0 in
+        operates_at Subtract (ashape s) (ashape t) (ashape r) true true false (movable_shape defs s i.0) (sym (same_shape s t i.1) ∙ movable_shape defs s i.0) (ap ashape (sym q.1)) (refl, refl)
+    by_second (inr q) = arithmetic_operates Subtract s t r q
+
+    by_first : ((is_movable defs s && is_integer t ≡ true) × (s ≡ r)) ⊎ ((if is_movable defs s && same s t then Some Int else arithmetic_type s t) ≡ Some r) → Operates Subtract (ashape s) (ashape t) (ashape r)
+    by_first (inl q) =
+        let i = and_parts (is_movable defs s) (is_integer t) q.0 in
+        operates_at Subtract (ashape s) (ashape t) (ashape r) true false true (movable_shape defs s i.0) (integer_shape t i.1) (ap ashape (sym q.1) ∙ movable_shape defs s i.0) (refl, refl)
+    by_first (inr q) = by_second (if_some (is_movable defs s && same s t) Int r _ q)
 
 -- an operator that takes any two pointers
 abbrev Compares : BinaryOp → Type 0
@@ -244,11 +246,11 @@ order_operates op s t r c h =
     let q = only_some ((is_integer s && is_integer t) || (is_pointer s && same s t)) Int r h in
     by_kind q.1 (or_parts (is_integer s && is_integer t) (is_pointer s && same s t) q.0)
   where
-  by_kind : Int ≡ r → (is_integer s && is_integer t ≡ true) ⊎ (is_pointer s && same s t ≡ true) → Operates op (ashape s) (ashape t) (ashape r)
-  by_kind e (inl i) = let q = and_parts (is_integer s) (is_integer t) i in on_numbers op s t r q.0 q.1 (ap ashape (sym e))
-  by_kind e (inr i) =
-      let q = and_parts (is_pointer s) (same s t) i in
-      operates_at op (ashape s) (ashape t) (ashape r) true true false (pointer_shape s q.0) (sym (same_shape s t q.1) ∙ pointer_shape s q.0) (ap ashape (sym e)) c
+    by_kind : Int ≡ r → (is_integer s && is_integer t ≡ true) ⊎ (is_pointer s && same s t ≡ true) → Operates op (ashape s) (ashape t) (ashape r)
+    by_kind e (inl i) = let q = and_parts (is_integer s) (is_integer t) i in on_numbers op s t r q.0 q.1 (ap ashape (sym e))
+    by_kind e (inr i) =
+        let q = and_parts (is_pointer s) (same s t) i in
+        operates_at op (ashape s) (ashape t) (ashape r) true true false (pointer_shape s q.0) (sym (same_shape s t q.1) ∙ pointer_shape s q.0) (ap ashape (sym e)) c
 
 -- a comparison for equality takes any operands but two of which one alone is an address that the other is no null constant for
 equal_any : (op : BinaryOp) (a b : Bool) → takes_shape op true true ≡ true → takes_pointer op true false ≡ true → moves op ≡ false → Operates op a b false
@@ -311,12 +313,13 @@ unary_takes Complement t r h = let q = only_some (is_integer t) (promoted t) r h
 pub converts_shape : (t : Plain) (b : Operand) → converts t b ≡ true → pconv t (ashape (value_of b)) ≡ ashape t
 converts_shape t b h = by_null (or_parts ((is_integer t && is_integer (value_of b)) || (is_pointer t && same t (value_of b))) (is_nulled t b) h)
   where
-  by_kind : (is_integer t && is_integer (value_of b) ≡ true) ⊎ (is_pointer t && same t (value_of b) ≡ true) → pconv t (ashape (value_of b)) ≡ ashape t
-  by_kind (inl q) = let i = and_parts (is_integer t) (is_integer (value_of b)) q in pconv_number t (ashape (value_of b)) (integer_shape t i.0) (integer_shape (value_of b) i.1)
-  by_kind (inr q) = pconv_pointer t (ashape (value_of b)) (and_parts (is_pointer t) (same t (value_of b)) q).0
-  by_null : ((is_integer t && is_integer (value_of b)) || (is_pointer t && same t (value_of b)) ≡ true) ⊎ (is_nulled t b ≡ true) → pconv t (ashape (value_of b)) ≡ ashape t
-  by_null (inl q) = by_kind (or_parts (is_integer t && is_integer (value_of b)) (is_pointer t && same t (value_of b)) q)
-  by_null (inr q) = pconv_pointer t (ashape (value_of b)) (and_parts (is_pointer t) (is_integer (value_of b) && b.null) q).0
+    by_kind : (is_integer t && is_integer (value_of b) ≡ true) ⊎ (is_pointer t && same t (value_of b) ≡ true) → pconv t (ashape (value_of b)) ≡ ashape t
+    by_kind (inl q) = let i = and_parts (is_integer t) (is_integer (value_of b)) q in pconv_number t (ashape (value_of b)) (integer_shape t i.0) (integer_shape (value_of b) i.1)
+    by_kind (inr q) = pconv_pointer t (ashape (value_of b)) (and_parts (is_pointer t) (same t (value_of b)) q).0
+
+    by_null : ((is_integer t && is_integer (value_of b)) || (is_pointer t && same t (value_of b)) ≡ true) ⊎ (is_nulled t b ≡ true) → pconv t (ashape (value_of b)) ≡ ashape t
+    by_null (inl q) = by_kind (or_parts (is_integer t && is_integer (value_of b)) (is_pointer t && same t (value_of b)) q)
+    by_null (inr q) = pconv_pointer t (ashape (value_of b)) (and_parts (is_pointer t) (is_integer (value_of b) && b.null) q).0
 
 pub converts_scalar : (t : Plain) (b : Operand) → converts t b ≡ true → is_scalar t ≡ true
 converts_scalar Char b h = refl
@@ -345,13 +348,14 @@ compound_updates defs op a t r h =
     let u = by_kind (or_parts (is_integer a.ctype && is_compound op) (is_movable defs a.ctype && is_move op) first.1) in
     (second.0, integer_shape t second.1, u.0, u.1, q.1)
   where
-  moved : (op : BinaryOp) → is_movable defs a.ctype ≡ true → is_move op ≡ true → Changes a.ctype op true
-  moved Add m h = (refl, pconv_address defs a.ctype true m)
-  moved Subtract m h = (refl, pconv_address defs a.ctype true m)
-  moved _ m h = absurd (true≢false (sym h))
-  by_kind : (is_integer a.ctype && is_compound op ≡ true) ⊎ (is_movable defs a.ctype && is_move op ≡ true) → Changes a.ctype op (ashape a.ctype)
-  by_kind (inl q) = let i = integer_shape a.ctype (and_parts (is_integer a.ctype) (is_compound op) q).0 in subst (Changes a.ctype op) (sym i) (refl, pconv_number a.ctype false i refl)
-  by_kind (inr q) = let i = and_parts (is_movable defs a.ctype) (is_move op) q in subst (Changes a.ctype op) (sym (movable_shape defs a.ctype i.0)) (moved op i.0 i.1)
+    moved : (op : BinaryOp) → is_movable defs a.ctype ≡ true → is_move op ≡ true → Changes a.ctype op true
+    moved Add m h = (refl, pconv_address defs a.ctype true m)
+    moved Subtract m h = (refl, pconv_address defs a.ctype true m)
+    moved _ m h = absurd (true≢false (sym h))
+
+    by_kind : (is_integer a.ctype && is_compound op ≡ true) ⊎ (is_movable defs a.ctype && is_move op ≡ true) → Changes a.ctype op (ashape a.ctype)
+    by_kind (inl q) = let i = integer_shape a.ctype (and_parts (is_integer a.ctype) (is_compound op) q).0 in subst (Changes a.ctype op) (sym i) (refl, pconv_number a.ctype false i refl)
+    by_kind (inr q) = let i = and_parts (is_movable defs a.ctype) (is_move op) q in subst (Changes a.ctype op) (sym (movable_shape defs a.ctype i.0)) (moved op i.0 i.1)
 
 -- ---- choices
 
@@ -361,34 +365,39 @@ BothFit a b r = (pconv r (ashape (value_of a)) ≡ ashape r) × (pconv r (ashape
 pub choice_shapes : (c : Plain) (a b : Operand) (r : Plain) → choice_type c a b ≡ Some r → (pconv r (ashape (value_of a)) ≡ ashape r) × (pconv r (ashape (value_of b)) ≡ ashape r)
 choice_shapes c a b r h = by_scalar (is_scalar c) h
   where
-  pointers : (t : Plain) → is_pointer t ≡ true → t ≡ r → BothFit a b r
-  pointers t h e = let k = ap is_pointer (sym e) ∙ h in (pconv_pointer r _ k, pconv_pointer r _ k)
-  second : (only (is_nulled (value_of b) a) (value_of b) ≡ Some r) → BothFit a b r
-  second h = let q = only_some (is_nulled (value_of b) a) (value_of b) r h in pointers (value_of b) (and_parts (is_pointer (value_of b)) _ q.0).0 q.1
-  pointer_there : (is_pointer (value_of a) && same (value_of a) (value_of b) ≡ true) ⊎ (is_nulled (value_of a) b ≡ true) → is_pointer (value_of a) ≡ true
-  pointer_there (inl q) = (and_parts (is_pointer (value_of a)) _ q).0
-  pointer_there (inr q) = (and_parts (is_pointer (value_of a)) _ q).0
-  first : (((is_pointer (value_of a) && same (value_of a) (value_of b)) || is_nulled (value_of a) b ≡ true) × (value_of a ≡ r)) ⊎ (only (is_nulled (value_of b) a) (value_of b) ≡ Some r) → BothFit a b r
-  first (inl q) = pointers (value_of a) (pointer_there (or_parts (is_pointer (value_of a) && same (value_of a) (value_of b)) (is_nulled (value_of a) b) q.0)) q.1
-  first (inr q) = second q
-  numbers : ((is_integer (value_of a) && is_integer (value_of b) ≡ true) × (common (value_of a) (value_of b) ≡ r)) ⊎ ((if (is_pointer (value_of a) && same (value_of a) (value_of b)) || is_nulled (value_of a) b then Some (value_of a) else only (is_nulled (value_of b) a) (value_of b)) ≡ Some r) → BothFit a b r
-  numbers (inl q) =
-      let i = and_parts (is_integer (value_of a)) (is_integer (value_of b)) q.0 in
-      let e : ashape r ≡ false = ap ashape (sym q.1) ∙ common_shape (value_of a) (value_of b) in
-      (pconv_number r _ e (integer_shape (value_of a) i.0), pconv_number r _ e (integer_shape (value_of b) i.1))
-  numbers (inr q) = first (if_some ((is_pointer (value_of a) && same (value_of a) (value_of b)) || is_nulled (value_of a) b) (value_of a) r _ q)
-  by_scalar : (s : Bool) → (if s then branches_type a b else None) ≡ Some r → BothFit a b r
-  by_scalar true h = numbers (if_some (is_integer (value_of a) && is_integer (value_of b)) (common (value_of a) (value_of b)) r _ h)
-  by_scalar false h = no_none r h
+    pointers : (t : Plain) → is_pointer t ≡ true → t ≡ r → BothFit a b r
+    pointers t h e = let k = ap is_pointer (sym e) ∙ h in (pconv_pointer r _ k, pconv_pointer r _ k)
+
+    second : (only (is_nulled (value_of b) a) (value_of b) ≡ Some r) → BothFit a b r
+    second h = let q = only_some (is_nulled (value_of b) a) (value_of b) r h in pointers (value_of b) (and_parts (is_pointer (value_of b)) _ q.0).0 q.1
+
+    pointer_there : (is_pointer (value_of a) && same (value_of a) (value_of b) ≡ true) ⊎ (is_nulled (value_of a) b ≡ true) → is_pointer (value_of a) ≡ true
+    pointer_there (inl q) = (and_parts (is_pointer (value_of a)) _ q).0
+    pointer_there (inr q) = (and_parts (is_pointer (value_of a)) _ q).0
+
+    first : (((is_pointer (value_of a) && same (value_of a) (value_of b)) || is_nulled (value_of a) b ≡ true) × (value_of a ≡ r)) ⊎ (only (is_nulled (value_of b) a) (value_of b) ≡ Some r) → BothFit a b r
+    first (inl q) = pointers (value_of a) (pointer_there (or_parts (is_pointer (value_of a) && same (value_of a) (value_of b)) (is_nulled (value_of a) b) q.0)) q.1
+    first (inr q) = second q
+
+    numbers : ((is_integer (value_of a) && is_integer (value_of b) ≡ true) × (common (value_of a) (value_of b) ≡ r)) ⊎ ((if (is_pointer (value_of a) && same (value_of a) (value_of b)) || is_nulled (value_of a) b then Some (value_of a) else only (is_nulled (value_of b) a) (value_of b)) ≡ Some r) → BothFit a b r
+    numbers (inl q) =
+        let i = and_parts (is_integer (value_of a)) (is_integer (value_of b)) q.0 in
+        let e : ashape r ≡ false = ap ashape (sym q.1) ∙ common_shape (value_of a) (value_of b) in
+        (pconv_number r _ e (integer_shape (value_of a) i.0), pconv_number r _ e (integer_shape (value_of b) i.1))
+    numbers (inr q) = first (if_some ((is_pointer (value_of a) && same (value_of a) (value_of b)) || is_nulled (value_of a) b) (value_of a) r _ q)
+
+    by_scalar : (s : Bool) → (if s then branches_type a b else None) ≡ Some r → BothFit a b r
+    by_scalar true h = numbers (if_some (is_integer (value_of a) && is_integer (value_of b)) (common (value_of a) (value_of b)) r _ h)
+    by_scalar false h = no_none r h
 
 -- ---- assignments
 
 no_struct : (t : Plain) (a b : Operand) → is_a_struct t ≡ false → a.ctype ≡ t → converts t b || is_copied a b ≡ true → pconv t (ashape (value_of b)) ≡ ashape t
 no_struct t a b n e h = by_kind (or_parts (converts t b) (is_copied a b) h)
   where
-  by_kind : (converts t b ≡ true) ⊎ (is_copied a b ≡ true) → pconv t (ashape (value_of b)) ≡ ashape t
-  by_kind (inl q) = converts_shape t b q
-  by_kind (inr q) = absurd (true≢false (sym (and_parts (is_a_struct a.ctype) (same a.ctype b.ctype) (and_parts (is_a_struct a.ctype && same a.ctype b.ctype) b.lvalue q).0).0 ∙ ap is_a_struct e ∙ n))
+    by_kind : (converts t b ≡ true) ⊎ (is_copied a b ≡ true) → pconv t (ashape (value_of b)) ≡ ashape t
+    by_kind (inl q) = converts_shape t b q
+    by_kind (inr q) = absurd (true≢false (sym (and_parts (is_a_struct a.ctype) (same a.ctype b.ctype) (and_parts (is_a_struct a.ctype && same a.ctype b.ctype) b.lvalue q).0).0 ∙ ap is_a_struct e ∙ n))
 
 -- of structs two lvalues, and else a value that is converted
 pub assigned_case : (t : CType) (a b : Operand) → a.ctype ≡ plain t → converts (plain t) b || is_copied a b ≡ true → ByCase (is_struct t) (b.lvalue ≡ true) (pconv (plain t) (ashape (value_of b)) ≡ ashape (plain t))

@@ -136,9 +136,9 @@ module _ (p : Program) where
         → IsFine (if b then go p h out 1 h (v ∷ vs) k else on_ok (load h.world (kind_of t) v) (λ x. go p h out 2 h (converted t x ∷ vs) k))
     read_by true t v vs k e q r = goes 1 (v ∷ vs) k (fit p f k ls (shapes vs) (is_place v) (addr t) (q ∙ sym (array_address t (sym e))) r)
       where
-      array_address : (t : CType) → is_array t ≡ true → addr t ≡ true
-      array_address (Array' b t n) e = refl
-      array_address _ e = absurd (true≢false (sym e))
+        array_address : (t : CType) → is_array t ≡ true → addr t ≡ true
+        array_address (Array' b t n) e = refl
+        array_address _ e = absurd (true≢false (sym e))
     read_by false t v vs k e q r =
         ok_fine p (Fits (kind_of t)) (load h.world (kind_of t) v) _ (load_gives h.world (kind_of t) v w) λ x g.
         goes 2 (converted t x ∷ vs) k (fit p f k ls (shapes vs) (is_place (converted t x)) (addr t) (converted_shape t x ∙ ap (conv t) g ∙ conv_own t) r)
@@ -179,17 +179,18 @@ module _ (p : Program) where
     built_in_fine : (name : List ℕ) (vs : List Value) (k : List Item) → EntersBuiltIn p (is_getchar name) (shapes vs) (Ready p f k ls) → IsFine (built_in p h out name vs k)
     built_in_fine name vs k r = by_getchar (is_getchar name) vs r
       where
-      printed : (b : Bool) (n : ℕ) (rest : List Value) → Can k (false ∷ shapes rest)
-          → IsFine (if b then go p h out 1 (with_world h (record h.world { output = h.world.output ++ (n % 256) ∷ [] })) (Number (n % 256) ∷ rest) k else Exits (signed n) 1 (record { here = h; values = []; control = []; outer = out }))
-      printed true n rest r = goes_in 1 _ (Number (n % 256) ∷ rest) k w r
-      printed false n rest r = tt
-      by_getchar : (b : Bool) (vs : List Value) → EntersBuiltIn p b (shapes vs) (Ready p f k ls)
-          → IsFine (if b then go p h out 1 (with_world h (record h.world { input = drop 1 h.world.input })) (Number (next_byte h.world.input) ∷ vs) k
+        printed : (b : Bool) (n : ℕ) (rest : List Value) → Can k (false ∷ shapes rest)
+            → IsFine (if b then go p h out 1 (with_world h (record h.world { output = h.world.output ++ (n % 256) ∷ [] })) (Number (n % 256) ∷ rest) k else Exits (signed n) 1 (record { here = h; values = []; control = []; outer = out }))
+        printed true n rest r = goes_in 1 _ (Number (n % 256) ∷ rest) k w r
+        printed false n rest r = tt
+
+        by_getchar : (b : Bool) (vs : List Value) → EntersBuiltIn p b (shapes vs) (Ready p f k ls)
+            → IsFine (if b then go p h out 1 (with_world h (record h.world { input = drop 1 h.world.input })) (Number (next_byte h.world.input) ∷ vs) k
             else on_one vs (λ v rest. on_ok (bits_in v) (λ n. if bytes_eq name (codes "putchar") then go p h out 1 (with_world h (record h.world { output = h.world.output ++ (n % 256) ∷ [] })) (Number (n % 256) ∷ rest) k
             else Exits (signed n) 1 (record { here = h; values = []; control = []; outer = out }))))
-      by_getchar true vs r = goes_in 1 _ (Number _ ∷ vs) k w r
-      by_getchar false [] r = r
-      by_getchar false (v ∷ rest) r = ok_fine p (λ _. Unit {0}) (bits_in v) _ (bits_give v r.0) λ n u. printed (bytes_eq name (codes "putchar")) n rest r.1
+        by_getchar true vs r = goes_in 1 _ (Number _ ∷ vs) k w r
+        by_getchar false [] r = r
+        by_getchar false (v ∷ rest) r = ok_fine p (λ _. Unit {0}) (bits_in v) _ (bits_give v r.0) λ n u. printed (bytes_eq name (codes "putchar")) n rest r.1
 
     call_function : (g : ℕ) (fn : Option Function) (n : ℕ) (vs : List Value) (k : List Item) → slice_get p.functions g ≡ fn → EntersFunction p g fn n (shapes vs) (Ready p f k ls)
         → IsFine (on_some fn (λ fn. Goes (1 + n) (record { here = entered p (suc h.place.number) g (reverse (take n vs)) h.world; values = []; control = body_of p g fn; outer = record { place = h.place; values = drop n vs; control = k } ∷ out })))

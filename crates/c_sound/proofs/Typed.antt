@@ -29,15 +29,16 @@ use Rattle.c_sound.proofs.Rules.{no_none, some_same, only_some, then_some, ashap
 
 -- ---- from plain types back
 
-conv_there : (t : CType) (s : Bool) → pconv (plain t) s ≡ ashape (plain t) → conv t s ≡ addr t
+pub conv_there : (t : CType) (s : Bool) → pconv (plain t) s ≡ ashape (plain t) → conv t s ≡ addr t
 conv_there t s e = conv_plain t s ∙ e ∙ sym (addr_plain t)
 
 operates_there : (op : BinaryOp) (s t : CType) (r : Bool) → Operates op (ashape (plain s)) (ashape (plain t)) r → (takes op s t (addr s) (addr t) ≡ true) × (gives op s t ≡ r)
 operates_there op s t r h =
     let a = addr_plain s in
-    let b = addr_plain t in
-    (takes_by_shape op s t ∙ ap (λ x. takes_shape op x (addr t)) a ∙ ap (λ x. takes_shape op (ashape (plain s)) x) b ∙ h.0,
-      gives_by_shape op s t ∙ ap (λ x. gives_shape op x (addr t)) a ∙ ap (λ x. gives_shape op (ashape (plain s)) x) b ∙ h.1)
+    let b = addr_plain t in (
+      takes_by_shape op s t ∙ ap (λ x. takes_shape op x (addr t)) a ∙ ap (λ x. takes_shape op (ashape (plain s)) x) b ∙ h.0,
+      gives_by_shape op s t ∙ ap (λ x. gives_shape op x (addr t)) a ∙ ap (λ x. gives_shape op (ashape (plain s)) x) b ∙ h.1,
+    )
 
 by_case : (b : Bool) (A B C D : Type 0) → (A → C) → (B → D) → ByCase b A B → ByCase b C D
 by_case true A B C D f g h = f h
@@ -91,7 +92,7 @@ module _ (p : Program) (f : ℕ) (v ls : List ℕ) (within : (x : ℕ) → has v
   abbrev s : Scope
   s = scope_at p f v
 
-  sh : (e : Typed) → shape e ≡ ashape (value s e)
+  pub sh : (e : Typed) → shape e ≡ ashape (value s e)
   sh e = addr_plain (type_of e) ∙ sym (value_shape (plain (type_of e)))
 
   -- the shape of an operand whose type is that of the whole
@@ -110,9 +111,10 @@ module _ (p : Program) (f : ℕ) (v ls : List ℕ) (within : (x : ℕ) → has v
   -- a compound assignment of an operand of type t with a number
   updates : (op : BinaryOp) (t u : CType) (b : Bool) → addr u ≡ false → b ≡ false → takes_shape op (ashape (plain t)) false ≡ true → pconv (plain t) (gives_shape op (ashape (plain t)) false) ≡ ashape (plain t) → Updates t op u b
   updates op t u b e z h k =
-      let g : takes op t u (addr t) (addr u) ≡ true = takes_by_shape op t u ∙ ap (λ x. takes_shape op x (addr u)) (addr_plain t) ∙ ap (takes_shape op (ashape (plain t))) e ∙ h in
-      (subst (λ x. takes op t u (addr t) x ≡ true) (e ∙ sym z) g,
-        ap (conv t) (gives_by_shape op t u ∙ ap (λ x. gives_shape op x (addr u)) (addr_plain t) ∙ ap (gives_shape op (ashape (plain t))) e) ∙ conv_there t _ k)
+      let g : takes op t u (addr t) (addr u) ≡ true = takes_by_shape op t u ∙ ap (λ x. takes_shape op x (addr u)) (addr_plain t) ∙ ap (takes_shape op (ashape (plain t))) e ∙ h in (
+        subst (λ x. takes op t u (addr t) x ≡ true) (e ∙ sym z) g,
+        ap (conv t) (gives_by_shape op t u ∙ ap (λ x. gives_shape op x (addr u)) (addr_plain t) ∙ ap (gives_shape op (ashape (plain t))) e) ∙ conv_there t _ k,
+      )
 
   -- ---- names
 
@@ -120,21 +122,21 @@ module _ (p : Program) (f : ℕ) (v ls : List ℕ) (within : (x : ℕ) → has v
   name_by (Object o) t u name h = tt
   name_by (Local x) t u name h = within x (visible (has v x) h)
     where
-    visible : (b : Bool) → object_type (if b then local_in t (slice_get (locals_in (slice_get p.functions f)) x) else Hidden) ≡ Some u → b ≡ true
-    visible true h = refl
-    visible false h = no_none u h
+      visible : (b : Bool) → object_type (if b then local_in t (slice_get (locals_in (slice_get p.functions f)) x) else Hidden) ≡ Some u → b ≡ true
+      visible true h = refl
+      visible false h = no_none u h
   name_by (Defined g) t u name h = never (slice_get p.functions g) h
     where
-    never : (o : Option Function) → object_type (function_in o) ≡ Some u → ⊥
-    never None h = no_none u h
-    never (Some fn) h = no_none u h
+      never : (o : Option Function) → object_type (function_in o) ≡ Some u → ⊥
+      never None h = no_none u h
+      never (Some fn) h = no_none u h
   name_by Declared t u name h = never (bytes_eq name (codes "getchar")) (bytes_eq name (codes "putchar")) (bytes_eq name (codes "exit")) h
     where
-    never : (a b c : Bool) → object_type (if a then AFunction Int [] else (if b then AFunction Int (Int ∷ []) else (if c then AFunction Void (Int ∷ []) else Hidden))) ≡ Some u → ⊥
-    never true b c h = no_none u h
-    never false true c h = no_none u h
-    never false false true h = no_none u h
-    never false false false h = no_none u h
+      never : (a b c : Bool) → object_type (if a then AFunction Int [] else (if b then AFunction Int (Int ∷ []) else (if c then AFunction Void (Int ∷ []) else Hidden))) ≡ Some u → ⊥
+      never true b c h = no_none u h
+      never false true c h = no_none u h
+      never false false true h = no_none u h
+      never false false false h = no_none u h
 
   named : (o : Option SymbolRow) (u : Plain) → option_and_then object_type (option_map (denoted p f v) o) ≡ Some u → Named p ls o
   named None u h = no_none u h
@@ -155,19 +157,21 @@ module _ (p : Program) (f : ℕ) (v ls : List ℕ) (within : (x : ℕ) → has v
   given_by g fn (more_of-Typed b rest) (t ∷ ts) x e a h =
       let q = and_parts (converts t (operand s b)) (takes_arguments ts (operands s rest)) h in
       let k : plain (local_type p g x) ≡ t = ap (λ o. plain (type_in (slice_get (locals_in o) x))) e ∙ a.0 in
-      let c : converts (plain (local_type p g x)) (operand s b) ≡ true = ap (λ u. converts u (operand s b)) k ∙ q.0 in
-      ((ap (conv (local_type p g x)) (sh b) ∙ conv_there (local_type p g x) _ (converts_shape _ (operand s b) c), scalar_leaf (local_type p g x) (converts_scalar _ (operand s b) c)),
-        given_by g fn rest ts (suc x) e a.1 q.1)
+      let c : converts (plain (local_type p g x)) (operand s b) ≡ true = ap (λ u. converts u (operand s b)) k ∙ q.0 in (
+        (ap (conv (local_type p g x)) (sh b) ∙ conv_there (local_type p g x) _ (converts_shape _ (operand s b) c), scalar_leaf (local_type p g x) (converts_scalar _ (operand s b) c)),
+        given_by g fn rest ts (suc x) e a.1 q.1,
+      )
 
   called_function : {m : _} (g : ℕ) (o : Option Function) (row : Row_of-Typed m) (u : Plain) (r : Bool) → slice_get p.functions g ≡ o → ashape u ≡ r → called_type (function_in o) (operands s row) ≡ Some u → CalledFunction p g o (row_shapes row) r
   called_function g None row u r e k h = no_none u h
   called_function g (Some fn) row u r e k h =
       let q = if_then_none (takes_arguments (parameters fn) (operands s row)) (plain fn.result) u h in
       let there : fn.params ≤ length (map type_of_a_local fn.locals) = subst (λ n. fn.params ≤ n) (sym (length-map fn.locals type_of_a_local)) (functions g fn e) in
-      let front : (i : ℕ) → slice_get fn.locals (0 + i) ≡ slice_get fn.locals i = λ i. let z : 0 + i ≡ i = omega arith in ap (slice_get fn.locals) z in
-      (sym (rows_length row) ∙ sym (takes_length (parameters fn) (operands s row) q.0) ∙ length-take-le fn.params (map type_of_a_local fn.locals) there,
+      let front : (i : ℕ) → slice_get fn.locals (0 + i) ≡ slice_get fn.locals i = λ i. let z : 0 + i ≡ i = omega arith in ap (slice_get fn.locals) z in (
+        sym (rows_length row) ∙ sym (takes_length (parameters fn) (operands s row) q.0) ∙ length-take-le fn.params (map type_of_a_local fn.locals) there,
         given_by g fn row (parameters fn) 0 e (agree fn.locals fn.locals fn.params 0 front) q.0,
-        ap (λ o. addr (result_in o)) e ∙ addr_plain fn.result ∙ ap ashape q.1 ∙ k)
+        ap (λ o. addr (result_in o)) e ∙ addr_plain fn.result ∙ ap ashape q.1 ∙ k,
+      )
 
   no_arguments : {m : _} (row : Row_of-Typed m) → takes_arguments [] (operands s row) ≡ true → row_shapes row ≡ []
   no_arguments end_of-Typed h = refl
@@ -189,13 +193,14 @@ module _ (p : Program) (f : ℕ) (v ls : List ℕ) (within : (x : ℕ) → has v
   called_by (Object o) t name row u h = no_none u h
   called_by (Local x) t name row u h = never (has v x) (slice_get (locals_in (slice_get p.functions f)) x) h
     where
-    never_there : (b : Bool) (l : ALocal) → called_type (if b then AnObject t l.register else Hidden) (operands s row) ≡ Some u → ⊥
-    never_there true l h = no_none u h
-    never_there false l h = no_none u h
-    never : (b : Bool) (o : Option ALocal) → called_type (if b then local_in t o else Hidden) (operands s row) ≡ Some u → ⊥
-    never true None h = no_none u h
-    never true (Some l) h = never_there (same t (plain l.ctype)) l h
-    never false o h = no_none u h
+      never_there : (b : Bool) (l : ALocal) → called_type (if b then AnObject t l.register else Hidden) (operands s row) ≡ Some u → ⊥
+      never_there true l h = no_none u h
+      never_there false l h = no_none u h
+
+      never : (b : Bool) (o : Option ALocal) → called_type (if b then local_in t o else Hidden) (operands s row) ≡ Some u → ⊥
+      never true None h = no_none u h
+      never true (Some l) h = never_there (same t (plain l.ctype)) l h
+      never false o h = no_none u h
   called_by (Defined g) t name row u h = called_function g (slice_get p.functions g) row u (ashape u) refl refl h
   called_by Declared t name row u h = called_built_in (bytes_eq name (codes "getchar")) (bytes_eq name (codes "putchar")) (bytes_eq name (codes "exit")) row u h
 
@@ -242,10 +247,11 @@ module _ (p : Program) (f : ℕ) (v ls : List ℕ) (within : (x : ℕ) → has v
         (evaluated a q.0, evaluated b q.1, sh b ∙ from_type (value s b) h (only_some (may_drop (operand s a) && is_scalar (value s b)) (value s b) (plain h.ctype) q.2).1)
     evaluated (Assign' h x a None y b) q =
         let c = only_some (is_lvalue a && (converts (plain (type_of a)) (operand s b) || is_copied (operand s a) (operand s b))) (plain (type_of a)) (plain h.ctype) q.2 in
-        let k = and_parts (is_lvalue a) (converts (plain (type_of a)) (operand s b) || is_copied (operand s a) (operand s b)) c.0 in
-        (located a q.0 k.0,
+        let k = and_parts (is_lvalue a) (converts (plain (type_of a)) (operand s b) || is_copied (operand s a) (operand s b)) c.0 in (
+          located a q.0 k.0,
           by_case (is_struct (type_of a)) _ _ _ _ (located b q.1) (λ z. (evaluated b q.1, ap (conv (type_of a)) (sh b) ∙ conv_there (type_of a) (ashape (value s b)) z)) (assigned_case (type_of a) (operand s a) (operand s b) refl k.1),
-          to_head a h c.1)
+          to_head a h c.1,
+        )
     evaluated (Assign' h x a (Some op) y b) q =
         let c = compound_there op a (type_of b) (shape b) h (sh b) q.2 in
         (located a q.0 c.0, evaluated b q.1, c.1, c.2)
@@ -272,10 +278,10 @@ module _ (p : Program) (f : ℕ) (v ls : List ℕ) (within : (x : ℕ) → has v
     evaluated (Call' h f x row) q = (rows_shaped row q.0, subst (Called p (slice_get p.symbols f) (row_shapes row)) (sym (addr_plain h.ctype)) (called_there f row (plain h.ctype) q.1))
     evaluated (Constant h n) q = constant_shape (plain h.ctype) h refl q.0
       where
-      constant_shape : (t : Plain) (h : Head) → t ≡ plain h.ctype → is_constant_type t ≡ true → false ≡ addr h.ctype
-      constant_shape Int h e k = from_type Int h e
-      constant_shape Unsigned h e k = from_type Unsigned h e
-      constant_shape _ h e k = absurd (true≢false (sym k))
+        constant_shape : (t : Plain) (h : Head) → t ≡ plain h.ctype → is_constant_type t ≡ true → false ≡ addr h.ctype
+        constant_shape Int h e k = from_type Int h e
+        constant_shape Unsigned h e k = from_type Unsigned h e
+        constant_shape _ h e k = absurd (true≢false (sym k))
     evaluated (Parens' h x a) q = (evaluated a q.0, to_head a h q.1)
     evaluated (Name h n) q = name_there n (plain h.ctype) q
     evaluated (Literal h n) q = tt

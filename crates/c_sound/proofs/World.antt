@@ -110,11 +110,11 @@ load_gives w k v h =
     gives_then (Fits k) (Fits k) (or_pointer (leaf_at w k v)) (used w) (or_pointer_gives (Fits k) (leaf_at w k v) (leaf_fits w k v h)) λ x f.
     gives_kept (Fits k) x (used w x) (used_gives w x) f
   where
-  gives_kept : (P : Value → Type 0) (x : Value) (m : Result Value Why) → Gives (λ y. y ≡ x) m → P x → Gives P m
-  gives_kept P x (Ok y) e h = subst P (sym e) h
-  gives_kept P x (Err (Reason u)) e h = tt
-  gives_kept P x (Err Stale) e h = tt
-  gives_kept P x (Err IllTyped) e h = e
+    gives_kept : (P : Value → Type 0) (x : Value) (m : Result Value Why) → Gives (λ y. y ≡ x) m → P x → Gives P m
+    gives_kept P x (Ok y) e h = subst P (sym e) h
+    gives_kept P x (Err (Reason u)) e h = tt
+    gives_kept P x (Err Stale) e h = tt
+    gives_kept P x (Err IllTyped) e h = e
 
 -- ---- writing
 
@@ -122,20 +122,20 @@ by_written : (b : Bool) (k : Kind) (c : Cell) (cs rest : List Cell) (v : Value) 
     → AllByRecursion CellFits (if b && same_kind c.kind k then record c { value = v } ∷ cs else c ∷ rest)
 by_written b k c cs rest v h t r f = by_kinds b c.kind refl
   where
-  by_kinds : (b : Bool) (j : Kind) → c.kind ≡ j → AllByRecursion CellFits (if b && same_kind j k then record c { value = v } ∷ cs else c ∷ rest)
-  by_kinds false j e = (h, r)
-  by_kinds true j e = by_same j k e f
-    where
-    by_same : (j k : Kind) → c.kind ≡ j → Fits k v → AllByRecursion CellFits (if same_kind j k then record c { value = v } ∷ cs else c ∷ rest)
-    by_same Byte Byte e f = (subst (λ q. Fits q v) (sym e) f, t)
-    by_same Word Word e f = (subst (λ q. Fits q v) (sym e) f, t)
-    by_same Address Address e f = (subst (λ q. Fits q v) (sym e) f, t)
-    by_same Byte Word e f = (h, r)
-    by_same Byte Address e f = (h, r)
-    by_same Word Byte e f = (h, r)
-    by_same Word Address e f = (h, r)
-    by_same Address Byte e f = (h, r)
-    by_same Address Word e f = (h, r)
+    by_kinds : (b : Bool) (j : Kind) → c.kind ≡ j → AllByRecursion CellFits (if b && same_kind j k then record c { value = v } ∷ cs else c ∷ rest)
+    by_kinds false j e = (h, r)
+    by_kinds true j e = by_same j k e f
+      where
+        by_same : (j k : Kind) → c.kind ≡ j → Fits k v → AllByRecursion CellFits (if same_kind j k then record c { value = v } ∷ cs else c ∷ rest)
+        by_same Byte Byte e f = (subst (λ q. Fits q v) (sym e) f, t)
+        by_same Word Word e f = (subst (λ q. Fits q v) (sym e) f, t)
+        by_same Address Address e f = (subst (λ q. Fits q v) (sym e) f, t)
+        by_same Byte Word e f = (h, r)
+        by_same Byte Address e f = (h, r)
+        by_same Word Byte e f = (h, r)
+        by_same Word Address e f = (h, r)
+        by_same Address Byte e f = (h, r)
+        by_same Address Word e f = (h, r)
 
 written_cells : (k : Kind) (i : ℕ) (v : Value) (cs : List Cell) → AllByRecursion CellFits cs → Fits k v → AllByRecursion CellFits (with_cell k i v cs)
 written_cells k i v [] h f = tt
@@ -157,9 +157,9 @@ store_gives w k (At o i) v h f =
     gives_then (λ _. Unit {0}) WorldFits (or_pointer (leaf_at w k (At o i))) _ (or_pointer_gives (λ _. Unit {0}) (leaf_at w k (At o i)) (always (leaf_at w k (At o i)))) λ x u.
     either_gives WorldFits _ (Ok (record w { objects = replaced k i v (slice_get w.objects o) w.objects o })) (Err (Reason Pointer)) (replaced_fits k i v (slice_get w.objects o) w.objects o h (each_at ObjectFits w.objects o h) f) tt
   where
-  always : (o : Option Value) → Where (λ _. Unit {0}) o
-  always None = tt
-  always (Some x) = tt
+    always : (o : Option Value) → Where (λ _. Unit {0}) o
+    always None = tt
+    always (Some x) = tt
 
 -- ---- moving
 

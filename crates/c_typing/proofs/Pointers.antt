@@ -55,19 +55,22 @@ module _ (b : Box (Unit {0}) Global) where
   it_is_accepted = record {
     structs = Prim.search;
     objects = Prim.search (lit<, lit≤);
-    functions = (record {
-      result = refl;
-      few = Prim.search (lit≤);
-      scalars = tt;
-      locals = tt;
-      declared = refl;
-      block = tt;
-      body = Prim.search (lit<);
-      points = (0, 4, refl);
-      numbered = (0, refl);
-      placed = Prim.search;
-      unit = Prim.search (lit<);
-    }, tt);
+    functions = (
+      record {
+        result = refl;
+        few = Prim.search (lit≤);
+        scalars = tt;
+        locals = tt;
+        declared = refl;
+        block = tt;
+        body = Prim.search (lit<);
+        points = (0, 4, refl);
+        numbered = (0, refl);
+        placed = Prim.search;
+        unit = Prim.search (lit<);
+      },
+      tt,
+    );
     symbols = Prim.search (lit<, lit≤);
     points = Prim.search (lit<);
     units = Prim.search (lit<);
