@@ -61,4 +61,4 @@ module _ (p : Program) (accepted : IsAccepted p) where
   bodies_ready g = function_ready g (slice_get p.functions g) refl
 
   pub accepted_keeps : (input : List ℕ) (h : History) (n : ℕ) → IsFitting h → KeepsShapes (after State (step p) (acted h) n 0 (begin p input))
-  accepted_keeps input h n fits = runs_keep p bodies_ready h fits n 0 (begin p input) (begins_good p input bodies_ready accepted.objects accepted.main)
+  accepted_keeps input h n fits = runs_keep p bodies_ready h fits n 0 (begin p input) (begins_good p input bodies_ready accepted.objects accepted.main (λ g fn e. (function_there g fn e).main))

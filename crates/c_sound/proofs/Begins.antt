@@ -1,5 +1,5 @@
 -- An accepted program begins in a good state.
-use Rattle.std.proofs.Common.{◌≡◌, refl, sym, ◌∙◌, subst, ap, arith, ℕ, suc, zero, ◌+◌, List, [], ◌∷◌, ◌++◌, Bool, true, false, not, ◌&&◌, Option, Some, None, length, map, true≢false}
+use Rattle.std.proofs.Common.{◌≡◌, refl, sym, ◌∙◌, subst, ap, arith, ℕ, suc, zero, ◌+◌, List, [], ◌∷◌, ◌++◌, Bool, true, false, not, ◌&&◌, ◌||◌, Option, Some, None, length, map, true≢false}
 use Rattle.std.specs.Prelude.{slice_get, if◌then◌else◌, ◌==◌, bytes_eq, codes}
 use Rattle.std.specs.List.{AllByRecursion}
 use Rattle.ldb_words.specs.declared.kinds.Kind.{Kind}
@@ -20,7 +20,7 @@ use Rattle.c_source.specs.Control.{Item, body_of}
 use Rattle.c_source.specs.Begin.{world_at_first, begin}
 use Rattle.c_typing.specs.Plain.{plain, same, Int as an_int}
 use Rattle.c_typing.specs.Starts.{Starts, AreStarts, IsObject}
-use Rattle.c_typing.specs.Accepted.{numbers, is_main, has_main}
+use Rattle.c_typing.specs.Accepted.{numbers, is_called_main, is_main, has_main}
 use Rattle.c_sound.specs.Shapes.{is_place, is_address, Fits}
 use Rattle.c_sound.proofs.World.{CellFits, ObjectFits, WorldFits, each_append}
 use Rattle.c_sound.proofs.Operators.{addr}
@@ -96,19 +96,18 @@ main_from n [] = n
 main_from n (f ∷ fs) = if is_main f then n else main_from (suc n) fs
 
 abbrev IsMain : List Function → ℕ → ℕ → Type 0
-IsMain fs n found = (k : ℕ) × (fn : Function) × (found ≡ k + n) × (slice_get fs k ≡ Some fn) × (same (plain fn.result) an_int && (fn.params == 0) ≡ true)
+IsMain fs n found = (k : ℕ) × (fn : Function) × (found ≡ k + n) × (slice_get fs k ≡ Some fn) × (is_main fn ≡ true)
 
-main_by : (b : Bool) (f : Function) (fs : List Function) (n : ℕ) (rest : Bool) (found : ℕ) → (rest ≡ true → IsMain fs (suc n) found)
-    → (if b then same (plain f.result) an_int && (f.params == 0) else rest) ≡ true → IsMain (f ∷ fs) n (if b then n else found)
-main_by true f fs n rest found ih h = let e : n ≡ 0 + n = omega arith in (0, f, e, refl, h)
-main_by false f fs n rest found ih h =
-    let m = ih h in
-    let e : found ≡ suc m.0 + n = omega (arith, m.2) in
-    (suc m.0, m.1, e, m.3, m.4)
+main_by : (b : Bool) (f : Function) (fs : List Function) (n : ℕ) (rest : Bool) (found : ℕ) → b ≡ is_main f → (rest ≡ true → IsMain fs (suc n) found) → b || rest ≡ true → IsMain (f ∷ fs) n (if b then n else found)
+main_by true f fs n rest found m ih h = let e : n ≡ 0 + n = omega arith in (0, f, e, refl, sym m)
+main_by false f fs n rest found m ih h =
+    let q = ih h in
+    let e : found ≡ suc q.0 + n = omega (arith, q.2) in
+    (suc q.0, q.1, e, q.3, q.4)
 
 main_there : (fs : List Function) (n : ℕ) → has_main fs ≡ true → IsMain fs n (main_from n fs)
 main_there [] n h = absurd (true≢false (sym h))
-main_there (f ∷ fs) n h = main_by (is_main f) f fs n (has_main fs) (main_from (suc n) fs) (main_there fs (suc n)) h
+main_there (f ∷ fs) n h = main_by (is_main f) f fs n (has_main fs) (main_from (suc n) fs) refl (main_there fs (suc n)) h
 
 int_shape : (t : CType) → same (plain t) an_int ≡ true → addr t ≡ false
 int_shape Char h = refl
@@ -138,14 +137,24 @@ abbrev result_in : Option Function → CType
 result_in None = Void
 result_in (Some f) = f.result
 
-pub begins_good : (p : Program) (input : List ℕ) → ((g : ℕ) → ShapedFunction p g (slice_get p.functions g)) → AllByRecursion (IsObject p) p.objects → has_main p.functions ≡ true → Good p (begin p input)
-begins_good p input bodies objects main =
+-- `main` is `int(void)`
+abbrev pub IsIntVoid : Function → Type 0
+IsIntVoid fn = not (is_called_main fn) || (same (plain fn.result) an_int && (fn.params == 0)) ≡ true
+
+not_or : (a b : Bool) → a ≡ true → not a || b ≡ true → b ≡ true
+not_or true b e h = h
+not_or false b e h = absurd (true≢false (sym e))
+
+pub begins_good : (p : Program) (input : List ℕ) → ((g : ℕ) → ShapedFunction p g (slice_get p.functions g)) → AllByRecursion (IsObject p) p.objects → has_main p.functions ≡ true
+    → ((g : ℕ) (fn : Function) → slice_get p.functions g ≡ Some fn → IsIntVoid fn) → Good p (begin p input)
+begins_good p input bodies objects main as_main =
     let m = main_there p.functions 0 main in
     let n = main_from 0 p.functions in
     let e : n ≡ m.0 = omega (arith, m.2) in
     let fn = m.1 in
     let at : slice_get p.functions n ≡ Some fn = ap (slice_get p.functions) e ∙ m.3 in
-    let q = and_parts (same (plain fn.result) an_int) (fn.params == 0) m.4 in
+    let called = (and_parts (not fn.is_static) (is_called_main fn) m.4).1 in
+    let q = and_parts (same (plain fn.result) an_int) (fn.params == 0) (not_or (is_called_main fn) (same (plain fn.result) an_int && (fn.params == 0)) called (as_main n fn at)) in
     record {
       world = world_fits p input objects;
       inner = subst (HasFunction p) (sym at) tt;

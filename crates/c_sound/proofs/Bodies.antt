@@ -139,7 +139,7 @@ module _ (p : Program) (functions : (g : ℕ) (fn : Function) → slice_get p.fu
     statement (Default' at x s) v a q = statement s v a q.1
     statement (Break at) v a q = q
     statement (Continue at) v a q = q
-    statement (Return at c e) v a q = returned v e q
+    statement (Return at c e) v a q = returned v e q.0
 
     pub statements : {m : _} (row : Row_of-Stmt m) (v : List ℕ) (a : Around) → AreStatements p f r v a row → ShapedRows p f v a.loop a.breaks row
     statements end_of-Stmt v a q = tt

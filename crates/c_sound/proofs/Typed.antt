@@ -274,7 +274,7 @@ module _ (p : Program) (f : ℕ) (v ls : List ℕ) (within : (x : ℕ) → has v
         let c = unary_takes op (value s a) (plain h.ctype) q.1 in
         (evaluated a q.0, ap (takes_one op) (sh a) ∙ c.0, sym (addr_plain h.ctype ∙ c.1))
     evaluated (SizeOf' h x a) q = from_type Unsigned h (only_some (is_complete p.defs (plain (type_of a))) Unsigned (plain h.ctype) q.1).1
-    evaluated (SizeOfType h t) q = from_type Unsigned h (only_some (is_complete p.defs (plain t)) Unsigned (plain h.ctype) q).1
+    evaluated (SizeOfType h t) q = from_type Unsigned h (only_some (is_complete p.defs (plain t)) Unsigned (plain h.ctype) q.1).1
     evaluated (Call' h f x row) q = (rows_shaped row q.0, subst (Called p (slice_get p.symbols f) (row_shapes row)) (sym (addr_plain h.ctype)) (called_there f row (plain h.ctype) q.1))
     evaluated (Constant h n) q = constant_shape (plain h.ctype) h refl q.0
       where

@@ -58,6 +58,7 @@ module _ (b : Box (Unit {0}) Global) where
     functions = (
       record {
         result = refl;
+      written = (tt, tt);
         few = Prim.search (lit≤);
         scalars = tt;
         locals = tt;
@@ -67,13 +68,15 @@ module _ (b : Box (Unit {0}) Global) where
         points = (0, 4, refl);
         numbered = (0, refl);
         placed = Prim.search;
-        unit = Prim.search (lit<);
+        ends = (refl, refl);
+      unit = refl;
+      main = refl;
       },
       tt,
     );
     symbols = Prim.search (lit<, lit≤);
     points = Prim.search (lit<);
-    units = Prim.search (lit<);
+    units = Prim.search;
     main = refl;
     room = Prim.search (lit≤);
   }

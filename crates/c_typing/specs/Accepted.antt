@@ -1,5 +1,5 @@
 -- Which checked programs are accepted: every rule holds, and every number names something.
-use Rattle.std.specs.Prelude.{◌≡◌, ℕ, suc, zero, ◌+◌, ◌-◌, ◌≤◌, ◌<◌, Bool, true, false, not, ◌&&◌, ◌||◌, List, [], ◌∷◌, ◌++◌, length, map, Option, Some, None, slice_get, bytes_eq, codes, ◌==◌, if◌then◌else◌}
+use Rattle.std.specs.Prelude.{◌≡◌, ℕ, suc, zero, ◌+◌, ◌-◌, ◌≤◌, ◌<◌, Bool, true, false, not, ◌&&◌, ◌||◌, List, [], ◌∷◌, ◌++◌, length, map, Option, Some, None, slice_get, reverse, bytes_eq, codes, ◌==◌, if◌then◌else◌}
 use Rattle.std.specs.List.{AllByRecursion}
 use Rattle.c_tree.specs.declared.types.CType.{CType}
 use Rattle.c_tree.specs.declared.types.StructDef.{StructDef}
@@ -15,10 +15,13 @@ use Rattle.c_tree.specs.declared.rows.SymbolRow.{SymbolRow}
 use Rattle.c_tree.specs.declared.rows.Referent.{Referent}
 use Rattle.c_tree.specs.declared.rows.Referent.TheVariants as refers
 use Rattle.c_tree.specs.Points.{HasItsPoints}
+use Rattle.c_source.specs.Blocks.{declared_in}
+use Rattle.c_source.specs.Control.{first_of, last_of}
 use Rattle.c_typing.specs.Plain.{Plain, Int, Array, plain, same, is_scalar}
 use Rattle.c_typing.specs.Expressions.{Denoted, Function as AFunction, Hidden}
-use Rattle.c_typing.specs.Declared.{IsWritten, IsDeclared, IsStruct, built_in, is_result, parameters}
-use Rattle.c_typing.specs.Statements.{in_function, IsStatement, locals_of}
+use Rattle.c_typing.specs.Written.{IsWritten, IsDeclared}
+use Rattle.c_typing.specs.Declared.{has, IsStruct, built_in, is_result, parameters}
+use Rattle.c_typing.specs.Statements.{in_function, local_numbers, locals_at, IsStatement, locals_of}
 use Rattle.c_typing.specs.Starts.{IsObject, static_room}
 
 -- a property of each item and its number
@@ -32,6 +35,17 @@ numbers from zero = []
 numbers from (suc count) = from ∷ numbers (suc from) count
 
 -- ---- functions
+
+-- 10. `main` is `int(void)`, and an external one begins the program (C90 5.1.2.2.1).
+abbrev pub is_called_main : Function → Bool
+is_called_main f = bytes_eq f.name (codes "main")
+
+abbrev pub is_main : Function → Bool
+is_main f = not f.is_static && is_called_main f
+
+abbrev pub has_main : List Function → Bool
+has_main [] = false
+has_main (f ∷ fs) = is_main f || has_main fs
 
 abbrev pub IsBlock : Stmt → Type 0
 IsBlock (Block' at ds _ row l c) = Unit {0}
@@ -49,9 +63,18 @@ module _ (p : Program) where
   IsPointOf f None = ⊥
   IsPointOf f (Some q) = q.function ≡ f
 
+  abbrev functions_in : Option UnitRow → List ℕ
+  functions_in None = []
+  functions_in (Some u) = u.functions
+
+  -- at the first point of a function its parameters are in scope, and at the last one the locals of its outermost block too
+  abbrev pub AreEnds : List ℕ → List ℕ → List ℕ → Type 0
+  AreEnds qs params outermost = (locals_at p (first_of qs) ≡ reverse params) × (locals_at p (last_of qs) ≡ reverse (params ++ outermost))
+
   -- 9. A function with a body: at most 16 parameters, which are scalars; its locals, in the order of the source; its body; and its points, numbered in the order of the source (C90 6.7.1).
   pub record IsFunction (f : ℕ) (fn : Function) : Type 0 where
     pub result : is_result (plain fn.result) ≡ true
+    pub written : IsWritten p.defs fn.result
     pub few : fn.params ≤ 16
     pub scalars : AreScalars (parameters fn)
     pub locals : AllByRecursion (IsLocal p.defs) fn.locals
@@ -61,7 +84,9 @@ module _ (p : Program) where
     pub points : HasItsPoints fn
     pub numbered : (first : ℕ) × (fn.points ≡ numbers first (length fn.points))
     pub placed : AllByRecursion (λ q. IsPointOf f (slice_get p.points q)) fn.points
-    pub unit : fn.unit < length p.units
+    pub ends : AreEnds fn.points (numbers 0 fn.params) (local_numbers (declared_in fn.body))
+    pub unit : has (functions_in (slice_get p.units fn.unit)) f ≡ true
+    pub main : not (is_called_main fn) || (same (plain fn.result) Int && (fn.params == 0)) ≡ true
 
   -- ---- names
 
@@ -99,24 +124,20 @@ module _ (p : Program) where
   abbrev pub IsPoint : Point → Type 0
   IsPoint q = (q.function < length p.functions) × IsBelow (length p.symbols) q.symbol
 
-  abbrev pub IsUnit : UnitRow → Type 0
-  IsUnit u = AllByRecursion (λ f. f < length p.functions) u.functions
+  abbrev pub IsOfUnit : ℕ → Option Function → Type 0
+  IsOfUnit u None = ⊥
+  IsOfUnit u (Some fn) = fn.unit ≡ u
 
--- 10. `main` is `int(void)`.
-abbrev pub is_main : Function → Bool
-is_main f = not f.is_static && bytes_eq f.name (codes "main")
-
-abbrev pub has_main : List Function → Bool
-has_main [] = false
-has_main (f ∷ fs) = if is_main f then same (plain f.result) Int && (f.params == 0) else has_main fs
+  abbrev pub IsUnit : ℕ → UnitRow → Type 0
+  IsUnit u row = AllByRecursion (λ f. IsOfUnit u (slice_get p.functions f)) row.functions
 
 -- the checked programs that are accepted
 pub record IsAccepted (p : Program) : Type 0 where
-  pub structs : AllByRecursion (IsStruct p.defs) p.defs
+  pub structs : AllFrom (IsStruct p.defs) 0 p.defs
   pub objects : AllByRecursion (IsObject p) p.objects
   pub functions : AllFrom (IsFunction p) 0 p.functions
   pub symbols : AllFrom (IsSymbol p) 0 p.symbols
   pub points : AllByRecursion (IsPoint p) p.points
-  pub units : AllByRecursion (IsUnit p) p.units
+  pub units : AllFrom (IsUnit p) 0 p.units
   pub main : has_main p.functions ≡ true
   pub room : static_room p ≤ 1048576

@@ -55,7 +55,7 @@ constant_of defs (Unary' h op _ a) = option_and_then (operated_on op (type_of a)
 constant_of defs (Binary' h _ a op _ b) = option_and_then (λ x. option_and_then (operated op (type_of a) (type_of b) x) (constant_of defs b)) (constant_of defs a)
 constant_of defs (And' h _ a _ b) = option_and_then (λ c. chosen c (truth_of (constant_of defs b)) (Some 0)) (constant_of defs a)
 constant_of defs (Or' h _ a _ b) = option_and_then (λ c. chosen c (Some 1) (truth_of (constant_of defs b))) (constant_of defs a)
-constant_of defs (Choice' h _ c _ a _ b) = option_map (cast_to h.ctype) (option_and_then (λ n. chosen n (constant_of defs a) (constant_of defs b)) (constant_of defs c))
+constant_of defs (Choice' h _ c _ a _ b) = option_and_then (λ n. chosen n (constant_of defs a) (constant_of defs b)) (constant_of defs c)
 constant_of defs (Parens' h _ a) = constant_of defs a
 constant_of defs _ = None
 

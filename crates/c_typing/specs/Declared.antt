@@ -10,7 +10,9 @@ use Rattle.c_tree.specs.declared.rows.Local.{Local}
 use Rattle.c_tree.specs.declared.rows.SymbolRow.{SymbolRow}
 use Rattle.c_tree.specs.declared.rows.Referent.{Referent}
 use Rattle.c_tree.specs.declared.rows.Referent.TheVariants as refers
-use Rattle.c_tree.specs.Layout.{size_of, IsWithin, IsLaidOut}
+use Rattle.c_tree.specs.declared.types.CType.TheVariants.{Struct}
+use Rattle.c_tree.specs.Layout.{IsLaidOut}
+use Rattle.c_typing.specs.Written.{IsWritten, IsDeclared}
 use Rattle.c_typing.specs.Plain.{Plain, Int, Void, Array, plain, same, is_scalar, is_void, is_complete}
 use Rattle.c_typing.specs.Expressions.{Denoted, Object, Function as AFunction, Hidden, Scope}
 
@@ -29,20 +31,12 @@ Differ [] = Unit {0}
 Differ (n ∷ ns) = (is_named ns n ≡ false) × Differ ns
 
 module _ (defs : List StructDef) where
-  -- 1. A written type has a depth of at most 64 and at most 1,048,576 bytes.
-  abbrev pub IsWritten : CType → Type 0
-  IsWritten t = IsWithin defs 64 t × (size_of defs t ≤ 1048576)
-
-  -- A declared object's type is complete, which `void` is not (C90 6.5, 6.7).
-  abbrev pub IsDeclared : CType → Type 0
-  IsDeclared t = IsWritten t × (is_complete defs (plain t) ≡ true)
-
-  abbrev member_name : Member → List ℕ
+  abbrev pub member_name : Member → List ℕ
   member_name m = m.name
 
-  -- 3. A complete struct's members have names that differ, and their types are complete; they are laid out as C's structs are here (C90 6.5.2.1).
-  abbrev pub IsStruct : StructDef → Type 0
-  IsStruct d = Differ (map member_name d.members) × AllByRecursion (λ m. IsDeclared m.ctype) d.members × IsLaidOut defs d
+  -- 3. A complete struct's members have names that differ, and their types are complete; it is laid out as structs are here (C90 6.5.2.1).
+  abbrev pub IsStruct : ℕ → StructDef → Type 0
+  IsStruct s d = IsWritten defs (Struct s) × Differ (map member_name d.members) × AllByRecursion (λ m. IsDeclared defs m.ctype) d.members × IsLaidOut defs d
 
 -- ---- functions
 

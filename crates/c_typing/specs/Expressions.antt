@@ -5,6 +5,7 @@ use Rattle.c_tree.specs.declared.typed.Typed.{Typed, Row_of-Typed, end_of-Typed,
 use Rattle.c_tree.specs.declared.typed.Typed.TheVariants.{Comma', Assign', Choice', Or', And', Binary', Cast', Before', Address', Follow', Unary', SizeOf', SizeOfType, Index', Call', Dot', Arrow', After', Name, Constant, Literal, Parens'}
 use Rattle.c_tree.specs.Types.{type_of}
 use Rattle.c_typing.specs.Plain.{Plain, Char, Int, Unsigned, Array, plain}
+use Rattle.c_typing.specs.Written.{IsWritten}
 use Rattle.c_typing.specs.Constants.{is_null}
 use Rattle.c_typing.specs.Rules.{Operand, value_of, may_drop, unary_type, followed, address_type, dot_type, arrow_type, index_type, binary_type, assignment_type, takes, compound_type, step_type, logical_type, choice_type, comma_type, cast_type, size_type}
 
@@ -99,7 +100,7 @@ module _ (s : Scope) where
     IsTyped (Follow' h _ a) = IsTyped a × (followed s.defs (value a) ≡ Some (plain h.ctype))
     IsTyped (Unary' h op _ a) = IsTyped a × (unary_type op (value a) ≡ Some (plain h.ctype))
     IsTyped (SizeOf' h _ a) = IsTyped a × (size_type s.defs (plain (type_of a)) ≡ Some (plain h.ctype))
-    IsTyped (SizeOfType h t) = size_type s.defs (plain t) ≡ Some (plain h.ctype)
+    IsTyped (SizeOfType h t) = IsWritten s.defs t × (size_type s.defs (plain t) ≡ Some (plain h.ctype))
     IsTyped (Index' h _ a _ b) = IsTyped a × IsTyped b × (index_type s.defs (value a) (value b) ≡ Some (plain h.ctype))
     IsTyped (Call' h f _ row) = AreTyped row × (call_type f (operands row) ≡ Some (plain h.ctype))
     IsTyped (Dot' h _ a m) = IsTyped a × (dot_type s.defs (operand a) m ≡ Some (plain h.ctype))

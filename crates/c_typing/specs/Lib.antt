@@ -1,4 +1,5 @@
 pub mod Plain
+pub mod Written
 pub mod Constants
 pub mod Rules
 pub mod Expressions

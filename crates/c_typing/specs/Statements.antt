@@ -1,5 +1,5 @@
 -- When a statement is well typed (C90 6.6), by recursion over it.
-use Rattle.std.specs.Prelude.{◌≡◌, ℕ, suc, ◌+◌, ◌≤◌, ◌<◌, ◌^◌, Bool, true, false, ◌||◌, nat_le, List, [], ◌∷◌, ◌++◌, Option, Some, None, slice_get, if◌then◌else◌}
+use Rattle.std.specs.Prelude.{◌≡◌, ℕ, suc, ◌+◌, ◌≤◌, ◌<◌, ◌^◌, Bool, true, false, ◌||◌, nat_le, List, [], ◌∷◌, ◌++◌, Option, Some, None, slice_get, length, reverse, zero, if◌then◌else◌}
 use Rattle.c_tree.specs.declared.typed.Typed.{Typed}
 use Rattle.c_tree.specs.declared.typed.Pointed.{Pointed}
 use Rattle.c_tree.specs.declared.typed.DeclaredLocal.{DeclaredLocal}
@@ -7,6 +7,10 @@ use Rattle.c_tree.specs.declared.typed.Stmt.{Stmt, Row_of-Stmt, end_of-Stmt, mor
 use Rattle.c_tree.specs.declared.typed.Stmt.TheVariants.{Value, Block', If', While', Do', For', Switch', Case', Default', Break, Continue, Return}
 use Rattle.c_tree.specs.declared.rows.Program.{Program}
 use Rattle.c_tree.specs.declared.rows.Local.{Local}
+use Rattle.c_tree.specs.declared.rows.Point.{Point}
+use Rattle.c_tree.specs.declared.rows.SymbolRow.{SymbolRow}
+use Rattle.c_tree.specs.declared.rows.Referent.{Referent}
+use Rattle.c_tree.specs.declared.rows.Referent.TheVariants as refers
 use Rattle.c_typing.specs.Plain.{Plain, Void, plain, is_integer, is_scalar, is_void}
 use Rattle.c_typing.specs.Rules.{may_drop, converts}
 use Rattle.c_typing.specs.Expressions.{Scope, operand, value, IsTyped}
@@ -64,6 +68,26 @@ abbrev pub type_in : Option Local → Plain
 type_in None = Void
 type_in (Some l) = plain l.ctype
 
+-- ---- names at stopping points
+
+abbrev local_on : Referent → List ℕ
+local_on (refers.Local x) = x ∷ []
+local_on _ = []
+
+-- the locals among so many names from one outward
+abbrev pub locals_from : List SymbolRow → (left : ℕ) → Option ℕ → List ℕ
+locals_from rows zero s = []
+locals_from rows (suc left) None = []
+locals_from rows (suc left) (Some s) = elim (slice_get rows s) as (λ _. List ℕ) [ None ↦ [] | Some row ↦ local_on row.refers ++ locals_from rows left row.up ]
+
+abbrev symbol_in : Option Point → Option ℕ
+symbol_in None = None
+symbol_in (Some q) = q.symbol
+
+-- the locals in scope at a stopping point, the innermost first
+abbrev pub locals_at : Program → (point : ℕ) → List ℕ
+locals_at p q = locals_from p.symbols (length p.symbols) (symbol_in (slice_get p.points q))
+
 module _ (p : Program) (f : ℕ) (result : Plain) where
   -- the type of a local of the function
   abbrev pub type_of_local : ℕ → Plain
@@ -73,9 +97,13 @@ module _ (p : Program) (f : ℕ) (result : Plain) where
     abbrev pub here : Scope
     here = scope_at p f visible
 
+    -- at a stopping point these locals are in scope (C90 6.1.2.1)
+    abbrev pub IsPlaced : (point : ℕ) → Type 0
+    IsPlaced q = locals_at p q ≡ reverse visible
+
     -- 16. A controlling expression is a scalar (C90 6.6.4, 6.6.5).
     abbrev pub IsTest : Pointed → Type 0
-    IsTest q = IsTyped here q.e × (is_scalar (value here q.e) ≡ true)
+    IsTest q = IsTyped here q.e × (is_scalar (value here q.e) ≡ true) × IsPlaced q.point
 
     abbrev pub IsTestOrNone : Option Pointed → Type 0
     IsTestOrNone None = Unit {0}
@@ -83,17 +111,17 @@ module _ (p : Program) (f : ℕ) (result : Plain) where
 
     -- 17. A `switch` expression is an integer (C90 6.6.4.2).
     abbrev pub IsSelector : Pointed → Type 0
-    IsSelector q = IsTyped here q.e × (is_integer (value here q.e) ≡ true)
+    IsSelector q = IsTyped here q.e × (is_integer (value here q.e) ≡ true) × IsPlaced q.point
 
     -- an expression whose value is dropped (C90 6.6.3, 6.6.5.3)
     abbrev pub IsDropped : Option Pointed → Type 0
     IsDropped None = Unit {0}
-    IsDropped (Some q) = IsTyped here q.e × (may_drop (operand here q.e) ≡ true)
+    IsDropped (Some q) = IsTyped here q.e × (may_drop (operand here q.e) ≡ true) × IsPlaced q.point
 
     -- 14. A local's initializer is an expression that can be assigned to it, and the local is a scalar (C90 6.5.7).
     abbrev pub IsInitializer : ℕ → Option Pointed → Type 0
     IsInitializer x None = Unit {0}
-    IsInitializer x (Some q) = IsTyped here q.e × (converts (type_of_local x) (operand here q.e) ≡ true)
+    IsInitializer x (Some q) = IsTyped here q.e × (converts (type_of_local x) (operand here q.e) ≡ true) × IsPlaced q.point
 
     -- 20. `return` has an expression exactly where the result isn't `void`, and it can be assigned to the result (C90 6.6.6.4).
     abbrev pub IsReturned : Option Typed → Type 0
@@ -123,7 +151,7 @@ module _ (p : Program) (f : ℕ) (result : Plain) where
     -- 19. `break` stands in a loop or `switch`, `continue` in a loop (6.6.6)
     IsStatement v a (Break at) = a.breaks ≡ true
     IsStatement v a (Continue at) = a.loop ≡ true
-    IsStatement v a (Return at q e) = IsReturned v e
+    IsStatement v a (Return at q e) = IsReturned v e × IsPlaced v q
 
     pub AreStatements : {m : _} → List ℕ → Around → Row_of-Stmt m → Type 0
     AreStatements v a end_of-Stmt = Unit {0}
