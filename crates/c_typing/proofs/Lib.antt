@@ -1,2 +1,13 @@
 mod Complete
-mod Pointers
+mod Trees
+mod PointerAccepted
+mod ShadowedAccepted
+mod RegisterAccepted
+mod StructAccepted
+mod StringAccepted
+mod LoopAccepted
+mod RecursionAccepted
+mod TwoFileAccepted
+mod InputAccepted
+mod StaleAccepted
+mod Refused

@@ -1,36 +1,22 @@
 -- `int a[4], b[4]; int *p, *q; int main(void) { p = a + 4; q = b; return 0; }`
-use Rattle.std.proofs.Common.{◌≡◌, refl, [], ◌∷◌, Some, None, false, true, lit<, lit≤, ℕ, ◌<◌, ◌^◌, le_refl, List, length, replicate}
-use Rattle.std.proofs.lemmas.List.{length-replicate}
-use Rattle.std.specs.Prelude.{Box, Vec, codes}
+use Rattle.std.proofs.Common.{◌≡◌, refl, [], ◌∷◌, Some, None, false, true, lit<, lit≤}
+use Rattle.std.specs.Prelude.{Box, codes}
 use Rattle.std.specs.declared.alloc.Global.{Global}
-use Rattle.c_tree.specs.declared.types.CType.{CType}
-use Rattle.c_tree.specs.declared.types.CType.TheVariants.{Int, Void, Pointer', Array'}
-use Rattle.c_tree.specs.declared.typed.BinaryOp.TheVariants.{Equal, Add, Subtract}
-use Rattle.c_tree.specs.declared.typed.Typed.TheVariants.{Assign', Binary', Follow', Name, Constant}
-use Rattle.c_tree.specs.declared.typed.Stmt.{end_of-Stmt, more_of-Stmt}
-use Rattle.c_tree.specs.declared.typed.Stmt.TheVariants.{Value, Block', Return}
-use Rattle.c_tree.specs.declared.typed.Site.{Site}
-use Rattle.c_tree.specs.declared.typed.Head.{Head}
-use Rattle.c_tree.specs.declared.typed.Typed.{Typed}
-use Rattle.c_tree.specs.declared.typed.Pointed.{Pointed}
+use Rattle.c_tree.specs.declared.types.CType.TheVariants.{Char, Int, Unsigned, Void, Pointer', Array', Struct}
+use Rattle.c_tree.specs.declared.typed.BinaryOp.TheVariants.{BitOr, BitXor, BitAnd, Equal, Unequal, Less, Greater, LessEqual, GreaterEqual, ShiftLeft, ShiftRight, Add, Subtract, Multiply, Divide, Remainder}
+use Rattle.c_tree.specs.declared.typed.StepOp.TheVariants.{Up, Down}
+use Rattle.c_tree.specs.declared.typed.UnaryOp.TheVariants.{Plus, Minus, Complement, Not}
+use Rattle.c_tree.specs.declared.typed.Typed.{end_of-Typed, more_of-Typed}
+use Rattle.c_tree.specs.declared.typed.Typed.TheVariants.{Comma', Assign', Choice', Or', And', Binary', Cast', Before', Address', Follow', Unary', SizeOf', SizeOfType, Index', Call', Dot', Arrow', After', Name, Constant, Literal, Parens'}
+use Rattle.c_tree.specs.declared.typed.Stmt.{end_of-Stmt, more_of-Stmt, None', Some'}
+use Rattle.c_tree.specs.declared.typed.Stmt.TheVariants.{Value, Block', If', While', Do', For', Switch', Case', Default', Break, Continue, Return}
 use Rattle.c_tree.specs.declared.rows.Program.{Program}
 use Rattle.c_tree.specs.declared.rows.Start.TheVariants as starts
 use Rattle.c_tree.specs.declared.rows.Referent.TheVariants as refers
 use Rattle.c_typing.specs.Accepted.{IsAccepted}
-
-abbrev pub somewhere : Site
-somewhere = record { at = 0; line = 1; column = 1 }
-
-abbrev pub of_type : CType → Head
-of_type t = record { site = somewhere; ctype = t }
-
-abbrev pub at : ℕ → Typed → Pointed
-at q e = record { point = q; e = e }
+use Rattle.c_typing.proofs.Trees.{somewhere, of_type, at, shape_of}
 
 module _ (b : Box (Unit {0}) Global) where
-  abbrev pub shape_of : (n : ℕ) → n < 2 ^ 63 → Vec (Unit {0}) Global
-  shape_of n h = record { ptr = b.ptr; len = length (replicate n tt); cap = length (replicate n tt); alloc = b.alloc; items = replicate n tt; ok = (refl, le_refl _); small = rw (length-replicate n (tt {0})) h }
-
   abbrev pub program : Program
   program = record {
     units = (record { file = codes "p.c"; functions = (0 ∷ []) } ∷ []);
@@ -45,7 +31,7 @@ module _ (b : Box (Unit {0}) Global) where
       params = 0;
       locals = [];
       points = (0 ∷ 1 ∷ 2 ∷ 3 ∷ 4 ∷ []);
-      body = (Block' somewhere [] (shape_of 3 (lit< tt)) (more_of-Stmt (Value somewhere (Some (at 1 (Assign' (of_type (Pointer' b Int)) b (Name (of_type (Pointer' b Int)) 5) None b (Binary' (of_type (Pointer' b Int)) b (Name (of_type (Array' b Int 4)) 3) Add b (Constant (of_type Int) 4)))))) (more_of-Stmt (Value somewhere (Some (at 2 (Assign' (of_type (Pointer' b Int)) b (Name (of_type (Pointer' b Int)) 6) None b (Name (of_type (Array' b Int 4)) 4))))) (more_of-Stmt (Return somewhere 3 (Some (Constant (of_type Int) 0))) end_of-Stmt))) 1 1);
+      body = (Block' somewhere [] (shape_of b 3 (lit< tt)) (more_of-Stmt (Value somewhere (Some (at 1 (Assign' (of_type (Pointer' b Int)) b (Name (of_type (Pointer' b Int)) 5) None b (Binary' (of_type (Pointer' b Int)) b (Name (of_type (Array' b Int 4)) 3) Add b (Constant (of_type Int) 4)))))) (more_of-Stmt (Value somewhere (Some (at 2 (Assign' (of_type (Pointer' b Int)) b (Name (of_type (Pointer' b Int)) 6) None b (Name (of_type (Array' b Int 4)) 4))))) (more_of-Stmt (Return somewhere 3 (Some (Constant (of_type Int) 0))) end_of-Stmt))) 1 1);
     } ∷ []);
     points = (record { function = 0; line = 1; column = 44; symbol = Some 7 } ∷ record { function = 0; line = 1; column = 46; symbol = Some 7 } ∷ record { function = 0; line = 1; column = 57; symbol = Some 7 } ∷ record { function = 0; line = 1; column = 64; symbol = Some 7 } ∷ record { function = 0; line = 1; column = 74; symbol = Some 7 } ∷ []);
     symbols = (record { name = codes "getchar"; ctype = Int; refers = refers.Declared; up = None } ∷ record { name = codes "putchar"; ctype = Int; refers = refers.Declared; up = Some 0 } ∷ record { name = codes "exit"; ctype = Void; refers = refers.Declared; up = Some 1 } ∷ record { name = codes "a"; ctype = (Array' b Int 4); refers = refers.Object 0; up = Some 2 } ∷ record { name = codes "b"; ctype = (Array' b Int 4); refers = refers.Object 1; up = Some 3 } ∷ record { name = codes "p"; ctype = (Pointer' b Int); refers = refers.Object 2; up = Some 4 } ∷ record { name = codes "q"; ctype = (Pointer' b Int); refers = refers.Object 3; up = Some 5 } ∷ record { name = codes "main"; ctype = Int; refers = refers.Function 0; up = Some 6 } ∷ []);
@@ -53,24 +39,24 @@ module _ (b : Box (Unit {0}) Global) where
 
   it_is_accepted : IsAccepted program
   it_is_accepted = record {
-    structs = Prim.search;
+    structs = tt;
     objects = Prim.search (lit<, lit≤);
     functions = (
       record {
         result = refl;
-      written = (tt, tt);
+        written = Prim.search;
         few = Prim.search (lit≤);
-        scalars = tt;
-        locals = tt;
+        scalars = Prim.search;
+        locals = Prim.search (lit<, lit≤);
         declared = refl;
         block = tt;
-        body = Prim.search (lit<);
+        body = Prim.search (lit<, lit≤);
         points = (0, 4, refl);
         numbered = (0, refl);
         placed = Prim.search;
         ends = (refl, refl);
-      unit = refl;
-      main = refl;
+        unit = refl;
+        main = refl;
       },
       tt,
     );
