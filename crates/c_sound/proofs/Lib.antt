@@ -13,3 +13,4 @@ mod Rules
 mod Typed
 mod Bodies
 mod Accepted
+mod Evaluations

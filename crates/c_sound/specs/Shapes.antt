@@ -1,12 +1,14 @@
 -- Values of the shape that their type has: a number, or an address. And runs that keep to it.
-use Rattle.std.specs.Prelude.{◌≡◌, Bool, true, false, List}
+use Rattle.std.specs.Prelude.{◌≡◌, ℕ, Bool, true, false, List, Option, Some, Result, Ok, Err}
 use Rattle.std.specs.List.{AllByRecursion}
 use Rattle.ldb_words.specs.declared.kinds.Kind.{Kind}
 use Rattle.ldb_words.specs.declared.kinds.Kind.TheVariants.{Byte, Word, Address}
 use Rattle.runs.specs.Runs.{Why, Reason, Stale, IllTyped, Outcome, Reached, Breaks, Nowhere}
-use Rattle.c_store.specs.Store.{Value, Number, Null, At}
-use Rattle.c_store.specs.Assigned.{Assignment, History}
+use Rattle.c_store.specs.Store.{Value, Number, Null, At, World}
+use Rattle.c_store.specs.Frames.{Place, bound}
+use Rattle.c_store.specs.Assigned.{Assignment, History, all_assigned}
 use Rattle.c_source.specs.Control.{State}
+use Rattle.c_typing.specs.Declared.{has}
 
 -- the null pointer, or a pointer into an object, and no number
 abbrev pub is_place : Value → Bool
@@ -37,3 +39,18 @@ KeepsShapes (Breaks (Reason u)) = Unit {0}
 KeepsShapes (Breaks Stale) = Unit {0}
 KeepsShapes (Breaks IllTyped) = ⊥
 KeepsShapes Nowhere = ⊥
+
+-- there is a result, or a reason of C's for none
+abbrev pub HasMeaning : {A : Type 0} → Result A Why → Type 0
+HasMeaning (Ok x) = Unit {0}
+HasMeaning (Err (Reason u)) = Unit {0}
+HasMeaning (Err Stale) = Unit {0}
+HasMeaning (Err IllTyped) = ⊥
+
+-- one world comes from another by assignments to leaves of values that they may hold
+abbrev pub IsAssigned : World → World → Type 0
+IsAssigned w w' = (all : List Assignment) × (w' ≡ all_assigned all w) × AreFitting all
+
+-- these locals have objects in an activation
+abbrev pub AreLive : List ℕ → Place → Type 0
+AreLive v a = (x : ℕ) → has v x ≡ true → (o : ℕ) × (bound x a.locals ≡ Some o)
