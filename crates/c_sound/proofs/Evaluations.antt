@@ -14,16 +14,16 @@ use Rattle.c_tree.specs.declared.rows.SymbolRow.{SymbolRow}
 use Rattle.c_tree.specs.declared.rows.Referent.{Referent}
 use Rattle.c_tree.specs.declared.rows.Referent.TheVariants.{Object, Local, Function as Defined, Declared}
 use Rattle.c_tree.specs.Types.{type_of, kind_of, is_struct, is_array}
-use Rattle.c_store.specs.Store.{Value, Number, At, Cell, World, used, load, store, moved, load_struct, store_struct, store_all, ◌>>=◌}
+use Rattle.c_store.specs.Store.{Value, Number, Null, At, Cell, World, used, load, store, moved, load_struct, store_struct, store_all, ◌>>=◌}
 use Rattle.c_store.specs.Frames.{Here, bound}
 use Rattle.c_store.specs.Assigned.{Assignment, stored_or, all_assigned}
 use Rattle.c_source.specs.Blocks.{cells_of, converted}
 use Rattle.c_source.specs.Operators.{is_zero, combined, changed}
 use Rattle.c_source.specs.Source.{place_in, dot_offset, arrow_offset, no_value}
-use Rattle.c_source.specs.Meaning.{Given, Meant, or_ill_typed, value_at, tested, truth_of, chosen_as, indexed, member_at, value_of, place_of, assigned, scalar_assigned, struct_assigned, IsPlain, IsAssignment}
+use Rattle.c_source.specs.Meaning.{Given, Meant, or_ill_typed, value_at, tested, truth_of, chosen_as, indexed, member_at, value_of, place_of, assigned, scalar_assigned, struct_assigned, values_meant, IsPlain, IsAssignment}
 use Rattle.c_sound.specs.Shapes.{is_place, Fits, AreFitting, IsAssigned}
 use Rattle.c_sound.proofs.World.{Gives, gives_then, either_gives, used_gives, load_gives, store_gives, moved_gives, load_struct_gives, FitEach, WorldFits}
-use Rattle.c_sound.proofs.Operators.{addr, conv, conv_own, converted_shape, takes, gives, takes_one, combined_gives, changed_gives}
+use Rattle.c_sound.proofs.Operators.{addr, conv, conv_own, converted_shape, takes, gives, takes_one, any_gives, combined_gives, changed_gives}
 use Rattle.c_sound.proofs.Shaped.{shape, ByCase, Named, NamedBy, ShapedE, ShapedL}
 use Rattle.c_sound.proofs.Ready.{locals_of}
 use Rattle.c_sound.proofs.Lists.{bound_here}
@@ -142,3 +142,88 @@ module _ (p : Program) (h : Here) (w : WorldFits h.world) where
     place_shaped (Arrow' t x a m) i q = member_shape (arrow_offset p a m) (value_of p h a) (to _ (shape a) true q.1 (value_shaped a i q.0))
     place_shaped (Parens' t x a) i q = place_shaped a i q
     place_shaped _ i q = absurd q
+
+  -- ---- assignments
+
+  assigned_on : (xs ys : List Assignment) (u : World) → all_assigned (xs ++ ys) u ≡ all_assigned ys (all_assigned xs u)
+  assigned_on [] ys u = refl
+  assigned_on (x ∷ xs) ys u = assigned_on xs ys (stored_or u (store u x.kind x.place x.value))
+
+  fitting_on : (xs ys : List Assignment) → AreFitting xs → AreFitting ys → AreFitting (xs ++ ys)
+  fitting_on [] ys q k = k
+  fitting_on (x ∷ xs) ys q k = (q.0, fitting_on xs ys q.1 k)
+
+  -- a world that fits and comes from another by assignments that fit
+  abbrev pub Becomes : World → World → Type 0
+  Becomes u v = IsAssigned u v × WorldFits v
+
+  then_becomes : (u v x : World) → Becomes u v → Becomes v x → Becomes u x
+  then_becomes u v x a b =
+      let xs = a.0.0 in
+      let ys = b.0.0 in
+      ((xs ++ ys, b.0.1 ∙ ap (all_assigned ys) a.0.1 ∙ sym (assigned_on xs ys u), fitting_on xs ys a.0.2 b.0.2), b.1)
+
+  stored_by : (u : World) (a : Assignment) (m : Result World Why) → store u a.kind a.place a.value ≡ m → Fits a.kind a.value → Gives WorldFits m → Gives (Becomes u) m
+  stored_by u a (Ok v) e f g = ((a ∷ [], sym (ap (stored_or u) e), (f, tt)), g)
+  stored_by u a (Err (Reason r)) e f g = tt
+  stored_by u a (Err Stale) e f g = tt
+  stored_by u a (Err IllTyped) e f g = g
+
+  stores : (u : World) (a : Assignment) → WorldFits u → Fits a.kind a.value → Gives (Becomes u) (store u a.kind a.place a.value)
+  stores u a g f = stored_by u a (store u a.kind a.place a.value) refl f (store_gives u a.kind a.place a.value g f)
+
+  stores_all : (u : World) (o i : ℕ) (cs : List Cell) (xs : List Value) → WorldFits u → FitEach cs xs → Gives (Becomes u) (store_all u o i cs xs)
+  stores_all u o i [] xs g f = (([], refl, tt), g)
+  stores_all u o i (c ∷ cs) [] g f = f
+  stores_all u o i (c ∷ cs) (x ∷ xs) g f =
+      gives_then (Becomes u) (Becomes u) (store u c.kind (At o (i + c.at)) x) _ (stores u (record { kind = c.kind; place = At o (i + c.at); value = x }) g f.0) λ v b.
+      gives_from u v (store_all v o i cs xs) b (stores_all v o i cs xs b.1 f.1)
+    where
+    gives_from : (u v : World) (m : Result World Why) → Becomes u v → Gives (Becomes v) m → Gives (Becomes u) m
+    gives_from u v (Ok x) b k = then_becomes u v x b k
+    gives_from u v (Err (Reason r)) b k = tt
+    gives_from u v (Err Stale) b k = tt
+    gives_from u v (Err IllTyped) b k = k
+
+  stores_struct : (u : World) (cs : List Cell) (place : Value) (xs : List Value) → WorldFits u → V true place → FitEach cs xs → Gives (Becomes u) (store_struct u cs place xs)
+  unfolding store_struct
+  stores_struct u cs (Number n) xs g e f = absurd (true≢false (sym e))
+  stores_struct u cs Null xs g e f = tt
+  stores_struct u cs (At o i) xs g e f = stores_all u o i cs xs g f
+
+  abbrev pub IsGiven : Given → Type 0
+  IsGiven g = IsAssigned h.world g.world
+
+  scalar_given : (t : CType) (a b : Typed) → IsPlain a → IsPlain b → ShapedL p ls a → ShapedE p ls b → conv t (shape b) ≡ addr t → Gives IsGiven (scalar_assigned p h t a b)
+  scalar_given t a b i j q k c =
+      gives_then (V true) IsGiven (place_of p h a) _ (place_shaped a i q) λ place d.
+      gives_then (V (shape b)) IsGiven (value_of p h b) _ (value_shaped b j k) λ v e.
+      gives_then (Becomes h.world) IsGiven (store h.world (kind_of t) place (converted t v)) _ (stores h.world (record { kind = kind_of t; place = place; value = converted t v }) w (converted_shape t v ∙ ap (conv t) e ∙ c)) λ u g. g.0
+
+  struct_given : (t : CType) (a b : Typed) → IsPlain a → IsPlain b → ShapedL p ls a → ShapedL p ls b → Gives IsGiven (struct_assigned p h t a b)
+  struct_given t a b i j q k =
+      gives_then (V true) IsGiven (place_of p h a) _ (place_shaped a i q) λ place d.
+      gives_then (V true) IsGiven (place_of p h b) _ (place_shaped b j k) λ from e.
+      gives_then (FitEach (cells_of p.defs t)) IsGiven (load_struct h.world (cells_of p.defs t) from) _ (load_struct_gives h.world (cells_of p.defs t) from w e) λ xs f.
+      gives_then (Becomes h.world) IsGiven (store_struct h.world (cells_of p.defs t) place xs) _ (stores_struct h.world (cells_of p.defs t) place xs w d f) λ u g. g.0
+
+  by_struct : (b : Bool) (t : CType) (a c : Typed) → IsPlain a → IsPlain c → ShapedL p ls a → ByCase b (ShapedL p ls c) (ShapedE p ls c × (conv t (shape c) ≡ addr t))
+      → Gives IsGiven (if b then struct_assigned p h t a c else scalar_assigned p h t a c)
+  by_struct true t a c i j q k = struct_given t a c i j q k
+  by_struct false t a c i j q k = scalar_given t a c i j q k.0 k.1
+
+  pub assigned_given : (e : Typed) → IsAssignment e → ShapedE p ls e → Gives IsGiven (assigned p h e)
+  assigned_given (Assign' t x a None y b) i q = by_struct (is_struct (type_of a)) (type_of a) a b i.0 i.1 q.0 q.1
+  assigned_given _ i q = absurd i
+
+  -- ---- leaf values
+
+  values_by : (b : Bool) (e : Typed) → IsPlain e → ShapedE p ls e → (b ≡ true → ShapedL p ls e)
+      → Gives (λ _. Unit {0}) (if b then (place_of p h e >>= λ v. load_struct h.world (cells_of p.defs (type_of e)) v) else (value_of p h e >>= λ v. Ok (v ∷ [])))
+  values_by true e i q l =
+      gives_then (V true) (λ _. Unit {0}) (place_of p h e) _ (place_shaped e i (l refl)) λ v d.
+      any_gives (load_struct h.world (cells_of p.defs (type_of e)) v) (FitEach (cells_of p.defs (type_of e))) (load_struct_gives h.world (cells_of p.defs (type_of e)) v w d)
+  values_by false e i q l = gives_then (V (shape e)) (λ _. Unit {0}) (value_of p h e) _ (value_shaped e i q) λ v d. tt
+
+  pub values_given : (e : Typed) → IsPlain e → ShapedE p ls e → (is_struct (type_of e) ≡ true → ShapedL p ls e) → Gives (λ _. Unit {0}) (values_meant p h e)
+  values_given e i q l = values_by (is_struct (type_of e)) e i q l

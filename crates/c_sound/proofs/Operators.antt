@@ -120,7 +120,7 @@ abbrev as_pointer : Value → Value
 as_pointer (Number n) = Null
 as_pointer v = v
 
-any_gives : {A : Type 0} (m : Result A Why) (P : A → Type 0) → Gives P m → Gives (λ _. Unit {0}) m
+pub any_gives : {A : Type 0} (m : Result A Why) (P : A → Type 0) → Gives P m → Gives (λ _. Unit {0}) m
 any_gives (Ok x) P h = tt
 any_gives (Err (Reason u)) P h = tt
 any_gives (Err Stale) P h = tt
