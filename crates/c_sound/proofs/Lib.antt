@@ -14,3 +14,4 @@ mod Typed
 mod Bodies
 mod Accepted
 mod Evaluations
+mod Structs

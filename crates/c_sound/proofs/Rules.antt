@@ -203,7 +203,7 @@ shift_operates op s t r h =
     let i = and_parts (is_integer s) (is_integer t) q.0 in
     on_numbers op s t r i.0 i.1 (ap ashape (sym q.1) ∙ promoted_shape s)
 
-if_some : (b : Bool) (t r : Plain) (rest : Option Plain) → (if b then Some t else rest) ≡ Some r → ((b ≡ true) × (t ≡ r)) ⊎ (rest ≡ Some r)
+pub if_some : (b : Bool) (t r : Plain) (rest : Option Plain) → (if b then Some t else rest) ≡ Some r → ((b ≡ true) × (t ≡ r)) ⊎ (rest ≡ Some r)
 if_some true t r rest h = inl (refl, some_same t r h)
 if_some false t r rest h = inr h
 
