@@ -179,11 +179,11 @@ module _ (p : Program) (h : Here) (w : WorldFits h.world) where
       gives_then (Becomes u) (Becomes u) (store u c.kind (At o (i + c.at)) x) _ (stores u (record { kind = c.kind; place = At o (i + c.at); value = x }) g f.0) λ v b.
       gives_from u v (store_all v o i cs xs) b (stores_all v o i cs xs b.1 f.1)
     where
-    gives_from : (u v : World) (m : Result World Why) → Becomes u v → Gives (Becomes v) m → Gives (Becomes u) m
-    gives_from u v (Ok x) b k = then_becomes u v x b k
-    gives_from u v (Err (Reason r)) b k = tt
-    gives_from u v (Err Stale) b k = tt
-    gives_from u v (Err IllTyped) b k = k
+      gives_from : (u v : World) (m : Result World Why) → Becomes u v → Gives (Becomes v) m → Gives (Becomes u) m
+      gives_from u v (Ok x) b k = then_becomes u v x b k
+      gives_from u v (Err (Reason r)) b k = tt
+      gives_from u v (Err Stale) b k = tt
+      gives_from u v (Err IllTyped) b k = k
 
   stores_struct : (u : World) (cs : List Cell) (place : Value) (xs : List Value) → WorldFits u → V true place → FitEach cs xs → Gives (Becomes u) (store_struct u cs place xs)
   unfolding store_struct

@@ -100,3 +100,15 @@ has_more (y ∷ ls) xs x h = more_by (y == x) (has ls x) (has (ls ++ xs) x) (has
 pub take_seam : (xs ys : List ℕ) → take (length xs) (xs ++ ys) ≡ xs
 take_seam [] ys = refl
 take_seam (x ∷ xs) ys = ap (λ zs. x ∷ zs) (take_seam xs ys)
+
+no_object : {A : Type 0} (o : ℕ) → ◌≡◌ {A = Option ℕ} None (Some o) → A
+no_object {A} o e = absurd (subst (λ (q : Option ℕ). elim q as (λ _. Type 0) [ None ↦ Unit {0} | Some z ↦ ⊥ ]) e tt)
+
+live_by : (t : Bool) (o q : ℕ) (rest : Option ℕ) (there : Bool) → (rest ≡ Some o → there ≡ true) → (if t then Some q else rest) ≡ Some o → (if t then true else there) ≡ true
+live_by true o q rest there f e = refl
+live_by false o q rest there f e = f e
+
+-- a local with an object is in scope
+pub live_here : (x o : ℕ) (bs : List Binding) → bound x bs ≡ Some o → has (locals_of bs) x ≡ true
+live_here x o [] e = no_object o e
+live_here x o (b ∷ bs) e = live_by (b.local == x) o b.object (bound x bs) (has (locals_of bs) x) (live_here x o bs) e

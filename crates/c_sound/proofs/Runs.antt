@@ -1,6 +1,6 @@
 -- Whole runs from a good state, with assignments at the stops.
 use Rattle.std.proofs.Common.{◌≡◌, refl, sym, ◌∙◌, subst, ap, ℕ, suc, zero, List, [], ◌∷◌, Option, Some, None}
-use Rattle.std.specs.Prelude.{Result, Ok, Err, slice_get}
+use Rattle.std.specs.Prelude.{Result, Ok, Err, slice_get, ℤ}
 use Rattle.std.specs.List.{AllByRecursion}
 use Rattle.runs.specs.Runs.{Next, Goes, Passes, Exits, Undefined, Stuck, Why, Reason, Stale, IllTyped, Outcome, Reached, Breaks, Nowhere, after, after_count, past, then_on}
 use Rattle.c_tree.specs.declared.rows.Program.{Program}
@@ -63,3 +63,34 @@ module _ (p : Program) (bodies : (g : ℕ) → ShapedFunction p g (slice_get p.f
   pub runs_keep : (n i : ℕ) (s : State) → Good p s → KeepsShapes (after State (step p) (acted h) n i s)
   runs_keep zero i s g = tt
   runs_keep (suc n) i s g = then_keeps (step p s) (after State (step p) (acted h) n) i (step_fine p bodies s g) (λ i s g. runs_keep n i s g)
+
+  -- ---- a moment before the end is in a good state
+
+  abbrev pub ReachesGood : Outcome State → Type 0
+  ReachesGood (Reached m) = m.exit ≡ None → Good p m.state
+  ReachesGood (Breaks w) = Unit {0}
+  ReachesGood Nowhere = Unit {0}
+
+  counted_reaches : (c : ℕ) (o : Outcome State) → ReachesGood o → ReachesGood (after_count State c o)
+  counted_reaches c (Reached m) k = k
+  counted_reaches c (Breaks w) k = tt
+  counted_reaches c Nowhere k = tt
+
+  past_reaches : (q : ℕ) (o : Outcome State) → ReachesGood o → ReachesGood (past State q o)
+  past_reaches q (Reached m) k = k
+  past_reaches q (Breaks w) k = tt
+  past_reaches q Nowhere k = tt
+
+  no_exit : {A : Type 0} (v : ℤ) → ◌≡◌ {A = Option ℤ} (Some v) None → A
+  no_exit {A} v e = absurd (subst (λ (q : Option ℤ). elim q as (λ _. Type 0) [ None ↦ ⊥ | Some z ↦ Unit {0} ]) e tt)
+
+  then_reaches : (n : Next State) (rest : ℕ → State → Outcome State) (i : ℕ) → Fine p n → ((i : ℕ) (s : State) → Good p s → ReachesGood (rest i s)) → ReachesGood (then_on State (step p) (acted h) n rest i)
+  then_reaches (Goes c s) rest i f k = counted_reaches c (rest i s) (k i s f)
+  then_reaches (Passes q c s) rest i f k = counted_reaches c _ (past_reaches q (rest (suc i) (acted h i s)) (k (suc i) (acted h i s) (acted_good i s f)))
+  then_reaches (Exits v c s) rest i f k = λ e. no_exit v e
+  then_reaches (Undefined w) rest i f k = tt
+  then_reaches Stuck rest i f k = tt
+
+  pub runs_reach : (n i : ℕ) (s : State) → Good p s → ReachesGood (after State (step p) (acted h) n i s)
+  runs_reach zero i s g = λ e. g
+  runs_reach (suc n) i s g = then_reaches (step p s) (after State (step p) (acted h) n) i (step_fine p bodies s g) (λ i s g. runs_reach n i s g)

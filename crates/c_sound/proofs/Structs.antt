@@ -79,22 +79,24 @@ arithmetic_none s t r h = from (common s t) r (only_some (is_integer s && is_int
 sum_none : (defs : List StructDef) (s t r : Plain) → sum_type defs s t ≡ Some r → IsNone r
 sum_none defs s t r h = by_first (if_some (is_movable defs s && is_integer t) s r _ h)
   where
-  by_second : ((is_integer s && is_movable defs t ≡ true) × (t ≡ r)) ⊎ (arithmetic_type s t ≡ Some r) → IsNone r
-  by_second (inl q) = from t r q.1 (movable_none defs t (and_parts (is_integer s) (is_movable defs t) q.0).1)
-  by_second (inr q) = arithmetic_none s t r q
-  by_first : ((is_movable defs s && is_integer t ≡ true) × (s ≡ r)) ⊎ ((if is_integer s && is_movable defs t then Some t else arithmetic_type s t) ≡ Some r) → IsNone r
-  by_first (inl q) = from s r q.1 (movable_none defs s (and_parts (is_movable defs s) (is_integer t) q.0).0)
-  by_first (inr q) = by_second (if_some (is_integer s && is_movable defs t) t r _ q)
+    by_second : ((is_integer s && is_movable defs t ≡ true) × (t ≡ r)) ⊎ (arithmetic_type s t ≡ Some r) → IsNone r
+    by_second (inl q) = from t r q.1 (movable_none defs t (and_parts (is_integer s) (is_movable defs t) q.0).1)
+    by_second (inr q) = arithmetic_none s t r q
+
+    by_first : ((is_movable defs s && is_integer t ≡ true) × (s ≡ r)) ⊎ ((if is_integer s && is_movable defs t then Some t else arithmetic_type s t) ≡ Some r) → IsNone r
+    by_first (inl q) = from s r q.1 (movable_none defs s (and_parts (is_movable defs s) (is_integer t) q.0).0)
+    by_first (inr q) = by_second (if_some (is_integer s && is_movable defs t) t r _ q)
 
 difference_none : (defs : List StructDef) (s t r : Plain) → difference_type defs s t ≡ Some r → IsNone r
 difference_none defs s t r h = by_first (if_some (is_movable defs s && is_integer t) s r _ h)
   where
-  by_second : ((is_movable defs s && same s t ≡ true) × (Int ≡ r)) ⊎ (arithmetic_type s t ≡ Some r) → IsNone r
-  by_second (inl q) = from Int r q.1 refl
-  by_second (inr q) = arithmetic_none s t r q
-  by_first : ((is_movable defs s && is_integer t ≡ true) × (s ≡ r)) ⊎ ((if is_movable defs s && same s t then Some Int else arithmetic_type s t) ≡ Some r) → IsNone r
-  by_first (inl q) = from s r q.1 (movable_none defs s (and_parts (is_movable defs s) (is_integer t) q.0).0)
-  by_first (inr q) = by_second (if_some (is_movable defs s && same s t) Int r _ q)
+    by_second : ((is_movable defs s && same s t ≡ true) × (Int ≡ r)) ⊎ (arithmetic_type s t ≡ Some r) → IsNone r
+    by_second (inl q) = from Int r q.1 refl
+    by_second (inr q) = arithmetic_none s t r q
+
+    by_first : ((is_movable defs s && is_integer t ≡ true) × (s ≡ r)) ⊎ ((if is_movable defs s && same s t then Some Int else arithmetic_type s t) ≡ Some r) → IsNone r
+    by_first (inl q) = from s r q.1 (movable_none defs s (and_parts (is_movable defs s) (is_integer t) q.0).0)
+    by_first (inr q) = by_second (if_some (is_movable defs s && same s t) Int r _ q)
 
 an_int : (b : Bool) (r : Plain) → only b Int ≡ Some r → IsNone r
 an_int b r h = from Int r (only_some b Int r h).1 refl
@@ -129,22 +131,27 @@ unary_none Complement t r h = shift_none _ t r h
 choice_none : (c : Plain) (a b : Operand) (r : Plain) → choice_type c a b ≡ Some r → IsNone r
 choice_none c a b r h = by_scalar (is_scalar c) h
   where
-  pointers : (t : Plain) → is_pointer t ≡ true → t ≡ r → IsNone r
-  pointers t h e = from t r e (pointer_none t h)
-  second : only (is_nulled (value_of b) a) (value_of b) ≡ Some r → IsNone r
-  second h = let q = only_some (is_nulled (value_of b) a) (value_of b) r h in pointers (value_of b) (and_parts (is_pointer (value_of b)) (is_integer (value_of a) && a.null) q.0).0 q.1
-  pointer_there : (is_pointer (value_of a) && same (value_of a) (value_of b) ≡ true) ⊎ (is_nulled (value_of a) b ≡ true) → is_pointer (value_of a) ≡ true
-  pointer_there (inl q) = (and_parts (is_pointer (value_of a)) (same (value_of a) (value_of b)) q).0
-  pointer_there (inr q) = (and_parts (is_pointer (value_of a)) (is_integer (value_of b) && b.null) q).0
-  first : (((is_pointer (value_of a) && same (value_of a) (value_of b)) || is_nulled (value_of a) b ≡ true) × (value_of a ≡ r)) ⊎ (only (is_nulled (value_of b) a) (value_of b) ≡ Some r) → IsNone r
-  first (inl q) = pointers (value_of a) (pointer_there (or_parts (is_pointer (value_of a) && same (value_of a) (value_of b)) (is_nulled (value_of a) b) q.0)) q.1
-  first (inr q) = second q
-  numbers : ((is_integer (value_of a) && is_integer (value_of b) ≡ true) × (common (value_of a) (value_of b) ≡ r)) ⊎ ((if (is_pointer (value_of a) && same (value_of a) (value_of b)) || is_nulled (value_of a) b then Some (value_of a) else only (is_nulled (value_of b) a) (value_of b)) ≡ Some r) → IsNone r
-  numbers (inl q) = from (common (value_of a) (value_of b)) r q.1 (common_none (value_of a) (value_of b))
-  numbers (inr q) = first (if_some ((is_pointer (value_of a) && same (value_of a) (value_of b)) || is_nulled (value_of a) b) (value_of a) r _ q)
-  by_scalar : (s : Bool) → (if s then branches_type a b else None) ≡ Some r → IsNone r
-  by_scalar true h = numbers (if_some (is_integer (value_of a) && is_integer (value_of b)) (common (value_of a) (value_of b)) r _ h)
-  by_scalar false h = no_none r h
+    pointers : (t : Plain) → is_pointer t ≡ true → t ≡ r → IsNone r
+    pointers t h e = from t r e (pointer_none t h)
+
+    second : only (is_nulled (value_of b) a) (value_of b) ≡ Some r → IsNone r
+    second h = let q = only_some (is_nulled (value_of b) a) (value_of b) r h in pointers (value_of b) (and_parts (is_pointer (value_of b)) (is_integer (value_of a) && a.null) q.0).0 q.1
+
+    pointer_there : (is_pointer (value_of a) && same (value_of a) (value_of b) ≡ true) ⊎ (is_nulled (value_of a) b ≡ true) → is_pointer (value_of a) ≡ true
+    pointer_there (inl q) = (and_parts (is_pointer (value_of a)) (same (value_of a) (value_of b)) q).0
+    pointer_there (inr q) = (and_parts (is_pointer (value_of a)) (is_integer (value_of b) && b.null) q).0
+
+    first : (((is_pointer (value_of a) && same (value_of a) (value_of b)) || is_nulled (value_of a) b ≡ true) × (value_of a ≡ r)) ⊎ (only (is_nulled (value_of b) a) (value_of b) ≡ Some r) → IsNone r
+    first (inl q) = pointers (value_of a) (pointer_there (or_parts (is_pointer (value_of a) && same (value_of a) (value_of b)) (is_nulled (value_of a) b) q.0)) q.1
+    first (inr q) = second q
+
+    numbers : ((is_integer (value_of a) && is_integer (value_of b) ≡ true) × (common (value_of a) (value_of b) ≡ r)) ⊎ ((if (is_pointer (value_of a) && same (value_of a) (value_of b)) || is_nulled (value_of a) b then Some (value_of a) else only (is_nulled (value_of b) a) (value_of b)) ≡ Some r) → IsNone r
+    numbers (inl q) = from (common (value_of a) (value_of b)) r q.1 (common_none (value_of a) (value_of b))
+    numbers (inr q) = first (if_some ((is_pointer (value_of a) && same (value_of a) (value_of b)) || is_nulled (value_of a) b) (value_of a) r _ q)
+
+    by_scalar : (s : Bool) → (if s then branches_type a b else None) ≡ Some r → IsNone r
+    by_scalar true h = numbers (if_some (is_integer (value_of a) && is_integer (value_of b)) (common (value_of a) (value_of b)) r _ h)
+    by_scalar false h = no_none r h
 
 constant_none : (t : Plain) → is_constant_type t ≡ true → IsNone t
 constant_none Int h = refl
