@@ -1,5 +1,5 @@
 -- Accepted programs.
-use Rattle.std.proofs.Common.{◌≡◌, refl, sym, ◌∙◌, subst, ap, arith, ℕ, suc, zero, ◌+◌, ◌≤◌, List, [], ◌∷◌, ◌++◌, Option, Some, None, length, length-append, le-add_right}
+use Rattle.std.proofs.Common.{◌≡◌, refl, sym, ◌∙◌, subst, ap, arith, ℕ, suc, zero, ◌+◌, ◌≤◌, List, [], ◌∷◌, Option, Some, None, length, length-append, le-add_right}
 use Rattle.std.specs.Prelude.{slice_get, Result, Ok, Err, true}
 use Rattle.c_tree.specs.declared.types.CType.{CType}
 use Rattle.c_tree.specs.declared.types.CType.TheVariants as ctype
@@ -11,7 +11,7 @@ use Rattle.c_store.specs.Store.{Number}
 use Rattle.c_store.specs.Frames.{Here, Place}
 use Rattle.c_store.specs.Assigned.{History}
 use Rattle.c_source.specs.Blocks.{result_type, converted}
-use Rattle.c_source.specs.Control.{Item, Push, GiveBack, State}
+use Rattle.c_source.specs.Control.{Push, GiveBack, State}
 use Rattle.c_source.specs.Source.{step}
 use Rattle.c_source.specs.Begin.{begin, acted}
 use Rattle.c_source.specs.Meaning.{Given, values_meant, assigned, IsPlain, IsAssignment}

@@ -1,6 +1,6 @@
 -- An accepted program begins in a good state.
-use Rattle.std.proofs.Common.{◌≡◌, refl, sym, ◌∙◌, subst, ap, arith, ℕ, suc, zero, ◌+◌, List, [], ◌∷◌, ◌++◌, Bool, true, false, not, ◌&&◌, ◌||◌, Option, Some, None, length, map, true≢false}
-use Rattle.std.specs.Prelude.{slice_get, if◌then◌else◌, ◌==◌, bytes_eq, codes}
+use Rattle.std.proofs.Common.{◌≡◌, refl, sym, ◌∙◌, subst, ap, arith, ℕ, suc, ◌+◌, List, [], ◌∷◌, Bool, true, false, not, ◌&&◌, ◌||◌, Option, Some, None, length, map, true≢false}
+use Rattle.std.specs.Prelude.{slice_get, if◌then◌else◌, ◌==◌}
 use Rattle.std.specs.List.{AllByRecursion}
 use Rattle.ldb_words.specs.declared.kinds.Kind.{Kind}
 use Rattle.ldb_words.specs.declared.kinds.Kind.TheVariants.{Byte, Word, Address}
@@ -14,17 +14,17 @@ use Rattle.c_tree.specs.declared.rows.Start.{Start}
 use Rattle.c_tree.specs.declared.rows.Start.TheVariants as start
 use Rattle.c_tree.specs.Layout.{size_of, leaves_of}
 use Rattle.c_store.specs.Bits.{low_byte}
-use Rattle.c_store.specs.Store.{Value, Number, Null, At, Object, Cell, World, Static, Text, zero_of}
-use Rattle.c_source.specs.Blocks.{cells_of, result_type}
+use Rattle.c_store.specs.Store.{Value, Number, Null, At, Object, Cell, Static, Text, zero_of}
+use Rattle.c_source.specs.Blocks.{cells_of}
 use Rattle.c_source.specs.Control.{Item, body_of}
 use Rattle.c_source.specs.Begin.{world_at_first, begin}
 use Rattle.c_typing.specs.Plain.{plain, same, Int as an_int}
 use Rattle.c_typing.specs.Starts.{Starts, AreStarts, IsObject}
 use Rattle.c_typing.specs.Accepted.{numbers, is_called_main, is_main, has_main}
-use Rattle.c_sound.specs.Shapes.{is_place, is_address, Fits}
+use Rattle.c_sound.specs.Shapes.{Fits}
 use Rattle.c_sound.proofs.World.{CellFits, ObjectFits, WorldFits, each_append}
 use Rattle.c_sound.proofs.Operators.{addr}
-use Rattle.c_sound.proofs.Ready.{Ready, HasFunction, Outside, Good}
+use Rattle.c_sound.proofs.Ready.{Ready, HasFunction, Good}
 use Rattle.c_sound.proofs.Steps.{ShapedFunction}
 
 -- ---- static objects and strings

@@ -1,5 +1,5 @@
 -- The bodies of an accepted program's functions can be done.
-use Rattle.std.proofs.Common.{◌≡◌, refl, sym, ◌∙◌, subst, ap, arith, ℕ, suc, zero, ◌+◌, ◌≤◌, List, [], ◌∷◌, ◌++◌, Bool, true, false, Option, Some, None, true≢false, length, append_assoc, length-append, le-add_right}
+use Rattle.std.proofs.Common.{◌≡◌, refl, sym, ◌∙◌, subst, ap, arith, ℕ, List, [], ◌∷◌, ◌++◌, Bool, true, false, Option, Some, None, true≢false, append_assoc}
 use Rattle.std.specs.Prelude.{slice_get, if◌then◌else◌, ◌==◌}
 use Rattle.c_tree.specs.declared.types.CType.{CType}
 use Rattle.c_tree.specs.declared.types.CType.TheVariants as ctype
@@ -12,22 +12,20 @@ use Rattle.c_tree.specs.declared.rows.Program.{Program}
 use Rattle.c_tree.specs.declared.rows.Function.{Function}
 use Rattle.c_tree.specs.declared.rows.Local.{Local}
 use Rattle.c_tree.specs.Rows.{stmts}
-use Rattle.c_store.specs.Store.{Number}
-use Rattle.c_source.specs.Blocks.{local_type, result_type, converted, declared_in, statements_in}
-use Rattle.c_source.specs.Control.{Item, Push, Open, GiveBack, runs_of, inits_of, body_of}
-use Rattle.c_typing.specs.Plain.{Plain, Char, Int, Unsigned, Void, Pointer, Array, Struct, plain, is_integer, is_void}
+use Rattle.c_source.specs.Blocks.{local_type, result_type, declared_in, statements_in}
+use Rattle.c_source.specs.Control.{Item, Open, runs_of, inits_of}
+use Rattle.c_typing.specs.Plain.{Plain, Char, Int, Unsigned, Void, Pointer, Array, Struct, plain, is_void}
 use Rattle.c_typing.specs.Rules.{converts}
 use Rattle.c_typing.specs.Expressions.{operand, value, IsTyped}
 use Rattle.c_typing.specs.Declared.{has, scope_at, is_result, locals_in}
-use Rattle.c_typing.specs.Statements.{Around, in_function, local_numbers as numbers_of, type_of_local, here, IsTest, IsTestOrNone, IsDropped, IsInitializer, AreInitialized, IsReturned, IsStatement, AreStatements, IsElse, IsSwitched, locals_of as locals_in_body}
-use Rattle.c_typing.specs.Accepted.{AllFrom, numbers, IsBlock, IsFunction}
-use Rattle.c_sound.proofs.Operators.{addr, conv, converted_shape}
+use Rattle.c_typing.specs.Statements.{Around, in_function, local_numbers as numbers_of, type_of_local, IsTestOrNone, IsDropped, IsInitializer, AreInitialized, IsReturned, IsStatement, AreStatements, IsElse, IsSwitched}
+use Rattle.c_typing.specs.Accepted.{IsBlock}
+use Rattle.c_sound.proofs.Operators.{addr, conv}
 use Rattle.c_sound.proofs.Shaped.{shape, local_numbers, ShapedE, ShapedPart, ShapedInit, ShapedInits, ShapedReturn, ShapedS, ShapedRows, ShapedElse, ShapedBody}
 use Rattle.c_sound.proofs.Ready.{Ready}
 use Rattle.c_sound.proofs.Lists.{has_more}
 use Rattle.c_sound.proofs.Continues.{inits_ready, runs_ready, rows_shaped}
-use Rattle.c_sound.proofs.Steps.{ShapedFunction}
-use Rattle.c_sound.proofs.Rules.{no_none, ashape, addr_plain, integer_shape, pconv, converts_shape}
+use Rattle.c_sound.proofs.Rules.{ashape, addr_plain, integer_shape, pconv, converts_shape}
 use Rattle.c_sound.proofs.Typed.{HasParameters, conv_there, sh, evaluated}
 
 -- ---- lists of locals

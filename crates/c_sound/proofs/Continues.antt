@@ -1,26 +1,25 @@
 -- Lists of items that can be done.
-use Rattle.std.proofs.Common.{◌≡◌, refl, sym, ◌∙◌, subst, ap, arith, ℕ, suc, zero, ◌≤◌, List, [], ◌∷◌, ◌++◌, Bool, true, false, not, Option, Some, None, length, take, drop, reverse, map, append_assoc, append-nil, true≢false, length-take-le, le_of_eq, le_trans, take_all, length-append, le-add_right}
+use Rattle.std.proofs.Common.{◌≡◌, refl, sym, subst, ap, ℕ, suc, ◌≤◌, List, [], ◌∷◌, ◌++◌, Bool, true, false, Option, Some, None, length, take, length-take-le, le_of_eq, le_trans, take_all, length-append, le-add_right}
 use Rattle.std.proofs.lemmas.List.{take-append-le}
 use Rattle.std.specs.Prelude.{slice_get, if◌then◌else◌, length}
 use Rattle.c_tree.specs.declared.types.CType.{CType}
-use Rattle.c_tree.specs.declared.types.CType.TheVariants.{Char, Int, Unsigned, Void, Pointer', Array', Struct}
+use Rattle.c_tree.specs.declared.types.CType.TheVariants.{Struct}
 use Rattle.c_tree.specs.declared.typed.Typed.{Typed, Row_of-Typed, end_of-Typed, more_of-Typed}
 use Rattle.c_tree.specs.declared.typed.Pointed.{Pointed}
 use Rattle.c_tree.specs.declared.typed.DeclaredLocal.{DeclaredLocal}
 use Rattle.c_tree.specs.declared.typed.Stmt.{Stmt, Row_of-Stmt, end_of-Stmt, more_of-Stmt, Held-Stmt-If-3, None', Some'}
-use Rattle.c_tree.specs.declared.typed.Stmt.TheVariants.{Value as Expression, Block', If', While', Do', For', Switch', Case', Default', Break, Continue, Return}
+use Rattle.c_tree.specs.declared.typed.Stmt.TheVariants.{Block', While', Do', For', Case', Default'}
 use Rattle.c_tree.specs.declared.rows.Program.{Program}
 use Rattle.c_tree.specs.declared.rows.Function.{Function}
 use Rattle.c_tree.specs.declared.rows.SymbolRow.{SymbolRow}
 use Rattle.c_tree.specs.declared.rows.Referent.{Referent}
 use Rattle.c_tree.specs.declared.rows.Referent.TheVariants.{Object, Local, Function as Defined, Declared}
-use Rattle.c_tree.specs.Types.{type_of, is_struct}
+use Rattle.c_tree.specs.Types.{is_struct}
 use Rattle.c_tree.specs.Rows.{exprs, stmts}
-use Rattle.c_source.specs.Blocks.{local_type, result_type, statements_in}
-use Rattle.c_source.specs.Control.{Item, Eval, Locate, Push, Bound, Load, Convert, Store, Copy, Update, Change, Combine, Offset, Use, Discard, Truth, AndThen, OrElse, Pick, Joined, Enter, Run, Stop, Choose, Open, Close, Turn, Again, Select, Seek, Switched, GiveBack, Leave, Label, Round, runs_of, evals_of, inits_of, part_of, loop_begins, loop_goes_on, loop_turns, broken, continued, labels_in, default_in}
-use Rattle.c_typing.specs.Declared.{has}
+use Rattle.c_source.specs.Blocks.{result_type, statements_in}
+use Rattle.c_source.specs.Control.{Item, Eval, Locate, Store, Copy, Run, Again, Switched, Label, Round, runs_of, evals_of, inits_of, part_of, loop_begins, loop_goes_on, loop_turns, broken, continued, labels_in, default_in}
 use Rattle.c_sound.proofs.Operators.{addr, conv}
-use Rattle.c_sound.proofs.Shaped.{shape, top, ByCase, row_shapes, is_getchar, local_numbers, OneNumber, CalledFunction, CalledBuiltIn, CalledBy, Called, Given, ShapedE, ShapedL, ShapedRow, ShapedPart, ShapedInit, ShapedInits, ShapedS, ShapedRows, ShapedElse, ShapedBody, EachShaped, ShapedLoop}
+use Rattle.c_sound.proofs.Shaped.{shape, ByCase, row_shapes, is_getchar, CalledFunction, CalledBuiltIn, CalledBy, Called, Given, ShapedE, ShapedL, ShapedRow, ShapedPart, ShapedInit, ShapedInits, ShapedS, ShapedRows, ShapedElse, ShapedBody, EachShaped, ShapedLoop}
 use Rattle.c_sound.proofs.Ready.{EntersFunction, EntersBuiltIn, EntersBy, Enters, EachLabel, Ready, Breaks, Continues}
 use Rattle.c_sound.proofs.Lists.{onto, taken, dropped}
 

@@ -1,25 +1,24 @@
 -- What an expression means in an activation of a good state.
-use Rattle.std.proofs.Common.{◌≡◌, refl, sym, ◌∙◌, subst, ap, ℕ, suc, zero, ◌+◌, List, [], ◌∷◌, ◌++◌, Bool, true, false, Option, Some, None, true≢false}
+use Rattle.std.proofs.Common.{◌≡◌, refl, sym, ◌∙◌, subst, ap, ℕ, ◌+◌, List, [], ◌∷◌, ◌++◌, Bool, true, false, Option, Some, None, true≢false}
 use Rattle.std.specs.Prelude.{Result, Ok, Err, slice_get, if◌then◌else◌, pos, option_map}
-use Rattle.std.specs.List.{AllByRecursion}
 use Rattle.runs.specs.Runs.{Why, Reason, Stale, IllTyped}
 use Rattle.c_tree.specs.declared.types.CType.{CType}
 use Rattle.c_tree.specs.declared.types.CType.TheVariants.{Array'}
 use Rattle.c_tree.specs.declared.typed.BinaryOp.{BinaryOp}
 use Rattle.c_tree.specs.declared.typed.BinaryOp.TheVariants.{Add}
 use Rattle.c_tree.specs.declared.typed.Typed.{Typed}
-use Rattle.c_tree.specs.declared.typed.Typed.TheVariants.{Comma', Assign', Choice', Or', And', Binary', Cast', Before', Address', Follow', Unary', SizeOf', SizeOfType, Index', Call', Dot', Arrow', After', Name, Constant, Literal, Parens'}
+use Rattle.c_tree.specs.declared.typed.Typed.TheVariants.{Comma', Assign', Choice', Or', And', Binary', Cast', Address', Follow', Unary', SizeOf', SizeOfType, Index', Dot', Arrow', Name, Constant, Literal, Parens'}
 use Rattle.c_tree.specs.declared.rows.Program.{Program}
 use Rattle.c_tree.specs.declared.rows.SymbolRow.{SymbolRow}
 use Rattle.c_tree.specs.declared.rows.Referent.{Referent}
 use Rattle.c_tree.specs.declared.rows.Referent.TheVariants.{Object, Local, Function as Defined, Declared}
 use Rattle.c_tree.specs.Types.{type_of, kind_of, is_struct, is_array}
-use Rattle.c_store.specs.Store.{Value, Number, Null, At, Cell, World, used, load, store, moved, load_struct, store_struct, store_all, ◌>>=◌}
+use Rattle.c_store.specs.Store.{Value, Number, Null, At, Cell, World, used, load, store, load_struct, store_struct, store_all, ◌>>=◌}
 use Rattle.c_store.specs.Frames.{Here, bound}
 use Rattle.c_store.specs.Assigned.{Assignment, stored_or, all_assigned}
 use Rattle.c_source.specs.Blocks.{cells_of, converted}
-use Rattle.c_source.specs.Operators.{is_zero, combined, changed}
-use Rattle.c_source.specs.Source.{place_in, dot_offset, arrow_offset, no_value}
+use Rattle.c_source.specs.Operators.{is_zero, combined}
+use Rattle.c_source.specs.Source.{place_in, dot_offset, arrow_offset}
 use Rattle.c_source.specs.Meaning.{Given, Meant, or_ill_typed, value_at, tested, truth_of, chosen_as, indexed, member_at, value_of, place_of, assigned, scalar_assigned, struct_assigned, values_meant, IsPlain, IsAssignment}
 use Rattle.c_sound.specs.Shapes.{is_place, Fits, AreFitting, IsAssigned}
 use Rattle.c_sound.proofs.World.{Gives, gives_then, either_gives, used_gives, load_gives, store_gives, moved_gives, load_struct_gives, FitEach, WorldFits}

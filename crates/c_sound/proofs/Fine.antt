@@ -1,19 +1,19 @@
 -- What a step may answer.
-use Rattle.std.proofs.Common.{◌≡◌, refl, sym, ◌∙◌, subst, ap, ℕ, suc, zero, ◌+◌, List, [], ◌∷◌, ◌++◌, Bool, true, false, Option, Some, None, length, take, drop, map, true≢false, append_assoc, append-nil}
+use Rattle.std.proofs.Common.{◌≡◌, refl, sym, ◌∙◌, subst, ap, ℕ, suc, List, [], ◌∷◌, ◌++◌, Bool, true, false, Option, Some, None, length, take, map, append_assoc, append-nil}
 use Rattle.std.specs.Prelude.{Result, Ok, Err, slice_get, if◌then◌else◌}
 use Rattle.runs.specs.Runs.{Next, Goes, Passes, Exits, Undefined, Stuck, Why, Reason, Stale, IllTyped}
 use Rattle.c_tree.specs.declared.rows.Program.{Program}
 use Rattle.c_tree.specs.declared.rows.Function.{Function}
 use Rattle.c_tree.specs.declared.typed.DeclaredLocal.{DeclaredLocal}
 use Rattle.c_tree.specs.Layout.{size_of}
-use Rattle.c_store.specs.Store.{Value, World}
-use Rattle.c_store.specs.Frames.{Here, Place, Binding, with_world, made, left}
+use Rattle.c_store.specs.Store.{Value}
+use Rattle.c_store.specs.Frames.{Here, made, left}
 use Rattle.c_source.specs.Blocks.{cells_of, converted, local_type, result_type, opened, given}
 use Rattle.c_source.specs.Control.{Item, State, Activation}
 use Rattle.c_source.specs.Source.{on_ok, on_some, on_test}
 use Rattle.c_typing.specs.Accepted.{numbers}
 use Rattle.c_sound.specs.Shapes.{is_place}
-use Rattle.c_sound.proofs.World.{Gives, gives_then, used_gives, WorldFits, made_fits, left_fits}
+use Rattle.c_sound.proofs.World.{Gives, used_gives, WorldFits, made_fits, left_fits}
 use Rattle.c_sound.proofs.Operators.{addr}
 use Rattle.c_sound.proofs.Shaped.{local_numbers, Given}
 use Rattle.c_sound.proofs.Ready.{locals_of, Ready, HasFunction, Outside, Good}

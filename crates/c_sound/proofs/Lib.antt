@@ -15,3 +15,5 @@ mod Bodies
 mod Accepted
 mod Evaluations
 mod Structs
+mod Scoped
+mod Ways

@@ -1,13 +1,10 @@
 -- Lists of locals, of shapes and of objects.
-use Rattle.std.proofs.Common.{◌≡◌, refl, sym, ◌∙◌, subst, ap, arith, ℕ, suc, zero, ◌≤◌, ◌<◌, List, [], ◌∷◌, ◌++◌, Bool, true, false, Option, Some, None, length, take, drop, reverse, map, append_assoc, append-nil, true≢false}
+use Rattle.std.proofs.Common.{◌≡◌, refl, sym, ◌∙◌, subst, ap, ℕ, suc, zero, List, [], ◌∷◌, ◌++◌, Bool, true, false, Option, Some, None, length, take, drop, reverse, map, append_assoc, true≢false}
 use Rattle.std.specs.Prelude.{◌==◌, if◌then◌else◌}
 use Rattle.std.proofs.lemmas.List.{reverse-append, reverse-reverse, length-reverse}
-use Rattle.std.specs.List.{AllByRecursion}
 use Rattle.c_store.specs.Store.{Value}
 use Rattle.c_store.specs.Frames.{Binding, bound}
 use Rattle.c_typing.specs.Declared.{has}
-use Rattle.c_typing.specs.Accepted.{numbers}
-use Rattle.c_sound.specs.Shapes.{is_place}
 use Rattle.c_sound.proofs.Ready.{locals_of}
 
 -- ---- locals

@@ -1,5 +1,5 @@
 -- New objects hold values that fit.
-use Rattle.std.proofs.Common.{◌≡◌, refl, sym, ◌∙◌, subst, ap, ℕ, suc, zero, List, [], ◌∷◌, ◌++◌, Bool, true, false, true≢false}
+use Rattle.std.proofs.Common.{refl, sym, ◌∙◌, List, [], ◌∷◌, true≢false}
 use Rattle.std.specs.Prelude.{map}
 use Rattle.std.specs.List.{AllByRecursion}
 use Rattle.ldb_words.specs.declared.kinds.Kind.{Kind}
@@ -12,9 +12,9 @@ use Rattle.c_tree.specs.declared.rows.Program.{Program}
 use Rattle.c_tree.specs.Layout.{leaves_of}
 use Rattle.c_store.specs.Store.{Value, Cell, zero_of}
 use Rattle.c_source.specs.Blocks.{cells_of, converted}
-use Rattle.c_sound.specs.Shapes.{is_place, is_address, Fits}
+use Rattle.c_sound.specs.Shapes.{is_place, Fits}
 use Rattle.c_sound.proofs.World.{CellFits}
-use Rattle.c_sound.proofs.Operators.{addr, conv, converted_shape}
+use Rattle.c_sound.proofs.Operators.{converted_shape}
 use Rattle.c_sound.proofs.Shaped.{IsParameter}
 
 zero_fits : (k : Kind) → Fits k (zero_of k)

@@ -1,5 +1,5 @@
 -- The shapes of what the operators give.
-use Rattle.std.proofs.Common.{◌≡◌, refl, sym, ◌∙◌, subst, ap, ℕ, zero, suc, ◌*◌, ◌-◌, List, Bool, true, false, not, ◌&&◌, Option, Some, None, true≢false}
+use Rattle.std.proofs.Common.{◌≡◌, refl, sym, ℕ, ◌-◌, List, Bool, true, false, not, ◌&&◌, Option, Some, None, true≢false}
 use Rattle.std.specs.Prelude.{Result, Ok, Err, if◌then◌else◌, ◌==◌, ℤ, pos, neg_ℤ, ◌*ℤ◌, ◌-ℤ◌, int_div, nat_lt, nat_le}
 use Rattle.ldb_words.specs.Word.{word_of_signed}
 use Rattle.ldb_words.specs.declared.kinds.Undef.{Undef}
@@ -9,7 +9,7 @@ use Rattle.c_tree.specs.declared.types.CType.{CType}
 use Rattle.c_tree.specs.declared.types.CType.TheVariants as ctype
 use Rattle.c_tree.specs.declared.types.StructDef.{StructDef}
 use Rattle.c_tree.specs.declared.typed.BinaryOp.{BinaryOp}
-use Rattle.c_tree.specs.declared.typed.BinaryOp.TheVariants.{BitOr, BitXor, BitAnd, Equal, Unequal, Less, Greater, LessEqual, GreaterEqual, ShiftLeft, ShiftRight, Add, Subtract, Multiply, Divide, Remainder}
+use Rattle.c_tree.specs.declared.typed.BinaryOp.TheVariants.{Equal, Unequal, Less, Greater, LessEqual, GreaterEqual, Add, Subtract}
 use Rattle.c_tree.specs.declared.typed.UnaryOp.{UnaryOp}
 use Rattle.c_tree.specs.declared.typed.UnaryOp.TheVariants.{Plus, Minus, Complement, Not}
 use Rattle.c_tree.specs.Types.{target_of, is_unsigned, kind_of}
@@ -17,8 +17,8 @@ use Rattle.c_tree.specs.Layout.{size_of}
 use Rattle.c_store.specs.Store.{Value, Number, Null, At, World, used, moved, ◌>>=◌}
 use Rattle.c_store.specs.Bits.{minus_one, subtract, signed_negate}
 use Rattle.c_source.specs.Blocks.{converted}
-use Rattle.c_source.specs.Operators.{bits_in, number_of, is_zero, truth, on_ints, on_unsigned, operating_type, same_pointer, combined, negated, changed}
-use Rattle.c_sound.specs.Shapes.{is_place, is_address, Fits}
+use Rattle.c_source.specs.Operators.{bits_in, number_of, truth, on_ints, on_unsigned, operating_type, same_pointer, combined, changed}
+use Rattle.c_sound.specs.Shapes.{is_place, is_address}
 use Rattle.c_sound.proofs.World.{Gives, gives_then, either_gives, used_gives, moved_gives}
 
 -- ---- types and conversions

@@ -1,15 +1,13 @@
 -- Control that can be done with values of these shapes, where these locals are in scope.
-use Rattle.std.proofs.Common.{◌≡◌, ℕ, suc, zero, ◌≤◌, List, [], ◌∷◌, ◌++◌, Bool, true, false, Option, Some, None, length, take, drop, reverse, map}
+use Rattle.std.proofs.Common.{◌≡◌, ℕ, ◌≤◌, List, [], ◌∷◌, ◌++◌, Bool, true, false, Option, Some, None, length, take, drop, reverse, map}
 use Rattle.std.specs.Prelude.{slice_get}
-use Rattle.c_tree.specs.declared.types.CType.{CType}
-use Rattle.c_tree.specs.declared.typed.Stmt.{Stmt}
 use Rattle.c_tree.specs.declared.rows.Program.{Program}
 use Rattle.c_tree.specs.declared.rows.Function.{Function}
 use Rattle.c_tree.specs.declared.rows.SymbolRow.{SymbolRow}
 use Rattle.c_tree.specs.declared.rows.Referent.{Referent}
 use Rattle.c_tree.specs.declared.rows.Referent.TheVariants.{Object, Local, Function as Defined, Declared}
-use Rattle.c_store.specs.Frames.{Binding, Here}
-use Rattle.c_source.specs.Blocks.{local_type, result_type, statements_in}
+use Rattle.c_store.specs.Frames.{Binding}
+use Rattle.c_source.specs.Blocks.{result_type, statements_in}
 use Rattle.c_source.specs.Control.{Item, Eval, Locate, Push, Bound, Load, Convert, Store, Copy, Update, Change, Combine, Offset, Use, Discard, Truth, AndThen, OrElse, Pick, Joined, Enter, Run, Stop, Choose, Open, Close, Turn, Again, Select, Seek, Switched, GiveBack, Leave, Label, State, Activation}
 use Rattle.c_typing.specs.Declared.{has}
 use Rattle.c_sound.specs.Shapes.{is_place}

@@ -1,6 +1,6 @@
 -- What the typing rules say of shapes.
-use Rattle.std.proofs.Common.{◌≡◌, refl, sym, ◌∙◌, subst, ap, ℕ, suc, zero, List, [], ◌∷◌, Bool, true, false, not, ◌&&◌, ◌||◌, Option, Some, None, true≢false, ◌⊎◌, inl, inr, length}
-use Rattle.std.specs.Prelude.{if◌then◌else◌, option_and_then, ◌==◌}
+use Rattle.std.proofs.Common.{◌≡◌, refl, sym, ◌∙◌, subst, ap, List, Bool, true, false, not, ◌&&◌, ◌||◌, Option, Some, None, true≢false, ◌⊎◌, inl, inr}
+use Rattle.std.specs.Prelude.{if◌then◌else◌, option_and_then}
 use Rattle.c_tree.specs.declared.types.CType.{CType}
 use Rattle.c_tree.specs.declared.types.CType.TheVariants as ctype
 use Rattle.c_tree.specs.declared.types.StructDef.{StructDef}
@@ -9,10 +9,10 @@ use Rattle.c_tree.specs.declared.typed.BinaryOp.TheVariants.{BitOr, BitXor, BitA
 use Rattle.c_tree.specs.declared.typed.UnaryOp.{UnaryOp}
 use Rattle.c_tree.specs.declared.typed.UnaryOp.TheVariants.{Plus, Minus, Complement, Not}
 use Rattle.c_tree.specs.Types.{target_of, is_struct}
-use Rattle.c_typing.specs.Plain.{Plain, Char, Int, Unsigned, Void, Pointer, Array, Struct, plain, same, is_integer, is_pointer, is_scalar, is_struct as is_a_struct, is_complete, value_type, promoted, common}
+use Rattle.c_typing.specs.Plain.{Plain, Char, Int, Unsigned, Void, Pointer, Array, Struct, plain, same, is_integer, is_pointer, is_scalar, is_struct as is_a_struct, value_type, promoted, common}
 use Rattle.c_typing.specs.Rules.{Operand, value_of, only, unary_type, followed, sum_type, difference_type, arithmetic_type, shift_type, order_type, equality_type, is_nulled, is_movable, is_move, is_compound, binary_type, converts, is_copied, compound_type, branches_type, choice_type}
 use Rattle.c_sound.proofs.Operators.{addr, conv, takes, gives, takes_by, gives_by, takes_pointer, takes_pointers, takes_one, is_move as moves}
-use Rattle.c_sound.proofs.Shaped.{ByCase, Updates}
+use Rattle.c_sound.proofs.Shaped.{ByCase}
 use Rattle.c_sound.proofs.Begins.{and_parts}
 
 -- ---- conditions

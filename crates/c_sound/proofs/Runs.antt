@@ -1,7 +1,6 @@
 -- Whole runs from a good state, with assignments at the stops.
-use Rattle.std.proofs.Common.{◌≡◌, refl, sym, ◌∙◌, subst, ap, ℕ, suc, zero, List, [], ◌∷◌, Option, Some, None}
+use Rattle.std.proofs.Common.{◌≡◌, subst, ℕ, suc, zero, List, [], ◌∷◌, Option, Some, None}
 use Rattle.std.specs.Prelude.{Result, Ok, Err, slice_get, ℤ}
-use Rattle.std.specs.List.{AllByRecursion}
 use Rattle.runs.specs.Runs.{Next, Goes, Passes, Exits, Undefined, Stuck, Why, Reason, Stale, IllTyped, Outcome, Reached, Breaks, Nowhere, after, after_count, past, then_on}
 use Rattle.c_tree.specs.declared.rows.Program.{Program}
 use Rattle.c_store.specs.Store.{World, store}
@@ -9,7 +8,7 @@ use Rattle.c_store.specs.Assigned.{Assignment, History, stored_or, all_assigned,
 use Rattle.c_source.specs.Control.{State}
 use Rattle.c_source.specs.Source.{step}
 use Rattle.c_source.specs.Begin.{acted}
-use Rattle.c_sound.specs.Shapes.{Fits, AreFitting, IsFitting, KeepsShapes}
+use Rattle.c_sound.specs.Shapes.{AreFitting, IsFitting, KeepsShapes}
 use Rattle.c_sound.proofs.World.{Gives, WorldFits, store_gives}
 use Rattle.c_sound.proofs.Ready.{Good}
 use Rattle.c_sound.proofs.Fine.{Fine}

@@ -1,12 +1,10 @@
 -- Expressions and statements whose parts have the shapes that the steps need. This is what is left of the typing rules where only numbers and addresses are told apart.
-use Rattle.std.proofs.Common.{◌≡◌, ℕ, suc, zero, List, [], ◌∷◌, ◌++◌, Bool, true, false, not, ◌&&◌, Option, Some, None, length}
-use Rattle.std.specs.Prelude.{slice_get, bytes_eq, codes, map}
+use Rattle.std.proofs.Common.{◌≡◌, ℕ, suc, List, [], ◌∷◌, ◌++◌, Bool, true, false, Option, Some, None, length}
+use Rattle.std.specs.Prelude.{slice_get, bytes_eq, codes}
 use Rattle.c_tree.specs.declared.types.CType.{CType}
 use Rattle.c_tree.specs.declared.types.CType.TheVariants.{Char, Int, Unsigned, Void, Pointer', Array', Struct}
 use Rattle.c_tree.specs.declared.typed.BinaryOp.{BinaryOp}
 use Rattle.c_tree.specs.declared.typed.BinaryOp.TheVariants.{Add}
-use Rattle.c_tree.specs.declared.typed.StepOp.{StepOp}
-use Rattle.c_tree.specs.declared.typed.Head.{Head}
 use Rattle.c_tree.specs.declared.typed.Typed.{Typed, Row_of-Typed, end_of-Typed, more_of-Typed}
 use Rattle.c_tree.specs.declared.typed.Typed.TheVariants.{Comma', Assign', Choice', Or', And', Binary', Cast', Before', Address', Follow', Unary', SizeOf', SizeOfType, Index', Call', Dot', Arrow', After', Name, Constant, Literal, Parens'}
 use Rattle.c_tree.specs.declared.typed.Pointed.{Pointed}
@@ -19,7 +17,6 @@ use Rattle.c_tree.specs.declared.rows.SymbolRow.{SymbolRow}
 use Rattle.c_tree.specs.declared.rows.Referent.{Referent}
 use Rattle.c_tree.specs.declared.rows.Referent.TheVariants.{Object, Local, Function as Defined, Declared}
 use Rattle.c_tree.specs.Types.{type_of, is_struct}
-use Rattle.c_tree.specs.Rows.{exprs, stmts}
 use Rattle.c_source.specs.Blocks.{local_type, result_type}
 use Rattle.c_typing.specs.Rules.{stepping}
 use Rattle.c_typing.specs.Declared.{has}

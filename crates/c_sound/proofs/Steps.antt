@@ -1,10 +1,10 @@
 -- Each step from a good state leads to a good state, or has one of C's reasons.
-use Rattle.std.proofs.Common.{◌≡◌, refl, sym, ◌∙◌, subst, ap, ℕ, suc, zero, ◌+◌, ◌*◌, ◌%◌, List, [], ◌∷◌, ◌++◌, Bool, true, false, Option, Some, None, length, take, drop, reverse, map, true≢false, le_of_eq, take_all}
-use Rattle.std.specs.Prelude.{Result, Ok, Err, slice_get, if◌then◌else◌, pos, option_map, bytes_eq, codes, ◌==◌}
+use Rattle.std.proofs.Common.{◌≡◌, refl, sym, ◌∙◌, subst, ap, ℕ, suc, ◌+◌, ◌*◌, ◌%◌, List, [], ◌∷◌, ◌++◌, Bool, true, false, Option, Some, None, length, take, drop, reverse, true≢false, le_of_eq, take_all}
+use Rattle.std.specs.Prelude.{slice_get, if◌then◌else◌, pos, option_map, bytes_eq, codes, ◌==◌}
 use Rattle.ldb_words.specs.Word.{signed}
-use Rattle.runs.specs.Runs.{Next, Goes, Passes, Exits, Undefined, Stuck}
+use Rattle.runs.specs.Runs.{Next, Goes, Exits}
 use Rattle.c_tree.specs.declared.types.CType.{CType}
-use Rattle.c_tree.specs.declared.types.CType.TheVariants.{Int, Array'}
+use Rattle.c_tree.specs.declared.types.CType.TheVariants.{Array'}
 use Rattle.c_tree.specs.declared.typed.BinaryOp.{BinaryOp}
 use Rattle.c_tree.specs.declared.typed.BinaryOp.TheVariants.{Add}
 use Rattle.c_tree.specs.declared.typed.Typed.{Typed}
@@ -17,26 +17,24 @@ use Rattle.c_tree.specs.declared.rows.Function.{Function}
 use Rattle.c_tree.specs.declared.rows.SymbolRow.{SymbolRow}
 use Rattle.c_tree.specs.declared.rows.Referent.{Referent}
 use Rattle.c_tree.specs.declared.rows.Referent.TheVariants.{Object, Local, Function as Defined, Declared}
-use Rattle.c_tree.specs.Types.{type_of, kind_of, is_struct, is_array}
+use Rattle.c_tree.specs.Types.{type_of, kind_of, is_array}
 use Rattle.c_tree.specs.Rows.{exprs, stmts}
 use Rattle.c_store.specs.Store.{Value, Number, At, World, used, load, store, load_struct, store_struct, moved}
-use Rattle.c_store.specs.Frames.{Here, Binding, with_world, with_point, left, bound, new_place}
+use Rattle.c_store.specs.Frames.{Here, with_world, left, bound, new_place}
 use Rattle.c_store.specs.Bits.{minus_one}
-use Rattle.c_source.specs.Blocks.{cells_of, converted, local_type, result_type, opened, declared_in, statements_in, entered}
-use Rattle.c_source.specs.Operators.{bits_in, is_zero, combined, changed}
-use Rattle.c_source.specs.Control.{Item, Eval, Locate, Push, Bound, Load, Convert, Store, Copy, Update, Change, Combine, Offset, Use, Discard, Truth, AndThen, OrElse, Pick, Joined, Enter, Run, Stop, Choose, Open, Close, Turn, Again, Select, Seek, Switched, GiveBack, Leave, Label, Round, State, Activation, outermost_of, runs_of, evals_of, inits_of, part_of, labels_in, default_in, broken, continued, last_of, body_of}
-use Rattle.c_source.specs.Source.{on_ok, on_one, on_some, step, go, evaluate, locate, read, write, copy, update, on_test, built_in, call, end_with, execute, seek, act, on_control, no_value, place_in, dot_offset, arrow_offset}
-use Rattle.c_typing.specs.Rules.{stepping}
+use Rattle.c_source.specs.Blocks.{cells_of, converted, result_type, statements_in, entered}
+use Rattle.c_source.specs.Operators.{bits_in, combined, changed}
+use Rattle.c_source.specs.Control.{Item, Eval, Locate, Push, Bound, Load, Convert, Store, Copy, Update, Change, Combine, Offset, Use, Discard, Truth, AndThen, OrElse, Pick, Joined, Enter, Run, Stop, Choose, Open, Close, Turn, Again, Select, Seek, Switched, GiveBack, Leave, Label, Round, State, Activation, outermost_of, runs_of, inits_of, broken, continued, last_of, body_of}
+use Rattle.c_source.specs.Source.{on_ok, on_one, on_some, step, go, evaluate, locate, read, write, copy, update, built_in, call, end_with, execute, seek, act, on_control, no_value, place_in}
 use Rattle.c_typing.specs.Accepted.{numbers}
-use Rattle.c_typing.specs.Declared.{has}
-use Rattle.c_sound.specs.Shapes.{is_place, is_address, Fits}
-use Rattle.c_sound.proofs.World.{Gives, used_gives, load_gives, store_gives, moved_gives, load_struct_gives, store_struct_gives, FitEach, WorldFits, left_fits}
-use Rattle.c_sound.proofs.Operators.{addr, conv, conv_own, converted_shape, takes, gives, takes_one, combined_gives, changed_gives, bits_give}
-use Rattle.c_sound.proofs.Shaped.{shape, Updates, is_getchar, row_shapes, Given, Named, NamedBy, ShapedE, ShapedL, ShapedPart, ShapedInits, ShapedRows, ShapedReturn, ShapedS, EachShaped, ShapedLoop, local_numbers}
-use Rattle.c_sound.proofs.Ready.{IsClear, locals_of, EntersFunction, EntersBuiltIn, EntersBy, Enters, EachLabel, Ready, Breaks, Continues, HasFunction, Outside, Good}
-use Rattle.c_sound.proofs.Lists.{locals_length, bound_here, take_map, drop_map, reverse_map, map_length, onto, take_seam}
+use Rattle.c_sound.specs.Shapes.{is_place, Fits}
+use Rattle.c_sound.proofs.World.{used_gives, load_gives, store_gives, moved_gives, load_struct_gives, store_struct_gives, FitEach, WorldFits, left_fits}
+use Rattle.c_sound.proofs.Operators.{addr, conv, conv_own, converted_shape, takes, gives, combined_gives, changed_gives, bits_give}
+use Rattle.c_sound.proofs.Shaped.{shape, Updates, is_getchar, row_shapes, Given, Named, NamedBy, ShapedE, ShapedL, ShapedInits, ShapedRows, ShapedReturn, ShapedS, EachShaped, local_numbers}
+use Rattle.c_sound.proofs.Ready.{locals_of, EntersFunction, EntersBuiltIn, EntersBy, Enters, EachLabel, Ready, Breaks, Continues, HasFunction, Outside, Good}
+use Rattle.c_sound.proofs.Lists.{locals_length, bound_here, take_map, drop_map, reverse_map, map_length, take_seam}
 use Rattle.c_sound.proofs.Continues.{fit, assign_ready, args_ready, row_length, enters, runs_ready, rows_shaped, body_shaped, breaks_more, continues_more, Lands, breaks_land, continues_land, inits_ready, part_ready, else_shaped, turns_ready, goes_on_ready, for_begins, while_begins, do_begins, labels_shaped, default_shaped}
-use Rattle.c_sound.proofs.Fine.{shapes, Fine, ok_fine, some_fine, either_fine, there, left_good, opened_good, given_good, test_fine}
+use Rattle.c_sound.proofs.Fine.{shapes, Fine, ok_fine, some_fine, there, left_good, opened_good, given_good, test_fine}
 
 module _ (p : Program) where
   -- a function whose body can be done from its first point on

@@ -1,5 +1,5 @@
 -- Well-typed expressions have the shapes that the steps need.
-use Rattle.std.proofs.Common.{◌≡◌, refl, sym, ◌∙◌, subst, ap, arith, ℕ, suc, zero, ◌≤◌, List, [], ◌∷◌, Bool, true, false, not, ◌&&◌, ◌||◌, Option, Some, None, ◌+◌, length-take-le, true≢false, ◌⊎◌, inl, inr, length, map, take}
+use Rattle.std.proofs.Common.{◌≡◌, refl, sym, ◌∙◌, subst, ap, arith, ℕ, suc, zero, ◌≤◌, List, [], ◌∷◌, Bool, true, false, not, ◌&&◌, ◌||◌, Option, Some, None, ◌+◌, length-take-le, true≢false, length, map, take}
 use Rattle.std.specs.Prelude.{slice_get, if◌then◌else◌, option_and_then, option_map, bytes_eq, codes}
 use Rattle.std.proofs.lemmas.Option.{slice_get-map}
 use Rattle.std.proofs.lemmas.List.{length-map}
@@ -17,15 +17,15 @@ use Rattle.c_tree.specs.declared.rows.SymbolRow.{SymbolRow}
 use Rattle.c_tree.specs.declared.rows.Referent.{Referent}
 use Rattle.c_tree.specs.declared.rows.Referent.TheVariants.{Object, Local, Function as Defined, Declared}
 use Rattle.c_tree.specs.Types.{type_of, is_struct}
-use Rattle.c_source.specs.Blocks.{local_type, result_type}
+use Rattle.c_source.specs.Blocks.{local_type}
 use Rattle.c_typing.specs.Plain.{Plain, Char, Int, Unsigned, Void, Pointer, Array, Struct, plain, same, value_type, is_integer, is_scalar, is_complete}
-use Rattle.c_typing.specs.Rules.{Operand, value_of, only, may_drop, converts, is_copied, compound_type, arrow_type, takes as takes_arguments, binary_type, stepping}
-use Rattle.c_typing.specs.Expressions.{Denoted, Object as AnObject, Function as AFunction, Hidden, Scope, object_type, result_type as called_type, is_lvalue, is_string, is_register, is_constant_type, operand, value, operands, IsTyped, AreTyped}
-use Rattle.c_typing.specs.Declared.{has, parameters, local_type as type_of_a_local, built_in, function_in, local_in, locals_in, denoted_by, denoted, scope_at}
+use Rattle.c_typing.specs.Rules.{Operand, may_drop, converts, is_copied, compound_type, arrow_type, takes as takes_arguments, binary_type, stepping}
+use Rattle.c_typing.specs.Expressions.{Object as AnObject, Function as AFunction, Hidden, Scope, object_type, result_type as called_type, is_lvalue, is_string, is_register, is_constant_type, operand, value, operands, IsTyped, AreTyped}
+use Rattle.c_typing.specs.Declared.{has, parameters, local_type as type_of_a_local, function_in, local_in, locals_in, denoted_by, denoted, scope_at}
 use Rattle.c_sound.proofs.Operators.{addr, conv, takes, gives, takes_one}
-use Rattle.c_sound.proofs.Shaped.{shape, ByCase, Updates, row_shapes, is_getchar, is_one_leaf, IsParameter, Given, CalledFunction, OneNumber, CalledBuiltIn, CalledBy, Called, NamedBy, Named, ShapedE, ShapedL, ShapedRow}
+use Rattle.c_sound.proofs.Shaped.{shape, ByCase, Updates, row_shapes, is_one_leaf, Given, CalledFunction, OneNumber, CalledBuiltIn, CalledBy, Called, NamedBy, Named, ShapedE, ShapedL, ShapedRow}
 use Rattle.c_sound.proofs.Begins.{and_parts}
-use Rattle.c_sound.proofs.Rules.{no_none, some_same, only_some, then_some, ashape, addr_plain, value_shape, integer_shape, pconv, conv_plain, pconv_number, takes_shape, gives_shape, takes_by_shape, gives_by_shape, Operates, binary_operates, index_operates, followed_address, unary_takes, converts_shape, converts_scalar, converts_integer, compound_updates, choice_shapes, assigned_case}
+use Rattle.c_sound.proofs.Rules.{no_none, some_same, only_some, ashape, addr_plain, value_shape, integer_shape, pconv, conv_plain, pconv_number, takes_shape, gives_shape, takes_by_shape, gives_by_shape, Operates, binary_operates, index_operates, followed_address, unary_takes, converts_shape, converts_scalar, converts_integer, compound_updates, choice_shapes, assigned_case}
 
 -- ---- from plain types back
 

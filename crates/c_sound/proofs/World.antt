@@ -1,14 +1,14 @@
 -- A world whose leaves hold values that fit them, and what accesses make of it.
-use Rattle.std.proofs.Common.{◌≡◌, refl, sym, ◌∙◌, subst, ap, ℕ, zero, suc, ◌+◌, List, [], ◌∷◌, ◌++◌, Bool, true, false, not, ◌&&◌, Option, Some, None, true≢false, length, take, drop}
-use Rattle.std.specs.Prelude.{Result, Ok, Err, slice_get, slice_set, if◌then◌else◌, ◌==◌, map, pos, ℤ, negsuc, nat_le, ◌+ℤ◌}
+use Rattle.std.proofs.Common.{◌≡◌, refl, sym, subst, ℕ, zero, suc, ◌+◌, List, [], ◌∷◌, ◌++◌, Bool, true, false, ◌&&◌, Option, Some, None, true≢false, drop}
+use Rattle.std.specs.Prelude.{Result, Ok, Err, slice_get, slice_set, if◌then◌else◌, ◌==◌, pos, ℤ, negsuc, nat_le, ◌+ℤ◌}
 use Rattle.std.specs.List.{AllByRecursion}
 use Rattle.ldb_words.specs.declared.kinds.Kind.{Kind}
 use Rattle.ldb_words.specs.declared.kinds.Kind.TheVariants.{Byte, Word, Address}
 use Rattle.ldb_words.specs.declared.kinds.Undef.TheVariants.{Pointer}
 use Rattle.runs.specs.Runs.{Why, Reason, Stale, IllTyped}
-use Rattle.c_store.specs.Store.{Value, Number, Null, At, Cell, Object, World, zero_of, is_here, same_kind, cell_at, with_cell, live_cells, leaf_at, is_stale, used, load, store, moved, load_all, store_all, load_struct, store_struct, ◌>>=◌}
-use Rattle.c_store.specs.Frames.{Binding, Place, Here, made, left}
-use Rattle.c_sound.specs.Shapes.{is_place, is_address, Fits}
+use Rattle.c_store.specs.Store.{Value, Number, Null, At, Cell, Object, World, same_kind, cell_at, with_cell, live_cells, leaf_at, is_stale, used, load, store, moved, load_all, store_all, load_struct, store_struct, ◌>>=◌}
+use Rattle.c_store.specs.Frames.{Binding, Here, made, left}
+use Rattle.c_sound.specs.Shapes.{is_place, Fits}
 
 -- ---- a result has a property, or there is a reason of C's for none
 

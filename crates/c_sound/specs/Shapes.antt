@@ -1,5 +1,5 @@
 -- Values of the shape that their type has: a number, or an address. And runs that keep to it.
-use Rattle.std.specs.Prelude.{◌≡◌, ℕ, Bool, true, false, List, Option, Some, Result, Ok, Err}
+use Rattle.std.specs.Prelude.{◌≡◌, ℕ, Bool, true, false, List, Some, Result, Ok, Err}
 use Rattle.std.specs.List.{AllByRecursion}
 use Rattle.ldb_words.specs.declared.kinds.Kind.{Kind}
 use Rattle.ldb_words.specs.declared.kinds.Kind.TheVariants.{Byte, Word, Address}

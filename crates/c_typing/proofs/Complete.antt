@@ -1,5 +1,5 @@
 -- The rules' completeness is C's.
-use Rattle.std.proofs.Common.{◌≡◌, refl, sym, ◌∙◌, subst, ap, arith, ℕ, zero, suc, ◌≤◌, ◌<◌, List, [], ◌∷◌, Bool, true, false, not, ◌&&◌, length, true≢false, leb→le, le→leb}
+use Rattle.std.proofs.Common.{◌≡◌, refl, sym, arith, ℕ, ◌≤◌, List, [], ◌∷◌, Bool, true, false, not, ◌&&◌, length, true≢false}
 use Rattle.std.specs.Prelude.{nat_le}
 use Rattle.c_tree.specs.declared.types.CType.{CType}
 use Rattle.c_tree.specs.declared.types.CType.TheVariants.{Char, Int, Unsigned, Void, Pointer', Array', Struct}

@@ -1,19 +1,19 @@
 -- Expressions and statements that break a rule aren't well typed.
-use Rattle.std.proofs.Common.{◌≡◌, refl, sym, subst, ap, ℕ, List, [], ◌∷◌, Option, Some, None, Bool, false, true, true≢false, lit<, lit≤}
+use Rattle.std.proofs.Common.{◌≡◌, refl, sym, subst, ℕ, [], ◌∷◌, Option, Some, None, Bool, false, true, true≢false, lit<, lit≤}
 use Rattle.std.specs.Prelude.{Box, codes}
 use Rattle.std.specs.declared.alloc.Global.{Global}
 use Rattle.c_tree.specs.declared.types.CType.{CType}
-use Rattle.c_tree.specs.declared.types.CType.TheVariants.{Char, Int, Unsigned, Void, Pointer', Array', Struct}
+use Rattle.c_tree.specs.declared.types.CType.TheVariants.{Char, Int, Unsigned, Pointer', Array'}
 use Rattle.c_tree.specs.declared.typed.BinaryOp.TheVariants.{ShiftLeft, Add, Subtract, Multiply, Divide}
 use Rattle.c_tree.specs.declared.typed.Typed.{Typed, end_of-Typed, more_of-Typed}
-use Rattle.c_tree.specs.declared.typed.Typed.TheVariants.{Comma', Assign', Or', Binary', Cast', Address', Follow', Unary', SizeOf', Index', Call', Dot', Name, Constant, Literal, Parens'}
+use Rattle.c_tree.specs.declared.typed.Typed.TheVariants.{Assign', Or', Binary', Cast', Address', Follow', SizeOf', Call', Name, Constant, Literal, Parens'}
 use Rattle.c_tree.specs.declared.typed.Stmt.{Stmt, end_of-Stmt, more_of-Stmt}
-use Rattle.c_tree.specs.declared.typed.Stmt.TheVariants.{Value, Block', While', Switch', Case', Break, Continue, Return}
+use Rattle.c_tree.specs.declared.typed.Stmt.TheVariants.{Value, Block', Switch', Case', Break, Continue, Return}
 use Rattle.c_tree.specs.declared.rows.Program.{Program}
 use Rattle.c_typing.specs.Plain as plain
 use Rattle.c_typing.specs.Constants.{constant_of, is_null}
 use Rattle.c_typing.specs.Rules.{binary_type}
-use Rattle.c_typing.specs.Expressions.{Scope, Denoted, Object, Function, Hidden, operand, IsTyped}
+use Rattle.c_typing.specs.Expressions.{Scope, Object, Function, operand, IsTyped}
 use Rattle.c_typing.specs.Statements.{in_function, in_loop, IsStatement}
 use Rattle.c_typing.proofs.Trees.{somewhere, of_type, at, shape_of}
 

@@ -1,17 +1,14 @@
 -- `int deep(int d) { register int k; k = d; if (d < 12) deep(d + 1); putchar(64 + k); return k; } int main(void) { return deep(1); }`
-use Rattle.std.proofs.Common.{◌≡◌, refl, [], ◌∷◌, Some, None, false, true, lit<, lit≤}
+use Rattle.std.proofs.Common.{refl, [], ◌∷◌, Some, None, false, true, lit<, lit≤}
 use Rattle.std.specs.Prelude.{Box, codes}
 use Rattle.std.specs.declared.alloc.Global.{Global}
-use Rattle.c_tree.specs.declared.types.CType.TheVariants.{Char, Int, Unsigned, Void, Pointer', Array', Struct}
-use Rattle.c_tree.specs.declared.typed.BinaryOp.TheVariants.{BitOr, BitXor, BitAnd, Equal, Unequal, Less, Greater, LessEqual, GreaterEqual, ShiftLeft, ShiftRight, Add, Subtract, Multiply, Divide, Remainder}
-use Rattle.c_tree.specs.declared.typed.StepOp.TheVariants.{Up, Down}
-use Rattle.c_tree.specs.declared.typed.UnaryOp.TheVariants.{Plus, Minus, Complement, Not}
+use Rattle.c_tree.specs.declared.types.CType.TheVariants.{Int, Void}
+use Rattle.c_tree.specs.declared.typed.BinaryOp.TheVariants.{Less, Add}
 use Rattle.c_tree.specs.declared.typed.Typed.{end_of-Typed, more_of-Typed}
-use Rattle.c_tree.specs.declared.typed.Typed.TheVariants.{Comma', Assign', Choice', Or', And', Binary', Cast', Before', Address', Follow', Unary', SizeOf', SizeOfType, Index', Call', Dot', Arrow', After', Name, Constant, Literal, Parens'}
-use Rattle.c_tree.specs.declared.typed.Stmt.{end_of-Stmt, more_of-Stmt, None', Some'}
-use Rattle.c_tree.specs.declared.typed.Stmt.TheVariants.{Value, Block', If', While', Do', For', Switch', Case', Default', Break, Continue, Return}
+use Rattle.c_tree.specs.declared.typed.Typed.TheVariants.{Assign', Binary', Call', Name, Constant}
+use Rattle.c_tree.specs.declared.typed.Stmt.{end_of-Stmt, more_of-Stmt, None'}
+use Rattle.c_tree.specs.declared.typed.Stmt.TheVariants.{Value, Block', If', Return}
 use Rattle.c_tree.specs.declared.rows.Program.{Program}
-use Rattle.c_tree.specs.declared.rows.Start.TheVariants as starts
 use Rattle.c_tree.specs.declared.rows.Referent.TheVariants as refers
 use Rattle.c_typing.specs.Accepted.{IsAccepted}
 use Rattle.c_typing.proofs.Trees.{somewhere, of_type, at, shape_of}

@@ -1,5 +1,5 @@
 -- Trees written out, over any box.
-use Rattle.std.proofs.Common.{refl, ℕ, ◌<◌, ◌^◌, le_refl, List, length, replicate}
+use Rattle.std.proofs.Common.{refl, ℕ, ◌<◌, ◌^◌, le_refl, length, replicate}
 use Rattle.std.proofs.lemmas.List.{length-replicate}
 use Rattle.std.specs.Prelude.{Box, Vec}
 use Rattle.std.specs.declared.alloc.Global.{Global}

@@ -1,15 +1,14 @@
 -- `int count(int c); static int seen; int main(void) { int c; while ((c = getchar()) != -1) { seen = seen + 1; count(c); } return count(-1); } static int`
-use Rattle.std.proofs.Common.{◌≡◌, refl, [], ◌∷◌, Some, None, false, true, lit<, lit≤}
+use Rattle.std.proofs.Common.{refl, [], ◌∷◌, Some, None, false, true, lit<, lit≤}
 use Rattle.std.specs.Prelude.{Box, codes}
 use Rattle.std.specs.declared.alloc.Global.{Global}
-use Rattle.c_tree.specs.declared.types.CType.TheVariants.{Char, Int, Unsigned, Void, Pointer', Array', Struct}
-use Rattle.c_tree.specs.declared.typed.BinaryOp.TheVariants.{BitOr, BitXor, BitAnd, Equal, Unequal, Less, Greater, LessEqual, GreaterEqual, ShiftLeft, ShiftRight, Add, Subtract, Multiply, Divide, Remainder}
-use Rattle.c_tree.specs.declared.typed.StepOp.TheVariants.{Up, Down}
-use Rattle.c_tree.specs.declared.typed.UnaryOp.TheVariants.{Plus, Minus, Complement, Not}
+use Rattle.c_tree.specs.declared.types.CType.TheVariants.{Int, Void}
+use Rattle.c_tree.specs.declared.typed.BinaryOp.TheVariants.{Equal, Unequal, Add}
+use Rattle.c_tree.specs.declared.typed.UnaryOp.TheVariants.{Minus}
 use Rattle.c_tree.specs.declared.typed.Typed.{end_of-Typed, more_of-Typed}
-use Rattle.c_tree.specs.declared.typed.Typed.TheVariants.{Comma', Assign', Choice', Or', And', Binary', Cast', Before', Address', Follow', Unary', SizeOf', SizeOfType, Index', Call', Dot', Arrow', After', Name, Constant, Literal, Parens'}
-use Rattle.c_tree.specs.declared.typed.Stmt.{end_of-Stmt, more_of-Stmt, None', Some'}
-use Rattle.c_tree.specs.declared.typed.Stmt.TheVariants.{Value, Block', If', While', Do', For', Switch', Case', Default', Break, Continue, Return}
+use Rattle.c_tree.specs.declared.typed.Typed.TheVariants.{Assign', Binary', Unary', Call', Name, Constant, Parens'}
+use Rattle.c_tree.specs.declared.typed.Stmt.{end_of-Stmt, more_of-Stmt, None'}
+use Rattle.c_tree.specs.declared.typed.Stmt.TheVariants.{Value, Block', If', While', Return}
 use Rattle.c_tree.specs.declared.rows.Program.{Program}
 use Rattle.c_tree.specs.declared.rows.Start.TheVariants as starts
 use Rattle.c_tree.specs.declared.rows.Referent.TheVariants as refers

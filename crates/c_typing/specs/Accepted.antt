@@ -1,7 +1,6 @@
 -- Which checked programs are accepted: every rule holds, and every number names something.
-use Rattle.std.specs.Prelude.{◌≡◌, ℕ, suc, zero, ◌+◌, ◌-◌, ◌≤◌, ◌<◌, Bool, true, false, not, ◌&&◌, ◌||◌, List, [], ◌∷◌, ◌++◌, length, map, Option, Some, None, slice_get, reverse, bytes_eq, codes, ◌==◌, if◌then◌else◌}
+use Rattle.std.specs.Prelude.{◌≡◌, ℕ, suc, zero, ◌≤◌, ◌<◌, Bool, true, false, not, ◌&&◌, ◌||◌, List, [], ◌∷◌, ◌++◌, length, Option, Some, None, slice_get, reverse, bytes_eq, codes, ◌==◌}
 use Rattle.std.specs.List.{AllByRecursion}
-use Rattle.c_tree.specs.declared.types.CType.{CType}
 use Rattle.c_tree.specs.declared.types.StructDef.{StructDef}
 use Rattle.c_tree.specs.declared.typed.Stmt.{Stmt}
 use Rattle.c_tree.specs.declared.typed.Stmt.TheVariants.{Block'}
@@ -18,7 +17,7 @@ use Rattle.c_tree.specs.Points.{HasItsPoints}
 use Rattle.c_source.specs.Blocks.{declared_in}
 use Rattle.c_source.specs.Control.{first_of, last_of}
 use Rattle.c_typing.specs.Plain.{Plain, Int, Array, plain, same, is_scalar}
-use Rattle.c_typing.specs.Expressions.{Denoted, Function as AFunction, Hidden}
+use Rattle.c_typing.specs.Expressions.{Denoted, Function as AFunction}
 use Rattle.c_typing.specs.Written.{IsWritten, IsDeclared}
 use Rattle.c_typing.specs.Declared.{has, IsStruct, built_in, is_result, parameters}
 use Rattle.c_typing.specs.Statements.{in_function, local_numbers, locals_at, IsStatement, locals_of}

@@ -1,7 +1,6 @@
 -- Declared types, structs, names and locals (C90 6.5, 6.7).
-use Rattle.std.specs.Prelude.{◌≡◌, ℕ, suc, ◌≤◌, ◌<◌, Bool, true, false, not, ◌&&◌, ◌||◌, List, [], ◌∷◌, length, map, take, Option, Some, None, option_map, slice_get, bytes_eq, codes, ◌==◌, if◌then◌else◌}
+use Rattle.std.specs.Prelude.{◌≡◌, ℕ, Bool, true, false, ◌||◌, List, [], ◌∷◌, map, take, Option, Some, None, slice_get, bytes_eq, codes, ◌==◌, if◌then◌else◌}
 use Rattle.std.specs.List.{AllByRecursion}
-use Rattle.c_tree.specs.declared.types.CType.{CType}
 use Rattle.c_tree.specs.declared.types.StructDef.{StructDef}
 use Rattle.c_tree.specs.declared.types.Member.{Member}
 use Rattle.c_tree.specs.declared.rows.Program.{Program}
@@ -13,7 +12,7 @@ use Rattle.c_tree.specs.declared.rows.Referent.TheVariants as refers
 use Rattle.c_tree.specs.declared.types.CType.TheVariants.{Struct}
 use Rattle.c_tree.specs.Layout.{IsLaidOut}
 use Rattle.c_typing.specs.Written.{IsWritten, IsDeclared}
-use Rattle.c_typing.specs.Plain.{Plain, Int, Void, Array, plain, same, is_scalar, is_void, is_complete}
+use Rattle.c_typing.specs.Plain.{Plain, Int, Void, plain, same, is_scalar, is_void}
 use Rattle.c_typing.specs.Expressions.{Denoted, Object, Function as AFunction, Hidden, Scope}
 
 -- a number is on a list

@@ -7,7 +7,7 @@ use Rattle.c_tree.specs.Types.{type_of}
 use Rattle.c_typing.specs.Plain.{Plain, Char, Int, Unsigned, Array, plain}
 use Rattle.c_typing.specs.Written.{IsWritten}
 use Rattle.c_typing.specs.Constants.{is_null}
-use Rattle.c_typing.specs.Rules.{Operand, value_of, may_drop, unary_type, followed, address_type, dot_type, arrow_type, index_type, binary_type, assignment_type, takes, compound_type, step_type, logical_type, choice_type, comma_type, cast_type, size_type}
+use Rattle.c_typing.specs.Rules.{Operand, value_of, unary_type, followed, address_type, dot_type, arrow_type, index_type, binary_type, assignment_type, takes, compound_type, step_type, logical_type, choice_type, comma_type, cast_type, size_type}
 
 -- what a name denotes: an object of a type, a function, or nothing here, since it is a local of another block
 pub data Denoted : Type 0 where

@@ -2,13 +2,13 @@
 use Rattle.std.specs.Prelude.{ℕ, Bool, true, false, not, ◌&&◌, ◌||◌, if◌then◌else◌, List, [], ◌∷◌, Option, Some, None, option_map, option_and_then, slice_get}
 use Rattle.c_tree.specs.declared.types.StructDef.{StructDef}
 use Rattle.c_tree.specs.declared.typed.BinaryOp.{BinaryOp}
-use Rattle.c_tree.specs.declared.typed.BinaryOp.TheVariants.{BitOr, BitXor, BitAnd, Equal, Unequal, Less, Greater, LessEqual, GreaterEqual, ShiftLeft, ShiftRight, Add, Subtract, Multiply, Divide, Remainder}
+use Rattle.c_tree.specs.declared.typed.BinaryOp.TheVariants.{Equal, Unequal, Less, Greater, LessEqual, GreaterEqual, ShiftLeft, ShiftRight, Add, Subtract}
 use Rattle.c_tree.specs.declared.typed.UnaryOp.{UnaryOp}
-use Rattle.c_tree.specs.declared.typed.UnaryOp.TheVariants.{Plus, Minus, Complement, Not}
+use Rattle.c_tree.specs.declared.typed.UnaryOp.TheVariants.{Not}
 use Rattle.c_tree.specs.declared.typed.StepOp.{StepOp}
 use Rattle.c_tree.specs.declared.typed.StepOp.TheVariants.{Up, Down}
 use Rattle.c_tree.specs.Layout.{members_of}
-use Rattle.c_typing.specs.Plain.{Plain, Char, Int, Unsigned, Void, Pointer, Array, Struct, plain, same, is_integer, is_pointer, is_scalar, is_array, is_struct, is_void, is_complete, value_type, promoted, common}
+use Rattle.c_typing.specs.Plain.{Plain, Int, Unsigned, Pointer, Struct, plain, same, is_integer, is_pointer, is_scalar, is_struct, is_void, is_complete, value_type, promoted, common}
 
 -- What a rule asks of an operand: its type, whether it is an lvalue, a `register` variable, a string, and a null constant.
 pub record Operand : Type 0 where

@@ -1,5 +1,5 @@
 -- Types as they may be written, and types of objects (C90 6.1.2.5, 6.5.4).
-use Rattle.std.specs.Prelude.{◌≡◌, ℕ, ◌≤◌, ◌<◌, true, false, List, length}
+use Rattle.std.specs.Prelude.{◌≡◌, ◌≤◌, ◌<◌, true, false, List, length}
 use Rattle.c_tree.specs.declared.types.CType.{CType}
 use Rattle.c_tree.specs.declared.types.CType.TheVariants.{Char, Int, Unsigned, Void, Pointer', Array', Struct}
 use Rattle.c_tree.specs.declared.types.StructDef.{StructDef}
