@@ -40,7 +40,7 @@ each_from P n [] i x h e = no_none x e
 each_from P n (y ∷ ys) zero x h e = let z : n ≡ 0 + n = omega arith in subst (λ m. P m x) z (subst (P n) (some_same y x e) h.0)
 each_from P n (y ∷ ys) (suc i) x h e = let z : i + suc n ≡ suc i + n = omega arith in subst (λ m. P m x) z (each_from P (suc n) ys i x h.1 e)
 
-numbers_length : (from n : ℕ) → length (numbers from n) ≡ n
+pub numbers_length : (from n : ℕ) → length (numbers from n) ≡ n
 numbers_length from zero = refl
 numbers_length from (suc n) = ap suc (numbers_length (suc from) n)
 
@@ -49,7 +49,7 @@ result_in None = ctype.Void
 result_in (Some f) = f.result
 
 module _ (p : Program) (accepted : IsAccepted p) where
-  function_there : (g : ℕ) (fn : Function) → slice_get p.functions g ≡ Some fn → IsFunction p g fn
+  pub function_there : (g : ℕ) (fn : Function) → slice_get p.functions g ≡ Some fn → IsFunction p g fn
   function_there g fn e = let z : g + 0 ≡ g = omega arith in subst (λ n. IsFunction p n fn) z (each_from (IsFunction p) 0 p.functions g fn accepted.functions e)
 
   parameters_there : (g : ℕ) (fn : Function) → slice_get p.functions g ≡ Some fn → HasParameters fn

@@ -91,7 +91,7 @@ world_fits p input h = each_append ObjectFits (static_objects p 0 p.objects) (st
 
 -- ---- `main`
 
-abbrev main_from : ℕ → List Function → ℕ
+abbrev pub main_from : ℕ → List Function → ℕ
 main_from n [] = n
 main_from n (f ∷ fs) = if is_main f then n else main_from (suc n) fs
 
@@ -125,7 +125,7 @@ and_parts false b h = absurd (true≢false (sym h))
 no_params : (n : ℕ) → (n == 0) ≡ true → n ≡ 0
 no_params n h = grind arith
 
-abbrev control_in : Program → ℕ → Option Function → List Item
+abbrev pub control_in : Program → ℕ → Option Function → List Item
 control_in p n None = []
 control_in p n (Some f) = body_of p n f
 
@@ -145,9 +145,10 @@ not_or : (a b : Bool) → a ≡ true → not a || b ≡ true → b ≡ true
 not_or true b e h = h
 not_or false b e h = absurd (true≢false (sym e))
 
-pub begins_good : (p : Program) (input : List ℕ) → ((g : ℕ) → ShapedFunction p g (slice_get p.functions g)) → AllByRecursion (IsObject p) p.objects → has_main p.functions ≡ true
-    → ((g : ℕ) (fn : Function) → slice_get p.functions g ≡ Some fn → IsIntVoid fn) → Good p (begin p input)
-begins_good p input bodies objects main as_main =
+-- the function that begins
+pub main_of : (p : Program) → has_main p.functions ≡ true → ((g : ℕ) (fn : Function) → slice_get p.functions g ≡ Some fn → IsIntVoid fn)
+    → (fn : Function) × (slice_get p.functions (main_from 0 p.functions) ≡ Some fn) × (fn.params ≡ 0) × (addr fn.result ≡ false)
+main_of p main as_main =
     let m = main_there p.functions 0 main in
     let n = main_from 0 p.functions in
     let e : n ≡ m.0 = omega (arith, m.2) in
@@ -155,9 +156,16 @@ begins_good p input bodies objects main as_main =
     let at : slice_get p.functions n ≡ Some fn = ap (slice_get p.functions) e ∙ m.3 in
     let called = (and_parts (not fn.is_static) (is_called_main fn) m.4).1 in
     let q = and_parts (same (plain fn.result) an_int) (fn.params == 0) (not_or (is_called_main fn) (same (plain fn.result) an_int && (fn.params == 0)) called (as_main n fn at)) in
+    (fn, at, no_params fn.params q.1, int_shape fn.result q.0)
+
+pub begins_good : (p : Program) (input : List ℕ) → ((g : ℕ) → ShapedFunction p g (slice_get p.functions g)) → AllByRecursion (IsObject p) p.objects → has_main p.functions ≡ true
+    → ((g : ℕ) (fn : Function) → slice_get p.functions g ≡ Some fn → IsIntVoid fn) → Good p (begin p input)
+begins_good p input bodies objects main as_main =
+    let n = main_from 0 p.functions in
+    let m = main_of p main as_main in
     record {
       world = world_fits p input objects;
-      inner = subst (HasFunction p) (sym at) tt;
-      control = control_ready p n (slice_get p.functions n) fn at (no_params fn.params q.1) (bodies n);
-      outer = ap (λ o. addr (result_in o)) at ∙ int_shape fn.result q.0;
+      inner = subst (HasFunction p) (sym m.1) tt;
+      control = control_ready p n (slice_get p.functions n) m.0 m.1 m.2 (bodies n);
+      outer = ap (λ o. addr (result_in o)) m.1 ∙ m.3;
     }

@@ -30,15 +30,15 @@ use Rattle.c_sound.proofs.Typed.{HasParameters, conv_there, sh, evaluated}
 
 -- ---- lists of locals
 
-same_numbers : (ds : List DeclaredLocal) → numbers_of ds ≡ local_numbers ds
+pub same_numbers : (ds : List DeclaredLocal) → numbers_of ds ≡ local_numbers ds
 same_numbers [] = refl
 same_numbers (d ∷ ds) = ap (λ xs. d.local ∷ xs) (same_numbers ds)
 
-has_by : (t : Bool) (a : Bool) → t ≡ true → (if t then true else a) ≡ true
+pub has_by : (t : Bool) (a : Bool) → t ≡ true → (if t then true else a) ≡ true
 has_by true a h = refl
 has_by false a h = absurd (true≢false (sym h))
 
-has_or : (t a : Bool) → a ≡ true → (if t then true else a) ≡ true
+pub has_or : (t a : Bool) → a ≡ true → (if t then true else a) ≡ true
 has_or true a h = refl
 has_or false a h = h
 

@@ -17,3 +17,6 @@ mod Evaluations
 mod Structs
 mod Scoped
 mod Ways
+mod Stays
+mod Places
+mod Stops

@@ -42,7 +42,7 @@ past_keeps q (Breaks IllTyped) k = k
 past_keeps q Nowhere k = k
 
 module _ (p : Program) (bodies : (g : ℕ) → ShapedFunction p g (slice_get p.functions g)) (h : History) (fits : IsFitting h) where
-  acted_good : (i : ℕ) (s : State) → Good p s → Good p (acted h i s)
+  pub acted_good : (i : ℕ) (s : State) → Good p s → Good p (acted h i s)
   acted_good i s g = record {
     world = assigned_fits (at_stop h i) s.here.world (fitting_at h i fits) g.world;
     inner = g.inner;
@@ -80,7 +80,7 @@ module _ (p : Program) (bodies : (g : ℕ) → ShapedFunction p g (slice_get p.f
   past_reaches q (Breaks w) k = tt
   past_reaches q Nowhere k = tt
 
-  no_exit : {A : Type 0} (v : ℤ) → ◌≡◌ {A = Option ℤ} (Some v) None → A
+  pub no_exit : {A : Type 0} (v : ℤ) → ◌≡◌ {A = Option ℤ} (Some v) None → A
   no_exit {A} v e = absurd (subst (λ (q : Option ℤ). elim q as (λ _. Type 0) [ None ↦ ⊥ | Some z ↦ Unit {0} ]) e tt)
 
   then_reaches : (n : Next State) (rest : ℕ → State → Outcome State) (i : ℕ) → Fine p n → ((i : ℕ) (s : State) → Good p s → ReachesGood (rest i s)) → ReachesGood (then_on State (step p) (acted h) n rest i)

@@ -1,14 +1,16 @@
 -- Values of the shape that their type has: a number, or an address. And runs that keep to it.
-use Rattle.std.specs.Prelude.{◌≡◌, ℕ, Bool, true, false, List, Some, Result, Ok, Err}
+use Rattle.std.specs.Prelude.{◌≡◌, ℕ, Bool, true, false, List, Option, Some, None, Result, Ok, Err}
 use Rattle.std.specs.List.{AllByRecursion}
 use Rattle.ldb_words.specs.declared.kinds.Kind.{Kind}
 use Rattle.ldb_words.specs.declared.kinds.Kind.TheVariants.{Byte, Word, Address}
+use Rattle.c_tree.specs.declared.rows.Program.{Program}
 use Rattle.runs.specs.Runs.{Why, Reason, Stale, IllTyped, Outcome, Reached, Breaks, Nowhere}
 use Rattle.c_store.specs.Store.{Value, Number, Null, At, World}
 use Rattle.c_store.specs.Frames.{Place, bound}
 use Rattle.c_store.specs.Assigned.{Assignment, History, all_assigned}
 use Rattle.c_source.specs.Control.{State}
 use Rattle.c_typing.specs.Declared.{has}
+use Rattle.c_typing.specs.Statements.{locals_at}
 
 -- the null pointer, or a pointer into an object, and no number
 abbrev pub is_place : Value → Bool
@@ -54,3 +56,11 @@ IsAssigned w w' = (all : List Assignment) × (w' ≡ all_assigned all w) × AreF
 -- these locals have objects in an activation
 abbrev pub AreLive : List ℕ → Place → Type 0
 AreLive v a = (x : ℕ) → has v x ≡ true → (o : ℕ) × (bound x a.locals ≡ Some o)
+
+abbrev AreLiveAt : Program → Place → Option ℕ → Type 0
+AreLiveAt p a None = ⊥
+AreLiveAt p a (Some q) = AreLive (locals_at p q) a
+
+-- an activation has passed a stopping point, and each local in scope at the one that it passed last has an object
+abbrev pub HasItsLocals : Program → Place → Type 0
+HasItsLocals p a = AreLiveAt p a a.point

@@ -1,18 +1,18 @@
 // What holds of accepted programs.
-ghost use Rattle.std.specs.Prelude.{◌≡◌, ℕ, List, None, Ok};
+ghost use Rattle.std.specs.Prelude.{◌≡◌, ℕ, List, Some, None, Ok, slice_get};
 ghost use Rattle.c_tree.specs.declared.typed.Typed.{Typed};
 ghost use Rattle.c_tree.specs.declared.rows.Program.{Program};
-ghost use Rattle.runs.specs.Runs.{Moment, Reached, after};
+ghost use Rattle.runs.specs.Runs.{Moment, Reached, Passes, after};
 ghost use Rattle.c_store.specs.Frames.{Place};
 ghost use Rattle.c_store.specs.Assigned.{History};
 ghost use Rattle.c_source.specs.Control.{State};
 ghost use Rattle.c_source.specs.Source.{step};
-ghost use Rattle.c_source.specs.Begin.{begin, acted};
+ghost use Rattle.c_source.specs.Begin.{begin, acted, places};
 ghost use Rattle.c_source.specs.Meaning.{Given, values_meant, assigned, IsPlain, IsAssignment};
 ghost use Rattle.c_typing.specs.Expressions.{IsTyped};
 ghost use Rattle.c_typing.specs.Declared.{scope_at};
 ghost use Rattle.c_typing.specs.Accepted.{IsAccepted};
-ghost use Rattle.c_sound.specs.Shapes.{IsFitting, KeepsShapes, HasMeaning, IsAssigned, AreLive};
+ghost use Rattle.c_sound.specs.Shapes.{IsFitting, KeepsShapes, HasMeaning, IsAssigned, AreLive, HasItsLocals};
 
 /// However many steps of an accepted program are looked at, on any input and with any assignments of a debugger at its stops that give leaves values of their kind: it goes on, has ended, or was undefined for one of C's reasons. Never has a value the wrong shape, and never is a step without an answer.
 pub fn accepted_programs_keep_shapes()
@@ -24,4 +24,9 @@ pub fn evaluations_keep_shapes()
     ensures value { (p : Program) (input : List ℕ) (h : History) (n : ℕ) (m : Moment State) (a : Place) (v : List ℕ) (e : Typed) → IsAccepted p → IsFitting h → after State (step p) (acted h) n 0 (begin p input) ≡ Reached m → m.exit ≡ None → AreLive v a → IsTyped (scope_at p a.function v) e → IsPlain e → HasMeaning (values_meant p (record { world = m.state.here.world; place = a }) e) }
     ensures assignment { (p : Program) (input : List ℕ) (h : History) (n : ℕ) (m : Moment State) (a : Place) (v : List ℕ) (e : Typed) → IsAccepted p → IsFitting h → after State (step p) (acted h) n 0 (begin p input) ≡ Reached m → m.exit ≡ None → AreLive v a → IsTyped (scope_at p a.function v) e → IsAssignment e → HasMeaning (assigned p (record { world = m.state.here.world; place = a }) e) }
     ensures leaves { (p : Program) (input : List ℕ) (h : History) (n : ℕ) (m : Moment State) (a : Place) (v : List ℕ) (e : Typed) (g : Given) → IsAccepted p → IsFitting h → after State (step p) (acted h) n 0 (begin p input) ≡ Reached m → m.exit ≡ None → AreLive v a → IsTyped (scope_at p a.function v) e → IsAssignment e → assigned p (record { world = m.state.here.world; place = a }) e ≡ Ok g → IsAssigned m.state.here.world g.world }
+{}
+
+/// Where a step of such a run passes a stopping point, each activation has an object for every local in scope at the point that it passed last. So the expressions that are well typed among the names at that point are those of `evaluations_keep_shapes`.
+pub fn stops_have_their_locals()
+    ensures { (p : Program) (input : List ℕ) (h : History) (n : ℕ) (m : Moment State) (q c : ℕ) (s : State) (i : ℕ) (a : Place) → IsAccepted p → IsFitting h → after State (step p) (acted h) n 0 (begin p input) ≡ Reached m → m.exit ≡ None → step p m.state ≡ Passes q c s → slice_get (places s) i ≡ Some a → HasItsLocals p a }
 {}

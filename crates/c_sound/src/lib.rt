@@ -3,4 +3,4 @@
 
 mod laws;
 
-pub use laws::{accepted_programs_keep_shapes, evaluations_keep_shapes};
+pub use laws::{accepted_programs_keep_shapes, evaluations_keep_shapes, stops_have_their_locals};
