@@ -1,12 +1,12 @@
 -- Accepted programs.
 use Rattle.std.proofs.Common.{◌≡◌, refl, sym, ◌∙◌, subst, ap, arith, ℕ, suc, zero, ◌+◌, ◌≤◌, List, [], ◌∷◌, Option, Some, None, length, length-append, le-add_right}
-use Rattle.std.specs.Prelude.{slice_get, Result, Ok, Err, true}
+use Rattle.std.specs.Prelude.{Bool, slice_get, Result, Ok, Err, true}
 use Rattle.c_tree.specs.declared.types.CType.{CType}
 use Rattle.c_tree.specs.declared.types.CType.TheVariants as ctype
 use Rattle.c_tree.specs.declared.rows.Program.{Program}
 use Rattle.c_tree.specs.declared.rows.Function.{Function}
 use Rattle.c_tree.specs.declared.typed.Typed.{Typed}
-use Rattle.runs.specs.Runs.{Why, Reason, Stale, IllTyped, Moment, Reached, after}
+use Rattle.runs.specs.Runs.{Why, Reason, Stale, IllTyped, Moment, Reached, after, until}
 use Rattle.c_store.specs.Store.{Number}
 use Rattle.c_store.specs.Frames.{Here, Place}
 use Rattle.c_store.specs.Assigned.{History}
@@ -20,9 +20,9 @@ use Rattle.c_typing.specs.Expressions.{IsTyped}
 use Rattle.c_typing.specs.Declared.{has, scope_at}
 use Rattle.c_typing.specs.Statements.{locals_of as locals_in}
 use Rattle.c_typing.specs.Accepted.{AllFrom, numbers, IsFunction, IsAccepted}
-use Rattle.c_sound.specs.Shapes.{IsFitting, KeepsShapes, HasMeaning, IsAssigned, AreLive}
+use Rattle.c_sound.specs.Shapes.{IsFitting, KeepsShapes, CourseKeepsShapes, HasMeaning, IsAssigned, AreLive}
 use Rattle.c_sound.proofs.World.{Gives, WorldFits}
-use Rattle.c_sound.proofs.Ready.{locals_of}
+use Rattle.c_sound.proofs.Ready.{locals_of, Good}
 use Rattle.c_sound.proofs.Lists.{live_here}
 use Rattle.c_sound.proofs.Evaluations.{values_given, assigned_given}
 use Rattle.c_sound.proofs.Structs.{struct_lvalue}
@@ -32,6 +32,7 @@ use Rattle.c_sound.proofs.Rules.{no_none, some_same}
 use Rattle.c_sound.proofs.Typed.{HasParameters, evaluated, located}
 use Rattle.c_sound.proofs.Bodies.{given_back, body_ready}
 use Rattle.c_sound.proofs.Begins.{begins_good}
+use Rattle.c_sound.proofs.Courses.{courses_keep}
 use Rattle.c_sound.proofs.Runs.{runs_keep, ReachesGood, runs_reach}
 
 -- what holds of all items and their numbers holds of each
@@ -76,8 +77,14 @@ module _ (p : Program) (accepted : IsAccepted p) where
   -- ---- what a debugger evaluates and assigns
 
   module _ (input : List ℕ) (h : History) (fits : IsFitting h) (n : ℕ) (m : Moment State) (reached : after State (step p) (acted h) n 0 (begin p input) ≡ Reached m) (before : m.exit ≡ None) where
+    good_there : Good p m.state
+    good_there = (subst (ReachesGood p bodies_ready h fits) reached (runs_reach p bodies_ready h fits n 0 (begin p input) (begins_good p input bodies_ready accepted.objects accepted.main (λ g fn e. (function_there g fn e).main))) before)
+
     world_there : WorldFits m.state.here.world
-    world_there = (subst (ReachesGood p bodies_ready h fits) reached (runs_reach p bodies_ready h fits n 0 (begin p input) (begins_good p input bodies_ready accepted.objects accepted.main (λ g fn e. (function_there g fn e).main))) before).world
+    world_there = good_there.world
+
+    pub course_keeps : (stops : ℕ → Bool) (k : ℕ) → CourseKeepsShapes (until State (step p) stops k m.state)
+    course_keeps stops k = courses_keep p bodies_ready stops k m.state good_there
 
     module _ (a : Place) (v : List ℕ) (live : AreLive v a) (e : Typed) (typed : IsTyped (scope_at p a.function v) e) where
       abbrev pub at : Here

@@ -20,3 +20,4 @@ mod Ways
 mod Stays
 mod Places
 mod Stops
+mod Courses

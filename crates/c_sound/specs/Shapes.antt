@@ -4,7 +4,7 @@ use Rattle.std.specs.List.{AllByRecursion}
 use Rattle.ldb_words.specs.declared.kinds.Kind.{Kind}
 use Rattle.ldb_words.specs.declared.kinds.Kind.TheVariants.{Byte, Word, Address}
 use Rattle.c_tree.specs.declared.rows.Program.{Program}
-use Rattle.runs.specs.Runs.{Why, Reason, Stale, IllTyped, Outcome, Reached, Breaks, Nowhere}
+use Rattle.runs.specs.Runs.{Why, Reason, Stale, IllTyped, Course, Going, Comes, Lost, Event, Stopped, Exited, Failed, Outcome, Reached, Breaks, Nowhere}
 use Rattle.c_store.specs.Store.{Value, Number, Null, At, World}
 use Rattle.c_store.specs.Frames.{Place, bound}
 use Rattle.c_store.specs.Assigned.{Assignment, History, all_assigned}
@@ -41,6 +41,16 @@ KeepsShapes (Breaks (Reason u)) = Unit {0}
 KeepsShapes (Breaks Stale) = Unit {0}
 KeepsShapes (Breaks IllTyped) = ⊥
 KeepsShapes Nowhere = ⊥
+
+-- the same of a run to an event
+abbrev pub CourseKeepsShapes : Course State → Type 0
+CourseKeepsShapes (Going c s) = Unit {0}
+CourseKeepsShapes (Comes c (Stopped q s)) = Unit {0}
+CourseKeepsShapes (Comes c (Exited v s)) = Unit {0}
+CourseKeepsShapes (Comes c (Failed (Reason u))) = Unit {0}
+CourseKeepsShapes (Comes c (Failed Stale)) = Unit {0}
+CourseKeepsShapes (Comes c (Failed IllTyped)) = ⊥
+CourseKeepsShapes Lost = ⊥
 
 -- there is a result, or a reason of C's for none
 abbrev pub HasMeaning : {A : Type 0} → Result A Why → Type 0

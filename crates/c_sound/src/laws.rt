@@ -1,8 +1,8 @@
 // What holds of accepted programs.
-ghost use Rattle.std.specs.Prelude.{◌≡◌, ℕ, List, Some, None, Ok, slice_get};
+ghost use Rattle.std.specs.Prelude.{◌≡◌, ℕ, Bool, List, Some, None, Ok, slice_get};
 ghost use Rattle.c_tree.specs.declared.typed.Typed.{Typed};
 ghost use Rattle.c_tree.specs.declared.rows.Program.{Program};
-ghost use Rattle.runs.specs.Runs.{Moment, Reached, Passes, after};
+ghost use Rattle.runs.specs.Runs.{Moment, Reached, Passes, after, until};
 ghost use Rattle.c_store.specs.Frames.{Place};
 ghost use Rattle.c_store.specs.Assigned.{History};
 ghost use Rattle.c_source.specs.Control.{State};
@@ -12,11 +12,12 @@ ghost use Rattle.c_source.specs.Meaning.{Given, values_meant, assigned, IsPlain,
 ghost use Rattle.c_typing.specs.Expressions.{IsTyped};
 ghost use Rattle.c_typing.specs.Declared.{scope_at};
 ghost use Rattle.c_typing.specs.Accepted.{IsAccepted};
-ghost use Rattle.c_sound.specs.Shapes.{IsFitting, KeepsShapes, HasMeaning, IsAssigned, AreLive, HasItsLocals};
+ghost use Rattle.c_sound.specs.Shapes.{IsFitting, KeepsShapes, CourseKeepsShapes, HasMeaning, IsAssigned, AreLive, HasItsLocals};
 
-/// However many steps of an accepted program are looked at, on any input and with any assignments of a debugger at its stops that give leaves values of their kind: it goes on, has ended, or was undefined for one of C's reasons. Never has a value the wrong shape, and never is a step without an answer.
+/// However many steps of an accepted program are looked at, on any input and with any assignments of a debugger at its stops that give leaves values of their kind: it goes on, has ended, or was undefined for one of C's reasons. Never has a value the wrong shape, and never is a step without an answer. The same holds of each run to an event from a moment before the end.
 pub fn accepted_programs_keep_shapes()
-    ensures { (p : Program) (input : List ℕ) (h : History) (n : ℕ) → IsAccepted p → IsFitting h → KeepsShapes (after State (step p) (acted h) n 0 (begin p input)) }
+    ensures whole { (p : Program) (input : List ℕ) (h : History) (n : ℕ) → IsAccepted p → IsFitting h → KeepsShapes (after State (step p) (acted h) n 0 (begin p input)) }
+    ensures resumed { (p : Program) (input : List ℕ) (h : History) (n : ℕ) (m : Moment State) (stops : ℕ → Bool) (k : ℕ) → IsAccepted p → IsFitting h → after State (step p) (acted h) n 0 (begin p input) ≡ Reached m → m.exit ≡ None → CourseKeepsShapes (until State (step p) stops k m.state) }
 {}
 
 /// At each moment of such a run before its end, a well-typed expression without assignments and calls has leaf values or one of C's reasons for none, in each activation in which its locals have objects. A plain assignment too; and where it is made, it is one of a list of assignments to leaves that give each a value of its kind, so that the run with it is again one of those above.
