@@ -15,6 +15,7 @@ use Rattle.c_typing.specs.Constants.{constant_of, is_null}
 use Rattle.c_typing.specs.Rules.{binary_type}
 use Rattle.c_typing.specs.Expressions.{Scope, Object, Function, operand, IsTyped}
 use Rattle.c_typing.specs.Statements.{in_function, in_loop, IsStatement}
+use Rattle.c_typing.specs.Accepted.{IsAccepted}
 use Rattle.c_typing.proofs.Trees.{somewhere, of_type, at, shape_of}
 
 abbrev Refuted : Type 0 → Type 0
@@ -80,7 +81,7 @@ module _ (b : Box (Unit {0}) Global) where
   null_by_value : IsTyped scope (Assign' (of_type (ptr Int)) b p None b (Cast' (of_type Char) b (number 256)))
   null_by_value = Prim.search (lit<)
 
-  -- `&r` of a register variable, `&"ab"`, `&i` as an `int`; `f` is no value; `*i`; `p * 2`; `p - q`
+  -- `&(r)` of a register variable, `&"ab"`, `f` as a value, `*i`, `p * 2`, `p - q`
   register_address : Refuted (IsTyped scope (Address' (of_type (ptr Int)) b (Parens' (of_type Int) b r)))
   register_address h = none_some (plain.Pointer plain.Int) h.1
 
@@ -166,3 +167,7 @@ module _ (b : Box (Unit {0}) Global) where
 
   two_labels : Stands false (Switch' somewhere (at 0 (number 1)) b (Block' somewhere [] (shape_of b 2 (lit< tt)) (more_of-Stmt (Case' somewhere 3 b (Break somewhere)) (more_of-Stmt (Case' somewhere 4 b (Break somewhere)) end_of-Stmt)) 1 1))
   two_labels = Prim.search (lit<, lit≤)
+
+  -- a program has to have a `main`
+  no_main : Refuted (IsAccepted nothing)
+  no_main h = true≢false (sym h.main)

@@ -60,5 +60,7 @@ module _ (b : Box (Unit {0}) Global) where
     points = Prim.search (lit<);
     units = Prim.search;
     main = refl;
+    external = Prim.search;
+    internal = Prim.search;
     room = Prim.search (lit≤);
   }

@@ -1,5 +1,5 @@
 -- Which checked programs are accepted: every rule holds, and every number names something.
-use Rattle.std.specs.Prelude.{◌≡◌, ℕ, suc, zero, ◌≤◌, ◌<◌, Bool, true, false, not, ◌&&◌, ◌||◌, List, [], ◌∷◌, ◌++◌, length, Option, Some, None, slice_get, reverse, bytes_eq, codes, ◌==◌}
+use Rattle.std.specs.Prelude.{◌≡◌, ℕ, suc, zero, ◌≤◌, ◌<◌, Bool, true, false, not, ◌&&◌, ◌||◌, List, [], ◌∷◌, ◌++◌, length, map, filter, Option, Some, None, slice_get, reverse, bytes_eq, codes, ◌==◌}
 use Rattle.std.specs.List.{AllByRecursion}
 use Rattle.c_tree.specs.declared.types.StructDef.{StructDef}
 use Rattle.c_tree.specs.declared.typed.Stmt.{Stmt}
@@ -19,7 +19,7 @@ use Rattle.c_source.specs.Control.{first_of, last_of}
 use Rattle.c_typing.specs.Plain.{Plain, Int, Array, plain, same, is_scalar}
 use Rattle.c_typing.specs.Expressions.{Denoted, Function as AFunction}
 use Rattle.c_typing.specs.Written.{IsWritten, IsDeclared}
-use Rattle.c_typing.specs.Declared.{has, IsStruct, built_in, is_result, parameters}
+use Rattle.c_typing.specs.Declared.{has, Differ, IsStruct, built_in, is_result, parameters}
 use Rattle.c_typing.specs.Statements.{in_function, local_numbers, locals_at, IsStatement, locals_of}
 use Rattle.c_typing.specs.Starts.{IsObject, static_room}
 
@@ -130,6 +130,23 @@ module _ (p : Program) where
   abbrev pub IsUnit : ℕ → UnitRow → Type 0
   IsUnit u row = AllByRecursion (λ f. IsOfUnit u (slice_get p.functions f)) row.functions
 
+-- ---- one definition of each name
+
+module _ (p : Program) where
+  abbrev pub function_name : Function → List ℕ
+  function_name f = f.name
+
+  abbrev pub object_name : ObjectRow → List ℕ
+  object_name o = o.name
+
+  -- the names that are external (C90 6.1.2.2)
+  abbrev pub external_names : List (List ℕ)
+  external_names = map function_name (filter (λ f. not f.is_static) p.functions) ++ map object_name (filter (λ o. not o.is_static) p.objects)
+
+  -- the names that a source file defines
+  abbrev pub names_of_unit : ℕ → List (List ℕ)
+  names_of_unit u = map function_name (filter (λ f. f.unit == u) p.functions) ++ map object_name (filter (λ o. o.unit == u) p.objects)
+
 -- the checked programs that are accepted
 pub record IsAccepted (p : Program) : Type 0 where
   pub structs : AllFrom (IsStruct p.defs) 0 p.defs
@@ -139,4 +156,6 @@ pub record IsAccepted (p : Program) : Type 0 where
   pub points : AllByRecursion (IsPoint p) p.points
   pub units : AllFrom (IsUnit p) 0 p.units
   pub main : has_main p.functions ≡ true
+  pub external : Differ (external_names p)
+  pub internal : AllFrom (λ u row. Differ (names_of_unit p u)) 0 p.units
   pub room : static_room p ≤ 1048576

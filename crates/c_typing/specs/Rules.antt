@@ -1,4 +1,4 @@
--- The typing rules of expressions: from what the operands are, the type of the result, or None where the rule is broken.
+-- The typing rules of expressions: from what the operands are, the type of the result, or None where the rule is broken. Each has the number that a refusal tells.
 use Rattle.std.specs.Prelude.{ℕ, Bool, true, false, not, ◌&&◌, ◌||◌, if◌then◌else◌, List, [], ◌∷◌, Option, Some, None, option_map, option_and_then, slice_get}
 use Rattle.c_tree.specs.declared.types.StructDef.{StructDef}
 use Rattle.c_tree.specs.declared.typed.BinaryOp.{BinaryOp}
