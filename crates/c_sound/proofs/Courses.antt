@@ -1,7 +1,7 @@
 -- Runs to an event from a good state.
-use Rattle.std.proofs.Common.{◌≡◌, ℕ, suc, zero, ◌+◌, Bool, true, false}
+use Rattle.std.proofs.Common.{ℕ, suc, zero, Bool, true, false}
 use Rattle.std.specs.Prelude.{slice_get}
-use Rattle.runs.specs.Runs.{Next, Goes, Passes, Exits, Undefined, Stuck, Why, Reason, Stale, IllTyped, Course, Going, Comes, Lost, Event, Stopped, Exited, Failed, counted, passing, onward, until}
+use Rattle.runs.specs.Runs.{Next, Goes, Passes, Exits, Undefined, Stuck, Reason, Stale, IllTyped, Course, Going, Comes, Lost, Stopped, Exited, Failed, counted, passing, onward, until}
 use Rattle.c_tree.specs.declared.rows.Program.{Program}
 use Rattle.c_source.specs.Control.{State}
 use Rattle.c_source.specs.Source.{step}

@@ -1,26 +1,23 @@
 -- The points of an accepted program find their locals in scope.
-use Rattle.std.proofs.Common.{◌≡◌, refl, sym, ◌∙◌, subst, ap, arith, ℕ, suc, zero, ◌+◌, ◌≤◌, List, [], ◌∷◌, ◌++◌, Bool, true, false, Option, Some, None, true≢false, length, take, reverse, append_assoc, length-append, le-add_right, le_trans, le_refl, take_all}
+use Rattle.std.proofs.Common.{◌≡◌, refl, sym, ◌∙◌, subst, ℕ, ◌≤◌, List, [], ◌∷◌, ◌++◌, Bool, true, false, Option, Some, None, true≢false, length, take, reverse, append_assoc, length-append, le-add_right, le_trans, le_refl, take_all}
 use Rattle.std.proofs.lemmas.List.{reverse-append, take-append-le}
-use Rattle.std.specs.Prelude.{slice_get, if◌then◌else◌, ◌==◌}
-use Rattle.c_tree.specs.declared.typed.Typed.{Typed}
+use Rattle.std.specs.Prelude.{if◌then◌else◌, ◌==◌}
 use Rattle.c_tree.specs.declared.typed.Pointed.{Pointed}
 use Rattle.c_tree.specs.declared.typed.DeclaredLocal.{DeclaredLocal}
 use Rattle.c_tree.specs.declared.typed.Stmt.{Stmt, Row_of-Stmt, end_of-Stmt, more_of-Stmt, Held-Stmt-If-3, None', Some'}
 use Rattle.c_tree.specs.declared.typed.Stmt.TheVariants.{Value as Expression, Block', If', While', Do', For', Switch', Case', Default', Break, Continue, Return}
 use Rattle.c_tree.specs.declared.rows.Program.{Program}
-use Rattle.c_tree.specs.declared.rows.Function.{Function}
 use Rattle.c_tree.specs.Rows.{stmts}
-use Rattle.c_store.specs.Store.{Number}
-use Rattle.c_source.specs.Blocks.{converted, declared_in, statements_in}
-use Rattle.c_source.specs.Control.{Item, Push, Open, GiveBack, runs_of, inits_of, body_of, outermost_of, first_of, last_of}
-use Rattle.c_typing.specs.Plain.{Plain, plain}
+use Rattle.c_source.specs.Blocks.{declared_in, statements_in}
+use Rattle.c_source.specs.Control.{Item, runs_of, inits_of}
+use Rattle.c_typing.specs.Plain.{Plain}
 use Rattle.c_typing.specs.Declared.{has}
-use Rattle.c_typing.specs.Statements.{Around, in_function, local_numbers as numbers_of, locals_at, IsTestOrNone, IsDropped, IsInitializer, AreInitialized, IsReturned, IsStatement, AreStatements, IsElse, IsSwitched}
-use Rattle.c_typing.specs.Accepted.{numbers, IsBlock, IsFunction}
+use Rattle.c_typing.specs.Statements.{Around, in_function, locals_at, IsTestOrNone, IsDropped, IsInitializer, AreInitialized, IsStatement, AreStatements, IsElse, IsSwitched}
+use Rattle.c_typing.specs.Accepted.{IsBlock}
 use Rattle.c_sound.proofs.Shaped.{local_numbers}
-use Rattle.c_sound.proofs.Lists.{has_more, take_seam}
-use Rattle.c_sound.proofs.Bodies.{same_numbers, has_or, has_by}
-use Rattle.c_sound.proofs.Scoped.{At, AtPart, Ends, EndsIn, PlacedInits, PlacedS, PlacedRows, PlacedElse, PlacedBody, Scoped, AfterBreak, AfterContinue}
+use Rattle.c_sound.proofs.Lists.{has_more}
+use Rattle.c_sound.proofs.Bodies.{same_numbers, has_or}
+use Rattle.c_sound.proofs.Scoped.{At, AtPart, Ends, PlacedInits, PlacedS, PlacedRows, PlacedElse, PlacedBody, Scoped, AfterBreak, AfterContinue}
 use Rattle.c_sound.proofs.Ways.{inits_scoped, runs_scoped, rows_placed}
 
 -- ---- lists

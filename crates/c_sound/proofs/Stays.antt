@@ -1,7 +1,6 @@
 -- Each step keeps the locals of the points passed last in scope.
-use Rattle.std.proofs.Common.{◌≡◌, refl, sym, ◌∙◌, subst, ap, ℕ, suc, zero, ◌+◌, ◌*◌, ◌%◌, List, [], ◌∷◌, ◌++◌, Bool, true, false, Option, Some, None, length, take, drop, reverse, map, le_of_eq, take_all, append_assoc, append-nil}
+use Rattle.std.proofs.Common.{◌≡◌, refl, sym, ◌∙◌, subst, ap, ℕ, suc, ◌+◌, ◌*◌, List, [], ◌∷◌, ◌++◌, Bool, true, false, Option, Some, None, length, take, drop, reverse, le_of_eq, take_all, append_assoc, append-nil}
 use Rattle.std.specs.Prelude.{Result, Ok, Err, slice_get, if◌then◌else◌, pos, bytes_eq, codes, ◌==◌}
-use Rattle.ldb_words.specs.Word.{signed}
 use Rattle.runs.specs.Runs.{Next, Goes, Passes, Exits, Undefined, Stuck, Why}
 use Rattle.c_tree.specs.declared.types.CType.{CType}
 use Rattle.c_tree.specs.declared.typed.BinaryOp.{BinaryOp}
@@ -19,12 +18,11 @@ use Rattle.c_tree.specs.Types.{type_of, kind_of, is_struct, is_array}
 use Rattle.c_tree.specs.Rows.{exprs, stmts}
 use Rattle.c_tree.specs.Layout.{size_of}
 use Rattle.c_store.specs.Store.{Value, Number, At as Pointing, World, used, load, store, load_struct, store_struct, moved}
-use Rattle.c_store.specs.Frames.{Here, Place, Binding, with_world, with_point, made, left, bound, new_place}
-use Rattle.c_store.specs.Bits.{minus_one}
-use Rattle.c_source.specs.Blocks.{cells_of, converted, local_type, opened, given, entered, declared_in, statements_in}
+use Rattle.c_store.specs.Frames.{Here, with_world, made, left, bound, new_place}
+use Rattle.c_source.specs.Blocks.{cells_of, converted, local_type, opened, given, entered, statements_in}
 use Rattle.c_source.specs.Operators.{bits_in, is_zero, combined, changed}
-use Rattle.c_source.specs.Control.{Item, Eval, Locate, Push, Bound, Load, Convert, Store, Copy, Update, Change, Combine, Offset, Use, Discard, Truth, AndThen, OrElse, Pick, Joined, Enter, Run, Stop, Choose, Open, Close, Turn, Again, Select, Seek, Switched, GiveBack, Leave, Label, Round, State, Activation, outermost_of, runs_of, evals_of, inits_of, part_of, labels_in, default_in, broken, continued, last_of, body_of}
-use Rattle.c_source.specs.Source.{on_ok, on_one, on_two, on_some, step, go, evaluate, locate, read, write, copy, update, on_test, built_in, call, end_with, execute, seek, act, on_control, no_value, place_in}
+use Rattle.c_source.specs.Control.{Item, Eval, Locate, Push, Bound, Load, Convert, Store, Copy, Update, Change, Combine, Offset, Use, Discard, Truth, AndThen, OrElse, Pick, Joined, Enter, Run, Stop, Choose, Open, Close, Turn, Again, Select, Seek, Switched, GiveBack, Leave, Label, Round, State, Activation, outermost_of, runs_of, inits_of, broken, continued, last_of, body_of}
+use Rattle.c_source.specs.Source.{on_ok, on_one, on_two, on_some, step, go, evaluate, locate, read, copy, update, on_test, built_in, call, end_with, execute, seek, act, on_control, no_value, place_in}
 use Rattle.c_typing.specs.Accepted.{numbers}
 use Rattle.c_sound.specs.Shapes.{is_place}
 use Rattle.c_sound.proofs.Shaped.{local_numbers, is_getchar}
@@ -32,7 +30,7 @@ use Rattle.c_sound.proofs.Ready.{locals_of, EntersFunction, EntersBy, Enters, Re
 use Rattle.c_sound.proofs.Lists.{locals_append, locals_take, locals_length, take_map, reverse_map, map_length, take_seam}
 use Rattle.c_sound.proofs.Objects.{with_value}
 use Rattle.c_sound.proofs.Fine.{shapes}
-use Rattle.c_sound.proofs.Scoped.{At, Ends, EndsIn, PlacedInits, PlacedS, PlacedRows, EachPlaced, EachLabelPlaced, PlacedLoop, Scoped, AfterBreak, AfterContinue, Covered, CoveredAt, ScopedAt, OuterScoped, InScope}
+use Rattle.c_sound.proofs.Scoped.{At, Ends, EndsIn, PlacedInits, PlacedS, PlacedRows, EachPlaced, EachLabelPlaced, Scoped, AfterBreak, AfterContinue, CoveredAt, OuterScoped, InScope}
 use Rattle.c_sound.proofs.Ways.{behind, args_scoped, runs_scoped, rows_placed, body_placed, break_more, continue_more, LandsIn, break_lands, continue_lands, inits_scoped, part_scoped, else_placed, turns_scoped, goes_on_scoped, for_starts, while_starts, do_starts, labels_placed, default_placed}
 
 module _ (p : Program) where

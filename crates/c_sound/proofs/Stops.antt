@@ -1,7 +1,7 @@
 -- At each stop every activation has the locals in scope at the point that it passed last.
-use Rattle.std.proofs.Common.{◌≡◌, refl, sym, ◌∙◌, subst, ap, ℕ, suc, zero, ◌+◌, List, [], ◌∷◌, ◌++◌, Bool, true, false, Option, Some, None, length, take, reverse, length-append, take_all, le_refl}
-use Rattle.std.specs.Prelude.{slice_get, ℤ}
-use Rattle.runs.specs.Runs.{Next, Goes, Passes, Exits, Undefined, Stuck, Why, Reason, Stale, IllTyped, Moment, Outcome, Reached, Breaks, Nowhere, after, after_count, past, then_on}
+use Rattle.std.proofs.Common.{◌≡◌, refl, sym, ◌∙◌, subst, ap, ℕ, suc, zero, ◌+◌, List, [], ◌∷◌, ◌++◌, Option, Some, None, length, take, reverse, length-append, take_all, le_refl}
+use Rattle.std.specs.Prelude.{slice_get}
+use Rattle.runs.specs.Runs.{Next, Goes, Passes, Exits, Undefined, Stuck, Moment, Outcome, Reached, Breaks, Nowhere, after, after_count, past, then_on}
 use Rattle.c_tree.specs.declared.typed.DeclaredLocal.{DeclaredLocal}
 use Rattle.c_tree.specs.declared.rows.Program.{Program}
 use Rattle.c_tree.specs.declared.rows.Function.{Function}
@@ -9,14 +9,13 @@ use Rattle.c_store.specs.Store.{Number}
 use Rattle.c_store.specs.Frames.{Place}
 use Rattle.c_store.specs.Assigned.{History}
 use Rattle.c_source.specs.Blocks.{converted, declared_in}
-use Rattle.c_source.specs.Control.{Item, Push, GiveBack, State, Activation, body_of, outermost_of, first_of, last_of}
+use Rattle.c_source.specs.Control.{Push, GiveBack, State, Activation, body_of, outermost_of, first_of, last_of}
 use Rattle.c_source.specs.Source.{step}
 use Rattle.c_source.specs.Begin.{begin, acted, places, outer_places}
 use Rattle.c_typing.specs.Plain.{plain}
-use Rattle.c_typing.specs.Declared.{has}
 use Rattle.c_typing.specs.Statements.{local_numbers as numbers_of, locals_at}
-use Rattle.c_typing.specs.Accepted.{numbers, IsFunction, IsAccepted}
-use Rattle.c_sound.specs.Shapes.{IsFitting, AreLive, HasItsLocals}
+use Rattle.c_typing.specs.Accepted.{numbers, IsAccepted}
+use Rattle.c_sound.specs.Shapes.{IsFitting, HasItsLocals}
 use Rattle.c_sound.proofs.Shaped.{local_numbers}
 use Rattle.c_sound.proofs.Ready.{locals_of, Good}
 use Rattle.c_sound.proofs.Lists.{bound_here}

@@ -1,18 +1,17 @@
 -- Lists of items whose points find their locals in scope.
-use Rattle.std.proofs.Common.{◌≡◌, refl, sym, ◌∙◌, subst, ap, arith, ℕ, suc, zero, ◌≤◌, List, [], ◌∷◌, ◌++◌, Bool, true, false, Option, Some, None, length, take, le_trans, le_of_eq, take_all, length-append, le-add_right, length-take-le}
+use Rattle.std.proofs.Common.{◌≡◌, sym, subst, ℕ, ◌≤◌, List, [], ◌∷◌, ◌++◌, Bool, true, false, Option, Some, None, length, take, le_trans, le_of_eq, take_all, length-append, le-add_right, length-take-le}
 use Rattle.std.proofs.lemmas.List.{take-append-le}
-use Rattle.std.specs.Prelude.{slice_get, if◌then◌else◌}
+use Rattle.std.specs.Prelude.{if◌then◌else◌}
 use Rattle.c_tree.specs.declared.typed.Typed.{Typed}
 use Rattle.c_tree.specs.declared.typed.Pointed.{Pointed}
 use Rattle.c_tree.specs.declared.typed.DeclaredLocal.{DeclaredLocal}
 use Rattle.c_tree.specs.declared.typed.Stmt.{Stmt, Row_of-Stmt, end_of-Stmt, more_of-Stmt, Held-Stmt-If-3, None', Some'}
-use Rattle.c_tree.specs.declared.typed.Stmt.TheVariants.{Value as Expression, Block', If', While', Do', For', Switch', Case', Default', Break, Continue, Return}
+use Rattle.c_tree.specs.declared.typed.Stmt.TheVariants.{Block', While', Do', For', Case', Default'}
 use Rattle.c_tree.specs.declared.rows.Program.{Program}
 use Rattle.c_tree.specs.Rows.{stmts}
-use Rattle.c_source.specs.Blocks.{local_type, statements_in}
+use Rattle.c_source.specs.Blocks.{statements_in}
 use Rattle.c_source.specs.Control.{Item, Eval, Locate, Push, Bound, Load, Convert, Store, Copy, Update, Change, Combine, Offset, Use, Discard, Truth, AndThen, OrElse, Pick, Joined, Enter, Run, Stop, Choose, Open, Close, Turn, Again, Select, Seek, Switched, GiveBack, Leave, Label, Round, runs_of, evals_of, inits_of, part_of, loop_begins, loop_goes_on, loop_turns, broken, continued, labels_in, default_in}
-use Rattle.c_sound.proofs.Shaped.{local_numbers}
-use Rattle.c_sound.proofs.Scoped.{At, AtPart, Ends, PlacedInits, PlacedS, PlacedRows, PlacedElse, PlacedBody, EachPlaced, EachLabelPlaced, PlacedLoop, Scoped, AfterBreak, AfterContinue}
+use Rattle.c_sound.proofs.Scoped.{At, AtPart, PlacedInits, PlacedS, PlacedRows, PlacedElse, PlacedBody, EachPlaced, EachLabelPlaced, PlacedLoop, Scoped, AfterBreak, AfterContinue}
 
 module _ (p : Program) (f : ℕ) where
   abbrev S : List Item → List ℕ → Type 0 → Type 0

@@ -4,7 +4,7 @@ use Rattle.std.specs.List.{AllByRecursion}
 use Rattle.ldb_words.specs.declared.kinds.Kind.{Kind}
 use Rattle.ldb_words.specs.declared.kinds.Kind.TheVariants.{Byte, Word, Address}
 use Rattle.c_tree.specs.declared.rows.Program.{Program}
-use Rattle.runs.specs.Runs.{Why, Reason, Stale, IllTyped, Course, Going, Comes, Lost, Event, Stopped, Exited, Failed, Outcome, Reached, Breaks, Nowhere}
+use Rattle.runs.specs.Runs.{Why, Reason, Stale, IllTyped, Course, Going, Comes, Lost, Stopped, Exited, Failed, Outcome, Reached, Breaks, Nowhere}
 use Rattle.c_store.specs.Store.{Value, Number, Null, At, World}
 use Rattle.c_store.specs.Frames.{Place, bound}
 use Rattle.c_store.specs.Assigned.{Assignment, History, all_assigned}
