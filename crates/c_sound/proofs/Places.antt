@@ -12,7 +12,7 @@ use Rattle.c_source.specs.Blocks.{declared_in, statements_in}
 use Rattle.c_source.specs.Control.{Item, runs_of, inits_of}
 use Rattle.c_typing.specs.Plain.{Plain}
 use Rattle.c_typing.specs.Declared.{has}
-use Rattle.c_typing.specs.Statements.{Around, in_function, locals_at, IsTestOrNone, IsDropped, IsInitializer, AreInitialized, IsStatement, AreStatements, IsElse, IsSwitched}
+use Rattle.c_typing.specs.Statements.{Around, in_function, locals_at, IsPointWith, IsTestOrNone, IsDropped, IsInitializer, AreInitialized, IsStatement, AreStatements, IsElse, IsSwitched}
 use Rattle.c_typing.specs.Accepted.{IsBlock}
 use Rattle.c_sound.proofs.Shaped.{local_numbers}
 use Rattle.c_sound.proofs.Lists.{has_more}
@@ -45,21 +45,21 @@ has_reversed (y ∷ v) x h =
 
 module _ (p : Program) (f : ℕ) (r : Plain) where
   -- a point that is placed where v is in scope finds its locals in a larger scope
-  at_there : (q : ℕ) (v ls : List ℕ) → locals_at p q ≡ reverse v → ((x : ℕ) → has v x ≡ true → has ls x ≡ true) → At p q ls
-  at_there q v ls e within = λ x h. within x (has_reversed v x (subst (λ xs. has xs x ≡ true) e h))
+  at_there : (q : ℕ) (v ls : List ℕ) → IsPointWith p f v q → ((x : ℕ) → has v x ≡ true → has ls x ≡ true) → At p f q ls
+  at_there q v ls e within = ((λ x h. within x (has_reversed v x (subst (λ xs. has xs x ≡ true) e.0 h))), e.1)
 
-  pub at_here : (q : ℕ) (v : List ℕ) → locals_at p q ≡ reverse v → At p q v
+  pub at_here : (q : ℕ) (v : List ℕ) → IsPointWith p f v q → At p f q v
   at_here q v e = at_there q v v e (λ x h. h)
 
-  dropped_at : (v : List ℕ) (o : Option Pointed) → IsDropped p f r v o → AtPart p o v
+  dropped_at : (v : List ℕ) (o : Option Pointed) → IsDropped p f r v o → AtPart p f o v
   dropped_at v None q = tt
   dropped_at v (Some c) q = at_here c.point v q.2
 
-  tested_at : (v : List ℕ) (o : Option Pointed) → IsTestOrNone p f r v o → AtPart p o v
+  tested_at : (v : List ℕ) (o : Option Pointed) → IsTestOrNone p f r v o → AtPart p f o v
   tested_at v None q = tt
   tested_at v (Some c) q = at_here c.point v q.2
 
-  init_at : (v ls : List ℕ) (x : ℕ) (o : Option Pointed) → ((y : ℕ) → has v y ≡ true → has ls y ≡ true) → IsInitializer p f r v x o → AtPart p o ls
+  init_at : (v ls : List ℕ) (x : ℕ) (o : Option Pointed) → ((y : ℕ) → has v y ≡ true → has ls y ≡ true) → IsInitializer p f r v x o → AtPart p f o ls
   init_at v ls x None within q = tt
   init_at v ls x (Some c) within q = at_there c.point v ls q.2 within
 

@@ -11,46 +11,46 @@ use Rattle.c_store.specs.Frames.{Place}
 use Rattle.c_source.specs.Blocks.{statements_in}
 use Rattle.c_source.specs.Control.{Item, Eval, Locate, Push, Bound, Load, Convert, Store, Copy, Update, Change, Combine, Offset, Use, Discard, Truth, AndThen, OrElse, Pick, Joined, Enter, Run, Stop, Choose, Open, Close, Turn, Again, Select, Seek, Switched, GiveBack, Leave, Label, State, Activation, outermost_of, last_of}
 use Rattle.c_typing.specs.Declared.{has}
-use Rattle.c_typing.specs.Statements.{locals_at}
+use Rattle.c_typing.specs.Statements.{locals_at, function_at}
 use Rattle.c_sound.proofs.Shaped.{local_numbers}
 use Rattle.c_sound.proofs.Ready.{locals_of}
 
 module _ (p : Program) where
-  -- the locals of a point are in scope
-  abbrev pub At : ℕ → List ℕ → Type 0
-  At q ls = (x : ℕ) → has (locals_at p q) x ≡ true → has ls x ≡ true
+  -- a point of function f, whose locals are in scope
+  abbrev pub At : (f q : ℕ) → List ℕ → Type 0
+  At f q ls = ((x : ℕ) → has (locals_at p q) x ≡ true → has ls x ≡ true) × (function_at p q ≡ Some f)
 
-  abbrev pub AtPart : Option Pointed → List ℕ → Type 0
-  AtPart None ls = Unit {0}
-  AtPart (Some q) ls = At q.point ls
+  abbrev pub AtPart : ℕ → Option Pointed → List ℕ → Type 0
+  AtPart f None ls = Unit {0}
+  AtPart f (Some q) ls = At f q.point ls
 
   -- where a function gives back, those of its last point are
-  abbrev pub EndsIn : Option Function → List ℕ → Type 0
-  EndsIn None ls = Unit {0}
-  EndsIn (Some fn) ls = At (last_of fn.points) (take (outermost_of fn) ls)
+  abbrev pub EndsIn : ℕ → Option Function → List ℕ → Type 0
+  EndsIn f None ls = Unit {0}
+  EndsIn f (Some fn) ls = At f (last_of fn.points) (take (outermost_of fn) ls)
 
   module _ (f : ℕ) where
     abbrev pub Ends : List ℕ → Type 0
-    Ends ls = EndsIn (slice_get p.functions f) ls
+    Ends ls = EndsIn f (slice_get p.functions f) ls
 
     abbrev pub PlacedInits : List ℕ → List DeclaredLocal → Type 0
     PlacedInits ls [] = Unit {0}
-    PlacedInits ls (d ∷ ds) = AtPart d.init ls × PlacedInits ls ds
+    PlacedInits ls (d ∷ ds) = AtPart f d.init ls × PlacedInits ls ds
 
     abbrev mutual
       pub PlacedS : List ℕ → Stmt → Type 0
-      PlacedS ls (Expression at e) = AtPart e ls
+      PlacedS ls (Expression at e) = AtPart f e ls
       PlacedS ls (Block' at ds _ row l c) = PlacedInits (ls ++ local_numbers ds) ds × PlacedRows (ls ++ local_numbers ds) row
-      PlacedS ls (If' at q _ s t) = At q.point ls × PlacedS ls s × PlacedElse ls t
-      PlacedS ls (Switch' at q _ s) = At q.point ls × PlacedBody ls s
-      PlacedS ls (While' at q _ s) = At q.point ls × PlacedS ls s
-      PlacedS ls (Do' at _ s q) = At q.point ls × PlacedS ls s
-      PlacedS ls (For' at i q t _ s) = AtPart i ls × AtPart q ls × AtPart t ls × PlacedS ls s
+      PlacedS ls (If' at q _ s t) = At f q.point ls × PlacedS ls s × PlacedElse ls t
+      PlacedS ls (Switch' at q _ s) = At f q.point ls × PlacedBody ls s
+      PlacedS ls (While' at q _ s) = At f q.point ls × PlacedS ls s
+      PlacedS ls (Do' at _ s q) = At f q.point ls × PlacedS ls s
+      PlacedS ls (For' at i q t _ s) = AtPart f i ls × AtPart f q ls × AtPart f t ls × PlacedS ls s
       PlacedS ls (Case' at c _ s) = PlacedS ls s
       PlacedS ls (Default' at _ s) = PlacedS ls s
       PlacedS ls (Break at) = Unit {0}
       PlacedS ls (Continue at) = Unit {0}
-      PlacedS ls (Return at q e) = At q ls × Ends ls
+      PlacedS ls (Return at q e) = At f q ls × Ends ls
 
       pub PlacedRows : {m : _} → List ℕ → Row_of-Stmt m → Type 0
       PlacedRows ls end_of-Stmt = Unit {0}
@@ -73,9 +73,9 @@ module _ (p : Program) where
     EachLabelPlaced ls (l ∷ rest) = EachPlaced ls l.from × EachLabelPlaced ls rest
 
     abbrev pub PlacedLoop : List ℕ → Stmt → Type 0
-    PlacedLoop ls (While' at q _ s) = At q.point ls × PlacedS ls s
-    PlacedLoop ls (Do' at _ s q) = At q.point ls × PlacedS ls s
-    PlacedLoop ls (For' at i q t _ s) = AtPart q ls × AtPart t ls × PlacedS ls s
+    PlacedLoop ls (While' at q _ s) = At f q.point ls × PlacedS ls s
+    PlacedLoop ls (Do' at _ s q) = At f q.point ls × PlacedS ls s
+    PlacedLoop ls (For' at i q t _ s) = AtPart f q ls × AtPart f t ls × PlacedS ls s
     PlacedLoop ls _ = Unit {0}
 
     -- C says that the point passed last finds its locals in scope. It has to hold wherever a call may come; behind a statement nothing is known of it, up to the next point.
@@ -102,7 +102,7 @@ module _ (p : Program) where
       Scoped (Discard ∷ k) ls C = Scoped k ls C
       Scoped (Truth ∷ k) ls C = Scoped k ls C
       Scoped (Joined ∷ k) ls C = Scoped k ls C
-      Scoped (Stop q ∷ k) ls C = At q ls × Scoped k ls (At q ls)
+      Scoped (Stop q ∷ k) ls C = At f q ls × Scoped k ls (At f q ls)
       Scoped (Run s ∷ k) ls C = PlacedS ls s × AfterBreak k ls × AfterContinue k ls × Scoped k ls ⊥
       Scoped (Choose s t ∷ k) ls C = PlacedS ls s × EachPlaced ls t × AfterBreak k ls × AfterContinue k ls × Scoped k ls ⊥
       Scoped (Open ds ∷ k) ls C = Scoped k (ls ++ local_numbers ds) ⊥
@@ -129,12 +129,12 @@ module _ (p : Program) where
   -- ---- states
 
   -- the point passed last finds its locals in scope
-  abbrev pub Covered : Option ℕ → List ℕ → Type 0
-  Covered None ls = ⊥
-  Covered (Some q) ls = At q ls
+  abbrev pub Covered : ℕ → Option ℕ → List ℕ → Type 0
+  Covered f None ls = ⊥
+  Covered f (Some q) ls = At f q ls
 
   abbrev pub CoveredAt : Place → Type 0
-  CoveredAt a = Covered a.point (locals_of a.locals)
+  CoveredAt a = Covered a.function a.point (locals_of a.locals)
 
   abbrev pub ScopedAt : Place → List Item → Type 0
   ScopedAt a k = Scoped a.function k (locals_of a.locals) (CoveredAt a)

@@ -237,7 +237,7 @@ module _ (p : Program) where
         (runs_scoped p f (stmts row) (Close count ∷ k) (ls ++ xs) (rows_placed p f row (ls ++ xs) s) (break_more p f k ls xs x) (continue_more p f k ls xs y)
         (subst (λ ys. Scoped p f k ys ⊥) (sym (ap (λ c. take c (ls ++ xs)) counted ∙ take_seam ls xs)) r))
 
-    returned : (e : Option Typed) (at : _) (q : ℕ) (vs : List Value) (k : List Item) → At p q ls → Ends p f ls → Stays (execute p h out (Return at q e) vs k)
+    returned : (e : Option Typed) (at : _) (q : ℕ) (vs : List Value) (k : List Item) → At p f q ls → Ends p f ls → Stays (execute p h out (Return at q e) vs k)
     returned None at q vs k a r = goes 1 vs _ (a, r)
     returned (Some e) at q vs k a r = goes 1 vs _ (a, (a, r))
 
@@ -268,7 +268,7 @@ module _ (p : Program) where
     seek_stays v (x ∷ xs) default n vs k e q d y r =
         goes_behind 1 vs _ (either_behind (x.constant == v) (runs_of x.from ++ Switched n ∷ k) (Seek v xs default n ∷ k) (in_switch x.from n k e q.0 y r) (e, q.1, d, y, r))
 
-    gives_back : (fn : Option Function) (vs : List Value) → EndsIn p fn ls → Stays (on_some fn (λ fn. on_one vs (λ v rest. go p h out 1 (left (outermost_of fn) h) (v ∷ []) (Stop (last_of fn.points) ∷ Leave ∷ []))))
+    gives_back : (fn : Option Function) (vs : List Value) → EndsIn p f fn ls → Stays (on_some fn (λ fn. on_one vs (λ v rest. go p h out 1 (left (outermost_of fn) h) (v ∷ []) (Stop (last_of fn.points) ∷ Leave ∷ []))))
     gives_back None vs q = tt
     gives_back (Some fn) vs q = one_stays vs _ λ v rest. left_stays (outermost_of fn) (v ∷ []) (Stop (last_of fn.points) ∷ Leave ∷ []) (q, tt)
 

@@ -13,7 +13,7 @@ use Rattle.c_source.specs.Control.{Push, GiveBack, State, Activation, body_of, o
 use Rattle.c_source.specs.Source.{step}
 use Rattle.c_source.specs.Begin.{begin, acted, places, outer_places}
 use Rattle.c_typing.specs.Plain.{plain}
-use Rattle.c_typing.specs.Statements.{local_numbers as numbers_of, locals_at}
+use Rattle.c_typing.specs.Statements.{local_numbers as numbers_of, locals_at, IsPointWith}
 use Rattle.c_typing.specs.Accepted.{numbers, IsAccepted}
 use Rattle.c_sound.specs.Shapes.{IsFitting, HasItsLocals}
 use Rattle.c_sound.proofs.Shaped.{local_numbers}
@@ -73,19 +73,19 @@ locals_length (d ∷ ds) = ap suc (locals_length ds)
 
 module _ (p : Program) (accepted : IsAccepted p) where
   -- where a scope begins with the locals of the outermost block
-  ends_there : (fn : Function) (ls : List ℕ) → locals_at p (last_of fn.points) ≡ reverse (numbers 0 fn.params ++ numbers_of (declared_in fn.body))
-      → take (length (numbers 0 fn.params ++ local_numbers (declared_in fn.body))) ls ≡ numbers 0 fn.params ++ local_numbers (declared_in fn.body) → EndsIn p (Some fn) ls
-  ends_there fn ls e b =
+  ends_there : (g : ℕ) (fn : Function) (ls : List ℕ) → IsPointWith p g (numbers 0 fn.params ++ numbers_of (declared_in fn.body)) (last_of fn.points)
+      → take (length (numbers 0 fn.params ++ local_numbers (declared_in fn.body))) ls ≡ numbers 0 fn.params ++ local_numbers (declared_in fn.body) → EndsIn p g (Some fn) ls
+  ends_there g fn ls e b =
       let ds = declared_in fn.body in
       let xs = numbers 0 fn.params ++ local_numbers ds in
       let n : outermost_of fn ≡ length xs = sym (length-append (numbers 0 fn.params) (local_numbers ds) ∙ ap (λ m. m + length (local_numbers ds)) (numbers_length 0 fn.params) ∙ ap (λ m. fn.params + m) (locals_length ds)) in
-      subst (At p (last_of fn.points)) (sym (ap (λ m. take m ls) n ∙ b)) (at_here p 0 (plain fn.result) (last_of fn.points) xs (e ∙ ap (λ ys. reverse (numbers 0 fn.params ++ ys)) (same_numbers ds)))
+      subst (At p g (last_of fn.points)) (sym (ap (λ m. take m ls) n ∙ b)) (at_here p g (plain fn.result) (last_of fn.points) xs (subst (λ ys. IsPointWith p g (numbers 0 fn.params ++ ys) (last_of fn.points)) (same_numbers ds) e))
 
   scoped_bodies : ScopedBodies p
   scoped_bodies g fn e =
       let i = function_there p accepted g fn e in
       let v = numbers 0 fn.params in
-      let ends : (ls : List ℕ) → take (length (v ++ local_numbers (declared_in fn.body))) ls ≡ v ++ local_numbers (declared_in fn.body) → Ends p g ls = λ ls b. subst (λ o. EndsIn p o ls) (sym e) (ends_there fn ls i.ends.1 b) in
+      let ends : (ls : List ℕ) → take (length (v ++ local_numbers (declared_in fn.body))) ls ≡ v ++ local_numbers (declared_in fn.body) → Ends p g ls = λ ls b. subst (λ o. EndsIn p g o ls) (sym e) (ends_there g fn ls i.ends.1 b) in
       let xs = v ++ local_numbers (declared_in fn.body) in (
         at_here p g (plain fn.result) (first_of fn.points) v i.ends.0,
         body_at p g (plain fn.result) fn.body v (Push (converted fn.result (Number 0)) ∷ GiveBack ∷ []) i.block i.body ends (λ ls. tt) (λ ls. tt) (ends xs (take_all (length xs) xs (le_refl (length xs)))),
@@ -103,9 +103,9 @@ module _ (p : Program) (accepted : IsAccepted p) where
 
   -- ---- activations
 
-  live : (a : Place) (o : Option ℕ) → Covered p o (locals_of a.locals) → HasItsLocals p (record a { point = o })
+  live : (a : Place) (o : Option ℕ) → Covered p a.function o (locals_of a.locals) → HasItsLocals p (record a { point = o })
   live a None c = c
-  live a (Some q) c = λ x k. bound_here x a.locals (c x k)
+  live a (Some q) c = λ x k. bound_here x a.locals (c.0 x k)
 
   outer_live : (out : List Activation) (i : ℕ) (a : Place) → OuterScoped p out → slice_get (outer_places out) i ≡ Some a → CoveredAt p a
   outer_live [] i a o e = no_none a e

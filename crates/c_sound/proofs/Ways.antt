@@ -117,17 +117,17 @@ module _ (p : Program) (f : ℕ) where
 
   -- ---- declarations and parts
 
-  one_init : (d : ℕ) (o : Option Pointed) (ds : List DeclaredLocal) (k : List Item) (ls : List ℕ) → AtPart p o ls → S (inits_of p f ds ++ k) ls ⊥ → S (inits_of p f (record { local = d; init = o } ∷ ds) ++ k) ls ⊥
+  one_init : (d : ℕ) (o : Option Pointed) (ds : List DeclaredLocal) (k : List Item) (ls : List ℕ) → AtPart p f o ls → S (inits_of p f ds ++ k) ls ⊥ → S (inits_of p f (record { local = d; init = o } ∷ ds) ++ k) ls ⊥
   one_init d None ds k ls q r = r
-  one_init d (Some e) ds k ls q r = (q, (q, behind (inits_of p f ds ++ k) ls (At p e.point ls) r))
+  one_init d (Some e) ds k ls q r = (q, (q, behind (inits_of p f ds ++ k) ls (At p f e.point ls) r))
 
   pub inits_scoped : (ds : List DeclaredLocal) (k : List Item) (ls : List ℕ) → PlacedInits p f ls ds → S k ls ⊥ → S (inits_of p f ds ++ k) ls ⊥
   inits_scoped [] k ls q r = r
   inits_scoped (d ∷ ds) k ls q r = one_init d.local d.init ds k ls q.0 (inits_scoped ds k ls q.1 r)
 
-  pub part_scoped : (o : Option Pointed) (k : List Item) (ls : List ℕ) → AtPart p o ls → S k ls ⊥ → S (part_of o ++ k) ls ⊥
+  pub part_scoped : (o : Option Pointed) (k : List Item) (ls : List ℕ) → AtPart p f o ls → S k ls ⊥ → S (part_of o ++ k) ls ⊥
   part_scoped None k ls q r = r
-  part_scoped (Some e) k ls q r = (q, (q, behind k ls (At p e.point ls) r))
+  part_scoped (Some e) k ls q r = (q, (q, behind k ls (At p f e.point ls) r))
 
   abbrev else_list : Held-Stmt-If-3 → List Stmt
   else_list None' = []
@@ -162,7 +162,7 @@ module _ (p : Program) (f : ℕ) where
   goes_on_scoped (For' at i q t b s) n k ls e h r = for_goes_on at i q t b s n k ls e h r
   goes_on_scoped _ n k ls e h r = r
 
-  pub for_starts : (at : _) (i q t : Option Pointed) (b : _) (s : Stmt) (n : ℕ) (k : List Item) (ls : List ℕ) → n ≡ length ls → AtPart p i ls → PlacedLoop p f ls (For' at i q t b s) → S k ls ⊥ → S (loop_begins (For' at i q t b s) n ++ k) ls ⊥
+  pub for_starts : (at : _) (i q t : Option Pointed) (b : _) (s : Stmt) (n : ℕ) (k : List Item) (ls : List ℕ) → n ≡ length ls → AtPart p f i ls → PlacedLoop p f ls (For' at i q t b s) → S k ls ⊥ → S (loop_begins (For' at i q t b s) n ++ k) ls ⊥
   for_starts at None None t b s n k ls e j h r = again_scoped s (For' at None None t b s) n k ls e h.2 h r
   for_starts at None (Some q) t b s n k ls e j h r = (h.0, (h.0, (e, h, r)))
   for_starts at (Some i) None t b s n k ls e j h r = (j, (j, again_scoped s (For' at (Some i) None t b s) n k ls e h.2 h r))

@@ -52,8 +52,7 @@ module _ (b : Box (Unit {0}) Global) where
         body = Prim.search (lit<, lit≤);
         points = (0, 4, refl);
         numbered = (0, refl);
-        placed = Prim.search;
-        ends = (refl, refl);
+        ends = ((refl, refl), (refl, refl));
         unit = refl;
         main = refl;
       },

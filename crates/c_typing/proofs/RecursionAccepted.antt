@@ -59,8 +59,7 @@ module _ (b : Box (Unit {0}) Global) where
         body = Prim.search (lit<, lit≤);
         points = (0, 4, refl);
         numbered = (0, refl);
-        placed = Prim.search;
-        ends = (refl, refl);
+        ends = ((refl, refl), (refl, refl));
         unit = refl;
         main = refl;
       },
@@ -76,8 +75,7 @@ module _ (b : Box (Unit {0}) Global) where
           body = Prim.search (lit<, lit≤);
           points = (5, 7, refl);
           numbered = (5, refl);
-          placed = Prim.search;
-          ends = (refl, refl);
+          ends = ((refl, refl), (refl, refl));
           unit = refl;
           main = refl;
         },

@@ -138,10 +138,10 @@ module _ (b : Box (Unit {0}) Global) where
   null_sum : is_null [] (Binary' (of_type Unsigned) b (Constant (of_type Unsigned) 4294967295) Add b (number 1)) ≡ true
   null_sum = refl
 
-  -- ---- statements, in a program of no names
+  -- ---- statements, in a program of one point and no names
 
   abbrev nothing : Program
-  nothing = record { units = []; defs = []; objects = []; strings = []; functions = []; points = []; symbols = [] }
+  nothing = record { units = []; defs = []; objects = []; strings = []; functions = []; points = record { function = 0; line = 1; column = 1; symbol = None } ∷ []; symbols = [] }
 
   abbrev Stands : (in_a_loop : Bool) → Stmt → Type 0
   Stands true s = IsStatement nothing 0 plain.Int [] in_loop s

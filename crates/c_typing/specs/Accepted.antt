@@ -20,7 +20,7 @@ use Rattle.c_typing.specs.Plain.{Plain, Int, Array, plain, same, is_scalar}
 use Rattle.c_typing.specs.Expressions.{Denoted, Function as AFunction}
 use Rattle.c_typing.specs.Written.{IsWritten, IsDeclared}
 use Rattle.c_typing.specs.Declared.{has, Differ, IsStruct, built_in, is_result, parameters}
-use Rattle.c_typing.specs.Statements.{in_function, local_numbers, locals_at, IsStatement, locals_of}
+use Rattle.c_typing.specs.Statements.{in_function, local_numbers, IsPointWith, IsStatement, locals_of}
 use Rattle.c_typing.specs.Starts.{IsObject, static_room}
 
 -- a property of each item and its number
@@ -58,17 +58,13 @@ abbrev pub AreScalars : List Plain → Type 0
 AreScalars ts = AllByRecursion (λ t. is_scalar t ≡ true) ts
 
 module _ (p : Program) where
-  abbrev pub IsPointOf : ℕ → Option Point → Type 0
-  IsPointOf f None = ⊥
-  IsPointOf f (Some q) = q.function ≡ f
-
   abbrev functions_in : Option UnitRow → List ℕ
   functions_in None = []
   functions_in (Some u) = u.functions
 
   -- at the first point of a function its parameters are in scope, and at the last one the locals of its outermost block too
-  abbrev pub AreEnds : List ℕ → List ℕ → List ℕ → Type 0
-  AreEnds qs params outermost = (locals_at p (first_of qs) ≡ reverse params) × (locals_at p (last_of qs) ≡ reverse (params ++ outermost))
+  abbrev pub AreEnds : ℕ → List ℕ → List ℕ → List ℕ → Type 0
+  AreEnds f qs params outermost = IsPointWith p f params (first_of qs) × IsPointWith p f (params ++ outermost) (last_of qs)
 
   -- 9. A function with a body: at most 16 parameters, which are scalars; its locals, in the order of the source; its body; and its points, numbered in the order of the source (C90 6.7.1).
   pub record IsFunction (f : ℕ) (fn : Function) : Type 0 where
@@ -82,8 +78,7 @@ module _ (p : Program) where
     pub body : IsStatement p f (plain fn.result) (numbers 0 fn.params) in_function fn.body
     pub points : HasItsPoints fn
     pub numbered : (first : ℕ) × (fn.points ≡ numbers first (length fn.points))
-    pub placed : AllByRecursion (λ q. IsPointOf f (slice_get p.points q)) fn.points
-    pub ends : AreEnds fn.points (numbers 0 fn.params) (local_numbers (declared_in fn.body))
+    pub ends : AreEnds f fn.points (numbers 0 fn.params) (local_numbers (declared_in fn.body))
     pub unit : has (functions_in (slice_get p.units fn.unit)) f ≡ true
     pub main : not (is_called_main fn) || (same (plain fn.result) Int && (fn.params == 0)) ≡ true
 

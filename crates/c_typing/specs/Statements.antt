@@ -1,5 +1,5 @@
 -- When a statement is well typed (C90 6.6), by recursion over it.
-use Rattle.std.specs.Prelude.{◌≡◌, ℕ, suc, ◌+◌, ◌≤◌, ◌<◌, ◌^◌, Bool, true, false, List, [], ◌∷◌, ◌++◌, Option, Some, None, slice_get, length, reverse, zero}
+use Rattle.std.specs.Prelude.{◌≡◌, ℕ, suc, ◌+◌, ◌≤◌, ◌<◌, ◌^◌, Bool, true, false, List, [], ◌∷◌, ◌++◌, Option, Some, None, slice_get, option_map, length, reverse, zero}
 use Rattle.c_tree.specs.declared.typed.Typed.{Typed}
 use Rattle.c_tree.specs.declared.typed.Pointed.{Pointed}
 use Rattle.c_tree.specs.declared.typed.DeclaredLocal.{DeclaredLocal}
@@ -88,6 +88,13 @@ symbol_in (Some q) = q.symbol
 abbrev pub locals_at : Program → (point : ℕ) → List ℕ
 locals_at p q = locals_from p.symbols (length p.symbols) (symbol_in (slice_get p.points q))
 
+abbrev pub function_at : Program → (point : ℕ) → Option ℕ
+function_at p q = option_map (λ row. row.function) (slice_get p.points q)
+
+-- a stopping point of a function, at which these locals are in scope (C90 6.1.2.1)
+abbrev pub IsPointWith : Program → (function : ℕ) → List ℕ → (point : ℕ) → Type 0
+IsPointWith p f visible q = (locals_at p q ≡ reverse visible) × (function_at p q ≡ Some f)
+
 module _ (p : Program) (f : ℕ) (result : Plain) where
   -- the type of a local of the function
   abbrev pub type_of_local : ℕ → Plain
@@ -97,9 +104,8 @@ module _ (p : Program) (f : ℕ) (result : Plain) where
     abbrev pub here : Scope
     here = scope_at p f visible
 
-    -- at a stopping point these locals are in scope (C90 6.1.2.1)
     abbrev pub IsPlaced : (point : ℕ) → Type 0
-    IsPlaced q = locals_at p q ≡ reverse visible
+    IsPlaced q = IsPointWith p f visible q
 
     -- 16. A controlling expression is a scalar (C90 6.6.4, 6.6.5).
     abbrev pub IsTest : Pointed → Type 0
