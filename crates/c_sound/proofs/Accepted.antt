@@ -53,7 +53,7 @@ module _ (p : Program) (accepted : IsAccepted p) where
   pub function_there : (g : ℕ) (fn : Function) → slice_get p.functions g ≡ Some fn → IsFunction p g fn
   function_there g fn e = let z : g + 0 ≡ g = omega arith in subst (λ n. IsFunction p n fn) z (each_from (IsFunction p) 0 p.functions g fn accepted.functions e)
 
-  parameters_there : (g : ℕ) (fn : Function) → slice_get p.functions g ≡ Some fn → HasParameters fn
+  pub parameters_there : (g : ℕ) (fn : Function) → slice_get p.functions g ≡ Some fn → HasParameters fn
   parameters_there g fn e =
       let d = (function_there g fn e).declared in
       let n : length fn.locals ≡ fn.params + length (locals_in fn.body) =

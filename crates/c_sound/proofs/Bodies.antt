@@ -42,7 +42,7 @@ pub has_or : (t a : Bool) → a ≡ true → (if t then true else a) ≡ true
 has_or true a h = refl
 has_or false a h = h
 
-same_number : (x : ℕ) → (x == x) ≡ true
+pub same_number : (x : ℕ) → (x == x) ≡ true
 same_number x = grind arith
 
 has_here : (v : List ℕ) (x : ℕ) (rest : List ℕ) → has (v ++ x ∷ rest) x ≡ true

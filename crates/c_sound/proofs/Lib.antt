@@ -21,3 +21,4 @@ mod Stays
 mod Places
 mod Stops
 mod Courses
+mod Sessions

@@ -18,7 +18,7 @@ stored_fits : (w : World) (m : Result World Why) → WorldFits w → Gives World
 stored_fits w (Ok w') h g = g
 stored_fits w (Err e) h g = h
 
-assigned_fits : (all : List Assignment) (w : World) → AreFitting all → WorldFits w → WorldFits (all_assigned all w)
+pub assigned_fits : (all : List Assignment) (w : World) → AreFitting all → WorldFits w → WorldFits (all_assigned all w)
 assigned_fits [] w a h = h
 assigned_fits (x ∷ rest) w a h = assigned_fits rest (stored_or w (store w x.kind x.place x.value)) a.1 (stored_fits w (store w x.kind x.place x.value) h (store_gives w x.kind x.place x.value h a.0))
 

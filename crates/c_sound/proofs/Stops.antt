@@ -81,7 +81,7 @@ module _ (p : Program) (accepted : IsAccepted p) where
       let n : outermost_of fn ≡ length xs = sym (length-append (numbers 0 fn.params) (local_numbers ds) ∙ ap (λ m. m + length (local_numbers ds)) (numbers_length 0 fn.params) ∙ ap (λ m. fn.params + m) (locals_length ds)) in
       subst (At p g (last_of fn.points)) (sym (ap (λ m. take m ls) n ∙ b)) (at_here p g (plain fn.result) (last_of fn.points) xs (subst (λ ys. IsPointWith p g (numbers 0 fn.params ++ ys) (last_of fn.points)) (same_numbers ds) e))
 
-  scoped_bodies : ScopedBodies p
+  pub scoped_bodies : ScopedBodies p
   scoped_bodies g fn e =
       let i = function_there p accepted g fn e in
       let v = numbers 0 fn.params in
@@ -95,7 +95,7 @@ module _ (p : Program) (accepted : IsAccepted p) where
   main_scoped n None fn e z r = no_none fn e
   main_scoped n (Some g) fn e z r = subst (λ c. Scoped p n (control_in p n c) [] ⊥) (sym e) (subst (λ m. Scoped p n (body_of p n fn) (numbers 0 m) ⊥) z r)
 
-  begins_in_scope : (input : List ℕ) → InScope p (begin p input)
+  pub begins_in_scope : (input : List ℕ) → InScope p (begin p input)
   begins_in_scope input =
       let n = main_from 0 p.functions in
       let m = main_of p accepted.main (λ g fn e. (function_there p accepted g fn e).main) in
@@ -112,7 +112,7 @@ module _ (p : Program) (accepted : IsAccepted p) where
   outer_live (x ∷ rest) zero a o e = subst (CoveredAt p) (some_same x.place a e) o.0
   outer_live (x ∷ rest) (suc i) a o e = outer_live rest i a o.2 e
 
-  all_live : (s : State) (i : ℕ) (a : Place) → InScope p s → CoveredAt p s.here.place → slice_get (places s) i ≡ Some a → CoveredAt p a
+  pub all_live : (s : State) (i : ℕ) (a : Place) → InScope p s → CoveredAt p s.here.place → slice_get (places s) i ≡ Some a → CoveredAt p a
   all_live s zero a g c e = subst (CoveredAt p) (some_same s.here.place a e) c
   all_live s (suc i) a g c e = outer_live s.outer i a g.outer e
 

@@ -3,4 +3,7 @@
 
 mod laws;
 
-pub use laws::{accepted_programs_keep_shapes, evaluations_keep_shapes, stops_have_their_locals};
+pub use laws::{
+    accepted_programs_keep_shapes, evaluations_keep_shapes, sessions_have_answers,
+    stops_have_their_locals,
+};

@@ -70,7 +70,7 @@ type_in (Some l) = plain l.ctype
 
 -- ---- names at stopping points
 
-abbrev local_on : Referent → List ℕ
+abbrev pub local_on : Referent → List ℕ
 local_on (refers.Local x) = x ∷ []
 local_on _ = []
 
