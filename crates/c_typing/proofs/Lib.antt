@@ -11,3 +11,4 @@ mod TwoFileAccepted
 mod InputAccepted
 mod StaleAccepted
 mod Refused
+mod FormsAccepted
