@@ -16,7 +16,7 @@ members_some : (ms : List Member) → 1 ≤ length ms → not (is_empty ms) ≡ 
 members_some [] h = absurd (omega arith)
 members_some (m ∷ ms) h = refl
 
-and_true : (a b : Bool) → a ≡ true → b ≡ true → a && b ≡ true
+pub and_true : (a b : Bool) → a ≡ true → b ≡ true → a && b ≡ true
 and_true true b p q = q
 and_true false b p q = p
 

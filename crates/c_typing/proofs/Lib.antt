@@ -1,4 +1,5 @@
 mod Complete
+mod Same
 mod Trees
 mod PointerAccepted
 mod ShadowedAccepted

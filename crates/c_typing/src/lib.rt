@@ -3,4 +3,4 @@
 
 mod laws;
 
-pub use laws::complete_types;
+pub use laws::{complete_types, same_types};
