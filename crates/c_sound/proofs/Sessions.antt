@@ -1,9 +1,8 @@
 -- Sessions over accepted programs always have an answer.
-use Rattle.std.proofs.Common.{◌≡◌, refl, sym, ◌∙◌, subst, ap, arith, ℕ, suc, zero, ◌≤◌, List, [], ◌∷◌, ◌++◌, Bool, true, false, Option, Some, None, ◌⊎◌, inl, inr, length, true≢false, replicate}
+use Rattle.std.proofs.Common.{◌≡◌, refl, sym, subst, arith, ℕ, suc, zero, ◌≤◌, List, [], ◌∷◌, ◌++◌, Bool, true, false, Option, Some, None, ◌⊎◌, inl, inr, length, replicate}
 use Rattle.std.specs.Prelude.{Result, Ok, Err, slice_get, if◌then◌else◌, option_and_then, bytes_eq, ◌==◌, codes, filter, not}
 use Rattle.runs.specs.Runs.{Next, Goes, Passes, Exits, Undefined, Stuck, Why, Reason, Stale, IllTyped, Course, Going, Comes, Lost, Event, Stopped, Exited, Failed, counted, passing, onward, until}
 use Rattle.c_tree.specs.declared.types.CType.{CType}
-use Rattle.c_tree.specs.declared.typed.Typed.{Typed}
 use Rattle.c_tree.specs.declared.rows.Program.{Program}
 use Rattle.c_tree.specs.declared.rows.Point.{Point}
 use Rattle.c_tree.specs.declared.rows.SymbolRow.{SymbolRow}
@@ -15,17 +14,16 @@ use Rattle.c_store.specs.Frames.{Here, Place, bound}
 use Rattle.c_source.specs.Control.{State}
 use Rattle.c_source.specs.Source.{step}
 use Rattle.c_source.specs.Begin.{begin, places}
-use Rattle.c_source.specs.Meaning.{Given, values_meant, assigned, IsPlain, IsAssignment}
+use Rattle.c_source.specs.Meaning.{Given, values_meant, assigned}
 use Rattle.c_source.specs.Names.{named, place_text}
-use Rattle.c_typing.specs.Expressions.{IsTyped}
 use Rattle.c_typing.specs.Declared.{has, scope_at}
-use Rattle.c_typing.specs.Statements.{local_on, locals_from, locals_at, function_at}
+use Rattle.c_typing.specs.Statements.{local_on, locals_from, locals_at}
 use Rattle.c_typing.specs.Accepted.{IsAccepted}
 use Rattle.c_session.specs.declared.command.Command.{Command}
 use Rattle.c_session.specs.declared.command.Command.TheVariants as command
 use Rattle.c_session.specs.Commands.{Session, Mode, Fresh, Stopped as StoppedAt, Running, Ended, Resume, ByStep, ByContinue, Reader, Reading, Read, Unread, Answer, Refuses, Says, Shows, Sets, ShowsAny, EndsClaim, Resumes, Quits, Nothing, answer, break_at, clear_at, print_object, print_referent, print_symbol, eval_gives, eval_read, assign_gives, assign_read, in_frame, frame_at, frames_of, point_of, in_stopped, in_fresh, in_running, in_ended, by_mode, NoPlace, BadSyntax, has as has_point}
 use Rattle.c_session.specs.Places.{point_at}
-use Rattle.c_session.specs.Allowed.{Lines, Standing, IsEvent, stops_by, AllMeet, AllMove, IsOnTheWay, ResumeReplies, AnswerReplies, MemoryReplies, after_event, event_output, with_state, at_first}
+use Rattle.c_session.specs.Allowed.{Lines, Standing, stops_by, AllMeet, AllMove, IsOnTheWay, ResumeReplies, AnswerReplies, MemoryReplies, after_event, with_state, at_first}
 use Rattle.c_sound.specs.Shapes.{IsAssigned}
 use Rattle.c_sound.specs.Sessions.{IsFaithful, AreAnswered, IsAboutProgram, HasAnswer}
 use Rattle.c_sound.proofs.Shaped.{ShapedL}

@@ -1,5 +1,5 @@
 -- At each stop every activation has the locals in scope at the point that it passed last.
-use Rattle.std.proofs.Common.{◌≡◌, refl, sym, ◌∙◌, subst, ap, ℕ, suc, zero, ◌+◌, List, [], ◌∷◌, ◌++◌, Option, Some, None, length, take, reverse, length-append, take_all, le_refl}
+use Rattle.std.proofs.Common.{◌≡◌, refl, sym, ◌∙◌, subst, ap, ℕ, suc, zero, ◌+◌, List, [], ◌∷◌, ◌++◌, Option, Some, None, length, take, length-append, take_all, le_refl}
 use Rattle.std.specs.Prelude.{slice_get}
 use Rattle.runs.specs.Runs.{Next, Goes, Passes, Exits, Undefined, Stuck, Moment, Outcome, Reached, Breaks, Nowhere, after, after_count, past, then_on}
 use Rattle.c_tree.specs.declared.typed.DeclaredLocal.{DeclaredLocal}
@@ -13,7 +13,7 @@ use Rattle.c_source.specs.Control.{Push, GiveBack, State, Activation, body_of, o
 use Rattle.c_source.specs.Source.{step}
 use Rattle.c_source.specs.Begin.{begin, acted, places, outer_places}
 use Rattle.c_typing.specs.Plain.{plain}
-use Rattle.c_typing.specs.Statements.{local_numbers as numbers_of, locals_at, IsPointWith}
+use Rattle.c_typing.specs.Statements.{local_numbers as numbers_of, IsPointWith}
 use Rattle.c_typing.specs.Accepted.{numbers, IsAccepted}
 use Rattle.c_sound.specs.Shapes.{IsFitting, HasItsLocals}
 use Rattle.c_sound.proofs.Shaped.{local_numbers}

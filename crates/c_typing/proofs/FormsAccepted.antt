@@ -12,7 +12,7 @@
 --   while (j) { j = j - 1; if (j == 2) continue; break; }
 --   return ~a.v & 15;
 -- }
-use Rattle.std.proofs.Common.{◌≡◌, refl, [], ◌∷◌, ℕ, Some, None, false, true, lit<, lit≤}
+use Rattle.std.proofs.Common.{refl, [], ◌∷◌, ℕ, Some, None, false, true, lit<, lit≤}
 use Rattle.std.specs.Prelude.{Box, codes}
 use Rattle.std.specs.declared.alloc.Global.{Global}
 use Rattle.c_tree.specs.declared.types.CType.{CType}

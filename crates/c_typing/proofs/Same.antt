@@ -1,5 +1,5 @@
 -- Types that are told to be the same are equal.
-use Rattle.std.proofs.Common.{◌≡◌, refl, sym, ◌∙◌, ap, arith, ℕ, Bool, true, false, true≢false, ◌&&◌}
+use Rattle.std.proofs.Common.{◌≡◌, refl, sym, ◌∙◌, ap, arith, ℕ, true, true≢false}
 use Rattle.std.specs.Prelude.{◌==◌}
 use Rattle.c_typing.specs.Plain.{Plain, Char, Int, Unsigned, Void, Pointer, Array, Struct, same}
 use Rattle.c_typing.proofs.Complete.{and_parts, and_true}
