@@ -4,13 +4,16 @@ use Rattle.std.specs.List.{AllByRecursion}
 use Rattle.ldb_words.specs.declared.kinds.Kind.{Kind}
 use Rattle.ldb_words.specs.declared.kinds.Kind.TheVariants.{Byte, Word, Address}
 use Rattle.c_tree.specs.declared.rows.Program.{Program}
-use Rattle.runs.specs.Runs.{Why, Reason, Stale, IllTyped, Course, Going, Comes, Lost, Stopped, Exited, Failed, Outcome, Reached, Breaks, Nowhere}
+use Rattle.runs.specs.Runs.{Why, Reason, Stale, IllTyped, Course, Going, Comes, Lost, Stopped, Exited, Failed, Moment, Outcome, Reached, Breaks, Nowhere, after}
 use Rattle.c_store.specs.Store.{Value, Number, Null, At, World}
 use Rattle.c_store.specs.Frames.{Place, bound}
 use Rattle.c_store.specs.Assigned.{Assignment, History, all_assigned}
 use Rattle.c_source.specs.Control.{State}
+use Rattle.c_source.specs.Source.{step}
+use Rattle.c_source.specs.Begin.{begin, acted}
 use Rattle.c_typing.specs.Declared.{has}
 use Rattle.c_typing.specs.Statements.{locals_at}
+use Rattle.c_typing.specs.Accepted.{IsAccepted}
 
 -- the null pointer, or a pointer into an object, and no number
 abbrev pub is_place : Value → Bool
@@ -42,7 +45,11 @@ KeepsShapes (Breaks Stale) = Unit {0}
 KeepsShapes (Breaks IllTyped) = ⊥
 KeepsShapes Nowhere = ⊥
 
--- the same of a run to an event
+-- a moment before the end that the run of an accepted program comes to, on this input and with assignments of a debugger that fit
+abbrev pub IsMoment : Program → List ℕ → History → Moment State → Type 0
+IsMoment p input h m = IsAccepted p × IsFitting h × ((n : ℕ) × (after State (step p) (acted h) n 0 (begin p input) ≡ Reached m)) × (m.exit ≡ None)
+
+-- a run to an event: again no value has the wrong shape, and no step is without an answer
 abbrev pub CourseKeepsShapes : Course State → Type 0
 CourseKeepsShapes (Going c s) = Unit {0}
 CourseKeepsShapes (Comes c (Stopped q s)) = Unit {0}
