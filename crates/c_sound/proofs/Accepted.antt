@@ -1,0 +1,115 @@
+-- Accepted programs.
+use Rattle.std.proofs.Common.{◌≡◌, refl, sym, ◌∙◌, subst, ap, arith, ℕ, suc, zero, ◌+◌, ◌≤◌, List, [], ◌∷◌, Option, Some, None, length, length-append, le-add_right}
+use Rattle.std.specs.Prelude.{Bool, slice_get, Result, Ok, Err, true}
+use Rattle.c_tree.specs.declared.types.CType.{CType}
+use Rattle.c_tree.specs.declared.types.CType.TheVariants as ctype
+use Rattle.c_tree.specs.declared.rows.Program.{Program}
+use Rattle.c_tree.specs.declared.rows.Function.{Function}
+use Rattle.c_tree.specs.declared.typed.Typed.{Typed}
+use Rattle.runs.specs.Runs.{Why, Reason, Stale, IllTyped, Moment, Reached, after, until}
+use Rattle.c_store.specs.Store.{Number}
+use Rattle.c_store.specs.Frames.{Here, Place}
+use Rattle.c_store.specs.Assigned.{History}
+use Rattle.c_source.specs.Blocks.{result_type, converted}
+use Rattle.c_source.specs.Control.{Push, GiveBack, State}
+use Rattle.c_source.specs.Source.{step}
+use Rattle.c_source.specs.Begin.{begin, acted}
+use Rattle.c_source.specs.Meaning.{Given, values_meant, assigned, IsPlain, IsAssignment}
+use Rattle.c_typing.specs.Plain.{plain}
+use Rattle.c_typing.specs.Expressions.{IsTyped}
+use Rattle.c_typing.specs.Declared.{has, scope_at}
+use Rattle.c_typing.specs.Statements.{locals_of as locals_in}
+use Rattle.c_typing.specs.Accepted.{AllFrom, numbers, IsFunction, IsAccepted}
+use Rattle.c_sound.specs.Shapes.{IsFitting, KeepsShapes, CourseKeepsShapes, HasMeaning, IsAssigned, AreLive}
+use Rattle.c_sound.proofs.World.{Gives, WorldFits}
+use Rattle.c_sound.proofs.Ready.{locals_of, Good}
+use Rattle.c_sound.proofs.Lists.{live_here}
+use Rattle.c_sound.proofs.Evaluations.{values_given, assigned_given}
+use Rattle.c_sound.proofs.Structs.{struct_lvalue}
+use Rattle.c_sound.proofs.Operators.{addr, converted_shape}
+use Rattle.c_sound.proofs.Steps.{ShapedFunction}
+use Rattle.c_sound.proofs.Rules.{no_none, some_same}
+use Rattle.c_sound.proofs.Typed.{HasParameters, evaluated, located}
+use Rattle.c_sound.proofs.Bodies.{given_back, body_ready}
+use Rattle.c_sound.proofs.Begins.{begins_good}
+use Rattle.c_sound.proofs.Courses.{courses_keep}
+use Rattle.c_sound.proofs.Runs.{runs_keep, ReachesGood, runs_reach}
+
+-- what holds of all items and their numbers holds of each
+pub each_from : {A : Type 0} (P : ℕ → A → Type 0) (n : ℕ) (xs : List A) (i : ℕ) (x : A) → AllFrom P n xs → slice_get xs i ≡ Some x → P (i + n) x
+each_from P n [] i x h e = no_none x e
+each_from P n (y ∷ ys) zero x h e = let z : n ≡ 0 + n = omega arith in subst (λ m. P m x) z (subst (P n) (some_same y x e) h.0)
+each_from P n (y ∷ ys) (suc i) x h e = let z : i + suc n ≡ suc i + n = omega arith in subst (λ m. P m x) z (each_from P (suc n) ys i x h.1 e)
+
+pub numbers_length : (from n : ℕ) → length (numbers from n) ≡ n
+numbers_length from zero = refl
+numbers_length from (suc n) = ap suc (numbers_length (suc from) n)
+
+abbrev result_in : Option Function → CType
+result_in None = ctype.Void
+result_in (Some f) = f.result
+
+module _ (p : Program) (accepted : IsAccepted p) where
+  pub function_there : (g : ℕ) (fn : Function) → slice_get p.functions g ≡ Some fn → IsFunction p g fn
+  function_there g fn e = let z : g + 0 ≡ g = omega arith in subst (λ n. IsFunction p n fn) z (each_from (IsFunction p) 0 p.functions g fn accepted.functions e)
+
+  pub parameters_there : (g : ℕ) (fn : Function) → slice_get p.functions g ≡ Some fn → HasParameters fn
+  parameters_there g fn e =
+      let d = (function_there g fn e).declared in
+      let n : length fn.locals ≡ fn.params + length (locals_in fn.body) =
+      sym (numbers_length 0 (length fn.locals)) ∙ ap length d ∙ length-append (numbers 0 fn.params) (locals_in fn.body) ∙ ap (λ m. m + length (locals_in fn.body)) (numbers_length 0 fn.params) in
+      subst (λ m. fn.params ≤ m) (sym n) (le-add_right fn.params (length (locals_in fn.body)))
+
+  function_ready : (g : ℕ) (o : Option Function) → slice_get p.functions g ≡ o → ShapedFunction p g o
+  function_ready g None e = tt
+  function_ready g (Some fn) e =
+      let i = function_there g fn e in
+      let t : fn.result ≡ result_type p g = sym (ap result_in e) in
+      body_ready p parameters_there g (plain fn.result) (ap plain t) fn.body (numbers 0 fn.params) (Push (converted fn.result (Number 0)) ∷ GiveBack ∷ []) i.block i.body
+      (λ ls. converted_shape fn.result (Number 0) ∙ given_back fn.result i.result ∙ ap addr t)
+
+  pub bodies_ready : (g : ℕ) → ShapedFunction p g (slice_get p.functions g)
+  bodies_ready g = function_ready g (slice_get p.functions g) refl
+
+  pub accepted_keeps : (input : List ℕ) (h : History) (n : ℕ) → IsFitting h → KeepsShapes (after State (step p) (acted h) n 0 (begin p input))
+  accepted_keeps input h n fits = runs_keep p bodies_ready h fits n 0 (begin p input) (begins_good p input bodies_ready accepted.objects accepted.main (λ g fn e. (function_there g fn e).main))
+
+  -- ---- what a debugger evaluates and assigns
+
+  module _ (input : List ℕ) (h : History) (fits : IsFitting h) (n : ℕ) (m : Moment State) (reached : after State (step p) (acted h) n 0 (begin p input) ≡ Reached m) (before : m.exit ≡ None) where
+    good_there : Good p m.state
+    good_there = (subst (ReachesGood p bodies_ready h fits) reached (runs_reach p bodies_ready h fits n 0 (begin p input) (begins_good p input bodies_ready accepted.objects accepted.main (λ g fn e. (function_there g fn e).main))) before)
+
+    world_there : WorldFits m.state.here.world
+    world_there = good_there.world
+
+    pub course_keeps : (stops : ℕ → Bool) (k : ℕ) → CourseKeepsShapes (until State (step p) stops k m.state)
+    course_keeps stops k = courses_keep p bodies_ready stops k m.state good_there
+
+    module _ (a : Place) (v : List ℕ) (live : AreLive v a) (e : Typed) (typed : IsTyped (scope_at p a.function v) e) where
+      abbrev pub at : Here
+      at = record { world = m.state.here.world; place = a }
+
+      within : (x : ℕ) → has v x ≡ true → has (locals_of a.locals) x ≡ true
+      within x q = let o = live x q in live_here x o.0 a.locals o.1
+
+      meaning_of : {A : Type 0} (P : A → Type 0) (r : Result A Why) → Gives P r → HasMeaning r
+      meaning_of P (Ok x) g = tt
+      meaning_of P (Err (Reason u)) g = tt
+      meaning_of P (Err Stale) g = tt
+      meaning_of P (Err IllTyped) g = g
+
+      pub values_keep : IsPlain e → HasMeaning (values_meant p at e)
+      values_keep i =
+          let ls = locals_of a.locals in
+          let q = evaluated p a.function v ls within parameters_there e typed in
+          meaning_of (λ _. Unit {0}) (values_meant p at e) (values_given p at world_there e i q (λ k. located p a.function v ls within parameters_there e typed (struct_lvalue (scope_at p a.function v) e i typed k)))
+
+      pub assigned_keeps : IsAssignment e → Gives (λ g. IsAssigned m.state.here.world g.world) (assigned p at e)
+      assigned_keeps i = assigned_given p at world_there e i (evaluated p a.function v (locals_of a.locals) within parameters_there e typed)
+
+      pub assignment_has_meaning : IsAssignment e → HasMeaning (assigned p at e)
+      assignment_has_meaning i = meaning_of (λ g. IsAssigned m.state.here.world g.world) (assigned p at e) (assigned_keeps i)
+
+      pub assigned_fits : (g : Given) → assigned p at e ≡ Ok g → IsAssignment e → IsAssigned m.state.here.world g.world
+      assigned_fits g k i = subst (Gives (λ g. IsAssigned m.state.here.world g.world)) k (assigned_keeps i)

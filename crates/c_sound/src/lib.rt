@@ -1,0 +1,9 @@
+//! Accepted programs never come to a value of the wrong shape.
+#![tactic(auto)]
+
+mod laws;
+
+pub use laws::{
+    accepted_programs_keep_shapes, evaluations_keep_shapes, sessions_have_answers,
+    stops_have_their_locals,
+};

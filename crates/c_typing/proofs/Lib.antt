@@ -1,0 +1,15 @@
+mod Complete
+mod Same
+mod Trees
+mod PointerAccepted
+mod ShadowedAccepted
+mod RegisterAccepted
+mod StructAccepted
+mod StringAccepted
+mod LoopAccepted
+mod RecursionAccepted
+mod TwoFileAccepted
+mod InputAccepted
+mod StaleAccepted
+mod Refused
+mod FormsAccepted

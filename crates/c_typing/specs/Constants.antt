@@ -1,0 +1,68 @@
+-- Constant expressions and null constants (C90 6.4, 6.2.2.3).
+use Rattle.std.specs.Prelude.{ℕ, Bool, true, false, ◌==◌, if◌then◌else◌, List, Option, Some, None, option_map, option_and_then, Result, Ok, Err, bit_xor}
+use Rattle.ldb_words.specs.declared.kinds.Undef.{Undef}
+use Rattle.c_tree.specs.declared.types.CType.{CType}
+use Rattle.c_tree.specs.declared.types.CType.TheVariants.{Char}
+use Rattle.c_tree.specs.declared.types.StructDef.{StructDef}
+use Rattle.c_tree.specs.declared.typed.BinaryOp.{BinaryOp}
+use Rattle.c_tree.specs.declared.typed.BinaryOp.TheVariants.{Subtract, Equal}
+use Rattle.c_tree.specs.declared.typed.UnaryOp.{UnaryOp}
+use Rattle.c_tree.specs.declared.typed.UnaryOp.TheVariants.{Plus, Minus, Complement, Not}
+use Rattle.c_tree.specs.declared.typed.Typed.{Typed}
+use Rattle.c_tree.specs.declared.typed.Typed.TheVariants.{Choice', Or', And', Binary', Cast', Unary', SizeOf', SizeOfType, Constant, Parens'}
+use Rattle.c_tree.specs.Types.{type_of, is_unsigned}
+use Rattle.c_tree.specs.Layout.{size_of}
+use Rattle.c_store.specs.Bits.{low_byte, minus_one}
+use Rattle.c_source.specs.Operators.{on_ints, on_unsigned, operating_type, truth}
+
+abbrev pub defined : Result ℕ Undef → Option ℕ
+defined (Ok n) = Some n
+defined (Err r) = None
+
+-- what a binary operator gives on two numbers of integer types, where it is defined (C90 6.3.5 to 6.3.12)
+abbrev pub operated : BinaryOp → (s t : CType) → ℕ → ℕ → Option ℕ
+operated op s t x y = defined (if is_unsigned (operating_type op s t) then on_unsigned op x y else on_ints op x y)
+
+-- `-a` is `0 - a`, `~a` has the other bits, and `!a` is `a == 0` (C90 6.3.3.3)
+abbrev pub operated_on : UnaryOp → (t : CType) → ℕ → Option ℕ
+operated_on Plus t n = Some n
+operated_on Minus t n = operated Subtract t t 0 n
+operated_on Complement t n = Some (bit_xor minus_one n)
+operated_on Not t n = operated Equal t t n 0
+
+-- a conversion to `char` keeps the low 8 bits with their sign, and the others keep all (C90 6.2.1.2)
+abbrev pub cast_to : CType → ℕ → ℕ
+cast_to Char n = low_byte n
+cast_to _ n = n
+
+abbrev pub is_true : ℕ → Bool
+is_true n = if n == 0 then false else true
+
+-- `&&`, `||` and `? :` evaluate no more than they need (C90 6.3.13 to 6.3.15)
+abbrev pub chosen : ℕ → Option ℕ → Option ℕ → Option ℕ
+chosen c a b = if is_true c then a else b
+
+abbrev pub truth_of : Option ℕ → Option ℕ
+truth_of a = option_map (λ n. truth (is_true n)) a
+
+-- The value of a constant expression, as its bits. It is built of integer and character constants, `sizeof`, casts to integer types, unary and binary operators without assignment and comma, and `? :`, and its value is defined (C90 6.4).
+abbrev pub constant_of : List StructDef → Typed → Option ℕ
+constant_of defs (Constant h n) = Some n
+constant_of defs (SizeOf' h _ a) = Some (size_of defs (type_of a))
+constant_of defs (SizeOfType h t) = Some (size_of defs t)
+constant_of defs (Cast' h _ a) = option_map (cast_to h.ctype) (constant_of defs a)
+constant_of defs (Unary' h op _ a) = option_and_then (operated_on op (type_of a)) (constant_of defs a)
+constant_of defs (Binary' h _ a op _ b) = option_and_then (λ x. option_and_then (operated op (type_of a) (type_of b) x) (constant_of defs b)) (constant_of defs a)
+constant_of defs (And' h _ a _ b) = option_and_then (λ c. chosen c (truth_of (constant_of defs b)) (Some 0)) (constant_of defs a)
+constant_of defs (Or' h _ a _ b) = option_and_then (λ c. chosen c (Some 1) (truth_of (constant_of defs b))) (constant_of defs a)
+constant_of defs (Choice' h _ c _ a _ b) = option_and_then (λ n. chosen n (constant_of defs a) (constant_of defs b)) (constant_of defs c)
+constant_of defs (Parens' h _ a) = constant_of defs a
+constant_of defs _ = None
+
+abbrev pub is_zero : Option ℕ → Bool
+is_zero None = false
+is_zero (Some n) = n == 0
+
+-- a null constant is a constant expression of value 0
+abbrev pub is_null : List StructDef → Typed → Bool
+is_null defs e = is_zero (constant_of defs e)

@@ -1,0 +1,6 @@
+//! The typing rules of C, on checked trees: when an expression, a statement, a declaration and a whole program are well typed.
+#![tactic(auto)]
+
+mod laws;
+
+pub use laws::{complete_types, same_types};
