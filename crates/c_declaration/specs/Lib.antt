@@ -5,3 +5,5 @@ pub mod Stored
 pub mod InitialStored
 pub mod View
 pub mod Grammar
+pub mod Feeding
+pub mod Grown
