@@ -7,3 +7,10 @@ pub mod View
 pub mod Grammar
 pub mod Feeding
 pub mod Grown
+pub mod DeclaratorReading
+pub mod InitialReading
+pub mod NameReading
+pub mod LocalReading
+pub mod MembersReading
+pub mod FileReading
+pub mod Laws
