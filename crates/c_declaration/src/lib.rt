@@ -5,9 +5,11 @@ mod braces;
 mod built;
 mod front;
 mod function;
+mod grown;
 mod state;
 mod step;
 mod tree;
+mod unnamed;
 
 pub use braces::BuiltBraces;
 pub use built::Built;
