@@ -164,11 +164,7 @@ pub fn named_of(
 }
 
 /// A parameter without a name.
-pub fn unnamed_of(
-    place: Place,
-    spec: Spec,
-    a: Option<Built<Abstract>>,
-) -> Option<Built<Parameter>>
+pub fn unnamed_of(place: Place, spec: Spec, a: Option<Built<Abstract>>) -> Option<Built<Parameter>>
     ensures { result ≡ unnamed_of place spec a }
 {
     match a {

@@ -3,6 +3,8 @@
 
 mod braces;
 mod built;
+mod closing;
+mod declarator;
 mod front;
 mod function;
 mod grown;
@@ -13,15 +15,17 @@ mod unnamed;
 
 pub use braces::BuiltBraces;
 pub use built::Built;
+pub use declarator::declarator_offer;
 pub use front::Stars;
 pub use function::BuiltFunction;
 pub use state::{
-    Bounded, DeclaratorParser, FileFront, FileParser, Frame, InitialMode, InitialParser, LocalFront,
-    LocalParser, MembersParser, Mode, NameParser, Names, OpenBraces, ReadHead, ReadLocal, ReadName,
-    RowMode, RowType, Taking,
+    Bounded, DeclaratorParser, DeclaratorStep, FileFront, FileParser, FileStep, Frame, InitialMode,
+    InitialParser, InitialStep, LocalFront, LocalParser, LocalStep, MembersParser, MembersStep,
+    Mode, NameParser, NameStep, Names, OpenBraces, ReadHead, ReadLocal, ReadName, RowMode, RowType,
+    Taking,
 };
 pub use step::Step;
 pub use tree::{
-    Declarator, DeclaratorNode, Declared, FileSpec, FunctionHead, Head, Initial, InitialNode, Local,
-    MemberPart, Parameter, ParameterNode, Storage,
+    Declarator, DeclaratorNode, Declared, FileSpec, FunctionHead, Head, Initial, InitialNode,
+    Local, MemberPart, Parameter, ParameterNode, Storage,
 };

@@ -74,10 +74,7 @@ fn push_bound(declarator: Abstract, bound: Option<Expr>) -> Result<Abstract, All
 }
 
 /// A declarator with a bound behind it.
-fn with_bound(
-    d: Built<Abstract>,
-    bound: Built<Expr>,
-) -> Result<Option<Built<Abstract>>, AllocError>
+fn with_bound(d: Built<Abstract>, bound: Built<Expr>) -> Result<Option<Built<Abstract>>, AllocError>
     ensures { IfOk result (λ r. r ≡ grow_list 64 1 Bounded (Some d) (Some bound)) }
 {
     if bound.height < MOST_HEIGHT {
