@@ -1,2 +1,5 @@
 pub mod Pushed
 pub mod Pieces
+pub mod Fed
+pub mod Expressions
+pub mod DeclaratorComplete

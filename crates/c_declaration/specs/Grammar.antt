@@ -1,6 +1,6 @@
 -- Which tokens are a declarator, an initializer or a declaration, one case for each alternative of the grammar (C90 6.5).
 -- In each relation h is the height of the tree: one more than that of its highest part, where a list of siblings that is not empty is a level.
-use Rattle.std.specs.Prelude.{◌≡◌, ℕ, suc, ◌+◌, max, Bool, true, false, nat_eq, List, [], ◌∷◌, ◌++◌, Option, Some, None}
+use Rattle.std.specs.Prelude.{◌≡◌, ℕ, suc, ◌+◌, max, ◌&&◌, Bool, true, false, List, [], ◌∷◌, ◌++◌, Option, Some, None}
 use Rattle.c_lex.specs.declared.token.Place.{Place}
 use Rattle.c_lex.specs.declared.keyword.Keyword.TheVariants as word
 use Rattle.c_symbol.specs.declared.terminal.Terminal.{Terminal}
@@ -14,7 +14,7 @@ use Rattle.c_expr.specs.declared.tree.Spec.{Spec}
 use Rattle.c_expr.specs.declared.tree.Spec.TheVariants as spec
 use Rattle.c_expr.specs.Tree.{Tree}
 use Rattle.c_expr.specs.Tree as expr
-use Rattle.c_expr.specs.Grammar.{AreStars, IsSpec, IsExpr, IsAbstract}
+use Rattle.c_expr.specs.Grammar.{is_nothing, AreStars, IsSpec, IsExpr, IsAbstract}
 use Rattle.c_declaration.specs.declared.tree.Storage.{Storage}
 use Rattle.c_declaration.specs.declared.tree.Storage.TheVariants as storage
 use Rattle.c_declaration.specs.declared.tree.Declared.{Declared}
@@ -42,9 +42,13 @@ pub data IsRegister : Bool → List Terminal → Type 0 where
   unmarked : IsRegister false []
   marked : (t : Terminal) → Is t (symbol.Keyword word.Register) → IsRegister true (t ∷ [])
 
+abbrev pub is_void_type : Spec → Bool
+is_void_type spec.Void = true
+is_void_type _ = false
+
 -- `void` without a name
 abbrev pub is_void : DeclaratorTree → Bool
-is_void (tree.Unnamed _ spec.Void (expr.Stars n)) = nat_eq n 0
+is_void (tree.Unnamed _ s a) = is_nothing a && is_void_type s
 is_void _ = false
 
 -- a function whose only parameter is `void` without a name: such a list of parameters is the list of none (C90 6.5.4.3)

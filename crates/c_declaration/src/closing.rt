@@ -2,7 +2,8 @@
 ghost use Rattle.std.specs.Prelude.{◌≡◌, IfOk, Some, drop};
 ghost use Rattle.c_expr.specs.First.{first};
 ghost use Rattle.c_declaration.specs.Feeding.{Answers};
-ghost use Rattle.c_declaration.specs.DeclaratorReading.{goes, count_of, taken, called, named_closed, named_divided, behind_named, is_void_type, void_alone, unnamed_last, unnamed_closed, unnamed_divided, behind_unnamed};
+ghost use Rattle.c_declaration.specs.Grammar.{is_void_type};
+ghost use Rattle.c_declaration.specs.DeclaratorReading.{goes, count_of, taken, called, named_closed, named_divided, behind_named, void_alone, unnamed_last, unnamed_closed, unnamed_divided, behind_unnamed};
 
 use crate::built::Built;
 use crate::front::Stars;

@@ -8,6 +8,10 @@ mod declarator;
 mod front;
 mod function;
 mod grown;
+mod initial;
+mod laws;
+mod local;
+mod name;
 mod state;
 mod step;
 mod tree;
@@ -18,6 +22,10 @@ pub use built::Built;
 pub use declarator::declarator_offer;
 pub use front::Stars;
 pub use function::BuiltFunction;
+pub use initial::initial_offer;
+pub use laws::{declarators_are_read, heads_are_read, initials_are_read, locals_are_read};
+pub use local::local_offer;
+pub use name::name_offer;
 pub use state::{
     Bounded, DeclaratorParser, DeclaratorStep, FileFront, FileParser, FileStep, Frame, InitialMode,
     InitialParser, InitialStep, LocalFront, LocalParser, LocalStep, MembersParser, MembersStep,

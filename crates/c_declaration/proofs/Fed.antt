@@ -1,0 +1,74 @@
+-- Reading token by token: what was read splits, and a reader inside another.
+use Rattle.std.proofs.Common.{◌≡◌, List, [], ◌∷◌, ◌++◌, Option, Some, None, refl, sym, ◌∙◌, ap}
+use Rattle.c_symbol.specs.declared.terminal.Terminal.{Terminal}
+use Rattle.c_declaration.specs.declared.step.Step.{Step}
+use Rattle.c_declaration.specs.declared.step.Step.TheVariants.{Goes, Ends}
+use Rattle.c_declaration.specs.Feeding.{feed}
+
+abbrev pub Reader : Type 0 → Type 0 → Type 0
+Reader S A = S → Terminal → Option (Step S A)
+
+-- the tokens that follow
+abbrev pub onward : {S A : Type 0} → Reader S A → List Terminal → Option (Step S A) → Option (Step S A)
+onward offer ts o = elim o [ None ↦ None | Some a ↦ feed offer ts a ]
+
+append_step : {S A : Type 0} (offer : Reader S A) (us vs : List Terminal) → ((a : Step S A) → feed offer (us ++ vs) a ≡ onward offer vs (feed offer us a)) → (o : Option (Step S A))
+    → onward offer (us ++ vs) o ≡ onward offer vs (onward offer us o)
+append_step offer us vs ih None = refl
+append_step offer us vs ih (Some a) = ih a
+
+pub feed_append : {S A : Type 0} (offer : Reader S A) (us vs : List Terminal) (a : Step S A) → feed offer (us ++ vs) a ≡ onward offer vs (feed offer us a)
+feed_append offer [] vs a = refl
+feed_append offer (t ∷ us) vs (Ends a) = refl
+feed_append offer (t ∷ us) vs (Goes p) = append_step offer us vs (feed_append offer us vs) (offer p t)
+
+-- one token
+pub one_step : {S A : Type 0} (offer : Reader S A) (p : S) (t : Terminal) (ts : List Terminal) (o : Option (Step S A)) → offer p t ≡ o → feed offer (t ∷ ts) (Goes p) ≡ onward offer ts o
+one_step offer p t ts o e = ap (onward offer ts) e
+
+pub then_step : {S A : Type 0} (offer : Reader S A) (us vs : List Terminal) (a : Step S A) (o : Option (Step S A)) → feed offer us a ≡ o → feed offer (us ++ vs) a ≡ onward offer vs o
+then_step offer us vs a o e = feed_append offer us vs a ∙ ap (onward offer vs) e
+
+some_ends : {S A : Type 0} (a : Step S A) → None ≡ Some a → ⊥
+some_ends a e = cc
+
+goes_ends : {S A : Type 0} (q : S) (a : A) → Some (Goes q) ≡ Some (Ends a) → ⊥
+goes_ends q a e = cc
+
+pub record Ended {S A : Type 0} (offer : Reader S A) (ts : List Terminal) (t : Terminal) (p : S) (a : A) : Type 0 where
+  pub now : S
+  pub goes : feed offer ts (Goes p) ≡ Some (Goes now)
+  pub ends : offer now t ≡ Some (Ends a)
+
+last_is : {S A : Type 0} (offer : Reader S A) (t : Terminal) (q : S) (a : A) (o : Option (Step S A)) → onward offer [] o ≡ Some (Ends a) → o ≡ Some (Ends a)
+last_is offer t q a None e = e
+last_is offer t q a (Some b) e = e
+
+ended_by : {S A : Type 0} (offer : Reader S A) (ts : List Terminal) (t : Terminal) (p : S) (a : A) (o : Option (Step S A)) → feed offer ts (Goes p) ≡ o → onward offer (t ∷ []) o ≡ Some (Ends a) → Ended offer ts t p a
+ended_by offer ts t p a None e k = absurd (some_ends (Ends a) k)
+ended_by offer ts t p a (Some (Ends b)) e k = absurd (some_ends (Ends a) k)
+ended_by offer ts t p a (Some (Goes q)) e k = record { now = q; goes = e; ends = last_is offer t q a (offer q t) k }
+
+-- an answer comes with the last token
+pub ended : {S A : Type 0} (offer : Reader S A) (ts : List Terminal) (t : Terminal) (p : S) (a : A) → feed offer (ts ++ t ∷ []) (Goes p) ≡ Some (Ends a) → Ended offer ts t p a
+ended offer ts t p a e = ended_by offer ts t p a (feed offer ts (Goes p)) refl (sym (feed_append offer ts (t ∷ []) (Goes p)) ∙ e)
+
+pub ends : {S A : Type 0} (offer : Reader S A) (ts : List Terminal) (t : Terminal) (p q : S) (a : A) → feed offer ts (Goes p) ≡ Some (Goes q) → offer q t ≡ Some (Ends a) → feed offer (ts ++ t ∷ []) (Goes p) ≡ Some (Ends a)
+ends offer ts t p q a e k = then_step offer ts (t ∷ []) (Goes p) (Some (Goes q)) e ∙ one_step offer q t [] (Some (Ends a)) k
+
+-- a reader inside another, of which it is a state
+abbrev pub Inside : {S A P B : Type 0} → Reader S A → Reader P B → (S → P) → Type 0
+Inside {S} {A} {P} {B} inner outer embed = (s : S) (t : Terminal) (r : S) → inner s t ≡ Some (Goes r) → outer (embed s) t ≡ Some (Goes (embed r))
+
+inside_by : {S A P B : Type 0} (inner : Reader S A) (outer : Reader P B) (embed : S → P) (ts : List Terminal) (t : Terminal) (p q : S) → Inside inner outer embed
+    → ((r : S) → feed inner ts (Goes r) ≡ Some (Goes q) → feed outer ts (Goes (embed r)) ≡ Some (Goes (embed q)))
+    → (o : Option (Step S A)) → inner p t ≡ o → onward inner ts o ≡ Some (Goes q) → feed outer (t ∷ ts) (Goes (embed p)) ≡ Some (Goes (embed q))
+inside_by inner outer embed ts t p q i ih None e k = absurd (some_ends (Goes q) k)
+inside_by inner outer embed ts t p q i ih (Some (Goes r)) e k = one_step outer (embed p) t ts (Some (Goes (embed r))) (i p t r e) ∙ ih r k
+inside_by inner outer embed [] t p q i ih (Some (Ends a)) e k = absurd (goes_ends q a (sym k))
+inside_by inner outer embed (u ∷ us) t p q i ih (Some (Ends a)) e k = absurd (some_ends (Goes q) k)
+
+pub inside : {S A P B : Type 0} (inner : Reader S A) (outer : Reader P B) (embed : S → P) → Inside inner outer embed → (ts : List Terminal) (p q : S)
+    → feed inner ts (Goes p) ≡ Some (Goes q) → feed outer ts (Goes (embed p)) ≡ Some (Goes (embed q))
+inside inner outer embed i [] p q e = let same : p ≡ q = cc in ap (λ r. Some (Goes (embed r))) same
+inside inner outer embed i (t ∷ ts) p q e = inside_by inner outer embed ts t p q i (λ r k. inside inner outer embed i ts r q k) (inner p t) refl e
