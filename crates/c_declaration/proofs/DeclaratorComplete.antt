@@ -1,5 +1,6 @@
 -- Where tokens are a declarator, they are read, whatever stands around it.
-use Rattle.std.proofs.Common.{◌≡◌, ℕ, suc, ◌+◌, max, Bool, true, false, nat_eq, ◌&&◌, List, [], ◌∷◌, ◌++◌, length, Option, Some, None, refl, sym, ◌∙◌, ap, ap₂, subst, append_assoc, append-nil, add-one}
+use Rattle.std.proofs.Common.{◌≡◌, ℕ, suc, ◌+◌, max, Bool, true, false, nat_eq, ◌&&◌, List, [], ◌∷◌, ◌++◌, length, Option, Some, None, refl, sym, ◌∙◌, ap, ap₂, subst, append_assoc, append-nil, add-one, arith}
+use Rattle.std.proofs.lemmas.Bool.{eqb-true}
 use Rattle.std.specs.Prelude.{if◌then◌else◌, drop}
 use Rattle.c_lex.specs.declared.token.Place.{Place}
 use Rattle.c_lex.specs.declared.keyword.Keyword.TheVariants.{Register}
@@ -16,7 +17,8 @@ use Rattle.c_expr.specs.Inside.{offer}
 use Rattle.c_expr.specs.Tree.{Tree}
 use Rattle.c_expr.specs.Tree as expr
 use Rattle.c_expr.specs.Grown as expr_grown
-use Rattle.c_expr.specs.Grammar.{AreStars, no_star, star, spec_of, stars_height, is_nothing, IsSpec, one_word, unsigned_int, tagged, IsExpr, IsAbstract, stars, around, bounded, unbounded}
+use Rattle.c_expr.specs.Grammar.{AreStars, no_star, star, spec_of, stars_height, is_nothing, IsSpec, one_word, unsigned_int, tagged, IsExpr, IsAbstract}
+use Rattle.c_expr.specs.Grammar as abstract
 use Rattle.c_expr.specs.declared.frame.Least.TheVariants.{Constant}
 use Rattle.c_expr.specs.declared.inside.Offered.{Offered}
 use Rattle.c_expr.specs.declared.inside.Offered.TheVariants as offered
@@ -83,25 +85,29 @@ abbrev pub front_of : List Terminal → Option Stars
 front_of [] = None
 front_of (t ∷ ts) = Some (record { place = t.place; count = length (t ∷ ts) })
 
-one_more : (us : List Terminal) (t : Terminal) → length (us ++ t ∷ []) ≡ length us + 1
+pub one_more : (us : List Terminal) (t : Terminal) → length (us ++ t ∷ []) ≡ suc (length us)
 one_more [] t = refl
 one_more (u ∷ us) t = ap suc (one_more us t)
 
 starred_front : (ts : List Terminal) (t : Terminal) → starred (front_of ts) t.place ≡ front_of (ts ++ t ∷ [])
 starred_front [] t = refl
-starred_front (u ∷ us) t = let make : ℕ → Option Stars = λ n. Some (record { place = u.place; count = n }) in ap make (sym (one_more (u ∷ us) t))
+starred_front (u ∷ us) t = let make : ℕ → Option Stars = λ n. Some (record { place = u.place; count = n }) in ap make (add-one (length (u ∷ us)) ∙ sym (one_more (u ∷ us) t))
 
 pub stars_count : {n : ℕ} {ts : List Terminal} → AreStars n ts → length ts ≡ n
 stars_count no_star = refl
-stars_count (star {n} {ts} t d e) = one_more ts t ∙ ap (λ k. k + 1) (stars_count d) ∙ add-one n
+stars_count (star {n} {ts} t d e) = one_more ts t ∙ ap suc (stars_count d)
 
 count_front : (ts : List Terminal) → count_of (front_of ts) ≡ length ts
 count_front [] = refl
 count_front (t ∷ ts) = refl
 
+not_zero : (n : ℕ) (b : Bool) → nat_eq (suc n) 0 ≡ b → nat_eq (suc n) 0 ≡ false
+not_zero n true e = absurd (omega (arith, eqb-true (suc n) 0 e))
+not_zero n false e = e
+
 none_front : (ts : List Terminal) → is_none (front_of ts) ≡ nat_eq (length ts) 0
 none_front [] = refl
-none_front (t ∷ ts) = refl
+none_front (t ∷ ts) = sym (not_zero (length ts) (nat_eq (suc (length ts)) 0) refl)
 
 stars_run : {n : ℕ} {ts : List Terminal} → AreStars n ts → (s : List Frame) (rest : List Terminal) → run (ts ++ rest) (Front None) s ≡ run rest (Front (front_of ts)) s
 stars_run no_star s rest = refl
@@ -142,8 +148,8 @@ pub bound_begins : (b : Bounded) (s : List Frame) (t : Terminal) (ts : List Term
 bound_begins b s t ts e = ap (λ v. onward declarator_offer ts (bounding_at b s t v)) e
 
 starts_bound : (t : Terminal) (b : Bool) → is_bracket t.symbol ≡ b → (is_bracket t.symbol ≡ true → ⊥) → is_bracket t.symbol ≡ false
-starts_bound t true e no = absurd (no e)
-starts_bound t false e no = e
+starts_bound t true e never = absurd (never e)
+starts_bound t false e never = e
 
 goes_first : (t : Terminal) (ts : List Terminal) (q : Parser) (o : Option Offered) → o ≡ None → onward (expr_offer Constant) ts (as_step o) ≡ Some (Goes q) → ⊥
 goes_first t ts q None e k = cc
@@ -196,8 +202,8 @@ type_run : {spec : Spec} {vs : List Terminal} → IsSpec spec vs → (f : Taking
 type_run (one_word t w e) f at r s rest mode word tag = word t rest w refl e
 type_run (unsigned_int t i e e') f at r s rest mode word tag =
     word t (i ∷ rest) a_word.Unsigned refl e ∙ front_step None (Parameter f at r Unsigned ∷ s) i rest (Word a_word.Int) (Front None) (Parameter f at r UnsignedInt ∷ s) e' refl
-type_run (tagged t name e e') f at r s rest mode word tag =
-    tag t (name ∷ rest) refl e ∙ tagging_step f at r s name rest (Leaf Name) (Front None) (Parameter f at r (Struct name.text) ∷ s) e' refl
+type_run (tagged t n e e') f at r s rest mode word tag =
+    tag t (n ∷ rest) refl e ∙ tagging_step f at r s n rest (Leaf Name) (Front None) (Parameter f at r (Struct n.text) ∷ s) e' refl
 
 registered_run : {spec : Spec} {vs : List Terminal} → IsSpec spec vs → (f : Taking) (at : Place) (s : List Frame) (rest : List Terminal) → run (vs ++ rest) (Registered f at) s ≡ run rest (Front None) (Parameter f at true spec ∷ s)
 registered_run d f at s rest =
@@ -237,27 +243,27 @@ behind_front {n} {ts} k f y s =
 
 pub closes_unnamed : {a : Tree} {m : ℕ} {ts : List Terminal} → IsAbstract a m ts → (f : Frame) (s : List Frame) (c : Terminal) → Is c CloseParen
     → declarator_offer (at_mode (unnamed_at a m ts) (f ∷ s)) c ≡ unnamed_closed f (is_nothing a) (cut a m) s
-closes_unnamed {a} {m} {ts} (stars k) f s c e = ap (λ y. behind (Front (front_of ts)) (f ∷ s) y c) e ∙ behind_front k f CloseParen s
-closes_unnamed {a} {m} {ts} (around o c' k oe d ne ce) f s c e = ap (λ y. behind (Unnamed (cut a m)) (f ∷ s) y c) e
-closes_unnamed {a} {m} {ts} (bounded o c' d oe d' ce) f s c e = ap (λ y. behind (Unnamed (cut a m)) (f ∷ s) y c) e
-closes_unnamed {a} {m} {ts} (unbounded o c' d oe ce) f s c e = ap (λ y. behind (Unnamed (cut a m)) (f ∷ s) y c) e
+closes_unnamed {a} {m} {ts} (abstract.stars k) f s c e = ap (λ y. behind (Front (front_of ts)) (f ∷ s) y c) e ∙ behind_front k f CloseParen s
+closes_unnamed {a} {m} {ts} (abstract.around o c' k oe d ne ce) f s c e = ap (λ y. behind (Unnamed (cut a m)) (f ∷ s) y c) e
+closes_unnamed {a} {m} {ts} (abstract.bounded o c' d oe d' ce) f s c e = ap (λ y. behind (Unnamed (cut a m)) (f ∷ s) y c) e
+closes_unnamed {a} {m} {ts} (abstract.unbounded o c' d oe ce) f s c e = ap (λ y. behind (Unnamed (cut a m)) (f ∷ s) y c) e
 
 divides_unnamed : {a : Tree} {m : ℕ} {ts : List Terminal} → IsAbstract a m ts → (f : Frame) (s : List Frame) (t : Terminal) → Is t (Binary Comma)
     → declarator_offer (at_mode (unnamed_at a m ts) (f ∷ s)) t ≡ unnamed_divided f (cut a m) s
-divides_unnamed {a} {m} {ts} (stars k) f s c e = ap (λ y. behind (Front (front_of ts)) (f ∷ s) y c) e ∙ behind_front k f (Binary Comma) s
-divides_unnamed {a} {m} {ts} (around o c' k oe d ne ce) f s c e = ap (λ y. behind (Unnamed (cut a m)) (f ∷ s) y c) e
-divides_unnamed {a} {m} {ts} (bounded o c' d oe d' ce) f s c e = ap (λ y. behind (Unnamed (cut a m)) (f ∷ s) y c) e
-divides_unnamed {a} {m} {ts} (unbounded o c' d oe ce) f s c e = ap (λ y. behind (Unnamed (cut a m)) (f ∷ s) y c) e
+divides_unnamed {a} {m} {ts} (abstract.stars k) f s c e = ap (λ y. behind (Front (front_of ts)) (f ∷ s) y c) e ∙ behind_front k f (Binary Comma) s
+divides_unnamed {a} {m} {ts} (abstract.around o c' k oe d ne ce) f s c e = ap (λ y. behind (Unnamed (cut a m)) (f ∷ s) y c) e
+divides_unnamed {a} {m} {ts} (abstract.bounded o c' d oe d' ce) f s c e = ap (λ y. behind (Unnamed (cut a m)) (f ∷ s) y c) e
+divides_unnamed {a} {m} {ts} (abstract.unbounded o c' d oe ce) f s c e = ap (λ y. behind (Unnamed (cut a m)) (f ∷ s) y c) e
 
 open_unnamed : {a : Tree} {m : ℕ} {ts : List Terminal} → IsAbstract a m ts → (s : List Frame) → may_be_unnamed (first s) ≡ true → (t : Terminal) → Is t OpenBracket
     → declarator_offer (at_mode (unnamed_at a m ts) s) t ≡ goes (Bounding (before.Unnamed (cut a m))) s
-open_unnamed {a} {m} {ts} (stars {n} k) s may c e =
+open_unnamed {a} {m} {ts} (abstract.stars {n} k) s may c e =
     ap (λ y. behind (Front (front_of ts)) s y c) e
     ∙ if_true _ _ _ may
     ∙ ap (λ v. goes (Bounding (before.Unnamed v)) s) (ap stars_of (count_front ts ∙ stars_count k) ∙ stars_cut n)
-open_unnamed {a} {m} {ts} (around o c' k oe d ne ce) s may c e = ap (λ y. behind (Unnamed (cut a m)) s y c) e
-open_unnamed {a} {m} {ts} (bounded o c' d oe d' ce) s may c e = ap (λ y. behind (Unnamed (cut a m)) s y c) e
-open_unnamed {a} {m} {ts} (unbounded o c' d oe ce) s may c e = ap (λ y. behind (Unnamed (cut a m)) s y c) e
+open_unnamed {a} {m} {ts} (abstract.around o c' k oe d ne ce) s may c e = ap (λ y. behind (Unnamed (cut a m)) s y c) e
+open_unnamed {a} {m} {ts} (abstract.bounded o c' d oe d' ce) s may c e = ap (λ y. behind (Unnamed (cut a m)) s y c) e
+open_unnamed {a} {m} {ts} (abstract.unbounded o c' d oe ce) s may c e = ap (λ y. behind (Unnamed (cut a m)) s y c) e
 
 nest_closed : (stars : Option Stars) (at : Place) (b none : Bool) (a : Option (Built Tree)) (s : List Frame) → b ≡ true → none ≡ false → unnamed_closed (Nest stars at b) none a s ≡ goes (Unnamed (around_of (count_of stars) a)) s
 nest_closed stars at true false a s e k = refl
@@ -266,8 +272,8 @@ nest_closed stars at false none a s e k = absurd (true_false (sym e))
 
 reach_abstract : {a : Tree} {m : ℕ} {ts : List Terminal} → IsAbstract a m ts → (s : List Frame) → may_be_unnamed (first s) ≡ true → (rest : List Terminal)
     → run (ts ++ rest) (Front None) s ≡ run rest (unnamed_at a m ts) s
-reach_abstract (stars k) s may rest = stars_run k s rest
-reach_abstract (around o c {n} {d} {m} {us} {ts} k oe a ne ce) s may rest =
+reach_abstract (abstract.stars k) s may rest = stars_run k s rest
+reach_abstract (abstract.around o c {n} {d} {m} {us} {ts} k oe a ne ce) s may rest =
     let f = Nest (front_of us) o.place (may_be_unnamed (first s)) in
     ap (λ l. run l (Front None) s) (append_assoc us (o ∷ (ts ++ c ∷ [])) rest ∙ ap (λ l. us ++ o ∷ l) (append_assoc ts (c ∷ []) rest))
     ∙ stars_run k s (o ∷ (ts ++ c ∷ rest))
@@ -278,13 +284,13 @@ reach_abstract (around o c {n} {d} {m} {us} {ts} k oe a ne ce) s may rest =
     ∙ nest_closed (front_of us) o.place (may_be_unnamed (first s)) (is_nothing d) (cut d m) s may ne
     ∙ ap (λ v. goes (Unnamed (around_of v (cut d m))) s) (count_front us ∙ stars_count k)
     ∙ ap (λ v. goes (Unnamed v) s) (around_cut n d m))
-reach_abstract (bounded o c {d} {e} {at} {m} {h} {us} {vs} a oe d' ce) s may rest =
+reach_abstract (abstract.bounded o c {d} {e} {at} {m} {h} {us} {vs} a oe d' ce) s may rest =
     ap (λ l. run l (Front None) s) (append_assoc us (o ∷ (vs ++ c ∷ [])) rest ∙ ap (λ l. us ++ o ∷ l) (append_assoc vs (c ∷ []) rest))
     ∙ reach_abstract a s may (o ∷ (vs ++ c ∷ rest))
     ∙ one_step declarator_offer (at_mode (unnamed_at d m us) s) o (vs ++ c ∷ rest) (goes (Bounding (before.Unnamed (cut d m))) s) (open_unnamed a s may o oe)
     ∙ bound_run d' c ce (before.Unnamed (cut d m)) s rest
     ∙ ap (λ v. run rest (Unnamed v) s) (grow_list_cut 64 1 refl expr.Bounded d e m h)
-reach_abstract (unbounded o c {d} {m} {us} a oe ce) s may rest =
+reach_abstract (abstract.unbounded o c {d} {m} {us} a oe ce) s may rest =
     ap (λ l. run l (Front None) s) (append_assoc us (o ∷ c ∷ []) rest)
     ∙ reach_abstract a s may (o ∷ c ∷ rest)
     ∙ one_step declarator_offer (at_mode (unnamed_at d m us) s) o (c ∷ rest) (goes (Bounding (before.Unnamed (cut d m))) s) (open_unnamed a s may o oe)
@@ -419,20 +425,20 @@ mutual
       }
 
   reach_parameter : {p : DeclaratorTree} {n : ℕ} {ts : List Terminal} → IsParameter p n ts → (f : Taking) (s : List Frame) → ReachedParameter p n f s ts
-  reach_parameter (named {at} {r} {spec} {d} {h} {us} {vs} {ws} rd sd first_is dd) f s =
-      let k = reach_declarator dd (Parameter f at r spec ∷ s) in
-      let grown : named_of at r spec (pointed k.stars k.part) ≡ cut (tree.Named at r spec d) (suc h) = ap (named_of at r spec) k.is ∙ grow_cut (tree.Named at r spec) d h in
+  reach_parameter (named {at} {r} {base} {d} {h} {us} {vs} {ws} rd sd first_is dd) f s =
+      let k = reach_declarator dd (Parameter f at r base ∷ s) in
+      let grown : named_of at r base (pointed k.stars k.part) ≡ cut (tree.Named at r base d) (suc h) = ap (named_of at r base) k.is ∙ grow_cut (tree.Named at r base) d h in
       record {
         now = Direct k.stars k.part;
-        stack = Parameter f at r spec ∷ s;
+        stack = Parameter f at r base ∷ s;
         runs = λ rest. ap (λ l. run l (Parameters f) s) (append_assoc us (vs ++ ws) rest ∙ ap (λ l. us ++ l) (append_assoc vs ws rest))
             ∙ parameter_run rd sd f at first_is s (ws ++ rest)
             ∙ k.runs rest;
-        closes = λ ne c ce. ap (λ y. behind_direct k.stars k.part (Parameter f at r spec ∷ s) y) ce ∙ ap (λ v. called (taken f v) s) grown;
-        divides = λ t te. ap (λ y. behind_direct k.stars k.part (Parameter f at r spec ∷ s) y) te ∙ ap (λ v. goes (Parameters (taken f v)) s) grown;
+        closes = λ ne c ce. ap (λ y. behind_direct k.stars k.part (Parameter f at r base ∷ s) y) ce ∙ ap (λ v. called (taken f v) s) grown;
+        divides = λ t te. ap (λ y. behind_direct k.stars k.part (Parameter f at r base ∷ s) y) te ∙ ap (λ v. goes (Parameters (taken f v)) s) grown;
       }
-  reach_parameter (unnamed {at} {spec} {a} {m} {us} {vs} sd first_is aa) f s =
-      let g = Parameter f at false spec in
+  reach_parameter (unnamed {at} {base} {a} {m} {us} {vs} sd first_is aa) f s =
+      let g = Parameter f at false base in
       record {
         now = unnamed_at a m vs;
         stack = g ∷ s;
@@ -440,9 +446,9 @@ mutual
             ∙ plain_run sd f at first_is s (vs ++ rest)
             ∙ reach_abstract aa (g ∷ s) refl rest;
         closes = λ ne c ce. closes_unnamed aa g s c ce
-            ∙ unnamed_ends (void_alone f (is_nothing a) spec) f (unnamed_of at spec (cut a m)) s ne
-            ∙ ap (λ v. called (taken f v) s) (unnamed_cut at spec a m);
-        divides = λ t te. divides_unnamed aa g s t te ∙ ap (λ v. goes (Parameters (taken f v)) s) (unnamed_cut at spec a m);
+            ∙ unnamed_ends (void_alone f (is_nothing a) base) f (unnamed_of at base (cut a m)) s ne
+            ∙ ap (λ v. called (taken f v) s) (unnamed_cut at base a m);
+        divides = λ t te. divides_unnamed aa g s t te ∙ ap (λ v. goes (Parameters (taken f v)) s) (unnamed_cut at base a m);
       }
 
 -- the end

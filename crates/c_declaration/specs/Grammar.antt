@@ -96,12 +96,12 @@ mutual
 
   -- a parameter
   pub data IsParameter : DeclaratorTree → ℕ → List Terminal → Type 0 where
-    named : {at : Place} {r : Bool} {s : Spec} {d : DeclaratorTree} {h : ℕ} {us vs ws : List Terminal}
-        → IsRegister r us → IsSpec s vs → first_place (us ++ vs) ≡ Some at → IsDeclarator d h ws
-        → IsParameter (tree.Named at r s d) (suc h) (us ++ (vs ++ ws))
-    unnamed : {at : Place} {s : Spec} {a : Tree} {m : ℕ} {us vs : List Terminal}
-        → IsSpec s us → first_place us ≡ Some at → IsAbstract a m vs
-        → IsParameter (tree.Unnamed at s a) (suc (max 1 m)) (us ++ vs)
+    named : {at : Place} {r : Bool} {base : Spec} {d : DeclaratorTree} {h : ℕ} {us vs ws : List Terminal}
+        → IsRegister r us → IsSpec base vs → first_place (us ++ vs) ≡ Some at → IsDeclarator d h ws
+        → IsParameter (tree.Named at r base d) (suc h) (us ++ (vs ++ ws))
+    unnamed : {at : Place} {base : Spec} {a : Tree} {m : ℕ} {us vs : List Terminal}
+        → IsSpec base us → first_place us ≡ Some at → IsAbstract a m vs
+        → IsParameter (tree.Unnamed at base a) (suc (max 1 m)) (us ++ vs)
 
 -- initializers (C90 6.5.7)
 mutual
@@ -132,9 +132,9 @@ pub data AreDeclared : List Declared → ℕ → List Terminal → Type 0 where
 
 -- a declaration in a block, with its `;`
 pub data IsLocal : Local → ℕ → List Terminal → Type 0 where
-  local : (c : Terminal) {r : Bool} {s : Spec} {at : Place} {ds : List Declared} {h : ℕ} {us vs ws : List Terminal}
-      → IsRegister r us → IsSpec s vs → first_place (us ++ vs) ≡ Some at → AreDeclared ds h ws → Is c symbol.Semicolon
-      → IsLocal (record { place = at; register = r; spec = s; names = ds }) (suc h) (us ++ (vs ++ (ws ++ c ∷ [])))
+  local : (c : Terminal) {r : Bool} {base : Spec} {at : Place} {ds : List Declared} {h : ℕ} {us vs ws : List Terminal}
+      → IsRegister r us → IsSpec base vs → first_place (us ++ vs) ≡ Some at → AreDeclared ds h ws → Is c symbol.Semicolon
+      → IsLocal (record { place = at; register = r; spec = base; names = ds }) (suc h) (us ++ (vs ++ (ws ++ c ∷ [])))
 
 -- At file scope each declarator and each initializer is a tree of its own, so h is the greatest height of one.
 pub data IsStorage : Storage → List Terminal → Type 0 where
@@ -152,15 +152,15 @@ pub data AreDeclarators : List DeclaratorTree → ℕ → List Terminal → Type
 pub data AreMembers : List MemberPart → ℕ → List Terminal → Type 0 where
   no_members : (t name o : Terminal) → Is t symbol.Struct → Is name (symbol.Leaf leaf.Name) → Is o symbol.OpenBrace
       → AreMembers (Opens t.place name.text ∷ []) 0 (t ∷ name ∷ o ∷ [])
-  named_row : (c : Terminal) {ps : List MemberPart} {s : Spec} {at : Place} {ds : List DeclaratorTree} {m n : ℕ} {us vs ws : List Terminal}
-      → AreMembers ps m us → IsSpec s vs → first_place vs ≡ Some at → AreDeclarators ds n ws → Is c symbol.Semicolon
-      → AreMembers (ps ++ Row at s ds ∷ []) (max m n) (us ++ (vs ++ (ws ++ c ∷ [])))
+  named_row : (c : Terminal) {ps : List MemberPart} {base : Spec} {at : Place} {ds : List DeclaratorTree} {m n : ℕ} {us vs ws : List Terminal}
+      → AreMembers ps m us → IsSpec base vs → first_place vs ≡ Some at → AreDeclarators ds n ws → Is c symbol.Semicolon
+      → AreMembers (ps ++ Row at base ds ∷ []) (max m n) (us ++ (vs ++ (ws ++ c ∷ [])))
   struct_row : (o c : Terminal) {ps qs : List MemberPart} {ds : List DeclaratorTree} {l m n : ℕ} {us vs ws : List Terminal}
       → AreMembers ps l us → AreMembers qs m vs → Is o symbol.CloseBrace → AreDeclarators ds n ws → Is c symbol.Semicolon
       → AreMembers (ps ++ (qs ++ Closes ds ∷ [])) (max l (max m n)) (us ++ (vs ++ o ∷ (ws ++ c ∷ [])))
 
 pub data IsFileSpec : FileSpec → ℕ → List Terminal → Type 0 where
-  named_spec : {s : Spec} {ts : List Terminal} → IsSpec s ts → IsFileSpec (Named s) 0 ts
+  named_spec : {base : Spec} {ts : List Terminal} → IsSpec base ts → IsFileSpec (Named base) 0 ts
   struct_spec : (c : Terminal) {ps : List MemberPart} {h : ℕ} {ts : List Terminal} → AreMembers ps h ts → Is c symbol.CloseBrace → IsFileSpec (Members ps) h (ts ++ c ∷ [])
 
 -- a name that is declared at file scope
