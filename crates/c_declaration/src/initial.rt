@@ -101,11 +101,7 @@ fn is_close_brace(symbol: Symbol) -> bool
 }
 
 /// A token where an initializer begins.
-fn wanting(
-    alloc: Global,
-    stack: Stack<OpenBraces>,
-    next: Terminal,
-) -> Result<InitialStep, SynFault>
+fn wanting(alloc: Global, stack: Stack<OpenBraces>, next: Terminal) -> Result<InitialStep, SynFault>
     ensures { Answers result (wanting stack next) }
 {
     let mut stack = stack;
@@ -130,11 +126,7 @@ fn closed(stack: Stack<OpenBraces>, place: Place) -> Result<InitialStep, SynFaul
 }
 
 /// The token behind a comma.
-fn another(
-    alloc: Global,
-    stack: Stack<OpenBraces>,
-    next: Terminal,
-) -> Result<InitialStep, SynFault>
+fn another(alloc: Global, stack: Stack<OpenBraces>, next: Terminal) -> Result<InitialStep, SynFault>
     ensures { Answers result (another stack next) }
 {
     if is_close_brace(next.symbol) {

@@ -5,12 +5,14 @@ mod braces;
 mod built;
 mod closing;
 mod declarator;
+mod file;
 mod front;
 mod function;
 mod grown;
 mod initial;
 mod laws;
 mod local;
+mod members;
 mod name;
 mod state;
 mod step;
@@ -20,11 +22,13 @@ mod unnamed;
 pub use braces::BuiltBraces;
 pub use built::Built;
 pub use declarator::declarator_offer;
+pub use file::file_offer;
 pub use front::Stars;
 pub use function::BuiltFunction;
 pub use initial::initial_offer;
 pub use laws::{declarators_are_read, heads_are_read, initials_are_read, locals_are_read};
 pub use local::local_offer;
+pub use members::members_offer;
 pub use name::name_offer;
 pub use state::{
     Bounded, DeclaratorParser, DeclaratorStep, FileFront, FileParser, FileStep, Frame, InitialMode,

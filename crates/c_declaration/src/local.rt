@@ -46,10 +46,7 @@ fn with_both(d: Built<Declarator>, initial: Built<Initial>) -> Option<Built<Decl
 }
 
 /// A name with an initializer, unless one of them is too high.
-fn with_of(
-    d: Option<Built<Declarator>>,
-    initial: Option<Built<Initial>>,
-) -> Option<Built<Declared>>
+fn with_of(d: Option<Built<Declarator>>, initial: Option<Built<Initial>>) -> Option<Built<Declared>>
     ensures { result ≡ with_of d initial }
 {
     match d {
@@ -226,12 +223,7 @@ fn typed(alloc: Global, front: LocalFront, next: Terminal) -> Result<LocalStep, 
 }
 
 /// A type.
-fn typing(
-    begun: Place,
-    register: bool,
-    symbol: Symbol,
-    place: Place,
-) -> Result<LocalStep, SynFault>
+fn typing(begun: Place, register: bool, symbol: Symbol, place: Place) -> Result<LocalStep, SynFault>
     ensures { Answers result (typing begun register symbol) }
 {
     match symbol {
@@ -286,8 +278,13 @@ pub fn local_offer(
     match parser {
         LocalParser::Begin => beginning(next.symbol, next.place),
         LocalParser::Registered(begun) => typing(begun, true, next.symbol, next.place),
-        LocalParser::Tagging(begun, register) =>
-            tagging(begun, register, next.symbol, next.place, next.text),
+        LocalParser::Tagging(begun, register) => tagging(
+            begun,
+            register,
+            next.symbol,
+            next.place,
+            next.text,
+        ),
         LocalParser::Typed(front) => typed(alloc, front, next),
         LocalParser::Naming(front, names, parser) => naming(alloc, front, names, parser, next),
     }
