@@ -101,7 +101,7 @@ count_front : (ts : List Terminal) → count_of (front_of ts) ≡ length ts
 count_front [] = refl
 count_front (t ∷ ts) = refl
 
-not_zero : (n : ℕ) (b : Bool) → nat_eq (suc n) 0 ≡ b → nat_eq (suc n) 0 ≡ false
+pub not_zero : (n : ℕ) (b : Bool) → nat_eq (suc n) 0 ≡ b → nat_eq (suc n) 0 ≡ false
 not_zero n true e = absurd (omega (arith, eqb-true (suc n) 0 e))
 not_zero n false e = e
 
@@ -118,7 +118,7 @@ stars_run (star {n} {ts} t d e) s rest =
     ∙ ap (λ k. run rest (Front k) s) (starred_front ts t)
 
 -- bounds
-bracket : (y : Symbol) → is_bracket y ≡ true → y ≡ CloseBracket
+pub bracket : (y : Symbol) → is_bracket y ≡ true → y ≡ CloseBracket
 bracket CloseBracket e = refl
 bracket _ e = absurd (true_false (sym e))
 

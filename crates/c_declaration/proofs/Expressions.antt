@@ -18,7 +18,7 @@ use Rattle.c_expr.proofs.Embedded.{ends_there, ends_behind}
 use Rattle.c_declaration.specs.declared.step.Step.{Step}
 use Rattle.c_declaration.specs.declared.step.Step.TheVariants.{Goes, Ends}
 use Rattle.c_declaration.specs.Feeding.{feed}
-use Rattle.c_declaration.proofs.Fed.{Reader, onward, one_step}
+use Rattle.c_declaration.proofs.Fed.{Reader, onward, one_step, then_step}
 
 abbrev pub as_step : Option Offered → Option (Step Parser Grown)
 as_step None = None
@@ -144,3 +144,8 @@ expr_is least ts t q g e k =
     let r = ends_behind least (ts ++ t ∷ []) g (t ∷ []) (joined least ts t (start least) q g e k) in
     let P : List Terminal → Type 0 = λ l. Keeps least g l in
     subst P (sym (append_cancel_right ts r.0 (t ∷ []) r.1)) r.2
+
+-- one token more
+pub expr_goes : (least : Least) (ts : List Terminal) (t : Terminal) (p q : Parser) → feed (expr_offer least) ts (Goes (start least)) ≡ Some (Goes p) → offer least p t ≡ Some (offered.Goes q)
+    → feed (expr_offer least) (ts ++ t ∷ []) (Goes (start least)) ≡ Some (Goes q)
+expr_goes least ts t p q e k = then_step (expr_offer least) ts (t ∷ []) (Goes (start least)) (Some (Goes p)) e ∙ one_step (expr_offer least) p t [] (Some (Goes q)) (ap as_step k)

@@ -1,5 +1,5 @@
 -- Reading token by token: what was read splits, and a reader inside another.
-use Rattle.std.proofs.Common.{◌≡◌, List, [], ◌∷◌, ◌++◌, Option, Some, None, refl, sym, ◌∙◌, ap}
+use Rattle.std.proofs.Common.{◌≡◌, List, [], ◌∷◌, ◌++◌, Option, Some, None, refl, sym, ◌∙◌, ap, subst, append_assoc, append-nil}
 use Rattle.c_symbol.specs.declared.terminal.Terminal.{Terminal}
 use Rattle.c_declaration.specs.declared.step.Step.{Step}
 use Rattle.c_declaration.specs.declared.step.Step.TheVariants.{Goes, Ends}
@@ -72,3 +72,16 @@ pub inside : {S A P B : Type 0} (inner : Reader S A) (outer : Reader P B) (embed
     → feed inner ts (Goes p) ≡ Some (Goes q) → feed outer ts (Goes (embed p)) ≡ Some (Goes (embed q))
 inside inner outer embed i [] p q e = let same : p ≡ q = cc in ap (λ r. Some (Goes (embed r))) same
 inside inner outer embed i (t ∷ ts) p q e = inside_by inner outer embed ts t p q i (λ r k. inside inner outer embed i ts r q k) (inner p t) refl e
+
+-- what holds of a state holds of each later one
+kept_by : {S A : Type 0} (offer : Reader S A) (H : S → List Terminal → Type 0) (t : Terminal) (ts done : List Terminal) (q : S) → ((r : S) → H r (done ++ t ∷ []) → feed offer ts (Goes r) ≡ Some (Goes q) → H q ((done ++ t ∷ []) ++ ts))
+    → (o : Option (Step S A)) → ((r : S) → o ≡ Some (Goes r) → H r (done ++ t ∷ [])) → onward offer ts o ≡ Some (Goes q) → H q (done ++ t ∷ ts)
+kept_by offer H t ts done q ih None h e = absurd (some_ends (Goes q) e)
+kept_by offer H t ts done q ih (Some (Goes r)) h e = subst (λ l. H q l) (append_assoc done (t ∷ []) ts) (ih r (h r refl) e)
+kept_by offer H t [] done q ih (Some (Ends a)) h e = absurd (goes_ends q a (sym e))
+kept_by offer H t (u ∷ us) done q ih (Some (Ends a)) h e = absurd (some_ends (Goes q) e)
+
+pub steps_kept : {S A : Type 0} (offer : Reader S A) (H : S → List Terminal → Type 0) → ((p : S) (t : Terminal) (done : List Terminal) → H p done → (r : S) → offer p t ≡ Some (Goes r) → H r (done ++ t ∷ []))
+    → (ts done : List Terminal) (p q : S) → H p done → feed offer ts (Goes p) ≡ Some (Goes q) → H q (done ++ ts)
+steps_kept offer H h [] done p q d e = let same : p ≡ q = cc in subst (λ l. H q l) (sym (append-nil done)) (subst (λ r. H r done) same d)
+steps_kept offer H h (t ∷ ts) done p q d e = kept_by offer H t ts done q (λ r k l. steps_kept offer H h ts (done ++ t ∷ []) r q k l) (offer p t) (h p t done d) e

@@ -3,3 +3,5 @@ pub mod Pieces
 pub mod Fed
 pub mod Expressions
 pub mod DeclaratorComplete
+pub mod DeclaratorSound
+pub mod InitialComplete
