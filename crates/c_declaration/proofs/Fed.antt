@@ -85,3 +85,25 @@ pub steps_kept : {S A : Type 0} (offer : Reader S A) (H : S → List Terminal �
     → (ts done : List Terminal) (p q : S) → H p done → feed offer ts (Goes p) ≡ Some (Goes q) → H q (done ++ ts)
 steps_kept offer H h [] done p q d e = let same : p ≡ q = cc in subst (λ l. H q l) (sym (append-nil done)) (subst (λ r. H r done) same d)
 steps_kept offer H h (t ∷ ts) done p q d e = kept_by offer H t ts done q (λ r k l. steps_kept offer H h ts (done ++ t ∷ []) r q k l) (offer p t) (h p t done d) e
+
+-- where all tokens are read to an answer, the last one gives it
+pub record LastStep {S A : Type 0} (offer : Reader S A) (ts : List Terminal) (p : S) (a : A) : Type 0 where
+  pub front : List Terminal
+  pub token : Terminal
+  pub now : S
+  pub all : ts ≡ front ++ token ∷ []
+  pub goes : feed offer front (Goes p) ≡ Some (Goes now)
+  pub ends : offer now token ≡ Some (Ends a)
+
+last_by : {S A : Type 0} (offer : Reader S A) (t : Terminal) (ts : List Terminal) (p : S) (a : A) → ((r : S) → feed offer ts (Goes r) ≡ Some (Ends a) → LastStep offer ts r a)
+    → (o : Option (Step S A)) → offer p t ≡ o → onward offer ts o ≡ Some (Ends a) → LastStep offer (t ∷ ts) p a
+last_by offer t ts p a ih None k e = absurd (some_ends (Ends a) e)
+last_by offer t ts p a ih (Some (Goes r)) k e =
+    let l = ih r e in
+    record { front = t ∷ l.front; token = l.token; now = l.now; all = ap (λ v. t ∷ v) l.all; goes = one_step offer p t l.front (Some (Goes r)) k ∙ l.goes; ends = l.ends }
+last_by offer t [] p a ih (Some (Ends b)) k e = record { front = []; token = t; now = p; all = refl; goes = refl; ends = k ∙ e }
+last_by offer t (u ∷ us) p a ih (Some (Ends b)) k e = absurd (some_ends (Ends a) e)
+
+pub last_step : {S A : Type 0} (offer : Reader S A) (ts : List Terminal) (p : S) (a : A) → feed offer ts (Goes p) ≡ Some (Ends a) → LastStep offer ts p a
+last_step offer [] p a e = absurd (goes_ends p a e)
+last_step offer (t ∷ ts) p a e = last_by offer t ts p a (λ r k. last_step offer ts r a k) (offer p t) refl e

@@ -184,7 +184,7 @@ comma_closes t e = ap (closes Assignment) e
 brace_closes : (t : Terminal) → Is t CloseBrace → closes Assignment t.symbol ≡ true
 brace_closes t e = ap (closes Assignment) e
 
-max_zero : (h : ℕ) → max 0 (h + 1) ≡ suc h
+pub max_zero : (h : ℕ) → max 0 (h + 1) ≡ suc h
 max_zero h = omega arith
 
 mutual

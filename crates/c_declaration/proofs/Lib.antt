@@ -5,3 +5,6 @@ pub mod Expressions
 pub mod DeclaratorComplete
 pub mod DeclaratorSound
 pub mod InitialComplete
+pub mod InitialSound
+pub mod DeclaredNames
+pub mod Locals
