@@ -52,15 +52,15 @@ pub data EndsName : Terminal → Type 0 where
   comma : (t : Terminal) → Is t (Binary Comma) → EndsName t
   semicolon : (t : Terminal) → Is t Semicolon → EndsName t
 
-goes_on_name : {t : Terminal} → EndsName t → goes_on t.symbol ≡ false
+pub goes_on_name : {t : Terminal} → EndsName t → goes_on t.symbol ≡ false
 goes_on_name (comma t e) = ap goes_on e
 goes_on_name (semicolon t e) = ap goes_on e
 
-equals_name : {t : Terminal} → EndsName t → is_equals t.symbol ≡ false
+pub equals_name : {t : Terminal} → EndsName t → is_equals t.symbol ≡ false
 equals_name (comma t e) = ap is_equals e
 equals_name (semicolon t e) = ap is_equals e
 
-closes_name : {t : Terminal} → EndsName t → closes Assignment t.symbol ≡ true
+pub closes_name : {t : Terminal} → EndsName t → closes Assignment t.symbol ≡ true
 closes_name (comma t e) = ap (closes Assignment) e
 closes_name (semicolon t e) = ap (closes Assignment) e
 

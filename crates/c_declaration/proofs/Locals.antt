@@ -155,13 +155,13 @@ abbrev read_as : Place → Option (Built Local) → ReadLocal
 read_as at l = record { place = at; local = l }
 
 pub local_ends : LocalEnds
-local_ends l h ts (local c {r} {base} {at} {ds} {h'} {us} {vs} {ws} rd sd first_is dd ce) =
+local_ends l k ts (local c {r} {base} {at} {ds} {h} {us} {vs} {ws} rd sd first_is dd ce) =
     let f = front_at at r base in
     let q = reach_names dd f c (semicolon c ce) in
     front_run rd sd at first_is (ws ++ c ∷ [])
     ∙ q.runs (c ∷ [])
-    ∙ one_step local_offer q.now c [] (Some (Ends (local_of f (cut ds h')))) (q.ends ∙ ap (behind_name f (cut ds h')) ce)
-    ∙ ap (λ v. Some (Ends (read_as at v))) (grow_cut (local_with f) ds h')
+    ∙ one_step local_offer q.now c [] (Some (Ends (local_of f (cut ds h)))) (q.ends ∙ ap (behind_name f (cut ds h)) ce)
+    ∙ ap (λ v. Some (Ends (read_as at v))) (grow_cut (local_with f) ds h)
 
 -- what is read is a declaration
 record TypeOf (f : LocalFront) (ts : List Terminal) : Type 0 where
