@@ -390,16 +390,16 @@ void_frame (opens_parameter f at r base {us} {xs} {ys} d rd sd p) n k =
 
 void_sound : (f : Taking) (s : List Frame) (ts us qs : List Terminal) → Stacked s us → VoidFrame f qs → ts ≡ us ++ qs → f.first ≡ true → (t : Terminal) → Is t CloseParen → OnStep (called f s) ts t
 void_sound f s ts us qs st l all only t e = (
-      us,
-      l.takes.us,
-      l.takes.vs ++ l.word ∷ t ∷ [],
-      st,
-      l.takes.front_is,
-      void_parameters_of l.takes.begun only l.word t l.is e,
-      two t ts us qs all
+  us,
+  l.takes.us,
+  l.takes.vs ++ l.word ∷ t ∷ [],
+  st,
+  l.takes.front_is,
+  void_parameters_of l.takes.begun only l.word t l.is e,
+  two t ts us qs all
       ∙ ap (λ k. us ++ (k ++ t ∷ [])) (l.all ∙ ap (λ k. k ++ l.word ∷ []) l.takes.all)
       ∙ ap (λ k. us ++ k) (append_assoc (l.takes.us ++ l.takes.vs) (l.word ∷ []) (t ∷ []) ∙ append_assoc l.takes.us l.takes.vs (l.word ∷ t ∷ [])),
-    )
+)
 
 and_first : (b c : Bool) → (b && c) ≡ true → b ≡ true
 and_first true c e = refl
@@ -575,12 +575,12 @@ fronting_sound s stars ts (us, vs, st, fr, all) t y e = behind_unnamed_sound s (
 directing_sound : (s : List Frame) (stars : Option Stars) (x : Option (Built DeclaratorTree)) (ts : List Terminal) → HoldsIn (Direct stars x) s ts → (t : Terminal) (y : Symbol) → Is t y → OnStep (directing s stars x y) ts t
 directing_sound s stars x ts (us, vs, ws, st, fr, d, all) t OpenBracket e = (us, vs ++ (ws ++ t ∷ []), st, opened_named t stars x fr d e, three t ts us vs ws all)
 directing_sound s stars x ts (us, vs, ws, st, fr, d, all) t OpenParen e = (
-      us,
-      vs ++ (ws ++ t ∷ []),
-      st,
-      record { us = vs; vs = ws ++ t ∷ []; front_is = fr; begun = none_yet t (function_of x) d.is e (ap function_of d.kept ∙ grow_cut function_at d.tree d.height); all = refl },
-      three t ts us vs ws all,
-    )
+  us,
+  vs ++ (ws ++ t ∷ []),
+  st,
+  record { us = vs; vs = ws ++ t ∷ []; front_is = fr; begun = none_yet t (function_of x) d.is e (ap function_of d.kept ∙ grow_cut function_at d.tree d.height); all = refl },
+  three t ts us vs ws all,
+)
 directing_sound s stars x ts (us, vs, ws, st, fr, d, all) t y e = behind_named_sound s (pointed stars x) ts us (vs ++ ws) st (behind_stars x fr d) all t y e
 
 unnaming_sound : (s : List Frame) (a : Option (Built Tree)) (ts : List Terminal) → HoldsIn (Unnamed a) s ts → (t : Terminal) (y : Symbol) → Is t y → OnStep (unnaming s a y) ts t
@@ -590,51 +590,51 @@ unnaming_sound s a ts (us, vs, st, d, all) t y e = behind_unnamed_sound s false 
 -- bounds
 unbounded_sound : (b : Bounded) (s : List Frame) (ts us vs : List Terminal) → Stacked s us → Opened b vs → ts ≡ us ++ vs → (t : Terminal) → Is t CloseBracket → OnStep (unbounded b s) ts t
 unbounded_sound b s ts us vs st (opened_named o stars d {xs} {ys} fr dd oe) all t e = (
-      us,
-      xs,
-      ys ++ o ∷ t ∷ [],
-      st,
-      fr,
-      record { tree = open_array_at dd.tree; height = suc dd.height; is = g.open_array o t dd.is oe e; kept = ap open_array_of dd.kept ∙ grow_cut open_array_at dd.tree dd.height },
-      three t ts us xs (ys ++ o ∷ []) all ∙ ap (λ l. us ++ (xs ++ l)) (append_assoc ys (o ∷ []) (t ∷ [])),
-    )
+  us,
+  xs,
+  ys ++ o ∷ t ∷ [],
+  st,
+  fr,
+  record { tree = open_array_at dd.tree; height = suc dd.height; is = g.open_array o t dd.is oe e; kept = ap open_array_of dd.kept ∙ grow_cut open_array_at dd.tree dd.height },
+  three t ts us xs (ys ++ o ∷ []) all ∙ ap (λ l. us ++ (xs ++ l)) (append_assoc ys (o ∷ []) (t ∷ [])),
+)
 unbounded_sound b s ts us vs st (opened_unnamed o a {n} {xs} dd oe) all t e = (
-      us,
-      xs ++ o ∷ t ∷ [],
-      st,
-      record { tree = expr.Unbounded dd.tree; height = max dd.height 2; is = abstract.unbounded o t dd.is oe e; kept = ap unbounded_of dd.kept ∙ unbounded_cut dd.tree dd.height; nothing = refl },
-      two t ts us (xs ++ o ∷ []) all ∙ ap (λ l. us ++ l) (append_assoc xs (o ∷ []) (t ∷ [])),
-    )
+  us,
+  xs ++ o ∷ t ∷ [],
+  st,
+  record { tree = expr.Unbounded dd.tree; height = max dd.height 2; is = abstract.unbounded o t dd.is oe e; kept = ap unbounded_of dd.kept ∙ unbounded_cut dd.tree dd.height; nothing = refl },
+  two t ts us (xs ++ o ∷ []) all ∙ ap (λ l. us ++ l) (append_assoc xs (o ∷ []) (t ∷ [])),
+)
 
 bounded_sound : (b : Bounded) (s : List Frame) (ts us vs ws : List Terminal) → Stacked s us → Opened b vs → ts ≡ us ++ (vs ++ ws) → (x : Option (Built Tree)) (e : Tree) (at : Place) (h : ℕ) → IsExpr 3 e at h ws → x ≡ cut e h
     → (t : Terminal) → Is t CloseBracket → OnStep (bounded b x s) ts t
 bounded_sound b s ts us vs ws st (opened_named o stars d {xs} {ys} fr dd oe) all x e at h de k t te = (
-      us,
-      xs,
-      ys ++ o ∷ (ws ++ t ∷ []),
-      st,
-      fr,
-      record {
-        tree = array_at dd.tree e;
-        height = suc (max dd.height h);
-        is = g.array o t dd.is oe de te;
-        kept = ap (λ v. array_of v x) dd.kept ∙ ap (array_of (cut dd.tree dd.height)) k ∙ grow_two_cut array_at dd.tree e dd.height h;
-      },
-      three t ts us (xs ++ (ys ++ o ∷ [])) ws all ∙ ap (λ l. us ++ l) (append_assoc xs (ys ++ o ∷ []) (ws ++ t ∷ []) ∙ ap (λ l. xs ++ l) (append_assoc ys (o ∷ []) (ws ++ t ∷ []))),
-    )
+  us,
+  xs,
+  ys ++ o ∷ (ws ++ t ∷ []),
+  st,
+  fr,
+  record {
+    tree = array_at dd.tree e;
+    height = suc (max dd.height h);
+    is = g.array o t dd.is oe de te;
+    kept = ap (λ v. array_of v x) dd.kept ∙ ap (array_of (cut dd.tree dd.height)) k ∙ grow_two_cut array_at dd.tree e dd.height h;
+  },
+  three t ts us (xs ++ (ys ++ o ∷ [])) ws all ∙ ap (λ l. us ++ l) (append_assoc xs (ys ++ o ∷ []) (ws ++ t ∷ []) ∙ ap (λ l. xs ++ l) (append_assoc ys (o ∷ []) (ws ++ t ∷ []))),
+)
 bounded_sound b s ts us vs ws st (opened_unnamed o a {n} {xs} dd oe) all x e at h de k t te = (
-      us,
-      xs ++ o ∷ (ws ++ t ∷ []),
-      st,
-      record {
-        tree = expr.Bounded dd.tree e;
-        height = max dd.height (h + 1);
-        is = abstract.bounded o t dd.is oe de te;
-        kept = ap (λ v. bounded_of v x) dd.kept ∙ ap (bounded_of (cut dd.tree dd.height)) k ∙ grow_list_cut 64 1 refl expr.Bounded dd.tree e dd.height h;
-        nothing = refl;
-      },
-      three t ts us (xs ++ o ∷ []) ws all ∙ ap (λ l. us ++ l) (append_assoc xs (o ∷ []) (ws ++ t ∷ [])),
-    )
+  us,
+  xs ++ o ∷ (ws ++ t ∷ []),
+  st,
+  record {
+    tree = expr.Bounded dd.tree e;
+    height = max dd.height (h + 1);
+    is = abstract.bounded o t dd.is oe de te;
+    kept = ap (λ v. bounded_of v x) dd.kept ∙ ap (bounded_of (cut dd.tree dd.height)) k ∙ grow_list_cut 64 1 refl expr.Bounded dd.tree e dd.height h;
+    nothing = refl;
+  },
+  three t ts us (xs ++ o ∷ []) ws all ∙ ap (λ l. us ++ l) (append_assoc xs (o ∷ []) (ws ++ t ∷ [])),
+)
 
 read_sound : (b : Bounded) (p : Parser) (gr : Grown) (s : List Frame) (ts : List Terminal) → HoldsIn (Bound b p) s ts → (t : Terminal) → offer Constant p t ≡ Some (offered.Ends gr) → (y : Symbol) → Is t y → OnStep (bound_read s b y gr) ts t
 read_sound b p gr s ts (us, vs, ws, st, o, fed, all) t k CloseBracket e =

@@ -8,3 +8,9 @@ pub mod InitialComplete
 pub mod InitialSound
 pub mod DeclaredNames
 pub mod Locals
+pub mod MembersComplete
+pub mod MembersSound
+pub mod Files
+pub mod FilesSound
+pub mod OneTree
+pub mod Examples

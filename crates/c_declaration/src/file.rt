@@ -2,7 +2,7 @@
 ghost use Rattle.std.specs.Prelude.{◌≡◌, IfOk, if◌then◌else◌, None};
 ghost use Rattle.c_declaration.specs.Feeding.{Answers};
 ghost use Rattle.c_declaration.specs.FileReading.{goes, front_at, both, head_with, function_with, bare_declared, declared_of, no_names, more_names, body, declared, behind_name, name_offered, naming, is_semicolon, whole, struct_of, members_offered, opened, worded, typed, typing, beginning, tagging, file_offer};
-ghost use Rattle.c_declaration.specs.MembersReading.{tree_in};
+ghost use Rattle.c_declaration.specs.MembersReading.{tree_in, members_offer};
 ghost use Rattle.c_declaration.specs.Grown.{name_with};
 ghost use Rattle.c_declaration.specs.declared.state.FileParser.TheVariants.{Stored};
 

@@ -1,5 +1,5 @@
 // What reading promises.
-ghost use Rattle.c_declaration.specs.Laws.{DeclaratorEnds, DeclaratorIs, InitialEnds, InitialIs, LocalEnds, LocalIs, HeadEnds, FunctionEnds, FileIs};
+ghost use Rattle.c_declaration.specs.Laws.{DeclaratorEnds, DeclaratorIs, InitialEnds, InitialIs, LocalEnds, LocalIs, HeadEnds, FunctionEnds, FileIs, OneDeclarator, OneLocal, OneHead, OneFunction};
 
 /// Declarators are read to their ends, whatever stands behind them, and nothing else is.
 pub fn declarators_are_read()
@@ -24,4 +24,12 @@ pub fn heads_are_read()
     ensures declaration { HeadEnds }
     ensures function { FunctionEnds }
     ensures is { FileIs }
+{}
+
+/// Tokens have one tree of at most 64 levels.
+pub fn one_tree()
+    ensures declarator { OneDeclarator }
+    ensures local { OneLocal }
+    ensures head { OneHead }
+    ensures function { OneFunction }
 {}

@@ -16,6 +16,8 @@ mod members;
 mod name;
 mod state;
 mod step;
+#[cfg(test)]
+mod tests;
 mod tree;
 mod unnamed;
 
@@ -26,7 +28,9 @@ pub use file::file_offer;
 pub use front::Stars;
 pub use function::BuiltFunction;
 pub use initial::initial_offer;
-pub use laws::{declarators_are_read, heads_are_read, initials_are_read, locals_are_read};
+pub use laws::{
+    declarators_are_read, heads_are_read, initials_are_read, locals_are_read, one_tree,
+};
 pub use local::local_offer;
 pub use members::members_offer;
 pub use name::name_offer;
