@@ -1,0 +1,13 @@
+//! Statements of C (C90 6.6): their trees, which tokens are one, and reading a block.
+#![tactic(auto)]
+
+mod block;
+mod built;
+mod parts;
+mod state;
+mod tree;
+
+pub use block::Block;
+pub use built::Built;
+pub use state::{Closer, Control, Frame, Mode, Opener, Optional, Outer, Purpose, Reader, Required};
+pub use tree::{Head, Statement, StatementNode};
