@@ -152,6 +152,10 @@ ends_before is_else (frame.Headed _) = true
 ends_before is_else (frame.Do _) = false
 ends_before is_else (frame.Block _) = false
 
+abbrev pub top_ends : Bool → Option Frame → Bool
+top_ends is_else None = false
+top_ends is_else (Some f) = ends_before is_else f
+
 -- the statement in its frame
 abbrev pub plug : Frame → Option (Built StatementTree) → Option (Built StatementTree)
 plug (frame.If p) g = if_of p g

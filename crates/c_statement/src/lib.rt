@@ -3,11 +3,15 @@
 
 mod block;
 mod built;
+mod frame;
+mod machine;
 mod parts;
 mod state;
 mod tree;
+mod value;
 
 pub use block::Block;
 pub use built::Built;
+pub use machine::shift;
 pub use state::{Closer, Control, Frame, Mode, Opener, Optional, Outer, Purpose, Reader, Required};
 pub use tree::{Head, Statement, StatementNode};

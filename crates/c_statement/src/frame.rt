@@ -1,0 +1,101 @@
+// What is begun and waits for a statement.
+ghost use Rattle.std.specs.Prelude.{◌≡◌, IfOk};
+ghost use Rattle.c_expr.specs.First.{first};
+ghost use Rattle.c_statement.specs.Machine.{ends_before, top_ends, plug, settle, if_part, outer_of};
+
+use crate::built::Built;
+use crate::parts::{headed_of, if_else_of, if_of};
+use crate::state::{Frame, Outer};
+use crate::tree::Statement;
+use c_expr::{Expr, Stack};
+use c_lex::Place;
+use std::alloc::{AllocError, Global};
+
+/// Whether a statement ends behind its part, before `else` or before another token.
+fn ends_before(is_else: bool, frame: &Frame) -> bool
+    ensures { result ≡ ends_before is_else frame.now }
+{
+    match frame {
+        Frame::If(_) => !is_else,
+        Frame::Else(_) | Frame::Headed(_) => true,
+        Frame::Do(_) | Frame::Block(_) => false,
+    }
+}
+
+/// Whether the statement on top ends behind its part.
+fn top_ends(is_else: bool, stack: &Stack<Frame>) -> bool
+    ensures { result ≡ top_ends is_else (first stack.now) }
+{
+    match stack.top() {
+        Some(frame) => ends_before(is_else, frame),
+        None => false,
+    }
+}
+
+/// The statement in its frame.
+fn plug(
+    alloc: Global,
+    frame: Frame,
+    part: Option<Built<Statement>>,
+) -> Result<Option<Built<Statement>>, AllocError>
+    ensures { IfOk result (λ s. s ≡ plug frame part) }
+{
+    match frame {
+        Frame::If(control) => if_of(alloc, control, part),
+        Frame::Else(before) => if_else_of(alloc, before, part),
+        Frame::Headed(head) => headed_of(alloc, head, part),
+        Frame::Do(_place) => Ok(part),
+        Frame::Block(_block) => Ok(part),
+    }
+}
+
+/// Ends the statements that end behind a part.
+pub fn settle(
+    alloc: Global,
+    is_else: bool,
+    part: Option<Built<Statement>>,
+    stack: &mut Stack<Frame>,
+) -> Result<Option<Built<Statement>>, AllocError>
+    ensures { IfOk result (λ r. settle is_else part stack.old ≡ (r, stack.new)) }
+{
+    let mut part = part;
+    'ending: while top_ends(is_else, stack) {
+        let Some(frame) = stack.pop() else {
+            return Ok(part);
+        };
+        part = plug(alloc, frame, part)?;
+    }
+    Ok(part)
+}
+
+/// The `if` that an `else` belongs to.
+pub fn if_part(frame: Option<Frame>) -> Option<Option<Built<(Place, Expr)>>>
+    ensures { result ≡ if_part frame }
+{
+    match frame {
+        Some(frame) => match frame {
+            Frame::If(control) => Some(control),
+            Frame::Else(_before) => None,
+            Frame::Headed(_head) => None,
+            Frame::Do(_place) => None,
+            Frame::Block(_block) => None,
+        },
+        None => None,
+    }
+}
+
+/// What goes on behind a statement.
+pub fn outer_of(frame: Option<Frame>) -> Outer
+    ensures { result ≡ outer_of frame }
+{
+    match frame {
+        Some(frame) => match frame {
+            Frame::If(_control) => Outer::Other,
+            Frame::Else(_before) => Outer::Other,
+            Frame::Headed(_head) => Outer::Other,
+            Frame::Do(place) => Outer::Do(place),
+            Frame::Block(block) => Outer::Block(block),
+        },
+        None => Outer::Other,
+    }
+}
