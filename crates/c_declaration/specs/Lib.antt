@@ -1,0 +1,16 @@
+pub mod Tree
+pub mod InitialTree
+pub mod Sizes
+pub mod Stored
+pub mod InitialStored
+pub mod View
+pub mod Grammar
+pub mod Feeding
+pub mod Grown
+pub mod DeclaratorReading
+pub mod InitialReading
+pub mod NameReading
+pub mod LocalReading
+pub mod MembersReading
+pub mod FileReading
+pub mod Laws
