@@ -4,18 +4,16 @@ use Rattle.c_lex.specs.declared.token.Place.{Place}
 use Rattle.c_lex.specs.declared.keyword.Keyword.{Keyword}
 use Rattle.c_lex.specs.declared.keyword.Keyword.TheVariants as word
 use Rattle.c_symbol.specs.declared.terminal.Terminal.{Terminal}
-use Rattle.c_symbol.specs.declared.symbol.Symbol.{Symbol}
 use Rattle.c_symbol.specs.declared.symbol.Symbol.TheVariants as symbol
 use Rattle.c_expr.specs.Tree.{Tree}
 use Rattle.c_expr.specs.Grammar.{IsExpr}
+use Rattle.c_declaration.specs.declared.tree.Local.{Local}
+use Rattle.c_declaration.specs.Grammar.{Is, IsLocal}
 use Rattle.c_statement.specs.declared.tree.Head.{Head}
 use Rattle.c_statement.specs.declared.tree.Head.TheVariants as head
 use Rattle.c_statement.specs.declared.state.Control.{Control}
 use Rattle.c_statement.specs.declared.state.Control.TheVariants as control
-use Rattle.c_statement.specs.Tree.{StatementTree, Empty, Evaluate, Begun, Also, Closed, If, IfElse, Headed, Do, Break, Continue, Return}
-
-abbrev pub Is : Terminal → Symbol → Type 0
-Is t y = t.symbol ≡ y
+use Rattle.c_statement.specs.Tree.{StatementTree, Empty, Evaluate, Begun, Declares, Also, Closed, If, IfElse, Headed, Do, Break, Continue, Return}
 
 abbrev pub IsWord : Terminal → Keyword → Type 0
 IsWord t k = Is t (symbol.Keyword k)
@@ -50,25 +48,31 @@ pub data IsHead : Head → ℕ → List Terminal → Type 0 where
       → IsHead (head.Case t.place e) h (t ∷ (ts ++ c ∷ []))
   default_head : (t c : Terminal) → IsWord t word.Default → Is c symbol.Colon → IsHead (head.Default t.place) 0 (t ∷ c ∷ [])
 
--- IsStatement b s h ts: b tells that the statement ends in an `if` without an `else`, so that no `else` may follow (C90 6.6.4.1)
+-- a block with only its declarations so far (C90 6.6.2)
+pub data IsOpened : StatementTree → ℕ → List Terminal → Type 0 where
+  opened : (o : Terminal) → Is o symbol.OpenBrace → IsOpened (Begun o.place) 0 (o ∷ [])
+  next_local : {x : StatementTree} {l : Local} {m n : ℕ} {us vs : List Terminal}
+      → IsOpened x m us → IsLocal l n vs → IsOpened (Declares x l) (max m (suc n)) (us ++ vs)
+
+-- IsStatement b x h ts: b tells that the statement ends in an `if` without an `else`, so that no `else` may follow (C90 6.6.4.1)
 mutual
   pub data IsStatement : Bool → StatementTree → ℕ → List Terminal → Type 0 where
     empty_statement : (c : Terminal) → Is c symbol.Semicolon → IsStatement false (Empty c.place) 1 (c ∷ [])
     expression_statement : (c : Terminal) {e : Tree} {at : Place} {h : ℕ} {ts : List Terminal}
         → IsExpr 1 e at h ts → Is c symbol.Semicolon → IsStatement false (Evaluate e) (suc h) (ts ++ c ∷ [])
-    block : {s : StatementTree} {h : ℕ} {ts : List Terminal} → IsBlock s h ts → IsStatement false s h ts
-    if_only : {b : Bool} {at : Place} {e : Tree} {s : StatementTree} {m n : ℕ} {us vs : List Terminal}
-        → IsControl control.If (at, e) m us → IsStatement b s n vs
-        → IsStatement true (If at e s) (suc (max m n)) (us ++ vs)
-    if_else : {b : Bool} {at : Place} {e : Tree} {s s' : StatementTree} {m n : ℕ} {us vs : List Terminal}
-        → IsElse ((at, e), s) m us → IsStatement b s' n vs
-        → IsStatement b (IfElse at e s s') (suc (max m n)) (us ++ vs)
-    headed : {b : Bool} {h : Head} {s : StatementTree} {m n : ℕ} {us vs : List Terminal}
-        → IsHead h m us → IsStatement b s n vs
-        → IsStatement b (Headed h s) (suc (max m n)) (us ++ vs)
-    do_while : (t c : Terminal) {b : Bool} {at : Place} {s : StatementTree} {e : Tree} {m n : ℕ} {us vs : List Terminal}
-        → IsWord t word.Do → IsStatement b s m us → IsControl control.While (at, e) n vs → Is c symbol.Semicolon
-        → IsStatement false (Do t.place s e) (suc (max m n)) (t ∷ (us ++ (vs ++ c ∷ [])))
+    block : {x : StatementTree} {h : ℕ} {ts : List Terminal} → IsBlock x h ts → IsStatement false x h ts
+    if_only : {b : Bool} {at : Place} {e : Tree} {x : StatementTree} {m n : ℕ} {us vs : List Terminal}
+        → IsControl control.If (at, e) m us → IsStatement b x n vs
+        → IsStatement true (If at e x) (suc (max m n)) (us ++ vs)
+    if_else : {b : Bool} {at : Place} {e : Tree} {x x' : StatementTree} {m n : ℕ} {us vs : List Terminal}
+        → IsElse ((at, e), x) m us → IsStatement b x' n vs
+        → IsStatement b (IfElse at e x x') (suc (max m n)) (us ++ vs)
+    headed : {b : Bool} {hd : Head} {x : StatementTree} {m n : ℕ} {us vs : List Terminal}
+        → IsHead hd m us → IsStatement b x n vs
+        → IsStatement b (Headed hd x) (suc (max m n)) (us ++ vs)
+    do_while : (t c : Terminal) {b : Bool} {at : Place} {x : StatementTree} {e : Tree} {m n : ℕ} {us vs : List Terminal}
+        → IsWord t word.Do → IsStatement b x m us → IsControl control.While (at, e) n vs → Is c symbol.Semicolon
+        → IsStatement false (Do t.place x e) (suc (max m n)) (t ∷ (us ++ (vs ++ c ∷ [])))
     break_statement : (t c : Terminal) → IsWord t word.Break → Is c symbol.Semicolon → IsStatement false (Break t.place) 1 (t ∷ c ∷ [])
     continue_statement : (t c : Terminal) → IsWord t word.Continue → Is c symbol.Semicolon → IsStatement false (Continue t.place) 1 (t ∷ c ∷ [])
     return_statement : (t c : Terminal) {e : Option Tree} {h : ℕ} {ts : List Terminal}
@@ -76,9 +80,9 @@ mutual
 
   -- an `if` up to its `else`: no other `if` before that waits for one
   pub data IsElse : (Place × Tree) × StatementTree → ℕ → List Terminal → Type 0 where
-    up_to_else : (l : Terminal) {at : Place} {e : Tree} {s : StatementTree} {m n : ℕ} {us vs : List Terminal}
-        → IsControl control.If (at, e) m us → IsStatement false s n vs → IsWord l word.Else
-        → IsElse ((at, e), s) (max m n) (us ++ (vs ++ l ∷ []))
+    up_to_else : (l : Terminal) {at : Place} {e : Tree} {x : StatementTree} {m n : ℕ} {us vs : List Terminal}
+        → IsControl control.If (at, e) m us → IsStatement false x n vs → IsWord l word.Else
+        → IsElse ((at, e), x) (max m n) (us ++ (vs ++ l ∷ []))
 
   -- a block (C90 6.6.2)
   pub data IsBlock : StatementTree → ℕ → List Terminal → Type 0 where
@@ -86,6 +90,6 @@ mutual
 
   -- a block without its `}`
   pub data IsBegun : StatementTree → ℕ → List Terminal → Type 0 where
-    begun : (o : Terminal) → Is o symbol.OpenBrace → IsBegun (Begun o.place) 0 (o ∷ [])
-    next_statement : {b : Bool} {s s' : StatementTree} {m n : ℕ} {us vs : List Terminal}
-        → IsBegun s m us → IsStatement b s' n vs → IsBegun (Also s s') (max m (suc n)) (us ++ vs)
+    only_declarations : {x : StatementTree} {h : ℕ} {ts : List Terminal} → IsOpened x h ts → IsBegun x h ts
+    next_statement : {b : Bool} {x x' : StatementTree} {m n : ℕ} {us vs : List Terminal}
+        → IsBegun x m us → IsStatement b x' n vs → IsBegun (Also x x') (max m (suc n)) (us ++ vs)

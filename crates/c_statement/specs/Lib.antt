@@ -5,3 +5,4 @@ pub mod View
 pub mod Grammar
 pub mod Parts
 pub mod Machine
+pub mod Laws

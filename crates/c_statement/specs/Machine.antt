@@ -5,7 +5,7 @@ use Rattle.c_lex.specs.declared.keyword.Keyword.{Keyword}
 use Rattle.c_lex.specs.declared.keyword.Keyword.TheVariants as word
 use Rattle.c_symbol.specs.declared.terminal.Terminal.{Terminal}
 use Rattle.c_symbol.specs.declared.symbol.Symbol.{Symbol}
-use Rattle.c_symbol.specs.declared.symbol.Symbol.TheVariants.{OpenParen, CloseParen, OpenBrace, CloseBrace, Semicolon, Colon as ColonSign, Keyword as Word}
+use Rattle.c_symbol.specs.declared.symbol.Symbol.TheVariants.{OpenParen, CloseParen, OpenBrace, CloseBrace, Semicolon, Colon as ColonSign, Struct as StructWord, Word as TypeWord, Keyword as Word}
 use Rattle.c_expr.specs.Tree.{Tree}
 use Rattle.c_expr.specs.First.{first}
 use Rattle.c_expr.specs.Machine.{start}
@@ -17,7 +17,13 @@ use Rattle.c_expr.specs.declared.inside.Offered.{Offered}
 use Rattle.c_expr.specs.declared.inside.Offered.TheVariants.{Goes, Ends as EndsBefore}
 use Rattle.c_expr.specs.declared.state.SynFault.{SynFault}
 use Rattle.c_expr.specs.declared.state.SynFault.TheVariants.{Syntax, Deep, NoMemory}
-use Rattle.c_statement.specs.declared.built.Built.{Built}
+use Rattle.c_declaration.specs.declared.built.Built.{Built}
+use Rattle.c_declaration.specs.declared.step.Step.{Step}
+use Rattle.c_declaration.specs.declared.step.Step.TheVariants as step
+use Rattle.c_declaration.specs.declared.state.LocalParser.{LocalParser}
+use Rattle.c_declaration.specs.declared.state.LocalParser.TheVariants as local
+use Rattle.c_declaration.specs.declared.state.ReadLocal.{ReadLocal}
+use Rattle.c_declaration.specs.LocalReading.{local_offer}
 use Rattle.c_statement.specs.declared.tree.Head.{Head}
 use Rattle.c_statement.specs.declared.tree.Head.TheVariants as head
 use Rattle.c_statement.specs.Tree.{StatementTree, Empty, Break, Continue}
@@ -38,9 +44,9 @@ use Rattle.c_statement.specs.declared.state.Closer.TheVariants as closer
 use Rattle.c_statement.specs.declared.state.Outer.{Outer}
 use Rattle.c_statement.specs.declared.state.Outer.TheVariants as outer
 use Rattle.c_statement.specs.declared.state.Mode.{Mode}
-use Rattle.c_statement.specs.declared.state.Mode.TheVariants.{Begin, Items, After, Done, Paren, Ends, Colon, May, Value}
+use Rattle.c_statement.specs.declared.state.Mode.TheVariants.{Begin, Items, Declaring, After, Done, Paren, Ends, Colon, May, Value}
 use Rattle.c_statement.specs.declared.state.Reader.{Reader}
-use Rattle.c_statement.specs.Parts.{kept, paired, expr_part, absent_part, present_part, statement_part, placed, evaluate_of, return_of, if_of, if_else_of, headed_of, do_of, for_of, begun_of, also_of, closed_of}
+use Rattle.c_statement.specs.Parts.{kept, paired, expr_part, absent_part, present_part, statement_part, placed, evaluate_of, return_of, if_of, if_else_of, headed_of, do_of, for_of, begun_of, declares_of, also_of, closed_of}
 
 -- the next state, or no tree
 abbrev pub Next : Type 0
@@ -144,6 +150,23 @@ abbrev pub inside : Symbol → Option (Built StatementTree) → List Frame → T
 inside CloseBrace b s t = ends_block (closed_of b t.place) s
 inside y b s t = begins y (frame.Block b ∷ s) t
 
+-- one token more of a declaration in a block
+abbrev pub declaring : Option (Built StatementTree) → List Frame → Option (Step LocalParser ReadLocal) → Next
+declaring b s None = None
+declaring b s (Some (step.Goes q)) = goes (Declaring b q) s
+declaring b s (Some (step.Ends r)) = goes (Items (declares_of b r.local)) s
+
+-- whether a declaration begins
+abbrev pub starts_local : Symbol → Bool
+starts_local (TypeWord _) = true
+starts_local StructWord = true
+starts_local (Word word.Register) = true
+starts_local _ = false
+
+-- a token behind the declarations of a block
+abbrev pub items : Symbol → Option (Built StatementTree) → List Frame → Terminal → Next
+items y b s t = if starts_local y then declaring b s (local_offer local.Begin t) else inside y b s t
+
 -- whether a statement ends behind its part before a token other than `else`, and before `else`
 abbrev pub ends_before : Bool → Frame → Bool
 ends_before is_else (frame.If _) = not is_else
@@ -170,10 +193,13 @@ settle is_else g [] = (g, [])
 settle is_else g (f ∷ s) = if ends_before is_else f then settle is_else (plug f g) s else (g, f ∷ s)
 
 -- the `if` that an `else` belongs to
+abbrev pub if_by : Frame → Option (Option (Built (Place × Tree)))
+if_by (frame.If p) = Some p
+if_by _ = None
+
 abbrev pub if_part : Option Frame → Option (Option (Built (Place × Tree)))
 if_part None = None
-if_part (Some (frame.If p)) = Some p
-if_part (Some _) = None
+if_part (Some f) = if_by f
 
 abbrev pub takes_else : Option (Option (Built (Place × Tree))) → Option (Built StatementTree) → List Frame → Next
 takes_else None g s = None
@@ -183,13 +209,16 @@ abbrev pub on_else : Option (Built StatementTree) × List Frame → Next
 on_else (g, s) = takes_else (if_part (first s)) g (drop 1 s)
 
 -- what goes on behind a statement
+abbrev pub outer_by : Frame → Outer
+outer_by (frame.If _) = outer.Other
+outer_by (frame.Else _) = outer.Other
+outer_by (frame.Headed _) = outer.Other
+outer_by (frame.Do at) = outer.Do at
+outer_by (frame.Block b) = outer.Block b
+
 abbrev pub outer_of : Option Frame → Outer
 outer_of None = outer.Other
-outer_of (Some (frame.If _)) = outer.Other
-outer_of (Some (frame.Else _)) = outer.Other
-outer_of (Some (frame.Headed _)) = outer.Other
-outer_of (Some (frame.Do at)) = outer.Do at
-outer_of (Some (frame.Block b)) = outer.Block b
+outer_of (Some f) = outer_by f
 
 abbrev pub until : Symbol → Place → Option (Built StatementTree) → List Frame → Next
 until (Word word.While) at g s = goes (Paren (opener.Until (placed at g))) s
@@ -232,7 +261,8 @@ maybe o s t = if is_closer (closer_of (Maybe o)) t.symbol then with_optional o a
 
 abbrev pub shift_mode : Mode → List Frame → Terminal → Next
 shift_mode Begin s t = begins t.symbol s t
-shift_mode (Items b) s t = inside t.symbol b s t
+shift_mode (Items b) s t = items t.symbol b s t
+shift_mode (Declaring b p) s t = declaring b s (local_offer p t)
 shift_mode (After g) s t = after t.symbol g s t
 shift_mode (Done g) s t = None
 shift_mode (Paren o) s t = paren t.symbol o s

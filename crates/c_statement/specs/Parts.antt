@@ -1,16 +1,13 @@
 -- Parts of statements with their heights, kept where they are at most 64 high.
-use Rattle.std.specs.Prelude.{ℕ, ◌+◌, max, nat_le, nat_lt, if◌then◌else◌, Option, Some, None}
+use Rattle.std.specs.Prelude.{ℕ, ◌+◌, max, nat_lt, if◌then◌else◌, Option, Some, None}
 use Rattle.c_lex.specs.declared.token.Place.{Place}
 use Rattle.c_expr.specs.Tree.{Tree}
 use Rattle.c_expr.specs.declared.grown.Built.{Built as BuiltExpr}
-use Rattle.c_statement.specs.declared.built.Built.{Built}
+use Rattle.c_declaration.specs.declared.built.Built.{Built}
+use Rattle.c_declaration.specs.declared.tree.Local.{Local}
 use Rattle.c_statement.specs.declared.tree.Head.{Head}
 use Rattle.c_statement.specs.declared.tree.Head.TheVariants as head
-use Rattle.c_statement.specs.Tree.{StatementTree, Empty, Evaluate, Begun, Also, Closed, If, IfElse, Headed, Do, Break, Continue, Return}
-
--- the tree where it is at most 64 high
-abbrev pub cut : {T : Type 0} → T → ℕ → Option (Built T)
-cut x h = if nat_le h 64 then Some (record { height = h; tree = x }) else None
+use Rattle.c_statement.specs.Tree.{StatementTree, Empty, Evaluate, Begun, Declares, Also, Closed, If, IfElse, Headed, Do, Break, Continue, Return}
 
 -- the same parts, otherwise put together
 abbrev pub kept : {A B : Type 0} → (A → B) → Option (Built A) → Option (Built B)
@@ -67,9 +64,12 @@ do_of p e = kept (λ x. Do x.0.0 x.0.1 x.1) (taller (paired p e))
 abbrev pub for_of : Option (Built ((Place × Option Tree) × Option Tree)) → Option (Built (Option Tree)) → Option (Built Head)
 for_of p e = kept (λ x. head.For x.0.0.0 x.0.0.1 x.0.1 x.1) (paired p e)
 
--- a block so far: only its `{`, with one statement more, and with its `}`
+-- a block so far: only its `{`, with one declaration or statement more, and with its `}`
 abbrev pub begun_of : Place → Option (Built StatementTree)
 begun_of at = Some (record { height = 0; tree = Begun at })
+
+abbrev pub declares_of : Option (Built StatementTree) → Option (Built Local) → Option (Built StatementTree)
+declares_of b l = kept (λ x. Declares x.0 x.1) (paired b (taller l))
 
 abbrev pub also_of : Option (Built StatementTree) → Option (Built StatementTree) → Option (Built StatementTree)
 also_of b s = kept (λ x. Also x.0 x.1) (paired b (taller s))

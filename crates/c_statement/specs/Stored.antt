@@ -3,13 +3,15 @@ use Rattle.std.specs.Prelude.{◌≡◌, ℕ, List, [], ◌∷◌, Option, refl}
 use Rattle.std.proofs.Common.{◌∙◌, ap}
 use Rattle.c_lex.specs.declared.token.Place.{Place}
 use Rattle.c_expr.specs.Tree.{Tree}
+use Rattle.c_declaration.specs.declared.tree.Local.{Local}
 use Rattle.c_statement.specs.declared.tree.Head.{Head}
-use Rattle.c_statement.specs.Tree.{StatementTree, Empty, Evaluate, Begun, Also, Closed, If, IfElse, Headed, Do, Break, Continue, Return}
+use Rattle.c_statement.specs.Tree.{StatementTree, Empty, Evaluate, Begun, Declares, Also, Closed, If, IfElse, Headed, Do, Break, Continue, Return}
 
 pub data Item : Type 0 where
   empty : Place → Item
   evaluate : Tree → Item
   begun : Place → Item
+  declares : Local → Item
   also : Item
   closed : Place → Item
   if_only : Place → Tree → Item
@@ -24,6 +26,7 @@ abbrev pub items_onto : StatementTree → List Item → List Item
 items_onto (Empty at) rest = empty at ∷ rest
 items_onto (Evaluate e) rest = evaluate e ∷ rest
 items_onto (Begun at) rest = begun at ∷ rest
+items_onto (Declares a l) rest = items_onto a (declares l ∷ rest)
 items_onto (Also a b) rest = items_onto a (items_onto b (also ∷ rest))
 items_onto (Closed a at) rest = items_onto a (closed at ∷ rest)
 items_onto (If at e a) rest = items_onto a (if_only at e ∷ rest)
@@ -46,6 +49,7 @@ abbrev pub put : Item → List StatementTree → List StatementTree
 put (empty at) s = Empty at ∷ s
 put (evaluate e) s = Evaluate e ∷ s
 put (begun at) s = Begun at ∷ s
+put (declares l) s = one (λ a. Declares a l) s
 put also s = two Also s
 put (closed at) s = one (λ a. Closed a at) s
 put (if_only at e) s = one (If at e) s
@@ -64,6 +68,7 @@ pub put_items : (t : StatementTree) (rest : List Item) (s : List StatementTree) 
 put_items (Empty at) rest s = refl
 put_items (Evaluate e) rest s = refl
 put_items (Begun at) rest s = refl
+put_items (Declares a l) rest s = put_items a _ s
 put_items (Also a b) rest s = put_items a _ s ∙ put_items b _ (a ∷ s)
 put_items (Closed a at) rest s = put_items a _ s
 put_items (If at e a) rest s = put_items a _ s

@@ -1,6 +1,6 @@
 -- The tree that a statement is.
 use Rattle.std.specs.Prelude.{Option, Some, None}
-use Rattle.c_statement.specs.Tree.{StatementTree, with_statements}
+use Rattle.c_statement.specs.Tree.{StatementTree, with_locals, with_statements}
 use Rattle.c_statement.specs.Tree as tree
 use Rattle.c_statement.specs.declared.tree.Head.TheVariants as head
 use Rattle.c_statement.specs.declared.tree.StatementNode.{StatementNode}
@@ -9,7 +9,7 @@ use Rattle.c_statement.specs.declared.tree.StatementNode.TheVariants.{Empty, Eva
 abbrev pub statement_of : StatementNode → StatementTree
 statement_of (Empty at) = tree.Empty at
 statement_of (Evaluate e) = tree.Evaluate e
-statement_of (Block at ss end) = tree.Closed (with_statements (tree.Begun at) ss.items) end
+statement_of (Block at ls ss end) = tree.Closed (with_statements (with_locals (tree.Begun at) ls) ss.items) end
 statement_of (If at e s None) = tree.If at e s.value
 statement_of (If at e s (Some t)) = tree.IfElse at e s.value t.value
 statement_of (While at e s) = tree.Headed (head.While at e) s.value

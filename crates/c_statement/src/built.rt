@@ -1,18 +1,12 @@
-// Parts of statements with their heights, kept until they are too high.
+// Parts of statements with their heights, kept until they are too high. A part that is no whole tree has the greatest height of what it is made of.
 ghost use Rattle.std.specs.Prelude.{◌≡◌, max};
 ghost use Rattle.c_statement.specs.Parts.{taller, paired, expr_part, absent_part, present_part};
 
+use c_declaration::Built;
 use c_expr::Expr;
 
 /// The greatest height of a statement.
 pub const MOST_HEIGHT: u32 = 64;
-
-/// A tree and its height, or the parts of one that is not whole and the greatest height of them.
-#[derive(Drop)]
-pub struct Built<T> {
-    pub height: u32,
-    pub tree: T,
-}
 
 /// The greater of two heights.
 fn greater(a: u32, b: u32) -> u32

@@ -1,12 +1,12 @@
 // What is begun and waits for a statement.
 ghost use Rattle.std.specs.Prelude.{◌≡◌, IfOk};
 ghost use Rattle.c_expr.specs.First.{first};
-ghost use Rattle.c_statement.specs.Machine.{ends_before, top_ends, plug, settle, if_part, outer_of};
+ghost use Rattle.c_statement.specs.Machine.{ends_before, top_ends, plug, settle, if_by, if_part, outer_by, outer_of};
 
-use crate::built::Built;
 use crate::parts::{headed_of, if_else_of, if_of};
 use crate::state::{Frame, Outer};
 use crate::tree::Statement;
+use c_declaration::Built;
 use c_expr::{Expr, Stack};
 use c_lex::Place;
 use std::alloc::{AllocError, Global};
@@ -68,19 +68,34 @@ pub fn settle(
     Ok(part)
 }
 
+/// The `if` that a frame is.
+fn if_by(frame: Frame) -> Option<Option<Built<(Place, Expr)>>>
+    ensures { result ≡ if_by frame }
+{
+    match frame {
+        Frame::If(control) => Some(control),
+        _other => None,
+    }
+}
+
 /// The `if` that an `else` belongs to.
 pub fn if_part(frame: Option<Frame>) -> Option<Option<Built<(Place, Expr)>>>
     ensures { result ≡ if_part frame }
 {
     match frame {
-        Some(frame) => match frame {
-            Frame::If(control) => Some(control),
-            Frame::Else(_before) => None,
-            Frame::Headed(_head) => None,
-            Frame::Do(_place) => None,
-            Frame::Block(_block) => None,
-        },
+        Some(frame) => if_by(frame),
         None => None,
+    }
+}
+
+/// What goes on behind the statement of a frame.
+fn outer_by(frame: Frame) -> Outer
+    ensures { result ≡ outer_by frame }
+{
+    match frame {
+        Frame::Do(place) => Outer::Do(place),
+        Frame::Block(block) => Outer::Block(block),
+        _other => Outer::Other,
     }
 }
 
@@ -89,13 +104,7 @@ pub fn outer_of(frame: Option<Frame>) -> Outer
     ensures { result ≡ outer_of frame }
 {
     match frame {
-        Some(frame) => match frame {
-            Frame::If(_control) => Outer::Other,
-            Frame::Else(_before) => Outer::Other,
-            Frame::Headed(_head) => Outer::Other,
-            Frame::Do(place) => Outer::Do(place),
-            Frame::Block(block) => Outer::Block(block),
-        },
+        Some(frame) => outer_by(frame),
         None => Outer::Other,
     }
 }

@@ -4,14 +4,16 @@
 mod block;
 mod built;
 mod frame;
+mod laws;
 mod machine;
 mod parts;
 mod state;
+mod stub;
 mod tree;
 mod value;
 
-pub use block::Block;
-pub use built::Built;
+pub use block::{Block, Opened};
+pub use laws::{block_ends, block_is};
 pub use machine::shift;
 pub use state::{Closer, Control, Frame, Mode, Opener, Optional, Outer, Purpose, Reader, Required};
 pub use tree::{Head, Statement, StatementNode};

@@ -2,15 +2,20 @@
 ghost use Rattle.std.specs.Prelude.{◌≡◌, ◌∷◌, IfOk, Some, drop};
 ghost use Rattle.c_expr.specs.First.{first};
 ghost use Rattle.c_statement.specs.Parts.{also_of};
-ghost use Rattle.c_statement.specs.Machine.{Gives, keyword, begins, ends_block, inside, until, continues, behind, takes_else, if_part, on_else, outer_of, after, opens, paren, semicolon, colon, shift, settle, start_block};
+ghost use Rattle.c_declaration.specs.LocalReading.{local_offer};
+ghost use Rattle.c_statement.specs.Machine.{Gives, keyword, begins, ends_block, inside, declaring, starts_local, items, until, continues, behind, takes_else, if_part, on_else, outer_of, after, opens, paren, semicolon, colon, shift, settle, start_block};
 
-use crate::block::Block;
-use crate::built::{Built, paired};
+use crate::block::{Block, Opened};
+use crate::built::paired;
 use crate::frame::{if_part, outer_of, settle};
-use crate::parts::{also_of, begun_of, break_of, closed_of, continue_of, empty, placed};
+use crate::parts::{
+    also_of, begun_of, block_of, break_of, closed_of, continue_of, declares_of, empty, placed,
+};
 use crate::state::{Control, Frame, Mode, Opener, Optional, Outer, Purpose, Reader, Required};
 use crate::tree::{Head, Statement};
 use crate::value::{begin, maybe, value_begins, valued, waits};
+use crate::stub::local_offer;
+use c_declaration::{Built, LocalParser, Step};
 use c_expr::{Stack, SynFault};
 use c_lex::{Keyword, Place};
 use c_symbol::{Symbol, Terminal};
@@ -20,12 +25,12 @@ use std::alloc::Global;
 fn keyword(
     alloc: Global,
     stack: Stack<Frame>,
-    keyword: Keyword,
+    word: Keyword,
     place: Place,
 ) -> Result<Reader, SynFault>
-    ensures { Gives result (keyword keyword place stack) }
+    ensures { Gives result (keyword word place stack) }
 {
-    let mode = match keyword {
+    let mode = match word {
         Keyword::If => Mode::Paren(Opener::Control(Control::If, place)),
         Keyword::While => Mode::Paren(Opener::Control(Control::While, place)),
         Keyword::Switch => Mode::Paren(Opener::Control(Control::Switch, place)),
@@ -92,6 +97,53 @@ fn inside(
             begins(alloc, stack, next)
         }
     }
+}
+
+/// One token more of a declaration in a block.
+fn declaring(
+    alloc: Global,
+    stack: Stack<Frame>,
+    block: Option<Built<Opened>>,
+    parser: LocalParser,
+    next: Terminal,
+) -> Result<Reader, SynFault>
+    ensures { Gives result (declaring block stack (local_offer parser next)) }
+{
+    match local_offer(alloc, parser, next)? {
+        Step::Goes(parser) => Ok(Reader {
+            stack,
+            mode: Mode::Declaring(block, parser),
+        }),
+        Step::Ends(read) => Ok(Reader {
+            stack,
+            mode: Mode::Items(declares_of(block, read.local)?),
+        }),
+    }
+}
+
+/// Whether a declaration begins.
+fn starts_local(symbol: Symbol) -> bool
+    ensures { result ≡ starts_local symbol }
+{
+    match symbol {
+        Symbol::Word(_) | Symbol::Struct | Symbol::Keyword(Keyword::Register) => true,
+        _ => false,
+    }
+}
+
+/// A token behind the declarations of a block.
+fn items(
+    alloc: Global,
+    stack: Stack<Frame>,
+    block: Option<Built<Opened>>,
+    next: Terminal,
+) -> Result<Reader, SynFault>
+    ensures { Gives result (items next.symbol block stack next) }
+{
+    if starts_local(next.symbol) {
+        return declaring(alloc, stack, block, LocalParser::Begin, next);
+    }
+    inside(alloc, stack, block_of(alloc, block), next)
 }
 
 /// The `while` behind the statement of `do`.
@@ -237,7 +289,8 @@ pub fn shift(alloc: Global, reader: Reader, next: Terminal) -> Result<Reader, Sy
     let Reader { stack, mode } = reader;
     match mode {
         Mode::Begin => begins(alloc, stack, next),
-        Mode::Items(block) => inside(alloc, stack, block, next),
+        Mode::Items(block) => items(alloc, stack, block, next),
+        Mode::Declaring(block, parser) => declaring(alloc, stack, block, parser, next),
         Mode::After(part) => after(alloc, stack, part, next),
         Mode::Done(_part) => Err(SynFault::Syntax(next.place)),
         Mode::Paren(opener) => paren(alloc, stack, opener, next.symbol, next.place),

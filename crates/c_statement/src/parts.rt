@@ -3,11 +3,12 @@ ghost use Rattle.std.specs.Prelude.{◌≡◌, IfOk};
 ghost use Rattle.c_statement.specs.Tree.{Empty, Break, Continue, Headed};
 ghost use Rattle.c_statement.specs.View.{statement_of};
 ghost use Rattle.c_statement.specs.declared.tree.Head.TheVariants.{While as WhileHead, Switch as SwitchHead, Case as CaseHead, Default as DefaultHead};
-ghost use Rattle.c_statement.specs.Parts.{kept, placed, statement_part, evaluate_of, return_of, if_of, if_else_of, headed_of, do_of, for_of, begun_of, also_of, closed_of};
+ghost use Rattle.c_statement.specs.Parts.{kept, placed, statement_part, evaluate_of, return_of, if_of, if_else_of, headed_of, do_of, for_of, begun_of, declares_of, also_of, closed_of};
 
-use crate::block::Block;
-use crate::built::{Built, paired, taller};
+use crate::block::{Block, Opened};
+use crate::built::{paired, taller};
 use crate::tree::{Head, Statement, StatementNode};
+use c_declaration::{Built, Local};
 use c_expr::Expr;
 use c_lex::Place;
 use std::alloc::{AllocError, Global};
@@ -251,13 +252,45 @@ pub fn do_of(
 }
 
 /// `{`
-pub fn begun_of(alloc: Global, place: Place) -> Option<Built<Block>>
+pub fn begun_of(alloc: Global, place: Place) -> Option<Built<Opened>>
     ensures { result ≡ begun_of place }
 {
     Some(Built {
         height: 0,
-        tree: Block::new(alloc, place),
+        tree: Opened::new(alloc, place),
     })
+}
+
+/// A block with a declaration more.
+pub fn declares_of(
+    block: Option<Built<Opened>>,
+    local: Option<Built<Local>>,
+) -> Result<Option<Built<Opened>>, AllocError>
+    ensures { IfOk result (λ b. b ≡ declares_of block local) }
+{
+    match paired(block, taller(local)) {
+        Some(parts) => {
+            let (block, local) = parts.tree;
+            Ok(Some(Built {
+                height: parts.height,
+                tree: block.with_local(local)?,
+            }))
+        }
+        None => Ok(None),
+    }
+}
+
+/// A block behind its declarations.
+pub fn block_of(alloc: Global, opened: Option<Built<Opened>>) -> Option<Built<Block>>
+    ensures { result ≡ opened }
+{
+    match opened {
+        Some(opened) => Some(Built {
+            height: opened.height,
+            tree: opened.tree.into_block(alloc),
+        }),
+        None => None,
+    }
 }
 
 /// A block with a statement more.

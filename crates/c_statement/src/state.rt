@@ -1,7 +1,7 @@
 // What was read so far of a block.
-use crate::block::Block;
-use crate::built::Built;
+use crate::block::{Block, Opened};
 use crate::tree::{Head, Statement};
+use c_declaration::{Built, LocalParser};
 use c_expr::{Expr, Parser, Stack};
 use c_lex::Place;
 
@@ -87,8 +87,10 @@ pub enum Closer {
 pub enum Mode {
     /// A statement
     Begin,
-    /// What a block begins with, or its `}`
-    Items(Option<Built<Block>>),
+    /// A declaration, a statement or the `}` of a block with only its declarations so far
+    Items(Option<Built<Opened>>),
+    /// What goes on with a declaration of a block
+    Declaring(Option<Built<Opened>>, LocalParser),
     /// What follows a statement
     After(Option<Built<Statement>>),
     /// Nothing, since the outermost block was read

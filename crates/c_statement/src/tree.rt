@@ -1,7 +1,9 @@
 // Trees of statements.
 
+use c_declaration::Local;
 use c_expr::Expr;
 use c_lex::Place;
+use ldb_words::Many;
 use std::marker::Model;
 
 /// A statement (C90 6.6). Contracts see it as a tree without where it lies in memory.
@@ -12,13 +14,13 @@ pub struct Statement {
 }
 
 /// The alternatives of the grammar. Each has the place of its first token but an expression statement, whose expression has it. A
-/// block also has the place of its `}`.
+/// block has its declarations, its statements and the place of its `}`.
 #[derive(Drop)]
 #[cycle(statement)]
 pub enum StatementNode {
     Empty(Place),
     Evaluate(Expr),
-    Block(Place, Vec<Statement>, Place),
+    Block(Place, Many<Local>, Vec<Statement>, Place),
     If(Place, Expr, Box<Statement>, Option<Box<Statement>>),
     While(Place, Expr, Box<Statement>),
     Do(Place, Box<Statement>, Expr),
@@ -51,12 +53,14 @@ impl Model for Statement {
     ghost use Rattle.std.specs.Prelude.{List};
     ghost use Rattle.std.specs.Coded.{codes, code_by};
     ghost use Rattle.c_expr.specs.contracts.tree.Expr as e;
+    ghost use Rattle.c_declaration.specs.contracts.tree.Declarator as d;
+    ghost use Rattle.c_declaration.specs.contracts.tree.Initial as i;
     ghost use Rattle.c_statement.specs.Tree.{StatementTree, depth};
     ghost use Rattle.c_statement.specs.Stored.{Item, items_of, tree_from, tree_from-items_of};
 
     ghost Value = { StatementTree };
 
-    ghost coded = { code_by (List Item) (Prim.hlevel (codes, e.the_row.coded)) items_of tree_from tree_from-items_of };
+    ghost coded = { code_by (List Item) (Prim.hlevel (codes, e.the_row.coded, d.the_row.coded, i.the_row.coded)) items_of tree_from tree_from-items_of };
 
     ghost use Rattle.c_statement.specs.View.{statement_of};
 

@@ -8,11 +8,12 @@ ghost use Rattle.c_statement.specs.declared.state.Mode.TheVariants.{Begin};
 ghost use Rattle.c_statement.specs.declared.state.Purpose.TheVariants.{Must, May as Maybe};
 ghost use Rattle.c_expr.specs.declared.inside.Offered.TheVariants.{Ends as EndsBefore};
 
-use crate::built::{Built, absent_part, expr_part, paired, present_part};
+use crate::built::{absent_part, expr_part, paired, present_part};
 use crate::parts::{
     case_head, do_of, evaluate_of, for_head, placed, return_of, switch_head, while_head,
 };
 use crate::state::{Closer, Control, Frame, Mode, Optional, Purpose, Reader, Required};
+use c_declaration::Built;
 use c_expr::{Expr, Grown, Least, Offered, Parser, Stack, SynFault, offer};
 use c_lex::Place;
 use c_symbol::{Symbol, Terminal};

@@ -6,8 +6,9 @@ use Rattle.std.proofs.lemmas.Bool.{cases_lt}
 use Rattle.std.proofs.lemmas.Bool.Decides.{nat_tests}
 use Rattle.c_expr.specs.Tree.{Tree}
 use Rattle.c_expr.specs.Grown.{cut as expr_cut}
-use Rattle.c_statement.specs.declared.built.Built.{Built}
-use Rattle.c_statement.specs.Parts.{cut, kept, taller, paired, expr_part}
+use Rattle.c_declaration.specs.declared.built.Built.{Built}
+use Rattle.c_declaration.specs.Grown.{cut}
+use Rattle.c_statement.specs.Parts.{kept, taller, paired, expr_part}
 
 pub if_true : {T : Type 0} (b : Bool) (x y : T) → b ≡ true → (if b then x else y) ≡ x
 if_true b x y e = ap (λ v. if v then x else y) e
