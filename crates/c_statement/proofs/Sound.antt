@@ -178,12 +178,12 @@ control_sound control.Switch s us vs at e h st d = (us, vs, st, (head.Switch at 
 -- `do` with its controlling expression
 do_sound : {p : Place × StatementTree} {m : ℕ} {ts : List Terminal} → IsDo p m ts → (w o c : Terminal) (e : Tree) (at : Place) (h : ℕ) (ws : List Terminal)
     → IsWord w word.While → Is o symbol.OpenParen → IsExpr 1 e at h ws → Is c symbol.CloseParen → Unended (Do p.0 p.1 e) (suc (max m h)) ((ts ++ w ∷ o ∷ []) ++ (ws ++ c ∷ []))
-do_sound (is_do t {b} {x} {m} {ts} te d) w o c e at h ws we oe de ce z ze =
+do_sound (is_do t {b} {x} {ts} te d) w o c e at h ws we oe de ce z ze =
     moved (t ∷ (ts ++ ((w ∷ o ∷ (ws ++ c ∷ [])) ++ z ∷ []))) ((((t ∷ ts) ++ w ∷ o ∷ []) ++ (ws ++ c ∷ [])) ++ z ∷ [])
     (sym (append_assoc ((t ∷ ts) ++ w ∷ o ∷ []) (ws ++ c ∷ []) (z ∷ []) ∙ append_assoc (t ∷ ts) (w ∷ o ∷ []) ((ws ++ c ∷ []) ++ z ∷ [])))
     (do_while t z te d (controlled control.While w o c we oe de ce) ze)
 
-symbol_of : Closer → Symbol
+abbrev symbol_of : Closer → Symbol
 symbol_of closer.Semicolon = symbol.Semicolon
 symbol_of closer.Paren = symbol.CloseParen
 symbol_of closer.Colon = symbol.Colon
@@ -225,7 +225,7 @@ for_first (is_first t o y {d} {k} {us} te oe dd ye) z c e f m n vs ws de ze df c
 
 for_sound : {x : (Place × Option Tree) × Option Tree} {m : ℕ} {vs : List Terminal} → IsSecond x m vs → (c : Terminal) (f : Option Tree) (n : ℕ) (ws : List Terminal)
     → IsOptional f n ws → Is c symbol.CloseParen → IsHead (head.For x.0.0 x.0.1 x.1 f) (max m n) (vs ++ (ws ++ c ∷ []))
-for_sound (is_second z {p} {e} {m} {k} {us} {vs} d de ze) c f n ws df ce = for_first d z c e f k n vs ws de ze df ce
+for_sound (is_second z {e} {n = k} {vs} d de ze) c f n ws df ce = for_first d z c e f k n vs ws de ze df ce
 
 optional_sound : {o : Optional} {vs : List Terminal} → BeforeMay o vs → (s : List Frame) (us ws : List Terminal) (c : Terminal) → Stacked s us → (e : Option Tree) (h : ℕ)
     → IsOptional e h ws → is_closer (closer_of (Maybe o)) c.symbol ≡ true → OnNext (with_optional o (cut e h) s) (us ++ (vs ++ (ws ++ c ∷ [])))
@@ -327,7 +327,7 @@ ends_block_sound b [] t ts e d =
     let P : List Terminal → Type 0 = λ l. Stands IsBlock (closed_of b t.place) (l ++ t ∷ []) in
     subst P (sym (d.4 ∙ ap (λ l. l ++ d.1) d.2)) (closed_sound b t d.1 e d.3)
 ends_block_sound b (f ∷ s) t ts e d =
-    on_more {Stands IsBegun b} {Stands (IsStatement false) (closed_of b t.place)} (f ∷ s) ts t d (λ vs k. let c = closed_sound b t vs e k in (c.0, c.1, block c.2, c.3))
+    on_more {P = Stands IsBegun b} {Q = Stands (IsStatement false) (closed_of b t.place)} (f ∷ s) ts t d (λ vs k. let c = closed_sound b t vs e k in (c.0, c.1, block c.2, c.3))
 
 inside_sound : (y : Symbol) (b : Option (Built StatementTree)) (s : List Frame) (t : Terminal) (ts : List Terminal) → Is t y → On s (Stands IsBegun b) ts → OnNext (inside y b s t) (ts ++ t ∷ [])
 inside_sound symbol.CloseBrace b s t ts e d = ends_block_sound b s t ts e d
@@ -512,14 +512,14 @@ paren_sound symbol.OpenParen o s t ts e d =
 paren_sound _ o s t ts e d = tt
 
 semicolon_sound : (y : Symbol) (g : Option (Built StatementTree)) (s : List Frame) (t : Terminal) (ts : List Terminal) → Is t y → On s (Stands Unended g) ts → OnNext (semicolon y g s) (ts ++ t ∷ [])
-semicolon_sound symbol.Semicolon g s t ts e d = on_more {Stands Unended g} {Ended false g} s ts t d (λ vs k. (k.0, k.1, k.2 t e, k.3))
+semicolon_sound symbol.Semicolon g s t ts e d = on_more {P = Stands Unended g} {Q = Ended false g} s ts t d (λ vs k. (k.0, k.1, k.2 t e, k.3))
 semicolon_sound _ g s t ts e d = tt
 
 default_sound : {at : Place} {vs : List Terminal} → IsDefault at vs → (t : Terminal) → Is t symbol.Colon → Stands IsHead (Some (record { height = 0; tree = head.Default at })) (vs ++ t ∷ [])
 default_sound (is_default w we) t e = (head.Default w.place, 0, default_head w t we e, refl)
 
 colon_sound : (y : Symbol) (at : Place) (s : List Frame) (t : Terminal) (ts : List Terminal) → Is t y → On s (IsDefault at) ts → OnNext (colon y at s) (ts ++ t ∷ [])
-colon_sound symbol.Colon at s t ts e d = on_more {IsDefault at} {Stands IsHead (Some (record { height = 0; tree = head.Default at }))} s ts t d (λ vs k. default_sound k t e)
+colon_sound symbol.Colon at s t ts e d = on_more {P = IsDefault at} {Q = Stands IsHead (Some (record { height = 0; tree = head.Default at }))} s ts t d (λ vs k. default_sound k t e)
 colon_sound _ at s t ts e d = tt
 
 -- one token more
@@ -535,7 +535,7 @@ mode_sound law (Colon at) s t ts d = colon_sound t.symbol at s t ts refl d
 mode_sound law (May o) s t ts d = maybe_sound o s t ts d
 mode_sound law (Value p q) s t ts d = valued_sound p s q t ts d
 
-going : List Terminal → Next → Next
+abbrev going : List Terminal → Next → Next
 going ts n = elim n [ None ↦ None | Some q ↦ run ts q ]
 
 none_reader : (q : Reader) → None ≡ Some q → ⊥
