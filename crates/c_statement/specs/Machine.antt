@@ -209,12 +209,17 @@ abbrev pub on_else : Option (Built StatementTree) × List Frame → Next
 on_else (g, s) = takes_else (if_part (first s)) g (drop 1 s)
 
 -- what goes on behind a statement
+abbrev pub do_place : Frame → Option Place
+do_place (frame.Do at) = Some at
+do_place _ = None
+
+abbrev pub outer_beside : Option Place → Outer
+outer_beside None = outer.Other
+outer_beside (Some at) = outer.Do at
+
 abbrev pub outer_by : Frame → Outer
-outer_by (frame.If _) = outer.Other
-outer_by (frame.Else _) = outer.Other
-outer_by (frame.Headed _) = outer.Other
-outer_by (frame.Do at) = outer.Do at
 outer_by (frame.Block b) = outer.Block b
+outer_by f = outer_beside (do_place f)
 
 abbrev pub outer_of : Option Frame → Outer
 outer_of None = outer.Other
@@ -280,6 +285,9 @@ abbrev pub run : List Terminal → Reader → Next
 run [] p = Some p
 run (t ∷ ts) p = elim (shift p t) [ None ↦ None | Some q ↦ run ts q ]
 
--- nothing was read of a block
+-- nothing was read of a block, and only its `{`
 abbrev pub start_block : Reader
 start_block = record { stack = []; mode = Begin }
+
+abbrev pub begun_block : Place → Reader
+begun_block at = record { stack = []; mode = Items (begun_of at) }

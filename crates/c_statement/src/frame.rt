@@ -1,7 +1,7 @@
 // What is begun and waits for a statement.
 ghost use Rattle.std.specs.Prelude.{◌≡◌, IfOk};
 ghost use Rattle.c_expr.specs.First.{first};
-ghost use Rattle.c_statement.specs.Machine.{ends_before, top_ends, plug, settle, if_by, if_part, outer_by, outer_of};
+ghost use Rattle.c_statement.specs.Machine.{ends_before, top_ends, plug, settle, if_by, if_part, do_place, outer_beside, outer_by, outer_of};
 
 use crate::parts::{headed_of, if_else_of, if_of};
 use crate::state::{Frame, Outer};
@@ -68,13 +68,19 @@ pub fn settle(
     Ok(part)
 }
 
+/// Lets a frame go.
+fn let_go(_frame: Frame) {}
+
 /// The `if` that a frame is.
 fn if_by(frame: Frame) -> Option<Option<Built<(Place, Expr)>>>
     ensures { result ≡ if_by frame }
 {
     match frame {
         Frame::If(control) => Some(control),
-        _other => None,
+        other => {
+            let_go(other);
+            None
+        }
     }
 }
 
@@ -88,14 +94,35 @@ pub fn if_part(frame: Option<Frame>) -> Option<Option<Built<(Place, Expr)>>>
     }
 }
 
+/// The place of a `do`.
+fn do_place(frame: &Frame) -> Option<Place>
+    ensures { result ≡ do_place frame.now }
+{
+    match frame {
+        Frame::Do(place) => Some(*place),
+        _ => None,
+    }
+}
+
+/// What goes on behind the statement of a frame that is no block.
+fn outer_beside(frame: Frame) -> Outer
+    ensures { result ≡ outer_beside (do_place frame) }
+{
+    let place = do_place(&frame);
+    let_go(frame);
+    match place {
+        Some(place) => Outer::Do(place),
+        None => Outer::Other,
+    }
+}
+
 /// What goes on behind the statement of a frame.
 fn outer_by(frame: Frame) -> Outer
     ensures { result ≡ outer_by frame }
 {
     match frame {
-        Frame::Do(place) => Outer::Do(place),
         Frame::Block(block) => Outer::Block(block),
-        _other => Outer::Other,
+        other => outer_beside(other),
     }
 }
 

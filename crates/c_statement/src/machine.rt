@@ -3,7 +3,7 @@ ghost use Rattle.std.specs.Prelude.{◌≡◌, ◌∷◌, IfOk, Some, drop};
 ghost use Rattle.c_expr.specs.First.{first};
 ghost use Rattle.c_statement.specs.Parts.{also_of};
 ghost use Rattle.c_declaration.specs.LocalReading.{local_offer};
-ghost use Rattle.c_statement.specs.Machine.{Gives, keyword, begins, ends_block, inside, declaring, starts_local, items, until, continues, behind, takes_else, if_part, on_else, outer_of, after, opens, paren, semicolon, colon, shift, settle, start_block};
+ghost use Rattle.c_statement.specs.Machine.{Gives, keyword, begins, ends_block, inside, declaring, starts_local, items, until, continues, behind, takes_else, if_part, on_else, outer_of, after, opens, paren, semicolon, colon, shift, settle, begun_block};
 
 use crate::block::{Block, Opened};
 use crate::built::paired;
@@ -302,13 +302,13 @@ pub fn shift(alloc: Global, reader: Reader, next: Terminal) -> Result<Reader, Sy
 }
 
 impl Reader {
-    /// Nothing was read of a block.
-    pub fn new(alloc: Global) -> Reader
-        ensures { result ≡ start_block }
+    /// Only the `{` of a block was read.
+    pub fn begun(alloc: Global, place: Place) -> Reader
+        ensures { result ≡ begun_block place }
     {
         Reader {
             stack: Stack::new(alloc),
-            mode: Mode::Begin,
+            mode: Mode::Items(begun_of(alloc, place)),
         }
     }
 }
