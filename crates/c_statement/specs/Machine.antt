@@ -209,17 +209,12 @@ abbrev pub on_else : Option (Built StatementTree) × List Frame → Next
 on_else (g, s) = takes_else (if_part (first s)) g (drop 1 s)
 
 -- what goes on behind a statement
-abbrev pub do_place : Frame → Option Place
-do_place (frame.Do at) = Some at
-do_place _ = None
-
-abbrev pub outer_beside : Option Place → Outer
-outer_beside None = outer.Other
-outer_beside (Some at) = outer.Do at
-
 abbrev pub outer_by : Frame → Outer
+outer_by (frame.If _) = outer.Other
+outer_by (frame.Else _) = outer.Other
+outer_by (frame.Headed _) = outer.Other
+outer_by (frame.Do at) = outer.Do at
 outer_by (frame.Block b) = outer.Block b
-outer_by f = outer_beside (do_place f)
 
 abbrev pub outer_of : Option Frame → Outer
 outer_of None = outer.Other

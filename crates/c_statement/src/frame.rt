@@ -1,7 +1,8 @@
 // What is begun and waits for a statement.
-ghost use Rattle.std.specs.Prelude.{◌≡◌, IfOk};
+ghost use Rattle.std.specs.Prelude.{◌≡◌, IfOk, None};
+ghost use Rattle.c_statement.specs.declared.state.Outer.TheVariants.{Other};
 ghost use Rattle.c_expr.specs.First.{first};
-ghost use Rattle.c_statement.specs.Machine.{ends_before, top_ends, plug, settle, if_by, if_part, do_place, outer_beside, outer_by, outer_of};
+ghost use Rattle.c_statement.specs.Machine.{ends_before, top_ends, plug, settle, if_by, if_part, outer_by, outer_of};
 
 use crate::parts::{headed_of, if_else_of, if_of};
 use crate::state::{Frame, Outer};
@@ -44,7 +45,7 @@ fn plug(
         Frame::If(control) => if_of(alloc, control, part),
         Frame::Else(before) => if_else_of(alloc, before, part),
         Frame::Headed(head) => headed_of(alloc, head, part),
-        Frame::Do(_place) => Ok(part),
+        Frame::Do(_at) => Ok(part),
         Frame::Block(_block) => Ok(part),
     }
 }
@@ -68,8 +69,12 @@ pub fn settle(
     Ok(part)
 }
 
-/// Lets a frame go.
-fn let_go(_frame: Frame) {}
+/// No `if`: what the frame holds is let go.
+fn without<T: Drop>(_part: T) -> Option<Option<Built<(Place, Expr)>>>
+    ensures { result ≡ None }
+{
+    None
+}
 
 /// The `if` that a frame is.
 fn if_by(frame: Frame) -> Option<Option<Built<(Place, Expr)>>>
@@ -77,10 +82,10 @@ fn if_by(frame: Frame) -> Option<Option<Built<(Place, Expr)>>>
 {
     match frame {
         Frame::If(control) => Some(control),
-        other => {
-            let_go(other);
-            None
-        }
+        Frame::Else(before) => without(before),
+        Frame::Headed(head) => without(head),
+        Frame::Do(at) => without(at),
+        Frame::Block(block) => without(block),
     }
 }
 
@@ -94,26 +99,11 @@ pub fn if_part(frame: Option<Frame>) -> Option<Option<Built<(Place, Expr)>>>
     }
 }
 
-/// The place of a `do`.
-fn do_place(frame: &Frame) -> Option<Place>
-    ensures { result ≡ do_place frame.now }
+/// Nothing goes on: what the frame holds is let go.
+fn beside<T: Drop>(_part: T) -> Outer
+    ensures { result ≡ Other }
 {
-    match frame {
-        Frame::Do(place) => Some(*place),
-        _ => None,
-    }
-}
-
-/// What goes on behind the statement of a frame that is no block.
-fn outer_beside(frame: Frame) -> Outer
-    ensures { result ≡ outer_beside (do_place frame) }
-{
-    let place = do_place(&frame);
-    let_go(frame);
-    match place {
-        Some(place) => Outer::Do(place),
-        None => Outer::Other,
-    }
+    Outer::Other
 }
 
 /// What goes on behind the statement of a frame.
@@ -121,8 +111,11 @@ fn outer_by(frame: Frame) -> Outer
     ensures { result ≡ outer_by frame }
 {
     match frame {
+        Frame::If(control) => beside(control),
+        Frame::Else(before) => beside(before),
+        Frame::Headed(head) => beside(head),
+        Frame::Do(at) => Outer::Do(at.place()),
         Frame::Block(block) => Outer::Block(block),
-        other => outer_beside(other),
     }
 }
 

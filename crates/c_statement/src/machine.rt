@@ -11,7 +11,7 @@ use crate::frame::{if_part, outer_of, settle};
 use crate::parts::{
     also_of, begun_of, block_of, break_of, closed_of, continue_of, declares_of, empty, placed,
 };
-use crate::state::{Control, Frame, Mode, Opener, Optional, Outer, Purpose, Reader, Required};
+use crate::state::{At, Control, Frame, Mode, Opener, Optional, Outer, Purpose, Reader, Required};
 use crate::tree::{Head, Statement};
 use crate::value::{begin, maybe, value_begins, valued, waits};
 use crate::stub::local_offer;
@@ -34,7 +34,7 @@ fn keyword(
         Keyword::If => Mode::Paren(Opener::Control(Control::If, place)),
         Keyword::While => Mode::Paren(Opener::Control(Control::While, place)),
         Keyword::Switch => Mode::Paren(Opener::Control(Control::Switch, place)),
-        Keyword::Do => return Ok(begin(stack, Frame::Do(place))?),
+        Keyword::Do => return Ok(begin(stack, Frame::Do(At::new(place)))?),
         Keyword::For => Mode::Paren(Opener::For(place)),
         Keyword::Case => return Ok(waits(alloc, stack, Required::Case(place))?),
         Keyword::Default => Mode::Colon(place),

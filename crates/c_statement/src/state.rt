@@ -1,9 +1,12 @@
 // What was read so far of a block.
+ghost use Rattle.std.specs.Prelude.{◌≡◌};
+
 use crate::block::{Block, Opened};
 use crate::tree::{Head, Statement};
 use c_declaration::{Built, LocalParser};
 use c_expr::{Expr, Parser, Stack};
 use c_lex::Place;
+use std::marker::Model;
 
 /// Keywords before a controlling expression.
 #[derive(Clone, Copy)]
@@ -11,6 +14,36 @@ pub enum Control {
     If,
     While,
     Switch,
+}
+
+/// Where a keyword stands that waits for its statement. It is moved and not copied, so a frame that is taken apart leaves nothing behind.
+#[derive(Drop)]
+pub struct At {
+    place: Place,
+}
+
+impl Model for At {
+    ghost use Rattle.c_lex.specs.declared.token.Place.{Place};
+
+    ghost Value = { Place };
+
+    ghost view = { λ a. a.place };
+}
+
+impl At {
+    /// A keyword at this place.
+    pub fn new(place: Place) -> At
+        ensures { result ≡ place }
+    {
+        At { place }
+    }
+
+    /// Its place.
+    pub fn place(self) -> Place
+        ensures { result ≡ self }
+    {
+        self.place
+    }
 }
 
 /// What stands on the left of a statement that is to come.
@@ -22,7 +55,7 @@ pub enum Frame {
     Else(Option<Built<((Place, Expr), Statement)>>),
     Headed(Option<Built<Head>>),
     /// `do`
-    Do(Place),
+    Do(At),
     /// A block so far
     Block(Option<Built<Block>>),
 }
@@ -108,6 +141,8 @@ pub enum Mode {
 }
 
 /// What was read so far of a block.
+ghost use Rattle.std.specs.Prelude.{◌≡◌};
+
 #[derive(Drop)]
 pub struct Reader {
     pub stack: Stack<Frame>,

@@ -33,7 +33,7 @@ use Rattle.c_syntax.specs.declared.state.Mode.TheVariants.{Between, Heading, Bod
 use Rattle.c_syntax.specs.declared.state.UnitParser.{UnitParser}
 use Rattle.c_syntax.specs.Grammar.{IsExternal, declaration, definition, IsUnit, first_external, next_external}
 use Rattle.c_syntax.specs.Machine.{Next, more, declared_of, defined_of, deep_place, with_body, bodied, ended, headed, shift, run, start}
-use Rattle.c_syntax.proofs.Kept.{KeptIs, more_is, first_is, declared_kept, defined_kept}
+use Rattle.c_syntax.proofs.Keeping.{KeptIs, more_is, first_is, declared_kept, defined_kept}
 
 abbrev pub at_mode : Kept → Mode → UnitParser
 at_mode k mode = record { kept = k; mode = mode }

@@ -34,7 +34,7 @@ use Rattle.c_syntax.specs.declared.state.Mode.TheVariants.{Between, Heading, Bod
 use Rattle.c_syntax.specs.declared.state.UnitParser.{UnitParser}
 use Rattle.c_syntax.specs.Grammar.{IsExternal, declaration, definition, IsUnit, first_external, next_external}
 use Rattle.c_syntax.specs.Machine.{Next, goes, more, declared_of, defined_of, deep_place, with_body, bodied, ended, headed, shift_mode, shift, run, start}
-use Rattle.c_syntax.proofs.Kept.{KeptIs, more_is, first_is, declared_kept, defined_kept}
+use Rattle.c_syntax.proofs.Keeping.{KeptIs, more_is, first_is, declared_kept, defined_kept}
 
 -- some external declarations, or none
 pub data AreSome : List External → ℕ → List Terminal → Type 0 where
@@ -106,6 +106,9 @@ last_is d (u ∷ us) t = last_is u us t
 same_last : (us vs : List Terminal) (t o : Terminal) → us ++ t ∷ [] ≡ vs ++ o ∷ [] → o ≡ t
 same_last us vs t o e = sym (last_is t vs o) ∙ sym (ap (last_of t) e) ∙ last_is t us t
 
+abbrev block_on : List Terminal → block.Next → block.Next
+block_on ts n = elim n [ None ↦ None | Some q ↦ block.run ts q ]
+
 -- one token more of a declaration
 ended_sound : (k : Kept) (t : Terminal) (us vs : List Terminal) → SoFar k us → (a : ReadHead) → HeadOf a (vs ++ t ∷ []) → OnNext (ended k t.place a) (us ++ (vs ++ t ∷ []))
 ended_sound k t us vs so (read.Declaration at e) d =
@@ -116,7 +119,7 @@ ended_sound k t us vs so (read.Function at e) d =
     let o = d.3 in
     let same : o ≡ t = same_last vs fs t o d.6 in
     let brace : Is t symbol.OpenBrace = ap (λ x. x.symbol) (sym same) ∙ d.5 in
-    (us, fs, t ∷ [], so, (d.0, d.1, d.4, d.8), ap (λ y. begins y [] t) brace, ap (λ l. us ++ l) (d.6 ∙ ap (λ x. fs ++ x ∷ []) same))
+    (us, fs, t ∷ [], so, (d.0, d.1, d.4, d.8), ap (λ y. block_on [] (begins y [] t)) brace, ap (λ l. us ++ l) (d.6 ∙ ap (λ x. fs ++ x ∷ []) same))
 
 headed_by : FileIs → (k : Kept) (p : FileParser) (t : Terminal) (ts us vs : List Terminal) → SoFar k us → reading_file vs ≡ Some (step.Goes p) → ts ≡ us ++ vs
     → (o : Option (Step FileParser ReadHead)) → file_offer p t ≡ o → OnNext (headed k t.place o) (ts ++ t ∷ [])
@@ -134,9 +137,6 @@ none_reader q e = cc
 
 reader_same : (p q : Reader) → Some p ≡ Some q → p ≡ q
 reader_same p q e = cc
-
-abbrev block_on : List Terminal → block.Next → block.Next
-block_on ts n = elim n [ None ↦ None | Some q ↦ block.run ts q ]
 
 run_by : (ts l : List Terminal) (q : Reader) → ((p : Reader) → block.run ts p ≡ Some q → block.run (ts ++ l) p ≡ block.run l q) → (n : block.Next) → block_on ts n ≡ Some q → block_on (ts ++ l) n ≡ block.run l q
 run_by ts l q ih None e = absurd (none_reader q e)
@@ -199,4 +199,4 @@ parse_sound laws [] done p q d e =
 parse_sound laws (t ∷ ts) done p q d e = parse_by ts done t (λ r q' k e'. parse_sound laws ts (done ++ t ∷ []) r q' k e') (shift p t) q (mode_sound laws p.mode p.kept t done d) e
 
 pub unit_sound : Being → (ts : List Terminal) (q : UnitParser) → run ts start ≡ Some q → Holds q.mode q.kept ts
-unit_sound laws ts q e = parse_sound laws ts [] start q ([], 0, nothing, refl, lit≤ tt) e
+unit_sound laws ts q e = parse_sound laws ts [] start q ([], 0, nothing, (refl, lit≤ tt)) e

@@ -125,7 +125,7 @@ fn nesting_is_counted_and_needs_no_deep_stack(rt: HostRuntime) -> Result<(), Fai
     assert_eq!(rt; many(alloc, 62, b"if (a) ", b"; }")?, (2, 8));
     assert_eq!(rt; many(alloc, 62, b"if (a) ", b"; } int f( {")?.0, 1);
     assert_eq!(rt; many(alloc, 7_000, b"if (a) ", b"; }")?.0, 2);
-    assert_eq!(rt; many(alloc, 7_000, b"if (a) b; else ", b"; }")?.0, 2);
+    assert_eq!(rt; many(alloc, 5_000, b"if (a) b; else ", b"; }")?.0, 2);
     assert_eq!(rt; many(alloc, 19_000, b"{ ", b"")?.0, 1);
     assert_eq!(rt; many(alloc, 19_000, b"a; ", b"}")?.0, 0);
     Ok(())
