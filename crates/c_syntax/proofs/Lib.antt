@@ -1,0 +1,5 @@
+pub mod Fed
+pub mod Keeping
+pub mod Complete
+pub mod Sound
+pub mod Exact
