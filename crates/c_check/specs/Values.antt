@@ -78,7 +78,7 @@ chosen Undefined a b = Undefined
 chosen (Number zero) a b = b
 chosen (Number (suc n)) a b = a
 
-abbrev truth_in : ℕ → Constant
+abbrev pub truth_in : ℕ → Constant
 truth_in n = Number (truth (if n == 0 then false else true))
 
 abbrev pub both : Constant → Constant → Constant

@@ -7,6 +7,7 @@ mod part;
 mod rules;
 mod symbol;
 mod types;
+mod values;
 
 pub use fault::ExprFault;
 pub use part::{Constant, Facts, Part};

@@ -1,7 +1,8 @@
 // The typing rules of expressions: from the operands the type of the result, or None where the rule is broken.
-ghost use Rattle.std.specs.Prelude.{◌≡◌, ◌&&◌, ◌||◌, not, IfOk, option_map, option_and_then, Some, None};
+ghost use Rattle.std.specs.Prelude.{◌≡◌, ◌&&◌, ◌||◌, not, if◌then◌else◌, IfOk, option_map, option_and_then, Some, None};
 ghost use Rattle.c_tree.specs.Types.{type_of, head_of};
-ghost use Rattle.c_typing.specs.Plain.{plain, is_integer, is_pointer, value_type};
+ghost use Rattle.c_typing.specs.Plain.{plain, is_integer, is_pointer, value_type, Int};
+ghost use Rattle.c_check.specs.Judgement.{object};
 ghost use Rattle.c_typing.specs.Rules as rule;
 ghost use Rattle.c_check.specs.Scope.{member_number, pointed_number};
 ghost use Rattle.c_check.specs.Values.{is_null};
@@ -64,7 +65,7 @@ pub fn is_null(x: &Part) -> bool
 
 /// A type where a rule holds.
 fn only(holds: bool, t: CType) -> Option<CType>
-    ensures { option_map plain result ≡ rule.only holds (plain t) }
+    ensures { option_map plain result ≡ (if holds then Some (plain t) else None) }
 {
     if holds { Some(t) } else { None }
 }
@@ -286,13 +287,17 @@ fn is_compound(op: BinaryOp) -> bool
     }
 }
 
-/// `+` and `-`, which move a pointer.
-fn is_move(op: BinaryOp) -> bool
-    ensures { result ≡ rule.is_move op }
+/// Whether an operator takes a number to an object of this type: any to an integer, `+` and `-` to a pointer to a complete type.
+fn moves(defs: &[StructDef], op: BinaryOp, s: &CType) -> bool
+    ensures { (if result then Some (plain s.now) else None) ≡ rule.compound_type defs.now op (object (plain s.now)).operand Int }
 {
-    match op {
-        BinaryOp::Add | BinaryOp::Subtract => true,
-        _ => false,
+    match s {
+        CType::Pointer(target) => match op {
+            BinaryOp::Add | BinaryOp::Subtract => is_complete(defs, target),
+            _ => false,
+        },
+        CType::Char | CType::Int | CType::Unsigned => is_compound(op),
+        CType::Void | CType::Array(_, _) | CType::Struct(_) => false,
     }
 }
 
@@ -301,11 +306,7 @@ pub fn compound_type(alloc: Global, defs: &[StructDef], op: BinaryOp, x: &Part, 
     ensures { Gives result (rule.compound_type defs.now op (operand_of x.now) (value_type (plain t.now))) }
 {
     let s = type_of(x);
-    let moves = match s {
-        CType::Pointer(target) => is_complete(defs, target) && is_move(op),
-        _ => is_integer(s) && is_compound(op),
-    };
-    if x.facts.lvalue && is_integer(t) && moves {
+    if x.facts.lvalue && is_integer(t) && moves(defs, op, s) {
         return Ok(Some(copied(alloc, s)?));
     }
     Ok(None)
@@ -331,7 +332,7 @@ pub fn logical_type(x: &Part, y: &Part) -> Option<CType>
 
 /// The type of `? :` from its branches: two integers, one pointer type, or a pointer and a null constant (C90 6.3.15).
 fn branches_type(alloc: Global, x: &Part, y: &Part) -> Result<Option<CType>, AllocError>
-    ensures { Gives result (rule.branches_type (operand_of x.now) (operand_of y.now)) }
+    ensures { Gives result (rule.choice_type Int (operand_of x.now) (operand_of y.now)) }
 {
     let s = type_of(x);
     let t = type_of(y);
