@@ -4,3 +4,5 @@ pub mod Targets
 pub mod Numbers
 pub mod Judgement
 pub mod Parts
+pub mod Elaboration
+pub mod Judges

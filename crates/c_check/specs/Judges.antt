@@ -1,0 +1,46 @@
+-- What the checker of an expression answers.
+use Rattle.std.specs.Prelude.{◌≡◌, ℕ, zero, suc, Bool, if◌then◌else◌, List, [], ◌∷◌, map, Result, Ok, Err, Option, Some, None}
+use Rattle.std.specs.BTreeMap.{get}
+use Rattle.std.specs.Ordering.{nat_cmp}
+use Rattle.c_expr.specs.Tree.{Tree}
+use Rattle.c_tree.specs.declared.types.CType.{CType}
+use Rattle.c_typing.specs.Plain.{Plain, plain}
+use Rattle.c_typing.specs.Expressions.{Denoted, Object, Function}
+use Rattle.c_check.specs.declared.part.Part.{Part}
+use Rattle.c_check.specs.declared.fault.Fault.{Fault}
+use Rattle.c_check.specs.declared.fault.Fault.TheVariants.{Rule, NoMemory}
+use Rattle.c_check.specs.declared.symbol.Symbol.{Symbol}
+use Rattle.c_check.specs.declared.scope.Scope.{Scope as Names}
+use Rattle.c_check.specs.Numbers.{number_in}
+use Rattle.c_check.specs.Scope.{Scope}
+use Rattle.c_check.specs.Judgement.{Judged, judged}
+use Rattle.c_check.specs.Parts.{judged_of}
+use Rattle.c_check.specs.Elaboration.{Elaborates}
+
+-- what a name denotes, a function with its parameters
+abbrev pub denoted : Symbol → List CType → Denoted
+denoted s ps = if s.function then Function (plain s.ctype) (map plain ps) else Object (plain s.ctype) s.register
+
+abbrev pub denoted_all : List Symbol → List (List CType) → List Denoted
+denoted_all [] ps = []
+denoted_all (s ∷ ss) [] = denoted s [] ∷ denoted_all ss []
+denoted_all (s ∷ ss) (p ∷ ps) = denoted s p ∷ denoted_all ss ps
+
+abbrev pub or_number : ℕ → Option ℕ → ℕ
+or_number n None = n
+or_number n (Some m) = m
+
+-- the scope that the checker is given
+abbrev pub scope_of : Names → Scope
+scope_of v = record {
+    among = record { names = denoted_all v.rows.now v.parameters.now; defs = v.defs.now; strings = [] };
+    number = number_in v.names;
+    tag = λ t. or_number v.incomplete (number_in v.tags t);
+    literal = λ at. or_number 0 (get nat_cmp v.literals at);
+    asks = v.asks }
+
+-- the typed expression that this one becomes, or the number of the rule that is broken, or nothing for want of memory
+abbrev pub Judges : Scope → Tree → Result Part Fault → Type 0
+Judges v e (Ok p) = (judged v e ≡ Ok (judged_of p)) × Elaborates v e p.typed
+Judges v e (Err (Rule r)) = judged v e ≡ Err r
+Judges v e (Err NoMemory) = Unit {0}
