@@ -73,6 +73,29 @@ operator_of written.Divide = Some op.Divide
 operator_of written.Remainder = Some op.Remainder
 operator_of _ = None
 
+-- `+ - ~ !` in front of a part
+abbrev pub IsUnary : UnaryOp → Typed → Typed → Type 0
+IsUnary o x (Unary' h w _ y) = (w ≡ o) × (y ≡ x)
+IsUnary o x _ = ⊥
+
+-- what an operator in front of a part becomes
+abbrev pub IsPrefixed : PrefixOp → Typed → Typed → Type 0
+IsPrefixed (prefix.Step step) x (Before' h o _ y) = (o ≡ step_of step) × (y ≡ x)
+IsPrefixed prefix.Address x (Address' h _ y) = y ≡ x
+IsPrefixed prefix.Dereference x (Follow' h _ y) = y ≡ x
+IsPrefixed prefix.Sizeof x (SizeOf' h _ y) = y ≡ x
+IsPrefixed w x (Unary' h o _ y) = (unary_of w ≡ Some o) × (y ≡ x)
+IsPrefixed _ _ _ = ⊥
+
+-- what an operator between two parts becomes
+abbrev pub IsJoined : BinaryOp → Typed → Typed → Typed → Type 0
+IsJoined written.Comma x y (Comma' h _ a _ b) = (a ≡ x) × (b ≡ y)
+IsJoined written.LogicalOr x y (Or' h _ a _ b) = (a ≡ x) × (b ≡ y)
+IsJoined written.LogicalAnd x y (And' h _ a _ b) = (a ≡ x) × (b ≡ y)
+IsJoined w x y (Assign' h _ a o _ b) = (assignment_of w ≡ Some o) × (a ≡ x) × (b ≡ y)
+IsJoined w x y (Binary' h _ a o _ b) = (operator_of w ≡ Some o) × (a ≡ x) × (b ≡ y)
+IsJoined _ _ _ _ = ⊥
+
 abbrev pub place_of : Tree → Place
 place_of (Leaf at _ _) = at
 place_of (Paren at _) = at

@@ -140,9 +140,9 @@ step_of Decrement = Down
 abbrev pub unary : UnaryOp → Judged → Verdict
 unary o x = by_rule 23 (folded (with_one (turned o (is_unsigned (value_type_of x))) x.constant)) (unary_type o (value_type_of x))
 
--- `sizeof` of a type
+-- `sizeof` of a type; where it has more than 1,048,576 bytes, rule 1 is broken
 abbrev pub sized : List StructDef → Plain → Verdict
-sized defs t = by_rule 40 (folded (Number (size_of defs t))) (size_type defs t) then λ j. limited defs t then λ _. Ok j
+sized defs t = by_rule 40 (folded (Number (size_of defs t))) (size_type defs t) then λ j. if nat_le (size_of defs t) 1048576 then Ok j else Err 1
 
 -- an operator in front of an operand
 abbrev pub prefixed : List StructDef → PrefixOp → Judged → Verdict

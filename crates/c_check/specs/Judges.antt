@@ -13,9 +13,12 @@ use Rattle.c_check.specs.declared.symbol.Symbol.{Symbol}
 use Rattle.c_check.specs.declared.scope.Scope.{Scope as Names}
 use Rattle.c_check.specs.Numbers.{number_in}
 use Rattle.c_check.specs.Scope.{Scope}
-use Rattle.c_check.specs.Judgement.{Judged, judged}
+use Rattle.c_check.specs.Judgement.{Judged, Verdict, judged}
 use Rattle.c_check.specs.Parts.{judged_of}
-use Rattle.c_check.specs.Elaboration.{Elaborates}
+use Rattle.c_check.specs.Elaboration.{Elaborates, site_of}
+use Rattle.c_tree.specs.declared.typed.Typed.{Typed}
+use Rattle.c_tree.specs.Types.{head_of}
+use Rattle.c_lex.specs.declared.token.Place.{Place}
 
 -- what a name denotes, a function with its parameters
 abbrev pub denoted : Symbol → List CType → Denoted
@@ -44,3 +47,9 @@ abbrev pub Judges : Scope → Tree → Result Part Fault → Type 0
 Judges v e (Ok p) = (judged v e ≡ Ok (judged_of p)) × Elaborates v e p.typed
 Judges v e (Err (Rule r)) = judged v e ≡ Err r
 Judges v e (Err NoMemory) = Unit {0}
+
+-- a part that an operator makes at a place: what is known of it, and what it is
+abbrev pub Makes : Verdict → (Typed → Type 0) → Place → Result Part Fault → Type 0
+Makes j P at (Ok p) = (j ≡ Ok (judged_of p)) × P p.typed × ((head_of p.typed).site ≡ site_of at)
+Makes j P at (Err (Rule r)) = j ≡ Err r
+Makes j P at (Err NoMemory) = Unit {0}

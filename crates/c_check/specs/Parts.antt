@@ -1,5 +1,5 @@
 -- Checked parts of an expression, as the rules see them.
-use Rattle.std.specs.Prelude.{◌≡◌, Option, Result, option_map, IfOk}
+use Rattle.std.specs.Prelude.{◌≡◌, ◌≤◌, ◌<◌, ℕ, Option, Some, None, Result, option_map, IfOk}
 use Rattle.std.specs.declared.alloc.AllocError.{AllocError}
 use Rattle.c_tree.specs.declared.types.CType.{CType}
 use Rattle.c_tree.specs.Types.{type_of}
@@ -27,3 +27,8 @@ value_of p = value_type (plain (type_of p.typed))
 -- a rule's type, or None where it is broken
 abbrev pub Gives : Result (Option CType) AllocError → Option Plain → Type 0
 Gives r t = IfOk r (λ x. option_map plain x ≡ t)
+
+-- a size where it is at most 1,048,576 bytes
+abbrev pub IsWithinSize : ℕ → Option ℕ → Type 0
+IsWithinSize n (Some m) = (m ≡ n) × (n ≤ 1048576)
+IsWithinSize n None = 1048576 < n

@@ -1,41 +1,18 @@
 // The checker of expressions: one function for each form of the tree.
 ghost use Rattle.std.specs.Prelude.{◌≡◌};
 ghost use Rattle.c_expr.specs.Tree as tree;
-ghost use Rattle.c_check.specs.Elaboration.{site_of};
 ghost use Rattle.c_check.specs.Judges.{Judges, scope_of};
 
 use crate::fault::Fault;
-use crate::part::{Constant, Facts, Part};
+use crate::operators::{OBJECT, head};
+use crate::part::Part;
 use crate::rules::{index_type, type_of};
 use crate::scope::Scope;
 use crate::types::copied;
 use c_expr::{Expr, Node};
 use c_lex::Place;
-use c_tree::{CType, Head, Site, Typed};
+use c_tree::Typed;
 use std::alloc::Global;
-
-/// What is known of an expression that designates an object.
-const OBJECT: Facts = Facts {
-    lvalue: true,
-    register: false,
-    string: false,
-    constant: Constant::Variable,
-};
-
-/// What a node keeps.
-fn head(at: Place, ctype: CType) -> Head
-    ensures site { result.site ≡ site_of at }
-    ensures ctype { result.ctype ≡ ctype }
-{
-    Head {
-        site: Site {
-            at: at.at,
-            line: at.line,
-            column: at.column,
-        },
-        ctype,
-    }
-}
 
 /// Checks an expression: gives it with its types, or the number of the rule that is broken.
 #[cycle(checking)]

@@ -3,7 +3,9 @@
 
 mod expr;
 mod fault;
+mod limits;
 mod numbers;
+mod operators;
 mod part;
 mod rules;
 mod scope;
