@@ -1,6 +1,5 @@
 -- What an expression is, by recursion over its tree: the rules of typing (C90 6.3), or the first that is broken.
-use Rattle.std.specs.Prelude.{ℕ, zero, suc, ◌≡◌, Bool, true, false, not, ◌&&◌, ◌||◌, nat_le, if◌then◌else◌, List, [], ◌∷◌, ◌++◌, length, Option, Some, None, option_map, option_and_then, slice_get, Result, Ok, Err}
-use Rattle.std.specs.List.{list_all}
+use Rattle.std.specs.Prelude.{ℕ, zero, suc, ◌≡◌, Bool, true, false, not, ◌&&◌, ◌||◌, nat_le, nat_lt, if◌then◌else◌, List, [], ◌∷◌, ◌++◌, length, Option, Some, None, option_map, option_and_then, slice_get, Result, Ok, Err}
 use Rattle.ldb_words.specs.Word.{word_of_signed}
 use Rattle.c_lex.specs.declared.token.Place.{Place}
 use Rattle.c_lex.specs.declared.number.Integer.{Integer}
@@ -28,7 +27,7 @@ use Rattle.c_tree.specs.declared.typed.UnaryOp.TheVariants.{Plus, Minus, Complem
 use Rattle.c_tree.specs.declared.typed.StepOp.{StepOp}
 use Rattle.c_tree.specs.declared.typed.StepOp.TheVariants.{Up, Down}
 use Rattle.c_tree.specs.Layout.{members_of}
-use Rattle.c_typing.specs.Plain.{Plain, Char, Int, Unsigned, Void, Pointer, Array, Struct, plain, is_scalar, is_void, is_complete}
+use Rattle.c_typing.specs.Plain.{Plain, Char, Int, Unsigned, Void, Pointer, Array, Struct, plain, is_scalar, is_struct, is_void, is_complete}
 use Rattle.c_typing.specs.Rules.{Operand, value_of, may_drop, unary_type, followed, address_type, dot_type, arrow_type, index_type, binary_type, assignment_type, takes, compound_type, step_type, logical_type, choice_type, comma_type, cast_type, size_type}
 use Rattle.c_typing.specs.Expressions.{Denoted, Object, Function, Hidden, name_type}
 use Rattle.c_check.specs.declared.part.Constant.{Constant}
@@ -80,18 +79,26 @@ by_rule r f (Some t) = Ok (f t)
 
 -- ---- names of types (C90 6.5.4, 6.5.5)
 
--- a type is at most so deep
+-- whether the types of a struct's members are so
+abbrev pub are_within : (Plain → Bool) → List MemberRow → Bool
+are_within f [] = true
+are_within f (m ∷ ms) = f (plain m.ctype) && are_within f ms
+
+-- a type is at most so deep: a pointer to a struct is 1 deep, and another pointer, an array and a struct are one deeper than what they point to or hold
 abbrev pub is_within : List StructDef → ℕ → Plain → Bool
 is_within defs zero t = false
-is_within defs (suc deep) (Pointer (Struct s)) = true
-is_within defs (suc deep) (Pointer t) = is_within defs deep t
+is_within defs (suc deep) (Pointer t) = is_struct t || is_within defs deep t
 is_within defs (suc deep) (Array t n) = is_within defs deep t
-is_within defs (suc deep) (Struct s) = list_all (λ m. is_within defs deep (plain m.ctype)) (members_of defs s)
+is_within defs (suc deep) (Struct s) = are_within (is_within defs deep) (members_of defs s)
 is_within defs (suc deep) _ = true
 
+-- how deep a type may be
+unfoldable pub deepest : ℕ
+deepest = 64
+
 -- 1. A type has a depth of at most 64, and at most 1,048,576 bytes.
-unfoldable pub limited : List StructDef → Plain → Result Plain ℕ
-limited defs t = if is_within defs 64 t && nat_le (size_of defs t) 1048576 then Ok t else Err 1
+abbrev pub limited : List StructDef → Plain → Result Plain ℕ
+limited defs t = if is_within defs deepest t && nat_le (size_of defs t) 1048576 then Ok t else Err 1
 
 -- 9. No type is a pointer to `void`.
 abbrev pub pointer : List StructDef → Plain → Result Plain ℕ
@@ -109,6 +116,10 @@ array defs t n = if is_complete defs t then limited defs (Array t n) else Err 2
 abbrev pub bound : Constant → Result ℕ ℕ
 bound (Number n) = if nat_le 1 n && nat_le n 1048576 then Ok n else Err 2
 bound _ = Err 2
+
+abbrev pub bound_in : Result ℕ ℕ → Option ℕ
+bound_in (Ok n) = Some n
+bound_in (Err r) = None
 
 -- the type that a type's name begins with
 abbrev pub spec_type : Scope → Spec → Plain
@@ -144,9 +155,18 @@ unary o x = by_rule 23 (folded (with_one (turned o (is_unsigned (value_type_of x
 abbrev pub sized : List StructDef → Plain → Verdict
 sized defs t = by_rule 40 (folded (Number (size_of defs t))) (size_type defs t) then λ j. if nat_le (size_of defs t) 1048576 then Ok j else Err 1
 
+abbrev pub stepped : List StructDef → Step → Judged → Verdict
+stepped defs s x = by_rule 37 value (step_type defs (step_of s) x.operand)
+
+abbrev pub cast_to : Plain → Judged → Verdict
+cast_to t x = by_rule 40 (folded (with_one (converted t) x.constant)) (cast_type t (value_type_of x))
+
+abbrev pub indexed : List StructDef → Judged → Judged → Verdict
+indexed defs x y = by_rule 28 object (index_type defs (value_type_of x) (value_type_of y))
+
 -- an operator in front of an operand
 abbrev pub prefixed : List StructDef → PrefixOp → Judged → Verdict
-prefixed defs (prefix.Step s) x = by_rule 37 value (step_type defs (step_of s) x.operand)
+prefixed defs (prefix.Step s) x = stepped defs s x
 prefixed defs prefix.Address x = by_rule 25 value (address_type x.operand)
 prefixed defs prefix.Dereference x = by_rule 24 object (followed defs (value_type_of x))
 prefixed defs prefix.Plus x = unary Plus x
@@ -240,7 +260,7 @@ abbrev pub leaf_of : Scope → LeafKind → List ℕ → Verdict
 leaf_of v leaf.Name text = named v (v.number text)
 leaf_of v (leaf.Constant i) text = Ok (folded (Number i.value) (integer_type i))
 leaf_of v (leaf.Character c) text = Ok (folded (Number (word_of_signed c)) Int)
-leaf_of v leaf.Text text = Ok (string_of text)
+leaf_of v leaf.Text text = if nat_lt (length text) 1048576 then Ok (string_of text) else Err 1
 
 -- ---- calls
 
@@ -256,10 +276,18 @@ abbrev pub callee_named : Scope → Option ℕ → Result Callee ℕ
 callee_named v None = Err 21
 callee_named v (Some n) = Ok (function_of (slice_get v.among.names n))
 
+-- an expression that is a name alone
+abbrev pub name_alone : Tree → Option (List ℕ)
+name_alone (Leaf at leaf.Name text) = Some text
+name_alone _ = None
+
+abbrev pub callee_by : Scope → Option (List ℕ) → Verdict → Result Callee ℕ
+callee_by v (Some text) j = callee_named v (v.number text)
+callee_by v None j = j then λ x. Ok None
+
 -- what stands before the arguments: the name of a function, or an expression, which is none
 abbrev pub callee : Scope → Tree → Verdict → Result Callee ℕ
-callee v (Leaf at leaf.Name text) j = callee_named v (v.number text)
-callee v f j = j then λ x. Ok None
+callee v f j = callee_by v (name_alone f) j
 
 -- A call of what is no function has no result; where calls are not asked it counts as an `int`, as that of a function that is not declared (C90 6.3.2.2).
 abbrev pub result_of : Callee → Plain
@@ -275,16 +303,19 @@ are_scalars [] = true
 are_scalars (j ∷ js) = is_scalar (value_type_of j) && are_scalars js
 
 -- 29. A call has as many arguments as parameters, each by the rule of assignment (C90 6.3.2.2).
-abbrev pub asked : Callee → List Judged → Verdict
+abbrev pub asked : Callee → List Judged → Result Plain ℕ
 asked None js = Err 29
-asked (Some f) js = if takes f.1 (operands js) then Ok (value f.0) else Err 29
+asked (Some f) js = if takes f.1 (operands js) then Ok f.0 else Err 29
 
 -- 22. A `void` or struct value is no argument.
-abbrev pub unasked : Callee → List Judged → Verdict
-unasked f js = if are_scalars js then Ok (value (result_of f)) else Err 22
+abbrev pub unasked : Callee → List Judged → Result Plain ℕ
+unasked f js = if are_scalars js then Ok (result_of f) else Err 22
+
+abbrev pub called_type : Bool → Callee → List Judged → Result Plain ℕ
+called_type asks f js = if asks then asked f js else unasked f js
 
 abbrev pub called : Bool → Callee → List Judged → Verdict
-called asks f js = if asks then asked f js else unasked f js
+called asks f js = called_type asks f js then λ t. Ok (value t)
 
 -- what is called, and its arguments so far
 abbrev pub Calling : Type 0
@@ -297,14 +328,14 @@ module _ (v : Scope) where
     pub judged : Tree → Verdict
     judged (Leaf at kind text) = leaf_of v kind text
     judged (Paren at a) = judged a
-    judged (Index at a b) = judged a then λ x. judged b then λ y. by_rule 28 object (index_type (defs_of v) (value_type_of x) (value_type_of y))
+    judged (Index at a b) = judged a then λ x. judged b then λ y. indexed (defs_of v) x y
     judged (Call at f) = callee v f (judged f) then λ c. called v.asks c []
     judged (With c a) = calling c then λ s. judged a then λ x. called v.asks s.0 (s.1 ++ x ∷ [])
     judged (Member at a access _ name) = judged a then member_of (defs_of v) access name
-    judged (After at a step) = judged a then λ x. by_rule 37 value (step_type (defs_of v) (step_of step) x.operand)
+    judged (After at a step) = judged a then stepped (defs_of v) step
     judged (Prefix at op a) = judged a then prefixed (defs_of v) op
     judged (SizeofType at s d) = starred v d (spec_type v s) then within d then sized (defs_of v)
-    judged (Cast at s d a) = starred v d (spec_type v s) then within d then λ t. judged a then λ x. by_rule 40 (folded (with_one (converted t) x.constant)) (cast_type t (value_type_of x))
+    judged (Cast at s d a) = starred v d (spec_type v s) then within d then λ t. judged a then cast_to t
     judged (Binary at op a b) = judged a then λ x. judged b then λ y. joined (defs_of v) op x y
     judged (Choice at c a b) = judged c then λ x. judged a then λ y. judged b then λ z. chosen_of x y z
     judged _ = Err 0

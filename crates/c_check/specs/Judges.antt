@@ -29,6 +29,10 @@ denoted_all [] ps = []
 denoted_all (s ∷ ss) [] = denoted s [] ∷ denoted_all ss []
 denoted_all (s ∷ ss) (p ∷ ps) = denoted s p ∷ denoted_all ss ps
 
+abbrev pub known : Option (List CType) → List CType
+known None = []
+known (Some ps) = ps
+
 abbrev pub or_number : ℕ → Option ℕ → ℕ
 or_number n None = n
 or_number n (Some m) = m
@@ -53,3 +57,9 @@ abbrev pub Makes : Verdict → (Typed → Type 0) → Place → Result Part Faul
 Makes j P at (Ok p) = (j ≡ Ok (judged_of p)) × P p.typed × ((head_of p.typed).site ≡ site_of at)
 Makes j P at (Err (Rule r)) = j ≡ Err r
 Makes j P at (Err NoMemory) = Unit {0}
+
+-- a type that is written, or the number of the rule that is broken
+abbrev pub Denotes : Result Plain ℕ → Result CType Fault → Type 0
+Denotes j (Ok t) = j ≡ Ok (plain t)
+Denotes j (Err (Rule r)) = j ≡ Err r
+Denotes j (Err NoMemory) = Unit {0}

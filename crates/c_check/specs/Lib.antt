@@ -6,3 +6,8 @@ pub mod Judgement
 pub mod Parts
 pub mod Elaboration
 pub mod Judges
+pub mod Bounds
+pub mod Calls
+pub mod Forms
+pub mod Session
+pub mod Checks

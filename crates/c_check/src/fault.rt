@@ -2,6 +2,7 @@
 ghost use Rattle.std.specs.Prelude.{◌≡◌};
 
 use ldb_words::Text;
+use crate::part::Part;
 use c_tree::Typed;
 use std::alloc::{AllocError, AllocFailed};
 
@@ -48,6 +49,15 @@ impl From<AllocFailed<Typed>> for Fault {
     ghost from_gives = { λ _ e. e ≡ NoMemory };
 
     fn from(_: AllocFailed<Typed>) -> Self {
+        Fault::NoMemory
+    }
+}
+
+impl From<AllocFailed<Part>> for Fault {
+    ghost use Rattle.c_check.specs.declared.fault.Fault.TheVariants.{NoMemory};
+    ghost from_gives = { λ _ e. e ≡ NoMemory };
+
+    fn from(_: AllocFailed<Part>) -> Self {
         Fault::NoMemory
     }
 }
