@@ -1,12 +1,11 @@
 -- What the number of a name denotes.
 use Rattle.std.proofs.Common.{◌≡◌, ℕ, zero, suc, Bool, true, false, List, [], ◌∷◌, refl, Option, Some, None, Result, Ok, Err, slice_get, map}
 use Rattle.c_tree.specs.declared.types.CType.{CType}
-use Rattle.c_typing.specs.Plain.{Plain, plain}
+use Rattle.c_typing.specs.Plain.{plain}
 use Rattle.c_typing.specs.Expressions.{Denoted, Object}
 use Rattle.c_check.specs.declared.symbol.Symbol.{Symbol}
 use Rattle.c_check.specs.declared.scope.Scope.{Scope as Names}
-use Rattle.c_check.specs.Judgement.{named, variable, Callee, function_of}
-use Rattle.c_check.specs.Calls.{called_by}
+use Rattle.c_check.specs.Judgement.{named, variable}
 use Rattle.c_check.specs.Judges.{known, denoted, denoted_all, scope_of}
 
 abbrev row_in : Option Symbol → Option (List CType) → Option Denoted
@@ -28,13 +27,3 @@ named_function v n s e f = rw (denoted_at v.rows.now v.parameters.now n, e, f) r
 
 pub named_object : (v : Names) (n : ℕ) (s : Symbol) → slice_get v.rows.now n ≡ Some s → s.function ≡ false → named (scope_of v) (Some n) ≡ Ok (variable s.register (plain s.ctype))
 named_object v n s e f = rw (denoted_at v.rows.now v.parameters.now n, e, f) refl
-
--- what the number of a name calls
-pub called_none : (v : Names) (n : ℕ) → slice_get v.rows.now n ≡ None → called_by (scope_of v) (Some n) ≡ None
-called_none v n e = rw (denoted_at v.rows.now v.parameters.now n, e) refl
-
-pub called_object : (v : Names) (n : ℕ) (s : Symbol) → slice_get v.rows.now n ≡ Some s → s.function ≡ false → called_by (scope_of v) (Some n) ≡ None
-called_object v n s e f = rw (denoted_at v.rows.now v.parameters.now n, e, f) refl
-
-pub called_function : (v : Names) (n : ℕ) (s : Symbol) → slice_get v.rows.now n ≡ Some s → s.function ≡ true → called_by (scope_of v) (Some n) ≡ Some (plain s.ctype, map plain (known (slice_get v.parameters.now n)))
-called_function v n s e f = rw (denoted_at v.rows.now v.parameters.now n, e, f) refl

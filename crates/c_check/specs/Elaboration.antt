@@ -24,15 +24,10 @@ use Rattle.c_tree.specs.declared.typed.Typed.TheVariants.{Comma', Assign', Choic
 use Rattle.c_tree.specs.Types.{type_of, head_of}
 use Rattle.c_typing.specs.Plain.{Plain, plain, value_type}
 use Rattle.c_check.specs.Scope.{Scope, defs_of, member_number, pointed_number}
-use Rattle.c_check.specs.Judgement.{Judged, Verdict, judged, declared, spec_type, step_of, compound_of, name_alone}
+use Rattle.c_check.specs.Judgement.{Judged, Verdict, judged, declared, spec_type, step_of, compound_of}
 
 abbrev pub site_of : Place → Site
 site_of at = record { at = at.at; line = at.line; column = at.column }
-
--- arguments in a `Vec`, as a list
-abbrev pub exprs : {m : _} → Row_of-Typed m → List Typed
-exprs end_of-Typed = []
-exprs (more_of-Typed e rest) = e ∷ exprs rest
 
 abbrev pub type_in : Verdict → Option Plain
 type_in (Ok j) = Some j.operand.ctype
@@ -41,10 +36,6 @@ type_in (Err r) = None
 -- what a node keeps: the place of its first token, and its type
 abbrev pub IsHead : Verdict → Place → Head → Type 0
 IsHead j at h = (h.site ≡ site_of at) × (type_in j ≡ Some (plain h.ctype))
-
--- the last of some items, and those before it
-abbrev pub HasLast : (List Typed → Type 0) → (Typed → Type 0) → List Typed → Type 0
-HasLast P Q xs = (ys : List Typed) × (x : Typed) × (xs ≡ ys ++ x ∷ []) × P ys × Q x
 
 -- `+ - ~ !` in front of a part
 abbrev pub IsUnary : UnaryOp → Typed → Typed → Type 0
@@ -125,11 +116,6 @@ abbrev pub IsSizeOfType : Plain → Typed → Type 0
 IsSizeOfType t (SizeOfType h u) = plain u ≡ t
 IsSizeOfType t _ = ⊥
 
--- a call of the function with this number
-abbrev pub IsCall : (ℕ → Type 0) → List Typed → Typed → Type 0
-IsCall P xs (Call' h n _ row) = P n × (exprs row ≡ xs)
-IsCall P xs _ = ⊥
-
 abbrev pub IsConstant : ℕ → Typed → Type 0
 IsConstant m (Constant h n) = n ≡ m
 IsConstant m _ = ⊥
@@ -156,16 +142,6 @@ OfTwo R P Q z = (x : Typed) × (y : Typed) × R x y z × P x × Q y
 abbrev pub OfThree : (Typed → Typed → Typed → Typed → Type 0) → (P Q S : Typed → Type 0) → Typed → Type 0
 OfThree R P Q S z = (c : Typed) × (x : Typed) × (y : Typed) × R c x y z × P c × Q x × S y
 
--- what is made of a list of parts
-abbrev pub OfList : (List Typed → Typed → Type 0) → (List Typed → Type 0) → Typed → Type 0
-OfList R P z = (xs : List Typed) × R xs z × P xs
-
--- what is called
-abbrev pub callee_of : Tree → Tree
-callee_of (Call _ f) = f
-callee_of (With c _) = callee_of c
-callee_of t = t
-
 -- where an expression begins
 abbrev pub place_of : Tree → Place
 place_of (Leaf at _ _) = at
@@ -183,36 +159,20 @@ place_of (Choice at _ _ _) = at
 place_of _ = record { at = 0; line = 0; column = 0 }
 
 module _ (v : Scope) where
-  -- a function is called by its number
-  abbrev pub IsNumberOf : Option (List ℕ) → ℕ → Type 0
-  IsNumberOf (Some text) n = v.number text ≡ Some n
-  IsNumberOf None n = Unit {0}
-
-  abbrev pub IsCallee : Tree → ℕ → Type 0
-  IsCallee f n = IsNumberOf (name_alone f) n
-
   -- what a node keeps, for the tree that it stands for
   abbrev pub HasHead : Tree → Typed → Type 0
   HasHead e z = IsHead (judged v e) (place_of e) (head_of z)
 
-  abbrev mutual
-    pub Elaborates : Tree → Typed → Type 0
-    Elaborates (Leaf at kind text) z = HasHead (Leaf at kind text) z × IsLeaf v at kind text z
-    Elaborates (Paren at a) z = HasHead (Paren at a) z × OfOne IsParen (Elaborates a) z
-    Elaborates (Index at a b) z = HasHead (Index at a b) z × OfTwo IsIndex (Elaborates a) (Elaborates b) z
-    Elaborates (Call at f) z = HasHead (Call at f) z × IsCall (IsCallee f) [] z
-    Elaborates (With c a) z = HasHead (With c a) z × OfList (IsCall (IsCallee (callee_of c))) (HasLast (AreArguments c) (Elaborates a)) z
-    Elaborates (Member at a w q name) z = HasHead (Member at a w q name) z × OfOne (IsMember (defs_of v) w name) (Elaborates a) z
-    Elaborates (After at a step) z = HasHead (After at a step) z × OfOne (IsAfter step) (Elaborates a) z
-    Elaborates (Prefix at w a) z = HasHead (Prefix at w a) z × OfOne (IsPrefixed w) (Elaborates a) z
-    Elaborates (SizeofType at s d) z = HasHead (SizeofType at s d) z × ((t : Plain) × (declared v d (spec_type v s) ≡ Ok t) × IsSizeOfType t z)
-    Elaborates (Cast at s d a) z = HasHead (Cast at s d a) z × OfOne IsCast (Elaborates a) z
-    Elaborates (Binary at w a b) z = HasHead (Binary at w a b) z × OfTwo (IsJoined w) (Elaborates a) (Elaborates b) z
-    Elaborates (Choice at c a b) z = HasHead (Choice at c a b) z × OfThree IsChoice (Elaborates c) (Elaborates a) (Elaborates b) z
-    Elaborates _ z = ⊥
-
-    -- the arguments of a call, in order
-    pub AreArguments : Tree → List Typed → Type 0
-    AreArguments (Call at f) xs = xs ≡ []
-    AreArguments (With c a) xs = HasLast (AreArguments c) (Elaborates a) xs
-    AreArguments _ xs = ⊥
+  -- the typed tree of an expression
+  abbrev pub Elaborates : Tree → Typed → Type 0
+  Elaborates (Leaf at kind text) z = HasHead (Leaf at kind text) z × IsLeaf v at kind text z
+  Elaborates (Paren at a) z = HasHead (Paren at a) z × OfOne IsParen (Elaborates a) z
+  Elaborates (Index at a b) z = HasHead (Index at a b) z × OfTwo IsIndex (Elaborates a) (Elaborates b) z
+  Elaborates (Member at a w q name) z = HasHead (Member at a w q name) z × OfOne (IsMember (defs_of v) w name) (Elaborates a) z
+  Elaborates (After at a step) z = HasHead (After at a step) z × OfOne (IsAfter step) (Elaborates a) z
+  Elaborates (Prefix at w a) z = HasHead (Prefix at w a) z × OfOne (IsPrefixed w) (Elaborates a) z
+  Elaborates (SizeofType at s d) z = HasHead (SizeofType at s d) z × ((t : Plain) × (declared v d (spec_type v s) ≡ Ok t) × IsSizeOfType t z)
+  Elaborates (Cast at s d a) z = HasHead (Cast at s d a) z × OfOne IsCast (Elaborates a) z
+  Elaborates (Binary at w a b) z = HasHead (Binary at w a b) z × OfTwo (IsJoined w) (Elaborates a) (Elaborates b) z
+  Elaborates (Choice at c a b) z = HasHead (Choice at c a b) z × OfThree IsChoice (Elaborates c) (Elaborates a) (Elaborates b) z
+  Elaborates _ z = ⊥

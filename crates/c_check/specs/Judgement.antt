@@ -117,10 +117,6 @@ abbrev pub bound : Constant → Result ℕ ℕ
 bound (Number n) = if nat_le 1 n && nat_le n 1048576 then Ok n else Err 2
 bound _ = Err 2
 
-abbrev pub bound_in : Result ℕ ℕ → Option ℕ
-bound_in (Ok n) = Some n
-bound_in (Err r) = None
-
 -- the type that a type's name begins with
 abbrev pub spec_type : Scope → Spec → Plain
 spec_type v spec.Char = Char
@@ -262,75 +258,17 @@ leaf_of v (leaf.Constant i) text = Ok (folded (Number i.value) (integer_type i))
 leaf_of v (leaf.Character c) text = Ok (folded (Number (word_of_signed c)) Int)
 leaf_of v leaf.Text text = if nat_lt (length text) 1048576 then Ok (string_of text) else Err 1
 
--- ---- calls
-
--- what is called: a function by its name, or None
-abbrev pub Callee : Type 0
-Callee = Option (Plain × List Plain)
-
-abbrev pub function_of : Option Denoted → Callee
-function_of (Some (Function r ts)) = Some (r, ts)
-function_of _ = None
-
-abbrev pub callee_named : Scope → Option ℕ → Result Callee ℕ
-callee_named v None = Err 21
-callee_named v (Some n) = Ok (function_of (slice_get v.among.names n))
-
--- an expression that is a name alone
-abbrev pub name_alone : Tree → Option (List ℕ)
-name_alone (Leaf at leaf.Name text) = Some text
-name_alone _ = None
-
-abbrev pub callee_by : Scope → Option (List ℕ) → Verdict → Result Callee ℕ
-callee_by v (Some text) j = callee_named v (v.number text)
-callee_by v None j = j then λ x. Ok None
-
--- what stands before the arguments: the name of a function, or an expression, which is none
-abbrev pub callee : Scope → Tree → Verdict → Result Callee ℕ
-callee v f j = callee_by v (name_alone f) j
-
--- A call of what is no function has no result; where calls are not asked it counts as an `int`, as that of a function that is not declared (C90 6.3.2.2).
-abbrev pub result_of : Callee → Plain
-result_of None = Int
-result_of (Some f) = f.0
-
-abbrev pub operands : List Judged → List Operand
-operands [] = []
-operands (j ∷ js) = j.operand ∷ operands js
-
-abbrev pub are_scalars : List Judged → Bool
-are_scalars [] = true
-are_scalars (j ∷ js) = is_scalar (value_type_of j) && are_scalars js
-
--- 29. A call has as many arguments as parameters, each by the rule of assignment (C90 6.3.2.2).
-abbrev pub asked : Callee → List Judged → Result Plain ℕ
-asked None js = Err 29
-asked (Some f) js = if takes f.1 (operands js) then Ok f.0 else Err 29
-
--- 22. A `void` or struct value is no argument.
-abbrev pub unasked : Callee → List Judged → Result Plain ℕ
-unasked f js = if are_scalars js then Ok (result_of f) else Err 22
-
-abbrev pub called_type : Bool → Callee → List Judged → Result Plain ℕ
-called_type asks f js = if asks then asked f js else unasked f js
-
-abbrev pub called : Bool → Callee → List Judged → Verdict
-called asks f js = called_type asks f js then λ t. Ok (value t)
-
--- what is called, and its arguments so far
-abbrev pub Calling : Type 0
-Calling = Callee × List Judged
-
 -- ---- expressions
 
 module _ (v : Scope) where
+  -- 29. A call has no type here, since the parameters are not known (C90 6.3.2.2).
   abbrev mutual
     pub judged : Tree → Verdict
     judged (Leaf at kind text) = leaf_of v kind text
     judged (Paren at a) = judged a
     judged (Index at a b) = judged a then λ x. judged b then λ y. indexed (defs_of v) x y
-    judged (Call at f) = callee v f (judged f) then λ c. called v.asks c []
-    judged (With c a) = calling c then λ s. judged a then λ x. called v.asks s.0 (s.1 ++ x ∷ [])
+    judged (Call at f) = Err 29
+    judged (With c a) = Err 29
     judged (Member at a access _ name) = judged a then member_of (defs_of v) access name
     judged (After at a step) = judged a then stepped (defs_of v) step
     judged (Prefix at op a) = judged a then prefixed (defs_of v) op
@@ -339,11 +277,6 @@ module _ (v : Scope) where
     judged (Binary at op a b) = judged a then λ x. judged b then λ y. joined (defs_of v) op x y
     judged (Choice at c a b) = judged c then λ x. judged a then λ y. judged b then λ z. chosen_of x y z
     judged _ = Err 0
-
-    pub calling : Tree → Result Calling ℕ
-    calling (Call at f) = callee v f (judged f) then λ c. Ok (c, [])
-    calling (With c a) = calling c then λ s. judged a then λ x. Ok (s.0, s.1 ++ x ∷ [])
-    calling _ = Err 0
 
     -- the type of what is declared, once the `*` have been taken: the bounds from the last to the first, then the declarator in parentheses
     pub within : Tree → Plain → Result Plain ℕ

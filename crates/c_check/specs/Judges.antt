@@ -12,7 +12,7 @@ use Rattle.c_check.specs.declared.fault.Fault.TheVariants.{Rule, NoMemory}
 use Rattle.c_check.specs.declared.symbol.Symbol.{Symbol}
 use Rattle.c_check.specs.declared.scope.Scope.{Scope as Names}
 use Rattle.c_check.specs.Numbers.{number_in}
-use Rattle.c_check.specs.Scope.{Scope}
+use Rattle.c_check.specs.Scope.{Scope, or_else_number}
 use Rattle.c_check.specs.Judgement.{Judged, Verdict, judged}
 use Rattle.c_check.specs.Parts.{judged_of}
 use Rattle.c_check.specs.Elaboration.{Elaborates, site_of}
@@ -33,17 +33,13 @@ abbrev pub known : Option (List CType) → List CType
 known None = []
 known (Some ps) = ps
 
-abbrev pub or_number : ℕ → Option ℕ → ℕ
-or_number n None = n
-or_number n (Some m) = m
-
 -- the scope that the checker is given
 abbrev pub scope_of : Names → Scope
 scope_of v = record {
     among = record { names = denoted_all v.rows.now v.parameters.now; defs = v.defs.now; strings = [] };
     number = number_in v.names;
-    tag = λ t. or_number v.incomplete (number_in v.tags t);
-    literal = λ at. or_number 0 (get nat_cmp v.literals at);
+    tag = λ t. or_else_number v.incomplete (number_in v.tags t);
+    literal = λ at. or_else_number 0 (get nat_cmp v.literals at);
     asks = v.asks }
 
 -- the typed expression that this one becomes, or the number of the rule that is broken, or nothing for want of memory

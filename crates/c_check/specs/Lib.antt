@@ -7,7 +7,6 @@ pub mod Parts
 pub mod Elaboration
 pub mod Judges
 pub mod Bounds
-pub mod Calls
 pub mod Forms
 pub mod Session
 pub mod Checks

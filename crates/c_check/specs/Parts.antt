@@ -1,5 +1,5 @@
 -- Checked parts of an expression, as the rules see them.
-use Rattle.std.specs.Prelude.{◌≡◌, ◌≤◌, ◌<◌, ℕ, Option, Some, None, Result, option_map, IfOk}
+use Rattle.std.specs.Prelude.{◌≡◌, ◌≤◌, ◌<◌, ℕ, Option, Some, None, Result, Ok, Err, option_map, IfOk}
 use Rattle.std.specs.declared.alloc.AllocError.{AllocError}
 use Rattle.c_tree.specs.declared.types.CType.{CType}
 use Rattle.c_tree.specs.Types.{type_of}
@@ -32,3 +32,8 @@ Gives r t = IfOk r (λ x. option_map plain x ≡ t)
 abbrev pub IsWithinSize : ℕ → Option ℕ → Type 0
 IsWithinSize n (Some m) = (m ≡ n) × (n ≤ 1048576)
 IsWithinSize n None = 1048576 < n
+
+-- a bound, or None where its rule is broken
+abbrev pub IsBound : Result ℕ ℕ → Option ℕ → Type 0
+IsBound j (Some n) = j ≡ Ok n
+IsBound j None = j ≡ Err 2

@@ -29,7 +29,7 @@ defs_of v = v.among.defs
 abbrev pub tag_of : StructDef → List ℕ
 tag_of d = d.tag
 
-abbrev or_else_number : ℕ → Option ℕ → ℕ
+abbrev pub or_else_number : ℕ → Option ℕ → ℕ
 or_else_number n None = n
 or_else_number n (Some m) = m
 

@@ -2,7 +2,7 @@
 ghost use Rattle.std.specs.Prelude.{◌≡◌, ◌<◌, ◌^◌, length};
 ghost use Rattle.c_check.specs.Session.{session};
 ghost use Rattle.c_check.specs.Judgement.{Verdict};
-ghost use Rattle.c_check.specs.Checks.{Checks, stands};
+ghost use Rattle.c_check.specs.Checks.{Checks, Refuses, stands};
 ghost use Rattle.c_check.specs.Parts.{judged_of, operand_of};
 
 use crate::expr::expression;
@@ -54,14 +54,26 @@ pub fn check_expr<'a>(alloc: Global, e: &'a Expr, names: &'a [Symbol], defs: &'a
     }
     let part = match expression(alloc, &v, e) {
         Ok(part) => part,
-        Err(Fault::Rule(rule)) => return Err(ExprFault::Rule { rule }),
+        Err(Fault::Rule(rule)) => return Err(refused(mode, e, rule)),
         Err(Fault::NoMemory) => return Err(ExprFault::NoMemory),
     };
     if !stands(mode, &part) {
         return Err(ExprFault::Rule { rule: 22 });
     }
-    if let Some(at) = forbidden_in(mode, e) {
-        return Err(ExprFault::Forbidden { at });
+    match forbidden_in(mode, e) {
+        Some(at) => Err(ExprFault::Forbidden { at }),
+        None => Ok(part.typed),
     }
-    Ok(part.typed)
+}
+
+/// Why an expression is refused in which a rule is broken: that of calls is not asked, since a call is forbidden.
+fn refused(mode: Mode, e: &Expr, rule: u8) -> ExprFault
+    ensures { Refuses mode e.now rule result }
+{
+    if rule == 29 {
+        if let Some(at) = forbidden_in(mode, e) {
+            return ExprFault::Forbidden { at };
+        }
+    }
+    ExprFault::Rule { rule }
 }

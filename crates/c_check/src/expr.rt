@@ -4,12 +4,9 @@ ghost use Rattle.c_typing.specs.Plain.{plain};
 ghost use Rattle.c_expr.specs.Tree as tree;
 ghost use Rattle.c_check.specs.Judgement.{declared, spec_type};
 ghost use Rattle.c_check.specs.Bounds.{one_bound, all_bounds};
-ghost use Rattle.c_check.specs.Calls.{Calls, JudgesAll};
-ghost use Rattle.c_expr.specs.Tree.{with_arguments};
 ghost use Rattle.c_lex.specs.declared.token.Place.{Place};
 ghost use Rattle.c_check.specs.Judges.{Judges, Denotes, scope_of};
 
-use crate::calls::{called, name_alone};
 use crate::fault::Fault;
 use crate::forms::{after, cast, choice, index, member, paren, size_of_type};
 use crate::leaf::{leaf, spec_type};
@@ -24,8 +21,9 @@ use c_tree::CType;
 use ldb_words::Text;
 use std::alloc::Global;
 
-/// Checks an expression: gives it with its types, or the number of the rule that is broken.
+/// Checks an expression: gives it with its types, or the number of the rule that is broken. A call has no type here.
 #[cycle(checking)]
+#[tactic(auto, using(crate::proofs::First::judged_call))]
 pub fn expression<'a>(alloc: Global, v: &Scope<'a>, e: &'a Expr) -> Result<Part, Fault>
     ensures { Judges (scope_of v.now) e.now result }
 {
@@ -33,7 +31,7 @@ pub fn expression<'a>(alloc: Global, v: &Scope<'a>, e: &'a Expr) -> Result<Part,
         Node::Leaf(at, kind, text) => leaf(alloc, v, *at, *kind, text),
         Node::Paren(at, a) => at_paren(alloc, v, *at, a),
         Node::Index(at, a, b) => at_index(alloc, v, *at, a, b),
-        Node::Call(at, f, args) => at_call(alloc, v, *at, f, args),
+        Node::Call(_, _, _) => Err(Fault::Rule(29)),
         Node::Member(at, a, access, _, name) => at_member(alloc, v, *at, a, *access, name),
         Node::After(at, a, step) => at_after(alloc, v, *at, a, *step),
         Node::Prefix(at, op, a) => at_prefix(alloc, v, *at, *op, a),
@@ -178,45 +176,4 @@ fn at_bound<'a>(alloc: Global, v: &Scope<'a>, bound: &'a Option<Expr>, t: CType)
             array(alloc, v.defs, t, x.facts.constant)
         }
     }
-}
-
-/// What is called: the number of a name, or an expression, which has none.
-#[cycle(checking)]
-fn callee<'a>(alloc: Global, v: &Scope<'a>, f: &'a Expr) -> Result<Option<u32>, Fault>
-    ensures { Calls (scope_of v.now) f.now result }
-{
-    match name_alone(f) {
-        Some(text) => match v.names.find(text.as_bytes()) {
-            None => Err(Fault::Rule(21)),
-            Some(n) => Ok(Some(n)),
-        },
-        None => {
-            expression(alloc, v, f)?;
-            Ok(None)
-        }
-    }
-}
-
-/// The arguments of a call.
-#[cycle(checking)]
-fn arguments<'a>(alloc: Global, v: &Scope<'a>, args: &'a [Expr]) -> Result<Vec<Part>, Fault>
-    ensures { JudgesAll (scope_of v.now) args.now result }
-{
-    let mut parts = Vec::new(alloc);
-    for arg in args {
-        let x = expression(alloc, v, arg)?;
-        parts.push(x)?;
-    }
-    Ok(parts)
-}
-
-/// `f(..)`
-#[cycle(checking)]
-#[tactic(auto, using(crate::proofs::Called::call_judges, crate::proofs::Called::call_fails, crate::proofs::Called::arguments_fail))]
-fn at_call<'a>(alloc: Global, v: &Scope<'a>, at: Place, f: &'a Expr, args: &'a [Expr]) -> Result<Part, Fault>
-    ensures { Judges (scope_of v.now) (with_arguments (tree.Call at f.now) args.now) result }
-{
-    let n = callee(alloc, v, f)?;
-    let parts = arguments(alloc, v, args)?;
-    called(alloc, v, at, n, parts)
 }

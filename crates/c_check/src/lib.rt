@@ -1,7 +1,6 @@
 //! Typing of expressions of C (C90 6.3): an untyped tree and the names in scope give a typed tree, or the rule that is broken.
 #![tactic(auto)]
 
-mod calls;
 mod check;
 mod expr;
 mod fault;

@@ -2,8 +2,8 @@
 ghost use Rattle.std.specs.Prelude.{◌≡◌, Some, None};
 ghost use Rattle.c_typing.specs.Plain.{plain};
 ghost use Rattle.c_check.specs.Values.{size_of as bytes_of};
-ghost use Rattle.c_check.specs.Judgement.{deepest, is_within, are_within, limited, pointer, pointers, bound, bound_in, array, ◌then◌};
-ghost use Rattle.c_check.specs.Parts.{IsWithinSize};
+ghost use Rattle.c_check.specs.Judgement.{deepest, is_within, are_within, limited, pointer, pointers, bound, array, ◌then◌};
+ghost use Rattle.c_check.specs.Parts.{IsWithinSize, IsBound};
 ghost use Rattle.c_check.specs.Judges.{Denotes};
 
 use crate::fault::Fault;
@@ -78,6 +78,7 @@ fn pointer(alloc: Global, defs: &[StructDef], t: CType) -> Result<CType, Fault>
 }
 
 /// So many pointers, each to the one before.
+#[tactic(auto, using(crate::proofs::Pointing::pointers_step))]
 pub fn pointers(alloc: Global, defs: &[StructDef], n: u64, t: CType) -> Result<CType, Fault>
     ensures { Denotes (pointers defs.now n (plain t)) result }
 {
@@ -92,7 +93,7 @@ pub fn pointers(alloc: Global, defs: &[StructDef], n: u64, t: CType) -> Result<C
 
 /// An array bound: from 1 to 1,048,576.
 fn bound(constant: Constant) -> Option<u32>
-    ensures { result ≡ bound_in (bound constant) }
+    ensures { IsBound (bound constant) result }
 {
     match constant {
         Constant::Number(n) => {

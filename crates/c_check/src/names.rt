@@ -1,6 +1,6 @@
 // Names of an expression that are not in scope.
 ghost use Rattle.std.specs.Prelude.{◌≡◌, option_map};
-ghost use Rattle.c_check.specs.Forms.{unknown, unknown_leaf, unknown_bounds, unknown_all};
+ghost use Rattle.c_check.specs.Forms.{first_of, unknown, unknown_leaf, unknown_bounds, unknown_all};
 ghost use Rattle.c_check.specs.Judges.{scope_of};
 
 use crate::scope::Scope;
