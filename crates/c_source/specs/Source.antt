@@ -166,23 +166,30 @@ module _ (p : Program) (h : Here) (outer : List Activation) where
 
   -- ---- calls
 
-  abbrev pub built_in : List ℕ → List Value → List Item → Next State
-  built_in name vs k =
+  -- a built-in takes as many arguments as it has parameters (C90 6.3.2.2)
+  abbrev pub built_in : List ℕ → (arguments : List Value) → List Value → List Item → Next State
+  built_in name [] vs k =
       if bytes_eq name (codes "getchar") then go 1 (with_world h (record h.world { input = drop 1 h.world.input })) (Number (next_byte h.world.input) ∷ vs) k
-      else on_one vs (λ v rest. on_ok (bits_in v) (λ n.
-      if bytes_eq name (codes "putchar") then go 1 (with_world h (record h.world { output = h.world.output ++ (n % 256) ∷ [] })) (Number (n % 256) ∷ rest) k
-      else Exits (signed n) 1 (record { here = h; values = []; control = []; outer = outer })))
+      else Undefined IllTyped
+  built_in name (v ∷ []) vs k =
+      on_ok (bits_in v) (λ n.
+      if bytes_eq name (codes "getchar") then Undefined IllTyped
+      else if bytes_eq name (codes "putchar") then go 1 (with_world h (record h.world { output = h.world.output ++ (n % 256) ∷ [] })) (Number (n % 256) ∷ vs) k
+      else Exits (signed n) 1 (record { here = h; values = []; control = []; outer = outer }))
+  built_in name (v ∷ u ∷ us) vs k = Undefined IllTyped
 
+  -- so does a function of the program
   abbrev pub call : Referent → List ℕ → ℕ → List Value → List Item → Next State
   call (Defined f) name n vs k =
       on_some (slice_get p.functions f) (λ fn.
-      Goes (1 + n) (record {
+      if fn.params == n then Goes (1 + n) (record {
         here = entered p (suc h.place.number) f (reverse (take n vs)) h.world;
         values = [];
         control = body_of p f fn;
         outer = record { place = h.place; values = drop n vs; control = k } ∷ outer;
-      }))
-  call Declared name n vs k = built_in name vs k
+      })
+      else Undefined IllTyped)
+  call Declared name n vs k = built_in name (take n vs) (drop n vs) k
   call _ name n vs k = Undefined IllTyped
 
   -- the innermost activation ends with a value
