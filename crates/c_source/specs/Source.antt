@@ -54,7 +54,7 @@ abbrev offset_in : Option Member → ℕ
 offset_in None = 0
 offset_in (Some m) = m.at
 
-abbrev struct_number : CType → ℕ
+abbrev pub struct_number : CType → ℕ
 struct_number (Struct s) = s
 struct_number _ = 0
 
@@ -62,7 +62,7 @@ abbrev target_number : Option CType → ℕ
 target_number None = 0
 target_number (Some t) = struct_number t
 
-abbrev stepping : StepOp → BinaryOp
+abbrev pub stepping : StepOp → BinaryOp
 stepping Up = Add
 stepping Down = Subtract
 
@@ -73,7 +73,7 @@ dot_offset p a m = offset_in (slice_get (members_of p.defs (struct_number (type_
 abbrev pub arrow_offset : Program → Typed → (member : ℕ) → ℕ
 arrow_offset p a m = offset_in (slice_get (members_of p.defs (target_number (target_of (type_of a)))) m)
 
-abbrev place_of : Referent → Here → Option Value
+abbrev pub place_of : Referent → Here → Option Value
 place_of (Object o) h = Some (At o 0)
 place_of (Local x) h = option_map (λ o. At o 0) (bound x h.place.locals)
 place_of (Defined f) h = None
@@ -84,12 +84,12 @@ abbrev pub place_in : Option SymbolRow → Here → Option Value
 place_in None h = None
 place_in (Some s) h = place_of s.refers h
 
-abbrev else_of : Held-Stmt-If-3 → List Stmt
+abbrev pub else_of : Held-Stmt-If-3 → List Stmt
 else_of None' = []
 else_of (Some' _ s) = s ∷ []
 
 -- the next input byte, or -1 at the end
-abbrev next_byte : List ℕ → ℕ
+abbrev pub next_byte : List ℕ → ℕ
 next_byte [] = minus_one
 next_byte (b ∷ bs) = b
 

@@ -1,5 +1,5 @@
 -- Where slot code begins, and what a session may change at a stop.
-use Rattle.std.specs.Prelude.{ℕ, suc, ◌+◌, List, [], ◌∷◌, ◌++◌, true, length}
+use Rattle.std.specs.Prelude.{ℕ, suc, zero, ◌+◌, List, [], ◌∷◌, ◌++◌, true, length}
 use Rattle.ldb_words.specs.declared.kinds.Kind.{Kind}
 use Rattle.ldb_words.specs.declared.kinds.Kind.TheVariants.{Byte, Word, Address}
 use Rattle.runs.specs.Runs.{Actions}
@@ -26,7 +26,7 @@ kind_of_four (start.Number n) = Word
 kind_of_four _ = Address
 
 abbrev pub start_kind : ℕ → SlotValue → Kind
-start_kind 1 v = Byte
+start_kind (suc zero) v = Byte
 start_kind w v = kind_of_four v
 
 abbrev pub start_cells : SlotCode → List SlotStart → List Cell

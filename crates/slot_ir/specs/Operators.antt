@@ -99,7 +99,7 @@ is_same _ _ = false
 abbrev pub equal : World → Value → Value → Result Bool Why
 equal w x y = used w (as_pointer x) >>= λ u. used w (as_pointer y) >>= λ v. Ok (is_same u v)
 
-abbrev offsets : Value → Value → (ℕ → ℕ → Value) → Result Value Why
+abbrev pub offsets : Value → Value → (ℕ → ℕ → Value) → Result Value Why
 offsets (At o i) (At o' j) f = if o == o' then Ok (f i j) else Err (Reason PointerReason)
 offsets _ _ f = Err (Reason PointerReason)
 
@@ -107,7 +107,7 @@ offsets _ _ f = Err (Reason PointerReason)
 abbrev pub in_one_object : World → Value → Value → (ℕ → ℕ → Value) → Result Value Why
 in_one_object w x y f = used w x >>= λ u. used w y >>= λ v. offsets u v f
 
-abbrev truth : Bool → Value
+abbrev pub truth : Bool → Value
 truth b = Number (bit_of b)
 
 unfoldable pub compared : World → PointerOp → Value → Value → Result Value Why

@@ -1,0 +1,5 @@
+mod Follow
+mod Weight
+mod Operators
+mod Match
+mod Values

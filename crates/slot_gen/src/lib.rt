@@ -1,0 +1,2 @@
+//! Slot code of checked programs.
+#![tactic(auto)]
