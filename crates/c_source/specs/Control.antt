@@ -129,12 +129,12 @@ continued (_ ∷ k) = continued k
 
 -- ---- labels, which stand directly before a statement of the block
 
-abbrev labels_of : Stmt → List Stmt → List Label
+abbrev pub labels_of : Stmt → List Stmt → List Label
 labels_of (Case' at c _ s) from = record { constant = c; from = from } ∷ labels_of s from
 labels_of (Default' at _ s) from = labels_of s from
 labels_of s from = []
 
-abbrev is_default : Stmt → Bool
+abbrev pub is_default : Stmt → Bool
 is_default (Case' at c _ s) = is_default s
 is_default (Default' at _ s) = true
 is_default s = false

@@ -3,3 +3,5 @@ mod Weight
 mod Operators
 mod Match
 mod Values
+mod Evaluations
+mod Rounds

@@ -209,8 +209,11 @@ module _ (set : Setting) where
       pub below : (x : ℕ) → x < i → after x ≡ temps x
       pub above : (x : ℕ) → i < x → after x ≡ temps x
 
+    stays : (pc : ℕ) → pc ≡ pc + 0
+    stays pc = omega arith
+
     no_cast : (o : State) (i : ℕ) (v : Value) (temps : Temps) (pc : ℕ) → temps i ≡ Some v → Cast o i access.Word v temps pc
-    no_cast o i v temps pc e = record { count = 0; bounded = omega arith; after = temps; steps = (refl, refl); value = e; below = λ x lt. refl; above = λ x lt. refl }
+    no_cast o i v temps pc e = record { count = 0; bounded = omega arith; after = temps; steps = (refl, ap (slot temps) (stays pc)); value = e; below = λ x lt. refl; above = λ x lt. refl }
 
     one_cast : (o : State) (i : ℕ) (a : Access) (v : Value) (temps : Temps) (pc : ℕ) → SameOutput o (slot temps pc) → temps i ≡ Some v → slice_get code pc ≡ Some (op.Convert i a) → length (converting i a) ≡ 1 → Cast o i a v temps pc
     one_cast o i a v temps pc q e has len =

@@ -26,6 +26,7 @@ use Rattle.slot_ir.specs.declared.code.Access.TheVariants as access
 use Rattle.slot_ir.specs.Operators.{extended}
 use Rattle.slot_ir.specs.Slots.{Temps, with_temp, SlotState, Frame}
 use Rattle.slot_ir.specs.Slots as slots
+use Rattle.slot_ir.specs.Operators as slot_operators
 use Rattle.slot_ir.specs.Begin as beginning
 use Rattle.slot_gen.specs.Expressions.{access_of, cast_code, converting, load_code, unary_op, combine_op}
 use Rattle.slot_gen.specs.Correct.{IsCodeOf}
@@ -57,15 +58,15 @@ store_output w k place v w' e = subst (KeepsOutput w) e (store_keeps w k place v
 all_keeps : (w : World) (o i : ℕ) (ls : List Cell) (vs : List Value) → KeepsOutput w (store_all w o i ls vs)
 all_keeps w o i [] vs = refl
 all_keeps w o i (l ∷ ls) [] = tt
-all_keeps w o i (l ∷ ls) (v ∷ vs) = by (store w l.kind (At o (i + l.at)) v) refl
+all_keeps w o i (l ∷ ls) (v ∷ vs) = by (λ w'. all_keeps w' o i ls vs) (store w l.kind (At o (i + l.at)) v) refl
   where
     more : (w' : World) (r : Result World Why) → w'.output ≡ w.output → KeepsOutput w' r → KeepsOutput w r
     more w' (Ok u) e k = k ∙ e
     more w' (Err x) e k = tt
 
-    by : (q : Result World Why) → store w l.kind (At o (i + l.at)) v ≡ q → KeepsOutput w (q >>= λ w'. store_all w' o i ls vs)
-    by (Err x) e = tt
-    by (Ok w') e = more w' (store_all w' o i ls vs) (store_output w l.kind (At o (i + l.at)) v w' e) (all_keeps w' o i ls vs)
+    by : ((w' : World) → KeepsOutput w' (store_all w' o i ls vs)) → (q : Result World Why) → store w l.kind (At o (i + l.at)) v ≡ q → KeepsOutput w (q >>= λ w'. store_all w' o i ls vs)
+    by ih (Err x) e = tt
+    by ih (Ok w') e = more w' (store_all w' o i ls vs) (store_output w l.kind (At o (i + l.at)) v w' e) (ih w')
 
 struct_keeps : (w : World) (ls : List Cell) (place : Value) (vs : List Value) → KeepsOutput w (store_struct w ls place vs)
 unfolding store_struct
@@ -190,3 +191,250 @@ module _ (set : Setting) (g : Ground set) where
           (puts g.h.place m.after (converted t v) ws vs (same_below g.h.place temps m.after n ws vs (omega arith) (λ x lt. m.below x (omega (arith, lt))) hs)) l (subst (λ i. F set g d.around i (InTemp ∷ ws) k) len f);
         outer = g.out;
       })
+  -- MORE
+  store_answers : (t : CType) (k : List Item) (ws : List Where) (v place : Value) (vs : List Value) (temps : Temps) (pc : ℕ) → D set g (InTemp ∷ InTemp ∷ ws) (v ∷ place ∷ vs) (Store t ∷ k) temps pc
+      → Answered set (now set g (v ∷ place ∷ vs) (Store t ∷ k)) (source.write set.p g.h g.outer t place (converted t v) (converted t v) vs k) (slot set g temps pc)
+  store_answers t k ws v place vs temps pc d =
+      store_by t (Store t ∷ k) k ws (InTemp ∷ InTemp ∷ ws) v place vs (v ∷ place ∷ vs) temps pc (op.Store (length ws) (suc (length ws)) (kind_of t)) (store g.h.world (kind_of t) place (converted t v)) refl d d.holds.0 d.holds.1.1 d.loops
+      (λ after pc' below. ap (λ q. slots.on_temp q (λ x. slots.writes set.c (slot set g after pc') (kind_of t) x (suc (length ws)))) (below (length ws) (omega arith) ∙ d.holds.1.0))
+      d.follows.0 d.follows.1
+
+  write_answers : (t : CType) (x : ℕ) (k : List Item) (ws : List Where) (v place : Value) (vs : List Value) (temps : Temps) (pc : ℕ) → D set g (InTemp ∷ InReg x ∷ ws) (v ∷ place ∷ vs) (Store t ∷ k) temps pc
+      → Answered set (now set g (v ∷ place ∷ vs) (Store t ∷ k)) (source.write set.p g.h g.outer t place (converted t v) (converted t v) vs k) (slot set g temps pc)
+  write_answers t x k ws v place vs temps pc d =
+      store_by t (Store t ∷ k) k ws (InTemp ∷ InReg x ∷ ws) v place vs (v ∷ place ∷ vs) temps pc (op.WriteRegister (suc (length ws)) x (kind_of t)) (store g.h.world (kind_of t) place (converted t v)) refl d d.holds.0 d.holds.1.1 d.loops
+      (λ after pc' below. ap (λ q. slots.on_some q (λ y. slots.writes set.c (slot set g after pc') (kind_of t) y (suc (length ws)))) d.holds.1.0)
+      d.follows.0 d.follows.1
+
+  -- ---- compound assignment: the old value, the operation, the conversion, the write, and the value that is taken
+  module _ (t : CType) (bo : BinaryOp) (s : CType) (new : Bool) (k0 k : List Item) (ws ws0 : List Where) (y place : Value) (vs vs0 : List Value) (temps : Temps) (pc : ℕ) (lo wr : SlotOp) (d : D set g ws0 vs0 k0 temps pc) where
+    abbrev n : ℕ
+    n = length ws
+
+    abbrev o : State
+    o = now set g vs0 k0
+
+    abbrev taken : ℕ
+    taken = if new then suc n else suc (suc n)
+
+    abbrev last : List SlotOp
+    last = wr ∷ op.Take n taken ∷ []
+
+    abbrev rest_code : List SlotOp
+    rest_code = combine_op set.p (suc n) (suc (suc n)) (suc n) bo t s ∷ (cast_code (suc n) t ++ last)
+
+    abbrev with_old : Value → Temps
+    with_old old = with_temp temps (suc (suc n)) (converted t old)
+
+    abbrev with_both : Value → Value → Temps
+    with_both old x = with_temp (with_old old) (suc n) x
+
+    -- the value of the assignment
+    taken_value : (b : Bool) (old x : Value) (m : Temps) → m (suc n) ≡ Some (converted t x) → m (suc (suc n)) ≡ Some (converted t old) → m (if b then suc n else suc (suc n)) ≡ Some (converted t (if b then x else old))
+    taken_value true old x m a c = a
+    taken_value false old x m a c = c
+
+    update_done : (old x : Value) (w : World) → load g.h.world (kind_of t) place ≡ Ok old
+        → temps (suc n) ≡ Some y → Holds g.h.place temps ws vs → L set g d.around k
+        → slots.act set.c (slot set g temps pc) lo ≡ slots.gives set.c (slot set g temps pc) (suc (suc n)) (slots.read g.h.world (kind_of t) (access_of t) place)
+        → ((after : Temps) (pc' : ℕ) → ((x : ℕ) → x < suc n → after x ≡ temps x) → slots.act set.c (slot set g after pc') wr ≡ slots.writes set.c (slot set g after pc') (kind_of t) place (suc n))
+        → HasAt (code set g) pc (lo ∷ rest_code) → F set g d.around (pc + length (lo ∷ rest_code)) (InTemp ∷ ws) k
+        → combined set.p.defs g.h.world bo t s (converted t old) y ≡ Ok x → store g.h.world (kind_of t) place (converted t x) ≡ Ok w
+        → Answered set o (GoesOn 3 (record { here = with_world g.h w; values = converted t (if new then x else old) ∷ vs; control = k; outer = g.outer })) (slot set g temps pc)
+    update_done old x w ea ty hs l la wa has f eq ew =
+        let result = converted t (if new then x else old) in
+        let co = code set g in
+        let cs = cast_code (suc n) t in
+        let one_up = slot set g (with_old old) (pc + 1) in
+        let loaded : Steps set g o 1 1 (slot set g temps pc) one_up = one set g o temps pc 1 lo one_up refl has.0 (la ∙ read_gives t place old (suc (suc n)) (slot set g temps pc) ea) in
+        let two_up = slot set g (with_both old x) (pc + 1 + 1) in
+        let comb = combine_op set.p (suc n) (suc (suc n)) (suc n) bo t s in
+        let y_there = put_other temps (suc (suc n)) (suc n) (converted t old) (omega arith) ∙ ty in
+        let operated : Steps set g o 1 1 one_up two_up =
+            one set g o (with_old old) (pc + 1) 1 comb two_up refl has.1.0
+            (combined_gives set.c one_up set.p (suc n) (suc (suc n)) (suc n) (converted t old) y (put_same temps (suc (suc n)) (converted t old)) y_there bo t s x eq) in
+        let x_there = put_same (with_old old) (suc n) x in
+        let old_there = put_above (with_old old) (suc n) (suc (suc n)) x (omega arith) ∙ put_same temps (suc (suc n)) (converted t old) in
+        let hc = has.1.1 in
+        let m : Cast set g o (suc n) (access_of t) x (with_both old x) (pc + 1 + 1) = cast set g o (suc n) (access_of t) x (with_both old x) (pc + 1 + 1) refl x_there (has_front co (pc + 1 + 1) cs last hc) in
+        let hl = has_back co (pc + 1 + 1) cs last hc in
+        let at = pc + 1 + 1 + length cs in
+        let new_there = m.value ∙ ap Some (sym (converted_same t x)) in
+        let kept_there = m.above (suc (suc n)) (omega arith) ∙ old_there in
+        let below : (i : ℕ) → i < suc n → m.after i ≡ temps i =
+            (λ i lt. m.below i lt ∙ put_other (with_old old) (suc n) i x lt ∙ put_other temps (suc (suc n)) i (converted t old) (omega (arith, lt))) in
+        let end = written_to w (with_temp m.after n result) (at + 1 + 1) in
+        let wrote = write_then_take o (kind_of t) place (converted t x) result w m.after at n taken (suc n) wr refl ew (wa m.after at below) new_there hl.0 (taken_value new old x m.after new_there kept_there) hl.1.0 in
+        let chain = silent_then SlotState (slots.step set.c) (beginning.acted set.hist) (SameOutput set o) in
+        let all = chain 1 (1 + (m.count + 2)) 1 (1 + (m.count + 2)) (slot set g temps pc) one_up end loaded (chain 1 (m.count + 2) 1 (m.count + 2) one_up two_up end operated (chain m.count 2 m.count 2 two_up (slot set g m.after at) end m.steps wrote)) in
+        let len : pc + length (lo ∷ rest_code) ≡ at + 1 + 1 = omega (arith, length-append cs last) in
+        some_steps set g o _ (slot set g temps pc) end 3 (1 + (1 + (m.count + 2))) (1 + (1 + (m.count + 2))) (omega arith) (omega (arith, m.bounded)) all
+        (record {
+          same = refl;
+          ws = InTemp ∷ ws;
+          doing = again set g ws0 (InTemp ∷ ws) vs0 (result ∷ vs) k0 k temps (with_temp m.after n result) pc (at + 1 + 1) d
+            (puts g.h.place m.after result ws vs (same_below g.h.place temps m.after n ws vs (omega arith) (λ i lt. below i (omega (arith, lt))) hs)) l (subst (λ i. F set g d.around i (InTemp ∷ ws) k) len f);
+          outer = g.out;
+        })
+
+    update_by : (a : Result Value Why) (ea : load g.h.world (kind_of t) place ≡ a)
+        → temps (suc n) ≡ Some y → Holds g.h.place temps ws vs → L set g d.around k
+        → slots.act set.c (slot set g temps pc) lo ≡ slots.gives set.c (slot set g temps pc) (suc (suc n)) (slots.read g.h.world (kind_of t) (access_of t) place)
+        → ((after : Temps) (pc' : ℕ) → ((x : ℕ) → x < suc n → after x ≡ temps x) → slots.act set.c (slot set g after pc') wr ≡ slots.writes set.c (slot set g after pc') (kind_of t) place (suc n))
+        → HasAt (code set g) pc (lo ∷ rest_code) → F set g d.around (pc + length (lo ∷ rest_code)) (InTemp ∷ ws) k
+        → Answered set o (source.on_ok a (λ old.
+            source.on_ok (combined set.p.defs g.h.world bo t s (converted t old) y) (λ x.
+            source.on_ok (store g.h.world (kind_of t) place (converted t x)) (λ w. GoesOn 3 (record { here = with_world g.h w; values = converted t (if new then x else old) ∷ vs; control = k; outer = g.outer }))))) (slot set g temps pc)
+    update_by (Err e) ea ty hs l la wa has f = tt
+    update_by (Ok old) ea ty hs l la wa has f = by_operation (combined set.p.defs g.h.world bo t s (converted t old) y) refl
+      where
+        by_operation : (q : Result Value Why) → combined set.p.defs g.h.world bo t s (converted t old) y ≡ q
+            → Answered set o (source.on_ok q (λ x.
+              source.on_ok (store g.h.world (kind_of t) place (converted t x)) (λ w. GoesOn 3 (record { here = with_world g.h w; values = converted t (if new then x else old) ∷ vs; control = k; outer = g.outer })))) (slot set g temps pc)
+        by_operation (Err e) eq = tt
+        by_operation (Ok x) eq = by_write (store g.h.world (kind_of t) place (converted t x)) refl
+          where
+            by_write : (q : Result World Why) → store g.h.world (kind_of t) place (converted t x) ≡ q
+                → Answered set o (source.on_ok q (λ w. GoesOn 3 (record { here = with_world g.h w; values = converted t (if new then x else old) ∷ vs; control = k; outer = g.outer }))) (slot set g temps pc)
+            by_write (Err e) ew = tt
+            by_write (Ok w) ew = update_done old x w ea ty hs l la wa has f eq ew
+
+  update_answers : (t : CType) (bo : BinaryOp) (s : CType) (new : Bool) (k : List Item) (ws : List Where) (y place : Value) (vs : List Value) (temps : Temps) (pc : ℕ) → D set g (InTemp ∷ InTemp ∷ ws) (y ∷ place ∷ vs) (Update t bo s new ∷ k) temps pc
+      → Answered set (now set g (y ∷ place ∷ vs) (Update t bo s new ∷ k)) (source.update set.p g.h g.outer t bo s new place y vs k) (slot set g temps pc)
+  update_answers t bo s new k ws y place vs temps pc d =
+      update_by t bo s new (Update t bo s new ∷ k) k ws (InTemp ∷ InTemp ∷ ws) y place vs (y ∷ place ∷ vs) temps pc (op.Load (suc (suc (length ws))) (length ws) (kind_of t) (access_of t)) (op.Store (length ws) (suc (length ws)) (kind_of t)) d
+      (load g.h.world (kind_of t) place) refl d.holds.0 d.holds.1.1 d.loops
+      (ap (λ q. slots.on_temp q (λ x. slots.gives set.c (slot set g temps pc) (suc (suc (length ws))) (slots.read g.h.world (kind_of t) (access_of t) x))) d.holds.1.0)
+      (λ after pc' below. ap (λ q. slots.on_temp q (λ x. slots.writes set.c (slot set g after pc') (kind_of t) x (suc (length ws)))) (below (length ws) (omega arith) ∙ d.holds.1.0))
+      d.follows.0 d.follows.1
+
+  change_answers : (t : CType) (bo : BinaryOp) (s : CType) (new : Bool) (x : ℕ) (k : List Item) (ws : List Where) (y place : Value) (vs : List Value) (temps : Temps) (pc : ℕ) → D set g (InTemp ∷ InReg x ∷ ws) (y ∷ place ∷ vs) (Update t bo s new ∷ k) temps pc
+      → Answered set (now set g (y ∷ place ∷ vs) (Update t bo s new ∷ k)) (source.update set.p g.h g.outer t bo s new place y vs k) (slot set g temps pc)
+  change_answers t bo s new x k ws y place vs temps pc d =
+      update_by t bo s new (Update t bo s new ∷ k) k ws (InTemp ∷ InReg x ∷ ws) y place vs (y ∷ place ∷ vs) temps pc (op.ReadRegister (suc (suc (length ws))) x (kind_of t) (access_of t)) (op.WriteRegister (suc (length ws)) x (kind_of t)) d
+      (load g.h.world (kind_of t) place) refl d.holds.0 d.holds.1.1 d.loops
+      (ap (λ q. slots.on_some q (λ x. slots.gives set.c (slot set g temps pc) (suc (suc (length ws))) (slots.read g.h.world (kind_of t) (access_of t) x))) d.holds.1.0)
+      (λ after pc' below. ap (λ q. slots.on_some q (λ x. slots.writes set.c (slot set g after pc') (kind_of t) x (suc (length ws)))) d.holds.1.0)
+      d.follows.0 d.follows.1
+
+  -- ---- one value for one or two
+
+  combine_answers : (o : BinaryOp) (s t : CType) (k : List Item) (ws : List Where) (y x : Value) (vs : List Value) (temps : Temps) (pc : ℕ) → D set g (InTemp ∷ InTemp ∷ ws) (y ∷ x ∷ vs) (Combine o s t ∷ k) temps pc
+      → Answered set (now set g (y ∷ x ∷ vs) (Combine o s t ∷ k)) (source.on_ok (combined set.p.defs g.h.world o s t x y) (λ z. GoesOn 1 (now set g (z ∷ vs) k))) (slot set g temps pc)
+  combine_answers o s t k ws y x vs temps pc d =
+      give_step set g (Combine o s t ∷ k) k (InTemp ∷ InTemp ∷ ws) ws (y ∷ x ∷ vs) vs temps pc 1 (combined set.p.defs g.h.world o s t x y) (λ z. z) (combine_op set.p (length ws) (length ws) (suc (length ws)) o s t) d (omega arith) d.follows.0
+      (λ z e. combined_gives set.c (slot set g temps pc) set.p (length ws) (length ws) (suc (length ws)) x y d.holds.1.0 d.holds.0 o s t z e)
+      d.holds.1.1 d.loops d.follows.1
+
+  change_by : (o : UnaryOp) (t : CType) (k : List Item) (ws : List Where) (x : Value) (vs : List Value) (temps : Temps) (pc : ℕ) → D set g (InTemp ∷ ws) (x ∷ vs) (Change o t ∷ k) temps pc
+      → Answered set (now set g (x ∷ vs) (Change o t ∷ k)) (source.on_ok (changed g.h.world o t x) (λ z. GoesOn 1 (now set g (z ∷ vs) k))) (slot set g temps pc)
+  change_by o t k ws x vs temps pc d =
+      give_step set g (Change o t ∷ k) k (InTemp ∷ ws) ws (x ∷ vs) vs temps pc 1 (changed g.h.world o t x) (λ z. z) (op.Unary (length ws) (unary_op o t)) d (omega arith) d.follows.0
+      (λ z e. changed_gives set.c (slot set g temps pc) (length ws) o t x d.holds.0 z e)
+      d.holds.1 d.loops d.follows.1
+
+  offset_answers : (m : ℕ) (k : List Item) (ws : List Where) (x : Value) (vs : List Value) (temps : Temps) (pc : ℕ) → D set g (InTemp ∷ ws) (x ∷ vs) (Offset m ∷ k) temps pc
+      → Answered set (now set g (x ∷ vs) (Offset m ∷ k)) (source.on_ok (moved g.h.world x (pos m)) (λ z. GoesOn 1 (now set g (z ∷ vs) k))) (slot set g temps pc)
+  offset_answers m k ws x vs temps pc d =
+      let st = slot set g temps pc in
+      give_step set g (Offset m ∷ k) k (InTemp ∷ ws) ws (x ∷ vs) vs temps pc 1 (moved g.h.world x (pos m)) (λ z. z) (op.Offset (length ws) m) d (omega arith) d.follows.0
+      (λ z e. ap (λ q. slots.on_temp q (λ v. slots.gives set.c st (length ws) (moved g.h.world v (pos m)))) d.holds.0 ∙ ap (slots.gives set.c st (length ws)) e)
+      d.holds.1 d.loops d.follows.1
+
+  use_answers : (b : Bool) (k : List Item) (ws : List Where) (x : Value) (vs : List Value) (temps : Temps) (pc : ℕ) → D set g (InTemp ∷ ws) (x ∷ vs) (Use ∷ k) temps pc
+      → Answered set (now set g (x ∷ vs) (Use ∷ k)) (source.on_ok (if b then Err Stale else Ok x) (λ z. GoesOn 1 (now set g (z ∷ vs) k))) (slot set g temps pc)
+  use_answers true k ws x vs temps pc d = tt
+  use_answers false k ws x vs temps pc d = pure_step set g (Use ∷ k) k (InTemp ∷ ws) (x ∷ vs) temps pc 1 d (omega arith) d.loops d.follows
+
+  discard_answers : (k : List Item) (ws : List Where) (x : Value) (vs : List Value) (temps : Temps) (pc : ℕ) → D set g (InTemp ∷ ws) (x ∷ vs) (Discard ∷ k) temps pc
+      → Answered set (now set g (x ∷ vs) (Discard ∷ k)) (GoesOn 1 (now set g vs k)) (slot set g temps pc)
+  discard_answers k ws x vs temps pc d =
+      let m = d.follows.0 in
+      ⊎_elim
+      (λ e. none_step set g (Discard ∷ k) k (InTemp ∷ ws) ws (x ∷ vs) vs temps pc 1 d (omega arith) d.holds.1 d.loops (subst (λ i. F set g d.around i ws k) (sym e) d.follows.2))
+      (λ e. one_step set g (Discard ∷ k) k (x ∷ vs) vs temps temps pc m 1 1 ws (op.Jump m) (omega arith) e refl (again set g (InTemp ∷ ws) ws (x ∷ vs) vs (Discard ∷ k) k temps temps pc m d d.holds.1 d.loops d.follows.2))
+      d.follows.1
+
+  -- ---- conditions
+
+  -- a condition is stale, or it holds, or it fails
+  pub tested : (x : Value) (o : State) (holds fails : Next State) (st : SlotState)
+      → (is_stale g.h.world x ≡ false → slot_operators.is_zero x ≡ false → Answered set o holds st) → (is_stale g.h.world x ≡ false → slot_operators.is_zero x ≡ true → Answered set o fails st)
+      → Answered set o (source.on_test set.p g.h g.outer x holds fails) st
+  tested x o holds fails st if_holds if_fails = by (is_stale g.h.world x) refl
+    where
+      at_value : (x' : Value) → is_stale g.h.world x ≡ false → slot_operators.is_zero x ≡ slot_operators.is_zero x' → Answered set o (if is_zero x' then fails else holds) st
+      at_value (Number zero) s e = if_fails s e
+      at_value (Number (suc m)) s e = if_holds s e
+      at_value Null s e = if_fails s e
+      at_value (At b i) s e = if_holds s e
+
+      by : (b : Bool) → is_stale g.h.world x ≡ b → Answered set o (source.on_ok (if b then Err Stale else Ok x) (λ y. if is_zero y then fails else holds)) st
+      by true s = tt
+      by false s = at_value x s refl
+
+  -- the jumps at a condition
+  pub zero_jumps : (st : SlotState) (i m : ℕ) (x : Value) (b : Bool) → st.temps i ≡ Some x → is_stale st.here.world x ≡ false → slot_operators.is_zero x ≡ b → slots.act set.c st (op.JumpIfZero i m) ≡ slots.jumps_if set.c st b m
+  zero_jumps st i m x b t s e =
+      ap (λ q. slots.on_temp q (λ v. slots.on_ok (used st.here.world v) (λ x. slots.jumps_if set.c st (slot_operators.is_zero x) m))) t
+      ∙ ap (λ b. slots.on_ok (if b then Err Stale else Ok x) (λ x. slots.jumps_if set.c st (slot_operators.is_zero x) m)) s
+      ∙ ap (λ b. slots.jumps_if set.c st b m) e
+
+  pub other_jumps : (st : SlotState) (i m : ℕ) (x : Value) (b : Bool) → st.temps i ≡ Some x → is_stale st.here.world x ≡ false → slot_operators.is_zero x ≡ b → slots.act set.c st (op.JumpIfNotZero i m) ≡ (if b then slots.jumps set.c st (st.pc + 1) else slots.jumps set.c st m)
+  other_jumps st i m x b t s e =
+      ap (λ q. slots.on_temp q (λ v. slots.on_ok (used st.here.world v) (λ x. if slot_operators.is_zero x then slots.jumps set.c st (st.pc + 1) else slots.jumps set.c st m))) t
+      ∙ ap (λ b. slots.on_ok (if b then Err Stale else Ok x) (λ x. if slot_operators.is_zero x then slots.jumps set.c st (st.pc + 1) else slots.jumps set.c st m)) s
+      ∙ ap (λ b. if b then slots.jumps set.c st (st.pc + 1) else slots.jumps set.c st m) e
+
+  truth_acts : (st : SlotState) (i : ℕ) (x : Value) (b : Bool) → st.temps i ≡ Some x → is_stale st.here.world x ≡ false → slot_operators.is_zero x ≡ b → slots.act set.c st (op.Unary i unary.Truth) ≡ slots.sets set.c st i (Number (if not b then 1 else 0))
+  unfolding slot_operators.unary
+  truth_acts st i x b t s e =
+      ap (λ q. slots.on_temp q (λ v. slots.gives set.c st i (slot_operators.unary st.here.world unary.Truth v))) t
+      ∙ ap (λ b. slots.gives set.c st i ((if b then Err Stale else Ok x) >>= λ v. Ok (Number (if not (slot_operators.is_zero v) then 1 else 0)))) s
+      ∙ ap (λ b. slots.sets set.c st i (Number (if not b then 1 else 0))) e
+
+  truth_answers : (k : List Item) (ws : List Where) (x : Value) (vs : List Value) (temps : Temps) (pc : ℕ) → D set g (InTemp ∷ ws) (x ∷ vs) (Truth ∷ k) temps pc
+      → Answered set (now set g (x ∷ vs) (Truth ∷ k)) (source.on_test set.p g.h g.outer x (GoesOn 1 (now set g (Number 1 ∷ vs) k)) (GoesOn 1 (now set g (Number 0 ∷ vs) k))) (slot set g temps pc)
+  truth_answers k ws x vs temps pc d =
+      let i = length ws in
+      let st = slot set g temps pc in
+      tested x (now set g (x ∷ vs) (Truth ∷ k)) (GoesOn 1 (now set g (Number 1 ∷ vs) k)) (GoesOn 1 (now set g (Number 0 ∷ vs) k)) st
+      (λ s e. set_step set g (Truth ∷ k) k (InTemp ∷ ws) ws (x ∷ vs) vs temps pc 1 (Number 1) (op.Unary i unary.Truth) d (omega arith) d.follows.0 (truth_acts st i x false d.holds.0 s e) d.holds.1 d.loops d.follows.1)
+      (λ s e. set_step set g (Truth ∷ k) k (InTemp ∷ ws) ws (x ∷ vs) vs temps pc 1 (Number 0) (op.Unary i unary.Truth) d (omega arith) d.follows.0 (truth_acts st i x true d.holds.0 s e) d.holds.1 d.loops d.follows.1)
+
+  -- ---- a struct is copied
+
+  copy_answers : (s : ℕ) (k : List Item) (ws : List Where) (from to : Value) (vs : List Value) (temps : Temps) (pc : ℕ) → (d : D set g (InTemp ∷ InTemp ∷ ws) (from ∷ to ∷ vs) (Copy (Struct s) ∷ k) temps pc)
+      → HasAt (code set g) pc (op.Move (length ws) (suc (length ws)) s ∷ op.Const (length ws) 0 ∷ []) → F set g d.around (pc + 1 + 1) (InTemp ∷ ws) k
+      → (a : Result (List Value) Why) → load_struct g.h.world (cells_of set.p.defs (Struct s)) from ≡ a
+      → Answered set (now set g (from ∷ to ∷ vs) (Copy (Struct s) ∷ k)) (source.on_ok a (λ xs. source.on_ok (store_struct g.h.world (cells_of set.p.defs (Struct s)) to xs) (λ w. GoesOn (1 + 2 * length xs) (record { here = with_world g.h w; values = Number 0 ∷ vs; control = k; outer = g.outer })))) (slot set g temps pc)
+  copy_answers s k ws from to vs temps pc d has f (Err e) ea = tt
+  copy_answers s k ws from to vs temps pc d has f (Ok xs) ea = by (store_struct g.h.world (cells_of set.p.defs (Struct s)) to xs) refl
+    where
+      by : (q : Result World Why) → store_struct g.h.world (cells_of set.p.defs (Struct s)) to xs ≡ q
+          → Answered set (now set g (from ∷ to ∷ vs) (Copy (Struct s) ∷ k)) (source.on_ok q (λ w. GoesOn (1 + 2 * length xs) (record { here = with_world g.h w; values = Number 0 ∷ vs; control = k; outer = g.outer }))) (slot set g temps pc)
+      by (Err e) ew = tt
+      by (Ok w) ew =
+          let i = length ws in
+          let cells = cells_of set.p.defs (Struct s) in
+          let st = slot set g temps pc in
+          let o = now set g (from ∷ to ∷ vs) (Copy (Struct s) ∷ k) in
+          let u = written_to w temps (pc + 1) in
+          let end = written_to w (with_temp temps i (Number 0)) (pc + 1 + 1) in
+          let all_copied = λ (cs : List Cell) (y z : Value). slots.on_ok (load_struct g.h.world cs z) (λ vs. slots.on_ok (store_struct g.h.world cs y vs) (λ w. slots.goes set.c st (1 + 2 * length vs) (with_world g.h w))) in
+          let first =
+              ap (slots.at_op set.c st) has.0
+              ∙ ap (λ q. slots.on_temp q (λ y. slots.on_temp (temps (suc i)) (λ z. all_copied (slots.zero_cells (slots.leaves_in (slice_get set.c.structs s))) y z))) d.holds.1.0
+              ∙ ap (λ q. slots.on_temp q (λ z. all_copied (slots.zero_cells (slots.leaves_in (slice_get set.c.structs s))) to z)) d.holds.0
+              ∙ ap (λ ls. all_copied (slots.zero_cells ls) to from) (set.is.structs s)
+              ∙ ap (λ q. slots.on_ok q (λ vs. slots.on_ok (store_struct g.h.world cells to vs) (λ w. slots.goes set.c st (1 + 2 * length vs) (with_world g.h w)))) ea
+              ∙ ap (λ q. slots.on_ok q (λ w. slots.goes set.c st (1 + 2 * length xs) (with_world g.h w))) ew in
+          let second = ap (slots.at_op set.c u) has.1.0 in
+          let n = 1 + 2 * length xs in
+          some_steps set g o _ st end n 2 (n + 1) (omega arith) (omega arith) (n, 1, u, omega arith, first, (1, 0, end, omega arith, second, (refl, refl), struct_output g.h.world cells to xs w ew), refl)
+          (record {
+            same = refl;
+            ws = InTemp ∷ ws;
+            doing = again set g (InTemp ∷ InTemp ∷ ws) (InTemp ∷ ws) (from ∷ to ∷ vs) (Number 0 ∷ vs) (Copy (Struct s) ∷ k) k temps (with_temp temps i (Number 0)) pc (pc + 1 + 1) d (puts g.h.place temps (Number 0) ws vs d.holds.1.1) d.loops f;
+            outer = g.out;
+          })
