@@ -100,6 +100,10 @@ abbrev pub on_kept : List Where → (ℕ → Type 0) → Type 0
 on_kept (Kept n ∷ []) P = P n
 on_kept _ P = ⊥
 
+abbrev pub where_of : Option ℕ → Where
+where_of None = InTemp
+where_of (Some x) = InReg x
+
 abbrev pub temps_on : ℕ → List Where → List Where
 temps_on zero ws = ws
 temps_on (suc n) ws = InTemp ∷ temps_on n ws
@@ -215,8 +219,8 @@ module _ (p : Program) (f : ℕ) (code : List SlotOp) where
   Follows r n pc ws (Run s ∷ k) = on_none ws (IsInside r n × HasAt code pc (stmt_code p f r n pc s) × Follows r n (pc + length (stmt_code p f r n pc s)) [] k)
   Follows r n pc ws (Stop q ∷ k) = (slice_get code pc ≡ Some (op.Stop q)) × Follows r n (pc + 1) ws k
   Follows r n pc ws (Choose a b ∷ k) = on_last ws (IsInside r n × HasAt code pc (choice_of r n pc a b) × Follows r n (pc + length (choice_of r n pc a b)) [] k)
-  Follows r n pc ws (Open ds ∷ k) = (m : ℕ) × Goes code pc m × HasAt code m (zeros_code ds) × Follows r (n + length ds) (m + length (zeros_code ds)) ws k
-  Follows r n pc ws (Close m ∷ k) = (m ≤ n) × (slice_get code pc ≡ Some (op.Leave m)) × Follows r m (pc + 1) ws k
+  Follows r n pc ws (Open ds ∷ k) = on_none ws ((m : ℕ) × Goes code pc m × HasAt code m (zeros_code ds) × Follows r (n + length ds) (m + length (zeros_code ds)) [] k)
+  Follows r n pc ws (Close m ∷ k) = on_none ws ((m ≤ n) × (slice_get code pc ≡ Some (op.Leave m)) × Follows r m (pc + 1) [] k)
   Follows r n pc ws (Turn s m ∷ k) =
       on_last ws ((start : ℕ) × (n ≡ m) × IsLoop s × (slice_get code pc ≡ Some (op.JumpIfZero 0 (start + length (loop_of start m s)))) × (pc + 1 ≡ body_at start s) × HasAt code start (loop_of start m s) × Follows r m (start + length (loop_of start m s)) [] k)
   Follows r n pc ws (Again s m ∷ k) = on_none ws ((n ≡ m) × (slice_get code pc ≡ Some (op.Jump r.again)))
@@ -285,10 +289,6 @@ module _ (p : Program) (f : ℕ) (code : List SlotOp) where
       (i, u.0, runs_follow r n ss (pc + length cs) k i u.1.0 u.1.1)
 
   -- ---- places
-
-  abbrev pub where_of : Option ℕ → Where
-  where_of None = InTemp
-  where_of (Some x) = InReg x
 
   scalar_by : (t : CType) (a s : Bool) (o : Option ℕ) (x : ℕ) → is_array t ≡ a → is_struct t ≡ s → (if a then None else (if s then None else o)) ≡ Some x → (is_array t ≡ false) × (o ≡ Some x)
   scalar_by t true s o x ea es e = absurd (cc e)

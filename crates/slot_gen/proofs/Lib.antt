@@ -5,3 +5,6 @@ mod Match
 mod Values
 mod Evaluations
 mod Rounds
+mod Calls
+mod Executions
+mod Step

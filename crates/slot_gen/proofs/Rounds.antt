@@ -24,6 +24,9 @@ pub length-seeks : (ls : List Target) → length (seek_code ls) ≡ length ls
 length-seeks [] = refl
 length-seeks (l ∷ ls) = ap suc (length-seeks ls)
 
+plus_none : (n : ℕ) → n + 0 ≡ n
+plus_none n = omega arith
+
 module _ (p : Program) (f : ℕ) (code : List SlotOp) where
   -- ---- parts, tests and initializers
 
@@ -144,7 +147,7 @@ module _ (p : Program) (f : ℕ) (code : List SlotOp) where
     -- at its test, where it has one
     test_stands : (o : Option Pointed) → test_in s ≡ o → Stands n (loop_test p f start (step_in s)) (test_of o (body_in s) s n ++ k)
     test_stands None e =
-        let same : body_at p f code start s ≡ loop_test p f start (step_in s) = ap (λ o. loop_test p f start (step_in s) + length (test_code p f (loop_test p f start (step_in s)) o 0)) e in
+        let same : body_at p f code start s ≡ loop_test p f start (step_in s) = ap (λ o. loop_test p f start (step_in s) + length (test_code p f (loop_test p f start (step_in s)) o 0)) e ∙ plus_none (loop_test p f start (step_in s)) in
         stands_at n _ _ (Run (body_in s) ∷ Again s n ∷ k) same body_stands
     test_stands (Some q) e =
         let q' = parts start n s has in
@@ -166,7 +169,7 @@ module _ (p : Program) (f : ℕ) (code : List SlotOp) where
     -- at its third part
     steps : (o : Option Pointed) → step_in s ≡ o → Stands n (start + 2) (part_of o ++ (test_of (test_in s) (body_in s) s n ++ k))
     steps None e =
-        let same : loop_test p f start (step_in s) ≡ start + 2 = ap (λ o. start + 2 + length (part_code p f (start + 2) o)) e in
+        let same : loop_test p f start (step_in s) ≡ start + 2 = ap (λ o. start + 2 + length (part_code p f (start + 2) o)) e ∙ plus_none (start + 2) in
         stands_at n _ _ (test_of (test_in s) (body_in s) s n ++ k) same tests
     steps (Some q) e =
         let here = subst (λ o. HasAt code (start + 2) (part_code p f (start + 2) o)) e (parts start n s has).step in

@@ -55,6 +55,11 @@ abbrev pub seek_code : List Target → List SlotOp
 seek_code [] = []
 seek_code (l ∷ ls) = JumpIfEqual 0 l.constant l.place ∷ seek_code ls
 
+-- the first of these places, or this one
+abbrev pub first_target : (place : ℕ) → List ℕ → ℕ
+first_target place [] = place
+first_target place (d ∷ ds) = d
+
 abbrev pub zeros_code : List DeclaredLocal → List SlotOp
 zeros_code [] = []
 zeros_code (d ∷ ds) = Zero d.local ∷ zeros_code ds
@@ -104,10 +109,6 @@ module _ (p : Program) (f : ℕ) where
       let end = loop_body at t q + length body + 1 in
       Jump (if first then loop_test at t else loop_body at t q) ∷ Jump end
       ∷ (part_code (at + 2) t ++ (test_code (loop_test at t) q end ++ (body ++ Jump (at + 2) ∷ [])))
-
-  abbrev pub first_target : (place : ℕ) → List ℕ → ℕ
-  first_target place [] = place
-  first_target place (d ∷ ds) = d
 
   -- A `switch`: a jump to its labels, a jump past its end for each `break`, its body, a jump past its end, and its labels compared one by one.
   abbrev pub switch_code : (at : ℕ) → List SlotOp → List Target → List ℕ → List SlotOp

@@ -43,21 +43,21 @@ pub record SlotState : Type 0 where
 
 -- ---- rows
 
-abbrev code_in : Option SlotFunction → List SlotOp
+abbrev pub code_in : Option SlotFunction → List SlotOp
 code_in None = []
 code_in (Some f) = f.code
 
 abbrev pub code_of : SlotCode → ℕ → List SlotOp
 code_of c f = code_in (slice_get c.functions f)
 
-abbrev locals_in : Option SlotFunction → List SlotLocal
+abbrev pub locals_in : Option SlotFunction → List SlotLocal
 locals_in None = []
 locals_in (Some f) = f.locals
 
 abbrev pub local_row : SlotCode → (function local : ℕ) → Option SlotLocal
 local_row c f x = slice_get (locals_in (slice_get c.functions f)) x
 
-abbrev zero_cell : Leaf → Cell
+abbrev pub zero_cell : Leaf → Cell
 zero_cell l = record { at = l.at; kind = l.kind; value = zero_of l.kind }
 
 -- leaves that hold zeros
@@ -70,22 +70,22 @@ leaves_in (Some s) = s.leaves
 
 -- ---- objects that begin
 
-abbrev zeroed_row : Option SlotLocal → ℕ → Here → Here
+abbrev pub zeroed_row : Option SlotLocal → ℕ → Here → Here
 zeroed_row None x h = made x 0 [] h
 zeroed_row (Some l) x h = made x l.size (zero_cells l.leaves) h
 
 abbrev pub zeroed_local : SlotCode → (local : ℕ) → Here → Here
 zeroed_local c x h = zeroed_row (local_row c h.place.function x) x h
 
-abbrev leaf_count_in : Option SlotLocal → ℕ
+abbrev pub leaf_count_in : Option SlotLocal → ℕ
 leaf_count_in None = 0
 leaf_count_in (Some l) = length l.leaves
 
-abbrev with_first : Value → List Cell → List Cell
+abbrev pub with_first : Value → List Cell → List Cell
 with_first v [] = []
 with_first v (c ∷ cs) = record c { value = v } ∷ cs
 
-abbrev given_row : Option SlotLocal → ℕ → Value → Here → Here
+abbrev pub given_row : Option SlotLocal → ℕ → Value → Here → Here
 given_row None x v h = made x 0 [] h
 given_row (Some l) x v h = made x l.size (with_first (extended l.access v) (zero_cells l.leaves)) h
 
@@ -112,7 +112,7 @@ abbrev pub on_some : {A : Type 0} → Option A → (A → Next SlotState) → Ne
 on_some None go = Undefined IllTyped
 on_some (Some x) go = go x
 
-abbrev joined : Option Value → Option (List Value) → Option (List Value)
+abbrev pub joined : Option Value → Option (List Value) → Option (List Value)
 joined None o = None
 joined (Some v) None = None
 joined (Some v) (Some vs) = Some (v ∷ vs)
@@ -126,7 +126,7 @@ abbrev pub on_temps : Option (List Value) → (List Value → Next SlotState) �
 on_temps None go = Stuck
 on_temps (Some vs) go = go vs
 
-abbrev next_byte : List ℕ → ℕ
+abbrev pub next_byte : List ℕ → ℕ
 next_byte [] = minus_one
 next_byte (b ∷ bs) = b
 
