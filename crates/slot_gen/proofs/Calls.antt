@@ -185,7 +185,7 @@ module _ (set : Setting) (g : Ground set) where
   abbrev entering : (f : ℕ) → List Value → Here
   entering f vs = blocks.entered set.p (suc g.h.place.number) f vs g.h.world
 
-  call_answers : (q : ℕ) (f m : ℕ) (us : List Where) (k : List Item) (vs : List Value) (temps : Temps) (pc : ℕ) → (d : D set g (temps_on m us) vs (Enter q m ∷ k) temps pc)
+  pub call_answers : (q : ℕ) (f m : ℕ) (us : List Where) (k : List Item) (vs : List Value) (temps : Temps) (pc : ℕ) → (d : D set g (temps_on m us) vs (Enter q m ∷ k) temps pc)
       → slice_get (code set g) pc ≡ Some (op.Call (length us) f m) → F set g d.around (pc + 1) (InTemp ∷ us) k
       → (o : Option Function) → slice_get set.p.functions f ≡ o
       → Answered set (now set g vs (Enter q m ∷ k)) (source.on_some o (λ fn.
@@ -216,7 +216,7 @@ module _ (set : Setting) (g : Ground set) where
 
   -- ---- built-ins
 
-  get_answers : (q : ℕ) (name : List ℕ) (k : List Item) (ws : List Where) (vs : List Value) (temps : Temps) (pc : ℕ) → (d : D set g ws vs (Enter q 0 ∷ k) temps pc)
+  pub get_answers : (q : ℕ) (name : List ℕ) (k : List Item) (ws : List Where) (vs : List Value) (temps : Temps) (pc : ℕ) → (d : D set g ws vs (Enter q 0 ∷ k) temps pc)
       → (b : Bool) → HasAt (code set g) pc (if b then op.GetChar (length ws) ∷ [] else []) → F set g d.around (pc + length (if b then op.GetChar (length ws) ∷ [] else [])) (InTemp ∷ ws) k
       → Answered set (now set g vs (Enter q 0 ∷ k)) (if b then GoesOn 1 (record { here = with_world g.h (record g.h.world { input = drop 1 g.h.world.input }); values = Number (source.next_byte g.h.world.input) ∷ vs; control = k; outer = g.outer }) else Undefined IllTyped) (slot set g temps pc)
   get_answers q name k ws vs temps pc d false has rest = tt
@@ -238,7 +238,7 @@ module _ (set : Setting) (g : Ground set) where
       next_same (b ∷ bs) = refl
 
   -- `putchar` and `exit`
-  put_answers : (q : ℕ) (x : Value) (k : List Item) (ws : List Where) (vs : List Value) (temps : Temps) (pc : ℕ) → (d : D set g (InTemp ∷ ws) (x ∷ vs) (Enter q 1 ∷ k) temps pc)
+  pub put_answers : (q : ℕ) (x : Value) (k : List Item) (ws : List Where) (vs : List Value) (temps : Temps) (pc : ℕ) → (d : D set g (InTemp ∷ ws) (x ∷ vs) (Enter q 1 ∷ k) temps pc)
       → (get put : Bool) → HasAt (code set g) pc (if put then op.PutChar (length ws) ∷ [] else op.Exit (length ws) ∷ []) → F set g d.around (pc + length (if put then op.PutChar (length ws) ∷ [] else op.Exit (length ws) ∷ [])) (InTemp ∷ ws) k
       → Answered set (now set g (x ∷ vs) (Enter q 1 ∷ k)) (source.on_ok (bits_in x) (λ n.
           if get then Undefined IllTyped

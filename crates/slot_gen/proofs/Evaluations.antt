@@ -48,7 +48,7 @@ module _ (set : Setting) (g : Ground set) where
   assign_loops true a e t k r l = l
   assign_loops false a e t k r l = l
 
-  eval_answers : (e : Typed) (k : List Item) (ws : List Where) (vs : List Value) (temps : Temps) (pc : ℕ) → D set g ws vs (Eval e ∷ k) temps pc
+  pub eval_answers : (e : Typed) (k : List Item) (ws : List Where) (vs : List Value) (temps : Temps) (pc : ℕ) → D set g ws vs (Eval e ∷ k) temps pc
       → Answered set (now set g vs (Eval e ∷ k)) (source.evaluate set.p g.h g.outer e vs k) (slot set g temps pc)
   eval_answers (Comma' t x a y b) k ws vs temps pc d =
       let ca = expr_code set.p f pc (length ws) a in
@@ -171,7 +171,7 @@ module _ (set : Setting) (g : Ground set) where
       by (Defined j) s = tt
       by Declared s = tt
 
-  locate_answers : (e : Typed) (k : List Item) (ws : List Where) (vs : List Value) (temps : Temps) (pc : ℕ) → D set g ws vs (Locate e ∷ k) temps pc
+  pub locate_answers : (e : Typed) (k : List Item) (ws : List Where) (vs : List Value) (temps : Temps) (pc : ℕ) → D set g ws vs (Locate e ∷ k) temps pc
       → Answered set (now set g vs (Locate e ∷ k)) (source.locate set.p g.h g.outer e vs k) (slot set g temps pc)
   locate_answers (Name t m) k ws vs temps pc d = name_answers t m k ws vs temps pc d (slice_get set.p.symbols m) d.follows
   locate_answers (Literal t m) k ws vs temps pc d =
@@ -198,7 +198,7 @@ module _ (set : Setting) (g : Ground set) where
 
   -- ---- choices
 
-  pick_answers : (t : CType) (a b : Typed) (k : List Item) (ws : List Where) (x : Value) (vs : List Value) (temps : Temps) (pc : ℕ) → D set g (InTemp ∷ ws) (x ∷ vs) (Pick t a b ∷ k) temps pc
+  pub pick_answers : (t : CType) (a b : Typed) (k : List Item) (ws : List Where) (x : Value) (vs : List Value) (temps : Temps) (pc : ℕ) → D set g (InTemp ∷ ws) (x ∷ vs) (Pick t a b ∷ k) temps pc
       → Answered set (now set g (x ∷ vs) (Pick t a b ∷ k)) (source.on_test set.p g.h g.outer x (GoesOn 1 (now set g vs (Eval a ∷ Use ∷ Convert t ∷ Joined ∷ k))) (GoesOn 1 (now set g vs (Eval b ∷ Use ∷ Convert t ∷ k)))) (slot set g temps pc)
   pick_answers t a b k ws x vs temps pc d =
       let i = length ws in
@@ -261,7 +261,7 @@ module _ (set : Setting) (g : Ground set) where
           outer = g.out;
         })
 
-  and_answers : (e : Typed) (k : List Item) (ws : List Where) (x : Value) (vs : List Value) (temps : Temps) (pc : ℕ) → D set g (InTemp ∷ ws) (x ∷ vs) (AndThen e ∷ k) temps pc
+  pub and_answers : (e : Typed) (k : List Item) (ws : List Where) (x : Value) (vs : List Value) (temps : Temps) (pc : ℕ) → D set g (InTemp ∷ ws) (x ∷ vs) (AndThen e ∷ k) temps pc
       → Answered set (now set g (x ∷ vs) (AndThen e ∷ k)) (source.on_test set.p g.h g.outer x (GoesOn 1 (now set g vs (Eval e ∷ Truth ∷ Joined ∷ k))) (GoesOn 1 (now set g (Number 0 ∷ vs) k))) (slot set g temps pc)
   and_answers e k ws x vs temps pc d =
       let i = length ws in
@@ -271,7 +271,7 @@ module _ (set : Setting) (g : Ground set) where
       (λ s z. goes_right e 0 (op.JumpIfZero i to) (AndThen e) k ws x vs temps pc d d.follows.0 d.follows.1 d.loops (zero_jumps set g st i to x false d.holds.0 s z))
       (λ s z. goes_over e 0 (op.JumpIfZero i to) (AndThen e) k ws x vs temps pc d d.follows.0 d.follows.1 d.loops (zero_jumps set g st i to x true d.holds.0 s z))
 
-  or_answers : (e : Typed) (k : List Item) (ws : List Where) (x : Value) (vs : List Value) (temps : Temps) (pc : ℕ) → D set g (InTemp ∷ ws) (x ∷ vs) (OrElse e ∷ k) temps pc
+  pub or_answers : (e : Typed) (k : List Item) (ws : List Where) (x : Value) (vs : List Value) (temps : Temps) (pc : ℕ) → D set g (InTemp ∷ ws) (x ∷ vs) (OrElse e ∷ k) temps pc
       → Answered set (now set g (x ∷ vs) (OrElse e ∷ k)) (source.on_test set.p g.h g.outer x (GoesOn 1 (now set g (Number 1 ∷ vs) k)) (GoesOn 1 (now set g vs (Eval e ∷ Truth ∷ Joined ∷ k)))) (slot set g temps pc)
   or_answers e k ws x vs temps pc d =
       let i = length ws in

@@ -75,7 +75,7 @@ module _ (set : Setting) (g : Ground set) where
   stand_none k0 k temps pc m d lt s =
       (0, 0, slot set g temps pc, omega arith, (refl, refl), record { same = refl; ws = []; doing = record { fn = d.fn; found = d.found; ends = d.ends; around = s.around; loops = s.loops; holds = tt; follows = s.follows }; outer = g.out }, lt)
 
-  stand_jump : (k0 k : List Item) (ws : List Where) (vs : List Value) (temps : Temps) (pc to : ℕ) (o : SlotOp) → D set g ws vs k0 temps pc → slice_get (code set g) pc ≡ Some o → slots.act set.c (slot set g temps pc) o ≡ slots.jumps set.c (slot set g temps pc) to
+  pub stand_jump : (k0 k : List Item) (ws : List Where) (vs : List Value) (temps : Temps) (pc to : ℕ) (o : SlotOp) → D set g ws vs k0 temps pc → slice_get (code set g) pc ≡ Some o → slots.act set.c (slot set g temps pc) o ≡ slots.jumps set.c (slot set g temps pc) to
       → Stands set.p f (code set g) n to k → Answered set (now set g vs k0) (GoesOn 1 (now set g [] k)) (slot set g temps pc)
   stand_jump k0 k ws vs temps pc to o d e a s =
       one_step set g k0 k vs [] temps temps pc to 1 1 [] o (omega arith) e a
@@ -121,22 +121,9 @@ module _ (set : Setting) (g : Ground set) where
       let s = For' x None q t y b in
       let co = code set g in
       let e : pc + 0 ≡ pc = omega arith in
-      let lo = loop_of set.p f co pc n s in
-      let has = subst (λ i. HasAt co i (loop_of set.p f co i n s)) e (has_at d.follows.1) in
-      let after = subst (λ i. F set g d.around (i + length (loop_of set.p f co i n s)) [] k) e (rest_at d.follows.2) in
+      let has = subst (λ i. HasAt co pc (loop_of set.p f co i n s)) e d.follows.1 in
+      let after = subst (λ i. F set g d.around (pc + length (loop_of set.p f co i n s)) [] k) e d.follows.2 in
       enters_test s k temps pc pc d.around tt has after d.loops refl d
-    where
-      zero_more : (i m : ℕ) → i + m ≡ i + 0 + m
-      zero_more i m = omega arith
-
-      has_at : HasAt (code set g) pc (stmt_code set.p f d.around n pc (For' x None q t y b)) → HasAt (code set g) (pc + 0) (loop_of set.p f (code set g) (pc + 0) n (For' x None q t y b))
-      has_at h = subst (λ i. HasAt (code set g) i (loop_of set.p f (code set g) (pc + 0) n (For' x None q t y b))) (zero_more pc 0 ∙ zero_none pc) h
-        where
-          zero_none : (i : ℕ) → i + 0 + 0 ≡ i + 0
-          zero_none i = omega arith
-
-      rest_at : F set g d.around (pc + length (stmt_code set.p f d.around n pc (For' x None q t y b))) [] k → F set g d.around (pc + 0 + length (loop_of set.p f (code set g) (pc + 0) n (For' x None q t y b))) [] k
-      rest_at h = subst (λ i. F set g d.around i [] k) (zero_more pc (length (loop_of set.p f (code set g) (pc + 0) n (For' x None q t y b)))) h
   for_answers x (Some j) q t y b k temps pc d =
       let s = For' x (Some j) q t y b in
       let co = code set g in
@@ -157,7 +144,7 @@ module _ (set : Setting) (g : Ground set) where
       let l : Left set.p f co d.around out = leaving set.p f co d.around k out e d.loops in
       let st = slot set g temps pc in
       let h' = left out.scope g.h in
-      let at = λ (i : ℕ). record { here = h'; temps = temps; pc = i; result_at = g.at; outer = g.frames } in
+      let at : ℕ → SlotState = λ i. record { here = h'; temps = temps; pc = i; result_at = g.at; outer = g.frames } in
       let u : SlotState = at (pc + 1) in
       let v : SlotState = at d.around.leave in
       let w : SlotState = at l.end in
@@ -195,7 +182,18 @@ module _ (set : Setting) (g : Ground set) where
         outer = g.out;
       }, tt)
 
-  run_answers : (s : Stmt) (k : List Item) (temps : Temps) (pc : ℕ) → R (Run s ∷ k) temps pc → Answered set (now set g [] (Run s ∷ k)) (source.execute set.p g.h g.outer s [] k) (slot set g temps pc)
+  abbrev switch_parts : Around → Stmt → ℕ → List SlotOp
+  switch_parts r b at = switch_code at (body_code set.p f (in_switch at n r) n (at + 2) b) (body_targets set.p f (in_switch at n r) n (at + 2) b) (body_defaults set.p f (in_switch at n r) n (at + 2) b)
+
+  switch_same : (r : Around) (b : Stmt) (at : ℕ) → switch_parts r b at ≡ switch_of set.p f (code set g) r n at (statements_in b)
+  switch_same r (Block' x ds y row l c) at =
+      let u = in_switch at n r in
+      ap (λ b. switch_code at b (row_targets set.p f u n (at + 2) row) (row_defaults set.p f u n (at + 2) row)) (block_stmts set.p f u n (at + 2) row)
+      ∙ ap (λ l. switch_code at (stmts_code set.p f u n (at + 2) (stmts row)) l (row_defaults set.p f u n (at + 2) row)) (row_labels set.p f u n (at + 2) row)
+      ∙ ap (switch_code at (stmts_code set.p f u n (at + 2) (stmts row)) (targets_of set.p f u n (at + 2) (stmts row))) (row_others set.p f u n (at + 2) row)
+  switch_same r s at = refl
+
+  pub run_answers : (s : Stmt) (k : List Item) (temps : Temps) (pc : ℕ) → R (Run s ∷ k) temps pc → Answered set (now set g [] (Run s ∷ k)) (source.execute set.p g.h g.outer s [] k) (slot set g temps pc)
   run_answers (Expression x None) k temps pc d =
       let e : pc + 0 ≡ pc = omega arith in
       pure_step set g (Run (Expression x None) ∷ k) k [] [] temps pc 1 d (omega arith) d.loops (subst (λ i. F set g d.around i [] k) e d.follows.2)
@@ -246,7 +244,7 @@ module _ (set : Setting) (g : Ground set) where
       let r = d.around in
       let test = expr_code set.p f (pc + 1) 0 q.e in
       let start = pc + 1 + length test in
-      let same = switch_same b start in
+      let same = switch_same d.around b start in
       let has = subst (λ l. HasAt co pc (op.Stop q.point ∷ (test ++ l))) same d.follows.1 in
       let rest = subst (λ l. F set g r (pc + length (op.Stop q.point ∷ (test ++ l))) [] k) same d.follows.2 in
       let sw = switch_of set.p f co r n start (statements_in b) in
@@ -254,17 +252,6 @@ module _ (set : Setting) (g : Ground set) where
       let v = split set.p f co r n test sw (pc + 1) [] k u.1.0 u.1.1 in
       pure_step set g (Run (Switch' x q y b) ∷ k) (Stop q.point ∷ Eval q.e ∷ Select b n ∷ k) [] [] temps pc 1 d (omega arith) d.loops
       (u.0, (v.0, (refl, d.follows.0, v.1.0, v.1.1)))
-    where
-      abbrev old : Stmt → ℕ → List SlotOp
-      old b at = switch_code at (body_code set.p f (in_switch set.p f at n d.around) n (at + 2) b) (body_targets set.p f (in_switch set.p f at n d.around) n (at + 2) b) (body_defaults set.p f (in_switch set.p f at n d.around) n (at + 2) b)
-
-      switch_same : (b : Stmt) (at : ℕ) → old b at ≡ switch_of set.p f (code set g) d.around n at (statements_in b)
-      switch_same (Block' x ds y row l c) at =
-          let r = in_switch set.p f at n d.around in
-          ap (λ b. switch_code at b (row_targets set.p f r n (at + 2) row) (row_defaults set.p f r n (at + 2) row)) (block_stmts set.p f r n (at + 2) row)
-          ∙ ap (λ l. switch_code at (stmts_code set.p f r n (at + 2) (stmts row)) l (row_defaults set.p f r n (at + 2) row)) (row_labels set.p f r n (at + 2) row)
-          ∙ ap (switch_code at (stmts_code set.p f r n (at + 2) (stmts row)) (targets_of set.p f r n (at + 2) (stmts row))) (row_others set.p f r n (at + 2) row)
-      switch_same s at = refl
   run_answers (Case' x c y s) k temps pc d = pure_step set g (Run (Case' x c y s) ∷ k) (Run s ∷ k) [] [] temps pc 1 d (omega arith) d.loops d.follows
   run_answers (Default' x y s) k temps pc d = pure_step set g (Run (Default' x y s) ∷ k) (Run s ∷ k) [] [] temps pc 1 d (omega arith) d.loops d.follows
   run_answers (Break x) k temps pc d = break_answers x k temps pc d (broken k) refl

@@ -144,13 +144,16 @@ IsLoop (Do' s x b q) = Unit {0}
 IsLoop (For' s i q t x b) = Unit {0}
 IsLoop s = ⊥
 
+abbrev pub IsInside : Around → ℕ → Type 0
+IsInside r n = (r.leave_scope ≤ n) × (r.again_scope ≤ n)
+
 -- In the code of a function, the code at a place does what remains to be done, where the values computed are at these places, n locals are in scope, and `break` and `continue` go where they go.
 module _ (p : Program) (f : ℕ) (code : List SlotOp) where
   abbrev pub body_at : ℕ → Stmt → ℕ
   body_at start s = loop_body p f start (step_in s) (test_in s)
 
   abbrev pub loop_of : ℕ → ℕ → Stmt → List SlotOp
-  loop_of start n s = loop_code p f start (tests_first s) (step_in s) (test_in s) (stmt_code p f (in_loop p f start n) n (body_at start s) (body_in s))
+  loop_of start n s = loop_code p f start (tests_first s) (step_in s) (test_in s) (stmt_code p f (in_loop start n) n (body_at start s) (body_in s))
 
   abbrev pub choice_of : Around → ℕ → ℕ → Stmt → List Stmt → List SlotOp
   choice_of r n pc a b =
@@ -164,7 +167,7 @@ module _ (p : Program) (f : ℕ) (code : List SlotOp) where
 
   abbrev pub switch_of : Around → ℕ → ℕ → List Stmt → List SlotOp
   switch_of r n pc ss =
-      switch_code p f pc (stmts_code p f (in_switch p f pc n r) n (pc + 2) ss) (targets_of p f (in_switch p f pc n r) n (pc + 2) ss) (defaults_of p f (in_switch p f pc n r) n (pc + 2) ss)
+      switch_code pc (stmts_code p f (in_switch pc n r) n (pc + 2) ss) (targets_of p f (in_switch pc n r) n (pc + 2) ss) (defaults_of p f (in_switch pc n r) n (pc + 2) ss)
 
   -- statements at a place, and then a jump past the end of the `switch`
   abbrev pub RunsAt : Around → (n end place : ℕ) → List Stmt → Type 0
@@ -173,9 +176,6 @@ module _ (p : Program) (f : ℕ) (code : List SlotOp) where
   abbrev pub Seeks : Around → (n end pc : ℕ) → List Label → List Stmt → Type 0
   Seeks r n end pc [] default = (d : ℕ) × (slice_get code pc ≡ Some (op.Jump d)) × RunsAt r n end d default
   Seeks r n end pc (l ∷ ls) default = (d : ℕ) × (slice_get code pc ≡ Some (op.JumpIfEqual 0 l.constant d)) × RunsAt r n end d l.from × Seeks r n end (pc + 1) ls default
-
-  abbrev pub IsInside : Around → ℕ → Type 0
-  IsInside r n = (r.leave_scope ≤ n) × (r.again_scope ≤ n)
 
   abbrev pub Follows : Around → (n pc : ℕ) → List Where → List Item → Type 0
   Follows r n pc ws [] = ⊥
@@ -236,7 +236,7 @@ module _ (p : Program) (f : ℕ) (code : List SlotOp) where
   abbrev pub Loops : Around → List Item → Type 0
   Loops r [] = Unit {0}
   Loops r (Again s m ∷ k) =
-      (start : ℕ) × (outer : Around) × (r ≡ in_loop p f start m) × IsLoop s × HasAt code start (loop_of start m s) × Follows outer m (start + length (loop_of start m s)) [] k × Loops outer k
+      (start : ℕ) × (outer : Around) × (r ≡ in_loop start m) × IsLoop s × HasAt code start (loop_of start m s) × Follows outer m (start + length (loop_of start m s)) [] k × Loops outer k
   Loops r (Switched m ∷ k) =
       (end : ℕ) × (outer : Around) × (slice_get code r.leave ≡ Some (op.Jump end)) × (r.leave_scope ≡ m) × (r.again ≡ outer.again) × (r.again_scope ≡ outer.again_scope) × Follows outer m end [] k × Loops outer k
   Loops r (_ ∷ k) = Loops r k

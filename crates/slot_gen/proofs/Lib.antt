@@ -8,3 +8,4 @@ mod Rounds
 mod Calls
 mod Executions
 mod Step
+mod Whole

@@ -106,15 +106,15 @@ module _ (p : Program) (f : ℕ) (code : List SlotOp) where
     pub leaves : slice_get code (start + 1) ≡ Some (op.Jump (start + length (loop_of p f code start n s)))
     pub step : HasAt code (start + 2) (part_code p f (start + 2) (step_in s))
     pub test : HasAt code (loop_test p f start (step_in s)) (test_code p f (loop_test p f start (step_in s)) (test_in s) (start + length (loop_of p f code start n s)))
-    pub body : HasAt code (body_at p f code start s) (stmt_code p f (in_loop p f start n) n (body_at p f code start s) (body_in s))
-    pub turns : slice_get code (body_at p f code start s + length (stmt_code p f (in_loop p f start n) n (body_at p f code start s) (body_in s))) ≡ Some (op.Jump (start + 2))
+    pub body : HasAt code (body_at p f code start s) (stmt_code p f (in_loop start n) n (body_at p f code start s) (body_in s))
+    pub turns : slice_get code (body_at p f code start s + length (stmt_code p f (in_loop start n) n (body_at p f code start s) (body_in s))) ≡ Some (op.Jump (start + 2))
 
   pub parts : (start n : ℕ) (s : Stmt) → HasAt code start (loop_of p f code start n s) → Parts start n s
   parts start n s has =
       let S = part_code p f (start + 2) (step_in s) in
       let t = loop_test p f start (step_in s) in
       let b = body_at p f code start s in
-      let B = stmt_code p f (in_loop p f start n) n b (body_in s) in
+      let B = stmt_code p f (in_loop start n) n b (body_in s) in
       let end = b + length B + 1 in
       let T = test_code p f t (test_in s) end in
       let back = op.Jump (start + 2) ∷ [] in
@@ -139,7 +139,7 @@ module _ (p : Program) (f : ℕ) (code : List SlotOp) where
     body_stands =
         let q = parts start n s has in
         record {
-          around = in_loop p f start n;
+          around = in_loop start n;
           loops = (start, outer, refl, loop, has, after, loops);
           follows = ((omega arith, omega arith), q.body, (refl, q.turns));
         }

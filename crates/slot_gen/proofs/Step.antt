@@ -194,7 +194,7 @@ module _ (set : Setting) (g : Ground set) where
       let co = code set g in
       let ss = statements_in b in
       let r = d.around in
-      let u = in_switch set.p f pc n r in
+      let u = in_switch pc n r in
       let body = stmts_code set.p f u n (pc + 2) ss in
       let labels = targets_of set.p f u n (pc + 2) ss in
       let defaults = defaults_of set.p f u n (pc + 2) ss in

@@ -78,7 +78,7 @@ pub struct_output : (w : World) (ls : List Cell) (place : Value) (vs : List Valu
 struct_output w ls place vs w' e = subst (KeepsOutput w) e (struct_keeps w ls place vs)
 
 module _ (set : Setting) (g : Ground set) where
-  push_answers : (v : Value) (k : List Item) (ws : List Where) (vs : List Value) (temps : Temps) (pc : ℕ) → D set g ws vs (Push v ∷ k) temps pc
+  pub push_answers : (v : Value) (k : List Item) (ws : List Where) (vs : List Value) (temps : Temps) (pc : ℕ) → D set g ws vs (Push v ∷ k) temps pc
       → Answered set (now set g vs (Push v ∷ k)) (GoesOn 1 (now set g (v ∷ vs) k)) (slot set g temps pc)
   push_answers (Number n) k ws vs temps pc d =
       set_step set g (Push (Number n) ∷ k) k ws ws vs vs temps pc 1 (Number n) (op.Const (length ws) n) d (omega arith) d.follows.0 refl d.holds d.loops d.follows.2
@@ -86,7 +86,7 @@ module _ (set : Setting) (g : Ground set) where
       set_step set g (Push Null ∷ k) k ws ws vs vs temps pc 1 Null (op.Null (length ws)) d (omega arith) d.follows.0 refl d.holds d.loops d.follows.2
   push_answers (At o i) k ws vs temps pc d = absurd d.follows.1
 
-  bound_answers : (x : ℕ) (k : List Item) (ws : List Where) (vs : List Value) (temps : Temps) (pc : ℕ) (q : Option ℕ) → bound x g.h.place.locals ≡ q → D set g ws vs (Bound x ∷ k) temps pc
+  pub bound_answers : (x : ℕ) (k : List Item) (ws : List Where) (vs : List Value) (temps : Temps) (pc : ℕ) (q : Option ℕ) → bound x g.h.place.locals ≡ q → D set g ws vs (Bound x ∷ k) temps pc
       → Answered set (now set g vs (Bound x ∷ k)) (source.on_some q (λ o. GoesOn 1 (now set g (At o 0 ∷ vs) k))) (slot set g temps pc)
   bound_answers x k ws vs temps pc None e d = tt
   bound_answers x k ws vs temps pc (Some o) e d =
@@ -100,7 +100,7 @@ module _ (set : Setting) (g : Ground set) where
       → slots.gives set.c st i (slots.read st.here.world (kind_of t) (access_of t) place) ≡ slots.sets set.c st i (converted t z)
   read_gives t place z i st e = ap (λ q. slots.gives set.c st i (q >>= λ v. Ok (extended (access_of t) v))) e ∙ ap (slots.sets set.c st i) (sym (converted_same t z))
 
-  load_answers : (b : Bool) (t : CType) (k : List Item) (ws : List Where) (a : Value) (vs : List Value) (temps : Temps) (pc : ℕ) → (d : D set g (InTemp ∷ ws) (a ∷ vs) (Load t ∷ k) temps pc)
+  pub load_answers : (b : Bool) (t : CType) (k : List Item) (ws : List Where) (a : Value) (vs : List Value) (temps : Temps) (pc : ℕ) → (d : D set g (InTemp ∷ ws) (a ∷ vs) (Load t ∷ k) temps pc)
       → HasAt (code set g) pc (if b then [] else op.Load (length ws) (length ws) (kind_of t) (access_of t) ∷ [])
       → F set g d.around (pc + length (if b then [] else op.Load (length ws) (length ws) (kind_of t) (access_of t) ∷ [])) (InTemp ∷ ws) k
       → Answered set (now set g (a ∷ vs) (Load t ∷ k)) (if b then GoesOn 1 (now set g (a ∷ vs) k) else source.on_ok (load g.h.world (kind_of t) a) (λ x. GoesOn 2 (now set g (converted t x ∷ vs) k))) (slot set g temps pc)
@@ -113,7 +113,7 @@ module _ (set : Setting) (g : Ground set) where
       (λ z e. ap (λ o. slots.on_temp o (λ q. slots.gives set.c st (length ws) (slots.read g.h.world (kind_of t) (access_of t) q))) d.holds.0 ∙ read_gives t a z (length ws) st e)
       d.holds.1 d.loops f
 
-  read_answers : (t : CType) (x : ℕ) (k : List Item) (ws : List Where) (a : Value) (vs : List Value) (temps : Temps) (pc : ℕ) → D set g (InReg x ∷ ws) (a ∷ vs) (Load t ∷ k) temps pc
+  pub read_answers : (t : CType) (x : ℕ) (k : List Item) (ws : List Where) (a : Value) (vs : List Value) (temps : Temps) (pc : ℕ) → D set g (InReg x ∷ ws) (a ∷ vs) (Load t ∷ k) temps pc
       → Answered set (now set g (a ∷ vs) (Load t ∷ k)) (if is_array t then GoesOn 1 (now set g (a ∷ vs) k) else source.on_ok (load g.h.world (kind_of t) a) (λ x. GoesOn 2 (now set g (converted t x ∷ vs) k))) (slot set g temps pc)
   read_answers t x k ws a vs temps pc d =
       let st = slot set g temps pc in
@@ -138,7 +138,7 @@ module _ (set : Setting) (g : Ground set) where
       set_step set g (Convert t ∷ k) k (InTemp ∷ ws) ws (v ∷ vs) vs temps pc 1 (extended access.UnsignedHalf v) (op.Convert (length ws) access.UnsignedHalf) d (omega arith) has.0 (ap (λ o. slots.on_temp o (λ v. slots.sets set.c (slot set g temps pc) (length ws) (extended access.UnsignedHalf v))) d.holds.0) d.holds.1 d.loops f
   cast_answers access.Pointer t k ws v vs temps pc d has f =
       set_step set g (Convert t ∷ k) k (InTemp ∷ ws) ws (v ∷ vs) vs temps pc 1 (extended access.Pointer v) (op.Convert (length ws) access.Pointer) d (omega arith) has.0 (ap (λ o. slots.on_temp o (λ v. slots.sets set.c (slot set g temps pc) (length ws) (extended access.Pointer v))) d.holds.0) d.holds.1 d.loops f
-  convert_answers : (t : CType) (k : List Item) (ws : List Where) (v : Value) (vs : List Value) (temps : Temps) (pc : ℕ) → D set g (InTemp ∷ ws) (v ∷ vs) (Convert t ∷ k) temps pc
+  pub convert_answers : (t : CType) (k : List Item) (ws : List Where) (v : Value) (vs : List Value) (temps : Temps) (pc : ℕ) → D set g (InTemp ∷ ws) (v ∷ vs) (Convert t ∷ k) temps pc
       → Answered set (now set g (v ∷ vs) (Convert t ∷ k)) (GoesOn 1 (now set g (converted t v ∷ vs) k)) (slot set g temps pc)
   convert_answers t k ws v vs temps pc d =
       subst (λ x. Answered set (now set g (v ∷ vs) (Convert t ∷ k)) (GoesOn 1 (now set g (x ∷ vs) k)) (slot set g temps pc)) (sym (converted_same t v))
@@ -192,14 +192,14 @@ module _ (set : Setting) (g : Ground set) where
         outer = g.out;
       })
   -- MORE
-  store_answers : (t : CType) (k : List Item) (ws : List Where) (v place : Value) (vs : List Value) (temps : Temps) (pc : ℕ) → D set g (InTemp ∷ InTemp ∷ ws) (v ∷ place ∷ vs) (Store t ∷ k) temps pc
+  pub store_answers : (t : CType) (k : List Item) (ws : List Where) (v place : Value) (vs : List Value) (temps : Temps) (pc : ℕ) → D set g (InTemp ∷ InTemp ∷ ws) (v ∷ place ∷ vs) (Store t ∷ k) temps pc
       → Answered set (now set g (v ∷ place ∷ vs) (Store t ∷ k)) (source.write set.p g.h g.outer t place (converted t v) (converted t v) vs k) (slot set g temps pc)
   store_answers t k ws v place vs temps pc d =
       store_by t (Store t ∷ k) k ws (InTemp ∷ InTemp ∷ ws) v place vs (v ∷ place ∷ vs) temps pc (op.Store (length ws) (suc (length ws)) (kind_of t)) (store g.h.world (kind_of t) place (converted t v)) refl d d.holds.0 d.holds.1.1 d.loops
       (λ after pc' below. ap (λ q. slots.on_temp q (λ x. slots.writes set.c (slot set g after pc') (kind_of t) x (suc (length ws)))) (below (length ws) (omega arith) ∙ d.holds.1.0))
       d.follows.0 d.follows.1
 
-  write_answers : (t : CType) (x : ℕ) (k : List Item) (ws : List Where) (v place : Value) (vs : List Value) (temps : Temps) (pc : ℕ) → D set g (InTemp ∷ InReg x ∷ ws) (v ∷ place ∷ vs) (Store t ∷ k) temps pc
+  pub write_answers : (t : CType) (x : ℕ) (k : List Item) (ws : List Where) (v place : Value) (vs : List Value) (temps : Temps) (pc : ℕ) → D set g (InTemp ∷ InReg x ∷ ws) (v ∷ place ∷ vs) (Store t ∷ k) temps pc
       → Answered set (now set g (v ∷ place ∷ vs) (Store t ∷ k)) (source.write set.p g.h g.outer t place (converted t v) (converted t v) vs k) (slot set g temps pc)
   write_answers t x k ws v place vs temps pc d =
       store_by t (Store t ∷ k) k ws (InTemp ∷ InReg x ∷ ws) v place vs (v ∷ place ∷ vs) temps pc (op.WriteRegister (suc (length ws)) x (kind_of t)) (store g.h.world (kind_of t) place (converted t v)) refl d d.holds.0 d.holds.1.1 d.loops
@@ -299,7 +299,7 @@ module _ (set : Setting) (g : Ground set) where
             by_write (Err e) ew = tt
             by_write (Ok w) ew = update_done old x w ea ty hs l la wa has f eq ew
 
-  update_answers : (t : CType) (bo : BinaryOp) (s : CType) (new : Bool) (k : List Item) (ws : List Where) (y place : Value) (vs : List Value) (temps : Temps) (pc : ℕ) → D set g (InTemp ∷ InTemp ∷ ws) (y ∷ place ∷ vs) (Update t bo s new ∷ k) temps pc
+  pub update_answers : (t : CType) (bo : BinaryOp) (s : CType) (new : Bool) (k : List Item) (ws : List Where) (y place : Value) (vs : List Value) (temps : Temps) (pc : ℕ) → D set g (InTemp ∷ InTemp ∷ ws) (y ∷ place ∷ vs) (Update t bo s new ∷ k) temps pc
       → Answered set (now set g (y ∷ place ∷ vs) (Update t bo s new ∷ k)) (source.update set.p g.h g.outer t bo s new place y vs k) (slot set g temps pc)
   update_answers t bo s new k ws y place vs temps pc d =
       update_by t bo s new (Update t bo s new ∷ k) k ws (InTemp ∷ InTemp ∷ ws) y place vs (y ∷ place ∷ vs) temps pc (op.Load (suc (suc (length ws))) (length ws) (kind_of t) (access_of t)) (op.Store (length ws) (suc (length ws)) (kind_of t)) d
@@ -308,7 +308,7 @@ module _ (set : Setting) (g : Ground set) where
       (λ after pc' below. ap (λ q. slots.on_temp q (λ x. slots.writes set.c (slot set g after pc') (kind_of t) x (suc (length ws)))) (below (length ws) (omega arith) ∙ d.holds.1.0))
       d.follows.0 d.follows.1
 
-  change_answers : (t : CType) (bo : BinaryOp) (s : CType) (new : Bool) (x : ℕ) (k : List Item) (ws : List Where) (y place : Value) (vs : List Value) (temps : Temps) (pc : ℕ) → D set g (InTemp ∷ InReg x ∷ ws) (y ∷ place ∷ vs) (Update t bo s new ∷ k) temps pc
+  pub change_answers : (t : CType) (bo : BinaryOp) (s : CType) (new : Bool) (x : ℕ) (k : List Item) (ws : List Where) (y place : Value) (vs : List Value) (temps : Temps) (pc : ℕ) → D set g (InTemp ∷ InReg x ∷ ws) (y ∷ place ∷ vs) (Update t bo s new ∷ k) temps pc
       → Answered set (now set g (y ∷ place ∷ vs) (Update t bo s new ∷ k)) (source.update set.p g.h g.outer t bo s new place y vs k) (slot set g temps pc)
   change_answers t bo s new x k ws y place vs temps pc d =
       update_by t bo s new (Update t bo s new ∷ k) k ws (InTemp ∷ InReg x ∷ ws) y place vs (y ∷ place ∷ vs) temps pc (op.ReadRegister (suc (suc (length ws))) x (kind_of t) (access_of t)) (op.WriteRegister (suc (length ws)) x (kind_of t)) d
@@ -319,21 +319,21 @@ module _ (set : Setting) (g : Ground set) where
 
   -- ---- one value for one or two
 
-  combine_answers : (o : BinaryOp) (s t : CType) (k : List Item) (ws : List Where) (y x : Value) (vs : List Value) (temps : Temps) (pc : ℕ) → D set g (InTemp ∷ InTemp ∷ ws) (y ∷ x ∷ vs) (Combine o s t ∷ k) temps pc
+  pub combine_answers : (o : BinaryOp) (s t : CType) (k : List Item) (ws : List Where) (y x : Value) (vs : List Value) (temps : Temps) (pc : ℕ) → D set g (InTemp ∷ InTemp ∷ ws) (y ∷ x ∷ vs) (Combine o s t ∷ k) temps pc
       → Answered set (now set g (y ∷ x ∷ vs) (Combine o s t ∷ k)) (source.on_ok (combined set.p.defs g.h.world o s t x y) (λ z. GoesOn 1 (now set g (z ∷ vs) k))) (slot set g temps pc)
   combine_answers o s t k ws y x vs temps pc d =
       give_step set g (Combine o s t ∷ k) k (InTemp ∷ InTemp ∷ ws) ws (y ∷ x ∷ vs) vs temps pc 1 (combined set.p.defs g.h.world o s t x y) (λ z. z) (combine_op set.p (length ws) (length ws) (suc (length ws)) o s t) d (omega arith) d.follows.0
       (λ z e. combined_gives set.c (slot set g temps pc) set.p (length ws) (length ws) (suc (length ws)) x y d.holds.1.0 d.holds.0 o s t z e)
       d.holds.1.1 d.loops d.follows.1
 
-  change_by : (o : UnaryOp) (t : CType) (k : List Item) (ws : List Where) (x : Value) (vs : List Value) (temps : Temps) (pc : ℕ) → D set g (InTemp ∷ ws) (x ∷ vs) (Change o t ∷ k) temps pc
+  pub change_by : (o : UnaryOp) (t : CType) (k : List Item) (ws : List Where) (x : Value) (vs : List Value) (temps : Temps) (pc : ℕ) → D set g (InTemp ∷ ws) (x ∷ vs) (Change o t ∷ k) temps pc
       → Answered set (now set g (x ∷ vs) (Change o t ∷ k)) (source.on_ok (changed g.h.world o t x) (λ z. GoesOn 1 (now set g (z ∷ vs) k))) (slot set g temps pc)
   change_by o t k ws x vs temps pc d =
       give_step set g (Change o t ∷ k) k (InTemp ∷ ws) ws (x ∷ vs) vs temps pc 1 (changed g.h.world o t x) (λ z. z) (op.Unary (length ws) (unary_op o t)) d (omega arith) d.follows.0
       (λ z e. changed_gives set.c (slot set g temps pc) (length ws) o t x d.holds.0 z e)
       d.holds.1 d.loops d.follows.1
 
-  offset_answers : (m : ℕ) (k : List Item) (ws : List Where) (x : Value) (vs : List Value) (temps : Temps) (pc : ℕ) → D set g (InTemp ∷ ws) (x ∷ vs) (Offset m ∷ k) temps pc
+  pub offset_answers : (m : ℕ) (k : List Item) (ws : List Where) (x : Value) (vs : List Value) (temps : Temps) (pc : ℕ) → D set g (InTemp ∷ ws) (x ∷ vs) (Offset m ∷ k) temps pc
       → Answered set (now set g (x ∷ vs) (Offset m ∷ k)) (source.on_ok (moved g.h.world x (pos m)) (λ z. GoesOn 1 (now set g (z ∷ vs) k))) (slot set g temps pc)
   offset_answers m k ws x vs temps pc d =
       let st = slot set g temps pc in
@@ -341,12 +341,12 @@ module _ (set : Setting) (g : Ground set) where
       (λ z e. ap (λ q. slots.on_temp q (λ v. slots.gives set.c st (length ws) (moved g.h.world v (pos m)))) d.holds.0 ∙ ap (slots.gives set.c st (length ws)) e)
       d.holds.1 d.loops d.follows.1
 
-  use_answers : (b : Bool) (k : List Item) (ws : List Where) (x : Value) (vs : List Value) (temps : Temps) (pc : ℕ) → D set g (InTemp ∷ ws) (x ∷ vs) (Use ∷ k) temps pc
+  pub use_answers : (b : Bool) (k : List Item) (ws : List Where) (x : Value) (vs : List Value) (temps : Temps) (pc : ℕ) → D set g (InTemp ∷ ws) (x ∷ vs) (Use ∷ k) temps pc
       → Answered set (now set g (x ∷ vs) (Use ∷ k)) (source.on_ok (if b then Err Stale else Ok x) (λ z. GoesOn 1 (now set g (z ∷ vs) k))) (slot set g temps pc)
   use_answers true k ws x vs temps pc d = tt
   use_answers false k ws x vs temps pc d = pure_step set g (Use ∷ k) k (InTemp ∷ ws) (x ∷ vs) temps pc 1 d (omega arith) d.loops d.follows
 
-  discard_answers : (k : List Item) (ws : List Where) (x : Value) (vs : List Value) (temps : Temps) (pc : ℕ) → D set g (InTemp ∷ ws) (x ∷ vs) (Discard ∷ k) temps pc
+  pub discard_answers : (k : List Item) (ws : List Where) (x : Value) (vs : List Value) (temps : Temps) (pc : ℕ) → D set g (InTemp ∷ ws) (x ∷ vs) (Discard ∷ k) temps pc
       → Answered set (now set g (x ∷ vs) (Discard ∷ k)) (GoesOn 1 (now set g vs k)) (slot set g temps pc)
   discard_answers k ws x vs temps pc d =
       let m = d.follows.0 in
@@ -393,7 +393,7 @@ module _ (set : Setting) (g : Ground set) where
       ∙ ap (λ b. slots.gives set.c st i ((if b then Err Stale else Ok x) >>= λ v. Ok (Number (if not (slot_operators.is_zero v) then 1 else 0)))) s
       ∙ ap (λ b. slots.sets set.c st i (Number (if not b then 1 else 0))) e
 
-  truth_answers : (k : List Item) (ws : List Where) (x : Value) (vs : List Value) (temps : Temps) (pc : ℕ) → D set g (InTemp ∷ ws) (x ∷ vs) (Truth ∷ k) temps pc
+  pub truth_answers : (k : List Item) (ws : List Where) (x : Value) (vs : List Value) (temps : Temps) (pc : ℕ) → D set g (InTemp ∷ ws) (x ∷ vs) (Truth ∷ k) temps pc
       → Answered set (now set g (x ∷ vs) (Truth ∷ k)) (source.on_test set.p g.h g.outer x (GoesOn 1 (now set g (Number 1 ∷ vs) k)) (GoesOn 1 (now set g (Number 0 ∷ vs) k))) (slot set g temps pc)
   truth_answers k ws x vs temps pc d =
       let i = length ws in
@@ -404,7 +404,7 @@ module _ (set : Setting) (g : Ground set) where
 
   -- ---- a struct is copied
 
-  copy_answers : (s : ℕ) (k : List Item) (ws : List Where) (from to : Value) (vs : List Value) (temps : Temps) (pc : ℕ) → (d : D set g (InTemp ∷ InTemp ∷ ws) (from ∷ to ∷ vs) (Copy (Struct s) ∷ k) temps pc)
+  pub copy_answers : (s : ℕ) (k : List Item) (ws : List Where) (from to : Value) (vs : List Value) (temps : Temps) (pc : ℕ) → (d : D set g (InTemp ∷ InTemp ∷ ws) (from ∷ to ∷ vs) (Copy (Struct s) ∷ k) temps pc)
       → HasAt (code set g) pc (op.Move (length ws) (suc (length ws)) s ∷ op.Const (length ws) 0 ∷ []) → F set g d.around (pc + 1 + 1) (InTemp ∷ ws) k
       → (a : Result (List Value) Why) → load_struct g.h.world (cells_of set.p.defs (Struct s)) from ≡ a
       → Answered set (now set g (from ∷ to ∷ vs) (Copy (Struct s) ∷ k)) (source.on_ok a (λ xs. source.on_ok (store_struct g.h.world (cells_of set.p.defs (Struct s)) to xs) (λ w. GoesOn (1 + 2 * length xs) (record { here = with_world g.h w; values = Number 0 ∷ vs; control = k; outer = g.outer })))) (slot set g temps pc)

@@ -64,6 +64,20 @@ abbrev pub zeros_code : List DeclaredLocal → List SlotOp
 zeros_code [] = []
 zeros_code (d ∷ ds) = Zero d.local ∷ zeros_code ds
 
+-- inside a loop or a `switch` with so many locals in scope
+abbrev pub in_loop : (at scope : ℕ) → Around
+in_loop at scope = record { leave = at + 1; leave_scope = scope; again = at + 2; again_scope = scope }
+
+abbrev pub in_switch : (at scope : ℕ) → Around → Around
+in_switch at scope r = record r { leave = at + 1; leave_scope = scope }
+
+-- A `switch`: a jump to its labels, a jump past its end for each `break`, its body, a jump past its end, and its labels compared one by one.
+abbrev pub switch_code : (at : ℕ) → List SlotOp → List Target → List ℕ → List SlotOp
+switch_code at body labels default =
+    let over = at + 2 + length body in
+    let end = over + 1 + length labels + 1 in
+    Jump (over + 1) ∷ Jump end ∷ (body ++ Jump end ∷ (seek_code labels ++ Jump (first_target over default) ∷ []))
+
 -- ---- statements of function number f
 
 module _ (p : Program) (f : ℕ) where
@@ -96,26 +110,12 @@ module _ (p : Program) (f : ℕ) where
   abbrev pub loop_body : (at : ℕ) → Option Pointed → Option Pointed → ℕ
   loop_body at t q = loop_test at t + length (test_code (loop_test at t) q 0)
 
-  -- inside a loop or a `switch` with so many locals in scope
-  abbrev pub in_loop : (at scope : ℕ) → Around
-  in_loop at scope = record { leave = at + 1; leave_scope = scope; again = at + 2; again_scope = scope }
-
-  abbrev pub in_switch : (at scope : ℕ) → Around → Around
-  in_switch at scope r = record r { leave = at + 1; leave_scope = scope }
-
   -- A loop: a jump to its start, a jump past its end for each `break`, its third part, its test, its body, and a jump to the third part.
   abbrev pub loop_code : (at : ℕ) (first : Bool) → Option Pointed → Option Pointed → List SlotOp → List SlotOp
   loop_code at first t q body =
       let end = loop_body at t q + length body + 1 in
       Jump (if first then loop_test at t else loop_body at t q) ∷ Jump end
       ∷ (part_code (at + 2) t ++ (test_code (loop_test at t) q end ++ (body ++ Jump (at + 2) ∷ [])))
-
-  -- A `switch`: a jump to its labels, a jump past its end for each `break`, its body, a jump past its end, and its labels compared one by one.
-  abbrev pub switch_code : (at : ℕ) → List SlotOp → List Target → List ℕ → List SlotOp
-  switch_code at body labels default =
-      let over = at + 2 + length body in
-      let end = over + 1 + length labels + 1 in
-      Jump (over + 1) ∷ Jump end ∷ (body ++ Jump end ∷ (seek_code labels ++ Jump (first_target over default) ∷ []))
 
   -- a statement's code at this place, with so many locals in scope
   abbrev mutual
