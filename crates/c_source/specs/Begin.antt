@@ -51,11 +51,11 @@ world_at_first p input = record { objects = static_objects p 0 p.objects ++ stri
 abbrev is_main : Function → Bool
 is_main f = not f.is_static && bytes_eq f.name (codes "main")
 
-abbrev main_from : ℕ → List Function → ℕ
+abbrev pub main_from : ℕ → List Function → ℕ
 main_from n [] = n
 main_from n (f ∷ fs) = if is_main f then n else main_from (suc n) fs
 
-abbrev control_in : Program → ℕ → Option Function → List Item
+abbrev pub control_in : Program → ℕ → Option Function → List Item
 control_in p n None = []
 control_in p n (Some f) = body_of p n f
 

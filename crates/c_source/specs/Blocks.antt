@@ -23,7 +23,7 @@ converted (Pointer' _ t) (Number n) = Null
 converted _ v = v
 
 -- the leaves of a type, with zeros
-abbrev zero_cell : Leaf → Cell
+abbrev pub zero_cell : Leaf → Cell
 zero_cell l = record { at = l.at; kind = l.kind; value = zero_of l.kind }
 
 abbrev pub cells_of : List StructDef → CType → List Cell
@@ -75,12 +75,12 @@ abbrev pub leaf_count : Program → ℕ → List DeclaredLocal → ℕ
 leaf_count p f [] = 0
 leaf_count p f (d ∷ ds) = length (leaves_of p.defs (local_type p f d.local)) + leaf_count p f ds
 
-abbrev with_value : Value → List Cell → List Cell
+abbrev pub with_value : Value → List Cell → List Cell
 with_value v [] = []
 with_value v (c ∷ cs) = record c { value = v } ∷ cs
 
 -- a parameter of function f, with its argument
-abbrev given_one : Program → (f local : ℕ) → Value → Here → Here
+abbrev pub given_one : Program → (f local : ℕ) → Value → Here → Here
 given_one p f x v h =
     let t = local_type p f x in
     made x (size_of p.defs t) (with_value (converted t v) (cells_of p.defs t)) h

@@ -71,7 +71,7 @@ evals_of [] = []
 evals_of (e ∷ rest) = Eval e ∷ evals_of rest
 
 -- the initializers of a block, which are assignments at their declarators
-abbrev init_of : Program → ℕ → ℕ → Option Pointed → List Item
+abbrev pub init_of : Program → ℕ → ℕ → Option Pointed → List Item
 init_of p f x None = []
 init_of p f x (Some q) = Stop q.point ∷ Bound x ∷ Eval q.e ∷ Store (local_type p f x) ∷ Discard ∷ []
 
@@ -86,7 +86,7 @@ part_of (Some q) = Stop q.point ∷ Eval q.e ∷ Discard ∷ []
 
 -- ---- loops
 
-abbrev test_of : Option Pointed → Stmt → Stmt → ℕ → List Item
+abbrev pub test_of : Option Pointed → Stmt → Stmt → ℕ → List Item
 test_of None body s n = Run body ∷ Again s n ∷ []
 test_of (Some q) body s n = Stop q.point ∷ Eval q.e ∷ Turn s n ∷ []
 
@@ -129,12 +129,12 @@ continued (_ ∷ k) = continued k
 
 -- ---- labels, which stand directly before a statement of the block
 
-abbrev labels_of : Stmt → List Stmt → List Label
+abbrev pub labels_of : Stmt → List Stmt → List Label
 labels_of (Case' at c _ s) from = record { constant = c; from = from } ∷ labels_of s from
 labels_of (Default' at _ s) from = labels_of s from
 labels_of s from = []
 
-abbrev is_default : Stmt → Bool
+abbrev pub is_default : Stmt → Bool
 is_default (Case' at c _ s) = is_default s
 is_default (Default' at _ s) = true
 is_default s = false

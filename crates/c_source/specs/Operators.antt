@@ -76,7 +76,7 @@ operating_type ShiftLeft s t = promoted s
 operating_type ShiftRight s t = promoted s
 operating_type op s t = common s t
 
-abbrev on_integers : BinaryOp → CType → CType → Value → Value → Result Value Why
+abbrev pub on_integers : BinaryOp → CType → CType → Value → Value → Result Value Why
 on_integers op s t x y = do
   m ← bits_in x
   n ← bits_in y
@@ -106,19 +106,19 @@ are_equal w x y = do
 abbrev by_items : World → Value → ℕ → ℤ → Result Value Why
 by_items w x size n = moved w x (pos size *ℤ n)
 
-abbrev at_offsets : Value → Value → (ℕ → ℕ → Result Value Why) → Result Value Why
+abbrev pub at_offsets : Value → Value → (ℕ → ℕ → Result Value Why) → Result Value Why
 at_offsets (At o i) (At o' j) f = if o == o' then f i j else Err (Reason Pointer)
 at_offsets _ _ f = Err (Reason Pointer)
 
 -- the offsets of two pointers into one object
-abbrev in_one : World → Value → Value → (ℕ → ℕ → Result Value Why) → Result Value Why
+abbrev pub in_one : World → Value → Value → (ℕ → ℕ → Result Value Why) → Result Value Why
 in_one w x y f = do
   u ← used w x
   v ← used w y
   at_offsets u v f
 
 -- a pointer and an integer
-abbrev pointer_integer : World → BinaryOp → ℕ → CType → Value → Value → Result Value Why
+abbrev pub pointer_integer : World → BinaryOp → ℕ → CType → Value → Value → Result Value Why
 pointer_integer w Add size t x y = bits_in y >>= λ n. by_items w x size (number_of t n)
 pointer_integer w Subtract size t x y = bits_in y >>= λ n. by_items w x size (neg_ℤ (number_of t n))
 pointer_integer w Equal size t x y = are_equal w x y >>= λ b. Ok (Number (truth b))
@@ -126,7 +126,7 @@ pointer_integer w Unequal size t x y = are_equal w x y >>= λ b. Ok (Number (tru
 pointer_integer w op size t x y = Err IllTyped
 
 -- two pointers
-abbrev two_pointers : World → BinaryOp → ℕ → Value → Value → Result Value Why
+abbrev pub two_pointers : World → BinaryOp → ℕ → Value → Value → Result Value Why
 two_pointers w Equal size x y = are_equal w x y >>= λ b. Ok (Number (truth b))
 two_pointers w Unequal size x y = are_equal w x y >>= λ b. Ok (Number (truth (not b)))
 two_pointers w Less size x y = in_one w x y (λ i j. Ok (Number (truth (nat_lt i j))))
@@ -137,7 +137,7 @@ two_pointers w Subtract size x y = in_one w x y (λ i j. Ok (Number (word_of_sig
 two_pointers w op size x y = Err IllTyped
 
 module _ (defs : List StructDef) (w : World) where
-  abbrev by_targets : BinaryOp → CType → CType → Option CType → Option CType → Value → Value → Result Value Why
+  abbrev pub by_targets : BinaryOp → CType → CType → Option CType → Option CType → Value → Value → Result Value Why
   by_targets op s t None None x y = on_integers op s t x y
   by_targets op s t (Some a) None x y = pointer_integer w op (size_of defs a) t x y
   by_targets op s t None (Some b) x y = pointer_integer w op (size_of defs b) s y x

@@ -54,7 +54,7 @@ abbrev offset_in : Option Member → ℕ
 offset_in None = 0
 offset_in (Some m) = m.at
 
-abbrev struct_number : CType → ℕ
+abbrev pub struct_number : CType → ℕ
 struct_number (Struct s) = s
 struct_number _ = 0
 
@@ -62,7 +62,7 @@ abbrev target_number : Option CType → ℕ
 target_number None = 0
 target_number (Some t) = struct_number t
 
-abbrev stepping : StepOp → BinaryOp
+abbrev pub stepping : StepOp → BinaryOp
 stepping Up = Add
 stepping Down = Subtract
 
@@ -73,7 +73,7 @@ dot_offset p a m = offset_in (slice_get (members_of p.defs (struct_number (type_
 abbrev pub arrow_offset : Program → Typed → (member : ℕ) → ℕ
 arrow_offset p a m = offset_in (slice_get (members_of p.defs (target_number (target_of (type_of a)))) m)
 
-abbrev place_of : Referent → Here → Option Value
+abbrev pub place_of : Referent → Here → Option Value
 place_of (Object o) h = Some (At o 0)
 place_of (Local x) h = option_map (λ o. At o 0) (bound x h.place.locals)
 place_of (Defined f) h = None
@@ -84,12 +84,12 @@ abbrev pub place_in : Option SymbolRow → Here → Option Value
 place_in None h = None
 place_in (Some s) h = place_of s.refers h
 
-abbrev else_of : Held-Stmt-If-3 → List Stmt
+abbrev pub else_of : Held-Stmt-If-3 → List Stmt
 else_of None' = []
 else_of (Some' _ s) = s ∷ []
 
 -- the next input byte, or -1 at the end
-abbrev next_byte : List ℕ → ℕ
+abbrev pub next_byte : List ℕ → ℕ
 next_byte [] = minus_one
 next_byte (b ∷ bs) = b
 
@@ -166,23 +166,30 @@ module _ (p : Program) (h : Here) (outer : List Activation) where
 
   -- ---- calls
 
-  abbrev pub built_in : List ℕ → List Value → List Item → Next State
-  built_in name vs k =
+  -- a built-in takes as many arguments as it has parameters (C90 6.3.2.2)
+  abbrev pub built_in : List ℕ → (arguments : List Value) → List Value → List Item → Next State
+  built_in name [] vs k =
       if bytes_eq name (codes "getchar") then go 1 (with_world h (record h.world { input = drop 1 h.world.input })) (Number (next_byte h.world.input) ∷ vs) k
-      else on_one vs (λ v rest. on_ok (bits_in v) (λ n.
-      if bytes_eq name (codes "putchar") then go 1 (with_world h (record h.world { output = h.world.output ++ (n % 256) ∷ [] })) (Number (n % 256) ∷ rest) k
-      else Exits (signed n) 1 (record { here = h; values = []; control = []; outer = outer })))
+      else Undefined IllTyped
+  built_in name (v ∷ []) vs k =
+      on_ok (bits_in v) (λ n.
+      if bytes_eq name (codes "getchar") then Undefined IllTyped
+      else if bytes_eq name (codes "putchar") then go 1 (with_world h (record h.world { output = h.world.output ++ (n % 256) ∷ [] })) (Number (n % 256) ∷ vs) k
+      else Exits (signed n) 1 (record { here = h; values = []; control = []; outer = outer }))
+  built_in name (v ∷ u ∷ us) vs k = Undefined IllTyped
 
+  -- so does a function of the program
   abbrev pub call : Referent → List ℕ → ℕ → List Value → List Item → Next State
   call (Defined f) name n vs k =
       on_some (slice_get p.functions f) (λ fn.
-      Goes (1 + n) (record {
+      if fn.params == n then Goes (1 + n) (record {
         here = entered p (suc h.place.number) f (reverse (take n vs)) h.world;
         values = [];
         control = body_of p f fn;
         outer = record { place = h.place; values = drop n vs; control = k } ∷ outer;
-      }))
-  call Declared name n vs k = built_in name vs k
+      })
+      else Undefined IllTyped)
+  call Declared name n vs k = built_in name (take n vs) (drop n vs) k
   call _ name n vs k = Undefined IllTyped
 
   -- the innermost activation ends with a value

@@ -101,7 +101,7 @@ is_stale w (At o i) = is_dead (slice_get w.objects o)
 abbrev pub used : World → Value → Result Value Why
 used w v = if is_stale w v then Err Stale else Ok v
 
-abbrev or_pointer : {A : Type 0} → Option A → Result A Why
+abbrev pub or_pointer : {A : Type 0} → Option A → Result A Why
 or_pointer None = Err (Reason Pointer)
 or_pointer (Some v) = Ok v
 
@@ -122,12 +122,12 @@ abbrev replaced : Kind → ℕ → Value → Option Object → List Object → �
 replaced k i v None objects o = objects
 replaced k i v (Some ob) objects o = slice_set objects o (record ob { cells = with_cell k i v ob.cells })
 
-abbrev written : World → Kind → Value → Value → World
+abbrev pub written : World → Kind → Value → Value → World
 written w k (Number n) v = w
 written w k Null v = w
 written w k (At o i) v = record w { objects = replaced k i v (slice_get w.objects o) w.objects o }
 
-abbrev may_write : World → Value → Bool
+abbrev pub may_write : World → Value → Bool
 may_write w (Number n) = false
 may_write w Null = false
 may_write w (At o i) = is_written (slice_get w.objects o)

@@ -1,0 +1,265 @@
+-- Calls and returns are answered by their code.
+use Rattle.std.proofs.Common.{◌≡◌, ℕ, zero, suc, ◌+◌, ◌-◌, ◌*◌, ◌<◌, ◌≤◌, List, [], ◌∷◌, ◌++◌, length, Option, Some, None, Bool, true, false, refl, sym, ap, ◌∙◌, subst, arith, length-append, inl, inr}
+use Rattle.std.proofs.lemmas.List.{length-reverse}
+use Rattle.std.proofs.lemmas.Bool.Decides.{nat_tests}
+use Rattle.std.specs.Prelude.{slice_get, Result, Ok, Err, ℤ, map, take, drop, reverse, bytes_eq, codes, ◌==◌, ◌%◌, if◌then◌else◌}
+use Rattle.ldb_words.specs.Word.{signed}
+use Rattle.c_tree.specs.declared.types.CType.{CType}
+use Rattle.c_tree.specs.declared.types.CType.TheVariants.{Char, Int, Unsigned, Void, Pointer', Array', Struct}
+use Rattle.c_tree.specs.declared.types.Leaf.{Leaf}
+use Rattle.c_tree.specs.declared.rows.Program.{Program}
+use Rattle.c_tree.specs.declared.rows.Function.{Function}
+use Rattle.c_tree.specs.declared.rows.SymbolRow.{SymbolRow}
+use Rattle.c_tree.specs.declared.rows.Referent.{Referent}
+use Rattle.c_tree.specs.declared.rows.Referent.TheVariants.{Object, Local, Function as Defined, Declared}
+use Rattle.c_tree.specs.Layout.{size_of, leaves_of}
+use Rattle.runs.specs.Runs.{Next, Goes as GoesOn, Exits, Undefined, IllTyped, Why}
+use Rattle.c_store.specs.Store.{Value, Number, Null, At, Cell, World}
+use Rattle.c_store.specs.Frames.{Here, Place, with_world, made, left, new_place}
+use Rattle.c_source.specs.Blocks.{converted, cells_of, local_type, declared_in, statements_in}
+use Rattle.c_source.specs.Blocks as blocks
+use Rattle.c_source.specs.Operators.{bits_in}
+use Rattle.c_source.specs.Control.{Item, State, Activation, Enter, Stop, Open, Push, GiveBack, Leave, runs_of, inits_of, body_of, first_of, last_of, outermost_of}
+use Rattle.c_source.specs.Source as source
+use Rattle.c_source.specs.Begin as sources
+use Rattle.slot_ir.specs.Begin as beginning
+use Rattle.slot_ir.specs.declared.code.SlotCode.{SlotCode}
+use Rattle.slot_ir.specs.declared.code.SlotLocal.{SlotLocal}
+use Rattle.slot_ir.specs.declared.code.SlotOp.{SlotOp}
+use Rattle.slot_ir.specs.declared.code.SlotOp.TheVariants as op
+use Rattle.slot_ir.specs.Operators.{extended, number_in}
+use Rattle.slot_ir.specs.Slots.{Temps, with_temp, no_temps, SlotState, Frame, code_of, local_row, last_temps, joined}
+use Rattle.slot_ir.specs.Slots as slots
+use Rattle.slot_gen.specs.Expressions.{access_of, enter_code, call_code, built_in_code}
+use Rattle.slot_gen.specs.Statements.{Around, nowhere, function_code, zeros_code, inits_code, stmts_code, zero_code, end_place, body_place}
+use Rattle.slot_gen.specs.Correct.{IsCodeOf, IsRow}
+use Rattle.slot_gen.proofs.Follow.{HasAt, has_front, has_back, has_all, Goes, Where, InTemp, InReg, Kept, Holds, Follows, Loops, temps_on, constant_op, IsConstant, runs_follow, loops_runs}
+use Rattle.slot_gen.proofs.Operators.{converted_same}
+use Rattle.slot_gen.proofs.Rounds.{inits_follow, loops_inits}
+use Rattle.slot_gen.proofs.Match.{Setting, Ground, Doing, Outer, Matches, Ends, Answered, D, F, L, slot, now, code, again, one_step, at_op, puts}
+
+-- ---- arguments
+
+length-temps_on : (n : ℕ) (ws : List Where) → length (temps_on n ws) ≡ length ws + n
+length-temps_on zero ws = omega arith
+length-temps_on (suc n) ws = omega (arith, length-temps_on n ws)
+
+arguments_held : (a : Place) (t : Temps) (n : ℕ) (ws : List Where) (vs : List Value) → Holds a t (temps_on n ws) vs → (last_temps t (length ws) n ≡ Some (take n vs)) × Holds a t ws (drop n vs)
+arguments_held a t zero ws vs h = (refl, h)
+arguments_held a t (suc n) ws [] h = absurd h
+arguments_held a t (suc n) ws (v ∷ vs) h =
+    let rest = arguments_held a t n ws vs h.1 in
+    let at : length (temps_on n ws) ≡ length ws + n = length-temps_on n ws in
+    let here : t (length ws + n) ≡ Some v = subst (λ i. t i ≡ Some v) at h.0 in
+    (ap (λ o. joined o (last_temps t (length ws) n)) here ∙ ap (joined (Some v)) rest.0, rest.1)
+
+length-taken : (a : Place) (t : Temps) (n : ℕ) (ws : List Where) (vs : List Value) → Holds a t (temps_on n ws) vs → length (take n vs) ≡ n
+length-taken a t zero ws vs h = refl
+length-taken a t (suc n) ws [] h = absurd h
+length-taken a t (suc n) ws (v ∷ vs) h = ap suc (length-taken a t n ws vs h.1)
+
+-- ---- objects of a call and of a block
+
+module _ (p : Program) (c : SlotCode) (is : IsCodeOf p c) where
+  given_by : (o : Option SlotLocal) (t : CType) (x : ℕ) (v : Value) (h : Here) → IsRow p o t
+      → slots.given_row o x v h ≡ made x (size_of p.defs t) (blocks.with_value (converted t v) (cells_of p.defs t)) h
+  given_by None t x v h q = subst (λ t. made x 0 [] h ≡ made x (size_of p.defs t) (blocks.with_value (converted t v) (cells_of p.defs t)) h) (sym q) refl
+  given_by (Some l) t x v h q =
+      ap (λ n. made x n (slots.with_first (extended l.access v) (slots.zero_cells l.leaves)) h) q.0
+      ∙ ap (λ ls. made x (size_of p.defs t) (slots.with_first (extended l.access v) (slots.zero_cells ls)) h) q.1
+      ∙ ap (λ a. made x (size_of p.defs t) (slots.with_first (extended a v) (slots.zero_cells (leaves_of p.defs t))) h) q.2
+      ∙ ap (λ v. made x (size_of p.defs t) (slots.with_first v (slots.zero_cells (leaves_of p.defs t))) h) (sym (converted_same t v))
+      ∙ same_first (converted t v) (cells_of p.defs t)
+    where
+      same_cells : (u : Value) (cs : List Cell) → slots.with_first u cs ≡ blocks.with_value u cs
+      same_cells u [] = refl
+      same_cells u (k ∷ cs) = refl
+
+      same_first : (u : Value) (cs : List Cell) → made x (size_of p.defs t) (slots.with_first u cs) h ≡ made x (size_of p.defs t) (blocks.with_value u cs) h
+      same_first u cs = ap (λ cs. made x (size_of p.defs t) cs h) (same_cells u cs)
+
+  pub given_same : (f x : ℕ) (vs : List Value) (h : Here) → slots.given c f x vs h ≡ blocks.given p f x vs h
+  given_same f x [] h = refl
+  given_same f x (v ∷ vs) h =
+      ap (slots.given c f (suc x) vs) (given_by (local_row c f x) (local_type p f x) x v h (is.rows f x)) ∙ given_same f (suc x) vs (blocks.given_one p f x v h)
+
+  zeroed_by : (o : Option SlotLocal) (t : CType) (x : ℕ) (h : Here) → IsRow p o t → slots.zeroed_row o x h ≡ made x (size_of p.defs t) (cells_of p.defs t) h
+  zeroed_by None t x h q = subst (λ t. made x 0 [] h ≡ made x (size_of p.defs t) (cells_of p.defs t) h) (sym q) refl
+  zeroed_by (Some l) t x h q = ap (λ n. made x n (slots.zero_cells l.leaves) h) q.0 ∙ ap (λ ls. made x (size_of p.defs t) (slots.zero_cells ls) h) q.1
+
+  pub zeroed_same : (x : ℕ) (h : Here) → slots.zeroed_local c x h ≡ blocks.opened_one p h.place.function x h
+  zeroed_same x h = zeroed_by (local_row c h.place.function x) (local_type p h.place.function x) x h (is.rows h.place.function x)
+
+  counted_by : (o : Option SlotLocal) (t : CType) → IsRow p o t → slots.leaf_count_in o ≡ length (leaves_of p.defs t)
+  counted_by None t q = subst (λ t. 0 ≡ length (leaves_of p.defs t)) (sym q) refl
+  counted_by (Some l) t q = ap length q.1
+
+  pub counted_same : (f x : ℕ) → slots.leaf_count_in (local_row c f x) ≡ length (leaves_of p.defs (local_type p f x))
+  counted_same f x = counted_by (local_row c f x) (local_type p f x) (is.rows f x)
+
+given-function : (p : Program) (f x : ℕ) (vs : List Value) (h : Here) → (blocks.given p f x vs h).place.function ≡ h.place.function
+unfolding made
+given-function p f x [] h = refl
+given-function p f x (v ∷ vs) h = given-function p f (suc x) vs (blocks.given_one p f x v h)
+
+given-scope : (p : Program) (f x : ℕ) (vs : List Value) (h : Here) → length (blocks.given p f x vs h).place.locals ≡ length h.place.locals + length vs
+unfolding made
+given-scope p f x [] h = omega arith
+given-scope p f x (v ∷ vs) h =
+    omega (arith, given-scope p f (suc x) vs (blocks.given_one p f x v h), length-append h.place.locals (record { local = x; object = length h.world.objects } ∷ []))
+
+-- ---- a function from its first operator on
+
+zero_same : (t : CType) → zero_code t ≡ constant_op 0 (converted t (Number 0))
+zero_same Char = refl
+zero_same Int = refl
+zero_same Unsigned = refl
+zero_same Void = refl
+zero_same (Pointer' x t) = refl
+zero_same (Array' x t n) = refl
+zero_same (Struct s) = refl
+
+zero_constant : (t : CType) → IsConstant (converted t (Number 0))
+zero_constant Char = tt
+zero_constant Int = tt
+zero_constant Unsigned = tt
+zero_constant Void = tt
+zero_constant (Pointer' x t) = tt
+zero_constant (Array' x t n) = tt
+zero_constant (Struct s) = tt
+
+module _ (p : Program) (f : ℕ) (code : List SlotOp) (fn : Function) (has : HasAt code 0 (function_code p f fn)) where
+  abbrev rest_of_body : List Item
+  rest_of_body = Push (converted fn.result (Number 0)) ∷ GiveBack ∷ []
+
+  pub function_follows : Follows p f code nowhere fn.params 0 [] (body_of p f fn)
+  function_follows =
+      let ds = declared_in fn.body in
+      let zeros = zeros_code ds in
+      let start = body_place + length zeros in
+      let inits = inits_code p f start ds in
+      let at = start + length inits in
+      let body = stmts_code p f nowhere (outermost_of fn) at (statements_in fn.body) in
+      let last = zero_code fn.result ∷ op.Jump end_place ∷ [] in
+      let h : HasAt code body_place (zeros ++ (inits ++ (body ++ last))) = has.1.1.1.1.1 in
+      let hi = has_back code body_place zeros (inits ++ (body ++ last)) h in
+      let hb = has_back code start inits (body ++ last) hi in
+      let hl = has_back code at body last hb in
+      let ends : Follows p f code nowhere (outermost_of fn) (at + length body) [] rest_of_body = (hl.0 ∙ ap Some (zero_same fn.result), zero_constant fn.result, hl.1.0) in
+      let runs = runs_follow p f code nowhere (outermost_of fn) (statements_in fn.body) at rest_of_body (omega arith, omega arith) (has_front code at body last hb) ends in
+      let all = inits_follow p f code nowhere (outermost_of fn) ds start (runs_of (statements_in fn.body) ++ rest_of_body) (has_front code start inits (body ++ last) hi) runs in
+      (has.0, (body_place, inr has.1.0, has_front code body_place zeros (inits ++ (body ++ last)) h, all))
+
+  pub function_loops : Loops p f code nowhere (body_of p f fn)
+  function_loops = loops_inits p f code nowhere (declared_in fn.body) (runs_of (statements_in fn.body) ++ rest_of_body) (loops_runs p f code nowhere (statements_in fn.body) rest_of_body tt)
+
+  pub function_ends : HasAt code end_place (op.Leave (outermost_of fn) ∷ op.Stop (last_of fn.points) ∷ op.Return 0 ∷ [])
+  function_ends = (has.1.1.0, (has.1.1.1.0, (has.1.1.1.1.0, tt)))
+
+module _ (set : Setting) where
+  -- an activation of a function that begins
+  pub begins : (a : Place) (f : ℕ) (fn : Function) → a.function ≡ f → length a.locals ≡ fn.params → slice_get set.p.functions f ≡ Some fn → Doing set a [] [] [] (body_of set.p f fn) no_temps 0
+  begins a f fn e n found =
+      let here = subst (λ l. HasAt l 0 (function_code set.p f fn)) (sym (set.is.code f fn found)) (has_all (function_code set.p f fn) []) in
+      let co = code_of set.c f in
+      record {
+        fn = fn;
+        found = subst (λ f. slice_get set.p.functions f ≡ Some fn) (sym e) found;
+        ends = subst (λ f. HasAt (code_of set.c f) end_place (op.Leave (outermost_of fn) ∷ op.Stop (last_of fn.points) ∷ op.Return 0 ∷ [])) (sym e) (function_ends set.p f co fn here);
+        around = nowhere;
+        loops = subst (λ g. Loops set.p g (code_of set.c g) nowhere (body_of set.p f fn)) (sym e) (function_loops set.p f co fn here);
+        holds = tt;
+        follows = subst (λ g. Follows set.p g (code_of set.c g) nowhere (length a.locals) 0 [] (body_of set.p f fn)) (sym e) (subst (λ n. Follows set.p f co nowhere n 0 [] (body_of set.p f fn)) (sym n) (function_follows set.p f co fn here));
+      }
+
+  length-reversed : (vs : List Value) → length (reverse vs) ≡ length vs
+  length-reversed vs = length-reverse vs
+
+  pub outer_places : (outer : List Activation) (frames : List Frame) (r : ℕ) → Outer set outer frames r → beginning.outer_places frames ≡ sources.outer_places outer
+  outer_places [] [] r o = refl
+  outer_places [] (g ∷ gs) r o = absurd o
+  outer_places (a ∷ rest) [] r o = absurd o
+  outer_places (a ∷ rest) (g ∷ gs) r o = ap (λ q. q ∷ beginning.outer_places gs) o.0 ∙ ap (λ l. a.place ∷ l) (outer_places rest gs g.result_at o.4)
+
+module _ (set : Setting) (g : Ground set) where
+  abbrev entering : (f : ℕ) → List Value → Here
+  entering f vs = blocks.entered set.p (suc g.h.place.number) f vs g.h.world
+
+  pub call_answers : (q : ℕ) (f m : ℕ) (us : List Where) (k : List Item) (vs : List Value) (temps : Temps) (pc : ℕ) → (d : D set g (temps_on m us) vs (Enter q m ∷ k) temps pc)
+      → slice_get (code set g) pc ≡ Some (op.Call (length us) f m) → F set g d.around (pc + 1) (InTemp ∷ us) k
+      → (o : Option Function) → slice_get set.p.functions f ≡ o
+      → Answered set (now set g vs (Enter q m ∷ k)) (source.on_some o (λ fn.
+          if fn.params == m then GoesOn (1 + m) (record { here = entering f (reverse (take m vs)); values = []; control = body_of set.p f fn; outer = record { place = g.h.place; values = drop m vs; control = k } ∷ g.outer })
+          else Undefined IllTyped)) (slot set g temps pc)
+  call_answers q f m us k vs temps pc d has rest None e = tt
+  call_answers q f m us k vs temps pc d has rest (Some fn) e = by (fn.params == m) refl
+    where
+      by : (b : Bool) → (fn.params == m) ≡ b
+          → Answered set (now set g vs (Enter q m ∷ k)) (if b then GoesOn (1 + m) (record { here = entering f (reverse (take m vs)); values = []; control = body_of set.p f fn; outer = record { place = g.h.place; values = drop m vs; control = k } ∷ g.outer }) else Undefined IllTyped) (slot set g temps pc)
+      by false eb = tt
+      by true eb =
+          let st = slot set g temps pc in
+          let args = arguments_held g.h.place temps m us vs d.holds in
+          let vs' = reverse (take m vs) in
+          let frame : Frame = record { place = g.h.place; temps = temps; pc = pc + 1; result_at = g.at } in
+          let u : SlotState = record { here = slots.entered set.c (suc g.h.place.number) f vs' g.h.world; temps = no_temps; pc = 0; result_at = length us; outer = frame ∷ g.frames } in
+          let start : Here = record { world = g.h.world; place = new_place (suc g.h.place.number) f } in
+          let params : fn.params ≡ m = grind (nat_tests, arith) in
+          let scope : length (entering f vs').place.locals ≡ fn.params = given-scope set.p f 0 vs' start ∙ omega (arith, length-reversed set (take m vs), length-taken g.h.place temps m us vs d.holds, params) in
+          let called = ap (λ o. slots.on_temps o (λ vs. GoesOn (1 + m) (record { here = slots.entered set.c (suc g.h.place.number) f (reverse vs) g.h.world; temps = no_temps; pc = 0; result_at = length us; outer = frame ∷ g.frames }))) args.0 in
+          (1, 1 + m, u, omega arith, (1 + m, 0, u, omega arith, at_op set g temps pc (op.Call (length us) f m) has ∙ called, (refl, refl), refl), record {
+            same = given_same set.p set.c set.is f 0 vs' start;
+            ws = [];
+            doing = begins set (entering f vs').place f fn (given-function set.p f 0 vs' start) scope e;
+            outer = (refl, us, refl, record { fn = d.fn; found = d.found; ends = d.ends; around = d.around; loops = d.loops; holds = args.1; follows = rest }, g.out);
+          }, tt)
+
+  -- ---- built-ins
+
+  pub get_answers : (q : ℕ) (name : List ℕ) (k : List Item) (ws : List Where) (vs : List Value) (temps : Temps) (pc : ℕ) → (d : D set g ws vs (Enter q 0 ∷ k) temps pc)
+      → (b : Bool) → HasAt (code set g) pc (if b then op.GetChar (length ws) ∷ [] else []) → F set g d.around (pc + length (if b then op.GetChar (length ws) ∷ [] else [])) (InTemp ∷ ws) k
+      → Answered set (now set g vs (Enter q 0 ∷ k)) (if b then GoesOn 1 (record { here = with_world g.h (record g.h.world { input = drop 1 g.h.world.input }); values = Number (source.next_byte g.h.world.input) ∷ vs; control = k; outer = g.outer }) else Undefined IllTyped) (slot set g temps pc)
+  get_answers q name k ws vs temps pc d false has rest = tt
+  get_answers q name k ws vs temps pc d true has rest =
+      let h' = with_world g.h (record g.h.world { input = drop 1 g.h.world.input }) in
+      let after = with_temp temps (length ws) (Number (source.next_byte g.h.world.input)) in
+      let u : SlotState = record { here = h'; temps = after; pc = pc + 1; result_at = g.at; outer = g.frames } in
+      let same : slots.next_byte g.h.world.input ≡ source.next_byte g.h.world.input = next_same g.h.world.input in
+      let acts = at_op set g temps pc (op.GetChar (length ws)) has.0 ∙ ap (λ n. GoesOn 1 (record { here = h'; temps = with_temp temps (length ws) (Number n); pc = pc + 1; result_at = g.at; outer = g.frames })) same in
+      (1, 1, u, omega arith, (1, 0, u, omega arith, acts, (refl, refl), refl), record {
+        same = refl;
+        ws = InTemp ∷ ws;
+        doing = again set g ws (InTemp ∷ ws) vs (Number (source.next_byte g.h.world.input) ∷ vs) (Enter q 0 ∷ k) k temps after pc (pc + 1) d (puts g.h.place temps (Number (source.next_byte g.h.world.input)) ws vs d.holds) d.loops rest;
+        outer = g.out;
+      }, tt)
+    where
+      next_same : (i : List ℕ) → slots.next_byte i ≡ source.next_byte i
+      next_same [] = refl
+      next_same (b ∷ bs) = refl
+
+  -- `putchar` and `exit`
+  pub put_answers : (q : ℕ) (x : Value) (k : List Item) (ws : List Where) (vs : List Value) (temps : Temps) (pc : ℕ) → (d : D set g (InTemp ∷ ws) (x ∷ vs) (Enter q 1 ∷ k) temps pc)
+      → (get put : Bool) → HasAt (code set g) pc (if put then op.PutChar (length ws) ∷ [] else op.Exit (length ws) ∷ []) → F set g d.around (pc + length (if put then op.PutChar (length ws) ∷ [] else op.Exit (length ws) ∷ [])) (InTemp ∷ ws) k
+      → Answered set (now set g (x ∷ vs) (Enter q 1 ∷ k)) (source.on_ok (bits_in x) (λ n.
+          if get then Undefined IllTyped
+          else if put then GoesOn 1 (record { here = with_world g.h (record g.h.world { output = g.h.world.output ++ (n % 256) ∷ [] }); values = Number (n % 256) ∷ vs; control = k; outer = g.outer })
+          else Exits (signed n) 1 (record { here = g.h; values = []; control = []; outer = g.outer }))) (slot set g temps pc)
+  put_answers q Null k ws vs temps pc d get put has rest = tt
+  put_answers q (At o i) k ws vs temps pc d get put has rest = tt
+  put_answers q (Number n) k ws vs temps pc d true put has rest = tt
+  put_answers q (Number n) k ws vs temps pc d false true has rest =
+      let st = slot set g temps pc in
+      let v = Number (n % 256) in
+      let after = with_temp temps (length ws) v in
+      let u : SlotState = record { here = with_world g.h (record g.h.world { output = g.h.world.output ++ (n % 256) ∷ [] }); temps = after; pc = pc + 1; result_at = g.at; outer = g.frames } in
+      let acts = at_op set g temps pc (op.PutChar (length ws)) has.0 ∙ ap (λ o. slots.on_temp o (λ v. slots.on_ok (number_in v) (λ n. GoesOn 1 (record st { here = with_world g.h (record g.h.world { output = g.h.world.output ++ (n % 256) ∷ [] }); temps = with_temp temps (length ws) (Number (n % 256)); pc = pc + 1 })))) d.holds.0 in
+      (1, 1, u, omega arith, (1, 0, u, omega arith, acts, (refl, refl), refl), record {
+        same = refl;
+        ws = InTemp ∷ ws;
+        doing = again set g (InTemp ∷ ws) (InTemp ∷ ws) (Number n ∷ vs) (v ∷ vs) (Enter q 1 ∷ k) k temps after pc (pc + 1) d (puts g.h.place temps v ws vs d.holds.1) d.loops rest;
+        outer = g.out;
+      }, tt)
+  put_answers q (Number n) k ws vs temps pc d false false has rest =
+      let st = slot set g temps pc in
+      let acts = at_op set g temps pc (op.Exit (length ws)) has.0 ∙ ap (λ o. slots.on_temp o (λ v. slots.on_ok (number_in v) (λ n. Exits (signed n) 1 st))) d.holds.0 in
+      (0, 0, st, st, omega arith, (refl, refl), acts, (refl, ap (λ l. g.h.place ∷ l) (outer_places set g.outer g.frames g.at g.out)), refl)

@@ -1,0 +1,11 @@
+mod Follow
+mod Weight
+mod Operators
+mod Match
+mod Values
+mod Evaluations
+mod Rounds
+mod Calls
+mod Executions
+mod Step
+mod Whole

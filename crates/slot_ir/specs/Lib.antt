@@ -1,0 +1,4 @@
+pub mod Operators
+pub mod Slots
+pub mod Begin
+pub mod WellFormed
