@@ -1,5 +1,5 @@
 -- Lists of items that can be done.
-use Rattle.std.proofs.Common.{◌≡◌, refl, sym, subst, ap, ℕ, suc, ◌≤◌, List, [], ◌∷◌, ◌++◌, Bool, true, false, Option, Some, None, length, take, length-take-le, le_of_eq, le_trans, take_all, length-append, le-add_right}
+use Rattle.std.proofs.Common.{◌≡◌, refl, sym, ◌∙◌, subst, ap, ℕ, suc, ◌≤◌, List, [], ◌∷◌, ◌++◌, Bool, true, false, Option, Some, None, length, take, drop, length-take-le, le_of_eq, le_trans, take_all, length-append, le-add_right}
 use Rattle.std.proofs.lemmas.List.{take-append-le}
 use Rattle.std.specs.Prelude.{slice_get, if◌then◌else◌, length}
 use Rattle.c_tree.specs.declared.types.CType.{CType}
@@ -19,11 +19,11 @@ use Rattle.c_tree.specs.Rows.{exprs, stmts}
 use Rattle.c_source.specs.Blocks.{result_type, statements_in}
 use Rattle.c_source.specs.Control.{Item, Eval, Locate, Store, Copy, Run, Again, Switched, Label, Round, runs_of, evals_of, inits_of, part_of, loop_begins, loop_goes_on, loop_turns, broken, continued, labels_in, default_in}
 use Rattle.c_sound.proofs.Operators.{addr, conv}
-use Rattle.c_sound.proofs.Shaped.{shape, ByCase, row_shapes, is_getchar, CalledFunction, CalledBuiltIn, CalledBy, Called, Given, ShapedE, ShapedL, ShapedRow, ShapedPart, ShapedInit, ShapedInits, ShapedS, ShapedRows, ShapedElse, ShapedBody, EachShaped, ShapedLoop}
+use Rattle.c_sound.proofs.Shaped.{shape, ByCase, row_shapes, is_getchar, OneNumber, CalledFunction, CalledBuiltIn, CalledBy, Called, Given, ShapedE, ShapedL, ShapedRow, ShapedPart, ShapedInit, ShapedInits, ShapedS, ShapedRows, ShapedElse, ShapedBody, EachShaped, ShapedLoop}
 use Rattle.c_sound.proofs.Ready.{EntersFunction, EntersBuiltIn, EntersBy, Enters, EachLabel, Ready, Breaks, Continues}
 use Rattle.c_sound.proofs.Lists.{onto, taken, dropped}
 
-nil_cons : {A : Type 0} (x : Bool) (xs : List Bool) → x ∷ xs ≡ [] → A
+pub nil_cons : {A : Type 0} (x : Bool) (xs : List Bool) → x ∷ xs ≡ [] → A
 nil_cons {A} x xs e = absurd (subst (λ (ys : List Bool). elim ys as (λ _. Type 0) [ [] ↦ ⊥ | y ∷ zs ↦ Unit {0} ]) e tt)
 
 module _ (p : Program) (f : ℕ) where
@@ -50,23 +50,24 @@ module _ (p : Program) (f : ℕ) where
   enters_function g None n xs ss r go e q x = absurd q
   enters_function g (Some fn) n xs ss r go e q x =
       let back = sym (taken xs ss n e) in (
+        sym (e ∙ q.0),
         subst (λ ys. length ys ≡ fn.params) back q.0,
         subst (λ ys. Given p g 0 ys) back q.1,
         subst (λ ys. go (addr (result_type p g) ∷ ys)) (sym (dropped xs ss n e)) (subst (λ s. go (s ∷ ss)) (sym q.2) x),
       )
 
-  enters_built_in : (b : Bool) (xs ss : List Bool) (go : List Bool → Type 0) → CalledBuiltIn p b xs → go (false ∷ ss) → EntersBuiltIn p b (onto xs ss) go
-  enters_built_in true [] ss go q x = x
-  enters_built_in true (s ∷ xs) ss go q x = nil_cons s xs q
-  enters_built_in false [] ss go q x = absurd q
-  enters_built_in false (s ∷ []) ss go q x = (q, x)
-  enters_built_in false (s ∷ t ∷ xs) ss go q x = absurd q
+  enters_built_in : (b : Bool) (n : ℕ) (xs ss : List Bool) (go : List Bool → Type 0) → n ≡ length xs → CalledBuiltIn p b xs → go (false ∷ ss) → EntersBuiltIn p b n (onto xs ss) go
+  enters_built_in true n [] ss go e q x = subst (λ m. (take m ss ≡ []) × go (false ∷ drop m ss)) (sym e) (refl, x)
+  enters_built_in true n (s ∷ xs) ss go e q x = nil_cons s xs q
+  enters_built_in false n [] ss go e q x = absurd q
+  enters_built_in false n (s ∷ []) ss go e q x = subst (λ m. OneNumber p (take m (s ∷ ss)) × go (false ∷ drop m (s ∷ ss))) (sym e) (q, x)
+  enters_built_in false n (s ∷ t ∷ xs) ss go e q x = absurd q
 
   enters_by : (r : Referent) (name : List ℕ) (n : ℕ) (xs ss : List Bool) (s : Bool) (go : List Bool → Type 0) → n ≡ length xs → CalledBy p r name xs s → go (s ∷ ss) → EntersBy p r name n (onto xs ss) go
   enters_by (Object o) name n xs ss s go e q x = absurd q
   enters_by (Local o) name n xs ss s go e q x = absurd q
   enters_by (Defined g) name n xs ss s go e q x = enters_function g (slice_get p.functions g) n xs ss s go e q x
-  enters_by Declared name n xs ss s go e q x = enters_built_in (is_getchar name) xs ss go q.0 (subst (λ b. go (b ∷ ss)) q.1 x)
+  enters_by Declared name n xs ss s go e q x = enters_built_in (is_getchar name) n xs ss go e q.0 (subst (λ b. go (b ∷ ss)) q.1 x)
 
   pub enters : (row : Option SymbolRow) (n : ℕ) (xs ss : List Bool) (s : Bool) (go : List Bool → Type 0) → n ≡ length xs → Called p row xs s → go (s ∷ ss) → Enters p row n (onto xs ss) go
   enters None n xs ss s go e q x = absurd q

@@ -1,6 +1,6 @@
 -- What a step may answer.
-use Rattle.std.proofs.Common.{◌≡◌, refl, sym, ◌∙◌, subst, ap, ℕ, suc, List, [], ◌∷◌, ◌++◌, Bool, true, false, Option, Some, None, length, take, map, append_assoc, append-nil}
-use Rattle.std.specs.Prelude.{Result, Ok, Err, slice_get, if◌then◌else◌}
+use Rattle.std.proofs.Common.{◌≡◌, refl, sym, ◌∙◌, subst, ap, arith, ℕ, suc, List, [], ◌∷◌, ◌++◌, Bool, true, false, Option, Some, None, length, take, map, append_assoc, append-nil}
+use Rattle.std.specs.Prelude.{Result, Ok, Err, slice_get, if◌then◌else◌, ◌==◌}
 use Rattle.runs.specs.Runs.{Next, Goes, Passes, Exits, Undefined, Stuck, Why, Reason, Stale, IllTyped}
 use Rattle.c_tree.specs.declared.rows.Program.{Program}
 use Rattle.c_tree.specs.declared.rows.Function.{Function}
@@ -22,6 +22,9 @@ use Rattle.c_sound.proofs.Objects.{cells_fit, with_value, parameter_fits}
 
 abbrev pub shapes : List Value → List Bool
 shapes vs = map is_place vs
+
+pub equal_numbers : (m n : ℕ) → m ≡ n → (m == n) ≡ true
+equal_numbers m n e = grind arith
 
 module _ (p : Program) where
   -- it goes on in a good state, ends, or has one of C's reasons
@@ -46,6 +49,9 @@ module _ (p : Program) where
   pub either_fine : (b : Bool) (x y : Next State) → Fine x → Fine y → Fine (if b then x else y)
   either_fine true x y f g = f
   either_fine false x y f g = g
+
+  pub if_fine : (b : Bool) (x y : Next State) → b ≡ true → Fine x → Fine (if b then x else y)
+  if_fine b x y e f = subst (λ c. Fine (if c then x else y)) (sym e) f
 
   pub there : (o : Option Function) → HasFunction p o → (fn : Function) × (o ≡ Some fn)
   there None h = absurd h

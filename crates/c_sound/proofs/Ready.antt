@@ -13,7 +13,7 @@ use Rattle.c_typing.specs.Declared.{has}
 use Rattle.c_sound.specs.Shapes.{is_place}
 use Rattle.c_sound.proofs.World.{WorldFits}
 use Rattle.c_sound.proofs.Operators.{addr, conv, takes, gives, takes_one}
-use Rattle.c_sound.proofs.Shaped.{shape, top, Updates, is_getchar, local_numbers, Given, ShapedE, ShapedL, ShapedS, EachShaped, ShapedLoop}
+use Rattle.c_sound.proofs.Shaped.{shape, top, Updates, is_getchar, local_numbers, CalledBuiltIn, Given, ShapedE, ShapedL, ShapedS, EachShaped, ShapedLoop}
 
 -- there are no values computed
 abbrev pub IsClear : List Bool → Type 0
@@ -29,17 +29,16 @@ module _ (p : Program) where
 
   abbrev pub EntersFunction : ℕ → Option Function → ℕ → List Bool → (List Bool → Type 0) → Type 0
   EntersFunction g None n ss go = ⊥
-  EntersFunction g (Some fn) n ss go = (length (reverse (take n ss)) ≡ fn.params) × Given p g 0 (reverse (take n ss)) × go (addr (result_type p g) ∷ drop n ss)
+  EntersFunction g (Some fn) n ss go = (fn.params ≡ n) × (length (reverse (take n ss)) ≡ fn.params) × Given p g 0 (reverse (take n ss)) × go (addr (result_type p g) ∷ drop n ss)
 
-  abbrev pub EntersBuiltIn : Bool → List Bool → (List Bool → Type 0) → Type 0
-  EntersBuiltIn true ss go = go (false ∷ ss)
-  EntersBuiltIn false ss go = top ss (λ s rest. (s ≡ false) × go (false ∷ rest))
+  abbrev pub EntersBuiltIn : Bool → ℕ → List Bool → (List Bool → Type 0) → Type 0
+  EntersBuiltIn b n ss go = CalledBuiltIn p b (take n ss) × go (false ∷ drop n ss)
 
   abbrev pub EntersBy : Referent → List ℕ → ℕ → List Bool → (List Bool → Type 0) → Type 0
   EntersBy (Object o) name n ss go = ⊥
   EntersBy (Local x) name n ss go = ⊥
   EntersBy (Defined g) name n ss go = EntersFunction g (slice_get p.functions g) n ss go
-  EntersBy Declared name n ss go = EntersBuiltIn (is_getchar name) ss go
+  EntersBy Declared name n ss go = EntersBuiltIn (is_getchar name) n ss go
 
   abbrev pub Enters : Option SymbolRow → ℕ → List Bool → (List Bool → Type 0) → Type 0
   Enters None n ss go = ⊥

@@ -1,7 +1,7 @@
 -- Each step keeps the locals of the points passed last in scope.
 use Rattle.std.proofs.Common.{◌≡◌, refl, sym, ◌∙◌, subst, ap, ℕ, suc, ◌+◌, ◌*◌, List, [], ◌∷◌, ◌++◌, Bool, true, false, Option, Some, None, length, take, drop, reverse, le_of_eq, take_all, append_assoc, append-nil}
 use Rattle.std.specs.Prelude.{Result, Ok, Err, slice_get, if◌then◌else◌, pos, bytes_eq, codes, ◌==◌}
-use Rattle.runs.specs.Runs.{Next, Goes, Passes, Exits, Undefined, Stuck, Why}
+use Rattle.runs.specs.Runs.{Next, Goes, Passes, Exits, Undefined, Stuck, Why, IllTyped}
 use Rattle.c_tree.specs.declared.types.CType.{CType}
 use Rattle.c_tree.specs.declared.typed.BinaryOp.{BinaryOp}
 use Rattle.c_tree.specs.declared.typed.Typed.{Typed}
@@ -185,26 +185,31 @@ module _ (p : Program) where
 
     -- ---- calls
 
-    built_in_stays : (name : List ℕ) (vs : List Value) (k : List Item) → S k → Stays (built_in p h out name vs k)
-    built_in_stays name vs k r =
-        either_stays (is_getchar name) _ _ (goes_in 1 _ (Number _ ∷ vs) k r)
-        (one_stays vs _ λ v rest. ok_stays (bits_in v) _ λ n. either_stays (bytes_eq name (codes "putchar")) _ _ (goes_in 1 _ (Number _ ∷ rest) k r) tt)
+    built_in_stays : (name : List ℕ) (args vs : List Value) (k : List Item) → S k → Stays (built_in p h out name args vs k)
+    built_in_stays name [] vs k r = either_stays (is_getchar name) _ _ (goes_in 1 _ (Number _ ∷ vs) k r) tt
+    built_in_stays name (v ∷ []) vs k r =
+        ok_stays (bits_in v) _ λ n. either_stays (is_getchar name) _ _ tt (either_stays (bytes_eq name (codes "putchar")) _ _ (goes_in 1 _ (Number _ ∷ vs) k r) tt)
+    built_in_stays name (v ∷ u ∷ us) vs k r = tt
 
     function_stays : (g : ℕ) (fn : Option Function) (n : ℕ) (vs : List Value) (k : List Item) → slice_get p.functions g ≡ fn → EntersFunction p g fn n (shapes vs) (Ready p f k ls) → C → S k
-        → Stays (on_some fn (λ fn. Goes (1 + n) (record { here = entered p (suc h.place.number) g (reverse (take n vs)) h.world; values = []; control = body_of p g fn; outer = record { place = h.place; values = drop n vs; control = k } ∷ out })))
+        → Stays (on_some fn (λ fn.
+        if fn.params == n then Goes (1 + n) (record { here = entered p (suc h.place.number) g (reverse (take n vs)) h.world; values = []; control = body_of p g fn; outer = record { place = h.place; values = drop n vs; control = k } ∷ out })
+        else Undefined IllTyped))
     function_stays g None n vs k e q c r = tt
     function_stays g (Some fn) n vs k e q c r =
         let args = reverse (take n vs) in
         let same : reverse (take n (shapes vs)) ≡ shapes args = ap reverse (sym (take_map is_place n vs)) ∙ sym (reverse_map is_place (take n vs)) in
-        let count : fn.params ≡ length args = sym q.0 ∙ ap length same ∙ map_length is_place args in
-        given_scoped g args 0 (record { world = h.world; place = new_place (suc h.place.number) g }) (body_of p g fn) (record { place = h.place; values = drop n vs; control = k } ∷ out) (c, r, o)
-        (subst (λ m. Scoped p g (body_of p g fn) (numbers 0 m) ⊥) count (bodies g fn e))
+        let count : fn.params ≡ length args = sym q.1 ∙ ap length same ∙ map_length is_place args in
+        either_stays (fn.params == n) _ _
+        (given_scoped g args 0 (record { world = h.world; place = new_place (suc h.place.number) g }) (body_of p g fn) (record { place = h.place; values = drop n vs; control = k } ∷ out) (c, r, o)
+        (subst (λ m. Scoped p g (body_of p g fn) (numbers 0 m) ⊥) count (bodies g fn e)))
+        tt
 
     call_stays : (r : Referent) (name : List ℕ) (n : ℕ) (vs : List Value) (k : List Item) → EntersBy p r name n (shapes vs) (Ready p f k ls) → C → S k → Stays (call p h out r name n vs k)
     call_stays (Object x) name n vs k q c r = tt
     call_stays (Local x) name n vs k q c r = tt
     call_stays (Defined g) name n vs k q c r = function_stays g (slice_get p.functions g) n vs k refl q c r
-    call_stays Declared name n vs k q c r = built_in_stays name vs k r
+    call_stays Declared name n vs k q c r = built_in_stays name (take n vs) (drop n vs) k r
 
     enter_stays : (s : Option SymbolRow) (n : ℕ) (vs : List Value) (k : List Item) → Enters p s n (shapes vs) (Ready p f k ls) → C → S k → Stays (on_some s (λ s. call p h out s.refers s.name n vs k))
     enter_stays None n vs k q c r = tt

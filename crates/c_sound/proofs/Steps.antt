@@ -2,7 +2,7 @@
 use Rattle.std.proofs.Common.{◌≡◌, refl, sym, ◌∙◌, subst, ap, ℕ, suc, ◌+◌, ◌*◌, ◌%◌, List, [], ◌∷◌, ◌++◌, Bool, true, false, Option, Some, None, length, take, drop, reverse, true≢false, le_of_eq, take_all}
 use Rattle.std.specs.Prelude.{slice_get, if◌then◌else◌, pos, option_map, bytes_eq, codes, ◌==◌}
 use Rattle.ldb_words.specs.Word.{signed}
-use Rattle.runs.specs.Runs.{Next, Goes, Exits}
+use Rattle.runs.specs.Runs.{Next, Goes, Exits, Undefined, IllTyped}
 use Rattle.c_tree.specs.declared.types.CType.{CType}
 use Rattle.c_tree.specs.declared.types.CType.TheVariants.{Array'}
 use Rattle.c_tree.specs.declared.typed.BinaryOp.{BinaryOp}
@@ -25,16 +25,16 @@ use Rattle.c_store.specs.Bits.{minus_one}
 use Rattle.c_source.specs.Blocks.{cells_of, converted, result_type, statements_in, entered}
 use Rattle.c_source.specs.Operators.{bits_in, combined, changed}
 use Rattle.c_source.specs.Control.{Item, Eval, Locate, Push, Bound, Load, Convert, Store, Copy, Update, Change, Combine, Offset, Use, Discard, Truth, AndThen, OrElse, Pick, Joined, Enter, Run, Stop, Choose, Open, Close, Turn, Again, Select, Seek, Switched, GiveBack, Leave, Label, Round, State, Activation, outermost_of, runs_of, inits_of, broken, continued, last_of, body_of}
-use Rattle.c_source.specs.Source.{on_ok, on_one, on_some, step, go, evaluate, locate, read, write, copy, update, built_in, call, end_with, execute, seek, act, on_control, no_value, place_in}
+use Rattle.c_source.specs.Source.{on_ok, on_some, step, go, evaluate, locate, read, write, copy, update, built_in, call, end_with, execute, seek, act, on_control, no_value, place_in}
 use Rattle.c_typing.specs.Accepted.{numbers}
 use Rattle.c_sound.specs.Shapes.{is_place, Fits}
 use Rattle.c_sound.proofs.World.{used_gives, load_gives, store_gives, moved_gives, load_struct_gives, store_struct_gives, FitEach, WorldFits, left_fits}
 use Rattle.c_sound.proofs.Operators.{addr, conv, conv_own, converted_shape, takes, gives, combined_gives, changed_gives, bits_give}
-use Rattle.c_sound.proofs.Shaped.{shape, Updates, is_getchar, row_shapes, Given, Named, NamedBy, ShapedE, ShapedL, ShapedInits, ShapedRows, ShapedReturn, ShapedS, EachShaped, local_numbers}
-use Rattle.c_sound.proofs.Ready.{locals_of, EntersFunction, EntersBuiltIn, EntersBy, Enters, EachLabel, Ready, Breaks, Continues, HasFunction, Outside, Good}
+use Rattle.c_sound.proofs.Shaped.{shape, Updates, is_getchar, row_shapes, CalledBuiltIn, Given, Named, NamedBy, ShapedE, ShapedL, ShapedInits, ShapedRows, ShapedReturn, ShapedS, EachShaped, local_numbers}
+use Rattle.c_sound.proofs.Ready.{locals_of, EntersFunction, EntersBy, Enters, EachLabel, Ready, Breaks, Continues, HasFunction, Outside, Good}
 use Rattle.c_sound.proofs.Lists.{locals_length, bound_here, take_map, drop_map, reverse_map, map_length, take_seam}
-use Rattle.c_sound.proofs.Continues.{fit, assign_ready, args_ready, row_length, enters, runs_ready, rows_shaped, body_shaped, breaks_more, continues_more, Lands, breaks_land, continues_land, inits_ready, part_ready, else_shaped, turns_ready, goes_on_ready, for_begins, while_begins, do_begins, labels_shaped, default_shaped}
-use Rattle.c_sound.proofs.Fine.{shapes, Fine, ok_fine, some_fine, there, left_good, opened_good, given_good, test_fine}
+use Rattle.c_sound.proofs.Continues.{nil_cons, fit, assign_ready, args_ready, row_length, enters, runs_ready, rows_shaped, body_shaped, breaks_more, continues_more, Lands, breaks_land, continues_land, inits_ready, part_ready, else_shaped, turns_ready, goes_on_ready, for_begins, while_begins, do_begins, labels_shaped, default_shaped}
+use Rattle.c_sound.proofs.Fine.{shapes, Fine, equal_numbers, if_fine, ok_fine, some_fine, there, left_good, opened_good, given_good, test_fine}
 
 module _ (p : Program) where
   -- a function whose body can be done from its first point on
@@ -174,40 +174,58 @@ module _ (p : Program) where
     next_byte [] = minus_one
     next_byte (b ∷ bs) = b
 
-    built_in_fine : (name : List ℕ) (vs : List Value) (k : List Item) → EntersBuiltIn p (is_getchar name) (shapes vs) (Ready p f k ls) → IsFine (built_in p h out name vs k)
-    built_in_fine name vs k r = by_getchar (is_getchar name) vs r
-      where
-        printed : (b : Bool) (n : ℕ) (rest : List Value) → Can k (false ∷ shapes rest)
-            → IsFine (if b then go p h out 1 (with_world h (record h.world { output = h.world.output ++ (n % 256) ∷ [] })) (Number (n % 256) ∷ rest) k else Exits (signed n) 1 (record { here = h; values = []; control = []; outer = out }))
-        printed true n rest r = goes_in 1 _ (Number (n % 256) ∷ rest) k w r
-        printed false n rest r = tt
+    -- `putchar` and `exit`
+    printed : (b : Bool) (n : ℕ) (vs : List Value) (k : List Item) → Can k (false ∷ shapes vs)
+        → IsFine (if b then go p h out 1 (with_world h (record h.world { output = h.world.output ++ (n % 256) ∷ [] })) (Number (n % 256) ∷ vs) k else Exits (signed n) 1 (record { here = h; values = []; control = []; outer = out }))
+    printed true n vs k r = goes_in 1 _ (Number (n % 256) ∷ vs) k w r
+    printed false n vs k r = tt
 
-        by_getchar : (b : Bool) (vs : List Value) → EntersBuiltIn p b (shapes vs) (Ready p f k ls)
-            → IsFine (if b then go p h out 1 (with_world h (record h.world { input = drop 1 h.world.input })) (Number (next_byte h.world.input) ∷ vs) k
-            else on_one vs (λ v rest. on_ok (bits_in v) (λ n. if bytes_eq name (codes "putchar") then go p h out 1 (with_world h (record h.world { output = h.world.output ++ (n % 256) ∷ [] })) (Number (n % 256) ∷ rest) k
-            else Exits (signed n) 1 (record { here = h; values = []; control = []; outer = out }))))
-        by_getchar true vs r = goes_in 1 _ (Number _ ∷ vs) k w r
-        by_getchar false [] r = r
-        by_getchar false (v ∷ rest) r = ok_fine p (λ _. Unit {0}) (bits_in v) _ (bits_give v r.0) λ n u. printed (bytes_eq name (codes "putchar")) n rest r.1
+    -- a built-in with no argument and with one, by whether it is `getchar`
+    by_none : (b : Bool) (vs : List Value) (k : List Item) → CalledBuiltIn p b [] → Can k (false ∷ shapes vs)
+        → IsFine (if b then go p h out 1 (with_world h (record h.world { input = drop 1 h.world.input })) (Number (next_byte h.world.input) ∷ vs) k else Undefined IllTyped)
+    by_none true vs k q r = goes_in 1 _ (Number _ ∷ vs) k w r
+    by_none false vs k q r = q
+
+    by_one : (b putchar : Bool) (v : Value) (vs : List Value) (k : List Item) → CalledBuiltIn p b (is_place v ∷ []) → Can k (false ∷ shapes vs)
+        → IsFine (on_ok (bits_in v) (λ n.
+        if b then Undefined IllTyped
+        else if putchar then go p h out 1 (with_world h (record h.world { output = h.world.output ++ (n % 256) ∷ [] })) (Number (n % 256) ∷ vs) k
+        else Exits (signed n) 1 (record { here = h; values = []; control = []; outer = out })))
+    by_one true putchar v vs k q r = nil_cons (is_place v) [] q
+    by_one false putchar v vs k q r = ok_fine p (λ _. Unit {0}) (bits_in v) _ (bits_give v q) λ n u. printed putchar n vs k r
+
+    by_more : (b : Bool) (s t : Bool) (ss : List Bool) → CalledBuiltIn p b (s ∷ t ∷ ss) → ⊥
+    by_more true s t ss q = nil_cons s (t ∷ ss) q
+    by_more false s t ss q = q
+
+    built_in_fine : (name : List ℕ) (args vs : List Value) (k : List Item) → CalledBuiltIn p (is_getchar name) (shapes args) → Can k (false ∷ shapes vs) → IsFine (built_in p h out name args vs k)
+    built_in_fine name [] vs k q r = by_none (is_getchar name) vs k q r
+    built_in_fine name (v ∷ []) vs k q r = by_one (is_getchar name) (bytes_eq name (codes "putchar")) v vs k q r
+    built_in_fine name (v ∷ u ∷ us) vs k q r = by_more (is_getchar name) (is_place v) (is_place u) (shapes us) q
 
     call_function : (g : ℕ) (fn : Option Function) (n : ℕ) (vs : List Value) (k : List Item) → slice_get p.functions g ≡ fn → EntersFunction p g fn n (shapes vs) (Ready p f k ls)
-        → IsFine (on_some fn (λ fn. Goes (1 + n) (record { here = entered p (suc h.place.number) g (reverse (take n vs)) h.world; values = []; control = body_of p g fn; outer = record { place = h.place; values = drop n vs; control = k } ∷ out })))
+        → IsFine (on_some fn (λ fn.
+        if fn.params == n then Goes (1 + n) (record { here = entered p (suc h.place.number) g (reverse (take n vs)) h.world; values = []; control = body_of p g fn; outer = record { place = h.place; values = drop n vs; control = k } ∷ out })
+        else Undefined IllTyped))
     call_function g None n vs k e r = r
     call_function g (Some fn) n vs k e r =
         let args = reverse (take n vs) in
         let same : reverse (take n (shapes vs)) ≡ shapes args = ap reverse (sym (take_map is_place n vs)) ∙ sym (reverse_map is_place (take n vs)) in
-        let count : fn.params ≡ length args = sym r.0 ∙ ap length same ∙ map_length is_place args in
-        given_good p g args 0 (record { world = h.world; place = new_place (suc h.place.number) g }) (body_of p g fn) (record { place = h.place; values = drop n vs; control = k } ∷ out) w
+        let count : fn.params ≡ length args = sym r.1 ∙ ap length same ∙ map_length is_place args in
+        if_fine p (fn.params == n) _ _ (equal_numbers fn.params n r.0)
+        (given_good p g args 0 (record { world = h.world; place = new_place (suc h.place.number) g }) (body_of p g fn) (record { place = h.place; values = drop n vs; control = k } ∷ out) w
         (subst (HasFunction p) (sym e) tt)
-        (i, subst (λ ss. Ready p f k ls (addr (result_type p g) ∷ ss)) (sym (drop_map is_place n vs)) r.2, o)
-        (subst (λ ss. Given p g 0 ss) same r.1)
-        (subst (λ c. Ready p g (body_of p g fn) (numbers 0 c) []) count (subst (ShapedFunction g) e (bodies g)))
+        (i, subst (λ ss. Ready p f k ls (addr (result_type p g) ∷ ss)) (sym (drop_map is_place n vs)) r.3, o)
+        (subst (λ ss. Given p g 0 ss) same r.2)
+        (subst (λ c. Ready p g (body_of p g fn) (numbers 0 c) []) count (subst (ShapedFunction g) e (bodies g))))
 
     call_fine : (r : Referent) (name : List ℕ) (n : ℕ) (vs : List Value) (k : List Item) → EntersBy p r name n (shapes vs) (Ready p f k ls) → IsFine (call p h out r name n vs k)
     call_fine (Object x) name n vs k r = r
     call_fine (Local x) name n vs k r = r
     call_fine (Defined g) name n vs k r = call_function g (slice_get p.functions g) n vs k refl r
-    call_fine Declared name n vs k r = built_in_fine name vs k r
+    call_fine Declared name n vs k r =
+        built_in_fine name (take n vs) (drop n vs) k (subst (λ ss. CalledBuiltIn p (is_getchar name) ss) (sym (take_map is_place n vs)) r.0)
+        (subst (λ ss. Ready p f k ls (false ∷ ss)) (sym (drop_map is_place n vs)) r.1)
 
     enter_fine : (s : Option SymbolRow) (n : ℕ) (vs : List Value) (k : List Item) → Enters p s n (shapes vs) (Ready p f k ls) → IsFine (on_some s (λ s. call p h out s.refers s.name n vs k))
     enter_fine None n vs k r = r

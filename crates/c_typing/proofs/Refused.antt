@@ -6,7 +6,7 @@ use Rattle.c_tree.specs.declared.types.CType.{CType}
 use Rattle.c_tree.specs.declared.types.CType.TheVariants.{Char, Int, Unsigned, Pointer', Array'}
 use Rattle.c_tree.specs.declared.typed.BinaryOp.TheVariants.{ShiftLeft, Add, Subtract, Multiply, Divide}
 use Rattle.c_tree.specs.declared.typed.Typed.{Typed, end_of-Typed, more_of-Typed}
-use Rattle.c_tree.specs.declared.typed.Typed.TheVariants.{Assign', Or', Binary', Cast', Address', Follow', SizeOf', Call', Name, Constant, Literal, Parens'}
+use Rattle.c_tree.specs.declared.typed.Typed.TheVariants.{Assign', Choice', Or', And', Binary', Cast', Address', Follow', SizeOf', Call', Name, Constant, Literal, Parens'}
 use Rattle.c_tree.specs.declared.typed.Stmt.{Stmt, end_of-Stmt, more_of-Stmt}
 use Rattle.c_tree.specs.declared.typed.Stmt.TheVariants.{Value, Block', Switch', Case', Break, Continue, Return}
 use Rattle.c_tree.specs.declared.rows.Program.{Program}
@@ -130,6 +130,19 @@ module _ (b : Box (Unit {0}) Global) where
 
   no_quotient : constant_of [] (Binary' (of_type Int) b (number 1) Divide b (number 0)) ≡ None
   no_quotient = refl
+
+  -- `0 && i`, `1 || i` and `1 ? 0 : i` are none, for `i` is no constant; `0 && 1 / 0` is one
+  variable_not_evaluated : constant_of [] (And' (of_type Int) b (number 0) b i) ≡ None
+  variable_not_evaluated = refl
+
+  variable_behind_true : constant_of [] (Or' (of_type Int) b (number 1) b i) ≡ None
+  variable_behind_true = refl
+
+  variable_not_chosen : constant_of [] (Choice' (of_type Int) b (number 1) b (number 0) b i) ≡ None
+  variable_not_chosen = refl
+
+  quotient_not_evaluated : constant_of [] (And' (of_type Int) b (number 0) b (Binary' (of_type Int) b (number 1) Divide b (number 0))) ≡ Some 0
+  quotient_not_evaluated = refl
 
   -- 2147483647 + 1 is none, and 4294967295u + 1 is a null constant
   no_sum : constant_of [] (Binary' (of_type Int) b (number 2147483647) Add b (number 1)) ≡ None

@@ -1,5 +1,5 @@
 -- Constant expressions and null constants (C90 6.4, 6.2.2.3).
-use Rattle.std.specs.Prelude.{ℕ, Bool, true, false, ◌==◌, if◌then◌else◌, List, Option, Some, None, option_map, option_and_then, Result, Ok, Err, bit_xor}
+use Rattle.std.specs.Prelude.{ℕ, Bool, true, false, ◌==◌, ◌&&◌, if◌then◌else◌, List, Option, Some, None, option_map, option_and_then, Result, Ok, Err, bit_xor}
 use Rattle.ldb_words.specs.declared.kinds.Undef.{Undef}
 use Rattle.c_tree.specs.declared.types.CType.{CType}
 use Rattle.c_tree.specs.declared.types.CType.TheVariants.{Char}
@@ -45,19 +45,37 @@ chosen c a b = if is_true c then a else b
 abbrev pub truth_of : Option ℕ → Option ℕ
 truth_of a = option_map (λ n. truth (is_true n)) a
 
--- The value of a constant expression, as its bits. It is built of integer and character constants, `sizeof`, casts to integer types, unary and binary operators without assignment and comma, and `? :`, and its value is defined (C90 6.4).
+-- A constant expression is built of integer and character constants, `sizeof`, casts to integer types, unary and binary operators without assignment and comma, and `? :`, also in the parts that are not evaluated (C90 6.4).
+abbrev pub is_built : Typed → Bool
+is_built (Constant h n) = true
+is_built (SizeOf' h _ a) = true
+is_built (SizeOfType h t) = true
+is_built (Cast' h _ a) = is_built a
+is_built (Unary' h op _ a) = is_built a
+is_built (Binary' h _ a op _ b) = is_built a && is_built b
+is_built (And' h _ a _ b) = is_built a && is_built b
+is_built (Or' h _ a _ b) = is_built a && is_built b
+is_built (Choice' h _ c _ a _ b) = is_built c && is_built a && is_built b
+is_built (Parens' h _ a) = is_built a
+is_built _ = false
+
+-- the value of an expression by its parts that are evaluated, as its bits, where it is defined
+abbrev pub evaluated : List StructDef → Typed → Option ℕ
+evaluated defs (Constant h n) = Some n
+evaluated defs (SizeOf' h _ a) = Some (size_of defs (type_of a))
+evaluated defs (SizeOfType h t) = Some (size_of defs t)
+evaluated defs (Cast' h _ a) = option_map (cast_to h.ctype) (evaluated defs a)
+evaluated defs (Unary' h op _ a) = option_and_then (operated_on op (type_of a)) (evaluated defs a)
+evaluated defs (Binary' h _ a op _ b) = option_and_then (λ x. option_and_then (operated op (type_of a) (type_of b) x) (evaluated defs b)) (evaluated defs a)
+evaluated defs (And' h _ a _ b) = option_and_then (λ c. chosen c (truth_of (evaluated defs b)) (Some 0)) (evaluated defs a)
+evaluated defs (Or' h _ a _ b) = option_and_then (λ c. chosen c (Some 1) (truth_of (evaluated defs b))) (evaluated defs a)
+evaluated defs (Choice' h _ c _ a _ b) = option_and_then (λ n. chosen n (evaluated defs a) (evaluated defs b)) (evaluated defs c)
+evaluated defs (Parens' h _ a) = evaluated defs a
+evaluated defs _ = None
+
+-- The value of a constant expression, which is built of constants and has a defined value as a whole (C90 6.4).
 abbrev pub constant_of : List StructDef → Typed → Option ℕ
-constant_of defs (Constant h n) = Some n
-constant_of defs (SizeOf' h _ a) = Some (size_of defs (type_of a))
-constant_of defs (SizeOfType h t) = Some (size_of defs t)
-constant_of defs (Cast' h _ a) = option_map (cast_to h.ctype) (constant_of defs a)
-constant_of defs (Unary' h op _ a) = option_and_then (operated_on op (type_of a)) (constant_of defs a)
-constant_of defs (Binary' h _ a op _ b) = option_and_then (λ x. option_and_then (operated op (type_of a) (type_of b) x) (constant_of defs b)) (constant_of defs a)
-constant_of defs (And' h _ a _ b) = option_and_then (λ c. chosen c (truth_of (constant_of defs b)) (Some 0)) (constant_of defs a)
-constant_of defs (Or' h _ a _ b) = option_and_then (λ c. chosen c (Some 1) (truth_of (constant_of defs b))) (constant_of defs a)
-constant_of defs (Choice' h _ c _ a _ b) = option_and_then (λ n. chosen n (constant_of defs a) (constant_of defs b)) (constant_of defs c)
-constant_of defs (Parens' h _ a) = constant_of defs a
-constant_of defs _ = None
+constant_of defs e = if is_built e then evaluated defs e else None
 
 abbrev pub is_zero : Option ℕ → Bool
 is_zero None = false
