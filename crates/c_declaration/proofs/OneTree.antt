@@ -31,11 +31,11 @@ none_some x e = cc
 some_is : {T : Type 0} (x y : T) → Some x ≡ Some y → x ≡ y
 some_is x y e = cc
 
-abbrev made_of : {S A : Type 0} → A → Option (Step S A)
-made_of x = Some (Ends x)
+abbrev made_of : {A : Type 0} (S : Type 0) → A → Option (Step S A)
+made_of S x = Some (Ends x)
 
-ends_are : {S A : Type 0} (x y : A) → made_of {S} x ≡ made_of {S} y → x ≡ y
-ends_are x y e = cc
+ends_are : {A : Type 0} (S : Type 0) (x y : A) → made_of S x ≡ made_of S y → x ≡ y
+ends_are S x y e = cc
 
 cut_one : {T : Type 0} (a b : T) (m n : ℕ) → m ≤ 64 → cut a m ≡ cut b n → (a ≡ b) × (m ≡ n)
 cut_one {T} a b m n le e =
@@ -56,12 +56,12 @@ abbrev a_semicolon : Terminal
 a_semicolon = record { symbol = Semicolon; place = record { at = 0; line = 0; column = 0 }; text = [] }
 
 pub one_declarator : OneDeclarator
-one_declarator ts a b m n le d e = cut_one a b m n le (ends_are (cut a m) (cut b n) (sym (declarator_ends a m ts a_semicolon d refl) ∙ declarator_ends b n ts a_semicolon e refl))
+one_declarator ts a b m n le d e = cut_one a b m n le (ends_are DeclaratorParser (cut a m) (cut b n) (sym (declarator_ends a m ts a_semicolon d refl) ∙ declarator_ends b n ts a_semicolon e refl))
 
 pub one_local : OneLocal
 one_local ts a b m n le d e =
     let made : Local → ℕ → ReadLocal = λ l h. record { place = l.place; local = cut l h } in
-    cut_one a b m n le (ap (λ x. x.local) (ends_are (made a m) (made b n) (sym (local_ends a m ts d) ∙ local_ends b n ts e)))
+    cut_one a b m n le (ap (λ x. x.local) (ends_are LocalParser (made a m) (made b n) (sym (local_ends a m ts d) ∙ local_ends b n ts e)))
 
 abbrev head_in : ReadHead → Option Head
 head_in (Declaration at e) = e
@@ -72,11 +72,11 @@ function_in (Declaration at e) = None
 function_in (Function at e) = e
 
 pub one_head : OneHead
-one_head ts a b m n le d e = kept_one a b m n le (ap head_in (ends_are (Declaration a.place (kept a m)) (Declaration b.place (kept b n)) (sym (head_ends a m ts d) ∙ head_ends b n ts e)))
+one_head ts a b m n le d e = kept_one a b m n le (ap head_in (ends_are FileParser (Declaration a.place (kept a m)) (Declaration b.place (kept b n)) (sym (head_ends a m ts d) ∙ head_ends b n ts e)))
 
 abbrev a_brace : Terminal
 a_brace = record { symbol = OpenBrace; place = record { at = 0; line = 0; column = 0 }; text = [] }
 
 pub one_function : OneFunction
 one_function ts a b m n le d e =
-    kept_one a b m n le (ap function_in (ends_are (Function a.place (kept a m)) (Function b.place (kept b n)) (sym (function_ends a m ts a_brace d refl) ∙ function_ends b n ts a_brace e refl)))
+    kept_one a b m n le (ap function_in (ends_are FileParser (Function a.place (kept a m)) (Function b.place (kept b n)) (sym (function_ends a m ts a_brace d refl) ∙ function_ends b n ts a_brace e refl)))
