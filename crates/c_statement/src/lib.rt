@@ -15,5 +15,7 @@ mod value;
 pub use block::{Block, Opened};
 pub use laws::{block_ends, block_is};
 pub use machine::shift;
-pub use state::{At, Closer, Control, Frame, Mode, Opener, Optional, Outer, Purpose, Reader, Required};
+pub use state::{
+    At, Closer, Control, Frame, Mode, Opener, Optional, Outer, Purpose, Reader, Required,
+};
 pub use tree::{Head, Statement, StatementNode};

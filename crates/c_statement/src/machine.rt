@@ -12,9 +12,9 @@ use crate::parts::{
     also_of, begun_of, block_of, break_of, closed_of, continue_of, declares_of, empty, placed,
 };
 use crate::state::{At, Control, Frame, Mode, Opener, Optional, Outer, Purpose, Reader, Required};
+use crate::stub::local_offer;
 use crate::tree::{Head, Statement};
 use crate::value::{begin, maybe, value_begins, valued, waits};
-use crate::stub::local_offer;
 use c_declaration::{Built, LocalParser, Step};
 use c_expr::{Stack, SynFault};
 use c_lex::{Keyword, Place};
@@ -231,8 +231,11 @@ fn paren(
 {
     match symbol {
         Symbol::OpenParen => match opener {
-            Opener::Control(control, begun) =>
-                Ok(waits(alloc, stack, Required::Control(control, begun))?),
+            Opener::Control(control, begun) => Ok(waits(
+                alloc,
+                stack,
+                Required::Control(control, begun),
+            )?),
             Opener::Until(before) => Ok(waits(alloc, stack, Required::Until(before))?),
             Opener::For(begun) => Ok(Reader {
                 stack,
