@@ -1,0 +1,16 @@
+pub mod Pushed
+pub mod Pieces
+pub mod Fed
+pub mod Expressions
+pub mod DeclaratorComplete
+pub mod DeclaratorSound
+pub mod InitialComplete
+pub mod InitialSound
+pub mod DeclaredNames
+pub mod Locals
+pub mod MembersComplete
+pub mod MembersSound
+pub mod Files
+pub mod FilesSound
+pub mod OneTree
+pub mod Examples

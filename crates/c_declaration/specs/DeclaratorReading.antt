@@ -21,6 +21,7 @@ use Rattle.c_expr.specs.declared.tree.Spec.{Spec}
 use Rattle.c_expr.specs.declared.tree.Spec.TheVariants.{Unsigned, UnsignedInt, Void, Struct}
 use Rattle.c_expr.specs.declared.state.Parser.{Parser}
 use Rattle.c_declaration.specs.Tree.{DeclaratorTree}
+use Rattle.c_declaration.specs.Grammar.{is_void_type}
 use Rattle.c_declaration.specs.declared.built.Built.{Built}
 use Rattle.c_declaration.specs.declared.front.Stars.{Stars}
 use Rattle.c_declaration.specs.declared.state.Taking.{Taking}
@@ -106,10 +107,6 @@ behind_named (Some f) (Binary Comma) d s = named_divided f d s
 behind_named (Some f) _ d s = None
 
 -- the same behind a declarator without a name, of which `none` tells whether it is without tokens
-abbrev pub is_void_type : Spec → Bool
-is_void_type Void = true
-is_void_type _ = false
-
 -- `void` as the only parameter stands for none
 abbrev pub void_alone : Taking → Bool → Spec → Bool
 void_alone t none spec = t.first && (none && is_void_type spec)

@@ -35,8 +35,9 @@ use Rattle.c_declaration.specs.declared.step.Step.{Step}
 use Rattle.c_declaration.specs.declared.step.Step.TheVariants.{Goes, Ends}
 use Rattle.c_declaration.specs.DeclaratorReading.{both_words}
 use Rattle.c_declaration.specs.NameReading.{name_offer, name_start}
+use Rattle.c_declaration.specs.InitialReading.{is_open_brace}
 use Rattle.c_declaration.specs.LocalReading.{is_int}
-use Rattle.c_declaration.specs.MembersReading.{Parts, last, tree_in, tag_of, is_brace, members_offer, members_start}
+use Rattle.c_declaration.specs.MembersReading.{Parts, last, tree_in, tag_of, members_offer, members_start}
 use Rattle.c_declaration.specs.Grown.{bare_name, name_with}
 
 abbrev pub Next : Type 0
@@ -127,7 +128,7 @@ worded f at None = None
 worded f at (Some spec) = goes (Typed f at spec)
 
 abbrev pub typed : FileFront → Place → Spec → Terminal → Next
-typed f at spec t = if is_int t.symbol then worded f at (both_words spec) else if is_brace t.symbol then opened f at (tag_of spec) else whole f (Some (file_spec.Named spec)) t
+typed f at spec t = if is_int t.symbol then worded f at (both_words spec) else if is_open_brace t.symbol then opened f at (tag_of spec) else whole f (Some (file_spec.Named spec)) t
 
 -- the type
 abbrev pub typing : FileFront → Symbol → Place → Next

@@ -1,6 +1,6 @@
 -- Which tokens are a declarator, an initializer or a declaration, one case for each alternative of the grammar (C90 6.5).
 -- In each relation h is the height of the tree: one more than that of its highest part, where a list of siblings that is not empty is a level.
-use Rattle.std.specs.Prelude.{◌≡◌, ℕ, suc, ◌+◌, max, Bool, true, false, nat_eq, List, [], ◌∷◌, ◌++◌, Option, Some, None}
+use Rattle.std.specs.Prelude.{◌≡◌, ℕ, suc, ◌+◌, max, ◌&&◌, Bool, true, false, List, [], ◌∷◌, ◌++◌, Option, Some, None}
 use Rattle.c_lex.specs.declared.token.Place.{Place}
 use Rattle.c_lex.specs.declared.keyword.Keyword.TheVariants as word
 use Rattle.c_symbol.specs.declared.terminal.Terminal.{Terminal}
@@ -14,7 +14,7 @@ use Rattle.c_expr.specs.declared.tree.Spec.{Spec}
 use Rattle.c_expr.specs.declared.tree.Spec.TheVariants as spec
 use Rattle.c_expr.specs.Tree.{Tree}
 use Rattle.c_expr.specs.Tree as expr
-use Rattle.c_expr.specs.Grammar.{AreStars, IsSpec, IsExpr, IsAbstract}
+use Rattle.c_expr.specs.Grammar.{is_nothing, AreStars, IsSpec, IsExpr, IsAbstract}
 use Rattle.c_declaration.specs.declared.tree.Storage.{Storage}
 use Rattle.c_declaration.specs.declared.tree.Storage.TheVariants as storage
 use Rattle.c_declaration.specs.declared.tree.Declared.{Declared}
@@ -42,9 +42,13 @@ pub data IsRegister : Bool → List Terminal → Type 0 where
   unmarked : IsRegister false []
   marked : (t : Terminal) → Is t (symbol.Keyword word.Register) → IsRegister true (t ∷ [])
 
+abbrev pub is_void_type : Spec → Bool
+is_void_type spec.Void = true
+is_void_type _ = false
+
 -- `void` without a name
 abbrev pub is_void : DeclaratorTree → Bool
-is_void (tree.Unnamed _ spec.Void (expr.Stars n)) = nat_eq n 0
+is_void (tree.Unnamed _ s a) = is_nothing a && is_void_type s
 is_void _ = false
 
 -- a function whose only parameter is `void` without a name: such a list of parameters is the list of none (C90 6.5.4.3)
@@ -92,12 +96,12 @@ mutual
 
   -- a parameter
   pub data IsParameter : DeclaratorTree → ℕ → List Terminal → Type 0 where
-    named : {at : Place} {r : Bool} {s : Spec} {d : DeclaratorTree} {h : ℕ} {us vs ws : List Terminal}
-        → IsRegister r us → IsSpec s vs → first_place (us ++ vs) ≡ Some at → IsDeclarator d h ws
-        → IsParameter (tree.Named at r s d) (suc h) (us ++ (vs ++ ws))
-    unnamed : {at : Place} {s : Spec} {a : Tree} {m : ℕ} {us vs : List Terminal}
-        → IsSpec s us → first_place us ≡ Some at → IsAbstract a m vs
-        → IsParameter (tree.Unnamed at s a) (suc (max 1 m)) (us ++ vs)
+    named : {at : Place} {r : Bool} {base : Spec} {d : DeclaratorTree} {h : ℕ} {us vs ws : List Terminal}
+        → IsRegister r us → IsSpec base vs → first_place (us ++ vs) ≡ Some at → IsDeclarator d h ws
+        → IsParameter (tree.Named at r base d) (suc h) (us ++ (vs ++ ws))
+    unnamed : {at : Place} {base : Spec} {a : Tree} {m : ℕ} {us vs : List Terminal}
+        → IsSpec base us → first_place us ≡ Some at → IsAbstract a m vs
+        → IsParameter (tree.Unnamed at base a) (suc (max 1 m)) (us ++ vs)
 
 -- initializers (C90 6.5.7)
 mutual
@@ -128,9 +132,9 @@ pub data AreDeclared : List Declared → ℕ → List Terminal → Type 0 where
 
 -- a declaration in a block, with its `;`
 pub data IsLocal : Local → ℕ → List Terminal → Type 0 where
-  local : (c : Terminal) {r : Bool} {s : Spec} {at : Place} {ds : List Declared} {h : ℕ} {us vs ws : List Terminal}
-      → IsRegister r us → IsSpec s vs → first_place (us ++ vs) ≡ Some at → AreDeclared ds h ws → Is c symbol.Semicolon
-      → IsLocal (record { place = at; register = r; spec = s; names = ds }) (suc h) (us ++ (vs ++ (ws ++ c ∷ [])))
+  local : (c : Terminal) {r : Bool} {base : Spec} {at : Place} {ds : List Declared} {h : ℕ} {us vs ws : List Terminal}
+      → IsRegister r us → IsSpec base vs → first_place (us ++ vs) ≡ Some at → AreDeclared ds h ws → Is c symbol.Semicolon
+      → IsLocal (record { place = at; register = r; spec = base; names = ds }) (suc h) (us ++ (vs ++ (ws ++ c ∷ [])))
 
 -- At file scope each declarator and each initializer is a tree of its own, so h is the greatest height of one.
 pub data IsStorage : Storage → List Terminal → Type 0 where
@@ -148,15 +152,15 @@ pub data AreDeclarators : List DeclaratorTree → ℕ → List Terminal → Type
 pub data AreMembers : List MemberPart → ℕ → List Terminal → Type 0 where
   no_members : (t name o : Terminal) → Is t symbol.Struct → Is name (symbol.Leaf leaf.Name) → Is o symbol.OpenBrace
       → AreMembers (Opens t.place name.text ∷ []) 0 (t ∷ name ∷ o ∷ [])
-  named_row : (c : Terminal) {ps : List MemberPart} {s : Spec} {at : Place} {ds : List DeclaratorTree} {m n : ℕ} {us vs ws : List Terminal}
-      → AreMembers ps m us → IsSpec s vs → first_place vs ≡ Some at → AreDeclarators ds n ws → Is c symbol.Semicolon
-      → AreMembers (ps ++ Row at s ds ∷ []) (max m n) (us ++ (vs ++ (ws ++ c ∷ [])))
+  named_row : (c : Terminal) {ps : List MemberPart} {base : Spec} {at : Place} {ds : List DeclaratorTree} {m n : ℕ} {us vs ws : List Terminal}
+      → AreMembers ps m us → IsSpec base vs → first_place vs ≡ Some at → AreDeclarators ds n ws → Is c symbol.Semicolon
+      → AreMembers (ps ++ Row at base ds ∷ []) (max m n) (us ++ (vs ++ (ws ++ c ∷ [])))
   struct_row : (o c : Terminal) {ps qs : List MemberPart} {ds : List DeclaratorTree} {l m n : ℕ} {us vs ws : List Terminal}
       → AreMembers ps l us → AreMembers qs m vs → Is o symbol.CloseBrace → AreDeclarators ds n ws → Is c symbol.Semicolon
       → AreMembers (ps ++ (qs ++ Closes ds ∷ [])) (max l (max m n)) (us ++ (vs ++ o ∷ (ws ++ c ∷ [])))
 
 pub data IsFileSpec : FileSpec → ℕ → List Terminal → Type 0 where
-  named_spec : {s : Spec} {ts : List Terminal} → IsSpec s ts → IsFileSpec (Named s) 0 ts
+  named_spec : {base : Spec} {ts : List Terminal} → IsSpec base ts → IsFileSpec (Named base) 0 ts
   struct_spec : (c : Terminal) {ps : List MemberPart} {h : ℕ} {ts : List Terminal} → AreMembers ps h ts → Is c symbol.CloseBrace → IsFileSpec (Members ps) h (ts ++ c ∷ [])
 
 -- a name that is declared at file scope

@@ -85,3 +85,17 @@ HeadOf (Function at e) ts = (d : FunctionHead) × (h : ℕ) × (us : List Termin
 
 abbrev pub FileIs : Type 0
 FileIs = (ts : List Terminal) (a : ReadHead) → reading_file ts ≡ Some (Ends a) → HeadOf a ts
+
+-- tokens have one tree of at most 64 levels
+abbrev pub OneDeclarator : Type 0
+OneDeclarator = (ts : List Terminal) (a b : DeclaratorTree) (m n : ℕ) → m ≤ 64 → IsDeclarator a m ts → IsDeclarator b n ts → (a ≡ b) × (m ≡ n)
+
+abbrev pub OneLocal : Type 0
+OneLocal = (ts : List Terminal) (a b : Local) (m n : ℕ) → m ≤ 64 → IsLocal a m ts → IsLocal b n ts → (a ≡ b) × (m ≡ n)
+
+-- at file scope they are the same tree, of which no part is too high
+abbrev pub OneHead : Type 0
+OneHead = (ts : List Terminal) (a b : Head) (m n : ℕ) → m ≤ 64 → IsHead a m ts → IsHead b n ts → (a ≡ b) × (n ≤ 64)
+
+abbrev pub OneFunction : Type 0
+OneFunction = (ts : List Terminal) (a b : FunctionHead) (m n : ℕ) → m ≤ 64 → IsFunctionHead a m ts → IsFunctionHead b n ts → (a ≡ b) × (n ≤ 64)

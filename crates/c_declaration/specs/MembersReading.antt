@@ -6,7 +6,7 @@ use Rattle.c_symbol.specs.declared.symbol.LeafKind.TheVariants.{Name}
 use Rattle.c_symbol.specs.declared.symbol.BinaryOp.TheVariants.{Comma}
 use Rattle.c_symbol.specs.declared.symbol.TypeWord.TheVariants as a_word
 use Rattle.c_symbol.specs.declared.symbol.Symbol.{Symbol}
-use Rattle.c_symbol.specs.declared.symbol.Symbol.TheVariants.{Leaf, Word, Binary, Struct as StructWord, OpenBrace, CloseBrace, Semicolon}
+use Rattle.c_symbol.specs.declared.symbol.Symbol.TheVariants.{Leaf, Word, Binary, Struct as StructWord, CloseBrace, Semicolon}
 use Rattle.c_expr.specs.Grammar.{spec_of}
 use Rattle.c_expr.specs.declared.tree.Spec.{Spec}
 use Rattle.c_expr.specs.declared.tree.Spec.TheVariants.{Struct}
@@ -23,6 +23,7 @@ use Rattle.c_declaration.specs.declared.state.MembersParser.{MembersParser}
 use Rattle.c_declaration.specs.declared.step.Step.{Step}
 use Rattle.c_declaration.specs.declared.step.Step.TheVariants.{Goes, Ends}
 use Rattle.c_declaration.specs.DeclaratorReading.{both_words, declarator_offer, declarator_start}
+use Rattle.c_declaration.specs.InitialReading.{is_open_brace}
 use Rattle.c_declaration.specs.LocalReading.{is_int}
 
 -- the parts of a struct so far, absent where one is too high
@@ -97,15 +98,11 @@ abbrev pub opened : Parts → ℕ → Place → Option (List ℕ) → Next
 opened ps n at None = None
 opened ps n at (Some tag) = goes (last ps (Some (Opens at tag))) (n + 1) Begin
 
-abbrev pub is_brace : Symbol → Bool
-is_brace OpenBrace = true
-is_brace _ = false
-
 abbrev pub typed_name : Parts → ℕ → Place → Spec → Terminal → Next
 typed_name ps n at spec t = naming ps n (row.Named at spec) (Some []) declarator_start t
 
 abbrev pub typed : Parts → ℕ → Place → Spec → Terminal → Next
-typed ps n at spec t = if is_int t.symbol then worded ps n at (both_words spec) else if is_brace t.symbol then opened ps n at (tag_of spec) else typed_name ps n at spec t
+typed ps n at spec t = if is_int t.symbol then worded ps n at (both_words spec) else if is_open_brace t.symbol then opened ps n at (tag_of spec) else typed_name ps n at spec t
 
 abbrev pub shift_mode : Parts → ℕ → RowMode → Terminal → Next
 shift_mode ps n Begin t = beginning ps n t.symbol t.place

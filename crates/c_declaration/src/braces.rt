@@ -1,7 +1,13 @@
-// Lists of initializers that are being read.
+// Initializers, grown until they are too high.
+ghost use Rattle.std.specs.Prelude.{◌≡◌, ◌+◌, IfOk, Some, max};
+ghost use Rattle.c_declaration.specs.InitialTree.{Item};
+ghost use Rattle.c_declaration.specs.Grown.{grow_list, value_of, value_at, braces_of, item_of, closed_of};
 
-use crate::tree::Initial;
+use crate::built::{Built, MOST_HEIGHT, greater};
+use crate::tree::{Initial, InitialNode};
+use c_expr::Expr;
 use c_lex::Place;
+use std::alloc::{AllocError, Global};
 use std::marker::Model;
 
 /// A list of initializers in braces so far, and the height of the list.
@@ -23,4 +29,103 @@ impl Model for BuiltBraces {
     ghost coded = { Prim.hlevel (codes, i.the_row.coded) };
 
     ghost view = { λ b. record { height = b.height; tree = with_items (Braces b.place) b.items.items } };
+}
+
+/// An initializer that is an expression.
+fn value_at(expr: Built<Expr>) -> Built<Initial>
+    ensures { result ≡ value_at expr }
+{
+    Built {
+        height: expr.height,
+        tree: Initial {
+            node: InitialNode::Value(expr.tree),
+        },
+    }
+}
+
+/// An initializer that is an expression, unless that is too high.
+pub fn value_of(expr: Option<Built<Expr>>) -> Option<Built<Initial>>
+    ensures { result ≡ value_of expr }
+{
+    match expr {
+        Some(expr) => Some(value_at(expr)),
+        None => None,
+    }
+}
+
+/// A list in braces without an item.
+pub fn braces_of(alloc: Global, place: Place) -> Option<BuiltBraces>
+    ensures { result ≡ braces_of place }
+{
+    Some(BuiltBraces {
+        height: 0,
+        place,
+        items: Vec::new(alloc),
+    })
+}
+
+/// A list in braces with an item more.
+fn longer(braces: BuiltBraces, item: Built<Initial>) -> Result<Option<BuiltBraces>, AllocError>
+    ensures { IfOk result (λ r. r ≡ grow_list 64 1 Item (Some braces) (Some item)) }
+{
+    if item.height < MOST_HEIGHT {
+        let BuiltBraces {
+            height,
+            place,
+            items: mut items,
+        } = braces;
+        items.push(item.tree)?;
+        return Ok(Some(BuiltBraces {
+            height: greater(height, item.height + 1),
+            place,
+            items,
+        }));
+    }
+    Ok(None)
+}
+
+/// A list in braces with an item more, unless one of them is too high.
+pub fn item_of(
+    braces: Option<BuiltBraces>,
+    item: Option<Built<Initial>>,
+) -> Result<Option<BuiltBraces>, AllocError>
+    ensures { IfOk result (λ r. r ≡ item_of braces item) }
+{
+    match braces {
+        Some(braces) => match item {
+            Some(item) => longer(braces, item),
+            None => Ok(None),
+        },
+        None => Ok(None),
+    }
+}
+
+/// An initializer that is a list.
+fn list_of(braces: BuiltBraces) -> Option<Built<Initial>>
+    ensures { result ≡ closed_of (Some braces) }
+{
+    let BuiltBraces {
+        height,
+        place,
+        items,
+    } = braces;
+    if height < MOST_HEIGHT {
+        return Some(Built {
+            height: height + 1,
+            tree: Initial {
+                node: InitialNode::Braces(place, items),
+            },
+        });
+    }
+    None
+}
+
+/// An initializer that is a list, unless that is too high.
+pub fn closed_of(braces: Option<BuiltBraces>) -> Option<Built<Initial>>
+    ensures { result ≡ closed_of braces }
+{
+    match braces {
+        Some(braces) => list_of(braces),
+        None => None,
+    }
 }

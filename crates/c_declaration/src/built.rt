@@ -1,5 +1,8 @@
-// Trees with their heights.
+// Trees with their heights, grown until they are too high.
 ghost use Rattle.std.specs.Prelude.{◌≡◌, max};
+ghost use Rattle.c_declaration.specs.Grown.{taller, expr_of};
+
+use c_expr::Expr;
 
 /// A tree and its height.
 #[derive(Drop)]
@@ -16,4 +19,31 @@ pub fn greater(a: u32, b: u32) -> u32
     ensures { result ≡ max a b }
 {
     if a < b { b } else { a }
+}
+
+/// A tree one higher than its parts.
+pub fn taller<T: Drop>(height: u32, tree: T) -> Option<Built<T>>
+    ensures { result ≡ taller height tree }
+{
+    if height < MOST_HEIGHT {
+        Some(Built {
+            height: height + 1,
+            tree,
+        })
+    } else {
+        None
+    }
+}
+
+/// An expression that was read.
+pub fn expr_of(expr: Option<c_expr::Built>) -> Option<Built<Expr>>
+    ensures { result ≡ expr_of expr }
+{
+    match expr {
+        Some(built) => Some(Built {
+            height: built.height,
+            tree: built.expr,
+        }),
+        None => None,
+    }
 }

@@ -1,7 +1,13 @@
 // Functions whose parameters are being read.
+ghost use Rattle.std.specs.Prelude.{◌≡◌, ◌+◌, IfOk, Some, max};
+ghost use Rattle.c_declaration.specs.Tree.{Taking};
+ghost use Rattle.c_declaration.specs.Grown.{grow_list, function_of, taking_of};
 
-use crate::tree::{Declarator, Parameter};
+use crate::built::{Built, MOST_HEIGHT, greater};
+use crate::grown::begins;
+use crate::tree::{Declarator, DeclaratorNode, Parameter};
 use c_lex::Place;
+use std::alloc::{AllocError, Global};
 use std::marker::Model;
 
 /// A function's declarator so far, and the height of its tree.
@@ -24,4 +30,96 @@ impl Model for BuiltFunction {
     ghost coded = { Prim.hlevel (codes, d.the_row.coded) };
 
     ghost view = { λ f. record { height = f.height; tree = with_parameters (Function f.place f.declarator.value) f.parameters.items } };
+}
+
+/// A function of this declarator, without parameters.
+pub fn function_of(
+    alloc: Global,
+    d: Option<Built<Declarator>>,
+) -> Result<Option<BuiltFunction>, AllocError>
+    ensures { IfOk result (λ f. f ≡ function_of d) }
+{
+    match d {
+        Some(d) => {
+            if d.height < MOST_HEIGHT {
+                return Ok(Some(BuiltFunction {
+                    height: d.height + 1,
+                    place: begins(&d.tree),
+                    declarator: Box::new(alloc, d.tree)?,
+                    parameters: Vec::new(alloc),
+                }));
+            }
+            Ok(None)
+        }
+        None => Ok(None),
+    }
+}
+
+/// A function with a parameter more. The list of the parameters is a level.
+fn longer(
+    function: BuiltFunction,
+    parameter: Built<Parameter>,
+) -> Result<Option<BuiltFunction>, AllocError>
+    ensures { IfOk result (λ r. r ≡ grow_list 63 2 Taking (Some function) (Some parameter)) }
+{
+    if parameter.height < MOST_HEIGHT - 1 {
+        let BuiltFunction {
+            height,
+            place,
+            declarator,
+            parameters: mut parameters,
+        } = function;
+        parameters.push(parameter.tree)?;
+        return Ok(Some(BuiltFunction {
+            height: greater(height, parameter.height + 2),
+            place,
+            declarator,
+            parameters,
+        }));
+    }
+    Ok(None)
+}
+
+/// A function with a parameter more, unless one of them is too high.
+pub fn taking_of(
+    function: Option<BuiltFunction>,
+    parameter: Option<Built<Parameter>>,
+) -> Result<Option<BuiltFunction>, AllocError>
+    ensures { IfOk result (λ r. r ≡ taking_of function parameter) }
+{
+    match function {
+        Some(function) => match parameter {
+            Some(parameter) => longer(function, parameter),
+            None => Ok(None),
+        },
+        None => Ok(None),
+    }
+}
+
+/// The declarator of a function that is whole.
+fn whole(function: BuiltFunction) -> Built<Declarator>
+    ensures { result ≡ function }
+{
+    let BuiltFunction {
+        height,
+        place,
+        declarator,
+        parameters,
+    } = function;
+    Built {
+        height,
+        tree: Declarator {
+            node: DeclaratorNode::Function(place, declarator, parameters),
+        },
+    }
+}
+
+/// The declarator of a function that is whole, unless that is too high.
+pub fn whole_function(function: Option<BuiltFunction>) -> Option<Built<Declarator>>
+    ensures { result ≡ function }
+{
+    match function {
+        Some(function) => Some(whole(function)),
+        None => None,
+    }
 }

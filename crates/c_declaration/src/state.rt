@@ -4,6 +4,7 @@ use crate::braces::BuiltBraces;
 use crate::built::Built;
 use crate::front::Stars;
 use crate::function::BuiltFunction;
+use crate::step::Step;
 use crate::tree::{
     Declarator, Declared, FileSpec, FunctionHead, Head, Initial, Local, MemberPart, Storage,
 };
@@ -63,6 +64,9 @@ pub struct DeclaratorParser {
     pub mode: Mode,
 }
 
+/// What one token more of a declarator gives.
+pub type DeclaratorStep = Step<DeclaratorParser, Option<Built<Declarator>>>;
+
 /// A list of initializers that is open.
 #[derive(Drop)]
 pub struct OpenBraces {
@@ -89,6 +93,9 @@ pub struct InitialParser {
     pub mode: InitialMode,
 }
 
+/// What one token more of an initializer gives.
+pub type InitialStep = Step<InitialParser, Option<Built<Initial>>>;
+
 /// What was read of a declared name.
 #[derive(Drop)]
 pub enum NameParser {
@@ -102,6 +109,9 @@ pub enum ReadName {
     Bare(Option<Built<Declarator>>),
     With(Option<Built<Declarator>>, Option<Built<Initial>>),
 }
+
+/// What one token more of a declared name gives.
+pub type NameStep = Step<NameParser, ReadName>;
 
 /// How a declaration in a block begins.
 #[derive(Drop)]
@@ -127,6 +137,9 @@ pub struct ReadLocal {
     pub place: Place,
     pub local: Option<Built<Local>>,
 }
+
+/// What one token more of a declaration in a block gives.
+pub type LocalStep = Step<LocalParser, ReadLocal>;
 
 /// How members of a struct begin: with a named type, or with the `}` of a struct inside.
 #[derive(Drop)]
@@ -155,6 +168,9 @@ pub struct MembersParser {
     pub inside: u64,
     pub mode: RowMode,
 }
+
+/// What one token more of the members of a struct gives: their parts, unless one is too high.
+pub type MembersStep = Step<MembersParser, Option<Many<MemberPart>>>;
 
 /// How a declaration at file scope begins.
 #[derive(Clone, Copy)]
@@ -192,3 +208,6 @@ pub enum ReadHead {
     Declaration(Place, Option<Head>),
     Function(Place, Option<FunctionHead>),
 }
+
+/// What one token more of a declaration at file scope gives.
+pub type FileStep = Step<FileParser, ReadHead>;
