@@ -203,10 +203,13 @@ value_sound evaluates s us ws c st e at h d k =
 value_sound (controls kind t o te oe) s us ws c st e at h d k =
     control_sound kind s us (t ∷ o ∷ (ws ++ c ∷ [])) t.place e h st (controlled kind t o c te oe d (closer_is closer.Paren c.symbol k))
 value_sound (untils p w o ts dp we oe) s us ws c st e at h d k =
-    let x = dp.0 in
-    (us, (ts ++ w ∷ o ∷ []) ++ (ws ++ c ∷ []), st,
-    (Do x.0 x.1 e, suc (max dp.1 h), do_sound dp.2 w o c e at h ws we oe d (closer_is closer.Paren c.symbol k), ap (λ v. do_of v (cut e h)) dp.3 ∙ kept_both (λ v. Do v.0.0 v.0.1 v.1) x e dp.1 h),
-    refl)
+    let x = dp.0 in (
+      us,
+      (ts ++ w ∷ o ∷ []) ++ (ws ++ c ∷ []),
+      st,
+      (Do x.0 x.1 e, suc (max dp.1 h), do_sound dp.2 w o c e at h ws we oe d (closer_is closer.Paren c.symbol k), ap (λ v. do_of v (cut e h)) dp.3 ∙ kept_both (λ v. Do v.0.0 v.0.1 v.1) x e dp.1 h),
+      refl,
+    )
 value_sound (cases t te) s us ws c st e at h d k =
     (us, t ∷ (ws ++ c ∷ []), st, (head.Case t.place e, h, case_head t c te d (closer_is closer.Colon c.symbol k), kept_cut (head.Case t.place) e h), refl)
 
@@ -233,16 +236,26 @@ optional_sound (firsts t o te oe) s us ws c st e h d k =
     let parts = kept_cut (λ v. (t.place, v)) e h in
     (us, t ∷ o ∷ (ws ++ c ∷ []), st, seconds (placed t.place (cut e h)) (t ∷ o ∷ (ws ++ c ∷ [])) ((t.place, e), h, is_first t o c te oe d (closer_is closer.Semicolon c.symbol k), parts), refl)
 optional_sound (seconds p vs dp) s us ws c st e h d k =
-    let x = dp.0 in
-    (us, vs ++ (ws ++ c ∷ []), st,
-    thirds (paired p (cut e h)) (vs ++ (ws ++ c ∷ [])) ((x, e), max dp.1 h, is_second c dp.2 d (closer_is closer.Semicolon c.symbol k), ap (λ v. paired v (cut e h)) dp.3 ∙ paired_cut x e dp.1 h),
-    refl)
+    let x = dp.0 in (
+      us,
+      vs ++ (ws ++ c ∷ []),
+      st,
+      thirds (paired p (cut e h)) (vs ++ (ws ++ c ∷ [])) ((x, e), max dp.1 h, is_second c dp.2 d (closer_is closer.Semicolon c.symbol k), ap (λ v. paired v (cut e h)) dp.3 ∙ paired_cut x e dp.1 h),
+      refl,
+    )
 optional_sound (thirds p vs dp) s us ws c st e h d k =
-    let x = dp.0 in
-    (us, vs ++ (ws ++ c ∷ []), st,
-    (head.For x.0.0 x.0.1 x.1 e, max dp.1 h, for_sound dp.2 c e h ws d (closer_is closer.Paren c.symbol k),
-    ap (λ v. for_of v (cut e h)) dp.3 ∙ kept_paired (λ v. head.For v.0.0.0 v.0.0.1 v.0.1 v.1) x e dp.1 h),
-    refl)
+    let x = dp.0 in (
+      us,
+      vs ++ (ws ++ c ∷ []),
+      st,
+      (
+        head.For x.0.0 x.0.1 x.1 e,
+        max dp.1 h,
+        for_sound dp.2 c e h ws d (closer_is closer.Paren c.symbol k),
+        ap (λ v. for_of v (cut e h)) dp.3 ∙ kept_paired (λ v. head.For v.0.0.0 v.0.0.1 v.0.1 v.1) x e dp.1 h,
+      ),
+      refl,
+    )
 optional_sound (returns t te) s us ws c st e h d k =
     (us, t ∷ (ws ++ c ∷ []), st, (Return t.place e, suc h, return_statement t c te d (closer_is closer.Semicolon c.symbol k), kept_taller (Return t.place) e h), refl)
 
@@ -268,10 +281,13 @@ ended_sound p s g t ts us vs ws fs st b all front d k =
 valued_by : (p : Purpose) (s : List Frame) (q : Parser) (t : Terminal) (ts us vs ws : List Terminal) → Stacked s us → Before p vs → SoFar (least_for p) q ws → ts ≡ us ++ (vs ++ ws)
     → (o : Option Offered) → offer (least_for p) q t ≡ o → OnNext (valued p s t.symbol o) (ts ++ t ∷ [])
 valued_by p s q t ts us vs ws st b so all None e = tt
-valued_by p s q t ts us vs ws st b so all (Some (offered.Goes r)) e =
-    (us, vs ++ (ws ++ t ∷ []), st,
-    (vs, ws ++ t ∷ [], b, λ l. ap (λ k. read_until (least_for p) k (start (least_for p))) (append_assoc ws (t ∷ []) l) ∙ so (t ∷ l) ∙ ap (answered (least_for p) t l) e, refl),
-    ap (λ l. l ++ t ∷ []) all ∙ append_assoc us (vs ++ ws) (t ∷ []) ∙ ap (λ l. us ++ l) (append_assoc vs ws (t ∷ [])))
+valued_by p s q t ts us vs ws st b so all (Some (offered.Goes r)) e = (
+  us,
+  vs ++ (ws ++ t ∷ []),
+  st,
+  (vs, ws ++ t ∷ [], b, λ l. ap (λ k. read_until (least_for p) k (start (least_for p))) (append_assoc ws (t ∷ []) l) ∙ so (t ∷ l) ∙ ap (answered (least_for p) t l) e, refl),
+  ap (λ l. l ++ t ∷ []) all ∙ append_assoc us (vs ++ ws) (t ∷ []) ∙ ap (λ l. us ++ l) (append_assoc vs ws (t ∷ [])),
+)
 valued_by p s q t ts us vs ws st b so all (Some (offered.Ends g)) e =
     let found = ends_behind (least_for p) (ws ++ t ∷ []) g (t ∷ []) (so (t ∷ []) ∙ ap (answered (least_for p) t []) e) in
     guard (is_closer (closer_of p) t.symbol) (used p (expr_part g.tree) s) (ts ++ t ∷ []) (λ k. ended_sound p s g t ts us vs ws found.0 st b all found.1 found.2 k)
@@ -359,17 +375,23 @@ feed_more (t ∷ ts) l q (step.Goes p) e = feed_by ts l q (λ a k. feed_more ts 
 declaring_by : LocalIs → (b : Option (Built StatementTree)) (s : List Frame) (p : LocalParser) (t : Terminal) (ts us vs ws : List Terminal) → Stacked s us → Stands IsOpened b vs
     → reading_local ws ≡ Some (step.Goes p) → ts ≡ us ++ (vs ++ ws) → (o : Option (Step LocalParser ReadLocal)) → local_offer p t ≡ o → OnNext (declaring b s o) (ts ++ t ∷ [])
 declaring_by law b s p t ts us vs ws st d so all None e = tt
-declaring_by law b s p t ts us vs ws st d so all (Some (step.Goes q)) e =
-    (us, vs ++ (ws ++ t ∷ []), st,
-    (vs, ws ++ t ∷ [], d, feed_more ws (t ∷ []) p (step.Goes local.Begin) so ∙ ap (fed []) e, refl),
-    ap (λ l. l ++ t ∷ []) all ∙ append_assoc us (vs ++ ws) (t ∷ []) ∙ ap (λ l. us ++ l) (append_assoc vs ws (t ∷ [])))
+declaring_by law b s p t ts us vs ws st d so all (Some (step.Goes q)) e = (
+  us,
+  vs ++ (ws ++ t ∷ []),
+  st,
+  (vs, ws ++ t ∷ [], d, feed_more ws (t ∷ []) p (step.Goes local.Begin) so ∙ ap (fed []) e, refl),
+  ap (λ l. l ++ t ∷ []) all ∙ append_assoc us (vs ++ ws) (t ∷ []) ∙ ap (λ l. us ++ l) (append_assoc vs ws (t ∷ [])),
+)
 declaring_by law b s p t ts us vs ws st d so all (Some (step.Ends r)) e =
     let l = law (ws ++ t ∷ []) r (feed_more ws (t ∷ []) p (step.Goes local.Begin) so ∙ ap (fed []) e) in
     let kept_is = ap₂ (λ v w. kept (λ x. Declares x.0 x.1) (paired v (taller w))) d.3 l.4
-    ∙ ap (λ v. kept (λ x. Declares x.0 x.1) (paired (cut d.0 d.1) v)) (taller_cut l.0 l.1) ∙ kept_paired (λ x. Declares x.0 x.1) d.0 l.0 d.1 (suc l.1) in
-    (us, vs ++ (ws ++ t ∷ []), st,
-    (Declares d.0 l.0, max d.1 (suc l.1), next_local d.2 l.2, kept_is),
-    ap (λ l. l ++ t ∷ []) all ∙ append_assoc us (vs ++ ws) (t ∷ []) ∙ ap (λ l. us ++ l) (append_assoc vs ws (t ∷ [])))
+    ∙ ap (λ v. kept (λ x. Declares x.0 x.1) (paired (cut d.0 d.1) v)) (taller_cut l.0 l.1) ∙ kept_paired (λ x. Declares x.0 x.1) d.0 l.0 d.1 (suc l.1) in (
+      us,
+      vs ++ (ws ++ t ∷ []),
+      st,
+      (Declares d.0 l.0, max d.1 (suc l.1), next_local d.2 l.2, kept_is),
+      ap (λ l. l ++ t ∷ []) all ∙ append_assoc us (vs ++ ws) (t ∷ []) ∙ ap (λ l. us ++ l) (append_assoc vs ws (t ∷ [])),
+    )
 
 declaring_sound : LocalIs → (b : Option (Built StatementTree)) (s : List Frame) (p : LocalParser) (t : Terminal) (ts : List Terminal) → On s (InLocal b p) ts → OnNext (declaring b s (local_offer p t)) (ts ++ t ∷ [])
 declaring_sound law b s p t ts d =
@@ -456,10 +478,13 @@ on_else_sound t ts e (g, []) d = tt
 on_else_sound t ts e (g, frame.If p ∷ s) d =
     let under = d.2 in
     let dp = under.3 in
-    let dg = d.3 in
-    (under.0, under.1 ++ (d.1 ++ t ∷ []), under.2,
-    ((dp.0, dg.0), max dp.1 dg.1, to_else dp.2 dg.2 t e, ap₂ paired dp.3 dg.3 ∙ paired_cut dp.0 dg.0 dp.1 dg.1),
-    ap (λ l. l ++ t ∷ []) (d.4 ∙ ap (λ l. l ++ d.1) under.4) ∙ append_assoc (under.0 ++ under.1) d.1 (t ∷ []) ∙ append_assoc under.0 under.1 (d.1 ++ t ∷ []))
+    let dg = d.3 in (
+      under.0,
+      under.1 ++ (d.1 ++ t ∷ []),
+      under.2,
+      ((dp.0, dg.0), max dp.1 dg.1, to_else dp.2 dg.2 t e, ap₂ paired dp.3 dg.3 ∙ paired_cut dp.0 dg.0 dp.1 dg.1),
+      ap (λ l. l ++ t ∷ []) (d.4 ∙ ap (λ l. l ++ d.1) under.4) ∙ append_assoc (under.0 ++ under.1) d.1 (t ∷ []) ∙ append_assoc under.0 under.1 (d.1 ++ t ∷ []),
+    )
 on_else_sound t ts e (g, frame.Else p ∷ s) d = tt
 on_else_sound t ts e (g, frame.Headed p ∷ s) d = tt
 on_else_sound t ts e (g, frame.Do at ∷ s) d = tt
@@ -477,9 +502,12 @@ until_sound _ at g s t ts us vs e st d all = tt
 -- a statement more
 also_sound : (b : Option (Built StatementTree)) (us : List Terminal) → Stands IsBegun b us → (g : Option (Built StatementTree)) (vs : List Terminal) → Either g vs → Stands IsBegun (also_of b g) (us ++ vs)
 also_sound b us d g vs d' =
-    let dg = d'.1 in
-    (Also d.0 dg.0, max d.1 (suc dg.1), next_statement d.2 dg.2,
-    ap₂ also_of d.3 dg.3 ∙ ap (λ v. kept (λ x. Also x.0 x.1) (paired (cut d.0 d.1) v)) (taller_cut dg.0 dg.1) ∙ kept_paired (λ x. Also x.0 x.1) d.0 dg.0 d.1 (suc dg.1))
+    let dg = d'.1 in (
+      Also d.0 dg.0,
+      max d.1 (suc dg.1),
+      next_statement d.2 dg.2,
+      ap₂ also_of d.3 dg.3 ∙ ap (λ v. kept (λ x. Also x.0 x.1) (paired (cut d.0 d.1) v)) (taller_cut dg.0 dg.1) ∙ kept_paired (λ x. Also x.0 x.1) d.0 dg.0 d.1 (suc dg.1),
+    )
 
 behind_sound : (t : Terminal) (ts : List Terminal) (r : Option (Built StatementTree) × List Frame) → SettledAny ts r → OnNext (behind r t) (ts ++ t ∷ [])
 behind_sound t ts (g, []) d = tt

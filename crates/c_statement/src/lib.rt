@@ -8,12 +8,13 @@ mod laws;
 mod machine;
 mod parts;
 mod state;
-mod stub;
 mod tree;
 mod value;
 
 pub use block::{Block, Opened};
-pub use laws::{block_ends, block_is};
+pub use laws::blocks_are_read;
 pub use machine::shift;
-pub use state::{At, Closer, Control, Frame, Mode, Opener, Optional, Outer, Purpose, Reader, Required};
+pub use state::{
+    At, Closer, Control, Frame, Mode, Opener, Optional, Outer, Purpose, Reader, Required,
+};
 pub use tree::{Head, Statement, StatementNode};

@@ -3,7 +3,7 @@ ghost use Rattle.std.specs.Prelude.{◌≡◌, ◌∷◌, IfOk, Some, drop};
 ghost use Rattle.c_expr.specs.First.{first};
 ghost use Rattle.c_statement.specs.Parts.{also_of};
 ghost use Rattle.c_declaration.specs.LocalReading.{local_offer};
-ghost use Rattle.c_statement.specs.Machine.{Gives, keyword, begins, ends_block, inside, declaring, starts_local, items, until, continues, behind, takes_else, if_part, on_else, outer_of, after, opens, paren, semicolon, colon, shift, settle, begun_block};
+ghost use Rattle.c_statement.specs.Machine.{Gives, goes, keyword, begins, ends_block, inside, declaring, starts_local, items, until, continues, behind, takes_else, if_part, on_else, outer_of, after, opens, paren, semicolon, colon, shift, settle, begun_block};
 
 use crate::block::{Block, Opened};
 use crate::built::paired;
@@ -14,12 +14,18 @@ use crate::parts::{
 use crate::state::{At, Control, Frame, Mode, Opener, Optional, Outer, Purpose, Reader, Required};
 use crate::tree::{Head, Statement};
 use crate::value::{begin, maybe, value_begins, valued, waits};
-use crate::stub::local_offer;
-use c_declaration::{Built, LocalParser, Step};
+use c_declaration::{Built, LocalParser, Step, local_offer};
 use c_expr::{Stack, SynFault};
 use c_lex::{Keyword, Place};
 use c_symbol::{Symbol, Terminal};
 use std::alloc::Global;
+
+/// What comes next changes, and nothing is begun or ended.
+fn turned(stack: Stack<Frame>, mode: Mode) -> Result<Reader, SynFault>
+    ensures { Gives result (goes mode stack) }
+{
+    Ok(Reader { stack, mode })
+}
 
 /// A keyword that begins a statement.
 fn keyword(
@@ -30,20 +36,19 @@ fn keyword(
 ) -> Result<Reader, SynFault>
     ensures { Gives result (keyword word place stack) }
 {
-    let mode = match word {
-        Keyword::If => Mode::Paren(Opener::Control(Control::If, place)),
-        Keyword::While => Mode::Paren(Opener::Control(Control::While, place)),
-        Keyword::Switch => Mode::Paren(Opener::Control(Control::Switch, place)),
-        Keyword::Do => return Ok(begin(stack, Frame::Do(At::new(place)))?),
-        Keyword::For => Mode::Paren(Opener::For(place)),
-        Keyword::Case => return Ok(waits(alloc, stack, Required::Case(place))?),
-        Keyword::Default => Mode::Colon(place),
-        Keyword::Break => Mode::Ends(break_of(place)),
-        Keyword::Continue => Mode::Ends(continue_of(place)),
-        Keyword::Return => Mode::May(Optional::Return(place)),
-        _ => return Err(SynFault::Syntax(place)),
-    };
-    Ok(Reader { stack, mode })
+    match word {
+        Keyword::If => turned(stack, Mode::Paren(Opener::Control(Control::If, place))),
+        Keyword::While => turned(stack, Mode::Paren(Opener::Control(Control::While, place))),
+        Keyword::Switch => turned(stack, Mode::Paren(Opener::Control(Control::Switch, place))),
+        Keyword::Do => Ok(begin(stack, Frame::Do(At::new(place)))?),
+        Keyword::For => turned(stack, Mode::Paren(Opener::For(place))),
+        Keyword::Case => Ok(waits(alloc, stack, Required::Case(place))?),
+        Keyword::Default => turned(stack, Mode::Colon(place)),
+        Keyword::Break => turned(stack, Mode::Ends(break_of(place))),
+        Keyword::Continue => turned(stack, Mode::Ends(continue_of(place))),
+        Keyword::Return => turned(stack, Mode::May(Optional::Return(place))),
+        _ => Err(SynFault::Syntax(place)),
+    }
 }
 
 /// The first token of a statement.
@@ -231,8 +236,11 @@ fn paren(
 {
     match symbol {
         Symbol::OpenParen => match opener {
-            Opener::Control(control, begun) =>
-                Ok(waits(alloc, stack, Required::Control(control, begun))?),
+            Opener::Control(control, begun) => Ok(waits(
+                alloc,
+                stack,
+                Required::Control(control, begun),
+            )?),
             Opener::Until(before) => Ok(waits(alloc, stack, Required::Until(before))?),
             Opener::For(begun) => Ok(Reader {
                 stack,

@@ -198,8 +198,9 @@ fn headed(head: Head, body: Box<Statement>) -> Statement
 {
     let node = match head {
         Head::While(place, e) => StatementNode::While(place, e, body),
-        Head::For(place, first, second, third) =>
-            StatementNode::For(place, first, second, third, body),
+        Head::For(place, first, second, third) => StatementNode::For(
+            place, first, second, third, body,
+        ),
         Head::Switch(place, e) => StatementNode::Switch(place, e, body),
         Head::Case(place, e) => StatementNode::Case(place, e, body),
         Head::Default(place) => StatementNode::Default(place, body),

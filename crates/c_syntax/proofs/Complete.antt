@@ -200,13 +200,15 @@ external_runs laws (definition {d} {x} {m} {n} {us} {vs} dh db) k =
     let ws = braced.1 in
     let oe = braced.2 in
     let P : List Terminal → Type 0 = λ l. IsBlock x n l in
-    let f = kept d m in
-    (deep_place d.place o.place f, λ rest.
-    ap (λ l. run ((us ++ l) ++ rest) (at_mode k Between)) braced.3
-    ∙ ap (λ l. run l (at_mode k Between)) (append_assoc us (o ∷ ws) rest ∙ sym (append_assoc us (o ∷ []) (ws ++ rest)))
-    ∙ function_begins k d.place f us o (ws ++ rest) (laws.functions d m us o dh oe)
-    ∙ body_runs k d.place o.place f (cut x n) ws rest (begun_block o.place) refl (body_read laws o ws oe (subst P braced.3 db))
-    ∙ ap (λ v. run rest (at_mode (more k (deep_place d.place o.place f) v) Between)) (defined_kept d x m n))
+    let f = kept d m in (
+      deep_place d.place o.place f,
+      λ rest.
+          ap (λ l. run ((us ++ l) ++ rest) (at_mode k Between)) braced.3
+          ∙ ap (λ l. run l (at_mode k Between)) (append_assoc us (o ∷ ws) rest ∙ sym (append_assoc us (o ∷ []) (ws ++ rest)))
+          ∙ function_begins k d.place f us o (ws ++ rest) (laws.functions d m us o dh oe)
+          ∙ body_runs k d.place o.place f (cut x n) ws rest (begun_block o.place) refl (body_read laws o ws oe (subst P braced.3 db))
+          ∙ ap (λ v. run rest (at_mode (more k (deep_place d.place o.place f) v) Between)) (defined_kept d x m n),
+    )
 
 -- a unit
 abbrev pub Reached : List External → ℕ → List Terminal → Type 0

@@ -19,7 +19,6 @@ use Rattle.c_syntax.proofs.Fed.{read_is}
 use Rattle.c_syntax.proofs.Complete.{Ending, at_mode, unit_runs}
 use Rattle.c_syntax.proofs.Sound.{Being, AreSome, nothing, some, SoFar, Holds, unit_sound}
 
-
 -- a unit has an external declaration
 snoc_some : {T : Type 0} (es : List T) (e : T) → es ++ e ∷ [] ≡ [] → ⊥
 snoc_some [] e k = cc

@@ -3,3 +3,4 @@ pub mod Keeping
 pub mod Complete
 pub mod Sound
 pub mod Exact
+pub mod Laws

@@ -4,7 +4,6 @@
 mod machine;
 mod read;
 mod state;
-mod stub;
 #[cfg(test)]
 mod tests;
 mod tree;

@@ -5,9 +5,8 @@ ghost use Rattle.c_statement.specs.Machine as block;
 ghost use Rattle.c_syntax.specs.Machine.{Gives, more, declared_of, defined_of, deep_place, bodied, ended, headed, shift, start};
 
 use crate::state::{Kept, Mode, UnitParser};
-use crate::stub::file_offer;
 use crate::tree::External;
-use c_declaration::{Built, FileParser, FunctionHead, Head, ReadHead, Step};
+use c_declaration::{Built, FileParser, FunctionHead, Head, ReadHead, Step, file_offer};
 use c_expr::SynFault;
 use c_lex::Place;
 use c_statement::{Mode as BlockMode, Reader, Statement, shift as shift_block};
@@ -90,12 +89,7 @@ fn bodied(
 }
 
 /// A declaration that has ended, or what stands before a function's body and, as the last token, the `{` of that.
-fn ended(
-    alloc: Global,
-    kept: Kept,
-    head: ReadHead,
-    last: Place,
-) -> Result<UnitParser, SynFault>
+fn ended(alloc: Global, kept: Kept, head: ReadHead, last: Place) -> Result<UnitParser, SynFault>
     ensures { Gives result (ended kept last head) }
 {
     match head {
