@@ -1,6 +1,6 @@
 -- What a declarator declares, from its `*`, its bounds and the declarator in parentheses.
 use Rattle.std.proofs.Common.{◌≡◌, ℕ, List, [], ◌∷◌, ◌++◌, ◌∙◌, sym, refl, ap, Result, Ok, Err, Option, Some, None}
-use Rattle.c_expr.specs.Tree.{Tree, Bounded, Unbounded, with_bounds}
+use Rattle.c_expr.specs.Tree.{Tree, Bounded, Unbounded, behind_stars, with_bounds}
 use Rattle.c_typing.specs.Plain.{Plain}
 use Rattle.c_check.specs.Scope.{Scope, defs_of}
 use Rattle.c_check.specs.Judgement.{Judged, judged, bound, array, within, declared, pointers, stars_of, ◌then◌}
@@ -36,7 +36,15 @@ module _ (v : Scope) where
   pub declared_by : (d : Tree) (bs : List (Option Tree)) (t : Plain) → declared v (with_bounds d bs) t ≡ ◌then◌ (pointers (defs_of v) (stars_of d) t) (λ u. ◌then◌ (all_bounds v bs u) (within v d))
   declared_by d bs t = rw (stars_behind d bs) (then_same (pointers (defs_of v) (stars_of d) t) _ _ (within_bounds d bs))
 
+  stars_of_behind : {B : Type 0} (f : B → Tree) (n : ℕ) (i : Option B) → stars_of (behind_stars f n i) ≡ n
+  stars_of_behind f n None = refl
+  stars_of_behind f n (Some b) = refl
+
+  pub declared_behind : {B : Type 0} (f : B → Tree) (n : ℕ) (i : Option B) (bs : List (Option Tree)) (t : Plain)
+      → declared v (with_bounds (behind_stars f n i) bs) t ≡ ◌then◌ (pointers (defs_of v) n t) (λ u. ◌then◌ (all_bounds v bs u) (within v (behind_stars f n i)))
+  declared_behind f n i bs t = declared_by (behind_stars f n i) bs t ∙ ap (λ k. ◌then◌ (pointers (defs_of v) k t) (λ u. ◌then◌ (all_bounds v bs u) (within v (behind_stars f n i)))) (stars_of_behind f n i)
+
   -- one bound more at the end
-  pub all_bounds-last : (bs : List (Option Tree)) (b : Option Tree) (t : Plain) → all_bounds v (bs ++ b ∷ []) t ≡ ◌then◌ (one_bound v b t) (all_bounds v bs)
-  all_bounds-last [] b t = sym (then_ok (one_bound v b t))
-  all_bounds-last (c ∷ bs) b t = ap (λ r. ◌then◌ r (one_bound v c)) (all_bounds-last bs b t) ∙ then_assoc (one_bound v b t) (all_bounds v bs) (one_bound v c)
+  pub all_bounds_last : (bs : List (Option Tree)) (b : Option Tree) (t : Plain) → all_bounds v (bs ++ b ∷ []) t ≡ ◌then◌ (one_bound v b t) (all_bounds v bs)
+  all_bounds_last [] b t = sym (then_ok (one_bound v b t))
+  all_bounds_last (c ∷ bs) b t = ap (λ r. ◌then◌ r (one_bound v c)) (all_bounds_last bs b t) ∙ then_assoc (one_bound v b t) (all_bounds v bs) (one_bound v c)

@@ -1,9 +1,12 @@
 -- Numbers given from the last name to the first: the first of a name counts.
-use Rattle.std.proofs.Common.{◌≡◌, ℕ, suc, zero, ◌+◌, ◌<◌, Bool, true, false, List, [], ◌∷◌, length, drop, map, ◌∙◌, sym, refl, ap, Option, Some, None, bytes_eq, slice_index_or, if◌then◌else◌, arith, add-one}
+use Rattle.std.proofs.Common.{◌≡◌, ℕ, suc, zero, ◌+◌, ◌<◌, Bool, true, false, List, [], ◌∷◌, length, drop, map, ◌∙◌, sym, refl, ap, Option, Some, None, bytes_eq, slice_index_or, if◌then◌else◌}
 use Rattle.std.proofs.Math.Seq.{drop-cons}
+use Rattle.std.specs.Map.{update}
 use Rattle.c_check.specs.Scope.{number_from}
 
 -- one name more in front
-pub numbered_more : {A : Type 0} (name : A → List ℕ) (xs : List A) (i : ℕ) (x : A) (old : Option ℕ) (t : List ℕ) → drop i xs ≡ x ∷ drop (i + 1) xs
-    → old ≡ number_from (i + 1) (map name (drop (i + 1) xs)) t → (if bytes_eq (name x) t then Some i else old) ≡ number_from i (map name (drop i xs)) t
-numbered_more name xs i x old t d e = rw (d, e, add-one) refl
+pub numbered_more : {A : Type 0} (name : A → List ℕ) (xs : List A) (j : ℕ) (d : A) (old new : List ℕ → Option ℕ) → j < length xs
+    → ((t : List ℕ) → new t ≡ update bytes_eq old (name (slice_index_or xs j d)) (Some j) t)
+    → ((t : List ℕ) → old t ≡ number_from (suc j) (map name (drop (suc j) xs)) t)
+    → (t : List ℕ) → new t ≡ number_from j (map name (drop j xs)) t
+numbered_more name xs j d old new h u o t = u t ∙ (ap (λ r. if bytes_eq (name (slice_index_or xs j d)) t then Some j else r) (o t) ∙ ap (λ l. number_from j (map name l) t) (sym (drop-cons xs j d h)))

@@ -1,5 +1,5 @@
 -- What the checker of an expression in a session answers.
-use Rattle.std.specs.Prelude.{◌≡◌, ℕ, Bool, not, ◌&&◌, ◌==◌, if◌then◌else◌, List, Option, Some, None, Result, Ok, Err}
+use Rattle.std.specs.Prelude.{◌≡◌, ℕ, Bool, true, false, not, ◌&&◌, ◌==◌, if◌then◌else◌, List, Option, Some, None, Result, Ok, Err}
 use Rattle.c_expr.specs.Tree.{Tree}
 use Rattle.c_tree.specs.declared.typed.Typed.{Typed}
 use Rattle.c_typing.specs.Plain.{is_void}
@@ -31,9 +31,13 @@ abbrev pub IsAllowed : Verdict → Type 0
 IsAllowed (Ok j) = Unit {0}
 IsAllowed (Err r) = r ≡ 29
 
+abbrev pub HoldsIf : Bool → Type 0 → Type 0
+HoldsIf true P = P
+HoldsIf false P = Unit {0}
+
 -- where the rule of calls comes first, no call is the cause
 abbrev pub Asks : Mode → Tree → ℕ → Type 0
-Asks m e r = if r == 29 then forbidden_in m e ≡ None else Unit {0}
+Asks m e r = HoldsIf (r == 29) (forbidden_in m e ≡ None)
 
 -- The typed expression where its names are in scope, its rules hold and no forbidden form stands in it. Else the first name that is not
 -- in scope; or where all are, the number of the rule that is broken; or where none is, the place of the first forbidden form.

@@ -139,6 +139,7 @@ fn at_cast<'a>(alloc: Global, v: &Scope<'a>, at: Place, name: &'a TypeName, a: &
 
 /// The type of what is declared, from the type that the declaration begins with (C90 6.5.4, 6.5.5).
 #[cycle(checking)]
+#[tactic(auto, using(crate::proofs::Bounds::declared_behind, crate::proofs::Depths::depth_bounds))]
 fn declared<'a>(alloc: Global, v: &Scope<'a>, d: &'a Abstract, t: CType) -> Result<CType, Fault>
     ensures { Denotes (declared (scope_of v.now) d.now (plain t)) result }
 {
@@ -152,6 +153,7 @@ fn declared<'a>(alloc: Global, v: &Scope<'a>, d: &'a Abstract, t: CType) -> Resu
 
 /// An array of arrays, from the last bound to the first.
 #[cycle(checking)]
+#[tactic(auto, using(crate::proofs::Bounds::all_bounds_last, crate::proofs::Depths::bound_depths_last))]
 fn bounded<'a>(alloc: Global, v: &Scope<'a>, bounds: &'a [Option<Expr>], t: CType) -> Result<CType, Fault>
     ensures { Denotes (all_bounds (scope_of v.now) bounds.now (plain t)) result }
 {

@@ -84,7 +84,7 @@ fn forbidden_two(a: &Expr, b: &Expr) -> Option<u32>
 
 /// The first of a declarator.
 #[cycle(forbidding)]
-#[tactic(auto, using(crate::proofs::First::forbidden_declarator))]
+#[tactic(auto, using(crate::proofs::First::forbidden_declarator, crate::proofs::Depths::depth_bounds))]
 fn forbidden_declarator(d: &Abstract) -> Option<u32>
     ensures { result ≡ forbidden d.now }
 {
@@ -98,6 +98,7 @@ fn forbidden_declarator(d: &Abstract) -> Option<u32>
 
 /// The first of the bounds of an array.
 #[cycle(forbidding)]
+#[tactic(auto, using(crate::proofs::Depths::bound_depth_at))]
 fn forbidden_bounds(bounds: &[Option<Expr>]) -> Option<u32>
     ensures { result ≡ forbidden_bounds bounds.now }
 {

@@ -23,7 +23,7 @@ fn unknown_leaf<'a>(v: &Scope<'a>, kind: LeafKind, text: &'a Text) -> Option<&'a
 
 /// The first name of an expression that is not in scope.
 #[cycle(naming)]
-#[tactic(auto, using(crate::proofs::First::unknown_call))]
+#[tactic(auto, using(crate::proofs::First::unknown_call, crate::proofs::Depths::depth_arguments))]
 pub fn unknown<'a>(v: &Scope<'a>, e: &'a Expr) -> Option<&'a Text>
     ensures { option_map (λ t. t.now) result ≡ unknown (scope_of v.now) e.now }
 {
@@ -64,6 +64,7 @@ fn unknown_two<'a>(v: &Scope<'a>, a: &'a Expr, b: &'a Expr) -> Option<&'a Text>
 
 /// The first of the arguments of a call.
 #[cycle(naming)]
+#[tactic(auto, using(crate::proofs::Depths::depth_at))]
 fn unknown_among<'a>(v: &Scope<'a>, args: &'a [Expr]) -> Option<&'a Text>
     ensures { option_map (λ t. t.now) result ≡ unknown_all (scope_of v.now) args.now }
 {
@@ -77,7 +78,7 @@ fn unknown_among<'a>(v: &Scope<'a>, args: &'a [Expr]) -> Option<&'a Text>
 
 /// The first of a declarator.
 #[cycle(naming)]
-#[tactic(auto, using(crate::proofs::First::unknown_declarator))]
+#[tactic(auto, using(crate::proofs::First::unknown_declarator, crate::proofs::Depths::depth_bounds))]
 fn unknown_in<'a>(v: &Scope<'a>, d: &'a Abstract) -> Option<&'a Text>
     ensures { option_map (λ t. t.now) result ≡ unknown (scope_of v.now) d.now }
 {
@@ -91,6 +92,7 @@ fn unknown_in<'a>(v: &Scope<'a>, d: &'a Abstract) -> Option<&'a Text>
 
 /// The first of the bounds of an array.
 #[cycle(naming)]
+#[tactic(auto, using(crate::proofs::Depths::bound_depth_at))]
 fn unknown_bounds<'a>(v: &Scope<'a>, bounds: &'a [Option<Expr>]) -> Option<&'a Text>
     ensures { option_map (λ t. t.now) result ≡ unknown_bounds (scope_of v.now) bounds.now }
 {
