@@ -9,3 +9,4 @@ mod Calls
 mod Executions
 mod Step
 mod Whole
+mod Temps

@@ -215,9 +215,9 @@ module _ (p : Program) (f : ℕ) where
     expr_code at d (Comma' t _ a _ b) = let ca = expr_code at d a in ca ++ expr_code (at + length ca) d b
     expr_code at d (Assign' t _ a None _ b) =
         if is_struct (type_of a) then
-          (let ca = place_code at d a in let cb = place_code (at + length ca) (suc d) b in ca ++ (cb ++ Move d (suc d) (struct_number (type_of a)) ∷ Const d 0 ∷ []))
+        (let ca = place_code at d a in let cb = place_code (at + length ca) (suc d) b in ca ++ (cb ++ Move d (suc d) (struct_number (type_of a)) ∷ Const d 0 ∷ []))
         else
-          (let ca = unless_register (register_in a) (place_code at d a) in ca ++ (expr_code (at + length ca) (suc d) b ++ write_at d (register_in a) (type_of a)))
+        (let ca = unless_register (register_in a) (place_code at d a) in ca ++ (expr_code (at + length ca) (suc d) b ++ write_at d (register_in a) (type_of a)))
     expr_code at d (Assign' t _ a (Some op) _ b) =
         let ca = unless_register (register_in a) (place_code at d a) in
         ca ++ (expr_code (at + length ca) (suc d) b ++ update_at d (register_in a) (type_of a) op (type_of b) true)

@@ -2,5 +2,6 @@
 #![tactic(auto)]
 
 mod laws;
+mod translate;
 
 pub use laws::slot_code_keeps_the_run;
