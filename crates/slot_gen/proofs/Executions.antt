@@ -31,7 +31,7 @@ use Rattle.slot_gen.proofs.Match.{Setting, Ground, Doing, Matches, Answered, D, 
 
 -- ---- rows as lists
 
-block_stmts : (p : Program) (f : ℕ) (r : Around) (n at : ℕ) {m : _} (row : Row_of-Stmt m) → block_code p f r n at row ≡ stmts_code p f r n at (stmts row)
+pub block_stmts : (p : Program) (f : ℕ) (r : Around) (n at : ℕ) {m : _} (row : Row_of-Stmt m) → block_code p f r n at row ≡ stmts_code p f r n at (stmts row)
 block_stmts p f r n at end_of-Stmt = refl
 block_stmts p f r n at (more_of-Stmt s rest) = ap (λ l. stmt_code p f r n at s ++ l) (block_stmts p f r n (at + length (stmt_code p f r n at s)) rest)
 

@@ -10,3 +10,4 @@ mod Executions
 mod Step
 mod Whole
 mod Temps
+mod TempsOfStatements

@@ -111,7 +111,7 @@ mutual
 
 -- ---- operators
 
-cast_below : (n d : ℕ) (a : Access) → d < n → AreBelow n (converting d a)
+pub cast_below : (n d : ℕ) (a : Access) → d < n → AreBelow n (converting d a)
 cast_below n d access.Word lt = tt
 cast_below n d access.SignedByte lt = (lt, tt)
 cast_below n d access.UnsignedByte lt = (lt, tt)
@@ -222,12 +222,20 @@ module _ (p : Program) (f n : ℕ) where
   take_below d false lt = (omega (arith, lt), lt)
 
   update_below : (d : ℕ) (o : Option ℕ) (t : CType) (b : BinaryOp) (s : CType) (new : Bool) → suc (suc d) < n → AreBelow n (update_at p f d o t b s new)
-  update_below d None t b s new lt =
-      ((lt, omega (arith, lt)), (combine_below p n (suc d) (suc (suc d)) (suc d) (omega (arith, lt)) lt (omega (arith, lt)) b t s,
-      below_append n (cast_code (suc d) t) _ (cast_below n (suc d) (access_of t) (omega (arith, lt))) ((omega (arith, lt), omega (arith, lt)), (take_below d new lt, tt))))
-  update_below d (Some x) t b s new lt =
-      (lt, (combine_below p n (suc d) (suc (suc d)) (suc d) (omega (arith, lt)) lt (omega (arith, lt)) b t s,
-      below_append n (cast_code (suc d) t) _ (cast_below n (suc d) (access_of t) (omega (arith, lt))) (omega (arith, lt), (take_below d new lt, tt))))
+  update_below d None t b s new lt = (
+    (lt, omega (arith, lt)),
+    (
+      combine_below p n (suc d) (suc (suc d)) (suc d) (omega (arith, lt)) lt (omega (arith, lt)) b t s,
+      below_append n (cast_code (suc d) t) _ (cast_below n (suc d) (access_of t) (omega (arith, lt))) ((omega (arith, lt), omega (arith, lt)), (take_below d new lt, tt)),
+    ),
+  )
+  update_below d (Some x) t b s new lt = (
+    lt,
+    (
+      combine_below p n (suc d) (suc (suc d)) (suc d) (omega (arith, lt)) lt (omega (arith, lt)) b t s,
+      below_append n (cast_code (suc d) t) _ (cast_below n (suc d) (access_of t) (omega (arith, lt))) (omega (arith, lt), (take_below d new lt, tt)),
+    ),
+  )
 
   choice_below : (at d : ℕ) (a b : List SlotOp) → d < n → AreBelow n a → AreBelow n b → AreBelow n (choice_code at d a b)
   choice_below at d a b lt x y = (lt, below_append n a _ x (tt, y))
@@ -251,7 +259,7 @@ module _ (p : Program) (f n : ℕ) where
         assign_below (is_struct (type_of a)) _ _
         (below_append n (place_code p f at d a) _ (place_below a at d (omega (arith, le))) (below_append n (place_code p f (at + length (place_code p f at d a)) (suc d) b) _ (place_below b (at + length (place_code p f at d a)) (suc d) (omega (arith, le))) ((omega (arith, le), omega (arith, le)), (omega (arith, le), tt))))
         (below_append n (unless_register (register_in p f a) (place_code p f at d a)) _ (unless_below (register_in p f a) (place_code p f at d a) (place_below a at d (omega (arith, le))))
-          (below_append n (expr_code p f (at + length (unless_register (register_in p f a) (place_code p f at d a))) (suc d) b) _ (expr_below b (at + length (unless_register (register_in p f a) (place_code p f at d a))) (suc d) (omega (arith, le))) (write_below d (register_in p f a) (type_of a) (omega (arith, le)))))
+        (below_append n (expr_code p f (at + length (unless_register (register_in p f a) (place_code p f at d a))) (suc d) b) _ (expr_below b (at + length (unless_register (register_in p f a) (place_code p f at d a))) (suc d) (omega (arith, le))) (write_below d (register_in p f a) (type_of a) (omega (arith, le)))))
     expr_below (Assign' h x a (Some o) y b) at d le =
         below_append n (unless_register (register_in p f a) (place_code p f at d a)) _ (unless_below (register_in p f a) (place_code p f at d a) (place_below a at d (omega (arith, le))))
         (below_append n (expr_code p f (at + length (unless_register (register_in p f a) (place_code p f at d a))) (suc d) b) _ (expr_below b (at + length (unless_register (register_in p f a) (place_code p f at d a))) (suc d) (omega (arith, le))) (update_below d (register_in p f a) (type_of a) o (type_of b) true (omega (arith, le))))
@@ -261,8 +269,8 @@ module _ (p : Program) (f n : ℕ) where
         let lt : d < n = omega (arith, le, some_temps c) in
         below_append n cc _ (expr_below c at d (omega (arith, le)))
         (choice_below (at + length cc) d ca _ lt
-          (below_append n (expr_code p f (at + length cc + 1) d a) _ (expr_below a (at + length cc + 1) d (omega (arith, le))) (cast_below n d (access_of h.ctype) lt))
-          (below_append n (expr_code p f (at + length cc + 1 + length ca + 1) d b) _ (expr_below b (at + length cc + 1 + length ca + 1) d (omega (arith, le))) (cast_below n d (access_of h.ctype) lt)))
+        (below_append n (expr_code p f (at + length cc + 1) d a) _ (expr_below a (at + length cc + 1) d (omega (arith, le))) (cast_below n d (access_of h.ctype) lt))
+        (below_append n (expr_code p f (at + length cc + 1 + length ca + 1) d b) _ (expr_below b (at + length cc + 1 + length ca + 1) d (omega (arith, le))) (cast_below n d (access_of h.ctype) lt)))
     expr_below (Or' h x a y b) at d le =
         let ca = expr_code p f at d a in
         below_append n ca _ (expr_below a at d (omega (arith, le))) (or_below (at + length ca) d _ (omega (arith, le, some_temps a)) (expr_below b (at + length ca + 1) d (omega (arith, le))))
