@@ -189,8 +189,8 @@ module _ (set : Setting) (g : Ground set) where
       → slice_get (code set g) pc ≡ Some (op.Call (length us) f m) → F set g d.around (pc + 1) (InTemp ∷ us) k
       → (o : Option Function) → slice_get set.p.functions f ≡ o
       → Answered set (now set g vs (Enter q m ∷ k)) (source.on_some o (λ fn.
-          if fn.params == m then GoesOn (1 + m) (record { here = entering f (reverse (take m vs)); values = []; control = body_of set.p f fn; outer = record { place = g.h.place; values = drop m vs; control = k } ∷ g.outer })
-          else Undefined IllTyped)) (slot set g temps pc)
+      if fn.params == m then GoesOn (1 + m) (record { here = entering f (reverse (take m vs)); values = []; control = body_of set.p f fn; outer = record { place = g.h.place; values = drop m vs; control = k } ∷ g.outer })
+      else Undefined IllTyped)) (slot set g temps pc)
   call_answers q f m us k vs temps pc d has rest None e = tt
   call_answers q f m us k vs temps pc d has rest (Some fn) e = by (fn.params == m) refl
     where
@@ -206,13 +206,20 @@ module _ (set : Setting) (g : Ground set) where
           let start : Here = record { world = g.h.world; place = new_place (suc g.h.place.number) f } in
           let params : fn.params ≡ m = grind (nat_tests, arith) in
           let scope : length (entering f vs').place.locals ≡ fn.params = given-scope set.p f 0 vs' start ∙ omega (arith, length-reversed set (take m vs), length-taken g.h.place temps m us vs d.holds, params) in
-          let called = ap (λ o. slots.on_temps o (λ vs. GoesOn (1 + m) (record { here = slots.entered set.c (suc g.h.place.number) f (reverse vs) g.h.world; temps = no_temps; pc = 0; result_at = length us; outer = frame ∷ g.frames }))) args.0 in
-          (1, 1 + m, u, omega arith, (1 + m, 0, u, omega arith, at_op set g temps pc (op.Call (length us) f m) has ∙ called, (refl, refl), refl), record {
-            same = given_same set.p set.c set.is f 0 vs' start;
-            ws = [];
-            doing = begins set (entering f vs').place f fn (given-function set.p f 0 vs' start) scope e;
-            outer = (refl, us, refl, record { fn = d.fn; found = d.found; ends = d.ends; around = d.around; loops = d.loops; holds = args.1; follows = rest }, g.out);
-          }, tt)
+          let called = ap (λ o. slots.on_temps o (λ vs. GoesOn (1 + m) (record { here = slots.entered set.c (suc g.h.place.number) f (reverse vs) g.h.world; temps = no_temps; pc = 0; result_at = length us; outer = frame ∷ g.frames }))) args.0 in (
+            1,
+            1 + m,
+            u,
+            omega arith,
+            (1 + m, 0, u, omega arith, at_op set g temps pc (op.Call (length us) f m) has ∙ called, (refl, refl), refl),
+            record {
+              same = given_same set.p set.c set.is f 0 vs' start;
+              ws = [];
+              doing = begins set (entering f vs').place f fn (given-function set.p f 0 vs' start) scope e;
+              outer = (refl, us, refl, record { fn = d.fn; found = d.found; ends = d.ends; around = d.around; loops = d.loops; holds = args.1; follows = rest }, g.out);
+            },
+            tt,
+          )
 
   -- ---- built-ins
 
@@ -225,13 +232,20 @@ module _ (set : Setting) (g : Ground set) where
       let after = with_temp temps (length ws) (Number (source.next_byte g.h.world.input)) in
       let u : SlotState = record { here = h'; temps = after; pc = pc + 1; result_at = g.at; outer = g.frames } in
       let same : slots.next_byte g.h.world.input ≡ source.next_byte g.h.world.input = next_same g.h.world.input in
-      let acts = at_op set g temps pc (op.GetChar (length ws)) has.0 ∙ ap (λ n. GoesOn 1 (record { here = h'; temps = with_temp temps (length ws) (Number n); pc = pc + 1; result_at = g.at; outer = g.frames })) same in
-      (1, 1, u, omega arith, (1, 0, u, omega arith, acts, (refl, refl), refl), record {
-        same = refl;
-        ws = InTemp ∷ ws;
-        doing = again set g ws (InTemp ∷ ws) vs (Number (source.next_byte g.h.world.input) ∷ vs) (Enter q 0 ∷ k) k temps after pc (pc + 1) d (puts g.h.place temps (Number (source.next_byte g.h.world.input)) ws vs d.holds) d.loops rest;
-        outer = g.out;
-      }, tt)
+      let acts = at_op set g temps pc (op.GetChar (length ws)) has.0 ∙ ap (λ n. GoesOn 1 (record { here = h'; temps = with_temp temps (length ws) (Number n); pc = pc + 1; result_at = g.at; outer = g.frames })) same in (
+        1,
+        1,
+        u,
+        omega arith,
+        (1, 0, u, omega arith, acts, (refl, refl), refl),
+        record {
+          same = refl;
+          ws = InTemp ∷ ws;
+          doing = again set g ws (InTemp ∷ ws) vs (Number (source.next_byte g.h.world.input) ∷ vs) (Enter q 0 ∷ k) k temps after pc (pc + 1) d (puts g.h.place temps (Number (source.next_byte g.h.world.input)) ws vs d.holds) d.loops rest;
+          outer = g.out;
+        },
+        tt,
+      )
     where
       next_same : (i : List ℕ) → slots.next_byte i ≡ source.next_byte i
       next_same [] = refl
@@ -241,9 +255,9 @@ module _ (set : Setting) (g : Ground set) where
   pub put_answers : (q : ℕ) (x : Value) (k : List Item) (ws : List Where) (vs : List Value) (temps : Temps) (pc : ℕ) → (d : D set g (InTemp ∷ ws) (x ∷ vs) (Enter q 1 ∷ k) temps pc)
       → (get put : Bool) → HasAt (code set g) pc (if put then op.PutChar (length ws) ∷ [] else op.Exit (length ws) ∷ []) → F set g d.around (pc + length (if put then op.PutChar (length ws) ∷ [] else op.Exit (length ws) ∷ [])) (InTemp ∷ ws) k
       → Answered set (now set g (x ∷ vs) (Enter q 1 ∷ k)) (source.on_ok (bits_in x) (λ n.
-          if get then Undefined IllTyped
-          else if put then GoesOn 1 (record { here = with_world g.h (record g.h.world { output = g.h.world.output ++ (n % 256) ∷ [] }); values = Number (n % 256) ∷ vs; control = k; outer = g.outer })
-          else Exits (signed n) 1 (record { here = g.h; values = []; control = []; outer = g.outer }))) (slot set g temps pc)
+      if get then Undefined IllTyped
+      else if put then GoesOn 1 (record { here = with_world g.h (record g.h.world { output = g.h.world.output ++ (n % 256) ∷ [] }); values = Number (n % 256) ∷ vs; control = k; outer = g.outer })
+      else Exits (signed n) 1 (record { here = g.h; values = []; control = []; outer = g.outer }))) (slot set g temps pc)
   put_answers q Null k ws vs temps pc d get put has rest = tt
   put_answers q (At o i) k ws vs temps pc d get put has rest = tt
   put_answers q (Number n) k ws vs temps pc d true put has rest = tt
@@ -252,13 +266,20 @@ module _ (set : Setting) (g : Ground set) where
       let v = Number (n % 256) in
       let after = with_temp temps (length ws) v in
       let u : SlotState = record { here = with_world g.h (record g.h.world { output = g.h.world.output ++ (n % 256) ∷ [] }); temps = after; pc = pc + 1; result_at = g.at; outer = g.frames } in
-      let acts = at_op set g temps pc (op.PutChar (length ws)) has.0 ∙ ap (λ o. slots.on_temp o (λ v. slots.on_ok (number_in v) (λ n. GoesOn 1 (record st { here = with_world g.h (record g.h.world { output = g.h.world.output ++ (n % 256) ∷ [] }); temps = with_temp temps (length ws) (Number (n % 256)); pc = pc + 1 })))) d.holds.0 in
-      (1, 1, u, omega arith, (1, 0, u, omega arith, acts, (refl, refl), refl), record {
-        same = refl;
-        ws = InTemp ∷ ws;
-        doing = again set g (InTemp ∷ ws) (InTemp ∷ ws) (Number n ∷ vs) (v ∷ vs) (Enter q 1 ∷ k) k temps after pc (pc + 1) d (puts g.h.place temps v ws vs d.holds.1) d.loops rest;
-        outer = g.out;
-      }, tt)
+      let acts = at_op set g temps pc (op.PutChar (length ws)) has.0 ∙ ap (λ o. slots.on_temp o (λ v. slots.on_ok (number_in v) (λ n. GoesOn 1 (record st { here = with_world g.h (record g.h.world { output = g.h.world.output ++ (n % 256) ∷ [] }); temps = with_temp temps (length ws) (Number (n % 256)); pc = pc + 1 })))) d.holds.0 in (
+        1,
+        1,
+        u,
+        omega arith,
+        (1, 0, u, omega arith, acts, (refl, refl), refl),
+        record {
+          same = refl;
+          ws = InTemp ∷ ws;
+          doing = again set g (InTemp ∷ ws) (InTemp ∷ ws) (Number n ∷ vs) (v ∷ vs) (Enter q 1 ∷ k) k temps after pc (pc + 1) d (puts g.h.place temps v ws vs d.holds.1) d.loops rest;
+          outer = g.out;
+        },
+        tt,
+      )
   put_answers q (Number n) k ws vs temps pc d false false has rest =
       let st = slot set g temps pc in
       let acts = at_op set g temps pc (op.Exit (length ws)) has.0 ∙ ap (λ o. slots.on_temp o (λ v. slots.on_ok (number_in v) (λ n. Exits (signed n) 1 st))) d.holds.0 in

@@ -145,7 +145,7 @@ module _ (set : Setting) (g : Ground set) where
       ⊎_elim
       (λ a. set_step set g (Locate (Name t m) ∷ k) k ws ws vs vs temps pc 1 (At o 0) (op.LocalAddress (length ws) y) d (omega arith) a.0.0 (ap (λ q. slots.on_some (option_map (λ o. At o 0) q) (λ v. slots.sets set.c (slot set g temps pc) (length ws) v)) e) d.holds d.loops a.1)
       (λ r. none_step set g (Locate (Name t m) ∷ k) k ws (InReg r.0 ∷ ws) vs (At o 0 ∷ vs) temps pc 1 d (omega arith)
-        (ap (λ x. option_map (λ o. At o 0) (bound x g.h.place.locals)) (sym (same_local y (register_of set.p f y) r.0 r.1)) ∙ ap (option_map (λ o. At o 0)) e, d.holds) d.loops r.2)
+      (ap (λ x. option_map (λ o. At o 0) (bound x g.h.place.locals)) (sym (same_local y (register_of set.p f y) r.0 r.1)) ∙ ap (option_map (λ o. At o 0)) e, d.holds) d.loops r.2)
       s
     where
       same_local : (y : ℕ) (o : Option ℕ) (x : ℕ) → if_register y o ≡ Some x → y ≡ x
@@ -161,7 +161,7 @@ module _ (set : Setting) (g : Ground set) where
     where
       by : (q : Referent)
           → (HasAt (code set g) pc (elim q as (λ r. List SlotOp) [ Object o ↦ op.StaticAddress (length ws) o ∷ [] | Local x ↦ op.LocalAddress (length ws) x ∷ [] | Defined j ↦ [] | Declared ↦ [] ])
-            × F set g d.around (pc + length (elim q as (λ r. List SlotOp) [ Object o ↦ op.StaticAddress (length ws) o ∷ [] | Local x ↦ op.LocalAddress (length ws) x ∷ [] | Defined j ↦ [] | Declared ↦ [] ])) (InTemp ∷ ws) k)
+          × F set g d.around (pc + length (elim q as (λ r. List SlotOp) [ Object o ↦ op.StaticAddress (length ws) o ∷ [] | Local x ↦ op.LocalAddress (length ws) x ∷ [] | Defined j ↦ [] | Declared ↦ [] ])) (InTemp ∷ ws) k)
           ⊎ ((x : ℕ) × ((elim q as (λ r. Option ℕ) [ Object o ↦ None | Local x ↦ if_register x (register_of set.p f x) | Defined j ↦ None | Declared ↦ None ]) ≡ Some x) × F set g d.around pc (InReg x ∷ ws) k)
           → Answered set (now set g vs (Locate (Name t m) ∷ k)) (source.on_some (place_of q g.h) (λ v. GoesOn 1 (now set g (v ∷ vs) k))) (slot set g temps pc)
       by (Object o) s =
@@ -213,9 +213,9 @@ module _ (set : Setting) (g : Ground set) where
       let vb = split set.p f co d.around n (expr_code set.p f (pc + 1 + length ca + 1) i b) (cast_code i t) (pc + 1 + length ca + 1) (InTemp ∷ ws) k v.0 v.1 in
       tested set g x o (GoesOn 1 (now set g vs (Eval a ∷ Use ∷ Convert t ∷ Joined ∷ k))) (GoesOn 1 (now set g vs (Eval b ∷ Use ∷ Convert t ∷ k))) st
       (λ s e. one_step set g (Pick t a b ∷ k) (Eval a ∷ Use ∷ Convert t ∷ Joined ∷ k) (x ∷ vs) vs temps temps pc (pc + 1) 1 1 ws (op.JumpIfZero i (pc + 1 + length ca + 1)) (omega arith) d.follows.0.0 (zero_jumps set g st i (pc + 1 + length ca + 1) x false d.holds.0 s e)
-        (again set g (InTemp ∷ ws) ws (x ∷ vs) vs (Pick t a b ∷ k) (Eval a ∷ Use ∷ Convert t ∷ Joined ∷ k) temps temps pc (pc + 1) d d.holds.1 d.loops (ua.0, (ua.1.0, ua.1.1))))
+      (again set g (InTemp ∷ ws) ws (x ∷ vs) vs (Pick t a b ∷ k) (Eval a ∷ Use ∷ Convert t ∷ Joined ∷ k) temps temps pc (pc + 1) d d.holds.1 d.loops (ua.0, (ua.1.0, ua.1.1))))
       (λ s e. one_step set g (Pick t a b ∷ k) (Eval b ∷ Use ∷ Convert t ∷ k) (x ∷ vs) vs temps temps pc (pc + 1 + length ca + 1) 1 1 ws (op.JumpIfZero i (pc + 1 + length ca + 1)) (omega arith) d.follows.0.0 (zero_jumps set g st i (pc + 1 + length ca + 1) x true d.holds.0 s e)
-        (again set g (InTemp ∷ ws) ws (x ∷ vs) vs (Pick t a b ∷ k) (Eval b ∷ Use ∷ Convert t ∷ k) temps temps pc (pc + 1 + length ca + 1) d d.holds.1 d.loops (vb.0, (vb.1.0, vb.1.1))))
+      (again set g (InTemp ∷ ws) ws (x ∷ vs) vs (Pick t a b ∷ k) (Eval b ∷ Use ∷ Convert t ∷ k) temps temps pc (pc + 1 + length ca + 1) d d.holds.1 d.loops (vb.0, (vb.1.0, vb.1.1))))
 
   -- `&&` and `||`: behind their jump stand the right operand, its truth, a jump past the end, and the other value
   module _ (e : Typed) (v : ℕ) (jump : SlotOp) (i0 : Item) (k : List Item) (ws : List Where) (x : Value) (vs : List Value) (temps : Temps) (pc : ℕ) (d : D set g (InTemp ∷ ws) (x ∷ vs) (i0 ∷ k) temps pc) where
@@ -238,7 +238,7 @@ module _ (set : Setting) (g : Ground set) where
         let len : pc + length (jump ∷ (right ++ over)) ≡ pc + 1 + length right + 3 = omega (arith, length-append right over) in
         one_step set g (i0 ∷ k) (Eval e ∷ Truth ∷ Joined ∷ k) (x ∷ vs) vs temps temps pc (pc + 1) 1 1 ws jump (omega arith) has.0 a
         (again set g (InTemp ∷ ws) ws (x ∷ vs) vs (i0 ∷ k) (Eval e ∷ Truth ∷ Joined ∷ k) temps temps pc (pc + 1) d d.holds.1 l
-          (has_front (code set g) (pc + 1) right over has.1, (b.0, (pc + 1 + length right + 3, b.1.0, subst (λ i. F set g d.around i (InTemp ∷ ws) k) len rest))))
+        (has_front (code set g) (pc + 1) right over has.1, (b.0, (pc + 1 + length right + 3, b.1.0, subst (λ i. F set g d.around i (InTemp ∷ ws) k) len rest))))
 
     goes_over : HasAt (code set g) pc (jump ∷ (right ++ over)) → F set g d.around (pc + length (jump ∷ (right ++ over))) (InTemp ∷ ws) k → L set g d.around k
         → slots.act set.c (slot set g temps pc) jump ≡ slots.jumps set.c (slot set g temps pc) (pc + 1 + length right + 2)

@@ -31,7 +31,7 @@ use Rattle.slot_gen.proofs.Match.{Setting, Ground, Doing, Matches, Answered, D, 
 
 -- ---- rows as lists
 
-block_stmts : (p : Program) (f : ℕ) (r : Around) (n at : ℕ) {m : _} (row : Row_of-Stmt m) → block_code p f r n at row ≡ stmts_code p f r n at (stmts row)
+pub block_stmts : (p : Program) (f : ℕ) (r : Around) (n at : ℕ) {m : _} (row : Row_of-Stmt m) → block_code p f r n at row ≡ stmts_code p f r n at (stmts row)
 block_stmts p f r n at end_of-Stmt = refl
 block_stmts p f r n at (more_of-Stmt s rest) = ap (λ l. stmt_code p f r n at s ++ l) (block_stmts p f r n (at + length (stmt_code p f r n at s)) rest)
 
@@ -153,13 +153,20 @@ module _ (set : Setting) (g : Ground set) where
       let second = ap (slots.at_op set.c u) has.1.0 in
       let third = ap (slots.at_op set.c v) l.jumps in
       let le : out.scope ≤ n = omega (arith, d.follows.0.0, l.scope) in
-      let len : length (take out.scope g.h.place.locals) ≡ out.scope = length-take-le out.scope g.h.place.locals le in
-      (3, 2, w, omega arith, (0, 2, u, omega arith, first, (1, 1, v, omega arith, second, (1, 0, w, omega arith, third, (refl, refl), refl), refl), refl), record {
-        same = refl;
-        ws = [];
-        doing = record { fn = d.fn; found = d.found; ends = d.ends; around = l.around; loops = l.loops; holds = tt; follows = subst (λ i. Follows set.p f co l.around i l.end [] out.control) (sym len) l.follows };
-        outer = g.out;
-      }, tt)
+      let len : length (take out.scope g.h.place.locals) ≡ out.scope = length-take-le out.scope g.h.place.locals le in (
+        3,
+        2,
+        w,
+        omega arith,
+        (0, 2, u, omega arith, first, (1, 1, v, omega arith, second, (1, 0, w, omega arith, third, (refl, refl), refl), refl), refl),
+        record {
+          same = refl;
+          ws = [];
+          doing = record { fn = d.fn; found = d.found; ends = d.ends; around = l.around; loops = l.loops; holds = tt; follows = subst (λ i. Follows set.p f co l.around i l.end [] out.control) (sym len) l.follows };
+          outer = g.out;
+        },
+        tt,
+      )
 
   continue_answers : (x : _) (k : List Item) (temps : Temps) (pc : ℕ) → (d : R (Run (Continue x) ∷ k) temps pc) → (q : Option Round) → continued k ≡ q
       → Answered set (now set g [] (Run (Continue x) ∷ k)) (source.on_some q (λ r. GoesOn 1 (record { here = left r.scope g.h; values = []; control = r.control; outer = g.outer }))) (slot set g temps pc)
@@ -174,13 +181,20 @@ module _ (set : Setting) (g : Ground set) where
       let first = at_op set g temps pc (op.Leave d.around.again_scope) has.0 ∙ ap (λ m. slots.goes set.c st 0 (left m g.h)) t.scope in
       let le : out.scope ≤ n = omega (arith, d.follows.0.1, t.scope) in
       let len : length (take out.scope g.h.place.locals) ≡ out.scope = length-take-le out.scope g.h.place.locals le in
-      let jump = has.1.0 ∙ ap (λ i. Some (op.Jump i)) (sym t.again) in
-      (1, 0, u, omega arith, (0, 0, u, omega arith, first, (refl, refl), refl), record {
-        same = refl;
-        ws = [];
-        doing = subst (λ k. Doing set (left out.scope g.h).place [] [] [] k temps (pc + 1)) (sym t.control) (record { fn = d.fn; found = d.found; ends = d.ends; around = t.around; loops = t.loops; holds = tt; follows = (len ∙ t.same, jump) });
-        outer = g.out;
-      }, tt)
+      let jump = has.1.0 ∙ ap (λ i. Some (op.Jump i)) (sym t.again) in (
+        1,
+        0,
+        u,
+        omega arith,
+        (0, 0, u, omega arith, first, (refl, refl), refl),
+        record {
+          same = refl;
+          ws = [];
+          doing = subst (λ k. Doing set (left out.scope g.h).place [] [] [] k temps (pc + 1)) (sym t.control) (record { fn = d.fn; found = d.found; ends = d.ends; around = t.around; loops = t.loops; holds = tt; follows = (len ∙ t.same, jump) });
+          outer = g.out;
+        },
+        tt,
+      )
 
   abbrev switch_parts : Around → Stmt → ℕ → List SlotOp
   switch_parts r b at = switch_code at (body_code set.p f (in_switch at n r) n (at + 2) b) (body_targets set.p f (in_switch at n r) n (at + 2) b) (body_defaults set.p f (in_switch at n r) n (at + 2) b)

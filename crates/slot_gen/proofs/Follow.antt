@@ -359,9 +359,9 @@ module _ (p : Program) (f : ℕ) (code : List SlotOp) where
   abbrev pub assign_code : (pc d : ℕ) → Typed → Typed → Bool → List SlotOp
   assign_code pc d a b c =
       if c then
-        (let ca = place_code p f pc d a in let cb = place_code p f (pc + length ca) (suc d) b in ca ++ (cb ++ op.Move d (suc d) (struct_number (type_of a)) ∷ op.Const d 0 ∷ []))
+      (let ca = place_code p f pc d a in let cb = place_code p f (pc + length ca) (suc d) b in ca ++ (cb ++ op.Move d (suc d) (struct_number (type_of a)) ∷ op.Const d 0 ∷ []))
       else
-        (let ca = unless_register (register_in p f a) (place_code p f pc d a) in ca ++ (expr_code p f (pc + length ca) (suc d) b ++ write_at p f d (register_in p f a) (type_of a)))
+      (let ca = unless_register (register_in p f a) (place_code p f pc d a) in ca ++ (expr_code p f (pc + length ca) (suc d) b ++ write_at p f d (register_in p f a) (type_of a)))
 
   abbrev pub compound_code : (pc d : ℕ) → Typed → Typed → BinaryOp → List SlotOp
   compound_code pc d a b o =

@@ -9,3 +9,5 @@ mod Calls
 mod Executions
 mod Step
 mod Whole
+mod Temps
+mod TempsOfStatements

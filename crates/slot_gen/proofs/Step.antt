@@ -54,13 +54,20 @@ module _ (set : Setting) where
   leave_answers h v (a ∷ rest) r (g ∷ gs) out temps pc k d =
       let t : SlotState = record { here = h; temps = temps; pc = pc; result_at = r; outer = g ∷ gs } in
       let w = out.3 in
-      let u : SlotState = record { here = record { world = (left 0 h).world; place = g.place }; temps = with_temp g.temps r v; pc = g.pc; result_at = g.result_at; outer = gs } in
-      (1, 1, u, omega arith, (1, 0, u, refl, ap (slots.at_op set.c t) d.follows ∙ ap (λ o. slots.on_temp o (λ v. slots.returns set.c t v (g ∷ gs))) d.holds.0, (refl, refl), refl), record {
-        same = ap (λ p. record { world = (left 0 h).world; place = p }) out.0;
-        ws = InTemp ∷ out.1;
-        doing = record { fn = w.fn; found = w.found; ends = w.ends; around = w.around; loops = w.loops; holds = subst (λ i. Holds a.place (with_temp g.temps i v) (InTemp ∷ out.1) (v ∷ a.values)) (sym out.2) (puts a.place g.temps v out.1 a.values w.holds); follows = w.follows };
-        outer = out.4;
-      }, tt)
+      let u : SlotState = record { here = record { world = (left 0 h).world; place = g.place }; temps = with_temp g.temps r v; pc = g.pc; result_at = g.result_at; outer = gs } in (
+        1,
+        1,
+        u,
+        omega arith,
+        (1, 0, u, refl, ap (slots.at_op set.c t) d.follows ∙ ap (λ o. slots.on_temp o (λ v. slots.returns set.c t v (g ∷ gs))) d.holds.0, (refl, refl), refl),
+        record {
+          same = ap (λ p. record { world = (left 0 h).world; place = p }) out.0;
+          ws = InTemp ∷ out.1;
+          doing = record { fn = w.fn; found = w.found; ends = w.ends; around = w.around; loops = w.loops; holds = subst (λ i. Holds a.place (with_temp g.temps i v) (InTemp ∷ out.1) (v ∷ a.values)) (sym out.2) (puts a.place g.temps v out.1 a.values w.holds); follows = w.follows };
+          outer = out.4;
+        },
+        tt,
+      )
 
 -- ---- loops by their parts
 
@@ -133,12 +140,12 @@ module _ (set : Setting) (g : Ground set) where
       let u : SlotState = record { here = h'; temps = temps; pc = pc + 1; result_at = g.at; outer = g.frames } in
       let one = length (leaves_of set.p.defs (local_type set.p f d.local)) in
       let step =
-          ap (λ j. slots.at_op set.c t (slice_get (slots.code_of set.c j) pc)) e
-          ∙ ap (slots.at_op set.c t) has.0
-          ∙ ap (λ j. slots.goes set.c t (slots.leaf_count_in (slots.local_row set.c j d.local)) (slots.zeroed_local set.c d.local h)) e
-          ∙ ap (λ c. slots.goes set.c t c (slots.zeroed_local set.c d.local h)) (counted_same set.p set.c set.is f d.local)
-          ∙ ap (slots.goes set.c t one) (zeroed_same set.p set.c set.is d.local h)
-          ∙ ap (λ j. slots.goes set.c t one (opened_one set.p j d.local h)) e in
+      ap (λ j. slots.at_op set.c t (slice_get (slots.code_of set.c j) pc)) e
+      ∙ ap (slots.at_op set.c t) has.0
+      ∙ ap (λ j. slots.goes set.c t (slots.leaf_count_in (slots.local_row set.c j d.local)) (slots.zeroed_local set.c d.local h)) e
+      ∙ ap (λ c. slots.goes set.c t c (slots.zeroed_local set.c d.local h)) (counted_same set.p set.c set.is f d.local)
+      ∙ ap (slots.goes set.c t one) (zeroed_same set.p set.c set.is d.local h)
+      ∙ ap (λ j. slots.goes set.c t one (opened_one set.p j d.local h)) e in
       let rest = opens ds o h' temps (pc + 1) e w has.1 in
       let at : pc + 1 + length ds ≡ pc + suc (length ds) = omega arith in
       (one, leaf_count set.p f ds, u, refl, step, subst (λ i. Steps set g o (length ds) (leaf_count set.p f ds) u (record { here = opened set.p f ds h'; temps = temps; pc = i; result_at = g.at; outer = g.frames })) at rest, w)
@@ -182,7 +189,7 @@ module _ (set : Setting) (g : Ground set) where
           let kept : temps 0 ≡ Some (Number v) = d.holds.0 ∙ ap (λ x. Some (Number x)) fo.0 in
           one_step set g (Seek v (l ∷ ls) default m ∷ k) (Seek v ls default m ∷ k) [] [] temps temps pc (pc + 1) 1 1 (Kept y ∷ []) (op.JumpIfEqual 0 l.constant s.0) (omega arith) s.1 (seek_jumps st v l.constant s.0 false kept e)
           (again set g (Kept y ∷ []) (Kept y ∷ []) [] [] (Seek v (l ∷ ls) default m ∷ k) (Seek v ls default m ∷ k) temps temps pc (pc + 1) d d.holds d.loops
-            (fo.0, fo.1, fo.2, fo.3, fo.4, fo.5, fo.6, fo.7, fo.8, s.3, fo.10))
+          (fo.0, fo.1, fo.2, fo.3, fo.4, fo.5, fo.6, fo.7, fo.8, s.3, fo.10))
 
   -- ---- the rest of a `switch`
 
@@ -212,7 +219,7 @@ module _ (set : Setting) (g : Ground set) where
       let after = subst (λ i. F set g r i [] k) len fo.3 in
       one_step set g (Select b m ∷ k) (Seek x (labels_in ss) (default_in ss) m ∷ k) (Number x ∷ []) [] temps temps pc (over + 1) 1 1 (Kept x ∷ []) (op.Jump (over + 1)) (omega arith) has.0 refl
       (again set g (InTemp ∷ []) (Kept x ∷ []) (Number x ∷ []) [] (Select b m ∷ k) (Seek x (labels_in ss) (default_in ss) m ∷ k) temps temps pc (over + 1) d (d.holds.0, tt) d.loops
-        (refl, fo.0, fo.1, u, end, has.1.0, fo.0, refl, refl, seeks, subst (λ i. Follows set.p f co r i end [] k) fo.0 after))
+      (refl, fo.0, fo.1, u, end, has.1.0, fo.0, refl, refl, seeks, subst (λ i. Follows set.p f co r i end [] k) fo.0 after))
 
   switched_answers : (m : ℕ) (k : List Item) (temps : Temps) (pc : ℕ) → D set g [] [] (Switched m ∷ k) temps pc
       → Answered set (now set g [] (Switched m ∷ k)) (GoesOn 1 (now set g [] k)) (slot set g temps pc)
@@ -242,9 +249,9 @@ module _ (set : Setting) (g : Ground set) where
       let y = chosen_second set.p f co r n 0 ca cb pc [] k fo.1 fo.2 in
       tested set g v (now set g (v ∷ []) (Choose a b ∷ k)) (GoesOn 1 (now set g [] (Run a ∷ Joined ∷ k))) (GoesOn 1 (now set g [] (runs_of b ++ k))) st
       (λ s e. stand_jump set g (Choose a b ∷ k) (Run a ∷ Joined ∷ k) (InTemp ∷ []) (v ∷ []) temps pc (pc + 1) (op.JumpIfZero 0 other) d fo.1.0 (zero_jumps set g st 0 other v false d.holds.0 s e)
-        (record { around = r; loops = d.loops; follows = (fo.0, x.0, x.1) }))
+      (record { around = r; loops = d.loops; follows = (fo.0, x.0, x.1) }))
       (λ s e. stand_jump set g (Choose a b ∷ k) (runs_of b ++ k) (InTemp ∷ []) (v ∷ []) temps pc other (op.JumpIfZero 0 other) d fo.1.0 (zero_jumps set g st 0 other v true d.holds.0 s e)
-        (record { around = r; loops = loops_runs set.p f co r b k d.loops; follows = runs_follow set.p f co r n b other k fo.0 y.0 y.1 }))
+      (record { around = r; loops = loops_runs set.p f co r b k d.loops; follows = runs_follow set.p f co r n b other k fo.0 y.0 y.1 }))
 
   turn_answers : (s : Stmt) (m : ℕ) (k : List Item) (v : Value) (temps : Temps) (pc : ℕ) → D set g (InTemp ∷ []) (v ∷ []) (Turn s m ∷ k) temps pc
       → Answered set (now set g (v ∷ []) (Turn s m ∷ k)) (source.on_test set.p g.h g.outer v (GoesOn 1 (now set g [] (loop_turns s m ++ k))) (GoesOn 1 (now set g [] k))) (slot set g temps pc)
@@ -260,7 +267,7 @@ module _ (set : Setting) (g : Ground set) where
       tested set g v (now set g (v ∷ []) (Turn s m ∷ k)) (GoesOn 1 (now set g [] (loop_turns s m ++ k))) (GoesOn 1 (now set g [] k)) st
       (λ z e. stand_jump set g (Turn s m ∷ k) (loop_turns s m ++ k) (InTemp ∷ []) (v ∷ []) temps pc (pc + 1) (op.JumpIfZero 0 end) d fo.3 (zero_jumps set g st 0 end v false d.holds.0 z e) body)
       (λ z e. stand_jump set g (Turn s m ∷ k) k (InTemp ∷ []) (v ∷ []) temps pc end (op.JumpIfZero 0 end) d fo.3 (zero_jumps set g st 0 end v true d.holds.0 z e)
-        (record { around = d.around; loops = d.loops; follows = subst (λ i. Follows set.p f co d.around i end [] k) (sym fo.1) fo.6 }))
+      (record { around = d.around; loops = d.loops; follows = subst (λ i. Follows set.p f co d.around i end [] k) (sym fo.1) fo.6 }))
 
   again_answers : (s : Stmt) (m : ℕ) (k : List Item) (temps : Temps) (pc : ℕ) → D set g [] [] (Again s m ∷ k) temps pc
       → Answered set (now set g [] (Again s m ∷ k)) (GoesOn 1 (now set g [] (loop_goes_on s m ++ k))) (slot set g temps pc)
@@ -310,7 +317,7 @@ module _ (set : Setting) (g : Ground set) where
       ⊎_elim
       (λ e. by_zeros ds k temps pc to e made_all ma)
       (λ e. some_steps set g o s (slot set g temps pc) (record { here = opened set.p f ds g.h; temps = temps; pc = to + length ds; result_at = g.at; outer = g.frames }) (1 + c) (suc (length ds)) (1 + c) (omega arith) (omega arith)
-        (1, c, slot set g temps to, omega arith, at_op set g temps pc (op.Jump to) e, made_all, refl) ma)
+      (1, c, slot set g temps to, omega arith, at_op set g temps pc (op.Jump to) e, made_all, refl) ma)
       fo.1
     where
       by_zeros : (ds : List DeclaredLocal) (k : List Item) (temps : Temps) (pc to : ℕ) → pc ≡ to
@@ -321,9 +328,15 @@ module _ (set : Setting) (g : Ground set) where
           (0, 0, slot set g temps (to + 0), omega arith, (refl, ap (slot set g temps) (e ∙ stays to)), ma, omega arith)
       by_zeros (d ∷ ds) k temps pc to e st ma =
           let q : slot set g temps to ≡ slot set g temps pc = ap (slot set g temps) (sym e) in
-          let c = leaf_count set.p f (d ∷ ds) in
-          (length (d ∷ ds), c, record { here = opened set.p f (d ∷ ds) g.h; temps = temps; pc = to + length (d ∷ ds); result_at = g.at; outer = g.frames }, omega arith,
-            subst (λ t. Steps set g (now set g [] (Open (d ∷ ds) ∷ k)) (length (d ∷ ds)) c t (record { here = opened set.p f (d ∷ ds) g.h; temps = temps; pc = to + length (d ∷ ds); result_at = g.at; outer = g.frames })) q st, ma, tt)
+          let c = leaf_count set.p f (d ∷ ds) in (
+            length (d ∷ ds),
+            c,
+            record { here = opened set.p f (d ∷ ds) g.h; temps = temps; pc = to + length (d ∷ ds); result_at = g.at; outer = g.frames },
+            omega arith,
+            subst (λ t. Steps set g (now set g [] (Open (d ∷ ds) ∷ k)) (length (d ∷ ds)) c t (record { here = opened set.p f (d ∷ ds) g.h; temps = temps; pc = to + length (d ∷ ds); result_at = g.at; outer = g.frames })) q st,
+            ma,
+            tt,
+          )
 
   close_answers : (m : ℕ) (k : List Item) (temps : Temps) (pc : ℕ) → D set g [] [] (Close m ∷ k) temps pc
       → Answered set (now set g [] (Close m ∷ k)) (GoesOn 1 (record { here = left m g.h; values = []; control = k; outer = g.outer })) (slot set g temps pc)
@@ -331,13 +344,20 @@ module _ (set : Setting) (g : Ground set) where
   close_answers m k temps pc d =
       let fo = d.follows in
       let u : SlotState = record { here = left m g.h; temps = temps; pc = pc + 1; result_at = g.at; outer = g.frames } in
-      let len : length (take m g.h.place.locals) ≡ m = length-take-le m g.h.place.locals fo.0 in
-      (1, 0, u, omega arith, (0, 0, u, omega arith, at_op set g temps pc (op.Leave m) fo.1, (refl, refl), refl), record {
-        same = refl;
-        ws = [];
-        doing = record { fn = d.fn; found = d.found; ends = d.ends; around = d.around; loops = d.loops; holds = tt; follows = subst (λ i. Follows set.p f (code set g) d.around i (pc + 1) [] k) (sym len) fo.2 };
-        outer = g.out;
-      }, tt)
+      let len : length (take m g.h.place.locals) ≡ m = length-take-le m g.h.place.locals fo.0 in (
+        1,
+        0,
+        u,
+        omega arith,
+        (0, 0, u, omega arith, at_op set g temps pc (op.Leave m) fo.1, (refl, refl), refl),
+        record {
+          same = refl;
+          ws = [];
+          doing = record { fn = d.fn; found = d.found; ends = d.ends; around = d.around; loops = d.loops; holds = tt; follows = subst (λ i. Follows set.p f (code set g) d.around i (pc + 1) [] k) (sym len) fo.2 };
+          outer = g.out;
+        },
+        tt,
+      )
 
   give_back_answers : (v : Value) (k : List Item) (temps : Temps) (pc : ℕ) → (d : D set g (InTemp ∷ []) (v ∷ []) (GiveBack ∷ k) temps pc)
       → Answered set (now set g (v ∷ []) (GiveBack ∷ k)) (GoesOn 1 (record { here = left (outermost_of d.fn) g.h; values = v ∷ []; control = Stop (last_of d.fn.points) ∷ Leave ∷ []; outer = g.outer })) (slot set g temps pc)
@@ -346,24 +366,40 @@ module _ (set : Setting) (g : Ground set) where
       let o = outermost_of d.fn in
       let t = slot set g temps pc in
       let u = slot set g temps end_place in
-      let w : SlotState = record { here = left o g.h; temps = temps; pc = end_place + 1; result_at = g.at; outer = g.frames } in
-      (2, 1, w, omega arith, (1, 0, u, omega arith, at_op set g temps pc (op.Jump end_place) d.follows, (0, 0, w, omega arith, at_op set g temps end_place (op.Leave o) d.ends.0, (refl, refl), refl), refl), record {
-        same = refl;
-        ws = InTemp ∷ [];
-        doing = record { fn = d.fn; found = d.found; ends = d.ends; around = d.around; loops = tt; holds = d.holds; follows = (d.ends.1.0, d.ends.1.1.0) };
-        outer = g.out;
-      }, tt)
+      let w : SlotState = record { here = left o g.h; temps = temps; pc = end_place + 1; result_at = g.at; outer = g.frames } in (
+        2,
+        1,
+        w,
+        omega arith,
+        (1, 0, u, omega arith, at_op set g temps pc (op.Jump end_place) d.follows, (0, 0, w, omega arith, at_op set g temps end_place (op.Leave o) d.ends.0, (refl, refl), refl), refl),
+        record {
+          same = refl;
+          ws = InTemp ∷ [];
+          doing = record { fn = d.fn; found = d.found; ends = d.ends; around = d.around; loops = tt; holds = d.holds; follows = (d.ends.1.0, d.ends.1.1.0) };
+          outer = g.out;
+        },
+        tt,
+      )
 
   stop_answers : (q : ℕ) (k : List Item) (ws : List Where) (vs : List Value) (temps : Temps) (pc : ℕ) → D set g ws vs (Stop q ∷ k) temps pc
       → Answered set (now set g vs (Stop q ∷ k)) (Passes q 1 (record { here = with_point g.h q; values = vs; control = k; outer = g.outer })) (slot set g temps pc)
   stop_answers q k ws vs temps pc d =
-      let t = slot set g temps pc in
-      (0, 0, t, record { here = with_point g.h q; temps = temps; pc = pc + 1; result_at = g.at; outer = g.frames }, omega arith, (refl, refl), at_op set g temps pc (op.Stop q) d.follows.0, record {
-        same = refl;
-        ws = ws;
-        doing = record { fn = d.fn; found = d.found; ends = d.ends; around = d.around; loops = d.loops; holds = held_at_point ws vs d.holds; follows = d.follows.1 };
-        outer = g.out;
-      }, refl)
+      let t = slot set g temps pc in (
+        0,
+        0,
+        t,
+        record { here = with_point g.h q; temps = temps; pc = pc + 1; result_at = g.at; outer = g.frames },
+        omega arith,
+        (refl, refl),
+        at_op set g temps pc (op.Stop q) d.follows.0,
+        record {
+          same = refl;
+          ws = ws;
+          doing = record { fn = d.fn; found = d.found; ends = d.ends; around = d.around; loops = d.loops; holds = held_at_point ws vs d.holds; follows = d.follows.1 };
+          outer = g.out;
+        },
+        refl,
+      )
     where
       held_at_point : (ws : List Where) (vs : List Value) → Holds g.h.place temps ws vs → Holds (with_point g.h q).place temps ws vs
       held_at_point [] [] h = tt
@@ -389,7 +425,7 @@ module _ (set : Setting) (g : Ground set) where
       let e : t ≡ Struct s = d.follows.1 in
       subst (λ t. Answered set (now set g (from ∷ to ∷ vs) (Copy t ∷ k)) (source.copy set.p g.h g.outer t to from vs k) (slot set g temps pc)) (sym e)
       (copy_answers set g s k ws from to vs temps pc
-        (record { fn = d.fn; found = d.found; ends = d.ends; around = d.around; loops = d.loops; holds = d.holds; follows = (s, refl, d.follows.2, d.follows.3) }) d.follows.2 d.follows.3 (load_struct g.h.world (cells_of set.p.defs (Struct s)) from) refl)
+      (record { fn = d.fn; found = d.found; ends = d.ends; around = d.around; loops = d.loops; holds = d.holds; follows = (s, refl, d.follows.2, d.follows.3) }) d.follows.2 d.follows.3 (load_struct g.h.world (cells_of set.p.defs (Struct s)) from) refl)
 
   enter_at : (q m : ℕ) (k : List Item) (ws : List Where) (vs : List Value) (temps : Temps) (pc : ℕ) → D set g ws vs (Enter q m ∷ k) temps pc
       → Answered set (now set g vs (Enter q m ∷ k)) (source.act set.p g.h g.outer (Enter q m) vs k) (slot set g temps pc)

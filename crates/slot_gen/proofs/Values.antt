@@ -138,6 +138,7 @@ module _ (set : Setting) (g : Ground set) where
       set_step set g (Convert t ∷ k) k (InTemp ∷ ws) ws (v ∷ vs) vs temps pc 1 (extended access.UnsignedHalf v) (op.Convert (length ws) access.UnsignedHalf) d (omega arith) has.0 (ap (λ o. slots.on_temp o (λ v. slots.sets set.c (slot set g temps pc) (length ws) (extended access.UnsignedHalf v))) d.holds.0) d.holds.1 d.loops f
   cast_answers access.Pointer t k ws v vs temps pc d has f =
       set_step set g (Convert t ∷ k) k (InTemp ∷ ws) ws (v ∷ vs) vs temps pc 1 (extended access.Pointer v) (op.Convert (length ws) access.Pointer) d (omega arith) has.0 (ap (λ o. slots.on_temp o (λ v. slots.sets set.c (slot set g temps pc) (length ws) (extended access.Pointer v))) d.holds.0) d.holds.1 d.loops f
+
   pub convert_answers : (t : CType) (k : List Item) (ws : List Where) (v : Value) (vs : List Value) (temps : Temps) (pc : ℕ) → D set g (InTemp ∷ ws) (v ∷ vs) (Convert t ∷ k) temps pc
       → Answered set (now set g (v ∷ vs) (Convert t ∷ k)) (GoesOn 1 (now set g (converted t v ∷ vs) k)) (slot set g temps pc)
   convert_answers t k ws v vs temps pc d =
@@ -188,9 +189,10 @@ module _ (set : Setting) (g : Ground set) where
         same = refl;
         ws = InTemp ∷ ws;
         doing = again set g ws0 (InTemp ∷ ws) vs0 (converted t v ∷ vs) k0 k temps (with_temp m.after n (converted t v)) pc (pc + length cs + 1 + 1) d
-          (puts g.h.place m.after (converted t v) ws vs (same_below g.h.place temps m.after n ws vs (omega arith) (λ x lt. m.below x (omega (arith, lt))) hs)) l (subst (λ i. F set g d.around i (InTemp ∷ ws) k) len f);
+            (puts g.h.place m.after (converted t v) ws vs (same_below g.h.place temps m.after n ws vs (omega arith) (λ x lt. m.below x (omega (arith, lt))) hs)) l (subst (λ i. F set g d.around i (InTemp ∷ ws) k) len f);
         outer = g.out;
       })
+
   -- MORE
   pub store_answers : (t : CType) (k : List Item) (ws : List Where) (v place : Value) (vs : List Value) (temps : Temps) (pc : ℕ) → D set g (InTemp ∷ InTemp ∷ ws) (v ∷ place ∷ vs) (Store t ∷ k) temps pc
       → Answered set (now set g (v ∷ place ∷ vs) (Store t ∷ k)) (source.write set.p g.h g.outer t place (converted t v) (converted t v) vs k) (slot set g temps pc)
@@ -251,8 +253,8 @@ module _ (set : Setting) (g : Ground set) where
         let comb = combine_op set.p (suc n) (suc (suc n)) (suc n) bo t s in
         let y_there = put_other temps (suc (suc n)) (suc n) (converted t old) (omega arith) ∙ ty in
         let operated : Steps set g o 1 1 one_up two_up =
-            one set g o (with_old old) (pc + 1) 1 comb two_up refl has.1.0
-            (combined_gives set.c one_up set.p (suc n) (suc (suc n)) (suc n) (converted t old) y (put_same temps (suc (suc n)) (converted t old)) y_there bo t s x eq) in
+        one set g o (with_old old) (pc + 1) 1 comb two_up refl has.1.0
+        (combined_gives set.c one_up set.p (suc n) (suc (suc n)) (suc n) (converted t old) y (put_same temps (suc (suc n)) (converted t old)) y_there bo t s x eq) in
         let x_there = put_same (with_old old) (suc n) x in
         let old_there = put_above (with_old old) (suc n) (suc (suc n)) x (omega arith) ∙ put_same temps (suc (suc n)) (converted t old) in
         let hc = has.1.1 in
@@ -262,7 +264,7 @@ module _ (set : Setting) (g : Ground set) where
         let new_there = m.value ∙ ap Some (sym (converted_same t x)) in
         let kept_there = m.above (suc (suc n)) (omega arith) ∙ old_there in
         let below : (i : ℕ) → i < suc n → m.after i ≡ temps i =
-            (λ i lt. m.below i lt ∙ put_other (with_old old) (suc n) i x lt ∙ put_other temps (suc (suc n)) i (converted t old) (omega (arith, lt))) in
+        (λ i lt. m.below i lt ∙ put_other (with_old old) (suc n) i x lt ∙ put_other temps (suc (suc n)) i (converted t old) (omega (arith, lt))) in
         let end = written_to w (with_temp m.after n result) (at + 1 + 1) in
         let wrote = write_then_take o (kind_of t) place (converted t x) result w m.after at n taken (suc n) wr refl ew (wa m.after at below) new_there hl.0 (taken_value new old x m.after new_there kept_there) hl.1.0 in
         let chain = silent_then SlotState (slots.step set.c) (beginning.acted set.hist) (SameOutput set o) in
@@ -273,7 +275,7 @@ module _ (set : Setting) (g : Ground set) where
           same = refl;
           ws = InTemp ∷ ws;
           doing = again set g ws0 (InTemp ∷ ws) vs0 (result ∷ vs) k0 k temps (with_temp m.after n result) pc (at + 1 + 1) d
-            (puts g.h.place m.after result ws vs (same_below g.h.place temps m.after n ws vs (omega arith) (λ i lt. below i (omega (arith, lt))) hs)) l (subst (λ i. F set g d.around i (InTemp ∷ ws) k) len f);
+              (puts g.h.place m.after result ws vs (same_below g.h.place temps m.after n ws vs (omega arith) (λ i lt. below i (omega (arith, lt))) hs)) l (subst (λ i. F set g d.around i (InTemp ∷ ws) k) len f);
           outer = g.out;
         })
 
@@ -283,14 +285,14 @@ module _ (set : Setting) (g : Ground set) where
         → ((after : Temps) (pc' : ℕ) → ((x : ℕ) → x < suc n → after x ≡ temps x) → slots.act set.c (slot set g after pc') wr ≡ slots.writes set.c (slot set g after pc') (kind_of t) place (suc n))
         → HasAt (code set g) pc (lo ∷ rest_code) → F set g d.around (pc + length (lo ∷ rest_code)) (InTemp ∷ ws) k
         → Answered set o (source.on_ok a (λ old.
-            source.on_ok (combined set.p.defs g.h.world bo t s (converted t old) y) (λ x.
-            source.on_ok (store g.h.world (kind_of t) place (converted t x)) (λ w. GoesOn 3 (record { here = with_world g.h w; values = converted t (if new then x else old) ∷ vs; control = k; outer = g.outer }))))) (slot set g temps pc)
+        source.on_ok (combined set.p.defs g.h.world bo t s (converted t old) y) (λ x.
+        source.on_ok (store g.h.world (kind_of t) place (converted t x)) (λ w. GoesOn 3 (record { here = with_world g.h w; values = converted t (if new then x else old) ∷ vs; control = k; outer = g.outer }))))) (slot set g temps pc)
     update_by (Err e) ea ty hs l la wa has f = tt
     update_by (Ok old) ea ty hs l la wa has f = by_operation (combined set.p.defs g.h.world bo t s (converted t old) y) refl
       where
         by_operation : (q : Result Value Why) → combined set.p.defs g.h.world bo t s (converted t old) y ≡ q
             → Answered set o (source.on_ok q (λ x.
-              source.on_ok (store g.h.world (kind_of t) place (converted t x)) (λ w. GoesOn 3 (record { here = with_world g.h w; values = converted t (if new then x else old) ∷ vs; control = k; outer = g.outer })))) (slot set g temps pc)
+            source.on_ok (store g.h.world (kind_of t) place (converted t x)) (λ w. GoesOn 3 (record { here = with_world g.h w; values = converted t (if new then x else old) ∷ vs; control = k; outer = g.outer })))) (slot set g temps pc)
         by_operation (Err e) eq = tt
         by_operation (Ok x) eq = by_write (store g.h.world (kind_of t) place (converted t x)) refl
           where
@@ -423,12 +425,12 @@ module _ (set : Setting) (g : Ground set) where
           let end = written_to w (with_temp temps i (Number 0)) (pc + 1 + 1) in
           let all_copied = λ (cs : List Cell) (y z : Value). slots.on_ok (load_struct g.h.world cs z) (λ vs. slots.on_ok (store_struct g.h.world cs y vs) (λ w. slots.goes set.c st (1 + 2 * length vs) (with_world g.h w))) in
           let first =
-              ap (slots.at_op set.c st) has.0
-              ∙ ap (λ q. slots.on_temp q (λ y. slots.on_temp (temps (suc i)) (λ z. all_copied (slots.zero_cells (slots.leaves_in (slice_get set.c.structs s))) y z))) d.holds.1.0
-              ∙ ap (λ q. slots.on_temp q (λ z. all_copied (slots.zero_cells (slots.leaves_in (slice_get set.c.structs s))) to z)) d.holds.0
-              ∙ ap (λ ls. all_copied (slots.zero_cells ls) to from) (set.is.structs s)
-              ∙ ap (λ q. slots.on_ok q (λ vs. slots.on_ok (store_struct g.h.world cells to vs) (λ w. slots.goes set.c st (1 + 2 * length vs) (with_world g.h w)))) ea
-              ∙ ap (λ q. slots.on_ok q (λ w. slots.goes set.c st (1 + 2 * length xs) (with_world g.h w))) ew in
+          ap (slots.at_op set.c st) has.0
+          ∙ ap (λ q. slots.on_temp q (λ y. slots.on_temp (temps (suc i)) (λ z. all_copied (slots.zero_cells (slots.leaves_in (slice_get set.c.structs s))) y z))) d.holds.1.0
+          ∙ ap (λ q. slots.on_temp q (λ z. all_copied (slots.zero_cells (slots.leaves_in (slice_get set.c.structs s))) to z)) d.holds.0
+          ∙ ap (λ ls. all_copied (slots.zero_cells ls) to from) (set.is.structs s)
+          ∙ ap (λ q. slots.on_ok q (λ vs. slots.on_ok (store_struct g.h.world cells to vs) (λ w. slots.goes set.c st (1 + 2 * length vs) (with_world g.h w)))) ea
+          ∙ ap (λ q. slots.on_ok q (λ w. slots.goes set.c st (1 + 2 * length xs) (with_world g.h w))) ew in
           let second = ap (slots.at_op set.c u) has.1.0 in
           let n = 1 + 2 * length xs in
           some_steps set g o _ st end n 2 (n + 1) (omega arith) (omega arith) (n, 1, u, omega arith, first, (1, 0, end, omega arith, second, (refl, refl), struct_output g.h.world cells to xs w ew), refl)

@@ -39,11 +39,17 @@ is_scalar t = if is_array t then false else (if is_struct t then false else true
 abbrev pub wants_register : Local → Bool
 wants_register l = l.register && is_scalar l.ctype
 
--- the register of local number x, where so many are taken
-abbrev pub register_from : List Local → (x taken : ℕ) → Option ℕ
-register_from [] x n = None
-register_from (l ∷ ls) zero n = if wants_register l && nat_lt n 8 then Some n else None
-register_from (l ∷ ls) (suc x) n = register_from ls x (if wants_register l then suc n else n)
+-- the register of each local, where so many are taken
+abbrev pub registers_from : List Local → (taken : ℕ) → List (Option ℕ)
+registers_from [] n = []
+registers_from (l ∷ ls) n = if wants_register l && nat_lt n 8 then Some n ∷ registers_from ls (suc n) else None ∷ registers_from ls n
+
+abbrev register_in_row : Option (Option ℕ) → Option ℕ
+register_in_row None = None
+register_in_row (Some r) = r
+
+abbrev pub register_at : List (Option ℕ) → (local : ℕ) → Option ℕ
+register_at rs x = register_in_row (slice_get rs x)
 
 -- ---- values of a type
 
@@ -165,8 +171,11 @@ unless_register (Some x) place = []
 -- ---- expressions of function number f
 
 module _ (p : Program) (f : ℕ) where
+  abbrev pub registers_of : List (Option ℕ)
+  registers_of = registers_from (locals_in (slice_get p.functions f)) 0
+
   abbrev pub register_of : (local : ℕ) → Option ℕ
-  register_of x = register_from (locals_in (slice_get p.functions f)) x 0
+  register_of x = register_at registers_of x
 
   abbrev pub register_named : Option SymbolRow → Option ℕ
   register_named None = None
@@ -215,9 +224,9 @@ module _ (p : Program) (f : ℕ) where
     expr_code at d (Comma' t _ a _ b) = let ca = expr_code at d a in ca ++ expr_code (at + length ca) d b
     expr_code at d (Assign' t _ a None _ b) =
         if is_struct (type_of a) then
-          (let ca = place_code at d a in let cb = place_code (at + length ca) (suc d) b in ca ++ (cb ++ Move d (suc d) (struct_number (type_of a)) ∷ Const d 0 ∷ []))
+        (let ca = place_code at d a in let cb = place_code (at + length ca) (suc d) b in ca ++ (cb ++ Move d (suc d) (struct_number (type_of a)) ∷ Const d 0 ∷ []))
         else
-          (let ca = unless_register (register_in a) (place_code at d a) in ca ++ (expr_code (at + length ca) (suc d) b ++ write_at d (register_in a) (type_of a)))
+        (let ca = unless_register (register_in a) (place_code at d a) in ca ++ (expr_code (at + length ca) (suc d) b ++ write_at d (register_in a) (type_of a)))
     expr_code at d (Assign' t _ a (Some op) _ b) =
         let ca = unless_register (register_in a) (place_code at d a) in
         ca ++ (expr_code (at + length ca) (suc d) b ++ update_at d (register_in a) (type_of a) op (type_of b) true)

@@ -1,9 +1,23 @@
 // What holds of slot code.
+ghost use Rattle.std.specs.Prelude.{◌≤◌, ◌+◌, ℕ};
 ghost use Rattle.c_tree.specs.declared.rows.Program.{Program};
+ghost use Rattle.c_tree.specs.declared.rows.Function.{Function};
+ghost use Rattle.c_tree.specs.declared.typed.Typed.{Typed};
+ghost use Rattle.c_source.specs.Size.{extent_of};
 ghost use Rattle.slot_ir.specs.declared.code.SlotCode.{SlotCode};
+ghost use Rattle.slot_gen.specs.Bounds.{temps_of, function_temps, AreBelow};
 ghost use Rattle.slot_gen.specs.Correct.{IsCodeOf, HasMain, Lowers};
+ghost use Rattle.slot_gen.specs.Expressions.{expr_code};
+ghost use Rattle.slot_gen.specs.Statements.{function_code};
 
 /// The slot code of a program passes its stopping points in order, with the same objects, activations, output and exit number, for every input and all assignments made at the stops, up to the program's first undefined step; and it shows nothing else.
 pub fn slot_code_keeps_the_run()
     ensures { (p : Program) (c : SlotCode) → IsCodeOf p c → HasMain p → Lowers p c }
+{}
+
+/// The code of an expression and of a function names the temporaries that it is said to take alone, and an expression takes at most one more than it has nodes.
+pub fn code_takes_few_temporaries()
+    ensures expression { (p : Program) (f at d : ℕ) (e : Typed) → AreBelow (d + temps_of e) (expr_code p f at d e) }
+    ensures function { (p : Program) (f : ℕ) (fn : Function) → AreBelow (function_temps fn) (function_code p f fn) }
+    ensures few { (e : Typed) → temps_of e ≤ (extent_of e).nodes + 1 }
 {}

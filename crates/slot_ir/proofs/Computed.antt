@@ -49,14 +49,14 @@ counting = record {
     points = 0 ∷ 1 ∷ 2 ∷ 3 ∷ 4 ∷ 5 ∷ [];
     places = 0 ∷ 2 ∷ 6 ∷ 10 ∷ 17 ∷ 26 ∷ [];
     code =
-      Stop 0 ∷ Zero 0
-      ∷ Stop 1 ∷ LocalAddress 0 0 ∷ Const 1 3 ∷ Store 0 1 Word
-      ∷ Stop 2 ∷ LocalAddress 0 0 ∷ Load 0 0 Word access.Word ∷ JumpIfZero 0 23
-      ∷ Stop 3 ∷ TextAddress 0 0 ∷ LocalAddress 1 0 ∷ Load 1 1 Word access.Word ∷ Index 0 0 1 1 false false ∷ Load 0 0 Byte access.SignedByte ∷ PutChar 0
-      ∷ Stop 4 ∷ LocalAddress 0 0 ∷ Load 1 0 Word access.Word ∷ Const 2 1 ∷ Binary 1 1 2 word.Subtract ∷ Jump 28
-      ∷ Const 0 7 ∷ Jump 25
-      ∷ Leave 1 ∷ Stop 5 ∷ Return 0
-      ∷ Store 0 1 Word ∷ Jump 6 ∷ [];
+        Stop 0 ∷ Zero 0
+        ∷ Stop 1 ∷ LocalAddress 0 0 ∷ Const 1 3 ∷ Store 0 1 Word
+        ∷ Stop 2 ∷ LocalAddress 0 0 ∷ Load 0 0 Word access.Word ∷ JumpIfZero 0 23
+        ∷ Stop 3 ∷ TextAddress 0 0 ∷ LocalAddress 1 0 ∷ Load 1 1 Word access.Word ∷ Index 0 0 1 1 false false ∷ Load 0 0 Byte access.SignedByte ∷ PutChar 0
+        ∷ Stop 4 ∷ LocalAddress 0 0 ∷ Load 1 0 Word access.Word ∷ Const 2 1 ∷ Binary 1 1 2 word.Subtract ∷ Jump 28
+        ∷ Const 0 7 ∷ Jump 25
+        ∷ Leave 1 ∷ Stop 5 ∷ Return 0
+        ∷ Store 0 1 Word ∷ Jump 6 ∷ [];
   } ∷ [];
   main = 0;
   objects = [];
@@ -80,10 +80,24 @@ counting_exits = refl
 abbrev calling : SlotCode
 calling = record {
   functions =
-    record { name = codes "twice"; params = 1; locals = in_register ∷ []; temporaries = 2; points = 0 ∷ 1 ∷ 2 ∷ []; places = 0 ∷ 3 ∷ 8 ∷ [];
-      code = Stop 0 ∷ ReadRegister 0 0 Word access.Word ∷ PutChar 0 ∷ Stop 1 ∷ ReadRegister 0 0 Word access.Word ∷ ReadRegister 1 0 Word access.Word ∷ Binary 0 0 1 word.Add ∷ Leave 1 ∷ Stop 2 ∷ Return 0 ∷ []; }
-    ∷ record { name = codes "main"; params = 0; locals = []; temporaries = 1; points = 3 ∷ 4 ∷ []; places = 0 ∷ 1 ∷ [];
-      code = Stop 3 ∷ Stop 4 ∷ GetChar 0 ∷ Call 0 0 1 ∷ Exit 0 ∷ []; } ∷ [];
+      record {
+        name = codes "twice";
+        params = 1;
+        locals = in_register ∷ [];
+        temporaries = 2;
+        points = 0 ∷ 1 ∷ 2 ∷ [];
+        places = 0 ∷ 3 ∷ 8 ∷ [];
+        code = Stop 0 ∷ ReadRegister 0 0 Word access.Word ∷ PutChar 0 ∷ Stop 1 ∷ ReadRegister 0 0 Word access.Word ∷ ReadRegister 1 0 Word access.Word ∷ Binary 0 0 1 word.Add ∷ Leave 1 ∷ Stop 2 ∷ Return 0 ∷ [];
+      }
+      ∷ record {
+        name = codes "main";
+        params = 0;
+        locals = [];
+        temporaries = 1;
+        points = 3 ∷ 4 ∷ [];
+        places = 0 ∷ 1 ∷ [];
+        code = Stop 3 ∷ Stop 4 ∷ GetChar 0 ∷ Call 0 0 1 ∷ Exit 0 ∷ [];
+      } ∷ [];
   main = 1;
   objects = [];
   strings = [];

@@ -80,58 +80,158 @@ pub enum PointerOp {
 #[derive(Clone, Copy, PartialEq, Eq, Debug)]
 pub enum SlotOp {
     /// A number by its bits.
-    Const { to: u32, bits: u32 },
+    Const {
+        to: u32,
+        bits: u32,
+    },
     /// The null pointer.
-    Null { to: u32 },
+    Null {
+        to: u32,
+    },
     /// The address of a static object.
-    StaticAddress { to: u32, object: u32 },
+    StaticAddress {
+        to: u32,
+        object: u32,
+    },
     /// The address of a string.
-    TextAddress { to: u32, string: u32 },
+    TextAddress {
+        to: u32,
+        string: u32,
+    },
     /// The address of a local that is a block.
-    LocalAddress { to: u32, local: u32 },
+    LocalAddress {
+        to: u32,
+        local: u32,
+    },
     /// What stands at the address in `from`.
-    Load { to: u32, from: u32, kind: Kind, access: Access },
+    Load {
+        to: u32,
+        from: u32,
+        kind: Kind,
+        access: Access,
+    },
     /// Writes the value in `from` at the address in `at`.
-    Store { at: u32, from: u32, kind: Kind },
+    Store {
+        at: u32,
+        from: u32,
+        kind: Kind,
+    },
     /// What a register local holds.
-    ReadRegister { to: u32, local: u32, kind: Kind, access: Access },
+    ReadRegister {
+        to: u32,
+        local: u32,
+        kind: Kind,
+        access: Access,
+    },
     /// Writes a register local.
-    WriteRegister { from: u32, local: u32, kind: Kind },
+    WriteRegister {
+        from: u32,
+        local: u32,
+        kind: Kind,
+    },
     /// Converts a value in its place.
-    Convert { at: u32, access: Access },
+    Convert {
+        at: u32,
+        access: Access,
+    },
     /// An operator on one value, in its place.
-    Unary { at: u32, op: UnaryWordOp },
+    Unary {
+        at: u32,
+        op: UnaryWordOp,
+    },
     /// An operator on two numbers.
-    Binary { to: u32, left: u32, right: u32, op: WordOp },
+    Binary {
+        to: u32,
+        left: u32,
+        right: u32,
+        op: WordOp,
+    },
     /// A comparison of two pointers.
-    Compare { to: u32, left: u32, right: u32, op: PointerOp },
+    Compare {
+        to: u32,
+        left: u32,
+        right: u32,
+        op: PointerOp,
+    },
     /// A pointer moved by so many items of `size` bytes as the number in `index` says, back or on.
-    Index { to: u32, pointer: u32, index: u32, size: u32, is_unsigned: bool, back: bool },
+    Index {
+        to: u32,
+        pointer: u32,
+        index: u32,
+        size: u32,
+        is_unsigned: bool,
+        back: bool,
+    },
     /// How many items of `size` bytes lie between two pointers into one object.
-    Distance { to: u32, left: u32, right: u32, size: u32 },
+    Distance {
+        to: u32,
+        left: u32,
+        right: u32,
+        size: u32,
+    },
     /// A pointer moved on by some bytes, in its place.
-    Offset { at: u32, bytes: u32 },
+    Offset {
+        at: u32,
+        bytes: u32,
+    },
     /// A temporary's value once more.
-    Take { to: u32, from: u32 },
-    Jump { place: u32 },
-    JumpIfZero { at: u32, place: u32 },
-    JumpIfNotZero { at: u32, place: u32 },
-    JumpIfEqual { at: u32, bits: u32, place: u32 },
+    Take {
+        to: u32,
+        from: u32,
+    },
+    Jump {
+        place: u32,
+    },
+    JumpIfZero {
+        at: u32,
+        place: u32,
+    },
+    JumpIfNotZero {
+        at: u32,
+        place: u32,
+    },
+    JumpIfEqual {
+        at: u32,
+        bits: u32,
+        place: u32,
+    },
     /// Calls a function with the values of so many temporaries from `at` on, and takes its result into `at`.
-    Call { at: u32, function: u32, arguments: u32 },
+    Call {
+        at: u32,
+        function: u32,
+        arguments: u32,
+    },
     /// Ends the activation with a value.
-    Return { at: u32 },
+    Return {
+        at: u32,
+    },
     /// The stopping point of this number is passed.
-    Stop { point: u32 },
+    Stop {
+        point: u32,
+    },
     /// Copies a struct from the address in `from` to that in `to`.
-    Move { to: u32, from: u32, shape: u32 },
+    Move {
+        to: u32,
+        from: u32,
+        shape: u32,
+    },
     /// Makes a local's object, with zeros.
-    Zero { local: u32 },
+    Zero {
+        local: u32,
+    },
     /// Blocks are left: of the locals in scope, the first so many remain.
-    Leave { scope: u32 },
-    GetChar { to: u32 },
-    PutChar { at: u32 },
-    Exit { at: u32 },
+    Leave {
+        scope: u32,
+    },
+    GetChar {
+        to: u32,
+    },
+    PutChar {
+        at: u32,
+    },
+    Exit {
+        at: u32,
+    },
 }
 
 /// Where a local is: in memory, or in a register by its number from 0 to 7.

@@ -3,4 +3,7 @@
 
 mod code;
 
-pub use code::{Access, Home, PointerOp, SlotCode, SlotFunction, SlotLocal, SlotObject, SlotOp, SlotStart, SlotStruct, SlotValue, UnaryWordOp, WordOp};
+pub use code::{
+    Access, Home, PointerOp, SlotCode, SlotFunction, SlotLocal, SlotObject, SlotOp, SlotStart,
+    SlotStruct, SlotValue, UnaryWordOp, WordOp,
+};
