@@ -44,8 +44,8 @@ members_lie defs f h from [] end laid = subst (λ n. from ≤ n) laid (le_refl f
 members_lie defs f h from (m ∷ ms) end laid =
     let fits : from ≤ m.at = subst (λ n. from ≤ n) (sym laid.0) (least_fits from (alignment_of defs m.ctype)) in
     joined from (leaves_at m.at (f m.ctype)) (m.at + size_of defs m.ctype) (leaves_of_members f ms) end
-        (wider from m.at (leaves_at m.at (f m.ctype)) _ _ fits (le_refl _) (from_zero m.at (size_of defs m.ctype) _ (f m.ctype) (le_refl _) (h m.ctype)))
-        (members_lie defs f h (m.at + size_of defs m.ctype) ms end laid.1)
+    (wider from m.at (leaves_at m.at (f m.ctype)) _ _ fits (le_refl _) (from_zero m.at (size_of defs m.ctype) _ (f m.ctype) (le_refl _) (h m.ctype)))
+    (members_lie defs f h (m.at + size_of defs m.ctype) ms end laid.1)
 
 struct_lies : (defs : List StructDef) → AllLaidOut defs → (f : CType → List Leaf) → ((t : CType) → LieIn 0 (f t) (size_of defs t)) → (s : ℕ) (o : Option StructDef) → slice_get defs s ≡ o
     → LieIn 0 (leaves_of_members f (members_in o)) (size_in o)
