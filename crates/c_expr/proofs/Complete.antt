@@ -1,14 +1,12 @@
 -- Where tokens are an expression, they are read, and so is what follows them.
-use Rattle.std.proofs.Common.{◌≡◌, ℕ, suc, ◌+◌, ◌≤◌, ◌<◌, max, Bool, true, false, cond, List, [], ◌∷◌, ◌++◌, Option, Some, None, nat_le, nat_lt, nat_eq, ◌&&◌, refl, sym, ◌∙◌, ap, ap₂, arith, lit≤, le_refl, le_trans, le-leb, append_assoc, append-nil, add-one}
+use Rattle.std.proofs.Common.{◌≡◌, ℕ, suc, ◌+◌, ◌≤◌, max, Bool, true, false, List, [], ◌∷◌, ◌++◌, Some, None, nat_le, nat_lt, ◌&&◌, refl, sym, ◌∙◌, ap, ap₂, arith, lit≤, le_refl, le_trans, le-leb, append_assoc, append-nil, add-one}
 use Rattle.std.specs.Prelude.{if◌then◌else◌}
 use Rattle.c_lex.specs.declared.token.Place.{Place}
 use Rattle.c_symbol.specs.declared.terminal.Terminal.{Terminal}
-use Rattle.c_symbol.specs.declared.symbol.TypeWord.{TypeWord}
 use Rattle.c_symbol.specs.declared.symbol.TypeWord.TheVariants as a_word
 use Rattle.c_expr.specs.declared.tree.Spec.{Spec}
 use Rattle.c_expr.specs.declared.tree.Spec.TheVariants.{Unsigned, UnsignedInt, Struct}
 use Rattle.c_symbol.specs.declared.symbol.LeafKind.TheVariants.{Name}
-use Rattle.c_symbol.specs.declared.symbol.BinaryOp.{BinaryOp}
 use Rattle.c_symbol.specs.declared.symbol.BinaryOp.TheVariants.{Multiply, Comma}
 use Rattle.c_symbol.specs.declared.symbol.PrefixOp.{PrefixOp}
 use Rattle.c_symbol.specs.declared.symbol.PrefixOp.TheVariants as prefix
@@ -24,11 +22,11 @@ use Rattle.c_expr.specs.declared.state.Part.TheVariants.{Front, Back}
 use Rattle.c_expr.specs.declared.state.Mode.{Mode}
 use Rattle.c_expr.specs.declared.state.Mode.TheVariants.{Want, Have, Naming, Typing, Tagging}
 use Rattle.c_expr.specs.declared.state.Parser.{Parser}
-use Rattle.c_expr.specs.Tree.{Tree, Leaf, Paren, Index, Call, With, Member, After, Prefix, SizeofType, Cast, Binary, Choice, Stars, Around, Bounded, Unbounded}
-use Rattle.c_expr.specs.Levels.{level_of, left_of, ends_of, right_of, operand_of}
-use Rattle.c_expr.specs.Grown.{cut, grow_list, leaf_of, paren_of, index_of, call_of, with_of, called_of, member_of, after_of, prefix_of, around_of, sizeof_type_of, cast_of, binary_of, choice_of}
+use Rattle.c_expr.specs.Tree.{Tree, Leaf, Paren, Index, Call, With, Member, After, Prefix, SizeofType, Binary, Choice, Stars, Around, Bounded, Unbounded}
+use Rattle.c_expr.specs.Levels.{level_of, left_of, ends_of}
+use Rattle.c_expr.specs.Grown.{cut, grow_list, leaf_of, paren_of, index_of, call_of, with_of, called_of, member_of, after_of, around_of, sizeof_type_of}
 use Rattle.c_expr.specs.Frames.{least_of, need, need_of, call_part, closer_of, reduce, sizeof_place, frame_level, plug}
-use Rattle.c_expr.specs.Machine.{Next, goes, before, prefix_symbol_of, wanting, part_of, is_empty, unnested, closed_type, argued, in_parens, joined, chosen, closed, having, shift, shift_mode, run, start, ended, whole, reading}
+use Rattle.c_expr.specs.Machine.{Next, goes, wanting, part_of, is_empty, unnested, closed_type, argued, in_parens, joined, chosen, closed, shift_mode, run, start, ended, whole, reading}
 use Rattle.c_expr.specs.Grammar.{prefix_symbol, stars_height, is_nothing, name_height, AreStars, no_star, star, spec_of, IsSpec, one_word, unsigned_int, tagged, IsAbstract, stars, around, bounded, unbounded, IsExpr, leaf, paren, index, member, after, prefixed, sizeof_type, cast, binary, choice, call, call_with, IsCall, first_argument, next_argument}
 use Rattle.c_expr.proofs.Pieces.{piece, if_true, if_false, gt-leb, grow_cut, grow_two_cut, grow_list_cut, grow_three_cut, stars_cut, around_cut, unbounded_cut, sized_cut, cast_cut}
 use Rattle.c_expr.specs.declared.frame.Closer.TheVariants.{Calls}

@@ -1,15 +1,12 @@
 -- An expression inside something else ends where it should.
-use Rattle.std.proofs.Common.{◌≡◌, ℕ, ◌≤◌, Bool, true, false, ◌&&◌, nat_le, List, [], ◌∷◌, ◌++◌, Option, Some, None, refl, sym, ◌∙◌, ap, ap₂, subst, arith, lit≤, le_refl, append_assoc, append-nil}
+use Rattle.std.proofs.Common.{◌≡◌, Bool, true, false, ◌&&◌, nat_le, List, [], ◌∷◌, ◌++◌, Option, Some, None, refl, sym, ◌∙◌, ap, ap₂, subst, arith, lit≤, le_refl, append_assoc, append-nil}
 use Rattle.std.specs.Prelude.{if◌then◌else◌, not}
 use Rattle.std.proofs.lemmas.Bool.{leb-false}
-use Rattle.c_lex.specs.declared.token.Place.{Place}
 use Rattle.c_symbol.specs.declared.terminal.Terminal.{Terminal}
 use Rattle.c_symbol.specs.declared.symbol.BinaryOp.{BinaryOp}
 use Rattle.c_symbol.specs.declared.symbol.BinaryOp.TheVariants.{Comma}
 use Rattle.c_symbol.specs.declared.symbol.Symbol.{Symbol}
 use Rattle.c_symbol.specs.declared.symbol.Symbol.TheVariants as symbol
-use Rattle.c_expr.specs.Tree.{Tree}
-use Rattle.c_expr.specs.Grammar.{IsExpr}
 use Rattle.c_expr.specs.declared.grown.Grown.{Grown}
 use Rattle.c_expr.specs.declared.frame.Least.{Least}
 use Rattle.c_expr.specs.declared.frame.Least.TheVariants.{Expression, Assignment, Constant}
@@ -20,15 +17,14 @@ use Rattle.c_expr.specs.declared.state.Parser.{Parser}
 use Rattle.c_expr.specs.declared.inside.Offered.{Offered}
 use Rattle.c_expr.specs.declared.inside.Offered.TheVariants.{Goes, Ends}
 use Rattle.c_expr.specs.Frames.{least_of, need, is_start, reduce}
-use Rattle.c_expr.specs.Levels.{ends_of}
-use Rattle.c_expr.specs.Grown.{cut}
-use Rattle.c_expr.specs.Machine.{Next, goes, joined, argument, closed, having, shift, run, start, ended, whole}
-use Rattle.c_expr.specs.Inside.{comma_closes, closes, ends, takes_comma, behind, wrapped, ends_with, offered_ended, offered, offer, until, Keeps, EndsThere, EndsBehind}
+use Rattle.c_expr.specs.Machine.{Next, joined, argument, closed, having, shift, run, start, ended, whole}
+use Rattle.c_expr.specs.Inside.{comma_closes, closes, ends, takes_comma, behind, wrapped, ends_with, offered_ended, offered, offer, until, EndsThere, EndsBehind}
 use Rattle.c_expr.specs.First.{first}
 use Rattle.c_expr.proofs.Pieces.{piece, gt-leb}
 use Rattle.c_expr.proofs.Numbers.{least_some}
 use Rattle.c_expr.proofs.Complete.{Reached, at_mode, reach, ends_whole}
-use Rattle.c_expr.proofs.Sound.{Stands, Holds, OnNext, OnWhole, shift_sound, whole_sound, starts}
+use Rattle.c_expr.proofs.Standing.{Stands, Holds, OnNext}
+use Rattle.c_expr.proofs.Sound.{OnWhole, shift_sound, whole_sound, starts}
 
 true_false : true ≡ false → ⊥
 true_false e = cc

@@ -1,5 +1,5 @@
 -- Reading is exact.
-use Rattle.std.proofs.Common.{◌≡◌, ℕ, ◌≤◌, ◌<◌, List, Option, Some, None, Err, map, refl, sym, ◌∙◌, ap, subst, inl, inr}
+use Rattle.std.proofs.Common.{◌≡◌, ℕ, ◌≤◌, ◌<◌, List, Option, Some, None, Err, map, sym, ◌∙◌, ap, subst, inl, inr}
 use Rattle.std.proofs.lemmas.Bool.{cases_lt}
 use Rattle.c_symbol.specs.declared.terminal.Terminal.{Terminal}
 use Rattle.c_symbol.specs.Terminals.{terminal_of, terminals}
@@ -18,7 +18,8 @@ use Rattle.c_expr.specs.declared.state.SynFault.{SynFault}
 use Rattle.c_expr.specs.declared.state.SynFault.TheVariants.{Syntax, Deep, NoMemory}
 use Rattle.c_expr.proofs.Pieces.{cut_some, cut_none, piece}
 use Rattle.c_expr.proofs.Complete.{complete}
-use Rattle.c_expr.proofs.Sound.{Stands, OnWhole, sound}
+use Rattle.c_expr.proofs.Standing.{Stands}
+use Rattle.c_expr.proofs.Sound.{OnWhole, sound}
 
 stands : (ts : List Terminal) (g : Grown) → reading Expression ts ≡ Some g → Stands 1 g ts
 stands ts g e = let P : Option Grown → Type 0 = λ o. OnWhole Expression o ts in subst P e (sound Expression ts)

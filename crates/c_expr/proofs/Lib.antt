@@ -2,6 +2,7 @@ pub mod Pushed
 pub mod Pieces
 pub mod Numbers
 pub mod Complete
+pub mod Standing
 pub mod Sound
 pub mod Fed
 pub mod Exact

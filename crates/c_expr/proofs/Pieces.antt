@@ -1,5 +1,5 @@
 -- Parts of an expression of a known height.
-use Rattle.std.proofs.Common.{◌≡◌, ℕ, suc, ◌+◌, ◌≤◌, ◌<◌, max, Bool, true, false, cond, Option, Some, None, nat_le, nat_lt, nat_eq, lit≤, refl, sym, ◌∙◌, ap, ap₂, inl, inr, arith, le-leb, add-one}
+use Rattle.std.proofs.Common.{◌≡◌, ℕ, suc, ◌+◌, ◌≤◌, ◌<◌, max, Bool, true, false, Some, None, nat_le, nat_lt, nat_eq, lit≤, sym, ◌∙◌, ap, ap₂, inl, inr, arith, le-leb, add-one}
 use Rattle.std.specs.Prelude.{if◌then◌else◌}
 use Rattle.std.proofs.Math.Nat.{max-le, le-max_left, le-max_right}
 use Rattle.std.proofs.lemmas.Bool.{cases_lt}

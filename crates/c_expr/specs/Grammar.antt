@@ -1,5 +1,5 @@
 -- Which tokens are an expression, one case for each alternative of the grammar (C90 6.3.1 to 6.3.17).
-use Rattle.std.specs.Prelude.{◌≡◌, ℕ, suc, ◌+◌, ◌≤◌, max, Bool, true, false, nat_eq, if◌then◌else◌, List, [], ◌∷◌, ◌++◌}
+use Rattle.std.specs.Prelude.{◌≡◌, ℕ, suc, ◌+◌, ◌≤◌, max, Bool, false, nat_eq, if◌then◌else◌, List, [], ◌∷◌, ◌++◌}
 use Rattle.c_lex.specs.declared.token.Place.{Place}
 use Rattle.c_symbol.specs.declared.terminal.Terminal.{Terminal}
 use Rattle.c_symbol.specs.declared.symbol.LeafKind.{LeafKind}

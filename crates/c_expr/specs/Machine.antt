@@ -1,9 +1,8 @@
 -- Reading an expression token by token, with what is begun on a stack.
-use Rattle.std.specs.Prelude.{◌≡◌, ℕ, drop, ◌+◌, ◌&&◌, Bool, true, false, nat_le, nat_lt, nat_eq, if◌then◌else◌, List, [], ◌∷◌, Option, Some, None, Result, Ok, Err}
+use Rattle.std.specs.Prelude.{◌≡◌, ℕ, drop, ◌+◌, ◌&&◌, Bool, false, nat_le, nat_lt, nat_eq, if◌then◌else◌, List, [], ◌∷◌, Option, Some, None, Result, Ok, Err}
 use Rattle.c_lex.specs.declared.token.Place.{Place}
 use Rattle.c_symbol.specs.declared.terminal.Terminal.{Terminal}
 use Rattle.c_symbol.specs.declared.symbol.Access.{Access}
-use Rattle.c_symbol.specs.declared.symbol.LeafKind.{LeafKind}
 use Rattle.c_symbol.specs.declared.symbol.LeafKind.TheVariants.{Name}
 use Rattle.c_symbol.specs.declared.symbol.BinaryOp.{BinaryOp}
 use Rattle.c_symbol.specs.declared.symbol.BinaryOp.TheVariants.{Comma, BitAnd, Multiply, Add, Subtract}
@@ -13,7 +12,7 @@ use Rattle.c_symbol.specs.declared.symbol.Symbol.{Symbol}
 use Rattle.c_symbol.specs.declared.symbol.Symbol.TheVariants.{Leaf, Word, Binary, Step, Access as Selects, Complement, Not, Sizeof, Struct as StructWord, Question, Colon, OpenParen, CloseParen, OpenBracket, CloseBracket}
 use Rattle.c_symbol.specs.declared.symbol.TypeWord.TheVariants as a_word
 use Rattle.c_expr.specs.declared.tree.Spec.{Spec}
-use Rattle.c_expr.specs.declared.tree.Spec.TheVariants.{Unsigned, UnsignedInt, Struct}
+use Rattle.c_expr.specs.declared.tree.Spec.TheVariants.{UnsignedInt, Struct}
 use Rattle.c_expr.specs.Grammar.{spec_of}
 use Rattle.c_expr.specs.declared.grown.Built.{Built}
 use Rattle.c_expr.specs.declared.grown.Grown.{Grown}

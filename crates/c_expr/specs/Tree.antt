@@ -1,5 +1,5 @@
 -- Trees of expressions and of the declarators in names of types, without where they lie in memory. Each alternative of an expression has the place of its first token.
-use Rattle.std.specs.Prelude.{ℕ, suc, ◌+◌, max, List, [], ◌∷◌, Option, Some, None}
+use Rattle.std.specs.Prelude.{ℕ, ◌+◌, List, [], ◌∷◌, Option, Some, None}
 use Rattle.c_lex.specs.declared.token.Place.{Place}
 use Rattle.c_symbol.specs.declared.symbol.LeafKind.{LeafKind}
 use Rattle.c_symbol.specs.declared.symbol.Step.{Step}

@@ -7,7 +7,7 @@ ghost use Rattle.c_show.specs.Seen.{seen, before_item};
 
 use crate::Held;
 use crate::letters::{put_array_text, put_number, put_pointer};
-use c_tree::{CType, Member, StructDef};
+use c_tree::{CType, Member, StructDef, members};
 use ldb_words::Text;
 use std::alloc::{AllocError, Global};
 
@@ -182,16 +182,6 @@ fn put_array<'a>(
     let leaves = put_items(alloc, page, item, n, defs, leaves, deep)?;
     page.text.append(b"}")?;
     Ok(leaves)
-}
-
-/// The members of a struct by its number.
-fn members(defs: &[StructDef], s: u32) -> &[Member]
-    ensures { result.now ≡ members_of defs.now s }
-{
-    match defs.get(s as usize) {
-        None => &[],
-        Some(def) => def.members.as_slice(),
-    }
 }
 
 /// Adds a struct, and gives the leaves behind it.

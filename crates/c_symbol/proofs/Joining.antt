@@ -1,8 +1,8 @@
 -- String literals are joined from either end.
 use Rattle.std.proofs.Common.{◌≡◌, Bool, true, false, ◌&&◌, List, [], ◌∷◌, ◌++◌, Option, Some, None, refl, sym, ◌∙◌, ap, ap₂, append_assoc}
-use Rattle.std.specs.Prelude.{if◌then◌else◌, ℕ}
+use Rattle.std.specs.Prelude.{if◌then◌else◌}
 use Rattle.c_symbol.specs.declared.terminal.Terminal.{Terminal}
-use Rattle.c_symbol.specs.Terminals.{is_text, merged, join, joined, waiting, pushed, JoinsAll}
+use Rattle.c_symbol.specs.Terminals.{is_text, merged, join, joined, waiting, JoinsAll}
 
 true_false : true ≡ false → ⊥
 true_false e = cc

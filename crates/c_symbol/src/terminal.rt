@@ -89,7 +89,7 @@ fn merged(before: Terminal, next: Terminal) -> Result<Terminal, AllocError>
 }
 
 impl Joiner {
-    /// Takes the next terminal, and gives the one before it once that is whole.
+    /// Takes the next terminal, and gives the one before it once that is whole. Where there is no memory to join two strings, both are gone.
     pub fn push(&mut self, next: Terminal) -> Result<Option<Terminal>, AllocError>
         ensures { IfOk result (λ whole. pushed self.old.last next ≡ (whole, self.new.last)) }
     {

@@ -4,6 +4,11 @@ ghost use Rattle.c_tree.specs.declared.types.Leaf.{Leaf};
 ghost use Rattle.c_tree.specs.declared.layout.LeafFault.TheVariants.{NoMemory};
 ghost use Rattle.c_tree.specs.Layout.{size_of as size, struct_size_of, members_of, leaves_within, leaves_of_members, repeated};
 ghost use Rattle.c_tree.specs.Listed.{IsSize, AreLeaves, kept_at};
+ghost use Rattle.std.specs.Prelude.{List};
+ghost use Rattle.c_tree.specs.declared.types.CType.{CType};
+ghost use Rattle.c_tree.specs.declared.types.StructDef.{StructDef};
+ghost use Rattle.c_tree.specs.Layout.{leaves_of};
+ghost use Rattle.c_tree.specs.Ordered.{AllLaidOut, LieIn};
 
 use crate::{CType, Leaf, Member, StructDef};
 use ldb_words::Kind;
@@ -119,8 +124,8 @@ fn add_leaves(
     }
 }
 
-/// The members of a struct by its number.
-fn members(defs: &[StructDef], s: u32) -> &[Member]
+/// The members of a struct by its number; none where there is no such struct.
+pub fn members(defs: &[StructDef], s: u32) -> &[Member]
     ensures { result.now ≡ members_of defs.now s }
 {
     match defs.get(s as usize) {
@@ -187,3 +192,8 @@ fn wrapped_size(t: &CType, defs: &[StructDef]) -> u32
         CType::Struct(s) => struct_size(defs, *s),
     }
 }
+
+/// Where each struct stands as the layout has it, the leaves of a type ascend: each begins where the one before it has ended or behind that, and the last ends inside the type's size.
+pub fn leaves_ascend()
+    ensures { (defs : List StructDef) (t : CType) → AllLaidOut defs → LieIn 0 (leaves_of defs t) (size defs t) }
+{}

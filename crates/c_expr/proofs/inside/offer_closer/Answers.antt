@@ -1,8 +1,6 @@
-use Rattle.std.proofs.Common.{◌≡◌, sym, ◌∙◌, ap, subst, Option, true}
+use Rattle.std.proofs.Common.{sym, ◌∙◌, ap, subst, Option}
 use Rattle.c_expr.specs.declared.inside.Offered.{Offered}
-use Rattle.c_expr.specs.Frames.{reduce}
-use Rattle.c_expr.specs.Machine.{ended, having}
-use Rattle.c_expr.specs.Inside.{offered_ended, offered, Offers}
+use Rattle.c_expr.specs.Inside.{offered_ended, Offers}
 use Rattle.c_expr.proofs.Embedded.{closer_is}
 use Rattle.c_expr.proofs.inside.offer_closer.Goals as goal
 
