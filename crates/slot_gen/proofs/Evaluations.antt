@@ -26,7 +26,7 @@ use Rattle.slot_ir.specs.Operators as slot_operators
 use Rattle.slot_ir.specs.Slots.{Temps, SlotState, with_temp}
 use Rattle.slot_ir.specs.Begin as beginning
 use Rattle.slot_ir.specs.Slots as slots
-use Rattle.slot_gen.specs.Expressions.{cast_code, combine_op, choice_code, and_code, or_code, enter_code, unary_op, load_code, expr_code, place_code, row_code, args_code, name_code, register_named, register_inside, register_in, register_of, if_register}
+use Rattle.slot_gen.specs.Expressions.{cast_code, combine_op, choice_code, and_code, or_code, enter_code, unary_op, load_code, expr_code, place_code, row_code, args_code, name_code, referent_code, referent_register, register_named, register_inside, register_in, register_of, if_register}
 use Rattle.slot_gen.proofs.Follow.{HasAt, has_front, has_back, Where, InTemp, InReg, Kept, Holds, Follows, split, after_one, evals_follow, loops_evals, temps_on, binary_follows, assign_follows, compound_follows, stepped_follows, lvalue_follows, stored_follows, chosen_first, chosen_second, pick_of, row_args}
 use Rattle.slot_gen.proofs.Weight.{weight, size, weight-evals}
 use Rattle.slot_gen.proofs.Match.{Setting, Ground, Answered, SameOutput, D, F, L, slot, now, code, again, none_step, pure_step, one_step, set_step, some_steps, one, silent_then, puts}
@@ -160,9 +160,7 @@ module _ (set : Setting) (g : Ground set) where
   name_answers t m k ws vs temps pc d (Some row) s = by row.refers s
     where
       by : (q : Referent)
-          → (HasAt (code set g) pc (elim q as (λ r. List SlotOp) [ Object o ↦ op.StaticAddress (length ws) o ∷ [] | Local x ↦ op.LocalAddress (length ws) x ∷ [] | Defined j ↦ [] | Declared ↦ [] ])
-          × F set g d.around (pc + length (elim q as (λ r. List SlotOp) [ Object o ↦ op.StaticAddress (length ws) o ∷ [] | Local x ↦ op.LocalAddress (length ws) x ∷ [] | Defined j ↦ [] | Declared ↦ [] ])) (InTemp ∷ ws) k)
-          ⊎ ((x : ℕ) × ((elim q as (λ r. Option ℕ) [ Object o ↦ None | Local x ↦ if_register x (register_of set.p f x) | Defined j ↦ None | Declared ↦ None ]) ≡ Some x) × F set g d.around pc (InReg x ∷ ws) k)
+          → (HasAt (code set g) pc (referent_code (length ws) q) × F set g d.around (pc + length (referent_code (length ws) q)) (InTemp ∷ ws) k) ⊎ ((x : ℕ) × (referent_register set.p f q ≡ Some x) × F set g d.around pc (InReg x ∷ ws) k)
           → Answered set (now set g vs (Locate (Name t m) ∷ k)) (source.on_some (place_of q g.h) (λ v. GoesOn 1 (now set g (v ∷ vs) k))) (slot set g temps pc)
       by (Object o) s =
           let a = only_temp s in

@@ -11,3 +11,5 @@ mod Step
 mod Whole
 mod Temps
 mod TempsOfStatements
+mod Lengths
+mod Emitted

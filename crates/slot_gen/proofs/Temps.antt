@@ -20,7 +20,7 @@ use Rattle.slot_ir.specs.declared.code.Access.{Access}
 use Rattle.slot_ir.specs.declared.code.Access.TheVariants as access
 use Rattle.slot_ir.specs.declared.code.SlotOp.{SlotOp}
 use Rattle.slot_ir.specs.declared.code.SlotOp.TheVariants as op
-use Rattle.slot_gen.specs.Expressions.{access_of, converting, cast_code, load_code, store_code, write_code, mixed_op, pointers_op, targets_op, combine_op, call_code, built_in_code, enter_code, choice_code, and_code, or_code, name_code, read_at, write_at, update_at, unless_register, register_in, expr_code, place_code, row_code}
+use Rattle.slot_gen.specs.Expressions.{access_of, converting, cast_code, load_code, store_code, write_code, mixed_op, pointers_op, targets_op, combine_op, call_code, built_in_code, enter_code, choice_code, and_code, or_code, name_code, referent_code, read_at, write_at, update_at, unless_register, register_in, expr_code, place_code, row_code}
 use Rattle.slot_gen.specs.Bounds.{temps_of, row_temps, IsBelow, AreBelow}
 
 pub below_append : (n : ℕ) (a b : List SlotOp) → AreBelow n a → AreBelow n b → AreBelow n (a ++ b)
@@ -199,7 +199,7 @@ module _ (p : Program) (f n : ℕ) where
   name_below d None lt = tt
   name_below d (Some s) lt = by s.refers
     where
-      by : (r : Referent) → AreBelow n (elim r as (λ r. List SlotOp) [ Object o ↦ op.StaticAddress d o ∷ [] | Local x ↦ op.LocalAddress d x ∷ [] | Defined j ↦ [] | Declared ↦ [] ])
+      by : (r : Referent) → AreBelow n (referent_code d r)
       by (Object o) = (lt, tt)
       by (Local x) = (lt, tt)
       by (Defined j) = tt

@@ -160,6 +160,12 @@ abbrev pub enter_code : ℕ → Option SymbolRow → (arguments : ℕ) → List 
 enter_code d None n = []
 enter_code d (Some s) n = call_code d s.refers s.name n
 
+abbrev pub referent_code : ℕ → Referent → List SlotOp
+referent_code d (Object o) = StaticAddress d o ∷ []
+referent_code d (LocalName x) = LocalAddress d x ∷ []
+referent_code d (Defined g) = []
+referent_code d Declared = []
+
 abbrev pub if_register : (local : ℕ) → Option ℕ → Option ℕ
 if_register x None = None
 if_register x (Some r) = Some x
@@ -177,9 +183,15 @@ module _ (p : Program) (f : ℕ) where
   abbrev pub register_of : (local : ℕ) → Option ℕ
   register_of x = register_at registers_of x
 
+  abbrev pub referent_register : Referent → Option ℕ
+  referent_register (Object o) = None
+  referent_register (LocalName x) = if_register x (register_of x)
+  referent_register (Defined g) = None
+  referent_register Declared = None
+
   abbrev pub register_named : Option SymbolRow → Option ℕ
   register_named None = None
-  register_named (Some s) = elim s.refers as (λ r. Option ℕ) [ Object o ↦ None | LocalName x ↦ if_register x (register_of x) | Defined g ↦ None | Declared ↦ None ]
+  register_named (Some s) = referent_register s.refers
 
   abbrev pub register_inside : Typed → Option ℕ
   register_inside (Name t n) = register_named (slice_get p.symbols n)
@@ -192,7 +204,7 @@ module _ (p : Program) (f : ℕ) where
 
   abbrev pub name_code : ℕ → Option SymbolRow → List SlotOp
   name_code d None = []
-  name_code d (Some s) = elim s.refers as (λ r. List SlotOp) [ Object o ↦ StaticAddress d o ∷ [] | LocalName x ↦ LocalAddress d x ∷ [] | Defined g ↦ [] | Declared ↦ [] ]
+  name_code d (Some s) = referent_code d s.refers
 
   -- a compound assignment: the place or the register, the operand in the next temporary
   abbrev pub update_code : ℕ → CType → BinaryOp → CType → Bool → List SlotOp

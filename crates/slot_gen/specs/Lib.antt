@@ -1,4 +1,5 @@
 pub mod Expressions
 pub mod Statements
 pub mod Bounds
+pub mod Tokens
 pub mod Correct

@@ -1,10 +1,10 @@
 // Operators at the end of a function's code.
 ghost use Rattle.std.specs.Prelude.{◌≡◌, ℕ, ◌+◌, [], ◌∷◌, ◌++◌, Bool, IfOk, OnOk, length};
-ghost use Rattle.slot_gen.specs.Expressions.{cast_code, load_code, store_code, write_code, read_at};
+ghost use Rattle.slot_gen.specs.Expressions.{cast_code, load_code, store_code, write_code, read_at, referent_code};
 ghost use Rattle.c_tree.specs.declared.rows.Program.{Program};
 
 use crate::translate::{access_of, is_array, kind_of};
-use c_tree::CType;
+use c_tree::{CType, Referent};
 use slot_ir::{Access, SlotOp};
 use std::alloc::AllocError;
 
@@ -156,4 +156,15 @@ fn put_into_register(
         },
     )?;
     put(code, SlotOp::Take { to: at, from })
+}
+
+/// The address of what a name refers to; nothing where that is no object.
+pub fn put_referent(code: &mut Vec<SlotOp>, to: u32, refers: Referent) -> Result<(), AllocError>
+    ensures { OnOk result (code.new.items ≡ code.old.items ++ referent_code to refers) }
+{
+    match refers {
+        Referent::Object(object) => put(code, SlotOp::StaticAddress { to, object }),
+        Referent::Local(local) => put(code, SlotOp::LocalAddress { to, local }),
+        Referent::Function(_) | Referent::Declared => Ok(()),
+    }
 }

@@ -1,10 +1,12 @@
 // What holds of slot code.
-ghost use Rattle.std.specs.Prelude.{◌≤◌, ◌+◌, ℕ};
+ghost use Rattle.std.specs.Prelude.{◌≤◌, ◌+◌, ◌*◌, ℕ, length};
 ghost use Rattle.c_tree.specs.declared.rows.Program.{Program};
 ghost use Rattle.c_tree.specs.declared.rows.Function.{Function};
 ghost use Rattle.c_tree.specs.declared.typed.Typed.{Typed};
 ghost use Rattle.c_source.specs.Size.{extent_of};
 ghost use Rattle.slot_ir.specs.declared.code.SlotCode.{SlotCode};
+ghost use Rattle.slot_ir.specs.WellFormed.{operators_of_a_token};
+ghost use Rattle.slot_gen.specs.Tokens.{tokens_of};
 ghost use Rattle.slot_gen.specs.Bounds.{temps_of, function_temps, AreBelow};
 ghost use Rattle.slot_gen.specs.Correct.{IsCodeOf, HasMain, Lowers};
 ghost use Rattle.slot_gen.specs.Expressions.{expr_code};
@@ -20,4 +22,9 @@ pub fn code_takes_few_temporaries()
     ensures expression { (p : Program) (f at d : ℕ) (e : Typed) → AreBelow (d + temps_of e) (expr_code p f at d e) }
     ensures function { (p : Program) (f : ℕ) (fn : Function) → AreBelow (function_temps fn) (function_code p f fn) }
     ensures few { (e : Typed) → temps_of e ≤ (extent_of e).nodes + 1 }
+{}
+
+/// The code of an expression has at most so many operators for each token that the expression is written with.
+pub fn code_of_an_expression_is_short()
+    ensures { (p : Program) (f at d : ℕ) (e : Typed) → length (expr_code p f at d e) ≤ operators_of_a_token * tokens_of e }
 {}

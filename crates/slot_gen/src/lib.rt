@@ -5,6 +5,7 @@ mod emit;
 mod laws;
 mod registers;
 mod translate;
-mod tree;
 
-pub use laws::{code_takes_few_temporaries, slot_code_keeps_the_run};
+pub use laws::{
+    code_of_an_expression_is_short, code_takes_few_temporaries, slot_code_keeps_the_run,
+};

@@ -1,5 +1,6 @@
 // The operators of slot code for those of the tree.
-ghost use Rattle.std.specs.Prelude.{◌≡◌, ◌≤◌, IfOk};
+ghost use Rattle.std.specs.Prelude.{◌≡◌, ◌≤◌, IfOk, option_map};
+ghost use Rattle.c_tree.specs.declared.rows.Program.{Program};
 ghost use Rattle.c_tree.specs.Types.{is_array, is_struct, is_unsigned, kind_of, target_of};
 ghost use Rattle.c_tree.specs.Layout.{size_of as size};
 ghost use Rattle.c_source.specs.Operators.{operating_type};
@@ -255,4 +256,47 @@ pub fn bytes_of(t: &CType, defs: &[StructDef]) -> Result<u32, AllocError>
     ensures { IfOk result (λ n. n ≡ size defs.now t.now) }
 {
     size_of(t, defs).map_err(|_| AllocError)
+}
+
+/// What a pointer points to, or an array holds.
+fn target(t: &CType) -> Option<&CType>
+    ensures { option_map (λ r. r.now) result ≡ target_of t.now }
+{
+    match t {
+        CType::Pointer(target) | CType::Array(target, _) => Some(&**target),
+        CType::Char | CType::Int | CType::Unsigned | CType::Void | CType::Struct(_) => None,
+    }
+}
+
+/// A binary operator on operands of two types.
+pub fn combine_op(
+    defs: &[StructDef],
+    at: Operands,
+    op: BinaryOp,
+    s: &CType,
+    t: &CType,
+) -> Result<SlotOp, AllocError>
+    ensures { (p : Program) → p.defs ≡ defs.now → IfOk result (λ o. o ≡ combine p at.to at.left at.right op s.now t.now) }
+{
+    match (target(s), target(t)) {
+        (None, None) => {
+            let op = word_op(op, is_on_unsigned(op, s, t));
+            Ok(SlotOp::Binary {
+                to: at.to,
+                left: at.left,
+                right: at.right,
+                op,
+            })
+        }
+        (Some(a), None) => Ok(mixed_op(at, bytes_of(a, defs)?, op, t)),
+        (None, Some(b)) => {
+            let turned = Operands {
+                to: at.to,
+                left: at.right,
+                right: at.left,
+            };
+            Ok(mixed_op(turned, bytes_of(b, defs)?, op, s))
+        }
+        (Some(a), Some(_)) => Ok(pointers_op(at, bytes_of(a, defs)?, op)),
+    }
 }
