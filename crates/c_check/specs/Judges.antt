@@ -36,11 +36,12 @@ known (Some ps) = ps
 -- the scope that the checker is given
 abbrev pub scope_of : Names → Scope
 scope_of v = record {
-    among = record { names = denoted_all v.rows.now v.parameters.now; defs = v.defs.now; strings = [] };
-    number = number_in v.names;
-    tag = λ t. or_else_number v.incomplete (number_in v.tags t);
-    literal = λ at. or_else_number 0 (get nat_cmp v.literals at);
-    asks = v.asks }
+  among = record { names = denoted_all v.rows.now v.parameters.now; defs = v.defs.now; strings = [] };
+  number = number_in v.names;
+  tag = λ t. or_else_number v.incomplete (number_in v.tags t);
+  literal = λ at. or_else_number 0 (get nat_cmp v.literals at);
+  asks = v.asks;
+}
 
 -- the typed expression that this one becomes, or the number of the rule that is broken, or nothing for want of memory
 abbrev pub Judges : Scope → Tree → Result Part Fault → Type 0

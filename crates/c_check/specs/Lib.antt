@@ -7,6 +7,3 @@ pub mod Parts
 pub mod Elaboration
 pub mod Judges
 pub mod Bounds
-pub mod Forms
-pub mod Session
-pub mod Checks

@@ -115,7 +115,12 @@ pub fn address_type(alloc: Global, x: &Part) -> Result<Option<CType>, AllocError
 }
 
 /// The type of a struct's member by its number.
-fn member_type(alloc: Global, defs: &[StructDef], t: &CType, m: u32) -> Result<Option<CType>, AllocError>
+fn member_type(
+    alloc: Global,
+    defs: &[StructDef],
+    t: &CType,
+    m: u32,
+) -> Result<Option<CType>, AllocError>
     ensures { Gives result (rule.member_type defs.now (plain t.now) m) }
 {
     match t {
@@ -128,7 +133,12 @@ fn member_type(alloc: Global, defs: &[StructDef], t: &CType, m: u32) -> Result<O
 }
 
 /// `.` takes a struct lvalue with that member (C90 6.3.2.3).
-pub fn dot_type(alloc: Global, defs: &[StructDef], x: &Part, m: u32) -> Result<Option<CType>, AllocError>
+pub fn dot_type(
+    alloc: Global,
+    defs: &[StructDef],
+    x: &Part,
+    m: u32,
+) -> Result<Option<CType>, AllocError>
     ensures { Gives result (rule.dot_type defs.now (operand_of x.now) m) }
 {
     if !x.facts.lvalue {
@@ -138,7 +148,12 @@ pub fn dot_type(alloc: Global, defs: &[StructDef], x: &Part, m: u32) -> Result<O
 }
 
 /// `->` takes a pointer to a complete struct with that member (C90 6.3.2.3).
-pub fn arrow_type(alloc: Global, defs: &[StructDef], x: &Part, m: u32) -> Result<Option<CType>, AllocError>
+pub fn arrow_type(
+    alloc: Global,
+    defs: &[StructDef],
+    x: &Part,
+    m: u32,
+) -> Result<Option<CType>, AllocError>
     ensures { Gives result (rule.arrow_type defs.now (value_of x.now) m) }
 {
     match target(type_of(x)) {
@@ -155,7 +170,12 @@ fn arithmetic_type(s: &CType, t: &CType) -> Option<CType>
 }
 
 /// `+` takes integers, or a pointer to a complete type and an integer (C90 6.3.6).
-fn sum_type(alloc: Global, defs: &[StructDef], s: &CType, t: &CType) -> Result<Option<CType>, AllocError>
+fn sum_type(
+    alloc: Global,
+    defs: &[StructDef],
+    s: &CType,
+    t: &CType,
+) -> Result<Option<CType>, AllocError>
     ensures { Gives result (rule.sum_type defs.now (value_type (plain s.now)) (value_type (plain t.now))) }
 {
     if is_movable(defs, s) && is_integer(t) {
@@ -168,7 +188,12 @@ fn sum_type(alloc: Global, defs: &[StructDef], s: &CType, t: &CType) -> Result<O
 }
 
 /// `-` takes integers, a pointer to a complete type and an integer, or two such pointers of one type (C90 6.3.6).
-fn difference_type(alloc: Global, defs: &[StructDef], s: &CType, t: &CType) -> Result<Option<CType>, AllocError>
+fn difference_type(
+    alloc: Global,
+    defs: &[StructDef],
+    s: &CType,
+    t: &CType,
+) -> Result<Option<CType>, AllocError>
     ensures { Gives result (rule.difference_type defs.now (value_type (plain s.now)) (value_type (plain t.now))) }
 {
     if is_movable(defs, s) && is_integer(t) {
@@ -181,7 +206,12 @@ fn difference_type(alloc: Global, defs: &[StructDef], s: &CType, t: &CType) -> R
 }
 
 /// `[]` takes a pointer to a complete type and an integer, in either order (C90 6.3.2.1).
-pub fn index_type(alloc: Global, defs: &[StructDef], x: &Part, y: &Part) -> Result<Option<CType>, AllocError>
+pub fn index_type(
+    alloc: Global,
+    defs: &[StructDef],
+    x: &Part,
+    y: &Part,
+) -> Result<Option<CType>, AllocError>
     ensures { Gives result (rule.index_type defs.now (value_of x.now) (value_of y.now)) }
 {
     let s = type_of(x);
@@ -206,7 +236,10 @@ fn shift_type(s: &CType, t: &CType) -> Option<CType>
 fn order_type(s: &CType, t: &CType) -> Option<CType>
     ensures { option_map plain result ≡ rule.order_type (value_type (plain s.now)) (value_type (plain t.now)) }
 {
-    only((is_integer(s) && is_integer(t)) || point_alike(s, t), CType::Int)
+    only(
+        (is_integer(s) && is_integer(t)) || point_alike(s, t),
+        CType::Int,
+    )
 }
 
 /// A pointer's type, and a null constant.
@@ -222,19 +255,30 @@ fn equality_type(x: &Part, y: &Part) -> Option<CType>
 {
     let s = type_of(x);
     let t = type_of(y);
-    let holds = (is_integer(s) && is_integer(t)) || point_alike(s, t) || is_nulled(s, y) || is_nulled(t, x);
+    let holds = (is_integer(s) && is_integer(t))
+        || point_alike(s, t)
+        || is_nulled(s, y)
+        || is_nulled(t, x);
     only(holds, CType::Int)
 }
 
 /// A binary operator on two operands.
-pub fn binary_type(alloc: Global, defs: &[StructDef], op: BinaryOp, x: &Part, y: &Part) -> Result<Option<CType>, AllocError>
+pub fn binary_type(
+    alloc: Global,
+    defs: &[StructDef],
+    op: BinaryOp,
+    x: &Part,
+    y: &Part,
+) -> Result<Option<CType>, AllocError>
     ensures { Gives result (rule.binary_type defs.now op (operand_of x.now) (operand_of y.now)) }
 {
     let s = type_of(x);
     let t = type_of(y);
     match op {
         BinaryOp::Equal | BinaryOp::Unequal => Ok(equality_type(x, y)),
-        BinaryOp::Less | BinaryOp::Greater | BinaryOp::LessEqual | BinaryOp::GreaterEqual => Ok(order_type(s, t)),
+        BinaryOp::Less | BinaryOp::Greater | BinaryOp::LessEqual | BinaryOp::GreaterEqual => Ok(
+            order_type(s, t),
+        ),
         BinaryOp::ShiftLeft | BinaryOp::ShiftRight => Ok(shift_type(s, t)),
         BinaryOp::Add => sum_type(alloc, defs, s, t),
         BinaryOp::Subtract => difference_type(alloc, defs, s, t),
@@ -302,7 +346,13 @@ fn moves(defs: &[StructDef], op: BinaryOp, s: &CType) -> bool
 }
 
 /// Compound assignment takes a scalar lvalue and an integer; a pointer only with `+=` and `-=` (C90 6.3.16.2).
-pub fn compound_type(alloc: Global, defs: &[StructDef], op: BinaryOp, x: &Part, t: &CType) -> Result<Option<CType>, AllocError>
+pub fn compound_type(
+    alloc: Global,
+    defs: &[StructDef],
+    op: BinaryOp,
+    x: &Part,
+    t: &CType,
+) -> Result<Option<CType>, AllocError>
     ensures { Gives result (rule.compound_type defs.now op (operand_of x.now) (value_type (plain t.now))) }
 {
     let s = type_of(x);
@@ -313,7 +363,12 @@ pub fn compound_type(alloc: Global, defs: &[StructDef], op: BinaryOp, x: &Part, 
 }
 
 /// `++` and `--` take a scalar lvalue (C90 6.3.2.4, 6.3.3.1).
-pub fn step_type(alloc: Global, defs: &[StructDef], op: StepOp, x: &Part) -> Result<Option<CType>, AllocError>
+pub fn step_type(
+    alloc: Global,
+    defs: &[StructDef],
+    op: StepOp,
+    x: &Part,
+) -> Result<Option<CType>, AllocError>
     ensures { Gives result (rule.step_type defs.now op (operand_of x.now)) }
 {
     let op = match op {

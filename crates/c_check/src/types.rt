@@ -102,11 +102,7 @@ pub fn is_scalar(t: &CType) -> bool
 {
     match t {
         CType::Void | CType::Struct(_) => false,
-        CType::Char
-        | CType::Int
-        | CType::Unsigned
-        | CType::Pointer(_)
-        | CType::Array(_, _) => true,
+        CType::Char | CType::Int | CType::Unsigned | CType::Pointer(_) | CType::Array(_, _) => true,
     }
 }
 
@@ -191,12 +187,20 @@ pub fn point_alike(s: &CType, t: &CType) -> bool
 pub fn promoted(t: &CType) -> CType
     ensures { plain result ≡ promoted (value_type (plain t.now)) }
 {
-    if is_unsigned(t) { CType::Unsigned } else { CType::Int }
+    if is_unsigned(t) {
+        CType::Unsigned
+    } else {
+        CType::Int
+    }
 }
 
 /// The usual arithmetic conversions (C90 6.2.1.5).
 pub fn common(s: &CType, t: &CType) -> CType
     ensures { plain result ≡ common (value_type (plain s.now)) (value_type (plain t.now)) }
 {
-    if is_unsigned(s) || is_unsigned(t) { CType::Unsigned } else { CType::Int }
+    if is_unsigned(s) || is_unsigned(t) {
+        CType::Unsigned
+    } else {
+        CType::Int
+    }
 }

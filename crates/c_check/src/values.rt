@@ -72,7 +72,11 @@ fn on_unsigned(op: BinaryOp, x: u32, y: u32) -> Result<u32, Undef>
 fn operated(op: BinaryOp, works_unsigned: bool, x: u32, y: u32) -> Constant
     ensures { result ≡ value.operated op works_unsigned x y }
 {
-    let found = if works_unsigned { on_unsigned(op, x, y) } else { on_ints(op, x, y) };
+    let found = if works_unsigned {
+        on_unsigned(op, x, y)
+    } else {
+        on_ints(op, x, y)
+    };
     match found {
         Ok(n) => Constant::Number(n),
         Err(_) => Constant::Undefined,
@@ -143,15 +147,10 @@ pub fn chosen(c: Constant, a: Constant, b: Constant) -> Constant
     ensures { result ≡ value.chosen c a b }
 {
     match (c, a, b) {
-        (Constant::Variable, _, _) | (_, Constant::Variable, _) | (_, _, Constant::Variable) => Constant::Variable,
+        (Constant::Variable, _, _) | (_, Constant::Variable, _) | (_, _, Constant::Variable) =>
+            Constant::Variable,
         (Constant::Undefined, _, _) => Constant::Undefined,
-        (Constant::Number(n), _, _) => {
-            if n == 0 {
-                b
-            } else {
-                a
-            }
-        }
+        (Constant::Number(n), _, _) => { if n == 0 { b } else { a } }
     }
 }
 
