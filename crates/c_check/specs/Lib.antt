@@ -1,0 +1,9 @@
+pub mod Scope
+pub mod Values
+pub mod Targets
+pub mod Numbers
+pub mod Judgement
+pub mod Parts
+pub mod Elaboration
+pub mod Judges
+pub mod Bounds
