@@ -1,25 +1,21 @@
 -- Calls and returns are answered by their code.
-use Rattle.std.proofs.Common.{◌≡◌, ℕ, zero, suc, ◌+◌, ◌-◌, ◌*◌, ◌<◌, ◌≤◌, List, [], ◌∷◌, ◌++◌, length, Option, Some, None, Bool, true, false, refl, sym, ap, ◌∙◌, subst, arith, length-append, inl, inr}
+use Rattle.std.proofs.Common.{◌≡◌, ℕ, zero, suc, ◌+◌, List, [], ◌∷◌, ◌++◌, length, Option, Some, None, Bool, true, false, refl, sym, ap, ◌∙◌, subst, arith, length-append, inr}
 use Rattle.std.proofs.lemmas.List.{length-reverse}
 use Rattle.std.proofs.lemmas.Bool.Decides.{nat_tests}
-use Rattle.std.specs.Prelude.{slice_get, Result, Ok, Err, ℤ, map, take, drop, reverse, bytes_eq, codes, ◌==◌, ◌%◌, if◌then◌else◌}
+use Rattle.std.specs.Prelude.{slice_get, take, drop, reverse, ◌==◌, ◌%◌, if◌then◌else◌}
 use Rattle.ldb_words.specs.Word.{signed}
 use Rattle.c_tree.specs.declared.types.CType.{CType}
 use Rattle.c_tree.specs.declared.types.CType.TheVariants.{Char, Int, Unsigned, Void, Pointer', Array', Struct}
-use Rattle.c_tree.specs.declared.types.Leaf.{Leaf}
 use Rattle.c_tree.specs.declared.rows.Program.{Program}
 use Rattle.c_tree.specs.declared.rows.Function.{Function}
-use Rattle.c_tree.specs.declared.rows.SymbolRow.{SymbolRow}
-use Rattle.c_tree.specs.declared.rows.Referent.{Referent}
-use Rattle.c_tree.specs.declared.rows.Referent.TheVariants.{Object, Local, Function as Defined, Declared}
 use Rattle.c_tree.specs.Layout.{size_of, leaves_of}
-use Rattle.runs.specs.Runs.{Next, Goes as GoesOn, Exits, Undefined, IllTyped, Why}
-use Rattle.c_store.specs.Store.{Value, Number, Null, At, Cell, World}
-use Rattle.c_store.specs.Frames.{Here, Place, with_world, made, left, new_place}
+use Rattle.runs.specs.Runs.{Goes as GoesOn, Exits, Undefined, IllTyped}
+use Rattle.c_store.specs.Store.{Value, Number, Null, At, Cell}
+use Rattle.c_store.specs.Frames.{Here, Place, with_world, made, new_place}
 use Rattle.c_source.specs.Blocks.{converted, cells_of, local_type, declared_in, statements_in}
 use Rattle.c_source.specs.Blocks as blocks
 use Rattle.c_source.specs.Operators.{bits_in}
-use Rattle.c_source.specs.Control.{Item, State, Activation, Enter, Stop, Open, Push, GiveBack, Leave, runs_of, inits_of, body_of, first_of, last_of, outermost_of}
+use Rattle.c_source.specs.Control.{Item, Activation, Enter, Push, GiveBack, runs_of, body_of, last_of, outermost_of}
 use Rattle.c_source.specs.Source as source
 use Rattle.c_source.specs.Begin as sources
 use Rattle.slot_ir.specs.Begin as beginning
@@ -30,13 +26,12 @@ use Rattle.slot_ir.specs.declared.code.SlotOp.TheVariants as op
 use Rattle.slot_ir.specs.Operators.{extended, number_in}
 use Rattle.slot_ir.specs.Slots.{Temps, with_temp, no_temps, SlotState, Frame, code_of, local_row, last_temps, joined}
 use Rattle.slot_ir.specs.Slots as slots
-use Rattle.slot_gen.specs.Expressions.{access_of, enter_code, call_code, built_in_code}
-use Rattle.slot_gen.specs.Statements.{Around, nowhere, function_code, zeros_code, inits_code, stmts_code, zero_code, end_place, body_place}
+use Rattle.slot_gen.specs.Statements.{nowhere, function_code, zeros_code, inits_code, stmts_code, zero_code, end_place, body_place}
 use Rattle.slot_gen.specs.Correct.{IsCodeOf, IsRow}
-use Rattle.slot_gen.proofs.Follow.{HasAt, has_front, has_back, has_all, Goes, Where, InTemp, InReg, Kept, Holds, Follows, Loops, temps_on, constant_op, IsConstant, runs_follow, loops_runs}
+use Rattle.slot_gen.proofs.Follow.{HasAt, has_front, has_back, has_all, Where, InTemp, Holds, Follows, Loops, temps_on, constant_op, IsConstant, runs_follow, loops_runs}
 use Rattle.slot_gen.proofs.Operators.{converted_same}
 use Rattle.slot_gen.proofs.Rounds.{inits_follow, loops_inits}
-use Rattle.slot_gen.proofs.Match.{Setting, Ground, Doing, Outer, Matches, Ends, Answered, D, F, L, slot, now, code, again, one_step, at_op, puts}
+use Rattle.slot_gen.proofs.Match.{Setting, Ground, Doing, Outer, Answered, D, F, slot, now, code, again, at_op, puts}
 
 -- ---- arguments
 

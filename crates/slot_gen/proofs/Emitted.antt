@@ -1,5 +1,5 @@
 -- Code that is emitted piece by piece.
-use Rattle.std.proofs.Common.{◌≡◌, ℕ, ◌+◌, List, [], ◌∷◌, ◌++◌, length, sym, ap, ◌∙◌, append_assoc, length-append}
+use Rattle.std.proofs.Common.{◌≡◌, ℕ, ◌+◌, List, ◌++◌, length, ap, ◌∙◌, append_assoc, length-append}
 use Rattle.slot_ir.specs.declared.code.SlotOp.{SlotOp}
 
 -- a piece, and one that depends on its place

@@ -1,6 +1,6 @@
 -- Expressions that are taken up are answered by their code.
-use Rattle.std.proofs.Common.{◌≡◌, ℕ, zero, suc, ◌+◌, ◌*◌, ◌<◌, ◌≤◌, List, [], ◌∷◌, ◌++◌, length, Option, Some, None, Bool, true, false, refl, sym, ap, ◌∙◌, subst, arith, length-append, ⊎_elim, inl, inr}
-use Rattle.std.specs.Prelude.{slice_get, Result, Ok, Err, option_map, ◌⊎◌, if◌then◌else◌}
+use Rattle.std.proofs.Common.{◌≡◌, ℕ, suc, ◌+◌, ◌*◌, ◌<◌, List, [], ◌∷◌, ◌++◌, length, Option, Some, None, Bool, true, false, refl, sym, ap, ◌∙◌, subst, arith, length-append, ⊎_elim, inl}
+use Rattle.std.specs.Prelude.{slice_get, option_map, ◌⊎◌, if◌then◌else◌}
 use Rattle.c_tree.specs.declared.types.CType.{CType}
 use Rattle.c_tree.specs.declared.types.CType.TheVariants.{Int}
 use Rattle.c_tree.specs.declared.typed.BinaryOp.TheVariants.{Add}
@@ -13,21 +13,20 @@ use Rattle.c_tree.specs.declared.rows.Referent.TheVariants.{Object, Local, Funct
 use Rattle.c_tree.specs.Rows.{exprs}
 use Rattle.c_tree.specs.Types.{type_of, is_struct}
 use Rattle.c_tree.specs.Layout.{size_of}
-use Rattle.runs.specs.Runs.{Next, Goes as GoesOn, Undefined, IllTyped}
-use Rattle.c_store.specs.Store.{Value, Number, At, is_stale}
+use Rattle.runs.specs.Runs.{Goes as GoesOn}
+use Rattle.c_store.specs.Store.{Value, Number, At}
 use Rattle.c_store.specs.Frames.{bound}
-use Rattle.c_source.specs.Control.{Item, State, Eval, Locate, Push, Load, Convert, Store, Copy, Update, Change, Combine, Offset, Use, Discard, Truth, AndThen, OrElse, Pick, Joined, Enter, evals_of}
+use Rattle.c_source.specs.Control.{Item, Eval, Locate, Push, Load, Convert, Store, Copy, Update, Change, Combine, Offset, Use, Discard, Truth, AndThen, OrElse, Pick, Joined, Enter, evals_of}
 use Rattle.c_source.specs.Source.{dot_offset, arrow_offset, stepping, place_in, place_of}
 use Rattle.c_source.specs.Source as source
 use Rattle.slot_ir.specs.declared.code.SlotOp.{SlotOp}
 use Rattle.slot_ir.specs.declared.code.SlotOp.TheVariants as op
 use Rattle.slot_ir.specs.declared.code.UnaryWordOp.TheVariants as unary
-use Rattle.slot_ir.specs.Operators as slot_operators
 use Rattle.slot_ir.specs.Slots.{Temps, SlotState, with_temp}
 use Rattle.slot_ir.specs.Begin as beginning
 use Rattle.slot_ir.specs.Slots as slots
-use Rattle.slot_gen.specs.Expressions.{cast_code, combine_op, choice_code, and_code, or_code, enter_code, unary_op, load_code, expr_code, place_code, row_code, args_code, name_code, referent_code, referent_register, register_named, register_inside, register_in, register_of, if_register}
-use Rattle.slot_gen.proofs.Follow.{HasAt, has_front, has_back, Where, InTemp, InReg, Kept, Holds, Follows, split, after_one, evals_follow, loops_evals, temps_on, binary_follows, assign_follows, compound_follows, stepped_follows, lvalue_follows, stored_follows, chosen_first, chosen_second, pick_of, row_args}
+use Rattle.slot_gen.specs.Expressions.{cast_code, combine_op, and_code, or_code, enter_code, unary_op, expr_code, place_code, args_code, name_code, referent_code, referent_register, register_named, register_in, register_of, if_register}
+use Rattle.slot_gen.proofs.Follow.{HasAt, has_front, has_back, Where, InTemp, InReg, split, evals_follow, loops_evals, temps_on, binary_follows, assign_follows, compound_follows, stepped_follows, lvalue_follows, stored_follows, chosen_first, chosen_second, pick_of, row_args}
 use Rattle.slot_gen.proofs.Weight.{weight, size, weight-evals}
 use Rattle.slot_gen.proofs.Match.{Setting, Ground, Answered, SameOutput, D, F, L, slot, now, code, again, none_step, pure_step, one_step, set_step, some_steps, one, silent_then, puts}
 use Rattle.slot_gen.proofs.Values.{tested, zero_jumps, other_jumps}

@@ -1,33 +1,29 @@
 -- Statements that are taken up are answered by their code.
-use Rattle.std.proofs.Common.{◌≡◌, ℕ, zero, suc, ◌+◌, ◌*◌, ◌<◌, ◌≤◌, List, [], ◌∷◌, ◌++◌, length, take, Option, Some, None, Bool, true, false, refl, sym, ap, ◌∙◌, subst, arith, length-append, length-take-le, append_assoc, append-nil, ⊎_elim, inl, inr}
-use Rattle.std.specs.Prelude.{slice_get, Result, Ok, Err, ◌==◌, if◌then◌else◌}
+use Rattle.std.proofs.Common.{◌≡◌, ℕ, ◌+◌, ◌<◌, ◌≤◌, List, [], ◌∷◌, ◌++◌, length, take, Option, Some, None, Bool, true, false, refl, sym, ap, ◌∙◌, subst, arith, length-take-le, append_assoc, append-nil, inl, inr}
+use Rattle.std.specs.Prelude.{slice_get, if◌then◌else◌}
 use Rattle.c_tree.specs.declared.typed.Pointed.{Pointed}
 use Rattle.c_tree.specs.declared.typed.DeclaredLocal.{DeclaredLocal}
-use Rattle.c_tree.specs.declared.typed.Typed.{Typed}
 use Rattle.c_tree.specs.declared.typed.Stmt.{Stmt, Row_of-Stmt, end_of-Stmt, more_of-Stmt, Held-Stmt-If-3, None', Some'}
 use Rattle.c_tree.specs.declared.typed.Stmt.TheVariants.{Value as Expression, Block', If', While', Do', For', Switch', Case', Default', Break, Continue, Return}
 use Rattle.c_tree.specs.declared.rows.Program.{Program}
 use Rattle.c_tree.specs.Rows.{stmts}
-use Rattle.c_tree.specs.Layout.{leaves_of}
-use Rattle.runs.specs.Runs.{Next, Goes as GoesOn, Undefined, IllTyped, Why}
-use Rattle.c_store.specs.Store.{Value, Number, Null, At, is_stale}
-use Rattle.c_store.specs.Frames.{Here, Place, made, left}
-use Rattle.c_source.specs.Blocks.{local_type, result_type, statements_in, opened, opened_one, leaf_count}
-use Rattle.c_source.specs.Operators.{bits_in}
+use Rattle.runs.specs.Runs.{Goes as GoesOn}
+use Rattle.c_store.specs.Store.{Value}
+use Rattle.c_store.specs.Frames.{left}
+use Rattle.c_source.specs.Blocks.{result_type, statements_in}
 use Rattle.c_source.specs.Source.{else_of, no_value}
 use Rattle.c_source.specs.Source as source
-use Rattle.c_source.specs.Control.{Item, State, Activation, Eval, Push, Convert, Discard, Run, Stop, Choose, Joined, Open, Close, Turn, Again, Select, Seek, Switched, GiveBack, Label, Round, runs_of, init_of, inits_of, part_of, test_of, loop_begins, loop_goes_on, loop_turns, broken, continued, labels_in, default_in}
+use Rattle.c_source.specs.Control.{Item, Eval, Push, Convert, Discard, Run, Stop, Choose, Open, Close, Again, Select, GiveBack, Round, runs_of, init_of, inits_of, test_of, broken, continued}
 use Rattle.slot_ir.specs.declared.code.SlotOp.{SlotOp}
 use Rattle.slot_ir.specs.declared.code.SlotOp.TheVariants as op
-use Rattle.slot_ir.specs.Operators as slot_operators
 use Rattle.slot_ir.specs.Slots.{Temps, SlotState, with_temp}
 use Rattle.slot_ir.specs.Slots as slots
 use Rattle.slot_gen.specs.Expressions.{expr_code, cast_code, choice_code}
-use Rattle.slot_gen.specs.Statements.{Around, stmt_code, stmts_code, block_code, else_code, zeros_code, part_code, inits_code, loop_test, loop_code, in_loop, in_switch, switch_code, body_code, body_targets, body_defaults, row_targets, row_defaults, targets_of, defaults_of, targets_at, constants_of, is_default, seek_code, first_target, end_place}
-use Rattle.slot_gen.proofs.Follow.{HasAt, has_front, has_back, Goes, Where, InTemp, InReg, Kept, Holds, Follows, Loops, IsInside, RunsAt, Seeks, IsLoop, step_in, test_in, body_in, tests_first, body_at, loop_of, choice_of, switch_of, split, after_one, follows_at, runs_follow, loops_runs}
+use Rattle.slot_gen.specs.Statements.{Around, stmt_code, stmts_code, block_code, else_code, zeros_code, part_code, inits_code, loop_test, in_switch, switch_code, body_code, body_targets, body_defaults, row_targets, row_defaults, targets_of, defaults_of, targets_at, constants_of, is_default, end_place}
+use Rattle.slot_gen.proofs.Follow.{HasAt, has_front, has_back, Where, Follows, Loops, IsLoop, step_in, test_in, body_in, tests_first, body_at, loop_of, choice_of, switch_of, split, after_one, runs_follow, loops_runs}
 use Rattle.slot_gen.proofs.Weight.{weight, part_weight, inits_weight, stmt_weight, weight-runs}
-use Rattle.slot_gen.proofs.Rounds.{length-zeros, length-seeks, part_goes, part_follows, inits_follow, loops_inits, loops_part, Stands, Parts, parts, body_stands, tests, goes_on, Left, leaving, Turned, turning, labels_follow, default_follows}
-use Rattle.slot_gen.proofs.Match.{Setting, Ground, Doing, Matches, Answered, D, F, L, slot, now, code, again, at_op, none_step, pure_step, one_step}
+use Rattle.slot_gen.proofs.Rounds.{part_goes, part_follows, inits_follow, loops_inits, Stands, parts, body_stands, tests, Left, leaving, Turned, turning}
+use Rattle.slot_gen.proofs.Match.{Setting, Ground, Doing, Answered, D, F, slot, now, code, at_op, pure_step, one_step}
 
 -- ---- rows as lists
 

@@ -1,6 +1,6 @@
 -- The code at a place is the code of what remains to be done.
-use Rattle.std.proofs.Common.{◌≡◌, ℕ, zero, suc, ◌+◌, ◌<◌, ◌≤◌, List, [], ◌∷◌, ◌++◌, length, Bool, true, false, Option, Some, None, refl, sym, ap, ◌∙◌, subst, arith, append_assoc, length-append, append-nil, inl, inr}
-use Rattle.std.specs.Prelude.{slice_get, slice_index, ◌⊎◌, option_map, if◌then◌else◌}
+use Rattle.std.proofs.Common.{◌≡◌, ℕ, zero, suc, ◌+◌, ◌<◌, ◌≤◌, List, [], ◌∷◌, ◌++◌, length, Bool, true, false, Option, Some, None, refl, sym, ap, ◌∙◌, subst, arith, append_assoc, length-append, inl, inr}
+use Rattle.std.specs.Prelude.{slice_get, ◌⊎◌, option_map, if◌then◌else◌}
 use Rattle.std.proofs.Math.Seq.{get_or-append_seam}
 use Rattle.std.proofs.lemmas.Option.{slice_get-get_or}
 use Rattle.c_tree.specs.declared.types.CType.{CType}
@@ -8,23 +8,22 @@ use Rattle.c_tree.specs.declared.types.CType.TheVariants.{Char, Int, Unsigned, V
 use Rattle.c_tree.specs.declared.typed.BinaryOp.{BinaryOp}
 use Rattle.c_tree.specs.declared.typed.Typed.{Typed, Row_of-Typed, end_of-Typed, more_of-Typed}
 use Rattle.c_tree.specs.declared.typed.Pointed.{Pointed}
-use Rattle.c_tree.specs.declared.typed.DeclaredLocal.{DeclaredLocal}
-use Rattle.c_tree.specs.declared.typed.Stmt.{Stmt, Row_of-Stmt, end_of-Stmt, more_of-Stmt, Held-Stmt-If-3, None', Some'}
+use Rattle.c_tree.specs.declared.typed.Stmt.{Stmt}
 use Rattle.c_tree.specs.declared.typed.Stmt.TheVariants.{While', Do', For'}
 use Rattle.c_tree.specs.declared.rows.Program.{Program}
-use Rattle.c_tree.specs.Rows.{exprs, stmts}
+use Rattle.c_tree.specs.Rows.{exprs}
 use Rattle.c_tree.specs.Types.{type_of, kind_of, is_array, is_struct}
-use Rattle.c_store.specs.Store.{Value, Number, Null as NullValue, At}
+use Rattle.c_store.specs.Store.{Value, Number, At}
 use Rattle.c_store.specs.Frames.{Place, bound}
-use Rattle.c_source.specs.Blocks.{local_type, statements_in}
-use Rattle.c_source.specs.Source.{else_of, struct_number}
-use Rattle.c_source.specs.Control.{Item, Eval, Locate, Push, Bound, Load, Convert, Store, Copy, Update, Change, Combine, Offset, Use, Discard, Truth, AndThen, OrElse, Pick, Joined, Enter, Run, Stop, Choose, Open, Close, Turn, Again, Select, Seek, Switched, GiveBack, Leave, Label, runs_of, evals_of, inits_of, part_of, Round, broken, continued}
+use Rattle.c_source.specs.Blocks.{statements_in}
+use Rattle.c_source.specs.Source.{struct_number}
+use Rattle.c_source.specs.Control.{Item, Eval, Locate, Push, Bound, Load, Convert, Store, Copy, Update, Change, Combine, Offset, Use, Discard, Truth, AndThen, OrElse, Pick, Joined, Enter, Run, Stop, Choose, Open, Close, Turn, Again, Select, Seek, Switched, GiveBack, Leave, Label, runs_of, evals_of}
 use Rattle.slot_ir.specs.declared.code.SlotOp.{SlotOp}
 use Rattle.slot_ir.specs.declared.code.SlotOp.TheVariants as op
 use Rattle.slot_ir.specs.declared.code.UnaryWordOp.TheVariants as unary
 use Rattle.slot_ir.specs.Slots.{Temps}
-use Rattle.slot_gen.specs.Expressions.{access_of, is_scalar, cast_code, load_code, store_code, write_code, combine_op, unary_op, choice_code, and_code, or_code, enter_code, update_code, change_code, read_at, write_at, update_at, unless_register, register_inside, register_in, register_of, if_register, expr_code, place_code, row_code, args_code}
-use Rattle.slot_gen.specs.Statements.{Around, Target, stmt_code, stmts_code, block_code, else_code, zeros_code, part_code, init_code, inits_code, test_code, loop_test, loop_body, loop_code, in_loop, in_switch, switch_code, body_code, body_targets, body_defaults, row_targets, row_defaults, targets_of, defaults_of, end_place}
+use Rattle.slot_gen.specs.Expressions.{access_of, cast_code, load_code, store_code, write_code, combine_op, unary_op, choice_code, and_code, or_code, enter_code, update_code, change_code, read_at, write_at, update_at, unless_register, register_inside, register_in, expr_code, place_code, row_code, args_code}
+use Rattle.slot_gen.specs.Statements.{Around, stmt_code, stmts_code, zeros_code, loop_body, loop_code, in_loop, in_switch, switch_code, targets_of, defaults_of, end_place}
 
 -- these operators stand in the code at this place
 abbrev pub HasAt : List SlotOp → ℕ → List SlotOp → Type 0

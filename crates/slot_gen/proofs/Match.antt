@@ -1,14 +1,14 @@
 -- The states of slot code that stand for those of a program, and what one step comes to.
-use Rattle.std.proofs.Common.{◌≡◌, ℕ, zero, suc, ◌+◌, ◌*◌, ◌<◌, ◌≤◌, List, [], ◌∷◌, ◌++◌, length, Option, Some, None, Bool, true, false, refl, sym, ap, ◌∙◌, subst, arith}
-use Rattle.std.specs.Prelude.{slice_get, Result, Ok, Err, option_map, ◌==◌, if◌then◌else◌}
+use Rattle.std.proofs.Common.{◌≡◌, ℕ, zero, suc, ◌+◌, ◌*◌, ◌<◌, ◌≤◌, List, [], ◌∷◌, length, Some, refl, sym, ap, ◌∙◌, subst, arith}
+use Rattle.std.specs.Prelude.{slice_get, Result, Ok, Err}
 use Rattle.std.proofs.lemmas.Bool.{ne_eqb}
 use Rattle.std.proofs.Math.Dec.{eqb_refl}
 use Rattle.c_tree.specs.declared.rows.Program.{Program}
 use Rattle.c_tree.specs.declared.rows.Function.{Function}
-use Rattle.runs.specs.Runs.{Next, Goes as GoesOn, Passes, Exits, Undefined, Stuck, Why}
+use Rattle.runs.specs.Runs.{Next, Goes as GoesOn, Why}
 use Rattle.runs.proofs.Simulate.{Silent, Answers}
-use Rattle.c_store.specs.Store.{Value, Number, At, World}
-use Rattle.c_store.specs.Frames.{Here, Place, bound}
+use Rattle.c_store.specs.Store.{Value}
+use Rattle.c_store.specs.Frames.{Here, Place}
 use Rattle.c_store.specs.Assigned.{History}
 use Rattle.c_source.specs.Control.{Item, State, Activation, outermost_of, last_of}
 use Rattle.c_source.specs.Source as source
@@ -23,9 +23,9 @@ use Rattle.slot_ir.specs.Slots.{Temps, with_temp, SlotState, Frame, code_of}
 use Rattle.slot_ir.specs.Slots as slots
 use Rattle.slot_ir.specs.Begin as beginning
 use Rattle.slot_gen.specs.Expressions.{converting}
-use Rattle.slot_gen.specs.Statements.{Around, function_code, end_place}
+use Rattle.slot_gen.specs.Statements.{Around, end_place}
 use Rattle.slot_gen.specs.Correct.{IsCodeOf}
-use Rattle.slot_gen.proofs.Follow.{HasAt, Goes, Where, InTemp, InReg, Kept, Holds, Follows, Loops}
+use Rattle.slot_gen.proofs.Follow.{HasAt, Where, InTemp, InReg, Kept, Holds, Follows, Loops}
 use Rattle.slot_gen.proofs.Weight.{weight}
 
 -- ---- temporaries

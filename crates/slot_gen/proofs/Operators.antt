@@ -1,6 +1,6 @@
 -- The operators of slot code give what the program's give.
-use Rattle.std.proofs.Common.{◌≡◌, ℕ, zero, suc, ◌+◌, List, [], ◌∷◌, Option, Some, None, Bool, true, false, refl, sym, ap, ◌∙◌, subst}
-use Rattle.std.specs.Prelude.{Result, Ok, Err, map, length, nat_lt, nat_le, int_div, pos, ◌-ℤ◌, if◌then◌else◌}
+use Rattle.std.proofs.Common.{◌≡◌, ℕ, Option, Some, None, Bool, true, false, refl, sym, ap, ◌∙◌}
+use Rattle.std.specs.Prelude.{Result, Ok, Err, nat_lt, nat_le, int_div, pos, ◌-ℤ◌, if◌then◌else◌}
 use Rattle.c_tree.specs.declared.types.CType.{CType}
 use Rattle.c_tree.specs.declared.types.CType.TheVariants.{Char, Int, Unsigned, Void, Pointer', Array', Struct}
 use Rattle.c_tree.specs.declared.typed.BinaryOp.{BinaryOp}
@@ -10,12 +10,11 @@ use Rattle.c_tree.specs.declared.typed.UnaryOp.TheVariants as sign
 use Rattle.c_tree.specs.declared.rows.Program.{Program}
 use Rattle.c_tree.specs.Types.{target_of, is_unsigned}
 use Rattle.c_tree.specs.Layout.{size_of}
-use Rattle.runs.specs.Runs.{Next, Why, IllTyped}
-use Rattle.c_store.specs.Store.{Value, Number, Null, At, World, used, moved, ◌>>=◌}
+use Rattle.runs.specs.Runs.{Why, IllTyped}
+use Rattle.c_store.specs.Store.{Value, Number, Null, At, World, used, ◌>>=◌}
 use Rattle.c_source.specs.Blocks.{converted}
-use Rattle.c_source.specs.Operators.{combined, changed, on_ints, on_unsigned, operating_type, by_targets, on_integers, pointer_integer, two_pointers, number_of, bits_in, in_one, at_offsets}
+use Rattle.c_source.specs.Operators.{combined, changed, on_ints, on_unsigned, operating_type, by_targets, on_integers, pointer_integer, two_pointers, bits_in, in_one, at_offsets}
 use Rattle.slot_ir.specs.declared.code.SlotCode.{SlotCode}
-use Rattle.slot_ir.specs.declared.code.Access.{Access}
 use Rattle.slot_ir.specs.declared.code.SlotOp.{SlotOp}
 use Rattle.slot_ir.specs.declared.code.SlotOp.TheVariants.{Compare, Unary}
 use Rattle.slot_ir.specs.declared.code.PointerOp.{PointerOp}

@@ -1,20 +1,18 @@
 -- The code of blocks, loops and `switch`es follows what remains to be done of them.
-use Rattle.std.proofs.Common.{◌≡◌, ℕ, zero, suc, ◌+◌, ◌*◌, ◌<◌, ◌≤◌, List, [], ◌∷◌, ◌++◌, length, Option, Some, None, Bool, true, false, refl, sym, ap, ◌∙◌, subst, arith, length-append, append_assoc, append-nil, inl, inr}
+use Rattle.std.proofs.Common.{◌≡◌, ℕ, suc, ◌+◌, List, [], ◌∷◌, ◌++◌, length, Option, Some, None, Bool, true, false, refl, sym, ap, ◌∙◌, subst, arith, length-append, append_assoc, inl, inr}
 use Rattle.std.specs.Prelude.{slice_get, if◌then◌else◌}
 use Rattle.c_tree.specs.declared.typed.Pointed.{Pointed}
 use Rattle.c_tree.specs.declared.typed.DeclaredLocal.{DeclaredLocal}
-use Rattle.c_tree.specs.declared.typed.Stmt.{Stmt, Row_of-Stmt, end_of-Stmt, more_of-Stmt, Held-Stmt-If-3, None', Some'}
-use Rattle.c_tree.specs.declared.typed.Stmt.TheVariants.{Value as Expression, Block', If', While', Do', For', Switch', Case', Default', Break, Continue, Return}
+use Rattle.c_tree.specs.declared.typed.Stmt.{Stmt}
+use Rattle.c_tree.specs.declared.typed.Stmt.TheVariants.{Case', Default'}
 use Rattle.c_tree.specs.declared.rows.Program.{Program}
-use Rattle.c_tree.specs.Rows.{stmts}
-use Rattle.c_source.specs.Blocks.{local_type, statements_in}
-use Rattle.c_source.specs.Source.{else_of}
-use Rattle.c_source.specs.Control.{Item, Eval, Bound, Store, Discard, Run, Stop, Turn, Again, Switched, Label, Round, runs_of, init_of, inits_of, part_of, test_of, labels_in, labels_of, default_in, broken, continued}
+use Rattle.c_source.specs.Blocks.{local_type}
+use Rattle.c_source.specs.Control.{Item, Eval, Bound, Store, Discard, Run, Stop, Again, Switched, Label, Round, init_of, inits_of, part_of, test_of, labels_in, labels_of, default_in, broken, continued}
 use Rattle.slot_ir.specs.declared.code.SlotOp.{SlotOp}
 use Rattle.slot_ir.specs.declared.code.SlotOp.TheVariants as op
 use Rattle.slot_gen.specs.Expressions.{expr_code, write_at, unless_register, register_of, if_register}
-use Rattle.slot_gen.specs.Statements.{Around, Target, stmt_code, stmts_code, block_code, else_code, zeros_code, part_code, init_code, inits_code, test_code, loop_test, loop_body, loop_code, in_loop, in_switch, switch_code, body_code, body_targets, body_defaults, row_targets, row_defaults, targets_of, defaults_of, targets_at, constants_of, is_default, seek_code, first_target}
-use Rattle.slot_gen.proofs.Follow.{HasAt, has_front, has_back, Goes, Where, InTemp, InReg, Kept, Follows, Loops, IsInside, RunsAt, Seeks, IsLoop, step_in, test_in, body_in, tests_first, body_at, loop_of, split, after_one, follows_at, where_of, write_follows, runs_follow}
+use Rattle.slot_gen.specs.Statements.{Around, Target, stmt_code, stmts_code, zeros_code, part_code, init_code, inits_code, test_code, loop_test, in_loop, targets_of, defaults_of, targets_at, constants_of, is_default, seek_code, first_target}
+use Rattle.slot_gen.proofs.Follow.{HasAt, has_front, has_back, Goes, InReg, Follows, Loops, RunsAt, Seeks, IsLoop, step_in, test_in, body_in, tests_first, body_at, loop_of, split, after_one, follows_at, where_of, write_follows}
 
 pub length-zeros : (ds : List DeclaredLocal) → length (zeros_code ds) ≡ length ds
 length-zeros [] = refl

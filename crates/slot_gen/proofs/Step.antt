@@ -1,42 +1,35 @@
 -- Each step of the program is answered by its code.
-use Rattle.std.proofs.Common.{◌≡◌, ℕ, zero, suc, ◌+◌, ◌*◌, ◌<◌, ◌≤◌, List, [], ◌∷◌, ◌++◌, length, take, drop, Option, Some, None, Bool, true, false, refl, sym, ap, ◌∙◌, subst, arith, length-append, length-take-le, append_assoc, ⊎_elim, inl, inr}
-use Rattle.std.specs.Prelude.{slice_get, Result, Ok, Err, ℤ, bytes_eq, codes, ◌==◌, if◌then◌else◌}
-use Rattle.ldb_words.specs.Word.{signed}
+use Rattle.std.proofs.Common.{◌≡◌, ℕ, zero, suc, ◌+◌, List, [], ◌∷◌, ◌++◌, length, take, drop, Option, Some, None, Bool, true, false, refl, sym, ap, ◌∙◌, subst, arith, length-append, length-take-le, append_assoc, ⊎_elim}
+use Rattle.std.specs.Prelude.{slice_get, bytes_eq, codes, ◌==◌, if◌then◌else◌}
 use Rattle.c_tree.specs.declared.types.CType.{CType}
 use Rattle.c_tree.specs.declared.types.CType.TheVariants.{Struct}
-use Rattle.c_tree.specs.declared.typed.Typed.{Typed}
 use Rattle.c_tree.specs.declared.typed.DeclaredLocal.{DeclaredLocal}
 use Rattle.c_tree.specs.declared.typed.Stmt.{Stmt}
 use Rattle.c_tree.specs.declared.typed.Stmt.TheVariants.{While', Do', For'}
-use Rattle.c_tree.specs.declared.rows.Program.{Program}
 use Rattle.c_tree.specs.declared.rows.SymbolRow.{SymbolRow}
 use Rattle.c_tree.specs.declared.rows.Referent.{Referent}
 use Rattle.c_tree.specs.declared.rows.Referent.TheVariants.{Object, Local, Function as Defined, Declared}
 use Rattle.c_tree.specs.Types.{is_array}
 use Rattle.c_tree.specs.Layout.{leaves_of}
-use Rattle.runs.specs.Runs.{Next, Goes as GoesOn, Passes, Exits, Undefined, IllTyped, Why}
+use Rattle.runs.specs.Runs.{Goes as GoesOn, Passes}
 use Rattle.c_store.specs.Store.{Value, Number, Null, At, is_stale, load_struct}
-use Rattle.c_store.specs.Frames.{Here, Place, with_point, made, left, bound}
+use Rattle.c_store.specs.Frames.{Here, with_point, made, left, bound}
 use Rattle.c_source.specs.Blocks.{local_type, statements_in, opened, opened_one, leaf_count, cells_of}
 use Rattle.c_source.specs.Operators.{bits_in}
 use Rattle.c_source.specs.Control.{Item, State, Activation, Eval, Locate, Push, Bound, Load, Convert, Store, Copy, Update, Change, Combine, Offset, Use, Discard, Truth, AndThen, OrElse, Pick, Joined, Enter, Run, Stop, Choose, Open, Close, Turn, Again, Select, Seek, Switched, GiveBack, Leave, Label, runs_of, part_of, test_of, loop_goes_on, loop_turns, labels_in, default_in, outermost_of, last_of}
 use Rattle.c_source.specs.Source as source
-use Rattle.c_source.specs.Begin as sources
-use Rattle.slot_ir.specs.declared.code.SlotOp.{SlotOp}
 use Rattle.slot_ir.specs.declared.code.SlotOp.TheVariants as op
 use Rattle.slot_ir.specs.Operators as slot_operators
 use Rattle.slot_ir.specs.Slots.{Temps, SlotState, Frame, with_temp}
 use Rattle.slot_ir.specs.Slots as slots
-use Rattle.slot_ir.specs.Begin as beginning
-use Rattle.slot_gen.specs.Expressions.{load_code, enter_code, call_code, built_in_code, access_of}
-use Rattle.slot_gen.specs.Statements.{Around, stmt_code, stmts_code, zeros_code, in_loop, in_switch, switch_code, targets_of, defaults_of, seek_code, first_target, end_place}
-use Rattle.slot_gen.proofs.Follow.{HasAt, has_front, has_back, Goes, Where, InTemp, InReg, Kept, Holds, Follows, Loops, IsInside, RunsAt, Seeks, IsLoop, step_in, test_in, body_in, body_at, loop_of, choice_of, switch_of, temps_on, chosen_first, chosen_second, runs_follow, loops_runs}
-use Rattle.slot_gen.proofs.Weight.{weight}
-use Rattle.slot_gen.proofs.Match.{Setting, Ground, Doing, Outer, Matches, Ends, SameOutput, Answered, Steps, D, F, L, slot, now, code, again, at_op, none_step, pure_step, one_step, some_steps, puts}
+use Rattle.slot_gen.specs.Expressions.{enter_code, call_code, built_in_code}
+use Rattle.slot_gen.specs.Statements.{Around, stmt_code, stmts_code, zeros_code, in_switch, targets_of, defaults_of, seek_code, first_target, end_place}
+use Rattle.slot_gen.proofs.Follow.{HasAt, has_front, has_back, Where, InTemp, InReg, Kept, Holds, Follows, Loops, IsInside, RunsAt, IsLoop, step_in, test_in, body_in, loop_of, switch_of, temps_on, chosen_first, chosen_second, runs_follow, loops_runs}
+use Rattle.slot_gen.proofs.Match.{Setting, Ground, Doing, Outer, Matches, Answered, Steps, D, F, slot, now, code, again, at_op, one_step, some_steps, puts}
 use Rattle.slot_gen.proofs.Values.{push_answers, bound_answers, load_answers, read_answers, convert_answers, store_answers, write_answers, update_answers, change_answers, combine_answers, change_by, offset_answers, use_answers, discard_answers, truth_answers, copy_answers, tested, zero_jumps}
 use Rattle.slot_gen.proofs.Evaluations.{eval_answers, locate_answers, pick_answers, and_answers, or_answers}
 use Rattle.slot_gen.proofs.Rounds.{length-zeros, length-seeks, Stands, body_stands, goes_on, labels_follow, default_follows}
-use Rattle.slot_gen.proofs.Calls.{call_answers, get_answers, put_answers, zeroed_same, counted_same, outer_places}
+use Rattle.slot_gen.proofs.Calls.{call_answers, get_answers, put_answers, zeroed_same, counted_same}
 use Rattle.slot_gen.proofs.Executions.{run_answers, stand_jump}
 
 -- ---- the end of an activation

@@ -1,5 +1,5 @@
 -- The code of an expression names the temporaries that it is said to take alone.
-use Rattle.std.proofs.Common.{◌≡◌, ℕ, zero, suc, ◌+◌, ◌<◌, ◌≤◌, max, List, [], ◌∷◌, ◌++◌, length, Bool, true, false, Option, Some, None, refl, sym, ap, ◌∙◌, subst, arith}
+use Rattle.std.proofs.Common.{ℕ, zero, suc, ◌+◌, ◌<◌, ◌≤◌, List, [], ◌∷◌, ◌++◌, length, Bool, true, false, Option, Some, None, arith}
 use Rattle.std.specs.Prelude.{slice_get, bytes_eq, codes, if◌then◌else◌}
 use Rattle.c_tree.specs.declared.types.CType.{CType}
 use Rattle.c_tree.specs.declared.types.CType.TheVariants.{Int}
@@ -15,12 +15,12 @@ use Rattle.c_tree.specs.Rows.{exprs}
 use Rattle.c_tree.specs.Types.{type_of, target_of, is_array, is_struct, kind_of}
 use Rattle.c_tree.specs.Layout.{size_of}
 use Rattle.c_source.specs.Size.{extent_of, extent_of_row}
-use Rattle.c_source.specs.Source.{stepping, struct_number}
+use Rattle.c_source.specs.Source.{stepping}
 use Rattle.slot_ir.specs.declared.code.Access.{Access}
 use Rattle.slot_ir.specs.declared.code.Access.TheVariants as access
 use Rattle.slot_ir.specs.declared.code.SlotOp.{SlotOp}
 use Rattle.slot_ir.specs.declared.code.SlotOp.TheVariants as op
-use Rattle.slot_gen.specs.Expressions.{access_of, converting, cast_code, load_code, store_code, write_code, mixed_op, pointers_op, targets_op, combine_op, call_code, built_in_code, enter_code, choice_code, and_code, or_code, name_code, referent_code, read_at, write_at, update_at, unless_register, register_in, expr_code, place_code, row_code}
+use Rattle.slot_gen.specs.Expressions.{access_of, converting, cast_code, load_code, mixed_op, pointers_op, targets_op, combine_op, call_code, built_in_code, enter_code, choice_code, and_code, or_code, name_code, referent_code, read_at, write_at, update_at, unless_register, register_in, expr_code, place_code, row_code}
 use Rattle.slot_gen.specs.Bounds.{temps_of, row_temps, IsBelow, AreBelow}
 
 pub below_append : (n : ℕ) (a b : List SlotOp) → AreBelow n a → AreBelow n b → AreBelow n (a ++ b)

@@ -1,6 +1,5 @@
 -- The code of a statement names the temporaries that it is said to take alone, and so does that of a function.
-use Rattle.std.proofs.Common.{◌≡◌, ℕ, zero, suc, ◌+◌, ◌<◌, ◌≤◌, max, List, [], ◌∷◌, ◌++◌, length, Bool, true, false, Option, Some, None, refl, sym, ap, subst, arith}
-use Rattle.std.specs.Prelude.{slice_get, if◌then◌else◌}
+use Rattle.std.proofs.Common.{ℕ, ◌+◌, ◌<◌, ◌≤◌, List, [], ◌∷◌, length, Bool, true, false, Option, Some, None, subst, arith}
 use Rattle.c_tree.specs.declared.types.CType.{CType}
 use Rattle.c_tree.specs.declared.types.CType.TheVariants.{Char, Int, Unsigned, Void, Pointer', Array', Struct}
 use Rattle.c_tree.specs.declared.typed.Pointed.{Pointed}
@@ -9,14 +8,13 @@ use Rattle.c_tree.specs.declared.typed.Stmt.{Stmt, Row_of-Stmt, end_of-Stmt, mor
 use Rattle.c_tree.specs.declared.typed.Stmt.TheVariants.{Value, Block', If', While', Do', For', Switch', Case', Default', Break, Continue, Return}
 use Rattle.c_tree.specs.declared.rows.Program.{Program}
 use Rattle.c_tree.specs.declared.rows.Function.{Function}
-use Rattle.c_tree.specs.Rows.{stmts}
 use Rattle.c_source.specs.Blocks.{local_type, result_type, declared_in, statements_in}
 use Rattle.c_source.specs.Control.{outermost_of}
 use Rattle.slot_ir.specs.declared.code.SlotOp.{SlotOp}
 use Rattle.slot_ir.specs.declared.code.SlotOp.TheVariants as op
-use Rattle.slot_gen.specs.Expressions.{access_of, cast_code, expr_code, write_at, unless_register, register_of, if_register, choice_code}
-use Rattle.slot_gen.specs.Statements.{Around, Target, nowhere, stmt_code, stmts_code, block_code, else_code, body_code, body_targets, body_defaults, zeros_code, part_code, init_code, inits_code, test_code, loop_test, loop_body, loop_code, in_loop, in_switch, switch_code, seek_code, zero_code, end_place, body_place, function_code}
-use Rattle.slot_gen.specs.Bounds.{temps_of, part_temps, result_temps, init_temps, inits_temps, stmt_temps, row_of_temps, else_temps, function_temps, IsBelow, AreBelow}
+use Rattle.slot_gen.specs.Expressions.{access_of, cast_code, expr_code, unless_register, register_of, if_register, choice_code}
+use Rattle.slot_gen.specs.Statements.{Around, Target, nowhere, stmt_code, stmts_code, block_code, else_code, body_code, body_targets, body_defaults, zeros_code, part_code, init_code, inits_code, test_code, loop_test, loop_body, loop_code, in_loop, in_switch, switch_code, seek_code, zero_code, body_place, function_code}
+use Rattle.slot_gen.specs.Bounds.{part_temps, init_temps, inits_temps, stmt_temps, row_of_temps, else_temps, function_temps, IsBelow, AreBelow}
 use Rattle.slot_gen.proofs.Executions.{block_stmts}
 use Rattle.slot_gen.proofs.Temps.{below_append, some_temps, expr_below, write_below, cast_below}
 

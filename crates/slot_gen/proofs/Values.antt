@@ -1,23 +1,20 @@
 -- What is done with the values computed last is answered by its code.
-use Rattle.std.proofs.Common.{◌≡◌, ℕ, zero, suc, ◌+◌, ◌*◌, ◌<◌, ◌≤◌, List, [], ◌∷◌, ◌++◌, length, Option, Some, None, Bool, true, false, refl, sym, ap, ◌∙◌, subst, arith, length-append, ⊎_elim, inl, inr}
+use Rattle.std.proofs.Common.{◌≡◌, ℕ, zero, suc, ◌+◌, ◌*◌, ◌<◌, List, [], ◌∷◌, ◌++◌, length, Option, Some, None, Bool, true, false, refl, sym, ap, ◌∙◌, subst, arith, length-append, ⊎_elim}
 use Rattle.std.specs.Prelude.{slice_get, Result, Ok, Err, option_map, pos, not, if◌then◌else◌}
 use Rattle.c_tree.specs.declared.types.CType.{CType}
 use Rattle.c_tree.specs.declared.types.CType.TheVariants.{Struct}
 use Rattle.c_tree.specs.declared.typed.BinaryOp.{BinaryOp}
 use Rattle.c_tree.specs.declared.typed.UnaryOp.{UnaryOp}
-use Rattle.c_tree.specs.declared.rows.Program.{Program}
 use Rattle.c_tree.specs.Types.{kind_of, is_array}
 use Rattle.ldb_words.specs.declared.kinds.Kind.{Kind}
 use Rattle.ldb_words.specs.declared.kinds.Undef.TheVariants.{Pointer}
-use Rattle.runs.specs.Runs.{Next, Goes as GoesOn, Undefined, Why, Stale, Reason}
+use Rattle.runs.specs.Runs.{Next, Goes as GoesOn, Why, Stale, Reason}
 use Rattle.c_store.specs.Store.{Value, Number, Null, At, World, Cell, used, is_stale, load, store, moved, load_struct, store_struct, store_all, ◌>>=◌, leaf_at, may_write, written, or_pointer}
 use Rattle.c_store.specs.Frames.{Here, with_world, bound}
-use Rattle.c_store.specs.Assigned.{History}
 use Rattle.c_source.specs.Blocks.{converted, cells_of}
 use Rattle.c_source.specs.Operators.{combined, changed, is_zero}
-use Rattle.c_source.specs.Control.{Item, State, Activation, Push, Bound, Load, Convert, Store, Copy, Update, Change, Combine, Offset, Use, Discard, Truth}
+use Rattle.c_source.specs.Control.{Item, State, Push, Bound, Load, Convert, Store, Copy, Update, Change, Combine, Offset, Use, Discard, Truth}
 use Rattle.c_source.specs.Source as source
-use Rattle.slot_ir.specs.declared.code.SlotCode.{SlotCode}
 use Rattle.slot_ir.specs.declared.code.SlotOp.{SlotOp}
 use Rattle.slot_ir.specs.declared.code.SlotOp.TheVariants as op
 use Rattle.slot_ir.specs.declared.code.UnaryWordOp.TheVariants as unary
@@ -28,12 +25,10 @@ use Rattle.slot_ir.specs.Slots.{Temps, with_temp, SlotState, Frame}
 use Rattle.slot_ir.specs.Slots as slots
 use Rattle.slot_ir.specs.Operators as slot_operators
 use Rattle.slot_ir.specs.Begin as beginning
-use Rattle.slot_gen.specs.Expressions.{access_of, cast_code, converting, load_code, unary_op, combine_op}
-use Rattle.slot_gen.specs.Correct.{IsCodeOf}
-use Rattle.slot_gen.proofs.Follow.{HasAt, has_front, has_back, Goes, Where, InTemp, InReg, Kept, Holds, constant_op, IsConstant}
+use Rattle.slot_gen.specs.Expressions.{access_of, cast_code, converting, unary_op, combine_op}
+use Rattle.slot_gen.proofs.Follow.{HasAt, has_front, has_back, Where, InTemp, InReg, Holds}
 use Rattle.slot_gen.proofs.Operators.{converted_same, combined_gives, changed_gives}
-use Rattle.slot_gen.proofs.Weight.{weight}
-use Rattle.slot_gen.proofs.Match.{Setting, Ground, Doing, Matches, Answered, SameOutput, Cast, D, F, L, Steps, slot, now, code, again, at_op, none_step, pure_step, one_step, set_step, give_step, some_steps, one, cast, silent_then, put_same, put_other, put_above, keeps, puts, same_below}
+use Rattle.slot_gen.proofs.Match.{Setting, Ground, Answered, SameOutput, Cast, D, F, L, Steps, slot, now, code, again, none_step, pure_step, one_step, set_step, give_step, some_steps, one, cast, silent_then, put_same, put_other, put_above, puts, same_below}
 
 -- ---- what a store leaves as it was
 

@@ -1,14 +1,13 @@
 -- What remains to be done, as a number that falls where a step of the program has no operator of its own.
-use Rattle.std.proofs.Common.{◌≡◌, ℕ, zero, suc, ◌+◌, ◌*◌, ◌<◌, ◌≤◌, List, [], ◌∷◌, ◌++◌, Option, Some, None, Bool, true, false, refl, arith}
+use Rattle.std.proofs.Common.{ℕ, suc, ◌+◌, ◌*◌, ◌≤◌, List, [], ◌∷◌, ◌++◌, Option, Some, None, arith}
 use Rattle.c_tree.specs.declared.typed.Typed.{Typed, Row_of-Typed, end_of-Typed, more_of-Typed}
 use Rattle.c_tree.specs.declared.typed.Typed.TheVariants.{Comma', Assign', Choice', Or', And', Binary', Cast', Before', Address', Follow', Unary', SizeOf', Index', Call', Dot', Arrow', After', Parens'}
 use Rattle.c_tree.specs.declared.typed.Pointed.{Pointed}
 use Rattle.c_tree.specs.declared.typed.DeclaredLocal.{DeclaredLocal}
 use Rattle.c_tree.specs.declared.typed.Stmt.{Stmt, Row_of-Stmt, end_of-Stmt, more_of-Stmt}
 use Rattle.c_tree.specs.declared.typed.Stmt.TheVariants.{Value, Block', If', While', Do', For', Switch', Case', Default', Break, Continue, Return}
-use Rattle.c_tree.specs.declared.rows.Program.{Program}
 use Rattle.c_tree.specs.Rows.{exprs, stmts}
-use Rattle.c_source.specs.Control.{Item, Eval, Locate, Bound, Load, Convert, Use, Discard, Run, Open, runs_of, evals_of, inits_of}
+use Rattle.c_source.specs.Control.{Item, Eval, Locate, Bound, Load, Convert, Use, Discard, Run, Open, runs_of, evals_of}
 
 abbrev mutual
   pub size : Typed → ℕ

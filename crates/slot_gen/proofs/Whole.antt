@@ -1,14 +1,12 @@
 -- Whole runs of a program are shown by its code, and nothing else is.
-use Rattle.std.proofs.Common.{◌≡◌, ◌≢◌, ℕ, zero, suc, ◌+◌, ◌*◌, ◌<◌, ◌≤◌, List, [], ◌∷◌, length, Option, Some, None, refl, sym, ap, ◌∙◌, subst, arith}
-use Rattle.std.specs.Prelude.{ℤ, slice_get}
+use Rattle.std.proofs.Common.{◌≡◌, ◌≢◌, ℕ, suc, List, [], ◌∷◌, Option, Some, None, refl, sym, ap, ◌∙◌, subst}
+use Rattle.std.specs.Prelude.{ℤ}
 use Rattle.c_tree.specs.declared.rows.Program.{Program}
-use Rattle.c_tree.specs.declared.rows.Function.{Function}
-use Rattle.runs.specs.Runs.{Moment, Outcome, Reached, Breaks, Nowhere, after}
+use Rattle.runs.specs.Runs.{Moment, Outcome, Reached, Breaks, Nowhere}
 use Rattle.runs.proofs.Simulate.{Agrees, Related, Reaches, simulates, Covered, CoveredBy, UpTo, covers}
-use Rattle.c_store.specs.Frames.{Here, Place, with_world, new_place}
-use Rattle.c_store.specs.Assigned.{History, all_assigned, at_stop}
-use Rattle.c_source.specs.Blocks as blocks
-use Rattle.c_source.specs.Control.{State, body_of}
+use Rattle.c_store.specs.Frames.{Here, with_world, new_place}
+use Rattle.c_store.specs.Assigned.{all_assigned, at_stop}
+use Rattle.c_source.specs.Control.{State}
 use Rattle.c_source.specs.Source as source
 use Rattle.c_source.specs.Begin.{main_from, control_in}
 use Rattle.c_source.specs.Begin as sources
@@ -16,8 +14,8 @@ use Rattle.slot_ir.specs.declared.code.SlotCode.{SlotCode}
 use Rattle.slot_ir.specs.Slots.{SlotState, no_temps}
 use Rattle.slot_ir.specs.Slots as slots
 use Rattle.slot_ir.specs.Begin as beginning
-use Rattle.slot_gen.specs.Correct.{IsCodeOf, HasMain, Shows, IsWithin, ShowsNoMore, IsShown, source_after, slots_after, Lowers}
-use Rattle.slot_gen.proofs.Match.{Setting, Doing, Outer, Matches, Ends, SameOutput, left_over}
+use Rattle.slot_gen.specs.Correct.{IsCodeOf, HasMain, Shows, IsWithin, IsShown, source_after, slots_after, Lowers}
+use Rattle.slot_gen.proofs.Match.{Setting, Doing, Matches, Ends, SameOutput, left_over}
 use Rattle.slot_gen.proofs.Calls.{begins, outer_places}
 use Rattle.slot_gen.proofs.Step.{step_answers}
 

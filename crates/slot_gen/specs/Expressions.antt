@@ -1,13 +1,11 @@
 -- The slot code of expressions.
 use Rattle.std.specs.Prelude.{ℕ, suc, zero, ◌+◌, List, [], ◌∷◌, ◌++◌, Bool, true, false, ◌&&◌, nat_lt, Option, Some, None, slice_get, length, bytes_eq, codes, if◌then◌else◌}
-use Rattle.ldb_words.specs.declared.kinds.Kind.{Kind}
 use Rattle.c_tree.specs.declared.types.CType.{CType}
-use Rattle.c_tree.specs.declared.types.CType.TheVariants.{Char, Int, Struct, Pointer'}
+use Rattle.c_tree.specs.declared.types.CType.TheVariants.{Char, Int, Pointer'}
 use Rattle.c_tree.specs.declared.typed.BinaryOp.{BinaryOp}
 use Rattle.c_tree.specs.declared.typed.BinaryOp.TheVariants as tree
 use Rattle.c_tree.specs.declared.typed.UnaryOp.{UnaryOp}
 use Rattle.c_tree.specs.declared.typed.UnaryOp.TheVariants as sign
-use Rattle.c_tree.specs.declared.typed.Head.{Head}
 use Rattle.c_tree.specs.declared.typed.Typed.{Typed, Row_of-Typed, end_of-Typed, more_of-Typed}
 use Rattle.c_tree.specs.declared.typed.Typed.TheVariants.{Comma', Assign', Choice', Or', And', Binary', Cast', Before', Address', Follow', Unary', SizeOf', SizeOfType, Index', Call', Dot', Arrow', After', Name, Constant, Literal, Parens'}
 use Rattle.c_tree.specs.declared.rows.Program.{Program}

@@ -6,7 +6,6 @@ use Rattle.c_tree.specs.declared.typed.Pointed.{Pointed}
 use Rattle.c_tree.specs.declared.typed.DeclaredLocal.{DeclaredLocal}
 use Rattle.c_tree.specs.declared.typed.Stmt.{Stmt, Row_of-Stmt, end_of-Stmt, more_of-Stmt, Held-Stmt-If-3, None', Some'}
 use Rattle.c_tree.specs.declared.typed.Stmt.TheVariants.{Value, Block', If', While', Do', For', Switch', Case', Default', Break, Continue, Return}
-use Rattle.c_tree.specs.declared.rows.Function.{Function}
 
 abbrev mutual
   pub tokens_of : Typed → ℕ

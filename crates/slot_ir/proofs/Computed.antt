@@ -1,18 +1,16 @@
 -- Two programs in slot code, run by the definitions.
-use Rattle.std.proofs.Common.{◌≡◌, ℕ, List, [], ◌∷◌, Option, None, Some, true, false, refl}
+use Rattle.std.proofs.Common.{◌≡◌, ℕ, List, [], ◌∷◌, Option, None, Some, false, refl}
 use Rattle.std.specs.Prelude.{ℤ, pos, codes}
 use Rattle.ldb_words.specs.declared.kinds.Kind.TheVariants.{Byte, Word}
-use Rattle.c_tree.specs.declared.types.Leaf.{Leaf}
 use Rattle.c_store.specs.Store.{load, store, is_stale, moved}
 use Rattle.c_store.specs.Frames.{made, left}
 use Rattle.runs.specs.Runs.{Outcome, Reached, Breaks, Nowhere, after}
 use Rattle.slot_ir.specs.declared.code.SlotCode.{SlotCode}
-use Rattle.slot_ir.specs.declared.code.SlotFunction.{SlotFunction}
 use Rattle.slot_ir.specs.declared.code.SlotLocal.{SlotLocal}
 use Rattle.slot_ir.specs.declared.code.Home.TheVariants.{Block, Register}
 use Rattle.slot_ir.specs.declared.code.Access.TheVariants as access
 use Rattle.slot_ir.specs.declared.code.WordOp.TheVariants as word
-use Rattle.slot_ir.specs.declared.code.SlotOp.TheVariants.{Const, TextAddress, LocalAddress, Load, Store, ReadRegister, WriteRegister, Binary, Index, Jump, JumpIfZero, Call, Return, Stop, Zero, Leave, GetChar, PutChar, Exit}
+use Rattle.slot_ir.specs.declared.code.SlotOp.TheVariants.{Const, TextAddress, LocalAddress, Load, Store, ReadRegister, Binary, Index, Jump, JumpIfZero, Call, Return, Stop, Zero, Leave, GetChar, PutChar, Exit}
 use Rattle.slot_ir.specs.Operators.{binary, indexed}
 use Rattle.slot_ir.specs.Slots.{SlotState, step}
 use Rattle.slot_ir.specs.Begin.{begin, acted}

@@ -8,7 +8,7 @@ use Rattle.c_store.specs.Bits.{low_byte, minus_one, signed_add, signed_subtract,
 use Rattle.runs.specs.Runs.{Why, Reason, IllTyped}
 use Rattle.c_store.specs.Store.{Value, Number, Null, At, World, used, moved, ◌>>=◌}
 use Rattle.slot_ir.specs.declared.code.Access.{Access}
-use Rattle.slot_ir.specs.declared.code.Access.TheVariants.{SignedByte, UnsignedByte, SignedHalf, UnsignedHalf, Word, Pointer}
+use Rattle.slot_ir.specs.declared.code.Access.TheVariants.{SignedByte, UnsignedByte, SignedHalf, UnsignedHalf, Pointer}
 use Rattle.slot_ir.specs.declared.code.WordOp.{WordOp}
 use Rattle.slot_ir.specs.declared.code.WordOp.TheVariants as word
 use Rattle.slot_ir.specs.declared.code.UnaryWordOp.{UnaryWordOp}

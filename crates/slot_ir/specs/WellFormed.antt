@@ -2,11 +2,9 @@
 use Rattle.std.specs.Prelude.{◌≡◌, ◌≤◌, ◌<◌, ℕ, ◌+◌, ◌*◌, ◌^◌, List, [], ◌∷◌, Option, Some, None, slice_get, length, sum, map, ◌⊎◌}
 use Rattle.std.specs.Int.{next_multiple_of}
 use Rattle.std.specs.List.{AllByRecursion}
-use Rattle.ldb_words.specs.declared.kinds.Kind.{Kind}
 use Rattle.c_tree.specs.declared.types.Leaf.{Leaf}
 use Rattle.slot_ir.specs.declared.code.SlotOp.{SlotOp}
 use Rattle.slot_ir.specs.declared.code.SlotOp.TheVariants.{Const, Null, StaticAddress, TextAddress, LocalAddress, Load, Store, ReadRegister, WriteRegister, Convert, Unary, Binary, Compare, Index, Distance, Offset, Take, Jump, JumpIfZero, JumpIfNotZero, JumpIfEqual, Call, Return, Stop, Move, Zero, Leave, GetChar, PutChar, Exit}
-use Rattle.slot_ir.specs.declared.code.Home.{Home}
 use Rattle.slot_ir.specs.declared.code.Home.TheVariants.{Block, Register}
 use Rattle.slot_ir.specs.declared.code.SlotCode.{SlotCode}
 use Rattle.slot_ir.specs.declared.code.SlotFunction.{SlotFunction}
