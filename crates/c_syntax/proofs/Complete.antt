@@ -1,5 +1,5 @@
 -- Where tokens are a unit, they are read.
-use Rattle.std.proofs.Common.{◌≡◌, ℕ, max, Bool, true, false, List, [], ◌∷◌, ◌++◌, Option, Some, None, refl, sym, ◌∙◌, ap, ap₂, subst, append_assoc}
+use Rattle.std.proofs.Common.{◌≡◌, ℕ, Bool, true, false, List, [], ◌∷◌, ◌++◌, Option, Some, None, refl, sym, ◌∙◌, ap, subst, append_assoc}
 use Rattle.c_lex.specs.declared.token.Place.{Place}
 use Rattle.c_symbol.specs.declared.terminal.Terminal.{Terminal}
 use Rattle.c_symbol.specs.declared.symbol.Symbol.TheVariants as symbol
@@ -27,12 +27,12 @@ use Rattle.c_statement.specs.declared.state.Mode.TheVariants.{Done}
 use Rattle.c_statement.specs.declared.state.Reader.{Reader}
 use Rattle.c_syntax.specs.declared.tree.External.{External}
 use Rattle.c_syntax.specs.declared.state.Kept.{Kept}
-use Rattle.c_syntax.specs.declared.state.Kept.TheVariants.{All, TooDeep}
+use Rattle.c_syntax.specs.declared.state.Kept.TheVariants.{All}
 use Rattle.c_syntax.specs.declared.state.Mode.{Mode}
 use Rattle.c_syntax.specs.declared.state.Mode.TheVariants.{Between, Heading, Body}
 use Rattle.c_syntax.specs.declared.state.UnitParser.{UnitParser}
 use Rattle.c_syntax.specs.Grammar.{IsExternal, declaration, definition, IsUnit, first_external, next_external}
-use Rattle.c_syntax.specs.Machine.{Next, more, declared_of, defined_of, deep_place, with_body, bodied, ended, headed, shift, run, start}
+use Rattle.c_syntax.specs.Machine.{Next, more, declared_of, defined_of, deep_place, with_body, bodied, ended, headed, run, start}
 use Rattle.c_syntax.proofs.Keeping.{KeptIs, more_is, first_is, declared_kept, defined_kept}
 
 abbrev pub at_mode : Kept → Mode → UnitParser

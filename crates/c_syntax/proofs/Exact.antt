@@ -1,5 +1,5 @@
 -- Reading is exact.
-use Rattle.std.proofs.Common.{◌≡◌, ℕ, ◌≤◌, ◌<◌, List, [], ◌∷◌, ◌++◌, Option, Some, None, Err, map, refl, sym, ◌∙◌, ap, subst, append-nil, arith}
+use Rattle.std.proofs.Common.{◌≡◌, ℕ, ◌≤◌, ◌<◌, List, [], ◌∷◌, ◌++◌, Some, None, Err, map, refl, sym, ◌∙◌, ap, subst, append-nil, arith}
 use Rattle.c_lex.specs.declared.token.Token.{Token}
 use Rattle.c_symbol.specs.declared.terminal.Terminal.{Terminal}
 use Rattle.c_symbol.specs.Terminals.{terminal_of, terminals}
@@ -10,13 +10,12 @@ use Rattle.c_syntax.specs.declared.state.Kept.{Kept}
 use Rattle.c_syntax.specs.declared.state.Kept.TheVariants.{All, TooDeep}
 use Rattle.c_syntax.specs.declared.state.Mode.{Mode}
 use Rattle.c_syntax.specs.declared.state.Mode.TheVariants.{Between, Heading, Body}
-use Rattle.c_syntax.specs.declared.state.UnitParser.{UnitParser}
 use Rattle.c_syntax.specs.Grammar.{IsUnit, first_external, next_external}
 use Rattle.c_syntax.specs.Machine.{Next, run, start, some_read, whole_mode, whole, reading, feed, Reads}
 use Rattle.c_syntax.specs.Parses.{Parses, OneUnit}
 use Rattle.c_syntax.proofs.Keeping.{KeptIs}
 use Rattle.c_syntax.proofs.Fed.{read_is}
-use Rattle.c_syntax.proofs.Complete.{Ending, at_mode, unit_runs}
+use Rattle.c_syntax.proofs.Complete.{Ending, unit_runs}
 use Rattle.c_syntax.proofs.Sound.{Being, AreSome, nothing, some, SoFar, Holds, unit_sound}
 
 -- a unit has an external declaration

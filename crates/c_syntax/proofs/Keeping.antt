@@ -1,11 +1,10 @@
 -- What is kept of external declarations of a known height.
-use Rattle.std.proofs.Common.{◌≡◌, ℕ, suc, ◌≤◌, ◌<◌, max, Bool, true, false, List, [], ◌∷◌, ◌++◌, Option, Some, None, nat_le, refl, sym, ◌∙◌, ap, ap₂, subst, inl, inr, arith, le-leb}
+use Rattle.std.proofs.Common.{◌≡◌, ℕ, ◌≤◌, ◌<◌, max, Bool, true, false, List, [], ◌∷◌, ◌++◌, Option, Some, None, nat_le, refl, sym, ◌∙◌, ap, ap₂, subst, inl, inr, arith, le-leb}
 use Rattle.std.specs.Prelude.{if◌then◌else◌}
 use Rattle.std.proofs.Math.Nat.{max-le, le-max_left, le-max_right}
 use Rattle.std.proofs.lemmas.Bool.{cases_lt}
 use Rattle.std.proofs.lemmas.Bool.Decides.{nat_tests}
 use Rattle.c_lex.specs.declared.token.Place.{Place}
-use Rattle.c_declaration.specs.declared.built.Built.{Built}
 use Rattle.c_declaration.specs.declared.tree.Head.{Head}
 use Rattle.c_declaration.specs.declared.tree.FunctionHead.{FunctionHead}
 use Rattle.c_declaration.specs.Grown.{cut}

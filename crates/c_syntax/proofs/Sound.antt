@@ -1,12 +1,11 @@
 -- What is read is a unit by the grammar.
-use Rattle.std.proofs.Common.{◌≡◌, ℕ, max, Bool, true, false, List, [], ◌∷◌, ◌++◌, Option, Some, None, refl, sym, ◌∙◌, ap, ap₂, subst, append_assoc, append-nil, arith, lit≤}
+use Rattle.std.proofs.Common.{◌≡◌, ℕ, max, List, [], ◌∷◌, ◌++◌, Option, Some, None, refl, sym, ◌∙◌, ap, ap₂, subst, append_assoc, append-nil, arith, lit≤}
 use Rattle.c_lex.specs.declared.token.Place.{Place}
 use Rattle.c_symbol.specs.declared.terminal.Terminal.{Terminal}
 use Rattle.c_symbol.specs.declared.symbol.Symbol.TheVariants as symbol
 use Rattle.c_declaration.specs.declared.built.Built.{Built}
 use Rattle.c_declaration.specs.declared.step.Step.{Step}
 use Rattle.c_declaration.specs.declared.step.Step.TheVariants as step
-use Rattle.c_declaration.specs.declared.tree.Head.{Head}
 use Rattle.c_declaration.specs.declared.tree.FunctionHead.{FunctionHead}
 use Rattle.c_declaration.specs.declared.state.FileParser.{FileParser}
 use Rattle.c_declaration.specs.declared.state.FileParser.TheVariants as file
@@ -14,7 +13,7 @@ use Rattle.c_declaration.specs.declared.state.ReadHead.{ReadHead}
 use Rattle.c_declaration.specs.declared.state.ReadHead.TheVariants as read
 use Rattle.c_declaration.specs.FileReading.{file_offer}
 use Rattle.c_declaration.specs.Feeding.{feed}
-use Rattle.c_declaration.specs.Grammar.{Is, IsHead, IsFunctionHead}
+use Rattle.c_declaration.specs.Grammar.{Is, IsFunctionHead}
 use Rattle.c_declaration.specs.Grown.{cut}
 use Rattle.c_declaration.specs.Laws.{kept, reading_file, HeadOf, FileIs}
 use Rattle.c_statement.specs.Tree.{StatementTree}
@@ -33,7 +32,7 @@ use Rattle.c_syntax.specs.declared.state.Mode.{Mode}
 use Rattle.c_syntax.specs.declared.state.Mode.TheVariants.{Between, Heading, Body}
 use Rattle.c_syntax.specs.declared.state.UnitParser.{UnitParser}
 use Rattle.c_syntax.specs.Grammar.{IsExternal, declaration, definition, IsUnit, first_external, next_external}
-use Rattle.c_syntax.specs.Machine.{Next, goes, more, declared_of, defined_of, deep_place, with_body, bodied, ended, headed, shift_mode, shift, run, start}
+use Rattle.c_syntax.specs.Machine.{Next, more, declared_of, defined_of, deep_place, with_body, bodied, ended, headed, shift_mode, shift, run, start}
 use Rattle.c_syntax.proofs.Keeping.{KeptIs, more_is, first_is, declared_kept, defined_kept}
 
 -- some external declarations, or none
