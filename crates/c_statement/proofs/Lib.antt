@@ -1,6 +1,0 @@
-pub mod Pushed
-pub mod Heights
-pub mod Beginnings
-pub mod Complete
-pub mod Reach
-pub mod Sound

@@ -1,3 +1,0 @@
-pub mod Grammar
-pub mod Machine
-pub mod Parses
