@@ -4,6 +4,3 @@ pub mod Targets
 pub mod Numbers
 pub mod Judgement
 pub mod Parts
-pub mod Elaboration
-pub mod Judges
-pub mod Bounds

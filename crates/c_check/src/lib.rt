@@ -1,16 +1,12 @@
 //! Typing of expressions of C (C90 6.3): what the rules make of operands, and what constant expressions make of numbers.
 #![tactic(auto)]
 
-mod fault;
 mod numbers;
 mod part;
 mod rules;
-mod scope;
-mod symbol;
 mod types;
 mod values;
 
-pub use fault::{ExprFault, Fault};
 pub use numbers::Numbers;
 pub use part::{Constant, Facts, Part};
 pub use rules::{
@@ -18,7 +14,5 @@ pub use rules::{
     compound_type, converts, dot_type, followed, head_of, index_type, is_null, logical_type,
     may_drop, step_type, type_of, unary_type,
 };
-pub use scope::Scope;
-pub use symbol::Symbol;
 pub use types::{array_of, copied, is_complete, pointer_to, same};
 pub use values::{both, chosen, combined, converted, either, turned};
