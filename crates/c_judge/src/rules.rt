@@ -2,11 +2,11 @@
 ghost use Rattle.std.specs.Prelude.{◌≡◌, ◌&&◌, ◌||◌, not, if◌then◌else◌, IfOk, option_map, option_and_then, Some, None};
 ghost use Rattle.c_tree.specs.Types.{type_of, head_of};
 ghost use Rattle.c_typing.specs.Plain.{plain, is_integer, is_pointer, value_type, Int};
-ghost use Rattle.c_check.specs.Judgement.{object};
+ghost use Rattle.c_judge.specs.Judgement.{object};
 ghost use Rattle.c_typing.specs.Rules as rule;
-ghost use Rattle.c_check.specs.Scope.{member_number, pointed_number};
-ghost use Rattle.c_check.specs.Values.{is_null};
-ghost use Rattle.c_check.specs.Parts.{operand_of, value_of, Gives};
+ghost use Rattle.c_judge.specs.Scope.{member_number, pointed_number};
+ghost use Rattle.c_judge.specs.Values.{is_null};
+ghost use Rattle.c_judge.specs.Parts.{operand_of, value_of, Gives};
 
 use crate::part::{Constant, Part};
 use crate::types::{

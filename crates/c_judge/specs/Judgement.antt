@@ -30,10 +30,10 @@ use Rattle.c_tree.specs.Layout.{members_of}
 use Rattle.c_typing.specs.Plain.{Plain, Char, Int, Unsigned, Void, Pointer, Array, Struct, plain, is_scalar, is_struct, is_void, is_complete}
 use Rattle.c_typing.specs.Rules.{Operand, value_of, may_drop, unary_type, followed, address_type, dot_type, arrow_type, index_type, binary_type, assignment_type, takes, compound_type, step_type, logical_type, choice_type, comma_type, cast_type, size_type}
 use Rattle.c_typing.specs.Expressions.{Denoted, Object, Function, Hidden, name_type}
-use Rattle.c_check.specs.declared.part.Constant.{Constant}
-use Rattle.c_check.specs.declared.part.Constant.TheVariants.{Variable, Undefined, Number}
-use Rattle.c_check.specs.Scope.{Scope, defs_of, member_number, pointed_number}
-use Rattle.c_check.specs.Values.{is_unsigned, size_of, with_one, combined, turned, converted, chosen, both, either, is_null}
+use Rattle.c_judge.specs.declared.part.Constant.{Constant}
+use Rattle.c_judge.specs.declared.part.Constant.TheVariants.{Variable, Undefined, Number}
+use Rattle.c_judge.specs.Scope.{Scope, defs_of, member_number, pointed_number}
+use Rattle.c_judge.specs.Values.{is_unsigned, size_of, with_one, combined, turned, converted, chosen, both, either, is_null}
 
 -- what is known of an expression: what the rules ask of it as an operand, and what it is as a constant expression
 pub record Judged : Type 0 where

@@ -5,10 +5,10 @@ use Rattle.c_tree.specs.declared.types.CType.{CType}
 use Rattle.c_tree.specs.Types.{type_of}
 use Rattle.c_typing.specs.Plain.{Plain, plain, value_type}
 use Rattle.c_typing.specs.Rules.{Operand}
-use Rattle.c_check.specs.declared.part.Part.{Part}
-use Rattle.c_check.specs.declared.part.Facts.{Facts}
-use Rattle.c_check.specs.Values.{is_null}
-use Rattle.c_check.specs.Judgement.{Judged}
+use Rattle.c_judge.specs.declared.part.Part.{Part}
+use Rattle.c_judge.specs.declared.part.Facts.{Facts}
+use Rattle.c_judge.specs.Values.{is_null}
+use Rattle.c_judge.specs.Judgement.{Judged}
 
 -- what is known of an expression of a type
 abbrev pub judged_as : Plain → Facts → Judged

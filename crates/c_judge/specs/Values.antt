@@ -10,8 +10,8 @@ use Rattle.c_tree.specs.Layout.{struct_size_of}
 use Rattle.c_store.specs.Bits.{low_byte, minus_one}
 use Rattle.c_source.specs.Operators.{on_ints, on_unsigned, truth}
 use Rattle.c_typing.specs.Plain.{Plain, Char, Int, Unsigned, Void, Pointer, Array, Struct, promoted, common}
-use Rattle.c_check.specs.declared.part.Constant.{Constant}
-use Rattle.c_check.specs.declared.part.Constant.TheVariants.{Variable, Undefined, Number}
+use Rattle.c_judge.specs.declared.part.Constant.{Constant}
+use Rattle.c_judge.specs.declared.part.Constant.TheVariants.{Variable, Undefined, Number}
 
 abbrev pub is_unsigned : Plain → Bool
 is_unsigned Unsigned = true

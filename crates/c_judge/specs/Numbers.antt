@@ -3,8 +3,8 @@ use Rattle.std.specs.Prelude.{ℕ, ◌≡◌, List, Option}
 use Rattle.std.specs.BTreeMap.{get_by}
 use Rattle.std.specs.Cmp.Lexicographic.{slice_cmp}
 use Rattle.std.specs.Ordering.{nat_cmp}
-use Rattle.c_check.specs.declared.numbers.Numbers.{Numbers}
-use Rattle.c_check.specs.Scope.{first_number}
+use Rattle.c_judge.specs.declared.numbers.Numbers.{Numbers}
+use Rattle.c_judge.specs.Scope.{first_number}
 
 -- the number that a map has for a name
 abbrev pub number_in : Numbers → List ℕ → Option ℕ

@@ -4,7 +4,7 @@ ghost use Rattle.ldb_words.specs.Word.{signed, word_of_signed};
 ghost use Rattle.c_store.specs.Bits.{low_byte, patterned};
 ghost use Rattle.c_source.specs.Operators.{on_ints as ints, on_unsigned as unsigned};
 ghost use Rattle.c_typing.specs.Plain.{plain, value_type};
-ghost use Rattle.c_check.specs.Values as value;
+ghost use Rattle.c_judge.specs.Values as value;
 
 use crate::part::Constant;
 use crate::types::is_unsigned;

@@ -1,8 +1,8 @@
 // Numbers of names: which is the first of a list with a name.
 ghost use Rattle.std.specs.Prelude.{◌≡◌, ◌<◌, ◌^◌, List, ℕ, length, map, IfOk, OnOk, Some, None, bytes_eq};
 ghost use Rattle.std.specs.Map.{update};
-ghost use Rattle.c_check.specs.Numbers.{number_in, Finds};
-ghost use Rattle.c_check.specs.Scope.{first_number};
+ghost use Rattle.c_judge.specs.Numbers.{number_in, Finds};
+ghost use Rattle.c_judge.specs.Scope.{first_number};
 
 use std::alloc::{AllocError, AllocFailed, Global};
 use std::collections::BTreeMap;
