@@ -11,14 +11,14 @@ use Rattle.machine_state.specs.State.{MachineState}
 use Rattle.mips_isa.specs.Codec.{insn_of}
 use Rattle.mips_isa.specs.Loaded.{first_state}
 use Rattle.mips_isa.specs.Step.{register}
-use Rattle.c_model.specs.declared.tree.Task.{Task}
+use Rattle.assign_tree.specs.declared.task.Task.{Task}
 use Rattle.mips_isa.specs.declared.insn.Insn.{Insn}
 use Rattle.mips_isa.specs.declared.insn.Insn.TheVariants.{Sw}
-use Rattle.c_model.specs.declared.tree.Task.TheVariants.{Pass, Store, Give}
-use Rattle.c_model.specs.declared.tree.Operand.{Operand}
-use Rattle.c_model.specs.declared.tree.Operand.TheVariants.{Object, Constant}
-use Rattle.c_model.specs.declared.tree.Sum.{Sum}
-use Rattle.c_model.specs.declared.tree.Sum.TheVariants.{One, Plus, Minus}
+use Rattle.assign_tree.specs.declared.task.Task.TheVariants.{Pass, Store, Give}
+use Rattle.assign_tree.specs.declared.task.Operand.{Operand}
+use Rattle.assign_tree.specs.declared.task.Operand.TheVariants.{Object, Constant}
+use Rattle.assign_tree.specs.declared.task.Sum.{Sum}
+use Rattle.assign_tree.specs.declared.task.Sum.TheVariants.{One, Plus, Minus}
 use Rattle.assign_run.specs.Code.{place_of, word_code, load_code, operand_code, join_code, two_code, sum_code, store_code, RESULT, task_code, tasks_code}
 use Rattle.obj_file.specs.Image.{IsImage}
 use Rattle.assign_run.specs.Standing.{Ready, Begins, Stands, AT_END, does_ints, object_words, source_state}

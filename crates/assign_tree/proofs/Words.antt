@@ -6,7 +6,7 @@ use Rattle.std.specs.Prelude.{slice_get}
 use Rattle.std.specs.List.{position_from}
 use Rattle.std.specs.Str.{bytes_eq}
 use Rattle.c_model.specs.Names.{is_name, object_of}
-use Rattle.assign_tree.specs.Spelled.{AreNames}
+use Rattle.assign_tree.specs.Assigning.{AreNames}
 
 pub by_bool : {A : Type 0} (b : Bool) → (b ≡ true → A) → (b ≡ false → A) → A
 by_bool true f g = f refl

@@ -1,5 +1,5 @@
 use Rattle.std.proofs.Common.{◌≡◌, ◌≤◌, ◌∙◌, ap, refl, subst, length, ℕ, List, arith}
-use Rattle.c_model.specs.declared.tree.Task.{Task}
+use Rattle.assign_tree.specs.declared.task.Task.{Task}
 use Rattle.assign_run.specs.Standing.{Begins}
 use Rattle.assign_run.proofs.Begun.{text_length, run_is_ready, run_is_first}
 use Rattle.assign_run.proofs.run.Run.new.Goals as goal

@@ -1,7 +1,6 @@
-// The tree of a program.
-use ldb_words::{Many, Text};
+// What is left of a program of assignments as it runs.
 
-/// Where a token begins: its line and its column, counted from 1. A column counts bytes.
+/// The place of a stopping point: its line and its column, counted from 1. A column counts bytes.
 #[derive(Clone, Copy, Debug, PartialEq, Eq)]
 pub struct Place {
     pub line: u32,
@@ -15,7 +14,7 @@ pub enum Operand {
     Constant(i32),
 }
 
-/// An expression: one operand, or two of them added or subtracted.
+/// One operand, or two of them added or subtracted.
 #[derive(Clone, Copy, Debug, PartialEq, Eq)]
 pub enum Sum {
     One(Operand),
@@ -32,9 +31,9 @@ pub enum Task {
     Give(Sum),
 }
 
-/// A program: the names of its objects in the order of their declarations, and the tasks of `main` in order.
-#[derive(Drop)]
-pub struct Program {
-    pub objects: Many<Text>,
-    pub body: Many<Task>,
+/// What ends a run: a stopping point, or the end of the program with its status.
+#[derive(Clone, Copy, Debug, PartialEq, Eq)]
+pub enum Event {
+    Stop(Place),
+    Exit(i32),
 }

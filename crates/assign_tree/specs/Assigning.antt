@@ -1,15 +1,14 @@
--- The program of C that a text of assignments spells.
+-- Programs of assignments: one file with objects of type `int`, and a `main` that is a list of assignments and a `return`.
 use Rattle.std.specs.Prelude.{◌≡◌, ℕ, suc, ◌<◌, List, [], ◌∷◌, length, codes, pos, true, false, None, Some, Box, Vec, slice_get}
 use Rattle.std.specs.declared.alloc.Global.{Global}
-use Rattle.c_model.specs.declared.tree.Place.{Place}
-use Rattle.c_model.specs.declared.tree.Operand.{Operand}
-use Rattle.c_model.specs.declared.tree.Operand.TheVariants.{Object, Constant}
-use Rattle.c_model.specs.declared.tree.Sum.{Sum}
-use Rattle.c_model.specs.declared.tree.Sum.TheVariants.{One, Plus, Minus}
-use Rattle.c_model.specs.declared.tree.Task.{Task}
-use Rattle.c_model.specs.declared.tree.Task.TheVariants.{Pass, Store, Give}
-use Rattle.c_model.specs.declared.tree.Program.{Program as Tasks}
-use Rattle.c_tree.specs.declared.types.CType.TheVariants.{Int, Void}
+use Rattle.assign_tree.specs.declared.task.Place.{Place}
+use Rattle.assign_tree.specs.declared.task.Operand.{Operand}
+use Rattle.assign_tree.specs.declared.task.Operand.TheVariants.{Object, Constant}
+use Rattle.assign_tree.specs.declared.task.Sum.{Sum}
+use Rattle.assign_tree.specs.declared.task.Sum.TheVariants.{One, Plus, Minus}
+use Rattle.assign_tree.specs.declared.task.Task.{Task}
+use Rattle.assign_tree.specs.declared.task.Task.TheVariants.{Pass, Store, Give}
+use Rattle.c_tree.specs.declared.types.CType.TheVariants.{Int}
 use Rattle.c_tree.specs.declared.typed.Site.{Site}
 use Rattle.c_tree.specs.declared.typed.Head.{Head}
 use Rattle.c_tree.specs.declared.typed.BinaryOp.TheVariants.{Add, Subtract}
@@ -19,46 +18,13 @@ use Rattle.c_tree.specs.declared.typed.Stmt.{Stmt, Row_of-Stmt}
 use Rattle.c_tree.specs.declared.typed.Stmt.TheVariants as stmt
 use Rattle.c_tree.specs.declared.rows.Program.{Program}
 use Rattle.c_tree.specs.declared.rows.Function.{Function}
-use Rattle.c_tree.specs.declared.rows.ObjectRow.{ObjectRow}
-use Rattle.c_tree.specs.declared.rows.SymbolRow.{SymbolRow}
 use Rattle.c_tree.specs.declared.rows.Point.{Point}
-use Rattle.c_tree.specs.declared.rows.Start.TheVariants as start
-use Rattle.c_tree.specs.declared.rows.Referent.TheVariants as refers
 use Rattle.c_tree.specs.Rows.{stmts}
 use Rattle.c_model.specs.Names.{is_name}
+use Rattle.c_model.specs.Rows.{object_rows, symbol_of, symbols_of, int_at}
+use Rattle.assign_tree.specs.Made.{Tasks}
 
 -- ---- rows
-
--- `int NAME ;`: an external object that holds 0 at first (C90 6.7.2)
-abbrev pub object_row : List ℕ → ObjectRow
-object_row name = record { name = name; unit = 0; is_static = false; ctype = Int; start = start.Number 0 ∷ [] }
-
-abbrev pub object_rows : List (List ℕ) → List ObjectRow
-object_rows [] = []
-object_rows (name ∷ names) = object_row name ∷ object_rows names
-
--- the number of an object's name, behind those of the three built-in functions; with the number of all objects it is that of `main`
-abbrev pub symbol_of : ℕ → ℕ
-symbol_of k = suc (suc (suc k))
-
--- the name of object k, whose scope is inside that of the name before it (C90 6.1.2.1)
-abbrev pub object_symbol : ℕ → List ℕ → SymbolRow
-object_symbol k name = record { name = name; ctype = Int; refers = refers.Object k; up = Some (suc (suc k)) }
-
-abbrev pub main_symbol : ℕ → SymbolRow
-main_symbol count = record { name = codes "main"; ctype = Int; refers = refers.Function 0; up = Some (suc (suc count)) }
-
--- the names of the objects from number k on, and `main`
-abbrev pub symbols_from : ℕ → List (List ℕ) → List SymbolRow
-symbols_from k [] = main_symbol k ∷ []
-symbols_from k (name ∷ names) = object_symbol k name ∷ symbols_from (suc k) names
-
-abbrev pub symbols_of : List (List ℕ) → List SymbolRow
-symbols_of names =
-    record { name = codes "getchar"; ctype = Int; refers = refers.Declared; up = None }
-    ∷ record { name = codes "putchar"; ctype = Int; refers = refers.Declared; up = Some 0 }
-    ∷ record { name = codes "exit"; ctype = Void; refers = refers.Declared; up = Some 1 }
-    ∷ symbols_from 0 names
 
 -- the stopping points in order, at each of which `main` is the innermost name
 abbrev pub point_row : ℕ → Place → Point
@@ -92,9 +58,6 @@ program_with file names tasks body = record {
 }
 
 -- ---- the block of `main`
-
-abbrev pub int_at : Site → Head
-int_at s = record { site = s; ctype = Int }
 
 -- at a place, so many bytes into the file
 abbrev pub site_at : ℕ → Place → Site
@@ -132,9 +95,13 @@ pub record AreNames (names : List (List ℕ)) : Type 0 where
   pub named : (k : ℕ) (w : List ℕ) → slice_get names k ≡ Some w → is_name w ≡ true
   pub differ : (i k : ℕ) (w : List ℕ) → slice_get names i ≡ Some w → slice_get names k ≡ Some w → i ≡ k
 
--- A text of this tree in this file spells the program. Where nodes lie in memory, and where operands begin, is left open.
-pub record IsSpelled (file : List ℕ) (tasks : Tasks) (p : Program) : Type 0 where
+-- The program of this file makes these assignments.
+pub record Makes (file : List ℕ) (tasks : Tasks) (p : Program) : Type 0 where
   pub names : AreNames tasks.objects
   pub body : Stmt
   pub block : IsBody (length tasks.objects) tasks.body body
   pub is : p ≡ program_with file tasks.objects tasks.body body
+
+-- a program of assignments
+abbrev pub IsAssigning : Program → Type 0
+IsAssigning p = (file : List ℕ) × (tasks : Tasks) × Makes file tasks p
