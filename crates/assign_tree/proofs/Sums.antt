@@ -67,6 +67,9 @@ int_fits (negsuc n) e = record { sfits = ltb-true n (2 ^ 31) e }
 pub signed_word : (z : ℤ) → is_int z ≡ true → signed (word_of_signed z) ≡ z
 signed_word z e = to_z-of_z w32 z (int_fits z e)
 
+pub signed_small : (n : ℕ) → n < 2147483648 → signed n ≡ pos n
+signed_small n l = signed_word (pos n) (lt-ltb n (2 ^ 31) l)
+
 -- what is checked is an `int`
 pub checked_int : (x z : ℤ) → checked x ≡ Ok z → is_int z ≡ true
 checked_int x z h = by (is_int x) refl h
