@@ -131,7 +131,7 @@ tasks_few objects (task ∷ tasks) = omega (arith, length-append (task_code obje
 same_length : (ws : List ℕ) (is : List Insn) → map insn_of ws ≡ map Some is → length ws ≡ length is
 same_length ws is e = sym (length-map ws insn_of) ∙ ap (λ xs. length xs) e ∙ length-map is Some
 
-pub text_length : (objects : ℕ) (tasks : List Task) (ws : List ℕ) → map insn_of ws ≡ map Some (tasks_code objects tasks ++ AT_END) → length tasks ≤ 65537
+pub text_length : (objects : ℕ) (tasks : List Task) (ws : List ℕ) → map insn_of ws ≡ map Some (tasks_code objects tasks ++ AT_END) → length tasks ≤ 131072
     → (0 < length ws) × (length ws < 2 ^ 22)
 text_length objects tasks ws e h =
     let n : length ws ≡ length (tasks_code objects tasks) + 1 = same_length ws (tasks_code objects tasks ++ AT_END) e ∙ length-append (tasks_code objects tasks) AT_END in
@@ -166,7 +166,7 @@ image_fits ws text statics t s some few =
 -- ---- a new run
 
 pub run_is_ready : (control : List Task) (ws view : List ℕ) (objects : ℕ) (m : MachineState) → map insn_of ws ≡ map Some (tasks_code objects control ++ AT_END)
-    → list_all does_ints control ≡ true → length control ≤ 65537 → objects ≤ 65536 → view ≡ ws → Begins view m → Ready control ws 0 objects m
+    → list_all does_ints control ≡ true → length control ≤ 131072 → objects ≤ 65536 → view ≡ ws → Begins view m → Ready control ws 0 objects m
 run_is_ready control ws view objects m code ints tasks few same begun =
     let b : Begins ws m = subst (λ (v : List ℕ). Begins v m) same begun in
     subst (Ready control ws 0 objects) (sym b.machine)

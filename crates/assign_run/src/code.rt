@@ -11,7 +11,7 @@ ghost use Rattle.assign_run.specs.Code.{NO_OP, place_of, word_code, load_code, o
 ghost use Rattle.assign_run.specs.Standing.{is_int_operand, has_ints, does_ints, AT_END};
 
 use byteorder::{ByteOrder, LittleEndian};
-use c_model::{Operand, Sum, Task};
+use assign_tree::{Operand, Sum, Task};
 use machine_state::DATA;
 use mips_isa::{Insn, Register, ShiftAmount, encode};
 use std::alloc::{AllocError, Global};

@@ -10,3 +10,4 @@ pub mod Spells
 pub mod Scope
 pub mod Standing
 pub mod Besides
+pub mod Blocks

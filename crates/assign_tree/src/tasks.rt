@@ -1,7 +1,7 @@
 // The tasks of a program of assignments.
-ghost use Rattle.std.specs.Prelude.{◌≡◌, ◌++◌, OnOk, IfOk};
-ghost use Rattle.c_tree.specs.declared.typed.Stmt.{Stmt};
-ghost use Rattle.assign_tree.specs.Made.{object_in, operand_in, sum_in, target_in, value_in, place_in, tasks_in, tasks_in_block, tasks_of};
+ghost use Rattle.std.specs.Prelude.{◌≡◌, ◌++◌, ◌∷◌, [], OnOk, IfOk};
+ghost use Rattle.assign_tree.specs.declared.task.Task.TheVariants.{Pass};
+ghost use Rattle.assign_tree.specs.Made.{object_in, operand_in, sum_in, target_in, value_in, place_in, tasks_in, tasks_in_all, tasks_in_block, tasks_of};
 
 use crate::task::{Operand, Place, Sum, Task};
 use c_tree::{BinaryOp, Program, Site, Stmt, Typed};
@@ -87,22 +87,46 @@ fn put_tasks(tasks: &mut Vec<Task>, statement: &Stmt) -> Result<(), AllocError>
     }
 }
 
+/// Adds what some statements do.
+fn put_all(tasks: &mut Vec<Task>, statements: &[Stmt]) -> Result<(), AllocError>
+    ensures { OnOk result (tasks.new.items ≡ tasks.old.items ++ tasks_in_all statements.now) }
+{
+    for statement in statements {
+        put_tasks(tasks, statement)?;
+    }
+    Ok(())
+}
+
+/// The tasks of some statements between two braces.
+fn braced(
+    alloc: Global,
+    brace: Place,
+    statements: &[Stmt],
+    close: Place,
+) -> Result<Vec<Task>, AllocError>
+    ensures { IfOk result (λ tasks. tasks.items ≡ Pass brace ∷ (tasks_in_all statements.now ++ Pass close ∷ [])) }
+{
+    let mut tasks = Vec::new(alloc);
+    tasks.push(Task::Pass(brace))?;
+    put_all(&mut tasks, statements)?;
+    tasks.push(Task::Pass(close))?;
+    Ok(tasks)
+}
+
 /// The tasks of a block: its `{`, its statements, and its `}`.
 fn block_tasks(alloc: Global, block: &Stmt) -> Result<Vec<Task>, AllocError>
     ensures { IfOk result (λ tasks. tasks.items ≡ tasks_in_block block.now) }
 {
-    let mut tasks = Vec::new(alloc);
-    if let Stmt::Block(site, _, statements, line, column) = block {
-        tasks.push(Task::Pass(place_in(*site)))?;
-        for statement in statements {
-            put_tasks(&mut tasks, statement)?;
+    match block {
+        Stmt::Block(site, _, statements, line, column) => {
+            let close = Place {
+                line: *line,
+                column: *column,
+            };
+            braced(alloc, place_in(*site), statements, close)
         }
-        tasks.push(Task::Pass(Place {
-            line: *line,
-            column: *column,
-        }))?;
+        _ => Ok(Vec::new(alloc)),
     }
-    Ok(tasks)
 }
 
 /// The tasks of `main` in order.
