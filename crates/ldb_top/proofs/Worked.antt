@@ -2,11 +2,11 @@
 use Rattle.std.proofs.Common.{◌≡◌, refl, ℕ, [], ◌∷◌, Option, Some, None, pos}
 use Rattle.std.specs.Prelude.{Box, codes, slice_get}
 use Rattle.std.specs.declared.alloc.Global.{Global}
-use Rattle.c_model.specs.declared.tree.Place.{Place}
-use Rattle.c_model.specs.declared.tree.Operand.TheVariants.{Object, Constant}
-use Rattle.c_model.specs.declared.tree.Sum.TheVariants.{One}
-use Rattle.c_model.specs.declared.tree.Task.TheVariants.{Pass, Store, Give}
-use Rattle.c_model.specs.declared.tree.Program.{Program as Tasks}
+use Rattle.assign_tree.specs.declared.task.Place.{Place}
+use Rattle.assign_tree.specs.declared.task.Operand.TheVariants.{Object, Constant}
+use Rattle.assign_tree.specs.declared.task.Sum.TheVariants.{One}
+use Rattle.assign_tree.specs.declared.task.Task.TheVariants.{Pass, Store, Give}
+use Rattle.assign_tree.specs.Made.{Tasks}
 use Rattle.c_model.specs.Grammar.{Accepted, reading_of}
 use Rattle.c_tree.specs.declared.rows.Function.{Function}
 use Rattle.c_tree.specs.declared.typed.Stmt.{Stmt}
@@ -14,7 +14,7 @@ use Rattle.c_tree.specs.declared.typed.Stmt.TheVariants.{Break}
 use Rattle.c_session.proofs.AssignmentSession.{program}
 use Rattle.c_session.proofs.Trees.{somewhere}
 use Rattle.c_session.specs.declared.command.Command.TheVariants as command
-use Rattle.assign_tree.specs.Spelled.{program_with}
+use Rattle.assign_tree.specs.Assigning.{program_with}
 use Rattle.ldb_top.specs.Command.{commands_of}
 
 abbrev place : ℕ → ℕ → Place
