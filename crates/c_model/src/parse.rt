@@ -387,11 +387,7 @@ fn read_rest(
 }
 
 /// Reads `void ) { .. }` to the end of the text.
-fn read_main(
-    alloc: Global,
-    names: &[Text],
-    scanner: &mut Scanner<'_>,
-) -> Result<Main, ParseFault>
+fn read_main(alloc: Global, names: &[Text], scanner: &mut Scanner<'_>) -> Result<Main, ParseFault>
     requires names { length names.now ≤ 65536 }
     requires few { length scanner.old ≤ 65536 }
     ensures ok { IfOk result (IsMain (body_of names.now scanner.old)) }
@@ -440,22 +436,11 @@ fn block_of(alloc: Global, main: Main) -> Stmt
         sites: _,
         trees,
     } = main;
-    Stmt::Block(
-        brace,
-        Many::new(alloc),
-        trees,
-        close.line,
-        close.column,
-    )
+    Stmt::Block(brace, Many::new(alloc), trees, close.line, close.column)
 }
 
 /// The rows of the program of some names and a block.
-fn program_of(
-    alloc: Global,
-    file: &[u8],
-    names: &[Text],
-    main: Main,
-) -> Result<Program, AllocError>
+fn program_of(alloc: Global, file: &[u8], names: &[Text], main: Main) -> Result<Program, AllocError>
     requires names { length names.now ≤ 65536 }
     requires points { length main.sites.items ≤ 65536 }
     ensures { IfOk result (λ p. (tree : Stmt) × IsBlockOf main tree × (p ≡ program_with file.now names.now (main.brace ∷ (main.sites.items ++ main.close ∷ [])) tree)) }

@@ -3,9 +3,7 @@ ghost use Rattle.std.specs.Prelude.{◌≡◌, ◌<◌, ◌≤◌, ◌^◌, ◌�
 ghost use Rattle.c_tree.specs.declared.rows.Referent.TheVariants.{Declared};
 ghost use Rattle.c_model.specs.Rows.{symbol_of, object_row, object_rows, object_symbol, main_symbol, symbols_of, point_row, point_rows, numbers_from, main_of};
 
-use c_tree::{
-    CType, Function, ObjectRow, Point, Referent, Site, Start, Stmt, SymbolRow, UnitRow,
-};
+use c_tree::{CType, Function, ObjectRow, Point, Referent, Site, Start, Stmt, SymbolRow, UnitRow};
 use ldb_words::{Many, Text};
 use std::alloc::{AllocError, Global};
 
