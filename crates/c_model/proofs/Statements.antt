@@ -1,5 +1,5 @@
 -- Statements that are read one after another.
-use Rattle.std.proofs.Common.{◌≡◌, ◌<◌, ◌≤◌, ℕ, List, [], ◌∷◌, ◌++◌, length, Option, None, Some, refl, sym, ap, ◌∙◌, subst, suc, ◌+◌, append_assoc, arith, Box, Vec, Bool, true, false}
+use Rattle.std.proofs.Common.{◌≡◌, ◌≤◌, ℕ, List, [], ◌∷◌, ◌++◌, length, Option, None, Some, refl, sym, ap, ◌∙◌, subst, suc, ◌+◌, append_assoc, arith, Box, Vec, Bool, true, false}
 use Rattle.std.specs.Prelude.{codes, IfOk, Result, Ok, Err}
 use Rattle.std.specs.Str.{bytes_eq}
 use denote.RawPtr.{null_ptr}

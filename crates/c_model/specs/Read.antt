@@ -8,7 +8,7 @@ use Rattle.c_model.specs.declared.parse.Placed.{Placed}
 use Rattle.c_model.specs.declared.parse.Main.{Main}
 use Rattle.c_model.specs.declared.parse.ProgramFault.{ProgramFault}
 use Rattle.c_model.specs.declared.parse.ProgramFault.TheVariants.{Later as IsLater, Unknown as IsUnknown, NoMemory}
-use Rattle.c_model.specs.Grammar.{Sum, Statement, Body, Reading, Accepted, Unknown, Later, reading_of, unknown_in}
+use Rattle.c_model.specs.Grammar.{Sum, Statement, Body, Unknown, Later, reading_of}
 use Rattle.c_model.specs.Spelled.{IsTree, AreTrees, IsBlock, sites_of, points_of, IsSpelled}
 use Rattle.c_model.specs.Rows.{program_with}
 

@@ -1,6 +1,6 @@
 use Rattle.std.proofs.Common.{◌≡◌, ◌≤◌, ◌∙◌, ap, sym, subst, List, ℕ, [], Some, length, arith}
 use Rattle.c_model.specs.Scan.{Token, tokens_of}
-use Rattle.c_model.specs.Grammar.{Body, declared_from, body_of, unknown_in}
+use Rattle.c_model.specs.Grammar.{declared_from, body_of, unknown_in}
 use Rattle.c_model.specs.Read.{IsMain, IsKnown}
 use Rattle.c_model.proofs.Whole.{read_is}
 use Rattle.c_model.proofs.parse.read_program.Goals as goal

@@ -1,9 +1,8 @@
-use Rattle.std.proofs.Common.{◌≡◌, ◌∙◌, Ok, ap, map, subst, ℕ}
+use Rattle.std.proofs.Common.{map, subst, ℕ}
 use Rattle.std.specs.Prelude.{IfOk}
 use Rattle.c_model.specs.Seen.{seen}
-use Rattle.c_model.specs.declared.parse.Placed.{Placed}
-use Rattle.c_model.specs.Grammar.{Sum, sum_of, number_in, store_of}
-use Rattle.c_model.specs.Read.{IsSum, IsPlaced}
+use Rattle.c_model.specs.Grammar.{sum_of, store_of}
+use Rattle.c_model.specs.Read.{IsPlaced}
 use Rattle.c_model.proofs.Statements.{stores_all}
 use Rattle.c_model.proofs.parse.stored.Goals as goal
 

@@ -1,4 +1,4 @@
-use Rattle.std.proofs.Common.{◌≡◌, ◌≤◌, length, map, sym, arith}
+use Rattle.std.proofs.Common.{◌≡◌, ◌≤◌, length, map, arith}
 use Rattle.std.proofs.lemmas.List.{length-map}
 use Rattle.c_model.specs.Seen.{seen}
 use Rattle.c_model.proofs.Statements.{two_tokens, many_tokens}

@@ -1,4 +1,4 @@
-use Rattle.std.proofs.Common.{◌≡◌, ◌≤◌, ◌++◌, drop, length}
+use Rattle.std.proofs.Common.{◌≡◌, ◌++◌, drop}
 use Rattle.c_model.specs.Rows.{symbols_from, symbols_of}
 use Rattle.c_model.proofs.rows.symbols_of.Given as goal
 
