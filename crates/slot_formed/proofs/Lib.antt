@@ -1,0 +1,5 @@
+mod Lists
+mod Sizes
+mod Types
+mod Homes
+mod Good

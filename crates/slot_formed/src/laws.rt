@@ -1,0 +1,26 @@
+// What holds of the slot code of accepted programs.
+ghost use Rattle.std.specs.Prelude.{◌≤◌, ◌*◌};
+ghost use Rattle.c_tree.specs.declared.rows.Program.{Program};
+ghost use Rattle.c_typing.specs.Accepted.{IsAccepted};
+ghost use Rattle.slot_ir.specs.WellFormed.{operators_of_a_token, operators_in, IsWellFormed};
+ghost use Rattle.slot_formed.specs.Code.{program_code};
+ghost use Rattle.slot_formed.specs.Tokens.{program_tokens};
+
+use c_tree::leaves_ascend;
+use slot_gen::{code_of_an_expression_is_short, code_takes_few_temporaries};
+
+/// The slot code of a program has at most so many operators for each token that the program is written with.
+pub fn code_of_a_program_is_short()
+    ensures { (p : Program) → operators_in (program_code p) ≤ operators_of_a_token * program_tokens p }
+{
+    code_of_an_expression_is_short();
+}
+
+/// The slot code of an accepted program that is written with at most 40,000 tokens is well formed.
+pub fn code_is_well_formed()
+    ensures { (p : Program) → IsAccepted p → program_tokens p ≤ 40000 → IsWellFormed (program_code p) }
+{
+    code_of_a_program_is_short();
+    code_takes_few_temporaries();
+    leaves_ascend();
+}

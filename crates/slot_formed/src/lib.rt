@@ -1,0 +1,6 @@
+//! The slot code of an accepted program is well formed.
+#![tactic(auto)]
+
+mod laws;
+
+pub use laws::{code_is_well_formed, code_of_a_program_is_short};
