@@ -3,3 +3,5 @@ mod Sizes
 mod Types
 mod Homes
 mod Good
+mod Names
+mod Exprs
