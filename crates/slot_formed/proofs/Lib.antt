@@ -5,3 +5,4 @@ mod Homes
 mod Good
 mod Names
 mod Exprs
+mod Stmts

@@ -186,7 +186,7 @@ module _ (p : Program) (accepted : IsAccepted p) (ascend : (t : CType) → LieIn
   there : (x r : ℕ) → register_of p f x ≡ Some r → InRegister fn.locals x r
   there x r e = subst (λ ls. InRegister ls x r) (ap rows_in here) (register_there (rows_in (slice_get p.functions f)) 0 x r e)
 
-  registers_if : (x : ℕ) (o : Option ℕ) → register_of p f x ≡ o → Registers p f fn n (if_register x o)
+  pub registers_if : (x : ℕ) (o : Option ℕ) → register_of p f x ≡ o → Registers p f fn n (if_register x o)
   registers_if x None e = tt
   registers_if x (Some r) e = (r, e)
 
