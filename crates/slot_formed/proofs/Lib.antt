@@ -6,3 +6,5 @@ mod Good
 mod Names
 mod Exprs
 mod Stmts
+mod Stops
+mod Short
