@@ -8,3 +8,5 @@ mod Exprs
 mod Stmts
 mod Stops
 mod Short
+mod Rows
+mod Whole

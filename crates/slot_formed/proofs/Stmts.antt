@@ -308,7 +308,7 @@ module _ (p : Program) (accepted : IsAccepted p) (ascend : (t : CType) → LieIn
 
   -- ---- a function's body
 
-  zero_good : (t : CType) → Good p f fn n (zero_code t)
+  pub zero_good : (t : CType) → Good p f fn n (zero_code t)
   zero_good Char = tt
   zero_good Int = tt
   zero_good Unsigned = tt

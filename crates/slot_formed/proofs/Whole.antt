@@ -1,0 +1,299 @@
+-- The code of an accepted program is well formed.
+use Rattle.std.proofs.Common.{◌≡◌, refl, sym, ap, subst, ◌∙◌, arith, ℕ, suc, zero, ◌+◌, ◌*◌, ◌<◌, ◌≤◌, List, [], ◌∷◌, ◌++◌, length, length-append, append_assoc, map, Bool, true, false, not, ◌&&◌, ◌||◌, Option, Some, None, true≢false, slice_get, ◌⊎◌, inl, inr}
+use Rattle.std.specs.Prelude.{◌==◌}
+use Rattle.std.specs.List.{AllByRecursion}
+use Rattle.std.proofs.lemmas.List.{length-map}
+use Rattle.c_tree.specs.declared.types.CType.{CType}
+use Rattle.c_tree.specs.declared.typed.Stmt.{Stmt}
+use Rattle.c_tree.specs.declared.typed.Stmt.TheVariants.{Block'}
+use Rattle.c_tree.specs.declared.rows.Program.{Program}
+use Rattle.c_tree.specs.declared.rows.Function.{Function}
+use Rattle.c_tree.specs.declared.rows.Local.{Local}
+use Rattle.c_tree.specs.declared.rows.ObjectRow.{ObjectRow}
+use Rattle.c_tree.specs.Layout.{size_of, leaves_of}
+use Rattle.c_tree.specs.Ordered.{LieIn}
+use Rattle.c_tree.specs.Points.{points_in}
+use Rattle.c_source.specs.Blocks.{declared_in, statements_in, locals_in as rows_in}
+use Rattle.c_source.specs.Control.{first_of, last_of, outermost_of}
+use Rattle.c_source.specs.Begin.{main_from}
+use Rattle.c_typing.specs.Plain.{plain, same, Int}
+use Rattle.c_typing.specs.Statements.{in_function, local_numbers, locals_of, locals_of_row}
+use Rattle.c_typing.specs.Accepted.{numbers, is_called_main, IsBlock, IsFunction as IsItsFunction, IsAccepted}
+use Rattle.slot_ir.specs.declared.code.Home.TheVariants.{Block, Register}
+use Rattle.slot_ir.specs.declared.code.SlotCode.{SlotCode}
+use Rattle.slot_ir.specs.declared.code.SlotFunction.{SlotFunction}
+use Rattle.slot_ir.specs.declared.code.SlotLocal.{SlotLocal}
+use Rattle.slot_ir.specs.declared.code.SlotOp.{SlotOp}
+use Rattle.slot_ir.specs.declared.code.SlotOp.TheVariants as op
+use Rattle.slot_ir.specs.WellFormed.{operators_in, IsFunction, IsWellFormed, NamesWhatIsThere, PlacesOf}
+use Rattle.slot_gen.specs.Expressions.{registers_from, register_at, register_of}
+use Rattle.slot_gen.specs.Statements.{nowhere, zeros_code, inits_code, stmts_code, zero_code, body_place, end_place, function_code}
+use Rattle.slot_gen.specs.Bounds.{function_temps, IsBelow, AreBelow}
+use Rattle.slot_formed.specs.Code.{local_row, local_rows, object_row, function_row, function_rows, stop_place, program_code}
+use Rattle.slot_formed.specs.Tokens.{program_tokens}
+use Rattle.slot_formed.proofs.Lists.{some_same, all_append, all_left, all_right, below_length, and_parts}
+use Rattle.slot_formed.proofs.Types.{function_there}
+use Rattle.slot_formed.proofs.Homes.{InRegister, register_there, local_there, locals_length, structs_length, row_there}
+use Rattle.slot_formed.proofs.Good.{Among, Good, G}
+use Rattle.slot_formed.proofs.Names.{numbers_length}
+use Rattle.slot_formed.proofs.Stmts.{numbers_of, body_of_good, zero_good}
+use Rattle.slot_formed.proofs.Stops.{Has, HasAll, in_left, in_right, later, stop_found, body_of_has}
+use Rattle.slot_formed.proofs.Rows.{IsLocal, locals_good, objects_good, static_few, main_there}
+
+-- ---- lists of numbers
+
+some_at : {A : Type 0} (xs : List A) (i : ℕ) → i < length xs → (x : A) × (slice_get xs i ≡ Some x)
+some_at [] i h = absurd (omega (arith, h))
+some_at (x ∷ xs) zero h = (x, refl)
+some_at (x ∷ xs) (suc i) h = some_at xs i (omega (arith, h))
+
+numbers_below : (from count end : ℕ) → from + count ≡ end → AllByRecursion (λ x. x < end) (numbers from count)
+numbers_below from zero end e = tt
+numbers_below from (suc count) end e = (omega (arith, e), numbers_below (suc from) count end (omega (arith, e)))
+
+among_more : (q r : ℕ) (qs rs : List ℕ) → AllByRecursion (λ x. Among x qs) rs → AllByRecursion (λ x. Among x (r ∷ qs)) rs
+among_more q r qs [] h = tt
+among_more q r qs (x ∷ rs) h = (inr h.0, among_more q r qs rs h.1)
+
+among_self : (qs : List ℕ) → AllByRecursion (λ q. Among q qs) qs
+among_self [] = tt
+among_self (q ∷ qs) = (inl refl, among_more q q qs qs (among_self qs))
+
+last_among : (q : ℕ) (qs : List ℕ) → Among (last_of (q ∷ qs)) (q ∷ qs)
+last_among q [] = inl refl
+last_among q (r ∷ qs) = inr (last_among r qs)
+
+last_behind : (q last : ℕ) (qs : List ℕ) → last_of (q ∷ (qs ++ last ∷ [])) ≡ last
+last_behind q last [] = refl
+last_behind q last (r ∷ qs) = last_behind r last qs
+
+-- ---- operators
+
+abbrev BlockIn : Option SlotLocal → Type 0
+BlockIn None = ⊥
+BlockIn (Some l) = l.home ≡ Block
+
+abbrev RegisterIn : Option SlotLocal → Type 0
+RegisterIn None = ⊥
+RegisterIn (Some l) = elim l.home as (λ h. Type 0) [ Block ↦ ⊥ | Register r ↦ r < 8 ]
+
+module _ (p : Program) (accepted : IsAccepted p) (ascend : (t : CType) → LieIn 0 (leaves_of p.defs t) (size_of p.defs t)) (f : ℕ) (fn : Function) (here : slice_get p.functions f ≡ Some fn) (n : ℕ) (size : n ≡ length (function_code p f fn)) where
+  abbrev c : SlotCode
+  c = program_code p
+
+  abbrev row : SlotFunction
+  row = function_row p f fn
+
+  abbrev rs : List (Option ℕ)
+  rs = registers_from fn.locals 0
+
+  register_here : (x : ℕ) → register_of p f x ≡ register_at rs x
+  register_here x = ap (λ o. register_at (registers_from (rows_in o) 0) x) here
+
+  block_there : (x : ℕ) → x < length fn.locals → register_of p f x ≡ None → BlockIn (slice_get row.locals x)
+  block_there x h e =
+      let l = some_at fn.locals x h in
+      let none : register_at rs x ≡ None = sym (register_here x) ∙ e in
+      subst BlockIn (sym (local_there p.defs fn.locals rs x l.0 l.1)) (subst (λ r. BlockIn (Some (local_row p.defs l.0 r))) (sym none) refl)
+
+  register_in_there : (x r : ℕ) → register_of p f x ≡ Some r → RegisterIn (slice_get row.locals x)
+  register_in_there x r e =
+      let some : register_at rs x ≡ Some r = sym (register_here x) ∙ e in
+      let q = register_there fn.locals 0 x r some in
+      subst RegisterIn (sym (local_there p.defs fn.locals rs x q.0 q.1)) (subst (λ r. RegisterIn (Some (local_row p.defs q.0 r))) (sym some) q.3)
+
+  abbrev TakesIn : Option SlotFunction → ℕ → Type 0
+  TakesIn None m = ⊥
+  TakesIn (Some g) m = (m ≡ g.params) × (m ≤ 16)
+
+  takes_there : (g m : ℕ) (h : Function) → slice_get p.functions g ≡ Some h → m ≡ h.params → TakesIn (slice_get c.functions g) m
+  takes_there g m h e k =
+      let few = (function_there p accepted g h e).few in
+      subst (λ o. TakesIn o m) (sym (row_there p g h e)) (k, omega (arith, few, k))
+
+  lands : (place : ℕ) → place < n → place < length row.code
+  lands place h = omega (arith, h, size)
+
+  names_op : (o : SlotOp) → IsBelow (function_temps fn) o → Good p f fn n o → NamesWhatIsThere c row o
+  names_op (op.Const d b) t g = t
+  names_op (op.Null d) t g = t
+  names_op (op.StaticAddress d o) t g = (t, subst (λ m. o < m) (sym (length-map p.objects (object_row p))) g)
+  names_op (op.TextAddress d k) t g = (t, g)
+  names_op (op.LocalAddress d x) t g = (t, block_there x g.0 g.1)
+  names_op (op.Load d i k a) t g = t
+  names_op (op.Store i j k) t g = t
+  names_op (op.ReadRegister d x k a) t g = (t, register_in_there x g.0 g.1)
+  names_op (op.WriteRegister j x k) t g = (t, register_in_there x g.0 g.1)
+  names_op (op.Convert d a) t g = t
+  names_op (op.Unary d o) t g = t
+  names_op (op.Binary d i j o) t g = t
+  names_op (op.Compare d i j o) t g = t
+  names_op (op.Index d i j s u back) t g = (t.0, t.1, t.2, g)
+  names_op (op.Distance d i j s) t g = (t.0, t.1, t.2, g.0, g.1)
+  names_op (op.Offset d b) t g = (t, g)
+  names_op (op.Take d i) t g = t
+  names_op (op.Jump place) t g = lands place g
+  names_op (op.JumpIfZero d place) t g = (t, lands place g)
+  names_op (op.JumpIfNotZero d place) t g = (t, lands place g)
+  names_op (op.JumpIfEqual d b place) t g = (t, lands place g)
+  names_op (op.Call d k m) t g = (t.0, t.1, takes_there k m g.0 g.1 g.2)
+  names_op (op.Return d) t g = t
+  names_op (op.Stop q) t g = g
+  names_op (op.Move i j s) t g = (t.0, t.1, subst (λ m. s < m) (sym (structs_length p.defs 0 p.defs)) g)
+  names_op (op.Zero x) t g = subst (λ m. x < m) (sym (locals_length p.defs fn.locals rs)) g
+  names_op (op.Leave m) t g = subst (λ k. m ≤ k) (sym (locals_length p.defs fn.locals rs)) g
+  names_op (op.GetChar d) t g = t
+  names_op (op.PutChar d) t g = t
+  names_op (op.Exit d) t g = t
+
+  names_all : (l : List SlotOp) → AreBelow (function_temps fn) l → G p f fn n l → AllByRecursion (NamesWhatIsThere c row) l
+  names_all [] t g = tt
+  names_all (o ∷ l) t g = (names_op o t.0 g.0, names_all l t.1 g.1)
+
+  places_all : (qs : List ℕ) → HasAll row.code qs → PlacesOf c row qs (map (λ q. stop_place q row.code) qs)
+  places_all [] h = tt
+  places_all (q ∷ qs) h = (stop_found q row.code h.0, places_all qs h.1)
+
+  -- ---- the function
+
+  mine : IsItsFunction p f fn
+  mine = function_there p accepted f fn here
+
+  locals_count : length fn.locals ≡ fn.params + length (locals_of fn.body)
+  locals_count =
+      sym (numbers_length 0 (length fn.locals)) ∙ ap (λ (xs : List ℕ). length xs) mine.declared ∙ length-append (numbers 0 fn.params) (locals_of fn.body) ∙ ap (λ m. m + length (locals_of fn.body)) (numbers_length 0 fn.params)
+
+  outermost_few : (b : Stmt) → IsBlock b → length (declared_in b) ≤ length (locals_of b)
+  outermost_few (Block' x ds y r l k) h = omega (arith, numbers_of ds, length-append (local_numbers ds) (locals_of_row r))
+  outermost_few _ h = absurd h
+
+  locals_below : AllByRecursion (λ x. x < length fn.locals) (locals_of fn.body)
+  locals_below =
+      let zero_from : 0 + length fn.locals ≡ length fn.locals = omega arith in
+      all_right (λ x. x < length fn.locals) (numbers 0 fn.params) (locals_of fn.body) (subst (λ xs. AllByRecursion (λ x. x < length fn.locals) xs) mine.declared (numbers_below 0 (length fn.locals) (length fn.locals) zero_from))
+
+  among_there : AllByRecursion (λ q. Among q fn.points) fn.points
+  among_there = among_self fn.points
+
+  module _ (first last : ℕ) (points : fn.points ≡ first ∷ (points_in fn.body ++ last ∷ [])) where
+    body_among : AllByRecursion (λ q. Among q fn.points) (points_in fn.body)
+    body_among = all_left (λ q. Among q fn.points) (points_in fn.body) (last ∷ []) ((subst (λ qs. AllByRecursion (λ q. Among q fn.points) qs) points among_there).1)
+
+    first_same : first_of fn.points ≡ first
+    first_same = ap first_of points
+
+    last_same : last_of fn.points ≡ last
+    last_same = ap last_of points ∙ last_behind first last (points_in fn.body)
+
+    first_among : Among (first_of fn.points) fn.points
+    first_among = subst (λ qs. Among (first_of qs) qs) (sym points) (inl refl)
+
+    end_among : Among (last_of fn.points) fn.points
+    end_among = subst (λ qs. Among (last_of qs) qs) (sym points) (last_among first (points_in fn.body ++ last ∷ []))
+
+    abbrev zeros : List SlotOp
+    zeros = zeros_code (declared_in fn.body)
+
+    abbrev inits : List SlotOp
+    inits = inits_code p f (body_place + length zeros) (declared_in fn.body)
+
+    abbrev code : List SlotOp
+    code = stmts_code p f nowhere (outermost_of fn) (body_place + length zeros + length inits) (statements_in fn.body)
+
+    abbrev ending : List SlotOp
+    ending = zero_code fn.result ∷ op.Jump end_place ∷ []
+
+    code_size : n ≡ 5 + (length zeros + (length inits + (length code + 2)))
+    code_size = omega (arith, size, length-append zeros (inits ++ (code ++ ending)), length-append inits (code ++ ending), length-append code ending)
+
+    ends : end_place < n
+    ends = omega (arith, code_size)
+
+    function_good : G p f fn n (function_code p f fn)
+    function_good =
+        let count : fn.params + length (locals_of fn.body) ≤ length fn.locals = omega (arith, locals_count) in
+        let q = body_of_good p accepted ascend f fn here n ends fn.body (outermost_of fn) body_place mine.block mine.body refl count locals_below body_among (omega (arith, code_size)) in
+        let tail : G p f fn n ending = (zero_good p accepted ascend f fn here n ends fn.result, (ends, tt)) in
+        let body : G p f fn n (zeros ++ (inits ++ (code ++ ending))) = all_append (Good p f fn n) zeros _ q.0 (all_append (Good p f fn n) inits _ q.1 (all_append (Good p f fn n) code ending q.2 tail)) in
+        let outermost : outermost_of fn ≤ length fn.locals = omega (arith, locals_count, outermost_few fn.body mine.block) in
+        let five : body_place < n = omega (arith, code_size) in
+        (first_among, (five, (outermost, (end_among, (tt, body)))))
+
+    behind_start : (qs : List ℕ) → HasAll (zeros ++ (inits ++ (code ++ ending))) qs → HasAll (function_code p f fn) qs
+    behind_start qs h =
+        let body : List SlotOp = zeros ++ (inits ++ (code ++ ending)) in
+        let e4 : List SlotOp = op.Return 0 ∷ body in
+        let e3 : List SlotOp = op.Stop (last_of fn.points) ∷ e4 in
+        let e2 : List SlotOp = op.Leave (outermost_of fn) ∷ e3 in
+        let e1 : List SlotOp = op.Jump body_place ∷ e2 in
+        later (op.Stop (first_of fn.points)) e1 qs (later (op.Jump body_place) e2 qs (later (op.Leave (outermost_of fn)) e3 qs (later (op.Stop (last_of fn.points)) e4 qs (later (op.Return 0) body qs h))))
+
+    has_end : (l : List SlotOp) (qs : List ℕ) → HasAll (zeros ++ (inits ++ code)) qs → HasAll (zeros ++ (inits ++ (code ++ ending))) qs
+    has_end l qs h =
+        let regroup : (zeros ++ (inits ++ code)) ++ ending ≡ zeros ++ (inits ++ (code ++ ending)) = simp append_assoc in
+        subst (λ l. HasAll l qs) regroup (in_left (zeros ++ (inits ++ code)) ending qs h)
+
+    points_has : HasAll (function_code p f fn) fn.points
+    points_has =
+        let in_body : HasAll (function_code p f fn) (points_in fn.body) =
+        behind_start (points_in fn.body) (has_end [] (points_in fn.body) (body_of_has p f (plain fn.result) fn.body (numbers 0 fn.params) in_function (outermost_of fn) body_place mine.block mine.body)) in
+        let has_first : Has (function_code p f fn) first = inl (ap op.Stop first_same) in
+        let has_last : Has (function_code p f fn) last = inr (inr (inr (inl (ap op.Stop last_same)))) in
+        subst (λ qs. HasAll (function_code p f fn) qs) (sym points) (has_first, all_append (Has (function_code p f fn)) (points_in fn.body) (last ∷ []) in_body (has_last, tt))
+
+    function_formed : (below : AreBelow (function_temps fn) (function_code p f fn)) → IsFunction c row
+    function_formed below =
+        (
+          omega (arith, code_size, size),
+          omega (arith, locals_count, locals_length p.defs fn.locals rs),
+          mine.few,
+          locals_good p accepted ascend fn.locals rs mine.locals,
+          names_all (function_code p f fn) below function_good,
+          places_all fn.points points_has,
+        )
+
+-- ---- the program
+
+module _ (p : Program) (accepted : IsAccepted p) (ascend : (t : CType) → LieIn 0 (leaves_of p.defs t) (size_of p.defs t)) (below : (f : ℕ) (fn : Function) → AreBelow (function_temps fn) (function_code p f fn)) where
+  formed_there : (f : ℕ) (fn : Function) → slice_get p.functions f ≡ Some fn → IsFunction (program_code p) (function_row p f fn)
+  formed_there f fn e =
+      let q = (function_there p accepted f fn e).points in
+      function_formed p accepted ascend f fn e (length (function_code p f fn)) refl q.0 q.1 q.2 (below f fn)
+
+  rows_formed : (n : ℕ) (fs : List Function) → ((i : ℕ) (fn : Function) → slice_get fs i ≡ Some fn → IsFunction (program_code p) (function_row p (i + n) fn)) → AllByRecursion (IsFunction (program_code p)) (function_rows p n fs)
+  rows_formed n [] go = tt
+  rows_formed n (fn ∷ fs) go =
+      let z : 0 + n ≡ n = omega arith in
+      (
+        subst (λ m. IsFunction (program_code p) (function_row p m fn)) z (go 0 fn refl),
+        rows_formed (suc n) fs λ i g e. let w : suc i + n ≡ i + suc n = omega arith in subst (λ m. IsFunction (program_code p) (function_row p m g)) w (go (suc i) g e),
+      )
+
+  abbrev ParamsIn : Option SlotFunction → Type 0
+  ParamsIn None = ⊥
+  ParamsIn (Some f) = f.params ≡ 0
+
+  same_number : (x y : ℕ) → (x == y) ≡ true → x ≡ y
+  same_number x y h = grind (arith, h)
+
+  main_params : (b a : Bool) → not b || a ≡ true → b ≡ true → a ≡ true
+  main_params true a h e = h
+  main_params false a h e = absurd (true≢false (sym e))
+
+  main_formed : ParamsIn (slice_get (program_code p).functions (main_from 0 p.functions))
+  main_formed =
+      let q = main_there p accepted ascend 0 p.functions accepted.main in
+      let i : main_from 0 p.functions ≡ q.0 = omega (arith, q.2) in
+      let m = (function_there p accepted q.0 q.1 q.3).main in
+      let none = (and_parts (same (plain q.1.result) Int) (q.1.params == 0) (main_params (is_called_main q.1) (same (plain q.1.result) Int && (q.1.params == 0)) m q.4)).1 in
+      subst (λ k. ParamsIn (slice_get (program_code p).functions k)) (sym i) (subst ParamsIn (sym (row_there p q.0 q.1 q.3)) (same_number q.1.params 0 none))
+
+  pub well_formed : program_tokens p ≤ 40000 → operators_in (program_code p) ≤ 6 * program_tokens p → IsWellFormed (program_code p)
+  well_formed few short =
+      (
+        main_formed,
+        rows_formed 0 p.functions (λ i fn e. let z : i ≡ i + 0 = omega arith in subst (λ m. IsFunction (program_code p) (function_row p m fn)) z (formed_there i fn e)),
+        objects_good p accepted ascend p.objects accepted.objects,
+        static_few p accepted ascend,
+        omega (arith, few, short),
+      )
