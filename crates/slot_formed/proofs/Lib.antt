@@ -10,3 +10,4 @@ mod Stops
 mod Short
 mod Rows
 mod Whole
+mod Keeps

@@ -28,6 +28,7 @@ use Rattle.slot_ir.specs.declared.code.SlotOp.TheVariants as op
 use Rattle.slot_ir.specs.WellFormed.{operators_in, IsFunction, IsWellFormed, NamesWhatIsThere, PlacesOf}
 use Rattle.slot_gen.specs.Expressions.{registers_from, register_at, register_of}
 use Rattle.slot_gen.specs.Statements.{nowhere, zeros_code, inits_code, stmts_code, zero_code, body_place, end_place, function_code}
+use Rattle.slot_gen.specs.Correct.{HasMain}
 use Rattle.slot_gen.specs.Bounds.{function_temps, IsBelow, AreBelow}
 use Rattle.slot_formed.specs.Code.{local_row, local_rows, object_row, function_row, function_rows, stop_place, program_code}
 use Rattle.slot_formed.specs.Tokens.{program_tokens}
@@ -280,13 +281,16 @@ module _ (p : Program) (accepted : IsAccepted p) (ascend : (t : CType) → LieIn
   main_params true a h e = h
   main_params false a h e = absurd (true≢false (sym e))
 
-  main_formed : ParamsIn (slice_get (program_code p).functions (main_from 0 p.functions))
-  main_formed =
+  pub main_is : HasMain p
+  main_is =
       let q = main_there p accepted ascend 0 p.functions accepted.main in
       let i : main_from 0 p.functions ≡ q.0 = omega (arith, q.2) in
       let m = (function_there p accepted q.0 q.1 q.3).main in
       let none = (and_parts (same (plain q.1.result) Int) (q.1.params == 0) (main_params (is_called_main q.1) (same (plain q.1.result) Int && (q.1.params == 0)) m q.4)).1 in
-      subst (λ k. ParamsIn (slice_get (program_code p).functions k)) (sym i) (subst ParamsIn (sym (row_there p q.0 q.1 q.3)) (same_number q.1.params 0 none))
+      (q.1, ap (λ k. slice_get p.functions k) i ∙ q.3, same_number q.1.params 0 none)
+
+  main_formed : ParamsIn (slice_get (program_code p).functions (main_from 0 p.functions))
+  main_formed = subst ParamsIn (sym (row_there p (main_from 0 p.functions) main_is.0 main_is.1)) main_is.2
 
   pub well_formed : program_tokens p ≤ 40000 → operators_in (program_code p) ≤ 6 * program_tokens p → IsWellFormed (program_code p)
   well_formed few short =

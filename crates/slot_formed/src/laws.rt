@@ -3,11 +3,14 @@ ghost use Rattle.std.specs.Prelude.{◌≤◌, ◌*◌};
 ghost use Rattle.c_tree.specs.declared.rows.Program.{Program};
 ghost use Rattle.c_typing.specs.Accepted.{IsAccepted};
 ghost use Rattle.slot_ir.specs.WellFormed.{operators_of_a_token, operators_in, IsWellFormed};
+ghost use Rattle.slot_gen.specs.Correct.{IsCodeOf, Lowers};
 ghost use Rattle.slot_formed.specs.Code.{program_code};
 ghost use Rattle.slot_formed.specs.Tokens.{program_tokens};
 
 use c_tree::leaves_ascend;
-use slot_gen::{code_of_an_expression_is_short, code_takes_few_temporaries};
+use slot_gen::{
+    code_of_an_expression_is_short, code_takes_few_temporaries, slot_code_keeps_the_run,
+};
 
 /// The slot code of a program has at most so many operators for each token that the program is written with.
 pub fn code_of_a_program_is_short()
@@ -23,4 +26,14 @@ pub fn code_is_well_formed()
     code_of_a_program_is_short();
     code_takes_few_temporaries();
     leaves_ascend();
+}
+
+/// The slot code of an accepted program passes its stopping points in order, with the same objects, activations, output and exit number, for every input and all assignments made at the stops, up to the program's first undefined step; and it shows nothing else.
+pub fn accepted_code_keeps_the_run()
+    ensures rows { (p : Program) → IsAccepted p → IsCodeOf p (program_code p) }
+    ensures run { (p : Program) → IsAccepted p → Lowers p (program_code p) }
+{
+    leaves_ascend();
+    code_takes_few_temporaries();
+    slot_code_keeps_the_run();
 }
