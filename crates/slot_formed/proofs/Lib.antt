@@ -11,3 +11,4 @@ mod Short
 mod Rows
 mod Whole
 mod Keeps
+mod Computed
