@@ -1,10 +1,9 @@
 -- Two programs in slot code that are well formed, and some that are not.
-use Rattle.std.proofs.Common.{◌≡◌, ◌<◌, List, [], ◌∷◌, Some, false, ℕ, arith, refl, lit<, lit≤, ◌⊎◌, inl, inr}
+use Rattle.std.proofs.Common.{◌≡◌, [], ◌∷◌, false, ℕ, arith, lit<, lit≤, inl, inr}
 use Rattle.std.specs.Prelude.{codes}
 use Rattle.ldb_words.specs.declared.kinds.Kind.TheVariants.{Byte, Word}
 use Rattle.slot_ir.specs.declared.code.SlotCode.{SlotCode}
 use Rattle.slot_ir.specs.declared.code.SlotLocal.{SlotLocal}
-use Rattle.slot_ir.specs.declared.code.SlotOp.{SlotOp}
 use Rattle.slot_ir.specs.declared.code.Home.TheVariants.{Block, Register}
 use Rattle.slot_ir.specs.declared.code.Access.TheVariants as access
 use Rattle.slot_ir.specs.declared.code.WordOp.TheVariants as word

@@ -1,7 +1,6 @@
 -- The code of a well-typed expression names what is there, and its jumps land inside the function.
-use Rattle.std.proofs.Common.{◌≡◌, refl, sym, ap, subst, ◌∙◌, arith, ℕ, suc, zero, ◌+◌, ◌<◌, ◌≤◌, List, [], ◌∷◌, ◌++◌, length, Bool, true, false, not, ◌&&◌, ◌||◌, Option, Some, None, true≢false, slice_get, ◌⊎◌, inl, inr}
+use Rattle.std.proofs.Common.{◌≡◌, refl, sym, ◌∙◌, ℕ, suc, ◌+◌, ◌<◌, List, [], ◌∷◌, ◌++◌, length, Bool, true, false, not, ◌&&◌, ◌||◌, Option, Some, None, true≢false, slice_get, ◌⊎◌, inl, inr}
 use Rattle.std.specs.Prelude.{if◌then◌else◌}
-use Rattle.std.proofs.lemmas.Option.{slice_get-map}
 use Rattle.c_tree.specs.declared.types.CType.{CType}
 use Rattle.c_tree.specs.declared.types.CType.TheVariants as ctype
 use Rattle.c_tree.specs.declared.typed.BinaryOp.{BinaryOp}
@@ -11,23 +10,22 @@ use Rattle.c_tree.specs.declared.typed.Typed.{Typed, Row_of-Typed, end_of-Typed,
 use Rattle.c_tree.specs.declared.typed.Typed.TheVariants.{Comma', Assign', Choice', Or', And', Binary', Cast', Before', Address', Follow', Unary', SizeOf', SizeOfType, Index', Call', Dot', Arrow', After', Name, Constant, Literal, Parens'}
 use Rattle.c_tree.specs.declared.rows.Program.{Program}
 use Rattle.c_tree.specs.declared.rows.Function.{Function}
-use Rattle.c_tree.specs.Rows.{exprs}
-use Rattle.c_tree.specs.Types.{type_of, target_of, is_struct, is_array, kind_of}
+use Rattle.c_tree.specs.Types.{type_of, target_of, is_struct}
 use Rattle.c_tree.specs.Layout.{size_of, leaves_of}
 use Rattle.c_tree.specs.Ordered.{LieIn}
-use Rattle.c_source.specs.Source.{stepping, struct_number, dot_offset, arrow_offset}
-use Rattle.c_typing.specs.Plain.{Plain, Char, Int, Pointer, Array, Struct, plain, same, is_integer, is_struct as is_a_struct}
+use Rattle.c_source.specs.Source.{stepping, struct_number}
+use Rattle.c_typing.specs.Plain.{Plain, Char, Pointer, Array, Struct, plain, same, is_integer, is_struct as is_a_struct}
 use Rattle.c_typing.specs.Rules.{Operand, converts, is_copied, member_type, is_movable, is_compound, is_move}
 use Rattle.c_typing.specs.Expressions.{Scope, is_lvalue, is_register, is_string, operand, value, IsTyped, AreTyped}
 use Rattle.c_typing.specs.Declared.{scope_at}
 use Rattle.c_typing.specs.Accepted.{IsAccepted}
 use Rattle.slot_ir.specs.declared.code.SlotOp.{SlotOp}
 use Rattle.slot_ir.specs.declared.code.SlotOp.TheVariants as op
-use Rattle.slot_gen.specs.Expressions.{is_scalar, access_of, cast_code, load_code, combine_op, choice_code, and_code, or_code, enter_code, unary_op, unless_register, name_code, read_at, write_at, update_at, register_in, register_inside, register_named, expr_code, place_code, row_code}
-use Rattle.slot_formed.proofs.Lists.{no_none, some_same, and_parts, or_parts, then_some, map_some, below_length, all_append}
+use Rattle.slot_gen.specs.Expressions.{is_scalar, access_of, cast_code, load_code, combine_op, choice_code, and_code, or_code, unless_register, name_code, write_at, update_at, register_in, expr_code, place_code, row_code}
+use Rattle.slot_formed.proofs.Lists.{no_none, and_parts, or_parts, map_some, below_length}
 use Rattle.slot_formed.proofs.Sizes.{Formed}
 use Rattle.slot_formed.proofs.Types.{type_formed}
-use Rattle.slot_formed.proofs.Good.{Good, G, Small, Apart, Registers, behind, cast_good, load_good, combine_good, read_good, write_good, update_good, unless_good, choice_good, and_good, or_good}
+use Rattle.slot_formed.proofs.Good.{G, Small, Apart, behind, cast_good, load_good, combine_good, read_good, write_good, update_good, unless_good, choice_good, and_good, or_good}
 use Rattle.slot_formed.proofs.Names.{small_type, binary_apart, integer_target, integer_apart, add_apart, dot_small, arrow_small, registers_in, no_scalar, inside_parens, name_good, addressed, enter_good, member_struct}
 
 only_true : (b : Bool) (t r : Plain) → (if b then Some t else None) ≡ Some r → b ≡ true

@@ -1,28 +1,20 @@
 -- The code of a well-typed expression names what is there, and its jumps land inside the function.
-use Rattle.std.proofs.Common.{◌≡◌, refl, sym, ap, subst, ◌∙◌, arith, ℕ, suc, zero, ◌+◌, ◌<◌, ◌≤◌, List, [], ◌∷◌, ◌++◌, length, length-append, length-take-le, Bool, true, false, not, ◌&&◌, ◌||◌, Option, Some, None, true≢false, slice_get, take, map, ◌⊎◌, inl, inr}
-use Rattle.std.specs.Prelude.{if◌then◌else◌, option_map, option_and_then, bytes_eq, codes}
+use Rattle.std.proofs.Common.{◌≡◌, refl, arith, ℕ, suc, ◌+◌, ◌<◌, ◌≤◌, List, [], ◌∷◌, ◌++◌, length, length-append, Bool, true, false, Option, Some, None, slice_get, ◌⊎◌}
+use Rattle.std.specs.Prelude.{if◌then◌else◌}
 use Rattle.std.specs.List.{AllByRecursion}
-use Rattle.std.proofs.lemmas.List.{length-map}
 use Rattle.c_tree.specs.declared.types.CType.{CType}
-use Rattle.c_tree.specs.declared.types.CType.TheVariants as ctype
-use Rattle.c_tree.specs.declared.types.StructDef.{StructDef}
-use Rattle.c_tree.specs.declared.types.Member.{Member}
 use Rattle.c_tree.specs.declared.typed.BinaryOp.{BinaryOp}
-use Rattle.c_tree.specs.declared.typed.BinaryOp.TheVariants.{BitOr, BitXor, BitAnd, Equal, Unequal, Less, Greater, LessEqual, GreaterEqual, ShiftLeft, ShiftRight, Add, Subtract, Multiply, Divide, Remainder}
+use Rattle.c_tree.specs.declared.typed.BinaryOp.TheVariants.{Equal, Unequal, Less, Greater, LessEqual, GreaterEqual, Add, Subtract}
 use Rattle.c_tree.specs.declared.rows.Program.{Program}
 use Rattle.c_tree.specs.declared.rows.Function.{Function}
 use Rattle.c_tree.specs.Types.{target_of, is_array, kind_of}
 use Rattle.c_tree.specs.Layout.{size_of}
 use Rattle.slot_ir.specs.declared.code.Access.{Access}
 use Rattle.slot_ir.specs.declared.code.Access.TheVariants as access
-use Rattle.slot_ir.specs.declared.code.WordOp.{WordOp}
-use Rattle.slot_ir.specs.declared.code.WordOp.TheVariants as word
-use Rattle.slot_ir.specs.declared.code.PointerOp.{PointerOp}
-use Rattle.slot_ir.specs.declared.code.PointerOp.TheVariants as pointer
 use Rattle.slot_ir.specs.declared.code.UnaryWordOp.TheVariants as unary
 use Rattle.slot_ir.specs.declared.code.SlotOp.{SlotOp}
 use Rattle.slot_ir.specs.declared.code.SlotOp.TheVariants as op
-use Rattle.slot_gen.specs.Expressions.{access_of, converting, cast_code, load_code, store_code, write_code, mixed_op, pointers_op, targets_op, combine_op, choice_code, and_code, or_code, read_at, write_at, update_at, unless_register, register_of}
+use Rattle.slot_gen.specs.Expressions.{access_of, converting, cast_code, load_code, mixed_op, targets_op, combine_op, choice_code, and_code, or_code, read_at, write_at, update_at, unless_register, register_of}
 use Rattle.slot_formed.proofs.Lists.{all_append}
 
 abbrev pub Among : ℕ → List ℕ → Type 0

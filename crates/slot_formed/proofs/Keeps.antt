@@ -1,5 +1,5 @@
 -- The rows of an accepted program's code are those that its simulation asks for.
-use Rattle.std.proofs.Common.{◌≡◌, refl, sym, ap, subst, ◌∙◌, arith, ℕ, suc, zero, ◌+◌, List, [], ◌∷◌, ◌++◌, length, map, drop, Bool, true, Option, Some, None, slice_get}
+use Rattle.std.proofs.Common.{◌≡◌, refl, sym, ap, subst, ◌∙◌, arith, ℕ, suc, zero, ◌+◌, List, [], ◌∷◌, ◌++◌, length, map, drop, true, Option, Some, None, slice_get}
 use Rattle.std.specs.List.{AllByRecursion}
 use Rattle.std.proofs.lemmas.List.{length-map}
 use Rattle.ldb_words.specs.declared.kinds.Kind.{Kind}
@@ -14,25 +14,21 @@ use Rattle.c_tree.specs.declared.rows.Local.{Local}
 use Rattle.c_tree.specs.declared.rows.ObjectRow.{ObjectRow}
 use Rattle.c_tree.specs.declared.rows.Start.{Start}
 use Rattle.c_tree.specs.declared.rows.Start.TheVariants as start
-use Rattle.c_tree.specs.Layout.{size_of, leaves_of, leaves_within, leaves_of_members, members_in, members_of}
+use Rattle.c_tree.specs.Layout.{size_of, leaves_of, leaves_within, leaves_of_members, members_in}
 use Rattle.c_tree.specs.Ordered.{width_of}
-use Rattle.c_store.specs.Store.{Value, Number, Null, At, Object, Cell, World, Static, zero_of}
+use Rattle.c_store.specs.Store.{Value, Number, Null, At, Cell, Static, zero_of}
 use Rattle.c_source.specs.Blocks.{cells_of, local_type, locals_in as rows_in}
 use Rattle.c_source.specs.Begin as sources
 use Rattle.c_source.specs.Begin.{main_from}
 use Rattle.c_typing.specs.Starts.{Starts, AreStarts, IsObject}
-use Rattle.c_typing.specs.Accepted.{IsAccepted, is_called_main}
 use Rattle.slot_ir.specs.declared.code.SlotCode.{SlotCode}
-use Rattle.slot_ir.specs.declared.code.SlotFunction.{SlotFunction}
-use Rattle.slot_ir.specs.declared.code.SlotLocal.{SlotLocal}
 use Rattle.slot_ir.specs.Slots.{code_in, locals_in, leaves_in, local_row as row_of}
 use Rattle.slot_ir.specs.Begin as beginning
 use Rattle.slot_gen.specs.Expressions.{access_of, registers_from}
-use Rattle.slot_gen.specs.Correct.{IsRow, IsCodeOf, HasMain}
-use Rattle.slot_formed.specs.Code.{local_row, local_rows, start_value, start_row, start_rows, object_row, function_row, function_rows, struct_rows, program_code}
+use Rattle.slot_gen.specs.Correct.{IsRow, IsCodeOf}
+use Rattle.slot_formed.specs.Code.{local_rows, start_value, start_rows, object_row, function_rows, struct_rows, program_code}
 use Rattle.slot_formed.proofs.Lists.{no_none}
 use Rattle.slot_formed.proofs.Homes.{local_there, row_there}
-use Rattle.slot_formed.proofs.Rows.{main_there}
 
 -- ---- static objects
 

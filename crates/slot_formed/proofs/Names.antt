@@ -1,5 +1,5 @@
 -- Names, registers and calls in a well-typed expression.
-use Rattle.std.proofs.Common.{◌≡◌, refl, sym, ap, subst, ◌∙◌, arith, ℕ, suc, zero, ◌+◌, ◌<◌, ◌≤◌, List, [], ◌∷◌, ◌++◌, length, length-append, length-take-le, Bool, true, false, not, ◌&&◌, ◌||◌, Option, Some, None, true≢false, slice_get, take, map}
+use Rattle.std.proofs.Common.{◌≡◌, refl, sym, ap, subst, ◌∙◌, arith, ℕ, suc, zero, ◌+◌, ◌<◌, ◌≤◌, List, [], ◌∷◌, length, length-append, length-take-le, Bool, true, false, ◌&&◌, Option, Some, None, true≢false, slice_get, take, map}
 use Rattle.std.specs.Prelude.{if◌then◌else◌, option_map, bytes_eq, codes}
 use Rattle.std.proofs.lemmas.List.{length-map}
 use Rattle.std.proofs.lemmas.Option.{slice_get-map}
@@ -8,7 +8,7 @@ use Rattle.c_tree.specs.declared.types.CType.TheVariants as ctype
 use Rattle.c_tree.specs.declared.types.StructDef.{StructDef}
 use Rattle.c_tree.specs.declared.types.Member.{Member}
 use Rattle.c_tree.specs.declared.typed.BinaryOp.{BinaryOp}
-use Rattle.c_tree.specs.declared.typed.BinaryOp.TheVariants.{BitOr, BitXor, BitAnd, Equal, Unequal, Less, Greater, LessEqual, GreaterEqual, ShiftLeft, ShiftRight, Add, Subtract, Multiply, Divide, Remainder}
+use Rattle.c_tree.specs.declared.typed.BinaryOp.TheVariants.{Add, Subtract}
 use Rattle.c_tree.specs.declared.typed.Typed.{Typed, Row_of-Typed, end_of-Typed, more_of-Typed}
 use Rattle.c_tree.specs.declared.typed.Typed.TheVariants.{Name, Parens'}
 use Rattle.c_tree.specs.declared.typed.Head.{Head}
@@ -26,19 +26,18 @@ use Rattle.c_tree.specs.Ordered.{LieIn}
 use Rattle.c_source.specs.Blocks.{locals_in as rows_in}
 use Rattle.c_source.specs.Source.{dot_offset, arrow_offset, struct_number}
 use Rattle.c_typing.specs.Plain.{Plain, Char, Int, Unsigned, Void, Pointer, Array, Struct, plain, same, is_integer, is_complete, value_type}
-use Rattle.c_typing.specs.Rules.{Operand, value_of, converts, takes, member_type, is_movable, difference_type, binary_type}
-use Rattle.c_typing.specs.Expressions.{Denoted, Object as AnObject, Function as AFunction, Hidden, Scope, object_type, register_in as flagged, result_type, is_register, operand, value, operands, name_type, call_type, IsTyped}
-use Rattle.c_typing.specs.Declared.{has, parameters, local_type, function_in, local_in, locals_in, built_in, denoted_by, denoted, scope_at}
+use Rattle.c_typing.specs.Rules.{Operand, converts, takes, member_type, difference_type, binary_type}
+use Rattle.c_typing.specs.Expressions.{Object as AnObject, Hidden, Scope, object_type, register_in as flagged, result_type, is_register, operand, operands, name_type, call_type, IsTyped}
+use Rattle.c_typing.specs.Declared.{has, parameters, local_type, function_in, local_in, locals_in, denoted_by, denoted, scope_at}
 use Rattle.c_typing.specs.Statements.{locals_of}
-use Rattle.c_typing.specs.Accepted.{numbers, IsFunction, IsOfObject, IsReferent, IsAccepted}
-use Rattle.slot_ir.specs.declared.code.SlotOp.{SlotOp}
+use Rattle.c_typing.specs.Accepted.{numbers, IsOfObject, IsReferent, IsAccepted}
 use Rattle.slot_ir.specs.declared.code.SlotOp.TheVariants as op
 use Rattle.slot_gen.specs.Expressions.{is_scalar, wants_register, register_of, if_register, referent_code, referent_register, register_named, register_inside, register_in, name_code, call_code, built_in_code, enter_code}
 use Rattle.slot_formed.proofs.Lists.{no_none, some_same, and_parts, below_length}
-use Rattle.slot_formed.proofs.Sizes.{plain_size, size_plain, Formed, formed_size, member_offset, positive}
-use Rattle.slot_formed.proofs.Types.{function_there, symbol_there, name_there, callee_there, local_object, type_formed}
+use Rattle.slot_formed.proofs.Sizes.{size_plain, Formed, formed_size, member_offset, positive}
+use Rattle.slot_formed.proofs.Types.{function_there, symbol_there, name_there, callee_there, local_object}
 use Rattle.slot_formed.proofs.Homes.{InRegister, register_there}
-use Rattle.slot_formed.proofs.Good.{Good, G, Small, Apart, Registers}
+use Rattle.slot_formed.proofs.Good.{G, Small, Apart, Registers}
 
 -- ---- scalars
 

@@ -1,6 +1,6 @@
 -- The rows of the static data, the locals and `main` of an accepted program's code.
-use Rattle.std.proofs.Common.{◌≡◌, refl, sym, ap, subst, ◌∙◌, arith, ℕ, suc, zero, ◌+◌, ◌<◌, ◌≤◌, ◌^◌, List, [], ◌∷◌, length, map, Bool, true, false, not, ◌&&◌, ◌||◌, Option, Some, None, true≢false, slice_get, drop, ◌%◌, to_z, of_z, w32, ◌⊎◌, inl, inr}
-use Rattle.std.specs.Prelude.{if◌then◌else◌, sum, ℤ, pos, negsuc, ◌==◌}
+use Rattle.std.proofs.Common.{◌≡◌, refl, sym, ap, subst, ◌∙◌, arith, ℕ, suc, ◌+◌, ◌<◌, ◌≤◌, ◌^◌, List, [], ◌∷◌, length, map, Bool, true, false, not, ◌||◌, Option, Some, None, true≢false, slice_get, drop, ◌%◌, to_z, of_z, w32, inl, inr}
+use Rattle.std.specs.Prelude.{if◌then◌else◌, sum, ℤ, pos, negsuc}
 use Rattle.std.specs.Int.{next_multiple_of, w8}
 use Rattle.std.specs.Int.RustNames.{unsigned_abs}
 use Rattle.std.specs.List.{AllByRecursion}
@@ -19,17 +19,16 @@ use Rattle.c_tree.specs.Layout.{size_of, leaves_of}
 use Rattle.c_tree.specs.Ordered.{width_of, LieIn}
 use Rattle.c_store.specs.Bits.{low_byte}
 use Rattle.c_source.specs.Begin.{main_from}
-use Rattle.c_typing.specs.Plain.{plain, same, Int}
-use Rattle.c_typing.specs.Starts.{Starts, AreStarts, IsObject as IsItsObject, static_room}
+use Rattle.c_typing.specs.Plain.{plain}
+use Rattle.c_typing.specs.Starts.{Starts, AreStarts, IsObject as IsItsObject}
 use Rattle.c_typing.specs.Accepted.{is_called_main, is_main, has_main, IsLocal as IsItsLocal, IsAccepted}
 use Rattle.slot_ir.specs.declared.code.SlotCode.{SlotCode}
 use Rattle.slot_ir.specs.declared.code.SlotLocal.{SlotLocal}
 use Rattle.slot_ir.specs.declared.code.SlotObject.{SlotObject}
-use Rattle.slot_ir.specs.declared.code.SlotStart.{SlotStart}
 use Rattle.slot_gen.specs.Expressions.{register_at}
 use Rattle.slot_ir.specs.WellFormed.{IsStart, IsObject, static_bytes}
-use Rattle.slot_formed.specs.Code.{local_row, local_rows, start_value, start_row, start_rows, object_row, program_code}
-use Rattle.slot_formed.proofs.Lists.{no_none, all_map, sum_more, and_parts, below_length}
+use Rattle.slot_formed.specs.Code.{local_row, local_rows, start_value, start_rows, object_row, program_code}
+use Rattle.slot_formed.proofs.Lists.{all_map, sum_more, and_parts, below_length}
 use Rattle.slot_formed.proofs.Sizes.{size_plain, formed, formed_size, has_leaf, some_width, leaves_end}
 
 -- ---- locals
@@ -41,8 +40,7 @@ module _ (p : Program) (accepted : IsAccepted p) (ascend : (t : CType) → LieIn
   local_good : (l : Local) (r : Option ℕ) → IsItsLocal p.defs l → IsLocal (local_row p.defs l r)
   local_good l r h =
       let t = l.ctype in
-      let ends : AllByRecursion (λ (leaf : Leaf). leaf.at + width_of leaf.kind ≤ size_of p.defs t) (leaves_of p.defs t) = leaves_end p.defs accepted.structs 0 (leaves_of p.defs t) (size_of p.defs t) (ascend t) in
-      (
+      let ends : AllByRecursion (λ (leaf : Leaf). leaf.at + width_of leaf.kind ≤ size_of p.defs t) (leaves_of p.defs t) = leaves_end p.defs accepted.structs 0 (leaves_of p.defs t) (size_of p.defs t) (ascend t) in (
         has_leaf p.defs accepted.structs 64 t h.0.0.0 h.0.1,
         subst (λ m. m ≤ 1048576) (sym (size_plain p.defs t)) (formed_size p.defs (plain t) (formed p.defs t h.0.0.1)),
         all_map (λ (leaf : Leaf). leaf.at + width_of leaf.kind ≤ size_of p.defs t) (λ (leaf : Leaf). leaf.at < size_of p.defs t) (leaves_of p.defs t) (λ leaf k. omega (arith, k, some_width p.defs accepted.structs leaf.kind)) ends,

@@ -1,6 +1,6 @@
 -- The code of a statement, a function and a program has at most 6 operators for each of its tokens.
-use Rattle.std.proofs.Common.{◌≡◌, refl, sym, ap, subst, ◌∙◌, ℕ, zero, suc, ◌+◌, ◌*◌, ◌≤◌, List, [], ◌∷◌, ◌++◌, length, map, Bool, true, false, Option, Some, None, arith, length-append}
-use Rattle.std.specs.Prelude.{sum, if◌then◌else◌}
+use Rattle.std.proofs.Common.{◌≡◌, refl, ap, ℕ, suc, ◌+◌, ◌*◌, ◌≤◌, List, [], ◌∷◌, ◌++◌, length, map, Bool, true, false, Option, Some, None, arith, length-append}
+use Rattle.std.specs.Prelude.{sum}
 use Rattle.c_tree.specs.declared.types.CType.{CType}
 use Rattle.c_tree.specs.declared.typed.Typed.{Typed}
 use Rattle.c_tree.specs.declared.typed.Pointed.{Pointed}
@@ -9,10 +9,9 @@ use Rattle.c_tree.specs.declared.typed.Stmt.{Stmt, Row_of-Stmt, end_of-Stmt, mor
 use Rattle.c_tree.specs.declared.typed.Stmt.TheVariants.{Value, Block', If', While', Do', For', Switch', Case', Default', Break, Continue, Return}
 use Rattle.c_tree.specs.declared.rows.Program.{Program}
 use Rattle.c_tree.specs.declared.rows.Function.{Function}
-use Rattle.c_tree.specs.Rows.{stmts}
 use Rattle.c_tree.specs.Types.{kind_of}
 use Rattle.c_source.specs.Blocks.{local_type, result_type, declared_in, statements_in}
-use Rattle.c_source.specs.Control.{first_of, last_of, outermost_of}
+use Rattle.c_source.specs.Control.{outermost_of}
 use Rattle.slot_ir.specs.declared.code.Access.{Access}
 use Rattle.slot_ir.specs.declared.code.Access.TheVariants as access
 use Rattle.slot_ir.specs.declared.code.SlotFunction.{SlotFunction}
@@ -21,7 +20,7 @@ use Rattle.slot_ir.specs.declared.code.SlotOp.TheVariants as op
 use Rattle.slot_ir.specs.WellFormed.{operators_in}
 use Rattle.slot_gen.specs.Expressions.{access_of, converting, cast_code, expr_code, unless_register, register_of, if_register, write_at, choice_code}
 use Rattle.slot_gen.specs.Statements.{Around, Target, nowhere, stmt_code, stmts_code, block_code, else_code, body_code, body_targets, body_defaults, row_targets, targets_at, constants_of, first_target, zeros_code, part_code, init_code, inits_code, test_code, loop_test, loop_body, loop_code, in_loop, in_switch, switch_code, seek_code, body_place, end_place, function_code, zero_code}
-use Rattle.slot_gen.specs.Tokens.{tokens_of, part_tokens, init_tokens, declared_tokens, result_tokens, stmt_tokens, stmts_tokens, else_tokens}
+use Rattle.slot_gen.specs.Tokens.{tokens_of, part_tokens, init_tokens, declared_tokens, stmt_tokens, stmts_tokens, else_tokens}
 use Rattle.slot_formed.specs.Code.{function_row, function_rows, program_code}
 use Rattle.slot_formed.specs.Tokens.{function_tokens, program_tokens}
 use Rattle.slot_formed.proofs.Lists.{sum_more}

@@ -1,7 +1,6 @@
 -- How large the types of an accepted program are, and which of them have leaves.
-use Rattle.std.proofs.Common.{◌≡◌, refl, sym, ap, subst, ◌∙◌, arith, ℕ, suc, zero, ◌+◌, ◌*◌, ◌<◌, ◌≤◌, le_trans, List, [], ◌∷◌, ◌++◌, length, length-append, Bool, true, false, not, ◌&&◌, Option, Some, None, true≢false, slice_get}
+use Rattle.std.proofs.Common.{◌≡◌, refl, sym, ap, subst, arith, ℕ, suc, zero, ◌+◌, ◌*◌, ◌<◌, ◌≤◌, List, [], ◌∷◌, ◌++◌, length, true, not, Option, Some, None, true≢false, slice_get}
 use Rattle.std.proofs.Math.Nat.{one-le-mul}
-use Rattle.std.proofs.lemmas.List.{length-map}
 use Rattle.std.specs.Prelude.{nat_le}
 use Rattle.std.specs.Int.{next_multiple_of}
 use Rattle.std.specs.List.{AllByRecursion}
@@ -12,10 +11,10 @@ use Rattle.c_tree.specs.declared.types.CType.TheVariants as ctype
 use Rattle.c_tree.specs.declared.types.StructDef.{StructDef}
 use Rattle.c_tree.specs.declared.types.Member.{Member}
 use Rattle.c_tree.specs.declared.types.Leaf.{Leaf}
-use Rattle.c_tree.specs.Layout.{size_of, struct_size_of, members_of, members_in, size_in, IsWithin, leaves_within, leaves_of, leaves_at, leaves_of_members, repeated, AreLaid, IsLaidOut, alignment_of, alignment_of_members}
+use Rattle.c_tree.specs.Layout.{size_of, struct_size_of, members_of, members_in, size_in, IsWithin, leaves_within, leaves_of, leaves_at, leaves_of_members, repeated, AreLaid, alignment_of, alignment_of_members}
 use Rattle.c_tree.specs.Ordered.{width_of, LieIn, AllLaidOut}
 use Rattle.c_typing.specs.Plain.{Plain, Char, Int, Unsigned, Void, Pointer, Array, Struct, plain, is_complete, is_empty}
-use Rattle.c_typing.specs.Written.{IsFormed, IsWritten, IsDeclared}
+use Rattle.c_typing.specs.Written.{IsFormed, IsDeclared}
 use Rattle.c_typing.specs.Declared.{IsStruct}
 use Rattle.c_typing.specs.Accepted.{AllFrom}
 use Rattle.slot_formed.proofs.Lists.{each_at_zero, and_parts, no_none, some_same}

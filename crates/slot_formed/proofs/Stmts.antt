@@ -1,10 +1,9 @@
 -- The code of a well-typed statement and of a function names what is there, and its jumps land inside the function.
-use Rattle.std.proofs.Common.{◌≡◌, refl, sym, ap, subst, ◌∙◌, arith, ℕ, suc, zero, ◌+◌, ◌<◌, ◌≤◌, List, [], ◌∷◌, ◌++◌, length, length-append, Bool, true, false, Option, Some, None, slice_get, ◌⊎◌, inl, inr}
+use Rattle.std.proofs.Common.{◌≡◌, refl, sym, ap, subst, ◌∙◌, arith, ℕ, suc, ◌+◌, ◌<◌, ◌≤◌, List, [], ◌∷◌, ◌++◌, length, length-append, Bool, true, false, Option, Some, None, slice_get}
 use Rattle.std.specs.Prelude.{if◌then◌else◌}
 use Rattle.std.specs.List.{AllByRecursion}
 use Rattle.c_tree.specs.declared.types.CType.{CType}
 use Rattle.c_tree.specs.declared.types.CType.TheVariants.{Char, Int, Unsigned, Void, Pointer', Array', Struct}
-use Rattle.c_tree.specs.declared.typed.Typed.{Typed}
 use Rattle.c_tree.specs.declared.typed.Pointed.{Pointed}
 use Rattle.c_tree.specs.declared.typed.DeclaredLocal.{DeclaredLocal}
 use Rattle.c_tree.specs.declared.typed.Stmt.{Stmt, Row_of-Stmt, end_of-Stmt, more_of-Stmt, Held-Stmt-If-3, None', Some'}
@@ -16,18 +15,16 @@ use Rattle.c_tree.specs.Layout.{size_of, leaves_of}
 use Rattle.c_tree.specs.Ordered.{LieIn}
 use Rattle.c_tree.specs.Points.{points_in, points_in_row, points_in_else}
 use Rattle.c_source.specs.Blocks.{local_type, result_type, declared_in, statements_in}
-use Rattle.c_source.specs.Control.{first_of, last_of, outermost_of}
 use Rattle.c_typing.specs.Plain.{Plain, plain}
-use Rattle.c_typing.specs.Statements.{Around as Stands, in_function, in_loop as looped, in_switch as switched, inside, local_numbers, IsTest, IsTestOrNone, IsSelector, IsDropped, IsInitializer, IsReturned, AreInitialized, IsStatement, AreStatements, IsElse, IsSwitched, locals_of, locals_of_row, locals_of_else}
+use Rattle.c_typing.specs.Statements.{Around as Stands, in_function, in_loop as looped, in_switch as switched, inside, local_numbers, IsTestOrNone, IsDropped, IsInitializer, AreInitialized, IsStatement, AreStatements, IsElse, IsSwitched, locals_of, locals_of_row, locals_of_else}
 use Rattle.c_typing.specs.Accepted.{numbers, IsBlock, IsAccepted}
 use Rattle.slot_ir.specs.declared.code.SlotOp.{SlotOp}
 use Rattle.slot_ir.specs.declared.code.SlotOp.TheVariants as op
 use Rattle.slot_gen.specs.Expressions.{access_of, cast_code, expr_code, unless_register, register_of, if_register, write_at, choice_code}
-use Rattle.slot_gen.specs.Statements.{Around, Target, nowhere, stmt_code, stmts_code, block_code, else_code, body_code, body_targets, body_defaults, row_targets, row_defaults, targets_at, constants_of, is_default, first_target, zeros_code, part_code, init_code, inits_code, test_code, loop_test, loop_body, loop_code, in_loop, in_switch, switch_code, seek_code, zero_code, body_place, end_place, function_code}
+use Rattle.slot_gen.specs.Statements.{Around, Target, nowhere, stmt_code, stmts_code, block_code, else_code, body_code, body_targets, body_defaults, row_targets, row_defaults, targets_at, constants_of, is_default, first_target, zeros_code, part_code, init_code, inits_code, test_code, loop_test, loop_body, loop_code, in_loop, in_switch, switch_code, seek_code, zero_code, end_place}
 use Rattle.slot_formed.proofs.Lists.{no_none, all_append, all_left, all_right}
-use Rattle.slot_formed.proofs.Types.{function_there}
-use Rattle.slot_formed.proofs.Good.{Among, Good, G, Registers, behind, cast_good, write_good, unless_good, choice_good}
-use Rattle.slot_formed.proofs.Names.{registers_if, numbers_length}
+use Rattle.slot_formed.proofs.Good.{Among, Good, G, behind, cast_good, write_good, unless_good, choice_good}
+use Rattle.slot_formed.proofs.Names.{registers_if}
 use Rattle.slot_formed.proofs.Exprs.{expr_good}
 
 abbrev point_of : Option Pointed → List ℕ
@@ -92,9 +89,11 @@ module _ (p : Program) (accepted : IsAccepted p) (ascend : (t : CType) → LieIn
   init_good v at x (Some q) t b a lt =
       let r = if_register x (register_of p f x) in
       let place = unless_register r (op.LocalAddress 0 x ∷ []) in
-      let ce = expr_code p f (at + 1 + length place) 1 q.e in
-      (a.0, behind p f fn n (at + 1) place (ce ++ write_at p f 0 r (local_type p f x)) (omega (arith, lt)) (λ i. unless_good p f fn n r (op.LocalAddress 0 x ∷ []) (λ e. ((b, registers_none x (register_of p f x) e), tt))) λ i.
-      behind p f fn n (at + 1 + length place) ce _ i (λ j. expr_good p accepted ascend f fn here n v q.e t.0 (at + 1 + length place) 1 j) λ j. write_good p f fn n 0 r (local_type p f x) (registers_if p accepted ascend f fn here n x (register_of p f x) refl))
+      let ce = expr_code p f (at + 1 + length place) 1 q.e in (
+        a.0,
+        behind p f fn n (at + 1) place (ce ++ write_at p f 0 r (local_type p f x)) (omega (arith, lt)) (λ i. unless_good p f fn n r (op.LocalAddress 0 x ∷ []) (λ e. ((b, registers_none x (register_of p f x) e), tt))) λ i.
+            behind p f fn n (at + 1 + length place) ce _ i (λ j. expr_good p accepted ascend f fn here n v q.e t.0 (at + 1 + length place) 1 j) λ j. write_good p f fn n 0 r (local_type p f x) (registers_if p accepted ascend f fn here n x (register_of p f x) refl),
+      )
 
   inits_good : (v : List ℕ) (at : ℕ) (ds : List DeclaredLocal) → AreInitialized p f R v ds → AllBelow (local_numbers ds) → AllAmong (points_of_inits ds) → at + length (inits_code p f at ds) < n → GG (inits_code p f at ds)
   inits_good v at [] t b a lt = tt
@@ -139,14 +138,13 @@ module _ (p : Program) (accepted : IsAccepted p) (ascend : (t : CType) → LieIn
       let rest : List SlotOp = op.Jump (at + 2) ∷ [] in
       let over : end < n = omega (arith, loop_length at first t q body) in
       let same : length cq ≡ length (test_code p f (loop_test p f at t) q 0) = test_length (loop_test p f at t) q end in
-      let there : at + 2 < n = omega (arith, over) in
-      (
+      let there : at + 2 < n = omega (arith, over) in (
         choose_below first (loop_test p f at t) (loop_body p f at t q) (omega (arith, over)) (omega (arith, over)),
         (
           over,
           all_append (Good p f fn n) ct _ (part_good v (at + 2) t tt' at' (omega (arith, over)))
-          (all_append (Good p f fn n) cq _ (test_good v (loop_test p f at t) q end tq aq over (omega (arith, over, same)))
-          (all_append (Good p f fn n) body rest (go there (omega (arith, over))) (there, tt))),
+              (all_append (Good p f fn n) cq _ (test_good v (loop_test p f at t) q end tq aq over (omega (arith, over, same)))
+              (all_append (Good p f fn n) body rest (go there (omega (arith, over))) (there, tt))),
         ),
       )
 
@@ -177,13 +175,12 @@ module _ (p : Program) (accepted : IsAccepted p) (ascend : (t : CType) → LieIn
       let two : length (seek_code ls ++ last) ≡ length (seek_code ls) + 1 = length-append (seek_code ls) last in
       let three : length (seek_code ls) ≡ length ls = seek_length ls in
       let lands : end < n = omega (arith, lt, one, two, three) in
-      let inside : over < n = omega (arith, lands) in
-      (
+      let inside : over < n = omega (arith, lands) in (
         omega (arith, lands),
         (
           lands,
           all_append (Good p f fn n) body rest (go (omega (arith, inside)) inside)
-          (lands, all_append (Good p f fn n) (seek_code ls) last (seeks_good ls (placed inside)) (first_below over ds inside (defaults inside), tt)),
+              (lands, all_append (Good p f fn n) (seek_code ls) last (seeks_good ls (placed inside)) (first_below over ds inside (defaults inside), tt)),
         ),
       )
 
@@ -245,11 +242,13 @@ module _ (p : Program) (accepted : IsAccepted p) (ascend : (t : CType) → LieIn
         let start = at + 1 + length test in
         let ca = stmt_code p f r m (start + 1) s in
         let ce = else_code p f r m (start + 1 + length ca + 1) e in
-        let size : length (locals_of s ++ locals_of_else e) ≡ length (locals_of s) + length (locals_of_else e) = length-append (locals_of s) (locals_of_else e) in
-        (q.0, behind p f fn n (at + 1) test (choice_code start 0 ca ce) (omega (arith, lt)) (λ i. expr_good p accepted ascend f fn here n v c.e t.0.0 (at + 1) 0 i) λ i.
-        choice_good p f fn n start 0 ca ce i
-        (λ j. stmt_good s v (inside a) r m (start + 1) t.1 w (omega (arith, z, size)) (all_left _ (locals_of s) (locals_of_else e) b) (all_left _ (points_in s) (points_in_else e) q.1) j)
-        (λ j. else_good e v (inside a) r m (start + 1 + length ca + 1) t.2 w (omega (arith, z, size)) (all_right _ (locals_of s) (locals_of_else e) b) (all_right _ (points_in s) (points_in_else e) q.1) j))
+        let size : length (locals_of s ++ locals_of_else e) ≡ length (locals_of s) + length (locals_of_else e) = length-append (locals_of s) (locals_of_else e) in (
+          q.0,
+          behind p f fn n (at + 1) test (choice_code start 0 ca ce) (omega (arith, lt)) (λ i. expr_good p accepted ascend f fn here n v c.e t.0.0 (at + 1) 0 i) λ i.
+              choice_good p f fn n start 0 ca ce i
+              (λ j. stmt_good s v (inside a) r m (start + 1) t.1 w (omega (arith, z, size)) (all_left _ (locals_of s) (locals_of_else e) b) (all_left _ (points_in s) (points_in_else e) q.1) j)
+              (λ j. else_good e v (inside a) r m (start + 1 + length ca + 1) t.2 w (omega (arith, z, size)) (all_right _ (locals_of s) (locals_of_else e) b) (all_right _ (points_in s) (points_in_else e) q.1) j),
+        )
     stmt_good (While' x c y s) v a r m at t w z b q lt =
         loop_good v at true None (Some c) (stmt_code p f (in_loop at m) m (loop_body p f at None (Some c)) s) tt t.0 tt (q.0, tt)
         (λ i j. stmt_good s v looped (in_loop at m) m (loop_body p f at None (Some c)) t.1 (loop_fits at m i (omega (arith, z))) z b q.1 j) lt
@@ -269,20 +268,24 @@ module _ (p : Program) (accepted : IsAccepted p) (ascend : (t : CType) → LieIn
     stmt_good (Switch' x c y s) v a r m at t w z b q lt =
         let test = expr_code p f (at + 1) 0 c.e in
         let start = at + 1 + length test in
-        let around = in_switch start m r in
-        (q.0, behind p f fn n (at + 1) test _ (omega (arith, lt)) (λ i. expr_good p accepted ascend f fn here n v c.e t.0.0 (at + 1) 0 i) λ i.
-        switch_good start (body_code p f around m (start + 2) s) (body_targets p f around m (start + 2) s) (body_defaults p f around m (start + 2) s)
-        (λ g j. body_good s v (switched a) around m (start + 2) t.1 (switch_fits start m r g (omega (arith, z)) w) z b q.1 j)
-        (λ j. body_placed s around m (start + 2) j) (λ j. body_defaulted s around m (start + 2) j) i)
+        let around = in_switch start m r in (
+          q.0,
+          behind p f fn n (at + 1) test _ (omega (arith, lt)) (λ i. expr_good p accepted ascend f fn here n v c.e t.0.0 (at + 1) 0 i) λ i.
+              switch_good start (body_code p f around m (start + 2) s) (body_targets p f around m (start + 2) s) (body_defaults p f around m (start + 2) s)
+              (λ g j. body_good s v (switched a) around m (start + 2) t.1 (switch_fits start m r g (omega (arith, z)) w) z b q.1 j)
+              (λ j. body_placed s around m (start + 2) j) (λ j. body_defaulted s around m (start + 2) j) i,
+        )
     stmt_good (Case' x c y s) v a r m at t w z b q lt = stmt_good s v a r m at t.2 w z b q lt
     stmt_good (Default' x y s) v a r m at t w z b q lt = stmt_good s v a r m at t.1 w z b q lt
     stmt_good (Break x) v a r m at t w z b q lt = (w.leave_scope, (w.leave, tt))
     stmt_good (Continue x) v a r m at t w z b q lt = (w.again_scope, (w.again, tt))
     stmt_good (Return x c None) v a r m at t w z b q lt = (q.0, (tt, (ends, tt)))
     stmt_good (Return x c (Some e)) v a r m at t w z b q lt =
-        let ce = expr_code p f (at + 1) 0 e in
-        (q.0, behind p f fn n (at + 1) ce _ (omega (arith, lt)) (λ i. expr_good p accepted ascend f fn here n v e t.0.0 (at + 1) 0 i) λ i.
-        all_append (Good p f fn n) (cast_code 0 (result_type p f)) (op.Jump end_place ∷ []) (cast_good p f fn n 0 (access_of (result_type p f))) (ends, tt))
+        let ce = expr_code p f (at + 1) 0 e in (
+          q.0,
+          behind p f fn n (at + 1) ce _ (omega (arith, lt)) (λ i. expr_good p accepted ascend f fn here n v e t.0.0 (at + 1) 0 i) λ i.
+              all_append (Good p f fn n) (cast_code 0 (result_type p f)) (op.Jump end_place ∷ []) (cast_good p f fn n 0 (access_of (result_type p f))) (ends, tt),
+        )
 
     row_good : {k : _} (row : Row_of-Stmt k) (v : List ℕ) (a : Stands) (r : Around) (m at : ℕ) → AreStatements p f R v a row → Fits r → m + length (locals_of_row row) ≤ L → AllBelow (locals_of_row row) → AllAmong (points_in_row row)
         → at + length (block_code p f r m at row) < n → G p f fn n (block_code p f r m at row)
@@ -326,11 +329,10 @@ module _ (p : Program) (accepted : IsAccepted p) (ascend : (t : CType) → LieIn
       let start = at + length zeros + length inits in
       let mine : AllBelow (local_numbers ds) = all_left _ (local_numbers ds) (locals_of_row row) b in
       let size : length (local_numbers ds ++ locals_of_row row) ≡ length ds + length (locals_of_row row) = length-append (local_numbers ds) (locals_of_row row) ∙ ap (λ k. k + length (locals_of_row row)) (numbers_of ds) in
-      let same = block_stmts p f nowhere m start row in
-      (
+      let same = block_stmts p f nowhere m start row in (
         zeros_good ds mine,
         inits_good (numbers 0 fn.params) (at + length zeros) ds t.0 mine (all_left _ (points_of_inits ds) (points_in_row row) q) (omega (arith, lt)),
         subst (G p f fn n) same (row_good row (numbers 0 fn.params ++ local_numbers ds) (inside in_function) nowhere m start t.1 (record { leave = omega (arith, ends); again = omega (arith, ends); leave_scope = omega arith; again_scope = omega arith }) (omega (arith, z, size, e)) (all_right _ (local_numbers ds) (locals_of_row row) b) (all_right _ (points_of_inits ds) (points_in_row row) q)
-        (omega (arith, lt, ap (λ (code : List SlotOp). length code) same))),
+            (omega (arith, lt, ap (λ (code : List SlotOp). length code) same))),
       )
   body_of_good _ m at k t e z b q lt = absurd k

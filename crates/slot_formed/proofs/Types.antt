@@ -1,17 +1,15 @@
 -- The type of a well-typed expression of an accepted program has at most 1,048,576 bytes, and so has each that it points to or holds.
-use Rattle.std.proofs.Common.{◌≡◌, refl, sym, ap, subst, ◌∙◌, arith, ℕ, suc, zero, ◌+◌, ◌*◌, ◌<◌, ◌≤◌, List, [], ◌∷◌, length, Bool, true, false, not, ◌&&◌, ◌||◌, Option, Some, None, true≢false, slice_get, map, ◌⊎◌, inl, inr}
-use Rattle.std.specs.Prelude.{if◌then◌else◌, option_map, option_and_then, bytes_eq, codes, sum}
+use Rattle.std.proofs.Common.{◌≡◌, refl, sym, ap, subst, ◌∙◌, arith, ℕ, suc, zero, ◌+◌, ◌*◌, ◌≤◌, List, [], ◌∷◌, length, Bool, true, false, ◌&&◌, ◌||◌, Option, Some, None, true≢false, slice_get, map}
+use Rattle.std.specs.Prelude.{if◌then◌else◌, bytes_eq, codes, sum}
 use Rattle.std.specs.Int.{next_multiple_of}
-use Rattle.std.specs.List.{AllByRecursion}
 use Rattle.std.proofs.lemmas.Option.{slice_get-map}
-use Rattle.c_tree.specs.declared.types.CType.{CType}
 use Rattle.c_tree.specs.declared.types.StructDef.{StructDef}
 use Rattle.c_tree.specs.declared.types.Member.{Member}
 use Rattle.c_tree.specs.declared.typed.BinaryOp.{BinaryOp}
 use Rattle.c_tree.specs.declared.typed.BinaryOp.TheVariants.{BitOr, BitXor, BitAnd, Equal, Unequal, Less, Greater, LessEqual, GreaterEqual, ShiftLeft, ShiftRight, Add, Subtract, Multiply, Divide, Remainder}
 use Rattle.c_tree.specs.declared.typed.UnaryOp.{UnaryOp}
 use Rattle.c_tree.specs.declared.typed.UnaryOp.TheVariants.{Plus, Minus, Complement, Not}
-use Rattle.c_tree.specs.declared.typed.Typed.{Typed, Row_of-Typed, end_of-Typed, more_of-Typed}
+use Rattle.c_tree.specs.declared.typed.Typed.{Typed}
 use Rattle.c_tree.specs.declared.typed.Typed.TheVariants.{Comma', Assign', Choice', Or', And', Binary', Cast', Before', Address', Follow', Unary', SizeOf', SizeOfType, Index', Call', Dot', Arrow', After', Name, Constant, Literal, Parens'}
 use Rattle.c_tree.specs.declared.rows.Program.{Program}
 use Rattle.c_tree.specs.declared.rows.Function.{Function}
@@ -20,15 +18,14 @@ use Rattle.c_tree.specs.declared.rows.SymbolRow.{SymbolRow}
 use Rattle.c_tree.specs.declared.rows.Referent.{Referent}
 use Rattle.c_tree.specs.declared.rows.Referent.TheVariants.{Object, Local, Function as Defined, Declared}
 use Rattle.c_tree.specs.Types.{type_of}
-use Rattle.c_tree.specs.Layout.{members_of, struct_size_of}
+use Rattle.c_tree.specs.Layout.{members_of}
 use Rattle.c_typing.specs.Plain.{Plain, Char, Int, Unsigned, Void, Pointer, Array, Struct, plain, same, is_integer, is_pointer, is_scalar, value_type, is_complete, promoted, common}
-use Rattle.c_typing.specs.Rules.{Operand, value_of, only, may_drop, unary_type, followed, address_type, member_type, dot_type, arrow_type, is_movable, arithmetic_type, sum_type, difference_type, index_type, shift_type, order_type, is_nulled, equality_type, binary_type, assignment_type, compound_type, step_type, logical_type, branches_type, choice_type, comma_type, cast_type, size_type}
-use Rattle.c_typing.specs.Expressions.{Denoted, Object as AnObject, Function as AFunction, Hidden, Scope, object_type, result_type, operand, value, operands, name_type, call_type, string_type, is_constant_type, IsTyped, AreTyped}
+use Rattle.c_typing.specs.Rules.{Operand, value_of, only, may_drop, unary_type, followed, member_type, arrow_type, is_movable, arithmetic_type, sum_type, difference_type, shift_type, order_type, is_nulled, equality_type, binary_type, branches_type, choice_type, cast_type}
+use Rattle.c_typing.specs.Expressions.{Denoted, Object as AnObject, Function as AFunction, Hidden, Scope, object_type, result_type, operand, value, operands, name_type, call_type, is_constant_type, IsTyped}
 use Rattle.c_typing.specs.Declared.{has, function_in, local_in, locals_in, built_in, denoted_by, denoted, scope_at}
-use Rattle.c_typing.specs.Starts.{static_room}
 use Rattle.c_typing.specs.Accepted.{IsFunction, IsSymbol, IsAccepted}
 use Rattle.slot_formed.proofs.Lists.{sum_more, no_none, some_same, each_at_zero, each_of, and_parts, then_some, map_some}
-use Rattle.slot_formed.proofs.Sizes.{plain_size, Formed, formed, members_declared}
+use Rattle.slot_formed.proofs.Sizes.{Formed, formed, members_declared}
 
 -- ---- the rules
 

@@ -1,5 +1,5 @@
 -- The code of an accepted program is well formed.
-use Rattle.std.proofs.Common.{◌≡◌, refl, sym, ap, subst, ◌∙◌, arith, ℕ, suc, zero, ◌+◌, ◌*◌, ◌<◌, ◌≤◌, List, [], ◌∷◌, ◌++◌, length, length-append, append_assoc, map, Bool, true, false, not, ◌&&◌, ◌||◌, Option, Some, None, true≢false, slice_get, ◌⊎◌, inl, inr}
+use Rattle.std.proofs.Common.{◌≡◌, refl, sym, ap, subst, ◌∙◌, arith, ℕ, suc, zero, ◌+◌, ◌*◌, ◌<◌, ◌≤◌, List, [], ◌∷◌, ◌++◌, length, length-append, append_assoc, map, Bool, true, false, not, ◌&&◌, ◌||◌, Option, Some, None, true≢false, slice_get, inl, inr}
 use Rattle.std.specs.Prelude.{◌==◌}
 use Rattle.std.specs.List.{AllByRecursion}
 use Rattle.std.proofs.lemmas.List.{length-map}
@@ -8,8 +8,6 @@ use Rattle.c_tree.specs.declared.typed.Stmt.{Stmt}
 use Rattle.c_tree.specs.declared.typed.Stmt.TheVariants.{Block'}
 use Rattle.c_tree.specs.declared.rows.Program.{Program}
 use Rattle.c_tree.specs.declared.rows.Function.{Function}
-use Rattle.c_tree.specs.declared.rows.Local.{Local}
-use Rattle.c_tree.specs.declared.rows.ObjectRow.{ObjectRow}
 use Rattle.c_tree.specs.Layout.{size_of, leaves_of}
 use Rattle.c_tree.specs.Ordered.{LieIn}
 use Rattle.c_tree.specs.Points.{points_in}
@@ -30,16 +28,16 @@ use Rattle.slot_gen.specs.Expressions.{registers_from, register_at, register_of}
 use Rattle.slot_gen.specs.Statements.{nowhere, zeros_code, inits_code, stmts_code, zero_code, body_place, end_place, function_code}
 use Rattle.slot_gen.specs.Correct.{HasMain}
 use Rattle.slot_gen.specs.Bounds.{function_temps, IsBelow, AreBelow}
-use Rattle.slot_formed.specs.Code.{local_row, local_rows, object_row, function_row, function_rows, stop_place, program_code}
+use Rattle.slot_formed.specs.Code.{local_row, object_row, function_row, function_rows, stop_place, program_code}
 use Rattle.slot_formed.specs.Tokens.{program_tokens}
-use Rattle.slot_formed.proofs.Lists.{some_same, all_append, all_left, all_right, below_length, and_parts}
+use Rattle.slot_formed.proofs.Lists.{all_append, all_left, all_right, and_parts}
 use Rattle.slot_formed.proofs.Types.{function_there}
-use Rattle.slot_formed.proofs.Homes.{InRegister, register_there, local_there, locals_length, structs_length, row_there}
+use Rattle.slot_formed.proofs.Homes.{register_there, local_there, locals_length, structs_length, row_there}
 use Rattle.slot_formed.proofs.Good.{Among, Good, G}
 use Rattle.slot_formed.proofs.Names.{numbers_length}
 use Rattle.slot_formed.proofs.Stmts.{numbers_of, body_of_good, zero_good}
-use Rattle.slot_formed.proofs.Stops.{Has, HasAll, in_left, in_right, later, stop_found, body_of_has}
-use Rattle.slot_formed.proofs.Rows.{IsLocal, locals_good, objects_good, static_few, main_there}
+use Rattle.slot_formed.proofs.Stops.{Has, HasAll, in_left, later, stop_found, body_of_has}
+use Rattle.slot_formed.proofs.Rows.{locals_good, objects_good, static_few, main_there}
 
 -- ---- lists of numbers
 
@@ -243,15 +241,14 @@ module _ (p : Program) (accepted : IsAccepted p) (ascend : (t : CType) → LieIn
         subst (λ qs. HasAll (function_code p f fn) qs) (sym points) (has_first, all_append (Has (function_code p f fn)) (points_in fn.body) (last ∷ []) in_body (has_last, tt))
 
     function_formed : (below : AreBelow (function_temps fn) (function_code p f fn)) → IsFunction c row
-    function_formed below =
-        (
-          omega (arith, code_size, size),
-          omega (arith, locals_count, locals_length p.defs fn.locals rs),
-          mine.few,
-          locals_good p accepted ascend fn.locals rs mine.locals,
-          names_all (function_code p f fn) below function_good,
-          places_all fn.points points_has,
-        )
+    function_formed below = (
+      omega (arith, code_size, size),
+      omega (arith, locals_count, locals_length p.defs fn.locals rs),
+      mine.few,
+      locals_good p accepted ascend fn.locals rs mine.locals,
+      names_all (function_code p f fn) below function_good,
+      places_all fn.points points_has,
+    )
 
 -- ---- the program
 
@@ -264,8 +261,7 @@ module _ (p : Program) (accepted : IsAccepted p) (ascend : (t : CType) → LieIn
   rows_formed : (n : ℕ) (fs : List Function) → ((i : ℕ) (fn : Function) → slice_get fs i ≡ Some fn → IsFunction (program_code p) (function_row p (i + n) fn)) → AllByRecursion (IsFunction (program_code p)) (function_rows p n fs)
   rows_formed n [] go = tt
   rows_formed n (fn ∷ fs) go =
-      let z : 0 + n ≡ n = omega arith in
-      (
+      let z : 0 + n ≡ n = omega arith in (
         subst (λ m. IsFunction (program_code p) (function_row p m fn)) z (go 0 fn refl),
         rows_formed (suc n) fs λ i g e. let w : suc i + n ≡ i + suc n = omega arith in subst (λ m. IsFunction (program_code p) (function_row p m g)) w (go (suc i) g e),
       )
@@ -293,11 +289,10 @@ module _ (p : Program) (accepted : IsAccepted p) (ascend : (t : CType) → LieIn
   main_formed = subst ParamsIn (sym (row_there p (main_from 0 p.functions) main_is.0 main_is.1)) main_is.2
 
   pub well_formed : program_tokens p ≤ 40000 → operators_in (program_code p) ≤ 6 * program_tokens p → IsWellFormed (program_code p)
-  well_formed few short =
-      (
-        main_formed,
-        rows_formed 0 p.functions (λ i fn e. let z : i ≡ i + 0 = omega arith in subst (λ m. IsFunction (program_code p) (function_row p m fn)) z (formed_there i fn e)),
-        objects_good p accepted ascend p.objects accepted.objects,
-        static_few p accepted ascend,
-        omega (arith, few, short),
-      )
+  well_formed few short = (
+    main_formed,
+    rows_formed 0 p.functions (λ i fn e. let z : i ≡ i + 0 = omega arith in subst (λ m. IsFunction (program_code p) (function_row p m fn)) z (formed_there i fn e)),
+    objects_good p accepted ascend p.objects accepted.objects,
+    static_few p accepted ascend,
+    omega (arith, few, short),
+  )

@@ -1,7 +1,7 @@
 -- The slot code of a whole program, row by row.
-use Rattle.std.specs.Prelude.{ℕ, suc, zero, List, [], ◌∷◌, Bool, true, false, ◌==◌, Option, Some, None, map, drop, if◌then◌else◌}
+use Rattle.std.specs.Prelude.{ℕ, suc, List, [], ◌∷◌, Bool, false, ◌==◌, Option, Some, None, map, drop, if◌then◌else◌}
 use Rattle.ldb_words.specs.declared.kinds.Kind.{Kind}
-use Rattle.ldb_words.specs.declared.kinds.Kind.TheVariants.{Byte, Word, Address}
+use Rattle.ldb_words.specs.declared.kinds.Kind.TheVariants.{Address}
 use Rattle.c_tree.specs.declared.types.CType.TheVariants.{Struct}
 use Rattle.c_tree.specs.declared.types.StructDef.{StructDef}
 use Rattle.c_tree.specs.declared.types.Leaf.{Leaf}

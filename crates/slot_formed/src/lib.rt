@@ -3,6 +3,4 @@
 
 mod laws;
 
-pub use laws::{
-    accepted_code_keeps_the_run, code_is_well_formed, code_of_a_program_is_short,
-};
+pub use laws::{accepted_code_keeps_the_run, code_is_well_formed, code_of_a_program_is_short};
