@@ -1,8 +1,9 @@
 -- The code of a well-typed expression names what is there, and its jumps land inside the function.
-use Rattle.std.proofs.Common.{◌≡◌, refl, sym, ◌∙◌, ℕ, suc, ◌+◌, ◌<◌, List, [], ◌∷◌, ◌++◌, length, Bool, true, false, not, ◌&&◌, ◌||◌, Option, Some, None, true≢false, slice_get, ◌⊎◌, inl, inr}
+use Rattle.std.proofs.Common.{◌≡◌, refl, sym, ap, ◌∙◌, ℕ, suc, ◌+◌, ◌<◌, List, [], ◌∷◌, ◌++◌, length, Bool, true, false, not, ◌&&◌, ◌||◌, Option, Some, None, true≢false, slice_get, ◌⊎◌, inl, inr}
 use Rattle.std.specs.Prelude.{if◌then◌else◌}
 use Rattle.c_tree.specs.declared.types.CType.{CType}
 use Rattle.c_tree.specs.declared.types.CType.TheVariants as ctype
+use Rattle.c_tree.specs.declared.types.StructDef.{StructDef}
 use Rattle.c_tree.specs.declared.typed.BinaryOp.{BinaryOp}
 use Rattle.c_tree.specs.declared.typed.BinaryOp.TheVariants.{Add}
 use Rattle.c_tree.specs.declared.typed.Head.{Head}
@@ -10,18 +11,18 @@ use Rattle.c_tree.specs.declared.typed.Typed.{Typed, Row_of-Typed, end_of-Typed,
 use Rattle.c_tree.specs.declared.typed.Typed.TheVariants.{Comma', Assign', Choice', Or', And', Binary', Cast', Before', Address', Follow', Unary', SizeOf', SizeOfType, Index', Call', Dot', Arrow', After', Name, Constant, Literal, Parens'}
 use Rattle.c_tree.specs.declared.rows.Program.{Program}
 use Rattle.c_tree.specs.declared.rows.Function.{Function}
-use Rattle.c_tree.specs.Types.{type_of, target_of, is_struct}
+use Rattle.c_tree.specs.Types.{type_of, target_of, is_struct, is_array}
 use Rattle.c_tree.specs.Layout.{size_of, leaves_of}
 use Rattle.c_tree.specs.Ordered.{LieIn}
 use Rattle.c_source.specs.Source.{stepping, struct_number}
-use Rattle.c_typing.specs.Plain.{Plain, Char, Pointer, Array, Struct, plain, same, is_integer, is_struct as is_a_struct}
-use Rattle.c_typing.specs.Rules.{Operand, converts, is_copied, member_type, is_movable, is_compound, is_move}
+use Rattle.c_typing.specs.Plain.{Plain, Char, Int, Pointer, Array, Struct, plain, same, is_integer, is_array as an_array, is_struct as is_a_struct}
+use Rattle.c_typing.specs.Rules.{Operand, converts, is_copied, member_type, is_movable, is_compound, is_move, stepping as stepped}
 use Rattle.c_typing.specs.Expressions.{Scope, is_lvalue, is_register, is_string, operand, value, IsTyped, AreTyped}
 use Rattle.c_typing.specs.Declared.{scope_at}
 use Rattle.c_typing.specs.Accepted.{IsAccepted}
 use Rattle.slot_ir.specs.declared.code.SlotOp.{SlotOp}
 use Rattle.slot_ir.specs.declared.code.SlotOp.TheVariants as op
-use Rattle.slot_gen.specs.Expressions.{is_scalar, access_of, cast_code, load_code, combine_op, choice_code, and_code, or_code, unless_register, name_code, write_at, update_at, register_in, expr_code, place_code, row_code}
+use Rattle.slot_gen.specs.Expressions.{is_scalar, access_of, cast_code, load_code, combine_op, choice_code, and_code, or_code, unless_register, name_code, write_at, update_at, register_in, register_inside, expr_code, place_code, row_code}
 use Rattle.slot_formed.proofs.Lists.{no_none, and_parts, or_parts, map_some, below_length}
 use Rattle.slot_formed.proofs.Sizes.{Formed}
 use Rattle.slot_formed.proofs.Types.{type_formed}
@@ -67,6 +68,33 @@ struct_defined p ctype.Unsigned h k = absurd (true≢false (sym k))
 struct_defined p ctype.Void h k = absurd (true≢false (sym k))
 struct_defined p (ctype.Pointer' b t) h k = absurd (true≢false (sym k))
 struct_defined p (ctype.Array' b t n) h k = absurd (true≢false (sym k))
+
+array_there : (t : CType) → is_array t ≡ an_array (plain t)
+array_there ctype.Char = refl
+array_there ctype.Int = refl
+array_there ctype.Unsigned = refl
+array_there ctype.Void = refl
+array_there (ctype.Pointer' b t) = refl
+array_there (ctype.Array' b t n) = refl
+array_there (ctype.Struct s) = refl
+
+integer_no_array : (t : Plain) → is_integer t ≡ true → an_array t ≡ false
+integer_no_array (Array t n) h = absurd (true≢false (sym h))
+integer_no_array _ h = refl
+
+movable_no_array : (defs : List StructDef) (t : Plain) → is_movable defs t ≡ true → an_array t ≡ false
+movable_no_array defs (Array t n) h = absurd (true≢false (sym h))
+movable_no_array defs _ h = refl
+
+-- a local in a register is no array
+read_no_array : (t : CType) (o : Option ℕ) (x : ℕ) → (if is_scalar t then o else None) ≡ Some x → is_array t ≡ false
+read_no_array (ctype.Array' b t n) o x e = no_none x e
+read_no_array ctype.Char o x e = refl
+read_no_array ctype.Int o x e = refl
+read_no_array ctype.Unsigned o x e = refl
+read_no_array ctype.Void o x e = refl
+read_no_array (ctype.Pointer' b t) o x e = refl
+read_no_array (ctype.Struct s) o x e = refl
 
 not_false : (b : Bool) → not b ≡ true → b ≡ false
 not_false true h = absurd (true≢false (sym h))
@@ -141,20 +169,29 @@ module _ (p : Program) (accepted : IsAccepted p) (ascend : (t : CType) → LieIn
   compound_integer : (o : BinaryOp) (a : Operand) (t r : Plain) → (if a.lvalue && is_integer t && ((is_integer a.ctype && is_compound o) || (is_movable p.defs a.ctype && is_move o)) then Some a.ctype else None) ≡ Some r → is_integer t ≡ true
   compound_integer o a t r e = (and_parts a.lvalue (is_integer t) (and_parts (a.lvalue && is_integer t) _ (only_true _ a.ctype r e)).0).1
 
+  -- which is no array
+  compound_no_array : (o : BinaryOp) (u : CType) (a : Operand) (t r : Plain) → a.ctype ≡ plain u → (if a.lvalue && is_integer t && ((is_integer a.ctype && is_compound o) || (is_movable p.defs a.ctype && is_move o)) then Some a.ctype else None) ≡ Some r → is_array u ≡ false
+  compound_no_array o u a t r w e =
+      by (or_parts (is_integer a.ctype && is_compound o) (is_movable p.defs a.ctype && is_move o) (and_parts (a.lvalue && is_integer t) _ (only_true _ a.ctype r e)).1)
+    where
+      by : (is_integer a.ctype && is_compound o ≡ true) ⊎ (is_movable p.defs a.ctype && is_move o ≡ true) → is_array u ≡ false
+      by (inl q) = array_there u ∙ ap an_array (sym w) ∙ integer_no_array a.ctype (and_parts (is_integer a.ctype) (is_compound o) q).0
+      by (inr q) = array_there u ∙ ap an_array (sym w) ∙ movable_no_array p.defs a.ctype (and_parts (is_movable p.defs a.ctype) (is_move o) q).0
+
   compound_good : (h : Head) (x y : _) (a b : Typed) (o : BinaryOp) → IsTyped s (Assign' h x a (Some o) y b) → PlaceGood a → ExprGood b → ExprGood (Assign' h x a (Some o) y b)
   compound_good h x y a b o t pa eb at d lt =
       let ra = unless_register (register_in p f a) (place_code p f at d a) in
       let none : target_of (type_of b) ≡ None = integer_target p accepted ascend f fn here n (type_of b) (compound_integer o (operand s a) (value s b) (plain h.ctype) t.2) in
       behind p f fn n at ra _ lt (λ q. unless_place a at d pa q) λ q.
       behind p f fn n (at + length ra) (expr_code p f (at + length ra) (suc d) b) _ q (λ r. eb (at + length ra) (suc d) r) λ r.
-      update_good p f fn n d (register_in p f a) (type_of a) o (type_of b) true (registers_in p accepted ascend f fn here n a) (small a t.0) (small b t.1) (integer_apart p accepted ascend f fn here n o (target_of (type_of a)) (target_of (type_of b)) none)
+      update_good p f fn n d (register_in p f a) (type_of a) o (type_of b) true (compound_no_array o (type_of a) (operand s a) (value s b) (plain h.ctype) refl t.2) (registers_in p accepted ascend f fn here n a) (small a t.0) (small b t.1) (integer_apart p accepted ascend f fn here n o (target_of (type_of a)) (target_of (type_of b)) none)
 
-  step_good : (a : Typed) (o : BinaryOp) (new : Bool) (at d : ℕ) → IsTyped s a → PlaceGood a
+  step_good : (a : Typed) (o : BinaryOp) (new : Bool) (at d : ℕ) → IsTyped s a → is_array (type_of a) ≡ false → PlaceGood a
       → at + length (unless_register (register_in p f a) (place_code p f at d a) ++ op.Const (suc d) 1 ∷ update_at p f d (register_in p f a) (type_of a) o ctype.Int new) < n
       → GG (unless_register (register_in p f a) (place_code p f at d a) ++ op.Const (suc d) 1 ∷ update_at p f d (register_in p f a) (type_of a) o ctype.Int new)
-  step_good a o new at d t pa lt =
+  step_good a o new at d t k pa lt =
       behind p f fn n at (unless_register (register_in p f a) (place_code p f at d a)) _ lt (λ q. unless_place a at d pa q) λ q.
-      (tt, update_good p f fn n d (register_in p f a) (type_of a) o ctype.Int new (registers_in p accepted ascend f fn here n a) (small a t) tt (integer_apart p accepted ascend f fn here n o (target_of (type_of a)) None refl))
+      (tt, update_good p f fn n d (register_in p f a) (type_of a) o ctype.Int new k (registers_in p accepted ascend f fn here n a) (small a t) tt (integer_apart p accepted ascend f fn here n o (target_of (type_of a)) None refl))
 
   -- ---- two operands and an operator
 
@@ -206,19 +243,19 @@ module _ (p : Program) (accepted : IsAccepted p) (ascend : (t : CType) → LieIn
         behind p f fn n at ca (and_code (at + length ca) d (expr_code p f (at + length ca + 1) d b)) lt (λ q. expr_good a t.0 at d q) λ q. and_good p f fn n (at + length ca) d (expr_code p f (at + length ca + 1) d b) q (λ r. expr_good b t.1 (at + length ca + 1) d r)
     expr_good (Binary' h x a o y b) t at d lt = both_good o a b at d t.0 t.1 (binary_apart p accepted ascend f fn here n o a b s (plain h.ctype) refl t.2) (λ i j q. expr_good a t.0 i j q) (λ i j q. expr_good b t.1 i j q) lt
     expr_good (Cast' h x a) t at d lt = cast_behind a h.ctype at d (λ i j q. expr_good a t.0 i j q) lt
-    expr_good (Before' h o x a) t at d lt = step_good a (stepping o) true at d t.0 (λ r i j q. place_good a t.0 r i j q) lt
+    expr_good (Before' h o x a) t at d lt = step_good a (stepping o) true at d t.0 (compound_no_array (stepped o) (type_of a) (operand s a) Int (plain h.ctype) refl t.1) (λ r i j q. place_good a t.0 r i j q) lt
     expr_good (Address' h x a) t at d lt = place_good a t.0 (address_none a (plain h.ctype) t.0 t.1) at d lt
     expr_good (Unary' h o x a) t at d lt = behind p f fn n at (expr_code p f at d a) _ lt (λ q. expr_good a t.0 at d q) λ q. (tt, tt)
     expr_good (SizeOf' h x a) t at d lt = (tt, tt)
     expr_good (SizeOfType h u) t at d lt = (tt, tt)
     expr_good (Call' h g x row) t at d lt = behind p f fn n at (row_code p f at d row) _ lt (λ q. row_good row t.0 at d q) λ q. enter_good p accepted ascend f fn here n v d g row (plain h.ctype) t.1
-    expr_good (After' h x a o) t at d lt = step_good a (stepping o) false at d t.0 (λ r i j q. place_good a t.0 r i j q) lt
+    expr_good (After' h x a o) t at d lt = step_good a (stepping o) false at d t.0 (compound_no_array (stepped o) (type_of a) (operand s a) Int (plain h.ctype) refl t.1) (λ r i j q. place_good a t.0 r i j q) lt
     expr_good (Constant h m) t at d lt = (tt, tt)
     expr_good (Parens' h x a) t at d lt = expr_good a t.0 at d lt
     expr_good (Name h m) t at d lt =
         behind p f fn n at (unless_register (register_in p f (Name h m)) (name_code p f d (slice_get p.symbols m))) _ lt
         (λ q. unless_good p f fn n (register_in p f (Name h m)) (name_code p f d (slice_get p.symbols m)) (λ e. named_good h m d t e)) λ q.
-        read_good p f fn n d (register_in p f (Name h m)) h.ctype (registers_in p accepted ascend f fn here n (Name h m))
+        read_good p f fn n d (register_in p f (Name h m)) h.ctype (registers_in p accepted ascend f fn here n (Name h m)) (λ x e. read_no_array h.ctype (register_inside p f (Name h m)) x e)
     expr_good (Literal h m) t at d lt = (literal_good h m t, load_good p f fn n d h.ctype)
     expr_good (Follow' h x a) t at d lt = behind p f fn n at (expr_code p f at d a) _ lt (λ q. expr_good a t.0 at d q) λ q. load_good p f fn n d h.ctype
     expr_good (Index' h x a y b) t at d lt =

@@ -1,8 +1,9 @@
 -- The code of a well-typed expression names what is there, and its jumps land inside the function.
-use Rattle.std.proofs.Common.{◌≡◌, refl, arith, ℕ, suc, ◌+◌, ◌<◌, ◌≤◌, List, [], ◌∷◌, ◌++◌, length, length-append, Bool, true, false, Option, Some, None, slice_get, ◌⊎◌}
+use Rattle.std.proofs.Common.{◌≡◌, refl, arith, ℕ, suc, ◌+◌, ◌<◌, ◌≤◌, List, [], ◌∷◌, ◌++◌, length, length-append, Bool, true, false, Option, Some, None, true≢false, slice_get, ◌⊎◌}
 use Rattle.std.specs.Prelude.{if◌then◌else◌}
 use Rattle.std.specs.List.{AllByRecursion}
 use Rattle.c_tree.specs.declared.types.CType.{CType}
+use Rattle.c_tree.specs.declared.types.CType.TheVariants as ctype
 use Rattle.c_tree.specs.declared.typed.BinaryOp.{BinaryOp}
 use Rattle.c_tree.specs.declared.typed.BinaryOp.TheVariants.{Equal, Unequal, Less, Greater, LessEqual, GreaterEqual, Add, Subtract}
 use Rattle.c_tree.specs.declared.rows.Program.{Program}
@@ -15,6 +16,7 @@ use Rattle.slot_ir.specs.declared.code.UnaryWordOp.TheVariants as unary
 use Rattle.slot_ir.specs.declared.code.SlotOp.{SlotOp}
 use Rattle.slot_ir.specs.declared.code.SlotOp.TheVariants as op
 use Rattle.slot_gen.specs.Expressions.{access_of, converting, cast_code, load_code, mixed_op, targets_op, combine_op, choice_code, and_code, or_code, read_at, write_at, update_at, unless_register, register_of}
+use Rattle.slot_formed.specs.Accesses.{IsOfKind}
 use Rattle.slot_formed.proofs.Lists.{all_append}
 
 abbrev pub Among : ℕ → List ℕ → Type 0
@@ -28,7 +30,8 @@ module _ (p : Program) (f : ℕ) (fn : Function) (n : ℕ) where
   Good (op.StaticAddress d o) = o < length p.objects
   Good (op.TextAddress d k) = k < length p.strings
   Good (op.LocalAddress d x) = (x < length fn.locals) × (register_of p f x ≡ None)
-  Good (op.ReadRegister d x k a) = (r : ℕ) × (register_of p f x ≡ Some r)
+  Good (op.Load d i k a) = IsOfKind k a
+  Good (op.ReadRegister d x k a) = (r : ℕ) × (register_of p f x ≡ Some r) × IsOfKind k a
   Good (op.WriteRegister j x k) = (r : ℕ) × (register_of p f x ≡ Some r)
   Good (op.Index d i j size u back) = size ≤ 1048576
   Good (op.Distance d i j size) = (1 ≤ size) × (size ≤ 1048576)
@@ -59,12 +62,21 @@ module _ (p : Program) (f : ℕ) (fn : Function) (n : ℕ) where
   cast_good d access.UnsignedHalf = (tt, tt)
   cast_good d access.Pointer = (tt, tt)
 
+  pub of_kind : (t : CType) → is_array t ≡ false → IsOfKind (kind_of t) (access_of t)
+  of_kind ctype.Char h = tt
+  of_kind ctype.Int h = tt
+  of_kind ctype.Unsigned h = tt
+  of_kind ctype.Void h = tt
+  of_kind (ctype.Pointer' b t) h = tt
+  of_kind (ctype.Array' b t m) h = absurd (true≢false h)
+  of_kind (ctype.Struct s) h = tt
+
   pub load_good : (d : ℕ) (t : CType) → G (load_code d t)
-  load_good d t = by (is_array t)
+  load_good d t = by (is_array t) refl
     where
-      by : (b : Bool) → G (if b then [] else op.Load d d (kind_of t) (access_of t) ∷ [])
-      by true = tt
-      by false = (tt, tt)
+      by : (b : Bool) → is_array t ≡ b → G (if b then [] else op.Load d d (kind_of t) (access_of t) ∷ [])
+      by true e = tt
+      by false e = (of_kind t e, tt)
 
   -- ---- binary operators
 
@@ -106,19 +118,19 @@ module _ (p : Program) (f : ℕ) (fn : Function) (n : ℕ) where
   Registers None = Unit {0}
   Registers (Some x) = (r : ℕ) × (register_of p f x ≡ Some r)
 
-  pub read_good : (d : ℕ) (o : Option ℕ) (t : CType) → Registers o → G (read_at p f d o t)
-  read_good d None t h = load_good d t
-  read_good d (Some x) t h = (h, tt)
+  pub read_good : (d : ℕ) (o : Option ℕ) (t : CType) → Registers o → ((x : ℕ) → o ≡ Some x → is_array t ≡ false) → G (read_at p f d o t)
+  read_good d None t h k = load_good d t
+  read_good d (Some x) t h k = ((h.0, h.1, of_kind t (k x refl)), tt)
 
   pub write_good : (d : ℕ) (o : Option ℕ) (t : CType) → Registers o → G (write_at p f d o t)
   write_good d None t h = all_append Good (cast_code (suc d) t) _ (cast_good (suc d) (access_of t)) (tt, (tt, tt))
   write_good d (Some x) t h = all_append Good (cast_code (suc d) t) _ (cast_good (suc d) (access_of t)) (h, (tt, tt))
 
-  pub update_good : (d : ℕ) (o : Option ℕ) (t : CType) (b : BinaryOp) (s : CType) (new : Bool) → Registers o → Small (target_of t) → Small (target_of s) → Apart b (target_of t) (target_of s) → G (update_at p f d o t b s new)
-  update_good d None t b s new h x y z =
-      (tt, (combine_good (suc d) (suc (suc d)) (suc d) b t s x y z, all_append Good (cast_code (suc d) t) _ (cast_good (suc d) (access_of t)) (tt, (tt, tt))))
-  update_good d (Some i) t b s new h x y z =
-      (h, (combine_good (suc d) (suc (suc d)) (suc d) b t s x y z, all_append Good (cast_code (suc d) t) _ (cast_good (suc d) (access_of t)) (h, (tt, tt))))
+  pub update_good : (d : ℕ) (o : Option ℕ) (t : CType) (b : BinaryOp) (s : CType) (new : Bool) → is_array t ≡ false → Registers o → Small (target_of t) → Small (target_of s) → Apart b (target_of t) (target_of s) → G (update_at p f d o t b s new)
+  update_good d None t b s new k h x y z =
+      (of_kind t k, (combine_good (suc d) (suc (suc d)) (suc d) b t s x y z, all_append Good (cast_code (suc d) t) _ (cast_good (suc d) (access_of t)) (tt, (tt, tt))))
+  update_good d (Some i) t b s new k h x y z =
+      ((h.0, h.1, of_kind t k), (combine_good (suc d) (suc (suc d)) (suc d) b t s x y z, all_append Good (cast_code (suc d) t) _ (cast_good (suc d) (access_of t)) (h, (tt, tt))))
 
   pub unless_good : (o : Option ℕ) (code : List SlotOp) → (o ≡ None → G code) → G (unless_register o code)
   unless_good None code h = h refl

@@ -1,20 +1,25 @@
 -- The code of an accepted program is well formed.
-use Rattle.std.proofs.Common.{◌≡◌, refl, sym, ap, subst, ◌∙◌, arith, ℕ, suc, zero, ◌+◌, ◌*◌, ◌<◌, ◌≤◌, List, [], ◌∷◌, ◌++◌, length, length-append, append_assoc, map, Bool, true, false, not, ◌&&◌, ◌||◌, Option, Some, None, true≢false, slice_get, inl, inr}
+use Rattle.std.proofs.Common.{◌≡◌, refl, sym, ap, subst, ◌∙◌, arith, ℕ, suc, zero, ◌+◌, ◌*◌, ◌<◌, ◌≤◌, List, [], ◌∷◌, ◌++◌, length, length-append, append_assoc, map, Bool, true, false, not, ◌&&◌, ◌||◌, Option, Some, None, true≢false, slice_get, inl, inr, take, drop}
 use Rattle.std.specs.Prelude.{◌==◌}
 use Rattle.std.specs.List.{AllByRecursion}
 use Rattle.std.proofs.lemmas.List.{length-map}
+use Rattle.ldb_words.specs.declared.kinds.Kind.TheVariants.{Byte, Word, Address}
 use Rattle.c_tree.specs.declared.types.CType.{CType}
+use Rattle.c_tree.specs.declared.types.CType.TheVariants as ctype
+use Rattle.c_tree.specs.declared.types.StructDef.{StructDef}
 use Rattle.c_tree.specs.declared.typed.Stmt.{Stmt}
 use Rattle.c_tree.specs.declared.typed.Stmt.TheVariants.{Block'}
 use Rattle.c_tree.specs.declared.rows.Program.{Program}
 use Rattle.c_tree.specs.declared.rows.Function.{Function}
+use Rattle.c_tree.specs.declared.rows.Local.{Local}
 use Rattle.c_tree.specs.Layout.{size_of, leaves_of}
 use Rattle.c_tree.specs.Ordered.{LieIn}
 use Rattle.c_tree.specs.Points.{points_in}
 use Rattle.c_source.specs.Blocks.{declared_in, statements_in, locals_in as rows_in}
 use Rattle.c_source.specs.Control.{first_of, last_of, outermost_of}
 use Rattle.c_source.specs.Begin.{main_from}
-use Rattle.c_typing.specs.Plain.{plain, same, Int}
+use Rattle.c_typing.specs.Plain.{plain, same, Int, is_scalar}
+use Rattle.c_typing.specs.Declared.{local_type}
 use Rattle.c_typing.specs.Statements.{in_function, local_numbers, locals_of, locals_of_row}
 use Rattle.c_typing.specs.Accepted.{numbers, is_called_main, IsBlock, IsFunction as IsItsFunction, IsAccepted}
 use Rattle.slot_ir.specs.declared.code.Home.TheVariants.{Block, Register}
@@ -24,11 +29,12 @@ use Rattle.slot_ir.specs.declared.code.SlotLocal.{SlotLocal}
 use Rattle.slot_ir.specs.declared.code.SlotOp.{SlotOp}
 use Rattle.slot_ir.specs.declared.code.SlotOp.TheVariants as op
 use Rattle.slot_ir.specs.WellFormed.{operators_in, IsFunction, IsWellFormed, NamesWhatIsThere, PlacesOf}
-use Rattle.slot_gen.specs.Expressions.{registers_from, register_at, register_of}
+use Rattle.slot_gen.specs.Expressions.{access_of, registers_from, register_at, register_of}
 use Rattle.slot_gen.specs.Statements.{nowhere, zeros_code, inits_code, stmts_code, zero_code, body_place, end_place, function_code}
 use Rattle.slot_gen.specs.Correct.{HasMain}
 use Rattle.slot_gen.specs.Bounds.{function_temps, IsBelow, AreBelow}
-use Rattle.slot_formed.specs.Code.{local_row, object_row, function_row, function_rows, stop_place, program_code}
+use Rattle.slot_formed.specs.Code.{home_of, local_rows, local_row, object_row, function_row, function_rows, stop_place, program_code}
+use Rattle.slot_formed.specs.Accesses.{ReadsItsKind, IsScalar, IsReadable, IsUniform}
 use Rattle.slot_formed.specs.Tokens.{program_tokens}
 use Rattle.slot_formed.proofs.Lists.{all_append, all_left, all_right, and_parts}
 use Rattle.slot_formed.proofs.Types.{function_there}
@@ -75,6 +81,25 @@ BlockIn (Some l) = l.home ≡ Block
 abbrev RegisterIn : Option SlotLocal → Type 0
 RegisterIn None = ⊥
 RegisterIn (Some l) = elim l.home as (λ h. Type 0) [ Block ↦ ⊥ | Register r ↦ r < 8 ]
+
+-- ---- parameters
+
+scalar_row : (defs : List StructDef) (l : Local) (r : Option ℕ) → is_scalar (plain l.ctype) ≡ true → IsScalar (local_row defs l r)
+scalar_row defs l r = by l.ctype
+  where
+    by : (t : CType) → is_scalar (plain t) ≡ true → IsScalar (record { home = home_of r; access = access_of t; size = size_of defs t; leaves = leaves_of defs t })
+    by ctype.Char h = (record { at = 0; kind = Byte }, refl, refl, refl, tt)
+    by ctype.Int h = (record { at = 0; kind = Word }, refl, refl, refl, tt)
+    by ctype.Unsigned h = (record { at = 0; kind = Word }, refl, refl, refl, tt)
+    by (ctype.Pointer' b t) h = (record { at = 0; kind = Address }, refl, refl, refl, tt)
+    by ctype.Void h = absurd (true≢false (sym h))
+    by (ctype.Array' b t m) h = absurd (true≢false (sym h))
+    by (ctype.Struct s) h = absurd (true≢false (sym h))
+
+scalars_there : (defs : List StructDef) (n : ℕ) (ls : List Local) (rs : List (Option ℕ)) → AllByRecursion (λ t. is_scalar t ≡ true) (take n (map local_type ls)) → AllByRecursion IsScalar (take n (local_rows defs ls rs))
+scalars_there defs zero ls rs h = tt
+scalars_there defs (suc n) [] rs h = tt
+scalars_there defs (suc n) (l ∷ ls) rs h = (scalar_row defs l (register_at rs 0) h.0, scalars_there defs n ls (drop 1 rs) h.1)
 
 module _ (p : Program) (accepted : IsAccepted p) (ascend : (t : CType) → LieIn 0 (leaves_of p.defs t) (size_of p.defs t)) (f : ℕ) (fn : Function) (here : slice_get p.functions f ≡ Some fn) (n : ℕ) (size : n ≡ length (function_code p f fn)) where
   abbrev c : SlotCode
@@ -148,6 +173,15 @@ module _ (p : Program) (accepted : IsAccepted p) (ascend : (t : CType) → LieIn
   names_all : (l : List SlotOp) → AreBelow (function_temps fn) l → G p f fn n l → AllByRecursion (NamesWhatIsThere c row) l
   names_all [] t g = tt
   names_all (o ∷ l) t g = (names_op o t.0 g.0, names_all l t.1 g.1)
+
+  reads_op : (o : SlotOp) → Good p f fn n o → ReadsItsKind o
+  reads_op (op.Load d i k a) g = g
+  reads_op (op.ReadRegister d x k a) g = g.2
+  reads_op _ g = tt
+
+  reads_all : (l : List SlotOp) → G p f fn n l → AllByRecursion ReadsItsKind l
+  reads_all [] g = tt
+  reads_all (o ∷ l) g = (reads_op o g.0, reads_all l g.1)
 
   places_all : (qs : List ℕ) → HasAll row.code qs → PlacesOf c row qs (map (λ q. stop_place q row.code) qs)
   places_all [] h = tt
@@ -250,6 +284,9 @@ module _ (p : Program) (accepted : IsAccepted p) (ascend : (t : CType) → LieIn
       places_all fn.points points_has,
     )
 
+    function_readable : IsReadable row
+    function_readable = (reads_all (function_code p f fn) function_good, scalars_there p.defs fn.params fn.locals rs mine.scalars)
+
 -- ---- the program
 
 module _ (p : Program) (accepted : IsAccepted p) (ascend : (t : CType) → LieIn 0 (leaves_of p.defs t) (size_of p.defs t)) (below : (f : ℕ) (fn : Function) → AreBelow (function_temps fn) (function_code p f fn)) where
@@ -296,3 +333,22 @@ module _ (p : Program) (accepted : IsAccepted p) (ascend : (t : CType) → LieIn
     static_few p accepted ascend,
     omega (arith, few, short),
   )
+
+  -- ---- loads and parameters
+
+  readable_there : (f : ℕ) (fn : Function) → slice_get p.functions f ≡ Some fn → IsReadable (function_row p f fn)
+  readable_there f fn e =
+      let q = (function_there p accepted f fn e).points in
+      function_readable p accepted ascend f fn e (length (function_code p f fn)) refl q.0 q.1 q.2
+
+  rows_readable : (n : ℕ) (fs : List Function) → ((i : ℕ) (fn : Function) → slice_get fs i ≡ Some fn → IsReadable (function_row p (i + n) fn)) → AllByRecursion IsReadable (function_rows p n fs)
+  rows_readable n [] go = tt
+  rows_readable n (fn ∷ fs) go =
+      let z : 0 + n ≡ n = omega arith in
+      (
+        subst (λ m. IsReadable (function_row p m fn)) z (go 0 fn refl),
+        rows_readable (suc n) fs λ i g e. let w : suc i + n ≡ i + suc n = omega arith in subst (λ m. IsReadable (function_row p m g)) w (go (suc i) g e),
+      )
+
+  pub uniform : IsUniform (program_code p)
+  uniform = rows_readable 0 p.functions (λ i fn e. let z : i ≡ i + 0 = omega arith in subst (λ m. IsReadable (function_row p m fn)) z (readable_there i fn e))

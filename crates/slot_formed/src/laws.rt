@@ -4,6 +4,7 @@ ghost use Rattle.c_tree.specs.declared.rows.Program.{Program};
 ghost use Rattle.c_typing.specs.Accepted.{IsAccepted};
 ghost use Rattle.slot_ir.specs.WellFormed.{operators_of_a_token, operators_in, IsWellFormed};
 ghost use Rattle.slot_gen.specs.Correct.{IsCodeOf, Lowers};
+ghost use Rattle.slot_formed.specs.Accesses.{IsUniform};
 ghost use Rattle.slot_formed.specs.Code.{program_code};
 ghost use Rattle.slot_formed.specs.Tokens.{program_tokens};
 
@@ -19,9 +20,10 @@ pub fn code_of_a_program_is_short()
     code_of_an_expression_is_short();
 }
 
-/// The slot code of an accepted program that is written with at most 40,000 tokens is well formed.
+/// The slot code of an accepted program that is written with at most 40,000 tokens is well formed. Its loads extend a byte and take a word or a pointer whole, and its parameters are scalars.
 pub fn code_is_well_formed()
-    ensures { (p : Program) → IsAccepted p → program_tokens p ≤ 40000 → IsWellFormed (program_code p) }
+    ensures formed { (p : Program) → IsAccepted p → program_tokens p ≤ 40000 → IsWellFormed (program_code p) }
+    ensures uniform { (p : Program) → IsAccepted p → IsUniform (program_code p) }
 {
     code_of_a_program_is_short();
     code_takes_few_temporaries();
