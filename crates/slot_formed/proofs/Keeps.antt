@@ -26,9 +26,11 @@ use Rattle.slot_ir.specs.Slots.{code_in, locals_in, leaves_in, local_row as row_
 use Rattle.slot_ir.specs.Begin as beginning
 use Rattle.slot_gen.specs.Expressions.{access_of, registers_from}
 use Rattle.slot_gen.specs.Correct.{IsRow, IsCodeOf}
-use Rattle.slot_formed.specs.Code.{local_rows, start_value, start_rows, object_row, function_rows, struct_rows, program_code}
+use Rattle.slot_ir.specs.declared.code.SlotFunction.{SlotFunction}
+use Rattle.slot_formed.specs.Code.{AreFunctionRows, local_rows, start_value, start_rows, object_row, struct_rows}
+use Rattle.slot_formed.proofs.Whole.{code_with, function_row_at}
 use Rattle.slot_formed.proofs.Lists.{no_none}
-use Rattle.slot_formed.proofs.Homes.{local_there, row_there}
+use Rattle.slot_formed.proofs.Homes.{local_there}
 
 -- ---- static objects
 
@@ -46,9 +48,9 @@ starts_of p [] xs = []
 starts_of p (c ∷ cs) [] = []
 starts_of p (c ∷ cs) (x ∷ xs) = record c { value = starting p c.kind x } ∷ starts_of p cs xs
 
-module _ (p : Program) where
+module _ (p : Program) (gs : List SlotFunction) (are : AreFunctionRows p 0 p.functions gs) where
   abbrev c : SlotCode
-  c = program_code p
+  c = code_with p gs
 
   abbrev cell_of : ℕ → Kind → Start → List Cell
   cell_of i k x = beginning.start_cells c (record { at = i; width = width_of k; value = start_value k x } ∷ [])
@@ -79,10 +81,12 @@ module _ (p : Program) where
 
   -- ---- functions and structs
 
-  rows_none : (n : ℕ) (fs : List Function) (i : ℕ) → slice_get fs i ≡ None → slice_get (function_rows p n fs) i ≡ None
-  rows_none n [] i e = refl
-  rows_none n (f ∷ fs) zero e = no_none f (sym e)
-  rows_none n (f ∷ fs) (suc i) e = rows_none (suc n) fs i e
+  rows_none : (n : ℕ) (fs : List Function) (hs : List SlotFunction) (i : ℕ) → AreFunctionRows p n fs hs → slice_get fs i ≡ None → slice_get hs i ≡ None
+  rows_none n [] [] i rows e = refl
+  rows_none n [] (h ∷ hs) i rows e = absurd rows
+  rows_none n (f ∷ fs) [] i rows e = absurd rows
+  rows_none n (f ∷ fs) (h ∷ hs) zero rows e = no_none f (sym e)
+  rows_none n (f ∷ fs) (h ∷ hs) (suc i) rows e = rows_none (suc n) fs hs i rows.1 e
 
   locals_none : (defs : List StructDef) (ls : List Local) (rs : List (Option ℕ)) (x : ℕ) → slice_get ls x ≡ None → slice_get (local_rows defs ls rs) x ≡ None
   locals_none defs [] rs x e = refl
@@ -101,10 +105,12 @@ module _ (p : Program) where
 
   row_is : (f x : ℕ) (o : Option Function) → slice_get p.functions f ≡ o → IsRow p (row_of c f x) (local_type p f x)
   row_is f x None e =
-      subst (λ r. IsRow p (slice_get (locals_in r) x) (local_type p f x)) (sym (rows_none 0 p.functions f e)) (ap (λ o. type_in (slice_get (rows_in o) x)) e)
+      subst (λ r. IsRow p (slice_get (locals_in r) x) (local_type p f x)) (sym (rows_none 0 p.functions gs f are e)) (ap (λ o. type_in (slice_get (rows_in o) x)) e)
   row_is f x (Some fn) e =
-      subst (λ r. IsRow p (slice_get (locals_in r) x) (local_type p f x)) (sym (row_there p f fn e))
-      (subst (λ o. IsRow p (slice_get (local_rows p.defs fn.locals (registers_from fn.locals 0)) x) (type_in (slice_get (rows_in o) x))) (sym e) (local_is fn.locals (registers_from fn.locals 0) x (slice_get fn.locals x) refl))
+      let q = function_row_at p f fn gs e are in
+      subst (λ r. IsRow p (slice_get (locals_in r) x) (local_type p f x)) (sym q.1)
+      (subst (λ ls. IsRow p (slice_get ls x) (local_type p f x)) (sym q.2.locals)
+      (subst (λ o. IsRow p (slice_get (local_rows p.defs fn.locals (registers_from fn.locals 0)) x) (type_in (slice_get (rows_in o) x))) (sym e) (local_is fn.locals (registers_from fn.locals 0) x (slice_get fn.locals x) refl)))
 
   struct_from : (defs : List StructDef) (n : ℕ) (ds : List StructDef) (i : ℕ) (o : Option StructDef) → slice_get ds i ≡ o → (o ≡ None → [] ≡ leaves_of defs (Struct (i + n))) → leaves_in (slice_get (struct_rows defs n ds) i) ≡ leaves_of defs (Struct (i + n))
   struct_from defs n [] i o e go = go (sym e)
@@ -121,9 +127,9 @@ module _ (p : Program) where
       let z : s + 0 ≡ s = omega arith in
       struct_from p.defs 0 p.defs s (slice_get p.defs s) refl (λ k. no_members s (slice_get p.defs s) refl k ∙ ap (λ m. leaves_of p.defs (Struct m)) (sym z)) ∙ ap (λ m. leaves_of p.defs (Struct m)) z
 
-  pub is_code : AllByRecursion (IsObject p) p.objects → IsCodeOf p (program_code p)
+  pub is_code : AllByRecursion (IsObject p) p.objects → IsCodeOf p (code_with p gs)
   is_code h = record {
-    code = λ f fn e. ap code_in (row_there p f fn e);
+    code = λ f fn e. let q = function_row_at p f fn gs e are in ap code_in q.1 ∙ q.2.code;
     rows = λ f x. row_is f x (slice_get p.functions f) refl;
     structs = struct_is;
     objects = length-map p.objects (object_row p);

@@ -21,7 +21,8 @@ use Rattle.slot_ir.specs.WellFormed.{operators_in}
 use Rattle.slot_gen.specs.Expressions.{access_of, converting, cast_code, expr_code, unless_register, register_of, if_register, write_at, choice_code}
 use Rattle.slot_gen.specs.Statements.{Around, Target, nowhere, stmt_code, stmts_code, block_code, else_code, body_code, body_targets, body_defaults, row_targets, targets_at, constants_of, first_target, zeros_code, part_code, init_code, inits_code, test_code, loop_test, loop_body, loop_code, in_loop, in_switch, switch_code, seek_code, body_place, end_place, function_code, zero_code}
 use Rattle.slot_gen.specs.Tokens.{tokens_of, part_tokens, init_tokens, declared_tokens, stmt_tokens, stmts_tokens, else_tokens}
-use Rattle.slot_formed.specs.Code.{function_row, function_rows, program_code}
+use Rattle.slot_ir.specs.declared.code.SlotCode.{SlotCode}
+use Rattle.slot_formed.specs.Code.{AreFunctionRows, IsProgramCode}
 use Rattle.slot_formed.specs.Tokens.{function_tokens, program_tokens}
 use Rattle.slot_formed.proofs.Lists.{sum_more}
 use Rattle.slot_formed.proofs.Stmts.{block_stmts}
@@ -198,10 +199,13 @@ module _ (short : (p : Program) (f at d : ℕ) (e : Typed) → length (expr_code
           omega (arith, zeros_length ds, inits_few (body_place + length zeros) ds, rows_few row nowhere m start, ap (λ (l : List SlotOp). length l) (block_stmts p f nowhere m start row))
       by _ m = omega arith
 
-functions_few : (short : (p : Program) (f at d : ℕ) (e : Typed) → length (expr_code p f at d e) ≤ 6 * tokens_of e) (p : Program) (f : ℕ) (fs : List Function) → sum (map (λ (s : SlotFunction). length s.code) (function_rows p f fs)) ≤ 6 * sum (map function_tokens fs)
-functions_few short p f [] = omega arith
-functions_few short p f (fn ∷ fs) =
-    omega (arith, sum_more (λ (s : SlotFunction). length s.code) (function_row p f fn) (function_rows p (suc f) fs), sum_more function_tokens fn fs, function_few short p f fn, functions_few short p (suc f) fs)
+functions_few : (short : (p : Program) (f at d : ℕ) (e : Typed) → length (expr_code p f at d e) ≤ 6 * tokens_of e) (p : Program) (f : ℕ) (fs : List Function) (gs : List SlotFunction) → AreFunctionRows p f fs gs → sum (map (λ (s : SlotFunction). length s.code) gs) ≤ 6 * sum (map function_tokens fs)
+functions_few short p f [] [] are = omega arith
+functions_few short p f [] (g ∷ gs) are = absurd are
+functions_few short p f (fn ∷ fs) [] are = absurd are
+functions_few short p f (fn ∷ fs) (g ∷ gs) are =
+    let same : length g.code ≡ length (function_code p f fn) = ap (λ (l : List SlotOp). length l) are.0.code in
+    omega (arith, same, sum_more (λ (s : SlotFunction). length s.code) g gs, sum_more function_tokens fn fs, function_few short p f fn, functions_few short p (suc f) fs gs are.1)
 
-pub program_few : (short : (p : Program) (f at d : ℕ) (e : Typed) → length (expr_code p f at d e) ≤ 6 * tokens_of e) (p : Program) → operators_in (program_code p) ≤ 6 * program_tokens p
-program_few short p = functions_few short p 0 p.functions
+pub program_few : (short : (p : Program) (f at d : ℕ) (e : Typed) → length (expr_code p f at d e) ≤ 6 * tokens_of e) (p : Program) (c : SlotCode) → IsProgramCode p c → operators_in c ≤ 6 * program_tokens p
+program_few short p c is = functions_few short p 0 p.functions c.functions is.functions

@@ -26,6 +26,8 @@ use Rattle.slot_ir.specs.declared.code.Home.TheVariants.{Block, Register}
 use Rattle.slot_ir.specs.declared.code.SlotCode.{SlotCode}
 use Rattle.slot_ir.specs.declared.code.SlotFunction.{SlotFunction}
 use Rattle.slot_ir.specs.declared.code.SlotLocal.{SlotLocal}
+use Rattle.slot_ir.specs.declared.code.SlotObject.{SlotObject}
+use Rattle.slot_ir.specs.declared.code.SlotStruct.{SlotStruct}
 use Rattle.slot_ir.specs.declared.code.SlotOp.{SlotOp}
 use Rattle.slot_ir.specs.declared.code.SlotOp.TheVariants as op
 use Rattle.slot_ir.specs.WellFormed.{operators_in, IsFunction, IsWellFormed, NamesWhatIsThere, PlacesOf}
@@ -33,12 +35,12 @@ use Rattle.slot_gen.specs.Expressions.{access_of, registers_from, register_at, r
 use Rattle.slot_gen.specs.Statements.{nowhere, zeros_code, inits_code, stmts_code, zero_code, body_place, end_place, function_code}
 use Rattle.slot_gen.specs.Correct.{HasMain}
 use Rattle.slot_gen.specs.Bounds.{function_temps, IsBelow, AreBelow}
-use Rattle.slot_formed.specs.Code.{home_of, local_rows, local_row, object_row, function_row, function_rows, stop_place, program_code}
+use Rattle.slot_formed.specs.Code.{ArePlaces, IsFunctionRow, AreFunctionRows, IsProgramCode, struct_rows, home_of, local_rows, local_row, object_row, function_row, function_rows, stop_place, program_code}
 use Rattle.slot_formed.specs.Accesses.{ReadsItsKind, IsScalar, IsReadable, IsUniform}
 use Rattle.slot_formed.specs.Tokens.{program_tokens}
-use Rattle.slot_formed.proofs.Lists.{all_append, all_left, all_right, and_parts}
+use Rattle.slot_formed.proofs.Lists.{no_none, some_same, all_append, all_left, all_right, and_parts}
 use Rattle.slot_formed.proofs.Types.{function_there}
-use Rattle.slot_formed.proofs.Homes.{register_there, local_there, locals_length, structs_length, row_there}
+use Rattle.slot_formed.proofs.Homes.{register_there, local_there, locals_length, structs_length}
 use Rattle.slot_formed.proofs.Good.{Among, Good, G}
 use Rattle.slot_formed.proofs.Names.{numbers_length}
 use Rattle.slot_formed.proofs.Stmts.{numbers_of, body_of_good, zero_good}
@@ -82,6 +84,40 @@ abbrev RegisterIn : Option SlotLocal → Type 0
 RegisterIn None = ⊥
 RegisterIn (Some l) = elim l.home as (λ h. Type 0) [ Block ↦ ⊥ | Register r ↦ r < 8 ]
 
+-- ---- rows
+
+-- a code and a row whose other parts are those of a program
+abbrev pub code_with : Program → List SlotFunction → SlotCode
+code_with p gs = record { functions = gs; main = main_from 0 p.functions; objects = map (object_row p) p.objects; strings = p.strings; structs = struct_rows p.defs 0 p.defs }
+
+abbrev row_with : Program → ℕ → Function → List ℕ → ℕ → List ℕ → SlotFunction
+row_with p f fn name temps placed = record {
+  name = name;
+  params = fn.params;
+  locals = local_rows p.defs fn.locals (registers_from fn.locals 0);
+  temporaries = temps;
+  points = fn.points;
+  places = placed;
+  code = function_code p f fn;
+}
+
+row_from : (p : Program) (n : ℕ) (fns : List Function) (gs : List SlotFunction) (i : ℕ) (h : Function) → slice_get fns i ≡ Some h → AreFunctionRows p n fns gs → (g : SlotFunction) × (slice_get gs i ≡ Some g) × IsFunctionRow p (i + n) h g
+row_from p n [] gs i h e are = no_none h e
+row_from p n (fn ∷ fns) [] i h e are = absurd are
+row_from p n (fn ∷ fns) (g ∷ gs) zero h e are =
+    let z : n ≡ 0 + n = omega arith in
+    (g, refl, subst (λ m. IsFunctionRow p m h g) z (subst (λ y. IsFunctionRow p n y g) (some_same fn h e) are.0))
+row_from p n (fn ∷ fns) (g ∷ gs) (suc i) h e are =
+    let q = row_from p (suc n) fns gs i h e are.1 in
+    let z : i + suc n ≡ suc i + n = omega arith in
+    (q.0, q.1, subst (λ m. IsFunctionRow p m h q.0) z q.2)
+
+pub function_row_at : (p : Program) (i : ℕ) (h : Function) (gs : List SlotFunction) → slice_get p.functions i ≡ Some h → AreFunctionRows p 0 p.functions gs → (g : SlotFunction) × (slice_get gs i ≡ Some g) × IsFunctionRow p i h g
+function_row_at p i h gs e are =
+    let q = row_from p 0 p.functions gs i h e are in
+    let z : i + 0 ≡ i = omega arith in
+    (q.0, q.1, subst (λ m. IsFunctionRow p m h q.0) z q.2)
+
 -- ---- parameters
 
 scalar_row : (defs : List StructDef) (l : Local) (r : Option ℕ) → is_scalar (plain l.ctype) ≡ true → IsScalar (local_row defs l r)
@@ -101,79 +137,9 @@ scalars_there defs zero ls rs h = tt
 scalars_there defs (suc n) [] rs h = tt
 scalars_there defs (suc n) (l ∷ ls) rs h = (scalar_row defs l (register_at rs 0) h.0, scalars_there defs n ls (drop 1 rs) h.1)
 
+-- ---- a function's code
+
 module _ (p : Program) (accepted : IsAccepted p) (ascend : (t : CType) → LieIn 0 (leaves_of p.defs t) (size_of p.defs t)) (f : ℕ) (fn : Function) (here : slice_get p.functions f ≡ Some fn) (n : ℕ) (size : n ≡ length (function_code p f fn)) where
-  abbrev c : SlotCode
-  c = program_code p
-
-  abbrev row : SlotFunction
-  row = function_row p f fn
-
-  abbrev rs : List (Option ℕ)
-  rs = registers_from fn.locals 0
-
-  register_here : (x : ℕ) → register_of p f x ≡ register_at rs x
-  register_here x = ap (λ o. register_at (registers_from (rows_in o) 0) x) here
-
-  block_there : (x : ℕ) → x < length fn.locals → register_of p f x ≡ None → BlockIn (slice_get row.locals x)
-  block_there x h e =
-      let l = some_at fn.locals x h in
-      let none : register_at rs x ≡ None = sym (register_here x) ∙ e in
-      subst BlockIn (sym (local_there p.defs fn.locals rs x l.0 l.1)) (subst (λ r. BlockIn (Some (local_row p.defs l.0 r))) (sym none) refl)
-
-  register_in_there : (x r : ℕ) → register_of p f x ≡ Some r → RegisterIn (slice_get row.locals x)
-  register_in_there x r e =
-      let some : register_at rs x ≡ Some r = sym (register_here x) ∙ e in
-      let q = register_there fn.locals 0 x r some in
-      subst RegisterIn (sym (local_there p.defs fn.locals rs x q.0 q.1)) (subst (λ r. RegisterIn (Some (local_row p.defs q.0 r))) (sym some) q.3)
-
-  abbrev TakesIn : Option SlotFunction → ℕ → Type 0
-  TakesIn None m = ⊥
-  TakesIn (Some g) m = (m ≡ g.params) × (m ≤ 16)
-
-  takes_there : (g m : ℕ) (h : Function) → slice_get p.functions g ≡ Some h → m ≡ h.params → TakesIn (slice_get c.functions g) m
-  takes_there g m h e k =
-      let few = (function_there p accepted g h e).few in
-      subst (λ o. TakesIn o m) (sym (row_there p g h e)) (k, omega (arith, few, k))
-
-  lands : (place : ℕ) → place < n → place < length row.code
-  lands place h = omega (arith, h, size)
-
-  names_op : (o : SlotOp) → IsBelow (function_temps fn) o → Good p f fn n o → NamesWhatIsThere c row o
-  names_op (op.Const d b) t g = t
-  names_op (op.Null d) t g = t
-  names_op (op.StaticAddress d o) t g = (t, subst (λ m. o < m) (sym (length-map p.objects (object_row p))) g)
-  names_op (op.TextAddress d k) t g = (t, g)
-  names_op (op.LocalAddress d x) t g = (t, block_there x g.0 g.1)
-  names_op (op.Load d i k a) t g = t
-  names_op (op.Store i j k) t g = t
-  names_op (op.ReadRegister d x k a) t g = (t, register_in_there x g.0 g.1)
-  names_op (op.WriteRegister j x k) t g = (t, register_in_there x g.0 g.1)
-  names_op (op.Convert d a) t g = t
-  names_op (op.Unary d o) t g = t
-  names_op (op.Binary d i j o) t g = t
-  names_op (op.Compare d i j o) t g = t
-  names_op (op.Index d i j s u back) t g = (t.0, t.1, t.2, g)
-  names_op (op.Distance d i j s) t g = (t.0, t.1, t.2, g.0, g.1)
-  names_op (op.Offset d b) t g = (t, g)
-  names_op (op.Take d i) t g = t
-  names_op (op.Jump place) t g = lands place g
-  names_op (op.JumpIfZero d place) t g = (t, lands place g)
-  names_op (op.JumpIfNotZero d place) t g = (t, lands place g)
-  names_op (op.JumpIfEqual d b place) t g = (t, lands place g)
-  names_op (op.Call d k m) t g = (t.0, t.1, takes_there k m g.0 g.1 g.2)
-  names_op (op.Return d) t g = t
-  names_op (op.Stop q) t g = g
-  names_op (op.Move i j s) t g = (t.0, t.1, subst (λ m. s < m) (sym (structs_length p.defs 0 p.defs)) g)
-  names_op (op.Zero x) t g = subst (λ m. x < m) (sym (locals_length p.defs fn.locals rs)) g
-  names_op (op.Leave m) t g = subst (λ k. m ≤ k) (sym (locals_length p.defs fn.locals rs)) g
-  names_op (op.GetChar d) t g = t
-  names_op (op.PutChar d) t g = t
-  names_op (op.Exit d) t g = t
-
-  names_all : (l : List SlotOp) → AreBelow (function_temps fn) l → G p f fn n l → AllByRecursion (NamesWhatIsThere c row) l
-  names_all [] t g = tt
-  names_all (o ∷ l) t g = (names_op o t.0 g.0, names_all l t.1 g.1)
-
   reads_op : (o : SlotOp) → Good p f fn n o → ReadsItsKind o
   reads_op (op.Load d i k a) g = g
   reads_op (op.ReadRegister d x k a) g = g.2
@@ -182,12 +148,6 @@ module _ (p : Program) (accepted : IsAccepted p) (ascend : (t : CType) → LieIn
   reads_all : (l : List SlotOp) → G p f fn n l → AllByRecursion ReadsItsKind l
   reads_all [] g = tt
   reads_all (o ∷ l) g = (reads_op o g.0, reads_all l g.1)
-
-  places_all : (qs : List ℕ) → HasAll row.code qs → PlacesOf c row qs (map (λ q. stop_place q row.code) qs)
-  places_all [] h = tt
-  places_all (q ∷ qs) h = (stop_found q row.code h.0, places_all qs h.1)
-
-  -- ---- the function
 
   mine : IsItsFunction p f fn
   mine = function_there p accepted f fn here
@@ -274,34 +234,142 @@ module _ (p : Program) (accepted : IsAccepted p) (ascend : (t : CType) → LieIn
         let has_last : Has (function_code p f fn) last = inr (inr (inr (inl (ap op.Stop last_same)))) in
         subst (λ qs. HasAll (function_code p f fn) qs) (sym points) (has_first, all_append (Has (function_code p f fn)) (points_in fn.body) (last ∷ []) in_body (has_last, tt))
 
-    function_formed : (below : AreBelow (function_temps fn) (function_code p f fn)) → IsFunction c row
-    function_formed below = (
-      omega (arith, code_size, size),
-      omega (arith, locals_count, locals_length p.defs fn.locals rs),
-      mine.few,
-      locals_good p accepted ascend fn.locals rs mine.locals,
-      names_all (function_code p f fn) below function_good,
-      places_all fn.points points_has,
-    )
+    function_readable : (name : List ℕ) (temps : ℕ) (placed : List ℕ) → IsReadable (row_with p f fn name temps placed)
+    function_readable name temps placed = (reads_all (function_code p f fn) function_good, scalars_there p.defs fn.params fn.locals (registers_from fn.locals 0) mine.scalars)
 
-    function_readable : IsReadable row
-    function_readable = (reads_all (function_code p f fn) function_good, scalars_there p.defs fn.params fn.locals rs mine.scalars)
+-- ---- a function's row
+
+module _ (p : Program) (accepted : IsAccepted p) (ascend : (t : CType) → LieIn 0 (leaves_of p.defs t) (size_of p.defs t)) (f : ℕ) (fn : Function) (here : slice_get p.functions f ≡ Some fn) (n : ℕ) (size : n ≡ length (function_code p f fn)) (gs : List SlotFunction) (are : AreFunctionRows p 0 p.functions gs) (name : List ℕ) (temps : ℕ) (placed : List ℕ) where
+  abbrev c : SlotCode
+  c = code_with p gs
+
+  abbrev row : SlotFunction
+  row = row_with p f fn name temps placed
+
+  abbrev rs : List (Option ℕ)
+  rs = registers_from fn.locals 0
+
+  register_here : (x : ℕ) → register_of p f x ≡ register_at rs x
+  register_here x = ap (λ o. register_at (registers_from (rows_in o) 0) x) here
+
+  block_there : (x : ℕ) → x < length fn.locals → register_of p f x ≡ None → BlockIn (slice_get row.locals x)
+  block_there x h e =
+      let l = some_at fn.locals x h in
+      let none : register_at rs x ≡ None = sym (register_here x) ∙ e in
+      subst BlockIn (sym (local_there p.defs fn.locals rs x l.0 l.1)) (subst (λ r. BlockIn (Some (local_row p.defs l.0 r))) (sym none) refl)
+
+  register_in_there : (x r : ℕ) → register_of p f x ≡ Some r → RegisterIn (slice_get row.locals x)
+  register_in_there x r e =
+      let some : register_at rs x ≡ Some r = sym (register_here x) ∙ e in
+      let q = register_there fn.locals 0 x r some in
+      subst RegisterIn (sym (local_there p.defs fn.locals rs x q.0 q.1)) (subst (λ r. RegisterIn (Some (local_row p.defs q.0 r))) (sym some) q.3)
+
+  abbrev TakesIn : Option SlotFunction → ℕ → Type 0
+  TakesIn None m = ⊥
+  TakesIn (Some g) m = (m ≡ g.params) × (m ≤ 16)
+
+  takes_there : (g m : ℕ) (h : Function) → slice_get p.functions g ≡ Some h → m ≡ h.params → TakesIn (slice_get c.functions g) m
+  takes_there g m h e k =
+      let few = (function_there p accepted g h e).few in
+      let q = function_row_at p g h gs e are in
+      subst (λ o. TakesIn o m) (sym q.1) (k ∙ sym q.2.params, omega (arith, few, k))
+
+  lands : (place : ℕ) → place < n → place < length row.code
+  lands place h = omega (arith, h, size)
+
+  names_op : (o : SlotOp) → IsBelow temps o → Good p f fn n o → NamesWhatIsThere c row o
+  names_op (op.Const d b) t g = t
+  names_op (op.Null d) t g = t
+  names_op (op.StaticAddress d o) t g = (t, subst (λ m. o < m) (sym (length-map p.objects (object_row p))) g)
+  names_op (op.TextAddress d k) t g = (t, g)
+  names_op (op.LocalAddress d x) t g = (t, block_there x g.0 g.1)
+  names_op (op.Load d i k a) t g = t
+  names_op (op.Store i j k) t g = t
+  names_op (op.ReadRegister d x k a) t g = (t, register_in_there x g.0 g.1)
+  names_op (op.WriteRegister j x k) t g = (t, register_in_there x g.0 g.1)
+  names_op (op.Convert d a) t g = t
+  names_op (op.Unary d o) t g = t
+  names_op (op.Binary d i j o) t g = t
+  names_op (op.Compare d i j o) t g = t
+  names_op (op.Index d i j s u back) t g = (t.0, t.1, t.2, g)
+  names_op (op.Distance d i j s) t g = (t.0, t.1, t.2, g.0, g.1)
+  names_op (op.Offset d b) t g = (t, g)
+  names_op (op.Take d i) t g = t
+  names_op (op.Jump place) t g = lands place g
+  names_op (op.JumpIfZero d place) t g = (t, lands place g)
+  names_op (op.JumpIfNotZero d place) t g = (t, lands place g)
+  names_op (op.JumpIfEqual d b place) t g = (t, lands place g)
+  names_op (op.Call d k m) t g = (t.0, t.1, takes_there k m g.0 g.1 g.2)
+  names_op (op.Return d) t g = t
+  names_op (op.Stop q) t g = g
+  names_op (op.Move i j s) t g = (t.0, t.1, subst (λ m. s < m) (sym (structs_length p.defs 0 p.defs)) g)
+  names_op (op.Zero x) t g = subst (λ m. x < m) (sym (locals_length p.defs fn.locals rs)) g
+  names_op (op.Leave m) t g = subst (λ k. m ≤ k) (sym (locals_length p.defs fn.locals rs)) g
+  names_op (op.GetChar d) t g = t
+  names_op (op.PutChar d) t g = t
+  names_op (op.Exit d) t g = t
+
+  names_all : (l : List SlotOp) → AreBelow temps l → G p f fn n l → AllByRecursion (NamesWhatIsThere c row) l
+  names_all [] t g = tt
+  names_all (o ∷ l) t g = (names_op o t.0 g.0, names_all l t.1 g.1)
+
+  places_all : (qs is : List ℕ) → ArePlaces row.code qs is → PlacesOf c row qs is
+  places_all [] [] h = tt
+  places_all (q ∷ qs) (i ∷ is) h = (h.0, places_all qs is h.1)
+  places_all [] (i ∷ is) h = absurd h
+  places_all (q ∷ qs) [] h = absurd h
+
+  function_formed : (first last : ℕ) → fn.points ≡ first ∷ (points_in fn.body ++ last ∷ []) → AreBelow temps (function_code p f fn) → ArePlaces (function_code p f fn) fn.points placed → IsFunction c row
+  function_formed first last points below places = (
+    omega (arith, code_size p accepted ascend f fn here n size first last points, size),
+    omega (arith, locals_count p accepted ascend f fn here n size, locals_length p.defs fn.locals rs),
+    (mine p accepted ascend f fn here n size).few,
+    locals_good p accepted ascend fn.locals rs (mine p accepted ascend f fn here n size).locals,
+    names_all (function_code p f fn) below (function_good p accepted ascend f fn here n size first last points),
+    places_all fn.points placed places,
+  )
+
+points_stand : (p : Program) → IsAccepted p → ((t : CType) → LieIn 0 (leaves_of p.defs t) (size_of p.defs t)) → (f : ℕ) (fn : Function) → slice_get p.functions f ≡ Some fn → (first last : ℕ) → fn.points ≡ first ∷ (points_in fn.body ++ last ∷ []) → HasAll (function_code p f fn) fn.points
+points_stand p accepted ascend f fn e first last points = points_has p accepted ascend f fn e (length (function_code p f fn)) refl first last points
 
 -- ---- the program
 
-module _ (p : Program) (accepted : IsAccepted p) (ascend : (t : CType) → LieIn 0 (leaves_of p.defs t) (size_of p.defs t)) (below : (f : ℕ) (fn : Function) → AreBelow (function_temps fn) (function_code p f fn)) where
-  formed_there : (f : ℕ) (fn : Function) → slice_get p.functions f ≡ Some fn → IsFunction (program_code p) (function_row p f fn)
-  formed_there f fn e =
-      let q = (function_there p accepted f fn e).points in
-      function_formed p accepted ascend f fn e (length (function_code p f fn)) refl q.0 q.1 q.2 (below f fn)
+module _ (p : Program) (accepted : IsAccepted p) (ascend : (t : CType) → LieIn 0 (leaves_of p.defs t) (size_of p.defs t)) where
+  -- what holds of the row with the program's parts holds of each row of the function
+  of_row : (P : SlotFunction → Type 0) (f : ℕ) (fn : Function) (g : SlotFunction) → IsFunctionRow p f fn g
+      → (AreBelow g.temporaries (function_code p f fn) → ArePlaces (function_code p f fn) fn.points g.places → P (row_with p f fn g.name g.temporaries g.places)) → P g
+  of_row P f fn g is go =
+      let below : AreBelow g.temporaries (function_code p f fn) = subst (AreBelow g.temporaries) is.code is.temporaries in
+      let places : ArePlaces (function_code p f fn) fn.points g.places = subst (λ qs. ArePlaces (function_code p f fn) qs g.places) is.points (subst (λ l. ArePlaces l g.points g.places) is.code is.places) in
+      subst (λ (n : ℕ). P (record g { params = n })) (sym is.params)
+      (subst (λ (ls : List SlotLocal). P (record g { params = fn.params; locals = ls })) (sym is.locals)
+      (subst (λ (qs : List ℕ). P (record g { params = fn.params; locals = local_rows p.defs fn.locals (registers_from fn.locals 0); points = qs })) (sym is.points)
+      (subst (λ (l : List SlotOp). P (record g { params = fn.params; locals = local_rows p.defs fn.locals (registers_from fn.locals 0); points = fn.points; code = l })) (sym is.code) (go below places))))
 
-  rows_formed : (n : ℕ) (fs : List Function) → ((i : ℕ) (fn : Function) → slice_get fs i ≡ Some fn → IsFunction (program_code p) (function_row p (i + n) fn)) → AllByRecursion (IsFunction (program_code p)) (function_rows p n fs)
-  rows_formed n [] go = tt
-  rows_formed n (fn ∷ fs) go =
-      let z : 0 + n ≡ n = omega arith in (
-        subst (λ m. IsFunction (program_code p) (function_row p m fn)) z (go 0 fn refl),
-        rows_formed (suc n) fs λ i g e. let w : suc i + n ≡ i + suc n = omega arith in subst (λ m. IsFunction (program_code p) (function_row p m g)) w (go (suc i) g e),
-      )
+  module _ (gs : List SlotFunction) (are : AreFunctionRows p 0 p.functions gs) where
+    formed_there : (f : ℕ) (fn : Function) (g : SlotFunction) → slice_get p.functions f ≡ Some fn → IsFunctionRow p f fn g → IsFunction (code_with p gs) g
+    formed_there f fn g e is =
+        let q = (function_there p accepted f fn e).points in
+        of_row (IsFunction (code_with p gs)) f fn g is (λ below places. function_formed p accepted ascend f fn e (length (function_code p f fn)) refl gs are g.name g.temporaries g.places q.0 q.1 q.2 below places)
+
+    readable_there : (f : ℕ) (fn : Function) (g : SlotFunction) → slice_get p.functions f ≡ Some fn → IsFunctionRow p f fn g → IsReadable g
+    readable_there f fn g e is =
+        let q = (function_there p accepted f fn e).points in
+        of_row IsReadable f fn g is (λ below places. function_readable p accepted ascend f fn e (length (function_code p f fn)) refl q.0 q.1 q.2 g.name g.temporaries g.places)
+
+    each_row : (P : SlotFunction → Type 0) → ((f : ℕ) (fn : Function) (g : SlotFunction) → slice_get p.functions f ≡ Some fn → IsFunctionRow p f fn g → P g)
+        → (n : ℕ) (fns : List Function) (hs : List SlotFunction) → AreFunctionRows p n fns hs → ((i : ℕ) (fn : Function) → slice_get fns i ≡ Some fn → slice_get p.functions (i + n) ≡ Some fn) → AllByRecursion P hs
+    each_row P go n [] [] rows at = tt
+    each_row P go n [] (h ∷ hs) rows at = absurd rows
+    each_row P go n (fn ∷ fns) [] rows at = absurd rows
+    each_row P go n (fn ∷ fns) (h ∷ hs) rows at =
+        let z : 0 + n ≡ n = omega arith in (
+          go n fn h (ap (λ m. slice_get p.functions m) (sym z) ∙ at 0 fn refl) rows.0,
+          each_row P go (suc n) fns hs rows.1 λ i g e. let w : i + suc n ≡ suc i + n = omega arith in ap (λ m. slice_get p.functions m) w ∙ at (suc i) g e,
+        )
+
+    all_rows : (P : SlotFunction → Type 0) → ((f : ℕ) (fn : Function) (g : SlotFunction) → slice_get p.functions f ≡ Some fn → IsFunctionRow p f fn g → P g) → AllByRecursion P gs
+    all_rows P go = each_row P go 0 p.functions gs are (λ i fn e. let z : i + 0 ≡ i = omega arith in ap (λ m. slice_get p.functions m) z ∙ e)
 
   abbrev ParamsIn : Option SlotFunction → Type 0
   ParamsIn None = ⊥
@@ -322,33 +390,58 @@ module _ (p : Program) (accepted : IsAccepted p) (ascend : (t : CType) → LieIn
       let none = (and_parts (same (plain q.1.result) Int) (q.1.params == 0) (main_params (is_called_main q.1) (same (plain q.1.result) Int && (q.1.params == 0)) m q.4)).1 in
       (q.1, ap (λ k. slice_get p.functions k) i ∙ q.3, same_number q.1.params 0 none)
 
-  main_formed : ParamsIn (slice_get (program_code p).functions (main_from 0 p.functions))
-  main_formed = subst ParamsIn (sym (row_there p (main_from 0 p.functions) main_is.0 main_is.1)) main_is.2
+  main_formed : (gs : List SlotFunction) → AreFunctionRows p 0 p.functions gs → ParamsIn (slice_get gs (main_from 0 p.functions))
+  main_formed gs are =
+      let q = function_row_at p (main_from 0 p.functions) main_is.0 gs main_is.1 are in
+      subst ParamsIn (sym q.1) (q.2.params ∙ main_is.2)
 
-  pub well_formed : program_tokens p ≤ 40000 → operators_in (program_code p) ≤ 6 * program_tokens p → IsWellFormed (program_code p)
-  well_formed few short = (
-    main_formed,
-    rows_formed 0 p.functions (λ i fn e. let z : i ≡ i + 0 = omega arith in subst (λ m. IsFunction (program_code p) (function_row p m fn)) z (formed_there i fn e)),
-    objects_good p accepted ascend p.objects accepted.objects,
-    static_few p accepted ascend,
-    omega (arith, few, short),
-  )
+  -- what holds of the code with the program's parts holds of each code of the program
+  pub of_code : (P : SlotCode → Type 0) (c : SlotCode) → IsProgramCode p c → P (code_with p c.functions) → P c
+  of_code P c is h =
+      subst (λ (n : ℕ). P (record c { main = n })) (sym is.main)
+      (subst (λ (os : List SlotObject). P (record c { main = main_from 0 p.functions; objects = os })) (sym is.objects)
+      (subst (λ (ss : List (List ℕ)). P (record c { main = main_from 0 p.functions; objects = map (object_row p) p.objects; strings = ss })) (sym is.strings)
+      (subst (λ (ts : List SlotStruct). P (record c { main = main_from 0 p.functions; objects = map (object_row p) p.objects; strings = p.strings; structs = ts })) (sym is.structs) h)))
 
-  -- ---- loads and parameters
-
-  readable_there : (f : ℕ) (fn : Function) → slice_get p.functions f ≡ Some fn → IsReadable (function_row p f fn)
-  readable_there f fn e =
-      let q = (function_there p accepted f fn e).points in
-      function_readable p accepted ascend f fn e (length (function_code p f fn)) refl q.0 q.1 q.2
-
-  rows_readable : (n : ℕ) (fs : List Function) → ((i : ℕ) (fn : Function) → slice_get fs i ≡ Some fn → IsReadable (function_row p (i + n) fn)) → AllByRecursion IsReadable (function_rows p n fs)
-  rows_readable n [] go = tt
-  rows_readable n (fn ∷ fs) go =
-      let z : 0 + n ≡ n = omega arith in
-      (
-        subst (λ m. IsReadable (function_row p m fn)) z (go 0 fn refl),
-        rows_readable (suc n) fs λ i g e. let w : suc i + n ≡ i + suc n = omega arith in subst (λ m. IsReadable (function_row p m g)) w (go (suc i) g e),
+  pub well_formed : (c : SlotCode) → IsProgramCode p c → program_tokens p ≤ 40000 → operators_in c ≤ 6 * program_tokens p → IsWellFormed c
+  well_formed c is few short =
+      of_code IsWellFormed c is (
+        main_formed c.functions is.functions,
+        all_rows c.functions is.functions (IsFunction (code_with p c.functions)) (formed_there c.functions is.functions),
+        objects_good p accepted ascend p.objects accepted.objects,
+        static_few p accepted ascend,
+        omega (arith, few, short),
       )
 
-  pub uniform : IsUniform (program_code p)
-  uniform = rows_readable 0 p.functions (λ i fn e. let z : i ≡ i + 0 = omega arith in subst (λ m. IsReadable (function_row p m fn)) z (readable_there i fn e))
+  pub uniform : (c : SlotCode) → IsProgramCode p c → IsUniform c
+  uniform c is = all_rows c.functions is.functions IsReadable (readable_there c.functions is.functions)
+
+  -- ---- a code that there is
+
+  places_there : (l : List SlotOp) (qs : List ℕ) → HasAll l qs → ArePlaces l qs (map (λ q. stop_place q l) qs)
+  places_there l [] h = tt
+  places_there l (q ∷ qs) h = (stop_found q l h.0, places_there l qs h.1)
+
+  module _ (below : (f : ℕ) (fn : Function) → AreBelow (function_temps fn) (function_code p f fn)) where
+    row_is : (f : ℕ) (fn : Function) → slice_get p.functions f ≡ Some fn → IsFunctionRow p f fn (function_row p f fn)
+    row_is f fn e =
+        let q = (function_there p accepted f fn e).points in
+        record {
+          params = refl;
+          locals = refl;
+          temporaries = below f fn;
+          points = refl;
+          places = places_there (function_code p f fn) fn.points (points_stand p accepted ascend f fn e q.0 q.1 q.2);
+          code = refl;
+        }
+
+    rows_are : (n : ℕ) (fns : List Function) → ((i : ℕ) (fn : Function) → slice_get fns i ≡ Some fn → slice_get p.functions (i + n) ≡ Some fn) → AreFunctionRows p n fns (function_rows p n fns)
+    rows_are n [] at = tt
+    rows_are n (fn ∷ fns) at =
+        let z : 0 + n ≡ n = omega arith in (
+          row_is n fn (ap (λ m. slice_get p.functions m) (sym z) ∙ at 0 fn refl),
+          rows_are (suc n) fns λ i g e. let w : i + suc n ≡ suc i + n = omega arith in ap (λ m. slice_get p.functions m) w ∙ at (suc i) g e,
+        )
+
+    pub there_is : IsProgramCode p (program_code p)
+    there_is = record { functions = rows_are 0 p.functions (λ i fn e. let z : i + 0 ≡ i = omega arith in ap (λ m. slice_get p.functions m) z ∙ e); main = refl; objects = refl; strings = refl; structs = refl }

@@ -1,5 +1,5 @@
 -- The slot code of a whole program, row by row.
-use Rattle.std.specs.Prelude.{ℕ, suc, List, [], ◌∷◌, Bool, false, ◌==◌, Option, Some, None, map, drop, if◌then◌else◌}
+use Rattle.std.specs.Prelude.{◌≡◌, slice_get, ℕ, suc, List, [], ◌∷◌, Bool, false, ◌==◌, Option, Some, None, map, drop, if◌then◌else◌}
 use Rattle.ldb_words.specs.declared.kinds.Kind.{Kind}
 use Rattle.ldb_words.specs.declared.kinds.Kind.TheVariants.{Address}
 use Rattle.c_tree.specs.declared.types.CType.TheVariants.{Struct}
@@ -28,7 +28,7 @@ use Rattle.slot_ir.specs.declared.code.SlotValue.{SlotValue}
 use Rattle.slot_ir.specs.declared.code.SlotValue.TheVariants as slot
 use Rattle.slot_gen.specs.Expressions.{access_of, registers_from, register_at}
 use Rattle.slot_gen.specs.Statements.{function_code}
-use Rattle.slot_gen.specs.Bounds.{function_temps}
+use Rattle.slot_gen.specs.Bounds.{function_temps, AreBelow}
 
 -- ---- functions
 
@@ -97,6 +97,35 @@ struct_rows defs s [] = []
 struct_rows defs s (d ∷ rest) = record { size = d.size; leaves = leaves_of defs (Struct s) } ∷ struct_rows defs (suc s) rest
 
 -- ---- the code of a program
+
+-- each point has a place at which its stop stands
+abbrev pub ArePlaces : List SlotOp → List ℕ → List ℕ → Type 0
+ArePlaces code [] [] = Unit {0}
+ArePlaces code (q ∷ qs) (i ∷ is) = (slice_get code i ≡ Some (Stop q)) × ArePlaces code qs is
+ArePlaces code _ _ = ⊥
+
+-- The row of function number f. It may have more temporaries than its code names.
+pub record IsFunctionRow (p : Program) (f : ℕ) (fn : Function) (g : SlotFunction) : Type 0 where
+  pub params : g.params ≡ fn.params
+  pub locals : g.locals ≡ local_rows p.defs fn.locals (registers_from fn.locals 0)
+  pub temporaries : AreBelow g.temporaries g.code
+  pub points : g.points ≡ fn.points
+  pub places : ArePlaces g.code g.points g.places
+  pub code : g.code ≡ function_code p f fn
+
+abbrev pub AreFunctionRows : Program → ℕ → List Function → List SlotFunction → Type 0
+AreFunctionRows p f [] [] = Unit {0}
+AreFunctionRows p f (fn ∷ fns) (g ∷ gs) = IsFunctionRow p f fn g × AreFunctionRows p (suc f) fns gs
+AreFunctionRows p f _ _ = ⊥
+
+pub record IsProgramCode (p : Program) (c : SlotCode) : Type 0 where
+  pub functions : AreFunctionRows p 0 p.functions c.functions
+  pub main : c.main ≡ main_from 0 p.functions
+  pub objects : c.objects ≡ map (object_row p) p.objects
+  pub strings : c.strings ≡ p.strings
+  pub structs : c.structs ≡ struct_rows p.defs 0 p.defs
+
+-- ---- such a code, with the fewest temporaries that the tree tells
 
 abbrev pub program_code : Program → SlotCode
 program_code p = record {

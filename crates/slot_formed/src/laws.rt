@@ -2,10 +2,11 @@
 ghost use Rattle.std.specs.Prelude.{◌≤◌, ◌*◌};
 ghost use Rattle.c_tree.specs.declared.rows.Program.{Program};
 ghost use Rattle.c_typing.specs.Accepted.{IsAccepted};
+ghost use Rattle.slot_ir.specs.declared.code.SlotCode.{SlotCode};
 ghost use Rattle.slot_ir.specs.WellFormed.{operators_of_a_token, operators_in, IsWellFormed};
 ghost use Rattle.slot_gen.specs.Correct.{IsCodeOf, Lowers};
 ghost use Rattle.slot_formed.specs.Accesses.{IsUniform};
-ghost use Rattle.slot_formed.specs.Code.{program_code};
+ghost use Rattle.slot_formed.specs.Code.{IsProgramCode, program_code};
 ghost use Rattle.slot_formed.specs.Tokens.{program_tokens};
 
 use c_tree::leaves_ascend;
@@ -13,27 +14,27 @@ use slot_gen::{
     code_of_an_expression_is_short, code_takes_few_temporaries, slot_code_keeps_the_run,
 };
 
-/// The slot code of a program has at most so many operators for each token that the program is written with.
+/// A slot code of a program has at most so many operators for each token that the program is written with.
 pub fn code_of_a_program_is_short()
-    ensures { (p : Program) → operators_in (program_code p) ≤ operators_of_a_token * program_tokens p }
+    ensures { (p : Program) (c : SlotCode) → IsProgramCode p c → operators_in c ≤ operators_of_a_token * program_tokens p }
 {
     code_of_an_expression_is_short();
 }
 
-/// The slot code of an accepted program that is written with at most 40,000 tokens is well formed. Its loads extend a byte and take a word or a pointer whole, and its parameters are scalars.
+/// A slot code of an accepted program that is written with at most 40,000 tokens is well formed. Its loads extend a byte and take a word or a pointer whole, and its parameters are scalars.
 pub fn code_is_well_formed()
-    ensures formed { (p : Program) → IsAccepted p → program_tokens p ≤ 40000 → IsWellFormed (program_code p) }
-    ensures uniform { (p : Program) → IsAccepted p → IsUniform (program_code p) }
+    ensures formed { (p : Program) (c : SlotCode) → IsAccepted p → IsProgramCode p c → program_tokens p ≤ 40000 → IsWellFormed c }
+    ensures uniform { (p : Program) (c : SlotCode) → IsAccepted p → IsProgramCode p c → IsUniform c }
 {
     code_of_a_program_is_short();
-    code_takes_few_temporaries();
     leaves_ascend();
 }
 
-/// The slot code of an accepted program passes its stopping points in order, with the same objects, activations, output and exit number, for every input and all assignments made at the stops, up to the program's first undefined step; and it shows nothing else.
+/// An accepted program has a slot code, and each of them passes the program's stopping points in order, with the same objects, activations, output and exit number, for every input and all assignments made at the stops, up to the program's first undefined step; and it shows nothing else.
 pub fn accepted_code_keeps_the_run()
-    ensures rows { (p : Program) → IsAccepted p → IsCodeOf p (program_code p) }
-    ensures run { (p : Program) → IsAccepted p → Lowers p (program_code p) }
+    ensures there { (p : Program) → IsAccepted p → IsProgramCode p (program_code p) }
+    ensures rows { (p : Program) (c : SlotCode) → IsAccepted p → IsProgramCode p c → IsCodeOf p c }
+    ensures run { (p : Program) (c : SlotCode) → IsAccepted p → IsProgramCode p c → Lowers p c }
 {
     leaves_ascend();
     code_takes_few_temporaries();
