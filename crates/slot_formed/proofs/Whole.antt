@@ -427,6 +427,7 @@ module _ (p : Program) (accepted : IsAccepted p) (ascend : (t : CType) → LieIn
     row_is f fn e =
         let q = (function_there p accepted f fn e).points in
         record {
+          name = refl;
           params = refl;
           locals = refl;
           temporaries = below f fn;

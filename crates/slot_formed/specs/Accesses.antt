@@ -1,5 +1,5 @@
 -- What a generator asks of slot code beside that it is well formed.
-use Rattle.std.specs.Prelude.{◌≡◌, List, [], ◌∷◌, take}
+use Rattle.std.specs.Prelude.{◌≡◌, [], ◌∷◌, take}
 use Rattle.std.specs.List.{AllByRecursion}
 use Rattle.ldb_words.specs.declared.kinds.Kind.{Kind}
 use Rattle.ldb_words.specs.declared.kinds.Kind.TheVariants.{Byte, Word, Address}

@@ -106,6 +106,7 @@ ArePlaces code _ _ = ⊥
 
 -- The row of function number f. It may have more temporaries than its code names.
 pub record IsFunctionRow (p : Program) (f : ℕ) (fn : Function) (g : SlotFunction) : Type 0 where
+  pub name : g.name ≡ fn.name
   pub params : g.params ≡ fn.params
   pub locals : g.locals ≡ local_rows p.defs fn.locals (registers_from fn.locals 0)
   pub temporaries : AreBelow g.temporaries g.code

@@ -1,10 +1,11 @@
 // What holds of the slot code of accepted programs.
 ghost use Rattle.std.specs.Prelude.{◌≤◌, ◌*◌};
 ghost use Rattle.c_tree.specs.declared.rows.Program.{Program};
+ghost use Rattle.c_tree.specs.Ordered.{AllLaidOut};
 ghost use Rattle.c_typing.specs.Accepted.{IsAccepted};
 ghost use Rattle.slot_ir.specs.declared.code.SlotCode.{SlotCode};
 ghost use Rattle.slot_ir.specs.WellFormed.{operators_of_a_token, operators_in, IsWellFormed};
-ghost use Rattle.slot_gen.specs.Correct.{IsCodeOf, Lowers};
+ghost use Rattle.slot_gen.specs.Correct.{IsCodeOf, HasMain, Lowers};
 ghost use Rattle.slot_formed.specs.Accesses.{IsUniform};
 ghost use Rattle.slot_formed.specs.Code.{IsProgramCode, program_code};
 ghost use Rattle.slot_formed.specs.Tokens.{program_tokens};
@@ -39,4 +40,12 @@ pub fn accepted_code_keeps_the_run()
     leaves_ascend();
     code_takes_few_temporaries();
     slot_code_keeps_the_run();
+}
+
+/// The structs of an accepted program stand as the layout has them, and it has a `main` without parameters.
+pub fn accepted_programs_are_laid_out()
+    ensures structs { (p : Program) → IsAccepted p → AllLaidOut p.defs }
+    ensures main { (p : Program) → IsAccepted p → HasMain p }
+{
+    leaves_ascend();
 }

@@ -3,4 +3,7 @@
 
 mod laws;
 
-pub use laws::{accepted_code_keeps_the_run, code_is_well_formed, code_of_a_program_is_short};
+pub use laws::{
+    accepted_code_keeps_the_run, accepted_programs_are_laid_out, code_is_well_formed,
+    code_of_a_program_is_short,
+};

@@ -1,4 +1,4 @@
-use Rattle.slot_gen.specs.Correct.{IsCodeOf, Lowers}
+use Rattle.slot_gen.specs.Correct.{IsCodeOf}
 use Rattle.slot_formed.proofs.Sizes.{laid_out}
 use Rattle.slot_formed.proofs.Whole.{main_is, of_code, there_is}
 use Rattle.slot_formed.proofs.Keeps.{is_code}
