@@ -136,3 +136,9 @@ program_code p = record {
   strings = p.strings;
   structs = struct_rows p.defs 0 p.defs;
 }
+
+-- ---- rows that are made one by one
+
+-- a function has the temporaries that its code names, and the place of each point
+abbrev pub IsComplete : SlotFunction → Type 0
+IsComplete g = AreBelow g.temporaries g.code × ArePlaces g.code g.points g.places

@@ -1,8 +1,10 @@
 //! The slot code of an accepted program is well formed.
 #![tactic(auto)]
 
+mod complete;
 mod laws;
 
+pub use complete::is_complete;
 pub use laws::{
     accepted_code_keeps_the_run, accepted_programs_are_laid_out, code_is_well_formed,
     code_of_a_program_is_short,
