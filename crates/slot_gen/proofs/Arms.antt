@@ -1,21 +1,80 @@
 -- The code that is emitted for each form of expression is the form's code.
-use Rattle.std.proofs.Common.{◌≡◌, ℕ, suc, ◌+◌, ◌<◌, ◌≤◌, List, [], ◌∷◌, ◌++◌, length, sym, ap, ◌∙◌, arith, append_assoc, length-append, get_or, drop}
-use Rattle.std.specs.Prelude.{Result, OnOk, Option, Some, None, Bool, true, false, if◌then◌else◌}
+use Rattle.std.proofs.Common.{◌≡◌, ℕ, suc, ◌+◌, ◌<◌, ◌≤◌, List, [], ◌∷◌, ◌++◌, length, refl, sym, ap, ◌∙◌, arith, append_assoc, length-append, get_or, drop}
+use Rattle.std.specs.Prelude.{Vec, slice_get, Result, OnOk, Option, Some, None, Bool, true, false, if◌then◌else◌}
 use Rattle.std.proofs.Math.Seq.{drop-cons}
 use Rattle.c_tree.specs.declared.types.CType.{CType}
 use Rattle.c_tree.specs.declared.typed.Head.{Head}
 use Rattle.c_tree.specs.declared.typed.BinaryOp.{BinaryOp}
-use Rattle.c_tree.specs.declared.typed.Typed.{Typed}
-use Rattle.c_tree.specs.declared.typed.Typed.TheVariants.{Assign', Choice', Or', And', Binary', Name}
+use mathlib.Core.Former.{Count}
+use Rattle.std.specs.declared.alloc.Global.{Global}
+use Rattle.c_tree.specs.declared.typed.Typed.{Typed, Call as CallExpr, Row_of-Typed, end_of-Typed, more_of-Typed, items-the_row-Typed, items_hidden-the_row-Typed-0}
+use Rattle.c_tree.specs.declared.typed.Typed.TheVariants.{Assign', Choice', Or', And', Binary', Call', Name}
 use Rattle.c_tree.specs.declared.rows.Program.{Program}
-use Rattle.c_tree.specs.Types.{type_of, is_struct}
+use Rattle.c_tree.specs.Types.{type_of}
 use Rattle.c_source.specs.Source.{struct_number}
 use Rattle.slot_ir.specs.declared.code.SlotOp.{SlotOp}
 use Rattle.slot_ir.specs.declared.code.SlotOp.TheVariants.{Const, Move}
-use Rattle.slot_gen.specs.Expressions.{expr_code, place_code, args_code, combine_op, cast_code, choice_code, and_code, or_code, register_in, unless_register, read_at, write_at, update_at}
+use Rattle.slot_gen.specs.Expressions.{expr_code, place_code, args_code, combine_op, cast_code, choice_code, and_code, or_code, register_in, unless_register, enter_code, read_at, write_at}
+use Rattle.slot_gen.specs.Emission.{copies, assigned_at}
+use Rattle.c_tree.specs.Rows.{exprs}
+use Rattle.slot_gen.proofs.Follow.{row_args}
 use Rattle.slot_gen.proofs.Emitted.{then_code, then_two, on_ok}
 
+-- ---- the arguments of a call as a list
+
+exprs_items : (n : _) (row : Row_of-Typed n) → exprs row ≡ items-the_row-Typed n row
+exprs_items n end_of-Typed = refl
+exprs_items n (more_of-Typed e rest) = ap (λ l. e ∷ l) (exprs_items _ rest)
+
+abbrev args_of : Typed → (n : Count) × Row_of-Typed n
+args_of (Call' h g _ row) = (_, row)
+args_of _ = (_, end_of-Typed)
+
+args_of-Call : (h : Head) (g : ℕ) (v : Vec Typed Global) → exprs (args_of (CallExpr h g v)).1 ≡ v.items
+args_of-Call h g v = let row = args_of (CallExpr h g v) in exprs_items row.0 row.1 ∙ items_hidden-the_row-Typed-0 v
+
+-- ---- assignments
+
+copy_code : (p : Program) (f at d : ℕ) (h : Head) (x : _) (a : Typed) (o : Option BinaryOp) (y : _) (b : Typed) → copies o (type_of a) ≡ true
+    → expr_code p f at d (Assign' h x a o y b) ≡ (place_code p f at d a ++ (place_code p f (at + length (place_code p f at d a)) (suc d) b ++ Move d (suc d) (struct_number (type_of a)) ∷ Const d 0 ∷ []))
+copy_code p f at d h x a (Some op) y b e = absurd (cc e)
+copy_code p f at d h x a None y b e =
+    let place = place_code p f at d a in
+    let first = unless_register (register_in p f a) place in
+    ap
+    (λ q. if q then (place ++ (place_code p f (at + length place) (suc d) b ++ Move d (suc d) (struct_number (type_of a)) ∷ Const d 0 ∷ []))
+    else (first ++ (expr_code p f (at + length first) (suc d) b ++ write_at p f d (register_in p f a) (type_of a))))
+    e
+
+assign_code : (p : Program) (f at d : ℕ) (h : Head) (x : _) (a : Typed) (o : Option BinaryOp) (y : _) (b : Typed) → copies o (type_of a) ≡ false
+    → expr_code p f at d (Assign' h x a o y b)
+    ≡ (unless_register (register_in p f a) (place_code p f at d a) ++ (expr_code p f (at + length (unless_register (register_in p f a) (place_code p f at d a))) (suc d) b ++ assigned_at p f d (register_in p f a) (type_of a) o (type_of b)))
+assign_code p f at d h x a (Some op) y b e = refl
+assign_code p f at d h x a None y b e =
+    let place = place_code p f at d a in
+    let first = unless_register (register_in p f a) place in
+    ap
+    (λ q. if q then (place ++ (place_code p f (at + length place) (suc d) b ++ Move d (suc d) (struct_number (type_of a)) ∷ Const d 0 ∷ []))
+    else (first ++ (expr_code p f (at + length first) (suc d) b ++ write_at p f d (register_in p f a) (type_of a))))
+    e
+
 module _ (p : Program) (f : ℕ) where
+  pub call_done : (old c1 c2 : List SlotOp) (d g n : ℕ) (h : Head) (v : Vec Typed Global) (xs : List Typed) (e : Typed) → e ≡ CallExpr h g v → xs ≡ v.items → n ≡ length v.items
+      → c1 ≡ old ++ args_code p f (length old) d xs → c2 ≡ c1 ++ enter_code d (slice_get p.symbols g) n
+      → c2 ≡ old ++ expr_code p f (length old) d e
+  call_done old c1 c2 d g n h v xs e is ex en e1 e2 =
+      let row = args_of (CallExpr h g v) in
+      let o = slice_get p.symbols g in
+      let at = length old in
+      let code : expr_code p f at d (CallExpr h g v) ≡ args_code p f at d v.items ++ enter_code d o (length v.items) =
+      ap (λ l. l ++ enter_code d o (length (exprs row.1))) (row_args p f at d row.1) ∙ ap (λ l. args_code p f at d l ++ enter_code d o (length l)) (args_of-Call h g v) in
+      e2
+      ∙ ap (λ c. c ++ enter_code d o n) (e1 ∙ ap (λ l. old ++ args_code p f at d l) ex)
+      ∙ append_assoc old (args_code p f at d v.items) (enter_code d o n)
+      ∙ ap (λ m. old ++ (args_code p f at d v.items ++ enter_code d o m)) en
+      ∙ ap (λ c. old ++ c) (sym code)
+      ∙ ap (λ x. old ++ expr_code p f at d x) (sym is)
+
   -- one more argument
   pub args_more : (all c0 c1 : List SlotOp) (d n : ℕ) (args : List Typed) (i : ℕ) (e : Typed) → i < length args → e ≡ get_or args i e → n ≡ d + 1 → c0 ++ args_code p f (length c0) d (drop i args) ≡ all → c1 ≡ c0 ++ expr_code p f (length c0) d e → c1 ++ args_code p f (length c1) n (drop (i + 1) args) ≡ all
   args_more all c0 c1 d n args i e lt at en is e1 =
@@ -34,62 +93,42 @@ module _ (p : Program) (f : ℕ) where
       ∙ is
 
   module _ (old c1 c2 c3 : List SlotOp) (d n : ℕ) (h : Head) (e ea eb : Typed) where
-    pub binary_done : (x : _) (a : Typed) (op : BinaryOp) (y : _) (b : Typed) (s t : CType) → e ≡ Binary' h x a op y b → ea ≡ a → eb ≡ b → n ≡ d + 1 → s ≡ type_of ea → t ≡ type_of eb
+    pub binary_done : (x : _) (a : Typed) (op : BinaryOp) (y : _) (b : Typed) (s t : CType) → e ≡ Binary' h x a op y b → ea ≡ a → eb ≡ b → n ≡ d + 1 → s ≡ type_of a → t ≡ type_of b
         → c1 ≡ old ++ expr_code p f (length old) d ea → c2 ≡ c1 ++ expr_code p f (length c1) n eb → c3 ≡ c2 ++ combine_op p d d (suc d) op s t ∷ []
         → c3 ≡ old ++ expr_code p f (length old) d e
     binary_done x a op y b s t is ia ib en es et e1 e2 e3 =
         let n' : n ≡ suc d = omega arith in
         let is' : e ≡ Binary' h x ea op y eb = is ∙ ap (λ z. Binary' h x z op y b) (sym ia) ∙ ap (λ z. Binary' h x ea op y z) (sym ib) in
         let q2 = e2 ∙ ap (λ k. c1 ++ expr_code p f (length c1) k eb) n' in
-        let q3 = e3 ∙ ap (λ z. c2 ++ combine_op p d d (suc d) op z t ∷ []) es ∙ ap (λ z. c2 ++ combine_op p d d (suc d) op (type_of ea) z ∷ []) et in
+        let q3 = e3 ∙ ap (λ z. c2 ++ combine_op p d d (suc d) op z t ∷ []) (es ∙ ap type_of (sym ia)) ∙ ap (λ z. c2 ++ combine_op p d d (suc d) op (type_of ea) z ∷ []) (et ∙ ap type_of (sym ib)) in
         then_two old c1 c2 c3 (expr_code p f (length old) d ea) (combine_op p d d (suc d) op (type_of ea) (type_of eb) ∷ []) (λ at. expr_code p f at (suc d) eb) e1 q2 q3
         ∙ ap (λ z. old ++ expr_code p f (length old) d z) (sym is')
 
-    pub copy_done : (x : _) (a : Typed) (y : _) (b : Typed) (s s' : CType) → e ≡ Assign' h x a None y b → ea ≡ a → eb ≡ b → n ≡ d + 1 → s ≡ type_of ea → is_struct s ≡ true → s' ≡ type_of ea
+    pub copy_done : (x : _) (a : Typed) (o : Option BinaryOp) (y : _) (b : Typed) (s s' : CType) → e ≡ Assign' h x a o y b → ea ≡ a → eb ≡ b → n ≡ d + 1 → s ≡ type_of a → copies o s ≡ true → s' ≡ type_of a
         → c1 ≡ old ++ place_code p f (length old) d ea → c2 ≡ c1 ++ place_code p f (length c1) n eb → c3 ≡ c2 ++ Move d (suc d) (struct_number s') ∷ Const d 0 ∷ []
         → c3 ≡ old ++ expr_code p f (length old) d e
-    copy_done x a y b s s' is ia ib en es struct et e1 e2 e3 =
+    copy_done x a o y b s s' is ia ib en es copy et e1 e2 e3 =
         let n' : n ≡ suc d = omega arith in
-        let is' : e ≡ Assign' h x ea None y eb = is ∙ ap (λ z. Assign' h x z None y b) (sym ia) ∙ ap (λ z. Assign' h x ea None y z) (sym ib) in
+        let is' : e ≡ Assign' h x ea o y eb = is ∙ ap (λ z. Assign' h x z o y b) (sym ia) ∙ ap (λ z. Assign' h x ea o y z) (sym ib) in
         let q2 = e2 ∙ ap (λ k. c1 ++ place_code p f (length c1) k eb) n' in
-        let q3 = e3 ∙ ap (λ z. c2 ++ Move d (suc d) (struct_number z) ∷ Const d 0 ∷ []) et in
-        let yes : is_struct (type_of ea) ≡ true = ap is_struct (sym es) ∙ struct in
-        let first = place_code p f (length old) d ea in
-        let whole = first ++ (place_code p f (length old + length first) (suc d) eb ++ Move d (suc d) (struct_number (type_of ea)) ∷ Const d 0 ∷ []) in
-        let other = unless_register (register_in p f ea) first ++ (expr_code p f (length old + length (unless_register (register_in p f ea) first)) (suc d) eb ++ write_at p f d (register_in p f ea) (type_of ea)) in
-        then_two old c1 c2 c3 first (Move d (suc d) (struct_number (type_of ea)) ∷ Const d 0 ∷ []) (λ at. place_code p f at (suc d) eb) e1 q2 q3
-        ∙ ap (λ q. old ++ (if q then whole else other)) (sym yes)
+        let q3 = e3 ∙ ap (λ z. c2 ++ Move d (suc d) (struct_number z) ∷ Const d 0 ∷ []) (et ∙ ap type_of (sym ia)) in
+        let yes : copies o (type_of ea) ≡ true = ap (copies o) (sym (es ∙ ap type_of (sym ia))) ∙ copy in
+        then_two old c1 c2 c3 (place_code p f (length old) d ea) (Move d (suc d) (struct_number (type_of ea)) ∷ Const d 0 ∷ []) (λ at. place_code p f at (suc d) eb) e1 q2 q3
+        ∙ ap (λ c. old ++ c) (sym (copy_code p f (length old) d h x ea o y eb yes))
         ∙ ap (λ z. old ++ expr_code p f (length old) d z) (sym is')
 
-    pub assign_done : (x : _) (a : Typed) (y : _) (b : Typed) (s s' : CType) (r : Option ℕ) → e ≡ Assign' h x a None y b → ea ≡ a → eb ≡ b → n ≡ d + 1 → s ≡ type_of ea → is_struct s ≡ false → s' ≡ type_of ea → r ≡ register_in p f ea
-        → c1 ≡ old ++ unless_register r (place_code p f (length old) d ea) → c2 ≡ c1 ++ expr_code p f (length c1) n eb → c3 ≡ c2 ++ write_at p f d r s'
+    pub assign_done : (x : _) (a : Typed) (o : Option BinaryOp) (y : _) (b : Typed) (s s' t : CType) (r : Option ℕ) → e ≡ Assign' h x a o y b → ea ≡ a → eb ≡ b → n ≡ d + 1 → s ≡ type_of a → copies o s ≡ false → s' ≡ type_of a → t ≡ type_of b → r ≡ register_in p f ea
+        → c1 ≡ old ++ unless_register r (place_code p f (length old) d ea) → c2 ≡ c1 ++ expr_code p f (length c1) n eb → c3 ≡ c2 ++ assigned_at p f d r s' o t
         → c3 ≡ old ++ expr_code p f (length old) d e
-    assign_done x a y b s s' r is ia ib en es struct et er e1 e2 e3 =
+    assign_done x a o y b s s' t r is ia ib en es copy et eu er e1 e2 e3 =
         let n' : n ≡ suc d = omega arith in
-        let is' : e ≡ Assign' h x ea None y eb = is ∙ ap (λ z. Assign' h x z None y b) (sym ia) ∙ ap (λ z. Assign' h x ea None y z) (sym ib) in
+        let is' : e ≡ Assign' h x ea o y eb = is ∙ ap (λ z. Assign' h x z o y b) (sym ia) ∙ ap (λ z. Assign' h x ea o y z) (sym ib) in
         let q1 = e1 ∙ ap (λ z. old ++ unless_register z (place_code p f (length old) d ea)) er in
         let q2 = e2 ∙ ap (λ k. c1 ++ expr_code p f (length c1) k eb) n' in
-        let q3 = e3 ∙ ap (λ z. c2 ++ write_at p f d z s') er ∙ ap (λ z. c2 ++ write_at p f d (register_in p f ea) z) et in
-        let no : is_struct (type_of ea) ≡ false = ap is_struct (sym es) ∙ struct in
-        let first = unless_register (register_in p f ea) (place_code p f (length old) d ea) in
-        let place = place_code p f (length old) d ea in
-        let other = place ++ (place_code p f (length old + length place) (suc d) eb ++ Move d (suc d) (struct_number (type_of ea)) ∷ Const d 0 ∷ []) in
-        let whole = first ++ (expr_code p f (length old + length first) (suc d) eb ++ write_at p f d (register_in p f ea) (type_of ea)) in
-        then_two old c1 c2 c3 first (write_at p f d (register_in p f ea) (type_of ea)) (λ at. expr_code p f at (suc d) eb) q1 q2 q3
-        ∙ ap (λ q. old ++ (if q then other else whole)) (sym no)
-        ∙ ap (λ z. old ++ expr_code p f (length old) d z) (sym is')
-
-    pub compound_done : (x : _) (a : Typed) (op : BinaryOp) (y : _) (b : Typed) (s t : CType) (r : Option ℕ) → e ≡ Assign' h x a (Some op) y b → ea ≡ a → eb ≡ b → n ≡ d + 1 → s ≡ type_of ea → t ≡ type_of eb → r ≡ register_in p f ea
-        → c1 ≡ old ++ unless_register r (place_code p f (length old) d ea) → c2 ≡ c1 ++ expr_code p f (length c1) n eb → c3 ≡ c2 ++ update_at p f d r s op t true
-        → c3 ≡ old ++ expr_code p f (length old) d e
-    compound_done x a op y b s t r is ia ib en es et er e1 e2 e3 =
-        let n' : n ≡ suc d = omega arith in
-        let is' : e ≡ Assign' h x ea (Some op) y eb = is ∙ ap (λ z. Assign' h x z (Some op) y b) (sym ia) ∙ ap (λ z. Assign' h x ea (Some op) y z) (sym ib) in
-        let q1 = e1 ∙ ap (λ z. old ++ unless_register z (place_code p f (length old) d ea)) er in
-        let q2 = e2 ∙ ap (λ k. c1 ++ expr_code p f (length c1) k eb) n' in
-        let q3 = e3 ∙ ap (λ z. c2 ++ update_at p f d z s op t true) er ∙ ap (λ z. c2 ++ update_at p f d (register_in p f ea) z op t true) es ∙ ap (λ z. c2 ++ update_at p f d (register_in p f ea) (type_of ea) op z true) et in
-        let first = unless_register (register_in p f ea) (place_code p f (length old) d ea) in
-        then_two old c1 c2 c3 first (update_at p f d (register_in p f ea) (type_of ea) op (type_of eb) true) (λ at. expr_code p f at (suc d) eb) q1 q2 q3
+        let q3 = e3 ∙ ap (λ z. c2 ++ assigned_at p f d z s' o t) er ∙ ap (λ z. c2 ++ assigned_at p f d (register_in p f ea) z o t) (et ∙ ap type_of (sym ia)) ∙ ap (λ z. c2 ++ assigned_at p f d (register_in p f ea) (type_of ea) o z) (eu ∙ ap type_of (sym ib)) in
+        let no : copies o (type_of ea) ≡ false = ap (copies o) (sym (es ∙ ap type_of (sym ia))) ∙ copy in
+        then_two old c1 c2 c3 (unless_register (register_in p f ea) (place_code p f (length old) d ea)) (assigned_at p f d (register_in p f ea) (type_of ea) o (type_of eb)) (λ at. expr_code p f at (suc d) eb) q1 q2 q3
+        ∙ ap (λ c. old ++ c) (sym (assign_code p f (length old) d h x ea o y eb no))
         ∙ ap (λ z. old ++ expr_code p f (length old) d z) (sym is')
 
   -- `&&` and `||`: the code up to the test, the test, and the right operand

@@ -13,3 +13,4 @@ mod Temps
 mod TempsOfStatements
 mod Lengths
 mod Emitted
+mod Arms

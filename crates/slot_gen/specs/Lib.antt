@@ -3,3 +3,4 @@ pub mod Statements
 pub mod Bounds
 pub mod Tokens
 pub mod Correct
+pub mod Emission

@@ -2,13 +2,13 @@
 ghost use Rattle.std.specs.Prelude.{◌≡◌, ◌++◌, IfOk, OnOk, length};
 ghost use Rattle.slot_gen.specs.Expressions.{register_in, unless_register, expr_code, place_code, args_code};
 
-use crate::emit::{next, put, put_cast, put_load, put_read, put_write};
+use crate::emit::{next, put, put_cast, put_load, put_read};
 use crate::jumps::{end_and, end_choice, end_or, put_jump, put_test};
 use crate::operands::{
-    Update, local_of, put_arrow, put_combine, put_dot, put_enter, put_move, put_name, put_size,
-    put_step, put_update, type_of,
+    is_copy, local_of, put_arrow, put_assigned, put_combine, put_dot, put_enter, put_move,
+    put_name, put_size, put_step, type_of,
 };
-use crate::translate::{is_struct, unary_op};
+use crate::translate::unary_op;
 use crate::within::Within;
 use c_tree::{BinaryOp, Typed};
 use slot_ir::SlotOp;
@@ -29,22 +29,16 @@ pub fn emit_expr(
             emit_expr(within, code, d, a)?;
             emit_expr(within, code, d, b)
         }
-        Typed::Assign(_, a, None, b) => {
-            if is_struct(type_of(a)) {
+        Typed::Assign(_, a, op, b) => {
+            if is_copy(*op, type_of(a)) {
                 emit_place(within, code, d, a)?;
                 emit_place(within, code, next(d)?, b)?;
                 put_move(code, d, type_of(a))
             } else {
                 let register = emit_target(within, code, d, a)?;
                 emit_expr(within, code, next(d)?, b)?;
-                put_write(code, d, register, type_of(a))
+                put_assigned(within, code, d, register, type_of(a), *op, type_of(b))
             }
-        }
-        Typed::Assign(_, a, Some(op), b) => {
-            let register = emit_target(within, code, d, a)?;
-            emit_expr(within, code, next(d)?, b)?;
-            let update = Update { left: type_of(a), op: *op, right: type_of(b), new: true };
-            put_update(within, code, d, register, &update)
         }
         Typed::Choice(head, c, a, b) => {
             emit_expr(within, code, d, c)?;

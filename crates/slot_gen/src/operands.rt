@@ -5,11 +5,12 @@ ghost use Rattle.c_tree.specs.Types.{type_of as tree_type};
 ghost use Rattle.c_tree.specs.Layout.{size_of as size, members_of};
 ghost use Rattle.c_source.specs.Source.{stepping as stepped, struct_number as number_of, dot_offset as dot, arrow_offset as arrow};
 ghost use Rattle.slot_ir.specs.declared.code.SlotOp.TheVariants.{Const, Offset, Move};
+ghost use Rattle.slot_gen.specs.Emission.{copies, assigned_at};
 ghost use Rattle.slot_gen.specs.Expressions.{register_in, register_inside, register_named, referent_register, name_code, built_in_code, call_code, enter_code, combine_op as combine, update_code, change_code, update_at};
 
-use crate::emit::{next, put, put_cast, put_referent};
+use crate::emit::{next, put, put_cast, put_referent, put_write};
 use crate::registers::in_register;
-use crate::translate::{Operands, access_of, bytes_of, combine_op, is_scalar, kind_of, target};
+use crate::translate::{Operands, access_of, bytes_of, combine_op, is_scalar, is_struct, kind_of, target};
 use crate::within::Within;
 use c_tree::{BinaryOp, CType, Head, Member, Referent, StepOp, StructDef, SymbolRow, Typed, members};
 use slot_ir::SlotOp;
@@ -137,7 +138,7 @@ pub fn put_combine(
 
 /// A compound assignment: the type of its left operand, its operator, the type of its right operand, and whether its value is the new one.
 #[derive(Clone, Copy)]
-pub struct Update<'a> {
+struct Update<'a> {
     pub left: &'a CType,
     pub op: BinaryOp,
     pub right: &'a CType,
@@ -145,7 +146,7 @@ pub struct Update<'a> {
 }
 
 /// A compound assignment at a place, or to a local in a register.
-pub fn put_update(
+fn put_update(
     within: &Within,
     code: &mut Vec<SlotOp>,
     d: u32,
@@ -268,6 +269,42 @@ fn stepping(op: StepOp) -> BinaryOp
     match op {
         StepOp::Up => BinaryOp::Add,
         StepOp::Down => BinaryOp::Subtract,
+    }
+}
+
+/// Whether an assignment copies a struct.
+pub fn is_copy(op: Option<BinaryOp>, t: &CType) -> bool
+    ensures { result ≡ copies op t.now }
+{
+    match op {
+        None => is_struct(t),
+        Some(_) => false,
+    }
+}
+
+/// The value in the next temporary is assigned at a place or to a local in a register, with the operator of a compound assignment.
+pub fn put_assigned(
+    within: &Within,
+    code: &mut Vec<SlotOp>,
+    d: u32,
+    register: Option<u32>,
+    left: &CType,
+    op: Option<BinaryOp>,
+    right: &CType,
+) -> Result<(), AllocError>
+    ensures { OnOk result (code.new.items ≡ code.old.items ++ assigned_at within.now.program.now within.now.number d register left.now op right.now) }
+{
+    match op {
+        None => put_write(code, d, register, left),
+        Some(op) => {
+            let update = Update {
+                left,
+                op,
+                right,
+                new: true,
+            };
+            put_update(within, code, d, register, &update)
+        }
     }
 }
 
