@@ -14,3 +14,6 @@ mod TempsOfStatements
 mod Lengths
 mod Emitted
 mod Arms
+mod Stops
+mod Turns
+mod Forms

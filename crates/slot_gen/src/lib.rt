@@ -1,12 +1,17 @@
 //! Slot code of checked programs.
 #![tactic(auto)]
 
+mod blocks;
 mod emit;
 mod expressions;
+mod functions;
 mod jumps;
+mod labels;
 mod laws;
+mod loops;
 mod operands;
 mod registers;
+mod statements;
 mod translate;
 mod within;
 

@@ -1,0 +1,8 @@
+use Rattle.slot_gen.proofs.Forms.{last_found, last_more}
+use Rattle.slot_gen.proofs.functions.last_point.Goals as goal
+
+pub loop-q-init : goal.loop-q-init
+loop-q-init c = last_found c.args.points.now
+
+pub loop-q-preserved : goal.loop-q-preserved
+loop-q-preserved c = ?
