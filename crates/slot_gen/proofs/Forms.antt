@@ -372,3 +372,9 @@ pub default_ok : {B : Type 0} (res : Result (Option ℕ) B) (p : Program) (f : �
     → IfOk res (λ o. o ≡ first_place (defaults_of p f r n at xs)) → IfOk res (λ o. o ≡ first_place (body_defaults p f r n at s))
 default_ok res p f r n at site ds v l c s xs same ex h =
     if_ok res (λ o. o ≡ first_place (defaults_of p f r n at xs)) (λ o. o ≡ first_place (body_defaults p f r n at s)) (λ o e. e ∙ ap first_place (defaults_same p f r n site ds v l c s xs at same ex)) h
+
+pub whole_ok : {A B : Type 0} (res : Result A B) (p : Program) (f : ℕ) (old c1 c2 c3 c4 c5 : List SlotOp) (n : ℕ) (fn : Function) (ds : List DeclaredLocal) (r : Around) (xs : List Stmt) → ds ≡ declared_in fn.body → r ≡ nowhere → xs ≡ statements_in fn.body
+    → c1 ≡ old ++ zeros_code ds → c2 ≡ c1 ++ inits_code p f (length c1) ds → c3 ≡ c2 ++ stmts_code p f r n (length c2) xs → c4 ≡ c3 ++ zero_code fn.result ∷ [] → OnOk res (c5 ≡ c4 ++ Jump end_place ∷ [])
+    → OnOk res (c5 ≡ old ++ whole_body p f n (length old) fn)
+whole_ok res p f old c1 c2 c3 c4 c5 n fn ds r xs ed er ex e1 e2 e3 e4 h =
+    on_ok res (c5 ≡ c4 ++ Jump end_place ∷ []) (c5 ≡ old ++ whole_body p f n (length old) fn) (λ e. whole_done p f old c1 c2 c3 c4 c5 n fn ds r xs ed er ex e1 e2 e3 e4 e) h

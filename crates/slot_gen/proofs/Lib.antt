@@ -17,3 +17,5 @@ mod Arms
 mod Stops
 mod Turns
 mod Forms
+mod Pairs
+mod Begun

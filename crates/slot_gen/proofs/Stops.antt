@@ -14,10 +14,10 @@ use Rattle.slot_gen.specs.Expressions.{expr_code, unless_register, if_register, 
 use Rattle.slot_gen.specs.Statements.{part_code, test_code, init_code, inits_code}
 use Rattle.slot_gen.proofs.Emitted.{then_code, then_two}
 
-local_none : (p : Program) (f x : ℕ) → None ≡ slice_get (locals_in (slice_get p.functions f)) x → Void ≡ local_type p f x
+pub local_none : (p : Program) (f x : ℕ) → None ≡ slice_get (locals_in (slice_get p.functions f)) x → Void ≡ local_type p f x
 local_none p f x e = rw (sym e) refl
 
-local_some : (p : Program) (f x : ℕ) (row : Local) → Some row ≡ slice_get (locals_in (slice_get p.functions f)) x → row.ctype ≡ local_type p f x
+pub local_some : (p : Program) (f x : ℕ) (row : Local) → Some row ≡ slice_get (locals_in (slice_get p.functions f)) x → row.ctype ≡ local_type p f x
 local_some p f x row e = rw (sym e) refl
 
 pub initial_none : (p : Program) (f x : ℕ) (r : Option ℕ) (old new : List SlotOp) → None ≡ slice_get (locals_in (slice_get p.functions f)) x → new ≡ old ++ write_at p f 0 r Void → new ≡ old ++ write_at p f 0 r (local_type p f x)

@@ -4,3 +4,4 @@ pub mod Bounds
 pub mod Tokens
 pub mod Correct
 pub mod Emission
+pub mod Rows

@@ -9,8 +9,11 @@ mod jumps;
 mod labels;
 mod laws;
 mod loops;
+mod lowering;
 mod operands;
+mod places;
 mod registers;
+mod rows;
 mod statements;
 mod translate;
 mod within;
@@ -18,3 +21,4 @@ mod within;
 pub use laws::{
     code_of_an_expression_is_short, code_takes_few_temporaries, slot_code_keeps_the_run,
 };
+pub use lowering::lower;
