@@ -19,3 +19,4 @@ mod Turns
 mod Forms
 mod Pairs
 mod Begun
+mod Codes

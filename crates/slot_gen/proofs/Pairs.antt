@@ -51,3 +51,6 @@ module _ {A B : Type 0} (P : ℕ → A → B → Type 0) where
   each_length n [] (b ∷ bs) e = absurd e
   each_length n (a ∷ xs) [] e = absurd e
   each_length n (a ∷ xs) (b ∷ bs) e = ap suc (each_length (suc n) xs bs e.1)
+
+pub each_along : {A B : Type 0} (P : ℕ → A → B → Type 0) (xs ys : List A) (bs : List B) → xs ≡ ys → EachFrom P 0 xs bs → EachFrom P 0 ys bs
+each_along P xs ys bs e h = subst (λ l. EachFrom P 0 l bs) e h

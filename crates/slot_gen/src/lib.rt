@@ -19,6 +19,7 @@ mod translate;
 mod within;
 
 pub use laws::{
-    code_of_an_expression_is_short, code_takes_few_temporaries, slot_code_keeps_the_run,
+    code_of_an_expression_is_short, code_takes_few_temporaries, rows_are_the_code,
+    slot_code_keeps_the_run,
 };
 pub use lowering::lower;

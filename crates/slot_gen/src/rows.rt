@@ -236,6 +236,20 @@ fn push_start(
     }
 }
 
+/// A leaf by its number.
+fn leaf_at(leaves: &[Leaf], i: usize) -> Option<&Leaf>
+    ensures { option_map (λ r. r.now) result ≡ slice_get leaves.now i }
+{
+    leaves.get(i)
+}
+
+/// What a leaf holds at first, by its number.
+fn start_at(starts: &[Start], i: usize) -> Option<&Start>
+    ensures { option_map (λ r. r.now) result ≡ slice_get starts.now i }
+{
+    starts.get(i)
+}
+
 /// What the leaves of an object hold at first.
 fn lower_starts(
     alloc: Global,
@@ -246,7 +260,7 @@ fn lower_starts(
 {
     let mut rows = Vec::new(alloc);
     for i in 0..leaves.len() {
-        push_start(&mut rows, leaves.get(i), starts.get(i))?;
+        push_start(&mut rows, leaf_at(leaves, i), start_at(starts, i))?;
     }
     Ok(Many::from_vec(rows))
 }

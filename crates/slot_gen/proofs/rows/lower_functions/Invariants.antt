@@ -4,6 +4,6 @@ use Rattle.slot_gen.proofs.rows.lower_functions.Given as goal
 
 abbrev pub invariant-loop-function : goal.invariant-loop-function
 invariant-loop-function l = record {
-  made : EachFrom (IsFunctionOf l.program.now) 0 (take l.function-index l.functions) l.rows.items;
+  made : EachFrom (IsFunctionOf l.program) 0 (take l.function-index l.functions) l.rows.items;
   number : l.number ≡ l.function-index;
 }
