@@ -115,4 +115,3 @@ change_done p f d x v w from t op s new old c1 c2 c3 c4 c5 o k a ek ea ev ew ef 
     ∙ ap (λ m. old ++ code v w (kind_of t) m (combine_op p v w v op t s) (if new then v else w)) ea
     ∙ ap (λ i. old ++ code i w (kind_of t) (access_of t) (combine_op p i w i op t s) (if new then i else w)) v'
     ∙ ap (λ j. old ++ code (suc d) j (kind_of t) (access_of t) (combine_op p (suc d) j (suc d) op t s) (if new then suc d else j)) w'
-

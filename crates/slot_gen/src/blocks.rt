@@ -83,11 +83,7 @@ pub fn put_zeros(code: &mut Vec<SlotOp>, locals: &[DeclaredLocal]) -> Result<(),
 }
 
 /// An expression at its stopping point, whose value is dropped.
-pub fn emit_pointed(
-    within: &Within,
-    code: &mut Vec<SlotOp>,
-    q: &Pointed,
-) -> Result<(), AllocError>
+pub fn emit_pointed(within: &Within, code: &mut Vec<SlotOp>, q: &Pointed) -> Result<(), AllocError>
     ensures { OnOk result (code.new.items ≡ code.old.items ++ part_code within.now.program.now within.now.number (length code.old.items) (Some q.now)) }
 {
     put(code, SlotOp::Stop { point: q.point })?;

@@ -82,7 +82,13 @@ pub fn emit_expr(
         Typed::Address(_, a) => emit_place(within, code, d, a),
         Typed::Unary(_, op, a) => {
             emit_expr(within, code, d, a)?;
-            put(code, SlotOp::Unary { at: d, op: unary_op(*op, type_of(a)) })
+            put(
+                code,
+                SlotOp::Unary {
+                    at: d,
+                    op: unary_op(*op, type_of(a)),
+                },
+            )
         }
         Typed::SizeOf(_, a) => put_size(within, code, d, type_of(a)),
         Typed::SizeOfType(_, t) => put_size(within, code, d, t),
@@ -97,7 +103,13 @@ pub fn emit_expr(
             put_read(code, d, register, &head.ctype)
         }
         Typed::Literal(head, string) => {
-            put(code, SlotOp::TextAddress { to: d, string: *string })?;
+            put(
+                code,
+                SlotOp::TextAddress {
+                    to: d,
+                    string: *string,
+                },
+            )?;
             put_load(code, d, &head.ctype)
         }
         Typed::Follow(head, a) => {
@@ -131,7 +143,13 @@ pub fn emit_place(
 {
     match e {
         Typed::Name(_, n) => put_name(within, code, d, *n),
-        Typed::Literal(_, string) => put(code, SlotOp::TextAddress { to: d, string: *string }),
+        Typed::Literal(_, string) => put(
+            code,
+            SlotOp::TextAddress {
+                to: d,
+                string: *string,
+            },
+        ),
         Typed::Follow(_, a) => emit_expr(within, code, d, a),
         Typed::Index(_, a, b) => {
             emit_expr(within, code, d, a)?;

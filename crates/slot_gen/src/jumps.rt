@@ -98,12 +98,7 @@ fn put_truth(code: &mut Vec<SlotOp>, d: u32) -> Result<u32, AllocError>
 }
 
 /// The end of a choice that was tested at this place, where the jump behind its first part stands at another.
-pub fn end_choice(
-    code: &mut Vec<SlotOp>,
-    d: u32,
-    test: u32,
-    over: u32,
-) -> Result<(), AllocError>
+pub fn end_choice(code: &mut Vec<SlotOp>, d: u32, test: u32, over: u32) -> Result<(), AllocError>
     requires test { test < length code.old.items }
     requires over { over < length code.old.items }
     ensures { (before a b : List SlotOp) (x y : SlotOp) → code.old.items ≡ before ++ x ∷ (a ++ y ∷ b) → length before ≡ test → test + 1 + length a ≡ over → OnOk result (code.new.items ≡ before ++ choice_code test d a b) }

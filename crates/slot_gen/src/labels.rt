@@ -46,12 +46,6 @@ pub fn first_default(found: Option<u32>, at: u32, s: &Stmt) -> Option<u32>
 {
     match found {
         Some(place) => Some(place),
-        None => {
-            if is_default(s) {
-                Some(at)
-            } else {
-                None
-            }
-        }
+        None => { if is_default(s) { Some(at) } else { None } }
     }
 }

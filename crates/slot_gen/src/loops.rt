@@ -174,12 +174,7 @@ pub fn end_switch(
     let seek = next(over)?;
     code.extend_from_slice(labels)?;
     let rest = default_place(default, over);
-    put(
-        code,
-        SlotOp::Jump {
-            place: rest,
-        },
-    )?;
+    put(code, SlotOp::Jump { place: rest })?;
     let end = place(code)?;
     patch(code, start, SlotOp::Jump { place: seek });
     patch(code, leave, SlotOp::Jump { place: end });

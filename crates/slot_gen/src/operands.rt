@@ -10,9 +10,13 @@ ghost use Rattle.slot_gen.specs.Expressions.{register_in, register_inside, regis
 
 use crate::emit::{next, put, put_cast, put_referent, put_write};
 use crate::registers::in_register;
-use crate::translate::{Operands, access_of, bytes_of, combine_op, is_scalar, is_struct, kind_of, target};
+use crate::translate::{
+    Operands, access_of, bytes_of, combine_op, is_scalar, is_struct, kind_of, target,
+};
 use crate::within::Within;
-use c_tree::{BinaryOp, CType, Head, Member, Referent, StepOp, StructDef, SymbolRow, Typed, members};
+use c_tree::{
+    BinaryOp, CType, Head, Member, Referent, StepOp, StructDef, SymbolRow, Typed, members,
+};
 use slot_ir::SlotOp;
 use std::alloc::AllocError;
 
@@ -103,12 +107,7 @@ pub fn local_of(within: &Within, e: &Typed) -> Option<u32>
 }
 
 /// The address of the object that a name denotes.
-pub fn put_name(
-    within: &Within,
-    code: &mut Vec<SlotOp>,
-    d: u32,
-    n: u32,
-) -> Result<(), AllocError>
+pub fn put_name(within: &Within, code: &mut Vec<SlotOp>, d: u32, n: u32) -> Result<(), AllocError>
     ensures { OnOk result (code.new.items ≡ code.old.items ++ name_code within.now.program.now within.now.number d (slice_get within.now.program.now.symbols n)) }
 {
     match symbol(within, n) {
@@ -133,7 +132,10 @@ pub fn put_combine(
         left: d,
         right: next(d)?,
     };
-    put(code, combine_op(within.program.defs.as_slice(), at, op, s, t)?)
+    put(
+        code,
+        combine_op(within.program.defs.as_slice(), at, op, s, t)?,
+    )
 }
 
 /// A compound assignment: the type of its left operand, its operator, the type of its right operand, and whether its value is the new one.
@@ -240,12 +242,7 @@ fn given(new: bool, value: u32, old: u32) -> u32
 }
 
 /// The operator of a compound assignment.
-fn updating(
-    within: &Within,
-    value: u32,
-    old: u32,
-    update: &Update,
-) -> Result<SlotOp, AllocError>
+fn updating(within: &Within, value: u32, old: u32, update: &Update) -> Result<SlotOp, AllocError>
     ensures { IfOk result (λ o. o ≡ combine within.now.program.now value old value update.now.op update.now.left.now update.now.right.now) }
 {
     let at = Operands {

@@ -54,21 +54,32 @@ fn above(op: SlotOp) -> u32 {
         | SlotOp::PutChar { at }
         | SlotOp::Exit { at } => at.saturating_add(1),
         SlotOp::WriteRegister { from, .. } => from.saturating_add(1),
-        SlotOp::Load { to, from, .. } | SlotOp::Take { to, from } | SlotOp::Move { to, from, .. } => {
-            to.max(from).saturating_add(1)
-        }
+        SlotOp::Load { to, from, .. } | SlotOp::Take { to, from } | SlotOp::Move { to, from, .. } =>
+            { to.max(from).saturating_add(1) }
         SlotOp::Store { at, from, .. } => at.max(from).saturating_add(1),
         SlotOp::Binary {
-            to, left, right, ..
+            to,
+            left,
+            right,
+            ..
         }
         | SlotOp::Compare {
-            to, left, right, ..
+            to,
+            left,
+            right,
+            ..
         }
         | SlotOp::Distance {
-            to, left, right, ..
+            to,
+            left,
+            right,
+            ..
         } => to.max(left).max(right).saturating_add(1),
         SlotOp::Index {
-            to, pointer, index, ..
+            to,
+            pointer,
+            index,
+            ..
         } => to.max(pointer).max(index).saturating_add(1),
         SlotOp::Call { at, arguments, .. } => at.saturating_add(arguments.max(1)),
         SlotOp::Jump { .. } | SlotOp::Stop { .. } | SlotOp::Zero { .. } | SlotOp::Leave { .. } => 0,

@@ -15,9 +15,7 @@ use c_tree::{
     CType, Function, Leaf, Local, ObjectRow, Program, Start, StructDef, leaves, leaves_ascend,
 };
 use ldb_words::{Kind, Many, Text};
-use slot_ir::{
-    Home, SlotFunction, SlotLocal, SlotObject, SlotStart, SlotStruct, SlotValue,
-};
+use slot_ir::{Home, SlotFunction, SlotLocal, SlotObject, SlotStart, SlotStruct, SlotValue};
 use std::alloc::{AllocError, Global};
 
 /// The leaves of a type.
@@ -266,11 +264,7 @@ fn lower_starts(
 }
 
 /// The row of a static object.
-fn lower_object(
-    alloc: Global,
-    program: &Program,
-    row: &ObjectRow,
-) -> Result<SlotObject, AllocError>
+fn lower_object(alloc: Global, program: &Program, row: &ObjectRow) -> Result<SlotObject, AllocError>
     requires { AllLaidOut program.now.defs }
     ensures { (o : ℕ) → IfOk result (λ made. IsObjectOf program.now o row.now made) }
 {
