@@ -20,3 +20,4 @@ mod Forms
 mod Pairs
 mod Begun
 mod Codes
+mod Starting

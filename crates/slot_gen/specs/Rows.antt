@@ -12,6 +12,7 @@ use Rattle.c_tree.specs.declared.rows.ObjectRow.{ObjectRow}
 use Rattle.c_tree.specs.declared.rows.Start.{Start}
 use Rattle.c_tree.specs.declared.rows.Start.TheVariants as start
 use Rattle.c_tree.specs.Layout.{size_of, leaves_of}
+use Rattle.c_tree.specs.Ordered.{AllLaidOut}
 use Rattle.c_source.specs.Begin.{main_from}
 use Rattle.slot_ir.specs.declared.code.SlotCode.{SlotCode}
 use Rattle.slot_ir.specs.declared.code.SlotFunction.{SlotFunction}
@@ -25,6 +26,7 @@ use Rattle.slot_ir.specs.declared.code.Home.{Home}
 use Rattle.slot_ir.specs.declared.code.Home.TheVariants.{Block, Register}
 use Rattle.slot_gen.specs.Expressions.{access_of, registers_from, register_at}
 use Rattle.slot_gen.specs.Statements.{function_code}
+use Rattle.slot_gen.specs.Correct.{HasMain}
 
 -- a row for each item, by its number from n on
 abbrev pub EachFrom : {A B : Type 0} → (ℕ → A → B → Type 0) → (n : ℕ) → List A → List B → Type 0
@@ -97,3 +99,26 @@ pub record HasRowsOf (p : Program) (c : SlotCode) : Type 0 where
   pub objects : EachFrom (IsObjectOf p) 0 p.objects c.objects
   pub strings : c.strings ≡ p.strings
   pub main : c.main ≡ main_from 0 p.functions
+
+-- ---- what is asked of a program
+
+-- no number stands in place of an address, and no address in that of a number of four bytes
+abbrev pub Fits : Kind → Start → Type 0
+Fits Word (start.Object o i) = ⊥
+Fits Word (start.Str k) = ⊥
+Fits k x = Unit {0}
+
+abbrev pub AreFitting : List Leaf → List Start → Type 0
+AreFitting [] xs = Unit {0}
+AreFitting (l ∷ ls) [] = Unit {0}
+AreFitting (l ∷ ls) (x ∷ xs) = Fits l.kind x × AreFitting ls xs
+
+abbrev pub AllFitting : Program → List ObjectRow → Type 0
+AllFitting p [] = Unit {0}
+AllFitting p (row ∷ rows) = AreFitting (leaves_of p.defs row.ctype) row.start × AllFitting p rows
+
+-- its structs are laid out, its objects hold what their types say, and it has a `main`
+pub record IsLowerable (p : Program) : Type 0 where
+  pub laid_out : AllLaidOut p.defs
+  pub fitting : AllFitting p p.objects
+  pub main : HasMain p

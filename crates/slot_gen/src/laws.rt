@@ -1,5 +1,5 @@
 // What holds of slot code.
-ghost use Rattle.std.specs.Prelude.{◌≡◌, ◌≤◌, ◌+◌, ◌*◌, ℕ, List, length};
+ghost use Rattle.std.specs.Prelude.{◌≤◌, ◌+◌, ◌*◌, ℕ, length};
 ghost use Rattle.c_tree.specs.declared.rows.Program.{Program};
 ghost use Rattle.c_tree.specs.declared.rows.Function.{Function};
 ghost use Rattle.c_tree.specs.declared.typed.Typed.{Typed};
@@ -9,9 +9,7 @@ ghost use Rattle.slot_ir.specs.WellFormed.{operators_of_a_token};
 ghost use Rattle.slot_gen.specs.Tokens.{tokens_of};
 ghost use Rattle.slot_gen.specs.Bounds.{temps_of, function_temps, AreBelow};
 ghost use Rattle.slot_gen.specs.Correct.{IsCodeOf, HasMain, Lowers};
-ghost use Rattle.c_source.specs.Begin.{world_at_first};
-ghost use Rattle.slot_ir.specs.Begin.{world_at_first as slots_at_first};
-ghost use Rattle.slot_gen.specs.Rows.{HasRowsOf};
+ghost use Rattle.slot_gen.specs.Rows.{HasRowsOf, AllFitting};
 ghost use Rattle.slot_gen.specs.Expressions.{expr_code};
 ghost use Rattle.slot_gen.specs.Statements.{function_code};
 
@@ -20,9 +18,9 @@ pub fn slot_code_keeps_the_run()
     ensures { (p : Program) (c : SlotCode) → IsCodeOf p c → HasMain p → Lowers p c }
 {}
 
-/// Code that has a program's rows is the code of the program, where both begin with the same objects.
+/// Code that has a program's rows is the code of the program, where its static objects hold what their types say.
 pub fn rows_are_the_code()
-    ensures { (p : Program) (c : SlotCode) → HasRowsOf p c → ((input : List ℕ) → slots_at_first c input ≡ world_at_first p input) → IsCodeOf p c }
+    ensures { (p : Program) (c : SlotCode) → HasRowsOf p c → AllFitting p p.objects → IsCodeOf p c }
 {}
 
 /// The code of an expression and of a function names the temporaries that it is said to take alone, and an expression takes at most one more than it has nodes.

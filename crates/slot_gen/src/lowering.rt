@@ -1,8 +1,8 @@
 // The slot code of a program.
 ghost use Rattle.std.specs.Prelude.{◌≡◌, IfOk, not, ◌&&◌, bytes_eq, codes};
 ghost use Rattle.c_source.specs.Begin.{main_from};
-ghost use Rattle.c_tree.specs.Ordered.{AllLaidOut};
-ghost use Rattle.slot_gen.specs.Rows.{HasRowsOf};
+ghost use Rattle.slot_gen.specs.Correct.{Lowers};
+ghost use Rattle.slot_gen.specs.Rows.{HasRowsOf, IsLowerable};
 
 use crate::emit::next;
 use crate::rows::{lower_functions, lower_objects, lower_strings, lower_structs};
@@ -32,9 +32,11 @@ fn is_main(function: &Function) -> bool
 }
 
 /// The slot code of a program: a row for each of its functions, whose code is the function's, and for each of its structs and static objects; its strings; and the number of `main`.
+/// It passes the program's stopping points in order, with the same objects, activations, output and exit number, for every input and all assignments made at the stops, up to the program's first undefined step. It shows nothing else, and takes at most two steps for each counted unit of the program.
 pub fn lower(alloc: Global, program: &Program) -> Result<SlotCode, AllocError>
-    requires { AllLaidOut program.now.defs }
-    ensures { IfOk result (λ code. HasRowsOf program.now code) }
+    requires { IsLowerable program.now }
+    ensures rows { IfOk result (λ code. HasRowsOf program.now code) }
+    ensures runs { IfOk result (λ code. Lowers program.now code) }
 {
     let functions = lower_functions(alloc, program, program.functions.as_slice())?;
     let main = main_number(program.functions.as_slice())?;
