@@ -28,7 +28,7 @@ use Rattle.slot_gen.specs.Expressions.{access_of, registers_from}
 use Rattle.slot_gen.specs.Correct.{IsRow, IsCodeOf}
 use Rattle.slot_ir.specs.declared.code.SlotFunction.{SlotFunction}
 use Rattle.slot_formed.specs.Code.{AreFunctionRows, local_rows, start_value, start_rows, object_row, struct_rows}
-use Rattle.slot_formed.proofs.Whole.{code_with, function_row_at}
+use Rattle.slot_formed.proofs.Formed.{code_with, function_row_at}
 use Rattle.slot_formed.proofs.Lists.{no_none}
 use Rattle.slot_formed.proofs.Homes.{local_there}
 

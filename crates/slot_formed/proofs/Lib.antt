@@ -9,6 +9,7 @@ mod Stmts
 mod Stops
 mod Short
 mod Rows
-mod Whole
+mod Formed
 mod Keeps
 mod Computed
+mod Given

@@ -1,13 +1,14 @@
 // What holds of the slot code of accepted programs.
 ghost use Rattle.std.specs.Prelude.{◌≤◌, ◌*◌};
 ghost use Rattle.c_tree.specs.declared.rows.Program.{Program};
-ghost use Rattle.c_tree.specs.Ordered.{AllLaidOut};
 ghost use Rattle.c_typing.specs.Accepted.{IsAccepted};
 ghost use Rattle.slot_ir.specs.declared.code.SlotCode.{SlotCode};
 ghost use Rattle.slot_ir.specs.WellFormed.{operators_of_a_token, operators_in, IsWellFormed};
-ghost use Rattle.slot_gen.specs.Correct.{IsCodeOf, HasMain, Lowers};
+ghost use Rattle.slot_gen.specs.Correct.{IsCodeOf, Lowers};
 ghost use Rattle.slot_formed.specs.Accesses.{IsUniform};
-ghost use Rattle.slot_formed.specs.Code.{IsProgramCode, program_code};
+ghost use Rattle.std.specs.List.{AllByRecursion};
+ghost use Rattle.slot_gen.specs.Rows.{HasRowsOf, IsLowerable};
+ghost use Rattle.slot_formed.specs.Code.{IsComplete, IsProgramCode, program_code};
 ghost use Rattle.slot_formed.specs.Tokens.{program_tokens};
 
 use c_tree::leaves_ascend;
@@ -42,10 +43,14 @@ pub fn accepted_code_keeps_the_run()
     slot_code_keeps_the_run();
 }
 
-/// The structs of an accepted program stand as the layout has them, and it has a `main` without parameters.
-pub fn accepted_programs_are_laid_out()
-    ensures structs { (p : Program) → IsAccepted p → AllLaidOut p.defs }
-    ensures main { (p : Program) → IsAccepted p → HasMain p }
+/// An accepted program can be lowered: its structs stand as the layout has them, its objects hold what their types say, and it has a `main` without parameters.
+pub fn accepted_programs_are_lowerable()
+    ensures { (p : Program) → IsAccepted p → IsLowerable p }
 {
     leaves_ascend();
 }
+
+/// A code that has a program's rows, each function with the temporaries that it names and the places of its points, is a code of the program.
+pub fn complete_rows_are_the_code()
+    ensures { (p : Program) (c : SlotCode) → HasRowsOf p c → AllByRecursion IsComplete c.functions → IsProgramCode p c }
+{}

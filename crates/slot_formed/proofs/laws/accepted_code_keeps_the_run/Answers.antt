@@ -1,6 +1,6 @@
 use Rattle.slot_gen.specs.Correct.{IsCodeOf}
 use Rattle.slot_formed.proofs.Sizes.{laid_out}
-use Rattle.slot_formed.proofs.Whole.{main_is, of_code, there_is}
+use Rattle.slot_formed.proofs.Formed.{main_is, of_code, there_is}
 use Rattle.slot_formed.proofs.Keeps.{is_code}
 use Rattle.slot_formed.proofs.laws.accepted_code_keeps_the_run.Goals as goal
 

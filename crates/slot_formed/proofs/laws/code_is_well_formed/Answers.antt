@@ -1,5 +1,5 @@
 use Rattle.slot_formed.proofs.Sizes.{laid_out}
-use Rattle.slot_formed.proofs.Whole.{well_formed, uniform}
+use Rattle.slot_formed.proofs.Formed.{well_formed, uniform}
 use Rattle.slot_formed.proofs.laws.code_is_well_formed.Goals as goal
 
 pub returns : goal.returns
