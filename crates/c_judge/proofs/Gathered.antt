@@ -6,7 +6,7 @@ use Rattle.c_tree.specs.declared.typed.Typed.{Typed}
 use Rattle.c_judge.specs.Scope.{Scope}
 use Rattle.c_judge.specs.Answers.{Answer, Known, Unknown, Broken, ◌then◌, two}
 use Rattle.c_judge.specs.Places.{place_of}
-use Rattle.c_judge.specs.Judgement.{Judged, Verdict, judged, Callee, Calling, callee, calling, called, with_argument}
+use Rattle.c_judge.specs.Judgement.{Judged, Verdict, judged, Callee, Calling, callee, calling, called, with_argument, without_arguments}
 use Rattle.c_judge.specs.Elaboration.{Elaborates, AreArguments, IsCallee, IsCall, HasHead, callee_of}
 
 abbrev pub IsCallForm : Tree → Type 0
@@ -22,7 +22,7 @@ pub one_more : (c : Tree) (es : List Tree) (e : Tree) → with_arguments c (es +
 one_more c [] e = refl
 one_more c (d ∷ es) e = one_more (With c d) es e
 
-called_alone : (asks : Bool) (at : ℕ) (r : Answer Callee) → ◌then◌ r (λ c. called asks at c []) ≡ ◌then◌ (◌then◌ r (λ c. Known (c, []))) (λ s. called asks at s.0 s.1)
+called_alone : (asks : Bool) (at : ℕ) (r : Answer Callee) → ◌then◌ r (λ c. called asks at c []) ≡ ◌then◌ (◌then◌ r without_arguments) (λ s. called asks at s.0 s.1)
 called_alone asks at (Known c) = refl
 called_alone asks at (Unknown name) = refl
 called_alone asks at (Broken r q) = refl

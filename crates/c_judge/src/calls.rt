@@ -1,5 +1,5 @@
 // Calls of checked parts.
-ghost use Rattle.std.specs.Prelude.{◌≡◌, map, option_map, slice_get, IfOk};
+ghost use Rattle.std.specs.Prelude.{◌≡◌, map, option_map, slice_get, IfOk, Some};
 ghost use Rattle.c_typing.specs.Plain.{plain};
 ghost use Rattle.c_typing.specs.Rules as rule;
 ghost use Rattle.c_judge.specs.Judgement.{are_scalars, operands, name_alone, asked, unasked, result_type, called};
@@ -11,7 +11,7 @@ ghost use Rattle.c_judge.specs.Parts.{judged_of};
 ghost use Rattle.c_judge.specs.Calls.{typed_in, called_by, number_or_none, parameters_by, NamesCallee, IsWith, Gathers};
 
 use crate::fault::Fault;
-use crate::leaf::unknown;
+use crate::leaf::{number_of, unknown};
 use crate::operators::{VALUE, head};
 use crate::pairs::pair;
 use crate::part::Part;
@@ -37,10 +37,15 @@ pub struct Calling {
 pub fn takes(parameters: &[CType], arguments: &[Part]) -> bool
     ensures { result ≡ rule.takes (map plain parameters.now) (operands (map judged_of arguments.now)) }
 {
-    match (parameters, arguments) {
-        ([], []) => true,
-        ([t, parameters @ ..], [x, arguments @ ..]) => converts(t, x) && takes(parameters, arguments),
-        _ => false,
+    match parameters {
+        [] => match arguments {
+            [] => true,
+            [_, ..] => false,
+        },
+        [t, parameters @ ..] => match arguments {
+            [] => false,
+            [x, arguments @ ..] => converts(t, x) && takes(parameters, arguments),
+        },
     }
 }
 
@@ -90,11 +95,11 @@ pub fn name_alone<'a>(e: &'a Expr) -> Option<&'a Text>
     }
 }
 
-/// The function that a number calls: its row, where it is one.
-fn function_by<'a>(v: &Scope<'a>, n: Option<u32>) -> Option<&'a Symbol>
-    ensures { option_map (λ s. (plain s.now.ctype, map plain (parameters_by v.now n))) result ≡ called_by (scope_of v.now) n }
+/// The function with a number: its row, where it is one.
+fn function_at<'a>(v: &Scope<'a>, n: u32) -> Option<&'a Symbol>
+    ensures { option_map (λ s. (plain s.now.ctype, map plain (parameters_by v.now (Some n)))) result ≡ called_by (scope_of v.now) (Some n) }
 {
-    match v.rows.get(n? as usize) {
+    match v.rows.get(n as usize) {
         None => None,
         Some(symbol) => {
             if symbol.function {
@@ -102,6 +107,16 @@ fn function_by<'a>(v: &Scope<'a>, n: Option<u32>) -> Option<&'a Symbol>
             }
             None
         }
+    }
+}
+
+/// The function that a number calls: its row, where it is one.
+fn function_by<'a>(v: &Scope<'a>, n: Option<u32>) -> Option<&'a Symbol>
+    ensures { option_map (λ s. (plain s.now.ctype, map plain (parameters_by v.now n))) result ≡ called_by (scope_of v.now) n }
+{
+    match n {
+        None => None,
+        Some(n) => function_at(v, n),
     }
 }
 
@@ -194,7 +209,7 @@ pub fn called<'a>(
 pub fn named<'a>(alloc: Global, v: &Scope<'a>, name: &'a Text) -> Result<Option<u32>, Fault>
     ensures { NamesCallee (scope_of v.now) name.now result }
 {
-    match v.names.find(name.as_bytes()) {
+    match number_of(v, name) {
         None => Err(unknown(alloc, name)),
         Some(n) => Ok(Some(n)),
     }
@@ -210,10 +225,11 @@ pub fn with_argument(calling: Calling, x: Part) -> Result<Calling, Fault>
 }
 
 /// A call with one argument more, where both are there.
-#[tactic(auto, using(crate::proofs::Called::extended_gathers, crate::proofs::Called::extended_fails))]
 pub fn extended(calling: Result<Calling, Fault>, x: Result<Part, Fault>) -> Result<Calling, Fault>
     ensures { (v : Names) (t e : Tree) → Gathers v t calling → Judges v e x → Gathers v (With t e) result }
 {
-    let (calling, x) = pair(calling, x)?;
-    with_argument(calling, x)
+    match pair(calling, x) {
+        Ok((calling, x)) => with_argument(calling, x),
+        Err(f) => Err(f),
+    }
 }

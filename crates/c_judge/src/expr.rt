@@ -53,8 +53,10 @@ pub fn judge<'a>(alloc: Global, v: &Scope<'a>, e: &'a Expr) -> Result<Part, Faul
 fn at_paren<'a>(alloc: Global, v: &Scope<'a>, at: Place, a: &'a Expr) -> Result<Part, Fault>
     ensures { Judges (scope_of v.now) (tree.Paren at a.now) result }
 {
-    let x = judge(alloc, v, a)?;
-    paren(alloc, at, x)
+    match judge(alloc, v, a) {
+        Ok(x) => paren(alloc, at, x),
+        Err(f) => Err(f),
+    }
 }
 
 /// `a[b]`
@@ -69,8 +71,10 @@ fn at_index<'a>(
 ) -> Result<Part, Fault>
     ensures { Judges (scope_of v.now) (tree.Index at a.now b.now) result }
 {
-    let (x, y) = pair(judge(alloc, v, a), judge(alloc, v, b))?;
-    index(alloc, v.defs, at, x, y)
+    match pair(judge(alloc, v, a), judge(alloc, v, b)) {
+        Ok((x, y)) => index(alloc, v.defs, at, x, y),
+        Err(f) => Err(f),
+    }
 }
 
 /// `a.m` or `a->m`
@@ -86,8 +90,10 @@ fn at_member<'a>(
 ) -> Result<Part, Fault>
     ensures { (q : Place) → Judges (scope_of v.now) (tree.Member at a.now access q name.now) result }
 {
-    let x = judge(alloc, v, a)?;
-    member(alloc, v.defs, at, access, name.as_bytes(), x)
+    match judge(alloc, v, a) {
+        Ok(x) => member(alloc, v.defs, at, access, name.as_bytes(), x),
+        Err(f) => Err(f),
+    }
 }
 
 /// `a++` or `a--`
@@ -102,8 +108,10 @@ fn at_after<'a>(
 ) -> Result<Part, Fault>
     ensures { Judges (scope_of v.now) (tree.After at a.now step) result }
 {
-    let x = judge(alloc, v, a)?;
-    after(alloc, v.defs, at, step, x)
+    match judge(alloc, v, a) {
+        Ok(x) => after(alloc, v.defs, at, step, x),
+        Err(f) => Err(f),
+    }
 }
 
 /// An operator in front of an expression.
@@ -118,8 +126,10 @@ fn at_prefix<'a>(
 ) -> Result<Part, Fault>
     ensures { Judges (scope_of v.now) (tree.Prefix at op a.now) result }
 {
-    let x = judge(alloc, v, a)?;
-    prefixed(alloc, v.defs, at, op, x)
+    match judge(alloc, v, a) {
+        Ok(x) => prefixed(alloc, v.defs, at, op, x),
+        Err(f) => Err(f),
+    }
 }
 
 /// An operator between two expressions.
@@ -135,8 +145,10 @@ fn at_binary<'a>(
 ) -> Result<Part, Fault>
     ensures { Judges (scope_of v.now) (tree.Binary at op a.now b.now) result }
 {
-    let (x, y) = pair(judge(alloc, v, a), judge(alloc, v, b))?;
-    joined(alloc, v.defs, at, op, x, y)
+    match pair(judge(alloc, v, a), judge(alloc, v, b)) {
+        Ok((x, y)) => joined(alloc, v.defs, at, op, x, y),
+        Err(f) => Err(f),
+    }
 }
 
 /// `c ? a : b`
@@ -153,8 +165,10 @@ fn at_choice<'a>(
     ensures { Judges (scope_of v.now) (tree.Choice at c.now a.now b.now) result }
 {
     let first = pair(judge(alloc, v, c), judge(alloc, v, a));
-    let ((z, x), y) = pair(first, judge(alloc, v, b))?;
-    choice(alloc, at, z, x, y)
+    match pair(first, judge(alloc, v, b)) {
+        Ok(((z, x), y)) => choice(alloc, at, z, x, y),
+        Err(f) => Err(f),
+    }
 }
 
 /// `sizeof (type)`
@@ -163,8 +177,10 @@ fn at_choice<'a>(
 fn at_size<'a>(alloc: Global, v: &Scope<'a>, at: Place, name: &'a TypeName) -> Result<Part, Fault>
     ensures { Judges (scope_of v.now) (tree.SizeofType at name.now.spec name.now.declarator) result }
 {
-    let t = written_type(alloc, v, at.at, name)?;
-    size_of_type(v.defs, at, t)
+    match written_type(alloc, v, at.at, name) {
+        Ok(t) => size_of_type(v.defs, at, t),
+        Err(f) => Err(f),
+    }
 }
 
 /// `(type) a`
@@ -179,8 +195,10 @@ fn at_cast<'a>(
 ) -> Result<Part, Fault>
     ensures { Judges (scope_of v.now) (tree.Cast at name.now.spec name.now.declarator a.now) result }
 {
-    let (t, x) = pair(written_type(alloc, v, at.at, name), judge(alloc, v, a))?;
-    cast(alloc, at, t, x)
+    match pair(written_type(alloc, v, at.at, name), judge(alloc, v, a)) {
+        Ok((t, x)) => cast(alloc, at, t, x),
+        Err(f) => Err(f),
+    }
 }
 
 /// The type that a type's name writes (C90 6.5.5). Where a rule of types is broken in it, the place is the one that is given.
@@ -226,7 +244,10 @@ fn starred(
 ) -> Result<CType, Fault>
     ensures { (j : Answer Plain) → Denotes j t → Denotes (j then pointers defs.now at n) result }
 {
-    pointers(alloc, defs, at, n, t?)
+    match t {
+        Ok(t) => pointers(alloc, defs, at, n, t),
+        Err(f) => Err(f),
+    }
 }
 
 /// An array of arrays, from the last bound to the first.
@@ -261,13 +282,15 @@ fn at_bound<'a>(
     ensures { (j : Answer Plain) → Denotes j t → Denotes (one_bound (scope_of v.now) at bound.now j) result }
 {
     match bound {
-        None => {
-            let _item = t?;
-            Err(Fault::Rule { rule: 2, at })
-        }
+        None => match t {
+            Ok(_) => Err(Fault::Rule { rule: 2, at }),
+            Err(f) => Err(f),
+        },
         Some(e) => {
-            let (t, x) = pair(t, judge(alloc, v, e))?;
-            bounded(alloc, v.defs, at, place_of(e).at, t, &x)
+            match pair(t, judge(alloc, v, e)) {
+                Ok((t, x)) => bounded(alloc, v.defs, at, place_of(e).at, t, &x),
+                Err(f) => Err(f),
+            }
         }
     }
 }
@@ -283,8 +306,10 @@ fn at_call<'a>(
 ) -> Result<Part, Fault>
     ensures { Judges (scope_of v.now) (with_arguments (tree.Call at f.now) arguments.now) result }
 {
-    let calling = gathered(alloc, v, f, arguments)?;
-    called(alloc, v, at, calling)
+    match gathered(alloc, v, f, arguments) {
+        Ok(calling) => called(alloc, v, at, calling),
+        Err(f) => Err(f),
+    }
 }
 
 /// What is called, with its arguments.
@@ -309,11 +334,13 @@ fn gathered<'a>(
 fn begun<'a>(alloc: Global, v: &Scope<'a>, f: &'a Expr) -> Result<Calling, Fault>
     ensures { (at : Place) → Gathers (scope_of v.now) (tree.Call at f.now) result }
 {
-    let callee = callee(alloc, v, f)?;
-    Ok(Calling {
-        callee,
-        arguments: Vec::new(alloc),
-    })
+    match callee(alloc, v, f) {
+        Ok(callee) => Ok(Calling {
+            callee,
+            arguments: Vec::new(alloc),
+        }),
+        Err(f) => Err(f),
+    }
 }
 
 /// What is called: the number of a name, or none for another expression, which is judged as any part is.
@@ -323,9 +350,9 @@ fn callee<'a>(alloc: Global, v: &Scope<'a>, f: &'a Expr) -> Result<Option<u32>, 
 {
     match name_alone(f) {
         Some(name) => named(alloc, v, name),
-        None => {
-            let _part = judge(alloc, v, f)?;
-            Ok(None)
-        }
+        None => match judge(alloc, v, f) {
+            Ok(_) => Ok(None),
+            Err(f) => Err(f),
+        },
     }
 }

@@ -1,14 +1,15 @@
 // Names, constants and strings.
-ghost use Rattle.std.specs.Prelude.{◌≡◌};
+ghost use Rattle.std.specs.Prelude.{◌≡◌, ℕ, List, Some};
 ghost use Rattle.c_expr.specs.Tree as tree;
 ghost use Rattle.ldb_words.specs.Word.{word_of_signed};
 ghost use Rattle.c_typing.specs.Plain.{plain, Int};
 ghost use Rattle.c_symbol.specs.declared.symbol.LeafKind.TheVariants as kind;
-ghost use Rattle.c_judge.specs.Judgement.{spec_type, folded, integer_type};
+ghost use Rattle.c_judge.specs.Judgement.{spec_type, folded, integer_type, named};
 ghost use Rattle.c_judge.specs.declared.part.Constant.TheVariants.{Number};
 ghost use Rattle.c_judge.specs.Parts.{judged_of};
-ghost use Rattle.c_judge.specs.Elaboration.{IsConstant, IsNode};
-ghost use Rattle.c_judge.specs.Judges.{Judges, Tells, scope_of};
+ghost use Rattle.c_judge.specs.Elaboration.{IsConstant, IsNamed, IsNode};
+ghost use Rattle.c_judge.specs.Judges.{Judges, Makes, Tells, scope_of};
+ghost use Rattle.c_judge.specs.Numbers.{number_in};
 
 use crate::fault::Fault;
 use crate::operators::head;
@@ -32,14 +33,27 @@ pub fn unknown(alloc: Global, name: &Text) -> Fault
     }
 }
 
+/// The number of a name.
+pub fn number_of<'a>(v: &Scope<'a>, name: &'a Text) -> Option<u32>
+    ensures { result ≡ number_in v.now.names.now name.now }
+{
+    v.names.find(name.as_bytes())
+}
+
 /// A name, which denotes an object.
-#[tactic(auto, using(crate::proofs::Rows::named_none, crate::proofs::Rows::named_function, crate::proofs::Rows::named_object))]
 fn name<'a>(alloc: Global, v: &Scope<'a>, at: Place, text: &'a Text) -> Result<Part, Fault>
     ensures { Judges (scope_of v.now) (tree.Leaf at kind.Name text.now) result }
 {
-    let Some(n) = v.names.find(text.as_bytes()) else {
-        return Err(unknown(alloc, text));
-    };
+    match number_of(v, text) {
+        None => Err(unknown(alloc, text)),
+        Some(n) => numbered(alloc, v, at, n),
+    }
+}
+
+/// What has a number, which is an object.
+fn numbered<'a>(alloc: Global, v: &Scope<'a>, at: Place, n: u32) -> Result<Part, Fault>
+    ensures { (text : List ℕ) → Makes (named (scope_of v.now) at.at text (Some n)) (IsNamed n) at result }
+{
     let Some(symbol) = v.rows.get(n as usize) else {
         return Err(Fault::Rule { rule: 21, at: at.at });
     };

@@ -3,6 +3,7 @@ ghost use Rattle.std.specs.Prelude.{◌≡◌, option_map};
 ghost use Rattle.c_judge.specs.Forms.{first_of, unknown, unknown_leaf, unknown_bounds, unknown_all};
 ghost use Rattle.c_judge.specs.Judges.{scope_of};
 
+use crate::leaf::number_of;
 use crate::scope::Scope;
 use c_expr::{Abstract, Expr, Node};
 use c_symbol::LeafKind;
@@ -13,7 +14,7 @@ fn unknown_leaf<'a>(v: &Scope<'a>, kind: LeafKind, text: &'a Text) -> Option<&'a
     ensures { option_map (λ t. t.now) result ≡ unknown_leaf (scope_of v.now) kind text.now }
 {
     match kind {
-        LeafKind::Name => match v.names.find(text.as_bytes()) {
+        LeafKind::Name => match number_of(v, text) {
             None => Some(text),
             Some(_) => None,
         },

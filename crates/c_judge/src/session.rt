@@ -1,5 +1,5 @@
 // The scope of an expression in a session.
-ghost use Rattle.std.specs.Prelude.{◌≡◌, ◌<◌, ◌^◌, length, map, IfOk};
+ghost use Rattle.std.specs.Prelude.{◌≡◌, ◌<◌, ◌^◌, [], length, map, IfOk};
 ghost use Rattle.c_judge.specs.Scope.{tag_of};
 ghost use Rattle.c_judge.specs.Numbers.{Finds};
 ghost use Rattle.c_judge.specs.Session.{symbol_name, session};
