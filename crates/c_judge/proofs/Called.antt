@@ -12,7 +12,7 @@ use Rattle.c_judge.specs.Scope.{Scope}
 use Rattle.c_judge.specs.Answers.{Answer, Known, ◌then◌, two}
 use Rattle.c_judge.specs.Places.{place_of}
 use Rattle.c_judge.specs.Pairs.{paired}
-use Rattle.c_judge.specs.Judgement.{Judged, Callee, Calling, judged, callee, calling, called, with_argument, name_alone}
+use Rattle.c_judge.specs.Judgement.{Judged, Callee, Calling, judged, callee, calling, called, with_argument, without_arguments, name_alone}
 use Rattle.c_judge.specs.Parts.{judged_of}
 use Rattle.c_judge.specs.Elaboration.{Elaborates, IsCall, IsCallee, AreArguments, callee_of}
 use Rattle.c_judge.specs.Calls.{Calls, Gathers, NamesCallee, IsWith, called_by, calling_of, number_or_none, typed_in}
@@ -78,3 +78,12 @@ module _ (v : Scope) where
   call_fails at f es e h =
       let t = with_arguments (Call at f) es in
       subst (λ j. IsFault j e) (sym (judged_call v t (call_form (Call at f) es tt))) (then_fails (calling v t) (λ s. called v.asks (place_of t).at s.0 s.1) e h)
+
+  pub begun_gathers : (at : Place) (f : Tree) (n : Option ℕ) (c : Gathering) → c.callee ≡ n → c.arguments.items ≡ [] → Calls v f (Ok n) → Gathers v (Call at f) (Ok c)
+  begun_gathers at f n c e i (h, w) =
+      (then_gives (callee v f (judged v f)) (called_by v n) without_arguments h ∙ (ap (λ m. Known (called_by v m, [])) (sym e) ∙ ap (λ ps. Known (called_by v c.callee, map judged_of ps)) (sym i)),
+        subst (λ m. IsCallee v f (number_or_none m)) (sym e) w,
+        ap (map typed_in) i)
+
+  pub begun_fails : (at : Place) (f : Tree) (e : Fault) → Calls v f (Err e) → IsFault (calling v (Call at f)) e
+  begun_fails at f e h = then_fails (callee v f (judged v f)) without_arguments e h

@@ -1,14 +1,15 @@
 // Calls of checked parts.
-ghost use Rattle.std.specs.Prelude.{◌≡◌, map, option_map, slice_get, IfOk, Some};
+ghost use Rattle.std.specs.Prelude.{◌≡◌, map, option_map, slice_get, IfOk, List, Some, None};
 ghost use Rattle.c_typing.specs.Plain.{plain};
 ghost use Rattle.c_typing.specs.Rules as rule;
 ghost use Rattle.c_judge.specs.Judgement.{are_scalars, operands, name_alone, asked, unasked, result_type, called};
 ghost use Rattle.c_judge.specs.Judges.{Denotes, Judges, Makes, scope_of};
 ghost use Rattle.c_judge.specs.Scope.{Scope as Names};
-ghost use Rattle.c_expr.specs.Tree.{Tree, With};
+ghost use Rattle.c_expr.specs.Tree.{Tree, Call, With, with_arguments};
+ghost use Rattle.c_lex.specs.declared.token.Place.{Place};
 ghost use Rattle.c_judge.specs.Elaboration.{IsCall};
 ghost use Rattle.c_judge.specs.Parts.{judged_of};
-ghost use Rattle.c_judge.specs.Calls.{typed_in, called_by, number_or_none, parameters_by, NamesCallee, IsWith, Gathers};
+ghost use Rattle.c_judge.specs.Calls.{typed_in, called_by, number_or_none, parameters_by, NamesCallee, IsWith, Calls, Gathers};
 
 use crate::fault::Fault;
 use crate::leaf::{number_of, unknown};
@@ -230,6 +231,44 @@ pub fn extended(calling: Result<Calling, Fault>, x: Result<Part, Fault>) -> Resu
 {
     match pair(calling, x) {
         Ok((calling, x)) => with_argument(calling, x),
+        Err(f) => Err(f),
+    }
+}
+
+/// What is called where it is no name: it is judged as any part is.
+pub fn unnamed(x: Result<Part, Fault>) -> Result<Option<u32>, Fault>
+    ensures { (v : Names) (f : Tree) → None ≡ name_alone f → Judges v f x → Calls v f result }
+{
+    match x {
+        Ok(_) => Ok(None),
+        Err(f) => Err(f),
+    }
+}
+
+/// A call without its arguments.
+pub fn begun(alloc: Global, callee: Result<Option<u32>, Fault>) -> Result<Calling, Fault>
+    ensures { (v : Names) (at : Place) (f : Tree) → Calls v f callee → Gathers v (Call at f) result }
+{
+    match callee {
+        Ok(callee) => Ok(Calling {
+            callee,
+            arguments: Vec::new(alloc),
+        }),
+        Err(f) => Err(f),
+    }
+}
+
+/// A call of what was gathered.
+pub fn at_call<'a>(
+    alloc: Global,
+    v: &Scope<'a>,
+    at: Place,
+    calling: Result<Calling, Fault>,
+) -> Result<Part, Fault>
+    ensures { (f : Tree) (es : List Tree) → Gathers (scope_of v.now) (with_arguments (Call at f) es) calling → Judges (scope_of v.now) (with_arguments (Call at f) es) result }
+{
+    match calling {
+        Ok(calling) => called(alloc, v, at, calling),
         Err(f) => Err(f),
     }
 }

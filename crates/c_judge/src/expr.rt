@@ -1,30 +1,27 @@
-// The judgement of expressions: one function for each form of the tree. It goes as deep as the tree is nested.
-ghost use Rattle.c_typing.specs.Plain.{plain};
+// The judgement of expressions. It goes as deep as the tree is nested.
+ghost use Rattle.std.specs.Prelude.{◌≡◌};
+ghost use Rattle.c_lex.specs.declared.token.Place.{Place};
 ghost use Rattle.c_expr.specs.Tree as tree;
 ghost use Rattle.c_expr.specs.Tree.{with_arguments};
-ghost use Rattle.c_judge.specs.Judgement.{declared, spec_type, pointers};
-ghost use Rattle.c_judge.specs.Answers.{Known, Answer, ◌then◌};
 ghost use Rattle.c_typing.specs.Plain.{Plain};
-ghost use Rattle.c_judge.specs.Bounds.{one_bound, all_bounds};
-ghost use Rattle.c_judge.specs.Calls.{Calls, Gathers};
-ghost use Rattle.c_lex.specs.declared.token.Place.{Place};
+ghost use Rattle.c_judge.specs.Answers.{Known, Answer};
+ghost use Rattle.c_judge.specs.Judgement.{declared, spec_type};
+ghost use Rattle.c_judge.specs.Bounds.{all_bounds};
+ghost use Rattle.c_judge.specs.Calls.{Gathers};
 ghost use Rattle.c_judge.specs.Judges.{Judges, Denotes, scope_of};
 
-use crate::calls::{Calling, called, extended, name_alone, named};
+use crate::calls::{Calling, at_call, begun, extended, name_alone, named, unnamed};
 use crate::fault::Fault;
-use crate::forms::{after, cast, choice, index, member, paren, size_of_type};
 use crate::leaf::{leaf, spec_type};
-use crate::limits::{bounded, pointers};
-use crate::operators::{joined, prefixed};
-use crate::pairs::pair;
+use crate::nodes::{
+    at_after, at_binary, at_bound, at_cast, at_choice, at_index, at_member, at_paren, at_prefix,
+    at_size, starred, unbounded,
+};
 use crate::part::Part;
 use crate::place::place_of;
 use crate::scope::Scope;
 use c_expr::{Abstract, Expr, Node, TypeName};
-use c_lex::Place;
-use c_symbol::{Access, BinaryOp, PrefixOp, Step};
-use c_tree::{CType, StructDef};
-use ldb_words::Text;
+use c_tree::CType;
 use std::alloc::Global;
 
 /// Judges an expression: gives it with its types, or says why there are none.
@@ -34,170 +31,41 @@ pub fn judge<'a>(alloc: Global, v: &Scope<'a>, e: &'a Expr) -> Result<Part, Faul
 {
     match &e.node {
         Node::Leaf(at, kind, text) => leaf(alloc, v, *at, *kind, text),
-        Node::Paren(at, a) => at_paren(alloc, v, *at, a),
-        Node::Index(at, a, b) => at_index(alloc, v, *at, a, b),
-        Node::Call(at, f, arguments) => at_call(alloc, v, *at, f, arguments),
-        Node::Member(at, a, access, _, name) => at_member(alloc, v, *at, a, *access, name),
-        Node::After(at, a, step) => at_after(alloc, v, *at, a, *step),
-        Node::Prefix(at, op, a) => at_prefix(alloc, v, *at, *op, a),
-        Node::SizeofType(at, name) => at_size(alloc, v, *at, name),
-        Node::Cast(at, name, a) => at_cast(alloc, v, *at, name, a),
-        Node::Binary(at, op, a, b) => at_binary(alloc, v, *at, *op, a, b),
-        Node::Choice(at, c, a, b) => at_choice(alloc, v, *at, c, a, b),
-    }
-}
-
-/// `(a)`
-#[cycle(judging)]
-#[tactic(auto, using(crate::proofs::Made::paren_judges))]
-fn at_paren<'a>(alloc: Global, v: &Scope<'a>, at: Place, a: &'a Expr) -> Result<Part, Fault>
-    ensures { Judges (scope_of v.now) (tree.Paren at a.now) result }
-{
-    match judge(alloc, v, a) {
-        Ok(x) => paren(alloc, at, x),
-        Err(f) => Err(f),
-    }
-}
-
-/// `a[b]`
-#[cycle(judging)]
-#[tactic(auto, using(crate::proofs::Made::index_judges, crate::proofs::Made::index_fails))]
-fn at_index<'a>(
-    alloc: Global,
-    v: &Scope<'a>,
-    at: Place,
-    a: &'a Expr,
-    b: &'a Expr,
-) -> Result<Part, Fault>
-    ensures { Judges (scope_of v.now) (tree.Index at a.now b.now) result }
-{
-    match pair(judge(alloc, v, a), judge(alloc, v, b)) {
-        Ok((x, y)) => index(alloc, v.defs, at, x, y),
-        Err(f) => Err(f),
-    }
-}
-
-/// `a.m` or `a->m`
-#[cycle(judging)]
-#[tactic(auto, using(crate::proofs::Made::member_judges))]
-fn at_member<'a>(
-    alloc: Global,
-    v: &Scope<'a>,
-    at: Place,
-    a: &'a Expr,
-    access: Access,
-    name: &'a Text,
-) -> Result<Part, Fault>
-    ensures { (q : Place) → Judges (scope_of v.now) (tree.Member at a.now access q name.now) result }
-{
-    match judge(alloc, v, a) {
-        Ok(x) => member(alloc, v.defs, at, access, name.as_bytes(), x),
-        Err(f) => Err(f),
-    }
-}
-
-/// `a++` or `a--`
-#[cycle(judging)]
-#[tactic(auto, using(crate::proofs::Made::after_judges))]
-fn at_after<'a>(
-    alloc: Global,
-    v: &Scope<'a>,
-    at: Place,
-    a: &'a Expr,
-    step: Step,
-) -> Result<Part, Fault>
-    ensures { Judges (scope_of v.now) (tree.After at a.now step) result }
-{
-    match judge(alloc, v, a) {
-        Ok(x) => after(alloc, v.defs, at, step, x),
-        Err(f) => Err(f),
-    }
-}
-
-/// An operator in front of an expression.
-#[cycle(judging)]
-#[tactic(auto, using(crate::proofs::Made::prefix_judges))]
-fn at_prefix<'a>(
-    alloc: Global,
-    v: &Scope<'a>,
-    at: Place,
-    op: PrefixOp,
-    a: &'a Expr,
-) -> Result<Part, Fault>
-    ensures { Judges (scope_of v.now) (tree.Prefix at op a.now) result }
-{
-    match judge(alloc, v, a) {
-        Ok(x) => prefixed(alloc, v.defs, at, op, x),
-        Err(f) => Err(f),
-    }
-}
-
-/// An operator between two expressions.
-#[cycle(judging)]
-#[tactic(auto, using(crate::proofs::Made::binary_judges, crate::proofs::Made::binary_fails))]
-fn at_binary<'a>(
-    alloc: Global,
-    v: &Scope<'a>,
-    at: Place,
-    op: BinaryOp,
-    a: &'a Expr,
-    b: &'a Expr,
-) -> Result<Part, Fault>
-    ensures { Judges (scope_of v.now) (tree.Binary at op a.now b.now) result }
-{
-    match pair(judge(alloc, v, a), judge(alloc, v, b)) {
-        Ok((x, y)) => joined(alloc, v.defs, at, op, x, y),
-        Err(f) => Err(f),
-    }
-}
-
-/// `c ? a : b`
-#[cycle(judging)]
-#[tactic(auto, using(crate::proofs::Made::choice_judges, crate::proofs::Made::choice_fails))]
-fn at_choice<'a>(
-    alloc: Global,
-    v: &Scope<'a>,
-    at: Place,
-    c: &'a Expr,
-    a: &'a Expr,
-    b: &'a Expr,
-) -> Result<Part, Fault>
-    ensures { Judges (scope_of v.now) (tree.Choice at c.now a.now b.now) result }
-{
-    let first = pair(judge(alloc, v, c), judge(alloc, v, a));
-    match pair(first, judge(alloc, v, b)) {
-        Ok(((z, x), y)) => choice(alloc, at, z, x, y),
-        Err(f) => Err(f),
-    }
-}
-
-/// `sizeof (type)`
-#[cycle(judging)]
-#[tactic(auto, using(crate::proofs::Made::size_judges, crate::proofs::Made::size_fails))]
-fn at_size<'a>(alloc: Global, v: &Scope<'a>, at: Place, name: &'a TypeName) -> Result<Part, Fault>
-    ensures { Judges (scope_of v.now) (tree.SizeofType at name.now.spec name.now.declarator) result }
-{
-    match written_type(alloc, v, at.at, name) {
-        Ok(t) => size_of_type(v.defs, at, t),
-        Err(f) => Err(f),
-    }
-}
-
-/// `(type) a`
-#[cycle(judging)]
-#[tactic(auto, using(crate::proofs::Made::cast_judges, crate::proofs::Made::cast_fails))]
-fn at_cast<'a>(
-    alloc: Global,
-    v: &Scope<'a>,
-    at: Place,
-    name: &'a TypeName,
-    a: &'a Expr,
-) -> Result<Part, Fault>
-    ensures { Judges (scope_of v.now) (tree.Cast at name.now.spec name.now.declarator a.now) result }
-{
-    match pair(written_type(alloc, v, at.at, name), judge(alloc, v, a)) {
-        Ok((t, x)) => cast(alloc, at, t, x),
-        Err(f) => Err(f),
+        Node::Paren(at, a) => at_paren(alloc, *at, judge(alloc, v, a)),
+        Node::Index(at, a, b) => at_index(alloc, v, *at, judge(alloc, v, a), judge(alloc, v, b)),
+        Node::Call(at, f, arguments) => at_call(alloc, v, *at, gathered(alloc, v, f, arguments)),
+        Node::Member(at, a, access, _, name) => at_member(
+            alloc,
+            v,
+            *at,
+            *access,
+            name.as_bytes(),
+            judge(alloc, v, a),
+        ),
+        Node::After(at, a, step) => at_after(alloc, v, *at, *step, judge(alloc, v, a)),
+        Node::Prefix(at, op, a) => at_prefix(alloc, v, *at, *op, judge(alloc, v, a)),
+        Node::SizeofType(at, name) => at_size(v, *at, written_type(alloc, v, at.at, name)),
+        Node::Cast(at, name, a) => at_cast(
+            alloc,
+            *at,
+            written_type(alloc, v, at.at, name),
+            judge(alloc, v, a),
+        ),
+        Node::Binary(at, op, a, b) => at_binary(
+            alloc,
+            v,
+            *at,
+            *op,
+            judge(alloc, v, a),
+            judge(alloc, v, b),
+        ),
+        Node::Choice(at, c, a, b) => at_choice(
+            alloc,
+            *at,
+            judge(alloc, v, c),
+            judge(alloc, v, a),
+            judge(alloc, v, b),
+        ),
     }
 }
 
@@ -216,7 +84,6 @@ pub fn written_type<'a>(
 
 /// The type of what is declared, from the type that the declaration begins with (C90 6.5.4, 6.5.5).
 #[cycle(judging)]
-#[tactic(auto, using(crate::proofs::Bounds::declared_behind, crate::proofs::Depths::depth_bounds))]
 fn declared<'a>(
     alloc: Global,
     v: &Scope<'a>,
@@ -231,22 +98,6 @@ fn declared<'a>(
     match &d.inner {
         None => t,
         Some(inner) => declared(alloc, v, at, inner, t),
-    }
-}
-
-/// The pointers that a declarator's `*` make.
-fn starred(
-    alloc: Global,
-    defs: &[StructDef],
-    at: u32,
-    n: u64,
-    t: Result<CType, Fault>,
-) -> Result<CType, Fault>
-    ensures { (j : Answer Plain) → Denotes j t → Denotes (j then pointers defs.now at n) result }
-{
-    match t {
-        Ok(t) => pointers(alloc, defs, at, n, t),
-        Err(f) => Err(f),
     }
 }
 
@@ -265,51 +116,12 @@ fn within_bounds<'a>(
     let mut i = bounds.len();
     'bounding: while i > 0 {
         i -= 1;
-        t = at_bound(alloc, v, at, &bounds[i], t);
+        t = match &bounds[i] {
+            None => unbounded(at, t),
+            Some(e) => at_bound(alloc, v, at, place_of(e).at, t, judge(alloc, v, e)),
+        };
     }
     t
-}
-
-/// So many items of a type.
-#[cycle(judging)]
-fn at_bound<'a>(
-    alloc: Global,
-    v: &Scope<'a>,
-    at: u32,
-    bound: &'a Option<Expr>,
-    t: Result<CType, Fault>,
-) -> Result<CType, Fault>
-    ensures { (j : Answer Plain) → Denotes j t → Denotes (one_bound (scope_of v.now) at bound.now j) result }
-{
-    match bound {
-        None => match t {
-            Ok(_) => Err(Fault::Rule { rule: 2, at }),
-            Err(f) => Err(f),
-        },
-        Some(e) => {
-            match pair(t, judge(alloc, v, e)) {
-                Ok((t, x)) => bounded(alloc, v.defs, at, place_of(e).at, t, &x),
-                Err(f) => Err(f),
-            }
-        }
-    }
-}
-
-/// A call.
-#[cycle(judging)]
-fn at_call<'a>(
-    alloc: Global,
-    v: &Scope<'a>,
-    at: Place,
-    f: &'a Expr,
-    arguments: &'a [Expr],
-) -> Result<Part, Fault>
-    ensures { Judges (scope_of v.now) (with_arguments (tree.Call at f.now) arguments.now) result }
-{
-    match gathered(alloc, v, f, arguments) {
-        Ok(calling) => called(alloc, v, at, calling),
-        Err(f) => Err(f),
-    }
 }
 
 /// What is called, with its arguments.
@@ -322,37 +134,13 @@ fn gathered<'a>(
 ) -> Result<Calling, Fault>
     ensures { (at : Place) → Gathers (scope_of v.now) (with_arguments (tree.Call at f.now) arguments.now) result }
 {
-    let mut calling = begun(alloc, v, f);
+    let callee = match name_alone(f) {
+        Some(name) => named(alloc, v, name),
+        None => unnamed(judge(alloc, v, f)),
+    };
+    let mut calling = begun(alloc, callee);
     for argument in arguments {
         calling = extended(calling, judge(alloc, v, argument));
     }
     calling
-}
-
-/// A call without its arguments.
-#[cycle(judging)]
-fn begun<'a>(alloc: Global, v: &Scope<'a>, f: &'a Expr) -> Result<Calling, Fault>
-    ensures { (at : Place) → Gathers (scope_of v.now) (tree.Call at f.now) result }
-{
-    match callee(alloc, v, f) {
-        Ok(callee) => Ok(Calling {
-            callee,
-            arguments: Vec::new(alloc),
-        }),
-        Err(f) => Err(f),
-    }
-}
-
-/// What is called: the number of a name, or none for another expression, which is judged as any part is.
-#[cycle(judging)]
-fn callee<'a>(alloc: Global, v: &Scope<'a>, f: &'a Expr) -> Result<Option<u32>, Fault>
-    ensures { Calls (scope_of v.now) f.now result }
-{
-    match name_alone(f) {
-        Some(name) => named(alloc, v, name),
-        None => match judge(alloc, v, f) {
-            Ok(_) => Ok(None),
-            Err(f) => Err(f),
-        },
-    }
 }

@@ -10,6 +10,7 @@ mod forms;
 mod leaf;
 mod limits;
 mod names;
+mod nodes;
 mod numbers;
 mod operators;
 mod pairs;

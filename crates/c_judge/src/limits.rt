@@ -78,14 +78,17 @@ pub fn pointer(alloc: Global, defs: &[StructDef], at: u32, t: CType) -> Result<C
 }
 
 /// So many pointers, each to the one before.
-#[tactic(auto, using(crate::proofs::Pointing::pointers_step))]
+#[tactic(auto, using(crate::proofs::Pointing::pointers_next, crate::proofs::Pointing::pointers_fail))]
 pub fn pointers(alloc: Global, defs: &[StructDef], at: u32, n: u64, t: CType) -> Result<CType, Fault>
     ensures { Denotes (pointers defs.now at n (plain t)) result }
 {
     let mut t = t;
     let mut left = n;
     'pointing: while left > 0 {
-        t = pointer(alloc, defs, at, t)?;
+        t = match pointer(alloc, defs, at, t) {
+            Ok(t) => t,
+            Err(f) => return Err(f),
+        };
         left -= 1;
     }
     Ok(t)
