@@ -1,8 +1,10 @@
 // Checking an expression of a session.
-ghost use Rattle.std.specs.Prelude.{◌≡◌, ◌<◌, ◌^◌, length};
+ghost use Rattle.std.specs.Prelude.{◌≡◌, ◌<◌, ◌^◌, length, None, Ok};
 ghost use Rattle.c_judge.specs.Session.{session};
-ghost use Rattle.c_judge.specs.Judges.{scope_of};
-ghost use Rattle.c_judge.specs.Checks.{Checks, stands};
+ghost use Rattle.c_judge.specs.Judges.{Judges, scope_of};
+ghost use Rattle.c_judge.specs.Forms.{unknown};
+ghost use Rattle.c_judge.specs.Scope.{Scope as Names};
+ghost use Rattle.c_judge.specs.Checks.{Checks, IsOutOfScope, stands};
 ghost use Rattle.c_judge.specs.Parts.{operand_of};
 
 use crate::expr::judge;
@@ -71,16 +73,44 @@ fn checked<'a>(
 ) -> Result<Typed, ExprFault>
     ensures { Checks (scope_of v.now) mode e.now result }
 {
-    if let Some(name) = unknown(v, e) {
-        let name = Text::from_slice(alloc, name.as_bytes())?;
-        return Err(ExprFault::Scope { name });
+    match unknown(v, e) {
+        Some(name) => Err(out_of_scope(alloc, name)),
+        None => in_scope(alloc, v, e, mode),
     }
-    let part = match judge(alloc, v, e) {
-        Ok(part) => part,
-        Err(Fault::Rule { rule, .. }) => return Err(ExprFault::Rule { rule }),
-        Err(Fault::NoMemory) => return Err(ExprFault::NoMemory),
+}
+
+/// A name that is not in scope.
+fn out_of_scope(alloc: Global, name: &Text) -> ExprFault
+    ensures { IsOutOfScope name.now result }
+{
+    match Text::from_slice(alloc, name.as_bytes()) {
+        Ok(name) => ExprFault::Scope { name },
+        Err(_) => ExprFault::NoMemory,
+    }
+}
+
+/// Checks an expression whose names are in scope.
+fn in_scope<'a>(
+    alloc: Global,
+    v: &Scope<'a>,
+    e: &'a Expr,
+    mode: Mode,
+) -> Result<Typed, ExprFault>
+    requires { unknown (scope_of v.now) e.now ≡ None }
+    ensures { Checks (scope_of v.now) mode e.now result }
+{
+    match judge(alloc, v, e) {
+        Ok(part) => accepted(mode, e, part),
+        Err(Fault::Rule { rule, .. }) => Err(ExprFault::Rule { rule }),
+        Err(Fault::NoMemory) => Err(ExprFault::NoMemory),
         Err(Fault::Unknown { .. }) => unreachable!(),
-    };
+    }
+}
+
+/// An expression whose parts keep the rules: it stands there as a whole, and has no forbidden form.
+fn accepted(mode: Mode, e: &Expr, part: Part) -> Result<Typed, ExprFault>
+    ensures { (v : Names) → unknown v e.now ≡ None → Judges v e.now (Ok part) → Checks v mode e.now result }
+{
     if !stands(mode, &part) {
         return Err(ExprFault::Rule { rule: 22 });
     }

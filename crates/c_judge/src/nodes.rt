@@ -7,10 +7,12 @@ ghost use Rattle.c_expr.specs.declared.tree.Spec.{Spec};
 ghost use Rattle.c_typing.specs.Plain.{Plain};
 ghost use Rattle.c_judge.specs.Answers.{Answer, Known, ◌then◌};
 ghost use Rattle.c_judge.specs.Scope.{Scope as Names};
-ghost use Rattle.c_judge.specs.Judgement.{declared, spec_type, pointers};
+ghost use Rattle.c_judge.specs.Judgement.{declared, chosen_of, spec_type, pointers};
 ghost use Rattle.c_judge.specs.Bounds.{one_bound};
 ghost use Rattle.c_judge.specs.Places.{place_of};
-ghost use Rattle.c_judge.specs.Judges.{Judges, Denotes, scope_of};
+ghost use Rattle.c_judge.specs.Judges.{Judges, Denotes, Makes, scope_of};
+ghost use Rattle.c_judge.specs.Elaboration.{IsChoice};
+ghost use Rattle.c_judge.specs.Parts.{judged_of};
 
 use crate::fault::Fault;
 use crate::forms::{after, cast, choice, index, member, paren, size_of_type};
@@ -156,9 +158,17 @@ pub fn at_choice(
     ensures { (v : Names) (c a b : Tree) → Judges v c z → Judges v a x → Judges v b y → Judges v (tree.Choice at c a b) result }
 {
     match pair(pair(z, x), y) {
-        Ok(((z, x), y)) => choice(alloc, at, z, x, y),
+        Ok((first, y)) => chosen(alloc, at, first, y),
         Err(f) => Err(f),
     }
+}
+
+/// The same of parts that are there.
+fn chosen(alloc: Global, at: Place, first: (Part, Part), y: Part) -> Result<Part, Fault>
+    ensures { Makes (chosen_of at.at (judged_of first.0) (judged_of first.1) (judged_of y)) (IsChoice first.0.typed first.1.typed y.typed) at result }
+{
+    let (z, x) = first;
+    choice(alloc, at, z, x, y)
 }
 
 /// The pointers that a declarator's `*` make.
