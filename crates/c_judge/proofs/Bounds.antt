@@ -7,14 +7,14 @@ use Rattle.c_typing.specs.Plain.{Plain, plain}
 use Rattle.c_judge.specs.declared.part.Part.{Part}
 use Rattle.c_judge.specs.declared.fault.Fault.{Fault}
 use Rattle.c_judge.specs.Scope.{Scope, defs_of}
-use Rattle.c_judge.specs.Answers.{Answer, Known, ◌then◌, two}
+use Rattle.c_judge.specs.Answers.{Answer, Known, Broken, ◌then◌, two}
 use Rattle.c_judge.specs.Places.{place_of}
-use Rattle.c_judge.specs.Pairs.{paired}
+use Rattle.c_judge.specs.Pairs.{paired, without_bound}
 use Rattle.c_judge.specs.Parts.{judged_of}
 use Rattle.c_judge.specs.Judgement.{judged, bounded, within, declared, pointers, stars_of}
 use Rattle.c_judge.specs.Judges.{Judges, Denotes, Gives, IsFault}
 use Rattle.c_judge.specs.Bounds.{one_bound, all_bounds}
-use Rattle.c_judge.proofs.Faults.{two_fails, two_known, paired_both, judges_gives}
+use Rattle.c_judge.proofs.Faults.{then_fails, then_gives, two_fails, two_known, paired_both, judges_gives}
 use Rattle.c_judge.proofs.Made.{there}
 
 module _ (v : Scope) (at : ℕ) where
@@ -52,3 +52,7 @@ module _ (v : Scope) (at : ℕ) where
 
   pub bound_fails : (e : Tree) (j : Answer Plain) (rt : Result CType Fault) (rx : Result Part Fault) (f : Fault) → Denotes j rt → Judges v e rx → paired rt rx ≡ Err f → IsFault (one_bound v at (Some e) j) f
   bound_fails e j rt rx f h k p = two_fails (bounded (defs_of v) at (place_of e).at) plain judged_of j (judged v e) rt rx f h (judges_gives v e rx k) p
+
+  pub unbounded_denotes : (j : Answer Plain) (rt : Result CType Fault) → Denotes j rt → Denotes (one_bound v at None j) (without_bound at rt)
+  unbounded_denotes j (Ok t) h = then_gives j (plain t) (λ u. Broken 2 at) h
+  unbounded_denotes j (Err f) h = then_fails j (λ u. Broken 2 at) f h

@@ -11,7 +11,7 @@ use Rattle.c_judge.specs.declared.fault.Fault.TheVariants.{NoMemory}
 use Rattle.c_judge.specs.Scope.{Scope}
 use Rattle.c_judge.specs.Answers.{Answer, Known, ◌then◌, two}
 use Rattle.c_judge.specs.Places.{place_of}
-use Rattle.c_judge.specs.Pairs.{paired}
+use Rattle.c_judge.specs.Pairs.{paired, dropped}
 use Rattle.c_judge.specs.Judgement.{Judged, Callee, Calling, judged, callee, calling, called, with_argument, without_arguments, name_alone}
 use Rattle.c_judge.specs.Parts.{judged_of}
 use Rattle.c_judge.specs.Elaboration.{Elaborates, IsCall, IsCallee, AreArguments, callee_of}
@@ -87,3 +87,7 @@ module _ (v : Scope) where
 
   pub begun_fails : (at : Place) (f : Tree) (e : Fault) → Calls v f (Err e) → IsFault (calling v (Call at f)) e
   begun_fails at f e h = then_fails (callee v f (judged v f)) without_arguments e h
+
+  pub dropped_calls : (f : Tree) (x : Result Part Fault) → None ≡ name_alone f → Judges v f x → Calls v f (dropped x None)
+  dropped_calls f (Ok p) n h = unnamed_calls f p n h.0
+  dropped_calls f (Err e) n h = unnamed_fails f e n h

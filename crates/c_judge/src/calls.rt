@@ -9,6 +9,7 @@ ghost use Rattle.c_expr.specs.Tree.{Tree, Call, With, with_arguments};
 ghost use Rattle.c_lex.specs.declared.token.Place.{Place};
 ghost use Rattle.c_judge.specs.Elaboration.{IsCall};
 ghost use Rattle.c_judge.specs.Parts.{judged_of};
+ghost use Rattle.c_judge.specs.Pairs.{dropped};
 ghost use Rattle.c_judge.specs.Calls.{typed_in, called_by, number_or_none, parameters_by, NamesCallee, IsWith, Calls, Gathers};
 
 use crate::fault::Fault;
@@ -237,10 +238,10 @@ pub fn extended(calling: Result<Calling, Fault>, x: Result<Part, Fault>) -> Resu
 
 /// What is called where it is no name: it is judged as any part is.
 pub fn unnamed(x: Result<Part, Fault>) -> Result<Option<u32>, Fault>
-    ensures { (v : Names) (f : Tree) → None ≡ name_alone f → Judges v f x → Calls v f result }
+    ensures { result ≡ dropped x None }
 {
     match x {
-        Ok(_) => Ok(None),
+        Ok(_part) => Ok(None),
         Err(f) => Err(f),
     }
 }

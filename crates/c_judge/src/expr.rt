@@ -6,8 +6,8 @@ ghost use Rattle.c_expr.specs.Tree.{with_arguments};
 ghost use Rattle.c_typing.specs.Plain.{Plain};
 ghost use Rattle.c_judge.specs.Answers.{Known, Answer};
 ghost use Rattle.c_judge.specs.Judgement.{declared, spec_type};
-ghost use Rattle.c_judge.specs.Bounds.{all_bounds};
-ghost use Rattle.c_judge.specs.Calls.{Gathers};
+ghost use Rattle.c_judge.specs.Bounds.{all_bounds, one_bound};
+ghost use Rattle.c_judge.specs.Calls.{Calls, Gathers};
 ghost use Rattle.c_judge.specs.Judges.{Judges, Denotes, scope_of};
 
 use crate::calls::{Calling, at_call, begun, extended, name_alone, named, unnamed};
@@ -116,12 +116,26 @@ fn within_bounds<'a>(
     let mut i = bounds.len();
     'bounding: while i > 0 {
         i -= 1;
-        t = match &bounds[i] {
-            None => unbounded(at, t),
-            Some(e) => at_bound(alloc, v, at, place_of(e).at, t, judge(alloc, v, e)),
-        };
+        t = one_bound(alloc, v, at, &bounds[i], t);
     }
     t
+}
+
+/// So many items of a type.
+#[cycle(judging)]
+fn one_bound<'a>(
+    alloc: Global,
+    v: &Scope<'a>,
+    at: u32,
+    bound: &'a Option<Expr>,
+    t: Result<CType, Fault>,
+) -> Result<CType, Fault>
+    ensures { (j : Answer Plain) → Denotes j t → Denotes (one_bound (scope_of v.now) at bound.now j) result }
+{
+    match bound {
+        None => unbounded(at, t),
+        Some(e) => at_bound(alloc, v, at, place_of(e).at, t, judge(alloc, v, e)),
+    }
 }
 
 /// What is called, with its arguments.
@@ -134,13 +148,20 @@ fn gathered<'a>(
 ) -> Result<Calling, Fault>
     ensures { (at : Place) → Gathers (scope_of v.now) (with_arguments (tree.Call at f.now) arguments.now) result }
 {
-    let callee = match name_alone(f) {
-        Some(name) => named(alloc, v, name),
-        None => unnamed(judge(alloc, v, f)),
-    };
-    let mut calling = begun(alloc, callee);
+    let mut calling = begun(alloc, callee(alloc, v, f));
     for argument in arguments {
         calling = extended(calling, judge(alloc, v, argument));
     }
     calling
+}
+
+/// What is called: the number of a name, or none for another expression, which is judged as any part is.
+#[cycle(judging)]
+fn callee<'a>(alloc: Global, v: &Scope<'a>, f: &'a Expr) -> Result<Option<u32>, Fault>
+    ensures { Calls (scope_of v.now) f.now result }
+{
+    match name_alone(f) {
+        Some(name) => named(alloc, v, name),
+        None => unnamed(judge(alloc, v, f)),
+    }
 }

@@ -9,6 +9,7 @@ ghost use Rattle.c_judge.specs.Answers.{Answer, Known, ◌then◌};
 ghost use Rattle.c_judge.specs.Scope.{Scope as Names};
 ghost use Rattle.c_judge.specs.Judgement.{declared, chosen_of, spec_type, pointers};
 ghost use Rattle.c_judge.specs.Bounds.{one_bound};
+ghost use Rattle.c_judge.specs.Pairs.{without_bound};
 ghost use Rattle.c_judge.specs.Places.{place_of};
 ghost use Rattle.c_judge.specs.Judges.{Judges, Denotes, Makes, scope_of};
 ghost use Rattle.c_judge.specs.Elaboration.{IsChoice};
@@ -189,10 +190,10 @@ pub fn starred(
 
 /// An array without a bound, which is none here.
 pub fn unbounded(at: u32, t: Result<CType, Fault>) -> Result<CType, Fault>
-    ensures { (v : Names) (j : Answer Plain) → Denotes j t → Denotes (one_bound v at None j) result }
+    ensures { result ≡ without_bound at t }
 {
     match t {
-        Ok(_) => Err(Fault::Rule { rule: 2, at }),
+        Ok(_item) => Err(Fault::Rule { rule: 2, at }),
         Err(f) => Err(f),
     }
 }

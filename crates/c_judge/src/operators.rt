@@ -266,6 +266,7 @@ fn rule_of(op: BinaryOp) -> u8
 }
 
 /// `a op b`
+#[tactic(none)]
 fn operation(alloc: Global, defs: &[StructDef], at: Place, op: BinaryOp, x: Part, y: Part) -> Result<Part, Fault>
     ensures { Makes (operation defs.now at.at op (judged_of x) (judged_of y)) (IsOperation op x.typed y.typed) at result }
 {

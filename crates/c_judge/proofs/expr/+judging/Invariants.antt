@@ -6,7 +6,7 @@ use Rattle.c_judge.specs.Answers.{Answer}
 use Rattle.c_judge.specs.Bounds.{all_bounds}
 use Rattle.c_judge.specs.Calls.{Gathers}
 use Rattle.c_judge.specs.Judges.{Denotes, scope_of}
-use Rattle.c_judge.proofs.Depths.{bound_depths, depths}
+use Rattle.c_judge.proofs.Depths.{bound_depth, bound_depths, depths}
 use Rattle.c_judge.proofs.expr.+judging.Given as goal
 
 abbrev pub decreases-judge : goal.decreases-judge
@@ -23,6 +23,12 @@ decreases-within_bounds l = 8 * bound_depths l.bounds.now + 2
 
 abbrev pub decreases-gathered : goal.decreases-gathered
 decreases-gathered l = 8 * (depth l.f.now + depths l.arguments.now) + 7
+
+abbrev pub decreases-one_bound : goal.decreases-one_bound
+decreases-one_bound l = 8 * bound_depth l.bound.now + 1
+
+abbrev pub decreases-callee : goal.decreases-callee
+decreases-callee l = 8 * depth l.f.now + 5
 
 abbrev pub invariant-gathered-loop-argument : goal.invariant-gathered-loop-argument
 invariant-gathered-loop-argument l = (at : Place) → Gathers (scope_of l.v) (with_arguments (Call at l.f) (take l.argument-index l.arguments)) l.calling
