@@ -5,7 +5,8 @@ ghost use Rattle.c_typing.specs.Plain.{plain, value_type};
 ghost use Rattle.c_judge.specs.Judgement.{prefixed, joined, step_of, compound_of, unary, operation, assigned, rule_of, sized};
 ghost use Rattle.c_judge.specs.Elaboration.{site_of, IsUnary, IsPrefixed, IsAssigned, IsOperation, IsJoined};
 ghost use Rattle.c_symbol.specs.declared.symbol.PrefixOp.TheVariants as prefix;
-ghost use Rattle.c_judge.specs.Parts.{judged_of};
+ghost use Rattle.c_judge.specs.Parts.{judged_of, value_of};
+ghost use Rattle.c_judge.specs.Values as value;
 ghost use Rattle.c_judge.specs.Judges.{Makes};
 
 use crate::fault::Fault;
@@ -265,15 +266,21 @@ fn rule_of(op: BinaryOp) -> u8
     }
 }
 
+/// What an operator makes of two parts as constant expressions.
+fn constant_of(op: BinaryOp, x: &Part, y: &Part) -> Constant
+    ensures { result ≡ value.combined op (value_of x.now) (value_of y.now) x.now.facts.constant y.now.facts.constant }
+{
+    combined(op, type_of(x), type_of(y), x.facts.constant, y.facts.constant)
+}
+
 /// `a op b`
-#[tactic(none)]
 fn operation(alloc: Global, defs: &[StructDef], at: Place, op: BinaryOp, x: Part, y: Part) -> Result<Part, Fault>
     ensures { Makes (operation defs.now at.at op (judged_of x) (judged_of y)) (IsOperation op x.typed y.typed) at result }
 {
     let Some(t) = binary_type(alloc, defs, op, &x, &y)? else {
         return Err(Fault::Rule { rule: rule_of(op), at: at.at });
     };
-    let constant = combined(op, type_of(&x), type_of(&y), x.facts.constant, y.facts.constant);
+    let constant = constant_of(op, &x, &y);
     Ok(Part {
         typed: Typed::Binary(head(at, t), Box::new(alloc, x.typed)?, op, Box::new(alloc, y.typed)?),
         facts: Facts { lvalue: false, register: false, string: false, constant },
