@@ -42,11 +42,11 @@ module _ (v : Scope) where
   extended : (t e : Tree) (c : Gathering) (x : Part) (r : Result Gathering Fault) → Gathers v t (Ok c) → Judges v e (Ok x) → IsWith c x r → Gathers v (With t e) r
   extended t e c x (Ok d) (g, n, a) (h, l) (w, i) =
       let items : map judged_of d.arguments.items ≡ map judged_of c.arguments.items ++ judged_of x ∷ [] = ap (map judged_of) i ∙ map_last judged_of c.arguments.items x in
-      let types : map typed_in d.arguments.items ≡ map typed_in c.arguments.items ++ x.typed ∷ [] = ap (map typed_in) i ∙ map_last typed_in c.arguments.items x in
+      let types : map typed_in d.arguments.items ≡ map typed_in c.arguments.items ++ x.typed.value ∷ [] = ap (map typed_in) i ∙ map_last typed_in c.arguments.items x in
       let known : calling v (With t e) ≡ Known (called_by v c.callee, map judged_of c.arguments.items ++ judged_of x ∷ []) = two_known with_argument (calling v t) (judged v e) _ _ g h in
       (known ∙ (ap (λ js. Known (called_by v c.callee, js)) (sym items) ∙ ap (λ n. Known (called_by v n, map judged_of d.arguments.items)) (sym w)),
         subst (λ n. IsCallee v (callee_of t) (number_or_none n)) (sym w) n,
-        (map typed_in c.arguments.items, x.typed, types, a, l))
+        (map typed_in c.arguments.items, x.typed.value, types, a, l))
   extended t e c x (Err f) g h w = subst (λ f. IsFault (calling v (With t e)) f) (sym w) tt
 
   pub extended_gathers : (t e : Tree) (rc : Result Gathering Fault) (rx : Result Part Fault) (c : Gathering) (x : Part) (r : Result Gathering Fault) → Gathers v t rc → Judges v e rx → paired rc rx ≡ Ok (c, x) → IsWith c x r → Gathers v (With t e) r

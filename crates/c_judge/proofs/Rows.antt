@@ -1,5 +1,5 @@
 -- What the number of a name denotes.
-use Rattle.std.proofs.Common.{◌≡◌, ℕ, zero, suc, Bool, true, false, List, [], ◌∷◌, refl, sym, ap, ◌∙◌, Option, Some, None, Ok, slice_get, map}
+use Rattle.std.proofs.Common.{◌≡◌, ℕ, zero, suc, Bool, true, false, List, [], ◌∷◌, refl, sym, ap, ◌∙◌, Option, Some, None, slice_get, map}
 use Rattle.c_tree.specs.declared.types.CType.{CType}
 use Rattle.c_typing.specs.Plain.{plain}
 use Rattle.c_typing.specs.Expressions.{Denoted, Object}
@@ -8,11 +8,9 @@ use Rattle.c_judge.specs.declared.scope.Scope.{Scope as Names}
 use Rattle.c_judge.specs.Answers.{Known, Broken}
 use Rattle.c_judge.specs.Judgement.{named, variable}
 use Rattle.c_judge.specs.Calls.{called_by, parameters_by}
-use Rattle.c_judge.specs.Judges.{known, denoted, denoted_all, scope_of, Makes}
-use Rattle.c_judge.specs.Elaboration.{site_of, IsNamed}
+use Rattle.c_judge.specs.Judges.{known, denoted, denoted_all, scope_of}
+use Rattle.c_judge.specs.Parts.{judged_as}
 use Rattle.c_lex.specs.declared.token.Place.{Place}
-use Rattle.c_tree.specs.declared.typed.Head.{Head}
-use Rattle.c_tree.specs.declared.typed.Typed.TheVariants.{Name}
 use Rattle.c_judge.specs.declared.part.Constant.TheVariants.{Variable}
 
 abbrev row_in : Option Symbol → Option (List CType) → Option Denoted
@@ -35,10 +33,10 @@ named_function v at text n s e f = rw (denoted_at v.rows.now v.parameters.now n,
 pub named_object : (v : Names) (at : ℕ) (text : List ℕ) (n : ℕ) (s : Symbol) → slice_get v.rows.now n ≡ Some s → s.function ≡ false → named (scope_of v) at text (Some n) ≡ Known (variable s.register (plain s.ctype))
 named_object v at text n s e f = rw (denoted_at v.rows.now v.parameters.now n, e, f) refl
 
--- an object is the name of one
-pub numbered_makes : (v : Names) (at : Place) (text : List ℕ) (n : ℕ) (s : Symbol) (t : CType) (h : Head) → slice_get v.rows.now n ≡ Some s → s.function ≡ false → plain t ≡ plain s.ctype → h.site ≡ site_of at → h.ctype ≡ t
-    → Makes (named (scope_of v) at.at text (Some n)) (IsNamed n) at (Ok (record { typed = Name h n; facts = record { lvalue = true; register = s.register; string = false; constant = Variable } }))
-numbered_makes v at text n s t h e f p w c = (named_object v at.at text n s e f ∙ ap (λ u. Known (variable s.register u)) (sym (ap plain c ∙ p)), refl, w)
+-- an object is known by its name
+pub numbered_known : (v : Names) (at : Place) (text : List ℕ) (n : ℕ) (s : Symbol) (t u : CType) → slice_get v.rows.now n ≡ Some s → s.function ≡ false → plain t ≡ plain s.ctype → u ≡ t
+    → named (scope_of v) at.at text (Some n) ≡ Known (judged_as (plain u) (record { lvalue = true; register = s.register; string = false; constant = Variable }))
+numbered_known v at text n s t u e f p c = named_object v at.at text n s e f ∙ ap (λ w. Known (variable s.register w)) (sym (ap plain c ∙ p))
 
 pub called_none : (v : Names) (n : ℕ) → slice_get v.rows.now n ≡ None → called_by (scope_of v) (Some n) ≡ None
 called_none v n e = rw (denoted_at v.rows.now v.parameters.now n, e) refl

@@ -10,6 +10,7 @@ use Rattle.c_tree.specs.Types.{head_of}
 use Rattle.c_typing.specs.Plain.{Plain, plain}
 use Rattle.c_typing.specs.Expressions.{Denoted, Object, Function}
 use Rattle.c_judge.specs.declared.part.Part.{Part}
+use Rattle.c_judge.specs.declared.part.Facts.{Facts}
 use Rattle.c_judge.specs.declared.fault.Fault.{Fault}
 use Rattle.c_judge.specs.declared.fault.Fault.TheVariants as fault
 use Rattle.c_judge.specs.declared.symbol.Symbol.{Symbol}
@@ -57,13 +58,18 @@ Tells text fault.NoMemory = Unit {0}
 
 -- the typed expression that this one becomes, or why there is none
 abbrev pub Judges : Scope → Tree → Result Part Fault → Type 0
-Judges v e (Ok p) = (judged v e ≡ Known (judged_of p)) × Elaborates v e p.typed
+Judges v e (Ok p) = (judged v e ≡ Known (judged_of p)) × Elaborates v e p.typed.value
 Judges v e (Err f) = IsFault (judged v e) f
 
 -- a part that an operator makes at a place: what is known of it, and what it is
 abbrev pub Makes : Verdict → (Typed → Type 0) → Place → Result Part Fault → Type 0
-Makes j P at (Ok p) = (j ≡ Known (judged_of p)) × P p.typed × ((head_of p.typed).site ≡ site_of at)
+Makes j P at (Ok p) = (j ≡ Known (judged_of p)) × P p.typed.value × ((head_of p.typed.value).site ≡ site_of at)
 Makes j P at (Err f) = IsFault j f
+
+-- a part of this tree and these facts, where there was memory
+abbrev pub IsPart : Typed → Facts → Result Part Fault → Type 0
+IsPart z f (Ok p) = (p.typed.value ≡ z) × (p.facts ≡ f)
+IsPart z f (Err e) = e ≡ fault.NoMemory
 
 -- what is known of what was made, or why nothing was
 abbrev pub Gives : {A B : Type 0} → (A → B) → Answer B → Result A Fault → Type 0

@@ -14,7 +14,7 @@ ghost use Rattle.c_judge.specs.Calls.{typed_in, called_by, number_or_none, param
 
 use crate::fault::Fault;
 use crate::leaf::{number_of, unknown};
-use crate::operators::{VALUE, head};
+use crate::operators::{VALUE, head, part_of};
 use crate::pairs::pair;
 use crate::part::Part;
 use crate::rules::{converts, type_of};
@@ -69,7 +69,7 @@ pub fn typed_of(alloc: Global, parts: Vec<Part>) -> Result<Vec<Typed>, AllocErro
 {
     let mut typed = Vec::new(alloc);
     for part in parts {
-        typed.push(part.typed)?;
+        typed.push(Box::into_inner(part.typed))?;
     }
     Ok(typed)
 }
@@ -201,10 +201,7 @@ pub fn called<'a>(
     let t = result_of(alloc, v, at, calling.callee, calling.arguments.as_slice())?;
     let n = calling.callee.unwrap_or(0);
     let typed = typed_of(alloc, calling.arguments)?;
-    Ok(Part {
-        typed: Typed::Call(head(at, t), n, typed),
-        facts: VALUE,
-    })
+    part_of(alloc, Typed::Call(head(at, t), n, typed), VALUE)
 }
 
 /// What is called where an expression is a name, by the name's number.

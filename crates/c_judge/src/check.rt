@@ -116,6 +116,6 @@ fn accepted(mode: Mode, e: &Expr, part: Part) -> Result<Typed, ExprFault>
     }
     match forbidden_in(mode, e) {
         Some(at) => Err(ExprFault::Forbidden { at }),
-        None => Ok(part.typed),
+        None => Ok(Box::into_inner(part.typed)),
     }
 }

@@ -44,7 +44,7 @@ pub fn judge<'a>(alloc: Global, v: &Scope<'a>, e: &'a Expr) -> Result<Part, Faul
         ),
         Node::After(at, a, step) => at_after(alloc, v, *at, *step, judge(alloc, v, a)),
         Node::Prefix(at, op, a) => at_prefix(alloc, v, *at, *op, judge(alloc, v, a)),
-        Node::SizeofType(at, name) => at_size(v, *at, written_type(alloc, v, at.at, name)),
+        Node::SizeofType(at, name) => at_size(alloc, v, *at, written_type(alloc, v, at.at, name)),
         Node::Cast(at, name, a) => at_cast(
             alloc,
             *at,

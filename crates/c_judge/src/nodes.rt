@@ -91,11 +91,16 @@ pub fn at_prefix<'a>(
 }
 
 /// `sizeof (type)`
-pub fn at_size<'a>(v: &Scope<'a>, at: Place, t: Result<CType, Fault>) -> Result<Part, Fault>
+pub fn at_size<'a>(
+    alloc: Global,
+    v: &Scope<'a>,
+    at: Place,
+    t: Result<CType, Fault>,
+) -> Result<Part, Fault>
     ensures { (s : Spec) (d : Tree) → Denotes (declared (scope_of v.now) at.at d (Known (spec_type (scope_of v.now) s))) t → Judges (scope_of v.now) (tree.SizeofType at s d) result }
 {
     match t {
-        Ok(t) => size_of_type(v.defs, at, t),
+        Ok(t) => size_of_type(alloc, v.defs, at, t),
         Err(f) => Err(f),
     }
 }
@@ -166,7 +171,7 @@ pub fn at_choice(
 
 /// The same of parts that are there.
 fn chosen(alloc: Global, at: Place, first: (Part, Part), y: Part) -> Result<Part, Fault>
-    ensures { Makes (chosen_of at.at (judged_of first.0) (judged_of first.1) (judged_of y)) (IsChoice first.0.typed first.1.typed y.typed) at result }
+    ensures { Makes (chosen_of at.at (judged_of first.0) (judged_of first.1) (judged_of y)) (IsChoice first.0.typed.value first.1.typed.value y.typed.value) at result }
 {
     let (z, x) = first;
     choice(alloc, at, z, x, y)
