@@ -1,7 +1,7 @@
 -- What a declarator declares, from its `*`, its bounds and the declarator in parentheses.
 use Rattle.std.proofs.Common.{◌≡◌, ◌<◌, ℕ, suc, List, [], ◌∷◌, length, drop, slice_index_or, ◌∙◌, sym, refl, ap, subst, Result, Ok, Err, Option, Some, None}
 use Rattle.std.proofs.Math.Seq.{drop-cons}
-use Rattle.c_expr.specs.Tree.{Tree, Stars, Around, Bounded, Unbounded, with_bounds}
+use Rattle.c_expr.specs.Tree.{Tree, Stars, Around, Bounded, Unbounded, behind_stars, with_bounds}
 use Rattle.c_tree.specs.declared.types.CType.{CType}
 use Rattle.c_typing.specs.Plain.{Plain, plain}
 use Rattle.c_judge.specs.declared.part.Part.{Part}
@@ -56,3 +56,15 @@ module _ (v : Scope) (at : ℕ) where
   pub unbounded_denotes : (j : Answer Plain) (rt : Result CType Fault) → Denotes j rt → Denotes (one_bound v at None j) (without_bound at rt)
   unbounded_denotes j (Ok t) h = then_gives j (plain t) (λ u. Broken 2 at) h
   unbounded_denotes j (Err f) h = then_fails j (λ u. Broken 2 at) f h
+
+  pub declared_without : {B : Type 0} (f : B → Tree) (n : ℕ) (i : Option B) (bs cs : List (Option Tree)) (d : Tree) (j : Answer Plain) (r : Result CType Fault) → with_bounds (behind_stars f n i) bs ≡ d → i ≡ None → cs ≡ bs
+      → Denotes (all_bounds v at cs (◌then◌ j (pointers (defs_of v) at n))) r → Denotes (declared v at d j) r
+  declared_without f n i bs cs d j r w e k h =
+      subst (λ x. Gives plain (declared v at x j) r) w (subst (λ o. Gives plain (declared v at (with_bounds (behind_stars f n o) bs) j) r) (sym e)
+        (declared_none n bs j r (subst (λ ys. Gives plain (all_bounds v at ys (◌then◌ j (pointers (defs_of v) at n))) r) k h)))
+
+  pub declared_with : {B : Type 0} (f : B → Tree) (n : ℕ) (i : Option B) (b : B) (bs cs : List (Option Tree)) (d e : Tree) (j : Answer Plain) (r : Result CType Fault) → with_bounds (behind_stars f n i) bs ≡ d → i ≡ Some b → e ≡ f b → cs ≡ bs
+      → Denotes (declared v at e (all_bounds v at cs (◌then◌ j (pointers (defs_of v) at n)))) r → Denotes (declared v at d j) r
+  declared_with f n i b bs cs d e j r w o q k h =
+      subst (λ x. Gives plain (declared v at x j) r) w (subst (λ o. Gives plain (declared v at (with_bounds (behind_stars f n o) bs) j) r) (sym o)
+        (declared_some n (f b) bs j r (subst (λ x. Gives plain (declared v at x (all_bounds v at bs (◌then◌ j (pointers (defs_of v) at n)))) r) q (subst (λ ys. Gives plain (declared v at e (all_bounds v at ys (◌then◌ j (pointers (defs_of v) at n)))) r) k h))))

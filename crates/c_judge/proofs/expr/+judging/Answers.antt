@@ -1,4 +1,4 @@
-use Rattle.std.proofs.Common.{◌≡◌, ◌+◌, ◌-◌, ◌∙◌, ap, sym, refl, subst, suc, take, drop, length, [], ◌∷◌, ◌++◌, None, arith, add-one}
+use Rattle.std.proofs.Common.{◌≡◌, ◌<◌, ◌+◌, ◌-◌, ◌∙◌, ap, sym, refl, subst, suc, take, drop, length, [], ◌∷◌, ◌++◌, None, arith, add-one}
 use Rattle.std.proofs.lemmas.List.{take_more, take_all}
 use Rattle.c_expr.specs.Tree.{Call, With, with_arguments}
 use Rattle.c_typing.specs.Plain.{plain}
@@ -7,7 +7,8 @@ use Rattle.c_judge.specs.Bounds.{one_bound, all_bounds}
 use Rattle.c_judge.specs.Calls.{Calls, Gathers}
 use Rattle.c_judge.specs.Judges.{Gives, scope_of}
 use Rattle.c_judge.specs.Places.{place_of}
-use Rattle.c_judge.proofs.Bounds.{unbounded_denotes, bounds_more}
+use Rattle.c_lex.specs.declared.token.Place.{Place}
+use Rattle.c_judge.proofs.Bounds.{unbounded_denotes, bounds_more, declared_without, declared_with}
 use Rattle.c_judge.proofs.Called.{named_calls, dropped_calls}
 use Rattle.c_judge.proofs.Gathered.{one_more}
 use Rattle.c_judge.proofs.expr.+judging.Goals as goal
@@ -19,10 +20,18 @@ pub callee-returns-in-None : goal.callee-returns-in-None
 callee-returns-in-None t c = subst (Calls (scope_of c.args.v.now) c.args.f.now) (sym c.unnamed.ensures) (dropped_calls (scope_of c.args.v.now) c.args.f.now c.judge.result c.in-None.ensures c.judge.ensures)
 
 pub one_bound-returns-in-None : goal.one_bound-returns-in-None
-one_bound-returns-in-None t c = λ j h. subst (Gives plain (one_bound (scope_of c.args.v.now) c.args.at None j)) (sym c.unbounded.ensures) (unbounded_denotes (scope_of c.args.v.now) c.args.at j c.args.t h)
+one_bound-returns-in-None t c = λ j h.
+    let v = scope_of c.args.v.now in
+    subst (λ b. Gives plain (one_bound v c.args.at b j) c.unbounded.result) (sym c.in-None.is)
+      (subst (Gives plain (one_bound v c.args.at None j)) (sym c.unbounded.ensures) (unbounded_denotes v c.args.at j c.args.t h))
 
 pub one_bound-returns-in-Some : goal.one_bound-returns-in-Some
-one_bound-returns-in-Some t c = λ j h. c.at_bound.ensures j c.in-Some.e.now (ap (λ q. q.at) c.place_of.ensures) h c.judge.ensures
+one_bound-returns-in-Some t c = λ j h.
+    let v = scope_of c.args.v.now in
+    subst (λ b. Gives plain (one_bound v c.args.at b j) c.at_bound.result) (sym c.in-Some.is) (c.at_bound.ensures j c.in-Some.e (ap (λ (q : Place). q.at) c.place_of.ensures) h c.judge.ensures)
+
+pub gathered-loop-argument-init : goal.gathered-loop-argument-init
+gathered-loop-argument-init t c = λ at. c.begun-calling.ensures (scope_of c.args.v.now) at c.args.f.now c.callee.ensures
 
 pub gathered-loop-argument-preserved : goal.gathered-loop-argument-preserved
 gathered-loop-argument-preserved t c = λ at.
@@ -30,9 +39,9 @@ gathered-loop-argument-preserved t c = λ at.
     let i = c.loop-argument.argument-index in
     let es = c.args.arguments.now in
     let e = c.argument-item.result in
-    let tree = with_arguments (Call at c.args.f.now) (take i es) in
     let more : take (i + 1) es ≡ take i es ++ e ∷ [] = take_more es i e c.loop-argument-test.true ∙ ap (λ x. take i es ++ x ∷ []) (sym c.argument-item.is) in
-    subst (λ s. Gathers v s c.extended.result) (sym (ap (with_arguments (Call at c.args.f.now)) more ∙ one_more (Call at c.args.f.now) (take i es) e)) (c.extended.ensures v tree e (c.loop-argument.invariant at) c.judge.ensures)
+    subst (λ s. Gathers v s c.extended-calling.result) (sym (ap (with_arguments (Call at c.args.f.now)) more ∙ one_more (Call at c.args.f.now) (take i es) e))
+      (c.extended-calling.ensures v (with_arguments (Call at c.args.f.now) (take i es)) e (c.loop-argument.invariant at) c.judge.ensures)
 
 pub gathered-returns : goal.gathered-returns
 gathered-returns t c = λ at.
@@ -44,17 +53,55 @@ within_bounds-bounding-preserved t c =
     let v = scope_of c.args.v.now in
     let bs = c.args.bounds.now in
     let n = c.bounding.i - 1 in
+    let item = c.index-bounds-i.result in
     let e : c.bounding.i ≡ suc n = omega (arith, c.bounding-test.true) in
+    let inside : n < length bs = omega (arith, c.bounding-test.true, c.bounding.invariant.inside) in
     record {
       inside = omega (arith, c.bounding.invariant.inside);
-      typed = λ j h. ?;
+      typed = λ j h.
+          let before = subst (λ k. Gives plain (all_bounds v c.args.at (drop k bs) j) c.bounding.t) e (c.bounding.invariant.typed j h) in
+          subst (λ w. Gives plain w c.one_bound-t.result) (sym (bounds_more v c.args.at bs n item j inside ∙ ap (λ b. one_bound v c.args.at b (all_bounds v c.args.at (drop (suc n) bs) j)) (sym c.index-bounds-i.is)))
+            (c.one_bound-t.ensures (all_bounds v c.args.at (drop (suc n) bs) j) before);
     }
 
 pub within_bounds-returns : goal.within_bounds-returns
-within_bounds-returns t c = λ j h. ?
+within_bounds-returns t c = λ j h.
+    let e : c.bounding.i ≡ 0 = omega (arith, c.bounding-test.false) in
+    subst (λ k. Gives plain (all_bounds (scope_of c.args.v.now) c.args.at (drop k c.args.bounds.now) j) c.bounding.t) e (c.bounding.invariant.typed j h)
 
 pub declared-returns-in-None : goal.declared-returns-in-None
-declared-returns-in-None t c = λ j h. ?
+declared-returns-in-None t c = λ j h.
+    declared_without (scope_of c.args.v.now) c.args.at (λ b. b.value) c.d.inside.stars c.d.inside.inner c.d.inside.bounds.items c.deref.result.now c.args.d.now j c.within_bounds-t.result c.d.view_is c.in-None.is c.deref.ensures.value
+      (c.within_bounds-t.ensures _ (c.starred-t.ensures j h))
 
 pub declared-returns-in-Some : goal.declared-returns-in-Some
-declared-returns-in-Some t c = λ j h. ?
+declared-returns-in-Some t c = λ j h.
+    declared_with (scope_of c.args.v.now) c.args.at (λ b. b.value) c.d.inside.stars c.d.inside.inner c.in-Some.inner c.d.inside.bounds.items c.deref.result.now c.args.d.now c.deref-in-Some.result.now j c.declared.result c.d.view_is c.in-Some.is c.deref-in-Some.ensures c.deref.ensures.value
+      (c.declared.ensures _ (c.within_bounds-t.ensures _ (c.starred-t.ensures j h)))
+
+pub declared-within_bounds-t-requires : goal.declared-within_bounds-t-requires
+declared-within_bounds-t-requires t c = ?
+
+pub gathered-judge-requires : goal.gathered-judge-requires
+gathered-judge-requires t c = ?
+
+pub judge-gathered-requires : goal.judge-gathered-requires
+judge-gathered-requires t c = ?
+
+pub within_bounds-one_bound-t-requires : goal.within_bounds-one_bound-t-requires
+within_bounds-one_bound-t-requires t c = ?
+
+pub judge-returns-in-Paren : goal.judge-returns-in-Paren
+judge-returns-in-Paren t c = ?
+
+pub judge-returns-in-Call : goal.judge-returns-in-Call
+judge-returns-in-Call t c = ?
+
+pub judge-returns-in-Member : goal.judge-returns-in-Member
+judge-returns-in-Member t c = ?
+
+pub judge-returns-in-Cast : goal.judge-returns-in-Cast
+judge-returns-in-Cast t c = ?
+
+pub judge-returns-in-Choice : goal.judge-returns-in-Choice
+judge-returns-in-Choice t c = ?
