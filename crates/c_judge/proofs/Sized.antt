@@ -8,7 +8,7 @@ use Rattle.c_judge.specs.Answers.{Known}
 use Rattle.c_judge.specs.Values.{size_of}
 use Rattle.c_judge.specs.Judgement.{sized, folded}
 
-pub sized_known : (defs : List StructDef) (at : ℕ) (b : Bool) (u t : Plain) (m : ℕ) → u ≡ t → b ≡ is_complete defs u → not b ≡ false → (m ≡ size_of defs u) × (size_of defs u ≤ 1048576) → sized defs at t ≡ Known (folded (Number m) Unsigned)
+pub sized_known : (defs : List StructDef) (at : ℕ) (b : Bool) (u t : Plain) (m : ℕ) → u ≡ t → b ≡ is_complete defs u → b ≡ true → (m ≡ size_of defs u) × (size_of defs u ≤ 1048576) → sized defs at t ≡ Known (folded (Number m) Unsigned)
 sized_known defs at true u t m e h n (w, k) =
     let c : is_complete defs t ≡ true = sym (h ∙ ap (is_complete defs) e) in
     let l = le-leb (size_of defs t) 1048576 (subst (λ q. size_of defs q ≤ 1048576) e k) in
