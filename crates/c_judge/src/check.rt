@@ -46,11 +46,11 @@ fn stands(mode: Mode, x: &Part) -> bool
 /// Checks an expression among these names and structs, of which the first of a name or tag counts. Refuses it where a name is not among them,
 /// a typing rule is broken (but not that of calls), or a call, an assignment, `++`, `--` or a string stands in it, in this order;
 /// in the mode `Assign` a plain assignment is asked for.
-pub fn check_expr(
+pub fn check_expr<'a>(
     alloc: Global,
-    e: &Expr,
-    names: &[Symbol],
-    defs: &[StructDef],
+    e: &'a Expr,
+    names: &'a [Symbol],
+    defs: &'a [StructDef],
     mode: Mode,
 ) -> Result<Typed, ExprFault>
     requires names { length names.now < 2 ^ 32 }
