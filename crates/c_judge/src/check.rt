@@ -1,6 +1,5 @@
 // Checking an expression of a session.
-ghost use Rattle.std.specs.Prelude.{◌≡◌, ◌<◌, ◌^◌, length, None, Ok};
-ghost use Rattle.c_judge.specs.Session.{session};
+ghost use Rattle.std.specs.Prelude.{◌≡◌, None, Ok};
 ghost use Rattle.c_judge.specs.Judges.{Judges, scope_of};
 ghost use Rattle.c_judge.specs.Forms.{unknown};
 ghost use Rattle.c_judge.specs.Scope.{Scope as Names};
@@ -14,14 +13,11 @@ use crate::names::unknown;
 use crate::part::Part;
 use crate::rules::{may_drop, type_of};
 use crate::scope::Scope;
-use crate::session::{number_names, number_tags, session};
-use crate::symbol::Symbol;
 use crate::types::is_void;
 use c_expr::Expr;
-use c_tree::{StructDef, Typed};
+use c_tree::Typed;
 use ldb_words::Text;
 use std::alloc::Global;
-use std::collections::BTreeMap;
 
 /// What an expression is checked for.
 #[derive(Clone, Copy, Debug, PartialEq, Eq)]
@@ -43,29 +39,9 @@ fn stands(mode: Mode, x: &Part) -> bool
     }
 }
 
-/// Checks an expression among these names and structs, of which the first of a name or tag counts. Refuses it where a name is not among them,
-/// a typing rule is broken (but not that of calls), or a call, an assignment, `++`, `--` or a string stands in it, in this order;
-/// in the mode `Assign` a plain assignment is asked for.
-pub fn check_expr<'a>(
-    alloc: Global,
-    e: &'a Expr,
-    names: &'a [Symbol],
-    defs: &'a [StructDef],
-    mode: Mode,
-) -> Result<Typed, ExprFault>
-    requires names { length names.now < 2 ^ 32 }
-    requires defs { length defs.now < 2 ^ 32 }
-    ensures { Checks (session names.now defs.now) mode e.now result }
-{
-    let numbers = number_names(alloc, names)?;
-    let tags = number_tags(alloc, defs)?;
-    let literals = BTreeMap::new(alloc);
-    let v = session(names, defs, &numbers, &tags, &literals);
-    checked(alloc, &v, e, mode)
-}
-
-/// The same in a scope.
-fn checked<'a>(
+/// Checks an expression in a scope. Refuses it where a name is not in scope, a typing rule is broken (but that of calls only where the scope asks it),
+/// or a call, an assignment, `++`, `--` or a string stands in it, in this order; in the mode `Assign` a plain assignment is asked for.
+pub fn check_in<'a>(
     alloc: Global,
     v: &Scope<'a>,
     e: &'a Expr,

@@ -20,18 +20,17 @@ mod rules;
 mod scope;
 mod session;
 mod symbol;
-#[cfg(test)]
-mod tests;
 mod types;
 mod values;
 
-pub use check::{Mode, check_expr};
+pub use check::{Mode, check_in};
 pub use expr::{judge, written_type};
 pub use fault::{ExprFault, Fault};
 pub use limits::{array, bounded, pointer, pointers};
 pub use names::unknown;
 pub use pairs::pair;
 pub use scope::Scope;
+pub use session::{number_names, number_tags, session_scope};
 pub use symbol::Symbol;
 
 pub use numbers::Numbers;

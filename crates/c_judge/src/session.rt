@@ -41,7 +41,7 @@ pub fn number_tags<'a>(alloc: Global, defs: &'a [StructDef]) -> Result<Numbers<'
 }
 
 /// The scope of an expression among these names and structs, whose numbers are given, where calls are not asked for their arguments.
-pub fn session<'a>(
+pub fn session_scope<'a>(
     names: &'a [Symbol],
     defs: &'a [StructDef],
     numbers: &'a Numbers<'a>,
