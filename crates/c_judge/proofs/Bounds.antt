@@ -61,10 +61,10 @@ module _ (v : Scope) (at : ℕ) where
       → Denotes (all_bounds v at cs (◌then◌ j (pointers (defs_of v) at n))) r → Denotes (declared v at d j) r
   declared_without f n i bs cs d j r w e k h =
       subst (λ x. Gives plain (declared v at x j) r) w (subst (λ o. Gives plain (declared v at (with_bounds (behind_stars f n o) bs) j) r) (sym e)
-        (declared_none n bs j r (subst (λ ys. Gives plain (all_bounds v at ys (◌then◌ j (pointers (defs_of v) at n))) r) k h)))
+      (declared_none n bs j r (subst (λ ys. Gives plain (all_bounds v at ys (◌then◌ j (pointers (defs_of v) at n))) r) k h)))
 
   pub declared_with : {B : Type 0} (f : B → Tree) (n : ℕ) (i : Option B) (b : B) (bs cs : List (Option Tree)) (d e : Tree) (j : Answer Plain) (r : Result CType Fault) → with_bounds (behind_stars f n i) bs ≡ d → i ≡ Some b → e ≡ f b → cs ≡ bs
       → Denotes (declared v at e (all_bounds v at cs (◌then◌ j (pointers (defs_of v) at n)))) r → Denotes (declared v at d j) r
   declared_with f n i b bs cs d e j r w o q k h =
       subst (λ x. Gives plain (declared v at x j) r) w (subst (λ o. Gives plain (declared v at (with_bounds (behind_stars f n o) bs) j) r) (sym o)
-        (declared_some n (f b) bs j r (subst (λ x. Gives plain (declared v at x (all_bounds v at bs (◌then◌ j (pointers (defs_of v) at n)))) r) q (subst (λ ys. Gives plain (declared v at e (all_bounds v at ys (◌then◌ j (pointers (defs_of v) at n)))) r) k h))))
+      (declared_some n (f b) bs j r (subst (λ x. Gives plain (declared v at x (all_bounds v at bs (◌then◌ j (pointers (defs_of v) at n)))) r) q (subst (λ ys. Gives plain (declared v at e (all_bounds v at ys (◌then◌ j (pointers (defs_of v) at n)))) r) k h))))

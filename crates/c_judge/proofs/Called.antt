@@ -43,10 +43,11 @@ module _ (v : Scope) where
   extended t e c x (Ok d) (g, n, a) (h, l) (w, i) =
       let items : map judged_of d.arguments.items ≡ map judged_of c.arguments.items ++ judged_of x ∷ [] = ap (map judged_of) i ∙ map_last judged_of c.arguments.items x in
       let types : map typed_in d.arguments.items ≡ map typed_in c.arguments.items ++ x.typed.value ∷ [] = ap (map typed_in) i ∙ map_last typed_in c.arguments.items x in
-      let known : calling v (With t e) ≡ Known (called_by v c.callee, map judged_of c.arguments.items ++ judged_of x ∷ []) = two_known with_argument (calling v t) (judged v e) _ _ g h in
-      (known ∙ (ap (λ js. Known (called_by v c.callee, js)) (sym items) ∙ ap (λ n. Known (called_by v n, map judged_of d.arguments.items)) (sym w)),
+      let known : calling v (With t e) ≡ Known (called_by v c.callee, map judged_of c.arguments.items ++ judged_of x ∷ []) = two_known with_argument (calling v t) (judged v e) _ _ g h in (
+        known ∙ (ap (λ js. Known (called_by v c.callee, js)) (sym items) ∙ ap (λ n. Known (called_by v n, map judged_of d.arguments.items)) (sym w)),
         subst (λ n. IsCallee v (callee_of t) (number_or_none n)) (sym w) n,
-        (map typed_in c.arguments.items, x.typed.value, types, a, l))
+        (map typed_in c.arguments.items, x.typed.value, types, a, l),
+      )
   extended t e c x (Err f) g h w = subst (λ f. IsFault (calling v (With t e)) f) (sym w) tt
 
   pub extended_gathers : (t e : Tree) (rc : Result Gathering Fault) (rx : Result Part Fault) (c : Gathering) (x : Part) (r : Result Gathering Fault) → Gathers v t rc → Judges v e rx → paired rc rx ≡ Ok (c, x) → IsWith c x r → Gathers v (With t e) r
@@ -71,7 +72,7 @@ module _ (v : Scope) where
       let form = call_form (Call at f) es tt in
       let place : place_of t ≡ at = place_call at f es in
       let known : judged v t ≡ called v.asks at.at (called_by v c.callee) (map judged_of c.arguments.items) =
-        judged_call v t form ∙ (then_gives (calling v t) (calling_of v c) (λ s. called v.asks (place_of t).at s.0 s.1) g ∙ ap (λ (q : Place). called v.asks q.at (called_by v c.callee) (map judged_of c.arguments.items)) place) in
+      judged_call v t form ∙ (then_gives (calling v t) (calling_of v c) (λ s. called v.asks (place_of t).at s.0 s.1) g ∙ ap (λ (q : Place). called v.asks q.at (called_by v c.callee) (map judged_of c.arguments.items)) place) in
       made v t at _ (IsCall (λ m. m ≡ number_or_none c.callee) (map typed_in c.arguments.items)) r place known (λ z h i. elaborates_call v t (map typed_in c.arguments.items) z form a (numbered v (callee_of t) (number_or_none c.callee) (map typed_in c.arguments.items) z n i) h) m
 
   pub call_fails : (at : Place) (f : Tree) (es : List Tree) (e : Fault) → IsFault (calling v (with_arguments (Call at f) es)) e → IsFault (judged v (with_arguments (Call at f) es)) e
@@ -80,10 +81,11 @@ module _ (v : Scope) where
       subst (λ j. IsFault j e) (sym (judged_call v t (call_form (Call at f) es tt))) (then_fails (calling v t) (λ s. called v.asks (place_of t).at s.0 s.1) e h)
 
   pub begun_gathers : (at : Place) (f : Tree) (n : Option ℕ) (c : Gathering) → c.callee ≡ n → c.arguments.items ≡ [] → Calls v f (Ok n) → Gathers v (Call at f) (Ok c)
-  begun_gathers at f n c e i (h, w) =
-      (then_gives (callee v f (judged v f)) (called_by v n) without_arguments h ∙ (ap (λ m. Known (called_by v m, [])) (sym e) ∙ ap (λ ps. Known (called_by v c.callee, map judged_of ps)) (sym i)),
-        subst (λ m. IsCallee v f (number_or_none m)) (sym e) w,
-        ap (map typed_in) i)
+  begun_gathers at f n c e i (h, w) = (
+    then_gives (callee v f (judged v f)) (called_by v n) without_arguments h ∙ (ap (λ m. Known (called_by v m, [])) (sym e) ∙ ap (λ ps. Known (called_by v c.callee, map judged_of ps)) (sym i)),
+    subst (λ m. IsCallee v f (number_or_none m)) (sym e) w,
+    ap (map typed_in) i,
+  )
 
   pub begun_fails : (at : Place) (f : Tree) (e : Fault) → Calls v f (Err e) → IsFault (calling v (Call at f)) e
   begun_fails at f e h = then_fails (callee v f (judged v f)) without_arguments e h

@@ -40,4 +40,4 @@ pub call_makes : (asks : Bool) (at : Place) (f : Callee) (js : List Judged) (xs 
     → Makes (called asks at.at f js) (IsCall (λ k. k ≡ number_or_none o) xs) at r
 call_makes asks at f js xs o n t h v r p e s c w i =
     makes_part (called asks at.at f js) (IsCall (λ k. k ≡ number_or_none o) xs) at (Call h n v) _ r p
-      (then_gives (result_type asks at.at f js) (plain t) (λ u. Known (value u)) e ∙ ap (λ u. Known (value u)) (sym (ap plain c))) (call_is h n (number_or_none o) v xs (w ∙ number_unwrap o) i) s
+    (then_gives (result_type asks at.at f js) (plain t) (λ u. Known (value u)) e ∙ ap (λ u. Known (value u)) (sym (ap plain c))) (call_is h n (number_or_none o) v xs (w ∙ number_unwrap o) i) s

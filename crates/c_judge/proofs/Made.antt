@@ -114,4 +114,4 @@ module _ (v : Scope) where
   pub choice_fails : (at : Place) (c a b : Tree) (rz rx ry : Result Part Fault) (f : Fault) → Judges v c rz → Judges v a rx → Judges v b ry → paired (paired rz rx) ry ≡ Err f → IsFault (judged v (Choice at c a b)) f
   choice_fails at c a b rz rx ry f g h k p =
       two_fails (λ p w. chosen_of at.at p.0 p.1 w) (λ q. (judged_of q.0, judged_of q.1)) judged_of (two both_known (judged v c) (judged v a)) (judged v b) (paired rz rx) ry f
-        (pair_gives judged_of judged_of (judged v c) (judged v a) rz rx (judges_gives v c rz g) (judges_gives v a rx h)) (judges_gives v b ry k) p
+      (pair_gives judged_of judged_of (judged v c) (judged v a) rz rx (judges_gives v c rz g) (judges_gives v a rx h)) (judges_gives v b ry k) p

@@ -14,7 +14,9 @@ use Rattle.c_judge.specs.Elaboration.{site_of}
 use Rattle.c_judge.specs.Judges.{IsPart, IsFault, Makes}
 
 pub makes_part : (j : Verdict) (P : Typed → Type 0) (at : Place) (z : Typed) (f : Facts) (r : Result Part Fault) → IsPart z f r → j ≡ Known (judged_as (plain (type_of z)) f) → P z → (head_of z).site ≡ site_of at → Makes j P at r
-makes_part j P at z f (Ok p) (w, u) k i s =
-    (k ∙ (ap (λ y. Known (judged_as (plain (type_of y)) f)) (sym w) ∙ ap (λ g. Known (judged_as (plain (type_of p.typed.value)) g)) (sym u)),
-      subst P (sym w) i, ap (λ y. (head_of y).site) w ∙ s)
+makes_part j P at z f (Ok p) (w, u) k i s = (
+  k ∙ (ap (λ y. Known (judged_as (plain (type_of y)) f)) (sym w) ∙ ap (λ g. Known (judged_as (plain (type_of p.typed.value)) g)) (sym u)),
+  subst P (sym w) i,
+  ap (λ y. (head_of y).site) w ∙ s,
+)
 makes_part j P at z f (Err e) h k i s = subst (λ e. IsFault j e) (sym h) tt

@@ -38,11 +38,12 @@ known (Some ps) = ps
 -- the scope that the checker is given
 abbrev pub scope_of : Names → Scope
 scope_of v = record {
-    among = record { names = denoted_all v.rows.now v.parameters.now; defs = v.defs.now; strings = [] };
-    number = number_in v.names.now;
-    tag = λ t. or_else_number v.incomplete (number_in v.tags.now t);
-    literal = λ at. or_else_number 0 (get nat_cmp v.literals.now at);
-    asks = v.asks }
+  among = record { names = denoted_all v.rows.now v.parameters.now; defs = v.defs.now; strings = [] };
+  number = number_in v.names.now;
+  tag = λ t. or_else_number v.incomplete (number_in v.tags.now t);
+  literal = λ at. or_else_number 0 (get nat_cmp v.literals.now at);
+  asks = v.asks;
+}
 
 -- why there is no part: a name that is not declared, or the rule that is broken and where; or there was no memory
 abbrev pub IsFault : {A : Type 0} → Answer A → Fault → Type 0

@@ -146,10 +146,16 @@ fn asked<'a>(
     ensures { Denotes (asked at.at (called_by (scope_of v.now) n) (map judged_of parts.now)) result }
 {
     let Some(symbol) = function_by(v, n) else {
-        return Err(Fault::Rule { rule: 29, at: at.at });
+        return Err(Fault::Rule {
+            rule: 29,
+            at: at.at,
+        });
     };
     if !takes(parameters_by(v, n), parts) {
-        return Err(Fault::Rule { rule: 29, at: at.at });
+        return Err(Fault::Rule {
+            rule: 29,
+            at: at.at,
+        });
     }
     Ok(copied(alloc, &symbol.ctype)?)
 }
@@ -165,7 +171,10 @@ fn unasked<'a>(
     ensures { Denotes (unasked at.at (called_by (scope_of v.now) n) (map judged_of parts.now)) result }
 {
     if !are_scalars(parts) {
-        return Err(Fault::Rule { rule: 22, at: at.at });
+        return Err(Fault::Rule {
+            rule: 22,
+            at: at.at,
+        });
     }
     match function_by(v, n) {
         None => Ok(CType::Int),
@@ -190,12 +199,7 @@ fn result_of<'a>(
 }
 
 /// A call of what is called with checked arguments.
-pub fn called<'a>(
-    alloc: Global,
-    v: &Scope<'a>,
-    at: Place,
-    calling: Calling,
-) -> Result<Part, Fault>
+pub fn called<'a>(alloc: Global, v: &Scope<'a>, at: Place, calling: Calling) -> Result<Part, Fault>
     ensures { Makes (called v.now.asks at.at (called_by (scope_of v.now) calling.callee) (map judged_of calling.arguments.items)) (IsCall (λ m. m ≡ number_or_none calling.callee) (map typed_in calling.arguments.items)) at result }
 {
     let t = result_of(alloc, v, at, calling.callee, calling.arguments.as_slice())?;

@@ -38,7 +38,10 @@ pub fn index(alloc: Global, defs: &[StructDef], at: Place, x: Part, y: Part) -> 
     ensures { Makes (indexed defs.now at.at (judged_of x) (judged_of y)) (IsIndex x.typed.value y.typed.value) at result }
 {
     let Some(t) = index_type(alloc, defs, &x, &y)? else {
-        return Err(Fault::Rule { rule: 28, at: at.at });
+        return Err(Fault::Rule {
+            rule: 28,
+            at: at.at,
+        });
     };
     part_of(alloc, Typed::Index(head(at, t), x.typed, y.typed), OBJECT)
 }
@@ -59,10 +62,16 @@ fn dot(alloc: Global, defs: &[StructDef], at: Place, name: &[u8], x: Part) -> Re
     ensures { Makes (member_of defs.now at.at access.Dot name.now (judged_of x)) (IsMember defs.now access.Dot name.now x.typed.value) at result }
 {
     let Some(m) = member_number(defs, type_of(&x), name) else {
-        return Err(Fault::Rule { rule: 26, at: at.at });
+        return Err(Fault::Rule {
+            rule: 26,
+            at: at.at,
+        });
     };
     let Some(t) = dot_type(alloc, defs, &x, m)? else {
-        return Err(Fault::Rule { rule: 26, at: at.at });
+        return Err(Fault::Rule {
+            rule: 26,
+            at: at.at,
+        });
     };
     part_of(alloc, Typed::Dot(head(at, t), x.typed, m), OBJECT)
 }
@@ -83,16 +92,29 @@ fn arrow(alloc: Global, defs: &[StructDef], at: Place, name: &[u8], x: Part) -> 
     ensures { Makes (member_of defs.now at.at access.Arrow name.now (judged_of x)) (IsMember defs.now access.Arrow name.now x.typed.value) at result }
 {
     let Some(m) = pointed_number(defs, type_of(&x), name) else {
-        return Err(Fault::Rule { rule: 27, at: at.at });
+        return Err(Fault::Rule {
+            rule: 27,
+            at: at.at,
+        });
     };
     let Some(t) = arrow_type(alloc, defs, &x, m)? else {
-        return Err(Fault::Rule { rule: 27, at: at.at });
+        return Err(Fault::Rule {
+            rule: 27,
+            at: at.at,
+        });
     };
     part_of(alloc, Typed::Arrow(head(at, t), x.typed, m), OBJECT)
 }
 
 /// `a.m` or `a->m`
-pub fn member(alloc: Global, defs: &[StructDef], at: Place, access: Access, name: &[u8], x: Part) -> Result<Part, Fault>
+pub fn member(
+    alloc: Global,
+    defs: &[StructDef],
+    at: Place,
+    access: Access,
+    name: &[u8],
+    x: Part,
+) -> Result<Part, Fault>
     ensures { Makes (member_of defs.now at.at access name.now (judged_of x)) (IsMember defs.now access name.now x.typed.value) at result }
 {
     match access {
@@ -103,12 +125,21 @@ pub fn member(alloc: Global, defs: &[StructDef], at: Place, access: Access, name
 
 /// `a++` or `a--`
 #[tactic(auto, using(crate::proofs::Wholly::makes_part))]
-pub fn after(alloc: Global, defs: &[StructDef], at: Place, step: Step, x: Part) -> Result<Part, Fault>
+pub fn after(
+    alloc: Global,
+    defs: &[StructDef],
+    at: Place,
+    step: Step,
+    x: Part,
+) -> Result<Part, Fault>
     ensures { Makes (stepped defs.now at.at step (judged_of x)) (IsAfter step x.typed.value) at result }
 {
     let op = step_of(step);
     let Some(t) = step_type(alloc, defs, op, &x)? else {
-        return Err(Fault::Rule { rule: 37, at: at.at });
+        return Err(Fault::Rule {
+            rule: 37,
+            at: at.at,
+        });
     };
     part_of(alloc, Typed::After(head(at, t), x.typed, op), VALUE)
 }
@@ -119,15 +150,22 @@ pub fn choice(alloc: Global, at: Place, c: Part, x: Part, y: Part) -> Result<Par
     ensures { Makes (chosen_of at.at (judged_of c) (judged_of x) (judged_of y)) (IsChoice c.typed.value x.typed.value y.typed.value) at result }
 {
     let Some(t) = choice_type(alloc, &c, &x, &y)? else {
-        return Err(Fault::Rule { rule: 38, at: at.at });
+        return Err(Fault::Rule {
+            rule: 38,
+            at: at.at,
+        });
     };
     let constant = chosen(c.facts.constant, x.facts.constant, y.facts.constant);
-    part_of(alloc, Typed::Choice(
-            head(at, t),
-            c.typed,
-            x.typed,
-            y.typed,
-        ), Facts { lvalue: false, register: false, string: false, constant })
+    part_of(
+        alloc,
+        Typed::Choice(head(at, t), c.typed, x.typed, y.typed),
+        Facts {
+            lvalue: false,
+            register: false,
+            string: false,
+            constant,
+        },
+    )
 }
 
 /// `(type) a`
@@ -137,9 +175,21 @@ pub fn cast(alloc: Global, at: Place, to: CType, x: Part) -> Result<Part, Fault>
 {
     let constant = converted(&to, x.facts.constant);
     let Some(t) = cast_type(to, &x) else {
-        return Err(Fault::Rule { rule: 40, at: at.at });
+        return Err(Fault::Rule {
+            rule: 40,
+            at: at.at,
+        });
     };
-    part_of(alloc, Typed::Cast(head(at, t), x.typed), Facts { lvalue: false, register: false, string: false, constant })
+    part_of(
+        alloc,
+        Typed::Cast(head(at, t), x.typed),
+        Facts {
+            lvalue: false,
+            register: false,
+            string: false,
+            constant,
+        },
+    )
 }
 
 /// `sizeof (type)`
@@ -148,12 +198,24 @@ pub fn size_of_type(alloc: Global, defs: &[StructDef], at: Place, t: CType) -> R
     ensures { Makes (sized defs.now at.at (plain t)) (IsSizeOfType (plain t)) at result }
 {
     if !is_complete(defs, &t) {
-        return Err(Fault::Rule { rule: 40, at: at.at });
+        return Err(Fault::Rule {
+            rule: 40,
+            at: at.at,
+        });
     }
     let Some(size) = size_within(defs, &t) else {
         return Err(Fault::Rule { rule: 1, at: at.at });
     };
-    part_of(alloc, Typed::SizeOfType(head(at, CType::Unsigned), t), Facts { lvalue: false, register: false, string: false, constant: Constant::Number(size) })
+    part_of(
+        alloc,
+        Typed::SizeOfType(head(at, CType::Unsigned), t),
+        Facts {
+            lvalue: false,
+            register: false,
+            string: false,
+            constant: Constant::Number(size),
+        },
+    )
 }
 
 /// The number of the first member with a name.

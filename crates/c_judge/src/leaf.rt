@@ -54,10 +54,16 @@ fn numbered<'a>(alloc: Global, v: &Scope<'a>, at: Place, n: u32) -> Result<Part,
     ensures { (text : List ℕ) → Makes (named (scope_of v.now) at.at text (Some n)) (IsNamed n) at result }
 {
     let Some(symbol) = v.rows.get(n as usize) else {
-        return Err(Fault::Rule { rule: 21, at: at.at });
+        return Err(Fault::Rule {
+            rule: 21,
+            at: at.at,
+        });
     };
     if symbol.function {
-        return Err(Fault::Rule { rule: 21, at: at.at });
+        return Err(Fault::Rule {
+            rule: 21,
+            at: at.at,
+        });
     }
     let t = copied(alloc, &symbol.ctype)?;
     let facts = Facts {
@@ -114,7 +120,13 @@ fn string<'a>(alloc: Global, v: &Scope<'a>, at: Place, text: &'a Text) -> Result
 
 /// A name, a constant or a string.
 #[tactic(auto, using(crate::proofs::Named::integer_judges, crate::proofs::Named::character_judges, crate::proofs::Named::string_judges))]
-pub fn leaf<'a>(alloc: Global, v: &Scope<'a>, at: Place, kind: LeafKind, text: &'a Text) -> Result<Part, Fault>
+pub fn leaf<'a>(
+    alloc: Global,
+    v: &Scope<'a>,
+    at: Place,
+    kind: LeafKind,
+    text: &'a Text,
+) -> Result<Part, Fault>
     ensures { Judges (scope_of v.now) (tree.Leaf at kind text.now) result }
 {
     match kind {

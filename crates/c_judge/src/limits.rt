@@ -79,7 +79,13 @@ pub fn pointer(alloc: Global, defs: &[StructDef], at: u32, t: CType) -> Result<C
 
 /// So many pointers, each to the one before.
 #[tactic(auto, using(crate::proofs::Pointing::pointers_next, crate::proofs::Pointing::pointers_fail))]
-pub fn pointers(alloc: Global, defs: &[StructDef], at: u32, n: u64, t: CType) -> Result<CType, Fault>
+pub fn pointers(
+    alloc: Global,
+    defs: &[StructDef],
+    at: u32,
+    n: u64,
+    t: CType,
+) -> Result<CType, Fault>
     ensures { Denotes (pointers defs.now at n (plain t)) result }
 {
     let mut t = t;
@@ -131,7 +137,10 @@ pub fn bounded(
     ensures { Denotes (bounded defs.now at bound_at (plain t) (judged_of x.now)) result }
 {
     let Some(n) = bound(x.facts.constant) else {
-        return Err(Fault::Rule { rule: 2, at: bound_at });
+        return Err(Fault::Rule {
+            rule: 2,
+            at: bound_at,
+        });
     };
     array(alloc, defs, at, t, n)
 }

@@ -28,11 +28,7 @@ use c_tree::{CType, StructDef};
 use std::alloc::Global;
 
 /// `(a)`
-pub fn at_paren(
-    alloc: Global,
-    at: Place,
-    x: Result<Part, Fault>,
-) -> Result<Part, Fault>
+pub fn at_paren(alloc: Global, at: Place, x: Result<Part, Fault>) -> Result<Part, Fault>
     ensures { (v : Names) (a : Tree) → Judges v a x → Judges v (tree.Paren at a) result }
 {
     match x {

@@ -81,7 +81,10 @@ fn before(alloc: Global, defs: &[StructDef], at: Place, step: Step, x: Part) -> 
 {
     let op = step_of(step);
     let Some(t) = step_type(alloc, defs, op, &x)? else {
-        return Err(Fault::Rule { rule: 37, at: at.at });
+        return Err(Fault::Rule {
+            rule: 37,
+            at: at.at,
+        });
     };
     part_of(alloc, Typed::Before(head(at, t), op, x.typed), VALUE)
 }
@@ -92,7 +95,10 @@ fn address(alloc: Global, at: Place, x: Part) -> Result<Part, Fault>
     ensures { Makes (prefixed [] at.at prefix.Address (judged_of x)) (IsPrefixed prefix.Address x.typed.value) at result }
 {
     let Some(t) = address_type(alloc, &x)? else {
-        return Err(Fault::Rule { rule: 25, at: at.at });
+        return Err(Fault::Rule {
+            rule: 25,
+            at: at.at,
+        });
     };
     part_of(alloc, Typed::Address(head(at, t), x.typed), VALUE)
 }
@@ -103,7 +109,10 @@ fn follow(alloc: Global, defs: &[StructDef], at: Place, x: Part) -> Result<Part,
     ensures { Makes (prefixed defs.now at.at prefix.Dereference (judged_of x)) (IsPrefixed prefix.Dereference x.typed.value) at result }
 {
     let Some(t) = followed(alloc, defs, &x)? else {
-        return Err(Fault::Rule { rule: 24, at: at.at });
+        return Err(Fault::Rule {
+            rule: 24,
+            at: at.at,
+        });
     };
     part_of(alloc, Typed::Follow(head(at, t), x.typed), OBJECT)
 }
@@ -114,10 +123,22 @@ fn unary(alloc: Global, at: Place, op: UnaryOp, x: Part) -> Result<Part, Fault>
     ensures { Makes (unary at.at op (judged_of x)) (IsUnary op x.typed.value) at result }
 {
     let Some(t) = unary_type(op, &x) else {
-        return Err(Fault::Rule { rule: 23, at: at.at });
+        return Err(Fault::Rule {
+            rule: 23,
+            at: at.at,
+        });
     };
     let constant = turned(op, type_of(&x), x.facts.constant);
-    part_of(alloc, Typed::Unary(head(at, t), op, x.typed), Facts { lvalue: false, register: false, string: false, constant })
+    part_of(
+        alloc,
+        Typed::Unary(head(at, t), op, x.typed),
+        Facts {
+            lvalue: false,
+            register: false,
+            string: false,
+            constant,
+        },
+    )
 }
 
 /// `sizeof a`
@@ -127,16 +148,34 @@ fn size_of(alloc: Global, defs: &[StructDef], at: Place, x: Part) -> Result<Part
 {
     let t = type_of(&x);
     if !is_complete(defs, t) {
-        return Err(Fault::Rule { rule: 40, at: at.at });
+        return Err(Fault::Rule {
+            rule: 40,
+            at: at.at,
+        });
     }
     let Some(size) = size_within(defs, t) else {
         return Err(Fault::Rule { rule: 1, at: at.at });
     };
-    part_of(alloc, Typed::SizeOf(head(at, CType::Unsigned), x.typed), Facts { lvalue: false, register: false, string: false, constant: Constant::Number(size) })
+    part_of(
+        alloc,
+        Typed::SizeOf(head(at, CType::Unsigned), x.typed),
+        Facts {
+            lvalue: false,
+            register: false,
+            string: false,
+            constant: Constant::Number(size),
+        },
+    )
 }
 
 /// An operator in front of a part.
-pub fn prefixed(alloc: Global, defs: &[StructDef], at: Place, op: PrefixOp, x: Part) -> Result<Part, Fault>
+pub fn prefixed(
+    alloc: Global,
+    defs: &[StructDef],
+    at: Place,
+    op: PrefixOp,
+    x: Part,
+) -> Result<Part, Fault>
     ensures { Makes (prefixed defs.now at.at op (judged_of x)) (IsPrefixed op x.typed.value) at result }
 {
     match op {
@@ -157,7 +196,10 @@ fn comma(alloc: Global, at: Place, x: Part, y: Part) -> Result<Part, Fault>
     ensures { Makes (joined [] at.at written.Comma (judged_of x) (judged_of y)) (IsJoined written.Comma x.typed.value y.typed.value) at result }
 {
     let Some(t) = comma_type(alloc, &x, &y)? else {
-        return Err(Fault::Rule { rule: if may_drop(&x) { 39 } else { 22 }, at: at.at });
+        return Err(Fault::Rule {
+            rule: if may_drop(&x) { 39 } else { 22 },
+            at: at.at,
+        });
     };
     part_of(alloc, Typed::Comma(head(at, t), x.typed, y.typed), VALUE)
 }
@@ -168,10 +210,22 @@ fn or(alloc: Global, at: Place, x: Part, y: Part) -> Result<Part, Fault>
     ensures { Makes (joined [] at.at written.LogicalOr (judged_of x) (judged_of y)) (IsJoined written.LogicalOr x.typed.value y.typed.value) at result }
 {
     let Some(t) = logical_type(&x, &y) else {
-        return Err(Fault::Rule { rule: 38, at: at.at });
+        return Err(Fault::Rule {
+            rule: 38,
+            at: at.at,
+        });
     };
     let constant = either(x.facts.constant, y.facts.constant);
-    part_of(alloc, Typed::Or(head(at, t), x.typed, y.typed), Facts { lvalue: false, register: false, string: false, constant })
+    part_of(
+        alloc,
+        Typed::Or(head(at, t), x.typed, y.typed),
+        Facts {
+            lvalue: false,
+            register: false,
+            string: false,
+            constant,
+        },
+    )
 }
 
 /// `a && b`
@@ -180,10 +234,22 @@ fn and(alloc: Global, at: Place, x: Part, y: Part) -> Result<Part, Fault>
     ensures { Makes (joined [] at.at written.LogicalAnd (judged_of x) (judged_of y)) (IsJoined written.LogicalAnd x.typed.value y.typed.value) at result }
 {
     let Some(t) = logical_type(&x, &y) else {
-        return Err(Fault::Rule { rule: 38, at: at.at });
+        return Err(Fault::Rule {
+            rule: 38,
+            at: at.at,
+        });
     };
     let constant = both(x.facts.constant, y.facts.constant);
-    part_of(alloc, Typed::And(head(at, t), x.typed, y.typed), Facts { lvalue: false, register: false, string: false, constant })
+    part_of(
+        alloc,
+        Typed::And(head(at, t), x.typed, y.typed),
+        Facts {
+            lvalue: false,
+            register: false,
+            string: false,
+            constant,
+        },
+    )
 }
 
 /// A plain assignment (C90 6.3.16.1).
@@ -192,20 +258,41 @@ fn assign(alloc: Global, at: Place, x: Part, y: Part) -> Result<Part, Fault>
     ensures { Makes (assigned [] at.at None (judged_of x) (judged_of y)) (IsAssigned None x.typed.value y.typed.value) at result }
 {
     let Some(t) = assignment_type(alloc, &x, &y)? else {
-        return Err(Fault::Rule { rule: 36, at: at.at });
+        return Err(Fault::Rule {
+            rule: 36,
+            at: at.at,
+        });
     };
-    part_of(alloc, Typed::Assign(head(at, t), x.typed, None, y.typed), VALUE)
+    part_of(
+        alloc,
+        Typed::Assign(head(at, t), x.typed, None, y.typed),
+        VALUE,
+    )
 }
 
 /// A compound assignment (C90 6.3.16.2).
 #[tactic(auto, using(crate::proofs::Wholly::makes_part))]
-fn compound(alloc: Global, defs: &[StructDef], at: Place, op: BinaryOp, x: Part, y: Part) -> Result<Part, Fault>
+fn compound(
+    alloc: Global,
+    defs: &[StructDef],
+    at: Place,
+    op: BinaryOp,
+    x: Part,
+    y: Part,
+) -> Result<Part, Fault>
     ensures { Makes (assigned defs.now at.at (Some op) (judged_of x) (judged_of y)) (IsAssigned (Some op) x.typed.value y.typed.value) at result }
 {
     let Some(t) = compound_type(alloc, defs, op, &x, type_of(&y))? else {
-        return Err(Fault::Rule { rule: 37, at: at.at });
+        return Err(Fault::Rule {
+            rule: 37,
+            at: at.at,
+        });
     };
-    part_of(alloc, Typed::Assign(head(at, t), x.typed, Some(op), y.typed), VALUE)
+    part_of(
+        alloc,
+        Typed::Assign(head(at, t), x.typed, Some(op), y.typed),
+        VALUE,
+    )
 }
 
 /// The operator of a compound assignment.
@@ -228,7 +315,14 @@ fn compound_of(op: AssignOp) -> Option<BinaryOp>
 }
 
 /// An assignment.
-fn assigned(alloc: Global, defs: &[StructDef], at: Place, op: AssignOp, x: Part, y: Part) -> Result<Part, Fault>
+fn assigned(
+    alloc: Global,
+    defs: &[StructDef],
+    at: Place,
+    op: AssignOp,
+    x: Part,
+    y: Part,
+) -> Result<Part, Fault>
     ensures { Makes (joined defs.now at.at (written.Assign op) (judged_of x) (judged_of y)) (IsJoined (written.Assign op) x.typed.value y.typed.value) at result }
 {
     match compound_of(op) {
@@ -260,23 +354,55 @@ fn rule_of(op: BinaryOp) -> u8
 fn constant_of(op: BinaryOp, x: &Part, y: &Part) -> Constant
     ensures { result ≡ value.combined op (value_of x.now) (value_of y.now) x.now.facts.constant y.now.facts.constant }
 {
-    combined(op, type_of(x), type_of(y), x.facts.constant, y.facts.constant)
+    combined(
+        op,
+        type_of(x),
+        type_of(y),
+        x.facts.constant,
+        y.facts.constant,
+    )
 }
 
 /// `a op b`
 #[tactic(auto, using(crate::proofs::Wholly::makes_part))]
-fn operation(alloc: Global, defs: &[StructDef], at: Place, op: BinaryOp, x: Part, y: Part) -> Result<Part, Fault>
+fn operation(
+    alloc: Global,
+    defs: &[StructDef],
+    at: Place,
+    op: BinaryOp,
+    x: Part,
+    y: Part,
+) -> Result<Part, Fault>
     ensures { Makes (operation defs.now at.at op (judged_of x) (judged_of y)) (IsOperation op x.typed.value y.typed.value) at result }
 {
     let Some(t) = binary_type(alloc, defs, op, &x, &y)? else {
-        return Err(Fault::Rule { rule: rule_of(op), at: at.at });
+        return Err(Fault::Rule {
+            rule: rule_of(op),
+            at: at.at,
+        });
     };
     let constant = constant_of(op, &x, &y);
-    part_of(alloc, Typed::Binary(head(at, t), x.typed, op, y.typed), Facts { lvalue: false, register: false, string: false, constant })
+    part_of(
+        alloc,
+        Typed::Binary(head(at, t), x.typed, op, y.typed),
+        Facts {
+            lvalue: false,
+            register: false,
+            string: false,
+            constant,
+        },
+    )
 }
 
 /// An operator between two parts.
-pub fn joined(alloc: Global, defs: &[StructDef], at: Place, op: Written, x: Part, y: Part) -> Result<Part, Fault>
+pub fn joined(
+    alloc: Global,
+    defs: &[StructDef],
+    at: Place,
+    op: Written,
+    x: Part,
+    y: Part,
+) -> Result<Part, Fault>
     ensures { Makes (joined defs.now at.at op (judged_of x) (judged_of y)) (IsJoined op x.typed.value y.typed.value) at result }
 {
     match op {

@@ -11,6 +11,6 @@ use Rattle.c_judge.proofs.calls.called.Goals as goal
 pub returns : goal.returns
 returns c =
     call_makes c.args.v.now.asks c.args.at (called_by (scope_of c.args.v.now) c.args.calling.callee) (map judged_of c.args.calling.arguments.items) (map typed_in c.args.calling.arguments.items)
-      c.args.calling.callee c.unwrap_or-n.result c.in_ok-t.t c.head.result c.in_ok-typed.typed c.part_of.result c.part_of.ensures
-      (subst (λ ps. result_type c.args.v.now.asks c.args.at.at (called_by (scope_of c.args.v.now) c.args.calling.callee) (map judged_of ps) ≡ Known (plain c.in_ok-t.t)) c.as_slice.ensures.value c.in_ok-t.ensures)
-      c.head.ensures.site c.head.ensures.ctype c.unwrap_or-n.ensures c.in_ok-typed.ensures
+    c.args.calling.callee c.unwrap_or-n.result c.in_ok-t.t c.head.result c.in_ok-typed.typed c.part_of.result c.part_of.ensures
+    (subst (λ ps. result_type c.args.v.now.asks c.args.at.at (called_by (scope_of c.args.v.now) c.args.calling.callee) (map judged_of ps) ≡ Known (plain c.in_ok-t.t)) c.as_slice.ensures.value c.in_ok-t.ensures)
+    c.head.ensures.site c.head.ensures.ctype c.unwrap_or-n.ensures c.in_ok-typed.ensures

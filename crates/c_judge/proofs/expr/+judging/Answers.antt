@@ -25,7 +25,7 @@ pub one_bound-returns-in-None : goal.one_bound-returns-in-None
 one_bound-returns-in-None t c = λ j h.
     let v = scope_of c.args.v.now in
     subst (λ b. Gives plain (one_bound v c.args.at b j) c.unbounded.result) (sym c.in-None.is)
-      (subst (Gives plain (one_bound v c.args.at None j)) (sym c.unbounded.ensures) (unbounded_denotes v c.args.at j c.args.t h))
+    (subst (Gives plain (one_bound v c.args.at None j)) (sym c.unbounded.ensures) (unbounded_denotes v c.args.at j c.args.t h))
 
 pub one_bound-returns-in-Some : goal.one_bound-returns-in-Some
 one_bound-returns-in-Some t c = λ j h.
@@ -43,7 +43,7 @@ gathered-loop-argument-preserved t c = λ at.
     let e = c.argument-item.result in
     let more : take (i + 1) es ≡ take i es ++ e ∷ [] = take_more es i e c.loop-argument-test.true ∙ ap (λ x. take i es ++ x ∷ []) (sym c.argument-item.is) in
     subst (λ s. Gathers v s c.extended-calling.result) (sym (ap (with_arguments (Call at c.args.f.now)) more ∙ one_more (Call at c.args.f.now) (take i es) e))
-      (c.extended-calling.ensures v (with_arguments (Call at c.args.f.now) (take i es)) e (c.loop-argument.invariant at) c.judge.ensures)
+    (c.extended-calling.ensures v (with_arguments (Call at c.args.f.now) (take i es)) e (c.loop-argument.invariant at) c.judge.ensures)
 
 pub gathered-returns : goal.gathered-returns
 gathered-returns t c = λ at.
@@ -63,7 +63,7 @@ within_bounds-bounding-preserved t c =
       typed = λ j h.
           let before = subst (λ k. Gives plain (all_bounds v c.args.at (drop k bs) j) c.bounding.t) e (c.bounding.invariant.typed j h) in
           subst (λ w. Gives plain w c.one_bound-t.result) (sym (bounds_more v c.args.at bs n item j inside ∙ ap (λ b. one_bound v c.args.at b (all_bounds v c.args.at (drop (suc n) bs) j)) (sym c.index-bounds-i.is)))
-            (c.one_bound-t.ensures (all_bounds v c.args.at (drop (suc n) bs) j) before);
+          (c.one_bound-t.ensures (all_bounds v c.args.at (drop (suc n) bs) j) before);
     }
 
 pub within_bounds-returns : goal.within_bounds-returns
@@ -74,12 +74,12 @@ within_bounds-returns t c = λ j h.
 pub declared-returns-in-None : goal.declared-returns-in-None
 declared-returns-in-None t c = λ j h.
     declared_without (scope_of c.args.v.now) c.args.at (λ b. b.value) c.d.inside.stars c.d.inside.inner c.d.inside.bounds.items c.deref.result.now c.args.d.now j c.within_bounds-t.result c.d.view_is c.in-None.is c.deref.ensures.value
-      (c.within_bounds-t.ensures _ (c.starred-t.ensures j h))
+    (c.within_bounds-t.ensures _ (c.starred-t.ensures j h))
 
 pub declared-returns-in-Some : goal.declared-returns-in-Some
 declared-returns-in-Some t c = λ j h.
     declared_with (scope_of c.args.v.now) c.args.at (λ b. b.value) c.d.inside.stars c.d.inside.inner c.in-Some.inner c.d.inside.bounds.items c.deref.result.now c.args.d.now c.deref-in-Some.result.now j c.declared.result c.d.view_is c.in-Some.is c.deref-in-Some.ensures c.deref.ensures.value
-      (c.declared.ensures _ (c.within_bounds-t.ensures _ (c.starred-t.ensures j h)))
+    (c.declared.ensures _ (c.within_bounds-t.ensures _ (c.starred-t.ensures j h)))
 
 pub declared-within_bounds-t-requires : goal.declared-within_bounds-t-requires
 declared-within_bounds-t-requires t c =
@@ -167,4 +167,3 @@ judge-returns-in-Choice t c =
     let v = scope_of c.args.v.now in
     let view = ap tree_of (sym c.in-Choice.is) ∙ c.e.view_is in
     subst (λ e. Judges v e c.at_choice.result) view (c.at_choice.ensures v c.in-Choice.c.value c.in-Choice.a.value c.in-Choice.b.value (subst (λ x. Judges v x c.judge-in-Choice.result) c.deref-in-Choice.ensures c.judge-in-Choice.ensures) (subst (λ x. Judges v x c.judge-in-Choice-2.result) c.deref-in-Choice-2.ensures c.judge-in-Choice-2.ensures) (subst (λ x. Judges v x c.judge-in-Choice-3.result) c.deref-in-Choice-3.ensures c.judge-in-Choice-3.ensures))
-

@@ -14,6 +14,6 @@ pub returns : goal.returns
 returns c =
     let t = plain (type_of c.args.x.typed.value) in
     makes_part (sized c.args.defs.now c.args.at.at t) (IsPrefixed prefix.Sizeof c.args.x.typed.value) c.args.at _ _ c.part_of.result c.part_of.ensures
-      (sized_known c.args.defs.now c.args.at.at c.is_complete.result (plain c.type_of-t.result.now) t c.in-Some.size c.type_of-t.ensures c.is_complete.ensures c.if-not-is_complete.false c.in-Some.ensures
-        ∙ ap (λ u. Known (folded (Number c.in-Some.size) (plain u))) (sym c.head.ensures.ctype))
-      refl c.head.ensures.site
+    (sized_known c.args.defs.now c.args.at.at c.is_complete.result (plain c.type_of-t.result.now) t c.in-Some.size c.type_of-t.ensures c.is_complete.ensures c.if-not-is_complete.false c.in-Some.ensures
+    ∙ ap (λ u. Known (folded (Number c.in-Some.size) (plain u))) (sym c.head.ensures.ctype))
+    refl c.head.ensures.site
