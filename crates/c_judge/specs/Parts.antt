@@ -1,5 +1,5 @@
 -- Checked parts of an expression, as the rules see them.
-use Rattle.std.specs.Prelude.{◌≡◌, ◌≤◌, ◌<◌, ℕ, Option, Some, None, Result, Ok, Err, option_map, IfOk}
+use Rattle.std.specs.Prelude.{◌≡◌, ◌≤◌, ◌<◌, ℕ, Option, Some, None, Result, option_map, IfOk}
 use Rattle.std.specs.declared.alloc.AllocError.{AllocError}
 use Rattle.c_tree.specs.declared.types.CType.{CType}
 use Rattle.c_tree.specs.Types.{type_of}
@@ -8,21 +8,23 @@ use Rattle.c_typing.specs.Rules.{Operand}
 use Rattle.c_judge.specs.declared.part.Part.{Part}
 use Rattle.c_judge.specs.declared.part.Facts.{Facts}
 use Rattle.c_judge.specs.Values.{is_null}
-use Rattle.c_judge.specs.Judgement.{Judged}
+use Rattle.c_judge.specs.declared.part.Constant.{Constant}
+use Rattle.c_judge.specs.Answers.{Known, Broken}
+use Rattle.c_judge.specs.Judgement.{Judged, bound}
 
 -- what is known of an expression of a type
 abbrev pub judged_as : Plain → Facts → Judged
 judged_as t f = record { operand = record { ctype = t; lvalue = f.lvalue; register = f.register; string = f.string; null = is_null f.constant }; constant = f.constant }
 
 abbrev pub judged_of : Part → Judged
-judged_of p = judged_as (plain (type_of p.typed)) p.facts
+judged_of p = judged_as (plain (type_of p.typed.value)) p.facts
 
 abbrev pub operand_of : Part → Operand
 operand_of p = (judged_of p).operand
 
 -- the type of a part's value
 abbrev pub value_of : Part → Plain
-value_of p = value_type (plain (type_of p.typed))
+value_of p = value_type (plain (type_of p.typed.value))
 
 -- a rule's type, or None where it is broken
 abbrev pub Gives : Result (Option CType) AllocError → Option Plain → Type 0
@@ -34,6 +36,6 @@ IsWithinSize n (Some m) = (m ≡ n) × (n ≤ 1048576)
 IsWithinSize n None = 1048576 < n
 
 -- a bound, or None where its rule is broken
-abbrev pub IsBound : Result ℕ ℕ → Option ℕ → Type 0
-IsBound j (Some n) = j ≡ Ok n
-IsBound j None = j ≡ Err 2
+abbrev pub IsBound : Constant → Option ℕ → Type 0
+IsBound c (Some n) = (at : ℕ) → bound at c ≡ Known n
+IsBound c None = (at : ℕ) → bound at c ≡ Broken 2 at
