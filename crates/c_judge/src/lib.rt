@@ -20,10 +20,12 @@ mod rules;
 mod scope;
 mod session;
 mod symbol;
+#[cfg(test)]
+mod tests;
 mod types;
 mod values;
 
-pub use check::{Mode, accepted};
+pub use check::{Mode, check_expr, check_in};
 pub use expr::{judge, written_type};
 pub use fault::{ExprFault, Fault};
 pub use limits::{array, bounded, pointer, pointers};
