@@ -21,3 +21,4 @@ mod Pairs
 mod Begun
 mod Codes
 mod Starting
+mod Above
