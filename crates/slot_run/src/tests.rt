@@ -4,6 +4,7 @@ mod build;
 mod programs;
 mod run;
 
+use crate::lowerable::is_lowerable;
 use ldb_words::Text;
 use programs::{LINES_OF_TWO_FILES, OUTER_ASSIGNMENT, OUTER_FRAME, ROWS, Row};
 use run::{End, Run};
@@ -12,10 +13,13 @@ use slot_ir::{SlotCode, SlotFunction, SlotOp};
 use std::alloc::{AllocError, Global};
 use std::test::Fail;
 
-/// The slot code of a program.
+/// The slot code of a program. One of which none can be made is answered as want of memory, which fails a test.
 fn lowered(alloc: Global, row: &Row) -> Result<SlotCode, AllocError> {
     let program = build::program(alloc, row.tree.as_bytes())?;
-    lower(alloc, &program).map_err(|_| AllocError)
+    if !is_lowerable(alloc, &program)? {
+        return Err(AllocError);
+    }
+    lower(alloc, &program)
 }
 
 // ---- what it does
