@@ -98,7 +98,7 @@ pub fn name_alone<'a>(e: &'a Expr) -> Option<&'a Text>
 }
 
 /// The function with a number: its row, where it is one.
-fn function_at<'a>(v: &Scope<'a>, n: u32) -> Option<&'a Symbol>
+fn function_at<'a, 'n>(v: &Scope<'a, 'n>, n: u32) -> Option<&'a Symbol>
     ensures { option_map (λ s. (plain s.now.ctype, map plain (parameters_by v.now (Some n)))) result ≡ called_by (scope_of v.now) (Some n) }
 {
     match v.rows.get(n as usize) {
@@ -113,7 +113,7 @@ fn function_at<'a>(v: &Scope<'a>, n: u32) -> Option<&'a Symbol>
 }
 
 /// The function that a number calls: its row, where it is one.
-fn function_by<'a>(v: &Scope<'a>, n: Option<u32>) -> Option<&'a Symbol>
+fn function_by<'a, 'n>(v: &Scope<'a, 'n>, n: Option<u32>) -> Option<&'a Symbol>
     ensures { option_map (λ s. (plain s.now.ctype, map plain (parameters_by v.now n))) result ≡ called_by (scope_of v.now) n }
 {
     match n {
@@ -123,7 +123,7 @@ fn function_by<'a>(v: &Scope<'a>, n: Option<u32>) -> Option<&'a Symbol>
 }
 
 /// The parameters of the function that a number calls.
-fn parameters_by<'a>(v: &Scope<'a>, n: Option<u32>) -> &'a [CType]
+fn parameters_by<'a, 'n>(v: &Scope<'a, 'n>, n: Option<u32>) -> &'a [CType]
     ensures { result.now ≡ parameters_by v.now n }
 {
     match n {
@@ -136,9 +136,9 @@ fn parameters_by<'a>(v: &Scope<'a>, n: Option<u32>) -> &'a [CType]
 }
 
 /// The result of a function that takes these arguments.
-fn asked<'a>(
+fn asked<'a, 'n>(
     alloc: Global,
-    v: &Scope<'a>,
+    v: &Scope<'a, 'n>,
     at: Place,
     n: Option<u32>,
     parts: &[Part],
@@ -161,9 +161,9 @@ fn asked<'a>(
 }
 
 /// The result of a function whose parameters are not known.
-fn unasked<'a>(
+fn unasked<'a, 'n>(
     alloc: Global,
-    v: &Scope<'a>,
+    v: &Scope<'a, 'n>,
     at: Place,
     n: Option<u32>,
     parts: &[Part],
@@ -183,9 +183,9 @@ fn unasked<'a>(
 }
 
 /// The result of a call; its rule is asked where the parameters are known.
-fn result_of<'a>(
+fn result_of<'a, 'n>(
     alloc: Global,
-    v: &Scope<'a>,
+    v: &Scope<'a, 'n>,
     at: Place,
     n: Option<u32>,
     parts: &[Part],
@@ -199,7 +199,12 @@ fn result_of<'a>(
 }
 
 /// A call of what is called with checked arguments.
-pub fn called<'a>(alloc: Global, v: &Scope<'a>, at: Place, calling: Calling) -> Result<Part, Fault>
+pub fn called<'a, 'n>(
+    alloc: Global,
+    v: &Scope<'a, 'n>,
+    at: Place,
+    calling: Calling,
+) -> Result<Part, Fault>
     ensures { Makes (called v.now.asks at.at (called_by (scope_of v.now) calling.callee) (map judged_of calling.arguments.items)) (IsCall (λ m. m ≡ number_or_none calling.callee) (map typed_in calling.arguments.items)) at result }
 {
     let t = result_of(alloc, v, at, calling.callee, calling.arguments.as_slice())?;
@@ -209,7 +214,7 @@ pub fn called<'a>(alloc: Global, v: &Scope<'a>, at: Place, calling: Calling) -> 
 }
 
 /// What is called where an expression is a name, by the name's number.
-pub fn named<'a>(alloc: Global, v: &Scope<'a>, name: &'a Text) -> Result<Option<u32>, Fault>
+pub fn named<'a, 'n>(alloc: Global, v: &Scope<'a, 'n>, name: &'n Text) -> Result<Option<u32>, Fault>
     ensures { NamesCallee (scope_of v.now) name.now result }
 {
     match number_of(v, name) {
@@ -261,9 +266,9 @@ pub fn begun(alloc: Global, callee: Result<Option<u32>, Fault>) -> Result<Callin
 }
 
 /// A call of what was gathered.
-pub fn at_call<'a>(
+pub fn at_call<'a, 'n>(
     alloc: Global,
-    v: &Scope<'a>,
+    v: &Scope<'a, 'n>,
     at: Place,
     calling: Result<Calling, Fault>,
 ) -> Result<Part, Fault>

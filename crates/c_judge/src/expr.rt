@@ -26,7 +26,7 @@ use std::alloc::Global;
 
 /// Judges an expression: gives it with its types, or says why there are none.
 #[cycle(judging)]
-pub fn judge<'a>(alloc: Global, v: &Scope<'a>, e: &'a Expr) -> Result<Part, Fault>
+pub fn judge<'a, 'n>(alloc: Global, v: &Scope<'a, 'n>, e: &'n Expr) -> Result<Part, Fault>
     ensures { Judges (scope_of v.now) e.now result }
 {
     match &e.node {
@@ -71,11 +71,11 @@ pub fn judge<'a>(alloc: Global, v: &Scope<'a>, e: &'a Expr) -> Result<Part, Faul
 
 /// The type that a type's name writes (C90 6.5.5). Where a rule of types is broken in it, the place is the one that is given.
 #[cycle(judging)]
-pub fn written_type<'a>(
+pub fn written_type<'a, 'n>(
     alloc: Global,
-    v: &Scope<'a>,
+    v: &Scope<'a, 'n>,
     at: u32,
-    name: &'a TypeName,
+    name: &'n TypeName,
 ) -> Result<CType, Fault>
     ensures { Denotes (declared (scope_of v.now) at name.now.declarator (Known (spec_type (scope_of v.now) name.now.spec))) result }
 {
@@ -84,11 +84,11 @@ pub fn written_type<'a>(
 
 /// The type of what is declared, from the type that the declaration begins with (C90 6.5.4, 6.5.5).
 #[cycle(judging)]
-fn declared<'a>(
+fn declared<'a, 'n>(
     alloc: Global,
-    v: &Scope<'a>,
+    v: &Scope<'a, 'n>,
     at: u32,
-    d: &'a Abstract,
+    d: &'n Abstract,
     t: Result<CType, Fault>,
 ) -> Result<CType, Fault>
     ensures { (j : Answer Plain) → Denotes j t → Denotes (declared (scope_of v.now) at d.now j) result }
@@ -103,11 +103,11 @@ fn declared<'a>(
 
 /// An array of arrays, from the last bound to the first.
 #[cycle(judging)]
-fn within_bounds<'a>(
+fn within_bounds<'a, 'n>(
     alloc: Global,
-    v: &Scope<'a>,
+    v: &Scope<'a, 'n>,
     at: u32,
-    bounds: &'a [Option<Expr>],
+    bounds: &'n [Option<Expr>],
     t: Result<CType, Fault>,
 ) -> Result<CType, Fault>
     ensures { (j : Answer Plain) → Denotes j t → Denotes (all_bounds (scope_of v.now) at bounds.now j) result }
@@ -123,11 +123,11 @@ fn within_bounds<'a>(
 
 /// So many items of a type.
 #[cycle(judging)]
-fn one_bound<'a>(
+fn one_bound<'a, 'n>(
     alloc: Global,
-    v: &Scope<'a>,
+    v: &Scope<'a, 'n>,
     at: u32,
-    bound: &'a Option<Expr>,
+    bound: &'n Option<Expr>,
     t: Result<CType, Fault>,
 ) -> Result<CType, Fault>
     ensures { (j : Answer Plain) → Denotes j t → Denotes (one_bound (scope_of v.now) at bound.now j) result }
@@ -140,11 +140,11 @@ fn one_bound<'a>(
 
 /// What is called, with its arguments.
 #[cycle(judging)]
-fn gathered<'a>(
+fn gathered<'a, 'n>(
     alloc: Global,
-    v: &Scope<'a>,
-    f: &'a Expr,
-    arguments: &'a [Expr],
+    v: &Scope<'a, 'n>,
+    f: &'n Expr,
+    arguments: &'n [Expr],
 ) -> Result<Calling, Fault>
     ensures { (at : Place) → Gathers (scope_of v.now) (with_arguments (tree.Call at f.now) arguments.now) result }
 {
@@ -157,7 +157,7 @@ fn gathered<'a>(
 
 /// What is called: the number of a name, or none for another expression, which is judged as any part is.
 #[cycle(judging)]
-fn callee<'a>(alloc: Global, v: &Scope<'a>, f: &'a Expr) -> Result<Option<u32>, Fault>
+fn callee<'a, 'n>(alloc: Global, v: &Scope<'a, 'n>, f: &'n Expr) -> Result<Option<u32>, Fault>
     ensures { Calls (scope_of v.now) f.now result }
 {
     match name_alone(f) {

@@ -33,14 +33,14 @@ pub fn unknown(alloc: Global, name: &Text) -> Fault
 }
 
 /// The number of a name.
-pub fn number_of<'a>(v: &Scope<'a>, name: &'a Text) -> Option<u32>
+pub fn number_of<'a, 'n>(v: &Scope<'a, 'n>, name: &'n Text) -> Option<u32>
     ensures { result ≡ number_in v.now.names.now name.now }
 {
     v.names.find(name.as_bytes())
 }
 
 /// A name, which denotes an object.
-fn name<'a>(alloc: Global, v: &Scope<'a>, at: Place, text: &'a Text) -> Result<Part, Fault>
+fn name<'a, 'n>(alloc: Global, v: &Scope<'a, 'n>, at: Place, text: &'n Text) -> Result<Part, Fault>
     ensures { Judges (scope_of v.now) (tree.Leaf at kind.Name text.now) result }
 {
     match number_of(v, text) {
@@ -50,7 +50,7 @@ fn name<'a>(alloc: Global, v: &Scope<'a>, at: Place, text: &'a Text) -> Result<P
 }
 
 /// What has a number, which is an object.
-fn numbered<'a>(alloc: Global, v: &Scope<'a>, at: Place, n: u32) -> Result<Part, Fault>
+fn numbered<'a, 'n>(alloc: Global, v: &Scope<'a, 'n>, at: Place, n: u32) -> Result<Part, Fault>
     ensures { (text : List ℕ) → Makes (named (scope_of v.now) at.at text (Some n)) (IsNamed n) at result }
 {
     let Some(symbol) = v.rows.get(n as usize) else {
@@ -101,7 +101,12 @@ fn integer(alloc: Global, at: Place, i: Integer) -> Result<Part, Fault>
 
 /// A string, which is an array of its characters and a NUL.
 #[tactic(auto, using(crate::proofs::Wholly::makes_part))]
-fn string<'a>(alloc: Global, v: &Scope<'a>, at: Place, text: &'a Text) -> Result<Part, Fault>
+fn string<'a, 'n>(
+    alloc: Global,
+    v: &Scope<'a, 'n>,
+    at: Place,
+    text: &'n Text,
+) -> Result<Part, Fault>
     ensures { Makes (leaf_of (scope_of v.now) at.at kind.Text text.now) (IsLiteral ((scope_of v.now).literal at.at)) at result }
 {
     if text.len() >= 1_048_576 {
@@ -120,12 +125,12 @@ fn string<'a>(alloc: Global, v: &Scope<'a>, at: Place, text: &'a Text) -> Result
 
 /// A name, a constant or a string.
 #[tactic(auto, using(crate::proofs::Named::integer_judges, crate::proofs::Named::character_judges, crate::proofs::Named::string_judges))]
-pub fn leaf<'a>(
+pub fn leaf<'a, 'n>(
     alloc: Global,
-    v: &Scope<'a>,
+    v: &Scope<'a, 'n>,
     at: Place,
     kind: LeafKind,
-    text: &'a Text,
+    text: &'n Text,
 ) -> Result<Part, Fault>
     ensures { Judges (scope_of v.now) (tree.Leaf at kind text.now) result }
 {
@@ -138,7 +143,7 @@ pub fn leaf<'a>(
 }
 
 /// The type that a type's name begins with.
-pub fn spec_type<'a>(v: &Scope<'a>, spec: &'a Spec) -> CType
+pub fn spec_type<'a, 'n>(v: &Scope<'a, 'n>, spec: &'n Spec) -> CType
     ensures { plain result ≡ spec_type (scope_of v.now) spec.now }
 {
     match spec {

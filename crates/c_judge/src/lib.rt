@@ -26,11 +26,13 @@ mod values;
 pub use check::{Mode, accepted};
 pub use expr::{judge, written_type};
 pub use fault::{ExprFault, Fault};
-pub use limits::{array, bounded, pointer, pointers};
+pub use leaf::spec_type;
+pub use limits::{array, bounded, limited, pointer, pointers};
 pub use names::unknown;
 pub use numbers::Numbers;
 pub use pairs::pair;
 pub use part::{Constant, Facts, Part};
+pub use place::place_of;
 pub use rules::{
     address_type, arrow_type, assignment_type, binary_type, cast_type, choice_type, comma_type,
     compound_type, converts, dot_type, followed, head_of, index_type, is_null, logical_type,
@@ -39,5 +41,7 @@ pub use rules::{
 pub use scope::Scope;
 pub use session::{number_names, number_tags, session_scope};
 pub use symbol::Symbol;
-pub use types::{array_of, copied, is_complete, pointer_to, same};
+pub use types::{
+    array_of, copied, is_complete, is_integer, is_scalar, is_void, pointer_to, same, value_type,
+};
 pub use values::{both, chosen, combined, converted, either, turned};

@@ -58,7 +58,7 @@ fn is_shallow(defs: &[StructDef], t: &CType) -> bool
 }
 
 /// A type that is at most 64 deep and has at most 1,048,576 bytes.
-fn limited(defs: &[StructDef], at: u32, t: CType) -> Result<CType, Fault>
+pub fn limited(defs: &[StructDef], at: u32, t: CType) -> Result<CType, Fault>
     ensures { Denotes (limited defs.now at (plain t)) result }
 {
     if is_shallow(defs, &t) && size_within(defs, &t).is_some() {

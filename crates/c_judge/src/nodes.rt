@@ -38,9 +38,9 @@ pub fn at_paren(alloc: Global, at: Place, x: Result<Part, Fault>) -> Result<Part
 }
 
 /// `a.m` or `a->m`
-pub fn at_member<'a>(
+pub fn at_member<'a, 'n>(
     alloc: Global,
-    v: &Scope<'a>,
+    v: &Scope<'a, 'n>,
     at: Place,
     access: Access,
     name: &[u8],
@@ -55,9 +55,9 @@ pub fn at_member<'a>(
 }
 
 /// `a++` or `a--`
-pub fn at_after<'a>(
+pub fn at_after<'a, 'n>(
     alloc: Global,
-    v: &Scope<'a>,
+    v: &Scope<'a, 'n>,
     at: Place,
     step: Step,
     x: Result<Part, Fault>,
@@ -71,9 +71,9 @@ pub fn at_after<'a>(
 }
 
 /// An operator in front of an expression.
-pub fn at_prefix<'a>(
+pub fn at_prefix<'a, 'n>(
     alloc: Global,
-    v: &Scope<'a>,
+    v: &Scope<'a, 'n>,
     at: Place,
     op: PrefixOp,
     x: Result<Part, Fault>,
@@ -87,9 +87,9 @@ pub fn at_prefix<'a>(
 }
 
 /// `sizeof (type)`
-pub fn at_size<'a>(
+pub fn at_size<'a, 'n>(
     alloc: Global,
-    v: &Scope<'a>,
+    v: &Scope<'a, 'n>,
     at: Place,
     t: Result<CType, Fault>,
 ) -> Result<Part, Fault>
@@ -102,9 +102,9 @@ pub fn at_size<'a>(
 }
 
 /// `a[b]`
-pub fn at_index<'a>(
+pub fn at_index<'a, 'n>(
     alloc: Global,
-    v: &Scope<'a>,
+    v: &Scope<'a, 'n>,
     at: Place,
     x: Result<Part, Fault>,
     y: Result<Part, Fault>,
@@ -118,9 +118,9 @@ pub fn at_index<'a>(
 }
 
 /// An operator between two expressions.
-pub fn at_binary<'a>(
+pub fn at_binary<'a, 'n>(
     alloc: Global,
-    v: &Scope<'a>,
+    v: &Scope<'a, 'n>,
     at: Place,
     op: BinaryOp,
     x: Result<Part, Fault>,
@@ -200,9 +200,9 @@ pub fn unbounded(at: u32, t: Result<CType, Fault>) -> Result<CType, Fault>
 }
 
 /// So many items of a type.
-pub fn at_bound<'a>(
+pub fn at_bound<'a, 'n>(
     alloc: Global,
-    v: &Scope<'a>,
+    v: &Scope<'a, 'n>,
     at: u32,
     bound_at: u32,
     t: Result<CType, Fault>,
