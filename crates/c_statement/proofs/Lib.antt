@@ -1,0 +1,6 @@
+pub mod Pushed
+pub mod Heights
+pub mod Beginnings
+pub mod Complete
+pub mod Reach
+pub mod Sound
