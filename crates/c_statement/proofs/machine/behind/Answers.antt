@@ -16,8 +16,8 @@ returns-in-Do c =
     let o : outer_of (first c.args.stack) ≡ outer.Do c.in-Do.begun = ap outer_of (sym c.pop.ensures.item) ∙ sym c.outer_of.ensures ∙ c.in-Do.is in
     subst given (sym (ap on o ∙ ap (until c.args.next.symbol c.in-Do.begun c.args.part) (sym c.pop.ensures.rest))) c.until.ensures
 
-pub returns-in-Block : goal.returns-in-Block
-returns-in-Block c =
+pub returns-in_ok-also_of-in-Block : goal.returns-in_ok-also_of-in-Block
+returns-in_ok-also_of-in-Block c =
     let given : Next → Type 0 = λ n. Gives c.inside.result n in
     let on : Outer → Next = λ o. continues o c.args.part (drop 1 c.args.stack) c.args.next in
     let o : outer_of (first c.args.stack) ≡ outer.Block c.in-Block.block = ap outer_of (sym c.pop.ensures.item) ∙ sym c.outer_of.ensures ∙ c.in-Block.is in

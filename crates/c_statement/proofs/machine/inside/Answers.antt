@@ -17,8 +17,8 @@ returns-then-is_close_brace c =
     ∙ ap ends (sym c.closed_of.ensures)
     ∙ c.ends_block.ensures
 
-pub returns-else-is_close_brace : goal.returns-else-is_close_brace
-returns-else-is_close_brace c =
+pub returns-in_ok-push : goal.returns-in_ok-push
+returns-in_ok-push c =
     let y = c.args.next.symbol in
     let given : Next → Type 0 = λ n. Gives c.begins.result n in
     let on : List Frame → Next = λ s. begins y s c.args.next in
