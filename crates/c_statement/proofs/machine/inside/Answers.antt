@@ -22,7 +22,7 @@ returns-in_ok-push c =
     let y = c.args.next.symbol in
     let given : Next → Type 0 = λ n. Gives c.begins.result n in
     let on : List Frame → Next = λ s. begins y s c.args.next in
-    let pushed : frame.Block c.args.block ∷ c.args.stack ≡ c.push.new.self = cc in
+    let pushed : frame.Block c.args.block ∷ c.args.stack ≡ c.push.new.self = sym c.in_ok-push.ensures in
     subst
     given
     (sym (if_false (is_close_brace y) (ends_block (closed_of c.args.block c.args.next.place) c.args.stack) (on (frame.Block c.args.block ∷ c.args.stack)) (sym c.is_close_brace.ensures ∙ c.if-is_close_brace.false)
