@@ -23,7 +23,8 @@ returns-in_ok-also_of-in-Block c =
     let o : outer_of (first c.args.stack) ≡ outer.Block c.in-Block.block = ap outer_of (sym c.pop.ensures.item) ∙ sym c.outer_of.ensures ∙ c.in-Block.is in
     let more : Option (Built StatementTree) → Next = λ b. inside c.args.next.symbol b c.pop.new.self c.args.next in
     let rest : List Frame → Next = λ s. inside c.args.next.symbol (also_of c.in-Block.block c.args.part) s c.args.next in
-    subst given (sym (ap on o ∙ ap rest (sym c.pop.ensures.rest) ∙ ap more (sym c.in_ok-also_of-in-Block.ensures))) c.inside.ensures
+    let left : List Frame → Next = λ s. inside c.args.next.symbol c.in_ok-also_of-in-Block.field-0 s c.args.next in
+    subst given (sym (ap on o ∙ ap rest (sym c.pop.ensures.rest) ∙ ap more (sym c.in_ok-also_of-in-Block.ensures) ∙ ap left (sym c.stack.view_is))) c.inside.ensures
 
 pub returns-in-Other : goal.returns-in-Other
 returns-in-Other c =
