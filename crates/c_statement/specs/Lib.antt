@@ -1,0 +1,9 @@
+pub mod Tree
+pub mod Sizes
+pub mod Stored
+pub mod View
+pub mod Grammar
+pub mod Parts
+pub mod Tokens
+pub mod Machine
+pub mod Laws

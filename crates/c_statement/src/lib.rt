@@ -1,0 +1,20 @@
+//! Statements of C (C90 6.6): their trees, which tokens are one, and reading a block.
+#![tactic(auto)]
+
+mod block;
+mod built;
+mod frame;
+mod laws;
+mod machine;
+mod parts;
+mod state;
+mod tree;
+mod value;
+
+pub use block::{Block, Opened};
+pub use laws::blocks_are_read;
+pub use machine::shift;
+pub use state::{
+    At, Closer, Control, Frame, Mode, Opener, Optional, Outer, Purpose, Reader, Required,
+};
+pub use tree::{Head, Statement, StatementNode};

@@ -1,0 +1,151 @@
+// One token more of a unit.
+ghost use Rattle.std.specs.Prelude.{◌≡◌, IfOk};
+ghost use Rattle.c_declaration.specs.FileReading.{file_offer};
+ghost use Rattle.c_statement.specs.Machine as block;
+ghost use Rattle.c_syntax.specs.Machine.{Gives, more, declared_of, defined_of, deep_place, bodied, ended, headed, shift, start};
+
+use crate::state::{Kept, Mode, UnitParser};
+use crate::tree::External;
+use c_declaration::{Built, FileParser, FunctionHead, Head, ReadHead, Step, file_offer};
+use c_expr::SynFault;
+use c_lex::Place;
+use c_statement::{Mode as BlockMode, Reader, Statement, shift as shift_block};
+use c_symbol::Terminal;
+use ldb_words::Many;
+use std::alloc::{AllocError, Global};
+
+/// One external declaration more, which begins there.
+fn more(kept: Kept, place: Place, external: Option<External>) -> Result<Kept, AllocError>
+    ensures { IfOk result (λ k. k ≡ more kept place external) }
+{
+    match kept {
+        Kept::All(externals) => match external {
+            Some(external) => {
+                let mut externals = externals;
+                externals.push(external)?;
+                Ok(Kept::All(externals))
+            }
+            None => Ok(Kept::TooDeep(place)),
+        },
+        Kept::TooDeep(first) => Ok(Kept::TooDeep(first)),
+    }
+}
+
+fn declared_of(head: Option<Head>) -> Option<External>
+    ensures { result ≡ declared_of head }
+{
+    match head {
+        Some(head) => Some(External::Declaration(head)),
+        None => None,
+    }
+}
+
+fn defined_of(head: Option<FunctionHead>, body: Option<Built<Statement>>) -> Option<External>
+    ensures { result ≡ defined_of head body }
+{
+    match head {
+        Some(head) => match body {
+            Some(body) => Some(External::Definition(head, body.tree)),
+            None => None,
+        },
+        None => None,
+    }
+}
+
+/// Where a definition is too high: at its begin, or else at its body.
+fn deep_place(place: Place, brace: Place, head: &Option<FunctionHead>) -> Place
+    ensures { result ≡ deep_place place brace head.now }
+{
+    match head {
+        Some(_) => brace,
+        None => place,
+    }
+}
+
+/// One token more of a function's body was read.
+fn bodied(
+    kept: Kept,
+    place: Place,
+    brace: Place,
+    head: Option<FunctionHead>,
+    reader: Reader,
+) -> Result<UnitParser, SynFault>
+    ensures { Gives result (bodied kept place brace head (Some reader)) }
+{
+    let Reader { stack, mode } = reader;
+    match mode {
+        BlockMode::Done(body) => {
+            let first = deep_place(place, brace, &head);
+            Ok(UnitParser {
+                kept: more(kept, first, defined_of(head, body))?,
+                mode: Mode::Between,
+            })
+        }
+        mode => Ok(UnitParser {
+            kept,
+            mode: Mode::Body(place, brace, head, Reader { stack, mode }),
+        }),
+    }
+}
+
+/// A declaration that has ended, or what stands before a function's body and, as the last token, the `{` of that.
+fn ended(alloc: Global, kept: Kept, head: ReadHead, last: Place) -> Result<UnitParser, SynFault>
+    ensures { Gives result (ended kept last head) }
+{
+    match head {
+        ReadHead::Declaration(place, head) => Ok(UnitParser {
+            kept: more(kept, place, declared_of(head))?,
+            mode: Mode::Between,
+        }),
+        ReadHead::Function(place, head) => Ok(UnitParser {
+            kept,
+            mode: Mode::Body(place, last, head, Reader::begun(alloc, last)),
+        }),
+    }
+}
+
+/// One token more of a declaration or of what stands before a function's body.
+fn headed(
+    alloc: Global,
+    kept: Kept,
+    parser: FileParser,
+    next: Terminal,
+) -> Result<UnitParser, SynFault>
+    ensures { Gives result (headed kept next.place (file_offer parser next)) }
+{
+    let last = next.place;
+    match file_offer(alloc, parser, next)? {
+        Step::Goes(parser) => Ok(UnitParser {
+            kept,
+            mode: Mode::Heading(parser),
+        }),
+        Step::Ends(head) => ended(alloc, kept, head, last),
+    }
+}
+
+/// One token more of a unit. Syntax comes where it cannot go on.
+pub fn shift(alloc: Global, parser: UnitParser, next: Terminal) -> Result<UnitParser, SynFault>
+    ensures { Gives result (shift parser next) }
+{
+    let UnitParser { kept, mode } = parser;
+    match mode {
+        Mode::Between => headed(alloc, kept, FileParser::Begin, next),
+        Mode::Heading(parser) => headed(alloc, kept, parser, next),
+        Mode::Body(place, brace, head, reader) => {
+            let reader = shift_block(alloc, reader, next)?;
+            bodied(kept, place, brace, head, reader)
+        }
+    }
+}
+
+impl UnitParser {
+    /// Nothing was read of a unit.
+    pub fn new(alloc: Global) -> UnitParser
+        ensures { result ≡ start }
+    {
+        UnitParser {
+            kept: Kept::All(Many::new(alloc)),
+            mode: Mode::Between,
+        }
+    }
+}
