@@ -1,6 +1,6 @@
 -- Where each name of an expression is in scope, it is judged: no name is left to blame.
 use Rattle.std.specs.Prelude.{nat_le, nat_lt, ◌&&◌}
-use Rattle.std.proofs.Common.{◌≡◌, ℕ, zero, suc, Bool, true, false, List, [], ◌∷◌, ◌++◌, refl, sym, ap, subst, Option, Some, None, if◌then◌else◌, length}
+use Rattle.std.proofs.Common.{◌≡◌, ℕ, zero, suc, Bool, true, false, List, [], ◌∷◌, ◌++◌, refl, ap, subst, Option, Some, None, if◌then◌else◌, length}
 use Rattle.c_symbol.specs.declared.symbol.LeafKind.{LeafKind}
 use Rattle.c_symbol.specs.declared.symbol.LeafKind.TheVariants as leaf
 use Rattle.c_symbol.specs.declared.symbol.Access.{Access}
@@ -179,8 +179,8 @@ module _ (v : Scope) where
     judged_visible (Choice at c a b) h =
         let rest = right_none (unknown v c) (first_of (unknown v a) (unknown v b)) h in
         two_judged (λ p z. chosen_of at.at p.0 p.1 z) (λ p z. rule_judged _ at.at _ _) (two both_known (judged v c) (judged v a)) (judged v b)
-          (two_judged both_known (λ x y. tt) (judged v c) (judged v a) (judged_visible c (left_none (unknown v c) (first_of (unknown v a) (unknown v b)) h)) (judged_visible a (left_none (unknown v a) (unknown v b) rest)))
-          (judged_visible b (right_none (unknown v a) (unknown v b) rest))
+        (two_judged both_known (λ x y. tt) (judged v c) (judged v a) (judged_visible c (left_none (unknown v c) (first_of (unknown v a) (unknown v b)) h)) (judged_visible a (left_none (unknown v a) (unknown v b) rest)))
+        (judged_visible b (right_none (unknown v a) (unknown v b) rest))
     judged_visible _ h = tt
 
     calling_visible : (t : Tree) → unknown v t ≡ None → IsJudged (calling v t)
