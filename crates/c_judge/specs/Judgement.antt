@@ -1,5 +1,5 @@
--- What an expression is, by recursion over its tree: the rules of typing (C90 6.3), or the first that is broken.
-use Rattle.std.specs.Prelude.{ℕ, zero, suc, ◌≡◌, Bool, true, false, not, ◌&&◌, ◌||◌, nat_le, nat_lt, if◌then◌else◌, List, [], ◌∷◌, ◌++◌, length, Option, Some, None, option_map, option_and_then, slice_get, Result, Ok, Err}
+-- What an expression is, by recursion over its tree: what the rules of typing (C90 6.3) give, a name that is not declared, or a rule that is broken.
+use Rattle.std.specs.Prelude.{ℕ, zero, suc, ◌≡◌, Bool, true, false, not, ◌&&◌, ◌||◌, nat_le, nat_lt, if◌then◌else◌, List, [], ◌∷◌, ◌++◌, length, Option, Some, None, option_map, option_and_then, slice_get}
 use Rattle.ldb_words.specs.Word.{word_of_signed}
 use Rattle.c_lex.specs.declared.token.Place.{Place}
 use Rattle.c_lex.specs.declared.number.Integer.{Integer}
@@ -33,6 +33,8 @@ use Rattle.c_typing.specs.Expressions.{Denoted, Object, Function, Hidden, name_t
 use Rattle.c_judge.specs.declared.part.Constant.{Constant}
 use Rattle.c_judge.specs.declared.part.Constant.TheVariants.{Variable, Undefined, Number}
 use Rattle.c_judge.specs.Scope.{Scope, defs_of, member_number, pointed_number}
+use Rattle.c_judge.specs.Places.{place_of}
+use Rattle.c_judge.specs.Answers.{Answer, Known, Unknown, Broken, ◌then◌, two}
 use Rattle.c_judge.specs.Values.{is_unsigned, size_of, with_one, combined, turned, converted, chosen, both, either, is_null}
 
 -- what is known of an expression: what the rules ask of it as an operand, and what it is as a constant expression
@@ -63,19 +65,14 @@ folded c t = record { operand = record { ctype = t; lvalue = false; register = f
 abbrev pub value : Plain → Judged
 value t = folded Variable t
 
--- what is known of an expression, or the number of the rule that is broken
+-- what is known of an expression; or a name in it that is not declared, where no rule is broken as far as it can be judged; or a rule that is broken, and where
 abbrev pub Verdict : Type 0
-Verdict = Result Judged ℕ
-
-infixl 20 ◌then◌
-abbrev pub ◌then◌ : {A B : Type 0} → Result A ℕ → (A → Result B ℕ) → Result B ℕ
-Ok x then f = f x
-Err r then f = Err r
+Verdict = Answer Judged
 
 -- what an expression of this type is, where its rule gives one
-abbrev pub by_rule : ℕ → (Plain → Judged) → Option Plain → Verdict
-by_rule r f None = Err r
-by_rule r f (Some t) = Ok (f t)
+abbrev pub by_rule : (rule at : ℕ) → (Plain → Judged) → Option Plain → Verdict
+by_rule r at f None = Broken r at
+by_rule r at f (Some t) = Known (f t)
 
 -- ---- names of types (C90 6.5.4, 6.5.5)
 
@@ -97,25 +94,29 @@ unfoldable pub deepest : ℕ
 deepest = 64
 
 -- 1. A type has a depth of at most 64, and at most 1,048,576 bytes.
-abbrev pub limited : List StructDef → Plain → Result Plain ℕ
-limited defs t = if is_within defs deepest t && nat_le (size_of defs t) 1048576 then Ok t else Err 1
+abbrev pub limited : List StructDef → (at : ℕ) → Plain → Answer Plain
+limited defs at t = if is_within defs deepest t && nat_le (size_of defs t) 1048576 then Known t else Broken 1 at
 
 -- 9. No type is a pointer to `void`.
-abbrev pub pointer : List StructDef → Plain → Result Plain ℕ
-pointer defs t = if is_void t then Err 9 else limited defs (Pointer t)
+abbrev pub pointer : List StructDef → (at : ℕ) → Plain → Answer Plain
+pointer defs at t = if is_void t then Broken 9 at else limited defs at (Pointer t)
 
-abbrev pub pointers : List StructDef → ℕ → Plain → Result Plain ℕ
-pointers defs zero t = Ok t
-pointers defs (suc n) t = pointer defs t then pointers defs n
+abbrev pub pointers : List StructDef → (at : ℕ) → ℕ → Plain → Answer Plain
+pointers defs at zero t = Known t
+pointers defs at (suc n) t = pointer defs at t then pointers defs at n
 
 -- 2. The type of an array's items is complete.
-abbrev pub array : List StructDef → Plain → ℕ → Result Plain ℕ
-array defs t n = if is_complete defs t then limited defs (Array t n) else Err 2
+abbrev pub array : List StructDef → (at : ℕ) → Plain → ℕ → Answer Plain
+array defs at t n = if is_complete defs t then limited defs at (Array t n) else Broken 2 at
 
 -- 2. An array bound is a constant expression from 1 to 1,048,576.
-abbrev pub bound : Constant → Result ℕ ℕ
-bound (Number n) = if nat_le 1 n && nat_le n 1048576 then Ok n else Err 2
-bound _ = Err 2
+abbrev pub bound : (at : ℕ) → Constant → Answer ℕ
+bound at (Number n) = if nat_le 1 n && nat_le n 1048576 then Known n else Broken 2 at
+bound at _ = Broken 2 at
+
+-- so many items of a type, by a bound that begins at its own place
+abbrev pub bounded : List StructDef → (at bound_at : ℕ) → Plain → Judged → Answer Plain
+bounded defs at bound_at t x = bound bound_at x.constant then array defs at t
 
 -- the type that a type's name begins with
 abbrev pub spec_type : Scope → Spec → Plain
@@ -135,8 +136,8 @@ stars_of (Unbounded d) = stars_of d
 stars_of _ = 0
 
 -- the type that a declarator's `*` make
-abbrev pub starred : Scope → Tree → Plain → Result Plain ℕ
-starred v d t = pointers (defs_of v) (stars_of d) t
+abbrev pub starred : Scope → (at : ℕ) → Tree → Answer Plain → Answer Plain
+starred v at d t = t then pointers (defs_of v) at (stars_of d)
 
 -- ---- operators
 
@@ -144,32 +145,32 @@ abbrev pub step_of : Step → StepOp
 step_of Increment = Up
 step_of Decrement = Down
 
-abbrev pub unary : UnaryOp → Judged → Verdict
-unary o x = by_rule 23 (folded (with_one (turned o (is_unsigned (value_type_of x))) x.constant)) (unary_type o (value_type_of x))
+abbrev pub unary : (at : ℕ) → UnaryOp → Judged → Verdict
+unary at o x = by_rule 23 at (folded (with_one (turned o (is_unsigned (value_type_of x))) x.constant)) (unary_type o (value_type_of x))
 
 -- `sizeof` of a type; where it has more than 1,048,576 bytes, rule 1 is broken
-abbrev pub sized : List StructDef → Plain → Verdict
-sized defs t = by_rule 40 (folded (Number (size_of defs t))) (size_type defs t) then λ j. if nat_le (size_of defs t) 1048576 then Ok j else Err 1
+abbrev pub sized : List StructDef → (at : ℕ) → Plain → Verdict
+sized defs at t = by_rule 40 at (folded (Number (size_of defs t))) (size_type defs t) then λ j. if nat_le (size_of defs t) 1048576 then Known j else Broken 1 at
 
-abbrev pub stepped : List StructDef → Step → Judged → Verdict
-stepped defs s x = by_rule 37 value (step_type defs (step_of s) x.operand)
+abbrev pub stepped : List StructDef → (at : ℕ) → Step → Judged → Verdict
+stepped defs at s x = by_rule 37 at value (step_type defs (step_of s) x.operand)
 
-abbrev pub cast_to : Plain → Judged → Verdict
-cast_to t x = by_rule 40 (folded (with_one (converted t) x.constant)) (cast_type t (value_type_of x))
+abbrev pub cast_to : (at : ℕ) → Plain → Judged → Verdict
+cast_to at t x = by_rule 40 at (folded (with_one (converted t) x.constant)) (cast_type t (value_type_of x))
 
-abbrev pub indexed : List StructDef → Judged → Judged → Verdict
-indexed defs x y = by_rule 28 object (index_type defs (value_type_of x) (value_type_of y))
+abbrev pub indexed : List StructDef → (at : ℕ) → Judged → Judged → Verdict
+indexed defs at x y = by_rule 28 at object (index_type defs (value_type_of x) (value_type_of y))
 
 -- an operator in front of an operand
-abbrev pub prefixed : List StructDef → PrefixOp → Judged → Verdict
-prefixed defs (prefix.Step s) x = stepped defs s x
-prefixed defs prefix.Address x = by_rule 25 value (address_type x.operand)
-prefixed defs prefix.Dereference x = by_rule 24 object (followed defs (value_type_of x))
-prefixed defs prefix.Plus x = unary Plus x
-prefixed defs prefix.Minus x = unary Minus x
-prefixed defs prefix.Complement x = unary Complement x
-prefixed defs prefix.Not x = unary Not x
-prefixed defs prefix.Sizeof x = sized defs x.operand.ctype
+abbrev pub prefixed : List StructDef → (at : ℕ) → PrefixOp → Judged → Verdict
+prefixed defs at (prefix.Step s) x = stepped defs at s x
+prefixed defs at prefix.Address x = by_rule 25 at value (address_type x.operand)
+prefixed defs at prefix.Dereference x = by_rule 24 at object (followed defs (value_type_of x))
+prefixed defs at prefix.Plus x = unary at Plus x
+prefixed defs at prefix.Minus x = unary at Minus x
+prefixed defs at prefix.Complement x = unary at Complement x
+prefixed defs at prefix.Not x = unary at Not x
+prefixed defs at prefix.Sizeof x = sized defs at x.operand.ctype
 
 -- the operator of a compound assignment
 abbrev pub compound_of : AssignOp → Option Operator
@@ -199,43 +200,43 @@ rule_of op.Equal = 35
 rule_of op.Unequal = 35
 rule_of _ = 30
 
-abbrev pub operation : List StructDef → Operator → Judged → Judged → Verdict
-operation defs o x y = by_rule (rule_of o) (folded (combined o (value_type_of x) (value_type_of y) x.constant y.constant)) (binary_type defs o x.operand y.operand)
+abbrev pub operation : List StructDef → (at : ℕ) → Operator → Judged → Judged → Verdict
+operation defs at o x y = by_rule (rule_of o) at (folded (combined o (value_type_of x) (value_type_of y) x.constant y.constant)) (binary_type defs o x.operand y.operand)
 
-abbrev pub assigned : List StructDef → Option Operator → Judged → Judged → Verdict
-assigned defs None x y = by_rule 36 value (assignment_type x.operand y.operand)
-assigned defs (Some o) x y = by_rule 37 value (compound_type defs o x.operand (value_type_of y))
+abbrev pub assigned : List StructDef → (at : ℕ) → Option Operator → Judged → Judged → Verdict
+assigned defs at None x y = by_rule 36 at value (assignment_type x.operand y.operand)
+assigned defs at (Some o) x y = by_rule 37 at value (compound_type defs o x.operand (value_type_of y))
 
 -- an operator between two operands
-abbrev pub joined : List StructDef → BinaryOp → Judged → Judged → Verdict
-joined defs written.Comma x y = by_rule (if may_drop x.operand then 39 else 22) value (comma_type x.operand y.operand)
-joined defs (written.Assign o) x y = assigned defs (compound_of o) x y
-joined defs written.LogicalOr x y = by_rule 38 (folded (either x.constant y.constant)) (logical_type (value_type_of x) (value_type_of y))
-joined defs written.LogicalAnd x y = by_rule 38 (folded (both x.constant y.constant)) (logical_type (value_type_of x) (value_type_of y))
-joined defs written.BitOr x y = operation defs op.BitOr x y
-joined defs written.BitXor x y = operation defs op.BitXor x y
-joined defs written.BitAnd x y = operation defs op.BitAnd x y
-joined defs written.Equal x y = operation defs op.Equal x y
-joined defs written.NotEqual x y = operation defs op.Unequal x y
-joined defs written.Less x y = operation defs op.Less x y
-joined defs written.Greater x y = operation defs op.Greater x y
-joined defs written.LessEqual x y = operation defs op.LessEqual x y
-joined defs written.GreaterEqual x y = operation defs op.GreaterEqual x y
-joined defs written.ShiftLeft x y = operation defs op.ShiftLeft x y
-joined defs written.ShiftRight x y = operation defs op.ShiftRight x y
-joined defs written.Add x y = operation defs op.Add x y
-joined defs written.Subtract x y = operation defs op.Subtract x y
-joined defs written.Multiply x y = operation defs op.Multiply x y
-joined defs written.Divide x y = operation defs op.Divide x y
-joined defs written.Remainder x y = operation defs op.Remainder x y
+abbrev pub joined : List StructDef → (at : ℕ) → BinaryOp → Judged → Judged → Verdict
+joined defs at written.Comma x y = by_rule (if may_drop x.operand then 39 else 22) at value (comma_type x.operand y.operand)
+joined defs at (written.Assign o) x y = assigned defs at (compound_of o) x y
+joined defs at written.LogicalOr x y = by_rule 38 at (folded (either x.constant y.constant)) (logical_type (value_type_of x) (value_type_of y))
+joined defs at written.LogicalAnd x y = by_rule 38 at (folded (both x.constant y.constant)) (logical_type (value_type_of x) (value_type_of y))
+joined defs at written.BitOr x y = operation defs at op.BitOr x y
+joined defs at written.BitXor x y = operation defs at op.BitXor x y
+joined defs at written.BitAnd x y = operation defs at op.BitAnd x y
+joined defs at written.Equal x y = operation defs at op.Equal x y
+joined defs at written.NotEqual x y = operation defs at op.Unequal x y
+joined defs at written.Less x y = operation defs at op.Less x y
+joined defs at written.Greater x y = operation defs at op.Greater x y
+joined defs at written.LessEqual x y = operation defs at op.LessEqual x y
+joined defs at written.GreaterEqual x y = operation defs at op.GreaterEqual x y
+joined defs at written.ShiftLeft x y = operation defs at op.ShiftLeft x y
+joined defs at written.ShiftRight x y = operation defs at op.ShiftRight x y
+joined defs at written.Add x y = operation defs at op.Add x y
+joined defs at written.Subtract x y = operation defs at op.Subtract x y
+joined defs at written.Multiply x y = operation defs at op.Multiply x y
+joined defs at written.Divide x y = operation defs at op.Divide x y
+joined defs at written.Remainder x y = operation defs at op.Remainder x y
 
 -- the member of a struct, or of the struct that a pointer points to
-abbrev pub member_of : List StructDef → Access → List ℕ → Judged → Verdict
-member_of defs access.Dot name x = by_rule 26 object (option_and_then (dot_type defs x.operand) (member_number defs x.operand.ctype name))
-member_of defs access.Arrow name x = by_rule 27 object (option_and_then (arrow_type defs (value_type_of x)) (pointed_number defs (value_type_of x) name))
+abbrev pub member_of : List StructDef → (at : ℕ) → Access → List ℕ → Judged → Verdict
+member_of defs at access.Dot name x = by_rule 26 at object (option_and_then (dot_type defs x.operand) (member_number defs x.operand.ctype name))
+member_of defs at access.Arrow name x = by_rule 27 at object (option_and_then (arrow_type defs (value_type_of x)) (pointed_number defs (value_type_of x) name))
 
-abbrev pub chosen_of : Judged → Judged → Judged → Verdict
-chosen_of c x y = by_rule 38 (folded (chosen c.constant x.constant y.constant)) (choice_type (value_type_of c) x.operand y.operand)
+abbrev pub chosen_of : (at : ℕ) → Judged → Judged → Judged → Verdict
+chosen_of at c x y = by_rule 38 at (folded (chosen c.constant x.constant y.constant)) (choice_type (value_type_of c) x.operand y.operand)
 
 -- ---- names and constants
 
@@ -244,48 +245,117 @@ register_of (Some (Object t r)) = r
 register_of _ = false
 
 -- 21. A name denotes an object; a function's name stands only as the callee.
-abbrev pub named : Scope → Option ℕ → Verdict
-named v None = Err 21
-named v (Some n) = by_rule 21 (variable (register_of (slice_get v.among.names n))) (name_type v.among n)
+abbrev pub named : Scope → (at : ℕ) → List ℕ → Option ℕ → Verdict
+named v at text None = Unknown text
+named v at text (Some n) = by_rule 21 at (variable (register_of (slice_get v.among.names n))) (name_type v.among n)
 
 -- an integer constant's type (C90 6.1.3.2)
 abbrev pub integer_type : Integer → Plain
 integer_type i = if i.is_unsigned then Unsigned else Int
 
-abbrev pub leaf_of : Scope → LeafKind → List ℕ → Verdict
-leaf_of v leaf.Name text = named v (v.number text)
-leaf_of v (leaf.Constant i) text = Ok (folded (Number i.value) (integer_type i))
-leaf_of v (leaf.Character c) text = Ok (folded (Number (word_of_signed c)) Int)
-leaf_of v leaf.Text text = if nat_lt (length text) 1048576 then Ok (string_of text) else Err 1
+abbrev pub leaf_of : Scope → (at : ℕ) → LeafKind → List ℕ → Verdict
+leaf_of v at leaf.Name text = named v at text (v.number text)
+leaf_of v at (leaf.Constant i) text = Known (folded (Number i.value) (integer_type i))
+leaf_of v at (leaf.Character c) text = Known (folded (Number (word_of_signed c)) Int)
+leaf_of v at leaf.Text text = if nat_lt (length text) 1048576 then Known (string_of text) else Broken 1 at
+
+-- ---- calls (C90 6.3.2.2)
+
+-- what is called: a function's result and its parameters, or None for what is no function's name
+abbrev pub Callee : Type 0
+Callee = Option (Plain × List Plain)
+
+abbrev pub function_of : Option Denoted → Callee
+function_of (Some (Function r ts)) = Some (r, ts)
+function_of _ = None
+
+-- an expression that is a name alone
+abbrev pub name_alone : Tree → Option (List ℕ)
+name_alone (Leaf at leaf.Name text) = Some text
+name_alone _ = None
+
+abbrev pub callee_named : Scope → List ℕ → Option ℕ → Answer Callee
+callee_named v text None = Unknown text
+callee_named v text (Some n) = Known (function_of (slice_get v.among.names n))
+
+-- what stands before the arguments: a name, or another expression, which is judged as any part is
+abbrev pub callee_by : Scope → Option (List ℕ) → Verdict → Answer Callee
+callee_by v (Some text) j = callee_named v text (v.number text)
+callee_by v None j = j then λ x. Known None
+
+abbrev pub callee : Scope → Tree → Verdict → Answer Callee
+callee v f j = callee_by v (name_alone f) j
+
+abbrev pub operands : List Judged → List Operand
+operands [] = []
+operands (j ∷ js) = j.operand ∷ operands js
+
+abbrev pub are_scalars : List Judged → Bool
+are_scalars [] = true
+are_scalars (j ∷ js) = is_scalar (value_type_of j) && are_scalars js
+
+-- 29. A call has as many arguments as parameters, each by the rule of assignment; what is called is a function.
+abbrev pub asked : (at : ℕ) → Callee → List Judged → Answer Plain
+asked at None js = Broken 29 at
+asked at (Some f) js = if takes f.1 (operands js) then Known f.0 else Broken 29 at
+
+-- Where parameters are not known, what is no function counts as one with an `int` as its result, as a function that is not declared does.
+abbrev pub result_of : Callee → Plain
+result_of None = Int
+result_of (Some f) = f.0
+
+-- 22. A `void` or struct value is no argument.
+abbrev pub unasked : (at : ℕ) → Callee → List Judged → Answer Plain
+unasked at f js = if are_scalars js then Known (result_of f) else Broken 22 at
+
+-- the result of a call, whose rule is asked where the parameters are known, and its value
+abbrev pub result_type : (asks : Bool) (at : ℕ) → Callee → List Judged → Answer Plain
+result_type asks at f js = if asks then asked at f js else unasked at f js
+
+abbrev pub called : (asks : Bool) (at : ℕ) → Callee → List Judged → Verdict
+called asks at f js = result_type asks at f js then λ t. Known (value t)
+
+-- what is called, and its arguments so far
+abbrev pub Calling : Type 0
+Calling = Callee × List Judged
+
+abbrev pub with_argument : Calling → Judged → Answer Calling
+with_argument s x = Known (s.0, s.1 ++ x ∷ [])
 
 -- ---- expressions
 
 module _ (v : Scope) where
-  -- 29. A call has no type here, since the parameters are not known (C90 6.3.2.2).
   abbrev mutual
     pub judged : Tree → Verdict
-    judged (Leaf at kind text) = leaf_of v kind text
+    judged (Leaf at kind text) = leaf_of v at.at kind text
     judged (Paren at a) = judged a
-    judged (Index at a b) = judged a then λ x. judged b then λ y. indexed (defs_of v) x y
-    judged (Call at f) = Err 29
-    judged (With c a) = Err 29
-    judged (Member at a access _ name) = judged a then member_of (defs_of v) access name
-    judged (After at a step) = judged a then stepped (defs_of v) step
-    judged (Prefix at op a) = judged a then prefixed (defs_of v) op
-    judged (SizeofType at s d) = starred v d (spec_type v s) then within d then sized (defs_of v)
-    judged (Cast at s d a) = starred v d (spec_type v s) then within d then λ t. judged a then cast_to t
-    judged (Binary at op a b) = judged a then λ x. judged b then λ y. joined (defs_of v) op x y
-    judged (Choice at c a b) = judged c then λ x. judged a then λ y. judged b then λ z. chosen_of x y z
-    judged _ = Err 0
+    judged (Index at a b) = two (indexed (defs_of v) at.at) (judged a) (judged b)
+    judged (Call at f) = callee v f (judged f) then λ c. called v.asks at.at c []
+    judged (With c a) = two (λ s x. called v.asks (place_of c).at s.0 (s.1 ++ x ∷ [])) (calling c) (judged a)
+    judged (Member at a access _ name) = judged a then member_of (defs_of v) at.at access name
+    judged (After at a step) = judged a then stepped (defs_of v) at.at step
+    judged (Prefix at op a) = judged a then prefixed (defs_of v) at.at op
+    judged (SizeofType at s d) = within at.at d (starred v at.at d (Known (spec_type v s))) then sized (defs_of v) at.at
+    judged (Cast at s d a) = two (cast_to at.at) (within at.at d (starred v at.at d (Known (spec_type v s)))) (judged a)
+    judged (Binary at op a b) = two (joined (defs_of v) at.at op) (judged a) (judged b)
+    judged (Choice at c a b) = three (chosen_of at.at) (judged c) (judged a) (judged b)
+    judged _ = Broken 0 0
 
-    -- the type of what is declared, once the `*` have been taken: the bounds from the last to the first, then the declarator in parentheses
-    pub within : Tree → Plain → Result Plain ℕ
-    within (Stars n) t = Ok t
-    within (Around n d) t = starred v d t then within d
-    within (Bounded d e) t = judged e then λ x. bound x.constant then λ n. array (defs_of v) t n then within d
-    within (Unbounded d) t = Err 2
-    within _ t = Err 0
+    -- what is called, with the arguments so far
+    pub calling : Tree → Answer Calling
+    calling (Call at f) = callee v f (judged f) then λ c. Known (c, [])
+    calling (With c a) = two with_argument (calling c) (judged a)
+    calling _ = Broken 0 0
+
+    -- The type of what is declared, once the `*` have been taken: the bounds from the last to the first, then the declarator in parentheses.
+    -- Where a rule of types is broken, the place is that of the expression in which the type is written.
+    pub within : (at : ℕ) → Tree → Answer Plain → Answer Plain
+    within at (Stars n) t = t
+    within at (Around n d) t = within at d (starred v at d t)
+    within at (Bounded d e) t = within at d (two (bounded (defs_of v) at (place_of e).at) t (judged e))
+    within at (Unbounded d) t = within at d (t then λ u. Broken 2 at)
+    within at _ t = Broken 0 0
 
   -- the type of what is declared, from the type that the declaration begins with
-  abbrev pub declared : Tree → Plain → Result Plain ℕ
-  declared d t = starred v d t then within d
+  abbrev pub declared : (at : ℕ) → Tree → Answer Plain → Answer Plain
+  declared at d t = within at d (starred v at d t)

@@ -2,5 +2,15 @@ pub mod Scope
 pub mod Values
 pub mod Targets
 pub mod Numbers
+pub mod Answers
+pub mod Places
 pub mod Judgement
 pub mod Parts
+pub mod Elaboration
+pub mod Judges
+pub mod Pairs
+pub mod Bounds
+pub mod Calls
+pub mod Forms
+pub mod Session
+pub mod Checks

@@ -1,5 +1,5 @@
 -- Checked parts of an expression, as the rules see them.
-use Rattle.std.specs.Prelude.{◌≡◌, ◌≤◌, ◌<◌, ℕ, Option, Some, None, Result, Ok, Err, option_map, IfOk}
+use Rattle.std.specs.Prelude.{◌≡◌, ◌≤◌, ◌<◌, ℕ, Option, Some, None, Result, option_map, IfOk}
 use Rattle.std.specs.declared.alloc.AllocError.{AllocError}
 use Rattle.c_tree.specs.declared.types.CType.{CType}
 use Rattle.c_tree.specs.Types.{type_of}
@@ -8,7 +8,9 @@ use Rattle.c_typing.specs.Rules.{Operand}
 use Rattle.c_judge.specs.declared.part.Part.{Part}
 use Rattle.c_judge.specs.declared.part.Facts.{Facts}
 use Rattle.c_judge.specs.Values.{is_null}
-use Rattle.c_judge.specs.Judgement.{Judged}
+use Rattle.c_judge.specs.declared.part.Constant.{Constant}
+use Rattle.c_judge.specs.Answers.{Known, Broken}
+use Rattle.c_judge.specs.Judgement.{Judged, bound}
 
 -- what is known of an expression of a type
 abbrev pub judged_as : Plain → Facts → Judged
@@ -34,6 +36,6 @@ IsWithinSize n (Some m) = (m ≡ n) × (n ≤ 1048576)
 IsWithinSize n None = 1048576 < n
 
 -- a bound, or None where its rule is broken
-abbrev pub IsBound : Result ℕ ℕ → Option ℕ → Type 0
-IsBound j (Some n) = j ≡ Ok n
-IsBound j None = j ≡ Err 2
+abbrev pub IsBound : Constant → Option ℕ → Type 0
+IsBound c (Some n) = (at : ℕ) → bound at c ≡ Known n
+IsBound c None = (at : ℕ) → bound at c ≡ Broken 2 at

@@ -1,0 +1,17 @@
+pub mod Findings
+pub mod Environment
+pub mod Declarators
+pub mod Locals
+pub mod Bodies
+pub mod Calls
+pub mod Literals
+pub mod Stops
+pub mod Becoming
+pub mod Structs
+pub mod Names
+pub mod Initials
+pub mod Begins
+pub mod Files
+pub mod Tags
+pub mod Programs
+pub mod Made

@@ -1,0 +1,2 @@
+//! Which programs of C are accepted, and what is found wrong with the others.
+#![tactic(auto)]

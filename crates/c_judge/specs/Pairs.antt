@@ -1,0 +1,17 @@
+-- Two results as one.
+use Rattle.std.specs.Prelude.{Result, Ok, Err}
+use Rattle.c_judge.specs.declared.fault.Fault.{Fault}
+use Rattle.c_judge.specs.declared.fault.Fault.TheVariants.{Unknown, Rule, NoMemory}
+
+-- The fault of the left part, or that of the right one where only it can be a broken rule.
+abbrev pub graver : {B : Type 0} → Fault → Result B Fault → Fault
+graver (Unknown name) (Err (Rule r at)) = Rule r at
+graver (Unknown name) (Err NoMemory) = NoMemory
+graver f y = f
+
+-- Both, where both are there. A broken rule comes first, that of the left one before that of the right one, and then a name that is not declared in
+-- the same way. Where there was no memory for a part that could have broken a rule, there is no answer.
+abbrev pub paired : {A B : Type 0} → Result A Fault → Result B Fault → Result (A × B) Fault
+paired (Ok x) (Ok y) = Ok (x, y)
+paired (Ok x) (Err f) = Err f
+paired (Err f) y = Err (graver f y)

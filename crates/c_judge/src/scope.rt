@@ -1,0 +1,25 @@
+// What an expression stands among.
+
+use crate::numbers::Numbers;
+use crate::symbol::Symbol;
+use c_tree::{CType, StructDef};
+use ldb_words::Many;
+use std::collections::BTreeMap;
+
+/// What an expression stands among, as a view of what its owner keeps and may change between two expressions. The number of a name is that of its row
+/// in `rows`, and the number of a tag that of its struct in `defs`.
+#[derive(Drop)]
+pub struct Scope<'a> {
+    pub names: &'a Numbers<'a>,
+    pub tags: &'a Numbers<'a>,
+    /// The number of the struct that a tag names which is not among `tags`.
+    pub incomplete: u32,
+    pub rows: &'a [Symbol],
+    /// The parameters' types of each row that is a function.
+    pub parameters: &'a [Many<CType>],
+    /// The number of the string literal at each offset.
+    pub literals: &'a BTreeMap<u32, u32>,
+    pub defs: &'a [StructDef],
+    /// Whether the parameters are known, so that calls are asked for them.
+    pub asks: bool,
+}
