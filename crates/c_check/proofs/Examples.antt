@@ -22,13 +22,13 @@ use Rattle.c_check.specs.Declarators as shape
 use Rattle.c_check.specs.Programs.{Fault, Rule, Twice, Undefined, NoMain, Faults, FaultsBehind, AllFiles, at_first, tags_of}
 
 -- a place on the first line
-abbrev at : ℕ → Place
+abbrev pub at : ℕ → Place
 at n = record { at = n; line = 1; column = n + 1 }
 
-abbrev variable : ℕ → ℕ → List ℕ → External
+abbrev pub variable : ℕ → ℕ → List ℕ → External
 variable n m name = Declaration (record { place = at n; storage = storage.Plain; spec = Named spec.Int; names = record { declarator = Name (at m) name; initial = None } ∷ [] })
 
-abbrev main_with : ℕ → StatementTree → External
+abbrev pub main_with : ℕ → StatementTree → External
 main_with n b = Definition (record { place = at n; storage = storage.Plain; spec = Named spec.Int; declarator = Function (at (n + 4)) (Name (at (n + 4)) (codes "main")) }) b
 
 -- `int a; int main(void) { return *a; }`
