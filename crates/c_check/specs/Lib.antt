@@ -1,5 +1,7 @@
 pub mod Findings
 pub mod Environment
+pub mod Table
+pub mod Tabled
 pub mod Declarators
 pub mod Locals
 pub mod Bodies
