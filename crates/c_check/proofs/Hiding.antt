@@ -117,3 +117,8 @@ last_number (x ∷ ss) s e =
 pub names_same : (s s2 : List Symbol) (p p2 : List (List CType)) (l l2 : List Link) (v v2 : List Visible) (n : ℕ) → s ≡ s2 → p ≡ p2 → l ≡ l2 → v ≡ v2
     → ◌≡◌ {A = Names} (record { symbols = s; parameters = p; links = l; visible = v; start = n }) (record { symbols = s2; parameters = p2; links = l2; visible = v2; start = n })
 names_same s s2 p p2 l l2 v v2 n a b c d = λ i. record { symbols = a i; parameters = b i; links = c i; visible = d i; start = n }
+
+-- of the names so far none is declared from here on
+pub none_from : (n : ℕ) (vs : List Visible) → AreBelow n vs → names_from n vs ≡ []
+none_from n [] b = refl
+none_from n (v ∷ vs) b = let c = b.0 in let e : nat_le n v.number ≡ false = grind (arith, c) in ap (λ x. if x then v.name ∷ names_from n vs else []) e

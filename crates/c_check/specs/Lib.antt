@@ -2,6 +2,8 @@ pub mod Findings
 pub mod Environment
 pub mod Table
 pub mod Tabled
+pub mod StructTags
+pub mod Here
 pub mod Declarators
 pub mod Locals
 pub mod Bodies

@@ -1,5 +1,5 @@
 -- The table of what is declared: its names in the order of their declarations, and those in scope.
-use Rattle.std.specs.Prelude.{◌<◌, ℕ, suc, ◌+◌, nat_le, if◌then◌else◌, List, [], ◌∷◌, ◌++◌, length, Option}
+use Rattle.std.specs.Prelude.{◌≡◌, ◌<◌, ℕ, suc, ◌+◌, nat_le, if◌then◌else◌, List, [], ◌∷◌, ◌++◌, length, Option}
 use Rattle.c_tree.specs.declared.types.CType.{CType}
 use Rattle.c_judge.specs.declared.symbol.Symbol.{Symbol}
 use Rattle.c_judge.specs.Judges.{denoted}
@@ -43,3 +43,8 @@ with_name t name s ps l = record t {
     parameters = t.parameters ++ ps ∷ [];
     links = t.links ++ l ∷ [];
     visible = record { name = name; number = length t.symbols } ∷ t.visible }
+
+-- each name has its parameters and its link
+pub record AreAligned (t : Names) : Type 0 where
+  pub parameters : length t.parameters ≡ length t.symbols
+  pub links : length t.links ≡ length t.symbols

@@ -5,7 +5,7 @@ ghost use Rattle.std.specs.Vec.{vec_len, vec_capacity};
 ghost use Rattle.c_judge.specs.Numbers.{number_in};
 ghost use Rattle.c_typing.specs.Declared.{is_named};
 ghost use Rattle.c_check.specs.Environment.{number_of, innermost};
-ghost use Rattle.c_check.specs.Table.{names_from, outermost, with_name};
+ghost use Rattle.c_check.specs.Table.{names_from, outermost, with_name, AreAligned};
 ghost use Rattle.c_check.specs.Tabled.{visible_from, Hide};
 
 use crate::link::Link;
@@ -74,7 +74,8 @@ impl<'a> Table<'a> {
 
     /// The names, in the order of their declarations.
     pub fn symbols(&self) -> &[Symbol]
-        ensures { result.now ≡ self.now.symbols }
+        ensures symbols { result.now ≡ self.now.symbols }
+        ensures aligned { AreAligned self.now }
     {
         &self.symbols
     }
@@ -123,6 +124,7 @@ impl<'a> Table<'a> {
     /// A block begins, which declares nothing yet.
     pub fn begin(&mut self) -> Mark
         ensures table { self.new ≡ record self.old { start = length self.old.symbols } }
+        ensures nothing { names_from (length self.old.symbols) self.old.visible ≡ [] }
         ensures height { result.height ≡ length self.old.visible }
         ensures start { result.start ≡ self.old.start }
     {
@@ -152,6 +154,8 @@ impl<'a> Table<'a> {
         link: Link,
     ) -> Result<(), AllocError>
         ensures ok { OnOk result (self.new ≡ with_name self.old name.now symbol parameters link) }
+        ensures aligned { AreAligned self.old }
+        ensures inside { self.old.start ≤ length self.old.symbols }
         ensures err { OnErr result (self.new ≡ self.old) }
     {
         self.symbols.reserve(1)?;
