@@ -5,6 +5,8 @@ pub mod Tabled
 pub mod StructTags
 pub mod Here
 pub mod Declarators
+pub mod Shapes
+pub mod Gathered
 pub mod Locals
 pub mod Bodies
 pub mod Calls
