@@ -1,5 +1,5 @@
 -- The parameters of a function's declarator, one after another.
-use Rattle.std.specs.Prelude.{ℕ, Bool, if◌then◌else◌, List, [], ◌∷◌}
+use Rattle.std.specs.Prelude.{ℕ, Bool, false, ◌==◌, if◌then◌else◌, List, [], ◌∷◌, Option, Some, None}
 use Rattle.c_declaration.specs.Tree.{DeclaratorTree, begins}
 use Rattle.c_typing.specs.Plain.{Plain}
 use Rattle.c_judge.specs.Answers.{Answer, Known, Broken, ◌then◌}
@@ -14,3 +14,8 @@ gathered v ps (d ∷ ds) = (taken v d then with_one ps (begins d).at) then λ mo
 -- a bound that is not written, which only the outermost one may be
 abbrev pub open_bound : Environment → (at : ℕ) → Bool → Plain → Answer Plain
 open_bound v at outermost t = if outermost then unbounded v at t else Broken 2 at
+
+-- whether so many bounds and what stands before them leave a bound the outermost
+abbrev pub is_outermost : {B : Type 0} → ℕ → Option B → Bool
+is_outermost left None = left == 0
+is_outermost left (Some b) = false

@@ -11,6 +11,7 @@ mod parameter;
 mod shapes;
 mod struct_tags;
 mod table;
+mod unnamed;
 
 pub use environment::Environment;
 pub use link::Link;
