@@ -1,11 +1,10 @@
 -- A function's declarator with its parameters.
-use Rattle.std.proofs.Common.{arith, ◌≡◌, ◌≤◌, ◌<◌, ◌+◌, ℕ, zero, suc, Bool, false, List, [], ◌∷◌, ◌++◌, length, refl, sym, ap, ◌∙◌, slice_index_or}
+use Rattle.std.proofs.Common.{arith, ◌≡◌, ◌<◌, ◌+◌, ℕ, zero, suc, false, List, [], ◌∷◌, length, refl, ap, ◌∙◌, slice_index_or}
 use Rattle.c_lex.specs.declared.token.Place.{Place}
 use Rattle.c_declaration.specs.Tree.{DeclaratorTree, Function, Taking, begins, depth, with_parameters}
 use Rattle.c_typing.specs.Plain.{Plain}
 use Rattle.c_judge.specs.Answers.{Answer, Known, Unknown, Broken, ◌then◌}
 use Rattle.c_check.specs.Environment.{Environment}
-use Rattle.c_check.specs.Declarators as spec
 use Rattle.c_check.specs.Declarators.{name_in, is_name, is_function, shape, parameters, taken, function, with_one}
 use Rattle.c_check.specs.Gathered.{gathered}
 

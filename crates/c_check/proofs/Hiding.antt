@@ -46,8 +46,9 @@ outside start m (v ∷ vs) t h b =
     let c = b.0 in
     let e : nat_le start v.number ≡ false = grind (arith, h, c) in
     elim (bytes_eq v.name t) as (λ x. is_from start (if x then Some v.number else number_of vs t) ≡ false) [
-      true ↦ e
-    | false ↦ outside start v.number vs t (omega (arith, h, c)) b.1 ]
+      | true ↦ e
+      | false ↦ outside start v.number vs t (omega (arith, h, c)) b.1
+    ]
 
 here_at : (start : ℕ) (v : Visible) (vs : List Visible) (t : List ℕ) (x : Bool) → nat_le start v.number ≡ x → AreBelow v.number vs → is_from start (number_of vs t) ≡ is_named (names_from start vs) t
     → is_from start (number_of (v ∷ vs) t) ≡ is_named (if x then v.name ∷ names_from start vs else []) t

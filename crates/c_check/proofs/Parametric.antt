@@ -11,12 +11,12 @@ use Rattle.std.specs.declared.vec.Vec.{Vec}
 use Rattle.std.specs.declared.alloc.Global.{Global}
 use Rattle.c_judge.specs.declared.fault.Fault.{Fault}
 use Rattle.c_judge.specs.Judges.{IsFault, Gives}
-use Rattle.c_check.specs.Shapes.{parameter_of, is_called, any_called, Adds}
+use Rattle.c_check.specs.Shapes.{parameter_of, any_called, Adds}
 use Rattle.c_check.specs.StructTags.{text}
 
 called_at : (n : Option (Bor (List ℕ))) (ps : List Parameter) (name : List ℕ) → any_called name ps ≡ is_named (names_in (map parameter_of ps)) name
     → ((elim n as (λ _. Bool) [ None ↦ false | Some t ↦ bytes_eq t.now name ]) || any_called name ps)
-      ≡ is_named (elim (option_map text n) as (λ _. List (List ℕ)) [ None ↦ names_in (map parameter_of ps) | Some t ↦ t ∷ names_in (map parameter_of ps) ]) name
+    ≡ is_named (elim (option_map text n) as (λ _. List (List ℕ)) [ None ↦ names_in (map parameter_of ps) | Some t ↦ t ∷ names_in (map parameter_of ps) ]) name
 called_at None ps name e = e
 called_at (Some t) ps name e = ap (λ b. bytes_eq t.now name || b) e
 

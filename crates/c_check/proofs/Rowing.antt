@@ -1,5 +1,5 @@
 -- What rows denote, and one row more.
-use Rattle.std.proofs.Common.{arith, ◌≡◌, ◌≤◌, ℕ, zero, suc, Bool, true, nat_le, if◌then◌else◌, Result, Ok, Err, OnOk, List, [], ◌∷◌, ◌++◌, length, map, refl, sym, ap, ◌∙◌, Option, Some, None}
+use Rattle.std.proofs.Common.{arith, ◌≡◌, ◌≤◌, ℕ, suc, Bool, true, nat_le, if◌then◌else◌, Result, Ok, Err, OnOk, List, [], ◌∷◌, ◌++◌, length, map, refl, sym, ap, ◌∙◌, Option}
 use Rattle.c_tree.specs.declared.types.CType.{CType}
 use Rattle.c_typing.specs.Expressions as typing
 use Rattle.c_typing.specs.Expressions.{Denoted}
@@ -8,7 +8,7 @@ use Rattle.c_judge.specs.Scope.{Scope}
 use Rattle.c_judge.specs.Judges.{denoted, denoted_all}
 use Rattle.c_check.specs.declared.link.Link.{Link}
 use Rattle.c_check.specs.declared.environment.Environment.{Environment as Here}
-use Rattle.c_check.specs.Environment.{Row, Visible, denoted_by, declare, innermost}
+use Rattle.c_check.specs.Environment.{Visible, denoted_by, declare, innermost}
 use Rattle.c_check.specs.Table.{Names, row, rows, names_from, with_name, AreAligned}
 use Rattle.c_check.specs.Here.{environment_of}
 
@@ -57,8 +57,8 @@ declare_is old t name s ps up d x a h e f u w =
     let l : Link = record { up = up; unit = old.unit; local = x } in
     let o = old.table in
     let names : rows (o.symbols ++ s ∷ []) (o.parameters ++ ps ∷ []) (o.links ++ l ∷ []) ≡ rows o.symbols o.parameters o.links ++ record { name = name; denoted = d; up = innermost o.visible; unit = old.unit; local = x } ∷ []
-        = rows_more o.symbols o.parameters o.links s ps l a.parameters a.links
-          ∙ ap (λ r. rows o.symbols o.parameters o.links ++ r ∷ []) (row_is s ps l name d e f ∙ ap (λ v. record { name = name; denoted = d; up = v; unit = old.unit; local = x }) u) in
+    = rows_more o.symbols o.parameters o.links s ps l a.parameters a.links
+    ∙ ap (λ r. rows o.symbols o.parameters o.links ++ r ∷ []) (row_is s ps l name d e f ∙ ap (λ v. record { name = name; denoted = d; up = v; unit = old.unit; local = x }) u) in
     let n = sym (rows_length o.symbols o.parameters o.links a.parameters a.links) in
     let b = block_more o.start (length o.symbols) name o.visible h in
     ap (λ v. environment_of (record { unit = old.unit; table = v; locals = old.locals; defs = old.defs; tags = old.tags })) w

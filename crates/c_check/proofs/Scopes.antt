@@ -1,16 +1,13 @@
 -- Expressions where the numbers of string literals are not asked for.
-use Rattle.std.proofs.Common.{◌≡◌, ℕ, List, [], refl, sym, ap, ◌∙◌, subst, Result, Ok, Err, Option, Some, None}
-use Rattle.std.specs.BTreeMap.{BTreeMap, get}
-use Rattle.std.specs.Ordering.{nat_cmp}
+use Rattle.std.proofs.Common.{◌≡◌, ℕ, sym, ap, ◌∙◌, subst, Result, Ok, Err}
 use Rattle.c_expr.specs.Tree.{Tree}
-use Rattle.c_expr.specs.declared.tree.Spec.{Spec}
 use Rattle.c_judge.specs.declared.fault.Fault.{Fault}
 use Rattle.c_judge.specs.declared.part.Part.{Part}
-use Rattle.c_judge.specs.Scope.{Scope, or_else_number}
+use Rattle.c_judge.specs.Scope.{Scope}
 use Rattle.c_judge.specs.Parts.{judged_of}
 use Rattle.c_judge.specs.Judgement.{judged}
 use Rattle.c_judge.specs.Judges.{Judges, Gives, IsFault}
-use Rattle.c_check.specs.Environment.{Environment, scope, scope_of, no_literal}
+use Rattle.c_check.specs.Environment.{Environment, scope, scope_of}
 
 -- no literal has a number in an empty map
 pub scope_plain : (v : Scope) (e : Environment) (l : ℕ → ℕ) → v ≡ scope e l → ((at : ℕ) → l at ≡ 0) → v ≡ scope_of e

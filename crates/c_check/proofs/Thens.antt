@@ -1,5 +1,5 @@
 -- What is made of one part.
-use Rattle.std.proofs.Common.{◌≡◌, ℕ, List, refl, sym, ap, ◌∙◌, subst, Result, Ok, Err}
+use Rattle.std.proofs.Common.{◌≡◌, sym, ap, subst, Result}
 use Rattle.c_judge.specs.declared.fault.Fault.{Fault}
 use Rattle.c_judge.specs.declared.fault.Fault.TheVariants.{Unknown, Rule, NoMemory}
 use Rattle.c_judge.specs.Answers as answer

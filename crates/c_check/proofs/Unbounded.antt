@@ -1,5 +1,5 @@
 -- Declarators of parameters without a name.
-use Rattle.std.proofs.Common.{arith, ◌≡◌, Bool, false, ◌==◌, ◌≤◌, ◌<◌, ◌+◌, ◌-◌, ◌*◌, ℕ, zero, suc, List, [], ◌∷◌, ◌++◌, length, take, slice_index_or, refl, sym, ap, ◌∙◌, subst, Result, Option, Some, None}
+use Rattle.std.proofs.Common.{arith, ◌≡◌, false, ◌==◌, ◌≤◌, ◌<◌, ◌+◌, ◌-◌, ℕ, List, [], ◌∷◌, ◌++◌, length, take, slice_index_or, refl, sym, ap, ◌∙◌, subst, Result, Option, Some, None}
 use Rattle.std.proofs.lemmas.List.{take_more, length-take}
 use Rattle.c_tree.specs.declared.types.CType.{CType}
 use Rattle.c_typing.specs.Plain.{Plain, plain}

@@ -1,5 +1,5 @@
 -- What the code's environment is.
-use Rattle.std.specs.Prelude.{◌≡◌, ℕ, List, length, map, Option}
+use Rattle.std.specs.Prelude.{map}
 use Rattle.c_typing.specs.Plain.{plain}
 use Rattle.c_typing.specs.Expressions as typing
 use Rattle.c_typing.specs.Expressions.{Denoted}
@@ -11,13 +11,14 @@ use Rattle.c_check.specs.Environment.{Environment}
 
 abbrev pub environment_of : Here → Environment
 environment_of e = record {
-    unit = e.unit;
-    names = rows e.table.symbols e.table.parameters e.table.links;
-    visible = e.table.visible;
-    block = names_from e.table.start e.table.visible;
-    locals = e.locals;
-    defs = e.defs.items;
-    tags = e.tags }
+  unit = e.unit;
+  names = rows e.table.symbols e.table.parameters e.table.links;
+  visible = e.table.visible;
+  block = names_from e.table.start e.table.visible;
+  locals = e.locals;
+  defs = e.defs.items;
+  tags = e.tags;
+}
 
 abbrev pub meaning_of : Meaning → Denoted
 meaning_of (Object t r) = typing.Object (plain t) r

@@ -1,5 +1,5 @@
 -- What the code's shapes are.
-use Rattle.std.specs.Prelude.{◌≡◌, ℕ, Bool, false, ◌||◌, List, [], ◌∷◌, ◌++◌, map, Result, Ok, Err, Option, Some, None, option_map, bytes_eq}
+use Rattle.std.specs.Prelude.{◌≡◌, ℕ, Bool, false, ◌||◌, List, [], ◌∷◌, ◌++◌, map, Result, Ok, Err, Some, None, option_map, bytes_eq}
 use Rattle.c_typing.specs.Plain.{plain}
 use Rattle.c_check.specs.declared.shapes.Parameter.{Parameter}
 use Rattle.c_check.specs.declared.shapes.Shape.{Shape}

@@ -1,5 +1,5 @@
 -- The table of what is declared: its names in the order of their declarations, and those in scope.
-use Rattle.std.specs.Prelude.{◌≡◌, ◌<◌, ℕ, suc, ◌+◌, nat_le, if◌then◌else◌, List, [], ◌∷◌, ◌++◌, length, Option}
+use Rattle.std.specs.Prelude.{◌≡◌, ◌<◌, ℕ, suc, nat_le, if◌then◌else◌, List, [], ◌∷◌, ◌++◌, length}
 use Rattle.c_tree.specs.declared.types.CType.{CType}
 use Rattle.c_judge.specs.declared.symbol.Symbol.{Symbol}
 use Rattle.c_judge.specs.Judges.{denoted}
@@ -39,10 +39,11 @@ outermost k (v ∷ vs) = if nat_le (suc (length vs)) k then v ∷ vs else outerm
 -- with one name more
 abbrev pub with_name : Names → List ℕ → Symbol → List CType → Link → Names
 with_name t name s ps l = record t {
-    symbols = t.symbols ++ s ∷ [];
-    parameters = t.parameters ++ ps ∷ [];
-    links = t.links ++ l ∷ [];
-    visible = record { name = name; number = length t.symbols } ∷ t.visible }
+  symbols = t.symbols ++ s ∷ [];
+  parameters = t.parameters ++ ps ∷ [];
+  links = t.links ++ l ∷ [];
+  visible = record { name = name; number = length t.symbols } ∷ t.visible;
+}
 
 -- each name has its parameters and its link
 pub record AreAligned (t : Names) : Type 0 where

@@ -84,7 +84,8 @@ impl<'a> Environment<'a> {
         };
         let text = Text::from_slice(alloc, name.as_bytes())?;
         let (symbol, parameters) = symbol(alloc, text, meaning);
-        self.table.declare(name.as_bytes(), symbol, parameters, link)
+        self.table
+            .declare(name.as_bytes(), symbol, parameters, link)
     }
 
     /// A name is declared at file scope.
@@ -115,7 +116,12 @@ impl<'a> Environment<'a> {
         let Some(locals) = self.locals.checked_add(1) else {
             return Err(AllocError);
         };
-        self.declare(alloc, name, Meaning::Object { ctype, register }, Some(self.locals))?;
+        self.declare(
+            alloc,
+            name,
+            Meaning::Object { ctype, register },
+            Some(self.locals),
+        )?;
         self.locals = locals;
         Ok(())
     }

@@ -15,11 +15,7 @@ use std::alloc::Global;
 use std::collections::BTreeMap;
 
 /// Judges an expression.
-pub fn judged_in<'a>(
-    alloc: Global,
-    here: &Environment<'a>,
-    e: &'a Expr,
-) -> Result<Part, Fault>
+pub fn judged_in<'a>(alloc: Global, here: &Environment<'a>, e: &'a Expr) -> Result<Part, Fault>
     ensures { Gives judged_of (judged (scope_of (environment_of here.now)) e.now) result }
 {
     let none = BTreeMap::new(alloc);

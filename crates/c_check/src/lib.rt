@@ -17,7 +17,7 @@ mod unnamed;
 pub use environment::Environment;
 pub use link::Link;
 pub use meaning::Meaning;
-pub use shaping::shape;
 pub use shapes::{Parameter, Shape};
+pub use shaping::shape;
 pub use struct_tags::StructTags;
 pub use table::{Mark, Table};

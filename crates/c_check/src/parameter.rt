@@ -80,10 +80,7 @@ pub fn with_one<'a>(
 }
 
 /// With one parameter more.
-fn pushed<'a>(
-    parameters: Vec<Parameter<'a>>,
-    p: Parameter<'a>,
-) -> Result<Vec<Parameter<'a>>, Fault>
+fn pushed<'a>(parameters: Vec<Parameter<'a>>, p: Parameter<'a>) -> Result<Vec<Parameter<'a>>, Fault>
     ensures { Adds parameters.entry.items p.entry result }
 {
     let mut parameters = parameters;

@@ -18,8 +18,7 @@ use crate::judging::named_type;
 use crate::parameter::{function, parameter, with_one};
 use crate::shapes::{Parameter, Shape};
 use crate::unnamed::unnamed;
-use c_declaration::{Declarator, DeclaratorNode, ParameterNode};
-use c_declaration::Parameter as Written;
+use c_declaration::{Declarator, DeclaratorNode, Parameter as Written, ParameterNode};
 use c_expr::{Abstract, Expr, Spec};
 use c_judge::{Fault, pointers};
 use c_lex::Place;
@@ -158,11 +157,7 @@ fn with_taken<'a>(
 
 /// A parameter.
 #[cycle(shaping)]
-fn taken<'a>(
-    alloc: Global,
-    here: &Environment<'a>,
-    p: &'a Written,
-) -> Result<Parameter<'a>, Fault>
+fn taken<'a>(alloc: Global, here: &Environment<'a>, p: &'a Written) -> Result<Parameter<'a>, Fault>
     ensures { Gives parameter_of (taken (environment_of here.now) p.now) result }
 {
     match &p.node {

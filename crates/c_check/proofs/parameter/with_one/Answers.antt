@@ -1,4 +1,4 @@
-use Rattle.std.proofs.Common.{◌≡◌, ℕ, List, sym, ap, ◌∙◌}
+use Rattle.std.proofs.Common.{sym, ap, ◌∙◌}
 use Rattle.c_check.specs.Shapes.{any_called}
 use Rattle.c_check.proofs.Parametric.{taken_is, free_is, nameless_is, adds_gives}
 use Rattle.c_check.proofs.parameter.with_one.Goals as goal
@@ -13,5 +13,5 @@ returns-in-None c = adds_gives c.args.parameters.items c.args.p _ c.pushed.resul
 pub returns-else-any_called : goal.returns-else-any_called
 returns-else-any_called c = adds_gives c.args.parameters.items c.args.p _ c.pushed-in-Some.result
     (free_is c.args.parameters.items c.args.p c.args.at c.in-Some.name c.in-Some.is
-        (ap (λ l. any_called c.in-Some.name.now l) (sym c.deref.ensures.value) ∙ (sym c.any_called.ensures ∙ c.if-any_called.false)))
+    (ap (λ l. any_called c.in-Some.name.now l) (sym c.deref.ensures.value) ∙ (sym c.any_called.ensures ∙ c.if-any_called.false)))
     c.pushed-in-Some.ensures

@@ -1,4 +1,4 @@
-use Rattle.std.proofs.Common.{◌≡◌, List, [], map, sym, ap, ◌∙◌, subst, Some}
+use Rattle.std.proofs.Common.{[], map, sym, ap, ◌∙◌, subst}
 use Rattle.c_declaration.specs.Tree.{Array}
 use Rattle.c_declaration.specs.View.{tree_of}
 use Rattle.c_typing.specs.Plain.{plain}
@@ -18,8 +18,8 @@ at_function-returns-in-Ok t c =
     let d = c.args.d.now in
     let ps = c.args.ps.now in
     subst (λ j. Gives shape_of j c.function.result) (sym (shape_function v c.args.at d ps (plain c.args.t)))
-        (gives shape_of (gathered v [] ps) (map parameter_of c.in-Ok.taken.items) (function (is_name d) c.args.at.at (plain c.args.t)) c.function.result c.in-Ok.ensures
-            (subst (λ b. Gives shape_of (function b c.args.at.at (plain c.args.t) (map parameter_of c.in-Ok.taken.items)) c.function.result) c.is_name.ensures c.function.ensures))
+    (gives shape_of (gathered v [] ps) (map parameter_of c.in-Ok.taken.items) (function (is_name d) c.args.at.at (plain c.args.t)) c.function.result c.in-Ok.ensures
+    (subst (λ b. Gives shape_of (function b c.args.at.at (plain c.args.t) (map parameter_of c.in-Ok.taken.items)) c.function.result) c.is_name.ensures c.function.ensures))
 
 pub at_function-returns-in-Err : goal.at_function-returns-in-Err
 at_function-returns-in-Err t c =
@@ -27,7 +27,7 @@ at_function-returns-in-Err t c =
     let d = c.args.d.now in
     let ps = c.args.ps.now in
     subst (λ j. IsFault j c.in-Err.f) (sym (shape_function v c.args.at d ps (plain c.args.t)))
-        (fails (gathered v [] ps) (function (is_name d) c.args.at.at (plain c.args.t)) c.in-Err.f c.in-Err.ensures)
+    (fails (gathered v [] ps) (function (is_name d) c.args.at.at (plain c.args.t)) c.in-Err.f c.in-Err.ensures)
 
 pub shape-returns-in-Some : goal.shape-returns-in-Some
 shape-returns-in-Some t c =

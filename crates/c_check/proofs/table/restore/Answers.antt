@@ -1,4 +1,4 @@
-use Rattle.std.proofs.Common.{◌≡◌, ℕ, List, Option, Some, None, subst, sym, bytes_eq}
+use Rattle.std.proofs.Common.{◌≡◌, ℕ, List, subst, sym, bytes_eq}
 use Rattle.std.specs.Map.{update}
 use Rattle.std.proofs.lemmas.Map.Text.{btree_map_updates_str}
 use Rattle.c_judge.specs.Numbers.{number_in}

@@ -1,4 +1,4 @@
-use Rattle.std.proofs.Common.{arith, ◌≡◌, ◌≤◌, ◌<◌, ◌+◌, ℕ, suc, List, [], ◌∷◌, ◌++◌, length, length-append, sym, ap, ◌∙◌, subst}
+use Rattle.std.proofs.Common.{arith, [], ◌∷◌, length, length-append, sym, ap, ◌∙◌, subst}
 use Rattle.c_judge.specs.Numbers.{number_in}
 use Rattle.c_check.specs.Environment.{number_of}
 use Rattle.c_check.specs.Table.{outermost}

@@ -1,4 +1,4 @@
-use Rattle.std.proofs.Common.{◌≡◌, ◌≤◌, ℕ, List, [], length}
+use Rattle.std.proofs.Common.{◌≡◌, ℕ, List, [], length}
 use Rattle.c_judge.specs.Numbers.{number_in}
 use Rattle.c_check.specs.Environment.{number_of}
 use Rattle.c_check.specs.Table.{outermost}

@@ -1,5 +1,5 @@
-use Rattle.std.proofs.Common.{◌≡◌, ◌≤◌, ◌*◌, ◌+◌, ℕ, take, length, Option, Some, None}
-use Rattle.c_expr.specs.Tree.{Tree, depth, behind_stars, with_bounds}
+use Rattle.std.proofs.Common.{◌≡◌, ◌≤◌, ◌*◌, ◌+◌, ℕ, take, length}
+use Rattle.c_expr.specs.Tree.{depth, behind_stars, with_bounds}
 use Rattle.c_typing.specs.Plain.{plain}
 use Rattle.c_check.specs.Declarators.{unnamed_within}
 use Rattle.c_check.specs.Here.{environment_of}

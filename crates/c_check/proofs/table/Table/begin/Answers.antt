@@ -1,4 +1,4 @@
-use Rattle.std.proofs.Common.{rules, arith, ◌≡◌, ◌≤◌, ℕ, List, [], length, ap, subst}
+use Rattle.std.proofs.Common.{arith, ◌≡◌, [], length, ap, subst}
 use Rattle.c_check.specs.Table.{names_from}
 use Rattle.c_check.specs.Tabled.{visible_from}
 use Rattle.c_check.proofs.Hiding.{visible_length, none_from}

@@ -1,4 +1,4 @@
-use Rattle.std.proofs.Common.{arith, ◌≡◌, ◌≤◌, ◌<◌, ◌+◌, ℕ, List, [], ◌∷◌, ◌++◌, length, length-append, sym, ap, ◌∙◌, subst}
+use Rattle.std.proofs.Common.{arith, ◌≡◌, [], ◌∷◌, ◌++◌, length, length-append, sym, ap, ◌∙◌, subst}
 use Rattle.std.proofs.lemmas.Map.Text.{btree_map_updates_str}
 use Rattle.c_judge.specs.Numbers.{number_in}
 use Rattle.c_check.specs.Environment.{number_of}
@@ -40,8 +40,8 @@ returns-in-Ok-insert-clause-ok c =
     let v = ap (visible_from []) sh ∙ visible_push [] old s in
     let n : c.in-Ok.number ≡ length c.self.inside.symbols.items = omega (arith, c.in-Ok.ensures, c.len.ensures, c.in_ok-reserve.ensures.len) in
     names_same _ _ _ _ _ _ _ _ c.self.inside.start
-        (c.put-in-Ok-insert.ensures ∙ ap (λ l. l ++ c.args.symbol ∷ []) c.in_ok-reserve.ensures.items)
-        (c.put-in-Ok-insert-2.ensures ∙ ap (λ l. l ++ c.args.parameters ∷ []) c.in_ok-reserve-2.ensures.items)
-        (c.put-in-Ok-insert-3.ensures ∙ ap (λ l. l ++ c.args.link ∷ []) c.in_ok-reserve-3.ensures.items)
-        (v ∙ ap (λ k. record { name = c.args.name.now; number = k } ∷ visible_from [] old) n)
+    (c.put-in-Ok-insert.ensures ∙ ap (λ l. l ++ c.args.symbol ∷ []) c.in_ok-reserve.ensures.items)
+    (c.put-in-Ok-insert-2.ensures ∙ ap (λ l. l ++ c.args.parameters ∷ []) c.in_ok-reserve-2.ensures.items)
+    (c.put-in-Ok-insert-3.ensures ∙ ap (λ l. l ++ c.args.link ∷ []) c.in_ok-reserve-3.ensures.items)
+    (v ∙ ap (λ k. record { name = c.args.name.now; number = k } ∷ visible_from [] old) n)
     ∙ ap (λ t. with_name t c.args.name.now c.args.symbol c.args.parameters c.args.link) c.self.view_is

@@ -1,4 +1,4 @@
-use Rattle.std.proofs.Common.{◌≡◌, ◌-◌, ℕ, List, [], length, sym, ap, ◌∙◌, subst, slice_get, Some}
+use Rattle.std.proofs.Common.{◌≡◌, ◌-◌, length, sym, ap, ◌∙◌, subst, slice_get, Some}
 use Rattle.c_check.specs.Environment.{innermost}
 use Rattle.c_check.proofs.Hiding.{last_number}
 use Rattle.c_check.proofs.table.Table.innermost.Goals as goal

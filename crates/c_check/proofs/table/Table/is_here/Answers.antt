@@ -1,4 +1,4 @@
-use Rattle.std.proofs.Common.{rules, arith, ◌≡◌, ◌≤◌, ℕ, List, [], length, sym, ap, ◌∙◌}
+use Rattle.std.proofs.Common.{[], sym, ap, ◌∙◌}
 use Rattle.c_check.specs.Table.{names_from}
 use Rattle.c_check.specs.Tabled.{visible_from}
 use Rattle.c_typing.specs.Declared.{is_named}
