@@ -1,6 +1,12 @@
 pub mod Findings
 pub mod Environment
+pub mod Table
+pub mod Tabled
+pub mod StructTags
+pub mod Here
 pub mod Declarators
+pub mod Shapes
+pub mod Gathered
 pub mod Locals
 pub mod Bodies
 pub mod Calls
