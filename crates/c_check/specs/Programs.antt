@@ -9,6 +9,7 @@ use Rattle.c_declaration.specs.declared.tree.MemberPart.{MemberPart}
 use Rattle.c_declaration.specs.declared.tree.MemberPart.TheVariants.{Opens, Row, Closes}
 use Rattle.c_statement.specs.Tree.{StatementTree, Declares, Also, Closed, If, IfElse, Headed, Do}
 use Rattle.c_syntax.specs.declared.tree.External.{External}
+use Rattle.c_syntax.specs.declared.tree.Unit.{Unit}
 use Rattle.c_syntax.specs.declared.tree.External.TheVariants.{Declaration, Definition}
 use Rattle.c_tree.specs.declared.types.StructDef.{StructDef}
 use Rattle.c_typing.specs.Plain.{Plain, Array, is_empty}
@@ -217,6 +218,9 @@ FaultsBehind tags us x = (f : Told) × (p : State) × AllFiles tags (at_first ta
 abbrev pub FaultsAs : Bool → (tags : List (List ℕ)) → List (List External) → Option Fault → Type 0
 FaultsAs true tags us x = x ≡ Some Arguments
 FaultsAs false tags us x = FaultsBehind tags us x
+
+abbrev pub externals_of : Unit → List External
+externals_of u = u.externals
 
 abbrev pub tags_of : List (List External) → List (List ℕ)
 tags_of us = each_once [] (in_all (in_all in_external) us)

@@ -1,6 +1,13 @@
 //! Which programs of C are accepted, and what is found wrong with the others.
 #![tactic(auto)]
 
+mod literals;
+mod numbering;
 mod parameters;
+mod tag_numbers;
+mod tags;
 
+pub use literals::Literal;
+pub use numbering::literal_numbers;
 pub use parameters::any_many;
+pub use tag_numbers::{TagList, tags_of};
