@@ -64,12 +64,18 @@ one_type f (g ∷ gs) = (not (is_same f g) || agree_as f.denoted g.denoted) && o
 abbrev pub is_built_in : List ℕ → Bool
 is_built_in name = elim (built_in name) as (λ _. Bool) [ Object t r ↦ true | Function r ps ↦ true | Hidden ↦ false ]
 
+abbrev pub declared_as_built_in : (is_static : Bool) → List ℕ → Denoted → Bool
+declared_as_built_in s name d = not (is_built_in name) || (not s && agree_as d (built_in name))
+
 abbrev pub as_built_in : FileName → Bool
-as_built_in f = not (is_built_in f.name) || (not f.is_static && agree_as f.denoted (built_in f.name))
+as_built_in f = declared_as_built_in f.is_static f.name f.denoted
 
 -- 10. `main` is `int(void)`.
+abbrev pub declared_as_main : List ℕ → Denoted → Bool
+declared_as_main name d = not (bytes_eq name (codes "main")) || agree_as d (Function Int [])
+
 abbrev pub as_main : FileName → Bool
-as_main f = not (bytes_eq f.name (codes "main")) || agree_as f.denoted (Function Int [])
+as_main f = declared_as_main f.name f.denoted
 
 -- what is found in a declaration of a name, beside those before it over all files
 abbrev pub name_found : List FileName → FileName → (at : ℕ) → Finding

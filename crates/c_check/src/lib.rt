@@ -2,12 +2,14 @@
 #![tactic(auto)]
 
 mod literals;
+mod names;
 mod numbering;
 mod parameters;
 mod tag_numbers;
 mod tags;
 
 pub use literals::Literal;
+pub use names::{agree_as, as_built_in, as_main, bounded_one};
 pub use numbering::literal_numbers;
 pub use parameters::any_many;
 pub use tag_numbers::{TagList, tags_of};
