@@ -9,6 +9,7 @@ pub mod Stops
 pub mod Becoming
 pub mod Structs
 pub mod Names
+pub mod Known
 pub mod Initials
 pub mod Begins
 pub mod Files

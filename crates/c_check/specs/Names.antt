@@ -1,8 +1,11 @@
 -- Names at file scope (C90 6.1.2.2, 6.5, 6.7).
-use Rattle.std.specs.Prelude.{ℕ, zero, suc, Bool, true, false, not, ◌&&◌, ◌||◌, ◌==◌, if◌then◌else◌, List, [], ◌∷◌, ◌++◌, Option, Some, None, bytes_eq, codes}
+use Rattle.std.specs.Prelude.{◌≤◌, ℕ, zero, suc, Bool, true, false, not, ◌&&◌, ◌||◌, ◌==◌, if◌then◌else◌, List, [], ◌∷◌, ◌++◌, Option, Some, None, bytes_eq, codes}
 use Rattle.c_typing.specs.Plain.{Plain, Int, Array, same}
 use Rattle.c_typing.specs.Expressions.{Denoted, Object, Function, Hidden}
 use Rattle.c_typing.specs.Declared.{built_in}
+use Rattle.c_check.specs.declared.definitions.Definition.{Definition}
+use Rattle.c_check.specs.declared.definitions.Manner.{Manner}
+use Rattle.c_check.specs.declared.definitions.Manner.TheVariants.{Body, Initialized, Tentative}
 use Rattle.c_check.specs.Findings.{Finding, nothing, ◌beside◌, holds}
 
 -- a declaration of a name in a file
@@ -88,17 +91,23 @@ told_before (g ∷ gs) f = if is_here f.unit f.name g then composite (told_befor
 
 -- ---- definitions
 
--- how a declaration defines a name: by a body, with an initializer, or without
-pub data Manner : Type 0 where
-  Body : Manner
-  Initialized : Manner
-  Tentative : Manner
-
 pub record Defining : Type 0 where
   pub name : List ℕ
   pub unit : ℕ
   pub is_static : Bool
   pub manner : Manner
+
+abbrev pub defining : Definition → Defining
+defining d = record { name = d.name.now; unit = d.unit; is_static = d.is_static; manner = d.manner }
+
+-- definitions stand in the order of their files
+abbrev pub IsBefore : Defining → List Defining → Type 0
+IsBefore d [] = Unit {0}
+IsBefore d (e ∷ es) = (d.unit ≤ e.unit) × IsBefore d es
+
+abbrev pub AreInOrder : List Defining → Type 0
+AreInOrder [] = Unit {0}
+AreInOrder (d ∷ ds) = IsBefore d ds × AreInOrder ds
 
 abbrev pub same_manner : Manner → Manner → Bool
 same_manner Body Body = true

@@ -1,6 +1,7 @@
 //! Which programs of C are accepted, and what is found wrong with the others.
 #![tactic(auto)]
 
+mod definitions;
 mod literals;
 mod names;
 mod numbering;
@@ -8,6 +9,7 @@ mod parameters;
 mod tag_numbers;
 mod tags;
 
+pub use definitions::{Definition, Manner, twice};
 pub use literals::Literal;
 pub use names::{agree_as, as_built_in, as_main, bounded_one};
 pub use numbering::literal_numbers;
