@@ -10,6 +10,7 @@ pub mod Becoming
 pub mod Structs
 pub mod Names
 pub mod Known
+pub mod Sets
 pub mod Initials
 pub mod Begins
 pub mod Files

@@ -1,5 +1,5 @@
 -- Names at file scope (C90 6.1.2.2, 6.5, 6.7).
-use Rattle.std.specs.Prelude.{◌≤◌, ℕ, zero, suc, Bool, true, false, not, ◌&&◌, ◌||◌, ◌==◌, if◌then◌else◌, List, [], ◌∷◌, ◌++◌, Option, Some, None, bytes_eq, codes}
+use Rattle.std.specs.Prelude.{◌≤◌, ◌<◌, ℕ, zero, suc, Bool, true, false, not, ◌&&◌, ◌||◌, ◌==◌, if◌then◌else◌, List, [], ◌∷◌, ◌++◌, Option, Some, None, bytes_eq, codes}
 use Rattle.c_typing.specs.Plain.{Plain, Int, Array, same}
 use Rattle.c_typing.specs.Expressions.{Denoted, Object, Function, Hidden}
 use Rattle.c_typing.specs.Declared.{built_in}
@@ -134,3 +134,8 @@ defines u s name d = bytes_eq d.name name && (if s then d.is_static && (d.unit =
 abbrev pub is_defined : List Defining → (unit : ℕ) → Bool → List ℕ → Bool
 is_defined [] u s name = false
 is_defined (d ∷ ds) u s name = defines u s name d || is_defined ds u s name
+
+-- the definitions' files are among so many
+abbrev pub AreWithin : ℕ → List Defining → Type 0
+AreWithin n [] = Unit {0}
+AreWithin n (d ∷ ds) = (d.unit < n) × AreWithin n ds

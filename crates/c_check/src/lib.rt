@@ -1,6 +1,7 @@
 //! Which programs of C are accepted, and what is found wrong with the others.
 #![tactic(auto)]
 
+mod defined;
 mod definitions;
 mod literals;
 mod names;
@@ -9,6 +10,7 @@ mod parameters;
 mod tag_numbers;
 mod tags;
 
+pub use defined::{DefinedNames, defined_names};
 pub use definitions::{Definition, Manner, twice};
 pub use literals::Literal;
 pub use names::{agree_as, as_built_in, as_main, bounded_one};
