@@ -8,6 +8,7 @@ pub mod Literals
 pub mod Stops
 pub mod Becoming
 pub mod Structs
+pub mod Opened
 pub mod Names
 pub mod Known
 pub mod Sets

@@ -4,6 +4,7 @@
 mod defined;
 mod definitions;
 mod literals;
+mod members;
 mod names;
 mod numbering;
 mod parameters;
@@ -13,6 +14,7 @@ mod tags;
 pub use defined::{DefinedNames, defined_names};
 pub use definitions::{Definition, Manner, twice};
 pub use literals::Literal;
+pub use members::{OpenStruct, WrittenMember, add_member, agrees, opened};
 pub use names::{agree_as, as_built_in, as_main, bounded_one};
 pub use numbering::literal_numbers;
 pub use parameters::any_many;
