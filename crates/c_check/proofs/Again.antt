@@ -147,13 +147,14 @@ again d [] u w = refl
 again d (e ∷ es) u w =
     let P : Bool → Type 0 = λ b. bytes_eq e.name d.name ≡ b → is_again (if b then Some (behind (known_behind es e.name) e) else known_behind es d.name) d ≡ ((bytes_eq d.name e.name && beside d e) || is_defined_before d es) in
     (elim (bytes_eq e.name d.name) as P [
-      true ↦ λ h.
-        let same : e.name ≡ d.name = (bytes_eq-Decides e.name d.name).0 h in
-        let here : bytes_eq d.name e.name ≡ true = (bytes_eq-Decides d.name e.name).1 (sym same) in
-        one_more (known_behind es e.name) d e (known_up_to e.unit es e.name w.0) u.0 ∙
-        (ap (λ t. beside d e || is_again (known_behind es t) d) same ∙
-        (ap (λ b. beside d e || b) (again d es u.1 w.1) ∙ ap (λ b. (b && beside d e) || is_defined_before d es) (sym here)))
-      | false ↦ λ h. again d es u.1 w.1 ∙ ap (λ b. (b && beside d e) || is_defined_before d es) (sym (text_turned e.name d.name h)) ]) refl
+      | true ↦ λ h.
+          let same : e.name ≡ d.name = (bytes_eq-Decides e.name d.name).0 h in
+          let here : bytes_eq d.name e.name ≡ true = (bytes_eq-Decides d.name e.name).1 (sym same) in
+          one_more (known_behind es e.name) d e (known_up_to e.unit es e.name w.0) u.0 ∙
+          (ap (λ t. beside d e || is_again (known_behind es t) d) same ∙
+          (ap (λ b. beside d e || b) (again d es u.1 w.1) ∙ ap (λ b. (b && beside d e) || is_defined_before d es) (sym here)))
+      | false ↦ λ h. again d es u.1 w.1 ∙ ap (λ b. (b && beside d e) || is_defined_before d es) (sym (text_turned e.name d.name h))
+    ]) refl
 
 follow_more : (d : Defining) (before ds : List Defining) → IsBefore d ds → Follow before ds → Follow (d ∷ before) ds
 follow_more d before [] h f = tt

@@ -18,5 +18,5 @@ pub literal_more : (first j : ℕ) (xs : List Found) (d : Found) (old new : ℕ 
 literal_more first j xs d old new h u o at =
     ap (λ p. or_else_number 0 p) (u at) ∙
     (one_more (slice_index_or xs j d).at at (first + j) (old at) (map literal (drop (suc j) xs)) (literal (slice_index_or xs j d)).text
-      (o at ∙ ap (λ n. number_at n (map literal (drop (suc j) xs)) at) (let e : first + suc j ≡ suc (first + j) = omega arith in e)) ∙
+    (o at ∙ ap (λ n. number_at n (map literal (drop (suc j) xs)) at) (let e : first + suc j ≡ suc (first + j) = omega arith in e)) ∙
     ap (λ l. number_at (first + j) (map literal l) at) (sym (drop-cons xs j d h)))

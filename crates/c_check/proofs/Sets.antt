@@ -29,7 +29,7 @@ one_further ds i u s t d old new h e n =
     ap (λ b. b || is_defined (map defining (drop (i + 1) ds)) u s t) n ∙
     (or_turned (defines u s t (defining d)) old (is_defined (map defining (drop (i + 1) ds)) u s t) ∙
     ap (λ l. old || is_defined (map defining l) u s t)
-      (sym (drop-cons ds i d h ∙ (ap (λ x. x ∷ drop (suc i) ds) (sym e) ∙ ap (λ j. d ∷ drop j ds) (let f : suc i ≡ i + 1 = omega arith in f)))))
+    (sym (drop-cons ds i d h ∙ (ap (λ x. x ∷ drop (suc i) ds) (sym e) ∙ ap (λ j. d ∷ drop j ds) (let f : suc i ≡ i + 1 = omega arith in f)))))
 
 pub unit_within : (n : ℕ) (ds : List Definition) (i : ℕ) (d : Definition) → AreWithin n (map defining ds) → i < length ds → (slice_index_or ds i d).unit < n
 unit_within n [] i d w h = absurd (omega arith)

@@ -23,7 +23,12 @@ is_initialized _ = false
 -- in the same file, and in one behind it
 abbrev pub added : Known → Defining → Known
 added k d = record {
-    unit = d.unit; body = k.body || is_body d.manner; initialized = k.initialized || is_initialized d.manner; external = k.external || not d.is_static; elsewhere = k.elsewhere }
+  unit = d.unit;
+  body = k.body || is_body d.manner;
+  initialized = k.initialized || is_initialized d.manner;
+  external = k.external || not d.is_static;
+  elsewhere = k.elsewhere;
+}
 
 abbrev pub begun : (elsewhere : Bool) → Defining → Known
 begun x d = record { unit = d.unit; body = is_body d.manner; initialized = is_initialized d.manner; external = not d.is_static; elsewhere = x }

@@ -53,11 +53,7 @@ fn add_name<'a>(names: &mut Numbers<'a>, name: &'a [u8]) -> Result<(), AllocErro
 }
 
 /// Adds a name to the set of a file.
-fn add_in<'a>(
-    statics: &mut Vec<Numbers<'a>>,
-    unit: usize,
-    name: &'a [u8],
-) -> Result<(), AllocError>
+fn add_in<'a>(statics: &mut Vec<Numbers<'a>>, unit: usize, name: &'a [u8]) -> Result<(), AllocError>
     requires { unit < vec_len statics.old }
     ensures files { vec_len statics.new ≡ vec_len statics.old }
     ensures names { OnOk result ((u : ℕ) (t : List ℕ) → in_file (slice_get statics.new.items u) t ≡ (((unit == u) && bytes_eq name.now t) || in_file (slice_get statics.old.items u) t)) }

@@ -99,7 +99,13 @@ fn behind(known: Option<Known>, d: &Definition) -> Known
     let initialized = is_initialized(d.manner);
     let external = !d.is_static;
     match known {
-        None => Known { unit: d.unit, body, initialized, external, elsewhere: false },
+        None => Known {
+            unit: d.unit,
+            body,
+            initialized,
+            external,
+            elsewhere: false,
+        },
         Some(k) => {
             if k.unit == d.unit {
                 Known {
@@ -110,7 +116,13 @@ fn behind(known: Option<Known>, d: &Definition) -> Known
                     elsewhere: k.elsewhere,
                 }
             } else {
-                Known { unit: d.unit, body, initialized, external, elsewhere: k.elsewhere || k.external }
+                Known {
+                    unit: d.unit,
+                    body,
+                    initialized,
+                    external,
+                    elsewhere: k.elsewhere || k.external,
+                }
             }
         }
     }

@@ -3,7 +3,8 @@ ghost use Rattle.std.specs.Prelude.{◌≡◌, ◌++◌, ◌<◌, ◌^◌, lengt
 ghost use Rattle.c_check.specs.Literals.{literal, in_leaf, in_tree, in_part, in_all, in_declarator, in_member, in_file_spec, in_value, in_declared, in_local, in_statement};
 
 use c_declaration::{
-    Declarator, DeclaratorNode, Declared, FileSpec, Initial, InitialNode, Local, MemberPart, Parameter, ParameterNode,
+    Declarator, DeclaratorNode, Declared, FileSpec, Initial, InitialNode, Local, MemberPart,
+    Parameter, ParameterNode,
 };
 use c_expr::{Abstract, Expr, Node, TypeName};
 use c_lex::Place;
@@ -21,7 +22,12 @@ pub struct Literal<'a> {
 }
 
 /// A string among the leaves of expressions.
-fn in_leaf<'a>(found: &mut Vec<Literal<'a>>, at: Place, kind: LeafKind, text: &'a Text) -> Result<(), AllocError>
+fn in_leaf<'a>(
+    found: &mut Vec<Literal<'a>>,
+    at: Place,
+    kind: LeafKind,
+    text: &'a Text,
+) -> Result<(), AllocError>
     ensures { OnOk result (map literal found.new.items ≡ map literal found.old.items ++ in_leaf at kind text.now) }
 {
     match kind {
@@ -154,7 +160,10 @@ pub fn in_declarator<'a>(found: &mut Vec<Literal<'a>>, d: &'a Declarator) -> Res
 /// Those of the parameters of a function.
 #[cycle(quoting_declarators)]
 #[tactic(auto, using(crate::proofs::Measures::parameter_at))]
-fn in_parameters<'a>(found: &mut Vec<Literal<'a>>, parameters: &'a [Parameter]) -> Result<(), AllocError>
+fn in_parameters<'a>(
+    found: &mut Vec<Literal<'a>>,
+    parameters: &'a [Parameter],
+) -> Result<(), AllocError>
     ensures { OnOk result (map literal found.new.items ≡ map literal found.old.items ++ in_all in_declarator parameters.now) }
 {
     for parameter in parameters {
@@ -175,7 +184,10 @@ fn in_parameter<'a>(found: &mut Vec<Literal<'a>>, p: &'a Parameter) -> Result<()
 }
 
 /// Those of some declarators.
-fn in_declarators<'a>(found: &mut Vec<Literal<'a>>, declarators: &'a [Declarator]) -> Result<(), AllocError>
+fn in_declarators<'a>(
+    found: &mut Vec<Literal<'a>>,
+    declarators: &'a [Declarator],
+) -> Result<(), AllocError>
     ensures { OnOk result (map literal found.new.items ≡ map literal found.old.items ++ in_all in_declarator declarators.now) }
 {
     for declarator in declarators {
@@ -300,7 +312,11 @@ pub fn in_statement<'a>(found: &mut Vec<Literal<'a>>, s: &'a Statement) -> Resul
 
 /// Those of an expression and of the statement behind it.
 #[cycle(quoting_statements)]
-fn in_headed<'a>(found: &mut Vec<Literal<'a>>, e: &'a Expr, s: &'a Statement) -> Result<(), AllocError>
+fn in_headed<'a>(
+    found: &mut Vec<Literal<'a>>,
+    e: &'a Expr,
+    s: &'a Statement,
+) -> Result<(), AllocError>
     ensures { OnOk result (map literal found.new.items ≡ map literal found.old.items ++ (in_tree e.now ++ in_statement s.now)) }
 {
     in_tree(found, e)?;
@@ -308,7 +324,12 @@ fn in_headed<'a>(found: &mut Vec<Literal<'a>>, e: &'a Expr, s: &'a Statement) ->
 }
 
 /// Those of the expressions of a `for`.
-fn in_three<'a>(found: &mut Vec<Literal<'a>>, i: &'a Option<Expr>, e: &'a Option<Expr>, k: &'a Option<Expr>) -> Result<(), AllocError>
+fn in_three<'a>(
+    found: &mut Vec<Literal<'a>>,
+    i: &'a Option<Expr>,
+    e: &'a Option<Expr>,
+    k: &'a Option<Expr>,
+) -> Result<(), AllocError>
     ensures { OnOk result (map literal found.new.items ≡ map literal found.old.items ++ (in_part in_tree i.now ++ in_part in_tree e.now ++ in_part in_tree k.now)) }
 {
     in_part(found, i)?;
@@ -319,7 +340,10 @@ fn in_three<'a>(found: &mut Vec<Literal<'a>>, i: &'a Option<Expr>, e: &'a Option
 /// Those of some statements.
 #[cycle(quoting_statements)]
 #[tactic(auto, using(crate::proofs::Measures::statement_at))]
-fn in_statements<'a>(found: &mut Vec<Literal<'a>>, statements: &'a [Statement]) -> Result<(), AllocError>
+fn in_statements<'a>(
+    found: &mut Vec<Literal<'a>>,
+    statements: &'a [Statement],
+) -> Result<(), AllocError>
     ensures { OnOk result (map literal found.new.items ≡ map literal found.old.items ++ in_all in_statement statements.now) }
 {
     for statement in statements {

@@ -4,7 +4,8 @@ ghost use Rattle.c_judge.specs.Numbers.{Finds};
 ghost use Rattle.c_check.specs.Tags.{now, in_spec, in_tree, in_part, in_all, in_declarator, in_initial, in_declared, in_local, in_statement, in_member, in_file_spec, in_external, each_once};
 
 use c_declaration::{
-    Declarator, DeclaratorNode, Declared, FileSpec, Initial, InitialNode, Local, MemberPart, Parameter, ParameterNode,
+    Declarator, DeclaratorNode, Declared, FileSpec, Initial, InitialNode, Local, MemberPart,
+    Parameter, ParameterNode,
 };
 use c_expr::{Abstract, Expr, Node, Spec, TypeName};
 use c_judge::Numbers;
@@ -148,7 +149,10 @@ pub fn in_declarator<'a>(found: &mut Vec<&'a Text>, d: &'a Declarator) -> Result
 /// Those of the parameters of a function.
 #[cycle(tagging_declarators)]
 #[tactic(auto, using(crate::proofs::Measures::parameter_at))]
-fn in_parameters<'a>(found: &mut Vec<&'a Text>, parameters: &'a [Parameter]) -> Result<(), AllocError>
+fn in_parameters<'a>(
+    found: &mut Vec<&'a Text>,
+    parameters: &'a [Parameter],
+) -> Result<(), AllocError>
     ensures { OnOk result (map now found.new.items ≡ map now found.old.items ++ in_all in_declarator parameters.now) }
 {
     for parameter in parameters {
@@ -175,7 +179,10 @@ fn in_parameter<'a>(found: &mut Vec<&'a Text>, p: &'a Parameter) -> Result<(), A
 }
 
 /// Those of some declarators.
-fn in_declarators<'a>(found: &mut Vec<&'a Text>, declarators: &'a [Declarator]) -> Result<(), AllocError>
+fn in_declarators<'a>(
+    found: &mut Vec<&'a Text>,
+    declarators: &'a [Declarator],
+) -> Result<(), AllocError>
     ensures { OnOk result (map now found.new.items ≡ map now found.old.items ++ in_all in_declarator declarators.now) }
 {
     for declarator in declarators {
@@ -328,7 +335,12 @@ fn in_headed<'a>(found: &mut Vec<&'a Text>, e: &'a Expr, s: &'a Statement) -> Re
 }
 
 /// Those of the expressions of a `for`.
-fn in_three<'a>(found: &mut Vec<&'a Text>, i: &'a Option<Expr>, e: &'a Option<Expr>, k: &'a Option<Expr>) -> Result<(), AllocError>
+fn in_three<'a>(
+    found: &mut Vec<&'a Text>,
+    i: &'a Option<Expr>,
+    e: &'a Option<Expr>,
+    k: &'a Option<Expr>,
+) -> Result<(), AllocError>
     ensures { OnOk result (map now found.new.items ≡ map now found.old.items ++ (in_part in_tree i.now ++ in_part in_tree e.now ++ in_part in_tree k.now)) }
 {
     in_part(found, i)?;
@@ -339,7 +351,10 @@ fn in_three<'a>(found: &mut Vec<&'a Text>, i: &'a Option<Expr>, e: &'a Option<Ex
 /// Those of some statements.
 #[cycle(tagging_statements)]
 #[tactic(auto, using(crate::proofs::Measures::statement_at))]
-fn in_statements<'a>(found: &mut Vec<&'a Text>, statements: &'a [Statement]) -> Result<(), AllocError>
+fn in_statements<'a>(
+    found: &mut Vec<&'a Text>,
+    statements: &'a [Statement],
+) -> Result<(), AllocError>
     ensures { OnOk result (map now found.new.items ≡ map now found.old.items ++ in_all in_statement statements.now) }
 {
     for statement in statements {
@@ -366,7 +381,10 @@ fn in_external<'a>(found: &mut Vec<&'a Text>, external: &'a External) -> Result<
 }
 
 /// Those of a file.
-pub fn in_externals<'a>(found: &mut Vec<&'a Text>, externals: &'a [External]) -> Result<(), AllocError>
+pub fn in_externals<'a>(
+    found: &mut Vec<&'a Text>,
+    externals: &'a [External],
+) -> Result<(), AllocError>
     ensures { OnOk result (map now found.new.items ≡ map now found.old.items ++ in_all in_external externals.now) }
 {
     for external in externals {

@@ -7,7 +7,7 @@ use Rattle.c_check.proofs.defined.defined_names.Goals as goal
 pub add-requires : goal.add-requires
 add-requires c =
     let within : c.d-item.result.unit < c.args.units =
-      subst (λ (x : Definition). x.unit < c.args.units) (sym c.d-item.is) (unit_within c.args.units c.args.definitions.now c.loop-d.d-index c.d-item.result c.requires c.loop-d-test.true) in
+    subst (λ (x : Definition). x.unit < c.args.units) (sym c.d-item.is) (unit_within c.args.units c.args.definitions.now c.loop-d.d-index c.d-item.result c.requires c.loop-d-test.true) in
     omega (arith, within, c.loop-d.invariant.files)
 
 pub loop-d-preserved : goal.loop-d-preserved
