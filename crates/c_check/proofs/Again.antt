@@ -7,7 +7,7 @@ use Rattle.c_check.specs.declared.definitions.Definition.{Definition}
 use Rattle.c_check.specs.declared.definitions.Known.{Known}
 use Rattle.c_check.specs.declared.definitions.Manner.{Manner}
 use Rattle.c_check.specs.declared.definitions.Manner.TheVariants.{Body, Initialized, Tentative}
-use Rattle.c_check.specs.Names.{Defining, defining, IsBefore, AreInOrder, same_manner, is_second, is_defined_before, twice}
+use Rattle.c_check.specs.Names.{Defining, defining, IsBefore, AreInOrder, same_manner, is_defined_before, twice}
 use Rattle.c_check.specs.Known.{behind, is_again, is_body, is_initialized, added, begun}
 
 abbrev pub noted : (List ℕ → Option Known) → Defining → List ℕ → Option Known

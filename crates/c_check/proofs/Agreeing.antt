@@ -1,6 +1,5 @@
 -- When lists of types are the same, and which of two types has a bound.
-use Rattle.std.proofs.Common.{◌≡◌, ◌≢◌, ℕ, zero, suc, Bool, true, false, ◌&&◌, List, [], ◌∷◌, length, map, drop, slice_index_or, ◌<◌, ◌∙◌, refl, ap, sym, arith}
-use Rattle.std.proofs.Math.Seq.{drop-cons}
+use Rattle.std.proofs.Common.{◌≡◌, ◌≢◌, ℕ, zero, suc, Bool, true, false, ◌&&◌, List, [], ◌∷◌, length, map, ◌∙◌, refl, ap}
 use Rattle.c_tree.specs.declared.types.CType.{CType}
 use Rattle.c_typing.specs.Plain.{Plain, Array, plain, same}
 use Rattle.c_check.specs.Names.{same_all, bounded_one}

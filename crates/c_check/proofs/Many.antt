@@ -1,5 +1,5 @@
 -- Where functions have more than 16 parameters.
-use Rattle.std.proofs.Common.{◌≡◌, ◌+◌, ◌≤◌, ℕ, zero, suc, Bool, true, false, ◌||◌, nat_lt, length, List, [], ◌∷◌, ◌∙◌, refl, ap, sym, arith}
+use Rattle.std.proofs.Common.{◌≡◌, ◌+◌, ◌≤◌, ℕ, suc, Bool, true, false, ◌||◌, nat_lt, length, List, [], ◌∷◌, ◌∙◌, refl, ap, sym, arith}
 use Rattle.c_lex.specs.declared.token.Place.{Place}
 use Rattle.c_declaration.specs.declared.tree.Local.{Local}
 use Rattle.c_declaration.specs.Tree.{DeclaratorTree, Function, Taking, with_parameters}

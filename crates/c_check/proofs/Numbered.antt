@@ -1,5 +1,5 @@
 -- Literals numbered from the last to the first: the first at an offset counts.
-use Rattle.std.proofs.Common.{◌≡◌, ℕ, suc, zero, ◌+◌, ◌<◌, Bool, true, false, List, [], ◌∷◌, length, drop, map, ◌∙◌, sym, refl, ap, Option, Some, None, nat_eq, slice_index_or, if◌then◌else◌, arith}
+use Rattle.std.proofs.Common.{◌≡◌, ℕ, suc, ◌+◌, ◌<◌, true, false, List, ◌∷◌, length, drop, map, ◌∙◌, sym, refl, ap, Option, Some, nat_eq, slice_index_or, if◌then◌else◌, arith}
 use Rattle.std.proofs.Math.Seq.{drop-cons}
 use Rattle.std.specs.Map.{update}
 use Rattle.c_judge.specs.Scope.{or_else_number}

@@ -1,5 +1,5 @@
 -- Tags, each once: a tag that is there already adds nothing, and another is the last.
-use Rattle.std.proofs.Common.{◌≡◌, ◌+◌, ℕ, zero, suc, Bool, true, false, ◌||◌, List, [], ◌∷◌, ◌++◌, length, ◌∙◌, refl, ap, sym, subst, map, Option, Some, None, IsSome, bytes_eq, if◌then◌else◌, arith}
+use Rattle.std.proofs.Common.{◌≡◌, ◌+◌, ℕ, suc, Bool, true, false, ◌||◌, List, [], ◌∷◌, ◌++◌, length, ◌∙◌, refl, ap, sym, subst, map, Option, Some, None, bytes_eq, if◌then◌else◌, arith}
 use Rattle.std.proofs.lemmas.Slice.Eq.{bytes_eq-Decides}
 use Rattle.std.specs.Map.{update}
 use denote.Ref.{Bor}

@@ -11,7 +11,7 @@ use Rattle.c_check.specs.Sets.{has_name}
 use Rattle.c_check.proofs.Sets.{name_added}
 use Rattle.c_typing.specs.Declared.{is_named}
 use Rattle.c_check.specs.declared.members.WrittenMember.{WrittenMember}
-use Rattle.c_check.specs.Structs.{Written, written, written_names, same_members, object_member}
+use Rattle.c_check.specs.Structs.{written, written_names, same_members, object_member}
 use Rattle.c_check.specs.Opened.{written_member}
 
 and_false : (b : Bool) → (b && false) ≡ false

@@ -1,5 +1,5 @@
 -- The string literals of calls, of arrays and functions, of lists in braces and of blocks.
-use Rattle.std.proofs.Common.{◌≡◌, ℕ, List, [], ◌∷◌, ◌++◌, ◌∙◌, refl, ap, sym, Option, Some, None}
+use Rattle.std.proofs.Common.{◌≡◌, List, [], ◌∷◌, ◌++◌, ◌∙◌, refl, ap, sym, Option, Some, None}
 use Rattle.std.proofs.lemmas.List.{append_assoc}
 use Rattle.c_lex.specs.declared.token.Place.{Place}
 use Rattle.c_expr.specs.Tree.{Tree, Call, With, Bounded, Unbounded, with_arguments, with_bounds}

@@ -1,12 +1,12 @@
 -- Sets of names.
-use Rattle.std.proofs.Common.{◌≡◌, ◌<◌, ◌≤◌, ◌+◌, ℕ, zero, suc, Bool, true, false, ◌||◌, ◌&&◌, ◌==◌, List, [], ◌∷◌, ◌++◌, length, drop, map, slice_get, slice_index_or, ◌∙◌, sym, refl, ap, Option, Some, None, bytes_eq, if◌then◌else◌, arith}
+use Rattle.std.proofs.Common.{◌≡◌, ◌<◌, ◌≤◌, ◌+◌, ℕ, zero, suc, Bool, true, false, ◌||◌, List, [], ◌∷◌, ◌++◌, length, drop, map, slice_get, slice_index_or, ◌∙◌, sym, refl, ap, Option, Some, None, bytes_eq, if◌then◌else◌, arith}
 use Rattle.std.proofs.Math.Seq.{drop-cons}
 use Rattle.std.specs.Map.{update}
 use Rattle.std.specs.Option.{is_some}
 use Rattle.c_judge.specs.declared.numbers.Numbers.{Numbers}
 use Rattle.c_judge.specs.Numbers.{number_in}
 use Rattle.c_check.specs.declared.definitions.Definition.{Definition}
-use Rattle.c_check.specs.Names.{Defining, defining, defines, is_defined, AreWithin}
+use Rattle.c_check.specs.Names.{defining, defines, is_defined, AreWithin}
 use Rattle.c_check.specs.Sets.{has_name, in_file}
 
 added : (b : Bool) (n : ℕ) (o : Option ℕ) → is_some (if b then Some n else o) ≡ (b || is_some o)

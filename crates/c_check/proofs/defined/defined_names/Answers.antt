@@ -1,4 +1,4 @@
-use Rattle.std.proofs.Common.{◌≡◌, ◌<◌, ◌∙◌, sym, subst, arith}
+use Rattle.std.proofs.Common.{◌<◌, ◌∙◌, sym, subst, arith}
 use Rattle.c_check.specs.declared.definitions.Definition.{Definition}
 use Rattle.c_check.specs.Sets.{defined_in}
 use Rattle.c_check.proofs.Sets.{one_further, unit_within}

@@ -1,12 +1,10 @@
-use Rattle.std.proofs.Common.{◌≡◌, ◌∙◌, sym, ap, bytes_eq, Some, None, true, false, arith}
+use Rattle.std.proofs.Common.{◌≡◌, ◌∙◌, sym, ap, bytes_eq, Some, None, true, arith}
 use Rattle.std.proofs.lemmas.Grind.{common_steps}
 use Rattle.std.specs.Option.{is_some}
 use Rattle.std.specs.Map.{update}
 use Rattle.c_typing.specs.Plain.{plain, is_complete}
 use Rattle.c_judge.specs.Numbers.{number_in}
 use Rattle.c_check.specs.declared.members.WrittenMember.{WrittenMember}
-use Rattle.c_check.specs.Structs.{written_names}
-use Rattle.c_check.specs.Opened.{members_in}
 use Rattle.c_check.proofs.Opening.{object_added, names_added}
 use Rattle.c_check.proofs.members.add_member.Goals as goal
 
