@@ -3,6 +3,7 @@
 
 mod defined;
 mod definitions;
+mod initials;
 mod literals;
 mod members;
 mod names;
@@ -13,6 +14,7 @@ mod tags;
 
 pub use defined::{DefinedNames, defined_names};
 pub use definitions::{Definition, Manner, twice};
+pub use initials::{count_of, fits, is_aggregate, rule_of, text_of};
 pub use literals::Literal;
 pub use members::{OpenStruct, WrittenMember, add_member, agrees, opened};
 pub use names::{agree_as, as_built_in, as_main, bounded_one};
