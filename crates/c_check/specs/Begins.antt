@@ -99,7 +99,7 @@ module _ (v : Environment) where
   items_begin k t (Value e) = value_begins k t e
   items_begin k t (Braces at) = []
   items_begin k t (Item i j) = items_begin k t i ++
-    (elim (part_of v t (count_of i)) as (λ _. List Begin) [ None ↦ [] | Some u ↦ items_begin (k + length (strings_of t i)) u j ++ rest v.defs u (count_of j) ])
+      (elim (part_of v t (count_of i)) as (λ _. List Begin) [ None ↦ [] | Some u ↦ items_begin (k + length (strings_of t i)) u j ++ rest v.defs u (count_of j) ])
 
   abbrev pub begins_of : (string : ℕ) → Plain → InitialTree → List Begin
   begins_of k t i = items_begin k t i ++ rest v.defs t (count_of i)

@@ -30,7 +30,9 @@ use Rattle.c_check.specs.Becoming.{Before}
 use Rattle.c_check.specs.Begins.{Begin, begins_of, strings_of}
 use Rattle.c_check.specs.Declarators.{Shape, Object, Function, Parameter, shape, denoted, name_in}
 use Rattle.c_check.specs.Structs.{Open, Written, members, Completes, completed_found}
-use Rattle.c_check.specs.Names.{FileName, Defining, Manner, Body, Initialized, Tentative, name_found, told_before, is_built_in}
+use Rattle.c_check.specs.declared.definitions.Manner.{Manner}
+use Rattle.c_check.specs.declared.definitions.Manner.TheVariants.{Body, Initialized, Tentative}
+use Rattle.c_check.specs.Names.{FileName, Defining, name_found, told_before, is_built_in}
 use Rattle.c_check.specs.Initials.{Late, late_in, initial_found, with_bound}
 use Rattle.c_check.specs.Bodies.{found, in_function, after}
 

@@ -62,6 +62,23 @@ abbrev pub number_in : Answer Constant → Option ℕ
 number_in (Known (Number n)) = Some n
 number_in _ = None
 
+-- 13. A char array may take a string whose characters without the NUL fit.
+abbrev pub fits : Plain → (bound : ℕ) → Option (List ℕ) → Bool
+fits t n None = false
+fits t n (Some text) = same t Char && nat_le (length text) n
+
+-- the rule that a list in braces breaks before an object that is no aggregate, and a list that is too long
+abbrev pub rule_of : Plain → ℕ
+rule_of (Pointer t) = 12
+rule_of (Array t n) = 13
+rule_of (Struct s) = 13
+rule_of t = 11
+
+abbrev pub is_aggregate : Plain → Bool
+is_aggregate (Array t n) = true
+is_aggregate (Struct s) = true
+is_aggregate t = false
+
 module _ (v : Environment) where
   -- the value of a constant expression
   abbrev pub number : Tree → Option ℕ
@@ -92,29 +109,12 @@ module _ (v : Environment) where
   abbrev pub address_found : Plain → Tree → Finding
   address_found t e = constant (judged (scope_of v) e) then λ c. holds (is_address t e (Known c)) 12 (place_of e).at
 
-  -- 13. A char array may take a string whose characters without the NUL fit.
-  abbrev pub fits : Plain → (bound : ℕ) → Option (List ℕ) → Bool
-  fits t n None = false
-  fits t n (Some text) = same t Char && nat_le (length text) n
-
   -- an expression as the initializer of an object of a type
   abbrev pub value_found : Plain → Tree → Finding
   value_found (Pointer t) e = address_found t e
   value_found (Array t n) e = holds (fits t n (text_of e)) 13 (place_of e).at
   value_found (Struct s) e = Broken 13 (place_of e).at
   value_found t e = asked is_number 11 (place_of e).at (constant (judged (scope_of v) e))
-
-  -- the rule that a list in braces breaks before an object that is no aggregate, and a list that is too long
-  abbrev pub rule_of : Plain → ℕ
-  rule_of (Pointer t) = 12
-  rule_of (Array t n) = 13
-  rule_of (Struct s) = 13
-  rule_of t = 11
-
-  abbrev pub is_aggregate : Plain → Bool
-  is_aggregate (Array t n) = true
-  is_aggregate (Struct s) = true
-  is_aggregate t = false
 
   -- the type of a part of an aggregate by its number
   abbrev pub part_of : Plain → ℕ → Option Plain

@@ -14,7 +14,10 @@ pub mod Literals
 pub mod Stops
 pub mod Becoming
 pub mod Structs
+pub mod Opened
 pub mod Names
+pub mod Known
+pub mod Sets
 pub mod Initials
 pub mod Begins
 pub mod Files

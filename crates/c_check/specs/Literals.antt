@@ -15,11 +15,15 @@ use Rattle.c_declaration.specs.declared.tree.MemberPart.TheVariants.{Opens, Row,
 use Rattle.c_statement.specs.Tree.{StatementTree, Empty, Evaluate, Begun, Declares, Also, Closed, If, IfElse, Headed, Do, Break, Continue, Return}
 use Rattle.c_statement.specs.declared.tree.Head.{Head}
 use Rattle.c_statement.specs.declared.tree.Head.TheVariants as head
+use Rattle.c_check.specs.declared.literals.Literal.{Literal as Found}
 
 -- a literal: where it begins, and its characters without the NUL
 pub record Literal : Type 0 where
   pub at : ℕ
   pub text : List ℕ
+
+abbrev pub literal : Found → Literal
+literal l = record { at = l.at; text = l.text.now }
 
 abbrev pub in_leaf : Place → LeafKind → List ℕ → List Literal
 in_leaf at leaf.Text text = record { at = at.at; text = text } ∷ []
@@ -47,6 +51,10 @@ abbrev pub in_part : {A : Type 0} → (A → List Literal) → Option A → List
 in_part f None = []
 in_part f (Some e) = f e
 
+abbrev pub in_all : {A : Type 0} → (A → List Literal) → List A → List Literal
+in_all f [] = []
+in_all f (x ∷ xs) = f x ++ in_all f xs
+
 abbrev pub in_declarator : DeclaratorTree → List Literal
 in_declarator (Name _ _) = []
 in_declarator (Parens _ d) = in_declarator d
@@ -57,22 +65,14 @@ in_declarator (Taking d p) = in_declarator d ++ in_declarator p
 in_declarator (Named _ _ s d) = in_declarator d
 in_declarator (Unnamed _ s d) = in_tree d
 
-abbrev pub in_declarators : List DeclaratorTree → List Literal
-in_declarators [] = []
-in_declarators (d ∷ ds) = in_declarator d ++ in_declarators ds
-
 abbrev pub in_member : MemberPart → List Literal
 in_member (Opens _ tag) = []
-in_member (Row _ s ds) = in_declarators ds
-in_member (Closes ds) = in_declarators ds
-
-abbrev pub in_members : List MemberPart → List Literal
-in_members [] = []
-in_members (p ∷ ps) = in_member p ++ in_members ps
+in_member (Row _ s ds) = in_all in_declarator ds
+in_member (Closes ds) = in_all in_declarator ds
 
 abbrev pub in_file_spec : FileSpec → List Literal
 in_file_spec (file.Named s) = []
-in_file_spec (file.Members ps) = in_members ps
+in_file_spec (file.Members ps) = in_all in_member ps
 
 -- a local's initializer is an expression
 abbrev pub in_value : InitialTree → List Literal
@@ -82,12 +82,8 @@ in_value _ = []
 abbrev pub in_declared : Declared → List Literal
 in_declared d = in_declarator d.declarator ++ in_part in_value d.initial
 
-abbrev pub in_names : List Declared → List Literal
-in_names [] = []
-in_names (d ∷ ds) = in_declared d ++ in_names ds
-
 abbrev pub in_local : Local → List Literal
-in_local l = in_names l.names
+in_local l = in_all in_declared l.names
 
 abbrev pub in_head : Head → List Literal
 in_head (head.While _ e) = in_tree e

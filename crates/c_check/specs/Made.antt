@@ -21,7 +21,9 @@ use Rattle.c_check.specs.Environment.{Environment, Row, enter}
 use Rattle.c_check.specs.Bodies.{after}
 use Rattle.c_check.specs.Stops.{Stop, stop, stops}
 use Rattle.c_check.specs.Becoming.{Before, Becomes}
-use Rattle.c_check.specs.Names.{FileName, Defining, Manner, Body, Initialized, Tentative, is_same, composite, defines}
+use Rattle.c_check.specs.declared.definitions.Manner.{Manner}
+use Rattle.c_check.specs.declared.definitions.Manner.TheVariants.{Body, Initialized, Tentative}
+use Rattle.c_check.specs.Names.{FileName, Defining, is_same, composite, defines}
 use Rattle.c_check.specs.Begins.{Begin, Bits, Within, Text, zeros}
 use Rattle.c_check.specs.Files.{State, Bodied, Started, inside_block, type_or}
 use Rattle.c_check.specs.Programs.{is_static_in, tags_of, at_first, AllFiles, Well}

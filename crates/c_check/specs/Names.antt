@@ -1,8 +1,11 @@
 -- Names at file scope (C90 6.1.2.2, 6.5, 6.7).
-use Rattle.std.specs.Prelude.{ℕ, zero, suc, Bool, true, false, not, ◌&&◌, ◌||◌, ◌==◌, if◌then◌else◌, List, [], ◌∷◌, ◌++◌, Option, Some, None, bytes_eq, codes}
+use Rattle.std.specs.Prelude.{◌≤◌, ◌<◌, ℕ, zero, suc, Bool, true, false, not, ◌&&◌, ◌||◌, ◌==◌, if◌then◌else◌, List, [], ◌∷◌, ◌++◌, Option, Some, None, bytes_eq, codes}
 use Rattle.c_typing.specs.Plain.{Plain, Int, Array, same}
 use Rattle.c_typing.specs.Expressions.{Denoted, Object, Function, Hidden}
 use Rattle.c_typing.specs.Declared.{built_in}
+use Rattle.c_check.specs.declared.definitions.Definition.{Definition}
+use Rattle.c_check.specs.declared.definitions.Manner.{Manner}
+use Rattle.c_check.specs.declared.definitions.Manner.TheVariants.{Body, Initialized, Tentative}
 use Rattle.c_check.specs.Findings.{Finding, nothing, ◌beside◌, holds}
 
 -- a declaration of a name in a file
@@ -64,12 +67,18 @@ one_type f (g ∷ gs) = (not (is_same f g) || agree_as f.denoted g.denoted) && o
 abbrev pub is_built_in : List ℕ → Bool
 is_built_in name = elim (built_in name) as (λ _. Bool) [ Object t r ↦ true | Function r ps ↦ true | Hidden ↦ false ]
 
+abbrev pub declared_as_built_in : (is_static : Bool) → List ℕ → Denoted → Bool
+declared_as_built_in s name d = not (is_built_in name) || (not s && agree_as d (built_in name))
+
 abbrev pub as_built_in : FileName → Bool
-as_built_in f = not (is_built_in f.name) || (not f.is_static && agree_as f.denoted (built_in f.name))
+as_built_in f = declared_as_built_in f.is_static f.name f.denoted
 
 -- 10. `main` is `int(void)`.
+abbrev pub declared_as_main : List ℕ → Denoted → Bool
+declared_as_main name d = not (bytes_eq name (codes "main")) || agree_as d (Function Int [])
+
 abbrev pub as_main : FileName → Bool
-as_main f = not (bytes_eq f.name (codes "main")) || agree_as f.denoted (Function Int [])
+as_main f = declared_as_main f.name f.denoted
 
 -- what is found in a declaration of a name, beside those before it over all files
 abbrev pub name_found : List FileName → FileName → (at : ℕ) → Finding
@@ -82,17 +91,23 @@ told_before (g ∷ gs) f = if is_here f.unit f.name g then composite (told_befor
 
 -- ---- definitions
 
--- how a declaration defines a name: by a body, with an initializer, or without
-pub data Manner : Type 0 where
-  Body : Manner
-  Initialized : Manner
-  Tentative : Manner
-
 pub record Defining : Type 0 where
   pub name : List ℕ
   pub unit : ℕ
   pub is_static : Bool
   pub manner : Manner
+
+abbrev pub defining : Definition → Defining
+defining d = record { name = d.name.now; unit = d.unit; is_static = d.is_static; manner = d.manner }
+
+-- definitions stand in the order of their files
+abbrev pub IsBefore : Defining → List Defining → Type 0
+IsBefore d [] = Unit {0}
+IsBefore d (e ∷ es) = (d.unit ≤ e.unit) × IsBefore d es
+
+abbrev pub AreInOrder : List Defining → Type 0
+AreInOrder [] = Unit {0}
+AreInOrder (d ∷ ds) = IsBefore d ds × AreInOrder ds
 
 abbrev pub same_manner : Manner → Manner → Bool
 same_manner Body Body = true
@@ -119,3 +134,8 @@ defines u s name d = bytes_eq d.name name && (if s then d.is_static && (d.unit =
 abbrev pub is_defined : List Defining → (unit : ℕ) → Bool → List ℕ → Bool
 is_defined [] u s name = false
 is_defined (d ∷ ds) u s name = defines u s name d || is_defined ds u s name
+
+-- the definitions' files are among so many
+abbrev pub AreWithin : ℕ → List Defining → Type 0
+AreWithin n [] = Unit {0}
+AreWithin n (d ∷ ds) = (d.unit < n) × AreWithin n ds

@@ -9,6 +9,7 @@ use Rattle.c_declaration.specs.declared.tree.MemberPart.{MemberPart}
 use Rattle.c_declaration.specs.declared.tree.MemberPart.TheVariants.{Opens, Row, Closes}
 use Rattle.c_statement.specs.Tree.{StatementTree, Declares, Also, Closed, If, IfElse, Headed, Do}
 use Rattle.c_syntax.specs.declared.tree.External.{External}
+use Rattle.c_syntax.specs.declared.tree.Unit.{Unit}
 use Rattle.c_syntax.specs.declared.tree.External.TheVariants.{Declaration, Definition}
 use Rattle.c_tree.specs.declared.types.StructDef.{StructDef}
 use Rattle.c_typing.specs.Plain.{Plain, Array, is_empty}
@@ -46,8 +47,11 @@ takes_many (Unnamed _ _ _) = false
 abbrev pub many_in : Declared → Bool
 many_in d = takes_many d.declarator
 
+abbrev pub many_in_local : Local → Bool
+many_in_local l = any many_in l.names
+
 abbrev pub many_below : StatementTree → Bool
-many_below (Declares b l) = many_below b || any many_in l.names
+many_below (Declares b l) = many_below b || many_in_local l
 many_below (Also b s) = many_below b || many_below s
 many_below (Closed b _) = many_below b
 many_below (If _ _ s) = many_below s
@@ -124,13 +128,15 @@ module _ (tags : List (List ℕ)) where
     bodies = [];
     starts = [];
     points = 0;
-    strings = [] }
+    strings = [];
+  }
 
   -- what a file declared is out of scope behind it, and other files may complete its tags again
   abbrev pub next_file : State → State
   next_file p = record p {
     here = record p.here { unit = suc p.here.unit; visible = built_ins; block = []; defs = map incomplete tags };
-    others = completed_by p.others p.here.defs }
+    others = completed_by p.others p.here.defs;
+  }
 
   abbrev pub AllFiles : State → List (List External) → Told → State → Type 0
   AllFiles p [] f q = (f ≡ Well) × (q ≡ p)
@@ -169,8 +175,10 @@ is_object d = false
 -- the first object that is declared and not defined
 abbrev pub undefined : State → List FileName → Option (List ℕ)
 undefined p [] = None
-undefined p (f ∷ fs) = elim (undefined p fs) as (λ _. Option (List ℕ)) [ Some n ↦ Some n
-  | None ↦ if is_object f.denoted && not (is_defined p.definitions f.unit f.is_static f.name) then Some f.name else None ]
+undefined p (f ∷ fs) = elim (undefined p fs) as (λ _. Option (List ℕ)) [
+  | Some n ↦ Some n
+  | None ↦ if is_object f.denoted && not (is_defined p.definitions f.unit f.is_static f.name) then Some f.name else None
+]
 
 abbrev pub has_main : List Defining → Bool
 has_main ds = is_defined ds 0 false (codes "main")
@@ -194,8 +202,10 @@ missing (Lacks name) p = Some name
 missing f p = or_name (uncalled p p.calls) (undefined p p.names)
 
 abbrev pub behind_rules : Told → State → Option Fault
-behind_rules f p = elim (twice [] p.definitions) as (λ _. Option Fault) [ Some n ↦ Some (Twice n)
-  | None ↦ elim (missing f p) as (λ _. Option Fault) [ Some n ↦ Some (Undefined n) | None ↦ if has_main p.definitions then None else Some NoMain ] ]
+behind_rules f p = elim (twice [] p.definitions) as (λ _. Option Fault) [
+  | Some n ↦ Some (Twice n)
+  | None ↦ elim (missing f p) as (λ _. Option Fault) [ Some n ↦ Some (Undefined n) | None ↦ if has_main p.definitions then None else Some NoMain ]
+]
 
 abbrev pub first_fault : Told → State → Option Fault
 first_fault (Breaks r u at) p = Some (Rule r u at)
@@ -208,6 +218,9 @@ FaultsBehind tags us x = (f : Told) × (p : State) × AllFiles tags (at_first ta
 abbrev pub FaultsAs : Bool → (tags : List (List ℕ)) → List (List External) → Option Fault → Type 0
 FaultsAs true tags us x = x ≡ Some Arguments
 FaultsAs false tags us x = FaultsBehind tags us x
+
+abbrev pub externals_of : Unit → List External
+externals_of u = u.externals
 
 abbrev pub tags_of : List (List External) → List (List ℕ)
 tags_of us = each_once [] (in_all (in_all in_external) us)

@@ -33,10 +33,13 @@ abbrev pub written_names : List Written → List (List ℕ)
 written_names [] = []
 written_names (w ∷ ws) = w.name ∷ written_names ws
 
+-- 3. A member is an object of a complete type, and the names of members differ.
+abbrev pub object_member : List StructDef → List Written → (at : ℕ) → List ℕ → Plain → Answer (List Written)
+object_member defs ms at name t = if is_complete defs t && not (is_named (written_names ms) name) then Known (ms ++ record { name = name; ctype = t } ∷ []) else Broken 3 at
+
 module _ (v : Environment) where
-  -- 3. A member is an object of a complete type, and the names of members differ.
   abbrev pub member : List Written → (at : ℕ) → List ℕ → Shape → Answer (List Written)
-  member ms at name (Object t) = if is_complete v.defs t && not (is_named (written_names ms) name) then Known (ms ++ record { name = name; ctype = t } ∷ []) else Broken 3 at
+  member ms at name (Object t) = object_member v.defs ms at name t
   member ms at name (Function t ps) = Broken 9 at
 
   abbrev pub members : List Written → Plain → List DeclaratorTree → Answer (List Written)

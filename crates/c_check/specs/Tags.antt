@@ -1,5 +1,6 @@
 -- The tags of structs that a program mentions, in the order of the text.
 use Rattle.std.specs.Prelude.{ℕ, Bool, if◌then◌else◌, List, [], ◌∷◌, ◌++◌, Option, Some, None}
+use denote.Ref.{Bor}
 use Rattle.c_expr.specs.declared.tree.Spec.{Spec}
 use Rattle.c_expr.specs.declared.tree.Spec.TheVariants as spec
 use Rattle.c_expr.specs.Tree.{Tree, Leaf, Paren, Index, Call, With, Member, After, Prefix, SizeofType, Cast, Binary, Choice, Stars, Around, Bounded, Unbounded}
@@ -18,6 +19,9 @@ use Rattle.c_statement.specs.declared.tree.Head.TheVariants as head
 use Rattle.c_syntax.specs.declared.tree.External.{External}
 use Rattle.c_syntax.specs.declared.tree.External.TheVariants.{Declaration, Definition}
 use Rattle.c_typing.specs.Declared.{is_named}
+
+abbrev pub now : Bor (List ℕ) → List ℕ
+now t = t.now
 
 abbrev pub in_spec : Spec → List (List ℕ)
 in_spec (spec.Struct tag) = tag ∷ []

@@ -2,7 +2,7 @@ use Rattle.std.proofs.Common.{◌≡◌, ℕ, List, suc, ◌-◌, drop, map, sub
 use Rattle.c_judge.specs.Numbers.{number_in}
 use Rattle.c_judge.specs.Scope.{number_from}
 use Rattle.c_check.specs.StructTags.{text}
-use Rattle.c_check.proofs.Numbering.{numbered_more}
+use Rattle.c_check.proofs.FirstNumber.{numbered_more}
 use Rattle.c_check.proofs.struct_tags.numbered.Goals as goal
 
 pub numbering-preserved : goal.numbering-preserved
