@@ -11,14 +11,14 @@ use Rattle.machine_state.specs.State.{MachineState}
 use Rattle.mips_isa.specs.Codec.{insn_of}
 use Rattle.mips_isa.specs.Loaded.{first_state}
 use Rattle.mips_isa.specs.Step.{register}
-use Rattle.c_model.specs.declared.tree.Task.{Task}
+use Rattle.assign_tree.specs.declared.task.Task.{Task}
 use Rattle.mips_isa.specs.declared.insn.Insn.{Insn}
 use Rattle.mips_isa.specs.declared.insn.Insn.TheVariants.{Sw}
-use Rattle.c_model.specs.declared.tree.Task.TheVariants.{Pass, Store, Give}
-use Rattle.c_model.specs.declared.tree.Operand.{Operand}
-use Rattle.c_model.specs.declared.tree.Operand.TheVariants.{Object, Constant}
-use Rattle.c_model.specs.declared.tree.Sum.{Sum}
-use Rattle.c_model.specs.declared.tree.Sum.TheVariants.{One, Plus, Minus}
+use Rattle.assign_tree.specs.declared.task.Task.TheVariants.{Pass, Store, Give}
+use Rattle.assign_tree.specs.declared.task.Operand.{Operand}
+use Rattle.assign_tree.specs.declared.task.Operand.TheVariants.{Object, Constant}
+use Rattle.assign_tree.specs.declared.task.Sum.{Sum}
+use Rattle.assign_tree.specs.declared.task.Sum.TheVariants.{One, Plus, Minus}
 use Rattle.assign_run.specs.Code.{place_of, word_code, load_code, operand_code, join_code, two_code, sum_code, store_code, RESULT, task_code, tasks_code}
 use Rattle.obj_file.specs.Image.{IsImage}
 use Rattle.assign_run.specs.Standing.{Ready, Begins, Stands, AT_END, does_ints, object_words, source_state}
@@ -131,7 +131,7 @@ tasks_few objects (task ∷ tasks) = omega (arith, length-append (task_code obje
 same_length : (ws : List ℕ) (is : List Insn) → map insn_of ws ≡ map Some is → length ws ≡ length is
 same_length ws is e = sym (length-map ws insn_of) ∙ ap (λ xs. length xs) e ∙ length-map is Some
 
-pub text_length : (objects : ℕ) (tasks : List Task) (ws : List ℕ) → map insn_of ws ≡ map Some (tasks_code objects tasks ++ AT_END) → length tasks ≤ 65537
+pub text_length : (objects : ℕ) (tasks : List Task) (ws : List ℕ) → map insn_of ws ≡ map Some (tasks_code objects tasks ++ AT_END) → length tasks ≤ 131072
     → (0 < length ws) × (length ws < 2 ^ 22)
 text_length objects tasks ws e h =
     let n : length ws ≡ length (tasks_code objects tasks) + 1 = same_length ws (tasks_code objects tasks ++ AT_END) e ∙ length-append (tasks_code objects tasks) AT_END in
@@ -166,7 +166,7 @@ image_fits ws text statics t s some few =
 -- ---- a new run
 
 pub run_is_ready : (control : List Task) (ws view : List ℕ) (objects : ℕ) (m : MachineState) → map insn_of ws ≡ map Some (tasks_code objects control ++ AT_END)
-    → list_all does_ints control ≡ true → length control ≤ 65537 → objects ≤ 65536 → view ≡ ws → Begins view m → Ready control ws 0 objects m
+    → list_all does_ints control ≡ true → length control ≤ 131072 → objects ≤ 65536 → view ≡ ws → Begins view m → Ready control ws 0 objects m
 run_is_ready control ws view objects m code ints tasks few same begun =
     let b : Begins ws m = subst (λ (v : List ℕ). Begins v m) same begun in
     subst (Ready control ws 0 objects) (sym b.machine)

@@ -6,7 +6,7 @@ use Rattle.ldb_words.specs.declared.event.Outside.{Outside}
 use Rattle.machine_state.specs.Regions.{read_of}
 use Rattle.machine_state.specs.State.{MachineState}
 use Rattle.machine_state.proofs.Words.{length_words_bytes}
-use Rattle.c_model.specs.declared.tree.Task.{Task}
+use Rattle.assign_tree.specs.declared.task.Task.{Task}
 use Rattle.assign_run.specs.Code.{place_of}
 use Rattle.assign_run.specs.Standing.{Ready, object_words}
 use Rattle.assign_run.proofs.DataWords.{word_at, length-words_in}

@@ -8,13 +8,13 @@ use Rattle.ldb_words.specs.Word.{signed}
 use Rattle.ldb_words.specs.declared.kinds.Undef.{Undef}
 use Rattle.machine_state.specs.State.{MachineState}
 use Rattle.mips_isa.specs.Step.{register, step_of, moved}
-use Rattle.c_model.specs.declared.tree.Operand.{Operand}
-use Rattle.c_model.specs.declared.tree.Operand.TheVariants.{Object, Constant}
-use Rattle.c_model.specs.declared.tree.Sum.{Sum}
-use Rattle.c_model.specs.declared.tree.Sum.TheVariants.{One, Plus, Minus}
-use Rattle.c_model.specs.declared.tree.Task.{Task}
-use Rattle.c_model.specs.declared.tree.Task.TheVariants.{Pass, Store, Give}
-use Rattle.c_model.specs.declared.tree.Place.{Place}
+use Rattle.assign_tree.specs.declared.task.Operand.{Operand}
+use Rattle.assign_tree.specs.declared.task.Operand.TheVariants.{Object, Constant}
+use Rattle.assign_tree.specs.declared.task.Sum.{Sum}
+use Rattle.assign_tree.specs.declared.task.Sum.TheVariants.{One, Plus, Minus}
+use Rattle.assign_tree.specs.declared.task.Task.{Task}
+use Rattle.assign_tree.specs.declared.task.Task.TheVariants.{Pass, Store, Give}
+use Rattle.assign_tree.specs.declared.task.Place.{Place}
 use Rattle.assign_tree.specs.Tasks.{state, Goes, Passes, next, stored, given, operand_value, sum_value}
 use Rattle.assign_run.specs.declared.run.Step.{Step}
 use Rattle.assign_run.specs.declared.run.Step.TheVariants.{Went}

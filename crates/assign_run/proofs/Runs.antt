@@ -1,8 +1,8 @@
 -- Runs that go on from a later state.
 use Rattle.std.proofs.Common.{◌≡◌, ◌⊎◌, inl, inr, subst, sym, refl}
-use Rattle.c_model.specs.declared.tree.Place.{Place}
-use Rattle.c_model.specs.declared.event.Event.{Event}
-use Rattle.c_model.specs.declared.event.Event.TheVariants.{Stop, Exit}
+use Rattle.assign_tree.specs.declared.task.Place.{Place}
+use Rattle.assign_tree.specs.declared.task.Event.{Event}
+use Rattle.assign_tree.specs.declared.task.Event.TheVariants.{Stop, Exit}
 use Rattle.assign_tree.specs.Tasks.{State, Next, Goes, Passes, Exits, Undefined, next, RunsTo, stops, exits, goes, RunsToUndefined, undefined, undefined_later}
 use Rattle.assign_run.specs.declared.run.Step.TheVariants.{Went, Passed, Exited}
 use Rattle.assign_run.specs.Steps.{IsStep}

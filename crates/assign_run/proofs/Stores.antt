@@ -12,7 +12,7 @@ use Rattle.machine_state.proofs.Words.{length-bytes_of}
 use Rattle.mips_isa.specs.declared.insn.Insn.{Insn}
 use Rattle.mips_isa.specs.declared.insn.Insn.TheVariants.{Sw, Addu}
 use Rattle.mips_isa.specs.Step.{Outcome, register, moved, writes, stores, address, act, step_of}
-use Rattle.c_model.specs.declared.tree.Sum.{Sum}
+use Rattle.assign_tree.specs.declared.task.Sum.{Sum}
 use Rattle.assign_run.specs.Code.{place_of, word_code, sum_code, store_code}
 use Rattle.assign_run.specs.Standing.{Stands, Fits, stepped, object_words}
 use Rattle.assign_run.proofs.DataWords.{words_in-overwritten, length-words_in}

@@ -11,10 +11,10 @@ use Rattle.machine_state.proofs.Words.{length_words_bytes}
 use Rattle.mips_isa.specs.declared.insn.Insn.{Insn}
 use Rattle.mips_isa.specs.declared.insn.Insn.TheVariants.{Addu, Subu}
 use Rattle.mips_isa.specs.Step.{register, writes, act, step_of, is_hazard, sources}
-use Rattle.c_model.specs.declared.tree.Operand.{Operand}
-use Rattle.c_model.specs.declared.tree.Operand.TheVariants.{Object, Constant}
-use Rattle.c_model.specs.declared.tree.Sum.{Sum}
-use Rattle.c_model.specs.declared.tree.Sum.TheVariants.{One, Plus, Minus}
+use Rattle.assign_tree.specs.declared.task.Operand.{Operand}
+use Rattle.assign_tree.specs.declared.task.Operand.TheVariants.{Object, Constant}
+use Rattle.assign_tree.specs.declared.task.Sum.{Sum}
+use Rattle.assign_tree.specs.declared.task.Sum.TheVariants.{One, Plus, Minus}
 use Rattle.assign_run.specs.Code.{NO_OP, place_of, word_code, load_code, operand_code, sum_code}
 use Rattle.assign_run.specs.Standing.{Stands, Fits, stepped, object_words}
 use Rattle.assign_run.proofs.DataWords.{word_at, length-words_in}

@@ -10,12 +10,12 @@ use Rattle.machine_state.specs.State.{MachineState, no_facts}
 use Rattle.mips_isa.specs.Codec.{insn_of}
 use Rattle.mips_isa.specs.Loaded.{first_state}
 use Rattle.mips_isa.specs.Step.{step_of, register}
-use Rattle.c_model.specs.declared.tree.Operand.{Operand}
-use Rattle.c_model.specs.declared.tree.Operand.TheVariants.{Object, Constant}
-use Rattle.c_model.specs.declared.tree.Sum.{Sum}
-use Rattle.c_model.specs.declared.tree.Sum.TheVariants.{One, Plus, Minus}
-use Rattle.c_model.specs.declared.tree.Task.{Task}
-use Rattle.c_model.specs.declared.tree.Task.TheVariants.{Pass, Store, Give}
+use Rattle.assign_tree.specs.declared.task.Operand.{Operand}
+use Rattle.assign_tree.specs.declared.task.Operand.TheVariants.{Object, Constant}
+use Rattle.assign_tree.specs.declared.task.Sum.{Sum}
+use Rattle.assign_tree.specs.declared.task.Sum.TheVariants.{One, Plus, Minus}
+use Rattle.assign_tree.specs.declared.task.Task.{Task}
+use Rattle.assign_tree.specs.declared.task.Task.TheVariants.{Pass, Store, Give}
 use Rattle.assign_tree.specs.Tasks.{State, state}
 use Rattle.mips_isa.specs.declared.insn.Insn.{Insn}
 use Rattle.assign_run.specs.Code.{NO_OP, tasks_code}

@@ -1,7 +1,7 @@
 -- What the answer of a step says of the source's step.
 use Rattle.std.specs.Prelude.{◌≡◌}
-use Rattle.c_model.specs.declared.tree.Task.{Task}
-use Rattle.c_model.specs.declared.tree.Task.TheVariants.{Pass, Store, Give}
+use Rattle.assign_tree.specs.declared.task.Task.{Task}
+use Rattle.assign_tree.specs.declared.task.Task.TheVariants.{Pass, Store, Give}
 use Rattle.assign_tree.specs.Tasks.{State, Next, Goes, Passes, Exits, Undefined}
 use Rattle.assign_run.specs.declared.run.Step.{Step}
 use Rattle.assign_run.specs.declared.run.Step.TheVariants.{Went, Passed, Exited}

@@ -10,8 +10,8 @@ ghost use Rattle.mips_isa.specs.Codec.{insn_of};
 ghost use Rattle.assign_run.specs.Code.{NO_OP, place_of, word_code, load_code, operand_code, join_code, two_code, RESULT, sum_code, store_code, task_code, tasks_code};
 ghost use Rattle.assign_run.specs.Standing.{is_int_operand, has_ints, does_ints, AT_END};
 
+use assign_tree::{Operand, Sum, Task};
 use byteorder::{ByteOrder, LittleEndian};
-use c_model::{Operand, Sum, Task};
 use machine_state::DATA;
 use mips_isa::{Insn, Register, ShiftAmount, encode};
 use std::alloc::{AllocError, Global};

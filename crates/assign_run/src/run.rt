@@ -2,11 +2,13 @@
 ghost use Rattle.std.specs.Prelude.{◌≡◌, ◌<◌, ◌≤◌, ◌⊎◌, ◌*◌, ◌^◌, [], ◌∷◌, length, slice_index, IfOk, MatchOption};
 ghost use Rattle.assign_tree.specs.Tasks.{object_value, first_state, next, RunsTo, RunsToUndefined};
 ghost use Rattle.assign_tree.specs.Stands.{ComesTo, Fails};
+ghost use Rattle.assign_tree.specs.Made.{names_of, tasks_of, assigns_of};
 ghost use Rattle.assign_run.specs.Steps.{IsStep, kind_of};
 ghost use Rattle.assign_run.specs.Standing.{stepped, object_words, Begins};
 
 use crate::code::{place_of, task_length, text_bytes, text_words};
-use c_model::{Event, Place, Program, Task};
+use assign_tree::{Event, Place, Task};
+use c_tree::Program;
 use machine_state::{MIPS, TEXT};
 use mips_sim::Machine;
 use obj_file::Image;
@@ -105,18 +107,18 @@ fn kind_of(task: Task) -> Step
 }
 
 impl<'a> Run<'a> {
-    /// The program before `main`.
-    pub fn new(alloc: Global, program: &'a Program) -> Result<Run<'a>, AllocError>
-        requires objects { length program.now.objects ≤ 65536 }
-        requires tasks { length program.now.body ≤ 65537 }
-        ensures { IfOk result (λ run. run ≡ first_state program.now) }
+    /// The program before `main`. Its tasks are those that its tree makes.
+    pub fn new(alloc: Global, program: &Program, tasks: &'a [Task]) -> Result<Run<'a>, AllocError>
+        requires tasks { tasks.now ≡ tasks_of program.now }
+        requires few { length tasks.now ≤ 131072 }
+        requires objects { length (names_of program.now) ≤ 65536 }
+        ensures { IfOk result (λ run. run ≡ first_state (assigns_of program.now)) }
     {
-        let control = program.body.as_slice();
         let objects = program.objects.len();
-        let words = text_words(alloc, objects, control)?;
+        let words = text_words(alloc, objects, tasks)?;
         let machine = machine_of(alloc, &words)?;
         Ok(Run {
-            control,
+            control: tasks,
             words,
             at: 0,
             objects,

@@ -3,10 +3,10 @@ use Rattle.std.proofs.Common.{◌≡◌, refl, sym, ap, ◌∙◌, subst, ℕ, z
 use Rattle.ldb_words.specs.Arithmetic.{is_int}
 use Rattle.std.proofs.lemmas.List.{length-replicate}
 use Rattle.std.specs.List.{list_all}
-use Rattle.c_model.specs.declared.tree.Task.{Task}
-use Rattle.c_model.specs.declared.tree.Task.TheVariants.{Pass}
-use Rattle.c_model.specs.declared.event.Event.{Event}
-use Rattle.c_model.specs.declared.event.Event.TheVariants as event
+use Rattle.assign_tree.specs.declared.task.Task.{Task}
+use Rattle.assign_tree.specs.declared.task.Task.TheVariants.{Pass}
+use Rattle.assign_tree.specs.declared.task.Event.{Event}
+use Rattle.assign_tree.specs.declared.task.Event.TheVariants as event
 use Rattle.assign_tree.specs.Tasks as small
 use Rattle.assign_tree.specs.Tasks.{State as Left, state}
 use Rattle.c_tree.specs.declared.typed.Stmt.{Stmt}
@@ -18,7 +18,8 @@ use Rattle.c_store.specs.Store.{World}
 use Rattle.c_store.specs.Frames.{new_place}
 use Rattle.c_source.specs.Control.{State, Stop, Open, runs_of}
 use Rattle.c_source.specs.Begin.{begin, static_objects, world_at_first}
-use Rattle.assign_tree.specs.Spelled.{object_rows, site_at, program_with, IsBody, block}
+use Rattle.assign_tree.specs.Assigning.{site_at, program_with, IsBody, block}
+use Rattle.c_model.specs.Rows.{object_rows}
 use Rattle.assign_tree.specs.Stands.{int_objects, at_point, BEHIND, Facts, opening}
 use Rattle.assign_tree.proofs.Resumes.{Resumed, pass_runs, pass_defined}
 use Rattle.assign_tree.proofs.Runs.{meets_stop}

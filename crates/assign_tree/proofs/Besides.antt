@@ -1,5 +1,5 @@
 -- What the tasks come to, each program beside them comes to.
-use Rattle.c_model.specs.declared.event.Event.{Event}
+use Rattle.assign_tree.specs.declared.task.Event.{Event}
 use Rattle.assign_tree.specs.Tasks.{State, RunsTo, RunsToUndefined}
 use Rattle.assign_tree.specs.Stands.{beginning, stopping, ComesTo, Fails}
 use Rattle.assign_tree.proofs.Resumes.{resumed, fails}

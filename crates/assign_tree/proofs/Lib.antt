@@ -5,7 +5,9 @@ pub mod Resumes
 pub mod Begins
 pub mod Numbered
 pub mod Words
-pub mod Exists
+pub mod Forms
+pub mod Spells
 pub mod Scope
 pub mod Standing
 pub mod Besides
+pub mod Blocks

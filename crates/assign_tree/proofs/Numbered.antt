@@ -1,11 +1,11 @@
 -- The stopping points of `main` are those that its tree keeps.
 use Rattle.std.proofs.Common.{◌≡◌, refl, sym, ap, ◌∙◌, ℕ, suc, List, [], ◌∷◌, ◌++◌}
-use Rattle.c_model.specs.declared.tree.Place.{Place}
-use Rattle.c_model.specs.declared.tree.Task.{Task}
+use Rattle.assign_tree.specs.declared.task.Place.{Place}
+use Rattle.assign_tree.specs.declared.task.Task.{Task}
 use Rattle.c_tree.specs.declared.typed.Stmt.{Stmt, Row_of-Stmt, end_of-Stmt, more_of-Stmt}
 use Rattle.c_tree.specs.Rows.{stmts}
 use Rattle.c_tree.specs.Points.{points_in, points_in_row, HasItsPoints}
-use Rattle.assign_tree.specs.Spelled.{numbers_from, main_of, AreStatements, assigns, returns, IsBody, block}
+use Rattle.assign_tree.specs.Assigning.{numbers_from, main_of, AreStatements, assigns, returns, IsBody, block}
 
 abbrev points_of_all : List Stmt → List ℕ
 points_of_all [] = []

@@ -7,13 +7,13 @@ use Rattle.ldb_words.specs.Arithmetic.{is_int}
 use Rattle.ldb_words.specs.Word.{word_of_signed}
 use Rattle.ldb_words.specs.declared.kinds.Undef.{Undef}
 use Rattle.ldb_words.specs.declared.kinds.Kind.TheVariants.{Word}
-use Rattle.c_model.specs.declared.tree.Place.{Place}
-use Rattle.c_model.specs.declared.tree.Sum.{Sum}
-use Rattle.c_model.specs.declared.tree.Sum.TheVariants.{One, Plus, Minus}
-use Rattle.c_model.specs.declared.tree.Task.{Task}
-use Rattle.c_model.specs.declared.tree.Task.TheVariants.{Pass, Store, Give}
-use Rattle.c_model.specs.declared.event.Event.{Event}
-use Rattle.c_model.specs.declared.event.Event.TheVariants as event
+use Rattle.assign_tree.specs.declared.task.Place.{Place}
+use Rattle.assign_tree.specs.declared.task.Sum.{Sum}
+use Rattle.assign_tree.specs.declared.task.Sum.TheVariants.{One, Plus, Minus}
+use Rattle.assign_tree.specs.declared.task.Task.{Task}
+use Rattle.assign_tree.specs.declared.task.Task.TheVariants.{Pass, Store, Give}
+use Rattle.assign_tree.specs.declared.task.Event.{Event}
+use Rattle.assign_tree.specs.declared.task.Event.TheVariants as event
 use Rattle.assign_tree.specs.Tasks as small
 use Rattle.assign_tree.specs.Tasks.{State as Left, state, operand_value, sum_value}
 use Rattle.c_tree.specs.declared.types.CType.TheVariants.{Int}
@@ -31,7 +31,7 @@ use Rattle.c_source.specs.Source.{step}
 use Rattle.c_source.specs.Meaning.{Given, assigned}
 use Rattle.c_source.specs.Leads.{Leads}
 use Rattle.c_source.proofs.Evaluates.{eval_leads, assign_leads}
-use Rattle.assign_tree.specs.Spelled.{point_row, point_rows, numbers_from, assignment, program_with, IsSum, AreStatements, assigns, returns, IsBody, block}
+use Rattle.assign_tree.specs.Assigning.{point_row, point_rows, numbers_from, assignment, program_with, IsSum, AreStatements, assigns, returns, IsBody, block}
 use Rattle.assign_tree.specs.Stands.{int_objects, at_point, BEHIND, Facts, Stands, opening, assigning, returning, closing, Answers}
 use Rattle.assign_tree.proofs.Objects.{object_here, object_set_here, store_int, ints_set, length_set}
 use Rattle.assign_tree.proofs.Sums.{meant, symbol_here, signed_word, checked_int, one_int, sum_plain, sum_means}

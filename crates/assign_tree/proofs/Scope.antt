@@ -5,14 +5,15 @@ use Rattle.std.proofs.lemmas.Option.{slice_get_within}
 use Rattle.std.specs.Prelude.{slice_get, codes, if◌then◌else◌}
 use Rattle.std.specs.Str.{bytes_eq}
 use Rattle.c_model.specs.Names.{is_name, is_function}
-use Rattle.c_model.specs.declared.tree.Place.{Place}
-use Rattle.c_model.specs.declared.tree.Task.{Task}
+use Rattle.assign_tree.specs.declared.task.Place.{Place}
+use Rattle.assign_tree.specs.declared.task.Task.{Task}
 use Rattle.c_tree.specs.declared.types.CType.TheVariants.{Int, Void}
 use Rattle.c_tree.specs.declared.rows.SymbolRow.{SymbolRow}
 use Rattle.c_tree.specs.declared.rows.Referent.TheVariants as refers
 use Rattle.c_tree.specs.declared.typed.Stmt.{Stmt}
 use Rattle.c_source.specs.Names.{named, named_in}
-use Rattle.assign_tree.specs.Spelled.{symbols_from, symbols_of, object_symbol, main_symbol, point_row, point_rows, program_with, AreNames}
+use Rattle.assign_tree.specs.Assigning.{point_row, point_rows, program_with, AreNames}
+use Rattle.c_model.specs.Rows.{symbols_from, symbols_of, object_symbol, main_symbol}
 use Rattle.assign_tree.proofs.Words.{by_bool, same_bytes, bytes_same, bytes_differ}
 use Rattle.assign_tree.proofs.Sums.{symbol_at, symbol_here, main_at}
 

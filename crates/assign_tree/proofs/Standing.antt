@@ -3,12 +3,12 @@ use Rattle.std.proofs.Common.{◌≡◌, refl, ℕ, List, length, Some, true}
 use Rattle.std.specs.Prelude.{slice_get}
 use Rattle.std.specs.List.{list_all}
 use Rattle.ldb_words.specs.Arithmetic.{is_int}
-use Rattle.c_model.specs.declared.tree.Place.{Place}
-use Rattle.c_model.specs.declared.tree.Task.{Task}
+use Rattle.assign_tree.specs.declared.task.Place.{Place}
+use Rattle.assign_tree.specs.declared.task.Task.{Task}
 use Rattle.assign_tree.specs.Tasks.{State as Left}
 use Rattle.c_store.specs.Store.{Value}
 use Rattle.c_source.specs.Control.{State, Item}
-use Rattle.assign_tree.specs.Spelled.{point_row, point_rows}
+use Rattle.assign_tree.specs.Assigning.{point_row, point_rows}
 use Rattle.assign_tree.specs.Stands.{at_point, Stands, opening, assigning, returning, closing}
 
 pub record Stop (names : List (List ℕ)) (tasks : List Task) (left : Left) (s : State) : Type 0 where

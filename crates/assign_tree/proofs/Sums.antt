@@ -8,10 +8,10 @@ use Rattle.ldb_words.specs.Arithmetic.{is_int, checked}
 use Rattle.ldb_words.specs.Word.{signed, word_of_signed}
 use Rattle.ldb_words.specs.declared.kinds.Undef.{Undef}
 use Rattle.ldb_words.specs.declared.kinds.Undef.TheVariants.{Overflow}
-use Rattle.c_model.specs.declared.tree.Operand.{Operand}
-use Rattle.c_model.specs.declared.tree.Sum.{Sum}
-use Rattle.c_model.specs.declared.tree.Sum.TheVariants.{One}
-use Rattle.c_model.specs.declared.tree.Task.{Task}
+use Rattle.assign_tree.specs.declared.task.Operand.{Operand}
+use Rattle.assign_tree.specs.declared.task.Sum.{Sum}
+use Rattle.assign_tree.specs.declared.task.Sum.TheVariants.{One}
+use Rattle.assign_tree.specs.declared.task.Task.{Task}
 use Rattle.assign_tree.specs.Tasks.{operand_value, sum_value}
 use Rattle.c_tree.specs.declared.types.CType.TheVariants.{Int}
 use Rattle.c_tree.specs.declared.types.StructDef.{StructDef}
@@ -25,7 +25,8 @@ use Rattle.c_store.specs.Store.{Value, Number, World}
 use Rattle.c_store.specs.Frames.{Here}
 use Rattle.c_source.specs.Operators.{combined}
 use Rattle.c_source.specs.Meaning.{value_of, IsPlain}
-use Rattle.assign_tree.specs.Spelled.{symbols_from, object_symbol, main_symbol, program_with, IsOperand, name, constant, IsSum, one, plus, minus}
+use Rattle.assign_tree.specs.Assigning.{program_with, IsOperand, name, constant, IsSum, one, plus, minus}
+use Rattle.c_model.specs.Rows.{symbols_from, object_symbol, main_symbol}
 use Rattle.assign_tree.specs.Stands.{at_point}
 use Rattle.assign_tree.proofs.Objects.{object_here, load_int, int_at}
 
@@ -65,6 +66,9 @@ int_fits (negsuc n) e = record { sfits = ltb-true n (2 ^ 31) e }
 
 pub signed_word : (z : ℤ) → is_int z ≡ true → signed (word_of_signed z) ≡ z
 signed_word z e = to_z-of_z w32 z (int_fits z e)
+
+pub signed_small : (n : ℕ) → n < 2147483648 → signed n ≡ pos n
+signed_small n l = signed_word (pos n) (lt-ltb n (2 ^ 31) l)
 
 -- what is checked is an `int`
 pub checked_int : (x z : ℤ) → checked x ≡ Ok z → is_int z ≡ true

@@ -6,7 +6,9 @@ use Rattle.std.specs.Prelude.{slice_get}
 use Rattle.std.specs.List.{position_from}
 use Rattle.std.specs.Str.{bytes_eq}
 use Rattle.c_model.specs.Names.{is_name, object_of}
-use Rattle.assign_tree.specs.Spelled.{AreNames}
+use Rattle.c_tree.specs.declared.rows.ObjectRow.{ObjectRow}
+use Rattle.assign_tree.specs.Assigning.{AreNames}
+use Rattle.assign_tree.specs.Made.{names_in}
 
 pub by_bool : {A : Type 0} (b : Bool) → (b ≡ true → A) → (b ≡ false → A) → A
 by_bool true f g = f refl
@@ -79,3 +81,8 @@ one_more names v are name new = record {
     | inr d ↦ elim (at_end names v w k g) [ inl m ↦ absurd (object_absent names v k new (m ∙ ap Some (sym d.1))) | inr e ↦ d.0 ∙ sym e.0 ]
   ];
 }
+
+-- each object has a name
+pub names_count : (objects : List ObjectRow) → length (names_in objects) ≡ length objects
+names_count [] = refl
+names_count (o ∷ objects) = ap suc (names_count objects)

@@ -1,3 +1,4 @@
-pub mod Spelled
+pub mod Made
+pub mod Assigning
 pub mod Stands
 pub mod Tasks

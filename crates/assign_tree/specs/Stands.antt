@@ -6,12 +6,12 @@ use Rattle.ldb_words.specs.Arithmetic.{is_int}
 use Rattle.ldb_words.specs.Word.{word_of_signed}
 use Rattle.ldb_words.specs.declared.kinds.Undef.{Undef}
 use Rattle.ldb_words.specs.declared.kinds.Kind.TheVariants.{Word}
-use Rattle.c_model.specs.declared.tree.Place.{Place}
-use Rattle.c_model.specs.declared.tree.Sum.{Sum}
-use Rattle.c_model.specs.declared.tree.Task.{Task}
-use Rattle.c_model.specs.declared.tree.Task.TheVariants.{Pass, Store, Give}
-use Rattle.c_model.specs.declared.event.Event.{Event}
-use Rattle.c_model.specs.declared.event.Event.TheVariants as event
+use Rattle.assign_tree.specs.declared.task.Place.{Place}
+use Rattle.assign_tree.specs.declared.task.Sum.{Sum}
+use Rattle.assign_tree.specs.declared.task.Task.{Task}
+use Rattle.assign_tree.specs.declared.task.Task.TheVariants.{Pass, Store, Give}
+use Rattle.assign_tree.specs.declared.task.Event.{Event}
+use Rattle.assign_tree.specs.declared.task.Event.TheVariants as event
 use Rattle.assign_tree.specs.Tasks.{State as Left, state}
 use Rattle.c_tree.specs.declared.types.CType.TheVariants.{Int}
 use Rattle.c_tree.specs.declared.typed.Site.{Site}
@@ -23,7 +23,7 @@ use Rattle.c_store.specs.Store.{Object, Value, Number, Static}
 use Rattle.c_source.specs.Control.{State, Item, Eval, Convert, Discard, Push, Open, GiveBack, Leave, runs_of, last_of}
 use Rattle.c_source.specs.Begin.{begin}
 use Rattle.c_source.specs.Source.{step}
-use Rattle.assign_tree.specs.Spelled.{point_row, point_rows, numbers_from, assignment, program_with, IsSum, AreStatements, IsBody}
+use Rattle.assign_tree.specs.Assigning.{point_row, point_rows, numbers_from, assignment, program_with, IsSum, AreStatements, IsBody}
 
 -- ---- the state
 

@@ -3,16 +3,16 @@ use Rattle.std.specs.Prelude.{◌≡◌, ℕ, ℤ, pos, ◌+ℤ◌, ◌-ℤ◌, 
 use Rattle.std.specs.List.{slice_index_or}
 use Rattle.ldb_words.specs.Arithmetic.{checked}
 use Rattle.ldb_words.specs.declared.kinds.Undef.{Undef}
-use Rattle.c_model.specs.declared.tree.Place.{Place}
-use Rattle.c_model.specs.declared.tree.Operand.{Operand}
-use Rattle.c_model.specs.declared.tree.Operand.TheVariants.{Object, Constant}
-use Rattle.c_model.specs.declared.tree.Sum.{Sum}
-use Rattle.c_model.specs.declared.tree.Sum.TheVariants.{One, Plus, Minus}
-use Rattle.c_model.specs.declared.tree.Task.{Task}
-use Rattle.c_model.specs.declared.tree.Task.TheVariants.{Pass, Store, Give}
-use Rattle.c_model.specs.declared.tree.Program.{Program}
-use Rattle.c_model.specs.declared.event.Event.{Event}
-use Rattle.c_model.specs.declared.event.Event.TheVariants.{Stop, Exit}
+use Rattle.assign_tree.specs.declared.task.Place.{Place}
+use Rattle.assign_tree.specs.declared.task.Operand.{Operand}
+use Rattle.assign_tree.specs.declared.task.Operand.TheVariants.{Object, Constant}
+use Rattle.assign_tree.specs.declared.task.Sum.{Sum}
+use Rattle.assign_tree.specs.declared.task.Sum.TheVariants.{One, Plus, Minus}
+use Rattle.assign_tree.specs.declared.task.Task.{Task}
+use Rattle.assign_tree.specs.declared.task.Task.TheVariants.{Pass, Store, Give}
+use Rattle.assign_tree.specs.Made.{Tasks}
+use Rattle.assign_tree.specs.declared.task.Event.{Event}
+use Rattle.assign_tree.specs.declared.task.Event.TheVariants.{Stop, Exit}
 
 -- what is left to be done, the values of the objects, and the result so far
 pub record State : Type 0 where
@@ -24,8 +24,8 @@ abbrev pub state : List Task → List ℤ → ℤ → State
 state control values status = record { control = control; values = values; status = status }
 
 -- before `main` each object holds 0
-abbrev pub first_state : Program → State
-first_state program = state program.body (replicate (length program.objects) (pos 0)) (pos 0)
+abbrev pub first_state : Tasks → State
+first_state tasks = state tasks.body (replicate (length tasks.objects) (pos 0)) (pos 0)
 
 -- the value of the object of this number
 abbrev pub object_value : List ℤ → ℕ → ℤ

@@ -1,16 +1,21 @@
 // What holds of programs of assignments.
 ghost use Rattle.std.specs.Prelude.{◌≡◌, ℕ, List};
-ghost use Rattle.c_model.specs.declared.tree.Task.{Task};
-ghost use Rattle.c_model.specs.declared.tree.Program.{Program as Tasks};
-ghost use Rattle.c_model.specs.Grammar.{Accepted, reading_of};
+ghost use Rattle.c_model.specs.Grammar.{Body, Accepted, reading_of};
+ghost use Rattle.c_model.specs.Spelled.{IsSpelled};
 ghost use Rattle.c_tree.specs.declared.rows.Program.{Program};
 ghost use Rattle.c_tree.specs.Points.{HasItsPoints};
 ghost use Rattle.c_tree.specs.declared.typed.Stmt.{Stmt};
-ghost use Rattle.assign_tree.specs.Spelled.{IsBody, IsSpelled, main_of};
+ghost use Rattle.assign_tree.specs.declared.task.Task.{Task};
+ghost use Rattle.assign_tree.specs.Assigning.{IsBody, IsAssigning, main_of};
 
 /// Each text of the form spells a program.
 pub fn texts_spell_programs()
-    ensures { (file text : List ℕ) (tasks : Tasks) → reading_of text ≡ Accepted tasks → (p : Program) × IsSpelled file tasks p }
+    ensures { (file text : List ℕ) (names : List (List ℕ)) (body : Body) → reading_of text ≡ Accepted names body → (p : Program) × IsSpelled file text p }
+{}
+
+/// What a text spells is a program of assignments.
+pub fn spelled_programs_assign()
+    ensures { (file text : List ℕ) (p : Program) → IsSpelled file text p → IsAssigning p }
 {}
 
 /// The stopping points of `main` are those that its tree keeps.

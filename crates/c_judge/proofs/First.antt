@@ -1,11 +1,10 @@
 -- The first name that is not in scope and the first forbidden form, of calls and of declarators.
-use Rattle.std.proofs.Common.{◌≡◌, ℕ, List, [], ◌∷◌, ◌∙◌, sym, refl, ap, Option, Some, None, Result, Ok, Err}
+use Rattle.std.proofs.Common.{◌≡◌, ℕ, List, [], ◌∷◌, ◌∙◌, sym, refl, ap, Option, Some, None}
 use Rattle.c_lex.specs.declared.token.Place.{Place}
 use Rattle.c_expr.specs.Tree.{Tree, Call, With, Bounded, Unbounded, with_arguments, with_bounds}
 use Rattle.c_judge.specs.Scope.{Scope}
 use Rattle.c_judge.specs.Forms.{first_of, unknown, unknown_all, unknown_bounds, forbidden, forbidden_bounds, forbidden_beside}
-use Rattle.c_judge.specs.Judgement.{judged}
-use Rattle.c_judge.specs.Elaboration.{place_of}
+use Rattle.c_judge.specs.Places.{place_of}
 
 first_assoc : {A : Type 0} (a b c : Option A) → first_of (first_of a b) c ≡ first_of a (first_of b c)
 first_assoc None b c = refl
@@ -46,11 +45,3 @@ beside_with c e (d ∷ es) = beside_with (With c e) d es
 pub beside_call : (at : Place) (f : Tree) (es : List Tree) → forbidden_beside (with_arguments (Call at f) es) ≡ Some at.at
 beside_call at f [] = refl
 beside_call at f (e ∷ es) = beside_with (Call at f) e es
-
-judged_with : (v : Scope) (c e : Tree) (es : List Tree) → judged v (with_arguments (With c e) es) ≡ Err 29
-judged_with v c e [] = refl
-judged_with v c e (d ∷ es) = judged_with v (With c e) d es
-
-pub judged_call : (v : Scope) (at : Place) (f : Tree) (es : List Tree) → judged v (with_arguments (Call at f) es) ≡ Err 29
-judged_call v at f [] = refl
-judged_call v at f (e ∷ es) = judged_with v (Call at f) e es

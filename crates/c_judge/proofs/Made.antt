@@ -1,5 +1,5 @@
 -- A part that is made of checked parts is what the whole expression becomes.
-use Rattle.std.proofs.Common.{◌≡◌, ℕ, List, [], ◌∷◌, ◌∙◌, sym, refl, ap, Result, Ok, Err, Option, Some, None}
+use Rattle.std.proofs.Common.{◌≡◌, ℕ, List, ◌∙◌, sym, refl, ap, subst, Result, Ok, Err}
 use Rattle.c_lex.specs.declared.token.Place.{Place}
 use Rattle.c_symbol.specs.declared.symbol.Access.{Access}
 use Rattle.c_symbol.specs.declared.symbol.Step.{Step}
@@ -7,68 +7,111 @@ use Rattle.c_symbol.specs.declared.symbol.PrefixOp.{PrefixOp}
 use Rattle.c_symbol.specs.declared.symbol.BinaryOp.{BinaryOp}
 use Rattle.c_expr.specs.declared.tree.Spec.{Spec}
 use Rattle.c_expr.specs.Tree.{Tree, Paren, Index, Member, After, Prefix, SizeofType, Cast, Binary, Choice}
+use Rattle.c_tree.specs.declared.types.CType.{CType}
 use Rattle.c_tree.specs.declared.typed.Typed.{Typed}
 use Rattle.c_tree.specs.Types.{head_of}
-use Rattle.c_typing.specs.Plain.{Plain}
+use Rattle.c_typing.specs.Plain.{Plain, plain}
 use Rattle.c_judge.specs.declared.part.Part.{Part}
 use Rattle.c_judge.specs.declared.fault.Fault.{Fault}
-use Rattle.c_judge.specs.declared.fault.Fault.TheVariants.{Rule, NoMemory}
 use Rattle.c_judge.specs.Scope.{Scope, defs_of}
+use Rattle.c_judge.specs.Answers.{Answer, Known, ◌then◌, two, three, both_known}
+use Rattle.c_judge.specs.Places.{place_of}
+use Rattle.c_judge.specs.Pairs.{paired}
 use Rattle.c_judge.specs.Judgement.{Judged, Verdict, judged, declared, spec_type, indexed, stepped, cast_to, sized, chosen_of, member_of, prefixed, joined}
 use Rattle.c_judge.specs.Parts.{judged_of}
-use Rattle.c_judge.specs.Elaboration.{Elaborates, site_of, place_of, type_in, HasHead, IsParen, IsIndex, IsMember, IsAfter, IsChoice, IsCast, IsSizeOfType, IsPrefixed, IsJoined}
-use Rattle.c_judge.specs.Judges.{Judges, Makes}
+use Rattle.c_judge.specs.Elaboration.{Elaborates, site_of, type_in, HasHead, OfOne, OfTwo, OfThree, IsParen, IsIndex, IsMember, IsAfter, IsChoice, IsCast, IsSizeOfType, IsPrefixed, IsJoined}
+use Rattle.c_judge.specs.Judges.{Judges, Makes, IsFault, Gives, Denotes}
+use Rattle.c_judge.proofs.Faults.{then_fails, then_gives, two_fails, two_known, paired_both, pair_gives, judges_gives}
+
+-- what is known of two parts, where both are there
+pub there : (v : Scope) (a : Tree) (r : Result Part Fault) (x : Part) → Judges v a r → r ≡ Ok x → (judged v a ≡ Known (judged_of x)) × Elaborates v a x.typed.value
+there v a r x h e = subst (Judges v a) e h
+
+type_there : (j : Answer Plain) (r : Result CType Fault) (t : CType) → Denotes j r → r ≡ Ok t → j ≡ Known (plain t)
+type_there j r t h e = subst (Gives plain j) e h
 
 module _ (v : Scope) where
   -- its head is the expression's
-  headed : (e : Tree) (at : Place) (p : Part) → place_of e ≡ at → judged v e ≡ Ok (judged_of p) → (head_of p.typed).site ≡ site_of at → HasHead v e p.typed
+  headed : (e : Tree) (at : Place) (p : Part) → place_of e ≡ at → judged v e ≡ Known (judged_of p) → (head_of p.typed.value).site ≡ site_of at → HasHead v e p.typed.value
   headed e at p w j s = (s ∙ ap site_of (sym w), ap type_in j)
 
-  pub paren_judges : (at : Place) (a : Tree) (x : Part) (r : Result Part Fault) → judged v a ≡ Ok (judged_of x) → Elaborates v a x.typed → Makes (Ok (judged_of x)) (IsParen x.typed) at r → Judges v (Paren at a) r
-  paren_judges at a x (Ok p) j l (m, i, s) = let h : judged v (Paren at a) ≡ Ok (judged_of p) = j ∙ m in (h, (headed (Paren at a) at p refl h s, (x.typed, i, l)))
-  paren_judges at a x (Err (Rule n)) j l m = j ∙ m
-  paren_judges at a x (Err NoMemory) j l m = tt
+  -- a form whose parts are there
+  pub made : (e : Tree) (at : Place) (j : Verdict) (P : Typed → Type 0) (r : Result Part Fault) → place_of e ≡ at → judged v e ≡ j → ((z : Typed) → HasHead v e z → P z → Elaborates v e z) → Makes j P at r → Judges v e r
+  made e at j P (Ok p) w h b (m, i, s) = let k : judged v e ≡ Known (judged_of p) = h ∙ m in (k, b p.typed.value (headed e at p w k s) i)
+  made e at j P (Err f) w h b m = subst (λ y. IsFault y f) (sym h) m
 
-  pub member_judges : (at : Place) (a : Tree) (w : Access) (q : Place) (name : List ℕ) (x : Part) (r : Result Part Fault) → judged v a ≡ Ok (judged_of x) → Elaborates v a x.typed → Makes (member_of (defs_of v) w name (judged_of x)) (IsMember (defs_of v) w name x.typed) at r → Judges v (Member at a w q name) r
-  member_judges at a w q name x (Ok p) j l (m, i, s) = let h : judged v (Member at a w q name) ≡ Ok (judged_of p) = rw j m in (h, (headed (Member at a w q name) at p refl h s, (x.typed, i, l)))
-  member_judges at a w q name x (Err (Rule n)) j l m = rw j m
-  member_judges at a w q name x (Err NoMemory) j l m = tt
+  pub paren_judges : (at : Place) (a : Tree) (x : Part) (r : Result Part Fault) → judged v a ≡ Known (judged_of x) → Elaborates v a x.typed.value → Makes (Known (judged_of x)) (IsParen x.typed.value) at r → Judges v (Paren at a) r
+  paren_judges at a x r j l m = made (Paren at a) at _ (IsParen x.typed.value) r refl j (λ z h i. (h, (x.typed.value, i, l))) m
 
-  pub after_judges : (at : Place) (a : Tree) (step : Step) (x : Part) (r : Result Part Fault) → judged v a ≡ Ok (judged_of x) → Elaborates v a x.typed → Makes (stepped (defs_of v) step (judged_of x)) (IsAfter step x.typed) at r → Judges v (After at a step) r
-  after_judges at a step x (Ok p) j l (m, i, s) = let h : judged v (After at a step) ≡ Ok (judged_of p) = rw j m in (h, (headed (After at a step) at p refl h s, (x.typed, i, l)))
-  after_judges at a step x (Err (Rule n)) j l m = rw j m
-  after_judges at a step x (Err NoMemory) j l m = tt
+  pub member_judges : (at : Place) (a : Tree) (w : Access) (q : Place) (name : List ℕ) (x : Part) (r : Result Part Fault) → judged v a ≡ Known (judged_of x) → Elaborates v a x.typed.value → Makes (member_of (defs_of v) at.at w name (judged_of x)) (IsMember (defs_of v) w name x.typed.value) at r → Judges v (Member at a w q name) r
+  member_judges at a w q name x r j l m = made (Member at a w q name) at _ (IsMember (defs_of v) w name x.typed.value) r refl (then_gives (judged v a) (judged_of x) (member_of (defs_of v) at.at w name) j) (λ z h i. (h, (x.typed.value, i, l))) m
 
-  pub prefix_judges : (at : Place) (w : PrefixOp) (a : Tree) (x : Part) (r : Result Part Fault) → judged v a ≡ Ok (judged_of x) → Elaborates v a x.typed → Makes (prefixed (defs_of v) w (judged_of x)) (IsPrefixed w x.typed) at r → Judges v (Prefix at w a) r
-  prefix_judges at w a x (Ok p) j l (m, i, s) = let h : judged v (Prefix at w a) ≡ Ok (judged_of p) = rw j m in (h, (headed (Prefix at w a) at p refl h s, (x.typed, i, l)))
-  prefix_judges at w a x (Err (Rule n)) j l m = rw j m
-  prefix_judges at w a x (Err NoMemory) j l m = tt
+  pub member_fails : (at : Place) (a : Tree) (w : Access) (q : Place) (name : List ℕ) (f : Fault) → IsFault (judged v a) f → IsFault (judged v (Member at a w q name)) f
+  member_fails at a w q name f h = then_fails (judged v a) (member_of (defs_of v) at.at w name) f h
 
-  pub index_judges : (at : Place) (a b : Tree) (x y : Part) (r : Result Part Fault) → judged v a ≡ Ok (judged_of x) → Elaborates v a x.typed → judged v b ≡ Ok (judged_of y) → Elaborates v b y.typed
-      → Makes (indexed (defs_of v) (judged_of x) (judged_of y)) (IsIndex x.typed y.typed) at r → Judges v (Index at a b) r
-  index_judges at a b x y (Ok p) j l k n (m, i, s) = let h : judged v (Index at a b) ≡ Ok (judged_of p) = rw (j, k) m in (h, (headed (Index at a b) at p refl h s, (x.typed, y.typed, i, l, n)))
-  index_judges at a b x y (Err (Rule r)) j l k n m = rw (j, k) m
-  index_judges at a b x y (Err NoMemory) j l k n m = tt
+  pub after_judges : (at : Place) (a : Tree) (step : Step) (x : Part) (r : Result Part Fault) → judged v a ≡ Known (judged_of x) → Elaborates v a x.typed.value → Makes (stepped (defs_of v) at.at step (judged_of x)) (IsAfter step x.typed.value) at r → Judges v (After at a step) r
+  after_judges at a step x r j l m = made (After at a step) at _ (IsAfter step x.typed.value) r refl (then_gives (judged v a) (judged_of x) (stepped (defs_of v) at.at step) j) (λ z h i. (h, (x.typed.value, i, l))) m
 
-  pub binary_judges : (at : Place) (w : BinaryOp) (a b : Tree) (x y : Part) (r : Result Part Fault) → judged v a ≡ Ok (judged_of x) → Elaborates v a x.typed → judged v b ≡ Ok (judged_of y) → Elaborates v b y.typed
-      → Makes (joined (defs_of v) w (judged_of x) (judged_of y)) (IsJoined w x.typed y.typed) at r → Judges v (Binary at w a b) r
-  binary_judges at w a b x y (Ok p) j l k n (m, i, s) = let h : judged v (Binary at w a b) ≡ Ok (judged_of p) = rw (j, k) m in (h, (headed (Binary at w a b) at p refl h s, (x.typed, y.typed, i, l, n)))
-  binary_judges at w a b x y (Err (Rule r)) j l k n m = rw (j, k) m
-  binary_judges at w a b x y (Err NoMemory) j l k n m = tt
+  pub after_fails : (at : Place) (a : Tree) (step : Step) (f : Fault) → IsFault (judged v a) f → IsFault (judged v (After at a step)) f
+  after_fails at a step f h = then_fails (judged v a) (stepped (defs_of v) at.at step) f h
 
-  pub choice_judges : (at : Place) (c a b : Tree) (z x y : Part) (r : Result Part Fault) → judged v c ≡ Ok (judged_of z) → Elaborates v c z.typed → judged v a ≡ Ok (judged_of x) → Elaborates v a x.typed → judged v b ≡ Ok (judged_of y) → Elaborates v b y.typed
-      → Makes (chosen_of (judged_of z) (judged_of x) (judged_of y)) (IsChoice z.typed x.typed y.typed) at r → Judges v (Choice at c a b) r
-  choice_judges at c a b z x y (Ok p) i g j l k n (m, t, s) = let h : judged v (Choice at c a b) ≡ Ok (judged_of p) = rw (i, j, k) m in (h, (headed (Choice at c a b) at p refl h s, (z.typed, x.typed, y.typed, t, g, l, n)))
-  choice_judges at c a b z x y (Err (Rule r)) i g j l k n m = rw (i, j, k) m
-  choice_judges at c a b z x y (Err NoMemory) i g j l k n m = tt
+  pub prefix_judges : (at : Place) (w : PrefixOp) (a : Tree) (x : Part) (r : Result Part Fault) → judged v a ≡ Known (judged_of x) → Elaborates v a x.typed.value → Makes (prefixed (defs_of v) at.at w (judged_of x)) (IsPrefixed w x.typed.value) at r → Judges v (Prefix at w a) r
+  prefix_judges at w a x r j l m = made (Prefix at w a) at _ (IsPrefixed w x.typed.value) r refl (then_gives (judged v a) (judged_of x) (prefixed (defs_of v) at.at w) j) (λ z h i. (h, (x.typed.value, i, l))) m
 
-  pub size_judges : (at : Place) (s : Spec) (d : Tree) (t : Plain) (r : Result Part Fault) → declared v d (spec_type v s) ≡ Ok t → Makes (sized (defs_of v) t) (IsSizeOfType t) at r → Judges v (SizeofType at s d) r
-  size_judges at s d t (Ok p) j (m, i, k) = let h : judged v (SizeofType at s d) ≡ Ok (judged_of p) = rw j m in (h, (headed (SizeofType at s d) at p refl h k, (t, j, i)))
-  size_judges at s d t (Err (Rule n)) j m = rw j m
-  size_judges at s d t (Err NoMemory) j m = tt
+  pub prefix_fails : (at : Place) (w : PrefixOp) (a : Tree) (f : Fault) → IsFault (judged v a) f → IsFault (judged v (Prefix at w a)) f
+  prefix_fails at w a f h = then_fails (judged v a) (prefixed (defs_of v) at.at w) f h
 
-  pub cast_judges : (at : Place) (s : Spec) (d a : Tree) (t : Plain) (x : Part) (r : Result Part Fault) → declared v d (spec_type v s) ≡ Ok t → judged v a ≡ Ok (judged_of x) → Elaborates v a x.typed
-      → Makes (cast_to t (judged_of x)) (IsCast x.typed) at r → Judges v (Cast at s d a) r
-  cast_judges at s d a t x (Ok p) k j l (m, i, n) = let h : judged v (Cast at s d a) ≡ Ok (judged_of p) = rw (k, j) m in (h, (headed (Cast at s d a) at p refl h n, (x.typed, i, l)))
-  cast_judges at s d a t x (Err (Rule r)) k j l m = rw (k, j) m
-  cast_judges at s d a t x (Err NoMemory) k j l m = tt
+  pub size_judges : (at : Place) (s : Spec) (d : Tree) (t : CType) (r : Result Part Fault) → declared v at.at d (Known (spec_type v s)) ≡ Known (plain t) → Makes (sized (defs_of v) at.at (plain t)) (IsSizeOfType (plain t)) at r → Judges v (SizeofType at s d) r
+  size_judges at s d t r j m = made (SizeofType at s d) at _ (IsSizeOfType (plain t)) r refl (then_gives (declared v at.at d (Known (spec_type v s))) (plain t) (sized (defs_of v) at.at) j) (λ z h i. (h, (plain t, j, i))) m
+
+  pub size_fails : (at : Place) (s : Spec) (d : Tree) (f : Fault) → IsFault (declared v at.at d (Known (spec_type v s))) f → IsFault (judged v (SizeofType at s d)) f
+  size_fails at s d f h = then_fails (declared v at.at d (Known (spec_type v s))) (sized (defs_of v) at.at) f h
+
+  pub index_judges : (at : Place) (a b : Tree) (rx ry : Result Part Fault) (x y : Part) (r : Result Part Fault) → Judges v a rx → Judges v b ry → paired rx ry ≡ Ok (x, y)
+      → Makes (indexed (defs_of v) at.at (judged_of x) (judged_of y)) (IsIndex x.typed.value y.typed.value) at r → Judges v (Index at a b) r
+  index_judges at a b rx ry x y r h k p m =
+      let two_there = paired_both rx ry (x, y) p in
+      let (j, l) = there v a rx x h two_there.0 in
+      let (o, n) = there v b ry y k two_there.1 in
+      made (Index at a b) at _ (IsIndex x.typed.value y.typed.value) r refl (two_known (indexed (defs_of v) at.at) (judged v a) (judged v b) _ _ j o) (λ z w i. (w, (x.typed.value, y.typed.value, i, l, n))) m
+
+  pub index_fails : (at : Place) (a b : Tree) (rx ry : Result Part Fault) (f : Fault) → Judges v a rx → Judges v b ry → paired rx ry ≡ Err f → IsFault (judged v (Index at a b)) f
+  index_fails at a b rx ry f h k p = two_fails (indexed (defs_of v) at.at) judged_of judged_of (judged v a) (judged v b) rx ry f (judges_gives v a rx h) (judges_gives v b ry k) p
+
+  pub binary_judges : (at : Place) (w : BinaryOp) (a b : Tree) (rx ry : Result Part Fault) (x y : Part) (r : Result Part Fault) → Judges v a rx → Judges v b ry → paired rx ry ≡ Ok (x, y)
+      → Makes (joined (defs_of v) at.at w (judged_of x) (judged_of y)) (IsJoined w x.typed.value y.typed.value) at r → Judges v (Binary at w a b) r
+  binary_judges at w a b rx ry x y r h k p m =
+      let two_there = paired_both rx ry (x, y) p in
+      let (j, l) = there v a rx x h two_there.0 in
+      let (o, n) = there v b ry y k two_there.1 in
+      made (Binary at w a b) at _ (IsJoined w x.typed.value y.typed.value) r refl (two_known (joined (defs_of v) at.at w) (judged v a) (judged v b) _ _ j o) (λ z q i. (q, (x.typed.value, y.typed.value, i, l, n))) m
+
+  pub binary_fails : (at : Place) (w : BinaryOp) (a b : Tree) (rx ry : Result Part Fault) (f : Fault) → Judges v a rx → Judges v b ry → paired rx ry ≡ Err f → IsFault (judged v (Binary at w a b)) f
+  binary_fails at w a b rx ry f h k p = two_fails (joined (defs_of v) at.at w) judged_of judged_of (judged v a) (judged v b) rx ry f (judges_gives v a rx h) (judges_gives v b ry k) p
+
+  pub cast_judges : (at : Place) (s : Spec) (d a : Tree) (rt : Result CType Fault) (rx : Result Part Fault) (t : CType) (x : Part) (r : Result Part Fault) → Denotes (declared v at.at d (Known (spec_type v s))) rt → Judges v a rx → paired rt rx ≡ Ok (t, x)
+      → Makes (cast_to at.at (plain t) (judged_of x)) (IsCast x.typed.value) at r → Judges v (Cast at s d a) r
+  cast_judges at s d a rt rx t x r h k p m =
+      let two_there = paired_both rt rx (t, x) p in
+      let (o, n) = there v a rx x k two_there.1 in
+      let j = type_there (declared v at.at d (Known (spec_type v s))) rt t h two_there.0 in
+      made (Cast at s d a) at _ (IsCast x.typed.value) r refl (two_known (cast_to at.at) (declared v at.at d (Known (spec_type v s))) (judged v a) _ _ j o) (λ z q i. (q, (x.typed.value, i, n))) m
+
+  pub cast_fails : (at : Place) (s : Spec) (d a : Tree) (rt : Result CType Fault) (rx : Result Part Fault) (f : Fault) → Denotes (declared v at.at d (Known (spec_type v s))) rt → Judges v a rx → paired rt rx ≡ Err f → IsFault (judged v (Cast at s d a)) f
+  cast_fails at s d a rt rx f h k p = two_fails (cast_to at.at) plain judged_of (declared v at.at d (Known (spec_type v s))) (judged v a) rt rx f h (judges_gives v a rx k) p
+
+  pub choice_judges : (at : Place) (c a b : Tree) (rz rx ry : Result Part Fault) (z x y : Part) (r : Result Part Fault) → Judges v c rz → Judges v a rx → Judges v b ry → paired (paired rz rx) ry ≡ Ok ((z, x), y)
+      → Makes (chosen_of at.at (judged_of z) (judged_of x) (judged_of y)) (IsChoice z.typed.value x.typed.value y.typed.value) at r → Judges v (Choice at c a b) r
+  choice_judges at c a b rz rx ry z x y r g h k p m =
+      let (first, last) = paired_both (paired rz rx) ry ((z, x), y) p in
+      let two_there = paired_both rz rx (z, x) first in
+      let (j, l) = there v c rz z g two_there.0 in
+      let (o, n) = there v a rx x h two_there.1 in
+      let (q, i) = there v b ry y k last in
+      let both : two both_known (judged v c) (judged v a) ≡ Known (judged_of z, judged_of x) = two_known both_known (judged v c) (judged v a) _ _ j o in
+      made (Choice at c a b) at _ (IsChoice z.typed.value x.typed.value y.typed.value) r refl (two_known (λ p w. chosen_of at.at p.0 p.1 w) (two both_known (judged v c) (judged v a)) (judged v b) _ _ both q) (λ e w u. (w, (z.typed.value, x.typed.value, y.typed.value, u, l, n, i))) m
+
+  pub choice_fails : (at : Place) (c a b : Tree) (rz rx ry : Result Part Fault) (f : Fault) → Judges v c rz → Judges v a rx → Judges v b ry → paired (paired rz rx) ry ≡ Err f → IsFault (judged v (Choice at c a b)) f
+  choice_fails at c a b rz rx ry f g h k p =
+      two_fails (λ p w. chosen_of at.at p.0 p.1 w) (λ q. (judged_of q.0, judged_of q.1)) judged_of (two both_known (judged v c) (judged v a)) (judged v b) (paired rz rx) ry f
+      (pair_gives judged_of judged_of (judged v c) (judged v a) rz rx (judges_gives v c rz g) (judges_gives v a rx h)) (judges_gives v b ry k) p

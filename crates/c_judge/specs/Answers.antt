@@ -23,7 +23,7 @@ two f (Unknown name) b = Unknown name
 two f (Known x) (Unknown name) = Unknown name
 two f (Known x) (Known y) = f x y
 
-abbrev both_known : {A B : Type 0} → A → B → Answer (A × B)
+abbrev pub both_known : {A B : Type 0} → A → B → Answer (A × B)
 both_known x y = Known (x, y)
 
 -- and of three

@@ -16,7 +16,7 @@ use Rattle.c_judge.specs.declared.scope.Scope.{Scope as Names}
 use Rattle.c_tree.specs.declared.types.CType.{CType}
 
 abbrev pub typed_in : Part → Typed
-typed_in p = p.typed
+typed_in p = p.typed.value
 
 -- what the number of a name calls
 abbrev pub called_by : Scope → Option ℕ → Callee

@@ -1,5 +1,5 @@
 -- What the checker of an expression in a session answers.
-use Rattle.std.specs.Prelude.{◌≡◌, ℕ, not, ◌&&◌, Bool, if◌then◌else◌, Some, None, Result, Ok, Err}
+use Rattle.std.specs.Prelude.{◌≡◌, ℕ, List, not, ◌&&◌, Bool, if◌then◌else◌, Some, None, Result, Ok, Err}
 use Rattle.c_expr.specs.Tree.{Tree}
 use Rattle.c_tree.specs.declared.typed.Typed.{Typed}
 use Rattle.c_typing.specs.Plain.{is_void}
@@ -41,3 +41,9 @@ Checks v m e (Err (fault.Scope name)) = unknown v e ≡ Some name
 Checks v m e (Err (fault.Rule r)) = (unknown v e ≡ None) × Breaks (whole v m e) r
 Checks v m e (Err (fault.Forbidden at)) = (unknown v e ≡ None) × IsKnown (whole v m e) × (forbidden_in m e ≡ Some at)
 Checks v m e (Err fault.NoMemory) = Unit {0}
+
+-- a name that is not in scope
+abbrev pub IsOutOfScope : List ℕ → ExprFault → Type 0
+IsOutOfScope text (fault.Scope name) = name ≡ text
+IsOutOfScope text fault.NoMemory = Unit {0}
+IsOutOfScope text _ = ⊥

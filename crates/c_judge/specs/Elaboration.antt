@@ -123,6 +123,14 @@ abbrev pub IsConstant : ℕ → Typed → Type 0
 IsConstant m (Constant h n) = n ≡ m
 IsConstant m _ = ⊥
 
+abbrev pub IsNamed : ℕ → Typed → Type 0
+IsNamed m (Name h n) = n ≡ m
+IsNamed m _ = ⊥
+
+abbrev pub IsLiteral : ℕ → Typed → Type 0
+IsLiteral m (Literal h n) = n ≡ m
+IsLiteral m _ = ⊥
+
 -- a node that begins at a place
 abbrev pub IsNode : (Typed → Type 0) → Place → Typed → Type 0
 IsNode P at z = ((head_of z).site ≡ site_of at) × P z

@@ -34,7 +34,7 @@ use Rattle.c_judge.specs.declared.part.Constant.{Constant}
 use Rattle.c_judge.specs.declared.part.Constant.TheVariants.{Variable, Undefined, Number}
 use Rattle.c_judge.specs.Scope.{Scope, defs_of, member_number, pointed_number}
 use Rattle.c_judge.specs.Places.{place_of}
-use Rattle.c_judge.specs.Answers.{Answer, Known, Unknown, Broken, ◌then◌, two}
+use Rattle.c_judge.specs.Answers.{Answer, Known, Unknown, Broken, ◌then◌, two, three}
 use Rattle.c_judge.specs.Values.{is_unsigned, size_of, with_one, combined, turned, converted, chosen, both, either, is_null}
 
 -- what is known of an expression: what the rules ask of it as an operand, and what it is as a constant expression
@@ -319,6 +319,9 @@ called asks at f js = result_type asks at f js then λ t. Known (value t)
 abbrev pub Calling : Type 0
 Calling = Callee × List Judged
 
+abbrev pub without_arguments : Callee → Answer Calling
+without_arguments f = Known (f, [])
+
 abbrev pub with_argument : Calling → Judged → Answer Calling
 with_argument s x = Known (s.0, s.1 ++ x ∷ [])
 
@@ -343,7 +346,7 @@ module _ (v : Scope) where
 
     -- what is called, with the arguments so far
     pub calling : Tree → Answer Calling
-    calling (Call at f) = callee v f (judged f) then λ c. Known (c, [])
+    calling (Call at f) = callee v f (judged f) then without_arguments
     calling (With c a) = two with_argument (calling c) (judged a)
     calling _ = Broken 0 0
 

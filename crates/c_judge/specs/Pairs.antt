@@ -1,5 +1,5 @@
 -- Two results as one.
-use Rattle.std.specs.Prelude.{Result, Ok, Err}
+use Rattle.std.specs.Prelude.{ℕ, Result, Ok, Err}
 use Rattle.c_judge.specs.declared.fault.Fault.{Fault}
 use Rattle.c_judge.specs.declared.fault.Fault.TheVariants.{Unknown, Rule, NoMemory}
 
@@ -15,3 +15,13 @@ abbrev pub paired : {A B : Type 0} → Result A Fault → Result B Fault → Res
 paired (Ok x) (Ok y) = Ok (x, y)
 paired (Ok x) (Err f) = Err f
 paired (Err f) y = Err (graver f y)
+
+-- another value in place of one that is there
+abbrev pub dropped : {A B : Type 0} → Result A Fault → B → Result B Fault
+dropped (Ok x) y = Ok y
+dropped (Err f) y = Err f
+
+-- 2. An array has a bound here.
+abbrev pub without_bound : {A : Type 0} → ℕ → Result A Fault → Result A Fault
+without_bound at (Ok t) = Err (Rule 2 at)
+without_bound at (Err f) = Err f

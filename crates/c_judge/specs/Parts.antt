@@ -17,14 +17,14 @@ abbrev pub judged_as : Plain → Facts → Judged
 judged_as t f = record { operand = record { ctype = t; lvalue = f.lvalue; register = f.register; string = f.string; null = is_null f.constant }; constant = f.constant }
 
 abbrev pub judged_of : Part → Judged
-judged_of p = judged_as (plain (type_of p.typed)) p.facts
+judged_of p = judged_as (plain (type_of p.typed.value)) p.facts
 
 abbrev pub operand_of : Part → Operand
 operand_of p = (judged_of p).operand
 
 -- the type of a part's value
 abbrev pub value_of : Part → Plain
-value_of p = value_type (plain (type_of p.typed))
+value_of p = value_type (plain (type_of p.typed.value))
 
 -- a rule's type, or None where it is broken
 abbrev pub Gives : Result (Option CType) AllocError → Option Plain → Type 0

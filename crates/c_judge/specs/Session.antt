@@ -10,8 +10,9 @@ symbol_name s = s.name
 
 abbrev pub session : List Symbol → List StructDef → Scope
 session names defs = record {
-    among = record { names = denoted_all names []; defs = defs; strings = [] };
-    number = first_number (map symbol_name names);
-    tag = tagged defs;
-    literal = λ at. 0;
-    asks = false }
+  among = record { names = denoted_all names []; defs = defs; strings = [] };
+  number = first_number (map symbol_name names);
+  tag = tagged defs;
+  literal = λ at. 0;
+  asks = false;
+}

@@ -1,19 +1,21 @@
 // Calls of checked parts.
-ghost use Rattle.std.specs.Prelude.{◌≡◌, map, option_map, slice_get, IfOk};
+ghost use Rattle.std.specs.Prelude.{◌≡◌, map, option_map, slice_get, IfOk, List, Some, None};
 ghost use Rattle.c_typing.specs.Plain.{plain};
 ghost use Rattle.c_typing.specs.Rules as rule;
 ghost use Rattle.c_judge.specs.Judgement.{are_scalars, operands, name_alone, asked, unasked, result_type, called};
 ghost use Rattle.c_judge.specs.Judges.{Denotes, Judges, Makes, scope_of};
 ghost use Rattle.c_judge.specs.Scope.{Scope as Names};
-ghost use Rattle.c_expr.specs.Tree.{Tree, With};
+ghost use Rattle.c_expr.specs.Tree.{Tree, Call, With, with_arguments};
+ghost use Rattle.c_lex.specs.declared.token.Place.{Place};
 ghost use Rattle.c_judge.specs.Elaboration.{IsCall};
 ghost use Rattle.c_judge.specs.Parts.{judged_of};
-ghost use Rattle.c_judge.specs.Calls.{typed_in, called_by, number_or_none, parameters_by, NamesCallee, IsWith, Gathers};
+ghost use Rattle.c_judge.specs.Pairs.{dropped};
+ghost use Rattle.c_judge.specs.Calls.{typed_in, called_by, number_or_none, parameters_by, NamesCallee, IsWith, Calls, Gathers};
 
 use crate::fault::Fault;
-use crate::leaf::unknown;
-use crate::operators::{VALUE, head};
-use crate::pair::pair;
+use crate::leaf::{number_of, unknown};
+use crate::operators::{VALUE, head, part_of};
+use crate::pairs::pair;
 use crate::part::Part;
 use crate::rules::{converts, type_of};
 use crate::scope::Scope;
@@ -37,10 +39,15 @@ pub struct Calling {
 pub fn takes(parameters: &[CType], arguments: &[Part]) -> bool
     ensures { result ≡ rule.takes (map plain parameters.now) (operands (map judged_of arguments.now)) }
 {
-    match (parameters, arguments) {
-        ([], []) => true,
-        ([t, parameters @ ..], [x, arguments @ ..]) => converts(t, x) && takes(parameters, arguments),
-        _ => false,
+    match parameters {
+        [] => match arguments {
+            [] => true,
+            [_, ..] => false,
+        },
+        [t, parameters @ ..] => match arguments {
+            [] => false,
+            [x, arguments @ ..] => converts(t, x) && takes(parameters, arguments),
+        },
     }
 }
 
@@ -62,7 +69,7 @@ pub fn typed_of(alloc: Global, parts: Vec<Part>) -> Result<Vec<Typed>, AllocErro
 {
     let mut typed = Vec::new(alloc);
     for part in parts {
-        typed.push(part.typed)?;
+        typed.push(Box::into_inner(part.typed))?;
     }
     Ok(typed)
 }
@@ -90,11 +97,11 @@ pub fn name_alone<'a>(e: &'a Expr) -> Option<&'a Text>
     }
 }
 
-/// The function that a number calls: its row, where it is one.
-fn function_by<'a>(v: &Scope<'a>, n: Option<u32>) -> Option<&'a Symbol>
-    ensures { option_map (λ s. (plain s.now.ctype, map plain (parameters_by v.now n))) result ≡ called_by (scope_of v.now) n }
+/// The function with a number: its row, where it is one.
+fn function_at<'a, 'n>(v: &Scope<'a, 'n>, n: u32) -> Option<&'a Symbol>
+    ensures { option_map (λ s. (plain s.now.ctype, map plain (parameters_by v.now (Some n)))) result ≡ called_by (scope_of v.now) (Some n) }
 {
-    match v.rows.get(n? as usize) {
+    match v.rows.get(n as usize) {
         None => None,
         Some(symbol) => {
             if symbol.function {
@@ -105,8 +112,18 @@ fn function_by<'a>(v: &Scope<'a>, n: Option<u32>) -> Option<&'a Symbol>
     }
 }
 
+/// The function that a number calls: its row, where it is one.
+fn function_by<'a, 'n>(v: &Scope<'a, 'n>, n: Option<u32>) -> Option<&'a Symbol>
+    ensures { option_map (λ s. (plain s.now.ctype, map plain (parameters_by v.now n))) result ≡ called_by (scope_of v.now) n }
+{
+    match n {
+        None => None,
+        Some(n) => function_at(v, n),
+    }
+}
+
 /// The parameters of the function that a number calls.
-fn parameters_by<'a>(v: &Scope<'a>, n: Option<u32>) -> &'a [CType]
+fn parameters_by<'a, 'n>(v: &Scope<'a, 'n>, n: Option<u32>) -> &'a [CType]
     ensures { result.now ≡ parameters_by v.now n }
 {
     match n {
@@ -119,9 +136,9 @@ fn parameters_by<'a>(v: &Scope<'a>, n: Option<u32>) -> &'a [CType]
 }
 
 /// The result of a function that takes these arguments.
-fn asked<'a>(
+fn asked<'a, 'n>(
     alloc: Global,
-    v: &Scope<'a>,
+    v: &Scope<'a, 'n>,
     at: Place,
     n: Option<u32>,
     parts: &[Part],
@@ -129,18 +146,24 @@ fn asked<'a>(
     ensures { Denotes (asked at.at (called_by (scope_of v.now) n) (map judged_of parts.now)) result }
 {
     let Some(symbol) = function_by(v, n) else {
-        return Err(Fault::Rule { rule: 29, at: at.at });
+        return Err(Fault::Rule {
+            rule: 29,
+            at: at.at,
+        });
     };
     if !takes(parameters_by(v, n), parts) {
-        return Err(Fault::Rule { rule: 29, at: at.at });
+        return Err(Fault::Rule {
+            rule: 29,
+            at: at.at,
+        });
     }
     Ok(copied(alloc, &symbol.ctype)?)
 }
 
 /// The result of a function whose parameters are not known.
-fn unasked<'a>(
+fn unasked<'a, 'n>(
     alloc: Global,
-    v: &Scope<'a>,
+    v: &Scope<'a, 'n>,
     at: Place,
     n: Option<u32>,
     parts: &[Part],
@@ -148,7 +171,10 @@ fn unasked<'a>(
     ensures { Denotes (unasked at.at (called_by (scope_of v.now) n) (map judged_of parts.now)) result }
 {
     if !are_scalars(parts) {
-        return Err(Fault::Rule { rule: 22, at: at.at });
+        return Err(Fault::Rule {
+            rule: 22,
+            at: at.at,
+        });
     }
     match function_by(v, n) {
         None => Ok(CType::Int),
@@ -157,9 +183,9 @@ fn unasked<'a>(
 }
 
 /// The result of a call; its rule is asked where the parameters are known.
-fn result_of<'a>(
+fn result_of<'a, 'n>(
     alloc: Global,
-    v: &Scope<'a>,
+    v: &Scope<'a, 'n>,
     at: Place,
     n: Option<u32>,
     parts: &[Part],
@@ -173,9 +199,9 @@ fn result_of<'a>(
 }
 
 /// A call of what is called with checked arguments.
-pub fn called<'a>(
+pub fn called<'a, 'n>(
     alloc: Global,
-    v: &Scope<'a>,
+    v: &Scope<'a, 'n>,
     at: Place,
     calling: Calling,
 ) -> Result<Part, Fault>
@@ -184,17 +210,14 @@ pub fn called<'a>(
     let t = result_of(alloc, v, at, calling.callee, calling.arguments.as_slice())?;
     let n = calling.callee.unwrap_or(0);
     let typed = typed_of(alloc, calling.arguments)?;
-    Ok(Part {
-        typed: Typed::Call(head(at, t), n, typed),
-        facts: VALUE,
-    })
+    part_of(alloc, Typed::Call(head(at, t), n, typed), VALUE)
 }
 
 /// What is called where an expression is a name, by the name's number.
-pub fn named<'a>(alloc: Global, v: &Scope<'a>, name: &'a Text) -> Result<Option<u32>, Fault>
+pub fn named<'a, 'n>(alloc: Global, v: &Scope<'a, 'n>, name: &'n Text) -> Result<Option<u32>, Fault>
     ensures { NamesCallee (scope_of v.now) name.now result }
 {
-    match v.names.find(name.as_bytes()) {
+    match number_of(v, name) {
         None => Err(unknown(alloc, name)),
         Some(n) => Ok(Some(n)),
     }
@@ -210,10 +233,49 @@ pub fn with_argument(calling: Calling, x: Part) -> Result<Calling, Fault>
 }
 
 /// A call with one argument more, where both are there.
-#[tactic(auto, using(crate::proofs::Called::extended_gathers, crate::proofs::Called::extended_fails))]
 pub fn extended(calling: Result<Calling, Fault>, x: Result<Part, Fault>) -> Result<Calling, Fault>
     ensures { (v : Names) (t e : Tree) → Gathers v t calling → Judges v e x → Gathers v (With t e) result }
 {
-    let (calling, x) = pair(calling, x)?;
-    with_argument(calling, x)
+    match pair(calling, x) {
+        Ok((calling, x)) => with_argument(calling, x),
+        Err(f) => Err(f),
+    }
+}
+
+/// What is called where it is no name: it is judged as any part is.
+pub fn unnamed(x: Result<Part, Fault>) -> Result<Option<u32>, Fault>
+    ensures { result ≡ dropped x None }
+{
+    match x {
+        Ok(_part) => Ok(None),
+        Err(f) => Err(f),
+    }
+}
+
+/// A call without its arguments.
+pub fn begun(alloc: Global, callee: Result<Option<u32>, Fault>) -> Result<Calling, Fault>
+    ensures { (v : Names) (at : Place) (f : Tree) → Calls v f callee → Gathers v (Call at f) result }
+{
+    match callee {
+        Ok(callee) => Ok(Calling {
+            callee,
+            arguments: Vec::new(alloc),
+        }),
+        Err(f) => Err(f),
+    }
+}
+
+/// A call of what was gathered.
+pub fn at_call<'a, 'n>(
+    alloc: Global,
+    v: &Scope<'a, 'n>,
+    at: Place,
+    calling: Result<Calling, Fault>,
+) -> Result<Part, Fault>
+    ensures { (f : Tree) (es : List Tree) → Gathers (scope_of v.now) (with_arguments (Call at f) es) calling → Judges (scope_of v.now) (with_arguments (Call at f) es) result }
+{
+    match calling {
+        Ok(calling) => called(alloc, v, at, calling),
+        Err(f) => Err(f),
+    }
 }

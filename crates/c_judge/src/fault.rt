@@ -1,9 +1,9 @@
 // Why an expression is refused.
 ghost use Rattle.std.specs.Prelude.{◌≡◌};
 
-use ldb_words::Text;
 use crate::part::Part;
 use c_tree::Typed;
+use ldb_words::Text;
 use std::alloc::{AllocError, AllocFailed};
 
 /// Why an expression is refused.
@@ -20,6 +20,7 @@ pub enum ExprFault {
 
 impl From<AllocError> for ExprFault {
     ghost use Rattle.c_judge.specs.declared.fault.ExprFault.TheVariants.{NoMemory};
+
     ghost from_gives = { λ _ e. e ≡ NoMemory };
 
     fn from(_: AllocError) -> Self {
@@ -39,6 +40,7 @@ pub enum Fault {
 
 impl From<AllocError> for Fault {
     ghost use Rattle.c_judge.specs.declared.fault.Fault.TheVariants.{NoMemory};
+
     ghost from_gives = { λ _ e. e ≡ NoMemory };
 
     fn from(_: AllocError) -> Self {
@@ -48,6 +50,7 @@ impl From<AllocError> for Fault {
 
 impl From<AllocFailed<Typed>> for Fault {
     ghost use Rattle.c_judge.specs.declared.fault.Fault.TheVariants.{NoMemory};
+
     ghost from_gives = { λ _ e. e ≡ NoMemory };
 
     fn from(_: AllocFailed<Typed>) -> Self {
@@ -57,6 +60,7 @@ impl From<AllocFailed<Typed>> for Fault {
 
 impl From<AllocFailed<Part>> for Fault {
     ghost use Rattle.c_judge.specs.declared.fault.Fault.TheVariants.{NoMemory};
+
     ghost from_gives = { λ _ e. e ≡ NoMemory };
 
     fn from(_: AllocFailed<Part>) -> Self {

@@ -1,7 +1,7 @@
 // Forms of expressions that a session forbids: calls, assignments, `++`, `--` and strings.
 ghost use Rattle.std.specs.Prelude.{◌≡◌};
 ghost use Rattle.c_judge.specs.Forms.{first_of, forbidden, forbidden_leaf, forbidden_prefix, forbidden_binary, forbidden_bounds, forbidden_beside, forbidden_in, forbidden_as};
-ghost use Rattle.c_judge.specs.Elaboration.{place_of};
+ghost use Rattle.c_judge.specs.Places.{place_of};
 
 use crate::check::Mode;
 use c_expr::{Abstract, Expr, Node};

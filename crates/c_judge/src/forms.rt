@@ -12,7 +12,7 @@ ghost use Rattle.c_judge.specs.Judges.{Makes};
 
 use crate::fault::Fault;
 use crate::limits::size_within;
-use crate::operators::{OBJECT, VALUE, head, step_of};
+use crate::operators::{OBJECT, VALUE, head, part_of, step_of};
 use crate::part::{Constant, Facts, Part};
 use crate::rules::{arrow_type, cast_type, choice_type, dot_type, index_type, step_type, type_of};
 use crate::types::{copied, is_complete, members, target};
@@ -23,28 +23,27 @@ use c_tree::{CType, Member, StructDef, Typed};
 use std::alloc::Global;
 
 /// `(a)`
+#[tactic(auto, using(crate::proofs::Wholly::makes_part))]
 pub fn paren(alloc: Global, at: Place, x: Part) -> Result<Part, Fault>
-    ensures { Makes (Known (judged_of x)) (IsParen x.typed) at result }
+    ensures { Makes (Known (judged_of x)) (IsParen x.typed.value) at result }
 {
     let t = copied(alloc, type_of(&x))?;
     let facts = x.facts;
-    Ok(Part {
-        typed: Typed::Parens(head(at, t), Box::new(alloc, x.typed)?),
-        facts,
-    })
+    part_of(alloc, Typed::Parens(head(at, t), x.typed), facts)
 }
 
 /// `a[b]`
+#[tactic(auto, using(crate::proofs::Wholly::makes_part))]
 pub fn index(alloc: Global, defs: &[StructDef], at: Place, x: Part, y: Part) -> Result<Part, Fault>
-    ensures { Makes (indexed defs.now at.at (judged_of x) (judged_of y)) (IsIndex x.typed y.typed) at result }
+    ensures { Makes (indexed defs.now at.at (judged_of x) (judged_of y)) (IsIndex x.typed.value y.typed.value) at result }
 {
     let Some(t) = index_type(alloc, defs, &x, &y)? else {
-        return Err(Fault::Rule { rule: 28, at: at.at });
+        return Err(Fault::Rule {
+            rule: 28,
+            at: at.at,
+        });
     };
-    Ok(Part {
-        typed: Typed::Index(head(at, t), Box::new(alloc, x.typed)?, Box::new(alloc, y.typed)?),
-        facts: OBJECT,
-    })
+    part_of(alloc, Typed::Index(head(at, t), x.typed, y.typed), OBJECT)
 }
 
 /// The number of the member with a name, in the struct that a type is.
@@ -58,19 +57,23 @@ fn member_number(defs: &[StructDef], t: &CType, name: &[u8]) -> Option<u32>
 }
 
 /// `a.m`
+#[tactic(auto, using(crate::proofs::Wholly::makes_part))]
 fn dot(alloc: Global, defs: &[StructDef], at: Place, name: &[u8], x: Part) -> Result<Part, Fault>
-    ensures { Makes (member_of defs.now at.at access.Dot name.now (judged_of x)) (IsMember defs.now access.Dot name.now x.typed) at result }
+    ensures { Makes (member_of defs.now at.at access.Dot name.now (judged_of x)) (IsMember defs.now access.Dot name.now x.typed.value) at result }
 {
     let Some(m) = member_number(defs, type_of(&x), name) else {
-        return Err(Fault::Rule { rule: 26, at: at.at });
+        return Err(Fault::Rule {
+            rule: 26,
+            at: at.at,
+        });
     };
     let Some(t) = dot_type(alloc, defs, &x, m)? else {
-        return Err(Fault::Rule { rule: 26, at: at.at });
+        return Err(Fault::Rule {
+            rule: 26,
+            at: at.at,
+        });
     };
-    Ok(Part {
-        typed: Typed::Dot(head(at, t), Box::new(alloc, x.typed)?, m),
-        facts: OBJECT,
-    })
+    part_of(alloc, Typed::Dot(head(at, t), x.typed, m), OBJECT)
 }
 
 /// The number of the member with a name, in the struct that a value of this type points to.
@@ -84,24 +87,35 @@ fn pointed_number(defs: &[StructDef], t: &CType, name: &[u8]) -> Option<u32>
 }
 
 /// `a->m`
+#[tactic(auto, using(crate::proofs::Wholly::makes_part))]
 fn arrow(alloc: Global, defs: &[StructDef], at: Place, name: &[u8], x: Part) -> Result<Part, Fault>
-    ensures { Makes (member_of defs.now at.at access.Arrow name.now (judged_of x)) (IsMember defs.now access.Arrow name.now x.typed) at result }
+    ensures { Makes (member_of defs.now at.at access.Arrow name.now (judged_of x)) (IsMember defs.now access.Arrow name.now x.typed.value) at result }
 {
     let Some(m) = pointed_number(defs, type_of(&x), name) else {
-        return Err(Fault::Rule { rule: 27, at: at.at });
+        return Err(Fault::Rule {
+            rule: 27,
+            at: at.at,
+        });
     };
     let Some(t) = arrow_type(alloc, defs, &x, m)? else {
-        return Err(Fault::Rule { rule: 27, at: at.at });
+        return Err(Fault::Rule {
+            rule: 27,
+            at: at.at,
+        });
     };
-    Ok(Part {
-        typed: Typed::Arrow(head(at, t), Box::new(alloc, x.typed)?, m),
-        facts: OBJECT,
-    })
+    part_of(alloc, Typed::Arrow(head(at, t), x.typed, m), OBJECT)
 }
 
 /// `a.m` or `a->m`
-pub fn member(alloc: Global, defs: &[StructDef], at: Place, access: Access, name: &[u8], x: Part) -> Result<Part, Fault>
-    ensures { Makes (member_of defs.now at.at access name.now (judged_of x)) (IsMember defs.now access name.now x.typed) at result }
+pub fn member(
+    alloc: Global,
+    defs: &[StructDef],
+    at: Place,
+    access: Access,
+    name: &[u8],
+    x: Part,
+) -> Result<Part, Fault>
+    ensures { Makes (member_of defs.now at.at access name.now (judged_of x)) (IsMember defs.now access name.now x.typed.value) at result }
 {
     match access {
         Access::Dot => dot(alloc, defs, at, name, x),
@@ -110,66 +124,98 @@ pub fn member(alloc: Global, defs: &[StructDef], at: Place, access: Access, name
 }
 
 /// `a++` or `a--`
-pub fn after(alloc: Global, defs: &[StructDef], at: Place, step: Step, x: Part) -> Result<Part, Fault>
-    ensures { Makes (stepped defs.now at.at step (judged_of x)) (IsAfter step x.typed) at result }
+#[tactic(auto, using(crate::proofs::Wholly::makes_part))]
+pub fn after(
+    alloc: Global,
+    defs: &[StructDef],
+    at: Place,
+    step: Step,
+    x: Part,
+) -> Result<Part, Fault>
+    ensures { Makes (stepped defs.now at.at step (judged_of x)) (IsAfter step x.typed.value) at result }
 {
     let op = step_of(step);
     let Some(t) = step_type(alloc, defs, op, &x)? else {
-        return Err(Fault::Rule { rule: 37, at: at.at });
+        return Err(Fault::Rule {
+            rule: 37,
+            at: at.at,
+        });
     };
-    Ok(Part {
-        typed: Typed::After(head(at, t), Box::new(alloc, x.typed)?, op),
-        facts: VALUE,
-    })
+    part_of(alloc, Typed::After(head(at, t), x.typed, op), VALUE)
 }
 
 /// `c ? a : b`
+#[tactic(auto, using(crate::proofs::Wholly::makes_part))]
 pub fn choice(alloc: Global, at: Place, c: Part, x: Part, y: Part) -> Result<Part, Fault>
-    ensures { Makes (chosen_of at.at (judged_of c) (judged_of x) (judged_of y)) (IsChoice c.typed x.typed y.typed) at result }
+    ensures { Makes (chosen_of at.at (judged_of c) (judged_of x) (judged_of y)) (IsChoice c.typed.value x.typed.value y.typed.value) at result }
 {
     let Some(t) = choice_type(alloc, &c, &x, &y)? else {
-        return Err(Fault::Rule { rule: 38, at: at.at });
+        return Err(Fault::Rule {
+            rule: 38,
+            at: at.at,
+        });
     };
     let constant = chosen(c.facts.constant, x.facts.constant, y.facts.constant);
-    Ok(Part {
-        typed: Typed::Choice(
-            head(at, t),
-            Box::new(alloc, c.typed)?,
-            Box::new(alloc, x.typed)?,
-            Box::new(alloc, y.typed)?,
-        ),
-        facts: Facts { lvalue: false, register: false, string: false, constant },
-    })
+    part_of(
+        alloc,
+        Typed::Choice(head(at, t), c.typed, x.typed, y.typed),
+        Facts {
+            lvalue: false,
+            register: false,
+            string: false,
+            constant,
+        },
+    )
 }
 
 /// `(type) a`
+#[tactic(auto, using(crate::proofs::Wholly::makes_part))]
 pub fn cast(alloc: Global, at: Place, to: CType, x: Part) -> Result<Part, Fault>
-    ensures { Makes (cast_to at.at (plain to) (judged_of x)) (IsCast x.typed) at result }
+    ensures { Makes (cast_to at.at (plain to) (judged_of x)) (IsCast x.typed.value) at result }
 {
     let constant = converted(&to, x.facts.constant);
     let Some(t) = cast_type(to, &x) else {
-        return Err(Fault::Rule { rule: 40, at: at.at });
+        return Err(Fault::Rule {
+            rule: 40,
+            at: at.at,
+        });
     };
-    Ok(Part {
-        typed: Typed::Cast(head(at, t), Box::new(alloc, x.typed)?),
-        facts: Facts { lvalue: false, register: false, string: false, constant },
-    })
+    part_of(
+        alloc,
+        Typed::Cast(head(at, t), x.typed),
+        Facts {
+            lvalue: false,
+            register: false,
+            string: false,
+            constant,
+        },
+    )
 }
 
 /// `sizeof (type)`
-pub fn size_of_type(defs: &[StructDef], at: Place, t: CType) -> Result<Part, Fault>
+#[tactic(auto, using(crate::proofs::Wholly::makes_part))]
+pub fn size_of_type(alloc: Global, defs: &[StructDef], at: Place, t: CType) -> Result<Part, Fault>
     ensures { Makes (sized defs.now at.at (plain t)) (IsSizeOfType (plain t)) at result }
 {
     if !is_complete(defs, &t) {
-        return Err(Fault::Rule { rule: 40, at: at.at });
+        return Err(Fault::Rule {
+            rule: 40,
+            at: at.at,
+        });
     }
     let Some(size) = size_within(defs, &t) else {
         return Err(Fault::Rule { rule: 1, at: at.at });
     };
-    Ok(Part {
-        typed: Typed::SizeOfType(head(at, CType::Unsigned), t),
-        facts: Facts { lvalue: false, register: false, string: false, constant: Constant::Number(size) },
-    })
+    part_of(
+        alloc,
+        Typed::SizeOfType(head(at, CType::Unsigned), t),
+        Facts {
+            lvalue: false,
+            register: false,
+            string: false,
+            constant: Constant::Number(size),
+        },
+    )
 }
 
 /// The number of the first member with a name.

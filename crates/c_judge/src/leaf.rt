@@ -1,17 +1,17 @@
 // Names, constants and strings.
-ghost use Rattle.std.specs.Prelude.{◌≡◌};
+ghost use Rattle.std.specs.Prelude.{◌≡◌, ℕ, List, Some};
 ghost use Rattle.c_expr.specs.Tree as tree;
-ghost use Rattle.ldb_words.specs.Word.{word_of_signed};
-ghost use Rattle.c_typing.specs.Plain.{plain, Int};
+ghost use Rattle.c_typing.specs.Plain.{plain};
 ghost use Rattle.c_symbol.specs.declared.symbol.LeafKind.TheVariants as kind;
-ghost use Rattle.c_judge.specs.Judgement.{spec_type, folded, integer_type};
+ghost use Rattle.c_judge.specs.Judgement.{spec_type, folded, integer_type, leaf_of, named};
 ghost use Rattle.c_judge.specs.declared.part.Constant.TheVariants.{Number};
-ghost use Rattle.c_judge.specs.Parts.{judged_of};
-ghost use Rattle.c_judge.specs.Elaboration.{IsConstant, IsNode};
-ghost use Rattle.c_judge.specs.Judges.{Judges, Tells, scope_of};
+ghost use Rattle.c_judge.specs.Elaboration.{IsConstant, IsLiteral, IsNamed};
+ghost use Rattle.c_judge.specs.Answers.{Known};
+ghost use Rattle.c_judge.specs.Judges.{Judges, Makes, Tells, scope_of};
+ghost use Rattle.c_judge.specs.Numbers.{number_in};
 
 use crate::fault::Fault;
-use crate::operators::head;
+use crate::operators::{head, part_of};
 use crate::part::{Constant, Facts, Part};
 use crate::scope::Scope;
 use crate::types::{array_of, copied};
@@ -32,100 +32,118 @@ pub fn unknown(alloc: Global, name: &Text) -> Fault
     }
 }
 
+/// The number of a name.
+pub fn number_of<'a, 'n>(v: &Scope<'a, 'n>, name: &'n Text) -> Option<u32>
+    ensures { result ≡ number_in v.now.names.now name.now }
+{
+    v.names.find(name.as_bytes())
+}
+
 /// A name, which denotes an object.
-#[tactic(auto, using(crate::proofs::Rows::named_none, crate::proofs::Rows::named_function, crate::proofs::Rows::named_object))]
-fn name<'a>(alloc: Global, v: &Scope<'a>, at: Place, text: &'a Text) -> Result<Part, Fault>
+fn name<'a, 'n>(alloc: Global, v: &Scope<'a, 'n>, at: Place, text: &'n Text) -> Result<Part, Fault>
     ensures { Judges (scope_of v.now) (tree.Leaf at kind.Name text.now) result }
 {
-    let Some(n) = v.names.find(text.as_bytes()) else {
-        return Err(unknown(alloc, text));
-    };
+    match number_of(v, text) {
+        None => Err(unknown(alloc, text)),
+        Some(n) => numbered(alloc, v, at, n),
+    }
+}
+
+/// What has a number, which is an object.
+fn numbered<'a, 'n>(alloc: Global, v: &Scope<'a, 'n>, at: Place, n: u32) -> Result<Part, Fault>
+    ensures { (text : List ℕ) → Makes (named (scope_of v.now) at.at text (Some n)) (IsNamed n) at result }
+{
     let Some(symbol) = v.rows.get(n as usize) else {
-        return Err(Fault::Rule { rule: 21, at: at.at });
+        return Err(Fault::Rule {
+            rule: 21,
+            at: at.at,
+        });
     };
     if symbol.function {
-        return Err(Fault::Rule { rule: 21, at: at.at });
+        return Err(Fault::Rule {
+            rule: 21,
+            at: at.at,
+        });
     }
     let t = copied(alloc, &symbol.ctype)?;
-    Ok(Part {
-        typed: Typed::Name(head(at, t), n),
-        facts: Facts {
-            lvalue: true,
-            register: symbol.register,
-            string: false,
-            constant: Constant::Variable,
-        },
-    })
+    let facts = Facts {
+        lvalue: true,
+        register: symbol.register,
+        string: false,
+        constant: Constant::Variable,
+    };
+    part_of(alloc, Typed::Name(head(at, t), n), facts)
+}
+
+/// A constant of an integer type, by its bits.
+#[tactic(auto, using(crate::proofs::Wholly::makes_part))]
+fn constant(alloc: Global, at: Place, t: CType, n: u32) -> Result<Part, Fault>
+    ensures { Makes (Known (folded (Number n) (plain t))) (IsConstant n) at result }
+{
+    let facts = Facts {
+        lvalue: false,
+        register: false,
+        string: false,
+        constant: Constant::Number(n),
+    };
+    part_of(alloc, Typed::Constant(head(at, t), n), facts)
 }
 
 /// An integer constant.
-fn integer(at: Place, i: Integer) -> Part
-    ensures judged { judged_of result ≡ folded (Number i.value) (integer_type i) }
-    ensures typed { IsNode (λ z. IsConstant i.value z) at result.typed }
+fn integer(alloc: Global, at: Place, i: Integer) -> Result<Part, Fault>
+    ensures { Makes (Known (folded (Number i.value) (integer_type i))) (IsConstant i.value) at result }
 {
-    let t = if i.is_unsigned { CType::Unsigned } else { CType::Int };
-    Part {
-        typed: Typed::Constant(head(at, t), i.value),
-        facts: Facts {
-            lvalue: false,
-            register: false,
-            string: false,
-            constant: Constant::Number(i.value),
-        },
+    if i.is_unsigned {
+        return constant(alloc, at, CType::Unsigned, i.value);
     }
-}
-
-/// A character constant, of type `int`.
-fn character(at: Place, c: i32) -> Part
-    ensures judged { judged_of result ≡ folded (Number (word_of_signed c)) Int }
-    ensures typed { IsNode (λ z. IsConstant (word_of_signed c) z) at result.typed }
-{
-    let n = c.cast_unsigned();
-    Part {
-        typed: Typed::Constant(head(at, CType::Int), n),
-        facts: Facts {
-            lvalue: false,
-            register: false,
-            string: false,
-            constant: Constant::Number(n),
-        },
-    }
+    constant(alloc, at, CType::Int, i.value)
 }
 
 /// A string, which is an array of its characters and a NUL.
-fn string<'a>(alloc: Global, v: &Scope<'a>, at: Place, text: &'a Text) -> Result<Part, Fault>
-    ensures { Judges (scope_of v.now) (tree.Leaf at kind.Text text.now) result }
+#[tactic(auto, using(crate::proofs::Wholly::makes_part))]
+fn string<'a, 'n>(
+    alloc: Global,
+    v: &Scope<'a, 'n>,
+    at: Place,
+    text: &'n Text,
+) -> Result<Part, Fault>
+    ensures { Makes (leaf_of (scope_of v.now) at.at kind.Text text.now) (IsLiteral ((scope_of v.now).literal at.at)) at result }
 {
     if text.len() >= 1_048_576 {
         return Err(Fault::Rule { rule: 1, at: at.at });
     }
     let n = v.literals.get(&at.at).copied().unwrap_or(0);
     let t = array_of(alloc, CType::Char, text.len() as u32 + 1)?;
-    Ok(Part {
-        typed: Typed::Literal(head(at, t), n),
-        facts: Facts {
-            lvalue: true,
-            register: false,
-            string: true,
-            constant: Constant::Variable,
-        },
-    })
+    let facts = Facts {
+        lvalue: true,
+        register: false,
+        string: true,
+        constant: Constant::Variable,
+    };
+    part_of(alloc, Typed::Literal(head(at, t), n), facts)
 }
 
 /// A name, a constant or a string.
-pub fn leaf<'a>(alloc: Global, v: &Scope<'a>, at: Place, kind: LeafKind, text: &'a Text) -> Result<Part, Fault>
+#[tactic(auto, using(crate::proofs::Named::integer_judges, crate::proofs::Named::character_judges, crate::proofs::Named::string_judges))]
+pub fn leaf<'a, 'n>(
+    alloc: Global,
+    v: &Scope<'a, 'n>,
+    at: Place,
+    kind: LeafKind,
+    text: &'n Text,
+) -> Result<Part, Fault>
     ensures { Judges (scope_of v.now) (tree.Leaf at kind text.now) result }
 {
     match kind {
         LeafKind::Name => name(alloc, v, at, text),
-        LeafKind::Constant(i) => Ok(integer(at, i)),
-        LeafKind::Character(c) => Ok(character(at, c)),
+        LeafKind::Constant(i) => integer(alloc, at, i),
+        LeafKind::Character(c) => constant(alloc, at, CType::Int, c.cast_unsigned()),
         LeafKind::Text => string(alloc, v, at, text),
     }
 }
 
 /// The type that a type's name begins with.
-pub fn spec_type<'a>(v: &Scope<'a>, spec: &'a Spec) -> CType
+pub fn spec_type<'a, 'n>(v: &Scope<'a, 'n>, spec: &'n Spec) -> CType
     ensures { plain result ≡ spec_type (scope_of v.now) spec.now }
 {
     match spec {

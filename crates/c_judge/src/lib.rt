@@ -10,36 +10,38 @@ mod forms;
 mod leaf;
 mod limits;
 mod names;
+mod nodes;
 mod numbers;
 mod operators;
-mod pair;
+mod pairs;
 mod part;
 mod place;
 mod rules;
 mod scope;
 mod session;
 mod symbol;
-#[cfg(test)]
-mod tests;
 mod types;
 mod values;
 
-pub use check::{Mode, check_expr};
+pub use check::{Mode, accepted};
 pub use expr::{judge, written_type};
 pub use fault::{ExprFault, Fault};
-pub use forbidden::forbidden;
-pub use limits::{array, bounded, pointer, pointers};
+pub use leaf::spec_type;
+pub use limits::{array, bounded, limited, pointer, pointers};
 pub use names::unknown;
-pub use pair::pair;
-pub use scope::Scope;
-pub use symbol::Symbol;
-
 pub use numbers::Numbers;
+pub use pairs::pair;
 pub use part::{Constant, Facts, Part};
+pub use place::place_of;
 pub use rules::{
     address_type, arrow_type, assignment_type, binary_type, cast_type, choice_type, comma_type,
     compound_type, converts, dot_type, followed, head_of, index_type, is_null, logical_type,
     may_drop, step_type, type_of, unary_type,
 };
-pub use types::{array_of, copied, is_complete, pointer_to, same};
+pub use scope::Scope;
+pub use session::{number_names, number_tags, session_scope};
+pub use symbol::Symbol;
+pub use types::{
+    array_of, copied, is_complete, is_integer, is_scalar, is_void, pointer_to, same, value_type,
+};
 pub use values::{both, chosen, combined, converted, either, turned};

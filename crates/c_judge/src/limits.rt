@@ -58,7 +58,7 @@ fn is_shallow(defs: &[StructDef], t: &CType) -> bool
 }
 
 /// A type that is at most 64 deep and has at most 1,048,576 bytes.
-fn limited(defs: &[StructDef], at: u32, t: CType) -> Result<CType, Fault>
+pub fn limited(defs: &[StructDef], at: u32, t: CType) -> Result<CType, Fault>
     ensures { Denotes (limited defs.now at (plain t)) result }
 {
     if is_shallow(defs, &t) && size_within(defs, &t).is_some() {
@@ -78,14 +78,23 @@ pub fn pointer(alloc: Global, defs: &[StructDef], at: u32, t: CType) -> Result<C
 }
 
 /// So many pointers, each to the one before.
-#[tactic(auto, using(crate::proofs::Pointing::pointers_step))]
-pub fn pointers(alloc: Global, defs: &[StructDef], at: u32, n: u64, t: CType) -> Result<CType, Fault>
+#[tactic(auto, using(crate::proofs::Pointing::pointers_next, crate::proofs::Pointing::pointers_fail))]
+pub fn pointers(
+    alloc: Global,
+    defs: &[StructDef],
+    at: u32,
+    n: u64,
+    t: CType,
+) -> Result<CType, Fault>
     ensures { Denotes (pointers defs.now at n (plain t)) result }
 {
     let mut t = t;
     let mut left = n;
     'pointing: while left > 0 {
-        t = pointer(alloc, defs, at, t)?;
+        t = match pointer(alloc, defs, at, t) {
+            Ok(t) => t,
+            Err(f) => return Err(f),
+        };
         left -= 1;
     }
     Ok(t)
@@ -128,7 +137,10 @@ pub fn bounded(
     ensures { Denotes (bounded defs.now at bound_at (plain t) (judged_of x.now)) result }
 {
     let Some(n) = bound(x.facts.constant) else {
-        return Err(Fault::Rule { rule: 2, at: bound_at });
+        return Err(Fault::Rule {
+            rule: 2,
+            at: bound_at,
+        });
     };
     array(alloc, defs, at, t, n)
 }

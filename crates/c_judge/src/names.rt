@@ -3,17 +3,18 @@ ghost use Rattle.std.specs.Prelude.{◌≡◌, option_map};
 ghost use Rattle.c_judge.specs.Forms.{first_of, unknown, unknown_leaf, unknown_bounds, unknown_all};
 ghost use Rattle.c_judge.specs.Judges.{scope_of};
 
+use crate::leaf::number_of;
 use crate::scope::Scope;
 use c_expr::{Abstract, Expr, Node};
 use c_symbol::LeafKind;
 use ldb_words::Text;
 
 /// A name that is not in scope.
-fn unknown_leaf<'a>(v: &Scope<'a>, kind: LeafKind, text: &'a Text) -> Option<&'a Text>
+fn unknown_leaf<'a, 'n>(v: &Scope<'a, 'n>, kind: LeafKind, text: &'n Text) -> Option<&'n Text>
     ensures { option_map (λ t. t.now) result ≡ unknown_leaf (scope_of v.now) kind text.now }
 {
     match kind {
-        LeafKind::Name => match v.names.find(text.as_bytes()) {
+        LeafKind::Name => match number_of(v, text) {
             None => Some(text),
             Some(_) => None,
         },
@@ -24,7 +25,7 @@ fn unknown_leaf<'a>(v: &Scope<'a>, kind: LeafKind, text: &'a Text) -> Option<&'a
 /// The first name of an expression that is not in scope.
 #[cycle(naming)]
 #[tactic(auto, using(crate::proofs::First::unknown_call, crate::proofs::Depths::depth_arguments))]
-pub fn unknown<'a>(v: &Scope<'a>, e: &'a Expr) -> Option<&'a Text>
+pub fn unknown<'a, 'n>(v: &Scope<'a, 'n>, e: &'n Expr) -> Option<&'n Text>
     ensures { option_map (λ t. t.now) result ≡ unknown (scope_of v.now) e.now }
 {
     match &e.node {
@@ -53,7 +54,7 @@ pub fn unknown<'a>(v: &Scope<'a>, e: &'a Expr) -> Option<&'a Text>
 
 /// The first of two expressions.
 #[cycle(naming)]
-fn unknown_two<'a>(v: &Scope<'a>, a: &'a Expr, b: &'a Expr) -> Option<&'a Text>
+fn unknown_two<'a, 'n>(v: &Scope<'a, 'n>, a: &'n Expr, b: &'n Expr) -> Option<&'n Text>
     ensures { option_map (λ t. t.now) result ≡ first_of (unknown (scope_of v.now) a.now) (unknown (scope_of v.now) b.now) }
 {
     match unknown(v, a) {
@@ -65,7 +66,7 @@ fn unknown_two<'a>(v: &Scope<'a>, a: &'a Expr, b: &'a Expr) -> Option<&'a Text>
 /// The first of the arguments of a call.
 #[cycle(naming)]
 #[tactic(auto, using(crate::proofs::Depths::depth_at))]
-fn unknown_among<'a>(v: &Scope<'a>, args: &'a [Expr]) -> Option<&'a Text>
+fn unknown_among<'a, 'n>(v: &Scope<'a, 'n>, args: &'n [Expr]) -> Option<&'n Text>
     ensures { option_map (λ t. t.now) result ≡ unknown_all (scope_of v.now) args.now }
 {
     for arg in args {
@@ -79,7 +80,7 @@ fn unknown_among<'a>(v: &Scope<'a>, args: &'a [Expr]) -> Option<&'a Text>
 /// The first of a declarator.
 #[cycle(naming)]
 #[tactic(auto, using(crate::proofs::First::unknown_declarator, crate::proofs::Depths::depth_bounds))]
-fn unknown_in<'a>(v: &Scope<'a>, d: &'a Abstract) -> Option<&'a Text>
+fn unknown_in<'a, 'n>(v: &Scope<'a, 'n>, d: &'n Abstract) -> Option<&'n Text>
     ensures { option_map (λ t. t.now) result ≡ unknown (scope_of v.now) d.now }
 {
     if let Some(inner) = &d.inner {
@@ -93,7 +94,7 @@ fn unknown_in<'a>(v: &Scope<'a>, d: &'a Abstract) -> Option<&'a Text>
 /// The first of the bounds of an array.
 #[cycle(naming)]
 #[tactic(auto, using(crate::proofs::Depths::bound_depth_at))]
-fn unknown_bounds<'a>(v: &Scope<'a>, bounds: &'a [Option<Expr>]) -> Option<&'a Text>
+fn unknown_bounds<'a, 'n>(v: &Scope<'a, 'n>, bounds: &'n [Option<Expr>]) -> Option<&'n Text>
     ensures { option_map (λ t. t.now) result ≡ unknown_bounds (scope_of v.now) bounds.now }
 {
     for bound in bounds {

@@ -5,8 +5,9 @@ ghost use Rattle.c_typing.specs.Plain.{plain, value_type};
 ghost use Rattle.c_judge.specs.Judgement.{prefixed, joined, step_of, compound_of, unary, operation, assigned, rule_of, sized};
 ghost use Rattle.c_judge.specs.Elaboration.{site_of, IsUnary, IsPrefixed, IsAssigned, IsOperation, IsJoined};
 ghost use Rattle.c_symbol.specs.declared.symbol.PrefixOp.TheVariants as prefix;
-ghost use Rattle.c_judge.specs.Parts.{judged_of};
-ghost use Rattle.c_judge.specs.Judges.{Makes};
+ghost use Rattle.c_judge.specs.Parts.{judged_of, value_of};
+ghost use Rattle.c_judge.specs.Values as value;
+ghost use Rattle.c_judge.specs.Judges.{IsPart, Makes};
 
 use crate::fault::Fault;
 use crate::limits::size_within;
@@ -53,6 +54,16 @@ pub fn head(at: Place, ctype: CType) -> Head
     }
 }
 
+/// A part of this tree, with what is known of it.
+pub fn part_of(alloc: Global, typed: Typed, facts: Facts) -> Result<Part, Fault>
+    ensures { IsPart typed facts result }
+{
+    Ok(Part {
+        typed: Box::new(alloc, typed)?,
+        facts,
+    })
+}
+
 /// `++` or `--` of the typed tree.
 pub fn step_of(step: Step) -> StepOp
     ensures { result ≡ step_of step }
@@ -64,79 +75,108 @@ pub fn step_of(step: Step) -> StepOp
 }
 
 /// `++a` or `--a`
+#[tactic(auto, using(crate::proofs::Wholly::makes_part))]
 fn before(alloc: Global, defs: &[StructDef], at: Place, step: Step, x: Part) -> Result<Part, Fault>
-    ensures { Makes (prefixed defs.now at.at (prefix.Step step) (judged_of x)) (IsPrefixed (prefix.Step step) x.typed) at result }
+    ensures { Makes (prefixed defs.now at.at (prefix.Step step) (judged_of x)) (IsPrefixed (prefix.Step step) x.typed.value) at result }
 {
     let op = step_of(step);
     let Some(t) = step_type(alloc, defs, op, &x)? else {
-        return Err(Fault::Rule { rule: 37, at: at.at });
+        return Err(Fault::Rule {
+            rule: 37,
+            at: at.at,
+        });
     };
-    Ok(Part {
-        typed: Typed::Before(head(at, t), op, Box::new(alloc, x.typed)?),
-        facts: VALUE,
-    })
+    part_of(alloc, Typed::Before(head(at, t), op, x.typed), VALUE)
 }
 
 /// `&a`
+#[tactic(auto, using(crate::proofs::Wholly::makes_part))]
 fn address(alloc: Global, at: Place, x: Part) -> Result<Part, Fault>
-    ensures { Makes (prefixed [] at.at prefix.Address (judged_of x)) (IsPrefixed prefix.Address x.typed) at result }
+    ensures { Makes (prefixed [] at.at prefix.Address (judged_of x)) (IsPrefixed prefix.Address x.typed.value) at result }
 {
     let Some(t) = address_type(alloc, &x)? else {
-        return Err(Fault::Rule { rule: 25, at: at.at });
+        return Err(Fault::Rule {
+            rule: 25,
+            at: at.at,
+        });
     };
-    Ok(Part {
-        typed: Typed::Address(head(at, t), Box::new(alloc, x.typed)?),
-        facts: VALUE,
-    })
+    part_of(alloc, Typed::Address(head(at, t), x.typed), VALUE)
 }
 
 /// `*a`
+#[tactic(auto, using(crate::proofs::Wholly::makes_part))]
 fn follow(alloc: Global, defs: &[StructDef], at: Place, x: Part) -> Result<Part, Fault>
-    ensures { Makes (prefixed defs.now at.at prefix.Dereference (judged_of x)) (IsPrefixed prefix.Dereference x.typed) at result }
+    ensures { Makes (prefixed defs.now at.at prefix.Dereference (judged_of x)) (IsPrefixed prefix.Dereference x.typed.value) at result }
 {
     let Some(t) = followed(alloc, defs, &x)? else {
-        return Err(Fault::Rule { rule: 24, at: at.at });
+        return Err(Fault::Rule {
+            rule: 24,
+            at: at.at,
+        });
     };
-    Ok(Part {
-        typed: Typed::Follow(head(at, t), Box::new(alloc, x.typed)?),
-        facts: OBJECT,
-    })
+    part_of(alloc, Typed::Follow(head(at, t), x.typed), OBJECT)
 }
 
 /// `+ - ~ !`
+#[tactic(auto, using(crate::proofs::Wholly::makes_part))]
 fn unary(alloc: Global, at: Place, op: UnaryOp, x: Part) -> Result<Part, Fault>
-    ensures { Makes (unary at.at op (judged_of x)) (IsUnary op x.typed) at result }
+    ensures { Makes (unary at.at op (judged_of x)) (IsUnary op x.typed.value) at result }
 {
     let Some(t) = unary_type(op, &x) else {
-        return Err(Fault::Rule { rule: 23, at: at.at });
+        return Err(Fault::Rule {
+            rule: 23,
+            at: at.at,
+        });
     };
     let constant = turned(op, type_of(&x), x.facts.constant);
-    Ok(Part {
-        typed: Typed::Unary(head(at, t), op, Box::new(alloc, x.typed)?),
-        facts: Facts { lvalue: false, register: false, string: false, constant },
-    })
+    part_of(
+        alloc,
+        Typed::Unary(head(at, t), op, x.typed),
+        Facts {
+            lvalue: false,
+            register: false,
+            string: false,
+            constant,
+        },
+    )
 }
 
 /// `sizeof a`
+#[tactic(auto, using(crate::proofs::Wholly::makes_part))]
 fn size_of(alloc: Global, defs: &[StructDef], at: Place, x: Part) -> Result<Part, Fault>
-    ensures { Makes (prefixed defs.now at.at prefix.Sizeof (judged_of x)) (IsPrefixed prefix.Sizeof x.typed) at result }
+    ensures { Makes (prefixed defs.now at.at prefix.Sizeof (judged_of x)) (IsPrefixed prefix.Sizeof x.typed.value) at result }
 {
     let t = type_of(&x);
     if !is_complete(defs, t) {
-        return Err(Fault::Rule { rule: 40, at: at.at });
+        return Err(Fault::Rule {
+            rule: 40,
+            at: at.at,
+        });
     }
     let Some(size) = size_within(defs, t) else {
         return Err(Fault::Rule { rule: 1, at: at.at });
     };
-    Ok(Part {
-        typed: Typed::SizeOf(head(at, CType::Unsigned), Box::new(alloc, x.typed)?),
-        facts: Facts { lvalue: false, register: false, string: false, constant: Constant::Number(size) },
-    })
+    part_of(
+        alloc,
+        Typed::SizeOf(head(at, CType::Unsigned), x.typed),
+        Facts {
+            lvalue: false,
+            register: false,
+            string: false,
+            constant: Constant::Number(size),
+        },
+    )
 }
 
 /// An operator in front of a part.
-pub fn prefixed(alloc: Global, defs: &[StructDef], at: Place, op: PrefixOp, x: Part) -> Result<Part, Fault>
-    ensures { Makes (prefixed defs.now at.at op (judged_of x)) (IsPrefixed op x.typed) at result }
+pub fn prefixed(
+    alloc: Global,
+    defs: &[StructDef],
+    at: Place,
+    op: PrefixOp,
+    x: Part,
+) -> Result<Part, Fault>
+    ensures { Makes (prefixed defs.now at.at op (judged_of x)) (IsPrefixed op x.typed.value) at result }
 {
     match op {
         PrefixOp::Step(step) => before(alloc, defs, at, step, x),
@@ -151,70 +191,108 @@ pub fn prefixed(alloc: Global, defs: &[StructDef], at: Place, op: PrefixOp, x: P
 }
 
 /// `a, b`
+#[tactic(auto, using(crate::proofs::Wholly::makes_part))]
 fn comma(alloc: Global, at: Place, x: Part, y: Part) -> Result<Part, Fault>
-    ensures { Makes (joined [] at.at written.Comma (judged_of x) (judged_of y)) (IsJoined written.Comma x.typed y.typed) at result }
+    ensures { Makes (joined [] at.at written.Comma (judged_of x) (judged_of y)) (IsJoined written.Comma x.typed.value y.typed.value) at result }
 {
     let Some(t) = comma_type(alloc, &x, &y)? else {
-        return Err(Fault::Rule { rule: if may_drop(&x) { 39 } else { 22 }, at: at.at });
+        return Err(Fault::Rule {
+            rule: if may_drop(&x) { 39 } else { 22 },
+            at: at.at,
+        });
     };
-    Ok(Part {
-        typed: Typed::Comma(head(at, t), Box::new(alloc, x.typed)?, Box::new(alloc, y.typed)?),
-        facts: VALUE,
-    })
+    part_of(alloc, Typed::Comma(head(at, t), x.typed, y.typed), VALUE)
 }
 
 /// `a || b`
+#[tactic(auto, using(crate::proofs::Wholly::makes_part))]
 fn or(alloc: Global, at: Place, x: Part, y: Part) -> Result<Part, Fault>
-    ensures { Makes (joined [] at.at written.LogicalOr (judged_of x) (judged_of y)) (IsJoined written.LogicalOr x.typed y.typed) at result }
+    ensures { Makes (joined [] at.at written.LogicalOr (judged_of x) (judged_of y)) (IsJoined written.LogicalOr x.typed.value y.typed.value) at result }
 {
     let Some(t) = logical_type(&x, &y) else {
-        return Err(Fault::Rule { rule: 38, at: at.at });
+        return Err(Fault::Rule {
+            rule: 38,
+            at: at.at,
+        });
     };
     let constant = either(x.facts.constant, y.facts.constant);
-    Ok(Part {
-        typed: Typed::Or(head(at, t), Box::new(alloc, x.typed)?, Box::new(alloc, y.typed)?),
-        facts: Facts { lvalue: false, register: false, string: false, constant },
-    })
+    part_of(
+        alloc,
+        Typed::Or(head(at, t), x.typed, y.typed),
+        Facts {
+            lvalue: false,
+            register: false,
+            string: false,
+            constant,
+        },
+    )
 }
 
 /// `a && b`
+#[tactic(auto, using(crate::proofs::Wholly::makes_part))]
 fn and(alloc: Global, at: Place, x: Part, y: Part) -> Result<Part, Fault>
-    ensures { Makes (joined [] at.at written.LogicalAnd (judged_of x) (judged_of y)) (IsJoined written.LogicalAnd x.typed y.typed) at result }
+    ensures { Makes (joined [] at.at written.LogicalAnd (judged_of x) (judged_of y)) (IsJoined written.LogicalAnd x.typed.value y.typed.value) at result }
 {
     let Some(t) = logical_type(&x, &y) else {
-        return Err(Fault::Rule { rule: 38, at: at.at });
+        return Err(Fault::Rule {
+            rule: 38,
+            at: at.at,
+        });
     };
     let constant = both(x.facts.constant, y.facts.constant);
-    Ok(Part {
-        typed: Typed::And(head(at, t), Box::new(alloc, x.typed)?, Box::new(alloc, y.typed)?),
-        facts: Facts { lvalue: false, register: false, string: false, constant },
-    })
+    part_of(
+        alloc,
+        Typed::And(head(at, t), x.typed, y.typed),
+        Facts {
+            lvalue: false,
+            register: false,
+            string: false,
+            constant,
+        },
+    )
 }
 
 /// A plain assignment (C90 6.3.16.1).
+#[tactic(auto, using(crate::proofs::Wholly::makes_part))]
 fn assign(alloc: Global, at: Place, x: Part, y: Part) -> Result<Part, Fault>
-    ensures { Makes (assigned [] at.at None (judged_of x) (judged_of y)) (IsAssigned None x.typed y.typed) at result }
+    ensures { Makes (assigned [] at.at None (judged_of x) (judged_of y)) (IsAssigned None x.typed.value y.typed.value) at result }
 {
     let Some(t) = assignment_type(alloc, &x, &y)? else {
-        return Err(Fault::Rule { rule: 36, at: at.at });
+        return Err(Fault::Rule {
+            rule: 36,
+            at: at.at,
+        });
     };
-    Ok(Part {
-        typed: Typed::Assign(head(at, t), Box::new(alloc, x.typed)?, None, Box::new(alloc, y.typed)?),
-        facts: VALUE,
-    })
+    part_of(
+        alloc,
+        Typed::Assign(head(at, t), x.typed, None, y.typed),
+        VALUE,
+    )
 }
 
 /// A compound assignment (C90 6.3.16.2).
-fn compound(alloc: Global, defs: &[StructDef], at: Place, op: BinaryOp, x: Part, y: Part) -> Result<Part, Fault>
-    ensures { Makes (assigned defs.now at.at (Some op) (judged_of x) (judged_of y)) (IsAssigned (Some op) x.typed y.typed) at result }
+#[tactic(auto, using(crate::proofs::Wholly::makes_part))]
+fn compound(
+    alloc: Global,
+    defs: &[StructDef],
+    at: Place,
+    op: BinaryOp,
+    x: Part,
+    y: Part,
+) -> Result<Part, Fault>
+    ensures { Makes (assigned defs.now at.at (Some op) (judged_of x) (judged_of y)) (IsAssigned (Some op) x.typed.value y.typed.value) at result }
 {
     let Some(t) = compound_type(alloc, defs, op, &x, type_of(&y))? else {
-        return Err(Fault::Rule { rule: 37, at: at.at });
+        return Err(Fault::Rule {
+            rule: 37,
+            at: at.at,
+        });
     };
-    Ok(Part {
-        typed: Typed::Assign(head(at, t), Box::new(alloc, x.typed)?, Some(op), Box::new(alloc, y.typed)?),
-        facts: VALUE,
-    })
+    part_of(
+        alloc,
+        Typed::Assign(head(at, t), x.typed, Some(op), y.typed),
+        VALUE,
+    )
 }
 
 /// The operator of a compound assignment.
@@ -237,8 +315,15 @@ fn compound_of(op: AssignOp) -> Option<BinaryOp>
 }
 
 /// An assignment.
-fn assigned(alloc: Global, defs: &[StructDef], at: Place, op: AssignOp, x: Part, y: Part) -> Result<Part, Fault>
-    ensures { Makes (joined defs.now at.at (written.Assign op) (judged_of x) (judged_of y)) (IsJoined (written.Assign op) x.typed y.typed) at result }
+fn assigned(
+    alloc: Global,
+    defs: &[StructDef],
+    at: Place,
+    op: AssignOp,
+    x: Part,
+    y: Part,
+) -> Result<Part, Fault>
+    ensures { Makes (joined defs.now at.at (written.Assign op) (judged_of x) (judged_of y)) (IsJoined (written.Assign op) x.typed.value y.typed.value) at result }
 {
     match compound_of(op) {
         None => assign(alloc, at, x, y),
@@ -265,23 +350,60 @@ fn rule_of(op: BinaryOp) -> u8
     }
 }
 
+/// What an operator makes of two parts as constant expressions.
+fn constant_of(op: BinaryOp, x: &Part, y: &Part) -> Constant
+    ensures { result ≡ value.combined op (value_of x.now) (value_of y.now) x.now.facts.constant y.now.facts.constant }
+{
+    combined(
+        op,
+        type_of(x),
+        type_of(y),
+        x.facts.constant,
+        y.facts.constant,
+    )
+}
+
 /// `a op b`
-fn operation(alloc: Global, defs: &[StructDef], at: Place, op: BinaryOp, x: Part, y: Part) -> Result<Part, Fault>
-    ensures { Makes (operation defs.now at.at op (judged_of x) (judged_of y)) (IsOperation op x.typed y.typed) at result }
+#[tactic(auto, using(crate::proofs::Wholly::makes_part))]
+fn operation(
+    alloc: Global,
+    defs: &[StructDef],
+    at: Place,
+    op: BinaryOp,
+    x: Part,
+    y: Part,
+) -> Result<Part, Fault>
+    ensures { Makes (operation defs.now at.at op (judged_of x) (judged_of y)) (IsOperation op x.typed.value y.typed.value) at result }
 {
     let Some(t) = binary_type(alloc, defs, op, &x, &y)? else {
-        return Err(Fault::Rule { rule: rule_of(op), at: at.at });
+        return Err(Fault::Rule {
+            rule: rule_of(op),
+            at: at.at,
+        });
     };
-    let constant = combined(op, type_of(&x), type_of(&y), x.facts.constant, y.facts.constant);
-    Ok(Part {
-        typed: Typed::Binary(head(at, t), Box::new(alloc, x.typed)?, op, Box::new(alloc, y.typed)?),
-        facts: Facts { lvalue: false, register: false, string: false, constant },
-    })
+    let constant = constant_of(op, &x, &y);
+    part_of(
+        alloc,
+        Typed::Binary(head(at, t), x.typed, op, y.typed),
+        Facts {
+            lvalue: false,
+            register: false,
+            string: false,
+            constant,
+        },
+    )
 }
 
 /// An operator between two parts.
-pub fn joined(alloc: Global, defs: &[StructDef], at: Place, op: Written, x: Part, y: Part) -> Result<Part, Fault>
-    ensures { Makes (joined defs.now at.at op (judged_of x) (judged_of y)) (IsJoined op x.typed y.typed) at result }
+pub fn joined(
+    alloc: Global,
+    defs: &[StructDef],
+    at: Place,
+    op: Written,
+    x: Part,
+    y: Part,
+) -> Result<Part, Fault>
+    ensures { Makes (joined defs.now at.at op (judged_of x) (judged_of y)) (IsJoined op x.typed.value y.typed.value) at result }
 {
     match op {
         Written::Comma => comma(alloc, at, x, y),

@@ -25,6 +25,6 @@ pub struct Facts {
 /// A checked expression with what is known of it.
 #[derive(Drop)]
 pub struct Part {
-    pub typed: Typed,
+    pub typed: Box<Typed>,
     pub facts: Facts,
 }

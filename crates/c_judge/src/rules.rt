@@ -48,7 +48,7 @@ pub fn head_of(e: &Typed) -> &Head
 
 /// The type of a part.
 pub fn type_of(x: &Part) -> &CType
-    ensures { plain result.now ≡ plain (type_of x.now.typed) }
+    ensures { plain result.now ≡ plain (type_of x.now.typed.value) }
 {
     &head_of(&x.typed).ctype
 }

@@ -9,9 +9,9 @@ use std::collections::BTreeMap;
 /// What an expression stands among, as a view of what its owner keeps and may change between two expressions. The number of a name is that of its row
 /// in `rows`, and the number of a tag that of its struct in `defs`.
 #[derive(Drop)]
-pub struct Scope<'a> {
-    pub names: &'a Numbers<'a>,
-    pub tags: &'a Numbers<'a>,
+pub struct Scope<'a, 'n> {
+    pub names: &'a Numbers<'n>,
+    pub tags: &'a Numbers<'n>,
     /// The number of the struct that a tag names which is not among `tags`.
     pub incomplete: u32,
     pub rows: &'a [Symbol],

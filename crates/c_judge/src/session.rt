@@ -1,5 +1,5 @@
 // The scope of an expression in a session.
-ghost use Rattle.std.specs.Prelude.{◌≡◌, ◌<◌, ◌^◌, length, map, IfOk};
+ghost use Rattle.std.specs.Prelude.{◌≡◌, ◌<◌, ◌^◌, [], length, map, IfOk};
 ghost use Rattle.c_judge.specs.Scope.{tag_of};
 ghost use Rattle.c_judge.specs.Numbers.{Finds};
 ghost use Rattle.c_judge.specs.Session.{symbol_name, session};
@@ -41,13 +41,13 @@ pub fn number_tags<'a>(alloc: Global, defs: &'a [StructDef]) -> Result<Numbers<'
 }
 
 /// The scope of an expression among these names and structs, whose numbers are given, where calls are not asked for their arguments.
-pub fn session<'a>(
+pub fn session_scope<'a, 'n>(
     names: &'a [Symbol],
     defs: &'a [StructDef],
-    numbers: &'a Numbers<'a>,
-    tags: &'a Numbers<'a>,
+    numbers: &'a Numbers<'n>,
+    tags: &'a Numbers<'n>,
     literals: &'a BTreeMap<u32, u32>,
-) -> Scope<'a>
+) -> Scope<'a, 'n>
     requires defs { length defs.now < 2 ^ 32 }
     requires numbers { Finds numbers.now (map symbol_name names.now) }
     requires tags { Finds tags.now (map tag_of defs.now) }

@@ -1,3 +1,5 @@
 pub mod Tokens
-pub mod Tasks
+pub mod Statements
 pub mod Counted
+pub mod Whole
+pub mod Counts

@@ -1,18 +1,18 @@
--- Which texts are programs, and which program each is.
+-- Which texts are programs, and what each of them spells.
 --     program : { int NAME ; } int main ( void ) { { NAME = sum ; } return sum ; }
 --     sum     : operand | operand + operand | operand - operand
 --     operand : NAME | constant
-use Rattle.std.specs.Prelude.{ℕ, Bool, false, ◌&&◌, List, [], ◌∷◌, ◌++◌, length, if◌then◌else◌, ◌==◌, nat_le, codes, Option, None, Some, pos, is_none}
-use Rattle.std.specs.Option.{option_map}
+use Rattle.std.specs.Prelude.{ℕ, Bool, false, ◌&&◌, List, [], ◌∷◌, ◌++◌, length, if◌then◌else◌, ◌==◌, nat_le, codes, Option, None, Some, is_none, Box}
+use Rattle.std.specs.declared.alloc.Global.{Global}
 use Rattle.std.specs.Str.{bytes_eq}
-use Rattle.c_model.specs.declared.tree.Place.{Place}
-use Rattle.c_model.specs.declared.tree.Operand.{Operand}
-use Rattle.c_model.specs.declared.tree.Operand.TheVariants.{Object, Constant}
-use Rattle.c_model.specs.declared.tree.Sum.{Sum}
-use Rattle.c_model.specs.declared.tree.Sum.TheVariants.{One, Plus, Minus}
-use Rattle.c_model.specs.declared.tree.Task.{Task}
-use Rattle.c_model.specs.declared.tree.Task.TheVariants.{Pass, Store, Give}
-use Rattle.c_model.specs.declared.tree.Program.{Program}
+use Rattle.c_tree.specs.declared.typed.Site.{Site}
+use Rattle.c_tree.specs.declared.typed.BinaryOp.{BinaryOp}
+use Rattle.c_tree.specs.declared.typed.BinaryOp.TheVariants.{Add, Subtract}
+use Rattle.c_tree.specs.declared.typed.Typed.{Typed}
+use Rattle.c_tree.specs.declared.typed.Typed.TheVariants as typed
+use Rattle.c_tree.specs.declared.typed.Stmt.{Stmt}
+use Rattle.c_tree.specs.declared.typed.Stmt.TheVariants as stmt
+use Rattle.c_model.specs.Rows.{symbol_of, int_at}
 use Rattle.c_model.specs.Scan.{Token, tokens_of}
 use Rattle.c_model.specs.Names.{is_name, object_of}
 use Rattle.c_model.specs.Constant.{constant_of}
@@ -25,13 +25,13 @@ number_or_zero None = 0
 abbrev pub number_in : List (List ℕ) → List ℕ → ℕ
 number_in names w = number_or_zero (object_of names w)
 
--- the operand that a word is
-abbrev pub operand_or : Option ℕ → List (List ℕ) → List ℕ → Option Operand
-operand_or (Some n) names w = Some (Constant (pos n))
-operand_or None names w = if is_name w then Some (Object (number_in names w)) else None
+-- the operand that a token is: the name of an object, or a constant (C90 6.3.1)
+abbrev pub operand_or : Option ℕ → List (List ℕ) → Token → Option Typed
+operand_or (Some n) names t = Some (typed.Constant (int_at t.at) n)
+operand_or None names t = if is_name t.text then Some (typed.Name (int_at t.at) (symbol_of (number_in names t.text))) else None
 
-abbrev pub operand_of : List (List ℕ) → List ℕ → Option Operand
-operand_of names w = operand_or (constant_of w) names w
+abbrev pub operand_of : List (List ℕ) → Token → Option Typed
+operand_of names t = operand_or (constant_of t.text) names t
 
 -- the names that are declared, and the tokens after `int main (`
 abbrev pub Declared : Type 0
@@ -51,62 +51,101 @@ declared_from names (a ∷ b ∷ c ∷ rest) =
     else None
 declared_from names _ = None
 
--- some tasks, and then those of what follows
-abbrev pub onto : List Task → Option (List Task) → Option (List Task)
-onto tasks (Some later) = Some (tasks ++ later)
-onto tasks None = None
+-- where the parts of a statement lie in memory, which no meaning reads: the target and the value of an assignment, and the operands of a sum
+pub record Lies : Type 0 where
+  pub target : Box (Unit {0}) Global
+  pub value : Box (Unit {0}) Global
+  pub left : Box (Unit {0}) Global
+  pub right : Box (Unit {0}) Global
 
-abbrev pub followed : Option (List Task) → Option (List Task) → Option (List Task)
-followed (Some tasks) later = onto tasks later
-followed None later = None
+-- a sum: its tree by where its operands lie
+abbrev pub Sum : Type 0
+Sum = Box (Unit {0}) Global → Box (Unit {0}) Global → Typed
 
-abbrev pub paired : (Operand → Operand → Sum) → Option Operand → Option Operand → Option Sum
-paired make (Some a) (Some b) = Some (make a b)
-paired make _ _ = None
+-- `a + b` and `a - b` (C90 6.3.6)
+abbrev pub paired : Site → BinaryOp → Option Typed → Option Typed → Option Sum
+paired at op (Some a) (Some b) = Some (λ l r. typed.Binary' (int_at at) l a op r b)
+paired at op _ _ = None
+
+abbrev pub single : Option Typed → Option Sum
+single (Some a) = Some (λ l r. a)
+single None = None
 
 -- the sum that some tokens are
 abbrev pub sum_of : List (List ℕ) → List Token → Option Sum
-sum_of names (a ∷ []) = option_map One (operand_of names a.text)
+sum_of names (a ∷ []) = single (operand_of names a)
 sum_of names (a ∷ op ∷ b ∷ []) =
-    if bytes_eq op.text (codes "+") then paired Plus (operand_of names a.text) (operand_of names b.text)
-    else (if bytes_eq op.text (codes "-") then paired Minus (operand_of names a.text) (operand_of names b.text)
+    if bytes_eq op.text (codes "+") then paired a.at Add (operand_of names a) (operand_of names b)
+    else (if bytes_eq op.text (codes "-") then paired a.at Subtract (operand_of names a) (operand_of names b)
     else None)
 sum_of names _ = None
 
--- what an assignment does: its place is a stopping point
-abbrev pub store_of : Place → ℕ → Option Sum → Option (List Task)
-store_of at target (Some sum) = Some (Pass at ∷ Store target sum ∷ [])
+-- a statement: where it begins, and its tree by the number of its stopping point and by where its parts lie
+pub record Statement : Type 0 where
+  pub at : Site
+  pub tree : ℕ → Lies → Stmt
+
+-- `NAME = sum` (C90 6.3.16)
+abbrev pub store_of : Site → ℕ → Option Sum → Option Statement
+store_of at target (Some sum) = Some (record {
+  at = at;
+  tree = λ q w. stmt.Value at (Some (record { point = q; e = typed.Assign' (int_at at) w.target (typed.Name (int_at at) (symbol_of target)) None w.value (sum w.left w.right) }));
+})
 store_of at target None = None
 
--- what `return` does: its place is a stopping point
-abbrev pub give_of : Place → Option Sum → Option (List Task)
-give_of at (Some sum) = Some (Pass at ∷ Give sum ∷ [])
+-- `return sum` (C90 6.6.6.4)
+abbrev pub give_of : Site → Option Sum → Option Statement
+give_of at (Some sum) = Some (record { at = at; tree = λ q w. stmt.Return at q (Some (sum w.left w.right)) })
 give_of at None = None
 
--- what the tokens before a `;` do
-abbrev pub statement_of : List (List ℕ) → List Token → Option (List Task)
-statement_of names (a ∷ b ∷ rest) =
-    if bytes_eq a.text (codes "return") then give_of a.at (sum_of names (b ∷ rest))
-    else (if is_name a.text && bytes_eq b.text (codes "=") then store_of a.at (number_in names a.text) (sum_of names rest)
-    else None)
-statement_of names _ = None
+-- what begins with a token that isn't `return`
+abbrev pub assignment_of : List (List ℕ) → Token → List Token → Option Statement
+assignment_of names a [] = None
+assignment_of names a (b ∷ rest) = if is_name a.text && bytes_eq b.text (codes "=") then store_of a.at (number_in names a.text) (sum_of names rest) else None
+
+-- the statement that the tokens before a `;` are
+abbrev pub statement_of : List (List ℕ) → List Token → Option Statement
+statement_of names [] = None
+statement_of names (a ∷ rest) = if bytes_eq a.text (codes "return") then give_of a.at (sum_of names rest) else assignment_of names a rest
 
 abbrev pub is_return : List Token → Bool
 is_return [] = false
 is_return (a ∷ rest) = bytes_eq a.text (codes "return")
 
--- `{ NAME = sum ; } return sum ; }` to the end of the tokens: whether `return` was read, and the tokens since the last `;`.
--- The last `}` is a stopping point.
-abbrev pub tasks_of : List (List ℕ) → Bool → List Token → List Token → Option (List Task)
-tasks_of names returned begun [] = None
-tasks_of names returned begun (t ∷ rest) =
-    if bytes_eq t.text (codes ";") then (if returned then None else followed (statement_of names begun) (tasks_of names (is_return begun) [] rest))
-    else (if bytes_eq t.text (codes "}") then (if returned && (length begun == 0 && length rest == 0) then Some (Pass t.at ∷ []) else None)
-    else tasks_of names returned (begun ++ t ∷ []) rest)
+-- statements, and the `}` behind them
+pub record Rest : Type 0 where
+  pub statements : List Statement
+  pub close : Site
 
--- `void ) { .. }`: the `{` is a stopping point
-abbrev pub body_of : List (List ℕ) → List Token → Option (List Task)
-body_of names (a ∷ b ∷ c ∷ rest) = if bytes_eq a.text (codes "void") && (bytes_eq b.text (codes ")") && bytes_eq c.text (codes "{")) then onto (Pass c.at ∷ []) (tasks_of names false [] rest) else None
+-- some statements, and then what follows
+abbrev pub onto : List Statement → Option Rest → Option Rest
+onto before (Some rest) = Some (record { statements = before ++ rest.statements; close = rest.close })
+onto before None = None
+
+abbrev pub followed : Option Statement → Option Rest → Option Rest
+followed (Some s) rest = onto (s ∷ []) rest
+followed None rest = None
+
+-- `{ NAME = sum ; } return sum ; }` to the end of the tokens: whether `return` was read, and the tokens since the last `;`
+abbrev pub rest_of : List (List ℕ) → Bool → List Token → List Token → Option Rest
+rest_of names returned begun [] = None
+rest_of names returned begun (t ∷ rest) =
+    if bytes_eq t.text (codes ";") then (if returned then None else followed (statement_of names begun) (rest_of names (is_return begun) [] rest))
+    else (if bytes_eq t.text (codes "}") then (if returned && (length begun == 0 && length rest == 0) then Some (record { statements = []; close = t.at }) else None)
+    else rest_of names returned (begun ++ t ∷ []) rest)
+
+-- the block of `main`: its `{`, and what follows
+pub record Body : Type 0 where
+  pub brace : Site
+  pub rest : Rest
+
+abbrev pub braced : Site → Option Rest → Option Body
+braced at (Some rest) = Some (record { brace = at; rest = rest })
+braced at None = None
+
+-- `void ) { .. }`
+abbrev pub body_of : List (List ℕ) → List Token → Option Body
+body_of names (a ∷ b ∷ c ∷ rest) = if bytes_eq a.text (codes "void") && (bytes_eq b.text (codes ")") && bytes_eq c.text (codes "{")) then braced c.at (rest_of names false [] rest) else None
 body_of names _ = None
 
 -- the first name among some tokens that isn't declared
@@ -114,17 +153,17 @@ abbrev pub unknown_in : List (List ℕ) → List Token → Option (List ℕ)
 unknown_in names [] = None
 unknown_in names (t ∷ rest) = if is_name t.text && is_none (object_of names t.text) then Some t.text else unknown_in names rest
 
--- what a text is: a program, one that uses a name that isn't declared, or nothing of this form
+-- what a text is: names of objects and a block, a text that uses a name that isn't declared, or nothing of this form
 pub data Reading : Type 0 where
-  Accepted : Program → Reading
+  Accepted : List (List ℕ) → Body → Reading
   Unknown : List ℕ → Reading
   Later : Reading
 
-abbrev pub known_reading : Option (List ℕ) → List (List ℕ) → List Task → Reading
-known_reading None names body = Accepted (record { objects = names; body = body })
+abbrev pub known_reading : Option (List ℕ) → List (List ℕ) → Body → Reading
+known_reading None names body = Accepted names body
 known_reading (Some name) names body = Unknown name
 
-abbrev pub body_reading : Declared → Option (List Task) → Reading
+abbrev pub body_reading : Declared → Option Body → Reading
 body_reading found (Some body) = known_reading (unknown_in found.0 found.1) found.0 body
 body_reading found None = Later
 

@@ -1,6 +1,5 @@
 // Constants.
-ghost use Rattle.std.specs.Prelude.{◌≡◌, ◌≤◌, length, pos};
-ghost use Rattle.std.specs.Option.{option_map};
+ghost use Rattle.std.specs.Prelude.{◌≡◌, ◌≤◌, length};
 ghost use Rattle.std.specs.List.{list_all};
 ghost use Rattle.c_model.specs.Constant.{is_digit, is_plain, is_numeral, number_of, constant_of};
 
@@ -44,16 +43,16 @@ fn is_numeral(word: &[u8]) -> bool
     is_plain(word) && word.len() <= 10 && is_digits(word)
 }
 
-fn signed(number: u64) -> i32
+fn narrow(number: u64) -> u32
     requires { number ≤ 2147483647 }
-    ensures { result ≡ pos number }
+    ensures { result ≡ number }
 {
-    number as i32
+    number as u32
 }
 
 /// The constant that a word is: decimal, from 0 to 2147483647, without a needless leading zero.
-pub fn constant_of(word: &[u8]) -> Option<i32>
-    ensures { result ≡ option_map pos (constant_of word.now) }
+pub fn constant_of(word: &[u8]) -> Option<u32>
+    ensures { result ≡ constant_of word.now }
 {
     if !is_numeral(word) {
         return None;
@@ -62,5 +61,5 @@ pub fn constant_of(word: &[u8]) -> Option<i32>
     if number > 2147483647 {
         return None;
     }
-    Some(signed(number))
+    Some(narrow(number))
 }

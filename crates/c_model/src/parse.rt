@@ -1,18 +1,22 @@
 // A program from its text.
-ghost use Rattle.std.specs.Prelude.{◌≡◌, ℕ, [], ◌++◌, ◌+◌, ◌&&◌, codes, false, ◌∷◌, ◌<◌, ◌≤◌, length, map, pos, IfOk, IsErrOf, MatchOption, Some, None};
+ghost use Rattle.std.specs.Prelude.{◌≡◌, ℕ, [], ◌++◌, ◌+◌, ◌&&◌, codes, false, ◌∷◌, ◌<◌, ◌≤◌, ◌^◌, length, map, IfOk, IsErrOf, MatchOption, Some, None};
 ghost use Rattle.std.specs.Str.{bytes_eq};
 ghost use Rattle.c_model.specs.Scan.{tokens_of};
 ghost use Rattle.c_model.specs.Seen.{seen};
-ghost use Rattle.c_model.specs.Grammar.{onto, paired, sum_of, is_return, store_of, give_of, statement_of, body_of, number_in, operand_of, declares, declared_from, tasks_of, unknown_in, reading_of, body_reading};
+ghost use Rattle.c_model.specs.Grammar.{paired, single, sum_of, is_return, store_of, give_of, assignment_of, statement_of, braced, Body, Sum, rest_of, body_of, number_in, operand_of, declares, declared_from, unknown_in, reading_of, body_reading, Accepted};
 ghost use Rattle.c_model.specs.Names.{object_of, is_name};
-ghost use Rattle.c_model.specs.Read.{IsRead};
+ghost use Rattle.c_model.specs.Rows.{int_at, program_with};
+ghost use Rattle.c_model.specs.Read.{IsSum, IsPlaced, IsMain, IsBlockOf, IsKnown, IsRead};
 ghost use Rattle.c_model.specs.declared.parse.ParseFault.TheVariants.{NoMemory};
-ghost use Rattle.c_model.specs.declared.tree.Sum.TheVariants.{Plus, Minus};
+ghost use Rattle.c_tree.specs.declared.typed.Typed.{Typed};
+ghost use Rattle.c_tree.specs.declared.typed.Stmt.{Stmt};
+ghost use Rattle.c_tree.specs.declared.typed.BinaryOp.TheVariants.{Add, Subtract};
 
 use crate::constant::constant_of;
 use crate::names::{is_name, object_of};
+use crate::rows::{alone, main_of, object_rows, point_rows, symbol_of, symbols_of, unit_of};
 use crate::scan::{Scanner, Token};
-use crate::{Operand, Place, Program, Sum, Task};
+use c_tree::{BinaryOp, CType, Head, Pointed, Program, Site, Stmt, Typed};
 use ldb_words::{Many, Text};
 use std::alloc::{AllocError, AllocFailed, Global};
 
@@ -52,24 +56,55 @@ impl<T: Drop> From<AllocFailed<T>> for ParseFault {
     }
 }
 
+/// A statement's tree, and where it begins.
+#[derive(Drop)]
+struct Placed {
+    at: Site,
+    tree: Stmt,
+}
+
+/// The trees of the statements of `main` and where they begin, with its braces.
+#[derive(Drop)]
+struct Main {
+    brace: Site,
+    close: Site,
+    sites: Vec<Site>,
+    trees: Vec<Stmt>,
+}
+
 /// The number of the object that a use of a name means, or 0 where it isn't declared.
-fn number_in(names: &[Text], word: &[u8]) -> usize
-    ensures { result ≡ number_in names.now word.now }
+fn number_in(names: &[Text], word: &[u8]) -> u32
+    requires { length names.now ≤ 65536 }
+    ensures value { result ≡ number_in names.now word.now }
+    ensures few { result ≤ 65536 }
 {
     match object_of(names, word) {
-        Some(number) => number,
+        Some(number) => number as u32,
         None => 0,
     }
 }
 
-fn operand_of(names: &[Text], word: &[u8]) -> Option<Operand>
-    ensures { result ≡ operand_of names.now word.now }
+/// What an `int` expression keeps.
+fn int_at(site: Site) -> Head
+    ensures { result ≡ int_at site }
 {
-    match constant_of(word) {
-        Some(number) => Some(Operand::Constant(number)),
+    Head {
+        site,
+        ctype: CType::Int,
+    }
+}
+
+/// The operand that a token is.
+fn operand_of(names: &[Text], token: &Token<'_>) -> Option<Typed>
+    requires { length names.now ≤ 65536 }
+    ensures { result ≡ operand_of names.now (seen token.now) }
+{
+    match constant_of(token.text) {
+        Some(number) => Some(Typed::Constant(int_at(token.at), number)),
         None => {
-            if is_name(word) {
-                Some(Operand::Object(number_in(names, word)))
+            if is_name(token.text) {
+                let number = number_in(names, token.text);
+                Some(Typed::Name(int_at(token.at), symbol_of(number)))
             } else {
                 None
             }
@@ -120,44 +155,68 @@ fn declares(names: &[Text], name: &Token<'_>, end: &Token<'_>) -> bool
     is_name(name.text) && object_of(names, name.text).is_none() && end.is(";")
 }
 
-fn paired_plus(a: Option<Operand>, b: Option<Operand>) -> Option<Sum>
-    ensures { result ≡ paired Plus a b }
+/// Two operands that are added or subtracted.
+fn binary(alloc: Global, at: Site, op: BinaryOp, a: Typed, b: Typed) -> Result<Typed, AllocError>
+    ensures { IfOk result (IsSum (paired at op (Some a) (Some b))) }
 {
-    match (a, b) {
-        (Some(a), Some(b)) => Some(Sum::Plus(a, b)),
-        _ => None,
+    let left = Box::new(alloc, a)?;
+    let right = Box::new(alloc, b)?;
+    Ok(Typed::Binary(int_at(at), left, op, right))
+}
+
+/// What may be two operands that are added or subtracted.
+fn paired(
+    alloc: Global,
+    at: Site,
+    op: BinaryOp,
+    a: Option<Typed>,
+    b: Option<Typed>,
+) -> Result<Typed, ParseFault>
+    ensures ok { IfOk result (IsSum (paired at op a b)) }
+    ensures refused { IsErrOf result ParseFault.Refused → paired at op a b ≡ None }
+{
+    match a {
+        None => Err(ParseFault::Refused),
+        Some(a) => match b {
+            None => Err(ParseFault::Refused),
+            Some(b) => Ok(binary(alloc, at, op, a, b)?),
+        },
     }
 }
 
-fn paired_minus(a: Option<Operand>, b: Option<Operand>) -> Option<Sum>
-    ensures { result ≡ paired Minus a b }
+/// One operand.
+fn single(a: Option<Typed>) -> Result<Typed, ParseFault>
+    ensures ok { IfOk result (IsSum (single a)) }
+    ensures refused { IsErrOf result ParseFault.Refused → single a ≡ None }
 {
-    match (a, b) {
-        (Some(a), Some(b)) => Some(Sum::Minus(a, b)),
-        _ => None,
+    match a {
+        Some(a) => Ok(a),
+        None => Err(ParseFault::Refused),
     }
 }
 
 /// The sum that some tokens are.
-fn sum_of(names: &[Text], tokens: &[Token<'_>]) -> Option<Sum>
-    ensures { result ≡ sum_of names.now (map seen tokens.now) }
+fn sum_of(alloc: Global, names: &[Text], tokens: &[Token<'_>]) -> Result<Typed, ParseFault>
+    requires { length names.now ≤ 65536 }
+    ensures ok { IfOk result (IsSum (sum_of names.now (map seen tokens.now))) }
+    ensures refused { IsErrOf result ParseFault.Refused → sum_of names.now (map seen tokens.now) ≡ None }
 {
     match tokens {
-        [] => None,
-        [a] => operand_of(names, a.text).map(|a| Sum::One(a)),
-        [_, _] => None,
+        [] => Err(ParseFault::Refused),
+        [a] => single(operand_of(names, a)),
+        [_, _] => Err(ParseFault::Refused),
         [a, op, b] => {
-            let left = operand_of(names, a.text);
-            let right = operand_of(names, b.text);
+            let left = operand_of(names, a);
+            let right = operand_of(names, b);
             if op.is("+") {
-                paired_plus(left, right)
+                paired(alloc, a.at, BinaryOp::Add, left, right)
             } else if op.is("-") {
-                paired_minus(left, right)
+                paired(alloc, a.at, BinaryOp::Subtract, left, right)
             } else {
-                None
+                Err(ParseFault::Refused)
             }
         }
-        [_, _, _, _, ..] => None,
+        [_, _, _, _, ..] => Err(ParseFault::Refused),
     }
 }
 
@@ -177,102 +236,149 @@ fn is_store(target: &Token<'_>, equals: &Token<'_>) -> bool
     is_name(target.text) && equals.is("=")
 }
 
-/// Adds what an assignment does.
-fn with_store(
-    at: Place,
-    target: usize,
-    sum: Option<Sum>,
-    mut tasks: Vec<Task>,
-) -> Result<Vec<Task>, ParseFault>
-    ensures ok { IfOk result (λ all. onto tasks.items (store_of at target sum) ≡ Some all.items) }
-    ensures refused { IsErrOf result ParseFault.Refused → store_of at target sum ≡ None }
-    ensures two { IfOk result (λ all. length all.items ≡ length tasks.items + 2) }
-{
-    let Some(sum) = sum else {
-        return Err(ParseFault::Refused);
-    };
-    tasks.push(Task::Pass(at))?;
-    tasks.push(Task::Store { target, value: sum })?;
-    Ok(tasks)
-}
-
-/// Adds what a return does.
-fn with_return(at: Place, sum: Option<Sum>, mut tasks: Vec<Task>) -> Result<Vec<Task>, ParseFault>
-    ensures ok { IfOk result (λ all. onto tasks.items (give_of at sum) ≡ Some all.items) }
-    ensures refused { IsErrOf result ParseFault.Refused → give_of at sum ≡ None }
-    ensures two { IfOk result (λ all. length all.items ≡ length tasks.items + 2) }
-{
-    let Some(sum) = sum else {
-        return Err(ParseFault::Refused);
-    };
-    tasks.push(Task::Pass(at))?;
-    tasks.push(Task::Give(sum))?;
-    Ok(tasks)
-}
-
-/// Adds what the tokens before a `;` do.
-fn with_statement(
-    names: &[Text],
-    tokens: &[Token<'_>],
-    tasks: Vec<Task>,
-) -> Result<Vec<Task>, ParseFault>
-    ensures ok { IfOk result (λ all. onto tasks.items (statement_of names.now (map seen tokens.now)) ≡ Some all.items) }
-    ensures refused { IsErrOf result ParseFault.Refused → statement_of names.now (map seen tokens.now) ≡ None }
-    ensures few { IfOk result (λ all. length all.items ≤ length tasks.items + length tokens.now) }
-{
-    let [first, second, rest @ ..] = tokens else {
-        return Err(ParseFault::Refused);
-    };
-    if first.is("return") {
-        return with_return(first.at, sum_of(names, &tokens[1..]), tasks);
-    }
-    if !is_store(first, second) {
-        return Err(ParseFault::Refused);
-    }
-    with_store(
-        first.at,
-        number_in(names, first.text),
-        sum_of(names, rest),
-        tasks,
-    )
-}
-
-/// Adds the end of `main`.
-fn with_end(at: Place, mut tasks: Vec<Task>) -> Result<Vec<Task>, ParseFault>
-    ensures ok { IfOk result (λ all. all.items ≡ tasks.items ++ Task.Pass at ∷ []) }
+/// An assignment, by the number of its stopping point.
+fn store_of(
+    alloc: Global,
+    point: u32,
+    at: Site,
+    target: u32,
+    sum: Typed,
+) -> Result<Placed, ParseFault>
+    requires { target ≤ 65536 }
+    ensures ok { IfOk result (λ placed. (f : Sum) → IsSum (Some f) sum → IsPlaced point (store_of at target (Some f)) placed) }
     ensures refused { IsErrOf result ParseFault.Refused → ⊥ }
 {
-    tasks.push(Task::Pass(at))?;
-    Ok(tasks)
+    let name = Box::new(alloc, Typed::Name(int_at(at), symbol_of(target)))?;
+    let value = Box::new(alloc, sum)?;
+    let e = Typed::Assign(int_at(at), name, None, value);
+    Ok(Placed {
+        at,
+        tree: Stmt::Value(at, Some(Pointed { point, e })),
+    })
 }
 
-/// Reads `{ NAME = sum ; } return sum ; }` to the end of the text, onto some tasks.
-#[tactic(auto, using(crate::proofs::Tasks::onto_followed))]
-fn read_tasks(
+/// A `return` of a sum, by the number of its stopping point.
+fn give_of(
     alloc: Global,
     names: &[Text],
-    scanner: &mut Scanner<'_>,
-    mut tasks: Vec<Task>,
-) -> Result<Vec<Task>, ParseFault>
-    ensures ok { IfOk result (λ all. onto tasks.items (tasks_of names.now false [] scanner.old) ≡ Some all.items) }
-    ensures refused { IsErrOf result ParseFault.Refused → tasks_of names.now false [] scanner.old ≡ None }
-    ensures few { IfOk result (λ all. length all.items ≤ length tasks.items + length scanner.old) }
+    point: u32,
+    at: Site,
+    tokens: &[Token<'_>],
+) -> Result<Placed, ParseFault>
+    requires { length names.now ≤ 65536 }
+    ensures ok { IfOk result (IsPlaced point (give_of at (sum_of names.now (map seen tokens.now)))) }
+    ensures refused { IsErrOf result ParseFault.Refused → give_of at (sum_of names.now (map seen tokens.now)) ≡ None }
 {
+    let sum = sum_of(alloc, names, tokens)?;
+    Ok(Placed {
+        at,
+        tree: Stmt::Return(at, point, Some(sum)),
+    })
+}
+
+/// An assignment to a name of the sum that some tokens are, by the number of its stopping point.
+fn stored(
+    alloc: Global,
+    names: &[Text],
+    point: u32,
+    target: &Token<'_>,
+    tokens: &[Token<'_>],
+) -> Result<Placed, ParseFault>
+    requires { length names.now ≤ 65536 }
+    ensures ok { IfOk result (IsPlaced point (store_of target.now.at (number_in names.now target.now.text.now) (sum_of names.now (map seen tokens.now)))) }
+    ensures refused { IsErrOf result ParseFault.Refused → store_of target.now.at (number_in names.now target.now.text.now) (sum_of names.now (map seen tokens.now)) ≡ None }
+{
+    let number = number_in(names, target.text);
+    let sum = sum_of(alloc, names, tokens)?;
+    store_of(alloc, point, target.at, number, sum)
+}
+
+/// What begins with a token that isn't `return`: an assignment of a sum to a name, by the number of its stopping point.
+fn assignment_of(
+    alloc: Global,
+    names: &[Text],
+    point: u32,
+    target: &Token<'_>,
+    tokens: &[Token<'_>],
+) -> Result<Placed, ParseFault>
+    requires { length names.now ≤ 65536 }
+    ensures ok { IfOk result (IsPlaced point (assignment_of names.now (seen target.now) (map seen tokens.now))) }
+    ensures refused { IsErrOf result ParseFault.Refused → assignment_of names.now (seen target.now) (map seen tokens.now) ≡ None }
+{
+    match tokens {
+        [] => Err(ParseFault::Refused),
+        [equals, rest @ ..] => {
+            if is_store(target, equals) {
+                stored(alloc, names, point, target, rest)
+            } else {
+                Err(ParseFault::Refused)
+            }
+        }
+    }
+}
+
+/// The statement that the tokens before a `;` are, by the number of its stopping point.
+fn statement_of(
+    alloc: Global,
+    names: &[Text],
+    point: u32,
+    tokens: &[Token<'_>],
+) -> Result<Placed, ParseFault>
+    requires { length names.now ≤ 65536 }
+    ensures ok { IfOk result (IsPlaced point (statement_of names.now (map seen tokens.now))) }
+    ensures refused { IsErrOf result ParseFault.Refused → statement_of names.now (map seen tokens.now) ≡ None }
+{
+    match tokens {
+        [] => Err(ParseFault::Refused),
+        [first, rest @ ..] => {
+            if first.is("return") {
+                give_of(alloc, names, point, first.at, rest)
+            } else {
+                assignment_of(alloc, names, point, first, rest)
+            }
+        }
+    }
+}
+
+/// Reads `{ NAME = sum ; } return sum ; }` to the end of the text, behind a `{`.
+fn read_rest(
+    alloc: Global,
+    names: &[Text],
+    brace: Site,
+    scanner: &mut Scanner<'_>,
+) -> Result<Main, ParseFault>
+    requires names { length names.now ≤ 65536 }
+    requires few { length scanner.old ≤ 65536 }
+    ensures ok { IfOk result (IsMain (braced brace (rest_of names.now false [] scanner.old))) }
+    ensures refused { IsErrOf result ParseFault.Refused → rest_of names.now false [] scanner.old ≡ None }
+    ensures few { IfOk result (λ main. length main.sites.items ≤ 65536) }
+{
+    let mut sites = Vec::new(alloc);
+    let mut trees = Vec::new(alloc);
     let mut begun = Vec::new(alloc);
     let mut returned = false;
+    let mut point = 1u32;
     while let Some(token) = scanner.next() {
         if token.is(";") {
             if returned {
                 return Err(ParseFault::Refused);
             }
-            tasks = with_statement(names, &begun, tasks)?;
+            let Placed { at, tree } = statement_of(alloc, names, point, &begun)?;
+            sites.push(at)?;
+            trees.push(tree)?;
+            point += 1;
             returned = is_return(&begun);
             begun.clear();
         } else if token.is("}") {
             if !returned || !begun.is_empty() || scanner.next().is_some() {
                 return Err(ParseFault::Refused);
             }
-            return with_end(token.at, tasks);
+            return Ok(Main {
+                brace,
+                close: token.at,
+                sites,
+                trees,
+            });
         } else {
             begun.push(token)?;
         }
@@ -281,14 +387,12 @@ fn read_tasks(
 }
 
 /// Reads `void ) { .. }` to the end of the text.
-fn read_main(
-    alloc: Global,
-    names: &[Text],
-    scanner: &mut Scanner<'_>,
-) -> Result<Vec<Task>, ParseFault>
-    ensures ok { IfOk result (λ body. body_of names.now scanner.old ≡ Some body.items) }
+fn read_main(alloc: Global, names: &[Text], scanner: &mut Scanner<'_>) -> Result<Main, ParseFault>
+    requires names { length names.now ≤ 65536 }
+    requires few { length scanner.old ≤ 65536 }
+    ensures ok { IfOk result (IsMain (body_of names.now scanner.old)) }
     ensures refused { IsErrOf result ParseFault.Refused → body_of names.now scanner.old ≡ None }
-    ensures few { IfOk result (λ body. length body.items ≤ 1 + length scanner.old) }
+    ensures few { IfOk result (λ main. length main.sites.items ≤ 65536) }
 {
     let Some((none, close, open)) = next_three(scanner) else {
         return Err(ParseFault::Refused);
@@ -296,9 +400,7 @@ fn read_main(
     if !none.is("void") || !close.is(")") || !open.is("{") {
         return Err(ParseFault::Refused);
     }
-    let mut tasks = Vec::new(alloc);
-    tasks.push(Task::Pass(open.at))?;
-    read_tasks(alloc, names, scanner, tasks)
+    read_rest(alloc, names, open.at, scanner)
 }
 
 /// The first name among the tokens ahead that isn't declared.
@@ -313,34 +415,52 @@ fn unknown_in<'a>(names: &[Text], scanner: &mut Scanner<'a>) -> Option<&'a [u8]>
     None
 }
 
-/// The program that some names and tasks are, where no name among the tokens is unknown.
-fn with_known(
-    alloc: Global,
-    names: Vec<Text>,
-    body: Vec<Task>,
-    uses: &mut Scanner<'_>,
-) -> Result<Program, ProgramFault>
-    ensures read { IsRead (body_reading (names.items, uses.old) (Some body.items)) result }
-    ensures objects { IfOk result (λ program. program.objects ≡ names.items) }
-    ensures body { IfOk result (λ program. program.body ≡ body.items) }
+/// The stopping points of `main`: its `{`, its statements, and its `}`.
+fn points_of(alloc: Global, main: &Main) -> Result<Vec<Site>, AllocError>
+    ensures { IfOk result (λ sites. sites.items ≡ main.now.brace ∷ (main.now.sites.items ++ main.now.close ∷ [])) }
 {
-    let Some(name) = unknown_in(&names, uses) else {
-        return Ok(Program {
-            objects: Many::from_vec(names),
-            body: Many::from_vec(body),
-        });
-    };
-    match Text::from_slice(alloc, name) {
-        Ok(name) => Err(ProgramFault::Unknown(name)),
-        Err(_) => Err(ProgramFault::NoMemory),
-    }
+    let mut sites = Vec::new(alloc);
+    sites.push(main.brace)?;
+    sites.extend_from_slice(&main.sites)?;
+    sites.push(main.close)?;
+    Ok(sites)
 }
 
-/// What a text is: a program of one file of assignments, or why it is none.
-pub fn read_program(alloc: Global, text: &[u8]) -> Result<Program, ProgramFault>
-    ensures read { IsRead (reading_of text.now) result }
-    ensures objects { IfOk result (λ program. length program.objects ≤ 65536) }
-    ensures tasks { IfOk result (λ program. length program.body ≤ 65537) }
+/// The block of `main`.
+fn block_of(alloc: Global, main: Main) -> Stmt
+    ensures { IsBlockOf main result }
+{
+    let Main {
+        brace,
+        close,
+        sites: _,
+        trees,
+    } = main;
+    Stmt::Block(brace, Many::new(alloc), trees, close.line, close.column)
+}
+
+/// The rows of the program of some names and a block.
+fn program_of(alloc: Global, file: &[u8], names: &[Text], main: Main) -> Result<Program, AllocError>
+    requires names { length names.now ≤ 65536 }
+    requires points { length main.sites.items ≤ 65536 }
+    ensures { IfOk result (λ p. (tree : Stmt) × IsBlockOf main tree × (p ≡ program_with file.now names.now (main.brace ∷ (main.sites.items ++ main.close ∷ [])) tree)) }
+{
+    let sites = points_of(alloc, &main)?;
+    let body = block_of(alloc, main);
+    Ok(Program {
+        units: alone(alloc, unit_of(alloc, file)?)?,
+        defs: Many::new(alloc),
+        objects: object_rows(alloc, names)?,
+        strings: Many::new(alloc),
+        functions: alone(alloc, main_of(alloc, &sites, body)?)?,
+        points: point_rows(alloc, names.len() as u32, &sites)?,
+        symbols: symbols_of(alloc, names)?,
+    })
+}
+
+/// What a text is: the program of one file of assignments that it spells, or why it spells none.
+pub fn read_program(alloc: Global, file: &[u8], text: &[u8]) -> Result<Program, ProgramFault>
+    ensures { IsRead file.now text.now result }
 {
     if text.len() > MAX_TEXT {
         return Err(ProgramFault::Later);
@@ -353,8 +473,32 @@ pub fn read_program(alloc: Global, text: &[u8]) -> Result<Program, ProgramFault>
     };
     let mut uses = scanner.again();
     match read_main(alloc, &names, &mut scanner) {
-        Ok(body) => with_known(alloc, names, body, &mut uses),
+        Ok(main) => with_known(alloc, file, &names, main, &mut uses),
         Err(ParseFault::Refused) => Err(ProgramFault::Later),
         Err(ParseFault::NoMemory) => Err(ProgramFault::NoMemory),
+    }
+}
+
+/// The program of some names and a block, where no name among the tokens is unknown.
+fn with_known(
+    alloc: Global,
+    file: &[u8],
+    names: &[Text],
+    main: Main,
+    uses: &mut Scanner<'_>,
+) -> Result<Program, ProgramFault>
+    requires names { length names.now ≤ 65536 }
+    requires points { length main.sites.items ≤ 65536 }
+    ensures { (body : Body) → IsMain (Some body) main → IsKnown file.now names.now body (unknown_in names.now uses.old) result }
+{
+    if let Some(name) = unknown_in(names, uses) {
+        return match Text::from_slice(alloc, name) {
+            Ok(name) => Err(ProgramFault::Unknown(name)),
+            Err(_) => Err(ProgramFault::NoMemory),
+        };
+    }
+    match program_of(alloc, file, names, main) {
+        Ok(program) => Ok(program),
+        Err(_) => Err(ProgramFault::NoMemory),
     }
 }

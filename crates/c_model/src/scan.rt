@@ -5,13 +5,13 @@ ghost use Rattle.std.specs.Str.{bytes_eq};
 ghost use Rattle.c_model.specs.Scan.{is_word, is_space, next_place, tokens_from, tokens_of, token_len, begins_space};
 ghost use Rattle.c_model.specs.Seen.{seen};
 
-use crate::Place;
+use c_tree::Site;
 use std::marker::Model;
 
 /// A token of a text, with its place.
 #[derive(Clone, Copy, Debug)]
 pub struct Token<'a> {
-    pub at: Place,
+    pub at: Site,
     pub text: &'a [u8],
 }
 
@@ -56,18 +56,21 @@ fn token_len(text: &[u8]) -> usize
 }
 
 /// The place of what follows a byte.
-fn next_place(place: Place, b: u8) -> Place
+fn next_place(place: Site, b: u8) -> Site
+    requires at { place.at < 2 ^ 32 - 1 }
     requires line { place.line < 2 ^ 32 - 1 }
     requires column { place.column < 2 ^ 32 - 1 }
     ensures { result ≡ next_place place b }
 {
     if b == b'\n' {
-        Place {
+        Site {
+            at: place.at + 1,
             line: place.line + 1,
             column: 1,
         }
     } else {
-        Place {
+        Site {
+            at: place.at + 1,
             line: place.line,
             column: place.column + 1,
         }
@@ -75,10 +78,10 @@ fn next_place(place: Place, b: u8) -> Place
 }
 
 /// A text without the white space in front, and the place where it begins.
-fn skip_space<'a>(start: Place, text: &'a [u8]) -> (Place, &'a [u8])
-    requires { start.line + start.column + 2 * length text.now < 2 ^ 32 }
+fn skip_space<'a>(start: Site, text: &'a [u8]) -> (Site, &'a [u8])
+    requires { start.at + start.line + start.column + 3 * length text.now < 2 ^ 32 }
     ensures tokens { tokens_from result.0 result.1.now ≡ tokens_from start text.now }
-    ensures fits { result.0.line + result.0.column + 2 * length result.1.now < 2 ^ 32 }
+    ensures fits { result.0.at + result.0.line + result.0.column + 3 * length result.1.now < 2 ^ 32 }
     ensures stops { begins_space result.1.now ≡ false }
 {
     let mut place = start;
@@ -96,7 +99,7 @@ fn skip_space<'a>(start: Place, text: &'a [u8]) -> (Place, &'a [u8])
 /// A text that is read token by token. Contracts see the tokens that are left.
 #[derive(Drop)]
 pub struct Scanner<'a> {
-    place: Place,
+    place: Site,
     rest: &'a [u8],
 }
 
@@ -108,7 +111,7 @@ impl<'a> Model for Scanner<'a> {
 
     ghost view = { λ s. tokens_from s.place s.rest.now };
 
-    ghost invariant = { λ s. s.place.line + s.place.column + 2 * length s.rest.now < 2 ^ 32 };
+    ghost invariant = { λ s. s.place.at + s.place.line + s.place.column + 3 * length s.rest.now < 2 ^ 32 };
 }
 
 impl<'a> Scanner<'a> {
@@ -118,7 +121,11 @@ impl<'a> Scanner<'a> {
         ensures few { length result ≤ length text.now }
     {
         Scanner {
-            place: Place { line: 1, column: 1 },
+            place: Site {
+                at: 0,
+                line: 1,
+                column: 1,
+            },
             rest: text,
         }
     }
@@ -140,7 +147,8 @@ impl<'a> Scanner<'a> {
         let (at, rest) = skip_space(self.place, self.rest);
         let len = token_len(rest);
         let (text, later) = rest.split_at(len);
-        self.place = Place {
+        self.place = Site {
+            at: at.at + len as u32,
             line: at.line,
             column: at.column + len as u32,
         };

@@ -17,13 +17,13 @@ use Rattle.c_source.specs.Blocks.{cells_of, entered}
 use Rattle.c_source.specs.Control.{State, Activation, Item, body_of}
 
 -- What a leaf of a kind holds at first. The strings are objects after the static ones, and an address that is a number is null.
-abbrev starting : Program → Kind → Start → Value
+abbrev pub starting : Program → Kind → Start → Value
 starting p Address (start.Number n) = Null
 starting p k (start.Number n) = Number n
 starting p k (start.Object o i) = At o i
 starting p k (start.Str s) = At (length p.objects + s) 0
 
-abbrev starts_of : Program → List Cell → List Start → List Cell
+abbrev pub starts_of : Program → List Cell → List Start → List Cell
 starts_of p [] xs = []
 starts_of p (c ∷ cs) [] = []
 starts_of p (c ∷ cs) (x ∷ xs) = record c { value = starting p c.kind x } ∷ starts_of p cs xs
@@ -36,11 +36,11 @@ static_objects p o [] = []
 static_objects p o (row ∷ rows) = static_object p o row ∷ static_objects p (suc o) rows
 
 -- a string's characters and a NUL, from an offset on
-abbrev characters : ℕ → List ℕ → List Cell
+abbrev pub characters : ℕ → List ℕ → List Cell
 characters i [] = record { at = i; kind = Byte; value = Number 0 } ∷ []
 characters i (c ∷ cs) = record { at = i; kind = Byte; value = Number (low_byte c) } ∷ characters (suc i) cs
 
-abbrev string_objects : ℕ → List (List ℕ) → List Object
+abbrev pub string_objects : ℕ → List (List ℕ) → List Object
 string_objects k [] = []
 string_objects k (s ∷ ss) = record { origin = Text k; live = true; size = suc (length s); cells = characters 0 s } ∷ string_objects (suc k) ss
 

@@ -4,5 +4,6 @@ pub mod Stored
 pub mod View
 pub mod Grammar
 pub mod Parts
+pub mod Tokens
 pub mod Machine
 pub mod Laws

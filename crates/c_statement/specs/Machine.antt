@@ -5,7 +5,7 @@ use Rattle.c_lex.specs.declared.keyword.Keyword.{Keyword}
 use Rattle.c_lex.specs.declared.keyword.Keyword.TheVariants as word
 use Rattle.c_symbol.specs.declared.terminal.Terminal.{Terminal}
 use Rattle.c_symbol.specs.declared.symbol.Symbol.{Symbol}
-use Rattle.c_symbol.specs.declared.symbol.Symbol.TheVariants.{OpenParen, CloseParen, OpenBrace, CloseBrace, Semicolon, Colon as ColonSign, Struct as StructWord, Word as TypeWord, Keyword as Word}
+use Rattle.c_symbol.specs.declared.symbol.Symbol.TheVariants.{CloseParen, Semicolon, Colon as ColonSign, Struct as StructWord, Word as TypeWord, Keyword as Word}
 use Rattle.c_expr.specs.Tree.{Tree}
 use Rattle.c_expr.specs.First.{first}
 use Rattle.c_expr.specs.Machine.{start}
@@ -46,6 +46,7 @@ use Rattle.c_statement.specs.declared.state.Outer.TheVariants as outer
 use Rattle.c_statement.specs.declared.state.Mode.{Mode}
 use Rattle.c_statement.specs.declared.state.Mode.TheVariants.{Begin, Items, Declaring, After, Done, Paren, Ends, Colon, May, Value}
 use Rattle.c_statement.specs.declared.state.Reader.{Reader}
+use Rattle.c_statement.specs.Tokens.{is_semicolon, is_open_paren, is_open_brace, is_close_brace, is_else, is_while, word_of}
 use Rattle.c_statement.specs.Parts.{kept, paired, expr_part, absent_part, present_part, statement_part, placed, evaluate_of, return_of, if_of, if_else_of, headed_of, do_of, for_of, begun_of, declares_of, also_of, closed_of}
 
 -- the next state, or no tree
@@ -134,11 +135,15 @@ keyword word.Return at s = goes (May (optional.Return at)) s
 keyword _ at s = None
 
 -- the first token of a statement
+abbrev pub begins_word : Option Keyword → List Frame → Terminal → Next
+begins_word None s t = value_begins (Must required.Evaluate) s t
+begins_word (Some k) s t = keyword k t.place s
+
 abbrev pub begins : Symbol → List Frame → Terminal → Next
-begins Semicolon s t = goes (After (statement_part (Empty t.place))) s
-begins OpenBrace s t = goes (Items (begun_of t.place)) s
-begins (Word k) s t = keyword k t.place s
-begins _ s t = value_begins (Must required.Evaluate) s t
+begins y s t =
+    if is_semicolon y then goes (After (statement_part (Empty t.place))) s
+    else if is_open_brace y then goes (Items (begun_of t.place)) s
+    else begins_word (word_of y) s t
 
 -- the `}` of a block: nothing may stand behind the outermost one
 abbrev pub ends_block : Option (Built StatementTree) → List Frame → Next
@@ -147,8 +152,7 @@ ends_block b (f ∷ s) = goes (After b) (f ∷ s)
 
 -- a token behind a part of a block
 abbrev pub inside : Symbol → Option (Built StatementTree) → List Frame → Terminal → Next
-inside CloseBrace b s t = ends_block (closed_of b t.place) s
-inside y b s t = begins y (frame.Block b ∷ s) t
+inside y b s t = if is_close_brace y then ends_block (closed_of b t.place) s else begins y (frame.Block b ∷ s) t
 
 -- one token more of a declaration in a block
 abbrev pub declaring : Option (Built StatementTree) → List Frame → Option (Step LocalParser ReadLocal) → Next
@@ -221,8 +225,7 @@ outer_of None = outer.Other
 outer_of (Some f) = outer_by f
 
 abbrev pub until : Symbol → Place → Option (Built StatementTree) → List Frame → Next
-until (Word word.While) at g s = goes (Paren (opener.Until (placed at g))) s
-until _ at g s = None
+until y at g s = if is_while y then goes (Paren (opener.Until (placed at g))) s else None
 
 abbrev pub continues : Outer → Option (Built StatementTree) → List Frame → Terminal → Next
 continues (outer.Do at) g s t = until t.symbol at g s
@@ -234,8 +237,7 @@ behind (g, s) t = continues (outer_of (first s)) g (drop 1 s) t
 
 -- a token behind a statement
 abbrev pub after : Symbol → Option (Built StatementTree) → List Frame → Terminal → Next
-after (Word word.Else) g s t = on_else (settle true g s)
-after _ g s t = behind (settle false g s) t
+after y g s t = if is_else y then on_else (settle true g s) else behind (settle false g s) t
 
 -- a `(`
 abbrev pub opens : Opener → List Frame → Next
@@ -244,13 +246,11 @@ opens (opener.Until p) s = waits (required.Until p) s
 opens (opener.For at) s = goes (May (optional.First at)) s
 
 abbrev pub paren : Symbol → Opener → List Frame → Next
-paren OpenParen o s = opens o s
-paren _ o s = None
+paren y o s = if is_open_paren y then opens o s else None
 
 -- the `;` of a statement, and the `:` of `default`
 abbrev pub semicolon : Symbol → Option (Built StatementTree) → List Frame → Next
-semicolon Semicolon g s = goes (After g) s
-semicolon _ g s = None
+semicolon y g s = if is_semicolon y then goes (After g) s else None
 
 abbrev pub colon : Symbol → Place → List Frame → Next
 colon ColonSign at s = goes Begin (frame.Headed (Some (record { height = 0; tree = head.Default at })) ∷ s)

@@ -45,8 +45,14 @@ fn plug(
         Frame::If(control) => if_of(alloc, control, part),
         Frame::Else(before) => if_else_of(alloc, before, part),
         Frame::Headed(head) => headed_of(alloc, head, part),
-        Frame::Do(_at) => Ok(part),
-        Frame::Block(_block) => Ok(part),
+        Frame::Do(at) => {
+            drop(at);
+            Ok(part)
+        }
+        Frame::Block(block) => {
+            drop(block);
+            Ok(part)
+        }
     }
 }
 
@@ -61,10 +67,10 @@ pub fn settle(
 {
     let mut part = part;
     'ending: while top_ends(is_else, stack) {
-        let Some(frame) = stack.pop() else {
-            return Ok(part);
-        };
-        part = plug(alloc, frame, part)?;
+        match stack.pop() {
+            Some(frame) => part = plug(alloc, frame, part)?,
+            None => return Ok(part),
+        }
     }
     Ok(part)
 }

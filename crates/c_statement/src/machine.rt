@@ -3,6 +3,7 @@ ghost use Rattle.std.specs.Prelude.{◌≡◌, ◌∷◌, IfOk, Some, drop};
 ghost use Rattle.c_expr.specs.First.{first};
 ghost use Rattle.c_statement.specs.Parts.{also_of};
 ghost use Rattle.c_declaration.specs.LocalReading.{local_offer};
+ghost use Rattle.c_statement.specs.Tokens.{is_semicolon, is_open_paren, is_close_brace, is_else, is_while};
 ghost use Rattle.c_statement.specs.Machine.{Gives, goes, keyword, begins, ends_block, inside, declaring, starts_local, items, until, continues, behind, takes_else, if_part, on_else, outer_of, after, opens, paren, semicolon, colon, shift, settle, begun_block};
 
 use crate::block::{Block, Opened};
@@ -18,7 +19,7 @@ use c_declaration::{Built, LocalParser, Step, local_offer};
 use c_expr::{Stack, SynFault};
 use c_lex::{Keyword, Place};
 use c_symbol::{Symbol, Terminal};
-use std::alloc::Global;
+use std::alloc::{AllocError, Global};
 
 /// What comes next changes, and nothing is begun or ended.
 fn turned(stack: Stack<Frame>, mode: Mode) -> Result<Reader, SynFault>
@@ -85,6 +86,13 @@ fn ends_block(stack: Stack<Frame>, block: Option<Built<Statement>>) -> Reader
     }
 }
 
+/// Whether a token is `}`.
+fn is_close_brace(symbol: Symbol) -> bool
+    ensures { result ≡ is_close_brace symbol }
+{
+    matches!(symbol, Symbol::CloseBrace)
+}
+
 /// A token behind a part of a block.
 fn inside(
     alloc: Global,
@@ -94,13 +102,12 @@ fn inside(
 ) -> Result<Reader, SynFault>
     ensures { Gives result (inside next.symbol block stack next) }
 {
-    match next.symbol {
-        Symbol::CloseBrace => Ok(ends_block(stack, closed_of(block, next.place))),
-        _ => {
-            let mut stack = stack;
-            stack.push(Frame::Block(block))?;
-            begins(alloc, stack, next)
-        }
+    if is_close_brace(next.symbol) {
+        Ok(ends_block(stack, closed_of(block, next.place)))
+    } else {
+        let mut stack = stack;
+        stack.push(Frame::Block(block))?;
+        begins(alloc, stack, next)
     }
 }
 
@@ -146,9 +153,20 @@ fn items(
     ensures { Gives result (items next.symbol block stack next) }
 {
     if starts_local(next.symbol) {
-        return declaring(alloc, stack, block, LocalParser::Begin, next);
+        declaring(alloc, stack, block, LocalParser::Begin, next)
+    } else {
+        inside(alloc, stack, block_of(alloc, block), next)
     }
-    inside(alloc, stack, block_of(alloc, block), next)
+}
+
+/// Whether a token is `while`.
+fn is_while(symbol: Symbol) -> bool
+    ensures { result ≡ is_while symbol }
+{
+    match symbol {
+        Symbol::Keyword(Keyword::While) => true,
+        _ => false,
+    }
 }
 
 /// The `while` behind the statement of `do`.
@@ -161,12 +179,14 @@ fn until(
 ) -> Result<Reader, SynFault>
     ensures { Gives result (until symbol begun part stack) }
 {
-    match symbol {
-        Symbol::Keyword(Keyword::While) => Ok(Reader {
+    if is_while(symbol) {
+        Ok(Reader {
             stack,
             mode: Mode::Paren(Opener::Until(placed(begun, part))),
-        }),
-        _ => Err(SynFault::Syntax(place)),
+        })
+    } else {
+        drop(part);
+        Err(SynFault::Syntax(place))
     }
 }
 
@@ -183,7 +203,10 @@ fn behind(
     match outer_of(stack.pop()) {
         Outer::Do(begun) => until(stack, begun, part, next.symbol, next.place),
         Outer::Block(block) => inside(alloc, stack, also_of(block, part)?, next),
-        Outer::Other => Err(SynFault::Syntax(next.place)),
+        Outer::Other => {
+            drop(part);
+            Err(SynFault::Syntax(next.place))
+        }
     }
 }
 
@@ -198,7 +221,20 @@ fn on_else(
     let mut stack = stack;
     match if_part(stack.pop()) {
         Some(control) => Ok(begin(stack, Frame::Else(paired(control, part)))?),
-        None => Err(SynFault::Syntax(place)),
+        None => {
+            drop(part);
+            Err(SynFault::Syntax(place))
+        }
+    }
+}
+
+/// Whether a token is `else`.
+fn is_else(symbol: Symbol) -> bool
+    ensures { result ≡ is_else symbol }
+{
+    match symbol {
+        Symbol::Keyword(Keyword::Else) => true,
+        _ => false,
     }
 }
 
@@ -212,16 +248,34 @@ fn after(
     ensures { Gives result (after next.symbol part stack next) }
 {
     let mut stack = stack;
-    match next.symbol {
-        Symbol::Keyword(Keyword::Else) => {
-            let part = settle(alloc, true, part, &mut stack)?;
-            on_else(stack, part, next.place)
-        }
-        _ => {
-            let part = settle(alloc, false, part, &mut stack)?;
-            behind(alloc, stack, part, next)
-        }
+    let otherwise = is_else(next.symbol);
+    let part = settle(alloc, otherwise, part, &mut stack)?;
+    if otherwise {
+        on_else(stack, part, next.place)
+    } else {
+        behind(alloc, stack, part, next)
     }
+}
+
+/// The `(` behind a keyword.
+fn opens(alloc: Global, stack: Stack<Frame>, opener: Opener) -> Result<Reader, AllocError>
+    ensures { IfOk result (λ r. opens opener stack ≡ Some r) }
+{
+    match opener {
+        Opener::Control(control, begun) => waits(alloc, stack, Required::Control(control, begun)),
+        Opener::Until(before) => waits(alloc, stack, Required::Until(before)),
+        Opener::For(begun) => Ok(Reader {
+            stack,
+            mode: Mode::May(Optional::First(begun)),
+        }),
+    }
+}
+
+/// Whether a token is `(`.
+fn is_open_paren(symbol: Symbol) -> bool
+    ensures { result ≡ is_open_paren symbol }
+{
+    matches!(symbol, Symbol::OpenParen)
 }
 
 /// A token where a `(` must stand.
@@ -234,21 +288,19 @@ fn paren(
 ) -> Result<Reader, SynFault>
     ensures { Gives result (paren symbol opener stack) }
 {
-    match symbol {
-        Symbol::OpenParen => match opener {
-            Opener::Control(control, begun) => Ok(waits(
-                alloc,
-                stack,
-                Required::Control(control, begun),
-            )?),
-            Opener::Until(before) => Ok(waits(alloc, stack, Required::Until(before))?),
-            Opener::For(begun) => Ok(Reader {
-                stack,
-                mode: Mode::May(Optional::First(begun)),
-            }),
-        },
-        _ => Err(SynFault::Syntax(place)),
+    if is_open_paren(symbol) {
+        Ok(opens(alloc, stack, opener)?)
+    } else {
+        drop(opener);
+        Err(SynFault::Syntax(place))
     }
+}
+
+/// Whether a token is `;`.
+fn is_semicolon(symbol: Symbol) -> bool
+    ensures { result ≡ is_semicolon symbol }
+{
+    matches!(symbol, Symbol::Semicolon)
 }
 
 /// A token where the `;` of a statement must stand.
@@ -260,12 +312,14 @@ fn semicolon(
 ) -> Result<Reader, SynFault>
     ensures { Gives result (semicolon symbol part stack) }
 {
-    match symbol {
-        Symbol::Semicolon => Ok(Reader {
+    if is_semicolon(symbol) {
+        Ok(Reader {
             stack,
             mode: Mode::After(part),
-        }),
-        _ => Err(SynFault::Syntax(place)),
+        })
+    } else {
+        drop(part);
+        Err(SynFault::Syntax(place))
     }
 }
 
@@ -300,7 +354,10 @@ pub fn shift(alloc: Global, reader: Reader, next: Terminal) -> Result<Reader, Sy
         Mode::Items(block) => items(alloc, stack, block, next),
         Mode::Declaring(block, parser) => declaring(alloc, stack, block, parser, next),
         Mode::After(part) => after(alloc, stack, part, next),
-        Mode::Done(_part) => Err(SynFault::Syntax(next.place)),
+        Mode::Done(part) => {
+            drop(part);
+            Err(SynFault::Syntax(next.place))
+        }
         Mode::Paren(opener) => paren(alloc, stack, opener, next.symbol, next.place),
         Mode::Ends(part) => semicolon(stack, part, next.symbol, next.place),
         Mode::Colon(begun) => colon(stack, begun, next.symbol, next.place),

@@ -19,13 +19,23 @@ use c_lex::Place;
 use c_symbol::{Symbol, Terminal};
 use std::alloc::{AllocError, Global};
 
+/// What an expression that must stand must be.
+fn least_for_required(purpose: &Required) -> Least
+    ensures { result ≡ least_for (Must purpose.now) }
+{
+    match purpose {
+        Required::Case(_) => Least::Constant,
+        Required::Evaluate | Required::Control(_, _) | Required::Until(_) => Least::Expression,
+    }
+}
+
 /// What an expression must be.
 fn least_for(purpose: &Purpose) -> Least
     ensures { result ≡ least_for purpose.now }
 {
     match purpose {
-        Purpose::Must(Required::Case(_)) => Least::Constant,
-        _ => Least::Expression,
+        Purpose::Must(purpose) => least_for_required(purpose),
+        Purpose::May(_) => Least::Expression,
     }
 }
 
@@ -170,6 +180,7 @@ fn used_before(
     if is_closer(closer_of(&purpose), symbol) {
         return used(alloc, stack, purpose, expr_part(g.tree));
     }
+    drop(purpose);
     Err(SynFault::Syntax(place))
 }
 
@@ -185,12 +196,16 @@ pub fn valued(
 {
     let symbol = next.symbol;
     let place = next.place;
-    match offer(alloc, parser, least_for(&purpose), next)? {
-        Offered::Goes(parser) => Ok(Reader {
+    match offer(alloc, parser, least_for(&purpose), next) {
+        Ok(Offered::Goes(parser)) => Ok(Reader {
             stack,
             mode: Mode::Value(purpose, parser),
         }),
-        Offered::Ends(g) => used_before(alloc, stack, purpose, g, symbol, place),
+        Ok(Offered::Ends(g)) => used_before(alloc, stack, purpose, g, symbol, place),
+        Err(fault) => {
+            drop(purpose);
+            Err(fault)
+        }
     }
 }
 
@@ -203,19 +218,23 @@ pub fn value_begins(
 ) -> Result<Reader, SynFault>
     ensures { Gives result (value_begins purpose stack next) }
 {
-    let parser = Parser::new(alloc, least_for(&purpose))?;
-    valued(alloc, stack, purpose, parser, next)
+    match Parser::new(alloc, least_for(&purpose)) {
+        Ok(parser) => valued(alloc, stack, purpose, parser, next),
+        Err(_) => {
+            drop(purpose);
+            Err(SynFault::NoMemory)
+        }
+    }
 }
 
 /// An expression is to come.
 pub fn waits(alloc: Global, stack: Stack<Frame>, purpose: Required) -> Result<Reader, AllocError>
     ensures { IfOk result (λ r. waits purpose stack ≡ Some r) }
 {
-    let purpose = Purpose::Must(purpose);
-    let parser = Parser::new(alloc, least_for(&purpose))?;
+    let parser = Parser::new(alloc, least_for_required(&purpose))?;
     Ok(Reader {
         stack,
-        mode: Mode::Value(purpose, parser),
+        mode: Mode::Value(Purpose::Must(purpose), parser),
     })
 }
 

@@ -97,15 +97,16 @@ module _ (p : Program) where
   IsOfFunction t None = ⊥
   IsOfFunction t (Some fn) = t ≡ plain fn.result
 
-  abbrev pub IsOfBuiltIn : Plain → Denoted → Type 0
-  IsOfBuiltIn t (AFunction r ts) = t ≡ r
-  IsOfBuiltIn t _ = ⊥
+  -- a function that the program doesn't define: a built-in has its type, and another one is declared and never called
+  abbrev pub IsUndefined : Plain → Denoted → Type 0
+  IsUndefined t (AFunction r ts) = t ≡ r
+  IsUndefined t _ = is_result t ≡ true
 
   abbrev pub IsReferent : Plain → List ℕ → Referent → Type 0
   IsReferent t name (refers.Object o) = IsOfObject t (slice_get p.objects o)
   IsReferent t name (refers.Local x) = Unit {0}
   IsReferent t name (refers.Function f) = IsOfFunction t (slice_get p.functions f)
-  IsReferent t name refers.Declared = IsOfBuiltIn t (built_in name)
+  IsReferent t name refers.Declared = IsUndefined t (built_in name)
 
   abbrev pub IsBelow : ℕ → Option ℕ → Type 0
   IsBelow n None = Unit {0}

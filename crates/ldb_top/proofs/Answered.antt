@@ -5,10 +5,10 @@ use Rattle.std.proofs.lemmas.Option.{slice_get_within}
 use Rattle.std.specs.Prelude.{codes, decimal, slice_get, if◌then◌else◌, nat_le}
 use Rattle.std.specs.Fmt.{signed_decimal}
 use Rattle.std.specs.Str.{bytes_eq}
-use Rattle.c_model.specs.declared.tree.Place.{Place}
-use Rattle.c_model.specs.declared.tree.Program.{Program as Tasks}
-use Rattle.c_model.specs.declared.event.Event.{Event}
-use Rattle.c_model.specs.declared.event.Event.TheVariants as event
+use Rattle.assign_tree.specs.declared.task.Place.{Place}
+use Rattle.assign_tree.specs.Made.{Tasks}
+use Rattle.assign_tree.specs.declared.task.Event.{Event}
+use Rattle.assign_tree.specs.declared.task.Event.TheVariants as event
 use Rattle.c_model.specs.Names.{object_of, print_refusal, is_identifier, is_function, is_name}
 use Rattle.assign_tree.specs.Tasks.{State as Left, object_value}
 use Rattle.ldb_words.specs.Arithmetic.{is_int}
@@ -28,7 +28,8 @@ use Rattle.c_session.specs.declared.command.Command.TheVariants as command
 use Rattle.c_session.specs.Commands.{Reader, Answer, Refuses, BadSyntax, NoScope, BadType, Quits, Nothing, answer, print_symbol}
 use Rattle.c_session.specs.Commands as mode
 use Rattle.c_session.specs.Allowed.{Lines, bytes_of, Standing, AnswerReplies, MemoryReplies, ClaimEnds, event_text}
-use Rattle.assign_tree.specs.Spelled.{IsBody, AreNames, program_with, point_row, point_rows, object_row, object_rows, object_symbol, main_symbol}
+use Rattle.assign_tree.specs.Assigning.{IsBody, AreNames, program_with, point_row, point_rows}
+use Rattle.c_model.specs.Rows.{object_row, object_rows, object_symbol, main_symbol}
 use Rattle.assign_tree.specs.Stands.{Stands, Answers, Meets, beginning, stopping, ComesTo, Fails, at_point}
 use Rattle.assign_tree.proofs.Standing.{Stop, stop_of}
 use Rattle.assign_tree.proofs.Words.{object_is, object_absent, by_bool, bytes_same, bytes_differ, same_bytes}

@@ -1,7 +1,7 @@
 -- Lines that are read one after another, and the counts of faults.
 use Rattle.std.proofs.Common.{◌≡◌, ℕ, true, false, List, [], ◌∷◌, Option, None, Some, refl, sym, ap, ◌∙◌, subst, cond}
 use Rattle.std.proofs.Common.{Ok}
-use Rattle.c_model.specs.declared.tree.Program.{Program}
+use Rattle.assign_tree.specs.Made.{Tasks}
 use Rattle.ldb_top.specs.Command.{is_quit}
 use Rattle.ldb_top.specs.Follows.{Session}
 use Rattle.ldb_edge.specs.Count.{Rose}
@@ -64,12 +64,12 @@ reading_on GoesOn q = refl
 reading_on Quits q = absurd (q refl)
 
 -- a line that goes on isn't `quit`
-pub served_on : (program : Program) (file line : List ℕ) (old new : Session) (before now : Option (List ℕ)) (reading : Reading) → reading ≡ GoesOn → IsServed program file line old new before now (Ok reading) → is_quit line ≡ false
+pub served_on : (program : Tasks) (file line : List ℕ) (old new : Session) (before now : Option (List ℕ)) (reading : Reading) → reading ≡ GoesOn → IsServed program file line old new before now (Ok reading) → is_quit line ≡ false
 served_on program file line old new before now GoesOn r s = s.0
 served_on program file line old new before now Quits r s = absurd cc
 
 -- the line was `quit`
-pub served_quit : (program : Program) (file line : List ℕ) (old new : Session) (before now : Option (List ℕ)) (reading : Reading) → reading ≡ Quits → IsServed program file line old new before now (Ok reading) → is_quit line ≡ true
+pub served_quit : (program : Tasks) (file line : List ℕ) (old new : Session) (before now : Option (List ℕ)) (reading : Reading) → reading ≡ Quits → IsServed program file line old new before now (Ok reading) → is_quit line ≡ true
 served_quit program file line old new before now GoesOn r s = absurd cc
 served_quit program file line old new before now Quits r s = s.1
 

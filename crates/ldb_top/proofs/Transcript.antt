@@ -1,7 +1,7 @@
 -- What a session may write, line by line.
 use Rattle.std.proofs.Common.{◌≡◌, ℕ, Bool, true, false, List, [], ◌∷◌, ◌++◌, Option, Some, None, inl, inr, refl, sym, ap, ◌∙◌, subst, append_assoc, cond}
 use Rattle.std.proofs.lemmas.Bool.{false≢true}
-use Rattle.c_model.specs.declared.tree.Program.{Program as Tasks}
+use Rattle.assign_tree.specs.Made.{Tasks}
 use Rattle.c_tree.specs.declared.rows.Program.{Program}
 use Rattle.c_session.specs.declared.command.Command.{Command}
 use Rattle.c_session.specs.declared.command.Command.TheVariants.{Quit}
@@ -9,7 +9,7 @@ use Rattle.c_session.specs.Commands.{Reader, answer, Quits}
 use Rattle.c_session.specs.Allowed.{Lines, bytes_of, Standing, AllowedFrom, IsQuit}
 use Rattle.ldb_top.specs.Command.{is_empty, is_quit, is_quit_command, read_of, commands_of}
 use Rattle.ldb_top.specs.Follows.{Session, first_session}
-use Rattle.ldb_top.specs.Allowed.{Beside, before, at, behind, OfEach, ArePlain, Replies, EndsClaim, Allowed, IsTranscript}
+use Rattle.ldb_top.specs.Allowed.{Beside, before, at, behind, OfEach, ArePlain, Replies, EndsClaim, Allowed, IsTaskTranscript}
 use Rattle.ldb_top.proofs.Answered.{no_memory, no_memory_plain, NO_MEMORY}
 
 pub bytes-append : (xs ys : Lines) → bytes_of (xs ++ ys) ≡ bytes_of xs ++ bytes_of ys
@@ -89,5 +89,5 @@ module _ (program : Tasks) (file : List ℕ) where
       by false false d e rest = (_, allowed_reply line lines now now (NO_MEMORY program file) rest.0 (no_memory_plain program file) d e (no_memory program file line now e) rest.1)
 
   -- from the start on
-  pub transcript_of : (lines : List (List ℕ)) (out : List ℕ) → Allowed program file (first_session program) lines out → IsTranscript program file lines out
+  pub transcript_of : (lines : List (List ℕ)) (out : List ℕ) → Allowed program file (first_session program) lines out → IsTaskTranscript program file lines out
   transcript_of lines out h = record { transcript = h.transcript; bytes_are = h.bytes; plain = h.plain; allowed = λ p r is takes. h.each p r _ is takes before }

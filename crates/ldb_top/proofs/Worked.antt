@@ -1,41 +1,50 @@
--- A worked text, computed: how it reads, and that the program it spells has the rows of the program whose session is computed for the whole language.
-use Rattle.std.proofs.Common.{◌≡◌, refl, ℕ, [], ◌∷◌, Option, Some, None, pos}
+-- A worked text, computed: the trees that it spells, and that its rows are those of the program whose session is computed for the whole language.
+use Rattle.std.proofs.Common.{◌≡◌, refl, ℕ, suc, List, [], ◌∷◌, Option, Some, None}
 use Rattle.std.specs.Prelude.{Box, codes, slice_get}
 use Rattle.std.specs.declared.alloc.Global.{Global}
-use Rattle.c_model.specs.declared.tree.Place.{Place}
-use Rattle.c_model.specs.declared.tree.Operand.TheVariants.{Object, Constant}
-use Rattle.c_model.specs.declared.tree.Sum.TheVariants.{One}
-use Rattle.c_model.specs.declared.tree.Task.TheVariants.{Pass, Store, Give}
-use Rattle.c_model.specs.declared.tree.Program.{Program as Tasks}
-use Rattle.c_model.specs.Grammar.{Accepted, reading_of}
 use Rattle.c_tree.specs.declared.rows.Function.{Function}
+use Rattle.c_tree.specs.declared.rows.Program.{Program}
+use Rattle.c_tree.specs.declared.typed.Site.{Site}
+use Rattle.c_tree.specs.declared.typed.Typed.TheVariants as typed
 use Rattle.c_tree.specs.declared.typed.Stmt.{Stmt}
-use Rattle.c_tree.specs.declared.typed.Stmt.TheVariants.{Break}
+use Rattle.c_tree.specs.declared.typed.Stmt.TheVariants.{Break, Value, Return}
 use Rattle.c_session.proofs.AssignmentSession.{program}
 use Rattle.c_session.proofs.Trees.{somewhere}
 use Rattle.c_session.specs.declared.command.Command.TheVariants as command
-use Rattle.assign_tree.specs.Spelled.{program_with}
+use Rattle.c_model.specs.Grammar.{Lies, Statement, Reading, Accepted, reading_of}
+use Rattle.c_model.specs.Rows.{int_at, program_with}
+use Rattle.c_model.specs.Spelled.{points_of}
 use Rattle.ldb_top.specs.Command.{commands_of}
 
-abbrev place : ℕ → ℕ → Place
-place line column = record { line = line; column = column }
+abbrev text : List ℕ
+text = codes "int x; int main(void) { x = 3; return x; }"
 
-tasks : Tasks
-tasks = record {
-  objects = codes "x" ∷ [];
-  body = Pass (place 1 23) ∷ Pass (place 1 25) ∷ Store 0 (One (Constant (pos 3))) ∷ Pass (place 1 32) ∷ Give (One (Object 0)) ∷ Pass (place 1 42) ∷ [];
-}
+abbrev place : ℕ → ℕ → ℕ → Site
+place at line column = record { at = at; line = line; column = column }
 
-it_reads : reading_of (codes "int x; int main(void) { x = 3; return x; }") ≡ Accepted tasks
-unfolding tasks
-it_reads = refl
+-- the trees of some statements, whose parts lie so
+abbrev trees_from : ℕ → Lies → List Statement → List Stmt
+trees_from q w [] = []
+trees_from q w (s ∷ statements) = s.tree q w ∷ trees_from (suc q) w statements
+
+abbrev trees_in : Lies → Reading → List Stmt
+trees_in w (Accepted names body) = trees_from 1 w body.rest.statements
+trees_in w _ = []
+
+its_trees : (w : Lies) → trees_in w (reading_of text)
+    ≡ Value (place 24 1 25) (Some (record { point = 1; e = typed.Assign' (int_at (place 24 1 25)) w.target (typed.Name (int_at (place 24 1 25)) 3) None w.value (typed.Constant (int_at (place 28 1 29)) 3) }))
+    ∷ Return (place 31 1 32) 2 (Some (typed.Name (int_at (place 38 1 39)) 3)) ∷ []
+its_trees w = refl
 
 abbrev body_in : Option Function → Stmt
 body_in None = Break somewhere
 body_in (Some f) = f.body
 
-its_rows : (b : Box (Unit {0}) Global) → program_with (codes "a.c") tasks.objects tasks.body (body_in (slice_get (program b).functions 0)) ≡ program b
-unfolding tasks
+abbrev program_in : Reading → Stmt → Option Program
+program_in (Accepted names body) tree = Some (program_with (codes "a.c") names (points_of body) tree)
+program_in _ tree = None
+
+its_rows : (b : Box (Unit {0}) Global) → program_in (reading_of text) (body_in (slice_get (program b).functions 0)) ≡ Some (program b)
 its_rows b = refl
 
 -- its commands, of which a line of blanks is none

@@ -1,7 +1,7 @@
 -- What a session with a program that a text spells may write.
 use Rattle.std.specs.Prelude.{◌≡◌, ◌≢◌, ◌⊎◌, ℕ, List, [], codes, Option}
 use Rattle.std.specs.List.{AllByRecursion}
-use Rattle.c_model.specs.declared.tree.Program.{Program as Tasks}
+use Rattle.assign_tree.specs.Made.{Tasks}
 use Rattle.c_model.specs.Names.{is_identifier}
 use Rattle.c_tree.specs.declared.rows.Program.{Program}
 use Rattle.c_source.specs.Begin.{begin}
@@ -12,7 +12,8 @@ use Rattle.c_session.specs.Commands.{Reader, Mode, answer}
 use Rattle.c_session.specs.Commands as mode
 use Rattle.c_session.specs.Allowed.{Lines, bytes_of, Standing, AnswerReplies, MemoryReplies, ClaimEnds, AllowedFrom}
 use Rattle.c_session.specs.Allowed as whole
-use Rattle.assign_tree.specs.Spelled.{IsSpelled}
+use Rattle.assign_tree.specs.Assigning.{Makes}
+use Rattle.c_model.specs.Spelled.{IsSpelled}
 use Rattle.assign_tree.specs.Stands.{Stands}
 use Rattle.ldb_top.specs.declared.session.Phase.TheVariants.{Stopped, Ended}
 use Rattle.ldb_top.specs.Command.{commands_of}
@@ -22,9 +23,9 @@ use Rattle.ldb_top.specs.Follows.{Session, session, first_session}
 abbrev pub TakesNames : Reader → Type 0
 TakesNames r = (w : List ℕ) → r.is_name w ≡ is_identifier w
 
--- A session with the program that a text spells may write these lines for these command lines, with one side, no input and no output.
-abbrev pub MayWrite : Tasks → List ℕ → List (List ℕ) → Lines → Type 0
-MayWrite tasks file lines transcript = (p : Program) (r : Reader) → IsSpelled file tasks p → TakesNames r → whole.Allowed p r 1 [] (commands_of lines) transcript []
+-- A session with the program that a text in this file spells may write these lines for these command lines, with one side, no input and no output.
+abbrev pub MayWrite : List ℕ → List ℕ → List (List ℕ) → Lines → Type 0
+MayWrite text file lines transcript = (p : Program) (r : Reader) → IsSpelled file text p → TakesNames r → whole.Allowed p r 1 [] (commands_of lines) transcript []
 
 -- A program of this form never runs out of turns or stack: no line says so.
 abbrev pub IsPlain : List ℕ → Type 0
@@ -34,13 +35,20 @@ abbrev pub ArePlain : Lines → Type 0
 ArePlain transcript = AllByRecursion IsPlain transcript
 
 -- these bytes are such lines
-pub record IsTranscript (tasks : Tasks) (file : List ℕ) (lines : List (List ℕ)) (bytes : List ℕ) : Type 0 where
+pub record IsTranscript (text file : List ℕ) (lines : List (List ℕ)) (bytes : List ℕ) : Type 0 where
   pub transcript : Lines
   pub bytes_are : bytes ≡ bytes_of transcript
   pub plain : ArePlain transcript
-  pub allowed : MayWrite tasks file lines transcript
+  pub allowed : MayWrite text file lines transcript
 
 -- ---- on the way
+
+-- these bytes are lines that a session with each program that makes these tasks may write
+pub record IsTaskTranscript (tasks : Tasks) (file : List ℕ) (lines : List (List ℕ)) (bytes : List ℕ) : Type 0 where
+  pub transcript : Lines
+  pub bytes_are : bytes ≡ bytes_of transcript
+  pub plain : ArePlain transcript
+  pub allowed : (p : Program) (r : Reader) → Makes file tasks p → TakesNames r → whole.Allowed p r 1 [] (commands_of lines) transcript []
 
 -- without breakpoints, in the innermost frame, with the first limit
 abbrev pub standing_in : Mode → Standing
@@ -52,9 +60,9 @@ pub data Beside (tasks : Tasks) (p : Program) : Session → Standing → Type 0 
   at : (left : Left) (s : State) → Stands tasks.objects tasks.body left s → Beside tasks p (session Stopped left) (standing_in (mode.Stopped s))
   behind : (left : Left) → Beside tasks p (session Ended left) (standing_in mode.Ended)
 
--- what holds of each program that the text spells, and each standing beside the session
+-- what holds of each program that makes the tasks, and each standing beside the session
 abbrev pub OfEach : Tasks → List ℕ → Session → (Program → Reader → Standing → Type 0) → Type 0
-OfEach tasks file old P = (p : Program) (r : Reader) (st : Standing) → IsSpelled file tasks p → TakesNames r → Beside tasks p old st → P p r st
+OfEach tasks file old P = (p : Program) (r : Reader) (st : Standing) → Makes file tasks p → TakesNames r → Beside tasks p old st → P p r st
 
 -- these lines answer a command
 abbrev pub Replies : Tasks → List ℕ → Option Command → Session → Lines → Session → Type 0

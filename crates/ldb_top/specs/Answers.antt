@@ -9,7 +9,7 @@ use Rattle.ldb_top.specs.Outcome.{Plan, Say, Serve, lines_of}
 -- a plan is answered by its status, and a session by one of its two ends
 abbrev pub IsPlanned : Plan → Status → Type 0
 IsPlanned (Say said text) status = status ≡ said
-IsPlanned (Serve program names) status = (status ≡ Done) ⊎ (status ≡ TooLong)
+IsPlanned (Serve text names) status = (status ≡ Done) ⊎ (status ≡ TooLong)
 
 -- the answer of a plan for the files, where these are told
 abbrev pub Plans : (FileMap → Plan) → Option FileMap → Status → Type 0

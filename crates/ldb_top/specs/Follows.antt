@@ -3,11 +3,11 @@ use Rattle.std.specs.Prelude.{◌≡◌, ℕ, List, [], ◌∷◌, ◌++◌, cod
 use Rattle.std.specs.Fmt.{decimal, signed_decimal}
 use Rattle.c_session.specs.declared.command.Command.{Command}
 use Rattle.c_session.specs.declared.command.Command.TheVariants.{Step, Print}
-use Rattle.c_model.specs.declared.event.Event.{Event}
-use Rattle.c_model.specs.declared.event.Event.TheVariants.{Stop, Exit}
+use Rattle.assign_tree.specs.declared.task.Event.{Event}
+use Rattle.assign_tree.specs.declared.task.Event.TheVariants.{Stop, Exit}
 use Rattle.ldb_top.specs.declared.session.Phase.{Phase}
 use Rattle.ldb_top.specs.declared.session.Phase.TheVariants.{Fresh, Stopped, Ended}
-use Rattle.c_model.specs.declared.tree.Program.{Program}
+use Rattle.assign_tree.specs.Made.{Tasks}
 use Rattle.c_model.specs.Names.{object_of, print_refusal}
 use Rattle.assign_tree.specs.Tasks.{State, first_state, object_value}
 use Rattle.assign_tree.specs.Stands.{ComesTo, Fails}
@@ -20,7 +20,7 @@ pub record Session : Type 0 where
 abbrev pub session : Phase → State → Session
 session phase source = record { phase = phase; source = source }
 
-abbrev pub first_session : Program → Session
+abbrev pub first_session : Tasks → Session
 first_session program = session Fresh (first_state program)
 
 -- the end of a line
@@ -71,7 +71,7 @@ Prints number name Fresh old reply new = IsRefused (codes "running") old reply n
 Prints number name Stopped old reply new = Shows number name old reply new
 
 -- the reply to a command, and the session after it
-abbrev pub Follows : Program → List ℕ → Option Command → Session → List ℕ → Session → Type 0
+abbrev pub Follows : Tasks → List ℕ → Option Command → Session → List ℕ → Session → Type 0
 Follows program file None old reply new = IsRefused (codes "line") old reply new
 Follows program file (Some Step) old reply new = Steps old.phase file old reply new
 Follows program file (Some (Print name)) old reply new = Prints (object_of program.objects name) name old.phase old reply new

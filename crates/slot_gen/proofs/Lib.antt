@@ -13,3 +13,11 @@ mod Temps
 mod TempsOfStatements
 mod Lengths
 mod Emitted
+mod Arms
+mod Stops
+mod Turns
+mod Forms
+mod Pairs
+mod Begun
+mod Codes
+mod Starting

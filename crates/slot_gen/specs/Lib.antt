@@ -3,3 +3,5 @@ pub mod Statements
 pub mod Bounds
 pub mod Tokens
 pub mod Correct
+pub mod Emission
+pub mod Rows

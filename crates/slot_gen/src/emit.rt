@@ -1,6 +1,6 @@
 // Operators at the end of a function's code.
 ghost use Rattle.std.specs.Prelude.{◌≡◌, ℕ, ◌+◌, [], ◌∷◌, ◌++◌, Bool, IfOk, OnOk, length};
-ghost use Rattle.slot_gen.specs.Expressions.{cast_code, load_code, store_code, write_code, read_at, referent_code};
+ghost use Rattle.slot_gen.specs.Expressions.{cast_code, load_code, store_code, write_code, read_at, write_at, referent_code};
 ghost use Rattle.c_tree.specs.declared.rows.Program.{Program};
 
 use crate::translate::{access_of, is_array, kind_of};
@@ -156,6 +156,21 @@ fn put_into_register(
         },
     )?;
     put(code, SlotOp::Take { to: at, from })
+}
+
+/// The same at a place, or into a local in a register.
+pub fn put_write(
+    code: &mut Vec<SlotOp>,
+    at: u32,
+    register: Option<u32>,
+    t: &CType,
+) -> Result<(), AllocError>
+    ensures { (p : Program) (f : ℕ) → OnOk result (code.new.items ≡ code.old.items ++ write_at p f at register t.now) }
+{
+    match register {
+        None => put_store(code, at, t),
+        Some(local) => put_into_register(code, at, local, t),
+    }
 }
 
 /// The address of what a name refers to; nothing where that is no object.

@@ -9,12 +9,18 @@ ghost use Rattle.slot_ir.specs.WellFormed.{operators_of_a_token};
 ghost use Rattle.slot_gen.specs.Tokens.{tokens_of};
 ghost use Rattle.slot_gen.specs.Bounds.{temps_of, function_temps, AreBelow};
 ghost use Rattle.slot_gen.specs.Correct.{IsCodeOf, HasMain, Lowers};
+ghost use Rattle.slot_gen.specs.Rows.{HasRowsOf, AllFitting};
 ghost use Rattle.slot_gen.specs.Expressions.{expr_code};
 ghost use Rattle.slot_gen.specs.Statements.{function_code};
 
 /// The slot code of a program passes its stopping points in order, with the same objects, activations, output and exit number, for every input and all assignments made at the stops, up to the program's first undefined step; and it shows nothing else.
 pub fn slot_code_keeps_the_run()
     ensures { (p : Program) (c : SlotCode) → IsCodeOf p c → HasMain p → Lowers p c }
+{}
+
+/// Code that has a program's rows is the code of the program, where its static objects hold what their types say.
+pub fn rows_are_the_code()
+    ensures { (p : Program) (c : SlotCode) → HasRowsOf p c → AllFitting p p.objects → IsCodeOf p c }
 {}
 
 /// The code of an expression and of a function names the temporaries that it is said to take alone, and an expression takes at most one more than it has nodes.

@@ -259,7 +259,7 @@ pub fn bytes_of(t: &CType, defs: &[StructDef]) -> Result<u32, AllocError>
 }
 
 /// What a pointer points to, or an array holds.
-fn target(t: &CType) -> Option<&CType>
+pub fn target(t: &CType) -> Option<&CType>
     ensures { option_map (λ r. r.now) result ≡ target_of t.now }
 {
     match t {

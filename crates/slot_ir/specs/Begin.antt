@@ -38,7 +38,7 @@ static_objects c o [] = []
 static_objects c o (row ∷ rows) = record { origin = Static o; live = true; size = row.size; cells = start_cells c row.start } ∷ static_objects c (suc o) rows
 
 -- a string's characters and a NUL, from an offset on
-abbrev characters : ℕ → List ℕ → List Cell
+abbrev pub characters : ℕ → List ℕ → List Cell
 characters i [] = record { at = i; kind = Byte; value = Number 0 } ∷ []
 characters i (c ∷ cs) = record { at = i; kind = Byte; value = Number (low_byte c) } ∷ characters (suc i) cs
 

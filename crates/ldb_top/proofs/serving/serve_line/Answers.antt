@@ -1,3 +1,4 @@
+use Rattle.assign_tree.specs.Made.{assigns_of}
 use Rattle.std.proofs.Common.{inl, refl, sym, subst}
 use Rattle.std.specs.Prelude.{codes}
 use Rattle.ldb_top.specs.Command.{read_of}
@@ -9,7 +10,7 @@ use Rattle.ldb_top.proofs.serving.serve_line.Goals as goal
 
 pub returns-in-NoMemory-clause-served : goal.returns-in-NoMemory-clause-served
 returns-in-NoMemory-clause-served g c =
-    let program = c.args.program.now in
+    let program = (assigns_of c.args.program.now) in
     let file = c.args.file.now in
     let line = c.args.line.now in
     let old = c.args.session.now in

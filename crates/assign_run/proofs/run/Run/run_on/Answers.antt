@@ -1,6 +1,6 @@
 use Rattle.std.proofs.Common.{◌≡◌, ◌⊎◌, ℤ, w32, to_z, of_z, SFits, rules, refl, sym, ◌∙◌, subst}
 use Rattle.std.proofs.lemmas.Int.{to_z-of_z}
-use Rattle.c_model.specs.declared.event.Event.TheVariants.{Exit}
+use Rattle.assign_tree.specs.declared.task.Event.TheVariants.{Exit}
 use Rattle.assign_tree.specs.Tasks.{RunsTo, RunsToUndefined}
 use Rattle.assign_run.proofs.Runs.{leads_first, leads_on, leads_to_stop, leads_to_exit}
 use Rattle.assign_run.proofs.run.Run.run_on.Goals as goal

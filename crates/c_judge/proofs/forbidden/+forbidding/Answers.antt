@@ -1,0 +1,11 @@
+use Rattle.std.proofs.Common.{rules, ◌≡◌, ◌≤◌, ◌+◌, ◌∙◌, ap, sym, subst, length, Some, arith}
+use Rattle.c_expr.specs.Tree.{depth}
+use Rattle.c_judge.proofs.Depths.{bound_depth, bound_depths, bound_item}
+use Rattle.c_judge.proofs.forbidden.+forbidding.Goals as goal
+
+pub forbidden_bounds-forbidden-requires : goal.forbidden_bounds-forbidden-requires
+forbidden_bounds-forbidden-requires t c =
+    let item = c.bound-item.result in
+    let less = bound_item c.args.bounds.now c.loop-bound.bound-index item c.loop-bound-test.true c.bound-item.is in
+    let same : bound_depth item ≡ depth c.in-Some.e + 1 = ap bound_depth c.in-Some.is in
+    (first_of (omega (arith, less, same, c.decreases), search (rules, less, same), grind (arith, less, same, c.decreases)), tt)

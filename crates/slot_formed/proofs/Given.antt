@@ -1,0 +1,149 @@
+-- Rows that are made one by one are those of a program's code.
+use Rattle.std.proofs.Common.{◌≡◌, refl, sym, ap, ◌∙◌, ℕ, suc, zero, List, [], ◌∷◌, map, drop, Option}
+use Rattle.std.specs.List.{AllByRecursion}
+use Rattle.c_tree.specs.declared.types.Leaf.{Leaf}
+use Rattle.c_tree.specs.declared.types.CType.TheVariants.{Struct}
+use Rattle.c_tree.specs.declared.types.StructDef.{StructDef}
+use Rattle.c_tree.specs.declared.rows.Program.{Program}
+use Rattle.c_tree.specs.declared.rows.Function.{Function}
+use Rattle.c_tree.specs.declared.rows.Local.{Local}
+use Rattle.c_tree.specs.declared.rows.ObjectRow.{ObjectRow}
+use Rattle.c_tree.specs.declared.rows.Start.{Start}
+use Rattle.c_tree.specs.declared.rows.Start.TheVariants as start
+use Rattle.ldb_words.specs.declared.kinds.Kind.{Kind}
+use Rattle.ldb_words.specs.declared.kinds.Kind.TheVariants.{Byte, Word, Address}
+use Rattle.c_typing.specs.Starts.{Starts, AreStarts, IsObject}
+use Rattle.c_tree.specs.Layout.{size_of, leaves_of}
+use Rattle.slot_ir.specs.declared.code.Home.{Home}
+use Rattle.slot_ir.specs.declared.code.Access.{Access}
+use Rattle.slot_ir.specs.declared.code.SlotCode.{SlotCode}
+use Rattle.slot_ir.specs.declared.code.SlotFunction.{SlotFunction}
+use Rattle.slot_ir.specs.declared.code.SlotLocal.{SlotLocal}
+use Rattle.slot_ir.specs.declared.code.SlotObject.{SlotObject}
+use Rattle.slot_ir.specs.declared.code.SlotStart.{SlotStart}
+use Rattle.slot_ir.specs.declared.code.SlotStruct.{SlotStruct}
+use Rattle.slot_gen.specs.Expressions.{access_of, registers_from, register_at}
+use Rattle.slot_gen.specs.Rows.{EachFrom, IsLocalOf, IsFunctionOf, IsStructOf, IsObjectOf, HasRowsOf, start_of, starts_of, Fits, AreFitting, AllFitting}
+use Rattle.slot_formed.specs.Code.{home_of, local_row, local_rows, start_row, start_rows, object_row, struct_rows, AreFunctionRows, IsProgramCode, IsComplete}
+
+-- ---- registers from a local on
+
+drop_more : {A : Type 0} (x : ℕ) (rs : List A) → drop 1 (drop x rs) ≡ drop (suc x) rs
+drop_more zero rs = refl
+drop_more (suc x) [] = refl
+drop_more (suc x) (r ∷ rs) = drop_more x rs
+
+register_behind : (x : ℕ) (rs : List (Option ℕ)) → register_at rs x ≡ register_at (drop x rs) 0
+register_behind zero rs = refl
+register_behind (suc x) [] = refl
+register_behind (suc x) (r ∷ rs) = register_behind x rs
+
+-- ---- starts
+
+one_same : (i : ℕ) (k : Kind) (x : Start) → start_of (record { at = i; kind = k }) x ≡ start_row (record { at = i; kind = k }) x
+one_same i Byte (start.Number n) = refl
+one_same i Word (start.Number n) = refl
+one_same i Address (start.Number n) = refl
+one_same i Byte (start.Object o j) = refl
+one_same i Word (start.Object o j) = refl
+one_same i Address (start.Object o j) = refl
+one_same i Byte (start.Str t) = refl
+one_same i Word (start.Str t) = refl
+one_same i Address (start.Str t) = refl
+
+starts_same : (ls : List Leaf) (xs : List Start) → starts_of ls xs ≡ start_rows ls xs
+starts_same [] xs = refl
+starts_same (l ∷ ls) [] = refl
+starts_same (l ∷ ls) (x ∷ xs) = ap (λ (s : SlotStart). s ∷ starts_of ls xs) (one_same l.at l.kind x) ∙ ap (λ (rest : List SlotStart). start_row l x ∷ rest) (starts_same ls xs)
+
+-- ---- what an emitter asks of a program
+
+fits_there : (p : Program) (k : Kind) (x : Start) → Starts p k x → Fits k x
+fits_there p Byte (start.Number n) h = tt
+fits_there p Word (start.Number n) h = tt
+fits_there p Address (start.Number n) h = tt
+fits_there p Address (start.Object o i) h = tt
+fits_there p Address (start.Str k) h = tt
+fits_there p Byte (start.Object o i) h = absurd h
+fits_there p Byte (start.Str k) h = absurd h
+fits_there p Word (start.Object o i) h = absurd h
+fits_there p Word (start.Str k) h = absurd h
+
+starts_fit : (p : Program) (ls : List Leaf) (xs : List Start) → AreStarts p ls xs → AreFitting ls xs
+starts_fit p [] xs h = tt
+starts_fit p (l ∷ ls) [] h = tt
+starts_fit p (l ∷ ls) (x ∷ xs) h = (fits_there p l.kind x h.0, starts_fit p ls xs h.1)
+
+pub all_fit : (p : Program) (rows : List ObjectRow) → AllByRecursion (IsObject p) rows → AllFitting p rows
+all_fit p [] h = tt
+all_fit p (row ∷ rows) h = (starts_fit p (leaves_of p.defs row.ctype) row.start h.0.1, all_fit p rows h.1)
+
+-- ---- rows by their parts
+
+same_local : (s : SlotLocal) (h : Home) (a : Access) (n : ℕ) (ls : List Leaf) → s.home ≡ h → s.access ≡ a → s.size ≡ n → s.leaves ≡ ls → s ≡ record { home = h; access = a; size = n; leaves = ls }
+same_local s h a n ls e1 e2 e3 e4 =
+    ap (λ (x : Home). record { home = x; access = s.access; size = s.size; leaves = s.leaves }) e1
+    ∙ ap (λ (x : Access). record { home = h; access = x; size = s.size; leaves = s.leaves }) e2
+    ∙ ap (λ (x : ℕ). record { home = h; access = a; size = x; leaves = s.leaves }) e3
+    ∙ ap (λ (x : List Leaf). record { home = h; access = a; size = n; leaves = x }) e4
+
+same_object : (s : SlotObject) (m : List ℕ) (n : ℕ) (xs : List SlotStart) → s.name ≡ m → s.size ≡ n → s.start ≡ xs → s ≡ record { name = m; size = n; start = xs }
+same_object s m n xs e1 e2 e3 =
+    ap (λ (x : List ℕ). record { name = x; size = s.size; start = s.start }) e1
+    ∙ ap (λ (x : ℕ). record { name = m; size = x; start = s.start }) e2
+    ∙ ap (λ (x : List SlotStart). record { name = m; size = n; start = x }) e3
+
+same_struct : (s : SlotStruct) (n : ℕ) (ls : List Leaf) → s.size ≡ n → s.leaves ≡ ls → s ≡ record { size = n; leaves = ls }
+same_struct s n ls e1 e2 =
+    ap (λ (x : ℕ). record { size = x; leaves = s.leaves }) e1 ∙ ap (λ (x : List Leaf). record { size = n; leaves = x }) e2
+
+module _ (p : Program) where
+  locals_same : (rs : List (Option ℕ)) (x : ℕ) (ls : List Local) (gs : List SlotLocal) → EachFrom (IsLocalOf p rs) x ls gs → gs ≡ local_rows p.defs ls (drop x rs)
+  locals_same rs x [] [] h = refl
+  locals_same rs x [] (g ∷ gs) h = absurd h
+  locals_same rs x (l ∷ ls) [] h = absurd h
+  locals_same rs x (l ∷ ls) (g ∷ gs) h =
+      ap (λ (r : SlotLocal). r ∷ gs) (same_local g (home_of (register_at (drop x rs) 0)) (access_of l.ctype) (size_of p.defs l.ctype) (leaves_of p.defs l.ctype) (h.0.home ∙ ap home_of (register_behind x rs)) h.0.access h.0.size h.0.leaves)
+      ∙ ap (λ (rest : List SlotLocal). local_row p.defs l (register_at (drop x rs) 0) ∷ rest) (locals_same rs (suc x) ls gs h.1 ∙ ap (local_rows p.defs ls) (sym (drop_more x rs)))
+
+  objects_same : (n : ℕ) (rows : List ObjectRow) (os : List SlotObject) → EachFrom (IsObjectOf p) n rows os → os ≡ map (object_row p) rows
+  objects_same n [] [] h = refl
+  objects_same n [] (o ∷ os) h = absurd h
+  objects_same n (row ∷ rows) [] h = absurd h
+  objects_same n (row ∷ rows) (o ∷ os) h =
+      ap (λ (r : SlotObject). r ∷ os) (same_object o row.name (size_of p.defs row.ctype) (start_rows (leaves_of p.defs row.ctype) row.start) h.0.name h.0.size (h.0.start ∙ starts_same (leaves_of p.defs row.ctype) row.start))
+      ∙ ap (λ (rest : List SlotObject). object_row p row ∷ rest) (objects_same (suc n) rows os h.1)
+
+  structs_same : (n : ℕ) (ds : List StructDef) (ss : List SlotStruct) → EachFrom (IsStructOf p) n ds ss → ss ≡ struct_rows p.defs n ds
+  structs_same n [] [] h = refl
+  structs_same n [] (s ∷ ss) h = absurd h
+  structs_same n (d ∷ ds) [] h = absurd h
+  structs_same n (d ∷ ds) (s ∷ ss) h =
+      ap (λ (r : SlotStruct). r ∷ ss) (same_struct s d.size (leaves_of p.defs (Struct n)) h.0.size h.0.leaves)
+      ∙ ap (λ (rest : List SlotStruct). record { size = d.size; leaves = leaves_of p.defs (Struct n) } ∷ rest) (structs_same (suc n) ds ss h.1)
+
+  functions_same : (n : ℕ) (fns : List Function) (gs : List SlotFunction) → EachFrom (IsFunctionOf p) n fns gs → AllByRecursion IsComplete gs → AreFunctionRows p n fns gs
+  functions_same n [] [] h k = tt
+  functions_same n [] (g ∷ gs) h k = absurd h
+  functions_same n (fn ∷ fns) [] h k = absurd h
+  functions_same n (fn ∷ fns) (g ∷ gs) h k = (
+    record {
+      name = h.0.name;
+      params = h.0.params;
+      locals = locals_same (registers_from fn.locals 0) 0 fn.locals g.locals h.0.locals;
+      temporaries = k.0.0;
+      points = h.0.points;
+      places = k.0.1;
+      code = h.0.code;
+    },
+    functions_same (suc n) fns gs h.1 k.1,
+  )
+
+  pub given : (c : SlotCode) → HasRowsOf p c → AllByRecursion IsComplete c.functions → IsProgramCode p c
+  given c h k = record {
+    functions = functions_same 0 p.functions c.functions h.functions k;
+    main = h.main;
+    objects = objects_same 0 p.objects c.objects h.objects;
+    strings = h.strings;
+    structs = structs_same 0 p.defs c.structs h.structs;
+  }

@@ -1,0 +1,15 @@
+mod Lists
+mod Sizes
+mod Types
+mod Homes
+mod Good
+mod Names
+mod Exprs
+mod Stmts
+mod Stops
+mod Short
+mod Rows
+mod Formed
+mod Keeps
+mod Computed
+mod Given

@@ -1,0 +1,9 @@
+use Rattle.slot_formed.proofs.Sizes.{laid_out}
+use Rattle.slot_formed.proofs.Formed.{well_formed, uniform}
+use Rattle.slot_formed.proofs.laws.code_is_well_formed.Goals as goal
+
+pub returns : goal.returns
+returns c = record {
+  formed = λ p code accepted is few. well_formed p accepted (λ t. c.leaves_ascend.ensures p.defs t (laid_out p.defs accepted.structs)) code is few (c.code_of_a_program_is_short.ensures p code is);
+  uniform = λ p code accepted is. uniform p accepted (λ t. c.leaves_ascend.ensures p.defs t (laid_out p.defs accepted.structs)) code is;
+}

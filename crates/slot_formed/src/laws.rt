@@ -1,0 +1,56 @@
+// What holds of the slot code of accepted programs.
+ghost use Rattle.std.specs.Prelude.{◌≤◌, ◌*◌};
+ghost use Rattle.c_tree.specs.declared.rows.Program.{Program};
+ghost use Rattle.c_typing.specs.Accepted.{IsAccepted};
+ghost use Rattle.slot_ir.specs.declared.code.SlotCode.{SlotCode};
+ghost use Rattle.slot_ir.specs.WellFormed.{operators_of_a_token, operators_in, IsWellFormed};
+ghost use Rattle.slot_gen.specs.Correct.{IsCodeOf, Lowers};
+ghost use Rattle.slot_formed.specs.Accesses.{IsUniform};
+ghost use Rattle.std.specs.List.{AllByRecursion};
+ghost use Rattle.slot_gen.specs.Rows.{HasRowsOf, IsLowerable};
+ghost use Rattle.slot_formed.specs.Code.{IsComplete, IsProgramCode, program_code};
+ghost use Rattle.slot_formed.specs.Tokens.{program_tokens};
+
+use c_tree::leaves_ascend;
+use slot_gen::{
+    code_of_an_expression_is_short, code_takes_few_temporaries, slot_code_keeps_the_run,
+};
+
+/// A slot code of a program has at most so many operators for each token that the program is written with.
+pub fn code_of_a_program_is_short()
+    ensures { (p : Program) (c : SlotCode) → IsProgramCode p c → operators_in c ≤ operators_of_a_token * program_tokens p }
+{
+    code_of_an_expression_is_short();
+}
+
+/// A slot code of an accepted program that is written with at most 40,000 tokens is well formed. Its loads extend a byte and take a word or a pointer whole, and its parameters are scalars.
+pub fn code_is_well_formed()
+    ensures formed { (p : Program) (c : SlotCode) → IsAccepted p → IsProgramCode p c → program_tokens p ≤ 40000 → IsWellFormed c }
+    ensures uniform { (p : Program) (c : SlotCode) → IsAccepted p → IsProgramCode p c → IsUniform c }
+{
+    code_of_a_program_is_short();
+    leaves_ascend();
+}
+
+/// An accepted program has a slot code, and each of them passes the program's stopping points in order, with the same objects, activations, output and exit number, for every input and all assignments made at the stops, up to the program's first undefined step; and it shows nothing else.
+pub fn accepted_code_keeps_the_run()
+    ensures there { (p : Program) → IsAccepted p → IsProgramCode p (program_code p) }
+    ensures rows { (p : Program) (c : SlotCode) → IsAccepted p → IsProgramCode p c → IsCodeOf p c }
+    ensures run { (p : Program) (c : SlotCode) → IsAccepted p → IsProgramCode p c → Lowers p c }
+{
+    leaves_ascend();
+    code_takes_few_temporaries();
+    slot_code_keeps_the_run();
+}
+
+/// An accepted program can be lowered: its structs stand as the layout has them, its objects hold what their types say, and it has a `main` without parameters.
+pub fn accepted_programs_are_lowerable()
+    ensures { (p : Program) → IsAccepted p → IsLowerable p }
+{
+    leaves_ascend();
+}
+
+/// A code that has a program's rows, each function with the temporaries that it names and the places of its points, is a code of the program.
+pub fn complete_rows_are_the_code()
+    ensures { (p : Program) (c : SlotCode) → HasRowsOf p c → AllByRecursion IsComplete c.functions → IsProgramCode p c }
+{}

@@ -1,0 +1,49 @@
+// The slot code of an accepted program.
+ghost use Rattle.std.specs.Prelude.{◌≡◌, ◌≤◌, true, IfOk};
+ghost use Rattle.std.specs.List.{AllByRecursion};
+ghost use Rattle.c_typing.specs.Accepted.{IsAccepted};
+ghost use Rattle.slot_ir.specs.WellFormed.{IsWellFormed};
+ghost use Rattle.slot_gen.specs.Correct.{Lowers};
+ghost use Rattle.slot_formed.specs.Accesses.{IsUniform};
+ghost use Rattle.slot_formed.specs.Code.{IsComplete};
+ghost use Rattle.slot_formed.specs.Tokens.{program_tokens};
+
+use crate::complete::is_complete;
+use crate::laws::{
+    accepted_programs_are_lowerable, code_is_well_formed, complete_rows_are_the_code,
+};
+use c_tree::Program;
+use slot_gen::lower;
+use slot_ir::{SlotCode, SlotFunction};
+use std::alloc::{AllocError, Global};
+
+/// The slot code of an accepted program that is written with at most 40,000 tokens. It is well formed, and keeps the program's run.
+pub fn lower_accepted(alloc: Global, program: &Program) -> Result<SlotCode, AllocError>
+    requires accepted { IsAccepted program.now }
+    requires few { program_tokens program.now ≤ 40000 }
+    ensures formed { IfOk result (λ code. IsWellFormed code) }
+    ensures uniform { IfOk result (λ code. IsUniform code) }
+    ensures runs { IfOk result (λ code. Lowers program.now code) }
+{
+    accepted_programs_are_lowerable();
+    complete_rows_are_the_code();
+    code_is_well_formed();
+    let code = lower(alloc, program)?;
+    if are_complete(code.functions.as_slice()) {
+        Ok(code)
+    } else {
+        Err(AllocError)
+    }
+}
+
+/// Whether each function has its temporaries and the places of its points.
+fn are_complete(functions: &[SlotFunction]) -> bool
+    ensures { result ≡ true → AllByRecursion IsComplete functions.now }
+{
+    for function in functions {
+        if !is_complete(function) {
+            return false;
+        }
+    }
+    true
+}
