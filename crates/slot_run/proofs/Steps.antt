@@ -17,7 +17,7 @@ use Rattle.c_tree.specs.Layout.{size_of, leaves_of, alignment_of, alignment_of_m
 use Rattle.c_tree.specs.Listed.{kept_at}
 use Rattle.c_tree.specs.Ordered.{LieIn, width_of, AllLaidOut}
 use Rattle.c_source.specs.Begin.{main_from}
-use Rattle.slot_gen.specs.Rows.{Fits, AreFitting, AllFitting, IsLowerable}
+use Rattle.slot_gen.specs.Rows.{AreFitting, AllFitting, IsLowerable}
 
 -- ---- offsets below 2^32
 

@@ -1,5 +1,3 @@
-use Rattle.std.proofs.Common.{◌≡◌, true, arith}
-use Rattle.std.proofs.lemmas.Grind.{common_steps}
 use Rattle.slot_run.proofs.Steps.{one_laid, all_laid}
 use Rattle.slot_run.proofs.lowerable.are_laid_out.Goals as goal
 
