@@ -1,5 +1,5 @@
 -- A call is no name alone, and begins where what is called does.
-use Rattle.std.proofs.Common.{◌≡◌, List, [], ◌∷◌, refl, Option, Some, None}
+use Rattle.std.proofs.Common.{◌≡◌, List, [], ◌∷◌, refl, None}
 use Rattle.c_lex.specs.declared.token.Place.{Place}
 use Rattle.c_expr.specs.Tree.{Tree, Call, With, with_arguments}
 use Rattle.c_judge.specs.Judgement.{name_alone}

@@ -7,7 +7,7 @@ use Rattle.c_typing.specs.Plain.{Plain, plain}
 use Rattle.c_judge.specs.declared.part.Part.{Part}
 use Rattle.c_judge.specs.declared.fault.Fault.{Fault}
 use Rattle.c_judge.specs.Scope.{Scope, defs_of}
-use Rattle.c_judge.specs.Answers.{Answer, Known, Broken, ◌then◌, two}
+use Rattle.c_judge.specs.Answers.{Answer, Known, Broken, ◌then◌}
 use Rattle.c_judge.specs.Places.{place_of}
 use Rattle.c_judge.specs.Pairs.{paired, without_bound}
 use Rattle.c_judge.specs.Parts.{judged_of}

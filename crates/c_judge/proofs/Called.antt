@@ -1,5 +1,5 @@
 -- What a call becomes.
-use Rattle.std.proofs.Common.{◌≡◌, ℕ, List, [], ◌∷◌, ◌++◌, ◌∙◌, sym, refl, ap, subst, map, Result, Ok, Err, Option, Some, None, Vec}
+use Rattle.std.proofs.Common.{◌≡◌, ℕ, List, [], ◌∷◌, ◌++◌, ◌∙◌, sym, refl, ap, subst, map, Result, Ok, Err, Option, Some, None}
 use Rattle.c_lex.specs.declared.token.Place.{Place}
 use Rattle.c_expr.specs.Tree.{Tree, Call, With, with_arguments}
 use Rattle.c_tree.specs.declared.typed.Typed.{Typed}
@@ -7,20 +7,19 @@ use Rattle.c_tree.specs.declared.typed.Typed.TheVariants.{Call'}
 use Rattle.c_judge.specs.declared.part.Part.{Part}
 use Rattle.c_judge.specs.declared.calls.Calling.{Calling as Gathering}
 use Rattle.c_judge.specs.declared.fault.Fault.{Fault}
-use Rattle.c_judge.specs.declared.fault.Fault.TheVariants.{NoMemory}
 use Rattle.c_judge.specs.Scope.{Scope}
-use Rattle.c_judge.specs.Answers.{Answer, Known, ◌then◌, two}
+use Rattle.c_judge.specs.Answers.{Known}
 use Rattle.c_judge.specs.Places.{place_of}
 use Rattle.c_judge.specs.Pairs.{paired, dropped}
-use Rattle.c_judge.specs.Judgement.{Judged, Callee, Calling, judged, callee, calling, called, with_argument, without_arguments, name_alone}
+use Rattle.c_judge.specs.Judgement.{judged, callee, calling, called, with_argument, without_arguments, name_alone}
 use Rattle.c_judge.specs.Parts.{judged_of}
-use Rattle.c_judge.specs.Elaboration.{Elaborates, IsCall, IsCallee, AreArguments, callee_of}
+use Rattle.c_judge.specs.Elaboration.{IsCall, IsCallee, callee_of}
 use Rattle.c_judge.specs.Calls.{Calls, Gathers, NamesCallee, IsWith, called_by, calling_of, number_or_none, typed_in}
 use Rattle.c_judge.specs.Judges.{Judges, Makes, IsFault, Gives}
 use Rattle.c_judge.proofs.Alone.{place_call}
 use Rattle.c_judge.proofs.Faults.{then_fails, then_gives, two_fails, two_known, paired_both, judges_gives}
-use Rattle.c_judge.proofs.Made.{made, there}
-use Rattle.c_judge.proofs.Gathered.{IsCallForm, call_form, judged_call, elaborates_call}
+use Rattle.c_judge.proofs.Made.{made}
+use Rattle.c_judge.proofs.Gathered.{call_form, judged_call, elaborates_call}
 
 -- a call by the number that a name has
 numbered : (v : Scope) (f : Tree) (k : ℕ) (xs : List Typed) (z : Typed) → IsCallee v f k → IsCall (λ m. m ≡ k) xs z → IsCall (IsCallee v f) xs z

@@ -1,5 +1,5 @@
 -- Why there is nothing of one part, of two and of three.
-use Rattle.std.proofs.Common.{◌≡◌, ℕ, refl, ap, sym, subst, Result, Ok, Err}
+use Rattle.std.proofs.Common.{◌≡◌, refl, ap, subst, Result, Ok, Err}
 use Rattle.c_judge.specs.declared.fault.Fault.{Fault}
 use Rattle.c_judge.specs.declared.fault.Fault.TheVariants.{Unknown, Rule, NoMemory}
 use Rattle.c_judge.specs.declared.part.Part.{Part}
@@ -9,7 +9,7 @@ use Rattle.c_judge.specs.Answers.{Answer, ◌then◌, two, both_known}
 use Rattle.c_judge.specs.Answers as answer
 use Rattle.c_judge.specs.Pairs.{graver, paired}
 use Rattle.c_judge.specs.Parts.{judged_of}
-use Rattle.c_judge.specs.Judgement.{Judged, judged}
+use Rattle.c_judge.specs.Judgement.{judged}
 use Rattle.c_judge.specs.Judges.{IsFault, Gives, Judges}
 
 -- what is not there makes nothing

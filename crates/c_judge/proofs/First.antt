@@ -1,5 +1,5 @@
 -- The first name that is not in scope and the first forbidden form, of calls and of declarators.
-use Rattle.std.proofs.Common.{◌≡◌, ℕ, List, [], ◌∷◌, ◌∙◌, sym, refl, ap, Option, Some, None}
+use Rattle.std.proofs.Common.{◌≡◌, ℕ, List, [], ◌∷◌, ◌∙◌, refl, ap, Option, Some, None}
 use Rattle.c_lex.specs.declared.token.Place.{Place}
 use Rattle.c_expr.specs.Tree.{Tree, Call, With, Bounded, Unbounded, with_arguments, with_bounds}
 use Rattle.c_judge.specs.Scope.{Scope}

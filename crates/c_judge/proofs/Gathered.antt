@@ -1,12 +1,11 @@
 -- Calls from what is called and their arguments.
-use Rattle.std.proofs.Common.{◌≡◌, ℕ, suc, Bool, List, [], ◌∷◌, ◌++◌, take, length, ◌<◌, slice_index_or, ◌∙◌, sym, refl, ap, subst, Option, Some, None}
-use Rattle.c_lex.specs.declared.token.Place.{Place}
+use Rattle.std.proofs.Common.{◌≡◌, ℕ, Bool, List, [], ◌∷◌, ◌++◌, refl, subst}
 use Rattle.c_expr.specs.Tree.{Tree, Call, With, with_arguments}
 use Rattle.c_tree.specs.declared.typed.Typed.{Typed}
 use Rattle.c_judge.specs.Scope.{Scope}
 use Rattle.c_judge.specs.Answers.{Answer, Known, Unknown, Broken, ◌then◌, two}
 use Rattle.c_judge.specs.Places.{place_of}
-use Rattle.c_judge.specs.Judgement.{Judged, Verdict, judged, Callee, Calling, callee, calling, called, with_argument, without_arguments}
+use Rattle.c_judge.specs.Judgement.{Verdict, judged, Callee, Calling, callee, calling, called, with_argument, without_arguments}
 use Rattle.c_judge.specs.Elaboration.{Elaborates, AreArguments, IsCallee, IsCall, HasHead, callee_of}
 
 abbrev pub IsCallForm : Tree → Type 0

@@ -1,5 +1,5 @@
 -- Calls with their arguments in a `Vec`.
-use Rattle.std.proofs.Common.{◌≡◌, ℕ, Bool, true, false, List, [], ◌∷◌, ◌∙◌, sym, refl, ap, Option, Some, None, Result, Vec, unwrap_or}
+use Rattle.std.proofs.Common.{◌≡◌, ℕ, Bool, false, List, ◌∷◌, ◌∙◌, sym, refl, ap, Option, Some, None, Result, Vec, unwrap_or}
 use Rattle.std.specs.declared.alloc.Global.{Global}
 use Rattle.c_lex.specs.declared.token.Place.{Place}
 use Rattle.c_tree.specs.declared.types.CType.{CType}
@@ -7,9 +7,9 @@ use Rattle.c_tree.specs.declared.typed.Head.{Head}
 use Rattle.c_tree.specs.declared.typed.Typed.{Typed, Row_of-Typed, end_of-Typed, more_of-Typed, items-the_row-Typed, items_hidden-the_row-Typed-0}
 use Rattle.c_tree.specs.declared.typed.Typed.TheVariants.{Call, Call'}
 use Rattle.c_tree.specs.Rows.{exprs}
-use Rattle.c_typing.specs.Plain.{Plain, plain}
+use Rattle.c_typing.specs.Plain.{plain}
 use Rattle.c_judge.specs.declared.part.Constant.TheVariants.{Variable}
-use Rattle.c_judge.specs.Answers.{Answer, Known, ◌then◌}
+use Rattle.c_judge.specs.Answers.{Known}
 use Rattle.c_judge.specs.Judgement.{Judged, Callee, result_type, called, value}
 use Rattle.c_judge.specs.Elaboration.{IsCall, site_of}
 use Rattle.c_judge.specs.Judges.{IsPart, Makes}

@@ -14,12 +14,12 @@ use Rattle.c_typing.specs.Plain.{Plain, plain}
 use Rattle.c_judge.specs.declared.part.Part.{Part}
 use Rattle.c_judge.specs.declared.fault.Fault.{Fault}
 use Rattle.c_judge.specs.Scope.{Scope, defs_of}
-use Rattle.c_judge.specs.Answers.{Answer, Known, ◌then◌, two, three, both_known}
+use Rattle.c_judge.specs.Answers.{Answer, Known, two, both_known}
 use Rattle.c_judge.specs.Places.{place_of}
 use Rattle.c_judge.specs.Pairs.{paired}
-use Rattle.c_judge.specs.Judgement.{Judged, Verdict, judged, declared, spec_type, indexed, stepped, cast_to, sized, chosen_of, member_of, prefixed, joined}
+use Rattle.c_judge.specs.Judgement.{Verdict, judged, declared, spec_type, indexed, stepped, cast_to, sized, chosen_of, member_of, prefixed, joined}
 use Rattle.c_judge.specs.Parts.{judged_of}
-use Rattle.c_judge.specs.Elaboration.{Elaborates, site_of, type_in, HasHead, OfOne, OfTwo, OfThree, IsParen, IsIndex, IsMember, IsAfter, IsChoice, IsCast, IsSizeOfType, IsPrefixed, IsJoined}
+use Rattle.c_judge.specs.Elaboration.{Elaborates, site_of, type_in, HasHead, IsParen, IsIndex, IsMember, IsAfter, IsChoice, IsCast, IsSizeOfType, IsPrefixed, IsJoined}
 use Rattle.c_judge.specs.Judges.{Judges, Makes, IsFault, Gives, Denotes}
 use Rattle.c_judge.proofs.Faults.{then_fails, then_gives, two_fails, two_known, paired_both, pair_gives, judges_gives}
 

@@ -1,5 +1,5 @@
 -- A name with a number is what the number denotes.
-use Rattle.std.proofs.Common.{◌≡◌, ℕ, List, ◌∙◌, sym, ap, subst, refl, Option, Some, Result, ℤ}
+use Rattle.std.proofs.Common.{◌≡◌, ℕ, List, ◌∙◌, sym, ap, subst, refl, Some, Result, ℤ}
 use Rattle.c_lex.specs.declared.token.Place.{Place}
 use Rattle.c_symbol.specs.declared.symbol.LeafKind.TheVariants as kind
 use Rattle.c_expr.specs.Tree.{Leaf}
@@ -16,7 +16,7 @@ use Rattle.c_judge.specs.declared.part.Constant.TheVariants.{Number}
 use Rattle.c_typing.specs.Plain.{Int}
 use Rattle.ldb_words.specs.Word.{word_of_signed}
 use Rattle.c_lex.specs.declared.number.Integer.{Integer}
-use Rattle.c_judge.specs.Elaboration.{HasHead, IsNamed, IsLeaf, IsConstant, IsLiteral}
+use Rattle.c_judge.specs.Elaboration.{IsNamed, IsLeaf, IsConstant, IsLiteral}
 use Rattle.c_judge.specs.Judges.{Judges, Makes, scope_of}
 use Rattle.c_judge.proofs.Made.{made}
 

@@ -1,5 +1,5 @@
 -- Numbers given from the last name to the first: the first of a name counts.
-use Rattle.std.proofs.Common.{◌≡◌, ℕ, suc, zero, ◌+◌, ◌<◌, Bool, true, false, List, [], ◌∷◌, length, drop, map, ◌∙◌, sym, refl, ap, Option, Some, None, bytes_eq, slice_index_or, if◌then◌else◌}
+use Rattle.std.proofs.Common.{◌≡◌, ℕ, suc, ◌<◌, List, length, drop, map, ◌∙◌, sym, ap, Option, Some, bytes_eq, slice_index_or, if◌then◌else◌}
 use Rattle.std.proofs.Math.Seq.{drop-cons}
 use Rattle.std.specs.Map.{update}
 use Rattle.c_judge.specs.Scope.{number_from}

@@ -1,8 +1,8 @@
 -- One pointer, and the rest.
-use Rattle.std.proofs.Common.{◌≡◌, ◌<◌, ◌-◌, ℕ, zero, suc, List, refl, sym, ap, ◌∙◌, arith}
+use Rattle.std.proofs.Common.{◌≡◌, ◌<◌, ◌-◌, ℕ, zero, suc, List, refl, sym, ◌∙◌, arith}
 use Rattle.c_tree.specs.declared.types.StructDef.{StructDef}
 use Rattle.c_typing.specs.Plain.{Plain}
-use Rattle.c_judge.specs.Answers.{Answer, Known, ◌then◌}
+use Rattle.c_judge.specs.Answers.{Known, ◌then◌}
 use Rattle.c_judge.specs.declared.fault.Fault.{Fault}
 use Rattle.c_judge.specs.Judgement.{pointer, pointers}
 use Rattle.c_judge.specs.Judges.{IsFault}

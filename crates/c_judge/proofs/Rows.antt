@@ -1,8 +1,8 @@
 -- What the number of a name denotes.
-use Rattle.std.proofs.Common.{◌≡◌, ℕ, zero, suc, Bool, true, false, List, [], ◌∷◌, refl, sym, ap, ◌∙◌, Option, Some, None, slice_get, map}
+use Rattle.std.proofs.Common.{◌≡◌, ℕ, zero, suc, true, false, List, [], ◌∷◌, refl, sym, ap, ◌∙◌, Option, Some, None, slice_get, map}
 use Rattle.c_tree.specs.declared.types.CType.{CType}
 use Rattle.c_typing.specs.Plain.{plain}
-use Rattle.c_typing.specs.Expressions.{Denoted, Object}
+use Rattle.c_typing.specs.Expressions.{Denoted}
 use Rattle.c_judge.specs.declared.symbol.Symbol.{Symbol}
 use Rattle.c_judge.specs.declared.scope.Scope.{Scope as Names}
 use Rattle.c_judge.specs.Answers.{Known, Broken}

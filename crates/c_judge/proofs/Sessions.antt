@@ -1,5 +1,5 @@
 -- Scopes that find the same are the same.
-use Rattle.std.proofs.Common.{◌≡◌, ℕ, Bool, List, Option, Some, None, ap, refl}
+use Rattle.std.proofs.Common.{◌≡◌, ℕ, Bool, List, Option}
 use Rattle.c_typing.specs.Expressions as typing
 use Rattle.c_judge.specs.Scope.{Scope}
 

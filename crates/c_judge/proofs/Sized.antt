@@ -1,5 +1,5 @@
 -- `sizeof` of a complete type that is not too large.
-use Rattle.std.proofs.Common.{◌≡◌, ◌≤◌, ℕ, Bool, true, false, not, List, ◌∙◌, sym, ap, subst, refl}
+use Rattle.std.proofs.Common.{◌≡◌, ◌≤◌, ℕ, Bool, true, false, List, ◌∙◌, sym, ap, subst}
 use Rattle.std.proofs.lemmas.Bool.{le-leb}
 use Rattle.c_tree.specs.declared.types.StructDef.{StructDef}
 use Rattle.c_typing.specs.Plain.{Plain, Unsigned, is_complete}

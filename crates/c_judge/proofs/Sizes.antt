@@ -1,5 +1,5 @@
 -- The size of a type is that of its plain type.
-use Rattle.std.proofs.Common.{◌≡◌, ℕ, ◌*◌, List, refl, ap}
+use Rattle.std.proofs.Common.{◌≡◌, ◌*◌, List, refl, ap}
 use Rattle.c_tree.specs.declared.types.CType.{CType}
 use Rattle.c_tree.specs.declared.types.CType.TheVariants as ctype
 use Rattle.c_tree.specs.declared.types.StructDef.{StructDef}

@@ -1,12 +1,11 @@
 -- What a whole expression is, from what is known of it.
-use Rattle.std.proofs.Common.{◌≡◌, ℕ, Bool, true, false, List, refl, ap, subst, sym, ◌∙◌, Some, Err}
+use Rattle.std.proofs.Common.{◌≡◌, ℕ, true, false, List, refl, ap, sym, ◌∙◌, Some, Err}
 use Rattle.c_expr.specs.Tree.{Tree}
 use Rattle.c_judge.specs.declared.check.Mode.{Mode}
 use Rattle.c_judge.specs.declared.part.Part.{Part}
 use Rattle.c_judge.specs.Scope.{Scope}
-use Rattle.c_judge.specs.Answers.{Answer, Known, Broken, ◌then◌}
-use Rattle.c_judge.specs.Places.{place_of}
-use Rattle.c_judge.specs.Judgement.{Judged, judged}
+use Rattle.c_judge.specs.Answers.{Known, Broken}
+use Rattle.c_judge.specs.Judgement.{judged}
 use Rattle.c_judge.specs.Parts.{judged_of, operand_of}
 use Rattle.c_judge.specs.declared.fault.ExprFault.{ExprFault}
 use Rattle.c_judge.specs.declared.fault.ExprFault.TheVariants as fault

@@ -9,9 +9,9 @@ use Rattle.c_judge.specs.declared.check.Mode.TheVariants as mode
 use Rattle.c_judge.specs.declared.fault.ExprFault.{ExprFault}
 use Rattle.c_judge.specs.declared.fault.ExprFault.TheVariants as fault
 use Rattle.c_judge.specs.Scope.{Scope}
-use Rattle.c_judge.specs.Answers.{Answer, Known, Unknown, Broken, ◌then◌}
+use Rattle.c_judge.specs.Answers.{Answer, Known, Broken, ◌then◌}
 use Rattle.c_judge.specs.Places.{place_of}
-use Rattle.c_judge.specs.Judgement.{Judged, Verdict, judged}
+use Rattle.c_judge.specs.Judgement.{Verdict, judged}
 use Rattle.c_judge.specs.Elaboration.{Elaborates}
 use Rattle.c_judge.specs.Forms.{unknown, forbidden_in}
 

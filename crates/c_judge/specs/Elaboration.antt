@@ -19,7 +19,7 @@ use Rattle.c_tree.specs.declared.typed.BinaryOp.{BinaryOp as Operator}
 use Rattle.c_tree.specs.declared.typed.BinaryOp.TheVariants as op
 use Rattle.c_tree.specs.declared.typed.UnaryOp.{UnaryOp}
 use Rattle.c_tree.specs.declared.typed.UnaryOp.TheVariants.{Plus, Minus, Complement, Not}
-use Rattle.c_tree.specs.declared.typed.Typed.{Typed, Row_of-Typed, end_of-Typed, more_of-Typed}
+use Rattle.c_tree.specs.declared.typed.Typed.{Typed}
 use Rattle.c_tree.specs.declared.typed.Typed.TheVariants.{Comma', Assign', Choice', Or', And', Binary', Cast', Before', Address', Follow', Unary', SizeOf', SizeOfType, Index', Call', Dot', Arrow', After', Name, Constant, Literal, Parens'}
 use Rattle.c_tree.specs.Types.{type_of, head_of}
 use Rattle.c_tree.specs.Rows.{exprs}
@@ -27,7 +27,7 @@ use Rattle.c_typing.specs.Plain.{Plain, plain, value_type}
 use Rattle.c_judge.specs.Scope.{Scope, defs_of, member_number, pointed_number}
 use Rattle.c_judge.specs.Places.{place_of}
 use Rattle.c_judge.specs.Answers.{Known}
-use Rattle.c_judge.specs.Judgement.{Judged, Verdict, judged, declared, name_alone, spec_type, step_of, compound_of}
+use Rattle.c_judge.specs.Judgement.{Verdict, judged, declared, name_alone, spec_type, step_of, compound_of}
 
 abbrev pub site_of : Place → Site
 site_of at = record { at = at.at; line = at.line; column = at.column }

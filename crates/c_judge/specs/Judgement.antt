@@ -1,7 +1,6 @@
 -- What an expression is, by recursion over its tree: what the rules of typing (C90 6.3) give, a name that is not declared, or a rule that is broken.
-use Rattle.std.specs.Prelude.{ℕ, zero, suc, ◌≡◌, Bool, true, false, not, ◌&&◌, ◌||◌, nat_le, nat_lt, if◌then◌else◌, List, [], ◌∷◌, ◌++◌, length, Option, Some, None, option_map, option_and_then, slice_get}
+use Rattle.std.specs.Prelude.{ℕ, zero, suc, Bool, true, false, ◌&&◌, ◌||◌, nat_le, nat_lt, if◌then◌else◌, List, [], ◌∷◌, ◌++◌, length, Option, Some, None, option_and_then, slice_get}
 use Rattle.ldb_words.specs.Word.{word_of_signed}
-use Rattle.c_lex.specs.declared.token.Place.{Place}
 use Rattle.c_lex.specs.declared.number.Integer.{Integer}
 use Rattle.c_symbol.specs.declared.symbol.LeafKind.{LeafKind}
 use Rattle.c_symbol.specs.declared.symbol.LeafKind.TheVariants as leaf
@@ -29,9 +28,9 @@ use Rattle.c_tree.specs.declared.typed.StepOp.TheVariants.{Up, Down}
 use Rattle.c_tree.specs.Layout.{members_of}
 use Rattle.c_typing.specs.Plain.{Plain, Char, Int, Unsigned, Void, Pointer, Array, Struct, plain, is_scalar, is_struct, is_void, is_complete}
 use Rattle.c_typing.specs.Rules.{Operand, value_of, may_drop, unary_type, followed, address_type, dot_type, arrow_type, index_type, binary_type, assignment_type, takes, compound_type, step_type, logical_type, choice_type, comma_type, cast_type, size_type}
-use Rattle.c_typing.specs.Expressions.{Denoted, Object, Function, Hidden, name_type}
+use Rattle.c_typing.specs.Expressions.{Denoted, Object, Function, name_type}
 use Rattle.c_judge.specs.declared.part.Constant.{Constant}
-use Rattle.c_judge.specs.declared.part.Constant.TheVariants.{Variable, Undefined, Number}
+use Rattle.c_judge.specs.declared.part.Constant.TheVariants.{Variable, Number}
 use Rattle.c_judge.specs.Scope.{Scope, defs_of, member_number, pointed_number}
 use Rattle.c_judge.specs.Places.{place_of}
 use Rattle.c_judge.specs.Answers.{Answer, Known, Unknown, Broken, ◌then◌, two, three}

@@ -18,7 +18,7 @@ use Rattle.c_judge.specs.declared.scope.Scope.{Scope as Names}
 use Rattle.c_judge.specs.Numbers.{number_in}
 use Rattle.c_judge.specs.Scope.{Scope, or_else_number}
 use Rattle.c_judge.specs.Answers.{Answer, Known, Unknown, Broken}
-use Rattle.c_judge.specs.Judgement.{Judged, Verdict, judged}
+use Rattle.c_judge.specs.Judgement.{Verdict, judged}
 use Rattle.c_judge.specs.Parts.{judged_of}
 use Rattle.c_judge.specs.Elaboration.{Elaborates, site_of}
 

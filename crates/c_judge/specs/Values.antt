@@ -1,15 +1,15 @@
 -- What constant expressions make of numbers, as their bits, by the types of the operands (C90 6.4).
-use Rattle.std.specs.Prelude.{ℕ, zero, suc, ◌*◌, Bool, true, false, ◌==◌, if◌then◌else◌, List, Option, Some, None, Result, Ok, Err, bit_xor}
+use Rattle.std.specs.Prelude.{ℕ, zero, suc, ◌*◌, Bool, true, false, ◌==◌, if◌then◌else◌, List, Result, Ok, Err, bit_xor}
 use Rattle.ldb_words.specs.declared.kinds.Undef.{Undef}
 use Rattle.c_tree.specs.declared.types.StructDef.{StructDef}
 use Rattle.c_tree.specs.declared.typed.BinaryOp.{BinaryOp}
-use Rattle.c_tree.specs.declared.typed.BinaryOp.TheVariants.{ShiftLeft, ShiftRight, Subtract, Equal}
+use Rattle.c_tree.specs.declared.typed.BinaryOp.TheVariants.{ShiftLeft, ShiftRight, Subtract}
 use Rattle.c_tree.specs.declared.typed.UnaryOp.{UnaryOp}
 use Rattle.c_tree.specs.declared.typed.UnaryOp.TheVariants.{Plus, Minus, Complement, Not}
 use Rattle.c_tree.specs.Layout.{struct_size_of}
 use Rattle.c_store.specs.Bits.{low_byte, minus_one}
 use Rattle.c_source.specs.Operators.{on_ints, on_unsigned, truth}
-use Rattle.c_typing.specs.Plain.{Plain, Char, Int, Unsigned, Void, Pointer, Array, Struct, promoted, common}
+use Rattle.c_typing.specs.Plain.{Plain, Char, Int, Unsigned, Void, Pointer, Array, Struct, common}
 use Rattle.c_judge.specs.declared.part.Constant.{Constant}
 use Rattle.c_judge.specs.declared.part.Constant.TheVariants.{Variable, Undefined, Number}
 

@@ -23,7 +23,7 @@ mod symbol;
 mod types;
 mod values;
 
-pub use check::{Mode, accepted};
+pub use check::{Mode, check_expr, check_in};
 pub use expr::{judge, written_type};
 pub use fault::{ExprFault, Fault};
 pub use leaf::spec_type;

@@ -1,13 +1,11 @@
-use Rattle.std.proofs.Common.{rules, ◌≡◌, ◌<◌, ◌+◌, ◌-◌, ◌∙◌, ap, sym, refl, subst, suc, take, drop, length, [], ◌∷◌, ◌++◌, None, arith, add-one}
+use Rattle.std.proofs.Common.{rules, ◌≡◌, ◌<◌, ◌+◌, ◌-◌, ◌∙◌, ap, sym, subst, suc, take, drop, length, [], ◌∷◌, ◌++◌, None, arith}
 use Rattle.std.proofs.lemmas.List.{take_more, take_all}
 use Rattle.c_expr.specs.Tree.{Call, Member, behind_stars, with_arguments}
 use Rattle.c_expr.specs.View.{tree_of}
 use Rattle.c_typing.specs.Plain.{plain}
-use Rattle.c_judge.specs.Answers.{Answer}
 use Rattle.c_judge.specs.Bounds.{one_bound, all_bounds}
 use Rattle.c_judge.specs.Calls.{Calls, Gathers}
 use Rattle.c_judge.specs.Judges.{Gives, Judges, scope_of}
-use Rattle.c_judge.specs.Places.{place_of}
 use Rattle.c_lex.specs.declared.token.Place.{Place}
 use Rattle.c_judge.proofs.Bounds.{unbounded_denotes, bounds_more, declared_without, declared_with}
 use Rattle.c_judge.proofs.Depths.{depth_view, depth_call, depth_item, bound_item}

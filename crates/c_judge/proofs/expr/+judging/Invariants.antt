@@ -1,4 +1,4 @@
-use Rattle.std.proofs.Common.{◌≡◌, ◌≤◌, ◌*◌, ◌+◌, take, drop, length}
+use Rattle.std.proofs.Common.{◌≤◌, ◌*◌, ◌+◌, take, drop, length}
 use Rattle.c_lex.specs.declared.token.Place.{Place}
 use Rattle.c_expr.specs.Tree.{Call, depth, with_arguments}
 use Rattle.c_typing.specs.Plain.{Plain}

@@ -1,4 +1,4 @@
-use Rattle.std.proofs.Common.{sym, refl, Some}
+use Rattle.std.proofs.Common.{refl, Some}
 use Rattle.std.proofs.lemmas.Option.{slice_get_read, slice_get_past}
 use Rattle.c_judge.proofs.Rows.{named_none, named_function, numbered_known}
 use Rattle.c_judge.proofs.Wholly.{makes_part}

@@ -1,6 +1,6 @@
-use Rattle.std.proofs.Common.{rules, ◌≡◌, ◌≤◌, ◌+◌, ◌∙◌, ap, sym, subst, length, Some, arith}
+use Rattle.std.proofs.Common.{rules, ◌≡◌, ◌+◌, ap, arith}
 use Rattle.c_expr.specs.Tree.{depth}
-use Rattle.c_judge.proofs.Depths.{bound_depth, bound_depths, bound_item}
+use Rattle.c_judge.proofs.Depths.{bound_depth, bound_item}
 use Rattle.c_judge.proofs.names.+naming.Goals as goal
 
 pub unknown_bounds-unknown-requires : goal.unknown_bounds-unknown-requires

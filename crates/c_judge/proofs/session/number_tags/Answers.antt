@@ -1,4 +1,4 @@
-use Rattle.std.proofs.Common.{◌≡◌, ℕ, List, suc, ◌-◌, length, drop, map, subst, arith}
+use Rattle.std.proofs.Common.{◌≡◌, ℕ, List, suc, ◌-◌, drop, map, subst, arith}
 use Rattle.c_judge.specs.Numbers.{number_in}
 use Rattle.c_judge.specs.Scope.{number_from}
 use Rattle.c_judge.specs.Scope.{tag_of}
