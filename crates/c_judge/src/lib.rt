@@ -20,6 +20,8 @@ mod rules;
 mod scope;
 mod session;
 mod symbol;
+#[cfg(test)]
+mod tests;
 mod types;
 mod values;
 

@@ -43,20 +43,35 @@ Gives (Err (Syntax _)) next = next ≡ None
 Gives (Err (Deep _)) next = ⊥
 Gives (Err NoMemory) next = Unit {0}
 
+-- one item more, and two parts, where they are there
+abbrev pub one_more : {A : Type 0} → List A → Option A → Option (List A)
+one_more xs None = None
+one_more xs (Some x) = Some (xs ++ x ∷ [])
+
+abbrev pub both : {A B : Type 0} → Option A → Option B → Option (A × B)
+both None b = None
+both (Some a) None = None
+both (Some a) (Some b) = Some (a, b)
+
 -- one external declaration more, which begins there
+abbrev pub kept_at : Place → Option (List External) → Kept
+kept_at at None = TooDeep at
+kept_at at (Some es) = All es
+
 abbrev pub more : Kept → Place → Option External → Kept
-more (All es) at None = TooDeep at
-more (All es) at (Some e) = All (es ++ e ∷ [])
+more (All es) at e = kept_at at (one_more es e)
 more (TooDeep first) at e = TooDeep first
 
 abbrev pub declared_of : Option Head → Option External
 declared_of None = None
 declared_of (Some d) = Some (Declaration d)
 
+abbrev pub defined_by : Option (FunctionHead × Built StatementTree) → Option External
+defined_by None = None
+defined_by (Some p) = Some (Definition p.0 p.1.tree)
+
 abbrev pub defined_of : Option FunctionHead → Option (Built StatementTree) → Option External
-defined_of None b = None
-defined_of (Some d) None = None
-defined_of (Some d) (Some b) = Some (Definition d b.tree)
+defined_of d b = defined_by (both d b)
 
 -- a definition begins with what is too high in it
 abbrev pub deep_place : Place → Place → Option FunctionHead → Place

@@ -2,7 +2,7 @@
 ghost use Rattle.std.specs.Prelude.{◌≡◌, IfOk};
 ghost use Rattle.c_declaration.specs.FileReading.{file_offer};
 ghost use Rattle.c_statement.specs.Machine as block;
-ghost use Rattle.c_syntax.specs.Machine.{Gives, more, declared_of, defined_of, deep_place, bodied, ended, headed, shift, start};
+ghost use Rattle.c_syntax.specs.Machine.{Gives, one_more, both, kept_at, more, declared_of, defined_by, defined_of, deep_place, bodied, ended, headed, shift, start};
 
 use crate::state::{Kept, Mode, UnitParser};
 use crate::tree::External;
@@ -14,20 +14,53 @@ use c_symbol::Terminal;
 use ldb_words::Many;
 use std::alloc::{AllocError, Global};
 
+/// One item more, where it is there.
+fn one_more<T: Drop>(items: Many<T>, item: Option<T>) -> Result<Option<Many<T>>, AllocError>
+    ensures { IfOk result (λ r. r ≡ one_more items item) }
+{
+    match item {
+        Some(item) => {
+            let mut items = items;
+            items.push(item)?;
+            Ok(Some(items))
+        }
+        None => Ok(None),
+    }
+}
+
+/// Two parts, where both are there.
+fn both<A: Drop, B: Drop>(a: Option<A>, b: Option<B>) -> Option<(A, B)>
+    ensures { result ≡ both a b }
+{
+    match a {
+        Some(a) => match b {
+            Some(b) => Some((a, b)),
+            None => None,
+        },
+        None => None,
+    }
+}
+
+/// The external declarations, unless the last of them, which begins there, is too high.
+fn kept_at(place: Place, externals: Option<Many<External>>) -> Kept
+    ensures { result ≡ kept_at place externals }
+{
+    match externals {
+        Some(externals) => Kept::All(externals),
+        None => Kept::TooDeep(place),
+    }
+}
+
 /// One external declaration more, which begins there.
 fn more(kept: Kept, place: Place, external: Option<External>) -> Result<Kept, AllocError>
     ensures { IfOk result (λ k. k ≡ more kept place external) }
 {
     match kept {
-        Kept::All(externals) => match external {
-            Some(external) => {
-                let mut externals = externals;
-                externals.push(external)?;
-                Ok(Kept::All(externals))
-            }
-            None => Ok(Kept::TooDeep(place)),
-        },
-        Kept::TooDeep(first) => Ok(Kept::TooDeep(first)),
+        Kept::All(externals) => Ok(kept_at(place, one_more(externals, external)?)),
+        Kept::TooDeep(first) => {
+            drop(external);
+            Ok(Kept::TooDeep(first))
+        }
     }
 }
 
@@ -40,16 +73,19 @@ fn declared_of(head: Option<Head>) -> Option<External>
     }
 }
 
+fn defined_by(parts: Option<(FunctionHead, Built<Statement>)>) -> Option<External>
+    ensures { result ≡ defined_by parts }
+{
+    match parts {
+        Some((head, body)) => Some(External::Definition(head, body.tree)),
+        None => None,
+    }
+}
+
 fn defined_of(head: Option<FunctionHead>, body: Option<Built<Statement>>) -> Option<External>
     ensures { result ≡ defined_of head body }
 {
-    match head {
-        Some(head) => match body {
-            Some(body) => Some(External::Definition(head, body.tree)),
-            None => None,
-        },
-        None => None,
-    }
+    defined_by(both(head, body))
 }
 
 /// Where a definition is too high: at its begin, or else at its body.

@@ -105,15 +105,16 @@ fn units_are_read_or_refused(rt: HostRuntime) -> Result<(), Fail> {
     Ok(())
 }
 
-#[test]
-fn a_unit_keeps_its_declarations(rt: HostRuntime) -> Result<(), Fail> {
-    let alloc = rt.alloc();
-    let text = b"int x; int f() { return x; } char c;".as_slice();
+/// How many external declarations a text has, and how many of them are definitions; none where it is no unit.
+fn counted(alloc: Global, text: &[u8]) -> (u32, u32) {
+    if text.len() > 1_048_576 {
+        return (0, 0);
+    }
     let Ok(found) = tokens(alloc, text) else {
-        return Ok(());
+        return (0, 0);
     };
     let Ok(unit) = parse_unit(alloc, text, &found) else {
-        return Ok(());
+        return (0, 0);
     };
     let mut definitions = 0_u32;
     let mut all = 0_u32;
@@ -125,8 +126,14 @@ fn a_unit_keeps_its_declarations(rt: HostRuntime) -> Result<(), Fail> {
             definitions += 1;
         }
     }
-    assert_eq!(rt; all, 3);
-    assert_eq!(rt; definitions, 1);
+    (all, definitions)
+}
+
+#[test]
+fn a_unit_keeps_its_declarations(rt: HostRuntime) -> Result<(), Fail> {
+    let alloc = rt.alloc();
+    let found = counted(alloc, b"int x; int f() { return x; } char c;");
+    assert_eq!(rt; found, (3, 1));
     Ok(())
 }
 
