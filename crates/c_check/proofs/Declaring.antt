@@ -22,7 +22,6 @@ use Rattle.c_judge.specs.Judgement.{deepest}
 use Rattle.c_typing.specs.Plain as plain
 use Rattle.c_check.specs.Declarators as shape
 use Rattle.c_check.specs.Programs.{Fault, Rule, Twice, Undefined, NoMain, Faults, FaultsBehind, AllFiles, at_first, tags_of}
-
 use Rattle.c_check.specs.Environment.{Environment}
 use Rattle.c_check.specs.Files.{State}
 use Rattle.c_check.specs.Made.{all_points, object_type, objects, begins_in, started}
@@ -74,7 +73,7 @@ it_has_another_bound = (_, _, (_, _, _, (_, _, _, (_, _, (refl, refl), refl, ref
 abbrev parameter_again : List External
 parameter_again =
     Definition (record { place = at 0; storage = storage.Plain; spec = Named spec.Int; declarator = Taking (Function (at 4) (Name (at 4) (codes "f"))) (Taken (at 6) false spec.Int (Name (at 10) (codes "a"))) })
-      (Closed (Also (Declares (Begun (at 13)) (record { place = at 15; register = false; spec = spec.Int; names = record { declarator = Name (at 19) (codes "a"); initial = None } ∷ [] })) (Return (at 22) (Some (number 29 0)))) (at 32)) ∷
+    (Closed (Also (Declares (Begun (at 13)) (record { place = at 15; register = false; spec = spec.Int; names = record { declarator = Name (at 19) (codes "a"); initial = None } ∷ [] })) (Return (at 22) (Some (number 29 0)))) (at 32)) ∷
     returns_zero 34 ∷ []
 
 it_is_one_block : Faults (parameter_again ∷ []) (Some (Rule 5 0 19))
@@ -85,8 +84,8 @@ it_is_one_block = (_, _, (_, _, _, (_, _, _, (_, _, _, (refl, refl), refl, refl,
 abbrev same_labels : List External
 same_labels = main_with 0 (Closed (Also (Also (Begun (at 15))
     (Headed (head.Switch (at 17) (number 25 1)) (Closed (Also (Also (Begun (at 28))
-      (Headed (head.Case (at 30) (number 35 1)) (Empty (at 38))))
-      (Headed (head.Case (at 40) (Binary (at 45) binary.Subtract (number 45 2) (number 49 1))) (Empty (at 52)))) (at 54))))
+    (Headed (head.Case (at 30) (number 35 1)) (Empty (at 38))))
+    (Headed (head.Case (at 40) (Binary (at 45) binary.Subtract (number 45 2) (number 49 1))) (Empty (at 52)))) (at 54))))
     (Return (at 56) (Some (number 63 0)))) (at 66)) ∷ []
 
 it_has_one_label_twice : Faults (same_labels ∷ []) (Some (Rule 18 0 40))

@@ -63,8 +63,8 @@ of_initial (Some i) = 1
 abbrev pub AreLocals : Local → Environment → Before → List Declared → List DeclaredLocal → Type 0
 AreLocals l v c [] [] = Unit {0}
 AreLocals l v c (d ∷ ds) (z ∷ zs) =
-  (z.local ≡ v.locals) × IsInitial (after_local l.register l.spec v d) (past c 0 (literals.in_declarator d.declarator)) d.initial z.init ×
-  AreLocals l (after_local l.register l.spec v d) (past c (of_initial d.initial) (literals.in_declared d)) ds zs
+    (z.local ≡ v.locals) × IsInitial (after_local l.register l.spec v d) (past c 0 (literals.in_declarator d.declarator)) d.initial z.init ×
+    AreLocals l (after_local l.register l.spec v d) (past c (of_initial d.initial) (literals.in_declared d)) ds zs
 AreLocals l v c _ _ = ⊥
 
 -- ---- statements
@@ -95,7 +95,7 @@ IsReturned v c _ _ = ⊥
 abbrev pub IsHeaded : Environment → Before → Head → Stmt → Stmt → Type 0
 IsHeaded v c (head.While at e) s (typed.While' site q _ t) = (site ≡ site_of at) × IsStop v c e q × (t ≡ s)
 IsHeaded v c (head.For at i e k) s (typed.For' site x y z _ t) =
-  (site ≡ site_of at) × IsStopOrNone v c i x × IsStopOrNone v (past_part c i) e y × IsStopOrNone v (past_part (past_part c i) e) k z × (t ≡ s)
+    (site ≡ site_of at) × IsStopOrNone v c i x × IsStopOrNone v (past_part c i) e y × IsStopOrNone v (past_part (past_part c i) e) k z × (t ≡ s)
 IsHeaded v c (head.Switch at e) s (typed.Switch' site q _ t) = (site ≡ site_of at) × IsStop v c e q × (t ≡ s)
 IsHeaded v c (head.Case at e) s (typed.Case' site n _ t) = (site ≡ site_of at) × IsLabel v e n × (t ≡ s)
 IsHeaded v c (head.Default at) s (typed.Default' site _ t) = (site ≡ site_of at) × (t ≡ s)
@@ -108,7 +108,7 @@ abbrev mutual
   Becomes v c (Closed b at) (typed.Block' site ds _ row l k) = (l ≡ at.line) × (k ≡ at.column) × Holds (enter v) c b site ds (row_list row)
   Becomes v c (If at e s) (typed.If' site q _ t None') = (site ≡ site_of at) × IsStop v c e q × Becomes v (behind_expression c e) s t
   Becomes v c (IfElse at e s r) (typed.If' site q _ t (Some' _ u)) =
-    (site ≡ site_of at) × IsStop v c e q × Becomes v (behind_expression c e) s t × Becomes (after v s) (behind v (behind_expression c e) s) r u
+      (site ≡ site_of at) × IsStop v c e q × Becomes v (behind_expression c e) s t × Becomes (after v s) (behind v (behind_expression c e) s) r u
   Becomes v c (Headed h s) z = (t : Stmt) × IsHeaded v c h t z × Becomes v (behind_head v c h) s t
   Becomes v c (Do at s e) (typed.Do' site _ t q) = (site ≡ site_of at) × Becomes v c s t × IsStop (after v s) (behind v c s) e q
   Becomes v c (Break at) (typed.Break site) = site ≡ site_of at
@@ -120,7 +120,7 @@ abbrev mutual
   pub Holds : Environment → Before → StatementTree → Site → List DeclaredLocal → List Stmt → Type 0
   Holds v c (Begun at) site ds ss = (site ≡ site_of at) × (ds ≡ []) × (ss ≡ [])
   Holds v c (Declares b l) site ds ss =
-    (es : List DeclaredLocal) × (fs : List DeclaredLocal) × Holds v c b site es ss × AreLocals l (after v b) (behind v c b) l.names fs × (ds ≡ es ++ fs)
+      (es : List DeclaredLocal) × (fs : List DeclaredLocal) × Holds v c b site es ss × AreLocals l (after v b) (behind v c b) l.names fs × (ds ≡ es ++ fs)
   Holds v c (Also b s) site ds ss =
-    (ts : List Stmt) × (z : Stmt) × Holds v c b site ds ts × Becomes (after v b) (behind v c b) s z × (ss ≡ ts ++ z ∷ [])
+      (ts : List Stmt) × (z : Stmt) × Holds v c b site ds ts × Becomes (after v b) (behind v c b) s z × (ss ≡ ts ++ z ∷ [])
   Holds v c _ site ds ss = ⊥

@@ -45,9 +45,10 @@ innermost (v ∷ vs) = Some v.number
 -- a name is in scope from its declarator on (C90 6.1.2.1)
 abbrev pub declare : Environment → List ℕ → Denoted → Option ℕ → Environment
 declare v name d x = record v {
-    names = v.names ++ record { name = name; denoted = d; up = innermost v.visible; unit = v.unit; local = x } ∷ [];
-    visible = record { name = name; number = length v.names } ∷ v.visible;
-    block = name ∷ v.block }
+  names = v.names ++ record { name = name; denoted = d; up = innermost v.visible; unit = v.unit; local = x } ∷ [];
+  visible = record { name = name; number = length v.names } ∷ v.visible;
+  block = name ∷ v.block;
+}
 
 -- at file scope, and in a function
 abbrev pub declare_global : Environment → List ℕ → Denoted → Environment
@@ -82,11 +83,12 @@ struct_of tags tag = or_else_number (length tags) (first_number tags tag)
 -- what the names of an expression stand for, where its string literals have these numbers
 abbrev pub scope : Environment → (ℕ → ℕ) → Scope
 scope v literal = record {
-    among = record { names = map denoted_by v.names; defs = v.defs; strings = [] };
-    number = number_of v.visible;
-    tag = struct_of v.tags;
-    literal = literal;
-    asks = true }
+  among = record { names = map denoted_by v.names; defs = v.defs; strings = [] };
+  number = number_of v.visible;
+  tag = struct_of v.tags;
+  literal = literal;
+  asks = true;
+}
 
 abbrev pub no_literal : ℕ → ℕ
 no_literal at = 0

@@ -103,7 +103,7 @@ module _ (others : List StructDef) where
   Inside v (o ∷ os) (Row at s ds ∷ ps) a w = Goes (members v o.members (spec_type (scope_of v) s) ds) v a w (λ ms. Inside v (with_members o ms ∷ os) ps a w)
   Inside v (o ∷ []) (Closes ds ∷ ps) a w = ⊥
   Inside v (o ∷ p ∷ os) (Closes ds ∷ ps) a w =
-    Ends v o a w (λ u. Goes (members u p.members (Struct (struct_of u.tags o.tag)) ds) u a w (λ ms. Inside u (with_members p ms ∷ os) ps a w))
+      Ends v o a w (λ u. Goes (members u p.members (Struct (struct_of u.tags o.tag)) ds) u a w (λ ms. Inside u (with_members p ms ∷ os) ps a w))
 
   -- the type that a declaration begins with, and what is declared behind it
   abbrev pub Specifies : Environment → FileSpec → Answer Plain → Environment → Type 0
@@ -181,9 +181,10 @@ module _ (s : Storage) (t : Plain) where
   abbrev pub with_initial : State → FileName → Option InitialTree → State
   with_initial p f None = p
   with_initial p f (Some i) = record p {
-      late = p.late ++ awaited p.here.unit (late_in p.here i);
-      starts = p.starts ++ record { name = f.name; unit = f.unit; begins = begins_of p.here (length p.strings) (type_or f.denoted) i } ∷ [];
-      strings = p.strings ++ strings_of p.here (type_or f.denoted) i }
+    late = p.late ++ awaited p.here.unit (late_in p.here i);
+    starts = p.starts ++ record { name = f.name; unit = f.unit; begins = begins_of p.here (length p.strings) (type_or f.denoted) i } ∷ [];
+    strings = p.strings ++ strings_of p.here (type_or f.denoted) i;
+  }
 
   abbrev pub with_definition : State → FileName → Option InitialTree → State
   with_definition p f i = record (with_initial p f i) { definitions = p.definitions ++ defining f (manner_of s i f.denoted) }
@@ -241,8 +242,8 @@ module _ (s : Storage) (d : DeclaratorTree) (x : StatementTree) where
   abbrev pub function_found : State → Shape → Finding
   function_found p (Object t) = Broken 9 (begins d).at
   function_found p (Function t ps) =
-    name_found p.names (function_row p (Function t ps)) (begins d).at beside holds (not (is_built_in (name_in d))) 15 (begins d).at beside
-    holds (are_named ps) 9 (begins d).at beside found t (body_environment (with_name p (function_row p (Function t ps))) ps) in_function (inside_block x)
+      name_found p.names (function_row p (Function t ps)) (begins d).at beside holds (not (is_built_in (name_in d))) 15 (begins d).at beside
+      holds (are_named ps) 9 (begins d).at beside found t (body_environment (with_name p (function_row p (Function t ps))) ps) in_function (inside_block x)
 
   -- the points of a function: its `{`, those of its body, and its `}`
   abbrev pub point_count : Environment → ℕ
@@ -250,8 +251,15 @@ module _ (s : Storage) (d : DeclaratorTree) (x : StatementTree) where
 
   abbrev pub bodied : State → FileName → Plain → List Parameter → Bodied
   bodied p f t ps = record {
-    name = f.name; unit = f.unit; is_static = f.is_static; result = t; parameters = ps; here = body_environment p ps; block = x;
-    before = record { points = p.points; strings = length p.strings } }
+    name = f.name;
+    unit = f.unit;
+    is_static = f.is_static;
+    result = t;
+    parameters = ps;
+    here = body_environment p ps;
+    block = x;
+    before = record { points = p.points; strings = length p.strings };
+  }
 
   abbrev pub behind_body : State → FileName → Plain → List Parameter → State
   behind_body p f t ps = record p {
@@ -260,7 +268,8 @@ module _ (s : Storage) (d : DeclaratorTree) (x : StatementTree) where
     strings = p.strings ++ texts (in_statement x);
     here = leave p.here (after (body_environment p ps) (inside_block x));
     definitions = p.definitions ++ defining f (Some Body);
-    calls = p.calls ++ called_all p.here.unit (calls_in (body_environment p ps) (inside_block x)) }
+    calls = p.calls ++ called_all p.here.unit (calls_in (body_environment p ps) (inside_block x));
+  }
 
   abbrev pub with_head : State → DeclaratorTree → FileName → State
   with_head p e f = record (with_name p f) { strings = p.strings ++ texts (in_declarator e) }
@@ -282,13 +291,13 @@ behind_known p _ f = p
 -- what is found in an external declaration, and the program behind it
 abbrev pub Externals : State → External → Finding → State → Type 0
 Externals p (Declaration h) f q =
-  (a : Answer Plain) × (v : Environment) × Specifies p.others p.here h.spec a v ×
-  (f ≡ (a then λ t. all_found h.storage t (with_spec p h.spec v) h.names)) ×
-  (q ≡ behind_known (with_spec p h.spec v) a λ t. after_all h.storage t (with_spec p h.spec v) h.names)
+    (a : Answer Plain) × (v : Environment) × Specifies p.others p.here h.spec a v ×
+    (f ≡ (a then λ t. all_found h.storage t (with_spec p h.spec v) h.names)) ×
+    (q ≡ behind_known (with_spec p h.spec v) a λ t. after_all h.storage t (with_spec p h.spec v) h.names)
 Externals p (Definition h x) f q =
-  (a : Answer Shape) × (b : Answer Plain) × (v : Environment) × Specifies p.others p.here h.spec b v × (a ≡ (b then shape v h.declarator)) ×
-  (f ≡ (a then function_found h.storage h.declarator x (with_spec p h.spec v))) ×
-  (q ≡ behind_known (with_spec p h.spec v) a (after_function h.storage h.declarator x (with_spec p h.spec v)))
+    (a : Answer Shape) × (b : Answer Plain) × (v : Environment) × Specifies p.others p.here h.spec b v × (a ≡ (b then shape v h.declarator)) ×
+    (f ≡ (a then function_found h.storage h.declarator x (with_spec p h.spec v))) ×
+    (q ≡ behind_known (with_spec p h.spec v) a (after_function h.storage h.declarator x (with_spec p h.spec v)))
 
 -- of some, in order
 abbrev pub AllExternals : State → List External → Finding → State → Type 0

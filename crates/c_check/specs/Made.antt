@@ -133,9 +133,9 @@ module _ (q : State) where
 
   abbrev pub IsFunctionOf : Bodied → FunctionRow → Type 0
   IsFunctionOf b f =
-    (f.name ≡ b.name) × (f.unit ≡ b.unit) × (f.is_static ≡ b.is_static) × (plain f.result ≡ b.result) × (f.params ≡ length b.parameters) ×
-    Each IsLocalOf (rows_of b) f.locals × (f.points ≡ numbers b.before.points (length (all_stops b))) ×
-    Becomes b.here (record { points = suc b.before.points; strings = b.before.strings }) b.block f.body
+      (f.name ≡ b.name) × (f.unit ≡ b.unit) × (f.is_static ≡ b.is_static) × (plain f.result ≡ b.result) × (f.params ≡ length b.parameters) ×
+      Each IsLocalOf (rows_of b) f.locals × (f.points ≡ numbers b.before.points (length (all_stops b))) ×
+      Becomes b.here (record { points = suc b.before.points; strings = b.before.strings }) b.block f.body
 
   -- ---- points, names and files
 
