@@ -1,0 +1,16 @@
+-- The names that are defined, as sets.
+use Rattle.std.specs.Prelude.{ℕ, Bool, false, if◌then◌else◌, List, Option, Some, None, slice_get}
+use Rattle.std.specs.Option.{is_some}
+use Rattle.c_judge.specs.declared.numbers.Numbers.{Numbers}
+use Rattle.c_judge.specs.Numbers.{number_in}
+use Rattle.c_check.specs.declared.defined.DefinedNames.{DefinedNames}
+
+abbrev pub has_name : Numbers → List ℕ → Bool
+has_name m t = is_some (number_in m t)
+
+abbrev pub in_file : Option Numbers → List ℕ → Bool
+in_file None t = false
+in_file (Some m) t = has_name m t
+
+abbrev pub defined_in : DefinedNames → (unit : ℕ) → Bool → List ℕ → Bool
+defined_in m u s t = if s then in_file (slice_get m.statics.items u) t else has_name m.externals t
