@@ -21,3 +21,5 @@ mod Pairs
 mod Begun
 mod Codes
 mod Starting
+mod Above
+mod Few

@@ -1,5 +1,5 @@
 -- The rows of a program's slot code, each for one of the program.
-use Rattle.std.specs.Prelude.{◌≡◌, ℕ, suc, List, [], ◌∷◌, Option, Some, None, length}
+use Rattle.std.specs.Prelude.{◌≡◌, ◌≤◌, ℕ, suc, List, [], ◌∷◌, Option, Some, None, length}
 use Rattle.ldb_words.specs.declared.kinds.Kind.{Kind}
 use Rattle.ldb_words.specs.declared.kinds.Kind.TheVariants.{Byte, Word, Address}
 use Rattle.c_tree.specs.declared.types.CType.TheVariants.{Struct}
@@ -26,6 +26,7 @@ use Rattle.slot_ir.specs.declared.code.Home.{Home}
 use Rattle.slot_ir.specs.declared.code.Home.TheVariants.{Block, Register}
 use Rattle.slot_gen.specs.Expressions.{access_of, registers_from, register_at}
 use Rattle.slot_gen.specs.Statements.{function_code}
+use Rattle.slot_gen.specs.Bounds.{AreBelow, function_temps}
 use Rattle.slot_gen.specs.Correct.{HasMain}
 
 -- a row for each item, by its number from n on
@@ -53,6 +54,9 @@ module _ (p : Program) where
     pub locals : EachFrom (IsLocalOf (registers_from fn.locals 0)) 0 fn.locals g.locals
     pub points : g.points ≡ fn.points
     pub code : g.code ≡ function_code p f fn
+    -- it has the temporaries that its code names, and at most those that its expressions are said to take
+    pub below : AreBelow g.temporaries g.code
+    pub few : g.temporaries ≤ function_temps fn
 
   pub record IsStructOf (s : ℕ) (d : StructDef) (row : SlotStruct) : Type 0 where
     pub size : row.size ≡ d.size

@@ -1,5 +1,8 @@
 // Where the stopping points of a function stand, and how many temporaries its code takes.
+ghost use Rattle.std.specs.Prelude.{◌≡◌, ◌≤◌, ℕ, max, IfOk};
+ghost use Rattle.slot_gen.specs.Bounds.{IsBelow, AreBelow};
 
+use crate::emit::next;
 use slot_ir::SlotOp;
 use std::alloc::{AllocError, Global};
 
@@ -26,16 +29,29 @@ pub fn places(alloc: Global, points: &[u32], code: &[SlotOp]) -> Result<Vec<u32>
 }
 
 /// One more than the highest temporary that a function's code names.
-pub fn temporaries(code: &[SlotOp]) -> u32 {
+pub fn temporaries(code: &[SlotOp]) -> Result<u32, AllocError>
+    ensures below { IfOk result (λ n. AreBelow n code.now) }
+    ensures least { IfOk result (λ n. (m : ℕ) → AreBelow m code.now → n ≤ m) }
+{
     let mut most = 0;
-    for op in code {
-        most = most.max(above(*op));
+    for i in 0..code.len() {
+        most = higher(most, above(code[i])?);
     }
-    most
+    Ok(most)
+}
+
+/// The higher of two numbers.
+fn higher(a: u32, b: u32) -> u32
+    ensures { result ≡ max a b }
+{
+    if a < b { b } else { a }
 }
 
 /// One more than the highest temporary that an operator names.
-fn above(op: SlotOp) -> u32 {
+fn above(op: SlotOp) -> Result<u32, AllocError>
+    ensures below { IfOk result (λ n. IsBelow n op) }
+    ensures least { IfOk result (λ n. (m : ℕ) → IsBelow m op → n ≤ m) }
+{
     match op {
         SlotOp::Const { to, .. }
         | SlotOp::Null { to }
@@ -43,7 +59,7 @@ fn above(op: SlotOp) -> u32 {
         | SlotOp::TextAddress { to, .. }
         | SlotOp::LocalAddress { to, .. }
         | SlotOp::ReadRegister { to, .. }
-        | SlotOp::GetChar { to } => to.saturating_add(1),
+        | SlotOp::GetChar { to } => next(to),
         SlotOp::Convert { at, .. }
         | SlotOp::Unary { at, .. }
         | SlotOp::Offset { at, .. }
@@ -52,11 +68,11 @@ fn above(op: SlotOp) -> u32 {
         | SlotOp::JumpIfEqual { at, .. }
         | SlotOp::Return { at }
         | SlotOp::PutChar { at }
-        | SlotOp::Exit { at } => at.saturating_add(1),
-        SlotOp::WriteRegister { from, .. } => from.saturating_add(1),
+        | SlotOp::Exit { at } => next(at),
+        SlotOp::WriteRegister { from, .. } => next(from),
         SlotOp::Load { to, from, .. } | SlotOp::Take { to, from } | SlotOp::Move { to, from, .. } =>
-            { to.max(from).saturating_add(1) }
-        SlotOp::Store { at, from, .. } => at.max(from).saturating_add(1),
+            next(higher(to, from)),
+        SlotOp::Store { at, from, .. } => next(higher(at, from)),
         SlotOp::Binary {
             to,
             left,
@@ -74,14 +90,18 @@ fn above(op: SlotOp) -> u32 {
             left,
             right,
             ..
-        } => to.max(left).max(right).saturating_add(1),
+        } => next(higher(higher(to, left), right)),
         SlotOp::Index {
             to,
             pointer,
             index,
             ..
-        } => to.max(pointer).max(index).saturating_add(1),
-        SlotOp::Call { at, arguments, .. } => at.saturating_add(arguments.max(1)),
-        SlotOp::Jump { .. } | SlotOp::Stop { .. } | SlotOp::Zero { .. } | SlotOp::Leave { .. } => 0,
+        } => next(higher(higher(to, pointer), index)),
+        SlotOp::Call { at, arguments, .. } => at
+            .checked_add(higher(arguments, 1))
+            .ok_or(AllocError),
+        SlotOp::Jump { .. } | SlotOp::Stop { .. } | SlotOp::Zero { .. } | SlotOp::Leave { .. } => {
+            Ok(0)
+        }
     }
 }

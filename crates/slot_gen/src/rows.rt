@@ -115,7 +115,7 @@ fn lower_function(
         name: Text::from_slice(alloc, function.name.as_bytes())?,
         params: function.params,
         locals: lower_locals(alloc, program, function.locals.as_slice())?,
-        temporaries: temporaries(&code),
+        temporaries: temporaries(&code)?,
         points: Many::from_vec(Vec::from_slice(alloc, points)?),
         places: Many::from_vec(places),
         code: Many::from_vec(code),
