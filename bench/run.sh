@@ -120,3 +120,4 @@ if command -v qemu-sparc >/dev/null && command -v sparc64-linux-gnu-as >/dev/nul
 compared sparc qemu-sparc "$program"
 
 "$here/postscript.sh"
+"$here/front.sh"

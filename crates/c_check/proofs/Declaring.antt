@@ -20,11 +20,11 @@ use Rattle.c_syntax.specs.declared.tree.External.{External}
 use Rattle.c_syntax.specs.declared.tree.External.TheVariants.{Declaration, Definition}
 use Rattle.c_judge.specs.Judgement.{deepest}
 use Rattle.c_typing.specs.Plain as plain
-use Rattle.c_check.specs.Declarators as shape
-use Rattle.c_check.specs.Programs.{Fault, Rule, Twice, Undefined, NoMain, Faults, FaultsBehind, AllFiles, at_first, tags_of}
-use Rattle.c_check.specs.Environment.{Environment}
-use Rattle.c_check.specs.Files.{State}
-use Rattle.c_check.specs.Made.{all_points, object_type, objects, begins_in, started}
+use Rattle.c_scope.specs.Declarators as shape
+use Rattle.c_file.specs.Programs.{Fault, Rule, Twice, Undefined, NoMain, Faults, AllFiles, Well, at_first, tags_of}
+use Rattle.c_scope.specs.Environment.{Environment}
+use Rattle.c_file.specs.Files.{State}
+use Rattle.c_file.specs.Made.{all_points, object_type, objects, begins_in, started}
 use Rattle.c_check.proofs.Examples.{at, variable, main_with}
 
 abbrev number : ℕ → ℕ → Tree
@@ -48,11 +48,11 @@ past_the_end k =
 
 it_points_past_the_last : Faults (past_the_end 4 ∷ []) None
 unfolding deepest
-it_points_past_the_last = (_, _, (_, _, _, (_, _, _, (_, _, (refl, refl), refl, refl), (_, _, _, (_, _, (refl, refl), refl, refl), (_, _, _, (_, _, _, (refl, refl), refl, refl, refl), (refl, refl), refl), refl), refl), (refl, refl), refl), refl)
+it_points_past_the_last = (_, _, (_, _, (_, _, (_, _, (refl, refl), refl, refl), (_, (_, _, (_, _, (refl, refl), refl, refl), (_, (_, _, (_, _, _, (refl, refl), refl, refl, refl), (_, (refl, refl), refl)), refl)), refl)), (_, (refl, refl), refl)), refl)
 
 it_points_too_far : Faults (past_the_end 5 ∷ []) (Some (Rule 12 0 19))
 unfolding deepest
-it_points_too_far = (_, _, (_, _, _, (_, _, _, (_, _, (refl, refl), refl, refl), (_, _, _, (_, _, (refl, refl), refl, refl), (_, _, _, (_, _, _, (refl, refl), refl, refl, refl), (refl, refl), refl), refl), refl), (refl, refl), refl), refl)
+it_points_too_far = (_, _, (_, _, (_, _, (_, _, (refl, refl), refl, refl), (_, (_, _, (_, _, (refl, refl), refl, refl), (refl, refl)), refl)), (refl, refl)), refl)
 
 -- `int a[] = {1, 2};`, of which the second file has `extern int a[3];` or `extern int a[2];`
 abbrev two_items : List External
@@ -63,11 +63,11 @@ elsewhere k = Declaration (record { place = at 0; storage = storage.Extern; spec
 
 it_agrees : Faults (two_items ∷ elsewhere 2 ∷ []) None
 unfolding deepest
-it_agrees = (_, _, (_, _, _, (_, _, _, (_, _, (refl, refl), refl, refl), (_, _, _, (_, _, _, (refl, refl), refl, refl, refl), (refl, refl), refl), refl), (_, _, _, (_, _, _, (_, _, (refl, refl), refl, refl), (refl, refl), refl), (refl, refl), refl), refl), refl)
+it_agrees = (_, _, (_, _, (_, _, (_, _, (refl, refl), refl, refl), (_, (_, _, (_, _, _, (refl, refl), refl, refl, refl), (_, (refl, refl), refl)), refl)), (_, (_, _, (_, _, (_, _, (refl, refl), refl, refl), (_, (refl, refl), refl)), (_, (refl, refl), refl)), refl)), refl)
 
 it_has_another_bound : Faults (two_items ∷ elsewhere 3 ∷ []) (Some (Rule 6 1 11))
 unfolding deepest
-it_has_another_bound = (_, _, (_, _, _, (_, _, _, (_, _, (refl, refl), refl, refl), (_, _, _, (_, _, _, (refl, refl), refl, refl, refl), (refl, refl), refl), refl), (_, _, _, (_, _, _, (_, _, (refl, refl), refl, refl), (refl, refl), refl), (refl, refl), refl), refl), refl)
+it_has_another_bound = (_, _, (_, _, (_, _, (_, _, (refl, refl), refl, refl), (_, (_, _, (_, _, _, (refl, refl), refl, refl, refl), (_, (refl, refl), refl)), refl)), (_, (_, _, (_, _, (_, _, (refl, refl), refl, refl), (refl, refl)), (refl, refl)), refl)), refl)
 
 -- `int f(int a) { int a; return 0; }`
 abbrev parameter_again : List External
@@ -78,7 +78,7 @@ parameter_again =
 
 it_is_one_block : Faults (parameter_again ∷ []) (Some (Rule 5 0 19))
 unfolding deepest
-it_is_one_block = (_, _, (_, _, _, (_, _, _, (_, _, _, (refl, refl), refl, refl, refl), (_, _, _, (_, _, _, (refl, refl), refl, refl, refl), (refl, refl), refl), refl), (refl, refl), refl), refl)
+it_is_one_block = (_, _, (_, _, (_, _, (_, _, _, (refl, refl), refl, refl, refl), (refl, refl)), (refl, refl)), refl)
 
 -- `int main(void) { switch (1) { case 1: ; case 2 - 1: ; } return 0; }`
 abbrev same_labels : List External
@@ -90,4 +90,21 @@ same_labels = main_with 0 (Closed (Also (Also (Begun (at 15))
 
 it_has_one_label_twice : Faults (same_labels ∷ []) (Some (Rule 18 0 40))
 unfolding deepest
-it_has_one_label_twice = (_, _, (_, _, _, (_, _, _, (_, _, _, (refl, refl), refl, refl, refl), (refl, refl), refl), (refl, refl), refl), refl)
+it_has_one_label_twice = (_, _, (_, _, (_, _, (_, _, _, (refl, refl), refl, refl, refl), (refl, refl)), (refl, refl)), refl)
+
+-- `int x = sizeof "ab"; char t[3] = "cd"; char *p = "ef";`: the string that an array starts with has no number
+abbrev of_char : ℕ → DeclaratorTree → Tree → External
+of_char n d e = Declaration (record { place = at n; storage = storage.Plain; spec = Named spec.Char; names = record { declarator = d; initial = Some (Value e) } ∷ [] })
+
+abbrev quote : ℕ → List ℕ → Tree
+quote n text = Leaf (at n) leaf.Text text
+
+abbrev strings : List External
+strings =
+    declaration 0 (Name (at 4) (codes "x")) (Some (Value (Prefix (at 8) prefix.Sizeof (quote 15 (codes "ab"))))) ∷
+    of_char 21 (Array (at 26) (Name (at 26) (codes "t")) (Some (number 28 3))) (quote 33 (codes "cd")) ∷
+    of_char 39 (Pointers (at 44) 1 (Name (at 45) (codes "p"))) (quote 49 (codes "ef")) ∷ []
+
+it_numbers_strings : (q : State) × AllFiles (tags_of (strings ∷ [])) (at_first (tags_of (strings ∷ []))) (strings ∷ []) Well q × (q.strings ≡ (codes "ab" ∷ codes "ef" ∷ []))
+unfolding deepest
+it_numbers_strings = (_, (_, _, (_, _, (_, _, (refl, refl), refl, refl), (_, (_, _, (_, _, (refl, refl), refl, refl), (_, (_, _, (_, _, (refl, refl), refl, refl), (_, (refl, refl), refl)), refl)), refl)), (_, (refl, refl), refl)), refl)

@@ -18,8 +18,8 @@ use Rattle.c_syntax.specs.declared.tree.External.{External}
 use Rattle.c_syntax.specs.declared.tree.External.TheVariants.{Declaration, Definition}
 use Rattle.c_judge.specs.Judgement.{deepest}
 use Rattle.c_typing.specs.Plain as plain
-use Rattle.c_check.specs.Declarators as shape
-use Rattle.c_check.specs.Programs.{Fault, Rule, Twice, Undefined, NoMain, Faults, FaultsBehind, AllFiles, at_first, tags_of}
+use Rattle.c_scope.specs.Declarators as shape
+use Rattle.c_file.specs.Programs.{Fault, Rule, Twice, Undefined, NoMain, Faults, FaultsBehind, AllFiles, at_first, tags_of}
 
 -- a place on the first line
 abbrev pub at : ℕ → Place
@@ -39,7 +39,7 @@ pointer_of_an_integer =
 
 it_breaks_a_rule : Faults (pointer_of_an_integer ∷ []) (Some (Rule 24 0 31))
 unfolding deepest
-it_breaks_a_rule = (_, _, (_, _, _, (_, _, _, (_, _, (refl, refl), refl, refl), (_, _, _, (_, _, _, (refl, refl), refl, refl, refl), (refl, refl), refl), refl), (refl, refl), refl), refl)
+it_breaks_a_rule = (_, _, (_, _, (_, _, (_, _, (refl, refl), refl, refl), (_, (_, _, (_, _, _, (refl, refl), refl, refl, refl), (refl, refl)), refl)), (refl, refl)), refl)
 
 -- `int main(void) { return y; }`
 abbrev undeclared : List External
@@ -47,12 +47,12 @@ undeclared = main_with 0 (Closed (Also (Begun (at 15)) (Return (at 17) (Some (Le
 
 it_lacks_a_name : Faults (undeclared ∷ []) (Some (Undefined (codes "y")))
 unfolding deepest
-it_lacks_a_name = (_, _, (_, _, _, (_, _, _, (_, _, _, (refl, refl), refl, refl, refl), (refl, refl), refl), (refl, refl), refl), refl)
+it_lacks_a_name = (_, _, (_, _, (_, _, (_, _, _, (refl, refl), refl, refl, refl), (_, (refl, refl), refl)), (_, (refl, refl), refl)), refl)
 
 -- `int x;`
 it_has_no_main : Faults ((variable 0 4 (codes "x") ∷ []) ∷ []) (Some NoMain)
 unfolding deepest
-it_has_no_main = (_, _, (_, _, _, (_, _, _, (_, _, (refl, refl), refl, refl), (refl, refl), refl), (refl, refl), refl), refl)
+it_has_no_main = (_, _, (_, _, (_, _, (_, _, (refl, refl), refl, refl), (_, (refl, refl), refl)), (_, (refl, refl), refl)), refl)
 
 -- `int x; int main(void) { x = 3; return x; }`
 abbrev assigned : List External
@@ -62,7 +62,7 @@ assigned =
 
 it_is_well : Faults (assigned ∷ []) None
 unfolding deepest
-it_is_well = (_, _, (_, _, _, (_, _, _, (_, _, (refl, refl), refl, refl), (_, _, _, (_, _, _, (refl, refl), refl, refl, refl), (refl, refl), refl), refl), (refl, refl), refl), refl)
+it_is_well = (_, _, (_, _, (_, _, (_, _, (refl, refl), refl, refl), (_, (_, _, (_, _, _, (refl, refl), refl, refl, refl), (_, (refl, refl), refl)), refl)), (_, (refl, refl), refl)), refl)
 
 -- two files: the first calls what the second defines
 abbrev calls : List External
@@ -75,12 +75,12 @@ called = Definition (record { place = at 0; storage = storage.Plain; spec = Name
 
 it_finds_the_other_file : Faults (calls ∷ called ∷ []) None
 unfolding deepest
-it_finds_the_other_file = (_, _, (_, _, _, (_, _, _, (_, _, (refl, refl), refl, refl), (_, _, _, (_, _, _, (refl, refl), refl, refl, refl), (refl, refl), refl), refl), (_, _, _, (_, _, _, (_, _, _, (refl, refl), refl, refl, refl), (refl, refl), refl), (refl, refl), refl), refl), refl)
+it_finds_the_other_file = (_, _, (_, _, (_, _, (_, _, (refl, refl), refl, refl), (_, (_, _, (_, _, _, (refl, refl), refl, refl, refl), (_, (refl, refl), refl)), refl)), (_, (_, _, (_, _, (_, _, _, (refl, refl), refl, refl, refl), (_, (refl, refl), refl)), (_, (refl, refl), refl)), refl)), refl)
 
 it_lacks_the_other_file : Faults (calls ∷ []) (Some (Undefined (codes "f")))
 unfolding deepest
-it_lacks_the_other_file = (_, _, (_, _, _, (_, _, _, (_, _, (refl, refl), refl, refl), (_, _, _, (_, _, _, (refl, refl), refl, refl, refl), (refl, refl), refl), refl), (refl, refl), refl), refl)
+it_lacks_the_other_file = (_, _, (_, _, (_, _, (_, _, (refl, refl), refl, refl), (_, (_, _, (_, _, _, (refl, refl), refl, refl, refl), (_, (refl, refl), refl)), refl)), (_, (refl, refl), refl)), refl)
 
 it_has_two : Faults (calls ∷ called ∷ called ∷ []) (Some (Twice (codes "f")))
 unfolding deepest
-it_has_two = (_, _, (_, _, _, (_, _, _, (_, _, (refl, refl), refl, refl), (_, _, _, (_, _, _, (refl, refl), refl, refl, refl), (refl, refl), refl), refl), (_, _, _, (_, _, _, (_, _, _, (refl, refl), refl, refl, refl), (refl, refl), refl), (_, _, _, (_, _, _, (_, _, _, (refl, refl), refl, refl, refl), (refl, refl), refl), (refl, refl), refl), refl), refl), refl)
+it_has_two = (_, _, (_, _, (_, _, (_, _, (refl, refl), refl, refl), (_, (_, _, (_, _, _, (refl, refl), refl, refl, refl), (_, (refl, refl), refl)), refl)), (_, (_, _, (_, _, (_, _, _, (refl, refl), refl, refl, refl), (_, (refl, refl), refl)), (_, (_, _, (_, _, (_, _, _, (refl, refl), refl, refl, refl), (_, (refl, refl), refl)), (_, (refl, refl), refl)), refl)), refl)), refl)

@@ -4,7 +4,7 @@ use Rattle.c_lex.specs.declared.token.Place.{Place}
 use Rattle.c_declaration.specs.declared.tree.Local.{Local}
 use Rattle.c_declaration.specs.Tree.{DeclaratorTree, Function, Taking, with_parameters}
 use Rattle.c_statement.specs.Tree.{StatementTree, Begun, Declares, Also, with_locals, with_statements}
-use Rattle.c_check.specs.Programs.{any, takes_many, parameters_of, many_below, many_in_local}
+use Rattle.c_file.specs.Programs.{any, takes_many, parameters_of, many_below, many_in_local}
 
 or_assoc : (a b c : Bool) → ((a || b) || c) ≡ (a || (b || c))
 or_assoc true b c = refl

@@ -5,17 +5,10 @@ use Rattle.std.specs.Map.{update}
 use Rattle.std.specs.Option.{is_some}
 use Rattle.c_judge.specs.declared.numbers.Numbers.{Numbers}
 use Rattle.c_judge.specs.Numbers.{number_in}
-use Rattle.c_check.specs.declared.definitions.Definition.{Definition}
-use Rattle.c_check.specs.Names.{defining, defines, is_defined, AreWithin}
-use Rattle.c_check.specs.Sets.{has_name, in_file}
-
-added : (b : Bool) (n : ℕ) (o : Option ℕ) → is_some (if b then Some n else o) ≡ (b || is_some o)
-added true n o = refl
-added false n o = refl
-
-pub name_added : (old new : Numbers) (x : List ℕ) (n : ℕ) → ((t : List ℕ) → number_in new t ≡ update bytes_eq (number_in old) x (Some n) t)
-    → (t : List ℕ) → has_name new t ≡ (bytes_eq x t || has_name old t)
-name_added old new x n u t = ap is_some (u t) ∙ added (bytes_eq x t) n (number_in old t)
+use Rattle.c_file.specs.declared.definitions.Definition.{Definition}
+use Rattle.c_file.specs.Names.{defining, defines, is_defined, AreWithin}
+use Rattle.c_scope.specs.NumberedNames.{has_name}
+use Rattle.c_check.specs.Sets.{in_file}
 
 or_turned : (a b c : Bool) → ((a || b) || c) ≡ (b || (a || c))
 or_turned true true c = refl

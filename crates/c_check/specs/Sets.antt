@@ -3,10 +3,8 @@ use Rattle.std.specs.Prelude.{ℕ, Bool, false, if◌then◌else◌, List, Optio
 use Rattle.std.specs.Option.{is_some}
 use Rattle.c_judge.specs.declared.numbers.Numbers.{Numbers}
 use Rattle.c_judge.specs.Numbers.{number_in}
+use Rattle.c_scope.specs.NumberedNames.{has_name}
 use Rattle.c_check.specs.declared.defined.DefinedNames.{DefinedNames}
-
-abbrev pub has_name : Numbers → List ℕ → Bool
-has_name m t = is_some (number_in m t)
 
 abbrev pub in_file : Option Numbers → List ℕ → Bool
 in_file None t = false

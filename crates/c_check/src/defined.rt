@@ -1,9 +1,10 @@
 // Which names the definitions of a program define (C90 6.1.2.2, 6.7).
 ghost use Rattle.std.specs.Prelude.{◌≡◌, ◌<◌, ℕ, List, Bool, map, ◌&&◌, ◌||◌, ◌==◌, bytes_eq, slice_get, length, vec_len, IfOk, OnOk, false};
-ghost use Rattle.c_check.specs.Names.{defining, defines, is_defined, AreWithin};
-ghost use Rattle.c_check.specs.Sets.{has_name, in_file, defined_in};
+ghost use Rattle.c_file.specs.Names.{defining, defines, is_defined, AreWithin};
+ghost use Rattle.c_scope.specs.NumberedNames.{has_name};
+ghost use Rattle.c_check.specs.Sets.{in_file, defined_in};
 
-use crate::definitions::Definition;
+use c_file::Definition;
 use c_judge::Numbers;
 use std::alloc::{AllocError, Global};
 
@@ -45,7 +46,7 @@ impl<'a> DefinedNames<'a> {
 }
 
 /// Adds a name to a set.
-#[tactic(auto, using(crate::proofs::Sets::name_added))]
+#[tactic(auto, using(c_struct::proofs::NamesAdded::name_added))]
 fn add_name<'a>(names: &mut Numbers<'a>, name: &'a [u8]) -> Result<(), AllocError>
     ensures { OnOk result ((t : List ℕ) → has_name names.new t ≡ (bytes_eq name.now t || has_name names.old t)) }
 {

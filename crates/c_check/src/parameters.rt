@@ -1,6 +1,6 @@
 // Whether a function's declarator has more than 16 parameters.
 ghost use Rattle.std.specs.Prelude.{◌≡◌};
-ghost use Rattle.c_check.specs.Programs.{any, takes_many, many_in, many_in_local, many_below, many_in_part, many_in_spec, many};
+ghost use Rattle.c_file.specs.Programs.{any, takes_many, many_in, many_in_local, many_below, many_in_part, many_in_spec, many};
 
 use c_declaration::{
     Declarator, DeclaratorNode, Declared, FileSpec, Local, MemberPart, Parameter, ParameterNode,
@@ -13,7 +13,7 @@ const MOST: usize = 16;
 
 /// Whether a declarator has more, or one in it.
 #[cycle(taking)]
-#[tactic(auto, using(crate::proofs::Many::takes_many_function, crate::proofs::Measures::depth_function))]
+#[tactic(auto, using(crate::proofs::Many::takes_many_function, c_mentions::proofs::Measures::depth_function))]
 fn takes_many(d: &Declarator) -> bool
     ensures { result ≡ takes_many d.now }
 {
@@ -30,7 +30,7 @@ fn takes_many(d: &Declarator) -> bool
 
 /// Whether one of some parameters has more.
 #[cycle(taking)]
-#[tactic(auto, using(crate::proofs::Measures::parameter_at))]
+#[tactic(auto, using(c_mentions::proofs::Measures::parameter_at))]
 fn any_takes_many(parameters: &[Parameter]) -> bool
     ensures { result ≡ any takes_many parameters.now }
 {
@@ -79,7 +79,7 @@ fn locals_take_many(locals: &[Local]) -> bool
 
 /// Whether a declarator in a statement has more.
 #[cycle(stating)]
-#[tactic(auto, using(crate::proofs::Many::many_block, crate::proofs::Measures::depth_block))]
+#[tactic(auto, using(crate::proofs::Many::many_block, c_mentions::proofs::Measures::depth_block))]
 fn many_below(s: &Statement) -> bool
     ensures { result ≡ many_below s.now }
 {
@@ -105,7 +105,7 @@ fn many_below(s: &Statement) -> bool
 
 /// Whether a declarator in one of some statements has more.
 #[cycle(stating)]
-#[tactic(auto, using(crate::proofs::Measures::statement_at))]
+#[tactic(auto, using(c_mentions::proofs::Measures::statement_at))]
 fn any_many_below(statements: &[Statement]) -> bool
     ensures { result ≡ any many_below statements.now }
 {

@@ -42,7 +42,7 @@ pub fn expr_of(expr: Option<c_expr::Built>) -> Option<Built<Expr>>
     match expr {
         Some(built) => Some(Built {
             height: built.height,
-            tree: built.expr,
+            tree: built.expr.into_inner(),
         }),
         None => None,
     }

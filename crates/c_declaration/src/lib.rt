@@ -16,8 +16,6 @@ mod members;
 mod name;
 mod state;
 mod step;
-#[cfg(test)]
-mod tests;
 mod tree;
 mod unnamed;
 

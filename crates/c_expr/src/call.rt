@@ -3,6 +3,7 @@ ghost use Rattle.std.specs.Prelude.{◌≡◌, ◌+◌, IfOk, Some, max};
 ghost use Rattle.c_expr.specs.Tree.{With};
 ghost use Rattle.c_expr.specs.Grown.{grow_list, call_of, with_of, called_of};
 
+use crate::boxed::Boxed;
 use crate::grown::{Built, Grown, MOST_HEIGHT, greater};
 use crate::{Expr, Node};
 use c_lex::Place;
@@ -48,7 +49,7 @@ pub fn call_of(alloc: Global, a: Grown) -> Result<GrownCall, AllocError>
             Some(BuiltCall {
                 height: a.height + 1,
                 place,
-                callee: Box::new(alloc, a.expr)?,
+                callee: a.expr.into_box(),
                 arguments: Vec::new(alloc),
             })
         } else {
@@ -70,7 +71,7 @@ fn longer(call: BuiltCall, argument: Built) -> Result<Option<BuiltCall>, AllocEr
             callee,
             arguments: mut arguments,
         } = call;
-        arguments.push(argument.expr)?;
+        arguments.push(argument.expr.into_inner())?;
         return Ok(Some(BuiltCall {
             height: greater(height, argument.height + 2),
             place,
@@ -97,8 +98,8 @@ pub fn with_of(call: GrownCall, argument: Grown) -> Result<GrownCall, AllocError
 }
 
 /// The tree of a call that is whole.
-fn whole_call(call: BuiltCall) -> Built
-    ensures { result ≡ call }
+fn whole_call(alloc: Global, call: BuiltCall) -> Result<Built, AllocError>
+    ensures { IfOk result (λ b. b ≡ call) }
 {
     let BuiltCall {
         height,
@@ -106,26 +107,27 @@ fn whole_call(call: BuiltCall) -> Built
         callee,
         arguments,
     } = call;
-    Built {
+    let expr = Expr {
+        node: Node::Call(place, callee, arguments),
+    };
+    Ok(Built {
         height,
-        expr: Expr {
-            node: Node::Call(place, callee, arguments),
-        },
-    }
+        expr: Boxed::new(alloc, expr)?,
+    })
 }
 
 /// A call that is whole.
-pub fn called_of(call: GrownCall) -> Grown
-    ensures { result ≡ called_of call }
+pub fn called_of(alloc: Global, call: GrownCall) -> Result<Grown, AllocError>
+    ensures { IfOk result (λ g. g ≡ called_of call) }
 {
     let place = call.place;
     let tree = match call.tree {
-        Some(call) => Some(whole_call(call)),
+        Some(call) => Some(whole_call(alloc, call)?),
         None => None,
     };
-    Grown {
+    Ok(Grown {
         place,
         level: 16,
         tree,
-    }
+    })
 }

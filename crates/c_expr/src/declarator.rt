@@ -107,7 +107,7 @@ fn with_bound(d: BuiltAbstract, bound: Built) -> Result<Option<BuiltAbstract>, A
         let BuiltAbstract { height, declarator } = d;
         return Ok(Some(BuiltAbstract {
             height: greater(height, bound.height + 1),
-            declarator: push_bound(declarator, Some(bound.expr))?,
+            declarator: push_bound(declarator, Some(bound.expr.into_inner()))?,
         }));
     }
     Ok(None)
@@ -154,29 +154,40 @@ fn name_height(height: u32) -> u32
 }
 
 /// `sizeof` of a type's name.
-fn sized(place: Place, spec: Spec, d: BuiltAbstract) -> Option<Built>
-    ensures { result ≡ sized place spec (Some d) }
+fn sized(
+    alloc: Global,
+    place: Place,
+    spec: Spec,
+    d: BuiltAbstract,
+) -> Result<Option<Built>, AllocError>
+    ensures { IfOk result (λ t. t ≡ sized place spec (Some d)) }
 {
     let BuiltAbstract { height, declarator } = d;
     taller(
+        alloc,
         name_height(height),
         Node::SizeofType(place, TypeName { spec, declarator }),
     )
 }
 
 /// `sizeof` of a type's name, unless that is too high.
-pub fn sizeof_type_of(place: Place, spec: Spec, d: Option<BuiltAbstract>) -> Grown
-    ensures { result ≡ sizeof_type_of place spec d }
+pub fn sizeof_type_of(
+    alloc: Global,
+    place: Place,
+    spec: Spec,
+    d: Option<BuiltAbstract>,
+) -> Result<Grown, AllocError>
+    ensures { IfOk result (λ g. g ≡ sizeof_type_of place spec d) }
 {
     let tree = match d {
-        Some(d) => sized(place, spec, d),
+        Some(d) => sized(alloc, place, spec, d)?,
         None => None,
     };
-    Grown {
+    Ok(Grown {
         place,
         level: 15,
         tree,
-    }
+    })
 }
 
 /// A cast of an operand.
@@ -190,14 +201,11 @@ fn cast_tree(
     ensures { IfOk result (λ r. r ≡ cast_tree place spec (Some d) (Some a)) }
 {
     let BuiltAbstract { height, declarator } = d;
-    Ok(taller(
+    taller(
+        alloc,
         greater(name_height(height), a.height),
-        Node::Cast(
-            place,
-            TypeName { spec, declarator },
-            Box::new(alloc, a.expr)?,
-        ),
-    ))
+        Node::Cast(place, TypeName { spec, declarator }, a.expr.into_box()),
+    )
 }
 
 /// A cast, unless the type's name or the operand is too high.

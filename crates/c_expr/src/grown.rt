@@ -4,6 +4,7 @@ ghost use Rattle.c_expr.specs.View.{tree_of};
 ghost use Rattle.c_expr.specs.Grown.{taller, leaf_of, paren_of, index_of, member_of, after_of, prefix_of, binary_of, choice_of};
 ghost use Rattle.c_expr.specs.Levels.{level_of};
 
+use crate::boxed::Boxed;
 use crate::levels::level_of;
 use crate::{Expr, Node};
 use c_lex::Place;
@@ -18,7 +19,7 @@ pub const MOST_HEIGHT: u32 = 64;
 #[derive(Drop)]
 pub struct Built {
     pub height: u32,
-    pub expr: Expr,
+    pub expr: Boxed<Expr>,
 }
 
 /// What some tokens are: where they begin, the level of the grammar's rule, and the tree unless it is too high.
@@ -30,16 +31,17 @@ pub struct Grown {
 }
 
 /// A tree one higher than its parts.
-pub fn taller(height: u32, node: Node) -> Option<Built>
-    ensures { result ≡ taller height (tree_of node) }
+pub fn taller(alloc: Global, height: u32, node: Node) -> Result<Option<Built>, AllocError>
+    ensures { IfOk result (λ t. t ≡ taller height (tree_of node)) }
 {
     if height < MOST_HEIGHT {
-        Some(Built {
+        let expr = Boxed::new(alloc, Expr { node })?;
+        Ok(Some(Built {
             height: height + 1,
-            expr: Expr { node },
-        })
+            expr,
+        }))
     } else {
-        None
+        Ok(None)
     }
 }
 
@@ -51,14 +53,14 @@ pub fn greater(a: u32, b: u32) -> u32
 }
 
 /// A name, a constant or a string.
-pub fn leaf_of(place: Place, kind: LeafKind, text: Text) -> Grown
-    ensures { result ≡ leaf_of place kind text }
+pub fn leaf_of(alloc: Global, place: Place, kind: LeafKind, text: Text) -> Result<Grown, AllocError>
+    ensures { IfOk result (λ g. g ≡ leaf_of place kind text) }
 {
-    Grown {
+    Ok(Grown {
         place,
         level: 17,
-        tree: taller(0, Node::Leaf(place, kind, text)),
-    }
+        tree: taller(alloc, 0, Node::Leaf(place, kind, text))?,
+    })
 }
 
 /// An expression in parentheses.
@@ -66,7 +68,7 @@ pub fn paren_of(alloc: Global, place: Place, a: Grown) -> Result<Grown, AllocErr
     ensures { IfOk result (λ g. g ≡ paren_of place a) }
 {
     let tree = match a.tree {
-        Some(a) => taller(a.height, Node::Paren(place, Box::new(alloc, a.expr)?)),
+        Some(a) => taller(alloc, a.height, Node::Paren(place, a.expr.into_box()))?,
         None => None,
     };
     Ok(Grown {
@@ -84,9 +86,10 @@ pub fn index_of(alloc: Global, a: Grown, b: Grown) -> Result<Grown, AllocError>
     let tree = match a.tree {
         Some(a) => match b.tree {
             Some(b) => taller(
+                alloc,
                 greater(a.height, b.height),
-                Node::Index(place, Box::new(alloc, a.expr)?, Box::new(alloc, b.expr)?),
-            ),
+                Node::Index(place, a.expr.into_box(), b.expr.into_box()),
+            )?,
             None => None,
         },
         None => None,
@@ -111,9 +114,10 @@ pub fn member_of(
     let place = a.place;
     let tree = match a.tree {
         Some(a) => taller(
+            alloc,
             a.height,
-            Node::Member(place, Box::new(alloc, a.expr)?, access, name, text),
-        ),
+            Node::Member(place, a.expr.into_box(), access, name, text),
+        )?,
         None => None,
     };
     Ok(Grown {
@@ -129,7 +133,7 @@ pub fn after_of(alloc: Global, a: Grown, step: Step) -> Result<Grown, AllocError
 {
     let place = a.place;
     let tree = match a.tree {
-        Some(a) => taller(a.height, Node::After(place, Box::new(alloc, a.expr)?, step)),
+        Some(a) => taller(alloc, a.height, Node::After(place, a.expr.into_box(), step))?,
         None => None,
     };
     Ok(Grown {
@@ -144,7 +148,7 @@ pub fn prefix_of(alloc: Global, place: Place, op: PrefixOp, a: Grown) -> Result<
     ensures { IfOk result (λ g. g ≡ prefix_of place op a) }
 {
     let tree = match a.tree {
-        Some(a) => taller(a.height, Node::Prefix(place, op, Box::new(alloc, a.expr)?)),
+        Some(a) => taller(alloc, a.height, Node::Prefix(place, op, a.expr.into_box()))?,
         None => None,
     };
     Ok(Grown {
@@ -163,14 +167,10 @@ pub fn binary_of(alloc: Global, op: BinaryOp, a: Grown, b: Grown) -> Result<Grow
     let tree = match a.tree {
         Some(a) => match b.tree {
             Some(b) => taller(
+                alloc,
                 greater(a.height, b.height),
-                Node::Binary(
-                    place,
-                    op,
-                    Box::new(alloc, a.expr)?,
-                    Box::new(alloc, b.expr)?,
-                ),
-            ),
+                Node::Binary(place, op, a.expr.into_box(), b.expr.into_box()),
+            )?,
             None => None,
         },
         None => None,
@@ -187,14 +187,15 @@ pub fn choice_of(alloc: Global, a: Grown, b: Grown, c: Grown) -> Result<Grown, A
         Some(a) => match b.tree {
             Some(b) => match c.tree {
                 Some(c) => taller(
+                    alloc,
                     greater(a.height, greater(b.height, c.height)),
                     Node::Choice(
                         place,
-                        Box::new(alloc, a.expr)?,
-                        Box::new(alloc, b.expr)?,
-                        Box::new(alloc, c.expr)?,
+                        a.expr.into_box(),
+                        b.expr.into_box(),
+                        c.expr.into_box(),
                     ),
-                ),
+                )?,
                 None => None,
             },
             None => None,

@@ -113,7 +113,7 @@ fn in_parens(alloc: Global, stack: Stack<Frame>, g: Grown, place: Place) -> Resu
         }),
         Closer::Calls(call) => Ok(Parser {
             stack,
-            mode: Mode::Have(called_of(with_of(call, g)?)),
+            mode: Mode::Have(called_of(alloc, with_of(call, g)?)?),
         }),
         Closer::NoParen => Err(SynFault::Syntax(place)),
     }

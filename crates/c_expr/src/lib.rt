@@ -1,6 +1,7 @@
 //! Expressions of C (C90 6.3): their trees, which tokens are one, and reading one.
 #![tactic(auto)]
 
+mod boxed;
 mod call;
 mod declarator;
 mod frame;
@@ -13,11 +14,10 @@ mod name;
 mod read;
 mod stack;
 mod state;
-#[cfg(test)]
-mod tests;
 mod tree;
 mod want;
 
+pub use boxed::Boxed;
 pub use call::{BuiltCall, GrownCall};
 pub use declarator::BuiltAbstract;
 pub use frame::{Frame, Least};

@@ -20,7 +20,7 @@ pub fn shift(alloc: Global, parser: Parser, next: Terminal) -> Result<Parser, Sy
         text,
     } = next;
     match mode {
-        Mode::Want => wanting(stack, symbol, place, text),
+        Mode::Want => wanting(alloc, stack, symbol, place, text),
         Mode::Have(g) => having(alloc, stack, g, symbol, place),
         Mode::Naming(g, access) => naming(alloc, stack, g, access, symbol, place, text),
         Mode::Typing(part) => typing(alloc, stack, part, symbol, place),

@@ -117,6 +117,7 @@ fn unnesting(
 
 /// The `)` of a type's name: the end of a `sizeof`, or a cast.
 fn naming_type(
+    alloc: Global,
     stack: Stack<Frame>,
     begun: Place,
     spec: Spec,
@@ -130,7 +131,7 @@ fn naming_type(
         stack.pop();
         return Ok(Parser {
             stack,
-            mode: Mode::Have(sizeof_type_of(operator, spec, d)),
+            mode: Mode::Have(sizeof_type_of(alloc, operator, spec, d)?),
         });
     }
     if need(&stack) <= 14 {
@@ -156,7 +157,7 @@ fn closing_name(
     match name_closer_of(stack.pop()) {
         NameCloser::Names(begun, spec) => {
             let d = part_of(alloc, part);
-            naming_type(stack, begun, spec, d, place)
+            naming_type(alloc, stack, begun, spec, d, place)
         }
         NameCloser::Nests(stars) => unnesting(alloc, stack, stars, part, place),
         NameCloser::NoName => Err(SynFault::Syntax(place)),

@@ -115,7 +115,7 @@ pub fn parse_expr(alloc: Global, text: &[u8], tokens: &[Token]) -> Result<Expr, 
 {
     match read(alloc, text, tokens) {
         Ok(g) => match g.tree {
-            Some(built) => Ok(built.expr),
+            Some(built) => Ok(built.expr.into_inner()),
             None => Err(SynFault::Deep(g.place)),
         },
         Err(fault) => Err(fault),

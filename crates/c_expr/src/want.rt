@@ -80,14 +80,14 @@ fn opening_tag(stack: Stack<Frame>, place: Place) -> Result<Parser, SynFault>
 }
 
 /// The `)` of a call without arguments.
-fn calling(stack: Stack<Frame>, place: Place) -> Result<Parser, SynFault>
+fn calling(alloc: Global, stack: Stack<Frame>, place: Place) -> Result<Parser, SynFault>
     ensures { Gives result (called (begun_part (first stack)) (drop 1 stack)) }
 {
     let mut stack = stack;
     match begun_part(stack.pop()) {
         Some(call) => Ok(Parser {
             stack,
-            mode: Mode::Have(called_of(call)),
+            mode: Mode::Have(called_of(alloc, call)?),
         }),
         None => Err(SynFault::Syntax(place)),
     }
@@ -139,6 +139,7 @@ fn begun(stack: Stack<Frame>, place: Place) -> Result<Parser, SynFault>
 
 /// A token where an expression begins.
 pub fn wanting(
+    alloc: Global,
     stack: Stack<Frame>,
     symbol: Symbol,
     place: Place,
@@ -149,12 +150,12 @@ pub fn wanting(
     match symbol {
         Symbol::Leaf(kind) => Ok(Parser {
             stack,
-            mode: Mode::Have(leaf_of(place, kind, text)),
+            mode: Mode::Have(leaf_of(alloc, place, kind, text)?),
         }),
         Symbol::OpenParen => begun(stack, place),
         Symbol::Word(word) => opening_type(stack, spec_of(word), place),
         Symbol::Struct => opening_tag(stack, place),
-        Symbol::CloseParen => calling(stack, place),
+        Symbol::CloseParen => calling(alloc, stack, place),
         Symbol::CloseBracket => emptying(stack, place),
         _ => preceding(stack, symbol, place),
     }

@@ -20,8 +20,6 @@ mod rules;
 mod scope;
 mod session;
 mod symbol;
-#[cfg(test)]
-mod tests;
 mod types;
 mod values;
 

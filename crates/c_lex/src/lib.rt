@@ -8,11 +8,7 @@ mod lex;
 mod literal;
 mod longest;
 mod number;
-#[cfg(test)]
-mod outside;
 mod punctuator;
-#[cfg(test)]
-mod tests;
 mod token;
 
 pub use keyword::{Keyword, keyword_of};

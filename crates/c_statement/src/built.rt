@@ -3,7 +3,7 @@ ghost use Rattle.std.specs.Prelude.{◌≡◌, max};
 ghost use Rattle.c_statement.specs.Parts.{taller, paired, expr_part, absent_part, present_part};
 
 use c_declaration::Built;
-use c_expr::Expr;
+use c_expr::{Boxed, Expr};
 
 /// The greatest height of a statement.
 pub const MOST_HEIGHT: u32 = 64;
@@ -49,7 +49,7 @@ pub fn taller<T: Drop>(a: Option<Built<T>>) -> Option<Built<T>>
 }
 
 /// An expression as a part.
-pub fn expr_part(e: Option<c_expr::Built>) -> Option<Built<Expr>>
+pub fn expr_part(e: Option<c_expr::Built>) -> Option<Built<Boxed<Expr>>>
     ensures { result ≡ expr_part e }
 {
     match e {
@@ -62,7 +62,7 @@ pub fn expr_part(e: Option<c_expr::Built>) -> Option<Built<Expr>>
 }
 
 /// No expression, where one may be absent.
-pub fn absent_part() -> Option<Built<Option<Expr>>>
+pub fn absent_part() -> Option<Built<Option<Boxed<Expr>>>>
     ensures { result ≡ absent_part }
 {
     Some(Built {
@@ -72,7 +72,7 @@ pub fn absent_part() -> Option<Built<Option<Expr>>>
 }
 
 /// An expression, where it may be absent.
-pub fn present_part(e: Option<Built<Expr>>) -> Option<Built<Option<Expr>>>
+pub fn present_part(e: Option<Built<Boxed<Expr>>>) -> Option<Built<Option<Boxed<Expr>>>>
     ensures { result ≡ present_part e }
 {
     match e {

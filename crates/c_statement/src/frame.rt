@@ -8,7 +8,7 @@ use crate::parts::{headed_of, if_else_of, if_of};
 use crate::state::{Frame, Outer};
 use crate::tree::Statement;
 use c_declaration::Built;
-use c_expr::{Expr, Stack};
+use c_expr::{Boxed, Expr, Stack};
 use c_lex::Place;
 use std::alloc::{AllocError, Global};
 
@@ -37,8 +37,8 @@ fn top_ends(is_else: bool, stack: &Stack<Frame>) -> bool
 fn plug(
     alloc: Global,
     frame: Frame,
-    part: Option<Built<Statement>>,
-) -> Result<Option<Built<Statement>>, AllocError>
+    part: Option<Built<Boxed<Statement>>>,
+) -> Result<Option<Built<Boxed<Statement>>>, AllocError>
     ensures { IfOk result (λ s. s ≡ plug frame part) }
 {
     match frame {
@@ -60,9 +60,9 @@ fn plug(
 pub fn settle(
     alloc: Global,
     is_else: bool,
-    part: Option<Built<Statement>>,
+    part: Option<Built<Boxed<Statement>>>,
     stack: &mut Stack<Frame>,
-) -> Result<Option<Built<Statement>>, AllocError>
+) -> Result<Option<Built<Boxed<Statement>>>, AllocError>
     ensures { IfOk result (λ r. settle is_else part stack.old ≡ (r, stack.new)) }
 {
     let mut part = part;
@@ -76,14 +76,14 @@ pub fn settle(
 }
 
 /// No `if`: what the frame holds is let go.
-fn without<T: Drop>(_part: T) -> Option<Option<Built<(Place, Expr)>>>
+fn without<T: Drop>(_part: T) -> Option<Option<Built<(Place, Boxed<Expr>)>>>
     ensures { result ≡ None }
 {
     None
 }
 
 /// The `if` that a frame is.
-fn if_by(frame: Frame) -> Option<Option<Built<(Place, Expr)>>>
+fn if_by(frame: Frame) -> Option<Option<Built<(Place, Boxed<Expr>)>>>
     ensures { result ≡ if_by frame }
 {
     match frame {
@@ -96,7 +96,7 @@ fn if_by(frame: Frame) -> Option<Option<Built<(Place, Expr)>>>
 }
 
 /// The `if` that an `else` belongs to.
-pub fn if_part(frame: Option<Frame>) -> Option<Option<Built<(Place, Expr)>>>
+pub fn if_part(frame: Option<Frame>) -> Option<Option<Built<(Place, Boxed<Expr>)>>>
     ensures { result ≡ if_part frame }
 {
     match frame {

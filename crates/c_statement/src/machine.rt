@@ -10,13 +10,14 @@ use crate::block::{Block, Opened};
 use crate::built::paired;
 use crate::frame::{if_part, outer_of, settle};
 use crate::parts::{
-    also_of, begun_of, block_of, break_of, closed_of, continue_of, declares_of, empty, placed,
+    also_of, begun_of, block_of, break_of, closed_of, continue_of, declares_of, default_head,
+    empty, placed,
 };
 use crate::state::{At, Control, Frame, Mode, Opener, Optional, Outer, Purpose, Reader, Required};
-use crate::tree::{Head, Statement};
+use crate::tree::Statement;
 use crate::value::{begin, maybe, value_begins, valued, waits};
 use c_declaration::{Built, LocalParser, Step, local_offer};
-use c_expr::{Stack, SynFault};
+use c_expr::{Boxed, Stack, SynFault};
 use c_lex::{Keyword, Place};
 use c_symbol::{Symbol, Terminal};
 use std::alloc::{AllocError, Global};
@@ -45,8 +46,8 @@ fn keyword(
         Keyword::For => turned(stack, Mode::Paren(Opener::For(place))),
         Keyword::Case => Ok(waits(alloc, stack, Required::Case(place))?),
         Keyword::Default => turned(stack, Mode::Colon(place)),
-        Keyword::Break => turned(stack, Mode::Ends(break_of(place))),
-        Keyword::Continue => turned(stack, Mode::Ends(continue_of(place))),
+        Keyword::Break => turned(stack, Mode::Ends(break_of(alloc, place)?)),
+        Keyword::Continue => turned(stack, Mode::Ends(continue_of(alloc, place)?)),
         Keyword::Return => turned(stack, Mode::May(Optional::Return(place))),
         _ => Err(SynFault::Syntax(place)),
     }
@@ -59,7 +60,7 @@ fn begins(alloc: Global, stack: Stack<Frame>, next: Terminal) -> Result<Reader, 
     match next.symbol {
         Symbol::Semicolon => Ok(Reader {
             stack,
-            mode: Mode::After(empty(next.place)),
+            mode: Mode::After(empty(alloc, next.place)?),
         }),
         Symbol::OpenBrace => Ok(Reader {
             stack,
@@ -71,7 +72,7 @@ fn begins(alloc: Global, stack: Stack<Frame>, next: Terminal) -> Result<Reader, 
 }
 
 /// The `}` of a block: nothing may stand behind the outermost one.
-fn ends_block(stack: Stack<Frame>, block: Option<Built<Statement>>) -> Reader
+fn ends_block(stack: Stack<Frame>, block: Option<Built<Boxed<Statement>>>) -> Reader
     ensures { ends_block block stack ≡ Some result }
 {
     if stack.top().is_none() {
@@ -103,7 +104,7 @@ fn inside(
     ensures { Gives result (inside next.symbol block stack next) }
 {
     if is_close_brace(next.symbol) {
-        Ok(ends_block(stack, closed_of(block, next.place)))
+        Ok(ends_block(stack, closed_of(alloc, block, next.place)?))
     } else {
         let mut stack = stack;
         stack.push(Frame::Block(block))?;
@@ -124,13 +125,26 @@ fn declaring(
     match local_offer(alloc, parser, next)? {
         Step::Goes(parser) => Ok(Reader {
             stack,
-            mode: Mode::Declaring(block, parser),
+            mode: Mode::Declaring(block, Boxed::new(alloc, parser)?),
         }),
         Step::Ends(read) => Ok(Reader {
             stack,
             mode: Mode::Items(declares_of(block, read.local)?),
         }),
     }
+}
+
+/// One token more of a declaration in a block that goes on.
+fn declares_on(
+    alloc: Global,
+    stack: Stack<Frame>,
+    block: Option<Built<Opened>>,
+    parser: Boxed<LocalParser>,
+    next: Terminal,
+) -> Result<Reader, SynFault>
+    ensures { Gives result (declaring block stack (local_offer parser next)) }
+{
+    declaring(alloc, stack, block, parser.into_inner(), next)
 }
 
 /// Whether a declaration begins.
@@ -173,7 +187,7 @@ fn is_while(symbol: Symbol) -> bool
 fn until(
     stack: Stack<Frame>,
     begun: Place,
-    part: Option<Built<Statement>>,
+    part: Option<Built<Boxed<Statement>>>,
     symbol: Symbol,
     place: Place,
 ) -> Result<Reader, SynFault>
@@ -194,7 +208,7 @@ fn until(
 fn behind(
     alloc: Global,
     stack: Stack<Frame>,
-    part: Option<Built<Statement>>,
+    part: Option<Built<Boxed<Statement>>>,
     next: Terminal,
 ) -> Result<Reader, SynFault>
     ensures { Gives result (behind (part, stack) next) }
@@ -213,7 +227,7 @@ fn behind(
 /// An `else` behind a statement of which all that it ends is ended.
 fn on_else(
     stack: Stack<Frame>,
-    part: Option<Built<Statement>>,
+    part: Option<Built<Boxed<Statement>>>,
     place: Place,
 ) -> Result<Reader, SynFault>
     ensures { Gives result (on_else (part, stack)) }
@@ -242,7 +256,7 @@ fn is_else(symbol: Symbol) -> bool
 fn after(
     alloc: Global,
     stack: Stack<Frame>,
-    part: Option<Built<Statement>>,
+    part: Option<Built<Boxed<Statement>>>,
     next: Terminal,
 ) -> Result<Reader, SynFault>
     ensures { Gives result (after next.symbol part stack next) }
@@ -306,7 +320,7 @@ fn is_semicolon(symbol: Symbol) -> bool
 /// A token where the `;` of a statement must stand.
 fn semicolon(
     stack: Stack<Frame>,
-    part: Option<Built<Statement>>,
+    part: Option<Built<Boxed<Statement>>>,
     symbol: Symbol,
     place: Place,
 ) -> Result<Reader, SynFault>
@@ -325,6 +339,7 @@ fn semicolon(
 
 /// A token where the `:` of `default` must stand.
 fn colon(
+    alloc: Global,
     stack: Stack<Frame>,
     begun: Place,
     symbol: Symbol,
@@ -334,10 +349,7 @@ fn colon(
 {
     match symbol {
         Symbol::Colon => {
-            let head = Some(Built {
-                height: 0,
-                tree: Head::Default(begun),
-            });
+            let head = default_head(alloc, begun)?;
             Ok(begin(stack, Frame::Headed(head))?)
         }
         _ => Err(SynFault::Syntax(place)),
@@ -352,7 +364,7 @@ pub fn shift(alloc: Global, reader: Reader, next: Terminal) -> Result<Reader, Sy
     match mode {
         Mode::Begin => begins(alloc, stack, next),
         Mode::Items(block) => items(alloc, stack, block, next),
-        Mode::Declaring(block, parser) => declaring(alloc, stack, block, parser, next),
+        Mode::Declaring(block, parser) => declares_on(alloc, stack, block, parser, next),
         Mode::After(part) => after(alloc, stack, part, next),
         Mode::Done(part) => {
             drop(part);
@@ -360,7 +372,7 @@ pub fn shift(alloc: Global, reader: Reader, next: Terminal) -> Result<Reader, Sy
         }
         Mode::Paren(opener) => paren(alloc, stack, opener, next.symbol, next.place),
         Mode::Ends(part) => semicolon(stack, part, next.symbol, next.place),
-        Mode::Colon(begun) => colon(stack, begun, next.symbol, next.place),
+        Mode::Colon(begun) => colon(alloc, stack, begun, next.symbol, next.place),
         Mode::May(purpose) => maybe(alloc, stack, purpose, next),
         Mode::Value(purpose, parser) => valued(alloc, stack, purpose, parser, next),
     }

@@ -1,5 +1,5 @@
 // Statements, put together from their parts.
-ghost use Rattle.std.specs.Prelude.{◌≡◌, IfOk};
+ghost use Rattle.std.specs.Prelude.{◌≡◌, IfOk, Some};
 ghost use Rattle.c_statement.specs.Tree.{Empty, Break, Continue, Headed};
 ghost use Rattle.c_statement.specs.View.{statement_of};
 ghost use Rattle.c_statement.specs.declared.tree.Head.TheVariants.{While as WhileHead, Switch as SwitchHead, Case as CaseHead, Default as DefaultHead};
@@ -9,68 +9,95 @@ use crate::block::{Block, Opened};
 use crate::built::{paired, taller};
 use crate::tree::{Head, Statement, StatementNode};
 use c_declaration::{Built, Local};
-use c_expr::Expr;
+use c_expr::{Boxed, Expr};
 use c_lex::Place;
 use std::alloc::{AllocError, Global};
 
-/// A statement of no parts.
-fn leaf(node: StatementNode) -> Option<Built<Statement>>
-    ensures { result ≡ statement_part (statement_of node) }
+/// A statement of this height.
+fn statement_at(
+    alloc: Global,
+    height: u32,
+    node: StatementNode,
+) -> Result<Option<Built<Boxed<Statement>>>, AllocError>
+    ensures { IfOk result (λ s. s ≡ Some (record { height = height; tree = statement_of node })) }
 {
-    Some(Built {
-        height: 1,
-        tree: Statement { node },
-    })
+    let tree = Boxed::new(alloc, Statement { node })?;
+    Ok(Some(Built { height, tree }))
+}
+
+/// A statement of no parts.
+fn leaf(alloc: Global, node: StatementNode) -> Result<Option<Built<Boxed<Statement>>>, AllocError>
+    ensures { IfOk result (λ s. s ≡ statement_part (statement_of node)) }
+{
+    statement_at(alloc, 1, node)
 }
 
 /// `;`
-pub fn empty(place: Place) -> Option<Built<Statement>>
-    ensures { result ≡ statement_part (Empty place) }
+pub fn empty(alloc: Global, place: Place) -> Result<Option<Built<Boxed<Statement>>>, AllocError>
+    ensures { IfOk result (λ s. s ≡ statement_part (Empty place)) }
 {
-    leaf(StatementNode::Empty(place))
+    leaf(alloc, StatementNode::Empty(place))
 }
 
 /// `break ;`
-pub fn break_of(place: Place) -> Option<Built<Statement>>
-    ensures { result ≡ statement_part (Break place) }
+pub fn break_of(alloc: Global, place: Place) -> Result<Option<Built<Boxed<Statement>>>, AllocError>
+    ensures { IfOk result (λ s. s ≡ statement_part (Break place)) }
 {
-    leaf(StatementNode::Break(place))
+    leaf(alloc, StatementNode::Break(place))
 }
 
 /// `continue ;`
-pub fn continue_of(place: Place) -> Option<Built<Statement>>
-    ensures { result ≡ statement_part (Continue place) }
+pub fn continue_of(
+    alloc: Global,
+    place: Place,
+) -> Result<Option<Built<Boxed<Statement>>>, AllocError>
+    ensures { IfOk result (λ s. s ≡ statement_part (Continue place)) }
 {
-    leaf(StatementNode::Continue(place))
+    leaf(alloc, StatementNode::Continue(place))
 }
 
 /// `expr ;`
-pub fn evaluate_of(e: Option<Built<Expr>>) -> Option<Built<Statement>>
-    ensures { result ≡ evaluate_of e }
+pub fn evaluate_of(
+    alloc: Global,
+    e: Option<Built<Boxed<Expr>>>,
+) -> Result<Option<Built<Boxed<Statement>>>, AllocError>
+    ensures { IfOk result (λ s. s ≡ evaluate_of e) }
 {
     match taller(e) {
-        Some(e) => Some(Built {
-            height: e.height,
-            tree: Statement {
-                node: StatementNode::Evaluate(e.tree),
-            },
-        }),
+        Some(e) => statement_at(
+            alloc,
+            e.height,
+            StatementNode::Evaluate(e.tree.into_inner()),
+        ),
+        None => Ok(None),
+    }
+}
+
+/// An expression that may be absent.
+fn unboxed(e: Option<Boxed<Expr>>) -> Option<Expr>
+    ensures { result ≡ e }
+{
+    match e {
+        Some(e) => Some(e.into_inner()),
         None => None,
     }
 }
 
 /// `return [expr] ;`
-pub fn return_of(place: Place, e: Option<Built<Option<Expr>>>) -> Option<Built<Statement>>
-    ensures { result ≡ return_of place e }
+pub fn return_of(
+    alloc: Global,
+    place: Place,
+    e: Option<Built<Option<Boxed<Expr>>>>,
+) -> Result<Option<Built<Boxed<Statement>>>, AllocError>
+    ensures { IfOk result (λ s. s ≡ return_of place e) }
 {
     match taller(e) {
-        Some(e) => Some(Built {
-            height: e.height,
-            tree: Statement {
-                node: StatementNode::Return(place, e.tree),
-            },
-        }),
-        None => None,
+        Some(e) => statement_at(
+            alloc,
+            e.height,
+            StatementNode::Return(place, unboxed(e.tree)),
+        ),
+        None => Ok(None),
     }
 }
 
@@ -87,82 +114,96 @@ pub fn placed<T: Drop>(place: Place, part: Option<Built<T>>) -> Option<Built<(Pl
     }
 }
 
+/// What stands before a statement, of this height.
+fn head_at(alloc: Global, height: u32, head: Head) -> Result<Option<Built<Boxed<Head>>>, AllocError>
+    ensures { IfOk result (λ h. h ≡ Some (record { height = height; tree = head })) }
+{
+    let tree = Boxed::new(alloc, head)?;
+    Ok(Some(Built { height, tree }))
+}
+
+/// `default :`
+pub fn default_head(alloc: Global, place: Place) -> Result<Option<Built<Boxed<Head>>>, AllocError>
+    ensures { IfOk result (λ h. h ≡ Some (record { height = 0; tree = DefaultHead place })) }
+{
+    head_at(alloc, 0, Head::Default(place))
+}
+
 /// `while ( expr )`
-pub fn while_head(place: Place, e: Option<Built<Expr>>) -> Option<Built<Head>>
-    ensures { result ≡ kept (WhileHead place) e }
+pub fn while_head(
+    alloc: Global,
+    place: Place,
+    e: Option<Built<Boxed<Expr>>>,
+) -> Result<Option<Built<Boxed<Head>>>, AllocError>
+    ensures { IfOk result (λ h. h ≡ kept (WhileHead place) e) }
 {
     match e {
-        Some(e) => Some(Built {
-            height: e.height,
-            tree: Head::While(place, e.tree),
-        }),
-        None => None,
+        Some(e) => head_at(alloc, e.height, Head::While(place, e.tree.into_inner())),
+        None => Ok(None),
     }
 }
 
 /// `switch ( expr )`
-pub fn switch_head(place: Place, e: Option<Built<Expr>>) -> Option<Built<Head>>
-    ensures { result ≡ kept (SwitchHead place) e }
+pub fn switch_head(
+    alloc: Global,
+    place: Place,
+    e: Option<Built<Boxed<Expr>>>,
+) -> Result<Option<Built<Boxed<Head>>>, AllocError>
+    ensures { IfOk result (λ h. h ≡ kept (SwitchHead place) e) }
 {
     match e {
-        Some(e) => Some(Built {
-            height: e.height,
-            tree: Head::Switch(place, e.tree),
-        }),
-        None => None,
+        Some(e) => head_at(alloc, e.height, Head::Switch(place, e.tree.into_inner())),
+        None => Ok(None),
     }
 }
 
 /// `case constant :`
-pub fn case_head(place: Place, e: Option<Built<Expr>>) -> Option<Built<Head>>
-    ensures { result ≡ kept (CaseHead place) e }
+pub fn case_head(
+    alloc: Global,
+    place: Place,
+    e: Option<Built<Boxed<Expr>>>,
+) -> Result<Option<Built<Boxed<Head>>>, AllocError>
+    ensures { IfOk result (λ h. h ≡ kept (CaseHead place) e) }
 {
     match e {
-        Some(e) => Some(Built {
-            height: e.height,
-            tree: Head::Case(place, e.tree),
-        }),
-        None => None,
+        Some(e) => head_at(alloc, e.height, Head::Case(place, e.tree.into_inner())),
+        None => Ok(None),
     }
 }
 
 /// `for ( [expr] ; [expr] ; [expr] )`
 pub fn for_head(
-    before: Option<Built<((Place, Option<Expr>), Option<Expr>)>>,
-    e: Option<Built<Option<Expr>>>,
-) -> Option<Built<Head>>
-    ensures { result ≡ for_of before e }
+    alloc: Global,
+    before: Option<Built<((Place, Option<Boxed<Expr>>), Option<Boxed<Expr>>)>>,
+    e: Option<Built<Option<Boxed<Expr>>>>,
+) -> Result<Option<Built<Boxed<Head>>>, AllocError>
+    ensures { IfOk result (λ h. h ≡ for_of before e) }
 {
     match paired(before, e) {
         Some(parts) => {
             let (((place, first), second), third) = parts.tree;
-            Some(Built {
-                height: parts.height,
-                tree: Head::For(place, first, second, third),
-            })
+            let (first, second) = (unboxed(first), unboxed(second));
+            let head = Head::For(place, first, second, unboxed(third));
+            head_at(alloc, parts.height, head)
         }
-        None => None,
+        None => Ok(None),
     }
 }
 
 /// `if ( expr ) statement`
 pub fn if_of(
     alloc: Global,
-    control: Option<Built<(Place, Expr)>>,
-    body: Option<Built<Statement>>,
-) -> Result<Option<Built<Statement>>, AllocError>
+    control: Option<Built<(Place, Boxed<Expr>)>>,
+    body: Option<Built<Boxed<Statement>>>,
+) -> Result<Option<Built<Boxed<Statement>>>, AllocError>
     ensures { IfOk result (λ s. s ≡ if_of control body) }
 {
     match taller(paired(control, body)) {
         Some(parts) => {
             let ((place, value), body) = parts.tree;
-            let body = Box::new(alloc, body)?;
-            Ok(Some(Built {
-                height: parts.height,
-                tree: Statement {
-                    node: StatementNode::If(place, value, body, None),
-                },
-            }))
+            let value = value.into_inner();
+            let node = StatementNode::If(place, value, body.into_box(), None);
+            statement_at(alloc, parts.height, node)
         }
         None => Ok(None),
     }
@@ -171,32 +212,28 @@ pub fn if_of(
 /// `if ( expr ) statement else statement`
 pub fn if_else_of(
     alloc: Global,
-    before: Option<Built<((Place, Expr), Statement)>>,
-    otherwise: Option<Built<Statement>>,
-) -> Result<Option<Built<Statement>>, AllocError>
+    before: Option<Built<((Place, Boxed<Expr>), Boxed<Statement>)>>,
+    otherwise: Option<Built<Boxed<Statement>>>,
+) -> Result<Option<Built<Boxed<Statement>>>, AllocError>
     ensures { IfOk result (λ s. s ≡ if_else_of before otherwise) }
 {
     match taller(paired(before, otherwise)) {
         Some(parts) => {
             let (((place, value), then), otherwise) = parts.tree;
-            let then = Box::new(alloc, then)?;
-            let otherwise = Box::new(alloc, otherwise)?;
-            Ok(Some(Built {
-                height: parts.height,
-                tree: Statement {
-                    node: StatementNode::If(place, value, then, Some(otherwise)),
-                },
-            }))
+            let value = value.into_inner();
+            let otherwise = Some(otherwise.into_box());
+            let node = StatementNode::If(place, value, then.into_box(), otherwise);
+            statement_at(alloc, parts.height, node)
         }
         None => Ok(None),
     }
 }
 
 /// A loop, a `switch` or a labeled statement.
-fn headed(head: Head, body: Box<Statement>) -> Statement
-    ensures { result ≡ Headed head body.value }
+fn headed(head: Head, body: Box<Statement>) -> StatementNode
+    ensures { statement_of result ≡ Headed head body.value }
 {
-    let node = match head {
+    match head {
         Head::While(place, e) => StatementNode::While(place, e, body),
         Head::For(place, first, second, third) => StatementNode::For(
             place, first, second, third, body,
@@ -204,26 +241,22 @@ fn headed(head: Head, body: Box<Statement>) -> Statement
         Head::Switch(place, e) => StatementNode::Switch(place, e, body),
         Head::Case(place, e) => StatementNode::Case(place, e, body),
         Head::Default(place) => StatementNode::Default(place, body),
-    };
-    Statement { node }
+    }
 }
 
 /// A loop, a `switch` or a labeled statement, unless it is too high.
 pub fn headed_of(
     alloc: Global,
-    head: Option<Built<Head>>,
-    body: Option<Built<Statement>>,
-) -> Result<Option<Built<Statement>>, AllocError>
+    head: Option<Built<Boxed<Head>>>,
+    body: Option<Built<Boxed<Statement>>>,
+) -> Result<Option<Built<Boxed<Statement>>>, AllocError>
     ensures { IfOk result (λ s. s ≡ headed_of head body) }
 {
     match taller(paired(head, body)) {
         Some(parts) => {
             let (head, body) = parts.tree;
-            let body = Box::new(alloc, body)?;
-            Ok(Some(Built {
-                height: parts.height,
-                tree: headed(head, body),
-            }))
+            let node = headed(head.into_inner(), body.into_box());
+            statement_at(alloc, parts.height, node)
         }
         None => Ok(None),
     }
@@ -232,21 +265,16 @@ pub fn headed_of(
 /// `do statement while ( expr ) ;`
 pub fn do_of(
     alloc: Global,
-    before: Option<Built<(Place, Statement)>>,
-    e: Option<Built<Expr>>,
-) -> Result<Option<Built<Statement>>, AllocError>
+    before: Option<Built<(Place, Boxed<Statement>)>>,
+    e: Option<Built<Boxed<Expr>>>,
+) -> Result<Option<Built<Boxed<Statement>>>, AllocError>
     ensures { IfOk result (λ s. s ≡ do_of before e) }
 {
     match taller(paired(before, e)) {
         Some(parts) => {
             let ((place, body), value) = parts.tree;
-            let body = Box::new(alloc, body)?;
-            Ok(Some(Built {
-                height: parts.height,
-                tree: Statement {
-                    node: StatementNode::Do(place, body, value),
-                },
-            }))
+            let node = StatementNode::Do(place, body.into_box(), value.into_inner());
+            statement_at(alloc, parts.height, node)
         }
         None => Ok(None),
     }
@@ -297,7 +325,7 @@ pub fn block_of(alloc: Global, opened: Option<Built<Opened>>) -> Option<Built<Bl
 /// A block with a statement more.
 pub fn also_of(
     block: Option<Built<Block>>,
-    statement: Option<Built<Statement>>,
+    statement: Option<Built<Boxed<Statement>>>,
 ) -> Result<Option<Built<Block>>, AllocError>
     ensures { IfOk result (λ b. b ≡ also_of block statement) }
 {
@@ -306,7 +334,7 @@ pub fn also_of(
             let (block, statement) = parts.tree;
             Ok(Some(Built {
                 height: parts.height,
-                tree: block.with_statement(statement)?,
+                tree: block.with_statement(statement.into_inner())?,
             }))
         }
         None => Ok(None),
@@ -314,14 +342,18 @@ pub fn also_of(
 }
 
 /// A block with its `}`.
-pub fn closed_of(block: Option<Built<Block>>, end: Place) -> Option<Built<Statement>>
-    ensures { result ≡ closed_of block end }
+pub fn closed_of(
+    alloc: Global,
+    block: Option<Built<Block>>,
+    end: Place,
+) -> Result<Option<Built<Boxed<Statement>>>, AllocError>
+    ensures { IfOk result (λ s. s ≡ closed_of block end) }
 {
     match taller(block) {
-        Some(block) => Some(Built {
+        Some(block) => Ok(Some(Built {
             height: block.height,
-            tree: block.tree.closed(end),
-        }),
-        None => None,
+            tree: Boxed::new(alloc, block.tree.closed(end))?,
+        })),
+        None => Ok(None),
     }
 }

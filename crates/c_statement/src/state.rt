@@ -4,7 +4,7 @@ ghost use Rattle.std.specs.Prelude.{◌≡◌};
 use crate::block::{Block, Opened};
 use crate::tree::{Head, Statement};
 use c_declaration::{Built, LocalParser};
-use c_expr::{Expr, Parser, Stack};
+use c_expr::{Boxed, Expr, Parser, Stack};
 use c_lex::Place;
 use std::marker::Model;
 
@@ -50,10 +50,10 @@ impl At {
 #[derive(Drop)]
 pub enum Frame {
     /// `if ( expr )`
-    If(Option<Built<(Place, Expr)>>),
+    If(Option<Built<(Place, Boxed<Expr>)>>),
     /// `if ( expr ) statement else`
-    Else(Option<Built<((Place, Expr), Statement)>>),
-    Headed(Option<Built<Head>>),
+    Else(Option<Built<((Place, Boxed<Expr>), Boxed<Statement>)>>),
+    Headed(Option<Built<Boxed<Head>>>),
     /// `do`
     Do(At),
     /// A block so far
@@ -66,7 +66,7 @@ pub enum Required {
     Evaluate,
     Control(Control, Place),
     /// `do statement while (`
-    Until(Option<Built<(Place, Statement)>>),
+    Until(Option<Built<(Place, Boxed<Statement>)>>),
     Case(Place),
 }
 
@@ -76,9 +76,9 @@ pub enum Optional {
     /// `for (`
     First(Place),
     /// `for ( [expr] ;`
-    Second(Option<Built<(Place, Option<Expr>)>>),
+    Second(Option<Built<(Place, Option<Boxed<Expr>>)>>),
     /// `for ( [expr] ; [expr] ;`
-    Third(Option<Built<((Place, Option<Expr>), Option<Expr>)>>),
+    Third(Option<Built<((Place, Option<Boxed<Expr>>), Option<Boxed<Expr>>)>>),
     Return(Place),
 }
 
@@ -94,7 +94,7 @@ pub enum Purpose {
 pub enum Opener {
     Control(Control, Place),
     /// `do statement while`
-    Until(Option<Built<(Place, Statement)>>),
+    Until(Option<Built<(Place, Boxed<Statement>)>>),
     For(Place),
 }
 
@@ -123,15 +123,15 @@ pub enum Mode {
     /// A declaration, a statement or the `}` of a block with only its declarations so far
     Items(Option<Built<Opened>>),
     /// What goes on with a declaration of a block
-    Declaring(Option<Built<Opened>>, LocalParser),
+    Declaring(Option<Built<Opened>>, Boxed<LocalParser>),
     /// What follows a statement
-    After(Option<Built<Statement>>),
+    After(Option<Built<Boxed<Statement>>>),
     /// Nothing, since the outermost block was read
-    Done(Option<Built<Statement>>),
+    Done(Option<Built<Boxed<Statement>>>),
     /// A `(`
     Paren(Opener),
     /// The `;` of a statement
-    Ends(Option<Built<Statement>>),
+    Ends(Option<Built<Boxed<Statement>>>),
     /// The `:` of `default`
     Colon(Place),
     /// An expression or what follows it

@@ -14,7 +14,7 @@ use crate::parts::{
 };
 use crate::state::{Closer, Control, Frame, Mode, Optional, Purpose, Reader, Required};
 use c_declaration::Built;
-use c_expr::{Expr, Grown, Least, Offered, Parser, Stack, SynFault, offer};
+use c_expr::{Boxed, Expr, Grown, Least, Offered, Parser, Stack, SynFault, offer};
 use c_lex::Place;
 use c_symbol::{Symbol, Terminal};
 use std::alloc::{AllocError, Global};
@@ -81,13 +81,18 @@ fn is_closer(closer: Closer, symbol: Symbol) -> bool
 }
 
 /// The frame behind a controlling expression.
-fn control_frame(control: Control, place: Place, e: Option<Built<Expr>>) -> Frame
-    ensures { result ≡ control_frame control place e }
+fn control_frame(
+    alloc: Global,
+    control: Control,
+    place: Place,
+    e: Option<Built<Boxed<Expr>>>,
+) -> Result<Frame, AllocError>
+    ensures { IfOk result (λ f. f ≡ control_frame control place e) }
 {
     match control {
-        Control::If => Frame::If(placed(place, e)),
-        Control::While => Frame::Headed(while_head(place, e)),
-        Control::Switch => Frame::Headed(switch_head(place, e)),
+        Control::If => Ok(Frame::If(placed(place, e))),
+        Control::While => Ok(Frame::Headed(while_head(alloc, place, e)?)),
+        Control::Switch => Ok(Frame::Headed(switch_head(alloc, place, e)?)),
     }
 }
 
@@ -108,29 +113,33 @@ fn with_value(
     alloc: Global,
     stack: Stack<Frame>,
     purpose: Required,
-    e: Option<Built<Expr>>,
+    e: Option<Built<Boxed<Expr>>>,
 ) -> Result<Reader, SynFault>
     ensures { Gives result (with_value purpose e stack) }
 {
     match purpose {
         Required::Evaluate => Ok(Reader {
             stack,
-            mode: Mode::After(evaluate_of(e)),
+            mode: Mode::After(evaluate_of(alloc, e)?),
         }),
-        Required::Control(control, place) => Ok(begin(stack, control_frame(control, place, e))?),
+        Required::Control(control, place) => Ok(begin(
+            stack,
+            control_frame(alloc, control, place, e)?,
+        )?),
         Required::Until(before) => Ok(Reader {
             stack,
             mode: Mode::Ends(do_of(alloc, before, e)?),
         }),
-        Required::Case(place) => Ok(begin(stack, Frame::Headed(case_head(place, e)))?),
+        Required::Case(place) => Ok(begin(stack, Frame::Headed(case_head(alloc, place, e)?))?),
     }
 }
 
 /// What is read with an expression that may stand.
 fn with_optional(
+    alloc: Global,
     stack: Stack<Frame>,
     purpose: Optional,
-    e: Option<Built<Option<Expr>>>,
+    e: Option<Built<Option<Boxed<Expr>>>>,
 ) -> Result<Reader, SynFault>
     ensures { Gives result (with_optional purpose e stack) }
 {
@@ -143,10 +152,10 @@ fn with_optional(
             stack,
             mode: Mode::May(Optional::Third(paired(before, e))),
         }),
-        Optional::Third(before) => Ok(begin(stack, Frame::Headed(for_head(before, e)))?),
+        Optional::Third(before) => Ok(begin(stack, Frame::Headed(for_head(alloc, before, e)?))?),
         Optional::Return(place) => Ok(Reader {
             stack,
-            mode: Mode::After(return_of(place, e)),
+            mode: Mode::After(return_of(alloc, place, e)?),
         }),
     }
 }
@@ -156,13 +165,13 @@ fn used(
     alloc: Global,
     stack: Stack<Frame>,
     purpose: Purpose,
-    e: Option<Built<Expr>>,
+    e: Option<Built<Boxed<Expr>>>,
 ) -> Result<Reader, SynFault>
     ensures { Gives result (used purpose e stack) }
 {
     match purpose {
         Purpose::Must(purpose) => with_value(alloc, stack, purpose, e),
-        Purpose::May(purpose) => with_optional(stack, purpose, present_part(e)),
+        Purpose::May(purpose) => with_optional(alloc, stack, purpose, present_part(e)),
     }
 }
 
@@ -248,7 +257,7 @@ pub fn maybe(
     ensures { Gives result (maybe purpose stack next) }
 {
     if is_closer(closer_of_optional(&purpose), next.symbol) {
-        return with_optional(stack, purpose, absent_part());
+        return with_optional(alloc, stack, purpose, absent_part());
     }
     value_begins(alloc, stack, Purpose::May(purpose), next)
 }

@@ -3,8 +3,6 @@
 
 mod symbol;
 mod terminal;
-#[cfg(test)]
-mod tests;
 
 pub use symbol::{
     Access, AssignOp, BinaryOp, LeafKind, PrefixOp, Step, Symbol, TypeWord, symbol_of,

@@ -4,8 +4,6 @@
 mod machine;
 mod read;
 mod state;
-#[cfg(test)]
-mod tests;
 mod tree;
 
 pub use c_expr::SynFault;

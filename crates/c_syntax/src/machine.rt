@@ -7,7 +7,7 @@ ghost use Rattle.c_syntax.specs.Machine.{Gives, one_more, both, kept_at, more, d
 use crate::state::{Kept, Mode, UnitParser};
 use crate::tree::External;
 use c_declaration::{Built, FileParser, FunctionHead, Head, ReadHead, Step, file_offer};
-use c_expr::SynFault;
+use c_expr::{Boxed, SynFault};
 use c_lex::Place;
 use c_statement::{Mode as BlockMode, Reader, Statement, shift as shift_block};
 use c_symbol::Terminal;
@@ -73,23 +73,26 @@ fn declared_of(head: Option<Head>) -> Option<External>
     }
 }
 
-fn defined_by(parts: Option<(FunctionHead, Built<Statement>)>) -> Option<External>
+fn defined_by(parts: Option<(Boxed<FunctionHead>, Built<Boxed<Statement>>)>) -> Option<External>
     ensures { result ≡ defined_by parts }
 {
     match parts {
-        Some((head, body)) => Some(External::Definition(head, body.tree)),
+        Some((head, body)) => Some(External::Definition(head.into_inner(), body.tree.into_inner())),
         None => None,
     }
 }
 
-fn defined_of(head: Option<FunctionHead>, body: Option<Built<Statement>>) -> Option<External>
+fn defined_of(
+    head: Option<Boxed<FunctionHead>>,
+    body: Option<Built<Boxed<Statement>>>,
+) -> Option<External>
     ensures { result ≡ defined_of head body }
 {
     defined_by(both(head, body))
 }
 
 /// Where a definition is too high: at its begin, or else at its body.
-fn deep_place(place: Place, brace: Place, head: &Option<FunctionHead>) -> Place
+fn deep_place(place: Place, brace: Place, head: &Option<Boxed<FunctionHead>>) -> Place
     ensures { result ≡ deep_place place brace head.now }
 {
     match head {
@@ -103,7 +106,7 @@ fn bodied(
     kept: Kept,
     place: Place,
     brace: Place,
-    head: Option<FunctionHead>,
+    head: Option<Boxed<FunctionHead>>,
     reader: Reader,
 ) -> Result<UnitParser, SynFault>
     ensures { Gives result (bodied kept place brace head (Some reader)) }
@@ -124,6 +127,19 @@ fn bodied(
     }
 }
 
+/// What stands before a function's body, on the heap.
+fn boxed_head(
+    alloc: Global,
+    head: Option<FunctionHead>,
+) -> Result<Option<Boxed<FunctionHead>>, AllocError>
+    ensures { IfOk result (λ h. h ≡ head) }
+{
+    let Some(head) = head else {
+        return Ok(None);
+    };
+    Ok(Some(Boxed::new(alloc, head)?))
+}
+
 /// A declaration that has ended, or what stands before a function's body and, as the last token, the `{` of that.
 fn ended(alloc: Global, kept: Kept, head: ReadHead, last: Place) -> Result<UnitParser, SynFault>
     ensures { Gives result (ended kept last head) }
@@ -133,10 +149,13 @@ fn ended(alloc: Global, kept: Kept, head: ReadHead, last: Place) -> Result<UnitP
             kept: more(kept, place, declared_of(head))?,
             mode: Mode::Between,
         }),
-        ReadHead::Function(place, head) => Ok(UnitParser {
-            kept,
-            mode: Mode::Body(place, last, head, Reader::begun(alloc, last)),
-        }),
+        ReadHead::Function(place, head) => {
+            let head = boxed_head(alloc, head)?;
+            Ok(UnitParser {
+                kept,
+                mode: Mode::Body(place, last, head, Reader::begun(alloc, last)),
+            })
+        }
     }
 }
 
@@ -153,7 +172,7 @@ fn headed(
     match file_offer(alloc, parser, next)? {
         Step::Goes(parser) => Ok(UnitParser {
             kept,
-            mode: Mode::Heading(parser),
+            mode: Mode::Heading(Boxed::new(alloc, parser)?),
         }),
         Step::Ends(head) => ended(alloc, kept, head, last),
     }
@@ -166,7 +185,7 @@ pub fn shift(alloc: Global, parser: UnitParser, next: Terminal) -> Result<UnitPa
     let UnitParser { kept, mode } = parser;
     match mode {
         Mode::Between => headed(alloc, kept, FileParser::Begin, next),
-        Mode::Heading(parser) => headed(alloc, kept, parser, next),
+        Mode::Heading(parser) => headed(alloc, kept, parser.into_inner(), next),
         Mode::Body(place, brace, head, reader) => {
             let reader = shift_block(alloc, reader, next)?;
             bodied(kept, place, brace, head, reader)

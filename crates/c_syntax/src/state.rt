@@ -2,6 +2,7 @@
 
 use crate::tree::External;
 use c_declaration::{FileParser, FunctionHead};
+use c_expr::Boxed;
 use c_lex::Place;
 use c_statement::Reader;
 use ldb_words::Many;
@@ -19,9 +20,9 @@ pub enum Mode {
     /// An external declaration, or the end of the unit
     Between,
     /// What goes on with a declaration, or with what stands before a function's body
-    Heading(FileParser),
+    Heading(Boxed<FileParser>),
     /// What goes on with a function's body: where the definition and its `{` begin, and what stands before that
-    Body(Place, Place, Option<FunctionHead>, Reader),
+    Body(Place, Place, Option<Boxed<FunctionHead>>, Reader),
 }
 
 /// What was read so far of a unit.

@@ -5,8 +5,6 @@ mod layout;
 mod memory;
 mod number;
 mod target;
-#[cfg(test)]
-mod tests;
 mod turns;
 
 pub use layout::{

@@ -7,8 +7,6 @@ mod field;
 mod hazard;
 mod insn;
 mod laws;
-#[cfg(test)]
-mod tests;
 
 pub use codec::{decode, encode};
 pub use decoded::Decoded;

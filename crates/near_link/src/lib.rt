@@ -6,8 +6,6 @@ mod machine;
 mod near;
 mod queue;
 mod side;
-#[cfg(test)]
-mod tests;
 
 pub use faulty::{FaultyLink, Mishap};
 pub use machine::NearMachine;

@@ -9,8 +9,6 @@ mod laws;
 mod link;
 mod message;
 mod reply;
-#[cfg(test)]
-mod tests;
 
 pub use encoding::encode;
 pub use ending::{Cause, ending_of, is_final, reply_of};

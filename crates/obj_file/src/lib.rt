@@ -5,8 +5,6 @@ mod image;
 mod laws;
 mod object;
 mod reading;
-#[cfg(test)]
-mod tests;
 mod writing;
 
 pub use image::{Image, ImageFault};

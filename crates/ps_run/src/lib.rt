@@ -5,8 +5,6 @@ pub mod dialect;
 pub mod running;
 pub mod scan;
 pub mod step;
-#[cfg(test)]
-mod tests;
 
 pub use dialect::{Dialect, NoDialect, Steps};
 pub use ps_step::fault::{PsError, PsFault};

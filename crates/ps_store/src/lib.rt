@@ -17,6 +17,3 @@ pub use key::{Key, NameText};
 pub use object::{ArrayId, DictId, Mark, Part, PsObj, StringId};
 pub use operators::{OPERATOR_NAMES, STANDARD_OPERATORS, operator_number};
 pub use store::PsStore;
-
-#[cfg(test)]
-mod tests;

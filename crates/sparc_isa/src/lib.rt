@@ -9,8 +9,6 @@ mod field;
 mod hazard;
 mod insn;
 mod operand;
-#[cfg(test)]
-mod tests;
 
 pub use arithmetic::{quotient_signed, quotient_unsigned, subtraction_codes};
 pub use codec::{decode, encode};

@@ -2,13 +2,7 @@
 #![tactic(auto)]
 
 mod machine;
-#[cfg(test)]
-mod program;
 mod target;
-#[cfg(test)]
-mod tests;
-#[cfg(test)]
-mod vectors;
 mod windows;
 
 pub use machine::Machine;

@@ -1,5 +1,5 @@
 use Rattle.std.proofs.Common.{◌<◌, ◌∙◌, sym, subst, arith}
-use Rattle.c_check.specs.declared.definitions.Definition.{Definition}
+use Rattle.c_file.specs.declared.definitions.Definition.{Definition}
 use Rattle.c_check.specs.Sets.{defined_in}
 use Rattle.c_check.proofs.Sets.{one_further, unit_within}
 use Rattle.c_check.proofs.defined.defined_names.Goals as goal

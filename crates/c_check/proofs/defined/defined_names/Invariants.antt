@@ -1,5 +1,5 @@
 use Rattle.std.proofs.Common.{◌≡◌, ℕ, Bool, List, ◌||◌, map, drop, vec_len}
-use Rattle.c_check.specs.Names.{defining, is_defined}
+use Rattle.c_file.specs.Names.{defining, is_defined}
 use Rattle.c_check.specs.Sets.{defined_in}
 use Rattle.c_check.proofs.defined.defined_names.Given as goal
 

@@ -1,5 +1,5 @@
 use Rattle.std.proofs.Common.{◌≡◌, drop}
-use Rattle.c_check.specs.Programs.{any, many}
+use Rattle.c_file.specs.Programs.{any, many}
 use Rattle.c_check.proofs.parameters.any_many.Given as goal
 
 abbrev pub invariant-loop-external : goal.invariant-loop-external

@@ -1,5 +1,5 @@
 use Rattle.std.proofs.Common.{◌≡◌, drop}
-use Rattle.c_check.specs.Programs.{any, many_in}
+use Rattle.c_file.specs.Programs.{any, many_in}
 use Rattle.c_check.proofs.parameters.names_take_many.Given as goal
 
 abbrev pub invariant-loop-name : goal.invariant-loop-name

@@ -1,5 +1,5 @@
 use Rattle.std.proofs.Common.{◌≡◌, drop}
-use Rattle.c_check.specs.Programs.{any, many_in_part}
+use Rattle.c_file.specs.Programs.{any, many_in_part}
 use Rattle.c_check.proofs.parameters.parts_take_many.Given as goal
 
 abbrev pub invariant-loop-part : goal.invariant-loop-part

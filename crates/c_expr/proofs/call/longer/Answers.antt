@@ -13,7 +13,8 @@ returns-then-argument c =
     let height_of : Built → ℕ = λ b. b.height in
     ap₂ made
     (ap (with_arguments f) c.in_ok-push.ensures.items
-    ∙ one_more_argument f c.call.inside.arguments.items c.args.argument.expr
-    ∙ ap (λ t. With t c.args.argument.expr) (ap tree_of c.call.view_is))
+    ∙ one_more_argument f c.call.inside.arguments.items c.into_inner.result
+    ∙ ap (λ t. With t c.into_inner.result) (ap tree_of c.call.view_is)
+    ∙ ap (With c.args.call.expr) c.into_inner.ensures)
     (c.greater.ensures ∙ ap (λ h. max h (c.args.argument.height + 2)) (ap height_of c.call.view_is))
     ∙ sym (if_true (nat_lt c.args.argument.height 63) _ _ (le-leb (suc c.args.argument.height) 63 c.if-argument.true))

@@ -7,7 +7,7 @@ use Rattle.c_expr.proofs.read.parse_expr.Goals as goal
 
 pub returns-in-Some : goal.returns-in-Some
 returns-in-Some c =
-    rw c.in-Some.built-is (is_tree (terminals c.args.text.now c.args.tokens.now) c.in-Ok.g c.in-Some.built (sym (read_is Expression c.args.text.now c.args.tokens.now) ∙ c.in-Ok.ensures) c.in-Some.is)
+    rw (c.into_inner.ensures, c.in-Some.built-is) (is_tree (terminals c.args.text.now c.args.tokens.now) c.in-Ok.g c.in-Some.built (sym (read_is Expression c.args.text.now c.args.tokens.now) ∙ c.in-Ok.ensures) c.in-Some.is)
 
 pub returns-in-None : goal.returns-in-None
 returns-in-None c = is_deep (terminals c.args.text.now c.args.tokens.now) c.in-Ok.g (sym (read_is Expression c.args.text.now c.args.tokens.now) ∙ c.in-Ok.ensures) c.in-None.is

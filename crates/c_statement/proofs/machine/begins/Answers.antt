@@ -9,11 +9,11 @@ use Rattle.c_statement.specs.Machine.{Next, Gives, goes, begins, begins_word}
 use Rattle.c_statement.proofs.Steps.{no_sign}
 use Rattle.c_statement.proofs.machine.begins.Goals as goal
 
-pub returns-in-Semicolon : goal.returns-in-Semicolon
-returns-in-Semicolon c =
+pub returns-in_ok-empty-in-Semicolon : goal.returns-in_ok-empty-in-Semicolon
+returns-in_ok-empty-in-Semicolon c =
     let by : Symbol → Next = λ y. begins y c.args.stack c.args.next in
     let made : Option (Built StatementTree) → Next = λ m. goes (After m) c.args.stack in
-    ap by c.in-Semicolon.is ∙ ap made (sym c.empty.ensures)
+    ap by c.in-Semicolon.is ∙ ap made (sym c.in_ok-empty-in-Semicolon.ensures)
 
 pub returns-in-OpenBrace : goal.returns-in-OpenBrace
 returns-in-OpenBrace c =

@@ -9,12 +9,12 @@ use Rattle.c_statement.specs.Tokens.{is_close_brace}
 use Rattle.c_statement.specs.Machine.{Next, Gives, begins, ends_block}
 use Rattle.c_statement.proofs.machine.inside.Goals as goal
 
-pub returns-then-is_close_brace : goal.returns-then-is_close_brace
-returns-then-is_close_brace c =
+pub returns-in_ok-closed_of : goal.returns-in_ok-closed_of
+returns-in_ok-closed_of c =
     let y = c.args.next.symbol in
     let ends : Option (Built StatementTree) → Next = λ b. ends_block b c.args.stack in
     if_true (is_close_brace y) (ends (closed_of c.args.block c.args.next.place)) (begins y (frame.Block c.args.block ∷ c.args.stack) c.args.next) (sym c.is_close_brace.ensures ∙ c.if-is_close_brace.true)
-    ∙ ap ends (sym c.closed_of.ensures)
+    ∙ ap ends (sym c.in_ok-closed_of.ensures)
     ∙ c.ends_block.ensures
 
 pub returns-in_ok-push : goal.returns-in_ok-push

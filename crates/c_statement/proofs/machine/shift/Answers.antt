@@ -17,9 +17,9 @@ returns-in-Items c =
 
 pub returns-in-Declaring : goal.returns-in-Declaring
 returns-in-Declaring c =
-    let given : Next → Type 0 = λ n. Gives c.declaring.result n in
+    let given : Next → Type 0 = λ n. Gives c.declares_on.result n in
     let by : Mode → Next = λ m. shift_mode m c.args.reader.stack c.args.next in
-    subst given (sym (ap by c.in-Declaring.is)) c.declaring.ensures
+    subst given (sym (ap by c.in-Declaring.is)) c.declares_on.ensures
 
 pub returns-in-After : goal.returns-in-After
 returns-in-After c =

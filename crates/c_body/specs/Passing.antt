@@ -1,0 +1,66 @@
+-- How a walk passes an expression, before anything is asked of it.
+use Rattle.std.specs.Prelude.{◌≡◌, ℕ, Bool, true, false, List, [], ◌∷◌, ◌++◌, Option, Some, None, Result, Ok, Err}
+use Rattle.c_expr.specs.Tree.{Tree}
+use Rattle.c_typing.specs.Expressions.{Denoted, Function}
+use Rattle.c_judge.specs.declared.part.Part.{Part}
+use Rattle.c_judge.specs.declared.fault.Fault.{Fault}
+use Rattle.c_judge.specs.declared.fault.Fault.TheVariants as fault
+use Rattle.c_judge.specs.Answers.{Known, Unknown, Broken}
+use Rattle.c_judge.specs.Judgement.{Verdict, Judged}
+use Rattle.c_judge.specs.Parts.{judged_of}
+use Rattle.c_typing.specs.Plain.{is_integer, is_scalar}
+use Rattle.c_typing.specs.Rules.{may_drop, value_of}
+use Rattle.c_body.specs.declared.walk.Asking.{Asking}
+use Rattle.c_body.specs.declared.walk.Asking.TheVariants as asks
+use Rattle.c_mentions.specs.Literals.{Literal, texts, in_tree}
+use Rattle.c_body.specs.Becoming.{IsExpression}
+use Rattle.c_body.specs.Bodies.{judged_in}
+use Rattle.c_body.specs.Calls.{called}
+use Rattle.c_body.specs.Walks.{Walked, before_of, or_name}
+
+-- whether what a name means can be called
+abbrev pub is_callable : Option Denoted → Bool
+is_callable (Some (Function r ps)) = true
+is_callable _ = false
+
+abbrev pub of_all : {A B : Type 0} → (A → List B) → List A → List B
+of_all f [] = []
+of_all f (x ∷ xs) = f x ++ of_all f xs
+
+abbrev pub of_part : {A B : Type 0} → (A → List B) → Option A → List B
+of_part f None = []
+of_part f (Some x) = f x
+
+-- what an expression at a stopping point is asked, and the rule that it breaks
+abbrev pub answers : Asking → Judged → Bool
+answers asks.Tested j = is_scalar (value_of j.operand)
+answers asks.Selected j = is_integer (value_of j.operand)
+answers asks.Dropped j = may_drop j.operand
+
+abbrev pub rule_of : Asking → ℕ
+rule_of asks.Tested = 16
+rule_of asks.Selected = 17
+rule_of asks.Dropped = 22
+
+-- a walk with these literals and calls behind it
+abbrev pub behind : Walked → List Literal → List (List ℕ) → Walked
+behind w ls cs = record w { strings = w.strings ++ texts ls; calls = w.calls ++ cs }
+
+-- a part that is judged; or the first name that is not declared; or a broken rule
+abbrev pub Judging : Walked → Verdict → List Literal → List (List ℕ) → (Part → Type 0) → Result (Option Part) Fault → Walked → Type 0
+Judging w j ls cs P (Ok (Some x)) u = (u ≡ behind w ls cs) × (j ≡ Known (judged_of x)) × P x
+Judging w j ls cs P (Ok None) u = (name : List ℕ) × (j ≡ Unknown name) × (u ≡ record (behind w ls cs) { unknown = or_name w.unknown (Some name) })
+Judging w j ls cs P (Err (fault.Rule r at)) u = j ≡ Broken r at
+Judging w j ls cs P (Err (fault.Unknown name)) u = ⊥
+Judging w j ls cs P (Err fault.NoMemory) u = Unit {0}
+
+-- a walk passes an expression
+abbrev pub PassesExpression : Walked → Tree → Result (Option Part) Fault → Walked → Type 0
+PassesExpression w e r u = Judging w (judged_in w.here e) (in_tree e) (called w.here e) (λ p. IsExpression w.here (before_of w) e p.typed.value) r u
+
+-- what is there, and the first name that is not declared
+abbrev pub Notes : {A : Type 0} → Result A Fault → Option (List ℕ) → Result (Option A) Fault → Option (List ℕ) → Type 0
+Notes (Ok x) old r new = (r ≡ Ok (Some x)) × (new ≡ old)
+Notes (Err (fault.Unknown name)) old r new = (r ≡ Ok None) × (new ≡ or_name old (Some name))
+Notes (Err (fault.Rule n at)) old r new = r ≡ Err (fault.Rule n at)
+Notes (Err fault.NoMemory) old r new = r ≡ Err fault.NoMemory

@@ -1,6 +1,0 @@
-use Rattle.std.proofs.Common.{◌≡◌, drop}
-use Rattle.c_check.specs.Shapes.{any_called}
-use Rattle.c_check.proofs.parameter.any_called.Given as goal
-
-abbrev pub invariant-loop-p : goal.invariant-loop-p
-invariant-loop-p l = any_called l.name (drop l.p-index l.parameters) ≡ any_called l.name l.parameters

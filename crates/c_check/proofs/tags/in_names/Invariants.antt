@@ -1,6 +1,0 @@
-use Rattle.std.proofs.Common.{◌≡◌, ◌++◌, map, drop}
-use Rattle.c_check.specs.Tags.{now, in_all, in_declared}
-use Rattle.c_check.proofs.tags.in_names.Given as goal
-
-abbrev pub invariant-loop-name : goal.invariant-loop-name
-invariant-loop-name l = map now l.found.items ++ in_all in_declared (drop l.name-index l.names) ≡ map now l.initial.found.items ++ in_all in_declared l.names

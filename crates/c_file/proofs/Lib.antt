@@ -1,0 +1,21 @@
+mod Once
+mod Agreeing
+mod Again
+pub mod Telling
+mod Pairs
+mod NumberedRows
+mod Decided
+mod Limited
+mod Going
+mod Grown
+mod LocalRows
+mod Standings
+mod Onward
+mod Named
+mod Goes
+mod Onwards
+mod WalkedBodies
+mod NextFiles
+mod AddedBodies
+mod HeldExternals
+mod RowNumbers

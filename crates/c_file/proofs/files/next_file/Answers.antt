@@ -1,0 +1,22 @@
+use Rattle.std.proofs.Common.{◌≡◌, ◌+◌, map, suc, refl, ap, ◌∙◌, arith}
+use Rattle.c_file.specs.Programs.{completed_by}
+use Rattle.c_file.specs.Progress.{so_far}
+use Rattle.c_mentions.specs.Tags.{now}
+use Rattle.c_file.proofs.NextFiles.{next_here}
+use Rattle.c_file.proofs.files.next_file.Goals as goal
+
+pub returns : goal.returns
+returns c =
+    let s = c.args.state in
+    let tags = map now c.args.tags.now in
+    let u : s.here.unit + 1 ≡ suc s.here.unit = omega arith in
+    let defs = ap (λ v. v.items) c.replace-completed.ensures.after ∙ c.in_ok-defs.ensures in
+    let others = c.in-Ok.ensures ∙ ap (λ v. completed_by s.others.items v.items) c.replace-completed.ensures.value in
+    record {
+      program = λ xs v bs. λ i. record (so_far s bs) {
+        here = next_here tags s.here (record s.here { unit = s.here.unit + 1; table = c.begin-outside.new.self; defs = c.replace-completed.new.dest }) c.end.new.self xs c.end.ensures c.begin-outside.ensures.table c.begin-outside.ensures.nothing v u refl refl defs i;
+        others = others i;
+      };
+      unknown = refl;
+      functions = record { functions = refl; points = refl };
+    }

@@ -1,0 +1,232 @@
+-- What is found wrong with a program of some files (C90 5.1, 6.7), in the order in which faults are told.
+use Rattle.std.specs.Prelude.{◌≡◌, ℕ, zero, suc, ◌+◌, Bool, true, false, not, ◌&&◌, ◌||◌, nat_le, nat_lt, ◌==◌, if◌then◌else◌, List, [], ◌∷◌, ◌++◌, map, length, Option, Some, None, bytes_eq, codes}
+use Rattle.c_declaration.specs.Tree.{DeclaratorTree, Name, Parens, Pointers, Array, Function, Taking, Named, Unnamed}
+use Rattle.c_declaration.specs.declared.tree.Declared.{Declared}
+use Rattle.c_declaration.specs.declared.tree.FileSpec.{FileSpec}
+use Rattle.c_declaration.specs.declared.tree.FileSpec.TheVariants as file
+use Rattle.c_declaration.specs.declared.tree.Local.{Local}
+use Rattle.c_declaration.specs.declared.tree.MemberPart.{MemberPart}
+use Rattle.c_declaration.specs.declared.tree.MemberPart.TheVariants.{Opens, Row, Closes}
+use Rattle.c_statement.specs.Tree.{StatementTree, Declares, Also, Closed, If, IfElse, Headed, Do}
+use Rattle.c_syntax.specs.declared.tree.External.{External}
+use Rattle.c_syntax.specs.declared.tree.Unit.{Unit}
+use Rattle.c_syntax.specs.declared.tree.External.TheVariants.{Declaration, Definition}
+use Rattle.c_tree.specs.declared.types.StructDef.{StructDef}
+use Rattle.c_typing.specs.Plain.{Plain, Array, is_empty}
+use Rattle.c_typing.specs.Expressions as typing
+use Rattle.c_typing.specs.Expressions.{Denoted}
+use Rattle.c_typing.specs.Declared.{built_in}
+use Rattle.c_judge.specs.Answers.{Answer, Known, Unknown, Broken, ◌then◌}
+use Rattle.c_scope.specs.Findings.{Finding, holds}
+use Rattle.c_scope.specs.Environment.{Environment, Row as NameRow, Visible}
+use Rattle.c_file.specs.Names.{FileName, Defining, is_here, is_external, is_defined, twice, is_built_in, bounded_one}
+use Rattle.c_file.specs.Files.{State, Called, Awaited, AllExternals, Onward}
+use Rattle.c_mentions.specs.Tags.{in_all, in_external, each_once}
+
+-- ---- the greatest number of parameters
+
+abbrev pub any : {A : Type 0} → (A → Bool) → List A → Bool
+any f [] = false
+any f (x ∷ xs) = f x || any f xs
+
+abbrev pub parameters_of : DeclaratorTree → ℕ
+parameters_of (Taking d p) = suc (parameters_of d)
+parameters_of _ = 0
+
+-- a declarator has more than 16 parameters, or one in it has
+abbrev pub takes_many : DeclaratorTree → Bool
+takes_many (Name _ _) = false
+takes_many (Parens _ d) = takes_many d
+takes_many (Pointers _ _ d) = takes_many d
+takes_many (Array _ d _) = takes_many d
+takes_many (Function _ d) = takes_many d
+takes_many (Taking d p) = takes_many d || takes_many p || nat_lt 16 (suc (parameters_of d))
+takes_many (Named _ _ _ d) = takes_many d
+takes_many (Unnamed _ _ _) = false
+
+abbrev pub many_in : Declared → Bool
+many_in d = takes_many d.declarator
+
+abbrev pub many_in_local : Local → Bool
+many_in_local l = any many_in l.names
+
+abbrev pub many_below : StatementTree → Bool
+many_below (Declares b l) = many_below b || many_in_local l
+many_below (Also b s) = many_below b || many_below s
+many_below (Closed b _) = many_below b
+many_below (If _ _ s) = many_below s
+many_below (IfElse _ _ s r) = many_below s || many_below r
+many_below (Headed _ s) = many_below s
+many_below (Do _ s _) = many_below s
+many_below _ = false
+
+abbrev pub many_in_part : MemberPart → Bool
+many_in_part (Opens _ _) = false
+many_in_part (Row _ _ ds) = any takes_many ds
+many_in_part (Closes ds) = any takes_many ds
+
+abbrev pub many_in_spec : FileSpec → Bool
+many_in_spec (file.Named s) = false
+many_in_spec (file.Members ps) = any many_in_part ps
+
+abbrev pub many : External → Bool
+many (Declaration h) = many_in_spec h.spec || any many_in h.names
+many (Definition h x) = many_in_spec h.spec || takes_many h.declarator || many_below x
+
+-- ---- files
+
+-- the built-ins are declared before each file
+abbrev pub built_ins : List Visible
+built_ins = record { name = codes "exit"; number = 2 } ∷ record { name = codes "putchar"; number = 1 } ∷ record { name = codes "getchar"; number = 0 } ∷ []
+
+abbrev built_in_row : List ℕ → Option ℕ → NameRow
+built_in_row name up = record { name = name; denoted = built_in name; up = up; unit = 0; local = None }
+
+abbrev pub built_in_rows : List NameRow
+built_in_rows = built_in_row (codes "getchar") None ∷ built_in_row (codes "putchar") (Some 0) ∷ built_in_row (codes "exit") (Some 1) ∷ []
+
+abbrev pub incomplete : List ℕ → StructDef
+incomplete tag = record { tag = tag; size = 0; members = [] }
+
+-- the structs as either of two lists completes them
+abbrev pub completed_one : StructDef → StructDef → StructDef
+completed_one d e = if is_empty d.members then e else d
+
+abbrev pub completed_by : List StructDef → List StructDef → List StructDef
+completed_by (d ∷ ds) (e ∷ es) = completed_one d e ∷ completed_by ds es
+completed_by _ _ = []
+
+-- what is found in some files: as in one, with the file in which a rule is broken
+pub data Told : Type 0 where
+  Well : Told
+  Lacks : (name : List ℕ) → Told
+  Breaks : (rule unit at : ℕ) → Told
+
+abbrev pub in_file : ℕ → Finding → Told
+in_file u (Known x) = Well
+in_file u (Unknown name) = Lacks name
+in_file u (Broken r at) = Breaks r u at
+
+-- what is found in some files and in those behind them: broken rules come first, and of two the earlier
+infixl 20 ◌before◌
+abbrev pub ◌before◌ : Told → Told → Told
+Breaks r u at before g = Breaks r u at
+Well before g = g
+Lacks n before Breaks r u at = Breaks r u at
+Lacks n before g = Lacks n
+
+module _ (tags : List (List ℕ)) where
+  -- the program before its first file
+  abbrev pub at_first : State
+  at_first = record {
+    here = record { unit = 0; names = built_in_rows; visible = built_ins; block = []; locals = 0; defs = map incomplete tags; tags = tags };
+    others = map incomplete tags;
+    names = [];
+    definitions = [];
+    calls = [];
+    late = [];
+    bodies = [];
+    starts = [];
+    points = 0;
+    strings = [];
+  }
+
+  -- what a file declared is out of scope behind it, and other files may complete its tags again
+  abbrev pub next_file : State → State
+  next_file p = record p {
+    here = record p.here { unit = suc p.here.unit; visible = built_ins; block = []; defs = map incomplete tags };
+    others = completed_by p.others p.here.defs;
+  }
+
+  abbrev pub AllFiles : State → List (List External) → Told → State → Type 0
+  AllFiles p [] f q = (f ≡ Well) × (q ≡ p)
+  AllFiles p (u ∷ us) f q =
+      (g : Finding) × (r : State) × AllExternals p u g r ×
+      Onward g ((f ≡ in_file p.here.unit g) × (q ≡ r)) ((h : Told) × AllFiles (next_file r) us h q × (f ≡ in_file p.here.unit g before h))
+
+-- ---- behind the last file
+
+-- 12. a place is within its object, whose bound another declaration tells
+abbrev pub bound_in : Denoted → ℕ
+bound_in (typing.Object (Array t n) r) = n
+bound_in d = 0
+
+abbrev pub greatest_bound : List FileName → Awaited → ℕ
+greatest_bound [] l = 0
+greatest_bound (f ∷ fs) l = if is_here l.unit l.place.name f || is_external l.place.name f then (if nat_lt (greatest_bound fs l) (bound_in f.denoted) then bound_in f.denoted else greatest_bound fs l) else greatest_bound fs l
+
+abbrev pub late_found : List FileName → List Awaited → Told
+late_found fs [] = Well
+late_found fs (l ∷ ls) = in_file l.unit (holds ((greatest_bound fs l == 0) || nat_le l.place.items (greatest_bound fs l)) 12 l.place.at) before late_found fs ls
+
+-- a name is `static` in a file
+abbrev pub is_static_in : List FileName → ℕ → List ℕ → Bool
+is_static_in [] u name = false
+is_static_in (f ∷ fs) u name = if is_here u name f then f.is_static else is_static_in fs u name
+
+-- the first function that is called and not defined
+abbrev pub uncalled : State → List Called → Option (List ℕ)
+uncalled p [] = None
+uncalled p (c ∷ cs) =
+    if is_built_in c.name || is_defined p.definitions c.unit (is_static_in p.names c.unit c.name) c.name then uncalled p cs else Some c.name
+
+abbrev pub is_object : Denoted → Bool
+is_object (typing.Object t r) = true
+is_object d = false
+
+-- the first object that is declared and not defined
+abbrev pub undefined : State → List FileName → Option (List ℕ)
+undefined p [] = None
+undefined p (f ∷ fs) = elim (undefined p fs) as (λ _. Option (List ℕ)) [
+  | Some n ↦ Some n
+  | None ↦ if is_object f.denoted && not (is_defined p.definitions f.unit f.is_static f.name) then Some f.name else None
+]
+
+abbrev pub has_main : List Defining → Bool
+has_main ds = is_defined ds 0 false (codes "main")
+
+-- ---- faults
+
+-- the faults of a program but its size, in the order in which they are told
+pub data Fault : Type 0 where
+  Arguments : Fault
+  Rule : (rule unit at : ℕ) → Fault
+  Twice : (name : List ℕ) → Fault
+  Undefined : (name : List ℕ) → Fault
+  NoMain : Fault
+
+abbrev pub or_name : Option (List ℕ) → Option (List ℕ) → Option (List ℕ)
+or_name (Some n) b = Some n
+or_name None b = b
+
+abbrev pub missing : Told → State → Option (List ℕ)
+missing (Lacks name) p = Some name
+missing f p = or_name (uncalled p p.calls) (undefined p p.names)
+
+abbrev pub behind_rules : Told → State → Option Fault
+behind_rules f p = elim (twice [] p.definitions) as (λ _. Option Fault) [
+  | Some n ↦ Some (Twice n)
+  | None ↦ elim (missing f p) as (λ _. Option Fault) [ Some n ↦ Some (Undefined n) | None ↦ if has_main p.definitions then None else Some NoMain ]
+]
+
+abbrev pub first_fault : Told → State → Option Fault
+first_fault (Breaks r u at) p = Some (Rule r u at)
+first_fault f p = behind_rules f p
+
+-- what is found where no function has more than 16 parameters
+abbrev pub FaultsBehind : (tags : List (List ℕ)) → List (List External) → Option Fault → Type 0
+FaultsBehind tags us x = (f : Told) × (p : State) × AllFiles tags (at_first tags) us f p × (x ≡ first_fault (f before late_found p.names p.late) p)
+
+abbrev pub FaultsAs : Bool → (tags : List (List ℕ)) → List (List External) → Option Fault → Type 0
+FaultsAs true tags us x = x ≡ Some Arguments
+FaultsAs false tags us x = FaultsBehind tags us x
+
+abbrev pub externals_of : Unit → List External
+externals_of u = u.externals
+
+abbrev pub tags_of : List (List External) → List (List ℕ)
+tags_of us = each_once [] (in_all (in_all in_external) us)
+
+-- the first fault of a program, but for its size, or None
+abbrev pub Faults : List (List External) → Option Fault → Type 0
+Faults us x = FaultsAs (any (any many) us) (tags_of us) us x

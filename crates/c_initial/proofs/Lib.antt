@@ -1,0 +1,6 @@
+mod TextStarts
+mod Spotted
+mod Braced
+mod Pointed
+mod Counted
+mod Filling

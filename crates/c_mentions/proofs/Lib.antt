@@ -1,0 +1,4 @@
+pub mod Measures
+mod Tagged
+mod Quoted
+mod Numbered

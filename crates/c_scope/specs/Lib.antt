@@ -1,0 +1,12 @@
+pub mod Findings
+pub mod Environment
+pub mod Table
+pub mod Tabled
+pub mod StructTags
+pub mod Here
+pub mod Declarators
+pub mod Shapes
+pub mod Gathered
+pub mod Refused
+pub mod Spelling
+pub mod NumberedNames

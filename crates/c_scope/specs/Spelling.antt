@@ -1,0 +1,16 @@
+-- Where a part of a program begins, and what kind of constant one is.
+use Rattle.std.specs.Prelude.{ℕ, Bool, true, false}
+use Rattle.c_declaration.specs.InitialTree.{InitialTree, Value, Braces, Item}
+use Rattle.c_judge.specs.declared.part.Constant.{Constant}
+use Rattle.c_judge.specs.declared.part.Constant.TheVariants.{Number}
+use Rattle.c_judge.specs.Places.{place_of}
+
+-- where an initializer begins
+abbrev pub initial_at : InitialTree → ℕ
+initial_at (Value e) = (place_of e).at
+initial_at (Braces at) = at.at
+initial_at (Item i j) = initial_at i
+
+abbrev pub is_number : Constant → Bool
+is_number (Number n) = true
+is_number _ = false

@@ -1,0 +1,5 @@
+mod Opening
+mod Laid
+mod Ended
+mod Within
+pub mod NamesAdded

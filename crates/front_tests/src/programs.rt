@@ -1,0 +1,198 @@
+//! Whole programs; the expected answers are the rules of C90 by hand.
+
+use c_check::{CheckFault, check_program};
+use c_lex::tokens;
+use c_syntax::{Unit, parse_unit};
+use ldb_words::Text;
+use std::alloc::Global;
+use std::test::Fail;
+
+/// What some files are checked to: how many functions, objects and stopping points a program has, or why there is none.
+#[derive(Clone, Copy, Debug, PartialEq, Eq)]
+enum Answer {
+    Made(usize, usize, usize),
+    Arguments,
+    /// The rule, the file, and the offset there.
+    Rule(u8, u32, u32),
+    Twice,
+    Unknown,
+    NoMain,
+    TooBig,
+    Unread,
+    NoMemory,
+}
+
+/// The tree of a file.
+fn read(alloc: Global, text: &[u8]) -> Option<Unit> {
+    if text.len() > 1_048_576 {
+        return None;
+    }
+    let Ok(found) = tokens(alloc, text) else {
+        return None;
+    };
+    parse_unit(alloc, text, &found).ok()
+}
+
+/// The trees of two files, of which the second may be missing.
+fn both(alloc: Global, first: &[u8], second: &[u8]) -> Result<Vec<Unit>, Fail> {
+    let mut units = Vec::new(alloc);
+    if let Some(unit) = read(alloc, first) {
+        units.push(unit)?;
+    }
+    if let Some(unit) = read(alloc, second) {
+        units.push(unit)?;
+    }
+    Ok(units)
+}
+
+/// The names of so many files.
+fn names(alloc: Global, count: usize) -> Result<Vec<Text>, Fail> {
+    let mut names = Vec::new(alloc);
+    for _ in 0..count {
+        names.push(Text::from_slice(alloc, b"a.c")?)?;
+    }
+    Ok(names)
+}
+
+/// Why a program is refused.
+fn refused(fault: &CheckFault) -> Answer {
+    match fault {
+        CheckFault::Arguments => Answer::Arguments,
+        CheckFault::Rule { rule, unit, at } => Answer::Rule(*rule, *unit, *at),
+        CheckFault::Twice { name: _ } => Answer::Twice,
+        CheckFault::Unknown { name: _ } => Answer::Unknown,
+        CheckFault::NoMain => Answer::NoMain,
+        CheckFault::TooBig => Answer::TooBig,
+        CheckFault::NoMemory => Answer::NoMemory,
+    }
+}
+
+fn checked(alloc: Global, first: &[u8], second: &[u8]) -> Result<Answer, Fail> {
+    let units = both(alloc, first, second)?;
+    let names = names(alloc, units.len())?;
+    if units.is_empty() || names.len() != units.len() {
+        return Ok(Answer::Unread);
+    }
+    match check_program(alloc, &names, &units) {
+        Ok(p) => Ok(Answer::Made(p.functions.len(), p.objects.len(), p.points.len())),
+        Err(fault) => Ok(refused(&fault)),
+    }
+}
+
+/// Two files, of which the second may be missing, and what they are checked to.
+const ROWS: [(&[u8], &[u8], Answer); 24] = [
+    (b"int main(void) { return 0; }", b"", Answer::Made(1, 0, 3)),
+    (
+        b"int x; int main(void) { x = 1; return x; }",
+        b"",
+        Answer::Made(1, 1, 4),
+    ),
+    (
+        b"int x; int x = 1; int x; int main(void) { return x; }",
+        b"",
+        Answer::Made(1, 1, 3),
+    ),
+    (
+        b"extern int x; int main(void) { return x; }",
+        b"int x = 2;",
+        Answer::Made(1, 1, 3),
+    ),
+    (
+        b"static int x; int main(void) { return x; }",
+        b"static int x = 2;",
+        Answer::Made(1, 2, 3),
+    ),
+    (
+        b"static int f(void) { return 1; } int main(void) { return f(); }",
+        b"static int f(void) { return 2; }",
+        Answer::Made(3, 0, 9),
+    ),
+    (
+        b"int f(int a) { return a; } int main(void) { return f(1); }",
+        b"",
+        Answer::Made(2, 0, 6),
+    ),
+    (
+        b"int main(void) { putchar(65); return 0; }",
+        b"",
+        Answer::Made(1, 0, 4),
+    ),
+    (
+        b"extern int a[]; int *p = a + 3; int main(void) { return *p; }",
+        b"int a[4];",
+        Answer::Made(1, 2, 3),
+    ),
+    (
+        b"extern int a[]; int *p = a + 5; int main(void) { return *p; }",
+        b"int a[4];",
+        Answer::Rule(12, 0, 25),
+    ),
+    (b"int f(void);", b"", Answer::NoMain),
+    (b"static int main(void) { return 0; }", b"", Answer::NoMain),
+    (
+        b"int f(void); int main(void) { return f(); }",
+        b"",
+        Answer::Unknown,
+    ),
+    (
+        b"int f(void); int main(void) { return f(); }",
+        b"static int f(void) { return 1; }",
+        Answer::Unknown,
+    ),
+    (
+        b"extern int x; int main(void) { return 0; }",
+        b"",
+        Answer::Unknown,
+    ),
+    (b"int main(void) { return y; }", b"", Answer::Unknown),
+    (
+        b"int x; int main(void) { return 0; }",
+        b"int x;",
+        Answer::Twice,
+    ),
+    (
+        b"int x = 1; int x = 2; int main(void) { return 0; }",
+        b"",
+        Answer::Twice,
+    ),
+    (
+        b"int x; int main(void) { return y; }",
+        b"int x;",
+        Answer::Twice,
+    ),
+    (
+        b"int main(void) { return y; }",
+        b"int *x; char *x;",
+        Answer::Rule(6, 1, 13),
+    ),
+    (
+        b"int x; static int x; int main(void) { return 0; }",
+        b"",
+        Answer::Rule(7, 0, 18),
+    ),
+    (
+        b"int main(int a) { return a; }",
+        b"",
+        Answer::Rule(10, 0, 4),
+    ),
+    (
+        b"int f(int a, int b, int c, int d, int e, int f, int g, int h, int i, int j, int k, int l, int m, int n, int o, int p, int q); int x = y;",
+        b"",
+        Answer::Arguments,
+    ),
+    (
+        b"char a[600000]; char b[600000]; int main(void) { return 0; }",
+        b"",
+        Answer::TooBig,
+    ),
+];
+
+#[test]
+fn programs(rt: HostRuntime) -> Result<(), Fail> {
+    let alloc = rt.alloc();
+    for (first, second, wanted) in ROWS {
+        let found = checked(alloc, first, second)?;
+        assert_eq!(rt; found, wanted);
+    }
+    Ok(())
+}

@@ -1,0 +1,462 @@
+// Hazards with their neighbours, results of an emulator, and a whole program of a C compiler.
+// docs/machines.md says how the tables were made.
+
+use ldb_words::{Event, FaultKind};
+use machine_state::{CONTEXT, DATA, MIPS, TEXT};
+use mips_sim::Machine;
+use obj_file::read_image;
+use std::alloc::Global;
+use std::process::Abort;
+use std::test::Fail;
+
+/// The machine of some words, if they make an image.
+fn machine_of(alloc: Global, words: &[u32]) -> Option<Machine> {
+    let length = u32::try_from(4 * words.len()).ok()?;
+    let mut bytes = Vec::from_slice(alloc, b"LDBI\x01\x01\0\0").ok()?;
+    for field in [TEXT, length, 0] {
+        bytes.extend_from_slice(&field.to_be_bytes()).ok()?;
+    }
+    for word in words {
+        bytes.extend_from_slice(&word.to_le_bytes()).ok()?;
+    }
+    let image = read_image(alloc, &bytes).ok()?;
+    if image.target() == MIPS {
+        Machine::new(alloc, &image).ok()
+    } else {
+        None
+    }
+}
+
+/// What the last of some words does, run one after another from the start.
+fn last(alloc: Global, words: &[u32]) -> Option<Event> {
+    let mut machine = machine_of(alloc, words)?;
+    let mut event = None;
+    for _word in words {
+        event = Some(machine.step());
+    }
+    event
+}
+
+const WENT: Option<Event> = Some(Event::Went);
+
+const HAZARD: Option<Event> = Some(Event::Fault(FaultKind::Hazard));
+
+#[test]
+fn mips_hazards(rt: HostRuntime) {
+    let alloc = rt.alloc();
+    // lui $8, 1000; lw $10, 0($8); addu $10, $10, $9
+    assert_eq!(rt;
+        last(alloc, &[0x3c08_1000, 0x8d0a_0000, 0x0149_5021]),
+        HAZARD
+    );
+    assert_eq!(rt;
+        last(alloc, &[0x3c08_1000, 0x8d0a_0000, 0, 0x0149_5021]),
+        WENT
+    );
+    // lui $8, 1000; lw $0, 0($8); addu $10, $0, $9
+    assert_eq!(rt; last(alloc, &[0x3c08_1000, 0x8d00_0000, 0x0009_5021]), WENT);
+    // mfhi $10; mult $8, $9
+    assert_eq!(rt; last(alloc, &[0x0000_5010, 0x0109_0018]), HAZARD);
+    assert_eq!(rt; last(alloc, &[0x0000_5010, 0, 0x0109_0018]), HAZARD);
+    assert_eq!(rt; last(alloc, &[0x0000_5010, 0, 0, 0x0109_0018]), WENT);
+    // mflo $10; div $0, $8, $0: the hazard comes before the division
+    assert_eq!(rt; last(alloc, &[0x0000_5012, 0x0100_001a]), HAZARD);
+    assert_eq!(rt;
+        last(alloc, &[0x0000_5012, 0, 0, 0x0100_001a]),
+        Some(Event::Fault(FaultKind::Division))
+    );
+    // beq $0, $0, 0, and in its slot a branch, jr $31, syscall and break
+    for word in [0x1000_0000u32, 0x03e0_0008, 0x0000_000c, 0x0000_000d] {
+        assert_eq!(rt; last(alloc, &[0x1000_0000, word]), HAZARD);
+    }
+    assert_eq!(rt; last(alloc, &[0x0000_000d]), Some(Event::Break));
+    // sw $29, 0($29)
+    assert_eq!(rt; last(alloc, &[0xafbd_0000]), WENT);
+}
+
+/// The bytes that the data begin with before each row.
+const MEMORY: [u8; 16] = [
+    0x80, 0x7f, 0x01, 0xff, 0xfe, 0x80, 0x34, 0x92, 0x56, 0x78, 0x9a, 0xbc, 0x00, 0xff, 0x7f, 0x80,
+];
+
+/// An instruction's word; `$8` and `$9` before it; `$10`, HI, LO and the second word of the data after it.
+const ROWS: [[u32; 7]; 87] = [
+    [
+        0x01095021, 0x7fffffff, 0x00000001, 0x80000000, 0x11111111, 0x22222222, 0x923480fe,
+    ],
+    [
+        0x01095021, 0x80000000, 0xffffffff, 0x7fffffff, 0x11111111, 0x22222222, 0x923480fe,
+    ],
+    [
+        0x01095021, 0x12345678, 0xf0f00f0f, 0x03246587, 0x11111111, 0x22222222, 0x923480fe,
+    ],
+    [
+        0x01095023, 0x7fffffff, 0x00000001, 0x7ffffffe, 0x11111111, 0x22222222, 0x923480fe,
+    ],
+    [
+        0x01095023, 0x80000000, 0xffffffff, 0x80000001, 0x11111111, 0x22222222, 0x923480fe,
+    ],
+    [
+        0x01095023, 0x12345678, 0xf0f00f0f, 0x21444769, 0x11111111, 0x22222222, 0x923480fe,
+    ],
+    [
+        0x01095024, 0x7fffffff, 0x00000001, 0x00000001, 0x11111111, 0x22222222, 0x923480fe,
+    ],
+    [
+        0x01095024, 0x80000000, 0xffffffff, 0x80000000, 0x11111111, 0x22222222, 0x923480fe,
+    ],
+    [
+        0x01095024, 0x12345678, 0xf0f00f0f, 0x10300608, 0x11111111, 0x22222222, 0x923480fe,
+    ],
+    [
+        0x01095025, 0x7fffffff, 0x00000001, 0x7fffffff, 0x11111111, 0x22222222, 0x923480fe,
+    ],
+    [
+        0x01095025, 0x80000000, 0xffffffff, 0xffffffff, 0x11111111, 0x22222222, 0x923480fe,
+    ],
+    [
+        0x01095025, 0x12345678, 0xf0f00f0f, 0xf2f45f7f, 0x11111111, 0x22222222, 0x923480fe,
+    ],
+    [
+        0x01095026, 0x7fffffff, 0x00000001, 0x7ffffffe, 0x11111111, 0x22222222, 0x923480fe,
+    ],
+    [
+        0x01095026, 0x80000000, 0xffffffff, 0x7fffffff, 0x11111111, 0x22222222, 0x923480fe,
+    ],
+    [
+        0x01095026, 0x12345678, 0xf0f00f0f, 0xe2c45977, 0x11111111, 0x22222222, 0x923480fe,
+    ],
+    [
+        0x01095027, 0x7fffffff, 0x00000001, 0x80000000, 0x11111111, 0x22222222, 0x923480fe,
+    ],
+    [
+        0x01095027, 0x80000000, 0xffffffff, 0x00000000, 0x11111111, 0x22222222, 0x923480fe,
+    ],
+    [
+        0x01095027, 0x12345678, 0xf0f00f0f, 0x0d0ba080, 0x11111111, 0x22222222, 0x923480fe,
+    ],
+    [
+        0x0109502a, 0x7fffffff, 0x00000001, 0x00000000, 0x11111111, 0x22222222, 0x923480fe,
+    ],
+    [
+        0x0109502a, 0x80000000, 0xffffffff, 0x00000001, 0x11111111, 0x22222222, 0x923480fe,
+    ],
+    [
+        0x0109502a, 0x12345678, 0xf0f00f0f, 0x00000000, 0x11111111, 0x22222222, 0x923480fe,
+    ],
+    [
+        0x0109502b, 0x7fffffff, 0x00000001, 0x00000000, 0x11111111, 0x22222222, 0x923480fe,
+    ],
+    [
+        0x0109502b, 0x80000000, 0xffffffff, 0x00000001, 0x11111111, 0x22222222, 0x923480fe,
+    ],
+    [
+        0x0109502b, 0x12345678, 0xf0f00f0f, 0x00000001, 0x11111111, 0x22222222, 0x923480fe,
+    ],
+    [
+        0x01095004, 0x00000004, 0x87654321, 0x76543210, 0x11111111, 0x22222222, 0x923480fe,
+    ],
+    [
+        0x01095004, 0x00000023, 0x80000000, 0x00000000, 0x11111111, 0x22222222, 0x923480fe,
+    ],
+    [
+        0x01095006, 0x00000004, 0x87654321, 0x08765432, 0x11111111, 0x22222222, 0x923480fe,
+    ],
+    [
+        0x01095006, 0x00000023, 0x80000000, 0x10000000, 0x11111111, 0x22222222, 0x923480fe,
+    ],
+    [
+        0x01095007, 0x00000004, 0x87654321, 0xf8765432, 0x11111111, 0x22222222, 0x923480fe,
+    ],
+    [
+        0x01095007, 0x00000023, 0x80000000, 0xf0000000, 0x11111111, 0x22222222, 0x923480fe,
+    ],
+    [
+        0x00095000, 0x00000000, 0x87654321, 0x87654321, 0x11111111, 0x22222222, 0x923480fe,
+    ],
+    [
+        0x000957c0, 0x00000000, 0x87654321, 0x80000000, 0x11111111, 0x22222222, 0x923480fe,
+    ],
+    [
+        0x000957c2, 0x00000000, 0x87654321, 0x00000001, 0x11111111, 0x22222222, 0x923480fe,
+    ],
+    [
+        0x000951c2, 0x00000000, 0x87654321, 0x010eca86, 0x11111111, 0x22222222, 0x923480fe,
+    ],
+    [
+        0x000957c3, 0x00000000, 0x87654321, 0xffffffff, 0x11111111, 0x22222222, 0x923480fe,
+    ],
+    [
+        0x000951c3, 0x00000000, 0x87654321, 0xff0eca86, 0x11111111, 0x22222222, 0x923480fe,
+    ],
+    [
+        0x01090018, 0x80000000, 0x80000000, 0x33333333, 0x40000000, 0x00000000, 0x923480fe,
+    ],
+    [
+        0x01090018, 0xffffffff, 0xffffffff, 0x33333333, 0x00000000, 0x00000001, 0x923480fe,
+    ],
+    [
+        0x01090018, 0x12345678, 0x9abcdef0, 0x33333333, 0xf8cc93d6, 0x242d2080, 0x923480fe,
+    ],
+    [
+        0x01090019, 0x80000000, 0x80000000, 0x33333333, 0x40000000, 0x00000000, 0x923480fe,
+    ],
+    [
+        0x01090019, 0xffffffff, 0xffffffff, 0x33333333, 0xfffffffe, 0x00000001, 0x923480fe,
+    ],
+    [
+        0x01090019, 0x12345678, 0x9abcdef0, 0x33333333, 0x0b00ea4e, 0x242d2080, 0x923480fe,
+    ],
+    [
+        0x0109001a, 0x00000007, 0x00000002, 0x33333333, 0x00000001, 0x00000003, 0x923480fe,
+    ],
+    [
+        0x0109001a, 0xfffffff9, 0x00000002, 0x33333333, 0xffffffff, 0xfffffffd, 0x923480fe,
+    ],
+    [
+        0x0109001a, 0x00000007, 0xfffffffe, 0x33333333, 0x00000001, 0xfffffffd, 0x923480fe,
+    ],
+    [
+        0x0109001a, 0x80000000, 0x00000003, 0x33333333, 0xfffffffe, 0xd5555556, 0x923480fe,
+    ],
+    [
+        0x0109001b, 0x00000007, 0x00000002, 0x33333333, 0x00000001, 0x00000003, 0x923480fe,
+    ],
+    [
+        0x0109001b, 0xfffffff9, 0x00000002, 0x33333333, 0x00000001, 0x7ffffffc, 0x923480fe,
+    ],
+    [
+        0x0109001b, 0x00000007, 0xfffffffe, 0x33333333, 0x00000007, 0x00000000, 0x923480fe,
+    ],
+    [
+        0x0109001b, 0x80000000, 0x00000003, 0x33333333, 0x00000002, 0x2aaaaaaa, 0x923480fe,
+    ],
+    [
+        0x250affff, 0x00000000, 0x00000000, 0xffffffff, 0x11111111, 0x22222222, 0x923480fe,
+    ],
+    [
+        0x250affff, 0xffff8000, 0x00000000, 0xffff7fff, 0x11111111, 0x22222222, 0x923480fe,
+    ],
+    [
+        0x250a7fff, 0x00000000, 0x00000000, 0x00007fff, 0x11111111, 0x22222222, 0x923480fe,
+    ],
+    [
+        0x250a7fff, 0xffff8000, 0x00000000, 0xffffffff, 0x11111111, 0x22222222, 0x923480fe,
+    ],
+    [
+        0x290affff, 0x00000000, 0x00000000, 0x00000000, 0x11111111, 0x22222222, 0x923480fe,
+    ],
+    [
+        0x290affff, 0xffff8000, 0x00000000, 0x00000001, 0x11111111, 0x22222222, 0x923480fe,
+    ],
+    [
+        0x2d0affff, 0x00000000, 0x00000000, 0x00000001, 0x11111111, 0x22222222, 0x923480fe,
+    ],
+    [
+        0x2d0affff, 0xffff8000, 0x00000000, 0x00000001, 0x11111111, 0x22222222, 0x923480fe,
+    ],
+    [
+        0x310aff00, 0x00000000, 0x00000000, 0x00000000, 0x11111111, 0x22222222, 0x923480fe,
+    ],
+    [
+        0x310aff00, 0xffff8000, 0x00000000, 0x00008000, 0x11111111, 0x22222222, 0x923480fe,
+    ],
+    [
+        0x350aff00, 0x00000000, 0x00000000, 0x0000ff00, 0x11111111, 0x22222222, 0x923480fe,
+    ],
+    [
+        0x350aff00, 0xffff8000, 0x00000000, 0xffffff00, 0x11111111, 0x22222222, 0x923480fe,
+    ],
+    [
+        0x390affff, 0x00000000, 0x00000000, 0x0000ffff, 0x11111111, 0x22222222, 0x923480fe,
+    ],
+    [
+        0x390affff, 0xffff8000, 0x00000000, 0xffff7fff, 0x11111111, 0x22222222, 0x923480fe,
+    ],
+    [
+        0x3c0a8001, 0x00000000, 0x00000000, 0x80010000, 0x11111111, 0x22222222, 0x923480fe,
+    ],
+    [
+        0x00005010, 0x00000000, 0x00000000, 0x11111111, 0x11111111, 0x22222222, 0x923480fe,
+    ],
+    [
+        0x00005012, 0x00000000, 0x00000000, 0x22222222, 0x11111111, 0x22222222, 0x923480fe,
+    ],
+    [
+        0x01200011, 0x00000000, 0x55555555, 0x33333333, 0x55555555, 0x22222222, 0x923480fe,
+    ],
+    [
+        0x01200013, 0x00000000, 0x55555555, 0x33333333, 0x11111111, 0x55555555, 0x923480fe,
+    ],
+    [
+        0x810afffc, 0x10000004, 0x00000000, 0xffffff80, 0x11111111, 0x22222222, 0x923480fe,
+    ],
+    [
+        0x810afffd, 0x10000004, 0x00000000, 0x0000007f, 0x11111111, 0x22222222, 0x923480fe,
+    ],
+    [
+        0x810a0001, 0x10000004, 0x00000000, 0xffffff80, 0x11111111, 0x22222222, 0x923480fe,
+    ],
+    [
+        0x910afffc, 0x10000004, 0x00000000, 0x00000080, 0x11111111, 0x22222222, 0x923480fe,
+    ],
+    [
+        0x910a0003, 0x10000004, 0x00000000, 0x00000092, 0x11111111, 0x22222222, 0x923480fe,
+    ],
+    [
+        0x850afffc, 0x10000004, 0x00000000, 0x00007f80, 0x11111111, 0x22222222, 0x923480fe,
+    ],
+    [
+        0x850afffe, 0x10000004, 0x00000000, 0xffffff01, 0x11111111, 0x22222222, 0x923480fe,
+    ],
+    [
+        0x850a0000, 0x10000004, 0x00000000, 0xffff80fe, 0x11111111, 0x22222222, 0x923480fe,
+    ],
+    [
+        0x950afffc, 0x10000004, 0x00000000, 0x00007f80, 0x11111111, 0x22222222, 0x923480fe,
+    ],
+    [
+        0x950a0002, 0x10000004, 0x00000000, 0x00009234, 0x11111111, 0x22222222, 0x923480fe,
+    ],
+    [
+        0x8d0afffc, 0x10000004, 0x00000000, 0xff017f80, 0x11111111, 0x22222222, 0x923480fe,
+    ],
+    [
+        0x8d0a0000, 0x10000004, 0x00000000, 0x923480fe, 0x11111111, 0x22222222, 0x923480fe,
+    ],
+    [
+        0x8d0a0008, 0x10000004, 0x00000000, 0x807fff00, 0x11111111, 0x22222222, 0x923480fe,
+    ],
+    [
+        0xa1090000, 0x10000004, 0x89abcdef, 0x33333333, 0x11111111, 0x22222222, 0x923480ef,
+    ],
+    [
+        0xa1090003, 0x10000004, 0x89abcdef, 0x33333333, 0x11111111, 0x22222222, 0xef3480fe,
+    ],
+    [
+        0xa5090000, 0x10000004, 0x89abcdef, 0x33333333, 0x11111111, 0x22222222, 0x9234cdef,
+    ],
+    [
+        0xa5090002, 0x10000004, 0x89abcdef, 0x33333333, 0x11111111, 0x22222222, 0xcdef80fe,
+    ],
+    [
+        0xad090000, 0x10000004, 0x89abcdef, 0x33333333, 0x11111111, 0x22222222, 0x89abcdef,
+    ],
+];
+
+/// Changes a word of memory.
+fn put(machine: &mut Machine, at: u32, word: u32) {
+    let _written = machine.write(at, 4, word);
+}
+
+/// What one instruction leaves in `$10`, HI, LO and the second word of the data.
+fn after(machine: &mut Machine, row: &[u32; 7]) -> [Option<u32>; 4] {
+    for (place, byte) in (0u32..).zip(MEMORY) {
+        let _written = machine.write(DATA.wrapping_add(place), 1, u32::from(byte));
+    }
+    put(machine, TEXT, row[0]);
+    put(machine, CONTEXT + 32, row[1]);
+    put(machine, CONTEXT + 36, row[2]);
+    put(machine, CONTEXT + 40, 0x3333_3333);
+    put(machine, CONTEXT + 128, 0x1111_1111);
+    put(machine, CONTEXT + 132, 0x2222_2222);
+    put(machine, CONTEXT + 136, TEXT);
+    put(machine, CONTEXT + 140, TEXT + 4);
+    machine.restore();
+    let _event = machine.step();
+    let _saved = machine.save();
+    [CONTEXT + 40, CONTEXT + 128, CONTEXT + 132, DATA + 4].map(|at| machine.read(at, 4).ok())
+}
+
+#[test]
+fn emulated_results(rt: HostRuntime) {
+    let mut machine = match machine_of(rt.alloc(), &[0]) {
+        Some(machine) => machine,
+        None => panic!(rt; "no machine"),
+    };
+    for row in &ROWS {
+        let expected = [row[3], row[4], row[5], row[6]].map(Some);
+        assert_eq!(rt; after(&mut machine, row), expected, "{:08x}", row[0]);
+    }
+}
+
+/// The text of a program that gcc made for size: it prints the primes below 100 and some factorials.
+const PRIMES: [u32; 95] = [
+    0x0c10002c, 0x00000000, 0x00402025, 0x24020003, 0x0000000c, 0x00000000, 0x24020001, 0x0000000c,
+    0x03e00008, 0x00000000, 0x24020002, 0x0000000c, 0x03e00008, 0x00000000, 0x00000000, 0x00000000,
+    0x3c031000, 0x8c650000, 0x00000000, 0x00051140, 0x00451023, 0x00441021, 0x0810000a, 0xac620000,
+    0x27bdffe8, 0x2c82000a, 0xafb00010, 0xafbf0014, 0x14400006, 0x00808025, 0x2402000a, 0x0082001b,
+    0x00002012, 0x0c100018, 0x00000000, 0x2402000a, 0x0202001b, 0x8fbf0014, 0x8fb00010, 0x27bd0018,
+    0x00002010, 0x08100010, 0x24840030, 0x00000000, 0x27bdffe0, 0xafb10018, 0xafb00014, 0xafbf001c,
+    0x24100002, 0x24110064, 0x10000005, 0x24020002, 0x0202001a, 0x00001810, 0x1060000a, 0x24420001,
+    0x00420018, 0x00001812, 0x0203182a, 0x1060fff8, 0x00000000, 0x0c100018, 0x02002025, 0x0c100010,
+    0x24040020, 0x26100001, 0x1611fff5, 0x24020002, 0x0c100010, 0x2404000a, 0x00008025, 0x2411000d,
+    0x02001025, 0x24040001, 0x10400004, 0x00820018, 0x00002012, 0x1000fffc, 0x2442ffff, 0x0c100018,
+    0x26100001, 0x0c100010, 0x24040020, 0x1611fff5, 0x02001025, 0x0c100010, 0x2404000a, 0x3c021000,
+    0x8fbf001c, 0x8c420000, 0x8fb10018, 0x8fb00014, 0x3042007f, 0x03e00008, 0x27bd0020,
+];
+
+/// The same program as gcc made it without optimization.
+const PRIMES_PLAIN: [u32; 208] = [
+    0x0c10008c, 0x00000000, 0x00402025, 0x24020003, 0x0000000c, 0x00000000, 0x24020001, 0x0000000c,
+    0x03e00008, 0x00000000, 0x24020002, 0x0000000c, 0x03e00008, 0x00000000, 0x00000000, 0x00000000,
+    0x27bdffe8, 0xafbf0014, 0xafbe0010, 0x03a0f025, 0xafc40018, 0x3c031000, 0x8c630000, 0x00000000,
+    0x00601025, 0x00021140, 0x00431823, 0x8fc20018, 0x00000000, 0x00621021, 0x3c011000, 0xac220000,
+    0x8fc40018, 0x0c10000a, 0x00000000, 0x00000000, 0x03c0e825, 0x8fbf0014, 0x8fbe0010, 0x27bd0018,
+    0x03e00008, 0x00000000, 0x27bdffe8, 0xafbf0014, 0xafbe0010, 0x03a0f025, 0xafc40018, 0x8fc20018,
+    0x00000000, 0x2c42000a, 0x14400009, 0x00000000, 0x8fc30018, 0x2402000a, 0x0062001b, 0x00001010,
+    0x00001012, 0x00402025, 0x0c10002a, 0x00000000, 0x8fc30018, 0x2402000a, 0x0062001b, 0x00001010,
+    0x24420030, 0x00402025, 0x0c100010, 0x00000000, 0x00000000, 0x03c0e825, 0x8fbf0014, 0x8fbe0010,
+    0x27bd0018, 0x03e00008, 0x00000000, 0x27bdfff0, 0xafbe000c, 0x03a0f025, 0xafc40010, 0x24020002,
+    0xafc20000, 0x1000000f, 0x00000000, 0x8fc30010, 0x8fc20000, 0x00000000, 0x0062001a, 0x00001010,
+    0x14400004, 0x00000000, 0x00001025, 0x1000000e, 0x00000000, 0x8fc20000, 0x00000000, 0x24420001,
+    0xafc20000, 0x8fc20000, 0x00000000, 0x00420018, 0x8fc20010, 0x00001812, 0x0043102a, 0x1040ffeb,
+    0x00000000, 0x24020001, 0x03c0e825, 0x8fbe000c, 0x27bd0010, 0x03e00008, 0x00000000, 0x27bdffe8,
+    0xafbf0014, 0xafbe0010, 0x03a0f025, 0xafc40018, 0x8fc20018, 0x00000000, 0x1040000e, 0x00000000,
+    0x8fc20018, 0x00000000, 0x2442ffff, 0x00402025, 0x0c10006f, 0x00000000, 0x00401825, 0x8fc20018,
+    0x00000000, 0x00620018, 0x00001012, 0x10000002, 0x00000000, 0x24020001, 0x03c0e825, 0x8fbf0014,
+    0x8fbe0010, 0x27bd0018, 0x03e00008, 0x00000000, 0x27bdffe0, 0xafbf001c, 0xafbe0018, 0x03a0f025,
+    0x24020002, 0xafc20014, 0x10000012, 0x00000000, 0x8fc40014, 0x0c10004b, 0x00000000, 0x10400009,
+    0x00000000, 0x8fc20014, 0x00000000, 0x00402025, 0x0c10002a, 0x00000000, 0x24040020, 0x0c100010,
+    0x00000000, 0x8fc20014, 0x00000000, 0x24420001, 0xafc20014, 0x8fc20014, 0x00000000, 0x28420064,
+    0x1440ffeb, 0x00000000, 0x2404000a, 0x0c100010, 0x00000000, 0xafc00010, 0x1000000e, 0x00000000,
+    0x8fc40010, 0x0c10006f, 0x00000000, 0x00402025, 0x0c10002a, 0x00000000, 0x24040020, 0x0c100010,
+    0x00000000, 0x8fc20010, 0x00000000, 0x24420001, 0xafc20010, 0x8fc20010, 0x00000000, 0x2c42000d,
+    0x1440ffef, 0x00000000, 0x2404000a, 0x0c100010, 0x00000000, 0x3c021000, 0x8c420000, 0x00000000,
+    0x3042007f, 0x03c0e825, 0x8fbf001c, 0x8fbe0018, 0x27bd0020, 0x03e00008, 0x00000000, 0x00000000,
+];
+
+/// What the same program prints where gcc made it for the host.
+const PRINTED: &str =
+    "2 3 5 7 11 13 17 19 23 29 31 37 41 43 47 53 59 61 67 71 73 79 83 89 97 \n1 1 2 6 24 120 720 5040 40320 362880 3628800 39916800 479001600 \n";
+
+/// The machine of some words prints what the host's program prints, and exits with its status.
+fn prints_primes(rt: &impl Abort, alloc: Global, words: &[u32]) -> Result<(), Fail> {
+    let Some(mut machine) = machine_of(alloc, words) else {
+        panic!(rt; "no machine");
+    };
+    let mut printed = Vec::new(alloc);
+    let mut event = Event::Went;
+    for _step in 0..1_000_000 {
+        event = machine.step();
+        match event {
+            Event::Went => {}
+            Event::Request(2) => {
+                for byte in machine.written() {
+                    printed.push(byte)?;
+                }
+            }
+            _ => break,
+        }
+    }
+    assert_eq!(rt; event, Event::Request(3));
+    assert_eq!(rt; machine.argument(), 87);
+    assert_eq!(rt; printed.as_slice(), PRINTED.as_bytes());
+    Ok(())
+}
+
+#[test]
+fn compiled_program(rt: HostRuntime) -> Result<(), Fail> {
+    prints_primes(&rt, rt.alloc(), &PRIMES)?;
+    prints_primes(&rt, rt.alloc(), &PRIMES_PLAIN)
+}
