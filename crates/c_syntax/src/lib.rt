@@ -6,7 +6,7 @@ mod read;
 mod state;
 mod tree;
 
-pub use c_expr::SynFault;
+pub use c_expr::{SynFault, parse_expr};
 pub use c_statement::{Statement, StatementNode};
 pub use machine::shift;
 pub use read::{one_unit, parse_unit};
