@@ -5,7 +5,7 @@ ghost use Rattle.c_declaration.specs.Grown.{grow_list, value_of, value_at, brace
 
 use crate::built::{Built, MOST_HEIGHT, greater};
 use crate::tree::{Initial, InitialNode};
-use c_expr::Expr;
+use c_expr::{Boxed, Expr};
 use c_lex::Place;
 use std::alloc::{AllocError, Global};
 use std::marker::Model;
@@ -32,24 +32,32 @@ impl Model for BuiltBraces {
 }
 
 /// An initializer that is an expression.
-fn value_at(expr: Built<Expr>) -> Built<Initial>
-    ensures { result ≡ value_at expr }
+fn value_at(alloc: Global, expr: Built<Expr>) -> Result<Built<Boxed<Initial>>, AllocError>
+    ensures { IfOk result (λ i. i ≡ value_at expr) }
 {
-    Built {
-        height: expr.height,
-        tree: Initial {
+    let height = expr.height;
+    let tree = Boxed::new(
+        alloc,
+        Initial {
             node: InitialNode::Value(expr.tree),
         },
-    }
+    )?;
+    Ok(Built { height, tree })
 }
 
 /// An initializer that is an expression, unless that is too high.
-pub fn value_of(expr: Option<Built<Expr>>) -> Option<Built<Initial>>
-    ensures { result ≡ value_of expr }
+pub fn value_of(
+    alloc: Global,
+    expr: Option<Built<Expr>>,
+) -> Result<Option<Built<Boxed<Initial>>>, AllocError>
+    ensures { IfOk result (λ i. i ≡ value_of expr) }
 {
     match expr {
-        Some(expr) => Some(value_at(expr)),
-        None => None,
+        Some(expr) => {
+            let value = value_at(alloc, expr)?;
+            Ok(Some(value))
+        }
+        None => Ok(None),
     }
 }
 
@@ -65,7 +73,10 @@ pub fn braces_of(alloc: Global, place: Place) -> Option<BuiltBraces>
 }
 
 /// A list in braces with an item more.
-fn longer(braces: BuiltBraces, item: Built<Initial>) -> Result<Option<BuiltBraces>, AllocError>
+fn longer(
+    braces: BuiltBraces,
+    item: Built<Boxed<Initial>>,
+) -> Result<Option<BuiltBraces>, AllocError>
     ensures { IfOk result (λ r. r ≡ grow_list 64 1 Item (Some braces) (Some item)) }
 {
     if item.height < MOST_HEIGHT {
@@ -74,7 +85,7 @@ fn longer(braces: BuiltBraces, item: Built<Initial>) -> Result<Option<BuiltBrace
             place,
             items: mut items,
         } = braces;
-        items.push(item.tree)?;
+        items.push(item.tree.into_inner())?;
         return Ok(Some(BuiltBraces {
             height: greater(height, item.height + 1),
             place,
@@ -87,7 +98,7 @@ fn longer(braces: BuiltBraces, item: Built<Initial>) -> Result<Option<BuiltBrace
 /// A list in braces with an item more, unless one of them is too high.
 pub fn item_of(
     braces: Option<BuiltBraces>,
-    item: Option<Built<Initial>>,
+    item: Option<Built<Boxed<Initial>>>,
 ) -> Result<Option<BuiltBraces>, AllocError>
     ensures { IfOk result (λ r. r ≡ item_of braces item) }
 {
@@ -101,8 +112,8 @@ pub fn item_of(
 }
 
 /// An initializer that is a list.
-fn list_of(braces: BuiltBraces) -> Option<Built<Initial>>
-    ensures { result ≡ closed_of (Some braces) }
+fn list_of(alloc: Global, braces: BuiltBraces) -> Result<Option<Built<Boxed<Initial>>>, AllocError>
+    ensures { IfOk result (λ i. i ≡ closed_of (Some braces)) }
 {
     let BuiltBraces {
         height,
@@ -110,22 +121,29 @@ fn list_of(braces: BuiltBraces) -> Option<Built<Initial>>
         items,
     } = braces;
     if height < MOST_HEIGHT {
-        return Some(Built {
-            height: height + 1,
-            tree: Initial {
+        let tree = Boxed::new(
+            alloc,
+            Initial {
                 node: InitialNode::Braces(place, items),
             },
-        });
+        )?;
+        return Ok(Some(Built {
+            height: height + 1,
+            tree,
+        }));
     }
-    None
+    Ok(None)
 }
 
 /// An initializer that is a list, unless that is too high.
-pub fn closed_of(braces: Option<BuiltBraces>) -> Option<Built<Initial>>
-    ensures { result ≡ closed_of braces }
+pub fn closed_of(
+    alloc: Global,
+    braces: Option<BuiltBraces>,
+) -> Result<Option<Built<Boxed<Initial>>>, AllocError>
+    ensures { IfOk result (λ i. i ≡ closed_of braces) }
 {
     match braces {
-        Some(braces) => list_of(braces),
-        None => None,
+        Some(braces) => list_of(alloc, braces),
+        None => Ok(None),
     }
 }

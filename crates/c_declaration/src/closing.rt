@@ -13,7 +13,7 @@ use crate::state::{DeclaratorParser, DeclaratorStep, Frame, Mode, Taking};
 use crate::step::Step;
 use crate::tree::{Declarator, Parameter};
 use crate::unnamed::around_of;
-use c_expr::{Abstract, Spec, Stack, SynFault};
+use c_expr::{Abstract, Boxed, Spec, Stack, SynFault};
 use c_lex::Place;
 use c_symbol::{BinaryOp, Symbol};
 use std::alloc::{AllocError, Global};
@@ -48,20 +48,22 @@ fn taken(taking: Taking, parameter: Option<Built<Parameter>>) -> Result<Taking, 
 }
 
 /// The `)` of parameters.
-pub fn called(taking: Taking, stack: Stack<Frame>) -> Result<DeclaratorStep, SynFault>
+pub fn called(
+    alloc: Global,
+    taking: Taking,
+    stack: Stack<Frame>,
+) -> Result<DeclaratorStep, SynFault>
     ensures { Answers result (called taking stack) }
 {
-    goes(
-        Mode::Direct(taking.stars, whole_function(taking.function)),
-        stack,
-    )
+    let d = whole_function(alloc, taking.function)?;
+    goes(Mode::Direct(taking.stars, d), stack)
 }
 
 /// A `)` behind a declarator with a name.
 fn named_closed(
     alloc: Global,
     frame: Frame,
-    d: Option<Built<Declarator>>,
+    d: Option<Built<Boxed<Declarator>>>,
     stack: Stack<Frame>,
 ) -> Result<DeclaratorStep, SynFault>
     ensures { Answers result (named_closed frame d stack) }
@@ -72,6 +74,7 @@ fn named_closed(
             stack,
         ),
         Frame::Parameter(taking, place, register, spec) => called(
+            alloc,
             taken(taking, named_of(place, register, spec, d))?,
             stack,
         ),
@@ -81,7 +84,7 @@ fn named_closed(
 /// A comma behind one.
 fn named_divided(
     frame: Frame,
-    d: Option<Built<Declarator>>,
+    d: Option<Built<Boxed<Declarator>>>,
     stack: Stack<Frame>,
     place: Place,
 ) -> Result<DeclaratorStep, SynFault>
@@ -101,7 +104,7 @@ fn behind_named_in(
     alloc: Global,
     frame: Frame,
     symbol: Symbol,
-    d: Option<Built<Declarator>>,
+    d: Option<Built<Boxed<Declarator>>>,
     stack: Stack<Frame>,
     place: Place,
 ) -> Result<DeclaratorStep, SynFault>
@@ -118,7 +121,7 @@ fn behind_named_in(
 pub fn behind_named(
     alloc: Global,
     symbol: Symbol,
-    d: Option<Built<Declarator>>,
+    d: Option<Built<Boxed<Declarator>>>,
     stack: Stack<Frame>,
     place: Place,
 ) -> Result<DeclaratorStep, SynFault>
@@ -150,6 +153,7 @@ fn void_alone(taking: &Taking, none: bool, spec: &Spec) -> bool
 
 /// The last parameter, unless it is `void` alone.
 fn unnamed_last(
+    alloc: Global,
     alone: bool,
     taking: Taking,
     parameter: Option<Built<Parameter>>,
@@ -158,9 +162,9 @@ fn unnamed_last(
     ensures { Answers result (unnamed_last alone taking parameter stack) }
 {
     if alone {
-        return called(taking, stack);
+        return called(alloc, taking, stack);
     }
-    called(taken(taking, parameter)?, stack)
+    called(alloc, taken(taking, parameter)?, stack)
 }
 
 /// A `)` behind a declarator without a name, which may be without tokens.
@@ -187,7 +191,7 @@ fn unnamed_closed(
                 return Err(SynFault::Syntax(place));
             }
             let alone = void_alone(&taking, none, &spec);
-            unnamed_last(alone, taking, unnamed_of(begun, spec, a), stack)
+            unnamed_last(alloc, alone, taking, unnamed_of(begun, spec, a), stack)
         }
     }
 }

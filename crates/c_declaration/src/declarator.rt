@@ -18,7 +18,7 @@ use crate::grown::{array_of, name_of, open_array_of, pointed};
 use crate::state::{Bounded, DeclaratorParser, DeclaratorStep, Frame, Mode, Taking};
 use crate::tree::Declarator;
 use crate::unnamed::{bounded_of, stars_of, unbounded_of};
-use c_expr::{Abstract, Grown, Least, Offered, Parser, Spec, Stack, SynFault, offer};
+use c_expr::{Abstract, Boxed, Grown, Least, Offered, Parser, Spec, Stack, SynFault, offer};
 use c_lex::{Keyword, Place};
 use c_symbol::{BinaryOp, LeafKind, Symbol, Terminal, TypeWord};
 use ldb_words::Text;
@@ -200,7 +200,10 @@ fn fronting(
 {
     match symbol {
         Symbol::Binary(BinaryOp::Multiply) => goes(Mode::Front(starred(stars, place)?), stack),
-        Symbol::Leaf(LeafKind::Name) => goes(Mode::Direct(stars, name_of(place, text)), stack),
+        Symbol::Leaf(LeafKind::Name) => goes(
+            Mode::Direct(stars, name_of(alloc, place, text)?),
+            stack,
+        ),
         Symbol::OpenParen => nesting(stack, stars, place),
         Symbol::OpenBracket => bounding_stars(alloc, stack, stars, place),
         Symbol::Word(TypeWord::Int) => wording(stack, stars, place),
@@ -216,7 +219,7 @@ fn directing(
     alloc: Global,
     stack: Stack<Frame>,
     stars: Option<Stars>,
-    d: Option<Built<Declarator>>,
+    d: Option<Built<Boxed<Declarator>>>,
     symbol: Symbol,
     place: Place,
 ) -> Result<DeclaratorStep, SynFault>
@@ -372,17 +375,23 @@ fn typed(
 }
 
 /// A `)` where a parameter may begin.
-fn closing(stack: Stack<Frame>, taking: Taking, place: Place) -> Result<DeclaratorStep, SynFault>
+fn closing(
+    alloc: Global,
+    stack: Stack<Frame>,
+    taking: Taking,
+    place: Place,
+) -> Result<DeclaratorStep, SynFault>
     ensures { Answers result (if taking.first then called taking stack else None) }
 {
     if taking.first {
-        return called(taking, stack);
+        return called(alloc, taking, stack);
     }
     Err(SynFault::Syntax(place))
 }
 
 /// A token where a parameter begins.
 fn parameters(
+    alloc: Global,
     stack: Stack<Frame>,
     taking: Taking,
     symbol: Symbol,
@@ -391,7 +400,7 @@ fn parameters(
     ensures { Answers result (parameters stack taking symbol place) }
 {
     match symbol {
-        Symbol::CloseParen => closing(stack, taking, place),
+        Symbol::CloseParen => closing(alloc, stack, taking, place),
         Symbol::Keyword(Keyword::Register) => goes(Mode::Registered(taking, place), stack),
         _ => typed(stack, taking, place, false, symbol, place),
     }
@@ -435,7 +444,7 @@ pub fn declarator_offer(
         Mode::Unnamed(a) => unnaming(alloc, stack, a, next.symbol, next.place),
         Mode::Bounding(before) => bounding(alloc, stack, before, next),
         Mode::Bound(before, parser) => bounding_by(alloc, stack, before, parser, next),
-        Mode::Parameters(taking) => parameters(stack, taking, next.symbol, next.place),
+        Mode::Parameters(taking) => parameters(alloc, stack, taking, next.symbol, next.place),
         Mode::Registered(taking, begun) => typed(
             stack,
             taking,

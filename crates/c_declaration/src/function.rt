@@ -6,6 +6,7 @@ ghost use Rattle.c_declaration.specs.Grown.{grow_list, function_of, taking_of};
 use crate::built::{Built, MOST_HEIGHT, greater};
 use crate::grown::begins;
 use crate::tree::{Declarator, DeclaratorNode, Parameter};
+use c_expr::Boxed;
 use c_lex::Place;
 use std::alloc::{AllocError, Global};
 use std::marker::Model;
@@ -35,17 +36,19 @@ impl Model for BuiltFunction {
 /// A function of this declarator, without parameters.
 pub fn function_of(
     alloc: Global,
-    d: Option<Built<Declarator>>,
+    d: Option<Built<Boxed<Declarator>>>,
 ) -> Result<Option<BuiltFunction>, AllocError>
     ensures { IfOk result (λ f. f ≡ function_of d) }
 {
     match d {
         Some(d) => {
             if d.height < MOST_HEIGHT {
+                let height = d.height + 1;
+                let declarator = d.tree.into_box();
                 return Ok(Some(BuiltFunction {
-                    height: d.height + 1,
-                    place: begins(&d.tree),
-                    declarator: Box::new(alloc, d.tree)?,
+                    height,
+                    place: begins(&declarator),
+                    declarator,
                     parameters: Vec::new(alloc),
                 }));
             }
@@ -97,8 +100,8 @@ pub fn taking_of(
 }
 
 /// The declarator of a function that is whole.
-fn whole(function: BuiltFunction) -> Built<Declarator>
-    ensures { result ≡ function }
+fn whole(alloc: Global, function: BuiltFunction) -> Result<Built<Boxed<Declarator>>, AllocError>
+    ensures { IfOk result (λ d. d ≡ function) }
 {
     let BuiltFunction {
         height,
@@ -106,20 +109,27 @@ fn whole(function: BuiltFunction) -> Built<Declarator>
         declarator,
         parameters,
     } = function;
-    Built {
-        height,
-        tree: Declarator {
+    let tree = Boxed::new(
+        alloc,
+        Declarator {
             node: DeclaratorNode::Function(place, declarator, parameters),
         },
-    }
+    )?;
+    Ok(Built { height, tree })
 }
 
 /// The declarator of a function that is whole, unless that is too high.
-pub fn whole_function(function: Option<BuiltFunction>) -> Option<Built<Declarator>>
-    ensures { result ≡ function }
+pub fn whole_function(
+    alloc: Global,
+    function: Option<BuiltFunction>,
+) -> Result<Option<Built<Boxed<Declarator>>>, AllocError>
+    ensures { IfOk result (λ d. d ≡ function) }
 {
     match function {
-        Some(function) => Some(whole(function)),
-        None => None,
+        Some(function) => {
+            let whole = whole(alloc, function)?;
+            Ok(Some(whole))
+        }
+        None => Ok(None),
     }
 }

@@ -7,7 +7,7 @@ ghost use Rattle.c_declaration.specs.Grown.{taller, name_of, parens_of, array_of
 use crate::built::{Built, greater, taller};
 use crate::front::Stars;
 use crate::tree::{Declarator, DeclaratorNode, Parameter, ParameterNode};
-use c_expr::{Abstract, Expr, Spec};
+use c_expr::{Abstract, Boxed, Expr, Spec};
 use c_lex::Place;
 use ldb_words::Text;
 use std::alloc::{AllocError, Global};
@@ -26,10 +26,15 @@ pub fn begins(d: &Declarator) -> Place
 }
 
 /// A declarator one higher than its parts.
-fn declarator_of(height: u32, node: DeclaratorNode) -> Option<Built<Declarator>>
-    ensures { result ≡ taller height (tree_of node) }
+fn declarator_of(
+    alloc: Global,
+    height: u32,
+    node: DeclaratorNode,
+) -> Result<Option<Built<Boxed<Declarator>>>, AllocError>
+    ensures { IfOk result (λ r. r ≡ taller height (tree_of node)) }
 {
-    taller(height, Declarator { node })
+    let tree = Boxed::new(alloc, Declarator { node })?;
+    Ok(taller(height, tree))
 }
 
 /// A parameter one higher than its parts.
@@ -40,25 +45,30 @@ fn parameter_of(height: u32, node: ParameterNode) -> Option<Built<Parameter>>
 }
 
 /// The declared name.
-pub fn name_of(place: Place, text: Text) -> Option<Built<Declarator>>
-    ensures { result ≡ name_of place text }
+pub fn name_of(
+    alloc: Global,
+    place: Place,
+    text: Text,
+) -> Result<Option<Built<Boxed<Declarator>>>, AllocError>
+    ensures { IfOk result (λ r. r ≡ name_of place text) }
 {
-    declarator_of(0, DeclaratorNode::Name(place, text))
+    declarator_of(alloc, 0, DeclaratorNode::Name(place, text))
 }
 
 /// A declarator in parentheses.
 pub fn parens_of(
     alloc: Global,
     place: Place,
-    d: Option<Built<Declarator>>,
-) -> Result<Option<Built<Declarator>>, AllocError>
+    d: Option<Built<Boxed<Declarator>>>,
+) -> Result<Option<Built<Boxed<Declarator>>>, AllocError>
     ensures { IfOk result (λ r. r ≡ parens_of place d) }
 {
     match d {
-        Some(d) => Ok(declarator_of(
+        Some(d) => declarator_of(
+            alloc,
             d.height,
-            DeclaratorNode::Parens(place, Box::new(alloc, d.tree)?),
-        )),
+            DeclaratorNode::Parens(place, d.tree.into_box()),
+        ),
         None => Ok(None),
     }
 }
@@ -66,24 +76,27 @@ pub fn parens_of(
 /// An array with a bound.
 fn array_with(
     alloc: Global,
-    d: Built<Declarator>,
+    d: Built<Boxed<Declarator>>,
     bound: Built<Expr>,
-) -> Result<Option<Built<Declarator>>, AllocError>
+) -> Result<Option<Built<Boxed<Declarator>>>, AllocError>
     ensures { IfOk result (λ r. r ≡ array_of (Some d) (Some bound)) }
 {
-    let place = begins(&d.tree);
-    Ok(declarator_of(
-        greater(d.height, bound.height),
-        DeclaratorNode::Array(place, Box::new(alloc, d.tree)?, Some(bound.tree)),
-    ))
+    let height = greater(d.height, bound.height);
+    let tree = d.tree.into_box();
+    let place = begins(&tree);
+    declarator_of(
+        alloc,
+        height,
+        DeclaratorNode::Array(place, tree, Some(bound.tree)),
+    )
 }
 
 /// An array with a bound, unless a part is too high.
 pub fn array_of(
     alloc: Global,
-    d: Option<Built<Declarator>>,
+    d: Option<Built<Boxed<Declarator>>>,
     bound: Option<Built<Expr>>,
-) -> Result<Option<Built<Declarator>>, AllocError>
+) -> Result<Option<Built<Boxed<Declarator>>>, AllocError>
     ensures { IfOk result (λ r. r ≡ array_of d bound) }
 {
     match d {
@@ -98,17 +111,16 @@ pub fn array_of(
 /// An array without a bound.
 pub fn open_array_of(
     alloc: Global,
-    d: Option<Built<Declarator>>,
-) -> Result<Option<Built<Declarator>>, AllocError>
+    d: Option<Built<Boxed<Declarator>>>,
+) -> Result<Option<Built<Boxed<Declarator>>>, AllocError>
     ensures { IfOk result (λ r. r ≡ open_array_of d) }
 {
     match d {
         Some(d) => {
-            let place = begins(&d.tree);
-            Ok(declarator_of(
-                d.height,
-                DeclaratorNode::Array(place, Box::new(alloc, d.tree)?, None),
-            ))
+            let height = d.height;
+            let tree = d.tree.into_box();
+            let place = begins(&tree);
+            declarator_of(alloc, height, DeclaratorNode::Array(place, tree, None))
         }
         None => Ok(None),
     }
@@ -118,22 +130,23 @@ pub fn open_array_of(
 fn higher_pointers(
     alloc: Global,
     stars: Stars,
-    d: Built<Declarator>,
-) -> Result<Option<Built<Declarator>>, AllocError>
+    d: Built<Boxed<Declarator>>,
+) -> Result<Option<Built<Boxed<Declarator>>>, AllocError>
     ensures { IfOk result (λ r. r ≡ higher_pointers stars d) }
 {
-    Ok(declarator_of(
+    declarator_of(
+        alloc,
         greater(2, d.height),
-        DeclaratorNode::Pointers(stars.place, stars.count, Box::new(alloc, d.tree)?),
-    ))
+        DeclaratorNode::Pointers(stars.place, stars.count, d.tree.into_box()),
+    )
 }
 
 /// A declarator behind its `*`, if there are some.
 pub fn pointed(
     alloc: Global,
     stars: Option<Stars>,
-    d: Option<Built<Declarator>>,
-) -> Result<Option<Built<Declarator>>, AllocError>
+    d: Option<Built<Boxed<Declarator>>>,
+) -> Result<Option<Built<Boxed<Declarator>>>, AllocError>
     ensures { IfOk result (λ r. r ≡ pointed stars d) }
 {
     match stars {
@@ -150,14 +163,14 @@ pub fn named_of(
     place: Place,
     register: bool,
     spec: Spec,
-    d: Option<Built<Declarator>>,
+    d: Option<Built<Boxed<Declarator>>>,
 ) -> Option<Built<Parameter>>
     ensures { result ≡ named_of place register spec d }
 {
     match d {
         Some(d) => parameter_of(
             d.height,
-            ParameterNode::Named(place, register, spec, d.tree),
+            ParameterNode::Named(place, register, spec, d.tree.into_inner()),
         ),
         None => None,
     }

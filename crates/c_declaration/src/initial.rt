@@ -10,7 +10,7 @@ use crate::built::{Built, expr_of};
 use crate::state::{InitialMode, InitialParser, InitialStep, OpenBraces};
 use crate::step::Step;
 use crate::tree::Initial;
-use c_expr::{Least, Offered, Parser, Stack, SynFault, offer};
+use c_expr::{Boxed, Least, Offered, Parser, Stack, SynFault, offer};
 use c_lex::Place;
 use c_symbol::{BinaryOp, Symbol, Terminal};
 use std::alloc::Global;
@@ -24,9 +24,10 @@ fn goes(mode: InitialMode, stack: Stack<OpenBraces>) -> Result<InitialStep, SynF
 
 /// The token behind an item of a list.
 fn done_in(
+    alloc: Global,
     waiting: OpenBraces,
     symbol: Symbol,
-    item: Option<Built<Initial>>,
+    item: Option<Built<Boxed<Initial>>>,
     stack: Stack<OpenBraces>,
     place: Place,
 ) -> Result<InitialStep, SynFault>
@@ -41,7 +42,7 @@ fn done_in(
         }
         Symbol::CloseBrace => {
             let list = item_of(waiting.list, item)?;
-            goes(InitialMode::Done(closed_of(list)), stack)
+            goes(InitialMode::Done(closed_of(alloc, list)?), stack)
         }
         _ => Err(SynFault::Syntax(place)),
     }
@@ -49,8 +50,9 @@ fn done_in(
 
 /// The token behind an initializer.
 fn done(
+    alloc: Global,
     symbol: Symbol,
-    item: Option<Built<Initial>>,
+    item: Option<Built<Boxed<Initial>>>,
     stack: Stack<OpenBraces>,
     place: Place,
 ) -> Result<InitialStep, SynFault>
@@ -58,7 +60,7 @@ fn done(
 {
     let mut stack = stack;
     match stack.pop() {
-        Some(waiting) => done_in(waiting, symbol, item, stack, place),
+        Some(waiting) => done_in(alloc, waiting, symbol, item, stack, place),
         None => Ok(Step::Ends(item)),
     }
 }
@@ -76,7 +78,10 @@ fn valuing(
     let place = next.place;
     match offer(alloc, parser, Least::Assignment, next)? {
         Offered::Goes(parser) => goes(InitialMode::Value(parser), stack),
-        Offered::Ends(value) => done(symbol, value_of(expr_of(value.tree)), stack, place),
+        Offered::Ends(value) => {
+            let value = value_of(alloc, expr_of(value.tree))?;
+            done(alloc, symbol, value, stack, place)
+        }
     }
 }
 
@@ -115,12 +120,12 @@ fn wanting(alloc: Global, stack: Stack<OpenBraces>, next: Terminal) -> Result<In
 }
 
 /// The `}` behind a comma.
-fn closed(stack: Stack<OpenBraces>, place: Place) -> Result<InitialStep, SynFault>
+fn closed(alloc: Global, stack: Stack<OpenBraces>, place: Place) -> Result<InitialStep, SynFault>
     ensures { Answers result (closed (first stack) (drop 1 stack)) }
 {
     let mut stack = stack;
     match stack.pop() {
-        Some(waiting) => goes(InitialMode::Done(closed_of(waiting.list)), stack),
+        Some(waiting) => goes(InitialMode::Done(closed_of(alloc, waiting.list)?), stack),
         None => Err(SynFault::Syntax(place)),
     }
 }
@@ -130,7 +135,7 @@ fn another(alloc: Global, stack: Stack<OpenBraces>, next: Terminal) -> Result<In
     ensures { Answers result (another stack next) }
 {
     if is_close_brace(next.symbol) {
-        return closed(stack, next.place);
+        return closed(alloc, stack, next.place);
     }
     wanting(alloc, stack, next)
 }
@@ -148,7 +153,7 @@ pub fn initial_offer(
         InitialMode::Want => wanting(alloc, stack, next),
         InitialMode::Another => another(alloc, stack, next),
         InitialMode::Value(parser) => valuing(alloc, stack, parser, next),
-        InitialMode::Done(item) => done(next.symbol, item, stack, next.place),
+        InitialMode::Done(item) => done(alloc, next.symbol, item, stack, next.place),
     }
 }
 

@@ -10,21 +10,21 @@ use crate::name::name_offer;
 use crate::state::{LocalFront, LocalParser, LocalStep, NameParser, ReadLocal, ReadName};
 use crate::step::Step;
 use crate::tree::{Declarator, Declared, Initial, Local};
-use c_expr::{Spec, SynFault};
+use c_expr::{Boxed, Spec, SynFault};
 use c_lex::{Keyword, Place};
 use c_symbol::{BinaryOp, LeafKind, Symbol, Terminal, TypeWord};
 use ldb_words::{Many, Text};
 use std::alloc::{AllocError, Global};
 
 /// A name without an initializer.
-fn bare_of(d: Option<Built<Declarator>>) -> Option<Built<Declared>>
+fn bare_of(d: Option<Built<Boxed<Declarator>>>) -> Option<Built<Declared>>
     ensures { result ≡ bare_of d }
 {
     match d {
         Some(d) => Some(Built {
             height: d.height,
             tree: Declared {
-                declarator: d.tree,
+                declarator: d.tree.into_inner(),
                 initial: None,
             },
         }),
@@ -33,20 +33,23 @@ fn bare_of(d: Option<Built<Declarator>>) -> Option<Built<Declared>>
 }
 
 /// A name with an initializer.
-fn with_both(d: Built<Declarator>, initial: Built<Initial>) -> Option<Built<Declared>>
+fn with_both(d: Built<Boxed<Declarator>>, initial: Built<Boxed<Initial>>) -> Option<Built<Declared>>
     ensures { result ≡ grow_two name_with (Some d) (Some initial) }
 {
     taller(
         greater(d.height, initial.height),
         Declared {
-            declarator: d.tree,
-            initial: Some(initial.tree),
+            declarator: d.tree.into_inner(),
+            initial: Some(initial.tree.into_inner()),
         },
     )
 }
 
 /// A name with an initializer, unless one of them is too high.
-fn with_of(d: Option<Built<Declarator>>, initial: Option<Built<Initial>>) -> Option<Built<Declared>>
+fn with_of(
+    d: Option<Built<Boxed<Declarator>>>,
+    initial: Option<Built<Boxed<Initial>>>,
+) -> Option<Built<Declared>>
     ensures { result ≡ with_of d initial }
 {
     match d {

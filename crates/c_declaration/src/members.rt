@@ -10,7 +10,7 @@ use crate::local::is_int;
 use crate::state::{DeclaratorParser, MembersParser, MembersStep, RowMode, RowType};
 use crate::step::Step;
 use crate::tree::{Declarator, MemberPart};
-use c_expr::{Spec, SynFault};
+use c_expr::{Boxed, Spec, SynFault};
 use c_lex::Place;
 use c_symbol::{BinaryOp, LeafKind, Symbol, Terminal};
 use ldb_words::{Many, Text};
@@ -49,11 +49,11 @@ pub fn last<T: Drop>(list: Option<Many<T>>, item: Option<T>) -> Result<Option<Ma
 }
 
 /// The tree without its height.
-pub fn tree_in<T: Drop>(built: Option<Built<T>>) -> Option<T>
+pub fn tree_in<T: Drop>(built: Option<Built<Boxed<T>>>) -> Option<T>
     ensures { result ≡ tree_in built }
 {
     match built {
-        Some(built) => Some(built.tree),
+        Some(built) => Some(built.tree.into_inner()),
         None => None,
     }
 }

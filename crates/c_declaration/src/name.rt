@@ -9,7 +9,7 @@ use crate::initial::initial_offer;
 use crate::state::{DeclaratorParser, InitialParser, NameParser, NameStep, ReadName};
 use crate::step::Step;
 use crate::tree::Declarator;
-use c_expr::SynFault;
+use c_expr::{Boxed, SynFault};
 use c_symbol::{AssignOp, BinaryOp, Symbol, Terminal};
 use std::alloc::Global;
 
@@ -27,7 +27,7 @@ fn is_equals(symbol: Symbol) -> bool
 fn behind_declarator(
     alloc: Global,
     symbol: Symbol,
-    d: Option<Built<Declarator>>,
+    d: Option<Built<Boxed<Declarator>>>,
 ) -> Result<NameStep, SynFault>
     ensures { Answers result (behind_declarator symbol d) }
 {

@@ -8,7 +8,7 @@ use crate::step::Step;
 use crate::tree::{
     Declarator, Declared, FileSpec, FunctionHead, Head, Initial, Local, MemberPart, Storage,
 };
-use c_expr::{Abstract, Parser, Spec, Stack};
+use c_expr::{Abstract, Boxed, Parser, Spec, Stack};
 use c_lex::Place;
 use ldb_words::Many;
 
@@ -32,7 +32,7 @@ pub enum Frame {
 /// A declarator before a `[`.
 #[derive(Drop)]
 pub enum Bounded {
-    Named(Option<Stars>, Option<Built<Declarator>>),
+    Named(Option<Stars>, Option<Built<Boxed<Declarator>>>),
     Unnamed(Option<Built<Abstract>>),
 }
 
@@ -42,7 +42,7 @@ pub enum Mode {
     /// More `*`, or what follows them.
     Front(Option<Stars>),
     /// What follows a declarator with a name.
-    Direct(Option<Stars>, Option<Built<Declarator>>),
+    Direct(Option<Stars>, Option<Built<Boxed<Declarator>>>),
     /// What follows a declarator without a name that is more than some `*`.
     Unnamed(Option<Built<Abstract>>),
     /// A bound or a `]`.
@@ -65,7 +65,7 @@ pub struct DeclaratorParser {
 }
 
 /// What one token more of a declarator gives.
-pub type DeclaratorStep = Step<DeclaratorParser, Option<Built<Declarator>>>;
+pub type DeclaratorStep = Step<DeclaratorParser, Option<Built<Boxed<Declarator>>>>;
 
 /// A list of initializers that is open.
 #[derive(Drop)]
@@ -83,7 +83,7 @@ pub enum InitialMode {
     /// More of an expression.
     Value(Parser),
     /// What follows an initializer that is whole.
-    Done(Option<Built<Initial>>),
+    Done(Option<Built<Boxed<Initial>>>),
 }
 
 /// What was read of an initializer.
@@ -94,20 +94,20 @@ pub struct InitialParser {
 }
 
 /// What one token more of an initializer gives.
-pub type InitialStep = Step<InitialParser, Option<Built<Initial>>>;
+pub type InitialStep = Step<InitialParser, Option<Built<Boxed<Initial>>>>;
 
 /// What was read of a declared name.
 #[derive(Drop)]
 pub enum NameParser {
     Declarator(DeclaratorParser),
-    Initial(Option<Built<Declarator>>, InitialParser),
+    Initial(Option<Built<Boxed<Declarator>>>, InitialParser),
 }
 
 /// A declared name. Its parts are absent where they are too high.
 #[derive(Drop)]
 pub enum ReadName {
-    Bare(Option<Built<Declarator>>),
-    With(Option<Built<Declarator>>, Option<Built<Initial>>),
+    Bare(Option<Built<Boxed<Declarator>>>),
+    With(Option<Built<Boxed<Declarator>>>, Option<Built<Boxed<Initial>>>),
 }
 
 /// What one token more of a declared name gives.

@@ -103,6 +103,7 @@ fn deep_place(place: Place, brace: Place, head: &Option<Boxed<FunctionHead>>) ->
 
 /// One token more of a function's body was read.
 fn bodied(
+    alloc: Global,
     kept: Kept,
     place: Place,
     brace: Place,
@@ -120,10 +121,13 @@ fn bodied(
                 mode: Mode::Between,
             })
         }
-        mode => Ok(UnitParser {
-            kept,
-            mode: Mode::Body(place, brace, head, Reader { stack, mode }),
-        }),
+        mode => {
+            let reader = Boxed::new(alloc, Reader { stack, mode })?;
+            Ok(UnitParser {
+                kept,
+                mode: Mode::Body(place, brace, head, reader),
+            })
+        }
     }
 }
 
@@ -151,9 +155,10 @@ fn ended(alloc: Global, kept: Kept, head: ReadHead, last: Place) -> Result<UnitP
         }),
         ReadHead::Function(place, head) => {
             let head = boxed_head(alloc, head)?;
+            let reader = Boxed::new(alloc, Reader::begun(alloc, last))?;
             Ok(UnitParser {
                 kept,
-                mode: Mode::Body(place, last, head, Reader::begun(alloc, last)),
+                mode: Mode::Body(place, last, head, reader),
             })
         }
     }
@@ -187,8 +192,8 @@ pub fn shift(alloc: Global, parser: UnitParser, next: Terminal) -> Result<UnitPa
         Mode::Between => headed(alloc, kept, FileParser::Begin, next),
         Mode::Heading(parser) => headed(alloc, kept, parser.into_inner(), next),
         Mode::Body(place, brace, head, reader) => {
-            let reader = shift_block(alloc, reader, next)?;
-            bodied(kept, place, brace, head, reader)
+            let reader = shift_block(alloc, reader.into_inner(), next)?;
+            bodied(alloc, kept, place, brace, head, reader)
         }
     }
 }

@@ -22,7 +22,7 @@ pub enum Mode {
     /// What goes on with a declaration, or with what stands before a function's body
     Heading(Boxed<FileParser>),
     /// What goes on with a function's body: where the definition and its `{` begin, and what stands before that
-    Body(Place, Place, Option<Boxed<FunctionHead>>, Reader),
+    Body(Place, Place, Option<Boxed<FunctionHead>>, Boxed<Reader>),
 }
 
 /// What was read so far of a unit.

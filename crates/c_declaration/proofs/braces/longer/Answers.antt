@@ -13,7 +13,8 @@ returns-then-item-lt-MOST_HEIGHT c =
     let height_of : Built InitialTree → ℕ = λ b. b.height in
     ap₂ made
     (ap (with_items f) c.in_ok-push.ensures.items
-    ∙ one_more_item f c.braces.inside.items.items c.args.item.tree
-    ∙ ap (λ t. Item t c.args.item.tree) (ap tree_of c.braces.view_is))
+    ∙ one_more_item f c.braces.inside.items.items c.into_inner.result
+    ∙ ap (λ t. Item t c.into_inner.result) (ap tree_of c.braces.view_is)
+    ∙ ap (Item c.args.braces.tree) c.into_inner.ensures)
     (c.greater.ensures ∙ ap (λ h. max h (c.args.item.height + 1)) (ap height_of c.braces.view_is))
     ∙ sym (if_true (nat_lt c.args.item.height 64) _ _ (le-leb (suc c.args.item.height) 64 c.if-item-lt-MOST_HEIGHT.true))
