@@ -1,0 +1,10 @@
+pub mod Comparing
+pub mod Items
+pub mod Counted
+pub mod Described
+pub mod Deep
+pub mod Aligned
+pub mod Same
+pub mod Setting
+pub mod Settled
+pub mod Completed

@@ -1,0 +1,5 @@
+pub mod Numbers
+pub mod Members
+pub mod Depths
+pub mod Leaves
+pub mod Kept
