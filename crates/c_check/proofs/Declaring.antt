@@ -18,7 +18,7 @@ use Rattle.c_statement.specs.Tree.{StatementTree, Empty, Evaluate, Begun, Declar
 use Rattle.c_statement.specs.declared.tree.Head.TheVariants as head
 use Rattle.c_syntax.specs.declared.tree.External.{External}
 use Rattle.c_syntax.specs.declared.tree.External.TheVariants.{Declaration, Definition}
-use Rattle.c_judge.specs.Judgement.{deepest}
+use Rattle.c_defs.specs.Depths.{deepest}
 use Rattle.c_typing.specs.Plain as plain
 use Rattle.c_scope.specs.Declarators as shape
 use Rattle.c_file.specs.Programs.{Fault, Rule, Twice, Undefined, NoMain, Faults, AllFiles, Well, at_first, tags_of}

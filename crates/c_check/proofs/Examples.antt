@@ -16,7 +16,7 @@ use Rattle.c_declaration.specs.declared.tree.Storage.TheVariants as storage
 use Rattle.c_statement.specs.Tree.{StatementTree, Evaluate, Begun, Also, Closed, Return}
 use Rattle.c_syntax.specs.declared.tree.External.{External}
 use Rattle.c_syntax.specs.declared.tree.External.TheVariants.{Declaration, Definition}
-use Rattle.c_judge.specs.Judgement.{deepest}
+use Rattle.c_defs.specs.Depths.{deepest}
 use Rattle.c_typing.specs.Plain as plain
 use Rattle.c_scope.specs.Declarators as shape
 use Rattle.c_file.specs.Programs.{Fault, Rule, Twice, Undefined, NoMain, Faults, FaultsBehind, AllFiles, at_first, tags_of}

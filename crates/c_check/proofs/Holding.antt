@@ -7,12 +7,13 @@ use Rattle.c_tree.specs.declared.rows.Start.TheVariants.{Number}
 use Rattle.c_tree.specs.declared.rows.ObjectRow.{ObjectRow}
 use Rattle.c_tree.specs.declared.types.StructDef.{StructDef}
 use Rattle.c_typing.specs.Plain.{Plain, plain}
-use Rattle.c_judge.specs.Judgement.{deepest}
+use Rattle.c_defs.specs.Depths.{deepest}
 use Rattle.c_file.specs.declared.definitions.Definition.{Definition}
 use Rattle.c_check.specs.declared.places.Places.{Places}
 use Rattle.c_check.specs.declared.object_rows.Starts.{Starts as Kept}
 use Rattle.c_file.specs.Names.{defining}
-use Rattle.c_initial.specs.Begins.{Bits, leaf_count, zeros}
+use Rattle.c_initial.specs.Begins.{Bits, zeros}
+use Rattle.c_defs.specs.Leaves.{leaf_count}
 use Rattle.c_check.specs.Placed.{start_by}
 use Rattle.c_check.specs.Objects.{Said, object_said, said_by, said_all}
 

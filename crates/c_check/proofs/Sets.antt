@@ -3,8 +3,8 @@ use Rattle.std.proofs.Common.{◌≡◌, ◌<◌, ◌≤◌, ◌+◌, ℕ, zero,
 use Rattle.std.proofs.Math.Seq.{drop-cons}
 use Rattle.std.specs.Map.{update}
 use Rattle.std.specs.Option.{is_some}
-use Rattle.c_judge.specs.declared.numbers.Numbers.{Numbers}
-use Rattle.c_judge.specs.Numbers.{number_in}
+use Rattle.c_defs.specs.declared.numbers.Numbers.{Numbers}
+use Rattle.c_defs.specs.Numbers.{number_in}
 use Rattle.c_file.specs.declared.definitions.Definition.{Definition}
 use Rattle.c_file.specs.Names.{defining, defines, is_defined, AreWithin}
 use Rattle.c_scope.specs.NumberedNames.{has_name}

@@ -1,6 +1,6 @@
 -- Numbers of the names at file scope by their linkage.
 use Rattle.std.specs.Prelude.{ℕ, Bool, not, ◌&&◌, ◌==◌, if◌then◌else◌, List, Option, bytes_eq}
-use Rattle.c_judge.specs.Numbers.{number_in}
+use Rattle.c_defs.specs.Numbers.{number_in}
 use Rattle.c_check.specs.declared.linked.LinkedNumbers.{LinkedNumbers}
 use Rattle.c_file.specs.FileNumbers.{number_at}
 

@@ -2,8 +2,8 @@
 ghost use Rattle.std.specs.Prelude.{◌≡◌, ◌++◌, ◌∷◌, ℕ, List, map, length, replicate, option_map, IfOk};
 ghost use Rattle.c_tree.specs.declared.rows.Start.TheVariants.{Number};
 ghost use Rattle.c_typing.specs.Plain.{plain};
-ghost use Rattle.c_judge.specs.Judgement.{deepest};
-ghost use Rattle.c_initial.specs.Begins.{leaf_count};
+ghost use Rattle.c_defs.specs.Depths.{deepest};
+ghost use Rattle.c_defs.specs.Leaves.{leaf_count};
 ghost use Rattle.c_file.specs.FileNumbers.{number_at};
 ghost use Rattle.c_file.specs.Names.{defining};
 ghost use Rattle.c_initial.specs.Starts.{begin_of};

@@ -19,7 +19,8 @@ use Rattle.c_judge.specs.declared.fault.Fault.{Fault}
 use Rattle.c_judge.specs.declared.fault.Fault.TheVariants as fault
 use Rattle.c_judge.specs.Answers.{Answer, Known, Unknown, Broken, ◌then◌}
 use Rattle.c_judge.specs.Judges.{IsFault}
-use Rattle.c_judge.specs.Judgement.{Verdict, judged, spec_type, pointer, pointers, array, bound, limited, starred, stars_of, is_within, deepest}
+use Rattle.c_judge.specs.Judgement.{Verdict, judged, spec_type, pointer, pointers, array, bound, limited, starred, stars_of}
+use Rattle.c_defs.specs.Depths.{is_within, deepest}
 use Rattle.c_judge.specs.Places.{place_of}
 use Rattle.c_scope.specs.Findings.{Finding, Fine, fine, nothing, holds, asked, ◌beside◌}
 use Rattle.c_scope.specs.Environment.{Environment, scope_of, struct_of}

@@ -4,7 +4,7 @@ use Rattle.std.proofs.lemmas.Slice.Eq.{bytes_eq-Decides}
 use Rattle.std.specs.Map.{update}
 use denote.Ref.{Bor}
 use Rattle.c_typing.specs.Declared.{is_named}
-use Rattle.c_judge.specs.Scope.{number_from, first_number}
+use Rattle.c_defs.specs.Numbers.{number_from, first_number}
 use Rattle.c_mentions.specs.Tags.{now, each_once}
 
 named_none : (n : ℕ) (xs : List (List ℕ)) (t : List ℕ) → number_from n xs t ≡ None → is_named xs t ≡ false

@@ -1,6 +1,6 @@
 -- The numbers that the code's names at file scope keep of their rows.
 use Rattle.std.specs.Prelude.{◌≡◌, ◌<◌, ℕ, true, Bool, if◌then◌else◌, List, map, reverse, length, Option, Some, None, option_map, slice_get}
-use Rattle.c_judge.specs.Numbers.{number_in}
+use Rattle.c_defs.specs.Numbers.{number_in}
 use Rattle.c_file.specs.declared.file_names.FileName.{FileName as Row}
 use Rattle.c_file.specs.declared.file_names.FileNames.TheInside.{Inside}
 use Rattle.c_scope.specs.Here.{meaning_of}

@@ -2,7 +2,7 @@
 ghost use Rattle.std.specs.Prelude.{◌≡◌, ◌<◌, ℕ, true, if◌then◌else◌, List, [], ◌∷◌, ◌++◌, map, reverse, option_map, bytes_eq, Some, IfOk, OnOk, OnErr};
 ghost use Rattle.std.specs.Map.{update};
 ghost use Rattle.std.specs.Vec.{vec_len, vec_capacity};
-ghost use Rattle.c_judge.specs.Numbers.{number_in};
+ghost use Rattle.c_defs.specs.Numbers.{number_in};
 ghost use Rattle.c_scope.specs.Here.{meaning_of};
 ghost use Rattle.c_file.specs.Names.{is_here, is_external, name_found, one_linkage, one_type};
 ghost use Rattle.c_file.specs.FileNames.{file_name, IsDeclared, AreConsistent};

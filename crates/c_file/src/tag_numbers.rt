@@ -1,6 +1,6 @@
 // The tags of a program with their numbers.
 ghost use Rattle.std.specs.Prelude.{◌≡◌, ◌∷◌, ◌++◌, [], map, IfOk, OnOk};
-ghost use Rattle.c_judge.specs.Numbers.{Finds};
+ghost use Rattle.c_defs.specs.Numbers.{Finds};
 ghost use Rattle.c_mentions.specs.Tags.{now, in_all, in_external, each_once};
 ghost use Rattle.c_file.specs.Programs.{externals_of, tags_of};
 

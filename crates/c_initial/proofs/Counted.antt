@@ -3,7 +3,7 @@ use Rattle.std.proofs.Common.{arith, ◌≡◌, ◌≢◌, ◌-◌, ◌*◌, ℕ
 use Rattle.c_tree.specs.declared.types.StructDef.{StructDef}
 use Rattle.c_tree.specs.Layout.{members_of}
 use Rattle.c_typing.specs.Plain.{Plain, Array, Struct}
-use Rattle.c_initial.specs.Begins.{leaf_count, leaves_of_members}
+use Rattle.c_defs.specs.Leaves.{leaf_count, leaves_of_members}
 
 pub array_count : (defs : List StructDef) (deep : ℕ) (t : Plain) (n : ℕ) → deep ≢ 0 → leaf_count defs deep (Array t n) ≡ n * leaf_count defs (deep - 1) t
 array_count defs zero t n h = absurd (h refl)

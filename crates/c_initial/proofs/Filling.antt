@@ -10,12 +10,13 @@ use Rattle.c_tree.specs.Layout.{members_of}
 use Rattle.c_typing.specs.Plain.{Plain, Char, Int, Unsigned, Void, Pointer, Array, Struct, plain, is_struct, is_complete}
 use Rattle.c_judge.specs.Answers.{Known, Unknown, Broken}
 use Rattle.c_judge.specs.Places.{place_of}
-use Rattle.c_judge.specs.Judgement.{deepest, is_within, are_within}
+use Rattle.c_defs.specs.Depths.{deepest, is_within, are_within}
 use Rattle.c_scope.specs.Findings.{Finding, nothing, fine, ◌beside◌, holds}
 use Rattle.c_scope.specs.Spelling.{initial_at}
 use Rattle.c_scope.specs.Environment.{Environment}
 use Rattle.c_initial.specs.Initials.{Spot, spot, text_of, number, fits, rule_of, is_aggregate, count_of, part_of, value_found, initial_found}
-use Rattle.c_initial.specs.Begins.{Begin, Bits, Text, leaf_count, leaves_of_members, zeros, zeros_of_members, rest, behind_items, bits_of, character, characters, spot_begin, address_begin, value_begins, strings_of, items_begin, begins_of}
+use Rattle.c_initial.specs.Begins.{Begin, Bits, Text, zeros, zeros_of_members, rest, behind_items, bits_of, character, characters, spot_begin, address_begin, value_begins, strings_of, items_begin, begins_of}
+use Rattle.c_defs.specs.Leaves.{leaf_count, leaves_of_members}
 use Rattle.c_initial.specs.Filled.{IsInitial, IsList, AreComplete, AreWhole}
 
 and_left : (a b : Bool) → (a && b) ≡ true → a ≡ true

@@ -11,7 +11,7 @@ use Rattle.c_judge.specs.declared.part.Constant.{Constant}
 use Rattle.c_judge.specs.declared.part.Constant.TheVariants.{Number}
 use Rattle.c_judge.specs.Values.{size_of}
 use Rattle.c_judge.specs.Answers.{Answer, Known, Unknown, Broken}
-use Rattle.c_judge.specs.Judgement.{deepest}
+use Rattle.c_defs.specs.Depths.{deepest}
 use Rattle.c_scope.specs.Environment.{Environment}
 use Rattle.c_mentions.specs.Literals.{in_tree, texts}
 use Rattle.c_initial.specs.Initials.{Spot, spot, text_of, number, count_of, part_of}

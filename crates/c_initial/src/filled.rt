@@ -2,11 +2,12 @@
 ghost use Rattle.std.specs.Prelude.{◌≡◌, ℕ, true, length};
 ghost use Rattle.c_declaration.specs.InitialTree.{InitialTree};
 ghost use Rattle.c_typing.specs.Plain.{Plain, is_complete};
-ghost use Rattle.c_judge.specs.Judgement.{deepest, is_within};
+ghost use Rattle.c_defs.specs.Depths.{deepest, is_within};
 ghost use Rattle.c_scope.specs.Environment as around;
 ghost use Rattle.c_scope.specs.Findings.{nothing};
 ghost use Rattle.c_initial.specs.Initials.{initial_found};
-ghost use Rattle.c_initial.specs.Begins.{leaf_count, begins_of};
+ghost use Rattle.c_initial.specs.Begins.{begins_of};
+ghost use Rattle.c_defs.specs.Leaves.{leaf_count};
 ghost use Rattle.c_initial.specs.Filled.{IsInitial, AreWhole};
 
 /// An initializer in which nothing is wrong gives each leaf of its object what it holds at first, and no more.

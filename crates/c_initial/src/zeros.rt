@@ -1,8 +1,9 @@
 // Zeros in static objects: one for each leaf without an initializer (C90 6.5.7).
 ghost use Rattle.std.specs.Prelude.{◌≡◌, ◌<◌, ◌+◌, ◌*◌, ◌^◌, ◌++◌, map, replicate, IfOk, OnOk};
 ghost use Rattle.c_typing.specs.Plain.{plain};
-ghost use Rattle.c_judge.specs.Judgement.{deepest};
-ghost use Rattle.c_initial.specs.Begins.{Bits, leaf_count, leaves_of_members, zeros_of_members, rest};
+ghost use Rattle.c_defs.specs.Depths.{deepest};
+ghost use Rattle.c_initial.specs.Begins.{Bits, zeros_of_members, rest};
+ghost use Rattle.c_defs.specs.Leaves.{leaf_count, leaves_of_members};
 ghost use Rattle.c_initial.specs.Starts.{begin_of};
 
 use crate::starts::Begin;

@@ -8,7 +8,7 @@ use Rattle.c_tree.specs.declared.typed.Typed.TheVariants.{Name, Literal}
 use Rattle.c_judge.specs.declared.part.Part.{Part}
 use Rattle.c_judge.specs.declared.fault.Fault.{Fault}
 use Rattle.c_judge.specs.declared.scope.Scope.{Scope as Names}
-use Rattle.c_judge.specs.Numbers.{number_in}
+use Rattle.c_defs.specs.Numbers.{number_in}
 use Rattle.c_judge.specs.Scope.{Scope}
 use Rattle.c_judge.specs.Judgement.{named, folded, integer_type, leaf_of}
 use Rattle.c_judge.specs.Answers.{Known}

@@ -18,7 +18,8 @@ use Rattle.c_judge.specs.declared.part.Constant.{Constant}
 use Rattle.c_judge.specs.declared.part.Constant.TheVariants.{Variable, Undefined, Number}
 use Rattle.c_judge.specs.Scope.{Scope, defs_of}
 use Rattle.c_judge.specs.Answers.{Answer, Known, Unknown, Broken, ◌then◌, two, both_known}
-use Rattle.c_judge.specs.Judgement.{Judged, Verdict, Callee, by_rule, judged, calling, within, callee, callee_by, callee_named, name_alone, called, asked, unasked, with_argument, without_arguments, named, leaf_of, indexed, stepped, sized, prefixed, assigned, compound_of, joined, member_of, chosen_of, cast_to, pointer, pointers, limited, array, bound, bounded, starred, stars_of, spec_type, folded, string_of, value, operands, are_scalars, result_of, result_type, deepest, is_within}
+use Rattle.c_judge.specs.Judgement.{Judged, Verdict, Callee, by_rule, judged, calling, within, callee, callee_by, callee_named, name_alone, called, asked, unasked, with_argument, without_arguments, named, leaf_of, indexed, stepped, sized, prefixed, assigned, compound_of, joined, member_of, chosen_of, cast_to, pointer, pointers, limited, array, bound, bounded, starred, stars_of, spec_type, folded, string_of, value, operands, are_scalars, result_of, result_type}
+use Rattle.c_defs.specs.Depths.{deepest, is_within}
 use Rattle.c_judge.specs.Values.{size_of}
 use Rattle.c_judge.specs.Places.{place_of}
 use Rattle.c_judge.specs.Forms.{first_of, unknown, unknown_leaf, unless_numbered}

@@ -24,7 +24,8 @@ use Rattle.c_tree.specs.declared.typed.Typed.TheVariants.{Comma', Assign', Choic
 use Rattle.c_tree.specs.Types.{type_of, head_of}
 use Rattle.c_tree.specs.Rows.{exprs}
 use Rattle.c_typing.specs.Plain.{Plain, plain, value_type}
-use Rattle.c_judge.specs.Scope.{Scope, defs_of, member_number, pointed_number}
+use Rattle.c_judge.specs.Scope.{Scope, defs_of, pointed_number}
+use Rattle.c_defs.specs.Members.{member_number}
 use Rattle.c_judge.specs.Places.{place_of}
 use Rattle.c_judge.specs.Answers.{Known}
 use Rattle.c_judge.specs.Judgement.{Verdict, judged, declared, name_alone, spec_type, step_of, compound_of}

@@ -31,7 +31,9 @@ use Rattle.c_typing.specs.Rules.{Operand, value_of, may_drop, unary_type, follow
 use Rattle.c_typing.specs.Expressions.{Denoted, Object, Function, name_type}
 use Rattle.c_judge.specs.declared.part.Constant.{Constant}
 use Rattle.c_judge.specs.declared.part.Constant.TheVariants.{Variable, Number}
-use Rattle.c_judge.specs.Scope.{Scope, defs_of, member_number, pointed_number}
+use Rattle.c_judge.specs.Scope.{Scope, defs_of, pointed_number}
+use Rattle.c_defs.specs.Depths.{deepest, is_within}
+use Rattle.c_defs.specs.Members.{member_number}
 use Rattle.c_judge.specs.Places.{place_of}
 use Rattle.c_judge.specs.Answers.{Answer, Known, Unknown, Broken, ◌then◌, two, three}
 use Rattle.c_judge.specs.Values.{is_unsigned, size_of, with_one, combined, turned, converted, chosen, both, either, is_null}
@@ -74,23 +76,6 @@ by_rule r at f None = Broken r at
 by_rule r at f (Some t) = Known (f t)
 
 -- ---- names of types (C90 6.5.4, 6.5.5)
-
--- whether the types of a struct's members are so
-abbrev pub are_within : (Plain → Bool) → List MemberRow → Bool
-are_within f [] = true
-are_within f (m ∷ ms) = f (plain m.ctype) && are_within f ms
-
--- a type is at most so deep: a pointer to a struct is 1 deep, and another pointer, an array and a struct are one deeper than what they point to or hold
-abbrev pub is_within : List StructDef → ℕ → Plain → Bool
-is_within defs zero t = false
-is_within defs (suc deep) (Pointer t) = is_struct t || is_within defs deep t
-is_within defs (suc deep) (Array t n) = is_within defs deep t
-is_within defs (suc deep) (Struct s) = are_within (is_within defs deep) (members_of defs s)
-is_within defs (suc deep) _ = true
-
--- how deep a type may be
-unfoldable pub deepest : ℕ
-deepest = 64
 
 -- 1. A type has a depth of at most 64, and at most 1,048,576 bytes.
 abbrev pub limited : List StructDef → (at : ℕ) → Plain → Answer Plain

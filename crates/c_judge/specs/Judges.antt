@@ -15,7 +15,7 @@ use Rattle.c_judge.specs.declared.fault.Fault.{Fault}
 use Rattle.c_judge.specs.declared.fault.Fault.TheVariants as fault
 use Rattle.c_judge.specs.declared.symbol.Symbol.{Symbol}
 use Rattle.c_judge.specs.declared.scope.Scope.{Scope as Names}
-use Rattle.c_judge.specs.Numbers.{number_in}
+use Rattle.c_defs.specs.Numbers.{number_in}
 use Rattle.c_judge.specs.Scope.{Scope, or_else_number}
 use Rattle.c_judge.specs.Answers.{Answer, Known, Unknown, Broken}
 use Rattle.c_judge.specs.Judgement.{Verdict, judged}
@@ -38,7 +38,7 @@ known (Some ps) = ps
 -- the scope that the checker is given
 abbrev pub scope_of : Names → Scope
 scope_of v = record {
-  among = record { names = denoted_all v.rows.now v.parameters.now; defs = v.defs.now; strings = [] };
+  among = record { names = denoted_all v.rows.now v.parameters.now; defs = v.defs; strings = [] };
   number = number_in v.names.now;
   tag = λ t. or_else_number v.incomplete (number_in v.tags.now t);
   literal = λ at. or_else_number 0 (get nat_cmp v.literals.now at);

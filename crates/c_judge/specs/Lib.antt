@@ -1,7 +1,6 @@
 pub mod Scope
 pub mod Values
 pub mod Targets
-pub mod Numbers
 pub mod Answers
 pub mod Places
 pub mod Judgement

@@ -2,7 +2,8 @@
 use Rattle.std.specs.Prelude.{ℕ, false, List, [], map}
 use Rattle.c_tree.specs.declared.types.StructDef.{StructDef}
 use Rattle.c_judge.specs.declared.symbol.Symbol.{Symbol}
-use Rattle.c_judge.specs.Scope.{Scope, first_number, tagged}
+use Rattle.c_judge.specs.Scope.{Scope, tagged}
+use Rattle.c_defs.specs.Numbers.{first_number}
 use Rattle.c_judge.specs.Judges.{denoted_all}
 
 abbrev pub symbol_name : Symbol → List ℕ

@@ -93,7 +93,7 @@ fn declared<'a, 'n>(
 ) -> Result<CType, Fault>
     ensures { (j : Answer Plain) → Denotes j t → Denotes (declared (scope_of v.now) at d.now j) result }
 {
-    let t = starred(alloc, v.defs, at, d.stars, t);
+    let t = starred(alloc, &v.defs, at, d.stars, t);
     let t = within_bounds(alloc, v, at, &d.bounds, t);
     match &d.inner {
         None => t,

@@ -1,9 +1,9 @@
 // Forms of expressions beside the operators: which node they make of their parts.
-ghost use Rattle.std.specs.Prelude.{◌≡◌, Some, None, map};
+ghost use Rattle.std.specs.Prelude.{◌≡◌, Some, None};
 ghost use Rattle.c_typing.specs.Plain.{plain, value_type};
 ghost use Rattle.c_tree.specs.Types.{type_of};
 ghost use Rattle.c_symbol.specs.declared.symbol.Access.TheVariants as access;
-ghost use Rattle.c_judge.specs.Scope.{member_number, pointed_number, first_number, name_of, in_word};
+ghost use Rattle.c_judge.specs.Scope.{pointed_number};
 ghost use Rattle.c_judge.specs.Judgement.{indexed, stepped, cast_to, sized, chosen_of, member_of};
 ghost use Rattle.c_judge.specs.Elaboration.{IsParen, IsIndex, IsMember, IsAfter, IsChoice, IsCast, IsSizeOfType};
 ghost use Rattle.c_judge.specs.Answers.{Known};
@@ -15,11 +15,12 @@ use crate::limits::size_within;
 use crate::operators::{OBJECT, VALUE, head, part_of, step_of};
 use crate::part::{Constant, Facts, Part};
 use crate::rules::{arrow_type, cast_type, choice_type, dot_type, index_type, step_type, type_of};
-use crate::types::{copied, is_complete, members, target};
+use crate::types::{copied, is_complete, target};
 use crate::values::{chosen, converted};
+use c_defs::StructsView;
 use c_lex::Place;
 use c_symbol::{Access, Step};
-use c_tree::{CType, Member, StructDef, Typed};
+use c_tree::{CType, StructDef, Typed};
 use std::alloc::Global;
 
 /// `(a)`
@@ -46,28 +47,24 @@ pub fn index(alloc: Global, defs: &[StructDef], at: Place, x: Part, y: Part) -> 
     part_of(alloc, Typed::Index(head(at, t), x.typed, y.typed), OBJECT)
 }
 
-/// The number of the member with a name, in the struct that a type is.
-fn member_number(defs: &[StructDef], t: &CType, name: &[u8]) -> Option<u32>
-    ensures { result ≡ member_number defs.now (plain t.now) name.now }
-{
-    match t {
-        CType::Struct(s) => number_among(members(defs, *s), name),
-        _ => None,
-    }
-}
-
 /// `a.m`
 #[tactic(auto, using(crate::proofs::Wholly::makes_part))]
-fn dot(alloc: Global, defs: &[StructDef], at: Place, name: &[u8], x: Part) -> Result<Part, Fault>
+fn dot<'n>(
+    alloc: Global,
+    defs: &StructsView<'_, 'n>,
+    at: Place,
+    name: &'n [u8],
+    x: Part,
+) -> Result<Part, Fault>
     ensures { Makes (member_of defs.now at.at access.Dot name.now (judged_of x)) (IsMember defs.now access.Dot name.now x.typed.value) at result }
 {
-    let Some(m) = member_number(defs, type_of(&x), name) else {
+    let Some(m) = defs.member_number(type_of(&x), name) else {
         return Err(Fault::Rule {
             rule: 26,
             at: at.at,
         });
     };
-    let Some(t) = dot_type(alloc, defs, &x, m)? else {
+    let Some(t) = dot_type(alloc, defs.defs(), &x, m)? else {
         return Err(Fault::Rule {
             rule: 26,
             at: at.at,
@@ -77,18 +74,24 @@ fn dot(alloc: Global, defs: &[StructDef], at: Place, name: &[u8], x: Part) -> Re
 }
 
 /// The number of the member with a name, in the struct that a value of this type points to.
-fn pointed_number(defs: &[StructDef], t: &CType, name: &[u8]) -> Option<u32>
+fn pointed_number<'n>(defs: &StructsView<'_, 'n>, t: &CType, name: &'n [u8]) -> Option<u32>
     ensures { result ≡ pointed_number defs.now (value_type (plain t.now)) name.now }
 {
     match target(t) {
         None => None,
-        Some(t) => member_number(defs, t, name),
+        Some(t) => defs.member_number(t, name),
     }
 }
 
 /// `a->m`
 #[tactic(auto, using(crate::proofs::Wholly::makes_part))]
-fn arrow(alloc: Global, defs: &[StructDef], at: Place, name: &[u8], x: Part) -> Result<Part, Fault>
+fn arrow<'n>(
+    alloc: Global,
+    defs: &StructsView<'_, 'n>,
+    at: Place,
+    name: &'n [u8],
+    x: Part,
+) -> Result<Part, Fault>
     ensures { Makes (member_of defs.now at.at access.Arrow name.now (judged_of x)) (IsMember defs.now access.Arrow name.now x.typed.value) at result }
 {
     let Some(m) = pointed_number(defs, type_of(&x), name) else {
@@ -97,7 +100,7 @@ fn arrow(alloc: Global, defs: &[StructDef], at: Place, name: &[u8], x: Part) -> 
             at: at.at,
         });
     };
-    let Some(t) = arrow_type(alloc, defs, &x, m)? else {
+    let Some(t) = arrow_type(alloc, defs.defs(), &x, m)? else {
         return Err(Fault::Rule {
             rule: 27,
             at: at.at,
@@ -107,12 +110,12 @@ fn arrow(alloc: Global, defs: &[StructDef], at: Place, name: &[u8], x: Part) -> 
 }
 
 /// `a.m` or `a->m`
-pub fn member(
+pub fn member<'n>(
     alloc: Global,
-    defs: &[StructDef],
+    defs: &StructsView<'_, 'n>,
     at: Place,
     access: Access,
-    name: &[u8],
+    name: &'n [u8],
     x: Part,
 ) -> Result<Part, Fault>
     ensures { Makes (member_of defs.now at.at access name.now (judged_of x)) (IsMember defs.now access name.now x.typed.value) at result }
@@ -216,16 +219,4 @@ pub fn size_of_type(alloc: Global, defs: &[StructDef], at: Place, t: CType) -> R
             constant: Constant::Number(size),
         },
     )
-}
-
-/// The number of the first member with a name.
-fn number_among(members: &[Member], name: &[u8]) -> Option<u32>
-    ensures { result ≡ in_word (first_number (map name_of members.now) name.now) }
-{
-    for i in 0..members.len() {
-        if members[i].name.as_bytes() == name {
-            return u32::try_from(i).ok();
-        }
-    }
-    None
 }

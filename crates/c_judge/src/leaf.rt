@@ -8,7 +8,7 @@ ghost use Rattle.c_judge.specs.declared.part.Constant.TheVariants.{Number};
 ghost use Rattle.c_judge.specs.Elaboration.{IsConstant, IsLiteral, IsNamed};
 ghost use Rattle.c_judge.specs.Answers.{Known};
 ghost use Rattle.c_judge.specs.Judges.{Judges, Makes, Tells, scope_of};
-ghost use Rattle.c_judge.specs.Numbers.{number_in};
+ghost use Rattle.c_defs.specs.Numbers.{number_in};
 
 use crate::fault::Fault;
 use crate::operators::{head, part_of};

@@ -2,14 +2,15 @@
 ghost use Rattle.std.specs.Prelude.{◌≡◌, Some, None};
 ghost use Rattle.c_typing.specs.Plain.{plain};
 ghost use Rattle.c_judge.specs.Values.{size_of as bytes_of};
-ghost use Rattle.c_judge.specs.Judgement.{deepest, is_within, are_within, limited, pointer, pointers, array, bounded};
+ghost use Rattle.c_judge.specs.Judgement.{limited, pointer, pointers, array, bounded};
 ghost use Rattle.c_judge.specs.Parts.{IsWithinSize, IsBound, judged_of};
 ghost use Rattle.c_judge.specs.Judges.{Denotes};
 
 use crate::fault::Fault;
 use crate::part::{Constant, Part};
-use crate::types::{array_of, is_complete, is_struct, is_void, members, pointer_to};
-use c_tree::{CType, Member, StructDef, size_of};
+use crate::types::{array_of, is_complete, is_void, pointer_to};
+use c_defs::StructsView;
+use c_tree::{CType, StructDef, size_of};
 use std::alloc::Global;
 
 /// The size of a type, where it is at most 1,048,576 bytes.
@@ -20,55 +21,18 @@ pub fn size_within(defs: &[StructDef], t: &CType) -> Option<u32>
     size_of(t, defs).ok()
 }
 
-/// Whether a type is at most so deep.
-#[cycle(depth)]
-fn is_within(defs: &[StructDef], deep: u32, t: &CType) -> bool
-    ensures { result ≡ is_within defs.now deep (plain t.now) }
-{
-    if deep == 0 {
-        return false;
-    }
-    match t {
-        CType::Pointer(target) => is_struct(target) || is_within(defs, deep - 1, target),
-        CType::Array(item, _) => is_within(defs, deep - 1, item),
-        CType::Struct(s) => are_within(defs, deep - 1, members(defs, *s)),
-        CType::Char | CType::Int | CType::Unsigned | CType::Void => true,
-    }
-}
-
-/// Whether the types of a struct's members are at most so deep.
-#[cycle(depth)]
-fn are_within(defs: &[StructDef], deep: u32, members: &[Member]) -> bool
-    ensures { result ≡ are_within (is_within defs.now deep) members.now }
-{
-    for member in members {
-        if !is_within(defs, deep, &member.ctype) {
-            return false;
-        }
-    }
-    true
-}
-
-/// Whether a type is at most 64 deep.
-#[tactic(auto, unfolding(crate::specs::Judgement::deepest))]
-fn is_shallow(defs: &[StructDef], t: &CType) -> bool
-    ensures { result ≡ is_within defs.now deepest (plain t.now) }
-{
-    is_within(defs, 64, t)
-}
-
 /// A type that is at most 64 deep and has at most 1,048,576 bytes.
-pub fn limited(defs: &[StructDef], at: u32, t: CType) -> Result<CType, Fault>
+pub fn limited(defs: &StructsView<'_, '_>, at: u32, t: CType) -> Result<CType, Fault>
     ensures { Denotes (limited defs.now at (plain t)) result }
 {
-    if is_shallow(defs, &t) && size_within(defs, &t).is_some() {
+    if defs.is_shallow(&t) && size_within(defs.defs(), &t).is_some() {
         return Ok(t);
     }
     Err(Fault::Rule { rule: 1, at })
 }
 
 /// A pointer to a type, which is not `void`.
-pub fn pointer(alloc: Global, defs: &[StructDef], at: u32, t: CType) -> Result<CType, Fault>
+pub fn pointer(alloc: Global, defs: &StructsView<'_, '_>, at: u32, t: CType) -> Result<CType, Fault>
     ensures { Denotes (pointer defs.now at (plain t)) result }
 {
     if is_void(&t) {
@@ -81,7 +45,7 @@ pub fn pointer(alloc: Global, defs: &[StructDef], at: u32, t: CType) -> Result<C
 #[tactic(auto, using(crate::proofs::Pointing::pointers_next, crate::proofs::Pointing::pointers_fail))]
 pub fn pointers(
     alloc: Global,
-    defs: &[StructDef],
+    defs: &StructsView<'_, '_>,
     at: u32,
     n: u64,
     t: CType,
@@ -116,10 +80,16 @@ fn bound(constant: Constant) -> Option<u32>
 }
 
 /// So many items of a complete type.
-pub fn array(alloc: Global, defs: &[StructDef], at: u32, t: CType, n: u32) -> Result<CType, Fault>
+pub fn array(
+    alloc: Global,
+    defs: &StructsView<'_, '_>,
+    at: u32,
+    t: CType,
+    n: u32,
+) -> Result<CType, Fault>
     ensures { Denotes (array defs.now at (plain t) n) result }
 {
-    if !is_complete(defs, &t) {
+    if !is_complete(defs.defs(), &t) {
         return Err(Fault::Rule { rule: 2, at });
     }
     limited(defs, at, array_of(alloc, t, n)?)
@@ -128,7 +98,7 @@ pub fn array(alloc: Global, defs: &[StructDef], at: u32, t: CType, n: u32) -> Re
 /// So many items of a type, by a bound that is a part and begins at its own place.
 pub fn bounded(
     alloc: Global,
-    defs: &[StructDef],
+    defs: &StructsView<'_, '_>,
     at: u32,
     bound_at: u32,
     t: CType,

@@ -22,9 +22,10 @@ use crate::operators::{joined, prefixed};
 use crate::pairs::pair;
 use crate::part::Part;
 use crate::scope::Scope;
+use c_defs::StructsView;
 use c_lex::Place;
 use c_symbol::{Access, BinaryOp, PrefixOp, Step};
-use c_tree::{CType, StructDef};
+use c_tree::CType;
 use std::alloc::Global;
 
 /// `(a)`
@@ -43,13 +44,13 @@ pub fn at_member<'a, 'n>(
     v: &Scope<'a, 'n>,
     at: Place,
     access: Access,
-    name: &[u8],
+    name: &'n [u8],
     x: Result<Part, Fault>,
 ) -> Result<Part, Fault>
     ensures { (a : Tree) (q : Place) → Judges (scope_of v.now) a x → Judges (scope_of v.now) (tree.Member at a access q name.now) result }
 {
     match x {
-        Ok(x) => member(alloc, v.defs, at, access, name, x),
+        Ok(x) => member(alloc, &v.defs, at, access, name, x),
         Err(f) => Err(f),
     }
 }
@@ -65,7 +66,7 @@ pub fn at_after<'a, 'n>(
     ensures { (a : Tree) → Judges (scope_of v.now) a x → Judges (scope_of v.now) (tree.After at a step) result }
 {
     match x {
-        Ok(x) => after(alloc, v.defs, at, step, x),
+        Ok(x) => after(alloc, v.defs.defs(), at, step, x),
         Err(f) => Err(f),
     }
 }
@@ -81,7 +82,7 @@ pub fn at_prefix<'a, 'n>(
     ensures { (a : Tree) → Judges (scope_of v.now) a x → Judges (scope_of v.now) (tree.Prefix at op a) result }
 {
     match x {
-        Ok(x) => prefixed(alloc, v.defs, at, op, x),
+        Ok(x) => prefixed(alloc, v.defs.defs(), at, op, x),
         Err(f) => Err(f),
     }
 }
@@ -96,7 +97,7 @@ pub fn at_size<'a, 'n>(
     ensures { (s : Spec) (d : Tree) → Denotes (declared (scope_of v.now) at.at d (Known (spec_type (scope_of v.now) s))) t → Judges (scope_of v.now) (tree.SizeofType at s d) result }
 {
     match t {
-        Ok(t) => size_of_type(alloc, v.defs, at, t),
+        Ok(t) => size_of_type(alloc, v.defs.defs(), at, t),
         Err(f) => Err(f),
     }
 }
@@ -112,7 +113,7 @@ pub fn at_index<'a, 'n>(
     ensures { (a b : Tree) → Judges (scope_of v.now) a x → Judges (scope_of v.now) b y → Judges (scope_of v.now) (tree.Index at a b) result }
 {
     match pair(x, y) {
-        Ok((x, y)) => index(alloc, v.defs, at, x, y),
+        Ok((x, y)) => index(alloc, v.defs.defs(), at, x, y),
         Err(f) => Err(f),
     }
 }
@@ -129,7 +130,7 @@ pub fn at_binary<'a, 'n>(
     ensures { (a b : Tree) → Judges (scope_of v.now) a x → Judges (scope_of v.now) b y → Judges (scope_of v.now) (tree.Binary at op a b) result }
 {
     match pair(x, y) {
-        Ok((x, y)) => joined(alloc, v.defs, at, op, x, y),
+        Ok((x, y)) => joined(alloc, v.defs.defs(), at, op, x, y),
         Err(f) => Err(f),
     }
 }
@@ -176,7 +177,7 @@ fn chosen(alloc: Global, at: Place, first: (Part, Part), y: Part) -> Result<Part
 /// The pointers that a declarator's `*` make.
 pub fn starred(
     alloc: Global,
-    defs: &[StructDef],
+    defs: &StructsView<'_, '_>,
     at: u32,
     n: u64,
     t: Result<CType, Fault>,
@@ -211,7 +212,7 @@ pub fn at_bound<'a, 'n>(
     ensures { (j : Answer Plain) (e : Tree) → bound_at ≡ (place_of e).at → Denotes j t → Judges (scope_of v.now) e x → Denotes (one_bound (scope_of v.now) at (Some e) j) result }
 {
     match pair(t, x) {
-        Ok((t, x)) => bounded(alloc, v.defs, at, bound_at, t, &x),
+        Ok((t, x)) => bounded(alloc, &v.defs, at, bound_at, t, &x),
         Err(f) => Err(f),
     }
 }

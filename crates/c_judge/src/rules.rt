@@ -4,7 +4,8 @@ ghost use Rattle.c_tree.specs.Types.{type_of, head_of};
 ghost use Rattle.c_typing.specs.Plain.{plain, is_integer, is_pointer, value_type, Int};
 ghost use Rattle.c_judge.specs.Judgement.{object};
 ghost use Rattle.c_typing.specs.Rules as rule;
-ghost use Rattle.c_judge.specs.Scope.{member_number, pointed_number};
+ghost use Rattle.c_judge.specs.Scope.{pointed_number};
+ghost use Rattle.c_defs.specs.Members.{member_number};
 ghost use Rattle.c_judge.specs.Values.{is_null};
 ghost use Rattle.c_judge.specs.Parts.{operand_of, value_of, Gives};
 

@@ -1,8 +1,8 @@
 // What an expression stands among.
 
-use crate::numbers::Numbers;
 use crate::symbol::Symbol;
-use c_tree::{CType, StructDef};
+use c_defs::{Numbers, StructsView};
+use c_tree::CType;
 use ldb_words::Many;
 use std::collections::BTreeMap;
 
@@ -19,7 +19,7 @@ pub struct Scope<'a, 'n> {
     pub parameters: &'a [Many<CType>],
     /// The number of the string literal at each offset.
     pub literals: &'a BTreeMap<u32, u32>,
-    pub defs: &'a [StructDef],
+    pub defs: StructsView<'a, 'n>,
     /// Whether the parameters are known, so that calls are asked for them.
     pub asks: bool,
 }

@@ -1,13 +1,13 @@
 // The scope of an expression in a session.
 ghost use Rattle.std.specs.Prelude.{◌≡◌, ◌<◌, ◌^◌, [], length, map, IfOk};
 ghost use Rattle.c_judge.specs.Scope.{tag_of};
-ghost use Rattle.c_judge.specs.Numbers.{Finds};
+ghost use Rattle.c_defs.specs.Numbers.{Finds};
 ghost use Rattle.c_judge.specs.Session.{symbol_name, session};
 ghost use Rattle.c_judge.specs.Judges.{scope_of};
 
-use crate::numbers::Numbers;
 use crate::scope::Scope;
 use crate::symbol::Symbol;
+use c_defs::{Numbers, StructsView};
 use c_tree::StructDef;
 use std::alloc::{AllocError, Global};
 use std::collections::BTreeMap;
@@ -61,7 +61,7 @@ pub fn session_scope<'a, 'n>(
         rows: names,
         parameters: &[],
         literals,
-        defs,
+        defs: StructsView::of(defs),
         asks: false,
     }
 }

@@ -1,6 +1,6 @@
 // The tags of structs that a program mentions.
 ghost use Rattle.std.specs.Prelude.{◌≡◌, ◌++◌, ◌<◌, ◌^◌, length, map, IfOk, OnOk};
-ghost use Rattle.c_judge.specs.Numbers.{Finds};
+ghost use Rattle.c_defs.specs.Numbers.{Finds};
 ghost use Rattle.c_mentions.specs.Tags.{now, in_spec, in_tree, in_part, in_all, in_declarator, in_initial, in_declared, in_local, in_statement, in_member, in_file_spec, in_external, each_once};
 
 use c_declaration::{

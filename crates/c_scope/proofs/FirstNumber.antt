@@ -2,7 +2,7 @@
 use Rattle.std.proofs.Common.{◌≡◌, ℕ, suc, ◌<◌, List, length, drop, map, ◌∙◌, sym, ap, Option, Some, bytes_eq, slice_index_or, if◌then◌else◌}
 use Rattle.std.proofs.Math.Seq.{drop-cons}
 use Rattle.std.specs.Map.{update}
-use Rattle.c_judge.specs.Scope.{number_from}
+use Rattle.c_defs.specs.Numbers.{number_from}
 
 -- one name more in front
 pub numbered_more : {A : Type 0} (name : A → List ℕ) (xs : List A) (j : ℕ) (d : A) (text : List ℕ) (old new : List ℕ → Option ℕ) → j < length xs → text ≡ name (slice_index_or xs j d)

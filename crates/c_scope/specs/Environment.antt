@@ -3,7 +3,8 @@ use Rattle.std.specs.Prelude.{ℕ, suc, Bool, true, false, if◌then◌else◌, 
 use Rattle.c_tree.specs.declared.types.StructDef.{StructDef}
 use Rattle.c_typing.specs.Plain.{Plain}
 use Rattle.c_typing.specs.Expressions.{Denoted}
-use Rattle.c_judge.specs.Scope.{Scope, first_number, or_else_number}
+use Rattle.c_judge.specs.Scope.{Scope, or_else_number}
+use Rattle.c_defs.specs.Numbers.{first_number}
 
 -- a declared name: what it denotes, the number of the next name outward, the file that it stands in, and its number among its function's locals
 pub record Row : Type 0 where

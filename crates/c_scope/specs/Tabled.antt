@@ -1,6 +1,6 @@
 -- What the table's fields are.
 use Rattle.std.specs.Prelude.{◌≡◌, ◌≤◌, ℕ, List, [], ◌∷◌, length}
-use Rattle.c_judge.specs.Numbers.{number_in}
+use Rattle.c_defs.specs.Numbers.{number_in}
 use Rattle.c_scope.specs.declared.table.Shadowing.{Shadowing}
 use Rattle.c_scope.specs.declared.table.Table.TheInside.{Inside}
 use Rattle.c_scope.specs.Environment.{Visible, number_of}

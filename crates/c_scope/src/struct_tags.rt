@@ -1,6 +1,6 @@
 // The numbers of the structs that tags name.
 ghost use Rattle.std.specs.Prelude.{◌≡◌, ◌<◌, ◌^◌, ℕ, List, length, map, IfOk};
-ghost use Rattle.c_judge.specs.Numbers.{Finds};
+ghost use Rattle.c_defs.specs.Numbers.{Finds};
 ghost use Rattle.c_scope.specs.StructTags.{text};
 
 use c_judge::Numbers;
@@ -18,7 +18,7 @@ pub struct StructTags<'a> {
 
 impl<'a> Model for StructTags<'a> {
     ghost use Rattle.std.specs.Prelude.{◌≡◌, ℕ, List, length, map};
-    ghost use Rattle.c_judge.specs.Numbers.{Finds};
+    ghost use Rattle.c_defs.specs.Numbers.{Finds};
     ghost use Rattle.c_scope.specs.StructTags.{text};
 
     ghost Value = { List (List ℕ) };

@@ -5,7 +5,8 @@ use Rattle.c_tree.specs.declared.types.StructDef.{StructDef}
 use Rattle.c_tree.specs.Layout.{size_in}
 use Rattle.c_typing.specs.Plain.{Plain, Struct, plain}
 use Rattle.c_judge.specs.Answers.{Answer, Known, Unknown, Broken}
-use Rattle.c_judge.specs.Judgement.{deepest, is_within, limited}
+use Rattle.c_judge.specs.Judgement.{limited}
+use Rattle.c_defs.specs.Depths.{deepest, is_within}
 use Rattle.c_judge.specs.Values.{size_of}
 use Rattle.c_scope.specs.Findings.{Finding, nothing, fine}
 use Rattle.c_scope.specs.Environment.{Environment, struct_of}

@@ -2,8 +2,8 @@
 use Rattle.std.proofs.Common.{◌≡◌, ℕ, Bool, true, false, ◌||◌, List, ◌∙◌, refl, ap, Option, Some, bytes_eq, if◌then◌else◌}
 use Rattle.std.specs.Map.{update}
 use Rattle.std.specs.Option.{is_some}
-use Rattle.c_judge.specs.declared.numbers.Numbers.{Numbers}
-use Rattle.c_judge.specs.Numbers.{number_in}
+use Rattle.c_defs.specs.declared.numbers.Numbers.{Numbers}
+use Rattle.c_defs.specs.Numbers.{number_in}
 use Rattle.c_scope.specs.NumberedNames.{has_name}
 
 added : (b : Bool) (n : ℕ) (o : Option ℕ) → is_some (if b then Some n else o) ≡ (b || is_some o)

@@ -4,8 +4,8 @@ use Rattle.std.specs.Map.{update}
 use Rattle.c_tree.specs.declared.types.Member.{Member}
 use Rattle.c_tree.specs.declared.types.StructDef.{StructDef}
 use Rattle.c_typing.specs.Plain.{plain, same, is_complete}
-use Rattle.c_judge.specs.declared.numbers.Numbers.{Numbers}
-use Rattle.c_judge.specs.Numbers.{number_in}
+use Rattle.c_defs.specs.declared.numbers.Numbers.{Numbers}
+use Rattle.c_defs.specs.Numbers.{number_in}
 use Rattle.c_judge.specs.Answers.{Known, Broken}
 use Rattle.c_scope.specs.NumberedNames.{has_name}
 use Rattle.c_struct.proofs.NamesAdded.{name_added}

@@ -1,6 +1,6 @@
 use Rattle.std.proofs.Common.{◌≡◌, List, sym, subst, slice_get, false, arith}
 use Rattle.std.proofs.lemmas.Grind.{common_steps}
-use Rattle.c_judge.specs.declared.numbers.Numbers.{Numbers}
+use Rattle.c_defs.specs.declared.numbers.Numbers.{Numbers}
 use Rattle.c_check.specs.Sets.{in_file}
 use Rattle.c_check.proofs.Sets.{no_more}
 use Rattle.c_check.proofs.defined.none.Goals as goal

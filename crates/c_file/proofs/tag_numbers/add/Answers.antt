@@ -1,7 +1,7 @@
 use Rattle.std.proofs.Common.{◌≡◌, ◌∙◌, sym, ap, length, bytes_eq, Some, None, arith}
 use Rattle.std.specs.Map.{update}
 use Rattle.std.proofs.lemmas.Grind.{common_steps}
-use Rattle.c_judge.specs.Numbers.{number_in}
+use Rattle.c_defs.specs.Numbers.{number_in}
 use Rattle.c_file.proofs.Once.{tag_added, number_added}
 use Rattle.c_file.proofs.tag_numbers.add.Goals as goal
 

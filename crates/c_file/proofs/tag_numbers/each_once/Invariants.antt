@@ -1,5 +1,5 @@
 use Rattle.std.proofs.Common.{◌≡◌, [], map, drop}
-use Rattle.c_judge.specs.Numbers.{Finds}
+use Rattle.c_defs.specs.Numbers.{Finds}
 use Rattle.c_mentions.specs.Tags.{now, each_once}
 use Rattle.c_file.proofs.tag_numbers.each_once.Given as goal
 

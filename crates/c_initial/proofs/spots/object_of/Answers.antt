@@ -1,5 +1,5 @@
 use Rattle.std.proofs.Common.{◌≡◌, sym, ap, ◌∙◌, Some, slice_get}
-use Rattle.c_judge.specs.Numbers.{number_in}
+use Rattle.c_defs.specs.Numbers.{number_in}
 use Rattle.c_scope.specs.Environment.{number_of}
 use Rattle.c_scope.specs.Here.{environment_of}
 use Rattle.c_initial.specs.Spots.{object_in}

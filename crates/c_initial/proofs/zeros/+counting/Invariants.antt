@@ -1,5 +1,5 @@
 use Rattle.std.proofs.Common.{◌≡◌, ◌*◌, ◌+◌, drop}
-use Rattle.c_initial.specs.Begins.{leaf_count, leaves_of_members}
+use Rattle.c_defs.specs.Leaves.{leaf_count, leaves_of_members}
 use Rattle.c_initial.proofs.zeros.+counting.Given as goal
 
 abbrev pub decreases-count_within : goal.decreases-count_within

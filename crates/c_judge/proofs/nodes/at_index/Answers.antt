@@ -4,7 +4,7 @@ use Rattle.c_judge.proofs.Made.{index_judges, index_fails}
 use Rattle.c_judge.proofs.nodes.at_index.Goals as goal
 
 pub returns-in-Ok : goal.returns-in-Ok
-returns-in-Ok c = λ a b h k. index_judges (scope_of c.args.v.now) c.args.at a b c.args.x c.args.y c.in-Ok.x c.in-Ok.y c.index.result h k (sym c.pair.ensures ∙ c.in-Ok.is) c.index.ensures
+returns-in-Ok c = λ a b h k. index_judges (scope_of c.args.v.now) c.args.at a b c.args.x c.args.y c.in-Ok.x c.in-Ok.y c.index.result h k (sym c.pair.ensures ∙ c.in-Ok.is) (rw c.defs.ensures at c.index.ensures)
 
 pub returns-in-Err : goal.returns-in-Err
 returns-in-Err c = λ a b h k. index_fails (scope_of c.args.v.now) c.args.at a b c.args.x c.args.y c.in-Err.f h k (sym c.pair.ensures ∙ c.in-Err.is)

@@ -1,6 +1,6 @@
 use Rattle.std.proofs.Common.{◌≡◌, ◌≤◌, ℕ, List, length, drop, map}
-use Rattle.c_judge.specs.Numbers.{number_in}
-use Rattle.c_judge.specs.Scope.{number_from}
+use Rattle.c_defs.specs.Numbers.{number_in}
+use Rattle.c_defs.specs.Numbers.{number_from}
 use Rattle.c_judge.specs.Scope.{tag_of}
 use Rattle.c_judge.proofs.session.number_tags.Given as goal
 

@@ -1,6 +1,6 @@
 use Rattle.std.proofs.Common.{◌≡◌, ℕ, List, suc, ◌-◌, drop, map, subst, arith, ap, ◌∙◌}
-use Rattle.c_judge.specs.Numbers.{number_in}
-use Rattle.c_judge.specs.Scope.{number_from}
+use Rattle.c_defs.specs.Numbers.{number_in}
+use Rattle.c_defs.specs.Numbers.{number_from}
 use Rattle.c_scope.specs.StructTags.{text}
 use Rattle.c_scope.proofs.FirstNumber.{numbered_more}
 use Rattle.c_scope.proofs.struct_tags.numbered.Goals as goal

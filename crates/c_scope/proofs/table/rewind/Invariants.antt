@@ -1,5 +1,5 @@
 use Rattle.std.proofs.Common.{◌≡◌, ℕ, List, [], length}
-use Rattle.c_judge.specs.Numbers.{number_in}
+use Rattle.c_defs.specs.Numbers.{number_in}
 use Rattle.c_scope.specs.Environment.{number_of}
 use Rattle.c_scope.specs.Table.{outermost}
 use Rattle.c_scope.specs.Tabled.{visible_from, Hide}

@@ -3,7 +3,7 @@ use Rattle.std.proofs.lemmas.Grind.{common_steps}
 use Rattle.std.specs.Option.{is_some}
 use Rattle.std.specs.Map.{update}
 use Rattle.c_typing.specs.Plain.{plain, is_complete}
-use Rattle.c_judge.specs.Numbers.{number_in}
+use Rattle.c_defs.specs.Numbers.{number_in}
 use Rattle.c_struct.specs.declared.members.WrittenMember.{WrittenMember}
 use Rattle.c_struct.proofs.Opening.{object_added, names_added}
 use Rattle.c_struct.proofs.members.add_member.Goals as goal

@@ -1,6 +1,6 @@
 use Rattle.std.proofs.Common.{◌≡◌, ◌∷◌, ◌++◌, [], List, Some, true, length, sym, ap, subst, ◌∙◌, arith, bytes_eq, if◌then◌else◌}
 use Rattle.std.specs.Map.{update}
-use Rattle.c_judge.specs.Numbers.{number_in}
+use Rattle.c_defs.specs.Numbers.{number_in}
 use Rattle.c_file.specs.Names.{FileName, one_linkage, one_type}
 use Rattle.c_file.specs.FileNames.{file_name, AreConsistent}
 use Rattle.c_file.specs.FileNumbers.{number_at, with_number}

@@ -1,6 +1,6 @@
 use Rattle.std.proofs.Common.{[], length, ap, ◌∙◌}
 use Rattle.c_judge.specs.Scope.{or_else_number}
-use Rattle.c_judge.specs.Numbers.{number_in}
+use Rattle.c_defs.specs.Numbers.{number_in}
 use Rattle.c_judge.specs.Judges.{denoted_all}
 use Rattle.c_scope.proofs.Rowing.{rows_denote, scope_same}
 use Rattle.c_scope.proofs.environment.Environment.scope.Goals as goal

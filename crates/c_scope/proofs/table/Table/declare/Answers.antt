@@ -1,6 +1,6 @@
 use Rattle.std.proofs.Common.{arith, ◌≡◌, [], ◌∷◌, ◌++◌, length, length-append, sym, ap, ◌∙◌, subst}
 use Rattle.std.proofs.lemmas.Map.Text.{btree_map_updates_str}
-use Rattle.c_judge.specs.Numbers.{number_in}
+use Rattle.c_defs.specs.Numbers.{number_in}
 use Rattle.c_scope.specs.Environment.{number_of}
 use Rattle.c_scope.specs.Table.{AreBelow, with_name}
 use Rattle.c_scope.specs.Tabled.{visible_from, seen, Hide}
