@@ -12,7 +12,8 @@ ghost use Rattle.c_file.specs.Telling.{telling, linked_with, agrees_with, told_w
 
 use crate::file_numbers::FileNumbers;
 use crate::names::{agree_as, as_built_in, as_main, composite, copied_meaning, is_open};
-use c_judge::{Fault, Numbers};
+use c_defs::Numbers;
+use c_judge::Fault;
 use c_scope::Meaning;
 use ldb_words::Text;
 use std::alloc::{AllocError, Global};

@@ -4,7 +4,7 @@ ghost use Rattle.c_defs.specs.Numbers.{Finds};
 ghost use Rattle.c_mentions.specs.Tags.{now, in_all, in_external, each_once};
 ghost use Rattle.c_file.specs.Programs.{externals_of, tags_of};
 
-use c_judge::Numbers;
+use c_defs::Numbers;
 use c_mentions::in_externals;
 use c_syntax::Unit;
 use ldb_words::Text;

@@ -16,7 +16,7 @@ environment_of e = record {
   visible = e.table.visible;
   block = names_from e.table.start e.table.visible;
   locals = e.locals;
-  defs = e.defs.items;
+  defs = e.defs;
   tags = e.tags;
 }
 

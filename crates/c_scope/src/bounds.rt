@@ -23,7 +23,7 @@ pub fn with_bound<'a>(
 {
     let at = place_of(e).at;
     match judged_in(alloc, here, e) {
-        Ok(x) => bounded(alloc, &here.defs, at, at, t, &x),
+        Ok(x) => bounded(alloc, &here.defs.view(), at, at, t, &x),
         Err(Fault::Unknown { .. }) => Err(Fault::Rule { rule: 2, at }),
         Err(f) => Err(f),
     }
@@ -38,8 +38,8 @@ pub fn without_bound<'a>(
 ) -> Result<CType, Fault>
     ensures { Denotes (unbounded (environment_of here.now) at (plain t)) result }
 {
-    if !is_complete(&here.defs, &t) {
+    if !is_complete(here.defs.defs(), &t) {
         return Err(Fault::Rule { rule: 2, at });
     }
-    limited(&here.defs, at, array_of(alloc, t, 0)?)
+    limited(&here.defs.view(), at, array_of(alloc, t, 0)?)
 }

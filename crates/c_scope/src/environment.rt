@@ -16,8 +16,9 @@ use crate::link::Link;
 use crate::meaning::Meaning;
 use crate::struct_tags::StructTags;
 use crate::table::{Mark, Table};
+use c_defs::Structs;
 use c_judge::{Scope, Symbol};
-use c_tree::{CType, StructDef};
+use c_tree::CType;
 use ldb_words::{Many, Text};
 use std::alloc::{AllocError, Global};
 use std::collections::BTreeMap;
@@ -30,7 +31,7 @@ pub struct Environment<'a> {
     /// How many locals the function has so far.
     pub locals: u32,
     /// The structs, those that are complete here with their members.
-    pub defs: Vec<StructDef>,
+    pub defs: Structs<'a>,
     pub tags: StructTags<'a>,
 }
 
@@ -46,7 +47,7 @@ impl<'a> Environment<'a> {
             rows: self.table.symbols(),
             parameters: self.table.parameters(),
             literals,
-            defs: &self.defs,
+            defs: self.defs.view(),
             asks: true,
         }
     }

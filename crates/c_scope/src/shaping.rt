@@ -60,7 +60,7 @@ fn at_pointers<'a>(
 ) -> Result<Shape<'a>, Fault>
     ensures { Gives shape_of (shape (environment_of here.now) (tree.Pointers at n d.now) (plain t)) result }
 {
-    match pointers(alloc, &here.defs, at.at, n, t) {
+    match pointers(alloc, &here.defs.view(), at.at, n, t) {
         Ok(t) => shape(alloc, here, d, t),
         Err(f) => Err(f),
     }

@@ -3,7 +3,7 @@ ghost use Rattle.std.specs.Prelude.{◌≡◌, ◌<◌, ◌^◌, ℕ, List, leng
 ghost use Rattle.c_defs.specs.Numbers.{Finds};
 ghost use Rattle.c_scope.specs.StructTags.{text};
 
-use c_judge::Numbers;
+use c_defs::Numbers;
 use ldb_words::Text;
 use std::alloc::{AllocError, Global};
 use std::marker::Model;

@@ -9,7 +9,8 @@ ghost use Rattle.c_scope.specs.Table.{names_from, outermost, with_name, AreAlign
 ghost use Rattle.c_scope.specs.Tabled.{visible_from, Hide};
 
 use crate::link::Link;
-use c_judge::{Numbers, Symbol};
+use c_defs::Numbers;
+use c_judge::Symbol;
 use c_tree::CType;
 use ldb_words::Many;
 use std::alloc::{AllocError, Global};

@@ -26,7 +26,7 @@ pub fn unnamed<'a>(
 ) -> Result<CType, Fault>
     ensures { Denotes (unnamed (environment_of here.now) at d.now (plain t)) result }
 {
-    match pointers(alloc, &here.defs, at, d.stars, t) {
+    match pointers(alloc, &here.defs.view(), at, d.stars, t) {
         Ok(t) => within(alloc, here, at, &d.inner, &d.bounds, t),
         Err(f) => Err(f),
     }

@@ -4,7 +4,8 @@ ghost use Rattle.c_typing.specs.Plain.{plain};
 ghost use Rattle.c_struct.specs.Structs.{written, object_member, same_members, agrees};
 ghost use Rattle.c_struct.specs.Opened.{written_member, members_in, HasNames, Adds};
 
-use c_judge::{Fault, Numbers, is_complete, same};
+use c_defs::Numbers;
+use c_judge::{Fault, is_complete, same};
 use c_tree::{CType, Member, StructDef, members};
 use ldb_words::Text;
 use std::alloc::{AllocError, Global};
