@@ -1,5 +1,5 @@
 -- What does not depend on how deep one looks, from a type's depth on.
-use Rattle.std.proofs.Common.{arith, ◌≡◌, ◌≤◌, ◌+◌, ◌*◌, ℕ, zero, suc, max, Bool, true, false, ◌&&◌, List, [], ◌∷◌, refl, ap, ◌∙◌}
+use Rattle.std.proofs.Common.{arith, ◌≡◌, ◌≤◌, ◌+◌, ◌*◌, ℕ, zero, suc, max, Bool, true, false, ◌&&◌, List, [], ◌∷◌, take, drop, refl, ap, ◌∙◌}
 use Rattle.c_tree.specs.declared.types.CType.{CType}
 use Rattle.c_tree.specs.declared.types.CType.TheVariants as ctype
 use Rattle.c_tree.specs.declared.types.StructDef.{StructDef}
@@ -66,3 +66,10 @@ module _ (defs : List StructDef) where
   pub alignment_same : (ms : List Member) (n k : ℕ) → are_within (is_within defs n) ms ≡ true → n ≤ k
       → alignment_of_members (alignment_within defs n) ms ≡ alignment_of_members (alignment_within defs k) ms
   alignment_same ms n k h l = same_alignment (is_within defs n) (alignment_within defs n) (alignment_within defs k) (λ t w. aligned_same n k t w l) ms h
+
+-- leaves of the first members and of those behind
+pub split_leaves : (f : Plain → ℕ) (ms : List Member) (k : ℕ) → leaves_of_members f (take k ms) + leaves_of_members f (drop k ms) ≡ leaves_of_members f ms
+split_leaves f [] zero = refl
+split_leaves f [] (suc k) = refl
+split_leaves f (m ∷ ms) zero = omega arith
+split_leaves f (m ∷ ms) (suc k) = omega (arith, split_leaves f ms k)

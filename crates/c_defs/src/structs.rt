@@ -92,6 +92,13 @@ impl<'n> Structs<'n> {
         self.defs.len()
     }
 
+    /// The structs.
+    pub fn defs(&self) -> &[StructDef]
+        ensures { result.now ≡ self.now }
+    {
+        &self.defs
+    }
+
     /// The structs as expressions and declarations see them.
     pub fn view<'a>(&'a self) -> StructsView<'a, 'n>
         ensures { result ≡ self.now }

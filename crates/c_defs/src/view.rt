@@ -1,16 +1,16 @@
 // The structs that an expression or a declaration stands among.
-ghost use Rattle.std.specs.Prelude.{◌≡◌, if◌then◌else◌, map, IfOk};
-ghost use Rattle.c_tree.specs.Layout.{alignment_of, alignment_of_members};
+ghost use Rattle.std.specs.Prelude.{◌≡◌, if◌then◌else◌, drop, map, IfOk};
+ghost use Rattle.c_tree.specs.Layout.{alignment_of, alignment_of_members, members_of};
 ghost use Rattle.c_typing.specs.Plain.{plain};
 ghost use Rattle.c_defs.specs.Members.{member_number, in_word, name_of};
 ghost use Rattle.c_defs.specs.Numbers.{first_number};
 ghost use Rattle.c_defs.specs.Depths.{deepest, is_within};
-ghost use Rattle.c_defs.specs.Leaves.{leaf_count};
+ghost use Rattle.c_defs.specs.Leaves.{leaf_count, leaves_of_members};
 ghost use Rattle.c_defs.specs.Kept.{AreKept, bytes_aligned};
 
 use crate::alignments::{any_wide, is_wide};
 use crate::depths::depth;
-use crate::leaf_counts::leaf_count;
+use crate::leaf_counts::{leaf_count, leaves_behind};
 use crate::rows::{StructRow, row_at};
 use c_tree::{CType, Member, StructDef, members};
 use std::alloc::AllocError;
@@ -97,6 +97,14 @@ impl<'a, 'n> StructsView<'a, 'n> {
         ensures { IfOk result (λ n. n ≡ leaf_count self.now deepest (plain t.now)) }
     {
         leaf_count(self.defs, self.rows, DEEPEST, t)
+    }
+
+    /// How many leaves a struct's members have behind the first `k`. Where they are 2^32 or more, there is no memory for them.
+    #[tactic(auto, unfolding(crate::specs::Depths::deepest))]
+    pub fn leaves_behind(&self, s: u32, k: usize) -> Result<u32, AllocError>
+        ensures { IfOk result (λ n. n ≡ leaves_of_members (leaf_count self.now deepest) (drop k (members_of self.now s))) }
+    {
+        leaves_behind(self.defs, self.rows, DEEPEST, s, k)
     }
 
     /// The number of a struct's member with a name.
