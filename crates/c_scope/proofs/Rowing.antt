@@ -65,4 +65,4 @@ declare_is old t name s ps up d x a h e f u w =
     let n = sym (rows_length o.symbols o.parameters o.links a.parameters a.links) in
     let b = block_more o.start (length o.symbols) name o.visible h in
     ap (λ v. environment_of (record { unit = old.unit; table = v; locals = old.locals; defs = old.defs; tags = old.tags })) w
-    ∙ (λ i. record { unit = old.unit; names = names i; visible = record { name = name; number = n i } ∷ o.visible; block = b i; locals = old.locals; defs = old.defs.items; tags = old.tags })
+    ∙ (λ i. record { unit = old.unit; names = names i; visible = record { name = name; number = n i } ∷ o.visible; block = b i; locals = old.locals; defs = old.defs; tags = old.tags })

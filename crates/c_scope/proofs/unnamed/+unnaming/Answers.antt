@@ -17,8 +17,8 @@ unnamed-returns-in-Ok t c =
     let i = c.d.inside in
     subst (λ d. Denotes (unnamed v c.args.at d (plain c.args.t)) c.within.result) c.d.view_is
     (unnamed_gives v c.args.at (λ b. b.value) i.stars i.inner i.bounds.items (plain c.args.t) (plain c.in-Ok.t) c.within.result
-    (subst (λ ds. pointers ds c.args.at i.stars (plain c.args.t) ≡ Known (plain c.in-Ok.t)) c.deref.ensures.value c.in-Ok.ensures)
-    (subst (λ bs. Denotes (unnamed_within v c.args.at (with_bounds (behind_stars (λ b. b.value) i.stars i.inner) bs) (plain c.in-Ok.t)) c.within.result) c.deref-in-Ok.ensures.value (c.within.ensures i.stars)))
+    (subst (λ ds. pointers ds c.args.at i.stars (plain c.args.t) ≡ Known (plain c.in-Ok.t)) c.view.ensures c.in-Ok.ensures)
+    (subst (λ bs. Denotes (unnamed_within v c.args.at (with_bounds (behind_stars (λ b. b.value) i.stars i.inner) bs) (plain c.in-Ok.t)) c.within.result) c.deref.ensures.value (c.within.ensures i.stars)))
 
 pub unnamed-returns-in-Err : goal.unnamed-returns-in-Err
 unnamed-returns-in-Err t c =
@@ -26,7 +26,7 @@ unnamed-returns-in-Err t c =
     let i = c.d.inside in
     subst (λ d. IsFault (unnamed v c.args.at d (plain c.args.t)) c.in-Err.f) c.d.view_is
     (unnamed_fails v c.args.at (λ b. b.value) i.stars i.inner i.bounds.items (plain c.args.t) c.in-Err.f
-    (subst (λ ds. IsFault (pointers ds c.args.at i.stars (plain c.args.t)) c.in-Err.f) c.deref.ensures.value c.in-Err.ensures))
+    (subst (λ ds. IsFault (pointers ds c.args.at i.stars (plain c.args.t)) c.in-Err.f) c.view.ensures c.in-Err.ensures))
 
 pub within-returns-in-Err : goal.within-returns-in-Err
 within-returns-in-Err t c =

@@ -10,5 +10,5 @@ returns c =
     let t = c.args.self.now.table in
     let a = c.symbols.ensures.aligned in
     let d = ap (λ ss. denoted_all ss c.parameters.result.now) c.symbols.ensures.symbols ∙ (ap (denoted_all t.symbols) c.parameters.ensures ∙ rows_denote t.symbols t.parameters t.links a.parameters a.links) in
-    scope_same _ _ _ _ _ _ _ _ (λ i. record { names = d i; defs = c.deref.ensures.value i; strings = [] }) c.numbers.ensures
+    scope_same _ _ _ _ _ _ _ _ (λ i. record { names = d i; defs = c.view.ensures i; strings = [] }) c.numbers.ensures
     (λ x. ap (λ n. or_else_number n (number_in c.numbers-2.result.now x)) c.count.ensures ∙ ap (or_else_number (length c.args.self.now.tags)) (c.numbers-2.ensures x))
