@@ -1,7 +1,6 @@
 -- What is declared at a place of a source file.
-use Rattle.std.specs.Prelude.{ℕ, suc, Bool, true, false, if◌then◌else◌, List, [], ◌∷◌, ◌++◌, length, map, Option, Some, None, bytes_eq, slice_get, option_map, option_and_then}
+use Rattle.std.specs.Prelude.{ℕ, suc, true, if◌then◌else◌, List, [], ◌∷◌, ◌++◌, length, map, Option, Some, None, bytes_eq, slice_get, option_map, option_and_then}
 use Rattle.c_tree.specs.declared.types.StructDef.{StructDef}
-use Rattle.c_typing.specs.Plain.{Plain}
 use Rattle.c_typing.specs.Expressions.{Denoted}
 use Rattle.c_judge.specs.Scope.{Scope, or_else_number}
 use Rattle.c_defs.specs.Numbers.{first_number}

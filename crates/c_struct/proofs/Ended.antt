@@ -1,14 +1,14 @@
 -- What comes of a struct's `}`.
-use Rattle.std.proofs.Common.{arith, ◌≡◌, ◌≤◌, ◌<◌, ◌+◌, ◌==◌, ℕ, zero, suc, Bool, true, false, not, ◌&&◌, nat_le, if◌then◌else◌, List, [], ◌∷◌, length, map, slice_get, slice_set, refl, sym, ap, subst, ◌∙◌, Option, Some, None, Result, Ok, Err}
+use Rattle.std.proofs.Common.{arith, ◌≡◌, ◌<◌, ◌==◌, ℕ, zero, suc, Bool, true, false, ◌&&◌, nat_le, if◌then◌else◌, List, [], ◌∷◌, length, slice_get, slice_set, refl, sym, ap, subst, ◌∙◌, Some, None, Result, Ok, Err}
 use Rattle.c_tree.specs.declared.types.CType.{CType}
 use Rattle.c_tree.specs.declared.types.StructDef.{StructDef}
 use Rattle.c_tree.specs.Layout.{size_in}
-use Rattle.c_typing.specs.Plain.{Plain, Struct, plain}
+use Rattle.c_typing.specs.Plain.{Plain, Struct}
 use Rattle.c_judge.specs.Answers.{Answer, Known, Unknown, Broken}
 use Rattle.c_judge.specs.Judgement.{limited}
 use Rattle.c_defs.specs.Depths.{deepest, is_within}
 use Rattle.c_judge.specs.Values.{size_of}
-use Rattle.c_scope.specs.Findings.{Finding, nothing, fine}
+use Rattle.c_scope.specs.Findings.{nothing, fine}
 use Rattle.c_scope.specs.Environment.{Environment, struct_of}
 use Rattle.c_struct.specs.Structs.{Open, IsRow, IsWith, IsRowOf, Completes, completed_found}
 use Rattle.c_struct.specs.Specifies.{Goes, Ends}

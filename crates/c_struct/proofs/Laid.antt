@@ -1,7 +1,6 @@
 -- The layout of structs: alignments, members one after another, and what lies behind the largest size.
-use Rattle.std.proofs.Common.{arith, ◌≡◌, ◌≤◌, ◌<◌, ◌+◌, ℕ, zero, suc, max, Bool, true, false, if◌then◌else◌, List, [], ◌∷◌, ◌++◌, length, map, drop, refl, sym, ap, subst, ◌∙◌, slice_index_or, Option, Some, None}
+use Rattle.std.proofs.Common.{arith, ◌≡◌, ◌≤◌, ◌<◌, ◌+◌, ℕ, zero, suc, List, [], ◌∷◌, ◌++◌, length, map, drop, refl, sym, ap, subst, ◌∙◌, None}
 use Rattle.std.proofs.lemmas.List.{map-append, append_assoc}
-use Rattle.std.proofs.Math.Seq.{drop-cons}
 use Rattle.std.specs.Int.{next_multiple_of}
 use Rattle.c_tree.specs.declared.types.CType.{CType}
 use Rattle.c_tree.specs.declared.types.CType.TheVariants as ctype
@@ -12,11 +11,10 @@ use Rattle.c_tree.specs.Layout.{alignment_within, alignment_of_members, alignmen
 use Rattle.c_typing.specs.Plain.{Plain, Char, Int, Unsigned, Void, Pointer, Array, Struct, plain}
 use Rattle.c_judge.specs.Values.{size_of}
 use Rattle.c_struct.specs.declared.members.WrittenMember.{WrittenMember}
-use Rattle.c_struct.specs.Structs.{Written, Open, written, IsRow}
+use Rattle.c_struct.specs.Structs.{Open, written, IsRow}
 use Rattle.c_struct.specs.Opened.{written_member}
-use Rattle.c_struct.specs.Laying.{IsPlace, IsMember, AreMembers, AreLaidOrLarge, IsRowOrLarge}
+use Rattle.c_struct.specs.Laying.{IsMember, AreMembers, AreLaidOrLarge, IsRowOrLarge}
 use Rattle.c_scope.proofs.Sizes.{size_of_plain}
-use Rattle.c_scope.proofs.Items.{item_of}
 
 -- ---- alignments
 

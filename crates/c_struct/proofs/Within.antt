@@ -1,6 +1,5 @@
 -- Structs in structs, part by part.
-use Rattle.std.proofs.Common.{arith, ◌≡◌, ◌<◌, ◌+◌, ℕ, zero, suc, List, [], ◌∷◌, ◌++◌, length, map, drop, refl, sym, ap, subst, ◌∙◌, Option, Some, None, Result, Ok, Err, slice_index_or}
-use Rattle.std.proofs.Math.Seq.{drop-cons}
+use Rattle.std.proofs.Common.{arith, ◌≡◌, ◌<◌, ◌+◌, ℕ, List, [], ◌∷◌, ◌++◌, length, drop, refl, sym, ap, subst, ◌∙◌, Result, Ok, Err}
 use Rattle.c_lex.specs.declared.token.Place.{Place}
 use Rattle.c_expr.specs.declared.tree.Spec.{Spec}
 use Rattle.c_declaration.specs.Tree.{DeclaratorTree}
@@ -13,7 +12,7 @@ use Rattle.c_typing.specs.Plain.{Plain, Struct, plain}
 use Rattle.c_judge.specs.declared.fault.Fault.{Fault}
 use Rattle.c_judge.specs.declared.fault.Fault.TheVariants as fault
 use Rattle.c_judge.specs.Answers.{Answer, Known, Unknown, Broken}
-use Rattle.c_judge.specs.Judgement.{spec_type, limited}
+use Rattle.c_judge.specs.Judgement.{spec_type}
 use Rattle.c_judge.specs.Judges.{IsFault}
 use Rattle.c_struct.specs.declared.members.OpenStruct.{OpenStruct}
 use Rattle.c_scope.specs.declared.refusal.Refusal.{Refusal}
@@ -21,9 +20,9 @@ use Rattle.c_scope.specs.declared.refusal.Refusal.TheVariants.{Rule, NoMemory}
 use Rattle.c_struct.specs.declared.specifying.Nesting.{Nesting}
 use Rattle.c_scope.specs.Refused.{fault_of}
 use Rattle.c_scope.specs.Environment.{Environment, struct_of, scope_of}
-use Rattle.c_struct.specs.Structs.{Open, Written, Completes, members, completed_found}
-use Rattle.c_struct.specs.Opened.{members_in, HasNames, Adds}
-use Rattle.c_struct.specs.Specifies.{Goes, Ends, Inside, Specifies}
+use Rattle.c_struct.specs.Structs.{Open, members}
+use Rattle.c_struct.specs.Opened.{members_in, HasNames}
+use Rattle.c_struct.specs.Specifies.{Goes, Inside, Specifies}
 use Rattle.c_struct.specs.Laying.{open_of}
 use Rattle.c_struct.specs.Completing.{IsEnded}
 use Rattle.c_struct.specs.Nested.{unbalanced, last_first, opens_of, AllNamed, AreNamed, Passes}

@@ -1,11 +1,11 @@
 -- The structs that are open, as the code keeps them.
-use Rattle.std.specs.Prelude.{◌≡◌, ℕ, List, [], ◌∷◌, Result, Ok, Err}
+use Rattle.std.specs.Prelude.{List, [], ◌∷◌, Result, Ok, Err}
 use Rattle.c_declaration.specs.declared.tree.MemberPart.{MemberPart}
 use Rattle.c_tree.specs.declared.types.StructDef.{StructDef}
 use Rattle.c_typing.specs.Plain.{Plain}
 use Rattle.c_judge.specs.declared.fault.Fault.{Fault}
 use Rattle.c_judge.specs.declared.fault.Fault.TheVariants as fault
-use Rattle.c_judge.specs.Answers.{Answer, Known, Unknown, Broken}
+use Rattle.c_judge.specs.Answers.{Answer, Unknown, Broken}
 use Rattle.c_struct.specs.declared.members.OpenStruct.{OpenStruct}
 use Rattle.c_struct.specs.declared.specifying.Nesting.{Nesting}
 use Rattle.c_scope.specs.Environment.{Environment}

@@ -1,5 +1,5 @@
 -- A struct whose `}` is still to come, with the numbers of its members by their names.
-use Rattle.std.specs.Prelude.{◌≡◌, ℕ, List, map, Result, Ok, Err}
+use Rattle.std.specs.Prelude.{◌≡◌, List, map, Result, Ok, Err}
 use Rattle.c_typing.specs.Plain.{plain}
 use Rattle.c_defs.specs.Numbers.{Finds}
 use Rattle.c_judge.specs.declared.fault.Fault.{Fault}

@@ -1,6 +1,5 @@
 -- The type that a declaration begins with (C90 6.5.2), and what is declared behind it.
-use Rattle.std.specs.Prelude.{◌≡◌, not, List, [], ◌∷◌}
-use Rattle.c_declaration.specs.Tree.{begins}
+use Rattle.std.specs.Prelude.{◌≡◌, List, [], ◌∷◌}
 use Rattle.c_declaration.specs.declared.tree.FileSpec.{FileSpec}
 use Rattle.c_declaration.specs.declared.tree.FileSpec.TheVariants as spec
 use Rattle.c_declaration.specs.declared.tree.MemberPart.{MemberPart}

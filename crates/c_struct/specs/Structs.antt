@@ -1,18 +1,14 @@
 -- Structs with their members (C90 6.5.2.1).
-use Rattle.std.specs.Prelude.{◌≡◌, ℕ, suc, ◌+◌, ◌*◌, max, Bool, true, false, not, ◌&&◌, ◌||◌, if◌then◌else◌, nat_le, List, [], ◌∷◌, ◌++◌, map, length, Option, Some, None, bytes_eq, slice_get, ◌==◌}
-use Rattle.c_lex.specs.declared.token.Place.{Place}
+use Rattle.std.specs.Prelude.{◌≡◌, ℕ, Bool, true, false, not, ◌&&◌, ◌||◌, if◌then◌else◌, List, [], ◌∷◌, ◌++◌, map, length, Option, Some, None, bytes_eq, slice_get, ◌==◌}
 use Rattle.c_declaration.specs.Tree.{DeclaratorTree, begins}
-use Rattle.c_declaration.specs.declared.tree.MemberPart.{MemberPart}
-use Rattle.c_declaration.specs.declared.tree.MemberPart.TheVariants.{Opens, Row, Closes}
 use Rattle.c_tree.specs.declared.types.StructDef.{StructDef}
 use Rattle.c_tree.specs.declared.types.Member.{Member as MemberRow}
 use Rattle.c_tree.specs.Layout.{IsLaidOut, members_of}
-use Rattle.c_typing.specs.Plain.{Plain, Struct, plain, is_complete, is_empty, same}
+use Rattle.c_typing.specs.Plain.{Plain, plain, is_complete, is_empty, same}
 use Rattle.c_typing.specs.Declared.{is_named}
-use Rattle.c_judge.specs.Answers.{Answer, Known, Unknown, Broken, ◌then◌}
-use Rattle.c_judge.specs.Judgement.{spec_type, limited}
-use Rattle.c_scope.specs.Findings.{Finding, nothing, ◌beside◌, holds}
-use Rattle.c_scope.specs.Environment.{Environment, struct_of, scope_of}
+use Rattle.c_judge.specs.Answers.{Answer, Known, Broken, ◌then◌}
+use Rattle.c_scope.specs.Findings.{Finding, ◌beside◌, holds}
+use Rattle.c_scope.specs.Environment.{Environment, struct_of}
 use Rattle.c_scope.specs.Declarators.{Shape, Object, Function, shape, name_in}
 
 -- a member without where it stands: its name and its type

@@ -1,9 +1,8 @@
-use Rattle.std.proofs.Common.{◌≡◌, ◌<◌, List, length, ap, subst, slice_set, Option, Some, None, arith}
+use Rattle.std.proofs.Common.{◌<◌, List, length, ap, subst, Some, None, arith}
 use Rattle.std.proofs.lemmas.Grind.{common_steps}
 use Rattle.c_tree.specs.declared.types.StructDef.{StructDef}
 use Rattle.c_typing.specs.Plain.{Struct}
 use Rattle.c_scope.specs.Here.{environment_of}
-use Rattle.c_struct.specs.Structs.{IsRow}
 use Rattle.c_struct.specs.Laying.{open_of, IsRowOrLarge}
 use Rattle.c_struct.specs.Completing.{IsLimited}
 use Rattle.c_struct.proofs.Ended.{ends_refused, ended, ended_large}

@@ -1,5 +1,4 @@
-use Rattle.std.proofs.Common.{List, Option, None, refl, subst, ℕ}
-use Rattle.c_tree.specs.declared.types.Member.{Member}
+use Rattle.std.proofs.Common.{List, None, refl, subst}
 use Rattle.c_struct.specs.declared.members.WrittenMember.{WrittenMember}
 use Rattle.c_struct.specs.Laying.{open_of, AreLaidOrLarge}
 use Rattle.c_struct.proofs.Laid.{large_row}

@@ -1,4 +1,4 @@
-use Rattle.std.proofs.Common.{◌≡◌, ◌∙◌, sym, ap, length, bytes_eq, Some, true, false, arith}
+use Rattle.std.proofs.Common.{◌≡◌, ◌∙◌, ap, length, bytes_eq, Some, true, false, arith}
 use Rattle.std.proofs.lemmas.Grind.{common_steps}
 use Rattle.std.specs.Map.{update}
 use Rattle.c_typing.specs.Plain.{plain, is_complete}

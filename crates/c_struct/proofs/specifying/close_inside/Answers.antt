@@ -1,4 +1,4 @@
-use Rattle.std.proofs.Common.{◌≡◌, [], length, refl, sym, subst, Err, arith}
+use Rattle.std.proofs.Common.{◌≡◌, length, refl, sym, subst, Err, arith}
 use Rattle.std.proofs.lemmas.Grind.{common_steps}
 use Rattle.c_declaration.specs.declared.tree.MemberPart.TheVariants.{Closes}
 use Rattle.c_judge.specs.declared.fault.Fault.{Fault}
