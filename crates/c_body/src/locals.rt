@@ -52,7 +52,7 @@ fn kept_object<'a>(
 ) -> Result<CType, Fault>
     ensures { Denotes (kept (environment_of here.now) register at (declarators.Object (plain t))) result }
 {
-    if !is_complete(&here.defs, &t) {
+    if !is_complete(here.defs.defs(), &t) {
         return Err(Fault::Rule { rule: 1, at });
     }
     if register && !is_scalar(&t) {

@@ -5,7 +5,7 @@ ghost use Rattle.c_scope.specs.NumberedNames.{has_name};
 ghost use Rattle.c_check.specs.Sets.{in_file, defined_in};
 
 use c_file::Definition;
-use c_judge::Numbers;
+use c_defs::Numbers;
 use std::alloc::{AllocError, Global};
 
 /// The names that are defined: as external, and as `static` in each file.

@@ -3,7 +3,7 @@ ghost use Rattle.std.specs.Prelude.{◌≡◌, ℕ, List, Bool, None, Some, OnOk
 ghost use Rattle.c_check.specs.Linked.{linked_in, is_linked};
 
 use c_file::FileNumbers;
-use c_judge::Numbers;
+use c_defs::Numbers;
 use std::alloc::{AllocError, Global};
 
 /// Numbers of external names, and of the `static` names of each file.

@@ -71,7 +71,7 @@ module _ (tags : List (List ℕ)) (s t : Standing) (q : State) (z : IsSoFar s q)
 
 -- what is declared before the next file
 pub next_here : (tags : List (List ℕ)) (s t : Here) (n : Names) (xs : List Visible) → n ≡ record s.table { visible = outermost 3 s.table.visible; start = 0 } → t.table ≡ record n { start = length n.symbols }
-    → names_from (length n.symbols) n.visible ≡ [] → s.table.visible ≡ xs ++ built_ins → t.unit ≡ suc s.unit → t.locals ≡ s.locals → t.tags ≡ s.tags → t.defs.items ≡ map incomplete tags
+    → names_from (length n.symbols) n.visible ≡ [] → s.table.visible ≡ xs ++ built_ins → t.unit ≡ suc s.unit → t.locals ≡ s.locals → t.tags ≡ s.tags → t.defs ≡ map incomplete tags
     → environment_of t ≡ record (environment_of s) { unit = suc s.unit; visible = built_ins; block = []; defs = map incomplete tags }
 next_here tags s t n xs a b c v u l g d =
     let names = ap (λ (x : Names). rows x.symbols x.parameters x.links) b ∙ ap (λ (x : Names). rows x.symbols x.parameters x.links) a in

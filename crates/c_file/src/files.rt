@@ -11,6 +11,7 @@ use crate::externals::externals;
 use crate::file_names::FileNames;
 use crate::state::{FileFault, State};
 use crate::tag_numbers::tags_of;
+use c_defs::Structs;
 use c_judge::{Fault, Symbol};
 use c_scope::{Environment, Link, Mark, StructTags, Table};
 use c_syntax::Unit;
@@ -91,7 +92,7 @@ fn at_first_here<'a>(alloc: Global, tags: &[&'a Text]) -> Result<Environment<'a>
         return Err(AllocError);
     }
     let tags_here = StructTags::new(alloc, texts)?;
-    let defs = incomplete(alloc, tags)?;
+    let defs = Structs::new(alloc, incomplete(alloc, tags)?)?;
     let table = built_ins(alloc)?;
     Ok(Environment {
         unit: 0,
@@ -162,9 +163,9 @@ fn next_file<'a>(
     if state.here.unit == u32::MAX {
         return Err(AllocError);
     }
-    let defs = incomplete(alloc, tags)?;
+    let defs = Structs::new(alloc, incomplete(alloc, tags)?)?;
     let completed = std::mem::replace(&mut state.here.defs, defs);
-    match completed_by(alloc, state.others, completed) {
+    match completed_by(alloc, state.others, completed.into_defs()) {
         Ok(others) => state.others = others,
         Err(f) => return Err(f),
     }

@@ -68,7 +68,7 @@ fn may_stand(here: &Environment, is_extern: bool, t: &CType, at: u32) -> Result<
             if *n == 0 {
                 holds(is_extern, 2, at)
             } else {
-                holds(is_complete(&here.defs, t), 1, at)
+                holds(is_complete(here.defs.defs(), t), 1, at)
             }
         }
         CType::Char
@@ -76,7 +76,7 @@ fn may_stand(here: &Environment, is_extern: bool, t: &CType, at: u32) -> Result<
         | CType::Unsigned
         | CType::Void
         | CType::Pointer(_)
-        | CType::Struct(_) => holds(is_complete(&here.defs, t), 1, at),
+        | CType::Struct(_) => holds(is_complete(here.defs.defs(), t), 1, at),
     }
 }
 
@@ -86,8 +86,8 @@ fn in_limits(here: &Environment, t: CType, at: u32) -> Result<CType, Fault>
     ensures limits { Denotes (in_limits (environment_of here.now) (plain t) at) result }
     ensures same { IfOk result (λ u. plain u ≡ plain t) }
 {
-    if is_complete(&here.defs, &t) {
-        limited(&here.defs, at, t)
+    if is_complete(here.defs.defs(), &t) {
+        limited(&here.defs.view(), at, t)
     } else {
         Ok(t)
     }

@@ -7,8 +7,8 @@ use c_declaration::{
     Declarator, DeclaratorNode, Declared, FileSpec, Initial, InitialNode, Local, MemberPart,
     Parameter, ParameterNode,
 };
+use c_defs::Numbers;
 use c_expr::{Abstract, Expr, Node, Spec, TypeName};
-use c_judge::Numbers;
 use c_statement::{Statement, StatementNode};
 use c_syntax::External;
 use ldb_words::Text;

@@ -20,32 +20,6 @@ use Rattle.c_scope.proofs.Items.{item_of}
 
 -- ---- alignments
 
--- members are aligned at 4 at most where their types are
-most_of : (f : CType → ℕ) (ms : List Member) → ((t : CType) → f t ≤ 4) → alignment_of_members f ms ≤ 4
-most_of f [] h = omega arith
-most_of f (m ∷ ms) h = omega (arith, h m.ctype, most_of f ms h)
-
-most : (defs : List StructDef) (deep : ℕ) (t : CType) → alignment_within defs deep t ≤ 4
-most defs zero t = omega arith
-most defs (suc deep) ctype.Char = omega arith
-most defs (suc deep) ctype.Int = omega arith
-most defs (suc deep) ctype.Unsigned = omega arith
-most defs (suc deep) ctype.Void = omega arith
-most defs (suc deep) (ctype.Pointer' _ t) = omega arith
-most defs (suc deep) (ctype.Array' _ t n) = most defs deep t
-most defs (suc deep) (ctype.Struct s) = most_of (alignment_within defs deep) (members_of defs s) (λ t. most defs deep t)
-
-least : (f : CType → ℕ) (ms : List Member) → 1 ≤ alignment_of_members f ms
-least f [] = omega arith
-least f (m ∷ ms) = omega (arith, least f ms)
-
-pub wide_first : (defs : List StructDef) (deep : ℕ) (m : Member) (ms : List Member) → alignment_within defs deep m.ctype ≡ 4 → alignment_of_members (alignment_within defs deep) (m ∷ ms) ≡ 4
-wide_first defs deep m ms h = omega (arith, h, most_of (alignment_within defs deep) ms (λ t. most defs deep t))
-
-pub narrow_first : (defs : List StructDef) (deep : ℕ) (m : Member) (ms : List Member) → alignment_within defs deep m.ctype ≡ 1
-    → alignment_of_members (alignment_within defs deep) (m ∷ ms) ≡ alignment_of_members (alignment_within defs deep) ms
-narrow_first defs deep m ms h = omega (arith, h, least (alignment_within defs deep) ms)
-
 -- alignment and size are those of the plain type
 abbrev aligned : List StructDef → ℕ → Plain → ℕ
 aligned defs zero t = 1
@@ -169,14 +143,3 @@ none_left (x ∷ xs) (suc i) h = none_left xs i (omega arith)
 pub empty_of : {A : Type 0} (xs : List A) → length xs ≡ 0 → xs ≡ []
 empty_of [] h = refl
 empty_of (x ∷ xs) h = absurd (omega arith)
-
-pub wide_item : (defs : List StructDef) (deep : ℕ) (ms : List Member) (i : ℕ) (m : Member) (b : Bool) → i < length ms → m ≡ slice_index_or ms i m
-    → alignment_within defs deep m.ctype ≡ (if b then 4 else 1) → b ≡ true → alignment_of_members (alignment_within defs deep) (drop i ms) ≡ 4
-wide_item defs deep ms i m b h e a t =
-    ap (alignment_of_members (alignment_within defs deep)) (item_of ms i m h e) ∙ wide_first defs deep m (drop (i + 1) ms) (a ∙ ap (λ x. if x then 4 else 1) t)
-
-pub narrow_item : (defs : List StructDef) (deep : ℕ) (ms : List Member) (i : ℕ) (m : Member) (b : Bool) → i < length ms → m ≡ slice_index_or ms i m
-    → alignment_within defs deep m.ctype ≡ (if b then 4 else 1) → b ≡ false
-    → alignment_of_members (alignment_within defs deep) (drop (i + 1) ms) ≡ alignment_of_members (alignment_within defs deep) (drop i ms)
-narrow_item defs deep ms i m b h e a t =
-    sym (ap (alignment_of_members (alignment_within defs deep)) (item_of ms i m h e) ∙ narrow_first defs deep m (drop (i + 1) ms) (a ∙ ap (λ x. if x then 4 else 1) t))

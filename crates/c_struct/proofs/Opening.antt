@@ -1,14 +1,9 @@
 -- Members of structs that are written.
 use Rattle.std.proofs.Common.{◌≡◌, ◌≢◌, ℕ, suc, Bool, true, false, ◌&&◌, ◌||◌, List, [], ◌∷◌, ◌++◌, length, map, not, Some, bytes_eq, ◌∙◌, refl, ap, sym, if◌then◌else◌}
-use Rattle.std.specs.Map.{update}
 use Rattle.c_tree.specs.declared.types.Member.{Member}
 use Rattle.c_tree.specs.declared.types.StructDef.{StructDef}
 use Rattle.c_typing.specs.Plain.{plain, same, is_complete}
-use Rattle.c_defs.specs.declared.numbers.Numbers.{Numbers}
-use Rattle.c_defs.specs.Numbers.{number_in}
 use Rattle.c_judge.specs.Answers.{Known, Broken}
-use Rattle.c_scope.specs.NumberedNames.{has_name}
-use Rattle.c_struct.proofs.NamesAdded.{name_added}
 use Rattle.c_typing.specs.Declared.{is_named}
 use Rattle.c_struct.specs.declared.members.WrittenMember.{WrittenMember}
 use Rattle.c_struct.specs.Structs.{written, written_names, same_members, object_member}
@@ -45,8 +40,3 @@ object_added defs ms new m at h n e =
     ap (λ b. if b && not (is_named (written_names (map written_member ms)) m.name.now) then Known (map written_member ms ++ written_member m ∷ []) else Broken 3 at) h ∙
     (ap (λ b. if not b then Known (map written_member ms ++ written_member m ∷ []) else Broken 3 at) n ∙
     ap (λ l. Known l) (sym (ap (λ l. map written_member l) e ∙ member_last ms m)))
-
-pub names_added : (ms new : List WrittenMember) (m : WrittenMember) (before behind : Numbers) (n : ℕ) → new ≡ (ms ++ m ∷ []) → ((t : List ℕ) → has_name before t ≡ is_named (written_names (map written_member ms)) t)
-    → ((t : List ℕ) → number_in behind t ≡ update bytes_eq (number_in before) m.name.now (Some n) t) → (t : List ℕ) → has_name behind t ≡ is_named (written_names (map written_member new)) t
-names_added ms new m before behind n e h u t =
-    name_added before behind m.name.now n u t ∙ (ap (λ b. bytes_eq m.name.now t || b) (h t) ∙ sym (ap (λ l. is_named (written_names (map written_member l)) t) e ∙ named_last ms m t))

@@ -1,15 +1,17 @@
 // Structs are completed at their `}` (C90 6.5.2.3).
-ghost use Rattle.std.specs.Prelude.{◌≡◌, ◌<◌, length, slice_set};
+ghost use Rattle.std.specs.Prelude.{◌≡◌};
 ghost use Rattle.c_scope.specs.Environment.{struct_of};
 ghost use Rattle.c_struct.specs.Structs.{completed_found};
 ghost use Rattle.c_scope.specs.Refused.{Finds};
 ghost use Rattle.c_struct.specs.Laying.{open_of};
+ghost use Rattle.c_struct.specs.Opened.{HasNames};
 ghost use Rattle.c_typing.specs.Plain.{plain};
 ghost use Rattle.c_struct.specs.Completing.{IsLimited, IsEnded};
 ghost use Rattle.c_scope.specs.Here.{environment_of};
 
 use crate::laying::row;
 use crate::members::{OpenStruct, agrees};
+use c_defs::StructsView;
 use c_judge::{Fault, limited};
 use c_scope::{Environment, Refusal};
 use c_tree::{CType, StructDef, members};
@@ -39,22 +41,14 @@ fn may_complete<'a>(
     if o.members.is_empty() {
         return Err(Refusal::Rule { rule: 3, at: o.at });
     }
-    if !members(&here.defs, number).is_empty() || !agrees(others, number, o) {
+    if !members(here.defs.defs(), number).is_empty() || !agrees(others, number, o) {
         return Err(Refusal::Rule { rule: 4, at: o.at });
     }
     Ok(())
 }
 
-/// Gives a struct its row.
-fn set_row(defs: &mut Vec<StructDef>, number: u32, row: StructDef)
-    requires { number < length defs.old.items }
-    ensures { defs.new.items ≡ slice_set defs.old.items number row }
-{
-    defs[number as usize] = row;
-}
-
 /// A type that is neither too deep nor too large.
-fn within_limits(defs: &[StructDef], at: u32, t: CType) -> Result<CType, Refusal>
+fn within_limits(defs: &StructsView<'_, '_>, at: u32, t: CType) -> Result<CType, Refusal>
     ensures { IsLimited defs.now at (plain t) result }
 {
     match limited(defs, at, t) {
@@ -70,9 +64,10 @@ pub fn complete<'a>(
     alloc: Global,
     others: &[StructDef],
     here: &mut Environment<'a>,
-    o: &OpenStruct<'a>,
+    o: OpenStruct<'a>,
 ) -> Result<CType, Refusal>
-    ensures ended { IsEnded others.now (environment_of here.old) (open_of o.now) (environment_of here.new) result }
+    requires { HasNames o }
+    ensures ended { IsEnded others.now (environment_of here.old) (open_of o.entry) (environment_of here.new) result }
     ensures table { here.new.table ≡ here.old.table }
     ensures unit { here.new.unit ≡ here.old.unit }
 {
@@ -80,15 +75,15 @@ pub fn complete<'a>(
     if number as usize >= here.defs.len() {
         return Err(Refusal::NoMemory);
     }
-    match may_complete(others, here, number, o) {
+    match may_complete(others, here, number, &o) {
         Ok(()) => {}
         Err(why) => return Err(why),
     }
-    match row(alloc, &here.defs, o)? {
+    match row(alloc, &here.defs.view(), &o)? {
         None => Err(Refusal::Rule { rule: 1, at: o.at }),
         Some(row) => {
-            set_row(&mut here.defs, number, row);
-            within_limits(&here.defs, o.at, CType::Struct(number))
+            here.defs.complete(number, row, o.names);
+            within_limits(&here.defs.view(), o.at, CType::Struct(number))
         }
     }
 }

@@ -1,45 +1,13 @@
 // The layout of structs (C90 6.5.2.1): each member stands at the least offset that fits its alignment, and the size at the least multiple of the largest.
 ghost use Rattle.std.specs.Prelude.{◌≡◌, if◌then◌else◌, ◌≤◌, IfOk};
-ghost use Rattle.c_tree.specs.Layout.{alignment_within, alignment_of_members};
 ghost use Rattle.c_struct.specs.Laying.{open_of, IsPlace, IsMember, AreLaidOrLarge, IsRowOrLarge};
 
 use crate::members::{OpenStruct, WrittenMember};
+use c_defs::StructsView;
 use c_judge::copied;
-use c_tree::{CType, LARGEST, Member, StructDef, members, size_of};
+use c_tree::{CType, LARGEST, Member, StructDef, size_of};
 use ldb_words::{Many, Text};
 use std::alloc::{AllocError, Global};
-
-/// The deepest that a type may be.
-const DEEPEST: u32 = 64;
-
-/// Whether a type that is at most so deep is aligned at 4 bytes. The others are aligned at 1.
-#[cycle(aligning)]
-fn is_wide(defs: &[StructDef], deep: u32, t: &CType) -> bool
-    ensures { alignment_within defs.now deep t.now ≡ (if result then 4 else 1) }
-{
-    if deep == 0 {
-        return false;
-    }
-    match t {
-        CType::Int | CType::Unsigned | CType::Pointer(_) => true,
-        CType::Char | CType::Void => false,
-        CType::Array(item, _) => is_wide(defs, deep - 1, item),
-        CType::Struct(s) => any_wide(defs, deep - 1, members(defs, *s)),
-    }
-}
-
-/// Whether one of some members is aligned at 4 bytes.
-#[cycle(aligning)]
-fn any_wide(defs: &[StructDef], deep: u32, members: &[Member]) -> bool
-    ensures { alignment_of_members (alignment_within defs.now deep) members.now ≡ (if result then 4 else 1) }
-{
-    for member in members {
-        if is_wide(defs, deep, &member.ctype) {
-            return true;
-        }
-    }
-    false
-}
 
 /// The alignment of what is aligned at 4 bytes or at 1.
 fn alignment(wide: bool) -> u32
@@ -49,12 +17,12 @@ fn alignment(wide: bool) -> u32
 }
 
 /// Where a member of a type stands behind what ends at `from`, and where it ends; nothing where it ends behind the largest size.
-fn place(defs: &[StructDef], from: u32, t: &CType) -> Option<(u32, u32)>
+fn place(defs: &StructsView<'_, '_>, from: u32, t: &CType) -> Option<(u32, u32)>
     requires { from ≤ 1048576 }
     ensures { IsPlace defs.now from t.now result }
 {
-    let at = from.next_multiple_of(alignment(is_wide(defs, DEEPEST, t)));
-    match size_of(t, defs) {
+    let at = from.next_multiple_of(alignment(defs.is_wide(t)));
+    match size_of(t, defs.defs()) {
         Err(_) => None,
         Ok(size) => {
             if at + size > LARGEST {
@@ -79,7 +47,7 @@ fn member(alloc: Global, m: &WrittenMember, at: u32) -> Result<Member, AllocErro
 /// The members of a struct with their offsets, and where the last ends; nothing where it ends behind the largest size.
 fn lay(
     alloc: Global,
-    defs: &[StructDef],
+    defs: &StructsView<'_, '_>,
     written: &[WrittenMember],
 ) -> Result<Option<(Many<Member>, u32)>, AllocError>
     ensures { IfOk result (AreLaidOrLarge defs.now written.now) }
@@ -100,7 +68,7 @@ fn lay(
 /// The row of a struct that is completed; nothing where it has more than 1,048,576 bytes.
 pub fn row(
     alloc: Global,
-    defs: &[StructDef],
+    defs: &StructsView<'_, '_>,
     o: &OpenStruct,
 ) -> Result<Option<StructDef>, AllocError>
     ensures { IfOk result (IsRowOrLarge defs.now (open_of o.now)) }
@@ -108,7 +76,7 @@ pub fn row(
     match lay(alloc, defs, &o.members)? {
         None => Ok(None),
         Some((members, end)) => {
-            let wide = any_wide(defs, DEEPEST, members.as_slice());
+            let wide = defs.any_wide(members.as_slice());
             Ok(Some(StructDef {
                 tag: Text::from_slice(alloc, o.tag.as_bytes())?,
                 size: end.next_multiple_of(alignment(wide)),

@@ -1,7 +1,8 @@
 // Members of structs (C90 6.5.2.1).
 ghost use Rattle.std.specs.Prelude.{◌≡◌, ◌∷◌, ◌++◌, [], map, IfOk, OnOk, not, ◌&&◌};
 ghost use Rattle.c_typing.specs.Plain.{plain};
-ghost use Rattle.c_struct.specs.Structs.{written, object_member, same_members, agrees};
+ghost use Rattle.c_typing.specs.Declared.{is_named};
+ghost use Rattle.c_struct.specs.Structs.{written, written_names, object_member, same_members, agrees};
 ghost use Rattle.c_struct.specs.Opened.{written_member, members_in, HasNames, Adds};
 
 use c_defs::Numbers;
@@ -17,7 +18,7 @@ pub struct WrittenMember<'a> {
     pub ctype: CType,
 }
 
-/// A struct whose `}` is still to come: where it begins, its tag, and its members so far with their names as a set.
+/// A struct whose `}` is still to come: where it begins, its tag, and its members so far, and their numbers by their names.
 #[derive(Drop)]
 pub struct OpenStruct<'a> {
     pub at: u32,
@@ -52,6 +53,14 @@ fn push<'a>(
     Ok(())
 }
 
+/// Whether a struct has a member with a name.
+fn has_member<'a>(o: &OpenStruct<'a>, name: &'a Text) -> bool
+    requires { HasNames o.now }
+    ensures { result ≡ is_named (written_names (members_in o.now)) name.now }
+{
+    o.names.find(name.as_bytes()).is_some()
+}
+
 /// Adds an object as a member to a struct. Breaks rule 3 where its type is not complete, or another member has its name; then nothing is added.
 pub fn add_member<'a>(
     defs: &[StructDef],
@@ -65,10 +74,13 @@ pub fn add_member<'a>(
     ensures place { o.new.at ≡ o.old.at }
     ensures tag { o.new.tag ≡ o.old.tag }
 {
-    if !is_complete(defs, &ctype) || o.names.find(name.as_bytes()).is_some() {
+    if !is_complete(defs, &ctype) || has_member(o, name) {
         return Err(Fault::Rule { rule: 3, at });
     }
-    o.names.set(name.as_bytes(), 0)?;
+    let Ok(number) = u32::try_from(o.members.len()) else {
+        return Err(Fault::NoMemory);
+    };
+    o.names.set(name.as_bytes(), number)?;
     push(&mut o.members, WrittenMember { name, ctype })?;
     Ok(())
 }

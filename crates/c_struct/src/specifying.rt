@@ -90,7 +90,7 @@ fn close_inside<'a>(
     let Nesting { mut outer, inner } = n;
     match outer.pop() {
         None => Err(Fault::Rule { rule: 3, at: 0 }),
-        Some(mut next) => match complete(alloc, others, here, &inner) {
+        Some(mut next) => match complete(alloc, others, here, inner) {
             Err(why) => Err(fault_of(why)),
             Ok(t) => match add_declarators(alloc, here, &mut next, &t, ds) {
                 Ok(()) => Ok(Nesting { outer, inner: next }),
@@ -127,6 +127,7 @@ fn close<'a>(
     here: &mut Environment<'a>,
     n: Nesting<'a>,
 ) -> Result<CType, Fault>
+    requires { AreNamed n }
     ensures inside { Answers (Inside others.now (environment_of here.old) (opens_of n.entry) []) result (environment_of here.new) }
     ensures table { here.new.table ≡ here.old.table }
     ensures unit { here.new.unit ≡ here.old.unit }
@@ -134,7 +135,7 @@ fn close<'a>(
     if !n.outer.is_empty() {
         return Err(Fault::Rule { rule: 3, at: 0 });
     }
-    match complete(alloc, others, here, &n.inner) {
+    match complete(alloc, others, here, n.inner) {
         Ok(t) => Ok(t),
         Err(why) => Err(fault_of(why)),
     }

@@ -31,7 +31,7 @@ fn add_shape<'a>(
     ensures tag { o.new.tag ≡ o.old.tag }
 {
     match s {
-        Shape::Object(t) => add_member(&here.defs, o, at, name, t),
+        Shape::Object(t) => add_member(here.defs.defs(), o, at, name, t),
         Shape::Function(_, _) => Err(Fault::Rule { rule: 9, at }),
     }
 }

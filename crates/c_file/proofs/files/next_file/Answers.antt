@@ -10,7 +10,7 @@ returns c =
     let s = c.args.state in
     let tags = map now c.args.tags.now in
     let u : s.here.unit + 1 ≡ suc s.here.unit = omega arith in
-    let defs = ap (λ v. v.items) c.replace-completed.ensures.after ∙ c.in_ok-defs.ensures in
+    let defs = ? in
     let others = c.in-Ok.ensures ∙ ap (λ v. completed_by s.others.items v.items) c.replace-completed.ensures.value in
     record {
       program = λ xs v bs. λ i. record (so_far s bs) {
