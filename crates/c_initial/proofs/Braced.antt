@@ -1,21 +1,20 @@
 -- The items of initializers, one after another.
-use Rattle.std.proofs.Common.{arith, ◌≡◌, ◌≢◌, ◌+◌, ◌≤◌, ℕ, zero, suc, Bool, true, false, if◌then◌else◌, List, [], ◌∷◌, ◌++◌, length, drop, refl, sym, ap, subst, ◌∙◌, length-append, Option, Some, None}
+use Rattle.std.proofs.Common.{arith, ◌≡◌, ◌≢◌, ◌+◌, ◌≤◌, ℕ, zero, suc, true, false, List, [], ◌∷◌, ◌++◌, length, drop, refl, sym, ap, subst, ◌∙◌, length-append, Option, Some, None}
 use Rattle.std.proofs.lemmas.List.{append_assoc}
 use Rattle.c_lex.specs.declared.token.Place.{Place}
-use Rattle.c_expr.specs.Tree.{Tree}
-use Rattle.c_declaration.specs.InitialTree.{InitialTree, Value, Braces, Item, with_items}
+use Rattle.c_declaration.specs.InitialTree.{InitialTree, Braces, Item, with_items}
 use Rattle.c_tree.specs.declared.types.StructDef.{StructDef}
 use Rattle.c_typing.specs.Plain.{Plain, Array}
-use Rattle.c_judge.specs.Answers.{Known, Unknown, Broken}
-use Rattle.c_scope.specs.Findings.{Finding, nothing, fine, ◌beside◌, holds}
+use Rattle.c_judge.specs.Answers.{Broken}
+use Rattle.c_scope.specs.Findings.{Finding, nothing, ◌beside◌, holds}
 use Rattle.c_scope.specs.Spelling.{initial_at}
 use Rattle.c_scope.specs.Environment.{Environment}
 use Rattle.c_initial.specs.Initials.{Late, bound_set, with_bound, part_of, count_of, rule_of, is_aggregate, initial_found, late_in}
-use Rattle.c_initial.specs.Begins.{Begin, items_begin, behind_items, begins_of, strings_of, rest}
+use Rattle.c_initial.specs.Begins.{Begin, items_begin, behind_items, strings_of, rest}
 use Rattle.c_scope.specs.declared.refusal.Refusal.{Refusal}
 use Rattle.c_scope.specs.declared.refusal.Refusal.TheVariants.{Rule, NoMemory}
 use Rattle.c_scope.specs.Refused.{IsRefused}
-use Rattle.c_initial.specs.Starts.{Given, with_more, Adds, part_found, part_begins, part_strings}
+use Rattle.c_initial.specs.Starts.{Given, with_more, part_found, part_begins, part_strings}
 use Rattle.c_initial.proofs.TextStarts.{count_braces}
 
 at_more : (i : InitialTree) (js : List InitialTree) → initial_at (with_items i js) ≡ initial_at i

@@ -2,5 +2,5 @@ mod TextStarts
 mod Spotted
 mod Braced
 mod Pointed
-mod Counted
+mod Runs
 mod Filling

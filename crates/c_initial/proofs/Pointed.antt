@@ -1,6 +1,5 @@
--- Expressions as initializers of pointers, and zeros one after another.
-use Rattle.std.proofs.Common.{arith, ◌≡◌, ◌<◌, ◌+◌, ◌-◌, ℕ, zero, suc, Bool, true, false, ◌||◌, ◌==◌, List, [], ◌∷◌, ◌++◌, map, replicate, refl, sym, ap, ◌∙◌, Option, Some, None}
-use Rattle.std.proofs.lemmas.List.{map-append, append_assoc}
+-- Expressions as initializers of pointers.
+use Rattle.std.proofs.Common.{arith, ◌≡◌, ℕ, zero, suc, Bool, true, false, ◌||◌, ◌==◌, List, [], ◌∷◌, refl, sym, ap, ◌∙◌, Option, Some, None}
 use Rattle.c_expr.specs.Tree.{Tree}
 use Rattle.c_typing.specs.Plain.{Plain}
 use Rattle.c_judge.specs.declared.part.Constant.{Constant}
@@ -8,14 +7,11 @@ use Rattle.c_judge.specs.declared.part.Constant.TheVariants.{Variable, Undefined
 use Rattle.c_judge.specs.Answers.{Known, Broken, ◌then◌}
 use Rattle.c_judge.specs.Judgement.{judged}
 use Rattle.c_judge.specs.Places.{place_of}
-use Rattle.c_initial.specs.declared.starts.Begin.{Begin as Row}
-use Rattle.c_initial.specs.declared.starts.Begin.TheVariants as row
 use Rattle.c_scope.specs.Findings.{nothing, holds}
 use Rattle.c_scope.specs.Environment.{Environment, scope_of}
 use Rattle.c_scope.specs.Declarators.{constant}
 use Rattle.c_initial.specs.Initials.{Spot, spot, text_of, number, number_in, is_spot, is_characters, is_address, address_found}
-use Rattle.c_initial.specs.Begins.{Begin, Bits, Text, spot_begin, address_begin}
-use Rattle.c_initial.specs.Starts.{begin_of}
+use Rattle.c_initial.specs.Begins.{Begin, Text, spot_begin, address_begin}
 use Rattle.c_initial.specs.Valued.{is_zero, pointer_begin}
 
 is_address_of : (v : Environment) (t : Plain) (e : Tree) (c : Constant) → is_address v t e (Known c) ≡ (is_zero c || (is_characters v t (text_of e) || is_spot v t (spot v e)))
@@ -53,13 +49,3 @@ begin_same v k e (Some n) = refl
 pub address_begins : (v : Environment) (k : ℕ) (e : Tree) (c : Constant) (n : Option ℕ) → constant (judged (scope_of v) e) ≡ Known c → n ≡ number_in (Known c)
     → address_begin v k e (number v e) ≡ pointer_begin v k n (text_of e) (spot v e)
 address_begins v k e c n h m = ap (λ j. address_begin v k e (number_in j)) h ∙ (ap (address_begin v k e) (sym m) ∙ begin_same v k e n)
-
--- ---- zeros
-
-pub zeros_next : (xs ys : List Row) (n i : ℕ) → ys ≡ (xs ++ row.Bits 0 ∷ []) → i < n → (map begin_of ys ++ replicate (n - (i + 1)) (Bits 0)) ≡ (map begin_of xs ++ replicate (n - i) (Bits 0))
-zeros_next xs ys n i e h =
-    let k : suc (n - (i + 1)) ≡ n - i = omega arith in
-    ap (λ l. map begin_of l ++ replicate (n - (i + 1)) (Bits 0)) e ∙
-    (ap (λ l. l ++ replicate (n - (i + 1)) (Bits 0)) (map-append begin_of xs (row.Bits 0 ∷ [])) ∙
-    (append_assoc (map begin_of xs) (Bits 0 ∷ []) (replicate (n - (i + 1)) (Bits 0)) ∙
-    ap (λ m. map begin_of xs ++ replicate m (Bits 0)) k))

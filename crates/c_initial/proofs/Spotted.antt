@@ -1,5 +1,5 @@
 -- Places in static objects, by the parts of the expressions that tell them.
-use Rattle.std.proofs.Common.{arith, ◌≡◌, ℕ, zero, suc, Bool, true, false, if◌then◌else◌, List, [], ◌∷◌, length, map, slice_get, refl, ap, Option, Some, None, option_map}
+use Rattle.std.proofs.Common.{arith, ◌≡◌, ℕ, zero, suc, true, false, if◌then◌else◌, List, [], ◌∷◌, length, map, slice_get, refl, ap, Option, Some, None, option_map}
 use Rattle.std.specs.Prelude.{option_and_then}
 use Rattle.c_lex.specs.declared.token.Place.{Place}
 use Rattle.c_symbol.specs.declared.symbol.LeafKind.{LeafKind}
@@ -10,16 +10,16 @@ use Rattle.c_symbol.specs.declared.symbol.BinaryOp.{BinaryOp}
 use Rattle.c_symbol.specs.declared.symbol.BinaryOp.TheVariants as binary
 use Rattle.c_expr.specs.Tree.{Tree, Leaf, Index, Call, With, Prefix, Binary, with_arguments}
 use Rattle.c_tree.specs.declared.types.CType.{CType}
-use Rattle.c_typing.specs.Plain.{Plain, Array, plain}
-use Rattle.c_typing.specs.Expressions.{Denoted, Object, Function, Hidden}
+use Rattle.c_typing.specs.Plain.{Array, plain}
+use Rattle.c_typing.specs.Expressions.{Denoted, Object, Function}
 use Rattle.c_judge.specs.declared.symbol.Symbol.{Symbol}
 use Rattle.c_judge.specs.Judges.{denoted}
 use Rattle.c_judge.specs.Judgement.{name_alone}
 use Rattle.c_scope.specs.declared.link.Link.{Link}
 use Rattle.c_scope.specs.Table.{rows}
 use Rattle.c_scope.specs.Environment.{Environment, number_of, denoted_by, denoted_at, meant}
-use Rattle.c_initial.specs.Initials.{Spot, spot, number, item_of, whole_of}
-use Rattle.c_initial.specs.Spots.{object_in, object_of, item_in, whole_in, item_behind, is_add, is_address, whole_leaf, item_leaf, address}
+use Rattle.c_initial.specs.Initials.{spot, item_of, whole_of}
+use Rattle.c_initial.specs.Spots.{object_in, object_of, item_in, whole_in, item_behind, is_add, is_address, item_leaf, address}
 
 name_more : (c e : Tree) (es : List Tree) → name_alone (with_arguments (With c e) es) ≡ None
 name_more c e [] = refl

@@ -1,5 +1,5 @@
 -- Calls are no strings, and lists in braces have so many items.
-use Rattle.std.proofs.Common.{◌≡◌, ◌+◌, ℕ, suc, List, [], ◌∷◌, length, ◌∙◌, refl, Option, Some, None, arith}
+use Rattle.std.proofs.Common.{◌≡◌, ◌+◌, List, [], ◌∷◌, length, refl, None, arith}
 use Rattle.c_lex.specs.declared.token.Place.{Place}
 use Rattle.c_expr.specs.Tree.{Tree, Call, With, with_arguments}
 use Rattle.c_declaration.specs.InitialTree.{InitialTree, Braces, Item, with_items}

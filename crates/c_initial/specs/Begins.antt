@@ -1,17 +1,15 @@
 -- What static objects hold at first (C90 6.5.7): one item for each leaf, where an object is named by its name.
-use Rattle.std.specs.Prelude.{ℕ, zero, suc, ◌+◌, ◌*◌, ◌-◌, Bool, true, false, if◌then◌else◌, List, [], ◌∷◌, ◌++◌, map, length, replicate, drop, Option, Some, None}
+use Rattle.std.specs.Prelude.{ℕ, ◌+◌, ◌*◌, ◌-◌, List, [], ◌∷◌, ◌++◌, map, length, replicate, drop, Option, Some, None}
 use Rattle.c_expr.specs.Tree.{Tree}
 use Rattle.c_declaration.specs.InitialTree.{InitialTree, Value, Braces, Item}
 use Rattle.c_tree.specs.declared.types.StructDef.{StructDef}
 use Rattle.c_tree.specs.declared.types.Member.{Member as MemberRow}
 use Rattle.c_tree.specs.Layout.{members_of}
 use Rattle.c_store.specs.Bits.{low_byte}
-use Rattle.c_typing.specs.Plain.{Plain, Char, Int, Unsigned, Void, Pointer, Array, Struct, plain}
-use Rattle.c_judge.specs.declared.part.Constant.{Constant}
-use Rattle.c_judge.specs.declared.part.Constant.TheVariants.{Number}
+use Rattle.c_typing.specs.Plain.{Plain, Char, Pointer, Array, Struct, plain}
 use Rattle.c_judge.specs.Values.{size_of}
-use Rattle.c_judge.specs.Answers.{Answer, Known, Unknown, Broken}
 use Rattle.c_defs.specs.Depths.{deepest}
+use Rattle.c_defs.specs.Leaves.{leaf_count}
 use Rattle.c_scope.specs.Environment.{Environment}
 use Rattle.c_mentions.specs.Literals.{in_tree, texts}
 use Rattle.c_initial.specs.Initials.{Spot, spot, text_of, number, count_of, part_of}
@@ -25,18 +23,6 @@ pub data Begin : Type 0 where
   Text : ℕ → Begin
 
 -- ---- zeros
-
-abbrev pub leaves_of_members : (Plain → ℕ) → List MemberRow → ℕ
-leaves_of_members f [] = 0
-leaves_of_members f (m ∷ ms) = f (plain m.ctype) + leaves_of_members f ms
-
--- how many leaves a type has that is at most so deep
-abbrev pub leaf_count : List StructDef → (deep : ℕ) → Plain → ℕ
-leaf_count defs zero t = 0
-leaf_count defs (suc deep) Void = 0
-leaf_count defs (suc deep) (Array t n) = n * leaf_count defs deep t
-leaf_count defs (suc deep) (Struct s) = leaves_of_members (leaf_count defs deep) (members_of defs s)
-leaf_count defs (suc deep) t = 1
 
 abbrev pub zeros : List StructDef → Plain → List Begin
 zeros defs t = replicate (leaf_count defs deepest t) (Bits 0)

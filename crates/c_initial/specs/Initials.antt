@@ -1,22 +1,19 @@
 -- Initializers of objects at file scope (C90 6.5.7).
-use Rattle.std.specs.Prelude.{ℕ, zero, suc, ◌+◌, ◌*◌, Bool, true, false, not, ◌&&◌, ◌||◌, ◌==◌, nat_le, nat_lt, slice_get, if◌then◌else◌, List, [], ◌∷◌, ◌++◌, length, Option, Some, None, option_map}
+use Rattle.std.specs.Prelude.{ℕ, zero, suc, Bool, true, false, ◌&&◌, ◌||◌, ◌==◌, nat_le, nat_lt, slice_get, if◌then◌else◌, List, [], ◌∷◌, ◌++◌, length, Option, Some, None, option_map}
 use Rattle.c_symbol.specs.declared.symbol.LeafKind.TheVariants as leaf
 use Rattle.c_symbol.specs.declared.symbol.PrefixOp.TheVariants.{Address}
 use Rattle.c_symbol.specs.declared.symbol.BinaryOp.TheVariants.{Add}
 use Rattle.c_expr.specs.Tree.{Tree, Leaf, Index, Prefix, Binary}
 use Rattle.c_declaration.specs.InitialTree.{InitialTree, Value, Braces, Item}
-use Rattle.c_tree.specs.declared.types.StructDef.{StructDef}
-use Rattle.c_tree.specs.declared.types.Member.{Member as MemberRow}
 use Rattle.c_tree.specs.Layout.{members_of}
-use Rattle.c_typing.specs.Plain.{Plain, Char, Pointer, Array, Struct, plain, is_integer, is_pointer, is_complete, same}
-use Rattle.c_typing.specs.Expressions.{Denoted, Object, Function, Hidden}
+use Rattle.c_typing.specs.Plain.{Plain, Char, Pointer, Array, Struct, plain, same}
+use Rattle.c_typing.specs.Expressions.{Denoted, Object}
 use Rattle.c_judge.specs.declared.part.Constant.{Constant}
 use Rattle.c_judge.specs.declared.part.Constant.TheVariants.{Number}
-use Rattle.c_judge.specs.Values.{size_of}
-use Rattle.c_judge.specs.Answers.{Answer, Known, Unknown, Broken, ◌then◌}
-use Rattle.c_judge.specs.Judgement.{Verdict, Judged, judged}
+use Rattle.c_judge.specs.Answers.{Answer, Known, Broken, ◌then◌}
+use Rattle.c_judge.specs.Judgement.{judged}
 use Rattle.c_judge.specs.Places.{place_of}
-use Rattle.c_scope.specs.Findings.{Finding, nothing, ◌beside◌, holds, asked}
+use Rattle.c_scope.specs.Findings.{Finding, ◌beside◌, holds, asked}
 use Rattle.c_scope.specs.Environment.{Environment, scope_of, meant}
 use Rattle.c_scope.specs.Declarators.{constant}
 use Rattle.c_scope.specs.Spelling.{initial_at}

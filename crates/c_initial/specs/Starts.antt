@@ -1,5 +1,5 @@
 -- What the code's initializers give.
-use Rattle.std.specs.Prelude.{◌≡◌, ℕ, ◌+◌, List, [], ◌∷◌, ◌++◌, length, map, Option, Some, None, Result, Ok, Err}
+use Rattle.std.specs.Prelude.{◌≡◌, ℕ, List, [], ◌∷◌, ◌++◌, map, replicate, Option, Some, None, Result, Ok, Err}
 use Rattle.c_declaration.specs.InitialTree.{InitialTree}
 use Rattle.c_typing.specs.Plain.{Plain}
 use Rattle.c_judge.specs.declared.fault.Fault.{Fault}
@@ -18,17 +18,24 @@ use Rattle.c_scope.specs.Environment.{Environment}
 use Rattle.c_initial.specs.Initials.{Late, late_in, rule_of, initial_found}
 use Rattle.c_initial.specs.Begins.{Begin, Bits, Within, Text, begins_of, strings_of}
 
-abbrev pub begin_of : Row → Begin
-begin_of (row.Bits n) = Bits n
-begin_of (row.Within name n) = Within name.now n
-begin_of (row.Text k) = Text k
+-- what a row tells: a leaf, or a run of zeros, one for each leaf
+abbrev pub begins_of_row : Row → List Begin
+begins_of_row (row.Bits n) = Bits n ∷ []
+begins_of_row (row.Within name n) = Within name.now n ∷ []
+begins_of_row (row.Text k) = Text k ∷ []
+begins_of_row (row.Zeros n) = replicate n (Bits 0)
+
+-- what rows tell, leaf by leaf
+abbrev pub begins_in : List Row → List Begin
+begins_in [] = []
+begins_in (b ∷ bs) = begins_of_row b ++ begins_in bs
 
 abbrev pub late_place : LatePlace → Late
 late_place l = record { name = l.name.now; items = l.items; at = l.at }
 
 abbrev pub IsInitialized : Environment → ℕ → Plain → InitialTree → Result Initialized Fault → Type 0
 IsInitialized v k t i (Ok x) =
-    (initial_found v t i ≡ nothing) × (map begin_of x.begins.items ≡ begins_of v k t i) × (map now x.strings.items ≡ strings_of v t i) ×
+    (initial_found v t i ≡ nothing) × (begins_in x.begins.items ≡ begins_of v k t i) × (map now x.strings.items ≡ strings_of v t i) ×
     (map late_place x.late.items ≡ late_in v i)
 IsInitialized v k t i (Err f) = IsFault (initial_found v t i) f
 
@@ -41,7 +48,7 @@ pub record Given : Type 0 where
   pub late : List Late
 
 abbrev pub given_of : Initialized → Given
-given_of x = record { begins = map begin_of x.begins.items; strings = map now x.strings.items; late = map late_place x.late.items }
+given_of x = record { begins = begins_in x.begins.items; strings = map now x.strings.items; late = map late_place x.late.items }
 
 abbrev pub with_more : Given → List Begin → List (List ℕ) → List Late → Given
 with_more g bs ss ls = record { begins = g.begins ++ bs; strings = g.strings ++ ss; late = g.late ++ ls }
@@ -53,7 +60,7 @@ Adds f g bs ss ls h (Err why) = IsRefused f why
 
 -- one that gives a leaf
 abbrev pub IsBegin : Finding → List Begin → Result Row Refusal → Type 0
-IsBegin f bs (Ok b) = (f ≡ nothing) × (bs ≡ begin_of b ∷ [])
+IsBegin f bs (Ok b) = (f ≡ nothing) × (bs ≡ begins_of_row b)
 IsBegin f bs (Err why) = IsRefused f why
 
 -- ---- items of a list in braces, by the type of the part of the aggregate, where it has one

@@ -12,4 +12,3 @@ mod zeros;
 
 pub use filled::initializers_fill_objects;
 pub use starts::{Begin, Initialized, LatePlace, initial, with_initial_bound};
-pub use zeros::leaf_count;

@@ -80,7 +80,7 @@ fn add_list<'a>(
     match add_items(alloc, here, first, out, t, at, items) {
         Err(why) => Err(why),
         Ok(()) => {
-            add_rest(&here.defs, &mut out.begins, t, items.len())?;
+            add_rest(&here.defs.view(), &mut out.begins, t, items.len())?;
             Ok(())
         }
     }
@@ -128,7 +128,7 @@ fn add_item<'a>(
 ) -> Result<(), Refusal>
     ensures { Adds (part_found (environment_of here.now) (plain t.now) (part_of (environment_of here.now) (plain t.now) k) item.now) (given_of out.old) (part_begins (environment_of here.now) (first + length (given_of out.old).strings) (part_of (environment_of here.now) (plain t.now) k) item.now) (part_strings (environment_of here.now) (part_of (environment_of here.now) (plain t.now) k) item.now) (late_in (environment_of here.now) item.now) (given_of out.new) result }
 {
-    match part_of(&here.defs, &*t, k) {
+    match part_of(here.defs.defs(), &*t, k) {
         None => Err(Refusal::Rule {
             rule: rule_of(t),
             at: initial_at(item),

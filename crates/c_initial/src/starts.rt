@@ -16,13 +16,14 @@ use c_tree::CType;
 use ldb_words::Text;
 use std::alloc::{AllocError, Global};
 
-/// What a leaf of a static object holds at first: the bits of a number, in a pointer 0 for the null pointer; so many bytes past the begin of the
-/// object of a name; or a string by its number.
+/// What leaves of a static object hold at first. One leaf: the bits of a number, in a pointer 0 for the null pointer; so many bytes past the begin
+/// of the object of a name; or a string by its number. Or a run of so many leaves, each with the bits 0.
 #[derive(Clone, Copy)]
 pub enum Begin<'a> {
     Bits(u32),
     Within(&'a Text, u64),
     Text(u32),
+    Zeros(u64),
 }
 
 /// A place in the object of a name, whose bound is not told yet: how many items stand before it, and where its initializer begins.
@@ -33,8 +34,8 @@ pub struct LatePlace<'a> {
     pub at: u32,
 }
 
-/// What an initializer gives: what each leaf of its object holds at first, the strings among them, and the places that only the program's end
-/// tells to be within their objects.
+/// What an initializer gives: what the leaves of its object hold at first, in their order; the strings among them; and the places that only the
+/// program's end tells to be within their objects.
 #[derive(Drop)]
 pub struct Initialized<'a> {
     pub begins: Vec<Begin<'a>>,

@@ -14,7 +14,7 @@ ghost use Rattle.c_mentions.specs.Literals.{in_tree, texts};
 ghost use Rattle.c_initial.specs.Initials.{number, spot, is_characters, is_spot, address_found, value_found, late_of, late_in, initial_found};
 ghost use Rattle.c_initial.specs.Begins.{kept_as, bits_of, characters, character, spot_begin, address_begin, value_begins, strings_of_value, begins_of, strings_of};
 ghost use Rattle.c_initial.specs.Spots.{spot_of};
-ghost use Rattle.c_initial.specs.Starts.{begin_of, late_place, given_of, with_more, Adds, IsBegin};
+ghost use Rattle.c_initial.specs.Starts.{begins_of_row, begins_in, late_place, given_of, with_more, Adds, IsBegin};
 ghost use Rattle.c_initial.specs.Valued.{is_zero, pointer_begin, IsArray};
 ghost use Rattle.c_scope.specs.Here.{environment_of};
 
@@ -99,11 +99,11 @@ fn place_begin<'a>(
     here: &Environment<'a>,
     s: Option<StaticPlace<'a, '_>>,
 ) -> Result<Begin<'a>, AllocError>
-    ensures { IfOk result (λ b. spot_begin (environment_of here.now) (option_map spot_of s.entry) ≡ begin_of b ∷ []) }
+    ensures { IfOk result (λ b. spot_begin (environment_of here.now) (option_map spot_of s.entry) ≡ begins_of_row b) }
 {
     match s {
         None => Ok(Begin::Bits(0)),
-        Some(s) => match size_of(s.ctype, &here.defs) {
+        Some(s) => match size_of(s.ctype, here.defs.defs()) {
             Ok(size) => Ok(Begin::Within(s.name, u64::from(s.items) * u64::from(size))),
             Err(TooBig) => Err(AllocError),
         },
@@ -118,7 +118,7 @@ fn pointer_begin<'a>(
     text: Option<&Text>,
     s: Option<StaticPlace<'a, '_>>,
 ) -> Result<Begin<'a>, AllocError>
-    ensures { IfOk result (λ b. pointer_begin (environment_of here.now) k c (option_map now text.entry) (option_map spot_of s.entry) ≡ begin_of b ∷ []) }
+    ensures { IfOk result (λ b. pointer_begin (environment_of here.now) k c (option_map now text.entry) (option_map spot_of s.entry) ≡ begins_of_row b) }
 {
     match c {
         Some(_) => Ok(Begin::Bits(0)),
@@ -157,8 +157,9 @@ fn pointer<'a>(
 }
 
 /// Adds characters, each as a `char` keeps it.
+#[tactic(auto, using(std::proofs::lemmas::Grind::common_steps, crate::proofs::Runs::begins_more))]
 fn add_characters(begins: &mut Vec<Begin>, text: &[u8]) -> Result<(), AllocError>
-    ensures { OnOk result (map begin_of begins.new.items ≡ map begin_of begins.old.items ++ map character text.now) }
+    ensures { OnOk result (begins_in begins.new.items ≡ begins_in begins.old.items ++ map character text.now) }
 {
     for c in text {
         begins.push(Begin::Bits(kept_as(&CType::Char, u32::from(*c))))?;
@@ -168,7 +169,7 @@ fn add_characters(begins: &mut Vec<Begin>, text: &[u8]) -> Result<(), AllocError
 
 /// Adds the characters of a string as an array of so many items, with zeros behind them.
 fn add_string(begins: &mut Vec<Begin>, n: u32, text: &Text) -> Result<(), AllocError>
-    ensures { OnOk result (map begin_of begins.new.items ≡ map begin_of begins.old.items ++ characters n (Some text.now)) }
+    ensures { OnOk result (begins_in begins.new.items ≡ begins_in begins.old.items ++ characters n (Some text.now)) }
 {
     add_characters(begins, text.as_bytes())?;
     add_zeros(begins, u64::from(n).saturating_sub(text.len() as u64))
@@ -176,7 +177,7 @@ fn add_string(begins: &mut Vec<Begin>, n: u32, text: &Text) -> Result<(), AllocE
 
 /// Adds what an array of so many items holds, whose initializer is an expression.
 fn add_array(begins: &mut Vec<Begin>, item: &CType, n: u32, e: &Expr) -> Result<(), Refusal>
-    ensures { IsArray (plain item.now) n e.now (map begin_of begins.old.items) (map begin_of begins.new.items) result }
+    ensures { IsArray (plain item.now) n e.now (begins_in begins.old.items) (begins_in begins.new.items) result }
 {
     match text_of(e) {
         None => Err(Refusal::Rule {
@@ -213,13 +214,14 @@ fn add_strings<'a>(
 }
 
 /// Adds a leaf and the strings of the expression that gives it.
+#[tactic(auto, using(std::proofs::lemmas::Grind::common_steps, crate::proofs::Runs::begins_more))]
 fn add_leaf<'a>(
     alloc: Global,
     out: &mut Initialized<'a>,
     b: Begin<'a>,
     e: &'a Expr,
 ) -> Result<(), AllocError>
-    ensures { OnOk result (given_of out.new ≡ with_more (given_of out.old) (begin_of b.entry ∷ []) (texts (in_tree e.now)) []) }
+    ensures { OnOk result (given_of out.new ≡ with_more (given_of out.old) (begins_of_row b.entry) (texts (in_tree e.now)) []) }
 {
     out.begins.push(b)?;
     add_strings(alloc, &mut out.strings, e)

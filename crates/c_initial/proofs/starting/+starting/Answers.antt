@@ -1,11 +1,11 @@
-use Rattle.std.proofs.Common.{◌≡◌, ◌+◌, ◌++◌, length, map, refl, sym, ap, ◌∙◌}
+use Rattle.std.proofs.Common.{◌+◌, ◌++◌, length, refl, sym, ap, ◌∙◌}
 use Rattle.c_declaration.specs.InitialTree.{Braces, with_items}
 use Rattle.c_typing.specs.Plain.{plain}
 use Rattle.c_judge.specs.Answers.{Broken}
 use Rattle.c_scope.specs.Here.{environment_of}
 use Rattle.c_initial.specs.Initials.{late_in}
 use Rattle.c_initial.specs.Begins.{items_begin, behind_items, strings_of, rest}
-use Rattle.c_initial.specs.Starts.{given_of, begin_of}
+use Rattle.c_initial.specs.Starts.{given_of, begins_in}
 use Rattle.c_scope.proofs.Items.{item_of}
 use Rattle.c_initial.proofs.Braced.{no_aggregate, none_added, item_refused, one_added, rest_added, behind_braces}
 use Rattle.c_initial.proofs.starting.+starting.Goals as goal
@@ -40,6 +40,6 @@ add_list-returns-in_ok-add_rest-in-Ok m c =
     let h = given_of c.add_items.new.out in
     let i = with_items (Braces c.args.at) c.args.items.now in (
       c.in-Ok.ensures.0,
-      rest_added g h (record h { begins = map begin_of c.add_rest.new.begins.items }) (items_begin v (c.args.first + length g.strings) t i) (behind_items v.defs t i) (strings_of v t i) (late_in v i) c.in-Ok.ensures.1
-          (c.in_ok-add_rest-in-Ok.ensures ∙ (ap (λ ds. h.begins ++ rest ds t (length c.args.items.now)) c.deref.ensures.value ∙ ap (λ zs. h.begins ++ zs) (sym (behind_braces v.defs t c.args.at c.args.items.now)))) refl refl,
+      rest_added g h (record h { begins = begins_in c.add_rest.new.begins.items }) (items_begin v (c.args.first + length g.strings) t i) (behind_items v.defs t i) (strings_of v t i) (late_in v i) c.in-Ok.ensures.1
+          (c.in_ok-add_rest-in-Ok.ensures ∙ (ap (λ ds. h.begins ++ rest ds t (length c.args.items.now)) c.view.ensures ∙ ap (λ zs. h.begins ++ zs) (sym (behind_braces v.defs t c.args.at c.args.items.now)))) refl refl,
     )

@@ -1,4 +1,4 @@
-use Rattle.std.proofs.Common.{◌≡◌, ◌++◌, ◌+◌, map, length, option_map, refl, ap, ◌∙◌}
+use Rattle.std.proofs.Common.{◌++◌, ◌+◌, map, length, option_map, refl, ap, ◌∙◌}
 use Rattle.c_typing.specs.Plain.{plain}
 use Rattle.c_judge.specs.Places.{place_of}
 use Rattle.c_scope.specs.Here.{environment_of}

@@ -1,5 +1,4 @@
-use Rattle.std.proofs.Common.{◌≡◌, ◌||◌, Some, sym, ap, ◌∙◌, option_map, true, false}
-use Rattle.std.proofs.lemmas.Grind.{common_steps}
+use Rattle.std.proofs.Common.{◌||◌, sym, ap, ◌∙◌, option_map}
 use Rattle.c_typing.specs.Plain.{plain}
 use Rattle.c_judge.specs.Answers.{Broken}
 use Rattle.c_mentions.specs.Tags.{now}
