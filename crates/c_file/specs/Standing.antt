@@ -10,7 +10,7 @@ use Rattle.c_file.specs.declared.state.FileFault.{FileFault}
 use Rattle.c_file.specs.declared.state.FileFault.TheVariants as fault
 use Rattle.c_scope.specs.Here.{environment_of}
 use Rattle.c_mentions.specs.Tags.{now}
-use Rattle.c_initial.specs.Starts.{begin_of, late_place}
+use Rattle.c_initial.specs.Starts.{begins_in, late_place}
 use Rattle.c_file.specs.FileNames.{AreConsistent}
 use Rattle.c_file.specs.Names.{defining, AreInOrder, AreWithin}
 use Rattle.c_file.specs.Files.{State, Called, Awaited, Started, Bodied}
@@ -24,7 +24,7 @@ abbrev pub awaited : AwaitedRow → Awaited
 awaited a = record { unit = a.unit; place = late_place a.place }
 
 abbrev pub started : StartedRow → Started
-started s = record { name = s.name.now; unit = s.unit; begins = map begin_of s.begins.items }
+started s = record { name = s.name.now; unit = s.unit; begins = begins_in s.begins.items }
 
 -- the functions, whose statements are there where each name is declared
 abbrev pub AreFunctions : State → Option (List ℕ) → List Function → Type 0

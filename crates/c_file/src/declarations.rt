@@ -15,7 +15,7 @@ ghost use Rattle.c_file.specs.Names.{name_found};
 ghost use Rattle.c_file.specs.Progress.{Adds, Turns, with_given};
 ghost use Rattle.c_scope.specs.Shapes.{parameter_of, shape_of};
 ghost use Rattle.c_file.specs.Standing.{awaited};
-ghost use Rattle.c_initial.specs.Starts.{late_place, begin_of};
+ghost use Rattle.c_initial.specs.Starts.{late_place, begins_in};
 ghost use Rattle.c_mentions.specs.Tags.{now};
 
 use crate::definitions::{Definition, Manner};
@@ -99,7 +99,7 @@ fn started<'a>(
     name: &'a Text,
     given: Initialized<'a>,
 ) -> Result<(), AllocError>
-    ensures { OnOk result (Turns (with_given (is_static storage) name.now (map late_place given.entry.late.items) (map begin_of given.entry.begins.items) (map now given.entry.strings.items)) state.old state.new) }
+    ensures { OnOk result (Turns (with_given (is_static storage) name.now (map late_place given.entry.late.items) (begins_in given.entry.begins.items) (map now given.entry.strings.items)) state.old state.new) }
 {
     let Initialized {
         begins,
