@@ -3,8 +3,9 @@
 use c_check::{CheckFault, check_program};
 use c_lex::tokens;
 use c_syntax::{Unit, parse_unit};
+use c_tree::{ObjectRow, Start};
 use ldb_words::Text;
-use std::alloc::Global;
+use std::alloc::{AllocError, Global};
 use std::test::Fail;
 
 /// What some files are checked to: how many functions, objects and stopping points a program has, or why there is none.
@@ -80,7 +81,7 @@ fn checked(alloc: Global, first: &[u8], second: &[u8]) -> Result<Answer, Fail> {
 }
 
 /// Two files, of which the second may be missing, and what they are checked to.
-const ROWS: [(&[u8], &[u8], Answer); 24] = [
+const ROWS: [(&[u8], &[u8], Answer); 25] = [
     (b"int main(void) { return 0; }", b"", Answer::Made(1, 0, 3)),
     (
         b"int x; int main(void) { x = 1; return x; }",
@@ -185,6 +186,11 @@ const ROWS: [(&[u8], &[u8], Answer); 24] = [
         b"",
         Answer::TooBig,
     ),
+    (
+        b"struct s { char a[1048575], b; }; struct s v = {{1}}; struct s w = {{1}}; int main(void) { return 0; }",
+        b"",
+        Answer::TooBig,
+    ),
 ];
 
 #[test]
@@ -195,4 +201,80 @@ fn programs(rt: HostRuntime) -> Result<(), Fail> {
         assert_eq!(rt; found, wanted);
     }
     Ok(())
+}
+
+/// Objects of a file, with initializers that leave parts of them out.
+const OBJECTS: &[u8] =
+    b"struct t { char c; int n; }; struct s { char a[3]; int b; struct t t[2]; char *p; }; struct s v = {{1}, 2, {{3}}}; struct s w[2] = {{{4, 5}, 6, {{7, 8}, {9}}, \"x\"}}; char z[5] = \"ab\"; int main(void) { return 0; }";
+
+/// What each leaf of these objects holds at first, by the data that gcc -m32 makes of the file; None is the string.
+const HELD: [&[Option<u32>]; 3] = [
+    &[
+        Some(1),
+        Some(0),
+        Some(0),
+        Some(2),
+        Some(3),
+        Some(0),
+        Some(0),
+        Some(0),
+        Some(0),
+    ],
+    &[
+        Some(4),
+        Some(5),
+        Some(0),
+        Some(6),
+        Some(7),
+        Some(8),
+        Some(9),
+        Some(0),
+        None,
+        Some(0),
+        Some(0),
+        Some(0),
+        Some(0),
+        Some(0),
+        Some(0),
+        Some(0),
+        Some(0),
+        Some(0),
+    ],
+    &[Some(97), Some(98), Some(0), Some(0), Some(0)],
+];
+
+/// What a leaf holds: a number, or None for the first string.
+fn held(start: &Start) -> Option<Option<u32>> {
+    match start {
+        Start::Number(n) => Some(Some(*n)),
+        Start::Str(0) => Some(None),
+        Start::Str(_) | Start::Object { .. } => None,
+    }
+}
+
+/// Whether the leaves of an object hold this.
+fn holds(object: &ObjectRow, wanted: &[Option<u32>]) -> bool {
+    let mut same = object.start.len() == wanted.len();
+    for (start, want) in object.start.as_slice().iter().zip(wanted) {
+        same = same && held(start) == Some(*want);
+    }
+    same
+}
+
+#[test]
+fn objects_hold_their_initializers_and_zeros(rt: HostRuntime) -> Result<(), Fail> {
+    let alloc = rt.alloc();
+    let units = both(alloc, OBJECTS, b"")?;
+    let names = names(alloc, units.len())?;
+    assert_eq!(rt; units.len(), 1);
+    match check_program(alloc, &names, &units) {
+        Ok(p) => {
+            assert_eq!(rt; p.objects.len(), HELD.len());
+            for (object, wanted) in p.objects.as_slice().iter().zip(HELD.as_slice()) {
+                assert_eq!(rt; holds(object, *wanted), true);
+            }
+            Ok(())
+        }
+        Err(_) => Err(AllocError.into()),
+    }
 }
