@@ -1,6 +1,7 @@
 -- What objects hold at first, leaf by leaf.
 use Rattle.std.proofs.Common.{◌≡◌, ◌<◌, ◌+◌, ◌-◌, ℕ, zero, suc, List, [], ◌∷◌, ◌++◌, map, length, replicate, drop, ◌∙◌, sym, refl, ap, slice_index_or, arith}
 use Rattle.std.proofs.Math.Seq.{drop-cons}
+use Rattle.std.proofs.lemmas.List.{map-append, append_assoc}
 use Rattle.c_tree.specs.declared.types.CType.{CType}
 use Rattle.c_tree.specs.declared.rows.Start.{Start}
 use Rattle.c_tree.specs.declared.rows.Start.TheVariants.{Number}
@@ -12,7 +13,9 @@ use Rattle.c_file.specs.declared.definitions.Definition.{Definition}
 use Rattle.c_check.specs.declared.places.Places.{Places}
 use Rattle.c_check.specs.declared.object_rows.Starts.{Starts as Kept}
 use Rattle.c_file.specs.Names.{defining}
-use Rattle.c_initial.specs.Begins.{Bits, zeros}
+use Rattle.c_initial.specs.Begins.{Begin, Bits, zeros}
+use Rattle.c_initial.specs.Starts.{begins_of_row, begins_in}
+use Rattle.c_initial.specs.declared.starts.Begin.{Begin as Row}
 use Rattle.c_defs.specs.Leaves.{leaf_count}
 use Rattle.c_check.specs.Placed.{start_by}
 use Rattle.c_check.specs.Objects.{Said, object_said, said_by, said_all}
@@ -27,12 +30,21 @@ zero_more n k xs ys x h e =
     ap (λ l. l ++ replicate (n - (k + 1)) x) e ∙
     (append_append xs x (replicate (n - (k + 1)) x) ∙ ap (λ m. xs ++ replicate m x) (let f : suc (n - (k + 1)) ≡ n - k = omega arith in f))
 
-zeros_of : (p : Places) (u n : ℕ) → replicate n (Number 0) ≡ map (start_by p u) (replicate n (Bits 0))
+pub zeros_of : (p : Places) (u n : ℕ) → replicate n (Number 0) ≡ map (start_by p u) (replicate n (Bits 0))
 zeros_of p u zero = refl
 zeros_of p u (suc n) = ap (λ l. Number 0 ∷ l) (zeros_of p u n)
 
 pub zeros_held : (p : Places) (u : ℕ) (defs : List StructDef) (t : Plain) → replicate (leaf_count defs deepest t) (Number 0) ≡ map (start_by p u) (zeros defs t)
 zeros_held p u defs t = zeros_of p u (leaf_count defs deepest t)
+
+-- the leaves of a row go from those that are left to those that are made
+pub begins_held : (p : Places) (u : ℕ) (xs ys : List Start) (b : Row) (bs rest : List Row) → ys ≡ (xs ++ map (start_by p u) (begins_of_row b)) → bs ≡ b ∷ rest
+    → (ys ++ map (start_by p u) (begins_in rest)) ≡ (xs ++ map (start_by p u) (begins_in bs))
+begins_held p u xs ys b bs rest e d =
+    let f : Begin → Start = start_by p u in
+    ap (λ l. l ++ map f (begins_in rest)) e ∙
+    (append_assoc xs (map f (begins_of_row b)) (map f (begins_in rest)) ∙
+    (ap (λ l. xs ++ l) (sym (map-append f (begins_of_row b) (begins_in rest))) ∙ ap (λ l. xs ++ map f (begins_in l)) (sym d)))
 
 append_said : (xs : List Said) (x : Said) (ys : List Said) → ((xs ++ x ∷ []) ++ ys) ≡ (xs ++ x ∷ ys)
 append_said [] x ys = refl

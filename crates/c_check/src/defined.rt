@@ -4,8 +4,8 @@ ghost use Rattle.c_file.specs.Names.{defining, defines, is_defined, AreWithin};
 ghost use Rattle.c_scope.specs.NumberedNames.{has_name};
 ghost use Rattle.c_check.specs.Sets.{in_file, defined_in};
 
-use c_file::Definition;
 use c_defs::Numbers;
+use c_file::Definition;
 use std::alloc::{AllocError, Global};
 
 /// The names that are defined: as external, and as `static` in each file.

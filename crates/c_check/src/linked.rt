@@ -2,8 +2,8 @@
 ghost use Rattle.std.specs.Prelude.{◌≡◌, ℕ, List, Bool, None, Some, OnOk, if◌then◌else◌};
 ghost use Rattle.c_check.specs.Linked.{linked_in, is_linked};
 
-use c_file::FileNumbers;
 use c_defs::Numbers;
+use c_file::FileNumbers;
 use std::alloc::{AllocError, Global};
 
 /// Numbers of external names, and of the `static` names of each file.

@@ -1,19 +1,21 @@
 // The rows of a program's objects (C90 6.5.7, 6.7.2).
-ghost use Rattle.std.specs.Prelude.{◌≡◌, ◌++◌, ◌∷◌, ℕ, List, map, length, replicate, option_map, IfOk};
+ghost use Rattle.std.specs.Prelude.{◌≡◌, ◌++◌, ◌∷◌, ℕ, List, map, length, replicate, option_map, IfOk, OnOk};
 ghost use Rattle.c_tree.specs.declared.rows.Start.TheVariants.{Number};
 ghost use Rattle.c_typing.specs.Plain.{plain};
 ghost use Rattle.c_defs.specs.Depths.{deepest};
 ghost use Rattle.c_defs.specs.Leaves.{leaf_count};
 ghost use Rattle.c_file.specs.FileNumbers.{number_at};
 ghost use Rattle.c_file.specs.Names.{defining};
-ghost use Rattle.c_initial.specs.Starts.{begin_of};
+ghost use Rattle.c_initial.specs.Begins.{Within};
+ghost use Rattle.c_initial.specs.Starts.{begins_of_row, begins_in};
 ghost use Rattle.c_file.specs.Standing.{started};
 ghost use Rattle.c_check.specs.Placed.{start_by};
 ghost use Rattle.c_check.specs.Objects.{start_number, started_at, starts_by, object_said, said_by, said_all};
 
 use crate::places::Places;
+use c_defs::StructsView;
 use c_file::{Definition, FileNumbers, Started};
-use c_initial::{Begin, leaf_count};
+use c_initial::Begin;
 use c_judge::copied;
 use c_tree::{CType, ObjectRow, Start, StructDef};
 use ldb_words::{Many, Text};
@@ -47,25 +49,50 @@ pub fn start_numbers<'s, 'a>(
     Ok(numbers)
 }
 
-/// What a leaf holds at first. Offsets of 2^32 and more, which no place within an object has, are refused.
-fn start_of<'s, 'a>(
+/// A leaf that holds a place at first: so many bytes past the begin of the object of a name. Offsets of 2^32 and more, which no place within an
+/// object has, are refused.
+fn place_start<'s>(
     places: &Places<'s>,
     unit: u32,
-    begin: &'s Begin<'a>,
+    name: &'s Text,
+    bytes: u64,
 ) -> Result<Start, AllocError>
-    ensures { IfOk result (λ s. s ≡ start_by places.now unit (begin_of begin.now)) }
+    ensures { IfOk result (λ s. s ≡ start_by places.now unit (Within name.now bytes)) }
+{
+    let object = places.object(unit, name.as_bytes()).unwrap_or(0);
+    match u32::try_from(bytes) {
+        Err(_) => Err(AllocError),
+        Ok(offset) => Ok(Start::Object { object, offset }),
+    }
+}
+
+/// Adds so many zeros.
+fn add_zeros(starts: &mut Vec<Start>, n: u64) -> Result<(), AllocError>
+    ensures { OnOk result (starts.new.items ≡ starts.old.items ++ replicate n (Number 0)) }
+{
+    for _ in 0..n {
+        starts.push(Start::Number(0))?;
+    }
+    Ok(())
+}
+
+/// Adds what a leaf holds at first, or the leaves of a run of zeros.
+#[tactic(auto, using(crate::proofs::Holding::zeros_of))]
+fn add_begin<'s, 'a>(
+    places: &Places<'s>,
+    unit: u32,
+    starts: &mut Vec<Start>,
+    begin: &'s Begin<'a>,
+) -> Result<(), AllocError>
+    ensures { OnOk result (starts.new.items ≡ starts.old.items ++ map (start_by places.now unit) (begins_of_row begin.now)) }
 {
     match *begin {
-        Begin::Bits(n) => Ok(Start::Number(n)),
-        Begin::Within(name, bytes) => {
-            let object = places.object(unit, name.as_bytes()).unwrap_or(0);
-            match u32::try_from(bytes) {
-                Err(_) => Err(AllocError),
-                Ok(offset) => Ok(Start::Object { object, offset }),
-            }
-        }
-        Begin::Text(k) => Ok(Start::Str(k)),
+        Begin::Bits(n) => starts.push(Start::Number(n))?,
+        Begin::Within(name, bytes) => starts.push(place_start(places, unit, name, bytes)?)?,
+        Begin::Text(k) => starts.push(Start::Str(k))?,
+        Begin::Zeros(n) => add_zeros(starts, n)?,
     }
+    Ok(())
 }
 
 /// What the leaves of an initialized object hold at first.
@@ -75,12 +102,11 @@ fn given<'s, 'a>(
     unit: u32,
     begins: &'s [Begin<'a>],
 ) -> Result<Vec<Start>, AllocError>
-    ensures { IfOk result (λ l. l.items ≡ map (start_by places.now unit) (map begin_of begins.now)) }
+    ensures { IfOk result (λ l. l.items ≡ map (start_by places.now unit) (begins_in begins.now)) }
 {
     let mut starts = Vec::new(alloc);
     for begin in begins {
-        let start = start_of(places, unit, begin)?;
-        starts.push(start)?;
+        add_begin(places, unit, &mut starts, begin)?;
     }
     Ok(starts)
 }
@@ -89,11 +115,9 @@ fn given<'s, 'a>(
 fn zeros(alloc: Global, defs: &[StructDef], t: &CType) -> Result<Vec<Start>, AllocError>
     ensures { IfOk result (λ l. l.items ≡ replicate (leaf_count defs.now deepest (plain t.now)) (Number 0)) }
 {
-    let n = leaf_count(defs, t)?;
+    let n = StructsView::of(defs).leaf_count(t)?;
     let mut starts = Vec::new(alloc);
-    for _ in 0..n {
-        starts.push(Start::Number(0))?;
-    }
+    add_zeros(&mut starts, u64::from(n))?;
     Ok(starts)
 }
 
