@@ -46,7 +46,7 @@ impl<'a> DefinedNames<'a> {
 }
 
 /// Adds a name to a set.
-#[tactic(auto, using(c_struct::proofs::NamesAdded::name_added))]
+#[tactic(auto, using(crate::proofs::NamesAdded::name_added))]
 fn add_name<'a>(names: &mut Numbers<'a>, name: &'a [u8]) -> Result<(), AllocError>
     ensures { OnOk result ((t : List ℕ) → has_name names.new t ≡ (bytes_eq name.now t || has_name names.old t)) }
 {

@@ -77,7 +77,6 @@ fn add_zeros(starts: &mut Vec<Start>, n: u64) -> Result<(), AllocError>
 }
 
 /// Adds what a leaf holds at first, or the leaves of a run of zeros.
-#[tactic(auto, using(crate::proofs::Holding::zeros_of))]
 fn add_begin<'s, 'a>(
     places: &Places<'s>,
     unit: u32,
