@@ -1,31 +1,23 @@
 -- Faults in declarations, initializers and `switch`, and stopping points, by computation.
-use Rattle.std.proofs.Common.{refl, ℕ, List, [], ◌∷◌, Option, Some, None, true, false, ◌≡◌}
+use Rattle.std.proofs.Common.{refl, ℕ, List, [], ◌∷◌, Option, Some, None, false, ◌≡◌}
 use Rattle.std.specs.Prelude.{codes, ◌+◌}
-use Rattle.c_lex.specs.declared.token.Place.{Place}
-use Rattle.c_lex.specs.declared.number.Integer.{Integer}
 use Rattle.c_symbol.specs.declared.symbol.LeafKind.TheVariants as leaf
 use Rattle.c_symbol.specs.declared.symbol.PrefixOp.TheVariants as prefix
-use Rattle.c_symbol.specs.declared.symbol.AssignOp.TheVariants as assign
 use Rattle.c_symbol.specs.declared.symbol.BinaryOp.TheVariants as binary
 use Rattle.c_expr.specs.declared.tree.Spec.TheVariants as spec
-use Rattle.c_expr.specs.Tree.{Tree, Leaf, Call, Prefix, Binary}
+use Rattle.c_expr.specs.Tree.{Tree, Leaf, Prefix, Binary}
 use Rattle.c_declaration.specs.Tree.{DeclaratorTree, Name, Pointers, Array, Function, Taking, Named as Taken}
-use Rattle.c_declaration.specs.declared.tree.Declared.{Declared}
 use Rattle.c_declaration.specs.declared.tree.FileSpec.TheVariants.{Named}
 use Rattle.c_declaration.specs.declared.tree.Storage.TheVariants as storage
 use Rattle.c_declaration.specs.InitialTree.{InitialTree, Value, Braces, Item}
-use Rattle.c_statement.specs.Tree.{StatementTree, Empty, Evaluate, Begun, Declares, Also, Closed, Headed, Return}
+use Rattle.c_statement.specs.Tree.{Empty, Begun, Declares, Also, Closed, Headed, Return}
 use Rattle.c_statement.specs.declared.tree.Head.TheVariants as head
 use Rattle.c_syntax.specs.declared.tree.External.{External}
 use Rattle.c_syntax.specs.declared.tree.External.TheVariants.{Declaration, Definition}
 use Rattle.c_defs.specs.Depths.{deepest}
-use Rattle.c_typing.specs.Plain as plain
-use Rattle.c_scope.specs.Declarators as shape
-use Rattle.c_file.specs.Programs.{Fault, Rule, Twice, Undefined, NoMain, Faults, AllFiles, Well, at_first, tags_of}
-use Rattle.c_scope.specs.Environment.{Environment}
+use Rattle.c_file.specs.Programs.{Rule, Faults, AllFiles, Well, at_first, tags_of}
 use Rattle.c_file.specs.Files.{State}
-use Rattle.c_file.specs.Made.{all_points, object_type, objects, begins_in, started}
-use Rattle.c_check.proofs.Examples.{at, variable, main_with}
+use Rattle.c_check.proofs.Examples.{at, main_with}
 
 abbrev number : ℕ → ℕ → Tree
 number n k = Leaf (at n) (leaf.Constant (record { value = k; is_unsigned = false })) []

@@ -1,25 +1,21 @@
 -- Faults of worked programs, by computation.
-use Rattle.std.proofs.Common.{refl, ℕ, List, [], ◌∷◌, Option, Some, None, true, false, ◌≡◌}
+use Rattle.std.proofs.Common.{refl, ℕ, List, [], ◌∷◌, Some, None, false}
 use Rattle.std.specs.Prelude.{codes, ◌+◌}
 use Rattle.c_lex.specs.declared.token.Place.{Place}
-use Rattle.c_lex.specs.declared.number.Integer.{Integer}
 use Rattle.c_symbol.specs.declared.symbol.LeafKind.TheVariants as leaf
 use Rattle.c_symbol.specs.declared.symbol.PrefixOp.TheVariants as prefix
 use Rattle.c_symbol.specs.declared.symbol.AssignOp.TheVariants as assign
 use Rattle.c_symbol.specs.declared.symbol.BinaryOp.TheVariants as binary
 use Rattle.c_expr.specs.declared.tree.Spec.TheVariants as spec
-use Rattle.c_expr.specs.Tree.{Tree, Leaf, Call, Prefix, Binary}
-use Rattle.c_declaration.specs.Tree.{DeclaratorTree, Name, Function}
-use Rattle.c_declaration.specs.declared.tree.Declared.{Declared}
+use Rattle.c_expr.specs.Tree.{Leaf, Call, Prefix, Binary}
+use Rattle.c_declaration.specs.Tree.{Name, Function}
 use Rattle.c_declaration.specs.declared.tree.FileSpec.TheVariants.{Named}
 use Rattle.c_declaration.specs.declared.tree.Storage.TheVariants as storage
 use Rattle.c_statement.specs.Tree.{StatementTree, Evaluate, Begun, Also, Closed, Return}
 use Rattle.c_syntax.specs.declared.tree.External.{External}
 use Rattle.c_syntax.specs.declared.tree.External.TheVariants.{Declaration, Definition}
 use Rattle.c_defs.specs.Depths.{deepest}
-use Rattle.c_typing.specs.Plain as plain
-use Rattle.c_scope.specs.Declarators as shape
-use Rattle.c_file.specs.Programs.{Fault, Rule, Twice, Undefined, NoMain, Faults, FaultsBehind, AllFiles, at_first, tags_of}
+use Rattle.c_file.specs.Programs.{Rule, Twice, Undefined, NoMain, Faults}
 
 -- a place on the first line
 abbrev pub at : ℕ → Place

@@ -1,13 +1,11 @@
 -- Sets of names.
-use Rattle.std.proofs.Common.{◌≡◌, ◌<◌, ◌≤◌, ◌+◌, ℕ, zero, suc, Bool, true, false, ◌||◌, List, [], ◌∷◌, ◌++◌, length, drop, map, slice_get, slice_index_or, ◌∙◌, sym, refl, ap, Option, Some, None, bytes_eq, if◌then◌else◌, arith}
+use Rattle.std.proofs.Common.{◌≡◌, ◌<◌, ◌≤◌, ◌+◌, ℕ, zero, suc, Bool, true, false, ◌||◌, List, [], ◌∷◌, ◌++◌, length, drop, map, slice_get, slice_index_or, ◌∙◌, sym, refl, ap, None, arith}
 use Rattle.std.proofs.Math.Seq.{drop-cons}
-use Rattle.std.specs.Map.{update}
 use Rattle.std.specs.Option.{is_some}
 use Rattle.c_defs.specs.declared.numbers.Numbers.{Numbers}
 use Rattle.c_defs.specs.Numbers.{number_in}
 use Rattle.c_file.specs.declared.definitions.Definition.{Definition}
 use Rattle.c_file.specs.Names.{defining, defines, is_defined, AreWithin}
-use Rattle.c_scope.specs.NumberedNames.{has_name}
 use Rattle.c_check.specs.Sets.{in_file}
 
 or_turned : (a b c : Bool) → ((a || b) || c) ≡ (b || (a || c))

@@ -1,8 +1,6 @@
 -- The names that are defined, as sets.
 use Rattle.std.specs.Prelude.{ℕ, Bool, false, if◌then◌else◌, List, Option, Some, None, slice_get}
-use Rattle.std.specs.Option.{is_some}
 use Rattle.c_defs.specs.declared.numbers.Numbers.{Numbers}
-use Rattle.c_defs.specs.Numbers.{number_in}
 use Rattle.c_scope.specs.NumberedNames.{has_name}
 use Rattle.c_check.specs.declared.defined.DefinedNames.{DefinedNames}
 
