@@ -3,7 +3,7 @@
 use c_check::{CheckFault, check_program};
 use c_lex::tokens;
 use c_syntax::{Unit, parse_unit};
-use c_tree::{ObjectRow, Start};
+use c_tree::{ObjectRow, Program, Start};
 use ldb_words::Text;
 use std::alloc::{AllocError, Global};
 use std::test::Fail;
@@ -261,20 +261,29 @@ fn holds(object: &ObjectRow, wanted: &[Option<u32>]) -> bool {
     same
 }
 
+/// The checked program of a file, where there is one.
+fn made(alloc: Global, text: &[u8]) -> Result<Option<Program>, Fail> {
+    let units = both(alloc, text, b"")?;
+    let names = names(alloc, units.len())?;
+    if units.is_empty() || names.len() != units.len() {
+        return Ok(None);
+    }
+    match check_program(alloc, &names, &units) {
+        Ok(p) => Ok(Some(p)),
+        Err(_) => Ok(None),
+    }
+}
+
 #[test]
 fn objects_hold_their_initializers_and_zeros(rt: HostRuntime) -> Result<(), Fail> {
-    let alloc = rt.alloc();
-    let units = both(alloc, OBJECTS, b"")?;
-    let names = names(alloc, units.len())?;
-    assert_eq!(rt; units.len(), 1);
-    match check_program(alloc, &names, &units) {
-        Ok(p) => {
+    match made(rt.alloc(), OBJECTS)? {
+        None => Err(AllocError.into()),
+        Some(p) => {
             assert_eq!(rt; p.objects.len(), HELD.len());
             for (object, wanted) in p.objects.as_slice().iter().zip(HELD.as_slice()) {
                 assert_eq!(rt; holds(object, *wanted), true);
             }
             Ok(())
         }
-        Err(_) => Err(AllocError.into()),
     }
 }
