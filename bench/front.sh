@@ -38,7 +38,7 @@ wide() {
     echo 'int main(void) { return 0; }'
 }
 
-# a struct that is doubled 19 times, which 2,900 others contain
+# a struct that is doubled 18 times, which 2,900 others contain
 doubled() {
     echo 'struct d0 { char a, b; };'
     for n in $(seq 18); do echo "struct d$n { struct d$((n - 1)) a, b; };"; done
@@ -54,7 +54,7 @@ members() {
     echo 'return 0; }'
 }
 
-# 4,000 objects of 1,048,576 bytes that begin with one zero
+# 3,900 objects of 1,048,576 bytes that begin with one zero
 zeros() {
     seq -f 'char z%g[1048576]={0};' 1 3900
     echo 'int main(void) { return 0; }'
