@@ -110,7 +110,7 @@ fn declare<'a>(
     if here.is_here(name) {
         return Err(Fault::Rule { rule: 5, at });
     }
-    here.declare_local(alloc, name, copied(alloc, t)?, register)?;
+    here.declare_local(alloc, name, copied(t)?, register)?;
     Ok(())
 }
 

@@ -162,7 +162,7 @@ fn object_row<'s, 'a>(
         name,
         unit: d.unit,
         is_static: d.is_static,
-        ctype: copied(alloc, t)?,
+        ctype: copied(t)?,
         start: Many::from_vec(start),
     })
 }

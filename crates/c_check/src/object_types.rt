@@ -31,18 +31,17 @@ fn told<'s, 'a>(names: &'s FileNames<'a>, d: &Definition<'a>) -> Option<&'s File
 }
 
 /// A copy of the type of an object.
-fn copied_type(alloc: Global, meaning: &Meaning) -> Result<CType, AllocError>
+fn copied_type(meaning: &Meaning) -> Result<CType, AllocError>
     ensures { IfOk result (λ t. plain t ≡ type_or (meaning_of meaning.now)) }
 {
     match meaning {
-        Meaning::Object { ctype, .. } => copied(alloc, ctype),
+        Meaning::Object { ctype, .. } => copied(ctype),
         Meaning::Function { .. } => Err(AllocError),
     }
 }
 
 /// The type of an object.
 fn object_type<'a>(
-    alloc: Global,
     names: &FileNames<'a>,
     d: &Definition<'a>,
 ) -> Result<CType, AllocError>
@@ -50,7 +49,7 @@ fn object_type<'a>(
 {
     match told(&*names, d) {
         None => Err(AllocError),
-        Some(f) => copied_type(alloc, &f.meaning),
+        Some(f) => copied_type(&f.meaning),
     }
 }
 
@@ -65,7 +64,7 @@ pub fn object_types<'a>(
 {
     let mut types = Vec::new(alloc);
     for d in objects {
-        let t = object_type(alloc, names, d)?;
+        let t = object_type(names, d)?;
         types.push(t)?;
     }
     Ok(types)

@@ -40,7 +40,7 @@ fn symbol_row<'s>(
     ensures { IfOk result (λ s. symbol_said s ≡ symbol_by places.now name.now link.now) }
 {
     let text = Text::from_slice(alloc, name.name.as_bytes())?;
-    let ctype = copied(alloc, &name.ctype)?;
+    let ctype = copied(&name.ctype)?;
     Ok(SymbolRow {
         name: text,
         ctype,

@@ -1,3 +1,4 @@
+pub mod Digested
 pub mod Comparing
 pub mod Items
 pub mod Counted

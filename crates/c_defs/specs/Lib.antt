@@ -1,3 +1,4 @@
+pub mod Digests
 pub mod Numbers
 pub mod Members
 pub mod Depths

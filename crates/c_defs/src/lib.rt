@@ -4,12 +4,14 @@
 
 mod alignments;
 mod depths;
+mod digests;
 mod leaf_counts;
 mod numbers;
 mod rows;
 mod structs;
 mod view;
 
+pub use digests::digest;
 pub use numbers::Numbers;
 pub use structs::Structs;
 pub use view::StructsView;

@@ -1,5 +1,5 @@
--- Maps whose keys are the names of files.
-use Rattle.std.proofs.Common.{◌≡◌, ℕ, Bool, true, false, ◌&&◌, ◌==◌, nat_lt, List, ◌∙◌, sym, refl, ap, Option, bytes_eq, if◌then◌else◌, arith, BTreeMap, Bor, Ordering, Less, Equal, Greater, nat_cmp, is_eq, ltb-true}
+-- Maps whose keys are the names of files, with the digests of the names.
+use Rattle.std.proofs.Common.{◌≡◌, ℕ, Bool, true, false, ◌&&◌, ◌==◌, nat_lt, List, ◌∙◌, sym, refl, ap, subst, Option, bytes_eq, if◌then◌else◌, arith, BTreeMap, Bor, Ordering, Less, Equal, Greater, nat_cmp, is_eq, ltb-true}
 use Rattle.std.proofs.lemmas.Bool.{and_parts, and_from, eqb-true, eq-eqb, ne_eqb, false_from_ne_true, false≢true}
 use Rattle.std.proofs.lemmas.Map.Text.{is_eq-slice_cmp}
 use Rattle.std.proofs.lemmas.Slice.Eq.{bytes_eq-Decides}
@@ -7,61 +7,56 @@ use Rattle.std.specs.Ordering.{ordering_then, eq_by_cmp}
 use Rattle.std.specs.Cmp.Lexicographic.{slice_cmp}
 use Rattle.std.specs.Map.{lookup, IsKeyTest, AreApart, KeepsOthers}
 use Rattle.std.specs.BTreeMap as tree
+use Rattle.c_defs.specs.Digests.{digest, compared}
+use Rattle.c_defs.proofs.Digested.{Pair, pair_cmp, both_equal, number_equal, compared_is}
+use Rattle.c_file.specs.FileNumbers.{compared_in, with_number}
 
-abbrev Pair : Type 0
-Pair = ℕ × Bor (List ℕ)
+abbrev Triple : Type 0
+Triple = ℕ × Pair
 
-abbrev compared : ℕ → List ℕ → Pair → Ordering
-compared u t k = ordering_then (nat_cmp u k.0) (slice_cmp nat_cmp t k.1.now)
+abbrev triple_cmp : Triple → Triple → Ordering
+triple_cmp x y = ordering_then (nat_cmp x.0 y.0) (pair_cmp x.1 y.1)
 
-abbrev pair_cmp : Pair → Pair → Ordering
-pair_cmp x y = ordering_then (nat_cmp x.0 y.0) (slice_cmp nat_cmp x.1.now y.1.now)
+same_key : (d u : ℕ) (t : List ℕ) (k : Triple) → Bool
+same_key d u t k = (d == k.0) && ((u == k.1.0) && bytes_eq t k.1.1.now)
 
-both_equal : (o p : Ordering) → is_eq (ordering_then o p) ≡ (is_eq o && is_eq p)
-both_equal Less p = refl
-both_equal Equal p = refl
-both_equal Greater p = refl
+compared_in_is : (d u : ℕ) (t : List ℕ) (k : Triple) → is_eq (compared_in d u t k) ≡ same_key d u t k
+compared_in_is d u t k =
+    both_equal (nat_cmp d k.0) (compared u t k.1) ∙ (ap (λ b. b && is_eq (compared u t k.1)) (number_equal d k.0) ∙ ap (λ b. (d == k.0) && b) (compared_is u k.1.0 t k.1.1.now))
 
-number_equal : (u v : ℕ) → is_eq (nat_cmp u v) ≡ (u == v)
-number_equal u v =
-    let P : Bool → Type 0 = λ b. nat_lt u v ≡ b → is_eq (if b then Less else (if u == v then Equal else Greater)) ≡ (u == v) in
-    (elim (nat_lt u v) as P [
-      | true ↦ λ e. let l = ltb-true u v e in sym (ne_eqb u v (λ f. omega arith))
-      | false ↦ λ e. elim (u == v) as (λ b. is_eq (if b then Equal else Greater) ≡ b) [ true ↦ refl | false ↦ refl ]
-    ]) refl
+is_at_key : (d u : ℕ) (t : List ℕ) (k : Triple) → is_eq (compared_in d u t k) ≡ true → (d ≡ k.0) × ((u ≡ k.1.0) × (t ≡ k.1.1.now))
+is_at_key d u t k e =
+    let p = and_parts (d == k.0) ((u == k.1.0) && bytes_eq t k.1.1.now) (sym (compared_in_is d u t k) ∙ e) in
+    let q = and_parts (u == k.1.0) (bytes_eq t k.1.1.now) p.1 in
+    (eqb-true d k.0 p.0, (eqb-true u k.1.0 q.0, (bytes_eq-Decides t k.1.1.now).0 q.1))
 
-pub compared_is : (u v : ℕ) (t s : List ℕ) → is_eq (ordering_then (nat_cmp u v) (slice_cmp nat_cmp t s)) ≡ ((u == v) && bytes_eq t s)
-compared_is u v t s = both_equal (nat_cmp u v) (slice_cmp nat_cmp t s) ∙ (ap (λ b. b && is_eq (slice_cmp nat_cmp t s)) (number_equal u v) ∙ ap (λ b. (u == v) && b) (is_eq-slice_cmp t s))
+key_test : (d v : ℕ) (t : List ℕ) → IsKeyTest (eq_by_cmp triple_cmp) (λ k. is_eq (compared_in d v t k))
+key_test d v t x y e =
+    let p = is_at_key x.0 x.1.0 x.1.1.now y e in
+    ap (λ w. is_eq (ordering_then (nat_cmp d w) (compared v t x.1))) p.0
+    ∙ (ap (λ w. is_eq (ordering_then (nat_cmp d y.0) (ordering_then (nat_cmp v w) (slice_cmp nat_cmp t x.1.1.now)))) p.1.0
+    ∙ ap (λ s. is_eq (ordering_then (nat_cmp d y.0) (ordering_then (nat_cmp v y.1.0) (slice_cmp nat_cmp t s)))) p.1.1)
 
-is_at_key : (u v : ℕ) (t s : List ℕ) → is_eq (ordering_then (nat_cmp u v) (slice_cmp nat_cmp t s)) ≡ true → (u ≡ v) × (t ≡ s)
-is_at_key u v t s e =
-    let p = and_parts (u == v) (bytes_eq t s) (sym (compared_is u v t s) ∙ e) in
-    (eqb-true u v p.0, (bytes_eq-Decides t s).0 p.1)
-
-key_test : (v : ℕ) (t : List ℕ) → IsKeyTest (eq_by_cmp pair_cmp) (λ k. is_eq (compared v t k))
-key_test v t x y e =
-    let p = is_at_key v x.0 t x.1.now e in
-    ap (λ w. is_eq (compared w t y)) p.0 ∙ ap (λ s. is_eq (compared x.0 s y)) p.1
-
-apart : (u v : ℕ) (bs t : List ℕ) → ((u == v) && bytes_eq bs t) ≡ false → AreApart (λ k. is_eq (compared u bs k)) (λ k. is_eq (compared v t k))
+apart : (u v : ℕ) (bs t : List ℕ) → ((u == v) && bytes_eq bs t) ≡ false → AreApart (λ k. is_eq (compared_in (digest bs) u bs k)) (λ k. is_eq (compared_in (digest t) v t k))
 apart u v bs t n k e =
-    let p = is_at_key u k.0 bs k.1.now e in
-    false_from_ne_true (is_eq (compared v t k)) (λ f.
-    let q = is_at_key v k.0 t k.1.now f in
-    false≢true (sym n ∙ and_from (u == v) (bytes_eq bs t) (eq-eqb u v (p.0 ∙ sym q.0)) ((bytes_eq-Decides bs t).1 (p.1 ∙ sym q.1))))
+    let p = is_at_key (digest bs) u bs k e in
+    false_from_ne_true (is_eq (compared_in (digest t) v t k)) (λ f.
+    let q = is_at_key (digest t) v t k f in
+    false≢true (sym n ∙ and_from (u == v) (bytes_eq bs t) (eq-eqb u v (p.1.0 ∙ sym q.1.0)) ((bytes_eq-Decides bs t).1 (p.1.1 ∙ sym q.1.1))))
 
-other_entries : {X : Type 0} (eq : Pair → Pair → Bool) (test : Pair → Bool) (old new : List (Pair × X)) → KeepsOthers eq test old new → (other : Pair → Bool) → IsKeyTest eq other → AreApart test other → lookup other new ≡ lookup other old
+other_entries : {X : Type 0} (eq : Triple → Triple → Bool) (test : Triple → Bool) (old new : List (Triple × X)) → KeepsOthers eq test old new → (other : Triple → Bool) → IsKeyTest eq other → AreApart test other → lookup other new ≡ lookup other old
 unfolding KeepsOthers
 other_entries eq test old new h = h
 
--- a map of which one key is set
-pub pairs_update : {X : Type 0} (u : ℕ) (bs : List ℕ) (m n : BTreeMap Pair X) (w : Option X) → tree.UpdatesBy pair_cmp (compared u bs) m n w
-    → (v : ℕ) (t : List ℕ) → tree.get_by (compared v t) n ≡ (if (u == v) && bytes_eq bs t then w else tree.get_by (compared v t) m)
-pairs_update u bs m n w h v t =
-    let P : Bool → Type 0 = λ b. ((u == v) && bytes_eq bs t) ≡ b → tree.get_by (compared v t) n ≡ (if b then w else tree.get_by (compared v t) m) in
+-- a map of which one name of a file is set
+pub pairs_update : {X : Type 0} (u : ℕ) (bs : List ℕ) (d : ℕ) (m n : BTreeMap Triple X) (w : Option X) → d ≡ digest bs → tree.UpdatesBy triple_cmp (compared_in d u bs) m n w
+    → (v : ℕ) (t : List ℕ) → tree.get_by (compared_in (digest t) v t) n ≡ (if (u == v) && bytes_eq bs t then w else tree.get_by (compared_in (digest t) v t) m)
+pairs_update u bs d m n w is g v t =
+    let h = subst (λ c. tree.UpdatesBy triple_cmp (compared_in c u bs) m n w) is g in
+    let P : Bool → Type 0 = λ b. ((u == v) && bytes_eq bs t) ≡ b → tree.get_by (compared_in (digest t) v t) n ≡ (if b then w else tree.get_by (compared_in (digest t) v t) m) in
     (elim ((u == v) && bytes_eq bs t) as P [
       | true ↦ λ e.
           let p = and_parts (u == v) (bytes_eq bs t) e in
-          ap (λ x. tree.get_by (compared x t) n) (sym (eqb-true u v p.0)) ∙ (ap (λ s. tree.get_by (compared u s) n) (sym ((bytes_eq-Decides bs t).0 p.1)) ∙ h.1)
-      | false ↦ λ e. other_entries (eq_by_cmp pair_cmp) (λ k. is_eq (compared u bs k)) m.entries n.entries h.3 (λ k. is_eq (compared v t k)) (key_test v t) (apart u v bs t e)
+          ap (λ x. tree.get_by (compared_in (digest t) x t) n) (sym (eqb-true u v p.0)) ∙ (ap (λ s. tree.get_by (compared_in (digest s) u s) n) (sym ((bytes_eq-Decides bs t).0 p.1)) ∙ h.1)
+      | false ↦ λ e. other_entries (eq_by_cmp triple_cmp) (λ k. is_eq (compared_in (digest bs) u bs k)) m.entries n.entries h.3 (λ k. is_eq (compared_in (digest t) v t k)) (key_test (digest t) v t) (apart u v bs t e)
     ]) refl

@@ -194,7 +194,7 @@ fn object_named<'a>(
 ) -> Result<(), Fault>
     ensures { Adds (λ p. found_as storage p d.now (Known (typing.Object (plain t) false))) (λ p. after_what storage p d.now (Known (typing.Object (plain t) false))) state.old result state.new }
 {
-    let ctype = copied(alloc, &t)?;
+    let ctype = copied(&t)?;
     let meaning = Meaning::Object {
         ctype,
         register: false,
@@ -289,7 +289,7 @@ fn declared<'a>(
 ) -> Result<(), Fault>
     ensures { Adds (λ p. declared_found storage (plain t.now) p d.now) (λ p. after_name storage (plain t.now) p d.now) state.old result state.new }
 {
-    let t = copied(alloc, t)?;
+    let t = copied(t)?;
     match shape(alloc, &state.here, &d.declarator, t) {
         Ok(s) => shaped(alloc, state, storage, s, d),
         Err(f) => Err(f),

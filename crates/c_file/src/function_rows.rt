@@ -20,7 +20,7 @@ fn local(alloc: Global, s: &Symbol) -> Result<Local, AllocError>
     ensures { IfOk result (λ l. IsLocalOf s.now l) }
 {
     let name = Text::from_slice(alloc, s.name.as_bytes())?;
-    let ctype = copied(alloc, &s.ctype)?;
+    let ctype = copied(&s.ctype)?;
     Ok(Local {
         name,
         ctype,

@@ -44,7 +44,7 @@ fn declare_parameter<'a>(
     match p.name {
         None => Ok(()),
         Some(name) => {
-            let t = copied(alloc, &p.ctype)?;
+            let t = copied(&p.ctype)?;
             here.declare_local(alloc, name, t, p.register)
         }
     }
@@ -109,7 +109,7 @@ fn headed<'a>(
 ) -> Result<(), Fault>
     ensures { Adds (λ p. name_found p.names (function_row storage d.now p (shape.Function (plain to.now) (map parameter_of ps.now))) (begins d.now).at) (λ p. with_head p d.now (function_row storage d.now p (shape.Function (plain to.now) (map parameter_of ps.now)))) state.old result state.new }
 {
-    let result = copied(alloc, to)?;
+    let result = copied(to)?;
     let parameters = parameter_types(alloc, ps)?;
     let row = FileName {
         name: name_in(d),

@@ -76,15 +76,15 @@ pub fn agree_as(s: &Meaning, t: &Meaning) -> bool
 
 /// The type of two that agree: that which has a bound.
 #[tactic(auto, using(crate::proofs::Agreeing::with_a_bound))]
-pub fn bounded_one(alloc: Global, s: &CType, t: &CType) -> Result<CType, AllocError>
+pub fn bounded_one(s: &CType, t: &CType) -> Result<CType, AllocError>
     ensures { IfOk result (λ r. plain r ≡ bounded_one (plain s.now) (plain t.now)) }
 {
     match s {
         CType::Array(_, n) => {
             if *n == 0 {
-                copied(alloc, t)
+                copied(t)
             } else {
-                copied(alloc, s)
+                copied(s)
             }
         }
         CType::Char
@@ -92,7 +92,7 @@ pub fn bounded_one(alloc: Global, s: &CType, t: &CType) -> Result<CType, AllocEr
         | CType::Unsigned
         | CType::Void
         | CType::Pointer(_)
-        | CType::Struct(_) => copied(alloc, s),
+        | CType::Struct(_) => copied(s),
     }
 }
 
@@ -127,7 +127,7 @@ fn copied_all(alloc: Global, types: &[CType]) -> Result<Many<CType>, AllocError>
 {
     let mut copies = Many::new(alloc);
     for t in types {
-        let copy = copied(alloc, t)?;
+        let copy = copied(t)?;
         copies.push(copy)?;
     }
     Ok(copies)
@@ -139,14 +139,14 @@ pub fn copied_meaning(alloc: Global, m: &Meaning) -> Result<Meaning, AllocError>
 {
     match m {
         Meaning::Object { ctype, register } => {
-            let ctype = copied(alloc, ctype)?;
+            let ctype = copied(ctype)?;
             Ok(Meaning::Object {
                 ctype,
                 register: *register,
             })
         }
         Meaning::Function { result, parameters } => {
-            let result = copied(alloc, result)?;
+            let result = copied(result)?;
             let parameters = copied_all(alloc, parameters.as_slice())?;
             Ok(Meaning::Function { result, parameters })
         }
@@ -160,7 +160,7 @@ pub fn composite(alloc: Global, s: &Meaning, t: &Meaning) -> Result<Meaning, All
     match s {
         Meaning::Object { ctype: a, register } => match t {
             Meaning::Object { ctype: b, .. } => {
-                let ctype = bounded_one(alloc, a, b)?;
+                let ctype = bounded_one(a, b)?;
                 Ok(Meaning::Object {
                     ctype,
                     register: *register,

@@ -117,7 +117,7 @@ pub fn parameter_types(alloc: Global, ps: &[Parameter]) -> Result<Many<CType>, A
 {
     let mut types = Many::new(alloc);
     for p in ps {
-        let t = copied(alloc, &p.ctype)?;
+        let t = copied(&p.ctype)?;
         types.push(t)?;
     }
     Ok(types)

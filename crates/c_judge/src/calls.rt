@@ -137,7 +137,6 @@ fn parameters_by<'a, 'n>(v: &Scope<'a, 'n>, n: Option<u32>) -> &'a [CType]
 
 /// The result of a function that takes these arguments.
 fn asked<'a, 'n>(
-    alloc: Global,
     v: &Scope<'a, 'n>,
     at: Place,
     n: Option<u32>,
@@ -157,12 +156,11 @@ fn asked<'a, 'n>(
             at: at.at,
         });
     }
-    Ok(copied(alloc, &symbol.ctype)?)
+    Ok(copied(&symbol.ctype)?)
 }
 
 /// The result of a function whose parameters are not known.
 fn unasked<'a, 'n>(
-    alloc: Global,
     v: &Scope<'a, 'n>,
     at: Place,
     n: Option<u32>,
@@ -178,13 +176,12 @@ fn unasked<'a, 'n>(
     }
     match function_by(v, n) {
         None => Ok(CType::Int),
-        Some(symbol) => Ok(copied(alloc, &symbol.ctype)?),
+        Some(symbol) => Ok(copied(&symbol.ctype)?),
     }
 }
 
 /// The result of a call; its rule is asked where the parameters are known.
 fn result_of<'a, 'n>(
-    alloc: Global,
     v: &Scope<'a, 'n>,
     at: Place,
     n: Option<u32>,
@@ -193,9 +190,9 @@ fn result_of<'a, 'n>(
     ensures { Denotes (result_type v.now.asks at.at (called_by (scope_of v.now) n) (map judged_of parts.now)) result }
 {
     if v.asks {
-        return asked(alloc, v, at, n, parts);
+        return asked(v, at, n, parts);
     }
-    unasked(alloc, v, at, n, parts)
+    unasked(v, at, n, parts)
 }
 
 /// A call of what is called with checked arguments.
@@ -207,7 +204,7 @@ pub fn called<'a, 'n>(
 ) -> Result<Part, Fault>
     ensures { Makes (called v.now.asks at.at (called_by (scope_of v.now) calling.callee) (map judged_of calling.arguments.items)) (IsCall (λ m. m ≡ number_or_none calling.callee) (map typed_in calling.arguments.items)) at result }
 {
-    let t = result_of(alloc, v, at, calling.callee, calling.arguments.as_slice())?;
+    let t = result_of(v, at, calling.callee, calling.arguments.as_slice())?;
     let n = calling.callee.unwrap_or(0);
     let typed = typed_of(alloc, calling.arguments)?;
     part_of(alloc, Typed::Call(head(at, t), n, typed), VALUE)

@@ -28,7 +28,7 @@ use std::alloc::Global;
 pub fn paren(alloc: Global, at: Place, x: Part) -> Result<Part, Fault>
     ensures { Makes (Known (judged_of x)) (IsParen x.typed.value) at result }
 {
-    let t = copied(alloc, type_of(&x))?;
+    let t = copied(type_of(&x))?;
     let facts = x.facts;
     part_of(alloc, Typed::Parens(head(at, t), x.typed), facts)
 }
@@ -38,7 +38,7 @@ pub fn paren(alloc: Global, at: Place, x: Part) -> Result<Part, Fault>
 pub fn index(alloc: Global, defs: &[StructDef], at: Place, x: Part, y: Part) -> Result<Part, Fault>
     ensures { Makes (indexed defs.now at.at (judged_of x) (judged_of y)) (IsIndex x.typed.value y.typed.value) at result }
 {
-    let Some(t) = index_type(alloc, defs, &x, &y)? else {
+    let Some(t) = index_type(defs, &x, &y)? else {
         return Err(Fault::Rule {
             rule: 28,
             at: at.at,
@@ -64,7 +64,7 @@ fn dot<'n>(
             at: at.at,
         });
     };
-    let Some(t) = dot_type(alloc, defs.defs(), &x, m)? else {
+    let Some(t) = dot_type(defs.defs(), &x, m)? else {
         return Err(Fault::Rule {
             rule: 26,
             at: at.at,
@@ -100,7 +100,7 @@ fn arrow<'n>(
             at: at.at,
         });
     };
-    let Some(t) = arrow_type(alloc, defs.defs(), &x, m)? else {
+    let Some(t) = arrow_type(defs.defs(), &x, m)? else {
         return Err(Fault::Rule {
             rule: 27,
             at: at.at,
@@ -138,7 +138,7 @@ pub fn after(
     ensures { Makes (stepped defs.now at.at step (judged_of x)) (IsAfter step x.typed.value) at result }
 {
     let op = step_of(step);
-    let Some(t) = step_type(alloc, defs, op, &x)? else {
+    let Some(t) = step_type(defs, op, &x)? else {
         return Err(Fault::Rule {
             rule: 37,
             at: at.at,
@@ -152,7 +152,7 @@ pub fn after(
 pub fn choice(alloc: Global, at: Place, c: Part, x: Part, y: Part) -> Result<Part, Fault>
     ensures { Makes (chosen_of at.at (judged_of c) (judged_of x) (judged_of y)) (IsChoice c.typed.value x.typed.value y.typed.value) at result }
 {
-    let Some(t) = choice_type(alloc, &c, &x, &y)? else {
+    let Some(t) = choice_type(&c, &x, &y)? else {
         return Err(Fault::Rule {
             rule: 38,
             at: at.at,

@@ -65,7 +65,7 @@ fn numbered<'a, 'n>(alloc: Global, v: &Scope<'a, 'n>, at: Place, n: u32) -> Resu
             at: at.at,
         });
     }
-    let t = copied(alloc, &symbol.ctype)?;
+    let t = copied(&symbol.ctype)?;
     let facts = Facts {
         lvalue: true,
         register: symbol.register,

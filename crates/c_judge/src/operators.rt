@@ -80,7 +80,7 @@ fn before(alloc: Global, defs: &[StructDef], at: Place, step: Step, x: Part) -> 
     ensures { Makes (prefixed defs.now at.at (prefix.Step step) (judged_of x)) (IsPrefixed (prefix.Step step) x.typed.value) at result }
 {
     let op = step_of(step);
-    let Some(t) = step_type(alloc, defs, op, &x)? else {
+    let Some(t) = step_type(defs, op, &x)? else {
         return Err(Fault::Rule {
             rule: 37,
             at: at.at,
@@ -108,7 +108,7 @@ fn address(alloc: Global, at: Place, x: Part) -> Result<Part, Fault>
 fn follow(alloc: Global, defs: &[StructDef], at: Place, x: Part) -> Result<Part, Fault>
     ensures { Makes (prefixed defs.now at.at prefix.Dereference (judged_of x)) (IsPrefixed prefix.Dereference x.typed.value) at result }
 {
-    let Some(t) = followed(alloc, defs, &x)? else {
+    let Some(t) = followed(defs, &x)? else {
         return Err(Fault::Rule {
             rule: 24,
             at: at.at,
@@ -195,7 +195,7 @@ pub fn prefixed(
 fn comma(alloc: Global, at: Place, x: Part, y: Part) -> Result<Part, Fault>
     ensures { Makes (joined [] at.at written.Comma (judged_of x) (judged_of y)) (IsJoined written.Comma x.typed.value y.typed.value) at result }
 {
-    let Some(t) = comma_type(alloc, &x, &y)? else {
+    let Some(t) = comma_type(&x, &y)? else {
         return Err(Fault::Rule {
             rule: if may_drop(&x) { 39 } else { 22 },
             at: at.at,
@@ -257,7 +257,7 @@ fn and(alloc: Global, at: Place, x: Part, y: Part) -> Result<Part, Fault>
 fn assign(alloc: Global, at: Place, x: Part, y: Part) -> Result<Part, Fault>
     ensures { Makes (assigned [] at.at None (judged_of x) (judged_of y)) (IsAssigned None x.typed.value y.typed.value) at result }
 {
-    let Some(t) = assignment_type(alloc, &x, &y)? else {
+    let Some(t) = assignment_type(&x, &y)? else {
         return Err(Fault::Rule {
             rule: 36,
             at: at.at,
@@ -282,7 +282,7 @@ fn compound(
 ) -> Result<Part, Fault>
     ensures { Makes (assigned defs.now at.at (Some op) (judged_of x) (judged_of y)) (IsAssigned (Some op) x.typed.value y.typed.value) at result }
 {
-    let Some(t) = compound_type(alloc, defs, op, &x, type_of(&y))? else {
+    let Some(t) = compound_type(defs, op, &x, type_of(&y))? else {
         return Err(Fault::Rule {
             rule: 37,
             at: at.at,
@@ -375,7 +375,7 @@ fn operation(
 ) -> Result<Part, Fault>
     ensures { Makes (operation defs.now at.at op (judged_of x) (judged_of y)) (IsOperation op x.typed.value y.typed.value) at result }
 {
-    let Some(t) = binary_type(alloc, defs, op, &x, &y)? else {
+    let Some(t) = binary_type(defs, op, &x, &y)? else {
         return Err(Fault::Rule {
             rule: rule_of(op),
             at: at.at,

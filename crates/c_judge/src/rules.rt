@@ -91,7 +91,7 @@ pub fn unary_type(op: UnaryOp, x: &Part) -> Option<CType>
 }
 
 /// `*` takes a pointer to a complete type (C90 6.3.3.2).
-pub fn followed(alloc: Global, defs: &[StructDef], x: &Part) -> Result<Option<CType>, AllocError>
+pub fn followed(defs: &[StructDef], x: &Part) -> Result<Option<CType>, AllocError>
     ensures { Gives result (rule.followed defs.now (value_of x.now)) }
 {
     match target(type_of(x)) {
@@ -100,7 +100,7 @@ pub fn followed(alloc: Global, defs: &[StructDef], x: &Part) -> Result<Option<CT
             if !is_complete(defs, t) {
                 return Ok(None);
             }
-            Ok(Some(copied(alloc, t)?))
+            Ok(Some(copied(t)?))
         }
     }
 }
@@ -110,14 +110,13 @@ pub fn address_type(alloc: Global, x: &Part) -> Result<Option<CType>, AllocError
     ensures { Gives result (rule.address_type (operand_of x.now)) }
 {
     if x.facts.lvalue && !x.facts.register && !x.facts.string {
-        return Ok(Some(pointer_to(alloc, copied(alloc, type_of(x))?)?));
+        return Ok(Some(pointer_to(alloc, copied(type_of(x))?)?));
     }
     Ok(None)
 }
 
 /// The type of a struct's member by its number.
 fn member_type(
-    alloc: Global,
     defs: &[StructDef],
     t: &CType,
     m: u32,
@@ -127,7 +126,7 @@ fn member_type(
     match t {
         CType::Struct(s) => match members(defs, *s).get(m as usize) {
             None => Ok(None),
-            Some(member) => Ok(Some(copied(alloc, &member.ctype)?)),
+            Some(member) => Ok(Some(copied(&member.ctype)?)),
         },
         _ => Ok(None),
     }
@@ -135,7 +134,6 @@ fn member_type(
 
 /// `.` takes a struct lvalue with that member (C90 6.3.2.3).
 pub fn dot_type(
-    alloc: Global,
     defs: &[StructDef],
     x: &Part,
     m: u32,
@@ -145,12 +143,11 @@ pub fn dot_type(
     if !x.facts.lvalue {
         return Ok(None);
     }
-    member_type(alloc, defs, type_of(x), m)
+    member_type(defs, type_of(x), m)
 }
 
 /// `->` takes a pointer to a complete struct with that member (C90 6.3.2.3).
 pub fn arrow_type(
-    alloc: Global,
     defs: &[StructDef],
     x: &Part,
     m: u32,
@@ -159,7 +156,7 @@ pub fn arrow_type(
 {
     match target(type_of(x)) {
         None => Ok(None),
-        Some(t) => member_type(alloc, defs, t, m),
+        Some(t) => member_type(defs, t, m),
     }
 }
 
@@ -172,7 +169,6 @@ fn arithmetic_type(s: &CType, t: &CType) -> Option<CType>
 
 /// `+` takes integers, or a pointer to a complete type and an integer (C90 6.3.6).
 fn sum_type(
-    alloc: Global,
     defs: &[StructDef],
     s: &CType,
     t: &CType,
@@ -180,17 +176,16 @@ fn sum_type(
     ensures { Gives result (rule.sum_type defs.now (value_type (plain s.now)) (value_type (plain t.now))) }
 {
     if is_movable(defs, s) && is_integer(t) {
-        return Ok(Some(value_type(alloc, s)?));
+        return Ok(Some(value_type(s)?));
     }
     if is_integer(s) && is_movable(defs, t) {
-        return Ok(Some(value_type(alloc, t)?));
+        return Ok(Some(value_type(t)?));
     }
     Ok(arithmetic_type(s, t))
 }
 
 /// `-` takes integers, a pointer to a complete type and an integer, or two such pointers of one type (C90 6.3.6).
 fn difference_type(
-    alloc: Global,
     defs: &[StructDef],
     s: &CType,
     t: &CType,
@@ -198,7 +193,7 @@ fn difference_type(
     ensures { Gives result (rule.difference_type defs.now (value_type (plain s.now)) (value_type (plain t.now))) }
 {
     if is_movable(defs, s) && is_integer(t) {
-        return Ok(Some(value_type(alloc, s)?));
+        return Ok(Some(value_type(s)?));
     }
     if is_movable(defs, s) && point_alike(s, t) {
         return Ok(Some(CType::Int));
@@ -208,7 +203,6 @@ fn difference_type(
 
 /// `[]` takes a pointer to a complete type and an integer, in either order (C90 6.3.2.1).
 pub fn index_type(
-    alloc: Global,
     defs: &[StructDef],
     x: &Part,
     y: &Part,
@@ -218,10 +212,10 @@ pub fn index_type(
     let s = type_of(x);
     let t = type_of(y);
     if is_movable(defs, s) && is_integer(t) {
-        return followed(alloc, defs, x);
+        return followed(defs, x);
     }
     if is_integer(s) && is_movable(defs, t) {
-        return followed(alloc, defs, y);
+        return followed(defs, y);
     }
     Ok(None)
 }
@@ -265,7 +259,6 @@ fn equality_type(x: &Part, y: &Part) -> Option<CType>
 
 /// A binary operator on two operands.
 pub fn binary_type(
-    alloc: Global,
     defs: &[StructDef],
     op: BinaryOp,
     x: &Part,
@@ -281,8 +274,8 @@ pub fn binary_type(
             order_type(s, t),
         ),
         BinaryOp::ShiftLeft | BinaryOp::ShiftRight => Ok(shift_type(s, t)),
-        BinaryOp::Add => sum_type(alloc, defs, s, t),
-        BinaryOp::Subtract => difference_type(alloc, defs, s, t),
+        BinaryOp::Add => sum_type(defs, s, t),
+        BinaryOp::Subtract => difference_type(defs, s, t),
         BinaryOp::BitOr
         | BinaryOp::BitXor
         | BinaryOp::BitAnd
@@ -306,13 +299,13 @@ pub fn converts(t: &CType, y: &Part) -> bool
 }
 
 /// Assignment has an lvalue that is no array on the left, and what converts, or two lvalues of one struct (C90 6.3.16.1).
-pub fn assignment_type(alloc: Global, x: &Part, y: &Part) -> Result<Option<CType>, AllocError>
+pub fn assignment_type(x: &Part, y: &Part) -> Result<Option<CType>, AllocError>
     ensures { Gives result (rule.assignment_type (operand_of x.now) (operand_of y.now)) }
 {
     let s = type_of(x);
     let copies = is_struct(s) && same(s, type_of(y)) && y.facts.lvalue;
     if x.facts.lvalue && (converts(s, y) || copies) {
-        return Ok(Some(copied(alloc, s)?));
+        return Ok(Some(copied(s)?));
     }
     Ok(None)
 }
@@ -348,7 +341,6 @@ fn moves(defs: &[StructDef], op: BinaryOp, s: &CType) -> bool
 
 /// Compound assignment takes a scalar lvalue and an integer; a pointer only with `+=` and `-=` (C90 6.3.16.2).
 pub fn compound_type(
-    alloc: Global,
     defs: &[StructDef],
     op: BinaryOp,
     x: &Part,
@@ -358,14 +350,13 @@ pub fn compound_type(
 {
     let s = type_of(x);
     if x.facts.lvalue && is_integer(t) && moves(defs, op, s) {
-        return Ok(Some(copied(alloc, s)?));
+        return Ok(Some(copied(s)?));
     }
     Ok(None)
 }
 
 /// `++` and `--` take a scalar lvalue (C90 6.3.2.4, 6.3.3.1).
 pub fn step_type(
-    alloc: Global,
     defs: &[StructDef],
     op: StepOp,
     x: &Part,
@@ -376,7 +367,7 @@ pub fn step_type(
         StepOp::Up => BinaryOp::Add,
         StepOp::Down => BinaryOp::Subtract,
     };
-    compound_type(alloc, defs, op, x, &CType::Int)
+    compound_type(defs, op, x, &CType::Int)
 }
 
 /// `&& ||` take scalars (C90 6.3.13, 6.3.14).
@@ -387,7 +378,7 @@ pub fn logical_type(x: &Part, y: &Part) -> Option<CType>
 }
 
 /// The type of `? :` from its branches: two integers, one pointer type, or a pointer and a null constant (C90 6.3.15).
-fn branches_type(alloc: Global, x: &Part, y: &Part) -> Result<Option<CType>, AllocError>
+fn branches_type(x: &Part, y: &Part) -> Result<Option<CType>, AllocError>
     ensures { Gives result (rule.choice_type Int (operand_of x.now) (operand_of y.now)) }
 {
     let s = type_of(x);
@@ -396,31 +387,31 @@ fn branches_type(alloc: Global, x: &Part, y: &Part) -> Result<Option<CType>, All
         return Ok(Some(common(s, t)));
     }
     if point_alike(s, t) || is_nulled(s, y) {
-        return Ok(Some(value_type(alloc, s)?));
+        return Ok(Some(value_type(s)?));
     }
     if is_nulled(t, x) {
-        return Ok(Some(value_type(alloc, t)?));
+        return Ok(Some(value_type(t)?));
     }
     Ok(None)
 }
 
 /// `? :` takes a scalar and two branches that go together (C90 6.3.15).
-pub fn choice_type(alloc: Global, c: &Part, x: &Part, y: &Part) -> Result<Option<CType>, AllocError>
+pub fn choice_type(c: &Part, x: &Part, y: &Part) -> Result<Option<CType>, AllocError>
     ensures { Gives result (rule.choice_type (value_of c.now) (operand_of x.now) (operand_of y.now)) }
 {
     if !is_scalar(type_of(c)) {
         return Ok(None);
     }
-    branches_type(alloc, x, y)
+    branches_type(x, y)
 }
 
 /// A comma's right operand is a scalar; the value of the left one is dropped (C90 6.3.17).
-pub fn comma_type(alloc: Global, x: &Part, y: &Part) -> Result<Option<CType>, AllocError>
+pub fn comma_type(x: &Part, y: &Part) -> Result<Option<CType>, AllocError>
     ensures { Gives result (rule.comma_type (operand_of x.now) (operand_of y.now)) }
 {
     let t = type_of(y);
     if may_drop(x) && is_scalar(t) {
-        return Ok(Some(value_type(alloc, t)?));
+        return Ok(Some(value_type(t)?));
     }
     Ok(None)
 }

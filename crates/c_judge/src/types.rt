@@ -8,9 +8,10 @@ ghost use Rattle.c_judge.specs.Values.{is_unsigned};
 
 use c_tree::{CType, Member, StructDef};
 use std::alloc::{AllocError, Global};
+use std::rc::Rc;
 
-/// A copy of a type.
-pub fn copied(alloc: Global, t: &CType) -> Result<CType, AllocError>
+/// A copy of a type, which shares what it points to or holds.
+pub fn copied(t: &CType) -> Result<CType, AllocError>
     ensures { IfOk result (λ r. plain r ≡ plain t.now) }
 {
     match t {
@@ -18,8 +19,8 @@ pub fn copied(alloc: Global, t: &CType) -> Result<CType, AllocError>
         CType::Int => Ok(CType::Int),
         CType::Unsigned => Ok(CType::Unsigned),
         CType::Void => Ok(CType::Void),
-        CType::Pointer(target) => pointer_to(alloc, copied(alloc, target)?),
-        CType::Array(item, n) => array_of(alloc, copied(alloc, item)?, *n),
+        CType::Pointer(target) => Ok(CType::Pointer(target.clone()?)),
+        CType::Array(item, n) => Ok(CType::Array(item.clone()?, *n)),
         CType::Struct(s) => Ok(CType::Struct(*s)),
     }
 }
@@ -28,23 +29,23 @@ pub fn copied(alloc: Global, t: &CType) -> Result<CType, AllocError>
 pub fn pointer_to(alloc: Global, target: CType) -> Result<CType, AllocError>
     ensures { IfOk result (λ r. plain r ≡ Pointer (plain target)) }
 {
-    Ok(CType::Pointer(Box::new(alloc, target)?))
+    Ok(CType::Pointer(Rc::new(alloc, target)?))
 }
 
 /// So many items of a type.
 pub fn array_of(alloc: Global, item: CType, n: u32) -> Result<CType, AllocError>
     ensures { IfOk result (λ r. plain r ≡ Array (plain item) n) }
 {
-    Ok(CType::Array(Box::new(alloc, item)?, n))
+    Ok(CType::Array(Rc::new(alloc, item)?, n))
 }
 
 /// The type of a value of this type.
-pub fn value_type(alloc: Global, t: &CType) -> Result<CType, AllocError>
+pub fn value_type(t: &CType) -> Result<CType, AllocError>
     ensures { IfOk result (λ r. plain r ≡ value_type (plain t.now)) }
 {
     match t {
-        CType::Array(item, _) => pointer_to(alloc, copied(alloc, item)?),
-        _ => copied(alloc, t),
+        CType::Array(item, _) => Ok(CType::Pointer(item.clone()?)),
+        _ => copied(t),
     }
 }
 

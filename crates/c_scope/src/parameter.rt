@@ -15,7 +15,6 @@ use std::alloc::Global;
 
 /// A parameter, which is a scalar once an array has become a pointer to its first item.
 pub fn parameter<'a>(
-    alloc: Global,
     name: Option<&'a Text>,
     register: bool,
     at: u32,
@@ -31,7 +30,7 @@ pub fn parameter<'a>(
             }
             Ok(Parameter {
                 name,
-                ctype: value_type(alloc, &t)?,
+                ctype: value_type(&t)?,
                 register,
             })
         }

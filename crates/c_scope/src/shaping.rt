@@ -180,7 +180,7 @@ fn taken_named<'a>(
 {
     let t = named_type(alloc, here, spec);
     match shape(alloc, here, d, t) {
-        Ok(s) => parameter(alloc, Some(name_in(d)), register, at.at, s),
+        Ok(s) => parameter(Some(name_in(d)), register, at.at, s),
         Err(f) => Err(f),
     }
 }
@@ -197,14 +197,14 @@ fn taken_unnamed<'a>(
 {
     let t = named_type(alloc, here, spec);
     match unnamed(alloc, here, at.at, d, t) {
-        Ok(t) => nameless(alloc, at.at, t),
+        Ok(t) => nameless(at.at, t),
         Err(f) => Err(f),
     }
 }
 
 /// A parameter of this type without a name.
-fn nameless<'a>(alloc: Global, at: u32, t: CType) -> Result<Parameter<'a>, Fault>
+fn nameless<'a>(at: u32, t: CType) -> Result<Parameter<'a>, Fault>
     ensures { Gives parameter_of (spec.parameter None false at (spec.Object (plain t))) result }
 {
-    parameter(alloc, None, false, at, Shape::Object(t))
+    parameter(None, false, at, Shape::Object(t))
 }

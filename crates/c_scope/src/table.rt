@@ -168,10 +168,9 @@ impl<'a> Table<'a> {
         let Ok(number) = u32::try_from(self.symbols.len()) else {
             return Err(AllocError);
         };
-        let hidden = self.numbers.find(name);
-        match self.numbers.of.insert(name, number) {
-            Err(_) => Err(AllocError),
-            Ok(_) => {
+        match self.numbers.replace(name, number) {
+            Err(e) => Err(e),
+            Ok(hidden) => {
                 let shadowing = Shadowing {
                     name,
                     number,
@@ -208,23 +207,7 @@ fn rewind<'a>(numbers: &mut Numbers<'a>, shadowing: &mut Vec<Shadowing<'a>>, hei
 {
     'ending: while shadowing.len() > height {
         if let Some(s) = shadowing.pop() {
-            restore(numbers, s);
-        }
-    }
-}
-
-/// A name in scope has the number again that it had before.
-fn restore<'a>(numbers: &mut Numbers<'a>, s: Shadowing<'a>)
-    requires { number_in numbers.old s.name.now ≡ Some s.number }
-    ensures { (name : List ℕ) → number_in numbers.new name ≡ update bytes_eq (number_in numbers.old) s.entry.name.now s.entry.hidden name }
-{
-    match s.hidden {
-        Some(n) => match numbers.of.insert(s.name, n) {
-            Ok(_) => {}
-            Err(_) => unreachable!(),
-        },
-        None => {
-            let _ = numbers.of.remove(&s.name);
+            numbers.restore(s.name, s.hidden);
         }
     }
 }

@@ -40,7 +40,7 @@ fn member(alloc: Global, m: &WrittenMember, at: u32) -> Result<Member, AllocErro
     Ok(Member {
         name: Text::from_slice(alloc, m.name.as_bytes())?,
         at,
-        ctype: copied(alloc, &m.ctype)?,
+        ctype: copied(&m.ctype)?,
     })
 }
 

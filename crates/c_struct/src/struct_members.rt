@@ -49,7 +49,7 @@ fn add_declarator<'a>(
     ensures place { o.new.at ≡ o.old.at }
     ensures tag { o.new.tag ≡ o.old.tag }
 {
-    let t = copied(alloc, t)?;
+    let t = copied(t)?;
     match shape(alloc, here, d, t) {
         Ok(s) => add_shape(here, o, declarator_place(d).at, name_in(d), s),
         Err(f) => Err(f),

@@ -6,6 +6,7 @@ use c_lex::tokens;
 use c_tree::{CType, Member, StructDef, Typed};
 use ldb_words::{Many, Text};
 use std::alloc::{AllocError, Global};
+use std::rc::Rc;
 use std::test::Fail;
 
 /// What a text is checked to: what its value's type is, or why it is refused.
@@ -26,7 +27,7 @@ enum Answer {
 }
 
 fn pointer(alloc: Global, t: CType) -> Result<CType, AllocError> {
-    Ok(CType::Pointer(Box::new(alloc, t)?))
+    Ok(CType::Pointer(Rc::new(alloc, t)?))
 }
 
 fn symbol(alloc: Global, name: &[u8], ctype: CType) -> Result<Symbol, AllocError> {
@@ -47,7 +48,7 @@ fn names(alloc: Global) -> Result<Vec<Symbol>, Fail> {
     names.push(symbol(alloc, b"c", CType::Char)?)?;
     names.push(symbol(alloc, b"p", pointer(alloc, CType::Int)?)?)?;
     names.push(symbol(alloc, b"q", pointer(alloc, CType::Char)?)?)?;
-    names.push(symbol(alloc, b"a", CType::Array(Box::new(alloc, CType::Int)?, 3))?)?;
+    names.push(symbol(alloc, b"a", CType::Array(Rc::new(alloc, CType::Int)?, 3))?)?;
     names.push(symbol(alloc, b"s", CType::Struct(0))?)?;
     names.push(symbol(alloc, b"t", CType::Struct(0))?)?;
     names.push(symbol(alloc, b"z", pointer(alloc, CType::Struct(0))?)?)?;

@@ -1,4 +1,4 @@
-use Rattle.std.proofs.Common.{arith, [], ◌∷◌, length, length-append, sym, ap, ◌∙◌, subst}
+use Rattle.std.proofs.Common.{arith, [], ◌∷◌, length, length-append, sym, ap, ◌∙◌, subst, IsSome, tt}
 use Rattle.c_defs.specs.Numbers.{number_in}
 use Rattle.c_scope.specs.Environment.{number_of}
 use Rattle.c_scope.specs.Table.{outermost}
@@ -10,9 +10,9 @@ pub restore-requires : goal.restore-requires
 restore-requires c =
     let s = c.in-Some.s in
     let rest = c.pop.new.self.items in
-    c.ending.invariant.finds s.name.now
+    subst IsSome (sym (c.ending.invariant.finds s.name.now
     ∙ (ap (λ l. number_of (visible_from [] l) s.name.now) c.in-Some.ensures.items
-    ∙ (ap (λ l. number_of l s.name.now) (visible_push [] rest s) ∙ found_itself (seen s) (visible_from [] rest)))
+    ∙ (ap (λ l. number_of l s.name.now) (visible_push [] rest s) ∙ found_itself (seen s) (visible_from [] rest))))) tt
 
 pub ending-preserved-in-Some : goal.ending-preserved-in-Some
 ending-preserved-in-Some c =
