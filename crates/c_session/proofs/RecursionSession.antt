@@ -2,6 +2,7 @@
 use Rattle.std.proofs.Common.{◌≡◌, refl, [], ◌∷◌, Some, None, false, lit<}
 use Rattle.std.specs.Prelude.{Box, codes}
 use Rattle.std.specs.declared.alloc.Global.{Global}
+use Rattle.std.specs.declared.rc.Rc.{Rc}
 use Rattle.c_tree.specs.declared.types.CType.TheVariants.{Int, Void, Pointer'}
 use Rattle.c_tree.specs.declared.typed.BinaryOp.TheVariants.{LessEqual, Subtract, Multiply}
 use Rattle.c_tree.specs.declared.typed.Typed.{end_of-Typed, more_of-Typed}
@@ -16,7 +17,7 @@ use Rattle.c_session.specs.Commands.{Read}
 use Rattle.c_session.proofs.Computed.{session, reader, computing}
 use Rattle.c_session.proofs.Trees.{somewhere, of_type, at, shape_of}
 
-module _ (b : Box (Unit {0}) Global) where
+module _ (b : Box (Unit {0}) Global) (rc : Rc (Unit {0}) Global) where
   abbrev pub program : Program
   program = record {
     units = (record { file = codes "f.c"; functions = (0 ∷ 1 ∷ []) } ∷ []);
@@ -46,7 +47,7 @@ module _ (b : Box (Unit {0}) Global) where
     symbols = (record { name = codes "getchar"; ctype = Int; refers = refers.Declared; up = None } ∷ record { name = codes "putchar"; ctype = Int; refers = refers.Declared; up = Some 0 } ∷ record { name = codes "exit"; ctype = Void; refers = refers.Declared; up = Some 1 } ∷ record { name = codes "fact"; ctype = Int; refers = refers.Function 0; up = Some 2 } ∷ record { name = codes "n"; ctype = Int; refers = refers.Local 0; up = Some 3 } ∷ record { name = codes "main"; ctype = Int; refers = refers.Function 1; up = Some 3 } ∷ []);
   }
 
-  it_tells : (session program (reader (record { point = 3; text = codes "&n"; reading = Read (Address' (of_type (Pointer' b Int)) b (Name (of_type Int) 4)) } ∷ []) []) 2000 [] ((Some (command.Break (spot.Line (codes "f.c") 3 None))) ∷ (Some command.Continue) ∷ (Some command.Frames) ∷ (Some (command.Frame 2)) ∷ (Some (command.Print (codes "n"))) ∷ (Some (command.Eval (codes "&n"))) ∷ (Some command.Continue) ∷ [])).lines
+  it_tells : (session program (reader (record { point = 3; text = codes "&n"; reading = Read (Address' (of_type (Pointer' rc Int)) b (Name (of_type Int) 4)) } ∷ []) []) 2000 [] ((Some (command.Break (spot.Line (codes "f.c") 3 None))) ∷ (Some command.Continue) ∷ (Some command.Frames) ∷ (Some (command.Frame 2)) ∷ (Some (command.Print (codes "n"))) ∷ (Some (command.Eval (codes "&n"))) ∷ (Some command.Continue) ∷ [])).lines
       ≡ (codes "break f.c:3.5" ∷ codes "stop f.c:3.5 fact" ∷ codes "frames 6" ∷ codes "frame 0 fact f.c:3.5" ∷ codes "frame 1 fact f.c:4.3" ∷ codes "frame 2 fact f.c:4.3" ∷ codes "frame 3 fact f.c:4.3" ∷ codes "frame 4 fact f.c:4.3" ∷ codes "frame 5 main f.c:6.18" ∷ codes "frame 2 fact f.c:4.3" ∷ codes "value 3" ∷ codes "value &n@3+0" ∷ codes "exited 120" ∷ [])
   unfolding computing
   it_tells = refl

@@ -2,6 +2,7 @@
 use Rattle.std.proofs.Common.{◌≡◌, refl, [], ◌∷◌, Some, None, false, lit<}
 use Rattle.std.specs.Prelude.{Box, codes}
 use Rattle.std.specs.declared.alloc.Global.{Global}
+use Rattle.std.specs.declared.rc.Rc.{Rc}
 use Rattle.c_tree.specs.declared.types.CType.TheVariants.{Int, Void, Pointer'}
 use Rattle.c_tree.specs.declared.typed.Typed.{end_of-Typed}
 use Rattle.c_tree.specs.declared.typed.Typed.TheVariants.{Assign', Address', Call', Name, Constant}
@@ -16,12 +17,12 @@ use Rattle.c_session.specs.Commands.{Read}
 use Rattle.c_session.proofs.Computed.{session, reader, computing}
 use Rattle.c_session.proofs.Trees.{somewhere, of_type, at, shape_of}
 
-module _ (b : Box (Unit {0}) Global) where
+module _ (b : Box (Unit {0}) Global) (rc : Rc (Unit {0}) Global) where
   abbrev pub program : Program
   program = record {
     units = (record { file = codes "q.c"; functions = (0 ∷ 1 ∷ []) } ∷ []);
     defs = [];
-    objects = (record { name = codes "p"; unit = 0; is_static = false; ctype = (Pointer' b Int); start = (starts.Number 0 ∷ []) } ∷ []);
+    objects = (record { name = codes "p"; unit = 0; is_static = false; ctype = (Pointer' rc Int); start = (starts.Number 0 ∷ []) } ∷ []);
     strings = [];
     functions = (record {
       name = codes "f";
@@ -31,7 +32,7 @@ module _ (b : Box (Unit {0}) Global) where
       params = 0;
       locals = (record { name = codes "z"; ctype = Int; register = false } ∷ []);
       points = (0 ∷ 1 ∷ 2 ∷ []);
-      body = (Block' somewhere (record { local = 0; init = None } ∷ []) (shape_of b 1 (lit< tt)) (more_of-Stmt (Value somewhere (Some (at 1 (Assign' (of_type (Pointer' b Int)) b (Name (of_type (Pointer' b Int)) 3) None b (Address' (of_type (Pointer' b Int)) b (Name (of_type Int) 5)))))) end_of-Stmt) 1 1);
+      body = (Block' somewhere (record { local = 0; init = None } ∷ []) (shape_of b 1 (lit< tt)) (more_of-Stmt (Value somewhere (Some (at 1 (Assign' (of_type (Pointer' rc Int)) b (Name (of_type (Pointer' rc Int)) 3) None b (Address' (of_type (Pointer' rc Int)) b (Name (of_type Int) 5)))))) end_of-Stmt) 1 1);
     } ∷ record {
       name = codes "main";
       unit = 0;
@@ -43,10 +44,10 @@ module _ (b : Box (Unit {0}) Global) where
       body = (Block' somewhere [] (shape_of b 2 (lit< tt)) (more_of-Stmt (Value somewhere (Some (at 4 (Call' (of_type Void) 4 (shape_of b 0 (lit< tt)) end_of-Typed)))) (more_of-Stmt (Return somewhere 5 (Some (Constant (of_type Int) 0))) end_of-Stmt)) 1 1);
     } ∷ []);
     points = (record { function = 0; line = 1; column = 22; symbol = Some 4 } ∷ record { function = 0; line = 1; column = 31; symbol = Some 5 } ∷ record { function = 0; line = 1; column = 39; symbol = Some 5 } ∷ record { function = 1; line = 1; column = 56; symbol = Some 6 } ∷ record { function = 1; line = 1; column = 58; symbol = Some 6 } ∷ record { function = 1; line = 1; column = 63; symbol = Some 6 } ∷ record { function = 1; line = 1; column = 73; symbol = Some 6 } ∷ []);
-    symbols = (record { name = codes "getchar"; ctype = Int; refers = refers.Declared; up = None } ∷ record { name = codes "putchar"; ctype = Int; refers = refers.Declared; up = Some 0 } ∷ record { name = codes "exit"; ctype = Void; refers = refers.Declared; up = Some 1 } ∷ record { name = codes "p"; ctype = (Pointer' b Int); refers = refers.Object 0; up = Some 2 } ∷ record { name = codes "f"; ctype = Void; refers = refers.Function 0; up = Some 3 } ∷ record { name = codes "z"; ctype = Int; refers = refers.Local 0; up = Some 4 } ∷ record { name = codes "main"; ctype = Int; refers = refers.Function 1; up = Some 4 } ∷ []);
+    symbols = (record { name = codes "getchar"; ctype = Int; refers = refers.Declared; up = None } ∷ record { name = codes "putchar"; ctype = Int; refers = refers.Declared; up = Some 0 } ∷ record { name = codes "exit"; ctype = Void; refers = refers.Declared; up = Some 1 } ∷ record { name = codes "p"; ctype = (Pointer' rc Int); refers = refers.Object 0; up = Some 2 } ∷ record { name = codes "f"; ctype = Void; refers = refers.Function 0; up = Some 3 } ∷ record { name = codes "z"; ctype = Int; refers = refers.Local 0; up = Some 4 } ∷ record { name = codes "main"; ctype = Int; refers = refers.Function 1; up = Some 4 } ∷ []);
   }
 
-  it_tells : (session program (reader (record { point = 5; text = codes "p"; reading = Read (Name (of_type (Pointer' b Int)) 3) } ∷ record { point = 5; text = codes "&p"; reading = Read (Address' (of_type (Pointer' b (Pointer' b Int))) b (Name (of_type (Pointer' b Int)) 3)) } ∷ []) (record { point = 5; text = codes "p = 0"; reading = Read (Assign' (of_type (Pointer' b Int)) b (Name (of_type (Pointer' b Int)) 3) None b (Constant (of_type Int) 0)) } ∷ [])) 2000 [] ((Some (command.Break (spot.Line (codes "q.c") 1 (Some 63)))) ∷ (Some command.Continue) ∷ (Some (command.Print (codes "p"))) ∷ (Some (command.Eval (codes "p"))) ∷ (Some (command.Eval (codes "&p"))) ∷ (Some (command.Assign (codes "p = 0"))) ∷ (Some (command.Print (codes "p"))) ∷ (Some command.Continue) ∷ [])).lines
+  it_tells : (session program (reader (record { point = 5; text = codes "p"; reading = Read (Name (of_type (Pointer' rc Int)) 3) } ∷ record { point = 5; text = codes "&p"; reading = Read (Address' (of_type (Pointer' rc (Pointer' rc Int))) b (Name (of_type (Pointer' rc Int)) 3)) } ∷ []) (record { point = 5; text = codes "p = 0"; reading = Read (Assign' (of_type (Pointer' rc Int)) b (Name (of_type (Pointer' rc Int)) 3) None b (Constant (of_type Int) 0)) } ∷ [])) 2000 [] ((Some (command.Break (spot.Line (codes "q.c") 1 (Some 63)))) ∷ (Some command.Continue) ∷ (Some (command.Print (codes "p"))) ∷ (Some (command.Eval (codes "p"))) ∷ (Some (command.Eval (codes "&p"))) ∷ (Some (command.Assign (codes "p = 0"))) ∷ (Some (command.Print (codes "p"))) ∷ (Some command.Continue) ∷ [])).lines
       ≡ (codes "break q.c:1.63" ∷ codes "stop q.c:1.63 main" ∷ codes "value 0" ∷ codes "value 0" ∷ codes "value &p+0" ∷ codes "set" ∷ codes "value 0" ∷ codes "exited 0" ∷ [])
   unfolding computing
   it_tells = refl

@@ -2,6 +2,7 @@
 use Rattle.std.proofs.Common.{◌≡◌, refl, [], ◌∷◌, Some, None, false, lit<}
 use Rattle.std.specs.Prelude.{Box, codes}
 use Rattle.std.specs.declared.alloc.Global.{Global}
+use Rattle.std.specs.declared.rc.Rc.{Rc}
 use Rattle.c_tree.specs.declared.types.CType.TheVariants.{Char, Int, Void, Pointer', Array'}
 use Rattle.c_tree.specs.declared.typed.BinaryOp.TheVariants.{Add}
 use Rattle.c_tree.specs.declared.typed.Typed.TheVariants.{Assign', Binary', Index', Name, Constant}
@@ -15,12 +16,12 @@ use Rattle.c_session.specs.Commands.{Read}
 use Rattle.c_session.proofs.Computed.{session, reader, computing}
 use Rattle.c_session.proofs.Trees.{somewhere, of_type, at, shape_of}
 
-module _ (b : Box (Unit {0}) Global) where
+module _ (b : Box (Unit {0}) Global) (rc : Rc (Unit {0}) Global) where
   abbrev pub program : Program
   program = record {
     units = (record { file = codes "t.c"; functions = (0 ∷ []) } ∷ []);
     defs = [];
-    objects = (record { name = codes "t"; unit = 0; is_static = false; ctype = (Array' b Char 5); start = (starts.Number 0 ∷ starts.Number 0 ∷ starts.Number 0 ∷ starts.Number 0 ∷ starts.Number 0 ∷ []) } ∷ []);
+    objects = (record { name = codes "t"; unit = 0; is_static = false; ctype = (Array' rc Char 5); start = (starts.Number 0 ∷ starts.Number 0 ∷ starts.Number 0 ∷ starts.Number 0 ∷ starts.Number 0 ∷ []) } ∷ []);
     strings = [];
     functions = (record {
       name = codes "main";
@@ -30,13 +31,13 @@ module _ (b : Box (Unit {0}) Global) where
       params = 0;
       locals = [];
       points = (0 ∷ 1 ∷ 2 ∷ 3 ∷ 4 ∷ 5 ∷ []);
-      body = (Block' somewhere [] (shape_of b 4 (lit< tt)) (more_of-Stmt (Value somewhere (Some (at 1 (Assign' (of_type Char) b (Index' (of_type Char) b (Name (of_type (Array' b Char 5)) 3) b (Constant (of_type Int) 0)) None b (Constant (of_type Int) 104))))) (more_of-Stmt (Value somewhere (Some (at 2 (Assign' (of_type Char) b (Index' (of_type Char) b (Name (of_type (Array' b Char 5)) 3) b (Constant (of_type Int) 1)) None b (Constant (of_type Int) 34))))) (more_of-Stmt (Value somewhere (Some (at 3 (Assign' (of_type Char) b (Index' (of_type Char) b (Name (of_type (Array' b Char 5)) 3) b (Constant (of_type Int) 2)) None b (Constant (of_type Int) 10))))) (more_of-Stmt (Return somewhere 4 (Some (Constant (of_type Int) 0))) end_of-Stmt)))) 1 1);
+      body = (Block' somewhere [] (shape_of b 4 (lit< tt)) (more_of-Stmt (Value somewhere (Some (at 1 (Assign' (of_type Char) b (Index' (of_type Char) b (Name (of_type (Array' rc Char 5)) 3) b (Constant (of_type Int) 0)) None b (Constant (of_type Int) 104))))) (more_of-Stmt (Value somewhere (Some (at 2 (Assign' (of_type Char) b (Index' (of_type Char) b (Name (of_type (Array' rc Char 5)) 3) b (Constant (of_type Int) 1)) None b (Constant (of_type Int) 34))))) (more_of-Stmt (Value somewhere (Some (at 3 (Assign' (of_type Char) b (Index' (of_type Char) b (Name (of_type (Array' rc Char 5)) 3) b (Constant (of_type Int) 2)) None b (Constant (of_type Int) 10))))) (more_of-Stmt (Return somewhere 4 (Some (Constant (of_type Int) 0))) end_of-Stmt)))) 1 1);
     } ∷ []);
     points = (record { function = 0; line = 1; column = 27; symbol = Some 4 } ∷ record { function = 0; line = 1; column = 29; symbol = Some 4 } ∷ record { function = 0; line = 1; column = 41; symbol = Some 4 } ∷ record { function = 0; line = 1; column = 53; symbol = Some 4 } ∷ record { function = 0; line = 1; column = 64; symbol = Some 4 } ∷ record { function = 0; line = 1; column = 74; symbol = Some 4 } ∷ []);
-    symbols = (record { name = codes "getchar"; ctype = Int; refers = refers.Declared; up = None } ∷ record { name = codes "putchar"; ctype = Int; refers = refers.Declared; up = Some 0 } ∷ record { name = codes "exit"; ctype = Void; refers = refers.Declared; up = Some 1 } ∷ record { name = codes "t"; ctype = (Array' b Char 5); refers = refers.Object 0; up = Some 2 } ∷ record { name = codes "main"; ctype = Int; refers = refers.Function 0; up = Some 3 } ∷ []);
+    symbols = (record { name = codes "getchar"; ctype = Int; refers = refers.Declared; up = None } ∷ record { name = codes "putchar"; ctype = Int; refers = refers.Declared; up = Some 0 } ∷ record { name = codes "exit"; ctype = Void; refers = refers.Declared; up = Some 1 } ∷ record { name = codes "t"; ctype = (Array' rc Char 5); refers = refers.Object 0; up = Some 2 } ∷ record { name = codes "main"; ctype = Int; refers = refers.Function 0; up = Some 3 } ∷ []);
   }
 
-  it_tells : (session program (reader (record { point = 4; text = codes "t[2]"; reading = Read (Index' (of_type Char) b (Name (of_type (Array' b Char 5)) 3) b (Constant (of_type Int) 2)) } ∷ record { point = 4; text = codes "t + 1"; reading = Read (Binary' (of_type (Pointer' b Char)) b (Name (of_type (Array' b Char 5)) 3) Add b (Constant (of_type Int) 1)) } ∷ []) []) 2000 [] ((Some command.Step) ∷ (Some command.Step) ∷ (Some command.Step) ∷ (Some command.Step) ∷ (Some command.Step) ∷ (Some (command.Print (codes "t"))) ∷ (Some (command.Eval (codes "t[2]"))) ∷ (Some (command.Eval (codes "t + 1"))) ∷ (Some command.Continue) ∷ [])).lines
+  it_tells : (session program (reader (record { point = 4; text = codes "t[2]"; reading = Read (Index' (of_type Char) b (Name (of_type (Array' rc Char 5)) 3) b (Constant (of_type Int) 2)) } ∷ record { point = 4; text = codes "t + 1"; reading = Read (Binary' (of_type (Pointer' rc Char)) b (Name (of_type (Array' rc Char 5)) 3) Add b (Constant (of_type Int) 1)) } ∷ []) []) 2000 [] ((Some command.Step) ∷ (Some command.Step) ∷ (Some command.Step) ∷ (Some command.Step) ∷ (Some command.Step) ∷ (Some (command.Print (codes "t"))) ∷ (Some (command.Eval (codes "t[2]"))) ∷ (Some (command.Eval (codes "t + 1"))) ∷ (Some command.Continue) ∷ [])).lines
       ≡ (codes "stop t.c:1.27 main" ∷ codes "stop t.c:1.29 main" ∷ codes "stop t.c:1.41 main" ∷ codes "stop t.c:1.53 main" ∷ codes "stop t.c:1.64 main" ∷ codes "value \"h\\\"\\012\"" ∷ codes "value 10" ∷ codes "value &t+1 \"\\\"\\012\"" ∷ codes "exited 0" ∷ [])
   unfolding computing
   it_tells = refl

@@ -1,8 +1,9 @@
--- Trees written out, over any box.
+-- Trees written out, over any box and any count.
 use Rattle.std.proofs.Common.{refl, ℕ, ◌<◌, ◌^◌, le_refl, List, length, replicate, Some, None, lit<}
 use Rattle.std.proofs.lemmas.List.{length-replicate}
 use Rattle.std.specs.Prelude.{Box, Vec}
 use Rattle.std.specs.declared.alloc.Global.{Global}
+use Rattle.std.specs.declared.rc.Rc.{Rc}
 use Rattle.c_tree.specs.declared.types.CType.{CType}
 use Rattle.c_tree.specs.declared.types.CType.TheVariants.{Int, Pointer', Array'}
 use Rattle.c_tree.specs.declared.typed.Site.{Site}
@@ -24,13 +25,14 @@ of_type t = record { site = somewhere; ctype = t }
 abbrev pub at : ℕ → Typed → Pointed
 at q e = record { point = q; e = e }
 
-module _ (b : Box (Unit {0}) Global) where
+module _ (rc : Rc (Unit {0}) Global) where
   abbrev pub pointer : CType → CType
-  pointer t = Pointer' b t
+  pointer t = Pointer' rc t
 
   abbrev pub array : CType → ℕ → CType
-  array t n = Array' b t n
+  array t n = Array' rc t n
 
+module _ (b : Box (Unit {0}) Global) where
   abbrev pub binary : CType → Typed → BinaryOp → Typed → Typed
   binary t x op y = Binary' (of_type t) b x op b y
 

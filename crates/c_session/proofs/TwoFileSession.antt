@@ -2,6 +2,7 @@
 use Rattle.std.proofs.Common.{◌≡◌, refl, [], ◌∷◌, Some, None, true, false, lit<}
 use Rattle.std.specs.Prelude.{Box, codes}
 use Rattle.std.specs.declared.alloc.Global.{Global}
+use Rattle.std.specs.declared.rc.Rc.{Rc}
 use Rattle.c_tree.specs.declared.types.CType.TheVariants.{Int, Void, Pointer'}
 use Rattle.c_tree.specs.declared.typed.BinaryOp.TheVariants.{Equal, Unequal, Add}
 use Rattle.c_tree.specs.declared.typed.UnaryOp.TheVariants.{Minus}
@@ -18,7 +19,7 @@ use Rattle.c_session.specs.Commands.{Read}
 use Rattle.c_session.proofs.Computed.{session, reader, computing}
 use Rattle.c_session.proofs.Trees.{somewhere, of_type, at, shape_of}
 
-module _ (b : Box (Unit {0}) Global) where
+module _ (b : Box (Unit {0}) Global) (rc : Rc (Unit {0}) Global) where
   abbrev pub program : Program
   program = record {
     units = (record { file = codes "main.c"; functions = (0 ∷ []) } ∷ record { file = codes "cnt.c"; functions = (1 ∷ []) } ∷ []);
@@ -48,7 +49,7 @@ module _ (b : Box (Unit {0}) Global) where
     symbols = (record { name = codes "getchar"; ctype = Int; refers = refers.Declared; up = None } ∷ record { name = codes "putchar"; ctype = Int; refers = refers.Declared; up = Some 0 } ∷ record { name = codes "exit"; ctype = Void; refers = refers.Declared; up = Some 1 } ∷ record { name = codes "count"; ctype = Int; refers = refers.Function 1; up = Some 2 } ∷ record { name = codes "seen"; ctype = Int; refers = refers.Object 0; up = Some 3 } ∷ record { name = codes "main"; ctype = Int; refers = refers.Function 0; up = Some 4 } ∷ record { name = codes "c"; ctype = Int; refers = refers.Local 0; up = Some 5 } ∷ record { name = codes "getchar"; ctype = Int; refers = refers.Declared; up = None } ∷ record { name = codes "putchar"; ctype = Int; refers = refers.Declared; up = Some 7 } ∷ record { name = codes "exit"; ctype = Void; refers = refers.Declared; up = Some 8 } ∷ record { name = codes "seen"; ctype = Int; refers = refers.Object 1; up = Some 9 } ∷ record { name = codes "count"; ctype = Int; refers = refers.Function 1; up = Some 10 } ∷ record { name = codes "c"; ctype = Int; refers = refers.Local 0; up = Some 11 } ∷ []);
   }
 
-  it_tells : (session program (reader (record { point = 8; text = codes "&seen"; reading = Read (Address' (of_type (Pointer' b Int)) b (Name (of_type Int) 10)) } ∷ record { point = 3; text = codes "&seen"; reading = Read (Address' (of_type (Pointer' b Int)) b (Name (of_type Int) 4)) } ∷ []) []) 3000 (97 ∷ 97 ∷ 97 ∷ 97 ∷ 10 ∷ 97 ∷ 97 ∷ 97 ∷ 10 ∷ []) ((Some (command.Break (spot.Line (codes "cnt.c") 4 None))) ∷ (Some command.Continue) ∷ (Some (command.Print (codes "seen"))) ∷ (Some (command.Eval (codes "&seen"))) ∷ (Some (command.Frame 1)) ∷ (Some (command.Print (codes "seen"))) ∷ (Some (command.Print (codes "c"))) ∷ (Some (command.Eval (codes "&seen"))) ∷ (Some (command.Clear (spot.Line (codes "cnt.c") 4 None))) ∷ (Some command.Continue) ∷ [])).lines
+  it_tells : (session program (reader (record { point = 8; text = codes "&seen"; reading = Read (Address' (of_type (Pointer' rc Int)) b (Name (of_type Int) 10)) } ∷ record { point = 3; text = codes "&seen"; reading = Read (Address' (of_type (Pointer' rc Int)) b (Name (of_type Int) 4)) } ∷ []) []) 3000 (97 ∷ 97 ∷ 97 ∷ 97 ∷ 10 ∷ 97 ∷ 97 ∷ 97 ∷ 10 ∷ []) ((Some (command.Break (spot.Line (codes "cnt.c") 4 None))) ∷ (Some command.Continue) ∷ (Some (command.Print (codes "seen"))) ∷ (Some (command.Eval (codes "&seen"))) ∷ (Some (command.Frame 1)) ∷ (Some (command.Print (codes "seen"))) ∷ (Some (command.Print (codes "c"))) ∷ (Some (command.Eval (codes "&seen"))) ∷ (Some (command.Clear (spot.Line (codes "cnt.c") 4 None))) ∷ (Some command.Continue) ∷ [])).lines
       ≡ (codes "break cnt.c:4.5" ∷ codes "stop cnt.c:4.5 count" ∷ codes "value 0" ∷ codes "value &cnt.seen+0" ∷ codes "frame 1 main main.c:7.5" ∷ codes "value 5" ∷ codes "value 10" ∷ codes "value &main.seen+0" ∷ codes "clear cnt.c:4.5" ∷ codes "exited 2" ∷ [])
   unfolding computing
   it_tells = refl

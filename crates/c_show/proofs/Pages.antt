@@ -1,7 +1,8 @@
 -- What is written item by item is the page of the whole value.
 use Rattle.std.proofs.Common.{◌≡◌, refl, sym, ap, ◌∙◌, ℕ, suc, zero, ◌+◌, ◌-◌, ◌<◌, List, [], ◌∷◌, ◌++◌, length, take, drop, map, arith, Bool, true, false}
-use Rattle.std.specs.Prelude.{Box, codes, ◌==◌, if◌then◌else◌}
+use Rattle.std.specs.Prelude.{codes, ◌==◌, if◌then◌else◌}
 use Rattle.std.specs.declared.alloc.Global.{Global}
+use Rattle.std.specs.declared.rc.Rc.{Rc}
 use Rattle.std.proofs.lemmas.Bool.{ne_eqb}
 use Rattle.std.proofs.lemmas.List.{take-map, drop-map}
 use Rattle.c_tree.specs.declared.types.CType.{CType}
@@ -62,7 +63,7 @@ full_item i (put ∷ rest) before page leaves text all lt e z t inv =
     ∙ inv
 
 module _ (defs : List StructDef) (deep d : ℕ) (here : deep ≡ suc d) (page : Page) where
-  pub array_within : (n : ℕ) (b : Box (Unit {0}) Global) (t item item' : CType) → t ≡ Array' b item n → item' ≡ item → put_array item' n (put_within defs d item') page ≡ put_within defs deep t page
+  pub array_within : (n : ℕ) (b : Rc (Unit {0}) Global) (t item item' : CType) → t ≡ Array' b item n → item' ≡ item → put_array item' n (put_within defs d item') page ≡ put_within defs deep t page
   array_within n b t item item' e f =
       ap (λ i. put_array i n (put_within defs d i) page) f
       ∙ sym (ap (λ k. put_within defs k (Array' b item n) page) here)

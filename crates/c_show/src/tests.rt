@@ -4,6 +4,7 @@ use crate::{Held, show};
 use c_tree::{CType, Member, StructDef};
 use ldb_words::{Many, Text};
 use std::alloc::{AllocError, Global};
+use std::rc::Rc;
 use std::test::Fail;
 
 /// The types of the numbers below.
@@ -67,8 +68,8 @@ fn at(alloc: Global, label: &[u8], offset: u32, string: Option<Text>) -> Result<
 #[test]
 fn pointers(rt: HostRuntime) -> Result<(), Fail> {
     let alloc = rt.alloc();
-    let to_int = CType::Pointer(Box::new(alloc, CType::Int)?);
-    let to_char = CType::Pointer(Box::new(alloc, CType::Char)?);
+    let to_int = CType::Pointer(Rc::new(alloc, CType::Int)?);
+    let to_char = CType::Pointer(Rc::new(alloc, CType::Char)?);
     let null = show(alloc, &to_int, &[], &[Held::Null])?;
     assert_eq!(rt; null.as_bytes(), b"0".as_slice());
     let past = show(alloc, &to_int, &[], &[at(alloc, b"a", 16, None)?])?;
@@ -93,7 +94,7 @@ fn numbers(alloc: Global, n: usize, bits: u32) -> Result<Vec<Held>, AllocError> 
 /// `struct { char c[3]; int i; }`.
 fn record(alloc: Global) -> Result<Vec<StructDef>, AllocError> {
     let mut members = Many::new(alloc);
-    let item = Box::new(alloc, CType::Char)?;
+    let item = Rc::new(alloc, CType::Char)?;
     members.push(Member {
         name: Text::from_slice(alloc, b"c")?,
         at: 0,
@@ -117,17 +118,17 @@ fn record(alloc: Global) -> Result<Vec<StructDef>, AllocError> {
 fn structs_and_arrays(rt: HostRuntime) -> Result<(), Fail> {
     let alloc = rt.alloc();
     let defs = record(alloc)?;
-    let pair = CType::Array(Box::new(alloc, CType::Struct(0))?, 2);
+    let pair = CType::Array(Rc::new(alloc, CType::Struct(0))?, 2);
     let mut held = numbers(alloc, 2, 97)?;
     held.push(Held::Number(0))?;
     held.push(Held::Number(4_294_967_295))?;
     held.append(&mut numbers(alloc, 4, 0)?)?;
     let text = show(alloc, &pair, &defs, &held)?;
     assert_eq!(rt; text.as_bytes(), b"{{\"aa\", -1}, {\"\", 0}}".as_slice());
-    let many = CType::Array(Box::new(alloc, CType::Int)?, 1001);
+    let many = CType::Array(Rc::new(alloc, CType::Int)?, 1001);
     let all = show(alloc, &many, &defs, &numbers(alloc, 1001, 7)?)?;
     assert_eq!(rt; all.len(), 3005);
-    let few = CType::Array(Box::new(alloc, CType::Int)?, 1000);
+    let few = CType::Array(Rc::new(alloc, CType::Int)?, 1000);
     let those = show(alloc, &few, &defs, &numbers(alloc, 1000, 7)?)?;
     assert_eq!(rt; those.len(), 3000);
     Ok(())
@@ -136,10 +137,10 @@ fn structs_and_arrays(rt: HostRuntime) -> Result<(), Fail> {
 #[test]
 fn long_strings(rt: HostRuntime) -> Result<(), Fail> {
     let alloc = rt.alloc();
-    let longer = CType::Array(Box::new(alloc, CType::Char)?, 201);
+    let longer = CType::Array(Rc::new(alloc, CType::Char)?, 201);
     let cut = show(alloc, &longer, &[], &numbers(alloc, 201, 120)?)?;
     assert_eq!(rt; cut.len(), 205);
-    let full = CType::Array(Box::new(alloc, CType::Char)?, 200);
+    let full = CType::Array(Rc::new(alloc, CType::Char)?, 200);
     let whole = show(alloc, &full, &[], &numbers(alloc, 200, 120)?)?;
     assert_eq!(rt; whole.len(), 202);
     Ok(())

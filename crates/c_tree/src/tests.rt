@@ -3,10 +3,11 @@
 use crate::{CType, Leaf, LeafFault, Member, StructDef, TooBig, leaves, size_of};
 use ldb_words::{Kind, Many, Text};
 use std::alloc::{AllocError, Global};
+use std::rc::Rc;
 use std::test::Fail;
 
 fn array(alloc: Global, item: CType, n: u32) -> Result<CType, AllocError> {
-    Ok(CType::Array(Box::new(alloc, item)?, n))
+    Ok(CType::Array(Rc::new(alloc, item)?, n))
 }
 
 fn member(alloc: Global, name: &[u8], at: u32, ctype: CType) -> Result<Member, AllocError> {
@@ -22,7 +23,7 @@ fn structs(alloc: Global) -> Result<Vec<StructDef>, AllocError> {
     let mut t = Many::new(alloc);
     t.push(member(alloc, b"a", 0, CType::Char)?)?;
     t.push(member(alloc, b"b", 4, array(alloc, CType::Struct(0), 2)?)?)?;
-    let pointer = CType::Pointer(Box::new(alloc, CType::Int)?);
+    let pointer = CType::Pointer(Rc::new(alloc, CType::Int)?);
     t.push(member(alloc, b"p", 20, pointer)?)?;
     let mut defs = Vec::new(alloc);
     defs.push(StructDef {

@@ -1,6 +1,7 @@
 // Types of C (C90 6.1.2.5), as far as the profile has them.
 
 use ldb_words::{Kind, Many, Text};
+use std::rc::Rc;
 
 /// A type.
 #[derive(Drop)]
@@ -14,9 +15,9 @@ pub enum CType {
     /// `void`, which no object has.
     Void,
     /// A pointer to this type: 32 bits.
-    Pointer(Box<CType>),
+    Pointer(Rc<CType>),
     /// So many items of this type, from 1 to 1,048,576; 0 where the bound is not given.
-    Array(Box<CType>, u32),
+    Array(Rc<CType>, u32),
     /// A struct, by its number in the list of structs.
     Struct(u32),
 }

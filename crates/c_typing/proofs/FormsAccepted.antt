@@ -15,6 +15,7 @@
 use Rattle.std.proofs.Common.{refl, [], ◌∷◌, ℕ, Some, None, false, true, lit<, lit≤}
 use Rattle.std.specs.Prelude.{Box, codes}
 use Rattle.std.specs.declared.alloc.Global.{Global}
+use Rattle.std.specs.declared.rc.Rc.{Rc}
 use Rattle.c_tree.specs.declared.types.CType.{CType}
 use Rattle.c_tree.specs.declared.types.CType.TheVariants.{Char, Int, Unsigned, Void, Pointer', Array', Struct}
 use Rattle.c_tree.specs.declared.typed.BinaryOp.TheVariants.{BitAnd, Equal, Unequal, Less, Greater, ShiftLeft, Add, Subtract}
@@ -37,12 +38,12 @@ use Rattle.c_typing.specs.Statements.{in_function, IsStatement}
 use Rattle.c_typing.specs.Accepted.{IsAccepted, IsFunction}
 use Rattle.c_typing.proofs.Trees.{somewhere, of_type, at, shape_of}
 
-module _ (b : Box (Unit {0}) Global) where
+module _ (b : Box (Unit {0}) Global) (rc : Rc (Unit {0}) Global) where
   abbrev node : CType
-  node = Pointer' b (Struct 0)
+  node = Pointer' rc (Struct 0)
 
   abbrev chars : CType
-  chars = Pointer' b Char
+  chars = Pointer' rc Char
 
   abbrev int : ℕ → Typed
   int n = Constant (of_type Int) n
@@ -96,7 +97,7 @@ module _ (b : Box (Unit {0}) Global) where
   choosing = Switch' somewhere (at 13 (name Int 13)) b (Block' somewhere [] (shape_of b 3 (lit< tt)) (more_of-Stmt (Case' somewhere 44 b (given 14 (int 1))) (more_of-Stmt (Break somewhere) (more_of-Stmt (Default' somewhere b (given 15 (SizeOfType (of_type Unsigned) (Struct 0)))) end_of-Stmt))) 9 70)
 
   abbrev first : Typed
-  first = Index' (of_type Char) b (name (Array' b Char 4) 12) b (int 0)
+  first = Index' (of_type Char) b (name (Array' rc Char 4) 12) b (int 0)
 
   abbrev writing : Typed
   writing = Comma' (of_type Char) b (Binary' (of_type Int) b (Follow' (of_type Char) b (name chars 15)) Equal b (int 120)) b (Assign' (of_type Char) b first None b (Cast' (of_type Char) b (int 2)))
@@ -123,7 +124,7 @@ module _ (b : Box (Unit {0}) Global) where
     is_static = false;
     result = Int;
     params = 0;
-    locals = (record { name = codes "c"; ctype = Array' b Char 4; register = false } ∷ record { name = codes "k"; ctype = Int; register = false } ∷ record { name = codes "j"; ctype = Int; register = false } ∷ record { name = codes "q"; ctype = chars; register = false } ∷ []);
+    locals = (record { name = codes "c"; ctype = Array' rc Char 4; register = false } ∷ record { name = codes "k"; ctype = Int; register = false } ∷ record { name = codes "j"; ctype = Int; register = false } ∷ record { name = codes "q"; ctype = chars; register = false } ∷ []);
     points = (11 ∷ 12 ∷ 13 ∷ 14 ∷ 15 ∷ 16 ∷ 17 ∷ 18 ∷ 19 ∷ 20 ∷ 21 ∷ 22 ∷ 23 ∷ 24 ∷ 25 ∷ []);
     body = (Block' somewhere (record { local = 0; init = None } ∷ record { local = 1; init = Some (at 12 (Cast' (of_type Char) b (int 300))) } ∷ record { local = 2; init = None } ∷ []) (shape_of b 6 (lit< tt))
         (more_of-Stmt choosing (more_of-Stmt inner (more_of-Stmt (Value somewhere (Some (at 19 calling))) (more_of-Stmt (Value somewhere (Some (at 20 shifting))) (more_of-Stmt going
@@ -147,7 +148,7 @@ module _ (b : Box (Unit {0}) Global) where
     symbols = (record { name = codes "getchar"; ctype = Int; refers = refers.Declared; up = None } ∷ record { name = codes "putchar"; ctype = Int; refers = refers.Declared; up = Some 0 } ∷ record { name = codes "exit"; ctype = Void; refers = refers.Declared; up = Some 1 }
         ∷ symbol 97 (Struct 0) (refers.Object 0) 2 ∷ symbol 104 node (refers.Object 1) 3 ∷ symbol 116 chars (refers.Object 2) 4 ∷ symbol 117 Unsigned (refers.Object 3) 5 ∷ symbol 43 Void (refers.Function 0) 6
         ∷ symbol 112 node (refers.Local 0) 7 ∷ symbol 110 Int (refers.Local 1) 8 ∷ symbol 105 Int (refers.Local 2) 9 ∷ symbol 109 Int (refers.Function 1) 7
-        ∷ symbol 99 (Array' b Char 4) (refers.Local 0) 11 ∷ symbol 107 Int (refers.Local 1) 12 ∷ symbol 106 Int (refers.Local 2) 13 ∷ symbol 113 chars (refers.Local 3) 14 ∷ []);
+        ∷ symbol 99 (Array' rc Char 4) (refers.Local 0) 11 ∷ symbol 107 Int (refers.Local 1) 12 ∷ symbol 106 Int (refers.Local 2) 13 ∷ symbol 113 chars (refers.Local 3) 14 ∷ []);
   }
 
   add_is_a_function : IsFunction program 0 add

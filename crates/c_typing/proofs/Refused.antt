@@ -2,6 +2,7 @@
 use Rattle.std.proofs.Common.{◌≡◌, refl, sym, subst, ℕ, [], ◌∷◌, Option, Some, None, Bool, false, true, true≢false, lit<, lit≤}
 use Rattle.std.specs.Prelude.{Box, codes}
 use Rattle.std.specs.declared.alloc.Global.{Global}
+use Rattle.std.specs.declared.rc.Rc.{Rc}
 use Rattle.c_tree.specs.declared.types.CType.{CType}
 use Rattle.c_tree.specs.declared.types.CType.TheVariants.{Char, Int, Unsigned, Pointer', Array'}
 use Rattle.c_tree.specs.declared.typed.BinaryOp.TheVariants.{ShiftLeft, Add, Subtract, Multiply, Divide}
@@ -29,7 +30,7 @@ IsSome (Some x) = Unit {0}
 none_some : {A : Type 0} (x : A) → ◌≡◌ {A = Option A} None (Some x) → ⊥
 none_some x e = subst IsSome (sym e) tt
 
-module _ (b : Box (Unit {0}) Global) where
+module _ (b : Box (Unit {0}) Global) (rc : Rc (Unit {0}) Global) where
   -- `int i, *p; unsigned *q; register int r; int f(int); char *c; int a[4];`
   abbrev scope : Scope
   scope = record {
@@ -42,7 +43,7 @@ module _ (b : Box (Unit {0}) Global) where
   i = Name (of_type Int) 0
 
   abbrev ptr : CType → CType
-  ptr t = Pointer' b t
+  ptr t = Pointer' rc t
 
   abbrev p : Typed
   p = Name (of_type (ptr Int)) 1
@@ -54,7 +55,7 @@ module _ (b : Box (Unit {0}) Global) where
   r = Name (of_type Int) 3
 
   abbrev a : Typed
-  a = Name (of_type (Array' b Int 4)) 6
+  a = Name (of_type (Array' rc Int 4)) 6
 
   abbrev number : ℕ → Typed
   number n = Constant (of_type Int) n
@@ -69,7 +70,7 @@ module _ (b : Box (Unit {0}) Global) where
   pointer_of_another_type : Refuted (IsTyped scope (Assign' (of_type (ptr Int)) b p None b q))
   pointer_of_another_type h = none_some (plain.Pointer plain.Int) h.2
 
-  array_assigned : Refuted (IsTyped scope (Assign' (of_type (Array' b Int 4)) b a None b p))
+  array_assigned : Refuted (IsTyped scope (Assign' (of_type (Array' rc Int 4)) b a None b p))
   array_assigned h = none_some (plain.Array plain.Int 4) h.2
 
   null_assigned : IsTyped scope (Assign' (of_type (ptr Int)) b p None b (number 0))
@@ -85,7 +86,7 @@ module _ (b : Box (Unit {0}) Global) where
   register_address : Refuted (IsTyped scope (Address' (of_type (ptr Int)) b (Parens' (of_type Int) b r)))
   register_address h = none_some (plain.Pointer plain.Int) h.1
 
-  string_address : Refuted (IsTyped scope (Address' (of_type (ptr (Array' b Char 3))) b (Literal (of_type (Array' b Char 3)) 0)))
+  string_address : Refuted (IsTyped scope (Address' (of_type (ptr (Array' rc Char 3))) b (Literal (of_type (Array' rc Char 3)) 0)))
   string_address h = none_some (plain.Pointer (plain.Array plain.Char 3)) h.1
 
   function_as_value : Refuted (IsTyped scope (Name (of_type Int) 4))

@@ -2,6 +2,7 @@
 use Rattle.std.proofs.Common.{refl, [], ◌∷◌, Some, None, false, lit<, lit≤}
 use Rattle.std.specs.Prelude.{Box, codes}
 use Rattle.std.specs.declared.alloc.Global.{Global}
+use Rattle.std.specs.declared.rc.Rc.{Rc}
 use Rattle.c_tree.specs.declared.types.CType.TheVariants.{Char, Int, Void, Array', Struct}
 use Rattle.c_tree.specs.declared.typed.Typed.TheVariants.{Constant}
 use Rattle.c_tree.specs.declared.typed.Stmt.{end_of-Stmt, more_of-Stmt}
@@ -12,11 +13,11 @@ use Rattle.c_tree.specs.declared.rows.Referent.TheVariants as refers
 use Rattle.c_typing.specs.Accepted.{IsAccepted}
 use Rattle.c_typing.proofs.Trees.{somewhere, of_type, shape_of}
 
-module _ (b : Box (Unit {0}) Global) where
+module _ (b : Box (Unit {0}) Global) (rc : Rc (Unit {0}) Global) where
   abbrev pub program : Program
   program = record {
     units = (record { file = codes "v.c"; functions = (0 ∷ []) } ∷ []);
-    defs = (record { tag = codes "s"; size = 8; members = (record { name = codes "c"; at = 0; ctype = (Array' b Char 3) } ∷ record { name = codes "i"; at = 4; ctype = Int } ∷ []) } ∷ []);
+    defs = (record { tag = codes "s"; size = 8; members = (record { name = codes "c"; at = 0; ctype = (Array' rc Char 3) } ∷ record { name = codes "i"; at = 4; ctype = Int } ∷ []) } ∷ []);
     objects = (record { name = codes "v"; unit = 0; is_static = false; ctype = (Struct 0); start = (starts.Number 97 ∷ starts.Number 98 ∷ starts.Number 0 ∷ starts.Number 4294967295 ∷ []) } ∷ []);
     strings = [];
     functions = (record {
