@@ -15,4 +15,4 @@ returns-clause-numbers c =
     let none : number_in c.args.numbers.now c.args.tag.now ≡ None = grind (arith, common_steps) in
     let count : c.in-Ok.number ≡ length c.args.tags.now.items = grind (arith, common_steps) in
     number_added c.args.tags.now.items c.push.new.self.items c.args.tag c.in-Ok.number (number_in c.args.numbers.now) (number_in c.set.new.self) c.in_ok-push.ensures.items count none c.requires
-    (λ t. c.in_ok-set.ensures t ∙ ap (λ x. update bytes_eq (number_in c.args.numbers.now) x (Some c.in-Ok.number) t) c.as_bytes-name.ensures)
+    (λ t. c.in_ok-set.ensures.ok t ∙ ap (λ x. update bytes_eq (number_in c.args.numbers.now) x (Some c.in-Ok.number) t) c.as_bytes-name.ensures)

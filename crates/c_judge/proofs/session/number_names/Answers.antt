@@ -10,7 +10,7 @@ numbering-preserved c =
     let e : c.numbering.i ≡ suc (c.numbering.i - 1) = omega arith in
     record {
       inside = omega arith;
-      found = numbered_more symbol_name c.args.names.now (c.numbering.i - 1) _ _ _ _ (omega arith) c.as_bytes.ensures c.in_ok-set.ensures
+      found = numbered_more symbol_name c.args.names.now (c.numbering.i - 1) _ _ _ _ (omega arith) c.as_bytes.ensures c.in_ok-set.ensures.ok
           (subst (λ k. (t : List ℕ) → number_in c.numbering.numbers t ≡ number_from k (map symbol_name (drop k c.args.names.now)) t) e c.numbering.invariant.found);
     }
 

@@ -10,7 +10,7 @@ numbering-preserved c =
     let e : c.numbering.i ≡ suc (c.numbering.i - 1) = omega arith in
     record {
       inside = omega arith;
-      found = numbered_more text c.args.texts.now (c.numbering.i - 1) _ _ _ _ (omega arith) (c.as_bytes.ensures ∙ ap text c.index-texts-i.is) c.in_ok-set.ensures
+      found = numbered_more text c.args.texts.now (c.numbering.i - 1) _ _ _ _ (omega arith) (c.as_bytes.ensures ∙ ap text c.index-texts-i.is) c.in_ok-set.ensures.ok
           (subst (λ k. (t : List ℕ) → number_in c.numbering.numbers t ≡ number_from k (map text (drop k c.args.texts.now)) t) e c.numbering.invariant.found);
     }
 

@@ -20,5 +20,5 @@ returns-clause-added c =
     let n : c.in-Ok.number ≡ length ms = first_of (omega (arith, c.in-Ok.ensures, c.len.ensures), grind (arith, common_steps)) in (
       object_added c.args.defs.now ms c.push.new.members.items m c.args.at complete new c.in_ok-push.ensures,
       names_added ms c.push.new.members.items m c.args.o.now.names c.set.new.self c.in-Ok.number c.in_ok-push.ensures n new c.requires
-          (λ t. c.in_ok-set.ensures t ∙ ap (λ x. update bytes_eq (number_in c.args.o.now.names) x (Some c.in-Ok.number) t) c.as_bytes.ensures),
+          (λ t. c.in_ok-set.ensures.ok t ∙ ap (λ x. update bytes_eq (number_in c.args.o.now.names) x (Some c.in-Ok.number) t) c.as_bytes.ensures),
     )
