@@ -28,13 +28,16 @@ fn add_object<'a>(
     ensures objects { OnOk result (map defining objects.new.items ≡ map defining objects.old.items ++ one_object (sees seen.old) (defining d.now)) }
     ensures seen { OnOk result ((u : ℕ) (name : List ℕ) → sees seen.new u name ≡ marked (sees seen.old) (defining d.now) u name) }
 {
-    let name = d.name.as_bytes();
-    if is_body(d.manner) || seen.find(d.unit, name).is_some() {
+    if is_body(d.manner) {
         return Ok(());
     }
-    seen.set(d.unit, name, 0)?;
-    objects.push(*d)?;
-    Ok(())
+    match seen.replace(d.unit, d.name.as_bytes(), 0)? {
+        Some(_) => Ok(()),
+        None => {
+            objects.push(*d)?;
+            Ok(())
+        }
+    }
 }
 
 /// The definitions of objects, of each the first.

@@ -1,8 +1,7 @@
 -- What is known of the definitions of a name, where they come in the order of their files.
 use Rattle.std.specs.Prelude.{ℕ, Bool, true, false, not, ◌&&◌, ◌||◌, ◌==◌, if◌then◌else◌, List, Option, Some, None}
 use Rattle.std.specs.BTreeMap.{get_by}
-use Rattle.std.specs.Cmp.Lexicographic.{slice_cmp}
-use Rattle.std.specs.Ordering.{nat_cmp}
+use Rattle.c_defs.specs.Digests.{digest, compared}
 use Rattle.c_file.specs.declared.definitions.Known.{Known}
 use Rattle.c_file.specs.declared.definitions.KnownNames.{KnownNames}
 use Rattle.c_file.specs.declared.definitions.Manner.{Manner}
@@ -10,7 +9,7 @@ use Rattle.c_file.specs.declared.definitions.Manner.TheVariants.{Body, Initializ
 use Rattle.c_file.specs.Names.{Defining}
 
 abbrev pub known_in : KnownNames → List ℕ → Option Known
-known_in m t = get_by (λ k. slice_cmp nat_cmp t k.now) m.of
+known_in m t = get_by (compared (digest t) t) m.of
 
 abbrev pub is_body : Manner → Bool
 is_body Body = true

@@ -5,6 +5,7 @@ ghost use Rattle.c_mentions.specs.Tags.{now};
 ghost use Rattle.c_file.specs.Names.{defining, twice, AreInOrder};
 ghost use Rattle.c_file.specs.Known.{known_in, is_body, is_initialized, behind, is_again};
 
+use c_defs::digest;
 use ldb_words::Text;
 use std::alloc::{AllocError, Global};
 use std::collections::BTreeMap;
@@ -37,10 +38,10 @@ pub struct Known {
     pub elsewhere: bool,
 }
 
-/// What is known of each name.
+/// What is known of each name, by its digest and itself.
 #[derive(Drop)]
 pub struct KnownNames<'a> {
-    pub of: BTreeMap<&'a [u8], Known>,
+    of: BTreeMap<(u32, &'a [u8]), Known>,
 }
 
 impl<'a> KnownNames<'a> {
@@ -57,14 +58,14 @@ impl<'a> KnownNames<'a> {
     fn find(&self, name: &'a [u8]) -> Option<Known>
         ensures { result ≡ known_in self.now name.now }
     {
-        self.of.get(&name).copied()
+        self.of.get(&(digest(name), name)).copied()
     }
 
     /// This is known of a name from now on.
     fn set(&mut self, name: &'a [u8], known: Known) -> Result<(), AllocError>
         ensures { OnOk result ((t : List ℕ) → known_in self.new t ≡ update bytes_eq (known_in self.old) name.now (Some known) t) }
     {
-        match self.of.insert(name, known) {
+        match self.of.insert((digest(name), name), known) {
             Ok(_) => Ok(()),
             Err(_) => Err(AllocError),
         }

@@ -93,15 +93,12 @@ impl<'a> FileNames<'a> {
     pub fn declare(&mut self, alloc: Global, name: FileName<'a>, at: u32) -> Result<Meaning, Fault>
         ensures { IsDeclared self.old (file_name name.entry) at result self.new }
     {
-        match self.broken(&name) {
+        let here = self.here(name.unit, name.name.as_bytes());
+        match self.broken(&name, here) {
             Some(rule) => return Err(Fault::Rule { rule, at }),
             None => {}
         }
-        let told = match told(
-            alloc,
-            &name.meaning,
-            self.here(name.unit, name.name.as_bytes()),
-        ) {
+        let told = match told(alloc, &name.meaning, here) {
             Ok(told) => told,
             Err(_) => return Err(Fault::NoMemory),
         };
@@ -111,8 +108,10 @@ impl<'a> FileNames<'a> {
         }
     }
 
-    /// The rule that a declaration breaks beside those before it.
-    fn broken(&self, f: &FileName<'a>) -> Option<u8>
+    /// The rule that a declaration breaks beside those before it, of which this is one in its file.
+    fn broken(&self, f: &FileName<'a>, here: Option<&FileName<'a>>) -> Option<u8>
+        requires telling { option_map (λ g. file_name g.now) here ≡ telling (is_here f.now.unit f.now.name.now) self.now }
+        requires consistent { AreConsistent self.now }
         ensures { (at : ℕ) → found_of result at ≡ name_found self.now (file_name f.now) at }
     {
         let name = f.name.as_bytes();
@@ -122,7 +121,6 @@ impl<'a> FileNames<'a> {
         if !as_main(name, &f.meaning) {
             return Some(10);
         }
-        let here = self.here(f.unit, name);
         if !is_linked_with(f, here) {
             return Some(7);
         }
@@ -211,6 +209,46 @@ fn more_number(rows: &[FileName], before: Option<u32>, number: u32) -> u32
     }
 }
 
+/// A declaration that comes behind these rows has this number, and its name in its file that of the row which tells more. Answers the number that the name
+/// had. Where there is no memory, all stays.
+fn note_here<'a>(
+    by_file: &mut FileNumbers<'a>,
+    rows: &[FileName<'a>],
+    f: &FileName<'a>,
+    number: u32,
+) -> Result<Option<u32>, AllocError>
+    ensures before { IfOk result (λ n. n ≡ number_at by_file.old f.now.unit f.now.name.now) }
+    ensures ok { OnOk result ((u : ℕ) (t : List ℕ) → number_at by_file.new u t ≡ with_number (number_at by_file.old) f.now.unit f.now.name.now (Some (more_number rows.now (number_at by_file.old f.now.unit f.now.name.now) number)) u t) }
+    ensures err { OnErr result ((u : ℕ) (t : List ℕ) → number_at by_file.new u t ≡ number_at by_file.old u t) }
+{
+    let name = f.name.as_bytes();
+    let before = by_file.replace(f.unit, name, number)?;
+    let more = more_number(rows, before, number);
+    if more != number {
+        by_file.restore(f.unit, name, Some(more));
+    }
+    Ok(before)
+}
+
+/// The same of an external declaration and its name in all files.
+fn note_outside<'a>(
+    by_name: &mut Numbers<'a>,
+    rows: &[FileName<'a>],
+    f: &FileName<'a>,
+    number: u32,
+) -> Result<(), AllocError>
+    ensures ok { OnOk result ((t : List ℕ) → number_in by_name.new t ≡ update bytes_eq (number_in by_name.old) f.now.name.now (Some (more_number rows.now (number_in by_name.old f.now.name.now) number)) t) }
+    ensures err { OnErr result ((t : List ℕ) → number_in by_name.new t ≡ number_in by_name.old t) }
+{
+    let name = f.name.as_bytes();
+    let before = by_name.replace(name, number)?;
+    let more = more_number(rows, before, number);
+    if more != number {
+        by_name.restore(name, Some(more));
+    }
+    Ok(())
+}
+
 /// A declaration that comes behind these rows has this number. Where there is no memory, all stays.
 fn note<'a>(
     by_file: &mut FileNumbers<'a>,
@@ -224,30 +262,16 @@ fn note<'a>(
     ensures same_files { OnErr result ((u : ℕ) (t : List ℕ) → number_at by_file.new u t ≡ number_at by_file.old u t) }
     ensures same_externals { OnErr result ((t : List ℕ) → number_in by_name.new t ≡ number_in by_name.old t) }
 {
-    let name = f.name.as_bytes();
-    let before = by_file.find(f.unit, name);
-    by_file.set(f.unit, name, more_number(rows, before, number))?;
+    let before = note_here(by_file, rows, f, number)?;
     if f.is_static {
         return Ok(());
     }
-    let outside = by_name.find(name);
-    match set_name(by_name, name, more_number(rows, outside, number)) {
+    match note_outside(by_name, rows, f, number) {
         Ok(()) => Ok(()),
         Err(e) => {
-            by_file.restore(f.unit, name, before);
+            by_file.restore(f.unit, f.name.as_bytes(), before);
             Err(e)
         }
-    }
-}
-
-/// Gives a name this number. Where there is no memory, all stays.
-fn set_name<'a>(names: &mut Numbers<'a>, name: &'a [u8], number: u32) -> Result<(), AllocError>
-    ensures ok { OnOk result ((t : List ℕ) → number_in names.new t ≡ update bytes_eq (number_in names.old) name.now (Some number) t) }
-    ensures err { OnErr result ((t : List ℕ) → number_in names.new t ≡ number_in names.old t) }
-{
-    match names.of.insert(name, number) {
-        Ok(_) => Ok(()),
-        Err(_) => Err(AllocError),
     }
 }
 

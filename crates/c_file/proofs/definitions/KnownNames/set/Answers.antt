@@ -1,5 +1,5 @@
-use Rattle.std.proofs.lemmas.Map.Text.{btree_map_updates_str}
+use Rattle.c_defs.proofs.Digested.{digested_update}
 use Rattle.c_file.proofs.definitions.KnownNames.set.Goals as goal
 
 pub returns-in-Ok : goal.returns-in-Ok
-returns-in-Ok c = btree_map_updates_str c.args.name.now c.args.self.now.of c.insert.new.self _ c.in-Ok.ensures.updates
+returns-in-Ok c = digested_update c.args.name.now c.digest.result c.args.self.now.of c.insert.new.self _ c.digest.ensures c.in-Ok.ensures.updates

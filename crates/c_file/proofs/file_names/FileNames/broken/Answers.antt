@@ -12,8 +12,8 @@ returns-then-not-is_linked_with c at =
     let n = c.as_bytes-name.ensures in
     let built = sym (c.as_built_in.ensures ∙ ap (λ t. declared_as_built_in f.is_static t f.denoted) n) ∙ c.if-not-as_built_in.false in
     let main = sym (c.as_main.ensures ∙ ap (λ t. declared_as_main t f.denoted) n) ∙ c.if-not-as_main.false in
-    let link = linkage_told f fs c.here-here.ensures.consistent ∙
-    (sym (c.is_linked_with.ensures ∙ (ap (linked_with f) c.here-here.ensures.telling ∙ ap (λ t. linked_with f (telling (is_here f.unit t) fs)) n)) ∙ c.if-not-is_linked_with.true) in
+    let link = linkage_told f fs c.requires.consistent ∙
+    (sym (c.is_linked_with.ensures ∙ ap (linked_with f) c.requires.telling) ∙ c.if-not-is_linked_with.true) in
     sym (found_four (as_built_in f) (as_main f) (one_linkage f fs) (one_type f fs) true true false (one_type f fs) at built main link refl)
 
 pub returns-then-agrees : goal.returns-then-agrees
@@ -23,8 +23,8 @@ returns-then-agrees c at =
     let n = c.as_bytes-name.ensures in
     let built = sym (c.as_built_in.ensures ∙ ap (λ t. declared_as_built_in f.is_static t f.denoted) n) ∙ c.if-not-as_built_in.false in
     let main = sym (c.as_main.ensures ∙ ap (λ t. declared_as_main t f.denoted) n) ∙ c.if-not-as_main.false in
-    let link = linkage_told f fs c.here-here.ensures.consistent ∙
-    (sym (c.is_linked_with.ensures ∙ (ap (linked_with f) c.here-here.ensures.telling ∙ ap (λ t. linked_with f (telling (is_here f.unit t) fs)) n)) ∙ c.if-not-is_linked_with.false) in
+    let link = linkage_told f fs c.requires.consistent ∙
+    (sym (c.is_linked_with.ensures ∙ ap (linked_with f) c.requires.telling) ∙ c.if-not-is_linked_with.false) in
     sym (found_four (as_built_in f) (as_main f) (one_linkage f fs) (one_type f fs) true true true true at built main link (sym c.agrees.ensures ∙ c.if-agrees.true))
 
 pub returns-else-agrees : goal.returns-else-agrees
@@ -34,6 +34,6 @@ returns-else-agrees c at =
     let n = c.as_bytes-name.ensures in
     let built = sym (c.as_built_in.ensures ∙ ap (λ t. declared_as_built_in f.is_static t f.denoted) n) ∙ c.if-not-as_built_in.false in
     let main = sym (c.as_main.ensures ∙ ap (λ t. declared_as_main t f.denoted) n) ∙ c.if-not-as_main.false in
-    let link = linkage_told f fs c.here-here.ensures.consistent ∙
-    (sym (c.is_linked_with.ensures ∙ (ap (linked_with f) c.here-here.ensures.telling ∙ ap (λ t. linked_with f (telling (is_here f.unit t) fs)) n)) ∙ c.if-not-is_linked_with.false) in
+    let link = linkage_told f fs c.requires.consistent ∙
+    (sym (c.is_linked_with.ensures ∙ ap (linked_with f) c.requires.telling) ∙ c.if-not-is_linked_with.false) in
     sym (found_four (as_built_in f) (as_main f) (one_linkage f fs) (one_type f fs) true true true false at built main link (sym c.agrees.ensures ∙ c.if-agrees.false))

@@ -5,6 +5,10 @@ use Rattle.c_file.specs.Telling.{telling, told_with}
 use Rattle.c_file.proofs.Telling.{unbroken, told_here}
 use Rattle.c_file.proofs.file_names.FileNames.declare.Goals as goal
 
+pub broken-requires-clause-telling : goal.broken-requires-clause-telling
+broken-requires-clause-telling c =
+    c.here-here.ensures.telling ∙ ap (λ t. telling (is_here (file_name c.args.name).unit t) c.args.self.now) c.as_bytes.ensures
+
 pub add-requires-clause-linkage : goal.add-requires-clause-linkage
 add-requires-clause-linkage c =
     let f = file_name c.args.name in
@@ -23,7 +27,7 @@ returns-in-Ok-add c =
     let fs = c.args.self.now in
     let types = (unbroken (as_built_in f) (as_main f) (one_linkage f fs) (one_type f fs) c.args.at (sym (c.in-None.ensures c.args.at))).3 in (
       sym (c.in-None.ensures c.args.at),
-      c.in-Ok.ensures ∙ (ap (told_with f.denoted) c.here.ensures.telling ∙
-          (ap (λ t. told_with f.denoted (telling (is_here f.unit t) fs)) c.as_bytes.ensures ∙ sym (told_here f fs c.here.ensures.consistent types))),
+      c.in-Ok.ensures ∙ (ap (told_with f.denoted) c.here-here.ensures.telling ∙
+          (ap (λ t. told_with f.denoted (telling (is_here f.unit t) fs)) c.as_bytes.ensures ∙ sym (told_here f fs c.here-here.ensures.consistent types))),
       c.in-Ok-add.ensures.ok,
     )
