@@ -11,7 +11,6 @@ use crate::shapes::{Parameter, Shape};
 use c_judge::{Fault, is_scalar, is_void, value_type};
 use c_tree::CType;
 use ldb_words::Text;
-use std::alloc::Global;
 
 /// A parameter, which is a scalar once an array has become a pointer to its first item.
 pub fn parameter<'a>(

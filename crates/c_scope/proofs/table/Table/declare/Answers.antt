@@ -7,40 +7,43 @@ use Rattle.c_scope.specs.declared.table.Shadowing.{Shadowing}
 use Rattle.c_scope.proofs.Hiding.{visible_push, hide_push, below_more, inner_found, names_same}
 use Rattle.c_scope.proofs.table.Table.declare.Goals as goal
 
-pub invariant_of-self-in-Ok-2 : goal.invariant_of-self-in-Ok-2
-invariant_of-self-in-Ok-2 c =
+pub invariant_of-self-in-Ok-replace : goal.invariant_of-self-in-Ok-replace
+invariant_of-self-in-Ok-replace c =
     let old = c.self.inside.shadowing.items in
-    let s : Shadowing = record { name = c.args.name; number = c.in-Ok.number; hidden = c.in-Ok-2.hidden } in
+    let s : Shadowing = record { name = c.args.name; number = c.in-Ok.number; hidden = c.in-Ok-replace.hidden } in
     let sh = c.put.ensures ∙ ap (λ l. l ++ s ∷ []) c.in_ok-reserve-4.ensures.items in
     let v = ap (visible_from []) sh ∙ visible_push [] old s in
-    let sy = ap length (c.put-in-Ok-2.ensures ∙ ap (λ l. l ++ c.args.symbol ∷ []) c.in_ok-reserve.ensures.items) ∙ length-append c.self.inside.symbols.items (c.args.symbol ∷ []) in
-    let pa = ap length (c.put-in-Ok-2-2.ensures ∙ ap (λ l. l ++ c.args.parameters ∷ []) c.in_ok-reserve-2.ensures.items) ∙ length-append c.self.inside.parameters.items (c.args.parameters ∷ []) in
-    let li = ap length (c.put-in-Ok-2-3.ensures ∙ ap (λ l. l ++ c.args.link ∷ []) c.in_ok-reserve-3.ensures.items) ∙ length-append c.self.inside.links.items (c.args.link ∷ []) in
+    let sy = ap length (c.put-in-Ok-replace.ensures ∙ ap (λ l. l ++ c.args.symbol ∷ []) c.in_ok-reserve.ensures.items) ∙ length-append c.self.inside.symbols.items (c.args.symbol ∷ []) in
+    let pa = ap length (c.put-in-Ok-replace-2.ensures ∙ ap (λ l. l ++ c.args.parameters ∷ []) c.in_ok-reserve-2.ensures.items) ∙ length-append c.self.inside.parameters.items (c.args.parameters ∷ []) in
+    let li = ap length (c.put-in-Ok-replace-3.ensures ∙ ap (λ l. l ++ c.args.link ∷ []) c.in_ok-reserve-3.ensures.items) ∙ length-append c.self.inside.links.items (c.args.link ∷ []) in
     let n : c.in-Ok.number ≡ length c.self.inside.symbols.items = omega (arith, c.in-Ok.ensures, c.len.ensures, c.in_ok-reserve.ensures.len) in
     let p = c.self.invariant.parameters in
     let q = c.self.invariant.links in
     let r = c.self.invariant.start in
     record {
       finds = λ t. inner_found (number_in c.replace.new.numbers) (number_in c.self.inside.numbers) (seen s) (visible_from [] old) c.self.invariant.finds
-          c.in-Ok-2.ensures.ok t ∙ ap (λ l. number_of l t) (sym v);
-      hide = subst (Hide []) (sym sh) (hide_push [] old s c.self.invariant.hide (c.in-Ok-2.ensures.before ∙ c.self.invariant.finds c.args.name.now));
-      below = subst (AreBelow (length c.put-in-Ok-2.new.items.items)) (sym v)
+          c.in-Ok-replace.ensures.ok t ∙ ap (λ l. number_of l t) (sym v);
+      hide = subst (Hide []) (sym sh) (hide_push [] old s c.self.invariant.hide (c.in-Ok-replace.ensures.before ∙ c.self.invariant.finds c.args.name.now));
+      below = subst (AreBelow (length c.put-in-Ok-replace.new.items.items)) (sym v)
           (omega (arith, n, sy), below_more (length c.self.inside.symbols.items) c.in-Ok.number (visible_from [] old) (omega (arith, n)) c.self.invariant.below);
       parameters = omega (arith, sy, pa, p);
       links = omega (arith, sy, li, q);
       start = omega (arith, sy, r);
     }
 
-pub returns-in-Ok-2-clause-ok : goal.returns-in-Ok-2-clause-ok
-returns-in-Ok-2-clause-ok c =
+pub returns-in-Ok-replace-clause-ok : goal.returns-in-Ok-replace-clause-ok
+returns-in-Ok-replace-clause-ok c =
     let old = c.self.inside.shadowing.items in
-    let s : Shadowing = record { name = c.args.name; number = c.in-Ok.number; hidden = c.in-Ok-2.hidden } in
+    let s : Shadowing = record { name = c.args.name; number = c.in-Ok.number; hidden = c.in-Ok-replace.hidden } in
     let sh = c.put.ensures ∙ ap (λ l. l ++ s ∷ []) c.in_ok-reserve-4.ensures.items in
     let v = ap (visible_from []) sh ∙ visible_push [] old s in
     let n : c.in-Ok.number ≡ length c.self.inside.symbols.items = omega (arith, c.in-Ok.ensures, c.len.ensures, c.in_ok-reserve.ensures.len) in
     names_same _ _ _ _ _ _ _ _ c.self.inside.start
-    (c.put-in-Ok-2.ensures ∙ ap (λ l. l ++ c.args.symbol ∷ []) c.in_ok-reserve.ensures.items)
-    (c.put-in-Ok-2-2.ensures ∙ ap (λ l. l ++ c.args.parameters ∷ []) c.in_ok-reserve-2.ensures.items)
-    (c.put-in-Ok-2-3.ensures ∙ ap (λ l. l ++ c.args.link ∷ []) c.in_ok-reserve-3.ensures.items)
+    (c.put-in-Ok-replace.ensures ∙ ap (λ l. l ++ c.args.symbol ∷ []) c.in_ok-reserve.ensures.items)
+    (c.put-in-Ok-replace-2.ensures ∙ ap (λ l. l ++ c.args.parameters ∷ []) c.in_ok-reserve-2.ensures.items)
+    (c.put-in-Ok-replace-3.ensures ∙ ap (λ l. l ++ c.args.link ∷ []) c.in_ok-reserve-3.ensures.items)
     (v ∙ ap (λ k. record { name = c.args.name.now; number = k } ∷ visible_from [] old) n)
     ∙ ap (λ t. with_name t c.args.name.now c.args.symbol c.args.parameters c.args.link) c.self.view_is
+
+pub invariant_of-self-in-Err-3 : goal.invariant_of-self-in-Err-3
+invariant_of-self-in-Err-3 c = record (c.self.invariant) { finds = λ t. c.in-Err-3.ensures.err t ∙ c.self.invariant.finds t }
