@@ -1,4 +1,4 @@
-use Rattle.std.proofs.Common.{arith, [], ◌∷◌, length, length-append, sym, ap, ◌∙◌, subst, IsSome, tt}
+use Rattle.std.proofs.Common.{arith, [], ◌∷◌, length, length-append, sym, ap, ◌∙◌, subst, IsSome, refl}
 use Rattle.c_defs.specs.Numbers.{number_in}
 use Rattle.c_scope.specs.Environment.{number_of}
 use Rattle.c_scope.specs.Table.{outermost}
@@ -12,7 +12,7 @@ restore-requires c =
     let rest = c.pop.new.self.items in
     subst IsSome (sym (c.ending.invariant.finds s.name.now
     ∙ (ap (λ l. number_of (visible_from [] l) s.name.now) c.in-Some.ensures.items
-    ∙ (ap (λ l. number_of l s.name.now) (visible_push [] rest s) ∙ found_itself (seen s) (visible_from [] rest))))) tt
+    ∙ (ap (λ l. number_of l s.name.now) (visible_push [] rest s) ∙ found_itself (seen s) (visible_from [] rest))))) refl
 
 pub ending-preserved-in-Some : goal.ending-preserved-in-Some
 ending-preserved-in-Some c =
@@ -25,7 +25,7 @@ ending-preserved-in-Some c =
     let m = ap length e ∙ length-append rest (s ∷ []) in
     let t = c.ending-test.true in
     record {
-      finds = outer_found (number_in c.restore.new.numbers) (number_in c.ending.numbers) (seen s) (visible_from [] rest) s.hidden h.1 (λ t. c.ending.invariant.finds t ∙ ap (λ l. number_of l t) v) c.restore.ensures;
+      finds = outer_found (number_in c.restore.new.self) (number_in c.ending.numbers) (seen s) (visible_from [] rest) s.hidden h.1 (λ t. c.ending.invariant.finds t ∙ ap (λ l. number_of l t) v) c.restore.ensures;
       hide = h.0;
       visible = sym (outermost_less c.args.height (seen s) (visible_from [] rest) (omega (arith, n, m, t, c.len.ensures))) ∙ (sym (ap (outermost c.args.height) v) ∙ c.ending.invariant.visible);
     }

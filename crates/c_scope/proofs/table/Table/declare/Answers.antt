@@ -21,7 +21,7 @@ invariant_of-self-in-Ok-replace c =
     let q = c.self.invariant.links in
     let r = c.self.invariant.start in
     record {
-      finds = λ t. inner_found (number_in c.replace.new.numbers) (number_in c.self.inside.numbers) (seen s) (visible_from [] old) c.self.invariant.finds
+      finds = λ t. inner_found (number_in c.replace.new.self) (number_in c.self.inside.numbers) (seen s) (visible_from [] old) c.self.invariant.finds
           c.in-Ok-replace.ensures.ok t ∙ ap (λ l. number_of l t) (sym v);
       hide = subst (Hide []) (sym sh) (hide_push [] old s c.self.invariant.hide (c.in-Ok-replace.ensures.before ∙ c.self.invariant.finds c.args.name.now));
       below = subst (AreBelow (length c.put-in-Ok-replace.new.items.items)) (sym v)
