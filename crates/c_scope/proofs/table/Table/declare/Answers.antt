@@ -46,4 +46,17 @@ returns-in-Ok-replace-clause-ok c =
     ∙ ap (λ t. with_name t c.args.name.now c.args.symbol c.args.parameters c.args.link) c.self.view_is
 
 pub invariant_of-self-in-Err-3 : goal.invariant_of-self-in-Err-3
-invariant_of-self-in-Err-3 c = record (c.self.invariant) { finds = λ t. c.in-Err-3.ensures.err t ∙ c.self.invariant.finds t }
+invariant_of-self-in-Err-3 c =
+    let i = c.self.invariant in
+    let sy = ap length c.in_ok-reserve.ensures.items in
+    let pa = ap length c.in_ok-reserve-2.ensures.items in
+    let li = ap length c.in_ok-reserve-3.ensures.items in
+    let sh = c.in_ok-reserve-4.ensures.items in
+    record {
+      finds = λ t. c.in-Err.ensures.err t ∙ (i.finds t ∙ ap (λ l. number_of (visible_from [] l) t) (sym sh));
+      hide = subst (Hide []) (sym sh) i.hide;
+      below = subst (λ l. AreBelow (length c.reserve.new.self.items) (visible_from [] l)) (sym sh) (subst (λ n. AreBelow n (visible_from [] c.self.inside.shadowing.items)) (sym sy) i.below);
+      parameters = pa ∙ (i.parameters ∙ sym sy);
+      links = li ∙ (i.links ∙ sym sy);
+      start = omega (arith, sy, i.start);
+    }
