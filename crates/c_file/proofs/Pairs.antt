@@ -17,7 +17,7 @@ Triple = ℕ × Pair
 abbrev triple_cmp : Triple → Triple → Ordering
 triple_cmp x y = ordering_then (nat_cmp x.0 y.0) (pair_cmp x.1 y.1)
 
-same_key : (d u : ℕ) (t : List ℕ) (k : Triple) → Bool
+abbrev same_key : (d u : ℕ) (t : List ℕ) (k : Triple) → Bool
 same_key d u t k = (d == k.0) && ((u == k.1.0) && bytes_eq t k.1.1.now)
 
 compared_in_is : (d u : ℕ) (t : List ℕ) (k : Triple) → is_eq (compared_in d u t k) ≡ same_key d u t k
