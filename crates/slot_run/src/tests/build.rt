@@ -11,6 +11,7 @@ use c_tree::{
 };
 use ldb_words::{Many, Text};
 use std::alloc::{AllocError, Global};
+use std::rc::Rc;
 
 const SITE: Site = Site {
     at: 0,
@@ -231,11 +232,11 @@ impl Builder {
             b's' => CType::Struct(self.arg(0)),
             b'^' => {
                 let target = self.ctype()?;
-                CType::Pointer(Box::new(self.alloc, target)?)
+                CType::Pointer(Rc::new(self.alloc, target)?)
             }
             _ => {
                 let item = self.ctype()?;
-                CType::Array(Box::new(self.alloc, item)?, self.arg(0))
+                CType::Array(Rc::new(self.alloc, item)?, self.arg(0))
             }
         };
         self.types.push(made)?;
