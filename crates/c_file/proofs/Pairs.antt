@@ -32,10 +32,8 @@ is_at_key d u t k e =
 
 key_test : (d v : ℕ) (t : List ℕ) → IsKeyTest (eq_by_cmp triple_cmp) (λ k. is_eq (compared_in d v t k))
 key_test d v t x y e =
-    let p = is_at_key x.0 x.1.0 x.1.1.now y e in
-    ap (λ w. is_eq (ordering_then (nat_cmp d w) (compared v t x.1))) p.0
-    ∙ (ap (λ w. is_eq (ordering_then (nat_cmp d y.0) (ordering_then (nat_cmp v w) (slice_cmp nat_cmp t x.1.1.now)))) p.1.0
-    ∙ ap (λ s. is_eq (ordering_then (nat_cmp d y.0) (ordering_then (nat_cmp v y.1.0) (slice_cmp nat_cmp t s)))) p.1.1)
+    let p = is_at_key d v t x e in
+    ap (λ w. is_eq (compared_in w v t y)) p.0 ∙ (ap (λ w. is_eq (compared_in x.0 w t y)) p.1.0 ∙ ap (λ s. is_eq (compared_in x.0 x.1.0 s y)) p.1.1)
 
 apart : (u v : ℕ) (bs t : List ℕ) → ((u == v) && bytes_eq bs t) ≡ false → AreApart (λ k. is_eq (compared_in (digest bs) u bs k)) (λ k. is_eq (compared_in (digest t) v t k))
 apart u v bs t n k e =
