@@ -41,10 +41,7 @@ fn copied_type(meaning: &Meaning) -> Result<CType, AllocError>
 }
 
 /// The type of an object.
-fn object_type<'a>(
-    names: &FileNames<'a>,
-    d: &Definition<'a>,
-) -> Result<CType, AllocError>
+fn object_type<'a>(names: &FileNames<'a>, d: &Definition<'a>) -> Result<CType, AllocError>
     ensures { IfOk result (λ t. (q : State) → q.names ≡ names.now → plain t ≡ object_type q (defining d.now)) }
 {
     match told(&*names, d) {

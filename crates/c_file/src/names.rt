@@ -80,13 +80,7 @@ pub fn bounded_one(s: &CType, t: &CType) -> Result<CType, AllocError>
     ensures { IfOk result (λ r. plain r ≡ bounded_one (plain s.now) (plain t.now)) }
 {
     match s {
-        CType::Array(_, n) => {
-            if *n == 0 {
-                copied(t)
-            } else {
-                copied(s)
-            }
-        }
+        CType::Array(_, n) => { if *n == 0 { copied(t) } else { copied(s) } }
         CType::Char
         | CType::Int
         | CType::Unsigned

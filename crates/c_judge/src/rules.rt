@@ -116,11 +116,7 @@ pub fn address_type(alloc: Global, x: &Part) -> Result<Option<CType>, AllocError
 }
 
 /// The type of a struct's member by its number.
-fn member_type(
-    defs: &[StructDef],
-    t: &CType,
-    m: u32,
-) -> Result<Option<CType>, AllocError>
+fn member_type(defs: &[StructDef], t: &CType, m: u32) -> Result<Option<CType>, AllocError>
     ensures { Gives result (rule.member_type defs.now (plain t.now) m) }
 {
     match t {
@@ -133,11 +129,7 @@ fn member_type(
 }
 
 /// `.` takes a struct lvalue with that member (C90 6.3.2.3).
-pub fn dot_type(
-    defs: &[StructDef],
-    x: &Part,
-    m: u32,
-) -> Result<Option<CType>, AllocError>
+pub fn dot_type(defs: &[StructDef], x: &Part, m: u32) -> Result<Option<CType>, AllocError>
     ensures { Gives result (rule.dot_type defs.now (operand_of x.now) m) }
 {
     if !x.facts.lvalue {
@@ -147,11 +139,7 @@ pub fn dot_type(
 }
 
 /// `->` takes a pointer to a complete struct with that member (C90 6.3.2.3).
-pub fn arrow_type(
-    defs: &[StructDef],
-    x: &Part,
-    m: u32,
-) -> Result<Option<CType>, AllocError>
+pub fn arrow_type(defs: &[StructDef], x: &Part, m: u32) -> Result<Option<CType>, AllocError>
     ensures { Gives result (rule.arrow_type defs.now (value_of x.now) m) }
 {
     match target(type_of(x)) {
@@ -168,11 +156,7 @@ fn arithmetic_type(s: &CType, t: &CType) -> Option<CType>
 }
 
 /// `+` takes integers, or a pointer to a complete type and an integer (C90 6.3.6).
-fn sum_type(
-    defs: &[StructDef],
-    s: &CType,
-    t: &CType,
-) -> Result<Option<CType>, AllocError>
+fn sum_type(defs: &[StructDef], s: &CType, t: &CType) -> Result<Option<CType>, AllocError>
     ensures { Gives result (rule.sum_type defs.now (value_type (plain s.now)) (value_type (plain t.now))) }
 {
     if is_movable(defs, s) && is_integer(t) {
@@ -185,11 +169,7 @@ fn sum_type(
 }
 
 /// `-` takes integers, a pointer to a complete type and an integer, or two such pointers of one type (C90 6.3.6).
-fn difference_type(
-    defs: &[StructDef],
-    s: &CType,
-    t: &CType,
-) -> Result<Option<CType>, AllocError>
+fn difference_type(defs: &[StructDef], s: &CType, t: &CType) -> Result<Option<CType>, AllocError>
     ensures { Gives result (rule.difference_type defs.now (value_type (plain s.now)) (value_type (plain t.now))) }
 {
     if is_movable(defs, s) && is_integer(t) {
@@ -202,11 +182,7 @@ fn difference_type(
 }
 
 /// `[]` takes a pointer to a complete type and an integer, in either order (C90 6.3.2.1).
-pub fn index_type(
-    defs: &[StructDef],
-    x: &Part,
-    y: &Part,
-) -> Result<Option<CType>, AllocError>
+pub fn index_type(defs: &[StructDef], x: &Part, y: &Part) -> Result<Option<CType>, AllocError>
     ensures { Gives result (rule.index_type defs.now (value_of x.now) (value_of y.now)) }
 {
     let s = type_of(x);
@@ -356,11 +332,7 @@ pub fn compound_type(
 }
 
 /// `++` and `--` take a scalar lvalue (C90 6.3.2.4, 6.3.3.1).
-pub fn step_type(
-    defs: &[StructDef],
-    op: StepOp,
-    x: &Part,
-) -> Result<Option<CType>, AllocError>
+pub fn step_type(defs: &[StructDef], op: StepOp, x: &Part) -> Result<Option<CType>, AllocError>
     ensures { Gives result (rule.step_type defs.now op (operand_of x.now)) }
 {
     let op = match op {
