@@ -6,6 +6,8 @@ mod clang_tokens;
 #[cfg(test)]
 mod declarations;
 #[cfg(test)]
+mod digests;
+#[cfg(test)]
 mod expressions;
 #[cfg(test)]
 mod judgements;

@@ -81,7 +81,7 @@ fn checked(alloc: Global, first: &[u8], second: &[u8]) -> Result<Answer, Fail> {
 }
 
 /// Two files, of which the second may be missing, and what they are checked to.
-const ROWS: [(&[u8], &[u8], Answer); 25] = [
+const ROWS: [(&[u8], &[u8], Answer); 26] = [
     (b"int main(void) { return 0; }", b"", Answer::Made(1, 0, 3)),
     (
         b"int x; int main(void) { x = 1; return x; }",
@@ -146,6 +146,12 @@ const ROWS: [(&[u8], &[u8], Answer); 25] = [
         Answer::Unknown,
     ),
     (b"int main(void) { return y; }", b"", Answer::Unknown),
+    // Names whose digests are equal.
+    (
+        b"int Aa; static int BB; int AaAa; int main(void) { int AaBB = BB; return Aa + AaBB + BBBB; }",
+        b"",
+        Answer::Unknown,
+    ),
     (
         b"int x; int main(void) { return 0; }",
         b"int x;",
