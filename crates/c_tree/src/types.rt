@@ -3,7 +3,7 @@
 use ldb_words::{Kind, Many, Text};
 use std::rc::Rc;
 
-/// A type.
+/// A type. Its copies share what it points to or holds.
 #[derive(Drop)]
 pub enum CType {
     /// `char`: 8 bits with a sign.
