@@ -5,7 +5,7 @@ use Rattle.ldb_words.specs.declared.kinds.Kind.TheVariants.{Byte, Word, Address}
 use Rattle.runs.specs.Runs.{Actions}
 use Rattle.c_store.specs.Bits.{low_byte}
 use Rattle.c_store.specs.Store.{Value, Number, Null, At, Object, Cell, World, Static, Text}
-use Rattle.c_store.specs.Frames.{Place, with_world}
+use Rattle.c_store.specs.Frames.{ActivationRecord, with_world}
 use Rattle.c_store.specs.Assigned.{History, all_assigned, at_stop}
 use Rattle.slot_ir.specs.declared.code.SlotCode.{SlotCode}
 use Rattle.slot_ir.specs.declared.code.SlotObject.{SlotObject}
@@ -54,12 +54,12 @@ abbrev pub begin : SlotCode → List ℕ → SlotState
 begin c input = record { here = entered c 0 c.main [] (world_at_first c input); temps = no_temps; pc = 0; result_at = 0; outer = [] }
 
 -- the places of the activations, the innermost first
-abbrev pub outer_places : List Frame → List Place
-outer_places [] = []
-outer_places (f ∷ rest) = f.place ∷ outer_places rest
+abbrev pub outer_records : List Frame → List ActivationRecord
+outer_records [] = []
+outer_records (f ∷ rest) = f.activation ∷ outer_records rest
 
-abbrev pub places : SlotState → List Place
-places t = t.here.place ∷ outer_places t.outer
+abbrev pub records : SlotState → List ActivationRecord
+records t = t.here.activation ∷ outer_records t.outer
 
 -- what a history of assignments does at the stop of each number
 abbrev pub acted : History → Actions SlotState

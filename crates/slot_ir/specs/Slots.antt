@@ -6,7 +6,7 @@ use Rattle.c_tree.specs.declared.types.Leaf.{Leaf}
 use Rattle.runs.specs.Runs.{Next, Goes, Passes, Exits, Undefined, Stuck, Why, IllTyped}
 use Rattle.c_store.specs.Bits.{minus_one}
 use Rattle.c_store.specs.Store.{Value, Number, Null, At, Cell, World, zero_of, used, load, store, moved, load_struct, store_struct, ◌>>=◌}
-use Rattle.c_store.specs.Frames.{Here, Place, with_world, with_point, made, left, bound, new_place}
+use Rattle.c_store.specs.Frames.{Here, ActivationRecord, with_world, with_point, made, left, bound, new_activation}
 use Rattle.slot_ir.specs.declared.code.SlotOp.{SlotOp}
 use Rattle.slot_ir.specs.declared.code.SlotOp.TheVariants.{Const, Null as NullOp, StaticAddress, TextAddress, LocalAddress, Load, Store, ReadRegister, WriteRegister, Convert, Unary, Binary, Compare, Index, Distance, Offset, Take, Jump, JumpIfZero, JumpIfNotZero, JumpIfEqual, Call, Return, Stop, Move, Zero, Leave, GetChar, PutChar, Exit}
 use Rattle.slot_ir.specs.declared.code.Access.{Access}
@@ -28,7 +28,7 @@ no_temps i = None
 
 -- an outer activation: where it goes on, and which of its own caller's temporaries takes its result
 pub record Frame : Type 0 where
-  pub place : Place
+  pub activation : ActivationRecord
   pub temps : Temps
   pub pc : ℕ
   pub result_at : ℕ
@@ -74,7 +74,7 @@ zeroed_row None x h = made x 0 [] h
 zeroed_row (Some l) x h = made x l.size (zero_cells l.leaves) h
 
 abbrev pub zeroed_local : SlotCode → (local : ℕ) → Here → Here
-zeroed_local c x h = zeroed_row (local_row c h.place.function x) x h
+zeroed_local c x h = zeroed_row (local_row c h.activation.function x) x h
 
 abbrev pub leaf_count_in : Option SlotLocal → ℕ
 leaf_count_in None = 0
@@ -95,7 +95,7 @@ given c f x (v ∷ vs) h = given c f (suc x) vs (given_row (local_row c f x) x v
 
 -- a new activation of a function
 abbrev pub entered : SlotCode → (number function : ℕ) → List Value → World → Here
-entered c n f args w = given c f 0 args (record { world = w; place = new_place n f })
+entered c n f args w = given c f 0 args (record { world = w; activation = new_activation n f })
 
 -- ---- steps
 
@@ -134,7 +134,7 @@ abbrev pub read : World → Kind → Access → Value → Result Value Why
 read w k a place = load w k place >>= λ v. Ok (extended a v)
 
 abbrev pub address_of : Here → (local : ℕ) → Option Value
-address_of h x = option_map (λ o. At o 0) (bound x h.place.locals)
+address_of h x = option_map (λ o. At o 0) (bound x h.activation.locals)
 
 module _ (c : SlotCode) (t : SlotState) where
   -- the next operator, with this written to a temporary
@@ -174,11 +174,11 @@ module _ (c : SlotCode) (t : SlotState) where
   calls d f n =
       on_temps (last_temps t.temps d n) (λ vs.
       Goes (1 + n) (record {
-        here = entered c (suc t.here.place.number) f (reverse vs) t.here.world;
+        here = entered c (suc t.here.activation.number) f (reverse vs) t.here.world;
         temps = no_temps;
         pc = 0;
         result_at = d;
-        outer = record { place = t.here.place; temps = t.temps; pc = t.pc + 1; result_at = t.result_at } ∷ t.outer;
+        outer = record { activation = t.here.activation; temps = t.temps; pc = t.pc + 1; result_at = t.result_at } ∷ t.outer;
       }))
 
   -- the innermost activation ends with a value
@@ -186,7 +186,7 @@ module _ (c : SlotCode) (t : SlotState) where
   returns v [] = on_ok (number_in v) (λ n. Exits (signed n) 1 t)
   returns v (f ∷ outer) =
       Goes 1 (record {
-        here = record { world = (left 0 t.here).world; place = f.place };
+        here = record { world = (left 0 t.here).world; activation = f.activation };
         temps = with_temp f.temps t.result_at v;
         pc = f.pc;
         result_at = f.result_at;
@@ -220,7 +220,7 @@ module _ (c : SlotCode) (t : SlotState) where
   act (Return d) = on_temp (t.temps d) (λ v. returns v t.outer)
   act (Stop q) = Passes q 1 (record t { here = with_point t.here q; pc = t.pc + 1 })
   act (Move i j s) = copies i j (leaves_in (slice_get c.structs s))
-  act (Zero x) = goes (leaf_count_in (local_row c t.here.place.function x)) (zeroed_local c x t.here)
+  act (Zero x) = goes (leaf_count_in (local_row c t.here.activation.function x)) (zeroed_local c x t.here)
   act (Leave n) = goes 0 (left n t.here)
   act (GetChar d) =
       Goes 1 (record t {
@@ -243,4 +243,4 @@ module _ (c : SlotCode) (t : SlotState) where
 
 -- one step of slot code
 abbrev pub step : SlotCode → SlotState → Next SlotState
-step c t = at_op c t (slice_get (code_of c t.here.place.function) t.pc)
+step c t = at_op c t (slice_get (code_of c t.here.activation.function) t.pc)
