@@ -12,7 +12,8 @@ use Rattle.c_tree.specs.declared.rows.Program.{Program}
 use Rattle.c_tree.specs.declared.rows.Function.{Function}
 use Rattle.c_tree.specs.declared.rows.Local.{Local}
 use Rattle.c_tree.specs.Rows.{stmts}
-use Rattle.c_source.specs.Blocks.{local_type, result_type, declared_in, statements_in}
+use Rattle.c_source.specs.Blocks.{local_type, result_type}
+use Rattle.c_tree.specs.Rows.{declared_in, statements_in}
 use Rattle.c_source.specs.Control.{Item, Open, runs_of, inits_of}
 use Rattle.c_typing.specs.Plain.{Plain, Char, Int, Unsigned, Void, Pointer, Array, Struct, plain, is_void}
 use Rattle.c_typing.specs.Rules.{converts}

@@ -8,8 +8,10 @@ use Rattle.c_tree.specs.declared.rows.Function.{Function}
 use Rattle.c_store.specs.Store.{Number}
 use Rattle.c_store.specs.Frames.{ActivationRecord}
 use Rattle.c_store.specs.Assigned.{History}
-use Rattle.c_source.specs.Blocks.{converted, declared_in}
-use Rattle.c_source.specs.Control.{Push, GiveBack, State, Activation, body_of, outermost_of, first_of, last_of}
+use Rattle.c_source.specs.Blocks.{converted}
+use Rattle.c_tree.specs.Rows.{declared_in}
+use Rattle.c_source.specs.Control.{Push, GiveBack, State, Activation, body_of, outermost_of}
+use Rattle.c_tree.specs.Points.{first_of, last_of}
 use Rattle.c_source.specs.Source.{step}
 use Rattle.c_source.specs.Begin.{begin, acted, records, outer_records}
 use Rattle.c_typing.specs.Plain.{plain}
