@@ -153,10 +153,10 @@ replaced_fits k i v (Some ob) objects o h g f = each_set ObjectFits objects o (r
 pub fits_hold : (k : Kind) (v : Value) → Fits k v → may_hold k v ≡ true
 fits_hold Byte (Number n) f = refl
 fits_hold Word (Number n) f = refl
-fits_hold Byte Null f = f
-fits_hold Byte (At o i) f = f
-fits_hold Word Null f = f
-fits_hold Word (At o i) f = f
+fits_hold Byte Null f = sym f
+fits_hold Byte (At o i) f = sym f
+fits_hold Word Null f = sym f
+fits_hold Word (At o i) f = sym f
 fits_hold Address (Number n) f = f
 fits_hold Address Null f = refl
 fits_hold Address (At o i) f = refl
