@@ -30,7 +30,7 @@ use Rattle.slot_ir.specs.declared.code.SlotObject.{SlotObject}
 use Rattle.slot_ir.specs.declared.code.SlotStruct.{SlotStruct}
 use Rattle.slot_ir.specs.declared.code.SlotOp.{SlotOp}
 use Rattle.slot_ir.specs.declared.code.SlotOp.TheVariants as op
-use Rattle.slot_ir.specs.WellFormed.{operators_in, IsFunction, IsWellFormed, NamesWhatIsThere, PlacesOf}
+use Rattle.slot_ir.specs.WellFormed.{operators_in, IsFunction, IsListed, IsWellFormed, NamesWhatIsThere, PlacesOf}
 use Rattle.slot_gen.specs.Expressions.{access_of, registers_from, register_at, register_of}
 use Rattle.slot_gen.specs.Statements.{nowhere, zeros_code, inits_code, stmts_code, zero_code, body_place, end_place, function_code}
 use Rattle.slot_gen.specs.Correct.{HasMain}
@@ -38,13 +38,14 @@ use Rattle.slot_gen.specs.Bounds.{function_temps, IsBelow, AreBelow}
 use Rattle.slot_formed.specs.Code.{ArePlaces, IsFunctionRow, AreFunctionRows, IsProgramCode, struct_rows, home_of, local_rows, local_row, object_row, function_row, function_rows, stop_place, program_code}
 use Rattle.slot_formed.specs.Accesses.{ReadsItsKind, IsReadable, IsUniform}
 use Rattle.slot_formed.specs.Tokens.{program_tokens}
-use Rattle.slot_formed.proofs.Lists.{no_none, some_same, all_append, all_left, all_right, and_parts}
+use Rattle.slot_formed.proofs.Lists.{each_of, no_none, some_same, all_append, all_left, all_right, and_parts}
 use Rattle.slot_formed.proofs.Types.{function_there}
 use Rattle.slot_formed.proofs.Homes.{register_there, local_there, locals_length, structs_length, own_registers}
 use Rattle.slot_formed.proofs.Good.{Among, Good, G}
 use Rattle.slot_formed.proofs.Names.{numbers_length}
 use Rattle.slot_formed.proofs.Stmts.{numbers_of, body_of_good, zero_good}
 use Rattle.slot_formed.proofs.Stops.{Has, HasAll, in_left, later, stop_found, body_of_has}
+use Rattle.slot_formed.proofs.StopsOnce.{one, stops, times, stops_append, times_append, block_few, zero_none, numbers_differ, listed}
 use Rattle.slot_formed.proofs.Rows.{Laid, scalars_there, locals_good, objects_good, static_few, main_there}
 use Rattle.slot_formed.proofs.Shapes.{all_structs, all_nest}
 
@@ -216,6 +217,27 @@ module _ (p : Program) (accepted : IsAccepted p) (ascend : (t : CType) → LieIn
         let has_last : Has (function_code p f fn) last = inr (inr (inr (inl (ap op.Stop last_same)))) in
         subst (λ qs. HasAll (function_code p f fn) qs) (sym points) (has_first, all_append (Has (function_code p f fn)) (points_in fn.body) (last ∷ []) in_body (has_last, tt))
 
+    -- a point's stop stands as often as the point is listed, at most
+    stops_few : (q : ℕ) → stops q (function_code p f fn) ≤ times q fn.points
+    stops_few q =
+        let few = block_few q p f fn.body (outermost_of fn) body_place in
+        let one_code : zeros ++ (inits ++ (code ++ ending)) ≡ (zeros ++ (inits ++ code)) ++ ending = sym (append_assoc zeros (inits ++ code) ending ∙ ap (λ l. zeros ++ l) (append_assoc inits code ending)) in
+        let split = ap (stops q) one_code ∙ stops_append q (zeros ++ (inits ++ code)) ending in
+        let none = ap (λ b. one b) (zero_none q fn.result) in
+        let listed = ap (times q) points in
+        let behind = times_append q (points_in fn.body) (last ∷ []) in
+        let first_is = ap (λ r. one (q == r)) first_same in
+        let last_is = ap (λ r. one (q == r)) last_same in
+        omega (arith, few, split, none, listed, behind, first_is, last_is)
+
+    stop_once : (q : ℕ) → stops q (function_code p f fn) ≤ 1
+    stop_once q =
+        let n = mine.numbered in
+        omega (arith, stops_few q, ap (times q) n.1, numbers_differ q n.0 (length fn.points))
+
+    stops_listed : (is : List ℕ) → ArePlaces (function_code p f fn) fn.points is → (i q : ℕ) → slice_get (function_code p f fn) i ≡ Some (op.Stop q) → IsListed q i fn.points is
+    stops_listed is places i q e = listed (function_code p f fn) q i fn.points is (stop_once q) (each_of (Good p f fn n) (function_code p f fn) i (op.Stop q) function_good e) places e
+
     function_readable : (name : List ℕ) (temps : ℕ) (placed : List ℕ) → IsReadable (row_with p f fn name temps placed)
     function_readable name temps placed = reads_all (function_code p f fn) function_good
 
@@ -311,6 +333,7 @@ module _ (p : Program) (accepted : IsAccepted p) (ascend : (t : CType) → LieIn
     own_registers p.defs fn.locals,
     names_all (function_code p f fn) below (function_good p accepted ascend f fn here n size first last points),
     places_all fn.points placed places,
+    stops_listed p accepted ascend f fn here n size first last points placed places,
   )
 
 points_stand : (p : Program) → IsAccepted p → ((t : CType) → LieIn 0 (leaves_of p.defs t) (size_of p.defs t)) → (f : ℕ) (fn : Function) → slice_get p.functions f ≡ Some fn → (first last : ℕ) → fn.points ≡ first ∷ (points_in fn.body ++ last ∷ []) → HasAll (function_code p f fn) fn.points

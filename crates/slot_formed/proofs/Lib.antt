@@ -14,3 +14,4 @@ mod Keeps
 mod Computed
 mod Given
 mod Shapes
+mod StopsOnce

@@ -1,5 +1,5 @@
 -- The rows of structs: their leaves are those of their members, and they nest at most 64 deep.
-use Rattle.std.proofs.Common.{◌≡◌, refl, sym, ap, subst, ◌∙◌, arith, ℕ, suc, zero, ◌+◌, ◌*◌, ◌≤◌, List, [], ◌∷◌, ◌++◌, map, Option, Some, None, slice_get, append_assoc}
+use Rattle.std.proofs.Common.{◌≡◌, refl, sym, ap, subst, ◌∙◌, arith, ℕ, suc, zero, ◌+◌, ◌*◌, ◌<◌, ◌≤◌, List, [], ◌∷◌, ◌++◌, map, length, true, true≢false, Option, Some, None, slice_get, append_assoc}
 use Rattle.std.proofs.lemmas.List.{append-nil}
 use Rattle.std.specs.List.{AllByRecursion}
 use Rattle.ldb_words.specs.declared.kinds.Kind.{Kind}
@@ -12,6 +12,10 @@ use Rattle.c_tree.specs.declared.rows.Program.{Program}
 use Rattle.c_tree.specs.Layout.{size_of, size_in, members_in, members_of, IsWithin, leaves_within, leaves_of, leaves_at, leaves_of_members, repeated}
 use Rattle.c_tree.specs.Ordered.{LieIn, IsAligned}
 use Rattle.c_tree.proofs.Aligned.{same_leaves}
+use Rattle.std.proofs.Math.Nat.{one-le-mul}
+use Rattle.std.specs.Prelude.{nat_le}
+use Rattle.c_typing.specs.Plain.{plain, is_complete}
+use Rattle.c_typing.specs.Written.{IsFormed, IsDeclared}
 use Rattle.c_typing.specs.Declared.{IsStruct as IsItsStruct}
 use Rattle.c_typing.specs.Accepted.{AllFrom}
 use Rattle.slot_ir.specs.declared.code.SlotCode.{SlotCode}
@@ -20,11 +24,12 @@ use Rattle.slot_ir.specs.declared.code.SlotItem.TheVariants as an_item
 use Rattle.slot_ir.specs.declared.code.SlotMember.{SlotMember}
 use Rattle.slot_ir.specs.declared.code.SlotStruct.{SlotStruct}
 use Rattle.slot_ir.specs.Slots.{leaves_in}
-use Rattle.slot_ir.specs.WellFormed.{AreLeavesOf, item_size, item_leaves, leaves_by, IsStruct, NestsWithin}
+use Rattle.slot_ir.specs.WellFormed.{AreLeavesOf, item_size, item_leaves, leaves_by, IsItemThere, IsMember, IsStruct, NestsWithin}
 use Rattle.slot_gen.specs.Rows.{item_of, items_of, member_of}
 use Rattle.slot_formed.specs.Code.{struct_row, struct_rows}
 use Rattle.slot_formed.proofs.Sizes.{struct_there}
-use Rattle.slot_formed.proofs.Lists.{no_none, some_same}
+use Rattle.slot_formed.proofs.Homes.{structs_length}
+use Rattle.slot_formed.proofs.Lists.{and_parts}
 
 -- ---- items one behind the other
 
@@ -193,14 +198,42 @@ module _ (c : SlotCode) (defs : List StructDef) (same : c.structs ≡ struct_row
     pub all_nest : (s : ℕ) → NestsWithin c 64 (an_item.Struct s)
     all_nest s = nests 64 (Struct s) (within s)
 
+    item_there : (t : CType) → IsFormed defs t → IsItemThere c (item_of t)
+    item_there Char h = tt
+    item_there Int h = tt
+    item_there Unsigned h = tt
+    item_there Void h = tt
+    item_there (Pointer' _ t) h = tt
+    item_there (Array' _ t n) h = item_there t h.0
+    item_there (Struct s) h = subst (λ (rows : List SlotStruct). s < length rows) (sym same) (subst (λ n. s < n) (sym (structs_length defs 0 defs)) h.0)
+
+    at_least_one : (n : ℕ) → nat_le 1 n ≡ true → 1 ≤ n
+    at_least_one n h = grind arith
+
+    has_items : (t : CType) → is_complete defs (plain t) ≡ true → 1 ≤ items_of t
+    has_items Char h = omega arith
+    has_items Int h = omega arith
+    has_items Unsigned h = omega arith
+    has_items Void h = absurd (true≢false (sym h))
+    has_items (Pointer' _ t) h = omega arith
+    has_items (Array' _ t n) h = let q = and_parts (nat_le 1 n) (is_complete defs (plain t)) h in one-le-mul (at_least_one n q.0) (has_items t q.1)
+    has_items (Struct s) h = omega arith
+
+    members_there_all : (ms : List Member) → AllByRecursion (λ (m : Member). IsDeclared defs m.ctype) ms → AllByRecursion (IsMember c) (map member_of ms)
+    members_there_all [] h = tt
+    members_there_all (m ∷ ms) h = ((has_items m.ctype h.0.1, item_there m.ctype h.0.0.1), members_there_all ms h.1)
+
     module _ (leaves : (t : CType) → IsWithin defs 64 t → AreLeavesOf (size_of defs t) (leaves_of defs t)) where
       row_good : (s : ℕ) (d : StructDef) → slice_get defs s ≡ Some d → IsStruct c (struct_row defs s d)
       row_good s d e =
           let w = within s in
           let members = ap members_in e in
+          let its = struct_there defs structs s d e in
           let by_members : leaves_of defs (Struct s) ≡ leaves_of_members (leaves_within defs 63) d.members = ap (leaves_of_members (leaves_within defs 63)) members in (
+            subst (λ o. size_in o ≤ 1048576) e its.0.1.1,
             subst (λ n. AreLeavesOf n (leaves_of defs (Struct s))) (ap size_in e) (leaves (Struct s) w),
             by_members ∙ members_are d.members (subst (λ ms. AllByRecursion (λ (m : Member). IsWithin defs 63 m.ctype) ms) members w),
+            members_there_all d.members its.2,
           )
 
       rows_good : (n : ℕ) (ds : List StructDef) → ((i : ℕ) (d : StructDef) → slice_get ds i ≡ Some d → slice_get defs (i + n) ≡ Some d) → AllByRecursion (IsStruct c) (struct_rows defs n ds)
