@@ -4,7 +4,7 @@ ghost use Rattle.c_tree.specs.declared.rows.Start.TheVariants.{Number};
 ghost use Rattle.c_tree.specs.Layout.{leaves_of as leaves_in};
 ghost use Rattle.c_tree.specs.Ordered.{AllLaidOut};
 ghost use Rattle.slot_gen.specs.Expressions.{register_at, registers_from};
-ghost use Rattle.slot_gen.specs.Rows.{EachFrom, IsLocalOf, IsFunctionOf, IsStructOf, IsObjectOf, home_of as home, width_of as width, value_of as value, start_of as slot_start, one_start, starts_of, item_of as item, items_of as items, member_of as member};
+ghost use Rattle.slot_gen.specs.Rows.{EachFrom, IsLocalOf, IsFunctionOf, IsStructOf, IsObjectOf, home_of as home, width_of as width, value_of as value, start_of as slot_start, one_start, starts_of, item_of as item, items_of as items, member_of as slot_member};
 
 use crate::emit::next;
 use crate::functions::emit_function;
@@ -171,7 +171,7 @@ fn items_of(t: &CType) -> Result<u32, AllocError>
 
 /// The row of a member.
 fn lower_member(member: &Member) -> Result<SlotMember, AllocError>
-    ensures { IfOk result (λ row. row ≡ member member.now) }
+    ensures { IfOk result (λ row. row ≡ slot_member member.now) }
 {
     Ok(SlotMember {
         at: member.at,
@@ -182,7 +182,7 @@ fn lower_member(member: &Member) -> Result<SlotMember, AllocError>
 
 /// The rows of members.
 fn lower_members(alloc: Global, members: &[Member]) -> Result<Many<SlotMember>, AllocError>
-    ensures { IfOk result (λ rows. rows ≡ map member members.now) }
+    ensures { IfOk result (λ rows. rows ≡ map slot_member members.now) }
 {
     let mut rows = Vec::new(alloc);
     for member in members {
