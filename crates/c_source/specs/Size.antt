@@ -38,11 +38,11 @@ abbrev mutual
   nodes_of (Parens' h _ a) = 1 + nodes_of a
   nodes_of _ = 1
 
-  list_nodes : {m : _} → Row_of-Typed m → ℕ
+  pub list_nodes : {m : _} → Row_of-Typed m → ℕ
   list_nodes end_of-Typed = 0
   list_nodes (more_of-Typed e rest) = 1 + (nodes_of e + row_nodes rest)
 
-  row_nodes : {m : _} → Row_of-Typed m → ℕ
+  pub row_nodes : {m : _} → Row_of-Typed m → ℕ
   row_nodes end_of-Typed = 0
   row_nodes (more_of-Typed e rest) = nodes_of e + row_nodes rest
 

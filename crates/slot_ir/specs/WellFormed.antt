@@ -58,6 +58,12 @@ abbrev IsAmong : ℕ → List ℕ → Type 0
 IsAmong q [] = ⊥
 IsAmong q (r ∷ rs) = (q ≡ r) ⊎ IsAmong q rs
 
+-- the place is listed for the point
+abbrev pub IsListed : (point place : ℕ) → List ℕ → List ℕ → Type 0
+IsListed q i [] is = ⊥
+IsListed q i (r ∷ rs) [] = ⊥
+IsListed q i (r ∷ rs) (j ∷ js) = ((q ≡ r) × (i ≡ j)) ⊎ IsListed q i rs js
+
 module _ (c : SlotCode) (f : SlotFunction) where
   abbrev IsTemp : ℕ → Type 0
   IsTemp i = i < f.temporaries
@@ -103,6 +109,10 @@ module _ (c : SlotCode) (f : SlotFunction) where
   PlacesOf (q ∷ qs) (i ∷ is) = (slice_get f.code i ≡ Some (Stop q)) × PlacesOf qs is
   PlacesOf _ _ = ⊥
 
+  -- a stop stands nowhere but at a place that is listed for its point
+  abbrev pub StopsAreListed : Type 0
+  StopsAreListed = (i q : ℕ) → slice_get f.code i ≡ Some (Stop q) → IsListed q i f.points f.places
+
 -- ---- leaves
 
 -- leaves of something of a size: in order, apart and inside it, each at a multiple of its width, and with at most four bytes for each
@@ -138,7 +148,7 @@ HaveOwnRegisters ls = (x y r : ℕ) (l k : SlotLocal) → slice_get ls x ≡ Som
 abbrev pub IsFunction : SlotCode → SlotFunction → Type 0
 IsFunction c f =
     (1 ≤ length f.code) × (f.params ≤ length f.locals) × (f.params ≤ most_arguments) × AllByRecursion IsScalar (take f.params f.locals) × AllByRecursion IsLocal f.locals
-    × HaveOwnRegisters f.locals × AllByRecursion (NamesWhatIsThere c f) f.code × PlacesOf c f f.points f.places
+    × HaveOwnRegisters f.locals × AllByRecursion (NamesWhatIsThere c f) f.code × PlacesOf c f f.points f.places × StopsAreListed c f
 
 -- ---- structs
 
@@ -159,8 +169,16 @@ module _ (c : SlotCode) where
   leaves_by [] = []
   leaves_by (m ∷ ms) = repeated m.items (item_size m.item) m.at (item_leaves m.item) ++ leaves_by ms
 
+  abbrev pub IsItemThere : SlotItem → Type 0
+  IsItemThere (Scalar k) = Unit {0}
+  IsItemThere (Struct s) = s < length c.structs
+
+  -- a member has an item, of a struct that is there
+  abbrev pub IsMember : SlotMember → Type 0
+  IsMember m = (1 ≤ m.items) × IsItemThere m.item
+
   abbrev pub IsStruct : SlotStruct → Type 0
-  IsStruct s = AreLeavesOf s.size s.leaves × (s.leaves ≡ leaves_by s.members)
+  IsStruct s = (s.size ≤ most_static_bytes) × AreLeavesOf s.size s.leaves × (s.leaves ≡ leaves_by s.members) × AllByRecursion IsMember s.members
 
   abbrev members_in : Option SlotStruct → List SlotMember
   members_in None = []
@@ -188,7 +206,7 @@ IsValueIn c start.Null = Unit {0}
 IsValueIn c (start.Object o i) = IsInside i (slice_get c.objects o)
 IsValueIn c (start.Str k) = k < length c.strings
 
--- a start of fewer than four bytes is a number
+-- a start of fewer than four bytes is a number (no program has one of two bytes yet)
 abbrev pub IsNumber : SlotValue → Type 0
 IsNumber (start.Number n) = Unit {0}
 IsNumber _ = ⊥
