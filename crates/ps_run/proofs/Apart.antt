@@ -1,5 +1,5 @@
 -- Runs, by their first step.
-use Rattle.std.proofs.Common.{◌≡◌, ◌≢◌, ◌<◌, ◌≤◌, ℕ, zero, suc, Bool, true, false, if◌then◌else◌, Option, Some, None, Result, Ok, Err, List, [], ◌∷◌, length, nat_lt, refl, sym, ap, ◌∙◌, subst, arith}
+use Rattle.std.proofs.Common.{◌≡◌, ◌≢◌, ◌<◌, ◌≤◌, ℕ, zero, suc, Bool, true, false, if◌then◌else◌, Option, Some, None, Ok, Err, List, [], ◌∷◌, length, nat_lt, refl, sym, ap, ◌∙◌, subst, arith}
 use Rattle.ps_store.specs.declared.object.PsObj.{PsObj}
 use Rattle.ps_store.specs.StoreState.{Closed}
 use Rattle.ps_store.specs.Store.{closed_part}
@@ -11,13 +11,12 @@ use Rattle.ps_step.specs.Item.{under_stopped}
 use Rattle.ps_step.specs.State.{with_execution}
 use Rattle.ps_step.specs.Executing.{Turn, executing}
 use Rattle.ps_step.specs.declared.fault.PsError.{PsError}
-use Rattle.ps_step.specs.declared.fault.PsFault.{PsFault}
-use Rattle.ps_step.specs.declared.fault.PsFault.TheVariants.{Error, Spent, NoMemory}
+use Rattle.ps_step.specs.declared.fault.PsFault.TheVariants.{NoMemory}
 use Rattle.ps_step.specs.declared.machine.PsCore.{PsCore}
-use Rattle.ps_run.specs.Step.{Outcome, Ended, Next, Asks, Failed, step, settled, raising}
+use Rattle.ps_run.specs.Step.{Outcome, Ended, Next, Asks, Failed, step, settled}
 use Rattle.ps_run.specs.Runs.{Answer, Operates, Asked, Runs, RunsObject, fault_with, spent, ended, failed, next, asked, broken}
 use Rattle.ps_run.proofs.Going.{no_memory}
-use Rattle.ps_run.specs.Passes.{Closes, Finished, TakesNone, Follows, Met, Behind, Left, Passed, Passes, PassesBehind, Answered, Meanwhile, Over, Along, Mapped}
+use Rattle.ps_run.specs.Passes.{Finished, TakesNone, Follows, Met, Behind, Left, Passed, Passes, Answered, Meanwhile, Over, Along, Mapped}
 
 module _ {D : Type 0} (Op : Operates D) where
   pub apart : (n : ℕ) (d : D) (c : PsCore) (r : Answer) (m : ℕ) (d' : D) (c' : PsCore) → Runs Op n d c r m d' c' → Left Op n d c r m d' c'

@@ -1,6 +1,5 @@
 -- Given runs, taken apart from their beginning: neither that a run is the only one nor that one exists is needed.
-use Rattle.std.specs.Prelude.{◌≡◌, ◌≢◌, ◌≤◌, ℕ, zero, suc, Result, Ok, Err}
-use Rattle.ps_step.specs.declared.fault.PsFault.{PsFault}
+use Rattle.std.specs.Prelude.{◌≡◌, ◌≢◌, ◌≤◌, ℕ, zero, suc, Ok, Err}
 use Rattle.ps_step.specs.declared.fault.PsFault.TheVariants.{Error, Spent, NoMemory}
 use Rattle.ps_store.specs.StoreState.{Closed}
 use Rattle.ps_store.specs.Store.{closed_part}

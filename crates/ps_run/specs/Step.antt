@@ -1,9 +1,8 @@
 -- One step of a run: one object is executed, or one turn of a loop is made.
-use Rattle.std.specs.Prelude.{ℕ, ℤ, ◌+ℤ◌, ◌+◌, ◌-◌, Bool, true, false, nat_lt, pos, if◌then◌else◌, Option, Some, None, Result, Ok, Err, List, [], ◌∷◌, length, slice_get, option_map, slice_index_or}
+use Rattle.std.specs.Prelude.{ℕ, ◌+ℤ◌, ◌+◌, ◌-◌, Bool, true, false, nat_lt, pos, if◌then◌else◌, Option, Some, None, Result, Ok, Err, List, [], ◌∷◌, length, slice_get, slice_index_or}
 use Rattle.ps_store.specs.declared.object.PsObj.{PsObj}
 use Rattle.ps_store.specs.declared.object.PsObj.TheVariants.{Int, Bool as Truth, Name, Null}
 use Rattle.ps_store.specs.declared.object.ArrayId.{ArrayId}
-use Rattle.ps_store.specs.declared.object.StringId.{StringId}
 use Rattle.ps_store.specs.declared.key.Key.{Key}
 use Rattle.ps_store.specs.declared.key.Key.TheVariants.{Name as NameKey, Int as IntKey, Bool as TruthKey}
 use Rattle.ps_store.specs.StoreState.{StoreState}
@@ -15,11 +14,11 @@ use Rattle.ps_step.specs.declared.item.Item.TheVariants.{Object, Procedure, Text
 use Rattle.ps_step.specs.declared.machine.PsCore.{PsCore}
 use Rattle.ps_step.specs.Results.{◌>>=◌, stored, at}
 use Rattle.ps_step.specs.Item.{under_stopped}
-use Rattle.ps_step.specs.State.{with_operands, with_execution, pushing, calling}
+use Rattle.ps_step.specs.State.{with_execution, pushing, calling}
 use Rattle.ps_step.specs.ControlOperators.{goes_on}
 use Rattle.ps_step.specs.CopyOperators.{MadeOrLeft}
 use Rattle.ps_step.specs.Executing.{Turn, alone, executing, meeting}
-use Rattle.ps_run.specs.Scan.{Read, More, Whole, Nothing, Bad, reading_object}
+use Rattle.ps_run.specs.Scan.{More, Whole, Nothing, Bad, reading_object}
 
 -- What a step leads to: the end, where nothing is left to be executed; the next state; a question to the dialect;
 -- or the end by an error that no `stopped` catches.
