@@ -6,18 +6,18 @@ ghost use Rattle.c_source.specs.Control.{State};
 ghost use Rattle.c_source.specs.Source.{step};
 ghost use Rattle.c_session.specs.declared.command.Command.{Command};
 ghost use Rattle.c_session.specs.declared.command.Command.TheVariants as command;
-ghost use Rattle.c_session.specs.Commands.{Session, Ended, Reader, Refusal, Refuses, HasEnded, refusal_text, answer};
+ghost use Rattle.c_session.specs.Commands.{Session, Ended, Names, Sides, Reading, Refusal, Refuses, HasEnded, refusal_text, answer};
 ghost use Rattle.c_session.specs.Allowed.{Lines, Standing, AnswerReplies, MemoryReplies};
 
 /// A command that is answered by a refusal changes nothing: not the program, the breakpoints, the chosen frame, the limit or the output. Nor does one for which memory is wanting.
 pub fn refused_commands_change_nothing()
-    ensures refused { (p : Program) (r : Reader) (sides : ℕ) (st next : Standing) (c : Option Command) (u : Refusal) → AnswerReplies p st (answer p r sides st.session c) (refusal_text u ∷ []) next → next ≡ st }
-    ensures no_memory { (p : Program) (r : Reader) (sides : ℕ) (st next : Standing) (c : Option Command) (reply : Lines) → MemoryReplies p st (answer p r sides st.session c) reply next → next ≡ st }
+    ensures refused { (p : Program) (names : Names) (sides : Sides) (st next : Standing) (x : Reading) (c : Option Command) (u : Refusal) → AnswerReplies p st (answer p names sides st.session x c) (refusal_text u ∷ []) next → next ≡ st }
+    ensures no_memory { (p : Program) (names : Names) (sides : Sides) (st next : Standing) (x : Reading) (c : Option Command) (reply : Lines) → MemoryReplies p st (answer p names sides st.session x c) reply next → next ≡ st }
 {}
 
 /// A session that has ended refuses every command but `quit`.
 pub fn ended_sessions_refuse()
-    ensures { (p : Program) (r : Reader) (sides : ℕ) (session : Session) (c : Command) → session.mode ≡ Ended → c ≢ command.Quit → answer p r sides session (Some c) ≡ Refuses HasEnded }
+    ensures { (p : Program) (names : Names) (sides : Sides) (session : Session) (x : Reading) (c : Command) → session.mode ≡ Ended → c ≢ command.Quit → answer p names sides session x (Some c) ≡ Refuses HasEnded }
 {}
 
 /// A resume has one event, and comes to it after one count.
