@@ -3,7 +3,7 @@ use Rattle.std.proofs.Common.{◌≡◌, refl, arith, ℕ, List, [], ◌∷◌, 
 use Rattle.std.specs.Prelude.{codes, ◌⊎◌, ◌≢◌}
 use Rattle.std.specs.List.{AllByRecursion}
 use Rattle.c_tree.specs.declared.rows.Program.{Program}
-use Rattle.runs.specs.Runs.{Course, Going, Comes, Lost, Stopped, Exited, Failed, until}
+use Rattle.runs.specs.Runs.{Course, Going, Comes, Stopped, Exited, Failed, until}
 use Rattle.c_session.specs.declared.command.Command.{Command}
 use Rattle.c_source.specs.Control.{State}
 use Rattle.c_source.specs.Source.{step}
@@ -11,7 +11,7 @@ use Rattle.c_show.specs.Shown.{null}
 use Rattle.c_session.specs.Commands.{Mode, OneSide, Positions, One, Both, FirstAlone, SecondAlone, Use, AsValue, AsAssignment, Resume, Answer, Refuses, Says, Shows, Sets, ShowsAny, EndsClaim, Resumes, Quits, Raw, Nothing, answer, chosen, ReadsAt, ReadsIn, ReadsLine}
 use Rattle.c_session.specs.Commands as mode
 use Rattle.c_session.specs.declared.command.Command.TheVariants as command
-use Rattle.c_store.specs.Frames.{Place}
+use Rattle.c_store.specs.Frames.{ActivationRecord}
 use Rattle.c_session.specs.Allowed.{Lines, Standing, IsEvent, stops_by, AllowedFrom, Allowed, AnswerReplies, ResumeReplies, MemoryReplies, ClaimEnds, IsQuit, IsPrefix, at_first}
 use Rattle.c_session.proofs.Computed.{Session, Reader, is_word, ReadBy, read_at, read_in, read_line, by_course, by_positions, by_answer, then_lines, ends, going_on, from, session}
 
@@ -19,7 +19,6 @@ module _ (p : Program) (r : Reader) (fuel : ℕ) where
   abbrev HasEvent : Course State → Type 0
   HasEvent (Going c s) = ⊥
   HasEvent (Comes c e) = IsEvent e
-  HasEvent Lost = ⊥
 
   abbrev HasRun : Standing → Resume → Positions → Type 0
   HasRun st how (One s) = HasEvent (until State (step p) (stops_by st.session.breaks how) fuel s)
@@ -44,7 +43,6 @@ module _ (p : Program) (r : Reader) (fuel : ℕ) where
   by_run st how s (Comes c (Stopped q t)) e h = inl (Stopped q t, tt, (c, (fuel, e)), refl, refl)
   by_run st how s (Comes c (Exited n t)) e h = inl (Exited n t, tt, (c, (fuel, e)), refl, refl)
   by_run st how s (Comes c (Failed w)) e h = absurd h
-  by_run st how s Lost e h = absurd h
 
   by_sides : (st : Standing) (how : Resume) (ps : Positions) → HasRun st how ps
       → ResumeReplies p st how ps (by_positions p r fuel st how ps).lines (by_positions p r fuel st how ps).next
@@ -64,7 +62,8 @@ module _ (p : Program) (r : Reader) (fuel : ℕ) where
   by_any st (Sets s) h e = (refl, refl)
   by_any st (Resumes how ps) h e = by_sides st how ps h
   by_any st ShowsAny h e = ((_, inl (codes "0", no_lf, refl), refl), refl)
-  by_any st (Raw n) h e = ((inr refl, ((omega arith, (omega arith, (omega arith, tt))), tt)), refl)
+  by_any st (Raw None) h e = (tt, refl)
+  by_any st (Raw (Some n)) h e = ((inr refl, ((omega arith, (omega arith, (omega arith, tt))), tt)), refl)
   by_any st EndsClaim h e = absurd h
   by_any st Nothing h e = absurd h
   by_any st Quits h e = cc
@@ -103,7 +102,7 @@ module _ (p : Program) (r : Reader) (fuel : ℕ) where
   one st cs Nothing h k = absurd h
   one st cs Quits h k = inl (tt, refl, refl)
 
-  reads_at : (st : Standing) (u : Use) (text : List ℕ) (a : Option Place) → ReadsAt p is_word OneSide st.session (ReadBy r) u text a (read_at p r st u text a)
+  reads_at : (st : Standing) (u : Use) (text : List ℕ) (a : Option ActivationRecord) → ReadsAt p is_word OneSide st.session (ReadBy r) u text a (read_at p r st u text a)
   reads_at st u text None = tt
   reads_at st u text (Some a) = refl
 

@@ -10,7 +10,7 @@ use Rattle.c_tree.specs.declared.rows.Program.{Program}
 use Rattle.runs.specs.Runs.{Course, Comes, Failed, until}
 use Rattle.c_session.specs.declared.command.Command.{Command}
 use Rattle.c_session.specs.declared.command.Command.TheVariants as command
-use Rattle.c_store.specs.Frames.{Place}
+use Rattle.c_store.specs.Frames.{ActivationRecord}
 use Rattle.c_source.specs.Control.{State}
 use Rattle.c_source.specs.Source.{step}
 use Rattle.c_show.specs.Printed.{shown}
@@ -69,7 +69,7 @@ abbrev pub ReadBy : Reader → Use → (point : ℕ) → List ℕ → Reading �
 ReadBy r u q text x = x ≡ read r u q text
 
 module _ (p : Program) (r : Reader) (session : Standing) where
-  abbrev pub read_at : Use → List ℕ → Option Place → Reading
+  abbrev pub read_at : Use → List ℕ → Option ActivationRecord → Reading
   read_at u text None = Unread BadSyntax
   read_at u text (Some a) = read r u (point_of p is_word OneSide session.session a) text
 

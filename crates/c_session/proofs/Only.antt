@@ -10,7 +10,7 @@ use Rattle.c_source.specs.Source.{step}
 use Rattle.c_source.specs.Begin.{begin}
 use Rattle.c_session.specs.Commands.{ByStep, OneSide, Positions, One}
 use Rattle.c_source.specs.Size.{need_of}
-use Rattle.c_session.specs.Allowed.{Lines, Allowed, AllowedFrom, stops_by, event_text, ResumeReplies, Moves, one, IsUndefined, event_output, at_first, Standing}
+use Rattle.c_session.specs.Allowed.{Lines, Allowed, AllowedFrom, stops_by, event_text, ResumeReplies, Moves, one, IsBroken, event_output, at_first, Standing}
 use Rattle.c_session.proofs.Computed.{reader, is_word, ReadBy, computing}
 use Rattle.c_session.proofs.AssignmentSession.{program}
 
@@ -80,10 +80,10 @@ module _ (b : Box (Unit {0}) Global) where
   by_resume t out reply rest next e (inr (inl (qs, w, m, front, r, x))) k = absurd (no_turns qs w m)
   by_resume t out reply rest next e (inr (inr (w, d, front, r, x))) k = absurd (no_stack d.2.0 d.0 d.1 d.2.1 d.3)
 
-  undoomed : (s : State) (n c : ℕ) (e : Event State) → start ≡ s → until State (step (program b)) (stops_by [] ByStep) n s ≡ Comes c e → IsUndefined e → ⊥
+  undoomed : (s : State) (n c : ℕ) (e : Event State) → start ≡ s → until State (step (program b)) (stops_by [] ByStep) n s ≡ Comes c e → IsBroken e → ⊥
   undoomed s n c e p h u =
       let h' : run n ≡ Comes c e = subst (λ z. until State (step (program b)) (stops_by [] ByStep) n z ≡ Comes c e) (sym p) h in
-      subst IsUndefined (is_stop n c e h').event u
+      subst IsBroken (is_stop n c e h').event u
 
   only : (t : Lines) (out : List ℕ) → Allowed (program b) is_word (ReadBy (reader [] [])) OneSide [] (Some command.Step ∷ []) t out → Replies t out
   only t out (y, _, inl (q, _, _)) = absurd q

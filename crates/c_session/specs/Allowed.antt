@@ -2,7 +2,7 @@
 use Rattle.std.specs.Prelude.{◌≡◌, ◌⊎◌, ℕ, ◌+◌, ◌*◌, ◌<◌, ◌≤◌, List, [], ◌∷◌, ◌++◌, length, Bool, true, Option, codes}
 use Rattle.std.specs.Fmt.{signed_decimal}
 use Rattle.std.specs.List.{AllByRecursion}
-use Rattle.runs.specs.Runs.{Next, Goes, Passes, Exits, Undefined, Stuck, Why, Reason, Stale, IllTyped, Event, Exited, Failed, RunsTo, OnTheWay, count_of}
+use Rattle.runs.specs.Runs.{Next, Goes, Passes, Exits, Undefined, Why, Reason, Stale, IllTyped, Event, Exited, Failed, RunsTo, OnTheWay, count_of}
 use Rattle.runs.specs.Runs as runs
 use Rattle.c_tree.specs.declared.rows.Program.{Program}
 use Rattle.c_session.specs.declared.command.Command.{Command}
@@ -41,7 +41,6 @@ next_output s (Goes c t) = output_of t
 next_output s (Passes q c t) = output_of t
 next_output s (Exits n c t) = output_of t
 next_output s (Undefined w) = output_of s
-next_output s Stuck = output_of s
 
 -- a point passed and an exit are events; an undefined step is none
 abbrev pub IsEvent : Event State → Type 0
@@ -50,10 +49,10 @@ IsEvent (Exited n s) = Unit {0}
 IsEvent (Failed w) = ⊥
 
 -- what ends the claim: one of the four reasons, or a stale pointer that is used
-abbrev pub IsUndefined : Event State → Type 0
-IsUndefined (Failed (Reason u)) = Unit {0}
-IsUndefined (Failed Stale) = Unit {0}
-IsUndefined _ = ⊥
+abbrev pub IsBroken : Event State → Type 0
+IsBroken (Failed (Reason u)) = Unit {0}
+IsBroken (Failed Stale) = Unit {0}
+IsBroken _ = ⊥
 
 abbrev pub stops_by : List ℕ → Resume → ℕ → Bool
 stops_by breaks ByStep q = true
@@ -67,8 +66,9 @@ abbrev IsAnyReply : List ℕ → Type 0
 IsAnyReply line = ((text : List ℕ) × IsOneLine text × (line ≡ codes "value " ++ text)) ⊎ ((u : Refusal) × (line ≡ refusal_text u))
 
 -- the reply to a command about machines or the debugger: so many lines, or one
-abbrev pub IsRawReply : ℕ → Lines → Type 0
-IsRawReply n reply = ((length reply ≡ n) ⊎ (length reply ≡ 1)) × AllByRecursion IsOneLine reply
+abbrev pub IsRawReply : Option ℕ → Lines → Type 0
+IsRawReply None reply = Unit {0}
+IsRawReply (Some n) reply = ((length reply ≡ n) ⊎ (length reply ≡ 1)) × AllByRecursion IsOneLine reply
 
 -- ---- a resume
 
@@ -143,7 +143,7 @@ module _ (p : Program) (stops : ℕ → Bool) where
 
   -- the run meets an undefined step before its event
   abbrev pub IsDoomed : Positions → Type 0
-  IsDoomed ps = (s : State) × (count : ℕ) × (e : Event State) × IsPosition ps s × Meets s count e × IsUndefined e
+  IsDoomed ps = (s : State) × (count : ℕ) × (e : Event State) × IsPosition ps s × Meets s count e × IsBroken e
 
 -- ---- replies
 
@@ -185,7 +185,7 @@ module _ (p : Program) where
   AnswerReplies st Quits reply next = ⊥
   AnswerReplies st Nothing reply next = ⊥
 
-  -- memory may be wanting for any command but `quit`, and nothing changes
+  -- memory may be wanting for any line but `quit`, a malformed one among them, and nothing changes
   abbrev pub MemoryReplies : Standing → Answer → Lines → Standing → Type 0
   MemoryReplies st Quits reply next = ⊥
   MemoryReplies st a reply next = (reply ≡ codes "no memory" ∷ []) × (next ≡ st)
@@ -203,7 +203,7 @@ module _ (p : Program) where
 -- ---- sessions
 
 module _ (p : Program) (names : Names) (Reads : Use → (point : ℕ) → List ℕ → Reading → Type 0) (sides : Sides) where
-  -- The lines from a standing on, with their transcript and the whole output. A line is a command or malformed. Commands about machines and the debugger are taken out with their replies.
+  -- The lines from a standing on, with their transcript and the whole output. A line is a command or malformed. Commands about machines and the debugger are taken out with their replies, as if they changed nothing; one that runs PostScript may store in the target, and of a list with such a one nothing is promised.
   abbrev pub AllowedFrom : Standing → List (Option Command) → Lines → List ℕ → Type 0
   AllowedFrom st [] transcript output = (transcript ≡ []) × (output ≡ st.written)
   AllowedFrom st (c ∷ cs) transcript output = (x : Reading) × ReadsLine p names sides st.session Reads c x × (

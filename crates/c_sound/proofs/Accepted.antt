@@ -8,7 +8,7 @@ use Rattle.c_tree.specs.declared.rows.Function.{Function}
 use Rattle.c_tree.specs.declared.typed.Typed.{Typed}
 use Rattle.runs.specs.Runs.{Why, Reason, Stale, IllTyped, Moment, Reached, after, until}
 use Rattle.c_store.specs.Store.{Number}
-use Rattle.c_store.specs.Frames.{Here, Place}
+use Rattle.c_store.specs.Frames.{Here, ActivationRecord}
 use Rattle.c_store.specs.Assigned.{History}
 use Rattle.c_source.specs.Blocks.{result_type, converted}
 use Rattle.c_source.specs.Control.{Push, GiveBack, State}
@@ -86,9 +86,9 @@ module _ (p : Program) (accepted : IsAccepted p) where
     pub course_keeps : (stops : ℕ → Bool) (k : ℕ) → CourseKeepsShapes (until State (step p) stops k m.state)
     course_keeps stops k = courses_keep p bodies_ready stops k m.state good_there
 
-    module _ (a : Place) (v : List ℕ) (live : AreLive v a) (e : Typed) (typed : IsTyped (scope_at p a.function v) e) where
+    module _ (a : ActivationRecord) (v : List ℕ) (live : AreLive v a) (e : Typed) (typed : IsTyped (scope_at p a.function v) e) where
       abbrev pub at : Here
-      at = record { world = m.state.here.world; place = a }
+      at = record { world = m.state.here.world; activation = a }
 
       within : (x : ℕ) → has v x ≡ true → has (locals_of a.locals) x ≡ true
       within x q = let o = live x q in live_here x o.0 a.locals o.1

@@ -42,7 +42,7 @@ kept P x (Err IllTyped) e h = e
 
 module _ (p : Program) (h : Here) (w : WorldFits h.world) where
   abbrev ls : List ℕ
-  ls = locals_of h.place.locals
+  ls = locals_of h.activation.locals
 
   used_shape : (s : Bool) (v : Value) → V s v → Gives (V s) (used h.world v)
   used_shape s v e = kept (V s) v (used h.world v) (used_gives h.world v) e
@@ -85,7 +85,7 @@ module _ (p : Program) (h : Here) (w : WorldFits h.world) where
 
   abbrev place_by : Referent → Here → Option Value
   place_by (Object o) h = Some (At o 0)
-  place_by (Local x) h = option_map (λ o. At o 0) (bound x h.place.locals)
+  place_by (Local x) h = option_map (λ o. At o 0) (bound x h.activation.locals)
   place_by (Defined f) h = None
   place_by Declared h = None
 
@@ -94,7 +94,7 @@ module _ (p : Program) (h : Here) (w : WorldFits h.world) where
 
   refers_shape : (r : Referent) → NamedBy p ls r → Gives (V true) (or_ill_typed (place_by r h))
   refers_shape (Object o) q = refl
-  refers_shape (Local x) q = let b = bound_here x h.place.locals q in mapped (bound x h.place.locals) b.0 b.1
+  refers_shape (Local x) q = let b = bound_here x h.activation.locals q in mapped (bound x h.activation.locals) b.0 b.1
   refers_shape (Defined f) q = q
   refers_shape Declared q = q
 
@@ -146,7 +146,7 @@ module _ (p : Program) (h : Here) (w : WorldFits h.world) where
 
   assigned_on : (xs ys : List Assignment) (u : World) → all_assigned (xs ++ ys) u ≡ all_assigned ys (all_assigned xs u)
   assigned_on [] ys u = refl
-  assigned_on (x ∷ xs) ys u = assigned_on xs ys (stored_or u (store u x.kind x.place x.value))
+  assigned_on (x ∷ xs) ys u = assigned_on xs ys (stored_or u (store u x.kind x.activation x.value))
 
   fitting_on : (xs ys : List Assignment) → AreFitting xs → AreFitting ys → AreFitting (xs ++ ys)
   fitting_on [] ys q k = k
@@ -162,14 +162,14 @@ module _ (p : Program) (h : Here) (w : WorldFits h.world) where
       let ys = b.0.0 in
       ((xs ++ ys, b.0.1 ∙ ap (all_assigned ys) a.0.1 ∙ sym (assigned_on xs ys u), fitting_on xs ys a.0.2 b.0.2), b.1)
 
-  stored_by : (u : World) (a : Assignment) (m : Result World Why) → store u a.kind a.place a.value ≡ m → Fits a.kind a.value → Gives WorldFits m → Gives (Becomes u) m
+  stored_by : (u : World) (a : Assignment) (m : Result World Why) → store u a.kind a.activation a.value ≡ m → Fits a.kind a.value → Gives WorldFits m → Gives (Becomes u) m
   stored_by u a (Ok v) e f g = ((a ∷ [], sym (ap (stored_or u) e), (f, tt)), g)
   stored_by u a (Err (Reason r)) e f g = tt
   stored_by u a (Err Stale) e f g = tt
   stored_by u a (Err IllTyped) e f g = g
 
-  stores : (u : World) (a : Assignment) → WorldFits u → Fits a.kind a.value → Gives (Becomes u) (store u a.kind a.place a.value)
-  stores u a g f = stored_by u a (store u a.kind a.place a.value) refl f (store_gives u a.kind a.place a.value g f)
+  stores : (u : World) (a : Assignment) → WorldFits u → Fits a.kind a.value → Gives (Becomes u) (store u a.kind a.activation a.value)
+  stores u a g f = stored_by u a (store u a.kind a.activation a.value) refl f (store_gives u a.kind a.activation a.value g f)
 
   stores_all : (u : World) (o i : ℕ) (cs : List Cell) (xs : List Value) → WorldFits u → FitEach cs xs → Gives (Becomes u) (store_all u o i cs xs)
   stores_all u o i [] xs g f = (([], refl, tt), g)

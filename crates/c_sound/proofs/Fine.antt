@@ -1,7 +1,7 @@
 -- What a step may answer.
 use Rattle.std.proofs.Common.{◌≡◌, refl, sym, ◌∙◌, subst, ap, arith, ℕ, suc, List, [], ◌∷◌, ◌++◌, Bool, true, false, Option, Some, None, length, take, map, append_assoc, append-nil}
 use Rattle.std.specs.Prelude.{Result, Ok, Err, slice_get, if◌then◌else◌, ◌==◌}
-use Rattle.runs.specs.Runs.{Next, Goes, Passes, Exits, Undefined, Stuck, Why, Reason, Stale, IllTyped}
+use Rattle.runs.specs.Runs.{Next, Goes, Passes, Exits, Undefined, Why, Reason, Stale, IllTyped}
 use Rattle.c_tree.specs.declared.rows.Program.{Program}
 use Rattle.c_tree.specs.declared.rows.Function.{Function}
 use Rattle.c_tree.specs.declared.typed.DeclaredLocal.{DeclaredLocal}
@@ -35,7 +35,6 @@ module _ (p : Program) where
   Fine (Undefined (Reason u)) = Unit {0}
   Fine (Undefined Stale) = Unit {0}
   Fine (Undefined IllTyped) = ⊥
-  Fine Stuck = ⊥
 
   pub ok_fine : {A : Type 0} (P : A → Type 0) (m : Result A Why) (go : A → Next State) → Gives P m → ((x : A) → P x → Fine (go x)) → Fine (on_ok m go)
   ok_fine P (Ok x) go h f = f x h
@@ -59,31 +58,31 @@ module _ (p : Program) where
 
   -- ---- blocks are left
 
-  pub left_good : (n : ℕ) (h : Here) (vs : List Value) (k : List Item) (out : List Activation) → WorldFits h.world → HasFunction p (slice_get p.functions h.place.function) → Outside p (addr (result_type p h.place.function)) out
-      → Ready p h.place.function k (take n (locals_of h.place.locals)) (shapes vs) → Good p (record { here = left n h; values = vs; control = k; outer = out })
+  pub left_good : (n : ℕ) (h : Here) (vs : List Value) (k : List Item) (out : List Activation) → WorldFits h.world → HasFunction p (slice_get p.functions h.activation.function) → Outside p (addr (result_type p h.activation.function)) out
+      → Ready p h.activation.function k (take n (locals_of h.activation.locals)) (shapes vs) → Good p (record { here = left n h; values = vs; control = k; outer = out })
   unfolding left
   left_good n h vs k out w i o r = record {
     world = left_fits n h w;
     inner = i;
-    control = subst (λ ls. Ready p h.place.function k ls (shapes vs)) (sym (locals_take n h.place.locals)) r;
+    control = subst (λ ls. Ready p h.activation.function k ls (shapes vs)) (sym (locals_take n h.activation.locals)) r;
     outer = o;
   }
 
   -- ---- objects begin
 
-  one_more : (h : Here) (x : ℕ) (rest : List ℕ) (k : List Item) (ss : List Bool) (o : ℕ) → Ready p h.place.function k (locals_of h.place.locals ++ x ∷ rest) ss
-      → Ready p h.place.function k (locals_of (h.place.locals ++ record { local = x; object = o } ∷ []) ++ rest) ss
+  one_more : (h : Here) (x : ℕ) (rest : List ℕ) (k : List Item) (ss : List Bool) (o : ℕ) → Ready p h.activation.function k (locals_of h.activation.locals ++ x ∷ rest) ss
+      → Ready p h.activation.function k (locals_of (h.activation.locals ++ record { local = x; object = o } ∷ []) ++ rest) ss
   one_more h x rest k ss o r =
-      let ls = locals_of h.place.locals in
-      subst (λ ys. Ready p h.place.function k ys ss) (sym (append_assoc ls (x ∷ []) rest) ∙ sym (ap (λ ys. ys ++ rest) (locals_append h.place.locals (record { local = x; object = o } ∷ [])))) r
+      let ls = locals_of h.activation.locals in
+      subst (λ ys. Ready p h.activation.function k ys ss) (sym (append_assoc ls (x ∷ []) rest) ∙ sym (ap (λ ys. ys ++ rest) (locals_append h.activation.locals (record { local = x; object = o } ∷ [])))) r
 
-  pub opened_good : (f : ℕ) (ds : List DeclaredLocal) (h : Here) (vs : List Value) (k : List Item) (out : List Activation) → WorldFits h.world → HasFunction p (slice_get p.functions h.place.function) → Outside p (addr (result_type p h.place.function)) out
-      → Ready p h.place.function k (locals_of h.place.locals ++ local_numbers ds) (shapes vs) → Good p (record { here = opened p f ds h; values = vs; control = k; outer = out })
+  pub opened_good : (f : ℕ) (ds : List DeclaredLocal) (h : Here) (vs : List Value) (k : List Item) (out : List Activation) → WorldFits h.world → HasFunction p (slice_get p.functions h.activation.function) → Outside p (addr (result_type p h.activation.function)) out
+      → Ready p h.activation.function k (locals_of h.activation.locals ++ local_numbers ds) (shapes vs) → Good p (record { here = opened p f ds h; values = vs; control = k; outer = out })
   unfolding made
   opened_good f [] h vs k out w i o r = record {
     world = w;
     inner = i;
-    control = subst (λ ls. Ready p h.place.function k ls (shapes vs)) (append-nil (locals_of h.place.locals)) r;
+    control = subst (λ ls. Ready p h.activation.function k ls (shapes vs)) (append-nil (locals_of h.activation.locals)) r;
     outer = o;
   }
   opened_good f (d ∷ ds) h vs k out w i o r =
@@ -92,13 +91,13 @@ module _ (p : Program) where
       (made_fits d.local (size_of p.defs t) (cells_of p.defs t) h w (cells_fit p.defs t)) i o
       (one_more h d.local (local_numbers ds) k (shapes vs) (length h.world.objects) r)
 
-  pub given_good : (g : ℕ) (args : List Value) (x : ℕ) (h : Here) (k : List Item) (out : List Activation) → WorldFits h.world → HasFunction p (slice_get p.functions h.place.function) → Outside p (addr (result_type p h.place.function)) out
-      → Given p g x (shapes args) → Ready p h.place.function k (locals_of h.place.locals ++ numbers x (length args)) [] → Good p (record { here = given p g x args h; values = []; control = k; outer = out })
+  pub given_good : (g : ℕ) (args : List Value) (x : ℕ) (h : Here) (k : List Item) (out : List Activation) → WorldFits h.world → HasFunction p (slice_get p.functions h.activation.function) → Outside p (addr (result_type p h.activation.function)) out
+      → Given p g x (shapes args) → Ready p h.activation.function k (locals_of h.activation.locals ++ numbers x (length args)) [] → Good p (record { here = given p g x args h; values = []; control = k; outer = out })
   unfolding made
   given_good g [] x h k out w i o q r = record {
     world = w;
     inner = i;
-    control = subst (λ ls. Ready p h.place.function k ls []) (append-nil (locals_of h.place.locals)) r;
+    control = subst (λ ls. Ready p h.activation.function k ls []) (append-nil (locals_of h.activation.locals)) r;
     outer = o;
   }
   given_good g (v ∷ vs) x h k out w i o q r =

@@ -106,11 +106,11 @@ module _ (p : Program) where
   -- the outer activations can go on with a value of this shape
   abbrev pub Outside : Bool → List Activation → Type 0
   Outside r [] = r ≡ false
-  Outside r (a ∷ rest) = HasFunction (slice_get p.functions a.place.function) × Ready a.place.function a.control (locals_of a.place.locals) (r ∷ map is_place a.values) × Outside (addr (result_type p a.place.function)) rest
+  Outside r (a ∷ rest) = HasFunction (slice_get p.functions a.activation.function) × Ready a.activation.function a.control (locals_of a.activation.locals) (r ∷ map is_place a.values) × Outside (addr (result_type p a.activation.function)) rest
 
   -- each leaf holds a value that fits it, and what remains can be done with the values computed
   pub record Good (s : State) : Type 0 where
     pub world : WorldFits s.here.world
-    pub inner : HasFunction (slice_get p.functions s.here.place.function)
-    pub control : Ready s.here.place.function s.control (locals_of s.here.place.locals) (map is_place s.values)
-    pub outer : Outside (addr (result_type p s.here.place.function)) s.outer
+    pub inner : HasFunction (slice_get p.functions s.here.activation.function)
+    pub control : Ready s.here.activation.function s.control (locals_of s.here.activation.locals) (map is_place s.values)
+    pub outer : Outside (addr (result_type p s.here.activation.function)) s.outer

@@ -1,7 +1,7 @@
 -- Sessions over accepted programs always have an answer.
 use Rattle.std.proofs.Common.{◌≡◌, refl, sym, subst, ℕ, suc, zero, List, [], ◌∷◌, ◌++◌, Bool, true, false, Option, Some, None, ◌⊎◌, inl, inr, length}
 use Rattle.std.specs.Prelude.{Result, Ok, Err, slice_get, if◌then◌else◌, option_and_then, bytes_eq, ◌==◌, codes, filter, not}
-use Rattle.runs.specs.Runs.{Next, Goes, Passes, Exits, Undefined, Stuck, Why, Reason, Stale, IllTyped, Course, Going, Comes, Lost, Event, Stopped, Exited, Failed, counted, passing, onward, until}
+use Rattle.runs.specs.Runs.{Next, Goes, Passes, Exits, Undefined, Why, Reason, Stale, IllTyped, Course, Going, Comes, Event, Stopped, Exited, Failed, counted, passing, onward, until}
 use Rattle.c_tree.specs.declared.types.CType.{CType}
 use Rattle.c_tree.specs.declared.rows.Program.{Program}
 use Rattle.c_tree.specs.declared.rows.Point.{Point}
@@ -10,10 +10,10 @@ use Rattle.c_tree.specs.declared.rows.Referent.{Referent}
 use Rattle.c_tree.specs.declared.rows.Referent.TheVariants as refers
 use Rattle.c_tree.specs.Types.{type_of, is_struct}
 use Rattle.c_store.specs.Store.{Value, World}
-use Rattle.c_store.specs.Frames.{Here, Place, bound}
+use Rattle.c_store.specs.Frames.{Here, ActivationRecord, bound}
 use Rattle.c_source.specs.Control.{State}
 use Rattle.c_source.specs.Source.{step}
-use Rattle.c_source.specs.Begin.{begin}
+use Rattle.c_source.specs.Begin.{begin, records}
 use Rattle.c_source.specs.Meaning.{Given, values_meant, assigned}
 use Rattle.c_source.specs.Names.{named, place_text}
 use Rattle.c_typing.specs.Declared.{has, scope_at}
@@ -104,7 +104,7 @@ module _ (p : Program) (accepted : IsAccepted p) where
   Stands s = Good p s × InScope p s
 
   abbrev pub AtStop : State → Type 0
-  AtStop s = Stands s × CoveredAt p s.here.place
+  AtStop s = Stands s × CoveredAt p s.here.activation
 
   -- ---- runs to an event
 
@@ -115,12 +115,10 @@ module _ (p : Program) (accepted : IsAccepted p) where
   abbrev CourseStands : Course State → Type 0
   CourseStands (Going c s) = Stands s
   CourseStands (Comes c e) = EventStands e
-  CourseStands Lost = Unit {0}
 
   counted_stands : (c : ℕ) (o : Course State) → CourseStands o → CourseStands (counted c o)
   counted_stands c (Going d s) k = k
   counted_stands c (Comes d e) k = k
-  counted_stands c Lost k = k
 
   abbrev EachStands : Positions → Type 0
   EachStands (One t) = Stands t
@@ -138,7 +136,6 @@ module _ (p : Program) (accepted : IsAccepted p) where
     onward_stands (Passes q c s) go f g k = passing_stands (stops q) q c s go ((f, g.0), g.1) (k s (f, g.0))
     onward_stands (Exits v c s) go f g k = tt
     onward_stands (Undefined w) go f g k = tt
-    onward_stands Stuck go f g k = tt
 
     course_stands : (n : ℕ) (s : State) → Stands s → CourseStands (until State (step p) stops n s)
     course_stands zero s g = g
@@ -250,18 +247,18 @@ module _ (p : Program) (accepted : IsAccepted p) where
     clears (Some q) =
         either_answer session.mode (has_point session.breaks q) (Says ((codes "clear " ++ place_text p q) ∷ []) (record session { breaks = filter (λ r. not (r == q)) session.breaks })) (Refuses NoPlace) refl tt
 
-    frames : (n : ℕ) (o : Option Place) → SoundAnswer session.mode (frame_at p names sides session n o)
+    frames : (n : ℕ) (o : Option ActivationRecord) → SoundAnswer session.mode (frame_at p names sides session n o)
     frames n None = tt
     frames n (Some a) = refl
 
     -- ---- in an activation of a state at a stop
 
-    module _ (m : Mode) (s : State) (at : AtStop s) (a : Place) (covered : CoveredAt p a) where
+    module _ (m : Mode) (s : State) (at : AtStop s) (a : ActivationRecord) (covered : CoveredAt p a) where
       abbrev w : World
       w = s.here.world
 
       abbrev here : Here
-      here = record { world = w; place = a }
+      here = record { world = w; activation = a }
 
       abbrev q : ℕ
       q = point_or_0 a.point
@@ -296,7 +293,7 @@ module _ (p : Program) (accepted : IsAccepted p) where
           let l : is_struct (type_of d) ≡ true → ShapedL p (locals_of a.locals) d = λ z. located p a.function (locals_at p q) (locals_of a.locals) there.0 (parameters_there p accepted) d k.1 (struct_lvalue (scope_at p a.function (locals_at p q)) d k.0 k.1 z) in
           evaluates (type_of d) (values_meant p here d) (values_given p here at.0.0.world d k.0 i l)
 
-    module _ (s : State) (at : AtStop s) (a : Place) (covered : CoveredAt p a) where
+    module _ (s : State) (at : AtStop s) (a : ActivationRecord) (covered : CoveredAt p a) where
       -- the state after an assignment
       set_stands : (u : World) → IsAssigned s.here.world u → AtStop (record s { here = record s.here { world = u } })
       set_stands u k =
@@ -321,18 +318,18 @@ module _ (p : Program) (accepted : IsAccepted p) where
           let there = at_point a.function a.point (locals_of a.locals) covered in
           let k = e a.function d there.1 refl in
           let i = evaluated p a.function (locals_at p q) (locals_of a.locals) there.0 (parameters_there p accepted) d k.1 in
-          let here : Here = record { world = s.here.world; place = a } in
+          let here : Here = record { world = s.here.world; activation = a } in
           sets (assigned p here d) (assigned_given p here at.0.0.world d k.0 i)
 
-    in_frame_sound : (m : Mode) (o : Option Place) (go : Place → Answer) → ((a : Place) → o ≡ Some a → SoundAnswer m (go a)) → SoundAnswer m (in_frame p names sides session o go)
+    in_frame_sound : (m : Mode) (o : Option ActivationRecord) (go : ActivationRecord → Answer) → ((a : ActivationRecord) → o ≡ Some a → SoundAnswer m (go a)) → SoundAnswer m (in_frame p names sides session o go)
     in_frame_sound m None go k = tt
     in_frame_sound m (Some a) go k = k a refl
 
-    chosen_sound : (s : State) (at : AtStop s) (go : Place → Answer) → ((a : Place) → chosen p names sides session s ≡ Some a → CoveredAt p a → SoundAnswer (StoppedAt s) (go a)) → SoundAnswer (StoppedAt s) (in_frame p names sides session (chosen p names sides session s) go)
+    chosen_sound : (s : State) (at : AtStop s) (go : ActivationRecord → Answer) → ((a : ActivationRecord) → chosen p names sides session s ≡ Some a → CoveredAt p a → SoundAnswer (StoppedAt s) (go a)) → SoundAnswer (StoppedAt s) (in_frame p names sides session (chosen p names sides session s) go)
     chosen_sound s at go k = in_frame_sound (StoppedAt s) (chosen p names sides session s) go (λ a e. k a e (all_live p accepted s session.frame a at.0.1 at.1 e))
 
     -- what is read in the chosen frame
-    there_read : (u : Use) (text : List ℕ) (x : Reading) (o : Option Place) (a : Place) → o ≡ Some a → ReadsAt p names sides session (ReadsTyped p) u text o x → ReadsTyped p u (point_of p names sides session a) text x
+    there_read : (u : Use) (text : List ℕ) (x : Reading) (o : Option ActivationRecord) (a : ActivationRecord) → o ≡ Some a → ReadsAt p names sides session (ReadsTyped p) u text o x → ReadsTyped p u (point_of p names sides session a) text x
     there_read u text x o a e k = subst (λ o. ReadsAt p names sides session (ReadsTyped p) u text o x) e k
 
     abbrev Reads : Mode → Command → Reading → Type 0

@@ -1,7 +1,7 @@
 -- Each step keeps the locals of the points passed last in scope.
 use Rattle.std.proofs.Common.{◌≡◌, refl, sym, ◌∙◌, subst, ap, ℕ, suc, ◌+◌, ◌*◌, List, [], ◌∷◌, ◌++◌, Bool, true, false, Option, Some, None, length, take, drop, reverse, le_of_eq, take_all, append_assoc, append-nil}
 use Rattle.std.specs.Prelude.{Result, Ok, Err, slice_get, if◌then◌else◌, pos, bytes_eq, codes, ◌==◌}
-use Rattle.runs.specs.Runs.{Next, Goes, Passes, Exits, Undefined, Stuck, Why, IllTyped}
+use Rattle.runs.specs.Runs.{Next, Goes, Passes, Exits, Undefined, Why, IllTyped}
 use Rattle.c_tree.specs.declared.types.CType.{CType}
 use Rattle.c_tree.specs.declared.typed.BinaryOp.{BinaryOp}
 use Rattle.c_tree.specs.declared.typed.Typed.{Typed}
@@ -18,7 +18,7 @@ use Rattle.c_tree.specs.Types.{type_of, kind_of, is_struct, is_array}
 use Rattle.c_tree.specs.Rows.{exprs, stmts}
 use Rattle.c_tree.specs.Layout.{size_of}
 use Rattle.c_store.specs.Store.{Value, Number, At as Pointing, World, used, load, store, load_struct, store_struct, moved}
-use Rattle.c_store.specs.Frames.{Here, with_world, made, left, bound, new_place}
+use Rattle.c_store.specs.Frames.{Here, with_world, made, left, bound, new_activation}
 use Rattle.c_source.specs.Blocks.{cells_of, converted, local_type, opened, given, entered, statements_in}
 use Rattle.c_source.specs.Operators.{bits_in, is_zero, combined, changed}
 use Rattle.c_source.specs.Control.{Item, Eval, Locate, Push, Bound, Load, Convert, Store, Copy, Update, Change, Combine, Offset, Use, Discard, Truth, AndThen, OrElse, Pick, Joined, Enter, Run, Stop, Choose, Open, Close, Turn, Again, Select, Seek, Switched, GiveBack, Leave, Label, Round, State, Activation, outermost_of, runs_of, inits_of, broken, continued, last_of, body_of}
@@ -37,10 +37,9 @@ module _ (p : Program) where
   -- where it goes on the scopes stay right, and where it passes a point its locals are in scope
   abbrev pub Stays : Next State → Type 0
   Stays (Goes c s) = InScope p s
-  Stays (Passes q c s) = InScope p s × CoveredAt p s.here.place
+  Stays (Passes q c s) = InScope p s × CoveredAt p s.here.activation
   Stays (Exits n c s) = Unit {0}
   Stays (Undefined why) = Unit {0}
-  Stays Stuck = Unit {0}
 
   ok_stays : {A : Type 0} (m : Result A Why) (go : A → Next State) → ((x : A) → Stays (go x)) → Stays (on_ok m go)
   ok_stays (Ok x) go f = f x
@@ -65,33 +64,33 @@ module _ (p : Program) where
 
   -- ---- blocks are left, and objects begin
 
-  left_scoped : (n : ℕ) (h : Here) (vs : List Value) (k : List Item) (out : List Activation) → OuterScoped p out → Scoped p h.place.function k (take n (locals_of h.place.locals)) ⊥ → InScope p (record { here = left n h; values = vs; control = k; outer = out })
+  left_scoped : (n : ℕ) (h : Here) (vs : List Value) (k : List Item) (out : List Activation) → OuterScoped p out → Scoped p h.activation.function k (take n (locals_of h.activation.locals)) ⊥ → InScope p (record { here = left n h; values = vs; control = k; outer = out })
   unfolding left
   left_scoped n h vs k out o r = record {
-    inner = behind p h.place.function k _ _ (subst (λ ls. Scoped p h.place.function k ls ⊥) (sym (locals_take n h.place.locals)) r);
+    inner = behind p h.activation.function k _ _ (subst (λ ls. Scoped p h.activation.function k ls ⊥) (sym (locals_take n h.activation.locals)) r);
     outer = o;
   }
 
-  one_more : (h : Here) (x : ℕ) (rest : List ℕ) (k : List Item) (o : ℕ) → Scoped p h.place.function k (locals_of h.place.locals ++ x ∷ rest) ⊥
-      → Scoped p h.place.function k (locals_of (h.place.locals ++ record { local = x; object = o } ∷ []) ++ rest) ⊥
+  one_more : (h : Here) (x : ℕ) (rest : List ℕ) (k : List Item) (o : ℕ) → Scoped p h.activation.function k (locals_of h.activation.locals ++ x ∷ rest) ⊥
+      → Scoped p h.activation.function k (locals_of (h.activation.locals ++ record { local = x; object = o } ∷ []) ++ rest) ⊥
   one_more h x rest k o r =
-      let ls = locals_of h.place.locals in
-      subst (λ ys. Scoped p h.place.function k ys ⊥) (sym (append_assoc ls (x ∷ []) rest) ∙ sym (ap (λ ys. ys ++ rest) (locals_append h.place.locals (record { local = x; object = o } ∷ [])))) r
+      let ls = locals_of h.activation.locals in
+      subst (λ ys. Scoped p h.activation.function k ys ⊥) (sym (append_assoc ls (x ∷ []) rest) ∙ sym (ap (λ ys. ys ++ rest) (locals_append h.activation.locals (record { local = x; object = o } ∷ [])))) r
 
-  opened_scoped : (f : ℕ) (ds : List DeclaredLocal) (h : Here) (vs : List Value) (k : List Item) (out : List Activation) → OuterScoped p out → Scoped p h.place.function k (locals_of h.place.locals ++ local_numbers ds) ⊥ → InScope p (record { here = opened p f ds h; values = vs; control = k; outer = out })
+  opened_scoped : (f : ℕ) (ds : List DeclaredLocal) (h : Here) (vs : List Value) (k : List Item) (out : List Activation) → OuterScoped p out → Scoped p h.activation.function k (locals_of h.activation.locals ++ local_numbers ds) ⊥ → InScope p (record { here = opened p f ds h; values = vs; control = k; outer = out })
   unfolding made
   opened_scoped f [] h vs k out o r = record {
-    inner = behind p h.place.function k _ _ (subst (λ ls. Scoped p h.place.function k ls ⊥) (append-nil (locals_of h.place.locals)) r);
+    inner = behind p h.activation.function k _ _ (subst (λ ls. Scoped p h.activation.function k ls ⊥) (append-nil (locals_of h.activation.locals)) r);
     outer = o;
   }
   opened_scoped f (d ∷ ds) h vs k out o r =
       let t = local_type p f d.local in
       opened_scoped f ds (made d.local (size_of p.defs t) (cells_of p.defs t) h) vs k out o (one_more h d.local (local_numbers ds) k (length h.world.objects) r)
 
-  given_scoped : (g : ℕ) (args : List Value) (x : ℕ) (h : Here) (k : List Item) (out : List Activation) → OuterScoped p out → Scoped p h.place.function k (locals_of h.place.locals ++ numbers x (length args)) ⊥ → InScope p (record { here = given p g x args h; values = []; control = k; outer = out })
+  given_scoped : (g : ℕ) (args : List Value) (x : ℕ) (h : Here) (k : List Item) (out : List Activation) → OuterScoped p out → Scoped p h.activation.function k (locals_of h.activation.locals ++ numbers x (length args)) ⊥ → InScope p (record { here = given p g x args h; values = []; control = k; outer = out })
   unfolding made
   given_scoped g [] x h k out o r = record {
-    inner = behind p h.place.function k _ _ (subst (λ ls. Scoped p h.place.function k ls ⊥) (append-nil (locals_of h.place.locals)) r);
+    inner = behind p h.activation.function k _ _ (subst (λ ls. Scoped p h.activation.function k ls ⊥) (append-nil (locals_of h.activation.locals)) r);
     outer = o;
   }
   given_scoped g (v ∷ vs) x h k out o r =
@@ -104,13 +103,13 @@ module _ (p : Program) where
 
   module _ (bodies : ScopedBodies) (h : Here) (out : List Activation) (o : OuterScoped p out) where
     abbrev f : ℕ
-    f = h.place.function
+    f = h.activation.function
 
     abbrev ls : List ℕ
-    ls = locals_of h.place.locals
+    ls = locals_of h.activation.locals
 
     abbrev C : Type 0
-    C = CoveredAt p h.place
+    C = CoveredAt p h.activation
 
     abbrev S : List Item → Type 0
     S k = Scoped p f k ls C
@@ -193,7 +192,7 @@ module _ (p : Program) where
 
     function_stays : (g : ℕ) (fn : Option Function) (n : ℕ) (vs : List Value) (k : List Item) → slice_get p.functions g ≡ fn → EntersFunction p g fn n (shapes vs) (Ready p f k ls) → C → S k
         → Stays (on_some fn (λ fn.
-        if fn.params == n then Goes (1 + n) (record { here = entered p (suc h.place.number) g (reverse (take n vs)) h.world; values = []; control = body_of p g fn; outer = record { place = h.place; values = drop n vs; control = k } ∷ out })
+        if fn.params == n then Goes (1 + n) (record { here = entered p (suc h.activation.number) g (reverse (take n vs)) h.world; values = []; control = body_of p g fn; outer = record { activation = h.activation; values = drop n vs; control = k } ∷ out })
         else Undefined IllTyped))
     function_stays g None n vs k e q c r = tt
     function_stays g (Some fn) n vs k e q c r =
@@ -201,7 +200,7 @@ module _ (p : Program) where
         let same : reverse (take n (shapes vs)) ≡ shapes args = ap reverse (sym (take_map is_place n vs)) ∙ sym (reverse_map is_place (take n vs)) in
         let count : fn.params ≡ length args = sym q.1 ∙ ap length same ∙ map_length is_place args in
         either_stays (fn.params == n) _ _
-        (given_scoped g args 0 (record { world = h.world; place = new_place (suc h.place.number) g }) (body_of p g fn) (record { place = h.place; values = drop n vs; control = k } ∷ out) (c, r, o)
+        (given_scoped g args 0 (record { world = h.world; activation = new_activation (suc h.activation.number) g }) (body_of p g fn) (record { activation = h.activation; values = drop n vs; control = k } ∷ out) (c, r, o)
         (subst (λ m. Scoped p g (body_of p g fn) (numbers 0 m) ⊥) count (bodies g fn e)))
         tt
 
@@ -229,10 +228,10 @@ module _ (p : Program) where
     land_stays (Some r) vs q = left_stays r.scope vs r.control q
 
     abbrev count : ℕ
-    count = length h.place.locals
+    count = length h.activation.locals
 
     counted : count ≡ length ls
-    counted = locals_length h.place.locals
+    counted = locals_length h.activation.locals
 
     block_scoped : {m : _} (ds : List DeclaredLocal) (row : Row_of-Stmt m) (k : List Item) → PlacedInits p f (ls ++ local_numbers ds) ds → PlacedRows p f (ls ++ local_numbers ds) row → AfterBreak p f k ls → AfterContinue p f k ls → Scoped p f k ls ⊥
         → S (Open ds ∷ (inits_of p f ds ++ (runs_of (stmts row) ++ Close count ∷ k)))
@@ -283,7 +282,7 @@ module _ (p : Program) where
     act_stays (Eval e) vs k q r = evaluate_stays e vs k r.0 r.1
     act_stays (Locate e) vs k q r = locate_stays e vs k r.0 r.1
     act_stays (Push v) vs k q r = goes 1 (v ∷ vs) k r
-    act_stays (Bound x) vs k q r = some_stays (bound x h.place.locals) _ λ b. goes 1 (Pointing b 0 ∷ vs) k r
+    act_stays (Bound x) vs k q r = some_stays (bound x h.activation.locals) _ λ b. goes 1 (Pointing b 0 ∷ vs) k r
     act_stays (Load t) vs k q r = one_stays vs _ λ v rest. read_stays t v rest k r
     act_stays (Convert t) vs k q r = one_stays vs _ λ v rest. goes 1 (converted t v ∷ rest) k r
     act_stays (Store t) vs k q r = two_stays vs _ λ place v rest. ok_stays (store h.world (kind_of t) place (converted t v)) _ λ w. goes_in 2 w (converted t v ∷ rest) k r

@@ -20,7 +20,7 @@ use Rattle.c_tree.specs.declared.rows.Referent.TheVariants.{Object, Local, Funct
 use Rattle.c_tree.specs.Types.{type_of, kind_of, is_array}
 use Rattle.c_tree.specs.Rows.{exprs, stmts}
 use Rattle.c_store.specs.Store.{Value, Number, At, World, used, load, store, load_struct, store_struct, moved}
-use Rattle.c_store.specs.Frames.{Here, with_world, left, bound, new_place}
+use Rattle.c_store.specs.Frames.{Here, with_world, left, bound, new_activation}
 use Rattle.c_store.specs.Bits.{minus_one}
 use Rattle.c_source.specs.Blocks.{cells_of, converted, result_type, statements_in, entered}
 use Rattle.c_source.specs.Operators.{bits_in, combined, changed}
@@ -42,12 +42,12 @@ module _ (p : Program) where
   ShapedFunction g None = Unit {0}
   ShapedFunction g (Some fn) = Ready p g (body_of p g fn) (numbers 0 fn.params) []
 
-  module _ (bodies : (g : ℕ) → ShapedFunction g (slice_get p.functions g)) (h : Here) (out : List Activation) (w : WorldFits h.world) (i : HasFunction p (slice_get p.functions h.place.function)) (o : Outside p (addr (result_type p h.place.function)) out) where
+  module _ (bodies : (g : ℕ) → ShapedFunction g (slice_get p.functions g)) (h : Here) (out : List Activation) (w : WorldFits h.world) (i : HasFunction p (slice_get p.functions h.activation.function)) (o : Outside p (addr (result_type p h.activation.function)) out) where
     abbrev f : ℕ
-    f = h.place.function
+    f = h.activation.function
 
     abbrev ls : List ℕ
-    ls = locals_of h.place.locals
+    ls = locals_of h.activation.locals
 
     abbrev Can : List Item → List Bool → Type 0
     Can k ss = Ready p f k ls ss
@@ -100,13 +100,13 @@ module _ (p : Program) where
 
     abbrev place_of : Referent → Here → Option Value
     place_of (Object o) h = Some (At o 0)
-    place_of (Local x) h = option_map (λ o. At o 0) (bound x h.place.locals)
+    place_of (Local x) h = option_map (λ o. At o 0) (bound x h.activation.locals)
     place_of (Defined f) h = None
     place_of Declared h = None
 
     refers_place : (r : Referent) → NamedBy p ls r → IsPlace (place_of r h)
     refers_place (Object o) q = refl
-    refers_place (Local x) q = let b = bound_here x h.place.locals q in mapped_place (bound x h.place.locals) b.0 b.1
+    refers_place (Local x) q = let b = bound_here x h.activation.locals q in mapped_place (bound x h.activation.locals) b.0 b.1
     refers_place (Defined f) q = q
     refers_place Declared q = q
 
@@ -205,7 +205,7 @@ module _ (p : Program) where
 
     call_function : (g : ℕ) (fn : Option Function) (n : ℕ) (vs : List Value) (k : List Item) → slice_get p.functions g ≡ fn → EntersFunction p g fn n (shapes vs) (Ready p f k ls)
         → IsFine (on_some fn (λ fn.
-        if fn.params == n then Goes (1 + n) (record { here = entered p (suc h.place.number) g (reverse (take n vs)) h.world; values = []; control = body_of p g fn; outer = record { place = h.place; values = drop n vs; control = k } ∷ out })
+        if fn.params == n then Goes (1 + n) (record { here = entered p (suc h.activation.number) g (reverse (take n vs)) h.world; values = []; control = body_of p g fn; outer = record { activation = h.activation; values = drop n vs; control = k } ∷ out })
         else Undefined IllTyped))
     call_function g None n vs k e r = r
     call_function g (Some fn) n vs k e r =
@@ -213,7 +213,7 @@ module _ (p : Program) where
         let same : reverse (take n (shapes vs)) ≡ shapes args = ap reverse (sym (take_map is_place n vs)) ∙ sym (reverse_map is_place (take n vs)) in
         let count : fn.params ≡ length args = sym r.1 ∙ ap length same ∙ map_length is_place args in
         if_fine p (fn.params == n) _ _ (equal_numbers fn.params n r.0)
-        (given_good p g args 0 (record { world = h.world; place = new_place (suc h.place.number) g }) (body_of p g fn) (record { place = h.place; values = drop n vs; control = k } ∷ out) w
+        (given_good p g args 0 (record { world = h.world; activation = new_activation (suc h.activation.number) g }) (body_of p g fn) (record { activation = h.activation; values = drop n vs; control = k } ∷ out) w
         (subst (HasFunction p) (sym e) tt)
         (i, subst (λ ss. Ready p f k ls (addr (result_type p g) ∷ ss)) (sym (drop_map is_place n vs)) r.3, o)
         (subst (λ ss. Given p g 0 ss) same r.2)
@@ -237,7 +237,7 @@ module _ (p : Program) where
     end_fine v (a ∷ rest) e q = record {
       world = left_fits 0 h w;
       inner = q.0;
-      control = fit p a.place.function a.control (locals_of a.place.locals) (shapes a.values) (is_place v) (addr (result_type p f)) e q.1;
+      control = fit p a.activation.function a.control (locals_of a.activation.locals) (shapes a.values) (is_place v) (addr (result_type p f)) e q.1;
       outer = q.2;
     }
 
@@ -250,10 +250,10 @@ module _ (p : Program) where
     land_fine k r q = some_fine p r q.0 _ q.1 (left_fine q.0.scope [] q.0.control q.2)
 
     abbrev count : ℕ
-    count = length h.place.locals
+    count = length h.activation.locals
 
     counted : count ≡ length ls
-    counted = locals_length h.place.locals
+    counted = locals_length h.activation.locals
 
     -- the statements of a block, and then its end
     block_ready : {m : _} (ds : List DeclaredLocal) (row : Row_of-Stmt m) (l b : Bool) (k : List Item) → ShapedInits p f (ls ++ local_numbers ds) ds → ShapedRows p f (ls ++ local_numbers ds) l b row
@@ -303,7 +303,7 @@ module _ (p : Program) where
     act_fine (Eval e) vs k r = evaluate_fine e vs k r.0 r.1
     act_fine (Locate e) vs k r = locate_fine e vs k r.0 r.1
     act_fine (Push v) vs k r = goes 1 (v ∷ vs) k r
-    act_fine (Bound x) vs k r = let b = bound_here x h.place.locals r.0 in some_fine p (bound x h.place.locals) b.0 _ b.1 (goes 1 (At b.0 0 ∷ vs) k r.1)
+    act_fine (Bound x) vs k r = let b = bound_here x h.activation.locals r.0 in some_fine p (bound x h.activation.locals) b.0 _ b.1 (goes 1 (At b.0 0 ∷ vs) k r.1)
     act_fine (Load t) [] k r = r
     act_fine (Load t) (v ∷ vs) k r = read_fine t v vs k r.0 r.1
     act_fine (Convert t) [] k r = r

@@ -237,4 +237,4 @@ ended_fits (b ∷ bs) objects h = ended_fits bs (dead (slice_get objects b.objec
 
 pub left_fits : (n : ℕ) (h : Here) → WorldFits h.world → WorldFits (left n h).world
 unfolding left
-left_fits n h w = ended_fits (drop n h.place.locals) h.world.objects w
+left_fits n h w = ended_fits (drop n h.activation.locals) h.world.objects w

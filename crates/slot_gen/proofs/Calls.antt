@@ -11,7 +11,7 @@ use Rattle.c_tree.specs.declared.rows.Function.{Function}
 use Rattle.c_tree.specs.Layout.{size_of, leaves_of}
 use Rattle.runs.specs.Runs.{Goes as GoesOn, Exits, Undefined, IllTyped}
 use Rattle.c_store.specs.Store.{Value, Number, Null, At, Cell}
-use Rattle.c_store.specs.Frames.{Here, Place, with_world, made, new_place}
+use Rattle.c_store.specs.Frames.{Here, ActivationRecord, with_world, made, new_activation}
 use Rattle.c_source.specs.Blocks.{converted, cells_of, local_type, declared_in, statements_in}
 use Rattle.c_source.specs.Blocks as blocks
 use Rattle.c_source.specs.Operators.{bits_in}
@@ -39,7 +39,7 @@ length-temps_on : (n : ℕ) (ws : List Where) → length (temps_on n ws) ≡ len
 length-temps_on zero ws = omega arith
 length-temps_on (suc n) ws = omega (arith, length-temps_on n ws)
 
-arguments_held : (a : Place) (t : Temps) (n : ℕ) (ws : List Where) (vs : List Value) → Holds a t (temps_on n ws) vs → (last_temps t (length ws) n ≡ Some (take n vs)) × Holds a t ws (drop n vs)
+arguments_held : (a : ActivationRecord) (t : Temps) (n : ℕ) (ws : List Where) (vs : List Value) → Holds a t (temps_on n ws) vs → (last_temps t (length ws) n ≡ Some (take n vs)) × Holds a t ws (drop n vs)
 arguments_held a t zero ws vs h = (refl, h)
 arguments_held a t (suc n) ws [] h = absurd h
 arguments_held a t (suc n) ws (v ∷ vs) h =
@@ -48,7 +48,7 @@ arguments_held a t (suc n) ws (v ∷ vs) h =
     let here : t (length ws + n) ≡ Some v = subst (λ i. t i ≡ Some v) at h.0 in
     (ap (λ o. joined o (last_temps t (length ws) n)) here ∙ ap (joined (Some v)) rest.0, rest.1)
 
-length-taken : (a : Place) (t : Temps) (n : ℕ) (ws : List Where) (vs : List Value) → Holds a t (temps_on n ws) vs → length (take n vs) ≡ n
+length-taken : (a : ActivationRecord) (t : Temps) (n : ℕ) (ws : List Where) (vs : List Value) → Holds a t (temps_on n ws) vs → length (take n vs) ≡ n
 length-taken a t zero ws vs h = refl
 length-taken a t (suc n) ws [] h = absurd h
 length-taken a t (suc n) ws (v ∷ vs) h = ap suc (length-taken a t n ws vs h.1)
@@ -82,8 +82,8 @@ module _ (p : Program) (c : SlotCode) (is : IsCodeOf p c) where
   zeroed_by None t x h q = subst (λ t. made x 0 [] h ≡ made x (size_of p.defs t) (cells_of p.defs t) h) (sym q) refl
   zeroed_by (Some l) t x h q = ap (λ n. made x n (slots.zero_cells l.leaves) h) q.0 ∙ ap (λ ls. made x (size_of p.defs t) (slots.zero_cells ls) h) q.1
 
-  pub zeroed_same : (x : ℕ) (h : Here) → slots.zeroed_local c x h ≡ blocks.opened_one p h.place.function x h
-  zeroed_same x h = zeroed_by (local_row c h.place.function x) (local_type p h.place.function x) x h (is.rows h.place.function x)
+  pub zeroed_same : (x : ℕ) (h : Here) → slots.zeroed_local c x h ≡ blocks.opened_one p h.activation.function x h
+  zeroed_same x h = zeroed_by (local_row c h.activation.function x) (local_type p h.activation.function x) x h (is.rows h.activation.function x)
 
   counted_by : (o : Option SlotLocal) (t : CType) → IsRow p o t → slots.leaf_count_in o ≡ length (leaves_of p.defs t)
   counted_by None t q = subst (λ t. 0 ≡ length (leaves_of p.defs t)) (sym q) refl
@@ -92,16 +92,16 @@ module _ (p : Program) (c : SlotCode) (is : IsCodeOf p c) where
   pub counted_same : (f x : ℕ) → slots.leaf_count_in (local_row c f x) ≡ length (leaves_of p.defs (local_type p f x))
   counted_same f x = counted_by (local_row c f x) (local_type p f x) (is.rows f x)
 
-given-function : (p : Program) (f x : ℕ) (vs : List Value) (h : Here) → (blocks.given p f x vs h).place.function ≡ h.place.function
+given-function : (p : Program) (f x : ℕ) (vs : List Value) (h : Here) → (blocks.given p f x vs h).activation.function ≡ h.activation.function
 unfolding made
 given-function p f x [] h = refl
 given-function p f x (v ∷ vs) h = given-function p f (suc x) vs (blocks.given_one p f x v h)
 
-given-scope : (p : Program) (f x : ℕ) (vs : List Value) (h : Here) → length (blocks.given p f x vs h).place.locals ≡ length h.place.locals + length vs
+given-scope : (p : Program) (f x : ℕ) (vs : List Value) (h : Here) → length (blocks.given p f x vs h).activation.locals ≡ length h.activation.locals + length vs
 unfolding made
 given-scope p f x [] h = omega arith
 given-scope p f x (v ∷ vs) h =
-    omega (arith, given-scope p f (suc x) vs (blocks.given_one p f x v h), length-append h.place.locals (record { local = x; object = length h.world.objects } ∷ []))
+    omega (arith, given-scope p f (suc x) vs (blocks.given_one p f x v h), length-append h.activation.locals (record { local = x; object = length h.world.objects } ∷ []))
 
 -- ---- a function from its first operator on
 
@@ -153,7 +153,7 @@ module _ (p : Program) (f : ℕ) (code : List SlotOp) (fn : Function) (has : Has
 
 module _ (set : Setting) where
   -- an activation of a function that begins
-  pub begins : (a : Place) (f : ℕ) (fn : Function) → a.function ≡ f → length a.locals ≡ fn.params → slice_get set.p.functions f ≡ Some fn → Doing set a [] [] [] (body_of set.p f fn) no_temps 0
+  pub begins : (a : ActivationRecord) (f : ℕ) (fn : Function) → a.function ≡ f → length a.locals ≡ fn.params → slice_get set.p.functions f ≡ Some fn → Doing set a [] [] [] (body_of set.p f fn) no_temps 0
   begins a f fn e n found =
       let here = subst (λ l. HasAt l 0 (function_code set.p f fn)) (sym (set.is.code f fn found)) (has_all (function_code set.p f fn) []) in
       let co = code_of set.c f in
@@ -170,38 +170,38 @@ module _ (set : Setting) where
   length-reversed : (vs : List Value) → length (reverse vs) ≡ length vs
   length-reversed vs = length-reverse vs
 
-  pub outer_places : (outer : List Activation) (frames : List Frame) (r : ℕ) → Outer set outer frames r → beginning.outer_places frames ≡ sources.outer_places outer
-  outer_places [] [] r o = refl
-  outer_places [] (g ∷ gs) r o = absurd o
-  outer_places (a ∷ rest) [] r o = absurd o
-  outer_places (a ∷ rest) (g ∷ gs) r o = ap (λ q. q ∷ beginning.outer_places gs) o.0 ∙ ap (λ l. a.place ∷ l) (outer_places rest gs g.result_at o.4)
+  pub outer_records : (outer : List Activation) (frames : List Frame) (r : ℕ) → Outer set outer frames r → beginning.outer_records frames ≡ sources.outer_records outer
+  outer_records [] [] r o = refl
+  outer_records [] (g ∷ gs) r o = absurd o
+  outer_records (a ∷ rest) [] r o = absurd o
+  outer_records (a ∷ rest) (g ∷ gs) r o = ap (λ q. q ∷ beginning.outer_records gs) o.0 ∙ ap (λ l. a.activation ∷ l) (outer_records rest gs g.result_at o.4)
 
 module _ (set : Setting) (g : Ground set) where
   abbrev entering : (f : ℕ) → List Value → Here
-  entering f vs = blocks.entered set.p (suc g.h.place.number) f vs g.h.world
+  entering f vs = blocks.entered set.p (suc g.h.activation.number) f vs g.h.world
 
   pub call_answers : (q : ℕ) (f m : ℕ) (us : List Where) (k : List Item) (vs : List Value) (temps : Temps) (pc : ℕ) → (d : D set g (temps_on m us) vs (Enter q m ∷ k) temps pc)
       → slice_get (code set g) pc ≡ Some (op.Call (length us) f m) → F set g d.around (pc + 1) (InTemp ∷ us) k
       → (o : Option Function) → slice_get set.p.functions f ≡ o
       → Answered set (now set g vs (Enter q m ∷ k)) (source.on_some o (λ fn.
-      if fn.params == m then GoesOn (1 + m) (record { here = entering f (reverse (take m vs)); values = []; control = body_of set.p f fn; outer = record { place = g.h.place; values = drop m vs; control = k } ∷ g.outer })
+      if fn.params == m then GoesOn (1 + m) (record { here = entering f (reverse (take m vs)); values = []; control = body_of set.p f fn; outer = record { activation = g.h.activation; values = drop m vs; control = k } ∷ g.outer })
       else Undefined IllTyped)) (slot set g temps pc)
   call_answers q f m us k vs temps pc d has rest None e = tt
   call_answers q f m us k vs temps pc d has rest (Some fn) e = by (fn.params == m) refl
     where
       by : (b : Bool) → (fn.params == m) ≡ b
-          → Answered set (now set g vs (Enter q m ∷ k)) (if b then GoesOn (1 + m) (record { here = entering f (reverse (take m vs)); values = []; control = body_of set.p f fn; outer = record { place = g.h.place; values = drop m vs; control = k } ∷ g.outer }) else Undefined IllTyped) (slot set g temps pc)
+          → Answered set (now set g vs (Enter q m ∷ k)) (if b then GoesOn (1 + m) (record { here = entering f (reverse (take m vs)); values = []; control = body_of set.p f fn; outer = record { activation = g.h.activation; values = drop m vs; control = k } ∷ g.outer }) else Undefined IllTyped) (slot set g temps pc)
       by false eb = tt
       by true eb =
           let st = slot set g temps pc in
-          let args = arguments_held g.h.place temps m us vs d.holds in
+          let args = arguments_held g.h.activation temps m us vs d.holds in
           let vs' = reverse (take m vs) in
-          let frame : Frame = record { place = g.h.place; temps = temps; pc = pc + 1; result_at = g.at } in
-          let u : SlotState = record { here = slots.entered set.c (suc g.h.place.number) f vs' g.h.world; temps = no_temps; pc = 0; result_at = length us; outer = frame ∷ g.frames } in
-          let start : Here = record { world = g.h.world; place = new_place (suc g.h.place.number) f } in
+          let frame : Frame = record { activation = g.h.activation; temps = temps; pc = pc + 1; result_at = g.at } in
+          let u : SlotState = record { here = slots.entered set.c (suc g.h.activation.number) f vs' g.h.world; temps = no_temps; pc = 0; result_at = length us; outer = frame ∷ g.frames } in
+          let start : Here = record { world = g.h.world; activation = new_activation (suc g.h.activation.number) f } in
           let params : fn.params ≡ m = grind (nat_tests, arith) in
-          let scope : length (entering f vs').place.locals ≡ fn.params = given-scope set.p f 0 vs' start ∙ omega (arith, length-reversed set (take m vs), length-taken g.h.place temps m us vs d.holds, params) in
-          let called = ap (λ o. slots.on_temps o (λ vs. GoesOn (1 + m) (record { here = slots.entered set.c (suc g.h.place.number) f (reverse vs) g.h.world; temps = no_temps; pc = 0; result_at = length us; outer = frame ∷ g.frames }))) args.0 in (
+          let scope : length (entering f vs').activation.locals ≡ fn.params = given-scope set.p f 0 vs' start ∙ omega (arith, length-reversed set (take m vs), length-taken g.h.activation temps m us vs d.holds, params) in
+          let called = ap (λ o. slots.on_temps o (λ vs. GoesOn (1 + m) (record { here = slots.entered set.c (suc g.h.activation.number) f (reverse vs) g.h.world; temps = no_temps; pc = 0; result_at = length us; outer = frame ∷ g.frames }))) args.0 in (
             1,
             1 + m,
             u,
@@ -210,7 +210,7 @@ module _ (set : Setting) (g : Ground set) where
             record {
               same = given_same set.p set.c set.is f 0 vs' start;
               ws = [];
-              doing = begins set (entering f vs').place f fn (given-function set.p f 0 vs' start) scope e;
+              doing = begins set (entering f vs').activation f fn (given-function set.p f 0 vs' start) scope e;
               outer = (refl, us, refl, record { fn = d.fn; found = d.found; ends = d.ends; around = d.around; loops = d.loops; holds = args.1; follows = rest }, g.out);
             },
             tt,
@@ -236,7 +236,7 @@ module _ (set : Setting) (g : Ground set) where
         record {
           same = refl;
           ws = InTemp ∷ ws;
-          doing = again set g ws (InTemp ∷ ws) vs (Number (source.next_byte g.h.world.input) ∷ vs) (Enter q 0 ∷ k) k temps after pc (pc + 1) d (puts g.h.place temps (Number (source.next_byte g.h.world.input)) ws vs d.holds) d.loops rest;
+          doing = again set g ws (InTemp ∷ ws) vs (Number (source.next_byte g.h.world.input) ∷ vs) (Enter q 0 ∷ k) k temps after pc (pc + 1) d (puts g.h.activation temps (Number (source.next_byte g.h.world.input)) ws vs d.holds) d.loops rest;
           outer = g.out;
         },
         tt,
@@ -270,7 +270,7 @@ module _ (set : Setting) (g : Ground set) where
         record {
           same = refl;
           ws = InTemp ∷ ws;
-          doing = again set g (InTemp ∷ ws) (InTemp ∷ ws) (Number n ∷ vs) (v ∷ vs) (Enter q 1 ∷ k) k temps after pc (pc + 1) d (puts g.h.place temps v ws vs d.holds.1) d.loops rest;
+          doing = again set g (InTemp ∷ ws) (InTemp ∷ ws) (Number n ∷ vs) (v ∷ vs) (Enter q 1 ∷ k) k temps after pc (pc + 1) d (puts g.h.activation temps v ws vs d.holds.1) d.loops rest;
           outer = g.out;
         },
         tt,
@@ -278,4 +278,4 @@ module _ (set : Setting) (g : Ground set) where
   put_answers q (Number n) k ws vs temps pc d false false has rest =
       let st = slot set g temps pc in
       let acts = at_op set g temps pc (op.Exit (length ws)) has.0 ∙ ap (λ o. slots.on_temp o (λ v. slots.on_ok (number_in v) (λ n. Exits (signed n) 1 st))) d.holds.0 in
-      (0, 0, st, st, omega arith, (refl, refl), acts, (refl, ap (λ l. g.h.place ∷ l) (outer_places set g.outer g.frames g.at g.out)), refl)
+      (0, 0, st, st, omega arith, (refl, refl), acts, (refl, ap (λ l. g.h.activation ∷ l) (outer_records set g.outer g.frames g.at g.out)), refl)

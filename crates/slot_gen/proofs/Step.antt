@@ -35,7 +35,7 @@ use Rattle.slot_gen.proofs.Executions.{run_answers, stand_jump}
 -- ---- the end of an activation
 
 module _ (set : Setting) where
-  leave_answers : (h : Here) (v : Value) (outer : List Activation) (r : ℕ) (frames : List Frame) → Outer set outer frames r → (temps : Temps) (pc : ℕ) (k : List Item) → Doing set h.place (InTemp ∷ []) (InTemp ∷ []) (v ∷ []) (Leave ∷ k) temps pc
+  leave_answers : (h : Here) (v : Value) (outer : List Activation) (r : ℕ) (frames : List Frame) → Outer set outer frames r → (temps : Temps) (pc : ℕ) (k : List Item) → Doing set h.activation (InTemp ∷ []) (InTemp ∷ []) (v ∷ []) (Leave ∷ k) temps pc
       → Answered set (record { here = h; values = v ∷ []; control = Leave ∷ k; outer = outer }) (source.end_with set.p h outer v outer) (record { here = h; temps = temps; pc = pc; result_at = r; outer = frames })
   leave_answers h (Number n) [] r [] out temps pc k d =
       let t : SlotState = record { here = h; temps = temps; pc = pc; result_at = r; outer = [] } in
@@ -47,16 +47,16 @@ module _ (set : Setting) where
   leave_answers h v (a ∷ rest) r (g ∷ gs) out temps pc k d =
       let t : SlotState = record { here = h; temps = temps; pc = pc; result_at = r; outer = g ∷ gs } in
       let w = out.3 in
-      let u : SlotState = record { here = record { world = (left 0 h).world; place = g.place }; temps = with_temp g.temps r v; pc = g.pc; result_at = g.result_at; outer = gs } in (
+      let u : SlotState = record { here = record { world = (left 0 h).world; activation = g.activation }; temps = with_temp g.temps r v; pc = g.pc; result_at = g.result_at; outer = gs } in (
         1,
         1,
         u,
         omega arith,
         (1, 0, u, refl, ap (slots.at_op set.c t) d.follows ∙ ap (λ o. slots.on_temp o (λ v. slots.returns set.c t v (g ∷ gs))) d.holds.0, (refl, refl), refl),
         record {
-          same = ap (λ p. record { world = (left 0 h).world; place = p }) out.0;
+          same = ap (λ p. record { world = (left 0 h).world; activation = p }) out.0;
           ws = InTemp ∷ out.1;
-          doing = record { fn = w.fn; found = w.found; ends = w.ends; around = w.around; loops = w.loops; holds = subst (λ i. Holds a.place (with_temp g.temps i v) (InTemp ∷ out.1) (v ∷ a.values)) (sym out.2) (puts a.place g.temps v out.1 a.values w.holds); follows = w.follows };
+          doing = record { fn = w.fn; found = w.found; ends = w.ends; around = w.around; loops = w.loops; holds = subst (λ i. Holds a.activation (with_temp g.temps i v) (InTemp ∷ out.1) (v ∷ a.values)) (sym out.2) (puts a.activation g.temps v out.1 a.values w.holds); follows = w.follows };
           outer = out.4;
         },
         tt,
@@ -81,10 +81,10 @@ goes_on_same s n i = absurd i
 
 module _ (set : Setting) (g : Ground set) where
   abbrev f : ℕ
-  f = g.h.place.function
+  f = g.h.activation.function
 
   abbrev n : ℕ
-  n = length g.h.place.locals
+  n = length g.h.activation.locals
 
   -- ---- calls
 
@@ -112,18 +112,18 @@ module _ (set : Setting) (g : Ground set) where
 
   -- ---- blocks
 
-  opened-function : (ds : List DeclaredLocal) (j : ℕ) (h : Here) → (opened set.p j ds h).place.function ≡ h.place.function
+  opened-function : (ds : List DeclaredLocal) (j : ℕ) (h : Here) → (opened set.p j ds h).activation.function ≡ h.activation.function
   unfolding made
   opened-function [] j h = refl
   opened-function (d ∷ ds) j h = opened-function ds j (opened_one set.p j d.local h)
 
-  opened-scope : (ds : List DeclaredLocal) (j : ℕ) (h : Here) → length (opened set.p j ds h).place.locals ≡ length h.place.locals + length ds
+  opened-scope : (ds : List DeclaredLocal) (j : ℕ) (h : Here) → length (opened set.p j ds h).activation.locals ≡ length h.activation.locals + length ds
   unfolding made
   opened-scope [] j h = omega arith
-  opened-scope (d ∷ ds) j h = omega (arith, opened-scope ds j (opened_one set.p j d.local h), length-append h.place.locals (record { local = d.local; object = length h.world.objects } ∷ []))
+  opened-scope (d ∷ ds) j h = omega (arith, opened-scope ds j (opened_one set.p j d.local h), length-append h.activation.locals (record { local = d.local; object = length h.world.objects } ∷ []))
 
   -- the objects of a block are made one after another
-  opens : (ds : List DeclaredLocal) (o : State) (h : Here) (temps : Temps) (pc : ℕ) → h.place.function ≡ f → h.world.output ≡ o.here.world.output → HasAt (code set g) pc (zeros_code ds)
+  opens : (ds : List DeclaredLocal) (o : State) (h : Here) (temps : Temps) (pc : ℕ) → h.activation.function ≡ f → h.world.output ≡ o.here.world.output → HasAt (code set g) pc (zeros_code ds)
       → Steps set g o (length ds) (leaf_count set.p f ds) (record { here = h; temps = temps; pc = pc; result_at = g.at; outer = g.frames }) (record { here = opened set.p f ds h; temps = temps; pc = pc + length ds; result_at = g.at; outer = g.frames })
   unfolding made
   opens [] o h temps pc e w has = (refl, ap (λ i. record { here = h; temps = temps; pc = i; result_at = g.at; outer = g.frames }) (stays pc))
@@ -279,7 +279,7 @@ module _ (set : Setting) (g : Ground set) where
   open_matches : (ds : List DeclaredLocal) (k : List Item) (temps : Temps) (pc i : ℕ) → (d : D set g [] [] (Open ds ∷ k) temps pc) → Follows set.p f (code set g) d.around (n + length ds) i [] k
       → Matches set (record { here = opened set.p f ds g.h; values = []; control = k; outer = g.outer }) (record { here = opened set.p f ds g.h; temps = temps; pc = i; result_at = g.at; outer = g.frames })
   open_matches ds k temps pc i d fo =
-      let a = (opened set.p f ds g.h).place in
+      let a = (opened set.p f ds g.h).activation in
       let e : f ≡ a.function = sym (opened-function ds f g.h) in
       record {
         same = refl;
@@ -337,7 +337,7 @@ module _ (set : Setting) (g : Ground set) where
   close_answers m k temps pc d =
       let fo = d.follows in
       let u : SlotState = record { here = left m g.h; temps = temps; pc = pc + 1; result_at = g.at; outer = g.frames } in
-      let len : length (take m g.h.place.locals) ≡ m = length-take-le m g.h.place.locals fo.0 in (
+      let len : length (take m g.h.activation.locals) ≡ m = length-take-le m g.h.activation.locals fo.0 in (
         1,
         0,
         u,
@@ -394,7 +394,7 @@ module _ (set : Setting) (g : Ground set) where
         refl,
       )
     where
-      held_at_point : (ws : List Where) (vs : List Value) → Holds g.h.place temps ws vs → Holds (with_point g.h q).place temps ws vs
+      held_at_point : (ws : List Where) (vs : List Value) → Holds g.h.activation temps ws vs → Holds (with_point g.h q).activation temps ws vs
       held_at_point [] [] h = tt
       held_at_point [] (x ∷ vs) h = absurd h
       held_at_point (InTemp ∷ ws) [] h = absurd h
@@ -425,7 +425,7 @@ module _ (set : Setting) (g : Ground set) where
   enter_at q m k ws vs temps pc d =
       let fo = d.follows in
       enter_answers q m fo.0 k vs temps pc
-      (record { fn = d.fn; found = d.found; ends = d.ends; around = d.around; loops = d.loops; holds = subst (λ ws. Holds g.h.place temps ws vs) fo.1 d.holds; follows = (fo.0, refl, fo.2, fo.3) })
+      (record { fn = d.fn; found = d.found; ends = d.ends; around = d.around; loops = d.loops; holds = subst (λ ws. Holds g.h.activation temps ws vs) fo.1 d.holds; follows = (fo.0, refl, fo.2, fo.3) })
       (slice_get set.p.symbols q) fo.2 fo.3
 
   give_back_at : (v : Value) (k : List Item) (temps : Temps) (pc : ℕ) → D set g (InTemp ∷ []) (v ∷ []) (GiveBack ∷ k) temps pc
@@ -439,7 +439,7 @@ module _ (set : Setting) (g : Ground set) where
   act_answers (Eval e) k ws vs temps pc d = eval_answers set g e k ws vs temps pc d
   act_answers (Locate e) k ws vs temps pc d = locate_answers set g e k ws vs temps pc d
   act_answers (Push v) k ws vs temps pc d = push_answers set g v k ws vs temps pc d
-  act_answers (Bound y) k ws vs temps pc d = bound_answers set g y k ws vs temps pc (bound y g.h.place.locals) refl d
+  act_answers (Bound y) k ws vs temps pc d = bound_answers set g y k ws vs temps pc (bound y g.h.activation.locals) refl d
   act_answers (Load t) k [] vs temps pc d = absurd d.follows
   act_answers (Load t) k (Kept y ∷ ws) vs temps pc d = absurd d.follows
   act_answers (Load t) k (InTemp ∷ ws) [] temps pc d = absurd d.holds
@@ -597,6 +597,6 @@ module _ (set : Setting) where
   step_answers s t m =
       subst (λ h. Answered set s (source.step set.p s) (record t { here = h })) (sym m.same) (on_control s.control m.doing)
     where
-      on_control : (k : List Item) → Doing set s.here.place m.ws m.ws s.values k t.temps t.pc → Answered set (record s { control = k }) (source.on_control set.p s.here s.outer k s.values) (record t { here = s.here })
+      on_control : (k : List Item) → Doing set s.here.activation m.ws m.ws s.values k t.temps t.pc → Answered set (record s { control = k }) (source.on_control set.p s.here s.outer k s.values) (record t { here = s.here })
       on_control [] d = absurd d.follows
       on_control (i ∷ k) d = act_answers set (record { h = s.here; outer = s.outer; at = t.result_at; frames = t.outer; out = m.outer }) i k m.ws s.values t.temps t.pc d

@@ -81,7 +81,7 @@ module _ (set : Setting) (g : Ground set) where
       set_step set g (Push Null ∷ k) k ws ws vs vs temps pc 1 Null (op.Null (length ws)) d (omega arith) d.follows.0 refl d.holds d.loops d.follows.2
   push_answers (At o i) k ws vs temps pc d = absurd d.follows.1
 
-  pub bound_answers : (x : ℕ) (k : List Item) (ws : List Where) (vs : List Value) (temps : Temps) (pc : ℕ) (q : Option ℕ) → bound x g.h.place.locals ≡ q → D set g ws vs (Bound x ∷ k) temps pc
+  pub bound_answers : (x : ℕ) (k : List Item) (ws : List Where) (vs : List Value) (temps : Temps) (pc : ℕ) (q : Option ℕ) → bound x g.h.activation.locals ≡ q → D set g ws vs (Bound x ∷ k) temps pc
       → Answered set (now set g vs (Bound x ∷ k)) (source.on_some q (λ o. GoesOn 1 (now set g (At o 0 ∷ vs) k))) (slot set g temps pc)
   bound_answers x k ws vs temps pc None e d = tt
   bound_answers x k ws vs temps pc (Some o) e d =
@@ -161,7 +161,7 @@ module _ (set : Setting) (g : Ground set) where
   -- the value in temporary d + 1 is converted and written, and taken into d
   store_by : (t : CType) (k0 k : List Item) (ws ws0 : List Where) (v place : Value) (vs vs0 : List Value) (temps : Temps) (pc : ℕ) (wr : SlotOp) (q : Result World Why) → store g.h.world (kind_of t) place (converted t v) ≡ q
       → (d : D set g ws0 vs0 k0 temps pc)
-      → temps (suc (length ws)) ≡ Some v → Holds g.h.place temps ws vs → L set g d.around k
+      → temps (suc (length ws)) ≡ Some v → Holds g.h.activation temps ws vs → L set g d.around k
       → ((after : Temps) (pc' : ℕ) → ((x : ℕ) → x < suc (length ws) → after x ≡ temps x) → slots.act set.c (slot set g after pc') wr ≡ slots.writes set.c (slot set g after pc') (kind_of t) place (suc (length ws)))
       → HasAt (code set g) pc (cast_code (suc (length ws)) t ++ wr ∷ op.Take (length ws) (suc (length ws)) ∷ [])
       → F set g d.around (pc + length (cast_code (suc (length ws)) t ++ wr ∷ op.Take (length ws) (suc (length ws)) ∷ [])) (InTemp ∷ ws) k
@@ -184,7 +184,7 @@ module _ (set : Setting) (g : Ground set) where
         same = refl;
         ws = InTemp ∷ ws;
         doing = again set g ws0 (InTemp ∷ ws) vs0 (converted t v ∷ vs) k0 k temps (with_temp m.after n (converted t v)) pc (pc + length cs + 1 + 1) d
-            (puts g.h.place m.after (converted t v) ws vs (same_below g.h.place temps m.after n ws vs (omega arith) (λ x lt. m.below x (omega (arith, lt))) hs)) l (subst (λ i. F set g d.around i (InTemp ∷ ws) k) len f);
+            (puts g.h.activation m.after (converted t v) ws vs (same_below g.h.activation temps m.after n ws vs (omega arith) (λ x lt. m.below x (omega (arith, lt))) hs)) l (subst (λ i. F set g d.around i (InTemp ∷ ws) k) len f);
         outer = g.out;
       })
 
@@ -232,7 +232,7 @@ module _ (set : Setting) (g : Ground set) where
     taken_value false old x m a c = c
 
     update_done : (old x : Value) (w : World) → load g.h.world (kind_of t) place ≡ Ok old
-        → temps (suc n) ≡ Some y → Holds g.h.place temps ws vs → L set g d.around k
+        → temps (suc n) ≡ Some y → Holds g.h.activation temps ws vs → L set g d.around k
         → slots.act set.c (slot set g temps pc) lo ≡ slots.gives set.c (slot set g temps pc) (suc (suc n)) (slots.read g.h.world (kind_of t) (access_of t) place)
         → ((after : Temps) (pc' : ℕ) → ((x : ℕ) → x < suc n → after x ≡ temps x) → slots.act set.c (slot set g after pc') wr ≡ slots.writes set.c (slot set g after pc') (kind_of t) place (suc n))
         → HasAt (code set g) pc (lo ∷ rest_code) → F set g d.around (pc + length (lo ∷ rest_code)) (InTemp ∷ ws) k
@@ -270,12 +270,12 @@ module _ (set : Setting) (g : Ground set) where
           same = refl;
           ws = InTemp ∷ ws;
           doing = again set g ws0 (InTemp ∷ ws) vs0 (result ∷ vs) k0 k temps (with_temp m.after n result) pc (at + 1 + 1) d
-              (puts g.h.place m.after result ws vs (same_below g.h.place temps m.after n ws vs (omega arith) (λ i lt. below i (omega (arith, lt))) hs)) l (subst (λ i. F set g d.around i (InTemp ∷ ws) k) len f);
+              (puts g.h.activation m.after result ws vs (same_below g.h.activation temps m.after n ws vs (omega arith) (λ i lt. below i (omega (arith, lt))) hs)) l (subst (λ i. F set g d.around i (InTemp ∷ ws) k) len f);
           outer = g.out;
         })
 
     update_by : (a : Result Value Why) (ea : load g.h.world (kind_of t) place ≡ a)
-        → temps (suc n) ≡ Some y → Holds g.h.place temps ws vs → L set g d.around k
+        → temps (suc n) ≡ Some y → Holds g.h.activation temps ws vs → L set g d.around k
         → slots.act set.c (slot set g temps pc) lo ≡ slots.gives set.c (slot set g temps pc) (suc (suc n)) (slots.read g.h.world (kind_of t) (access_of t) place)
         → ((after : Temps) (pc' : ℕ) → ((x : ℕ) → x < suc n → after x ≡ temps x) → slots.act set.c (slot set g after pc') wr ≡ slots.writes set.c (slot set g after pc') (kind_of t) place (suc n))
         → HasAt (code set g) pc (lo ∷ rest_code) → F set g d.around (pc + length (lo ∷ rest_code)) (InTemp ∷ ws) k
@@ -432,6 +432,6 @@ module _ (set : Setting) (g : Ground set) where
           (record {
             same = refl;
             ws = InTemp ∷ ws;
-            doing = again set g (InTemp ∷ InTemp ∷ ws) (InTemp ∷ ws) (from ∷ to ∷ vs) (Number 0 ∷ vs) (Copy (Struct s) ∷ k) k temps (with_temp temps i (Number 0)) pc (pc + 1 + 1) d (puts g.h.place temps (Number 0) ws vs d.holds.1.1) d.loops f;
+            doing = again set g (InTemp ∷ InTemp ∷ ws) (InTemp ∷ ws) (from ∷ to ∷ vs) (Number 0 ∷ vs) (Copy (Struct s) ∷ k) k temps (with_temp temps i (Number 0)) pc (pc + 1 + 1) d (puts g.h.activation temps (Number 0) ws vs d.holds.1.1) d.loops f;
             outer = g.out;
           })

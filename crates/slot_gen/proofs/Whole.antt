@@ -4,7 +4,7 @@ use Rattle.std.specs.Prelude.{ℤ}
 use Rattle.c_tree.specs.declared.rows.Program.{Program}
 use Rattle.runs.specs.Runs.{Moment, Outcome, Reached, Breaks, Nowhere}
 use Rattle.runs.proofs.Simulate.{Agrees, Related, Reaches, simulates, Covered, CoveredBy, UpTo, covers}
-use Rattle.c_store.specs.Frames.{Here, with_world, new_place}
+use Rattle.c_store.specs.Frames.{Here, with_world, new_activation}
 use Rattle.c_store.specs.Assigned.{all_assigned, at_stop}
 use Rattle.c_source.specs.Control.{State}
 use Rattle.c_source.specs.Source as source
@@ -16,7 +16,7 @@ use Rattle.slot_ir.specs.Slots as slots
 use Rattle.slot_ir.specs.Begin as beginning
 use Rattle.slot_gen.specs.Correct.{IsCodeOf, HasMain, Shows, IsWithin, IsShown, source_after, slots_after, Lowers}
 use Rattle.slot_gen.proofs.Match.{Setting, Doing, Matches, Ends, SameOutput, left_over}
-use Rattle.slot_gen.proofs.Calls.{begins, outer_places}
+use Rattle.slot_gen.proofs.Calls.{begins, outer_records}
 use Rattle.slot_gen.proofs.Step.{step_answers}
 
 module _ (set : Setting) where
@@ -40,7 +40,7 @@ module _ (set : Setting) where
       record { passed = a.passed; world = ap (λ (h : Here). h.world) both.0; places = both.1; exit = a.exit; count = a.count }
     where
       seen : (x : Option ℤ) (s : State) (t : SlotState) → RelatedBy x s t → Ends set s t
-      seen None s t m = (m.same, ap (λ (h : Here). h.place ∷ beginning.outer_places t.outer) m.same ∙ ap (λ l. s.here.place ∷ l) (outer_places set s.outer t.outer t.result_at m.outer))
+      seen None s t m = (m.same, ap (λ (h : Here). h.activation ∷ beginning.outer_records t.outer) m.same ∙ ap (λ l. s.here.activation ∷ l) (outer_records set s.outer t.outer t.result_at m.outer))
       seen (Some n) s t e = e
 
   module _ (input : List ℕ) (main : HasMain set.p) where
@@ -48,9 +48,9 @@ module _ (set : Setting) where
     begin_matches =
         let n = main_from 0 set.p.functions in
         let fn = main.0 in
-        let place = new_place 0 n in
+        let place = new_activation 0 n in
         record {
-          same = ap (λ m. slots.entered set.c 0 m [] (beginning.world_at_first set.c input)) set.is.main ∙ ap (λ w. record { world = w; place = place }) (set.is.start input);
+          same = ap (λ m. slots.entered set.c 0 m [] (beginning.world_at_first set.c input)) set.is.main ∙ ap (λ w. record { world = w; activation = place }) (set.is.start input);
           ws = [];
           doing = subst (λ o. Doing set place [] [] [] (control_in set.p n o) no_temps 0) (sym main.1) (begins set place n fn refl (sym main.2) main.1);
           outer = tt;

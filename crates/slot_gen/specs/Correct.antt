@@ -52,7 +52,7 @@ pub record Shows (m : Moment State) (k : Moment SlotState) : Type 0 where
   -- each object's lifetime and leaf values, the input left and the output
   pub world : k.state.here.world ≡ m.state.here.world
   -- each activation's function, live objects and last point
-  pub places : beginning.places k.state ≡ sources.places m.state
+  pub places : beginning.records k.state ≡ sources.records m.state
   pub exit : k.exit ≡ m.exit
   pub count : k.count ≤ steps_of_a_unit * m.count
 
