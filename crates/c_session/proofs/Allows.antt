@@ -12,7 +12,7 @@ use Rattle.c_session.specs.Commands.{Mode, OneSide, Positions, One, Both, FirstA
 use Rattle.c_session.specs.Commands as mode
 use Rattle.c_session.specs.declared.command.Command.TheVariants as command
 use Rattle.c_store.specs.Frames.{ActivationRecord}
-use Rattle.c_session.specs.Allowed.{Lines, Standing, IsEvent, stops_by, AllowedFrom, Allowed, AnswerReplies, ResumeReplies, MemoryReplies, ClaimEnds, IsQuit, IsPrefix, at_first}
+use Rattle.c_session.specs.Allowed.{Lines, Standing, IsEvent, stops_by, AllowedFrom, Allowed, AnswerReplies, ResumeReplies, ClaimEnds, IsQuit, IsPrefix, at_first}
 use Rattle.c_session.proofs.Computed.{Session, Reader, is_word, ReadBy, read_at, read_in, read_line, by_course, by_positions, by_answer, then_lines, ends, going_on, from, session}
 
 module _ (p : Program) (r : Reader) (fuel : ℕ) where
@@ -79,7 +79,7 @@ module _ (p : Program) (r : Reader) (fuel : ℕ) where
       (IsQuit p a × (transcript ≡ []) × (output ≡ st.written))
       ⊎ (ClaimEnds p st a × IsPrefix st.written output)
       ⊎ ((reply rest : Lines) × (next : Standing) × (transcript ≡ reply ++ rest)
-      × (AnswerReplies p st a reply next ⊎ MemoryReplies p st a reply next) × AllowedFrom p is_word (ReadBy r) OneSide next cs rest output)
+      × AnswerReplies p st a reply next × AllowedFrom p is_word (ReadBy r) OneSide next cs rest output)
 
   abbrev Computes : Standing → List (Option Command) → Answer → Session
   Computes st cs a =
@@ -88,7 +88,7 @@ module _ (p : Program) (r : Reader) (fuel : ℕ) where
 
   replies : (st : Standing) (cs : List (Option Command)) (a : Answer) → IsWhole st a → ends p r fuel a ≡ false → Goes_on st cs a
       → Allows st cs a (then_lines p r fuel (by_answer p r fuel st a).lines (from p r fuel (by_answer p r fuel st a).next cs)).lines (from p r fuel (by_answer p r fuel st a).next cs).output
-  replies st cs a h e k = inr (inr (_, _, _, refl, inl (by_any st a h e), k))
+  replies st cs a h e k = inr (inr (_, _, _, refl, by_any st a h e, k))
 
   one : (st : Standing) (cs : List (Option Command)) (a : Answer) → IsWhole st a → Goes_on st cs a → Allows st cs a (Computes st cs a).lines (Computes st cs a).output
   one st cs (Refuses u) h k = replies st cs (Refuses u) h refl k
@@ -117,7 +117,7 @@ module _ (p : Program) (r : Reader) (fuel : ℕ) where
 
   allowed_from : (cs : List (Option Command)) (st : Standing) → AreWhole st cs → AllowedFrom p is_word (ReadBy r) OneSide st cs (from p r fuel st cs).lines (from p r fuel st cs).output
   allowed_from [] st h = (refl, refl)
-  allowed_from (c ∷ cs) st h = (read_line p r st c, reads_line st c, one st cs (answer p is_word OneSide st.session (read_line p r st c) c) h.0 (allowed_from cs _ h.1))
+  allowed_from (c ∷ cs) st h = inr (read_line p r st c, reads_line st c, one st cs (answer p is_word OneSide st.session (read_line p r st c) c) h.0 (allowed_from cs _ h.1))
 
   pub allows : (input : List ℕ) (cs : List (Option Command)) → AreWhole (at_first p input) cs → Allowed p is_word (ReadBy r) OneSide input cs (session p r fuel input cs).lines (session p r fuel input cs).output
   allows input cs h = allowed_from cs (at_first p input) h

@@ -45,4 +45,4 @@ module _ (b : Box (Unit {0}) Global) where
   -- where a run meets an overflow before its event, every reply and every output is allowed from there on
   it_tells : (transcript : Lines) (output : List ℕ) → Allowed program is_word (ReadBy (reader [] [])) OneSide [] (Some command.Continue ∷ []) transcript output
   unfolding computing
-  it_tells transcript output = (Unread BadSyntax, tt, inr (inl ((begin program [], _, Failed (Reason Overflow), refl, (100, refl), tt), (output, refl))))
+  it_tells transcript output = inr (Unread BadSyntax, tt, inr (inl ((begin program [], _, Failed (Reason Overflow), refl, (100, refl), tt), (output, refl))))

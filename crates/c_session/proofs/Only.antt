@@ -86,7 +86,7 @@ module _ (b : Box (Unit {0}) Global) where
       subst IsBroken (is_stop n c e h').event u
 
   only : (t : Lines) (out : List ℕ) → Allowed (program b) is_word (ReadBy (reader [] [])) OneSide [] (Some command.Step ∷ []) t out → Replies t out
-  only t out (y, _, inl (q, _, _)) = absurd q
-  only t out (y, _, inr (inl ((s, c, e, p, m, u), _))) = absurd (undoomed s m.0 c e p m.1 u)
-  only t out (y, _, inr (inr (reply, rest, next, e, inl a, k))) = by_resume t out reply rest next e a k
-  only t out (y, _, inr (inr (reply, rest, next, e, inr m, k))) = (inr (lines t reply rest _ e m.0 k.0), k.1 ∙ ap (λ n. n.written) m.1)
+  only t out (inl (reply, rest, next, e, m, k)) = (inr (lines t reply rest _ e m.1 k.0), k.1 ∙ ap (λ n. n.written) m.2)
+  only t out (inr (y, _, inl (q, _, _))) = absurd q
+  only t out (inr (y, _, inr (inl ((s, c, e, p, m, u), _)))) = absurd (undoomed s m.0 c e p m.1 u)
+  only t out (inr (y, _, inr (inr (reply, rest, next, e, a, k)))) = by_resume t out reply rest next e a k

@@ -18,7 +18,7 @@ use Rattle.c_session.specs.declared.command.Command.{Command}
 use Rattle.c_session.specs.declared.command.Command.TheVariants as command
 use Rattle.c_session.specs.Places.{point_at}
 use Rattle.c_session.specs.Commands.{Session, Mode, Fresh, Stopped, Running, Ended, Resume, Names, Sides, Positions, Reading, Unread, Read, Refusal, HasEnded, refusal_text, Answer, Refuses, Says, Shows, Sets, ShowsAny, EndsClaim, Resumes, Quits, Raw, Nothing, answer, has, break_at, clear_at, frame_at, frames_of, print_object, print_referent, print_symbol, eval_gives, eval_read, assign_gives, assign_read, in_frame, chosen, point_of, in_stopped, in_fresh, in_running, in_ended, by_mode}
-use Rattle.c_session.specs.Allowed.{Lines, Standing, IsEvent, event_text, AnswerReplies, MemoryReplies, ResumeReplies}
+use Rattle.c_session.specs.Allowed.{Lines, Standing, IsEvent, event_text, AnswerReplies, ResumeReplies}
 
 abbrev starts_refused : List ℕ → Bool
 starts_refused [] = false
@@ -179,18 +179,3 @@ module _ (p : Program) where
 
   pub refused_next : (names : Names) (sides : Sides) (st next : Standing) (x : Reading) (c : Option Command) (u : Refusal) → AnswerReplies p st (answer p names sides st.session x c) (refusal_text u ∷ []) next → next ≡ st
   refused_next names sides st next x c u h = replied st (answer p names sides st.session x c) (plain_answer p names sides st.session x c) (refusal_text u ∷ []) next h refl
-
-  memory_next : (st : Standing) (a : Answer) (reply : Lines) (next : Standing) → MemoryReplies p st a reply next → next ≡ st
-  memory_next st Quits reply next h = absurd h
-  memory_next st (Refuses u) reply next h = h.1
-  memory_next st (Says lines after) reply next h = h.1
-  memory_next st (Shows w c vs) reply next h = h.1
-  memory_next st (Sets s) reply next h = h.1
-  memory_next st ShowsAny reply next h = h.1
-  memory_next st (Resumes how ps) reply next h = h.1
-  memory_next st (Raw n) reply next h = h.1
-  memory_next st EndsClaim reply next h = h.1
-  memory_next st Nothing reply next h = h.1
-
-  pub no_memory_next : (names : Names) (sides : Sides) (st next : Standing) (x : Reading) (c : Option Command) (reply : Lines) → MemoryReplies p st (answer p names sides st.session x c) reply next → next ≡ st
-  no_memory_next names sides st next x c reply h = memory_next st (answer p names sides st.session x c) reply next h

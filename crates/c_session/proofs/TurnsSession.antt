@@ -38,7 +38,7 @@ module _ (b : Box (Unit {0}) Global) where
   -- with one side
   one_side : Allowed (program b) is_word (ReadBy (reader [] [])) OneSide [] commands replies []
   unfolding computing
-  one_side = (
+  one_side = inr (
     Unread BadSyntax,
     tt,
     inr (inr (
@@ -46,8 +46,8 @@ module _ (b : Box (Unit {0}) Global) where
       _,
       _,
       refl,
-      inl (refl, refl),
-      (
+      (refl, refl),
+      inr (
         Unread BadSyntax,
         tt,
         inr (inr (
@@ -55,8 +55,8 @@ module _ (b : Box (Unit {0}) Global) where
           _,
           _,
           refl,
-          inl (refl, refl),
-          (
+          (refl, refl),
+          inr (
             Unread BadSyntax,
             tt,
             inr (inr (
@@ -64,8 +64,8 @@ module _ (b : Box (Unit {0}) Global) where
               _,
               _,
               refl,
-              inl (inr (inl (One (start b), [], one (start b) (start b) [] (late, 0, (0, refl), lit≤ tt) (inl refl), ([], refl), refl, refl))),
-              (
+              inr (inl (One (start b), [], one (start b) (start b) [] (late, 0, (0, refl), lit≤ tt) (inl refl), ([], refl), refl, refl)),
+              inr (
                 Unread BadSyntax,
                 tt,
                 inr (inr (
@@ -73,8 +73,8 @@ module _ (b : Box (Unit {0}) Global) where
                   _,
                   _,
                   refl,
-                  inl (refl, refl),
-                  (
+                  (refl, refl),
+                  inr (
                     Unread BadSyntax,
                     tt,
                     inr (inr (
@@ -82,8 +82,8 @@ module _ (b : Box (Unit {0}) Global) where
                       _,
                       _,
                       refl,
-                      inl (refl, refl),
-                      (
+                      (refl, refl),
+                      inr (
                         Unread BadSyntax,
                         tt,
                         inr (inr (
@@ -91,8 +91,8 @@ module _ (b : Box (Unit {0}) Global) where
                           _,
                           _,
                           refl,
-                          inl (refl, refl),
-                          (
+                          (refl, refl),
+                          inr (
                             Unread BadSyntax,
                             tt,
                             inr (inr (
@@ -100,7 +100,7 @@ module _ (b : Box (Unit {0}) Global) where
                               _,
                               _,
                               refl,
-                              inl (inl (stop b, tt, (1, (1, meets)), refl, refl)),
+                              (inl (stop b, tt, (1, (1, meets)), refl, refl)),
                               (refl, refl),
                             )),
                           ),
@@ -120,7 +120,7 @@ module _ (b : Box (Unit {0}) Global) where
   -- with two sides, of which the first has come to the stop at `turns` and the second has not
   two_sides : Allowed (program b) is_word (ReadBy (reader [] [])) TwoSides [] commands replies []
   unfolding computing
-  two_sides = (
+  two_sides = inr (
     Unread BadSyntax,
     tt,
     inr (inr (
@@ -128,8 +128,8 @@ module _ (b : Box (Unit {0}) Global) where
       _,
       _,
       refl,
-      inl (refl, refl),
-      (
+      (refl, refl),
+      inr (
         Unread BadSyntax,
         tt,
         inr (inr (
@@ -137,8 +137,8 @@ module _ (b : Box (Unit {0}) Global) where
           _,
           _,
           refl,
-          inl (refl, refl),
-          (
+          (refl, refl),
+          inr (
             Unread BadSyntax,
             tt,
             inr (inr (
@@ -146,8 +146,8 @@ module _ (b : Box (Unit {0}) Global) where
               _,
               _,
               refl,
-              inl (inr (inl (SecondAlone (start b), [], first_comes (start b) (start b) (start b) [] (stop b, (1, (1, meets)), tt, refl) (late, 0, (0, refl), lit≤ tt), ([], refl), refl, refl))),
-              (
+              (inr (inl (SecondAlone (start b), [], first_comes (start b) (start b) (start b) [] (stop b, (1, (1, meets)), tt, refl) (late, 0, (0, refl), lit≤ tt), ([], refl), refl, refl))),
+              inr (
                 Unread BadSyntax,
                 tt,
                 inr (inr (
@@ -155,8 +155,8 @@ module _ (b : Box (Unit {0}) Global) where
                   _,
                   _,
                   refl,
-                  inl (refl, refl),
-                  (
+                  (refl, refl),
+                  inr (
                     Unread BadSyntax,
                     tt,
                     inr (inr (
@@ -164,8 +164,8 @@ module _ (b : Box (Unit {0}) Global) where
                       _,
                       _,
                       refl,
-                      inl (refl, refl),
-                      (
+                      (refl, refl),
+                      inr (
                         Unread BadSyntax,
                         tt,
                         inr (inr (
@@ -173,8 +173,8 @@ module _ (b : Box (Unit {0}) Global) where
                           _,
                           _,
                           refl,
-                          inl (refl, refl),
-                          (
+                          (refl, refl),
+                          inr (
                             Unread BadSyntax,
                             tt,
                             inr (inr (
@@ -182,7 +182,7 @@ module _ (b : Box (Unit {0}) Global) where
                               _,
                               _,
                               refl,
-                              inl (inl (stop b, tt, (1, (1, meets)), refl, refl)),
+                              (inl (stop b, tt, (1, (1, meets)), refl, refl)),
                               (refl, refl),
                             )),
                           ),

@@ -1,11 +1,12 @@
 -- Which transcripts and outputs a session over a program may give.
-use Rattle.std.specs.Prelude.{◌≡◌, ◌⊎◌, ℕ, ◌+◌, ◌*◌, ◌<◌, ◌≤◌, List, [], ◌∷◌, ◌++◌, length, Bool, true, Option, codes}
+use Rattle.std.specs.Prelude.{◌≡◌, ◌⊎◌, ℕ, ◌+◌, ◌*◌, ◌<◌, ◌≤◌, List, [], ◌∷◌, ◌++◌, length, Bool, true, Option, Some, None, codes}
 use Rattle.std.specs.Fmt.{signed_decimal}
 use Rattle.std.specs.List.{AllByRecursion}
 use Rattle.runs.specs.Runs.{Next, Goes, Passes, Exits, Undefined, Why, Reason, Stale, IllTyped, Event, Exited, Failed, RunsTo, OnTheWay, count_of}
 use Rattle.runs.specs.Runs as runs
 use Rattle.c_tree.specs.declared.rows.Program.{Program}
 use Rattle.c_session.specs.declared.command.Command.{Command}
+use Rattle.c_session.specs.declared.command.Command.TheVariants as command
 use Rattle.c_source.specs.Control.{State}
 use Rattle.c_source.specs.Source.{step}
 use Rattle.c_source.specs.Begin.{begin}
@@ -69,6 +70,14 @@ IsAnyReply line = ((text : List ℕ) × IsOneLine text × (line ≡ codes "value
 abbrev pub IsRawReply : Option ℕ → Lines → Type 0
 IsRawReply None reply = Unit {0}
 IsRawReply (Some n) reply = ((length reply ≡ n) ⊎ (length reply ≡ 1)) × AllByRecursion IsOneLine reply
+
+abbrev pub IsQuitLine : Option Command → Type 0
+IsQuitLine (Some command.Quit) = Unit {0}
+IsQuitLine c = ⊥
+
+-- memory may be wanting for any line but `quit`, a malformed one among them, and nothing changes
+abbrev pub MemoryReplies : Standing → Option Command → Lines → Standing → Type 0
+MemoryReplies st c reply next = (IsQuitLine c → ⊥) × (reply ≡ codes "no memory" ∷ []) × (next ≡ st)
 
 -- ---- a resume
 
@@ -185,11 +194,6 @@ module _ (p : Program) where
   AnswerReplies st Quits reply next = ⊥
   AnswerReplies st Nothing reply next = ⊥
 
-  -- memory may be wanting for any line but `quit`, a malformed one among them, and nothing changes
-  abbrev pub MemoryReplies : Standing → Answer → Lines → Standing → Type 0
-  MemoryReplies st Quits reply next = ⊥
-  MemoryReplies st a reply next = (reply ≡ codes "no memory" ∷ []) × (next ≡ st)
-
   -- from here on nothing is claimed
   abbrev pub ClaimEnds : Standing → Answer → Type 0
   ClaimEnds st EndsClaim = Unit {0}
@@ -206,12 +210,13 @@ module _ (p : Program) (names : Names) (Reads : Use → (point : ℕ) → List �
   -- The lines from a standing on, with their transcript and the whole output. A line is a command or malformed. Commands about machines and the debugger are taken out with their replies, as if they changed nothing; one that runs PostScript may store in the target, and of a list with such a one nothing is promised.
   abbrev pub AllowedFrom : Standing → List (Option Command) → Lines → List ℕ → Type 0
   AllowedFrom st [] transcript output = (transcript ≡ []) × (output ≡ st.written)
-  AllowedFrom st (c ∷ cs) transcript output = (x : Reading) × ReadsLine p names sides st.session Reads c x × (
+  AllowedFrom st (c ∷ cs) transcript output =
+      ((reply rest : Lines) × (next : Standing) × (transcript ≡ reply ++ rest) × MemoryReplies st c reply next × AllowedFrom next cs rest output)
+      ⊎ ((x : Reading) × ReadsLine p names sides st.session Reads c x × (
       let a : Answer = answer p names sides st.session x c in
       (IsQuit p a × (transcript ≡ []) × (output ≡ st.written))
       ⊎ (ClaimEnds p st a × IsPrefix st.written output)
-      ⊎ ((reply rest : Lines) × (next : Standing) × (transcript ≡ reply ++ rest)
-      × (AnswerReplies p st a reply next ⊎ MemoryReplies p st a reply next) × AllowedFrom next cs rest output))
+      ⊎ ((reply rest : Lines) × (next : Standing) × (transcript ≡ reply ++ rest) × AnswerReplies p st a reply next × AllowedFrom next cs rest output)))
 
 abbrev pub at_first : Program → (input : List ℕ) → Standing
 at_first p input = record { session = record { mode = Fresh (begin p input); breaks = []; frame = 0; limit = 10000000 }; written = [] }

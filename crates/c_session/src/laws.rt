@@ -12,7 +12,7 @@ ghost use Rattle.c_session.specs.Allowed.{Lines, Standing, AnswerReplies, Memory
 /// A command that is answered by a refusal changes nothing: not the program, the breakpoints, the chosen frame, the limit or the output. Nor does one for which memory is wanting.
 pub fn refused_commands_change_nothing()
     ensures refused { (p : Program) (names : Names) (sides : Sides) (st next : Standing) (x : Reading) (c : Option Command) (u : Refusal) → AnswerReplies p st (answer p names sides st.session x c) (refusal_text u ∷ []) next → next ≡ st }
-    ensures no_memory { (p : Program) (names : Names) (sides : Sides) (st next : Standing) (x : Reading) (c : Option Command) (reply : Lines) → MemoryReplies p st (answer p names sides st.session x c) reply next → next ≡ st }
+    ensures no_memory { (st next : Standing) (c : Option Command) (reply : Lines) → MemoryReplies st c reply next → next ≡ st }
 {}
 
 /// A session that has ended refuses every command but `quit`.

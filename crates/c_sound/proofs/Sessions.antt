@@ -203,18 +203,6 @@ module _ (p : Program) (accepted : IsAccepted p) where
   reply_sound st Quits reply next m q k = absurd k
   reply_sound st Nothing reply next m q k = absurd k
 
-  memory_sound : (st : Standing) (a : Answer) (reply : Lines) (next : Standing) → SoundMode st.session.mode → MemoryReplies p st a reply next → SoundMode next.session.mode
-  memory_sound st Quits reply next m k = absurd k
-  memory_sound st (Refuses u) reply next m k = subst (λ x. SoundMode x.session.mode) (sym k.1) m
-  memory_sound st (Says lines session) reply next m k = subst (λ x. SoundMode x.session.mode) (sym k.1) m
-  memory_sound st (Shows w t vs) reply next m k = subst (λ x. SoundMode x.session.mode) (sym k.1) m
-  memory_sound st (Sets s) reply next m k = subst (λ x. SoundMode x.session.mode) (sym k.1) m
-  memory_sound st ShowsAny reply next m k = subst (λ x. SoundMode x.session.mode) (sym k.1) m
-  memory_sound st (Resumes how ps) reply next m k = subst (λ x. SoundMode x.session.mode) (sym k.1) m
-  memory_sound st (Raw n) reply next m k = subst (λ x. SoundMode x.session.mode) (sym k.1) m
-  memory_sound st EndsClaim reply next m k = subst (λ x. SoundMode x.session.mode) (sym k.1) m
-  memory_sound st Nothing reply next m k = subst (λ x. SoundMode x.session.mode) (sym k.1) m
-
   -- ---- commands
 
   module _ (names : Names) (sides : Sides) (session : Session) where
@@ -407,14 +395,14 @@ module _ (p : Program) (accepted : IsAccepted p) where
   has_answer m Nothing q = q
 
   module _ (names : Names) (sides : Sides) where
-    next_sound : (st next : Standing) (reply : Lines) (x : Reading) (c : Option Command) → SoundMode st.session.mode → ReadsLine p names sides st.session (ReadsTyped p) c x
-        → AnswerReplies p st (answer p names sides st.session x c) reply next ⊎ MemoryReplies p st (answer p names sides st.session x c) reply next → SoundMode next.session.mode
-    next_sound st next reply x c g k (inl a) = reply_sound st (answer p names sides st.session x c) reply next g (answer_sound names sides st.session g x c k) a
-    next_sound st next reply x c g k (inr a) = memory_sound st (answer p names sides st.session x c) reply next g a
+    next_sound : (st next : Standing) (reply : Lines) (c : Option Command) → SoundMode st.session.mode
+        → MemoryReplies st c reply next ⊎ ((x : Reading) × ReadsLine p names sides st.session (ReadsTyped p) c x × AnswerReplies p st (answer p names sides st.session x c) reply next) → SoundMode next.session.mode
+    next_sound st next reply c g (inl m) = subst (λ x. SoundMode x.session.mode) (sym m.2) g
+    next_sound st next reply c g (inr (x, k, a)) = reply_sound st (answer p names sides st.session x c) reply next g (answer_sound names sides st.session g x c k) a
 
     answered_sound : (st last : Standing) (cs : List (Option Command)) → SoundMode st.session.mode → AreAnswered p names sides st cs last → SoundMode last.session.mode
     answered_sound st last [] g a = subst (λ x. SoundMode x.session.mode) (sym a) g
-    answered_sound st last (c ∷ cs) g (x, k, reply, next, a, rest) = answered_sound next last cs (next_sound st next reply x c g k a) rest
+    answered_sound st last (c ∷ cs) g (reply, next, a, rest) = answered_sound next last cs (next_sound st next reply c g a) rest
 
     pub sessions_answer : (input : List ℕ) (cs : List (Option Command)) (st : Standing) (x : Reading) (c : Option Command) → AreAnswered p names sides (at_first p input) cs st → ReadsLine p names sides st.session (ReadsTyped p) c x
         → HasAnswer (answer p names sides st.session x c)

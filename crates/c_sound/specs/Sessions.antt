@@ -24,8 +24,9 @@ module _ (p : Program) (names : Names) (sides : Sides) where
   abbrev pub AreAnswered : Standing → List (Option Command) → Standing → Type 0
   AreAnswered st [] last = last ≡ st
   AreAnswered st (c ∷ cs) last =
-      (x : Reading) × ReadsLine p names sides st.session (ReadsTyped p) c x × (reply : Lines) × (next : Standing)
-      × (AnswerReplies p st (answer p names sides st.session x c) reply next ⊎ MemoryReplies p st (answer p names sides st.session x c) reply next) × AreAnswered next cs last
+      (reply : Lines) × (next : Standing)
+      × (MemoryReplies st c reply next ⊎ ((x : Reading) × ReadsLine p names sides st.session (ReadsTyped p) c x × AnswerReplies p st (answer p names sides st.session x c) reply next))
+      × AreAnswered next cs last
 
 abbrev pub HasAnswer : Answer → Type 0
 HasAnswer Nothing = ⊥

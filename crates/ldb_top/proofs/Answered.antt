@@ -152,18 +152,6 @@ module _ (tasks : Tasks) (file : List ℕ) where
   pub no_memory_plain : ArePlain NO_MEMORY
   no_memory_plain = (plain_first 110 _ (λ e. omega (arith, e)) (λ e. omega (arith, e)), tt)
 
-  memory_any : (q : Program) (st : Standing) (a : Answer) → (a ≡ Quits → ⊥) → MemoryReplies q st a NO_MEMORY st
-  memory_any q st Quits n = absurd (n refl)
-  memory_any q st (Refuses u) n = (refl, refl)
-  memory_any q st (mode.Says lines after) n = (refl, refl)
-  memory_any q st (mode.Shows w t vs) n = (refl, refl)
-  memory_any q st (mode.Sets s) n = (refl, refl)
-  memory_any q st mode.ShowsAny n = (refl, refl)
-  memory_any q st mode.EndsClaim n = (refl, refl)
-  memory_any q st (mode.Resumes how ps) n = (refl, refl)
-  memory_any q st (mode.Raw lines) n = (refl, refl)
-  memory_any q st Nothing n = (refl, refl)
-
   -- ---- `print`
 
   abbrev asks : Stmt → Names → State → List ℕ → Answer
@@ -272,40 +260,18 @@ module _ (tasks : Tasks) (file : List ℕ) where
       subst (λ x. AnswerReplies (p body) st x ((codes "value " ++ signed_decimal z) ∷ []) st) (sym e)
       (subst (λ y. AnswerReplies (p body) st (mode.Shows (at_point left.values d computed control).here.world Int (Number n ∷ [])) ((codes "value " ++ signed_decimal y) ∷ []) st) (signed_word z int) said)
 
-  not_quit : (body : Stmt) (are : AreNames tasks.objects) (r : Names) → TakesNames r → (left : Left) (s : State) (name : List ℕ) → Stands tasks.objects tasks.body left s → asks body r s name ≡ Quits → ⊥
-  not_quit body are r takes left s name stands e = by (object_of tasks.objects name) refl
+  no_quit_line : (c : Option Command) → is_quit_command c ≡ false → IsQuitLine c → ⊥
+  no_quit_line None n q = q
+  no_quit_line (Some command.Quit) n q = absurd (false≢true (sym n))
+  no_quit_line (Some c) n q = other c q
     where
-      d : Stop tasks.objects tasks.body left s
-      d = stop_of tasks.objects tasks.body left s stands
-
-      cases : (a b : Bool) → (if a then (if b then Refuses BadType else Refuses NoScope) else Refuses BadSyntax) ≡ Quits → ⊥
-      cases true true h = cc
-      cases true false h = cc
-      cases false b h = cc
-
-      by : (o : Option ℕ) → object_of tasks.objects name ≡ o → ⊥
-      by (Some k) h = let shows = sym (asks_object body r left s name k are takes d h) ∙ e in cc
-      by None h = cases (is_identifier name) (is_function name) (sym (asks_other body r left s name takes d h) ∙ e)
-
-  no_quit : (body : Stmt) (are : AreNames tasks.objects) (r : Names) → TakesNames r → (old : Session) (st : Standing) (c : Option Command) → Beside tasks (p body) old st → IsAsked c → is_quit_command c ≡ false
-      → answer (p body) r OneSide st.session no_text c ≡ Quits → ⊥
-  no_quit body are r takes _ _ _ before malformed n e = cc
-  no_quit body are r takes _ _ _ before stepping n e = cc
-  no_quit body are r takes _ _ _ before (printing name) n e = cc
-  no_quit body are r takes _ _ _ before quitting n e = absurd (false≢true (sym n))
-  no_quit body are r takes _ _ _ (at left s stands) malformed n e = cc
-  no_quit body are r takes _ _ _ (at left s stands) stepping n e = cc
-  no_quit body are r takes _ _ _ (at left s stands) (printing name) n e = not_quit body are r takes left s name stands e
-  no_quit body are r takes _ _ _ (at left s stands) quitting n e = absurd (false≢true (sym n))
-  no_quit body are r takes _ _ _ (behind left) malformed n e = cc
-  no_quit body are r takes _ _ _ (behind left) stepping n e = cc
-  no_quit body are r takes _ _ _ (behind left) (printing name) n e = cc
-  no_quit body are r takes _ _ _ (behind left) quitting n e = absurd (false≢true (sym n))
+      other : (c : Command) → IsQuitLine (Some c) → ⊥
+      other command.Quit q = absurd (false≢true (sym n))
+      other _ q = q
 
   -- memory may be wanting for any command but `quit`
   pub no_memory : (line : List ℕ) (old : Session) → is_quit line ≡ false → Replies tasks file (read_of line) old NO_MEMORY old
-  no_memory line old n = each old _ (λ body are is r st takes beside.
-      (st, inr (memory_any (p body) st _ (no_quit body are r takes old st (read_of line) beside (asked line) n)), beside))
+  no_memory line old n = each old _ (λ body are is r st takes beside. (st, inr (no_quit_line (read_of line) n, refl, refl), beside))
 
   -- ---- `step`
 
@@ -344,7 +310,7 @@ module _ (tasks : Tasks) (file : List ℕ) where
   -- a session after an event, beside the tasks
   abbrev AfterStep : Stmt → Names → Standing → Lines → Session → Type 0
   AfterStep body r st lines new =
-      (next : Standing) × (AnswerReplies (p body) st (answer (p body) r OneSide st.session no_text (Some command.Step)) lines next ⊎ MemoryReplies (p body) st (answer (p body) r OneSide st.session no_text (Some command.Step)) lines next) × Beside tasks (p body) new next
+      (next : Standing) × (AnswerReplies (p body) st (answer (p body) r OneSide st.session no_text (Some command.Step)) lines next ⊎ MemoryReplies st (Some command.Step) lines next) × Beside tasks (p body) new next
 
   -- at a stop or before the start
   data MayResume (body : Stmt) (s : State) : Standing → Type 0 where

@@ -61,20 +61,23 @@ module _ (program : Tasks) (file : List ℕ) where
     allowed_quit b q =
         let read : read_of line ≡ Some Quit = quit_read (read_of line) q in
         by_command [] [] refl tt b (λ p r st is takes beside.
-        (no_text, reads_no_text p r st.session (read_of line) (asked line), inl (subst (IsQuit p) (sym (ap (answer p r OneSide st.session no_text) read ∙ quits old p r st beside)) tt, refl, nothing_written p old st beside)))
+        inr (no_text, reads_no_text p r st.session (read_of line) (asked line), inl (subst (IsQuit p) (sym (ap (answer p r OneSide st.session no_text) read ∙ quits old p r st beside)) tt, refl, nothing_written p old st beside)))
 
     -- the first line is allowed by what its reply and the rest allow
     pub allowed_reply : (new : Session) (reply : Lines) (more : List ℕ) → ArePlain reply → is_empty line ≡ false → is_quit line ≡ false → Replies program file (read_of line) old reply new → Allowed program file new lines more → Allowed program file old (line ∷ lines) (bytes_of reply ++ more)
     allowed_reply new reply more plain b q told h =
         by_command (bytes_of reply ++ more) (reply ++ h.transcript) (ap (λ t. bytes_of reply ++ t) h.bytes ∙ sym (bytes-append reply h.transcript)) (plain-append reply h.transcript plain h.plain) b (λ p r st is takes beside.
         let t = told p r st is takes beside in
-        (no_text, reads_no_text p r st.session (read_of line) (asked line), inr (inr (reply, h.transcript, t.0, refl, t.1, h.each p r t.0 is takes t.2))))
+        elim t.1 [
+          | inl a ↦ inr (no_text, reads_no_text p r st.session (read_of line) (asked line), inr (inr (reply, h.transcript, t.0, refl, a, h.each p r t.0 is takes t.2)))
+          | inr m ↦ inl (reply, h.transcript, t.0, refl, m, h.each p r t.0 is takes t.2)
+        ])
 
     -- it is allowed with any lines where it ends the claim
     pub allowed_free : (reply more : Lines) → ArePlain reply → ArePlain more → is_empty line ≡ false → is_quit line ≡ false → EndsClaim program file (read_of line) old → Allowed program file old (line ∷ lines) (bytes_of reply ++ bytes_of more)
     allowed_free reply more plain also b q ends =
         by_command (bytes_of reply ++ bytes_of more) (reply ++ more) (sym (bytes-append reply more)) (plain-append reply more plain also) b (λ p r st is takes beside.
-        (no_text, reads_no_text p r st.session (read_of line) (asked line), inr (inl (ends p r st is takes beside, ([], sym (ap (λ w. w ++ []) (sym (nothing_written p old st beside))))))))
+        inr (no_text, reads_no_text p r st.session (read_of line) (asked line), inr (inl (ends p r st is takes beside, ([], sym (ap (λ w. w ++ []) (sym (nothing_written p old st beside))))))))
 
   -- from each state there is some transcript
   pub some_rest : (now : Session) (lines : List (List ℕ)) → (more : List ℕ) × Allowed program file now lines more

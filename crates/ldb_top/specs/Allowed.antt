@@ -71,7 +71,7 @@ OfEach tasks file old P = (p : Program) (r : Names) (st : Standing) → Makes fi
 -- these lines answer a command
 abbrev pub Replies : Tasks → List ℕ → Option Command → Session → Lines → Session → Type 0
 Replies tasks file command old lines new =
-    OfEach tasks file old (λ p r st. (next : Standing) × (AnswerReplies p st (answer p r OneSide st.session no_text command) lines next ⊎ MemoryReplies p st (answer p r OneSide st.session no_text command) lines next) × Beside tasks p new next)
+    OfEach tasks file old (λ p r st. (next : Standing) × (AnswerReplies p st (answer p r OneSide st.session no_text command) lines next ⊎ MemoryReplies st command lines next) × Beside tasks p new next)
 
 -- from this command on nothing is claimed
 abbrev pub EndsClaim : Tasks → List ℕ → Option Command → Session → Type 0
