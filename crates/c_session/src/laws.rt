@@ -1,5 +1,5 @@
 // What holds of sessions.
-ghost use Rattle.std.specs.Prelude.{◌≡◌, ◌≢◌, ◌⊎◌, ◌∷◌, [], ℕ, Bool, Option, Some};
+ghost use Rattle.std.specs.Prelude.{◌≡◌, ◌≢◌, ◌⊎◌, ◌∷◌, [], ℕ, Bool, List, Option, Some};
 ghost use Rattle.runs.specs.Runs.{Event, RunsTo};
 ghost use Rattle.c_tree.specs.declared.rows.Program.{Program};
 ghost use Rattle.c_source.specs.Control.{State};
@@ -7,7 +7,9 @@ ghost use Rattle.c_source.specs.Source.{step};
 ghost use Rattle.c_session.specs.declared.command.Command.{Command};
 ghost use Rattle.c_session.specs.declared.command.Command.TheVariants as command;
 ghost use Rattle.c_session.specs.Commands.{Session, Ended, Names, Sides, Reading, Refusal, Refuses, HasEnded, refusal_text, answer};
-ghost use Rattle.c_session.specs.Allowed.{Lines, Standing, AnswerReplies, MemoryReplies};
+ghost use Rattle.c_session.specs.Allowed.{Lines, Standing, AnswerReplies, MemoryReplies, at_first};
+ghost use Rattle.c_session.specs.Histories.{GoesOn, IsModeReached};
+ghost use Rattle.c_store.specs.Assigned.{History};
 
 /// A command that is answered by a refusal changes nothing: not the program, the breakpoints, the chosen frame, the limit or the output. Nor does one for which memory is wanting.
 pub fn refused_commands_change_nothing()
@@ -24,4 +26,9 @@ pub fn ended_sessions_refuse()
 pub fn resumes_have_one_event()
     ensures count { (p : Program) (stops : ℕ → Bool) (s : State) (c d : ℕ) (e f : Event State) → RunsTo State (step p) stops s c e → RunsTo State (step p) stops s d f → c ≡ d }
     ensures event { (p : Program) (stops : ℕ → Bool) (s : State) (c d : ℕ) (e f : Event State) → RunsTo State (step p) stops s c e → RunsTo State (step p) stops s d f → e ≡ f }
+{}
+
+/// A session goes through the run of its program: there is a history of assignments with which this run comes to each state at which the session stands, those made at the present stop among them. With two sides it is one history.
+pub fn sessions_follow_a_run()
+    ensures { (p : Program) (names : Names) (sides : Sides) (input : List ℕ) (cs : List (Option Command)) (st : Standing) → GoesOn p names sides (at_first p input) cs st → (h : History) × IsModeReached p input h st.session.mode }
 {}
