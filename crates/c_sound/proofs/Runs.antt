@@ -20,7 +20,7 @@ stored_fits w (Err e) h g = h
 
 pub assigned_fits : (all : List Assignment) (w : World) → AreFitting all → WorldFits w → WorldFits (all_assigned all w)
 assigned_fits [] w a h = h
-assigned_fits (x ∷ rest) w a h = assigned_fits rest (stored_or w (store w x.kind x.activation x.value)) a.1 (stored_fits w (store w x.kind x.activation x.value) h (store_gives w x.kind x.activation x.value h a.0))
+assigned_fits (x ∷ rest) w a h = assigned_fits rest (stored_or w (store w x.kind x.place x.value)) a.1 (stored_fits w (store w x.kind x.place x.value) h (store_gives w x.kind x.place x.value h a.0))
 
 fitting_at : (h : History) (i : ℕ) → IsFitting h → AreFitting (at_stop h i)
 fitting_at [] i f = tt

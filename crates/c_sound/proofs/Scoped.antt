@@ -110,7 +110,7 @@ module _ (p : Program) where
       Scoped (Turn s n ∷ k) ls C = (n ≡ length ls) × PlacedLoop ls s × Scoped k ls ⊥
       Scoped (Again s n ∷ k) ls C = (n ≡ length ls) × PlacedLoop ls s × Scoped k ls ⊥
       Scoped (Select body n ∷ k) ls C = (n ≡ length ls) × EachPlaced ls (statements_in body) × AfterContinue k ls × Scoped k ls ⊥
-      Scoped (Seek v labels default n ∷ k) ls C = (n ≡ length ls) × EachLabelPlaced ls labels × EachPlaced ls default × AfterContinue k ls × Scoped k ls ⊥
+      Scoped (Seek v x labels default n ∷ k) ls C = (n ≡ length ls) × EachLabelPlaced ls (x ∷ labels) × EachPlaced ls default × AfterContinue k ls × Scoped k ls ⊥
       Scoped (Switched n ∷ k) ls C = Scoped k ls ⊥
       Scoped (GiveBack ∷ k) ls C = Ends ls
       Scoped (Leave ∷ k) ls C = Unit {0}

@@ -8,7 +8,7 @@ use Rattle.c_tree.specs.declared.rows.Function.{Function}
 use Rattle.c_store.specs.Store.{Number}
 use Rattle.c_store.specs.Frames.{ActivationRecord}
 use Rattle.c_store.specs.Assigned.{History}
-use Rattle.c_source.specs.Blocks.{converted, declared_in}
+use Rattle.c_source.specs.Blocks.{zero_as, declared_in}
 use Rattle.c_source.specs.Control.{Push, GiveBack, State, Activation, body_of, outermost_of, first_of, last_of}
 use Rattle.c_source.specs.Source.{step}
 use Rattle.c_source.specs.Begin.{begin, acted, records, outer_records}
@@ -84,7 +84,7 @@ module _ (p : Program) (accepted : IsAccepted p) where
       let ends : (ls : List ℕ) → take (length (v ++ local_numbers (declared_in fn.body))) ls ≡ v ++ local_numbers (declared_in fn.body) → Ends p g ls = λ ls b. subst (λ o. EndsIn p g o ls) (sym e) (ends_there g fn ls i.ends.1 b) in
       let xs = v ++ local_numbers (declared_in fn.body) in (
         at_here p g (plain fn.result) (first_of fn.points) v i.ends.0,
-        body_at p g (plain fn.result) fn.body v (Push (converted fn.result (Number 0)) ∷ GiveBack ∷ []) i.block i.body ends (λ ls. tt) (λ ls. tt) (ends xs (take_all (length xs) xs (le_refl (length xs)))),
+        body_at p g (plain fn.result) fn.body v (Push (zero_as fn.result) ∷ GiveBack ∷ []) i.block i.body ends (λ ls. tt) (λ ls. tt) (ends xs (take_all (length xs) xs (le_refl (length xs)))),
       )
 
   main_scoped : (n : ℕ) (o : Option Function) (fn : Function) → o ≡ Some fn → fn.params ≡ 0 → Scoped p n (body_of p n fn) (numbers 0 fn.params) ⊥ → Scoped p n (control_in p n o) [] ⊥

@@ -1,5 +1,5 @@
 -- The objects of a block and of a call.
-use Rattle.std.specs.Prelude.{ℕ, suc, zero, ◌+◌, List, [], ◌∷◌, Option, Some, None, Result, Ok, Err, slice_get, length, map}
+use Rattle.std.specs.Prelude.{ℕ, suc, ◌+◌, List, [], ◌∷◌, Option, Some, None, Result, Ok, Err, slice_get, length, map}
 use Rattle.c_tree.specs.declared.types.CType.{CType}
 use Rattle.c_tree.specs.declared.types.CType.TheVariants.{Char, Void, Pointer'}
 use Rattle.c_tree.specs.declared.types.StructDef.{StructDef}
@@ -15,12 +15,11 @@ use Rattle.c_tree.specs.Rows.{stmts}
 use Rattle.runs.specs.Runs.{Why, IllTyped}
 use Rattle.c_store.specs.Bits.{low_byte}
 use Rattle.c_store.specs.Store.{Value, Number, Null, Cell, World, zero_of, with_first, ◌>>=◌}
-use Rattle.c_store.specs.Frames.{Here, made, made_once, new_activation}
+use Rattle.c_store.specs.Frames.{Here, made, new_activation}
 
--- a pointer operand; an integer there is a null pointer constant, which is 0 (C90 6.2.2.3)
+-- a pointer operand; an integer there is a null pointer constant (C90 6.2.2.3)
 abbrev pub as_pointer : Value → Result Value Why
-as_pointer (Number zero) = Ok Null
-as_pointer (Number (suc n)) = Err IllTyped
+as_pointer (Number n) = Ok Null
 as_pointer v = Ok v
 
 -- A value as one of an integer or pointer type (C90 6.2.1.2, 6.2.2.3). An `int` and an `unsigned` have the same pattern; an address is no `char`.
@@ -75,13 +74,13 @@ statements_in _ = []
 -- ---- objects that begin
 
 -- a new object for a local of function f, with zeros
-abbrev pub opened_one : Program → (f local : ℕ) → Here → Result Here Why
-opened_one p f x h = made_once x (size_of p.defs (local_type p f x)) (cells_of p.defs (local_type p f x)) h
+abbrev pub opened_one : Program → (f local : ℕ) → Here → Here
+opened_one p f x h = made x (size_of p.defs (local_type p f x)) (cells_of p.defs (local_type p f x)) h
 
 -- a block of function f is entered: each of its objects is made anew
-abbrev pub opened : Program → (f : ℕ) → List DeclaredLocal → Here → Result Here Why
-opened p f [] h = Ok h
-opened p f (d ∷ ds) h = opened_one p f d.local h >>= opened p f ds
+abbrev pub opened : Program → (f : ℕ) → List DeclaredLocal → Here → Here
+opened p f [] h = h
+opened p f (d ∷ ds) h = opened p f ds (opened_one p f d.local h)
 
 -- how many leaves that makes
 abbrev pub leaf_count : Program → ℕ → List DeclaredLocal → ℕ

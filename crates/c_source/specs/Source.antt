@@ -248,7 +248,7 @@ module _ (p : Program) (h : Here) (outer : List Activation) where
   act (Run s) vs k = execute s vs k
   act (Stop q) vs k = Passes q 1 (record { here = with_point h q; values = vs; control = k; outer = outer })
   act (Choose a b) vs k = on_one vs (λ v rest. on_test v (go 1 h rest (Run a ∷ Joined ∷ k)) (go 1 h rest (runs_of b ++ k)))
-  act (Open ds) vs k = on_ok (opened p h.activation.function ds h) (λ g. go (1 + leaf_count p h.activation.function ds) g vs k)
+  act (Open ds) vs k = go (1 + leaf_count p h.activation.function ds) (opened p h.activation.function ds h) vs k
   act (Close n) vs k = go 1 (left n h) vs k
   act (Turn s n) vs k = on_one vs (λ v rest. on_test v (go 1 h rest (loop_turns s n ++ k)) (go 1 h rest k))
   act (Again s n) vs k = go 1 h vs (loop_goes_on s n ++ k)

@@ -1,6 +1,5 @@
 -- Activations, and the objects that they make and end.
-use Rattle.std.specs.Prelude.{ℕ, List, [], ◌∷◌, ◌++◌, Bool, true, false, ◌==◌, Option, Some, None, Result, Ok, Err, slice_get, slice_set, take, drop, length, if◌then◌else◌}
-use Rattle.runs.specs.Runs.{Why, IllTyped}
+use Rattle.std.specs.Prelude.{ℕ, List, [], ◌∷◌, ◌++◌, true, false, ◌==◌, Option, Some, None, slice_get, slice_set, take, drop, length, if◌then◌else◌}
 use Rattle.c_store.specs.Store.{Cell, Object, World, Auto}
 
 -- a live local of an activation, and its object
@@ -59,10 +58,3 @@ abbrev pub bound : ℕ → List Binding → Option ℕ
 bound x [] = None
 bound x (b ∷ bs) = if b.local == x then Some b.object else bound x bs
 
-abbrev pub is_bound : Option ℕ → Bool
-is_bound None = false
-is_bound (Some o) = true
-
--- a new object for a local that has none
-abbrev pub made_once : (local size : ℕ) → List Cell → Here → Result Here Why
-made_once x size cells h = if is_bound (bound x h.activation.locals) then Err IllTyped else Ok (made x size cells h)

@@ -13,3 +13,4 @@ mod Formed
 mod Keeps
 mod Computed
 mod Given
+mod Shapes

@@ -225,8 +225,8 @@ module _ (p : Program) (f : ℕ) (code : List SlotOp) where
   Follows r n pc ws (Again s m ∷ k) = on_none ws ((n ≡ m) × (slice_get code pc ≡ Some (op.Jump r.again)))
   Follows r n pc ws (Select b m ∷ k) =
       on_last ws ((n ≡ m) × IsInside r n × HasAt code pc (switch_of r n pc (statements_in b)) × Follows r n (pc + length (switch_of r n pc (statements_in b))) [] k)
-  Follows r n pc ws (Seek v ls default m ∷ k) =
-      on_kept ws (λ x. (x ≡ v) × (n ≡ m) × IsInside r n × (u : Around) × (end : ℕ) × (slice_get code u.leave ≡ Some (op.Jump end)) × (u.leave_scope ≡ m) × (u.again ≡ r.again) × (u.again_scope ≡ r.again_scope) × Seeks u n end pc ls default × Follows r m end [] k)
+  Follows r n pc ws (Seek v l ls default m ∷ k) =
+      on_kept ws (λ x. (x ≡ v) × (n ≡ m) × IsInside r n × (u : Around) × (end : ℕ) × (slice_get code u.leave ≡ Some (op.Jump end)) × (u.leave_scope ≡ m) × (u.again ≡ r.again) × (u.again_scope ≡ r.again_scope) × Seeks u n end pc (l ∷ ls) default × Follows r m end [] k)
   Follows r n pc ws (Switched m ∷ k) = on_none ws ((n ≡ m) × (end : ℕ) × (slice_get code pc ≡ Some (op.Jump end)) × (slice_get code r.leave ≡ Some (op.Jump end)))
   Follows r n pc ws (GiveBack ∷ k) = on_last ws (slice_get code pc ≡ Some (op.Jump end_place))
   Follows r n pc ws (Leave ∷ k) = on_last ws (slice_get code pc ≡ Some (op.Return 0))

@@ -200,38 +200,41 @@ module _ (set : Setting) where
     one o temps pc n i u q e a = (n, 0, u, omega arith, at_op temps pc i e ∙ a, (refl, refl), q)
 
     -- a value is converted in its place
-    pub record Cast (o : State) (i : ℕ) (a : Access) (v : Value) (temps : Temps) (pc : ℕ) : Type 0 where
+    pub record Cast (o : State) (i : ℕ) (a : Access) (z : Value) (temps : Temps) (pc : ℕ) : Type 0 where
       pub count : ℕ
       pub bounded : count ≤ 1
       pub after : Temps
       pub steps : Steps o count count (slot temps pc) (slot after (pc + length (converting i a)))
-      pub value : after i ≡ Some (extended a v)
+      pub value : after i ≡ Some z
       pub below : (x : ℕ) → x < i → after x ≡ temps x
       pub above : (x : ℕ) → i < x → after x ≡ temps x
 
     stays : (pc : ℕ) → pc ≡ pc + 0
     stays pc = omega arith
 
-    no_cast : (o : State) (i : ℕ) (v : Value) (temps : Temps) (pc : ℕ) → temps i ≡ Some v → Cast o i access.Word v temps pc
-    no_cast o i v temps pc e = record { count = 0; bounded = omega arith; after = temps; steps = (refl, ap (slot temps) (stays pc)); value = e; below = λ x lt. refl; above = λ x lt. refl }
+    same_ok : (v z : Value) → extended access.Word v ≡ Ok z → v ≡ z
+    same_ok v z x = cc
 
-    one_cast : (o : State) (i : ℕ) (a : Access) (v : Value) (temps : Temps) (pc : ℕ) → SameOutput o (slot temps pc) → temps i ≡ Some v → slice_get code pc ≡ Some (op.Convert i a) → length (converting i a) ≡ 1 → Cast o i a v temps pc
-    one_cast o i a v temps pc q e has len =
-        let after = with_temp temps i (extended a v) in
+    no_cast : (o : State) (i : ℕ) (v z : Value) (temps : Temps) (pc : ℕ) → temps i ≡ Some v → extended access.Word v ≡ Ok z → Cast o i access.Word z temps pc
+    no_cast o i v z temps pc e x = record { count = 0; bounded = omega arith; after = temps; steps = (refl, ap (slot temps) (stays pc)); value = e ∙ ap Some (same_ok v z x); below = λ x lt. refl; above = λ x lt. refl }
+
+    one_cast : (o : State) (i : ℕ) (a : Access) (v z : Value) (temps : Temps) (pc : ℕ) → SameOutput o (slot temps pc) → temps i ≡ Some v → extended a v ≡ Ok z → slice_get code pc ≡ Some (op.Convert i a) → length (converting i a) ≡ 1 → Cast o i a z temps pc
+    one_cast o i a v z temps pc q e x has len =
+        let after = with_temp temps i z in
         record {
           count = 1;
           bounded = omega arith;
           after = after;
-          steps = subst (λ n. Steps o 1 1 (slot temps pc) (slot after (pc + n))) (sym len) (one o temps pc 1 (op.Convert i a) (slot after (pc + 1)) q has (ap (λ x. slots.on_temp x (λ v. slots.sets set.c (slot temps pc) i (extended a v))) e));
-          value = put_same temps i (extended a v);
-          below = λ x lt. put_other temps i x (extended a v) lt;
-          above = λ x lt. put_above temps i x (extended a v) lt;
+          steps = subst (λ n. Steps o 1 1 (slot temps pc) (slot after (pc + n))) (sym len) (one o temps pc 1 (op.Convert i a) (slot after (pc + 1)) q has (ap (λ x. slots.on_temp x (λ v. slots.gives set.c (slot temps pc) i (extended a v))) e ∙ ap (slots.gives set.c (slot temps pc) i) x));
+          value = put_same temps i z;
+          below = λ x lt. put_other temps i x z lt;
+          above = λ x lt. put_above temps i x z lt;
         }
 
-    pub cast : (o : State) (i : ℕ) (a : Access) (v : Value) (temps : Temps) (pc : ℕ) → SameOutput o (slot temps pc) → temps i ≡ Some v → HasAt code pc (converting i a) → Cast o i a v temps pc
-    cast o i access.Word v temps pc q e has = no_cast o i v temps pc e
-    cast o i access.SignedByte v temps pc q e has = one_cast o i access.SignedByte v temps pc q e has.0 refl
-    cast o i access.UnsignedByte v temps pc q e has = one_cast o i access.UnsignedByte v temps pc q e has.0 refl
-    cast o i access.SignedHalf v temps pc q e has = one_cast o i access.SignedHalf v temps pc q e has.0 refl
-    cast o i access.UnsignedHalf v temps pc q e has = one_cast o i access.UnsignedHalf v temps pc q e has.0 refl
-    cast o i access.Pointer v temps pc q e has = one_cast o i access.Pointer v temps pc q e has.0 refl
+    pub cast : (o : State) (i : ℕ) (a : Access) (v z : Value) (temps : Temps) (pc : ℕ) → SameOutput o (slot temps pc) → temps i ≡ Some v → extended a v ≡ Ok z → HasAt code pc (converting i a) → Cast o i a z temps pc
+    cast o i access.Word v z temps pc q e x has = no_cast o i v z temps pc e x
+    cast o i access.SignedByte v z temps pc q e x has = one_cast o i access.SignedByte v z temps pc q e x has.0 refl
+    cast o i access.UnsignedByte v z temps pc q e x has = one_cast o i access.UnsignedByte v z temps pc q e x has.0 refl
+    cast o i access.SignedHalf v z temps pc q e x has = one_cast o i access.SignedHalf v z temps pc q e x has.0 refl
+    cast o i access.UnsignedHalf v z temps pc q e x has = one_cast o i access.UnsignedHalf v z temps pc q e x has.0 refl
+    cast o i access.Pointer v z temps pc q e x has = one_cast o i access.Pointer v z temps pc q e x has.0 refl

@@ -16,10 +16,9 @@ use Rattle.slot_ir.specs.declared.code.UnaryWordOp.TheVariants.{Plus, Minus, Min
 use Rattle.slot_ir.specs.declared.code.PointerOp.{PointerOp}
 use Rattle.slot_ir.specs.declared.code.PointerOp.TheVariants as pointer
 
--- an address; a number in place of one is a null pointer constant, which is 0
+-- an address; a number in place of one is a null pointer constant
 abbrev pub as_pointer : Value → Result Value Why
-as_pointer (Number zero) = Ok Null
-as_pointer (Number (suc n)) = Err IllTyped
+as_pointer (Number n) = Ok Null
 as_pointer v = Ok v
 
 -- a number in another form, which an address has not

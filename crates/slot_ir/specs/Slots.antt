@@ -6,7 +6,7 @@ use Rattle.c_tree.specs.declared.types.Leaf.{Leaf}
 use Rattle.runs.specs.Runs.{Next, Goes, Passes, Exits, Undefined, Why, IllTyped}
 use Rattle.c_store.specs.Bits.{minus_one}
 use Rattle.c_store.specs.Store.{Value, Number, Null, At, Cell, World, zero_of, used, load, store, moved, load_struct, store_struct, with_first, ◌>>=◌}
-use Rattle.c_store.specs.Frames.{Here, ActivationRecord, with_world, with_point, made, made_once, left, bound, new_activation}
+use Rattle.c_store.specs.Frames.{Here, ActivationRecord, with_world, with_point, made, left, bound, new_activation}
 use Rattle.slot_ir.specs.declared.code.SlotOp.{SlotOp}
 use Rattle.slot_ir.specs.declared.code.SlotOp.TheVariants.{Const, Null as NullOp, StaticAddress, TextAddress, LocalAddress, Load, Store, ReadRegister, WriteRegister, Convert, Unary, Binary, Compare, Index, Distance, Offset, Take, Jump, JumpIfZero, JumpIfNotZero, JumpIfEqual, Call, Return, Stop, Move, Zero, Leave, GetChar, PutChar, Exit}
 use Rattle.slot_ir.specs.declared.code.Access.{Access}
@@ -69,11 +69,11 @@ leaves_in (Some s) = s.leaves
 
 -- ---- objects that begin
 
-abbrev pub zeroed_row : Option SlotLocal → ℕ → Here → Result Here Why
-zeroed_row None x h = made_once x 0 [] h
-zeroed_row (Some l) x h = made_once x l.size (zero_cells l.leaves) h
+abbrev pub zeroed_row : Option SlotLocal → ℕ → Here → Here
+zeroed_row None x h = made x 0 [] h
+zeroed_row (Some l) x h = made x l.size (zero_cells l.leaves) h
 
-abbrev pub zeroed_local : SlotCode → (local : ℕ) → Here → Result Here Why
+abbrev pub zeroed_local : SlotCode → (local : ℕ) → Here → Here
 zeroed_local c x h = zeroed_row (local_row c h.activation.function x) x h
 
 abbrev pub leaf_count_in : Option SlotLocal → ℕ
@@ -217,7 +217,7 @@ module _ (c : SlotCode) (t : SlotState) where
   act (Return d) = on_temp (t.temps d) (λ v. returns v t.outer)
   act (Stop q) = Passes q 1 (record t { here = with_point t.here q; pc = t.pc + 1 })
   act (Move i j s) = copies i j (leaves_in (slice_get c.structs s))
-  act (Zero x) = on_ok (zeroed_local c x t.here) (λ h. goes (leaf_count_in (local_row c t.here.activation.function x)) h)
+  act (Zero x) = goes (leaf_count_in (local_row c t.here.activation.function x)) (zeroed_local c x t.here)
   act (Leave n) = goes 0 (left n t.here)
   act (GetChar d) =
       Goes 1 (record t {
