@@ -13,10 +13,11 @@ use Rattle.c_store.specs.Store.{Value, World}
 use Rattle.c_store.specs.Frames.{Here, ActivationRecord, bound}
 use Rattle.c_source.specs.Control.{State}
 use Rattle.c_source.specs.Source.{step}
-use Rattle.c_source.specs.Begin.{begin, records}
+use Rattle.c_source.specs.Begin.{begin}
 use Rattle.c_source.specs.Meaning.{Given, values_meant, assigned}
 use Rattle.c_source.specs.Names.{named, place_text}
-use Rattle.c_typing.specs.Declared.{has, scope_at}
+use Rattle.c_typing.specs.Declared.{has}
+use Rattle.c_sound.specs.Scopes.{as_completed, scope_with}
 use Rattle.c_typing.specs.Statements.{local_on, locals_from, locals_at}
 use Rattle.c_typing.specs.Accepted.{IsAccepted}
 use Rattle.c_session.specs.declared.command.Command.{Command}
@@ -277,8 +278,8 @@ module _ (p : Program) (accepted : IsAccepted p) where
       reads_value text (Unread u) e = tt
       reads_value text (Read d) e =
           let k = e a.function d there.1 refl in
-          let i = evaluated p a.function (locals_at p q) (locals_of a.locals) there.0 (parameters_there p accepted) d k.1 in
-          let l : is_struct (type_of d) ≡ true → ShapedL p (locals_of a.locals) d = λ z. located p a.function (locals_at p q) (locals_of a.locals) there.0 (parameters_there p accepted) d k.1 (struct_lvalue (scope_at p a.function (locals_at p q)) d k.0 k.1 z) in
+          let i = evaluated (as_completed p) p a.function (locals_at p q) (locals_of a.locals) there.0 (parameters_there p accepted) d k.1 in
+          let l : is_struct (type_of d) ≡ true → ShapedL p (locals_of a.locals) d = λ z. located (as_completed p) p a.function (locals_at p q) (locals_of a.locals) there.0 (parameters_there p accepted) d k.1 (struct_lvalue (scope_with p a.function (locals_at p q) (as_completed p)) d k.0 k.1 z) in
           evaluates (type_of d) (values_meant p here d) (values_given p here at.0.0.world d k.0 i l)
 
     module _ (s : State) (at : AtStop s) (a : ActivationRecord) (covered : CoveredAt p a) where
@@ -305,7 +306,7 @@ module _ (p : Program) (accepted : IsAccepted p) where
           let q = point_or_0 a.point in
           let there = at_point a.function a.point (locals_of a.locals) covered in
           let k = e a.function d there.1 refl in
-          let i = evaluated p a.function (locals_at p q) (locals_of a.locals) there.0 (parameters_there p accepted) d k.1 in
+          let i = evaluated (as_completed p) p a.function (locals_at p q) (locals_of a.locals) there.0 (parameters_there p accepted) d k.1 in
           let here : Here = record { world = s.here.world; activation = a } in
           sets (assigned p here d) (assigned_given p here at.0.0.world d k.0 i)
 

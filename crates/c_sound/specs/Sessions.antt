@@ -4,8 +4,8 @@ use Rattle.c_tree.specs.declared.typed.Typed.{Typed}
 use Rattle.c_tree.specs.declared.rows.Program.{Program}
 use Rattle.c_source.specs.Meaning.{IsPlain, IsAssignment}
 use Rattle.c_typing.specs.Expressions.{IsTyped}
-use Rattle.c_typing.specs.Declared.{scope_at}
 use Rattle.c_typing.specs.Statements.{locals_at, function_at}
+use Rattle.c_sound.specs.Scopes.{as_completed, scope_with}
 use Rattle.c_session.specs.declared.command.Command.{Command}
 use Rattle.c_session.specs.Commands.{Use, AsValue, AsAssignment, Reading, Read, Sides, Names, Answer, Nothing, answer, ReadsLine}
 use Rattle.c_session.specs.Allowed.{Lines, Standing, AnswerReplies, MemoryReplies}
@@ -15,9 +15,9 @@ abbrev pub IsOfUse : Use → Typed → Type 0
 IsOfUse AsValue e = IsPlain e
 IsOfUse AsAssignment e = IsAssignment e
 
--- a text at a stopping point is refused, or read as an expression that is well typed among the names there
+-- A text at a stopping point is refused, or read as an expression that is well typed among the names there, with types as any file completes them.
 abbrev pub ReadsTyped : Program → Use → (point : ℕ) → List ℕ → Reading → Type 0
-ReadsTyped p u q text x = (f : ℕ) (e : Typed) → function_at p q ≡ Some f → x ≡ Read e → IsOfUse u e × IsTyped (scope_at p f (locals_at p q)) e
+ReadsTyped p u q text x = (f : ℕ) (e : Typed) → function_at p q ≡ Some f → x ≡ Read e → IsOfUse u e × IsTyped (scope_with p f (locals_at p q) (as_completed p)) e
 
 module _ (p : Program) (names : Names) (sides : Sides) where
   -- each of these lines was answered, and the session went on

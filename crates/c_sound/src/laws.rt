@@ -10,7 +10,9 @@ ghost use Rattle.c_source.specs.Source.{step};
 ghost use Rattle.c_source.specs.Begin.{begin, acted, records};
 ghost use Rattle.c_source.specs.Meaning.{Given, values_meant, assigned, IsPlain, IsAssignment};
 ghost use Rattle.c_typing.specs.Expressions.{IsTyped};
-ghost use Rattle.c_typing.specs.Declared.{scope_at};
+ghost use Rattle.c_typing.specs.Plain.{Plain};
+ghost use Rattle.c_tree.specs.declared.rows.SymbolRow.{SymbolRow};
+ghost use Rattle.c_sound.specs.Scopes.{scope_with};
 ghost use Rattle.c_typing.specs.Accepted.{IsAccepted};
 ghost use Rattle.c_session.specs.declared.command.Command.{Command};
 ghost use Rattle.c_session.specs.Commands.{Names, Sides, Reading, answer, ReadsLine};
@@ -24,11 +26,11 @@ pub fn accepted_programs_keep_shapes()
     ensures resumed { (p : Program) (input : List ℕ) (h : History) (m : Moment State) (stops : ℕ → Bool) (k : ℕ) → IsMoment p input h m → CourseKeepsShapes (until State (step p) stops k m.state) }
 {}
 
-/// At each moment of such a run before its end, a well-typed expression without assignments and calls has leaf values or one of C's reasons for none, in each activation in which its locals have objects. A plain assignment too; and where it is made, it is one of a list of assignments to leaves that give each a value of its kind, so that the run with it is again one of those above.
+/// At each moment of such a run before its end, a well-typed expression without assignments and calls, whatever types the names have, has leaf values or one of C's reasons for none, in each activation in which its locals have objects. A plain assignment too; and where it is made, it is one of a list of assignments to leaves that give each a value of its kind, so that the run with it is again one of those above.
 pub fn evaluations_keep_shapes()
-    ensures value { (p : Program) (input : List ℕ) (h : History) (m : Moment State) (a : ActivationRecord) (v : List ℕ) (e : Typed) → IsMoment p input h m → AreLive v a → IsTyped (scope_at p a.function v) e → IsPlain e → HasMeaning (values_meant p (record { world = m.state.here.world; activation = a }) e) }
-    ensures assignment { (p : Program) (input : List ℕ) (h : History) (m : Moment State) (a : ActivationRecord) (v : List ℕ) (e : Typed) → IsMoment p input h m → AreLive v a → IsTyped (scope_at p a.function v) e → IsAssignment e → HasMeaning (assigned p (record { world = m.state.here.world; activation = a }) e) }
-    ensures leaves { (p : Program) (input : List ℕ) (h : History) (m : Moment State) (a : ActivationRecord) (v : List ℕ) (e : Typed) (g : Given) → IsMoment p input h m → AreLive v a → IsTyped (scope_at p a.function v) e → IsAssignment e → assigned p (record { world = m.state.here.world; activation = a }) e ≡ Ok g → IsAssigned m.state.here.world g.world }
+    ensures value { (p : Program) (input : List ℕ) (h : History) (m : Moment State) (a : ActivationRecord) (v : List ℕ) (types : SymbolRow → Plain) (e : Typed) → IsMoment p input h m → AreLive v a → IsTyped (scope_with p a.function v types) e → IsPlain e → HasMeaning (values_meant p (record { world = m.state.here.world; activation = a }) e) }
+    ensures assignment { (p : Program) (input : List ℕ) (h : History) (m : Moment State) (a : ActivationRecord) (v : List ℕ) (types : SymbolRow → Plain) (e : Typed) → IsMoment p input h m → AreLive v a → IsTyped (scope_with p a.function v types) e → IsAssignment e → HasMeaning (assigned p (record { world = m.state.here.world; activation = a }) e) }
+    ensures leaves { (p : Program) (input : List ℕ) (h : History) (m : Moment State) (a : ActivationRecord) (v : List ℕ) (types : SymbolRow → Plain) (e : Typed) (g : Given) → IsMoment p input h m → AreLive v a → IsTyped (scope_with p a.function v types) e → IsAssignment e → assigned p (record { world = m.state.here.world; activation = a }) e ≡ Ok g → IsAssigned m.state.here.world g.world }
 {}
 
 /// Where a step of such a run passes a stopping point, each activation has an object for every local in scope at the point that it passed last. So the expressions that are well typed among the names at that point are those of `evaluations_keep_shapes`.
