@@ -1,6 +1,6 @@
 -- Each step from a good state leads to a good state, or has one of C's reasons.
 use Rattle.std.proofs.Common.{◌≡◌, refl, sym, ◌∙◌, subst, ap, ℕ, suc, ◌+◌, ◌*◌, ◌%◌, List, [], ◌∷◌, ◌++◌, Bool, true, false, Option, Some, None, length, take, drop, reverse, true≢false, le_of_eq, take_all}
-use Rattle.std.specs.Prelude.{slice_get, if◌then◌else◌, pos, option_map, bytes_eq, codes, ◌==◌}
+use Rattle.std.specs.Prelude.{slice_get, if◌then◌else◌, pos, option_map, ◌==◌}
 use Rattle.ldb_words.specs.Word.{signed}
 use Rattle.runs.specs.Runs.{Next, Goes, Exits, Undefined, IllTyped}
 use Rattle.c_tree.specs.declared.types.CType.{CType}

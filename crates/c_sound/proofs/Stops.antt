@@ -5,7 +5,6 @@ use Rattle.runs.specs.Runs.{Next, Goes, Passes, Exits, Undefined, Moment, Outcom
 use Rattle.c_tree.specs.declared.typed.DeclaredLocal.{DeclaredLocal}
 use Rattle.c_tree.specs.declared.rows.Program.{Program}
 use Rattle.c_tree.specs.declared.rows.Function.{Function}
-use Rattle.c_store.specs.Store.{Number}
 use Rattle.c_store.specs.Frames.{ActivationRecord}
 use Rattle.c_store.specs.Assigned.{History}
 use Rattle.c_source.specs.Blocks.{zero_as}
