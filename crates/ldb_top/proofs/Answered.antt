@@ -25,9 +25,9 @@ use Rattle.c_source.specs.Names.{named}
 use Rattle.c_show.specs.Shown.{null, IsOneLine}
 use Rattle.c_session.specs.declared.command.Command.{Command}
 use Rattle.c_session.specs.declared.command.Command.TheVariants as command
-use Rattle.c_session.specs.Commands.{Names, OneSide, Reading, ReadsNothing, ReadsIn, ReadsLine, Mode, Answer, Refuses, BadSyntax, NoScope, BadType, Quits, Nothing, answer, print_symbol}
+use Rattle.c_session.specs.Commands.{Names, OneSide, ReadsNothing, ReadsIn, ReadsLine, Mode, Answer, Refuses, BadSyntax, NoScope, BadType, answer, print_symbol}
 use Rattle.c_session.specs.Commands as mode
-use Rattle.c_session.specs.Allowed.{Lines, bytes_of, Standing, AnswerReplies, MemoryReplies, ClaimEnds, event_text}
+use Rattle.c_session.specs.Allowed.{Lines, bytes_of, Standing, AnswerReplies, MemoryReplies, IsQuitLine, ClaimEnds, event_text}
 use Rattle.assign_tree.specs.Assigning.{IsBody, AreNames, program_with, point_row, point_rows}
 use Rattle.c_model.specs.Rows.{object_row, object_rows, object_symbol, main_symbol}
 use Rattle.assign_tree.specs.Stands.{Stands, Answers, Meets, beginning, stopping, ComesTo, Fails, at_point}
@@ -262,12 +262,11 @@ module _ (tasks : Tasks) (file : List ℕ) where
 
   no_quit_line : (c : Option Command) → is_quit_command c ≡ false → IsQuitLine c → ⊥
   no_quit_line None n q = q
-  no_quit_line (Some command.Quit) n q = absurd (false≢true (sym n))
-  no_quit_line (Some c) n q = other c q
+  no_quit_line (Some c) n q = other c n q
     where
-      other : (c : Command) → IsQuitLine (Some c) → ⊥
-      other command.Quit q = absurd (false≢true (sym n))
-      other _ q = q
+      other : (c : Command) → is_quit_command (Some c) ≡ false → IsQuitLine (Some c) → ⊥
+      other command.Quit n q = absurd (false≢true (sym n))
+      other _ n q = q
 
   -- memory may be wanting for any command but `quit`
   pub no_memory : (line : List ℕ) (old : Session) → is_quit line ≡ false → Replies tasks file (read_of line) old NO_MEMORY old
