@@ -55,6 +55,9 @@ pub times_append : (q : ℕ) (a b : List ℕ) → times q (a ++ b) ≡ times q a
 times_append q [] b = omega arith
 times_append q (r ∷ a) b = omega (arith, times_append q a b)
 
+past : {n : ℕ} → n ≡ 0 → 0 + n ≡ 0
+past h = omega (arith, h)
+
 module _ (q : ℕ) where
   abbrev None_in : List SlotOp → Type 0
   None_in l = stops q l ≡ 0
@@ -174,15 +177,15 @@ module _ (q : ℕ) where
 
       update_none : (d : ℕ) (o : Option ℕ) (t : CType) (b : BinaryOp) (s : CType) (new : Bool) → None_in (update_at p f d o t b s new)
       update_none d None t b s new =
-          op_none _ _ refl (op_none _ _ (combine_none (suc d) (suc (suc d)) (suc d) b t s) (both_none (cast_code (suc d) t) _ (cast_none (suc d) (access_of t)) refl))
+          past (op_none (combine_op p (suc d) (suc (suc d)) (suc d) b t s) (cast_code (suc d) t ++ (op.Store d (suc d) (kind_of t) ∷ op.Take d (if new then suc d else suc (suc d)) ∷ [])) (combine_none (suc d) (suc (suc d)) (suc d) b t s) (both_none (cast_code (suc d) t) (op.Store d (suc d) (kind_of t) ∷ op.Take d (if new then suc d else suc (suc d)) ∷ []) (cast_none (suc d) (access_of t)) refl))
       update_none d (Some x) t b s new =
-          op_none _ _ refl (op_none _ _ (combine_none (suc d) (suc (suc d)) (suc d) b t s) (both_none (cast_code (suc d) t) _ (cast_none (suc d) (access_of t)) refl))
+          past (op_none (combine_op p (suc d) (suc (suc d)) (suc d) b t s) (cast_code (suc d) t ++ (op.WriteRegister (suc d) x (kind_of t) ∷ op.Take d (if new then suc d else suc (suc d)) ∷ [])) (combine_none (suc d) (suc (suc d)) (suc d) b t s) (both_none (cast_code (suc d) t) (op.WriteRegister (suc d) x (kind_of t) ∷ op.Take d (if new then suc d else suc (suc d)) ∷ []) (cast_none (suc d) (access_of t)) refl))
 
       combined_none : (d : ℕ) (o : BinaryOp) (s t : CType) → None_in (combine_op p d d (suc d) o s t ∷ [])
       combined_none d o s t = op_none _ [] (combine_none d d (suc d) o s t) refl
 
       choice_none : (at d : ℕ) (a b : List SlotOp) → None_in a → None_in b → None_in (choice_code at d a b)
-      choice_none at d a b x y = op_none _ _ refl (both_none a _ x (op_none _ b refl y))
+      choice_none at d a b x y = past (both_none a (op.Jump (at + 1 + length a + 1 + length b) ∷ b) x (past y))
 
       assign_none : (a b : Typed) (at d : ℕ) (c : Bool) → None_in (place_code p f at d a) → None_in (place_code p f (at + length (place_code p f at d a)) (suc d) b)
           → None_in (expr_code p f (at + length (unless_register (register_in p f a) (place_code p f at d a))) (suc d) b)
@@ -205,26 +208,28 @@ module _ (q : ℕ) where
             (choice_none _ d (expr_code p f (at + length (expr_code p f at d c) + 1) d a ++ cast_code d h.ctype) _
             (both_none (expr_code p f (at + length (expr_code p f at d c) + 1) d a) _ (expr_none a _ d) (cast_none d (access_of h.ctype)))
             (both_none (expr_code p f (at + length (expr_code p f at d c) + 1 + length (expr_code p f (at + length (expr_code p f at d c) + 1) d a ++ cast_code d h.ctype) + 1) d b) _ (expr_none b _ d) (cast_none d (access_of h.ctype))))
-        expr_none (Or' h x a y b) at d = both_none (expr_code p f at d a) _ (expr_none a at d) (op_none _ _ refl (both_none (expr_code p f (at + length (expr_code p f at d a) + 1) d b) _ (expr_none b _ d) refl))
-        expr_none (And' h x a y b) at d = both_none (expr_code p f at d a) _ (expr_none a at d) (op_none _ _ refl (both_none (expr_code p f (at + length (expr_code p f at d a) + 1) d b) _ (expr_none b _ d) refl))
+        expr_none (Or' h x a y b) at d = both_none (expr_code p f at d a) _ (expr_none a at d) (past (both_none (expr_code p f (at + length (expr_code p f at d a) + 1) d b) _ (expr_none b _ d) refl))
+        expr_none (And' h x a y b) at d = both_none (expr_code p f at d a) _ (expr_none a at d) (past (both_none (expr_code p f (at + length (expr_code p f at d a) + 1) d b) _ (expr_none b _ d) refl))
         expr_none (Binary' h x a o y b) at d =
             both_none (expr_code p f at d a) _ (expr_none a at d) (both_none (expr_code p f (at + length (expr_code p f at d a)) (suc d) b) _ (expr_none b _ (suc d)) (combined_none d o (type_of a) (type_of b)))
         expr_none (Cast' h x a) at d = both_none (expr_code p f at d a) _ (expr_none a at d) (cast_none d (access_of h.ctype))
-        expr_none (Before' h o x a) at d = both_none (unless_register (register_in p f a) (place_code p f at d a)) _ (unless_none (register_in p f a) _ (place_none a at d)) (op_none _ _ refl (update_none d (register_in p f a) (type_of a) (stepping o) ctype.Int true))
+        expr_none (Before' h o x a) at d = both_none (unless_register (register_in p f a) (place_code p f at d a)) _ (unless_none (register_in p f a) _ (place_none a at d)) ((past (update_none d (register_in p f a) (type_of a) (stepping o) ctype.Int true)))
         expr_none (Address' h x a) at d = place_none a at d
         expr_none (Unary' h o x a) at d = both_none (expr_code p f at d a) _ (expr_none a at d) refl
         expr_none (SizeOf' h x a) at d = refl
         expr_none (SizeOfType h t) at d = refl
         expr_none (Call' h g x row) at d = both_none (row_code p f at d row) _ (row_none row at d) (enter_none d (slice_get p.symbols g) (length (exprs row)))
-        expr_none (After' h x a o) at d = both_none (unless_register (register_in p f a) (place_code p f at d a)) _ (unless_none (register_in p f a) _ (place_none a at d)) (op_none _ _ refl (update_none d (register_in p f a) (type_of a) (stepping o) ctype.Int false))
+        expr_none (After' h x a o) at d = both_none (unless_register (register_in p f a) (place_code p f at d a)) _ (unless_none (register_in p f a) _ (place_none a at d)) ((past (update_none d (register_in p f a) (type_of a) (stepping o) ctype.Int false)))
         expr_none (Constant h m) at d = refl
         expr_none (Parens' h x a) at d = expr_none a at d
         expr_none (Name h m) at d =
             both_none (unless_register (register_in p f (Name h m)) (name_code p f d (slice_get p.symbols m))) _ (unless_none (register_in p f (Name h m)) _ (name_none d (slice_get p.symbols m))) (read_none d (register_in p f (Name h m)) h.ctype)
-        expr_none (Literal h m) at d = op_none _ _ refl (load_none d h.ctype)
+        expr_none (Literal h m) at d = past (load_none d h.ctype)
         expr_none (Follow' h x a) at d = both_none (expr_code p f at d a) _ (expr_none a at d) (load_none d h.ctype)
         expr_none (Index' h x a y b) at d =
-            both_none (place_code p f at d (Index' h x a y b)) _ (place_none (Index' h x a y b) at d) (load_none d h.ctype)
+            both_none (place_code p f at d (Index' h x a y b)) _
+            (both_none (expr_code p f at d a) _ (expr_none a at d) (both_none (expr_code p f (at + length (expr_code p f at d a)) (suc d) b) _ (expr_none b _ (suc d)) (combined_none d Add (type_of a) (type_of b))))
+            (load_none d h.ctype)
         expr_none (Dot' h x a m) at d = both_none (place_code p f at d a ++ _) _ (both_none (place_code p f at d a) _ (place_none a at d) refl) (load_none d h.ctype)
         expr_none (Arrow' h x a m) at d = both_none (expr_code p f at d a ++ _) _ (both_none (expr_code p f at d a) _ (expr_none a at d) refl) (load_none d h.ctype)
 
@@ -274,7 +279,7 @@ module _ (q : ℕ) where
 
       zeros_none : (ds : List DeclaredLocal) → None_in (zeros_code ds)
       zeros_none [] = refl
-      zeros_none (d ∷ ds) = op_none _ _ refl (zeros_none ds)
+      zeros_none (d ∷ ds) = past (zeros_none ds)
 
       test_few : (at : ℕ) (o : Option Pointed) (end : ℕ) → stops q (test_code p f at o end) ≤ times q (point_of o)
       test_few at None end = omega arith
@@ -284,7 +289,7 @@ module _ (q : ℕ) where
 
       seeks_none : (ls : List Target) → None_in (seek_code ls)
       seeks_none [] = refl
-      seeks_none (l ∷ ls) = op_none _ _ refl (seeks_none ls)
+      seeks_none (l ∷ ls) = past (seeks_none ls)
 
       loop_few : (at : ℕ) (first : Bool) (t c : Option Pointed) (body : List SlotOp) → stops q (loop_code p f at first t c body) ≤ times q (point_of t) + (times q (point_of c) + stops q body)
       loop_few at first t c body =
