@@ -25,16 +25,13 @@ fn append_run(
     input: &[u8],
     out: &mut Vec<u8>,
 ) -> Result<(), AllocError> {
-    let mut run = match Run::new(alloc, code) {
-        Ok(run) => run,
-        Err(_) => return append(out, "no run"),
-    };
-    let end = match run.go(code, input) {
+    let (end, output) = Run::new(alloc, code)?.go(code, input)?;
+    let end = match end {
         End::Exit(status) => format!(in alloc; "exit {status} ")?,
         end => format!(in alloc; "{end:?} ")?,
     };
     append(out, end.as_str())?;
-    append_escaped(alloc, out, run.into_output().as_bytes())
+    append_escaped(alloc, out, &output)
 }
 
 impl Subject for Programs {
