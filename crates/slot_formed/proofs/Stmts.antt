@@ -14,7 +14,8 @@ use Rattle.c_tree.specs.Rows.{stmts}
 use Rattle.c_tree.specs.Layout.{size_of, leaves_of}
 use Rattle.c_tree.specs.Ordered.{LieIn}
 use Rattle.c_tree.specs.Points.{points_in, points_in_row, points_in_else}
-use Rattle.c_source.specs.Blocks.{local_type, result_type, declared_in, statements_in}
+use Rattle.c_source.specs.Blocks.{local_type, result_type}
+use Rattle.c_tree.specs.Rows.{declared_in, statements_in}
 use Rattle.c_typing.specs.Plain.{Plain, plain}
 use Rattle.c_typing.specs.Statements.{Around as Stands, in_function, in_loop as looped, in_switch as switched, inside, local_numbers, IsTestOrNone, IsDropped, IsInitializer, AreInitialized, IsStatement, AreStatements, IsElse, IsSwitched, locals_of, locals_of_row, locals_of_else}
 use Rattle.c_typing.specs.Accepted.{numbers, IsBlock, IsAccepted}

@@ -18,7 +18,8 @@ use Rattle.c_tree.specs.declared.rows.Referent.TheVariants.{Object, Local, Funct
 use Rattle.c_tree.specs.Rows.{exprs, stmts}
 use Rattle.c_tree.specs.Types.{type_of, target_of, is_array, is_struct, kind_of}
 use Rattle.c_tree.specs.Points.{points_in, points_in_row, points_in_else}
-use Rattle.c_source.specs.Blocks.{declared_in, statements_in, local_type, result_type}
+use Rattle.c_source.specs.Blocks.{local_type, result_type}
+use Rattle.c_tree.specs.Rows.{declared_in, statements_in}
 use Rattle.c_source.specs.Source.{struct_number, stepping}
 use Rattle.slot_ir.specs.declared.code.Access.{Access}
 use Rattle.slot_ir.specs.declared.code.Access.TheVariants as access
