@@ -234,6 +234,16 @@ impl Run {
         }
     }
 
+    /// The address of a static object.
+    fn object(&self, number: u32) -> u32 {
+        word(&self.objects, number)
+    }
+
+    /// The address of a string.
+    fn string(&self, number: u32) -> u32 {
+        word(&self.strings, number)
+    }
+
     /// Makes the strings and the static objects.
     fn add_statics(&mut self, code: &SlotCode) -> Result<(), AllocError> {
         for text in code.strings.as_slice() {
@@ -251,15 +261,15 @@ impl Run {
         }
         let mut number: u32 = 0;
         for object in code.objects.as_slice() {
-            let at = word(&self.objects, number);
+            let at = self.object(number);
             for start in object.start.as_slice() {
                 let value = match start.value {
                     SlotValue::Number(n) => n,
                     SlotValue::Null => 0,
                     SlotValue::Object { object, offset } => {
-                        word(&self.objects, object).saturating_add(offset)
+                        self.object(object).saturating_add(offset)
                     }
-                    SlotValue::Str(k) => word(&self.strings, k),
+                    SlotValue::Str(k) => self.string(k),
                 };
                 self.store(u32::from(start.width), at.saturating_add(start.at), value);
             }
@@ -288,8 +298,13 @@ impl Run {
         }
     }
 
+    /// The temporary at an index of all.
+    fn temp_at(&self, at: u32) -> u32 {
+        word(&self.temps, at)
+    }
+
     fn temp(&self, i: u32) -> u32 {
-        word(&self.temps, self.here.temps.saturating_add(i))
+        self.temp_at(self.here.temps.saturating_add(i))
     }
 
     fn set(&mut self, i: u32, value: u32) {
@@ -327,7 +342,7 @@ impl Run {
         self.open(code);
         let given = caller.temps.saturating_add(at);
         for (i, local) in (0..count).zip(to.locals.as_slice()) {
-            let value = extended(local.access, word(&self.temps, given.saturating_add(i)));
+            let value = extended(local.access, self.temp_at(given.saturating_add(i)));
             let width = if local.size == 1 { 1 } else { 4 };
             self.store(width, self.local(i), value);
         }
@@ -440,8 +455,8 @@ impl Run {
     /// An operator on objects and addresses.
     fn access(&mut self, op: SlotOp) {
         match op {
-            SlotOp::StaticAddress { to, object } => self.set(to, word(&self.objects, object)),
-            SlotOp::TextAddress { to, string } => self.set(to, word(&self.strings, string)),
+            SlotOp::StaticAddress { to, object } => self.set(to, self.object(object)),
+            SlotOp::TextAddress { to, string } => self.set(to, self.string(string)),
             SlotOp::LocalAddress { to, local } => self.set(to, self.local(local)),
             SlotOp::Load {
                 to,
