@@ -1,0 +1,34 @@
+-- What is found in a table of codes.
+use Rattle.std.proofs.Common.{◌≡◌, refl, ap, ℕ, nat_eq, cond, Bool, true, false, List, [], ◌∷◌, Option, Some, None, IfSome, eq-eqb, eqb→eq}
+use Rattle.machine_state.specs.Codes.{at_code, if_exact}
+
+pub if_exact-word_of : {I : Type 0} (word_of : I → ℕ) (w : ℕ) (o : Option I) → IfSome (if_exact word_of w o) (λ i. word_of i ≡ w)
+if_exact-word_of word_of w None = tt
+if_exact-word_of word_of w (Some i) =
+    elim (nat_eq (word_of i) w) as (λ b. nat_eq (word_of i) w ≡ b → IfSome (cond b (Some i) None) (λ j. word_of j ≡ w)) [
+      | true ↦ λ e. eqb→eq (word_of i) w (rw e tt)
+      | false ↦ λ e. tt
+    ] refl
+
+-- an instruction that has the word
+pub exact_of : {I : Type 0} (word_of : I → ℕ) (w : ℕ) (i : I) → word_of i ≡ w → if_exact word_of w (Some i) ≡ Some i
+exact_of word_of w i same = rw same (ap (λ b. cond b (Some i) None) (eq-eqb w w refl))
+
+-- what holds of the instruction that is named holds of it
+pub if_exact-kept : {I : Type 0} (P : I → Type 0) (word_of : I → ℕ) (w : ℕ) (o : Option I) → IfSome o P → IfSome (if_exact word_of w o) P
+if_exact-kept P word_of w None h = tt
+if_exact-kept P word_of w (Some i) h =
+    elim (nat_eq (word_of i) w) as (λ b. IfSome (cond b (Some i) None) P) [ true ↦ h | false ↦ tt ]
+
+-- this holds of what stands beside each code
+abbrev pub AllRows : {T : Type 0} → (T → Type 0) → List (ℕ × T) → Type 0
+AllRows P [] = Unit {0}
+AllRows P (row ∷ rows) = P row.1 × AllRows P rows
+
+if_some : {T : Type 0} (P : T → Type 0) (b : Bool) (x : T) (o : Option T) → P x → IfSome o P → IfSome (cond b (Some x) o) P
+if_some P true x o p h = p
+if_some P false x o p h = h
+
+pub at_code-kept : {T : Type 0} (P : T → Type 0) (code : ℕ) (rows : List (ℕ × T)) → AllRows P rows → IfSome (at_code code rows) P
+at_code-kept P code [] h = tt
+at_code-kept P code (row ∷ rows) h = if_some P (nat_eq code row.0) row.1 (at_code code rows) h.0 (at_code-kept P code rows h.1)
