@@ -42,7 +42,7 @@ pub bit_fits : (b : Bool) → bit_of b < 2 ^ 32
 bit_fits true = lit< tt
 bit_fits false = lit< tt
 
-either_fits : (b : Bool) (x y : ℕ) → x < 2 ^ 32 → y < 2 ^ 32 → (if b then x else y) < 2 ^ 32
+pub either_fits : (b : Bool) (x y : ℕ) → x < 2 ^ 32 → y < 2 ^ 32 → (if b then x else y) < 2 ^ 32
 either_fits true x y h k = h
 either_fits false x y h k = k
 

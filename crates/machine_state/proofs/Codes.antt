@@ -1,6 +1,6 @@
 -- What is found in a table of codes.
-use Rattle.std.proofs.Common.{◌≡◌, refl, ap, ℕ, nat_eq, cond, Bool, true, false, List, [], ◌∷◌, Option, Some, None, IfSome, eq-eqb, eqb→eq}
-use Rattle.machine_state.specs.Codes.{at_code, if_exact}
+use Rattle.std.proofs.Common.{◌≡◌, refl, ap, ℕ, nat_eq, cond, Bool, true, false, if◌then◌else◌, Option, Some, None, IfSome, eq-eqb, eqb→eq}
+use Rattle.machine_state.specs.Codes.{if_exact}
 
 pub if_exact-word_of : {I : Type 0} (word_of : I → ℕ) (w : ℕ) (o : Option I) → IfSome (if_exact word_of w o) (λ i. word_of i ≡ w)
 if_exact-word_of word_of w None = tt
@@ -20,15 +20,11 @@ if_exact-kept P word_of w None h = tt
 if_exact-kept P word_of w (Some i) h =
     elim (nat_eq (word_of i) w) as (λ b. IfSome (cond b (Some i) None) P) [ true ↦ h | false ↦ tt ]
 
--- this holds of what stands beside each code
-abbrev pub AllRows : {T : Type 0} → (T → Type 0) → List (ℕ × T) → Type 0
-AllRows P [] = Unit {0}
-AllRows P (row ∷ rows) = P row.1 × AllRows P rows
+pub either_kept : {T : Type 0} (P : T → Type 0) (b : Bool) (o p : Option T) → IfSome o P → IfSome p P → IfSome (if b then o else p) P
+either_kept P true o p h k = h
+either_kept P false o p h k = k
 
-if_some : {T : Type 0} (P : T → Type 0) (b : Bool) (x : T) (o : Option T) → P x → IfSome o P → IfSome (cond b (Some x) o) P
+-- a row of a table, and the rows behind it
+pub if_some : {T : Type 0} (P : T → Type 0) (b : Bool) (x : T) (o : Option T) → P x → IfSome o P → IfSome (cond b (Some x) o) P
 if_some P true x o p h = p
 if_some P false x o p h = h
-
-pub at_code-kept : {T : Type 0} (P : T → Type 0) (code : ℕ) (rows : List (ℕ × T)) → AllRows P rows → IfSome (at_code code rows) P
-at_code-kept P code [] h = tt
-at_code-kept P code (row ∷ rows) h = if_some P (nat_eq code row.0) row.1 (at_code code rows) h.0 (at_code-kept P code rows h.1)

@@ -1,5 +1,5 @@
 -- What the skeleton of a step does to a machine in which all fits.
-use Rattle.std.proofs.Common.{◌≡◌, ◌∙◌, refl, ℕ, zero, suc, ◌+◌, ◌-◌, ◌^◌, ◌%◌, ◌≤◌, ◌<◌, ◌&&◌, nat_eq, nat_lt, nat_le, Bool, true, false, if◌then◌else◌, List, [], ◌∷◌, ◌++◌, length, Option, Some, None, IfSome, IfOk, Result, Ok, Err, arith, length-append, lit<}
+use Rattle.std.proofs.Common.{◌≡◌, ◌∙◌, refl, ℕ, zero, suc, ◌+◌, ◌-◌, ◌^◌, ◌%◌, ◌≤◌, ◌<◌, ◌&&◌, nat_eq, nat_lt, nat_le, Bool, true, false, if◌then◌else◌, List, [], ◌∷◌, ◌++◌, length, Option, Some, None, IfSome, IfOk, Result, Ok, Err, arith, length-append, lit<, lit≤}
 use Rattle.std.specs.Prelude.{slice_set}
 use Rattle.std.proofs.lemmas.List.{get_or-set_other, length-set}
 use Rattle.std.proofs.lemmas.Bool.Decides.{nat_tests}
@@ -8,14 +8,14 @@ use Rattle.ldb_words.specs.declared.event.Outside.{Outside}
 use Rattle.machine_state.specs.declared.layout.TheConstants.{DATA_SIZE}
 use Rattle.machine_state.specs.Regions.{Regions, write_of}
 use Rattle.machine_state.specs.State.{MachineState, Facts, order_of, with_memory, with_input, given_input, begun}
-use Rattle.machine_state.specs.Step.{Outcome, moved, jumps, on_loaded, stores, byte_read, reads_input, puts, requests, InstructionSet, decoded, fetched, step_by}
-use Rattle.machine_state.specs.Sound.{AllBelow, AreBytes, IsMemory, AreRegisters, IsInput, IsSoundFor, IsWidth}
-use Rattle.machine_state.proofs.Bounds.{sum_fits}
+use Rattle.machine_state.specs.Step.{Outcome, moved, jumps, on_loaded, sign_loaded, stores, byte_read, reads_input, puts, requests, InstructionSet, decoded, fetched, step_by}
+use Rattle.machine_state.specs.Sound.{AllBelow, AreBytes, IsMemory, AreRegisters, IsInput, IsSoundFor, IsWidth, MayBegin}
+use Rattle.machine_state.proofs.Bounds.{sum_fits, extended_fits}
 use Rattle.machine_state.proofs.SoundMemory.{below_append, LoadedBelow, write_memory, first_memory, fetch_fits}
 
 -- ---- registers
 
-below_set : (bound : ℕ) (xs : List ℕ) (i v : ℕ) → v < bound → AllBelow bound xs → AllBelow bound (slice_set xs i v)
+pub below_set : (bound : ℕ) (xs : List ℕ) (i v : ℕ) → v < bound → AllBelow bound xs → AllBelow bound (slice_set xs i v)
 below_set bound [] i v h k = tt
 below_set bound (x ∷ xs) zero v h k = (h, k.1)
 below_set bound (x ∷ xs) (suc i) v h k = (k.0, below_set bound xs i v h k.1)
@@ -31,6 +31,20 @@ pub if_not_zero : (b : Bool) (count : ℕ) (words : List ℕ) (r i v : ℕ) → 
     → AreRegisters count (if b then words else slice_set words i v)
 if_not_zero true count words r i v e some fits h = h
 if_not_zero false count words r i v e some fits h = register_set count words i v (some e) fits h
+
+-- ---- what was loaded, as a word
+
+pub loaded_fits : (bound : ℕ) (x : Result ℕ FaultKind) → bound ≤ 2 ^ 32 → LoadedBelow bound x → LoadedBelow (2 ^ 32) x
+loaded_fits bound (Ok v) h k = omega (arith, h, k)
+loaded_fits bound (Err kind) h k = tt
+
+pub signed_byte_fits : (x : Result ℕ FaultKind) → LoadedBelow 256 x → LoadedBelow (2 ^ 32) (sign_loaded 8 x)
+signed_byte_fits (Ok v) h = extended_fits 8 v h (lit≤ tt)
+signed_byte_fits (Err kind) h = tt
+
+pub signed_half_fits : (x : Result ℕ FaultKind) → LoadedBelow (2 ^ 16) x → LoadedBelow (2 ^ 32) (sign_loaded 16 x)
+signed_half_fits (Ok v) h = extended_fits 16 v h (lit≤ tt)
+signed_half_fits (Err kind) h = tt
 
 -- ---- machines; a target with so many registers
 
@@ -171,15 +185,10 @@ module _ {target count : ℕ} {AreSpecial : List ℕ → Type 0} where
   pub given_sound : (m : MachineState) (bytes : List ℕ) → AreBytes bytes → IsSoundFor target count AreSpecial m → IsSoundFor target count AreSpecial (given_input bytes m).1
   given_sound m bytes h s = more_input m bytes (nat_le (m.given + length bytes) (2 ^ 24)) refl h s
 
-  pub begun_sound : (registers special : List ℕ) (entry : ℕ) (text statics : List ℕ) → AreRegisters count registers → AreSpecial special → entry < 2 ^ 32
-      → AreBytes text → length text ≤ 2 ^ 24 → AreBytes statics → length statics ≤ DATA_SIZE → IsSoundFor target count AreSpecial (begun target registers special entry text statics)
-  begun_sound registers special entry text statics r sp e t tf d df = record {
-    target_is = refl;
-    registers = r;
-    special = sp;
-    pc_fits = e;
-    next_pc_fits = sum_fits entry 4;
-    memory = first_memory text statics t tf d df;
-    input = record { each = tt; within = omega arith; fits = omega arith };
-    put_fits = tt;
+  pub begun_sound : (registers special : List ℕ) (entry : ℕ) (text statics : List ℕ) → AreRegisters count registers → AreSpecial special → MayBegin entry text statics
+      → IsSoundFor target count AreSpecial (begun target registers special entry text statics)
+  begun_sound registers special entry text statics r sp b = record {
+    target_is = refl; registers = r; special = sp; pc_fits = b.entry_fits; next_pc_fits = sum_fits entry 4;
+    memory = first_memory text statics b.text_bytes b.text_fits b.static_bytes b.statics_fit;
+    input = record { each = tt; within = omega arith; fits = omega arith }; put_fits = tt;
   }

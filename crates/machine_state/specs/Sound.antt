@@ -52,6 +52,14 @@ pub record IsSoundFor (target count : ℕ) (AreSpecial : List ℕ → Type 0) (m
   pub input : IsInput m.left m.given
   pub put_fits : IsByteIfAny m.put
 
+-- an entry, a text and the bytes that the data begin with, as an image has them
+pub record MayBegin (entry : ℕ) (text statics : List ℕ) : Type 0 where
+  pub entry_fits : entry < 2 ^ 32
+  pub text_bytes : AreBytes text
+  pub text_fits : length text ≤ 2 ^ 24
+  pub static_bytes : AreBytes statics
+  pub statics_fit : length statics ≤ DATA_SIZE
+
 -- the widths of accesses
 abbrev pub IsWidth : ℕ → Type 0
 IsWidth n = (n ≡ 1) ⊎ ((n ≡ 2) ⊎ (n ≡ 4))
