@@ -1,5 +1,4 @@
+pub mod Counted
 pub mod Ends
-pub mod Outputs
-pub mod Replies
 pub mod Stretches
 pub mod Turns

@@ -8,6 +8,10 @@ ghost use Rattle.nub_wire.specs.Feeding.{FeedsAll, Feeds, nothing_fed, Splits, B
 ghost use Rattle.nub_wire.specs.declared.feeder.Fed.TheVariants as fed;
 ghost use Rattle.nub_wire.specs.Delivery.{Conduct};
 ghost use Rattle.nub_wire.specs.Silence.{NothingSaysQuiet, QuietGivesNothing};
+ghost use Rattle.nub_wire.specs.Exchange.{ExchangeLaw};
+ghost use Rattle.machine_state.specs.State.{Behaviour};
+ghost use Rattle.nub_wire.specs.Nub.{Host, handled, turn_of};
+ghost use Rattle.nub_wire.specs.Heard.{IsShut, IsWithin, Resumes, GivesBytes, MayAsk, IsAnswered};
 
 /// No frame begins another, and no two messages have one frame.
 pub fn one_message()
@@ -29,4 +33,17 @@ pub fn any_pieces()
 pub fn quiet_until_sent()
     ensures only { (c : Conduct) → NothingSaysQuiet c }
     ensures stays { (c : Conduct) → QuietGivesNothing c }
+{}
+
+/// What a nub answers is heard as the reply that is owed: one message at once or, of a resume, no more output than turns
+/// and then one message that ends it.
+pub fn replies_are_heard()
+    ensures at_once { (b : Behaviour) (m : Msg) (h : Host) → h.nub.blocked ≡ false → h.nub.killed ≡ false → IsShut h.nub → GivesBytes h.machine → MayAsk m h.machine → IsAnswered m (handled b m h) }
+    ensures later { (b : Behaviour) (n turns printed : ℕ) (h : Host) → IsWithin turns printed h.nub → Resumes turns printed (turn_of b n h) }
+{}
+
+/// From an idle side, under any schedule, what is received after the frame of a message that is answered at once is exactly
+/// the nub's reply: then the side is idle again, and so is the other one where it was.
+pub fn exchange()
+    ensures { (c : Conduct) → ExchangeLaw c }
 {}
