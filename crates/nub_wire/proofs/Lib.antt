@@ -1,3 +1,4 @@
+pub mod AtOnce
 pub mod Cuts
 pub mod Feeds
 pub mod Fronts
@@ -8,4 +9,5 @@ pub mod Replies
 pub mod Sides
 pub mod Silence
 pub mod Streams
+pub mod Told
 pub mod Worlds

@@ -15,15 +15,16 @@ pub data Sends {S : Type 0} (took : S → List ℕ → ℕ → S → Type 0) : S
   none_sent : {s : S} → Sends took s [] s
   sends : {s t u : S} (sent piece : List ℕ) (n : ℕ) → Sends took s sent t → took t piece n u → Sends took s (sent ++ take n piece) u
 
--- the last of some sends took none of what was left of some bytes
+-- the last of some sends took none of a piece that was next in some bytes
 pub record SendsNone {S : Type 0} (took : S → List ℕ → ℕ → S → Type 0) (bytes : List ℕ) (s u : S) : Type 0 where
   pub between : S
   pub front : List ℕ
-  pub rest : List ℕ
-  pub whole : front ++ rest ≡ bytes
-  pub some : rest ≢ []
+  pub piece : List ℕ
+  pub behind : List ℕ
+  pub whole : front ++ (piece ++ behind) ≡ bytes
+  pub some : piece ≢ []
   pub sent : Sends took s front between
-  pub none : took between rest 0 u
+  pub none : took between piece 0 u
 
 -- ---- receives
 

@@ -1,3 +1,4 @@
+pub mod AtOnce
 pub mod Calls
 pub mod Delivery
 pub mod Endings
@@ -11,3 +12,4 @@ pub mod Rest
 pub mod Silence
 pub mod Spelling
 pub mod Stream
+pub mod Told

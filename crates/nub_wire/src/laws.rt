@@ -8,7 +8,9 @@ ghost use Rattle.nub_wire.specs.Feeding.{FeedsAll, Feeds, nothing_fed, Splits, B
 ghost use Rattle.nub_wire.specs.declared.feeder.Fed.TheVariants as fed;
 ghost use Rattle.nub_wire.specs.Delivery.{Conduct};
 ghost use Rattle.nub_wire.specs.Silence.{NothingSaysQuiet, QuietGivesNothing};
+ghost use Rattle.nub_wire.specs.AtOnce.{FetchLaw, StoreLaw, ShortLaws};
 ghost use Rattle.nub_wire.specs.Exchange.{ExchangeLaw};
+ghost use Rattle.nub_wire.specs.Told.{NoBadReply};
 ghost use Rattle.machine_state.specs.State.{Behaviour};
 ghost use Rattle.nub_wire.specs.Nub.{Host, handled, turn_of};
 ghost use Rattle.nub_wire.specs.Heard.{IsShut, IsWithin, Resumes, GivesBytes, MayAsk, IsAnswered};
@@ -46,4 +48,18 @@ pub fn replies_are_heard()
 /// the nub's reply: then the side is idle again, and so is the other one where it was.
 pub fn exchange()
     ensures { (c : Conduct) → ExchangeLaw c }
+{}
+
+/// Fetches and stores of a nub at rest over a machine whose memory holds bytes, and the other messages that it replies to at
+/// once.
+pub fn answers_at_rest()
+    ensures fetch { (c : Conduct) → FetchLaw c }
+    ensures store { (c : Conduct) → StoreLaw c }
+    ensures short { (b : Behaviour) → ShortLaws b }
+{}
+
+/// Under any schedule and in pieces of any sizes, a link that tells its nubs gives no bad reply to a message from an idle side
+/// that is answered at once.
+pub fn told_links_answer()
+    ensures { (c : Conduct) → NoBadReply c }
 {}

@@ -13,7 +13,10 @@ mod reply;
 pub use encoding::encode;
 pub use ending::{ending_of, is_final, reply_of};
 pub use feeder::{Fed, Feeder};
-pub use laws::{any_pieces, exchange, one_message, quiet_until_sent, replies_are_heard};
+pub use laws::{
+    answers_at_rest, any_pieces, exchange, one_message, quiet_until_sent, replies_are_heard,
+    told_links_answer,
+};
 pub use machine_state::Cause;
 pub use link::{Entry, Link, Side};
 pub use message::{Chunk, Ending, Msg, Reason, Size};
