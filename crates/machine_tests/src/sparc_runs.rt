@@ -228,7 +228,7 @@ static EVENTS: [(u32, Event); 13] = [
     (0xc223a002, Event::Fault(FaultKind::Align)),
     (0xc233a001, Event::Fault(FaultKind::Align)),
     (0x00000000, Event::Fault(FaultKind::Illegal)),
-    (0x83c3a002, Event::Fault(FaultKind::Align)),
+    (0x83c3a002, Event::Went),
     (0x81e80000, Event::Fault(FaultKind::Window)),
 ];
 
@@ -249,6 +249,13 @@ fn events(rt: HostRuntime) {
     assert_eq!(rt;
         after(&mut machine, &[0x03001000, 0xc2204000], 2),
         Some(Event::Fault(FaultKind::Outside))
+    );
+    // sethi %hi(00400000),%g1; jmpl %g1+2,%g0; nop: the fetch behind the delay slot is the fault
+    let crooked = [0x0300_1000, 0x81c0_6002, 0x0100_0000];
+    assert_eq!(rt; after(&mut machine, &crooked, 3), WENT);
+    assert_eq!(rt;
+        after(&mut machine, &crooked, 4),
+        Some(Event::Fault(FaultKind::Align))
     );
     // seven times save %g0, 0, %sp after mov 0, %sp: the seventh is to spill window 0 to 0
     let mut words = [0x81e0_0000; 8];

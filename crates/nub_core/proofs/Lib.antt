@@ -1,4 +1,5 @@
-pub mod Counted
+pub mod CountedTurns
 pub mod Ends
+pub mod ResumesAreRuns
 pub mod Stretches
 pub mod Turns

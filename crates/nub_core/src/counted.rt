@@ -17,22 +17,26 @@ pub struct Told {
 impl<T: Target> Nub<T> {
     /// Goes on with an open resume for at most n instructions, up to its next message, and tells how many it ran for that.
     /// Nothing is run where no resume is open.
-    #[tactic(auto, using(crate::proofs::Counted::none_before, crate::proofs::Counted::one_more, crate::proofs::Counted::told_next))]
+
     pub fn turn_counted(&mut self, n: u32) -> Option<Told>
         ensures told { IfSome result (λ t. turn_of T.behaviour t.count self.old ≡ (Some t.message, self.new)) }
         ensures within { IfSome result (λ t. t.count ≤ n) }
         ensures fewest { IfSome result (λ t. (j : ℕ) → j < t.count → (turn_of T.behaviour j self.old).0 ≡ None) }
         ensures quiet { IfNone result (turn_of T.behaviour n self.old ≡ (None, self.new)) }
     {
-        if let Some(message) = self.turn(0) {
-            return Some(Told { message, count: 0 });
+        match self.turn(0) {
+            None => {}
+            Some(message) => return Some(Told { message, count: 0 }),
         }
         for done in 0..n {
-            if let Some(message) = self.turn(1) {
-                return Some(Told {
-                    message,
-                    count: done + 1,
-                });
+            match self.turn(1) {
+                None => {}
+                Some(message) => {
+                    return Some(Told {
+                        message,
+                        count: done + 1,
+                    });
+                }
             }
         }
         None

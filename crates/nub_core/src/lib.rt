@@ -6,5 +6,5 @@ mod laws;
 mod nub;
 
 pub use counted::Told;
-pub use laws::{turns_add, turns_stop};
+pub use laws::{resumes_are_runs, turns_add, turns_stop};
 pub use nub::Nub;

@@ -29,3 +29,6 @@ one_more b k h now next at one = turn_of-add b k 1 h now at ∙ one
 
 pub told_next : (b : Behaviour) (k : ℕ) (h now next : Host) (m : Msg) → turn_of b k h ≡ (None, now) → turn_of b 1 now ≡ (Some m, next) → turn_of b (k + 1) h ≡ (Some m, next)
 told_next b k h now next m at one = turn_of-add b k 1 h now at ∙ one
+
+pub quiet_end : (b : Behaviour) (n k : ℕ) (h now : Host) → turn_of b k h ≡ (None, now) → n ≤ k → k ≤ n → turn_of b n h ≡ (None, now)
+quiet_end b n k h now at less more = let same : k ≡ n = omega arith in ap (λ (j : ℕ). turn_of b j h) (sym same) ∙ at
