@@ -188,7 +188,12 @@ module _ {target count : ℕ} {AreSpecial : List ℕ → Type 0} where
   pub begun_sound : (registers special : List ℕ) (entry : ℕ) (text statics : List ℕ) → AreRegisters count registers → AreSpecial special → MayBegin entry text statics
       → IsSoundFor target count AreSpecial (begun target registers special entry text statics)
   begun_sound registers special entry text statics r sp b = record {
-    target_is = refl; registers = r; special = sp; pc_fits = b.entry_fits; next_pc_fits = sum_fits entry 4;
+    target_is = refl;
+    registers = r;
+    special = sp;
+    pc_fits = b.entry_fits;
+    next_pc_fits = sum_fits entry 4;
     memory = first_memory text statics b.text_bytes b.text_fits b.static_bytes b.statics_fit;
-    input = record { each = tt; within = omega arith; fits = omega arith }; put_fits = tt;
+    input = record { each = tt; within = omega arith; fits = omega arith };
+    put_fits = tt;
   }

@@ -201,7 +201,7 @@ module _ {m : MachineState} (s : IsSoundFor MIPS 32 AreHiLo m) where
   saved-sound =
       let two : length (m.special ++ (m.pc ∷ m.next_pc ∷ [])) ≡ 4 = omega (arith, length-append m.special (m.pc ∷ m.next_pc ∷ []), s.special.0) in
       let size : length (m.registers ++ (m.special ++ (m.pc ∷ m.next_pc ∷ []))) ≡ 36 =
-        omega (arith, length-append m.registers (m.special ++ (m.pc ∷ m.next_pc ∷ [])), s.registers.count_is, two) in
+      omega (arith, length-append m.registers (m.special ++ (m.pc ∷ m.next_pc ∷ [])), s.registers.count_is, two) in
       memory_sound s _ (saved_memory Little _ m.memory size s.memory)
 
   restored_from-sound : (ws : List ℕ) → length ws ≡ 36 → AllBelow (2 ^ 32) ws → IsSound (restored_from ws m)

@@ -202,7 +202,7 @@ run_told b zero h o = due_told b h o
 run_told b (suc n) h o =
     then_told b (total b h) (due_of b h) (λ (g : Host). running b n (advanced b g)) (due_told b h o)
     (λ (g : Host) (is : total b g ≡ total b h) (none : g.nub.ended ≡ None) (k : Open g).
-      subst (λ (w : Whole). StepTold b w (running b n (advanced b g))) (advanced_total b g none ∙ is) (run_told b n (advanced b g) (advanced_open b g k)))
+    subst (λ (w : Whole). StepTold b w (running b n (advanced b g))) (advanced_total b g none ∙ is) (run_told b n (advanced b g) (advanced_open b g k)))
 
 open_told : (b : Behaviour) (w : Whole) (left : Option ℕ) (x y : Replied) → (k : ℕ) × (left ≡ Some k) → StepTold b w y → StepTold b w (if_open left x y)
 open_told b w None x y o s = let e : None ≡ Some o.0 = o.1 in cc

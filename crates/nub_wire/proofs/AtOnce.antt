@@ -86,14 +86,16 @@ pub store_law : (c : Conduct) (side : LinkSide) (at : ℕ) (s : Size) (v : ℕ) 
     → RepliesAtOnce c (msg.Store at s v) side.host (store_reply (store_of side.host.machine at s v)) (after_store (store_of side.host.machine at s v) side.host)
     × (ends_reply (msg.Store at s v) (store_reply (store_of side.host.machine at s v)) ≡ true)
 store_law c side at s v meets rest small fits =
-    let r = store_of side.host.machine at s v in
-    (record {
-      fits = (small, fits);
-      reply_fits = done_fits r;
-      is = store_handled c side at s v meets rest;
-      none_open = ap (λ x. x.left) (nub_same r side.host) ∙ rest.idle.none_open;
-      takes = ap (λ x. x.blocked) (nub_same r side.host) ∙ rest.idle.takes;
-    }, done_ends at v s r)
+    let r = store_of side.host.machine at s v in (
+      record {
+        fits = (small, fits);
+        reply_fits = done_fits r;
+        is = store_handled c side at s v meets rest;
+        none_open = ap (λ x. x.left) (nub_same r side.host) ∙ rest.idle.none_open;
+        takes = ap (λ x. x.blocked) (nub_same r side.host) ∙ rest.idle.takes;
+      },
+      done_ends at v s r,
+    )
 
 -- ---- other messages
 
@@ -122,6 +124,6 @@ short_laws b = record {
   memory = record { fetches = λ at s h. refl; stores = λ at s v h. refl };
   hello = λ (side : LinkSide) (rest : IsAtRest side). record { fits = tt; reply_fits = omega arith; is = hello_handled b side rest; none_open = rest.idle.none_open; takes = rest.idle.takes };
   input = λ (side : LinkSide) (bytes : List ℕ) (rest : IsAtRest side) (fits : IsChunk bytes) room.
-    record { fits = fits; reply_fits = tt; is = input_handled b side bytes rest room; none_open = rest.idle.none_open; takes = rest.idle.takes };
+      record { fits = fits; reply_fits = tt; is = input_handled b side bytes rest room; none_open = rest.idle.none_open; takes = rest.idle.takes };
   kill = λ (side : LinkSide) (rest : IsAtRest side). record { fits = tt; reply_fits = tt; is = kill_handled b side rest; none_open = rest.idle.none_open; takes = rest.idle.takes };
 }

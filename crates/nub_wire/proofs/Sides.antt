@@ -112,7 +112,7 @@ after_one c m r g h s byte rest fed.NotYet feeding p a b f =
     let held : List ℕ = s.feeding.held ++ (byte ∷ []) in
     let whole : rest ≡ [] → held ≡ frame_of m = λ (e : rest ≡ []). sym (append_nil held) ∙ ap (λ (l : List ℕ). held ++ l) (sym e) ∙ b.spelled in
     let joined : rest ≡ [] → frame_of m ++ f.partial.rest ≡ frame_of f.partial.message ++ [] =
-      λ (e : rest ≡ []). ap (λ (l : List ℕ). l ++ f.partial.rest) (sym (whole e)) ∙ f.partial.whole ∙ sym (append_nil (frame_of f.partial.message)) in
+    λ (e : rest ≡ []). ap (λ (l : List ℕ). l ++ f.partial.rest) (sym (whole e)) ∙ f.partial.whole ∙ sym (append_nil (frame_of f.partial.message)) in
     let some : rest ≢ [] = λ (e : rest ≡ []). f.partial.some ((one_message_lem m f.partial.message f.partial.rest [] p.fits f.partial.fits (joined e)).1) in
     inl (record { asking = record { spelled = ap (λ (x : Feeding). x.held ++ rest) f.new_is ∙ b.spelled; some = some; good = ap (λ (x : Feeding). x.is_bad) f.new_is; host_is = a.host_is; none_answered = a.none_answered; none_ready = a.none_ready }; none_got = refl })
 after_one c m r g h s byte rest (fed.Msg m' used) feeding p a b f =
@@ -122,7 +122,7 @@ after_one c m r g h s byte rest (fed.Msg m' used) feeding p a b f =
     let same : c.handles m' s.host ≡ (Some r, h) = ap (λ (x : Msg). c.handles x s.host) o.0 ∙ ap (c.handles m) a.host_is ∙ p.is in
     let is : replied t (c.handles m' s.host) ≡ record t { host = h; answers = s.answers ++ frame_of r } = replied_is t (c.handles m' s.host) r h same in
     let told : Answering r h [] (record t { host = h; answers = s.answers ++ frame_of r }) =
-      record { none_sent = o.1; none_begun = ap (λ (x : Feeding). x.held) f.new_is; good = ap (λ (x : Feeding). x.is_bad) f.new_is; host_is = refl; spelled = rw (a.none_ready, a.none_answered) refl } in
+    record { none_sent = o.1; none_begun = ap (λ (x : Feeding). x.held) f.new_is; good = ap (λ (x : Feeding). x.is_bad) f.new_is; host_is = refl; spelled = rw (a.none_ready, a.none_answered) refl } in
     inr (subst (Answering r h []) (sym is) told)
 after_one c m r g h s byte rest (fed.BadFrame at) feeding p a b f =
     absurd (f.none m rest [] p.fits (b.spelled ∙ sym (append_nil (frame_of m))))
@@ -179,7 +179,7 @@ ready_on m r g h got s n (inl x) =
     inl (record { asking = record { spelled = a.spelled; some = a.some; good = a.good; host_is = a.host_is; none_answered = none; none_ready = nothing }; none_got = x.none_got })
 ready_on m r g h got s n (inr a) =
     let same : (s.ready ++ take n s.answers) ++ drop n s.answers ≡ s.ready ++ s.answers =
-      append_assoc s.ready (take n s.answers) (drop n s.answers) ∙ ap (λ (l : List ℕ). s.ready ++ l) (split_at n s.answers) in
+    append_assoc s.ready (take n s.answers) (drop n s.answers) ∙ ap (λ (l : List ℕ). s.ready ++ l) (split_at n s.answers) in
     inr (record { none_sent = a.none_sent; none_begun = a.none_begun; good = a.good; host_is = a.host_is; spelled = ap (λ (l : List ℕ). got ++ l) same ∙ a.spelled })
 
 -- the nub waits for a message, before and after

@@ -78,9 +78,9 @@ moved_other : (c : Conduct) (e : Entry) (side : Side) (m r : Msg) (g h : Host) (
     → side_of (other side) w ≡ Some s → Moves c e s t → w' ≡ on_side (other side) (λ _. t) w → Stands side m g r h got v w → Stands side m g r h got v w'
 moved_other c e side m r g h got v w w' s t there move new x =
     let keeps : KeepsOther side v (on_side (other side) (λ _. t) w) = λ (o : LinkSide) (is : side_of (other side) v ≡ Some o) (i : IsIdle o).
-      let same : s ≡ o = some_is s o (sym there ∙ x.keeps o is i) in
-      let stays : t ≡ s = idle_moves c e s t (subst IsIdle (sym same) i) move in
-      set_side (other side) w s t there ∙ ap (λ (y : LinkSide). Some y) (stays ∙ same) in
+    let same : s ≡ o = some_is s o (sym there ∙ x.keeps o is i) in
+    let stays : t ≡ s = idle_moves c e s t (subst IsIdle (sym same) i) move in
+    set_side (other side) w s t there ∙ ap (λ (y : LinkSide). Some y) (stays ∙ same) in
     let y : Stands side m g r h got v (on_side (other side) (λ _. t) w) = record {
       now = x.now;
       there = same_side side w (λ _. t) ∙ x.there;
@@ -139,7 +139,7 @@ waits_on {c = c} {side = side} {w = w} m r g h got v p x (enters {v = next} s e 
 waits_on {c = c} {side = side} {w = w} m r g h got v p x (used_up s t there none last out) =
     let o = out_on c m r g h got s t s.answers p.none_open p.takes p.replies (stands_at side m g r h got v w s there x) refl out in
     let y : Stands side m g r h got v (on_side side (λ _. t) w) =
-      record { now = t; there = set_side side w s t there; stands = inr o.0; keeps = keeps_on side (λ _. t) v w x.keeps } in
+    record { now = t; there = set_side side w s t there; stands = inr o.0; keeps = keeps_on side (λ _. t) v w x.keeps } in
     record { stands = y; some = all_ready_some r h got t o.0 o.1 }
 
 -- ---- a receive
@@ -157,8 +157,8 @@ given_on m r g h got s n (inl x) =
     inl (record { asking = record { spelled = a.spelled; some = a.some; good = a.good; host_is = a.host_is; none_answered = a.none_answered; none_ready = none }; none_got = still })
 given_on m r g h got s n (inr a) =
     let same : (got ++ take n s.ready) ++ (drop n s.ready ++ s.answers) ≡ got ++ (s.ready ++ s.answers) =
-      append_assoc got (take n s.ready) (drop n s.ready ++ s.answers)
-      ∙ ap (λ (l : List ℕ). got ++ l) (sym (append_assoc (take n s.ready) (drop n s.ready) s.answers) ∙ ap (λ (l : List ℕ). l ++ s.answers) (split_at n s.ready)) in
+    append_assoc got (take n s.ready) (drop n s.ready ++ s.answers)
+    ∙ ap (λ (l : List ℕ). got ++ l) (sym (append_assoc (take n s.ready) (drop n s.ready) s.answers) ∙ ap (λ (l : List ℕ). l ++ s.answers) (split_at n s.ready)) in
     inr (record { none_sent = a.none_sent; none_begun = a.none_begun; good = a.good; host_is = a.host_is; spelled = same ∙ a.spelled })
 
 -- more was heard, and something where there was more to come
@@ -219,16 +219,18 @@ whole_idle : (c : Conduct) (m r : Msg) (g h : Host) (got : List ℕ) (s : LinkSi
     → IsIdle s × (s.host ≡ h)
 whole_idle c m r g h got s p e (inl x) = absurd (frame_some r (sym e ∙ x.none_got))
 whole_idle c m r g h got s p e (inr a) =
-    let none : s.ready ++ s.answers ≡ [] = cancel got (s.ready ++ s.answers) [] (a.spelled ∙ sym e ∙ sym (append_nil got)) in
-    (record {
-      none_sent = a.none_sent;
-      none_begun = a.none_begun;
-      good = a.good;
-      none_answered = nil_right s.ready s.answers none;
-      none_ready = nil_left s.ready s.answers none;
-      none_open = ap (λ (k : Host). k.nub.left) a.host_is ∙ p.none_open;
-      takes = ap (λ (k : Host). k.nub.blocked) a.host_is ∙ p.takes;
-    }, a.host_is)
+    let none : s.ready ++ s.answers ≡ [] = cancel got (s.ready ++ s.answers) [] (a.spelled ∙ sym e ∙ sym (append_nil got)) in (
+      record {
+        none_sent = a.none_sent;
+        none_begun = a.none_begun;
+        good = a.good;
+        none_answered = nil_right s.ready s.answers none;
+        none_ready = nil_left s.ready s.answers none;
+        none_open = ap (λ (k : Host). k.nub.left) a.host_is ∙ p.none_open;
+        takes = ap (λ (k : Host). k.nub.blocked) a.host_is ∙ p.takes;
+      },
+      a.host_is,
+    )
 
 pub whole_exchanged : (c : Conduct) (side : Side) (m r : Msg) (g h : Host) (got : List ℕ) (v w : World) → Open c m g r h → got ≡ frame_of r
     → Stands side m g r h got v w → Exchanged side h v w
@@ -244,7 +246,7 @@ reply_of_stands c side m r g h got v w p x =
       front = f.is;
       whole = λ (e : f.rest ≡ []). whole_exchanged c side m r g h got v w p (sym (append_nil got) ∙ ap (λ (l : List ℕ). got ++ l) (sym e) ∙ f.is) x;
       more = λ (size : ℕ) (bytes : List ℕ) (u : World) (some : f.rest ≢ []) (get : Receives c side (suc size) bytes w u).
-        (receives_on c side m r g h got bytes size v w u p x get).some (λ (e : got ≡ frame_of r). some (cancel got f.rest [] (f.is ∙ sym e ∙ sym (append_nil got))));
+          (receives_on c side m r g h got bytes size v w u p x get).some (λ (e : got ≡ frame_of r). some (cancel got f.rest [] (f.is ∙ sym e ∙ sym (append_nil got))));
     }
 
 hears_on : {c : Conduct} {side : Side} {got : List ℕ} {w u : World} (m r : Msg) (g h : Host) (v : World) → Open c m g r h

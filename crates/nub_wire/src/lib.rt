@@ -17,7 +17,7 @@ pub use laws::{
     answers_at_rest, any_pieces, exchange, one_message, quiet_until_sent, replies_are_heard,
     told_links_answer,
 };
-pub use machine_state::Cause;
 pub use link::{Entry, Link, Side};
+pub use machine_state::Cause;
 pub use message::{Chunk, Ending, Msg, Reason, Size};
 pub use reply::{Heard, ends_reply, hear};
