@@ -1,6 +1,6 @@
-use Rattle.nub_core.proofs.Outputs.{turn_heard}
-use Rattle.nub_core.proofs.Replies.{handle_answered}
-use Rattle.nub_core.proofs.laws.replies_are_heard.Goals as goal
+use Rattle.nub_wire.proofs.Outputs.{turn_heard}
+use Rattle.nub_wire.proofs.Replies.{handle_answered}
+use Rattle.nub_wire.proofs.laws.replies_are_heard.Goals as goal
 
 pub returns-clause-at_once : goal.returns-clause-at_once
 returns-clause-at_once c = handle_answered

@@ -9,12 +9,12 @@ use Rattle.nub_wire.specs.declared.message.Msg.TheVariants as msg
 use Rattle.nub_wire.specs.declared.message.Ending.{Ending}
 use Rattle.nub_wire.specs.declared.message.Ending.TheVariants as ending
 use Rattle.nub_wire.specs.declared.reply.Heard.TheVariants.{GoesOn, Bad}
-use Rattle.nub_wire.specs.declared.ending.Cause.{Cause}
-use Rattle.nub_wire.specs.declared.ending.Cause.TheVariants as cause
+use Rattle.machine_state.specs.declared.target.Cause.{Cause}
+use Rattle.machine_state.specs.declared.target.Cause.TheVariants as cause
 use Rattle.nub_wire.specs.Endings.{reply_of}
 use Rattle.nub_wire.specs.Replies.{heard, printing}
 use Rattle.nub_wire.specs.Nub.{NubState, Host, Replied, host, due, due_of, settle, settled, concluded, requested, acted, advance, advanced, turned, running, or_then, if_open, turn_of, told_ending, told_output}
-use Rattle.nub_core.specs.Heard.{AreWithin, IsWithin, IsShut, IsHeard, Resumes}
+use Rattle.nub_wire.specs.Heard.{AreWithin, IsWithin, IsShut, IsHeard, Resumes}
 
 -- ---- what is told
 

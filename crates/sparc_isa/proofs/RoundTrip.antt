@@ -1,6 +1,6 @@
--- What fits in the fields of each instruction, and that words and instructions are one another's.
-use Rattle.std.specs.Prelude.{◌≡◌, ℕ, ◌+◌, ◌*◌, ◌/◌, ◌%◌, ◌<◌, ◌^◌, nat_eq, Bool, true, false, cond, Option, Some, None, IfSome, refl}
-use Rattle.std.proofs.Common.{ap, eq-eqb, eqb→eq, lit<, arith}
+-- Words and instructions are one another's.
+use Rattle.std.specs.Prelude.{◌≡◌, ℕ, ◌+◌, ◌*◌, ◌/◌, ◌%◌, ◌<◌, ◌^◌, nat_eq, Bool, true, false, Option, Some, IfSome, refl}
+use Rattle.std.proofs.Common.{ap, lit<, arith}
 use Rattle.ldb_words.specs.Word.{bit_of}
 use Rattle.sparc_isa.specs.declared.operand.Operand.{Operand}
 use Rattle.sparc_isa.specs.declared.operand.Operand.TheVariants.{Register, Immediate}
@@ -13,57 +13,9 @@ use Rattle.sparc_isa.specs.declared.condition.Condition.TheVariants.{Never, Equa
 use Rattle.sparc_isa.specs.declared.insn.Insn.{Insn}
 use Rattle.sparc_isa.specs.declared.insn.Insn.TheVariants.{Call, Bicc, Sethi, Add, And, Or, Xor, Sub, Andn, Orn, Xnor, Umul, Smul, Udiv, Sdiv, Subcc, Sll, Srl, Sra, Rdy, Wry, Jmpl, Ticc, Save, Restore, Ld, Ldub, Lduh, St, Stb, Sth, Ldsb, Ldsh}
 use Rattle.sparc_isa.specs.Condition.{condition_code, condition_of}
-use Rattle.sparc_isa.specs.Codec.{operand_word, shift_word, trap_word, call_format, wide_format, operand_format, word_of, op_of, displacement_of, five_of, op2_of, wide_of, op3_of, rs1_of, low_of, operand_of, shift_of, trap_of, wide_insn, arithmetic_insn, memory_insn, named_insn, if_exact, insn_of}
-
--- ---- what fits
-
-unfoldable pub OperandFits : Operand → Type 0
-OperandFits (Register r) = r < 32
-OperandFits (Immediate v) = v < 2 ^ 13
-
-unfoldable pub ShiftFits : ShiftOperand → Type 0
-ShiftFits (ShiftRegister r) = r < 32
-ShiftFits (ShiftImmediate v) = v < 32
-
-unfoldable pub TrapFits : TrapOperand → Type 0
-TrapFits (TrapRegister r) = r < 32
-TrapFits (TrapImmediate v) = v < 2 ^ 7
-
--- each field is within its width
-unfoldable pub FieldsFit : Insn → Type 0
-FieldsFit (Call displacement) = displacement < 2 ^ 30
-FieldsFit (Bicc annul condition displacement) = displacement < 2 ^ 22
-FieldsFit (Sethi rd immediate) = (rd < 32) × (immediate < 2 ^ 22)
-FieldsFit (Add rd rs1 operand) = (rd < 32) × (rs1 < 32) × OperandFits operand
-FieldsFit (And rd rs1 operand) = (rd < 32) × (rs1 < 32) × OperandFits operand
-FieldsFit (Or rd rs1 operand) = (rd < 32) × (rs1 < 32) × OperandFits operand
-FieldsFit (Xor rd rs1 operand) = (rd < 32) × (rs1 < 32) × OperandFits operand
-FieldsFit (Sub rd rs1 operand) = (rd < 32) × (rs1 < 32) × OperandFits operand
-FieldsFit (Andn rd rs1 operand) = (rd < 32) × (rs1 < 32) × OperandFits operand
-FieldsFit (Orn rd rs1 operand) = (rd < 32) × (rs1 < 32) × OperandFits operand
-FieldsFit (Xnor rd rs1 operand) = (rd < 32) × (rs1 < 32) × OperandFits operand
-FieldsFit (Umul rd rs1 operand) = (rd < 32) × (rs1 < 32) × OperandFits operand
-FieldsFit (Smul rd rs1 operand) = (rd < 32) × (rs1 < 32) × OperandFits operand
-FieldsFit (Udiv rd rs1 operand) = (rd < 32) × (rs1 < 32) × OperandFits operand
-FieldsFit (Sdiv rd rs1 operand) = (rd < 32) × (rs1 < 32) × OperandFits operand
-FieldsFit (Subcc rd rs1 operand) = (rd < 32) × (rs1 < 32) × OperandFits operand
-FieldsFit (Sll rd rs1 count) = (rd < 32) × (rs1 < 32) × ShiftFits count
-FieldsFit (Srl rd rs1 count) = (rd < 32) × (rs1 < 32) × ShiftFits count
-FieldsFit (Sra rd rs1 count) = (rd < 32) × (rs1 < 32) × ShiftFits count
-FieldsFit (Rdy rd) = rd < 32
-FieldsFit (Wry rs1 operand) = (rs1 < 32) × OperandFits operand
-FieldsFit (Jmpl rd rs1 operand) = (rd < 32) × (rs1 < 32) × OperandFits operand
-FieldsFit (Ticc condition rs1 operand) = (rs1 < 32) × TrapFits operand
-FieldsFit (Save rd rs1 operand) = (rd < 32) × (rs1 < 32) × OperandFits operand
-FieldsFit (Restore rd rs1 operand) = (rd < 32) × (rs1 < 32) × OperandFits operand
-FieldsFit (Ld rd rs1 operand) = (rd < 32) × (rs1 < 32) × OperandFits operand
-FieldsFit (Ldub rd rs1 operand) = (rd < 32) × (rs1 < 32) × OperandFits operand
-FieldsFit (Lduh rd rs1 operand) = (rd < 32) × (rs1 < 32) × OperandFits operand
-FieldsFit (St rd rs1 operand) = (rd < 32) × (rs1 < 32) × OperandFits operand
-FieldsFit (Stb rd rs1 operand) = (rd < 32) × (rs1 < 32) × OperandFits operand
-FieldsFit (Sth rd rs1 operand) = (rd < 32) × (rs1 < 32) × OperandFits operand
-FieldsFit (Ldsb rd rs1 operand) = (rd < 32) × (rs1 < 32) × OperandFits operand
-FieldsFit (Ldsh rd rs1 operand) = (rd < 32) × (rs1 < 32) × OperandFits operand
+use Rattle.sparc_isa.specs.Codec.{operand_word, shift_word, trap_word, call_format, wide_format, operand_format, word_of, op_of, displacement_of, five_of, op2_of, wide_of, op3_of, rs1_of, low_of, operand_of, shift_of, trap_of, wide_insn, arithmetic_insn, memory_insn, named_insn, insn_of}
+use Rattle.sparc_isa.specs.Fit.{OperandFits, ShiftFits, TrapFits, FieldsFit}
+use Rattle.machine_state.proofs.Codes.{exact_of, if_exact-word_of}
 
 -- ---- operands
 
@@ -172,7 +124,7 @@ five_lt false code f = omega arith
 -- a word that names an instruction, and is its word
 exact : (w : ℕ) (i : Insn) → named_insn w ≡ Some i → word_of i ≡ w → insn_of w ≡ Some i
 unfolding insn_of
-exact w i named same = rw (named, same) (ap (λ b. cond b (Some i) None) (eq-eqb w w refl))
+exact w i named same = rw named (exact_of word_of w i same)
 
 module _ (displacement : ℕ) (a : displacement < 2 ^ 30) where
   from_call : insn_of (call_format displacement) ≡ Some (Call displacement)
@@ -284,15 +236,7 @@ insn_of-word_of (Sth rd rs1 operand) f = from_memory rd 0x06 rs1 (operand_word o
 insn_of-word_of (Ldsb rd rs1 operand) f = from_memory rd 0x09 rs1 (operand_word operand) f.0 (lit< tt) f.1 (operand_word_lt operand f.2) (Ldsb rd rs1 operand) (ap (λ o. Some (Ldsb rd rs1 o)) (operand_of-word operand f.2)) refl
 insn_of-word_of (Ldsh rd rs1 operand) f = from_memory rd 0x0a rs1 (operand_word operand) f.0 (lit< tt) f.1 (operand_word_lt operand f.2) (Ldsh rd rs1 operand) (ap (λ o. Some (Ldsh rd rs1 o)) (operand_of-word operand f.2)) refl
 
-if_exact-word_of : (w : ℕ) (o : Option Insn) → IfSome (if_exact w o) (λ i. word_of i ≡ w)
-if_exact-word_of w None = tt
-if_exact-word_of w (Some i) =
-    elim (nat_eq (word_of i) w) as (λ b. nat_eq (word_of i) w ≡ b → IfSome (cond b (Some i) None) (λ j. word_of j ≡ w)) [
-      | true ↦ λ e. eqb→eq (word_of i) w (rw e tt)
-      | false ↦ λ e. tt
-    ] refl
-
 -- the instruction of a word has that word
 pub word_of-insn_of : (w : ℕ) → IfSome (insn_of w) (λ i. word_of i ≡ w)
 unfolding insn_of
-word_of-insn_of w = if_exact-word_of w (named_insn w)
+word_of-insn_of w = if_exact-word_of word_of w (named_insn w)

@@ -15,8 +15,8 @@ use Rattle.nub_wire.specs.Endings.{reply_of}
 use Rattle.nub_wire.specs.Spelling.{size_byte}
 use Rattle.nub_wire.specs.Replies.{heard}
 use Rattle.nub_wire.specs.Nub.{NubState, Host, Replied, fetch_reply, done_or_outside, after_done, resumed, served, handled}
-use Rattle.nub_core.specs.Heard.{IsShut, GivesBytes, MayAsk, IsAnswered}
-use Rattle.nub_core.proofs.Outputs.{opens_within}
+use Rattle.nub_wire.specs.Heard.{IsShut, GivesBytes, MayAsk, IsAnswered}
+use Rattle.nub_wire.proofs.Outputs.{opens_within}
 
 byte_heard : (address : ℕ) (r : Result ℕ Outside) → ((value : ℕ) → r ≡ Ok value → value < 256) → heard (msg.Fetch address size.Byte) 0 (fetch_reply r) ≡ Ends
 byte_heard address (Err e) small = refl
