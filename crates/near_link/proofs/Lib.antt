@@ -1,3 +1,4 @@
 pub mod Queues
+pub mod Schedules
 pub mod Waits
 pub mod Worlds

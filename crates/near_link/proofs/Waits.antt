@@ -1,34 +1,36 @@
 -- A wait, byte by byte.
-use Rattle.std.proofs.Common.{◌≡◌, ◌≢◌, ◌∙◌, sym, ap, subst, refl, ℕ, zero, suc, ◌+◌, ◌≤◌, ◌<◌, nat_eq, nat_le, ◌&&◌, not, is_none, is_some, List, [], ◌∷◌, ◌++◌, length, take, drop, Option, Some, None, Bool, true, false, if◌then◌else◌, arith}
+use Rattle.std.proofs.Common.{◌≡◌, ◌≢◌, ◌∙◌, sym, ap, subst, refl, ℕ, zero, suc, ◌+◌, ◌-◌, ◌≤◌, ◌<◌, nat_eq, nat_le, ◌&&◌, not, is_none, is_some, List, [], ◌∷◌, ◌++◌, length, take, drop, Option, Some, None, Bool, true, false, if◌then◌else◌, arith, length-append}
 use Rattle.std.proofs.lemmas.Bool.Decides.{nat_tests}
 use Rattle.nub_wire.specs.declared.message.Msg.{Msg}
 use Rattle.nub_wire.specs.declared.link.Side.TheVariants.{First}
 use Rattle.nub_wire.specs.Spelling.{frame_of}
-use Rattle.mips_isa.specs.Loaded as mips
-use Rattle.sparc_isa.specs.Loaded as sparc
-use Rattle.obj_file.specs.Image.{ImageFields}
-use Rattle.machine_state.specs.State.{MachineState}
-use Rattle.targets.specs.Targets.{loaded}
-use Rattle.machine_state.specs.declared.layout.TheConstants.{SPARC}
 use Rattle.nub_wire.specs.Stream.{Feeding}
 use Rattle.nub_wire.specs.Nub.{Host, turn_of}
-use Rattle.nub_wire.specs.Delivery.{Conduct, LinkSide, World, takes_bytes, is_roomy, LONGEST, ROOM, Reaches, Delivers, reaches, UntilAnswer, answered, runs_on, all_ready, Answers, WaitsOut, Waits, has_ready, used_up, without_ready, Receives}
+use Rattle.nub_wire.specs.Delivery.{Conduct, LinkSide, World, takes_bytes, is_roomy, LONGEST, ROOM, Reaches, Delivers, enough, none_left, takes_none, reaches, Runs, full, quiet, tells, UntilAnswer, answered, runs_on, all_ready, Answers, WaitsOut, Waits, has_ready, used_up, without_ready, Receives}
 
 -- ---- bytes
 
-abbrev pub Comes : Conduct → LinkSide → LinkSide → Type 0
-Comes c start now = (t : LinkSide) → Delivers c (length now.sent) now t → Delivers c (length start.sent) start t
+-- what is delivered from a side on is delivered from the start on
+abbrev pub Comes : Conduct → (most done : ℕ) → (start now : LinkSide) → Type 0
+Comes c most done start now = (t : LinkSide) → Delivers c (most - done) now t → Delivers c most start t
 
-pub comes_on : (c : Conduct) (start now new : LinkSide) (byte : ℕ) → Comes c start now → takes_bytes now ≡ true → Reaches c now new
-    → now.sent ≡ byte ∷ drop 1 now.sent → new.sent ≡ drop 1 now.sent → Comes c start new
-comes_on c start now new byte comes takes reach first sent = λ t d.
-    let one : length now.sent ≡ suc (length new.sent) = ap length first ∙ ap (λ (l : List ℕ). suc (length l)) (sym sent) in
+pub comes_first : (c : Conduct) (most : ℕ) (s : LinkSide) → Comes c most 0 s s
+comes_first c most s = λ (t : LinkSide) (d : Delivers c (most - 0) s t). let e : most - 0 ≡ most = omega arith in subst (λ (n : ℕ). Delivers c n s t) e d
+
+pub comes_on : (c : Conduct) (most done : ℕ) (start now new : LinkSide) → done < most → Comes c most done start now → takes_bytes now ≡ true → Reaches c now new
+    → Comes c most (done + 1) start new
+comes_on c most done start now new less comes takes reach = λ (t : LinkSide) (d : Delivers c (most - (done + 1)) new t).
+    let one : most - done ≡ suc (most - (done + 1)) = omega arith in
     comes t (subst (λ (n : ℕ). Delivers c n now t) (sym one) (reaches takes reach d))
 
-pub fewer : (now new : LinkSide) (byte : ℕ) → now.sent ≡ byte ∷ drop 1 now.sent → new.sent ≡ drop 1 now.sent → length new.sent < length now.sent
-fewer now new byte first sent =
-    let one : length now.sent ≡ suc (length new.sent) = ap length first ∙ ap (λ (l : List ℕ). suc (length l)) (sym sent) in
-    omega (arith, one)
+pub comes_end : (c : Conduct) (most done : ℕ) (start now : LinkSide) → most ≤ done → Comes c most done start now → Delivers c most start now
+comes_end c most done start now all comes = let none : most - done ≡ 0 = omega arith in comes now (subst (λ (n : ℕ). Delivers c n now now) (sym none) enough)
+
+pub comes_none : (c : Conduct) (most done : ℕ) (start now : LinkSide) → Comes c most done start now → now.sent ≡ [] → Delivers c most start now
+comes_none c most done start now comes none = comes now (none_left none)
+
+pub comes_shut : (c : Conduct) (most done : ℕ) (start now : LinkSide) → Comes c most done start now → takes_bytes now ≡ false → Delivers c most start now
+comes_shut c most done start now comes shut = comes now (takes_none shut)
 
 and_first : (a b : Bool) → (a && b) ≡ true → a ≡ true
 and_first true b h = refl
@@ -88,33 +90,32 @@ pub wait_silent : (c : Conduct) (s d a s' : LinkSide) → nat_eq (length s.answe
 wait_silent c s d a s' h delivers runs e =
     waits_by c s s' s.answers (silent_nil s.answers h) (record { delivered = d; answered = a; delivers = delivers; runs = runs; new_is = e })
 
--- ---- the link of one side without a schedule
+-- ---- a nub that runs
 
-abbrev pub one_sided : LinkSide → World
-one_sided s = record { first = s; second = None; schedule = [] }
+frame_grows : (xs : List ℕ) (m : Msg) → length xs < length (xs ++ frame_of m)
+unfolding frame_of
+frame_grows xs m = omega (arith, length-append xs (frame_of m))
 
-some_nil : (xs : List ℕ) (n : ℕ) → n ≡ length xs → n ≢ 0 → xs ≢ []
-some_nil [] n e h x = h e
-some_nil (y ∷ xs) n e h x = cc
+pub stretch_tells : (c : Conduct) (left count : ℕ) (s new : LinkSide) (m : Msg) (h : Host) → is_roomy s ≡ true → count ≤ left → turn_of c.behaviour count s.host ≡ (Some m, h)
+    → ((j : ℕ) → j < count → (turn_of c.behaviour j s.host).0 ≡ None) → new ≡ record s { host = h; answers = s.answers ++ frame_of m }
+    → (t : LinkSide) → Runs c (left - count) new t → Runs c left s t
+stretch_tells c left count s new m h roomy less turn fewest e = λ (t : LinkSide) (r : Runs c (left - count) new t).
+    tells count m h roomy less turn fewest (subst (λ (x : LinkSide). Runs c (left - count) x t) e r)
 
-pub nil_of : (xs : List ℕ) (n : ℕ) → n ≡ length xs → n ≡ 0 → xs ≡ []
-nil_of [] n e h = refl
-nil_of (y ∷ xs) n e h = absurd (omega (arith, e, h))
+pub stretch_grows : (s new : LinkSide) (m : Msg) (h : Host) → new ≡ record s { host = h; answers = s.answers ++ frame_of m }
+    → length s.ready + length s.answers < length new.ready + length new.answers
+stretch_grows s new m h e =
+    let more : length s.answers < length (s.answers ++ frame_of m) = frame_grows s.answers m in
+    rw e (omega (arith, more))
 
-pub waits_ready : (c : Conduct) (s : LinkSide) (n : ℕ) → n ≡ length s.ready → n ≢ 0 → Waits c First (one_sided s) (one_sided s)
-waits_ready c s n e h = has_ready s refl (some_nil s.ready n e h)
+pub stretch_quiet : (c : Conduct) (left : ℕ) (s new : LinkSide) (h : Host) → is_roomy s ≡ true → turn_of c.behaviour left s.host ≡ (None, h) → new ≡ record s { host = h } → Runs c left s new
+stretch_quiet c left s new h roomy turn e = subst (Runs c left s) (sym e) (quiet h roomy turn)
 
-pub waits_out : (c : Conduct) (s t : LinkSide) → s.ready ≡ [] → WaitsOut c s s.answers t → Waits c First (one_sided s) (one_sided t)
-waits_out c s t none w = used_up s t refl none refl w
+pub run_full : (c : Conduct) (left : ℕ) (s : LinkSide) → is_roomy s ≡ false → Runs c left s s
+run_full c left s e = full e
 
-pub gets_nothing : (c : Conduct) (s : LinkSide) (n : ℕ) (bytes : List ℕ) → n ≡ 0 → bytes ≡ [] → Receives c First n bytes (one_sided s) (one_sided s)
-gets_nothing c s zero bytes e none = (none, refl)
-gets_nothing c s (suc n) bytes e none = absurd (omega (arith, e))
-
-pub gets_some : (c : Conduct) (s t : LinkSide) (n : ℕ) (bytes : List ℕ) → n ≢ 0 → Waits c First (one_sided s) (one_sided t) → bytes ≡ take n t.ready
-    → Receives c First n bytes (one_sided s) (one_sided (without_ready n t))
-gets_some c s t zero bytes h w e = absurd (h refl)
-gets_some c s t (suc n) bytes h w e = record { waited = one_sided t; waits = w; given = e; new_is = refl }
+pub roomy_below : (s : LinkSide) → is_roomy s ≡ true → length s.ready + length s.answers < 4096
+roomy_below s h = let fits : length s.ready + length s.answers + 1027 ≤ 4096 = le_is _ _ h in omega (arith, fits)
 
 -- ---- parts of a side
 
@@ -127,19 +128,3 @@ sides_are sent f h a a' r r' e k = ap (λ (l : List ℕ). side_at sent f h l r) 
 pub shut_of : (o : Option ℕ) → is_some o ≡ false → o ≡ None
 shut_of None h = refl
 shut_of (Some n) h = cc
-
-chosen_given : (b : Bool) (m n : MachineState) → m.given ≡ 0 → n.given ≡ 0 → (if b then m else n).given ≡ 0
-chosen_given true m n h k = h
-chosen_given false m n h k = k
-
-mips_given : (entry : ℕ) (text statics : List ℕ) → (mips.first_state entry text statics).given ≡ 0
-unfolding mips.first_state
-mips_given entry text statics = refl
-
-sparc_given : (entry : ℕ) (text statics : List ℕ) → (sparc.first_state entry text statics).given ≡ 0
-unfolding sparc.first_state
-sparc_given entry text statics = refl
-
-pub given_zero : (i : ImageFields) → (loaded i).given ≡ 0
-unfolding loaded
-given_zero i = chosen_given (nat_eq i.target SPARC) _ _ (sparc_given i.entry i.text i.statics) (mips_given i.entry i.text i.statics)

@@ -1,3 +1,4 @@
 pub mod Faulty
 pub mod Near
+pub mod Schedule
 pub mod Steps

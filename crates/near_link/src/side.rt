@@ -1,16 +1,18 @@
 // A nub in this program, and the bytes on the way.
 
-ghost use Rattle.std.specs.Prelude.{◌≡◌, ◌≤◌, ◌+◌, [], ◌∷◌, ◌++◌, length, take, drop, min, nat_eq, Some, None};
+ghost use Rattle.std.specs.Prelude.{◌≡◌, ◌≤◌, ◌+◌, [], ◌∷◌, ◌++◌, ◌<◌, length, take, drop, min, nat_eq, true, Some, None, IfSome, IfNone, IfOk};
 ghost use Rattle.nub_wire.specs.Spelling.{frame_of};
-ghost use Rattle.nub_wire.specs.Nub.{first_host};
-ghost use Rattle.nub_wire.specs.Delivery.{first_side, fitting, with_sent, takes_bytes, after_byte, Reaches, Delivers, WaitsOut, UntilAnswer, all_ready, without_ready};
+ghost use Rattle.nub_wire.specs.Delivery.{LinkSide, fitting, with_sent, takes_bytes, after_byte, Reaches, Delivers, Runs, Moves, WaitsOut, UntilAnswer, is_roomy, some_ready, all_ready, without_ready};
 ghost use Rattle.targets.specs.Targets.{machine_behaviour};
-ghost use Rattle.near_link.specs.Near.{machine_in, near_conduct};
+ghost use Rattle.nub_wire.specs.Rest.{IsFresh};
+ghost use Rattle.near_link.specs.Near.{machine_in, near_conduct, BeginsSide};
 
 use crate::machine::NearMachine;
 use crate::queue::{Queue, ROOM};
 use nub_core::Nub;
-use nub_wire::{Fed, Feeder, Msg, encode};
+use nub_wire::{Entry, Fed, Feeder, Msg, encode};
+use obj_file::Image;
+use std::alloc::{AllocError, Global};
 use std::marker::Model;
 
 /// How many bytes the longest frame has.
@@ -48,7 +50,7 @@ impl NearSide {
     /// A nub that got no message yet.
     pub fn new(machine: NearMachine) -> NearSide
         requires { (machine_in machine).given ≡ 0 }
-        ensures { result ≡ first_side (first_host machine_behaviour (machine_in machine)) }
+        ensures { IsFresh machine_behaviour (machine_in machine) result }
     {
         NearSide {
             sent: Queue::new(),
@@ -57,6 +59,15 @@ impl NearSide {
             back: Queue::new(),
             ready: 0,
         }
+    }
+
+    /// A fresh side of the machine of an image.
+    #[tactic(auto, using(crate::proofs::Worlds::given_zero, crate::proofs::Worlds::begins_side))]
+    pub fn begun(alloc: Global, image: &Image) -> Result<NearSide, AllocError>
+        ensures { IfOk result (λ s. BeginsSide image.now s) }
+    {
+        let machine = NearMachine::new(alloc, image)?;
+        Ok(NearSide::new(machine))
     }
 
     /// Takes as many bytes as there is room for.
@@ -70,11 +81,18 @@ impl NearSide {
         count
     }
 
+    /// Whether there is room for one more answer.
+    fn is_roomy(&self) -> bool
+        ensures { result ≡ is_roomy self.now }
+    {
+        self.back.len() + LONGEST <= ROOM
+    }
+
     /// Whether the nub takes a byte.
     fn takes_bytes(&self) -> bool
         ensures { result ≡ takes_bytes self.now }
     {
-        !self.nub.is_open() && (!self.nub.is_blocked() && self.back.len() + LONGEST <= ROOM)
+        !self.nub.is_open() && (!self.nub.is_blocked() && self.is_roomy())
     }
 
     /// Adds the frame of a message to the answers.
@@ -120,17 +138,70 @@ impl NearSide {
         self.hear(fed);
     }
 
-    /// The bytes sent reach the nub, as many as it takes.
-    fn deliver(&mut self)
-        ensures delivers { Delivers near_conduct (length self.old.sent) self.old self.new }
+    /// At most so many of the bytes sent reach the nub, fewer only where there are no more or it takes no more.
+    #[tactic(auto, using(crate::proofs::Waits::comes_first, crate::proofs::Waits::comes_on, crate::proofs::Waits::comes_end, crate::proofs::Waits::comes_none, crate::proofs::Waits::comes_shut))]
+    fn deliver(&mut self, most: usize)
+        ensures delivers { Delivers near_conduct most self.old self.new }
         ensures ready { self.new.ready ≡ self.old.ready }
     {
-        while self.takes_bytes() {
+        for _delivered in 0..most {
+            if !self.takes_bytes() {
+                return;
+            }
             match self.sent.first() {
                 None => return,
                 Some(byte) => self.reach(byte),
             }
         }
+    }
+
+    /// Runs the nub up to its next message within so many instructions, and says how many are left then; none where there is
+    /// no message.
+    #[tactic(auto, using(crate::proofs::Waits::stretch_tells, crate::proofs::Waits::stretch_grows, crate::proofs::Waits::stretch_quiet))]
+    fn stretch(&mut self, left: u32) -> Option<u32>
+        requires { is_roomy self.old ≡ true }
+        ensures tells { IfSome result (λ rest. (t : LinkSide) → Runs near_conduct rest self.new t → Runs near_conduct left self.old t) }
+        ensures grows { IfSome result (λ rest. length self.old.ready + length self.old.answers < length self.new.ready + length self.new.answers) }
+        ensures quiet { IfNone result (Runs near_conduct left self.old self.new) }
+    {
+        match self.nub.turn_counted(left) {
+            None => None,
+            Some(told) => {
+                self.answer(&told.message);
+                Some(left - told.count)
+            }
+        }
+    }
+
+    /// Runs the nub for at most so many instructions, which may give several messages, and none without room for an answer.
+    #[tactic(auto, using(crate::proofs::Waits::run_full, crate::proofs::Waits::roomy_below))]
+    fn run(&mut self, most: u32)
+        ensures { Runs near_conduct most self.old self.new }
+    {
+        let mut left = most;
+        while self.is_roomy() {
+            match self.stretch(left) {
+                None => return,
+                Some(rest) => left = rest,
+            }
+        }
+    }
+
+    /// At most so many bytes of the answers become ready.
+    #[tactic(auto, using(crate::proofs::Queues::more_taken, crate::proofs::Queues::more_left))]
+    fn make_ready(&mut self, most: usize)
+        ensures { self.new ≡ some_ready most self.old }
+    {
+        self.ready = self.back.len().min(self.ready.saturating_add(most));
+    }
+
+    /// Does what an entry of a schedule says.
+    pub fn move_by(&mut self, entry: &Entry)
+        ensures { Moves near_conduct entry.now self.old self.new }
+    {
+        self.deliver(entry.piece as usize);
+        self.run(entry.instructions);
+        self.make_ready(entry.piece as usize);
     }
 
     /// All answers become ready.
@@ -176,7 +247,8 @@ impl NearSide {
             self.make_all_ready();
             return;
         }
-        self.deliver();
+        let count = self.sent.len();
+        self.deliver(count);
         self.answer_on();
         self.make_all_ready();
     }
