@@ -85,6 +85,17 @@ fn append_done<L: Link>(
     }
 }
 
+/// A link of which the call of a row goes wrong as the row says.
+fn faulty_of(near: NearLink, row: &[u8]) -> FaultyLink {
+    let call = row.first().copied().unwrap_or(0);
+    let how = match row.get(1) {
+        Some(0) => Mishap::Fail,
+        Some(1) => Mishap::Silent,
+        _ => Mishap::Done,
+    };
+    FaultyLink::new(near, u64::from(call), how)
+}
+
 impl Links {
     pub fn new(alloc: Global) -> Links {
         Links {
@@ -113,23 +124,9 @@ impl Links {
                 Ok(())
             }
             "faulty" => {
-                self.faulty = match (self.near.take(), first) {
-                    (Some(near), [call, 0]) => Some(FaultyLink::new(
-                        near,
-                        u64::from(*call),
-                        Mishap::Fail,
-                    )),
-                    (Some(near), [call, 1]) => Some(FaultyLink::new(
-                        near,
-                        u64::from(*call),
-                        Mishap::Silent,
-                    )),
-                    (Some(near), [call, ..]) => Some(FaultyLink::new(
-                        near,
-                        u64::from(*call),
-                        Mishap::Done,
-                    )),
-                    _ => None,
+                self.faulty = match self.near.take() {
+                    Some(near) => Some(faulty_of(near, first)),
+                    None => None,
                 };
                 Ok(())
             }
