@@ -106,11 +106,11 @@ cleared ws k r v m t h s below positive small free =
     } in
     subst (Wrote ws (k + 1) r v m) (sym is) there
 
-pub leaves_loaded : (ws : List ℕ) (k r v place : ℕ) (rest : List (Option Insn)) (m : MachineState) → Texts ws
+pub load_then_no_op : (ws : List ℕ) (k r v place : ℕ) (rest : List (Option Insn)) (m : MachineState) → Texts ws
     → CodeAt ws k (Some (Lw r r 0) ∷ Some NO_OP ∷ rest) → Stands ws k m → nat_eq r 0 ≡ false → r < 32
     → is_hazard NO_OP (record { in_slot = false; loaded = r; wait = 0 }) ≡ false
     → place < 2 ^ 32 → register m r ≡ place → load_of Little m.memory place 4 ≡ Ok v → Leaves ws k 2 r v m
-leaves_loaded ws k r v place rest m t code s positive small free fits here load =
+load_then_no_op ws k r v place rest m t code s positive small free fits here load =
     let at : HasAt ws k (Lw r r 0) = has_first ws k _ _ code in
     let after : HasAt ws (k + 1) NO_OP = subst (λ (n : ℕ). HasAt ws n NO_OP) (omega arith) (has_first ws (suc k) _ _ (has_rest ws k _ _ code)) in
     let address_is : address m r 0 ≡ place = rw here (omega (arith, fits)) in
@@ -157,7 +157,7 @@ leaves_load ws k r v place rest m t code s positive small free fits load =
     let after : CodeAt ws (k + 2) (Some (Lw r r 0) ∷ Some NO_OP ∷ rest) =
     subst (λ (n : ℕ). CodeAt ws n (Some (Lw r r 0) ∷ Some NO_OP ∷ rest)) e (has_rest ws (suc k) _ _ (has_rest ws k _ _ code)) in
     let there : load_of Little (stepped 2 m).memory place 4 ≡ Ok v = rw first.memory load in
-    leaves_both ws k 2 2 r place v m first (leaves_loaded ws (k + 2) r v place rest (stepped 2 m) t after first.stands positive small free fits first.value there)
+    leaves_both ws k 2 2 r place v m first (load_then_no_op ws (k + 2) r v place rest (stepped 2 m) t after first.stands positive small free fits first.value there)
   where
     e : suc (suc k) ≡ k + 2
     e = omega arith
