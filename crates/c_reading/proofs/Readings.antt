@@ -101,8 +101,8 @@ module _ (p : Program) (u : Use) (q : ℕ) where
     unread NoFrame x a b = absurd a
     unread (IsUndefined w) x a b = absurd a
 
-    read : (x y : Typed) → Is (λ e. IsTypedAs p u q e x) → Is (λ e. IsTypedAs p u q e y) → Is (λ e. IsTypedAs p u q e x × IsTypedAs p u q e y)
-    read x y (e, a, t) (e', b, s) = (e, a, (t, subst (λ f. IsTypedAs p u q f y) (sym (same_tree text e e' a b)) s))
+    read : (x y : Typed) → Is (λ e. IsTypedAs p u q e x) → Is (λ e. IsTypedAs p u q e y) → Agree p u q text (Read x) (Read y)
+    read x y (e, a, t) (e', b, s) = (e, a, t, subst (λ f. IsTypedAs p u q f y) (sym (same_tree text e e' a b)) s)
 
     pub agree : (x y : Reading) → Reads p u q text x → Reads p u q text y → Agree p u q text x y
     agree (Unread r) (Unread r') a b = refused r r' a b
