@@ -1,0 +1,21 @@
+//! Flat code of slot code: where locals and temporaries lie in a frame, and the flat operators of each slot operator.
+#![tactic(auto)]
+
+mod codes;
+mod emit;
+mod functions;
+mod layout;
+mod movers;
+mod shapes;
+mod whole;
+mod within;
+
+pub use layout::{GREATEST_FRAME, Layout, layout_of};
+pub use movers::{Parts, mover_of, movers_of};
+pub use shapes::{Part, Shape, parts_of};
+pub use whole::flat_code;
+
+#[test]
+fn nothing(rt: HostRuntime) -> Result<(), std::test::Fail> {
+    Ok(())
+}

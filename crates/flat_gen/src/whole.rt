@@ -1,0 +1,47 @@
+// The flat code of a program.
+
+use crate::functions::flat_function;
+use crate::movers::{Parts, movers_of};
+use crate::shapes::parts_of;
+use flat_ir::{FlatCode, FlatFunction};
+use ldb_words::Many;
+use slot_ir::{SlotCode, SlotFunction, SlotStruct};
+use std::alloc::{AllocError, Global};
+
+/// The flat code of functions.
+fn flat_functions(
+    alloc: Global,
+    linkage: u32,
+    slots: &SlotCode,
+    functions: &[SlotFunction],
+) -> Result<Many<FlatFunction>, AllocError> {
+    let mut rows = Vec::new(alloc);
+    for function in functions {
+        rows.push(flat_function(alloc, linkage, slots, function)?)?;
+    }
+    Ok(Many::from_vec(rows))
+}
+
+/// The parts of structs.
+fn all_parts(alloc: Global, structs: &[SlotStruct]) -> Result<Vec<Parts>, AllocError> {
+    let mut rows = Vec::new(alloc);
+    for row in structs {
+        rows.push(Parts {
+            size: row.size,
+            parts: parts_of(alloc, row.leaves.as_slice())?,
+        })?;
+    }
+    Ok(rows)
+}
+
+/// The flat code of a program, whose frames begin with so many bytes of the target's own.
+pub fn flat_code(alloc: Global, linkage: u32, slots: &SlotCode) -> Result<FlatCode, AllocError> {
+    let functions = flat_functions(alloc, linkage, slots, slots.functions.as_slice())?;
+    let structs = all_parts(alloc, slots.structs.as_slice())?;
+    let movers = movers_of(alloc, &structs)?;
+    Ok(FlatCode {
+        functions,
+        main: slots.main,
+        movers,
+    })
+}

@@ -1,0 +1,19 @@
+//! MIPS objects of slot code.
+#![tactic(auto)]
+
+mod assemble;
+mod emit;
+mod frames;
+mod instructions;
+mod movers;
+mod object;
+mod operators;
+mod registers;
+mod uses;
+
+pub use object::emit;
+
+#[test]
+fn nothing(rt: HostRuntime) -> Result<(), std::test::Fail> {
+    Ok(())
+}
