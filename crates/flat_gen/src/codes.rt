@@ -1,4 +1,11 @@
 // The flat code of slot operators.
+ghost use Rattle.std.specs.Prelude.{◌≡◌, ◌+◌, [], ◌∷◌, ◌++◌, IfOk, OnOk, length};
+ghost use Rattle.std.specs.Int.{next_multiple_of};
+ghost use Rattle.ldb_words.specs.declared.kinds.Kind.{Kind};
+ghost use Rattle.slot_ir.specs.declared.code.SlotOp.TheVariants as slot;
+ghost use Rattle.flat_ir.specs.declared.code.Scratch.TheVariants.{A, B};
+ghost use Rattle.flat_ir.specs.declared.code.FlatOp.TheVariants.{Set, StaticAddress, FrameAddress, Get, Put, Fill, WriteRegister, Ask};
+ghost use Rattle.flat_gen.specs.Codes.{comparison as comparison_of, temporary, local_at, passes as passes_of, op_code};
 
 use crate::emit::{get_a, get_b, put, put_a};
 use crate::within::Within;
@@ -7,7 +14,9 @@ use slot_ir::{Access, Home, PointerOp, SlotOp, WordOp};
 use std::alloc::AllocError;
 
 /// The comparison of the words of two pointers.
-fn comparison(op: PointerOp) -> WordOp {
+fn comparison(op: PointerOp) -> WordOp
+    ensures { result ≡ comparison_of op }
+{
     match op {
         PointerOp::Equal => WordOp::Equal,
         PointerOp::Unequal => WordOp::Unequal,
@@ -19,7 +28,9 @@ fn comparison(op: PointerOp) -> WordOp {
 }
 
 /// A word by its bits in a temporary.
-fn set(within: &Within, code: &mut Vec<FlatOp>, to: u32, bits: u32) -> Result<(), AllocError> {
+fn set(within: &Within, code: &mut Vec<FlatOp>, to: u32, bits: u32) -> Result<(), AllocError>
+    ensures { OnOk result (code.new.items ≡ code.old.items ++ Set A bits ∷ Put A (temporary within.now.slots.now within.now.function.now within.now.layout.now within.now.starts.now to) ∷ []) }
+{
     put(
         code,
         FlatOp::Set {
@@ -36,7 +47,9 @@ fn static_address(
     code: &mut Vec<FlatOp>,
     to: u32,
     object: u32,
-) -> Result<(), AllocError> {
+) -> Result<(), AllocError>
+    ensures { OnOk result (code.new.items ≡ code.old.items ++ StaticAddress A object ∷ Put A (temporary within.now.slots.now within.now.function.now within.now.layout.now within.now.starts.now to) ∷ []) }
+{
     put(
         code,
         FlatOp::StaticAddress {
@@ -48,7 +61,9 @@ fn static_address(
 }
 
 /// The number of a string among the static objects and strings.
-fn string_number(within: &Within, string: u32) -> Result<u32, AllocError> {
+fn string_number(within: &Within, string: u32) -> Result<u32, AllocError>
+    ensures { IfOk result (λ n. n ≡ length within.now.slots.now.objects + string) }
+{
     let objects = u32::try_from(within.slots.objects.len()).map_err(|_| AllocError)?;
     objects.checked_add(string).ok_or(AllocError)
 }
@@ -59,7 +74,9 @@ fn local_address(
     code: &mut Vec<FlatOp>,
     to: u32,
     local: u32,
-) -> Result<(), AllocError> {
+) -> Result<(), AllocError>
+    ensures { OnOk result (code.new.items ≡ code.old.items ++ op_code within.now.slots.now within.now.function.now within.now.layout.now within.now.starts.now (slot.LocalAddress to local)) }
+{
     put(
         code,
         FlatOp::FrameAddress {
@@ -77,7 +94,9 @@ fn read_register(
     to: u32,
     local: u32,
     access: Access,
-) -> Result<(), AllocError> {
+) -> Result<(), AllocError>
+    ensures { (k : Kind) → OnOk result (code.new.items ≡ code.old.items ++ op_code within.now.slots.now within.now.function.now within.now.layout.now within.now.starts.now (slot.ReadRegister to local k access)) }
+{
     put(
         code,
         FlatOp::ReadRegister {
@@ -95,7 +114,9 @@ fn on_one(
     to: u32,
     from: u32,
     op: FlatOp,
-) -> Result<(), AllocError> {
+) -> Result<(), AllocError>
+    ensures { OnOk result (code.new.items ≡ code.old.items ++ Get A (temporary within.now.slots.now within.now.function.now within.now.layout.now within.now.starts.now from) ∷ op ∷ Put A (temporary within.now.slots.now within.now.function.now within.now.layout.now within.now.starts.now to) ∷ []) }
+{
     get_a(code, within.temporary(from)?)?;
     put(code, op)?;
     put_a(code, within.temporary(to)?)
@@ -108,7 +129,9 @@ fn take_two(
     left: u32,
     right: u32,
     op: FlatOp,
-) -> Result<(), AllocError> {
+) -> Result<(), AllocError>
+    ensures { OnOk result (code.new.items ≡ code.old.items ++ Get A (temporary within.now.slots.now within.now.function.now within.now.layout.now within.now.starts.now left) ∷ Get B (temporary within.now.slots.now within.now.function.now within.now.layout.now within.now.starts.now right) ∷ op ∷ []) }
+{
     get_a(code, within.temporary(left)?)?;
     get_b(code, within.temporary(right)?)?;
     put(code, op)
@@ -122,7 +145,9 @@ fn on_two(
     left: u32,
     right: u32,
     op: FlatOp,
-) -> Result<(), AllocError> {
+) -> Result<(), AllocError>
+    ensures { OnOk result (code.new.items ≡ code.old.items ++ Get A (temporary within.now.slots.now within.now.function.now within.now.layout.now within.now.starts.now left) ∷ Get B (temporary within.now.slots.now within.now.function.now within.now.layout.now within.now.starts.now right) ∷ op ∷ Put A (temporary within.now.slots.now within.now.function.now within.now.layout.now within.now.starts.now to) ∷ []) }
+{
     take_two(within, code, left, right, op)?;
     put_a(code, within.temporary(to)?)
 }
@@ -133,13 +158,17 @@ fn end_with(
     code: &mut Vec<FlatOp>,
     from: u32,
     op: FlatOp,
-) -> Result<(), AllocError> {
+) -> Result<(), AllocError>
+    ensures { OnOk result (code.new.items ≡ code.old.items ++ Get A (temporary within.now.slots.now within.now.function.now within.now.layout.now within.now.starts.now from) ∷ op ∷ []) }
+{
     get_a(code, within.temporary(from)?)?;
     put(code, op)
 }
 
 /// A pointer in a temporary moved on by some bytes.
-fn offset(within: &Within, code: &mut Vec<FlatOp>, at: u32, bytes: u32) -> Result<(), AllocError> {
+fn offset(within: &Within, code: &mut Vec<FlatOp>, at: u32, bytes: u32) -> Result<(), AllocError>
+    ensures { OnOk result (code.new.items ≡ code.old.items ++ op_code within.now.slots.now within.now.function.now within.now.layout.now within.now.starts.now (slot.Offset at bytes)) }
+{
     get_a(code, within.temporary(at)?)?;
     put(
         code,
@@ -164,7 +193,9 @@ fn jump_if_equal(
     at: u32,
     bits: u32,
     place: u32,
-) -> Result<(), AllocError> {
+) -> Result<(), AllocError>
+    ensures { OnOk result (code.new.items ≡ code.old.items ++ op_code within.now.slots.now within.now.function.now within.now.layout.now within.now.starts.now (slot.JumpIfEqual at bits place)) }
+{
     get_a(code, within.temporary(at)?)?;
     put(
         code,
@@ -189,7 +220,9 @@ fn passes(
     code: &mut Vec<FlatOp>,
     at: u32,
     arguments: u32,
-) -> Result<(), AllocError> {
+) -> Result<(), AllocError>
+    ensures { OnOk result (code.new.items ≡ code.old.items ++ passes_of within.now.slots.now within.now.function.now within.now.layout.now within.now.starts.now 0 at arguments) }
+{
     for number in 0..arguments {
         let from = at.checked_add(number).ok_or(AllocError)?;
         put(
@@ -210,7 +243,9 @@ fn call(
     at: u32,
     function: u32,
     arguments: u32,
-) -> Result<(), AllocError> {
+) -> Result<(), AllocError>
+    ensures { OnOk result (code.new.items ≡ code.old.items ++ op_code within.now.slots.now within.now.function.now within.now.layout.now within.now.starts.now (slot.Call at function arguments)) }
+{
     passes(within, code, at, arguments)?;
     put(code, FlatOp::Call { function })?;
     put_a(code, within.temporary(at)?)
@@ -222,7 +257,9 @@ fn zero_block(
     code: &mut Vec<FlatOp>,
     local: u32,
     size: u32,
-) -> Result<(), AllocError> {
+) -> Result<(), AllocError>
+    ensures { OnOk result (code.new.items ≡ code.old.items ++ FrameAddress A (local_at within.now.slots.now within.now.function.now within.now.layout.now within.now.starts.now local) ∷ Fill (next_multiple_of size 4) ∷ []) }
+{
     put(
         code,
         FlatOp::FrameAddress {
@@ -235,7 +272,9 @@ fn zero_block(
 }
 
 /// Zero in a register.
-fn zero_register(code: &mut Vec<FlatOp>, register: u8) -> Result<(), AllocError> {
+fn zero_register(code: &mut Vec<FlatOp>, register: u8) -> Result<(), AllocError>
+    ensures { OnOk result (code.new.items ≡ code.old.items ++ Set A 0 ∷ WriteRegister register ∷ []) }
+{
     put(
         code,
         FlatOp::Set {
@@ -247,7 +286,9 @@ fn zero_register(code: &mut Vec<FlatOp>, register: u8) -> Result<(), AllocError>
 }
 
 /// Zeros in a local.
-fn zero(within: &Within, code: &mut Vec<FlatOp>, local: u32) -> Result<(), AllocError> {
+fn zero(within: &Within, code: &mut Vec<FlatOp>, local: u32) -> Result<(), AllocError>
+    ensures { OnOk result (code.new.items ≡ code.old.items ++ op_code within.now.slots.now within.now.function.now within.now.layout.now within.now.starts.now (slot.Zero local)) }
+{
     let row = within.local(local)?;
     match row.home {
         Home::Block => zero_block(within, code, local, row.size),
@@ -256,18 +297,17 @@ fn zero(within: &Within, code: &mut Vec<FlatOp>, local: u32) -> Result<(), Alloc
 }
 
 /// What is asked, and A in a temporary.
-fn ask(
-    within: &Within,
-    code: &mut Vec<FlatOp>,
-    to: u32,
-    request: Request,
-) -> Result<(), AllocError> {
+fn ask(within: &Within, code: &mut Vec<FlatOp>, to: u32, request: Request) -> Result<(), AllocError>
+    ensures { OnOk result (code.new.items ≡ code.old.items ++ Ask request ∷ Put A (temporary within.now.slots.now within.now.function.now within.now.layout.now within.now.starts.now to) ∷ []) }
+{
     put(code, FlatOp::Ask { request })?;
     put_a(code, within.temporary(to)?)
 }
 
 /// The flat code of an operator.
-pub fn emit_op(within: &Within, code: &mut Vec<FlatOp>, op: &SlotOp) -> Result<(), AllocError> {
+pub fn emit_op(within: &Within, code: &mut Vec<FlatOp>, op: &SlotOp) -> Result<(), AllocError>
+    ensures { OnOk result (code.new.items ≡ code.old.items ++ op_code within.now.slots.now within.now.function.now within.now.layout.now within.now.starts.now op.now) }
+{
     match *op {
         SlotOp::Const { to, bits } => set(within, code, to, bits),
         SlotOp::Null { to } => set(within, code, to, 0),

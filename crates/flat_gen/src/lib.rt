@@ -14,8 +14,3 @@ pub use layout::{GREATEST_FRAME, Layout, layout_of};
 pub use movers::{Parts, mover_of, movers_of};
 pub use shapes::{Part, Shape, parts_of};
 pub use whole::flat_code;
-
-#[test]
-fn nothing(rt: HostRuntime) -> Result<(), std::test::Fail> {
-    Ok(())
-}

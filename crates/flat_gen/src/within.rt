@@ -1,5 +1,11 @@
 // What the code of a function is made within.
 
+ghost use Rattle.std.specs.Prelude.{◌≡◌, ℕ, List, Some, slice_get, IfOk};
+ghost use Rattle.slot_ir.specs.declared.code.SlotCode.{SlotCode};
+ghost use Rattle.slot_ir.specs.declared.code.SlotFunction.{SlotFunction};
+ghost use Rattle.flat_gen.specs.declared.layout.Layout.{Layout};
+ghost use Rattle.flat_gen.specs.Codes.{temporary, local_at, register_of, start};
+
 use crate::layout::Layout;
 use slot_ir::{Home, SlotCode, SlotFunction, SlotLocal};
 use std::alloc::AllocError;
@@ -15,13 +21,17 @@ pub struct Within<'a> {
 
 impl<'a> Within<'a> {
     /// Where a temporary lies.
-    pub fn temporary(&self, number: u32) -> Result<u32, AllocError> {
+    pub fn temporary(&self, number: u32) -> Result<u32, AllocError>
+        ensures { (c : SlotCode) (f : SlotFunction) (s : List ℕ) → IfOk result (λ n. n ≡ temporary c f self.now.layout.now s number) }
+    {
         let bytes = number.checked_mul(4).ok_or(AllocError)?;
         self.layout.temporaries.checked_add(bytes).ok_or(AllocError)
     }
 
     /// A local.
-    pub fn local(&self, number: u32) -> Result<&'a SlotLocal, AllocError> {
+    pub fn local(&self, number: u32) -> Result<&'a SlotLocal, AllocError>
+        ensures { IfOk result (λ r. slice_get self.now.function.now.locals number ≡ Some r.now) }
+    {
         self.function
             .locals
             .as_slice()
@@ -30,7 +40,9 @@ impl<'a> Within<'a> {
     }
 
     /// Where a local lies.
-    pub fn local_at(&self, number: u32) -> Result<u32, AllocError> {
+    pub fn local_at(&self, number: u32) -> Result<u32, AllocError>
+        ensures { (c : SlotCode) (f : SlotFunction) (s : List ℕ) → IfOk result (λ n. n ≡ local_at c f self.now.layout.now s number) }
+    {
         self.layout
             .locals
             .as_slice()
@@ -40,7 +52,9 @@ impl<'a> Within<'a> {
     }
 
     /// The register that a local is in.
-    pub fn register(&self, number: u32) -> Result<u8, AllocError> {
+    pub fn register(&self, number: u32) -> Result<u8, AllocError>
+        ensures { (c : SlotCode) (l : Layout) (s : List ℕ) → IfOk result (λ n. n ≡ register_of c self.now.function.now l s number) }
+    {
         match self.local(number)?.home {
             Home::Register(register) => Ok(register),
             Home::Block => Err(AllocError),
@@ -48,7 +62,9 @@ impl<'a> Within<'a> {
     }
 
     /// Where the flat code of a place begins; 0 where that is not known.
-    pub fn start(&self, place: u32) -> u32 {
+    pub fn start(&self, place: u32) -> u32
+        ensures { (c : SlotCode) (f : SlotFunction) (l : Layout) → result ≡ start c f l self.now.starts.now place }
+    {
         match self.starts.get(place as usize) {
             Some(start) => *start,
             None => 0,

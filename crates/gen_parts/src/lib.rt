@@ -4,10 +4,12 @@
 mod names;
 mod rows;
 mod statics;
+mod uses;
 
 pub use names::{ascending_name, descending_name, function_name, mover_name, object_name};
 pub use rows::{Spots, row_of};
 pub use statics::{Data, data_of};
+pub use uses::{Around, put_all_uses, put_use};
 
 #[test]
 fn nothing(rt: HostRuntime) -> Result<(), std::test::Fail> {

@@ -9,7 +9,6 @@ mod movers;
 mod object;
 mod operators;
 mod registers;
-mod uses;
 
 pub use object::emit;
 

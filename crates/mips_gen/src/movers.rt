@@ -3,9 +3,8 @@
 use crate::emit::{put, put_all, put_word};
 use crate::instructions::{addiu, addu, beq, bne, j, jal, jr, lb, lui, lw, no_op, sb, sltu, sw};
 use crate::registers::{A, B, OWN, OWN_TOO, RETURN_ADDRESS, STACK_END_HIGH, ZERO};
-use crate::uses::put_use;
 use flat_ir::MoveStep;
-use gen_parts::{ascending_name, descending_name};
+use gen_parts::{ascending_name, descending_name, put_use};
 use ldb_words::{Kind, Text};
 use mips_isa::Insn;
 use obj_file::{Form, Use};

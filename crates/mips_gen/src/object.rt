@@ -7,11 +7,11 @@ use crate::instructions::{addiu, addu, jal, no_op};
 use crate::movers::{Making, offset, put_choice, put_copy};
 use crate::operators::put_op;
 use crate::registers::{ARGUMENT, EXIT, LINKAGE, RESULT, SAVED, ZERO};
-use crate::uses::{Around, put_use, put_uses};
 use flat_gen::flat_code;
 use flat_ir::{FlatCode, FlatFunction, FlatOp, Mover};
 use gen_parts::{
-    Spots, ascending_name, data_of, descending_name, function_name, mover_name, row_of,
+    Around, Spots, ascending_name, data_of, descending_name, function_name, mover_name,
+    put_all_uses, put_use, row_of,
 };
 use ldb_words::{Many, Order, Text};
 use machine_state::MIPS;
@@ -105,22 +105,6 @@ fn put_ops(
     Ok(places)
 }
 
-/// The uses of operators.
-fn put_all_uses(
-    alloc: Global,
-    uses: &mut Vec<obj_file::Use>,
-    around: &Around,
-    ops: &[FlatOp],
-) -> Result<(), AllocError> {
-    for i in 0..ops.len() {
-        let (Some(op), Some(at)) = (ops.get(i), around.places.get(i)) else {
-            return Err(AllocError);
-        };
-        put_uses(alloc, uses, around, *at, op)?;
-    }
-    Ok(())
-}
-
 /// A function: its code, its uses, its name and its row.
 fn add_function(
     alloc: Global,
@@ -141,7 +125,8 @@ fn add_function(
         number,
         entry,
         places: &places,
-        epilogue,
+        epilogue: Some(epilogue),
+        jump_word: 2,
     };
     put_all_uses(alloc, &mut parts.text.uses, &around, ops)?;
     let spots = Spots {

@@ -1,11 +1,18 @@
 //! SPARC objects of slot code.
 #![tactic(auto)]
 
-use obj_file::Object;
-use slot_ir::SlotCode;
-use std::alloc::{AllocError, Global};
+mod assemble;
+mod emit;
+mod frames;
+mod instructions;
+mod movers;
+mod object;
+mod operators;
+mod registers;
 
-/// The SPARC object of a program.
-pub fn emit(alloc: Global, slots: &SlotCode) -> Result<Object, AllocError> {
-    Err(AllocError)
+pub use object::emit;
+
+#[test]
+fn nothing(rt: HostRuntime) -> Result<(), std::test::Fail> {
+    Ok(())
 }

@@ -1,18 +1,19 @@
 // Where the text of flat operators names addresses.
 
+use crate::names::{function_name, mover_name, object_name};
 use flat_ir::FlatOp;
-use gen_parts::{function_name, mover_name, object_name};
 use ldb_words::Text;
 use obj_file::{Form, Use};
 use std::alloc::{AllocError, Global};
 
-/// A function that is made: its number, and where in the text it begins, the code of each place of its flat code begins, and its end, the epilogue, begins.
+/// A function that is made: its number; where in the text it begins, and the code of each place of its flat code; where its end begins, if that is jumped to; and which word of a conditional jump, counted from 0, is the jump.
 #[derive(Drop)]
 pub struct Around<'a> {
     pub number: u32,
     pub entry: u32,
     pub places: &'a [u32],
-    pub epilogue: u32,
+    pub epilogue: Option<u32>,
+    pub jump_word: u32,
 }
 
 /// A use in the text.
@@ -69,7 +70,7 @@ fn place_at(around: &Around, place: u32) -> Result<u32, AllocError> {
 }
 
 /// The uses of an operator, whose code begins at an offset in the text.
-pub fn put_uses(
+fn put_uses(
     alloc: Global,
     uses: &mut Vec<Use>,
     around: &Around,
@@ -87,10 +88,29 @@ pub fn put_uses(
             alloc,
             uses,
             around,
-            words_on(at, 2)?,
+            words_on(at, around.jump_word)?,
             place_at(around, place)?,
         ),
-        FlatOp::Return => use_own(alloc, uses, around, words_on(at, 1)?, around.epilogue),
+        FlatOp::Return => match around.epilogue {
+            Some(epilogue) => use_own(alloc, uses, around, words_on(at, 1)?, epilogue),
+            None => Ok(()),
+        },
         _ => Ok(()),
     }
+}
+
+/// The uses of operators, each of whose code begins at its place.
+pub fn put_all_uses(
+    alloc: Global,
+    uses: &mut Vec<Use>,
+    around: &Around,
+    ops: &[FlatOp],
+) -> Result<(), AllocError> {
+    for i in 0..ops.len() {
+        let (Some(op), Some(at)) = (ops.get(i), around.places.get(i)) else {
+            return Err(AllocError);
+        };
+        put_uses(alloc, uses, around, *at, op)?;
+    }
+    Ok(())
 }

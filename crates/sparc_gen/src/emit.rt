@@ -1,0 +1,64 @@
+// Instructions at the end of the text.
+
+use crate::instructions::{by_bits, by_register, ld, or, sethi, st};
+use crate::registers::{OWN, STACK_POINTER};
+use sparc_isa::Insn;
+use std::alloc::AllocError;
+
+/// The first distance that is too long for the field of a load.
+const LONG: u32 = 0x1000;
+
+/// One more instruction.
+pub fn put(code: &mut Vec<Insn>, insn: Insn) -> Result<(), AllocError> {
+    code.push(insn)?;
+    Ok(())
+}
+
+/// Some more instructions.
+pub fn put_all(code: &mut Vec<Insn>, insns: &[Insn]) -> Result<(), AllocError> {
+    code.extend_from_slice(insns)?;
+    Ok(())
+}
+
+/// The upper 22 bits of a word.
+fn high(bits: u32) -> u32 {
+    bits >> 10
+}
+
+/// The lower 10 bits of a word.
+fn low(bits: u32) -> u16 {
+    (bits & 0x3ff) as u16
+}
+
+/// A distance in 13 bits, which has no more than 12.
+fn short(at: u32) -> u16 {
+    (at & 0xfff) as u16
+}
+
+/// A word by its bits in a register.
+pub fn put_word(code: &mut Vec<Insn>, to: u8, bits: u32) -> Result<(), AllocError> {
+    put_all(
+        code,
+        &[sethi(to, high(bits)), or(to, to, by_bits(low(bits)))],
+    )
+}
+
+/// A word of the frame in a register.
+pub fn put_get(code: &mut Vec<Insn>, to: u8, at: u32) -> Result<(), AllocError> {
+    if at < LONG {
+        put(code, ld(to, STACK_POINTER, by_bits(short(at))))
+    } else {
+        put_word(code, OWN, at)?;
+        put(code, ld(to, STACK_POINTER, by_register(OWN)))
+    }
+}
+
+/// A register in a word of the frame.
+pub fn put_put(code: &mut Vec<Insn>, from: u8, at: u32) -> Result<(), AllocError> {
+    if at < LONG {
+        put(code, st(from, STACK_POINTER, by_bits(short(at))))
+    } else {
+        put_word(code, OWN, at)?;
+        put(code, st(from, STACK_POINTER, by_register(OWN)))
+    }
+}
