@@ -6,11 +6,8 @@ mod emit;
 mod functions;
 mod layout;
 mod movers;
-mod shapes;
 mod whole;
 mod within;
 
 pub use layout::{GREATEST_FRAME, Layout, layout_of};
-pub use movers::{Parts, mover_of, movers_of};
-pub use shapes::{Part, Shape, parts_of};
 pub use whole::flat_code;

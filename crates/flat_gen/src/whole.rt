@@ -1,11 +1,10 @@
 // The flat code of a program.
 
 use crate::functions::flat_function;
-use crate::movers::{Parts, movers_of};
-use crate::shapes::parts_of;
+use crate::movers::movers_of;
 use flat_ir::{FlatCode, FlatFunction};
 use ldb_words::Many;
-use slot_ir::{SlotCode, SlotFunction, SlotStruct};
+use slot_ir::{SlotCode, SlotFunction};
 use std::alloc::{AllocError, Global};
 
 /// The flat code of functions.
@@ -22,23 +21,10 @@ fn flat_functions(
     Ok(Many::from_vec(rows))
 }
 
-/// The parts of structs.
-fn all_parts(alloc: Global, structs: &[SlotStruct]) -> Result<Vec<Parts>, AllocError> {
-    let mut rows = Vec::new(alloc);
-    for row in structs {
-        rows.push(Parts {
-            size: row.size,
-            parts: parts_of(alloc, row.leaves.as_slice())?,
-        })?;
-    }
-    Ok(rows)
-}
-
 /// The flat code of a program, whose frames begin with so many bytes of the target's own.
 pub fn flat_code(alloc: Global, linkage: u32, slots: &SlotCode) -> Result<FlatCode, AllocError> {
     let functions = flat_functions(alloc, linkage, slots, slots.functions.as_slice())?;
-    let structs = all_parts(alloc, slots.structs.as_slice())?;
-    let movers = movers_of(alloc, &structs)?;
+    let movers = movers_of(alloc, slots.structs.as_slice())?;
     Ok(FlatCode {
         functions,
         main: slots.main,

@@ -2,26 +2,25 @@
 
 use ldb_words::{Kind, Many};
 
-/// A step of a copy, which goes on at two places, where a struct is copied from and where to. `place` is one in the mover's list.
+/// A step of a copy, which goes on at two places, where a struct is copied from and where to.
 #[derive(Clone, Copy, PartialEq, Eq, Debug)]
 pub enum MoveStep {
     /// A leaf is copied. Both places move past it: to behind it in a copy that ascends, and to its start, before it is copied, in one that descends.
     Leaf(Kind),
     /// Both places move on by some bytes, modulo 2^32.
     Skip(u32),
-    /// So many items follow. The count is kept in the word of this level.
-    Items { level: u8, count: u32 },
-    /// An item is done. Where more are left, the step at this place comes next.
-    Again { level: u8, place: u32 },
-    /// A struct by its number.
-    Struct(u32),
+    /// So many items follow, the next step each time, up to the step behind it. The count is kept in a word.
+    Items(u32),
+    /// An item is done. Where more are left, the step before this one comes next.
+    Again,
+    /// A struct by its number, whose copy keeps its words behind so many of this one.
+    Struct { number: u32, words: u8 },
 }
 
-/// How a struct is copied: its size, how many words its copy keeps, and its steps from the first leaf on, and from the last leaf back.
+/// How a struct is copied: its size, and its steps from the first leaf on, and from the last leaf back.
 #[derive(Drop)]
 pub struct Mover {
     pub size: u32,
-    pub words: u8,
     pub ascending: Many<MoveStep>,
     pub descending: Many<MoveStep>,
 }

@@ -56,44 +56,36 @@ fn put_skip(code: &mut Vec<Insn>, bytes: u32) -> Result<(), AllocError> {
     put_all(code, &[addu(A, A, OWN), addu(B, B, OWN)])
 }
 
-/// Where the count of a level is kept.
-fn count_at(level: u8) -> u16 {
-    4 + 4 * u16::from(level)
-}
+/// Where the count of items is kept, behind where the copy was called.
+const COUNT_AT: u16 = 4;
 
 /// So many items follow.
-fn put_items(code: &mut Vec<Insn>, level: u8, count: u32) -> Result<(), AllocError> {
+fn put_items(code: &mut Vec<Insn>, count: u32) -> Result<(), AllocError> {
     put_word(code, OWN, count)?;
-    put(code, sw(OWN, OWN_TOO, count_at(level)))
+    put(code, sw(OWN, OWN_TOO, COUNT_AT))
 }
 
-/// How far a branch at the end of the code goes to come to an instruction before.
-fn back_to(code: &[Insn], place: usize) -> Result<u16, AllocError> {
-    let words = code
-        .len()
-        .checked_sub(place)
-        .and_then(|n| n.checked_add(1))
-        .ok_or(AllocError)?;
-    let words = u16::try_from(words).map_err(|_| AllocError)?;
-    if words > 0x7fff {
-        return Err(AllocError);
-    }
-    Ok(words.wrapping_neg())
-}
-
-/// An item is done.
-fn put_again(code: &mut Vec<Insn>, level: u8, place: usize) -> Result<(), AllocError> {
+/// An item is done, whose code is of so many words. The branch goes back over it and the five words of this.
+fn put_again(code: &mut Vec<Insn>, words: u16) -> Result<(), AllocError> {
     put_all(
         code,
         &[
-            lw(OWN, OWN_TOO, count_at(level)),
+            lw(OWN, OWN_TOO, COUNT_AT),
             no_op(),
             addiu(OWN, OWN, 0xffff),
-            sw(OWN, OWN_TOO, count_at(level)),
+            sw(OWN, OWN_TOO, COUNT_AT),
+            bne(OWN, ZERO, 0xfffb - words),
+            no_op(),
         ],
-    )?;
-    let offset = back_to(code, place)?;
-    put_all(code, &[bne(OWN, ZERO, offset), no_op()])
+    )
+}
+
+/// How many words the code of an item has.
+fn words_of(step: MoveStep) -> u16 {
+    match step {
+        MoveStep::Leaf(_) => 5,
+        _ => 4,
+    }
 }
 
 /// A struct inside, whose words lie behind those of this copy.
@@ -121,30 +113,29 @@ fn direction_name(alloc: Global, number: u32, back: bool) -> Result<Text, AllocE
     }
 }
 
-/// A step, where the code of each step of this copy begins at these instructions.
+/// A leaf in a direction.
+fn put_leaf_of(code: &mut Vec<Insn>, back: bool, kind: Kind) -> Result<(), AllocError> {
+    if back {
+        put_leaf_back(code, kind)
+    } else {
+        put_leaf(code, kind)
+    }
+}
+
+/// A step, behind another.
 fn put_step(
     alloc: Global,
     making: &mut Making,
-    places: &[usize],
-    words: u8,
     back: bool,
+    before: MoveStep,
     step: MoveStep,
 ) -> Result<(), AllocError> {
     match step {
-        MoveStep::Leaf(kind) => {
-            if back {
-                put_leaf_back(&mut making.code, kind)
-            } else {
-                put_leaf(&mut making.code, kind)
-            }
-        }
+        MoveStep::Leaf(kind) => put_leaf_of(&mut making.code, back, kind),
         MoveStep::Skip(bytes) => put_skip(&mut making.code, bytes),
-        MoveStep::Items { level, count } => put_items(&mut making.code, level, count),
-        MoveStep::Again { level, place } => {
-            let first = places.get(place as usize).copied().ok_or(AllocError)?;
-            put_again(&mut making.code, level, first)
-        }
-        MoveStep::Struct(number) => {
+        MoveStep::Items(count) => put_items(&mut making.code, count),
+        MoveStep::Again => put_again(&mut making.code, words_of(before)),
+        MoveStep::Struct { number, words } => {
             let name = direction_name(alloc, number, back)?;
             put_struct(alloc, making, name, words)
         }
@@ -155,15 +146,14 @@ fn put_step(
 pub fn put_copy(
     alloc: Global,
     making: &mut Making,
-    words: u8,
     back: bool,
     steps: &[MoveStep],
 ) -> Result<(), AllocError> {
-    let mut places = Vec::new(alloc);
+    let mut before = MoveStep::Again;
     put(&mut making.code, sw(RETURN_ADDRESS, OWN_TOO, 0))?;
     for step in steps {
-        places.push(making.code.len())?;
-        put_step(alloc, making, &places, words, back, *step)?;
+        put_step(alloc, making, back, before, *step)?;
+        before = *step;
     }
     put_all(
         &mut making.code,

@@ -57,40 +57,28 @@ fn put_skip(code: &mut Vec<Insn>, bytes: u32) -> Result<(), AllocError> {
     )
 }
 
-/// Where the count of a level is kept.
-fn count_at(level: u8) -> u16 {
-    4 + 4 * u16::from(level)
-}
+/// Where the count of items is kept, behind where the copy was called.
+const COUNT_AT: u16 = 4;
 
 /// So many items follow.
-fn put_items(code: &mut Vec<Insn>, level: u8, count: u32) -> Result<(), AllocError> {
+fn put_items(code: &mut Vec<Insn>, count: u32) -> Result<(), AllocError> {
     put_word(code, OWN, count)?;
-    put(code, st(OWN, OWN_TOO, by_bits(count_at(level))))
+    put(code, st(OWN, OWN_TOO, by_bits(COUNT_AT)))
 }
 
-/// How far a branch at the end of the code goes to come to an instruction before.
-fn back_to(code: &[Insn], place: usize) -> Result<u32, AllocError> {
-    let words = code.len().checked_sub(place).ok_or(AllocError)?;
-    let words = u32::try_from(words).map_err(|_| AllocError)?;
-    if words > 0x1f_ffff {
-        return Err(AllocError);
-    }
-    Ok((0x40_0000 - words) & 0x3f_ffff)
-}
-
-/// An item is done.
-fn put_again(code: &mut Vec<Insn>, level: u8, place: usize) -> Result<(), AllocError> {
-    let at = by_bits(count_at(level));
+/// An item is done, whose code is of four words. The branch goes back over it and the three words of this before.
+fn put_again(code: &mut Vec<Insn>) -> Result<(), AllocError> {
+    let at = by_bits(COUNT_AT);
     put_all(
         code,
         &[
             ld(OWN, OWN_TOO, at),
             subcc(OWN, OWN, by_bits(1)),
             st(OWN, OWN_TOO, at),
+            branch(Condition::NotEqual, 0x3f_fff9),
+            no_op(),
         ],
-    )?;
-    let words = back_to(code, place)?;
-    put_all(code, &[branch(Condition::NotEqual, words), no_op()])
+    )
 }
 
 /// A struct inside, whose words lie behind those of this copy.
@@ -115,30 +103,28 @@ fn direction_name(alloc: Global, number: u32, back: bool) -> Result<Text, AllocE
     }
 }
 
-/// A step, where the code of each step of this copy begins at these instructions.
+/// A leaf in a direction.
+fn put_leaf_of(code: &mut Vec<Insn>, back: bool, kind: Kind) -> Result<(), AllocError> {
+    if back {
+        put_leaf_back(code, kind)
+    } else {
+        put_leaf(code, kind)
+    }
+}
+
+/// A step.
 fn put_step(
     alloc: Global,
     making: &mut Making,
-    places: &[usize],
-    words: u8,
     back: bool,
     step: MoveStep,
 ) -> Result<(), AllocError> {
     match step {
-        MoveStep::Leaf(kind) => {
-            if back {
-                put_leaf_back(&mut making.code, kind)
-            } else {
-                put_leaf(&mut making.code, kind)
-            }
-        }
+        MoveStep::Leaf(kind) => put_leaf_of(&mut making.code, back, kind),
         MoveStep::Skip(bytes) => put_skip(&mut making.code, bytes),
-        MoveStep::Items { level, count } => put_items(&mut making.code, level, count),
-        MoveStep::Again { level, place } => {
-            let first = places.get(place as usize).copied().ok_or(AllocError)?;
-            put_again(&mut making.code, level, first)
-        }
-        MoveStep::Struct(number) => {
+        MoveStep::Items(count) => put_items(&mut making.code, count),
+        MoveStep::Again => put_again(&mut making.code),
+        MoveStep::Struct { number, words } => {
             let name = direction_name(alloc, number, back)?;
             put_struct(alloc, making, name, words)
         }
@@ -149,15 +135,12 @@ fn put_step(
 pub fn put_copy(
     alloc: Global,
     making: &mut Making,
-    words: u8,
     back: bool,
     steps: &[MoveStep],
 ) -> Result<(), AllocError> {
-    let mut places = Vec::new(alloc);
     put(&mut making.code, st(CALLED_FROM, OWN_TOO, by_bits(0)))?;
     for step in steps {
-        places.push(making.code.len())?;
-        put_step(alloc, making, &places, words, back, *step)?;
+        put_step(alloc, making, back, *step)?;
     }
     put_all(
         &mut making.code,

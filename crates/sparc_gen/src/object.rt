@@ -54,21 +54,9 @@ fn add_mover(
     add_name(parts, mover_name(alloc, number)?)?;
     put_choice(alloc, &mut parts.text, number, mover.size)?;
     add_name(parts, ascending_name(alloc, number)?)?;
-    put_copy(
-        alloc,
-        &mut parts.text,
-        mover.words,
-        false,
-        mover.ascending.as_slice(),
-    )?;
+    put_copy(alloc, &mut parts.text, false, mover.ascending.as_slice())?;
     add_name(parts, descending_name(alloc, number)?)?;
-    put_copy(
-        alloc,
-        &mut parts.text,
-        mover.words,
-        true,
-        mover.descending.as_slice(),
-    )
+    put_copy(alloc, &mut parts.text, true, mover.descending.as_slice())
 }
 
 /// The code that copies each struct.
