@@ -15,7 +15,7 @@ use Rattle.c_tree.specs.Rows.{stmts}
 use Rattle.c_tree.specs.declared.rows.Program.{Program}
 use Rattle.runs.specs.Runs.{Stopped}
 use Rattle.c_store.specs.Store.{World}
-use Rattle.c_store.specs.Frames.{new_place}
+use Rattle.c_store.specs.Frames.{new_activation}
 use Rattle.c_source.specs.Control.{State, Stop, Open, runs_of}
 use Rattle.c_source.specs.Begin.{begin, static_objects, world_at_first}
 use Rattle.assign_tree.specs.Assigning.{site_at, program_with, IsBody, block}
@@ -49,7 +49,7 @@ module _ (file : List ℕ) (names : List (List ℕ)) where
       let same = pass_runs brace tasks (zeros names) (pos 0) e new run in
       let facts : Facts names all 0 tasks (zeros names) = record { at = brace; point = refl; rest = refl; last = refl; all = length-replicate (length names) (pos 0); ints = all_zeros (length names) } in
       let stands = opening close tasks (stmts row) (zeros names) are facts in
-      let start : (w : World) → State = λ w. record { here = record { world = w; place = new_place 0 0 }; values = []; control = Stop 0 ∷ Open [] ∷ (runs_of (stmts row) ++ BEHIND); outer = [] } in
+      let start : (w : World) → State = λ w. record { here = record { world = w; activation = new_activation 0 0 }; values = []; control = Stop 0 ∷ Open [] ∷ (runs_of (stmts row) ++ BEHIND); outer = [] } in
       subst (λ x. Resumed file names all body (block offset brace close tasks shape row are) (begin (program_with file names all body) []) e x) (sym same.1)
       (subst (λ x. Resumed file names all body (block offset brace close tasks shape row are) (begin (program_with file names all body) []) x (state tasks (zeros names) (pos 0))) (sym same.0)
       (subst (λ w. Resumed file names all body (block offset brace close tasks shape row are) (start w) (event.Stop brace) (state tasks (zeros names) (pos 0))) (sym (first_world file names all body))

@@ -38,7 +38,7 @@ int_objects k (z ∷ zs) = int_object k z ∷ int_objects (suc k) zs
 -- `main` at a point, with these numbers in the objects
 abbrev pub at_point : List ℤ → ℕ → List Value → List Item → State
 at_point values q vs k = record {
-  here = record { world = record { objects = int_objects 0 values; input = []; output = [] }; place = record { number = 0; function = 0; locals = []; point = Some q } };
+  here = record { world = record { objects = int_objects 0 values; input = []; output = [] }; activation = record { number = 0; function = 0; locals = []; point = Some q } };
   values = vs;
   control = k;
   outer = [];

@@ -3,7 +3,7 @@ use Rattle.std.proofs.Common.{◌≡◌, refl, arith, ℕ, List, [], ◌∷◌, 
 use Rattle.std.specs.Prelude.{codes, ◌⊎◌, ◌≢◌}
 use Rattle.std.specs.List.{AllByRecursion}
 use Rattle.c_tree.specs.declared.rows.Program.{Program}
-use Rattle.runs.specs.Runs.{Course, Going, Comes, Lost, Stopped, Exited, Failed, until}
+use Rattle.runs.specs.Runs.{Course, Going, Comes, Stopped, Exited, Failed, until}
 use Rattle.c_session.specs.declared.command.Command.{Command}
 use Rattle.c_source.specs.Control.{State}
 use Rattle.c_source.specs.Source.{step}
@@ -16,7 +16,6 @@ module _ (p : Program) (r : Reader) (fuel : ℕ) where
   abbrev HasEvent : Course State → Type 0
   HasEvent (Going c s) = ⊥
   HasEvent (Comes c e) = IsEvent e
-  HasEvent Lost = ⊥
 
   abbrev HasRun : Standing → Resume → List (Option State) → Type 0
   HasRun st how (Some s ∷ []) = HasEvent (until State (step p) (stops_by st.session.breaks how) fuel s)
@@ -41,7 +40,6 @@ module _ (p : Program) (r : Reader) (fuel : ℕ) where
   by_run st how s (Comes c (Stopped q t)) e h = inl (Stopped q t, tt, ((c, (fuel, e)), tt), refl, refl)
   by_run st how s (Comes c (Exited n t)) e h = inl (Exited n t, tt, ((c, (fuel, e)), tt), refl, refl)
   by_run st how s (Comes c (Failed w)) e h = absurd h
-  by_run st how s Lost e h = absurd h
 
   by_sides : (st : Standing) (how : Resume) (ps : List (Option State)) → HasRun st how ps
       → ResumeReplies p st how ps (by_positions p r fuel st how ps).lines (by_positions p r fuel st how ps).next

@@ -10,7 +10,7 @@ use Rattle.c_tree.specs.Types.{type_of}
 use Rattle.runs.specs.Runs.{Why, Reason, Stale, IllTyped, Event, Exited, Failed}
 use Rattle.runs.specs.Runs as runs
 use Rattle.c_store.specs.Store.{Value, World}
-use Rattle.c_store.specs.Frames.{Place, bound}
+use Rattle.c_store.specs.Frames.{ActivationRecord, bound}
 use Rattle.c_source.specs.Control.{State}
 use Rattle.c_source.specs.Meaning.{Given, values_meant, assigned}
 use Rattle.c_source.specs.Names.{named}
@@ -49,7 +49,7 @@ module _ (p : Program) (r : Reader) (sides : ℕ) (session : Session) where
   plain_clear None = record { says = tt }
   plain_clear (Some q) = by_if (has session.breaks q) (record { says = refl }) (record { says = tt })
 
-  plain_frame : (n : ℕ) (o : Option Place) → IsPlain (frame_at p r sides session n o)
+  plain_frame : (n : ℕ) (o : Option ActivationRecord) → IsPlain (frame_at p r sides session n o)
   plain_frame n None = record { says = tt }
   plain_frame n (Some a) = record { says = refl }
 
@@ -57,13 +57,13 @@ module _ (p : Program) (r : Reader) (sides : ℕ) (session : Session) where
   plain_object w t None = record { says = tt }
   plain_object w t (Some o) = record { says = tt }
 
-  plain_referent : (w : World) (a : Place) (d : Referent) → IsPlain (print_referent p r sides session w a d)
+  plain_referent : (w : World) (a : ActivationRecord) (d : Referent) → IsPlain (print_referent p r sides session w a d)
   plain_referent w a (refers.Object o) = record { says = tt }
   plain_referent w a (refers.Local x) = plain_object w _ (bound x a.locals)
   plain_referent w a (refers.Function f) = record { says = tt }
   plain_referent w a refers.Declared = record { says = tt }
 
-  plain_symbol : (w : World) (a : Place) (o : Option SymbolRow) → IsPlain (print_symbol p r sides session w a o)
+  plain_symbol : (w : World) (a : ActivationRecord) (o : Option SymbolRow) → IsPlain (print_symbol p r sides session w a o)
   plain_symbol w a None = record { says = tt }
   plain_symbol w a (Some s) = plain_referent w a s.refers
 
@@ -73,9 +73,9 @@ module _ (p : Program) (r : Reader) (sides : ℕ) (session : Session) where
   plain_values w t (Err Stale) = record { says = tt }
   plain_values w t (Err IllTyped) = record { says = tt }
 
-  plain_eval : (w : World) (a : Place) (t : Reading) → IsPlain (eval_read p r sides session w a t)
+  plain_eval : (w : World) (a : ActivationRecord) (t : Reading) → IsPlain (eval_read p r sides session w a t)
   plain_eval w a (Unread u) = record { says = tt }
-  plain_eval w a (Read e) = plain_values w (type_of e) (values_meant p (record { world = w; place = a }) e)
+  plain_eval w a (Read e) = plain_values w (type_of e) (values_meant p (record { world = w; activation = a }) e)
 
   plain_given : (s : State) (m : Result Given Why) → IsPlain (assign_gives p r sides session s m)
   plain_given s (Ok g) = record { says = tt }
@@ -83,11 +83,11 @@ module _ (p : Program) (r : Reader) (sides : ℕ) (session : Session) where
   plain_given s (Err Stale) = record { says = tt }
   plain_given s (Err IllTyped) = record { says = tt }
 
-  plain_assign : (s : State) (a : Place) (t : Reading) → IsPlain (assign_read p r sides session s a t)
+  plain_assign : (s : State) (a : ActivationRecord) (t : Reading) → IsPlain (assign_read p r sides session s a t)
   plain_assign s a (Unread u) = record { says = tt }
-  plain_assign s a (Read e) = plain_given s (assigned p (record { world = s.here.world; place = a }) e)
+  plain_assign s a (Read e) = plain_given s (assigned p (record { world = s.here.world; activation = a }) e)
 
-  by_frame : (o : Option Place) (go : Place → Answer) → ((a : Place) → IsPlain (go a)) → IsPlain (in_frame p r sides session o go)
+  by_frame : (o : Option ActivationRecord) (go : ActivationRecord → Answer) → ((a : ActivationRecord) → IsPlain (go a)) → IsPlain (in_frame p r sides session o go)
   by_frame None go f = record { says = tt }
   by_frame (Some a) go f = f a
 

@@ -2,7 +2,7 @@
 use Rattle.std.specs.Prelude.{◌≡◌, ◌≢◌, ◌⊎◌, ℕ, ◌+◌, ◌*◌, ◌<◌, ◌≤◌, List, [], ◌∷◌, ◌++◌, Bool, true, Option, Some, None, codes}
 use Rattle.std.specs.Fmt.{signed_decimal}
 use Rattle.std.specs.List.{AllByRecursion}
-use Rattle.runs.specs.Runs.{Next, Goes, Passes, Exits, Undefined, Stuck, Why, Reason, Stale, IllTyped, Event, Exited, Failed, RunsTo, OnTheWay, count_of}
+use Rattle.runs.specs.Runs.{Next, Goes, Passes, Exits, Undefined, Why, Reason, Stale, IllTyped, Event, Exited, Failed, RunsTo, OnTheWay, count_of}
 use Rattle.runs.specs.Runs as runs
 use Rattle.c_tree.specs.declared.rows.Program.{Program}
 use Rattle.c_session.specs.declared.command.Command.{Command}
@@ -41,7 +41,6 @@ next_output s (Goes c t) = output_of t
 next_output s (Passes q c t) = output_of t
 next_output s (Exits n c t) = output_of t
 next_output s (Undefined w) = output_of s
-next_output s Stuck = output_of s
 
 -- a point passed and an exit are events; an undefined step is none
 abbrev pub IsEvent : Event State → Type 0

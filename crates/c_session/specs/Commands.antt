@@ -16,10 +16,10 @@ use Rattle.c_tree.specs.Types.{type_of}
 use Rattle.c_session.specs.declared.command.Command.{Command}
 use Rattle.c_session.specs.declared.command.Command.TheVariants as command
 use Rattle.c_store.specs.Store.{Value, Object, World}
-use Rattle.c_store.specs.Frames.{Place, bound}
+use Rattle.c_store.specs.Frames.{ActivationRecord, bound}
 use Rattle.c_source.specs.Blocks.{local_type}
 use Rattle.c_source.specs.Control.{State}
-use Rattle.c_source.specs.Begin.{places}
+use Rattle.c_source.specs.Begin.{records}
 use Rattle.c_source.specs.Names.{named, place_text, activation_text}
 use Rattle.c_session.specs.Places.{point_at}
 use Rattle.c_source.specs.Meaning.{Given, values_meant, assigned}
@@ -120,24 +120,24 @@ module _ (p : Program) (r : Reader) (sides : ℕ) (session : Session) where
   point_or_0 None = 0
   point_or_0 (Some q) = q
 
-  abbrev pub point_of : Place → ℕ
+  abbrev pub point_of : ActivationRecord → ℕ
   point_of a = point_or_0 a.point
 
-  abbrev frame_text : ℕ → Place → List ℕ
+  abbrev frame_text : ℕ → ActivationRecord → List ℕ
   frame_text n a = codes "frame " ++ decimal n ++ codes " " ++ activation_text p (point_of a)
 
-  abbrev frame_texts : ℕ → List Place → List (List ℕ)
+  abbrev frame_texts : ℕ → List ActivationRecord → List (List ℕ)
   frame_texts n [] = []
   frame_texts n (a ∷ rest) = frame_text n a ∷ frame_texts (suc n) rest
 
   -- the list of frames is cut at 20,000
-  abbrev pub frames_of : State → List Place
-  frames_of s = take 20000 (places s)
+  abbrev pub frames_of : State → List ActivationRecord
+  frames_of s = take 20000 (records s)
 
-  abbrev pub all_frames : List Place → Answer
+  abbrev pub all_frames : List ActivationRecord → Answer
   all_frames fs = Says ((codes "frames " ++ decimal (length fs)) ∷ frame_texts 0 fs) session
 
-  abbrev pub frame_at : ℕ → Option Place → Answer
+  abbrev pub frame_at : ℕ → Option ActivationRecord → Answer
   frame_at n None = Refuses NoFrame
   frame_at n (Some a) = Says (frame_text n a ∷ []) (record session { frame = n })
 
@@ -156,13 +156,13 @@ module _ (p : Program) (r : Reader) (sides : ℕ) (session : Session) where
   row_type (Some row) = row.ctype
 
   -- a function's name is of no object
-  abbrev pub print_referent : World → Place → Referent → Answer
+  abbrev pub print_referent : World → ActivationRecord → Referent → Answer
   print_referent w a (refers.Object o) = print_object w (row_type (slice_get p.objects o)) (Some o)
   print_referent w a (refers.Local x) = print_object w (local_type p a.function x) (bound x a.locals)
   print_referent w a (refers.Function f) = Refuses BadType
   print_referent w a refers.Declared = Refuses BadType
 
-  abbrev pub print_symbol : World → Place → Option SymbolRow → Answer
+  abbrev pub print_symbol : World → ActivationRecord → Option SymbolRow → Answer
   print_symbol w a None = Refuses NoScope
   print_symbol w a (Some s) = print_referent w a s.refers
 
@@ -179,9 +179,9 @@ module _ (p : Program) (r : Reader) (sides : ℕ) (session : Session) where
   eval_gives w t (Err Stale) = ShowsAny
   eval_gives w t (Err IllTyped) = Nothing
 
-  abbrev pub eval_read : World → Place → Reading → Answer
+  abbrev pub eval_read : World → ActivationRecord → Reading → Answer
   eval_read w a (Unread u) = Refuses u
-  eval_read w a (Read e) = eval_gives w (type_of e) (values_meant p (record { world = w; place = a }) e)
+  eval_read w a (Read e) = eval_gives w (type_of e) (values_meant p (record { world = w; activation = a }) e)
 
   -- it changes the leaves that the assignment's steps change, and nothing else
   abbrev pub assign_gives : State → Result Given Why → Answer
@@ -190,16 +190,16 @@ module _ (p : Program) (r : Reader) (sides : ℕ) (session : Session) where
   assign_gives s (Err Stale) = EndsClaim
   assign_gives s (Err IllTyped) = Nothing
 
-  abbrev pub assign_read : State → Place → Reading → Answer
+  abbrev pub assign_read : State → ActivationRecord → Reading → Answer
   assign_read s a (Unread u) = Refuses u
-  assign_read s a (Read e) = assign_gives s (assigned p (record { world = s.here.world; place = a }) e)
+  assign_read s a (Read e) = assign_gives s (assigned p (record { world = s.here.world; activation = a }) e)
 
-  abbrev pub in_frame : Option Place → (Place → Answer) → Answer
+  abbrev pub in_frame : Option ActivationRecord → (ActivationRecord → Answer) → Answer
   in_frame None go = Refuses NoFrame
   in_frame (Some a) go = go a
 
-  abbrev pub chosen : State → Option Place
-  chosen s = slice_get (places s) session.frame
+  abbrev pub chosen : State → Option ActivationRecord
+  chosen s = slice_get (records s) session.frame
 
   -- ---- commands by the session's state
 

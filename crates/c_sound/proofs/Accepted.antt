@@ -8,9 +8,9 @@ use Rattle.c_tree.specs.declared.rows.Function.{Function}
 use Rattle.c_tree.specs.declared.typed.Typed.{Typed}
 use Rattle.runs.specs.Runs.{Why, Reason, Stale, IllTyped, Moment, Reached, after, until}
 use Rattle.c_store.specs.Store.{Number}
-use Rattle.c_store.specs.Frames.{Here, Place}
+use Rattle.c_store.specs.Frames.{Here, ActivationRecord}
 use Rattle.c_store.specs.Assigned.{History}
-use Rattle.c_source.specs.Blocks.{result_type, converted}
+use Rattle.c_source.specs.Blocks.{result_type, zero_as}
 use Rattle.c_source.specs.Control.{Push, GiveBack, State}
 use Rattle.c_source.specs.Source.{step}
 use Rattle.c_source.specs.Begin.{begin, acted}
@@ -26,7 +26,7 @@ use Rattle.c_sound.proofs.Ready.{locals_of, Good}
 use Rattle.c_sound.proofs.Lists.{live_here}
 use Rattle.c_sound.proofs.Evaluations.{values_given, assigned_given}
 use Rattle.c_sound.proofs.Structs.{struct_lvalue}
-use Rattle.c_sound.proofs.Operators.{addr, converted_shape}
+use Rattle.c_sound.proofs.Operators.{addr, zero_shape}
 use Rattle.c_sound.proofs.Steps.{ShapedFunction}
 use Rattle.c_sound.proofs.Rules.{no_none, some_same}
 use Rattle.c_sound.proofs.Typed.{HasParameters, evaluated, located}
@@ -65,8 +65,8 @@ module _ (p : Program) (accepted : IsAccepted p) where
   function_ready g (Some fn) e =
       let i = function_there g fn e in
       let t : fn.result ≡ result_type p g = sym (ap result_in e) in
-      body_ready p parameters_there g (plain fn.result) (ap plain t) fn.body (numbers 0 fn.params) (Push (converted fn.result (Number 0)) ∷ GiveBack ∷ []) i.block i.body
-      (λ ls. converted_shape fn.result (Number 0) ∙ given_back fn.result i.result ∙ ap addr t)
+      body_ready p parameters_there g (plain fn.result) (ap plain t) fn.body (numbers 0 fn.params) (Push (zero_as fn.result) ∷ GiveBack ∷ []) i.block i.body
+      (λ ls. zero_shape fn.result ∙ given_back fn.result i.result ∙ ap addr t)
 
   pub bodies_ready : (g : ℕ) → ShapedFunction p g (slice_get p.functions g)
   bodies_ready g = function_ready g (slice_get p.functions g) refl
@@ -86,9 +86,9 @@ module _ (p : Program) (accepted : IsAccepted p) where
     pub course_keeps : (stops : ℕ → Bool) (k : ℕ) → CourseKeepsShapes (until State (step p) stops k m.state)
     course_keeps stops k = courses_keep p bodies_ready stops k m.state good_there
 
-    module _ (a : Place) (v : List ℕ) (live : AreLive v a) (e : Typed) (typed : IsTyped (scope_at p a.function v) e) where
+    module _ (a : ActivationRecord) (v : List ℕ) (live : AreLive v a) (e : Typed) (typed : IsTyped (scope_at p a.function v) e) where
       abbrev pub at : Here
-      at = record { world = m.state.here.world; place = a }
+      at = record { world = m.state.here.world; activation = a }
 
       within : (x : ℕ) → has v x ≡ true → has (locals_of a.locals) x ≡ true
       within x q = let o = live x q in live_here x o.0 a.locals o.1

@@ -19,7 +19,7 @@ use Rattle.c_tree.specs.Rows.{exprs, stmts}
 use Rattle.c_source.specs.Blocks.{result_type, statements_in}
 use Rattle.c_source.specs.Control.{Item, Eval, Locate, Store, Copy, Run, Again, Switched, Label, Round, runs_of, evals_of, inits_of, part_of, loop_begins, loop_goes_on, loop_turns, broken, continued, labels_in, default_in}
 use Rattle.c_sound.proofs.Operators.{addr, conv}
-use Rattle.c_sound.proofs.Shaped.{shape, ByCase, row_shapes, is_getchar, OneNumber, CalledFunction, CalledBuiltIn, CalledBy, Called, Given, ShapedE, ShapedL, ShapedRow, ShapedPart, ShapedInit, ShapedInits, ShapedS, ShapedRows, ShapedElse, ShapedBody, EachShaped, ShapedLoop}
+use Rattle.c_sound.proofs.Shaped.{shape, ByCase, row_shapes, is_getchar, is_putchar, is_exit, OneNumber, CalledFunction, CalledBuiltIn, CalledBy, Called, Given, ShapedE, ShapedL, ShapedRow, ShapedPart, ShapedInit, ShapedInits, ShapedS, ShapedRows, ShapedElse, ShapedBody, EachShaped, ShapedLoop}
 use Rattle.c_sound.proofs.Ready.{EntersFunction, EntersBuiltIn, EntersBy, Enters, EachLabel, Ready, Breaks, Continues}
 use Rattle.c_sound.proofs.Lists.{onto, taken, dropped}
 
@@ -56,18 +56,23 @@ module _ (p : Program) (f : ℕ) where
         subst (λ ys. go (addr (result_type p g) ∷ ys)) (sym (dropped xs ss n e)) (subst (λ s. go (s ∷ ss)) (sym q.2) x),
       )
 
-  enters_built_in : (b : Bool) (n : ℕ) (xs ss : List Bool) (go : List Bool → Type 0) → n ≡ length xs → CalledBuiltIn p b xs → go (false ∷ ss) → EntersBuiltIn p b n (onto xs ss) go
-  enters_built_in true n [] ss go e q x = subst (λ m. (take m ss ≡ []) × go (false ∷ drop m ss)) (sym e) (refl, x)
-  enters_built_in true n (s ∷ xs) ss go e q x = nil_cons s xs q
-  enters_built_in false n [] ss go e q x = absurd q
-  enters_built_in false n (s ∷ []) ss go e q x = subst (λ m. OneNumber p (take m (s ∷ ss)) × go (false ∷ drop m (s ∷ ss))) (sym e) (q, x)
-  enters_built_in false n (s ∷ t ∷ xs) ss go e q x = absurd q
+  one_entered : (n : ℕ) (xs ss : List Bool) (go : List Bool → Type 0) → n ≡ length xs → OneNumber p xs → go (false ∷ ss) → OneNumber p (take n (onto xs ss)) × go (false ∷ drop n (onto xs ss))
+  one_entered n [] ss go e q x = absurd q
+  one_entered n (s ∷ []) ss go e q x = subst (λ m. OneNumber p (take m (s ∷ ss)) × go (false ∷ drop m (s ∷ ss))) (sym e) (q, x)
+  one_entered n (s ∷ t ∷ xs) ss go e q x = absurd q
+
+  enters_built_in : (b c d : Bool) (n : ℕ) (xs ss : List Bool) (go : List Bool → Type 0) → n ≡ length xs → CalledBuiltIn p b c d xs → go (false ∷ ss) → EntersBuiltIn p b c d n (onto xs ss) go
+  enters_built_in true c d n [] ss go e q x = subst (λ m. (take m ss ≡ []) × go (false ∷ drop m ss)) (sym e) (refl, x)
+  enters_built_in true c d n (s ∷ xs) ss go e q x = nil_cons s xs q
+  enters_built_in false true d n xs ss go e q x = one_entered n xs ss go e q x
+  enters_built_in false false true n xs ss go e q x = one_entered n xs ss go e q x
+  enters_built_in false false false n xs ss go e q x = absurd q
 
   enters_by : (r : Referent) (name : List ℕ) (n : ℕ) (xs ss : List Bool) (s : Bool) (go : List Bool → Type 0) → n ≡ length xs → CalledBy p r name xs s → go (s ∷ ss) → EntersBy p r name n (onto xs ss) go
   enters_by (Object o) name n xs ss s go e q x = absurd q
   enters_by (Local o) name n xs ss s go e q x = absurd q
   enters_by (Defined g) name n xs ss s go e q x = enters_function g (slice_get p.functions g) n xs ss s go e q x
-  enters_by Declared name n xs ss s go e q x = enters_built_in (is_getchar name) n xs ss go e q.0 (subst (λ b. go (b ∷ ss)) q.1 x)
+  enters_by Declared name n xs ss s go e q x = enters_built_in (is_getchar name) (is_putchar name) (is_exit name) n xs ss go e q.0 (subst (λ b. go (b ∷ ss)) q.1 x)
 
   pub enters : (row : Option SymbolRow) (n : ℕ) (xs ss : List Bool) (s : Bool) (go : List Bool → Type 0) → n ≡ length xs → Called p row xs s → go (s ∷ ss) → Enters p row n (onto xs ss) go
   enters None n xs ss s go e q x = absurd q

@@ -1,7 +1,7 @@
 -- Runs to an event from a good state.
 use Rattle.std.proofs.Common.{ℕ, suc, zero, Bool, true, false}
 use Rattle.std.specs.Prelude.{slice_get}
-use Rattle.runs.specs.Runs.{Next, Goes, Passes, Exits, Undefined, Stuck, Reason, Stale, IllTyped, Course, Going, Comes, Lost, Stopped, Exited, Failed, counted, passing, onward, until}
+use Rattle.runs.specs.Runs.{Next, Goes, Passes, Exits, Undefined, Reason, Stale, IllTyped, Course, Going, Comes, Stopped, Exited, Failed, counted, passing, onward, until}
 use Rattle.c_tree.specs.declared.rows.Program.{Program}
 use Rattle.c_source.specs.Control.{State}
 use Rattle.c_source.specs.Source.{step}
@@ -17,7 +17,6 @@ counted_course c (Comes d (Exited v s)) k = tt
 counted_course c (Comes d (Failed (Reason u))) k = tt
 counted_course c (Comes d (Failed Stale)) k = tt
 counted_course c (Comes d (Failed IllTyped)) k = k
-counted_course c Lost k = k
 
 module _ (p : Program) (bodies : (g : ℕ) → ShapedFunction p g (slice_get p.functions g)) (stops : ℕ → Bool) where
   passing_course : (b : Bool) (q c : ℕ) (s : State) (go : State → Course State) → CourseKeepsShapes (go s) → CourseKeepsShapes (passing State (step p) b q c s go)
@@ -31,7 +30,6 @@ module _ (p : Program) (bodies : (g : ℕ) → ShapedFunction p g (slice_get p.f
   onward_course (Undefined (Reason u)) go f k = tt
   onward_course (Undefined Stale) go f k = tt
   onward_course (Undefined IllTyped) go f k = f
-  onward_course Stuck go f k = f
 
   pub courses_keep : (n : ℕ) (s : State) → Good p s → CourseKeepsShapes (until State (step p) stops n s)
   courses_keep zero s g = tt

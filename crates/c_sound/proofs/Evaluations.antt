@@ -22,7 +22,7 @@ use Rattle.c_source.specs.Source.{place_in, dot_offset, arrow_offset}
 use Rattle.c_source.specs.Meaning.{Given, Meant, or_ill_typed, value_at, tested, truth_of, chosen_as, indexed, member_at, value_of, place_of, assigned, scalar_assigned, struct_assigned, values_meant, IsPlain, IsAssignment}
 use Rattle.c_sound.specs.Shapes.{is_place, Fits, AreFitting, IsAssigned}
 use Rattle.c_sound.proofs.World.{Gives, gives_then, either_gives, used_gives, load_gives, store_gives, moved_gives, load_struct_gives, FitEach, WorldFits}
-use Rattle.c_sound.proofs.Operators.{addr, conv, conv_own, converted_shape, takes, gives, takes_one, any_gives, combined_gives, changed_gives}
+use Rattle.c_sound.proofs.Operators.{addr, conv, conv_own, converted_gives, takes, gives, takes_one, any_gives, combined_gives, changed_gives}
 use Rattle.c_sound.proofs.Shaped.{shape, ByCase, Named, NamedBy, ShapedE, ShapedL}
 use Rattle.c_sound.proofs.Ready.{locals_of}
 use Rattle.c_sound.proofs.Lists.{bound_here}
@@ -42,7 +42,7 @@ kept P x (Err IllTyped) e h = e
 
 module _ (p : Program) (h : Here) (w : WorldFits h.world) where
   abbrev ls : List ℕ
-  ls = locals_of h.place.locals
+  ls = locals_of h.activation.locals
 
   used_shape : (s : Bool) (v : Value) → V s v → Gives (V s) (used h.world v)
   used_shape s v e = kept (V s) v (used h.world v) (used_gives h.world v) e
@@ -51,9 +51,9 @@ module _ (p : Program) (h : Here) (w : WorldFits h.world) where
   array_address (Array' b t n) e = refl
   array_address _ e = absurd (true≢false (sym e))
 
-  read_by : (b : Bool) (t : CType) (v : Value) → b ≡ is_array t → V true v → Gives (V (addr t)) (if b then Ok v else (load h.world (kind_of t) v >>= λ x. Ok (converted t x)))
+  read_by : (b : Bool) (t : CType) (v : Value) → b ≡ is_array t → V true v → Gives (V (addr t)) (if b then Ok v else (load h.world (kind_of t) v >>= converted t))
   read_by true t v e q = q ∙ array_address t (sym e)
-  read_by false t v e q = gives_then (Fits (kind_of t)) (V (addr t)) (load h.world (kind_of t) v) _ (load_gives h.world (kind_of t) v w) λ x g. converted_shape t x ∙ ap (conv t) g ∙ conv_own t
+  read_by false t v e q = gives_then (Fits (kind_of t)) (V (addr t)) (load h.world (kind_of t) v) _ (load_gives h.world (kind_of t) v w) λ x g. converted_gives t x (ap (conv t) g ∙ conv_own t)
 
   read_shape : (t : CType) (v : Value) → V true v → Gives (V (addr t)) (value_at p h t v)
   read_shape t v q = read_by (is_array t) t v refl q
@@ -69,7 +69,7 @@ module _ (p : Program) (h : Here) (w : WorldFits h.world) where
   chosen_shape : (t : CType) (m : Meant) (a : Bool) → conv t a ≡ addr t → Gives (V a) m → Gives (V (addr t)) (chosen_as p h t m)
   chosen_shape t m a c q =
       gives_then (V a) (V (addr t)) m _ q λ v e.
-      gives_then (V a) (V (addr t)) (used h.world v) _ (used_shape a v e) λ x g. converted_shape t x ∙ ap (conv t) g ∙ c
+      gives_then (V a) (V (addr t)) (used h.world v) _ (used_shape a v e) λ x g. converted_gives t x (ap (conv t) g ∙ c)
 
   both_shape : (op : BinaryOp) (s t : CType) (a b : Meant) (r : Bool) → Gives (V (addr s)) a → Gives (V (addr t)) b → takes op s t (addr s) (addr t) ≡ true → gives op s t ≡ r
       → Gives (V r) (a >>= λ x. b >>= λ y. combined p.defs h.world op s t x y)
@@ -85,7 +85,7 @@ module _ (p : Program) (h : Here) (w : WorldFits h.world) where
 
   abbrev place_by : Referent → Here → Option Value
   place_by (Object o) h = Some (At o 0)
-  place_by (Local x) h = option_map (λ o. At o 0) (bound x h.place.locals)
+  place_by (Local x) h = option_map (λ o. At o 0) (bound x h.activation.locals)
   place_by (Defined f) h = None
   place_by Declared h = None
 
@@ -94,7 +94,7 @@ module _ (p : Program) (h : Here) (w : WorldFits h.world) where
 
   refers_shape : (r : Referent) → NamedBy p ls r → Gives (V true) (or_ill_typed (place_by r h))
   refers_shape (Object o) q = refl
-  refers_shape (Local x) q = let b = bound_here x h.place.locals q in mapped (bound x h.place.locals) b.0 b.1
+  refers_shape (Local x) q = let b = bound_here x h.activation.locals q in mapped (bound x h.activation.locals) b.0 b.1
   refers_shape (Defined f) q = q
   refers_shape Declared q = q
 
@@ -116,7 +116,7 @@ module _ (p : Program) (h : Here) (w : WorldFits h.world) where
     value_shaped (Or' t x a y b) i q = to _ false (addr t.ctype) q.2 (test_shape (value_of p h a) (Ok (Number 1)) _ (shape a) false (value_shaped a i.0 q.0) refl (truth_shape (value_of p h b) (shape b) (value_shaped b i.1 q.1)))
     value_shaped (And' t x a y b) i q = to _ false (addr t.ctype) q.2 (test_shape (value_of p h a) _ (Ok (Number 0)) (shape a) false (value_shaped a i.0 q.0) (truth_shape (value_of p h b) (shape b) (value_shaped b i.1 q.1)) refl)
     value_shaped (Binary' t x a op y b) i q = both_shape op (type_of a) (type_of b) (value_of p h a) (value_of p h b) (addr t.ctype) (value_shaped a i.0 q.0) (value_shaped b i.1 q.1) q.2 q.3
-    value_shaped (Cast' t x a) i q = gives_then (V (shape a)) (V (addr t.ctype)) (value_of p h a) _ (value_shaped a i q.0) λ v e. converted_shape t.ctype v ∙ ap (conv t.ctype) e ∙ q.1
+    value_shaped (Cast' t x a) i q = gives_then (V (shape a)) (V (addr t.ctype)) (value_of p h a) _ (value_shaped a i q.0) λ v e. converted_gives t.ctype v (ap (conv t.ctype) e ∙ q.1)
     value_shaped (Address' t x a) i q = to _ true (addr t.ctype) q.1 (place_shaped a i q.0)
     value_shaped (Unary' t op x a) i q = to _ false (addr t.ctype) q.2 (gives_then (V (shape a)) (V false) (value_of p h a) _ (value_shaped a i q.0) λ v e. changed_gives h.world op (type_of a) v (ap (takes_one op) e ∙ q.1))
     value_shaped (SizeOf' t x a) i q = q
@@ -197,7 +197,8 @@ module _ (p : Program) (h : Here) (w : WorldFits h.world) where
   scalar_given t a b i j q k c =
       gives_then (V true) IsGiven (place_of p h a) _ (place_shaped a i q) λ place d.
       gives_then (V (shape b)) IsGiven (value_of p h b) _ (value_shaped b j k) λ v e.
-      gives_then (Becomes h.world) IsGiven (store h.world (kind_of t) place (converted t v)) _ (stores h.world (record { kind = kind_of t; place = place; value = converted t v }) w (converted_shape t v ∙ ap (conv t) e ∙ c)) λ u g. g.0
+      gives_then (V (addr t)) IsGiven (converted t v) _ (converted_gives t v (ap (conv t) e ∙ c)) λ x k'.
+      gives_then (Becomes h.world) IsGiven (store h.world (kind_of t) place x) _ (stores h.world (record { kind = kind_of t; place = place; value = x }) w k') λ u g. g.0
 
   struct_given : (t : CType) (a b : Typed) → IsPlain a → IsPlain b → ShapedL p ls a → ShapedL p ls b → Gives IsGiven (struct_assigned p h t a b)
   struct_given t a b i j q k =

@@ -1,5 +1,5 @@
 -- New objects hold values that fit.
-use Rattle.std.proofs.Common.{refl, sym, ◌∙◌, List, [], ◌∷◌, true≢false}
+use Rattle.std.proofs.Common.{◌≡◌, refl, sym, true, List, [], ◌∷◌, true≢false}
 use Rattle.std.specs.Prelude.{map}
 use Rattle.std.specs.List.{AllByRecursion}
 use Rattle.ldb_words.specs.declared.kinds.Kind.{Kind}
@@ -10,12 +10,12 @@ use Rattle.c_tree.specs.declared.types.StructDef.{StructDef}
 use Rattle.c_tree.specs.declared.types.Leaf.{Leaf}
 use Rattle.c_tree.specs.declared.rows.Program.{Program}
 use Rattle.c_tree.specs.Layout.{leaves_of}
-use Rattle.c_store.specs.Store.{Value, Cell, zero_of}
-use Rattle.c_source.specs.Blocks.{cells_of, converted}
+use Rattle.c_store.specs.Store.{Value, Cell, zero_of, with_first}
+use Rattle.c_source.specs.Blocks.{cells_of}
 use Rattle.c_sound.specs.Shapes.{is_place, Fits}
-use Rattle.c_sound.proofs.World.{CellFits}
-use Rattle.c_sound.proofs.Operators.{converted_shape}
-use Rattle.c_sound.proofs.Shaped.{IsParameter}
+use Rattle.c_sound.proofs.World.{Gives, CellFits, held_gives}
+use Rattle.c_sound.proofs.Operators.{addr}
+use Rattle.c_sound.proofs.Shaped.{is_one_leaf}
 
 zero_fits : (k : Kind) → Fits k (zero_of k)
 zero_fits Byte = refl
@@ -32,15 +32,12 @@ zeros_fit (l ∷ ls) = (zero_fits l.kind, zeros_fit ls)
 pub cells_fit : (defs : List StructDef) (t : CType) → AllByRecursion CellFits (cells_of defs t)
 cells_fit defs t = zeros_fit (leaves_of defs t)
 
-abbrev pub with_value : Value → List Cell → List Cell
-with_value v [] = []
-with_value v (c ∷ cs) = record c { value = v } ∷ cs
-
-pub parameter_fits : (p : Program) (t : CType) (v : Value) → IsParameter p t (is_place v) → AllByRecursion CellFits (with_value (converted t v) (cells_of p.defs t))
-parameter_fits p Char v h = (converted_shape Char v ∙ h.0, tt)
-parameter_fits p Int v h = (converted_shape Int v ∙ h.0, tt)
-parameter_fits p Unsigned v h = (converted_shape Unsigned v ∙ h.0, tt)
-parameter_fits p Void v h = absurd (true≢false (sym h.1))
-parameter_fits p (Pointer' b t) v h = (converted_shape (Pointer' b t) v ∙ h.0, tt)
-parameter_fits p (Array' b t n) v h = absurd (true≢false (sym h.1))
-parameter_fits p (Struct s) v h = absurd (true≢false (sym h.1))
+-- a parameter's object begins with its argument
+pub parameter_gives : (p : Program) (t : CType) (v : Value) → is_place v ≡ addr t → is_one_leaf t ≡ true → Gives (λ cells. AllByRecursion CellFits cells) (with_first v (cells_of p.defs t))
+parameter_gives p Char v h one = held_gives (λ cells. AllByRecursion CellFits cells) Byte v _ h (h, tt)
+parameter_gives p Int v h one = held_gives (λ cells. AllByRecursion CellFits cells) Word v _ h (h, tt)
+parameter_gives p Unsigned v h one = held_gives (λ cells. AllByRecursion CellFits cells) Word v _ h (h, tt)
+parameter_gives p Void v h one = absurd (true≢false (sym one))
+parameter_gives p (Pointer' b t) v h one = held_gives (λ cells. AllByRecursion CellFits cells) Address v _ h (h, tt)
+parameter_gives p (Array' b t n) v h one = absurd (true≢false (sym one))
+parameter_gives p (Struct s) v h one = absurd (true≢false (sym one))

@@ -16,7 +16,7 @@ use Rattle.c_tree.specs.Types.{target_of, is_unsigned, kind_of}
 use Rattle.c_tree.specs.Layout.{size_of}
 use Rattle.c_store.specs.Store.{Value, Number, Null, At, World, used, moved, ◌>>=◌}
 use Rattle.c_store.specs.Bits.{minus_one, subtract, signed_negate}
-use Rattle.c_source.specs.Blocks.{converted}
+use Rattle.c_source.specs.Blocks.{as_pointer, converted, zero_as}
 use Rattle.c_source.specs.Operators.{bits_in, number_of, truth, on_ints, on_unsigned, operating_type, same_pointer, combined, changed}
 use Rattle.c_sound.specs.Shapes.{is_place, is_address}
 use Rattle.c_sound.proofs.World.{Gives, gives_then, either_gives, used_gives, moved_gives}
@@ -32,18 +32,27 @@ abbrev pub conv : CType → Bool → Bool
 conv (ctype.Pointer' _ t) s = true
 conv _ s = s
 
-pub converted_shape : (t : CType) (v : Value) → is_place (converted t v) ≡ conv t (is_place v)
-converted_shape ctype.Char (Number n) = refl
-converted_shape ctype.Char Null = refl
-converted_shape ctype.Char (At o i) = refl
-converted_shape ctype.Int v = refl
-converted_shape ctype.Unsigned v = refl
-converted_shape ctype.Void v = refl
-converted_shape (ctype.Pointer' b t) (Number n) = refl
-converted_shape (ctype.Pointer' b t) Null = refl
-converted_shape (ctype.Pointer' b t) (At o i) = refl
-converted_shape (ctype.Array' b t n) v = refl
-converted_shape (ctype.Struct s) v = refl
+pub converted_gives : (t : CType) (v : Value) → conv t (is_place v) ≡ addr t → Gives (λ x. is_place x ≡ addr t) (converted t v)
+converted_gives ctype.Char (Number n) h = refl
+converted_gives ctype.Char Null h = true≢false h
+converted_gives ctype.Char (At o i) h = true≢false h
+converted_gives ctype.Int v h = h
+converted_gives ctype.Unsigned v h = h
+converted_gives ctype.Void v h = h
+converted_gives (ctype.Pointer' b t) (Number n) h = refl
+converted_gives (ctype.Pointer' b t) Null h = refl
+converted_gives (ctype.Pointer' b t) (At o i) h = refl
+converted_gives (ctype.Array' b t n) v h = h
+converted_gives (ctype.Struct s) v h = h
+
+pub zero_shape : (t : CType) → is_place (zero_as t) ≡ conv t false
+zero_shape ctype.Char = refl
+zero_shape ctype.Int = refl
+zero_shape ctype.Unsigned = refl
+zero_shape ctype.Void = refl
+zero_shape (ctype.Pointer' b t) = refl
+zero_shape (ctype.Array' b t n) = refl
+zero_shape (ctype.Struct s) = refl
 
 -- a value that fits a type fits it when it is converted
 pub conv_own : (t : CType) → conv t (addr t) ≡ addr t
@@ -116,10 +125,6 @@ because_gives : (r : Result ℕ Undef) → Gives (HasShape false) (because r)
 because_gives (Ok n) = refl
 because_gives (Err r) = tt
 
-abbrev as_pointer : Value → Value
-as_pointer (Number n) = Null
-as_pointer v = v
-
 pub any_gives : {A : Type 0} (m : Result A Why) (P : A → Type 0) → Gives P m → Gives (λ _. Unit {0}) m
 any_gives (Ok x) P h = tt
 any_gives (Err (Reason u)) P h = tt
@@ -129,13 +134,18 @@ any_gives (Err IllTyped) P h = h
 used_any : (w : World) (v : Value) → Gives (λ _. Unit {0}) (used w v)
 used_any w v = any_gives (used w v) (λ x. x ≡ v) (used_gives w v)
 
+pointer_used : (w : World) (x : Value) → Gives (λ _. Unit {0}) (as_pointer x >>= used w)
+pointer_used w (Number n) = used_any w Null
+pointer_used w Null = used_any w Null
+pointer_used w (At o i) = used_any w (At o i)
+
 abbrev are_equal : World → Value → Value → Result Bool Why
-are_equal w x y = used w (as_pointer x) >>= λ u. used w (as_pointer y) >>= λ v. Ok (same_pointer u v)
+are_equal w x y = as_pointer x >>= used w >>= λ u. as_pointer y >>= used w >>= λ v. Ok (same_pointer u v)
 
 equal_any : (w : World) (x y : Value) → Gives (λ _. Unit {0}) (are_equal w x y)
 equal_any w x y =
-    gives_then (λ _. Unit {0}) (λ _. Unit {0}) (used w (as_pointer x)) _ (used_any w (as_pointer x)) λ u h.
-    gives_then (λ _. Unit {0}) (λ _. Unit {0}) (used w (as_pointer y)) _ (used_any w (as_pointer y)) λ v k. tt
+    gives_then (λ _. Unit {0}) (λ _. Unit {0}) (as_pointer x >>= used w) _ (pointer_used w x) λ u h.
+    gives_then (λ _. Unit {0}) (λ _. Unit {0}) (as_pointer y >>= used w) _ (pointer_used w y) λ v k. tt
 
 equal_gives : (w : World) (x y : Value) (f : Bool → ℕ) → Gives (HasShape false) (are_equal w x y >>= λ b. Ok (Number (f b)))
 equal_gives w x y f = gives_then (λ _. Unit {0}) (HasShape false) (are_equal w x y) _ (equal_any w x y) λ b h. refl

@@ -13,7 +13,7 @@ use Rattle.c_typing.specs.Declared.{has}
 use Rattle.c_sound.specs.Shapes.{is_place}
 use Rattle.c_sound.proofs.World.{WorldFits}
 use Rattle.c_sound.proofs.Operators.{addr, conv, takes, gives, takes_one}
-use Rattle.c_sound.proofs.Shaped.{shape, top, Updates, is_getchar, local_numbers, CalledBuiltIn, Given, ShapedE, ShapedL, ShapedS, EachShaped, ShapedLoop}
+use Rattle.c_sound.proofs.Shaped.{shape, top, Updates, is_getchar, is_putchar, is_exit, local_numbers, CalledBuiltIn, Given, ShapedE, ShapedL, ShapedS, EachShaped, ShapedLoop}
 
 -- there are no values computed
 abbrev pub IsClear : List Bool → Type 0
@@ -31,14 +31,14 @@ module _ (p : Program) where
   EntersFunction g None n ss go = ⊥
   EntersFunction g (Some fn) n ss go = (fn.params ≡ n) × (length (reverse (take n ss)) ≡ fn.params) × Given p g 0 (reverse (take n ss)) × go (addr (result_type p g) ∷ drop n ss)
 
-  abbrev pub EntersBuiltIn : Bool → ℕ → List Bool → (List Bool → Type 0) → Type 0
-  EntersBuiltIn b n ss go = CalledBuiltIn p b (take n ss) × go (false ∷ drop n ss)
+  abbrev pub EntersBuiltIn : (get put exit : Bool) → ℕ → List Bool → (List Bool → Type 0) → Type 0
+  EntersBuiltIn b c d n ss go = CalledBuiltIn p b c d (take n ss) × go (false ∷ drop n ss)
 
   abbrev pub EntersBy : Referent → List ℕ → ℕ → List Bool → (List Bool → Type 0) → Type 0
   EntersBy (Object o) name n ss go = ⊥
   EntersBy (Local x) name n ss go = ⊥
   EntersBy (Defined g) name n ss go = EntersFunction g (slice_get p.functions g) n ss go
-  EntersBy Declared name n ss go = EntersBuiltIn (is_getchar name) n ss go
+  EntersBy Declared name n ss go = EntersBuiltIn (is_getchar name) (is_putchar name) (is_exit name) n ss go
 
   abbrev pub Enters : Option SymbolRow → ℕ → List Bool → (List Bool → Type 0) → Type 0
   Enters None n ss go = ⊥
@@ -58,7 +58,7 @@ module _ (p : Program) where
       Ready (Push v ∷ k) ls ss = Ready k ls (is_place v ∷ ss)
       Ready (Bound x ∷ k) ls ss = (has ls x ≡ true) × Ready k ls (true ∷ ss)
       Ready (Load t ∷ k) ls ss = top ss (λ s rest. (s ≡ true) × Ready k ls (addr t ∷ rest))
-      Ready (Convert t ∷ k) ls ss = top ss (λ s rest. Ready k ls (conv t s ∷ rest))
+      Ready (Convert t ∷ k) ls ss = top ss (λ s rest. (conv t s ≡ addr t) × Ready k ls (addr t ∷ rest))
       Ready (Store t ∷ k) ls ss = top ss (λ s more. top more (λ place rest. (conv t s ≡ addr t) × Ready k ls (addr t ∷ rest)))
       Ready (Copy t ∷ k) ls ss = top ss (λ s more. top more (λ place rest. (s ≡ true) × (place ≡ true) × Ready k ls (false ∷ rest)))
       Ready (Update t op u new ∷ k) ls ss = top ss (λ s more. top more (λ place rest. Updates t op u s × Ready k ls (addr t ∷ rest)))
@@ -81,7 +81,7 @@ module _ (p : Program) where
       Ready (Turn s n ∷ k) ls ss = top ss (λ c rest. IsClear rest × (n ≡ length ls) × ShapedLoop p f ls s × Ready k ls [])
       Ready (Again s n ∷ k) ls ss = IsClear ss × (n ≡ length ls) × ShapedLoop p f ls s × Ready k ls []
       Ready (Select body n ∷ k) ls ss = top ss (λ c rest. (c ≡ false) × IsClear rest × (n ≡ length ls) × ((l : Bool) × EachShaped p f ls l true (statements_in body) × (l ≡ true → Continues k ls)) × Ready k ls [])
-      Ready (Seek v labels default n ∷ k) ls ss = IsClear ss × (n ≡ length ls) × ((l : Bool) × EachLabel ls l labels × EachShaped p f ls l true default × (l ≡ true → Continues k ls)) × Ready k ls []
+      Ready (Seek v x labels default n ∷ k) ls ss = IsClear ss × (n ≡ length ls) × ((l : Bool) × EachLabel ls l (x ∷ labels) × EachShaped p f ls l true default × (l ≡ true → Continues k ls)) × Ready k ls []
       Ready (Switched n ∷ k) ls ss = IsClear ss × Ready k ls []
       Ready (GiveBack ∷ k) ls ss = top ss (λ s rest. s ≡ addr (result_type p f))
       Ready (Leave ∷ k) ls ss = top ss (λ s rest. s ≡ addr (result_type p f))
@@ -106,11 +106,11 @@ module _ (p : Program) where
   -- the outer activations can go on with a value of this shape
   abbrev pub Outside : Bool → List Activation → Type 0
   Outside r [] = r ≡ false
-  Outside r (a ∷ rest) = HasFunction (slice_get p.functions a.place.function) × Ready a.place.function a.control (locals_of a.place.locals) (r ∷ map is_place a.values) × Outside (addr (result_type p a.place.function)) rest
+  Outside r (a ∷ rest) = HasFunction (slice_get p.functions a.activation.function) × Ready a.activation.function a.control (locals_of a.activation.locals) (r ∷ map is_place a.values) × Outside (addr (result_type p a.activation.function)) rest
 
   -- each leaf holds a value that fits it, and what remains can be done with the values computed
   pub record Good (s : State) : Type 0 where
     pub world : WorldFits s.here.world
-    pub inner : HasFunction (slice_get p.functions s.here.place.function)
-    pub control : Ready s.here.place.function s.control (locals_of s.here.place.locals) (map is_place s.values)
-    pub outer : Outside (addr (result_type p s.here.place.function)) s.outer
+    pub inner : HasFunction (slice_get p.functions s.here.activation.function)
+    pub control : Ready s.here.activation.function s.control (locals_of s.here.activation.locals) (map is_place s.values)
+    pub outer : Outside (addr (result_type p s.here.activation.function)) s.outer

@@ -1,7 +1,7 @@
 -- Whole runs from a good state, with assignments at the stops.
 use Rattle.std.proofs.Common.{◌≡◌, subst, ℕ, suc, zero, List, [], ◌∷◌, Option, Some, None}
 use Rattle.std.specs.Prelude.{Result, Ok, Err, slice_get, ℤ}
-use Rattle.runs.specs.Runs.{Next, Goes, Passes, Exits, Undefined, Stuck, Why, Reason, Stale, IllTyped, Outcome, Reached, Breaks, Nowhere, after, after_count, past, then_on}
+use Rattle.runs.specs.Runs.{Next, Goes, Passes, Exits, Undefined, Why, Reason, Stale, IllTyped, Outcome, Reached, Breaks, after, after_count, past, then_on}
 use Rattle.c_tree.specs.declared.rows.Program.{Program}
 use Rattle.c_store.specs.Store.{World, store}
 use Rattle.c_store.specs.Assigned.{Assignment, History, stored_or, all_assigned, at_stop}
@@ -32,14 +32,12 @@ counted_keeps c (Reached m) k = tt
 counted_keeps c (Breaks (Reason u)) k = tt
 counted_keeps c (Breaks Stale) k = tt
 counted_keeps c (Breaks IllTyped) k = k
-counted_keeps c Nowhere k = k
 
 past_keeps : (q : ℕ) (o : Outcome State) → KeepsShapes o → KeepsShapes (past State q o)
 past_keeps q (Reached m) k = tt
 past_keeps q (Breaks (Reason u)) k = tt
 past_keeps q (Breaks Stale) k = tt
 past_keeps q (Breaks IllTyped) k = k
-past_keeps q Nowhere k = k
 
 module _ (p : Program) (bodies : (g : ℕ) → ShapedFunction p g (slice_get p.functions g)) (h : History) (fits : IsFitting h) where
   pub acted_good : (i : ℕ) (s : State) → Good p s → Good p (acted h i s)
@@ -57,7 +55,6 @@ module _ (p : Program) (bodies : (g : ℕ) → ShapedFunction p g (slice_get p.f
   then_keeps (Undefined (Reason u)) rest i f k = tt
   then_keeps (Undefined Stale) rest i f k = tt
   then_keeps (Undefined IllTyped) rest i f k = f
-  then_keeps Stuck rest i f k = f
 
   pub runs_keep : (n i : ℕ) (s : State) → Good p s → KeepsShapes (after State (step p) (acted h) n i s)
   runs_keep zero i s g = tt
@@ -68,17 +65,14 @@ module _ (p : Program) (bodies : (g : ℕ) → ShapedFunction p g (slice_get p.f
   abbrev pub ReachesGood : Outcome State → Type 0
   ReachesGood (Reached m) = m.exit ≡ None → Good p m.state
   ReachesGood (Breaks w) = Unit {0}
-  ReachesGood Nowhere = Unit {0}
 
   counted_reaches : (c : ℕ) (o : Outcome State) → ReachesGood o → ReachesGood (after_count State c o)
   counted_reaches c (Reached m) k = k
   counted_reaches c (Breaks w) k = tt
-  counted_reaches c Nowhere k = tt
 
   past_reaches : (q : ℕ) (o : Outcome State) → ReachesGood o → ReachesGood (past State q o)
   past_reaches q (Reached m) k = k
   past_reaches q (Breaks w) k = tt
-  past_reaches q Nowhere k = tt
 
   pub no_exit : {A : Type 0} (v : ℤ) → ◌≡◌ {A = Option ℤ} (Some v) None → A
   no_exit {A} v e = absurd (subst (λ (q : Option ℤ). elim q as (λ _. Type 0) [ None ↦ ⊥ | Some z ↦ Unit {0} ]) e tt)
@@ -88,7 +82,6 @@ module _ (p : Program) (bodies : (g : ℕ) → ShapedFunction p g (slice_get p.f
   then_reaches (Passes q c s) rest i f k = counted_reaches c _ (past_reaches q (rest (suc i) (acted h i s)) (k (suc i) (acted h i s) (acted_good i s f)))
   then_reaches (Exits v c s) rest i f k = λ e. no_exit v e
   then_reaches (Undefined w) rest i f k = tt
-  then_reaches Stuck rest i f k = tt
 
   pub runs_reach : (n i : ℕ) (s : State) → Good p s → ReachesGood (after State (step p) (acted h) n i s)
   runs_reach zero i s g = λ e. g

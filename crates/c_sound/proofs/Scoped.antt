@@ -7,7 +7,7 @@ use Rattle.c_tree.specs.declared.typed.Stmt.{Stmt, Row_of-Stmt, end_of-Stmt, mor
 use Rattle.c_tree.specs.declared.typed.Stmt.TheVariants.{Value as Expression, Block', If', While', Do', For', Switch', Case', Default', Break, Continue, Return}
 use Rattle.c_tree.specs.declared.rows.Program.{Program}
 use Rattle.c_tree.specs.declared.rows.Function.{Function}
-use Rattle.c_store.specs.Frames.{Place}
+use Rattle.c_store.specs.Frames.{ActivationRecord}
 use Rattle.c_source.specs.Blocks.{statements_in}
 use Rattle.c_source.specs.Control.{Item, Eval, Locate, Push, Bound, Load, Convert, Store, Copy, Update, Change, Combine, Offset, Use, Discard, Truth, AndThen, OrElse, Pick, Joined, Enter, Run, Stop, Choose, Open, Close, Turn, Again, Select, Seek, Switched, GiveBack, Leave, Label, State, Activation, outermost_of, last_of}
 use Rattle.c_typing.specs.Declared.{has}
@@ -110,7 +110,7 @@ module _ (p : Program) where
       Scoped (Turn s n ∷ k) ls C = (n ≡ length ls) × PlacedLoop ls s × Scoped k ls ⊥
       Scoped (Again s n ∷ k) ls C = (n ≡ length ls) × PlacedLoop ls s × Scoped k ls ⊥
       Scoped (Select body n ∷ k) ls C = (n ≡ length ls) × EachPlaced ls (statements_in body) × AfterContinue k ls × Scoped k ls ⊥
-      Scoped (Seek v labels default n ∷ k) ls C = (n ≡ length ls) × EachLabelPlaced ls labels × EachPlaced ls default × AfterContinue k ls × Scoped k ls ⊥
+      Scoped (Seek v x labels default n ∷ k) ls C = (n ≡ length ls) × EachLabelPlaced ls (x ∷ labels) × EachPlaced ls default × AfterContinue k ls × Scoped k ls ⊥
       Scoped (Switched n ∷ k) ls C = Scoped k ls ⊥
       Scoped (GiveBack ∷ k) ls C = Ends ls
       Scoped (Leave ∷ k) ls C = Unit {0}
@@ -133,16 +133,16 @@ module _ (p : Program) where
   Covered f None ls = ⊥
   Covered f (Some q) ls = At f q ls
 
-  abbrev pub CoveredAt : Place → Type 0
+  abbrev pub CoveredAt : ActivationRecord → Type 0
   CoveredAt a = Covered a.function a.point (locals_of a.locals)
 
-  abbrev pub ScopedAt : Place → List Item → Type 0
+  abbrev pub ScopedAt : ActivationRecord → List Item → Type 0
   ScopedAt a k = Scoped a.function k (locals_of a.locals) (CoveredAt a)
 
   abbrev pub OuterScoped : List Activation → Type 0
   OuterScoped [] = Unit {0}
-  OuterScoped (a ∷ rest) = CoveredAt a.place × ScopedAt a.place a.control × OuterScoped rest
+  OuterScoped (a ∷ rest) = CoveredAt a.activation × ScopedAt a.activation a.control × OuterScoped rest
 
   pub record InScope (s : State) : Type 0 where
-    pub inner : ScopedAt s.here.place s.control
+    pub inner : ScopedAt s.here.activation s.control
     pub outer : OuterScoped s.outer

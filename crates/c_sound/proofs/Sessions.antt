@@ -1,7 +1,7 @@
 -- Sessions over accepted programs always have an answer.
 use Rattle.std.proofs.Common.{◌≡◌, refl, sym, subst, arith, ℕ, suc, zero, ◌≤◌, List, [], ◌∷◌, ◌++◌, Bool, true, false, Option, Some, None, ◌⊎◌, inl, inr, length, replicate}
 use Rattle.std.specs.Prelude.{Result, Ok, Err, slice_get, if◌then◌else◌, option_and_then, bytes_eq, ◌==◌, codes, filter, not}
-use Rattle.runs.specs.Runs.{Next, Goes, Passes, Exits, Undefined, Stuck, Why, Reason, Stale, IllTyped, Course, Going, Comes, Lost, Event, Stopped, Exited, Failed, counted, passing, onward, until}
+use Rattle.runs.specs.Runs.{Next, Goes, Passes, Exits, Undefined, Why, Reason, Stale, IllTyped, Course, Going, Comes, Event, Stopped, Exited, Failed, counted, passing, onward, until}
 use Rattle.c_tree.specs.declared.types.CType.{CType}
 use Rattle.c_tree.specs.declared.rows.Program.{Program}
 use Rattle.c_tree.specs.declared.rows.Point.{Point}
@@ -10,10 +10,10 @@ use Rattle.c_tree.specs.declared.rows.Referent.{Referent}
 use Rattle.c_tree.specs.declared.rows.Referent.TheVariants as refers
 use Rattle.c_tree.specs.Types.{type_of, is_struct}
 use Rattle.c_store.specs.Store.{Value, World}
-use Rattle.c_store.specs.Frames.{Here, Place, bound}
+use Rattle.c_store.specs.Frames.{Here, ActivationRecord, bound}
 use Rattle.c_source.specs.Control.{State}
 use Rattle.c_source.specs.Source.{step}
-use Rattle.c_source.specs.Begin.{begin, places}
+use Rattle.c_source.specs.Begin.{begin, records}
 use Rattle.c_source.specs.Meaning.{Given, values_meant, assigned}
 use Rattle.c_source.specs.Names.{named, place_text}
 use Rattle.c_typing.specs.Declared.{has, scope_at}
@@ -104,7 +104,7 @@ module _ (p : Program) (accepted : IsAccepted p) where
   Stands s = Good p s × InScope p s
 
   abbrev pub AtStop : State → Type 0
-  AtStop s = Stands s × CoveredAt p s.here.place
+  AtStop s = Stands s × CoveredAt p s.here.activation
 
   -- ---- runs to an event
 
@@ -115,12 +115,10 @@ module _ (p : Program) (accepted : IsAccepted p) where
   abbrev CourseStands : Course State → Type 0
   CourseStands (Going c s) = Stands s
   CourseStands (Comes c e) = EventStands e
-  CourseStands Lost = Unit {0}
 
   counted_stands : (c : ℕ) (o : Course State) → CourseStands o → CourseStands (counted c o)
   counted_stands c (Going d s) k = k
   counted_stands c (Comes d e) k = k
-  counted_stands c Lost k = k
 
   abbrev EachStands : List (Option State) → Type 0
   EachStands [] = Unit {0}
@@ -137,7 +135,6 @@ module _ (p : Program) (accepted : IsAccepted p) where
     onward_stands (Passes q c s) go f g k = passing_stands (stops q) q c s go ((f, g.0), g.1) (k s (f, g.0))
     onward_stands (Exits v c s) go f g k = tt
     onward_stands (Undefined w) go f g k = tt
-    onward_stands Stuck go f g k = tt
 
     course_stands : (n : ℕ) (s : State) → Stands s → CourseStands (until State (step p) stops n s)
     course_stands zero s g = g
@@ -254,18 +251,18 @@ module _ (p : Program) (accepted : IsAccepted p) where
     clears N (Some q) =
         either_answer session.mode N (has_point session.breaks q) (Says ((codes "clear " ++ place_text p q) ∷ []) (record session { breaks = filter (λ r. not (r == q)) session.breaks })) (Refuses NoPlace) refl tt
 
-    frames : (N : Type 0) (n : ℕ) (o : Option Place) → SoundAnswer session.mode N (frame_at p r sides session n o)
+    frames : (N : Type 0) (n : ℕ) (o : Option ActivationRecord) → SoundAnswer session.mode N (frame_at p r sides session n o)
     frames N n None = tt
     frames N n (Some a) = refl
 
     -- ---- in an activation of a state at a stop
 
-    module _ (m : Mode) (N : Type 0) (s : State) (at : AtStop s) (a : Place) (covered : CoveredAt p a) where
+    module _ (m : Mode) (N : Type 0) (s : State) (at : AtStop s) (a : ActivationRecord) (covered : CoveredAt p a) where
       abbrev w : World
       w = s.here.world
 
       abbrev here : Here
-      here = record { world = w; place = a }
+      here = record { world = w; activation = a }
 
       abbrev q : ℕ
       q = point_or_0 a.point
@@ -300,7 +297,7 @@ module _ (p : Program) (accepted : IsAccepted p) where
           let l : is_struct (type_of d) ≡ true → ShapedL p (locals_of a.locals) d = λ z. located p a.function (locals_at p q) (locals_of a.locals) there.0 (parameters_there p accepted) d k.1 (struct_lvalue (scope_at p a.function (locals_at p q)) d k.0 k.1 z) in
           evaluates (type_of d) (values_meant p here d) (values_given p here at.0.0.world d k.0 i l)
 
-    module _ (s : State) (at : AtStop s) (a : Place) (covered : CoveredAt p a) (N : Type 0) where
+    module _ (s : State) (at : AtStop s) (a : ActivationRecord) (covered : CoveredAt p a) (N : Type 0) where
       -- the state after an assignment
       set_stands : (u : World) → IsAssigned s.here.world u → AtStop (record s { here = record s.here { world = u } })
       set_stands u k =
@@ -325,10 +322,10 @@ module _ (p : Program) (accepted : IsAccepted p) where
           let there = at_point a.function a.point (locals_of a.locals) covered in
           let k = faithful.assignment q a.function text d there.1 e in
           let i = evaluated p a.function (locals_at p q) (locals_of a.locals) there.0 (parameters_there p accepted) d k.1 in
-          let here : Here = record { world = s.here.world; place = a } in
+          let here : Here = record { world = s.here.world; activation = a } in
           sets (assigned p here d) (assigned_given p here at.0.0.world d k.0 i)
 
-    in_frame_sound : (m : Mode) (N : Type 0) (o : Option Place) (go : Place → Answer) → ((a : Place) → o ≡ Some a → CoveredAt p a) → ((a : Place) → CoveredAt p a → SoundAnswer m N (go a)) → SoundAnswer m N (in_frame p r sides session o go)
+    in_frame_sound : (m : Mode) (N : Type 0) (o : Option ActivationRecord) (go : ActivationRecord → Answer) → ((a : ActivationRecord) → o ≡ Some a → CoveredAt p a) → ((a : ActivationRecord) → CoveredAt p a → SoundAnswer m N (go a)) → SoundAnswer m N (in_frame p r sides session o go)
     in_frame_sound m N None go c k = tt
     in_frame_sound m N (Some a) go c k = k a (c a refl)
 
@@ -336,8 +333,8 @@ module _ (p : Program) (accepted : IsAccepted p) where
     abbrev Excused : Command → Type 0
     Excused c = IsAboutProgram (Some c) → ⊥
 
-    chosen_sound : (s : State) (at : AtStop s) (N : Type 0) (go : Place → Answer) → ((a : Place) → CoveredAt p a → SoundAnswer (StoppedAt s) N (go a)) → SoundAnswer (StoppedAt s) N (in_frame p r sides session (slice_get (places s) session.frame) go)
-    chosen_sound s at N go k = in_frame_sound (StoppedAt s) N (slice_get (places s) session.frame) go (λ a e. all_live p accepted s session.frame a at.0.1 at.1 e) k
+    chosen_sound : (s : State) (at : AtStop s) (N : Type 0) (go : ActivationRecord → Answer) → ((a : ActivationRecord) → CoveredAt p a → SoundAnswer (StoppedAt s) N (go a)) → SoundAnswer (StoppedAt s) N (in_frame p r sides session (slice_get (records s) session.frame) go)
+    chosen_sound s at N go k = in_frame_sound (StoppedAt s) N (slice_get (records s) session.frame) go (λ a e. all_live p accepted s session.frame a at.0.1 at.1 e) k
 
     -- the commands that a fresh and a stopped session answer alike; the session's mode is m
     stopped_sound : (s : State) (at : AtStop s) (c : Command) → session.mode ≡ StoppedAt s → SoundAnswer (StoppedAt s) (Excused c) (in_stopped p r sides session s c)

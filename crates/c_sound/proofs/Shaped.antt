@@ -38,6 +38,12 @@ Updates t op s b = (takes op t s (addr t) b ≡ true) × (conv t (gives op t s) 
 abbrev pub is_getchar : List ℕ → Bool
 is_getchar name = bytes_eq name (codes "getchar")
 
+abbrev pub is_putchar : List ℕ → Bool
+is_putchar name = bytes_eq name (codes "putchar")
+
+abbrev pub is_exit : List ℕ → Bool
+is_exit name = bytes_eq name (codes "exit")
+
 -- scalars, which are one leaf
 abbrev pub is_one_leaf : CType → Bool
 is_one_leaf Char = true
@@ -81,15 +87,18 @@ module _ (p : Program) where
   OneNumber (s ∷ []) = s ≡ false
   OneNumber (s ∷ t ∷ ss) = ⊥
 
-  abbrev pub CalledBuiltIn : Bool → List Bool → Type 0
-  CalledBuiltIn true ss = ss ≡ []
-  CalledBuiltIn false ss = OneNumber ss
+  -- a call of `getchar`, or of `putchar` or `exit`
+  abbrev pub CalledBuiltIn : (get put exit : Bool) → List Bool → Type 0
+  CalledBuiltIn true b c ss = ss ≡ []
+  CalledBuiltIn false true c ss = OneNumber ss
+  CalledBuiltIn false false true ss = OneNumber ss
+  CalledBuiltIn false false false ss = ⊥
 
   abbrev pub CalledBy : Referent → List ℕ → List Bool → Bool → Type 0
   CalledBy (Object o) name ss r = ⊥
   CalledBy (Local x) name ss r = ⊥
   CalledBy (Defined g) name ss r = CalledFunction g (slice_get p.functions g) ss r
-  CalledBy Declared name ss r = CalledBuiltIn (is_getchar name) ss × (r ≡ false)
+  CalledBy Declared name ss r = CalledBuiltIn (is_getchar name) (is_putchar name) (is_exit name) ss × (r ≡ false)
 
   abbrev pub Called : Option SymbolRow → List Bool → Bool → Type 0
   Called None ss r = ⊥

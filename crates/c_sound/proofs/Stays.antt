@@ -1,7 +1,7 @@
 -- Each step keeps the locals of the points passed last in scope.
 use Rattle.std.proofs.Common.{◌≡◌, refl, sym, ◌∙◌, subst, ap, ℕ, suc, ◌+◌, ◌*◌, List, [], ◌∷◌, ◌++◌, Bool, true, false, Option, Some, None, length, take, drop, reverse, le_of_eq, take_all, append_assoc, append-nil}
 use Rattle.std.specs.Prelude.{Result, Ok, Err, slice_get, if◌then◌else◌, pos, bytes_eq, codes, ◌==◌}
-use Rattle.runs.specs.Runs.{Next, Goes, Passes, Exits, Undefined, Stuck, Why, IllTyped}
+use Rattle.runs.specs.Runs.{Next, Goes, Passes, Exits, Undefined, Why, IllTyped}
 use Rattle.c_tree.specs.declared.types.CType.{CType}
 use Rattle.c_tree.specs.declared.typed.BinaryOp.{BinaryOp}
 use Rattle.c_tree.specs.declared.typed.Typed.{Typed}
@@ -17,18 +17,17 @@ use Rattle.c_tree.specs.declared.rows.Referent.TheVariants.{Object, Local, Funct
 use Rattle.c_tree.specs.Types.{type_of, kind_of, is_struct, is_array}
 use Rattle.c_tree.specs.Rows.{exprs, stmts}
 use Rattle.c_tree.specs.Layout.{size_of}
-use Rattle.c_store.specs.Store.{Value, Number, At as Pointing, World, used, load, store, load_struct, store_struct, moved}
-use Rattle.c_store.specs.Frames.{Here, with_world, made, left, bound, new_place}
-use Rattle.c_source.specs.Blocks.{cells_of, converted, local_type, opened, given, entered, statements_in}
+use Rattle.c_store.specs.Store.{Value, Number, At as Pointing, World, used, load, store, load_struct, store_struct, moved, Cell, with_first, ◌>>=◌}
+use Rattle.c_store.specs.Frames.{Here, with_world, made, left, bound, new_activation}
+use Rattle.c_source.specs.Blocks.{cells_of, converted, local_type, opened, given_one, given, entered, statements_in}
 use Rattle.c_source.specs.Operators.{bits_in, is_zero, combined, changed}
-use Rattle.c_source.specs.Control.{Item, Eval, Locate, Push, Bound, Load, Convert, Store, Copy, Update, Change, Combine, Offset, Use, Discard, Truth, AndThen, OrElse, Pick, Joined, Enter, Run, Stop, Choose, Open, Close, Turn, Again, Select, Seek, Switched, GiveBack, Leave, Label, Round, State, Activation, outermost_of, runs_of, inits_of, broken, continued, last_of, body_of}
+use Rattle.c_source.specs.Control.{Item, Eval, Locate, Push, Bound, Load, Convert, Store, Copy, Update, Change, Combine, Offset, Use, Discard, Truth, AndThen, OrElse, Pick, Joined, Enter, Run, Stop, Choose, Open, Close, Turn, Again, Select, Seek, Switched, GiveBack, Leave, Label, Round, State, Activation, outermost_of, runs_of, inits_of, broken, continued, last_of, body_of, seeks, labels_in, default_in}
 use Rattle.c_source.specs.Source.{on_ok, on_one, on_two, on_some, step, go, evaluate, locate, read, copy, update, on_test, built_in, call, end_with, execute, seek, act, on_control, no_value, place_in}
 use Rattle.c_typing.specs.Accepted.{numbers}
 use Rattle.c_sound.specs.Shapes.{is_place}
 use Rattle.c_sound.proofs.Shaped.{local_numbers, is_getchar}
 use Rattle.c_sound.proofs.Ready.{locals_of, EntersFunction, EntersBy, Enters, Ready, Good}
 use Rattle.c_sound.proofs.Lists.{locals_append, locals_take, locals_length, take_map, reverse_map, map_length, take_seam}
-use Rattle.c_sound.proofs.Objects.{with_value}
 use Rattle.c_sound.proofs.Fine.{shapes}
 use Rattle.c_sound.proofs.Scoped.{At, Ends, EndsIn, PlacedInits, PlacedS, PlacedRows, EachPlaced, EachLabelPlaced, Scoped, AfterBreak, AfterContinue, CoveredAt, OuterScoped, InScope}
 use Rattle.c_sound.proofs.Ways.{behind, args_scoped, runs_scoped, rows_placed, body_placed, break_more, continue_more, LandsIn, break_lands, continue_lands, inits_scoped, part_scoped, else_placed, turns_scoped, goes_on_scoped, for_starts, while_starts, do_starts, labels_placed, default_placed}
@@ -37,10 +36,9 @@ module _ (p : Program) where
   -- where it goes on the scopes stay right, and where it passes a point its locals are in scope
   abbrev pub Stays : Next State → Type 0
   Stays (Goes c s) = InScope p s
-  Stays (Passes q c s) = InScope p s × CoveredAt p s.here.place
+  Stays (Passes q c s) = InScope p s × CoveredAt p s.here.activation
   Stays (Exits n c s) = Unit {0}
   Stays (Undefined why) = Unit {0}
-  Stays Stuck = Unit {0}
 
   ok_stays : {A : Type 0} (m : Result A Why) (go : A → Next State) → ((x : A) → Stays (go x)) → Stays (on_ok m go)
   ok_stays (Ok x) go f = f x
@@ -65,38 +63,50 @@ module _ (p : Program) where
 
   -- ---- blocks are left, and objects begin
 
-  left_scoped : (n : ℕ) (h : Here) (vs : List Value) (k : List Item) (out : List Activation) → OuterScoped p out → Scoped p h.place.function k (take n (locals_of h.place.locals)) ⊥ → InScope p (record { here = left n h; values = vs; control = k; outer = out })
+  left_scoped : (n : ℕ) (h : Here) (vs : List Value) (k : List Item) (out : List Activation) → OuterScoped p out → Scoped p h.activation.function k (take n (locals_of h.activation.locals)) ⊥ → InScope p (record { here = left n h; values = vs; control = k; outer = out })
   unfolding left
   left_scoped n h vs k out o r = record {
-    inner = behind p h.place.function k _ _ (subst (λ ls. Scoped p h.place.function k ls ⊥) (sym (locals_take n h.place.locals)) r);
+    inner = behind p h.activation.function k _ _ (subst (λ ls. Scoped p h.activation.function k ls ⊥) (sym (locals_take n h.activation.locals)) r);
     outer = o;
   }
 
-  one_more : (h : Here) (x : ℕ) (rest : List ℕ) (k : List Item) (o : ℕ) → Scoped p h.place.function k (locals_of h.place.locals ++ x ∷ rest) ⊥
-      → Scoped p h.place.function k (locals_of (h.place.locals ++ record { local = x; object = o } ∷ []) ++ rest) ⊥
+  one_more : (h : Here) (x : ℕ) (rest : List ℕ) (k : List Item) (o : ℕ) → Scoped p h.activation.function k (locals_of h.activation.locals ++ x ∷ rest) ⊥
+      → Scoped p h.activation.function k (locals_of (h.activation.locals ++ record { local = x; object = o } ∷ []) ++ rest) ⊥
   one_more h x rest k o r =
-      let ls = locals_of h.place.locals in
-      subst (λ ys. Scoped p h.place.function k ys ⊥) (sym (append_assoc ls (x ∷ []) rest) ∙ sym (ap (λ ys. ys ++ rest) (locals_append h.place.locals (record { local = x; object = o } ∷ [])))) r
+      let ls = locals_of h.activation.locals in
+      subst (λ ys. Scoped p h.activation.function k ys ⊥) (sym (append_assoc ls (x ∷ []) rest) ∙ sym (ap (λ ys. ys ++ rest) (locals_append h.activation.locals (record { local = x; object = o } ∷ [])))) r
 
-  opened_scoped : (f : ℕ) (ds : List DeclaredLocal) (h : Here) (vs : List Value) (k : List Item) (out : List Activation) → OuterScoped p out → Scoped p h.place.function k (locals_of h.place.locals ++ local_numbers ds) ⊥ → InScope p (record { here = opened p f ds h; values = vs; control = k; outer = out })
+  opened_scoped : (f : ℕ) (ds : List DeclaredLocal) (h : Here) (vs : List Value) (k : List Item) (out : List Activation) → OuterScoped p out → Scoped p h.activation.function k (locals_of h.activation.locals ++ local_numbers ds) ⊥ → InScope p (record { here = opened p f ds h; values = vs; control = k; outer = out })
   unfolding made
   opened_scoped f [] h vs k out o r = record {
-    inner = behind p h.place.function k _ _ (subst (λ ls. Scoped p h.place.function k ls ⊥) (append-nil (locals_of h.place.locals)) r);
+    inner = behind p h.activation.function k _ _ (subst (λ ls. Scoped p h.activation.function k ls ⊥) (append-nil (locals_of h.activation.locals)) r);
     outer = o;
   }
   opened_scoped f (d ∷ ds) h vs k out o r =
       let t = local_type p f d.local in
       opened_scoped f ds (made d.local (size_of p.defs t) (cells_of p.defs t) h) vs k out o (one_more h d.local (local_numbers ds) k (length h.world.objects) r)
 
-  given_scoped : (g : ℕ) (args : List Value) (x : ℕ) (h : Here) (k : List Item) (out : List Activation) → OuterScoped p out → Scoped p h.place.function k (locals_of h.place.locals ++ numbers x (length args)) ⊥ → InScope p (record { here = given p g x args h; values = []; control = k; outer = out })
+  ok_bind : {A B : Type 0} (m : Result A Why) (g : A → Result B Why) (go : B → Next State) → Stays (on_ok m (λ x. on_ok (g x) go)) → Stays (on_ok (m >>= g) go)
+  ok_bind (Ok x) g go f = f
+  ok_bind (Err w) g go f = f
+
+  given_stays : (g : ℕ) (args : List Value) (x : ℕ) (h : Here) (c : ℕ) (k : List Item) (out : List Activation) → OuterScoped p out → Scoped p h.activation.function k (locals_of h.activation.locals ++ numbers x (length args)) ⊥
+      → Stays (on_ok (given p g x args h) (λ e. Goes c (record { here = e; values = []; control = k; outer = out })))
   unfolding made
-  given_scoped g [] x h k out o r = record {
-    inner = behind p h.place.function k _ _ (subst (λ ls. Scoped p h.place.function k ls ⊥) (append-nil (locals_of h.place.locals)) r);
+  given_stays g [] x h c k out o r = record {
+    inner = behind p h.activation.function k _ _ (subst (λ ls. Scoped p h.activation.function k ls ⊥) (append-nil (locals_of h.activation.locals)) r);
     outer = o;
   }
-  given_scoped g (v ∷ vs) x h k out o r =
+  given_stays g (v ∷ vs) x h c k out o r =
       let t = local_type p g x in
-      given_scoped g vs (suc x) (made x (size_of p.defs t) (with_value (converted t v) (cells_of p.defs t)) h) k out o (one_more h x (numbers (suc x) (length vs)) k (length h.world.objects) r)
+      let go = λ (e : Here). Goes c (record { here = e; values = []; control = k; outer = out }) in
+      let make = λ (cells : List Cell). Ok (made x (size_of p.defs t) cells h) in
+      ok_bind (given_one p g x v h) (given p g (suc x) vs) go
+      (ok_bind (converted t v) (λ u. with_first u (cells_of p.defs t) >>= make) (λ e. on_ok (given p g (suc x) vs e) go)
+      (ok_stays (converted t v) _ λ u.
+      ok_bind (with_first u (cells_of p.defs t)) make (λ e. on_ok (given p g (suc x) vs e) go)
+      (ok_stays (with_first u (cells_of p.defs t)) _ λ cells.
+      given_stays g vs (suc x) (made x (size_of p.defs t) cells h) c k out o (one_more h x (numbers (suc x) (length vs)) k (length h.world.objects) r))))
 
   -- a function's body, from its first point on
   abbrev pub ScopedBodies : Type 0
@@ -104,13 +114,13 @@ module _ (p : Program) where
 
   module _ (bodies : ScopedBodies) (h : Here) (out : List Activation) (o : OuterScoped p out) where
     abbrev f : ℕ
-    f = h.place.function
+    f = h.activation.function
 
     abbrev ls : List ℕ
-    ls = locals_of h.place.locals
+    ls = locals_of h.activation.locals
 
     abbrev C : Type 0
-    C = CoveredAt p h.place
+    C = CoveredAt p h.activation
 
     abbrev S : List Item → Type 0
     S k = Scoped p f k ls C
@@ -170,13 +180,13 @@ module _ (p : Program) where
     locate_stays _ vs k c r = tt
 
     read_stays : (t : CType) (v : Value) (vs : List Value) (k : List Item) → S k → Stays (read p h out t v vs k)
-    read_stays t v vs k r = either_stays (is_array t) _ _ (goes 1 (v ∷ vs) k r) (ok_stays (load h.world (kind_of t) v) _ λ x. goes 2 (converted t x ∷ vs) k r)
+    read_stays t v vs k r = either_stays (is_array t) _ _ (goes 1 (v ∷ vs) k r) (ok_stays (load h.world (kind_of t) v >>= converted t) _ λ x. goes 2 (x ∷ vs) k r)
 
     update_stays : (t : CType) (op : BinaryOp) (s : CType) (new : Bool) (place y : Value) (vs : List Value) (k : List Item) → S k → Stays (update p h out t op s new place y vs k)
     update_stays t op s new place y vs k r =
-        ok_stays (load h.world (kind_of t) place) _ λ old.
-        ok_stays (combined p.defs h.world op t s (converted t old) y) _ λ x.
-        ok_stays (store h.world (kind_of t) place (converted t x)) _ λ w. goes_in 3 w _ k r
+        ok_stays (load h.world (kind_of t) place >>= converted t) _ λ old.
+        ok_stays (combined p.defs h.world op t s old y >>= converted t) _ λ x.
+        ok_stays (store h.world (kind_of t) place x) _ λ w. goes_in 3 w _ k r
 
     copy_stays : (t : CType) (to from : Value) (vs : List Value) (k : List Item) → S k → Stays (copy p h out t to from vs k)
     copy_stays t to from vs k r =
@@ -188,12 +198,12 @@ module _ (p : Program) where
     built_in_stays : (name : List ℕ) (args vs : List Value) (k : List Item) → S k → Stays (built_in p h out name args vs k)
     built_in_stays name [] vs k r = either_stays (is_getchar name) _ _ (goes_in 1 _ (Number _ ∷ vs) k r) tt
     built_in_stays name (v ∷ []) vs k r =
-        ok_stays (bits_in v) _ λ n. either_stays (is_getchar name) _ _ tt (either_stays (bytes_eq name (codes "putchar")) _ _ (goes_in 1 _ (Number _ ∷ vs) k r) tt)
+        ok_stays (bits_in v) _ λ n. either_stays (is_getchar name) _ _ tt (either_stays (bytes_eq name (codes "putchar")) _ _ (goes_in 1 _ (Number _ ∷ vs) k r) (either_stays (bytes_eq name (codes "exit")) _ _ tt tt))
     built_in_stays name (v ∷ u ∷ us) vs k r = tt
 
     function_stays : (g : ℕ) (fn : Option Function) (n : ℕ) (vs : List Value) (k : List Item) → slice_get p.functions g ≡ fn → EntersFunction p g fn n (shapes vs) (Ready p f k ls) → C → S k
         → Stays (on_some fn (λ fn.
-        if fn.params == n then Goes (1 + n) (record { here = entered p (suc h.place.number) g (reverse (take n vs)) h.world; values = []; control = body_of p g fn; outer = record { place = h.place; values = drop n vs; control = k } ∷ out })
+        if fn.params == n then on_ok (entered p (suc h.activation.number) g (reverse (take n vs)) h.world) (λ e. Goes (1 + n) (record { here = e; values = []; control = body_of p g fn; outer = record { activation = h.activation; values = drop n vs; control = k } ∷ out }))
         else Undefined IllTyped))
     function_stays g None n vs k e q c r = tt
     function_stays g (Some fn) n vs k e q c r =
@@ -201,7 +211,7 @@ module _ (p : Program) where
         let same : reverse (take n (shapes vs)) ≡ shapes args = ap reverse (sym (take_map is_place n vs)) ∙ sym (reverse_map is_place (take n vs)) in
         let count : fn.params ≡ length args = sym q.1 ∙ ap length same ∙ map_length is_place args in
         either_stays (fn.params == n) _ _
-        (given_scoped g args 0 (record { world = h.world; place = new_place (suc h.place.number) g }) (body_of p g fn) (record { place = h.place; values = drop n vs; control = k } ∷ out) (c, r, o)
+        (given_stays g args 0 (record { world = h.world; activation = new_activation (suc h.activation.number) g }) (1 + n) (body_of p g fn) (record { activation = h.activation; values = drop n vs; control = k } ∷ out) (c, r, o)
         (subst (λ m. Scoped p g (body_of p g fn) (numbers 0 m) ⊥) count (bodies g fn e)))
         tt
 
@@ -229,10 +239,10 @@ module _ (p : Program) where
     land_stays (Some r) vs q = left_stays r.scope vs r.control q
 
     abbrev count : ℕ
-    count = length h.place.locals
+    count = length h.activation.locals
 
     counted : count ≡ length ls
-    counted = locals_length h.place.locals
+    counted = locals_length h.activation.locals
 
     block_scoped : {m : _} (ds : List DeclaredLocal) (row : Row_of-Stmt m) (k : List Item) → PlacedInits p f (ls ++ local_numbers ds) ds → PlacedRows p f (ls ++ local_numbers ds) row → AfterBreak p f k ls → AfterContinue p f k ls → Scoped p f k ls ⊥
         → S (Open ds ∷ (inits_of p f ds ++ (runs_of (stmts row) ++ Close count ∷ k)))
@@ -267,11 +277,15 @@ module _ (p : Program) where
     either_behind true k j q r = q
     either_behind false k j q r = r
 
-    seek_stays : (v : ℕ) (labels : List Label) (default : List Stmt) (n : ℕ) (vs : List Value) (k : List Item) → n ≡ length ls → EachLabelPlaced p f ls labels → EachPlaced p f ls default → AfterContinue p f k ls → Scoped p f k ls ⊥
-        → Stays (seek p h out v labels default n vs k)
-    seek_stays v [] default n vs k e q d y r = goes_behind 1 vs _ (in_switch default n k e d y r)
-    seek_stays v (x ∷ xs) default n vs k e q d y r =
-        goes_behind 1 vs _ (either_behind (x.constant == v) (runs_of x.from ++ Switched n ∷ k) (Seek v xs default n ∷ k) (in_switch x.from n k e q.0 y r) (e, q.1, d, y, r))
+    seeks_behind : (v : ℕ) (labels : List Label) (default : List Stmt) (n : ℕ) (k : List Item) → n ≡ length ls → EachLabelPlaced p f ls labels → EachPlaced p f ls default → AfterContinue p f k ls → Scoped p f k ls ⊥
+        → Scoped p f (seeks v labels default n k) ls ⊥
+    seeks_behind v [] default n k e q d y r = in_switch default n k e d y r
+    seeks_behind v (x ∷ xs) default n k e q d y r = (e, q, d, y, r)
+
+    seek_stays : (v : ℕ) (x : Label) (labels : List Label) (default : List Stmt) (n : ℕ) (vs : List Value) (k : List Item) → n ≡ length ls → EachLabelPlaced p f ls (x ∷ labels) → EachPlaced p f ls default → AfterContinue p f k ls → Scoped p f k ls ⊥
+        → Stays (seek p h out v x labels default n vs k)
+    seek_stays v x xs default n vs k e q d y r =
+        goes_behind 1 vs _ (either_behind (x.constant == v) (runs_of x.from ++ Switched n ∷ k) (seeks v xs default n k) (in_switch x.from n k e q.0 y r) (seeks_behind v xs default n k e q.1 d y r))
 
     gives_back : (fn : Option Function) (vs : List Value) → EndsIn p f fn ls → Stays (on_some fn (λ fn. on_one vs (λ v rest. go p h out 1 (left (outermost_of fn) h) (v ∷ []) (Stop (last_of fn.points) ∷ Leave ∷ []))))
     gives_back None vs q = tt
@@ -283,10 +297,10 @@ module _ (p : Program) where
     act_stays (Eval e) vs k q r = evaluate_stays e vs k r.0 r.1
     act_stays (Locate e) vs k q r = locate_stays e vs k r.0 r.1
     act_stays (Push v) vs k q r = goes 1 (v ∷ vs) k r
-    act_stays (Bound x) vs k q r = some_stays (bound x h.place.locals) _ λ b. goes 1 (Pointing b 0 ∷ vs) k r
+    act_stays (Bound x) vs k q r = some_stays (bound x h.activation.locals) _ λ b. goes 1 (Pointing b 0 ∷ vs) k r
     act_stays (Load t) vs k q r = one_stays vs _ λ v rest. read_stays t v rest k r
-    act_stays (Convert t) vs k q r = one_stays vs _ λ v rest. goes 1 (converted t v ∷ rest) k r
-    act_stays (Store t) vs k q r = two_stays vs _ λ place v rest. ok_stays (store h.world (kind_of t) place (converted t v)) _ λ w. goes_in 2 w (converted t v ∷ rest) k r
+    act_stays (Convert t) vs k q r = one_stays vs _ λ v rest. ok_stays (converted t v) _ λ x. goes 1 (x ∷ rest) k r
+    act_stays (Store t) vs k q r = two_stays vs _ λ place v rest. ok_stays (converted t v) _ λ x. ok_stays (store h.world (kind_of t) place x) _ λ w. goes_in 2 w (x ∷ rest) k r
     act_stays (Copy t) vs k q r = two_stays vs _ λ place from rest. copy_stays t place from rest k r
     act_stays (Update t op s new) vs k q r = two_stays vs _ λ place y rest. update_stays t op s new place y rest k r
     act_stays (Change op t) vs k q r = one_stays vs _ λ v rest. ok_stays (changed h.world op t v) _ λ x. goes 1 (x ∷ rest) k r
@@ -308,8 +322,8 @@ module _ (p : Program) where
     act_stays (Turn s n) vs k q r = one_stays vs _ λ v rest. test_stays v _ _ (goes_behind 1 rest _ (turns_scoped p f s n k ls r.0 r.1 r.2)) (goes_behind 1 rest k r.2)
     act_stays (Again s n) vs k q r = goes_behind 1 vs _ (goes_on_scoped p f s n k ls r.0 r.1 r.2)
     act_stays (Select body n) vs k q r =
-        one_stays vs _ λ v rest. ok_stays (bits_in v) _ λ x. goes 1 rest _ (r.0, labels_placed p f (statements_in body) ls r.1, default_placed p f (statements_in body) ls r.1, r.2, r.3)
-    act_stays (Seek v labels default n) vs k q r = seek_stays v labels default n vs k r.0 r.1 r.2 r.3 r.4
+        one_stays vs _ λ v rest. ok_stays (bits_in v) _ λ x. goes_behind 1 rest _ (seeks_behind x (labels_in (statements_in body)) (default_in (statements_in body)) n k r.0 (labels_placed p f (statements_in body) ls r.1) (default_placed p f (statements_in body) ls r.1) r.2 r.3)
+    act_stays (Seek v x labels default n) vs k q r = seek_stays v x labels default n vs k r.0 r.1 r.2 r.3 r.4
     act_stays (Switched n) vs k q r = goes_behind 1 vs k r
     act_stays GiveBack vs k q r = gives_back (slice_get p.functions f) vs r
     act_stays Leave vs k q r = one_stays vs _ λ v rest. end_stays v out o

@@ -1,17 +1,17 @@
 -- At each stop every activation has the locals in scope at the point that it passed last.
 use Rattle.std.proofs.Common.{◌≡◌, refl, sym, ◌∙◌, subst, ap, ℕ, suc, zero, ◌+◌, List, [], ◌∷◌, ◌++◌, Option, Some, None, length, take, length-append, take_all, le_refl}
 use Rattle.std.specs.Prelude.{slice_get}
-use Rattle.runs.specs.Runs.{Next, Goes, Passes, Exits, Undefined, Stuck, Moment, Outcome, Reached, Breaks, Nowhere, after, after_count, past, then_on}
+use Rattle.runs.specs.Runs.{Next, Goes, Passes, Exits, Undefined, Moment, Outcome, Reached, Breaks, after, after_count, past, then_on}
 use Rattle.c_tree.specs.declared.typed.DeclaredLocal.{DeclaredLocal}
 use Rattle.c_tree.specs.declared.rows.Program.{Program}
 use Rattle.c_tree.specs.declared.rows.Function.{Function}
 use Rattle.c_store.specs.Store.{Number}
-use Rattle.c_store.specs.Frames.{Place}
+use Rattle.c_store.specs.Frames.{ActivationRecord}
 use Rattle.c_store.specs.Assigned.{History}
-use Rattle.c_source.specs.Blocks.{converted, declared_in}
+use Rattle.c_source.specs.Blocks.{zero_as, declared_in}
 use Rattle.c_source.specs.Control.{Push, GiveBack, State, Activation, body_of, outermost_of, first_of, last_of}
 use Rattle.c_source.specs.Source.{step}
-use Rattle.c_source.specs.Begin.{begin, acted, places, outer_places}
+use Rattle.c_source.specs.Begin.{begin, acted, records, outer_records}
 use Rattle.c_typing.specs.Plain.{plain}
 use Rattle.c_typing.specs.Statements.{local_numbers as numbers_of, IsPointWith}
 use Rattle.c_typing.specs.Accepted.{numbers, IsAccepted}
@@ -39,7 +39,6 @@ module _ (p : Program) (shaped : (g : ℕ) → ShapedFunction p g (slice_get p.f
   abbrev pub ReachesStanding : Outcome State → Type 0
   ReachesStanding (Reached m) = m.exit ≡ None → Stands m.state
   ReachesStanding (Breaks w) = Unit {0}
-  ReachesStanding Nowhere = Unit {0}
 
   acted_stands : (i : ℕ) (s : State) → Stands s → Stands (acted h i s)
   acted_stands i s g = (acted_good p shaped h fits i s g.0, record { inner = g.1.inner; outer = g.1.outer })
@@ -47,19 +46,16 @@ module _ (p : Program) (shaped : (g : ℕ) → ShapedFunction p g (slice_get p.f
   counted_reaches : (c : ℕ) (o : Outcome State) → ReachesStanding o → ReachesStanding (after_count State c o)
   counted_reaches c (Reached m) k = k
   counted_reaches c (Breaks w) k = tt
-  counted_reaches c Nowhere k = tt
 
   past_reaches : (q : ℕ) (o : Outcome State) → ReachesStanding o → ReachesStanding (past State q o)
   past_reaches q (Reached m) k = k
   past_reaches q (Breaks w) k = tt
-  past_reaches q Nowhere k = tt
 
   then_reaches : (n : Next State) (rest : ℕ → State → Outcome State) (i : ℕ) → Fine p n → Stays p n → ((i : ℕ) (s : State) → Stands s → ReachesStanding (rest i s)) → ReachesStanding (then_on State (step p) (acted h) n rest i)
   then_reaches (Goes c s) rest i f g k = counted_reaches c (rest i s) (k i s (f, g))
   then_reaches (Passes q c s) rest i f g k = counted_reaches c _ (past_reaches q (rest (suc i) (acted h i s)) (k (suc i) (acted h i s) (acted_stands i s (f, g.0))))
   then_reaches (Exits v c s) rest i f g k = λ e. no_exit p shaped h fits v e
   then_reaches (Undefined w) rest i f g k = tt
-  then_reaches Stuck rest i f g k = tt
 
   pub runs_stand : (n i : ℕ) (s : State) → Stands s → ReachesStanding (after State (step p) (acted h) n i s)
   runs_stand zero i s g = λ e. g
@@ -88,7 +84,7 @@ module _ (p : Program) (accepted : IsAccepted p) where
       let ends : (ls : List ℕ) → take (length (v ++ local_numbers (declared_in fn.body))) ls ≡ v ++ local_numbers (declared_in fn.body) → Ends p g ls = λ ls b. subst (λ o. EndsIn p g o ls) (sym e) (ends_there g fn ls i.ends.1 b) in
       let xs = v ++ local_numbers (declared_in fn.body) in (
         at_here p g (plain fn.result) (first_of fn.points) v i.ends.0,
-        body_at p g (plain fn.result) fn.body v (Push (converted fn.result (Number 0)) ∷ GiveBack ∷ []) i.block i.body ends (λ ls. tt) (λ ls. tt) (ends xs (take_all (length xs) xs (le_refl (length xs)))),
+        body_at p g (plain fn.result) fn.body v (Push (zero_as fn.result) ∷ GiveBack ∷ []) i.block i.body ends (λ ls. tt) (λ ls. tt) (ends xs (take_all (length xs) xs (le_refl (length xs)))),
       )
 
   main_scoped : (n : ℕ) (o : Option Function) (fn : Function) → o ≡ Some fn → fn.params ≡ 0 → Scoped p n (body_of p n fn) (numbers 0 fn.params) ⊥ → Scoped p n (control_in p n o) [] ⊥
@@ -103,24 +99,24 @@ module _ (p : Program) (accepted : IsAccepted p) where
 
   -- ---- activations
 
-  live : (a : Place) (o : Option ℕ) → Covered p a.function o (locals_of a.locals) → HasItsLocals p (record a { point = o })
+  live : (a : ActivationRecord) (o : Option ℕ) → Covered p a.function o (locals_of a.locals) → HasItsLocals p (record a { point = o })
   live a None c = c
   live a (Some q) c = λ x k. bound_here x a.locals (c.0 x k)
 
-  outer_live : (out : List Activation) (i : ℕ) (a : Place) → OuterScoped p out → slice_get (outer_places out) i ≡ Some a → CoveredAt p a
+  outer_live : (out : List Activation) (i : ℕ) (a : ActivationRecord) → OuterScoped p out → slice_get (outer_records out) i ≡ Some a → CoveredAt p a
   outer_live [] i a o e = no_none a e
-  outer_live (x ∷ rest) zero a o e = subst (CoveredAt p) (some_same x.place a e) o.0
+  outer_live (x ∷ rest) zero a o e = subst (CoveredAt p) (some_same x.activation a e) o.0
   outer_live (x ∷ rest) (suc i) a o e = outer_live rest i a o.2 e
 
-  pub all_live : (s : State) (i : ℕ) (a : Place) → InScope p s → CoveredAt p s.here.place → slice_get (places s) i ≡ Some a → CoveredAt p a
-  all_live s zero a g c e = subst (CoveredAt p) (some_same s.here.place a e) c
+  pub all_live : (s : State) (i : ℕ) (a : ActivationRecord) → InScope p s → CoveredAt p s.here.activation → slice_get (records s) i ≡ Some a → CoveredAt p a
+  all_live s zero a g c e = subst (CoveredAt p) (some_same s.here.activation a e) c
   all_live s (suc i) a g c e = outer_live s.outer i a g.outer e
 
-  passes_stays : (n : Next State) (q c : ℕ) (s : State) → n ≡ Passes q c s → Stays p n → InScope p s × CoveredAt p s.here.place
+  passes_stays : (n : Next State) (q c : ℕ) (s : State) → n ≡ Passes q c s → Stays p n → InScope p s × CoveredAt p s.here.activation
   passes_stays n q c s e g = subst (Stays p) e g
 
-  pub stops_live : (input : List ℕ) (h : History) (n : ℕ) (m : Moment State) (q c : ℕ) (s : State) (i : ℕ) (a : Place) → IsFitting h → after State (step p) (acted h) n 0 (begin p input) ≡ Reached m → m.exit ≡ None
-      → step p m.state ≡ Passes q c s → slice_get (places s) i ≡ Some a → HasItsLocals p a
+  pub stops_live : (input : List ℕ) (h : History) (n : ℕ) (m : Moment State) (q c : ℕ) (s : State) (i : ℕ) (a : ActivationRecord) → IsFitting h → after State (step p) (acted h) n 0 (begin p input) ≡ Reached m → m.exit ≡ None
+      → step p m.state ≡ Passes q c s → slice_get (records s) i ≡ Some a → HasItsLocals p a
   stops_live input h n m q c s i a fits reached before passes there =
       let shaped = bodies_ready p accepted in
       let begun : Good p (begin p input) × InScope p (begin p input) = (begins_good p input shaped accepted.objects accepted.main (λ g fn e. (function_there p accepted g fn e).main), begins_in_scope input) in

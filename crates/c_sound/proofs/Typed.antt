@@ -183,7 +183,7 @@ module _ (p : Program) (f : ℕ) (v ls : List ℕ) (within : (x : ℕ) → has v
   one_argument (more_of-Typed e (more_of-Typed d rest)) h = absurd (true≢false (sym (and_parts (converts Int (operand s e)) false h).1))
 
   called_built_in : {m : _} (a b c : Bool) (row : Row_of-Typed m) (u : Plain) → called_type (if a then AFunction Int [] else (if b then AFunction Int (Int ∷ []) else (if c then AFunction Void (Int ∷ []) else Hidden))) (operands s row) ≡ Some u
-      → CalledBuiltIn p a (row_shapes row) × (ashape u ≡ false)
+      → CalledBuiltIn p a b c (row_shapes row) × (ashape u ≡ false)
   called_built_in true b c row u h = let q = if_then_none (takes_arguments [] (operands s row)) Int u h in (no_arguments row q.0, ap ashape (sym q.1))
   called_built_in false true c row u h = let q = if_then_none (takes_arguments (Int ∷ []) (operands s row)) Int u h in (one_argument row q.0, ap ashape (sym q.1))
   called_built_in false false true row u h = let q = if_then_none (takes_arguments (Int ∷ []) (operands s row)) Void u h in (one_argument row q.0, ap ashape (sym q.1))

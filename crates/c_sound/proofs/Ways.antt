@@ -47,7 +47,7 @@ module _ (p : Program) (f : ℕ) where
   weaken (Turn s n ∷ k) ls C D g h = h
   weaken (Again s n ∷ k) ls C D g h = h
   weaken (Select body n ∷ k) ls C D g h = h
-  weaken (Seek v labels default n ∷ k) ls C D g h = h
+  weaken (Seek v x labels default n ∷ k) ls C D g h = h
   weaken (Switched n ∷ k) ls C D g h = h
   weaken (GiveBack ∷ k) ls C D g h = h
   weaken (Leave ∷ k) ls C D g h = h

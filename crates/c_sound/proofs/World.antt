@@ -6,7 +6,7 @@ use Rattle.ldb_words.specs.declared.kinds.Kind.{Kind}
 use Rattle.ldb_words.specs.declared.kinds.Kind.TheVariants.{Byte, Word, Address}
 use Rattle.ldb_words.specs.declared.kinds.Undef.TheVariants.{Pointer}
 use Rattle.runs.specs.Runs.{Why, Reason, Stale, IllTyped}
-use Rattle.c_store.specs.Store.{Value, Number, Null, At, Cell, Object, World, same_kind, cell_at, with_cell, live_cells, leaf_at, is_stale, used, load, store, moved, load_all, store_all, load_struct, store_struct, ◌>>=◌}
+use Rattle.c_store.specs.Store.{Value, Number, Null, At, Cell, Object, World, same_kind, cell_at, with_cell, live_cells, leaf_at, is_stale, used, load, store, stored, may_hold, moved, load_all, store_all, load_struct, store_struct, ◌>>=◌}
 use Rattle.c_store.specs.Frames.{Binding, Here, made, left}
 use Rattle.c_sound.specs.Shapes.{is_place, Fits}
 
@@ -149,17 +149,35 @@ replaced_fits : (k : Kind) (i : ℕ) (v : Value) (ob : Option Object) (objects :
 replaced_fits k i v None objects o h g f = h
 replaced_fits k i v (Some ob) objects o h g f = each_set ObjectFits objects o (record ob { cells = with_cell k i v ob.cells }) h (written_cells k i v ob.cells g f)
 
-pub store_gives : (w : World) (k : Kind) (place v : Value) → WorldFits w → Fits k v → Gives WorldFits (store w k place v)
-unfolding store
-store_gives w k (Number n) v h f = tt
-store_gives w k Null v h f = tt
-store_gives w k (At o i) v h f =
+-- a value that fits may be held
+pub fits_hold : (k : Kind) (v : Value) → Fits k v → may_hold k v ≡ true
+fits_hold Byte (Number n) f = refl
+fits_hold Word (Number n) f = refl
+fits_hold Byte Null f = sym f
+fits_hold Byte (At o i) f = sym f
+fits_hold Word Null f = sym f
+fits_hold Word (At o i) f = sym f
+fits_hold Address (Number n) f = f
+fits_hold Address Null f = refl
+fits_hold Address (At o i) f = refl
+
+pub held_gives : {A : Type 0} (P : A → Type 0) (k : Kind) (v : Value) (m : Result A Why) → Fits k v → Gives P m → Gives P (if may_hold k v then m else Err IllTyped)
+held_gives P k v m f g = subst (λ b. Gives P (if b then m else Err IllTyped)) (sym (fits_hold k v f)) g
+
+stored_gives : (w : World) (k : Kind) (place v : Value) → WorldFits w → Fits k v → Gives WorldFits (stored w k place v)
+stored_gives w k (Number n) v h f = tt
+stored_gives w k Null v h f = tt
+stored_gives w k (At o i) v h f =
     gives_then (λ _. Unit {0}) WorldFits (or_pointer (leaf_at w k (At o i))) _ (or_pointer_gives (λ _. Unit {0}) (leaf_at w k (At o i)) (always (leaf_at w k (At o i)))) λ x u.
     either_gives WorldFits _ (Ok (record w { objects = replaced k i v (slice_get w.objects o) w.objects o })) (Err (Reason Pointer)) (replaced_fits k i v (slice_get w.objects o) w.objects o h (each_at ObjectFits w.objects o h) f) tt
   where
     always : (o : Option Value) → Where (λ _. Unit {0}) o
     always None = tt
     always (Some x) = tt
+
+pub store_gives : (w : World) (k : Kind) (place v : Value) → WorldFits w → Fits k v → Gives WorldFits (store w k place v)
+unfolding store
+store_gives w k place v h f = held_gives WorldFits k v (stored w k place v) f (stored_gives w k place v h f)
 
 -- ---- moving
 
@@ -237,4 +255,4 @@ ended_fits (b ∷ bs) objects h = ended_fits bs (dead (slice_get objects b.objec
 
 pub left_fits : (n : ℕ) (h : Here) → WorldFits h.world → WorldFits (left n h).world
 unfolding left
-left_fits n h w = ended_fits (drop n h.place.locals) h.world.objects w
+left_fits n h w = ended_fits (drop n h.activation.locals) h.world.objects w

@@ -3,11 +3,11 @@ ghost use Rattle.std.specs.Prelude.{◌≡◌, ◌≤◌, Option, ℕ, Bool, Lis
 ghost use Rattle.c_tree.specs.declared.typed.Typed.{Typed};
 ghost use Rattle.c_tree.specs.declared.rows.Program.{Program};
 ghost use Rattle.runs.specs.Runs.{Moment, Passes, after, until};
-ghost use Rattle.c_store.specs.Frames.{Place};
+ghost use Rattle.c_store.specs.Frames.{ActivationRecord};
 ghost use Rattle.c_store.specs.Assigned.{History};
 ghost use Rattle.c_source.specs.Control.{State};
 ghost use Rattle.c_source.specs.Source.{step};
-ghost use Rattle.c_source.specs.Begin.{begin, acted, places};
+ghost use Rattle.c_source.specs.Begin.{begin, acted, records};
 ghost use Rattle.c_source.specs.Meaning.{Given, values_meant, assigned, IsPlain, IsAssignment};
 ghost use Rattle.c_typing.specs.Expressions.{IsTyped};
 ghost use Rattle.c_typing.specs.Declared.{scope_at};
@@ -26,14 +26,14 @@ pub fn accepted_programs_keep_shapes()
 
 /// At each moment of such a run before its end, a well-typed expression without assignments and calls has leaf values or one of C's reasons for none, in each activation in which its locals have objects. A plain assignment too; and where it is made, it is one of a list of assignments to leaves that give each a value of its kind, so that the run with it is again one of those above.
 pub fn evaluations_keep_shapes()
-    ensures value { (p : Program) (input : List ℕ) (h : History) (m : Moment State) (a : Place) (v : List ℕ) (e : Typed) → IsMoment p input h m → AreLive v a → IsTyped (scope_at p a.function v) e → IsPlain e → HasMeaning (values_meant p (record { world = m.state.here.world; place = a }) e) }
-    ensures assignment { (p : Program) (input : List ℕ) (h : History) (m : Moment State) (a : Place) (v : List ℕ) (e : Typed) → IsMoment p input h m → AreLive v a → IsTyped (scope_at p a.function v) e → IsAssignment e → HasMeaning (assigned p (record { world = m.state.here.world; place = a }) e) }
-    ensures leaves { (p : Program) (input : List ℕ) (h : History) (m : Moment State) (a : Place) (v : List ℕ) (e : Typed) (g : Given) → IsMoment p input h m → AreLive v a → IsTyped (scope_at p a.function v) e → IsAssignment e → assigned p (record { world = m.state.here.world; place = a }) e ≡ Ok g → IsAssigned m.state.here.world g.world }
+    ensures value { (p : Program) (input : List ℕ) (h : History) (m : Moment State) (a : ActivationRecord) (v : List ℕ) (e : Typed) → IsMoment p input h m → AreLive v a → IsTyped (scope_at p a.function v) e → IsPlain e → HasMeaning (values_meant p (record { world = m.state.here.world; activation = a }) e) }
+    ensures assignment { (p : Program) (input : List ℕ) (h : History) (m : Moment State) (a : ActivationRecord) (v : List ℕ) (e : Typed) → IsMoment p input h m → AreLive v a → IsTyped (scope_at p a.function v) e → IsAssignment e → HasMeaning (assigned p (record { world = m.state.here.world; activation = a }) e) }
+    ensures leaves { (p : Program) (input : List ℕ) (h : History) (m : Moment State) (a : ActivationRecord) (v : List ℕ) (e : Typed) (g : Given) → IsMoment p input h m → AreLive v a → IsTyped (scope_at p a.function v) e → IsAssignment e → assigned p (record { world = m.state.here.world; activation = a }) e ≡ Ok g → IsAssigned m.state.here.world g.world }
 {}
 
 /// Where a step of such a run passes a stopping point, each activation has an object for every local in scope at the point that it passed last. So the expressions that are well typed among the names at that point are those of `evaluations_keep_shapes`.
 pub fn stops_have_their_locals()
-    ensures { (p : Program) (input : List ℕ) (h : History) (m : Moment State) (q c : ℕ) (s : State) (i : ℕ) (a : Place) → IsMoment p input h m → step p m.state ≡ Passes q c s → slice_get (places s) i ≡ Some a → HasItsLocals p a }
+    ensures { (p : Program) (input : List ℕ) (h : History) (m : Moment State) (q c : ℕ) (s : State) (i : ℕ) (a : ActivationRecord) → IsMoment p input h m → step p m.state ≡ Passes q c s → slice_get (records s) i ≡ Some a → HasItsLocals p a }
 {}
 
 /// A session over an accepted program, with a reader that keeps to the typing rules, has an answer to each command about the program, however it has gone on so far: no command comes to a value of the wrong shape.

@@ -66,7 +66,8 @@ module _ (p : Program) (h : Here) where
   scalar_given t a b =
       bound_given h.world (place_of p h a) _ (λ place.
       bound_given h.world (value_of p h b) _ (λ v.
-      given_of h.world (λ u. converted t v) (store h.world (kind_of t) place (converted t v)) (one_stored h.world (kind_of t) place (converted t v) _ refl)))
+      bound_given h.world (converted t v) _ (λ x.
+      given_of h.world (λ u. x) (store h.world (kind_of t) place x) (one_stored h.world (kind_of t) place x _ refl))))
 
   struct_given : (t : CType) (a b : Typed) → IfGiven h.world (struct_assigned p h t a b)
   struct_given t a b =

@@ -72,10 +72,10 @@ module _ (p : Program) where
     use_leads v vs k = by_result (used h.world v) 1 (now (v ∷ vs) (Use ∷ k)) (λ x. now (x ∷ vs) k) refl
 
     load_by : (b : Bool) (t : CType) (v : Value) (s : State) (to : Value → State)
-        → step p s ≡ (if b then Goes 1 (to v) else on_ok (load h.world (kind_of t) v) (λ x. Goes 2 (to (converted t x))))
-        → Leads p s (if b then Ok v else (load h.world (kind_of t) v >>= λ x. Ok (converted t x))) to
+        → step p s ≡ (if b then Goes 1 (to v) else on_ok (load h.world (kind_of t) v >>= converted t) (λ x. Goes 2 (to x)))
+        → Leads p s (if b then Ok v else (load h.world (kind_of t) v >>= converted t)) to
     load_by true t v s to e = (1, (1, to v, e, refl))
-    load_by false t v s to e = by_mapped (load h.world (kind_of t) v) (converted t) 2 s to e
+    load_by false t v s to e = by_result (load h.world (kind_of t) v >>= converted t) 2 s to e
 
     load_leads : (t : CType) (v : Value) (vs : List Value) (k : List Item) → Leads p (now (v ∷ vs) (Load t ∷ k)) (value_at p h t v) (λ x. now (x ∷ vs) k)
     load_leads t v vs k = load_by (is_array t) t v (now (v ∷ vs) (Load t ∷ k)) (λ x. now (x ∷ vs) k) refl
@@ -116,11 +116,13 @@ module _ (p : Program) where
         leads_then _ m (λ v. now (v ∷ vs) (Offset n ∷ k)) (λ v. now (v ∷ vs) k) (λ v. moved h.world v (pos n)) (l vs (Offset n ∷ k)) (λ v.
         by_result (moved h.world v (pos n)) 1 (now (v ∷ vs) (Offset n ∷ k)) (λ v. now (v ∷ vs) k) refl)
 
+    convert_leads : (t : CType) (v : Value) (vs : List Value) (k : List Item) → Leads p (now (v ∷ vs) (Convert t ∷ k)) (converted t v) (λ x. now (x ∷ vs) k)
+    convert_leads t v vs k = by_result (converted t v) 1 (now (v ∷ vs) (Convert t ∷ k)) (λ x. now (x ∷ vs) k) refl
+
     chosen_leads : (i : Item) (m : Meant) (t : CType) (vs : List Value) (k : List Item) → Operand i m → Leads p (now vs (i ∷ Use ∷ Convert t ∷ k)) (chosen_as p h t m) (λ v. now (v ∷ vs) k)
     chosen_leads i m t vs k l =
-        leads_then _ m (λ v. now (v ∷ vs) (Use ∷ Convert t ∷ k)) (λ v. now (v ∷ vs) k) (λ v. used h.world v >>= λ x. Ok (converted t x)) (l vs (Use ∷ Convert t ∷ k)) (λ v.
-        leads_then _ (used h.world v) (λ x. now (x ∷ vs) (Convert t ∷ k)) (λ v. now (v ∷ vs) k) (λ x. Ok (converted t x)) (use_leads v vs (Convert t ∷ k)) (λ x.
-        (1, (1, now (converted t x ∷ vs) k, refl, refl))))
+        leads_then _ m (λ v. now (v ∷ vs) (Use ∷ Convert t ∷ k)) (λ v. now (v ∷ vs) k) (λ v. used h.world v >>= converted t) (l vs (Use ∷ Convert t ∷ k)) (λ v.
+        leads_then _ (used h.world v) (λ x. now (x ∷ vs) (Convert t ∷ k)) (λ v. now (v ∷ vs) k) (converted t) (use_leads v vs (Convert t ∷ k)) (λ x. convert_leads t x vs k))
 
     truth_leads : (i : Item) (m : Meant) (vs : List Value) (k : List Item) → Operand i m → Leads p (now vs (i ∷ Truth ∷ Joined ∷ k)) (truth_of p h m) (λ v. now (v ∷ vs) k)
     truth_leads i m vs k l =
@@ -156,8 +158,7 @@ module _ (p : Program) where
           (both_lead (Eval a) (Eval b) (value_of p h a) (value_of p h b) op (type_of a) (type_of b) vs k (eval_leads a q.0) (eval_leads b q.1))
       eval_leads (Cast' t x a) q vs k =
           one_step 1 _ (now vs (Eval a ∷ Convert t.ctype ∷ k)) (value_of p h (Cast' t x a)) (λ v. now (v ∷ vs) k) refl
-          (leads_then _ (value_of p h a) (λ v. now (v ∷ vs) (Convert t.ctype ∷ k)) (λ v. now (v ∷ vs) k) (λ v. Ok (converted t.ctype v)) (eval_leads a q vs (Convert t.ctype ∷ k)) (λ v.
-          (1, (1, now (converted t.ctype v ∷ vs) k, refl, refl))))
+          (leads_then _ (value_of p h a) (λ v. now (v ∷ vs) (Convert t.ctype ∷ k)) (λ v. now (v ∷ vs) k) (converted t.ctype) (eval_leads a q vs (Convert t.ctype ∷ k)) (λ v. convert_leads t.ctype v vs k))
       eval_leads (Address' t x a) q vs k = one_step 1 _ (now vs (Locate a ∷ k)) (place_of p h a) (λ v. now (v ∷ vs) k) refl (locate_leads a q vs k)
       eval_leads (Unary' t op x a) q vs k =
           one_step 1 _ (now vs (Eval a ∷ Change op (type_of a) ∷ k)) (value_of p h (Unary' t op x a)) (λ v. now (v ∷ vs) k) refl
@@ -211,12 +212,18 @@ module _ (p : Program) where
     abbrev pub done : List Value → List Item → Given → State
     done vs k g = record { here = with_world h g.world; values = g.value ∷ vs; control = k; outer = outer }
 
+    store_by : (t : CType) (place : Value) (m : Meant) (s : State) (vs : List Value) (k : List Item)
+        → step p s ≡ on_ok m (λ x. on_ok (store h.world (kind_of t) place x) (λ w. Goes 2 (done vs k (record { world = w; value = x }))))
+        → Leads p s (m >>= λ x. store h.world (kind_of t) place x >>= λ w. Ok (record { world = w; value = x })) (done vs k)
+    store_by t place (Ok x) s vs k e = by_mapped (store h.world (kind_of t) place x) (λ w. record { world = w; value = x }) 2 s (done vs k) e
+    store_by t place (Err w) s vs k e = (0, s, refl, e)
+
     scalar_leads : (t : CType) (a b : Typed) → IsPlain a → IsPlain b → (vs : List Value) (k : List Item)
         → Leads p (now vs (Locate a ∷ Eval b ∷ Store t ∷ k)) (scalar_assigned p h t a b) (done vs k)
     scalar_leads t a b q r vs k =
         leads_then _ (place_of p h a) (λ place. now (place ∷ vs) (Eval b ∷ Store t ∷ k)) (done vs k) _ (locate_leads a q vs (Eval b ∷ Store t ∷ k)) (λ place.
         leads_then _ (value_of p h b) (λ v. now (v ∷ place ∷ vs) (Store t ∷ k)) (done vs k) _ (eval_leads b r (place ∷ vs) (Store t ∷ k)) (λ v.
-        by_mapped (store h.world (kind_of t) place (converted t v)) (λ w. record { world = w; value = converted t v }) 2 (now (v ∷ place ∷ vs) (Store t ∷ k)) (done vs k) refl))
+        store_by t place (converted t v) (now (v ∷ place ∷ vs) (Store t ∷ k)) vs k refl))
 
     copy_by : (t : CType) (to : Value) (m : Result (List Value) Why) (s : State) (vs : List Value) (k : List Item)
         → step p s ≡ on_ok m (λ xs. on_ok (store_struct h.world (cells_of p.defs t) to xs) (λ w. Goes (1 + 2 * length xs) (done vs k (record { world = w; value = no_value }))))

@@ -11,9 +11,9 @@ use Rattle.ldb_words.specs.declared.kinds.Kind.{Kind}
 use Rattle.c_store.specs.Bits.{low_byte}
 use Rattle.c_store.specs.Store.{Value, Number, Null, At, Object, Cell, World, Static, Text}
 use Rattle.runs.specs.Runs.{Actions}
-use Rattle.c_store.specs.Frames.{Place, with_world}
+use Rattle.c_store.specs.Frames.{ActivationRecord, new_activation, with_world}
 use Rattle.c_store.specs.Assigned.{History, all_assigned, at_stop}
-use Rattle.c_source.specs.Blocks.{cells_of, entered}
+use Rattle.c_source.specs.Blocks.{cells_of}
 use Rattle.c_source.specs.Control.{State, Activation, Item, body_of}
 
 -- What a leaf of a kind holds at first. The strings are objects after the static ones, and an address that is a number is null.
@@ -63,15 +63,15 @@ control_in p n (Some f) = body_of p n f
 abbrev pub begin : Program → List ℕ → State
 begin p input =
     let n = main_from 0 p.functions in
-    record { here = entered p 0 n [] (world_at_first p input); values = []; control = control_in p n (slice_get p.functions n); outer = [] }
+    record { here = record { world = world_at_first p input; activation = new_activation 0 n }; values = []; control = control_in p n (slice_get p.functions n); outer = [] }
 
--- the places of the activations, the innermost first
-abbrev pub outer_places : List Activation → List Place
-outer_places [] = []
-outer_places (a ∷ rest) = a.place ∷ outer_places rest
+-- the records of the activations, the innermost first
+abbrev pub outer_records : List Activation → List ActivationRecord
+outer_records [] = []
+outer_records (a ∷ rest) = a.activation ∷ outer_records rest
 
-abbrev pub places : State → List Place
-places s = s.here.place ∷ outer_places s.outer
+abbrev pub records : State → List ActivationRecord
+records s = s.here.activation ∷ outer_records s.outer
 
 -- what a history of assignments does at the stop of each number
 abbrev pub acted : History → Actions State

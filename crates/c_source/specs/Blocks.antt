@@ -1,5 +1,5 @@
 -- The objects of a block and of a call.
-use Rattle.std.specs.Prelude.{ℕ, suc, ◌+◌, List, [], ◌∷◌, Option, Some, None, slice_get, length, map}
+use Rattle.std.specs.Prelude.{ℕ, suc, ◌+◌, List, [], ◌∷◌, Option, Some, None, Result, Ok, Err, slice_get, length, map}
 use Rattle.c_tree.specs.declared.types.CType.{CType}
 use Rattle.c_tree.specs.declared.types.CType.TheVariants.{Char, Void, Pointer'}
 use Rattle.c_tree.specs.declared.types.StructDef.{StructDef}
@@ -12,15 +12,27 @@ use Rattle.c_tree.specs.declared.rows.Function.{Function}
 use Rattle.c_tree.specs.declared.rows.Local.{Local}
 use Rattle.c_tree.specs.Layout.{size_of, leaves_of}
 use Rattle.c_tree.specs.Rows.{stmts}
+use Rattle.runs.specs.Runs.{Why, IllTyped}
 use Rattle.c_store.specs.Bits.{low_byte}
-use Rattle.c_store.specs.Store.{Value, Number, Null, Cell, World, zero_of}
-use Rattle.c_store.specs.Frames.{Here, made, new_place}
+use Rattle.c_store.specs.Store.{Value, Number, Null, Cell, World, zero_of, with_first, ◌>>=◌}
+use Rattle.c_store.specs.Frames.{Here, made, new_activation}
 
--- A value as one of an integer or pointer type (C90 6.2.1.2, 6.2.2.3). An `int` and an `unsigned` have the same pattern; an integer in place of a pointer is a null constant.
-abbrev pub converted : CType → Value → Value
-converted Char (Number n) = Number (low_byte n)
-converted (Pointer' _ t) (Number n) = Null
-converted _ v = v
+-- a pointer operand; an integer there is a null pointer constant (C90 6.2.2.3)
+abbrev pub as_pointer : Value → Result Value Why
+as_pointer (Number n) = Ok Null
+as_pointer v = Ok v
+
+-- A value as one of an integer or pointer type (C90 6.2.1.2, 6.2.2.3). An `int` and an `unsigned` have the same pattern; an address is no `char`.
+abbrev pub converted : CType → Value → Result Value Why
+converted Char (Number n) = Ok (Number (low_byte n))
+converted Char v = Err IllTyped
+converted (Pointer' _ t) v = as_pointer v
+converted _ v = Ok v
+
+-- what a function gives whose end is reached
+abbrev pub zero_as : CType → Value
+zero_as (Pointer' _ t) = Null
+zero_as _ = Number 0
 
 -- the leaves of a type, with zeros
 abbrev pub zero_cell : Leaf → Cell
@@ -75,21 +87,17 @@ abbrev pub leaf_count : Program → ℕ → List DeclaredLocal → ℕ
 leaf_count p f [] = 0
 leaf_count p f (d ∷ ds) = length (leaves_of p.defs (local_type p f d.local)) + leaf_count p f ds
 
-abbrev pub with_value : Value → List Cell → List Cell
-with_value v [] = []
-with_value v (c ∷ cs) = record c { value = v } ∷ cs
-
 -- a parameter of function f, with its argument
-abbrev pub given_one : Program → (f local : ℕ) → Value → Here → Here
+abbrev pub given_one : Program → (f local : ℕ) → Value → Here → Result Here Why
 given_one p f x v h =
     let t = local_type p f x in
-    made x (size_of p.defs t) (with_value (converted t v) (cells_of p.defs t)) h
+    converted t v >>= λ u. with_first u (cells_of p.defs t) >>= λ cells. Ok (made x (size_of p.defs t) cells h)
 
 -- the parameters from number x on
-abbrev pub given : Program → (f local : ℕ) → List Value → Here → Here
-given p f x [] h = h
-given p f x (v ∷ vs) h = given p f (suc x) vs (given_one p f x v h)
+abbrev pub given : Program → (f local : ℕ) → List Value → Here → Result Here Why
+given p f x [] h = Ok h
+given p f x (v ∷ vs) h = given_one p f x v h >>= given p f (suc x) vs
 
 -- a new activation of a function
-abbrev pub entered : Program → (number function : ℕ) → List Value → World → Here
-entered p n f args w = given p f 0 args (record { world = w; place = new_place n f })
+abbrev pub entered : Program → (number function : ℕ) → List Value → World → Result Here Why
+entered p n f args w = given p f 0 args (record { world = w; activation = new_activation n f })

@@ -10,9 +10,9 @@ use Rattle.c_tree.specs.declared.typed.Stmt.{Stmt}
 use Rattle.c_tree.specs.declared.typed.Stmt.TheVariants.{While', Do', For', Case', Default'}
 use Rattle.c_tree.specs.declared.rows.Program.{Program}
 use Rattle.c_tree.specs.declared.rows.Function.{Function}
-use Rattle.c_store.specs.Store.{Value, Number}
-use Rattle.c_store.specs.Frames.{Here, Place}
-use Rattle.c_source.specs.Blocks.{local_type, declared_in, statements_in, converted}
+use Rattle.c_store.specs.Store.{Value}
+use Rattle.c_store.specs.Frames.{Here, ActivationRecord}
+use Rattle.c_source.specs.Blocks.{local_type, declared_in, statements_in, zero_as}
 
 -- a label of a `switch`: its constant, and the statements from it on
 pub record Label : Type 0 where
@@ -46,13 +46,13 @@ pub data Item : Type 0 where
   -- a loop's test was computed; a loop's body has ended. The number of locals in scope around the loop.
   Turn Again : (loop : Stmt) (scope : ℕ) → Item
   Select : (body : Stmt) (scope : ℕ) → Item
-  Seek : (v : ℕ) (labels : List Label) (default : List Stmt) (scope : ℕ) → Item
+  Seek : (v : ℕ) (next : Label) (labels : List Label) (default : List Stmt) (scope : ℕ) → Item
   Switched : (scope : ℕ) → Item
   GiveBack Leave : Item
 
 -- an outer activation, with the values computed, last first, and what remains to be done
 pub record Activation : Type 0 where
-  pub place : Place
+  pub activation : ActivationRecord
   pub values : List Value
   pub control : List Item
 
@@ -143,6 +143,11 @@ abbrev pub labels_in : List Stmt → List Label
 labels_in [] = []
 labels_in (s ∷ rest) = labels_of s (s ∷ rest) ++ labels_in rest
 
+-- a value is compared with the next label, or there is none left and `default` is chosen
+abbrev pub seeks : ℕ → List Label → List Stmt → (scope : ℕ) → List Item → List Item
+seeks v [] default n k = runs_of default ++ Switched n ∷ k
+seeks v (l ∷ ls) default n k = Seek v l ls default n ∷ k
+
 -- the statements from `default` on, or none
 abbrev pub default_in : List Stmt → List Stmt
 default_in [] = []
@@ -167,4 +172,4 @@ last_of (q ∷ r ∷ qs) = last_of (r ∷ qs)
 abbrev pub body_of : Program → ℕ → Function → List Item
 body_of p n f =
     Stop (first_of f.points) ∷ Open (declared_in f.body) ∷ (inits_of p n (declared_in f.body)
-    ++ (runs_of (statements_in f.body) ++ Push (converted f.result (Number 0)) ∷ GiveBack ∷ []))
+    ++ (runs_of (statements_in f.body) ++ Push (zero_as f.result) ∷ GiveBack ∷ []))

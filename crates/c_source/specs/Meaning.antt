@@ -30,7 +30,7 @@ or_ill_typed (Some v) = Ok v
 module _ (p : Program) (h : Here) where
   -- what stands at a place: a scalar is read, and an array is its place
   abbrev pub value_at : CType → Value → Meant
-  value_at t v = if is_array t then Ok v else (load h.world (kind_of t) v >>= λ x. Ok (converted t x))
+  value_at t v = if is_array t then Ok v else (load h.world (kind_of t) v >>= converted t)
 
   -- a condition, which is a use
   abbrev pub tested : Meant → (holds fails : Meant) → Meant
@@ -41,7 +41,7 @@ module _ (p : Program) (h : Here) where
 
   -- an operand that is chosen is used
   abbrev pub chosen_as : CType → Meant → Meant
-  chosen_as t m = m >>= λ v. used h.world v >>= λ x. Ok (converted t x)
+  chosen_as t m = m >>= λ v. used h.world v >>= converted t
 
   abbrev pub indexed : CType → CType → Meant → Meant → Meant
   indexed s t a b = a >>= λ x. b >>= λ y. combined p.defs h.world Add s t x y
@@ -57,7 +57,7 @@ module _ (p : Program) (h : Here) where
     value_of (Or' t _ a _ b) = tested (value_of a) (Ok (Number 1)) (truth_of (value_of b))
     value_of (And' t _ a _ b) = tested (value_of a) (truth_of (value_of b)) (Ok (Number 0))
     value_of (Binary' t _ a op _ b) = value_of a >>= λ x. value_of b >>= λ y. combined p.defs h.world op (type_of a) (type_of b) x y
-    value_of (Cast' t _ a) = value_of a >>= λ v. Ok (converted t.ctype v)
+    value_of (Cast' t _ a) = value_of a >>= converted t.ctype
     value_of (Address' t _ a) = place_of a
     value_of (Unary' t op _ a) = value_of a >>= λ v. changed h.world op (type_of a) v
     value_of (SizeOf' t _ a) = Ok (Number (size_of p.defs (type_of a)))
@@ -91,8 +91,8 @@ module _ (p : Program) (h : Here) where
 
   abbrev pub scalar_assigned : CType → Typed → Typed → Result Given Why
   scalar_assigned t a b =
-      place_of a >>= λ place. value_of b >>= λ v.
-      store h.world (kind_of t) place (converted t v) >>= λ w. Ok (record { world = w; value = converted t v })
+      place_of a >>= λ place. value_of b >>= λ v. converted t v >>= λ x.
+      store h.world (kind_of t) place x >>= λ w. Ok (record { world = w; value = x })
 
   abbrev pub struct_assigned : CType → Typed → Typed → Result Given Why
   struct_assigned t a b =

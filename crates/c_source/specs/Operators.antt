@@ -14,6 +14,7 @@ use Rattle.c_tree.specs.declared.typed.UnaryOp.TheVariants.{Plus, Minus, Complem
 use Rattle.c_tree.specs.Types.{target_of, is_unsigned, promoted, common}
 use Rattle.c_tree.specs.Layout.{size_of}
 use Rattle.c_store.specs.Store.{Value, Number, Null, At, World, used, moved, ◌>>=◌}
+use Rattle.c_source.specs.Blocks.{as_pointer}
 
 abbrev pub bits_in : Value → Result ℕ Why
 bits_in (Number n) = Ok n
@@ -84,11 +85,6 @@ on_integers op s t x y = do
 
 -- ---- pointers
 
--- a pointer operand of a comparison; an integer there is a null constant
-abbrev as_pointer : Value → Value
-as_pointer (Number n) = Null
-as_pointer v = v
-
 abbrev pub same_pointer : Value → Value → Bool
 same_pointer (Number m) (Number n) = m == n
 same_pointer Null Null = true
@@ -98,8 +94,8 @@ same_pointer _ _ = false
 -- equality is always defined
 abbrev are_equal : World → Value → Value → Result Bool Why
 are_equal w x y = do
-  u ← used w (as_pointer x)
-  v ← used w (as_pointer y)
+  u ← as_pointer x >>= used w
+  v ← as_pointer y >>= used w
   Ok (same_pointer u v)
 
 -- a pointer moved by some items of a size

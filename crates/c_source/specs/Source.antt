@@ -21,12 +21,12 @@ use Rattle.c_tree.specs.Types.{type_of, target_of, kind_of, is_struct, is_array}
 use Rattle.c_tree.specs.Layout.{size_of, members_of}
 use Rattle.ldb_words.specs.Word.{signed}
 use Rattle.c_store.specs.Bits.{minus_one}
-use Rattle.runs.specs.Runs.{Next, Goes, Passes, Exits, Undefined, Stuck, Why, IllTyped}
-use Rattle.c_store.specs.Store.{Value, Number, At, used, load, store, load_struct, store_struct, moved}
+use Rattle.runs.specs.Runs.{Next, Goes, Passes, Exits, Undefined, Why, IllTyped}
+use Rattle.c_store.specs.Store.{Value, Number, At, used, load, store, load_struct, store_struct, moved, ◌>>=◌}
 use Rattle.c_store.specs.Frames.{Here, with_world, with_point, left, bound}
 use Rattle.c_source.specs.Blocks.{cells_of, converted, result_type, opened, leaf_count, entered}
 use Rattle.c_source.specs.Operators.{bits_in, is_zero, combined, changed}
-use Rattle.c_source.specs.Control.{Item, Eval, Locate, Push, Bound, Load, Convert, Store, Copy, Update, Change, Combine, Offset, Use, Discard, Truth, AndThen, OrElse, Pick, Joined, Enter, Run, Stop, Choose, Open, Close, Turn, Again, Select, Seek, Switched, GiveBack, Leave, State, Activation, Label, runs_of, evals_of, inits_of, part_of, loop_begins, loop_goes_on, loop_turns, broken, continued, labels_in, default_in, outermost_of, last_of, body_of}
+use Rattle.c_source.specs.Control.{Item, Eval, Locate, Push, Bound, Load, Convert, Store, Copy, Update, Change, Combine, Offset, Use, Discard, Truth, AndThen, OrElse, Pick, Joined, Enter, Run, Stop, Choose, Open, Close, Turn, Again, Select, Seek, Switched, GiveBack, Leave, State, Activation, Label, runs_of, evals_of, inits_of, part_of, loop_begins, loop_goes_on, loop_turns, broken, continued, seeks, labels_in, default_in, outermost_of, last_of, body_of}
 use Rattle.c_source.specs.Blocks.{statements_in}
 
 abbrev pub on_ok : {A : Type 0} → Result A Why → (A → Next State) → Next State
@@ -38,12 +38,12 @@ on_some None go = Undefined IllTyped
 on_some (Some x) go = go x
 
 abbrev pub on_one : List Value → (Value → List Value → Next State) → Next State
-on_one [] go = Stuck
+on_one [] go = Undefined IllTyped
 on_one (v ∷ vs) go = go v vs
 
 abbrev pub on_two : List Value → (Value → Value → List Value → Next State) → Next State
-on_two [] go = Stuck
-on_two (y ∷ []) go = Stuck
+on_two [] go = Undefined IllTyped
+on_two (y ∷ []) go = Undefined IllTyped
 on_two (y ∷ x ∷ vs) go = go x y vs
 
 -- the value of a `void` expression and of a struct assignment, which nothing reads
@@ -75,7 +75,7 @@ arrow_offset p a m = offset_in (slice_get (members_of p.defs (target_number (tar
 
 abbrev pub place_of : Referent → Here → Option Value
 place_of (Object o) h = Some (At o 0)
-place_of (Local x) h = option_map (λ o. At o 0) (bound x h.place.locals)
+place_of (Local x) h = option_map (λ o. At o 0) (bound x h.activation.locals)
 place_of (Defined f) h = None
 place_of Declared h = None
 
@@ -142,11 +142,13 @@ module _ (p : Program) (h : Here) (outer : List Activation) where
 
   -- a scalar is read; an array is its place
   abbrev pub read : CType → Value → List Value → List Item → Next State
-  read t v vs k = if is_array t then go 1 h (v ∷ vs) k else on_ok (load h.world (kind_of t) v) (λ x. go 2 h (converted t x ∷ vs) k)
+  read t v vs k = if is_array t then go 1 h (v ∷ vs) k else on_ok (load h.world (kind_of t) v >>= converted t) (λ x. go 2 h (x ∷ vs) k)
 
   -- a scalar is converted and written
-  abbrev pub write : CType → Value → Value → Value → List Value → List Item → Next State
-  write t place v given vs k = on_ok (store h.world (kind_of t) place v) (λ w. go 2 (with_world h w) (given ∷ vs) k)
+  abbrev pub write : CType → Value → Value → List Value → List Item → Next State
+  write t place v vs k =
+      on_ok (converted t v) (λ x.
+      on_ok (store h.world (kind_of t) place x) (λ w. go 2 (with_world h w) (x ∷ vs) k))
 
   abbrev pub copy : CType → Value → Value → List Value → List Item → Next State
   copy t to from vs k =
@@ -156,9 +158,9 @@ module _ (p : Program) (h : Here) (outer : List Activation) where
   -- the old value, the operation, and the write
   abbrev pub update : CType → BinaryOp → CType → Bool → Value → Value → List Value → List Item → Next State
   update t op s new place y vs k =
-      on_ok (load h.world (kind_of t) place) (λ old.
-      on_ok (combined p.defs h.world op t s (converted t old) y) (λ x.
-      on_ok (store h.world (kind_of t) place (converted t x)) (λ w. go 3 (with_world h w) (converted t (if new then x else old) ∷ vs) k)))
+      on_ok (load h.world (kind_of t) place >>= converted t) (λ old.
+      on_ok (combined p.defs h.world op t s old y >>= converted t) (λ x.
+      on_ok (store h.world (kind_of t) place x) (λ w. go 3 (with_world h w) ((if new then x else old) ∷ vs) k)))
 
   -- a condition, which is a use
   abbrev pub on_test : Value → Next State → Next State → Next State
@@ -175,19 +177,20 @@ module _ (p : Program) (h : Here) (outer : List Activation) where
       on_ok (bits_in v) (λ n.
       if bytes_eq name (codes "getchar") then Undefined IllTyped
       else if bytes_eq name (codes "putchar") then go 1 (with_world h (record h.world { output = h.world.output ++ (n % 256) ∷ [] })) (Number (n % 256) ∷ vs) k
-      else Exits (signed n) 1 (record { here = h; values = []; control = []; outer = outer }))
+      else if bytes_eq name (codes "exit") then Exits (signed n) 1 (record { here = h; values = []; control = []; outer = outer })
+      else Undefined IllTyped)
   built_in name (v ∷ u ∷ us) vs k = Undefined IllTyped
 
   -- so does a function of the program
   abbrev pub call : Referent → List ℕ → ℕ → List Value → List Item → Next State
   call (Defined f) name n vs k =
       on_some (slice_get p.functions f) (λ fn.
-      if fn.params == n then Goes (1 + n) (record {
-        here = entered p (suc h.place.number) f (reverse (take n vs)) h.world;
+      if fn.params == n then on_ok (entered p (suc h.activation.number) f (reverse (take n vs)) h.world) (λ g. Goes (1 + n) (record {
+        here = g;
         values = [];
         control = body_of p f fn;
-        outer = record { place = h.place; values = drop n vs; control = k } ∷ outer;
-      })
+        outer = record { activation = h.activation; values = drop n vs; control = k } ∷ outer;
+      }))
       else Undefined IllTyped)
   call Declared name n vs k = built_in name (take n vs) (drop n vs) k
   call _ name n vs k = Undefined IllTyped
@@ -195,41 +198,40 @@ module _ (p : Program) (h : Here) (outer : List Activation) where
   -- the innermost activation ends with a value
   abbrev pub end_with : Value → List Activation → Next State
   end_with v [] = on_ok (bits_in v) (λ n. Exits (signed n) 1 (record { here = h; values = v ∷ []; control = []; outer = [] }))
-  end_with v (a ∷ rest) = Goes 1 (record { here = record { world = (left 0 h).world; place = a.place }; values = v ∷ a.values; control = a.control; outer = rest })
+  end_with v (a ∷ rest) = Goes 1 (record { here = record { world = (left 0 h).world; activation = a.activation }; values = v ∷ a.values; control = a.control; outer = rest })
 
   -- ---- statements
 
   abbrev pub execute : Stmt → List Value → List Item → Next State
   -- expression statements and blocks (6.6.2, 6.6.3)
   execute (Expression at e) vs k = go 1 h vs (part_of e ++ k)
-  execute (Block' at ds _ row l c) vs k = go 1 h vs (Open ds ∷ (inits_of p h.place.function ds ++ (runs_of (stmts row) ++ Close (length h.place.locals) ∷ k)))
+  execute (Block' at ds _ row l c) vs k = go 1 h vs (Open ds ∷ (inits_of p h.activation.function ds ++ (runs_of (stmts row) ++ Close (length h.activation.locals) ∷ k)))
   -- `if` and `switch` (6.6.4) and labels (6.6.1)
   execute (If' at q _ a b) vs k = go 1 h vs (Stop q.point ∷ Eval q.e ∷ Choose a (else_of b) ∷ k)
-  execute (Switch' at q _ body) vs k = go 1 h vs (Stop q.point ∷ Eval q.e ∷ Select body (length h.place.locals) ∷ k)
+  execute (Switch' at q _ body) vs k = go 1 h vs (Stop q.point ∷ Eval q.e ∷ Select body (length h.activation.locals) ∷ k)
   execute (Case' at c _ s) vs k = go 1 h vs (Run s ∷ k)
   execute (Default' at _ s) vs k = go 1 h vs (Run s ∷ k)
   -- jumps (6.6.6)
   execute (Break at) vs k = on_some (broken k) (λ r. go 1 (left r.scope h) vs r.control)
   execute (Continue at) vs k = on_some (continued k) (λ r. go 1 (left r.scope h) vs r.control)
   execute (Return at q None) vs k = go 1 h vs (Stop q ∷ Push no_value ∷ GiveBack ∷ k)
-  execute (Return at q (Some e)) vs k = go 1 h vs (Stop q ∷ Eval e ∷ Convert (result_type p h.place.function) ∷ GiveBack ∷ k)
+  execute (Return at q (Some e)) vs k = go 1 h vs (Stop q ∷ Eval e ∷ Convert (result_type p h.activation.function) ∷ GiveBack ∷ k)
   -- loops (6.6.5)
-  execute loop vs k = go 1 h vs (loop_begins loop (length h.place.locals) ++ k)
+  execute loop vs k = go 1 h vs (loop_begins loop (length h.activation.locals) ++ k)
 
   -- the labels of a `switch` are compared one by one
-  abbrev pub seek : ℕ → List Label → List Stmt → ℕ → List Value → List Item → Next State
-  seek v [] default n vs k = go 1 h vs (runs_of default ++ Switched n ∷ k)
-  seek v (l ∷ ls) default n vs k = go 1 h vs (if l.constant == v then runs_of l.from ++ Switched n ∷ k else Seek v ls default n ∷ k)
+  abbrev pub seek : ℕ → Label → List Label → List Stmt → ℕ → List Value → List Item → Next State
+  seek v l ls default n vs k = go 1 h vs (if l.constant == v then runs_of l.from ++ Switched n ∷ k else seeks v ls default n k)
 
   -- the first thing that remains to be done
   abbrev pub act : Item → List Value → List Item → Next State
   act (Eval e) vs k = evaluate e vs k
   act (Locate e) vs k = locate e vs k
   act (Push v) vs k = go 1 h (v ∷ vs) k
-  act (Bound x) vs k = on_some (bound x h.place.locals) (λ o. go 1 h (At o 0 ∷ vs) k)
+  act (Bound x) vs k = on_some (bound x h.activation.locals) (λ o. go 1 h (At o 0 ∷ vs) k)
   act (Load t) vs k = on_one vs (λ v rest. read t v rest k)
-  act (Convert t) vs k = on_one vs (λ v rest. go 1 h (converted t v ∷ rest) k)
-  act (Store t) vs k = on_two vs (λ place v rest. write t place (converted t v) (converted t v) rest k)
+  act (Convert t) vs k = on_one vs (λ v rest. on_ok (converted t v) (λ x. go 1 h (x ∷ rest) k))
+  act (Store t) vs k = on_two vs (λ place v rest. write t place v rest k)
   act (Copy t) vs k = on_two vs (λ to from rest. copy t to from rest k)
   act (Update t op s new) vs k = on_two vs (λ place y rest. update t op s new place y rest k)
   act (Change op t) vs k = on_one vs (λ v rest. on_ok (changed h.world op t v) (λ x. go 1 h (x ∷ rest) k))
@@ -246,22 +248,22 @@ module _ (p : Program) (h : Here) (outer : List Activation) where
   act (Run s) vs k = execute s vs k
   act (Stop q) vs k = Passes q 1 (record { here = with_point h q; values = vs; control = k; outer = outer })
   act (Choose a b) vs k = on_one vs (λ v rest. on_test v (go 1 h rest (Run a ∷ Joined ∷ k)) (go 1 h rest (runs_of b ++ k)))
-  act (Open ds) vs k = go (1 + leaf_count p h.place.function ds) (opened p h.place.function ds h) vs k
+  act (Open ds) vs k = go (1 + leaf_count p h.activation.function ds) (opened p h.activation.function ds h) vs k
   act (Close n) vs k = go 1 (left n h) vs k
   act (Turn s n) vs k = on_one vs (λ v rest. on_test v (go 1 h rest (loop_turns s n ++ k)) (go 1 h rest k))
   act (Again s n) vs k = go 1 h vs (loop_goes_on s n ++ k)
   act (Select body n) vs k =
       on_one vs (λ v rest. on_ok (bits_in v) (λ x.
-      go 1 h rest (Seek x (labels_in (statements_in body)) (default_in (statements_in body)) n ∷ k)))
-  act (Seek v ls default n) vs k = seek v ls default n vs k
+      go 1 h rest (seeks x (labels_in (statements_in body)) (default_in (statements_in body)) n k)))
+  act (Seek v l ls default n) vs k = seek v l ls default n vs k
   act (Switched n) vs k = go 1 h vs k
   act GiveBack vs k =
-      on_some (slice_get p.functions h.place.function) (λ fn.
+      on_some (slice_get p.functions h.activation.function) (λ fn.
       on_one vs (λ v rest. go 1 (left (outermost_of fn) h) (v ∷ []) (Stop (last_of fn.points) ∷ Leave ∷ [])))
   act Leave vs k = on_one vs (λ v rest. end_with v outer)
 
   abbrev pub on_control : List Item → List Value → Next State
-  on_control [] vs = Stuck
+  on_control [] vs = Undefined IllTyped
   on_control (i ∷ k) vs = act i vs k
 
 -- one step of a program

@@ -8,7 +8,7 @@ pub record Binding : Type 0 where
   pub object : ℕ
 
 -- an activation: its number, `main` being 0, its function, its live locals in scope order, and the point that it passed last
-pub record Place : Type 0 where
+pub record ActivationRecord : Type 0 where
   pub number : ℕ
   pub function : ℕ
   pub locals : List Binding
@@ -17,25 +17,25 @@ pub record Place : Type 0 where
 -- the world and the innermost activation
 pub record Here : Type 0 where
   pub world : World
-  pub place : Place
+  pub activation : ActivationRecord
 
 abbrev pub with_world : Here → World → Here
 with_world h w = record h { world = w }
 
 abbrev pub with_point : Here → ℕ → Here
-with_point h q = record h { place = record h.place { point = Some q } }
+with_point h q = record h { activation = record h.activation { point = Some q } }
 
 -- an activation that begins, without locals yet
-abbrev pub new_place : (number function : ℕ) → Place
-new_place n f = record { number = n; function = f; locals = []; point = None }
+abbrev pub new_activation : (number function : ℕ) → ActivationRecord
+new_activation n f = record { number = n; function = f; locals = []; point = None }
 
 -- a new object for a local, of a size and with these leaves, which is the innermost activation's last in scope
 unfoldable pub made : (local size : ℕ) → List Cell → Here → Here
 made x size cells h = record {
   world = record h.world {
-    objects = h.world.objects ++ record { origin = Auto h.place.function x h.place.number; live = true; size = size; cells = cells } ∷ [];
+    objects = h.world.objects ++ record { origin = Auto h.activation.function x h.activation.number; live = true; size = size; cells = cells } ∷ [];
   };
-  place = record h.place { locals = h.place.locals ++ record { local = x; object = length h.world.objects } ∷ [] };
+  activation = record h.activation { locals = h.activation.locals ++ record { local = x; object = length h.world.objects } ∷ [] };
 }
 
 abbrev dead : Option Object → List Object → ℕ → List Object
@@ -49,11 +49,12 @@ ended (b ∷ bs) objects = ended bs (dead (slice_get objects b.object) objects b
 -- blocks are left: the locals from number n in scope on are gone, and their objects' lifetimes have ended
 unfoldable pub left : ℕ → Here → Here
 left n h = record {
-  world = record h.world { objects = ended (drop n h.place.locals) h.world.objects };
-  place = record h.place { locals = take n h.place.locals };
+  world = record h.world { objects = ended (drop n h.activation.locals) h.world.objects };
+  activation = record h.activation { locals = take n h.activation.locals };
 }
 
 -- the object of a local
 abbrev pub bound : ℕ → List Binding → Option ℕ
 bound x [] = None
 bound x (b ∷ bs) = if b.local == x then Some b.object else bound x bs
+

@@ -132,11 +132,26 @@ may_write w (Number n) = false
 may_write w Null = false
 may_write w (At o i) = is_written (slice_get w.objects o)
 
--- and written to one, which is in no string
-unfoldable pub store : World → Kind → Value → Value → Result World Why
-store w k place v = do
+-- a leaf for a number holds no address, and one for an address no number
+abbrev pub may_hold : Kind → Value → Bool
+may_hold Address (Number n) = false
+may_hold Address v = true
+may_hold k (Number n) = true
+may_hold k v = false
+
+abbrev pub stored : World → Kind → Value → Value → Result World Why
+stored w k place v = do
   old ← or_pointer (leaf_at w k place)
   if may_write w place then Ok (written w k place v) else Err (Reason Pointer)
+
+-- and written to one, which may hold it and is in no string
+unfoldable pub store : World → Kind → Value → Value → Result World Why
+store w k place v = if may_hold k v then stored w k place v else Err IllTyped
+
+-- the leaves of a scalar that begins with a value
+abbrev pub with_first : Value → List Cell → Result (List Cell) Why
+with_first v [] = Ok []
+with_first v (c ∷ cs) = if may_hold c.kind v then Ok (record c { value = v } ∷ cs) else Err IllTyped
 
 -- ---- arithmetic on pointers
 

@@ -1,5 +1,5 @@
--- Leaves stand one behind the other.
-use Rattle.std.specs.Prelude.{◌≡◌, ◌≤◌, ℕ, ◌+◌, List, [], ◌∷◌, Some, slice_get}
+-- Leaves stand one behind the other, and aligned.
+use Rattle.std.specs.Prelude.{◌≡◌, ◌≤◌, ℕ, ◌+◌, ◌%◌, List, [], ◌∷◌, Some, slice_get}
 use Rattle.c_tree.specs.declared.types.StructDef.{StructDef}
 use Rattle.c_tree.specs.declared.types.Leaf.{Leaf}
 use Rattle.c_tree.specs.Layout.{IsLaidOut}
@@ -11,6 +11,10 @@ abbrev pub width_of : Kind → ℕ
 width_of Byte = 1
 width_of Word = 4
 width_of Address = 4
+
+-- a leaf stands at a multiple of its width
+abbrev pub IsAligned : Leaf → Type 0
+IsAligned l = l.at % width_of l.kind ≡ 0
 
 -- leaves lie in order of offset between two places, and none begins before the one in front has ended
 abbrev pub LieIn : ℕ → List Leaf → ℕ → Type 0

@@ -4,11 +4,12 @@ ghost use Rattle.c_tree.specs.declared.types.Leaf.{Leaf};
 ghost use Rattle.c_tree.specs.declared.layout.LeafFault.TheVariants.{NoMemory};
 ghost use Rattle.c_tree.specs.Layout.{size_of as size, struct_size_of, members_of, leaves_within, leaves_of_members, repeated};
 ghost use Rattle.c_tree.specs.Listed.{IsSize, AreLeaves, kept_at};
-ghost use Rattle.std.specs.Prelude.{List};
+ghost use Rattle.std.specs.Prelude.{List, length};
+ghost use Rattle.std.specs.List.{AllByRecursion};
 ghost use Rattle.c_tree.specs.declared.types.CType.{CType};
 ghost use Rattle.c_tree.specs.declared.types.StructDef.{StructDef};
-ghost use Rattle.c_tree.specs.Layout.{leaves_of};
-ghost use Rattle.c_tree.specs.Ordered.{AllLaidOut, LieIn};
+ghost use Rattle.c_tree.specs.Layout.{leaves_of, IsWithin};
+ghost use Rattle.c_tree.specs.Ordered.{AllLaidOut, IsAligned, LieIn};
 
 use crate::{CType, Leaf, Member, StructDef};
 use ldb_words::Kind;
@@ -196,4 +197,14 @@ fn wrapped_size(t: &CType, defs: &[StructDef]) -> u32
 /// Where each struct stands as the layout has it, the leaves of a type ascend: each begins where the one before it has ended or behind that, and the last ends inside the type's size.
 pub fn leaves_ascend()
     ensures { (defs : List StructDef) (t : CType) → AllLaidOut defs → LieIn 0 (leaves_of defs t) (size defs t) }
+{}
+
+/// There each leaf stands at a multiple of its width.
+pub fn leaves_are_aligned()
+    ensures { (defs : List StructDef) (t : CType) → AllLaidOut defs → AllByRecursion IsAligned (leaves_of defs t) }
+{}
+
+/// There a type that is at most 64 deep has at most four bytes for each leaf.
+pub fn leaves_fill()
+    ensures { (defs : List StructDef) (t : CType) → AllLaidOut defs → IsWithin defs 64 t → size defs t ≤ 4 * length (leaves_of defs t) }
 {}

@@ -8,7 +8,10 @@ mod tests;
 mod typed;
 mod types;
 
-pub use layout::{LARGEST, LeafFault, TooBig, leaves, leaves_ascend, members, size_of};
+pub use layout::{
+    LARGEST, LeafFault, TooBig, leaves, leaves_are_aligned, leaves_ascend, leaves_fill, members,
+    size_of,
+};
 pub use rows::{Function, Local, ObjectRow, Point, Program, Referent, Start, SymbolRow, UnitRow};
 pub use typed::{BinaryOp, DeclaredLocal, Head, Pointed, Site, StepOp, Stmt, Typed, UnaryOp};
 pub use types::{CType, Leaf, Member, StructDef};

@@ -157,7 +157,7 @@ module _ (tasks : Tasks) (file : List ℕ) where
 
   -- by whether the word is a name, and what it names
   abbrev Told : Stmt → Reader → State → Bool → Option SymbolRow → Answer
-  Told body r s is_name o = if is_name then print_symbol (p body) r 1 (standing_in (mode.Stopped s)).session s.here.world s.here.place o else Refuses BadSyntax
+  Told body r s is_name o = if is_name then print_symbol (p body) r 1 (standing_in (mode.Stopped s)).session s.here.world s.here.activation o else Refuses BadSyntax
 
   -- at a stop of these numbers
   asks_at : (body : Stmt) (r : Reader) (left : Left) (s : State) (name : List ℕ) → TakesNames r → (d : Stop tasks.objects tasks.body left s)

@@ -1,6 +1,6 @@
 -- A run has one first event.
 use Rattle.std.proofs.Common.{◌≡◌, sym, ap, ◌∙◌, ℕ, suc, zero, ◌+◌, Bool, true, false}
-use Rattle.runs.specs.Runs.{Next, Goes, Passes, Exits, Undefined, Stuck, Event, Course, Going, Comes, Lost, counted, passing, onward, until}
+use Rattle.runs.specs.Runs.{Next, Goes, Passes, Exits, Undefined, Event, Course, Going, Comes, counted, passing, onward, until}
 
 -- what an event comes from, before the count of a step is added
 pub record Added (S : Type 0) (c : ℕ) (o : Course S) (d : ℕ) (e : Event S) : Type 0 where
@@ -11,7 +11,6 @@ pub record Added (S : Type 0) (c : ℕ) (o : Course S) (d : ℕ) (e : Event S) :
 pub added : {S : Type 0} (c : ℕ) (o : Course S) (d : ℕ) (e : Event S) → counted c o ≡ Comes d e → Added S c o d e
 added c (Going r s) d e h = absurd cc
 added c (Comes r f) d e h = record { rest = r; comes = cc; count = cc }
-added c Lost d e h = absurd cc
 
 pub record Same (S : Type 0) (c d : ℕ) (e f : Event S) : Type 0 where
   pub count : c ≡ d
@@ -37,7 +36,6 @@ module _ {S : Type 0} (step : S → Next S) (stops : ℕ → Bool) where
   steps (Passes q c s) go on once = passes (stops q) q c s go on (once s)
   steps (Exits v c s) go on once = λ c' d' e f h k. record { count = cc; event = cc }
   steps (Undefined w) go on once = λ c' d' e f h k. record { count = cc; event = cc }
-  steps Stuck go on once = λ c' d' e f h k. absurd cc
 
   -- whatever the number of steps at which it is seen
   pub until_once : (n m : ℕ) (s : S) → Once (until S step stops n s) (until S step stops m s)

@@ -2,19 +2,18 @@
 use Rattle.std.specs.Prelude.{◌≡◌, ℕ, suc, zero, ◌+◌, List, [], ◌∷◌, Bool, true, false, ℤ, Option, Some, None}
 use Rattle.ldb_words.specs.declared.kinds.Undef.{Undef}
 
--- Why a step has no successor: one of the four reasons, or a stale pointer is used, or a value has not the shape that its type has.
+-- Why a step has no successor: one of the four reasons, or a stale pointer is used, or a value has not the shape that its type has. The last is what never comes.
 pub data Why : Type 0 where
   Reason : (reason : Undef) → Why
   Stale : Why
   IllTyped : Why
 
--- what a step does: it goes on, passes a stopping point, ends the program, or has no successor
+-- what a step does: it goes on, passes a stopping point, ends the program, or is undefined
 pub data Next (S : Type 0) : Type 0 where
   Goes : (count : ℕ) (after : S) → Next S
   Passes : (point count : ℕ) (after : S) → Next S
   Exits : (number : ℤ) (count : ℕ) (after : S) → Next S
   Undefined : (why : Why) → Next S
-  Stuck : Next S
 
 -- the first event of a run: a point of the given set is passed, the program exits, or a step is undefined
 pub data Event (S : Type 0) : Type 0 where
@@ -26,12 +25,10 @@ pub data Event (S : Type 0) : Type 0 where
 pub data Course (S : Type 0) : Type 0 where
   Going : (count : ℕ) (at : S) → Course S
   Comes : (count : ℕ) (event : Event S) → Course S
-  Lost : Course S
 
 abbrev pub counted : {S : Type 0} → ℕ → Course S → Course S
 counted c (Going d s) = Going (c + d) s
 counted c (Comes d e) = Comes (c + d) e
-counted c Lost = Lost
 
 module _ (S : Type 0) (step : S → Next S) where
   abbrev pub passing : Bool → ℕ → ℕ → S → (S → Course S) → Course S
@@ -43,7 +40,6 @@ module _ (S : Type 0) (step : S → Next S) where
   onward stops (Passes q c s) go = passing (stops q) q c s go
   onward stops (Exits v c s) go = Comes c (Exited v s)
   onward stops (Undefined w) go = Comes 1 (Failed w)
-  onward stops Stuck go = Lost
 
   -- where at most n steps come to, up to the first of these points
   abbrev pub until : (ℕ → Bool) → ℕ → S → Course S
@@ -56,7 +52,6 @@ module _ (S : Type 0) (step : S → Next S) where
   count_of (Passes q c s) = c
   count_of (Exits v c s) = c
   count_of (Undefined w) = 1
-  count_of Stuck = 1
 
   -- a run from s first meets this event, after steps of this count
   abbrev pub RunsTo : (ℕ → Bool) → S → ℕ → Event S → Type 0
@@ -75,11 +70,10 @@ pub record Moment (S : Type 0) : Type 0 where
   pub count : ℕ
   pub exit : Option ℤ
 
--- what some steps come to: a moment, an undefined step, or no successor
+-- what some steps come to: a moment, or an undefined step
 pub data Outcome (S : Type 0) : Type 0 where
   Reached : (m : Moment S) → Outcome S
   Breaks : (why : Why) → Outcome S
-  Nowhere : Outcome S
 
 -- what is done to the state at each stop, by the stop's number
 abbrev pub Actions : Type 0 → Type 0
@@ -95,12 +89,10 @@ module _ (S : Type 0) where
   abbrev pub after_count : ℕ → Outcome S → Outcome S
   after_count c (Reached m) = Reached (record m { count = c + m.count })
   after_count c (Breaks r) = Breaks r
-  after_count c Nowhere = Nowhere
 
   abbrev pub past : ℕ → Outcome S → Outcome S
   past p (Reached m) = Reached (record m { passed = p ∷ m.passed })
   past p (Breaks r) = Breaks r
-  past p Nowhere = Nowhere
 
 module _ (S : Type 0) (step : S → Next S) (acts : Actions S) where
   abbrev pub then_on : Next S → (ℕ → S → Outcome S) → ℕ → Outcome S
@@ -108,7 +100,6 @@ module _ (S : Type 0) (step : S → Next S) (acts : Actions S) where
   then_on (Passes p c s) go i = after_count S c (past S p (go (suc i) (acts i s)))
   then_on (Exits v c s) go i = Reached (over S s v c)
   then_on (Undefined r) go i = Breaks r
-  then_on Stuck go i = Nowhere
 
   -- where at most n steps come to, of which the first stop has number i
   abbrev pub after : ℕ → ℕ → S → Outcome S

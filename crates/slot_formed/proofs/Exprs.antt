@@ -160,7 +160,7 @@ module _ (p : Program) (accepted : IsAccepted p) (ascend : (t : CType) → LieIn
       by true e lt =
           let is_b : is_struct (type_of b) ≡ true = copied a b refl (only_true _ (plain (type_of a)) (plain h.ctype) t.2) e in
           behind p f fn n at ca _ lt (λ q. pa (no_scalar p accepted ascend f fn here n a (struct_no_scalar (type_of a) e)) at d q) λ q.
-          behind p f fn n (at + length ca) cb _ q (λ r. pb (no_scalar p accepted ascend f fn here n b (struct_no_scalar (type_of b) is_b)) (at + length ca) (suc d) r) λ r. (struct_defined p (type_of a) (type_formed p accepted f v a t.0) e, (tt, tt))
+          behind p f fn n (at + length ca) cb _ q (λ r. pb (no_scalar p accepted ascend f fn here n b (struct_no_scalar (type_of b) is_b)) (at + length ca) (suc d) r) λ r. (struct_defined p (type_of a) (type_formed p accepted f v a t.0) e, (omega arith, tt))
       by false e lt =
           behind p f fn n at ra _ lt (λ q. unless_place a at d pa q) λ q.
           behind p f fn n (at + length ra) eb_code _ q (λ r. eb (at + length ra) (suc d) r) λ r. write_good p f fn n d (register_in p f a) (type_of a) (registers_in p accepted ascend f fn here n a)
@@ -191,7 +191,7 @@ module _ (p : Program) (accepted : IsAccepted p) (ascend : (t : CType) → LieIn
       → GG (unless_register (register_in p f a) (place_code p f at d a) ++ op.Const (suc d) 1 ∷ update_at p f d (register_in p f a) (type_of a) o ctype.Int new)
   step_good a o new at d t k pa lt =
       behind p f fn n at (unless_register (register_in p f a) (place_code p f at d a)) _ lt (λ q. unless_place a at d pa q) λ q.
-      (tt, update_good p f fn n d (register_in p f a) (type_of a) o ctype.Int new k (registers_in p accepted ascend f fn here n a) (small a t) tt (integer_apart p accepted ascend f fn here n o (target_of (type_of a)) None refl))
+      (omega arith, update_good p f fn n d (register_in p f a) (type_of a) o ctype.Int new k (registers_in p accepted ascend f fn here n a) (small a t) tt (integer_apart p accepted ascend f fn here n o (target_of (type_of a)) None refl))
 
   -- ---- two operands and an operator
 
@@ -229,6 +229,9 @@ module _ (p : Program) (accepted : IsAccepted p) (ascend : (t : CType) → LieIn
   literal_good : (h : Head) (m : ℕ) → IsTyped s (Literal h m) → m < length p.strings
   literal_good h m t = let q = map_some (λ (text : List ℕ). Array Char (suc (length text))) (slice_get p.strings m) (plain h.ctype) t in below_length p.strings m q.0 q.1
 
+  size_small : (t : CType) → Formed p.defs (plain t) → size_of p.defs t < 2 ^ 32
+  size_small t h = omega (arith, size_plain p.defs t, formed_size p.defs (plain t) h)
+
   mutual
     pub expr_good : (e : Typed) → IsTyped s e → (at d : ℕ) → at + length (expr_code p f at d e) < n → G p f fn n (expr_code p f at d e)
     expr_good (Comma' h x a y b) t at d lt = behind p f fn n at (expr_code p f at d a) _ lt (λ q. expr_good a t.0 at d q) (λ q. expr_good b t.1 (at + length (expr_code p f at d a)) d q)
@@ -246,11 +249,11 @@ module _ (p : Program) (accepted : IsAccepted p) (ascend : (t : CType) → LieIn
     expr_good (Before' h o x a) t at d lt = step_good a (stepping o) true at d t.0 (compound_no_array (stepped o) (type_of a) (operand s a) Int (plain h.ctype) refl t.1) (λ r i j q. place_good a t.0 r i j q) lt
     expr_good (Address' h x a) t at d lt = place_good a t.0 (address_none a (plain h.ctype) t.0 t.1) at d lt
     expr_good (Unary' h o x a) t at d lt = behind p f fn n at (expr_code p f at d a) _ lt (λ q. expr_good a t.0 at d q) λ q. (tt, tt)
-    expr_good (SizeOf' h x a) t at d lt = (tt, tt)
-    expr_good (SizeOfType h u) t at d lt = (tt, tt)
+    expr_good (SizeOf' h x a) t at d lt = (size_small (type_of a) (type_formed p accepted f v a t.0), tt)
+    expr_good (SizeOfType h u) t at d lt = (size_small u (formed p.defs u t.0.1), tt)
     expr_good (Call' h g x row) t at d lt = behind p f fn n at (row_code p f at d row) _ lt (λ q. row_good row t.0 at d q) λ q. enter_good p accepted ascend f fn here n v d g row (plain h.ctype) t.1
     expr_good (After' h x a o) t at d lt = step_good a (stepping o) false at d t.0 (compound_no_array (stepped o) (type_of a) (operand s a) Int (plain h.ctype) refl t.1) (λ r i j q. place_good a t.0 r i j q) lt
-    expr_good (Constant h m) t at d lt = (tt, tt)
+    expr_good (Constant h m) t at d lt = (t.1, tt)
     expr_good (Parens' h x a) t at d lt = expr_good a t.0 at d lt
     expr_good (Name h m) t at d lt =
         behind p f fn n at (unless_register (register_in p f (Name h m)) (name_code p f d (slice_get p.symbols m))) _ lt

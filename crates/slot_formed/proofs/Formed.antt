@@ -30,22 +30,24 @@ use Rattle.slot_ir.specs.declared.code.SlotObject.{SlotObject}
 use Rattle.slot_ir.specs.declared.code.SlotStruct.{SlotStruct}
 use Rattle.slot_ir.specs.declared.code.SlotOp.{SlotOp}
 use Rattle.slot_ir.specs.declared.code.SlotOp.TheVariants as op
-use Rattle.slot_ir.specs.WellFormed.{operators_in, IsFunction, IsWellFormed, NamesWhatIsThere, PlacesOf}
+use Rattle.slot_ir.specs.WellFormed.{operators_in, IsFunction, IsListed, IsWellFormed, NamesWhatIsThere, PlacesOf}
 use Rattle.slot_gen.specs.Expressions.{access_of, registers_from, register_at, register_of}
 use Rattle.slot_gen.specs.Statements.{nowhere, zeros_code, inits_code, stmts_code, zero_code, body_place, end_place, function_code}
 use Rattle.slot_gen.specs.Correct.{HasMain}
 use Rattle.slot_gen.specs.Bounds.{function_temps, IsBelow, AreBelow}
 use Rattle.slot_formed.specs.Code.{ArePlaces, IsFunctionRow, AreFunctionRows, IsProgramCode, struct_rows, home_of, local_rows, local_row, object_row, function_row, function_rows, stop_place, program_code}
-use Rattle.slot_formed.specs.Accesses.{ReadsItsKind, IsScalar, IsReadable, IsUniform}
+use Rattle.slot_formed.specs.Accesses.{ReadsItsKind, IsReadable, IsUniform}
 use Rattle.slot_formed.specs.Tokens.{program_tokens}
-use Rattle.slot_formed.proofs.Lists.{no_none, some_same, all_append, all_left, all_right, and_parts}
+use Rattle.slot_formed.proofs.Lists.{each_of, no_none, some_same, all_append, all_left, all_right, and_parts}
 use Rattle.slot_formed.proofs.Types.{function_there}
-use Rattle.slot_formed.proofs.Homes.{register_there, local_there, locals_length, structs_length}
+use Rattle.slot_formed.proofs.Homes.{register_there, local_there, locals_length, structs_length, own_registers}
 use Rattle.slot_formed.proofs.Good.{Among, Good, G}
 use Rattle.slot_formed.proofs.Names.{numbers_length}
 use Rattle.slot_formed.proofs.Stmts.{numbers_of, body_of_good, zero_good}
 use Rattle.slot_formed.proofs.Stops.{Has, HasAll, in_left, later, stop_found, body_of_has}
-use Rattle.slot_formed.proofs.Rows.{locals_good, objects_good, static_few, main_there}
+use Rattle.slot_formed.proofs.StopsOnce.{one, stops, times, stops_append, times_append, block_few, zero_none, numbers_differ, listed}
+use Rattle.slot_formed.proofs.Rows.{Laid, scalars_there, locals_good, objects_good, static_few, main_there}
+use Rattle.slot_formed.proofs.Shapes.{all_structs, all_nest}
 
 -- ---- lists of numbers
 
@@ -117,25 +119,6 @@ function_row_at p i h gs e are =
     let q = row_from p 0 p.functions gs i h e are in
     let z : i + 0 ≡ i = omega arith in
     (q.0, q.1, subst (λ m. IsFunctionRow p m h q.0) z q.2)
-
--- ---- parameters
-
-scalar_row : (defs : List StructDef) (l : Local) (r : Option ℕ) → is_scalar (plain l.ctype) ≡ true → IsScalar (local_row defs l r)
-scalar_row defs l r = by l.ctype
-  where
-    by : (t : CType) → is_scalar (plain t) ≡ true → IsScalar (record { home = home_of r; access = access_of t; size = size_of defs t; leaves = leaves_of defs t })
-    by ctype.Char h = (record { at = 0; kind = Byte }, refl, refl, refl, tt)
-    by ctype.Int h = (record { at = 0; kind = Word }, refl, refl, refl, tt)
-    by ctype.Unsigned h = (record { at = 0; kind = Word }, refl, refl, refl, tt)
-    by (ctype.Pointer' b t) h = (record { at = 0; kind = Address }, refl, refl, refl, tt)
-    by ctype.Void h = absurd (true≢false (sym h))
-    by (ctype.Array' b t m) h = absurd (true≢false (sym h))
-    by (ctype.Struct s) h = absurd (true≢false (sym h))
-
-scalars_there : (defs : List StructDef) (n : ℕ) (ls : List Local) (rs : List (Option ℕ)) → AllByRecursion (λ t. is_scalar t ≡ true) (take n (map local_type ls)) → AllByRecursion IsScalar (take n (local_rows defs ls rs))
-scalars_there defs zero ls rs h = tt
-scalars_there defs (suc n) [] rs h = tt
-scalars_there defs (suc n) (l ∷ ls) rs h = (scalar_row defs l (register_at rs 0) h.0, scalars_there defs n ls (drop 1 rs) h.1)
 
 -- ---- a function's code
 
@@ -234,8 +217,29 @@ module _ (p : Program) (accepted : IsAccepted p) (ascend : (t : CType) → LieIn
         let has_last : Has (function_code p f fn) last = inr (inr (inr (inl (ap op.Stop last_same)))) in
         subst (λ qs. HasAll (function_code p f fn) qs) (sym points) (has_first, all_append (Has (function_code p f fn)) (points_in fn.body) (last ∷ []) in_body (has_last, tt))
 
+    -- a point's stop stands as often as the point is listed, at most
+    stops_few : (q : ℕ) → stops q (function_code p f fn) ≤ times q fn.points
+    stops_few q =
+        let few = block_few q p f fn.body (outermost_of fn) body_place in
+        let one_code : zeros ++ (inits ++ (code ++ ending)) ≡ (zeros ++ (inits ++ code)) ++ ending = sym (append_assoc zeros (inits ++ code) ending ∙ ap (λ l. zeros ++ l) (append_assoc inits code ending)) in
+        let split = ap (stops q) one_code ∙ stops_append q (zeros ++ (inits ++ code)) ending in
+        let none = ap (λ b. one b) (zero_none q fn.result) in
+        let listed = ap (times q) points in
+        let behind = times_append q (points_in fn.body) (last ∷ []) in
+        let first_is = ap (λ r. one (q == r)) first_same in
+        let last_is = ap (λ r. one (q == r)) last_same in
+        omega (arith, few, split, none, listed, behind, first_is, last_is)
+
+    stop_once : (q : ℕ) → stops q (function_code p f fn) ≤ 1
+    stop_once q =
+        let n = mine.numbered in
+        omega (arith, stops_few q, ap (times q) n.1, numbers_differ q n.0 (length fn.points))
+
+    stops_listed : (is : List ℕ) → ArePlaces (function_code p f fn) fn.points is → (i q : ℕ) → slice_get (function_code p f fn) i ≡ Some (op.Stop q) → IsListed q i fn.points is
+    stops_listed is places i q e = listed (function_code p f fn) q i fn.points is (stop_once q) (each_of (Good p f fn n) (function_code p f fn) i (op.Stop q) function_good e) places e
+
     function_readable : (name : List ℕ) (temps : ℕ) (placed : List ℕ) → IsReadable (row_with p f fn name temps placed)
-    function_readable name temps placed = (reads_all (function_code p f fn) function_good, scalars_there p.defs fn.params fn.locals (registers_from fn.locals 0) mine.scalars)
+    function_readable name temps placed = reads_all (function_code p f fn) function_good
 
 -- ---- a function's row
 
@@ -278,7 +282,7 @@ module _ (p : Program) (accepted : IsAccepted p) (ascend : (t : CType) → LieIn
   lands place h = omega (arith, h, size)
 
   names_op : (o : SlotOp) → IsBelow temps o → Good p f fn n o → NamesWhatIsThere c row o
-  names_op (op.Const d b) t g = t
+  names_op (op.Const d b) t g = (t, g)
   names_op (op.Null d) t g = t
   names_op (op.StaticAddress d o) t g = (t, subst (λ m. o < m) (sym (length-map p.objects (object_row p))) g)
   names_op (op.TextAddress d k) t g = (t, g)
@@ -298,7 +302,7 @@ module _ (p : Program) (accepted : IsAccepted p) (ascend : (t : CType) → LieIn
   names_op (op.Jump place) t g = lands place g
   names_op (op.JumpIfZero d place) t g = (t, lands place g)
   names_op (op.JumpIfNotZero d place) t g = (t, lands place g)
-  names_op (op.JumpIfEqual d b place) t g = (t, lands place g)
+  names_op (op.JumpIfEqual d b place) t g = (t, g.0, lands place g.1)
   names_op (op.Call d k m) t g = (t.0, t.1, takes_there k m g.0 g.1 g.2)
   names_op (op.Return d) t g = t
   names_op (op.Stop q) t g = g
@@ -319,14 +323,17 @@ module _ (p : Program) (accepted : IsAccepted p) (ascend : (t : CType) → LieIn
   places_all [] (i ∷ is) h = absurd h
   places_all (q ∷ qs) [] h = absurd h
 
-  function_formed : (first last : ℕ) → fn.points ≡ first ∷ (points_in fn.body ++ last ∷ []) → AreBelow temps (function_code p f fn) → ArePlaces (function_code p f fn) fn.points placed → IsFunction c row
-  function_formed first last points below places = (
+  function_formed : Laid p.defs → (first last : ℕ) → fn.points ≡ first ∷ (points_in fn.body ++ last ∷ []) → AreBelow temps (function_code p f fn) → ArePlaces (function_code p f fn) fn.points placed → IsFunction c row
+  function_formed laid first last points below places = (
     omega (arith, code_size p accepted ascend f fn here n size first last points, size),
     omega (arith, locals_count p accepted ascend f fn here n size, locals_length p.defs fn.locals rs),
     (mine p accepted ascend f fn here n size).few,
-    locals_good p accepted ascend fn.locals rs (mine p accepted ascend f fn here n size).locals,
+    scalars_there p.defs fn.params fn.locals rs (mine p accepted ascend f fn here n size).scalars,
+    locals_good p accepted ascend fn.locals rs laid (register_there fn.locals 0) (mine p accepted ascend f fn here n size).locals,
+    own_registers p.defs fn.locals,
     names_all (function_code p f fn) below (function_good p accepted ascend f fn here n size first last points),
     places_all fn.points placed places,
+    stops_listed p accepted ascend f fn here n size first last points placed places,
   )
 
 points_stand : (p : Program) → IsAccepted p → ((t : CType) → LieIn 0 (leaves_of p.defs t) (size_of p.defs t)) → (f : ℕ) (fn : Function) → slice_get p.functions f ≡ Some fn → (first last : ℕ) → fn.points ≡ first ∷ (points_in fn.body ++ last ∷ []) → HasAll (function_code p f fn) fn.points
@@ -346,11 +353,11 @@ module _ (p : Program) (accepted : IsAccepted p) (ascend : (t : CType) → LieIn
       (subst (λ (qs : List ℕ). P (record g { params = fn.params; locals = local_rows p.defs fn.locals (registers_from fn.locals 0); points = qs })) (sym is.points)
       (subst (λ (l : List SlotOp). P (record g { params = fn.params; locals = local_rows p.defs fn.locals (registers_from fn.locals 0); points = fn.points; code = l })) (sym is.code) (go below places))))
 
-  module _ (gs : List SlotFunction) (are : AreFunctionRows p 0 p.functions gs) where
+  module _ (laid : Laid p.defs) (gs : List SlotFunction) (are : AreFunctionRows p 0 p.functions gs) where
     formed_there : (f : ℕ) (fn : Function) (g : SlotFunction) → slice_get p.functions f ≡ Some fn → IsFunctionRow p f fn g → IsFunction (code_with p gs) g
     formed_there f fn g e is =
         let q = (function_there p accepted f fn e).points in
-        of_row (IsFunction (code_with p gs)) f fn g is (λ below places. function_formed p accepted ascend f fn e (length (function_code p f fn)) refl gs are g.name g.temporaries g.places q.0 q.1 q.2 below places)
+        of_row (IsFunction (code_with p gs)) f fn g is (λ below places. function_formed p accepted ascend f fn e (length (function_code p f fn)) refl gs are g.name g.temporaries g.places laid q.0 q.1 q.2 below places)
 
     readable_there : (f : ℕ) (fn : Function) (g : SlotFunction) → slice_get p.functions f ≡ Some fn → IsFunctionRow p f fn g → IsReadable g
     readable_there f fn g e is =
@@ -403,18 +410,20 @@ module _ (p : Program) (accepted : IsAccepted p) (ascend : (t : CType) → LieIn
       (subst (λ (ss : List (List ℕ)). P (record c { main = main_from 0 p.functions; objects = map (object_row p) p.objects; strings = ss })) (sym is.strings)
       (subst (λ (ts : List SlotStruct). P (record c { main = main_from 0 p.functions; objects = map (object_row p) p.objects; strings = p.strings; structs = ts })) (sym is.structs) h)))
 
-  pub well_formed : (c : SlotCode) → IsProgramCode p c → program_tokens p ≤ 40000 → operators_in c ≤ 6 * program_tokens p → IsWellFormed c
-  well_formed c is few short =
+  pub well_formed : Laid p.defs → (c : SlotCode) → IsProgramCode p c → program_tokens p ≤ 40000 → operators_in c ≤ 6 * program_tokens p → IsWellFormed c
+  well_formed laid c is few short =
       of_code IsWellFormed c is (
         main_formed c.functions is.functions,
-        all_rows c.functions is.functions (IsFunction (code_with p c.functions)) (formed_there c.functions is.functions),
-        objects_good p accepted ascend p.objects accepted.objects,
+        all_rows laid c.functions is.functions (IsFunction (code_with p c.functions)) (formed_there laid c.functions is.functions),
+        objects_good p accepted ascend laid p.objects accepted.objects,
+        all_structs (code_with p c.functions) p.defs refl accepted.structs laid,
+        all_nest (code_with p c.functions) p.defs refl accepted.structs,
         static_few p accepted ascend,
         omega (arith, few, short),
       )
 
-  pub uniform : (c : SlotCode) → IsProgramCode p c → IsUniform c
-  uniform c is = all_rows c.functions is.functions IsReadable (readable_there c.functions is.functions)
+  pub uniform : Laid p.defs → (c : SlotCode) → IsProgramCode p c → IsUniform c
+  uniform laid c is = all_rows laid c.functions is.functions IsReadable (readable_there laid c.functions is.functions)
 
   -- ---- a code that there is
 

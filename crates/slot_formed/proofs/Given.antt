@@ -21,10 +21,11 @@ use Rattle.slot_ir.specs.declared.code.SlotFunction.{SlotFunction}
 use Rattle.slot_ir.specs.declared.code.SlotLocal.{SlotLocal}
 use Rattle.slot_ir.specs.declared.code.SlotObject.{SlotObject}
 use Rattle.slot_ir.specs.declared.code.SlotStart.{SlotStart}
+use Rattle.slot_ir.specs.declared.code.SlotMember.{SlotMember}
 use Rattle.slot_ir.specs.declared.code.SlotStruct.{SlotStruct}
 use Rattle.slot_gen.specs.Expressions.{access_of, registers_from, register_at}
-use Rattle.slot_gen.specs.Rows.{EachFrom, IsLocalOf, IsFunctionOf, IsStructOf, IsObjectOf, HasRowsOf, start_of, starts_of, Fits, AreFitting, AllFitting}
-use Rattle.slot_formed.specs.Code.{home_of, local_row, local_rows, start_row, start_rows, object_row, struct_rows, AreFunctionRows, IsProgramCode, IsComplete}
+use Rattle.slot_gen.specs.Rows.{EachFrom, IsLocalOf, IsFunctionOf, IsStructOf, IsObjectOf, HasRowsOf, start_of, starts_of, member_of, Fits, AreFitting, AllFitting}
+use Rattle.slot_formed.specs.Code.{home_of, local_row, local_rows, start_row, start_rows, object_row, struct_row, struct_rows, AreFunctionRows, IsProgramCode, IsComplete}
 
 -- ---- registers from a local on
 
@@ -93,9 +94,11 @@ same_object s m n xs e1 e2 e3 =
     ∙ ap (λ (x : ℕ). record { name = m; size = x; start = s.start }) e2
     ∙ ap (λ (x : List SlotStart). record { name = m; size = n; start = x }) e3
 
-same_struct : (s : SlotStruct) (n : ℕ) (ls : List Leaf) → s.size ≡ n → s.leaves ≡ ls → s ≡ record { size = n; leaves = ls }
-same_struct s n ls e1 e2 =
-    ap (λ (x : ℕ). record { size = x; leaves = s.leaves }) e1 ∙ ap (λ (x : List Leaf). record { size = n; leaves = x }) e2
+same_struct : (s : SlotStruct) (n : ℕ) (ms : List SlotMember) (ls : List Leaf) → s.size ≡ n → s.members ≡ ms → s.leaves ≡ ls → s ≡ record { size = n; members = ms; leaves = ls }
+same_struct s n ms ls e1 e2 e3 =
+    ap (λ (x : ℕ). record { size = x; members = s.members; leaves = s.leaves }) e1
+    ∙ ap (λ (x : List SlotMember). record { size = n; members = x; leaves = s.leaves }) e2
+    ∙ ap (λ (x : List Leaf). record { size = n; members = ms; leaves = x }) e3
 
 module _ (p : Program) where
   locals_same : (rs : List (Option ℕ)) (x : ℕ) (ls : List Local) (gs : List SlotLocal) → EachFrom (IsLocalOf p rs) x ls gs → gs ≡ local_rows p.defs ls (drop x rs)
@@ -119,8 +122,8 @@ module _ (p : Program) where
   structs_same n [] (s ∷ ss) h = absurd h
   structs_same n (d ∷ ds) [] h = absurd h
   structs_same n (d ∷ ds) (s ∷ ss) h =
-      ap (λ (r : SlotStruct). r ∷ ss) (same_struct s d.size (leaves_of p.defs (Struct n)) h.0.size h.0.leaves)
-      ∙ ap (λ (rest : List SlotStruct). record { size = d.size; leaves = leaves_of p.defs (Struct n) } ∷ rest) (structs_same (suc n) ds ss h.1)
+      ap (λ (r : SlotStruct). r ∷ ss) (same_struct s d.size (map member_of d.members) (leaves_of p.defs (Struct n)) h.0.size h.0.members h.0.leaves)
+      ∙ ap (λ (rest : List SlotStruct). struct_row p.defs n d ∷ rest) (structs_same (suc n) ds ss h.1)
 
   functions_same : (n : ℕ) (fns : List Function) (gs : List SlotFunction) → EachFrom (IsFunctionOf p) n fns gs → AllByRecursion IsComplete gs → AreFunctionRows p n fns gs
   functions_same n [] [] h k = tt

@@ -1,5 +1,5 @@
 -- The code of a well-typed expression names what is there, and its jumps land inside the function.
-use Rattle.std.proofs.Common.{◌≡◌, refl, arith, ℕ, suc, ◌+◌, ◌<◌, ◌≤◌, List, [], ◌∷◌, ◌++◌, length, length-append, Bool, true, false, Option, Some, None, true≢false, slice_get, ◌⊎◌}
+use Rattle.std.proofs.Common.{◌≡◌, refl, arith, ℕ, suc, ◌+◌, ◌<◌, ◌≤◌, ◌^◌, List, [], ◌∷◌, ◌++◌, length, length-append, Bool, true, false, Option, Some, None, true≢false, slice_get, ◌⊎◌}
 use Rattle.std.specs.Prelude.{if◌then◌else◌}
 use Rattle.std.specs.List.{AllByRecursion}
 use Rattle.c_tree.specs.declared.types.CType.{CType}
@@ -16,7 +16,7 @@ use Rattle.slot_ir.specs.declared.code.UnaryWordOp.TheVariants as unary
 use Rattle.slot_ir.specs.declared.code.SlotOp.{SlotOp}
 use Rattle.slot_ir.specs.declared.code.SlotOp.TheVariants as op
 use Rattle.slot_gen.specs.Expressions.{access_of, converting, cast_code, load_code, mixed_op, targets_op, combine_op, choice_code, and_code, or_code, read_at, write_at, update_at, unless_register, register_of}
-use Rattle.slot_formed.specs.Accesses.{IsOfKind}
+use Rattle.slot_ir.specs.WellFormed.{IsOfKind}
 use Rattle.slot_formed.proofs.Lists.{all_append}
 
 abbrev pub Among : ℕ → List ℕ → Type 0
@@ -27,6 +27,7 @@ Among q (r ∷ rs) = (q ≡ r) ⊎ Among q rs
 module _ (p : Program) (f : ℕ) (fn : Function) (n : ℕ) where
   -- what an operator names beside temporaries is there
   abbrev pub Good : SlotOp → Type 0
+  Good (op.Const d m) = m < 2 ^ 32
   Good (op.StaticAddress d o) = o < length p.objects
   Good (op.TextAddress d k) = k < length p.strings
   Good (op.LocalAddress d x) = (x < length fn.locals) × (register_of p f x ≡ None)
@@ -39,7 +40,7 @@ module _ (p : Program) (f : ℕ) (fn : Function) (n : ℕ) where
   Good (op.Jump place) = place < n
   Good (op.JumpIfZero d place) = place < n
   Good (op.JumpIfNotZero d place) = place < n
-  Good (op.JumpIfEqual d m place) = place < n
+  Good (op.JumpIfEqual d m place) = (m < 2 ^ 32) × (place < n)
   Good (op.Call d g m) = (h : Function) × (slice_get p.functions g ≡ Some h) × (m ≡ h.params)
   Good (op.Stop q) = Among q fn.points
   Good (op.Move i j s) = s < length p.defs
@@ -150,11 +151,11 @@ module _ (p : Program) (f : ℕ) (fn : Function) (n : ℕ) where
       let rest : List SlotOp = op.Unary d unary.Truth ∷ op.Jump (at + 1 + length b + 3) ∷ op.Const d 0 ∷ [] in
       let size : length (b ++ rest) ≡ length b + 3 = length-append b rest in
       let end : at + 1 + length b + 3 < n = omega (arith, size) in
-      (omega (arith, end), all_append Good b rest (y (omega (arith, end))) (tt, (end, (tt, tt))))
+      (omega (arith, end), all_append Good b rest (y (omega (arith, end))) (tt, (end, (omega arith, tt))))
 
   pub or_good : (at d : ℕ) (b : List SlotOp) → at + length (or_code at d b) < n → (at + 1 + length b < n → G b) → G (or_code at d b)
   or_good at d b lt y =
       let rest : List SlotOp = op.Unary d unary.Truth ∷ op.Jump (at + 1 + length b + 3) ∷ op.Const d 1 ∷ [] in
       let size : length (b ++ rest) ≡ length b + 3 = length-append b rest in
       let end : at + 1 + length b + 3 < n = omega (arith, size) in
-      (omega (arith, end), all_append Good b rest (y (omega (arith, end))) (tt, (end, (tt, tt))))
+      (omega (arith, end), all_append Good b rest (y (omega (arith, end))) (tt, (end, (omega arith, tt))))

@@ -13,3 +13,5 @@ mod Formed
 mod Keeps
 mod Computed
 mod Given
+mod Shapes
+mod StopsOnce

@@ -1,13 +1,15 @@
 -- The rows of the static data, the locals and `main` of an accepted program's code.
-use Rattle.std.proofs.Common.{◌≡◌, refl, sym, ap, subst, ◌∙◌, arith, ℕ, suc, ◌+◌, ◌<◌, ◌≤◌, ◌^◌, List, [], ◌∷◌, length, map, Bool, true, false, not, ◌||◌, Option, Some, None, true≢false, slice_get, drop, ◌%◌, to_z, of_z, w32, inl, inr}
-use Rattle.std.specs.Prelude.{if◌then◌else◌, sum, ℤ, pos, negsuc}
+use Rattle.std.proofs.Common.{◌≡◌, refl, sym, ap, subst, ◌∙◌, arith, ℕ, suc, zero, ◌+◌, ◌<◌, ◌≤◌, ◌^◌, List, [], ◌∷◌, length, map, Bool, true, false, not, ◌&&◌, ◌||◌, take, Option, Some, None, true≢false, slice_get, drop, ◌%◌, to_z, of_z, w32, inl, inr}
+use Rattle.std.specs.Prelude.{if◌then◌else◌, sum, option_map, ℤ, pos, negsuc}
 use Rattle.std.specs.Int.{next_multiple_of, w8}
 use Rattle.std.specs.Int.RustNames.{unsigned_abs}
 use Rattle.std.specs.List.{AllByRecursion}
-use Rattle.std.proofs.lemmas.List.{length-map}
+use Rattle.std.proofs.lemmas.Option.{slice_get-map}
 use Rattle.ldb_words.specs.declared.kinds.Kind.{Kind}
 use Rattle.ldb_words.specs.declared.kinds.Kind.TheVariants.{Byte, Word, Address}
 use Rattle.c_tree.specs.declared.types.CType.{CType}
+use Rattle.c_tree.specs.declared.types.CType.TheVariants as ctype
+use Rattle.c_tree.specs.declared.types.StructDef.{StructDef}
 use Rattle.c_tree.specs.declared.types.Leaf.{Leaf}
 use Rattle.c_tree.specs.declared.rows.Program.{Program}
 use Rattle.c_tree.specs.declared.rows.Function.{Function}
@@ -15,40 +17,76 @@ use Rattle.c_tree.specs.declared.rows.Local.{Local}
 use Rattle.c_tree.specs.declared.rows.ObjectRow.{ObjectRow}
 use Rattle.c_tree.specs.declared.rows.Start.{Start}
 use Rattle.c_tree.specs.declared.rows.Start.TheVariants as start
-use Rattle.c_tree.specs.Layout.{size_of, leaves_of}
-use Rattle.c_tree.specs.Ordered.{width_of, LieIn}
+use Rattle.c_tree.specs.Layout.{size_of, leaves_of, IsWithin}
+use Rattle.c_tree.specs.Ordered.{width_of, LieIn, IsAligned}
 use Rattle.c_store.specs.Bits.{low_byte}
 use Rattle.c_source.specs.Begin.{main_from}
-use Rattle.c_typing.specs.Plain.{plain}
+use Rattle.c_typing.specs.Plain.{plain, is_scalar}
+use Rattle.c_typing.specs.Declared.{local_type}
 use Rattle.c_typing.specs.Starts.{Starts, AreStarts, IsObject as IsItsObject}
 use Rattle.c_typing.specs.Accepted.{is_called_main, is_main, has_main, IsLocal as IsItsLocal, IsAccepted}
 use Rattle.slot_ir.specs.declared.code.SlotCode.{SlotCode}
 use Rattle.slot_ir.specs.declared.code.SlotLocal.{SlotLocal}
 use Rattle.slot_ir.specs.declared.code.SlotObject.{SlotObject}
-use Rattle.slot_gen.specs.Expressions.{register_at}
-use Rattle.slot_ir.specs.WellFormed.{IsStart, IsObject, static_bytes}
-use Rattle.slot_formed.specs.Code.{local_row, local_rows, start_value, start_rows, object_row, program_code}
-use Rattle.slot_formed.proofs.Lists.{all_map, sum_more, and_parts, below_length}
-use Rattle.slot_formed.proofs.Sizes.{size_plain, formed, formed_size, has_leaf, some_width, leaves_end}
+use Rattle.slot_gen.specs.Expressions.{access_of, wants_register, register_at}
+use Rattle.slot_gen.specs.Expressions.{is_scalar as scalar_here}
+use Rattle.slot_ir.specs.WellFormed.{AreLeavesOf, IsScalar, FitsHome, IsLocal, IsStart, StartsLieIn, IsObject, static_bytes}
+use Rattle.slot_formed.specs.Code.{home_of, local_row, local_rows, start_value, start_rows, object_row, program_code}
+use Rattle.slot_formed.proofs.Lists.{some_same, sum_more, and_parts}
+use Rattle.slot_formed.proofs.Homes.{InRegister, next_register}
+use Rattle.slot_formed.proofs.Sizes.{size_plain, formed, formed_size, has_leaf}
 
 -- ---- locals
 
-abbrev pub IsLocal : SlotLocal → Type 0
-IsLocal l = (1 ≤ length l.leaves) × (l.size ≤ 1048576) × AllByRecursion (λ (leaf : Leaf). leaf.at < l.size) l.leaves
+scalar_row : (defs : List StructDef) (l : Local) (r : Option ℕ) → is_scalar (plain l.ctype) ≡ true → IsScalar (local_row defs l r)
+scalar_row defs l r = by l.ctype
+  where
+    by : (t : CType) → is_scalar (plain t) ≡ true → IsScalar (record { home = home_of r; access = access_of t; size = size_of defs t; leaves = leaves_of defs t })
+    by ctype.Char h = (record { at = 0; kind = Byte }, refl, refl, refl, tt)
+    by ctype.Int h = (record { at = 0; kind = Word }, refl, refl, refl, tt)
+    by ctype.Unsigned h = (record { at = 0; kind = Word }, refl, refl, refl, tt)
+    by (ctype.Pointer' b t) h = (record { at = 0; kind = Address }, refl, refl, refl, tt)
+    by ctype.Void h = absurd (true≢false (sym h))
+    by (ctype.Array' b t m) h = absurd (true≢false (sym h))
+    by (ctype.Struct s) h = absurd (true≢false (sym h))
+
+pub scalars_there : (defs : List StructDef) (n : ℕ) (ls : List Local) (rs : List (Option ℕ)) → AllByRecursion (λ t. is_scalar t ≡ true) (take n (map local_type ls)) → AllByRecursion IsScalar (take n (local_rows defs ls rs))
+scalars_there defs zero ls rs h = tt
+scalars_there defs (suc n) [] rs h = tt
+scalars_there defs (suc n) (l ∷ ls) rs h = (scalar_row defs l (register_at rs 0) h.0, scalars_there defs n ls (drop 1 rs) h.1)
+
+-- leaves in order, aligned, and at most four bytes for each
+abbrev pub Laid : List StructDef → Type 0
+Laid defs = (t : CType) → IsWithin defs 64 t → AreLeavesOf (size_of defs t) (leaves_of defs t)
+
+-- a local that is in a register, by its number there
+abbrev pub AreRegisters : List Local → List (Option ℕ) → Type 0
+AreRegisters ls rs = (x r : ℕ) → register_at rs x ≡ Some r → InRegister ls x r
 
 module _ (p : Program) (accepted : IsAccepted p) (ascend : (t : CType) → LieIn 0 (leaves_of p.defs t) (size_of p.defs t)) where
-  local_good : (l : Local) (r : Option ℕ) → IsItsLocal p.defs l → IsLocal (local_row p.defs l r)
-  local_good l r h =
-      let t = l.ctype in
-      let ends : AllByRecursion (λ (leaf : Leaf). leaf.at + width_of leaf.kind ≤ size_of p.defs t) (leaves_of p.defs t) = leaves_end p.defs accepted.structs 0 (leaves_of p.defs t) (size_of p.defs t) (ascend t) in (
+  register_scalar : (a b c : Bool) → a && b ≡ true → not a || c ≡ true → c ≡ true
+  register_scalar true b c h k = k
+  register_scalar false b c h k = absurd (true≢false (sym h))
+
+  fits_home : (l : Local) (o : Option ℕ) → IsItsLocal p.defs l → ((r : ℕ) → o ≡ Some r → (wants_register l ≡ true) × (r < 8)) → FitsHome (local_row p.defs l o)
+  fits_home l None h go = tt
+  fits_home l (Some r) h go = let q = go r refl in (q.1, scalar_row p.defs l (Some r) (register_scalar l.register (scalar_here l.ctype) (is_scalar (plain l.ctype)) q.0 h.1))
+
+  local_good : (l : Local) (o : Option ℕ) → Laid p.defs → ((r : ℕ) → o ≡ Some r → (wants_register l ≡ true) × (r < 8)) → IsItsLocal p.defs l → IsLocal (local_row p.defs l o)
+  local_good l o laid go h =
+      let t = l.ctype in (
         has_leaf p.defs accepted.structs 64 t h.0.0.0 h.0.1,
         subst (λ m. m ≤ 1048576) (sym (size_plain p.defs t)) (formed_size p.defs (plain t) (formed p.defs t h.0.0.1)),
-        all_map (λ (leaf : Leaf). leaf.at + width_of leaf.kind ≤ size_of p.defs t) (λ (leaf : Leaf). leaf.at < size_of p.defs t) (leaves_of p.defs t) (λ leaf k. omega (arith, k, some_width p.defs accepted.structs leaf.kind)) ends,
+        laid t h.0.0.0,
+        fits_home l o h go,
       )
 
-  pub locals_good : (ls : List Local) (rs : List (Option ℕ)) → AllByRecursion (IsItsLocal p.defs) ls → AllByRecursion IsLocal (local_rows p.defs ls rs)
-  locals_good [] rs h = tt
-  locals_good (l ∷ ls) rs h = (local_good l (register_at rs 0) h.0, locals_good ls (drop 1 rs) h.1)
+  pub locals_good : (ls : List Local) (rs : List (Option ℕ)) → Laid p.defs → AreRegisters ls rs → AllByRecursion (IsItsLocal p.defs) ls → AllByRecursion IsLocal (local_rows p.defs ls rs)
+  locals_good [] rs laid go h = tt
+  locals_good (l ∷ ls) rs laid go h = (
+    local_good l (register_at rs 0) laid (λ r e. let q = go 0 r e in let same : q.0 ≡ l = sym (some_same l q.0 q.1) in (subst (λ k. wants_register k ≡ true) same q.2, q.3)) h.0,
+    locals_good ls (drop 1 rs) laid (λ x r e. go (suc x) r (sym (next_register rs x) ∙ e)) h.1,
+  )
 
   -- ---- static objects
 
@@ -65,35 +103,41 @@ module _ (p : Program) (accepted : IsAccepted p) (ascend : (t : CType) → LieIn
   abbrev c : SlotCode
   c = program_code p
 
-  object_there : (o : ℕ) (row : Option ObjectRow) → slice_get p.objects o ≡ row → elim row as (λ _. Type 0) [ None ↦ ⊥ | Some r ↦ Unit {0} ] → o < length c.objects
-  object_there o None e h = absurd h
-  object_there o (Some row) e h = subst (λ m. o < m) (sym (length-map p.objects (object_row p))) (below_length p.objects o row e)
+  inside : (i : ℕ) (row : Option ObjectRow) → elim row as (λ _. Type 0) [ None ↦ ⊥ | Some r ↦ i ≤ size_of p.defs r.ctype ] → elim (option_map (object_row p) row) as (λ _. Type 0) [ None ↦ ⊥ | Some o ↦ i ≤ o.size ]
+  inside i None h = h
+  inside i (Some r) h = h
 
-  there : (i : ℕ) (row : Option ObjectRow) → elim row as (λ _. Type 0) [ None ↦ ⊥ | Some r ↦ i ≤ size_of p.defs r.ctype ] → elim row as (λ _. Type 0) [ None ↦ ⊥ | Some r ↦ Unit {0} ]
-  there i None h = h
-  there i (Some r) h = tt
+  -- an address lies in its object, or is its end
+  object_there : (o i : ℕ) → elim (slice_get p.objects o) as (λ _. Type 0) [ None ↦ ⊥ | Some r ↦ i ≤ size_of p.defs r.ctype ] → elim (slice_get c.objects o) as (λ _. Type 0) [ None ↦ ⊥ | Some o ↦ i ≤ o.size ]
+  object_there o i h = subst (λ (r : Option SlotObject). elim r as (λ _. Type 0) [ None ↦ ⊥ | Some o ↦ i ≤ o.size ]) (sym (slice_get-map (object_row p) p.objects o)) (inside i (slice_get p.objects o) h)
 
-  leaf_good : (size : ℕ) (l : Leaf) (k : Kind) (x : Start) → l.kind ≡ k → Starts p k x → l.at + width_of k ≤ size → IsStart c size (record { at = l.at; width = width_of k; value = start_value k x })
-  leaf_good size l Byte (start.Number m) e h w = (inl refl, w, byte_below m h)
-  leaf_good size l Word (start.Number m) e h w = (inr (inr refl), w, h)
-  leaf_good size l Address (start.Number m) e h w = (inr (inr refl), w, tt)
-  leaf_good size l Address (start.Object o i) e h w = (inr (inr refl), w, object_there o (slice_get p.objects o) refl (there i (slice_get p.objects o) h))
-  leaf_good size l Address (start.Str k) e h w = (inr (inr refl), w, h)
-  leaf_good size l Byte (start.Object o i) e h w = absurd h
-  leaf_good size l Byte (start.Str k) e h w = absurd h
-  leaf_good size l Word (start.Object o i) e h w = absurd h
-  leaf_good size l Word (start.Str k) e h w = absurd h
+  leaf_good : (l : Leaf) (k : Kind) (x : Start) → l.kind ≡ k → Starts p k x → IsStart c (record { at = l.at; width = width_of k; value = start_value k x })
+  leaf_good l Byte (start.Number m) e h = (inr (inl refl, tt), byte_below m h)
+  leaf_good l Word (start.Number m) e h = (inl refl, h)
+  leaf_good l Address (start.Number m) e h = (inl refl, tt)
+  leaf_good l Address (start.Object o i) e h = (inl refl, object_there o i h)
+  leaf_good l Address (start.Str k) e h = (inl refl, h)
+  leaf_good l Byte (start.Object o i) e h = absurd h
+  leaf_good l Byte (start.Str k) e h = absurd h
+  leaf_good l Word (start.Object o i) e h = absurd h
+  leaf_good l Word (start.Str k) e h = absurd h
 
-  starts_good : (size : ℕ) (ls : List Leaf) (xs : List Start) → AreStarts p ls xs → AllByRecursion (λ (l : Leaf). l.at + width_of l.kind ≤ size) ls → AllByRecursion (IsStart c size) (start_rows ls xs)
-  starts_good size [] xs h w = tt
-  starts_good size (l ∷ ls) [] h w = tt
-  starts_good size (l ∷ ls) (x ∷ xs) h w = (leaf_good size l l.kind x refl h.0 w.0, starts_good size ls xs h.1 w.1)
+  starts_good : (ls : List Leaf) (xs : List Start) → AreStarts p ls xs → AllByRecursion (IsStart c) (start_rows ls xs)
+  starts_good [] xs h = tt
+  starts_good (l ∷ ls) [] h = tt
+  starts_good (l ∷ ls) (x ∷ xs) h = (leaf_good l l.kind x refl h.0, starts_good ls xs h.1)
 
-  pub objects_good : (rows : List ObjectRow) → AllByRecursion (IsItsObject p) rows → AllByRecursion (IsObject c) (map (object_row p) rows)
-  objects_good [] h = tt
-  objects_good (row ∷ rows) h =
+  starts_lie : (from size : ℕ) (ls : List Leaf) (xs : List Start) → AreStarts p ls xs → LieIn from ls size → AllByRecursion IsAligned ls → StartsLieIn from (start_rows ls xs) size
+  starts_lie from size [] xs h lie al = lie
+  starts_lie from size (l ∷ ls) [] h lie al = absurd h
+  starts_lie from size (l ∷ ls) (x ∷ xs) h lie al = (lie.0, al.0, starts_lie (l.at + width_of l.kind) size ls xs h.1 lie.1 al.1)
+
+  pub objects_good : Laid p.defs → (rows : List ObjectRow) → AllByRecursion (IsItsObject p) rows → AllByRecursion (IsObject c) (map (object_row p) rows)
+  objects_good laid [] h = tt
+  objects_good laid (row ∷ rows) h =
       let t = row.ctype in
-      (starts_good (size_of p.defs t) (leaves_of p.defs t) row.start h.0.1 (leaves_end p.defs accepted.structs 0 (leaves_of p.defs t) (size_of p.defs t) (ascend t)), objects_good rows h.1)
+      let all = laid t h.0.0.0.0 in
+      ((starts_good (leaves_of p.defs t) row.start h.0.1, starts_lie 0 (size_of p.defs t) (leaves_of p.defs t) row.start h.0.1 all.0 all.1), objects_good laid rows h.1)
 
   -- ---- how large the static data are
 

@@ -151,7 +151,7 @@ module _ (p : Program) (accepted : IsAccepted p) (ascend : (t : CType) → LieIn
   -- ---- labels
 
   abbrev AllPlaced : List Target → Type 0
-  AllPlaced ls = AllByRecursion (λ (l : Target). l.place < n) ls
+  AllPlaced ls = AllByRecursion (λ (l : Target). (l.constant < 2 ^ 32) × (l.place < n)) ls
 
   abbrev AllIn : List ℕ → Type 0
   AllIn ds = AllByRecursion (λ d. d < n) ds
@@ -184,16 +184,24 @@ module _ (p : Program) (accepted : IsAccepted p) (ascend : (t : CType) → LieIn
         ),
       )
 
-  targets_placed : (at : ℕ) (cs : List ℕ) → at < n → AllPlaced (targets_at at cs)
-  targets_placed at [] h = tt
-  targets_placed at (c ∷ cs) h = (h, targets_placed at cs h)
+  abbrev AreSmall : List ℕ → Type 0
+  AreSmall cs = AllByRecursion (λ c. c < 2 ^ 32) cs
 
-  row_placed : {k : _} (row : Row_of-Stmt k) (r : Around) (m at : ℕ) → at + length (block_code p f r m at row) < n → AllPlaced (row_targets p f r m at row)
-  row_placed end_of-Stmt r m at lt = tt
-  row_placed (more_of-Stmt s rest) r m at lt =
+  constants_small : (s : Stmt) (v : List ℕ) (a : Stands) → IsStatement p f R v a s → AreSmall (constants_of s)
+  constants_small (Case' x c y s) v a t = (t.1, constants_small s v a t.2)
+  constants_small (Default' x y s) v a t = constants_small s v a t.1
+  constants_small _ v a t = tt
+
+  targets_placed : (at : ℕ) (cs : List ℕ) → AreSmall cs → at < n → AllPlaced (targets_at at cs)
+  targets_placed at [] w h = tt
+  targets_placed at (c ∷ cs) w h = ((w.0, h), targets_placed at cs w.1 h)
+
+  row_placed : {k : _} (row : Row_of-Stmt k) (v : List ℕ) (a : Stands) (r : Around) (m at : ℕ) → AreStatements p f R v a row → at + length (block_code p f r m at row) < n → AllPlaced (row_targets p f r m at row)
+  row_placed end_of-Stmt v a r m at t lt = tt
+  row_placed (more_of-Stmt s rest) v a r m at t lt =
       let cs = stmt_code p f r m at s in
       let size : length (cs ++ block_code p f r m (at + length cs) rest) ≡ length cs + length (block_code p f r m (at + length cs) rest) = length-append cs (block_code p f r m (at + length cs) rest) in
-      all_append (λ (l : Target). l.place < n) (targets_at at (constants_of s)) _ (targets_placed at (constants_of s) (omega (arith, lt))) (row_placed rest r m (at + length cs) (omega (arith, lt, size)))
+      all_append (λ (l : Target). (l.constant < 2 ^ 32) × (l.place < n)) (targets_at at (constants_of s)) _ (targets_placed at (constants_of s) (constants_small s v a t.0) (omega (arith, lt))) (row_placed rest v a r m (at + length cs) t.1 (omega (arith, lt, size)))
 
   defaults_if : (b : Bool) (at : ℕ) (ds : List ℕ) → at < n → AllIn ds → AllIn (if b then at ∷ [] else ds)
   defaults_if true at ds h k = (h, tt)
@@ -206,9 +214,9 @@ module _ (p : Program) (accepted : IsAccepted p) (ascend : (t : CType) → LieIn
       let size : length (cs ++ block_code p f r m (at + length cs) rest) ≡ length cs + length (block_code p f r m (at + length cs) rest) = length-append cs (block_code p f r m (at + length cs) rest) in
       defaults_if (is_default s) at (row_defaults p f r m (at + length cs) rest) (omega (arith, lt)) (row_defaulted rest r m (at + length cs) (omega (arith, lt, size)))
 
-  body_placed : (b : Stmt) (r : Around) (m at : ℕ) → at + length (body_code p f r m at b) < n → AllPlaced (body_targets p f r m at b)
-  body_placed (Block' x ds y row l c) r m at lt = row_placed row r m at lt
-  body_placed s r m at lt = tt
+  body_placed : (b : Stmt) (v : List ℕ) (a : Stands) (r : Around) (m at : ℕ) → IsSwitched p f R v a b → at + length (body_code p f r m at b) < n → AllPlaced (body_targets p f r m at b)
+  body_placed (Block' x ds y row l c) v a r m at t lt = row_placed row v a r m at t.1 lt
+  body_placed s v a r m at t lt = tt
 
   body_defaulted : (b : Stmt) (r : Around) (m at : ℕ) → at + length (body_code p f r m at b) < n → AllIn (body_defaults p f r m at b)
   body_defaulted (Block' x ds y row l c) r m at lt = row_defaulted row r m at lt
@@ -273,13 +281,13 @@ module _ (p : Program) (accepted : IsAccepted p) (ascend : (t : CType) → LieIn
           behind p f fn n (at + 1) test _ (omega (arith, lt)) (λ i. expr_good p accepted ascend f fn here n v c.e t.0.0 (at + 1) 0 i) λ i.
               switch_good start (body_code p f around m (start + 2) s) (body_targets p f around m (start + 2) s) (body_defaults p f around m (start + 2) s)
               (λ g j. body_good s v (switched a) around m (start + 2) t.1 (switch_fits start m r g (omega (arith, z)) w) z b q.1 j)
-              (λ j. body_placed s around m (start + 2) j) (λ j. body_defaulted s around m (start + 2) j) i,
+              (λ j. body_placed s v (switched a) around m (start + 2) t.1 j) (λ j. body_defaulted s around m (start + 2) j) i,
         )
     stmt_good (Case' x c y s) v a r m at t w z b q lt = stmt_good s v a r m at t.2 w z b q lt
     stmt_good (Default' x y s) v a r m at t w z b q lt = stmt_good s v a r m at t.1 w z b q lt
     stmt_good (Break x) v a r m at t w z b q lt = (w.leave_scope, (w.leave, tt))
     stmt_good (Continue x) v a r m at t w z b q lt = (w.again_scope, (w.again, tt))
-    stmt_good (Return x c None) v a r m at t w z b q lt = (q.0, (tt, (ends, tt)))
+    stmt_good (Return x c None) v a r m at t w z b q lt = (q.0, (omega arith, (ends, tt)))
     stmt_good (Return x c (Some e)) v a r m at t w z b q lt =
         let ce = expr_code p f (at + 1) 0 e in (
           q.0,
@@ -312,13 +320,13 @@ module _ (p : Program) (accepted : IsAccepted p) (ascend : (t : CType) → LieIn
   -- ---- a function's body
 
   pub zero_good : (t : CType) → Good p f fn n (zero_code t)
-  zero_good Char = tt
-  zero_good Int = tt
-  zero_good Unsigned = tt
-  zero_good Void = tt
+  zero_good Char = omega arith
+  zero_good Int = omega arith
+  zero_good Unsigned = omega arith
+  zero_good Void = omega arith
   zero_good (Pointer' x t) = tt
-  zero_good (Array' x t m) = tt
-  zero_good (Struct s) = tt
+  zero_good (Array' x t m) = omega arith
+  zero_good (Struct s) = omega arith
 
   pub body_of_good : (b : Stmt) (m at : ℕ) → IsBlock b → IsStatement p f R (numbers 0 fn.params) in_function b → m ≡ fn.params + length (declared_in b) → fn.params + length (locals_of b) ≤ L → AllBelow (locals_of b) → AllAmong (points_in b)
       → at + length (zeros_code (declared_in b)) + length (inits_code p f (at + length (zeros_code (declared_in b))) (declared_in b)) + length (stmts_code p f nowhere m (at + length (zeros_code (declared_in b)) + length (inits_code p f (at + length (zeros_code (declared_in b))) (declared_in b))) (statements_in b)) < n

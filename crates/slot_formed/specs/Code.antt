@@ -29,6 +29,7 @@ use Rattle.slot_ir.specs.declared.code.SlotValue.TheVariants as slot
 use Rattle.slot_gen.specs.Expressions.{access_of, registers_from, register_at}
 use Rattle.slot_gen.specs.Statements.{function_code}
 use Rattle.slot_gen.specs.Bounds.{function_temps, AreBelow}
+use Rattle.slot_gen.specs.Rows.{member_of}
 
 -- ---- functions
 
@@ -92,9 +93,12 @@ start_rows (l ∷ ls) (x ∷ xs) = start_row l x ∷ start_rows ls xs
 abbrev pub object_row : Program → ObjectRow → SlotObject
 object_row p row = record { name = row.name; size = size_of p.defs row.ctype; start = start_rows (leaves_of p.defs row.ctype) row.start }
 
+abbrev pub struct_row : List StructDef → ℕ → StructDef → SlotStruct
+struct_row defs s d = record { size = d.size; members = map member_of d.members; leaves = leaves_of defs (Struct s) }
+
 abbrev pub struct_rows : List StructDef → ℕ → List StructDef → List SlotStruct
 struct_rows defs s [] = []
-struct_rows defs s (d ∷ rest) = record { size = d.size; leaves = leaves_of defs (Struct s) } ∷ struct_rows defs (suc s) rest
+struct_rows defs s (d ∷ rest) = struct_row defs s d ∷ struct_rows defs (suc s) rest
 
 -- ---- the code of a program
 

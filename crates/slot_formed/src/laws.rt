@@ -11,7 +11,7 @@ ghost use Rattle.slot_gen.specs.Rows.{HasRowsOf, IsLowerable};
 ghost use Rattle.slot_formed.specs.Code.{IsComplete, IsProgramCode, program_code};
 ghost use Rattle.slot_formed.specs.Tokens.{program_tokens};
 
-use c_tree::leaves_ascend;
+use c_tree::{leaves_are_aligned, leaves_ascend, leaves_fill};
 use slot_gen::{
     code_of_an_expression_is_short, code_takes_few_temporaries, slot_code_keeps_the_run,
 };
@@ -23,13 +23,15 @@ pub fn code_of_a_program_is_short()
     code_of_an_expression_is_short();
 }
 
-/// A slot code of an accepted program that is written with at most 40,000 tokens is well formed. Its loads extend a byte and take a word or a pointer whole, and its parameters are scalars.
+/// A slot code of an accepted program that is written with at most 40,000 tokens is well formed. Its loads extend a byte and take a word or a pointer whole.
 pub fn code_is_well_formed()
     ensures formed { (p : Program) (c : SlotCode) → IsAccepted p → IsProgramCode p c → program_tokens p ≤ 40000 → IsWellFormed c }
     ensures uniform { (p : Program) (c : SlotCode) → IsAccepted p → IsProgramCode p c → IsUniform c }
 {
     code_of_a_program_is_short();
     leaves_ascend();
+    leaves_are_aligned();
+    leaves_fill();
 }
 
 /// An accepted program has a slot code, and each of them passes the program's stopping points in order, with the same objects, activations, output and exit number, for every input and all assignments made at the stops, up to the program's first undefined step; and it shows nothing else.

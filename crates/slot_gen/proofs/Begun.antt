@@ -2,10 +2,12 @@
 use Rattle.std.proofs.Common.{◌≡◌, ℕ, zero, suc, ◌+◌, ◌<◌, ◌≤◌, List, [], ◌∷◌, ◌++◌, Option, Some, None, length, refl, sym, ap, ◌∙◌, arith, subst, append_assoc, get_or, drop, take}
 use Rattle.std.specs.Prelude.{Result, Ok, Err, IfOk, ◌%◌, ◌^◌, slice_get, true, false, Bool, not, ◌&&◌, bytes_eq, codes, if◌then◌else◌}
 use Rattle.std.proofs.Math.Seq.{drop-cons}
-use Rattle.std.proofs.lemmas.List.{append-nil, take_more}
+use Rattle.std.specs.Prelude.{map}
+use Rattle.std.proofs.lemmas.List.{append-nil, take_more, map-append}
 use Rattle.std.proofs.lemmas.Option.{slice_get-get_or}
 use Rattle.c_tree.specs.declared.types.CType.TheVariants.{Struct}
 use Rattle.c_tree.specs.declared.types.StructDef.{StructDef}
+use Rattle.c_tree.specs.declared.types.Member.{Member}
 use Rattle.c_tree.specs.declared.types.Leaf.{Leaf}
 use Rattle.c_tree.specs.declared.rows.Program.{Program}
 use Rattle.c_tree.specs.declared.rows.Function.{Function}
@@ -20,8 +22,9 @@ use Rattle.slot_ir.specs.declared.code.Access.{Access}
 use Rattle.slot_ir.specs.declared.code.Home.{Home}
 use Rattle.slot_ir.specs.declared.code.SlotLocal.{SlotLocal}
 use Rattle.slot_ir.specs.declared.code.SlotStart.{SlotStart}
+use Rattle.slot_ir.specs.declared.code.SlotMember.{SlotMember}
 use Rattle.slot_gen.specs.Expressions.{access_of, register_at}
-use Rattle.slot_gen.specs.Rows.{EachFrom, IsLocalOf, IsStructOf, IsObjectOf, home_of, one_start, starts_of}
+use Rattle.slot_gen.specs.Rows.{EachFrom, IsLocalOf, IsStructOf, IsObjectOf, home_of, one_start, starts_of, member_of}
 
 -- ---- offsets below 2^32
 
@@ -119,8 +122,16 @@ local_made p rs x l h a n ls ds es eh ea ed en ee el = record {
   leaves = el ∙ ap (λ d. leaves_of d l.ctype) ee;
 }
 
-pub struct_made : (p : Program) (s : ℕ) (d : StructDef) (ls : List Leaf) (es : List StructDef) → es ≡ p.defs → ls ≡ leaves_of es (Struct s) → IsStructOf p s d (record { size = d.size; leaves = ls })
-struct_made p s d ls es ee el = record { size = refl; leaves = el ∙ ap (λ x. leaves_of x (Struct s)) ee }
+pub members_more : (r0 r1 : List SlotMember) (ms : List Member) (i : ℕ) (m : Member) (row : SlotMember) → i < length ms → m ≡ get_or ms i m → row ≡ member_of m → r0 ≡ map member_of (take i ms) → r1 ≡ r0 ++ row ∷ [] → r1 ≡ map member_of (take (i + 1) ms)
+members_more r0 r1 ms i m row lt at er is e =
+    e
+    ∙ ap (λ x. x ++ row ∷ []) is
+    ∙ ap (λ x. map member_of (take i ms) ++ x ∷ []) (er ∙ ap member_of at)
+    ∙ sym (ap (map member_of) (take_more ms i m lt) ∙ map-append member_of (take i ms) (get_or ms i m ∷ []))
+
+pub struct_made : (p : Program) (s : ℕ) (d : StructDef) (ms : List SlotMember) (held : List Member) (ls : List Leaf) (es : List StructDef) → held ≡ d.members → ms ≡ map member_of held → es ≡ p.defs → ls ≡ leaves_of es (Struct s)
+    → IsStructOf p s d (record { size = d.size; members = ms; leaves = ls })
+struct_made p s d ms held ls es eh em ee el = record { size = refl; members = em ∙ ap (map member_of) eh; leaves = el ∙ ap (λ x. leaves_of x (Struct s)) ee }
 
 pub object_made : (p : Program) (o : ℕ) (row : ObjectRow) (name bytes : List ℕ) (n : ℕ) (start : List SlotStart) (ls ms : List Leaf) (xs : List Start) (ds es : List StructDef) → name ≡ bytes → bytes ≡ row.name → ds ≡ p.defs → n ≡ size_of ds row.ctype → es ≡ p.defs → ms ≡ leaves_of es row.ctype → ls ≡ ms → xs ≡ row.start → start ≡ starts_of ls xs
     → IsObjectOf p o row (record { name = name; size = n; start = start })

@@ -34,10 +34,10 @@ use Rattle.slot_gen.proofs.Values.{tested, zero_jumps, other_jumps}
 module _ (set : Setting) (g : Ground set) where
   -- where the function's code is, by the program and the function's number
   abbrev f : ℕ
-  f = g.h.place.function
+  f = g.h.activation.function
 
   abbrev n : ℕ
-  n = length g.h.place.locals
+  n = length g.h.activation.locals
 
   assign_weight : (b : Bool) (a e : Typed) (t : CType) (k : List Item) → weight (if b then Locate a ∷ Locate e ∷ Copy t ∷ k else Locate a ∷ Eval e ∷ Store t ∷ k) < 8 * suc (size a + size e) + 2 + weight k
   assign_weight true a e t k = omega arith
@@ -137,14 +137,14 @@ module _ (set : Setting) (g : Ground set) where
 
   local_answers : (t : Head) (m y : ℕ) (k : List Item) (ws : List Where) (vs : List Value) (temps : Temps) (pc : ℕ) → (d : D set g ws vs (Locate (Name t m) ∷ k) temps pc)
       → (HasAt (code set g) pc (op.LocalAddress (length ws) y ∷ []) × F set g d.around (pc + 1) (InTemp ∷ ws) k) ⊎ ((x : ℕ) × (if_register y (register_of set.p f y) ≡ Some x) × F set g d.around pc (InReg x ∷ ws) k)
-      → (q : Option ℕ) → bound y g.h.place.locals ≡ q
+      → (q : Option ℕ) → bound y g.h.activation.locals ≡ q
       → Answered set (now set g vs (Locate (Name t m) ∷ k)) (source.on_some (option_map (λ o. At o 0) q) (λ v. GoesOn 1 (now set g (v ∷ vs) k))) (slot set g temps pc)
   local_answers t m y k ws vs temps pc d s None e = tt
   local_answers t m y k ws vs temps pc d s (Some o) e =
       ⊎_elim
       (λ a. set_step set g (Locate (Name t m) ∷ k) k ws ws vs vs temps pc 1 (At o 0) (op.LocalAddress (length ws) y) d (omega arith) a.0.0 (ap (λ q. slots.on_some (option_map (λ o. At o 0) q) (λ v. slots.sets set.c (slot set g temps pc) (length ws) v)) e) d.holds d.loops a.1)
       (λ r. none_step set g (Locate (Name t m) ∷ k) k ws (InReg r.0 ∷ ws) vs (At o 0 ∷ vs) temps pc 1 d (omega arith)
-      (ap (λ x. option_map (λ o. At o 0) (bound x g.h.place.locals)) (sym (same_local y (register_of set.p f y) r.0 r.1)) ∙ ap (option_map (λ o. At o 0)) e, d.holds) d.loops r.2)
+      (ap (λ x. option_map (λ o. At o 0) (bound x g.h.activation.locals)) (sym (same_local y (register_of set.p f y) r.0 r.1)) ∙ ap (option_map (λ o. At o 0)) e, d.holds) d.loops r.2)
       s
     where
       same_local : (y : ℕ) (o : Option ℕ) (x : ℕ) → if_register y o ≡ Some x → y ≡ x
@@ -164,7 +164,7 @@ module _ (set : Setting) (g : Ground set) where
       by (Object o) s =
           let a = only_temp s in
           set_step set g (Locate (Name t m) ∷ k) k ws ws vs vs temps pc 1 (At o 0) (op.StaticAddress (length ws) o) d (omega arith) a.0.0 refl d.holds d.loops a.1
-      by (Local y) s = local_answers t m y k ws vs temps pc d s (bound y g.h.place.locals) refl
+      by (Local y) s = local_answers t m y k ws vs temps pc d s (bound y g.h.activation.locals) refl
       by (Defined j) s = tt
       by Declared s = tt
 
@@ -254,7 +254,7 @@ module _ (set : Setting) (g : Ground set) where
         (record {
           same = refl;
           ws = InTemp ∷ ws;
-          doing = again set g (InTemp ∷ ws) (InTemp ∷ ws) (x ∷ vs) (Number v ∷ vs) (i0 ∷ k) k temps after pc (to + 1) d (puts g.h.place temps (Number v) ws vs d.holds.1) l (subst (λ i. F set g d.around i (InTemp ∷ ws) k) len rest);
+          doing = again set g (InTemp ∷ ws) (InTemp ∷ ws) (x ∷ vs) (Number v ∷ vs) (i0 ∷ k) k temps after pc (to + 1) d (puts g.h.activation temps (Number v) ws vs d.holds.1) l (subst (λ i. F set g d.around i (InTemp ∷ ws) k) len rest);
           outer = g.out;
         })
 

@@ -61,10 +61,10 @@ weight-test (Some q) b s n k = omega arith
 
 module _ (set : Setting) (g : Ground set) where
   abbrev f : ℕ
-  f = g.h.place.function
+  f = g.h.activation.function
 
   abbrev n : ℕ
-  n = length g.h.place.locals
+  n = length g.h.activation.locals
 
   -- what stands is reached in no operator, or by a jump
   stand_none : (k0 k : List Item) (temps : Temps) (pc m : ℕ) → D set g [] [] k0 temps pc → weight k < weight k0 → Stands set.p f (code set g) n pc k → Answered set (now set g [] k0) (GoesOn m (now set g [] k)) (slot set g temps pc)
@@ -149,7 +149,7 @@ module _ (set : Setting) (g : Ground set) where
       let second = ap (slots.at_op set.c u) has.1.0 in
       let third = ap (slots.at_op set.c v) l.jumps in
       let le : out.scope ≤ n = omega (arith, d.follows.0.0, l.scope) in
-      let len : length (take out.scope g.h.place.locals) ≡ out.scope = length-take-le out.scope g.h.place.locals le in (
+      let len : length (take out.scope g.h.activation.locals) ≡ out.scope = length-take-le out.scope g.h.activation.locals le in (
         3,
         2,
         w,
@@ -176,7 +176,7 @@ module _ (set : Setting) (g : Ground set) where
       let has = d.follows.1 in
       let first = at_op set g temps pc (op.Leave d.around.again_scope) has.0 ∙ ap (λ m. slots.goes set.c st 0 (left m g.h)) t.scope in
       let le : out.scope ≤ n = omega (arith, d.follows.0.1, t.scope) in
-      let len : length (take out.scope g.h.place.locals) ≡ out.scope = length-take-le out.scope g.h.place.locals le in
+      let len : length (take out.scope g.h.activation.locals) ≡ out.scope = length-take-le out.scope g.h.activation.locals le in
       let jump = has.1.0 ∙ ap (λ i. Some (op.Jump i)) (sym t.again) in (
         1,
         0,
@@ -186,7 +186,7 @@ module _ (set : Setting) (g : Ground set) where
         record {
           same = refl;
           ws = [];
-          doing = subst (λ k. Doing set (left out.scope g.h).place [] [] [] k temps (pc + 1)) (sym t.control) (record { fn = d.fn; found = d.found; ends = d.ends; around = t.around; loops = t.loops; holds = tt; follows = (len ∙ t.same, jump) });
+          doing = subst (λ k. Doing set (left out.scope g.h).activation [] [] [] k temps (pc + 1)) (sym t.control) (record { fn = d.fn; found = d.found; ends = d.ends; around = t.around; loops = t.loops; holds = tt; follows = (len ∙ t.same, jump) });
           outer = g.out;
         },
         tt,

@@ -14,7 +14,7 @@ use Rattle.c_tree.specs.declared.rows.Program.{Program}
 use Rattle.c_tree.specs.Rows.{exprs}
 use Rattle.c_tree.specs.Types.{type_of, kind_of, is_array, is_struct}
 use Rattle.c_store.specs.Store.{Value, Number, At}
-use Rattle.c_store.specs.Frames.{Place, bound}
+use Rattle.c_store.specs.Frames.{ActivationRecord, bound}
 use Rattle.c_source.specs.Blocks.{statements_in}
 use Rattle.c_source.specs.Source.{struct_number}
 use Rattle.c_source.specs.Control.{Item, Eval, Locate, Push, Bound, Load, Convert, Store, Copy, Update, Change, Combine, Offset, Use, Discard, Truth, AndThen, OrElse, Pick, Joined, Enter, Run, Stop, Choose, Open, Close, Turn, Again, Select, Seek, Switched, GiveBack, Leave, Label, runs_of, evals_of}
@@ -60,7 +60,7 @@ pub data Where : Type 0 where
   InReg : (local : ℕ) → Where
   Kept : (number : ℕ) → Where
 
-abbrev pub Holds : Place → Temps → List Where → List Value → Type 0
+abbrev pub Holds : ActivationRecord → Temps → List Where → List Value → Type 0
 Holds a t [] [] = Unit {0}
 Holds a t [] (v ∷ vs) = ⊥
 Holds a t (InTemp ∷ ws) [] = ⊥
@@ -225,8 +225,8 @@ module _ (p : Program) (f : ℕ) (code : List SlotOp) where
   Follows r n pc ws (Again s m ∷ k) = on_none ws ((n ≡ m) × (slice_get code pc ≡ Some (op.Jump r.again)))
   Follows r n pc ws (Select b m ∷ k) =
       on_last ws ((n ≡ m) × IsInside r n × HasAt code pc (switch_of r n pc (statements_in b)) × Follows r n (pc + length (switch_of r n pc (statements_in b))) [] k)
-  Follows r n pc ws (Seek v ls default m ∷ k) =
-      on_kept ws (λ x. (x ≡ v) × (n ≡ m) × IsInside r n × (u : Around) × (end : ℕ) × (slice_get code u.leave ≡ Some (op.Jump end)) × (u.leave_scope ≡ m) × (u.again ≡ r.again) × (u.again_scope ≡ r.again_scope) × Seeks u n end pc ls default × Follows r m end [] k)
+  Follows r n pc ws (Seek v l ls default m ∷ k) =
+      on_kept ws (λ x. (x ≡ v) × (n ≡ m) × IsInside r n × (u : Around) × (end : ℕ) × (slice_get code u.leave ≡ Some (op.Jump end)) × (u.leave_scope ≡ m) × (u.again ≡ r.again) × (u.again_scope ≡ r.again_scope) × Seeks u n end pc (l ∷ ls) default × Follows r m end [] k)
   Follows r n pc ws (Switched m ∷ k) = on_none ws ((n ≡ m) × (end : ℕ) × (slice_get code pc ≡ Some (op.Jump end)) × (slice_get code r.leave ≡ Some (op.Jump end)))
   Follows r n pc ws (GiveBack ∷ k) = on_last ws (slice_get code pc ≡ Some (op.Jump end_place))
   Follows r n pc ws (Leave ∷ k) = on_last ws (slice_get code pc ≡ Some (op.Return 0))

@@ -23,3 +23,4 @@ mod Codes
 mod Starting
 mod Above
 mod Few
+pub mod NodesOfStatements

@@ -27,6 +27,17 @@ use Rattle.slot_ir.specs.Slots.{SlotState}
 use Rattle.slot_ir.specs.Slots as slots
 use Rattle.slot_gen.specs.Expressions.{access_of, word_op, mixed_op, pointers_op, targets_op, combine_op, unary_op}
 
+-- ---- results
+
+pub bind_same : {A B : Type 0} (m : Result A Why) (f g : A → Result B Why) → ((x : A) → f x ≡ g x) → (m >>= f) ≡ (m >>= g)
+bind_same (Ok x) f g h = h x
+bind_same (Err w) f g h = refl
+
+-- what a result comes from
+pub bound_from : {A B : Type 0} (m : Result A Why) (f : A → Result B Why) (y : B) → (m >>= f) ≡ Ok y → (x : A) × (m ≡ Ok x) × (f x ≡ Ok y)
+bound_from (Ok x) f y e = (x, refl, e)
+bound_from (Err w) f y e = absurd cc
+
 pub converted_same : (t : CType) (v : Value) → converted t v ≡ extended (access_of t) v
 converted_same Char (Number n) = refl
 converted_same Char Null = refl

@@ -16,15 +16,16 @@ use Rattle.c_store.specs.Store.{Value, Number, Null, At, is_stale, load_struct}
 use Rattle.c_store.specs.Frames.{Here, with_point, made, left, bound}
 use Rattle.c_source.specs.Blocks.{local_type, statements_in, opened, opened_one, leaf_count, cells_of}
 use Rattle.c_source.specs.Operators.{bits_in}
-use Rattle.c_source.specs.Control.{Item, State, Activation, Eval, Locate, Push, Bound, Load, Convert, Store, Copy, Update, Change, Combine, Offset, Use, Discard, Truth, AndThen, OrElse, Pick, Joined, Enter, Run, Stop, Choose, Open, Close, Turn, Again, Select, Seek, Switched, GiveBack, Leave, Label, runs_of, part_of, test_of, loop_goes_on, loop_turns, labels_in, default_in, outermost_of, last_of}
+use Rattle.c_source.specs.Control.{Item, State, Activation, Eval, Locate, Push, Bound, Load, Convert, Store, Copy, Update, Change, Combine, Offset, Use, Discard, Truth, AndThen, OrElse, Pick, Joined, Enter, Run, Stop, Choose, Open, Close, Turn, Again, Select, Seek, Switched, GiveBack, Leave, Label, seeks, runs_of, part_of, test_of, loop_goes_on, loop_turns, labels_in, default_in, outermost_of, last_of}
 use Rattle.c_source.specs.Source as source
+use Rattle.slot_ir.specs.declared.code.SlotOp.{SlotOp}
 use Rattle.slot_ir.specs.declared.code.SlotOp.TheVariants as op
 use Rattle.slot_ir.specs.Operators as slot_operators
 use Rattle.slot_ir.specs.Slots.{Temps, SlotState, Frame, with_temp}
 use Rattle.slot_ir.specs.Slots as slots
 use Rattle.slot_gen.specs.Expressions.{enter_code, call_code, built_in_code}
 use Rattle.slot_gen.specs.Statements.{Around, stmt_code, stmts_code, zeros_code, in_switch, targets_of, defaults_of, seek_code, first_target, end_place}
-use Rattle.slot_gen.proofs.Follow.{HasAt, has_front, has_back, Where, InTemp, InReg, Kept, Holds, Follows, Loops, IsInside, RunsAt, IsLoop, step_in, test_in, body_in, loop_of, switch_of, temps_on, chosen_first, chosen_second, runs_follow, loops_runs}
+use Rattle.slot_gen.proofs.Follow.{HasAt, has_front, has_back, Where, InTemp, InReg, Kept, Holds, Follows, Loops, IsInside, RunsAt, Seeks, IsLoop, step_in, test_in, body_in, loop_of, switch_of, temps_on, chosen_first, chosen_second, runs_follow, loops_runs}
 use Rattle.slot_gen.proofs.Match.{Setting, Ground, Doing, Outer, Matches, Answered, Steps, D, F, slot, now, code, again, at_op, one_step, some_steps, puts}
 use Rattle.slot_gen.proofs.Values.{push_answers, bound_answers, load_answers, read_answers, convert_answers, store_answers, write_answers, update_answers, change_answers, combine_answers, change_by, offset_answers, use_answers, discard_answers, truth_answers, copy_answers, tested, zero_jumps}
 use Rattle.slot_gen.proofs.Evaluations.{eval_answers, locate_answers, pick_answers, and_answers, or_answers}
@@ -35,7 +36,7 @@ use Rattle.slot_gen.proofs.Executions.{run_answers, stand_jump}
 -- ---- the end of an activation
 
 module _ (set : Setting) where
-  leave_answers : (h : Here) (v : Value) (outer : List Activation) (r : ℕ) (frames : List Frame) → Outer set outer frames r → (temps : Temps) (pc : ℕ) (k : List Item) → Doing set h.place (InTemp ∷ []) (InTemp ∷ []) (v ∷ []) (Leave ∷ k) temps pc
+  leave_answers : (h : Here) (v : Value) (outer : List Activation) (r : ℕ) (frames : List Frame) → Outer set outer frames r → (temps : Temps) (pc : ℕ) (k : List Item) → Doing set h.activation (InTemp ∷ []) (InTemp ∷ []) (v ∷ []) (Leave ∷ k) temps pc
       → Answered set (record { here = h; values = v ∷ []; control = Leave ∷ k; outer = outer }) (source.end_with set.p h outer v outer) (record { here = h; temps = temps; pc = pc; result_at = r; outer = frames })
   leave_answers h (Number n) [] r [] out temps pc k d =
       let t : SlotState = record { here = h; temps = temps; pc = pc; result_at = r; outer = [] } in
@@ -47,16 +48,16 @@ module _ (set : Setting) where
   leave_answers h v (a ∷ rest) r (g ∷ gs) out temps pc k d =
       let t : SlotState = record { here = h; temps = temps; pc = pc; result_at = r; outer = g ∷ gs } in
       let w = out.3 in
-      let u : SlotState = record { here = record { world = (left 0 h).world; place = g.place }; temps = with_temp g.temps r v; pc = g.pc; result_at = g.result_at; outer = gs } in (
+      let u : SlotState = record { here = record { world = (left 0 h).world; activation = g.activation }; temps = with_temp g.temps r v; pc = g.pc; result_at = g.result_at; outer = gs } in (
         1,
         1,
         u,
         omega arith,
         (1, 0, u, refl, ap (slots.at_op set.c t) d.follows ∙ ap (λ o. slots.on_temp o (λ v. slots.returns set.c t v (g ∷ gs))) d.holds.0, (refl, refl), refl),
         record {
-          same = ap (λ p. record { world = (left 0 h).world; place = p }) out.0;
+          same = ap (λ p. record { world = (left 0 h).world; activation = p }) out.0;
           ws = InTemp ∷ out.1;
-          doing = record { fn = w.fn; found = w.found; ends = w.ends; around = w.around; loops = w.loops; holds = subst (λ i. Holds a.place (with_temp g.temps i v) (InTemp ∷ out.1) (v ∷ a.values)) (sym out.2) (puts a.place g.temps v out.1 a.values w.holds); follows = w.follows };
+          doing = record { fn = w.fn; found = w.found; ends = w.ends; around = w.around; loops = w.loops; holds = subst (λ i. Holds a.activation (with_temp g.temps i v) (InTemp ∷ out.1) (v ∷ a.values)) (sym out.2) (puts a.activation g.temps v out.1 a.values w.holds); follows = w.follows };
           outer = out.4;
         },
         tt,
@@ -81,10 +82,10 @@ goes_on_same s n i = absurd i
 
 module _ (set : Setting) (g : Ground set) where
   abbrev f : ℕ
-  f = g.h.place.function
+  f = g.h.activation.function
 
   abbrev n : ℕ
-  n = length g.h.place.locals
+  n = length g.h.activation.locals
 
   -- ---- calls
 
@@ -98,7 +99,7 @@ module _ (set : Setting) (g : Ground set) where
           → Answered set (now set g vs (Enter q m ∷ k)) (source.built_in set.p g.h g.outer s.name (take m vs) (drop m vs) k) (slot set g temps pc)
       built zero vs d has rest = get_answers set g q s.name k us vs temps pc d (bytes_eq s.name (codes "getchar")) has rest
       built (suc zero) [] d has rest = absurd d.holds
-      built (suc zero) (x ∷ vs) d has rest = put_answers set g q x k us vs temps pc d (bytes_eq s.name (codes "getchar")) (bytes_eq s.name (codes "putchar")) has rest
+      built (suc zero) (x ∷ vs) d has rest = put_answers set g q x k us vs temps pc d (bytes_eq s.name (codes "getchar")) (bytes_eq s.name (codes "putchar")) (bytes_eq s.name (codes "exit")) has rest
       built (suc (suc m)) [] d has rest = absurd d.holds
       built (suc (suc m)) (x ∷ []) d has rest = absurd d.holds.1
       built (suc (suc m)) (x ∷ y ∷ vs) d has rest = tt
@@ -112,18 +113,18 @@ module _ (set : Setting) (g : Ground set) where
 
   -- ---- blocks
 
-  opened-function : (ds : List DeclaredLocal) (j : ℕ) (h : Here) → (opened set.p j ds h).place.function ≡ h.place.function
+  opened-function : (ds : List DeclaredLocal) (j : ℕ) (h : Here) → (opened set.p j ds h).activation.function ≡ h.activation.function
   unfolding made
   opened-function [] j h = refl
   opened-function (d ∷ ds) j h = opened-function ds j (opened_one set.p j d.local h)
 
-  opened-scope : (ds : List DeclaredLocal) (j : ℕ) (h : Here) → length (opened set.p j ds h).place.locals ≡ length h.place.locals + length ds
+  opened-scope : (ds : List DeclaredLocal) (j : ℕ) (h : Here) → length (opened set.p j ds h).activation.locals ≡ length h.activation.locals + length ds
   unfolding made
   opened-scope [] j h = omega arith
-  opened-scope (d ∷ ds) j h = omega (arith, opened-scope ds j (opened_one set.p j d.local h), length-append h.place.locals (record { local = d.local; object = length h.world.objects } ∷ []))
+  opened-scope (d ∷ ds) j h = omega (arith, opened-scope ds j (opened_one set.p j d.local h), length-append h.activation.locals (record { local = d.local; object = length h.world.objects } ∷ []))
 
   -- the objects of a block are made one after another
-  opens : (ds : List DeclaredLocal) (o : State) (h : Here) (temps : Temps) (pc : ℕ) → h.place.function ≡ f → h.world.output ≡ o.here.world.output → HasAt (code set g) pc (zeros_code ds)
+  opens : (ds : List DeclaredLocal) (o : State) (h : Here) (temps : Temps) (pc : ℕ) → h.activation.function ≡ f → h.world.output ≡ o.here.world.output → HasAt (code set g) pc (zeros_code ds)
       → Steps set g o (length ds) (leaf_count set.p f ds) (record { here = h; temps = temps; pc = pc; result_at = g.at; outer = g.frames }) (record { here = opened set.p f ds h; temps = temps; pc = pc + length ds; result_at = g.at; outer = g.frames })
   unfolding made
   opens [] o h temps pc e w has = (refl, ap (λ i. record { here = h; temps = temps; pc = i; result_at = g.at; outer = g.frames }) (stays pc))
@@ -158,36 +159,51 @@ module _ (set : Setting) (g : Ground set) where
     follows = runs_follow set.p f (code set g) u n ss d (Switched m ∷ k) (omega (arith, ls, nm), omega (arith, sc, inside.1)) runs.0 (nm, end, runs.1, jump);
   }
 
-  seek_answers : (v : ℕ) (ls : List Label) (default : List Stmt) (m : ℕ) (k : List Item) (y : ℕ) (temps : Temps) (pc : ℕ) → D set g (Kept y ∷ []) [] (Seek v ls default m ∷ k) temps pc
-      → Answered set (now set g [] (Seek v ls default m ∷ k)) (source.seek set.p g.h g.outer v ls default m [] k) (slot set g temps pc)
-  seek_answers v [] default m k y temps pc d =
-      let fo = d.follows in
-      let s = fo.9 in
-      stand_jump set g (Seek v [] default m ∷ k) (runs_of default ++ Switched m ∷ k) (Kept y ∷ []) [] temps pc s.0 (op.Jump s.0) d s.1 refl
-      (label_stands d.around fo.3 m fo.4 s.0 default k fo.1 fo.2 fo.5 fo.6 fo.7 fo.8 s.2 fo.10 d.loops)
-  seek_answers v (l ∷ ls) default m k y temps pc d = by (l.constant == v) refl
+  -- two operators, the second of which is a jump
+  stand_two : (k0 k : List Item) (ws : List Where) (vs : List Value) (temps : Temps) (pc mid to : ℕ) (o : SlotOp) → D set g ws vs k0 temps pc → slice_get (code set g) pc ≡ Some o
+      → slots.act set.c (slot set g temps pc) o ≡ slots.jumps set.c (slot set g temps pc) mid → slice_get (code set g) mid ≡ Some (op.Jump to)
+      → Stands set.p f (code set g) n to k → Answered set (now set g vs k0) (GoesOn 1 (now set g [] k)) (slot set g temps pc)
+  stand_two k0 k ws vs temps pc mid to o d e a j s =
+      some_steps set g (now set g vs k0) (now set g [] k) (slot set g temps pc) (slot set g temps to) 1 2 2 (omega arith) (omega arith)
+      (1, 1, slot set g temps mid, omega arith, at_op set g temps pc o e ∙ a, (1, 0, slot set g temps to, omega arith, at_op set g temps mid (op.Jump to) j, (refl, refl), refl), refl)
+      (record { same = refl; ws = []; doing = record { fn = d.fn; found = d.found; ends = d.ends; around = s.around; loops = s.loops; holds = tt; follows = s.follows }; outer = g.out })
+
+  -- a value is compared with the next label, or the statements from `default` on are reached
+  sought : (v : ℕ) (ls : List Label) (default : List Stmt) (m : ℕ) (k0 k : List Item) (ws : List Where) (vs : List Value) (temps : Temps) (pc mid : ℕ) (o : SlotOp) (u : Around) (end : ℕ) → (d : D set g ws vs k0 temps pc)
+      → slice_get (code set g) pc ≡ Some o → slots.act set.c (slot set g temps pc) o ≡ slots.jumps set.c (slot set g temps pc) mid → temps 0 ≡ Some (Number v)
+      → n ≡ m → IsInside d.around n → slice_get (code set g) u.leave ≡ Some (op.Jump end) → u.leave_scope ≡ m → u.again ≡ d.around.again → u.again_scope ≡ d.around.again_scope
+      → Seeks set.p f (code set g) u n end mid ls default → Follows set.p f (code set g) d.around m end [] k → Loops set.p f (code set g) d.around k
+      → Answered set (now set g vs k0) (GoesOn 1 (now set g [] (seeks v ls default m k))) (slot set g temps pc)
+  sought v [] default m k0 k ws vs temps pc mid o u end d e a kept nm inside jump ls ag sc s after l =
+      stand_two k0 (runs_of default ++ Switched m ∷ k) ws vs temps pc mid s.0 o d e a s.1 (label_stands d.around u m end s.0 default k nm inside jump ls ag sc s.2 after l)
+  sought v (x ∷ xs) default m k0 k ws vs temps pc mid o u end d e a kept nm inside jump ls ag sc s after l =
+      one_step set g k0 (Seek v x xs default m ∷ k) vs [] temps temps pc mid 1 1 (Kept v ∷ []) o (omega arith) e a
+      (again set g ws (Kept v ∷ []) vs [] k0 (Seek v x xs default m ∷ k) temps temps pc mid d (kept, tt) l (refl, nm, inside, u, end, jump, ls, ag, sc, s, after))
+
+  seek_answers : (v : ℕ) (l : Label) (ls : List Label) (default : List Stmt) (m : ℕ) (k : List Item) (y : ℕ) (temps : Temps) (pc : ℕ) → D set g (Kept y ∷ []) [] (Seek v l ls default m ∷ k) temps pc
+      → Answered set (now set g [] (Seek v l ls default m ∷ k)) (source.seek set.p g.h g.outer v l ls default m [] k) (slot set g temps pc)
+  seek_answers v l ls default m k y temps pc d = by (l.constant == v) refl
     where
-      by : (b : Bool) → (l.constant == v) ≡ b → Answered set (now set g [] (Seek v (l ∷ ls) default m ∷ k)) (GoesOn 1 (now set g [] (if b then runs_of l.from ++ Switched m ∷ k else Seek v ls default m ∷ k))) (slot set g temps pc)
+      by : (b : Bool) → (l.constant == v) ≡ b → Answered set (now set g [] (Seek v l ls default m ∷ k)) (GoesOn 1 (now set g [] (if b then runs_of l.from ++ Switched m ∷ k else seeks v ls default m k))) (slot set g temps pc)
       by true e =
           let fo = d.follows in
           let s = fo.9 in
           let st = slot set g temps pc in
           let kept : temps 0 ≡ Some (Number v) = d.holds.0 ∙ ap (λ x. Some (Number x)) fo.0 in
-          stand_jump set g (Seek v (l ∷ ls) default m ∷ k) (runs_of l.from ++ Switched m ∷ k) (Kept y ∷ []) [] temps pc s.0 (op.JumpIfEqual 0 l.constant s.0) d s.1 (seek_jumps st v l.constant s.0 true kept e)
+          stand_jump set g (Seek v l ls default m ∷ k) (runs_of l.from ++ Switched m ∷ k) (Kept y ∷ []) [] temps pc s.0 (op.JumpIfEqual 0 l.constant s.0) d s.1 (seek_jumps st v l.constant s.0 true kept e)
           (label_stands d.around fo.3 m fo.4 s.0 l.from k fo.1 fo.2 fo.5 fo.6 fo.7 fo.8 s.2 fo.10 d.loops)
       by false e =
           let fo = d.follows in
           let s = fo.9 in
           let st = slot set g temps pc in
           let kept : temps 0 ≡ Some (Number v) = d.holds.0 ∙ ap (λ x. Some (Number x)) fo.0 in
-          one_step set g (Seek v (l ∷ ls) default m ∷ k) (Seek v ls default m ∷ k) [] [] temps temps pc (pc + 1) 1 1 (Kept y ∷ []) (op.JumpIfEqual 0 l.constant s.0) (omega arith) s.1 (seek_jumps st v l.constant s.0 false kept e)
-          (again set g (Kept y ∷ []) (Kept y ∷ []) [] [] (Seek v (l ∷ ls) default m ∷ k) (Seek v ls default m ∷ k) temps temps pc (pc + 1) d d.holds d.loops
-          (fo.0, fo.1, fo.2, fo.3, fo.4, fo.5, fo.6, fo.7, fo.8, s.3, fo.10))
+          sought v ls default m (Seek v l ls default m ∷ k) k (Kept y ∷ []) [] temps pc (pc + 1) (op.JumpIfEqual 0 l.constant s.0) fo.3 fo.4 d s.1 (seek_jumps st v l.constant s.0 false kept e) kept
+          fo.1 fo.2 fo.5 fo.6 fo.7 fo.8 s.3 fo.10 d.loops
 
   -- ---- the rest of a `switch`
 
   select_answers : (b : Stmt) (m : ℕ) (k : List Item) (v : Value) (temps : Temps) (pc : ℕ) → D set g (InTemp ∷ []) (v ∷ []) (Select b m ∷ k) temps pc
-      → Answered set (now set g (v ∷ []) (Select b m ∷ k)) (source.on_ok (bits_in v) (λ x. GoesOn 1 (now set g [] (Seek x (labels_in (statements_in b)) (default_in (statements_in b)) m ∷ k)))) (slot set g temps pc)
+      → Answered set (now set g (v ∷ []) (Select b m ∷ k)) (source.on_ok (bits_in v) (λ x. GoesOn 1 (now set g [] (seeks x (labels_in (statements_in b)) (default_in (statements_in b)) m k)))) (slot set g temps pc)
   select_answers b m k Null temps pc d = tt
   select_answers b m k (At o i) temps pc d = tt
   select_answers b m k (Number x) temps pc d =
@@ -207,12 +223,11 @@ module _ (set : Setting) (g : Ground set) where
       let rest = subst (λ i. HasAt co i (body ++ op.Jump end ∷ (seek_code labels ++ last))) two has.1.1 in
       let behind = has_back co (pc + 2) body (op.Jump end ∷ (seek_code labels ++ last)) rest in
       let runs : RunsAt set.p f co u n end (pc + 2) ss = (has_front co (pc + 2) body (op.Jump end ∷ (seek_code labels ++ last)) rest, behind.0) in
-      let seeks = labels_follow set.p f co u n end ss (pc + 2) (over + 1) last (default_in ss) runs behind.1 (λ i h. default_follows set.p f co u n end ss (pc + 2) over i runs refl h.0) in
+      let found = labels_follow set.p f co u n end ss (pc + 2) (over + 1) last (default_in ss) runs behind.1 (λ i h. default_follows set.p f co u n end ss (pc + 2) over i runs refl h.0) in
       let len : pc + length (switch_of set.p f co r n pc ss) ≡ end = omega (arith, length-append body (op.Jump end ∷ (seek_code labels ++ last)), length-append (seek_code labels) last, length-seeks labels) in
       let after = subst (λ i. F set g r i [] k) len fo.3 in
-      one_step set g (Select b m ∷ k) (Seek x (labels_in ss) (default_in ss) m ∷ k) (Number x ∷ []) [] temps temps pc (over + 1) 1 1 (Kept x ∷ []) (op.Jump (over + 1)) (omega arith) has.0 refl
-      (again set g (InTemp ∷ []) (Kept x ∷ []) (Number x ∷ []) [] (Select b m ∷ k) (Seek x (labels_in ss) (default_in ss) m ∷ k) temps temps pc (over + 1) d (d.holds.0, tt) d.loops
-      (refl, fo.0, fo.1, u, end, has.1.0, fo.0, refl, refl, seeks, subst (λ i. Follows set.p f co r i end [] k) fo.0 after))
+      sought x (labels_in ss) (default_in ss) m (Select b m ∷ k) k (InTemp ∷ []) (Number x ∷ []) temps pc (over + 1) (op.Jump (over + 1)) u end d has.0 refl d.holds.0
+      fo.0 fo.1 has.1.0 fo.0 refl refl found (subst (λ i. Follows set.p f co r i end [] k) fo.0 after) d.loops
 
   switched_answers : (m : ℕ) (k : List Item) (temps : Temps) (pc : ℕ) → D set g [] [] (Switched m ∷ k) temps pc
       → Answered set (now set g [] (Switched m ∷ k)) (GoesOn 1 (now set g [] k)) (slot set g temps pc)
@@ -279,7 +294,7 @@ module _ (set : Setting) (g : Ground set) where
   open_matches : (ds : List DeclaredLocal) (k : List Item) (temps : Temps) (pc i : ℕ) → (d : D set g [] [] (Open ds ∷ k) temps pc) → Follows set.p f (code set g) d.around (n + length ds) i [] k
       → Matches set (record { here = opened set.p f ds g.h; values = []; control = k; outer = g.outer }) (record { here = opened set.p f ds g.h; temps = temps; pc = i; result_at = g.at; outer = g.frames })
   open_matches ds k temps pc i d fo =
-      let a = (opened set.p f ds g.h).place in
+      let a = (opened set.p f ds g.h).activation in
       let e : f ≡ a.function = sym (opened-function ds f g.h) in
       record {
         same = refl;
@@ -337,7 +352,7 @@ module _ (set : Setting) (g : Ground set) where
   close_answers m k temps pc d =
       let fo = d.follows in
       let u : SlotState = record { here = left m g.h; temps = temps; pc = pc + 1; result_at = g.at; outer = g.frames } in
-      let len : length (take m g.h.place.locals) ≡ m = length-take-le m g.h.place.locals fo.0 in (
+      let len : length (take m g.h.activation.locals) ≡ m = length-take-le m g.h.activation.locals fo.0 in (
         1,
         0,
         u,
@@ -394,7 +409,7 @@ module _ (set : Setting) (g : Ground set) where
         refl,
       )
     where
-      held_at_point : (ws : List Where) (vs : List Value) → Holds g.h.place temps ws vs → Holds (with_point g.h q).place temps ws vs
+      held_at_point : (ws : List Where) (vs : List Value) → Holds g.h.activation temps ws vs → Holds (with_point g.h q).activation temps ws vs
       held_at_point [] [] h = tt
       held_at_point [] (x ∷ vs) h = absurd h
       held_at_point (InTemp ∷ ws) [] h = absurd h
@@ -425,7 +440,7 @@ module _ (set : Setting) (g : Ground set) where
   enter_at q m k ws vs temps pc d =
       let fo = d.follows in
       enter_answers q m fo.0 k vs temps pc
-      (record { fn = d.fn; found = d.found; ends = d.ends; around = d.around; loops = d.loops; holds = subst (λ ws. Holds g.h.place temps ws vs) fo.1 d.holds; follows = (fo.0, refl, fo.2, fo.3) })
+      (record { fn = d.fn; found = d.found; ends = d.ends; around = d.around; loops = d.loops; holds = subst (λ ws. Holds g.h.activation temps ws vs) fo.1 d.holds; follows = (fo.0, refl, fo.2, fo.3) })
       (slice_get set.p.symbols q) fo.2 fo.3
 
   give_back_at : (v : Value) (k : List Item) (temps : Temps) (pc : ℕ) → D set g (InTemp ∷ []) (v ∷ []) (GiveBack ∷ k) temps pc
@@ -439,7 +454,7 @@ module _ (set : Setting) (g : Ground set) where
   act_answers (Eval e) k ws vs temps pc d = eval_answers set g e k ws vs temps pc d
   act_answers (Locate e) k ws vs temps pc d = locate_answers set g e k ws vs temps pc d
   act_answers (Push v) k ws vs temps pc d = push_answers set g v k ws vs temps pc d
-  act_answers (Bound y) k ws vs temps pc d = bound_answers set g y k ws vs temps pc (bound y g.h.place.locals) refl d
+  act_answers (Bound y) k ws vs temps pc d = bound_answers set g y k ws vs temps pc (bound y g.h.activation.locals) refl d
   act_answers (Load t) k [] vs temps pc d = absurd d.follows
   act_answers (Load t) k (Kept y ∷ ws) vs temps pc d = absurd d.follows
   act_answers (Load t) k (InTemp ∷ ws) [] temps pc d = absurd d.holds
@@ -567,12 +582,12 @@ module _ (set : Setting) (g : Ground set) where
   act_answers (Select b m) k (InTemp ∷ []) [] temps pc d = absurd d.holds
   act_answers (Select b m) k (InTemp ∷ []) (x ∷ z ∷ vs) temps pc d = absurd d.holds.1
   act_answers (Select b m) k (InTemp ∷ []) (x ∷ []) temps pc d = select_answers b m k x temps pc d
-  act_answers (Seek v ls default m) k [] vs temps pc d = absurd d.follows
-  act_answers (Seek v ls default m) k (InTemp ∷ ws) vs temps pc d = absurd d.follows
-  act_answers (Seek v ls default m) k (InReg y ∷ ws) vs temps pc d = absurd d.follows
-  act_answers (Seek v ls default m) k (Kept y ∷ w ∷ ws) vs temps pc d = absurd d.follows
-  act_answers (Seek v ls default m) k (Kept y ∷ []) (x ∷ vs) temps pc d = absurd d.holds.1
-  act_answers (Seek v ls default m) k (Kept y ∷ []) [] temps pc d = seek_answers v ls default m k y temps pc d
+  act_answers (Seek v l ls default m) k [] vs temps pc d = absurd d.follows
+  act_answers (Seek v l ls default m) k (InTemp ∷ ws) vs temps pc d = absurd d.follows
+  act_answers (Seek v l ls default m) k (InReg y ∷ ws) vs temps pc d = absurd d.follows
+  act_answers (Seek v l ls default m) k (Kept y ∷ w ∷ ws) vs temps pc d = absurd d.follows
+  act_answers (Seek v l ls default m) k (Kept y ∷ []) (x ∷ vs) temps pc d = absurd d.holds.1
+  act_answers (Seek v l ls default m) k (Kept y ∷ []) [] temps pc d = seek_answers v l ls default m k y temps pc d
   act_answers (Switched m) k (w ∷ ws) vs temps pc d = absurd d.follows
   act_answers (Switched m) k [] (x ∷ vs) temps pc d = absurd d.holds
   act_answers (Switched m) k [] [] temps pc d = switched_answers m k temps pc d
@@ -597,6 +612,6 @@ module _ (set : Setting) where
   step_answers s t m =
       subst (λ h. Answered set s (source.step set.p s) (record t { here = h })) (sym m.same) (on_control s.control m.doing)
     where
-      on_control : (k : List Item) → Doing set s.here.place m.ws m.ws s.values k t.temps t.pc → Answered set (record s { control = k }) (source.on_control set.p s.here s.outer k s.values) (record t { here = s.here })
+      on_control : (k : List Item) → Doing set s.here.activation m.ws m.ws s.values k t.temps t.pc → Answered set (record s { control = k }) (source.on_control set.p s.here s.outer k s.values) (record t { here = s.here })
       on_control [] d = absurd d.follows
       on_control (i ∷ k) d = act_answers set (record { h = s.here; outer = s.outer; at = t.result_at; frames = t.outer; out = m.outer }) i k m.ws s.values t.temps t.pc d

@@ -14,7 +14,7 @@ use Rattle.c_tree.specs.declared.rows.Referent.TheVariants.{Object, Local, Funct
 use Rattle.c_tree.specs.Rows.{exprs}
 use Rattle.c_tree.specs.Types.{type_of, target_of, is_array, is_struct, kind_of}
 use Rattle.c_tree.specs.Layout.{size_of}
-use Rattle.c_source.specs.Size.{extent_of, extent_of_row}
+use Rattle.c_source.specs.Size.{nodes_of, list_nodes, row_nodes}
 use Rattle.c_source.specs.Source.{stepping}
 use Rattle.slot_ir.specs.declared.code.Access.{Access}
 use Rattle.slot_ir.specs.declared.code.Access.TheVariants as access
@@ -56,7 +56,7 @@ length-row end_of-Typed = omega arith
 length-row (more_of-Typed e rest) = omega (arith, length-row rest)
 
 -- an expression takes one temporary more than it has nodes, at most
-nodes_some : (e : Typed) → 1 ≤ (extent_of e).nodes
+nodes_some : (e : Typed) → 1 ≤ nodes_of e
 nodes_some (Comma' h x a y b) = omega arith
 nodes_some (Assign' h x a o y b) = omega arith
 nodes_some (Choice' h x c y a z b) = omega arith
@@ -80,8 +80,12 @@ nodes_some (Constant h m) = omega arith
 nodes_some (Literal h m) = omega arith
 nodes_some (Parens' h x a) = omega arith
 
+list_some : {m : _} (row : Row_of-Typed m) → row_nodes row ≤ list_nodes row
+list_some end_of-Typed = omega arith
+list_some (more_of-Typed e rest) = omega arith
+
 mutual
-  pub temps_few : (e : Typed) → temps_of e ≤ (extent_of e).nodes + 1
+  pub temps_few : (e : Typed) → temps_of e ≤ nodes_of e + 1
   temps_few (Comma' h x a y b) = omega (arith, temps_few a, nodes_some a, temps_few b, nodes_some b)
   temps_few (Assign' h x a o y b) = omega (arith, temps_few a, nodes_some a, temps_few b, nodes_some b)
   temps_few (Choice' h x c y a z b) = omega (arith, temps_few c, nodes_some c, temps_few a, nodes_some a, temps_few b, nodes_some b)
@@ -96,7 +100,7 @@ mutual
   temps_few (SizeOf' h x a) = omega (arith, temps_few a, nodes_some a)
   temps_few (SizeOfType h t) = omega arith
   temps_few (Index' h x a y b) = omega (arith, temps_few a, nodes_some a, temps_few b, nodes_some b)
-  temps_few (Call' h f x row) = omega (arith, row_few row)
+  temps_few (Call' h f x row) = omega (arith, row_few row, list_some row)
   temps_few (Dot' h x a m) = omega (arith, temps_few a, nodes_some a)
   temps_few (Arrow' h x a m) = omega (arith, temps_few a, nodes_some a)
   temps_few (After' h x a o) = omega (arith, temps_few a, nodes_some a)
@@ -105,7 +109,7 @@ mutual
   temps_few (Literal h m) = omega arith
   temps_few (Parens' h x a) = omega (arith, temps_few a, nodes_some a)
 
-  row_few : {m : _} (row : Row_of-Typed m) → row_temps row ≤ (extent_of_row row).nodes + 1
+  row_few : {m : _} (row : Row_of-Typed m) → row_temps row ≤ row_nodes row + 1
   row_few end_of-Typed = omega arith
   row_few (more_of-Typed e rest) = omega (arith, temps_few e, nodes_some e, row_few rest)
 

@@ -8,8 +8,8 @@ use Rattle.c_tree.specs.declared.typed.UnaryOp.{UnaryOp}
 use Rattle.c_tree.specs.Types.{kind_of, is_array}
 use Rattle.ldb_words.specs.declared.kinds.Kind.{Kind}
 use Rattle.ldb_words.specs.declared.kinds.Undef.TheVariants.{Pointer}
-use Rattle.runs.specs.Runs.{Next, Goes as GoesOn, Why, Stale, Reason}
-use Rattle.c_store.specs.Store.{Value, Number, Null, At, World, Cell, used, is_stale, load, store, moved, load_struct, store_struct, store_all, ◌>>=◌, leaf_at, may_write, written, or_pointer}
+use Rattle.runs.specs.Runs.{Next, Goes as GoesOn, Why, Stale, Reason, IllTyped}
+use Rattle.c_store.specs.Store.{Value, Number, Null, At, World, Cell, used, is_stale, load, store, moved, load_struct, store_struct, store_all, ◌>>=◌, leaf_at, may_write, may_hold, stored, written, or_pointer}
 use Rattle.c_store.specs.Frames.{Here, with_world, bound}
 use Rattle.c_source.specs.Blocks.{converted, cells_of}
 use Rattle.c_source.specs.Operators.{combined, changed, is_zero}
@@ -27,7 +27,7 @@ use Rattle.slot_ir.specs.Operators as slot_operators
 use Rattle.slot_ir.specs.Begin as beginning
 use Rattle.slot_gen.specs.Expressions.{access_of, cast_code, converting, unary_op, combine_op}
 use Rattle.slot_gen.proofs.Follow.{HasAt, has_front, has_back, Where, InTemp, InReg, Holds}
-use Rattle.slot_gen.proofs.Operators.{converted_same, combined_gives, changed_gives}
+use Rattle.slot_gen.proofs.Operators.{bind_same, converted_same, combined_gives, changed_gives}
 use Rattle.slot_gen.proofs.Match.{Setting, Ground, Answered, SameOutput, Cast, D, F, L, Steps, slot, now, code, again, none_step, pure_step, one_step, set_step, give_step, some_steps, one, cast, silent_then, put_same, put_other, put_above, puts, same_below}
 
 -- ---- what a store leaves as it was
@@ -36,16 +36,23 @@ abbrev KeepsOutput : World → Result World Why → Type 0
 KeepsOutput w (Ok w') = w'.output ≡ w.output
 KeepsOutput w (Err e) = Unit {0}
 
-store_keeps : (w : World) (k : Kind) (place v : Value) → KeepsOutput w (store w k place v)
-unfolding store
-store_keeps w k (Number n) v = tt
-store_keeps w k Null v = tt
-store_keeps w k (At o i) v = by (leaf_at w k (At o i)) (may_write w (At o i))
+stored_keeps : (w : World) (k : Kind) (place v : Value) → KeepsOutput w (stored w k place v)
+stored_keeps w k (Number n) v = tt
+stored_keeps w k Null v = tt
+stored_keeps w k (At o i) v = by (leaf_at w k (At o i)) (may_write w (At o i))
   where
     by : (q : Option Value) (b : Bool) → KeepsOutput w (or_pointer q >>= λ old. if b then Ok (written w k (At o i) v) else Err (Reason Pointer))
     by None b = tt
     by (Some x) true = refl
     by (Some x) false = tt
+
+store_keeps : (w : World) (k : Kind) (place v : Value) → KeepsOutput w (store w k place v)
+unfolding store
+store_keeps w k place v = by (may_hold k v)
+  where
+    by : (b : Bool) → KeepsOutput w (if b then stored w k place v else Err IllTyped)
+    by true = stored_keeps w k place v
+    by false = tt
 
 pub store_output : (w : World) (k : Kind) (place v : Value) (w' : World) → store w k place v ≡ Ok w' → w'.output ≡ w.output
 store_output w k place v w' e = subst (KeepsOutput w) e (store_keeps w k place v)
@@ -81,7 +88,7 @@ module _ (set : Setting) (g : Ground set) where
       set_step set g (Push Null ∷ k) k ws ws vs vs temps pc 1 Null (op.Null (length ws)) d (omega arith) d.follows.0 refl d.holds d.loops d.follows.2
   push_answers (At o i) k ws vs temps pc d = absurd d.follows.1
 
-  pub bound_answers : (x : ℕ) (k : List Item) (ws : List Where) (vs : List Value) (temps : Temps) (pc : ℕ) (q : Option ℕ) → bound x g.h.place.locals ≡ q → D set g ws vs (Bound x ∷ k) temps pc
+  pub bound_answers : (x : ℕ) (k : List Item) (ws : List Where) (vs : List Value) (temps : Temps) (pc : ℕ) (q : Option ℕ) → bound x g.h.activation.locals ≡ q → D set g ws vs (Bound x ∷ k) temps pc
       → Answered set (now set g vs (Bound x ∷ k)) (source.on_some q (λ o. GoesOn 1 (now set g (At o 0 ∷ vs) k))) (slot set g temps pc)
   bound_answers x k ws vs temps pc None e d = tt
   bound_answers x k ws vs temps pc (Some o) e d =
@@ -91,53 +98,56 @@ module _ (set : Setting) (g : Ground set) where
       d.follows
 
   -- what a load gives, converted to its type
-  read_gives : (t : CType) (place z : Value) (i : ℕ) (st : SlotState) → load st.here.world (kind_of t) place ≡ Ok z
-      → slots.gives set.c st i (slots.read st.here.world (kind_of t) (access_of t) place) ≡ slots.sets set.c st i (converted t z)
-  read_gives t place z i st e = ap (λ q. slots.gives set.c st i (q >>= λ v. Ok (extended (access_of t) v))) e ∙ ap (slots.sets set.c st i) (sym (converted_same t z))
+  read_gives : (t : CType) (place z : Value) (i : ℕ) (st : SlotState) → (load st.here.world (kind_of t) place >>= converted t) ≡ Ok z
+      → slots.gives set.c st i (slots.read st.here.world (kind_of t) (access_of t) place) ≡ slots.sets set.c st i z
+  read_gives t place z i st e = ap (slots.gives set.c st i) (sym (bind_same (load st.here.world (kind_of t) place) (converted t) (extended (access_of t)) (converted_same t)) ∙ e)
 
   pub load_answers : (b : Bool) (t : CType) (k : List Item) (ws : List Where) (a : Value) (vs : List Value) (temps : Temps) (pc : ℕ) → (d : D set g (InTemp ∷ ws) (a ∷ vs) (Load t ∷ k) temps pc)
       → HasAt (code set g) pc (if b then [] else op.Load (length ws) (length ws) (kind_of t) (access_of t) ∷ [])
       → F set g d.around (pc + length (if b then [] else op.Load (length ws) (length ws) (kind_of t) (access_of t) ∷ [])) (InTemp ∷ ws) k
-      → Answered set (now set g (a ∷ vs) (Load t ∷ k)) (if b then GoesOn 1 (now set g (a ∷ vs) k) else source.on_ok (load g.h.world (kind_of t) a) (λ x. GoesOn 2 (now set g (converted t x ∷ vs) k))) (slot set g temps pc)
+      → Answered set (now set g (a ∷ vs) (Load t ∷ k)) (if b then GoesOn 1 (now set g (a ∷ vs) k) else source.on_ok (load g.h.world (kind_of t) a >>= converted t) (λ x. GoesOn 2 (now set g (x ∷ vs) k))) (slot set g temps pc)
   load_answers true t k ws a vs temps pc d has f =
       let e : pc + 0 ≡ pc = omega arith in
       pure_step set g (Load t ∷ k) k (InTemp ∷ ws) (a ∷ vs) temps pc 1 d (omega arith) d.loops (subst (λ i. F set g d.around i (InTemp ∷ ws) k) e f)
   load_answers false t k ws a vs temps pc d has f =
       let st = slot set g temps pc in
-      give_step set g (Load t ∷ k) k (InTemp ∷ ws) ws (a ∷ vs) vs temps pc 2 (load g.h.world (kind_of t) a) (converted t) (op.Load (length ws) (length ws) (kind_of t) (access_of t)) d (omega arith) has.0
+      give_step set g (Load t ∷ k) k (InTemp ∷ ws) ws (a ∷ vs) vs temps pc 2 (load g.h.world (kind_of t) a >>= converted t) (λ z. z) (op.Load (length ws) (length ws) (kind_of t) (access_of t)) d (omega arith) has.0
       (λ z e. ap (λ o. slots.on_temp o (λ q. slots.gives set.c st (length ws) (slots.read g.h.world (kind_of t) (access_of t) q))) d.holds.0 ∙ read_gives t a z (length ws) st e)
       d.holds.1 d.loops f
 
   pub read_answers : (t : CType) (x : ℕ) (k : List Item) (ws : List Where) (a : Value) (vs : List Value) (temps : Temps) (pc : ℕ) → D set g (InReg x ∷ ws) (a ∷ vs) (Load t ∷ k) temps pc
-      → Answered set (now set g (a ∷ vs) (Load t ∷ k)) (if is_array t then GoesOn 1 (now set g (a ∷ vs) k) else source.on_ok (load g.h.world (kind_of t) a) (λ x. GoesOn 2 (now set g (converted t x ∷ vs) k))) (slot set g temps pc)
+      → Answered set (now set g (a ∷ vs) (Load t ∷ k)) (if is_array t then GoesOn 1 (now set g (a ∷ vs) k) else source.on_ok (load g.h.world (kind_of t) a >>= converted t) (λ x. GoesOn 2 (now set g (x ∷ vs) k))) (slot set g temps pc)
   read_answers t x k ws a vs temps pc d =
       let st = slot set g temps pc in
-      subst (λ b. Answered set (now set g (a ∷ vs) (Load t ∷ k)) (if b then GoesOn 1 (now set g (a ∷ vs) k) else source.on_ok (load g.h.world (kind_of t) a) (λ x. GoesOn 2 (now set g (converted t x ∷ vs) k))) st) (sym d.follows.0)
-      (give_step set g (Load t ∷ k) k (InReg x ∷ ws) ws (a ∷ vs) vs temps pc 2 (load g.h.world (kind_of t) a) (converted t) (op.ReadRegister (length ws) x (kind_of t) (access_of t)) d (omega arith) d.follows.1
+      subst (λ b. Answered set (now set g (a ∷ vs) (Load t ∷ k)) (if b then GoesOn 1 (now set g (a ∷ vs) k) else source.on_ok (load g.h.world (kind_of t) a >>= converted t) (λ x. GoesOn 2 (now set g (x ∷ vs) k))) st) (sym d.follows.0)
+      (give_step set g (Load t ∷ k) k (InReg x ∷ ws) ws (a ∷ vs) vs temps pc 2 (load g.h.world (kind_of t) a >>= converted t) (λ z. z) (op.ReadRegister (length ws) x (kind_of t) (access_of t)) d (omega arith) d.follows.1
       (λ z e. ap (λ o. slots.on_some o (λ q. slots.gives set.c st (length ws) (slots.read g.h.world (kind_of t) (access_of t) q))) d.holds.0 ∙ read_gives t a z (length ws) st e)
       d.holds.1 d.loops d.follows.2)
 
+  one_cast_answers : (a : Access) (t : CType) (k : List Item) (ws : List Where) (v : Value) (vs : List Value) (temps : Temps) (pc : ℕ) → (d : D set g (InTemp ∷ ws) (v ∷ vs) (Convert t ∷ k) temps pc)
+      → slice_get (code set g) pc ≡ Some (op.Convert (length ws) a) → F set g d.around (pc + 1) (InTemp ∷ ws) k
+      → Answered set (now set g (v ∷ vs) (Convert t ∷ k)) (source.on_ok (extended a v) (λ x. GoesOn 1 (now set g (x ∷ vs) k))) (slot set g temps pc)
+  one_cast_answers a t k ws v vs temps pc d has f =
+      let st = slot set g temps pc in
+      give_step set g (Convert t ∷ k) k (InTemp ∷ ws) ws (v ∷ vs) vs temps pc 1 (extended a v) (λ z. z) (op.Convert (length ws) a) d (omega arith) has
+      (λ z e. ap (λ o. slots.on_temp o (λ v. slots.gives set.c st (length ws) (extended a v))) d.holds.0 ∙ ap (slots.gives set.c st (length ws)) e) d.holds.1 d.loops f
+
   cast_answers : (a : Access) (t : CType) (k : List Item) (ws : List Where) (v : Value) (vs : List Value) (temps : Temps) (pc : ℕ) → (d : D set g (InTemp ∷ ws) (v ∷ vs) (Convert t ∷ k) temps pc)
       → HasAt (code set g) pc (converting (length ws) a) → F set g d.around (pc + length (converting (length ws) a)) (InTemp ∷ ws) k
-      → Answered set (now set g (v ∷ vs) (Convert t ∷ k)) (GoesOn 1 (now set g (extended a v ∷ vs) k)) (slot set g temps pc)
+      → Answered set (now set g (v ∷ vs) (Convert t ∷ k)) (source.on_ok (extended a v) (λ x. GoesOn 1 (now set g (x ∷ vs) k))) (slot set g temps pc)
   cast_answers access.Word t k ws v vs temps pc d has f =
       let e : pc + 0 ≡ pc = omega arith in
       pure_step set g (Convert t ∷ k) k (InTemp ∷ ws) (v ∷ vs) temps pc 1 d (omega arith) d.loops (subst (λ i. F set g d.around i (InTemp ∷ ws) k) e f)
-  cast_answers access.SignedByte t k ws v vs temps pc d has f =
-      set_step set g (Convert t ∷ k) k (InTemp ∷ ws) ws (v ∷ vs) vs temps pc 1 (extended access.SignedByte v) (op.Convert (length ws) access.SignedByte) d (omega arith) has.0 (ap (λ o. slots.on_temp o (λ v. slots.sets set.c (slot set g temps pc) (length ws) (extended access.SignedByte v))) d.holds.0) d.holds.1 d.loops f
-  cast_answers access.UnsignedByte t k ws v vs temps pc d has f =
-      set_step set g (Convert t ∷ k) k (InTemp ∷ ws) ws (v ∷ vs) vs temps pc 1 (extended access.UnsignedByte v) (op.Convert (length ws) access.UnsignedByte) d (omega arith) has.0 (ap (λ o. slots.on_temp o (λ v. slots.sets set.c (slot set g temps pc) (length ws) (extended access.UnsignedByte v))) d.holds.0) d.holds.1 d.loops f
-  cast_answers access.SignedHalf t k ws v vs temps pc d has f =
-      set_step set g (Convert t ∷ k) k (InTemp ∷ ws) ws (v ∷ vs) vs temps pc 1 (extended access.SignedHalf v) (op.Convert (length ws) access.SignedHalf) d (omega arith) has.0 (ap (λ o. slots.on_temp o (λ v. slots.sets set.c (slot set g temps pc) (length ws) (extended access.SignedHalf v))) d.holds.0) d.holds.1 d.loops f
-  cast_answers access.UnsignedHalf t k ws v vs temps pc d has f =
-      set_step set g (Convert t ∷ k) k (InTemp ∷ ws) ws (v ∷ vs) vs temps pc 1 (extended access.UnsignedHalf v) (op.Convert (length ws) access.UnsignedHalf) d (omega arith) has.0 (ap (λ o. slots.on_temp o (λ v. slots.sets set.c (slot set g temps pc) (length ws) (extended access.UnsignedHalf v))) d.holds.0) d.holds.1 d.loops f
-  cast_answers access.Pointer t k ws v vs temps pc d has f =
-      set_step set g (Convert t ∷ k) k (InTemp ∷ ws) ws (v ∷ vs) vs temps pc 1 (extended access.Pointer v) (op.Convert (length ws) access.Pointer) d (omega arith) has.0 (ap (λ o. slots.on_temp o (λ v. slots.sets set.c (slot set g temps pc) (length ws) (extended access.Pointer v))) d.holds.0) d.holds.1 d.loops f
+  cast_answers access.SignedByte t k ws v vs temps pc d has f = one_cast_answers access.SignedByte t k ws v vs temps pc d has.0 f
+  cast_answers access.UnsignedByte t k ws v vs temps pc d has f = one_cast_answers access.UnsignedByte t k ws v vs temps pc d has.0 f
+  cast_answers access.SignedHalf t k ws v vs temps pc d has f = one_cast_answers access.SignedHalf t k ws v vs temps pc d has.0 f
+  cast_answers access.UnsignedHalf t k ws v vs temps pc d has f = one_cast_answers access.UnsignedHalf t k ws v vs temps pc d has.0 f
+  cast_answers access.Pointer t k ws v vs temps pc d has f = one_cast_answers access.Pointer t k ws v vs temps pc d has.0 f
 
   pub convert_answers : (t : CType) (k : List Item) (ws : List Where) (v : Value) (vs : List Value) (temps : Temps) (pc : ℕ) → D set g (InTemp ∷ ws) (v ∷ vs) (Convert t ∷ k) temps pc
-      → Answered set (now set g (v ∷ vs) (Convert t ∷ k)) (GoesOn 1 (now set g (converted t v ∷ vs) k)) (slot set g temps pc)
+      → Answered set (now set g (v ∷ vs) (Convert t ∷ k)) (source.on_ok (converted t v) (λ x. GoesOn 1 (now set g (x ∷ vs) k))) (slot set g temps pc)
   convert_answers t k ws v vs temps pc d =
-      subst (λ x. Answered set (now set g (v ∷ vs) (Convert t ∷ k)) (GoesOn 1 (now set g (x ∷ vs) k)) (slot set g temps pc)) (sym (converted_same t v))
+      subst (λ q. Answered set (now set g (v ∷ vs) (Convert t ∷ k)) (source.on_ok q (λ x. GoesOn 1 (now set g (x ∷ vs) k))) (slot set g temps pc)) (sym (converted_same t v))
       (cast_answers (access_of t) t k ws v vs temps pc d d.follows.0 d.follows.1)
 
   -- ---- what writes
@@ -159,49 +169,58 @@ module _ (set : Setting) (g : Ground set) where
       (1, 1, u, omega arith, first, (1, 0, written_to w (with_temp temps d x) (pc + 1 + 1), omega arith, second, (refl, refl), store_output g.h.world kind place v w e ∙ q), q)
 
   -- the value in temporary d + 1 is converted and written, and taken into d
-  store_by : (t : CType) (k0 k : List Item) (ws ws0 : List Where) (v place : Value) (vs vs0 : List Value) (temps : Temps) (pc : ℕ) (wr : SlotOp) (q : Result World Why) → store g.h.world (kind_of t) place (converted t v) ≡ q
+  store_by : (t : CType) (k0 k : List Item) (ws ws0 : List Where) (v z place : Value) (vs vs0 : List Value) (temps : Temps) (pc : ℕ) (wr : SlotOp) (q : Result World Why) → converted t v ≡ Ok z → store g.h.world (kind_of t) place z ≡ q
       → (d : D set g ws0 vs0 k0 temps pc)
-      → temps (suc (length ws)) ≡ Some v → Holds g.h.place temps ws vs → L set g d.around k
+      → temps (suc (length ws)) ≡ Some v → Holds g.h.activation temps ws vs → L set g d.around k
       → ((after : Temps) (pc' : ℕ) → ((x : ℕ) → x < suc (length ws) → after x ≡ temps x) → slots.act set.c (slot set g after pc') wr ≡ slots.writes set.c (slot set g after pc') (kind_of t) place (suc (length ws)))
       → HasAt (code set g) pc (cast_code (suc (length ws)) t ++ wr ∷ op.Take (length ws) (suc (length ws)) ∷ [])
       → F set g d.around (pc + length (cast_code (suc (length ws)) t ++ wr ∷ op.Take (length ws) (suc (length ws)) ∷ [])) (InTemp ∷ ws) k
-      → Answered set (now set g vs0 k0) (source.on_ok q (λ w. GoesOn 2 (record { here = with_world g.h w; values = converted t v ∷ vs; control = k; outer = g.outer }))) (slot set g temps pc)
-  store_by t k0 k ws ws0 v place vs vs0 temps pc wr (Err x) e d tv hs l acts has f = tt
-  store_by t k0 k ws ws0 v place vs vs0 temps pc wr (Ok w) e d tv hs l acts has f =
+      → Answered set (now set g vs0 k0) (source.on_ok q (λ w. GoesOn 2 (record { here = with_world g.h w; values = z ∷ vs; control = k; outer = g.outer }))) (slot set g temps pc)
+  store_by t k0 k ws ws0 v z place vs vs0 temps pc wr (Err x) ez e d tv hs l acts has f = tt
+  store_by t k0 k ws ws0 v z place vs vs0 temps pc wr (Ok w) ez e d tv hs l acts has f =
       let n = length ws in
       let o = now set g vs0 k0 in
       let co = code set g in
       let cs = cast_code (suc n) t in
       let last = wr ∷ op.Take n (suc n) ∷ [] in
-      let m : Cast set g o (suc n) (access_of t) v temps pc = cast set g o (suc n) (access_of t) v temps pc refl tv (has_front co pc cs last has) in
+      let m : Cast set g o (suc n) (access_of t) z temps pc = cast set g o (suc n) (access_of t) v z temps pc refl tv (sym (converted_same t v) ∙ ez) (has_front co pc cs last has) in
       let hl = has_back co pc cs last has in
-      let value = m.value ∙ ap Some (sym (converted_same t v)) in
-      let two = write_then_take o (kind_of t) place (converted t v) (converted t v) w m.after (pc + length cs) n (suc n) (suc n) wr refl e (acts m.after (pc + length cs) m.below) value hl.0 value hl.1.0 in
-      let all = silent_then SlotState (slots.step set.c) (beginning.acted set.hist) (SameOutput set o) m.count 2 m.count 2 (slot set g temps pc) (slot set g m.after (pc + length cs)) (written_to w (with_temp m.after n (converted t v)) (pc + length cs + 1 + 1)) m.steps two in
+      let value = m.value in
+      let two = write_then_take o (kind_of t) place z z w m.after (pc + length cs) n (suc n) (suc n) wr refl e (acts m.after (pc + length cs) m.below) value hl.0 value hl.1.0 in
+      let all = silent_then SlotState (slots.step set.c) (beginning.acted set.hist) (SameOutput set o) m.count 2 m.count 2 (slot set g temps pc) (slot set g m.after (pc + length cs)) (written_to w (with_temp m.after n z) (pc + length cs + 1 + 1)) m.steps two in
       let len : pc + length (cs ++ last) ≡ pc + length cs + 1 + 1 = omega (arith, length-append cs last) in
-      some_steps set g o _ (slot set g temps pc) (written_to w (with_temp m.after n (converted t v)) (pc + length cs + 1 + 1)) 2 (m.count + 2) (m.count + 2) (omega arith) (omega (arith, m.bounded)) all
+      some_steps set g o _ (slot set g temps pc) (written_to w (with_temp m.after n z) (pc + length cs + 1 + 1)) 2 (m.count + 2) (m.count + 2) (omega arith) (omega (arith, m.bounded)) all
       (record {
         same = refl;
         ws = InTemp ∷ ws;
-        doing = again set g ws0 (InTemp ∷ ws) vs0 (converted t v ∷ vs) k0 k temps (with_temp m.after n (converted t v)) pc (pc + length cs + 1 + 1) d
-            (puts g.h.place m.after (converted t v) ws vs (same_below g.h.place temps m.after n ws vs (omega arith) (λ x lt. m.below x (omega (arith, lt))) hs)) l (subst (λ i. F set g d.around i (InTemp ∷ ws) k) len f);
+        doing = again set g ws0 (InTemp ∷ ws) vs0 (z ∷ vs) k0 k temps (with_temp m.after n z) pc (pc + length cs + 1 + 1) d
+            (puts g.h.activation m.after z ws vs (same_below g.h.activation temps m.after n ws vs (omega arith) (λ x lt. m.below x (omega (arith, lt))) hs)) l (subst (λ i. F set g d.around i (InTemp ∷ ws) k) len f);
         outer = g.out;
       })
 
-  -- MORE
   pub store_answers : (t : CType) (k : List Item) (ws : List Where) (v place : Value) (vs : List Value) (temps : Temps) (pc : ℕ) → D set g (InTemp ∷ InTemp ∷ ws) (v ∷ place ∷ vs) (Store t ∷ k) temps pc
-      → Answered set (now set g (v ∷ place ∷ vs) (Store t ∷ k)) (source.write set.p g.h g.outer t place (converted t v) (converted t v) vs k) (slot set g temps pc)
-  store_answers t k ws v place vs temps pc d =
-      store_by t (Store t ∷ k) k ws (InTemp ∷ InTemp ∷ ws) v place vs (v ∷ place ∷ vs) temps pc (op.Store (length ws) (suc (length ws)) (kind_of t)) (store g.h.world (kind_of t) place (converted t v)) refl d d.holds.0 d.holds.1.1 d.loops
-      (λ after pc' below. ap (λ q. slots.on_temp q (λ x. slots.writes set.c (slot set g after pc') (kind_of t) x (suc (length ws)))) (below (length ws) (omega arith) ∙ d.holds.1.0))
-      d.follows.0 d.follows.1
+      → Answered set (now set g (v ∷ place ∷ vs) (Store t ∷ k)) (source.write set.p g.h g.outer t place v vs k) (slot set g temps pc)
+  store_answers t k ws v place vs temps pc d = by (converted t v) refl
+    where
+      by : (q : Result Value Why) → converted t v ≡ q
+          → Answered set (now set g (v ∷ place ∷ vs) (Store t ∷ k)) (source.on_ok q (λ x. source.on_ok (store g.h.world (kind_of t) place x) (λ w. GoesOn 2 (record { here = with_world g.h w; values = x ∷ vs; control = k; outer = g.outer })))) (slot set g temps pc)
+      by (Err e) eq = tt
+      by (Ok z) eq =
+          store_by t (Store t ∷ k) k ws (InTemp ∷ InTemp ∷ ws) v z place vs (v ∷ place ∷ vs) temps pc (op.Store (length ws) (suc (length ws)) (kind_of t)) (store g.h.world (kind_of t) place z) eq refl d d.holds.0 d.holds.1.1 d.loops
+          (λ after pc' below. ap (λ q. slots.on_temp q (λ x. slots.writes set.c (slot set g after pc') (kind_of t) x (suc (length ws)))) (below (length ws) (omega arith) ∙ d.holds.1.0))
+          d.follows.0 d.follows.1
 
   pub write_answers : (t : CType) (x : ℕ) (k : List Item) (ws : List Where) (v place : Value) (vs : List Value) (temps : Temps) (pc : ℕ) → D set g (InTemp ∷ InReg x ∷ ws) (v ∷ place ∷ vs) (Store t ∷ k) temps pc
-      → Answered set (now set g (v ∷ place ∷ vs) (Store t ∷ k)) (source.write set.p g.h g.outer t place (converted t v) (converted t v) vs k) (slot set g temps pc)
-  write_answers t x k ws v place vs temps pc d =
-      store_by t (Store t ∷ k) k ws (InTemp ∷ InReg x ∷ ws) v place vs (v ∷ place ∷ vs) temps pc (op.WriteRegister (suc (length ws)) x (kind_of t)) (store g.h.world (kind_of t) place (converted t v)) refl d d.holds.0 d.holds.1.1 d.loops
-      (λ after pc' below. ap (λ q. slots.on_some q (λ y. slots.writes set.c (slot set g after pc') (kind_of t) y (suc (length ws)))) d.holds.1.0)
-      d.follows.0 d.follows.1
+      → Answered set (now set g (v ∷ place ∷ vs) (Store t ∷ k)) (source.write set.p g.h g.outer t place v vs k) (slot set g temps pc)
+  write_answers t x k ws v place vs temps pc d = by (converted t v) refl
+    where
+      by : (q : Result Value Why) → converted t v ≡ q
+          → Answered set (now set g (v ∷ place ∷ vs) (Store t ∷ k)) (source.on_ok q (λ x. source.on_ok (store g.h.world (kind_of t) place x) (λ w. GoesOn 2 (record { here = with_world g.h w; values = x ∷ vs; control = k; outer = g.outer })))) (slot set g temps pc)
+      by (Err e) eq = tt
+      by (Ok z) eq =
+          store_by t (Store t ∷ k) k ws (InTemp ∷ InReg x ∷ ws) v z place vs (v ∷ place ∷ vs) temps pc (op.WriteRegister (suc (length ws)) x (kind_of t)) (store g.h.world (kind_of t) place z) eq refl d d.holds.0 d.holds.1.1 d.loops
+          (λ after pc' below. ap (λ q. slots.on_some q (λ y. slots.writes set.c (slot set g after pc') (kind_of t) y (suc (length ws)))) d.holds.1.0)
+          d.follows.0 d.follows.1
 
   -- ---- compound assignment: the old value, the operation, the conversion, the write, and the value that is taken
   module _ (t : CType) (bo : BinaryOp) (s : CType) (new : Bool) (k0 k : List Item) (ws ws0 : List Where) (y place : Value) (vs vs0 : List Value) (temps : Temps) (pc : ℕ) (lo wr : SlotOp) (d : D set g ws0 vs0 k0 temps pc) where
@@ -221,47 +240,47 @@ module _ (set : Setting) (g : Ground set) where
     rest_code = combine_op set.p (suc n) (suc (suc n)) (suc n) bo t s ∷ (cast_code (suc n) t ++ last)
 
     abbrev with_old : Value → Temps
-    with_old old = with_temp temps (suc (suc n)) (converted t old)
+    with_old old = with_temp temps (suc (suc n)) old
 
     abbrev with_both : Value → Value → Temps
     with_both old x = with_temp (with_old old) (suc n) x
 
     -- the value of the assignment
-    taken_value : (b : Bool) (old x : Value) (m : Temps) → m (suc n) ≡ Some (converted t x) → m (suc (suc n)) ≡ Some (converted t old) → m (if b then suc n else suc (suc n)) ≡ Some (converted t (if b then x else old))
-    taken_value true old x m a c = a
-    taken_value false old x m a c = c
+    taken_value : (b : Bool) (old z : Value) (m : Temps) → m (suc n) ≡ Some z → m (suc (suc n)) ≡ Some old → m (if b then suc n else suc (suc n)) ≡ Some (if b then z else old)
+    taken_value true old z m a c = a
+    taken_value false old z m a c = c
 
-    update_done : (old x : Value) (w : World) → load g.h.world (kind_of t) place ≡ Ok old
-        → temps (suc n) ≡ Some y → Holds g.h.place temps ws vs → L set g d.around k
+    update_done : (old x z : Value) (w : World) → (load g.h.world (kind_of t) place >>= converted t) ≡ Ok old
+        → temps (suc n) ≡ Some y → Holds g.h.activation temps ws vs → L set g d.around k
         → slots.act set.c (slot set g temps pc) lo ≡ slots.gives set.c (slot set g temps pc) (suc (suc n)) (slots.read g.h.world (kind_of t) (access_of t) place)
         → ((after : Temps) (pc' : ℕ) → ((x : ℕ) → x < suc n → after x ≡ temps x) → slots.act set.c (slot set g after pc') wr ≡ slots.writes set.c (slot set g after pc') (kind_of t) place (suc n))
         → HasAt (code set g) pc (lo ∷ rest_code) → F set g d.around (pc + length (lo ∷ rest_code)) (InTemp ∷ ws) k
-        → combined set.p.defs g.h.world bo t s (converted t old) y ≡ Ok x → store g.h.world (kind_of t) place (converted t x) ≡ Ok w
-        → Answered set o (GoesOn 3 (record { here = with_world g.h w; values = converted t (if new then x else old) ∷ vs; control = k; outer = g.outer })) (slot set g temps pc)
-    update_done old x w ea ty hs l la wa has f eq ew =
-        let result = converted t (if new then x else old) in
+        → combined set.p.defs g.h.world bo t s old y ≡ Ok x → converted t x ≡ Ok z → store g.h.world (kind_of t) place z ≡ Ok w
+        → Answered set o (GoesOn 3 (record { here = with_world g.h w; values = (if new then z else old) ∷ vs; control = k; outer = g.outer })) (slot set g temps pc)
+    update_done old x z w ea ty hs l la wa has f eq ez ew =
+        let result = if new then z else old in
         let co = code set g in
         let cs = cast_code (suc n) t in
         let one_up = slot set g (with_old old) (pc + 1) in
         let loaded : Steps set g o 1 1 (slot set g temps pc) one_up = one set g o temps pc 1 lo one_up refl has.0 (la ∙ read_gives t place old (suc (suc n)) (slot set g temps pc) ea) in
         let two_up = slot set g (with_both old x) (pc + 1 + 1) in
         let comb = combine_op set.p (suc n) (suc (suc n)) (suc n) bo t s in
-        let y_there = put_other temps (suc (suc n)) (suc n) (converted t old) (omega arith) ∙ ty in
+        let y_there = put_other temps (suc (suc n)) (suc n) old (omega arith) ∙ ty in
         let operated : Steps set g o 1 1 one_up two_up =
         one set g o (with_old old) (pc + 1) 1 comb two_up refl has.1.0
-        (combined_gives set.c one_up set.p (suc n) (suc (suc n)) (suc n) (converted t old) y (put_same temps (suc (suc n)) (converted t old)) y_there bo t s x eq) in
+        (combined_gives set.c one_up set.p (suc n) (suc (suc n)) (suc n) old y (put_same temps (suc (suc n)) old) y_there bo t s x eq) in
         let x_there = put_same (with_old old) (suc n) x in
-        let old_there = put_above (with_old old) (suc n) (suc (suc n)) x (omega arith) ∙ put_same temps (suc (suc n)) (converted t old) in
+        let old_there = put_above (with_old old) (suc n) (suc (suc n)) x (omega arith) ∙ put_same temps (suc (suc n)) old in
         let hc = has.1.1 in
-        let m : Cast set g o (suc n) (access_of t) x (with_both old x) (pc + 1 + 1) = cast set g o (suc n) (access_of t) x (with_both old x) (pc + 1 + 1) refl x_there (has_front co (pc + 1 + 1) cs last hc) in
+        let m : Cast set g o (suc n) (access_of t) z (with_both old x) (pc + 1 + 1) = cast set g o (suc n) (access_of t) x z (with_both old x) (pc + 1 + 1) refl x_there (sym (converted_same t x) ∙ ez) (has_front co (pc + 1 + 1) cs last hc) in
         let hl = has_back co (pc + 1 + 1) cs last hc in
         let at = pc + 1 + 1 + length cs in
-        let new_there = m.value ∙ ap Some (sym (converted_same t x)) in
+        let new_there = m.value in
         let kept_there = m.above (suc (suc n)) (omega arith) ∙ old_there in
         let below : (i : ℕ) → i < suc n → m.after i ≡ temps i =
-        (λ i lt. m.below i lt ∙ put_other (with_old old) (suc n) i x lt ∙ put_other temps (suc (suc n)) i (converted t old) (omega (arith, lt))) in
+        (λ i lt. m.below i lt ∙ put_other (with_old old) (suc n) i x lt ∙ put_other temps (suc (suc n)) i old (omega (arith, lt))) in
         let end = written_to w (with_temp m.after n result) (at + 1 + 1) in
-        let wrote = write_then_take o (kind_of t) place (converted t x) result w m.after at n taken (suc n) wr refl ew (wa m.after at below) new_there hl.0 (taken_value new old x m.after new_there kept_there) hl.1.0 in
+        let wrote = write_then_take o (kind_of t) place z result w m.after at n taken (suc n) wr refl ew (wa m.after at below) new_there hl.0 (taken_value new old z m.after new_there kept_there) hl.1.0 in
         let chain = silent_then SlotState (slots.step set.c) (beginning.acted set.hist) (SameOutput set o) in
         let all = chain 1 (1 + (m.count + 2)) 1 (1 + (m.count + 2)) (slot set g temps pc) one_up end loaded (chain 1 (m.count + 2) 1 (m.count + 2) one_up two_up end operated (chain m.count 2 m.count 2 two_up (slot set g m.after at) end m.steps wrote)) in
         let len : pc + length (lo ∷ rest_code) ≡ at + 1 + 1 = omega (arith, length-append cs last) in
@@ -270,37 +289,42 @@ module _ (set : Setting) (g : Ground set) where
           same = refl;
           ws = InTemp ∷ ws;
           doing = again set g ws0 (InTemp ∷ ws) vs0 (result ∷ vs) k0 k temps (with_temp m.after n result) pc (at + 1 + 1) d
-              (puts g.h.place m.after result ws vs (same_below g.h.place temps m.after n ws vs (omega arith) (λ i lt. below i (omega (arith, lt))) hs)) l (subst (λ i. F set g d.around i (InTemp ∷ ws) k) len f);
+              (puts g.h.activation m.after result ws vs (same_below g.h.activation temps m.after n ws vs (omega arith) (λ i lt. below i (omega (arith, lt))) hs)) l (subst (λ i. F set g d.around i (InTemp ∷ ws) k) len f);
           outer = g.out;
         })
 
-    update_by : (a : Result Value Why) (ea : load g.h.world (kind_of t) place ≡ a)
-        → temps (suc n) ≡ Some y → Holds g.h.place temps ws vs → L set g d.around k
+    abbrev rest : Value → Value → Next State
+    rest old x = source.on_ok (store g.h.world (kind_of t) place x) (λ w. GoesOn 3 (record { here = with_world g.h w; values = (if new then x else old) ∷ vs; control = k; outer = g.outer }))
+
+    update_by : (a : Result Value Why) (ea : (load g.h.world (kind_of t) place >>= converted t) ≡ a)
+        → temps (suc n) ≡ Some y → Holds g.h.activation temps ws vs → L set g d.around k
         → slots.act set.c (slot set g temps pc) lo ≡ slots.gives set.c (slot set g temps pc) (suc (suc n)) (slots.read g.h.world (kind_of t) (access_of t) place)
         → ((after : Temps) (pc' : ℕ) → ((x : ℕ) → x < suc n → after x ≡ temps x) → slots.act set.c (slot set g after pc') wr ≡ slots.writes set.c (slot set g after pc') (kind_of t) place (suc n))
         → HasAt (code set g) pc (lo ∷ rest_code) → F set g d.around (pc + length (lo ∷ rest_code)) (InTemp ∷ ws) k
         → Answered set o (source.on_ok a (λ old.
-        source.on_ok (combined set.p.defs g.h.world bo t s (converted t old) y) (λ x.
-        source.on_ok (store g.h.world (kind_of t) place (converted t x)) (λ w. GoesOn 3 (record { here = with_world g.h w; values = converted t (if new then x else old) ∷ vs; control = k; outer = g.outer }))))) (slot set g temps pc)
+        source.on_ok (combined set.p.defs g.h.world bo t s old y >>= converted t) (λ x.
+        source.on_ok (store g.h.world (kind_of t) place x) (λ w. GoesOn 3 (record { here = with_world g.h w; values = (if new then x else old) ∷ vs; control = k; outer = g.outer }))))) (slot set g temps pc)
     update_by (Err e) ea ty hs l la wa has f = tt
-    update_by (Ok old) ea ty hs l la wa has f = by_operation (combined set.p.defs g.h.world bo t s (converted t old) y) refl
+    update_by (Ok old) ea ty hs l la wa has f = by_operation (combined set.p.defs g.h.world bo t s old y) refl
       where
-        by_operation : (q : Result Value Why) → combined set.p.defs g.h.world bo t s (converted t old) y ≡ q
-            → Answered set o (source.on_ok q (λ x.
-            source.on_ok (store g.h.world (kind_of t) place (converted t x)) (λ w. GoesOn 3 (record { here = with_world g.h w; values = converted t (if new then x else old) ∷ vs; control = k; outer = g.outer })))) (slot set g temps pc)
+        by_write : (x z : Value) → combined set.p.defs g.h.world bo t s old y ≡ Ok x → converted t x ≡ Ok z → (q : Result World Why) → store g.h.world (kind_of t) place z ≡ q
+            → Answered set o (source.on_ok q (λ w. GoesOn 3 (record { here = with_world g.h w; values = (if new then z else old) ∷ vs; control = k; outer = g.outer }))) (slot set g temps pc)
+        by_write x z eq ez (Err e) ew = tt
+        by_write x z eq ez (Ok w) ew = update_done old x z w ea ty hs l la wa has f eq ez ew
+
+        by_convert : (x : Value) → combined set.p.defs g.h.world bo t s old y ≡ Ok x → (q : Result Value Why) → converted t x ≡ q → Answered set o (source.on_ok q (rest old)) (slot set g temps pc)
+        by_convert x eq (Err e) ez = tt
+        by_convert x eq (Ok z) ez = by_write x z eq ez (store g.h.world (kind_of t) place z) refl
+
+        by_operation : (q : Result Value Why) → combined set.p.defs g.h.world bo t s old y ≡ q → Answered set o (source.on_ok (q >>= converted t) (rest old)) (slot set g temps pc)
         by_operation (Err e) eq = tt
-        by_operation (Ok x) eq = by_write (store g.h.world (kind_of t) place (converted t x)) refl
-          where
-            by_write : (q : Result World Why) → store g.h.world (kind_of t) place (converted t x) ≡ q
-                → Answered set o (source.on_ok q (λ w. GoesOn 3 (record { here = with_world g.h w; values = converted t (if new then x else old) ∷ vs; control = k; outer = g.outer }))) (slot set g temps pc)
-            by_write (Err e) ew = tt
-            by_write (Ok w) ew = update_done old x w ea ty hs l la wa has f eq ew
+        by_operation (Ok x) eq = by_convert x eq (converted t x) refl
 
   pub update_answers : (t : CType) (bo : BinaryOp) (s : CType) (new : Bool) (k : List Item) (ws : List Where) (y place : Value) (vs : List Value) (temps : Temps) (pc : ℕ) → D set g (InTemp ∷ InTemp ∷ ws) (y ∷ place ∷ vs) (Update t bo s new ∷ k) temps pc
       → Answered set (now set g (y ∷ place ∷ vs) (Update t bo s new ∷ k)) (source.update set.p g.h g.outer t bo s new place y vs k) (slot set g temps pc)
   update_answers t bo s new k ws y place vs temps pc d =
       update_by t bo s new (Update t bo s new ∷ k) k ws (InTemp ∷ InTemp ∷ ws) y place vs (y ∷ place ∷ vs) temps pc (op.Load (suc (suc (length ws))) (length ws) (kind_of t) (access_of t)) (op.Store (length ws) (suc (length ws)) (kind_of t)) d
-      (load g.h.world (kind_of t) place) refl d.holds.0 d.holds.1.1 d.loops
+      (load g.h.world (kind_of t) place >>= converted t) refl d.holds.0 d.holds.1.1 d.loops
       (ap (λ q. slots.on_temp q (λ x. slots.gives set.c (slot set g temps pc) (suc (suc (length ws))) (slots.read g.h.world (kind_of t) (access_of t) x))) d.holds.1.0)
       (λ after pc' below. ap (λ q. slots.on_temp q (λ x. slots.writes set.c (slot set g after pc') (kind_of t) x (suc (length ws)))) (below (length ws) (omega arith) ∙ d.holds.1.0))
       d.follows.0 d.follows.1
@@ -309,7 +333,7 @@ module _ (set : Setting) (g : Ground set) where
       → Answered set (now set g (y ∷ place ∷ vs) (Update t bo s new ∷ k)) (source.update set.p g.h g.outer t bo s new place y vs k) (slot set g temps pc)
   change_answers t bo s new x k ws y place vs temps pc d =
       update_by t bo s new (Update t bo s new ∷ k) k ws (InTemp ∷ InReg x ∷ ws) y place vs (y ∷ place ∷ vs) temps pc (op.ReadRegister (suc (suc (length ws))) x (kind_of t) (access_of t)) (op.WriteRegister (suc (length ws)) x (kind_of t)) d
-      (load g.h.world (kind_of t) place) refl d.holds.0 d.holds.1.1 d.loops
+      (load g.h.world (kind_of t) place >>= converted t) refl d.holds.0 d.holds.1.1 d.loops
       (ap (λ q. slots.on_some q (λ x. slots.gives set.c (slot set g temps pc) (suc (suc (length ws))) (slots.read g.h.world (kind_of t) (access_of t) x))) d.holds.1.0)
       (λ after pc' below. ap (λ q. slots.on_some q (λ x. slots.writes set.c (slot set g after pc') (kind_of t) x (suc (length ws)))) d.holds.1.0)
       d.follows.0 d.follows.1
@@ -432,6 +456,6 @@ module _ (set : Setting) (g : Ground set) where
           (record {
             same = refl;
             ws = InTemp ∷ ws;
-            doing = again set g (InTemp ∷ InTemp ∷ ws) (InTemp ∷ ws) (from ∷ to ∷ vs) (Number 0 ∷ vs) (Copy (Struct s) ∷ k) k temps (with_temp temps i (Number 0)) pc (pc + 1 + 1) d (puts g.h.place temps (Number 0) ws vs d.holds.1.1) d.loops f;
+            doing = again set g (InTemp ∷ InTemp ∷ ws) (InTemp ∷ ws) (from ∷ to ∷ vs) (Number 0 ∷ vs) (Copy (Struct s) ∷ k) k temps (with_temp temps i (Number 0)) pc (pc + 1 + 1) d (puts g.h.activation temps (Number 0) ws vs d.holds.1.1) d.loops f;
             outer = g.out;
           })

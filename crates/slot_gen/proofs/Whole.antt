@@ -1,10 +1,10 @@
 -- Whole runs of a program are shown by its code, and nothing else is.
-use Rattle.std.proofs.Common.{◌≡◌, ◌≢◌, ℕ, suc, List, [], ◌∷◌, Option, Some, None, refl, sym, ap, ◌∙◌, subst}
+use Rattle.std.proofs.Common.{◌≡◌, ℕ, suc, List, [], ◌∷◌, Option, Some, None, refl, sym, ap, ◌∙◌, subst}
 use Rattle.std.specs.Prelude.{ℤ}
 use Rattle.c_tree.specs.declared.rows.Program.{Program}
-use Rattle.runs.specs.Runs.{Moment, Outcome, Reached, Breaks, Nowhere}
-use Rattle.runs.proofs.Simulate.{Agrees, Related, Reaches, simulates, Covered, CoveredBy, UpTo, covers}
-use Rattle.c_store.specs.Frames.{Here, with_world, new_place}
+use Rattle.runs.specs.Runs.{Moment, Outcome, Reached}
+use Rattle.runs.proofs.Simulate.{Related, Meets, LiesBetween, at, meets, ascends, between, takes, comes_to}
+use Rattle.c_store.specs.Frames.{Here, with_world, new_activation}
 use Rattle.c_store.specs.Assigned.{all_assigned, at_stop}
 use Rattle.c_source.specs.Control.{State}
 use Rattle.c_source.specs.Source as source
@@ -14,9 +14,9 @@ use Rattle.slot_ir.specs.declared.code.SlotCode.{SlotCode}
 use Rattle.slot_ir.specs.Slots.{SlotState, no_temps}
 use Rattle.slot_ir.specs.Slots as slots
 use Rattle.slot_ir.specs.Begin as beginning
-use Rattle.slot_gen.specs.Correct.{IsCodeOf, HasMain, Shows, IsWithin, IsShown, source_after, slots_after, Lowers}
+use Rattle.slot_gen.specs.Correct.{IsCodeOf, HasMain, Shows, ShowsNoMore, source_after, slots_after, Follows, Lowers}
 use Rattle.slot_gen.proofs.Match.{Setting, Doing, Matches, Ends, SameOutput, left_over}
-use Rattle.slot_gen.proofs.Calls.{begins, outer_places}
+use Rattle.slot_gen.proofs.Calls.{begins, outer_records}
 use Rattle.slot_gen.proofs.Step.{step_answers}
 
 module _ (set : Setting) where
@@ -28,75 +28,71 @@ module _ (set : Setting) where
     outer = m.outer;
   }
 
-  abbrev Agreed : Moment State → Moment SlotState → Type 0
-  Agreed = Agrees State SlotState (source.step set.p) (slots.step set.c) (sources.acted set.hist) (beginning.acted set.hist) 2 (Matches set) (Ends set) (SameOutput set) (left_over set)
-
   abbrev RelatedBy : Option ℤ → State → SlotState → Type 0
   RelatedBy = Related State SlotState (source.step set.p) (slots.step set.c) (sources.acted set.hist) (beginning.acted set.hist) 2 (Matches set) (Ends set) (SameOutput set) (left_over set)
 
-  shows : (m : Moment State) (k : Moment SlotState) → Agreed m k → Shows m k
-  shows m k a =
-      let both : Ends set m.state k.state = seen m.exit m.state k.state a.states in
-      record { passed = a.passed; world = ap (λ (h : Here). h.world) both.0; places = both.1; exit = a.exit; count = a.count }
-    where
-      seen : (x : Option ℤ) (s : State) (t : SlotState) → RelatedBy x s t → Ends set s t
-      seen None s t m = (m.same, ap (λ (h : Here). h.place ∷ beginning.outer_places t.outer) m.same ∙ ap (λ l. s.here.place ∷ l) (outer_places set s.outer t.outer t.result_at m.outer))
-      seen (Some n) s t e = e
+  seen : (x : Option ℤ) (s : State) (t : SlotState) → RelatedBy x s t → Ends set s t
+  seen None s t m = (m.same, ap (λ (h : Here). h.activation ∷ beginning.outer_records t.outer) m.same ∙ ap (λ l. s.here.activation ∷ l) (outer_records set s.outer t.outer t.result_at m.outer))
+  seen (Some n) s t e = e
+
+  ends_same : (s : State) (t : SlotState) → Ends set s t → SameOutput set s t
+  ends_same s t e = ap (λ (h : Here). h.world.output) e.0
 
   module _ (input : List ℕ) (main : HasMain set.p) where
     begin_matches : Matches set (sources.begin set.p input) (beginning.begin set.c input)
     begin_matches =
         let n = main_from 0 set.p.functions in
         let fn = main.0 in
-        let place = new_place 0 n in
+        let activation = new_activation 0 n in
         record {
-          same = ap (λ m. slots.entered set.c 0 m [] (beginning.world_at_first set.c input)) set.is.main ∙ ap (λ w. record { world = w; place = place }) (set.is.start input);
+          same = ap (λ m. record { world = beginning.world_at_first set.c input; activation = new_activation 0 m }) set.is.main ∙ ap (λ w. record { world = w; activation = activation }) (set.is.start input);
           ws = [];
-          doing = subst (λ o. Doing set place [] [] [] (control_in set.p n o) no_temps 0) (sym main.1) (begins set place n fn refl (sym main.2) main.1);
+          doing = subst (λ o. Doing set activation [] [] [] (control_in set.p n o) no_temps 0) (sym main.1) (begins set activation n fn refl (sym main.2) main.1);
           outer = tt;
         }
 
-    abbrev ReachedBy : Outcome State → Type 0
-    ReachedBy o = Reaches State SlotState (source.step set.p) (slots.step set.c) (sources.acted set.hist) (beginning.acted set.hist) 2 (Matches set) (Ends set) (SameOutput set) (left_over set) o 0 (beginning.begin set.c input)
+    -- what is known of each step, of its steps as a whole and of each moment
+    abbrev s0 : State
+    s0 = sources.begin set.p input
 
-    all : (n : ℕ) → ReachedBy (source_after set.p set.hist input n)
-    all n =
-        simulates State SlotState (source.step set.p) (slots.step set.c) (sources.acted set.hist) (beginning.acted set.hist) 2 (Matches set) (Ends set) (SameOutput set) (left_over set)
-        (step_answers set) resume_matches n 0 (sources.begin set.p input) (beginning.begin set.c input) begin_matches
+    abbrev t0 : SlotState
+    t0 = beginning.begin set.c input
 
-    reached : (m : Moment State) → ReachedBy (Reached m) → (j : ℕ) × (k : Moment SlotState) × (slots_after set.c set.hist input j ≡ Reached k) × Shows m k
-    reached m r = (r.0, r.1, r.2, shows m r.1 r.3)
+    abbrev at_source : ℕ → ℕ
+    at_source n = at State SlotState (source.step set.p) (slots.step set.c) (sources.acted set.hist) (beginning.acted set.hist) 2 (Matches set) (Ends set) (SameOutput set) (left_over set) (step_answers set) resume_matches ends_same n 0 s0 t0 begin_matches
 
-    pub shown : (n : ℕ) (m : Moment State) → source_after set.p set.hist input n ≡ Reached m → (j : ℕ) × (k : Moment SlotState) × (slots_after set.c set.hist input j ≡ Reached k) × Shows m k
-    shown n m r = reached m (subst ReachedBy r (all n))
+    abbrev MetBy : Outcome State → Outcome SlotState → Type 0
+    MetBy = Meets State SlotState (source.step set.p) (slots.step set.c) (sources.acted set.hist) (beginning.acted set.hist) 2 (Matches set) (Ends set) (SameOutput set) (left_over set)
 
-    pub not_lost : (n : ℕ) → source_after set.p set.hist input n ≢ Nowhere
-    not_lost n r = subst ReachedBy r (all n)
+    abbrev Between : Outcome State → Outcome State → Outcome SlotState → Type 0
+    Between = LiesBetween State SlotState (source.step set.p) (slots.step set.c) (sources.acted set.hist) (beginning.acted set.hist) 2 (Matches set) (Ends set) (SameOutput set) (left_over set)
 
-    covered : (j : ℕ) → Covered State SlotState (source.step set.p) (slots.step set.c) (sources.acted set.hist) (beginning.acted set.hist) 2 (Matches set) (Ends set) (SameOutput set) (left_over set) j 0 (sources.begin set.p input) (beginning.begin set.c input)
-    covered j =
-        covers State SlotState (source.step set.p) (slots.step set.c) (sources.acted set.hist) (beginning.acted set.hist) 2 (Matches set) (Ends set) (SameOutput set) (left_over set)
-        (step_answers set) resume_matches (λ s t e. ap (λ (h : Here). h.world.output) e.0) j 0 (sources.begin set.p input) (beginning.begin set.c input) begin_matches
+    met : (n : ℕ) → MetBy (source_after set.p set.hist input n) (slots_after set.c set.hist input (at_source n))
+    met n = meets State SlotState (source.step set.p) (slots.step set.c) (sources.acted set.hist) (beginning.acted set.hist) 2 (Matches set) (Ends set) (SameOutput set) (left_over set) (step_answers set) resume_matches ends_same n 0 s0 t0 begin_matches
 
-    up_to : (n : Outcome State) (k : ℕ) → UpTo State SlotState (source.step set.p) (slots.step set.c) (sources.acted set.hist) (beginning.acted set.hist) 2 (Matches set) (Ends set) (SameOutput set) (left_over set) n k → IsWithin n k
-    up_to (Reached m) k u = u
-    up_to (Breaks r) k u = tt
-    up_to Nowhere k u = u
+    shown : (m : Moment State) (q : Outcome SlotState) → MetBy (Reached m) q → (k : Moment SlotState) × (q ≡ Reached k) × Shows m k
+    shown m q r =
+        let k = r.0 in
+        let both : Ends set m.state k.state = seen m.exit m.state k.state r.2.states in
+        (k, r.1, record { passed = r.2.passed; world = ap (λ (h : Here). h.world) both.0; records = both.1; exit = r.2.exit })
 
-    found : (o n : Outcome State) (q : Outcome SlotState) → CoveredBy State SlotState (source.step set.p) (slots.step set.c) (sources.acted set.hist) (beginning.acted set.hist) 2 (Matches set) (Ends set) (SameOutput set) (left_over set) o n q → IsShown o n q
-    found (Breaks r) n q c = tt
-    found Nowhere n q c = c
-    found (Reached m) n (Reached k) c = record { passed = c.passed; output = c.states; exit = c.exit; count = up_to n k.count c.count }
-    found (Reached m) n (Breaks r) c = c
-    found (Reached m) n Nowhere c = c
+    on_way : (m m' : Moment State) (q : Outcome SlotState) → Between (Reached m) (Reached m') q → (k : Moment SlotState) × (q ≡ Reached k) × ShowsNoMore m k
+    on_way m m' q r = (r.0, r.1, record { passed = r.2.passed; output = r.2.states; exit = r.2.exit })
 
-    pub no_more : (j : ℕ) → (n : ℕ) × IsShown (source_after set.p set.hist input n) (source_after set.p set.hist input (suc n)) (slots_after set.c set.hist input j)
-    no_more j = let r = covered j in (r.0, found _ _ _ r.1)
+    pub follows : Follows set.p set.c input set.hist
+    follows = record {
+      at = at_source;
+      start = refl;
+      ascends = λ n. ascends State SlotState (source.step set.p) (slots.step set.c) (sources.acted set.hist) (beginning.acted set.hist) 2 (Matches set) (Ends set) (SameOutput set) (left_over set) (step_answers set) resume_matches ends_same n 0 s0 t0 begin_matches;
+      shows = λ n m e. shown m (slots_after set.c set.hist input (at_source n)) (subst (λ o. MetBy o (slots_after set.c set.hist input (at_source n))) e (met n));
+      between = λ n j m m' e e' le lt. on_way m m' (slots_after set.c set.hist input j) (subst (λ o. Between o (Reached m') (slots_after set.c set.hist input j)) e
+          (subst (λ o. Between (source_after set.p set.hist input n) o (slots_after set.c set.hist input j)) e'
+          (between State SlotState (source.step set.p) (slots.step set.c) (sources.acted set.hist) (beginning.acted set.hist) 2 (Matches set) (Ends set) (SameOutput set) (left_over set) (step_answers set) resume_matches ends_same n 0 s0 t0 begin_matches j le lt)));
+      takes = λ n d units m m' le e e' sum j j' k k' from_n on to_d ek ek'.
+          takes State SlotState (source.step set.p) (slots.step set.c) (sources.acted set.hist) (beginning.acted set.hist) 2 (Matches set) (Ends set) (SameOutput set) (left_over set) (step_answers set) resume_matches ends_same n d units 0 s0 t0 begin_matches m m' le e e' sum j j' k k' from_n on to_d ek ek';
+      comes_to = λ j. comes_to State SlotState (source.step set.p) (slots.step set.c) (sources.acted set.hist) (beginning.acted set.hist) 2 (Matches set) (Ends set) (SameOutput set) (left_over set) (step_answers set) resume_matches ends_same j 0 s0 t0 begin_matches;
+    }
 
 -- the code of a program shows what the program does, and nothing else
 pub lowers : (p : Program) (c : SlotCode) → IsCodeOf p c → HasMain p → Lowers p c
-lowers p c is main = record {
-  shows = λ input h n m r. shown (record { p = p; c = c; is = is; hist = h }) input main n m r;
-  never_lost = λ input h n r. not_lost (record { p = p; c = c; is = is; hist = h }) input main n r;
-  nothing_else = λ input h j. no_more (record { p = p; c = c; is = is; hist = h }) input main j;
-}
+lowers p c is main = λ input h. follows (record { p = p; c = c; is = is; hist = h }) input main

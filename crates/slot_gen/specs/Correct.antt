@@ -1,11 +1,11 @@
 -- What the slot code of a program is, and what it promises.
-use Rattle.std.specs.Prelude.{◌≡◌, ◌≢◌, ◌≤◌, ℕ, suc, ◌*◌, List, Option, Some, None, slice_get, length}
+use Rattle.std.specs.Prelude.{◌≡◌, ◌≤◌, ◌<◌, ℕ, suc, ◌+◌, ◌*◌, List, Option, Some, None, slice_get, length, ◌⊎◌}
 use Rattle.c_tree.specs.declared.types.CType.{CType}
 use Rattle.c_tree.specs.declared.types.CType.TheVariants.{Void, Struct}
 use Rattle.c_tree.specs.declared.rows.Program.{Program}
 use Rattle.c_tree.specs.declared.rows.Function.{Function}
 use Rattle.c_tree.specs.Layout.{size_of, leaves_of}
-use Rattle.runs.specs.Runs.{Moment, Outcome, Reached, Breaks, Nowhere, after}
+use Rattle.runs.specs.Runs.{Why, Moment, Outcome, Reached, Breaks, after}
 use Rattle.c_store.specs.Assigned.{History}
 use Rattle.c_source.specs.Blocks.{local_type}
 use Rattle.c_source.specs.Begin.{main_from}
@@ -52,28 +52,14 @@ pub record Shows (m : Moment State) (k : Moment SlotState) : Type 0 where
   -- each object's lifetime and leaf values, the input left and the output
   pub world : k.state.here.world ≡ m.state.here.world
   -- each activation's function, live objects and last point
-  pub places : beginning.places k.state ≡ sources.places m.state
+  pub records : beginning.records k.state ≡ sources.records m.state
   pub exit : k.exit ≡ m.exit
-  pub count : k.count ≤ steps_of_a_unit * m.count
 
-abbrev pub IsWithin : Outcome State → ℕ → Type 0
-IsWithin (Reached m) k = k ≤ steps_of_a_unit * m.count
-IsWithin (Breaks w) k = Unit {0}
-IsWithin Nowhere k = ⊥
-
--- a moment of the slot code at which nothing was seen but what the program shows, before the program's next step is over
-pub record ShowsNoMore (m : Moment State) (next : Outcome State) (k : Moment SlotState) : Type 0 where
+-- a moment of the slot code on the way from one of the program to the next: nothing more was seen than the program has shown
+pub record ShowsNoMore (m : Moment State) (k : Moment SlotState) : Type 0 where
   pub passed : k.passed ≡ m.passed
   pub output : k.state.here.world.output ≡ m.state.here.world.output
   pub exit : k.exit ≡ m.exit
-  pub count : IsWithin next k.count
-
-abbrev pub IsShown : Outcome State → Outcome State → Outcome SlotState → Type 0
-IsShown (Breaks w) next q = Unit {0}
-IsShown Nowhere next q = ⊥
-IsShown (Reached m) next (Reached k) = ShowsNoMore m next k
-IsShown (Reached m) next (Breaks w) = ⊥
-IsShown (Reached m) next Nowhere = ⊥
 
 abbrev pub source_after : Program → History → List ℕ → ℕ → Outcome State
 source_after p h input n = after State (source.step p) (sources.acted h) n 0 (sources.begin p input)
@@ -81,10 +67,22 @@ source_after p h input n = after State (source.step p) (sources.acted h) n 0 (so
 abbrev pub slots_after : SlotCode → History → List ℕ → ℕ → Outcome SlotState
 slots_after c h input n = after SlotState (slots.step c) (beginning.acted h) n 0 (beginning.begin c input)
 
--- For every input and all assignments made at the stops: each moment of the program's run, up to an undefined step, is shown by the slot code's; the program is never lost; and the slot code shows nothing else.
-pub record Lowers (p : Program) (c : SlotCode) : Type 0 where
-  pub shows : (input : List ℕ) (h : History) (n : ℕ) (m : Moment State) → source_after p h input n ≡ Reached m
-      → (j : ℕ) × (k : Moment SlotState) × (slots_after c h input j ≡ Reached k) × Shows m k
-  pub never_lost : (input : List ℕ) (h : History) (n : ℕ) → source_after p h input n ≢ Nowhere
-  pub nothing_else : (input : List ℕ) (h : History) (j : ℕ)
-      → (n : ℕ) × IsShown (source_after p h input n) (source_after p h input (suc n)) (slots_after c h input j)
+-- The run of the slot code on this input, with these assignments made at the stops, beside the program's: `at` says after how many of its steps it shows so many of the program's. Where the program meets an undefined step, nothing is said of what comes behind the last moment that it reached.
+pub record Follows (p : Program) (c : SlotCode) (input : List ℕ) (h : History) : Type 0 where
+  pub at : ℕ → ℕ
+  pub start : at 0 ≡ 0
+  pub ascends : (n : ℕ) → at n ≤ at (suc n)
+  -- each moment of the program is shown
+  pub shows : (n : ℕ) (m : Moment State) → source_after p h input n ≡ Reached m → (k : Moment SlotState) × (slots_after c h input (at n) ≡ Reached k) × Shows m k
+  -- and nothing else on the way to the next
+  pub between : (n j : ℕ) (m m' : Moment State) → source_after p h input n ≡ Reached m → source_after p h input (suc n) ≡ Reached m' → at n ≤ j → j < at (suc n)
+      → (k : Moment SlotState) × (slots_after c h input j ≡ Reached k) × ShowsNoMore m k
+  -- from any moment to any later one the count is bounded by the units in which these lie
+  pub takes : (n n' units : ℕ) (m m' : Moment State) → n ≤ n' → source_after p h input n ≡ Reached m → source_after p h input n' ≡ Reached m' → m'.count ≡ m.count + units
+      → (j j' : ℕ) (k k' : Moment SlotState) → at n ≤ j → j ≤ j' → j' ≤ at n' → slots_after c h input j ≡ Reached k → slots_after c h input j' ≡ Reached k' → k'.count ≤ k.count + steps_of_a_unit * units
+  -- each moment of the slot code comes before one that shows the program's, or the program meets an undefined step
+  pub comes_to : (j : ℕ) → (n : ℕ) × ((j < at (suc n)) ⊎ ((why : Why) × (source_after p h input n ≡ Breaks why)))
+
+-- for every input and all assignments made at the stops
+abbrev pub Lowers : Program → SlotCode → Type 0
+Lowers p c = (input : List ℕ) (h : History) → Follows p c input h

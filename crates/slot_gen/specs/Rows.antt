@@ -1,8 +1,10 @@
 -- The rows of a program's slot code, each for one of the program.
-use Rattle.std.specs.Prelude.{◌≡◌, ◌≤◌, ℕ, suc, List, [], ◌∷◌, Option, Some, None, length}
+use Rattle.std.specs.Prelude.{◌≡◌, ◌≤◌, ℕ, suc, ◌*◌, List, [], ◌∷◌, Option, Some, None, length, map}
 use Rattle.ldb_words.specs.declared.kinds.Kind.{Kind}
 use Rattle.ldb_words.specs.declared.kinds.Kind.TheVariants.{Byte, Word, Address}
-use Rattle.c_tree.specs.declared.types.CType.TheVariants.{Struct}
+use Rattle.c_tree.specs.declared.types.CType.{CType}
+use Rattle.c_tree.specs.declared.types.CType.TheVariants.{Char, Int, Unsigned, Void, Pointer', Array', Struct}
+use Rattle.c_tree.specs.declared.types.Member.{Member}
 use Rattle.c_tree.specs.declared.types.StructDef.{StructDef}
 use Rattle.c_tree.specs.declared.types.Leaf.{Leaf}
 use Rattle.c_tree.specs.declared.rows.Program.{Program}
@@ -18,6 +20,9 @@ use Rattle.slot_ir.specs.declared.code.SlotCode.{SlotCode}
 use Rattle.slot_ir.specs.declared.code.SlotFunction.{SlotFunction}
 use Rattle.slot_ir.specs.declared.code.SlotLocal.{SlotLocal}
 use Rattle.slot_ir.specs.declared.code.SlotObject.{SlotObject}
+use Rattle.slot_ir.specs.declared.code.SlotItem.{SlotItem}
+use Rattle.slot_ir.specs.declared.code.SlotItem.TheVariants as an_item
+use Rattle.slot_ir.specs.declared.code.SlotMember.{SlotMember}
 use Rattle.slot_ir.specs.declared.code.SlotStruct.{SlotStruct}
 use Rattle.slot_ir.specs.declared.code.SlotStart.{SlotStart}
 use Rattle.slot_ir.specs.declared.code.SlotValue.{SlotValue}
@@ -40,6 +45,26 @@ abbrev pub home_of : Option ℕ → Home
 home_of None = Block
 home_of (Some r) = Register r
 
+-- ---- members
+
+-- what a member of a type has items of, and how many
+abbrev pub item_of : CType → SlotItem
+item_of Char = an_item.Scalar Byte
+item_of Int = an_item.Scalar Word
+item_of Unsigned = an_item.Scalar Word
+item_of Void = an_item.Scalar Byte
+item_of (Pointer' _ t) = an_item.Scalar Address
+item_of (Array' _ t n) = item_of t
+item_of (Struct s) = an_item.Struct s
+
+abbrev pub items_of : CType → ℕ
+items_of Void = 0
+items_of (Array' _ t n) = n * items_of t
+items_of t = 1
+
+abbrev pub member_of : Member → SlotMember
+member_of m = record { at = m.at; items = items_of m.ctype; item = item_of m.ctype }
+
 module _ (p : Program) where
   -- a local, where these are in registers
   pub record IsLocalOf (registers : List (Option ℕ)) (x : ℕ) (l : Local) (s : SlotLocal) : Type 0 where
@@ -60,6 +85,7 @@ module _ (p : Program) where
 
   pub record IsStructOf (s : ℕ) (d : StructDef) (row : SlotStruct) : Type 0 where
     pub size : row.size ≡ d.size
+    pub members : row.members ≡ map member_of d.members
     pub leaves : row.leaves ≡ leaves_of p.defs (Struct s)
 
 -- ---- static objects
@@ -106,7 +132,7 @@ pub record HasRowsOf (p : Program) (c : SlotCode) : Type 0 where
 
 -- ---- what is asked of a program
 
--- no number stands in place of an address, and no address in that of a number of four bytes
+-- no address stands in place of a number of four bytes
 abbrev pub Fits : Kind → Start → Type 0
 Fits Word (start.Object o i) = ⊥
 Fits Word (start.Str k) = ⊥

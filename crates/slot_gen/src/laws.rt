@@ -3,7 +3,7 @@ ghost use Rattle.std.specs.Prelude.{◌≤◌, ◌+◌, ◌*◌, ℕ, length};
 ghost use Rattle.c_tree.specs.declared.rows.Program.{Program};
 ghost use Rattle.c_tree.specs.declared.rows.Function.{Function};
 ghost use Rattle.c_tree.specs.declared.typed.Typed.{Typed};
-ghost use Rattle.c_source.specs.Size.{extent_of};
+ghost use Rattle.c_source.specs.Size.{nodes_of, most_nodes};
 ghost use Rattle.slot_ir.specs.declared.code.SlotCode.{SlotCode};
 ghost use Rattle.slot_ir.specs.WellFormed.{operators_of_a_token};
 ghost use Rattle.slot_gen.specs.Tokens.{tokens_of};
@@ -23,11 +23,12 @@ pub fn rows_are_the_code()
     ensures { (p : Program) (c : SlotCode) → HasRowsOf p c → AllFitting p p.objects → IsCodeOf p c }
 {}
 
-/// The code of an expression and of a function names the temporaries that it is said to take alone, and an expression takes at most one more than it has nodes.
+/// The code of an expression and of a function names the temporaries that it is said to take alone. An expression takes at most one more than it has nodes, and a function at most two more than its deepest expression has.
 pub fn code_takes_few_temporaries()
     ensures expression { (p : Program) (f at d : ℕ) (e : Typed) → AreBelow (d + temps_of e) (expr_code p f at d e) }
     ensures function { (p : Program) (f : ℕ) (fn : Function) → AreBelow (function_temps fn) (function_code p f fn) }
-    ensures few { (e : Typed) → temps_of e ≤ (extent_of e).nodes + 1 }
+    ensures few { (e : Typed) → temps_of e ≤ nodes_of e + 1 }
+    ensures few_of_function { (fn : Function) → function_temps fn ≤ most_nodes fn.body + 2 }
 {}
 
 /// The code of an expression has at most so many operators for each token that the expression is written with.

@@ -1,10 +1,10 @@
 // The rows of a program's slot code.
-ghost use Rattle.std.specs.Prelude.{◌≡◌, ℕ, ◌++◌, Some, IfOk, OnOk, option_map, slice_get};
+ghost use Rattle.std.specs.Prelude.{◌≡◌, ℕ, ◌++◌, Some, IfOk, OnOk, map, option_map, slice_get};
 ghost use Rattle.c_tree.specs.declared.rows.Start.TheVariants.{Number};
 ghost use Rattle.c_tree.specs.Layout.{leaves_of as leaves_in};
 ghost use Rattle.c_tree.specs.Ordered.{AllLaidOut};
 ghost use Rattle.slot_gen.specs.Expressions.{register_at, registers_from};
-ghost use Rattle.slot_gen.specs.Rows.{EachFrom, IsLocalOf, IsFunctionOf, IsStructOf, IsObjectOf, home_of as home, width_of as width, value_of as value, start_of as slot_start, one_start, starts_of};
+ghost use Rattle.slot_gen.specs.Rows.{EachFrom, IsLocalOf, IsFunctionOf, IsStructOf, IsObjectOf, home_of as home, width_of as width, value_of as value, start_of as slot_start, one_start, starts_of, item_of as item, items_of as items, member_of as slot_member};
 
 use crate::emit::next;
 use crate::functions::emit_function;
@@ -12,10 +12,14 @@ use crate::places::{places, temporaries};
 use crate::registers::registers;
 use crate::translate::{access_of, bytes_of};
 use c_tree::{
-    CType, Function, Leaf, Local, ObjectRow, Program, Start, StructDef, leaves, leaves_ascend,
+    CType, Function, Leaf, Local, Member, ObjectRow, Program, Start, StructDef, leaves,
+    leaves_ascend,
 };
 use ldb_words::{Kind, Many, Text};
-use slot_ir::{Home, SlotFunction, SlotLocal, SlotObject, SlotStart, SlotStruct, SlotValue};
+use slot_ir::{
+    Home, SlotFunction, SlotItem, SlotLocal, SlotMember, SlotObject, SlotStart, SlotStruct,
+    SlotValue,
+};
 use std::alloc::{AllocError, Global};
 
 /// The leaves of a type.
@@ -141,6 +145,52 @@ pub fn lower_functions(
     Ok(Many::from_vec(rows))
 }
 
+/// What a member of a type has items of.
+fn item_of(t: &CType) -> SlotItem
+    ensures { result ≡ item t.now }
+{
+    match t {
+        CType::Char | CType::Void => SlotItem::Scalar(Kind::Byte),
+        CType::Int | CType::Unsigned => SlotItem::Scalar(Kind::Word),
+        CType::Pointer(_) => SlotItem::Scalar(Kind::Address),
+        CType::Array(held, _) => item_of(held),
+        CType::Struct(number) => SlotItem::Struct(*number),
+    }
+}
+
+/// How many items a member of a type has.
+fn items_of(t: &CType) -> Result<u32, AllocError>
+    ensures { IfOk result (λ n. n ≡ items t.now) }
+{
+    match t {
+        CType::Array(held, n) => n.checked_mul(items_of(held)?).ok_or(AllocError),
+        CType::Void => Ok(0),
+        CType::Char | CType::Int | CType::Unsigned | CType::Pointer(_) | CType::Struct(_) => Ok(1),
+    }
+}
+
+/// The row of a member.
+fn lower_member(member: &Member) -> Result<SlotMember, AllocError>
+    ensures { IfOk result (λ row. row ≡ slot_member member.now) }
+{
+    Ok(SlotMember {
+        at: member.at,
+        items: items_of(&member.ctype)?,
+        item: item_of(&member.ctype),
+    })
+}
+
+/// The rows of members.
+fn lower_members(alloc: Global, members: &[Member]) -> Result<Many<SlotMember>, AllocError>
+    ensures { IfOk result (λ rows. rows ≡ map slot_member members.now) }
+{
+    let mut rows = Vec::new(alloc);
+    for member in members {
+        rows.push(lower_member(member)?)?;
+    }
+    Ok(Many::from_vec(rows))
+}
+
 /// The row of a struct.
 fn lower_struct(
     alloc: Global,
@@ -151,9 +201,12 @@ fn lower_struct(
     requires { AllLaidOut program.now.defs }
     ensures { IfOk result (λ row. IsStructOf program.now number def.now row) }
 {
+    let leaves = leaves_of(alloc, &CType::Struct(number), program.defs.as_slice())?;
+    let members = lower_members(alloc, def.members.as_slice())?;
     Ok(SlotStruct {
         size: def.size,
-        leaves: leaves_of(alloc, &CType::Struct(number), program.defs.as_slice())?,
+        members,
+        leaves,
     })
 }
 

@@ -4,7 +4,7 @@ use Rattle.std.specs.Prelude.{ℤ, pos, codes}
 use Rattle.ldb_words.specs.declared.kinds.Kind.TheVariants.{Byte, Word}
 use Rattle.c_store.specs.Store.{load, store, is_stale, moved}
 use Rattle.c_store.specs.Frames.{made, left}
-use Rattle.runs.specs.Runs.{Outcome, Reached, Breaks, Nowhere, after}
+use Rattle.runs.specs.Runs.{Outcome, Reached, Breaks, after}
 use Rattle.slot_ir.specs.declared.code.SlotCode.{SlotCode}
 use Rattle.slot_ir.specs.declared.code.SlotLocal.{SlotLocal}
 use Rattle.slot_ir.specs.declared.code.Home.TheVariants.{Block, Register}
@@ -18,17 +18,14 @@ use Rattle.slot_ir.specs.Begin.{begin, acted}
 abbrev output_of : Outcome SlotState → List ℕ
 output_of (Reached m) = m.state.here.world.output
 output_of (Breaks w) = []
-output_of Nowhere = []
 
 abbrev passed_of : Outcome SlotState → List ℕ
 passed_of (Reached m) = m.passed
 passed_of (Breaks w) = []
-passed_of Nowhere = []
 
 abbrev exit_of : Outcome SlotState → Option ℤ
 exit_of (Reached m) = m.exit
 exit_of (Breaks w) = None
-exit_of Nowhere = None
 
 abbrev a_word : SlotLocal
 a_word = record { home = Block; access = access.Word; size = 4; leaves = record { at = 0; kind = Word } ∷ [] }

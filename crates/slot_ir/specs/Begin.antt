@@ -5,14 +5,14 @@ use Rattle.ldb_words.specs.declared.kinds.Kind.TheVariants.{Byte, Word, Address}
 use Rattle.runs.specs.Runs.{Actions}
 use Rattle.c_store.specs.Bits.{low_byte}
 use Rattle.c_store.specs.Store.{Value, Number, Null, At, Object, Cell, World, Static, Text}
-use Rattle.c_store.specs.Frames.{Place, with_world}
+use Rattle.c_store.specs.Frames.{ActivationRecord, new_activation, with_world}
 use Rattle.c_store.specs.Assigned.{History, all_assigned, at_stop}
 use Rattle.slot_ir.specs.declared.code.SlotCode.{SlotCode}
 use Rattle.slot_ir.specs.declared.code.SlotObject.{SlotObject}
 use Rattle.slot_ir.specs.declared.code.SlotStart.{SlotStart}
 use Rattle.slot_ir.specs.declared.code.SlotValue.{SlotValue}
 use Rattle.slot_ir.specs.declared.code.SlotValue.TheVariants as start
-use Rattle.slot_ir.specs.Slots.{SlotState, Frame, entered, no_temps}
+use Rattle.slot_ir.specs.Slots.{SlotState, Frame, no_temps}
 
 -- what a leaf holds at first; the strings are objects after the static ones
 abbrev held : SlotCode → SlotValue → Value
@@ -51,15 +51,15 @@ world_at_first c input = record { objects = static_objects c 0 c.objects ++ stri
 
 -- before the first step
 abbrev pub begin : SlotCode → List ℕ → SlotState
-begin c input = record { here = entered c 0 c.main [] (world_at_first c input); temps = no_temps; pc = 0; result_at = 0; outer = [] }
+begin c input = record { here = record { world = world_at_first c input; activation = new_activation 0 c.main }; temps = no_temps; pc = 0; result_at = 0; outer = [] }
 
--- the places of the activations, the innermost first
-abbrev pub outer_places : List Frame → List Place
-outer_places [] = []
-outer_places (f ∷ rest) = f.place ∷ outer_places rest
+-- the records of the activations, the innermost first
+abbrev pub outer_records : List Frame → List ActivationRecord
+outer_records [] = []
+outer_records (f ∷ rest) = f.activation ∷ outer_records rest
 
-abbrev pub places : SlotState → List Place
-places t = t.here.place ∷ outer_places t.outer
+abbrev pub records : SlotState → List ActivationRecord
+records t = t.here.activation ∷ outer_records t.outer
 
 -- what a history of assignments does at the stop of each number
 abbrev pub acted : History → Actions SlotState

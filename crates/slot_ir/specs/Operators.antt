@@ -8,7 +8,7 @@ use Rattle.c_store.specs.Bits.{low_byte, minus_one, signed_add, signed_subtract,
 use Rattle.runs.specs.Runs.{Why, Reason, IllTyped}
 use Rattle.c_store.specs.Store.{Value, Number, Null, At, World, used, moved, ◌>>=◌}
 use Rattle.slot_ir.specs.declared.code.Access.{Access}
-use Rattle.slot_ir.specs.declared.code.Access.TheVariants.{SignedByte, UnsignedByte, SignedHalf, UnsignedHalf, Pointer}
+use Rattle.slot_ir.specs.declared.code.Access.TheVariants.{SignedByte, UnsignedByte, SignedHalf, UnsignedHalf, Word, Pointer}
 use Rattle.slot_ir.specs.declared.code.WordOp.{WordOp}
 use Rattle.slot_ir.specs.declared.code.WordOp.TheVariants as word
 use Rattle.slot_ir.specs.declared.code.UnaryWordOp.{UnaryWordOp}
@@ -16,14 +16,24 @@ use Rattle.slot_ir.specs.declared.code.UnaryWordOp.TheVariants.{Plus, Minus, Min
 use Rattle.slot_ir.specs.declared.code.PointerOp.{PointerOp}
 use Rattle.slot_ir.specs.declared.code.PointerOp.TheVariants as pointer
 
+-- an address; a number in place of one is a null pointer constant
+abbrev pub as_pointer : Value → Result Value Why
+as_pointer (Number n) = Ok Null
+as_pointer v = Ok v
+
+-- a number in another form, which an address has not
+abbrev pub changed : (ℕ → ℕ) → Value → Result Value Why
+changed f (Number n) = Ok (Number (f n))
+changed f v = Err IllTyped
+
 -- a value as one of a width and sign (C90 6.2.1.2, 6.2.2.3)
-abbrev pub extended : Access → Value → Value
-extended SignedByte (Number n) = Number (low_byte n)
-extended UnsignedByte (Number n) = Number (n % 2 ^ 8)
-extended SignedHalf (Number n) = Number (word_of_signed (cast_signed w16 (n % 2 ^ 16)))
-extended UnsignedHalf (Number n) = Number (n % 2 ^ 16)
-extended Pointer (Number n) = Null
-extended a v = v
+abbrev pub extended : Access → Value → Result Value Why
+extended SignedByte v = changed low_byte v
+extended UnsignedByte v = changed (λ n. n % 2 ^ 8) v
+extended SignedHalf v = changed (λ n. word_of_signed (cast_signed w16 (n % 2 ^ 16))) v
+extended UnsignedHalf v = changed (λ n. n % 2 ^ 16) v
+extended Word v = Ok v
+extended Pointer v = as_pointer v
 
 abbrev pub number_in : Value → Result ℕ Why
 number_in (Number n) = Ok n
@@ -86,10 +96,6 @@ unary w Truth x = used w x >>= λ v. Ok (Number (bit_of (not (is_zero v))))
 
 -- ---- pointers
 
-abbrev pub as_pointer : Value → Value
-as_pointer (Number n) = Null
-as_pointer v = v
-
 abbrev pub is_same : Value → Value → Bool
 is_same (Number m) (Number n) = m == n
 is_same Null Null = true
@@ -97,7 +103,7 @@ is_same (At o i) (At o' j) = (o == o') && (i == j)
 is_same _ _ = false
 
 abbrev pub equal : World → Value → Value → Result Bool Why
-equal w x y = used w (as_pointer x) >>= λ u. used w (as_pointer y) >>= λ v. Ok (is_same u v)
+equal w x y = as_pointer x >>= used w >>= λ u. as_pointer y >>= used w >>= λ v. Ok (is_same u v)
 
 abbrev pub offsets : Value → Value → (ℕ → ℕ → Value) → Result Value Why
 offsets (At o i) (At o' j) f = if o == o' then Ok (f i j) else Err (Reason PointerReason)

@@ -3,10 +3,10 @@ use Rattle.std.specs.Prelude.{ℕ, suc, zero, ◌+◌, ◌*◌, ◌%◌, List, [
 use Rattle.ldb_words.specs.declared.kinds.Kind.{Kind}
 use Rattle.ldb_words.specs.Word.{signed}
 use Rattle.c_tree.specs.declared.types.Leaf.{Leaf}
-use Rattle.runs.specs.Runs.{Next, Goes, Passes, Exits, Undefined, Stuck, Why, IllTyped}
+use Rattle.runs.specs.Runs.{Next, Goes, Passes, Exits, Undefined, Why, IllTyped}
 use Rattle.c_store.specs.Bits.{minus_one}
-use Rattle.c_store.specs.Store.{Value, Number, Null, At, Cell, World, zero_of, used, load, store, moved, load_struct, store_struct, ◌>>=◌}
-use Rattle.c_store.specs.Frames.{Here, Place, with_world, with_point, made, left, bound, new_place}
+use Rattle.c_store.specs.Store.{Value, Number, Null, At, Cell, World, zero_of, used, load, store, moved, load_struct, store_struct, with_first, ◌>>=◌}
+use Rattle.c_store.specs.Frames.{Here, ActivationRecord, with_world, with_point, made, left, bound, new_activation}
 use Rattle.slot_ir.specs.declared.code.SlotOp.{SlotOp}
 use Rattle.slot_ir.specs.declared.code.SlotOp.TheVariants.{Const, Null as NullOp, StaticAddress, TextAddress, LocalAddress, Load, Store, ReadRegister, WriteRegister, Convert, Unary, Binary, Compare, Index, Distance, Offset, Take, Jump, JumpIfZero, JumpIfNotZero, JumpIfEqual, Call, Return, Stop, Move, Zero, Leave, GetChar, PutChar, Exit}
 use Rattle.slot_ir.specs.declared.code.Access.{Access}
@@ -28,7 +28,7 @@ no_temps i = None
 
 -- an outer activation: where it goes on, and which of its own caller's temporaries takes its result
 pub record Frame : Type 0 where
-  pub place : Place
+  pub activation : ActivationRecord
   pub temps : Temps
   pub pc : ℕ
   pub result_at : ℕ
@@ -74,33 +74,29 @@ zeroed_row None x h = made x 0 [] h
 zeroed_row (Some l) x h = made x l.size (zero_cells l.leaves) h
 
 abbrev pub zeroed_local : SlotCode → (local : ℕ) → Here → Here
-zeroed_local c x h = zeroed_row (local_row c h.place.function x) x h
+zeroed_local c x h = zeroed_row (local_row c h.activation.function x) x h
 
 abbrev pub leaf_count_in : Option SlotLocal → ℕ
 leaf_count_in None = 0
 leaf_count_in (Some l) = length l.leaves
 
-abbrev pub with_first : Value → List Cell → List Cell
-with_first v [] = []
-with_first v (c ∷ cs) = record c { value = v } ∷ cs
-
-abbrev pub given_row : Option SlotLocal → ℕ → Value → Here → Here
-given_row None x v h = made x 0 [] h
-given_row (Some l) x v h = made x l.size (with_first (extended l.access v) (zero_cells l.leaves)) h
+abbrev pub given_row : Option SlotLocal → ℕ → Value → Here → Result Here Why
+given_row None x v h = Ok (made x 0 [] h)
+given_row (Some l) x v h = extended l.access v >>= λ u. with_first u (zero_cells l.leaves) >>= λ cells. Ok (made x l.size cells h)
 
 -- the parameters from number x on
-abbrev pub given : SlotCode → (function local : ℕ) → List Value → Here → Here
-given c f x [] h = h
-given c f x (v ∷ vs) h = given c f (suc x) vs (given_row (local_row c f x) x v h)
+abbrev pub given : SlotCode → (function local : ℕ) → List Value → Here → Result Here Why
+given c f x [] h = Ok h
+given c f x (v ∷ vs) h = given_row (local_row c f x) x v h >>= given c f (suc x) vs
 
 -- a new activation of a function
-abbrev pub entered : SlotCode → (number function : ℕ) → List Value → World → Here
-entered c n f args w = given c f 0 args (record { world = w; place = new_place n f })
+abbrev pub entered : SlotCode → (number function : ℕ) → List Value → World → Result Here Why
+entered c n f args w = given c f 0 args (record { world = w; activation = new_activation n f })
 
 -- ---- steps
 
 abbrev pub on_temp : Option Value → (Value → Next SlotState) → Next SlotState
-on_temp None go = Stuck
+on_temp None go = Undefined IllTyped
 on_temp (Some v) go = go v
 
 abbrev pub on_ok : {A : Type 0} → Result A Why → (A → Next SlotState) → Next SlotState
@@ -122,7 +118,7 @@ last_temps t d zero = Some []
 last_temps t d (suc n) = joined (t (d + n)) (last_temps t d n)
 
 abbrev pub on_temps : Option (List Value) → (List Value → Next SlotState) → Next SlotState
-on_temps None go = Stuck
+on_temps None go = Undefined IllTyped
 on_temps (Some vs) go = go vs
 
 abbrev pub next_byte : List ℕ → ℕ
@@ -131,10 +127,10 @@ next_byte (b ∷ bs) = b
 
 -- a value read from an address, and extended
 abbrev pub read : World → Kind → Access → Value → Result Value Why
-read w k a place = load w k place >>= λ v. Ok (extended a v)
+read w k a place = load w k place >>= extended a
 
 abbrev pub address_of : Here → (local : ℕ) → Option Value
-address_of h x = option_map (λ o. At o 0) (bound x h.place.locals)
+address_of h x = option_map (λ o. At o 0) (bound x h.activation.locals)
 
 module _ (c : SlotCode) (t : SlotState) where
   -- the next operator, with this written to a temporary
@@ -173,20 +169,21 @@ module _ (c : SlotCode) (t : SlotState) where
   abbrev pub calls : (at function arguments : ℕ) → Next SlotState
   calls d f n =
       on_temps (last_temps t.temps d n) (λ vs.
+      on_ok (entered c (suc t.here.activation.number) f (reverse vs) t.here.world) (λ h.
       Goes (1 + n) (record {
-        here = entered c (suc t.here.place.number) f (reverse vs) t.here.world;
+        here = h;
         temps = no_temps;
         pc = 0;
         result_at = d;
-        outer = record { place = t.here.place; temps = t.temps; pc = t.pc + 1; result_at = t.result_at } ∷ t.outer;
-      }))
+        outer = record { activation = t.here.activation; temps = t.temps; pc = t.pc + 1; result_at = t.result_at } ∷ t.outer;
+      })))
 
   -- the innermost activation ends with a value
   abbrev pub returns : Value → List Frame → Next SlotState
   returns v [] = on_ok (number_in v) (λ n. Exits (signed n) 1 t)
   returns v (f ∷ outer) =
       Goes 1 (record {
-        here = record { world = (left 0 t.here).world; place = f.place };
+        here = record { world = (left 0 t.here).world; activation = f.activation };
         temps = with_temp f.temps t.result_at v;
         pc = f.pc;
         result_at = f.result_at;
@@ -204,7 +201,7 @@ module _ (c : SlotCode) (t : SlotState) where
   act (Store i j k) = on_temp (t.temps i) (λ p. writes k p j)
   act (ReadRegister d x k a) = on_some (address_of t.here x) (λ p. gives d (read t.here.world k a p))
   act (WriteRegister j x k) = on_some (address_of t.here x) (λ p. writes k p j)
-  act (Convert d a) = on_temp (t.temps d) (λ v. sets d (extended a v))
+  act (Convert d a) = on_temp (t.temps d) (λ v. gives d (extended a v))
   act (Unary d op) = on_temp (t.temps d) (λ v. gives d (unary t.here.world op v))
   act (Binary d i j op) = on_two i j (binary op) d
   act (Compare d i j op) = on_two i j (compared t.here.world op) d
@@ -220,7 +217,7 @@ module _ (c : SlotCode) (t : SlotState) where
   act (Return d) = on_temp (t.temps d) (λ v. returns v t.outer)
   act (Stop q) = Passes q 1 (record t { here = with_point t.here q; pc = t.pc + 1 })
   act (Move i j s) = copies i j (leaves_in (slice_get c.structs s))
-  act (Zero x) = goes (leaf_count_in (local_row c t.here.place.function x)) (zeroed_local c x t.here)
+  act (Zero x) = goes (leaf_count_in (local_row c t.here.activation.function x)) (zeroed_local c x t.here)
   act (Leave n) = goes 0 (left n t.here)
   act (GetChar d) =
       Goes 1 (record t {
@@ -238,9 +235,9 @@ module _ (c : SlotCode) (t : SlotState) where
   act (Exit d) = on_temp (t.temps d) (λ v. on_ok (number_in v) (λ n. Exits (signed n) 1 t))
 
   abbrev pub at_op : Option SlotOp → Next SlotState
-  at_op None = Stuck
+  at_op None = Undefined IllTyped
   at_op (Some op) = act op
 
 -- one step of slot code
 abbrev pub step : SlotCode → SlotState → Next SlotState
-step c t = at_op c t (slice_get (code_of c t.here.place.function) t.pc)
+step c t = at_op c t (slice_get (code_of c t.here.activation.function) t.pc)

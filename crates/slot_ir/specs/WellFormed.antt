@@ -1,18 +1,29 @@
 -- Well-formed slot code: everything that is named is there.
-use Rattle.std.specs.Prelude.{◌≡◌, ◌≤◌, ◌<◌, ℕ, ◌+◌, ◌*◌, ◌^◌, List, [], ◌∷◌, Option, Some, None, slice_get, length, sum, map, ◌⊎◌}
+use Rattle.std.specs.Prelude.{◌≡◌, ◌≤◌, ◌<◌, ℕ, suc, zero, ◌+◌, ◌*◌, ◌%◌, ◌^◌, List, [], ◌∷◌, ◌++◌, Option, Some, None, slice_get, length, sum, map, take, ◌⊎◌}
 use Rattle.std.specs.Int.{next_multiple_of}
 use Rattle.std.specs.List.{AllByRecursion}
+use Rattle.ldb_words.specs.declared.kinds.Kind.{Kind}
+use Rattle.ldb_words.specs.declared.kinds.Kind.TheVariants.{Byte, Word, Address}
 use Rattle.c_tree.specs.declared.types.Leaf.{Leaf}
+use Rattle.c_tree.specs.Layout.{repeated}
+use Rattle.c_tree.specs.Ordered.{width_of, LieIn, IsAligned}
+use Rattle.slot_ir.specs.declared.code.Access.{Access}
+use Rattle.slot_ir.specs.declared.code.Access.TheVariants as access
 use Rattle.slot_ir.specs.declared.code.SlotOp.{SlotOp}
 use Rattle.slot_ir.specs.declared.code.SlotOp.TheVariants.{Const, Null, StaticAddress, TextAddress, LocalAddress, Load, Store, ReadRegister, WriteRegister, Convert, Unary, Binary, Compare, Index, Distance, Offset, Take, Jump, JumpIfZero, JumpIfNotZero, JumpIfEqual, Call, Return, Stop, Move, Zero, Leave, GetChar, PutChar, Exit}
 use Rattle.slot_ir.specs.declared.code.Home.TheVariants.{Block, Register}
 use Rattle.slot_ir.specs.declared.code.SlotCode.{SlotCode}
 use Rattle.slot_ir.specs.declared.code.SlotFunction.{SlotFunction}
 use Rattle.slot_ir.specs.declared.code.SlotLocal.{SlotLocal}
+use Rattle.slot_ir.specs.declared.code.SlotItem.{SlotItem}
+use Rattle.slot_ir.specs.declared.code.SlotItem.TheVariants.{Scalar, Struct}
+use Rattle.slot_ir.specs.declared.code.SlotMember.{SlotMember}
+use Rattle.slot_ir.specs.declared.code.SlotStruct.{SlotStruct}
 use Rattle.slot_ir.specs.declared.code.SlotObject.{SlotObject}
 use Rattle.slot_ir.specs.declared.code.SlotStart.{SlotStart}
 use Rattle.slot_ir.specs.declared.code.SlotValue.{SlotValue}
 use Rattle.slot_ir.specs.declared.code.SlotValue.TheVariants as start
+use Rattle.slot_ir.specs.Slots.{leaves_in}
 
 -- the operators for a token of the sources, at most, and for the tokens that all sources have at most
 abbrev pub operators_of_a_token : ℕ
@@ -47,6 +58,12 @@ abbrev IsAmong : ℕ → List ℕ → Type 0
 IsAmong q [] = ⊥
 IsAmong q (r ∷ rs) = (q ≡ r) ⊎ IsAmong q rs
 
+-- the place is listed for the point
+abbrev pub IsListed : (point place : ℕ) → List ℕ → List ℕ → Type 0
+IsListed q i [] is = ⊥
+IsListed q i (r ∷ rs) [] = ⊥
+IsListed q i (r ∷ rs) (j ∷ js) = ((q ≡ r) × (i ≡ j)) ⊎ IsListed q i rs js
+
 module _ (c : SlotCode) (f : SlotFunction) where
   abbrev IsTemp : ℕ → Type 0
   IsTemp i = i < f.temporaries
@@ -55,7 +72,7 @@ module _ (c : SlotCode) (f : SlotFunction) where
   IsPlace i = i < length f.code
 
   abbrev pub NamesWhatIsThere : SlotOp → Type 0
-  NamesWhatIsThere (Const d n) = IsTemp d
+  NamesWhatIsThere (Const d n) = IsTemp d × (n < 2 ^ 32)
   NamesWhatIsThere (Null d) = IsTemp d
   NamesWhatIsThere (StaticAddress d o) = IsTemp d × (o < length c.objects)
   NamesWhatIsThere (TextAddress d k) = IsTemp d × (k < length c.strings)
@@ -75,7 +92,7 @@ module _ (c : SlotCode) (f : SlotFunction) where
   NamesWhatIsThere (Jump place) = IsPlace place
   NamesWhatIsThere (JumpIfZero d place) = IsTemp d × IsPlace place
   NamesWhatIsThere (JumpIfNotZero d place) = IsTemp d × IsPlace place
-  NamesWhatIsThere (JumpIfEqual d n place) = IsTemp d × IsPlace place
+  NamesWhatIsThere (JumpIfEqual d n place) = IsTemp d × (n < 2 ^ 32) × IsPlace place
   NamesWhatIsThere (Call d g n) = IsTemp d × (d + n ≤ f.temporaries) × TakesIn (slice_get c.functions g) n
   NamesWhatIsThere (Return d) = IsTemp d
   NamesWhatIsThere (Stop q) = IsAmong q f.points
@@ -92,27 +109,121 @@ module _ (c : SlotCode) (f : SlotFunction) where
   PlacesOf (q ∷ qs) (i ∷ is) = (slice_get f.code i ≡ Some (Stop q)) × PlacesOf qs is
   PlacesOf _ _ = ⊥
 
--- a local has a leaf, each in its size, and a parameter has one alone
-abbrev IsLocal : SlotLocal → Type 0
-IsLocal l = (1 ≤ length l.leaves) × (l.size ≤ most_static_bytes) × AllByRecursion (λ (leaf : Leaf). leaf.at < l.size) l.leaves
+  -- a stop stands nowhere but at a place that is listed for its point
+  abbrev pub StopsAreListed : Type 0
+  StopsAreListed = (i q : ℕ) → slice_get f.code i ≡ Some (Stop q) → IsListed q i f.points f.places
+
+-- ---- leaves
+
+-- leaves of something of a size: in order, apart and inside it, each at a multiple of its width, and with at most four bytes for each
+abbrev pub AreLeavesOf : (size : ℕ) → List Leaf → Type 0
+AreLeavesOf size ls = LieIn 0 ls size × AllByRecursion IsAligned ls × (size ≤ 4 * length ls)
+
+-- a byte is extended, and a word and a pointer are taken whole
+abbrev pub IsOfKind : Kind → Access → Type 0
+IsOfKind Byte access.SignedByte = Unit {0}
+IsOfKind Byte access.UnsignedByte = Unit {0}
+IsOfKind Word access.Word = Unit {0}
+IsOfKind Address access.Pointer = Unit {0}
+IsOfKind k a = ⊥
+
+-- one leaf, which is the whole local, and into which an argument is converted by its kind
+abbrev pub IsScalar : SlotLocal → Type 0
+IsScalar l = (leaf : Leaf) × (l.leaves ≡ leaf ∷ []) × (leaf.at ≡ 0) × (l.size ≡ width_of leaf.kind) × IsOfKind leaf.kind l.access
+
+-- ---- functions
+
+-- a local in a register is a scalar
+abbrev pub FitsHome : SlotLocal → Type 0
+FitsHome l = elim l.home as (λ h. Type 0) [ Block ↦ Unit {0} | Register r ↦ (r < 8) × IsScalar l ]
+
+-- a local has a leaf
+abbrev pub IsLocal : SlotLocal → Type 0
+IsLocal l = (1 ≤ length l.leaves) × (l.size ≤ most_static_bytes) × AreLeavesOf l.size l.leaves × FitsHome l
+
+-- no two locals share a register
+abbrev pub HaveOwnRegisters : List SlotLocal → Type 0
+HaveOwnRegisters ls = (x y r : ℕ) (l k : SlotLocal) → slice_get ls x ≡ Some l → slice_get ls y ≡ Some k → l.home ≡ Register r → k.home ≡ Register r → x ≡ y
 
 abbrev pub IsFunction : SlotCode → SlotFunction → Type 0
 IsFunction c f =
-    (1 ≤ length f.code) × (f.params ≤ length f.locals) × (f.params ≤ most_arguments) × AllByRecursion IsLocal f.locals
-    × AllByRecursion (NamesWhatIsThere c f) f.code × PlacesOf c f f.points f.places
+    (1 ≤ length f.code) × (f.params ≤ length f.locals) × (f.params ≤ most_arguments) × AllByRecursion IsScalar (take f.params f.locals) × AllByRecursion IsLocal f.locals
+    × HaveOwnRegisters f.locals × AllByRecursion (NamesWhatIsThere c f) f.code × PlacesOf c f f.points f.places × StopsAreListed c f
+
+-- ---- structs
+
+abbrev size_in : Option SlotStruct → ℕ
+size_in None = 0
+size_in (Some s) = s.size
+
+module _ (c : SlotCode) where
+  abbrev pub item_size : SlotItem → ℕ
+  item_size (Scalar k) = width_of k
+  item_size (Struct s) = size_in (slice_get c.structs s)
+
+  abbrev pub item_leaves : SlotItem → List Leaf
+  item_leaves (Scalar k) = record { at = 0; kind = k } ∷ []
+  item_leaves (Struct s) = leaves_in (slice_get c.structs s)
+
+  abbrev pub leaves_by : List SlotMember → List Leaf
+  leaves_by [] = []
+  leaves_by (m ∷ ms) = repeated m.items (item_size m.item) m.at (item_leaves m.item) ++ leaves_by ms
+
+  abbrev pub IsItemThere : SlotItem → Type 0
+  IsItemThere (Scalar k) = Unit {0}
+  IsItemThere (Struct s) = s < length c.structs
+
+  -- a member has an item, of a struct that is there
+  abbrev pub IsMember : SlotMember → Type 0
+  IsMember m = (1 ≤ m.items) × IsItemThere m.item
+
+  abbrev pub IsStruct : SlotStruct → Type 0
+  IsStruct s = (s.size ≤ most_static_bytes) × AreLeavesOf s.size s.leaves × (s.leaves ≡ leaves_by s.members) × AllByRecursion IsMember s.members
+
+  abbrev members_in : Option SlotStruct → List SlotMember
+  members_in None = []
+  members_in (Some s) = s.members
+
+  -- a struct holds structs that hold others, at most so many deep
+  abbrev pub NestsWithin : (deep : ℕ) → SlotItem → Type 0
+  NestsWithin deep (Scalar k) = Unit {0}
+  NestsWithin zero (Struct s) = ⊥
+  NestsWithin (suc deep) (Struct s) = AllByRecursion (λ (m : SlotMember). NestsWithin deep m.item) (members_in (slice_get c.structs s))
+
+abbrev pub most_nested : ℕ
+most_nested = 64
+
+-- ---- static objects
+
+-- an address lies in its object, or is its end
+abbrev IsInside : ℕ → Option SlotObject → Type 0
+IsInside i None = ⊥
+IsInside i (Some o) = i ≤ o.size
 
 abbrev IsValueIn : SlotCode → SlotValue → Type 0
 IsValueIn c (start.Number n) = n < 2 ^ 32
 IsValueIn c start.Null = Unit {0}
-IsValueIn c (start.Object o i) = o < length c.objects
+IsValueIn c (start.Object o i) = IsInside i (slice_get c.objects o)
 IsValueIn c (start.Str k) = k < length c.strings
 
--- a start has width 1, 2 or 4 and lies in its object
-abbrev pub IsStart : SlotCode → (size : ℕ) → SlotStart → Type 0
-IsStart c size s = ((s.width ≡ 1) ⊎ ((s.width ≡ 2) ⊎ (s.width ≡ 4))) × (s.at + s.width ≤ size) × IsValueIn c s.value
+-- a start of fewer than four bytes is a number (no program has one of two bytes yet)
+abbrev pub IsNumber : SlotValue → Type 0
+IsNumber (start.Number n) = Unit {0}
+IsNumber _ = ⊥
+
+abbrev pub IsWide : SlotStart → Type 0
+IsWide s = (s.width ≡ 4) ⊎ (((s.width ≡ 1) ⊎ (s.width ≡ 2)) × IsNumber s.value)
+
+-- starts in order and apart between two offsets, each at a multiple of its width
+abbrev pub StartsLieIn : ℕ → List SlotStart → ℕ → Type 0
+StartsLieIn from [] end = from ≤ end
+StartsLieIn from (s ∷ ss) end = (from ≤ s.at) × (s.at % s.width ≡ 0) × StartsLieIn (s.at + s.width) ss end
+
+abbrev pub IsStart : SlotCode → SlotStart → Type 0
+IsStart c s = IsWide s × IsValueIn c s.value
 
 abbrev pub IsObject : SlotCode → SlotObject → Type 0
-IsObject c o = AllByRecursion (IsStart c o.size) o.start
+IsObject c o = AllByRecursion (IsStart c) o.start × StartsLieIn 0 o.start o.size
 
 -- the bytes of static objects and strings: each size rounded up to 4, and 4 more
 abbrev room : ℕ → ℕ
@@ -127,4 +238,4 @@ operators_in c = sum (map (λ (f : SlotFunction). length f.code) c.functions)
 abbrev pub IsWellFormed : SlotCode → Type 0
 IsWellFormed c =
     ParamsIn (slice_get c.functions c.main) × AllByRecursion (IsFunction c) c.functions × AllByRecursion (IsObject c) c.objects
-    × (static_bytes c ≤ most_static_bytes) × (operators_in c ≤ most_operators)
+    × AllByRecursion (IsStruct c) c.structs × ((s : ℕ) → NestsWithin c most_nested (Struct s)) × (static_bytes c ≤ most_static_bytes) × (operators_in c ≤ most_operators)

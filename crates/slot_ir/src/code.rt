@@ -287,10 +287,26 @@ pub struct SlotObject {
     pub start: Many<SlotStart>,
 }
 
-/// The size and the leaves of a struct that is copied.
+/// What a member has items of: a scalar, or the struct of that number.
+#[derive(Clone, Copy, PartialEq, Eq, Debug)]
+pub enum SlotItem {
+    Scalar(Kind),
+    Struct(u32),
+}
+
+/// A member of a struct: where it begins, in bytes, and how many items it has, one behind the other. One that is no array has one item, and an array of arrays has the items of all.
+#[derive(Clone, Copy, PartialEq, Eq, Debug)]
+pub struct SlotMember {
+    pub at: u32,
+    pub items: u32,
+    pub item: SlotItem,
+}
+
+/// A struct that is copied: its size, its members, and its leaves, which are those of its members.
 #[derive(Drop)]
 pub struct SlotStruct {
     pub size: u32,
+    pub members: Many<SlotMember>,
     pub leaves: Many<Leaf>,
 }
 

@@ -4,6 +4,6 @@
 mod code;
 
 pub use code::{
-    Access, Home, PointerOp, SlotCode, SlotFunction, SlotLocal, SlotObject, SlotOp, SlotStart,
-    SlotStruct, SlotValue, UnaryWordOp, WordOp,
+    Access, Home, PointerOp, SlotCode, SlotFunction, SlotItem, SlotLocal, SlotMember, SlotObject,
+    SlotOp, SlotStart, SlotStruct, SlotValue, UnaryWordOp, WordOp,
 };

@@ -1,0 +1,249 @@
+-- The rows of structs: their leaves are those of their members, and they nest at most 64 deep.
+use Rattle.std.proofs.Common.{◌≡◌, refl, sym, ap, subst, ◌∙◌, arith, ℕ, suc, zero, ◌+◌, ◌*◌, ◌<◌, ◌≤◌, List, [], ◌∷◌, ◌++◌, map, length, true, true≢false, Option, Some, None, slice_get, append_assoc}
+use Rattle.std.proofs.lemmas.List.{append-nil}
+use Rattle.std.specs.List.{AllByRecursion}
+use Rattle.ldb_words.specs.declared.kinds.Kind.{Kind}
+use Rattle.c_tree.specs.declared.types.CType.{CType}
+use Rattle.c_tree.specs.declared.types.CType.TheVariants.{Char, Int, Unsigned, Void, Pointer', Array', Struct}
+use Rattle.c_tree.specs.declared.types.StructDef.{StructDef}
+use Rattle.c_tree.specs.declared.types.Member.{Member}
+use Rattle.c_tree.specs.declared.types.Leaf.{Leaf}
+use Rattle.c_tree.specs.declared.rows.Program.{Program}
+use Rattle.c_tree.specs.Layout.{size_of, size_in, members_in, members_of, IsWithin, leaves_within, leaves_of, leaves_at, leaves_of_members, repeated}
+use Rattle.c_tree.specs.Ordered.{LieIn, IsAligned}
+use Rattle.c_tree.proofs.Aligned.{same_leaves}
+use Rattle.std.proofs.Math.Nat.{one-le-mul}
+use Rattle.std.specs.Prelude.{nat_le}
+use Rattle.c_typing.specs.Plain.{plain, is_complete}
+use Rattle.c_typing.specs.Written.{IsFormed, IsDeclared}
+use Rattle.c_typing.specs.Declared.{IsStruct as IsItsStruct}
+use Rattle.c_typing.specs.Accepted.{AllFrom}
+use Rattle.slot_ir.specs.declared.code.SlotCode.{SlotCode}
+use Rattle.slot_ir.specs.declared.code.SlotItem.{SlotItem}
+use Rattle.slot_ir.specs.declared.code.SlotItem.TheVariants as an_item
+use Rattle.slot_ir.specs.declared.code.SlotMember.{SlotMember}
+use Rattle.slot_ir.specs.declared.code.SlotStruct.{SlotStruct}
+use Rattle.slot_ir.specs.Slots.{leaves_in}
+use Rattle.slot_ir.specs.WellFormed.{AreLeavesOf, item_size, item_leaves, leaves_by, IsItemThere, IsMember, IsStruct, NestsWithin}
+use Rattle.slot_gen.specs.Rows.{item_of, items_of, member_of}
+use Rattle.slot_formed.specs.Code.{struct_row, struct_rows}
+use Rattle.slot_formed.proofs.Sizes.{struct_there}
+use Rattle.slot_formed.proofs.Homes.{structs_length}
+use Rattle.slot_formed.proofs.Lists.{and_parts}
+
+-- ---- items one behind the other
+
+leaves_further : (a b : ℕ) (ls : List Leaf) → leaves_at a (leaves_at b ls) ≡ leaves_at (a + b) ls
+leaves_further a b [] = refl
+leaves_further a b (l ∷ ls) = let e : a + (b + l.at) ≡ (a + b) + l.at = omega arith in ap (λ n. record l { at = n } ∷ leaves_at a (leaves_at b ls)) e ∙ ap (λ rest. record l { at = (a + b) + l.at } ∷ rest) (leaves_further a b ls)
+
+leaves_joined : (a : ℕ) (xs ys : List Leaf) → leaves_at a (xs ++ ys) ≡ leaves_at a xs ++ leaves_at a ys
+leaves_joined a [] ys = refl
+leaves_joined a (l ∷ xs) ys = ap (λ rest. record l { at = a + l.at } ∷ rest) (leaves_joined a xs ys)
+
+repeated_further : (a n size at : ℕ) (ls : List Leaf) → leaves_at a (repeated n size at ls) ≡ repeated n size (a + at) ls
+repeated_further a zero size at ls = refl
+repeated_further a (suc n) size at ls =
+    let e : a + (at + size) ≡ (a + at) + size = omega arith in
+    leaves_joined a (leaves_at at ls) (repeated n size (at + size) ls)
+    ∙ ap (λ front. front ++ leaves_at a (repeated n size (at + size) ls)) (leaves_further a at ls)
+    ∙ ap (λ rest. leaves_at (a + at) ls ++ rest) (repeated_further a n size (at + size) ls ∙ ap (λ i. repeated n size i ls) e)
+
+repeated_more : (a b size at : ℕ) (ls : List Leaf) → repeated (a + b) size at ls ≡ repeated a size at ls ++ repeated b size (at + a * size) ls
+repeated_more zero b size at ls =
+    let n : 0 + b ≡ b = omega arith in
+    let i : at ≡ at + 0 * size = omega arith in
+    ap (λ k. repeated k size at ls) n ∙ ap (λ j. repeated b size j ls) i
+repeated_more (suc a) b size at ls =
+    let n : suc a + b ≡ suc (a + b) = omega arith in
+    let i : (at + size) + a * size ≡ at + suc a * size = omega arith in
+    ap (λ k. repeated k size at ls) n
+    ∙ ap (λ rest. leaves_at at ls ++ rest) (repeated_more a b size (at + size) ls ∙ ap (λ j. repeated a size (at + size) ls ++ repeated b size j ls) i)
+    ∙ sym (append_assoc (leaves_at at ls) (repeated a size (at + size) ls) (repeated b size (at + suc a * size) ls))
+
+-- items that have items themselves
+repeated_twice : (n m size wide : ℕ) (xs ls : List Leaf) → wide ≡ m * size → ((at : ℕ) → leaves_at at xs ≡ repeated m size at ls) → (at : ℕ) → repeated n wide at xs ≡ repeated (n * m) size at ls
+repeated_twice zero m size wide xs ls w h at = let z : 0 ≡ 0 * m = omega arith in ap (λ k. repeated k size at ls) z
+repeated_twice (suc n) m size wide xs ls w h at =
+    let more : m + n * m ≡ suc n * m = omega arith in
+    ap (λ front. front ++ repeated n wide (at + wide) xs) (h at)
+    ∙ ap (λ rest. repeated m size at ls ++ rest) (repeated_twice n m size wide xs ls w h (at + wide) ∙ ap (λ k. repeated (n * m) size (at + k) ls) w)
+    ∙ sym (repeated_more m (n * m) size at ls)
+    ∙ ap (λ k. repeated k size at ls) more
+
+-- ---- the rows of structs
+
+struct_from : (defs : List StructDef) (n : ℕ) (ds : List StructDef) (i : ℕ) → slice_get (struct_rows defs n ds) i ≡ elim (slice_get ds i) [ None ↦ None | Some d ↦ Some (struct_row defs (i + n) d) ]
+struct_from defs n [] i = refl
+struct_from defs n (d ∷ ds) zero = let z : n ≡ 0 + n = omega arith in ap (λ k. Some (struct_row defs k d)) z
+struct_from defs n (d ∷ ds) (suc i) =
+    let z : i + suc n ≡ suc i + n = omega arith in
+    struct_from defs (suc n) ds i ∙ ap (λ k. elim (slice_get ds i) [ None ↦ None | Some d ↦ Some (struct_row defs k d) ]) z
+
+module _ (defs : List StructDef) where
+  row_is : (s : ℕ) (o : Option StructDef) → slice_get defs s ≡ o → slice_get (struct_rows defs 0 defs) s ≡ elim o [ None ↦ None | Some d ↦ Some (struct_row defs s d) ]
+  row_is s o e =
+      let z : s + 0 ≡ s = omega arith in
+      struct_from defs 0 defs s ∙ ap (λ k. elim (slice_get defs s) [ None ↦ None | Some d ↦ Some (struct_row defs k d) ]) z ∙ ap (λ o. elim o [ None ↦ None | Some d ↦ Some (struct_row defs s d) ]) e
+
+module _ (c : SlotCode) (defs : List StructDef) (same : c.structs ≡ struct_rows defs 0 defs) where
+  abbrev size_by : Option SlotStruct → ℕ
+  size_by None = 0
+  size_by (Some s) = s.size
+
+  abbrev members_by : Option SlotStruct → List SlotMember
+  members_by None = []
+  members_by (Some s) = s.members
+
+  here : (s : ℕ) → slice_get c.structs s ≡ slice_get (struct_rows defs 0 defs) s
+  here s = ap (λ rows. slice_get rows s) same
+
+  size_there : (s : ℕ) → size_by (slice_get c.structs s) ≡ size_in (slice_get defs s)
+  size_there s = by (slice_get defs s) refl
+    where
+      by : (o : Option StructDef) → slice_get defs s ≡ o → size_by (slice_get c.structs s) ≡ size_in (slice_get defs s)
+      by None e = ap size_by (here s ∙ row_is defs s None e) ∙ sym (ap size_in e)
+      by (Some d) e = ap size_by (here s ∙ row_is defs s (Some d) e) ∙ sym (ap size_in e)
+
+  leaves_there : (s : ℕ) → leaves_in (slice_get c.structs s) ≡ leaves_of defs (Struct s)
+  leaves_there s = by (slice_get defs s) refl
+    where
+      by : (o : Option StructDef) → slice_get defs s ≡ o → leaves_in (slice_get c.structs s) ≡ leaves_of defs (Struct s)
+      by None e = ap leaves_in (here s ∙ row_is defs s None e) ∙ sym (ap (λ o. leaves_of_members (leaves_within defs 63) (members_in o)) e)
+      by (Some d) e = ap leaves_in (here s ∙ row_is defs s (Some d) e)
+
+  members_there : (s : ℕ) → members_by (slice_get c.structs s) ≡ map member_of (members_in (slice_get defs s))
+  members_there s = by (slice_get defs s) refl
+    where
+      by : (o : Option StructDef) → slice_get defs s ≡ o → members_by (slice_get c.structs s) ≡ map member_of (members_in (slice_get defs s))
+      by None e = ap members_by (here s ∙ row_is defs s None e) ∙ sym (ap (λ o. map member_of (members_in o)) e)
+      by (Some d) e = ap members_by (here s ∙ row_is defs s (Some d) e) ∙ sym (ap (λ o. map member_of (members_in o)) e)
+
+  -- ---- the items of a type
+
+  one_time : (n : ℕ) → n ≡ 1 * n
+  one_time n = omega arith
+
+  size_is : (t : CType) → size_of defs t ≡ items_of t * item_size c (item_of t)
+  size_is Char = refl
+  size_is Int = refl
+  size_is Unsigned = refl
+  size_is Void = refl
+  size_is (Pointer' _ t) = refl
+  size_is (Array' _ t n) = ap (λ k. n * k) (size_is t) ∙ times n (items_of t) (item_size c (item_of t))
+    where
+      times : (a b d : ℕ) → a * (b * d) ≡ (a * b) * d
+      times a b d = grind arith
+  size_is (Struct s) = sym (size_there s) ∙ one_time (size_by (slice_get c.structs s))
+
+  items_are : (deep : ℕ) → deep ≤ 64 → (t : CType) → IsWithin defs deep t → (at : ℕ) → leaves_at at (leaves_within defs deep t) ≡ repeated (items_of t) (item_size c (item_of t)) at (item_leaves c (item_of t))
+  items_are zero le t w at = absurd w
+  items_are (suc deep) le Char w at = refl
+  items_are (suc deep) le Int w at = refl
+  items_are (suc deep) le Unsigned w at = refl
+  items_are (suc deep) le Void w at = refl
+  items_are (suc deep) le (Pointer' _ t) w at = refl
+  items_are (suc deep) le (Array' _ t n) w at =
+      let low : deep ≤ 64 = omega (arith, le) in
+      let z : at + 0 ≡ at = omega arith in
+      repeated_further at n (size_of defs t) 0 (leaves_within defs deep t)
+      ∙ ap (λ i. repeated n (size_of defs t) i (leaves_within defs deep t)) z
+      ∙ repeated_twice n (items_of t) (item_size c (item_of t)) (size_of defs t) (leaves_within defs deep t) (item_leaves c (item_of t)) (size_is t) (items_are deep low t w) at
+  items_are (suc deep) le (Struct s) w at =
+      ap (leaves_at at) (sym (same_leaves defs (suc deep) 64 le (Struct s) w) ∙ sym (leaves_there s)) ∙ sym (append-nil (leaves_at at (leaves_in (slice_get c.structs s))))
+
+  members_are : (ms : List Member) → AllByRecursion (λ (m : Member). IsWithin defs 63 m.ctype) ms → leaves_of_members (leaves_within defs 63) ms ≡ leaves_by c (map member_of ms)
+  members_are [] w = refl
+  members_are (m ∷ ms) w =
+      let low : 63 ≤ 64 = omega arith in
+      ap (λ front. front ++ leaves_of_members (leaves_within defs 63) ms) (items_are 63 low m.ctype w.0 m.at)
+      ∙ ap (λ rest. repeated (items_of m.ctype) (item_size c (item_of m.ctype)) m.at (item_leaves c (item_of m.ctype)) ++ rest) (members_are ms w.1)
+
+  -- ---- how deep they nest
+
+  more_deep : (deep : ℕ) (i : SlotItem) → NestsWithin c deep i → NestsWithin c (suc deep) i
+  more_deep deep (an_item.Scalar k) h = tt
+  more_deep zero (an_item.Struct s) h = absurd h
+  more_deep (suc deep) (an_item.Struct s) h = all (members_by (slice_get c.structs s)) h
+    where
+      all : (ms : List SlotMember) → AllByRecursion (λ (m : SlotMember). NestsWithin c deep m.item) ms → AllByRecursion (λ (m : SlotMember). NestsWithin c (suc deep) m.item) ms
+      all [] h = tt
+      all (m ∷ ms) h = (more_deep deep m.item h.0, all ms h.1)
+
+  members_nest : (deep : ℕ) → ((t : CType) → IsWithin defs deep t → NestsWithin c deep (item_of t)) → (ms : List Member) → AllByRecursion (λ (m : Member). IsWithin defs deep m.ctype) ms
+      → AllByRecursion (λ (m : SlotMember). NestsWithin c deep m.item) (map member_of ms)
+  members_nest deep go [] w = tt
+  members_nest deep go (m ∷ ms) w = (go m.ctype w.0, members_nest deep go ms w.1)
+
+  nests : (deep : ℕ) (t : CType) → IsWithin defs deep t → NestsWithin c deep (item_of t)
+  nests zero t w = absurd w
+  nests (suc deep) Char w = tt
+  nests (suc deep) Int w = tt
+  nests (suc deep) Unsigned w = tt
+  nests (suc deep) Void w = tt
+  nests (suc deep) (Pointer' _ t) w = tt
+  nests (suc deep) (Array' _ t n) w = more_deep deep (item_of t) (nests deep t w)
+  nests (suc deep) (Struct s) w =
+      subst (λ (ms : List SlotMember). AllByRecursion (λ (m : SlotMember). NestsWithin c deep m.item) ms) (sym (members_there s)) (members_nest deep (nests deep) (members_in (slice_get defs s)) w)
+
+  module _ (structs : AllFrom (IsItsStruct defs) 0 defs) where
+    -- a struct is at most 64 deep, also where there is none of that number
+    within : (s : ℕ) → IsWithin defs 64 (Struct s)
+    within s = by (slice_get defs s) refl
+      where
+        by : (o : Option StructDef) → slice_get defs s ≡ o → AllByRecursion (λ (m : Member). IsWithin defs 63 m.ctype) (members_in (slice_get defs s))
+        by None e = subst (λ o. AllByRecursion (λ (m : Member). IsWithin defs 63 m.ctype) (members_in o)) (sym e) tt
+        by (Some d) e = (struct_there defs structs s d e).0.0
+
+    pub all_nest : (s : ℕ) → NestsWithin c 64 (an_item.Struct s)
+    all_nest s = nests 64 (Struct s) (within s)
+
+    item_there : (t : CType) → IsFormed defs t → IsItemThere c (item_of t)
+    item_there Char h = tt
+    item_there Int h = tt
+    item_there Unsigned h = tt
+    item_there Void h = tt
+    item_there (Pointer' _ t) h = tt
+    item_there (Array' _ t n) h = item_there t h.0
+    item_there (Struct s) h = subst (λ (rows : List SlotStruct). s < length rows) (sym same) (subst (λ n. s < n) (sym (structs_length defs 0 defs)) h.0)
+
+    at_least_one : (n : ℕ) → nat_le 1 n ≡ true → 1 ≤ n
+    at_least_one n h = grind arith
+
+    has_items : (t : CType) → is_complete defs (plain t) ≡ true → 1 ≤ items_of t
+    has_items Char h = omega arith
+    has_items Int h = omega arith
+    has_items Unsigned h = omega arith
+    has_items Void h = absurd (true≢false (sym h))
+    has_items (Pointer' _ t) h = omega arith
+    has_items (Array' _ t n) h = let q = and_parts (nat_le 1 n) (is_complete defs (plain t)) h in one-le-mul (at_least_one n q.0) (has_items t q.1)
+    has_items (Struct s) h = omega arith
+
+    members_there_all : (ms : List Member) → AllByRecursion (λ (m : Member). IsDeclared defs m.ctype) ms → AllByRecursion (IsMember c) (map member_of ms)
+    members_there_all [] h = tt
+    members_there_all (m ∷ ms) h = ((has_items m.ctype h.0.1, item_there m.ctype h.0.0.1), members_there_all ms h.1)
+
+    module _ (leaves : (t : CType) → IsWithin defs 64 t → AreLeavesOf (size_of defs t) (leaves_of defs t)) where
+      row_good : (s : ℕ) (d : StructDef) → slice_get defs s ≡ Some d → IsStruct c (struct_row defs s d)
+      row_good s d e =
+          let w = within s in
+          let members = ap members_in e in
+          let its = struct_there defs structs s d e in
+          let by_members : leaves_of defs (Struct s) ≡ leaves_of_members (leaves_within defs 63) d.members = ap (leaves_of_members (leaves_within defs 63)) members in (
+            subst (λ o. size_in o ≤ 1048576) e its.0.1.1,
+            subst (λ n. AreLeavesOf n (leaves_of defs (Struct s))) (ap size_in e) (leaves (Struct s) w),
+            by_members ∙ members_are d.members (subst (λ ms. AllByRecursion (λ (m : Member). IsWithin defs 63 m.ctype) ms) members w),
+            members_there_all d.members its.2,
+          )
+
+      rows_good : (n : ℕ) (ds : List StructDef) → ((i : ℕ) (d : StructDef) → slice_get ds i ≡ Some d → slice_get defs (i + n) ≡ Some d) → AllByRecursion (IsStruct c) (struct_rows defs n ds)
+      rows_good n [] at = tt
+      rows_good n (d ∷ ds) at =
+          let z : 0 + n ≡ n = omega arith in (
+            row_good n d (ap (λ k. slice_get defs k) (sym z) ∙ at 0 d refl),
+            rows_good (suc n) ds λ i g e. let w : i + suc n ≡ suc i + n = omega arith in ap (λ k. slice_get defs k) w ∙ at (suc i) g e,
+          )
+
+      pub all_structs : AllByRecursion (IsStruct c) c.structs
+      all_structs =
+          subst (λ rows. AllByRecursion (IsStruct c) rows) (sym same) (rows_good 0 defs λ i d e. let z : i + 0 ≡ i = omega arith in ap (λ k. slice_get defs k) z ∙ e)
