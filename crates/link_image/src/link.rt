@@ -3,8 +3,8 @@
 use crate::patch::{patched_statics, patched_text};
 use crate::placing::{Placing, placing_of};
 use crate::rows::add_rows;
-use ldb_words::Many;
-use machine_state::TEXT;
+use ldb_words::{Many, Text};
+use machine_state::{DATA, TEXT};
 use obj_file::{FunctionRow, Image, LoaderRows, Object, StaticDef};
 use std::alloc::{AllocError, Global};
 
@@ -13,33 +13,35 @@ use std::alloc::{AllocError, Global};
 struct Parts {
     text: Vec<u8>,
     statics: Vec<u8>,
+    anchors: usize,
     rows: Vec<FunctionRow>,
 }
 
-/// Zeros up to a multiple of 4, and four more, where there is something before them.
-fn add_gap(statics: &mut Vec<u8>) -> Result<(), AllocError> {
-    if statics.is_empty() {
-        return Ok(());
-    }
-    let length = statics
-        .len()
-        .checked_next_multiple_of(4)
-        .and_then(|n| n.checked_add(4))
-        .ok_or(AllocError)?;
-    for _ in statics.len()..length {
+/// Zeros up to an offset.
+fn fill(statics: &mut Vec<u8>, to: u32) -> Result<(), AllocError> {
+    for _ in statics.len()..to as usize {
         statics.push(0)?;
     }
     Ok(())
 }
 
-/// The bytes of static objects, which lie one after another in these, each where it is placed.
-fn add_statics(statics: &mut Vec<u8>, rows: &[StaticDef], bytes: &[u8]) -> Result<(), AllocError> {
+/// The bytes of static objects, which lie one after another in these, each at its address.
+fn add_statics(
+    statics: &mut Vec<u8>,
+    anchors: &[(Text, u32)],
+    first: usize,
+    rows: &[StaticDef],
+    bytes: &[u8],
+) -> Result<(), AllocError> {
     let mut from: usize = 0;
+    let mut number = first;
     for row in rows {
         let end = from.checked_add(row.bytes.len()).ok_or(AllocError)?;
-        add_gap(statics)?;
+        let (_, address) = anchors.get(number).ok_or(AllocError)?;
+        fill(statics, address.checked_sub(DATA).ok_or(AllocError)?)?;
         statics.extend_from_slice(bytes.get(from..end).ok_or(AllocError)?)?;
         from = end;
+        number = number.checked_add(1).ok_or(AllocError)?;
     }
     Ok(())
 }
@@ -55,7 +57,10 @@ fn add_object<'a>(
     let text = patched_text(alloc, placing, object, base)?;
     parts.text.extend_from_slice(&text)?;
     let bytes = patched_statics(alloc, placing, object)?;
-    add_statics(&mut parts.statics, object.statics.as_slice(), &bytes)?;
+    let first = parts.anchors;
+    let rows = object.statics.as_slice();
+    add_statics(&mut parts.statics, &placing.anchors, first, rows, &bytes)?;
+    parts.anchors = first.checked_add(rows.len()).ok_or(AllocError)?;
     add_rows(alloc, &mut parts.rows, base, object.functions.as_slice())
 }
 
@@ -68,6 +73,7 @@ fn parts_of<'a>(
     let mut parts = Parts {
         text: Vec::new(alloc),
         statics: Vec::new(alloc),
+        anchors: 0,
         rows: Vec::new(alloc),
     };
     for i in 0..objects.len() {
