@@ -1,4 +1,8 @@
 // The instructions of flat operators.
+ghost use Rattle.std.specs.Prelude.{◌≡◌, ◌<◌, ℕ, ◌+◌, ◌*◌, ◌%◌, [], ◌∷◌, ◌++◌, IfOk, OnOk};
+ghost use Rattle.mips_isa.specs.declared.insn.Insn.TheVariants.{Addu};
+ghost use Rattle.flat_ir.specs.declared.code.FlatOp.TheVariants as flat;
+ghost use Rattle.mips_gen.specs.Insns.{register_of, word_insns, load_insn, store_insn, extend_insns, fill_insns, unary_insns, turned_insns, long_insns, binary_insns, scale_insns, apart_insns, pass_insns, landed_insn, argument_insns, insns};
 
 use crate::emit::{put, put_all, put_get, put_put, put_word};
 use crate::instructions::{
@@ -16,7 +20,10 @@ use slot_ir::{Access, UnaryWordOp, WordOp};
 use std::alloc::AllocError;
 
 /// The register of a scratch word.
-fn scratch(word: Scratch) -> u8 {
+fn scratch(word: Scratch) -> u8
+    ensures value { result ≡ register_of word }
+    ensures in_range { result < 32 }
+{
     match word {
         Scratch::A => A,
         Scratch::B => B,
@@ -24,13 +31,18 @@ fn scratch(word: Scratch) -> u8 {
 }
 
 /// An address in the frame.
-fn put_frame_address(code: &mut Vec<Insn>, to: u8, at: u32) -> Result<(), AllocError> {
+fn put_frame_address(code: &mut Vec<Insn>, to: u8, at: u32) -> Result<(), AllocError>
+    requires { to < 32 }
+    ensures { OnOk result (code.new.items ≡ code.old.items ++ word_insns to at ++ Addu to to 29 ∷ []) }
+{
     put_word(code, to, at)?;
     put(code, addu(to, to, STACK_POINTER))
 }
 
 /// The load of a value.
-fn load_of(access: Access) -> Insn {
+fn load_of(access: Access) -> Insn
+    ensures { result ≡ load_insn access }
+{
     match access {
         Access::SignedByte => lb(A, A, 0),
         Access::UnsignedByte => lbu(A, A, 0),
@@ -41,7 +53,11 @@ fn load_of(access: Access) -> Insn {
 }
 
 /// The store of a register at an address and a short distance.
-fn store_of(kind: Kind, from: u8, base: u8, at: u16) -> Insn {
+fn store_of(kind: Kind, from: u8, base: u8, at: u16) -> Insn
+    requires from_fits { from < 32 }
+    requires base_fits { base < 32 }
+    ensures { result ≡ store_insn kind from base at }
+{
     match kind {
         Kind::Byte => sb(from, base, at),
         Kind::Word | Kind::Address => sw(from, base, at),
@@ -49,7 +65,9 @@ fn store_of(kind: Kind, from: u8, base: u8, at: u16) -> Insn {
 }
 
 /// A extended to a word.
-fn put_extend(code: &mut Vec<Insn>, access: Access) -> Result<(), AllocError> {
+fn put_extend(code: &mut Vec<Insn>, access: Access) -> Result<(), AllocError>
+    ensures { OnOk result (code.new.items ≡ code.old.items ++ extend_insns access) }
+{
     match access {
         Access::SignedByte => put_all(code, &[sll(A, A, 24), sra(A, A, 24)]),
         Access::UnsignedByte => put(code, andi(A, A, 0xff)),
@@ -60,7 +78,9 @@ fn put_extend(code: &mut Vec<Insn>, access: Access) -> Result<(), AllocError> {
 }
 
 /// Zeros from A on, up to so many bytes behind it.
-fn put_fill(code: &mut Vec<Insn>, bytes: u32) -> Result<(), AllocError> {
+fn put_fill(code: &mut Vec<Insn>, bytes: u32) -> Result<(), AllocError>
+    ensures { OnOk result (code.new.items ≡ code.old.items ++ fill_insns bytes) }
+{
     put_word(code, OWN, bytes)?;
     put_all(
         code,
@@ -75,7 +95,9 @@ fn put_fill(code: &mut Vec<Insn>, bytes: u32) -> Result<(), AllocError> {
 }
 
 /// An operator on A.
-fn put_unary(code: &mut Vec<Insn>, op: UnaryWordOp) -> Result<(), AllocError> {
+fn put_unary(code: &mut Vec<Insn>, op: UnaryWordOp) -> Result<(), AllocError>
+    ensures { OnOk result (code.new.items ≡ code.old.items ++ unary_insns op) }
+{
     match op {
         UnaryWordOp::Plus => Ok(()),
         UnaryWordOp::Minus | UnaryWordOp::MinusUnsigned => put(code, subu(A, ZERO, A)),
@@ -86,17 +108,23 @@ fn put_unary(code: &mut Vec<Insn>, op: UnaryWordOp) -> Result<(), AllocError> {
 }
 
 /// A comparison, and its answer turned.
-fn put_turned(code: &mut Vec<Insn>, compare: Insn) -> Result<(), AllocError> {
+fn put_turned(code: &mut Vec<Insn>, compare: Insn) -> Result<(), AllocError>
+    ensures { OnOk result (code.new.items ≡ code.old.items ++ turned_insns compare) }
+{
     put_all(code, &[compare, xori(A, A, 1)])
 }
 
 /// An operator that leaves its result in LO or HI, which no instruction read shortly before.
-fn put_long_op(code: &mut Vec<Insn>, op: Insn, take: Insn) -> Result<(), AllocError> {
+fn put_long_op(code: &mut Vec<Insn>, op: Insn, take: Insn) -> Result<(), AllocError>
+    ensures { OnOk result (code.new.items ≡ code.old.items ++ long_insns op take) }
+{
     put_all(code, &[no_op(), no_op(), op, take])
 }
 
 /// An operator on A and B.
-fn put_binary(code: &mut Vec<Insn>, op: WordOp) -> Result<(), AllocError> {
+fn put_binary(code: &mut Vec<Insn>, op: WordOp) -> Result<(), AllocError>
+    ensures { OnOk result (code.new.items ≡ code.old.items ++ binary_insns op) }
+{
     match op {
         WordOp::Or => put(code, or(A, A, B)),
         WordOp::Xor => put(code, xor(A, A, B)),
@@ -125,7 +153,9 @@ fn put_binary(code: &mut Vec<Insn>, op: WordOp) -> Result<(), AllocError> {
 }
 
 /// A moved by B items. The two instructions before MULT keep it from HI and LO being read.
-fn put_scale(code: &mut Vec<Insn>, size: u32, back: bool) -> Result<(), AllocError> {
+fn put_scale(code: &mut Vec<Insn>, size: u32, back: bool) -> Result<(), AllocError>
+    ensures { OnOk result (code.new.items ≡ code.old.items ++ scale_insns size back) }
+{
     put_word(code, OWN, size)?;
     put_all(code, &[mult(B, OWN), mflo(OWN)])?;
     if back {
@@ -136,13 +166,17 @@ fn put_scale(code: &mut Vec<Insn>, size: u32, back: bool) -> Result<(), AllocErr
 }
 
 /// How many items lie between B and A.
-fn put_apart(code: &mut Vec<Insn>, size: u32) -> Result<(), AllocError> {
+fn put_apart(code: &mut Vec<Insn>, size: u32) -> Result<(), AllocError>
+    ensures { OnOk result (code.new.items ≡ code.old.items ++ apart_insns size) }
+{
     put_word(code, OWN, size)?;
     put_all(code, &[subu(A, A, B), div(A, OWN), mflo(A)])
 }
 
 /// A jump where A is 0, or where it is not, over which a branch goes otherwise.
-fn put_jump_if(code: &mut Vec<Insn>, zero: bool) -> Result<(), AllocError> {
+fn put_jump_if(code: &mut Vec<Insn>, zero: bool) -> Result<(), AllocError>
+    ensures { (frame place : ℕ) → OnOk result (code.new.items ≡ code.old.items ++ insns frame (flat.JumpIf zero place)) }
+{
     let over = if zero {
         bne(A, ZERO, 3)
     } else {
@@ -152,17 +186,24 @@ fn put_jump_if(code: &mut Vec<Insn>, zero: bool) -> Result<(), AllocError> {
 }
 
 /// Where the argument of a number lies above a stack pointer.
-fn argument_at(number: u32) -> Result<u32, AllocError> {
+fn argument_at(number: u32) -> Result<u32, AllocError>
+    ensures { IfOk result (λ n. n ≡ number * 4) }
+{
     number.checked_mul(4).ok_or(AllocError)
 }
 
 /// The register of an argument below 4.
-fn argument_register(number: u32) -> u8 {
+fn argument_register(number: u32) -> u8
+    ensures value { result ≡ 4 + number % 4 }
+    ensures in_range { result < 32 }
+{
     ARGUMENT + (number % ARGUMENT_REGISTERS) as u8
 }
 
 /// A word of the frame as an argument.
-fn put_pass(code: &mut Vec<Insn>, number: u32, at: u32) -> Result<(), AllocError> {
+fn put_pass(code: &mut Vec<Insn>, number: u32, at: u32) -> Result<(), AllocError>
+    ensures { OnOk result (code.new.items ≡ code.old.items ++ pass_insns number at) }
+{
     if number < ARGUMENT_REGISTERS {
         put_get(code, argument_register(number), at)
     } else {
@@ -172,7 +213,10 @@ fn put_pass(code: &mut Vec<Insn>, number: u32, at: u32) -> Result<(), AllocError
 }
 
 /// An argument in a register where it is put.
-fn put_landed(code: &mut Vec<Insn>, from: u8, landing: Landing) -> Result<(), AllocError> {
+fn put_landed(code: &mut Vec<Insn>, from: u8, landing: Landing) -> Result<(), AllocError>
+    requires { from < 32 }
+    ensures { OnOk result (code.new.items ≡ code.old.items ++ landed_insn from landing ∷ []) }
+{
     match landing {
         Landing::Frame { at, kind } => {
             let at = u16::try_from(at).map_err(|_| AllocError)?;
@@ -188,7 +232,9 @@ fn put_argument(
     frame: u32,
     number: u32,
     landing: Landing,
-) -> Result<(), AllocError> {
+) -> Result<(), AllocError>
+    ensures { OnOk result (code.new.items ≡ code.old.items ++ argument_insns frame number landing) }
+{
     if number < ARGUMENT_REGISTERS {
         put_landed(code, argument_register(number), landing)
     } else {
@@ -199,7 +245,9 @@ fn put_argument(
 }
 
 /// A request.
-fn put_ask(code: &mut Vec<Insn>, request: Request) -> Result<(), AllocError> {
+fn put_ask(code: &mut Vec<Insn>, request: Request) -> Result<(), AllocError>
+    ensures { (frame : ℕ) → OnOk result (code.new.items ≡ code.old.items ++ insns frame (flat.Ask request)) }
+{
     let number = match request {
         Request::GetChar => GET_CHAR,
         Request::PutChar => PUT_CHAR,
@@ -217,7 +265,9 @@ fn put_ask(code: &mut Vec<Insn>, request: Request) -> Result<(), AllocError> {
 }
 
 /// The instructions of an operator in a frame of so many bytes.
-pub fn put_op(code: &mut Vec<Insn>, frame: u32, op: &FlatOp) -> Result<(), AllocError> {
+pub fn put_op(code: &mut Vec<Insn>, frame: u32, op: &FlatOp) -> Result<(), AllocError>
+    ensures { OnOk result (code.new.items ≡ code.old.items ++ insns frame op.now) }
+{
     match *op {
         FlatOp::Set { to, bits } => put_word(code, scratch(to), bits),
         FlatOp::StaticAddress { to, object: _ } => put_word(code, scratch(to), 0),

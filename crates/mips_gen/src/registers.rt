@@ -1,4 +1,5 @@
 // What each register is for, and what lies at the stack pointer.
+ghost use Rattle.std.specs.Prelude.{◌≡◌, ◌<◌, ◌+◌, IfOk};
 
 use std::alloc::AllocError;
 
@@ -59,7 +60,9 @@ pub const SAVED: [(u8, u32); 9] = [
 ];
 
 /// The register of a local by its number.
-pub fn local_register(number: u8) -> Result<u8, AllocError> {
+pub fn local_register(number: u8) -> Result<u8, AllocError>
+    ensures { IfOk result (λ r. (r ≡ 16 + number) × (r < 32)) }
+{
     if number < 8 {
         Ok(FIRST_LOCAL + number)
     } else {
