@@ -1,4 +1,9 @@
 // The instructions of flat operators.
+ghost use Rattle.std.specs.Prelude.{◌≡◌, ◌<◌, ℕ, ◌+◌, ◌*◌, ◌%◌, [], ◌∷◌, ◌++◌, IfOk, OnOk};
+ghost use Rattle.sparc_isa.specs.declared.operand.Operand.TheVariants.{Register};
+ghost use Rattle.sparc_isa.specs.declared.insn.Insn.TheVariants.{Add};
+ghost use Rattle.flat_ir.specs.declared.code.FlatOp.TheVariants as flat;
+ghost use Rattle.sparc_gen.specs.Insns.{register_of, move_insn, word_insns, load_insn, store_insn, extend_insns, fill_insns, condition_insns, unary_insns, compare_insns, upper_insns, remainder_insns, binary_insns, scale_insns, apart_insns, jump_if_insns, pass_insns, landed_insn, argument_insns, insns};
 
 use crate::emit::{put, put_all, put_get, put_put, put_word};
 use crate::instructions::{
@@ -17,7 +22,10 @@ use sparc_isa::{Condition, Insn};
 use std::alloc::AllocError;
 
 /// The register of a scratch word.
-fn scratch(word: Scratch) -> u8 {
+fn scratch(word: Scratch) -> u8
+    ensures value { result ≡ register_of word }
+    ensures in_range { result < 32 }
+{
     match word {
         Scratch::A => A,
         Scratch::B => B,
@@ -25,18 +33,27 @@ fn scratch(word: Scratch) -> u8 {
 }
 
 /// A register's word in another.
-fn moved(to: u8, from: u8) -> Insn {
+fn moved(to: u8, from: u8) -> Insn
+    requires to_fits { to < 32 }
+    requires from_fits { from < 32 }
+    ensures { result ≡ move_insn to from }
+{
     or(to, ZERO, by_register(from))
 }
 
 /// An address in the frame.
-fn put_frame_address(code: &mut Vec<Insn>, to: u8, at: u32) -> Result<(), AllocError> {
+fn put_frame_address(code: &mut Vec<Insn>, to: u8, at: u32) -> Result<(), AllocError>
+    requires { to < 32 }
+    ensures { OnOk result (code.new.items ≡ code.old.items ++ word_insns to at ++ Add to to (Register 14) ∷ []) }
+{
     put_word(code, to, at)?;
     put(code, add(to, to, by_register(STACK_POINTER)))
 }
 
 /// The load of a value.
-fn load_of(access: Access) -> Insn {
+fn load_of(access: Access) -> Insn
+    ensures { result ≡ load_insn access }
+{
     let none = by_bits(0);
     match access {
         Access::SignedByte => ldsb(A, A, none),
@@ -48,7 +65,12 @@ fn load_of(access: Access) -> Insn {
 }
 
 /// The store of a register at an address and a short distance.
-fn store_of(kind: Kind, from: u8, base: u8, at: u16) -> Insn {
+fn store_of(kind: Kind, from: u8, base: u8, at: u16) -> Insn
+    requires from_fits { from < 32 }
+    requires base_fits { base < 32 }
+    requires at_fits { at < 8192 }
+    ensures { result ≡ store_insn kind from base at }
+{
     match kind {
         Kind::Byte => stb(from, base, by_bits(at)),
         Kind::Word | Kind::Address => st(from, base, by_bits(at)),
@@ -56,7 +78,9 @@ fn store_of(kind: Kind, from: u8, base: u8, at: u16) -> Insn {
 }
 
 /// A extended to a word.
-fn put_extend(code: &mut Vec<Insn>, access: Access) -> Result<(), AllocError> {
+fn put_extend(code: &mut Vec<Insn>, access: Access) -> Result<(), AllocError>
+    ensures { OnOk result (code.new.items ≡ code.old.items ++ extend_insns access) }
+{
     match access {
         Access::SignedByte => put_all(code, &[sll_by(A, A, 24), sra_by(A, A, 24)]),
         Access::UnsignedByte => put(code, and(A, A, by_bits(0xff))),
@@ -67,7 +91,9 @@ fn put_extend(code: &mut Vec<Insn>, access: Access) -> Result<(), AllocError> {
 }
 
 /// Zeros from A on, up to so many bytes behind it.
-fn put_fill(code: &mut Vec<Insn>, bytes: u32) -> Result<(), AllocError> {
+fn put_fill(code: &mut Vec<Insn>, bytes: u32) -> Result<(), AllocError>
+    ensures { OnOk result (code.new.items ≡ code.old.items ++ fill_insns bytes) }
+{
     put_word(code, OWN, bytes)?;
     put_all(
         code,
@@ -87,7 +113,9 @@ fn put_condition(
     code: &mut Vec<Insn>,
     compare: Insn,
     condition: Condition,
-) -> Result<(), AllocError> {
+) -> Result<(), AllocError>
+    ensures { OnOk result (code.new.items ≡ code.old.items ++ condition_insns compare condition) }
+{
     put_all(
         code,
         &[
@@ -100,7 +128,9 @@ fn put_condition(
 }
 
 /// An operator on A.
-fn put_unary(code: &mut Vec<Insn>, op: UnaryWordOp) -> Result<(), AllocError> {
+fn put_unary(code: &mut Vec<Insn>, op: UnaryWordOp) -> Result<(), AllocError>
+    ensures { OnOk result (code.new.items ≡ code.old.items ++ unary_insns op) }
+{
     let zero = subcc(ZERO, A, by_bits(0));
     match op {
         UnaryWordOp::Plus => Ok(()),
@@ -114,12 +144,16 @@ fn put_unary(code: &mut Vec<Insn>, op: UnaryWordOp) -> Result<(), AllocError> {
 }
 
 /// A comparison of A and B.
-fn put_compare(code: &mut Vec<Insn>, condition: Condition) -> Result<(), AllocError> {
+fn put_compare(code: &mut Vec<Insn>, condition: Condition) -> Result<(), AllocError>
+    ensures { OnOk result (code.new.items ≡ code.old.items ++ compare_insns condition) }
+{
     put_condition(code, subcc(ZERO, A, by_register(B)), condition)
 }
 
 /// The upper word of what is divided in Y, which no division reads in the three instructions behind.
-fn put_upper(code: &mut Vec<Insn>, signed: bool) -> Result<(), AllocError> {
+fn put_upper(code: &mut Vec<Insn>, signed: bool) -> Result<(), AllocError>
+    ensures { OnOk result (code.new.items ≡ code.old.items ++ upper_insns signed) }
+{
     if signed {
         put_all(code, &[sra_by(OWN, A, 31), wry(OWN)])?;
     } else {
@@ -129,13 +163,17 @@ fn put_upper(code: &mut Vec<Insn>, signed: bool) -> Result<(), AllocError> {
 }
 
 /// A quotient.
-fn put_quotient(code: &mut Vec<Insn>, signed: bool, divide: Insn) -> Result<(), AllocError> {
+fn put_quotient(code: &mut Vec<Insn>, signed: bool, divide: Insn) -> Result<(), AllocError>
+    ensures { OnOk result (code.new.items ≡ code.old.items ++ (upper_insns signed ++ divide ∷ [])) }
+{
     put_upper(code, signed)?;
     put(code, divide)
 }
 
 /// A remainder: what the quotient times the divisor leaves.
-fn put_remainder(code: &mut Vec<Insn>, signed: bool, divide: Insn) -> Result<(), AllocError> {
+fn put_remainder(code: &mut Vec<Insn>, signed: bool, divide: Insn) -> Result<(), AllocError>
+    ensures { OnOk result (code.new.items ≡ code.old.items ++ remainder_insns signed divide) }
+{
     put_upper(code, signed)?;
     put_all(
         code,
@@ -148,7 +186,9 @@ fn put_remainder(code: &mut Vec<Insn>, signed: bool, divide: Insn) -> Result<(),
 }
 
 /// An operator on A and B.
-fn put_binary(code: &mut Vec<Insn>, op: WordOp) -> Result<(), AllocError> {
+fn put_binary(code: &mut Vec<Insn>, op: WordOp) -> Result<(), AllocError>
+    ensures { OnOk result (code.new.items ≡ code.old.items ++ binary_insns op) }
+{
     let b = by_register(B);
     match op {
         WordOp::Or => put(code, or(A, A, b)),
@@ -178,7 +218,9 @@ fn put_binary(code: &mut Vec<Insn>, op: WordOp) -> Result<(), AllocError> {
 }
 
 /// A moved by B items.
-fn put_scale(code: &mut Vec<Insn>, size: u32, back: bool) -> Result<(), AllocError> {
+fn put_scale(code: &mut Vec<Insn>, size: u32, back: bool) -> Result<(), AllocError>
+    ensures { OnOk result (code.new.items ≡ code.old.items ++ scale_insns size back) }
+{
     put_word(code, OWN, size)?;
     put(code, smul(OWN, B, by_register(OWN)))?;
     if back {
@@ -189,7 +231,9 @@ fn put_scale(code: &mut Vec<Insn>, size: u32, back: bool) -> Result<(), AllocErr
 }
 
 /// How many items lie between B and A. Three instructions stand between the write of Y and the division.
-fn put_apart(code: &mut Vec<Insn>, size: u32) -> Result<(), AllocError> {
+fn put_apart(code: &mut Vec<Insn>, size: u32) -> Result<(), AllocError>
+    ensures { OnOk result (code.new.items ≡ code.old.items ++ apart_insns size) }
+{
     put_all(
         code,
         &[sub(A, A, by_register(B)), sra_by(OWN, A, 31), wry(OWN)],
@@ -199,7 +243,9 @@ fn put_apart(code: &mut Vec<Insn>, size: u32) -> Result<(), AllocError> {
 }
 
 /// A jump where A is 0, or where it is not, over which a branch goes otherwise. A jump is a call, whose own address is not kept.
-fn put_jump_if(code: &mut Vec<Insn>, zero: bool) -> Result<(), AllocError> {
+fn put_jump_if(code: &mut Vec<Insn>, zero: bool) -> Result<(), AllocError>
+    ensures { OnOk result (code.new.items ≡ code.old.items ++ jump_if_insns zero) }
+{
     let over = if zero {
         Condition::NotEqual
     } else {
@@ -218,7 +264,9 @@ fn put_jump_if(code: &mut Vec<Insn>, zero: bool) -> Result<(), AllocError> {
 }
 
 /// Where the argument of a number lies above a caller's stack pointer.
-fn argument_at(number: u32) -> Result<u32, AllocError> {
+fn argument_at(number: u32) -> Result<u32, AllocError>
+    ensures { IfOk result (λ n. n ≡ number * 4 + 68) }
+{
     number
         .checked_mul(4)
         .and_then(|bytes| bytes.checked_add(ARGUMENTS_AT))
@@ -226,12 +274,18 @@ fn argument_at(number: u32) -> Result<u32, AllocError> {
 }
 
 /// The register of an argument below 6, where the first has this.
-fn argument_register(first: u8, number: u32) -> u8 {
+fn argument_register(first: u8, number: u32) -> u8
+    requires { first < 26 }
+    ensures value { result ≡ first + number % 6 }
+    ensures in_range { result < 32 }
+{
     first + (number % ARGUMENT_REGISTERS) as u8
 }
 
 /// A word of the frame as an argument.
-fn put_pass(code: &mut Vec<Insn>, number: u32, at: u32) -> Result<(), AllocError> {
+fn put_pass(code: &mut Vec<Insn>, number: u32, at: u32) -> Result<(), AllocError>
+    ensures { OnOk result (code.new.items ≡ code.old.items ++ pass_insns number at) }
+{
     if number < ARGUMENT_REGISTERS {
         put_get(code, argument_register(OUT, number), at)
     } else {
@@ -241,7 +295,10 @@ fn put_pass(code: &mut Vec<Insn>, number: u32, at: u32) -> Result<(), AllocError
 }
 
 /// An argument in a register where it is put.
-fn put_landed(code: &mut Vec<Insn>, from: u8, landing: Landing) -> Result<(), AllocError> {
+fn put_landed(code: &mut Vec<Insn>, from: u8, landing: Landing) -> Result<(), AllocError>
+    requires { from < 32 }
+    ensures { OnOk result (code.new.items ≡ code.old.items ++ landed_insn from landing ∷ []) }
+{
     match landing {
         Landing::Frame { at, kind } => {
             let at = u16::try_from(at).map_err(|_| AllocError)?;
@@ -260,7 +317,9 @@ fn put_argument(
     frame: u32,
     number: u32,
     landing: Landing,
-) -> Result<(), AllocError> {
+) -> Result<(), AllocError>
+    ensures { OnOk result (code.new.items ≡ code.old.items ++ argument_insns frame number landing) }
+{
     if number < ARGUMENT_REGISTERS {
         put_landed(code, argument_register(IN, number), landing)
     } else {
@@ -271,7 +330,9 @@ fn put_argument(
 }
 
 /// A request.
-fn put_ask(code: &mut Vec<Insn>, request: Request) -> Result<(), AllocError> {
+fn put_ask(code: &mut Vec<Insn>, request: Request) -> Result<(), AllocError>
+    ensures { (frame : ℕ) → OnOk result (code.new.items ≡ code.old.items ++ insns frame (flat.Ask request)) }
+{
     let number = match request {
         Request::GetChar => GET_CHAR,
         Request::PutChar => PUT_CHAR,
@@ -281,7 +342,9 @@ fn put_ask(code: &mut Vec<Insn>, request: Request) -> Result<(), AllocError> {
 }
 
 /// The end of an activation with A: the window is left before the jump, so that no trap comes in its slot.
-fn put_return(code: &mut Vec<Insn>) -> Result<(), AllocError> {
+fn put_return(code: &mut Vec<Insn>) -> Result<(), AllocError>
+    ensures { (frame : ℕ) → OnOk result (code.new.items ≡ code.old.items ++ insns frame flat.Return) }
+{
     put_all(
         code,
         &[
@@ -294,7 +357,9 @@ fn put_return(code: &mut Vec<Insn>) -> Result<(), AllocError> {
 }
 
 /// The instructions of an operator in a frame of so many bytes.
-pub fn put_op(code: &mut Vec<Insn>, frame: u32, op: &FlatOp) -> Result<(), AllocError> {
+pub fn put_op(code: &mut Vec<Insn>, frame: u32, op: &FlatOp) -> Result<(), AllocError>
+    ensures { OnOk result (code.new.items ≡ code.old.items ++ insns frame op.now) }
+{
     match *op {
         FlatOp::Set { to, bits } => put_word(code, scratch(to), bits),
         FlatOp::StaticAddress { to, object: _ } => put_word(code, scratch(to), 0),

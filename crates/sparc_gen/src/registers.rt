@@ -1,4 +1,5 @@
 // What each register is for, and what lies at the stack pointer.
+ghost use Rattle.std.specs.Prelude.{◌≡◌, ◌<◌, ◌+◌, IfOk};
 
 use std::alloc::AllocError;
 
@@ -46,7 +47,9 @@ pub const EXIT: u8 = 19;
 pub const MORE_STACK: u8 = 21;
 
 /// The register of a local by its number.
-pub fn local_register(number: u8) -> Result<u8, AllocError> {
+pub fn local_register(number: u8) -> Result<u8, AllocError>
+    ensures { IfOk result (λ r. (r ≡ 16 + number) × (r < 32)) }
+{
     if number < 8 {
         Ok(FIRST_LOCAL + number)
     } else {
