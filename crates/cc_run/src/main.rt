@@ -94,17 +94,13 @@ fn run_program(
             println!(rt; "{name} {target} refused {cause}")
         }
         Ok(built) => {
-            let words = built.image.text().len() / 4;
             let Ended {
                 event,
                 status,
-                steps,
                 length,
                 sum,
             } = run_built(rt.alloc(), &built.image, &input)?;
-            println!(rt;
-                "{name} {target} {event} {status} output {length} {sum:08x} steps {steps} words {words}"
-            )
+            println!(rt; "{name} {target} {event} {status} {length} {sum:08x}")
         }
     }
 }

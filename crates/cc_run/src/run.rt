@@ -5,12 +5,11 @@ use machine_state::{MIPS, Target};
 use obj_file::Image;
 use std::alloc::{AllocError, Global};
 
-/// How a run ended: its status, the steps, how many bytes it wrote, and a sum over them.
+/// How a run ended: its status, how many bytes it wrote, and a sum over them.
 #[derive(Drop)]
 pub struct Ended {
     pub event: &'static str,
     pub status: i32,
-    pub steps: u64,
     pub length: u64,
     pub sum: u32,
 }
@@ -46,11 +45,10 @@ fn run_over<T: Target>(machine: &mut T, input: &[u8]) -> Ended {
     let mut ended = Ended {
         event: "turns",
         status: 0,
-        steps: 0,
         length: 0,
         sum: 0,
     };
-    for steps in 0..MOST_STEPS {
+    for _ in 0..MOST_STEPS {
         match machine.step() {
             Event::Went | Event::Request(1) => {}
             Event::Request(2) => {
@@ -62,7 +60,6 @@ fn run_over<T: Target>(machine: &mut T, input: &[u8]) -> Ended {
             event => {
                 ended.event = name_of(event);
                 ended.status = machine.argument().cast_signed();
-                ended.steps = steps;
                 return ended;
             }
         }
