@@ -1,4 +1,6 @@
 // The flat code of a program.
+ghost use Rattle.std.specs.Prelude.{◌≡◌, map, IfOk};
+ghost use Rattle.flat_gen.specs.Codes.{flat_function as flat_function_of};
 
 use crate::functions::flat_function;
 use crate::movers::movers_of;
@@ -13,7 +15,9 @@ fn flat_functions(
     linkage: u32,
     slots: &SlotCode,
     functions: &[SlotFunction],
-) -> Result<Many<FlatFunction>, AllocError> {
+) -> Result<Many<FlatFunction>, AllocError>
+    ensures { IfOk result (λ fs. fs ≡ map (flat_function_of linkage slots.now) functions.now) }
+{
     let mut rows = Vec::new(alloc);
     for function in functions {
         rows.push(flat_function(alloc, linkage, slots, function)?)?;
@@ -22,7 +26,10 @@ fn flat_functions(
 }
 
 /// The flat code of a program, whose frames begin with so many bytes of the target's own.
-pub fn flat_code(alloc: Global, linkage: u32, slots: &SlotCode) -> Result<FlatCode, AllocError> {
+pub fn flat_code(alloc: Global, linkage: u32, slots: &SlotCode) -> Result<FlatCode, AllocError>
+    ensures functions { IfOk result (λ f. f.functions ≡ map (flat_function_of linkage slots.now) slots.now.functions) }
+    ensures main { IfOk result (λ f. f.main ≡ slots.now.main) }
+{
     let functions = flat_functions(alloc, linkage, slots, slots.functions.as_slice())?;
     let movers = movers_of(alloc, slots.structs.as_slice())?;
     Ok(FlatCode {

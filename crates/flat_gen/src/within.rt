@@ -1,10 +1,7 @@
 // What the code of a function is made within.
 
-ghost use Rattle.std.specs.Prelude.{◌≡◌, ℕ, List, Some, slice_get, IfOk};
-ghost use Rattle.slot_ir.specs.declared.code.SlotCode.{SlotCode};
-ghost use Rattle.slot_ir.specs.declared.code.SlotFunction.{SlotFunction};
-ghost use Rattle.flat_gen.specs.declared.layout.Layout.{Layout};
-ghost use Rattle.flat_gen.specs.Codes.{temporary, local_at, register_of, start};
+ghost use Rattle.std.specs.Prelude.{◌≡◌, ◌+◌, ◌*◌, Some, slice_get, IfOk};
+ghost use Rattle.flat_gen.specs.Codes.{or_zero, register_in};
 
 use crate::layout::Layout;
 use slot_ir::{Home, SlotCode, SlotFunction, SlotLocal};
@@ -22,7 +19,7 @@ pub struct Within<'a> {
 impl<'a> Within<'a> {
     /// Where a temporary lies.
     pub fn temporary(&self, number: u32) -> Result<u32, AllocError>
-        ensures { (c : SlotCode) (f : SlotFunction) (s : List ℕ) → IfOk result (λ n. n ≡ temporary c f self.now.layout.now s number) }
+        ensures { IfOk result (λ n. n ≡ self.now.layout.now.temporaries + number * 4) }
     {
         let bytes = number.checked_mul(4).ok_or(AllocError)?;
         self.layout.temporaries.checked_add(bytes).ok_or(AllocError)
@@ -41,7 +38,7 @@ impl<'a> Within<'a> {
 
     /// Where a local lies.
     pub fn local_at(&self, number: u32) -> Result<u32, AllocError>
-        ensures { (c : SlotCode) (f : SlotFunction) (s : List ℕ) → IfOk result (λ n. n ≡ local_at c f self.now.layout.now s number) }
+        ensures { IfOk result (λ n. n ≡ or_zero (slice_get self.now.layout.now.locals number)) }
     {
         self.layout
             .locals
@@ -53,7 +50,7 @@ impl<'a> Within<'a> {
 
     /// The register that a local is in.
     pub fn register(&self, number: u32) -> Result<u8, AllocError>
-        ensures { (c : SlotCode) (l : Layout) (s : List ℕ) → IfOk result (λ n. n ≡ register_of c self.now.function.now l s number) }
+        ensures { IfOk result (λ n. n ≡ register_in (slice_get self.now.function.now.locals number)) }
     {
         match self.local(number)?.home {
             Home::Register(register) => Ok(register),
@@ -63,7 +60,7 @@ impl<'a> Within<'a> {
 
     /// Where the flat code of a place begins; 0 where that is not known.
     pub fn start(&self, place: u32) -> u32
-        ensures { (c : SlotCode) (f : SlotFunction) (l : Layout) → result ≡ start c f l self.now.starts.now place }
+        ensures { result ≡ or_zero (slice_get self.now.starts.now place) }
     {
         match self.starts.get(place as usize) {
             Some(start) => *start,

@@ -10,8 +10,3 @@ pub use names::{ascending_name, descending_name, function_name, mover_name, obje
 pub use rows::{Spots, row_of};
 pub use statics::{Data, data_of};
 pub use uses::{Around, put_all_uses, put_use};
-
-#[test]
-fn nothing(rt: HostRuntime) -> Result<(), std::test::Fail> {
-    Ok(())
-}

@@ -1,4 +1,6 @@
 // The rows of functions.
+ghost use Rattle.std.specs.Prelude.{◌≡◌, IfOk, slice_get};
+ghost use Rattle.gen_parts.specs.Rows.{from_base as from_base_of, slot_by, place_by, local_places};
 
 use flat_ir::FlatFunction;
 use ldb_words::{Many, Text};
@@ -18,14 +20,18 @@ pub struct Spots<'a> {
 }
 
 /// A distance from the stack pointer as one from the frame's base.
-fn from_base(frame: u32, at: u32) -> Result<i32, AllocError> {
+fn from_base(frame: u32, at: u32) -> Result<i32, AllocError>
+    ensures { IfOk result (λ d. d ≡ from_base_of frame at) }
+{
     let at = i32::try_from(at).map_err(|_| AllocError)?;
     let frame = i32::try_from(frame).map_err(|_| AllocError)?;
     at.checked_sub(frame).ok_or(AllocError)
 }
 
 /// Where a local in memory lies. In a frame that is too great locals lie nowhere, and 0 stands for that.
-fn slot_of(function: &FlatFunction, number: u32) -> Result<LocalPlace, AllocError> {
+fn slot_of(function: &FlatFunction, number: u32) -> Result<LocalPlace, AllocError>
+    ensures { IfOk result (λ p. p ≡ slot_by function.now.frame (slice_get function.now.locals number)) }
+{
     match function.locals.as_slice().get(number as usize) {
         Some(at) => Ok(LocalPlace::Slot(from_base(function.frame, *at)?)),
         None => Ok(LocalPlace::Slot(0)),
@@ -37,7 +43,9 @@ fn place_of(
     function: &FlatFunction,
     number: u32,
     local: &SlotLocal,
-) -> Result<LocalPlace, AllocError> {
+) -> Result<LocalPlace, AllocError>
+    ensures { IfOk result (λ p. p ≡ place_by function.now.frame (slice_get function.now.locals number) local.now.home) }
+{
     match local.home {
         Home::Block => slot_of(function, number),
         Home::Register(register) => {
@@ -52,7 +60,9 @@ fn places_of(
     alloc: Global,
     function: &FlatFunction,
     locals: &[SlotLocal],
-) -> Result<Many<LocalPlace>, AllocError> {
+) -> Result<Many<LocalPlace>, AllocError>
+    ensures { IfOk result (λ ps. ps ≡ local_places function.now 0 locals.now) }
+{
     let mut places = Vec::new(alloc);
     let mut number: u32 = 0;
     for local in locals {
@@ -93,7 +103,12 @@ pub fn row_of(
     function: &FlatFunction,
     spots: &Spots,
     saved: &[(u8, u32)],
-) -> Result<FunctionRow, AllocError> {
+) -> Result<FunctionRow, AllocError>
+    ensures name { IfOk result (λ r. r.name ≡ slots.now.name) }
+    ensures text { IfOk result (λ r. (r.entry ≡ spots.now.entry) × (r.end ≡ spots.now.end)) }
+    ensures frame { IfOk result (λ r. r.frame ≡ function.now.frame) }
+    ensures locals { IfOk result (λ r. r.locals ≡ local_places function.now 0 slots.now.locals) }
+{
     Ok(FunctionRow {
         name: Text::from_slice(alloc, slots.name.as_bytes())?,
         entry: spots.entry,

@@ -10,8 +10,3 @@ mod table;
 pub use build::{Aim, build};
 pub use compile::{Built, compile};
 pub use fault::BuildFault;
-
-#[test]
-fn nothing(rt: HostRuntime) -> Result<(), std::test::Fail> {
-    Ok(())
-}

@@ -8,8 +8,3 @@ mod placing;
 mod rows;
 
 pub use link::link;
-
-#[test]
-fn nothing(rt: HostRuntime) -> Result<(), std::test::Fail> {
-    Ok(())
-}

@@ -11,8 +11,3 @@ mod operators;
 mod registers;
 
 pub use object::emit;
-
-#[test]
-fn nothing(rt: HostRuntime) -> Result<(), std::test::Fail> {
-    Ok(())
-}
