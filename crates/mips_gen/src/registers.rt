@@ -26,10 +26,6 @@ pub const RETURN_ADDRESS: u8 = 31;
 
 /// How many arguments are passed in registers.
 pub const ARGUMENT_REGISTERS: u32 = 4;
-/// Where the return address is kept: above the places of 16 arguments.
-pub const RETURN_AT: u16 = 64;
-/// Where the first of the eight registers is kept; the others follow.
-pub const SAVED_AT: u16 = 68;
 /// The bytes at the stack pointer that are not the program's.
 pub const LINKAGE: u32 = 100;
 /// The lowest stack pointer: the 256 bytes at the end of the stack are those of struct copies.
