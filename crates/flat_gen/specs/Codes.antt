@@ -50,6 +50,11 @@ abbrev pub first_kind : List Leaf → Kind
 first_kind [] = Word
 first_kind (l ∷ ls) = l.kind
 
+-- the stopping point that an operator may be
+abbrev pub stop_code : SlotOp → List FlatOp
+stop_code (slot.Stop q) = Stop q ∷ []
+stop_code op = []
+
 -- a function of slot code, its layout, and where the flat code of each place in its slot code begins
 module _ (c : SlotCode) (f : SlotFunction) (l : Layout) (starts : List ℕ) where
   abbrev pub temporary : ℕ → ℕ
@@ -72,10 +77,10 @@ module _ (c : SlotCode) (f : SlotFunction) (l : Layout) (starts : List ℕ) wher
   zeros_in x None = []
   zeros_in x (Some row) = zeros_by x row.size row.home
 
-  -- the temporaries from d on as the arguments from number k on
-  abbrev pub passes : (k d n : ℕ) → List FlatOp
-  passes k d zero = []
-  passes k d (suc n) = Pass k (temporary (d + k)) ∷ passes (suc k) d n
+  -- so many temporaries from d on as arguments
+  abbrev pub passes : (d n : ℕ) → List FlatOp
+  passes d zero = []
+  passes d (suc n) = passes d n ++ Pass n (temporary (d + n)) ∷ []
 
   abbrev pub op_code : SlotOp → List FlatOp
   op_code (slot.Const d n) = Set A n ∷ Put A (temporary d) ∷ []
@@ -99,7 +104,7 @@ module _ (c : SlotCode) (f : SlotFunction) (l : Layout) (starts : List ℕ) wher
   op_code (slot.JumpIfZero d place) = Get A (temporary d) ∷ JumpIf true (start place) ∷ []
   op_code (slot.JumpIfNotZero d place) = Get A (temporary d) ∷ JumpIf false (start place) ∷ []
   op_code (slot.JumpIfEqual d n place) = Get A (temporary d) ∷ Set B n ∷ Binary word.Equal ∷ JumpIf false (start place) ∷ []
-  op_code (slot.Call d g n) = passes 0 d n ++ Call g ∷ Put A (temporary d) ∷ []
+  op_code (slot.Call d g n) = passes d n ++ Call g ∷ Put A (temporary d) ∷ []
   op_code (slot.Return d) = Get A (temporary d) ∷ Return ∷ []
   op_code (slot.Stop q) = Stop q ∷ []
   op_code (slot.Move i j s) = Get A (temporary i) ∷ Get B (temporary j) ∷ Copy s ∷ []
@@ -108,11 +113,6 @@ module _ (c : SlotCode) (f : SlotFunction) (l : Layout) (starts : List ℕ) wher
   op_code (slot.GetChar d) = Ask GetChar ∷ Put A (temporary d) ∷ []
   op_code (slot.PutChar d) = Get A (temporary d) ∷ Ask PutChar ∷ Put A (temporary d) ∷ []
   op_code (slot.Exit d) = Get A (temporary d) ∷ Ask Exit ∷ []
-
-  -- the stopping point that an operator may be
-  abbrev pub stop_code : SlotOp → List FlatOp
-  stop_code (slot.Stop q) = Stop q ∷ []
-  stop_code op = []
 
   -- of a function whose frame is too great, the stopping points alone
   abbrev pub one_code : SlotOp → List FlatOp

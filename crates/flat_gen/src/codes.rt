@@ -1,11 +1,10 @@
 // The flat code of slot operators.
-ghost use Rattle.std.specs.Prelude.{◌≡◌, ◌+◌, [], ◌∷◌, ◌++◌, IfOk, OnOk, length};
+ghost use Rattle.std.specs.Prelude.{◌≡◌, ◌+◌, [], ◌∷◌, ◌++◌, IfOk, OnOk, length, slice_get};
 ghost use Rattle.std.specs.Int.{next_multiple_of};
-ghost use Rattle.ldb_words.specs.declared.kinds.Kind.{Kind};
 ghost use Rattle.slot_ir.specs.declared.code.SlotOp.TheVariants as slot;
 ghost use Rattle.flat_ir.specs.declared.code.Scratch.TheVariants.{A, B};
-ghost use Rattle.flat_ir.specs.declared.code.FlatOp.TheVariants.{Set, StaticAddress, FrameAddress, Get, Put, Fill, WriteRegister, Ask};
-ghost use Rattle.flat_gen.specs.Codes.{comparison as comparison_of, temporary, local_at, passes as passes_of, op_code};
+ghost use Rattle.flat_ir.specs.declared.code.FlatOp.TheVariants.{Set, StaticAddress, FrameAddress, Get, Put, Fill, ReadRegister, WriteRegister, Ask};
+ghost use Rattle.flat_gen.specs.Codes.{comparison as comparison_of, temporary, local_at, register_in, passes as passes_of, op_code};
 
 use crate::emit::{get_a, get_b, put, put_a};
 use crate::within::Within;
@@ -95,7 +94,7 @@ fn read_register(
     local: u32,
     access: Access,
 ) -> Result<(), AllocError>
-    ensures { (k : Kind) → OnOk result (code.new.items ≡ code.old.items ++ op_code within.now.slots.now within.now.function.now within.now.layout.now within.now.starts.now (slot.ReadRegister to local k access)) }
+    ensures { OnOk result (code.new.items ≡ code.old.items ++ ReadRegister (register_in (slice_get within.now.function.now.locals local)) access ∷ Put A (temporary within.now.slots.now within.now.function.now within.now.layout.now within.now.starts.now to) ∷ []) }
 {
     put(
         code,
@@ -221,7 +220,7 @@ fn passes(
     at: u32,
     arguments: u32,
 ) -> Result<(), AllocError>
-    ensures { OnOk result (code.new.items ≡ code.old.items ++ passes_of within.now.slots.now within.now.function.now within.now.layout.now within.now.starts.now 0 at arguments) }
+    ensures { OnOk result (code.new.items ≡ code.old.items ++ passes_of within.now.slots.now within.now.function.now within.now.layout.now within.now.starts.now at arguments) }
 {
     for number in 0..arguments {
         let from = at.checked_add(number).ok_or(AllocError)?;

@@ -1,8 +1,5 @@
 // The flat code of functions.
-ghost use Rattle.std.specs.Prelude.{◌≡◌, ℕ, List, ◌++◌, map, IfOk, OnOk, length};
-ghost use Rattle.slot_ir.specs.declared.code.SlotCode.{SlotCode};
-ghost use Rattle.slot_ir.specs.declared.code.SlotFunction.{SlotFunction};
-ghost use Rattle.flat_gen.specs.declared.layout.Layout.{Layout};
+ghost use Rattle.std.specs.Prelude.{◌≡◌, ◌++◌, map, IfOk, OnOk, length};
 ghost use Rattle.flat_gen.specs.Codes.{first_kind as kind_of_first, landing_by, arguments, params_code, stop_code, one_code, ops_code, starts_from, code_by, starts_by, starts_of as starts_in, place_of, flat_function as function_of};
 
 use crate::codes::emit_op;
@@ -75,7 +72,7 @@ fn emit_params(within: &Within, code: &mut Vec<FlatOp>) -> Result<(), AllocError
 
 /// The stopping point that an operator may be.
 fn emit_stop(code: &mut Vec<FlatOp>, op: &SlotOp) -> Result<(), AllocError>
-    ensures { (c : SlotCode) (f : SlotFunction) (l : Layout) (s : List ℕ) → OnOk result (code.new.items ≡ code.old.items ++ stop_code c f l s op.now) }
+    ensures { OnOk result (code.new.items ≡ code.old.items ++ stop_code op.now) }
 {
     match op {
         SlotOp::Stop { point } => put(code, FlatOp::Stop { point: *point }),
