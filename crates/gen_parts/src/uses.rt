@@ -36,7 +36,8 @@ pub fn put_use(
 
 /// So many words behind an offset in the text.
 fn words_on(at: u32, words: u32) -> Result<u32, AllocError> {
-    at.checked_add(4 * words).ok_or(AllocError)
+    let bytes = words.checked_mul(4).ok_or(AllocError)?;
+    at.checked_add(bytes).ok_or(AllocError)
 }
 
 /// The upper and the lower half of an object's address.

@@ -74,7 +74,7 @@ fn put_again(code: &mut Vec<Insn>, words: u16) -> Result<(), AllocError> {
             no_op(),
             addiu(OWN, OWN, 0xffff),
             sw(OWN, OWN_TOO, COUNT_AT),
-            bne(OWN, ZERO, 0xfffb - words),
+            bne(OWN, ZERO, words.wrapping_add(5).wrapping_neg()),
             no_op(),
         ],
     )
