@@ -2,11 +2,11 @@
 ghost use Rattle.std.specs.Prelude.{◌≡◌, ◌++◌, OnOk};
 ghost use Rattle.mips_gen.specs.Frames.{saves, restores, prologue, epilogue};
 
-use crate::emit::{put, put_all, put_word};
 use crate::instructions::{addiu, addu, beq, jr, lw, no_op, sltu, subu, sw};
 use crate::registers::{
     LOWEST_STACK_POINTER, MORE_STACK, OWN, OWN_TOO, RESULT, RETURN_ADDRESS, STACK_POINTER, ZERO,
 };
+use crate::writing::{put, put_all, put_word};
 use mips_isa::Insn;
 use std::alloc::AllocError;
 

@@ -1,8 +1,8 @@
 // The code that copies structs. A is where to, B is where from; `$11` is the address of the words that a copy keeps, which lie from the end of the stack on: its return address, and the counts of items.
 
-use crate::emit::{put, put_all, put_word};
 use crate::instructions::{addiu, addu, beq, bne, j, jal, jr, lb, lui, lw, no_op, sb, sltu, sw};
 use crate::registers::{A, B, OWN, OWN_TOO, RETURN_ADDRESS, STACK_END_HIGH, ZERO};
+use crate::writing::{put, put_all, put_word};
 use flat_ir::MoveStep;
 use gen_parts::{ascending_name, descending_name, put_use};
 use ldb_words::{Kind, Text};

@@ -4,7 +4,6 @@ ghost use Rattle.mips_isa.specs.declared.insn.Insn.TheVariants.{Addu};
 ghost use Rattle.flat_ir.specs.declared.code.FlatOp.TheVariants as flat;
 ghost use Rattle.mips_gen.specs.Insns.{register_of, word_insns, load_insn, store_insn, extend_insns, fill_insns, unary_insns, turned_insns, long_insns, binary_insns, scale_insns, apart_insns, pass_insns, landed_insn, argument_insns, insns};
 
-use crate::emit::{put, put_all, put_get, put_put, put_word};
 use crate::instructions::{
     addiu, addu, and, andi, beq, bne, div, divu, j, jal, lb, lbu, lh, lhu, lw, mfhi, mflo, mult,
     no_op, nor, or, sb, sll, sllv, slt, sltiu, sltu, sra, srav, srlv, subu, sw, xor, xori,
@@ -13,6 +12,7 @@ use crate::registers::{
     A, ARGUMENT, ARGUMENT_REGISTERS, B, EXIT, GET_CHAR, OWN, PUT_CHAR, RESULT, STACK_POINTER, ZERO,
     local_register,
 };
+use crate::writing::{put, put_all, put_get, put_put, put_word};
 use flat_ir::{FlatOp, Landing, Request, Scratch};
 use ldb_words::Kind;
 use mips_isa::Insn;

@@ -1,8 +1,8 @@
 // How a function begins.
 
-use crate::emit::{put, put_all, put_word};
 use crate::instructions::{add, branch, by_register, no_op, save, sub, subcc, trap};
 use crate::registers::{A, B, LOWEST_STACK_POINTER, MORE_STACK, OWN, STACK_POINTER, ZERO};
+use crate::writing::{put, put_all, put_word};
 use sparc_isa::{Condition, Insn};
 use std::alloc::AllocError;
 

@@ -2,12 +2,12 @@
 #![tactic(auto)]
 
 mod assemble;
-mod emit;
 mod frames;
 mod instructions;
 mod movers;
 mod object;
 mod operators;
 mod registers;
+mod writing;
 
 pub use object::emit;

@@ -1,10 +1,10 @@
 // The code that copies structs. A is where to, B is where from; `%g4` is the address of the words that a copy keeps, which lie from the end of the stack on: its return address, and the counts of items.
 
-use crate::emit::{put, put_all, put_word};
 use crate::instructions::{
     add, branch, by_bits, by_register, call, jmpl, ld, ldub, no_op, or, st, stb, sub, subcc,
 };
 use crate::registers::{A, B, CALLED_FROM, KEPT, OWN, OWN_TOO, STACK_END, ZERO};
+use crate::writing::{put, put_all, put_word};
 use flat_ir::MoveStep;
 use gen_parts::{ascending_name, descending_name, put_use};
 use ldb_words::{Kind, Text};

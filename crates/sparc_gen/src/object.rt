@@ -1,21 +1,21 @@
 // The object of a program.
 
 use crate::assemble::text_of;
-use crate::emit::put_all;
 use crate::frames::put_prologue;
 use crate::instructions::{call, no_op, trap};
 use crate::movers::{Making, offset, put_choice, put_copy};
 use crate::operators::put_op;
 use crate::registers::{EXIT, LINKAGE};
+use crate::writing::put_all;
 use flat_gen::flat_code;
 use flat_ir::{FlatCode, FlatFunction, FlatOp, Mover};
 use gen_parts::{
-    Around, Spots, ascending_name, data_of, descending_name, function_name, mover_name,
+    Around, Data, Spots, ascending_name, data_of, descending_name, function_name, mover_name,
     put_all_uses, put_use, row_of,
 };
 use ldb_words::{Many, Order, Text};
 use machine_state::SPARC;
-use obj_file::{Form, FunctionRow, Name, Object};
+use obj_file::{Form, FunctionRow, Name, Object, Use};
 use slot_ir::{SlotCode, SlotFunction};
 use sparc_isa::Insn;
 use std::alloc::{AllocError, Global};
@@ -156,20 +156,32 @@ fn parts_of(alloc: Global, slots: &SlotCode, flat: &FlatCode) -> Result<Parts, A
     Ok(parts)
 }
 
+/// The uses in the text, and then those in the static objects.
+fn all_uses(uses: Vec<Use>, data_uses: Vec<Use>) -> Result<Vec<Use>, AllocError> {
+    let mut all = uses;
+    for data_use in data_uses {
+        all.push(data_use)?;
+    }
+    Ok(all)
+}
+
 /// The SPARC object of a program.
 pub fn emit(alloc: Global, slots: &SlotCode) -> Result<Object, AllocError> {
     let flat = flat_code(alloc, LINKAGE, slots)?;
     let data = data_of(alloc, Order::Big, slots)?;
-    let mut parts = parts_of(alloc, slots, &flat)?;
-    for data_use in data.uses.into_vec() {
-        parts.text.uses.push(data_use)?;
-    }
+    let Parts { text, names, rows } = parts_of(alloc, slots, &flat)?;
+    let Making { code, uses } = text;
+    let Data {
+        statics,
+        uses: data_uses,
+    } = data;
+    let uses = all_uses(uses, data_uses.into_vec())?;
     Ok(Object {
         target: SPARC,
-        text: text_of(alloc, &parts.text.code)?,
-        names: Many::from_vec(parts.names),
-        statics: data.statics,
-        uses: Many::from_vec(parts.text.uses),
-        functions: Many::from_vec(parts.rows),
+        text: text_of(alloc, &code)?,
+        names: Many::from_vec(names),
+        statics,
+        uses: Many::from_vec(uses),
+        functions: Many::from_vec(rows),
     })
 }

@@ -5,7 +5,6 @@ ghost use Rattle.sparc_isa.specs.declared.insn.Insn.TheVariants.{Add};
 ghost use Rattle.flat_ir.specs.declared.code.FlatOp.TheVariants as flat;
 ghost use Rattle.sparc_gen.specs.Insns.{register_of, move_insn, word_insns, load_insn, store_insn, extend_insns, fill_insns, condition_insns, unary_insns, compare_insns, upper_insns, remainder_insns, binary_insns, scale_insns, apart_insns, jump_if_insns, pass_insns, landed_insn, argument_insns, insns};
 
-use crate::emit::{put, put_all, put_get, put_put, put_word};
 use crate::instructions::{
     add, and, branch, by_bits, by_register, call, jmpl, ld, ldsb, ldsh, ldub, lduh, no_op, or,
     restore, sdiv, sll, sll_by, smul, sra, sra_by, srl, srl_by, st, stb, sub, subcc, trap, udiv,
@@ -15,6 +14,7 @@ use crate::registers::{
     A, ARGUMENT_REGISTERS, ARGUMENTS_AT, B, CALLED_FROM, EXIT, GET_CHAR, IN, OUT, OWN, PUT_CHAR,
     STACK_POINTER, ZERO, local_register,
 };
+use crate::writing::{put, put_all, put_get, put_put, put_word};
 use flat_ir::{FlatOp, Landing, Request, Scratch};
 use ldb_words::Kind;
 use slot_ir::{Access, UnaryWordOp, WordOp};
