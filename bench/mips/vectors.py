@@ -1,5 +1,5 @@
 #!/usr/bin/env python3
-"""Writes the rows of the test `emulated_results` of crates/mips_sim: what one instruction leaves in $10, HI, LO
+"""Writes the rows `case` of crates/machine_tests/data/mips.txt: what one instruction leaves in $10, HI, LO
 and in four words of memory, as qemu-mipsel has it. Needs gcc-mipsel-linux-gnu and qemu-user.
 
 Each row is the instruction's word, $8 and $9 before it, and $10, HI, LO and the memory's second word after it.
@@ -87,6 +87,6 @@ if __name__ == "__main__":
         lines = subprocess.check_output(["qemu-mipsel", made]).decode().split("\n")
     for (asm, a, b), word, line in zip(CASES, found, lines):
         a = 0x10000004 if a == BASE else a
-        after = ", ".join("0x" + part for part in line.split())
-        print(f"        // {asm}")
-        print(f"        [0x{word:08x}, 0x{a:08x}, 0x{b:08x}, {after}],")
+        after = " ".join(line.split())
+        print(f"# {asm}")
+        print(f"case 0x{word:08x} 0x{a:08x} 0x{b:08x} => Went {after}")

@@ -1,5 +1,5 @@
 #!/usr/bin/env python3
-"""Writes the rows of the test `assembled_words` of crates/mips_isa: one word for each instruction, as the
+"""Writes the rows `mips` of crates/machine_tests/data/words.txt: one word for each instruction, as the
 GNU assembler writes it. Needs binutils-mipsel-linux-gnu. The text of each instruction is written by hand."""
 import os
 import subprocess
@@ -62,4 +62,4 @@ def words(lines):
 
 if __name__ == "__main__":
     for (asm, insn), word in zip(ROWS, words([asm for asm, _ in ROWS])):
-        print(f'    (0x{word:08x}, "{insn}"),')
+        print(f"mips 0x{word:08x} => {insn} {word:08x}")

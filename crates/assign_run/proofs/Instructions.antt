@@ -9,7 +9,8 @@ use Rattle.machine_state.specs.State.{MachineState, no_facts}
 use Rattle.machine_state.proofs.PlacedWords.{fetch_of-words}
 use Rattle.mips_isa.specs.declared.insn.Insn.{Insn}
 use Rattle.mips_isa.specs.Codec.{insn_of}
-use Rattle.mips_isa.specs.Step.{Outcome, register, with_register, moved, writes, act, step_of, is_hazard}
+use Rattle.machine_state.specs.Step.{Outcome, moved}
+use Rattle.mips_isa.specs.Step.{register, with_register, writes, act, step_of, is_hazard}
 use Rattle.assign_run.specs.Standing.{Stands}
 
 -- the words of a text, short enough for its region

@@ -9,7 +9,8 @@ use Rattle.machine_state.specs.State.{MachineState, no_facts}
 use Rattle.mips_isa.specs.declared.insn.Insn.{Insn}
 use Rattle.mips_isa.specs.declared.insn.Insn.TheVariants.{Lui, Ori, Lw}
 use Rattle.mips_isa.specs.Codec.{insn_of}
-use Rattle.mips_isa.specs.Step.{Outcome, register, with_register, moved, writes, loads, address, act, step_of, is_hazard}
+use Rattle.machine_state.specs.Step.{Outcome, moved}
+use Rattle.mips_isa.specs.Step.{register, with_register, writes, loads, leaves_loaded, address, act, step_of, is_hazard}
 use Rattle.assign_run.specs.Code.{NO_OP}
 use Rattle.assign_run.specs.Standing.{Stands, stepped}
 use Rattle.assign_run.proofs.Instructions.{Texts, HasAt, Wrote, has_first, has_rest, step_at, step_standing, stands_moved, writes_at, eqb_zero}
@@ -63,7 +64,7 @@ abbrev pub loaded_state : ℕ → ℕ → MachineState → MachineState
 loaded_state r v m = let n = with_register r v (moved m) in record n { facts = record n.facts { loaded = r } }
 
 lw_acts : (r v : ℕ) (m : MachineState) → load_of Little m.memory (address m r 0) 4 ≡ Ok v → act (Lw r r 0) m ≡ (Went, loaded_state r v m)
-unfolding act loads
+unfolding act leaves_loaded
 lw_acts r v m e = rw e refl
 
 pub no_op_acts : (m : MachineState) → (act NO_OP m).1 ≡ moved m

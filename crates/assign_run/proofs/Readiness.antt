@@ -7,7 +7,8 @@ use mir.ValLaws.{of_z_fits}
 use Rattle.ldb_words.specs.Word.{signed}
 use Rattle.ldb_words.specs.declared.kinds.Undef.{Undef}
 use Rattle.machine_state.specs.State.{MachineState}
-use Rattle.mips_isa.specs.Step.{register, step_of, moved}
+use Rattle.machine_state.specs.Step.{moved}
+use Rattle.mips_isa.specs.Step.{register, step_of}
 use Rattle.assign_tree.specs.declared.task.Operand.{Operand}
 use Rattle.assign_tree.specs.declared.task.Operand.TheVariants.{Object, Constant}
 use Rattle.assign_tree.specs.declared.task.Sum.{Sum}

@@ -11,7 +11,8 @@ use Rattle.machine_state.specs.State.{MachineState}
 use Rattle.machine_state.proofs.Words.{length-bytes_of}
 use Rattle.mips_isa.specs.declared.insn.Insn.{Insn}
 use Rattle.mips_isa.specs.declared.insn.Insn.TheVariants.{Sw, Addu}
-use Rattle.mips_isa.specs.Step.{Outcome, register, moved, writes, stores, address, act, step_of}
+use Rattle.machine_state.specs.Step.{Outcome, moved, stores}
+use Rattle.mips_isa.specs.Step.{register, writes, address, act, step_of}
 use Rattle.assign_tree.specs.declared.task.Sum.{Sum}
 use Rattle.assign_run.specs.Code.{place_of, word_code, sum_code, store_code}
 use Rattle.assign_run.specs.Standing.{Stands, Fits, stepped, object_words}

@@ -26,7 +26,8 @@ use Rattle.runs.specs.Runs.{Why, Reason, Goes, Passes, Exits, Undefined, Stopped
 use Rattle.runs.specs.Runs as runs
 use Rattle.c_store.specs.Store.{Value, Number, At, World, store}
 use Rattle.c_store.specs.Frames.{Here, with_world, left}
-use Rattle.c_source.specs.Control.{State, Item, Eval, Convert, Discard, GiveBack, Leave, Stop, runs_of, last_of}
+use Rattle.c_source.specs.Control.{State, Item, Eval, Convert, Discard, GiveBack, Leave, Stop, runs_of}
+use Rattle.c_tree.specs.Points.{last_of}
 use Rattle.c_source.specs.Source.{step}
 use Rattle.c_source.specs.Meaning.{Given, assigned}
 use Rattle.c_source.specs.Leads.{Leads}

@@ -20,7 +20,8 @@ use Rattle.c_tree.specs.declared.typed.Stmt.{Stmt}
 use Rattle.runs.specs.Runs as runs
 use Rattle.runs.specs.Runs.{RunsTo, Failed, Reason}
 use Rattle.c_store.specs.Store.{Object, Value, Number, Static}
-use Rattle.c_source.specs.Control.{State, Item, Eval, Convert, Discard, Push, Open, GiveBack, Leave, runs_of, last_of}
+use Rattle.c_source.specs.Control.{State, Item, Eval, Convert, Discard, Push, Open, GiveBack, Leave, runs_of}
+use Rattle.c_tree.specs.Points.{last_of}
 use Rattle.c_source.specs.Begin.{begin}
 use Rattle.c_source.specs.Source.{step}
 use Rattle.assign_tree.specs.Assigning.{point_row, point_rows, numbers_from, assignment, program_with, IsSum, AreStatements, IsBody}

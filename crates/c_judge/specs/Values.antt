@@ -7,8 +7,8 @@ use Rattle.c_tree.specs.declared.typed.BinaryOp.TheVariants.{ShiftLeft, ShiftRig
 use Rattle.c_tree.specs.declared.typed.UnaryOp.{UnaryOp}
 use Rattle.c_tree.specs.declared.typed.UnaryOp.TheVariants.{Plus, Minus, Complement, Not}
 use Rattle.c_tree.specs.Layout.{struct_size_of}
-use Rattle.c_store.specs.Bits.{low_byte, minus_one}
-use Rattle.c_source.specs.Operators.{on_ints, on_unsigned, truth}
+use Rattle.c_operators.specs.Bits.{low_byte, minus_one}
+use Rattle.c_operators.specs.Arithmetic.{on_ints, on_unsigned, truth}
 use Rattle.c_typing.specs.Plain.{Plain, Char, Int, Unsigned, Void, Pointer, Array, Struct, common}
 use Rattle.c_judge.specs.declared.part.Constant.{Constant}
 use Rattle.c_judge.specs.declared.part.Constant.TheVariants.{Variable, Undefined, Number}

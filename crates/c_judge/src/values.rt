@@ -1,8 +1,8 @@
 // What constant expressions make of numbers (C90 6.4).
 ghost use Rattle.std.specs.Prelude.{◌≡◌};
 ghost use Rattle.ldb_words.specs.Word.{signed, word_of_signed};
-ghost use Rattle.c_store.specs.Bits.{low_byte, patterned};
-ghost use Rattle.c_source.specs.Operators.{on_ints as ints, on_unsigned as unsigned};
+ghost use Rattle.c_operators.specs.Bits.{low_byte, patterned};
+ghost use Rattle.c_operators.specs.Arithmetic.{on_ints as ints, on_unsigned as unsigned};
 ghost use Rattle.c_typing.specs.Plain.{plain, value_type};
 ghost use Rattle.c_judge.specs.Values as value;
 

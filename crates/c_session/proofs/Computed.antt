@@ -1,5 +1,5 @@
 -- A session computed: one side, enough turns and memory, each run given so many steps.
-use Rattle.std.proofs.Common.{ℕ, List, [], ◌∷◌, ◌++◌, Bool, true, false, Option, Some}
+use Rattle.std.proofs.Common.{ℕ, List, [], ◌∷◌, ◌++◌, Bool, true, false, Option, Some, None, ◌≡◌}
 use Rattle.std.specs.Prelude.{codes, bytes_eq, ◌==◌, ◌&&◌, ◌||◌, nat_le, if◌then◌else◌}
 use Rattle.std.specs.List.{list_all}
 use Rattle.std.specs.Fmt.{digits}
@@ -9,11 +9,13 @@ use Rattle.c_source.specs.Operators.{combined, changed}
 use Rattle.c_tree.specs.declared.rows.Program.{Program}
 use Rattle.runs.specs.Runs.{Course, Comes, Failed, until}
 use Rattle.c_session.specs.declared.command.Command.{Command}
+use Rattle.c_session.specs.declared.command.Command.TheVariants as command
+use Rattle.c_store.specs.Frames.{ActivationRecord}
 use Rattle.c_source.specs.Control.{State}
 use Rattle.c_source.specs.Source.{step}
 use Rattle.c_show.specs.Printed.{shown}
 use Rattle.c_show.specs.Shown.{showing}
-use Rattle.c_session.specs.Commands.{Reader, Reading, Unread, BadSyntax, Resume, refusal_text, Answer, Refuses, Says, Shows, Sets, ShowsAny, EndsClaim, Resumes, Quits, Nothing, answer}
+use Rattle.c_session.specs.Commands.{Mode, Stopped, OneSide, Positions, One, Use, AsValue, AsAssignment, Reading, chosen, point_of, Unread, BadSyntax, Resume, refusal_text, Answer, Refuses, Says, Shows, Sets, ShowsAny, EndsClaim, Resumes, Quits, Raw, Nothing, answer}
 use Rattle.c_session.specs.Allowed.{Lines, Standing, event_text, event_output, after_event, at_first, stops_by, with_state}
 
 -- what a session computes with
@@ -46,13 +48,39 @@ is_letter c = (nat_le 65 c && nat_le c 90) || (nat_le 97 c && nat_le c 122) || (
 abbrev is_digit : ℕ → Bool
 is_digit c = nat_le 48 c && nat_le c 57
 
-abbrev is_word : List ℕ → Bool
+abbrev pub is_word : List ℕ → Bool
 is_word [] = false
 is_word (c ∷ cs) = is_letter c && list_all (λ d. is_letter d || is_digit d) cs
 
--- every word of letters and digits is a name, and these are the expressions and assignments
+-- what some texts are read as
+pub record Reader : Type 0 where
+  pub values : List Text
+  pub assignments : List Text
+
+-- these are the expressions and assignments
 abbrev pub reader : List Text → List Text → Reader
-reader values assignments = record { is_name = is_word; value = read_from values; assignment = read_from assignments }
+reader values assignments = record { values = values; assignments = assignments }
+
+abbrev pub read : Reader → Use → ℕ → List ℕ → Reading
+read r AsValue q text = read_from r.values q text
+read r AsAssignment q text = read_from r.assignments q text
+
+abbrev pub ReadBy : Reader → Use → (point : ℕ) → List ℕ → Reading → Type 0
+ReadBy r u q text x = x ≡ read r u q text
+
+module _ (p : Program) (r : Reader) (session : Standing) where
+  abbrev pub read_at : Use → List ℕ → Option ActivationRecord → Reading
+  read_at u text None = Unread BadSyntax
+  read_at u text (Some a) = read r u (point_of p is_word OneSide session.session a) text
+
+  abbrev pub read_in : Mode → Command → Reading
+  read_in (Stopped s) (command.Eval text) = read_at AsValue text (chosen p is_word OneSide session.session s)
+  read_in (Stopped s) (command.Assign text) = read_at AsAssignment text (chosen p is_word OneSide session.session s)
+  read_in m c = Unread BadSyntax
+
+  abbrev pub read_line : Option Command → Reading
+  read_line None = Unread BadSyntax
+  read_line (Some c) = read_in session.session.mode c
 
 module _ (p : Program) (r : Reader) (fuel : ℕ) where
   abbrev pub by_course : Standing → Course State → Reply
@@ -60,8 +88,8 @@ module _ (p : Program) (r : Reader) (fuel : ℕ) where
   by_course st (Comes c e) = record { lines = event_text p e ∷ []; next = record { session = after_event p st.session e; written = event_output e } }
   by_course st _ = record { lines = codes "no event" ∷ []; next = st }
 
-  abbrev pub by_positions : Standing → Resume → List (Option State) → Reply
-  by_positions st how (Some s ∷ []) = by_course st (until State (step p) (stops_by st.session.breaks how) fuel s)
+  abbrev pub by_positions : Standing → Resume → Positions → Reply
+  by_positions st how (One s) = by_course st (until State (step p) (stops_by st.session.breaks how) fuel s)
   by_positions st how _ = record { lines = codes "no side" ∷ []; next = st }
 
   abbrev pub by_answer : Standing → Answer → Reply
@@ -71,6 +99,7 @@ module _ (p : Program) (r : Reader) (fuel : ℕ) where
   by_answer st (Sets s) = record { lines = codes "set" ∷ []; next = record st { session = record st.session { mode = with_state p st.session.mode s } } }
   by_answer st (Resumes how ps) = by_positions st how ps
   by_answer st ShowsAny = record { lines = codes "value 0" ∷ []; next = st }
+  by_answer st (Raw n) = record { lines = codes "raw" ∷ []; next = st }
   by_answer st EndsClaim = record { lines = codes "the claim ends" ∷ []; next = st }
   by_answer st Quits = record { lines = []; next = st }
   by_answer st Nothing = record { lines = codes "nothing" ∷ []; next = st }
@@ -90,9 +119,9 @@ module _ (p : Program) (r : Reader) (fuel : ℕ) where
   abbrev pub from : Standing → List (Option Command) → Session
   from st [] = record { lines = []; output = st.written }
   from st (c ∷ cs) =
-      let a = answer p r 1 st.session c in
+      let a = answer p is_word OneSide st.session (read_line p r st c) c in
       let reply = by_answer st a in
       going_on (ends a) (record { lines = reply.lines; output = st.written }) (then_lines reply.lines (from reply.next cs))
 
   abbrev pub session : List ℕ → List (Option Command) → Session
-  session input cs = from (at_first p r 1 input) cs
+  session input cs = from (at_first p input) cs

@@ -18,3 +18,5 @@ pub mod Allows
 pub mod Only
 pub mod Ends
 pub mod Refusals
+pub mod Onward
+pub mod Histories

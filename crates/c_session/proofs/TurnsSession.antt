@@ -1,5 +1,5 @@
 -- The first program with a limit of one turn: `turns`, while the state is Running, and then the stop.
-use Rattle.std.proofs.Common.{◌≡◌, refl, List, [], ◌∷◌, Option, Some, None, inl, inr, arith, lit≤}
+use Rattle.std.proofs.Common.{◌≡◌, refl, List, [], ◌∷◌, Option, Some, inl, inr, arith, lit≤}
 use Rattle.std.specs.Prelude.{Box, codes}
 use Rattle.std.specs.declared.alloc.Global.{Global}
 use Rattle.runs.specs.Runs.{Comes, until}
@@ -9,9 +9,9 @@ use Rattle.c_session.specs.declared.command.Command.TheVariants as command
 use Rattle.c_session.specs.declared.command.Spot.TheVariants as spot
 use Rattle.c_source.specs.Control.{State}
 use Rattle.c_source.specs.Source.{step}
-use Rattle.c_session.specs.Commands.{ByContinue}
-use Rattle.c_session.specs.Allowed.{Lines, Allowed, IsLate, stops_by}
-use Rattle.c_session.proofs.Computed.{reader, computing}
+use Rattle.c_session.specs.Commands.{ByContinue, OneSide, TwoSides, One, SecondAlone, Unread, BadSyntax}
+use Rattle.c_session.specs.Allowed.{Lines, Allowed, IsLate, one, first_comes, stops_by}
+use Rattle.c_session.proofs.Computed.{reader, is_word, ReadBy, computing}
 use Rattle.c_session.proofs.AssignmentSession.{program}
 use Rattle.c_session.proofs.Only.{start, stop}
 
@@ -36,111 +36,165 @@ module _ (b : Box (Unit {0}) Global) where
       ∷ Some command.Step ∷ Some (command.Turns 10000000) ∷ Some command.Continue ∷ []
 
   -- with one side
-  one_side : Allowed (program b) (reader [] []) 1 [] commands replies []
+  one_side : Allowed (program b) is_word (ReadBy (reader [] [])) OneSide [] commands replies []
   unfolding computing
-  one_side =
-      inr (inr (
-        _,
-        _,
-        _,
-        refl,
-        inl (refl, refl),
+  one_side = inr (
+    Unread BadSyntax,
+    tt,
+    inr (inr (
+      _,
+      _,
+      _,
+      refl,
+      (refl, refl),
+      inr (
+        Unread BadSyntax,
+        tt,
         inr (inr (
           _,
           _,
           _,
           refl,
-          inl (refl, refl),
-          inr (inr (
-            _,
-            _,
-            _,
-            refl,
-            inl (inr (inl (Some (start b) ∷ [], [], ((late, 0, (0, refl), lit≤ tt), tt), tt, inl refl, refl, refl))),
+          (refl, refl),
+          inr (
+            Unread BadSyntax,
+            tt,
             inr (inr (
               _,
               _,
               _,
               refl,
-              inl (refl, refl),
-              inr (inr (
-                _,
-                _,
-                _,
-                refl,
-                inl (refl, refl),
+              inr (inl (One (start b), [], one (start b) (start b) [] (late, 0, (0, refl), lit≤ tt) (inl refl), ([], refl), refl, refl)),
+              inr (
+                Unread BadSyntax,
+                tt,
                 inr (inr (
                   _,
                   _,
                   _,
                   refl,
-                  inl (refl, refl),
-                  inr (inr (
-                    _,
-                    _,
-                    _,
-                    refl,
-                    inl (inl (stop b, tt, ((1, (1, meets)), tt), refl, refl)),
-                    (refl, refl),
-                  )),
+                  (refl, refl),
+                  inr (
+                    Unread BadSyntax,
+                    tt,
+                    inr (inr (
+                      _,
+                      _,
+                      _,
+                      refl,
+                      (refl, refl),
+                      inr (
+                        Unread BadSyntax,
+                        tt,
+                        inr (inr (
+                          _,
+                          _,
+                          _,
+                          refl,
+                          (refl, refl),
+                          inr (
+                            Unread BadSyntax,
+                            tt,
+                            inr (inr (
+                              _,
+                              _,
+                              _,
+                              refl,
+                              (inl (stop b, tt, (1, (1, meets)), refl, refl)),
+                              (refl, refl),
+                            )),
+                          ),
+                        )),
+                      ),
+                    )),
+                  ),
                 )),
-              )),
+              ),
             )),
-          )),
+          ),
         )),
-      ))
+      ),
+    )),
+  )
 
   -- with two sides, of which the first has come to the stop at `turns` and the second has not
-  two_sides : Allowed (program b) (reader [] []) 2 [] commands replies []
+  two_sides : Allowed (program b) is_word (ReadBy (reader [] [])) TwoSides [] commands replies []
   unfolding computing
-  two_sides =
-      inr (inr (
-        _,
-        _,
-        _,
-        refl,
-        inl (refl, refl),
+  two_sides = inr (
+    Unread BadSyntax,
+    tt,
+    inr (inr (
+      _,
+      _,
+      _,
+      refl,
+      (refl, refl),
+      inr (
+        Unread BadSyntax,
+        tt,
         inr (inr (
           _,
           _,
           _,
           refl,
-          inl (refl, refl),
-          inr (inr (
-            _,
-            _,
-            _,
-            refl,
-            inl (inr (inl (None ∷ Some (start b) ∷ [], [], ((1, stop b, (1, meets), tt), ((late, 0, (0, refl), lit≤ tt), tt)), tt, (1, stop b, (1, meets), refl), refl, refl))),
+          (refl, refl),
+          inr (
+            Unread BadSyntax,
+            tt,
             inr (inr (
               _,
               _,
               _,
               refl,
-              inl (refl, refl),
-              inr (inr (
-                _,
-                _,
-                _,
-                refl,
-                inl (refl, refl),
+              (inr (inl (SecondAlone (start b), [], first_comes (start b) (start b) (start b) [] (stop b, (1, (1, meets)), tt, refl) (late, 0, (0, refl), lit≤ tt), ([], refl), refl, refl))),
+              inr (
+                Unread BadSyntax,
+                tt,
                 inr (inr (
                   _,
                   _,
                   _,
                   refl,
-                  inl (refl, refl),
-                  inr (inr (
-                    _,
-                    _,
-                    _,
-                    refl,
-                    inl (inl (stop b, tt, ((1, (1, meets)), tt), refl, refl)),
-                    (refl, refl),
-                  )),
+                  (refl, refl),
+                  inr (
+                    Unread BadSyntax,
+                    tt,
+                    inr (inr (
+                      _,
+                      _,
+                      _,
+                      refl,
+                      (refl, refl),
+                      inr (
+                        Unread BadSyntax,
+                        tt,
+                        inr (inr (
+                          _,
+                          _,
+                          _,
+                          refl,
+                          (refl, refl),
+                          inr (
+                            Unread BadSyntax,
+                            tt,
+                            inr (inr (
+                              _,
+                              _,
+                              _,
+                              refl,
+                              (inl (stop b, tt, (1, (1, meets)), refl, refl)),
+                              (refl, refl),
+                            )),
+                          ),
+                        )),
+                      ),
+                    )),
+                  ),
                 )),
-              )),
+              ),
             )),
-          )),
+          ),
         )),
-      ))
+      ),
+    )),
+  )

@@ -1,18 +1,19 @@
 -- Which transcripts and outputs a session over a program may give.
-use Rattle.std.specs.Prelude.{◌≡◌, ◌≢◌, ◌⊎◌, ℕ, ◌+◌, ◌*◌, ◌<◌, ◌≤◌, List, [], ◌∷◌, ◌++◌, Bool, true, Option, Some, None, codes}
+use Rattle.std.specs.Prelude.{◌≡◌, ◌⊎◌, ℕ, ◌+◌, ◌*◌, ◌<◌, ◌≤◌, List, [], ◌∷◌, ◌++◌, length, Bool, true, Option, Some, None, codes}
 use Rattle.std.specs.Fmt.{signed_decimal}
 use Rattle.std.specs.List.{AllByRecursion}
 use Rattle.runs.specs.Runs.{Next, Goes, Passes, Exits, Undefined, Why, Reason, Stale, IllTyped, Event, Exited, Failed, RunsTo, OnTheWay, count_of}
 use Rattle.runs.specs.Runs as runs
 use Rattle.c_tree.specs.declared.rows.Program.{Program}
 use Rattle.c_session.specs.declared.command.Command.{Command}
+use Rattle.c_session.specs.declared.command.Command.TheVariants as command
 use Rattle.c_source.specs.Control.{State}
 use Rattle.c_source.specs.Source.{step}
 use Rattle.c_source.specs.Begin.{begin}
 use Rattle.c_source.specs.Size.{need_of}
 use Rattle.c_source.specs.Names.{stop_text}
-use Rattle.c_show.specs.Shown.{Shows as TextShows}
-use Rattle.c_session.specs.Commands.{Session, Mode, Fresh, Stopped, Running, Ended, Resume, ByStep, ByContinue, Reader, Refusal, refusal_text, Answer, Refuses, Says, Shows, Sets, ShowsAny, EndsClaim, Resumes, Quits, Nothing, answer, has}
+use Rattle.c_show.specs.Shown.{Shows as TextShows, IsOneLine}
+use Rattle.c_session.specs.Commands.{Session, Mode, Fresh, Stopped, Running, Ended, Resume, ByStep, ByContinue, Sides, Positions, One, Both, FirstAlone, SecondAlone, Use, Reading, Names, Refusal, refusal_text, Answer, Refuses, Says, Shows, Sets, ShowsAny, EndsClaim, Resumes, Quits, Raw, Nothing, answer, ReadsLine, has}
 
 abbrev pub Lines : Type 0
 Lines = List (List ℕ)
@@ -49,10 +50,10 @@ IsEvent (Exited n s) = Unit {0}
 IsEvent (Failed w) = ⊥
 
 -- what ends the claim: one of the four reasons, or a stale pointer that is used
-abbrev pub IsUndefined : Event State → Type 0
-IsUndefined (Failed (Reason u)) = Unit {0}
-IsUndefined (Failed Stale) = Unit {0}
-IsUndefined _ = ⊥
+abbrev pub IsBroken : Event State → Type 0
+IsBroken (Failed (Reason u)) = Unit {0}
+IsBroken (Failed Stale) = Unit {0}
+IsBroken _ = ⊥
 
 abbrev pub stops_by : List ℕ → Resume → ℕ → Bool
 stops_by breaks ByStep q = true
@@ -61,12 +62,22 @@ stops_by breaks ByContinue q = has breaks q
 abbrev pub IsPrefix : List ℕ → List ℕ → Type 0
 IsPrefix xs ys = (rest : List ℕ) × (ys ≡ xs ++ rest)
 
-abbrev IsOneLine : List ℕ → Type 0
-IsOneLine text = AllByRecursion (λ c. c ≢ 10) text
-
 -- any `value` line or refusal
 abbrev IsAnyReply : List ℕ → Type 0
 IsAnyReply line = ((text : List ℕ) × IsOneLine text × (line ≡ codes "value " ++ text)) ⊎ ((u : Refusal) × (line ≡ refusal_text u))
+
+-- the reply to a command about machines or the debugger: so many lines, or one
+abbrev pub IsRawReply : Option ℕ → Lines → Type 0
+IsRawReply None reply = Unit {0}
+IsRawReply (Some n) reply = ((length reply ≡ n) ⊎ (length reply ≡ 1)) × AllByRecursion IsOneLine reply
+
+abbrev pub IsQuitLine : Option Command → Type 0
+IsQuitLine (Some command.Quit) = Unit {0}
+IsQuitLine c = ⊥
+
+-- memory may be wanting for any line but `quit`, a malformed one among them, and nothing changes
+abbrev pub MemoryReplies : Standing → Option Command → Lines → Standing → Type 0
+MemoryReplies st c reply next = (IsQuitLine c → ⊥) × (reply ≡ codes "no memory" ∷ []) × (next ≡ st)
 
 -- ---- a resume
 
@@ -81,63 +92,67 @@ module _ (p : Program) (stops : ℕ → Bool) where
   abbrev pub IsLate : (limit : ℕ) → State → Type 0
   IsLate limit s = (count : ℕ) (e : Event State) → Meets s count e → IsEvent e → limit < 128 * count
 
+  -- the run from a state meets this event
+  abbrev pub HasEvent : State → Event State → Type 0
+  HasEvent s e = (count : ℕ) × Meets s count e
+
   -- The event of each side. A side without a position stands at it already.
-  abbrev pub AllMeet : Event State → List (Option State) → Type 0
-  AllMeet e [] = Unit {0}
-  AllMeet e (None ∷ ps) = AllMeet e ps
-  AllMeet e (Some s ∷ ps) = ((count : ℕ) × Meets s count e) × AllMeet e ps
+  abbrev pub AllMeet : Event State → Positions → Type 0
+  AllMeet e (One s) = HasEvent s e
+  AllMeet e (Both s t) = HasEvent s e × HasEvent t e
+  AllMeet e (FirstAlone s) = HasEvent s e
+  AllMeet e (SecondAlone t) = HasEvent t e
 
-  -- Where the sides stand after `turns`: some at their event, and at least one, which is late, on its way to it, and there at least as many steps were made as the limit over 128.
-  abbrev moves_by : ℕ → Option State → Option State → Type 0
-  moves_by limit None None = Unit {0}
-  moves_by limit None (Some q) = ⊥
-  moves_by limit (Some s) None = (count : ℕ) × (e : Event State) × Meets s count e × IsEvent e
-  moves_by limit (Some s) (Some q) = IsLate limit s × (count : ℕ) × Comes_by s count q × (limit ≤ 128 * (count + count_of State (step p) (step p q)))
+  -- a side that is late is on its way to its event, and at least as many steps were made as the limit over 128
+  abbrev pub IsUnderway : (limit : ℕ) → State → State → Type 0
+  IsUnderway limit s q = IsLate limit s × (count : ℕ) × Comes_by s count q × (limit ≤ 128 * (count + count_of State (step p) (step p q)))
 
-  abbrev pub AllMove : ℕ → List (Option State) → List (Option State) → Type 0
-  AllMove limit [] [] = Unit {0}
-  AllMove limit [] (q ∷ qs) = ⊥
-  AllMove limit (s ∷ ps) [] = ⊥
-  AllMove limit (s ∷ ps) (q ∷ qs) = moves_by limit s q × AllMove limit ps qs
+  -- a side comes to its event, and with this output
+  abbrev pub IsOver : State → Type 0
+  IsOver s = (e : Event State) × HasEvent s e × IsEvent e
 
-  abbrev pub IsOnTheWay : List (Option State) → Type 0
-  IsOnTheWay [] = ⊥
-  IsOnTheWay (None ∷ qs) = IsOnTheWay qs
-  IsOnTheWay (Some q ∷ qs) = Unit {0}
+  abbrev pub WritesToEvent : State → List ℕ → Type 0
+  WritesToEvent s written = (e : Event State) × HasEvent s e × IsEvent e × (written ≡ event_output e)
 
-  -- the output is that of the first side's position or of the next state, or of its event
-  abbrev first_writes : (before : List ℕ) → Option State → Option State → List ℕ → Type 0
-  first_writes before s (Some q) written = (written ≡ output_of q) ⊎ (written ≡ next_output q (step p q))
-  first_writes before (Some s) None written = (count : ℕ) × (e : Event State) × Meets s count e × (written ≡ event_output e)
-  first_writes before None None written = written ≡ before
+  -- the output at a position is that of its state or of the next one
+  abbrev pub Writes : State → List ℕ → Type 0
+  Writes q written = (written ≡ output_of q) ⊎ (written ≡ next_output q (step p q))
 
-  abbrev pub FirstWrites : List ℕ → List (Option State) → List (Option State) → List ℕ → Type 0
-  FirstWrites before (s ∷ ps) (q ∷ qs) written = first_writes before s q written
-  FirstWrites before _ _ written = ⊥
+  -- Where the sides stand after `turns`, and the output, which is the first side's: some at their event, and at least one, which is late, on its way to it.
+  pub data Moves (limit : ℕ) (before : List ℕ) : Positions → Positions → (written : List ℕ) → Type 0 where
+    one : (s q : State) (written : List ℕ) → IsUnderway limit s q → Writes q written → Moves limit before (One s) (One q) written
+    both : (s t q u : State) (written : List ℕ) → IsUnderway limit s q → IsUnderway limit t u → Writes q written → Moves limit before (Both s t) (Both q u) written
+    second_comes : (s t q : State) (written : List ℕ) → IsUnderway limit s q → IsOver t → Writes q written → Moves limit before (Both s t) (FirstAlone q) written
+    first_comes : (s t u : State) (written : List ℕ) → WritesToEvent s written → IsUnderway limit t u → Moves limit before (Both s t) (SecondAlone u) written
+    first_goes : (s q : State) (written : List ℕ) → IsUnderway limit s q → Writes q written → Moves limit before (FirstAlone s) (FirstAlone q) written
+    second_goes : (t u : State) → IsUnderway limit t u → Moves limit before (SecondAlone t) (SecondAlone u) before
 
   -- some state between a side's position and its event needs more than the stack has
   abbrev pub IsTooDeep : State → Type 0
   IsTooDeep q = 1048576 < need_of p q
 
-  abbrev stands_at : Option State → State → Type 0
-  stands_at None s = ⊥
-  stands_at (Some t) s = t ≡ s
+  -- a side stands at this state
+  abbrev pub IsPosition : Positions → State → Type 0
+  IsPosition (One s) u = s ≡ u
+  IsPosition (Both s t) u = (s ≡ u) ⊎ (t ≡ u)
+  IsPosition (FirstAlone s) u = s ≡ u
+  IsPosition (SecondAlone t) u = t ≡ u
 
-  abbrev pub HasSide : List (Option State) → State → Type 0
-  HasSide [] s = ⊥
-  HasSide (t ∷ ps) s = stands_at t s ⊎ HasSide ps s
+  abbrev pub GrowsDeep : Positions → Type 0
+  GrowsDeep ps = (s q : State) × (count : ℕ) × IsPosition ps s × Comes_by s count q × IsTooDeep q
+
+  -- the output of some state of a side up to its event
+  abbrev pub WritesOnTheWay : Positions → List ℕ → Type 0
+  WritesOnTheWay ps written = (s : State) × IsPosition ps s × (((count : ℕ) × (q : State) × Comes_by s count q × (written ≡ output_of q)) ⊎ WritesToEvent s written)
 
   -- with one side the output is that of such a state, and with two that of any state up to the event
-  abbrev pub DeepWrites : List (Option State) → List ℕ → Type 0
-  DeepWrites (Some s ∷ []) written = (count : ℕ) × (q : State) × Comes_by s count q × IsTooDeep q × (written ≡ output_of q)
-  DeepWrites ps written =
-      ((s q : State) × (count : ℕ) × HasSide ps s × Comes_by s count q × IsTooDeep q)
-      × ((s : State) × (count : ℕ) × HasSide ps s
-      × (((q : State) × Comes_by s count q × (written ≡ output_of q)) ⊎ ((e : Event State) × Meets s count e × (written ≡ event_output e))))
+  abbrev pub DeepWrites : Positions → List ℕ → Type 0
+  DeepWrites (One s) written = (count : ℕ) × (q : State) × Comes_by s count q × IsTooDeep q × (written ≡ output_of q)
+  DeepWrites ps written = GrowsDeep ps × WritesOnTheWay ps written
 
   -- the run meets an undefined step before its event
-  abbrev pub IsDoomed : List (Option State) → Type 0
-  IsDoomed ps = (s : State) × (count : ℕ) × (e : Event State) × HasSide ps s × Meets s count e × IsUndefined e
+  abbrev pub IsDoomed : Positions → Type 0
+  IsDoomed ps = (s : State) × (count : ℕ) × (e : Event State) × IsPosition ps s × Meets s count e × IsBroken e
 
 -- ---- replies
 
@@ -156,15 +171,15 @@ module _ (p : Program) where
   with_state (Stopped s) t = Stopped t
   with_state m t = m
 
-  -- a resume's event, `turns` or `stack`
-  abbrev pub ResumeReplies : Standing → Resume → List (Option State) → Lines → Standing → Type 0
+  -- a resume's event, `turns` or `stack`; what was written before stays
+  abbrev pub ResumeReplies : Standing → Resume → Positions → Lines → Standing → Type 0
   ResumeReplies st how ps reply next =
       let stops : ℕ → Bool = stops_by st.session.breaks how in
       ((e : Event State) × IsEvent e × AllMeet p stops e ps
       × (reply ≡ event_text e ∷ []) × (next ≡ record { session = after_event st.session e; written = event_output e }))
-      ⊎ ((qs : List (Option State)) × (written : List ℕ) × AllMove p stops st.session.limit ps qs × IsOnTheWay p stops qs × FirstWrites p stops st.written ps qs written
+      ⊎ ((qs : Positions) × (written : List ℕ) × Moves p stops st.session.limit st.written ps qs written × IsPrefix st.written written
       × (reply ≡ codes "turns" ∷ []) × (next ≡ record { session = record st.session { mode = Running how qs }; written = written }))
-      ⊎ ((written : List ℕ) × DeepWrites p stops ps written
+      ⊎ ((written : List ℕ) × DeepWrites p stops ps written × IsPrefix st.written written
       × (reply ≡ codes "stack" ∷ []) × (next ≡ record { session = record st.session { mode = Ended }; written = written }))
 
   abbrev pub AnswerReplies : Standing → Answer → Lines → Standing → Type 0
@@ -174,14 +189,10 @@ module _ (p : Program) where
   AnswerReplies st (Sets s) reply next = (reply ≡ codes "set" ∷ []) × (next ≡ record st { session = record st.session { mode = with_state st.session.mode s } })
   AnswerReplies st ShowsAny reply next = ((line : List ℕ) × IsAnyReply line × (reply ≡ line ∷ [])) × (next ≡ st)
   AnswerReplies st (Resumes how ps) reply next = ResumeReplies st how ps reply next
+  AnswerReplies st (Raw n) reply next = IsRawReply n reply × (next ≡ st)
   AnswerReplies st EndsClaim reply next = ⊥
   AnswerReplies st Quits reply next = ⊥
   AnswerReplies st Nothing reply next = ⊥
-
-  -- memory may be wanting for any command but `quit`, and nothing changes
-  abbrev pub MemoryReplies : Standing → Answer → Lines → Standing → Type 0
-  MemoryReplies st Quits reply next = ⊥
-  MemoryReplies st a reply next = (reply ≡ codes "no memory" ∷ []) × (next ≡ st)
 
   -- from here on nothing is claimed
   abbrev pub ClaimEnds : Standing → Answer → Type 0
@@ -195,20 +206,22 @@ module _ (p : Program) where
 
 -- ---- sessions
 
-module _ (p : Program) (r : Reader) (sides : ℕ) where
-  -- The lines from a standing on, with their transcript and the whole output. A line is a command or malformed.
+module _ (p : Program) (names : Names) (Reads : Use → (point : ℕ) → List ℕ → Reading → Type 0) (sides : Sides) where
+  -- The lines from a standing on, with their transcript and the whole output. A line is a command or malformed. Commands about machines and the debugger are taken out with their replies, as if they changed nothing; one that runs PostScript may store in the target, and of a list with such a one nothing is promised.
   abbrev pub AllowedFrom : Standing → List (Option Command) → Lines → List ℕ → Type 0
   AllowedFrom st [] transcript output = (transcript ≡ []) × (output ≡ st.written)
   AllowedFrom st (c ∷ cs) transcript output =
-      let a : Answer = answer p r sides st.session c in
+      ((reply rest : Lines) × (next : Standing) × (transcript ≡ reply ++ rest) × MemoryReplies st c reply next × AllowedFrom next cs rest output)
+      ⊎ ((x : Reading) × ReadsLine p names sides st.session Reads c x × (
+      let a : Answer = answer p names sides st.session x c in
       (IsQuit p a × (transcript ≡ []) × (output ≡ st.written))
       ⊎ (ClaimEnds p st a × IsPrefix st.written output)
-      ⊎ ((reply rest : Lines) × (next : Standing) × (transcript ≡ reply ++ rest)
-      × (AnswerReplies p st a reply next ⊎ MemoryReplies p st a reply next) × AllowedFrom next cs rest output)
+      ⊎ ((reply rest : Lines) × (next : Standing) × (transcript ≡ reply ++ rest) × AnswerReplies p st a reply next × AllowedFrom next cs rest output)))
 
-  abbrev pub at_first : (input : List ℕ) → Standing
-  at_first input = record { session = record { mode = Fresh (begin p input); breaks = []; frame = 0; limit = 10000000 }; written = [] }
+abbrev pub at_first : Program → (input : List ℕ) → Standing
+at_first p input = record { session = record { mode = Fresh (begin p input); breaks = []; frame = 0; limit = 10000000 }; written = [] }
 
+module _ (p : Program) (names : Names) (Reads : Use → (point : ℕ) → List ℕ → Reading → Type 0) (sides : Sides) where
   -- what a session over a program, an input and command lines may write
   abbrev pub Allowed : (input : List ℕ) → List (Option Command) → Lines → List ℕ → Type 0
-  Allowed input commands transcript output = AllowedFrom (at_first input) commands transcript output
+  Allowed input commands transcript output = AllowedFrom p names Reads sides (at_first p input) commands transcript output

@@ -1,5 +1,5 @@
 -- What each command answers, and what it changes.
-use Rattle.std.specs.Prelude.{ℕ, suc, List, [], ◌∷◌, ◌++◌, Bool, not, ◌==◌, Option, Some, None, Result, Ok, Err, slice_get, length, map, take, filter, replicate, codes, decimal, if◌then◌else◌}
+use Rattle.std.specs.Prelude.{ℕ, suc, List, [], ◌∷◌, ◌++◌, Bool, not, ◌==◌, Option, Some, None, Result, Ok, Err, slice_get, length, map, take, filter, codes, decimal, if◌then◌else◌}
 use Rattle.std.specs.List.{list_any}
 use Rattle.ldb_words.specs.declared.kinds.Undef.{Undef}
 use Rattle.ldb_words.specs.declared.kinds.Undef.TheVariants.{Overflow, Division, Shift, Pointer}
@@ -56,11 +56,22 @@ refusal_text r = codes "refused " ++ reason_text r
 pub data Resume : Type 0 where
   ByStep ByContinue : Resume
 
+-- a session over one target, or over two at once
+pub data Sides : Type 0 where
+  OneSide TwoSides : Sides
+
+-- Where the sides stand in a resume that is not answered yet. With two sides one of them may stand at its event, while the other is on its way.
+pub data Positions : Type 0 where
+  One : (s : State) → Positions
+  Both : (s t : State) → Positions
+  FirstAlone : (s : State) → Positions
+  SecondAlone : (t : State) → Positions
+
 -- A resume that ran out of turns leaves each side at a position of its own, or at its event.
 pub data Mode : Type 0 where
   Fresh : (s : State) → Mode
   Stopped : (s : State) → Mode
-  Running : (how : Resume) (positions : List (Option State)) → Mode
+  Running : (how : Resume) (positions : Positions) → Mode
   Ended : Mode
 
 pub record Session : Type 0 where
@@ -74,11 +85,9 @@ pub data Reading : Type 0 where
   Unread : (r : Refusal) → Reading
   Read : (e : Typed) → Reading
 
--- The grammar and the typing rules: whether a text is one identifier, and what a text is at a point, as a value and as an assignment.
-pub record Reader : Type 0 where
-  pub is_name : List ℕ → Bool
-  pub value : (point : ℕ) → List ℕ → Reading
-  pub assignment : (point : ℕ) → List ℕ → Reading
+-- what a text is read for: an expression's value, or a plain assignment
+pub data Use : Type 0 where
+  AsValue AsAssignment : Use
 
 -- what a command answers
 pub data Answer : Type 0 where
@@ -92,8 +101,10 @@ pub data Answer : Type 0 where
   -- an evaluation that used a stale pointer, and an assignment that did
   ShowsAny : Answer
   EndsClaim : Answer
-  Resumes : (how : Resume) (positions : List (Option State)) → Answer
+  Resumes : (how : Resume) (positions : Positions) → Answer
   Quits : Answer
+  -- what a command about machines or the debugger tells, which no program knows: so many lines, or one that says why not; where the command prints what it likes, any lines
+  Raw : (lines : Option ℕ) → Answer
   -- this comes to no accepted program
   Nothing : Answer
 
@@ -103,7 +114,20 @@ has qs q = list_any (λ r. r == q) qs
 abbrev without : ℕ → List ℕ → List ℕ
 without q qs = filter (λ r. not (r == q)) qs
 
-module _ (p : Program) (r : Reader) (sides : ℕ) (session : Session) where
+-- each side stands at the stop
+abbrev pub all_at : Sides → State → Positions
+all_at OneSide s = One s
+all_at TwoSides s = Both s s
+
+abbrev line_count : Sides → ℕ
+line_count OneSide = 1
+line_count TwoSides = 2
+
+-- whether a text is one identifier
+abbrev pub Names : Type 0
+Names = List ℕ → Bool
+
+module _ (p : Program) (names : Names) (sides : Sides) (session : Session) where
   -- ---- breakpoints
 
   abbrev pub break_at : Option ℕ → Answer
@@ -206,36 +230,38 @@ module _ (p : Program) (r : Reader) (sides : ℕ) (session : Session) where
   abbrev pub with_limit : ℕ → Answer
   with_limit n = Says ((codes "limit " ++ decimal n) ∷ []) (record session { limit = n })
 
-  -- each side stands at the stop
-  abbrev all_at : State → List (Option State)
-  all_at s = replicate sides (Some s)
+  -- x is what the command's text was read as, where it has one
+  abbrev pub in_stopped : (x : Reading) → State → Command → Answer
+  in_stopped x s (command.Break place) = break_at (point_at p place)
+  in_stopped x s (command.Clear place) = clear_at (point_at p place)
+  in_stopped x s command.Continue = Resumes ByContinue (all_at sides s)
+  in_stopped x s command.Step = Resumes ByStep (all_at sides s)
+  in_stopped x s (command.Turns n) = with_limit n
+  in_stopped x s command.Frames = all_frames (frames_of s)
+  in_stopped x s (command.Frame n) = frame_at n (slice_get (frames_of s) n)
+  in_stopped x s (command.Print name) = in_frame (chosen s) (λ a. if names name then print_symbol s.here.world a (named p name (point_of a)) else Refuses BadSyntax)
+  in_stopped x s (command.Eval text) = in_frame (chosen s) (λ a. eval_read s.here.world a x)
+  in_stopped x s (command.Assign text) = in_frame (chosen s) (λ a. assign_read s a x)
+  in_stopped x s command.Quit = Quits
+  in_stopped x s command.Regs = Raw (Some (line_count sides))
+  in_stopped x s (command.Code text) = Raw (Some 1)
+  in_stopped x s (command.Ps text) = Raw None
 
-  abbrev pub in_stopped : State → Command → Answer
-  in_stopped s (command.Break place) = break_at (point_at p place)
-  in_stopped s (command.Clear place) = clear_at (point_at p place)
-  in_stopped s command.Continue = Resumes ByContinue (all_at s)
-  in_stopped s command.Step = Resumes ByStep (all_at s)
-  in_stopped s (command.Turns n) = with_limit n
-  in_stopped s command.Frames = all_frames (frames_of s)
-  in_stopped s (command.Frame n) = frame_at n (slice_get (frames_of s) n)
-  in_stopped s (command.Print name) = in_frame (chosen s) (λ a. if r.is_name name then print_symbol s.here.world a (named p name (point_of a)) else Refuses BadSyntax)
-  in_stopped s (command.Eval text) = in_frame (chosen s) (λ a. eval_read s.here.world a (r.value (point_of a) text))
-  in_stopped s (command.Assign text) = in_frame (chosen s) (λ a. assign_read s a (r.assignment (point_of a) text))
-  in_stopped s command.Quit = Quits
-  in_stopped s c = Nothing
-
-  abbrev pub in_fresh : State → Command → Answer
-  in_fresh s command.Frames = Refuses IsRunning
-  in_fresh s (command.Frame n) = Refuses IsRunning
-  in_fresh s (command.Print name) = Refuses IsRunning
-  in_fresh s (command.Eval text) = Refuses IsRunning
-  in_fresh s (command.Assign text) = Refuses IsRunning
-  in_fresh s c = in_stopped s c
+  abbrev pub in_fresh : (x : Reading) → State → Command → Answer
+  in_fresh x s command.Frames = Refuses IsRunning
+  in_fresh x s (command.Frame n) = Refuses IsRunning
+  in_fresh x s (command.Print name) = Refuses IsRunning
+  in_fresh x s (command.Eval text) = Refuses IsRunning
+  in_fresh x s (command.Assign text) = Refuses IsRunning
+  in_fresh x s (command.Code text) = Refuses IsRunning
+  in_fresh x s (command.Ps text) = Refuses IsRunning
+  in_fresh x s c = in_stopped x s c
 
   -- `continue` goes on with the interrupted resume, whichever command began it
-  abbrev pub in_running : Resume → List (Option State) → Command → Answer
+  abbrev pub in_running : Resume → Positions → Command → Answer
   in_running how ps command.Continue = Resumes how ps
   in_running how ps (command.Turns n) = with_limit n
+  in_running how ps command.Regs = Raw (Some (line_count sides))
   in_running how ps command.Quit = Quits
   in_running how ps c = Refuses IsRunning
 
@@ -243,13 +269,35 @@ module _ (p : Program) (r : Reader) (sides : ℕ) (session : Session) where
   in_ended command.Quit = Quits
   in_ended c = Refuses HasEnded
 
-  abbrev pub by_mode : Mode → Command → Answer
-  by_mode (Fresh s) c = in_fresh s c
-  by_mode (Stopped s) c = in_stopped s c
-  by_mode (Running how ps) c = in_running how ps c
-  by_mode Ended c = in_ended c
+  abbrev pub by_mode : (x : Reading) → Mode → Command → Answer
+  by_mode x (Fresh s) c = in_fresh x s c
+  by_mode x (Stopped s) c = in_stopped x s c
+  by_mode x (Running how ps) c = in_running how ps c
+  by_mode x Ended c = in_ended c
 
-  -- the answer to a line, which is a command or malformed
-  abbrev pub answer : Option Command → Answer
-  answer None = Refuses BadLine
-  answer (Some c) = by_mode session.mode c
+  -- The answer to a line, which is a command or malformed. Where the line has an expression, x is what this was read as.
+  abbrev pub answer : (x : Reading) → Option Command → Answer
+  answer x None = Refuses BadLine
+  answer x (Some c) = by_mode x session.mode c
+
+  -- ---- texts
+
+  -- what is read in the chosen frame, at the point that it passed last, by a reader of texts
+  module _ (Reads : Use → (point : ℕ) → List ℕ → Reading → Type 0) where
+    abbrev pub ReadsAt : Use → List ℕ → Option ActivationRecord → Reading → Type 0
+    ReadsAt u text None x = Unit {0}
+    ReadsAt u text (Some a) x = Reads u (point_of a) text x
+
+    abbrev pub ReadsIn : Mode → Command → Reading → Type 0
+    ReadsIn (Stopped s) (command.Eval text) x = ReadsAt AsValue text (chosen s) x
+    ReadsIn (Stopped s) (command.Assign text) x = ReadsAt AsAssignment text (chosen s) x
+    ReadsIn m c x = Unit {0}
+
+    -- the text of the line, if it has one that is read, may be read as this
+    abbrev pub ReadsLine : Option Command → Reading → Type 0
+    ReadsLine None x = Unit {0}
+    ReadsLine (Some c) x = ReadsIn session.mode c x
+
+-- a reader that reads no text
+abbrev pub ReadsNothing : Use → (point : ℕ) → List ℕ → Reading → Type 0
+ReadsNothing u point text x = ⊥

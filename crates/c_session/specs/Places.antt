@@ -5,7 +5,7 @@ use Rattle.c_tree.specs.declared.rows.Function.{Function}
 use Rattle.c_tree.specs.declared.rows.Point.{Point}
 use Rattle.c_session.specs.declared.command.Spot.{Spot}
 use Rattle.c_session.specs.declared.command.Spot.TheVariants.{Line, Func}
-use Rattle.c_source.specs.Control.{first_of}
+use Rattle.c_tree.specs.Points.{first_of}
 use Rattle.c_source.specs.Names.{file_of}
 
 abbrev first_where : (Point → Bool) → ℕ → List Point → Option ℕ

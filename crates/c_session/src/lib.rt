@@ -5,4 +5,7 @@ mod command;
 mod laws;
 
 pub use command::{Command, Reply, Spot};
-pub use laws::{ended_sessions_refuse, refused_commands_change_nothing, resumes_have_one_event};
+pub use laws::{
+    ended_sessions_refuse, refused_commands_change_nothing, resumes_have_one_event,
+    sessions_follow_a_run,
+};

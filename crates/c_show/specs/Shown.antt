@@ -1,6 +1,7 @@
 -- What a value prints.
-use Rattle.std.specs.Prelude.{◌≡◌, ℕ, suc, zero, ◌+◌, ◌-◌, ◌/◌, ◌%◌, ◌^◌, ◌<◌, List, [], ◌∷◌, ◌++◌, Bool, true, false, ◌&&◌, ◌||◌, ◌==◌, nat_le, nat_lt, Option, Some, None, slice_get, length, map, take, drop, replicate, codes, decimal, flat_map, if◌then◌else◌}
+use Rattle.std.specs.Prelude.{◌≡◌, ◌≢◌, ℕ, suc, zero, ◌+◌, ◌-◌, ◌/◌, ◌%◌, ◌^◌, ◌<◌, List, [], ◌∷◌, ◌++◌, Bool, true, false, ◌&&◌, ◌||◌, ◌==◌, nat_le, nat_lt, Option, Some, None, slice_get, length, map, take, drop, replicate, codes, decimal, flat_map, if◌then◌else◌}
 use Rattle.std.specs.Fmt.{signed_decimal}
+use Rattle.std.specs.List.{AllByRecursion}
 use Rattle.c_tree.specs.declared.types.CType.{CType}
 use Rattle.c_tree.specs.declared.types.CType.TheVariants.{Char, Int, Unsigned, Void, Pointer', Array', Struct}
 use Rattle.c_tree.specs.declared.types.StructDef.{StructDef}
@@ -72,11 +73,34 @@ abbrev hex_text : (digits : ℕ) → ℕ → List ℕ
 hex_text zero n = []
 hex_text (suc d) n = hex_text d (n / 16) ++ hex_digit (n % 16) ∷ []
 
--- any pointer's text
-pub data IsPointerText : List ℕ → Type 0 where
-  null : IsPointerText (codes "0")
-  at_label : (to_char : Bool) (label : List ℕ) (offset : ℕ) (string : Option (List ℕ)) → IsPointerText (pointer_text to_char label offset string)
-  no_object : (address : ℕ) → address < 2 ^ 32 → IsPointerText (63 ∷ hex_text 8 address)
+-- the objects that a program may have: its static ones, its strings, and the locals of its functions
+abbrev pub IsOrigin : Program → Origin → Type 0
+IsOrigin p (Static o) = o < length p.objects
+IsOrigin p (Text k) = k < length p.strings
+IsOrigin p (Auto f x n) = x < length (locals_in (slice_get p.functions f))
+
+-- the label of such an object
+abbrev pub IsLabel : Program → List ℕ → Type 0
+IsLabel p label = (origin : Origin) × IsOrigin p origin × (label ≡ label_of p origin)
+
+-- bytes, if there are any
+abbrev pub AreBytes : Option (List ℕ) → Type 0
+AreBytes None = Unit {0}
+AreBytes (Some cs) = AllByRecursion (λ c. c < 256) cs
+
+-- the texts of pointers: null, one into an object of the program, perhaps with a string, and an address in none
+pub data IsPointerForm (p : Program) : List ℕ → Type 0 where
+  null : IsPointerForm p (codes "0")
+  at_label : (to_char : Bool) (label : List ℕ) (offset : ℕ) (string : Option (List ℕ)) → IsLabel p label → offset < 2 ^ 32 → AreBytes string
+      → IsPointerForm p (pointer_text to_char label offset string)
+  no_object : (address : ℕ) → address < 2 ^ 32 → IsPointerForm p (63 ∷ hex_text 8 address)
+
+abbrev pub IsOneLine : List ℕ → Type 0
+IsOneLine text = AllByRecursion (λ c. c ≢ 10) text
+
+-- any pointer's text, which is one line
+abbrev pub IsPointerText : Program → List ℕ → Type 0
+IsPointerText p text = IsPointerForm p text × IsOneLine text
 
 abbrev pub showing : Program → World → (free : ℕ → List ℕ) → ℕ → List Value → List Showing
 showing p w free n [] = []
@@ -84,4 +108,4 @@ showing p w free n (v ∷ vs) = (if is_stale w v then Free (free n) else Told (h
 
 -- a text that these leaf values of a type may show: a stale leaf shows any pointer text
 abbrev pub Shows : Program → World → CType → List Value → List ℕ → Type 0
-Shows p w t vs text = (free : ℕ → List ℕ) × ((n : ℕ) → IsPointerText (free n)) × (text ≡ shown p.defs t (showing p w free 0 vs))
+Shows p w t vs text = (free : ℕ → List ℕ) × ((n : ℕ) → IsPointerText p (free n)) × (text ≡ shown p.defs t (showing p w free 0 vs))

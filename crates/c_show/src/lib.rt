@@ -4,8 +4,6 @@
 mod held;
 mod letters;
 mod page;
-#[cfg(test)]
-mod tests;
 mod value;
 
 pub use held::Held;

@@ -7,7 +7,6 @@ use Rattle.c_tree.specs.declared.rows.Program.{Program}
 use Rattle.c_tree.specs.declared.rows.Function.{Function}
 use Rattle.c_tree.specs.declared.typed.Typed.{Typed}
 use Rattle.runs.specs.Runs.{Why, Reason, Stale, IllTyped, Moment, Reached, after, until}
-use Rattle.c_store.specs.Store.{Number}
 use Rattle.c_store.specs.Frames.{Here, ActivationRecord}
 use Rattle.c_store.specs.Assigned.{History}
 use Rattle.c_source.specs.Blocks.{result_type, zero_as}
@@ -17,7 +16,10 @@ use Rattle.c_source.specs.Begin.{begin, acted}
 use Rattle.c_source.specs.Meaning.{Given, values_meant, assigned, IsPlain, IsAssignment}
 use Rattle.c_typing.specs.Plain.{plain}
 use Rattle.c_typing.specs.Expressions.{IsTyped}
-use Rattle.c_typing.specs.Declared.{has, scope_at}
+use Rattle.c_typing.specs.Declared.{has}
+use Rattle.c_typing.specs.Plain.{Plain}
+use Rattle.c_tree.specs.declared.rows.SymbolRow.{SymbolRow}
+use Rattle.c_sound.specs.Scopes.{scope_with}
 use Rattle.c_typing.specs.Statements.{locals_of as locals_in}
 use Rattle.c_typing.specs.Accepted.{AllFrom, numbers, IsFunction, IsAccepted}
 use Rattle.c_sound.specs.Shapes.{IsFitting, KeepsShapes, CourseKeepsShapes, HasMeaning, IsAssigned, AreLive}
@@ -86,7 +88,7 @@ module _ (p : Program) (accepted : IsAccepted p) where
     pub course_keeps : (stops : ℕ → Bool) (k : ℕ) → CourseKeepsShapes (until State (step p) stops k m.state)
     course_keeps stops k = courses_keep p bodies_ready stops k m.state good_there
 
-    module _ (a : ActivationRecord) (v : List ℕ) (live : AreLive v a) (e : Typed) (typed : IsTyped (scope_at p a.function v) e) where
+    module _ (a : ActivationRecord) (v : List ℕ) (types : SymbolRow → Plain) (live : AreLive v a) (e : Typed) (typed : IsTyped (scope_with p a.function v types) e) where
       abbrev pub at : Here
       at = record { world = m.state.here.world; activation = a }
 
@@ -102,11 +104,11 @@ module _ (p : Program) (accepted : IsAccepted p) where
       pub values_keep : IsPlain e → HasMeaning (values_meant p at e)
       values_keep i =
           let ls = locals_of a.locals in
-          let q = evaluated p a.function v ls within parameters_there e typed in
-          meaning_of (λ _. Unit {0}) (values_meant p at e) (values_given p at world_there e i q (λ k. located p a.function v ls within parameters_there e typed (struct_lvalue (scope_at p a.function v) e i typed k)))
+          let q = evaluated types p a.function v ls within parameters_there e typed in
+          meaning_of (λ _. Unit {0}) (values_meant p at e) (values_given p at world_there e i q (λ k. located types p a.function v ls within parameters_there e typed (struct_lvalue (scope_with p a.function v types) e i typed k)))
 
       pub assigned_keeps : IsAssignment e → Gives (λ g. IsAssigned m.state.here.world g.world) (assigned p at e)
-      assigned_keeps i = assigned_given p at world_there e i (evaluated p a.function v (locals_of a.locals) within parameters_there e typed)
+      assigned_keeps i = assigned_given p at world_there e i (evaluated types p a.function v (locals_of a.locals) within parameters_there e typed)
 
       pub assignment_has_meaning : IsAssignment e → HasMeaning (assigned p at e)
       assignment_has_meaning i = meaning_of (λ g. IsAssigned m.state.here.world g.world) (assigned p at e) (assigned_keeps i)

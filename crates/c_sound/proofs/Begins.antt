@@ -13,7 +13,7 @@ use Rattle.c_tree.specs.declared.rows.ObjectRow.{ObjectRow}
 use Rattle.c_tree.specs.declared.rows.Start.{Start}
 use Rattle.c_tree.specs.declared.rows.Start.TheVariants as start
 use Rattle.c_tree.specs.Layout.{size_of, leaves_of}
-use Rattle.c_store.specs.Bits.{low_byte}
+use Rattle.c_operators.specs.Bits.{low_byte}
 use Rattle.c_store.specs.Store.{Value, Number, Null, At, Object, Cell, Static, Text, zero_of}
 use Rattle.c_source.specs.Blocks.{cells_of}
 use Rattle.c_source.specs.Control.{Item, body_of}

@@ -12,7 +12,8 @@ use Rattle.c_tree.specs.declared.rows.Program.{Program}
 use Rattle.c_tree.specs.declared.rows.Function.{Function}
 use Rattle.c_tree.specs.declared.rows.Local.{Local}
 use Rattle.c_tree.specs.Rows.{stmts}
-use Rattle.c_source.specs.Blocks.{local_type, result_type, declared_in, statements_in}
+use Rattle.c_source.specs.Blocks.{local_type, result_type}
+use Rattle.c_tree.specs.Rows.{declared_in, statements_in}
 use Rattle.c_source.specs.Control.{Item, Open, runs_of, inits_of}
 use Rattle.c_typing.specs.Plain.{Plain, Char, Int, Unsigned, Void, Pointer, Array, Struct, plain, is_void}
 use Rattle.c_typing.specs.Rules.{converts}
@@ -26,6 +27,7 @@ use Rattle.c_sound.proofs.Ready.{Ready}
 use Rattle.c_sound.proofs.Lists.{has_more}
 use Rattle.c_sound.proofs.Continues.{inits_ready, runs_ready, rows_shaped}
 use Rattle.c_sound.proofs.Rules.{ashape, addr_plain, integer_shape, pconv, converts_shape}
+use Rattle.c_sound.specs.Scopes.{as_declared}
 use Rattle.c_sound.proofs.Typed.{HasParameters, conv_there, sh, evaluated}
 
 -- ---- lists of locals
@@ -78,10 +80,10 @@ given_back (ctype.Struct s) h = refl
 
 module _ (p : Program) (functions : (g : ℕ) (fn : Function) → slice_get p.functions g ≡ Some fn → HasParameters fn) (f : ℕ) (r : Plain) (is_its : r ≡ plain (result_type p f)) where
   expression : (v : List ℕ) (e : Typed) → IsTyped (scope_at p f v) e → ShapedE p v e
-  expression v e q = evaluated p f v v (λ x h. h) functions e q
+  expression v e q = evaluated as_declared p f v v (λ x h. h) functions e q
 
   shape_there : (v : List ℕ) (e : Typed) → shape e ≡ ashape (value (scope_at p f v) e)
-  shape_there v e = sh p f v v (λ x h. h) functions e
+  shape_there v e = sh as_declared p f v v (λ x h. h) functions e
 
   dropped : (v : List ℕ) (o : Option Pointed) → IsDropped p f r v o → ShapedPart p v o
   dropped v None q = tt
@@ -103,7 +105,7 @@ module _ (p : Program) (functions : (g : ℕ) (fn : Function) → slice_get p.fu
       let t = local_type p f x in
       let e : plain t ≡ type_of_local p f r x = local_there (slice_get (locals_in (slice_get p.functions f)) x) in
       let k : converts (plain t) (operand (scope_at p f v) c.e) ≡ true = ap (λ u. converts u (operand (scope_at p f v) c.e)) e ∙ q.1 in
-      (there, evaluated p f v ls within functions c.e q.0, ap (conv t) (shape_there v c.e) ∙ conv_there t (ashape (value (scope_at p f v) c.e)) (converts_shape (plain t) (operand (scope_at p f v) c.e) k))
+      (there, evaluated as_declared p f v ls within functions c.e q.0, ap (conv t) (shape_there v c.e) ∙ conv_there t (ashape (value (scope_at p f v) c.e)) (converts_shape (plain t) (operand (scope_at p f v) c.e) k))
 
   all_initialized : (ds : List DeclaredLocal) (v ls : List ℕ) → ((y : ℕ) → has (v ++ local_numbers ds) y ≡ true → has ls y ≡ true) → AreInitialized p f r v ds → ShapedInits p f ls ds
   all_initialized [] v ls within q = tt

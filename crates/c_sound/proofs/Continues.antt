@@ -16,7 +16,8 @@ use Rattle.c_tree.specs.declared.rows.Referent.{Referent}
 use Rattle.c_tree.specs.declared.rows.Referent.TheVariants.{Object, Local, Function as Defined, Declared}
 use Rattle.c_tree.specs.Types.{is_struct}
 use Rattle.c_tree.specs.Rows.{exprs, stmts}
-use Rattle.c_source.specs.Blocks.{result_type, statements_in}
+use Rattle.c_source.specs.Blocks.{result_type}
+use Rattle.c_tree.specs.Rows.{statements_in}
 use Rattle.c_source.specs.Control.{Item, Eval, Locate, Store, Copy, Run, Again, Switched, Label, Round, runs_of, evals_of, inits_of, part_of, loop_begins, loop_goes_on, loop_turns, broken, continued, labels_in, default_in}
 use Rattle.c_sound.proofs.Operators.{addr, conv}
 use Rattle.c_sound.proofs.Shaped.{shape, ByCase, row_shapes, is_getchar, is_putchar, is_exit, OneNumber, CalledFunction, CalledBuiltIn, CalledBy, Called, Given, ShapedE, ShapedL, ShapedRow, ShapedPart, ShapedInit, ShapedInits, ShapedS, ShapedRows, ShapedElse, ShapedBody, EachShaped, ShapedLoop}

@@ -15,9 +15,10 @@ use Rattle.c_tree.specs.declared.typed.UnaryOp.TheVariants.{Plus, Minus, Complem
 use Rattle.c_tree.specs.Types.{target_of, is_unsigned, kind_of}
 use Rattle.c_tree.specs.Layout.{size_of}
 use Rattle.c_store.specs.Store.{Value, Number, Null, At, World, used, moved, ◌>>=◌}
-use Rattle.c_store.specs.Bits.{minus_one, subtract, signed_negate}
+use Rattle.c_operators.specs.Bits.{minus_one, subtract, signed_negate}
 use Rattle.c_source.specs.Blocks.{as_pointer, converted, zero_as}
-use Rattle.c_source.specs.Operators.{bits_in, number_of, truth, on_ints, on_unsigned, operating_type, same_pointer, combined, changed}
+use Rattle.c_source.specs.Operators.{bits_in, same_pointer, combined, changed}
+use Rattle.c_operators.specs.Arithmetic.{number_of, truth, on_ints, on_unsigned, operating_type}
 use Rattle.c_sound.specs.Shapes.{is_place, is_address}
 use Rattle.c_sound.proofs.World.{Gives, gives_then, either_gives, used_gives, moved_gives}
 

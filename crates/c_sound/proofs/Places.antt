@@ -8,7 +8,7 @@ use Rattle.c_tree.specs.declared.typed.Stmt.{Stmt, Row_of-Stmt, end_of-Stmt, mor
 use Rattle.c_tree.specs.declared.typed.Stmt.TheVariants.{Value as Expression, Block', If', While', Do', For', Switch', Case', Default', Break, Continue, Return}
 use Rattle.c_tree.specs.declared.rows.Program.{Program}
 use Rattle.c_tree.specs.Rows.{stmts}
-use Rattle.c_source.specs.Blocks.{declared_in, statements_in}
+use Rattle.c_tree.specs.Rows.{declared_in, statements_in}
 use Rattle.c_source.specs.Control.{Item, runs_of, inits_of}
 use Rattle.c_typing.specs.Plain.{Plain}
 use Rattle.c_typing.specs.Declared.{has}

@@ -7,7 +7,8 @@ use Rattle.c_tree.specs.declared.rows.SymbolRow.{SymbolRow}
 use Rattle.c_tree.specs.declared.rows.Referent.{Referent}
 use Rattle.c_tree.specs.declared.rows.Referent.TheVariants.{Object, Local, Function as Defined, Declared}
 use Rattle.c_store.specs.Frames.{Binding}
-use Rattle.c_source.specs.Blocks.{result_type, statements_in}
+use Rattle.c_source.specs.Blocks.{result_type}
+use Rattle.c_tree.specs.Rows.{statements_in}
 use Rattle.c_source.specs.Control.{Item, Eval, Locate, Push, Bound, Load, Convert, Store, Copy, Update, Change, Combine, Offset, Use, Discard, Truth, AndThen, OrElse, Pick, Joined, Enter, Run, Stop, Choose, Open, Close, Turn, Again, Select, Seek, Switched, GiveBack, Leave, Label, State, Activation}
 use Rattle.c_typing.specs.Declared.{has}
 use Rattle.c_sound.specs.Shapes.{is_place}

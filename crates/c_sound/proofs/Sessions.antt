@@ -1,5 +1,5 @@
 -- Sessions over accepted programs always have an answer.
-use Rattle.std.proofs.Common.{◌≡◌, refl, sym, subst, arith, ℕ, suc, zero, ◌≤◌, List, [], ◌∷◌, ◌++◌, Bool, true, false, Option, Some, None, ◌⊎◌, inl, inr, length, replicate}
+use Rattle.std.proofs.Common.{◌≡◌, refl, sym, subst, ℕ, suc, zero, List, [], ◌∷◌, ◌++◌, Bool, true, false, Option, Some, None, ◌⊎◌, inl, inr, length}
 use Rattle.std.specs.Prelude.{Result, Ok, Err, slice_get, if◌then◌else◌, option_and_then, bytes_eq, ◌==◌, codes, filter, not}
 use Rattle.runs.specs.Runs.{Next, Goes, Passes, Exits, Undefined, Why, Reason, Stale, IllTyped, Course, Going, Comes, Event, Stopped, Exited, Failed, counted, passing, onward, until}
 use Rattle.c_tree.specs.declared.types.CType.{CType}
@@ -13,19 +13,20 @@ use Rattle.c_store.specs.Store.{Value, World}
 use Rattle.c_store.specs.Frames.{Here, ActivationRecord, bound}
 use Rattle.c_source.specs.Control.{State}
 use Rattle.c_source.specs.Source.{step}
-use Rattle.c_source.specs.Begin.{begin, records}
+use Rattle.c_source.specs.Begin.{begin}
 use Rattle.c_source.specs.Meaning.{Given, values_meant, assigned}
 use Rattle.c_source.specs.Names.{named, place_text}
-use Rattle.c_typing.specs.Declared.{has, scope_at}
+use Rattle.c_typing.specs.Declared.{has}
+use Rattle.c_sound.specs.Scopes.{as_completed, scope_with}
 use Rattle.c_typing.specs.Statements.{local_on, locals_from, locals_at}
 use Rattle.c_typing.specs.Accepted.{IsAccepted}
 use Rattle.c_session.specs.declared.command.Command.{Command}
 use Rattle.c_session.specs.declared.command.Command.TheVariants as command
-use Rattle.c_session.specs.Commands.{Session, Mode, Fresh, Stopped as StoppedAt, Running, Ended, Resume, ByStep, ByContinue, Reader, Reading, Read, Unread, Answer, Refuses, Says, Shows, Sets, ShowsAny, EndsClaim, Resumes, Quits, Nothing, answer, break_at, clear_at, print_object, print_referent, print_symbol, eval_gives, eval_read, assign_gives, assign_read, in_frame, frame_at, frames_of, point_of, in_stopped, in_fresh, in_running, in_ended, by_mode, NoPlace, BadSyntax, has as has_point}
+use Rattle.c_session.specs.Commands.{Session, Mode, Fresh, Stopped as StoppedAt, Running, Ended, Resume, Sides, OneSide, TwoSides, Positions, One, Both, FirstAlone, SecondAlone, Use, AsValue, AsAssignment, Names, Reading, Read, Unread, Answer, Refuses, Says, Shows, Sets, ShowsAny, EndsClaim, Resumes, Quits, Raw, Nothing, answer, all_at, chosen, ReadsAt, ReadsIn, ReadsLine, break_at, clear_at, print_object, print_referent, print_symbol, eval_gives, eval_read, assign_gives, assign_read, in_frame, frame_at, frames_of, point_of, in_stopped, in_fresh, in_running, in_ended, by_mode, NoPlace, BadSyntax, has as has_point}
 use Rattle.c_session.specs.Places.{point_at}
-use Rattle.c_session.specs.Allowed.{Lines, Standing, stops_by, AllMeet, AllMove, IsOnTheWay, ResumeReplies, AnswerReplies, MemoryReplies, after_event, with_state, at_first}
+use Rattle.c_session.specs.Allowed.{Lines, Standing, stops_by, HasEvent, IsUnderway, AllMeet, Moves, one, both, second_comes, first_comes, first_goes, second_goes, ResumeReplies, AnswerReplies, MemoryReplies, after_event, with_state, at_first}
 use Rattle.c_sound.specs.Shapes.{IsAssigned}
-use Rattle.c_sound.specs.Sessions.{IsFaithful, AreAnswered, IsAboutProgram, HasAnswer}
+use Rattle.c_sound.specs.Sessions.{ReadsTyped, AreAnswered, HasAnswer}
 use Rattle.c_sound.proofs.Shaped.{ShapedL}
 use Rattle.c_sound.proofs.World.{Gives, WorldFits}
 use Rattle.c_sound.proofs.Ready.{locals_of, Good}
@@ -120,10 +121,11 @@ module _ (p : Program) (accepted : IsAccepted p) where
   counted_stands c (Going d s) k = k
   counted_stands c (Comes d e) k = k
 
-  abbrev EachStands : List (Option State) → Type 0
-  EachStands [] = Unit {0}
-  EachStands (None ∷ ps) = EachStands ps
-  EachStands (Some s ∷ ps) = Stands s × EachStands ps
+  abbrev EachStands : Positions → Type 0
+  EachStands (One t) = Stands t
+  EachStands (Both t u) = Stands t × Stands u
+  EachStands (FirstAlone t) = Stands t
+  EachStands (SecondAlone u) = Stands u
 
   module _ (stops : ℕ → Bool) where
     passing_stands : (b : Bool) (q c : ℕ) (s : State) (go : State → Course State) → AtStop s → CourseStands (go s) → CourseStands (passing State (step p) b q c s go)
@@ -142,41 +144,41 @@ module _ (p : Program) (accepted : IsAccepted p) where
 
     -- ---- all sides
 
-    meets_stands : (e : Event State) (ps : List (Option State)) → AllMeet p stops e ps → EachStands ps → IsOnTheWay p stops ps → EventStands e
-    meets_stands e [] m s w = absurd w
-    meets_stands e (None ∷ ps) m s w = meets_stands e ps m s w
-    meets_stands e (Some t ∷ ps) m s w = subst CourseStands m.0.1.1 (course_stands m.0.1.0 t s.0)
+    met_stands : (e : Event State) (t : State) → HasEvent p stops t e → Stands t → EventStands e
+    met_stands e t m g = subst CourseStands m.1.1 (course_stands m.1.0 t g)
 
-    moves_stand : (limit : ℕ) (ps qs : List (Option State)) → AllMove p stops limit ps qs → EachStands ps → EachStands qs
-    moves_stand limit [] [] m s = tt
-    moves_stand limit [] (q ∷ qs) m s = absurd m
-    moves_stand limit (t ∷ ps) [] m s = absurd m
-    moves_stand limit (None ∷ ps) (None ∷ qs) m s = moves_stand limit ps qs m.1 s
-    moves_stand limit (None ∷ ps) (Some q ∷ qs) m s = absurd m.0
-    moves_stand limit (Some t ∷ ps) (None ∷ qs) m s = moves_stand limit ps qs m.1 s.1
-    moves_stand limit (Some t ∷ ps) (Some q ∷ qs) m s = (subst CourseStands m.0.2.1 (course_stands m.0.2.0 t s.0), moves_stand limit ps qs m.1 s.1)
+    meets_stands : (e : Event State) (ps : Positions) → AllMeet p stops e ps → EachStands ps → EventStands e
+    meets_stands e (One t) m g = met_stands e t m g
+    meets_stands e (Both t u) m g = met_stands e t m.0 g.0
+    meets_stands e (FirstAlone t) m g = met_stands e t m g
+    meets_stands e (SecondAlone u) m g = met_stands e u m g
+
+    way_stands : (limit : ℕ) (t q : State) → IsUnderway p stops limit t q → Stands t → Stands q
+    way_stands limit t q m g = subst CourseStands m.2.1 (course_stands m.2.0 t g)
+
+    moves_stand : (limit : ℕ) (before written : List ℕ) (ps qs : Positions) → Moves p stops limit before ps qs written → EachStands ps → EachStands qs
+    moves_stand limit before written _ _ (one t q w m k) g = way_stands limit t q m g
+    moves_stand limit before written _ _ (both t u q v w m n k) g = (way_stands limit t q m g.0, way_stands limit u v n g.1)
+    moves_stand limit before written _ _ (second_comes t u q w m o k) g = way_stands limit t q m g.0
+    moves_stand limit before written _ _ (first_comes t u v w k n) g = way_stands limit u v n g.1
+    moves_stand limit before written _ _ (first_goes t q w m k) g = way_stands limit t q m g
+    moves_stand limit before written _ _ (second_goes u v n) g = way_stands limit u v n g
 
   -- ---- sessions
-
-  -- at least one side has a position
-  abbrev SomeSide : List (Option State) → Type 0
-  SomeSide [] = ⊥
-  SomeSide (None ∷ qs) = SomeSide qs
-  SomeSide (Some q ∷ qs) = Unit {0}
 
   abbrev SoundMode : Mode → Type 0
   SoundMode (Fresh s) = Stands s
   SoundMode (StoppedAt s) = AtStop s
-  SoundMode (Running how ps) = EachStands ps × SomeSide ps
+  SoundMode (Running how ps) = EachStands ps
   SoundMode Ended = Unit {0}
 
-  -- what an answer to a session in this mode leaves; N where there is none
-  abbrev SoundAnswer : Mode → Type 0 → Answer → Type 0
-  SoundAnswer m N (Says lines session) = session.mode ≡ m
-  SoundAnswer m N (Sets s) = SoundMode (with_state p m s)
-  SoundAnswer m N (Resumes how ps) = EachStands ps × SomeSide ps
-  SoundAnswer m N Nothing = N
-  SoundAnswer m N _ = Unit {0}
+  -- what an answer to a session in this mode leaves
+  abbrev SoundAnswer : Mode → Answer → Type 0
+  SoundAnswer m (Says lines session) = session.mode ≡ m
+  SoundAnswer m (Sets s) = SoundMode (with_state p m s)
+  SoundAnswer m (Resumes how ps) = EachStands ps
+  SoundAnswer m Nothing = ⊥
+  SoundAnswer m _ = Unit {0}
 
   -- ---- resumes
 
@@ -185,36 +187,26 @@ module _ (p : Program) (accepted : IsAccepted p) where
   event_sound session (Exited n s) k = tt
   event_sound session (Failed w) k = tt
 
-  resume_sound : (st : Standing) (how : Resume) (ps : List (Option State)) (reply : Lines) (next : Standing) → EachStands ps → SomeSide ps → ResumeReplies p st how ps reply next → SoundMode next.session.mode
-  resume_sound st how ps reply next s w (inl a) = subst (λ x. SoundMode x.session.mode) (sym a.4) (event_sound st.session a.0 (meets_stands (stops_by st.session.breaks how) a.0 ps a.2 s w))
-  resume_sound st how ps reply next s w (inr (inl a)) = subst (λ x. SoundMode x.session.mode) (sym a.6) (moves_stand (stops_by st.session.breaks how) st.session.limit ps a.0 a.2 s, a.3)
-  resume_sound st how ps reply next s w (inr (inr a)) = subst (λ x. SoundMode x.session.mode) (sym a.3) tt
+  resume_sound : (st : Standing) (how : Resume) (ps : Positions) (reply : Lines) (next : Standing) → EachStands ps → ResumeReplies p st how ps reply next → SoundMode next.session.mode
+  resume_sound st how ps reply next g (inl (e, i, m, r, x)) = subst (λ y. SoundMode y.session.mode) (sym x) (event_sound st.session e (meets_stands (stops_by st.session.breaks how) e ps m g))
+  resume_sound st how ps reply next g (inr (inl (qs, w, m, front, r, x))) = subst (λ y. SoundMode y.session.mode) (sym x) (moves_stand (stops_by st.session.breaks how) st.session.limit st.written w ps qs m g)
+  resume_sound st how ps reply next g (inr (inr (w, d, front, r, x))) = subst (λ y. SoundMode y.session.mode) (sym x) tt
 
-  reply_sound : (st : Standing) (N : Type 0) (a : Answer) (reply : Lines) (next : Standing) → SoundMode st.session.mode → SoundAnswer st.session.mode N a → AnswerReplies p st a reply next → SoundMode next.session.mode
-  reply_sound st N (Refuses u) reply next m q k = subst (λ x. SoundMode x.session.mode) (sym k.1) m
-  reply_sound st N (Says lines session) reply next m q k = subst (λ x. SoundMode x.session.mode) (sym k.1) (subst SoundMode (sym q) m)
-  reply_sound st N (Shows w t vs) reply next m q k = subst (λ x. SoundMode x.session.mode) (sym k.1) m
-  reply_sound st N (Sets s) reply next m q k = subst (λ x. SoundMode x.session.mode) (sym k.1) q
-  reply_sound st N ShowsAny reply next m q k = subst (λ x. SoundMode x.session.mode) (sym k.1) m
-  reply_sound st N (Resumes how ps) reply next m q k = resume_sound st how ps reply next q.0 q.1 k
-  reply_sound st N EndsClaim reply next m q k = absurd k
-  reply_sound st N Quits reply next m q k = absurd k
-  reply_sound st N Nothing reply next m q k = absurd k
-
-  memory_sound : (st : Standing) (a : Answer) (reply : Lines) (next : Standing) → SoundMode st.session.mode → MemoryReplies p st a reply next → SoundMode next.session.mode
-  memory_sound st Quits reply next m k = absurd k
-  memory_sound st (Refuses u) reply next m k = subst (λ x. SoundMode x.session.mode) (sym k.1) m
-  memory_sound st (Says lines session) reply next m k = subst (λ x. SoundMode x.session.mode) (sym k.1) m
-  memory_sound st (Shows w t vs) reply next m k = subst (λ x. SoundMode x.session.mode) (sym k.1) m
-  memory_sound st (Sets s) reply next m k = subst (λ x. SoundMode x.session.mode) (sym k.1) m
-  memory_sound st ShowsAny reply next m k = subst (λ x. SoundMode x.session.mode) (sym k.1) m
-  memory_sound st (Resumes how ps) reply next m k = subst (λ x. SoundMode x.session.mode) (sym k.1) m
-  memory_sound st EndsClaim reply next m k = subst (λ x. SoundMode x.session.mode) (sym k.1) m
-  memory_sound st Nothing reply next m k = subst (λ x. SoundMode x.session.mode) (sym k.1) m
+  reply_sound : (st : Standing) (a : Answer) (reply : Lines) (next : Standing) → SoundMode st.session.mode → SoundAnswer st.session.mode a → AnswerReplies p st a reply next → SoundMode next.session.mode
+  reply_sound st (Refuses u) reply next m q k = subst (λ x. SoundMode x.session.mode) (sym k.1) m
+  reply_sound st (Says lines session) reply next m q k = subst (λ x. SoundMode x.session.mode) (sym k.1) (subst SoundMode (sym q) m)
+  reply_sound st (Shows w t vs) reply next m q k = subst (λ x. SoundMode x.session.mode) (sym k.1) m
+  reply_sound st (Sets s) reply next m q k = subst (λ x. SoundMode x.session.mode) (sym k.1) q
+  reply_sound st ShowsAny reply next m q k = subst (λ x. SoundMode x.session.mode) (sym k.1) m
+  reply_sound st (Resumes how ps) reply next m q k = resume_sound st how ps reply next q k
+  reply_sound st (Raw n) reply next m q k = subst (λ x. SoundMode x.session.mode) (sym k.1) m
+  reply_sound st EndsClaim reply next m q k = absurd k
+  reply_sound st Quits reply next m q k = absurd k
+  reply_sound st Nothing reply next m q k = absurd k
 
   -- ---- commands
 
-  module _ (r : Reader) (faithful : IsFaithful p r) (sides : ℕ) (some : 1 ≤ sides) (session : Session) where
+  module _ (names : Names) (sides : Sides) (session : Session) where
     abbrev point_or_0 : Option ℕ → ℕ
     point_or_0 None = 0
     point_or_0 (Some q) = q
@@ -223,41 +215,34 @@ module _ (p : Program) (accepted : IsAccepted p) where
     at_point f None ls c = absurd c
     at_point f (Some q) ls c = c
 
-    sides_stand : (n : ℕ) (s : State) → Stands s → EachStands (replicate n (Some s))
-    sides_stand zero s g = tt
-    sides_stand (suc n) s g = (g, sides_stand n s g)
-
-    one_side : (n : ℕ) (s : State) → 1 ≤ n → SomeSide (replicate n (Some s))
-    one_side zero s h = absurd (omega arith)
-    one_side (suc n) s h = tt
-
-    resumes : (m : Mode) (N : Type 0) (how : Resume) (s : State) → Stands s → SoundAnswer m N (Resumes how (replicate sides (Some s)))
-    resumes m N how s g = (sides_stand sides s g, one_side sides s some)
+    sides_stand : (n : Sides) (s : State) → Stands s → EachStands (all_at n s)
+    sides_stand OneSide s g = g
+    sides_stand TwoSides s g = (g, g)
 
     either_mode : (b : Bool) (x y : Session) (m : Mode) → x.mode ≡ m → y.mode ≡ m → (if b then x else y).mode ≡ m
     either_mode true x y m e g = e
     either_mode false x y m e g = g
 
-    either_answer : (m : Mode) (N : Type 0) (b : Bool) (x y : Answer) → SoundAnswer m N x → SoundAnswer m N y → SoundAnswer m N (if b then x else y)
-    either_answer m N true x y q k = q
-    either_answer m N false x y q k = k
+    either_answer : (m : Mode) (b : Bool) (x y : Answer) → SoundAnswer m x → SoundAnswer m y → SoundAnswer m (if b then x else y)
+    either_answer m true x y q k = q
+    either_answer m false x y q k = k
 
-    breaks : (N : Type 0) (o : Option ℕ) → SoundAnswer session.mode N (break_at p r sides session o)
-    breaks N None = tt
-    breaks N (Some q) = either_mode _ session _ session.mode refl refl
+    breaks : (o : Option ℕ) → SoundAnswer session.mode (break_at p names sides session o)
+    breaks None = tt
+    breaks (Some q) = either_mode _ session _ session.mode refl refl
 
-    clears : (N : Type 0) (o : Option ℕ) → SoundAnswer session.mode N (clear_at p r sides session o)
-    clears N None = tt
-    clears N (Some q) =
-        either_answer session.mode N (has_point session.breaks q) (Says ((codes "clear " ++ place_text p q) ∷ []) (record session { breaks = filter (λ r. not (r == q)) session.breaks })) (Refuses NoPlace) refl tt
+    clears : (o : Option ℕ) → SoundAnswer session.mode (clear_at p names sides session o)
+    clears None = tt
+    clears (Some q) =
+        either_answer session.mode (has_point session.breaks q) (Says ((codes "clear " ++ place_text p q) ∷ []) (record session { breaks = filter (λ r. not (r == q)) session.breaks })) (Refuses NoPlace) refl tt
 
-    frames : (N : Type 0) (n : ℕ) (o : Option ActivationRecord) → SoundAnswer session.mode N (frame_at p r sides session n o)
-    frames N n None = tt
-    frames N n (Some a) = refl
+    frames : (n : ℕ) (o : Option ActivationRecord) → SoundAnswer session.mode (frame_at p names sides session n o)
+    frames n None = tt
+    frames n (Some a) = refl
 
     -- ---- in an activation of a state at a stop
 
-    module _ (m : Mode) (N : Type 0) (s : State) (at : AtStop s) (a : ActivationRecord) (covered : CoveredAt p a) where
+    module _ (m : Mode) (s : State) (at : AtStop s) (a : ActivationRecord) (covered : CoveredAt p a) where
       abbrev w : World
       w = s.here.world
 
@@ -270,34 +255,34 @@ module _ (p : Program) (accepted : IsAccepted p) where
       there : At p a.function q (locals_of a.locals)
       there = at_point a.function a.point (locals_of a.locals) covered
 
-      prints_object : (t : CType) (o : Option ℕ) (b : ℕ) → o ≡ Some b → SoundAnswer m N (print_object p r sides session w t o)
-      prints_object t o b e = subst (λ o. SoundAnswer m N (print_object p r sides session w t o)) (sym e) tt
+      prints_object : (t : CType) (o : Option ℕ) (b : ℕ) → o ≡ Some b → SoundAnswer m (print_object p names sides session w t o)
+      prints_object t o b e = subst (λ o. SoundAnswer m (print_object p names sides session w t o)) (sym e) tt
 
-      prints_referent : (x : Referent) → LiveReferent (locals_at p q) x → SoundAnswer m N (print_referent p r sides session w a x)
+      prints_referent : (x : Referent) → LiveReferent (locals_at p q) x → SoundAnswer m (print_referent p names sides session w a x)
       prints_referent (refers.Object o) l = tt
       prints_referent (refers.Local x) l = let b = bound_here x a.locals (there.0 x l) in prints_object _ (bound x a.locals) b.0 b.1
       prints_referent (refers.Function f) l = tt
       prints_referent refers.Declared l = tt
 
-      prints_symbol : (o : Option SymbolRow) → LiveName (locals_at p q) o → SoundAnswer m N (print_symbol p r sides session w a o)
+      prints_symbol : (o : Option SymbolRow) → LiveName (locals_at p q) o → SoundAnswer m (print_symbol p names sides session w a o)
       prints_symbol None l = tt
       prints_symbol (Some row) l = prints_referent row.refers l
 
-      evaluates : (t : CType) (v : Result (List Value) Why) → Gives (λ _. Unit {0}) v → SoundAnswer m N (eval_gives p r sides session w t v)
+      evaluates : (t : CType) (v : Result (List Value) Why) → Gives (λ _. Unit {0}) v → SoundAnswer m (eval_gives p names sides session w t v)
       evaluates t (Ok vs) g = tt
       evaluates t (Err (Reason u)) g = tt
       evaluates t (Err Stale) g = tt
       evaluates t (Err IllTyped) g = absurd g
 
-      reads_value : (text : List ℕ) (x : Reading) → r.value q text ≡ x → SoundAnswer m N (eval_read p r sides session w a x)
+      reads_value : (text : List ℕ) (x : Reading) → ReadsTyped p AsValue q text x → SoundAnswer m (eval_read p names sides session w a x)
       reads_value text (Unread u) e = tt
       reads_value text (Read d) e =
-          let k = faithful.value q a.function text d there.1 e in
-          let i = evaluated p a.function (locals_at p q) (locals_of a.locals) there.0 (parameters_there p accepted) d k.1 in
-          let l : is_struct (type_of d) ≡ true → ShapedL p (locals_of a.locals) d = λ z. located p a.function (locals_at p q) (locals_of a.locals) there.0 (parameters_there p accepted) d k.1 (struct_lvalue (scope_at p a.function (locals_at p q)) d k.0 k.1 z) in
+          let k = e a.function d there.1 refl in
+          let i = evaluated (as_completed p) p a.function (locals_at p q) (locals_of a.locals) there.0 (parameters_there p accepted) d k.1 in
+          let l : is_struct (type_of d) ≡ true → ShapedL p (locals_of a.locals) d = λ z. located (as_completed p) p a.function (locals_at p q) (locals_of a.locals) there.0 (parameters_there p accepted) d k.1 (struct_lvalue (scope_with p a.function (locals_at p q) (as_completed p)) d k.0 k.1 z) in
           evaluates (type_of d) (values_meant p here d) (values_given p here at.0.0.world d k.0 i l)
 
-    module _ (s : State) (at : AtStop s) (a : ActivationRecord) (covered : CoveredAt p a) (N : Type 0) where
+    module _ (s : State) (at : AtStop s) (a : ActivationRecord) (covered : CoveredAt p a) where
       -- the state after an assignment
       set_stands : (u : World) → IsAssigned s.here.world u → AtStop (record s { here = record s.here { world = u } })
       set_stands u k =
@@ -309,115 +294,120 @@ module _ (p : Program) (accepted : IsAccepted p) where
             at.1,
           )
 
-      sets : (v : Result Given Why) → Gives (λ g. IsAssigned s.here.world g.world) v → SoundAnswer (StoppedAt s) N (assign_gives p r sides session s v)
+      sets : (v : Result Given Why) → Gives (λ g. IsAssigned s.here.world g.world) v → SoundAnswer (StoppedAt s) (assign_gives p names sides session s v)
       sets (Ok g) k = set_stands g.world k
       sets (Err (Reason u)) k = tt
       sets (Err Stale) k = tt
       sets (Err IllTyped) k = absurd k
 
-      reads_assignment : (text : List ℕ) (x : Reading) → r.assignment (point_or_0 a.point) text ≡ x → SoundAnswer (StoppedAt s) N (assign_read p r sides session s a x)
+      reads_assignment : (text : List ℕ) (x : Reading) → ReadsTyped p AsAssignment (point_or_0 a.point) text x → SoundAnswer (StoppedAt s) (assign_read p names sides session s a x)
       reads_assignment text (Unread u) e = tt
       reads_assignment text (Read d) e =
           let q = point_or_0 a.point in
           let there = at_point a.function a.point (locals_of a.locals) covered in
-          let k = faithful.assignment q a.function text d there.1 e in
-          let i = evaluated p a.function (locals_at p q) (locals_of a.locals) there.0 (parameters_there p accepted) d k.1 in
+          let k = e a.function d there.1 refl in
+          let i = evaluated (as_completed p) p a.function (locals_at p q) (locals_of a.locals) there.0 (parameters_there p accepted) d k.1 in
           let here : Here = record { world = s.here.world; activation = a } in
           sets (assigned p here d) (assigned_given p here at.0.0.world d k.0 i)
 
-    in_frame_sound : (m : Mode) (N : Type 0) (o : Option ActivationRecord) (go : ActivationRecord → Answer) → ((a : ActivationRecord) → o ≡ Some a → CoveredAt p a) → ((a : ActivationRecord) → CoveredAt p a → SoundAnswer m N (go a)) → SoundAnswer m N (in_frame p r sides session o go)
-    in_frame_sound m N None go c k = tt
-    in_frame_sound m N (Some a) go c k = k a (c a refl)
+    in_frame_sound : (m : Mode) (o : Option ActivationRecord) (go : ActivationRecord → Answer) → ((a : ActivationRecord) → o ≡ Some a → SoundAnswer m (go a)) → SoundAnswer m (in_frame p names sides session o go)
+    in_frame_sound m None go k = tt
+    in_frame_sound m (Some a) go k = k a refl
 
-    -- where a command is about the program there is an answer
-    abbrev Excused : Command → Type 0
-    Excused c = IsAboutProgram (Some c) → ⊥
+    chosen_sound : (s : State) (at : AtStop s) (go : ActivationRecord → Answer) → ((a : ActivationRecord) → chosen p names sides session s ≡ Some a → CoveredAt p a → SoundAnswer (StoppedAt s) (go a)) → SoundAnswer (StoppedAt s) (in_frame p names sides session (chosen p names sides session s) go)
+    chosen_sound s at go k = in_frame_sound (StoppedAt s) (chosen p names sides session s) go (λ a e. k a e (all_live p accepted s session.frame a at.0.1 at.1 e))
 
-    chosen_sound : (s : State) (at : AtStop s) (N : Type 0) (go : ActivationRecord → Answer) → ((a : ActivationRecord) → CoveredAt p a → SoundAnswer (StoppedAt s) N (go a)) → SoundAnswer (StoppedAt s) N (in_frame p r sides session (slice_get (records s) session.frame) go)
-    chosen_sound s at N go k = in_frame_sound (StoppedAt s) N (slice_get (records s) session.frame) go (λ a e. all_live p accepted s session.frame a at.0.1 at.1 e) k
+    -- what is read in the chosen frame
+    there_read : (u : Use) (text : List ℕ) (x : Reading) (o : Option ActivationRecord) (a : ActivationRecord) → o ≡ Some a → ReadsAt p names sides session (ReadsTyped p) u text o x → ReadsTyped p u (point_of p names sides session a) text x
+    there_read u text x o a e k = subst (λ o. ReadsAt p names sides session (ReadsTyped p) u text o x) e k
+
+    abbrev Reads : Mode → Command → Reading → Type 0
+    Reads m c x = ReadsIn p names sides session (ReadsTyped p) m c x
 
     -- the commands that a fresh and a stopped session answer alike; the session's mode is m
-    stopped_sound : (s : State) (at : AtStop s) (c : Command) → session.mode ≡ StoppedAt s → SoundAnswer (StoppedAt s) (Excused c) (in_stopped p r sides session s c)
-    stopped_sound s at (command.Break place) e = subst (λ m. SoundAnswer m (Excused (command.Break place)) (break_at p r sides session (point_at p place))) e (breaks _ (point_at p place))
-    stopped_sound s at (command.Clear place) e = subst (λ m. SoundAnswer m (Excused (command.Clear place)) (clear_at p r sides session (point_at p place))) e (clears _ (point_at p place))
-    stopped_sound s at command.Continue e = resumes (StoppedAt s) (Excused command.Continue) ByContinue s at.0
-    stopped_sound s at command.Step e = resumes (StoppedAt s) (Excused command.Step) ByStep s at.0
-    stopped_sound s at (command.Turns n) e = e
-    stopped_sound s at command.Frames e = e
-    stopped_sound s at (command.Frame n) e = subst (λ m. SoundAnswer m (Excused (command.Frame n)) (frame_at p r sides session n (slice_get (frames_of p r sides session s) n))) e (frames _ n (slice_get (frames_of p r sides session s) n))
-    stopped_sound s at (command.Print name) e =
-        chosen_sound s at (Excused (command.Print name)) _ λ a c.
-        either_answer (StoppedAt s) (Excused (command.Print name)) (r.is_name name) (print_symbol p r sides session s.here.world a (named p name (point_of p r sides session a))) (Refuses BadSyntax)
-        (prints_symbol (StoppedAt s) (Excused (command.Print name)) s at a c (named p name (point_of p r sides session a)) (name_live p name (point_of p r sides session a))) tt
-    stopped_sound s at (command.Eval text) e =
-        chosen_sound s at (Excused (command.Eval text)) _ λ a c. reads_value (StoppedAt s) (Excused (command.Eval text)) s at a c text (r.value (point_of p r sides session a) text) refl
-    stopped_sound s at (command.Assign text) e =
-        chosen_sound s at (Excused (command.Assign text)) _ λ a c. reads_assignment s at a c (Excused (command.Assign text)) text (r.assignment (point_of p r sides session a) text) refl
-    stopped_sound s at command.Quit e = tt
-    stopped_sound s at command.Regs e = λ x. x
-    stopped_sound s at (command.Code text) e = λ x. x
-    stopped_sound s at (command.Ps text) e = λ x. x
+    stopped_sound : (x : Reading) (s : State) (at : AtStop s) (c : Command) → Reads (StoppedAt s) c x → session.mode ≡ StoppedAt s → SoundAnswer (StoppedAt s) (in_stopped p names sides session x s c)
+    stopped_sound x s at (command.Break place) k e = subst (λ m. SoundAnswer m (break_at p names sides session (point_at p place))) e (breaks (point_at p place))
+    stopped_sound x s at (command.Clear place) k e = subst (λ m. SoundAnswer m (clear_at p names sides session (point_at p place))) e (clears (point_at p place))
+    stopped_sound x s at command.Continue k e = sides_stand sides s at.0
+    stopped_sound x s at command.Step k e = sides_stand sides s at.0
+    stopped_sound x s at (command.Turns n) k e = e
+    stopped_sound x s at command.Frames k e = e
+    stopped_sound x s at (command.Frame n) k e = subst (λ m. SoundAnswer m (frame_at p names sides session n (slice_get (frames_of p names sides session s) n))) e (frames n (slice_get (frames_of p names sides session s) n))
+    stopped_sound x s at (command.Print name) k e =
+        chosen_sound s at _ λ a f c.
+        either_answer (StoppedAt s) (names name) (print_symbol p names sides session s.here.world a (named p name (point_of p names sides session a))) (Refuses BadSyntax)
+        (prints_symbol (StoppedAt s) s at a c (named p name (point_of p names sides session a)) (name_live p name (point_of p names sides session a))) tt
+    stopped_sound x s at (command.Eval text) k e = chosen_sound s at _ λ a f c. reads_value (StoppedAt s) s at a c text x (there_read AsValue text x (chosen p names sides session s) a f k)
+    stopped_sound x s at (command.Assign text) k e = chosen_sound s at _ λ a f c. reads_assignment s at a c text x (there_read AsAssignment text x (chosen p names sides session s) a f k)
+    stopped_sound x s at command.Quit k e = tt
+    stopped_sound x s at command.Regs k e = tt
+    stopped_sound x s at (command.Code text) k e = tt
+    stopped_sound x s at (command.Ps text) k e = tt
 
-    fresh_sound : (s : State) → Stands s → (c : Command) → session.mode ≡ Fresh s → SoundAnswer (Fresh s) (Excused c) (in_fresh p r sides session s c)
-    fresh_sound s g (command.Break place) e = subst (λ m. SoundAnswer m (Excused (command.Break place)) (break_at p r sides session (point_at p place))) e (breaks _ (point_at p place))
-    fresh_sound s g (command.Clear place) e = subst (λ m. SoundAnswer m (Excused (command.Clear place)) (clear_at p r sides session (point_at p place))) e (clears _ (point_at p place))
-    fresh_sound s g command.Continue e = resumes (Fresh s) (Excused command.Continue) ByContinue s g
-    fresh_sound s g command.Step e = resumes (Fresh s) (Excused command.Step) ByStep s g
-    fresh_sound s g (command.Turns n) e = e
-    fresh_sound s g command.Frames e = tt
-    fresh_sound s g (command.Frame n) e = tt
-    fresh_sound s g (command.Print name) e = tt
-    fresh_sound s g (command.Eval text) e = tt
-    fresh_sound s g (command.Assign text) e = tt
-    fresh_sound s g command.Quit e = tt
-    fresh_sound s g command.Regs e = λ x. x
-    fresh_sound s g (command.Code text) e = λ x. x
-    fresh_sound s g (command.Ps text) e = λ x. x
+    fresh_sound : (x : Reading) (s : State) → Stands s → (c : Command) → session.mode ≡ Fresh s → SoundAnswer (Fresh s) (in_fresh p names sides session x s c)
+    fresh_sound x s g (command.Break place) e = subst (λ m. SoundAnswer m (break_at p names sides session (point_at p place))) e (breaks (point_at p place))
+    fresh_sound x s g (command.Clear place) e = subst (λ m. SoundAnswer m (clear_at p names sides session (point_at p place))) e (clears (point_at p place))
+    fresh_sound x s g command.Continue e = sides_stand sides s g
+    fresh_sound x s g command.Step e = sides_stand sides s g
+    fresh_sound x s g (command.Turns n) e = e
+    fresh_sound x s g command.Frames e = tt
+    fresh_sound x s g (command.Frame n) e = tt
+    fresh_sound x s g (command.Print name) e = tt
+    fresh_sound x s g (command.Eval text) e = tt
+    fresh_sound x s g (command.Assign text) e = tt
+    fresh_sound x s g command.Quit e = tt
+    fresh_sound x s g command.Regs e = tt
+    fresh_sound x s g (command.Code text) e = tt
+    fresh_sound x s g (command.Ps text) e = tt
 
-    running_sound : (how : Resume) (ps : List (Option State)) → EachStands ps × SomeSide ps → (c : Command) → session.mode ≡ Running how ps → SoundAnswer (Running how ps) (Excused c) (in_running p r sides session how ps c)
+    running_sound : (how : Resume) (ps : Positions) → EachStands ps → (c : Command) → session.mode ≡ Running how ps → SoundAnswer (Running how ps) (in_running p names sides session how ps c)
     running_sound how ps g command.Continue e = g
     running_sound how ps g (command.Turns n) e = e
+    running_sound how ps g command.Regs e = tt
     running_sound how ps g command.Quit e = tt
     running_sound how ps g _ e = tt
 
-    ended_sound : (N : Type 0) (c : Command) → SoundAnswer Ended N (in_ended p r sides session c)
-    ended_sound N command.Quit = tt
-    ended_sound N _ = tt
+    ended_sound : (c : Command) → SoundAnswer Ended (in_ended p names sides session c)
+    ended_sound command.Quit = tt
+    ended_sound _ = tt
 
-    mode_sound : (m : Mode) → SoundMode m → session.mode ≡ m → (c : Command) → SoundAnswer m (Excused c) (by_mode p r sides session m c)
-    mode_sound (Fresh s) g e c = fresh_sound s g c e
-    mode_sound (StoppedAt s) g e c = stopped_sound s g c e
-    mode_sound (Running how ps) g e c = running_sound how ps g c e
-    mode_sound Ended g e c = ended_sound (Excused c) c
+    mode_sound : (x : Reading) (m : Mode) → SoundMode m → session.mode ≡ m → (c : Command) → Reads m c x → SoundAnswer m (by_mode p names sides session x m c)
+    mode_sound x (Fresh s) g e c k = fresh_sound x s g c e
+    mode_sound x (StoppedAt s) g e c k = stopped_sound x s g c k e
+    mode_sound x (Running how ps) g e c k = running_sound how ps g c e
+    mode_sound x Ended g e c k = ended_sound c
 
-    answer_sound : SoundMode session.mode → (c : Option Command) → SoundAnswer session.mode (IsAboutProgram c → ⊥) (answer p r sides session c)
-    answer_sound g None = tt
-    answer_sound g (Some c) = mode_sound session.mode g refl c
+    answer_sound : SoundMode session.mode → (x : Reading) (c : Option Command) → ReadsLine p names sides session (ReadsTyped p) c x → SoundAnswer session.mode (answer p names sides session x c)
+    answer_sound g x None k = tt
+    answer_sound g x (Some c) k = mode_sound x session.mode g refl c k
 
   -- ---- whole sessions
 
-  has_answer : (m : Mode) (N : Type 0) (a : Answer) → (N → ⊥) → SoundAnswer m N a → HasAnswer a
-  has_answer m N (Refuses u) never q = tt
-  has_answer m N (Says lines session) never q = tt
-  has_answer m N (Shows w t vs) never q = tt
-  has_answer m N (Sets s) never q = tt
-  has_answer m N ShowsAny never q = tt
-  has_answer m N EndsClaim never q = tt
-  has_answer m N (Resumes how ps) never q = tt
-  has_answer m N Quits never q = tt
-  has_answer m N Nothing never q = never q
+  has_answer : (m : Mode) (a : Answer) → SoundAnswer m a → HasAnswer a
+  has_answer m (Refuses u) q = tt
+  has_answer m (Says lines session) q = tt
+  has_answer m (Shows w t vs) q = tt
+  has_answer m (Sets s) q = tt
+  has_answer m ShowsAny q = tt
+  has_answer m EndsClaim q = tt
+  has_answer m (Resumes how ps) q = tt
+  has_answer m (Raw n) q = tt
+  has_answer m Quits q = tt
+  has_answer m Nothing q = q
 
-  module _ (r : Reader) (faithful : IsFaithful p r) (sides : ℕ) (some : 1 ≤ sides) where
-    next_sound : (st next : Standing) (reply : Lines) (c : Option Command) → SoundMode st.session.mode → AnswerReplies p st (answer p r sides st.session c) reply next ⊎ MemoryReplies p st (answer p r sides st.session c) reply next → SoundMode next.session.mode
-    next_sound st next reply c g (inl a) = reply_sound st (IsAboutProgram c → ⊥) (answer p r sides st.session c) reply next g (answer_sound r faithful sides some st.session g c) a
-    next_sound st next reply c g (inr a) = memory_sound st (answer p r sides st.session c) reply next g a
+  module _ (names : Names) (sides : Sides) where
+    next_sound : (st next : Standing) (reply : Lines) (c : Option Command) → SoundMode st.session.mode
+        → MemoryReplies st c reply next ⊎ ((x : Reading) × ReadsLine p names sides st.session (ReadsTyped p) c x × AnswerReplies p st (answer p names sides st.session x c) reply next) → SoundMode next.session.mode
+    next_sound st next reply c g (inl m) = subst (λ x. SoundMode x.session.mode) (sym m.2) g
+    next_sound st next reply c g (inr (x, k, a)) = reply_sound st (answer p names sides st.session x c) reply next g (answer_sound names sides st.session g x c k) a
 
-    answered_sound : (st last : Standing) (cs : List (Option Command)) → SoundMode st.session.mode → AreAnswered p r sides st cs last → SoundMode last.session.mode
+    answered_sound : (st last : Standing) (cs : List (Option Command)) → SoundMode st.session.mode → AreAnswered p names sides st cs last → SoundMode last.session.mode
     answered_sound st last [] g a = subst (λ x. SoundMode x.session.mode) (sym a) g
-    answered_sound st last (c ∷ cs) g a = answered_sound a.1 last cs (next_sound st a.1 a.0 c g a.2) a.3
+    answered_sound st last (c ∷ cs) g (reply, next, a, rest) = answered_sound next last cs (next_sound st next reply c g a) rest
 
-    pub sessions_answer : (input : List ℕ) (cs : List (Option Command)) (st : Standing) (c : Option Command) → AreAnswered p r sides (at_first p r sides input) cs st → IsAboutProgram c → HasAnswer (answer p r sides st.session c)
-    sessions_answer input cs st c a about =
+    pub sessions_answer : (input : List ℕ) (cs : List (Option Command)) (st : Standing) (x : Reading) (c : Option Command) → AreAnswered p names sides (at_first p input) cs st → ReadsLine p names sides st.session (ReadsTyped p) c x
+        → HasAnswer (answer p names sides st.session x c)
+    sessions_answer input cs st x c a k =
         let begun : Stands (begin p input) = (begins_good p input (bodies_ready p accepted) accepted.objects accepted.main (λ g fn e. (function_there p accepted g fn e).main), begins_in_scope p accepted input) in
-        let g : SoundMode st.session.mode = answered_sound (at_first p r sides input) st cs begun a in
-        has_answer st.session.mode (IsAboutProgram c → ⊥) (answer p r sides st.session c) (λ never. never about) (answer_sound r faithful sides some st.session g c)
+        let g : SoundMode st.session.mode = answered_sound (at_first p input) st cs begun a in
+        has_answer st.session.mode (answer p names sides st.session x c) (answer_sound names sides st.session g x c k)

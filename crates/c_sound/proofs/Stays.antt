@@ -19,9 +19,11 @@ use Rattle.c_tree.specs.Rows.{exprs, stmts}
 use Rattle.c_tree.specs.Layout.{size_of}
 use Rattle.c_store.specs.Store.{Value, Number, At as Pointing, World, used, load, store, load_struct, store_struct, moved, Cell, with_first, ◌>>=◌}
 use Rattle.c_store.specs.Frames.{Here, with_world, made, left, bound, new_activation}
-use Rattle.c_source.specs.Blocks.{cells_of, converted, local_type, opened, given_one, given, entered, statements_in}
+use Rattle.c_source.specs.Blocks.{cells_of, converted, local_type, opened, given_one, given, entered}
+use Rattle.c_tree.specs.Rows.{statements_in}
 use Rattle.c_source.specs.Operators.{bits_in, is_zero, combined, changed}
-use Rattle.c_source.specs.Control.{Item, Eval, Locate, Push, Bound, Load, Convert, Store, Copy, Update, Change, Combine, Offset, Use, Discard, Truth, AndThen, OrElse, Pick, Joined, Enter, Run, Stop, Choose, Open, Close, Turn, Again, Select, Seek, Switched, GiveBack, Leave, Label, Round, State, Activation, outermost_of, runs_of, inits_of, broken, continued, last_of, body_of, seeks, labels_in, default_in}
+use Rattle.c_source.specs.Control.{Item, Eval, Locate, Push, Bound, Load, Convert, Store, Copy, Update, Change, Combine, Offset, Use, Discard, Truth, AndThen, OrElse, Pick, Joined, Enter, Run, Stop, Choose, Open, Close, Turn, Again, Select, Seek, Switched, GiveBack, Leave, Label, Round, State, Activation, outermost_of, runs_of, inits_of, broken, continued, body_of, seeks, labels_in, default_in}
+use Rattle.c_tree.specs.Points.{last_of}
 use Rattle.c_source.specs.Source.{on_ok, on_one, on_two, on_some, step, go, evaluate, locate, read, copy, update, on_test, built_in, call, end_with, execute, seek, act, on_control, no_value, place_in}
 use Rattle.c_typing.specs.Accepted.{numbers}
 use Rattle.c_sound.specs.Shapes.{is_place}

@@ -1,6 +1,6 @@
 -- Each step from a good state leads to a good state, or has one of C's reasons.
 use Rattle.std.proofs.Common.{◌≡◌, refl, sym, ◌∙◌, subst, ap, ℕ, suc, ◌+◌, ◌*◌, ◌%◌, List, [], ◌∷◌, ◌++◌, Bool, true, false, Option, Some, None, length, take, drop, reverse, true≢false, le_of_eq, take_all}
-use Rattle.std.specs.Prelude.{slice_get, if◌then◌else◌, pos, option_map, bytes_eq, codes, ◌==◌}
+use Rattle.std.specs.Prelude.{slice_get, if◌then◌else◌, pos, option_map, ◌==◌}
 use Rattle.ldb_words.specs.Word.{signed}
 use Rattle.runs.specs.Runs.{Next, Goes, Exits, Undefined, IllTyped}
 use Rattle.c_tree.specs.declared.types.CType.{CType}
@@ -21,10 +21,12 @@ use Rattle.c_tree.specs.Types.{type_of, kind_of, is_array}
 use Rattle.c_tree.specs.Rows.{exprs, stmts}
 use Rattle.c_store.specs.Store.{Value, Number, At, World, used, load, store, load_struct, store_struct, moved, ◌>>=◌}
 use Rattle.c_store.specs.Frames.{Here, with_world, left, bound, new_activation}
-use Rattle.c_store.specs.Bits.{minus_one}
-use Rattle.c_source.specs.Blocks.{cells_of, converted, result_type, statements_in, entered}
+use Rattle.c_operators.specs.Bits.{minus_one}
+use Rattle.c_source.specs.Blocks.{cells_of, converted, result_type, entered}
+use Rattle.c_tree.specs.Rows.{statements_in}
 use Rattle.c_source.specs.Operators.{bits_in, combined, changed}
-use Rattle.c_source.specs.Control.{Item, Eval, Locate, Push, Bound, Load, Convert, Store, Copy, Update, Change, Combine, Offset, Use, Discard, Truth, AndThen, OrElse, Pick, Joined, Enter, Run, Stop, Choose, Open, Close, Turn, Again, Select, Seek, Switched, GiveBack, Leave, Label, Round, State, Activation, outermost_of, runs_of, inits_of, broken, continued, last_of, body_of, seeks, labels_in, default_in}
+use Rattle.c_source.specs.Control.{Item, Eval, Locate, Push, Bound, Load, Convert, Store, Copy, Update, Change, Combine, Offset, Use, Discard, Truth, AndThen, OrElse, Pick, Joined, Enter, Run, Stop, Choose, Open, Close, Turn, Again, Select, Seek, Switched, GiveBack, Leave, Label, Round, State, Activation, outermost_of, runs_of, inits_of, broken, continued, body_of, seeks, labels_in, default_in}
+use Rattle.c_tree.specs.Points.{last_of}
 use Rattle.c_source.specs.Source.{on_ok, on_some, step, go, evaluate, locate, read, write, copy, update, built_in, call, end_with, execute, seek, act, on_control, no_value, place_in}
 use Rattle.c_typing.specs.Accepted.{numbers}
 use Rattle.c_sound.specs.Shapes.{is_place, Fits}

@@ -5,11 +5,12 @@ use Rattle.runs.specs.Runs.{Next, Goes, Passes, Exits, Undefined, Moment, Outcom
 use Rattle.c_tree.specs.declared.typed.DeclaredLocal.{DeclaredLocal}
 use Rattle.c_tree.specs.declared.rows.Program.{Program}
 use Rattle.c_tree.specs.declared.rows.Function.{Function}
-use Rattle.c_store.specs.Store.{Number}
 use Rattle.c_store.specs.Frames.{ActivationRecord}
 use Rattle.c_store.specs.Assigned.{History}
-use Rattle.c_source.specs.Blocks.{zero_as, declared_in}
-use Rattle.c_source.specs.Control.{Push, GiveBack, State, Activation, body_of, outermost_of, first_of, last_of}
+use Rattle.c_source.specs.Blocks.{zero_as}
+use Rattle.c_tree.specs.Rows.{declared_in}
+use Rattle.c_source.specs.Control.{Push, GiveBack, State, Activation, body_of, outermost_of}
+use Rattle.c_tree.specs.Points.{first_of, last_of}
 use Rattle.c_source.specs.Source.{step}
 use Rattle.c_source.specs.Begin.{begin, acted, records, outer_records}
 use Rattle.c_typing.specs.Plain.{plain}

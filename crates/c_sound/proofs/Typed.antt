@@ -20,8 +20,9 @@ use Rattle.c_tree.specs.Types.{type_of, is_struct}
 use Rattle.c_source.specs.Blocks.{local_type}
 use Rattle.c_typing.specs.Plain.{Plain, Char, Int, Unsigned, Void, Pointer, Array, Struct, plain, same, value_type, is_integer, is_scalar, is_complete}
 use Rattle.c_typing.specs.Rules.{Operand, may_drop, converts, is_copied, compound_type, arrow_type, takes as takes_arguments, binary_type, stepping}
-use Rattle.c_typing.specs.Expressions.{Object as AnObject, Function as AFunction, Hidden, Scope, object_type, result_type as called_type, is_lvalue, is_string, is_register, is_constant_type, operand, value, operands, IsTyped, AreTyped}
-use Rattle.c_typing.specs.Declared.{has, parameters, local_type as type_of_a_local, function_in, local_in, locals_in, denoted_by, denoted, scope_at}
+use Rattle.c_typing.specs.Expressions.{Denoted, Object as AnObject, Function as AFunction, Hidden, Scope, object_type, result_type as called_type, is_lvalue, is_string, is_register, is_constant_type, operand, value, operands, IsTyped, AreTyped}
+use Rattle.c_typing.specs.Declared.{has, parameters, local_type as type_of_a_local, function_in, local_in, locals_in, denoted_by}
+use Rattle.c_sound.specs.Scopes.{scope_with}
 use Rattle.c_sound.proofs.Operators.{addr, conv, takes, gives, takes_one}
 use Rattle.c_sound.proofs.Shaped.{shape, ByCase, Updates, row_shapes, is_one_leaf, Given, CalledFunction, OneNumber, CalledBuiltIn, CalledBy, Called, NamedBy, Named, ShapedE, ShapedL, ShapedRow}
 use Rattle.c_sound.proofs.Begins.{and_parts}
@@ -88,9 +89,12 @@ abbrev result_in : Option Function → CType
 result_in None = ctype.Void
 result_in (Some f) = f.result
 
-module _ (p : Program) (f : ℕ) (v ls : List ℕ) (within : (x : ℕ) → has v x ≡ true → has ls x ≡ true) (functions : (g : ℕ) (fn : Function) → slice_get p.functions g ≡ Some fn → HasParameters fn) where
+module _ (types : SymbolRow → Plain) (p : Program) (f : ℕ) (v ls : List ℕ) (within : (x : ℕ) → has v x ≡ true → has ls x ≡ true) (functions : (g : ℕ) (fn : Function) → slice_get p.functions g ≡ Some fn → HasParameters fn) where
   abbrev s : Scope
-  s = scope_at p f v
+  s = scope_with p f v types
+
+  abbrev denoted_here : SymbolRow → Denoted
+  denoted_here row = denoted_by p f v (types row) row.name row.refers
 
   pub sh : (e : Typed) → shape e ≡ ashape (value s e)
   sh e = addr_plain (type_of e) ∙ sym (value_shape (plain (type_of e)))
@@ -138,12 +142,12 @@ module _ (p : Program) (f : ℕ) (v ls : List ℕ) (within : (x : ℕ) → has v
       never false false true h = no_none u h
       never false false false h = no_none u h
 
-  named : (o : Option SymbolRow) (u : Plain) → option_and_then object_type (option_map (denoted p f v) o) ≡ Some u → Named p ls o
+  named : (o : Option SymbolRow) (u : Plain) → option_and_then object_type (option_map (denoted_here) o) ≡ Some u → Named p ls o
   named None u h = no_none u h
-  named (Some row) u h = name_by row.refers (plain row.ctype) u row.name h
+  named (Some row) u h = name_by row.refers (types row) u row.name h
 
   name_there : (n : ℕ) (u : Plain) → option_and_then object_type (slice_get s.names n) ≡ Some u → Named p ls (slice_get p.symbols n)
-  name_there n u h = named (slice_get p.symbols n) u (ap (option_and_then object_type) (sym (slice_get-map (denoted p f v) p.symbols n)) ∙ h)
+  name_there n u h = named (slice_get p.symbols n) u (ap (option_and_then object_type) (sym (slice_get-map (denoted_here) p.symbols n)) ∙ h)
 
   -- ---- calls
 
@@ -204,12 +208,12 @@ module _ (p : Program) (f : ℕ) (v ls : List ℕ) (within : (x : ℕ) → has v
   called_by (Defined g) t name row u h = called_function g (slice_get p.functions g) row u (ashape u) refl refl h
   called_by Declared t name row u h = called_built_in (bytes_eq name (codes "getchar")) (bytes_eq name (codes "putchar")) (bytes_eq name (codes "exit")) row u h
 
-  called : {m : _} (o : Option SymbolRow) (row : Row_of-Typed m) (u : Plain) → option_and_then (λ d. called_type d (operands s row)) (option_map (denoted p f v) o) ≡ Some u → Called p o (row_shapes row) (ashape u)
+  called : {m : _} (o : Option SymbolRow) (row : Row_of-Typed m) (u : Plain) → option_and_then (λ d. called_type d (operands s row)) (option_map (denoted_here) o) ≡ Some u → Called p o (row_shapes row) (ashape u)
   called None row u h = no_none u h
-  called (Some x) row u h = called_by x.refers (plain x.ctype) x.name row u h
+  called (Some x) row u h = called_by x.refers (types x) x.name row u h
 
   called_there : {m : _} (n : ℕ) (row : Row_of-Typed m) (u : Plain) → option_and_then (λ d. called_type d (operands s row)) (slice_get s.names n) ≡ Some u → Called p (slice_get p.symbols n) (row_shapes row) (ashape u)
-  called_there n row u h = called (slice_get p.symbols n) row u (ap (option_and_then (λ d. called_type d (operands s row))) (sym (slice_get-map (denoted p f v) p.symbols n)) ∙ h)
+  called_there n row u h = called (slice_get p.symbols n) row u (ap (option_and_then (λ d. called_type d (operands s row))) (sym (slice_get-map (denoted_here) p.symbols n)) ∙ h)
 
   -- ---- expressions
 

@@ -9,7 +9,7 @@ use Rattle.c_tree.specs.declared.typed.Stmt.{Stmt, Row_of-Stmt, end_of-Stmt, mor
 use Rattle.c_tree.specs.declared.typed.Stmt.TheVariants.{Block', While', Do', For', Case', Default'}
 use Rattle.c_tree.specs.declared.rows.Program.{Program}
 use Rattle.c_tree.specs.Rows.{stmts}
-use Rattle.c_source.specs.Blocks.{statements_in}
+use Rattle.c_tree.specs.Rows.{statements_in}
 use Rattle.c_source.specs.Control.{Item, Eval, Locate, Push, Bound, Load, Convert, Store, Copy, Update, Change, Combine, Offset, Use, Discard, Truth, AndThen, OrElse, Pick, Joined, Enter, Run, Stop, Choose, Open, Close, Turn, Again, Select, Seek, Switched, GiveBack, Leave, Label, Round, runs_of, evals_of, inits_of, part_of, loop_begins, loop_goes_on, loop_turns, broken, continued, labels_in, default_in}
 use Rattle.c_sound.proofs.Scoped.{At, AtPart, PlacedInits, PlacedS, PlacedRows, PlacedElse, PlacedBody, EachPlaced, EachLabelPlaced, PlacedLoop, Scoped, AfterBreak, AfterContinue}
 

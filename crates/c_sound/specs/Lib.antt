@@ -1,2 +1,3 @@
+pub mod Scopes
 pub mod Shapes
 pub mod Sessions

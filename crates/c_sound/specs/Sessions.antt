@@ -4,31 +4,29 @@ use Rattle.c_tree.specs.declared.typed.Typed.{Typed}
 use Rattle.c_tree.specs.declared.rows.Program.{Program}
 use Rattle.c_source.specs.Meaning.{IsPlain, IsAssignment}
 use Rattle.c_typing.specs.Expressions.{IsTyped}
-use Rattle.c_typing.specs.Declared.{scope_at}
 use Rattle.c_typing.specs.Statements.{locals_at, function_at}
+use Rattle.c_sound.specs.Scopes.{as_completed, scope_with}
 use Rattle.c_session.specs.declared.command.Command.{Command}
-use Rattle.c_session.specs.declared.command.Command.TheVariants.{Regs, Code, Ps}
-use Rattle.c_session.specs.Commands.{Reader, Read, Answer, Nothing, answer}
+use Rattle.c_session.specs.Commands.{Use, AsValue, AsAssignment, Reading, Read, Sides, Names, Answer, Nothing, answer, ReadsLine}
 use Rattle.c_session.specs.Allowed.{Lines, Standing, AnswerReplies, MemoryReplies}
 
-module _ (p : Program) (r : Reader) where
-  -- what a reader reads at a stopping point is well typed among the names there
-  pub record IsFaithful : Type 0 where
-    pub value : (q f : ℕ) (text : List ℕ) (e : Typed) → function_at p q ≡ Some f → r.value q text ≡ Read e → IsPlain e × IsTyped (scope_at p f (locals_at p q)) e
-    pub assignment : (q f : ℕ) (text : List ℕ) (e : Typed) → function_at p q ≡ Some f → r.assignment q text ≡ Read e → IsAssignment e × IsTyped (scope_at p f (locals_at p q)) e
+-- an expression without assignments and calls, or a plain assignment
+abbrev pub IsOfUse : Use → Typed → Type 0
+IsOfUse AsValue e = IsPlain e
+IsOfUse AsAssignment e = IsAssignment e
 
+-- A text at a stopping point is refused, or read as an expression that is well typed among the names there, with types as any file completes them.
+abbrev pub ReadsTyped : Program → Use → (point : ℕ) → List ℕ → Reading → Type 0
+ReadsTyped p u q text x = (f : ℕ) (e : Typed) → function_at p q ≡ Some f → x ≡ Read e → IsOfUse u e × IsTyped (scope_with p f (locals_at p q) (as_completed p)) e
+
+module _ (p : Program) (names : Names) (sides : Sides) where
   -- each of these lines was answered, and the session went on
-  abbrev pub AreAnswered : (sides : ℕ) → Standing → List (Option Command) → Standing → Type 0
-  AreAnswered sides st [] last = last ≡ st
-  AreAnswered sides st (c ∷ cs) last =
-      (reply : Lines) × (next : Standing) × (AnswerReplies p st (answer p r sides st.session c) reply next ⊎ MemoryReplies p st (answer p r sides st.session c) reply next) × AreAnswered sides next cs last
-
--- a command about the program, and not about machines or the debugger
-abbrev pub IsAboutProgram : Option Command → Type 0
-IsAboutProgram (Some Regs) = ⊥
-IsAboutProgram (Some (Code text)) = ⊥
-IsAboutProgram (Some (Ps text)) = ⊥
-IsAboutProgram c = Unit {0}
+  abbrev pub AreAnswered : Standing → List (Option Command) → Standing → Type 0
+  AreAnswered st [] last = last ≡ st
+  AreAnswered st (c ∷ cs) last =
+      (reply : Lines) × (next : Standing)
+      × (MemoryReplies st c reply next ⊎ ((x : Reading) × ReadsLine p names sides st.session (ReadsTyped p) c x × AnswerReplies p st (answer p names sides st.session x c) reply next))
+      × AreAnswered next cs last
 
 abbrev pub HasAnswer : Answer → Type 0
 HasAnswer Nothing = ⊥

@@ -1,5 +1,5 @@
 // What holds of accepted programs.
-ghost use Rattle.std.specs.Prelude.{◌≡◌, ◌≤◌, Option, ℕ, Bool, List, Some, Ok, slice_get};
+ghost use Rattle.std.specs.Prelude.{◌≡◌, Option, ℕ, Bool, List, Some, Ok, slice_get};
 ghost use Rattle.c_tree.specs.declared.typed.Typed.{Typed};
 ghost use Rattle.c_tree.specs.declared.rows.Program.{Program};
 ghost use Rattle.runs.specs.Runs.{Moment, Passes, after, until};
@@ -10,12 +10,14 @@ ghost use Rattle.c_source.specs.Source.{step};
 ghost use Rattle.c_source.specs.Begin.{begin, acted, records};
 ghost use Rattle.c_source.specs.Meaning.{Given, values_meant, assigned, IsPlain, IsAssignment};
 ghost use Rattle.c_typing.specs.Expressions.{IsTyped};
-ghost use Rattle.c_typing.specs.Declared.{scope_at};
+ghost use Rattle.c_typing.specs.Plain.{Plain};
+ghost use Rattle.c_tree.specs.declared.rows.SymbolRow.{SymbolRow};
+ghost use Rattle.c_sound.specs.Scopes.{scope_with};
 ghost use Rattle.c_typing.specs.Accepted.{IsAccepted};
 ghost use Rattle.c_session.specs.declared.command.Command.{Command};
-ghost use Rattle.c_session.specs.Commands.{Reader, answer};
+ghost use Rattle.c_session.specs.Commands.{Names, Sides, Reading, answer, ReadsLine};
 ghost use Rattle.c_session.specs.Allowed.{Standing, at_first};
-ghost use Rattle.c_sound.specs.Sessions.{IsFaithful, AreAnswered, IsAboutProgram, HasAnswer};
+ghost use Rattle.c_sound.specs.Sessions.{ReadsTyped, AreAnswered, HasAnswer};
 ghost use Rattle.c_sound.specs.Shapes.{IsFitting, IsMoment, KeepsShapes, CourseKeepsShapes, HasMeaning, IsAssigned, AreLive, HasItsLocals};
 
 /// However many steps of an accepted program are looked at, on any input and with any assignments of a debugger at its stops that give leaves values of their kind: it goes on, has ended, or was undefined for one of C's reasons. Never has a value the wrong shape, and never is a step without an answer. The same holds of each run to an event from a moment before the end.
@@ -24,11 +26,11 @@ pub fn accepted_programs_keep_shapes()
     ensures resumed { (p : Program) (input : List ℕ) (h : History) (m : Moment State) (stops : ℕ → Bool) (k : ℕ) → IsMoment p input h m → CourseKeepsShapes (until State (step p) stops k m.state) }
 {}
 
-/// At each moment of such a run before its end, a well-typed expression without assignments and calls has leaf values or one of C's reasons for none, in each activation in which its locals have objects. A plain assignment too; and where it is made, it is one of a list of assignments to leaves that give each a value of its kind, so that the run with it is again one of those above.
+/// At each moment of such a run before its end, a well-typed expression without assignments and calls, whatever types the names have, has leaf values or one of C's reasons for none, in each activation in which its locals have objects. A plain assignment too; and where it is made, it is one of a list of assignments to leaves that give each a value of its kind, so that the run with it is again one of those above.
 pub fn evaluations_keep_shapes()
-    ensures value { (p : Program) (input : List ℕ) (h : History) (m : Moment State) (a : ActivationRecord) (v : List ℕ) (e : Typed) → IsMoment p input h m → AreLive v a → IsTyped (scope_at p a.function v) e → IsPlain e → HasMeaning (values_meant p (record { world = m.state.here.world; activation = a }) e) }
-    ensures assignment { (p : Program) (input : List ℕ) (h : History) (m : Moment State) (a : ActivationRecord) (v : List ℕ) (e : Typed) → IsMoment p input h m → AreLive v a → IsTyped (scope_at p a.function v) e → IsAssignment e → HasMeaning (assigned p (record { world = m.state.here.world; activation = a }) e) }
-    ensures leaves { (p : Program) (input : List ℕ) (h : History) (m : Moment State) (a : ActivationRecord) (v : List ℕ) (e : Typed) (g : Given) → IsMoment p input h m → AreLive v a → IsTyped (scope_at p a.function v) e → IsAssignment e → assigned p (record { world = m.state.here.world; activation = a }) e ≡ Ok g → IsAssigned m.state.here.world g.world }
+    ensures value { (p : Program) (input : List ℕ) (h : History) (m : Moment State) (a : ActivationRecord) (v : List ℕ) (types : SymbolRow → Plain) (e : Typed) → IsMoment p input h m → AreLive v a → IsTyped (scope_with p a.function v types) e → IsPlain e → HasMeaning (values_meant p (record { world = m.state.here.world; activation = a }) e) }
+    ensures assignment { (p : Program) (input : List ℕ) (h : History) (m : Moment State) (a : ActivationRecord) (v : List ℕ) (types : SymbolRow → Plain) (e : Typed) → IsMoment p input h m → AreLive v a → IsTyped (scope_with p a.function v types) e → IsAssignment e → HasMeaning (assigned p (record { world = m.state.here.world; activation = a }) e) }
+    ensures leaves { (p : Program) (input : List ℕ) (h : History) (m : Moment State) (a : ActivationRecord) (v : List ℕ) (types : SymbolRow → Plain) (e : Typed) (g : Given) → IsMoment p input h m → AreLive v a → IsTyped (scope_with p a.function v types) e → IsAssignment e → assigned p (record { world = m.state.here.world; activation = a }) e ≡ Ok g → IsAssigned m.state.here.world g.world }
 {}
 
 /// Where a step of such a run passes a stopping point, each activation has an object for every local in scope at the point that it passed last. So the expressions that are well typed among the names at that point are those of `evaluations_keep_shapes`.
@@ -36,7 +38,7 @@ pub fn stops_have_their_locals()
     ensures { (p : Program) (input : List ℕ) (h : History) (m : Moment State) (q c : ℕ) (s : State) (i : ℕ) (a : ActivationRecord) → IsMoment p input h m → step p m.state ≡ Passes q c s → slice_get (records s) i ≡ Some a → HasItsLocals p a }
 {}
 
-/// A session over an accepted program, with a reader that keeps to the typing rules, has an answer to each command about the program, however it has gone on so far: no command comes to a value of the wrong shape.
+/// A session over an accepted program in which each text is refused or read as an expression that keeps to the typing rules has an answer to each command, however it has gone on so far: no command comes to a value of the wrong shape.
 pub fn sessions_have_answers()
-    ensures { (p : Program) (r : Reader) (sides : ℕ) (input : List ℕ) (cs : List (Option Command)) (st : Standing) (c : Option Command) → IsAccepted p → IsFaithful p r → 1 ≤ sides → AreAnswered p r sides (at_first p r sides input) cs st → IsAboutProgram c → HasAnswer (answer p r sides st.session c) }
+    ensures { (p : Program) (names : Names) (sides : Sides) (input : List ℕ) (cs : List (Option Command)) (st : Standing) (x : Reading) (c : Option Command) → IsAccepted p → AreAnswered p names sides (at_first p input) cs st → ReadsLine p names sides st.session (ReadsTyped p) c x → HasAnswer (answer p names sides st.session x c) }
 {}

@@ -8,7 +8,7 @@ use Rattle.c_tree.specs.declared.rows.Start.TheVariants as start
 use Rattle.c_tree.specs.Layout.{size_of}
 use Rattle.ldb_words.specs.declared.kinds.Kind.TheVariants.{Byte, Address}
 use Rattle.ldb_words.specs.declared.kinds.Kind.{Kind}
-use Rattle.c_store.specs.Bits.{low_byte}
+use Rattle.c_operators.specs.Bits.{low_byte}
 use Rattle.c_store.specs.Store.{Value, Number, Null, At, Object, Cell, World, Static, Text}
 use Rattle.runs.specs.Runs.{Actions}
 use Rattle.c_store.specs.Frames.{ActivationRecord, new_activation, with_world}

@@ -13,7 +13,7 @@ use Rattle.c_tree.specs.declared.rows.Local.{Local}
 use Rattle.c_tree.specs.Layout.{size_of, leaves_of}
 use Rattle.c_tree.specs.Rows.{stmts}
 use Rattle.runs.specs.Runs.{Why, IllTyped}
-use Rattle.c_store.specs.Bits.{low_byte}
+use Rattle.c_operators.specs.Bits.{low_byte}
 use Rattle.c_store.specs.Store.{Value, Number, Null, Cell, World, zero_of, with_first, ◌>>=◌}
 use Rattle.c_store.specs.Frames.{Here, made, new_activation}
 
@@ -61,15 +61,6 @@ result_in (Some f) = f.result
 
 abbrev pub result_type : Program → ℕ → CType
 result_type p f = result_in (slice_get p.functions f)
-
--- the declarations and the statements of a block
-abbrev pub declared_in : Stmt → List DeclaredLocal
-declared_in (Block' s ds _ row line column) = ds
-declared_in _ = []
-
-abbrev pub statements_in : Stmt → List Stmt
-statements_in (Block' s ds _ row line column) = stmts row
-statements_in _ = []
 
 -- ---- objects that begin
 

@@ -12,7 +12,9 @@ use Rattle.c_tree.specs.declared.rows.Program.{Program}
 use Rattle.c_tree.specs.declared.rows.Function.{Function}
 use Rattle.c_store.specs.Store.{Value}
 use Rattle.c_store.specs.Frames.{Here, ActivationRecord}
-use Rattle.c_source.specs.Blocks.{local_type, declared_in, statements_in, zero_as}
+use Rattle.c_source.specs.Blocks.{local_type, zero_as}
+use Rattle.c_tree.specs.Points.{first_of, last_of}
+use Rattle.c_tree.specs.Rows.{declared_in, statements_in}
 
 -- a label of a `switch`: its constant, and the statements from it on
 pub record Label : Type 0 where
@@ -158,15 +160,6 @@ default_in (s ∷ rest) = if is_default s then s ∷ rest else default_in rest
 -- the number of locals of a function's outermost block, parameters among them
 abbrev pub outermost_of : Function → ℕ
 outermost_of f = f.params + length (declared_in f.body)
-
-abbrev pub first_of : List ℕ → ℕ
-first_of [] = 0
-first_of (q ∷ qs) = q
-
-abbrev pub last_of : List ℕ → ℕ
-last_of [] = 0
-last_of (q ∷ []) = q
-last_of (q ∷ r ∷ qs) = last_of (r ∷ qs)
 
 -- What remains to be done of function number f once its parameters are in place. Its first point is at `{`, and its last at `}`. A function whose end is reached gives 0.
 abbrev pub body_of : Program → ℕ → Function → List Item

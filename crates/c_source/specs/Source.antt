@@ -20,14 +20,15 @@ use Rattle.c_tree.specs.Rows.{exprs, stmts}
 use Rattle.c_tree.specs.Types.{type_of, target_of, kind_of, is_struct, is_array}
 use Rattle.c_tree.specs.Layout.{size_of, members_of}
 use Rattle.ldb_words.specs.Word.{signed}
-use Rattle.c_store.specs.Bits.{minus_one}
+use Rattle.c_operators.specs.Bits.{minus_one}
 use Rattle.runs.specs.Runs.{Next, Goes, Passes, Exits, Undefined, Why, IllTyped}
 use Rattle.c_store.specs.Store.{Value, Number, At, used, load, store, load_struct, store_struct, moved, ◌>>=◌}
 use Rattle.c_store.specs.Frames.{Here, with_world, with_point, left, bound}
 use Rattle.c_source.specs.Blocks.{cells_of, converted, result_type, opened, leaf_count, entered}
 use Rattle.c_source.specs.Operators.{bits_in, is_zero, combined, changed}
-use Rattle.c_source.specs.Control.{Item, Eval, Locate, Push, Bound, Load, Convert, Store, Copy, Update, Change, Combine, Offset, Use, Discard, Truth, AndThen, OrElse, Pick, Joined, Enter, Run, Stop, Choose, Open, Close, Turn, Again, Select, Seek, Switched, GiveBack, Leave, State, Activation, Label, runs_of, evals_of, inits_of, part_of, loop_begins, loop_goes_on, loop_turns, broken, continued, seeks, labels_in, default_in, outermost_of, last_of, body_of}
-use Rattle.c_source.specs.Blocks.{statements_in}
+use Rattle.c_source.specs.Control.{Item, Eval, Locate, Push, Bound, Load, Convert, Store, Copy, Update, Change, Combine, Offset, Use, Discard, Truth, AndThen, OrElse, Pick, Joined, Enter, Run, Stop, Choose, Open, Close, Turn, Again, Select, Seek, Switched, GiveBack, Leave, State, Activation, Label, runs_of, evals_of, inits_of, part_of, loop_begins, loop_goes_on, loop_turns, broken, continued, seeks, labels_in, default_in, outermost_of, body_of}
+use Rattle.c_tree.specs.Points.{last_of}
+use Rattle.c_tree.specs.Rows.{statements_in}
 
 abbrev pub on_ok : {A : Type 0} → Result A Why → (A → Next State) → Next State
 on_ok (Ok x) go = go x

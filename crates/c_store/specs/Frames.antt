@@ -57,4 +57,3 @@ left n h = record {
 abbrev pub bound : ℕ → List Binding → Option ℕ
 bound x [] = None
 bound x (b ∷ bs) = if b.local == x then Some b.object else bound x bs
-

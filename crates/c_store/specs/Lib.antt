@@ -1,4 +1,3 @@
-pub mod Bits
 pub mod Store
 pub mod Frames
 pub mod Assigned

@@ -42,3 +42,13 @@ abbrev mutual
 -- a function's points: its `{`, those of its body, and its `}`
 abbrev pub HasItsPoints : Function → Type 0
 HasItsPoints f = (first last : ℕ) × (f.points ≡ first ∷ (points_in f.body ++ last ∷ []))
+
+-- the first and the last point of a function, those of its `{` and its `}`
+abbrev pub first_of : List ℕ → ℕ
+first_of [] = 0
+first_of (q ∷ qs) = q
+
+abbrev pub last_of : List ℕ → ℕ
+last_of [] = 0
+last_of (q ∷ []) = q
+last_of (q ∷ r ∷ qs) = last_of (r ∷ qs)

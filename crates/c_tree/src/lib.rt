@@ -3,8 +3,6 @@
 
 mod layout;
 mod rows;
-#[cfg(test)]
-mod tests;
 mod typed;
 mod types;
 

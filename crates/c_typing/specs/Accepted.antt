@@ -14,8 +14,8 @@ use Rattle.c_tree.specs.declared.rows.SymbolRow.{SymbolRow}
 use Rattle.c_tree.specs.declared.rows.Referent.{Referent}
 use Rattle.c_tree.specs.declared.rows.Referent.TheVariants as refers
 use Rattle.c_tree.specs.Points.{HasItsPoints}
-use Rattle.c_source.specs.Blocks.{declared_in}
-use Rattle.c_source.specs.Control.{first_of, last_of}
+use Rattle.c_tree.specs.Rows.{declared_in}
+use Rattle.c_tree.specs.Points.{first_of, last_of}
 use Rattle.c_typing.specs.Plain.{Plain, Int, Array, plain, same, is_scalar}
 use Rattle.c_typing.specs.Expressions.{Denoted, Function as AFunction}
 use Rattle.c_typing.specs.Written.{IsWritten, IsDeclared}

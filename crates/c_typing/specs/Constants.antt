@@ -12,8 +12,8 @@ use Rattle.c_tree.specs.declared.typed.Typed.{Typed}
 use Rattle.c_tree.specs.declared.typed.Typed.TheVariants.{Choice', Or', And', Binary', Cast', Unary', SizeOf', SizeOfType, Constant, Parens'}
 use Rattle.c_tree.specs.Types.{type_of, is_unsigned}
 use Rattle.c_tree.specs.Layout.{size_of}
-use Rattle.c_store.specs.Bits.{low_byte, minus_one}
-use Rattle.c_source.specs.Operators.{on_ints, on_unsigned, operating_type, truth}
+use Rattle.c_operators.specs.Bits.{low_byte, minus_one}
+use Rattle.c_operators.specs.Arithmetic.{on_ints, on_unsigned, operating_type, truth}
 
 abbrev pub defined : Result ℕ Undef → Option ℕ
 defined (Ok n) = Some n

@@ -9,7 +9,7 @@ use Rattle.c_tree.specs.declared.rows.ObjectRow.{ObjectRow}
 use Rattle.c_tree.specs.declared.rows.Start.{Start}
 use Rattle.c_tree.specs.declared.rows.Start.TheVariants.{Number, Object, Str}
 use Rattle.c_tree.specs.Layout.{size_of, leaves_of}
-use Rattle.c_store.specs.Bits.{low_byte}
+use Rattle.c_operators.specs.Bits.{low_byte}
 use Rattle.c_typing.specs.Written.{IsDeclared}
 
 module _ (p : Program) where

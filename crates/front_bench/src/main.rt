@@ -1,27 +1,21 @@
 //! Looks through the sources of a program: the words are `front SRC..`. Prints `accepted` and each stopping point, or why the program is refused.
+//! With other words it compares the front with the rows of the tables that they name; docs/TESTS.md has the kinds of rows.
 #![tactic(auto)]
 
-#[cfg(test)]
-mod cause_texts;
-#[cfg(test)]
-mod declaration_texts;
 mod front;
 mod report;
-#[cfg(test)]
 mod rows;
-#[cfg(test)]
-mod statement_texts;
-#[cfg(test)]
-mod tests;
 
 use front::Source;
 use ldb_words::Text;
 use report::report;
+use rows::Tables;
 use std::alloc::{AllocError, Global};
 use std::io::Write;
 use std::process::ExitCode;
 use std::rt::{Env, Files};
 use std::{env, fs, io};
+use test_rows::run_tables;
 
 /// The words after the program's name. Words that are no text count as none.
 fn words_of(rt: &(impl Env + AllocGlobal), alloc: Global) -> Result<Vec<String>, AllocError> {
@@ -56,9 +50,10 @@ fn main(rt: HostRuntime) -> io::Result<ExitCode> {
         [first, files @ ..] if first.as_str() == "front" && !files.is_empty() => {
             run_files(&rt, files)
         }
-        _ => {
-            println!(rt; "front_bench front SRC..")?;
+        [] => {
+            println!(rt; "front_bench front SRC.. or TABLE..")?;
             Ok(ExitCode::from(2))
         }
+        _ => run_tables(&rt, &mut Tables { rt: rt.clone()? }),
     }
 }

@@ -22,12 +22,12 @@ use Rattle.c_store.specs.Store.{Number, is_stale}
 use Rattle.c_source.specs.Control.{State}
 use Rattle.c_source.specs.Begin.{begin}
 use Rattle.c_source.specs.Names.{named}
-use Rattle.c_show.specs.Shown.{null}
+use Rattle.c_show.specs.Shown.{null, IsOneLine}
 use Rattle.c_session.specs.declared.command.Command.{Command}
 use Rattle.c_session.specs.declared.command.Command.TheVariants as command
-use Rattle.c_session.specs.Commands.{Reader, Answer, Refuses, BadSyntax, NoScope, BadType, Quits, Nothing, answer, print_symbol}
+use Rattle.c_session.specs.Commands.{Names, OneSide, ReadsNothing, ReadsIn, ReadsLine, Mode, Answer, Refuses, BadSyntax, NoScope, BadType, answer, print_symbol}
 use Rattle.c_session.specs.Commands as mode
-use Rattle.c_session.specs.Allowed.{Lines, bytes_of, Standing, AnswerReplies, MemoryReplies, ClaimEnds, event_text}
+use Rattle.c_session.specs.Allowed.{Lines, bytes_of, Standing, AnswerReplies, MemoryReplies, IsQuitLine, ClaimEnds, event_text}
 use Rattle.assign_tree.specs.Assigning.{IsBody, AreNames, program_with, point_row, point_rows}
 use Rattle.c_model.specs.Rows.{object_row, object_rows, object_symbol, main_symbol}
 use Rattle.assign_tree.specs.Stands.{Stands, Answers, Meets, beginning, stopping, ComesTo, Fails, at_point}
@@ -42,7 +42,7 @@ use Rattle.ldb_top.specs.Talk.{Tells}
 use Rattle.ldb_top.specs.Command.{is_empty, is_quit, is_quit_command, read_of, command_of, lone_of, words_of}
 use Rattle.ldb_top.specs.Follows.{Session, session, first_session, IsRefused, Resumes, Steps, IsPrinted, Shows, Prints, Follows, Breaks, IsResumable}
 use Rattle.ldb_top.specs.Follows as follows
-use Rattle.ldb_top.specs.Allowed.{TakesNames, Beside, before, at, behind, standing_in, OfEach, IsPlain, ArePlain, Replies, EndsClaim}
+use Rattle.ldb_top.specs.Allowed.{TakesNames, no_text, Beside, before, at, behind, standing_in, OfEach, IsPlain, ArePlain, Replies, EndsClaim}
 
 -- ---- the commands that a line may be
 
@@ -76,6 +76,19 @@ asked line = by (nat_le (length line) 1000)
     by : (a : Bool) → IsAsked (if a then command_of (words_of line) else None)
     by true = asked_of (words_of line)
     by false = malformed
+
+-- no text is read for such a command
+reads_in : (q : Program) (r : Names) (s : mode.Session) (m : Mode) (c : Command) → IsAsked (Some c) → ReadsIn q r OneSide s ReadsNothing m c no_text
+reads_in q r s (mode.Stopped t) _ stepping = tt
+reads_in q r s (mode.Stopped t) _ (printing name) = tt
+reads_in q r s (mode.Stopped t) _ quitting = tt
+reads_in q r s (mode.Fresh t) c k = tt
+reads_in q r s (mode.Running how ps) c k = tt
+reads_in q r s mode.Ended c k = tt
+
+pub reads_no_text : (q : Program) (r : Names) (s : mode.Session) (c : Option Command) → IsAsked c → ReadsLine q r OneSide s ReadsNothing c no_text
+reads_no_text q r s None k = tt
+reads_no_text q r s (Some c) k = reads_in q r s s.mode c k
 
 -- ---- words
 
@@ -126,8 +139,8 @@ module _ (tasks : Tasks) (file : List ℕ) where
   p body = program_with file tasks.objects tasks.body body
 
   -- it is enough to look at the program with this block
-  each : (old : Session) (P : Program → Reader → Standing → Type 0)
-      → ((body : Stmt) → AreNames tasks.objects → IsBody (length tasks.objects) tasks.body body → (r : Reader) (st : Standing) → TakesNames r → Beside tasks (p body) old st → P (p body) r st) → OfEach tasks file old P
+  each : (old : Session) (P : Program → Names → Standing → Type 0)
+      → ((body : Stmt) → AreNames tasks.objects → IsBody (length tasks.objects) tasks.body body → (r : Names) (st : Standing) → TakesNames r → Beside tasks (p body) old st → P (p body) r st) → OfEach tasks file old P
   each old P f = λ q r st is takes beside.
       subst (λ x. Beside tasks x old st → P x r st) (sym is.is) (f is.body is.names is.block r st takes) beside
 
@@ -139,34 +152,23 @@ module _ (tasks : Tasks) (file : List ℕ) where
   pub no_memory_plain : ArePlain NO_MEMORY
   no_memory_plain = (plain_first 110 _ (λ e. omega (arith, e)) (λ e. omega (arith, e)), tt)
 
-  memory_any : (q : Program) (st : Standing) (a : Answer) → (a ≡ Quits → ⊥) → MemoryReplies q st a NO_MEMORY st
-  memory_any q st Quits n = absurd (n refl)
-  memory_any q st (Refuses u) n = (refl, refl)
-  memory_any q st (mode.Says lines after) n = (refl, refl)
-  memory_any q st (mode.Shows w t vs) n = (refl, refl)
-  memory_any q st (mode.Sets s) n = (refl, refl)
-  memory_any q st mode.ShowsAny n = (refl, refl)
-  memory_any q st mode.EndsClaim n = (refl, refl)
-  memory_any q st (mode.Resumes how ps) n = (refl, refl)
-  memory_any q st Nothing n = (refl, refl)
-
   -- ---- `print`
 
-  abbrev asks : Stmt → Reader → State → List ℕ → Answer
-  asks body r s name = answer (p body) r 1 (standing_in (mode.Stopped s)).session (Some (command.Print name))
+  abbrev asks : Stmt → Names → State → List ℕ → Answer
+  asks body r s name = answer (p body) r OneSide (standing_in (mode.Stopped s)).session no_text (Some (command.Print name))
 
   -- by whether the word is a name, and what it names
-  abbrev Told : Stmt → Reader → State → Bool → Option SymbolRow → Answer
-  Told body r s is_name o = if is_name then print_symbol (p body) r 1 (standing_in (mode.Stopped s)).session s.here.world s.here.activation o else Refuses BadSyntax
+  abbrev Told : Stmt → Names → State → Bool → Option SymbolRow → Answer
+  Told body r s is_name o = if is_name then print_symbol (p body) r OneSide (standing_in (mode.Stopped s)).session s.here.world s.here.activation o else Refuses BadSyntax
 
   -- at a stop of these numbers
-  asks_at : (body : Stmt) (r : Reader) (left : Left) (s : State) (name : List ℕ) → TakesNames r → (d : Stop tasks.objects tasks.body left s)
+  asks_at : (body : Stmt) (r : Names) (left : Left) (s : State) (name : List ℕ) → TakesNames r → (d : Stop tasks.objects tasks.body left s)
       → asks body r s name ≡ Told body r (at_point left.values d.q d.computed d.control) (is_identifier name) (named (p body) name d.q)
   asks_at body r left s name takes d =
       ap (λ x. asks body r x name) d.is ∙ ap (λ b. Told body r (at_point left.values d.q d.computed d.control) b (named (p body) name d.q)) (takes name)
 
   -- an object's number is shown
-  asks_object : (body : Stmt) (r : Reader) (left : Left) (s : State) (name : List ℕ) (k : ℕ) → AreNames tasks.objects → TakesNames r → (d : Stop tasks.objects tasks.body left s) → object_of tasks.objects name ≡ Some k
+  asks_object : (body : Stmt) (r : Names) (left : Left) (s : State) (name : List ℕ) (k : ℕ) → AreNames tasks.objects → TakesNames r → (d : Stop tasks.objects tasks.body left s) → object_of tasks.objects name ≡ Some k
       → asks body r s name ≡ mode.Shows (at_point left.values d.q d.computed d.control).here.world Int (Number (word_of_signed (object_value left.values k)) ∷ [])
   asks_object body r left s name k are takes d h =
       let spelled = object_is tasks.objects name k h in
@@ -178,7 +180,7 @@ module _ (tasks : Tasks) (file : List ℕ) where
       asks_at body r left s name takes d ∙ rw identifier (rw found (rw object (rw row refl)))
 
   -- a word that names no object is refused
-  refused_word : (body : Stmt) (r : Reader) (t : State) (count : ℕ) (w : List ℕ) (m e u g : Bool)
+  refused_word : (body : Stmt) (r : Names) (t : State) (count : ℕ) (w : List ℕ) (m e u g : Bool)
       → Told body r t true (if m then Some (main_symbol count) else (if e then Some (exit_row tasks.objects w) else (if u then Some (putchar_row tasks.objects w) else (if g then Some (getchar_row tasks.objects w) else None))))
       ≡ (if m || (g || (u || (e || false))) then Refuses BadType else Refuses NoScope)
   refused_word body r t count w true e u g = refl
@@ -191,7 +193,7 @@ module _ (tasks : Tasks) (file : List ℕ) where
   refused_word body r t count w false false false true = refl
   refused_word body r t count w false false false false = refl
 
-  asks_other : (body : Stmt) (r : Reader) (left : Left) (s : State) (name : List ℕ) → TakesNames r → (d : Stop tasks.objects tasks.body left s) → object_of tasks.objects name ≡ None
+  asks_other : (body : Stmt) (r : Names) (left : Left) (s : State) (name : List ℕ) → TakesNames r → (d : Stop tasks.objects tasks.body left s) → object_of tasks.objects name ≡ None
       → asks body r s name ≡ (if is_identifier name then (if is_function name then Refuses BadType else Refuses NoScope) else Refuses BadSyntax)
   asks_other body r left s name takes d h =
       let t = at_point left.values d.q d.computed d.control in
@@ -245,50 +247,30 @@ module _ (tasks : Tasks) (file : List ℕ) where
   exit_line : (n status : ℤ) → n ≡ status → (codes "exited " ++ signed_decimal status) ∷ [] ≡ (codes "exited " ++ signed_decimal n) ∷ []
   exit_line n status e = ap (λ x. (codes "exited " ++ signed_decimal x) ∷ []) (sym e)
 
+  no_feed : IsOneLine (codes "0")
+  no_feed = (omega arith, tt)
+
   tells_value : (body : Stmt) (st : Standing) (left : Left) (k : ℕ) (a : Answer) (d : ℕ) (computed : _) (control : _) → is_int (object_value left.values k) ≡ true
       → a ≡ mode.Shows (at_point left.values d computed control).here.world Int (Number (word_of_signed (object_value left.values k)) ∷ []) → AnswerReplies (p body) st a (value_line (object_value left.values k)) st
   unfolding value_line is_stale
   tells_value body st left k a d computed control int e =
       let z = object_value left.values k in
       let n = word_of_signed z in
-      let said : AnswerReplies (p body) st (mode.Shows (at_point left.values d computed control).here.world Int (Number n ∷ [])) ((codes "value " ++ signed_decimal (signed n)) ∷ []) st = ((signed_decimal (signed n), (λ i. codes "0", λ i. null, refl), refl), refl) in
+      let said : AnswerReplies (p body) st (mode.Shows (at_point left.values d computed control).here.world Int (Number n ∷ [])) ((codes "value " ++ signed_decimal (signed n)) ∷ []) st = ((signed_decimal (signed n), (λ i. codes "0", λ i. (null, no_feed), refl), refl), refl) in
       subst (λ x. AnswerReplies (p body) st x ((codes "value " ++ signed_decimal z) ∷ []) st) (sym e)
       (subst (λ y. AnswerReplies (p body) st (mode.Shows (at_point left.values d computed control).here.world Int (Number n ∷ [])) ((codes "value " ++ signed_decimal y) ∷ []) st) (signed_word z int) said)
 
-  not_quit : (body : Stmt) (are : AreNames tasks.objects) (r : Reader) → TakesNames r → (left : Left) (s : State) (name : List ℕ) → Stands tasks.objects tasks.body left s → asks body r s name ≡ Quits → ⊥
-  not_quit body are r takes left s name stands e = by (object_of tasks.objects name) refl
+  no_quit_line : (c : Option Command) → is_quit_command c ≡ false → IsQuitLine c → ⊥
+  no_quit_line None n q = q
+  no_quit_line (Some c) n q = other c n q
     where
-      d : Stop tasks.objects tasks.body left s
-      d = stop_of tasks.objects tasks.body left s stands
-
-      cases : (a b : Bool) → (if a then (if b then Refuses BadType else Refuses NoScope) else Refuses BadSyntax) ≡ Quits → ⊥
-      cases true true h = cc
-      cases true false h = cc
-      cases false b h = cc
-
-      by : (o : Option ℕ) → object_of tasks.objects name ≡ o → ⊥
-      by (Some k) h = let shows = sym (asks_object body r left s name k are takes d h) ∙ e in cc
-      by None h = cases (is_identifier name) (is_function name) (sym (asks_other body r left s name takes d h) ∙ e)
-
-  no_quit : (body : Stmt) (are : AreNames tasks.objects) (r : Reader) → TakesNames r → (old : Session) (st : Standing) (c : Option Command) → Beside tasks (p body) old st → IsAsked c → is_quit_command c ≡ false
-      → answer (p body) r 1 st.session c ≡ Quits → ⊥
-  no_quit body are r takes _ _ _ before malformed n e = cc
-  no_quit body are r takes _ _ _ before stepping n e = cc
-  no_quit body are r takes _ _ _ before (printing name) n e = cc
-  no_quit body are r takes _ _ _ before quitting n e = absurd (false≢true (sym n))
-  no_quit body are r takes _ _ _ (at left s stands) malformed n e = cc
-  no_quit body are r takes _ _ _ (at left s stands) stepping n e = cc
-  no_quit body are r takes _ _ _ (at left s stands) (printing name) n e = not_quit body are r takes left s name stands e
-  no_quit body are r takes _ _ _ (at left s stands) quitting n e = absurd (false≢true (sym n))
-  no_quit body are r takes _ _ _ (behind left) malformed n e = cc
-  no_quit body are r takes _ _ _ (behind left) stepping n e = cc
-  no_quit body are r takes _ _ _ (behind left) (printing name) n e = cc
-  no_quit body are r takes _ _ _ (behind left) quitting n e = absurd (false≢true (sym n))
+      other : (c : Command) → is_quit_command (Some c) ≡ false → IsQuitLine (Some c) → ⊥
+      other command.Quit n q = absurd (false≢true (sym n))
+      other _ n q = q
 
   -- memory may be wanting for any command but `quit`
   pub no_memory : (line : List ℕ) (old : Session) → is_quit line ≡ false → Replies tasks file (read_of line) old NO_MEMORY old
-  no_memory line old n = each old _ (λ body are is r st takes beside.
-      (st, inr (memory_any (p body) st _ (no_quit body are r takes old st (read_of line) beside (asked line) n)), beside))
+  no_memory line old n = each old _ (λ body are is r st takes beside. (st, inr (no_quit_line (read_of line) n, refl, refl), beside))
 
   -- ---- `step`
 
@@ -325,9 +307,9 @@ module _ (tasks : Tasks) (file : List ℕ) where
   stop_line body q place s h = rw h (in_a_row (codes "stop ") file (codes ":") (decimal place.line) (codes ".") (decimal place.column) (codes " ") (codes "main"))
 
   -- a session after an event, beside the tasks
-  abbrev AfterStep : Stmt → Reader → Standing → Lines → Session → Type 0
+  abbrev AfterStep : Stmt → Names → Standing → Lines → Session → Type 0
   AfterStep body r st lines new =
-      (next : Standing) × (AnswerReplies (p body) st (answer (p body) r 1 st.session (Some command.Step)) lines next ⊎ MemoryReplies (p body) st (answer (p body) r 1 st.session (Some command.Step)) lines next) × Beside tasks (p body) new next
+      (next : Standing) × (AnswerReplies (p body) st (answer (p body) r OneSide st.session no_text (Some command.Step)) lines next ⊎ MemoryReplies st (Some command.Step) lines next) × Beside tasks (p body) new next
 
   -- at a stop or before the start
   data MayResume (body : Stmt) (s : State) : Standing → Type 0 where
@@ -337,21 +319,21 @@ module _ (tasks : Tasks) (file : List ℕ) where
   abbrev Comes : Stmt → State → Event → Left → Type 0
   Comes body s e left = (whole : WholeEvent State) × Meets file tasks.objects tasks.body body s whole × Answers tasks.objects tasks.body e left whole
 
-  stopped_at : (body : Stmt) (r : Reader) (s : State) (st : Standing) → MayResume body s st → (place : Place) (left : Left) (q : ℕ) (t : State)
+  stopped_at : (body : Stmt) (r : Names) (s : State) (st : Standing) → MayResume body s st → (place : Place) (left : Left) (q : ℕ) (t : State)
       → Meets file tasks.objects tasks.body body s (StoppedAt q t) → Answers tasks.objects tasks.body (event.Stop place) left (StoppedAt q t) → AfterStep body r st (event_line (event.Stop place) ∷ []) (session Stopped left)
   stopped_at body r s _ first place left q t m a =
-      (_, inl (inl (StoppedAt q t, tt, (m, tt), ap (λ x. x ∷ []) (sym (stop_line body q place t a.1)), refl)), subst (λ x. Beside tasks (p body) (session Stopped left) (record { session = (standing_in (mode.Stopped t)).session; written = x })) (sym a.2) (at left t a.0))
+      (_, inl (inl (StoppedAt q t, tt, m, ap (λ x. x ∷ []) (sym (stop_line body q place t a.1)), refl)), subst (λ x. Beside tasks (p body) (session Stopped left) (record { session = (standing_in (mode.Stopped t)).session; written = x })) (sym a.2) (at left t a.0))
   stopped_at body r s _ later place left q t m a =
-      (_, inl (inl (StoppedAt q t, tt, (m, tt), ap (λ x. x ∷ []) (sym (stop_line body q place t a.1)), refl)), subst (λ x. Beside tasks (p body) (session Stopped left) (record { session = (standing_in (mode.Stopped t)).session; written = x })) (sym a.2) (at left t a.0))
+      (_, inl (inl (StoppedAt q t, tt, m, ap (λ x. x ∷ []) (sym (stop_line body q place t a.1)), refl)), subst (λ x. Beside tasks (p body) (session Stopped left) (record { session = (standing_in (mode.Stopped t)).session; written = x })) (sym a.2) (at left t a.0))
 
-  exited_at : (body : Stmt) (r : Reader) (s : State) (st : Standing) → MayResume body s st → (status : ℤ) (left : Left) (n : ℤ) (t : State)
+  exited_at : (body : Stmt) (r : Names) (s : State) (st : Standing) → MayResume body s st → (status : ℤ) (left : Left) (n : ℤ) (t : State)
       → Meets file tasks.objects tasks.body body s (Exited n t) → Answers tasks.objects tasks.body (event.Exit status) left (Exited n t) → AfterStep body r st (event_line (event.Exit status) ∷ []) (session Ended left)
   exited_at body r s _ first status left n t m a =
-      (_, inl (inl (Exited n t, tt, (m, tt), exit_line n status a.0, refl)), subst (λ x. Beside tasks (p body) (session Ended left) (record { session = (standing_in mode.Ended).session; written = x })) (sym a.1) (behind left))
+      (_, inl (inl (Exited n t, tt, m, exit_line n status a.0, refl)), subst (λ x. Beside tasks (p body) (session Ended left) (record { session = (standing_in mode.Ended).session; written = x })) (sym a.1) (behind left))
   exited_at body r s _ later status left n t m a =
-      (_, inl (inl (Exited n t, tt, (m, tt), exit_line n status a.0, refl)), subst (λ x. Beside tasks (p body) (session Ended left) (record { session = (standing_in mode.Ended).session; written = x })) (sym a.1) (behind left))
+      (_, inl (inl (Exited n t, tt, m, exit_line n status a.0, refl)), subst (λ x. Beside tasks (p body) (session Ended left) (record { session = (standing_in mode.Ended).session; written = x })) (sym a.1) (behind left))
 
-  resumes : (body : Stmt) (r : Reader) (s : State) (st : Standing) → MayResume body s st → (e : Event) (left : Left) → Comes body s e left → AfterStep body r st (event_line e ∷ []) (session (follows.phase_after e) left)
+  resumes : (body : Stmt) (r : Names) (s : State) (st : Standing) → MayResume body s st → (e : Event) (left : Left) → Comes body s e left → AfterStep body r st (event_line e ∷ []) (session (follows.phase_after e) left)
   resumes body r s st may (event.Stop place) left (StoppedAt q t, m, a) = stopped_at body r s st may place left q t m a
   resumes body r s st may (event.Stop place) left (Exited n t, m, a) = absurd a
   resumes body r s st may (event.Stop place) left (Failed w, m, a) = absurd a
@@ -366,35 +348,35 @@ module _ (tasks : Tasks) (file : List ℕ) where
 
   -- a refusal, whatever the standing beside this session
   refuses : (c : Option Command) (why : List ℕ) (u : mode.Refusal) (old new : Session) (text : List ℕ) → mode.refusal_text u ≡ codes "refused " ++ why → IsRefused why old text new
-      → ((body : Stmt) (r : Reader) (st : Standing) → Beside tasks (p body) old st → answer (p body) r 1 st.session c ≡ Refuses u) → Told_as c old text new
+      → ((body : Stmt) (r : Names) (st : Standing) → Beside tasks (p body) old st → answer (p body) r OneSide st.session no_text c ≡ Refuses u) → Told_as c old text new
   refuses c why u old new text same d f =
       let replies : Replies tasks file c old (refusal_line why) new = each old _ (λ body are is r st takes beside. (st, inl (refusal_said (p body) st _ u why same (f body r st beside)), subst (λ x. Beside tasks (p body) x st) (sym d.same) beside)) in
       (refusal_line why, d.reply_is ∙ refusal_bytes why, refusal_plain why, inl replies)
 
-  ended : (c : Command) (left : Left) → (c ≡ command.Quit → ⊥) → (body : Stmt) (r : Reader) (st : Standing) → Beside tasks (p body) (session Ended left) st → answer (p body) r 1 st.session (Some c) ≡ Refuses mode.HasEnded
+  ended : (c : Command) (left : Left) → (c ≡ command.Quit → ⊥) → (body : Stmt) (r : Names) (st : Standing) → Beside tasks (p body) (session Ended left) st → answer (p body) r OneSide st.session no_text (Some c) ≡ Refuses mode.HasEnded
   ended c left n body r _ (behind _) = other c n
     where
-      other : (c : Command) → (c ≡ command.Quit → ⊥) → mode.in_ended (p body) r 1 (standing_in mode.Ended).session c ≡ Refuses mode.HasEnded
+      other : (c : Command) → (c ≡ command.Quit → ⊥) → mode.in_ended (p body) r OneSide (standing_in mode.Ended).session c ≡ Refuses mode.HasEnded
       other command.Quit n = absurd (n refl)
       other _ n = refl
 
-  running : (name : List ℕ) (left : Left) (body : Stmt) (r : Reader) (st : Standing) → Beside tasks (p body) (session Fresh left) st → answer (p body) r 1 st.session (Some (command.Print name)) ≡ Refuses mode.IsRunning
+  running : (name : List ℕ) (left : Left) (body : Stmt) (r : Names) (st : Standing) → Beside tasks (p body) (session Fresh left) st → answer (p body) r OneSide st.session no_text (Some (command.Print name)) ≡ Refuses mode.IsRunning
   running name _ body r _ before = refl
 
-  from_start : (left : Left) (e : Event) (new : Left) → ComesTo left e new → (body : Stmt) (is : IsBody (length tasks.objects) tasks.body body) (r : Reader) (st : Standing) → Beside tasks (p body) (session Fresh left) st → AfterStep body r st (event_line e ∷ []) (session (follows.phase_after e) new)
+  from_start : (left : Left) (e : Event) (new : Left) → ComesTo left e new → (body : Stmt) (is : IsBody (length tasks.objects) tasks.body body) (r : Names) (st : Standing) → Beside tasks (p body) (session Fresh left) st → AfterStep body r st (event_line e ∷ []) (session (follows.phase_after e) new)
   from_start _ e new runs body is r _ before = resumes body r (begin (p body) []) _ first e new (runs file tasks.objects tasks.body body _ is beginning)
 
-  from_stop : (left : Left) (e : Event) (new : Left) → ComesTo left e new → (body : Stmt) (is : IsBody (length tasks.objects) tasks.body body) (r : Reader) (st : Standing) → Beside tasks (p body) (session Stopped left) st → AfterStep body r st (event_line e ∷ []) (session (follows.phase_after e) new)
+  from_stop : (left : Left) (e : Event) (new : Left) → ComesTo left e new → (body : Stmt) (is : IsBody (length tasks.objects) tasks.body body) (r : Names) (st : Standing) → Beside tasks (p body) (session Stopped left) st → AfterStep body r st (event_line e ∷ []) (session (follows.phase_after e) new)
   from_stop left e new runs body is r _ (at _ s stands) = resumes body r s _ later e new (runs file tasks.objects tasks.body body s is (stopping left s stands))
 
-  said : (left : Left) (name : List ℕ) (k : ℕ) → object_of tasks.objects name ≡ Some k → (body : Stmt) → AreNames tasks.objects → (r : Reader) (st : Standing) → TakesNames r → Beside tasks (p body) (session Stopped left) st
-      → AnswerReplies (p body) st (answer (p body) r 1 st.session (Some (command.Print name))) (value_line (object_value left.values k)) st
+  said : (left : Left) (name : List ℕ) (k : ℕ) → object_of tasks.objects name ≡ Some k → (body : Stmt) → AreNames tasks.objects → (r : Names) (st : Standing) → TakesNames r → Beside tasks (p body) (session Stopped left) st
+      → AnswerReplies (p body) st (answer (p body) r OneSide st.session no_text (Some (command.Print name))) (value_line (object_value left.values k)) st
   said left name k h body are r _ takes (at _ s stands) =
       let stop = stop_of tasks.objects tasks.body left s stands in
       tells_value body _ left k _ stop.q stop.computed stop.control (int_at k left.values stop.ints) (asks_object body r left s name k are takes stop h)
 
-  unsaid : (left : Left) (name : List ℕ) → object_of tasks.objects name ≡ None → (body : Stmt) (r : Reader) (st : Standing) → TakesNames r → Beside tasks (p body) (session Stopped left) st
-      → AnswerReplies (p body) st (answer (p body) r 1 st.session (Some (command.Print name))) (refusal_line (print_refusal name)) st
+  unsaid : (left : Left) (name : List ℕ) → object_of tasks.objects name ≡ None → (body : Stmt) (r : Names) (st : Standing) → TakesNames r → Beside tasks (p body) (session Stopped left) st
+      → AnswerReplies (p body) st (answer (p body) r OneSide st.session no_text (Some (command.Print name))) (refusal_line (print_refusal name)) st
   unsaid left name h body r _ takes (at _ s stands) =
       tells_other (p body) _ name _ (asks_other body r left s name takes (stop_of tasks.objects tasks.body left s stands) h)
 
@@ -434,14 +416,14 @@ module _ (tasks : Tasks) (file : List ℕ) where
 
   -- ---- undefined steps
 
-  doomed : (body : Stmt) (is : IsBody (length tasks.objects) tasks.body body) (r : Reader) (old : Session) (st : Standing) → Beside tasks (p body) old st → IsResumable old.phase → Fails old.source
-      → ClaimEnds (p body) st (answer (p body) r 1 st.session (Some command.Step))
+  doomed : (body : Stmt) (is : IsBody (length tasks.objects) tasks.body body) (r : Names) (old : Session) (st : Standing) → Beside tasks (p body) old st → IsResumable old.phase → Fails old.source
+      → ClaimEnds (p body) st (answer (p body) r OneSide st.session no_text (Some command.Step))
   doomed body is r _ _ before may f =
       let fails = f file tasks.objects tasks.body body _ is beginning in
-      (begin (p body) [], fails.1.0, Failed (Reason fails.0), inl refl, fails.1.1, tt)
+      (begin (p body) [], fails.1.0, Failed (Reason fails.0), refl, fails.1.1, tt)
   doomed body is r _ _ (at left s stands) may f =
       let fails = f file tasks.objects tasks.body body s is (stopping left s stands) in
-      (s, fails.1.0, Failed (Reason fails.0), inl refl, fails.1.1, tt)
+      (s, fails.1.0, Failed (Reason fails.0), refl, fails.1.1, tt)
   doomed body is r _ _ (behind left) may f = absurd may
 
   pub told_free : (old new : Session) (text : List ℕ) → IsResumable old.phase → Breaks file old text → Told_as (Some command.Step) old text new

@@ -5,12 +5,12 @@ use Rattle.assign_tree.specs.Made.{Tasks}
 use Rattle.c_tree.specs.declared.rows.Program.{Program}
 use Rattle.c_session.specs.declared.command.Command.{Command}
 use Rattle.c_session.specs.declared.command.Command.TheVariants.{Quit}
-use Rattle.c_session.specs.Commands.{Reader, answer, Quits}
+use Rattle.c_session.specs.Commands.{Names, OneSide, ReadsNothing, answer, Quits}
 use Rattle.c_session.specs.Allowed.{Lines, bytes_of, Standing, AllowedFrom, IsQuit}
 use Rattle.ldb_top.specs.Command.{is_empty, is_quit, is_quit_command, read_of, commands_of}
 use Rattle.ldb_top.specs.Follows.{Session, first_session}
-use Rattle.ldb_top.specs.Allowed.{Beside, before, at, behind, OfEach, ArePlain, Replies, EndsClaim, Allowed, IsTaskTranscript}
-use Rattle.ldb_top.proofs.Answered.{no_memory, no_memory_plain, NO_MEMORY}
+use Rattle.ldb_top.specs.Allowed.{Beside, no_text, before, at, behind, OfEach, ArePlain, Replies, EndsClaim, Allowed, IsTaskTranscript}
+use Rattle.ldb_top.proofs.Answered.{no_memory, no_memory_plain, NO_MEMORY, asked, reads_no_text}
 
 pub bytes-append : (xs ys : Lines) → bytes_of (xs ++ ys) ≡ bytes_of xs ++ bytes_of ys
 bytes-append [] ys = refl
@@ -30,7 +30,7 @@ module _ (program : Tasks) (file : List ℕ) where
   pub allowed_end : (now : Session) → Allowed program file now [] []
   allowed_end now = record { transcript = []; bytes = refl; plain = tt; each = λ p r st is takes beside. (refl, nothing_written p now st beside) }
 
-  quits : (old : Session) (p : Program) (r : Reader) (st : Standing) → Beside program p old st → answer p r 1 st.session (Some Quit) ≡ Quits
+  quits : (old : Session) (p : Program) (r : Names) (st : Standing) → Beside program p old st → answer p r OneSide st.session no_text (Some Quit) ≡ Quits
   quits _ p r _ before = refl
   quits _ p r _ (at left s stands) = refl
   quits _ p r _ (behind left) = refl
@@ -40,7 +40,7 @@ module _ (program : Tasks) (file : List ℕ) where
     LineCommands blank = cond blank (commands_of lines) (read_of line ∷ commands_of lines)
 
     abbrev Each : List (Option Command) → Lines → Type 0
-    Each commands transcript = OfEach program file old (λ p r st. AllowedFrom p r 1 st commands transcript [])
+    Each commands transcript = OfEach program file old (λ p r st. AllowedFrom p r ReadsNothing OneSide st commands transcript [])
 
     pub allowed_blank : (out : List ℕ) → is_empty line ≡ true → Allowed program file old lines out → Allowed program file old (line ∷ lines) out
     allowed_blank out b h = record { transcript = h.transcript; bytes = h.bytes; plain = h.plain; each = subst (λ t. Each (LineCommands t) h.transcript) (sym b) h.each }
@@ -61,20 +61,23 @@ module _ (program : Tasks) (file : List ℕ) where
     allowed_quit b q =
         let read : read_of line ≡ Some Quit = quit_read (read_of line) q in
         by_command [] [] refl tt b (λ p r st is takes beside.
-        inl (subst (IsQuit p) (sym (ap (answer p r 1 st.session) read ∙ quits old p r st beside)) tt, refl, nothing_written p old st beside))
+        inr (no_text, reads_no_text p r st.session (read_of line) (asked line), inl (subst (IsQuit p) (sym (ap (answer p r OneSide st.session no_text) read ∙ quits old p r st beside)) tt, refl, nothing_written p old st beside)))
 
     -- the first line is allowed by what its reply and the rest allow
     pub allowed_reply : (new : Session) (reply : Lines) (more : List ℕ) → ArePlain reply → is_empty line ≡ false → is_quit line ≡ false → Replies program file (read_of line) old reply new → Allowed program file new lines more → Allowed program file old (line ∷ lines) (bytes_of reply ++ more)
     allowed_reply new reply more plain b q told h =
         by_command (bytes_of reply ++ more) (reply ++ h.transcript) (ap (λ t. bytes_of reply ++ t) h.bytes ∙ sym (bytes-append reply h.transcript)) (plain-append reply h.transcript plain h.plain) b (λ p r st is takes beside.
         let t = told p r st is takes beside in
-        inr (inr (reply, h.transcript, t.0, refl, t.1, h.each p r t.0 is takes t.2)))
+        elim t.1 [
+          | inl a ↦ inr (no_text, reads_no_text p r st.session (read_of line) (asked line), inr (inr (reply, h.transcript, t.0, refl, a, h.each p r t.0 is takes t.2)))
+          | inr m ↦ inl (reply, h.transcript, t.0, refl, m, h.each p r t.0 is takes t.2)
+        ])
 
     -- it is allowed with any lines where it ends the claim
     pub allowed_free : (reply more : Lines) → ArePlain reply → ArePlain more → is_empty line ≡ false → is_quit line ≡ false → EndsClaim program file (read_of line) old → Allowed program file old (line ∷ lines) (bytes_of reply ++ bytes_of more)
     allowed_free reply more plain also b q ends =
         by_command (bytes_of reply ++ bytes_of more) (reply ++ more) (sym (bytes-append reply more)) (plain-append reply more plain also) b (λ p r st is takes beside.
-        inr (inl (ends p r st is takes beside, ([], sym (ap (λ w. w ++ []) (sym (nothing_written p old st beside)))))))
+        inr (no_text, reads_no_text p r st.session (read_of line) (asked line), inr (inl (ends p r st is takes beside, ([], sym (ap (λ w. w ++ []) (sym (nothing_written p old st beside))))))))
 
   -- from each state there is some transcript
   pub some_rest : (now : Session) (lines : List (List ℕ)) → (more : List ℕ) × Allowed program file now lines more

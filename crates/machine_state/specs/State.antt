@@ -1,11 +1,12 @@
 -- The plain record of a machine, whichever its target: what a step reads and changes.
-use Rattle.std.specs.Prelude.{ℕ, Bool, true, false, ◌+◌, ◌++◌, ◌^◌, nat_eq, nat_le, length, List, Option, if◌then◌else◌, Result, Ok, Err}
+use Rattle.std.specs.Prelude.{ℕ, Bool, true, false, ◌+◌, ◌++◌, ◌^◌, ◌&&◌, nat_eq, nat_le, length, List, [], Option, None, if◌then◌else◌, Result, Ok, Err}
 use Rattle.ldb_words.specs.declared.kinds.Order.{Order}
 use Rattle.ldb_words.specs.declared.kinds.Order.TheVariants.{Little, Big}
 use Rattle.ldb_words.specs.declared.event.Event.{Event}
 use Rattle.ldb_words.specs.declared.event.Outside.{Outside}
 use Rattle.machine_state.specs.declared.layout.TheConstants.{SPARC}
-use Rattle.machine_state.specs.Regions.{Regions}
+use Rattle.ldb_words.specs.Word.{sum_of}
+use Rattle.machine_state.specs.Regions.{Regions, first_regions}
 
 -- What the steps before leave to the next ones: whether it stands in a delay slot, which register was
 -- loaded just before (0 for none), and how many more instructions may not touch what was begun (HI and LO
@@ -42,6 +43,26 @@ order_of m = order_of_target m.target
 -- nothing that an earlier step left
 abbrev pub no_facts : Facts
 no_facts = record { in_slot = false; loaded = 0; wait = 0 }
+
+-- what earlier steps left, unless pc or next pc is changed to these
+abbrev pub kept_facts : (pc next_pc : ℕ) → MachineState → Facts
+kept_facts pc next_pc m = if nat_eq pc m.pc && nat_eq next_pc m.next_pc then m.facts else no_facts
+
+-- the machine at an entry, where no step was made and no input given, with its registers, a text, and the bytes that the
+-- data begin with
+abbrev pub begun : (target : ℕ) → (registers special : List ℕ) → (entry : ℕ) → (text statics : List ℕ) → MachineState
+begun target registers special entry text statics = record {
+  target = target;
+  registers = registers;
+  special = special;
+  pc = entry;
+  next_pc = sum_of entry 4;
+  facts = no_facts;
+  memory = first_regions text statics;
+  left = [];
+  given = 0;
+  put = None;
+}
 
 -- What machines of a target do, as functions of their plain records: a step; the flush of the windows with the save of
 -- the context block, and whether it did flush them; the restore; the argument of the last request.

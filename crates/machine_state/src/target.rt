@@ -2,13 +2,18 @@
 
 ghost use Rattle.std.specs.Prelude.{◌≡◌, ℕ};
 
-use ldb_words::{Event, Outside, WindowFault};
+use ldb_words::{Event, FaultKind, Outside, WindowFault};
 
-/// Why a run of a machine ended: its turns were used, or a step did more than go on.
+/// Why a run of a machine ended: a breakpoint; a request to pause; the request to exit, with its status; a fault; its turns
+/// were used; a request that says that the stack is used up.
 #[derive(Clone, Copy, PartialEq, Eq, Debug)]
-pub enum Stop {
+pub enum Cause {
+    Break,
+    Pause,
+    Exit(u32),
+    Fault(FaultKind),
     Turns,
-    At(Event),
+    Stack,
 }
 
 /// A machine, by its plain record and what machines of its target do.

@@ -1,4 +1,4 @@
 pub mod Fields
 pub mod Placed
 pub mod RoundTrip
-pub mod WellFormed
+pub mod Sound

@@ -1,17 +1,18 @@
 -- Words and instructions are one another's.
 use Rattle.std.specs.Prelude.{◌≡◌, ℕ, ◌<◌, ◌^◌, nat_eq, nat_lt, true, false, cond, Option, Some, None, IfSome, refl}
 use Rattle.std.proofs.Common.{ap, eq-eqb, eqb→eq, lit<, arith}
+use Rattle.machine_state.proofs.Codes.{exact_of, if_exact-word_of}
 use Rattle.mips_isa.specs.declared.insn.Insn.{Insn}
 use Rattle.mips_isa.specs.declared.insn.Insn.TheVariants.{Sll, Srl, Sra, Sllv, Srlv, Srav, Jr, Jalr, Syscall, Break, Mfhi, Mthi, Mflo, Mtlo, Mult, Multu, Div, Divu, Addu, Subu, And, Or, Xor, Nor, Slt, Sltu, Bltz, Bgez, J, Jal, Beq, Bne, Blez, Bgtz, Addiu, Slti, Sltiu, Andi, Ori, Xori, Lui, Lb, Lh, Lw, Lbu, Lhu, Sb, Sh, Sw}
 use Rattle.std.proofs.lemmas.Bool.Decides.{nat_tests}
-use Rattle.mips_isa.specs.Codec.{special, with_immediate, with_target, word_of, op_of, special_insn, branch_insn, jump_insn, immediate_insn, named_insn, if_exact, insn_of}
+use Rattle.mips_isa.specs.Codec.{special, with_immediate, with_target, word_of, op_of, special_insn, branch_insn, jump_insn, immediate_insn, named_insn, insn_of}
 use Rattle.mips_isa.specs.Fit.{FieldsFit}
 use Rattle.mips_isa.proofs.Fields.{op_of-special, rs_of-special, rt_of-special, rd_of-special, shamt_of-special, funct_of-special, op_of-with_immediate, rs_of-with_immediate, rt_of-with_immediate, immediate_of-with_immediate, op_of-with_target, target_of-with_target}
 
 -- a word that names an instruction, and is its word
 exact : (w : ℕ) (i : Insn) → named_insn w ≡ Some i → word_of i ≡ w → insn_of w ≡ Some i
 unfolding insn_of
-exact w i named same = rw (named, same) (ap (λ b. cond b (Some i) None) (eq-eqb w w refl))
+exact w i named same = rw named (exact_of word_of w i same)
 
 module _ (rs rt rd shamt funct : ℕ) (a : rs < 32) (b : rt < 32) (c : rd < 32) (d : shamt < 32) (e : funct < 64) (i : Insn) where
   from_special : special_insn rs rt rd shamt funct ≡ Some i → word_of i ≡ special rs rt rd shamt funct → insn_of (word_of i) ≡ Some i
@@ -129,15 +130,7 @@ insn_of-word_of (Sb rt base offset) f = from_immediate 0x28 base rt offset f.1 f
 insn_of-word_of (Sh rt base offset) f = from_immediate 0x29 base rt offset f.1 f.0 f.2 (Sh rt base offset) refl refl refl
 insn_of-word_of (Sw rt base offset) f = from_immediate 0x2b base rt offset f.1 f.0 f.2 (Sw rt base offset) refl refl refl
 
-if_exact-word_of : (w : ℕ) (o : Option Insn) → IfSome (if_exact w o) (λ i. word_of i ≡ w)
-if_exact-word_of w None = tt
-if_exact-word_of w (Some i) =
-    elim (nat_eq (word_of i) w) as (λ b. nat_eq (word_of i) w ≡ b → IfSome (cond b (Some i) None) (λ j. word_of j ≡ w)) [
-      | true ↦ λ e. eqb→eq (word_of i) w (rw e tt)
-      | false ↦ λ e. tt
-    ] refl
-
 -- the instruction of a word has that word
 pub word_of-insn_of : (w : ℕ) → IfSome (insn_of w) (λ i. word_of i ≡ w)
 unfolding insn_of
-word_of-insn_of w = if_exact-word_of w (named_insn w)
+word_of-insn_of w = if_exact-word_of word_of w (named_insn w)

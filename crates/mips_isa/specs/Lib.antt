@@ -2,5 +2,5 @@ pub mod Codec
 pub mod Fit
 pub mod Loaded
 pub mod Placed
+pub mod Sound
 pub mod Step
-pub mod WellFormed

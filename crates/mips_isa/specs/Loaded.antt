@@ -1,26 +1,14 @@
 -- The machine at its start, the context block, and what machines of this target do.
-use Rattle.std.specs.Prelude.{ℕ, true, List, [], ◌∷◌, ◌++◌, replicate, take, slice_set, slice_index, nat_eq, ◌&&◌, if◌then◌else◌, None}
-use Rattle.ldb_words.specs.Word.{sum_of}
+use Rattle.std.specs.Prelude.{ℕ, true, List, [], ◌∷◌, ◌++◌, replicate, take, slice_set, slice_index}
 use Rattle.ldb_words.specs.declared.kinds.Order.TheVariants.{Little}
 use Rattle.machine_state.specs.declared.layout.TheConstants.{CONTEXT_WORDS, FIRST_STACK_POINTER, MIPS}
-use Rattle.machine_state.specs.Regions.{first_regions, saved_words, words_in}
-use Rattle.machine_state.specs.State.{MachineState, Facts, no_facts, Behaviour}
+use Rattle.machine_state.specs.Regions.{saved_words, words_in}
+use Rattle.machine_state.specs.State.{MachineState, kept_facts, begun, Behaviour}
 use Rattle.mips_isa.specs.Step.{step_of, register}
 
 -- the machine at an entry, with a text and the bytes that the data begin with: every register is 0 but the stack pointer
 unfoldable pub first_state : ℕ → List ℕ → List ℕ → MachineState
-first_state entry text statics = record {
-  target = MIPS;
-  registers = slice_set (replicate 32 0) 29 FIRST_STACK_POINTER;
-  special = 0 ∷ 0 ∷ [];
-  pc = entry;
-  next_pc = sum_of entry 4;
-  facts = no_facts;
-  memory = first_regions text statics;
-  left = [];
-  given = 0;
-  put = None;
-}
+first_state entry text statics = begun MIPS (slice_set (replicate 32 0) 29 FIRST_STACK_POINTER) (0 ∷ 0 ∷ []) entry text statics
 
 -- ---- the context block: `$0` to `$31`, HI, LO, pc, next pc
 
@@ -29,10 +17,6 @@ unfoldable pub saved_state : MachineState → MachineState
 saved_state m = record m {
   memory = saved_words Little (m.registers ++ (m.special ++ (m.pc ∷ m.next_pc ∷ []))) m.memory;
 }
-
--- what the steps before left, unless pc or next pc was changed
-abbrev pub kept_facts : ℕ → ℕ → MachineState → Facts
-kept_facts pc next_pc m = if nat_eq pc m.pc && nat_eq next_pc m.next_pc then m.facts else no_facts
 
 -- the machine with these words in its registers; `$0` stays 0
 abbrev pub restored_from : List ℕ → MachineState → MachineState

@@ -4,19 +4,15 @@ use Rattle.ldb_words.specs.Word.{signed, word_of_signed, sum_of, difference_of, 
 use Rattle.ldb_words.specs.Arithmetic.{shifted, divides}
 use Rattle.ldb_words.specs.declared.kinds.Order.TheVariants.{Little}
 use Rattle.ldb_words.specs.declared.kinds.Way.TheVariants.{RightSigned}
-use Rattle.ldb_words.specs.declared.event.Event.{Event}
-use Rattle.ldb_words.specs.declared.event.Event.TheVariants.{Went, Break, Request, Fault}
+use Rattle.ldb_words.specs.declared.event.Event.TheVariants.{Went, Break, Fault}
 use Rattle.ldb_words.specs.declared.event.FaultKind.{FaultKind}
-use Rattle.ldb_words.specs.declared.event.FaultKind.TheVariants.{Hazard, Illegal, Division, Request as UnknownRequest}
-use Rattle.machine_state.specs.Regions.{Regions, load_of, store_of, fetch_of}
+use Rattle.ldb_words.specs.declared.event.FaultKind.TheVariants.{Division}
+use Rattle.machine_state.specs.Regions.{load_of, store_of}
 use Rattle.machine_state.specs.State.{MachineState, Facts}
+use Rattle.machine_state.specs.Step.{Outcome, moved, jumps, on_loaded, sign_loaded, stores, requests, InstructionSet, step_by}
 use Rattle.mips_isa.specs.declared.insn.Insn.{Insn}
 use Rattle.mips_isa.specs.declared.insn.Insn.TheVariants.{Sll, Srl, Sra, Sllv, Srlv, Srav, Jr, Jalr, Syscall, Break as BreakInsn, Mfhi, Mthi, Mflo, Mtlo, Mult, Multu, Div, Divu, Addu, Subu, And, Or, Xor, Nor, Slt, Sltu, Bltz, Bgez, J, Jal, Beq, Bne, Blez, Bgtz, Addiu, Slti, Sltiu, Andi, Ori, Xori, Lui, Lb, Lh, Lw, Lbu, Lhu, Sb, Sh, Sw}
 use Rattle.mips_isa.specs.Codec.{insn_of}
-
--- what a step answers, and the machine that it leaves
-abbrev pub Outcome : Type 0
-Outcome = Event × MachineState
 
 -- ---- registers
 
@@ -34,15 +30,6 @@ abbrev pub lo : MachineState → ℕ
 lo m = slice_index m.special 1
 
 -- ---- going on
-
--- the machine at its next instruction, which has no hazard but the one of HI and LO
-unfoldable pub moved : MachineState → MachineState
-moved m = record m {
-  pc = m.next_pc;
-  next_pc = sum_of m.next_pc 4;
-  facts = record { in_slot = false; loaded = 0; wait = m.facts.wait - 1 };
-  put = None;
-}
 
 -- an instruction that leaves a value in a register
 unfoldable pub writes : ℕ → ℕ → MachineState → Outcome
@@ -69,10 +56,6 @@ divides_unsigned a b m = if nat_eq b 0 then (Fault Division, m) else writes_spec
 
 -- ---- branches
 
--- a transfer to a target, where `n` is the machine in the delay slot
-unfoldable pub jumps : ℕ → MachineState → Outcome
-jumps target n = (Went, record n { next_pc = target; facts = record n.facts { in_slot = true } })
-
 -- a branch by a signed number of instructions from the delay slot
 unfoldable pub branches : Bool → ℕ → MachineState → Outcome
 branches taken offset m =
@@ -87,40 +70,12 @@ jump_target m target = sum_of m.pc 4 / 2 ^ 28 * 2 ^ 28 + target * 4
 abbrev pub address : MachineState → ℕ → ℕ → ℕ
 address m base offset = sum_of (register m base) (sign_extended 16 offset)
 
--- the next instruction may not read the register
-unfoldable pub loads : ℕ → Result ℕ FaultKind → MachineState → Outcome
-loads r (Err kind) m = (Fault kind, m)
-loads r (Ok v) m = let n = with_register r v (moved m) in (Went, record n { facts = record n.facts { loaded = r } })
+-- what was loaded in a register, which the next instruction may not read
+unfoldable pub leaves_loaded : ℕ → ℕ → MachineState → Outcome
+leaves_loaded r v m = let n = with_register r v (moved m) in (Went, record n { facts = record n.facts { loaded = r } })
 
-abbrev pub sign_loaded : ℕ → Result ℕ FaultKind → Result ℕ FaultKind
-sign_loaded width (Err kind) = Err kind
-sign_loaded width (Ok v) = Ok (sign_extended width v)
-
-unfoldable pub stores : Result Regions FaultKind → MachineState → Outcome
-stores (Err kind) m = (Fault kind, m)
-stores (Ok r) m = (Went, moved (record m { memory = r }))
-
--- ---- requests
-
--- the next byte of the input in `$2`, or -1 at the end; `n` has moved on
-abbrev pub byte_read : List ℕ → MachineState → MachineState
-byte_read [] n = with_register 2 (2 ^ 32 - 1) n
-byte_read (b ∷ bs) n = with_register 2 b (record n { left = bs })
-
-unfoldable pub reads_input : MachineState → MachineState
-reads_input n = byte_read n.left n
-
--- a byte put, which is in `$2` too
-unfoldable pub puts : ℕ → MachineState → MachineState
-puts b n = record (with_register 2 b n) { put = Some b }
-
--- 1 getchar, 2 putchar, 3 exit, 4 pause, 5 stack
-unfoldable pub requests : ℕ → ℕ → MachineState → Outcome
-requests number argument m =
-    if nat_eq number 1 then (Request 1, reads_input (moved m)) else
-    if nat_eq number 2 then (Request 2, puts (argument % 256) (moved m)) else
-    if nat_lt 2 number && nat_lt number 6 then (Request number, moved m) else
-    (Fault UnknownRequest, m)
+abbrev pub loads : ℕ → Result ℕ FaultKind → MachineState → Outcome
+loads r loaded m = on_loaded (leaves_loaded r) loaded m
 
 -- ---- each instruction
 
@@ -133,7 +88,7 @@ act (Srlv rd rt rs) m = writes rd ((register m rt) / 2 ^ (register m rs % 32)) m
 act (Srav rd rt rs) m = writes rd (shifted (register m rt) (register m rs % 32) RightSigned) m
 act (Jr rs) m = jumps (register m rs) (moved m)
 act (Jalr rd rs) m = jumps (register m rs) (with_register rd (sum_of m.pc 8) (moved m))
-act Syscall m = requests (register m 2) (register m 4) m
+act Syscall m = requests (with_register 2) (register m 2) (register m 4) m
 act BreakInsn m = (Break, m)
 act (Mfhi rd) m = reads_special rd (hi m) m
 act (Mthi rs) m = writes_special (register m rs) (lo m) m
@@ -265,14 +220,9 @@ is_hazard i facts =
 
 -- ---- the step
 
-abbrev pub decoded : Option Insn → MachineState → Outcome
-decoded None m = (Fault Illegal, m)
-decoded (Some i) m = if is_hazard i m.facts then (Fault Hazard, m) else act i m
-
-abbrev pub fetched : Result ℕ FaultKind → MachineState → Outcome
-fetched (Err kind) m = (Fault kind, m)
-fetched (Ok word) m = decoded (insn_of word) m
+abbrev pub mips_set : InstructionSet Insn
+mips_set = record { order = Little; insn_of = insn_of; is_hazard = is_hazard; act = act }
 
 -- one step: the fault of pc, no such word, a hazard, and then what the instruction does
 unfoldable pub step_of : MachineState → Outcome
-step_of m = fetched (fetch_of Little m.memory m.pc) m
+step_of m = step_by mips_set m

@@ -13,4 +13,4 @@ pub use decoded::Decoded;
 pub use field::{Register, ShiftAmount, Target};
 pub use hazard::is_hazard;
 pub use insn::Insn;
-pub use laws::machines_are_well_formed;
+pub use laws::machines_stay_sound;

@@ -89,7 +89,8 @@ impl Machine {
     ghost use Rattle.machine_state.specs.Regions.{load_of, store_of, read_of, write_of};
     ghost use Rattle.machine_state.specs.State.{order_of, with_memory, given_input};
     ghost use Rattle.ldb_words.specs.declared.kinds.Order.TheVariants.{Little};
-    ghost use Rattle.mips_isa.specs.Step.{register, with_register, moved, writes, writes_special, reads_special, divides_signed, divides_unsigned, jumps, branches, jump_target, address, loads, stores, reads_input, writes_product, sign_loaded, requests, act, step_of};
+    ghost use Rattle.machine_state.specs.Step.{moved, jumps, sign_loaded, stores, reads_input, requests};
+    ghost use Rattle.mips_isa.specs.Step.{register, with_register, writes, writes_special, reads_special, divides_signed, divides_unsigned, branches, jump_target, address, loads, writes_product, act, step_of};
 
     /// The machine at the start of an image.
     #[tactic(auto, unfolding(mips_isa::specs::Loaded::first_state))]
@@ -147,7 +148,7 @@ impl Machine {
     }
 
     /// Goes on to the next instruction.
-    #[tactic(auto, unfolding(mips_isa::specs::Step::moved))]
+    #[tactic(auto, unfolding(machine_state::specs::Step::moved))]
     fn advance(&mut self)
         ensures { self.new ≡ moved self.old }
     {
@@ -219,7 +220,7 @@ impl Machine {
     }
 
     /// Goes to a target after the delay slot, in which the machine stands.
-    #[tactic(auto, unfolding(mips_isa::specs::Step::jumps))]
+    #[tactic(auto, unfolding(machine_state::specs::Step::jumps))]
     fn jump(&mut self, target: u32) -> Event
         ensures { jumps target self.old ≡ (result, self.new) }
     {
@@ -258,7 +259,7 @@ impl Machine {
     }
 
     /// Leaves what was loaded in a register, which the next instruction may not read.
-    #[tactic(auto, unfolding(mips_isa::specs::Step::loads))]
+    #[tactic(auto, unfolding(mips_isa::specs::Step::leaves_loaded))]
     fn finish_load(&mut self, at: Register, outcome: Result<u32, FaultKind>) -> Event
         ensures { loads at outcome self.old ≡ (result, self.new) }
     {
@@ -274,7 +275,7 @@ impl Machine {
     }
 
     /// Stores the lowest bytes of a word.
-    #[tactic(auto, unfolding(mips_isa::specs::Step::stores))]
+    #[tactic(auto, unfolding(machine_state::specs::Step::stores))]
     fn store(&mut self, at: u32, width: Width, value: u32) -> Event
         ensures { stores (store_of Little self.old.memory at (width_of width) value) self.old ≡ (result, self.new) }
     {
@@ -352,9 +353,9 @@ impl Machine {
     }
 
     /// The next byte of the input in `$2`, or -1 at the end.
-    #[tactic(auto, unfolding(mips_isa::specs::Step::reads_input))]
+    #[tactic(auto, unfolding(machine_state::specs::Step::reads_input))]
     fn read_input(&mut self)
-        ensures { self.new ≡ reads_input self.old }
+        ensures { self.new ≡ reads_input (with_register 2) self.old }
     {
         let two = Register::new(2);
         if self.taken < self.input.len() {
@@ -367,9 +368,9 @@ impl Machine {
     }
 
     /// Does the request that `$2` numbers.
-    #[tactic(auto, unfolding(mips_isa::specs::Step::requests, mips_isa::specs::Step::puts))]
+    #[tactic(auto, unfolding(machine_state::specs::Step::requests, machine_state::specs::Step::puts))]
     fn request(&mut self) -> Event
-        ensures { requests (register self.old 2) (register self.old 4) self.old ≡ (result, self.new) }
+        ensures { requests (with_register 2) (register self.old 2) (register self.old 4) self.old ≡ (result, self.new) }
     {
         let number = self.registers[2];
         let argument = self.registers[4];

@@ -8,7 +8,7 @@ use Rattle.mips_isa.specs.Loaded as mips
 use Rattle.sparc_isa.specs.Loaded as sparc
 use Rattle.obj_file.specs.Image.{ImageFields}
 use Rattle.machine_state.specs.State.{MachineState}
-use Rattle.near_link.specs.Near.{loaded}
+use Rattle.targets.specs.Targets.{loaded}
 use Rattle.machine_state.specs.declared.layout.TheConstants.{SPARC}
 use Rattle.nub_wire.specs.Stream.{Feeding}
 use Rattle.nub_wire.specs.Nub.{Host, turn_of}

@@ -1,2 +1,3 @@
 pub mod Faulty
 pub mod Near
+pub mod Steps

@@ -94,6 +94,7 @@ fn give_done(buf: &mut [u8]) -> usize
 impl Link for FaultyLink {
     ghost use Rattle.std.specs.Prelude.{None, IfSome, option_map};
     ghost use Rattle.near_link.specs.Near.{near_conduct};
+    ghost use Rattle.near_link.specs.Steps.{faulty_took, FaultyGave};
     ghost use Rattle.nub_wire.specs.Delivery.{OnWorlds, Receives, fitting, side_of, on_side, with_sent};
 
     ghost world = { λ f. None };
@@ -101,6 +102,10 @@ impl Link for FaultyLink {
     ghost conduct = { near_conduct };
 
     ghost faults = { λ f. f.count };
+
+    ghost took = { λ s side piece n t. faulty_took s side piece n t };
+
+    ghost gave = { λ s side size bytes t. FaultyGave s side size bytes t };
 
     fn send(&mut self, side: Side, piece: &[u8]) -> Result<usize, Failed>
         ensures bound { IfOk result (λ n. n ≤ length piece.now) }

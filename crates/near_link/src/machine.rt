@@ -1,10 +1,11 @@
 // The machine of an image.
 
 ghost use Rattle.std.specs.Prelude.{◌≡◌, IfOk};
-ghost use Rattle.near_link.specs.Near.{machine_in, loaded};
+ghost use Rattle.near_link.specs.Near.{machine_in};
+ghost use Rattle.targets.specs.Targets.{loaded, IsSound};
 
 use ldb_words::{Event, Outside, WindowFault};
-use machine_state::{SPARC, Target};
+use machine_state::{SPARC, Target, tell_bytes};
 use obj_file::Image;
 use std::alloc::{AllocError, Global};
 
@@ -17,8 +18,8 @@ pub enum NearMachine {
 
 impl NearMachine {
     /// The machine of an image, by its target byte.
-    #[tactic(auto, unfolding(crate::specs::Near::loaded))]
-    pub fn new(alloc: Global, image: &Image) -> Result<NearMachine, AllocError>
+    #[tactic(auto, unfolding(targets::specs::Targets::loaded))]
+    fn begun(alloc: Global, image: &Image) -> Result<NearMachine, AllocError>
         ensures { IfOk result (λ n. machine_in n ≡ loaded image.now) }
     {
         if image.target() == SPARC {
@@ -27,15 +28,28 @@ impl NearMachine {
             Ok(NearMachine::Mips(mips_sim::Machine::new(alloc, image)?))
         }
     }
+
+    /// The machine of an image, which is sound.
+    #[tactic(auto, using(crate::proofs::Worlds::image_sound))]
+    pub fn new(alloc: Global, image: &Image) -> Result<NearMachine, AllocError>
+        ensures loaded { IfOk result (λ n. machine_in n ≡ loaded image.now) }
+        ensures sound { IsSound (loaded image.now) }
+    {
+        let _target = image.target();
+        tell_bytes(image.text());
+        tell_bytes(image.statics());
+        NearMachine::begun(alloc, image)
+    }
 }
 
 // Each call asks the machine for its target first, since what it does is said by the target in its record.
 impl Target for NearMachine {
-    ghost use Rattle.near_link.specs.Near.{machine_in, near_behaviour};
+    ghost use Rattle.near_link.specs.Near.{machine_in};
+    ghost use Rattle.targets.specs.Targets.{machine_behaviour};
 
     ghost state = { machine_in };
 
-    ghost behaviour = { near_behaviour };
+    ghost behaviour = { machine_behaviour };
 
     #[inline(always)]
     fn step(&mut self) -> Event {

@@ -1,7 +1,7 @@
 // The link.
 
 ghost use Rattle.std.specs.Prelude.{◌≡◌, ◌≤◌, length, take, IfOk, vec_len};
-ghost use Rattle.near_link.specs.Near.{near_conduct, first_world, HoldsOfOne};
+ghost use Rattle.near_link.specs.Near.{near_conduct, BeginsAs, HoldsOfOne};
 ghost use Rattle.nub_wire.specs.declared.link.Side.TheVariants.{First};
 ghost use Rattle.nub_wire.specs.Delivery.{fitting, side_of, on_side, with_sent, Waits, Receives};
 
@@ -30,6 +30,7 @@ impl Model for NearLink {
 
 impl NearLink {
     /// A link to a nub with the machine of an image, with no schedule.
+    #[tactic(auto, using(crate::proofs::Worlds::saved_sound))]
     pub fn new(
         alloc: Global,
         images: &[Image],
@@ -37,7 +38,7 @@ impl NearLink {
     ) -> Result<NearLink, AllocError>
         requires one { length images.now ≡ 1 }
         requires unscheduled { vec_len schedule ≡ 0 }
-        ensures { IfOk result (λ l. HoldsOfOne (λ i. l ≡ first_world i) images.now) }
+        ensures { IfOk result (λ l. HoldsOfOne (λ i. BeginsAs i l) images.now) }
     {
         let machine = NearMachine::new(alloc, &images[0])?;
         Ok(NearLink {
@@ -93,12 +94,17 @@ impl NearLink {
 impl Link for NearLink {
     ghost use Rattle.std.specs.Prelude.{Some, None};
     ghost use Rattle.near_link.specs.Near.{near_conduct};
+    ghost use Rattle.near_link.specs.Steps.{near_took, near_gave};
 
     ghost world = { λ l. Some l };
 
     ghost conduct = { near_conduct };
 
     ghost faults = { λ _. 0 };
+
+    ghost took = { λ s side piece n t. near_took s side piece n t };
+
+    ghost gave = { λ s side size bytes t. near_gave s side size bytes t };
 
     fn send(&mut self, side: Side, piece: &[u8]) -> Result<usize, Failed> {
         Ok(self.take(side, piece))

@@ -4,7 +4,8 @@ ghost use Rattle.std.specs.Prelude.{◌≡◌, ◌≤◌, ◌+◌, [], ◌∷◌
 ghost use Rattle.nub_wire.specs.Spelling.{frame_of};
 ghost use Rattle.nub_wire.specs.Nub.{first_host};
 ghost use Rattle.nub_wire.specs.Delivery.{first_side, fitting, with_sent, takes_bytes, after_byte, Reaches, Delivers, WaitsOut, UntilAnswer, all_ready, without_ready};
-ghost use Rattle.near_link.specs.Near.{machine_in, near_behaviour, near_conduct};
+ghost use Rattle.targets.specs.Targets.{machine_behaviour};
+ghost use Rattle.near_link.specs.Near.{machine_in, near_conduct};
 
 use crate::machine::NearMachine;
 use crate::queue::{Queue, ROOM};
@@ -47,7 +48,7 @@ impl NearSide {
     /// A nub that got no message yet.
     pub fn new(machine: NearMachine) -> NearSide
         requires { (machine_in machine).given ≡ 0 }
-        ensures { result ≡ first_side (first_host near_behaviour (machine_in machine)) }
+        ensures { result ≡ first_side (first_host machine_behaviour (machine_in machine)) }
     {
         NearSide {
             sent: Queue::new(),

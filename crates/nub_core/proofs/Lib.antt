@@ -1,5 +1,5 @@
+pub mod CountedTurns
 pub mod Ends
-pub mod Outputs
-pub mod Replies
+pub mod ResumesAreRuns
 pub mod Stretches
 pub mod Turns

@@ -5,8 +5,8 @@ use Rattle.ldb_words.specs.declared.event.Event.TheVariants as event
 use Rattle.machine_state.specs.State.{MachineState, Behaviour}
 use Rattle.nub_wire.specs.declared.message.Msg.{Msg}
 use Rattle.nub_wire.specs.declared.message.Ending.{Ending}
-use Rattle.nub_wire.specs.declared.ending.Cause.{Cause}
-use Rattle.nub_wire.specs.declared.ending.Cause.TheVariants as cause
+use Rattle.machine_state.specs.declared.target.Cause.{Cause}
+use Rattle.machine_state.specs.declared.target.Cause.TheVariants as cause
 use Rattle.nub_wire.specs.Nub.{NubState, Host, Replied, host, due, due_of, settled, concluded, requested, acted, advance, advanced, turned, running, or_then, if_open, turn_of, told_ending, told_output, pc_of, settle, ended_by}
 use Rattle.nub_wire.specs.Endings.{ending_of}
 

@@ -1,127 +1,52 @@
 // Frames from outside.
 
+use crate::append_bytes;
 use nub_wire::{Fed, Feeder, Heard, Msg, Size, encode, hear};
-use std::test::Fail;
+use std::alloc::{AllocError, Global};
+use test_rows::{append, part};
 
-#[test]
-fn a_fetch_in_two_pieces(rt: HostRuntime) {
-    let frame = encode(&Msg::Fetch {
-        address: 0x1000_0000,
-        size: Size::Word,
-    });
-    let bytes: [u8; 8] = [0, 6, 2, 0x10, 0, 0, 0, 4];
-    assert!(rt; frame.as_slice() == &bytes[..]);
-    let mut feeder = Feeder::new();
-    let first = feeder.feed(&bytes[..5]);
-    assert!(rt; matches!(&first, Fed::NotYet));
-    let second = feeder.feed(&bytes[5..]);
-    let want = Size::Word;
-    assert!(rt;
-        matches!(&second, Fed::Msg { msg: Msg::Fetch { address: 0x1000_0000, size }, used: 3 } if *size == want)
-    );
-}
-
-/// Whether the last byte of these begins no frame, and none before, and whether that is for good.
-fn is_refused_at_last(bytes: &[u8]) -> bool {
-    let [front @ .., _] = bytes else {
-        return false;
-    };
-    let mut feeder = Feeder::new();
-    let begun = matches!(&feeder.feed(front), Fed::NotYet);
-    let refused = matches!(&feeder.feed(&bytes[front.len()..]), Fed::BadFrame { at: 0 });
-    let stays = matches!(&feeder.feed(&[]), Fed::BadFrame { at: 0 });
-    begun && refused && stays
-}
-
-/// Fronts of frames whose last byte is a length that is not the tag's, or one that no frame has.
-const WRONG_LENGTHS: [&[u8]; 16] = [
-    &[5],
-    &[0, 0],
-    &[4, 2],
-    &[0, 7, 0x02],
-    &[0, 5, 0x02],
-    &[0, 2, 0x01],
-    &[0, 9, 0x03],
-    &[0, 4, 0x04],
-    &[0, 2, 0x05],
-    &[0, 1, 0x06],
-    &[0, 6, 0x81],
-    &[0, 2, 0x82],
-    &[0, 7, 0x84],
-    &[0, 1, 0x85],
-    &[0, 5, 0x87],
-    &[0, 2, 0x88],
-];
-
-/// The front of a frame, and the bytes that may come next.
-const FIELDS: [(&[u8], &[u8]); 7] = [
-    // tags of messages without a payload
-    (&[0, 1], &[0x01, 0x05, 0x82, 0x83, 0x88, 0x89]),
-    // tags of messages with a payload of four bytes, and of those that hold bytes
-    (&[0, 5], &[0x04, 0x06, 0x81, 0x85, 0x86]),
-    // widths
-    (&[0, 6, 0x02, 1, 2, 3, 4], &[1, 4]),
-    (&[0, 10, 0x03, 1, 2, 3, 4], &[1, 4]),
-    // reasons
-    (&[0, 6, 0x84], &[1, 2]),
-    // kinds
-    (&[0, 6, 0x87], &[1, 2, 3, 4, 5, 6, 7, 8]),
-    // the first byte of a length
-    (&[], &[0, 1, 2, 3, 4]),
-];
-
-/// Whether a front is refused at a byte exactly where it is none of these.
-fn is_refused_elsewhere(front: &[u8], good: &[u8], byte: u8) -> bool {
-    let mut feeder = Feeder::new();
-    let begun = matches!(&feeder.feed(front), Fed::NotYet);
-    let refused = matches!(&feeder.feed(&[byte]), Fed::BadFrame { at: 0 });
-    begun && refused == !good.contains(&byte)
-}
-
-#[test]
-fn out_of_range(rt: HostRuntime) {
-    for row in WRONG_LENGTHS {
-        assert!(rt; is_refused_at_last(row));
-    }
-    for (front, good) in FIELDS {
-        for byte in 0..=u8::MAX {
-            assert!(rt; is_refused_elsewhere(front, good, byte));
+/// Appends what a feeder makes of a piece: no message yet, no frame from a byte on, or a message as it is spelled again and how many bytes it ended behind.
+fn append_fed(alloc: Global, fed: &Fed, out: &mut Vec<u8>) -> Result<(), AllocError> {
+    match fed {
+        Fed::NotYet => append(out, "not yet;"),
+        Fed::BadFrame { at } => append(out, format!(in alloc; "bad at {at};")?.as_str()),
+        Fed::Msg { msg, used } => {
+            if let Msg::Fetch { address, size } = msg {
+                let told = format!(in alloc; "fetch of {size:?} at {address:08x} ")?;
+                append(out, told.as_str())?;
+            }
+            append_bytes(alloc, &encode(msg), out)?;
+            append(out, format!(in alloc; " used {used};")?.as_str())
         }
     }
 }
 
-#[test]
-fn a_bad_frame_behind_a_message(rt: HostRuntime) {
-    let mut feeder = Feeder::new();
-    let first = feeder.feed(&[0, 1, 1, 0, 7, 2]);
-    assert!(rt; matches!(&first, Fed::Msg { used: 3, .. }));
-    let second = feeder.feed(&[0, 7, 2]);
-    assert!(rt; matches!(&second, Fed::BadFrame { at: 3 }));
+/// The bytes that may stand behind a front of a frame; none where the front is refused.
+fn append_next(alloc: Global, front: &[u8], out: &mut Vec<u8>) -> Result<(), AllocError> {
+    for byte in 0..=u8::MAX {
+        let mut feeder = Feeder::new();
+        let begun = matches!(&feeder.feed(front), Fed::NotYet);
+        let refused = matches!(&feeder.feed(&[byte]), Fed::BadFrame { at: 0 });
+        if begun && !refused {
+            append(out, format!(in alloc; "{byte} ")?.as_str())?;
+        }
+    }
+    Ok(())
 }
 
-/// Ten messages.
-const STREAM: [u8; 65] = [
-    0, 1, 1, // Hello
-    0, 6, 2, 0, 0x40, 0, 0, 4, // Fetch
-    0, 10, 3, 0x10, 0, 0, 1, 1, 0, 0, 0, 9, // Store
-    0, 4, 6, 65, 0, 255, // Input
-    0, 5, 4, 0, 0, 0, 100, // Resume
-    0, 6, 0x84, 2, 0, 0x40, 0, 8, // Stopped
-    0, 3, 0x85, 72, 105, // Output
-    0, 6, 0x87, 8, 1, 2, 3, 4, // Faulted
-    0, 1, 0x88, // Turns
-    0, 3, 6, 1, 1, // Input
-];
-
 /// The messages that a piece ends are spelled again, and counted.
-fn spell_again(feeder: &mut Feeder, piece: &[u8], spelled: &mut Vec<u8>) -> Result<u32, Fail> {
+fn spell_again(
+    feeder: &mut Feeder,
+    piece: &[u8],
+    spelled: &mut Vec<u8>,
+) -> Result<u32, AllocError> {
     let mut rest = piece;
     let mut count: u32 = 0;
     for _message in 0..20 {
         match feeder.feed(rest) {
             Fed::Msg { msg, used } => {
                 spelled.extend_from_slice(&encode(&msg))?;
-                rest = &rest[used..];
+                rest = rest.get(used..).unwrap_or(&[]);
                 count = count.wrapping_add(1);
             }
             Fed::NotYet | Fed::BadFrame { .. } => return Ok(count),
@@ -130,28 +55,67 @@ fn spell_again(feeder: &mut Feeder, piece: &[u8], spelled: &mut Vec<u8>) -> Resu
     Ok(count)
 }
 
-#[test]
-fn nub_every_cut(rt: HostRuntime) -> Result<(), Fail> {
-    for cut in 0..STREAM.len() {
+/// Appends at how many places a stream of messages may be cut, and how many messages both pieces have: those of the stream.
+fn append_cuts(alloc: Global, stream: &[u8], out: &mut Vec<u8>) -> Result<(), AllocError> {
+    let mut cuts: u32 = 0;
+    let mut messages: u32 = 0;
+    for cut in 0..stream.len() {
         let mut feeder = Feeder::new();
-        let mut spelled = Vec::new(rt.alloc());
-        let first = spell_again(&mut feeder, &STREAM[..cut], &mut spelled)?;
-        let second = spell_again(&mut feeder, &STREAM[cut..], &mut spelled)?;
-        assert!(rt; first.wrapping_add(second) == 10);
-        assert!(rt; spelled.as_slice() == &STREAM[..]);
+        let mut spelled = Vec::new(alloc);
+        let (front, back) = stream.split_at(cut);
+        let first = spell_again(&mut feeder, front, &mut spelled)?;
+        let second = spell_again(&mut feeder, back, &mut spelled)?;
+        if spelled.as_slice() == stream {
+            cuts = cuts.wrapping_add(1);
+            messages = messages.wrapping_add(first).wrapping_add(second);
+        }
     }
-    Ok(())
+    append(
+        out,
+        format!(in alloc; "{cuts} cuts {messages} messages")?.as_str(),
+    )
 }
 
-#[test]
-fn what_is_heard(rt: HostRuntime) {
-    let resume = Msg::Resume { turns: 3 };
-    let fetch = Msg::Fetch {
-        address: 0,
-        size: Size::Byte,
-    };
-    assert!(rt; hear(&resume, 0, &Msg::Turns) == Heard::Ends);
-    assert!(rt; hear(&resume, 0, &Msg::Done) == Heard::Bad);
-    assert!(rt; hear(&fetch, 0, &Msg::Word { value: 255 }) == Heard::Ends);
-    assert!(rt; hear(&fetch, 0, &Msg::Word { value: 256 }) == Heard::Bad);
+/// The message of a frame.
+fn message_of(frame: &[u8]) -> Option<Msg> {
+    match Feeder::new().feed(frame) {
+        Fed::Msg { msg, .. } => Some(msg),
+        _ => None,
+    }
+}
+
+/// What the second of two frames is to who sent the first.
+fn heard(pieces: &[Vec<u8>]) -> Option<Heard> {
+    let asked = message_of(part(pieces, 0))?;
+    let reply = message_of(part(pieces, 1))?;
+    Some(hear(&asked, 0, &reply))
+}
+
+/// Appends the answer to a row about messages.
+pub fn append_message(
+    alloc: Global,
+    kind: &str,
+    pieces: &[Vec<u8>],
+    out: &mut Vec<u8>,
+) -> Result<(), AllocError> {
+    match kind {
+        "feed" => {
+            let mut feeder = Feeder::new();
+            for piece in pieces {
+                append_fed(alloc, &feeder.feed(piece), out)?;
+            }
+            Ok(())
+        }
+        "next" => append_next(alloc, part(pieces, 0), out),
+        "cuts" => append_cuts(alloc, part(pieces, 0), out),
+        "heard" => append(out, format!(in alloc; "{:?}", heard(pieces))?.as_str()),
+        "spelled" => {
+            let frame = encode(&Msg::Fetch {
+                address: 0x1000_0000,
+                size: Size::Word,
+            });
+            append_bytes(alloc, &frame, out)
+        }
+        _ => append(out, "no such row"),
+    }
 }

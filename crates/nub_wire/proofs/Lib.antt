@@ -1,7 +1,13 @@
+pub mod AtOnce
 pub mod Cuts
 pub mod Feeds
 pub mod Fronts
 pub mod LawsOfStreams
+pub mod Outputs
 pub mod Quiet
+pub mod Replies
+pub mod Sides
 pub mod Silence
 pub mod Streams
+pub mod Told
+pub mod Worlds

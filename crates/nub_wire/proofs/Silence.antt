@@ -5,10 +5,12 @@ use Rattle.nub_wire.specs.declared.feeder.Fed.{Fed}
 use Rattle.nub_wire.specs.declared.feeder.Fed.TheVariants as fed
 use Rattle.nub_wire.specs.declared.link.Side.{Side}
 use Rattle.nub_wire.specs.declared.link.Side.TheVariants.{First, Second}
+use Rattle.nub_wire.specs.declared.link.Entry.{Entry}
+use Rattle.nub_wire.proofs.Sides.{runs_none}
 use Rattle.nub_wire.specs.Spelling.{frame_of}
 use Rattle.machine_state.specs.State.{Behaviour}
 use Rattle.nub_wire.specs.Nub.{Host, Replied, running, turn_of, if_open}
-use Rattle.nub_wire.specs.Delivery.{Conduct, LinkSide, World, side_of, on_side, takes_bytes, is_roomy, replied, after_byte, Reaches, Delivers, enough, none_left, takes_none, reaches, UntilAnswer, answered, shut, runs_on, all_ready, Answers, WaitsOut, Waits, has_ready, enters, used_up, without_ready, ready_of, Gets, GetsFrom}
+use Rattle.nub_wire.specs.Delivery.{Conduct, LinkSide, World, side_of, on_side, takes_bytes, is_roomy, replied, after_byte, Reaches, Delivers, enough, none_left, takes_none, reaches, some_ready, Moves, EntersSide, UntilAnswer, answered, shut, runs_on, all_ready, Answers, WaitsOut, Waits, has_ready, enters, used_up, without_ready, ready_of, Gets, GetsFrom}
 use Rattle.nub_wire.specs.Silence.{IsQuietSide, QuietAt, IsQuietOn, NothingSaysQuiet, QuietGivesNothing}
 
 -- ---- lists
@@ -32,6 +34,14 @@ nothing_of n (x ∷ xs) e = cc
 frame_some : {A : Type 0} (m : Msg) → frame_of m ≡ [] → A
 unfolding frame_of
 frame_some m e = cc
+
+drop_nil : (n : ℕ) → drop {A = ℕ} n [] ≡ []
+drop_nil zero = refl
+drop_nil (suc n) = refl
+
+nothing_taken : (n : ℕ) → take {A = ℕ} n [] ≡ []
+nothing_taken zero = refl
+nothing_taken (suc n) = refl
 
 -- ---- bytes that reach the nub
 
@@ -109,10 +119,6 @@ set_side : (side : Side) (w : World) (s t : LinkSide) → side_of side w ≡ Som
 set_side First w s t e = refl
 set_side Second w s t e = rw e refl
 
-same_schedule : (side : Side) (f : LinkSide → LinkSide) (w : World) → (on_side side f w).schedule ≡ w.schedule
-same_schedule First f w = refl
-same_schedule Second f w = refl
-
 ready_is : (side : Side) (w : World) (s : LinkSide) → side_of side w ≡ Some s → ready_of (side_of side w) ≡ s.ready
 ready_is side w s e = ap ready_of e
 
@@ -123,7 +129,7 @@ waits_quiet {c = c} {side = side} {w = w} (used_up s t is none next out) e =
     let there = set_side side w s t is in
     let silent : t.ready ≡ [] = sym (ap ready_of there) ∙ e in
     let q = out_quiet c s t s.answers refl out silent in
-    record { used_up = same_schedule side (λ _. t) w ∙ next; quiet = subst QuietAt (sym there) q }
+    subst QuietAt (sym there) q
 
 -- ---- a wait where nothing was to come
 
@@ -157,18 +163,49 @@ quiet_out : (c : Conduct) (s t : LinkSide) (xs : List ℕ) → IsQuietSide s →
 quiet_out c s t [] q e w = quiet_answers c s t q w
 quiet_out c s t (x ∷ xs) q e w = let y : x ∷ xs ≡ [] = sym e ∙ q.none_answered in cc
 
+-- an entry moves no quiet side
+quiet_moved : (c : Conduct) (e : Entry) (s t : LinkSide) → IsQuietSide s → Moves c e s t → IsQuietSide t
+quiet_moved c e s t q v =
+    let d : v.delivered ≡ s = none_delivered v.delivers q.none_to_take in
+    let open_none : v.delivered.host.nub.left ≡ None = ap (λ (x : LinkSide). x.host.nub.left) d ∙ q.none_open in
+    let r : v.ran ≡ s = runs_none v.runs open_none ∙ d in
+    let still : IsQuietSide (some_ready e.piece s) = record {
+      none_ready = rw (q.none_ready, q.none_answered) (nothing_taken e.piece);
+      none_answered = ap (drop e.piece) q.none_answered ∙ drop_nil e.piece;
+      none_open = q.none_open;
+      none_to_take = q.none_to_take;
+    } in
+    subst IsQuietSide (sym (v.new_is ∙ ap (some_ready e.piece) r)) still
+
+quiet_on : (c : Conduct) (e : Entry) (side : Side) (w w' : World) (s t : LinkSide) → side_of side w ≡ Some s → Moves c e s t → w' ≡ on_side side (λ _. t) w
+    → IsQuietOn side w → IsQuietOn side w'
+quiet_on c e side w w' s t is v new q =
+    let k : IsQuietSide t = quiet_moved c e s t (subst QuietAt is q) v in
+    subst (IsQuietOn side) (sym new) (subst QuietAt (sym (set_side side w s t is)) k)
+
+quiet_entered : (c : Conduct) (e : Entry) (that side : Side) (w w' : World) (o : Option LinkSide) → e.side ≡ that → side_of that w ≡ o → EntersSide c e o w w'
+    → IsQuietOn side w → IsQuietOn side w'
+quiet_entered c e that side w w' None is there x q = subst (IsQuietOn side) (sym x) q
+quiet_entered c e First First w w' (Some s) is there x q = quiet_on c e First w w' s x.0 there x.1 (x.2 ∙ ap (λ (z : Side). on_side z (λ _. x.0) w) is) q
+quiet_entered c e Second Second w w' (Some s) is there x q = quiet_on c e Second w w' s x.0 there x.1 (x.2 ∙ ap (λ (z : Side). on_side z (λ _. x.0) w) is) q
+quiet_entered c e First Second w w' (Some s) is there x q =
+    subst (IsQuietOn Second) (sym (x.2 ∙ ap (λ (z : Side). on_side z (λ _. x.0) w) is)) q
+quiet_entered c e Second First w w' (Some s) is there x q =
+    subst (IsQuietOn First) (sym (x.2 ∙ ap (λ (z : Side). on_side z (λ _. x.0) w) is)) q
+
+quiet_scheduled : (side : Side) (w : World) (rest : List Entry) → IsQuietOn side w → IsQuietOn side (record w { schedule = rest })
+quiet_scheduled First w rest q = q
+quiet_scheduled Second w rest q = q
+
 waits_on : {c : Conduct} {side : Side} {w v : World} → Waits c side w v → IsQuietOn side w → ready_of (side_of side v) ≡ []
-waits_on (has_ready s is some) q = let k = subst QuietAt is q.quiet in absurd (some k.none_ready)
-waits_on (enters s entry rest is none next moved more) q = let x : entry ∷ rest ≡ [] = sym next ∙ q.used_up in cc
+waits_on (has_ready s is some) q = let k = subst QuietAt is q in absurd (some k.none_ready)
+waits_on {c = c} {side = side} {w = w} (enters {v = v} s entry rest is none next moved more) q =
+    waits_on more (quiet_entered c entry entry.side side (record w { schedule = rest }) v _ refl refl moved (quiet_scheduled side w rest q))
 waits_on {c = c} {side = side} {w = w} (used_up s t is none next out) q =
-    let k = subst QuietAt is q.quiet in
+    let k = subst QuietAt is q in
     ap ready_of (set_side side w s t is) ∙ quiet_out c s t s.answers k refl out
 
 -- ---- a receive
-
-drop_nil : (n : ℕ) → drop {A = ℕ} n [] ≡ []
-drop_nil zero = refl
-drop_nil (suc n) = refl
 
 emptied : (n : ℕ) (s : LinkSide) → IsQuietSide s → IsQuietSide (without_ready n s)
 emptied n s q =
@@ -180,8 +217,8 @@ emptied_at n None q = q
 emptied_at n (Some s) q = emptied n s q
 
 emptied_on : (side : Side) (n : ℕ) (w : World) → IsQuietOn side w → IsQuietOn side (on_side side (without_ready n) w)
-emptied_on First n w q = record { used_up = q.used_up; quiet = emptied n w.first q.quiet }
-emptied_on Second n w q = record { used_up = q.used_up; quiet = emptied_at n w.second q.quiet }
+emptied_on First n w q = emptied n w.first q
+emptied_on Second n w q = emptied_at n w.second q
 
 gets_quiet : (c : Conduct) (side : Side) (n : ℕ) (bytes : List ℕ) (w w' : World) (g : Gets c side n bytes w w')
     → ready_of (side_of side g.waited) ≡ [] → IsQuietOn side w'
@@ -204,7 +241,7 @@ nothing_says_quiet c side size s w w' is r =
 
 pub quiet_gives_nothing : (c : Conduct) → QuietGivesNothing c
 quiet_gives_nothing c side size bytes w w' q r =
-    let g = gets_at c side size bytes w w' (side_of side w) q.quiet r in
+    let g = gets_at c side size bytes w w' (side_of side w) q r in
     let e = waits_on g.waits q in
     let none : bytes ≡ [] = g.given ∙ ap (take (suc size)) e in
     (none, gets_quiet c side (suc size) bytes w w' g e)

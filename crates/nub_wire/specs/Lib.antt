@@ -1,9 +1,15 @@
+pub mod AtOnce
+pub mod Calls
+pub mod Delivery
 pub mod Endings
+pub mod Exchange
 pub mod Feeding
 pub mod Front
+pub mod Heard
 pub mod Nub
 pub mod Replies
+pub mod Rest
 pub mod Silence
 pub mod Spelling
 pub mod Stream
-pub mod Delivery
+pub mod Told

@@ -9,8 +9,8 @@ use Rattle.machine_state.specs.declared.layout.TheConstants.{CONTEXT}
 use Rattle.nub_wire.specs.declared.message.Msg.{Msg}
 use Rattle.nub_wire.specs.declared.message.Msg.TheVariants as msg
 use Rattle.nub_wire.specs.declared.message.Ending.{Ending}
-use Rattle.nub_wire.specs.declared.ending.Cause.{Cause}
-use Rattle.nub_wire.specs.declared.ending.Cause.TheVariants as cause
+use Rattle.machine_state.specs.declared.target.Cause.{Cause}
+use Rattle.machine_state.specs.declared.target.Cause.TheVariants as cause
 use Rattle.nub_wire.specs.Spelling.{size_byte}
 use Rattle.nub_wire.specs.Endings.{ending_of, reply_of, is_final}
 

@@ -15,10 +15,9 @@ abbrev pub QuietAt : Option LinkSide → Type 0
 QuietAt None = ⊥
 QuietAt (Some s) = IsQuietSide s
 
--- the schedule is used up, and the side is quiet
-pub record IsQuietOn (side : Side) (w : World) : Type 0 where
-  pub used_up : w.schedule ≡ []
-  pub quiet : QuietAt (side_of side w)
+-- the side is quiet, whatever is left of the schedule
+abbrev pub IsQuietOn : (side : Side) → World → Type 0
+IsQuietOn side w = QuietAt (side_of side w)
 
 -- A receive into a buffer that isn't empty gives nothing only where the side is quiet after it.
 abbrev pub NothingSaysQuiet : Conduct → Type 0

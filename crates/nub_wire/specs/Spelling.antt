@@ -2,6 +2,7 @@
 use Rattle.std.specs.Prelude.{ℕ, ◌/◌, ◌%◌, ◌^◌, ◌<◌, ◌≤◌, List, [], ◌∷◌, ◌++◌, length}
 use Rattle.ldb_words.specs.declared.event.FaultKind.{FaultKind}
 use Rattle.ldb_words.specs.declared.event.FaultKind.TheVariants as kind
+use Rattle.machine_state.specs.Sound.{AllBelow}
 use Rattle.nub_wire.specs.declared.message.Size.{Size}
 use Rattle.nub_wire.specs.declared.message.Size.TheVariants as size
 use Rattle.nub_wire.specs.declared.message.Reason.{Reason}
@@ -59,8 +60,7 @@ frame_of m = framed (body_of m)
 
 -- each is a byte
 abbrev pub AllBytes : List ℕ → Type 0
-AllBytes [] = Unit {0}
-AllBytes (b ∷ bs) = (b < 256) × AllBytes bs
+AllBytes bytes = AllBelow 256 bytes
 
 -- 1 to 1,024 bytes
 pub record IsChunk (bytes : List ℕ) : Type 0 where

@@ -8,6 +8,12 @@ ghost use Rattle.nub_wire.specs.Feeding.{FeedsAll, Feeds, nothing_fed, Splits, B
 ghost use Rattle.nub_wire.specs.declared.feeder.Fed.TheVariants as fed;
 ghost use Rattle.nub_wire.specs.Delivery.{Conduct};
 ghost use Rattle.nub_wire.specs.Silence.{NothingSaysQuiet, QuietGivesNothing};
+ghost use Rattle.nub_wire.specs.AtOnce.{FetchLaw, StoreLaw, ShortLaws};
+ghost use Rattle.nub_wire.specs.Exchange.{ExchangeLaw};
+ghost use Rattle.nub_wire.specs.Told.{NoBadReply};
+ghost use Rattle.machine_state.specs.State.{Behaviour};
+ghost use Rattle.nub_wire.specs.Nub.{Host, handled, turn_of};
+ghost use Rattle.nub_wire.specs.Heard.{IsShut, IsWithin, Resumes, GivesBytes, MayAsk, IsAnswered};
 
 /// No frame begins another, and no two messages have one frame.
 pub fn one_message()
@@ -29,4 +35,31 @@ pub fn any_pieces()
 pub fn quiet_until_sent()
     ensures only { (c : Conduct) → NothingSaysQuiet c }
     ensures stays { (c : Conduct) → QuietGivesNothing c }
+{}
+
+/// What a nub answers is heard as the reply that is owed: one message at once or, of a resume, no more output than turns
+/// and then one message that ends it.
+pub fn replies_are_heard()
+    ensures at_once { (b : Behaviour) (m : Msg) (h : Host) → h.nub.blocked ≡ false → h.nub.killed ≡ false → IsShut h.nub → GivesBytes h.machine → MayAsk m h.machine → IsAnswered m (handled b m h) }
+    ensures later { (b : Behaviour) (n turns printed : ℕ) (h : Host) → IsWithin turns printed h.nub → Resumes turns printed (turn_of b n h) }
+{}
+
+/// From an idle side, under any schedule, what is received after the frame of a message that is answered at once is exactly
+/// the nub's reply: then the side is idle again, and so is the other one where it was.
+pub fn exchange()
+    ensures { (c : Conduct) → ExchangeLaw c }
+{}
+
+/// Fetches and stores of a nub at rest over a machine whose memory holds bytes, and the other messages that it replies to at
+/// once.
+pub fn answers_at_rest()
+    ensures fetch { (c : Conduct) → FetchLaw c }
+    ensures store { (c : Conduct) → StoreLaw c }
+    ensures short { (b : Behaviour) → ShortLaws b }
+{}
+
+/// Under any schedule and in pieces of any sizes, a link that tells its nubs gives no bad reply to a message from an idle side
+/// that is answered at once.
+pub fn told_links_answer()
+    ensures { (c : Conduct) → NoBadReply c }
 {}

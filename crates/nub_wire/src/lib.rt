@@ -11,9 +11,13 @@ mod message;
 mod reply;
 
 pub use encoding::encode;
-pub use ending::{Cause, ending_of, is_final, reply_of};
+pub use ending::{ending_of, is_final, reply_of};
 pub use feeder::{Fed, Feeder};
-pub use laws::{any_pieces, one_message, quiet_until_sent};
+pub use laws::{
+    answers_at_rest, any_pieces, exchange, one_message, quiet_until_sent, replies_are_heard,
+    told_links_answer,
+};
 pub use link::{Entry, Link, Side};
+pub use machine_state::Cause;
 pub use message::{Chunk, Ending, Msg, Reason, Size};
 pub use reply::{Heard, ends_reply, hear};

@@ -35,11 +35,18 @@ pub trait Link {
     /// How often it failed. It stands still at 2^64 - 1.
     ghost faults: { Self → ℕ };
 
+    /// From a link a send of a piece took so many bytes of it and left another. Only the calls of a link give this.
+    ghost took: { Self → Side → List ℕ → ℕ → Self → Type 0 };
+
+    /// From a link a receive into a buffer of so many bytes gave these and left another. Only the calls of a link give this.
+    ghost gave: { Self → Side → ℕ → List ℕ → Self → Type 0 };
+
     /// Takes the front of a piece for a nub, as much as there is room for, and says how many bytes.
     fn send(&mut self, side: Side, piece: &[u8]) -> Result<usize, Failed>
         ensures bound { IfOk result (λ n. n ≤ length piece.now) }
         ensures room { IfOk result (λ n. IfSome (world self.old) (λ w. n ≡ fitting piece.now (side_of side w))) }
         ensures bytes { IfOk result (λ n. world self.new ≡ option_map (on_side side (with_sent (take n piece.now))) (world self.old)) }
+        ensures call { IfOk result (λ n. took self.old side piece.now n self.new) }
         ensures err { OnErr result (world self.new ≡ world self.old) }
         ensures cause { CountsFailure (faults self.old) (faults self.new) result };
 
@@ -48,6 +55,7 @@ pub trait Link {
     fn receive(&mut self, side: Side, buf: &mut [u8]) -> Result<usize, Failed>
         ensures bound { IfOk result (λ n. n ≤ length buf.new) }
         ensures bytes { IfOk result (λ n. OnWorlds (Receives conduct side (length buf.new) (take n buf.new)) (world self.old) (world self.new)) }
+        ensures call { IfOk result (λ n. gave self.old side (length buf.new) (take n buf.new) self.new) }
         ensures err { OnErr result (world self.new ≡ world self.old) }
         ensures cause { CountsFailure (faults self.old) (faults self.new) result };
 }

@@ -1,3 +1,4 @@
 pub mod Readings
 pub mod Going
 pub mod Tops
+pub mod Apart

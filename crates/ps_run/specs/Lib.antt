@@ -2,3 +2,4 @@ pub mod Scan
 pub mod Reads
 pub mod Step
 pub mod Runs
+pub mod Passes

@@ -1,5 +1,5 @@
 -- Whole runs, with the operators of a dialect.
-use Rattle.std.specs.Prelude.{◌≡◌, ◌≢◌, ℕ, zero, suc, Result, Ok, Err, List, [], ◌∷◌}
+use Rattle.std.specs.Prelude.{◌≡◌, ◌≢◌, ◌<◌, ℕ, zero, suc, Result, Ok, Err, List, [], ◌∷◌}
 use Rattle.ps_store.specs.declared.object.PsObj.{PsObj}
 use Rattle.ps_step.specs.declared.fault.PsError.{PsError}
 use Rattle.ps_step.specs.declared.fault.PsFault.{PsFault}
@@ -50,6 +50,19 @@ Settles (Err Spent) c answer c' = (answer ≡ Err Spent) × (c' ≡ c)
 Settles (Err Link) c answer c' = (answer ≡ Err Link) × (c' ≡ c)
 Settles (Err NoMemory) c answer c' = (answer ≡ Err NoMemory) × (c' ≡ c)
 
+-- A fault with so many steps left: where none is left the steps are spent, also by a step that raised an error.
+abbrev pub fault_with : ℕ → PsFault → PsFault
+fault_with zero (Error e) = Spent
+fault_with left fault = fault
+
+-- Spent is told exactly where no step is left, unless the link or memory failed.
+abbrev pub TellsSteps : Answer → ℕ → Type 0
+TellsSteps (Ok x) left = 0 < left
+TellsSteps (Err (Error e)) left = 0 < left
+TellsSteps (Err Spent) left = left ≡ 0
+TellsSteps (Err Link) left = Unit {0}
+TellsSteps (Err NoMemory) left = Unit {0}
+
 module _ {D : Type 0} (Op : Operates D) where
   -- an operator is asked for, and its error raised
   pub record Asked (d : D) (c : PsCore) (op left : ℕ) (answer : Answer) (d' : D) (c' : PsCore) (left' : ℕ) : Type 0 where
@@ -62,13 +75,14 @@ module _ {D : Type 0} (Op : Operates D) where
   pub data Runs : ℕ → D → PsCore → Answer → ℕ → D → PsCore → Type 0 where
     spent : (d : D) (c : PsCore) → Runs zero d c (Err Spent) zero d c
     ended : (n : ℕ) (d : D) (c c' : PsCore) → step c ≡ Ended c' → Runs (suc n) d c (Ok tt) (suc n) d c'
-    failed : (n : ℕ) (d : D) (c c' : PsCore) (e : PsError) → step c ≡ Failed e c' → Runs (suc n) d c (Err (Error e)) n d c'
+    failed : (n : ℕ) (d : D) (c c' : PsCore) (e : PsError) (f : PsFault) → step c ≡ Failed e c' → f ≡ fault_with n (Error e)
+        → Runs (suc n) d c (Err f) n d c'
     next : (n m : ℕ) (d d' : D) (c c₁ c' : PsCore) (r : Answer) → step c ≡ Next c₁
         → Runs n d c₁ r m d' c' → Runs (suc n) d c r m d' c'
     asked : (n k m : ℕ) (d d₁ d' : D) (c c₁ c₂ c' : PsCore) (op : ℕ) (r : Answer) → step c ≡ Asks op c₁
         → Asked d c₁ op n (Ok tt) d₁ c₂ k → Runs k d₁ c₂ r m d' c' → Runs (suc n) d c r m d' c'
-    broken : (n k : ℕ) (d d₁ : D) (c c₁ c₂ : PsCore) (op : ℕ) (f : PsFault) → step c ≡ Asks op c₁
-        → Asked d c₁ op n (Err f) d₁ c₂ k → Runs (suc n) d c (Err f) k d₁ c₂
+    broken : (n k : ℕ) (d d₁ : D) (c c₁ c₂ : PsCore) (op : ℕ) (g f : PsFault) → step c ≡ Asks op c₁
+        → Asked d c₁ op n (Err g) d₁ c₂ k → f ≡ fault_with k g → Runs (suc n) d c (Err f) k d₁ c₂
 
   -- An object is run on an execution stack of its own, unless memory runs out. The one found is put back.
   abbrev pub RunsObject : ℕ → PsObj → D → PsCore → Answer → ℕ → D → PsCore → Type 0

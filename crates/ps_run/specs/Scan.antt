@@ -1,6 +1,5 @@
 -- Objects are read from a text, a token at a time.
-use Rattle.std.specs.Prelude.{ℕ, ◌+◌, ◌-◌, zero, suc, Bool, true, false, nat_le, nat_lt, if◌then◌else◌, Option, Some, None, Result, Ok, Err, List, [], ◌∷◌, ◌++◌, length, take, drop, reverse}
-use Rattle.ps_scan.specs.declared.token.PsKind.{PsKind}
+use Rattle.std.specs.Prelude.{ℕ, ◌+◌, ◌-◌, zero, suc, Bool, true, false, nat_le, nat_lt, if◌then◌else◌, Option, Some, None, Result, Ok, Err, List, [], ◌∷◌, length, take, drop, reverse}
 use Rattle.ps_scan.specs.declared.token.PsKind.TheVariants.{Integer, Name as Word, LiteralName, Str as Text, Open, Close}
 use Rattle.ps_scan.specs.declared.token.PsToken.{PsToken}
 use Rattle.ps_scan.specs.Number.{value_of}

@@ -1,9 +1,8 @@
 -- One step of a run: one object is executed, or one turn of a loop is made.
-use Rattle.std.specs.Prelude.{ℕ, ℤ, ◌+ℤ◌, ◌+◌, ◌-◌, true, false, nat_lt, pos, if◌then◌else◌, Option, Some, None, Result, Ok, Err, List, [], ◌∷◌, length, slice_get, option_map, slice_index_or}
+use Rattle.std.specs.Prelude.{ℕ, ◌+ℤ◌, ◌+◌, ◌-◌, Bool, true, false, nat_lt, pos, if◌then◌else◌, Option, Some, None, Result, Ok, Err, List, [], ◌∷◌, length, slice_get, slice_index_or}
 use Rattle.ps_store.specs.declared.object.PsObj.{PsObj}
 use Rattle.ps_store.specs.declared.object.PsObj.TheVariants.{Int, Bool as Truth, Name, Null}
 use Rattle.ps_store.specs.declared.object.ArrayId.{ArrayId}
-use Rattle.ps_store.specs.declared.object.StringId.{StringId}
 use Rattle.ps_store.specs.declared.key.Key.{Key}
 use Rattle.ps_store.specs.declared.key.Key.TheVariants.{Name as NameKey, Int as IntKey, Bool as TruthKey}
 use Rattle.ps_store.specs.StoreState.{StoreState}
@@ -11,15 +10,15 @@ use Rattle.ps_store.specs.Store.{elements_of, entries_of, bytes_of, making_name}
 use Rattle.ps_step.specs.declared.fault.PsError.{PsError}
 use Rattle.ps_step.specs.declared.fault.PsError.TheVariants.{StackOverflow}
 use Rattle.ps_step.specs.declared.item.Item.{Item}
-use Rattle.ps_step.specs.declared.item.Item.TheVariants.{Object, Procedure, Text, Repeat, For, ForArray, ForString, ForDict, Loop, Stopped}
+use Rattle.ps_step.specs.declared.item.Item.TheVariants.{Object, Procedure, Text, Repeat, For, ForArray, ForString, ForDict, Loop, LastTurn, Stopped}
 use Rattle.ps_step.specs.declared.machine.PsCore.{PsCore}
 use Rattle.ps_step.specs.Results.{◌>>=◌, stored, at}
 use Rattle.ps_step.specs.Item.{under_stopped}
-use Rattle.ps_step.specs.State.{with_operands, with_execution, pushing, calling}
+use Rattle.ps_step.specs.State.{with_execution, pushing, calling}
 use Rattle.ps_step.specs.ControlOperators.{goes_on}
 use Rattle.ps_step.specs.CopyOperators.{MadeOrLeft}
 use Rattle.ps_step.specs.Executing.{Turn, alone, executing, meeting}
-use Rattle.ps_run.specs.Scan.{Read, More, Whole, Nothing, Bad, reading_object}
+use Rattle.ps_run.specs.Scan.{More, Whole, Nothing, Bad, reading_object}
 
 -- What a step leads to: the end, where nothing is left to be executed; the next state; a question to the dialect;
 -- or the end by an error that no `stopped` catches.
@@ -61,12 +60,17 @@ turning_pair (Some pair) body c =
     else at c (key_object c.store pair.0) >>= λ made.
     let c' : PsCore = record c { store = made.1; operands = pair.1 ∷ made.0 ∷ c.operands } in at c' (calling body c')
 
--- the rest of a loop: as it goes on, if there is a turn behind this one
+-- the rest of a procedure: as it goes on, if there is an object behind this one
 abbrev pub going_on : ℕ → ℕ → Item → List Item → List Item
 going_on next count item rest = if nat_lt next count then item ∷ rest else rest
 
+-- The rest of a loop in a turn: as it goes on, if there is a turn behind this one. Its last turn keeps an item of the loop,
+-- at which `exit` leaves it.
+abbrev pub in_turn : Bool → Item → List Item → List Item
+in_turn more item rest = if more then item ∷ rest else LastTurn ∷ rest
+
 -- One step, by the item on top of the execution stack. A `stopped` whose object has ended leaves false,
--- and a text whose tokens have ended is dropped: neither is a step.
+-- and a text whose tokens have ended is dropped, as is a loop whose last turn has ended: none of these is a step.
 abbrev pub stepping : List Item → PsCore → Outcome
 stepping [] c = Ended c
 stepping (Stopped ∷ rest) c =
@@ -83,20 +87,21 @@ stepping (Procedure a n ∷ rest) c =
     let items = elements_of c.store a in
     settled (meeting (slice_index_or items n Null) (with_execution c (going_on (n + 1) (length items) (Procedure a (n + 1)) rest)))
 stepping (Repeat n body ∷ rest) c =
-    let c' : PsCore = with_execution c (going_on 1 n (Repeat (n - 1) body) rest) in settled (alone (at c' (calling body c')))
+    let c' : PsCore = with_execution c (in_turn (nat_lt 1 n) (Repeat (n - 1) body) rest) in settled (alone (at c' (calling body c')))
 stepping (For next by limit body ∷ rest) c =
-    let c' : PsCore = with_execution c (if goes_on (next +ℤ by) by limit then For (next +ℤ by) by limit body ∷ rest else rest) in
+    let c' : PsCore = with_execution c (in_turn (goes_on (next +ℤ by) by limit) (For (next +ℤ by) by limit body) rest) in
     settled (alone (turning (Int next) body c'))
 stepping (ForArray a n body ∷ rest) c =
     let items = elements_of c.store a in
-    settled (alone (turning (slice_index_or items n Null) body (with_execution c (going_on (n + 1) (length items) (ForArray a (n + 1) body) rest))))
+    settled (alone (turning (slice_index_or items n Null) body (with_execution c (in_turn (nat_lt (n + 1) (length items)) (ForArray a (n + 1) body) rest))))
 stepping (ForString t n body ∷ rest) c =
     let bytes = bytes_of c.store t in
-    settled (alone (turning (Int (pos (slice_index_or bytes n 0))) body (with_execution c (going_on (n + 1) (length bytes) (ForString t (n + 1) body) rest))))
+    settled (alone (turning (Int (pos (slice_index_or bytes n 0))) body (with_execution c (in_turn (nat_lt (n + 1) (length bytes)) (ForString t (n + 1) body) rest))))
 stepping (ForDict d n body ∷ rest) c =
     let pairs = entries_of c.store d in
-    settled (alone (turning_pair (slice_get pairs n) body (with_execution c (going_on (n + 1) (length pairs) (ForDict d (n + 1) body) rest))))
+    settled (alone (turning_pair (slice_get pairs n) body (with_execution c (in_turn (nat_lt (n + 1) (length pairs)) (ForDict d (n + 1) body) rest))))
 stepping (Loop body ∷ rest) c = settled (alone (at c (calling body c)))
+stepping (LastTurn ∷ rest) c = stepping rest (with_execution c rest)
 
 abbrev pub step : PsCore → Outcome
 step c = stepping c.execution c

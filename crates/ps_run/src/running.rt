@@ -2,10 +2,10 @@
 
 ghost use Rattle.ps_store.specs.Store.{closed_part};
 ghost use Rattle.std.specs.Prelude.{◌≡◌, ◌≢◌, ◌≤◌, ◌-◌, [], ◌∷◌, Err};
-ghost use Rattle.ps_step.specs.declared.fault.PsFault.TheVariants.{NoMemory as OutOfMemory};
+ghost use Rattle.ps_step.specs.declared.fault.PsFault.TheVariants.{NoMemory as OutOfMemory, Spent as OutOfSteps};
 ghost use Rattle.ps_step.specs.declared.item.Item.TheVariants.{Object};
 ghost use Rattle.ps_step.specs.State.{with_execution};
-ghost use Rattle.ps_run.specs.Runs.{Asked, Runs, RunsObject};
+ghost use Rattle.ps_run.specs.Runs.{Asked, Runs, RunsObject, TellsSteps, fault_with};
 
 use crate::dialect::{Dialect, Steps};
 use crate::step::{Progress, raise, step};
@@ -22,7 +22,8 @@ fn ask<D: Dialect>(
     steps: &mut Steps,
 ) -> Result<(), PsFault>
     requires { steps.old.taken ≤ steps.old.limit }
-    ensures closed { closed_part core.new.store ≡ closed_part core.old.store }
+    ensures closed { D.remains (closed_part core.old.store) (closed_part core.new.store) }
+    ensures spent { result ≡ Err OutOfSteps → steps.new.taken ≡ steps.new.limit }
     ensures asked { Asked D.operates dialect.old core.old op (steps.old.limit - steps.old.taken) result dialect.new core.new (steps.new.limit - steps.new.taken) }
     ensures limit { steps.new.limit ≡ steps.old.limit }
     ensures within { steps.new.taken ≤ steps.new.limit }
@@ -37,13 +38,31 @@ fn ask<D: Dialect>(
     }
 }
 
+/// What a fault is told as: where no step is left they are spent.
+#[tactic(auto, using(crate::proofs::Going::spent_with, crate::proofs::Going::error_with, crate::proofs::Going::fault_kept))]
+fn told(fault: PsFault, steps: &Steps) -> PsFault
+    ensures { result ≡ fault_with (steps.now.limit - steps.now.taken) fault }
+{
+    match fault {
+        PsFault::Error(_) => {
+            if steps.taken < steps.limit {
+                fault
+            } else {
+                PsFault::Spent
+            }
+        }
+        _ => fault,
+    }
+}
+
 /// Makes steps until nothing is left to be executed, or the steps are spent.
 fn go<D: Dialect>(core: &mut PsCore, dialect: &mut D, steps: &mut Steps) -> Result<(), PsFault>
     requires { steps.old.taken ≤ steps.old.limit }
     ensures limit { steps.new.limit ≡ steps.old.limit }
     ensures within { steps.new.taken ≤ steps.new.limit }
     ensures more { steps.old.taken ≤ steps.new.taken }
-    ensures closed { closed_part core.new.store ≡ closed_part core.old.store }
+    ensures closed { D.remains (closed_part core.old.store) (closed_part core.new.store) }
+    ensures told { TellsSteps result (steps.new.limit - steps.new.taken) }
     ensures runs { result ≢ Err OutOfMemory → Runs D.operates (steps.old.limit - steps.old.taken) dialect.old core.old result (steps.new.limit - steps.new.taken) dialect.new core.new }
 {
     while steps.taken < steps.limit {
@@ -53,12 +72,12 @@ fn go<D: Dialect>(core: &mut PsCore, dialect: &mut D, steps: &mut Steps) -> Resu
             Ok(Progress::Asked(op)) => {
                 steps.taken += 1;
                 if let Err(fault) = ask(core, dialect, op, steps) {
-                    return Err(fault);
+                    return Err(told(fault, steps));
                 }
             }
             Err(fault) => {
                 steps.taken += 1;
-                return Err(fault);
+                return Err(told(fault, steps));
             }
         }
     }
@@ -77,7 +96,8 @@ fn start<D: Dialect>(
     ensures limit { steps.new.limit ≡ steps.old.limit }
     ensures within { steps.new.taken ≤ steps.new.limit }
     ensures more { steps.old.taken ≤ steps.new.taken }
-    ensures closed { closed_part core.new.store ≡ closed_part core.old.store }
+    ensures closed { D.remains (closed_part core.old.store) (closed_part core.new.store) }
+    ensures told { TellsSteps result (steps.new.limit - steps.new.taken) }
     ensures runs { result ≢ Err OutOfMemory → Runs D.operates (steps.old.limit - steps.old.taken) dialect.old (with_execution core.old (Object what ∷ [])) result (steps.new.limit - steps.new.taken) dialect.new core.new }
 {
     core.execution.push(Item::Object(what))?;
@@ -86,9 +106,10 @@ fn start<D: Dialect>(
 
 /// Runs an object on an execution stack of its own, and puts back the one that it found.
 ///
-/// Error comes exactly where the step's definition raises one that no `stopped` of this run catches, Spent exactly where
-/// the steps reach their limit, and Link where an operator of the dialect answers it. Whatever comes, what is closed of
-/// the store is as before.
+/// Error comes exactly where the step's definition raises one that no `stopped` of this run catches and steps are left,
+/// Spent exactly where the steps reach their limit, and Link where an operator of the dialect answers it. Whatever comes,
+/// also where memory runs out, what is closed of the store has become only what the dialect says (`remains`): under
+/// `NoDialect` it is as before.
 pub fn run<D: Dialect>(
     core: &mut PsCore,
     dialect: &mut D,
@@ -100,7 +121,8 @@ pub fn run<D: Dialect>(
     ensures within { steps.new.taken ≤ steps.new.limit }
     ensures more { steps.old.taken ≤ steps.new.taken }
     ensures kept { core.new.execution ≡ core.old.execution }
-    ensures closed { closed_part core.new.store ≡ closed_part core.old.store }
+    ensures closed { D.remains (closed_part core.old.store) (closed_part core.new.store) }
+    ensures told { TellsSteps result (steps.new.limit - steps.new.taken) }
     ensures runs { RunsObject D.operates (steps.old.limit - steps.old.taken) what dialect.old core.old result (steps.new.limit - steps.new.taken) dialect.new core.new }
 {
     let outer = core.execution.take_all();

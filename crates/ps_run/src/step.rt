@@ -133,7 +133,7 @@ fn step_repeat(core: &mut PsCore, left: u32, body: ArrayId) -> Result<Progress, 
     if 1 < left {
         core.execution.set_top(Item::Repeat(left - 1, body));
     } else {
-        core.execution.take(1);
+        core.execution.set_top(Item::LastTurn);
     }
     match core.call(body) {
         Ok(()) => Ok(Progress::Went),
@@ -184,7 +184,7 @@ fn step_for(
 {
     match number_after(next, by, limit) {
         Some(after) => core.execution.replace(1, Item::For(after, by, limit, body)),
-        None => core.execution.take(1),
+        None => core.execution.replace(1, Item::LastTurn),
     }
     make_turn(core, PsObj::Int(next), body)
 }
@@ -203,7 +203,7 @@ fn step_array(core: &mut PsCore, a: ArrayId, at: usize, body: ArrayId) -> Result
     if at < items.len() && at + 1 < items.len() {
         core.execution.replace(1, Item::ForArray(a, at + 1, body));
     } else {
-        core.execution.take(1);
+        core.execution.replace(1, Item::LastTurn);
     }
     make_turn(core, x, body)
 }
@@ -227,7 +227,7 @@ fn step_string(
     if at < bytes.len() && at + 1 < bytes.len() {
         core.execution.replace(1, Item::ForString(t, at + 1, body));
     } else {
-        core.execution.take(1);
+        core.execution.replace(1, Item::LastTurn);
     }
     make_turn(core, PsObj::Int(i32::from(byte)), body)
 }
@@ -276,7 +276,7 @@ fn step_dict(core: &mut PsCore, d: DictId, at: usize, body: ArrayId) -> Result<P
     if at < count && at + 1 < count {
         core.execution.replace(1, Item::ForDict(d, at + 1, body));
     } else {
-        core.execution.take(1);
+        core.execution.replace(1, Item::LastTurn);
     }
     match turn_pair(core, pair, body) {
         Ok(()) => Ok(Progress::Went),
@@ -304,8 +304,8 @@ fn step_loop(core: &mut PsCore, body: ArrayId) -> Result<Progress, PsFault>
     }
 }
 
-/// Makes one step. Where the object of a `stopped` has ended it leaves false, and where a text has ended it is dropped:
-/// the step is what comes then.
+/// Makes one step. Where the object of a `stopped` has ended it leaves false, and where a text or the last turn of a loop
+/// has ended it is dropped: the step is what comes then.
 #[tactic(auto, using(crate::proofs::Tops::full_guard, crate::proofs::Tops::ended_at))]
 pub fn step(core: &mut PsCore) -> Result<Progress, PsFault>
     ensures steps { Steps result core.new (step core.old) }
@@ -339,6 +339,7 @@ pub fn step(core: &mut PsCore) -> Result<Progress, PsFault>
             Item::ForString(t, at, body) => return step_string(core, t, at, body),
             Item::ForDict(d, at, body) => return step_dict(core, d, at, body),
             Item::Loop(body) => return step_loop(core, body),
+            Item::LastTurn => core.execution.take(1),
         }
     }
     Ok(Progress::Ended)

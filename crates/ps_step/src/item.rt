@@ -28,6 +28,8 @@ pub enum Item {
     ForDict(DictId, usize, ArrayId),
     /// `loop`.
     Loop(ArrayId),
+    /// A loop in its last turn: `exit` leaves the loop here.
+    LastTurn,
     /// Where `stopped` began.
     Stopped,
 }

@@ -10,3 +10,5 @@ pub mod Held
 pub mod Cut
 pub mod StoreState
 pub mod Store
+pub mod Settled
+pub mod Extends

@@ -61,13 +61,16 @@ has_room s cost = nat_le (s.table.units + s.command.units + cost) 8000000
 abbrev pub text_units : List ℕ → ℕ
 text_units text = 1 + (length text + 15) / 16
 
--- the closed objects: the first arrays, dictionaries and strings of the table's part
+-- the closed objects, which are the first arrays, dictionaries and strings of the table's part
 abbrev pub closed_part : StoreState → Closed
 closed_part s = record {
   arrays = take s.closed.arrays s.table.arrays;
   dicts = take s.closed.dicts s.table.dicts;
   strings = take s.closed.strings s.table.strings;
   mark = s.closed;
+  part = s.part;
+  base = s.base;
+  top = s.top;
 }
 
 -- a mark of the table's part is not below what is closed
@@ -75,6 +78,7 @@ pub record IsAbove (closed mark : Mark) : Type 0 where
   pub arrays : closed.arrays ≤ mark.arrays
   pub dicts : closed.dicts ≤ mark.dicts
   pub strings : closed.strings ≤ mark.strings
+  pub units : closed.units ≤ mark.units
 
 abbrev pub KeepsClosedIn : Part → Mark → Mark → Type 0
 KeepsClosedIn Table closed mark = IsAbove closed mark

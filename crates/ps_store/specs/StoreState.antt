@@ -17,9 +17,13 @@ pub record StoreState : Type 0 where
   pub base : List DictId
   pub top : Option DictId
 
--- what is closed of a store, and how much that is
+-- What is closed of a store, how much that is, and what only the store's owner changes: the part in which objects are made,
+-- the base dictionaries and the top dictionary.
 pub record Closed : Type 0 where
   pub arrays : List (List PsObj)
   pub dicts : List (List (Key × PsObj))
   pub strings : List (List ℕ)
   pub mark : Mark
+  pub part : Part
+  pub base : List DictId
+  pub top : Option DictId

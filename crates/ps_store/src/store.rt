@@ -31,7 +31,7 @@ impl Model for PsStore {
 
     ghost view = { λ s. record { table = s.table; command = s.command; part = s.part; closed = s.closed; base = s.base.items; top = s.top } };
 
-    ghost invariant = { λ s. (s.table.units + s.command.units ≤ 8000000) × (s.closed.arrays ≤ length s.table.arrays) × (s.closed.dicts ≤ length s.table.dicts) × (s.closed.strings ≤ length s.table.strings) };
+    ghost invariant = { λ s. (s.table.units + s.command.units ≤ 8000000) × (s.closed.arrays ≤ length s.table.arrays) × (s.closed.dicts ≤ length s.table.dicts) × (s.closed.strings ≤ length s.table.strings) × (s.closed.units ≤ s.table.units) };
 }
 
 /// The most elements of an array, and pairs of a dictionary.
@@ -53,6 +53,7 @@ impl PsStore {
     ghost use Rattle.ps_store.specs.Operators.{operator_number};
     ghost use Rattle.ps_store.specs.Cut.{mark_of, cut, IsMark};
     ghost use Rattle.ps_store.specs.Store.{KeepsClosed, is_deferred, held, with_held, with_entries, elements_of, entries_of, bytes_of, is_closed, has_room, making_array, making_nulls, writing_elements, putting_element, making_dict, making_text, making_string, making_zeros, making_name, text_units, writing_bytes, putting_value, putting_under_text, new_store, Does, Changes, closed_part};
+    ghost use Rattle.ps_store.specs.Settled.{Settled};
     ghost use Rattle.indexmap.specs.IndexMap.{set_value_at};
 
     /// A store with the table's part in use and one base dictionary, which is empty.
@@ -491,7 +492,8 @@ impl PsStore {
     /// Puts a value in place of the executable string under a key, in a closed dictionary too.
     pub fn settle(&mut self, d: DictId, key: &Key, value: PsObj)
         requires { IsTrue (is_deferred (value_at (entries_of self.old d) key.now)) }
-        ensures { self.new ≡ with_entries self.old d (with_value (entries_of self.old d) key.now value) }
+        ensures entries { self.new ≡ with_entries self.old d (with_value (entries_of self.old d) key.now value) }
+        ensures settled { Settled (closed_part self.old) (closed_part self.new) }
     {
         if let Some(at) = self.held(d.part).place_of(d.index, key) {
             self.replace_value(d, at, value);
@@ -544,7 +546,8 @@ impl PsStore {
 
     /// Makes all present objects of the table's part read-only.
     pub fn close_all(&mut self)
-        ensures { self.new ≡ record self.old { closed = mark_of self.old.table } }
+        ensures all { self.new ≡ record self.old { closed = mark_of self.old.table } }
+        ensures settled { Settled (closed_part self.old) (closed_part self.new) }
     {
         self.closed = self.table.mark();
     }
@@ -553,6 +556,7 @@ impl PsStore {
     pub fn mark(&self) -> Mark
         ensures mark { result ≡ mark_of (held self.now self.now.part) }
         ensures counted { IsMark result }
+        ensures keeps { KeepsClosed self.now result }
     {
         self.held(self.part).mark()
     }

@@ -1,49 +1,17 @@
--- Two programs in slot code that are well formed, and some that are not.
-use Rattle.std.proofs.Common.{◌≡◌, [], ◌∷◌, false, ℕ, arith, lit<, lit≤, inl, inr}
+-- Slot code that is not well formed.
+use Rattle.std.proofs.Common.{◌≡◌, [], ◌∷◌, ℕ, arith}
 use Rattle.std.specs.Prelude.{codes}
-use Rattle.ldb_words.specs.declared.kinds.Kind.TheVariants.{Byte, Word}
+use Rattle.ldb_words.specs.declared.kinds.Kind.TheVariants.{Word}
 use Rattle.slot_ir.specs.declared.code.SlotCode.{SlotCode}
 use Rattle.slot_ir.specs.declared.code.SlotLocal.{SlotLocal}
-use Rattle.slot_ir.specs.declared.code.Home.TheVariants.{Block, Register}
+use Rattle.slot_ir.specs.declared.code.Home.TheVariants.{Register}
 use Rattle.slot_ir.specs.declared.code.Access.TheVariants as access
 use Rattle.slot_ir.specs.declared.code.WordOp.TheVariants as word
-use Rattle.slot_ir.specs.declared.code.SlotOp.TheVariants.{Const, TextAddress, LocalAddress, Load, Store, ReadRegister, Binary, Index, Jump, JumpIfZero, Call, Return, Stop, Zero, Leave, GetChar, PutChar, Exit}
+use Rattle.slot_ir.specs.declared.code.SlotOp.TheVariants.{ReadRegister, Binary, Call, Return, Stop, Leave, GetChar, PutChar, Exit}
 use Rattle.slot_ir.specs.WellFormed.{IsWellFormed}
-
-abbrev a_word : SlotLocal
-a_word = record { home = Block; access = access.Word; size = 4; leaves = record { at = 0; kind = Word } ∷ [] }
 
 abbrev in_register : SlotLocal
 in_register = record { home = Register 0; access = access.Word; size = 4; leaves = record { at = 0; kind = Word } ∷ [] }
-
--- int main(void) { int x = 3; while (x) { putchar("0123"[x]); x = x - 1; } return 7; }
-abbrev counting : SlotCode
-counting = record {
-  functions = record {
-    name = codes "main";
-    params = 0;
-    locals = a_word ∷ [];
-    temporaries = 3;
-    points = 0 ∷ 1 ∷ 2 ∷ 3 ∷ 4 ∷ 5 ∷ [];
-    places = 0 ∷ 2 ∷ 6 ∷ 10 ∷ 17 ∷ 26 ∷ [];
-    code =
-        Stop 0 ∷ Zero 0
-        ∷ Stop 1 ∷ LocalAddress 0 0 ∷ Const 1 3 ∷ Store 0 1 Word
-        ∷ Stop 2 ∷ LocalAddress 0 0 ∷ Load 0 0 Word access.Word ∷ JumpIfZero 0 23
-        ∷ Stop 3 ∷ TextAddress 0 0 ∷ LocalAddress 1 0 ∷ Load 1 1 Word access.Word ∷ Index 0 0 1 1 false false ∷ Load 0 0 Byte access.SignedByte ∷ PutChar 0
-        ∷ Stop 4 ∷ LocalAddress 0 0 ∷ Load 1 0 Word access.Word ∷ Const 2 1 ∷ Binary 1 1 2 word.Subtract ∷ Jump 28
-        ∷ Const 0 7 ∷ Jump 25
-        ∷ Leave 1 ∷ Stop 5 ∷ Return 0
-        ∷ Store 0 1 Word ∷ Jump 6 ∷ [];
-  } ∷ [];
-  main = 0;
-  objects = [];
-  strings = codes "0123" ∷ [];
-  structs = [];
-}
-
-counting_formed : IsWellFormed counting
-counting_formed = Prim.search (lit<, lit≤, inl, inr) depth 8
 
 -- int twice(register int x) { putchar(x); return x + x; }  int main(void) { exit(twice(getchar())); }, whose caller hands over so many arguments
 abbrev calling : ℕ → SlotCode
@@ -73,9 +41,6 @@ calling arguments = record {
   structs = [];
 }
 
-calling_formed : IsWellFormed (calling 1)
-calling_formed = Prim.search (lit<, lit≤, inl, inr)
-
 -- a call without its argument is not
 calling_none : IsWellFormed (calling 0) → ⊥
-calling_none h = let e : 0 ≡ 1 = h.1.1.0.4.1.1.1.0.2.0 in omega (arith, e)
+calling_none h = let e : 0 ≡ 1 = h.1.1.0.6.1.1.1.0.2.0 in omega (arith, e)

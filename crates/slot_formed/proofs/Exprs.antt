@@ -1,5 +1,5 @@
 -- The code of a well-typed expression names what is there, and its jumps land inside the function.
-use Rattle.std.proofs.Common.{◌≡◌, refl, sym, ap, ◌∙◌, ℕ, suc, ◌+◌, ◌<◌, List, [], ◌∷◌, ◌++◌, length, Bool, true, false, not, ◌&&◌, ◌||◌, Option, Some, None, true≢false, slice_get, ◌⊎◌, inl, inr}
+use Rattle.std.proofs.Common.{◌≡◌, refl, sym, ap, ◌∙◌, ℕ, suc, ◌+◌, ◌<◌, List, [], ◌∷◌, ◌++◌, length, Bool, true, false, not, ◌&&◌, ◌||◌, Option, Some, None, true≢false, slice_get, ◌⊎◌, inl, inr, arith, ◌^◌}
 use Rattle.std.specs.Prelude.{if◌then◌else◌}
 use Rattle.c_tree.specs.declared.types.CType.{CType}
 use Rattle.c_tree.specs.declared.types.CType.TheVariants as ctype
@@ -24,7 +24,7 @@ use Rattle.slot_ir.specs.declared.code.SlotOp.{SlotOp}
 use Rattle.slot_ir.specs.declared.code.SlotOp.TheVariants as op
 use Rattle.slot_gen.specs.Expressions.{is_scalar, access_of, cast_code, load_code, combine_op, choice_code, and_code, or_code, unless_register, name_code, write_at, update_at, register_in, register_inside, expr_code, place_code, row_code}
 use Rattle.slot_formed.proofs.Lists.{no_none, and_parts, or_parts, map_some, below_length}
-use Rattle.slot_formed.proofs.Sizes.{Formed}
+use Rattle.slot_formed.proofs.Sizes.{Formed, formed, formed_size, size_plain}
 use Rattle.slot_formed.proofs.Types.{type_formed}
 use Rattle.slot_formed.proofs.Good.{G, Small, Apart, behind, cast_good, load_good, combine_good, read_good, write_good, update_good, unless_good, choice_good, and_good, or_good}
 use Rattle.slot_formed.proofs.Names.{small_type, binary_apart, integer_target, integer_apart, add_apart, dot_small, arrow_small, registers_in, no_scalar, inside_parens, name_good, addressed, enter_good, member_struct}

@@ -15,8 +15,10 @@ use Rattle.c_tree.specs.declared.rows.Local.{Local}
 use Rattle.c_tree.specs.Layout.{size_of, leaves_of}
 use Rattle.c_tree.specs.Ordered.{LieIn}
 use Rattle.c_tree.specs.Points.{points_in}
-use Rattle.c_source.specs.Blocks.{declared_in, statements_in, locals_in as rows_in}
-use Rattle.c_source.specs.Control.{first_of, last_of, outermost_of}
+use Rattle.c_source.specs.Blocks.{locals_in as rows_in}
+use Rattle.c_tree.specs.Rows.{declared_in, statements_in}
+use Rattle.c_source.specs.Control.{outermost_of}
+use Rattle.c_tree.specs.Points.{first_of, last_of}
 use Rattle.c_source.specs.Begin.{main_from}
 use Rattle.c_typing.specs.Plain.{plain, same, Int, is_scalar}
 use Rattle.c_typing.specs.Declared.{local_type}

@@ -19,7 +19,7 @@ use Rattle.c_tree.specs.declared.rows.Start.{Start}
 use Rattle.c_tree.specs.declared.rows.Start.TheVariants as start
 use Rattle.c_tree.specs.Layout.{size_of, leaves_of, IsWithin}
 use Rattle.c_tree.specs.Ordered.{width_of, LieIn, IsAligned}
-use Rattle.c_store.specs.Bits.{low_byte}
+use Rattle.c_operators.specs.Bits.{low_byte}
 use Rattle.c_source.specs.Begin.{main_from}
 use Rattle.c_typing.specs.Plain.{plain, is_scalar}
 use Rattle.c_typing.specs.Declared.{local_type}

@@ -161,14 +161,14 @@ module _ (c : SlotCode) (defs : List StructDef) (same : c.structs ≡ struct_row
 
   -- ---- how deep they nest
 
+  all_deeper : (deep : ℕ) → ((i : SlotItem) → NestsWithin c deep i → NestsWithin c (suc deep) i) → (ms : List SlotMember) → AllByRecursion (λ (m : SlotMember). NestsWithin c deep m.item) ms → AllByRecursion (λ (m : SlotMember). NestsWithin c (suc deep) m.item) ms
+  all_deeper deep go [] h = tt
+  all_deeper deep go (m ∷ ms) h = (go m.item h.0, all_deeper deep go ms h.1)
+
   more_deep : (deep : ℕ) (i : SlotItem) → NestsWithin c deep i → NestsWithin c (suc deep) i
   more_deep deep (an_item.Scalar k) h = tt
   more_deep zero (an_item.Struct s) h = absurd h
-  more_deep (suc deep) (an_item.Struct s) h = all (members_by (slice_get c.structs s)) h
-    where
-      all : (ms : List SlotMember) → AllByRecursion (λ (m : SlotMember). NestsWithin c deep m.item) ms → AllByRecursion (λ (m : SlotMember). NestsWithin c (suc deep) m.item) ms
-      all [] h = tt
-      all (m ∷ ms) h = (more_deep deep m.item h.0, all ms h.1)
+  more_deep (suc deep) (an_item.Struct s) h = all_deeper deep (more_deep deep) (members_by (slice_get c.structs s)) h
 
   members_nest : (deep : ℕ) → ((t : CType) → IsWithin defs deep t → NestsWithin c deep (item_of t)) → (ms : List Member) → AllByRecursion (λ (m : Member). IsWithin defs deep m.ctype) ms
       → AllByRecursion (λ (m : SlotMember). NestsWithin c deep m.item) (map member_of ms)

@@ -10,7 +10,8 @@ use Rattle.c_tree.specs.declared.typed.Stmt.TheVariants.{Value, Block', If', Whi
 use Rattle.c_tree.specs.declared.rows.Program.{Program}
 use Rattle.c_tree.specs.declared.rows.Function.{Function}
 use Rattle.c_tree.specs.Types.{kind_of}
-use Rattle.c_source.specs.Blocks.{local_type, result_type, declared_in, statements_in}
+use Rattle.c_source.specs.Blocks.{local_type, result_type}
+use Rattle.c_tree.specs.Rows.{declared_in, statements_in}
 use Rattle.c_source.specs.Control.{outermost_of}
 use Rattle.slot_ir.specs.declared.code.Access.{Access}
 use Rattle.slot_ir.specs.declared.code.Access.TheVariants as access

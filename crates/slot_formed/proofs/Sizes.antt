@@ -87,7 +87,7 @@ members_some defs deep f [] n h k = absurd (true≢false (sym n))
 members_some defs deep f (m ∷ ms) n h k = leaves_moved m.at (leaves_within defs deep m.ctype) _ (f m.ctype h.0 k.0.1)
 
 module _ (defs : List StructDef) (structs : AllFrom (IsStruct defs) 0 defs) where
-  struct_there : (s : ℕ) (d : StructDef) → slice_get defs s ≡ Some d → IsStruct defs s d
+  pub struct_there : (s : ℕ) (d : StructDef) → slice_get defs s ≡ Some d → IsStruct defs s d
   struct_there s d e = each_at_zero (IsStruct defs) defs s d structs e
 
   pub laid_out : AllLaidOut defs

@@ -1,5 +1,5 @@
 -- The code of a well-typed statement and of a function names what is there, and its jumps land inside the function.
-use Rattle.std.proofs.Common.{◌≡◌, refl, sym, ap, subst, ◌∙◌, arith, ℕ, suc, ◌+◌, ◌<◌, ◌≤◌, List, [], ◌∷◌, ◌++◌, length, length-append, Bool, true, false, Option, Some, None, slice_get}
+use Rattle.std.proofs.Common.{◌≡◌, refl, sym, ap, subst, ◌∙◌, arith, ℕ, suc, ◌+◌, ◌<◌, ◌≤◌, List, [], ◌∷◌, ◌++◌, length, length-append, Bool, true, false, Option, Some, None, slice_get, ◌^◌}
 use Rattle.std.specs.Prelude.{if◌then◌else◌}
 use Rattle.std.specs.List.{AllByRecursion}
 use Rattle.c_tree.specs.declared.types.CType.{CType}
@@ -14,7 +14,8 @@ use Rattle.c_tree.specs.Rows.{stmts}
 use Rattle.c_tree.specs.Layout.{size_of, leaves_of}
 use Rattle.c_tree.specs.Ordered.{LieIn}
 use Rattle.c_tree.specs.Points.{points_in, points_in_row, points_in_else}
-use Rattle.c_source.specs.Blocks.{local_type, result_type, declared_in, statements_in}
+use Rattle.c_source.specs.Blocks.{local_type, result_type}
+use Rattle.c_tree.specs.Rows.{declared_in, statements_in}
 use Rattle.c_typing.specs.Plain.{Plain, plain}
 use Rattle.c_typing.specs.Statements.{Around as Stands, in_function, in_loop as looped, in_switch as switched, inside, local_numbers, IsTestOrNone, IsDropped, IsInitializer, AreInitialized, IsStatement, AreStatements, IsElse, IsSwitched, locals_of, locals_of_row, locals_of_else}
 use Rattle.c_typing.specs.Accepted.{numbers, IsBlock, IsAccepted}

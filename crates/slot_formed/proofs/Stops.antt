@@ -9,7 +9,7 @@ use Rattle.c_tree.specs.declared.typed.Stmt.TheVariants.{Value, Block', If', Whi
 use Rattle.c_tree.specs.declared.rows.Program.{Program}
 use Rattle.c_tree.specs.Rows.{stmts}
 use Rattle.c_tree.specs.Points.{points_in, points_in_row, points_in_else}
-use Rattle.c_source.specs.Blocks.{declared_in, statements_in}
+use Rattle.c_tree.specs.Rows.{declared_in, statements_in}
 use Rattle.c_typing.specs.Plain.{Plain}
 use Rattle.c_typing.specs.Statements.{Around as Stands, in_loop as looped, in_switch as switched, inside, local_numbers, IsStatement, AreStatements, IsElse, IsSwitched}
 use Rattle.c_typing.specs.Accepted.{IsBlock}

@@ -18,7 +18,8 @@ use Rattle.c_tree.specs.declared.rows.Referent.TheVariants.{Object, Local, Funct
 use Rattle.c_tree.specs.Rows.{exprs, stmts}
 use Rattle.c_tree.specs.Types.{type_of, target_of, is_array, is_struct, kind_of}
 use Rattle.c_tree.specs.Points.{points_in, points_in_row, points_in_else}
-use Rattle.c_source.specs.Blocks.{declared_in, statements_in, local_type, result_type}
+use Rattle.c_source.specs.Blocks.{local_type, result_type}
+use Rattle.c_tree.specs.Rows.{declared_in, statements_in}
 use Rattle.c_source.specs.Source.{struct_number, stepping}
 use Rattle.slot_ir.specs.declared.code.Access.{Access}
 use Rattle.slot_ir.specs.declared.code.Access.TheVariants as access
@@ -54,6 +55,9 @@ pub times_append : (q : ℕ) (a b : List ℕ) → times q (a ++ b) ≡ times q a
 times_append q [] b = omega arith
 times_append q (r ∷ a) b = omega (arith, times_append q a b)
 
+past : {n : ℕ} → n ≡ 0 → 0 + n ≡ 0
+past h = omega (arith, h)
+
 module _ (q : ℕ) where
   abbrev None_in : List SlotOp → Type 0
   None_in l = stops q l ≡ 0
@@ -63,7 +67,7 @@ module _ (q : ℕ) where
 
   -- an operator that is no stop, and then others
   op_none : (o : SlotOp) (rest : List SlotOp) → is_stop q o ≡ false → None_in rest → None_in (o ∷ rest)
-  op_none o rest e x = ap (λ b. one b + stops q rest) e ∙ x
+  op_none o rest e x = let z : one (is_stop q o) ≡ 0 = ap one e in omega (arith, z, x)
 
   cast_none : (d : ℕ) (a : Access) → None_in (converting d a)
   cast_none d access.Word = refl
@@ -173,24 +177,29 @@ module _ (q : ℕ) where
 
       update_none : (d : ℕ) (o : Option ℕ) (t : CType) (b : BinaryOp) (s : CType) (new : Bool) → None_in (update_at p f d o t b s new)
       update_none d None t b s new =
-          op_none _ _ (combine_none (suc d) (suc (suc d)) (suc d) b t s) (both_none (cast_code (suc d) t) _ (cast_none (suc d) (access_of t)) refl)
+          past (op_none (combine_op p (suc d) (suc (suc d)) (suc d) b t s) (cast_code (suc d) t ++ (op.Store d (suc d) (kind_of t) ∷ op.Take d (if new then suc d else suc (suc d)) ∷ [])) (combine_none (suc d) (suc (suc d)) (suc d) b t s) (both_none (cast_code (suc d) t) (op.Store d (suc d) (kind_of t) ∷ op.Take d (if new then suc d else suc (suc d)) ∷ []) (cast_none (suc d) (access_of t)) refl))
       update_none d (Some x) t b s new =
-          op_none _ _ (combine_none (suc d) (suc (suc d)) (suc d) b t s) (both_none (cast_code (suc d) t) _ (cast_none (suc d) (access_of t)) refl)
+          past (op_none (combine_op p (suc d) (suc (suc d)) (suc d) b t s) (cast_code (suc d) t ++ (op.WriteRegister (suc d) x (kind_of t) ∷ op.Take d (if new then suc d else suc (suc d)) ∷ [])) (combine_none (suc d) (suc (suc d)) (suc d) b t s) (both_none (cast_code (suc d) t) (op.WriteRegister (suc d) x (kind_of t) ∷ op.Take d (if new then suc d else suc (suc d)) ∷ []) (cast_none (suc d) (access_of t)) refl))
 
       combined_none : (d : ℕ) (o : BinaryOp) (s t : CType) → None_in (combine_op p d d (suc d) o s t ∷ [])
       combined_none d o s t = op_none _ [] (combine_none d d (suc d) o s t) refl
 
       choice_none : (at d : ℕ) (a b : List SlotOp) → None_in a → None_in b → None_in (choice_code at d a b)
-      choice_none at d a b x y = both_none a _ x y
+      choice_none at d a b x y = past (both_none a (op.Jump (at + 1 + length a + 1 + length b) ∷ b) x (past y))
+
+      assign_none : (a b : Typed) (at d : ℕ) (c : Bool) → None_in (place_code p f at d a) → None_in (place_code p f (at + length (place_code p f at d a)) (suc d) b)
+          → None_in (expr_code p f (at + length (unless_register (register_in p f a) (place_code p f at d a))) (suc d) b)
+          → None_in (if c then place_code p f at d a ++ (place_code p f (at + length (place_code p f at d a)) (suc d) b ++ op.Move d (suc d) (struct_number (type_of a)) ∷ op.Const d 0 ∷ []) else unless_register (register_in p f a) (place_code p f at d a) ++ (expr_code p f (at + length (unless_register (register_in p f a) (place_code p f at d a))) (suc d) b ++ write_at p f d (register_in p f a) (type_of a)))
+      assign_none a b at d true ca cb eb = both_none (place_code p f at d a) _ ca (both_none (place_code p f (at + length (place_code p f at d a)) (suc d) b) _ cb refl)
+      assign_none a b at d false ca cb eb =
+          both_none (unless_register (register_in p f a) (place_code p f at d a)) _ (unless_none (register_in p f a) _ ca)
+          (both_none (expr_code p f (at + length (unless_register (register_in p f a) (place_code p f at d a))) (suc d) b) _ eb (write_none d (register_in p f a) (type_of a)))
 
       mutual
         expr_none : (e : Typed) (at d : ℕ) → None_in (expr_code p f at d e)
         expr_none (Comma' h x a y b) at d = both_none (expr_code p f at d a) _ (expr_none a at d) (expr_none b _ d)
-        expr_none (Assign' h x a None y b) at d = by (is_struct (type_of a))
-          where
-            by : (c : Bool) → None_in (if c then place_code p f at d a ++ (place_code p f (at + length (place_code p f at d a)) (suc d) b ++ op.Move d (suc d) (struct_number (type_of a)) ∷ op.Const d 0 ∷ []) else unless_register (register_in p f a) (place_code p f at d a) ++ (expr_code p f (at + length (unless_register (register_in p f a) (place_code p f at d a))) (suc d) b ++ write_at p f d (register_in p f a) (type_of a)))
-            by true = both_none (place_code p f at d a) _ (place_none a at d) (both_none (place_code p f (at + length (place_code p f at d a)) (suc d) b) _ (place_none b _ (suc d)) refl)
-            by false = both_none (unless_register (register_in p f a) (place_code p f at d a)) _ (unless_none (register_in p f a) _ (place_none a at d)) (both_none _ _ (expr_none b _ (suc d)) (write_none d (register_in p f a) (type_of a)))
+        expr_none (Assign' h x a None y b) at d =
+            assign_none a b at d (is_struct (type_of a)) (place_none a at d) (place_none b (at + length (place_code p f at d a)) (suc d)) (expr_none b (at + length (unless_register (register_in p f a) (place_code p f at d a))) (suc d))
         expr_none (Assign' h x a (Some o) y b) at d =
             both_none (unless_register (register_in p f a) (place_code p f at d a)) _ (unless_none (register_in p f a) _ (place_none a at d))
             (both_none (expr_code p f (at + length (unless_register (register_in p f a) (place_code p f at d a))) (suc d) b) _ (expr_none b _ (suc d)) (update_none d (register_in p f a) (type_of a) o (type_of b) true))
@@ -199,26 +208,28 @@ module _ (q : ℕ) where
             (choice_none _ d (expr_code p f (at + length (expr_code p f at d c) + 1) d a ++ cast_code d h.ctype) _
             (both_none (expr_code p f (at + length (expr_code p f at d c) + 1) d a) _ (expr_none a _ d) (cast_none d (access_of h.ctype)))
             (both_none (expr_code p f (at + length (expr_code p f at d c) + 1 + length (expr_code p f (at + length (expr_code p f at d c) + 1) d a ++ cast_code d h.ctype) + 1) d b) _ (expr_none b _ d) (cast_none d (access_of h.ctype))))
-        expr_none (Or' h x a y b) at d = both_none (expr_code p f at d a) _ (expr_none a at d) (both_none (expr_code p f (at + length (expr_code p f at d a) + 1) d b) _ (expr_none b _ d) refl)
-        expr_none (And' h x a y b) at d = both_none (expr_code p f at d a) _ (expr_none a at d) (both_none (expr_code p f (at + length (expr_code p f at d a) + 1) d b) _ (expr_none b _ d) refl)
+        expr_none (Or' h x a y b) at d = both_none (expr_code p f at d a) _ (expr_none a at d) (past (both_none (expr_code p f (at + length (expr_code p f at d a) + 1) d b) _ (expr_none b _ d) refl))
+        expr_none (And' h x a y b) at d = both_none (expr_code p f at d a) _ (expr_none a at d) (past (both_none (expr_code p f (at + length (expr_code p f at d a) + 1) d b) _ (expr_none b _ d) refl))
         expr_none (Binary' h x a o y b) at d =
             both_none (expr_code p f at d a) _ (expr_none a at d) (both_none (expr_code p f (at + length (expr_code p f at d a)) (suc d) b) _ (expr_none b _ (suc d)) (combined_none d o (type_of a) (type_of b)))
         expr_none (Cast' h x a) at d = both_none (expr_code p f at d a) _ (expr_none a at d) (cast_none d (access_of h.ctype))
-        expr_none (Before' h o x a) at d = both_none (unless_register (register_in p f a) (place_code p f at d a)) _ (unless_none (register_in p f a) _ (place_none a at d)) (update_none d (register_in p f a) (type_of a) (stepping o) ctype.Int true)
+        expr_none (Before' h o x a) at d = both_none (unless_register (register_in p f a) (place_code p f at d a)) _ (unless_none (register_in p f a) _ (place_none a at d)) ((past (update_none d (register_in p f a) (type_of a) (stepping o) ctype.Int true)))
         expr_none (Address' h x a) at d = place_none a at d
         expr_none (Unary' h o x a) at d = both_none (expr_code p f at d a) _ (expr_none a at d) refl
         expr_none (SizeOf' h x a) at d = refl
         expr_none (SizeOfType h t) at d = refl
         expr_none (Call' h g x row) at d = both_none (row_code p f at d row) _ (row_none row at d) (enter_none d (slice_get p.symbols g) (length (exprs row)))
-        expr_none (After' h x a o) at d = both_none (unless_register (register_in p f a) (place_code p f at d a)) _ (unless_none (register_in p f a) _ (place_none a at d)) (update_none d (register_in p f a) (type_of a) (stepping o) ctype.Int false)
+        expr_none (After' h x a o) at d = both_none (unless_register (register_in p f a) (place_code p f at d a)) _ (unless_none (register_in p f a) _ (place_none a at d)) ((past (update_none d (register_in p f a) (type_of a) (stepping o) ctype.Int false)))
         expr_none (Constant h m) at d = refl
         expr_none (Parens' h x a) at d = expr_none a at d
         expr_none (Name h m) at d =
             both_none (unless_register (register_in p f (Name h m)) (name_code p f d (slice_get p.symbols m))) _ (unless_none (register_in p f (Name h m)) _ (name_none d (slice_get p.symbols m))) (read_none d (register_in p f (Name h m)) h.ctype)
-        expr_none (Literal h m) at d = load_none d h.ctype
+        expr_none (Literal h m) at d = past (load_none d h.ctype)
         expr_none (Follow' h x a) at d = both_none (expr_code p f at d a) _ (expr_none a at d) (load_none d h.ctype)
         expr_none (Index' h x a y b) at d =
-            both_none (place_code p f at d (Index' h x a y b)) _ (place_none (Index' h x a y b) at d) (load_none d h.ctype)
+            both_none (place_code p f at d (Index' h x a y b)) _
+            (both_none (expr_code p f at d a) _ (expr_none a at d) (both_none (expr_code p f (at + length (expr_code p f at d a)) (suc d) b) _ (expr_none b _ (suc d)) (combined_none d Add (type_of a) (type_of b))))
+            (load_none d h.ctype)
         expr_none (Dot' h x a m) at d = both_none (place_code p f at d a ++ _) _ (both_none (place_code p f at d a) _ (place_none a at d) refl) (load_none d h.ctype)
         expr_none (Arrow' h x a m) at d = both_none (expr_code p f at d a ++ _) _ (both_none (expr_code p f at d a) _ (expr_none a at d) refl) (load_none d h.ctype)
 
@@ -268,7 +279,7 @@ module _ (q : ℕ) where
 
       zeros_none : (ds : List DeclaredLocal) → None_in (zeros_code ds)
       zeros_none [] = refl
-      zeros_none (d ∷ ds) = zeros_none ds
+      zeros_none (d ∷ ds) = past (zeros_none ds)
 
       test_few : (at : ℕ) (o : Option Pointed) (end : ℕ) → stops q (test_code p f at o end) ≤ times q (point_of o)
       test_few at None end = omega arith
@@ -278,7 +289,7 @@ module _ (q : ℕ) where
 
       seeks_none : (ls : List Target) → None_in (seek_code ls)
       seeks_none [] = refl
-      seeks_none (l ∷ ls) = seeks_none ls
+      seeks_none (l ∷ ls) = past (seeks_none ls)
 
       loop_few : (at : ℕ) (first : Bool) (t c : Option Pointed) (body : List SlotOp) → stops q (loop_code p f at first t c body) ≤ times q (point_of t) + (times q (point_of c) + stops q body)
       loop_few at first t c body =
@@ -397,21 +408,21 @@ stands_once q (o ∷ l) few (suc i) zero e g = absurd (omega (arith, few, one_se
 stands_once q (o ∷ l) few (suc i) (suc j) e g = ap suc (stands_once q l (omega (arith, few)) i j e g)
 
 -- numbers that follow one another differ
+before_by : (q k rest : ℕ) (b : Bool) → (q == k) ≡ b → q < k → rest ≡ 0 → one b + rest ≡ 0
+before_by q k rest true e lt z = let same = same_number q k e in absurd (omega (arith, lt, same))
+before_by q k rest false e lt z = omega (arith, z)
+
 none_before : (q k n : ℕ) → q < k → times q (numbers k n) ≡ 0
 none_before q k zero lt = refl
-none_before q k (suc n) lt = by (q == k) refl
-  where
-    by : (b : Bool) → (q == k) ≡ b → one b + times q (numbers (suc k) n) ≡ 0
-    by true e = let same = same_number q k e in absurd (omega (arith, lt, same))
-    by false e = omega (arith, none_before q (suc k) n (omega (arith, lt)))
+none_before q k (suc n) lt = before_by q k (times q (numbers (suc k) n)) (q == k) refl lt (none_before q (suc k) n (omega (arith, lt)))
+
+differ_by : (q k rest : ℕ) (b : Bool) → (q == k) ≡ b → (q < suc k → rest ≡ 0) → rest ≤ 1 → one b + rest ≤ 1
+differ_by q k rest true e z h = let same = same_number q k e in let none = z (omega (arith, same)) in omega (arith, none)
+differ_by q k rest false e z h = omega (arith, h)
 
 pub numbers_differ : (q k n : ℕ) → times q (numbers k n) ≤ 1
 numbers_differ q k zero = omega arith
-numbers_differ q k (suc n) = by (q == k) refl
-  where
-    by : (b : Bool) → (q == k) ≡ b → one b + times q (numbers (suc k) n) ≤ 1
-    by true e = let same = same_number q k e in omega (arith, none_before q (suc k) n (omega (arith, same)))
-    by false e = omega (arith, numbers_differ q (suc k) n)
+numbers_differ q k (suc n) = differ_by q k (times q (numbers (suc k) n)) (q == k) refl (none_before q (suc k) n) (numbers_differ q (suc k) n)
 
 -- ---- and so at its listed place alone
 

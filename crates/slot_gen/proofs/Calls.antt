@@ -13,10 +13,12 @@ use Rattle.c_tree.specs.Layout.{size_of, leaves_of}
 use Rattle.runs.specs.Runs.{Goes as GoesOn, Exits, Undefined, Why, IllTyped}
 use Rattle.c_store.specs.Store.{Value, Number, Null, At, Cell, with_first, ◌>>=◌}
 use Rattle.c_store.specs.Frames.{Here, ActivationRecord, with_world, made, new_activation}
-use Rattle.c_source.specs.Blocks.{converted, zero_as, cells_of, local_type, declared_in, statements_in}
+use Rattle.c_source.specs.Blocks.{converted, zero_as, cells_of, local_type}
+use Rattle.c_tree.specs.Rows.{declared_in, statements_in}
 use Rattle.c_source.specs.Blocks as blocks
 use Rattle.c_source.specs.Operators.{bits_in}
-use Rattle.c_source.specs.Control.{Item, State, Activation, Enter, Push, GiveBack, runs_of, body_of, last_of, outermost_of}
+use Rattle.c_source.specs.Control.{Item, State, Activation, Enter, Push, GiveBack, runs_of, body_of, outermost_of}
+use Rattle.c_tree.specs.Points.{last_of}
 use Rattle.c_source.specs.Source as source
 use Rattle.c_source.specs.Begin as sources
 use Rattle.slot_ir.specs.Begin as beginning

@@ -10,7 +10,8 @@ use Rattle.c_tree.specs.Rows.{stmts}
 use Rattle.runs.specs.Runs.{Goes as GoesOn}
 use Rattle.c_store.specs.Store.{Value}
 use Rattle.c_store.specs.Frames.{left}
-use Rattle.c_source.specs.Blocks.{result_type, statements_in}
+use Rattle.c_source.specs.Blocks.{result_type}
+use Rattle.c_tree.specs.Rows.{statements_in}
 use Rattle.c_source.specs.Source.{else_of, no_value}
 use Rattle.c_source.specs.Source as source
 use Rattle.c_source.specs.Control.{Item, Eval, Push, Convert, Discard, Run, Stop, Choose, Open, Close, Again, Select, GiveBack, Round, runs_of, init_of, inits_of, test_of, broken, continued}

@@ -15,7 +15,7 @@ use Rattle.c_tree.specs.Rows.{exprs}
 use Rattle.c_tree.specs.Types.{type_of, kind_of, is_array, is_struct}
 use Rattle.c_store.specs.Store.{Value, Number, At}
 use Rattle.c_store.specs.Frames.{ActivationRecord, bound}
-use Rattle.c_source.specs.Blocks.{statements_in}
+use Rattle.c_tree.specs.Rows.{statements_in}
 use Rattle.c_source.specs.Source.{struct_number}
 use Rattle.c_source.specs.Control.{Item, Eval, Locate, Push, Bound, Load, Convert, Store, Copy, Update, Change, Combine, Offset, Use, Discard, Truth, AndThen, OrElse, Pick, Joined, Enter, Run, Stop, Choose, Open, Close, Turn, Again, Select, Seek, Switched, GiveBack, Leave, Label, runs_of, evals_of}
 use Rattle.slot_ir.specs.declared.code.SlotOp.{SlotOp}

@@ -14,8 +14,10 @@ use Rattle.c_tree.specs.declared.rows.Program.{Program}
 use Rattle.c_tree.specs.declared.rows.Function.{Function}
 use Rattle.c_tree.specs.declared.rows.Local.{Local}
 use Rattle.c_tree.specs.Rows.{stmts}
-use Rattle.c_source.specs.Blocks.{locals_in, result_type, declared_in, statements_in}
-use Rattle.c_source.specs.Control.{first_of, last_of, outermost_of}
+use Rattle.c_source.specs.Blocks.{locals_in, result_type}
+use Rattle.c_tree.specs.Rows.{declared_in, statements_in}
+use Rattle.c_source.specs.Control.{outermost_of}
+use Rattle.c_tree.specs.Points.{first_of, last_of}
 use Rattle.slot_ir.specs.declared.code.SlotOp.{SlotOp}
 use Rattle.slot_ir.specs.declared.code.SlotOp.TheVariants.{Jump, JumpIfZero, JumpIfEqual, Leave, Stop, Return as ReturnOp}
 use Rattle.slot_gen.specs.Expressions.{expr_code, cast_code, choice_code, registers_from, registers_of}

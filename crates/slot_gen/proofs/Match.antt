@@ -10,7 +10,8 @@ use Rattle.runs.proofs.Simulate.{Silent, Answers}
 use Rattle.c_store.specs.Store.{Value}
 use Rattle.c_store.specs.Frames.{Here, ActivationRecord}
 use Rattle.c_store.specs.Assigned.{History}
-use Rattle.c_source.specs.Control.{Item, State, Activation, outermost_of, last_of}
+use Rattle.c_source.specs.Control.{Item, State, Activation, outermost_of}
+use Rattle.c_tree.specs.Points.{last_of}
 use Rattle.c_source.specs.Source as source
 use Rattle.c_source.specs.Begin as sources
 use Rattle.slot_ir.specs.declared.code.SlotCode.{SlotCode}

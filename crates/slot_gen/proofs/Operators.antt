@@ -13,7 +13,8 @@ use Rattle.c_tree.specs.Layout.{size_of}
 use Rattle.runs.specs.Runs.{Why, IllTyped}
 use Rattle.c_store.specs.Store.{Value, Number, Null, At, World, used, ◌>>=◌}
 use Rattle.c_source.specs.Blocks.{converted}
-use Rattle.c_source.specs.Operators.{combined, changed, on_ints, on_unsigned, operating_type, by_targets, on_integers, pointer_integer, two_pointers, bits_in, in_one, at_offsets}
+use Rattle.c_source.specs.Operators.{combined, changed, by_targets, on_integers, pointer_integer, two_pointers, bits_in, in_one, at_offsets}
+use Rattle.c_operators.specs.Arithmetic.{on_ints, on_unsigned, operating_type}
 use Rattle.slot_ir.specs.declared.code.SlotCode.{SlotCode}
 use Rattle.slot_ir.specs.declared.code.SlotOp.{SlotOp}
 use Rattle.slot_ir.specs.declared.code.SlotOp.TheVariants.{Compare, Unary}
@@ -22,7 +23,7 @@ use Rattle.slot_ir.specs.declared.code.PointerOp.TheVariants as pointer
 use Rattle.slot_ir.specs.declared.code.UnaryWordOp.TheVariants.{Minus, MinusUnsigned}
 use Rattle.slot_ir.specs.Operators.{extended, on_words, binary, unary, compared, indexed, distance, because, in_one_object, offsets, truth}
 use Rattle.ldb_words.specs.Word.{word_of_signed}
-use Rattle.c_store.specs.Bits.{subtract, signed_negate}
+use Rattle.c_operators.specs.Bits.{subtract, signed_negate}
 use Rattle.slot_ir.specs.Slots.{SlotState}
 use Rattle.slot_ir.specs.Slots as slots
 use Rattle.slot_gen.specs.Expressions.{access_of, word_op, mixed_op, pointers_op, targets_op, combine_op, unary_op}

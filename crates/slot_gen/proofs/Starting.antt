@@ -9,7 +9,7 @@ use Rattle.c_tree.specs.declared.rows.ObjectRow.{ObjectRow}
 use Rattle.c_tree.specs.declared.rows.Start.{Start}
 use Rattle.c_tree.specs.declared.rows.Start.TheVariants as start
 use Rattle.c_tree.specs.Layout.{size_of, leaves_of}
-use Rattle.c_store.specs.Bits.{low_byte}
+use Rattle.c_operators.specs.Bits.{low_byte}
 use Rattle.c_store.specs.Store.{Number, At, Cell, Static, Text}
 use Rattle.c_source.specs.Blocks.{zero_cell}
 use Rattle.c_source.specs.Begin as sources

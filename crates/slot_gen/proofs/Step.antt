@@ -14,9 +14,11 @@ use Rattle.c_tree.specs.Layout.{leaves_of}
 use Rattle.runs.specs.Runs.{Goes as GoesOn, Passes}
 use Rattle.c_store.specs.Store.{Value, Number, Null, At, is_stale, load_struct}
 use Rattle.c_store.specs.Frames.{Here, with_point, made, left, bound}
-use Rattle.c_source.specs.Blocks.{local_type, statements_in, opened, opened_one, leaf_count, cells_of}
+use Rattle.c_source.specs.Blocks.{local_type, opened, opened_one, leaf_count, cells_of}
+use Rattle.c_tree.specs.Rows.{statements_in}
 use Rattle.c_source.specs.Operators.{bits_in}
-use Rattle.c_source.specs.Control.{Item, State, Activation, Eval, Locate, Push, Bound, Load, Convert, Store, Copy, Update, Change, Combine, Offset, Use, Discard, Truth, AndThen, OrElse, Pick, Joined, Enter, Run, Stop, Choose, Open, Close, Turn, Again, Select, Seek, Switched, GiveBack, Leave, Label, seeks, runs_of, part_of, test_of, loop_goes_on, loop_turns, labels_in, default_in, outermost_of, last_of}
+use Rattle.c_source.specs.Control.{Item, State, Activation, Eval, Locate, Push, Bound, Load, Convert, Store, Copy, Update, Change, Combine, Offset, Use, Discard, Truth, AndThen, OrElse, Pick, Joined, Enter, Run, Stop, Choose, Open, Close, Turn, Again, Select, Seek, Switched, GiveBack, Leave, Label, seeks, runs_of, part_of, test_of, loop_goes_on, loop_turns, labels_in, default_in, outermost_of}
+use Rattle.c_tree.specs.Points.{last_of}
 use Rattle.c_source.specs.Source as source
 use Rattle.slot_ir.specs.declared.code.SlotOp.{SlotOp}
 use Rattle.slot_ir.specs.declared.code.SlotOp.TheVariants as op

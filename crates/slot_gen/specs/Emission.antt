@@ -5,7 +5,7 @@ use Rattle.c_tree.specs.declared.typed.BinaryOp.{BinaryOp}
 use Rattle.c_tree.specs.declared.rows.Program.{Program}
 use Rattle.c_tree.specs.declared.rows.Function.{Function}
 use Rattle.c_tree.specs.Types.{is_struct}
-use Rattle.c_source.specs.Blocks.{declared_in, statements_in}
+use Rattle.c_tree.specs.Rows.{declared_in, statements_in}
 use Rattle.slot_ir.specs.declared.code.SlotOp.{SlotOp}
 use Rattle.slot_ir.specs.declared.code.SlotOp.TheVariants.{Jump}
 use Rattle.c_tree.specs.declared.typed.Pointed.{Pointed}

@@ -17,7 +17,7 @@ use Rattle.c_tree.specs.Rows.{exprs}
 use Rattle.c_tree.specs.Types.{type_of, target_of, kind_of, is_struct, is_array, is_unsigned}
 use Rattle.c_tree.specs.Layout.{size_of}
 use Rattle.c_source.specs.Blocks.{locals_in}
-use Rattle.c_source.specs.Operators.{operating_type}
+use Rattle.c_operators.specs.Arithmetic.{operating_type}
 use Rattle.c_source.specs.Source.{dot_offset, arrow_offset, stepping, struct_number}
 use Rattle.slot_ir.specs.declared.code.Access.{Access}
 use Rattle.slot_ir.specs.declared.code.Access.TheVariants.{SignedByte, Word, Pointer}

@@ -8,8 +8,10 @@ use Rattle.c_tree.specs.declared.typed.Stmt.{Stmt, Row_of-Stmt, end_of-Stmt, mor
 use Rattle.c_tree.specs.declared.typed.Stmt.TheVariants.{Value as Expression, Block', If', While', Do', For', Switch', Case', Default', Break, Continue, Return}
 use Rattle.c_tree.specs.declared.rows.Program.{Program}
 use Rattle.c_tree.specs.declared.rows.Function.{Function}
-use Rattle.c_source.specs.Blocks.{local_type, result_type, declared_in, statements_in}
-use Rattle.c_source.specs.Control.{first_of, last_of, outermost_of}
+use Rattle.c_source.specs.Blocks.{local_type, result_type}
+use Rattle.c_tree.specs.Rows.{declared_in, statements_in}
+use Rattle.c_source.specs.Control.{outermost_of}
+use Rattle.c_tree.specs.Points.{first_of, last_of}
 use Rattle.slot_ir.specs.declared.code.SlotOp.{SlotOp}
 use Rattle.slot_ir.specs.declared.code.SlotOp.TheVariants.{Const, Null, LocalAddress, Jump, JumpIfZero, JumpIfEqual, Return as ReturnOp, Stop, Zero, Leave}
 use Rattle.slot_gen.specs.Expressions.{expr_code, cast_code, choice_code, write_at, unless_register, register_of, if_register}

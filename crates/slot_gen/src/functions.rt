@@ -1,7 +1,8 @@
 // The code of functions.
 ghost use Rattle.std.specs.Prelude.{◌≡◌, [], ◌∷◌, ◌++◌, Some, IfOk, OnOk, length, slice_get};
-ghost use Rattle.c_source.specs.Blocks.{declared_in, statements_in};
-ghost use Rattle.c_source.specs.Control.{first_of, last_of, outermost_of};
+ghost use Rattle.c_tree.specs.Rows.{declared_in, statements_in};
+ghost use Rattle.c_source.specs.Control.{outermost_of};
+ghost use Rattle.c_tree.specs.Points.{first_of, last_of};
 ghost use Rattle.slot_ir.specs.declared.code.SlotOp.TheVariants.{Jump, Leave, Return, Stop};
 ghost use Rattle.slot_gen.specs.Statements.{body_place, function_code, nowhere as outside, zero_code as zero};
 ghost use Rattle.slot_gen.specs.Emission.{around_of, whole_body};

@@ -3,7 +3,7 @@ ghost use Rattle.std.specs.Prelude.{◌≡◌, ◌≤◌, IfOk, option_map};
 ghost use Rattle.c_tree.specs.declared.rows.Program.{Program};
 ghost use Rattle.c_tree.specs.Types.{is_array, is_struct, is_unsigned, kind_of, target_of};
 ghost use Rattle.c_tree.specs.Layout.{size_of as size};
-ghost use Rattle.c_source.specs.Operators.{operating_type};
+ghost use Rattle.c_operators.specs.Arithmetic.{operating_type};
 ghost use Rattle.slot_gen.specs.Expressions.{access_of as access, is_scalar as scalar, word_op as word, unary_op as unary, mixed_op as mixed, pointers_op as pointers, targets_op as targets, combine_op as combine};
 
 use c_tree::{BinaryOp, CType, StructDef, UnaryOp, size_of};

@@ -3,7 +3,7 @@ use Rattle.std.specs.Prelude.{ℕ, suc, zero, ◌+◌, List, [], ◌∷◌, ◌+
 use Rattle.ldb_words.specs.declared.kinds.Kind.{Kind}
 use Rattle.ldb_words.specs.declared.kinds.Kind.TheVariants.{Byte, Word, Address}
 use Rattle.runs.specs.Runs.{Actions}
-use Rattle.c_store.specs.Bits.{low_byte}
+use Rattle.c_operators.specs.Bits.{low_byte}
 use Rattle.c_store.specs.Store.{Value, Number, Null, At, Object, Cell, World, Static, Text}
 use Rattle.c_store.specs.Frames.{ActivationRecord, new_activation, with_world}
 use Rattle.c_store.specs.Assigned.{History, all_assigned, at_stop}

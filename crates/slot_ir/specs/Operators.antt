@@ -4,7 +4,7 @@ use Rattle.std.specs.Int.{cast_signed, w16}
 use Rattle.ldb_words.specs.declared.kinds.Undef.{Undef}
 use Rattle.ldb_words.specs.declared.kinds.Undef.TheVariants.{Pointer as PointerReason}
 use Rattle.ldb_words.specs.Word.{signed, word_of_signed, bit_of}
-use Rattle.c_store.specs.Bits.{low_byte, minus_one, signed_add, signed_subtract, signed_multiply, signed_negate, signed_divide, signed_remainder, add, subtract, multiply, divide, remainder, shift_left, shift_right, signed_shift_right}
+use Rattle.c_operators.specs.Bits.{low_byte, minus_one, signed_add, signed_subtract, signed_multiply, signed_negate, signed_divide, signed_remainder, add, subtract, multiply, divide, remainder, shift_left, shift_right, signed_shift_right}
 use Rattle.runs.specs.Runs.{Why, Reason, IllTyped}
 use Rattle.c_store.specs.Store.{Value, Number, Null, At, World, used, moved, ◌>>=◌}
 use Rattle.slot_ir.specs.declared.code.Access.{Access}

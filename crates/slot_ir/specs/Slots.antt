@@ -4,7 +4,7 @@ use Rattle.ldb_words.specs.declared.kinds.Kind.{Kind}
 use Rattle.ldb_words.specs.Word.{signed}
 use Rattle.c_tree.specs.declared.types.Leaf.{Leaf}
 use Rattle.runs.specs.Runs.{Next, Goes, Passes, Exits, Undefined, Why, IllTyped}
-use Rattle.c_store.specs.Bits.{minus_one}
+use Rattle.c_operators.specs.Bits.{minus_one}
 use Rattle.c_store.specs.Store.{Value, Number, Null, At, Cell, World, zero_of, used, load, store, moved, load_struct, store_struct, with_first, ◌>>=◌}
 use Rattle.c_store.specs.Frames.{Here, ActivationRecord, with_world, with_point, made, left, bound, new_activation}
 use Rattle.slot_ir.specs.declared.code.SlotOp.{SlotOp}

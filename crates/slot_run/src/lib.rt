@@ -1,8 +1,6 @@
-//! Tests of slot code: whole programs, run by a slow interpreter.
+//! Whether slot code can be made of a checked program.
 #![tactic(auto)]
 
 mod lowerable;
-#[cfg(test)]
-mod tests;
 
 pub use lowerable::is_lowerable;

@@ -1,1 +1,4 @@
 pub mod Flush
+pub mod Placed
+pub mod RoundTrip
+pub mod Sound

@@ -1,6 +1,7 @@
 -- Instruction words: the SPARC V8 manual, appendix F. A field that an instruction does not use is 0.
-use Rattle.std.specs.Prelude.{ℕ, ◌+◌, ◌*◌, ◌^◌, ◌/◌, ◌%◌, nat_eq, if◌then◌else◌, List, [], ◌∷◌, Option, Some, None}
+use Rattle.std.specs.Prelude.{ℕ, ◌+◌, ◌*◌, ◌^◌, ◌/◌, ◌%◌, nat_eq, if◌then◌else◌, List, [], ◌∷◌, Option, Some}
 use Rattle.ldb_words.specs.Word.{bit_of}
+use Rattle.machine_state.specs.Codes.{at_code, if_exact}
 use Rattle.sparc_isa.specs.declared.operand.Operand.{Operand}
 use Rattle.sparc_isa.specs.declared.operand.Operand.TheVariants.{Register, Immediate}
 use Rattle.sparc_isa.specs.declared.operand.ShiftOperand.{ShiftOperand}
@@ -114,11 +115,6 @@ trap_of low = if nat_eq (low / 2 ^ 13 % 2) 0 then TrapRegister (low % 2 ^ 5) els
 
 -- ---- the tables
 
--- what stands beside a code in a table
-abbrev pub at_code : {T : Type 0} → ℕ → List (ℕ × T) → Option T
-at_code code [] = None
-at_code code (row ∷ rows) = if nat_eq code row.0 then Some row.1 else at_code code rows
-
 -- op 0, by op2; 0 is UNIMP, which is illegal
 unfoldable pub wide_insn : ℕ → ℕ → ℕ → Option Insn
 wide_insn five op2 wide =
@@ -177,11 +173,6 @@ named_insn w =
     if nat_eq (op_of w) 2 then arithmetic_insn (five_of w) (op3_of w) (rs1_of w) (low_of w) else
     memory_insn (five_of w) (op3_of w) (rs1_of w) (low_of w)
 
--- that instruction, if it has this word
-abbrev pub if_exact : ℕ → Option Insn → Option Insn
-if_exact w None = None
-if_exact w (Some i) = if nat_eq (word_of i) w then Some i else None
-
 -- the instruction of a word, or none: the unused fields are zero
 unfoldable pub insn_of : ℕ → Option Insn
-insn_of w = if_exact w (named_insn w)
+insn_of w = if_exact word_of w (named_insn w)

@@ -1,8 +1,9 @@
 pub mod Arithmetic
 pub mod Codec
 pub mod Condition
+pub mod Fit
 pub mod Loaded
 pub mod Placed
-pub mod RoundTrip
+pub mod Sound
 pub mod Step
 pub mod Windows

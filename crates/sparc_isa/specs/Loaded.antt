@@ -1,10 +1,9 @@
 -- The machine at its start, the context block, and what machines of this target do.
-use Rattle.std.specs.Prelude.{ℕ, Bool, ◌+◌, ◌*◌, ◌^◌, ◌/◌, ◌%◌, List, [], ◌∷◌, ◌++◌, replicate, take, drop, slice_set, slice_index, nat_eq, ◌&&◌, if◌then◌else◌, None}
-use Rattle.ldb_words.specs.Word.{sum_of}
+use Rattle.std.specs.Prelude.{ℕ, Bool, ◌+◌, ◌*◌, ◌^◌, ◌/◌, ◌%◌, List, [], ◌∷◌, ◌++◌, replicate, take, drop, slice_set, slice_index}
 use Rattle.ldb_words.specs.declared.kinds.Order.TheVariants.{Big}
 use Rattle.machine_state.specs.declared.layout.TheConstants.{CONTEXT_WORDS, FIRST_STACK_POINTER, SPARC}
-use Rattle.machine_state.specs.Regions.{first_regions, saved_words, words_in}
-use Rattle.machine_state.specs.State.{MachineState, Facts, no_facts, Behaviour}
+use Rattle.machine_state.specs.Regions.{saved_words, words_in}
+use Rattle.machine_state.specs.State.{MachineState, kept_facts, begun, Behaviour}
 use Rattle.sparc_isa.specs.Windows.{window_below, y, codes, current, invalid, place_of, register, with_registers, window_place, window_words, flush_of}
 use Rattle.sparc_isa.specs.Step.{step_of}
 
@@ -15,18 +14,8 @@ REGISTERS = 136
 -- the machine at an entry, with a text and the bytes that the data begin with: every register is 0 but the stack pointer
 -- of window 0, and window 1 has the WIM bit
 unfoldable pub first_state : ℕ → List ℕ → List ℕ → MachineState
-first_state entry text statics = record {
-  target = SPARC;
-  registers = slice_set (replicate REGISTERS 0) (place_of 0 14) FIRST_STACK_POINTER;
-  special = 0 ∷ 0 ∷ 0 ∷ 1 ∷ [];
-  pc = entry;
-  next_pc = sum_of entry 4;
-  facts = no_facts;
-  memory = first_regions text statics;
-  left = [];
-  given = 0;
-  put = None;
-}
+first_state entry text statics =
+    begun SPARC (slice_set (replicate REGISTERS 0) (place_of 0 14) FIRST_STACK_POINTER) (0 ∷ 0 ∷ 0 ∷ 1 ∷ []) entry text statics
 
 -- ---- the context block: globals, outs, locals, ins; Y; the codes and the current window; pc, next pc
 
@@ -50,10 +39,6 @@ with_block m = record m { memory = saved_words Big (block_of m) m.memory }
 -- whether the windows could be flushed, and the machine with its registers in the context block, be that as it may
 unfoldable pub saved_state : MachineState → Bool × MachineState
 saved_state m = let f = flush_of m in (f.0, with_block f.1)
-
--- what the steps before left, unless pc or next pc was changed
-abbrev pub kept_facts : ℕ → ℕ → MachineState → Facts
-kept_facts pc next_pc m = if nat_eq pc m.pc && nat_eq next_pc m.next_pc then m.facts else no_facts
 
 -- the machine with the words behind those of the registers in their places; the current window stays
 abbrev pub restored_from : List ℕ → MachineState → MachineState

@@ -4,12 +4,12 @@ use Rattle.ldb_words.specs.Word.{sum_of, difference_of, sign_extended, product_s
 use Rattle.ldb_words.specs.Arithmetic.{shifted}
 use Rattle.ldb_words.specs.declared.kinds.Order.TheVariants.{Big}
 use Rattle.ldb_words.specs.declared.kinds.Way.TheVariants.{RightSigned}
-use Rattle.ldb_words.specs.declared.event.Event.{Event}
-use Rattle.ldb_words.specs.declared.event.Event.TheVariants.{Went, Break, Request, Fault}
+use Rattle.ldb_words.specs.declared.event.Event.TheVariants.{Went, Break, Fault}
 use Rattle.ldb_words.specs.declared.event.FaultKind.{FaultKind}
-use Rattle.ldb_words.specs.declared.event.FaultKind.TheVariants.{Hazard, Illegal, Align, Division, Request as UnknownRequest}
-use Rattle.machine_state.specs.Regions.{Regions, load_of, store_of, fetch_of}
+use Rattle.ldb_words.specs.declared.event.FaultKind.TheVariants.{Division}
+use Rattle.machine_state.specs.Regions.{load_of, store_of}
 use Rattle.machine_state.specs.State.{MachineState, Facts}
+use Rattle.machine_state.specs.Step.{Outcome, moved, jumps, on_loaded, sign_loaded, stores, requests, InstructionSet, step_by}
 use Rattle.sparc_isa.specs.declared.operand.Operand.{Operand}
 use Rattle.sparc_isa.specs.declared.operand.Operand.TheVariants.{Register, Immediate}
 use Rattle.sparc_isa.specs.declared.operand.ShiftOperand.{ShiftOperand}
@@ -23,10 +23,6 @@ use Rattle.sparc_isa.specs.Arithmetic.{quotient_unsigned, quotient_signed, codes
 use Rattle.sparc_isa.specs.Codec.{insn_of}
 use Rattle.sparc_isa.specs.Condition.{holds, is_conditional}
 use Rattle.sparc_isa.specs.Windows.{window_below, window_above, y, codes, current, invalid, with_y, with_codes, with_current, register, with_register, spills, fills}
-
--- what a step answers, and the machine that it leaves
-abbrev pub Outcome : Type 0
-Outcome = Event × MachineState
 
 -- ---- operands
 
@@ -60,15 +56,6 @@ inverted v = 2 ^ 32 - 1 - v
 
 -- ---- going on
 
--- the machine at its next instruction, which stands in no delay slot
-unfoldable pub moved : MachineState → MachineState
-moved m = record m {
-  pc = m.next_pc;
-  next_pc = sum_of m.next_pc 4;
-  facts = record { in_slot = false; loaded = 0; wait = m.facts.wait - 1 };
-  put = None;
-}
-
 -- an instruction that leaves a value in a register
 unfoldable pub writes : ℕ → ℕ → MachineState → Outcome
 writes rd v m = (Went, with_register rd v (moved m))
@@ -93,10 +80,6 @@ writes_y v m =
 
 -- ---- control transfers
 
--- a transfer to a target, where `n` is the machine in the delay slot
-unfoldable pub jumps : ℕ → MachineState → Outcome
-jumps target n = (Went, record n { next_pc = target; facts = record n.facts { in_slot = true } })
-
 -- a transfer to a target that skips its delay slot, where `n` has moved on
 unfoldable pub skips : ℕ → MachineState → Outcome
 skips target n = (Went, record n { pc = target; next_pc = sum_of target 4 })
@@ -120,25 +103,14 @@ branches annul condition displacement m =
 unfoldable pub calls : ℕ → MachineState → Outcome
 calls displacement m = jumps (sum_of m.pc (displacement * 4)) (with_register 15 m.pc (moved m))
 
--- the address of the jump stays in a register; the target is a multiple of 4
+-- the address of the jump stays in a register; a target that is no multiple of 4 is a fault of the next fetch
 unfoldable pub jumps_linked : ℕ → ℕ → MachineState → Outcome
-jumps_linked rd target m =
-    if nat_eq (target % 4) 0 then jumps target (with_register rd m.pc (moved m)) else (Fault Align, m)
+jumps_linked rd target m = jumps target (with_register rd m.pc (moved m))
 
 -- ---- memory
 
--- a load that leaves what it loaded in a register, or its fault
-unfoldable pub loads : ℕ → Result ℕ FaultKind → MachineState → Outcome
-loads rd (Err kind) m = (Fault kind, m)
-loads rd (Ok v) m = writes rd v m
-
-abbrev pub sign_loaded : ℕ → Result ℕ FaultKind → Result ℕ FaultKind
-sign_loaded width (Err kind) = Err kind
-sign_loaded width (Ok v) = Ok (sign_extended width v)
-
-unfoldable pub stores : Result Regions FaultKind → MachineState → Outcome
-stores (Err kind) m = (Fault kind, m)
-stores (Ok r) m = (Went, moved (record m { memory = r }))
+abbrev pub loads : ℕ → Result ℕ FaultKind → MachineState → Outcome
+loads rd loaded m = on_loaded (writes rd) loaded m
 
 -- ---- windows
 
@@ -156,26 +128,9 @@ restores rd v m =
 
 -- ---- traps
 
--- the next byte of the input in `%o0`, or -1 at the end; `n` has moved on
-abbrev pub byte_read : List ℕ → MachineState → MachineState
-byte_read [] n = with_register 8 (2 ^ 32 - 1) n
-byte_read (b ∷ bs) n = with_register 8 b (record n { left = bs })
-
-unfoldable pub reads_input : MachineState → MachineState
-reads_input n = byte_read n.left n
-
--- a byte put, which is in `%o0` too
-unfoldable pub puts : ℕ → MachineState → MachineState
-puts b n = record (with_register 8 b n) { put = Some b }
-
--- 1 is a breakpoint; 17 getchar, 18 putchar, 19 exit, 20 pause, 21 stack
+-- 1 is a breakpoint; 17 to 21 are the requests 1 to 5, whose argument and result stand in `%o0`
 unfoldable pub traps : ℕ → MachineState → Outcome
-traps number m =
-    if nat_eq number 1 then (Break, m) else
-    if nat_eq number 17 then (Request 1, reads_input (moved m)) else
-    if nat_eq number 18 then (Request 2, puts (register m 8 % 256) (moved m)) else
-    if nat_lt 18 number && nat_lt number 22 then (Request (number - 16), moved m) else
-    (Fault UnknownRequest, m)
+traps number m = if nat_eq number 1 then (Break, m) else requests (with_register 8) (number - 16) (register m 8) m
 
 unfoldable pub traps_if : Bool → ℕ → MachineState → Outcome
 traps_if holds number m = if holds then traps number m else (Went, moved m)
@@ -239,14 +194,9 @@ is_hazard i facts = (facts.in_slot && is_transfer i) || (nat_lt 0 facts.wait && 
 
 -- ---- the step
 
-abbrev pub decoded : Option Insn → MachineState → Outcome
-decoded None m = (Fault Illegal, m)
-decoded (Some i) m = if is_hazard i m.facts then (Fault Hazard, m) else act i m
-
-abbrev pub fetched : Result ℕ FaultKind → MachineState → Outcome
-fetched (Err kind) m = (Fault kind, m)
-fetched (Ok word) m = decoded (insn_of word) m
+abbrev pub sparc_set : InstructionSet Insn
+sparc_set = record { order = Big; insn_of = insn_of; is_hazard = is_hazard; act = act }
 
 -- one step: the fault of pc, no such word, a hazard, and then what the instruction does
 unfoldable pub step_of : MachineState → Outcome
-step_of m = fetched (fetch_of Big m.memory m.pc) m
+step_of m = step_by sparc_set m

@@ -1,7 +1,7 @@
 // Instructions as words, and back (SPARC V8 manual, appendix F).
 
 ghost use Rattle.std.specs.Prelude.{◌≡◌, ◌<◌, ◌^◌, Some, IfSome};
-ghost use Rattle.sparc_isa.specs.RoundTrip.{OperandFits, ShiftFits, TrapFits, FieldsFit};
+ghost use Rattle.sparc_isa.specs.Fit.{OperandFits, ShiftFits, TrapFits, FieldsFit};
 ghost use Rattle.sparc_isa.specs.Codec.{operand_word, shift_word, trap_word, call_format, wide_format, operand_format, word_of, insn_of, named_insn, wide_insn, arithmetic_insn, memory_insn, displacement_of, five_of, wide_of, op2_of, op3_of, rs1_of, low_of, operand_of, shift_of, trap_of};
 
 use crate::condition::Condition;
@@ -19,7 +19,7 @@ const IMMEDIATE: u32 = 0x2000;
 
 // ---- operands
 
-#[tactic(auto, unfolding(crate::specs::Codec::operand_word, crate::specs::RoundTrip::OperandFits))]
+#[tactic(auto, unfolding(crate::specs::Codec::operand_word, crate::specs::Fit::OperandFits))]
 #[inline(always)]
 fn operand_word(operand: &Operand) -> u32
     ensures value { result ≡ operand_word operand.now }
@@ -32,7 +32,7 @@ fn operand_word(operand: &Operand) -> u32
     }
 }
 
-#[tactic(auto, unfolding(crate::specs::Codec::shift_word, crate::specs::RoundTrip::ShiftFits))]
+#[tactic(auto, unfolding(crate::specs::Codec::shift_word, crate::specs::Fit::ShiftFits))]
 #[inline(always)]
 fn shift_word(count: &ShiftOperand) -> u32
     ensures value { result ≡ shift_word count.now }
@@ -45,7 +45,7 @@ fn shift_word(count: &ShiftOperand) -> u32
     }
 }
 
-#[tactic(auto, unfolding(crate::specs::Codec::trap_word, crate::specs::RoundTrip::TrapFits))]
+#[tactic(auto, unfolding(crate::specs::Codec::trap_word, crate::specs::Fit::TrapFits))]
 #[inline(always)]
 fn trap_word(number: &TrapOperand) -> u32
     ensures value { result ≡ trap_word number.now }
@@ -98,7 +98,7 @@ fn operand_format(op: u8, rd: u8, op3: u8, rs1: u8, low: u32) -> u32
 }
 
 /// The word of an instruction, whose fields are within their widths.
-#[tactic(auto, unfolding(crate::specs::Codec::word_of, crate::specs::RoundTrip::FieldsFit))]
+#[tactic(auto, unfolding(crate::specs::Codec::word_of, crate::specs::Fit::FieldsFit))]
 #[inline(always)]
 fn word(insn: &Insn) -> u32
     ensures value { result ≡ word_of insn.now }

@@ -8,6 +8,7 @@ mod decoded;
 mod field;
 mod hazard;
 mod insn;
+mod laws;
 mod operand;
 
 pub use arithmetic::{quotient_signed, quotient_unsigned, subtraction_codes};
@@ -19,4 +20,5 @@ pub use field::{
 };
 pub use hazard::is_hazard;
 pub use insn::Insn;
+pub use laws::machines_stay_sound;
 pub use operand::{Operand, ShiftOperand, TrapOperand};

@@ -82,7 +82,8 @@ impl Machine {
     ghost use Rattle.sparc_isa.specs.Arithmetic.{quotient_unsigned, quotient_signed};
     ghost use Rattle.sparc_isa.specs.Codec.{insn_of};
     ghost use Rattle.sparc_isa.specs.Loaded.{first_state};
-    ghost use Rattle.sparc_isa.specs.Step.{value, distance, trap_number, address, dividend, moved, writes, multiplies, divides, subtracts, writes_y, jumps, skips, branches, calls, jumps_linked, loads, sign_loaded, stores, saves, restores, reads_input, traps, traps_if, act, step_of};
+    ghost use Rattle.machine_state.specs.Step.{moved, jumps, sign_loaded, stores, reads_input};
+    ghost use Rattle.sparc_isa.specs.Step.{value, distance, trap_number, address, dividend, writes, multiplies, divides, subtracts, writes_y, skips, branches, calls, jumps_linked, loads, saves, restores, traps, traps_if, act, step_of};
     ghost use Rattle.sparc_isa.specs.Windows.{register, with_register, window_words, spills, fills};
 
     /// The machine at the start of an image for SPARC.
@@ -200,7 +201,7 @@ impl Machine {
     // ---- going on
 
     /// Goes on to the next instruction.
-    #[tactic(auto, unfolding(sparc_isa::specs::Step::moved))]
+    #[tactic(auto, unfolding(machine_state::specs::Step::moved))]
     #[inline(always)]
     fn advance(&mut self)
         ensures { self.new ≡ moved self.old }
@@ -298,7 +299,7 @@ impl Machine {
     // ---- control transfers
 
     /// Goes to a target after the delay slot, in which the machine stands.
-    #[tactic(auto, unfolding(sparc_isa::specs::Step::jumps))]
+    #[tactic(auto, unfolding(machine_state::specs::Step::jumps))]
     #[inline(always)]
     fn jump(&mut self, target: u32) -> Event
         ensures { jumps target self.old ≡ (result, self.new) }
@@ -357,9 +358,6 @@ impl Machine {
     fn jump_linked(&mut self, rd: Register, target: u32) -> Event
         ensures { jumps_linked rd target self.old ≡ (result, self.new) }
     {
-        if target % 4 != 0 {
-            return Event::Fault(FaultKind::Align);
-        }
         let from = self.pc;
         self.advance();
         self.set_register(rd, from);
@@ -369,7 +367,6 @@ impl Machine {
     // ---- memory
 
     /// Leaves what was loaded in a register.
-    #[tactic(auto, unfolding(sparc_isa::specs::Step::loads))]
     #[inline(always)]
     fn finish_load(&mut self, rd: Register, outcome: Result<u32, FaultKind>) -> Event
         ensures { loads rd outcome self.old ≡ (result, self.new) }
@@ -412,7 +409,7 @@ impl Machine {
     }
 
     /// Stores the lowest bytes of a word.
-    #[tactic(auto, unfolding(sparc_isa::specs::Step::stores))]
+    #[tactic(auto, unfolding(machine_state::specs::Step::stores))]
     #[inline(always)]
     fn store(&mut self, at: u32, width: Width, value: u32) -> Event
         ensures { stores (store_of Big self.old.memory at (width_of width) value) self.old ≡ (result, self.new) }
@@ -510,9 +507,9 @@ impl Machine {
     // ---- traps
 
     /// The next byte of the input in `%o0`, or -1 at the end.
-    #[tactic(auto, unfolding(sparc_isa::specs::Step::reads_input))]
+    #[tactic(auto, unfolding(machine_state::specs::Step::reads_input))]
     fn read_input(&mut self)
-        ensures { self.new ≡ reads_input self.old }
+        ensures { self.new ≡ reads_input (with_register 8) self.old }
     {
         let first_out = Register::new(8);
         if self.taken < self.input.len() {
@@ -525,7 +522,7 @@ impl Machine {
     }
 
     /// Does what a trap's number asks for.
-    #[tactic(auto, unfolding(sparc_isa::specs::Step::traps, sparc_isa::specs::Step::puts))]
+    #[tactic(auto, unfolding(sparc_isa::specs::Step::traps, machine_state::specs::Step::requests, machine_state::specs::Step::puts))]
     fn trap(&mut self, number: u32) -> Event
         ensures { traps number self.old ≡ (result, self.new) }
     {

@@ -9,7 +9,8 @@ use machine_state::CONTEXT_WORDS;
 use sparc_isa::Register;
 
 impl Machine {
-    ghost use Rattle.sparc_isa.specs.Loaded.{outs, status_word, block_of, saved_state, kept_facts, restored_from, restored_state};
+    ghost use Rattle.machine_state.specs.State.{kept_facts};
+    ghost use Rattle.sparc_isa.specs.Loaded.{outs, status_word, block_of, saved_state, restored_from, restored_state};
     ghost use Rattle.sparc_isa.specs.Windows.{with_registers, stored_window, stored_windows, can_store_windows, flush_of};
 
     /// Whether so many windows, from one on upwards, can each be stored at its own stack pointer.

@@ -1,8 +1,8 @@
 use Rattle.std.proofs.Common.{◌≡◌, ◌-◌}
-use Rattle.machine_state.specs.Runs.{run_of}
+use Rattle.machine_state.specs.Runs.{run_of, behind}
 use Rattle.machine_state.proofs.turns.run.Given as goal
 
 abbrev pub invariant-loop-turn : goal.invariant-loop-turn
 invariant-loop-turn g l =
-    run_of g.T.Target.behaviour.next l.turns (g.T.Target.state l.initial.machine)
-    ≡ run_of g.T.Target.behaviour.next (l.turns - l._turn) (g.T.Target.state l.machine)
+    behind l.initial.output.items (run_of g.T.Target.behaviour l.turns (g.T.Target.state l.initial.machine))
+    ≡ behind l.output.items (run_of g.T.Target.behaviour (l.turns - l._turn) (g.T.Target.state l.machine))

@@ -8,7 +8,7 @@ use Rattle.ps_run.proofs.running.go.Given as goal
 abbrev pub invariant-loop-steps : goal.invariant-loop-steps
 invariant-loop-steps g l = record {
   limit : l.steps.limit ≡ l.fn.steps.limit;
-  closed : closed_part l.core.store ≡ closed_part l.fn.core.store;
+  closed : g.D.Dialect.remains (closed_part l.fn.core.store) (closed_part l.core.store);
   within : l.steps.taken ≤ l.steps.limit;
   more : l.fn.steps.taken ≤ l.steps.taken;
   rest : (r : Answer) (m : ℕ) (d : g.row.D.Denot) (c : PsCore) →

@@ -1,5 +1,5 @@
 use Rattle.std.proofs.Common.{◌≡◌, drop}
-use Rattle.c_source.specs.Control.{last_of}
+use Rattle.c_tree.specs.Points.{last_of}
 use Rattle.slot_gen.proofs.Forms.{last_or}
 use Rattle.slot_gen.proofs.functions.last_point.Given as goal
 

@@ -1,4 +1,4 @@
-use Rattle.sparc_isa.specs.RoundTrip.{insn_of-word_of}
+use Rattle.sparc_isa.proofs.RoundTrip.{insn_of-word_of}
 use Rattle.sparc_isa.proofs.codec.encode.Goals as goal
 
 pub returns-clause-decodes : goal.returns-clause-decodes

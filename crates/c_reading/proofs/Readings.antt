@@ -1,0 +1,111 @@
+-- A text is one thing at a stopping point.
+use Rattle.std.proofs.Common.{◌≡◌, refl, sym, ap, ◌∙◌, subst, ℕ, ◌≤◌, List, Option, Some, None, inl, inr}
+use Rattle.std.specs.Prelude.{Ok, Err}
+use Rattle.c_lex.proofs.Lexing.{one_list}
+use Rattle.c_symbol.specs.Terminals.{terminals}
+use Rattle.c_expr.specs.Tree.{Tree}
+use Rattle.c_expr.specs.Grammar.{Spells}
+use Rattle.c_expr.proofs.Exact.{one}
+use Rattle.c_tree.specs.declared.typed.Typed.{Typed}
+use Rattle.c_tree.specs.declared.rows.Program.{Program}
+use Rattle.c_judge.specs.declared.fault.ExprFault.TheVariants as fault
+use Rattle.c_judge.specs.Scope.{Scope}
+use Rattle.c_judge.specs.Answers.{Known, Unknown, Broken}
+use Rattle.c_judge.specs.Judgement.{Verdict}
+use Rattle.c_judge.specs.Checks.{Checks, IsKnown, Breaks}
+use Rattle.c_session.specs.Commands.{Use, Refusal, BadLine, HasEnded, IsRunning, NoPlace, NoFrame, BadSyntax, NoScope, BadType, IsUndefined, Reading, Read, Unread}
+use Rattle.c_reading.specs.Scope.{scope_of}
+use Rattle.c_reading.specs.Readings.{IsExpression, mode_of, IsTypedAs, LacksName, BreaksRule, Reads, Agree}
+
+same_tree : (text : List ℕ) (e f : Tree) → IsExpression text e → IsExpression text f → e ≡ f
+same_tree text e f a b =
+    let same : a.tokens ≡ b.tokens = one_list a.has.0 b.has.0 in
+    let s : Spells (terminals text b.tokens) e a.height = subst (λ ts. Spells (terminals text ts) e a.height) same a.spells in
+    (one (terminals text b.tokens) e f a.height b.height a.low s b.spells).0
+
+none_some : {A B : Type 0} (x : A) (o : Option A) → o ≡ None → o ≡ Some x → B
+none_some x o n s = absurd cc
+
+known_broken : {A : Type 0} (v : Verdict) (r : ℕ) → IsKnown v → Breaks v r → A
+known_broken (Known j) r k b = absurd b
+known_broken (Unknown name) r k b = absurd b
+known_broken (Broken n at) r k b = absurd k
+
+module _ (p : Program) (u : Use) (q : ℕ) where
+  typed_lacks : {A : Type 0} (e : Tree) (x : Typed) → IsTypedAs p u q e x → LacksName p u q e → A
+  typed_lacks e x a b = none_some b.0 _ a.0 b.1
+
+  typed_breaks : {A : Type 0} (e : Tree) (x : Typed) → IsTypedAs p u q e x → BreaksRule p u q e → A
+  typed_breaks e x a (inl b) = known_broken _ b.0 a.1 b.1.1
+  typed_breaks e x a (inr b) = none_some b.0 _ a.2 b.1.2
+
+  lacks_breaks : {A : Type 0} (e : Tree) → LacksName p u q e → BreaksRule p u q e → A
+  lacks_breaks e a (inl b) = none_some a.0 _ b.1.0 a.1
+  lacks_breaks e a (inr b) = none_some a.0 _ b.1.0 a.1
+
+  module _ (text : List ℕ) where
+    abbrev Is : (Tree → Type 0) → Type 0
+    Is P = (e : Tree) × IsExpression text e × P e
+
+    -- two things of one tree
+    on_one : {A : Type 0} (P Q : Tree → Type 0) → ((e : Tree) → P e → Q e → A) → Is P → Is Q → A
+    on_one P Q f (e, a, x) (e', b, y) = f e x (subst Q (sym (same_tree text e e' a b)) y)
+
+    no_tree : {A : Type 0} (P : Tree → Type 0) → ((e : Tree) → IsExpression text e → ⊥) → Is P → A
+    no_tree P n (e, a, x) = absurd (n e a)
+
+    refused : (r r' : Refusal) → Reads p u q text (Unread r) → Reads p u q text (Unread r') → r ≡ r'
+    refused BadSyntax BadSyntax a b = refl
+    refused BadSyntax NoScope a b = no_tree (LacksName p u q) a b
+    refused BadSyntax BadType a b = no_tree (BreaksRule p u q) a b
+    refused NoScope BadSyntax a b = no_tree (LacksName p u q) b a
+    refused NoScope NoScope a b = refl
+    refused NoScope BadType a b = on_one (LacksName p u q) (BreaksRule p u q) (λ e. lacks_breaks e) a b
+    refused BadType BadSyntax a b = no_tree (BreaksRule p u q) b a
+    refused BadType NoScope a b = on_one (LacksName p u q) (BreaksRule p u q) (λ e. lacks_breaks e) b a
+    refused BadType BadType a b = refl
+    refused BadLine r' a b = absurd a
+    refused HasEnded r' a b = absurd a
+    refused IsRunning r' a b = absurd a
+    refused NoPlace r' a b = absurd a
+    refused NoFrame r' a b = absurd a
+    refused (IsUndefined w) r' a b = absurd a
+    refused BadSyntax BadLine a b = absurd b
+    refused BadSyntax HasEnded a b = absurd b
+    refused BadSyntax IsRunning a b = absurd b
+    refused BadSyntax NoPlace a b = absurd b
+    refused BadSyntax NoFrame a b = absurd b
+    refused BadSyntax (IsUndefined w) a b = absurd b
+    refused NoScope BadLine a b = absurd b
+    refused NoScope HasEnded a b = absurd b
+    refused NoScope IsRunning a b = absurd b
+    refused NoScope NoPlace a b = absurd b
+    refused NoScope NoFrame a b = absurd b
+    refused NoScope (IsUndefined w) a b = absurd b
+    refused BadType BadLine a b = absurd b
+    refused BadType HasEnded a b = absurd b
+    refused BadType IsRunning a b = absurd b
+    refused BadType NoPlace a b = absurd b
+    refused BadType NoFrame a b = absurd b
+    refused BadType (IsUndefined w) a b = absurd b
+
+    -- a text that is refused is no expression that keeps to the rules
+    unread : {A : Type 0} (r : Refusal) (x : Typed) → Reads p u q text (Unread r) → Is (λ e. IsTypedAs p u q e x) → A
+    unread BadSyntax x a b = no_tree (λ e. IsTypedAs p u q e x) a b
+    unread NoScope x a b = on_one (λ e. IsTypedAs p u q e x) (LacksName p u q) (λ e. typed_lacks e x) b a
+    unread BadType x a b = on_one (λ e. IsTypedAs p u q e x) (BreaksRule p u q) (λ e. typed_breaks e x) b a
+    unread BadLine x a b = absurd a
+    unread HasEnded x a b = absurd a
+    unread IsRunning x a b = absurd a
+    unread NoPlace x a b = absurd a
+    unread NoFrame x a b = absurd a
+    unread (IsUndefined w) x a b = absurd a
+
+    read : (x y : Typed) → Is (λ e. IsTypedAs p u q e x) → Is (λ e. IsTypedAs p u q e y) → Is (λ e. IsTypedAs p u q e x × IsTypedAs p u q e y)
+    read x y (e, a, t) (e', b, s) = (e, a, t, subst (λ f. IsTypedAs p u q f y) (sym (same_tree text e e' a b)) s)
+
+    pub agree : (x y : Reading) → Reads p u q text x → Reads p u q text y → Agree p u q text x y
+    agree (Unread r) (Unread r') a b = refused r r' a b
+    agree (Unread r) (Read y) a b = unread r y a b
+    agree (Read x) (Unread r) a b = unread r x b a
+    agree (Read x) (Read y) a b = read x y a b

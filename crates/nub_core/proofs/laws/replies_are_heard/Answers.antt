@@ -1,9 +1,0 @@
-use Rattle.nub_core.proofs.Outputs.{turn_heard}
-use Rattle.nub_core.proofs.Replies.{handle_answered}
-use Rattle.nub_core.proofs.laws.replies_are_heard.Goals as goal
-
-pub returns-clause-at_once : goal.returns-clause-at_once
-returns-clause-at_once c = handle_answered
-
-pub returns-clause-later : goal.returns-clause-later
-returns-clause-later c = turn_heard

@@ -1,0 +1,22 @@
+-- A link that tells its nubs gives no bad reply.
+use Rattle.std.specs.Prelude.{◌≡◌, ℕ, List, take, Some}
+use Rattle.nub_wire.specs.declared.message.Msg.{Msg}
+use Rattle.nub_wire.specs.declared.link.Side.{Side}
+use Rattle.nub_wire.specs.declared.reply.Heard.TheVariants.{Ends}
+use Rattle.nub_wire.specs.Replies.{heard}
+use Rattle.nub_wire.specs.Nub.{Host}
+use Rattle.nub_wire.specs.Delivery.{Conduct, LinkSide, World, side_of, on_side, with_sent, fitting}
+use Rattle.nub_wire.specs.Rest.{IsIdle}
+use Rattle.nub_wire.specs.Calls.{BadReply}
+use Rattle.nub_wire.specs.Exchange.{RepliesAtOnce, got_on}
+
+-- sends on a side, as steps of worlds
+abbrev pub took_by : Side → World → List ℕ → ℕ → World → Type 0
+took_by side w piece n w' = (n ≡ fitting piece (side_of side w)) × (w' ≡ on_side side (with_sent (take n piece)) w)
+
+-- Under any schedule and in pieces of any sizes, a message to an idle side that the nub replies to at once, with what ends
+-- its reply, gets no bad reply.
+abbrev pub NoBadReply : Conduct → Type 0
+NoBadReply c = (side : Side) (m r : Msg) (h : Host) (s : LinkSide) (frame : List ℕ) (w w' : World)
+    → side_of side w ≡ Some s → IsIdle s → RepliesAtOnce c m s.host r h → heard m 0 r ≡ Ends
+    → BadReply (took_by side) (got_on c side) m w frame w' → ⊥

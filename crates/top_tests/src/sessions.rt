@@ -1,0 +1,174 @@
+// Whole sessions over forms in memory.
+ghost use Rattle.std.specs.Prelude.{◌≡◌};
+
+use crate::edge::calls_of;
+use ldb_edge::{Failed, MemFiles, MemSink, MemSource, Source};
+use ldb_top::{Status, ldb};
+use std::alloc::{AllocError, Global};
+use test_rows::{append, append_escaped, part};
+
+/// What the rows said last: the program in `a.c`, the words, the commands, and transcripts, of which the first is the right one and the others are those where a command finds no memory.
+#[derive(Drop)]
+pub struct Sessions {
+    alloc: Global,
+    program: Vec<u8>,
+    words: Vec<u8>,
+    commands: Vec<u8>,
+    told: Vec<Vec<u8>>,
+}
+
+/// What a call came to: its status, its transcript, and how many bytes the output file has.
+#[derive(Drop)]
+struct Outcome {
+    status: Status,
+    transcript: Vec<u8>,
+    output: Option<usize>,
+}
+
+/// A source that gives its bytes one by one, however much is asked for.
+#[derive(Drop)]
+struct SingleBytes {
+    below: MemSource,
+}
+
+impl Source for SingleBytes {
+    ghost left = { λ s. ⟦<MemSource as Source>⟧.left s.below };
+
+    ghost faults = { λ s. ⟦<MemSource as Source>⟧.faults s.below };
+
+    ghost calls = { λ s. ⟦<MemSource as Source>⟧.calls s.below };
+
+    fn read(&mut self, buf: &mut [u8]) -> Result<usize, Failed> {
+        let end = buf.len().min(1);
+        self.below.read(&mut buf[..end])
+    }
+}
+
+impl Sessions {
+    pub fn new(alloc: Global) -> Sessions {
+        Sessions {
+            alloc,
+            program: Vec::new(alloc),
+            words: Vec::new(alloc),
+            commands: Vec::new(alloc),
+            told: Vec::new(alloc),
+        }
+    }
+
+    fn word_list(&self) -> Result<Vec<String>, AllocError> {
+        let mut list = Vec::new(self.alloc);
+        let words = std::str::from_utf8(&self.words).unwrap_or("");
+        for word in words.split(' ') {
+            list.push(String::from_str(self.alloc, word)?)?;
+        }
+        Ok(list)
+    }
+
+    /// The source file `a.c` and an empty input file.
+    fn files(&self, fails: Vec<u64>) -> Result<MemFiles, AllocError> {
+        let alloc = self.alloc;
+        let mut rows = Vec::new(alloc);
+        let program = Vec::from_slice(alloc, &self.program)?;
+        rows.push((String::from_str(alloc, "a.c")?, program))?;
+        rows.push((String::from_str(alloc, "in")?, Vec::new(alloc)))?;
+        Ok(MemFiles::new(rows, fails))
+    }
+
+    /// A session in which these calls of the files, of the commands and of the transcript fail; its commands come byte by byte, or as much as is asked for.
+    fn outcome(&self, fails: [&[u8]; 3], by_bytes: bool) -> Result<Outcome, AllocError> {
+        let alloc = self.alloc;
+        let list = self.word_list()?;
+        let mut files = self.files(calls_of(alloc, fails[0])?)?;
+        let commands = Vec::from_slice(alloc, &self.commands)?;
+        let mut source = MemSource::new(commands, calls_of(alloc, fails[1])?);
+        let mut sink = MemSink::new(Vec::new(alloc), calls_of(alloc, fails[2])?);
+        let status = if by_bytes {
+            let mut single = SingleBytes { below: source };
+            ldb(alloc, &list, &mut files, &mut single, &mut sink)
+        } else {
+            ldb(alloc, &list, &mut files, &mut source, &mut sink)
+        };
+        let transcript = Vec::from_slice(alloc, sink.bytes())?;
+        let output = match files.get("out") {
+            Some(bytes) => Some(bytes.len()),
+            None => None,
+        };
+        Ok(Outcome {
+            status,
+            transcript,
+            output,
+        })
+    }
+
+    /// Whether a transcript is the right one or, of a session that did not end well, its front, or one of the others.
+    fn is_told(&self, outcome: &Outcome) -> bool {
+        let transcript = outcome.transcript.as_slice();
+        let is_front = match self.told.first() {
+            Some(told) => told.starts_with(transcript),
+            None => false,
+        };
+        match outcome.status {
+            Status::Done => self.told.iter().any(|told| told.as_slice() == transcript),
+            _ => is_front,
+        }
+    }
+
+    /// Appends the answer to a row about sessions.
+    pub fn answer(
+        &mut self,
+        kind: &str,
+        parts: &[Vec<u8>],
+        out: &mut Vec<u8>,
+    ) -> Result<(), AllocError> {
+        let text = part(parts, 0);
+        let held = Vec::from_slice(self.alloc, text)?;
+        match kind {
+            "program" => self.program = held,
+            "words" => self.words = held,
+            "commands" => self.commands = held,
+            "told" => {
+                self.told.clear();
+                self.told.push(held)?;
+            }
+            "or" => {
+                self.told.push(held)?;
+            }
+            _ => return self.append_session(kind, text, out),
+        }
+        Ok(())
+    }
+
+    /// Appends the status of a session, and its transcript and output, or whether the transcript is told.
+    fn append_session(
+        &self,
+        kind: &str,
+        fails: &[u8],
+        out: &mut Vec<u8>,
+    ) -> Result<(), AllocError> {
+        let alloc = self.alloc;
+        let outcome = match kind {
+            "file_calls" => self.outcome([fails, &[], &[]], false)?,
+            "reads" => self.outcome([&[], fails, &[]], false)?,
+            "writes" => self.outcome([&[], &[], fails], false)?,
+            _ => self.outcome([&[], &[], &[]], kind == "bytes")?,
+        };
+        let status = outcome.status;
+        append(out, format!(in alloc; "{status:?}")?.as_str())?;
+        match kind {
+            "session" | "bytes" => {
+                let output = outcome.output;
+                append(out, format!(in alloc; " {output:?} ")?.as_str())?;
+                append_escaped(alloc, out, &outcome.transcript)
+            }
+            "file_calls" => Ok(()),
+            _ => append(
+                out,
+                if self.is_told(&outcome) {
+                    " as told"
+                } else {
+                    " otherwise"
+                },
+            ),
+        }
+    }
+}
