@@ -1,7 +1,7 @@
 // Instructions by the numbers of their registers.
 ghost use Rattle.std.specs.Prelude.{◌≡◌, ◌<◌, false};
 ghost use Rattle.sparc_isa.specs.declared.condition.Condition.TheVariants as when;
-ghost use Rattle.sparc_isa.specs.declared.operand.Operand.TheVariants.{Register, Immediate};
+ghost use Rattle.sparc_isa.specs.declared.operand.Operand.TheVariants as second;
 ghost use Rattle.sparc_isa.specs.declared.operand.ShiftOperand.TheVariants as shift;
 ghost use Rattle.sparc_isa.specs.declared.operand.TrapOperand.TheVariants as trap_by;
 ghost use Rattle.sparc_isa.specs.declared.insn.Insn.TheVariants.{Add, And, Bicc, Call, Jmpl, Ld, Ldsb, Ldsh, Ldub, Lduh, Or, Restore, Save, Sdiv, Sethi, Sll, Smul, Sra, Srl, St, Stb, Sub, Subcc, Ticc, Udiv, Wry, Xnor, Xor};
@@ -14,7 +14,7 @@ use sparc_isa::{
 /// A register as an operand.
 pub fn by_register(number: u8) -> Operand
     requires { number < 32 }
-    ensures { result ≡ Register number }
+    ensures { result ≡ second.Register number }
 {
     Operand::Register(Register::new(number))
 }
@@ -22,7 +22,7 @@ pub fn by_register(number: u8) -> Operand
 /// An immediate of 13 bits as an operand.
 pub fn by_bits(bits: u16) -> Operand
     requires { bits < 8192 }
-    ensures { result ≡ Immediate bits }
+    ensures { result ≡ second.Immediate bits }
 {
     Operand::Immediate(Simm13::new(bits))
 }
@@ -80,7 +80,7 @@ pub fn trap(number: u8) -> Insn
 
 pub fn wry(rs1: u8) -> Insn
     requires { rs1 < 32 }
-    ensures { result ≡ Wry rs1 (Register 0) }
+    ensures { result ≡ Wry rs1 (second.Register 0) }
 {
     Insn::Wry {
         rs1: Register::new(rs1),

@@ -1,4 +1,5 @@
 // The code that copies structs. A is where to, B is where from; `%g4` is the address of the words that a copy keeps, which lie from the end of the stack on: its return address, and the counts of items.
+ghost use Rattle.std.specs.Prelude.{◌≤◌};
 
 use crate::instructions::{
     add, branch, by_bits, by_register, call, jmpl, ld, ldub, no_op, or, st, stb, sub, subcc,
@@ -26,26 +27,41 @@ pub fn offset(code: &[Insn]) -> Result<u32, AllocError> {
 }
 
 /// The load and the store of a leaf, with its bytes.
-fn leaf_insns(kind: Kind) -> (Insn, Insn, u16) {
-    let none = by_bits(0);
+fn leaf_insns(kind: Kind) -> (Insn, Insn, u16)
+    ensures { result.2 ≤ 4 }
+{
     match kind {
-        Kind::Byte => (ldub(OWN, B, none), stb(OWN, A, none), 1),
-        Kind::Word | Kind::Address => (ld(OWN, B, none), st(OWN, A, none), 4),
+        Kind::Byte => (ldub(OWN, B, by_bits(0)), stb(OWN, A, by_bits(0)), 1),
+        Kind::Word | Kind::Address => (ld(OWN, B, by_bits(0)), st(OWN, A, by_bits(0)), 4),
     }
 }
 
 /// A leaf, from its start on.
 fn put_leaf(code: &mut Vec<Insn>, kind: Kind) -> Result<(), AllocError> {
     let (load, store, bytes) = leaf_insns(kind);
-    let on = by_bits(bytes);
-    put_all(code, &[load, store, add(A, A, on), add(B, B, on)])
+    put_all(
+        code,
+        &[
+            load,
+            store,
+            add(A, A, by_bits(bytes)),
+            add(B, B, by_bits(bytes)),
+        ],
+    )
 }
 
 /// A leaf, from its end back.
 fn put_leaf_back(code: &mut Vec<Insn>, kind: Kind) -> Result<(), AllocError> {
     let (load, store, bytes) = leaf_insns(kind);
-    let back = by_bits(bytes);
-    put_all(code, &[sub(A, A, back), sub(B, B, back), load, store])
+    put_all(
+        code,
+        &[
+            sub(A, A, by_bits(bytes)),
+            sub(B, B, by_bits(bytes)),
+            load,
+            store,
+        ],
+    )
 }
 
 /// Both places moved on.
@@ -68,13 +84,12 @@ fn put_items(code: &mut Vec<Insn>, count: u32) -> Result<(), AllocError> {
 
 /// An item is done, whose code is of four words. The branch goes back over it and the three words of this before.
 fn put_again(code: &mut Vec<Insn>) -> Result<(), AllocError> {
-    let at = by_bits(COUNT_AT);
     put_all(
         code,
         &[
-            ld(OWN, OWN_TOO, at),
+            ld(OWN, OWN_TOO, by_bits(COUNT_AT)),
             subcc(OWN, OWN, by_bits(1)),
-            st(OWN, OWN_TOO, at),
+            st(OWN, OWN_TOO, by_bits(COUNT_AT)),
             branch(Condition::NotEqual, 0x3f_fff9),
             no_op(),
         ],
@@ -84,13 +99,12 @@ fn put_again(code: &mut Vec<Insn>) -> Result<(), AllocError> {
 /// A struct inside, whose words lie behind those of this copy.
 fn put_struct(alloc: Global, making: &mut Making, name: Text, words: u8) -> Result<(), AllocError> {
     let bytes = 4 * u16::from(words);
-    let bytes = by_bits(bytes);
-    put(&mut making.code, add(OWN_TOO, OWN_TOO, bytes))?;
+    put(&mut making.code, add(OWN_TOO, OWN_TOO, by_bits(bytes)))?;
     let at = offset(&making.code)?;
     put_use(&mut making.uses, at, Form::Jump, name, 0)?;
     put_all(
         &mut making.code,
-        &[call(), no_op(), sub(OWN_TOO, OWN_TOO, bytes)],
+        &[call(), no_op(), sub(OWN_TOO, OWN_TOO, by_bits(bytes))],
     )
 }
 

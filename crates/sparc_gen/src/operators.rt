@@ -267,10 +267,8 @@ fn put_jump_if(code: &mut Vec<Insn>, zero: bool) -> Result<(), AllocError>
 fn argument_at(number: u32) -> Result<u32, AllocError>
     ensures { IfOk result (λ n. n ≡ number * 4 + 68) }
 {
-    number
-        .checked_mul(4)
-        .and_then(|bytes| bytes.checked_add(ARGUMENTS_AT))
-        .ok_or(AllocError)
+    let bytes = number.checked_mul(4).ok_or(AllocError)?;
+    bytes.checked_add(ARGUMENTS_AT).ok_or(AllocError)
 }
 
 /// The register of an argument below 6, where the first has this.
