@@ -1,5 +1,5 @@
 // The instructions of flat operators.
-ghost use Rattle.std.specs.Prelude.{◌≡◌, ◌<◌, ℕ, ◌+◌, ◌*◌, ◌%◌, [], ◌∷◌, ◌++◌, IfOk, OnOk};
+ghost use Rattle.std.specs.Prelude.{◌≡◌, ◌<◌, ◌+◌, ◌*◌, ◌%◌, [], ◌∷◌, ◌++◌, IfOk, OnOk};
 ghost use Rattle.sparc_isa.specs.declared.operand.Operand.TheVariants.{Register};
 ghost use Rattle.sparc_isa.specs.declared.insn.Insn.TheVariants.{Add};
 ghost use Rattle.flat_ir.specs.declared.code.FlatOp.TheVariants as flat;
@@ -327,9 +327,9 @@ fn put_argument(
     }
 }
 
-/// A request.
+/// A request, which is the same in each frame.
 fn put_ask(code: &mut Vec<Insn>, request: Request) -> Result<(), AllocError>
-    ensures { (frame : ℕ) → OnOk result (code.new.items ≡ code.old.items ++ insns frame (flat.Ask request)) }
+    ensures { OnOk result (code.new.items ≡ code.old.items ++ insns 0 (flat.Ask request)) }
 {
     let number = match request {
         Request::GetChar => GET_CHAR,
@@ -339,9 +339,9 @@ fn put_ask(code: &mut Vec<Insn>, request: Request) -> Result<(), AllocError>
     put_all(code, &[moved(OUT, A), trap(number), moved(A, OUT)])
 }
 
-/// The end of an activation with A: the window is left before the jump, so that no trap comes in its slot.
+/// The end of an activation with A, which is the same in each frame: the window is left before the jump, so that no trap comes in its slot.
 fn put_return(code: &mut Vec<Insn>) -> Result<(), AllocError>
-    ensures { (frame : ℕ) → OnOk result (code.new.items ≡ code.old.items ++ insns frame flat.Return) }
+    ensures { OnOk result (code.new.items ≡ code.old.items ++ insns 0 flat.Return) }
 {
     put_all(
         code,

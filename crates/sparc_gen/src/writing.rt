@@ -14,7 +14,7 @@ const LONG: u32 = 0x1000;
 pub fn put(code: &mut Vec<Insn>, insn: Insn) -> Result<(), AllocError>
     ensures { OnOk result (code.new.items ≡ code.old.items ++ insn ∷ []) }
 {
-    code.push(insn)?;
+    put_all(code, &[insn])?;
     Ok(())
 }
 
