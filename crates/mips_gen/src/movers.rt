@@ -1,4 +1,7 @@
 // The code that copies structs. A is where to, B is where from; `$11` is the address of the words that a copy keeps, which lie from the end of the stack on: its return address, and the counts of items.
+ghost use Rattle.std.specs.Prelude.{◌≡◌, ◌*◌, ◌++◌, length, true, false, IfOk, OnOk};
+ghost use Rattle.flat_ir.specs.declared.moves.MoveStep.TheVariants as step;
+ghost use Rattle.mips_gen.specs.Movers.{leaf_load as load_of_leaf, leaf_store as store_of_leaf, leaf_bytes as bytes_of_leaf, back_by as back_by_of, leaf_insns, skip_insns, items_insns, over_item as over_item_of, again_insns, struct_insns, step_insns, copy_insns, choice_insns};
 
 use crate::instructions::{addiu, addu, beq, bne, j, jal, jr, lb, lui, lw, no_op, sb, sltu, sw};
 use crate::registers::{A, B, OWN, OWN_TOO, RETURN_ADDRESS, STACK_END_HIGH, ZERO};
@@ -18,40 +21,88 @@ pub struct Making {
 }
 
 /// The offset of the next instruction in the text.
-pub fn offset(code: &[Insn]) -> Result<u32, AllocError> {
+pub fn offset(code: &[Insn]) -> Result<u32, AllocError>
+    ensures { IfOk result (λ n. n ≡ length code.now * 4) }
+{
     let words = u32::try_from(code.len()).map_err(|_| AllocError)?;
     words.checked_mul(4).ok_or(AllocError)
 }
 
-/// The load and the store of a leaf, with its bytes.
-fn leaf_insns(kind: Kind) -> (Insn, Insn, u16) {
+/// The load of a leaf.
+fn leaf_load(kind: Kind) -> Insn
+    ensures { result ≡ load_of_leaf kind }
+{
     match kind {
-        Kind::Byte => (lb(OWN, B, 0), sb(OWN, A, 0), 1),
-        Kind::Word | Kind::Address => (lw(OWN, B, 0), sw(OWN, A, 0), 4),
+        Kind::Byte => lb(OWN, B, 0),
+        Kind::Word | Kind::Address => lw(OWN, B, 0),
     }
 }
 
+/// The store of a leaf.
+fn leaf_store(kind: Kind) -> Insn
+    ensures { result ≡ store_of_leaf kind }
+{
+    match kind {
+        Kind::Byte => sb(OWN, A, 0),
+        Kind::Word | Kind::Address => sw(OWN, A, 0),
+    }
+}
+
+/// The bytes of a leaf.
+fn leaf_bytes(kind: Kind) -> u16
+    ensures { result ≡ bytes_of_leaf kind }
+{
+    match kind {
+        Kind::Byte => 1,
+        Kind::Word | Kind::Address => 4,
+    }
+}
+
+/// The negative of a number of bytes, in 16 bits.
+fn back_by(bytes: u16) -> u16
+    ensures { result ≡ back_by_of bytes }
+{
+    (0xffff - bytes).wrapping_add(1)
+}
+
 /// A leaf, from its start on.
-fn put_leaf(code: &mut Vec<Insn>, kind: Kind) -> Result<(), AllocError> {
-    let (load, store, bytes) = leaf_insns(kind);
+fn put_leaf(code: &mut Vec<Insn>, kind: Kind) -> Result<(), AllocError>
+    ensures { OnOk result (code.new.items ≡ code.old.items ++ leaf_insns false kind) }
+{
+    let bytes = leaf_bytes(kind);
     put_all(
         code,
-        &[load, no_op(), store, addiu(A, A, bytes), addiu(B, B, bytes)],
+        &[
+            leaf_load(kind),
+            no_op(),
+            leaf_store(kind),
+            addiu(A, A, bytes),
+            addiu(B, B, bytes),
+        ],
     )
 }
 
 /// A leaf, from its end back.
-fn put_leaf_back(code: &mut Vec<Insn>, kind: Kind) -> Result<(), AllocError> {
-    let (load, store, bytes) = leaf_insns(kind);
-    let back = bytes.wrapping_neg();
+fn put_leaf_back(code: &mut Vec<Insn>, kind: Kind) -> Result<(), AllocError>
+    ensures { OnOk result (code.new.items ≡ code.old.items ++ leaf_insns true kind) }
+{
+    let back = back_by(leaf_bytes(kind));
     put_all(
         code,
-        &[addiu(A, A, back), addiu(B, B, back), load, no_op(), store],
+        &[
+            addiu(A, A, back),
+            addiu(B, B, back),
+            leaf_load(kind),
+            no_op(),
+            leaf_store(kind),
+        ],
     )
 }
 
 /// Both places moved on.
-fn put_skip(code: &mut Vec<Insn>, bytes: u32) -> Result<(), AllocError> {
+fn put_skip(code: &mut Vec<Insn>, bytes: u32) -> Result<(), AllocError>
+    ensures { OnOk result (code.new.items ≡ code.old.items ++ skip_insns bytes) }
+{
     put_word(code, OWN, bytes)?;
     put_all(code, &[addu(A, A, OWN), addu(B, B, OWN)])
 }
@@ -60,13 +111,27 @@ fn put_skip(code: &mut Vec<Insn>, bytes: u32) -> Result<(), AllocError> {
 const COUNT_AT: u16 = 4;
 
 /// So many items follow.
-fn put_items(code: &mut Vec<Insn>, count: u32) -> Result<(), AllocError> {
+fn put_items(code: &mut Vec<Insn>, count: u32) -> Result<(), AllocError>
+    ensures { OnOk result (code.new.items ≡ code.old.items ++ items_insns count) }
+{
     put_word(code, OWN, count)?;
     put(code, sw(OWN, OWN_TOO, COUNT_AT))
 }
 
-/// An item is done, whose code is of so many words. The branch goes back over it and the five words of this.
-fn put_again(code: &mut Vec<Insn>, words: u16) -> Result<(), AllocError> {
+/// The branch back, from its slot, over the code of an item and five words behind it.
+fn over_item(step: MoveStep) -> u16
+    ensures { result ≡ over_item_of step }
+{
+    match step {
+        MoveStep::Leaf(_) => 0xfff6,
+        _ => 0xfff7,
+    }
+}
+
+/// An item is done, whose step comes before this one.
+fn put_again(code: &mut Vec<Insn>, before: MoveStep) -> Result<(), AllocError>
+    ensures { OnOk result (code.new.items ≡ code.old.items ++ again_insns before) }
+{
     put_all(
         code,
         &[
@@ -74,33 +139,23 @@ fn put_again(code: &mut Vec<Insn>, words: u16) -> Result<(), AllocError> {
             no_op(),
             addiu(OWN, OWN, 0xffff),
             sw(OWN, OWN_TOO, COUNT_AT),
-            bne(OWN, ZERO, words.wrapping_add(5).wrapping_neg()),
+            bne(OWN, ZERO, over_item(before)),
             no_op(),
         ],
     )
 }
 
-/// How many words the code of an item has.
-fn words_of(step: MoveStep) -> u16 {
-    match step {
-        MoveStep::Leaf(_) => 5,
-        _ => 4,
-    }
-}
-
 /// A struct inside, whose words lie behind those of this copy.
-fn put_struct(alloc: Global, making: &mut Making, name: Text, words: u8) -> Result<(), AllocError> {
+fn put_struct(alloc: Global, making: &mut Making, name: Text, words: u8) -> Result<(), AllocError>
+    ensures { OnOk result (making.new.code.items ≡ making.old.code.items ++ struct_insns words) }
+{
     let bytes = 4 * u16::from(words);
     put(&mut making.code, addiu(OWN_TOO, OWN_TOO, bytes))?;
     let at = offset(&making.code)?;
     put_use(&mut making.uses, at, Form::Jump, name, 0)?;
     put_all(
         &mut making.code,
-        &[
-            jal(),
-            no_op(),
-            addiu(OWN_TOO, OWN_TOO, bytes.wrapping_neg()),
-        ],
+        &[jal(), no_op(), addiu(OWN_TOO, OWN_TOO, back_by(bytes))],
     )
 }
 
@@ -114,7 +169,9 @@ fn direction_name(alloc: Global, number: u32, back: bool) -> Result<Text, AllocE
 }
 
 /// A leaf in a direction.
-fn put_leaf_of(code: &mut Vec<Insn>, back: bool, kind: Kind) -> Result<(), AllocError> {
+fn put_leaf_of(code: &mut Vec<Insn>, back: bool, kind: Kind) -> Result<(), AllocError>
+    ensures { OnOk result (code.new.items ≡ code.old.items ++ leaf_insns back kind) }
+{
     if back {
         put_leaf_back(code, kind)
     } else {
@@ -129,12 +186,14 @@ fn put_step(
     back: bool,
     before: MoveStep,
     step: MoveStep,
-) -> Result<(), AllocError> {
+) -> Result<(), AllocError>
+    ensures { OnOk result (making.new.code.items ≡ making.old.code.items ++ step_insns back before step) }
+{
     match step {
         MoveStep::Leaf(kind) => put_leaf_of(&mut making.code, back, kind),
         MoveStep::Skip(bytes) => put_skip(&mut making.code, bytes),
         MoveStep::Items(count) => put_items(&mut making.code, count),
-        MoveStep::Again => put_again(&mut making.code, words_of(before)),
+        MoveStep::Again => put_again(&mut making.code, before),
         MoveStep::Struct { number, words } => {
             let name = direction_name(alloc, number, back)?;
             put_struct(alloc, making, name, words)
@@ -148,7 +207,9 @@ pub fn put_copy(
     making: &mut Making,
     back: bool,
     steps: &[MoveStep],
-) -> Result<(), AllocError> {
+) -> Result<(), AllocError>
+    ensures { OnOk result (making.new.code.items ≡ making.old.code.items ++ copy_insns back steps.now) }
+{
     let mut before = MoveStep::Again;
     put(&mut making.code, sw(RETURN_ADDRESS, OWN_TOO, 0))?;
     for step in steps {
@@ -172,7 +233,9 @@ pub fn put_choice(
     making: &mut Making,
     number: u32,
     size: u32,
-) -> Result<(), AllocError> {
+) -> Result<(), AllocError>
+    ensures { OnOk result (making.new.code.items ≡ making.old.code.items ++ choice_insns size) }
+{
     put_all(
         &mut making.code,
         &[

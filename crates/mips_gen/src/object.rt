@@ -1,4 +1,8 @@
 // The object of a program.
+ghost use Rattle.std.specs.Prelude.{◌≡◌, ◌++◌, length, IfOk, OnOk};
+ghost use Rattle.machine_state.specs.declared.layout.TheConstants.{MIPS as the_target};
+ghost use Rattle.mips_gen.specs.Text.{text_bytes, ops_insns, ops_offsets, function_insns, functions_insns, start_insns, program_insns, IsTextOf};
+ghost use Rattle.mips_gen.specs.Movers.{mover_insns, movers_insns};
 
 use crate::assemble::text_of;
 use crate::frames::{put_epilogue, put_prologue};
@@ -29,14 +33,18 @@ struct Parts {
 }
 
 /// A name of what comes next.
-fn add_name(parts: &mut Parts, name: Text) -> Result<(), AllocError> {
+fn add_name(parts: &mut Parts, name: Text) -> Result<(), AllocError>
+    ensures { OnOk result (parts.new.text.code.items ≡ parts.old.text.code.items) }
+{
     let at = offset(&parts.text.code)?;
     parts.names.push(Name { name, at })?;
     Ok(())
 }
 
 /// The start of a program: `main` is called, and the program exits with what it gives.
-fn add_start(alloc: Global, parts: &mut Parts, main: u32) -> Result<(), AllocError> {
+fn add_start(alloc: Global, parts: &mut Parts, main: u32) -> Result<(), AllocError>
+    ensures { OnOk result (parts.new.text.code.items ≡ parts.old.text.code.items ++ start_insns) }
+{
     add_name(parts, Text::from_slice(alloc, b"start")?)?;
     let at = offset(&parts.text.code)?;
     let name = function_name(alloc, main)?;
@@ -54,12 +62,10 @@ fn add_start(alloc: Global, parts: &mut Parts, main: u32) -> Result<(), AllocErr
 }
 
 /// The code that copies a struct.
-fn add_mover(
-    alloc: Global,
-    parts: &mut Parts,
-    number: u32,
-    mover: &Mover,
-) -> Result<(), AllocError> {
+#[tactic(auto, unfolding(crate::specs::Movers::mover_insns))]
+fn add_mover(alloc: Global, parts: &mut Parts, number: u32, mover: &Mover) -> Result<(), AllocError>
+    ensures { OnOk result (parts.new.text.code.items ≡ parts.old.text.code.items ++ mover_insns mover.now) }
+{
     add_name(parts, mover_name(alloc, number)?)?;
     put_choice(alloc, &mut parts.text, number, mover.size)?;
     add_name(parts, ascending_name(alloc, number)?)?;
@@ -69,7 +75,9 @@ fn add_mover(
 }
 
 /// The code that copies each struct.
-fn add_movers(alloc: Global, parts: &mut Parts, movers: &[Mover]) -> Result<(), AllocError> {
+fn add_movers(alloc: Global, parts: &mut Parts, movers: &[Mover]) -> Result<(), AllocError>
+    ensures { OnOk result (parts.new.text.code.items ≡ parts.old.text.code.items ++ movers_insns movers.now) }
+{
     let mut number: u32 = 0;
     for mover in movers {
         add_mover(alloc, parts, number, mover)?;
@@ -84,7 +92,10 @@ fn put_ops(
     code: &mut Vec<Insn>,
     frame: u32,
     ops: &[FlatOp],
-) -> Result<Vec<u32>, AllocError> {
+) -> Result<Vec<u32>, AllocError>
+    ensures code { OnOk result (code.new.items ≡ code.old.items ++ ops_insns frame ops.now) }
+    ensures places { IfOk result (λ ps. ps.items ≡ ops_offsets frame (length code.old.items) ops.now) }
+{
     let mut places = Vec::new(alloc);
     for op in ops {
         places.push(offset(code)?)?;
@@ -94,13 +105,16 @@ fn put_ops(
 }
 
 /// A function: its code, its uses, its name and its row.
+#[tactic(auto, unfolding(crate::specs::Text::function_insns))]
 fn add_function(
     alloc: Global,
     parts: &mut Parts,
     number: u32,
     slots: &SlotFunction,
     function: &FlatFunction,
-) -> Result<(), AllocError> {
+) -> Result<(), AllocError>
+    ensures { OnOk result (parts.new.text.code.items ≡ parts.old.text.code.items ++ function_insns function.now) }
+{
     add_name(parts, function_name(alloc, number)?)?;
     let entry = offset(&parts.text.code)?;
     put_prologue(&mut parts.text.code, function.frame)?;
@@ -134,12 +148,12 @@ fn add_functions(
     parts: &mut Parts,
     slots: &[SlotFunction],
     functions: &[FlatFunction],
-) -> Result<(), AllocError> {
+) -> Result<(), AllocError>
+    ensures { OnOk result (parts.new.text.code.items ≡ parts.old.text.code.items ++ functions_insns functions.now) }
+{
     let mut number: u32 = 0;
-    for i in 0..functions.len() {
-        let (Some(row), Some(function)) = (slots.get(i), functions.get(i)) else {
-            return Err(AllocError);
-        };
+    for function in functions {
+        let row = slots.get(number as usize).ok_or(AllocError)?;
         add_function(alloc, parts, number, row, function)?;
         number = number.checked_add(1).ok_or(AllocError)?;
     }
@@ -147,7 +161,10 @@ fn add_functions(
 }
 
 /// The text, its names and its rows.
-fn parts_of(alloc: Global, slots: &SlotCode, flat: &FlatCode) -> Result<Parts, AllocError> {
+#[tactic(auto, unfolding(crate::specs::Text::program_insns))]
+fn parts_of(alloc: Global, slots: &SlotCode, flat: &FlatCode) -> Result<Parts, AllocError>
+    ensures { IfOk result (λ p. p.text.code.items ≡ program_insns flat.now) }
+{
     let mut parts = Parts {
         text: Making {
             code: Vec::new(alloc),
@@ -176,11 +193,13 @@ fn all_uses(uses: Vec<Use>, data_uses: Vec<Use>) -> Result<Vec<Use>, AllocError>
     Ok(all)
 }
 
-/// The MIPS object of a program.
-pub fn emit(alloc: Global, slots: &SlotCode) -> Result<Object, AllocError> {
-    let flat = flat_code(alloc, LINKAGE, slots)?;
+/// The MIPS object of a program, by its flat code.
+fn object_of(alloc: Global, slots: &SlotCode, flat: &FlatCode) -> Result<Object, AllocError>
+    ensures target { IfOk result (λ o. o.target ≡ the_target) }
+    ensures text { IfOk result (λ o. o.text ≡ text_bytes (program_insns flat.now)) }
+{
     let data = data_of(alloc, Order::Little, slots)?;
-    let Parts { text, names, rows } = parts_of(alloc, slots, &flat)?;
+    let Parts { text, names, rows } = parts_of(alloc, slots, flat)?;
     let Making { code, uses } = text;
     let Data {
         statics,
@@ -195,4 +214,14 @@ pub fn emit(alloc: Global, slots: &SlotCode) -> Result<Object, AllocError> {
         uses: Many::from_vec(uses),
         functions: Many::from_vec(rows),
     })
+}
+
+/// The MIPS object of a program.
+pub fn emit(alloc: Global, slots: &SlotCode) -> Result<Object, AllocError>
+    ensures target { IfOk result (λ o. o.target ≡ the_target) }
+    ensures text { IfOk result (λ o. IsTextOf slots.now o.text) }
+{
+    let flat = flat_code(alloc, LINKAGE, slots)?;
+    let object = object_of(alloc, slots, &flat)?;
+    Ok(object)
 }

@@ -1,8 +1,8 @@
 // The instructions of flat operators.
-ghost use Rattle.std.specs.Prelude.{◌≡◌, ◌<◌, ℕ, ◌+◌, ◌*◌, ◌%◌, [], ◌∷◌, ◌++◌, IfOk, OnOk};
-ghost use Rattle.mips_isa.specs.declared.insn.Insn.TheVariants.{Addu};
-ghost use Rattle.flat_ir.specs.declared.code.FlatOp.TheVariants as flat;
+ghost use Rattle.std.specs.Prelude.{◌≡◌, ◌<◌, ◌+◌, ◌*◌, ◌%◌, [], ◌∷◌, ◌++◌, IfOk, OnOk};
+ghost use Rattle.mips_isa.specs.declared.insn.Insn.TheVariants.{Addiu, Addu, J, Syscall};
 ghost use Rattle.mips_gen.specs.Insns.{register_of, word_insns, load_insn, store_insn, extend_insns, fill_insns, unary_insns, turned_insns, long_insns, binary_insns, scale_insns, apart_insns, pass_insns, landed_insn, argument_insns, insns};
+ghost use Rattle.mips_gen.specs.Insns.{no_op as no_op_insn, over_insn, request_number};
 
 use crate::instructions::{
     addiu, addu, and, andi, beq, bne, div, divu, j, jal, lb, lbu, lh, lhu, lw, mfhi, mflo, mult,
@@ -175,7 +175,7 @@ fn put_apart(code: &mut Vec<Insn>, size: u32) -> Result<(), AllocError>
 
 /// A jump where A is 0, or where it is not, over which a branch goes otherwise.
 fn put_jump_if(code: &mut Vec<Insn>, zero: bool) -> Result<(), AllocError>
-    ensures { (frame place : ℕ) → OnOk result (code.new.items ≡ code.old.items ++ insns frame (flat.JumpIf zero place)) }
+    ensures { OnOk result (code.new.items ≡ code.old.items ++ over_insn zero ∷ no_op_insn ∷ J 0 ∷ no_op_insn ∷ []) }
 {
     let over = if zero {
         bne(A, ZERO, 3)
@@ -220,6 +220,9 @@ fn put_landed(code: &mut Vec<Insn>, from: u8, landing: Landing) -> Result<(), Al
     match landing {
         Landing::Frame { at, kind } => {
             let at = u16::try_from(at).map_err(|_| AllocError)?;
+            if at >= 0x8000 {
+                return Err(AllocError);
+            }
             put(code, store_of(kind, from, STACK_POINTER, at))
         }
         Landing::Register(number) => put(code, addu(local_register(number)?, from, ZERO)),
@@ -246,7 +249,7 @@ fn put_argument(
 
 /// A request.
 fn put_ask(code: &mut Vec<Insn>, request: Request) -> Result<(), AllocError>
-    ensures { (frame : ℕ) → OnOk result (code.new.items ≡ code.old.items ++ insns frame (flat.Ask request)) }
+    ensures { OnOk result (code.new.items ≡ code.old.items ++ Addu 4 8 0 ∷ Addiu 2 0 (request_number request) ∷ Syscall ∷ Addu 8 2 0 ∷ []) }
 {
     let number = match request {
         Request::GetChar => GET_CHAR,
