@@ -1,1 +1,0 @@
-int main(void) { exit(-3); return 0; }
