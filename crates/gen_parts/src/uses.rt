@@ -1,0 +1,117 @@
+// Where the text of flat operators names addresses.
+
+use crate::names::{function_name, mover_name, object_name};
+use flat_ir::FlatOp;
+use ldb_words::Text;
+use obj_file::{Form, Use};
+use std::alloc::{AllocError, Global};
+
+/// A function that is made: its number; where in the text it begins, and the code of each place of its flat code; where its end begins, if that is jumped to; and which word of a conditional jump, counted from 0, is the jump.
+#[derive(Drop)]
+pub struct Around<'a> {
+    pub number: u32,
+    pub entry: u32,
+    pub places: &'a [u32],
+    pub epilogue: Option<u32>,
+    pub jump_word: u32,
+}
+
+/// A use in the text.
+pub fn put_use(
+    uses: &mut Vec<Use>,
+    at: u32,
+    form: Form,
+    name: Text,
+    add: u32,
+) -> Result<(), AllocError> {
+    uses.push(Use {
+        in_text: true,
+        at,
+        form,
+        name,
+        add,
+    })?;
+    Ok(())
+}
+
+/// So many words behind an offset in the text.
+fn words_on(at: u32, words: u32) -> Result<u32, AllocError> {
+    let bytes = words.checked_mul(4).ok_or(AllocError)?;
+    at.checked_add(bytes).ok_or(AllocError)
+}
+
+/// The upper and the lower half of an object's address.
+fn use_object(alloc: Global, uses: &mut Vec<Use>, at: u32, object: u32) -> Result<(), AllocError> {
+    put_use(uses, at, Form::High, object_name(alloc, object)?, 0)?;
+    put_use(
+        uses,
+        words_on(at, 1)?,
+        Form::Low,
+        object_name(alloc, object)?,
+        0,
+    )
+}
+
+/// A jump to an offset in the text of the same function.
+fn use_own(
+    alloc: Global,
+    uses: &mut Vec<Use>,
+    around: &Around,
+    at: u32,
+    target: u32,
+) -> Result<(), AllocError> {
+    let add = target.checked_sub(around.entry).ok_or(AllocError)?;
+    let name = function_name(alloc, around.number)?;
+    put_use(uses, at, Form::Jump, name, add)
+}
+
+/// Where the code of a place begins.
+fn place_at(around: &Around, place: u32) -> Result<u32, AllocError> {
+    around.places.get(place as usize).copied().ok_or(AllocError)
+}
+
+/// The uses of an operator, whose code begins at an offset in the text.
+fn put_uses(
+    alloc: Global,
+    uses: &mut Vec<Use>,
+    around: &Around,
+    at: u32,
+    op: &FlatOp,
+) -> Result<(), AllocError> {
+    match *op {
+        FlatOp::StaticAddress { to: _, object } => use_object(alloc, uses, at, object),
+        FlatOp::Copy { shape } => put_use(uses, at, Form::Jump, mover_name(alloc, shape)?, 0),
+        FlatOp::Call { function } => {
+            put_use(uses, at, Form::Jump, function_name(alloc, function)?, 0)
+        }
+        FlatOp::Jump { place } => use_own(alloc, uses, around, at, place_at(around, place)?),
+        FlatOp::JumpIf { zero: _, place } => use_own(
+            alloc,
+            uses,
+            around,
+            words_on(at, around.jump_word)?,
+            place_at(around, place)?,
+        ),
+        FlatOp::Return => match around.epilogue {
+            Some(epilogue) => use_own(alloc, uses, around, words_on(at, 1)?, epilogue),
+            None => Ok(()),
+        },
+        _ => Ok(()),
+    }
+}
+
+/// The uses of operators, each of whose code begins at its place.
+pub fn put_all_uses(
+    alloc: Global,
+    uses: &mut Vec<Use>,
+    around: &Around,
+    ops: &[FlatOp],
+) -> Result<(), AllocError> {
+    for i in 0..ops.len() {
+        let (Some(op), Some(at)) = (ops.get(i), around.places.get(i)) else {
+            return Err(AllocError);
+        };
+        put_uses(alloc, uses, around, *at, op)?;
+    }
+    Ok(())
+}

@@ -1,0 +1,6 @@
+use Rattle.std.proofs.Common.{◌≡◌, ◌++◌, drop}
+use Rattle.link_image.specs.Patched.{joined}
+use Rattle.link_image.proofs.patch.joined.Given as goal
+
+abbrev pub invariant-loop-row : goal.invariant-loop-row
+invariant-loop-row l = l.bytes.items ++ joined (drop l.row-index l.statics) ≡ joined l.statics

@@ -1,0 +1,108 @@
+// Texts and static bytes with each use patched.
+
+ghost use Rattle.std.specs.Prelude.{◌≡◌, ◌+◌, ◌≤◌, ◌++◌, IfOk, length, drop};
+ghost use Rattle.machine_state.specs.Regions.{number_of, bytes_of};
+ghost use Rattle.link_image.specs.Patched.{patched_at, joined};
+
+use crate::addresses::Addresses;
+use crate::field::{order_of, patched_word};
+use byteorder::{BigEndian, ByteOrder, LittleEndian};
+use ldb_words::Order;
+use obj_file::{Object, StaticDef, Use};
+use std::alloc::{AllocError, Global};
+
+/// The word in the first four bytes.
+fn word(order: Order, bytes: &[u8]) -> u32
+    requires { 4 ≤ length bytes.now }
+    ensures { result ≡ number_of order 4 bytes.now }
+{
+    match order {
+        Order::Little => LittleEndian::read_u32(bytes),
+        Order::Big => BigEndian::read_u32(bytes),
+    }
+}
+
+/// Writes a word over the first four bytes.
+fn write_word(order: Order, bytes: &mut [u8], value: u32)
+    requires { 4 ≤ length bytes.old }
+    ensures { bytes.new ≡ bytes_of order 4 value ++ drop 4 bytes.old }
+{
+    match order {
+        Order::Little => LittleEndian::write_u32(bytes, value),
+        Order::Big => BigEndian::write_u32(bytes, value),
+    }
+}
+
+/// Patches a use of an address in bytes that begin at an address.
+#[tactic(auto, unfolding(crate::specs::Patched::patched_at))]
+fn patch(target: u8, base: u32, address: u32, place: &Use, bytes: &mut [u8])
+    requires { place.now.at + 4 ≤ length bytes.old }
+    ensures { bytes.new ≡ patched_at target base address place.now bytes.old }
+{
+    let order = order_of(target);
+    let at = place.at as usize;
+    let old = word(order, &bytes[at..]);
+    let stands = base.wrapping_add(place.at);
+    let new = patched_word(
+        target,
+        place.form,
+        stands,
+        address.wrapping_add(place.add),
+        old,
+    );
+    write_word(order, &mut bytes[at..], new);
+}
+
+/// Patches the uses that stand in the text, or those that do not, in bytes that begin at an address.
+fn patch_all<'a>(
+    addresses: &Addresses<'a>,
+    object: &'a Object,
+    in_text: bool,
+    base: u32,
+    bytes: &mut [u8],
+) -> Result<(), AllocError> {
+    for place in object.uses.as_slice() {
+        if place.in_text == in_text {
+            let address = addresses.find(place.name.as_bytes()).ok_or(AllocError)?;
+            if bytes.len() < place.at as usize + 4 {
+                return Err(AllocError);
+            }
+            patch(object.target, base, address, place, bytes);
+        }
+    }
+    Ok(())
+}
+
+/// The text of an object, which begins at an address.
+pub fn patched_text<'a>(
+    alloc: Global,
+    addresses: &Addresses<'a>,
+    object: &'a Object,
+    base: u32,
+) -> Result<Vec<u8>, AllocError> {
+    let mut text = Vec::from_slice(alloc, object.text.as_bytes())?;
+    patch_all(addresses, object, true, base, &mut text)?;
+    Ok(text)
+}
+
+/// The bytes of static objects, one after another.
+fn joined(alloc: Global, statics: &[StaticDef]) -> Result<Vec<u8>, AllocError>
+    ensures { IfOk result (λ v. v.items ≡ joined statics.now) }
+{
+    let mut bytes = Vec::new(alloc);
+    for row in statics {
+        bytes.extend_from_slice(row.bytes.as_bytes())?;
+    }
+    Ok(bytes)
+}
+
+/// The bytes of an object's static objects, one after another.
+pub fn patched_statics<'a>(
+    alloc: Global,
+    addresses: &Addresses<'a>,
+    object: &'a Object,
+) -> Result<Vec<u8>, AllocError> {
+    let mut bytes = joined(alloc, object.statics.as_slice())?;
+    patch_all(addresses, object, false, 0, &mut bytes)?;
+    Ok(bytes)
+}
