@@ -5,8 +5,6 @@ mod arithmetic;
 mod event;
 mod kinds;
 mod many;
-#[cfg(test)]
-mod tests;
 mod text;
 mod word;
 
