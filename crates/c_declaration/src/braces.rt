@@ -92,6 +92,8 @@ fn longer(
             items,
         }));
     }
+    drop(braces);
+    drop(item);
     Ok(None)
 }
 
@@ -105,9 +107,15 @@ pub fn item_of(
     match braces {
         Some(braces) => match item {
             Some(item) => longer(braces, item),
-            None => Ok(None),
+            None => {
+                drop(braces);
+                Ok(None)
+            }
         },
-        None => Ok(None),
+        None => {
+            drop(item);
+            Ok(None)
+        }
     }
 }
 

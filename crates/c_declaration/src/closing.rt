@@ -91,7 +91,10 @@ fn named_divided(
     ensures { Answers result (named_divided frame d stack) }
 {
     match frame {
-        Frame::Nest(_stars, _place, _unnamed) => Err(SynFault::Syntax(place)),
+        Frame::Nest(_stars, _place, _unnamed) => {
+            drop(d);
+            Err(SynFault::Syntax(place))
+        }
         Frame::Parameter(taking, begun, register, spec) => goes(
             Mode::Parameters(taken(taking, named_of(begun, register, spec, d))?),
             stack,
@@ -113,7 +116,11 @@ fn behind_named_in(
     match symbol {
         Symbol::CloseParen => named_closed(alloc, frame, d, stack),
         Symbol::Binary(BinaryOp::Comma) => named_divided(frame, d, stack, place),
-        _ => Err(SynFault::Syntax(place)),
+        _ => {
+            drop(frame);
+            drop(d);
+            Err(SynFault::Syntax(place))
+        }
     }
 }
 
@@ -162,6 +169,7 @@ fn unnamed_last(
     ensures { Answers result (unnamed_last alone taking parameter stack) }
 {
     if alone {
+        drop(parameter);
         return called(alloc, taking, stack);
     }
     called(alloc, taken(taking, parameter)?, stack)
@@ -184,10 +192,14 @@ fn unnamed_closed(
                 let a = around_of(alloc, count_of(stars), a)?;
                 return goes(Mode::Unnamed(a), stack);
             }
+            drop(a);
             Err(SynFault::Syntax(place))
         }
         Frame::Parameter(taking, begun, register, spec) => {
             if register {
+                drop(taking);
+                drop(spec);
+                drop(a);
                 return Err(SynFault::Syntax(place));
             }
             let alone = void_alone(&taking, none, &spec);
@@ -206,9 +218,15 @@ fn unnamed_divided(
     ensures { Answers result (unnamed_divided frame a stack) }
 {
     match frame {
-        Frame::Nest(_stars, _place, _unnamed) => Err(SynFault::Syntax(place)),
+        Frame::Nest(_stars, _place, _unnamed) => {
+            drop(a);
+            Err(SynFault::Syntax(place))
+        }
         Frame::Parameter(taking, begun, register, spec) => {
             if register {
+                drop(taking);
+                drop(spec);
+                drop(a);
                 return Err(SynFault::Syntax(place));
             }
             let taking = taken(taking, unnamed_of(begun, spec, a))?;
@@ -232,7 +250,11 @@ fn behind_unnamed_in(
     match symbol {
         Symbol::CloseParen => unnamed_closed(alloc, frame, none, a, stack, place),
         Symbol::Binary(BinaryOp::Comma) => unnamed_divided(frame, a, stack, place),
-        _ => Err(SynFault::Syntax(place)),
+        _ => {
+            drop(frame);
+            drop(a);
+            Err(SynFault::Syntax(place))
+        }
     }
 }
 
@@ -250,6 +272,9 @@ pub fn behind_unnamed(
     let mut stack = stack;
     match stack.pop() {
         Some(frame) => behind_unnamed_in(alloc, frame, symbol, none, a, stack, place),
-        None => Err(SynFault::Syntax(place)),
+        None => {
+            drop(a);
+            Err(SynFault::Syntax(place))
+        }
     }
 }

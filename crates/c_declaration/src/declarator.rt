@@ -111,7 +111,10 @@ fn spec_is(
             stack.push(Frame::Parameter(taking, begun, register, spec))?;
             goes(Mode::Front(None), stack)
         }
-        None => Err(SynFault::Syntax(place)),
+        None => {
+            drop(taking);
+            Err(SynFault::Syntax(place))
+        }
     }
 }
 
@@ -304,7 +307,11 @@ fn bound_read(
 {
     match symbol {
         Symbol::CloseBracket => bounded(alloc, before, bound, stack),
-        _ => Err(SynFault::Syntax(place)),
+        _ => {
+            drop(before);
+            drop(bound);
+            Err(SynFault::Syntax(place))
+        }
     }
 }
 
@@ -320,9 +327,13 @@ fn bounding_by(
 {
     let symbol = next.symbol;
     let place = next.place;
-    match offer(alloc, parser, Least::Constant, next)? {
-        Offered::Goes(parser) => goes(Mode::Bound(before, parser), stack),
-        Offered::Ends(bound) => bound_read(alloc, stack, before, symbol, bound, place),
+    match offer(alloc, parser, Least::Constant, next) {
+        Ok(Offered::Goes(parser)) => goes(Mode::Bound(before, parser), stack),
+        Ok(Offered::Ends(bound)) => bound_read(alloc, stack, before, symbol, bound, place),
+        Err(fault) => {
+            drop(before);
+            Err(fault)
+        }
     }
 }
 
@@ -346,10 +357,17 @@ fn bounding(
     ensures { Answers result (bounding stack before next) }
 {
     if is_bracket(next.symbol) {
+        drop(next);
         return unbounded(alloc, before, stack);
     }
-    let parser = Parser::new(alloc, Least::Constant)?;
-    bounding_by(alloc, stack, before, parser, next)
+    match Parser::new(alloc, Least::Constant) {
+        Ok(parser) => bounding_by(alloc, stack, before, parser, next),
+        Err(AllocError) => {
+            drop(before);
+            drop(next);
+            Err(SynFault::NoMemory)
+        }
+    }
 }
 
 /// A parameter's type.
@@ -370,7 +388,10 @@ fn typed(
             goes(Mode::Front(None), stack)
         }
         Symbol::Struct => goes(Mode::Tagging(taking, begun, register), stack),
-        _ => Err(SynFault::Syntax(place)),
+        _ => {
+            drop(taking);
+            Err(SynFault::Syntax(place))
+        }
     }
 }
 
@@ -386,6 +407,7 @@ fn closing(
     if taking.first {
         return called(alloc, taking, stack);
     }
+    drop(taking);
     Err(SynFault::Syntax(place))
 }
 
@@ -425,7 +447,11 @@ fn tagging(
             stack.push(Frame::Parameter(taking, begun, register, spec))?;
             goes(Mode::Front(None), stack)
         }
-        _ => Err(SynFault::Syntax(place)),
+        _ => {
+            drop(taking);
+            drop(text);
+            Err(SynFault::Syntax(place))
+        }
     }
 }
 

@@ -47,9 +47,15 @@ fn name_with(d: Option<Declarator>, initial: Option<Initial>) -> Option<Declared
                 declarator,
                 initial: Some(initial),
             }),
-            None => None,
+            None => {
+                drop(declarator);
+                None
+            }
         },
-        None => None,
+        None => {
+            drop(initial);
+            None
+        }
     }
 }
 
@@ -97,9 +103,15 @@ fn function_with(
                 spec,
                 declarator,
             }),
-            None => None,
+            None => {
+                drop(spec);
+                None
+            }
         },
-        None => None,
+        None => {
+            drop(d);
+            None
+        }
     }
 }
 
@@ -139,7 +151,12 @@ fn body(
             let head = function_with(front, spec, tree_in(d));
             Ok(Step::Ends(ReadHead::Function(front.place, head)))
         }
-        ReadName::With(_d, _initial) => Err(SynFault::Syntax(place)),
+        ReadName::With(d, initial) => {
+            drop(spec);
+            drop(d);
+            drop(initial);
+            Err(SynFault::Syntax(place))
+        }
     }
 }
 
@@ -154,6 +171,8 @@ fn only_body(
     ensures { Answers result (if any then None else body front spec name) }
 {
     if any {
+        drop(spec);
+        drop(name);
         return Err(SynFault::Syntax(place));
     }
     body(front, spec, name, place)
@@ -185,15 +204,39 @@ fn behind_name(
 {
     match symbol {
         Symbol::Binary(BinaryOp::Comma) => {
-            let names = more_names(names, name)?;
-            Ok(Step::Goes(FileParser::Naming(front, spec, names, NameParser::new(alloc))))
+            match more_names(names, name) {
+                Ok(names) => Ok(Step::Goes(FileParser::Naming(
+                    front,
+                    spec,
+                    names,
+                    NameParser::new(alloc),
+                ))),
+                Err(AllocError) => {
+                    drop(spec);
+                    Err(SynFault::NoMemory)
+                }
+            }
         }
         Symbol::Semicolon => {
-            let names = more_names(names, name)?;
-            declared(front, spec, names.list)
+            match more_names(names, name) {
+                Ok(names) => declared(front, spec, names.list),
+                Err(AllocError) => {
+                    drop(spec);
+                    Err(SynFault::NoMemory)
+                }
+            }
         }
-        Symbol::OpenBrace => only_body(front, spec, names.any, name, place),
-        _ => Err(SynFault::Syntax(place)),
+        Symbol::OpenBrace => {
+            let any = names.any;
+            drop(names);
+            only_body(front, spec, any, name, place)
+        }
+        _ => {
+            drop(spec);
+            drop(names);
+            drop(name);
+            Err(SynFault::Syntax(place))
+        }
     }
 }
 
@@ -210,9 +253,14 @@ fn naming(
 {
     let symbol = next.symbol;
     let place = next.place;
-    match name_offer(alloc, parser, next)? {
-        Step::Goes(parser) => Ok(Step::Goes(FileParser::Naming(front, spec, names, parser))),
-        Step::Ends(name) => behind_name(alloc, front, spec, names, name, symbol, place),
+    match name_offer(alloc, parser, next) {
+        Ok(Step::Goes(parser)) => Ok(Step::Goes(FileParser::Naming(front, spec, names, parser))),
+        Ok(Step::Ends(name)) => behind_name(alloc, front, spec, names, name, symbol, place),
+        Err(fault) => {
+            drop(spec);
+            drop(names);
+            Err(fault)
+        }
     }
 }
 
@@ -236,6 +284,7 @@ fn whole(
     ensures { Answers result (whole front spec next) }
 {
     if is_semicolon(next.symbol) {
+        drop(next);
         return declared(front, spec, Some(Many::new(alloc)));
     }
     naming(

@@ -80,6 +80,8 @@ fn longer(
             parameters,
         }));
     }
+    drop(function);
+    drop(parameter);
     Ok(None)
 }
 
@@ -93,9 +95,15 @@ pub fn taking_of(
     match function {
         Some(function) => match parameter {
             Some(parameter) => longer(function, parameter),
-            None => Ok(None),
+            None => {
+                drop(function);
+                Ok(None)
+            }
         },
-        None => Ok(None),
+        None => {
+            drop(parameter);
+            Ok(None)
+        }
     }
 }
 

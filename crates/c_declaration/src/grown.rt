@@ -102,9 +102,15 @@ pub fn array_of(
     match d {
         Some(d) => match bound {
             Some(bound) => array_with(alloc, d, bound),
-            None => Ok(None),
+            None => {
+                drop(d);
+                Ok(None)
+            }
         },
-        None => Ok(None),
+        None => {
+            drop(bound);
+            Ok(None)
+        }
     }
 }
 

@@ -44,7 +44,11 @@ fn done_in(
             let list = item_of(waiting.list, item)?;
             goes(InitialMode::Done(closed_of(alloc, list)?), stack)
         }
-        _ => Err(SynFault::Syntax(place)),
+        _ => {
+            drop(waiting);
+            drop(item);
+            Err(SynFault::Syntax(place))
+        }
     }
 }
 
@@ -112,6 +116,7 @@ fn wanting(alloc: Global, stack: Stack<OpenBraces>, next: Terminal) -> Result<In
     let mut stack = stack;
     if is_open_brace(next.symbol) {
         let list = braces_of(alloc, next.place);
+        drop(next);
         stack.push(OpenBraces { list })?;
         return goes(InitialMode::Want, stack);
     }

@@ -96,6 +96,8 @@ fn longer(
             tree: list,
         }));
     }
+    drop(names);
+    drop(name);
     Ok(None)
 }
 
@@ -109,9 +111,15 @@ fn names_of(
     match names {
         Some(names) => match name {
             Some(name) => longer(names, name),
-            None => Ok(None),
+            None => {
+                drop(names);
+                Ok(None)
+            }
         },
-        None => Ok(None),
+        None => {
+            drop(name);
+            Ok(None)
+        }
     }
 }
 
@@ -156,7 +164,11 @@ fn behind_name(
             NameParser::new(alloc),
         ))),
         Symbol::Semicolon => Ok(Step::Ends(local_of(front, names))),
-        _ => Err(SynFault::Syntax(place)),
+        _ => {
+            drop(front);
+            drop(names);
+            Err(SynFault::Syntax(place))
+        }
     }
 }
 
@@ -172,11 +184,19 @@ fn naming(
 {
     let symbol = next.symbol;
     let place = next.place;
-    match name_offer(alloc, parser, next)? {
-        Step::Goes(parser) => Ok(Step::Goes(LocalParser::Naming(front, names, parser))),
-        Step::Ends(name) => {
-            let names = names_of(names, declared_of(name))?;
-            behind_name(alloc, front, names, symbol, place)
+    match name_offer(alloc, parser, next) {
+        Ok(Step::Goes(parser)) => Ok(Step::Goes(LocalParser::Naming(front, names, parser))),
+        Ok(Step::Ends(name)) => match names_of(names, declared_of(name)) {
+            Ok(names) => behind_name(alloc, front, names, symbol, place),
+            Err(AllocError) => {
+                drop(front);
+                Err(SynFault::NoMemory)
+            }
+        },
+        Err(fault) => {
+            drop(front);
+            drop(names);
+            Err(fault)
         }
     }
 }

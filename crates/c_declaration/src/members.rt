@@ -99,7 +99,12 @@ fn behind_member(
             let parts = last(parts, row_with(row, declarators))?;
             goes(parts, inside, RowMode::Begin)
         }
-        _ => Err(SynFault::Syntax(place)),
+        _ => {
+            drop(parts);
+            drop(row);
+            drop(declarators);
+            Err(SynFault::Syntax(place))
+        }
     }
 }
 
@@ -117,11 +122,21 @@ fn naming(
 {
     let symbol = next.symbol;
     let place = next.place;
-    match declarator_offer(alloc, parser, next)? {
-        Step::Goes(parser) => goes(parts, inside, RowMode::Naming(row, declarators, parser)),
-        Step::Ends(d) => {
-            let declarators = last(declarators, tree_in(d))?;
-            behind_member(alloc, parts, inside, row, declarators, symbol, place)
+    match declarator_offer(alloc, parser, next) {
+        Ok(Step::Goes(parser)) => goes(parts, inside, RowMode::Naming(row, declarators, parser)),
+        Ok(Step::Ends(d)) => match last(declarators, tree_in(d)) {
+            Ok(declarators) => behind_member(alloc, parts, inside, row, declarators, symbol, place),
+            Err(AllocError) => {
+                drop(parts);
+                drop(row);
+                Err(SynFault::NoMemory)
+            }
+        },
+        Err(fault) => {
+            drop(parts);
+            drop(row);
+            drop(declarators);
+            Err(fault)
         }
     }
 }

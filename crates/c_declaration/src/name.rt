@@ -47,9 +47,13 @@ pub fn name_offer(alloc: Global, parser: NameParser, next: Terminal) -> Result<N
             Step::Goes(parser) => Ok(Step::Goes(NameParser::Declarator(parser))),
             Step::Ends(d) => behind_declarator(alloc, symbol, d),
         },
-        NameParser::Initial(d, parser) => match initial_offer(alloc, parser, next)? {
-            Step::Goes(parser) => Ok(Step::Goes(NameParser::Initial(d, parser))),
-            Step::Ends(initial) => Ok(Step::Ends(ReadName::With(d, initial))),
+        NameParser::Initial(d, parser) => match initial_offer(alloc, parser, next) {
+            Ok(Step::Goes(parser)) => Ok(Step::Goes(NameParser::Initial(d, parser))),
+            Ok(Step::Ends(initial)) => Ok(Step::Ends(ReadName::With(d, initial))),
+            Err(fault) => {
+                drop(d);
+                Err(fault)
+            }
         },
     }
 }

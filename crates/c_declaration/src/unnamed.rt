@@ -83,6 +83,8 @@ fn with_bound(d: Built<Abstract>, bound: Built<Expr>) -> Result<Option<Built<Abs
             tree: push_bound(d.tree, Some(bound.tree))?,
         }));
     }
+    drop(d);
+    drop(bound);
     Ok(None)
 }
 
@@ -96,9 +98,15 @@ pub fn bounded_of(
     match d {
         Some(d) => match bound {
             Some(bound) => with_bound(d, bound),
-            None => Ok(None),
+            None => {
+                drop(d);
+                Ok(None)
+            }
         },
-        None => Ok(None),
+        None => {
+            drop(bound);
+            Ok(None)
+        }
     }
 }
 
