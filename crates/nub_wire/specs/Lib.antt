@@ -6,10 +6,11 @@ pub mod Exchange
 pub mod Feeding
 pub mod Front
 pub mod Heard
+pub mod Held
 pub mod Nub
 pub mod Replies
 pub mod Rest
+pub mod Resumes
 pub mod Silence
 pub mod Spelling
-pub mod Stream
 pub mod Told
