@@ -2,9 +2,11 @@ pub mod AtOnce
 pub mod Cuts
 pub mod Ends
 pub mod Feeds
+pub mod Fitting
 pub mod Flags
 pub mod Fronts
 pub mod LawsOfStreams
+pub mod NoBadReplies
 pub mod Outputs
 pub mod Pendings
 pub mod Quiet

@@ -264,7 +264,7 @@ resumed_is {b = b} {h = h} {t = u} o (tells_more {t = t} n left m ms turn is mor
     more_step b (total b h) m ms t u left is (step_of b n h t m o turn) (resumed_is (left, is) more)
 
 -- a run keeps the flags of its nub
-flags_kept : {b : Behaviour} {h t : Host} {ms : List Msg} (k l : Bool) → Flags k l h.nub → Tells b h ms t → Flags k l t.nub
+pub flags_kept : {b : Behaviour} {h t : Host} {ms : List Msg} (k l : Bool) → Flags k l h.nub → Tells b h ms t → Flags k l t.nub
 flags_kept {b = b} {h = h} k l f (tells_end n m turn shut) = subst (λ (p : Replied). Flags k l p.1.nub) turn (turn_has b k l n h f)
 flags_kept {b = b} {h = h} k l f (tells_more n left m ms turn is more) =
     flags_kept k l (subst (λ (p : Replied). Flags k l p.1.nub) turn (turn_has b k l n h f)) more

@@ -4,6 +4,7 @@ pub mod Delivery
 pub mod Endings
 pub mod Exchange
 pub mod Feeding
+pub mod Fits
 pub mod Front
 pub mod Heard
 pub mod Held
