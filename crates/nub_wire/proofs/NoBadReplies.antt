@@ -1,14 +1,16 @@
 -- Nubs that meet their definition give no bad reply.
 use Rattle.std.proofs.Common.{◌≡◌, ◌∙◌, refl, sym, ap, subst, ℕ, ◌+◌, ◌≤◌, Bool, true, false, if◌then◌else◌, List, [], ◌∷◌, Option, None, Some, arith}
-use Rattle.machine_state.specs.State.{MachineState, Behaviour, order_of}
-use Rattle.machine_state.specs.Regions.{read_of}
+use Rattle.machine_state.specs.State.{MachineState, Behaviour, order_of, with_memory, given_input}
+use Rattle.machine_state.specs.Regions.{read_of, write_of}
 use Rattle.machine_state.proofs.SoundMemory.{read_byte}
 use Rattle.nub_wire.specs.declared.message.Msg.{Msg}
 use Rattle.nub_wire.specs.declared.message.Msg.TheVariants as msg
 use Rattle.nub_wire.specs.declared.link.Side.{Side}
-use Rattle.nub_wire.specs.Spelling.{MsgFits}
+use Rattle.nub_wire.specs.Spelling.{MsgFits, size_byte}
 use Rattle.nub_wire.specs.Feeding.{AllFit}
-use Rattle.nub_wire.specs.Nub.{Host, Replied, resumed, served, handled}
+use Rattle.nub_wire.specs.Nub.{Host, Replied, host, resumed, served, handled, running, turn_of, if_open}
+use Rattle.nub_wire.specs.Resumes.{Tells, tells_end, tells_more}
+use Rattle.nub_wire.proofs.Pendings.{none_told}
 use Rattle.nub_wire.specs.declared.message.Ending.{Ending}
 use Rattle.nub_wire.specs.Delivery.{nubs_over, LinkSide, World, side_of}
 use Rattle.nub_wire.specs.Heard.{IsWithin, AreWithin, IsShut, GivesBytes, MayAsk, IsAnswered}
@@ -16,9 +18,9 @@ use Rattle.nub_wire.specs.Rest.{IsAtRest}
 use Rattle.nub_wire.specs.Calls.{BadReply}
 use Rattle.nub_wire.specs.Exchange.{Replies, at_once, later, got_on}
 use Rattle.nub_wire.specs.Fits.{TellsFitting, begins}
-use Rattle.nub_wire.specs.Told.{took_by, NubsGiveNoBadReply}
+use Rattle.nub_wire.specs.Told.{took_by, NubsGiveNoBadReply, NubsStayFitting}
 use Rattle.nub_wire.proofs.Flags.{Flags}
-use Rattle.nub_wire.proofs.ResumesAreRuns.{Open, flags_kept}
+use Rattle.nub_wire.proofs.ResumesAreRuns.{Open, flags_kept, resumed_is}
 use Rattle.nub_wire.proofs.ResumesEnd.{AreHeard, last_heard, told_whole}
 use Rattle.nub_wire.proofs.Replies.{handle_answered}
 use Rattle.nub_wire.proofs.Fitting.{Fit, TellsFit, tells_fit, handled_fit, fit_of}
@@ -36,41 +38,46 @@ pub record Whole (b : Behaviour) (m : Msg) (g : Host) : Type 0 where
 gives_bytes : (b : Behaviour) (h : Host) → TellsFitting b h → GivesBytes h.machine
 gives_bytes b h x = λ (at value : ℕ) e. read_byte (order_of h.machine) h.machine.memory at value (x.machine h.machine begins).memory e
 
--- ---- no reply blocks its nub
+-- ---- a nub that waits for a message goes on to
 
-abbrev Takes : Replied → Type 0
-Takes p = p.1.nub.blocked ≡ false
+-- no bytes came that begin no frame, and no output is gathered
+pub record Waits (h : Host) : Type 0 where
+  pub takes : h.nub.blocked ≡ false
+  pub none_left : h.nub.output ≡ []
 
-resumed_takes : (b : Behaviour) (turns : ℕ) (e : Option Ending) (h : Host) → h.nub.blocked ≡ false → Takes (resumed b turns e h)
-resumed_takes b turns (Some e) h x = x
-resumed_takes b turns None h x = x
+same_waits : (h : Host) (m : MachineState) → Waits h → Waits (host h.nub m)
+same_waits h m x = record { takes = x.takes; none_left = x.none_left }
 
-served_takes : (b : Behaviour) (m : Msg) (h : Host) → h.nub.blocked ≡ false → Takes (served b m h)
+resumed_waits : (b : Behaviour) (turns : ℕ) (e : Option Ending) (h : Host) → Waits h → Waits (resumed b turns e h).1
+resumed_waits b turns (Some e) h x = x
+resumed_waits b turns None h x = record { takes = x.takes; none_left = x.none_left }
+
+served_waits : (b : Behaviour) (m : Msg) (h : Host) → Waits h → Waits (served b m h).1
 unfolding served
-served_takes b msg.Hello h x = x
-served_takes b (msg.Fetch address size) h x = x
-served_takes b (msg.Store address size value) h x = x
-served_takes b (msg.Resume turns) h x = resumed_takes b turns h.nub.ended h x
-served_takes b msg.Kill h x = x
-served_takes b (msg.Input bytes) h x = x
-served_takes b (msg.Word value) h x = x
-served_takes b msg.Done h x = x
-served_takes b msg.Outside h x = x
-served_takes b (msg.Stopped why pc) h x = x
-served_takes b (msg.Output bytes) h x = x
-served_takes b (msg.Exited status) h x = x
-served_takes b (msg.Faulted fault pc) h x = x
-served_takes b msg.Turns h x = x
-served_takes b msg.Stack h x = x
+served_waits b msg.Hello h x = x
+served_waits b (msg.Fetch address size) h x = x
+served_waits b (msg.Store address size value) h x = same_waits h (with_memory (write_of (order_of h.machine) h.machine.memory address (size_byte size) value) h.machine).1 x
+served_waits b (msg.Resume turns) h x = resumed_waits b turns h.nub.ended h x
+served_waits b msg.Kill h x = record { takes = x.takes; none_left = x.none_left }
+served_waits b (msg.Input bytes) h x = same_waits h (given_input bytes h.machine).1 x
+served_waits b (msg.Word value) h x = x
+served_waits b msg.Done h x = x
+served_waits b msg.Outside h x = x
+served_waits b (msg.Stopped why pc) h x = x
+served_waits b (msg.Output bytes) h x = x
+served_waits b (msg.Exited status) h x = x
+served_waits b (msg.Faulted fault pc) h x = x
+served_waits b msg.Turns h x = x
+served_waits b msg.Stack h x = x
 
-chosen_takes : (blocked killed : Bool) (h : Host) (r : Replied) → h.nub.blocked ≡ false → Takes r → Takes (if blocked then (None, h) else if killed then (Some msg.Outside, h) else r)
-chosen_takes true killed h r x y = x
-chosen_takes false true h r x y = x
-chosen_takes false false h r x y = y
+chosen_waits : (blocked killed : Bool) (h : Host) (r : Replied) → Waits h → Waits r.1 → Waits (if blocked then (None, h) else if killed then (Some msg.Outside, h) else r).1
+chosen_waits true killed h r x y = x
+chosen_waits false true h r x y = x
+chosen_waits false false h r x y = y
 
-handled_takes : (b : Behaviour) (m : Msg) (h : Host) → h.nub.blocked ≡ false → Takes (handled b m h)
+handled_waits : (b : Behaviour) (m : Msg) (h : Host) → Waits h → Waits (handled b m h).1
 unfolding handled
-handled_takes b m h x = chosen_takes h.nub.blocked h.nub.killed h (served b m h) x (served_takes b m h x)
+handled_waits b m h x = chosen_waits h.nub.blocked h.nub.killed h (served b m h) x (served_waits b m h x)
 
 open_of : (turns printed : ℕ) (left : Option ℕ) (output : List ℕ) → AreWithin turns printed left output → (k : ℕ) × (left ≡ Some k)
 open_of turns printed None output w = absurd w
@@ -113,7 +120,31 @@ whole_of b m s rest x fits may =
     whole_by b m s.host (handled b m s.host) refl
     (handle_answered b m s.host rest.idle.takes rest.lives shut (gives_bytes b s.host x) may)
     (handled_fit b m s.host fits (fit_of b s.host x rest.none_gathered))
-    (handled_takes b m s.host rest.idle.takes)
+    (handled_waits b m s.host (record { takes = rest.idle.takes; none_left = rest.none_gathered })).takes
+
+-- ---- what is told goes on to fit
+
+opens : (b : Behaviour) (n : ℕ) (left : Option ℕ) (h t : Host) (m : Msg) → h.nub.left ≡ left → if_open left (None, h) (running b n h) ≡ (Some m, t) → Open h
+opens b n None h t m e x = none_told b n None h t m refl x
+opens b n (Some k) h t m e x = (k, e)
+
+tells_open : {b : Behaviour} {h t : Host} {ms : List Msg} → Tells b h ms t → Open h
+unfolding turn_of
+tells_open {b = b} {h = h} {t = t} (tells_end n m turn shut) = opens b n h.nub.left h t m refl turn
+tells_open {b = b} {h = h} (tells_more {t = t} n left m ms turn is rest) = opens b n h.nub.left h t m refl turn
+
+fitting_of : (b : Behaviour) (h : Host) → Fit b h → TellsFitting b h
+fitting_of b h x = record { machine = x.machine; ended = x.ended }
+
+pub nubs_stay : (b : Behaviour) → NubsStayFitting b
+nubs_stay b m h t ms x wait none fits (at_once r is shut) =
+    let y = subst (TellsFit b) is (handled_fit b m h fits (fit_of b h x none)) in
+    let v = subst (λ (p : Replied). Waits p.1) is (handled_waits b m h (record { takes = wait; none_left = none })) in
+    (fitting_of b t y.1, record { none_open = shut; none_left = v.none_left })
+nubs_stay b m h t ms x wait none fits (later g is tells) =
+    let y = subst (TellsFit b) is (handled_fit b m h fits (fit_of b h x none)) in
+    let r = resumed_is (tells_open tells) tells in
+    (fitting_of b t (tells_fit b tells y).1, record { none_open = r.shut; none_left = r.none_left })
 
 pub nubs_give_none : (b : Behaviour) → NubsGiveNoBadReply b
 nubs_give_none b side m s frame w w' there rest x fits may bad =

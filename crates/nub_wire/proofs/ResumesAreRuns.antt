@@ -227,12 +227,12 @@ turn_told b n h o = open_told b (total b h) h.nub.left (None, h) (running b n h)
 
 -- ---- a whole resume
 
-record Resumed (w : Whole) (ms : List Msg) (t : Host) : Type 0 where
-  told : AreTold ms w.output w.ending
-  left_is : t.machine ≡ w.machine
-  shut : t.nub.left ≡ None
-  none_left : t.nub.output ≡ []
-  ended_is : t.nub.ended ≡ (if is_final w.ending then Some w.ending else None)
+pub record Resumed (w : Whole) (ms : List Msg) (t : Host) : Type 0 where
+  pub told : AreTold ms w.output w.ending
+  pub left_is : t.machine ≡ w.machine
+  pub shut : t.nub.left ≡ None
+  pub none_left : t.nub.output ≡ []
+  pub ended_is : t.nub.ended ≡ (if is_final w.ending then Some w.ending else None)
 
 pub step_of : (b : Behaviour) (n : ℕ) (h t : Host) (m : Msg) → Open h → turn_of b n h ≡ (Some m, t) → OutputTold b (total b h) m t ⊎ EndTold (total b h) m t
 step_of b n h t m o e = subst (StepTold b (total b h)) e (turn_told b n h o)
@@ -258,7 +258,7 @@ more_step : (b : Behaviour) (w : Whole) (m : Msg) (ms : List Msg) (t u : Host) (
 more_step b w m ms t u left is (inl x) r = more_by b w m ms t u x r
 more_step b w m ms t u left is (inr x) r = absurd (never_both t.nub.left x.shut (left, is))
 
-resumed_is : {b : Behaviour} {h t : Host} {ms : List Msg} → Open h → Tells b h ms t → Resumed (total b h) ms t
+pub resumed_is : {b : Behaviour} {h t : Host} {ms : List Msg} → Open h → Tells b h ms t → Resumed (total b h) ms t
 resumed_is {b = b} {h = h} {t = t} o (tells_end n m turn shut) = end_step b (total b h) m t shut (step_of b n h t m o turn)
 resumed_is {b = b} {h = h} {t = u} o (tells_more {t = t} n left m ms turn is more) =
     more_step b (total b h) m ms t u left is (step_of b n h t m o turn) (resumed_is (left, is) more)

@@ -9,7 +9,7 @@ ghost use Rattle.nub_wire.specs.Delivery.{Conduct};
 ghost use Rattle.nub_wire.specs.Silence.{NothingSaysQuiet, QuietGivesNothing};
 ghost use Rattle.nub_wire.specs.AtOnce.{FetchLaw, StoreLaw, ShortLaws};
 ghost use Rattle.nub_wire.specs.Exchange.{ExchangeLaw, ResumeLaw};
-ghost use Rattle.nub_wire.specs.Told.{NoBadReply, NubsGiveNoBadReply};
+ghost use Rattle.nub_wire.specs.Told.{NoBadReply, NubsGiveNoBadReply, NubsStayFitting};
 ghost use Rattle.nub_wire.specs.Resumes.{ResumesAreRuns, ResumesEnd};
 ghost use Rattle.machine_state.specs.State.{Behaviour};
 ghost use Rattle.nub_wire.specs.Nub.{Host, handled, turn_of};
@@ -67,10 +67,11 @@ pub fn answers_at_rest()
 
 /// Under any schedule and in pieces of any sizes, a link that tells its nubs gives no bad reply: to no message from an idle
 /// side that is answered at once, and, where the nubs meet their whole definition and what they tell of their machines fits
-/// messages, to none that a debugger may ask a nub at rest, a Resume too.
+/// messages, to none that a debugger may ask a nub at rest, a Resume too; behind its replies what they tell goes on to fit.
 pub fn told_links_answer()
     ensures at_once { (c : Conduct) → NoBadReply c }
     ensures all { (b : Behaviour) → NubsGiveNoBadReply b }
+    ensures stays { (b : Behaviour) → NubsStayFitting b }
 {}
 
 /// As long as no message is due, n turns and then m turns are n + m turns.
