@@ -4,7 +4,7 @@ use Rattle.std.proofs.lemmas.Bool.Decides.{nat_tests}
 use Rattle.nub_wire.specs.declared.message.Msg.{Msg}
 use Rattle.nub_wire.specs.declared.link.Side.TheVariants.{First}
 use Rattle.nub_wire.specs.Spelling.{frame_of}
-use Rattle.nub_wire.specs.Stream.{Feeding}
+use Rattle.nub_wire.specs.Feeding.{Feeding}
 use Rattle.nub_wire.specs.Nub.{Host, turn_of}
 use Rattle.nub_wire.specs.Delivery.{Conduct, LinkSide, World, takes_bytes, is_roomy, LONGEST, ROOM, Reaches, Delivers, enough, none_left, takes_none, reaches, Runs, full, quiet, tells, UntilAnswer, answered, runs_on, all_ready, Answers, WaitsOut, Waits, has_ready, used_up, without_ready, Receives}
 

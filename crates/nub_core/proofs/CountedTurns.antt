@@ -3,7 +3,7 @@ use Rattle.std.proofs.Common.{◌≡◌, ◌∙◌, sym, ap, subst, refl, ℕ, s
 use Rattle.machine_state.specs.State.{Behaviour}
 use Rattle.nub_wire.specs.declared.message.Msg.{Msg}
 use Rattle.nub_wire.specs.Nub.{Host, Replied, turn_of}
-use Rattle.nub_core.proofs.Turns.{turn_of-add, turn_of-more}
+use Rattle.nub_wire.proofs.Turns.{turn_of-add, turn_of-more}
 
 none_by : (b : Behaviour) (j k : ℕ) (h now : Host) (o : Option Msg) (g : Host) → j ≤ k → turn_of b k h ≡ (None, now) → turn_of b j h ≡ (o, g) → o ≡ None
 none_by b j k h now None g less at is = refl

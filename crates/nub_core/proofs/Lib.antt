@@ -1,5 +1,2 @@
 pub mod CountedTurns
-pub mod Ends
-pub mod ResumesAreRuns
 pub mod Stretches
-pub mod Turns

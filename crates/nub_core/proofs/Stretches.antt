@@ -7,7 +7,7 @@ use Rattle.machine_state.specs.State.{MachineState, Behaviour}
 use Rattle.nub_wire.specs.declared.message.Msg.{Msg}
 use Rattle.nub_wire.specs.declared.message.Ending.{Ending}
 use Rattle.nub_wire.specs.Nub.{NubState, Host, Replied, host, due, due_of, settle, settled, acted, advanced, running, or_then, told_output}
-use Rattle.nub_core.proofs.Turns.{due_same}
+use Rattle.nub_wire.proofs.Turns.{due_same}
 
 -- a nub with so many turns left, and its machine
 abbrev pub at : NubState → ℕ → MachineState → Host

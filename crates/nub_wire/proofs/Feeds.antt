@@ -5,9 +5,8 @@ use Rattle.nub_wire.specs.declared.message.Msg.{Msg}
 use Rattle.nub_wire.specs.declared.front.Front.TheVariants.{Part, Whole, Nothing}
 use Rattle.nub_wire.specs.Spelling.{frame_of, AllBytes, MsgFits}
 use Rattle.nub_wire.specs.Front.{front_of}
-use Rattle.nub_wire.specs.Stream.{Feeding}
+use Rattle.nub_wire.specs.Feeding.{Feeding, BeginsNoFrame, Waits, Gives, StaysBad, by_state, Feeds}
 use Rattle.nub_wire.specs.declared.feeder.Fed.TheVariants as fed
-use Rattle.nub_wire.specs.Feeding.{BeginsNoFrame, Waits, Gives, StaysBad, by_state, Feeds}
 use Rattle.nub_wire.proofs.Fronts.{append_bytes}
 use Rattle.nub_wire.proofs.Streams.{none_begins, whole_spells, Spells}
 

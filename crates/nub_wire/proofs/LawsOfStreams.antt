@@ -6,8 +6,7 @@ use Rattle.nub_wire.specs.declared.front.Front.TheVariants.{Whole}
 use Rattle.nub_wire.specs.declared.feeder.Fed.TheVariants as fed
 use Rattle.nub_wire.specs.Spelling.{frame_of, MsgFits}
 use Rattle.nub_wire.specs.Front.{front_of}
-use Rattle.nub_wire.specs.Stream.{Feeding}
-use Rattle.nub_wire.specs.Feeding.{IsPartial, joined, frames, AllFit, Splits, FeedsAll, done, waits, gives, nothing_fed, Feeds, Breaks, Refuses, StaysBad, by_state, moved_on}
+use Rattle.nub_wire.specs.Feeding.{Feeding, IsPartial, joined, frames, AllFit, Splits, FeedsAll, done, waits, gives, nothing_fed, Feeds, Breaks, Refuses, StaysBad, by_state, moved_on}
 use Rattle.nub_wire.proofs.Streams.{front_again}
 use Rattle.nub_wire.proofs.Feeds.{split_at, waits_of, gives_of}
 

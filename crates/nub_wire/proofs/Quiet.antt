@@ -7,7 +7,7 @@ use Rattle.nub_wire.specs.declared.message.Msg.TheVariants as msg
 use Rattle.nub_wire.specs.declared.front.Front.{Front}
 use Rattle.nub_wire.specs.declared.front.Front.TheVariants.{Part, Whole, Nothing}
 use Rattle.nub_wire.specs.Front.{read, Bytes, tagged, front_of, awaited}
-use Rattle.nub_wire.specs.Stream.{IsQuiet}
+use Rattle.nub_wire.specs.Held.{IsQuiet}
 use Rattle.nub_wire.proofs.Fronts.{eq_yes}
 
 nothing_behind : (xs : List ℕ) → xs ++ [] ≡ xs

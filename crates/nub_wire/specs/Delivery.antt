@@ -8,8 +8,7 @@ use Rattle.nub_wire.specs.declared.link.Side.{Side}
 use Rattle.nub_wire.specs.declared.link.Side.TheVariants.{First, Second}
 use Rattle.nub_wire.specs.declared.link.Entry.{Entry}
 use Rattle.nub_wire.specs.Spelling.{frame_of}
-use Rattle.nub_wire.specs.Stream.{Feeding}
-use Rattle.nub_wire.specs.Feeding.{Feeds, nothing_fed}
+use Rattle.nub_wire.specs.Feeding.{Feeding, Feeds, nothing_fed}
 use Rattle.nub_wire.specs.Nub.{Host, Replied, handled, turn_of, blocked}
 
 -- What is behind a link: what its machines do, and what its nubs reply to a message where no resume is open, with the

@@ -1,10 +1,16 @@
 -- What bytes that come in pieces mean as a stream of frames.
 use Rattle.std.specs.Prelude.{◌≡◌, ◌≢◌, ℕ, ◌+◌, ◌-◌, ◌^◌, ◌≤◌, min, Bool, true, false, List, [], ◌∷◌, ◌++◌, length, take, drop}
 use Rattle.nub_wire.specs.Spelling.{frame_of, MsgFits}
-use Rattle.nub_wire.specs.Stream.{Feeding}
 use Rattle.nub_wire.specs.declared.message.Msg.{Msg}
 use Rattle.nub_wire.specs.declared.feeder.Fed.{Fed}
 use Rattle.nub_wire.specs.declared.feeder.Fed.TheVariants as fed
+
+-- What a reader of frames holds: the bytes of the frame that has begun, where it began in all bytes fed, and whether bytes
+-- began none.
+pub record Feeding : Type 0 where
+  pub held : List ℕ
+  pub start : ℕ
+  pub is_bad : Bool
 
 abbrev pub nothing_fed : Feeding
 nothing_fed = record { held = []; start = 0; is_bad = false }

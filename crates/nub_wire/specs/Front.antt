@@ -1,4 +1,5 @@
--- What stands at the front of bytes: a frame, part of one, or no frame however they go on.
+-- What stands at the front of bytes: a frame, part of one, or no frame however they go on. It is the middle term of the
+-- proofs about the reader of frames, and no public contract cites it.
 use Rattle.std.specs.Prelude.{ℕ, ◌+◌, ◌-◌, ◌*◌, ◌^◌, List, [], ◌∷◌, length, take, nat_eq, nat_le, nat_lt, ◌&&◌, ◌||◌, if◌then◌else◌, Option, Some, None}
 use Rattle.ldb_words.specs.declared.event.FaultKind.{FaultKind}
 use Rattle.ldb_words.specs.declared.event.FaultKind.TheVariants as kind

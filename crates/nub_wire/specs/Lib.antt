@@ -4,12 +4,14 @@ pub mod Delivery
 pub mod Endings
 pub mod Exchange
 pub mod Feeding
+pub mod Fits
 pub mod Front
 pub mod Heard
+pub mod Held
 pub mod Nub
 pub mod Replies
 pub mod Rest
+pub mod Resumes
 pub mod Silence
 pub mod Spelling
-pub mod Stream
 pub mod Told

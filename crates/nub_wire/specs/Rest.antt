@@ -16,10 +16,15 @@ pub record IsIdle (s : LinkSide) : Type 0 where
   pub none_open : s.host.nub.left ≡ None
   pub takes : s.host.nub.blocked ≡ false
 
--- its nub wasn't killed either
+-- its nub wasn't killed either, and has no output that is still to be told
 pub record IsAtRest (s : LinkSide) : Type 0 where
   pub idle : IsIdle s
   pub lives : s.host.nub.killed ≡ false
+  pub none_gathered : s.host.nub.output ≡ []
+
+-- the side is there, and at rest
+abbrev pub IsAtRestOn : Side → World → Type 0
+IsAtRestOn side w = (s : LinkSide) × (side_of side w ≡ Some s) × IsAtRest s
 
 abbrev pub other : Side → Side
 other First = Second

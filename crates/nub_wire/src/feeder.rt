@@ -28,7 +28,8 @@ pub struct Feeder {
 }
 
 impl Model for Feeder {
-    ghost use Rattle.nub_wire.specs.Stream.{Feeding, IsFeeding};
+    ghost use Rattle.nub_wire.specs.Feeding.{Feeding};
+    ghost use Rattle.nub_wire.specs.Held.{IsFeeding};
 
     ghost Value = { Feeding };
 

@@ -1,16 +1,16 @@
 // What holds of frames and streams of them.
 
-ghost use Rattle.std.specs.Prelude.{◌≡◌, List, ℕ, ◌++◌, flat_map, [], false};
+ghost use Rattle.std.specs.Prelude.{◌≡◌, List, ℕ, ◌+◌, ◌++◌, flat_map, [], false, Some, None};
 ghost use Rattle.nub_wire.specs.declared.message.Msg.{Msg};
 ghost use Rattle.nub_wire.specs.Spelling.{MsgFits, frame_of};
-ghost use Rattle.nub_wire.specs.Stream.{Feeding};
-ghost use Rattle.nub_wire.specs.Feeding.{FeedsAll, Feeds, nothing_fed, Splits, Breaks, joined};
+ghost use Rattle.nub_wire.specs.Feeding.{Feeding, FeedsAll, Feeds, nothing_fed, Splits, Breaks, joined};
 ghost use Rattle.nub_wire.specs.declared.feeder.Fed.TheVariants as fed;
 ghost use Rattle.nub_wire.specs.Delivery.{Conduct};
 ghost use Rattle.nub_wire.specs.Silence.{NothingSaysQuiet, QuietGivesNothing};
 ghost use Rattle.nub_wire.specs.AtOnce.{FetchLaw, StoreLaw, ShortLaws};
-ghost use Rattle.nub_wire.specs.Exchange.{ExchangeLaw};
-ghost use Rattle.nub_wire.specs.Told.{NoBadReply};
+ghost use Rattle.nub_wire.specs.Exchange.{ExchangeLaw, ResumeLaw};
+ghost use Rattle.nub_wire.specs.Told.{NoBadReply, NubsGiveNoBadReply, NubsStayFitting};
+ghost use Rattle.nub_wire.specs.Resumes.{ResumesAreRuns, ResumesEnd};
 ghost use Rattle.machine_state.specs.State.{Behaviour};
 ghost use Rattle.nub_wire.specs.Nub.{Host, handled, turn_of};
 ghost use Rattle.nub_wire.specs.Heard.{IsShut, IsWithin, Resumes, GivesBytes, MayAsk, IsAnswered};
@@ -50,6 +50,13 @@ pub fn exchange()
     ensures { (c : Conduct) → ExchangeLaw c }
 {}
 
+/// From a side at rest, under any schedule and however the turns are divided, what is received after the frame of a Resume is
+/// exactly what the run of the machine comes to: its output, and then its end. Then the side is at rest again, and an idle other
+/// side is as it was.
+pub fn resume_exchange()
+    ensures { (c : Conduct) → ResumeLaw c }
+{}
+
 /// Fetches and stores of a nub at rest over a machine whose memory holds bytes, and the other messages that it replies to at
 /// once.
 pub fn answers_at_rest()
@@ -58,8 +65,28 @@ pub fn answers_at_rest()
     ensures short { (b : Behaviour) → ShortLaws b }
 {}
 
-/// Under any schedule and in pieces of any sizes, a link that tells its nubs gives no bad reply to a message from an idle side
-/// that is answered at once.
+/// Under any schedule and in pieces of any sizes, a link that tells its nubs gives no bad reply: to no message from an idle
+/// side that is answered at once, and, where the nubs meet their whole definition and what they tell of their machines fits
+/// messages, to none that a debugger may ask a nub at rest, a Resume too; behind its replies what they tell goes on to fit.
 pub fn told_links_answer()
-    ensures { (c : Conduct) → NoBadReply c }
+    ensures at_once { (c : Conduct) → NoBadReply c }
+    ensures all { (b : Behaviour) → NubsGiveNoBadReply b }
+    ensures stays { (b : Behaviour) → NubsStayFitting b }
+{}
+
+/// As long as no message is due, n turns and then m turns are n + m turns.
+pub fn turns_add()
+    ensures { (b : Behaviour) (n m : ℕ) (h h' : Host) → turn_of b n h ≡ (None, h') → turn_of b (n + m) h ≡ turn_of b m h' }
+{}
+
+/// Turns after a message is due are not run.
+pub fn turns_stop()
+    ensures { (b : Behaviour) (n k : ℕ) (h h' : Host) (m : Msg) → turn_of b n h ≡ (Some m, h') → turn_of b (n + k) h ≡ (Some m, h') }
+{}
+
+/// A resume tells all that the run of its machine puts, in messages of output, and then how the run ended, however its turns
+/// are divided; and it comes to that end.
+pub fn resumes_are_runs()
+    ensures are { (b : Behaviour) → ResumesAreRuns b }
+    ensures end { (b : Behaviour) → ResumesEnd b }
 {}

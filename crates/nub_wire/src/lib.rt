@@ -15,7 +15,7 @@ pub use ending::{ending_of, is_final, reply_of};
 pub use feeder::{Fed, Feeder};
 pub use laws::{
     answers_at_rest, any_pieces, exchange, one_message, quiet_until_sent, replies_are_heard,
-    told_links_answer,
+    resume_exchange, resumes_are_runs, told_links_answer, turns_add, turns_stop,
 };
 pub use link::{Entry, Link, Side};
 pub use machine_state::Cause;

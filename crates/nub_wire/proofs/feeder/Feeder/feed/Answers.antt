@@ -1,7 +1,7 @@
 use Rattle.std.proofs.Common.{◌≡◌, ◌∙◌, sym, ap, subst, refl, ℕ, ◌≤◌, ◌++◌, List, take, length, slice_index, arith, lit<}
 use Rattle.nub_wire.specs.declared.front.Front.TheVariants.{Part, Whole, Nothing}
 use Rattle.nub_wire.specs.Front.{front_of, awaited}
-use Rattle.nub_wire.specs.Stream.{IsQuiet}
+use Rattle.nub_wire.specs.Held.{IsQuiet}
 use Rattle.nub_wire.specs.Feeding.{IsPartial, moved_on}
 use Rattle.nub_wire.specs.Spelling.{frame_of}
 use Rattle.nub_wire.proofs.Streams.{part_short, part_begins}

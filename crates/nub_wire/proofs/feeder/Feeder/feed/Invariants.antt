@@ -1,6 +1,6 @@
 use Rattle.std.proofs.Common.{◌≡◌, ◌≤◌, ◌++◌, take, false}
 use Rattle.nub_wire.specs.Spelling.{AllBytes}
-use Rattle.nub_wire.specs.Stream.{IsQuiet}
+use Rattle.nub_wire.specs.Held.{IsQuiet}
 use Rattle.nub_wire.proofs.feeder.Feeder.feed.Given as goal
 
 abbrev pub invariant-loop-index : goal.invariant-loop-index

@@ -1,14 +1,9 @@
--- What a reader of frames holds.
+-- What a reader of frames keeps: what is held of a frame that has begun, and when more of it has to be looked at. No public
+-- contract cites it.
 use Rattle.std.specs.Prelude.{◌≡◌, ℕ, ◌<◌, ◌≤◌, Bool, true, false, List, [], ◌++◌, length}
 use Rattle.nub_wire.specs.Spelling.{AllBytes}
 use Rattle.nub_wire.specs.Front.{front_of}
 use Rattle.nub_wire.specs.declared.front.Front.TheVariants.{Part}
-
--- the bytes of the frame that has begun, where it began in all bytes fed, and whether they begin none
-pub record Feeding : Type 0 where
-  pub held : List ℕ
-  pub start : ℕ
-  pub is_bad : Bool
 
 -- Of what is held nothing is decided before so many bytes more have come.
 abbrev pub IsQuiet : List ℕ → ℕ → Type 0

@@ -1,5 +1,5 @@
 -- A resume tells the run of its machine.
-use Rattle.std.proofs.Common.{◌≡◌, ◌∙◌, ◌⊎◌, inl, inr, refl, sym, ap, subst, ℕ, zero, suc, nat_eq, Bool, true, false, if◌then◌else◌, List, [], ◌∷◌, ◌++◌, length, option_to_list, Option, None, Some, arith, append_assoc}
+use Rattle.std.proofs.Common.{◌≡◌, ◌≢◌, ◌∙◌, ◌⊎◌, inl, inr, refl, sym, ap, subst, ℕ, zero, suc, nat_eq, Bool, true, false, if◌then◌else◌, List, [], ◌∷◌, ◌++◌, length, option_to_list, Option, None, Some, arith, append_assoc}
 use Rattle.std.proofs.lemmas.Grind.{common_steps}
 use Rattle.std.proofs.lemmas.Bool.Decides.{nat_tests}
 use Rattle.ldb_words.specs.declared.event.Event.{Event}
@@ -13,9 +13,10 @@ use Rattle.nub_wire.specs.declared.message.Msg.{Msg}
 use Rattle.nub_wire.specs.declared.message.Msg.TheVariants as msg
 use Rattle.nub_wire.specs.declared.message.Ending.{Ending}
 use Rattle.nub_wire.specs.declared.message.Ending.TheVariants as ending
-use Rattle.nub_wire.specs.Endings.{ending_of, reply_of}
+use Rattle.nub_wire.specs.Endings.{ending_of, reply_of, is_final}
+use Rattle.nub_wire.proofs.Flags.{Flags, turn_has}
 use Rattle.nub_wire.specs.Nub.{NubState, Host, Replied, host, pc_of, due, due_of, settle, settled, concluded, with_output, requested, acted, advance, advanced, turned, running, or_then, if_open, turn_of, told_ending, told_output}
-use Rattle.nub_core.specs.Resumes.{Whole, whole, finish, Tells, tells_end, tells_more, AreTold, the_end, some_output, ResumesAreRuns}
+use Rattle.nub_wire.specs.Resumes.{Whole, whole, finish, Tells, tells_end, tells_more, AreTold, the_end, some_output, ResumesAreRuns}
 
 append_nil : (xs : List ℕ) → xs ++ [] ≡ xs
 append_nil xs = grind (arith, common_steps)
@@ -27,7 +28,7 @@ total_by b (Some e) left output m = whole output e m
 total_by b None (Some n) output m = finish b output (run_of b n m)
 total_by b None None output m = whole output ending.Turns m
 
-abbrev total : Behaviour → Host → Whole
+abbrev pub total : Behaviour → Host → Whole
 total b h = total_by b h.nub.ended h.nub.left h.nub.output h.machine
 
 finish_end : (b : Behaviour) (output : List ℕ) (c : Cause) (m : MachineState) → whole output (ending_of c (b.saved m).0 (pc_of (b.saved m).1)) (b.saved m).1 ≡ finish b output (ran c [] m)
@@ -72,7 +73,7 @@ module _ (b : Behaviour) (n : ℕ) (nub : NubState) (none : nub.ended ≡ None) 
   acted_total (event.Fault kind) m = concluded_total b (cause.Fault kind) (host nub m)
 
 -- a resume is open, and more than its turns is to come
-abbrev Open : Host → Type 0
+abbrev pub Open : Host → Type 0
 Open h = (n : ℕ) × (h.nub.left ≡ Some n)
 
 advance_total : (b : Behaviour) (left : Option ℕ) (h : Host) → h.nub.left ≡ left → h.nub.ended ≡ None → total b (advance b left h) ≡ total_by b None left h.nub.output h.machine
@@ -142,17 +143,20 @@ advanced_open b h o = advance_open b h.nub.left h o
 
 -- ---- what a message tells
 
-record OutputTold (b : Behaviour) (w : Whole) (m : Msg) (h : Host) : Type 0 where
-  bytes : List ℕ
-  is : m ≡ msg.Output bytes
-  rest : w ≡ whole (bytes ++ (total b h).output) (total b h).ending (total b h).machine
-  goes_on : Open h
+pub record OutputTold (b : Behaviour) (w : Whole) (m : Msg) (h : Host) : Type 0 where
+  pub bytes : List ℕ
+  pub is : m ≡ msg.Output bytes
+  pub some : bytes ≢ []
+  pub rest : w ≡ whole (bytes ++ (total b h).output) (total b h).ending (total b h).machine
+  pub goes_on : Open h
 
-record EndTold (w : Whole) (m : Msg) (h : Host) : Type 0 where
-  how : Ending
-  is : m ≡ reply_of how
-  rest : w ≡ whole [] how h.machine
-  shut : h.nub.left ≡ None
+pub record EndTold (w : Whole) (m : Msg) (h : Host) : Type 0 where
+  pub how : Ending
+  pub is : m ≡ reply_of how
+  pub rest : w ≡ whole [] how h.machine
+  pub shut : h.nub.left ≡ None
+  pub none_left : h.nub.output ≡ []
+  pub ended_is : h.nub.ended ≡ (if is_final how then Some how else None)
 
 abbrev StepTold : Behaviour → Whole → Replied → Type 0
 StepTold b w (None, h) = (total b h ≡ w) × (h.nub.ended ≡ None) × Open h
@@ -164,8 +168,16 @@ total_out b (Some e) left output m = ap (λ (l : List ℕ). whole l e m) (sym (a
 total_out b None (Some n) output m = refl
 total_out b None None output m = ap (λ (l : List ℕ). whole l ending.Turns m) (sym (append_nil output))
 
-output_told : (b : Behaviour) (s : Host) → Open s → StepTold b (total b s) (told_output s)
-output_told b s o = inl (record { bytes = s.nub.output; is = refl; rest = total_out b s.nub.ended s.nub.left s.nub.output s.machine; goes_on = o })
+some_of_count : (xs : List ℕ) → nat_eq (length xs) 0 ≡ false → xs ≢ []
+some_of_count [] x e = cc
+some_of_count (y ∷ ys) x e = cc
+
+full_some : (xs : List ℕ) → nat_eq (length xs) 1024 ≡ true → xs ≢ []
+full_some [] x e = cc
+full_some (y ∷ ys) x e = cc
+
+output_told : (b : Behaviour) (s : Host) → s.nub.output ≢ [] → Open s → StepTold b (total b s) (told_output s)
+output_told b s some o = inl (record { bytes = s.nub.output; is = refl; some = some; rest = total_out b s.nub.ended s.nub.left s.nub.output s.machine; goes_on = o })
 
 no_length : (xs : List ℕ) → nat_eq (length xs) 0 ≡ true → xs ≡ []
 no_length [] e = refl
@@ -175,15 +187,16 @@ ending_due : (b : Behaviour) (e : Ending) (s : Host) (t : Bool) → nat_eq (leng
     → StepTold b (total b s) (if t then told_ending e s else told_output s)
 ending_due b e s true x is o =
     let total_is : total b s ≡ whole s.nub.output e s.machine = ap (λ (k : Option Ending). total_by b k s.nub.left s.nub.output s.machine) is in
-    inr (record { how = e; is = refl; rest = total_is ∙ ap (λ (l : List ℕ). whole l e s.machine) (no_length s.nub.output x); shut = refl })
-ending_due b e s false x is o = output_told b s o
+    inr (record { how = e; is = refl; rest = total_is ∙ ap (λ (l : List ℕ). whole l e s.machine) (no_length s.nub.output x); shut = refl; none_left = no_length s.nub.output x; ended_is = refl })
+ending_due b e s false x is o = output_told b s (some_of_count s.nub.output x) o
 
-output_due : (b : Behaviour) (s : Host) (t : Bool) → s.nub.ended ≡ None → Open s → StepTold b (total b s) (if t then told_output s else (None, s))
-output_due b s true is o = output_told b s o
-output_due b s false is o = (refl, is, o)
+output_due : (b : Behaviour) (s : Host) (t : Bool) → nat_eq (length s.nub.output) 1024 ≡ t → s.nub.ended ≡ None → Open s
+    → StepTold b (total b s) (if t then told_output s else (None, s))
+output_due b s true x is o = output_told b s (full_some s.nub.output x) o
+output_due b s false x is o = (refl, is, o)
 
 due_any : (b : Behaviour) (e : Option Ending) (s : Host) → s.nub.ended ≡ e → Open s → StepTold b (total b s) (due e s)
-due_any b None s is o = output_due b s (nat_eq (length s.nub.output) 1024) is o
+due_any b None s is o = output_due b s (nat_eq (length s.nub.output) 1024) refl is o
 due_any b (Some e) s is o = ending_due b e s (nat_eq (length s.nub.output) 0) refl is o
 
 due_told : (b : Behaviour) (h : Host) → Open h → StepTold b (total b h) (due_of b h)
@@ -214,11 +227,14 @@ turn_told b n h o = open_told b (total b h) h.nub.left (None, h) (running b n h)
 
 -- ---- a whole resume
 
-record Resumed (w : Whole) (ms : List Msg) (t : Host) : Type 0 where
-  told : AreTold ms w.output w.ending
-  left_is : t.machine ≡ w.machine
+pub record Resumed (w : Whole) (ms : List Msg) (t : Host) : Type 0 where
+  pub told : AreTold ms w.output w.ending
+  pub left_is : t.machine ≡ w.machine
+  pub shut : t.nub.left ≡ None
+  pub none_left : t.nub.output ≡ []
+  pub ended_is : t.nub.ended ≡ (if is_final w.ending then Some w.ending else None)
 
-step_of : (b : Behaviour) (n : ℕ) (h t : Host) (m : Msg) → Open h → turn_of b n h ≡ (Some m, t) → OutputTold b (total b h) m t ⊎ EndTold (total b h) m t
+pub step_of : (b : Behaviour) (n : ℕ) (h t : Host) (m : Msg) → Open h → turn_of b n h ≡ (Some m, t) → OutputTold b (total b h) m t ⊎ EndTold (total b h) m t
 step_of b n h t m o e = subst (StepTold b (total b h)) e (turn_told b n h o)
 
 never_both : (left : Option ℕ) → left ≡ None → (k : ℕ) × (left ≡ Some k) → ⊥
@@ -227,12 +243,12 @@ never_both left e o = let x : None ≡ Some o.0 = sym e ∙ o.1 in cc
 ended_by : (w : Whole) (m : Msg) (t : Host) → EndTold w m t → Resumed w (m ∷ []) t
 ended_by w m t x =
     subst (λ (v : Whole). Resumed v (m ∷ []) t) (sym x.rest)
-    (record { told = subst (λ (r : Msg). AreTold (r ∷ []) [] x.how) (sym x.is) (the_end x.how); left_is = refl })
+    (record { told = subst (λ (r : Msg). AreTold (r ∷ []) [] x.how) (sym x.is) (the_end x.how); left_is = refl; shut = x.shut; none_left = x.none_left; ended_is = x.ended_is })
 
 more_by : (b : Behaviour) (w : Whole) (m : Msg) (ms : List Msg) (t u : Host) → OutputTold b w m t → Resumed (total b t) ms u → Resumed w (m ∷ ms) u
 more_by b w m ms t u x r =
     subst (λ (v : Whole). Resumed v (m ∷ ms) u) (sym x.rest)
-    (record { told = subst (λ (k : Msg). AreTold (k ∷ ms) (x.bytes ++ (total b t).output) (total b t).ending) (sym x.is) (some_output x.bytes r.told); left_is = r.left_is })
+    (record { told = subst (λ (k : Msg). AreTold (k ∷ ms) (x.bytes ++ (total b t).output) (total b t).ending) (sym x.is) (some_output x.bytes r.told); left_is = r.left_is; shut = r.shut; none_left = r.none_left; ended_is = r.ended_is })
 
 end_step : (b : Behaviour) (w : Whole) (m : Msg) (t : Host) → t.nub.left ≡ None → OutputTold b w m t ⊎ EndTold w m t → Resumed w (m ∷ []) t
 end_step b w m t shut (inl x) = absurd (never_both t.nub.left shut x.goes_on)
@@ -242,13 +258,34 @@ more_step : (b : Behaviour) (w : Whole) (m : Msg) (ms : List Msg) (t u : Host) (
 more_step b w m ms t u left is (inl x) r = more_by b w m ms t u x r
 more_step b w m ms t u left is (inr x) r = absurd (never_both t.nub.left x.shut (left, is))
 
-resumed_is : {b : Behaviour} {h t : Host} {ms : List Msg} → Open h → Tells b h ms t → Resumed (total b h) ms t
+pub resumed_is : {b : Behaviour} {h t : Host} {ms : List Msg} → Open h → Tells b h ms t → Resumed (total b h) ms t
 resumed_is {b = b} {h = h} {t = t} o (tells_end n m turn shut) = end_step b (total b h) m t shut (step_of b n h t m o turn)
 resumed_is {b = b} {h = h} {t = u} o (tells_more {t = t} n left m ms turn is more) =
     more_step b (total b h) m ms t u left is (step_of b n h t m o turn) (resumed_is (left, is) more)
 
+-- a run keeps the flags of its nub
+pub flags_kept : {b : Behaviour} {h t : Host} {ms : List Msg} (k l : Bool) → Flags k l h.nub → Tells b h ms t → Flags k l t.nub
+flags_kept {b = b} {h = h} k l f (tells_end n m turn shut) = subst (λ (p : Replied). Flags k l p.1.nub) turn (turn_has b k l n h f)
+flags_kept {b = b} {h = h} k l f (tells_more n left m ms turn is more) =
+    flags_kept k l (subst (λ (p : Replied). Flags k l p.1.nub) turn (turn_has b k l n h f)) more
+
+abbrev host_at : Bool → Bool → Option Ending → Option ℕ → List ℕ → MachineState → Host
+host_at k l e left output m = host (record { killed = k; blocked = l; ended = e; left = left; output = output }) m
+
+host_is : (t : Host) (k l : Bool) (e : Option Ending) (m : MachineState) → Flags k l t.nub → t.nub.ended ≡ e → t.nub.left ≡ None → t.nub.output ≡ [] → t.machine ≡ m
+    → t ≡ host_at k l e None [] m
+host_is t k l e m f is shut none same =
+    ap (λ (x : Bool). host_at x t.nub.blocked t.nub.ended t.nub.left t.nub.output t.machine) f.killed_is
+    ∙ ap (λ (x : Bool). host_at k x t.nub.ended t.nub.left t.nub.output t.machine) f.blocked_is
+    ∙ ap (λ (x : Option Ending). host_at k l x t.nub.left t.nub.output t.machine) is
+    ∙ ap (λ (x : Option ℕ). host_at k l e x t.nub.output t.machine) shut
+    ∙ ap (λ (x : List ℕ). host_at k l e None x t.machine) none
+    ∙ ap (λ (x : MachineState). host_at k l e None [] x) same
+
 pub resumes_are_runs : (b : Behaviour) → ResumesAreRuns b
 resumes_are_runs b turns h t ms left none tells =
-    let is : total b h ≡ finish b h.nub.output (run_of b turns h.machine) = rw (none, left) refl in
-    let r = subst (λ (w : Whole). Resumed w ms t) is (resumed_is (turns, left) tells) in
-    (r.told, r.left_is)
+    let w : Whole = finish b h.nub.output (run_of b turns h.machine) in
+    let is : total b h ≡ w = rw (none, left) refl in
+    let r = subst (λ (v : Whole). Resumed v ms t) is (resumed_is (turns, left) tells) in
+    let f = flags_kept h.nub.killed h.nub.blocked (record { killed_is = refl; blocked_is = refl }) tells in
+    (r.told, host_is t h.nub.killed h.nub.blocked (if is_final w.ending then Some w.ending else None) w.machine f r.ended_is r.shut r.none_left r.left_is)

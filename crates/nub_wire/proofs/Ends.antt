@@ -8,7 +8,7 @@ use Rattle.machine_state.specs.declared.target.Cause.{Cause}
 use Rattle.machine_state.specs.declared.target.Cause.TheVariants as cause
 use Rattle.nub_wire.specs.Endings.{ending_of}
 use Rattle.nub_wire.specs.Nub.{NubState, Host, Replied, host, due, due_of, settle, settled, concluded, ended_by, requested, acted, advance, advanced, turned, running, or_then, if_open, turn_of, told_ending, told_output, pc_of}
-use Rattle.nub_core.proofs.Turns.{due_same}
+use Rattle.nub_wire.proofs.Turns.{due_same}
 
 -- the run has ended, or so many turns are enough for it
 abbrev pub Enough : Option Ending → Option ℕ → ℕ → Type 0
