@@ -1,17 +1,16 @@
 -- Replies of a nub at rest.
-use Rattle.std.proofs.Common.{◌≡◌, ◌∙◌, refl, sym, ap, subst, ℕ, ◌+◌, ◌^◌, ◌<◌, ◌≤◌, nat_lt, nat_le, List, length, Bool, true, false, if◌then◌else◌, Option, Some, None, Result, Ok, Err, arith}
+use Rattle.std.proofs.Common.{◌≡◌, ◌∙◌, refl, ap, ℕ, ◌+◌, ◌^◌, ◌<◌, ◌≤◌, nat_le, List, length, Bool, true, false, if◌then◌else◌, Some, Result, Ok, Err, arith}
 use Rattle.std.proofs.lemmas.Bool.Decides.{nat_tests}
 use Rattle.ldb_words.specs.declared.event.Outside.{Outside}
-use Rattle.machine_state.specs.Regions.{Regions, read_of, write_of}
+use Rattle.machine_state.specs.Regions.{Regions, read_of}
 use Rattle.machine_state.specs.State.{MachineState, Behaviour, order_of, with_memory, with_input}
 use Rattle.machine_state.specs.declared.layout.TheConstants.{CONTEXT}
 use Rattle.nub_wire.specs.declared.message.Size.{Size}
 use Rattle.nub_wire.specs.declared.message.Size.TheVariants as size
-use Rattle.nub_wire.specs.declared.message.Msg.{Msg}
 use Rattle.nub_wire.specs.declared.message.Msg.TheVariants as msg
-use Rattle.nub_wire.specs.Spelling.{size_byte, MsgFits, IsChunk}
+use Rattle.nub_wire.specs.Spelling.{MsgFits, IsChunk}
 use Rattle.nub_wire.specs.Replies.{ends_reply}
-use Rattle.nub_wire.specs.Nub.{NubState, Host, Replied, host, handled, served, fetch_reply, done_or_outside, after_done}
+use Rattle.nub_wire.specs.Nub.{NubState, Host, Replied, host, handled, served, fetch_reply, after_done}
 use Rattle.nub_wire.specs.Delivery.{Conduct, LinkSide}
 use Rattle.nub_wire.specs.Rest.{IsAtRest}
 use Rattle.nub_wire.specs.Exchange.{RepliesAtOnce}

@@ -1,5 +1,5 @@
 -- What a nub tells fits its messages, and goes on to.
-use Rattle.std.proofs.Common.{◌≡◌, ◌≢◌, ◌∙◌, inl, inr, refl, sym, ap, subst, ℕ, zero, suc, ◌+◌, ◌^◌, ◌<◌, ◌≤◌, nat_eq, nat_le, Bool, true, false, if◌then◌else◌, List, [], ◌∷◌, ◌++◌, length, option_to_list, Option, None, Some, Result, Ok, Err, arith, length-append}
+use Rattle.std.proofs.Common.{◌≡◌, inl, inr, refl, sym, subst, ℕ, zero, suc, ◌+◌, ◌^◌, ◌<◌, ◌≤◌, nat_eq, Bool, true, false, if◌then◌else◌, List, [], ◌∷◌, ◌++◌, length, option_to_list, Option, None, Some, Result, Ok, Err, arith, length-append}
 use Rattle.std.proofs.lemmas.Bool.Decides.{nat_tests}
 use Rattle.ldb_words.specs.declared.event.Event.{Event}
 use Rattle.ldb_words.specs.declared.event.Event.TheVariants as event
@@ -7,7 +7,6 @@ use Rattle.ldb_words.specs.declared.event.Outside.{Outside}
 use Rattle.machine_state.specs.Regions.{read_of, write_of}
 use Rattle.machine_state.specs.Sound.{IsMemory, IsByteIfAny, IsWidth}
 use Rattle.machine_state.specs.State.{MachineState, Behaviour, order_of, with_memory, given_input}
-use Rattle.machine_state.specs.declared.layout.TheConstants.{CONTEXT}
 use Rattle.machine_state.specs.declared.target.Cause.{Cause}
 use Rattle.machine_state.specs.declared.target.Cause.TheVariants as cause
 use Rattle.machine_state.proofs.SoundMemory.{read_byte, read_word, below_append}
@@ -16,13 +15,12 @@ use Rattle.nub_wire.specs.declared.message.Msg.TheVariants as msg
 use Rattle.nub_wire.specs.declared.message.Size.{Size}
 use Rattle.nub_wire.specs.declared.message.Size.TheVariants as size
 use Rattle.nub_wire.specs.declared.message.Ending.{Ending}
-use Rattle.nub_wire.specs.declared.message.Ending.TheVariants as ending
 use Rattle.nub_wire.specs.Endings.{or_window, ending_of, reply_of, is_final}
-use Rattle.nub_wire.specs.Spelling.{MsgFits, AllBytes, IsChunk, size_byte}
+use Rattle.nub_wire.specs.Spelling.{MsgFits, AllBytes, size_byte}
 use Rattle.nub_wire.specs.Feeding.{AllFit}
-use Rattle.nub_wire.specs.Nub.{NubState, Host, Replied, host, pc_of, PC_PLACE, word_or_zero, fetch_reply, done_or_outside, after_done, resumed, served, handled, due, due_of, settle, settled, concluded, with_output, requested, acted, advance, advanced, turned, running, or_then, if_open, turn_of, told_ending, told_output}
+use Rattle.nub_wire.specs.Nub.{NubState, Host, Replied, host, pc_of, PC_PLACE, word_or_zero, fetch_reply, done_or_outside, resumed, served, handled, due, due_of, settle, settled, concluded, with_output, requested, acted, advance, advanced, turned, running, or_then, if_open, turn_of, told_ending, told_output}
 use Rattle.nub_wire.specs.Resumes.{Tells, tells_end, tells_more}
-use Rattle.nub_wire.specs.Fits.{Reached, begins, stepped, saved, restored, taken, stored, given, TellsWords, AlwaysTellsWords, EndFits, TellsFitting}
+use Rattle.nub_wire.specs.Fits.{Reached, begins, stepped, saved, restored, taken, stored, given, AlwaysTellsWords, EndFits, TellsFitting}
 
 -- ---- machines
 

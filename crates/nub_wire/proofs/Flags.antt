@@ -1,11 +1,10 @@
 -- A run doesn't change whether its nub was killed, nor whether bytes began no frame.
-use Rattle.std.proofs.Common.{◌≡◌, refl, ap, subst, ℕ, zero, suc, nat_eq, Bool, true, false, if◌then◌else◌, length, Option, Some, None}
+use Rattle.std.proofs.Common.{◌≡◌, refl, ℕ, zero, suc, nat_eq, Bool, true, false, if◌then◌else◌, length, Option, Some, None}
 use Rattle.ldb_words.specs.declared.event.Event.{Event}
 use Rattle.ldb_words.specs.declared.event.Event.TheVariants as event
 use Rattle.machine_state.specs.State.{MachineState, Behaviour}
 use Rattle.machine_state.specs.declared.target.Cause.{Cause}
 use Rattle.machine_state.specs.declared.target.Cause.TheVariants as cause
-use Rattle.nub_wire.specs.declared.message.Msg.{Msg}
 use Rattle.nub_wire.specs.declared.message.Ending.{Ending}
 use Rattle.nub_wire.specs.Nub.{NubState, Host, Replied, host, due, due_of, settle, settled, concluded, requested, acted, advance, advanced, turned, running, or_then, if_open, turn_of, told_ending, told_output}
 

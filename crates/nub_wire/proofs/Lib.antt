@@ -17,6 +17,7 @@ pub mod ResumesEnd
 pub mod Sides
 pub mod Silence
 pub mod Streams
+pub mod ToCome
 pub mod Told
 pub mod Turns
 pub mod Worlds

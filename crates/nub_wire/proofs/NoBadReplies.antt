@@ -1,25 +1,22 @@
 -- Nubs that meet their definition give no bad reply.
-use Rattle.std.proofs.Common.{◌≡◌, ◌∙◌, refl, sym, ap, subst, ℕ, ◌+◌, ◌≤◌, Bool, true, false, if◌then◌else◌, List, [], ◌∷◌, Option, None, Some, arith}
+use Rattle.std.proofs.Common.{◌≡◌, refl, subst, ℕ, Bool, true, false, if◌then◌else◌, List, [], ◌∷◌, Option, None, Some, arith}
 use Rattle.machine_state.specs.State.{MachineState, Behaviour, order_of, with_memory, given_input}
-use Rattle.machine_state.specs.Regions.{read_of, write_of}
+use Rattle.machine_state.specs.Regions.{write_of}
 use Rattle.machine_state.proofs.SoundMemory.{read_byte}
 use Rattle.nub_wire.specs.declared.message.Msg.{Msg}
 use Rattle.nub_wire.specs.declared.message.Msg.TheVariants as msg
-use Rattle.nub_wire.specs.declared.link.Side.{Side}
 use Rattle.nub_wire.specs.Spelling.{MsgFits, size_byte}
 use Rattle.nub_wire.specs.Feeding.{AllFit}
 use Rattle.nub_wire.specs.Nub.{Host, Replied, host, resumed, served, handled, running, turn_of, if_open}
 use Rattle.nub_wire.specs.Resumes.{Tells, tells_end, tells_more}
 use Rattle.nub_wire.proofs.Pendings.{none_told}
 use Rattle.nub_wire.specs.declared.message.Ending.{Ending}
-use Rattle.nub_wire.specs.Delivery.{nubs_over, LinkSide, World, side_of}
+use Rattle.nub_wire.specs.Delivery.{nubs_over, LinkSide}
 use Rattle.nub_wire.specs.Heard.{IsWithin, AreWithin, IsShut, GivesBytes, MayAsk, IsAnswered}
 use Rattle.nub_wire.specs.Rest.{IsAtRest}
-use Rattle.nub_wire.specs.Calls.{BadReply}
-use Rattle.nub_wire.specs.Exchange.{Replies, at_once, later, got_on}
+use Rattle.nub_wire.specs.Exchange.{Replies, at_once, later}
 use Rattle.nub_wire.specs.Fits.{TellsFitting, begins}
-use Rattle.nub_wire.specs.Told.{took_by, NubsGiveNoBadReply, NubsStayFitting}
-use Rattle.nub_wire.proofs.Flags.{Flags}
+use Rattle.nub_wire.specs.Told.{NubsGiveNoBadReply, NubsStayFitting}
 use Rattle.nub_wire.proofs.ResumesAreRuns.{Open, flags_kept, resumed_is}
 use Rattle.nub_wire.proofs.ResumesEnd.{AreHeard, last_heard, told_whole}
 use Rattle.nub_wire.proofs.Replies.{handle_answered}

@@ -1,16 +1,15 @@
 -- What comes after a Resume to a side at rest.
-use Rattle.std.proofs.Common.{◌≡◌, ◌∙◌, refl, sym, ap, subst, ℕ, ◌^◌, ◌<◌, Bool, true, false, if◌then◌else◌, List, [], Option, None, Some}
-use Rattle.machine_state.specs.State.{MachineState, Behaviour}
+use Rattle.std.proofs.Common.{◌≡◌, ◌∙◌, refl, ap, subst, ℕ, Bool, false, if◌then◌else◌, List, Option, None, Some}
+use Rattle.machine_state.specs.State.{Behaviour}
 use Rattle.machine_state.specs.Runs.{run_of}
-use Rattle.nub_wire.specs.declared.message.Msg.{Msg}
 use Rattle.nub_wire.specs.declared.message.Msg.TheVariants as msg
 use Rattle.nub_wire.specs.declared.message.Ending.{Ending}
 use Rattle.nub_wire.specs.declared.link.Side.{Side}
 use Rattle.nub_wire.specs.Nub.{Host, Replied, host, handled, served, resumed}
-use Rattle.nub_wire.specs.Delivery.{Conduct, LinkSide, World, side_of}
+use Rattle.nub_wire.specs.Delivery.{Conduct, LinkSide, World}
 use Rattle.nub_wire.specs.Rest.{IsAtRest, IsAtRestOn}
 use Rattle.nub_wire.specs.Resumes.{Whole, finish, Tells, AreTold, shut_by, run_from, after_run}
-use Rattle.nub_wire.specs.Exchange.{Exchanged, MeetsResumes, later, RunIsHeard, ResumeLaw}
+use Rattle.nub_wire.specs.Exchange.{Exchanged, later, ResumeLaw}
 use Rattle.nub_wire.proofs.ResumesAreRuns.{resumes_are_runs}
 use Rattle.nub_wire.proofs.ResumesEnd.{resumes_end}
 use Rattle.nub_wire.proofs.Worlds.{replies_come}

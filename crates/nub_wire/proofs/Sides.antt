@@ -1,15 +1,15 @@
 -- One side during an exchange.
-use Rattle.std.proofs.Common.{◌≡◌, ◌≢◌, ◌∙◌, ◌⊎◌, inl, inr, refl, sym, ap, subst, ℕ, zero, suc, ◌+◌, ◌-◌, ◌≤◌, ◌<◌, nat_le, Bool, true, false, ◌&&◌, not, is_none, List, [], ◌∷◌, ◌++◌, length, take, drop, Option, Some, None, arith, append_assoc}
+use Rattle.std.proofs.Common.{◌≡◌, ◌≢◌, ◌∙◌, ◌⊎◌, inl, inr, refl, sym, ap, subst, ℕ, zero, suc, ◌+◌, ◌≤◌, nat_le, Bool, true, false, ◌&&◌, not, is_none, List, [], ◌∷◌, ◌++◌, length, take, drop, Option, Some, None, arith, append_assoc}
 use Rattle.std.proofs.lemmas.Grind.{common_steps}
 use Rattle.nub_wire.specs.declared.message.Msg.{Msg}
 use Rattle.nub_wire.specs.declared.feeder.Fed.{Fed}
 use Rattle.nub_wire.specs.declared.feeder.Fed.TheVariants as fed
 use Rattle.nub_wire.specs.declared.link.Entry.{Entry}
 use Rattle.nub_wire.specs.Spelling.{frame_of, MsgFits}
-use Rattle.nub_wire.specs.Feeding.{frames, Feeding, Feeds, FeedsGood, StaysBad, by_state, Waits, Gives, Refuses}
+use Rattle.nub_wire.specs.Feeding.{frames, Feeding, Feeds, FeedsGood, StaysBad, by_state}
 use Rattle.machine_state.specs.State.{Behaviour}
 use Rattle.nub_wire.specs.Nub.{Host, Replied, turn_of}
-use Rattle.nub_wire.specs.Delivery.{Conduct, LinkSide, takes_bytes, is_roomy, replied, after_byte, frame_if, Reaches, Delivers, enough, none_left, takes_none, reaches, Runs, full, quiet, tells, some_ready, Moves, UntilAnswer, answered, shut, runs_on, all_ready, Answers, WaitsOut}
+use Rattle.nub_wire.specs.Delivery.{Conduct, LinkSide, takes_bytes, replied, after_byte, Reaches, Delivers, enough, none_left, takes_none, reaches, Runs, full, quiet, tells, some_ready, Moves, UntilAnswer, answered, shut, runs_on, all_ready, Answers, WaitsOut}
 use Rattle.nub_wire.proofs.LawsOfStreams.{one_message_lem}
 use Rattle.nub_wire.specs.Rest.{IsIdle}
 use Rattle.nub_wire.specs.Exchange.{Replies, at_once, later}

@@ -1,19 +1,17 @@
 -- A message to an idle side gets no bad reply.
-use Rattle.std.proofs.Common.{false, ◌≡◌, ◌≢◌, ◌∙◌, ◌⊎◌, inl, inr, refl, sym, ap, subst, ℕ, zero, suc, ◌+◌, ◌-◌, ◌≤◌, ◌<◌, min, List, [], ◌∷◌, ◌++◌, length, take, Option, Some, None, option_map, arith, append_assoc, length-append}
-use Rattle.std.proofs.lemmas.Grind.{common_steps}
+use Rattle.std.proofs.Common.{false, ◌≡◌, ◌≢◌, ◌∙◌, ◌⊎◌, inl, inr, refl, sym, ap, subst, ℕ, ◌+◌, ◌-◌, ◌≤◌, ◌<◌, min, List, [], ◌∷◌, ◌++◌, length, take, Option, Some, None, option_map, arith, append_assoc, length-append}
 use Rattle.nub_wire.specs.declared.message.Msg.{Msg}
 use Rattle.nub_wire.specs.declared.link.Side.{Side}
 use Rattle.nub_wire.specs.declared.link.Side.TheVariants.{First, Second}
-use Rattle.nub_wire.specs.declared.reply.Heard.{Heard}
 use Rattle.nub_wire.specs.declared.reply.Heard.TheVariants.{Ends, GoesOn, Bad}
 use Rattle.nub_wire.specs.Spelling.{frame_of, MsgFits}
-use Rattle.nub_wire.specs.Feeding.{IsPartial, BeginsNoFrame, frames, AllFit}
+use Rattle.nub_wire.specs.Feeding.{IsPartial, frames, AllFit}
 use Rattle.nub_wire.specs.Replies.{heard}
 use Rattle.nub_wire.specs.Nub.{Host}
-use Rattle.nub_wire.specs.Delivery.{Conduct, LinkSide, World, side_of, on_side, with_sent, fitting, Receives}
+use Rattle.nub_wire.specs.Delivery.{Conduct, LinkSide, World, side_of, on_side, with_sent, fitting}
 use Rattle.nub_wire.specs.Rest.{IsIdle}
-use Rattle.nub_wire.specs.Calls.{Sends, none_sent, sends, SendsNone, Hears, none_heard, hears, Owed, owed_by, Owes, sent_whole, comes, goes_on, BadReply, takes_none, silent, no_frame, no_reply}
-use Rattle.nub_wire.specs.Exchange.{RepliesAtOnce, Replies, at_once, got_on, HearsReplies}
+use Rattle.nub_wire.specs.Calls.{Sends, none_sent, sends, SendsNone, Hears, none_heard, hears, Owed, Owes, sent_whole, comes, goes_on, BadReply, takes_none, silent, no_frame, no_reply}
+use Rattle.nub_wire.specs.Exchange.{Replies, at_once, got_on, HearsReplies}
 use Rattle.nub_wire.specs.Told.{took_by, NoBadReply}
 use Rattle.nub_wire.proofs.LawsOfStreams.{one_message_lem}
 use Rattle.nub_wire.proofs.Streams.{frame_short}

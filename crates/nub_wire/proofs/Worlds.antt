@@ -1,5 +1,5 @@
 -- A link during an exchange on one of its sides.
-use Rattle.std.proofs.Common.{◌≡◌, ◌≢◌, ◌∙◌, ◌⊎◌, inl, inr, refl, sym, ap, subst, ℕ, zero, suc, ◌+◌, ◌≤◌, Bool, true, false, List, [], ◌∷◌, ◌++◌, length, take, drop, Option, Some, None, option_map, arith, append_assoc}
+use Rattle.std.proofs.Common.{◌≡◌, ◌≢◌, ◌∙◌, inl, inr, refl, sym, ap, subst, ℕ, suc, false, List, [], ◌∷◌, ◌++◌, take, drop, Option, Some, None, option_map, append_assoc}
 use Rattle.nub_wire.specs.declared.message.Msg.{Msg}
 use Rattle.nub_wire.specs.declared.link.Side.{Side}
 use Rattle.nub_wire.specs.declared.link.Side.TheVariants.{First, Second}
@@ -8,12 +8,12 @@ use Rattle.nub_wire.specs.Spelling.{frame_of, MsgFits}
 use Rattle.nub_wire.specs.Feeding.{frames}
 use Rattle.machine_state.specs.State.{Behaviour}
 use Rattle.nub_wire.specs.Nub.{Host}
-use Rattle.nub_wire.specs.Delivery.{Conduct, LinkSide, World, side_of, on_side, with_sent, Moves, EntersSide, Enters, Waits, has_ready, enters, used_up, ready_of, without_ready, Gets, GetsFrom, Receives, WaitsOut}
+use Rattle.nub_wire.specs.Delivery.{Conduct, LinkSide, World, side_of, on_side, with_sent, Moves, EntersSide, Enters, Waits, has_ready, enters, used_up, ready_of, without_ready, Gets, GetsFrom, Receives}
 use Rattle.nub_wire.specs.Rest.{IsIdle, other, KeepsOther}
 use Rattle.nub_wire.specs.Calls.{Hears, none_heard, hears}
 use Rattle.nub_wire.specs.Exchange.{RepliesAtOnce, Replies, at_once, got_on, Exchanged, HearsReply, HearsReplies}
 use Rattle.nub_wire.proofs.Pendings.{frame_some, frames_nil, replies_some, pending_over}
-use Rattle.nub_wire.proofs.Sides.{append_nil, nil_left, nil_right, cancel, drop_nil, take_nil, split_at, Asking, Answering, NotYet, InExchange, Answered, ready_on, moves_on, idle_moves, out_on}
+use Rattle.nub_wire.proofs.Sides.{append_nil, nil_left, nil_right, cancel, drop_nil, take_nil, split_at, InExchange, Answered, moves_on, idle_moves, out_on}
 
 -- ---- the two sides
 

@@ -1,8 +1,8 @@
 -- What a nub at rest answers at once.
-use Rattle.std.specs.Prelude.{◌≡◌, ℕ, ◌+◌, ◌^◌, ◌<◌, ◌≤◌, List, length, true, Option, Some, None, Result, Ok, Err}
+use Rattle.std.specs.Prelude.{◌≡◌, ℕ, ◌+◌, ◌^◌, ◌<◌, ◌≤◌, List, length, true, Result, Ok, Err}
 use Rattle.ldb_words.specs.declared.event.Outside.{Outside}
 use Rattle.machine_state.specs.Regions.{Regions, read_of, write_of}
-use Rattle.machine_state.specs.State.{MachineState, Behaviour, order_of, with_memory, with_input}
+use Rattle.machine_state.specs.State.{MachineState, Behaviour, order_of, with_input}
 use Rattle.machine_state.specs.declared.layout.TheConstants.{CONTEXT}
 use Rattle.nub_wire.specs.declared.message.Size.{Size}
 use Rattle.nub_wire.specs.declared.message.Msg.{Msg}
@@ -10,7 +10,7 @@ use Rattle.nub_wire.specs.declared.message.Msg.TheVariants as msg
 use Rattle.machine_state.specs.Sound.{IsMemory}
 use Rattle.nub_wire.specs.Spelling.{size_byte, IsChunk}
 use Rattle.nub_wire.specs.Replies.{ends_reply}
-use Rattle.nub_wire.specs.Nub.{Host, host, handled, fetch_reply, done_or_outside}
+use Rattle.nub_wire.specs.Nub.{Host, host, handled, fetch_reply}
 use Rattle.nub_wire.specs.Delivery.{Conduct, nubs_over, LinkSide}
 use Rattle.nub_wire.specs.Rest.{IsAtRest}
 use Rattle.nub_wire.specs.Exchange.{RepliesAtOnce}

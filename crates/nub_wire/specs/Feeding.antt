@@ -31,6 +31,10 @@ pub record IsPartial (bytes : List ℕ) : Type 0 where
 abbrev pub BeginsNoFrame : List ℕ → Type 0
 BeginsNoFrame bytes = (m : Msg) (more rest : List ℕ) → MsgFits m → bytes ++ more ≡ frame_of m ++ rest → ⊥
 
+-- no frame of which these are the front is whole before so many bytes more
+abbrev pub EndsNoSooner : List ℕ → ℕ → Type 0
+EndsNoSooner bytes n = (m : Msg) (more : List ℕ) → MsgFits m → bytes ++ more ≡ frame_of m → n ≤ length more
+
 -- Where the next frame begins. The count stands still at its end.
 abbrev pub moved_on : ℕ → ℕ → ℕ
 moved_on start n = min (start + n) (2 ^ 64 - 1)

@@ -1,5 +1,5 @@
 -- What a nub tells of its machine fits its messages.
-use Rattle.std.specs.Prelude.{◌≡◌, ℕ, ◌^◌, ◌<◌, List, Option, None, Some}
+use Rattle.std.specs.Prelude.{ℕ, ◌^◌, ◌<◌, List, Option, None, Some}
 use Rattle.machine_state.specs.State.{MachineState, Behaviour, order_of, with_memory, given_input}
 use Rattle.machine_state.specs.Regions.{write_of}
 use Rattle.machine_state.specs.Sound.{AreBytes, IsMemory, IsByteIfAny, IsWidth}

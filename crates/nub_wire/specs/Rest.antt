@@ -1,5 +1,5 @@
 -- A side on which nothing is on the way and whose nub waits for a message.
-use Rattle.std.specs.Prelude.{◌≡◌, false, List, [], Option, None, Some}
+use Rattle.std.specs.Prelude.{◌≡◌, false, [], None, Some}
 use Rattle.nub_wire.specs.declared.link.Side.{Side}
 use Rattle.nub_wire.specs.declared.link.Side.TheVariants.{First, Second}
 use Rattle.machine_state.specs.State.{MachineState, Behaviour}

@@ -1,5 +1,5 @@
 -- What a resume tells: all that the run of its machine puts, and then how the run ended.
-use Rattle.std.specs.Prelude.{◌≡◌, ℕ, if◌then◌else◌, List, [], ◌∷◌, ◌++◌, Option, None, Some}
+use Rattle.std.specs.Prelude.{◌≡◌, ℕ, if◌then◌else◌, List, [], ◌∷◌, ◌++◌, None, Some}
 use Rattle.machine_state.specs.State.{MachineState, Behaviour}
 use Rattle.machine_state.specs.Runs.{Ran, run_of}
 use Rattle.nub_wire.specs.declared.message.Msg.{Msg}

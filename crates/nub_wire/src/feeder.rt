@@ -1,7 +1,8 @@
 // A reader of frames from bytes that come in pieces.
 
 ghost use Rattle.std.specs.Prelude.{◌≡◌, ◌≤◌, ◌+◌, ◌<◌, ◌++◌, [], length, take, min, ◌^◌, ◌-◌};
-ghost use Rattle.nub_wire.specs.Feeding.{Feeds, nothing_fed};
+ghost use Rattle.nub_wire.specs.Feeding.{Feeds, nothing_fed, EndsNoSooner};
+ghost use Rattle.nub_wire.specs.Held.{told_length};
 
 use crate::front::{Front, awaited, judge};
 use crate::message::Msg;
@@ -82,5 +83,27 @@ impl Feeder {
             }
         }
         Fed::NotYet
+    }
+
+    /// How many bytes have to come at least before the frame that has begun is whole: 1 to 1,027.
+    pub fn to_come(&self) -> usize
+        ensures some { 1 ≤ result }
+        ensures fits { result ≤ 1027 }
+        ensures sooner { EndsNoSooner self.now.held result }
+    {
+        told_length(self.held.as_slice())
+            .saturating_sub(self.held.len())
+            .clamp(1, 1027)
+    }
+}
+
+/// How long a frame is by its first bytes, as far as they tell.
+fn told_length(bytes: &[u8]) -> usize
+    ensures is { result ≡ told_length bytes.now }
+    ensures bound { result ≤ 65537 }
+{
+    match bytes {
+        [high, low, ..] => 2 + (256 * usize::from(*high) + usize::from(*low)),
+        _ => 3,
     }
 }
