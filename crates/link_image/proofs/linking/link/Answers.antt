@@ -1,0 +1,13 @@
+use Rattle.std.proofs.Common.{◌∙◌, ap}
+use Rattle.machine_state.specs.declared.layout.TheConstants.{TEXT, DATA}
+use Rattle.obj_placed.specs.Placed.{all_statics}
+use Rattle.link_image.specs.Tables.{address_in}
+use Rattle.link_image.specs.Linked.{linked_address, linked_addresses, data_from}
+use Rattle.link_image.proofs.Lists.{text_linked, statics_linked}
+use Rattle.link_image.proofs.linking.link.Goals as goal
+
+pub returns-clause-text : goal.returns-clause-text
+returns-clause-text c = text_linked (address_in c.in_ok-addresses.addresses) _ _ _ c.in_ok-addresses.ensures c.in_ok-text.ensures c.in_ok-image.ensures.text
+
+pub returns-clause-statics : goal.returns-clause-statics
+returns-clause-statics c = statics_linked (address_in c.in_ok-addresses.addresses) _ _ _ c.in_ok-addresses.ensures c.in_ok-statics.ensures c.in_ok-image.ensures.statics
