@@ -1,5 +1,6 @@
 -- Names and static objects in two parts.
-use Rattle.std.proofs.Common.{◌≡◌, ℕ, zero, suc, ◌+◌, ◌-◌, ◌<◌, List, [], ◌∷◌, ◌++◌, length, map, take, drop, get_or, replicate, true, false, cond, Option, Some, None, bytes_eq, refl, sym, ap, ap₂, ◌∙◌, if◌then◌else◌, append_assoc, append-nil, length-append, drop-drop, arith}
+use Rattle.std.proofs.Common.{◌≡◌, ℕ, zero, suc, ◌+◌, ◌-◌, ◌<◌, List, [], ◌∷◌, ◌++◌, length, map, take, drop, get_or, replicate, true, false, cond, Option, Some, None, bytes_eq, refl, sym, ap, ap₂, ◌∙◌, if◌then◌else◌, append_assoc, append-nil, length-append, drop-drop, drop_of_length-le, subst, ◌≤◌, arith}
+use Rattle.std.specs.List.{AllByRecursion}
 use Rattle.std.proofs.Math.Seq.{drop-cons}
 use Rattle.std.proofs.lemmas.List.{length-replicate}
 use Rattle.machine_state.specs.Regions.{or_else, zeros}
@@ -159,3 +160,11 @@ row_step before after bytes at next from end s ss e f n =
     ap₂ (λ l m. l ++ data_from (length l) (addresses_from m ss) (cut ss (drop end bytes))) whole n
     ∙ (ap (λ rest. (before ++ zeros (at - DATA - length before) ++ take (length s.bytes) (drop from bytes)) ++ data_from (length (before ++ zeros (at - DATA - length before) ++ take (length s.bytes) (drop from bytes))) (addresses_from (at + room_of s) ss) (cut ss rest)) last
     ∙ data_more before (take (length s.bytes) (drop from bytes)) at (addresses_from (at + room_of s) ss) (cut ss (drop (length s.bytes) (drop from bytes))))
+
+-- ---- what holds of each item
+
+pub all_from : {T : Type 0} (P : T → Type 0) (xs : List T) (i : ℕ) (x : T) → i < length xs → x ≡ get_or xs i x → P x → AllByRecursion P (drop (i + 1) xs) → AllByRecursion P (drop i xs)
+all_from P xs i x h e p rest = subst (λ l. AllByRecursion P l) (sym (item_of xs i x h e)) (p, rest)
+
+pub all_left : {T : Type 0} (P : T → Type 0) (xs : List T) (i : ℕ) → length xs ≤ i → AllByRecursion P (drop i xs)
+all_left P xs i h = subst (λ l. AllByRecursion P l) (sym (drop_of_length-le xs h)) tt

@@ -1,5 +1,5 @@
 -- What a linker makes of objects: where it places their static objects, and the image and its rows.
-use Rattle.std.specs.Prelude.{ℕ, ◌+◌, ◌-◌, List, [], ◌∷◌, ◌++◌, length, Option}
+use Rattle.std.specs.Prelude.{◌≡◌, ℕ, ◌+◌, ◌-◌, List, [], ◌∷◌, ◌++◌, length, Option}
 use Rattle.std.specs.Int.{next_multiple_of}
 use Rattle.machine_state.specs.Regions.{zeros}
 use Rattle.machine_state.specs.declared.layout.TheConstants.{TEXT, DATA}
@@ -46,3 +46,6 @@ data_from there (a ∷ addresses) (p ∷ ps) = zeros (a - DATA - there) ++ p ++ 
 
 unfoldable pub linked_statics : List Object → List ℕ
 linked_statics objects = data_from 0 (linked_addresses objects) (placed_statics (linked_address objects) objects)
+
+abbrev pub IsFor : (target : ℕ) → Object → Type 0
+IsFor target o = o.target ≡ target

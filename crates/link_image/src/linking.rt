@@ -1,9 +1,10 @@
 // Objects made into an image.
 
 ghost use Rattle.std.specs.Prelude.{◌≡◌, IfOk};
+ghost use Rattle.std.specs.List.{AllByRecursion};
 ghost use Rattle.machine_state.specs.declared.layout.TheConstants.{TEXT as FIRST_TEXT, DATA as FIRST_STATIC};
 ghost use Rattle.obj_placed.specs.Placed.{all_statics, placed_rows};
-ghost use Rattle.link_image.specs.Linked.{linked_text, linked_statics, anchors_from};
+ghost use Rattle.link_image.specs.Linked.{IsFor, linked_text, linked_statics, anchors_from};
 
 use crate::anchors::anchors_of;
 use crate::names::addresses_of;
@@ -35,17 +36,26 @@ fn image_of(target: u8, text: Vec<u8>, statics: Vec<u8>) -> Result<Image, AllocE
     Ok(Image::new(target, TEXT, text, statics))
 }
 
-/// The target of some objects.
-fn target_of(objects: &[Object]) -> Result<u8, AllocError> {
-    match objects.first() {
-        Some(object) => Ok(object.target),
-        None => Err(AllocError),
+/// The target that all objects are for.
+fn target_of(objects: &[Object]) -> Result<u8, AllocError>
+    ensures { IfOk result (λ t. AllByRecursion (IsFor t) objects.now) }
+{
+    let Some(first) = objects.first() else {
+        return Err(AllocError);
+    };
+    let target = first.target;
+    for object in objects {
+        if object.target != target {
+            return Err(AllocError);
+        }
     }
+    Ok(target)
 }
 
 /// The image of some objects, which begins with the first word of the text, and where their static objects and functions
 /// stand. Objects that no image can be made of are answered as want of memory.
 pub fn link(alloc: Global, objects: &[Object]) -> Result<(Image, LoaderRows), AllocError>
+    ensures target { IfOk result (λ r. AllByRecursion (IsFor r.0.target) objects.now) }
     ensures entry { IfOk result (λ r. r.0.entry ≡ FIRST_TEXT) }
     ensures text { IfOk result (λ r. r.0.text ≡ linked_text objects.now) }
     ensures statics { IfOk result (λ r. r.0.statics ≡ linked_statics objects.now) }

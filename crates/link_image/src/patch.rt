@@ -10,7 +10,7 @@ use crate::addresses::Addresses;
 use crate::field::{order_of, patched_word};
 use byteorder::{BigEndian, ByteOrder, LittleEndian};
 use ldb_words::Order;
-use obj_file::{Object, StaticDef, Use};
+use obj_file::{Form, Object, StaticDef, Use};
 use std::alloc::{AllocError, Global};
 
 /// The word in the first four bytes.
@@ -79,6 +79,9 @@ fn patch_here<'a>(
 {
     if !stands_in(in_text, place) {
         return Ok(());
+    }
+    if !in_text && place.form != Form::Word {
+        return Err(AllocError);
     }
     let Some(address) = addresses.find(place.name.as_bytes()) else {
         return Err(AllocError);
