@@ -1,2 +1,2 @@
-pub mod Fields
-pub mod Patched
+pub mod Linked
+pub mod Tables

@@ -1,8 +1,8 @@
 // The addresses of names.
 
-ghost use Rattle.std.specs.Prelude.{◌≡◌, List, ℕ, Some, None, OnOk, bytes_eq};
+ghost use Rattle.std.specs.Prelude.{◌≡◌, List, [], ◌∷◌, ℕ, Some, None, OnOk, bytes_eq};
 ghost use Rattle.std.specs.Map.{update};
-ghost use Rattle.link_image.specs.Patched.{address_in};
+ghost use Rattle.link_image.specs.Tables.{address_in, with_names};
 
 use std::alloc::{AllocError, Global};
 use std::collections::BTreeMap;
@@ -31,12 +31,22 @@ impl<'a> Addresses<'a> {
     }
 
     /// Gives a name this address, also where it had another.
-    pub fn set(&mut self, name: &'a [u8], address: u32) -> Result<(), AllocError>
+    fn set(&mut self, name: &'a [u8], address: u32) -> Result<(), AllocError>
         ensures { OnOk result ((t : List ℕ) → address_in self.new t ≡ update bytes_eq (address_in self.old) name.now (Some address) t) }
     {
         match self.of.insert(name, address) {
             Ok(_) => Ok(()),
             Err(_) => Err(AllocError),
+        }
+    }
+
+    /// Gives a name that has none this address.
+    pub fn define(&mut self, name: &'a [u8], address: u32) -> Result<(), AllocError>
+        ensures { OnOk result ((t : List ℕ) → address_in self.new t ≡ with_names (address_in self.old) ((name.now, address) ∷ []) t) }
+    {
+        match self.find(name) {
+            Some(_) => Ok(()),
+            None => self.set(name, address),
         }
     }
 }

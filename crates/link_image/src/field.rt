@@ -1,7 +1,7 @@
 // Words that hold an address or a part of it.
 
 ghost use Rattle.std.specs.Prelude.{◌≡◌};
-ghost use Rattle.link_image.specs.Fields.{mips_word, sparc_word, patched_word, order_of};
+ghost use Rattle.obj_placed.specs.Fields.{mips_word, sparc_word, patched_word, order_of};
 
 use ldb_words::Order;
 use machine_state::MIPS;
@@ -32,7 +32,7 @@ fn sparc_word(form: Form, stands: u32, address: u32, word: u32) -> u32
 }
 
 /// A word, which stands at an address, with an address.
-#[tactic(auto, unfolding(crate::specs::Fields::patched_word))]
+#[tactic(auto, unfolding(obj_placed::specs::Fields::patched_word))]
 pub fn patched_word(target: u8, form: Form, stands: u32, address: u32, word: u32) -> u32
     ensures { result ≡ patched_word target form stands address word }
 {

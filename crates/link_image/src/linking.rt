@@ -1,95 +1,31 @@
 // Objects made into an image.
 
-use crate::patch::{patched_statics, patched_text};
-use crate::placing::{Placing, placing_of};
-use crate::rows::add_rows;
-use ldb_words::{Many, Text};
-use machine_state::{DATA, DATA_SIZE, MIPS, SPARC, TEXT};
-use obj_file::{FunctionRow, Image, LoaderRows, Object, StaticDef};
+ghost use Rattle.std.specs.Prelude.{◌≡◌, IfOk};
+ghost use Rattle.std.specs.List.{AllByRecursion};
+ghost use Rattle.machine_state.specs.declared.layout.TheConstants.{TEXT as FIRST_TEXT, DATA as FIRST_STATIC};
+ghost use Rattle.obj_placed.specs.Placed.{all_statics, placed_rows};
+ghost use Rattle.link_image.specs.Linked.{IsFor, linked_text, linked_statics, anchors_from};
+
+use crate::anchors::anchors_of;
+use crate::names::addresses_of;
+use crate::rows::rows_of;
+use crate::statics::statics_of;
+use crate::texts::text_of;
+use ldb_words::Many;
+use machine_state::{DATA_SIZE, MIPS, SPARC, TEXT};
+use obj_file::{Image, LoaderRows, Object};
 use std::alloc::{AllocError, Global};
 
 /// How many bytes a text has at most.
 const MOST_TEXT: usize = 0x0100_0000;
 
-/// The parts of an image that is made.
-#[derive(Drop)]
-struct Parts {
-    text: Vec<u8>,
-    statics: Vec<u8>,
-    anchors: usize,
-    rows: Vec<FunctionRow>,
-}
-
-/// Zeros up to an offset.
-fn fill(statics: &mut Vec<u8>, to: u32) -> Result<(), AllocError> {
-    for _ in statics.len()..to as usize {
-        statics.push(0)?;
-    }
-    Ok(())
-}
-
-/// The bytes of static objects, which lie one after another in these, each at its address.
-fn add_statics(
-    statics: &mut Vec<u8>,
-    anchors: &[(Text, u32)],
-    first: usize,
-    rows: &[StaticDef],
-    bytes: &[u8],
-) -> Result<(), AllocError> {
-    let mut from: usize = 0;
-    let mut number = first;
-    for row in rows {
-        let end = from.checked_add(row.bytes.len()).ok_or(AllocError)?;
-        let (_, address) = anchors.get(number).ok_or(AllocError)?;
-        fill(statics, address.checked_sub(DATA).ok_or(AllocError)?)?;
-        statics.extend_from_slice(bytes.get(from..end).ok_or(AllocError)?)?;
-        from = end;
-        number = number.checked_add(1).ok_or(AllocError)?;
-    }
-    Ok(())
-}
-
-/// An object's text, static objects and rows.
-fn add_object<'a>(
-    alloc: Global,
-    parts: &mut Parts,
-    placing: &Placing<'a>,
-    object: &'a Object,
-    base: u32,
-) -> Result<(), AllocError> {
-    let text = patched_text(alloc, &placing.addresses, object, base)?;
-    parts.text.extend_from_slice(&text)?;
-    let bytes = patched_statics(alloc, &placing.addresses, object)?;
-    let first = parts.anchors;
-    let rows = object.statics.as_slice();
-    add_statics(&mut parts.statics, &placing.anchors, first, rows, &bytes)?;
-    parts.anchors = first.checked_add(rows.len()).ok_or(AllocError)?;
-    add_rows(alloc, &mut parts.rows, base, object.functions.as_slice())
-}
-
-/// The parts of the image of some objects.
-fn parts_of<'a>(
-    alloc: Global,
-    placing: &Placing<'a>,
-    objects: &'a [Object],
-) -> Result<Parts, AllocError> {
-    let mut parts = Parts {
-        text: Vec::new(alloc),
-        statics: Vec::new(alloc),
-        anchors: 0,
-        rows: Vec::new(alloc),
-    };
-    for i in 0..objects.len() {
-        let (Some(object), Some(base)) = (objects.get(i), placing.texts.get(i)) else {
-            return Err(AllocError);
-        };
-        add_object(alloc, &mut parts, placing, object, *base)?;
-    }
-    Ok(parts)
-}
-
 /// An image of these parts, which begins with the first word of the text.
-fn image_of(target: u8, text: Vec<u8>, statics: Vec<u8>) -> Result<Image, AllocError> {
+fn image_of(target: u8, text: Vec<u8>, statics: Vec<u8>) -> Result<Image, AllocError>
+    ensures target { IfOk result (λ i. i.target ≡ target) }
+    ensures entry { IfOk result (λ i. i.entry ≡ FIRST_TEXT) }
+    ensures text { IfOk result (λ i. i.text ≡ text.items) }
+    ensures statics { IfOk result (λ i. i.statics ≡ statics.items) }
+{
     let size = text.len();
     if target != MIPS && target != SPARC {
         return Err(AllocError);
@@ -100,23 +36,39 @@ fn image_of(target: u8, text: Vec<u8>, statics: Vec<u8>) -> Result<Image, AllocE
     Ok(Image::new(target, TEXT, text, statics))
 }
 
-/// The target of some objects.
-fn target_of(objects: &[Object]) -> Result<u8, AllocError> {
-    match objects.first() {
-        Some(object) => Ok(object.target),
-        None => Err(AllocError),
+/// The target that all objects are for.
+fn target_of(objects: &[Object]) -> Result<u8, AllocError>
+    ensures { IfOk result (λ t. AllByRecursion (IsFor t) objects.now) }
+{
+    let Some(first) = objects.first() else {
+        return Err(AllocError);
+    };
+    let target = first.target;
+    for object in objects {
+        if object.target != target {
+            return Err(AllocError);
+        }
     }
+    Ok(target)
 }
 
 /// The image of some objects, which begins with the first word of the text, and where their static objects and functions
 /// stand. Objects that no image can be made of are answered as want of memory.
-pub fn link(alloc: Global, objects: &[Object]) -> Result<(Image, LoaderRows), AllocError> {
-    let placing = placing_of(alloc, objects)?;
-    let parts = parts_of(alloc, &placing, objects)?;
-    let image = image_of(target_of(objects)?, parts.text, parts.statics)?;
+pub fn link(alloc: Global, objects: &[Object]) -> Result<(Image, LoaderRows), AllocError>
+    ensures target { IfOk result (λ r. AllByRecursion (IsFor r.0.target) objects.now) }
+    ensures entry { IfOk result (λ r. r.0.entry ≡ FIRST_TEXT) }
+    ensures text { IfOk result (λ r. r.0.text ≡ linked_text objects.now) }
+    ensures statics { IfOk result (λ r. r.0.statics ≡ linked_statics objects.now) }
+    ensures anchors { IfOk result (λ r. r.1.anchors ≡ anchors_from FIRST_STATIC (all_statics objects.now)) }
+    ensures functions { IfOk result (λ r. r.1.functions ≡ placed_rows FIRST_TEXT objects.now) }
+{
+    let addresses = addresses_of(alloc, objects)?;
+    let text = text_of(alloc, &addresses, objects)?;
+    let statics = statics_of(alloc, &addresses, objects)?;
+    let image = image_of(target_of(objects)?, text, statics)?;
     let rows = LoaderRows {
-        anchors: Many::from_vec(placing.anchors),
-        functions: Many::from_vec(parts.rows),
+        anchors: Many::from_vec(anchors_of(alloc, objects)?),
+        functions: Many::from_vec(rows_of(alloc, objects)?),
     };
     Ok((image, rows))
 }

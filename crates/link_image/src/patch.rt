@@ -1,14 +1,16 @@
 // Texts and static bytes with each use patched.
 
-ghost use Rattle.std.specs.Prelude.{◌≡◌, ◌+◌, ◌≤◌, ◌++◌, IfOk, length, drop};
+ghost use Rattle.std.specs.Prelude.{◌≡◌, ◌+◌, ◌≤◌, ◌++◌, IfOk, OnOk, length, drop, if◌then◌else◌};
 ghost use Rattle.machine_state.specs.Regions.{number_of, bytes_of};
-ghost use Rattle.link_image.specs.Patched.{patched_at, joined};
+ghost use Rattle.obj_placed.specs.Patched.{patched_at, patched_by, patched, stands_in};
+ghost use Rattle.obj_placed.specs.Placed.{joined, placed_text, placed_bytes};
+ghost use Rattle.link_image.specs.Tables.{address_in};
 
 use crate::addresses::Addresses;
 use crate::field::{order_of, patched_word};
 use byteorder::{BigEndian, ByteOrder, LittleEndian};
 use ldb_words::Order;
-use obj_file::{Object, StaticDef, Use};
+use obj_file::{Form, Object, StaticDef, Use};
 use std::alloc::{AllocError, Global};
 
 /// The word in the first four bytes.
@@ -34,7 +36,7 @@ fn write_word(order: Order, bytes: &mut [u8], value: u32)
 }
 
 /// Patches a use of an address in bytes that begin at an address.
-#[tactic(auto, unfolding(crate::specs::Patched::patched_at))]
+#[tactic(auto, unfolding(obj_placed::specs::Patched::patched_at))]
 fn patch(target: u8, base: u32, address: u32, place: &Use, bytes: &mut [u8])
     requires { place.now.at + 4 ≤ length bytes.old }
     ensures { bytes.new ≡ patched_at target base address place.now bytes.old }
@@ -53,6 +55,44 @@ fn patch(target: u8, base: u32, address: u32, place: &Use, bytes: &mut [u8])
     write_word(order, &mut bytes[at..], new);
 }
 
+/// Whether a use stands in the text, or else in the static objects.
+fn stands_in(in_text: bool, place: &Use) -> bool
+    ensures { result ≡ stands_in in_text place.now }
+{
+    if in_text {
+        place.in_text
+    } else {
+        !place.in_text
+    }
+}
+
+/// Patches a use, if it stands there, in bytes that begin at an address.
+fn patch_here<'a>(
+    addresses: &Addresses<'a>,
+    target: u8,
+    base: u32,
+    in_text: bool,
+    place: &'a Use,
+    bytes: &mut [u8],
+) -> Result<(), AllocError>
+    ensures { OnOk result (bytes.new ≡ (if stands_in in_text place.now then patched_by target base (address_in addresses.now place.now.name) place.now bytes.old else bytes.old)) }
+{
+    if !stands_in(in_text, place) {
+        return Ok(());
+    }
+    if !in_text && place.form != Form::Word {
+        return Err(AllocError);
+    }
+    let Some(address) = addresses.find(place.name.as_bytes()) else {
+        return Err(AllocError);
+    };
+    if bytes.len() < place.at as usize + 4 {
+        return Err(AllocError);
+    }
+    patch(target, base, address, place, bytes);
+    Ok(())
+}
+
 /// Patches the uses that stand in the text, or those that do not, in bytes that begin at an address.
 fn patch_all<'a>(
     addresses: &Addresses<'a>,
@@ -60,26 +100,25 @@ fn patch_all<'a>(
     in_text: bool,
     base: u32,
     bytes: &mut [u8],
-) -> Result<(), AllocError> {
+) -> Result<(), AllocError>
+    ensures { OnOk result (bytes.new ≡ patched object.now.target base (address_in addresses.now) in_text object.now.uses bytes.old) }
+{
     for place in object.uses.as_slice() {
-        if place.in_text == in_text {
-            let address = addresses.find(place.name.as_bytes()).ok_or(AllocError)?;
-            if bytes.len() < place.at as usize + 4 {
-                return Err(AllocError);
-            }
-            patch(object.target, base, address, place, bytes);
-        }
+        patch_here(addresses, object.target, base, in_text, place, bytes)?;
     }
     Ok(())
 }
 
 /// The text of an object, which begins at an address.
+#[tactic(auto, unfolding(obj_placed::specs::Placed::placed_text))]
 pub fn patched_text<'a>(
     alloc: Global,
     addresses: &Addresses<'a>,
     object: &'a Object,
     base: u32,
-) -> Result<Vec<u8>, AllocError> {
+) -> Result<Vec<u8>, AllocError>
+    ensures { IfOk result (λ v. v.items ≡ placed_text (address_in addresses.now) base object.now) }
+{
     let mut text = Vec::from_slice(alloc, object.text.as_bytes())?;
     patch_all(addresses, object, true, base, &mut text)?;
     Ok(text)
@@ -97,11 +136,14 @@ fn joined(alloc: Global, statics: &[StaticDef]) -> Result<Vec<u8>, AllocError>
 }
 
 /// The bytes of an object's static objects, one after another.
+#[tactic(auto, unfolding(obj_placed::specs::Placed::placed_bytes))]
 pub fn patched_statics<'a>(
     alloc: Global,
     addresses: &Addresses<'a>,
     object: &'a Object,
-) -> Result<Vec<u8>, AllocError> {
+) -> Result<Vec<u8>, AllocError>
+    ensures { IfOk result (λ v. v.items ≡ placed_bytes (address_in addresses.now) object.now) }
+{
     let mut bytes = joined(alloc, object.statics.as_slice())?;
     patch_all(addresses, object, false, 0, &mut bytes)?;
     Ok(bytes)

@@ -1,5 +1,5 @@
 use Rattle.std.proofs.Common.{◌≡◌, ◌++◌, drop}
-use Rattle.link_image.specs.Patched.{joined}
+use Rattle.obj_placed.specs.Placed.{joined}
 use Rattle.link_image.proofs.patch.joined.Given as goal
 
 abbrev pub invariant-loop-row : goal.invariant-loop-row

@@ -1,0 +1,8 @@
+use Rattle.std.proofs.Common.{◌≡◌, ◌++◌, drop}
+use Rattle.machine_state.specs.declared.layout.TheConstants.{DATA}
+use Rattle.obj_placed.specs.Placed.{all_statics}
+use Rattle.link_image.specs.Linked.{anchors_from}
+use Rattle.link_image.proofs.anchors.anchors_of.Given as goal
+
+abbrev pub invariant-loop-object : goal.invariant-loop-object
+invariant-loop-object l = l.anchors.items ++ anchors_from l.at (all_statics (drop l.object-index l.objects)) ≡ anchors_from DATA (all_statics l.objects)
