@@ -42,12 +42,18 @@ fn keyword(
         Keyword::If => turned(stack, Mode::Paren(Opener::Control(Control::If, place))),
         Keyword::While => turned(stack, Mode::Paren(Opener::Control(Control::While, place))),
         Keyword::Switch => turned(stack, Mode::Paren(Opener::Control(Control::Switch, place))),
-        Keyword::Do => Ok(begin(stack, Frame::Do(At::new(place)))?),
+        Keyword::Do => begin(stack, Frame::Do(At::new(place))),
         Keyword::For => turned(stack, Mode::Paren(Opener::For(place))),
-        Keyword::Case => Ok(waits(alloc, stack, Required::Case(place))?),
+        Keyword::Case => waits(alloc, stack, Required::Case(place)),
         Keyword::Default => turned(stack, Mode::Colon(place)),
-        Keyword::Break => turned(stack, Mode::Ends(break_of(alloc, place)?)),
-        Keyword::Continue => turned(stack, Mode::Ends(continue_of(alloc, place)?)),
+        Keyword::Break => match break_of(alloc, place) {
+            Ok(part) => turned(stack, Mode::Ends(part)),
+            Err(AllocError) => Err(SynFault::NoMemory),
+        },
+        Keyword::Continue => match continue_of(alloc, place) {
+            Ok(part) => turned(stack, Mode::Ends(part)),
+            Err(AllocError) => Err(SynFault::NoMemory),
+        },
         Keyword::Return => turned(stack, Mode::May(Optional::Return(place))),
         _ => Err(SynFault::Syntax(place)),
     }
@@ -234,7 +240,7 @@ fn on_else(
 {
     let mut stack = stack;
     match if_part(stack.pop()) {
-        Some(control) => Ok(begin(stack, Frame::Else(paired(control, part)))?),
+        Some(control) => begin(stack, Frame::Else(paired(control, part))),
         None => {
             drop(part);
             Err(SynFault::Syntax(place))
@@ -272,8 +278,8 @@ fn after(
 }
 
 /// The `(` behind a keyword.
-fn opens(alloc: Global, stack: Stack<Frame>, opener: Opener) -> Result<Reader, AllocError>
-    ensures { IfOk result (λ r. opens opener stack ≡ Some r) }
+fn opens(alloc: Global, stack: Stack<Frame>, opener: Opener) -> Result<Reader, SynFault>
+    ensures { Gives result (opens opener stack) }
 {
     match opener {
         Opener::Control(control, begun) => waits(alloc, stack, Required::Control(control, begun)),
@@ -303,7 +309,7 @@ fn paren(
     ensures { Gives result (paren symbol opener stack) }
 {
     if is_open_paren(symbol) {
-        Ok(opens(alloc, stack, opener)?)
+        opens(alloc, stack, opener)
     } else {
         drop(opener);
         Err(SynFault::Syntax(place))
@@ -349,8 +355,10 @@ fn colon(
 {
     match symbol {
         Symbol::Colon => {
-            let head = default_head(alloc, begun)?;
-            Ok(begin(stack, Frame::Headed(head))?)
+            match default_head(alloc, begun) {
+                Ok(head) => begin(stack, Frame::Headed(head)),
+                Err(AllocError) => Err(SynFault::NoMemory),
+            }
         }
         _ => Err(SynFault::Syntax(place)),
     }

@@ -97,15 +97,17 @@ fn control_frame(
 }
 
 /// A statement is to come behind this frame.
-pub fn begin(stack: Stack<Frame>, frame: Frame) -> Result<Reader, AllocError>
-    ensures { IfOk result (λ r. goes Begin (frame ∷ stack) ≡ Some r) }
+pub fn begin(stack: Stack<Frame>, frame: Frame) -> Result<Reader, SynFault>
+    ensures { Gives result (goes Begin (frame ∷ stack)) }
 {
     let mut stack = stack;
-    stack.push(frame)?;
-    Ok(Reader {
-        stack,
-        mode: Mode::Begin,
-    })
+    match stack.push(frame) {
+        Ok(()) => Ok(Reader {
+            stack,
+            mode: Mode::Begin,
+        }),
+        Err(AllocError) => Err(SynFault::NoMemory),
+    }
 }
 
 /// What is read with an expression that must stand.
@@ -118,19 +120,28 @@ fn with_value(
     ensures { Gives result (with_value purpose e stack) }
 {
     match purpose {
-        Required::Evaluate => Ok(Reader {
-            stack,
-            mode: Mode::After(evaluate_of(alloc, e)?),
-        }),
-        Required::Control(control, place) => Ok(begin(
-            stack,
-            control_frame(alloc, control, place, e)?,
-        )?),
-        Required::Until(before) => Ok(Reader {
-            stack,
-            mode: Mode::Ends(do_of(alloc, before, e)?),
-        }),
-        Required::Case(place) => Ok(begin(stack, Frame::Headed(case_head(alloc, place, e)?))?),
+        Required::Evaluate => match evaluate_of(alloc, e) {
+            Ok(part) => Ok(Reader {
+                stack,
+                mode: Mode::After(part),
+            }),
+            Err(AllocError) => Err(SynFault::NoMemory),
+        },
+        Required::Control(control, place) => match control_frame(alloc, control, place, e) {
+            Ok(frame) => begin(stack, frame),
+            Err(AllocError) => Err(SynFault::NoMemory),
+        },
+        Required::Until(before) => match do_of(alloc, before, e) {
+            Ok(part) => Ok(Reader {
+                stack,
+                mode: Mode::Ends(part),
+            }),
+            Err(AllocError) => Err(SynFault::NoMemory),
+        },
+        Required::Case(place) => match case_head(alloc, place, e) {
+            Ok(head) => begin(stack, Frame::Headed(head)),
+            Err(AllocError) => Err(SynFault::NoMemory),
+        },
     }
 }
 
@@ -152,11 +163,17 @@ fn with_optional(
             stack,
             mode: Mode::May(Optional::Third(paired(before, e))),
         }),
-        Optional::Third(before) => Ok(begin(stack, Frame::Headed(for_head(alloc, before, e)?))?),
-        Optional::Return(place) => Ok(Reader {
-            stack,
-            mode: Mode::After(return_of(alloc, place, e)?),
-        }),
+        Optional::Third(before) => match for_head(alloc, before, e) {
+            Ok(head) => begin(stack, Frame::Headed(head)),
+            Err(AllocError) => Err(SynFault::NoMemory),
+        },
+        Optional::Return(place) => match return_of(alloc, place, e) {
+            Ok(part) => Ok(Reader {
+                stack,
+                mode: Mode::After(part),
+            }),
+            Err(AllocError) => Err(SynFault::NoMemory),
+        },
     }
 }
 
@@ -237,14 +254,19 @@ pub fn value_begins(
 }
 
 /// An expression is to come.
-pub fn waits(alloc: Global, stack: Stack<Frame>, purpose: Required) -> Result<Reader, AllocError>
-    ensures { IfOk result (λ r. waits purpose stack ≡ Some r) }
+pub fn waits(alloc: Global, stack: Stack<Frame>, purpose: Required) -> Result<Reader, SynFault>
+    ensures { Gives result (waits purpose stack) }
 {
-    let parser = Parser::new(alloc, least_for_required(&purpose))?;
-    Ok(Reader {
-        stack,
-        mode: Mode::Value(Purpose::Must(purpose), parser),
-    })
+    match Parser::new(alloc, least_for_required(&purpose)) {
+        Ok(parser) => Ok(Reader {
+            stack,
+            mode: Mode::Value(Purpose::Must(purpose), parser),
+        }),
+        Err(AllocError) => {
+            drop(purpose);
+            Err(SynFault::NoMemory)
+        }
+    }
 }
 
 /// A token where an expression may stand.
