@@ -1,5 +1,5 @@
 -- Names and static objects in two parts.
-use Rattle.std.proofs.Common.{◌≡◌, ℕ, zero, suc, ◌+◌, ◌-◌, ◌<◌, List, [], ◌∷◌, ◌++◌, length, map, take, drop, get_or, replicate, true, false, cond, Option, Some, None, bytes_eq, refl, sym, ap, ap₂, ◌∙◌, if◌then◌else◌, append_assoc, append-nil, length-append, drop-drop, drop_of_length-le, subst, ◌≤◌, arith}
+use Rattle.std.proofs.Common.{◌≡◌, ℕ, suc, ◌+◌, ◌-◌, ◌<◌, List, [], ◌∷◌, ◌++◌, length, map, take, drop, get_or, true, false, cond, Option, Some, None, bytes_eq, IsSome, Bool, refl, sym, ap, ap₂, ◌∙◌, if◌then◌else◌, append_assoc, append-nil, length-append, drop-drop, drop_of_length-le, subst, ◌≤◌, arith}
 use Rattle.std.specs.List.{AllByRecursion}
 use Rattle.std.proofs.Math.Seq.{drop-cons}
 use Rattle.std.proofs.lemmas.List.{length-replicate}
@@ -9,9 +9,9 @@ use Rattle.obj_file.specs.declared.object.Name.{Name}
 use Rattle.obj_file.specs.declared.object.StaticDef.{StaticDef}
 use Rattle.obj_file.specs.declared.object.Object.{Object}
 use Rattle.obj_file.specs.declared.object.Use.{Use}
-use Rattle.obj_placed.specs.Placed.{address_of, named_at, text_names, names_of, anchors_at, all_statics, joined, cut, placed_statics, placed_texts, placed_text, placed_bytes}
+use Rattle.obj_placed.specs.Placed.{IsFound, IsResolved, address_of, named_at, text_names, names_of, all_statics, joined, cut, placed_statics, placed_texts, placed_text, placed_bytes}
 use Rattle.obj_placed.specs.Patched.{patched, patched_by, stands_in}
-use Rattle.link_image.specs.Tables.{with_names}
+use Rattle.link_image.specs.Tables.{HasText, HasStatics, with_names}
 use Rattle.link_image.specs.Linked.{room_of, addresses_from, next_address, anchors_from, linked_address, linked_addresses, linked_text, linked_statics, data_from}
 
 -- ---- names
@@ -126,6 +126,12 @@ anchors_step before after at next o ss os es e n =
     ap₂ (λ l m. l ++ anchors_from m (all_statics os)) e n
     ∙ (append_assoc before _ _ ∙ (ap (λ l. before ++ l) (sym (anchors_after at ss (all_statics os))) ∙ ap (λ l. before ++ anchors_from at (l ++ all_statics os)) es))
 
+pub text_step : (f : List ℕ → Option ℕ) (before after placed : List ℕ) (base size next : ℕ) (o : Object) (text : List ℕ) (os : List Object) → text ≡ o.text
+    → after ≡ before ++ placed → placed ≡ placed_text f base o → size ≡ length text → next ≡ base + size
+    → after ++ placed_texts f next os ≡ before ++ placed_texts f base (o ∷ os)
+text_step f before after placed base size next o text os t e p s n =
+    ap₂ (λ l m. l ++ placed_texts f m os) (e ∙ ap (λ l. before ++ l) p) (n ∙ ap (λ m. base + m) (s ∙ ap length t)) ∙ append_assoc before _ _
+
 pub data_step : (f : List ℕ → Option ℕ) (before after : List ℕ) (at next : ℕ) (o : Object) (ss : List StaticDef) (bytes : List ℕ) (os : List Object) → ss ≡ o.statics → bytes ≡ placed_bytes f o
     → after ≡ before ++ data_from (length before) (addresses_from at ss) (cut ss bytes) → next ≡ next_address at ss
     → after ++ data_from (length after) (addresses_from next (all_statics os)) (placed_statics f os)
@@ -168,3 +174,14 @@ all_from P xs i x h e p rest = subst (λ l. AllByRecursion P l) (sym (item_of xs
 
 pub all_left : {T : Type 0} (P : T → Type 0) (xs : List T) (i : ℕ) → length xs ≤ i → AllByRecursion P (drop i xs)
 all_left P xs i h = subst (λ l. AllByRecursion P l) (sym (drop_of_length-le xs h)) tt
+
+-- ---- uses that are found
+
+module _ (f g : List ℕ → Option ℕ) (same : (t : List ℕ) → f t ≡ g t) where
+  found_same : (in_text : Bool) (size : ℕ) (us : List Use) → AllByRecursion (IsFound f in_text size) us → AllByRecursion (IsFound g in_text size) us
+  found_same in_text size [] h = tt
+  found_same in_text size (u ∷ us) h = ((λ e. let h₀ : _ = h.0 e in (subst IsSome (same u.name) h₀.0, h₀.1)), found_same in_text size us h.1)
+
+  pub all_resolved : (os : List Object) → AllByRecursion (HasText f) os → AllByRecursion (HasStatics f) os → AllByRecursion (IsResolved g) os
+  all_resolved [] h k = tt
+  all_resolved (o ∷ os) h k = (record { text = found_same true (length o.text) o.uses h.0; statics = found_same false (length (joined o.statics)) o.uses k.0 }, all_resolved os h.1 k.1)

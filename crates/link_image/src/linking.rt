@@ -3,8 +3,8 @@
 ghost use Rattle.std.specs.Prelude.{◌≡◌, IfOk};
 ghost use Rattle.std.specs.List.{AllByRecursion};
 ghost use Rattle.machine_state.specs.declared.layout.TheConstants.{TEXT as FIRST_TEXT, DATA as FIRST_STATIC};
-ghost use Rattle.obj_placed.specs.Placed.{all_statics, placed_rows};
-ghost use Rattle.link_image.specs.Linked.{IsFor, linked_text, linked_statics, anchors_from};
+ghost use Rattle.obj_placed.specs.Placed.{IsResolved, all_statics, placed_rows};
+ghost use Rattle.link_image.specs.Linked.{IsFor, linked_address, linked_text, linked_statics, anchors_from};
 
 use crate::anchors::anchors_of;
 use crate::names::addresses_of;
@@ -59,6 +59,7 @@ pub fn link(alloc: Global, objects: &[Object]) -> Result<(Image, LoaderRows), Al
     ensures entry { IfOk result (λ r. r.0.entry ≡ FIRST_TEXT) }
     ensures text { IfOk result (λ r. r.0.text ≡ linked_text objects.now) }
     ensures statics { IfOk result (λ r. r.0.statics ≡ linked_statics objects.now) }
+    ensures resolved { IfOk result (λ r. AllByRecursion (IsResolved (linked_address objects.now)) objects.now) }
     ensures anchors { IfOk result (λ r. r.1.anchors ≡ anchors_from FIRST_STATIC (all_statics objects.now)) }
     ensures functions { IfOk result (λ r. r.1.functions ≡ placed_rows FIRST_TEXT objects.now) }
 {

@@ -70,10 +70,7 @@ fn add_all_statics<'a>(
 }
 
 /// The address of each name in some objects.
-pub fn addresses_of<'a>(
-    alloc: Global,
-    objects: &'a [Object],
-) -> Result<Addresses<'a>, AllocError>
+pub fn addresses_of<'a>(alloc: Global, objects: &'a [Object]) -> Result<Addresses<'a>, AllocError>
     ensures { IfOk result (λ a. (t : List ℕ) → address_in a t ≡ linked_address objects.now t) }
 {
     let mut addresses = Addresses::new(alloc);

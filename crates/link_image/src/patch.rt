@@ -1,9 +1,10 @@
 // Texts and static bytes with each use patched.
 
-ghost use Rattle.std.specs.Prelude.{◌≡◌, ◌+◌, ◌≤◌, ◌++◌, IfOk, OnOk, length, drop, if◌then◌else◌};
+ghost use Rattle.std.specs.Prelude.{◌≡◌, ◌+◌, ◌≤◌, ◌++◌, IfOk, OnOk, true, false, length, drop, if◌then◌else◌};
+ghost use Rattle.std.specs.List.{AllByRecursion};
 ghost use Rattle.machine_state.specs.Regions.{number_of, bytes_of};
 ghost use Rattle.obj_placed.specs.Patched.{patched_at, patched_by, patched, stands_in};
-ghost use Rattle.obj_placed.specs.Placed.{joined, placed_text, placed_bytes};
+ghost use Rattle.obj_placed.specs.Placed.{IsFound, joined, placed_text, placed_bytes};
 ghost use Rattle.link_image.specs.Tables.{address_in};
 
 use crate::addresses::Addresses;
@@ -75,7 +76,8 @@ fn patch_here<'a>(
     place: &'a Use,
     bytes: &mut [u8],
 ) -> Result<(), AllocError>
-    ensures { OnOk result (bytes.new ≡ (if stands_in in_text place.now then patched_by target base (address_in addresses.now place.now.name) place.now bytes.old else bytes.old)) }
+    ensures bytes { OnOk result (bytes.new ≡ (if stands_in in_text place.now then patched_by target base (address_in addresses.now place.now.name) place.now bytes.old else bytes.old)) }
+    ensures found { OnOk result (IsFound (address_in addresses.now) in_text (length bytes.old) place.now) }
 {
     if !stands_in(in_text, place) {
         return Ok(());
@@ -101,7 +103,8 @@ fn patch_all<'a>(
     base: u32,
     bytes: &mut [u8],
 ) -> Result<(), AllocError>
-    ensures { OnOk result (bytes.new ≡ patched object.now.target base (address_in addresses.now) in_text object.now.uses bytes.old) }
+    ensures bytes { OnOk result (bytes.new ≡ patched object.now.target base (address_in addresses.now) in_text object.now.uses bytes.old) }
+    ensures found { OnOk result (AllByRecursion (IsFound (address_in addresses.now) in_text (length bytes.old)) object.now.uses) }
 {
     for place in object.uses.as_slice() {
         patch_here(addresses, object.target, base, in_text, place, bytes)?;
@@ -117,7 +120,8 @@ pub fn patched_text<'a>(
     object: &'a Object,
     base: u32,
 ) -> Result<Vec<u8>, AllocError>
-    ensures { IfOk result (λ v. v.items ≡ placed_text (address_in addresses.now) base object.now) }
+    ensures text { IfOk result (λ v. v.items ≡ placed_text (address_in addresses.now) base object.now) }
+    ensures found { IfOk result (λ _. AllByRecursion (IsFound (address_in addresses.now) true (length object.now.text)) object.now.uses) }
 {
     let mut text = Vec::from_slice(alloc, object.text.as_bytes())?;
     patch_all(addresses, object, true, base, &mut text)?;
@@ -142,7 +146,8 @@ pub fn patched_statics<'a>(
     addresses: &Addresses<'a>,
     object: &'a Object,
 ) -> Result<Vec<u8>, AllocError>
-    ensures { IfOk result (λ v. v.items ≡ placed_bytes (address_in addresses.now) object.now) }
+    ensures bytes { IfOk result (λ v. v.items ≡ placed_bytes (address_in addresses.now) object.now) }
+    ensures found { IfOk result (λ _. AllByRecursion (IsFound (address_in addresses.now) false (length (joined object.now.statics))) object.now.uses) }
 {
     let mut bytes = joined(alloc, object.statics.as_slice())?;
     patch_all(addresses, object, false, 0, &mut bytes)?;

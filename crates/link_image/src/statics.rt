@@ -4,7 +4,8 @@ ghost use Rattle.std.specs.Prelude.{◌≡◌, ◌-◌, ◌++◌, OnOk, IfOk, le
 ghost use Rattle.machine_state.specs.Regions.{zeros};
 ghost use Rattle.machine_state.specs.declared.layout.TheConstants.{DATA as FIRST_STATIC};
 ghost use Rattle.obj_placed.specs.Placed.{all_statics, cut, placed_statics};
-ghost use Rattle.link_image.specs.Tables.{address_in};
+ghost use Rattle.std.specs.List.{AllByRecursion};
+ghost use Rattle.link_image.specs.Tables.{HasStatics, address_in};
 ghost use Rattle.link_image.specs.Linked.{addresses_from, next_address, data_from};
 
 use crate::addresses::Addresses;
@@ -65,7 +66,8 @@ pub fn statics_of<'a>(
     addresses: &Addresses<'a>,
     objects: &'a [Object],
 ) -> Result<Vec<u8>, AllocError>
-    ensures { IfOk result (λ v. v.items ≡ data_from 0 (addresses_from FIRST_STATIC (all_statics objects.now)) (placed_statics (address_in addresses.now) objects.now)) }
+    ensures bytes { IfOk result (λ v. v.items ≡ data_from 0 (addresses_from FIRST_STATIC (all_statics objects.now)) (placed_statics (address_in addresses.now) objects.now)) }
+    ensures found { IfOk result (λ _. AllByRecursion (HasStatics (address_in addresses.now)) objects.now) }
 {
     let mut statics = Vec::new(alloc);
     let mut at = DATA;

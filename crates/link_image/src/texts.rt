@@ -3,7 +3,8 @@
 ghost use Rattle.std.specs.Prelude.{◌≡◌, ◌++◌, IfOk};
 ghost use Rattle.obj_placed.specs.Placed.{placed_texts};
 ghost use Rattle.machine_state.specs.declared.layout.TheConstants.{TEXT as FIRST_TEXT};
-ghost use Rattle.link_image.specs.Tables.{address_in};
+ghost use Rattle.std.specs.List.{AllByRecursion};
+ghost use Rattle.link_image.specs.Tables.{HasText, address_in};
 
 use crate::addresses::Addresses;
 use crate::patch::patched_text;
@@ -18,7 +19,8 @@ pub fn text_of<'a>(
     addresses: &Addresses<'a>,
     objects: &'a [Object],
 ) -> Result<Vec<u8>, AllocError>
-    ensures { IfOk result (λ v. v.items ≡ placed_texts (address_in addresses.now) FIRST_TEXT objects.now) }
+    ensures text { IfOk result (λ v. v.items ≡ placed_texts (address_in addresses.now) FIRST_TEXT objects.now) }
+    ensures found { IfOk result (λ _. AllByRecursion (HasText (address_in addresses.now)) objects.now) }
 {
     let mut text = Vec::new(alloc);
     let mut base = TEXT;

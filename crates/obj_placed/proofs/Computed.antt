@@ -1,6 +1,6 @@
 -- Words of placed objects as an assembler has them (llvm-mc, for mipsel and sparc).
-use Rattle.std.proofs.Common.{◌≡◌, ℕ, List, [], ◌∷◌, true, false, Some, refl}
-use Rattle.std.specs.Prelude.{codes, drop, take}
+use Rattle.std.proofs.Common.{◌≡◌, ℕ, List, [], ◌∷◌, true, false, refl}
+use Rattle.std.specs.Prelude.{codes, drop}
 use Rattle.ldb_words.specs.declared.kinds.Order.TheVariants.{Little, Big}
 use Rattle.machine_state.specs.Regions.{words_bytes}
 use Rattle.machine_state.specs.declared.layout.TheConstants.{MIPS, SPARC, TEXT}

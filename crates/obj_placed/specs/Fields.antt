@@ -1,5 +1,5 @@
 -- Words that hold an address or a part of it.
-use Rattle.std.specs.Prelude.{ℕ, ◌+◌, ◌-◌, ◌*◌, ◌/◌, ◌%◌, ◌^◌, nat_eq, if◌then◌else◌}
+use Rattle.std.specs.Prelude.{ℕ, ◌+◌, ◌-◌, ◌*◌, ◌/◌, ◌%◌, nat_eq, if◌then◌else◌}
 use Rattle.ldb_words.specs.declared.kinds.Order.{Order}
 use Rattle.ldb_words.specs.declared.kinds.Order.TheVariants.{Little, Big}
 use Rattle.machine_state.specs.declared.layout.TheConstants.{MIPS}

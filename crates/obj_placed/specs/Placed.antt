@@ -1,12 +1,14 @@
 -- Objects that are placed: which address each name has, and what their texts and static objects are there.
-use Rattle.std.specs.Prelude.{◌≡◌, ◌≢◌, ◌≤◌, ◌⊎◌, ℕ, ◌+◌, ◌-◌, ◌%◌, true, false, List, [], ◌∷◌, ◌++◌, length, map, take, drop, Option, Some, bytes_eq, slice_get}
+use Rattle.std.specs.Prelude.{◌≡◌, ◌≢◌, ◌≤◌, ◌⊎◌, ℕ, ◌+◌, ◌%◌, Bool, true, false, IsSome, List, [], ◌∷◌, ◌++◌, length, map, take, drop, Option, Some, bytes_eq, slice_get}
 use Rattle.std.specs.Map.{lookup}
+use Rattle.std.specs.List.{AllByRecursion}
 use Rattle.machine_state.specs.declared.layout.TheConstants.{TEXT, DATA, DATA_SIZE}
 use Rattle.obj_file.specs.declared.object.Name.{Name}
 use Rattle.obj_file.specs.declared.object.StaticDef.{StaticDef}
 use Rattle.obj_file.specs.declared.object.FunctionRow.{FunctionRow}
 use Rattle.obj_file.specs.declared.object.Object.{Object}
-use Rattle.obj_placed.specs.Patched.{patched}
+use Rattle.obj_file.specs.declared.object.Use.{Use}
+use Rattle.obj_placed.specs.Patched.{stands_in, patched}
 
 -- ---- addresses: the texts lie one after another from TEXT on, and each static object has an address that is given
 
@@ -68,6 +70,17 @@ cut (s ∷ ss) bytes = take (length s.bytes) bytes ∷ cut ss (drop (length s.by
 abbrev pub placed_statics : (address_of : List ℕ → Option ℕ) → List Object → List (List ℕ)
 placed_statics address_of [] = []
 placed_statics address_of (o ∷ os) = cut o.statics (placed_bytes address_of o) ++ placed_statics address_of os
+
+-- ---- uses
+
+-- a use that stands in so many bytes lies in them, and its name has an address
+abbrev pub IsFound : (address_of : List ℕ → Option ℕ) → (in_text : Bool) → (size : ℕ) → Use → Type 0
+IsFound address_of in_text size u = stands_in in_text u ≡ true → IsSome (address_of u.name) × (u.at + 4 ≤ size)
+
+-- so is each use of an object
+pub record IsResolved (address_of : List ℕ → Option ℕ) (o : Object) : Type 0 where
+  pub text : AllByRecursion (IsFound address_of true (length o.text)) o.uses
+  pub statics : AllByRecursion (IsFound address_of false (length (joined o.statics))) o.uses
 
 -- ---- rows of functions
 

@@ -1,4 +1,4 @@
-use Rattle.std.proofs.Common.{◌+◌, drop, ◌≡◌, ◌++◌, ◌∙◌, sym, ap}
+use Rattle.std.proofs.Common.{◌+◌, drop, ◌++◌, ◌∙◌, sym, ap}
 use Rattle.obj_placed.specs.Placed.{all_statics}
 use Rattle.link_image.specs.Linked.{anchors_from}
 use Rattle.link_image.proofs.Lists.{anchors_step, item_of}

@@ -1,4 +1,4 @@
-use Rattle.std.proofs.Common.{◌≡◌, ◌+◌, ◌++◌, ◌∙◌, sym, ap, length, drop}
+use Rattle.std.proofs.Common.{◌+◌, ◌++◌, ◌∙◌, sym, ap, length, drop}
 use Rattle.obj_placed.specs.Placed.{cut}
 use Rattle.link_image.specs.Linked.{addresses_from, next_address, data_from}
 use Rattle.link_image.proofs.Lists.{row_step, item_of}
