@@ -1,6 +1,7 @@
 -- A frame that is read.
-use Rattle.std.proofs.Common.{◌≡◌, ◌≢◌, ◌∙◌, refl, sym, ap, subst, ℕ, zero, suc, ◌+◌, ◌-◌, ◌≤◌, ◌<◌, min, Bool, true, false, List, [], ◌∷◌, ◌++◌, length, take, drop, Option, Some, None, arith, length-append}
+use Rattle.std.proofs.Common.{◌≡◌, ◌≢◌, ◌∙◌, refl, sym, ap, subst, ℕ, zero, suc, ◌+◌, ◌-◌, ◌≤◌, ◌<◌, min, nat_eq, Bool, true, false, List, [], ◌∷◌, ◌++◌, length, take, drop, Option, Some, None, arith, length-append}
 use Rattle.std.proofs.lemmas.Grind.{common_steps}
+use Rattle.std.proofs.lemmas.Bool.Decides.{nat_tests}
 use Rattle.nub_wire.specs.declared.message.Msg.{Msg}
 use Rattle.nub_wire.specs.declared.message.Msg.TheVariants as msg
 use Rattle.nub_wire.specs.declared.link.Side.{Side}
@@ -124,3 +125,10 @@ pub none : (old new : Feeding) (piece : List ℕ) (at : ℕ) (got got' : List �
 none old new piece at got got' good held is f =
     let w = fed_good old new piece (fed.BadFrame at) good f in
     subst BeginsNoFrame (ap (λ (l : List ℕ). l ++ piece) held ∙ sym is) w.none
+
+pub nothing_in : (xs : List ℕ) → nat_eq (length xs) 0 ≡ true → xs ≡ []
+nothing_in [] e = refl
+nothing_in (x ∷ xs) e = let z : suc (length xs) ≡ 0 = grind (arith, nat_tests) in absurd (omega (arith, z))
+
+pub joined_is : (xs ys zs : List ℕ) → ys ≡ zs → xs ++ ys ≡ xs ++ zs
+joined_is xs ys zs e = ap (λ (l : List ℕ). xs ++ l) e

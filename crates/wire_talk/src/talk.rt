@@ -1,6 +1,6 @@
 // An exchange.
 
-ghost use Rattle.std.specs.Prelude.{◌≡◌, ◌<◌, ◌≤◌, ◌^◌, [], Some, length, IfOk, OnErr};
+ghost use Rattle.std.specs.Prelude.{◌≡◌, ◌<◌, ◌≤◌, ◌+◌, ◌^◌, ◌++◌, [], Some, length, IfOk, OnErr};
 ghost use Rattle.ldb_edge.specs.Count.{CountsFailure};
 ghost use Rattle.nub_wire.specs.Delivery.{World, LinkSide, OnWorlds, Receives, side_of};
 ghost use Rattle.nub_wire.specs.Spelling.{MsgFits};
@@ -56,6 +56,14 @@ fn next_piece<L: Link>(
     Ok(piece)
 }
 
+/// Adds bytes to what was read of a frame.
+fn append(frame: &mut ArrayVec<u8, 1027>, bytes: &[u8])
+    requires { length frame.old.items + length bytes.now ≤ 1027 }
+    ensures { frame.new.items ≡ frame.old.items ++ bytes.now }
+{
+    let _ = frame.try_extend_from_slice(bytes);
+}
+
 /// Reads one frame, and nothing behind it.
 fn read_frame<L: Link>(link: &mut L, side: Side) -> Result<Msg, TalkFault>
     ensures calls { Reads (took_on L.took side) (gave_on L.gave side) link.old result link.new }
@@ -76,8 +84,9 @@ fn read_frame<L: Link>(link: &mut L, side: Side) -> Result<Msg, TalkFault>
                 frame: ArrayVec::new(),
             });
         }
-        let _ = frame.try_extend_from_slice(piece.as_slice());
-        match feeder.feed(piece.as_slice()) {
+        let bytes = piece.as_slice();
+        append(&mut frame, bytes);
+        match feeder.feed(bytes) {
             Fed::NotYet => {}
             Fed::BadFrame { .. } => return Err(TalkFault::BadReply { frame }),
             Fed::Msg { msg, .. } => return Ok(msg),
