@@ -1,3 +1,4 @@
+pub mod FittingNubs
 pub mod Queues
 pub mod Schedules
 pub mod Waits

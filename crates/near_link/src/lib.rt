@@ -2,6 +2,7 @@
 #![tactic(auto)]
 
 mod faulty;
+mod laws;
 mod machine;
 mod near;
 mod queue;
@@ -9,6 +10,7 @@ mod schedule;
 mod side;
 
 pub use faulty::{FaultyLink, Mishap};
+pub use laws::near_nubs_fit;
 pub use machine::NearMachine;
 pub use near::NearLink;
 pub use nub_wire::Entry;

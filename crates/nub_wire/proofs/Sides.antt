@@ -187,8 +187,14 @@ ready_on b m ms g h got s n (inl x) =
     let nothing : s.ready ++ take n s.answers ≡ [] = rw (a.none_ready, a.none_answered) (take_nil n) in
     inl (record { asking = record { spelled = a.spelled; some = a.some; good = a.good; host_is = a.host_is; none_answered = none; none_ready = nothing }; none_got = x.none_got })
 ready_on b m ms g h got s n (inr a) =
-    inr (record { none_sent = a.none_sent; none_begun = a.none_begun; good = a.good; left = a.left; pending = a.pending;
-      spelled = ap (λ (l : List ℕ). got ++ l) (ready_same_bytes n s.ready s.answers (frames a.left)) ∙ a.spelled })
+    inr (record {
+      none_sent = a.none_sent;
+      none_begun = a.none_begun;
+      good = a.good;
+      left = a.left;
+      pending = a.pending;
+      spelled = ap (λ (l : List ℕ). got ++ l) (ready_same_bytes n s.ready s.answers (frames a.left)) ∙ a.spelled;
+    })
 
 runs_by : {c : Conduct} {n : ℕ} {s t : LinkSide} (m : Msg) (ms : List Msg) (g h : Host) (got : List ℕ) → g.nub.left ≡ None → InExchange c.behaviour m g ms h got s → Runs c n s t
     → InExchange c.behaviour m g ms h got t
@@ -292,8 +298,14 @@ all_ready_on : (b : Behaviour) (ms : List Msg) (h : Host) (got : List ℕ) (s : 
 all_ready_on b ms h got s x =
     let a = x.answering in
     record {
-      answering = record { none_sent = a.none_sent; none_begun = a.none_begun; good = a.good; left = a.left; pending = a.pending;
-        spelled = ap (λ (l : List ℕ). got ++ l) (append_assoc s.ready s.answers (frames a.left)) ∙ a.spelled };
+      answering = record {
+        none_sent = a.none_sent;
+        none_begun = a.none_begun;
+        good = a.good;
+        left = a.left;
+        pending = a.pending;
+        spelled = ap (λ (l : List ℕ). got ++ l) (append_assoc s.ready s.answers (frames a.left)) ∙ a.spelled;
+      };
       some = by x.some;
     }
   where

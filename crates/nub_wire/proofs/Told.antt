@@ -152,8 +152,14 @@ module _ (c : Conduct) (side : Side) (m : Msg) (ms : List Msg) (h : Host) (s : L
       record { before = []; left = ms; all_fit = all; are_heard = are; spelled = refl; heard_is = subst (λ (v : World). Hears (got_on c side) v [] t) (sent_is side sent) none_heard }
   came_of (comes {u = u} printed size begun bytes before partial gave) =
       let x = came_of before in
-      record { before = x.before; left = x.left; all_fit = x.all_fit; are_heard = x.are_heard; spelled = x.spelled;
-        heard_is = subst (λ (l : List ℕ). HeardSince l u) (append_assoc x.before begun bytes) (hears (x.before ++ begun) bytes size x.heard_is gave) }
+      record {
+        before = x.before;
+        left = x.left;
+        all_fit = x.all_fit;
+        are_heard = x.are_heard;
+        spelled = x.spelled;
+        heard_is = subst (λ (l : List ℕ). HeardSince l u) (append_assoc x.before begun bytes) (hears (x.before ++ begun) bytes size x.heard_is gave);
+      }
   came_of (goes_on {t = t} printed more r rest before fits' on) =
       let x = came_of before in
       let y = reply_in (x.before ++ (frame_of r ++ rest)) t x.heard_is in

@@ -162,8 +162,14 @@ given_on b m ms g h got s n (inl x) =
     let still : got ++ take n s.ready ≡ [] = rw (x.none_got, a.none_ready) (take_nil n) in
     inl (record { asking = record { spelled = a.spelled; some = a.some; good = a.good; host_is = a.host_is; none_answered = a.none_answered; none_ready = none }; none_got = still })
 given_on b m ms g h got s n (inr a) =
-    inr (record { none_sent = a.none_sent; none_begun = a.none_begun; good = a.good; left = a.left; pending = a.pending;
-      spelled = given_same n got s.ready (s.answers ++ frames a.left) ∙ a.spelled })
+    inr (record {
+      none_sent = a.none_sent;
+      none_begun = a.none_begun;
+      good = a.good;
+      left = a.left;
+      pending = a.pending;
+      spelled = given_same n got s.ready (s.answers ++ frames a.left) ∙ a.spelled;
+    })
 
 -- more was heard, and something where there was more to come
 pub record HeardMore (c : Conduct) (side : Side) (m : Msg) (g : Host) (ms : List Msg) (h : Host) (got bytes : List ℕ) (v w : World) : Type 0 where
