@@ -121,6 +121,16 @@ fn initializes(t: &CType, part: &Part) -> bool
     is_scalar(t) && converts(t, part)
 }
 
+/// An expression that does not initialize the local that it stands behind.
+fn no_initializer(e: &Expr) -> Fault
+    ensures { result ≡ Fault.Rule 14 (place_of e.now).at }
+{
+    Fault::Rule {
+        rule: 14,
+        at: place_of(e).at,
+    }
+}
+
 /// An initializer that is an expression, at the point of its declarator.
 fn at_value<'a>(
     alloc: Global,
@@ -138,13 +148,16 @@ fn at_value<'a>(
             if initializes(t, &part) {
                 Ok(Some(Some(pointed(point, part))))
             } else {
-                Err(Fault::Rule {
-                    rule: 14,
-                    at: place_of(e).at,
-                })
+                Err(no_initializer(e))
             }
         }
-        Ok(None) => Ok(None),
+        Ok(None) => {
+            if is_scalar(t) {
+                Ok(None)
+            } else {
+                Err(no_initializer(e))
+            }
+        }
         Err(f) => Err(f),
     }
 }
