@@ -12,14 +12,14 @@ use Rattle.c_judge.specs.Scope.{Scope}
 use Rattle.c_judge.specs.Answers.{Known, Broken, ◌then◌}
 use Rattle.c_judge.specs.Places.{place_of}
 use Rattle.c_judge.specs.Pairs.{paired, dropped}
-use Rattle.c_judge.specs.Judgement.{judged, Callee, callee, calling, called, called_name, counted, has_parameters, function_numbered, function_named, parameter_at, goes_to, passed, argument, arguments_in, with_argument, name_alone}
+use Rattle.c_judge.specs.Judgement.{judged, callee, calling, called, called_name, counted, has_parameters, function_numbered, function_named, parameter_at, goes_to, passed, argument, arguments_in, with_argument, name_alone}
 use Rattle.c_typing.specs.Plain.{Plain}
 use Rattle.c_judge.specs.Parts.{judged_of, operand_of}
 use Rattle.c_judge.specs.Elaboration.{Elaborates, IsCall, IsCallee, callee_of}
 use Rattle.c_judge.specs.Calls.{Calls, Gathers, NamesCallee, IsWith, IsPassed, IsArgument, number_or_none, typed_in}
 use Rattle.c_judge.specs.Judges.{Judges, Makes, IsFault, Gives}
 use Rattle.c_judge.proofs.Alone.{place_call}
-use Rattle.c_judge.proofs.Faults.{then_fails, then_gives, two_fails, two_known, paired_both, judges_gives}
+use Rattle.c_judge.proofs.Faults.{then_fails, then_gives, two_fails, two_known, paired_both}
 use Rattle.c_judge.proofs.Made.{made}
 use Rattle.c_judge.proofs.Gathered.{arguments_call, name_call, call_form, judged_call, elaborates_call}
 

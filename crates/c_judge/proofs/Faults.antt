@@ -106,6 +106,7 @@ module _ {A B C X Y : Type 0} (at : ℕ) (l : A → Option ℕ) (r : B → Optio
   joint_fault a b x y (Some n) h m t = one_breaks a b x y n h m t
 
   pub joint_fails : (a : Answer A) (b : Answer B) (x : Result X Fault) (y : Result Y Fault) (e : Fault) → Gives g a x → Gives k b y → refused at (told_alone (λ p. l (g p)) (λ q. r (k q)) x y) (paired x y) ≡ Err e → IsFault (joint at l r f a b) e
+  unfolding told
   joint_fails a b x y e h m p = subst (OnFault (joint at l r f a b)) p (joint_fault a b x y (told x y) h m refl)
 
 -- both parts are there, and neither breaks a rule

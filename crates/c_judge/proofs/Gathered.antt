@@ -1,5 +1,6 @@
 -- Calls from what is called and their arguments.
-use Rattle.std.proofs.Common.{◌≡◌, ◌+◌, ℕ, suc, List, [], ◌∷◌, ◌++◌, length, refl, subst, arith}
+use Rattle.std.proofs.Common.{◌≡◌, ◌+◌, suc, List, [], ◌∷◌, ◌++◌, length, refl, subst, arith}
+use Rattle.c_lex.specs.declared.token.Place.{Place}
 use Rattle.c_expr.specs.Tree.{Tree, Call, With, with_arguments}
 use Rattle.c_tree.specs.declared.typed.Typed.{Typed}
 use Rattle.c_judge.specs.Scope.{Scope}
@@ -27,7 +28,7 @@ more_arguments c [] = omega arith
 more_arguments c (e ∷ es) = omega (arith, more_arguments (With c e) es)
 
 pub arguments_call : (at : Place) (f : Tree) (es : List Tree) → arguments_in (with_arguments (Call at f) es) ≡ length es
-arguments_call at f es = more_arguments (Call at f) es
+arguments_call at f es = let e : arguments_in (with_arguments (Call at f) es) ≡ 0 + length es = more_arguments (Call at f) es in omega (arith, e)
 
 name_with : (c : Tree) (es : List Tree) → called_name (with_arguments c es) ≡ called_name c
 name_with c [] = refl

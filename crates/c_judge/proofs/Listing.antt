@@ -1,5 +1,5 @@
 -- Calls with their arguments in a `Vec`.
-use Rattle.std.proofs.Common.{◌≡◌, ℕ, Bool, false, List, ◌∷◌, ◌∙◌, sym, refl, ap, Option, Some, None, Result, Vec, unwrap_or}
+use Rattle.std.proofs.Common.{◌≡◌, ℕ, false, List, ◌∷◌, ◌∙◌, sym, refl, ap, Option, Some, None, Result, Vec, unwrap_or}
 use Rattle.std.specs.declared.alloc.Global.{Global}
 use Rattle.c_lex.specs.declared.token.Place.{Place}
 use Rattle.c_tree.specs.declared.types.CType.{CType}

@@ -1,5 +1,5 @@
 -- What an expression is, by recursion over its tree: what the rules of typing (C90 6.3) give, a name that is not declared, or a rule that is broken.
-use Rattle.std.specs.Prelude.{ℕ, zero, suc, Bool, true, false, ◌&&◌, nat_le, nat_lt, ◌==◌, ◌||◌, not, if◌then◌else◌, List, [], ◌∷◌, length, Option, Some, None, option_and_then, slice_get}
+use Rattle.std.specs.Prelude.{ℕ, zero, suc, Bool, true, false, ◌&&◌, nat_le, nat_lt, ◌==◌, ◌||◌, not, if◌then◌else◌, List, length, Option, Some, None, option_and_then, slice_get}
 use Rattle.ldb_words.specs.Word.{word_of_signed}
 use Rattle.c_lex.specs.declared.number.Integer.{Integer}
 use Rattle.c_symbol.specs.declared.symbol.LeafKind.{LeafKind}

@@ -33,7 +33,7 @@ one_bound-returns-in-Some t c = λ j h.
 pub gathered-gathering-init : goal.gathered-gathering-init
 gathered-gathering-init t c = record {
   inside = omega arith;
-  gathers = subst (λ m. Gathers (scope_of c.args.v.now) m (Call c.args.at c.args.f.now) c.begun-calling.result) c.len.ensures (c.begun-calling.ensures c.args.f.now c.callee.ensures);
+  gathers = c.begun-calling.ensures c.args.f.now c.callee.ensures;
 }
 
 pub gathered-gathering-preserved : goal.gathered-gathering-preserved
@@ -41,12 +41,12 @@ gathered-gathering-preserved t c =
     let v = scope_of c.args.v.now in
     let i = c.gathering.i in
     let es = c.args.arguments.now in
-    let e = c.index-arguments-i-e.result in
+    let e = c.index-arguments-i.result in
     let at = c.args.at in
     let f = c.args.f.now in
     let before = take i es in
     let inside : i < length es = c.gathering-test.true in
-    let more : take (i + 1) es ≡ before ++ e ∷ [] = take_more es i e inside ∙ ap (λ x. before ++ x ∷ []) (sym c.index-arguments-i-e.is) in
+    let more : take (i + 1) es ≡ before ++ e ∷ [] = take_more es i e inside ∙ ap (λ x. before ++ x ∷ []) (sym c.index-arguments-i.is) in
     let count : i ≡ length before = sym (length-take-le i es (omega (arith, inside))) in
     let argument = argument_is v at f before e c.number_called-n.result i c.place_of.result.at c.judge.result c.passed-x.result c.number_called-n.ensures count (ap (λ (q : Place). q.at) c.place_of.ensures) c.judge.ensures c.passed-x.ensures in
     record {
@@ -98,7 +98,7 @@ declared-within_bounds-t-requires t c =
 
 pub gathered-judge-requires : goal.gathered-judge-requires
 gathered-judge-requires t c =
-    let less = depth_item c.args.arguments.now c.gathering.i c.index-arguments-i-e.result c.gathering-test.true c.index-arguments-i-e.is in
+    let less = depth_item c.args.arguments.now c.gathering.i c.index-arguments-i.result c.gathering-test.true c.index-arguments-i.is in
     (first_of (omega (arith, less, c.decreases), search (rules, less), grind (arith, less, c.decreases)), tt)
 
 pub judge-gathered-requires : goal.judge-gathered-requires

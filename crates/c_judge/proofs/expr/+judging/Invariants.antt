@@ -32,7 +32,7 @@ decreases-callee l = 8 * depth l.f.now + 5
 abbrev pub invariant-gathered-gathering : goal.invariant-gathered-gathering
 invariant-gathered-gathering l = record {
   inside : l.i ≤ length l.arguments;
-  gathers : Gathers (scope_of l.v) (length l.arguments) (with_arguments (Call l.at l.f) (take l.i l.arguments)) l.calling;
+  gathers : Gathers (scope_of l.v) (length l.arguments) (with_arguments (Call l.fn.at l.f) (take l.i l.arguments)) l.calling;
 }
 
 abbrev pub decreases-gathered-gathering : goal.decreases-gathered-gathering
