@@ -22,6 +22,7 @@ ghost use Rattle.c_mentions.specs.Tags.{now};
 
 use crate::parts::pointed;
 use crate::passing::{at_expression, point, push_texts};
+use crate::uses::called_in_declarator;
 use crate::walk::Walk;
 use c_declaration::{Declarator, Declared, Initial, InitialNode, Local};
 use c_expr::{Expr, Spec};
@@ -211,6 +212,7 @@ fn at_local<'a>(
     ensures start { walk.new.here.table.start ≡ walk.old.here.table.start }
 {
     at_declarator(alloc, &mut walk.strings, &d.declarator)?;
+    called_in_declarator(&mut walk.calls, &walk.here, &d.declarator)?;
     let t = match local_type(alloc, &walk.here, register, spec, d) {
         Ok(t) => t,
         Err(f) => return Err(f),
