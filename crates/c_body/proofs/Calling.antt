@@ -10,8 +10,10 @@ use Rattle.c_judge.specs.declared.symbol.Symbol.{Symbol}
 use Rattle.c_scope.specs.declared.link.Link.{Link}
 use Rattle.c_scope.specs.Environment.{Environment, denoted_by}
 use Rattle.c_scope.specs.Table.{rows}
-use Rattle.c_body.specs.Calls.{called}
-use Rattle.c_body.specs.Passing.{is_callable, of_all, of_part}
+use Rattle.c_body.specs.Calls.{called, called_declarator, called_items, of_all, of_part}
+use Rattle.c_declaration.specs.Tree.{DeclaratorTree, Function as Applied, Taking, with_parameters}
+use Rattle.c_declaration.specs.InitialTree.{InitialTree, Braces, Item, with_items}
+use Rattle.c_body.specs.Passing.{is_callable}
 
 module _ (v : Environment) where
   called_arguments : (c : Tree) (es : List Tree) → called v (with_arguments c es) ≡ (called v c ++ of_all (called v) es)
@@ -29,6 +31,21 @@ module _ (v : Environment) where
   pub called_bounds : (xs : List (List ℕ)) (d : Tree) (bs : List (Option Tree)) → (xs ++ called v (with_bounds d bs)) ≡ ((xs ++ called v d) ++ of_all (of_part (called v)) bs)
   called_bounds xs d bs = ap (λ ys. xs ++ ys) (more_bounds d bs) ∙ sym (append_assoc xs (called v d) (of_all (of_part (called v)) bs))
 
+module _ (v : Environment) where
+  more_parameters : (d : DeclaratorTree) (ps : List DeclaratorTree) → called_declarator v (with_parameters d ps) ≡ (called_declarator v d ++ of_all (called_declarator v) ps)
+  more_parameters d [] = sym (append-nil (called_declarator v d))
+  more_parameters d (p ∷ ps) = more_parameters (Taking d p) ps ∙ append_assoc (called_declarator v d) (called_declarator v p) (of_all (called_declarator v) ps)
+
+  pub called_function : (xs : List (List ℕ)) (at : Place) (d : DeclaratorTree) (ps : List DeclaratorTree) → (xs ++ called_declarator v (with_parameters (Applied at d) ps)) ≡ ((xs ++ called_declarator v d) ++ of_all (called_declarator v) ps)
+  called_function xs at d ps = ap (λ ys. xs ++ ys) (more_parameters (Applied at d) ps) ∙ sym (append_assoc xs (called_declarator v d) (of_all (called_declarator v) ps))
+
+  more_items : (i : InitialTree) (js : List InitialTree) → called_items v (with_items i js) ≡ (called_items v i ++ of_all (called_items v) js)
+  more_items i [] = sym (append-nil (called_items v i))
+  more_items i (j ∷ js) = more_items (Item i j) js ∙ append_assoc (called_items v i) (called_items v j) (of_all (called_items v) js)
+
+  pub called_braces : (at : Place) (js : List InitialTree) → called_items v (with_items (Braces at) js) ≡ of_all (called_items v) js
+  called_braces at js = more_items (Braces at) js
+
 pub nothing_behind : (xs : List (List ℕ)) → (xs ++ []) ≡ xs
 nothing_behind xs = append-nil xs
 
@@ -37,7 +54,7 @@ callable_if true t ts r = refl
 callable_if false t ts r = refl
 
 abbrev pub function_at : Option Symbol → Bool
-function_at None = false
+function_at None = true
 function_at (Some s) = s.function
 
 -- the rows tell which of them are functions

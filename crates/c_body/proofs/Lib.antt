@@ -1,5 +1,5 @@
 mod Unnumbered
-mod Calling
+pub mod Calling
 mod Labeled
 mod Passed
 mod PassedLocals

@@ -1,17 +1,17 @@
 -- A walk passes an expression, and what is asked of it.
-use Rattle.std.proofs.Common.{◌≡◌, ℕ, Bool, true, false, List, [], ◌∷◌, ◌++◌, ◌∙◌, refl, ap, sym, subst, Option, Some, None, Result, Ok, Err}
+use Rattle.std.proofs.Common.{◌≡◌, ℕ, Bool, true, false, if◌then◌else◌, List, [], ◌∷◌, ◌++◌, ◌∙◌, refl, ap, sym, subst, Option, Some, None, Result, Ok, Err}
 use Rattle.c_expr.specs.Tree.{Tree}
 use Rattle.c_judge.specs.declared.part.Part.{Part}
 use Rattle.c_judge.specs.declared.fault.Fault.{Fault}
 use Rattle.c_judge.specs.declared.fault.Fault.TheVariants as fault
-use Rattle.c_judge.specs.Answers.{Broken}
+use Rattle.c_judge.specs.Answers.{Unknown, Broken}
 use Rattle.c_judge.specs.Judgement.{Judged}
 use Rattle.c_judge.specs.Judges.{Judges}
 use Rattle.c_judge.specs.Parts.{judged_of}
 use Rattle.c_body.specs.declared.walk.Asking.{Asking}
 use Rattle.c_body.specs.declared.walk.Asking.TheVariants as asks
 use Rattle.c_scope.specs.Environment.{Environment, scope}
-use Rattle.c_scope.specs.Findings.{holds, asked}
+use Rattle.c_scope.specs.Findings.{holds, asked_of}
 use Rattle.c_mentions.specs.Literals.{Literal, in_tree, number_at}
 use Rattle.c_body.specs.Calls.{called}
 use Rattle.c_lex.specs.declared.token.Place.{Place}
@@ -57,35 +57,42 @@ part_passes w u v e first ls r x new a b c d h n =
 
 -- ---- what is asked of an expression at a point
 
-pub answered_is : (a : Asking) (v : Environment) (e : Tree) → asked (answers a) (rule_of a) (start_of e) (judged_in v e) ≡ answered a v e
+pub answered_is : (a : Asking) (v : Environment) (e : Tree) → asked_of (answers a) true (rule_of a) (start_of e) (judged_in v e) ≡ answered a v e
 answered_is asks.Tested v e = refl
 answered_is asks.Selected v e = refl
 answered_is asks.Dropped v e = refl
 
-module _ {A : Type 0} (w w1 u : Walked) (e : Tree) (s : Stop) (ok : Judged → Bool) (rule at : ℕ) (P : A → Type 0) where
+module _ {A : Type 0} (w w1 u : Walked) (e : Tree) (s : Stop) (ok : Judged → Bool) (may : Bool) (rule at : ℕ) (P : A → Type 0) where
   abbrev pub Finds : Result (Option A) Fault → Type 0
-  Finds x = Passes w (asked ok rule at (judged_in w.here e)) w.here (s ∷ []) (in_tree e) (called w.here e) P x u
+  Finds x = Passes w (asked_of ok may rule at (judged_in w.here e)) w.here (s ∷ []) (in_tree e) (called w.here e) P x u
 
   pub point_passes : (p : Part) (z : A) → w1 ≡ record w { stops = w.stops ++ s ∷ [] } → PassesExpression w1 e (Ok (Some p)) u → ok (judged_of p) ≡ true
       → (IsExpression w.here (before_of w) e p.typed.value → P z) → Finds (Ok (Some z))
   point_passes p z a h k f =
       let b = subst (λ y. PassesExpression y e (Ok (Some p)) u) a h in
-      let n = ap (λ j. asked ok rule at j) b.1 ∙ ap (λ t. holds t rule at) k in
+      let n = ap (λ j. asked_of ok may rule at j) b.1 ∙ ap (λ t. holds t rule at) k in
       subst (λ y. Passes w y w.here (s ∷ []) (in_tree e) (called w.here e) P (Ok (Some z)) u) (sym n)
       (b.0 ∙ (λ i. record (behind (record w { stops = w.stops ++ s ∷ [] }) (in_tree e) (called w.here e)) { unknown = sym (or_none w.unknown) i }), f b.2)
 
-  pub point_unknown : w1 ≡ record w { stops = w.stops ++ s ∷ [] } → PassesExpression w1 e (Ok None) u → Finds (Ok None)
-  point_unknown a h =
+  pub point_unknown : w1 ≡ record w { stops = w.stops ++ s ∷ [] } → PassesExpression w1 e (Ok None) u → may ≡ true → Finds (Ok None)
+  point_unknown a h k =
       let b = subst (λ y. PassesExpression y e (Ok None) u) a h in
-      subst (λ y. Passes w y w.here (s ∷ []) (in_tree e) (called w.here e) P (Ok None) u) (sym (ap (λ j. asked ok rule at j) b.1)) (b.2, tt)
+      let n = ap (λ j. asked_of ok may rule at j) b.1 ∙ ap (λ t. if t then Unknown b.0 else Broken rule at) k in
+      subst (λ y. Passes w y w.here (s ∷ []) (in_tree e) (called w.here e) P (Ok None) u) (sym n) (b.2, tt)
+
+  -- nothing that stands for the name keeps the rule
+  pub point_never : w1 ≡ record w { stops = w.stops ++ s ∷ [] } → PassesExpression w1 e (Ok None) u → may ≡ false → Finds (Err (fault.Rule rule at))
+  point_never a h k =
+      let b = subst (λ y. PassesExpression y e (Ok None) u) a h in
+      ap (λ j. asked_of ok may rule at j) b.1 ∙ ap (λ t. if t then Unknown b.0 else Broken rule at) k
 
   pub point_breaks : (p : Part) → w1 ≡ record w { stops = w.stops ++ s ∷ [] } → PassesExpression w1 e (Ok (Some p)) u → ok (judged_of p) ≡ false → Finds (Err (fault.Rule rule at))
   point_breaks p a h k =
       let b = subst (λ y. PassesExpression y e (Ok (Some p)) u) a h in
-      ap (λ j. asked ok rule at j) b.1 ∙ ap (λ t. holds t rule at) k
+      ap (λ j. asked_of ok may rule at j) b.1 ∙ ap (λ t. holds t rule at) k
 
   failed : (f : Fault) → PassesExpression (record w { stops = w.stops ++ s ∷ [] }) e (Err f) u → Finds (Err f)
-  failed (fault.Rule r q) h = ap (λ j. asked ok rule at j) h
+  failed (fault.Rule r q) h = ap (λ j. asked_of ok may rule at j) h
   failed (fault.Unknown name) h = h
   failed fault.NoMemory h = tt
 
@@ -101,22 +108,22 @@ module _ (w w1 u : Walked) (e : Tree) (q : Place) (a : Asking) where
   abbrev pub At : Place → Type 0
   At p = w1 ≡ record w { stops = w.stops ++ stop w.here p ∷ [] }
 
-  as_answered : (x : Result (Option Pointed) Fault) → Finds w w1 u e (stop w.here (place_of e)) (answers a) (rule_of a) (start_of e) (IsStop w.here (before_of w) e) x → Stops x
+  as_answered : (x : Result (Option Pointed) Fault) → Finds w w1 u e (stop w.here (place_of e)) (answers a) true (rule_of a) (start_of e) (IsStop w.here (before_of w) e) x → Stops x
   as_answered x h = subst (λ f. Passes w f w.here (at_expression w.here e) (in_tree e) (called w.here e) (IsStop w.here (before_of w) e) x u) (answered_is a w.here e) h
 
   pub stop_passes : (p : Part) (n : ℕ) (z : Pointed) → At q → q ≡ place_of e → n ≡ (before_of w).points → PassesExpression w1 e (Ok (Some p)) u → answers a (judged_of p) ≡ true → z ≡ record { point = n; e = p.typed.value }
       → Stops (Ok (Some z))
   stop_passes p n z b c d h k f =
       as_answered (Ok (Some z))
-      (point_passes w w1 u e (stop w.here (place_of e)) (answers a) (rule_of a) (start_of e) (IsStop w.here (before_of w) e) p z (subst At c b) h k (λ g. subst (IsStop w.here (before_of w) e) (sym f) (d, g)))
+      (point_passes w w1 u e (stop w.here (place_of e)) (answers a) true (rule_of a) (start_of e) (IsStop w.here (before_of w) e) p z (subst At c b) h k (λ g. subst (IsStop w.here (before_of w) e) (sym f) (d, g)))
 
   pub stop_unknown : At q → q ≡ place_of e → PassesExpression w1 e (Ok None) u → Stops (Ok None)
-  stop_unknown b c h = as_answered (Ok None) (point_unknown w w1 u e (stop w.here (place_of e)) (answers a) (rule_of a) (start_of e) (IsStop w.here (before_of w) e) (subst At c b) h)
+  stop_unknown b c h = as_answered (Ok None) (point_unknown w w1 u e (stop w.here (place_of e)) (answers a) true (rule_of a) (start_of e) (IsStop w.here (before_of w) e) (subst At c b) h refl)
 
   pub stop_breaks : (p : Part) (r : ℕ) → At q → q ≡ place_of e → r ≡ rule_of a → PassesExpression w1 e (Ok (Some p)) u → answers a (judged_of p) ≡ false → answered a w.here e ≡ Broken r q.at
   stop_breaks p r b c d h k =
       sym (answered_is a w.here e)
-      ∙ (point_breaks w w1 u e (stop w.here (place_of e)) (answers a) (rule_of a) (start_of e) (IsStop w.here (before_of w) e) p (subst At c b) h k ∙ (λ i. Broken (sym d i) (sym c i).at))
+      ∙ (point_breaks w w1 u e (stop w.here (place_of e)) (answers a) true (rule_of a) (start_of e) (IsStop w.here (before_of w) e) p (subst At c b) h k ∙ (λ i. Broken (sym d i) (sym c i).at))
 
   pub stop_fails : (f : Fault) → At q → q ≡ place_of e → PassesExpression w1 e (Err f) u → Stops (Err f)
-  stop_fails f b c h = as_answered (Err f) (point_fails w w1 u e (stop w.here (place_of e)) (answers a) (rule_of a) (start_of e) (IsStop w.here (before_of w) e) f (subst At c b) h)
+  stop_fails f b c h = as_answered (Err f) (point_fails w w1 u e (stop w.here (place_of e)) (answers a) true (rule_of a) (start_of e) (IsStop w.here (before_of w) e) f (subst At c b) h)

@@ -20,7 +20,7 @@ use Rattle.c_scope.specs.Environment.{Environment, declare_local}
 use Rattle.c_scope.specs.Declarators.{Object, denoted, name_in}
 use Rattle.c_scope.specs.Findings.{Finding, Fine, ◌beside◌, holds}
 use Rattle.c_mentions.specs.Literals.{Literal, texts, in_all, in_part, in_value, in_declarator, in_declared}
-use Rattle.c_body.specs.Calls.{called_initial, called_locals}
+use Rattle.c_body.specs.Calls.{called_initial, called_declarator, called_local, called_locals}
 use Rattle.c_body.specs.Stops.{Stop, at_initial, at_locals}
 use Rattle.c_body.specs.Becoming.{past, of_initial, IsInitial, AreLocals}
 use Rattle.c_lex.specs.declared.token.Place.{Place}
@@ -60,7 +60,11 @@ InitialPasses w t d x u =
 
 -- the walk behind the name of a local, whose initializer is still to come
 abbrev pub declared : Bool → Walked → Declared → Plain → Walked
-declared r w d t = record w { here = declare_local w.here (name_in d.declarator) (denoted r (Object t)); strings = w.strings ++ texts (in_declarator d.declarator) }
+declared r w d t = record w {
+  here = declare_local w.here (name_in d.declarator) (denoted r (Object t));
+  strings = w.strings ++ texts (in_declarator d.declarator);
+  calls = w.calls ++ called_declarator w.here d.declarator;
+}
 
 abbrev pub with_initial : ℕ → Result (Option (Option Pointed)) Fault → Result (Option DeclaredLocal) Fault
 with_initial n (Ok (Some init)) = Ok (Some (record { local = n; init = init }))
@@ -73,7 +77,7 @@ module _ (r : Bool) (spec : Spec) (w : Walked) (d : Declared) where
   PassesAs a x u =
       let v = with_local r spec w.here d a in
       Passes w (◌beside◌ (◌beside◌ a (holds (not (is_named w.here.block (name_in d.declarator))) 5 (begins d.declarator).at)) (◌then◌ a (λ t. initialized_or_not v t d.initial)))
-      v (at_initial v d d.initial) (in_declared d) (called_initial v d.initial) (IsLocal w.here v (before_of w) d) x u
+      v (at_initial v d d.initial) (in_declared d) (called_declarator w.here d.declarator ++ called_initial v d.initial) (IsLocal w.here v (before_of w) d) x u
 
   counts : (t : Plain) → before_of (declared r w d t) ≡ past (before_of w) 0 (in_declarator d.declarator)
   counts t =
@@ -85,20 +89,20 @@ module _ (r : Bool) (spec : Spec) (w : Walked) (d : Declared) where
   of_type : (t : Plain) (f : Finding) (x : Result (Option (Option Pointed)) Fault) (u : Walked)
       → let v = (declared r w d t).here in
       Passes (declared r w d t) f v (at_initial v d d.initial) (in_part in_value d.initial) (called_initial v d.initial) (IsInitial v (before_of (declared r w d t)) d.initial) x u
-      → Passes w f v (at_initial v d d.initial) (in_declared d) (called_initial v d.initial) (IsLocal w.here v (before_of w) d) (with_initial w.here.locals x) u
+      → Passes w f v (at_initial v d d.initial) (in_declared d) (called_declarator w.here d.declarator ++ called_initial v d.initial) (IsLocal w.here v (before_of w) d) (with_initial w.here.locals x) u
   of_type t f (Err (fault.Rule n at)) u h = h
   of_type t f (Err (fault.Unknown name)) u h = h
   of_type t f (Err fault.NoMemory) u h = tt
   of_type t (Known x) (Ok (Some init)) u h =
       let v = (declared r w d t).here in (
-        h.0 ∙ (λ i. record w { here = v; stops = w.stops ++ at_initial v d d.initial; strings = texts_behind w.strings (in_declarator d.declarator) (in_part in_value d.initial) i; calls = w.calls ++ called_initial v d.initial; unknown = or_name w.unknown None }),
+        h.0 ∙ (λ i. record w { here = v; stops = w.stops ++ at_initial v d d.initial; strings = texts_behind w.strings (in_declarator d.declarator) (in_part in_value d.initial) i; calls = append_assoc w.calls (called_declarator w.here d.declarator) (called_initial v d.initial) i; unknown = or_name w.unknown None }),
         (refl, subst (λ c. IsInitial v c d.initial init) (counts t) h.1),
       )
   of_type t (Known x) (Ok None) u h = absurd h.1
   of_type t (Unknown name) (Ok (Some init)) u h = absurd h.1
   of_type t (Unknown name) (Ok None) u h =
       let v = (declared r w d t).here in (
-        h.0 ∙ (λ i. record w { here = v; stops = w.stops ++ at_initial v d d.initial; strings = texts_behind w.strings (in_declarator d.declarator) (in_part in_value d.initial) i; calls = w.calls ++ called_initial v d.initial; unknown = or_name w.unknown (Some name) }),
+        h.0 ∙ (λ i. record w { here = v; stops = w.stops ++ at_initial v d d.initial; strings = texts_behind w.strings (in_declarator d.declarator) (in_part in_value d.initial) i; calls = append_assoc w.calls (called_declarator w.here d.declarator) (called_initial v d.initial) i; unknown = or_name w.unknown (Some name) }),
         tt,
       )
   of_type t (Broken n at) (Ok (Some init)) u h = absurd h.1
@@ -114,13 +118,13 @@ module _ (r : Bool) (spec : Spec) (w : Walked) (d : Declared) where
       let v = (declared r w d t).here in
       let g = subst (λ y. InitialPasses y t d x u) c h in
       subst (λ j. PassesAs j (with_initial w.here.locals x) u) (sym a)
-      (subst (λ f. Passes w f v (at_initial v d d.initial) (in_declared d) (called_initial v d.initial) (IsLocal w.here v (before_of w) d) (with_initial w.here.locals x) u)
+      (subst (λ f. Passes w f v (at_initial v d d.initial) (in_declared d) (called_declarator w.here d.declarator ++ called_initial v d.initial) (IsLocal w.here v (before_of w) d) (with_initial w.here.locals x) u)
       (sym (no_fault t (is_named w.here.block (name_in d.declarator)) (initialized_or_not v t d.initial) b)) (of_type t (initialized_or_not v t d.initial) x u g))
 
   -- the walk as the code has it
-  pub as_declared : (t : Plain) (name : List ℕ) (v1 : Environment) (ts : List (List ℕ)) → name ≡ name_in d.declarator → v1 ≡ declare_local w.here name (denoted r (Object t)) → ts ≡ w.strings ++ texts (in_declarator d.declarator)
-      → ◌≡◌ {A = Walked} (record w { here = v1; strings = ts }) (declared r w d t)
-  as_declared t name v1 ts a b c = λ i. record w { here = (b ∙ ap (λ n. declare_local w.here n (denoted r (Object t))) a) i; strings = c i }
+  pub as_declared : (t : Plain) (name : List ℕ) (v1 : Environment) (ts cs : List (List ℕ)) → name ≡ name_in d.declarator → v1 ≡ declare_local w.here name (denoted r (Object t)) → ts ≡ w.strings ++ texts (in_declarator d.declarator)
+      → cs ≡ w.calls ++ called_declarator w.here d.declarator → ◌≡◌ {A = Walked} (record w { here = v1; strings = ts; calls = cs }) (declared r w d t)
+  as_declared t name v1 ts cs a b c e = λ i. record w { here = (b ∙ ap (λ n. declare_local w.here n (denoted r (Object t))) a) i; strings = c i; calls = e i }
 
 -- ---- one after another
 
@@ -192,12 +196,12 @@ locals_pass l w w1 u d ds one x h k =
     let v = after_local l.register l.spec w.here d in
     let f = local_found l.register l.spec w.here d in
     let s1 = at_initial v d d.initial in
-    let w2 = between w u v (after_names l.register l.spec v ds) s1 (at_locals l v ds) (in_declared d) (in_all in_declared ds) (called_initial v d.initial) (called_locals l v ds) (IsLocal w.here v (before_of w) d) (λ zs. AreLocals l v (before_of w) ds zs) (λ zs. AreLocals l v (before_of w) ds zs) f in
+    let w2 = between w u v (after_names l.register l.spec v ds) s1 (at_locals l v ds) (in_declared d) (in_all in_declared ds) (called_local l.register l.spec w.here d) (called_locals l v ds) (IsLocal w.here v (before_of w) d) (λ zs. AreLocals l v (before_of w) ds zs) (λ zs. AreLocals l v (before_of w) ds zs) f in
     let g = subst (λ y. PassesLocals l y ds x u) h.0 k in
     let p : w.first.points + length (w.stops ++ s1) ≡ (w.first.points + length w.stops) + of_initial d.initial = omega (arith, length-append w.stops s1, points_of v d d.initial) in
     let q : w.first.strings + length (w.strings ++ texts (in_declared d)) ≡ (w.first.strings + length w.strings) + length (in_declared d) = omega (arith, length-append w.strings (texts (in_declared d)), length_texts (in_declared d)) in
     let c : before_of w2 ≡ past (before_of w) (of_initial d.initial) (in_declared d) = (λ i. record { points = p i; strings = q i }) in
-    joined w u v (after_names l.register l.spec v ds) s1 (at_locals l v ds) (in_declared d) (in_all in_declared ds) (called_initial v d.initial) (called_locals l v ds) (IsLocal w.here v (before_of w) d) (λ zs. AreLocals l v (before_of w2) ds zs)
+    joined w u v (after_names l.register l.spec v ds) s1 (at_locals l v ds) (in_declared d) (in_all in_declared ds) (called_local l.register l.spec w.here d) (called_locals l v ds) (IsLocal w.here v (before_of w) d) (λ zs. AreLocals l v (before_of w2) ds zs)
     (λ zs. AreLocals l w.here (before_of w) (d ∷ ds) zs) f (names_found l.register l.spec v ds) one x h.1 g (λ z zs a b. (a.0, a.1, subst (λ y. AreLocals l v y ds zs) c b))
 
 -- the first local breaks a rule

@@ -13,7 +13,7 @@ use Rattle.c_judge.specs.declared.part.Constant.TheVariants.{Number}
 use Rattle.c_judge.specs.Answers.{Answer, Known, Unknown, Broken, ◌then◌}
 use Rattle.c_judge.specs.Judgement.{Verdict, Judged, judged}
 use Rattle.c_judge.specs.Places.{place_of}
-use Rattle.c_scope.specs.Findings.{Finding, nothing, ◌beside◌, holds, asked}
+use Rattle.c_scope.specs.Findings.{Finding, nothing, ◌beside◌, holds, asked, asked_of}
 use Rattle.c_scope.specs.Environment.{Environment, enter, leave, scope_of}
 use Rattle.c_scope.specs.Declarators.{constant}
 use Rattle.c_body.specs.Locals.{after_declaration, declaration_found}
@@ -70,7 +70,7 @@ part f v (Some e) = f v e
 -- 20. `return` has an expression exactly where the result isn't `void`, and it can be assigned to the result (C90 6.6.6.4).
 abbrev pub returned : Environment → Plain → (at : ℕ) → Option Tree → Finding
 returned v t at None = holds (is_void t) 20 at
-returned v t at (Some e) = asked (λ j. converts t j.operand) 20 at (judged_in v e)
+returned v t at (Some e) = asked_of (λ j. converts t j.operand) (not (is_void t)) 20 (start_of e) (judged_in v e)
 
 -- ---- labels
 

@@ -1,8 +1,14 @@
--- The functions that are called in a body, in the order of the text.
-use Rattle.std.specs.Prelude.{ℕ, List, [], ◌∷◌, ◌++◌, Option, Some, None}
+-- The names in a body that have to be defined: those of functions, and those that are not declared. In the order of the text.
+use Rattle.std.specs.Prelude.{ℕ, Bool, List, [], ◌∷◌, ◌++◌, Option, Some, None}
 use Rattle.c_symbol.specs.declared.symbol.LeafKind.{LeafKind}
 use Rattle.c_symbol.specs.declared.symbol.LeafKind.TheVariants as leaf
 use Rattle.c_expr.specs.Tree.{Tree, Leaf, Paren, Index, Call, With, Member, After, Prefix, SizeofType, Cast, Binary, Choice, Stars, Around, Bounded, Unbounded}
+use Rattle.c_expr.specs.declared.tree.Spec.{Spec}
+use Rattle.c_declaration.specs.Tree.{DeclaratorTree, Name, Parens, Pointers, Array, Function as Applied, Taking, Named, Unnamed}
+use Rattle.c_declaration.specs.declared.tree.FileSpec.{FileSpec}
+use Rattle.c_declaration.specs.declared.tree.FileSpec.TheVariants as file
+use Rattle.c_declaration.specs.declared.tree.MemberPart.{MemberPart}
+use Rattle.c_declaration.specs.declared.tree.MemberPart.TheVariants.{Opens, Row, Closes}
 use Rattle.c_declaration.specs.InitialTree.{InitialTree, Value, Braces, Item}
 use Rattle.c_declaration.specs.declared.tree.Declared.{Declared}
 use Rattle.c_declaration.specs.declared.tree.Local.{Local}
@@ -15,15 +21,24 @@ use Rattle.c_body.specs.Locals.{after_local}
 use Rattle.c_body.specs.Bodies.{after}
 
 abbrev pub called_if : List ℕ → Option Denoted → List (List ℕ)
+called_if text None = text ∷ []
 called_if text (Some (Function r ps)) = text ∷ []
 called_if text _ = []
+
+abbrev pub of_all : {A B : Type 0} → (A → List B) → List A → List B
+of_all f [] = []
+of_all f (x ∷ xs) = f x ++ of_all f xs
+
+abbrev pub of_part : {A B : Type 0} → (A → List B) → Option A → List B
+of_part f None = []
+of_part f (Some x) = f x
 
 module _ (v : Environment) where
   abbrev pub called_leaf : LeafKind → List ℕ → List (List ℕ)
   called_leaf leaf.Name text = called_if text (meant v text)
   called_leaf _ text = []
 
-  -- the names of functions in an expression
+  -- those in an expression
   abbrev pub called : Tree → List (List ℕ)
   called (Leaf _ kind text) = called_leaf kind text
   called (Paren _ a) = called a
@@ -50,10 +65,40 @@ module _ (v : Environment) where
   called_initial (Some (Value e)) = called e
   called_initial _ = []
 
--- each initializer of a local
+  -- in the bounds of a declarator, and of its parameters
+  abbrev pub called_declarator : DeclaratorTree → List (List ℕ)
+  called_declarator (Name _ _) = []
+  called_declarator (Parens _ d) = called_declarator d
+  called_declarator (Pointers _ _ d) = called_declarator d
+  called_declarator (Array _ d e) = called_declarator d ++ of_part called e
+  called_declarator (Applied _ d) = called_declarator d
+  called_declarator (Taking d p) = called_declarator d ++ called_declarator p
+  called_declarator (Named _ _ s d) = called_declarator d
+  called_declarator (Unnamed _ s d) = called d
+
+  -- in an initializer at file scope
+  abbrev pub called_items : InitialTree → List (List ℕ)
+  called_items (Value e) = called e
+  called_items (Braces _) = []
+  called_items (Item i j) = called_items i ++ called_items j
+
+  -- in the members of structs
+  abbrev pub called_member : MemberPart → List (List ℕ)
+  called_member (Opens _ tag) = []
+  called_member (Row _ s ds) = of_all called_declarator ds
+  called_member (Closes ds) = of_all called_declarator ds
+
+  abbrev pub called_spec : FileSpec → List (List ℕ)
+  called_spec (file.Named s) = []
+  called_spec (file.Members ps) = of_all called_member ps
+
+-- in the declarator of a local and in its initializer
+abbrev pub called_local : Bool → Spec → Environment → Declared → List (List ℕ)
+called_local r spec v d = called_declarator v d.declarator ++ called_initial (after_local r spec v d) d.initial
+
 abbrev pub called_locals : Local → Environment → List Declared → List (List ℕ)
 called_locals l v [] = []
-called_locals l v (d ∷ ds) = called_initial (after_local l.register l.spec v d) d.initial ++ called_locals l (after_local l.register l.spec v d) ds
+called_locals l v (d ∷ ds) = called_local l.register l.spec v d ++ called_locals l (after_local l.register l.spec v d) ds
 
 abbrev pub called_head : Environment → Head → List (List ℕ)
 called_head v (head.While _ e) = called v e

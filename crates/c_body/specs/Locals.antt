@@ -12,14 +12,14 @@ use Rattle.c_typing.specs.Declared.{is_named}
 use Rattle.c_judge.specs.Answers.{Answer, Known, Unknown, Broken, ◌then◌}
 use Rattle.c_judge.specs.Judgement.{Verdict, Judged, judged, spec_type}
 use Rattle.c_judge.specs.Places.{place_of}
-use Rattle.c_scope.specs.Findings.{Finding, nothing, ◌beside◌, holds, asked}
+use Rattle.c_scope.specs.Findings.{Finding, nothing, ◌beside◌, holds, asked_of}
 use Rattle.c_scope.specs.Environment.{Environment, declare_local, scope_of}
 use Rattle.c_scope.specs.Declarators.{Shape, Object, Function, shape, denoted, name_in}
 use Rattle.c_scope.specs.Spelling.{initial_at}
 
 -- 14. A local's initializer is an expression that can be assigned to it, and the local is a scalar (C90 6.5.7).
 abbrev pub initialized : Environment → Plain → InitialTree → Finding
-initialized v t (Value e) = asked (λ j. is_scalar t && converts t j.operand) 14 (place_of e).at (judged (scope_of v) e)
+initialized v t (Value e) = asked_of (λ j. is_scalar t && converts t j.operand) (is_scalar t) 14 (place_of e).at (judged (scope_of v) e)
 initialized v t i = Broken 14 (initial_at i)
 
 abbrev pub initialized_or_not : Environment → Plain → Option InitialTree → Finding

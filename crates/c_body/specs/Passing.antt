@@ -18,18 +18,11 @@ use Rattle.c_body.specs.Bodies.{judged_in}
 use Rattle.c_body.specs.Calls.{called}
 use Rattle.c_body.specs.Walks.{Walked, before_of, or_name}
 
--- whether what a name means can be called
+-- whether what a name means can be called, or it is not declared
 abbrev pub is_callable : Option Denoted → Bool
+is_callable None = true
 is_callable (Some (Function r ps)) = true
 is_callable _ = false
-
-abbrev pub of_all : {A B : Type 0} → (A → List B) → List A → List B
-of_all f [] = []
-of_all f (x ∷ xs) = f x ++ of_all f xs
-
-abbrev pub of_part : {A B : Type 0} → (A → List B) → Option A → List B
-of_part f None = []
-of_part f (Some x) = f x
 
 -- what an expression at a stopping point is asked, and the rule that it breaks
 abbrev pub answers : Asking → Judged → Bool

@@ -13,7 +13,7 @@ use Rattle.c_judge.specs.declared.fault.Fault.{Fault}
 use Rattle.c_judge.specs.declared.fault.Fault.TheVariants as fault
 use Rattle.c_scope.specs.Environment.{Environment, declare_local}
 use Rattle.c_mentions.specs.Literals.{in_all, in_declarator, in_declared}
-use Rattle.c_body.specs.Calls.{called_initial, called_locals}
+use Rattle.c_body.specs.Calls.{called_local, called_locals}
 use Rattle.c_body.specs.Stops.{at_initial, at_locals}
 use Rattle.c_body.specs.Becoming.{Before, past, IsInitial, AreLocals}
 use Rattle.c_body.specs.Locals.{local_type, after_local, local_found, after_names, names_found}
@@ -41,7 +41,7 @@ IsLocal v after c d z = (z.local ≡ v.locals) × IsInitial after (past c 0 (in_
 abbrev pub PassesLocal : Bool → Spec → Walked → Declared → Result (Option DeclaredLocal) Fault → Walked → Type 0
 PassesLocal r spec w d x u =
     let v = after_local r spec w.here d in
-    Passes w (local_found r spec w.here d) v (at_initial v d d.initial) (in_declared d) (called_initial v d.initial) (IsLocal w.here v (before_of w) d) x u
+    Passes w (local_found r spec w.here d) v (at_initial v d d.initial) (in_declared d) (called_local r spec w.here d) (IsLocal w.here v (before_of w) d) x u
 
 abbrev pub PassesLocals : Local → Walked → List Declared → Result (Option (List DeclaredLocal)) Fault → Walked → Type 0
 PassesLocals l w ds x u =

@@ -1,9 +1,9 @@
-// The functions that are called in an expression, in the order of the text.
+// The names in an expression that have to be defined: those of functions, and those that are not declared. In the order of the text.
 ghost use Rattle.std.specs.Prelude.{◌≡◌, ◌++◌, ◌∷◌, [], map, OnOk, if◌then◌else◌};
-ghost use Rattle.c_body.specs.Calls.{called, called_leaf};
+ghost use Rattle.c_body.specs.Calls.{called, called_leaf, of_all, of_part};
 ghost use Rattle.c_scope.specs.Environment.{meant, denoted_at};
 ghost use Rattle.c_scope.specs.Here.{environment_of};
-ghost use Rattle.c_body.specs.Passing.{is_callable, of_all, of_part};
+ghost use Rattle.c_body.specs.Passing.{is_callable};
 ghost use Rattle.c_mentions.specs.Tags.{now};
 
 use c_expr::{Abstract, Expr, Node, TypeName};
@@ -12,27 +12,27 @@ use c_symbol::LeafKind;
 use ldb_words::Text;
 use std::alloc::AllocError;
 
-/// Whether a name means a function.
-fn is_function<'a>(here: &Environment<'a>, name: &'a Text) -> bool
+/// Whether a name means a function, or is not declared.
+fn has_to_be_defined<'a>(here: &Environment<'a>, name: &'a Text) -> bool
     ensures { result ≡ is_callable (meant (environment_of here.now) name.now) }
 {
     match here.table.numbers().find(name.as_bytes()) {
-        None => false,
-        Some(n) => is_function_at(here, n),
+        None => true,
+        Some(n) => has_to_be_defined_at(here, n),
     }
 }
 
 /// Whether the name with this number is a function.
-fn is_function_at<'a>(here: &Environment<'a>, number: u32) -> bool
+fn has_to_be_defined_at<'a>(here: &Environment<'a>, number: u32) -> bool
     ensures { result ≡ is_callable (denoted_at (environment_of here.now) number) }
 {
     match here.table.symbols().get(number as usize) {
-        None => false,
+        None => true,
         Some(symbol) => symbol.function,
     }
 }
 
-/// A function among the leaves of expressions.
+/// A name among the leaves of expressions, where it has to be defined.
 fn called_leaf<'a>(
     found: &mut Vec<&'a Text>,
     here: &Environment<'a>,
@@ -42,20 +42,20 @@ fn called_leaf<'a>(
     ensures { OnOk result (map now found.new.items ≡ map now found.old.items ++ called_leaf (environment_of here.now) kind text.now) }
 {
     match kind {
-        LeafKind::Name => called_name(found, is_function(here, text), text),
+        LeafKind::Name => called_name(found, has_to_be_defined(here, text), text),
         LeafKind::Text | LeafKind::Constant(_) | LeafKind::Character(_) => Ok(()),
     }
 }
 
-/// A name, where it is that of a function.
+/// A name, where it has to be defined.
 fn called_name<'a>(
     found: &mut Vec<&'a Text>,
-    is_function: bool,
+    wanted: bool,
     text: &'a Text,
 ) -> Result<(), AllocError>
-    ensures { OnOk result (map now found.new.items ≡ map now found.old.items ++ (if is_function then text.now ∷ [] else [])) }
+    ensures { OnOk result (map now found.new.items ≡ map now found.old.items ++ (if wanted then text.now ∷ [] else [])) }
 {
-    if is_function {
+    if wanted {
         found.push(text)?;
     }
     Ok(())
@@ -140,7 +140,7 @@ fn called_type<'a>(
 /// Those of a declarator in a type's name.
 #[cycle(calling)]
 #[tactic(auto, using(crate::proofs::Calling::called_bounds, crate::proofs::Calling::nothing_behind, c_mentions::proofs::Measures::depth_bounds))]
-fn called_abstract<'a>(
+pub fn called_abstract<'a>(
     found: &mut Vec<&'a Text>,
     here: &Environment<'a>,
     d: &'a Abstract,
@@ -174,7 +174,7 @@ fn called_in_bounds<'a>(
 
 /// Those of an expression, where there is one.
 #[cycle(calling)]
-fn called_part<'a>(
+pub fn called_part<'a>(
     found: &mut Vec<&'a Text>,
     here: &Environment<'a>,
     part: &'a Option<Expr>,

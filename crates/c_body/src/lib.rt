@@ -12,7 +12,9 @@ mod making;
 mod parts;
 mod passing;
 mod statements;
+mod uses;
 mod walk;
 
 pub use body::{Body, check_body};
+pub use uses::{called_in_declarator, called_in_initial, called_in_spec};
 pub use walk::{Counts, Stop};

@@ -22,6 +22,7 @@ ghost use Rattle.c_mentions.specs.Tags.{now};
 
 use crate::parts::pointed;
 use crate::passing::{at_expression, point, push_texts};
+use crate::uses::called_in_declarator;
 use crate::walk::Walk;
 use c_declaration::{Declarator, Declared, Initial, InitialNode, Local};
 use c_expr::{Expr, Spec};
@@ -121,6 +122,16 @@ fn initializes(t: &CType, part: &Part) -> bool
     is_scalar(t) && converts(t, part)
 }
 
+/// An expression that does not initialize the local that it stands behind.
+fn no_initializer(e: &Expr) -> Fault
+    ensures { result ≡ Fault.Rule 14 (place_of e.now).at }
+{
+    Fault::Rule {
+        rule: 14,
+        at: place_of(e).at,
+    }
+}
+
 /// An initializer that is an expression, at the point of its declarator.
 fn at_value<'a>(
     alloc: Global,
@@ -138,13 +149,16 @@ fn at_value<'a>(
             if initializes(t, &part) {
                 Ok(Some(Some(pointed(point, part))))
             } else {
-                Err(Fault::Rule {
-                    rule: 14,
-                    at: place_of(e).at,
-                })
+                Err(no_initializer(e))
             }
         }
-        Ok(None) => Ok(None),
+        Ok(None) => {
+            if is_scalar(t) {
+                Ok(None)
+            } else {
+                Err(no_initializer(e))
+            }
+        }
         Err(f) => Err(f),
     }
 }
@@ -198,6 +212,7 @@ fn at_local<'a>(
     ensures start { walk.new.here.table.start ≡ walk.old.here.table.start }
 {
     at_declarator(alloc, &mut walk.strings, &d.declarator)?;
+    called_in_declarator(&mut walk.calls, &walk.here, &d.declarator)?;
     let t = match local_type(alloc, &walk.here, register, spec, d) {
         Ok(t) => t,
         Err(f) => return Err(f),

@@ -8,7 +8,7 @@ ghost use Rattle.c_scope.specs.Findings.{fine};
 ghost use Rattle.c_statement.specs.Tree as tree;
 ghost use Rattle.c_scope.specs.Here.{environment_of};
 ghost use Rattle.c_mentions.specs.Literals.{in_tree, in_part};
-ghost use Rattle.c_body.specs.Bodies.{part, returned, label_found, labels_in, differ};
+ghost use Rattle.c_body.specs.Bodies.{part, returned, start_of, label_found, labels_in, differ};
 ghost use Rattle.c_body.specs.Calls.{called, called_part};
 ghost use Rattle.c_body.specs.Stops.{at_expression, at_part, stop};
 ghost use Rattle.c_body.specs.Becoming.{IsStop, IsStopOrNone, IsLabel, Becomes};
@@ -140,6 +140,16 @@ fn return_nothing<'a>(walk: &mut Walk<'a>, to: &CType, at: Place) -> Result<Opti
     }
 }
 
+/// An expression that is no result of the function that it stands in.
+fn no_result(e: &Expr) -> Fault
+    ensures { result ≡ Fault.Rule 20 (start_of e.now) }
+{
+    Fault::Rule {
+        rule: 20,
+        at: place_of(e).at,
+    }
+}
+
 /// `return e;`
 fn return_value<'a>(
     alloc: Global,
@@ -157,13 +167,16 @@ fn return_value<'a>(
             if converts(to, &part) {
                 Ok(Some(returning(at, point, part)))
             } else {
-                Err(Fault::Rule {
-                    rule: 20,
-                    at: at.at,
-                })
+                Err(no_result(e))
             }
         }
-        Ok(None) => Ok(None),
+        Ok(None) => {
+            if is_void(to) {
+                Err(no_result(e))
+            } else {
+                Ok(None)
+            }
+        }
         Err(f) => Err(f),
     }
 }

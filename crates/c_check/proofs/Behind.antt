@@ -1,21 +1,18 @@
 -- The first fault behind the last file, by what the code finds.
-use Rattle.std.proofs.Common.{◌≡◌, ℕ, Bool, true, false, not, ◌&&◌, ◌||◌, ◌==◌, cond, List, [], ◌∷◌, ◌++◌, map, reverse, ◌∙◌, sym, refl, ap, subst, Option, Some, None, option_map, nat_le, if◌then◌else◌, codes}
-use Rattle.std.proofs.lemmas.List.{reverse-append}
+use Rattle.std.proofs.Common.{◌≡◌, ℕ, Bool, true, false, not, ◌&&◌, ◌||◌, ◌==◌, cond, List, [], ◌∷◌, map, ◌∙◌, sym, refl, ap, subst, Option, Some, None, option_map, nat_le, if◌then◌else◌, codes}
 use Rattle.std.specs.List.{find}
 use Rattle.c_file.specs.declared.state.State.{State as Standing}
 use Rattle.c_file.specs.declared.state.Called.{Called as CalledRow}
 use Rattle.c_file.specs.declared.state.Awaited.{Awaited as AwaitedRow}
-use Rattle.c_file.specs.declared.file_names.FileName.{FileName as Row}
 use Rattle.c_check.specs.declared.defined.DefinedNames.{DefinedNames}
 use Rattle.c_scope.specs.Findings.{holds}
 use Rattle.c_file.specs.Names.{FileName, Defining, defining, is_built_in, is_defined, twice}
-use Rattle.c_file.specs.FileNames.{file_name}
 use Rattle.c_file.specs.Files.{State}
 use Rattle.c_check.specs.Sets.{defined_in}
 use Rattle.c_file.specs.Standing.{Stands, told, called, awaited}
 use Rattle.c_check.specs.Faulty.{fault_of}
-use Rattle.c_file.specs.Programs.{Told, Well, Breaks, in_file, ◌before◌, Fault, Rule, Twice, Undefined, NoMain, greatest_bound, late_found, is_static_in, is_object, uncalled, undefined, or_name, missing, has_main, behind_rules, first_fault}
-use Rattle.c_check.specs.Behind.{is_row_past, is_row_uncalled, is_undefined, is_row_undefined, undefined_in, row_name, called_name, uncalled_in, missing_in}
+use Rattle.c_file.specs.Programs.{Told, Well, Breaks, in_file, ◌before◌, Fault, Rule, Twice, Undefined, NoMain, greatest_bound, late_found, is_static_in, uncalled, or_name, missing, has_main, behind_rules, first_fault}
+use Rattle.c_check.specs.Behind.{is_row_past, is_row_uncalled, called_name, uncalled_in, missing_in}
 
 -- ---- places past the end of their objects
 
@@ -39,53 +36,21 @@ uncalled_told m q fs k e [] = refl
 uncalled_told m q fs k e (c ∷ cs) =
     let rest = uncalled_told m q fs k e cs in
     let P : Bool → Type 0 = λ b. (if b then uncalled q (map called cs) else Some c.name.now) ≡ option_map called_name (cond (not b) (Some c) (find (is_row_uncalled m fs) cs)) in
-    let there : (is_built_in c.name.now || is_defined q.definitions c.unit (is_static_in q.names c.unit c.name.now) c.name.now) ≡ (is_built_in c.name.now || defined_in m c.unit (is_static_in fs c.unit c.name.now) c.name.now) =
-    ap (λ b. is_built_in c.name.now || b) (sym (ap (λ gs. defined_in m c.unit (is_static_in gs c.unit c.name.now) c.name.now) e ∙ k c.unit (is_static_in q.names c.unit c.name.now) c.name.now)) in
+    let there : (c.declared && (is_built_in c.name.now || is_defined q.definitions c.unit (is_static_in q.names c.unit c.name.now) c.name.now)) ≡ (c.declared && (is_built_in c.name.now || defined_in m c.unit (is_static_in fs c.unit c.name.now) c.name.now)) =
+    ap (λ b. c.declared && (is_built_in c.name.now || b)) (sym (ap (λ gs. defined_in m c.unit (is_static_in gs c.unit c.name.now) c.name.now) e ∙ k c.unit (is_static_in q.names c.unit c.name.now) c.name.now)) in
     ap (λ b. if b then uncalled q (map called cs) else Some c.name.now) there ∙
-    (elim (is_built_in c.name.now || defined_in m c.unit (is_static_in fs c.unit c.name.now) c.name.now) as P [ true ↦ rest | false ↦ refl ])
-
-undefined_told : (m : DefinedNames) (q : State) → Knows m q.definitions → (fs : List FileName) → undefined q fs ≡ undefined_in m fs
-undefined_told m q k [] = refl
-undefined_told m q k (f ∷ fs) =
-    ap (λ o. elim o as (λ _. Option (List ℕ)) [ Some n ↦ Some n | None ↦ if is_object f.denoted && not (is_defined q.definitions f.unit f.is_static f.name) then Some f.name else None ]) (undefined_told m q k fs) ∙
-    ap (λ b. elim (undefined_in m fs) as (λ _. Option (List ℕ)) [ Some n ↦ Some n | None ↦ if is_object f.denoted && not b then Some f.name else None ]) (sym (k f.unit f.is_static f.name))
+    (elim (c.declared && (is_built_in c.name.now || defined_in m c.unit (is_static_in fs c.unit c.name.now) c.name.now)) as P [ true ↦ rest | false ↦ refl ])
 
 or_none : (o : Option (List ℕ)) → o ≡ or_name o None
 or_none None = refl
 or_none (Some n) = refl
 
-or_last : (x y : Option (List ℕ)) (b : Bool) (n : List ℕ)
-    → (elim (or_name x y) as (λ _. Option (List ℕ)) [ Some k ↦ Some k | None ↦ if b then Some n else None ]) ≡ or_name x (elim y as (λ _. Option (List ℕ)) [ Some k ↦ Some k | None ↦ if b then Some n else None ])
-or_last (Some x) y b n = refl
-or_last None y b n = refl
-
-undefined_append : (m : DefinedNames) (fs gs : List FileName) → undefined_in m (fs ++ gs) ≡ or_name (undefined_in m gs) (undefined_in m fs)
-undefined_append m [] gs = or_none (undefined_in m gs)
-undefined_append m (f ∷ fs) gs =
-    ap (λ o. elim o as (λ _. Option (List ℕ)) [ Some n ↦ Some n | None ↦ if is_undefined m f then Some f.name else None ]) (undefined_append m fs gs) ∙
-    or_last (undefined_in m gs) (undefined_in m fs) (is_undefined m f) f.name
-
--- the last of the names that stand last first is the first of the rows
-pub undefined_rows : (m : DefinedNames) (rows : List Row) → undefined_in m (reverse (map file_name rows)) ≡ option_map row_name (find (is_row_undefined m) rows)
-undefined_rows m [] = refl
-undefined_rows m (f ∷ rows) =
-    let rest = undefined_rows m rows in
-    let P : Bool → Type 0 = λ b. or_name (if b then Some f.name.now else None) (undefined_in m (reverse (map file_name rows))) ≡ option_map row_name (cond b (Some f) (find (is_row_undefined m) rows)) in
-    ap (undefined_in m) (reverse-append (file_name f ∷ []) (map file_name rows)) ∙
-    (undefined_append m (reverse (map file_name rows)) (file_name f ∷ []) ∙
-    (elim (is_row_undefined m f) as P [ true ↦ refl | false ↦ rest ]))
-
 missing_told : (n : ℕ) (m : DefinedNames) (s : Standing) (q : State) → Stands n s q → Knows m (map defining s.definitions.items) → missing (told s.unknown) q ≡ missing_in m s
 missing_told n m s q h k =
     let k' : Knows m q.definitions = subst (Knows m) h.definitions k in
-    let P : Option (List ℕ) → Type 0 = λ o. missing (told o) q ≡ or_name o (or_name (uncalled_in m s.names s.calls.items) (undefined_in m s.names)) in
-    elim s.unknown as P [
-      | Some name ↦ refl
-      | None ↦
-          ap (λ cs. or_name (uncalled q cs) (undefined q q.names)) (sym h.calls) ∙
-          (ap (λ o. or_name o (undefined q q.names)) (uncalled_told m q s.names k' h.names s.calls.items) ∙
-          ap (λ o. or_name (uncalled_in m s.names s.calls.items) o) (undefined_told m q k' q.names ∙ ap (undefined_in m) (sym h.names)))
-    ]
+    let all : uncalled q q.calls ≡ uncalled_in m s.names s.calls.items = ap (uncalled q) (sym h.calls) ∙ uncalled_told m q s.names k' h.names s.calls.items in
+    let P : Option (List ℕ) → Type 0 = λ o. missing (told o) q ≡ or_name (uncalled_in m s.names s.calls.items) o in
+    elim s.unknown as P [ Some name ↦ ap (λ o. or_name o (Some name)) all | None ↦ all ∙ or_none (uncalled_in m s.names s.calls.items) ]
 
 -- ---- the first fault
 

@@ -11,7 +11,7 @@ use Rattle.c_file.specs.FileNames.{file_name}
 use Rattle.c_file.specs.Files.{Called, Awaited}
 use Rattle.c_check.specs.Sets.{defined_in}
 use Rattle.c_file.specs.Standing.{called, awaited}
-use Rattle.c_file.specs.Programs.{bound_in, greatest_bound, is_static_in, is_object, or_name}
+use Rattle.c_file.specs.Programs.{bound_in, greatest_bound, is_static_in, or_name}
 
 -- a declaration's bound, and whether it is `static`
 abbrev pub bound_told : Option FileName → ℕ
@@ -32,30 +32,16 @@ is_row_past fs l = is_past fs (awaited l)
 abbrev pub called_name : CalledRow → List ℕ
 called_name c = c.name.now
 
-abbrev pub row_name : Row → List ℕ
-row_name f = f.name.now
-
 module _ (m : DefinedNames) where
-  -- a function is called and not defined
+  -- a name has to be defined and is not, or was not declared where it was used
   abbrev pub is_uncalled : List FileName → Called → Bool
-  is_uncalled fs c = not (is_built_in c.name || defined_in m c.unit (is_static_in fs c.unit c.name) c.name)
+  is_uncalled fs c = not (c.declared && (is_built_in c.name || defined_in m c.unit (is_static_in fs c.unit c.name) c.name))
 
   abbrev pub is_row_uncalled : List FileName → CalledRow → Bool
   is_row_uncalled fs c = is_uncalled fs (called c)
-
-  -- an object is declared and not defined
-  abbrev pub is_undefined : FileName → Bool
-  is_undefined f = is_object f.denoted && not (defined_in m f.unit f.is_static f.name)
-
-  abbrev pub is_row_undefined : Row → Bool
-  is_row_undefined f = is_undefined (file_name f)
-
-  abbrev pub undefined_in : List FileName → Option (List ℕ)
-  undefined_in [] = None
-  undefined_in (f ∷ fs) = elim (undefined_in fs) as (λ _. Option (List ℕ)) [ Some n ↦ Some n | None ↦ if is_undefined f then Some f.name else None ]
 
   abbrev pub uncalled_in : List FileName → List CalledRow → Option (List ℕ)
   uncalled_in fs cs = option_map called_name (find (is_row_uncalled fs) cs)
 
   abbrev pub missing_in : Standing → Option (List ℕ)
-  missing_in s = or_name s.unknown (or_name (uncalled_in s.names s.calls.items) (undefined_in s.names))
+  missing_in s = or_name (uncalled_in s.names s.calls.items) s.unknown

@@ -5,9 +5,9 @@ ghost use Rattle.c_mentions.specs.Tags.{now};
 ghost use Rattle.c_scope.specs.Here.{meaning_of};
 ghost use Rattle.c_file.specs.Names.{is_here};
 ghost use Rattle.c_file.specs.FileNames.{file_name};
-ghost use Rattle.c_file.specs.Programs.{bound_in, greatest_bound, is_static_in, is_object};
+ghost use Rattle.c_file.specs.Programs.{bound_in, greatest_bound, is_static_in};
 ghost use Rattle.c_file.specs.Standing.{called, awaited};
-ghost use Rattle.c_check.specs.Behind.{bound_told, static_told, is_past, is_row_past, is_uncalled, is_row_uncalled, is_undefined, undefined_in, missing_in};
+ghost use Rattle.c_check.specs.Behind.{bound_told, static_told, is_past, is_row_past, is_uncalled, is_row_uncalled, missing_in};
 
 use crate::defined::DefinedNames;
 use c_file::{Awaited, Called, FileName, FileNames, State, is_built_in};
@@ -73,20 +73,20 @@ fn bound_in(m: &Meaning) -> u32
     }
 }
 
-/// The first name that is not declared, or that is called and not defined, or else of an object that is not defined.
+/// The first name that has to be defined and is not, or that is used without a visible declaration.
 pub fn missing<'b, 'a>(state: &'b State<'a>, defined: &DefinedNames<'a>) -> Option<&'b Text>
     ensures { option_map now result ≡ missing_in defined.now state.now }
 {
-    match &state.unknown {
-        Some(name) => Some(name),
-        None => match first_uncalled(&state.names, defined, &state.calls) {
-            Some(c) => Some(c.name),
-            None => first_undefined(&state.names, defined),
+    match first_uncalled(&state.names, defined, &state.calls) {
+        Some(c) => Some(c.name),
+        None => match &state.unknown {
+            Some(name) => Some(name),
+            None => None,
         },
     }
 }
 
-/// The first function that is called and not defined.
+/// The first of some names that has to be defined and is not, or is not declared.
 fn first_uncalled<'a>(
     names: &FileNames<'a>,
     defined: &DefinedNames<'a>,
@@ -102,13 +102,13 @@ fn first_uncalled<'a>(
     None
 }
 
-/// Whether a function that is called is not defined.
+/// Whether a name that has to be defined is not, or is not declared.
 fn is_uncalled<'a>(names: &FileNames<'a>, defined: &DefinedNames<'a>, c: &Called<'a>) -> bool
     ensures { result ≡ is_uncalled defined.now names.now (called c.now) }
 {
     let name = c.name.as_bytes();
     let is_static = is_static_in(names, c.unit, name);
-    !(is_built_in(name) || defined.is_defined(c.unit, is_static, name))
+    !(c.declared && (is_built_in(name) || defined.is_defined(c.unit, is_static, name)))
 }
 
 /// Whether a name is `static` in a file.
@@ -119,27 +119,4 @@ fn is_static_in<'a>(names: &FileNames<'a>, unit: u32, name: &'a [u8]) -> bool
         None => false,
         Some(f) => f.is_static,
     }
-}
-
-/// The first object that is declared and not defined.
-fn first_undefined<'b, 'a>(names: &'b FileNames<'a>, defined: &DefinedNames<'a>) -> Option<&'b Text>
-    ensures { option_map now result ≡ undefined_in defined.now names.now }
-{
-    for f in names.rows() {
-        if is_undefined(defined, f) {
-            return Some(f.name);
-        }
-    }
-    None
-}
-
-/// Whether a declaration is of an object that is not defined.
-fn is_undefined<'a>(defined: &DefinedNames<'a>, f: &FileName<'a>) -> bool
-    ensures { result ≡ is_undefined defined.now (file_name f.now) }
-{
-    let is_object = match &f.meaning {
-        Meaning::Object { .. } => true,
-        Meaning::Function { .. } => false,
-    };
-    is_object && !defined.is_defined(f.unit, f.is_static, f.name.as_bytes())
 }

@@ -70,7 +70,7 @@ module _ (h : Heading) (ps : List Parameter) (x : StatementTree) (c : Before) (s
     points = length s.points.items + stop_count i;
     strings = map now s.strings.items ++ z.strings i;
     definitions = (so_far s bs).definitions ++ record { name = h.name.now; unit = same_unit i; is_static = h.is_static; manner = manner.Body } ∷ [];
-    calls = (so_far s bs).calls ++ called_all (same_unit i) (z.calls i);
+    calls = (so_far s bs).calls ++ called_all (same_unit i) (z.here i).visible (z.calls i);
   })
 
   is_made : t.unknown ≡ None → (q : State) → IsFunctionOf q (body_in h ps x (so_far s [])) k.row

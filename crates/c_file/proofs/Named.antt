@@ -17,9 +17,10 @@ use Rattle.c_initial.specs.Begins.{Begin, begins_of, strings_of}
 use Rattle.c_scope.specs.Declarators as shape
 use Rattle.c_scope.specs.Declarators.{Shape, Parameter, parameter_type, name_in, denoted}
 use Rattle.c_scope.specs.Environment.{Environment}
-use Rattle.c_file.specs.Files.{function_row, with_head, State, Bodied, is_static, file_name, row_of, with_name, with_strings, with_definition, after_what, found_as, initial_or_none, manner_of, defining, standing, object_standing, object_type}
+use Rattle.c_file.specs.Files.{function_row, with_head, with_declarator, State, Bodied, is_static, file_name, row_of, with_name, with_strings, with_definition, after_what, found_as, initial_or_none, wanting, manner_of, defining, standing, object_standing, object_type}
 use Rattle.c_scope.specs.Findings.{Finding, Fine, fine, nothing, ◌beside◌}
 use Rattle.c_initial.specs.Initials.{Late, late_in, initial_found}
+use Rattle.c_body.specs.Calls.{called_items}
 use Rattle.c_mentions.specs.Literals.{in_declarator, texts}
 use Rattle.c_file.specs.Names.{FileName, name_found}
 use Rattle.c_file.specs.Progress.{so_far, found_so_far, KeepsFunctions, Turns, Gains, Fails, Adds, with_given}
@@ -45,12 +46,12 @@ module _ (st : Storage) (d : Declared) (x : Denoted) (n : List ℕ) (g : Bool) (
 -- ---- an object's definition
 
 module _ (st : Storage) (name : List ℕ) (ty : Plain) (i : InitialTree) (s t : Standing) where
-  pub given : (ls : List Late) (begins : List Begin) (strings : List (List ℕ)) → ls ≡ late_in (so_far s []).here i → begins ≡ begins_of (so_far s []).here (length (so_far s []).strings) ty i → strings ≡ strings_of (so_far s []).here ty i
-      → initial_found (so_far s []).here ty i ≡ nothing → Turns (with_given (is_static st) name ls begins strings) s t
+  pub given : (ls : List Late) (begins : List Begin) (strings names : List (List ℕ)) → ls ≡ late_in (so_far s []).here i → begins ≡ begins_of (so_far s []).here (length (so_far s []).strings) ty i → strings ≡ strings_of (so_far s []).here ty i
+      → names ≡ called_items (so_far s []).here i → initial_found (so_far s []).here ty i ≡ nothing → Turns (with_given (is_static st) name ls begins strings names) s t
       → Gains (λ p. initial_found p.here ty i) (λ p. with_definition st p (file_name p.here.unit st name (typing.Object ty false)) (Some i)) s t
-  given ls begins strings a b c e k = turned (λ p. initial_found p.here ty i) (λ p. with_definition st p (file_name p.here.unit st name (typing.Object ty false)) (Some i)) s t (λ bs. e)
-      (turns_as (with_given (is_static st) name ls begins strings) (λ p. with_definition st p (file_name p.here.unit st name (typing.Object ty false)) (Some i)) s t
-      (λ bs. λ j. with_given (is_static st) name (a j) (b j) (c j) (so_far s bs)) k)
+  given ls begins strings names a b c n e k = turned (λ p. initial_found p.here ty i) (λ p. with_definition st p (file_name p.here.unit st name (typing.Object ty false)) (Some i)) s t (λ bs. e)
+      (turns_as (with_given (is_static st) name ls begins strings names) (λ p. with_definition st p (file_name p.here.unit st name (typing.Object ty false)) (Some i)) s t
+      (λ bs. λ j. with_given (is_static st) name (a j) (b j) (c j) (n j) (so_far s bs)) k)
 
 module _ (st : Storage) (d : Declared) (ty : Plain) (name : List ℕ) (n : name ≡ name_in d.declarator) (s t : Standing) where
   none_at : (i : Option InitialTree) → i ≡ None → Turns (λ p. with_definition st p (file_name p.here.unit st name (typing.Object ty false)) None) s t
@@ -108,7 +109,10 @@ module _ (st : Storage) (d : Declared) (to : Plain) (ps : List Plain) where
   none_found q (Some i) e = absurd (cc)
 
   none_defined : (q : State) (f : FileName) (i : Option InitialTree) → i ≡ None → f.denoted ≡ typing.Function to ps → with_definition st q f i ≡ q
-  none_defined q f None e k = λ j. record q { definitions = ((ap (λ x. q.definitions ++ defining f (manner_of st None x)) k) ∙ (ap (λ m. q.definitions ++ defining f m) (no_manner st to ps) ∙ none_behind q.definitions)) j }
+  none_defined q f None e k = λ j. record q {
+    definitions = ((ap (λ x. q.definitions ++ defining f (manner_of st None x)) k) ∙ (ap (λ m. q.definitions ++ defining f m) (no_manner st to ps) ∙ none_behind q.definitions)) j;
+    calls = (ap (λ x. wanting q.calls f (manner_of st None x) x) k ∙ ap (λ m. wanting q.calls f m (typing.Function to ps)) (no_manner st to ps)) j;
+  }
   none_defined q f (Some i) e k = absurd (cc)
 
   pub function_as : {A : Type 0} (s t : Standing) (r : Result A Fault) → d.initial ≡ None
@@ -174,9 +178,9 @@ module _ (st : Storage) (d : DeclaratorTree) (to : Plain) (ps : List Parameter) 
       (λ bs. λ i. name_found s.names (row s (a i) (b i) (typing.Function (e i) (f i))) (c i)) h
 
   pub head_behind : (m t : Standing) → Gains (λ p. name_found p.names (row s n g (typing.Function r qs)) k) (λ p. with_name p (row s n g (typing.Function r qs))) s m
-      → Turns (λ p. record p { strings = p.strings ++ texts (in_declarator d) }) m t
+      → Turns (λ p. with_declarator p d) m t
       → Gains (λ p. name_found p.names (function_row st d p (shape.Function to ps)) (begins d).at) (λ p. with_head p d (function_row st d p (shape.Function to ps))) s t
-  head_behind m t h l = turns_then (λ p. name_found p.names (function_row st d p (shape.Function to ps)) (begins d).at) (λ p. with_name p (function_row st d p (shape.Function to ps))) (λ p. record p { strings = p.strings ++ texts (in_declarator d) }) s m t
+  head_behind m t h l = turns_then (λ p. name_found p.names (function_row st d p (shape.Function to ps)) (begins d).at) (λ p. with_name p (function_row st d p (shape.Function to ps))) (λ p. with_declarator p d) s m t
       (gains_as (λ p. name_found p.names (row s n g (typing.Function r qs)) k) (λ p. name_found p.names (function_row st d p (shape.Function to ps)) (begins d).at)
       (λ p. with_name p (row s n g (typing.Function r qs))) (λ p. with_name p (function_row st d p (shape.Function to ps))) s m
       (λ bs. λ i. name_found s.names (row s (a i) (b i) (typing.Function (e i) (f i))) (c i)) (λ bs. λ i. with_name (so_far s bs) (row s (a i) (b i) (typing.Function (e i) (f i)))) h) l

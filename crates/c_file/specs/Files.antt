@@ -22,8 +22,8 @@ use Rattle.c_typing.specs.Expressions.{Denoted}
 use Rattle.c_judge.specs.Answers.{Answer, Known, Unknown, Broken, ◌then◌}
 use Rattle.c_judge.specs.Judgement.{spec_type, limited}
 use Rattle.c_scope.specs.Findings.{Finding, nothing, ◌beside◌, holds}
-use Rattle.c_scope.specs.Environment.{Environment, declare_global, declare_local, enter, leave, scope_of, struct_of}
-use Rattle.c_body.specs.Calls.{calls_in}
+use Rattle.c_scope.specs.Environment.{Environment, declare_global, declare_local, enter, leave, scope_of, struct_of, Visible, number_of}
+use Rattle.c_body.specs.Calls.{calls_in, called_declarator, called_items, called_spec}
 use Rattle.c_mentions.specs.Literals.{in_declarator, in_file_spec, in_statement, texts}
 use Rattle.c_body.specs.Stops.{inside_block, stops_of}
 use Rattle.c_body.specs.Becoming.{Before}
@@ -37,10 +37,11 @@ use Rattle.c_initial.specs.Initials.{Late, late_in, initial_found, with_bound}
 use Rattle.c_body.specs.Bodies.{found, in_function, after, is_block}
 use Rattle.c_struct.specs.Specifies.{Specifies}
 
--- a function that a file calls
+-- a name that has to be defined, of which no visible declaration may stand where it is used
 pub record Called : Type 0 where
   pub unit : ℕ
   pub name : List ℕ
+  pub declared : Bool
 
 -- a place in an object of a file
 pub record Awaited : Type 0 where
@@ -65,7 +66,7 @@ pub record Started : Type 0 where
   pub begins : List Begin
 
 -- The program so far: what is declared in this file, the structs as the files before complete them, the names at file scope of all files, the last
--- first, the definitions in order, the functions that are called, and the places that only the program's end tells to be within their object; the functions
+-- first, the definitions in order, the names that have to be defined, and the places that only the program's end tells to be within their object; the functions
 -- with bodies and the objects with initializers, in order; how many points there are, and the strings that are objects.
 pub record State : Type 0 where
   pub here : Environment
@@ -133,9 +134,32 @@ abbrev pub defining : FileName → Option Manner → List Defining
 defining f None = []
 defining f (Some m) = record { name = f.name; unit = f.unit; is_static = f.is_static; manner = m } ∷ []
 
+-- an object that a declaration does not define has to be defined elsewhere
+abbrev pub wanting : List Called → FileName → Option Manner → Denoted → List Called
+wanting cs f (Some m) d = cs
+wanting cs f None (typing.Object t r) = cs ++ record { unit = f.unit; name = f.name; declared = true } ∷ []
+wanting cs f None d = cs
+
 abbrev pub awaited : ℕ → List Late → List Awaited
 awaited u [] = []
 awaited u (l ∷ ls) = record { unit = u; place = l } ∷ awaited u ls
+
+abbrev pub is_there : Option ℕ → Bool
+is_there None = false
+is_there (Some n) = true
+
+-- a name is visible among these
+abbrev pub is_visible : List Visible → List ℕ → Bool
+is_visible vs name = is_there (number_of vs name)
+
+-- names that have to be defined, where these are visible at file scope
+abbrev pub called_all : ℕ → List Visible → List (List ℕ) → List Called
+called_all u vs [] = []
+called_all u vs (n ∷ ns) = record { unit = u; name = n; declared = is_visible vs n } ∷ called_all u vs ns
+
+-- the strings in a declarator, and the names in it that have to be defined
+abbrev pub with_declarator : State → DeclaratorTree → State
+with_declarator p d = record p { strings = p.strings ++ texts (in_declarator d); calls = p.calls ++ called_all p.here.unit p.here.visible (called_declarator p.here d) }
 
 module _ (s : Storage) where
   abbrev pub row_of : State → Declared → Denoted → FileName
@@ -143,7 +167,7 @@ module _ (s : Storage) where
 
   -- the strings in its bounds and its initializer are numbered in the order of the text
   abbrev pub with_strings : State → DeclaratorTree → State
-  with_strings p d = record p { strings = p.strings ++ texts (in_declarator d) }
+  with_strings p d = with_declarator p d
 
   abbrev pub with_initial : State → FileName → Option InitialTree → State
   with_initial p f None = p
@@ -151,10 +175,14 @@ module _ (s : Storage) where
     late = p.late ++ awaited p.here.unit (late_in p.here i);
     starts = p.starts ++ record { name = f.name; unit = f.unit; begins = begins_of p.here (length p.strings) (type_or f.denoted) i } ∷ [];
     strings = p.strings ++ strings_of p.here (type_or f.denoted) i;
+    calls = p.calls ++ called_all p.here.unit p.here.visible (called_items p.here i);
   }
 
   abbrev pub with_definition : State → FileName → Option InitialTree → State
-  with_definition p f i = record (with_initial p f i) { definitions = p.definitions ++ defining f (manner_of s i f.denoted) }
+  with_definition p f i = record (with_initial p f i) {
+    definitions = p.definitions ++ defining f (manner_of s i f.denoted);
+    calls = wanting (with_initial p f i).calls f (manner_of s i f.denoted) f.denoted;
+  }
 
   abbrev pub after_what : State → Declared → Answer Denoted → State
   after_what p d (Known x) = with_definition (with_strings (with_name p (row_of p d x)) d.declarator) (row_of p d x) d.initial
@@ -198,15 +226,11 @@ abbrev pub are_named : List Parameter → Bool
 are_named [] = true
 are_named (p ∷ ps) = elim p.name as (λ _. Bool) [ None ↦ false | Some n ↦ are_named ps ]
 
-abbrev pub called_all : ℕ → List (List ℕ) → List Called
-called_all u [] = []
-called_all u (n ∷ ns) = record { unit = u; name = n } ∷ called_all u ns
-
 abbrev pub function_row : Storage → DeclaratorTree → State → Shape → FileName
 function_row s d p f = file_name p.here.unit s (name_in d) (denoted false f)
 
 abbrev pub with_head : State → DeclaratorTree → FileName → State
-with_head p e f = record (with_name p f) { strings = p.strings ++ texts (in_declarator e) }
+with_head p e f = with_declarator (with_name p f) e
 
 module _ (s : Storage) (d : DeclaratorTree) (x : StatementTree) where
   abbrev pub body_environment : State → List Parameter → Environment
@@ -238,7 +262,7 @@ module _ (s : Storage) (d : DeclaratorTree) (x : StatementTree) where
     strings = p.strings ++ texts (in_statement x);
     here = leave p.here (after (body_environment p ps) (inside_block x));
     definitions = p.definitions ++ defining f (Some Body);
-    calls = p.calls ++ called_all p.here.unit (calls_in (body_environment p ps) (inside_block x));
+    calls = p.calls ++ called_all p.here.unit p.here.visible (calls_in (body_environment p ps) (inside_block x));
   }
 
   abbrev pub after_function : State → Shape → State
@@ -248,7 +272,7 @@ module _ (s : Storage) (d : DeclaratorTree) (x : StatementTree) where
 -- ---- external declarations
 
 abbrev pub with_spec : State → FileSpec → Environment → State
-with_spec p s v = record p { here = v; strings = p.strings ++ texts (in_file_spec s) }
+with_spec p s v = record p { here = v; strings = p.strings ++ texts (in_file_spec s); calls = p.calls ++ called_all v.unit v.visible (called_spec v s) }
 
 -- what comes behind a part that is known
 abbrev pub behind_known : {A : Type 0} → State → Answer A → (A → State) → State

@@ -164,23 +164,15 @@ abbrev pub is_static_in : List FileName → ℕ → List ℕ → Bool
 is_static_in [] u name = false
 is_static_in (f ∷ fs) u name = if is_here u name f then f.is_static else is_static_in fs u name
 
--- the first function that is called and not defined
-abbrev pub uncalled : State → List Called → Option (List ℕ)
-uncalled p [] = None
-uncalled p (c ∷ cs) =
-    if is_built_in c.name || is_defined p.definitions c.unit (is_static_in p.names c.unit c.name) c.name then uncalled p cs else Some c.name
-
 abbrev pub is_object : Denoted → Bool
 is_object (typing.Object t r) = true
 is_object d = false
 
--- the first object that is declared and not defined
-abbrev pub undefined : State → List FileName → Option (List ℕ)
-undefined p [] = None
-undefined p (f ∷ fs) = elim (undefined p fs) as (λ _. Option (List ℕ)) [
-  | Some n ↦ Some n
-  | None ↦ if is_object f.denoted && not (is_defined p.definitions f.unit f.is_static f.name) then Some f.name else None
-]
+-- The first name that has to be defined and is not, or was used without a visible declaration.
+abbrev pub uncalled : State → List Called → Option (List ℕ)
+uncalled p [] = None
+uncalled p (c ∷ cs) =
+    if c.declared && (is_built_in c.name || is_defined p.definitions c.unit (is_static_in p.names c.unit c.name) c.name) then uncalled p cs else Some c.name
 
 abbrev pub has_main : List Defining → Bool
 has_main ds = is_defined ds 0 false (codes "main")
@@ -200,8 +192,8 @@ or_name (Some n) b = Some n
 or_name None b = b
 
 abbrev pub missing : Told → State → Option (List ℕ)
-missing (Lacks name) p = Some name
-missing f p = or_name (uncalled p p.calls) (undefined p p.names)
+missing (Lacks name) p = or_name (uncalled p p.calls) (Some name)
+missing f p = uncalled p p.calls
 
 abbrev pub behind_rules : Told → State → Option Fault
 behind_rules f p = elim (twice [] p.definitions) as (λ _. Option Fault) [

@@ -68,8 +68,9 @@ Adds found after s (Ok x) t = Gains found after s t
 Adds found after s (Err e) t = Fails found s e
 
 -- an object is defined with what its initializer gives
-abbrev pub with_given : Bool → List ℕ → List Late → List Begin → List (List ℕ) → State → State
-with_given is_static name ls begins strings p = record p {
+abbrev pub with_given : Bool → List ℕ → List Late → List Begin → List (List ℕ) → List (List ℕ) → State → State
+with_given is_static name ls begins strings names p = record p {
+  calls = p.calls ++ files.called_all p.here.unit p.here.visible names;
   late = p.late ++ files.awaited p.here.unit ls;
   starts = p.starts ++ record { name = name; unit = p.here.unit; begins = begins } ∷ [];
   strings = p.strings ++ strings;

@@ -18,7 +18,7 @@ use Rattle.c_file.specs.Made.{Each, IsFunctionOf, all_points}
 use Rattle.c_file.specs.Programs.{Told, Well, Lacks, Breaks, tags_of, at_first, AllFiles}
 
 abbrev pub called : CalledRow → Called
-called c = record { unit = c.unit; name = c.name.now }
+called c = record { unit = c.unit; name = c.name.now; declared = c.declared }
 
 abbrev pub awaited : AwaitedRow → Awaited
 awaited a = record { unit = a.unit; place = late_place a.place }

@@ -86,7 +86,7 @@ with_inside h i p = record p {
   points = p.points + length i.stops.items;
   strings = p.strings ++ map now i.strings.items;
   definitions = p.definitions ++ record { name = h.name.now; unit = p.here.unit; is_static = h.is_static; manner = manner.Body } ∷ [];
-  calls = p.calls ++ called_all p.here.unit (map now i.calls.items);
+  calls = p.calls ++ called_all p.here.unit p.here.visible (map now i.calls.items);
 }
 
 pub record Closes (h : Heading) (i : Inside) (s t : Standing) : Type 0 where
@@ -118,7 +118,7 @@ module _ (name : List ℕ) (is_static : Bool) (result : Plain) (ps : List Parame
     strings = p.strings ++ texts (in_statement x);
     here = leave p.here (after (inside p.here ps) (inside_block x));
     definitions = p.definitions ++ record { name = name; unit = p.here.unit; is_static = is_static; manner = manner.Body } ∷ [];
-    calls = p.calls ++ called_all p.here.unit (calls_in (inside p.here ps) (inside_block x));
+    calls = p.calls ++ called_all p.here.unit p.here.visible (calls_in (inside p.here ps) (inside_block x));
   }
 
 -- a function more, whose body is checked where each name is declared

@@ -20,8 +20,10 @@ ghost use Rattle.c_mentions.specs.Tags.{now};
 
 use crate::definitions::{Definition, Manner};
 use crate::file_names::FileName;
+use crate::function_rows::{add_calls, add_declarator_calls};
 use crate::standing::{is_static, object_standing, object_type, parameter_types};
-use crate::state::{Awaited, Started, State};
+use crate::state::{Awaited, Called, Started, State};
+use c_body::called_in_initial;
 use c_declaration::{Declared, Initial, Storage};
 use c_initial::{Initialized, LatePlace, initial};
 use c_judge::{Fault, copied};
@@ -69,6 +71,7 @@ fn named<'a>(
     match declare_name(alloc, state, row, declarator_place(&d.declarator).at) {
         Ok(()) => {
             strings_in_declarator(alloc, &mut state.strings, &d.declarator)?;
+            add_declarator_calls(alloc, &mut state.calls, &state.here, &d.declarator)?;
             Ok(())
         }
         Err(f) => Err(f),
@@ -98,8 +101,9 @@ fn started<'a>(
     storage: Storage,
     name: &'a Text,
     given: Initialized<'a>,
+    names: &[&'a Text],
 ) -> Result<(), AllocError>
-    ensures { OnOk result (Turns (with_given (is_static storage) name.now (map late_place given.entry.late.items) (begins_in given.entry.begins.items) (map now given.entry.strings.items)) state.old state.new) }
+    ensures { OnOk result (Turns (with_given (is_static storage) name.now (map late_place given.entry.late.items) (begins_in given.entry.begins.items) (map now given.entry.strings.items) (map now names.now)) state.old state.new) }
 {
     let Initialized {
         begins,
@@ -108,6 +112,7 @@ fn started<'a>(
     } = given;
     let unit = state.here.unit;
     add_awaited(&mut state.late, unit, &late)?;
+    add_calls(&mut state.calls, &state.here, unit, names)?;
     state.strings.extend_from_slice(&strings)?;
     state.starts.push(Started { name, unit, begins })?;
     state.definitions.push(Definition {
@@ -133,16 +138,18 @@ fn initialized<'a>(
     let Ok(first) = u32::try_from(state.strings.len()) else {
         return Err(Fault::NoMemory);
     };
+    let mut names = Vec::new(alloc);
+    called_in_initial(&mut names, &state.here, i)?;
     match initial(alloc, &state.here, first, t, i) {
         Ok(given) => {
-            started(state, storage, name, given)?;
+            started(state, storage, name, given, &names)?;
             Ok(())
         }
         Err(f) => Err(f),
     }
 }
 
-/// An object without an initializer is defined, but for one with `extern`.
+/// An object without an initializer is defined, but for one with `extern`, which has to be defined elsewhere.
 fn uninitialized<'a>(
     state: &mut State<'a>,
     storage: Storage,
@@ -151,7 +158,14 @@ fn uninitialized<'a>(
     ensures { OnOk result ((t : Plain) → Turns (λ p. with_definition storage p (spec.file_name p.here.unit storage name.now (typing.Object t false)) None) state.old state.new) }
 {
     match storage {
-        Storage::Extern => Ok(()),
+        Storage::Extern => {
+            state.calls.push(Called {
+                unit: state.here.unit,
+                name,
+                declared: true,
+            })?;
+            Ok(())
+        }
         Storage::Plain | Storage::Static => {
             state.definitions.push(Definition {
                 name,

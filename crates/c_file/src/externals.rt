@@ -4,6 +4,7 @@ ghost use Rattle.c_file.specs.Progress.{Begins, GoesOn};
 ghost use Rattle.c_syntax.specs.declared.tree.External.TheVariants as external;
 
 use crate::declarations::all_declared;
+use crate::function_rows::add_spec_calls;
 use crate::functions::function;
 use crate::state::State;
 use c_declaration::{FileSpec, FunctionHead, Head};
@@ -23,6 +24,7 @@ fn begun<'a>(alloc: Global, state: &mut State<'a>, spec: &'a FileSpec) -> Result
     match specified(alloc, &state.others, &mut state.here, spec) {
         Ok(t) => {
             strings_in_spec(alloc, &mut state.strings, spec)?;
+            add_spec_calls(alloc, &mut state.calls, &state.here, spec)?;
             Ok(t)
         }
         Err(f) => Err(f),

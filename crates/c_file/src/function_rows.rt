@@ -1,16 +1,20 @@
-// Rows of a function: its locals, its points, and the functions that it calls.
+// Rows of a function: its locals, its points, and the names in it that have to be defined.
 ghost use Rattle.std.specs.Prelude.{◌≡◌, ◌++◌, map, length, IfOk, OnOk};
 ghost use Rattle.c_typing.specs.Accepted.{numbers};
-ghost use Rattle.c_file.specs.Files.{called_all};
+ghost use Rattle.c_file.specs.Files.{is_visible, called_all};
 ghost use Rattle.c_file.specs.Made.{Each};
 ghost use Rattle.c_file.specs.Progress.{IsLocalOf, points_of};
 ghost use Rattle.c_file.specs.Standing.{called};
 ghost use Rattle.c_mentions.specs.Tags.{now};
+ghost use Rattle.c_body.specs.Calls.{called_declarator, called_spec};
 ghost use Rattle.c_body.specs.Walking.{stop_of};
+ghost use Rattle.c_scope.specs.Here.{environment_of};
 
 use crate::state::Called;
-use c_body::Stop;
+use c_body::{Stop, called_in_declarator, called_in_spec};
+use c_declaration::{Declarator, FileSpec};
 use c_judge::{Symbol, copied};
+use c_scope::Environment;
 use c_tree::{Local, Point};
 use ldb_words::{Many, Text};
 use std::alloc::{AllocError, Global};
@@ -73,16 +77,60 @@ pub fn numbers_from(alloc: Global, first: usize, count: usize) -> Result<Many<u3
     Ok(found)
 }
 
-/// The functions that a file calls in a body.
+/// Whether a name is in scope.
+fn is_visible<'a>(here: &Environment<'a>, name: &'a Text) -> bool
+    ensures { result ≡ is_visible (environment_of here.now).visible name.now }
+{
+    match here.table.numbers().find(name.as_bytes()) {
+        None => false,
+        Some(_) => true,
+    }
+}
+
+/// The names in a body that have to be defined, where this is in scope at file scope.
 pub fn add_calls<'a>(
     calls: &mut Vec<Called<'a>>,
+    here: &Environment<'a>,
     unit: u32,
     names: &[&'a Text],
 ) -> Result<(), AllocError>
-    ensures { OnOk result (map called calls.new.items ≡ map called calls.old.items ++ called_all unit (map now names.now)) }
+    ensures { OnOk result (map called calls.new.items ≡ map called calls.old.items ++ called_all unit (environment_of here.now).visible (map now names.now)) }
 {
     for name in names {
-        calls.push(Called { unit, name: *name })?;
+        let declared = is_visible(here, name);
+        calls.push(Called {
+            unit,
+            name: *name,
+            declared,
+        })?;
     }
     Ok(())
+}
+
+/// The names in the bounds of a declarator that have to be defined.
+pub fn add_declarator_calls<'a>(
+    alloc: Global,
+    calls: &mut Vec<Called<'a>>,
+    here: &Environment<'a>,
+    d: &'a Declarator,
+) -> Result<(), AllocError>
+    ensures { OnOk result (map called calls.new.items ≡ map called calls.old.items ++ called_all here.now.unit (environment_of here.now).visible (called_declarator (environment_of here.now) d.now)) }
+{
+    let mut names = Vec::new(alloc);
+    called_in_declarator(&mut names, here, d)?;
+    add_calls(calls, here, here.unit, &names)
+}
+
+/// Those in the members of the structs that a declaration begins with.
+pub fn add_spec_calls<'a>(
+    alloc: Global,
+    calls: &mut Vec<Called<'a>>,
+    here: &Environment<'a>,
+    spec: &'a FileSpec,
+) -> Result<(), AllocError>
+    ensures { OnOk result (map called calls.new.items ≡ map called calls.old.items ++ called_all here.now.unit (environment_of here.now).visible (called_spec (environment_of here.now) spec.now)) }
+{
+    let mut names = Vec::new(alloc);
+    called_in_spec(&mut names, here, spec)?;
+    add_calls(calls, here, here.unit, &names)
 }

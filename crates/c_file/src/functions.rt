@@ -18,7 +18,7 @@ ghost use Rattle.c_body.specs.Walking.{before_in};
 use crate::declarations::declare_name;
 use crate::definitions::{Definition, Manner};
 use crate::file_names::FileName;
-use crate::function_rows::{add_calls, add_points, locals, numbers_from};
+use crate::function_rows::{add_calls, add_declarator_calls, add_points, locals, numbers_from};
 use crate::names::is_built_in;
 use crate::standing::{is_static, parameter_types};
 use crate::state::State;
@@ -120,6 +120,7 @@ fn headed<'a>(
     match declare_name(alloc, state, row, declarator_place(d).at) {
         Ok(()) => {
             strings_in_declarator(alloc, &mut state.strings, d)?;
+            add_declarator_calls(alloc, &mut state.calls, &state.here, d)?;
             Ok(())
         }
         Err(f) => Err(f),
@@ -297,7 +298,7 @@ fn closed<'a>(
     };
     let points = numbers_from(alloc, state.points.len(), stops.len())?;
     add_points(&mut state.points, function, &stops)?;
-    add_calls(&mut state.calls, unit, &calls)?;
+    add_calls(&mut state.calls, &state.here, unit, &calls)?;
     state.strings.extend_from_slice(&strings)?;
     state.definitions.push(Definition {
         name,

@@ -8,11 +8,14 @@ use c_tree::{Function, Point, StructDef};
 use ldb_words::Text;
 use std::alloc::AllocError;
 
-/// A function that a file calls.
+/// A name that has to be defined: of a function that a file calls, of an object that a declaration does not define, or one that is used without
+/// a visible declaration.
 #[derive(Clone, Copy)]
 pub struct Called<'a> {
     pub unit: u32,
     pub name: &'a Text,
+    /// Whether a declaration is visible where it is used.
+    pub declared: bool,
 }
 
 /// A place in an object of a file that only the program's end tells to be within it.
@@ -31,7 +34,7 @@ pub struct Started<'a> {
 }
 
 /// The program so far: what is declared in this file; the structs as the files before complete them; the names at file scope of all files; the
-/// definitions; the functions that are called; the awaited places; the objects with initializers; the functions with their stopping points; the
+/// definitions; the names that have to be defined; the awaited places; the objects with initializers; the functions with their stopping points; the
 /// strings that are objects; and the first name that is not declared. Each in the order of the text. Where there is such a name, functions have no
 /// statements.
 #[derive(Drop)]

@@ -1,13 +1,13 @@
 -- Why there is nothing of one part, of two and of three.
-use Rattle.std.proofs.Common.{◌≡◌, refl, ap, subst, Result, Ok, Err}
+use Rattle.std.proofs.Common.{◌≡◌, ℕ, refl, ap, sym, subst, Option, Some, None, Result, Ok, Err}
 use Rattle.c_judge.specs.declared.fault.Fault.{Fault}
 use Rattle.c_judge.specs.declared.fault.Fault.TheVariants.{Unknown, Rule, NoMemory}
 use Rattle.c_judge.specs.declared.part.Part.{Part}
 use Rattle.c_expr.specs.Tree.{Tree}
 use Rattle.c_judge.specs.Scope.{Scope}
-use Rattle.c_judge.specs.Answers.{Answer, ◌then◌, two, both_known}
+use Rattle.c_judge.specs.Answers.{Answer, ◌then◌, two, both_known, joint}
 use Rattle.c_judge.specs.Answers as answer
-use Rattle.c_judge.specs.Pairs.{graver, paired}
+use Rattle.c_judge.specs.Pairs.{graver, paired, told_alone, refused}
 use Rattle.c_judge.specs.Parts.{judged_of}
 use Rattle.c_judge.specs.Judgement.{judged}
 use Rattle.c_judge.specs.Judges.{IsFault, Gives, Judges}
@@ -74,10 +74,52 @@ pub paired_both : {X Y : Type 0} (x : Result X Fault) (y : Result Y Fault) (p : 
 unfolding AreBoth
 paired_both x y p h = subst (AreBoth x y) h (both_there x y)
 
-pub pair_gives : {X Y A B : Type 0} (g : X → A) (k : Y → B) (a : Answer A) (b : Answer B) (x : Result X Fault) (y : Result Y Fault) → Gives g a x → Gives k b y → Gives (λ (p : X × Y). (g p.0, k p.1)) (two both_known a b) (paired x y)
-pair_gives g k a b (Ok x) (Ok y) h m = rw (h, m) refl
-pair_gives g k a b (Ok x) (Err e) h m = right_fails both_known a b (g x) e h m
-pair_gives g k a b (Err e) y h m = left_fails both_known k a b e y h m
+-- what is made of two parts by a rule that is asked of one part alone where a name in the other is not declared
+module _ {A B C X Y : Type 0} (at : ℕ) (l : A → Option ℕ) (r : B → Option ℕ) (f : A → B → Answer C) (g : X → A) (k : Y → B) where
+  pub joint_known : (a : Answer A) (b : Answer B) (x : A) (y : B) → a ≡ answer.Known x → b ≡ answer.Known y → joint at l r f a b ≡ f x y
+  joint_known a b x y h m = rw (h, m) refl
+
+  told : Result X Fault → Result Y Fault → Option ℕ
+  told x y = told_alone (λ p. l (g p)) (λ q. r (k q)) x y
+
+  one_breaks : (a : Answer A) (b : Answer B) (x : Result X Fault) (y : Result Y Fault) (n : ℕ) → Gives g a x → Gives k b y → told x y ≡ Some n → joint at l r f a b ≡ answer.Broken n at
+  unfolding told
+  one_breaks a b (Ok x) (Err (Unknown name)) n h m t = rw (h, m, t) refl
+  one_breaks a b (Err (Unknown name)) (Ok y) n h m t = rw (h, m, t) refl
+  one_breaks a b x y n h m t = cc
+
+  none_breaks : (a : Answer A) (b : Answer B) (x : Result X Fault) (y : Result Y Fault) → Gives g a x → Gives k b y → told x y ≡ None → OnFault (joint at l r f a b) (paired x y)
+  unfolding told
+  none_breaks a b (Ok x) (Ok y) h m t = tt
+  none_breaks a b (Ok x) (Err (Unknown name)) h m t = rw (h, m, t) refl
+  none_breaks a b (Ok x) (Err (Rule n i)) h m t = rw (h, m) refl
+  none_breaks a b (Ok x) (Err NoMemory) h m t = tt
+  none_breaks a b (Err (Rule n i)) y h m t = rw h refl
+  none_breaks a b (Err NoMemory) y h m t = tt
+  none_breaks a b (Err (Unknown name)) (Ok y) h m t = rw (h, m, t) refl
+  none_breaks a b (Err (Unknown name)) (Err (Unknown other)) h m t = rw (h, m) refl
+  none_breaks a b (Err (Unknown name)) (Err (Rule n i)) h m t = rw (h, m) refl
+  none_breaks a b (Err (Unknown name)) (Err NoMemory) h m t = tt
+
+  joint_fault : (a : Answer A) (b : Answer B) (x : Result X Fault) (y : Result Y Fault) (o : Option ℕ) → Gives g a x → Gives k b y → told x y ≡ o → OnFault (joint at l r f a b) (refused at o (paired x y))
+  joint_fault a b x y None h m t = none_breaks a b x y h m t
+  joint_fault a b x y (Some n) h m t = one_breaks a b x y n h m t
+
+  pub joint_fails : (a : Answer A) (b : Answer B) (x : Result X Fault) (y : Result Y Fault) (e : Fault) → Gives g a x → Gives k b y → refused at (told_alone (λ p. l (g p)) (λ q. r (k q)) x y) (paired x y) ≡ Err e → IsFault (joint at l r f a b) e
+  unfolding told
+  joint_fails a b x y e h m p = subst (OnFault (joint at l r f a b)) p (joint_fault a b x y (told x y) h m refl)
+
+-- both parts are there, and neither breaks a rule
+pub joint_both : {X Y : Type 0} (at : ℕ) (o : Option ℕ) (x : Result X Fault) (y : Result Y Fault) (p : X × Y) → refused at o (paired x y) ≡ Ok p → (x ≡ Ok p.0) × (y ≡ Ok p.1)
+joint_both at None x y p h = paired_both x y p h
+joint_both at (Some n) x y p h = cc
+
+pub joint_gives : {X Y A B : Type 0} (at : ℕ) (l : A → Option ℕ) (r : B → Option ℕ) (g : X → A) (k : Y → B) (a : Answer A) (b : Answer B) (x : Result X Fault) (y : Result Y Fault) (z : Result (X × Y) Fault) → Gives g a x → Gives k b y
+    → z ≡ refused at (told_alone (λ p. l (g p)) (λ q. r (k q)) x y) (paired x y) → Gives (λ (p : X × Y). (g p.0, k p.1)) (joint at l r both_known a b) z
+joint_gives at l r g k a b x y (Ok p) h m w =
+    let there = joint_both at (told_alone (λ p. l (g p)) (λ q. r (k q)) x y) x y p (sym w) in
+    joint_known at l r both_known g k a b (g p.0) (k p.1) (subst (Gives g a) there.0 h) (subst (Gives k b) there.1 m)
+joint_gives at l r g k a b x y (Err e) h m w = joint_fails at l r both_known g k a b x y e h m (sym w)
 
 pub judges_gives : (v : Scope) (e : Tree) (r : Result Part Fault) → Judges v e r → Gives judged_of (judged v e) r
 judges_gives v e (Ok p) h = h.0

@@ -1,11 +1,12 @@
 -- Calls from what is called and their arguments.
-use Rattle.std.proofs.Common.{◌≡◌, ℕ, Bool, List, [], ◌∷◌, ◌++◌, refl, subst}
+use Rattle.std.proofs.Common.{◌≡◌, ◌+◌, suc, List, [], ◌∷◌, ◌++◌, length, refl, subst, arith}
+use Rattle.c_lex.specs.declared.token.Place.{Place}
 use Rattle.c_expr.specs.Tree.{Tree, Call, With, with_arguments}
 use Rattle.c_tree.specs.declared.typed.Typed.{Typed}
 use Rattle.c_judge.specs.Scope.{Scope}
 use Rattle.c_judge.specs.Answers.{Answer, Known, Unknown, Broken, ◌then◌, two}
 use Rattle.c_judge.specs.Places.{place_of}
-use Rattle.c_judge.specs.Judgement.{Verdict, judged, Callee, Calling, callee, calling, called, with_argument, without_arguments}
+use Rattle.c_judge.specs.Judgement.{Verdict, judged, Callee, calling, called, called_name, argument, arguments_in, name_alone, with_argument}
 use Rattle.c_judge.specs.Elaboration.{Elaborates, AreArguments, IsCallee, IsCall, HasHead, callee_of}
 
 abbrev pub IsCallForm : Tree → Type 0
@@ -21,25 +22,35 @@ pub one_more : (c : Tree) (es : List Tree) (e : Tree) → with_arguments c (es +
 one_more c [] e = refl
 one_more c (d ∷ es) e = one_more (With c d) es e
 
-called_alone : (asks : Bool) (at : ℕ) (r : Answer Callee) → ◌then◌ r (λ c. called asks at c []) ≡ ◌then◌ (◌then◌ r without_arguments) (λ s. called asks at s.0 s.1)
-called_alone asks at (Known c) = refl
-called_alone asks at (Unknown name) = refl
-called_alone asks at (Broken r q) = refl
+-- a call has as many arguments as stand behind what is called, whose name it has
+more_arguments : (c : Tree) (es : List Tree) → arguments_in (with_arguments c es) ≡ arguments_in c + length es
+more_arguments c [] = omega arith
+more_arguments c (e ∷ es) = omega (arith, more_arguments (With c e) es)
 
-called_with : (asks : Bool) (at : ℕ) (r : Answer Calling) (j : Verdict) → two (λ s x. called asks at s.0 (s.1 ++ x ∷ [])) r j ≡ ◌then◌ (two with_argument r j) (λ s. called asks at s.0 s.1)
-called_with asks at (Broken r q) j = refl
-called_with asks at (Known s) (Broken r q) = refl
-called_with asks at (Known s) (Unknown name) = refl
-called_with asks at (Known s) (Known x) = refl
-called_with asks at (Unknown name) (Broken r q) = refl
-called_with asks at (Unknown name) (Unknown other) = refl
-called_with asks at (Unknown name) (Known x) = refl
+pub arguments_call : (at : Place) (f : Tree) (es : List Tree) → arguments_in (with_arguments (Call at f) es) ≡ length es
+arguments_call at f es = let e : arguments_in (with_arguments (Call at f) es) ≡ 0 + length es = more_arguments (Call at f) es in omega (arith, e)
+
+name_with : (c : Tree) (es : List Tree) → called_name (with_arguments c es) ≡ called_name c
+name_with c [] = refl
+name_with c (e ∷ es) = name_with (With c e) es
+
+pub name_call : (at : Place) (f : Tree) (es : List Tree) → called_name (with_arguments (Call at f) es) ≡ name_alone f
+name_call at f es = name_with (Call at f) es
+
+called_with : (r : Answer Callee) (j : Verdict) → two (λ f x. called f) r j ≡ ◌then◌ (two with_argument r j) called
+called_with (Broken r q) j = refl
+called_with (Known f) (Broken r q) = refl
+called_with (Known f) (Unknown name) = refl
+called_with (Known f) (Known x) = refl
+called_with (Unknown name) (Broken r q) = refl
+called_with (Unknown name) (Unknown other) = refl
+called_with (Unknown name) (Known x) = refl
 
 module _ (v : Scope) where
   -- a call is judged by what is called and its arguments
-  pub judged_call : (t : Tree) → IsCallForm t → judged v t ≡ ◌then◌ (calling v t) (λ s. called v.asks (place_of t).at s.0 s.1)
-  judged_call (Call at f) h = called_alone v.asks at.at (callee v f (judged v f))
-  judged_call (With c a) h = called_with v.asks (place_of c).at (calling v c) (judged v a)
+  pub judged_call : (t : Tree) → IsCallForm t → judged v t ≡ ◌then◌ (calling v (arguments_in t) t) called
+  judged_call (Call at f) h = refl
+  judged_call (With c a) h = called_with (calling v (suc (arguments_in c)) c) (◌then◌ (judged v a) (argument v c (place_of a).at))
   judged_call _ h = absurd h
 
   pub elaborates_call : (t : Tree) (xs : List Typed) (z : Typed) → IsCallForm t → AreArguments v t xs → IsCall (IsCallee v (callee_of t)) xs z → HasHead v t z → Elaborates v t z

@@ -1,5 +1,5 @@
 -- Calls with their arguments in a `Vec`.
-use Rattle.std.proofs.Common.{◌≡◌, ℕ, Bool, false, List, ◌∷◌, ◌∙◌, sym, refl, ap, Option, Some, None, Result, Vec, unwrap_or}
+use Rattle.std.proofs.Common.{◌≡◌, ℕ, false, List, ◌∷◌, ◌∙◌, sym, refl, ap, Option, Some, None, Result, Vec, unwrap_or}
 use Rattle.std.specs.declared.alloc.Global.{Global}
 use Rattle.c_lex.specs.declared.token.Place.{Place}
 use Rattle.c_tree.specs.declared.types.CType.{CType}
@@ -10,14 +10,13 @@ use Rattle.c_tree.specs.Rows.{exprs}
 use Rattle.c_typing.specs.Plain.{plain}
 use Rattle.c_judge.specs.declared.part.Constant.TheVariants.{Variable}
 use Rattle.c_judge.specs.Answers.{Known}
-use Rattle.c_judge.specs.Judgement.{Judged, Callee, result_type, called, value}
+use Rattle.c_judge.specs.Judgement.{Callee, result_of, called, value}
 use Rattle.c_judge.specs.Elaboration.{IsCall, site_of}
 use Rattle.c_judge.specs.Judges.{IsPart, Makes}
 use Rattle.c_judge.specs.declared.part.Part.{Part}
 use Rattle.c_judge.specs.declared.fault.Fault.{Fault}
 use Rattle.c_judge.proofs.Wholly.{makes_part}
 use Rattle.c_judge.specs.Calls.{number_or_none}
-use Rattle.c_judge.proofs.Faults.{then_gives}
 
 exprs_of : (n : _) (row : Row_of-Typed n) → exprs row ≡ items-the_row-Typed n row
 exprs_of n end_of-Typed = refl
@@ -34,10 +33,10 @@ number_unwrap : (o : Option ℕ) → unwrap_or o 0 ≡ number_or_none o
 number_unwrap None = refl
 number_unwrap (Some n) = refl
 
-pub call_makes : (asks : Bool) (at : Place) (f : Callee) (js : List Judged) (xs : List Typed) (o : Option ℕ) (n : ℕ) (t : CType) (h : Head) (v : Vec Typed Global) (r : Result Part Fault)
+pub call_makes : (at : Place) (f : Callee) (xs : List Typed) (o : Option ℕ) (n : ℕ) (t : CType) (h : Head) (v : Vec Typed Global) (r : Result Part Fault)
     → IsPart (Call h n v) (record { lvalue = false; register = false; string = false; constant = Variable }) r
-    → result_type asks at.at f js ≡ Known (plain t) → h.site ≡ site_of at → h.ctype ≡ t → n ≡ unwrap_or o 0 → v.items ≡ xs
-    → Makes (called asks at.at f js) (IsCall (λ k. k ≡ number_or_none o) xs) at r
-call_makes asks at f js xs o n t h v r p e s c w i =
-    makes_part (called asks at.at f js) (IsCall (λ k. k ≡ number_or_none o) xs) at (Call h n v) _ r p
-    (then_gives (result_type asks at.at f js) (plain t) (λ u. Known (value u)) e ∙ ap (λ u. Known (value u)) (sym (ap plain c))) (call_is h n (number_or_none o) v xs (w ∙ number_unwrap o) i) s
+    → plain t ≡ result_of f → h.site ≡ site_of at → h.ctype ≡ t → n ≡ unwrap_or o 0 → v.items ≡ xs
+    → Makes (called f) (IsCall (λ k. k ≡ number_or_none o) xs) at r
+call_makes at f xs o n t h v r p e s c w i =
+    makes_part (called f) (IsCall (λ k. k ≡ number_or_none o) xs) at (Call h n v) _ r p
+    (ap (λ u. Known (value u)) (sym (ap plain c ∙ e))) (call_is h n (number_or_none o) v xs (w ∙ number_unwrap o) i) s

@@ -14,14 +14,14 @@ use Rattle.c_typing.specs.Plain.{Plain, plain}
 use Rattle.c_judge.specs.declared.part.Part.{Part}
 use Rattle.c_judge.specs.declared.fault.Fault.{Fault}
 use Rattle.c_judge.specs.Scope.{Scope, defs_of}
-use Rattle.c_judge.specs.Answers.{Answer, Known, two, both_known}
+use Rattle.c_judge.specs.Answers.{Answer, Known, joint, both_known}
 use Rattle.c_judge.specs.Places.{place_of}
-use Rattle.c_judge.specs.Pairs.{paired}
-use Rattle.c_judge.specs.Judgement.{Verdict, judged, declared, spec_type, indexed, stepped, cast_to, sized, chosen_of, member_of, prefixed, joined}
+use Rattle.c_judge.specs.Pairs.{paired, told_alone, refused}
+use Rattle.c_judge.specs.Judgement.{Verdict, judged, declared, spec_type, indexed, stepped, cast_to, sized, chosen_of, member_of, prefixed, joined, index_alone, left_alone, right_alone, cast_alone, cast_operand_alone, scalar_alone, branches_alone}
 use Rattle.c_judge.specs.Parts.{judged_of}
 use Rattle.c_judge.specs.Elaboration.{Elaborates, site_of, type_in, HasHead, IsParen, IsIndex, IsMember, IsAfter, IsChoice, IsCast, IsSizeOfType, IsPrefixed, IsJoined}
 use Rattle.c_judge.specs.Judges.{Judges, Makes, IsFault, Gives, Denotes}
-use Rattle.c_judge.proofs.Faults.{then_fails, then_gives, two_fails, two_known, paired_both, pair_gives, judges_gives}
+use Rattle.c_judge.proofs.Faults.{then_fails, then_gives, joint_fails, joint_known, joint_both, joint_gives, judges_gives}
 
 -- what is known of two parts, where both are there
 pub there : (v : Scope) (a : Tree) (r : Result Part Fault) (x : Part) → Judges v a r → r ≡ Ok x → (judged v a ≡ Known (judged_of x)) × Elaborates v a x.typed.value
@@ -67,51 +67,57 @@ module _ (v : Scope) where
   pub size_fails : (at : Place) (s : Spec) (d : Tree) (f : Fault) → IsFault (declared v at.at d (Known (spec_type v s))) f → IsFault (judged v (SizeofType at s d)) f
   size_fails at s d f h = then_fails (declared v at.at d (Known (spec_type v s))) (sized (defs_of v) at.at) f h
 
-  pub index_judges : (at : Place) (a b : Tree) (rx ry : Result Part Fault) (x y : Part) (r : Result Part Fault) → Judges v a rx → Judges v b ry → paired rx ry ≡ Ok (x, y)
+  pub index_judges : (at : Place) (a b : Tree) (rx ry : Result Part Fault) (x y : Part) (r : Result Part Fault) → Judges v a rx → Judges v b ry → refused at.at (told_alone (λ p. index_alone (defs_of v) (judged_of p)) (λ q. index_alone (defs_of v) (judged_of q)) rx ry) (paired rx ry) ≡ Ok (x, y)
       → Makes (indexed (defs_of v) at.at (judged_of x) (judged_of y)) (IsIndex x.typed.value y.typed.value) at r → Judges v (Index at a b) r
   index_judges at a b rx ry x y r h k p m =
-      let two_there = paired_both rx ry (x, y) p in
+      let two_there = joint_both at.at _ rx ry (x, y) p in
       let (j, l) = there v a rx x h two_there.0 in
       let (o, n) = there v b ry y k two_there.1 in
-      made (Index at a b) at _ (IsIndex x.typed.value y.typed.value) r refl (two_known (indexed (defs_of v) at.at) (judged v a) (judged v b) _ _ j o) (λ z w i. (w, (x.typed.value, y.typed.value, i, l, n))) m
+      made (Index at a b) at _ (IsIndex x.typed.value y.typed.value) r refl (joint_known at.at (index_alone (defs_of v)) (index_alone (defs_of v)) (indexed (defs_of v) at.at) judged_of judged_of (judged v a) (judged v b) _ _ j o) (λ z w i. (w, (x.typed.value, y.typed.value, i, l, n))) m
 
-  pub index_fails : (at : Place) (a b : Tree) (rx ry : Result Part Fault) (f : Fault) → Judges v a rx → Judges v b ry → paired rx ry ≡ Err f → IsFault (judged v (Index at a b)) f
-  index_fails at a b rx ry f h k p = two_fails (indexed (defs_of v) at.at) judged_of judged_of (judged v a) (judged v b) rx ry f (judges_gives v a rx h) (judges_gives v b ry k) p
+  pub index_fails : (at : Place) (a b : Tree) (rx ry : Result Part Fault) (f : Fault) → Judges v a rx → Judges v b ry → refused at.at (told_alone (λ p. index_alone (defs_of v) (judged_of p)) (λ q. index_alone (defs_of v) (judged_of q)) rx ry) (paired rx ry) ≡ Err f → IsFault (judged v (Index at a b)) f
+  index_fails at a b rx ry f h k p = joint_fails at.at (index_alone (defs_of v)) (index_alone (defs_of v)) (indexed (defs_of v) at.at) judged_of judged_of (judged v a) (judged v b) rx ry f (judges_gives v a rx h) (judges_gives v b ry k) p
 
-  pub binary_judges : (at : Place) (w : BinaryOp) (a b : Tree) (rx ry : Result Part Fault) (x y : Part) (r : Result Part Fault) → Judges v a rx → Judges v b ry → paired rx ry ≡ Ok (x, y)
+  pub binary_judges : (at : Place) (w : BinaryOp) (a b : Tree) (rx ry : Result Part Fault) (x y : Part) (r : Result Part Fault) → Judges v a rx → Judges v b ry → refused at.at (told_alone (λ p. left_alone (defs_of v) w (judged_of p)) (λ q. right_alone (defs_of v) w (judged_of q)) rx ry) (paired rx ry) ≡ Ok (x, y)
       → Makes (joined (defs_of v) at.at w (judged_of x) (judged_of y)) (IsJoined w x.typed.value y.typed.value) at r → Judges v (Binary at w a b) r
   binary_judges at w a b rx ry x y r h k p m =
-      let two_there = paired_both rx ry (x, y) p in
+      let two_there = joint_both at.at _ rx ry (x, y) p in
       let (j, l) = there v a rx x h two_there.0 in
       let (o, n) = there v b ry y k two_there.1 in
-      made (Binary at w a b) at _ (IsJoined w x.typed.value y.typed.value) r refl (two_known (joined (defs_of v) at.at w) (judged v a) (judged v b) _ _ j o) (λ z q i. (q, (x.typed.value, y.typed.value, i, l, n))) m
+      made (Binary at w a b) at _ (IsJoined w x.typed.value y.typed.value) r refl (joint_known at.at (left_alone (defs_of v) w) (right_alone (defs_of v) w) (joined (defs_of v) at.at w) judged_of judged_of (judged v a) (judged v b) _ _ j o) (λ z q i. (q, (x.typed.value, y.typed.value, i, l, n))) m
 
-  pub binary_fails : (at : Place) (w : BinaryOp) (a b : Tree) (rx ry : Result Part Fault) (f : Fault) → Judges v a rx → Judges v b ry → paired rx ry ≡ Err f → IsFault (judged v (Binary at w a b)) f
-  binary_fails at w a b rx ry f h k p = two_fails (joined (defs_of v) at.at w) judged_of judged_of (judged v a) (judged v b) rx ry f (judges_gives v a rx h) (judges_gives v b ry k) p
+  pub binary_fails : (at : Place) (w : BinaryOp) (a b : Tree) (rx ry : Result Part Fault) (f : Fault) → Judges v a rx → Judges v b ry → refused at.at (told_alone (λ p. left_alone (defs_of v) w (judged_of p)) (λ q. right_alone (defs_of v) w (judged_of q)) rx ry) (paired rx ry) ≡ Err f → IsFault (judged v (Binary at w a b)) f
+  binary_fails at w a b rx ry f h k p = joint_fails at.at (left_alone (defs_of v) w) (right_alone (defs_of v) w) (joined (defs_of v) at.at w) judged_of judged_of (judged v a) (judged v b) rx ry f (judges_gives v a rx h) (judges_gives v b ry k) p
 
-  pub cast_judges : (at : Place) (s : Spec) (d a : Tree) (rt : Result CType Fault) (rx : Result Part Fault) (t : CType) (x : Part) (r : Result Part Fault) → Denotes (declared v at.at d (Known (spec_type v s))) rt → Judges v a rx → paired rt rx ≡ Ok (t, x)
+  pub cast_judges : (at : Place) (s : Spec) (d a : Tree) (rt : Result CType Fault) (rx : Result Part Fault) (t : CType) (x : Part) (r : Result Part Fault) → Denotes (declared v at.at d (Known (spec_type v s))) rt → Judges v a rx → refused at.at (told_alone (λ p. cast_alone (plain p)) (λ q. cast_operand_alone (judged_of q)) rt rx) (paired rt rx) ≡ Ok (t, x)
       → Makes (cast_to at.at (plain t) (judged_of x)) (IsCast x.typed.value) at r → Judges v (Cast at s d a) r
   cast_judges at s d a rt rx t x r h k p m =
-      let two_there = paired_both rt rx (t, x) p in
+      let two_there = joint_both at.at _ rt rx (t, x) p in
       let (o, n) = there v a rx x k two_there.1 in
       let j = type_there (declared v at.at d (Known (spec_type v s))) rt t h two_there.0 in
-      made (Cast at s d a) at _ (IsCast x.typed.value) r refl (two_known (cast_to at.at) (declared v at.at d (Known (spec_type v s))) (judged v a) _ _ j o) (λ z q i. (q, (x.typed.value, i, n))) m
+      made (Cast at s d a) at _ (IsCast x.typed.value) r refl (joint_known at.at cast_alone cast_operand_alone (cast_to at.at) plain judged_of (declared v at.at d (Known (spec_type v s))) (judged v a) _ _ j o) (λ z q i. (q, (x.typed.value, i, n))) m
 
-  pub cast_fails : (at : Place) (s : Spec) (d a : Tree) (rt : Result CType Fault) (rx : Result Part Fault) (f : Fault) → Denotes (declared v at.at d (Known (spec_type v s))) rt → Judges v a rx → paired rt rx ≡ Err f → IsFault (judged v (Cast at s d a)) f
-  cast_fails at s d a rt rx f h k p = two_fails (cast_to at.at) plain judged_of (declared v at.at d (Known (spec_type v s))) (judged v a) rt rx f h (judges_gives v a rx k) p
+  pub cast_fails : (at : Place) (s : Spec) (d a : Tree) (rt : Result CType Fault) (rx : Result Part Fault) (f : Fault) → Denotes (declared v at.at d (Known (spec_type v s))) rt → Judges v a rx → refused at.at (told_alone (λ p. cast_alone (plain p)) (λ q. cast_operand_alone (judged_of q)) rt rx) (paired rt rx) ≡ Err f → IsFault (judged v (Cast at s d a)) f
+  cast_fails at s d a rt rx f h k p = joint_fails at.at cast_alone cast_operand_alone (cast_to at.at) plain judged_of (declared v at.at d (Known (spec_type v s))) (judged v a) rt rx f h (judges_gives v a rx k) p
 
-  pub choice_judges : (at : Place) (c a b : Tree) (rz rx ry : Result Part Fault) (z x y : Part) (r : Result Part Fault) → Judges v c rz → Judges v a rx → Judges v b ry → paired (paired rz rx) ry ≡ Ok ((z, x), y)
-      → Makes (chosen_of at.at (judged_of z) (judged_of x) (judged_of y)) (IsChoice z.typed.value x.typed.value y.typed.value) at r → Judges v (Choice at c a b) r
-  choice_judges at c a b rz rx ry z x y r g h k p m =
-      let (first, last) = paired_both (paired rz rx) ry ((z, x), y) p in
-      let two_there = paired_both rz rx (z, x) first in
-      let (j, l) = there v c rz z g two_there.0 in
-      let (o, n) = there v a rx x h two_there.1 in
-      let (q, i) = there v b ry y k last in
-      let both : two both_known (judged v c) (judged v a) ≡ Known (judged_of z, judged_of x) = two_known both_known (judged v c) (judged v a) _ _ j o in
-      made (Choice at c a b) at _ (IsChoice z.typed.value x.typed.value y.typed.value) r refl (two_known (λ p w. chosen_of at.at p.0 p.1 w) (two both_known (judged v c) (judged v a)) (judged v b) _ _ both q) (λ e w u. (w, (z.typed.value, x.typed.value, y.typed.value, u, l, n, i))) m
+  module _ (at : Place) (c a b : Tree) (rz rx ry : Result Part Fault) (rp : Result (Part × Part) Fault) (g : Judges v c rz) (h : Judges v a rx) (k : Judges v b ry) (w : rp ≡ refused at.at (told_alone (λ p. scalar_alone (judged_of p)) (λ q. scalar_alone (judged_of q)) rx ry) (paired rx ry)) where
+    branches_give : Gives (λ (q : Part × Part). (judged_of q.0, judged_of q.1)) (joint at.at scalar_alone scalar_alone both_known (judged v a) (judged v b)) rp
+    branches_give = joint_gives at.at scalar_alone scalar_alone judged_of judged_of (judged v a) (judged v b) rx ry rp (judges_gives v a rx h) (judges_gives v b ry k) w
 
-  pub choice_fails : (at : Place) (c a b : Tree) (rz rx ry : Result Part Fault) (f : Fault) → Judges v c rz → Judges v a rx → Judges v b ry → paired (paired rz rx) ry ≡ Err f → IsFault (judged v (Choice at c a b)) f
-  choice_fails at c a b rz rx ry f g h k p =
-      two_fails (λ p w. chosen_of at.at p.0 p.1 w) (λ q. (judged_of q.0, judged_of q.1)) judged_of (two both_known (judged v c) (judged v a)) (judged v b) (paired rz rx) ry f
-      (pair_gives judged_of judged_of (judged v c) (judged v a) rz rx (judges_gives v c rz g) (judges_gives v a rx h)) (judges_gives v b ry k) p
+    pub choice_judges : (z : Part) (q : Part × Part) (r : Result Part Fault) → refused at.at (told_alone (λ p. scalar_alone (judged_of p)) (λ q. branches_alone (judged_of q.0, judged_of q.1)) rz rp) (paired rz rp) ≡ Ok (z, q)
+        → Makes (chosen_of at.at (judged_of z) (judged_of q.0) (judged_of q.1)) (IsChoice z.typed.value q.0.typed.value q.1.typed.value) at r → Judges v (Choice at c a b) r
+    choice_judges z q r p m =
+        let (first, last) = joint_both at.at _ rz rp (z, q) p in
+        let two_there = joint_both at.at _ rx ry q (sym w ∙ last) in
+        let (j, l) = there v c rz z g first in
+        let (o, n) = there v a rx q.0 h two_there.0 in
+        let (u, i) = there v b ry q.1 k two_there.1 in
+        let both : joint at.at scalar_alone scalar_alone both_known (judged v a) (judged v b) ≡ Known (judged_of q.0, judged_of q.1) = joint_known at.at scalar_alone scalar_alone both_known judged_of judged_of (judged v a) (judged v b) _ _ o u in
+        made (Choice at c a b) at _ (IsChoice z.typed.value q.0.typed.value q.1.typed.value) r refl
+        (joint_known at.at scalar_alone branches_alone (λ y p. chosen_of at.at y p.0 p.1) judged_of (λ (p : Part × Part). (judged_of p.0, judged_of p.1)) (judged v c) (joint at.at scalar_alone scalar_alone both_known (judged v a) (judged v b)) _ _ j both)
+        (λ e s t. (s, (z.typed.value, q.0.typed.value, q.1.typed.value, t, l, n, i))) m
+
+    pub choice_fails : (f : Fault) → refused at.at (told_alone (λ p. scalar_alone (judged_of p)) (λ q. branches_alone (judged_of q.0, judged_of q.1)) rz rp) (paired rz rp) ≡ Err f → IsFault (judged v (Choice at c a b)) f
+    choice_fails f p =
+        joint_fails at.at scalar_alone branches_alone (λ y p. chosen_of at.at y p.0 p.1) judged_of (λ (p : Part × Part). (judged_of p.0, judged_of p.1)) (judged v c) (joint at.at scalar_alone scalar_alone both_known (judged v a) (judged v b)) rz rp f
+        (judges_gives v c rz g) branches_give p

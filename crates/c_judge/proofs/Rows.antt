@@ -6,8 +6,8 @@ use Rattle.c_typing.specs.Expressions.{Denoted}
 use Rattle.c_judge.specs.declared.symbol.Symbol.{Symbol}
 use Rattle.c_judge.specs.declared.scope.Scope.{Scope as Names}
 use Rattle.c_judge.specs.Answers.{Known, Broken}
-use Rattle.c_judge.specs.Judgement.{named, variable}
-use Rattle.c_judge.specs.Calls.{called_by, parameters_by}
+use Rattle.c_judge.specs.Judgement.{named, variable, function_numbered}
+use Rattle.c_judge.specs.Calls.{parameters_by}
 use Rattle.c_judge.specs.Judges.{known, denoted, denoted_all, scope_of}
 use Rattle.c_judge.specs.Parts.{judged_as}
 use Rattle.c_lex.specs.declared.token.Place.{Place}
@@ -38,11 +38,11 @@ pub numbered_known : (v : Names) (at : Place) (text : List ℕ) (n : ℕ) (s : S
     → named (scope_of v) at.at text (Some n) ≡ Known (judged_as (plain u) (record { lvalue = true; register = s.register; string = false; constant = Variable }))
 numbered_known v at text n s t u e f p c = named_object v at.at text n s e f ∙ ap (λ w. Known (variable s.register w)) (sym (ap plain c ∙ p))
 
-pub called_none : (v : Names) (n : ℕ) → slice_get v.rows.now n ≡ None → called_by (scope_of v) (Some n) ≡ None
+pub called_none : (v : Names) (n : ℕ) → slice_get v.rows.now n ≡ None → function_numbered (scope_of v) (Some n) ≡ None
 called_none v n e = rw (denoted_at v.rows.now v.parameters.now n, e) refl
 
-pub called_object : (v : Names) (n : ℕ) (s : Symbol) → slice_get v.rows.now n ≡ Some s → s.function ≡ false → called_by (scope_of v) (Some n) ≡ None
+pub called_object : (v : Names) (n : ℕ) (s : Symbol) → slice_get v.rows.now n ≡ Some s → s.function ≡ false → function_numbered (scope_of v) (Some n) ≡ None
 called_object v n s e f = rw (denoted_at v.rows.now v.parameters.now n, e, f) refl
 
-pub called_function : (v : Names) (n : ℕ) (s : Symbol) → slice_get v.rows.now n ≡ Some s → s.function ≡ true → called_by (scope_of v) (Some n) ≡ Some (plain s.ctype, map plain (parameters_by v (Some n)))
+pub called_function : (v : Names) (n : ℕ) (s : Symbol) → slice_get v.rows.now n ≡ Some s → s.function ≡ true → function_numbered (scope_of v) (Some n) ≡ Some (plain s.ctype, map plain (parameters_by v (Some n)))
 called_function v n s e f = rw (denoted_at v.rows.now v.parameters.now n, e, f) refl

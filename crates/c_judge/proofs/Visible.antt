@@ -1,6 +1,6 @@
 -- Where each name of an expression is in scope, it is judged: no name is left to blame.
-use Rattle.std.specs.Prelude.{nat_le, nat_lt, ◌&&◌}
-use Rattle.std.proofs.Common.{◌≡◌, ℕ, zero, suc, Bool, true, false, List, [], ◌∷◌, ◌++◌, refl, ap, subst, Option, Some, None, if◌then◌else◌, length}
+use Rattle.std.specs.Prelude.{nat_le, nat_lt, ◌&&◌, ◌||◌, not}
+use Rattle.std.proofs.Common.{◌≡◌, ℕ, zero, suc, Bool, true, false, List, [], refl, ap, subst, Option, Some, None, if◌then◌else◌, length}
 use Rattle.c_symbol.specs.declared.symbol.LeafKind.{LeafKind}
 use Rattle.c_symbol.specs.declared.symbol.LeafKind.TheVariants as leaf
 use Rattle.c_symbol.specs.declared.symbol.Access.{Access}
@@ -13,12 +13,12 @@ use Rattle.c_tree.specs.declared.typed.BinaryOp.{BinaryOp as Operator}
 use Rattle.c_tree.specs.declared.types.StructDef.{StructDef}
 use Rattle.c_expr.specs.Tree.{Tree, Leaf, Paren, Index, Call, With, Member, After, Prefix, SizeofType, Cast, Binary, Choice, Stars, Around, Bounded, Unbounded}
 use Rattle.c_typing.specs.Plain.{Plain, Pointer, Array, is_void, is_complete}
-use Rattle.c_typing.specs.Rules.{takes, size_type}
+use Rattle.c_typing.specs.Rules.{size_type}
 use Rattle.c_judge.specs.declared.part.Constant.{Constant}
 use Rattle.c_judge.specs.declared.part.Constant.TheVariants.{Variable, Undefined, Number}
 use Rattle.c_judge.specs.Scope.{Scope, defs_of}
-use Rattle.c_judge.specs.Answers.{Answer, Known, Unknown, Broken, ◌then◌, two, both_known}
-use Rattle.c_judge.specs.Judgement.{Judged, Verdict, Callee, by_rule, judged, calling, within, callee, callee_by, callee_named, name_alone, called, asked, unasked, with_argument, without_arguments, named, leaf_of, indexed, stepped, sized, prefixed, assigned, compound_of, joined, member_of, chosen_of, cast_to, pointer, pointers, limited, array, bound, bounded, starred, stars_of, spec_type, folded, string_of, value, operands, are_scalars, result_of, result_type}
+use Rattle.c_judge.specs.Answers.{Answer, Known, Unknown, Broken, ◌then◌, two, both_known, alone, unless_broken, joint}
+use Rattle.c_judge.specs.Judgement.{Judged, Verdict, Callee, by_rule, judged, calling, within, callee, callee_by, callee_named, name_alone, called, called_name, counted, has_parameters, arguments_in, argument, parameter_at, goes_to, function_named, with_argument, named, leaf_of, indexed, stepped, sized, prefixed, assigned, compound_of, joined, member_of, chosen_of, cast_to, pointer, pointers, limited, array, bound, bounded, starred, stars_of, spec_type, folded, string_of}
 use Rattle.c_defs.specs.Depths.{deepest, is_within}
 use Rattle.c_judge.specs.Values.{size_of}
 use Rattle.c_judge.specs.Places.{place_of}
@@ -39,6 +39,13 @@ two_judged f g (Unknown name) b h k = absurd h
 two_judged f g (Known x) (Broken r at) h k = tt
 two_judged f g (Known x) (Unknown name) h k = absurd k
 two_judged f g (Known x) (Known y) h k = g x y
+
+unless_judged : {A : Type 0} (at : ℕ) (o : Option ℕ) (j : Answer A) → IsJudged j → IsJudged (unless_broken at o j)
+unless_judged at None j h = h
+unless_judged at (Some r) j h = tt
+
+joint_judged : {A B C : Type 0} (at : ℕ) (l : A → Option ℕ) (r : B → Option ℕ) (f : A → B → Answer C) → ((x : A) (y : B) → IsJudged (f x y)) → (a : Answer A) (b : Answer B) → IsJudged a → IsJudged b → IsJudged (joint at l r f a b)
+joint_judged at l r f g a b h k = unless_judged at (alone l r a b) (two f a b) (two_judged f g a b h k)
 
 if_judged : {A : Type 0} (b : Bool) (x y : Answer A) → IsJudged x → IsJudged y → IsJudged (if b then x else y)
 if_judged true x y h k = h
@@ -94,15 +101,8 @@ member_judged : (defs : List StructDef) (at : ℕ) (w : Access) (name : List ℕ
 member_judged defs at access.Dot name x = rule_judged _ at _ _
 member_judged defs at access.Arrow name x = rule_judged _ at _ _
 
-asked_judged : (at : ℕ) (f : Callee) (js : List Judged) → IsJudged (asked at f js)
-asked_judged at None js = tt
-asked_judged at (Some f) js = if_judged (takes f.1 (operands js)) (Known f.0) (Broken 29 at) tt tt
-
-unasked_judged : (at : ℕ) (f : Callee) (js : List Judged) → IsJudged (unasked at f js)
-unasked_judged at f js = if_judged (are_scalars js) (Known (result_of f)) (Broken 22 at) tt tt
-
-called_judged : (asks : Bool) (at : ℕ) (f : Callee) (js : List Judged) → IsJudged (called asks at f js)
-called_judged asks at f js = then_judged (λ t. Known (value t)) (λ t. tt) (result_type asks at f js) (if_judged asks (asked at f js) (unasked at f js) (asked_judged at f js) (unasked_judged at f js))
+counted_judged : (asks : Bool) (at n : ℕ) (f : Callee) → IsJudged (counted asks at n f)
+counted_judged asks at n f = if_judged (not asks || has_parameters n f) (Known f) (Broken 29 at) tt tt
 
 limited_judged : (defs : List StructDef) (at : ℕ) (t : Plain) → IsJudged (limited defs at t)
 limited_judged defs at t = if_judged (is_within defs deepest t && nat_le (size_of defs t) 1048576) (Known t) (Broken 1 at) tt tt
@@ -156,6 +156,9 @@ module _ (v : Scope) where
   named_callee text (Some n) h = tt
   named_callee text None h = cc
 
+  argument_judged : (c : Tree) (at : ℕ) (x : Judged) → IsJudged (argument v c at x)
+  argument_judged c at x = if_judged (goes_to (parameter_at v.asks (function_named v (called_name c)) (arguments_in c)) x.operand) (Known x) (Broken (if v.asks then 29 else 22) at) tt tt
+
   by_name : (o : Option (List ℕ)) (j : Verdict) → ((text : List ℕ) → o ≡ Some text → unless_numbered text (v.number text) ≡ None) → IsJudged j → IsJudged (callee_by v o j)
   by_name (Some text) j h k = named_callee text (v.number text) (h text refl)
   by_name None j h k = then_judged (λ x. Known None) (λ x. tt) j k
@@ -168,26 +171,26 @@ module _ (v : Scope) where
     judged_visible : (t : Tree) → unknown v t ≡ None → IsJudged (judged v t)
     judged_visible (Leaf at kind text) h = leaf_judged at.at kind text h
     judged_visible (Paren at a) h = judged_visible a h
-    judged_visible (Index at a b) h = two_judged (indexed (defs_of v) at.at) (λ x y. rule_judged _ at.at _ _) (judged v a) (judged v b) (judged_visible a (left_none (unknown v a) (unknown v b) h)) (judged_visible b (right_none (unknown v a) (unknown v b) h))
-    judged_visible (Call at f) h = then_judged _ (λ c. called_judged v.asks at.at c []) (callee v f (judged v f)) (by_name (name_alone f) (judged v f) (λ text e. none_alone f text h e) (judged_visible f h))
-    judged_visible (With c a) h = two_judged (λ s x. called v.asks (place_of c).at s.0 (s.1 ++ x ∷ [])) (λ s x. called_judged v.asks (place_of c).at s.0 (s.1 ++ x ∷ [])) (calling v c) (judged v a) (calling_visible c (left_none (unknown v c) (unknown v a) h)) (judged_visible a (right_none (unknown v c) (unknown v a) h))
+    judged_visible (Index at a b) h = joint_judged at.at _ _ (indexed (defs_of v) at.at) (λ x y. rule_judged _ at.at _ _) (judged v a) (judged v b) (judged_visible a (left_none (unknown v a) (unknown v b) h)) (judged_visible b (right_none (unknown v a) (unknown v b) h))
+    judged_visible (Call at f) h = then_judged called (λ g. tt) _ (then_judged _ (counted_judged v.asks at.at 0) (callee v f (judged v f)) (by_name (name_alone f) (judged v f) (λ text e. none_alone f text h e) (judged_visible f h)))
+    judged_visible (With c a) h = two_judged (λ f x. called f) (λ f x. tt) (calling v (suc (arguments_in c)) c) _ (calling_visible (suc (arguments_in c)) c (left_none (unknown v c) (unknown v a) h)) (then_judged _ (argument_judged c (place_of a).at) (judged v a) (judged_visible a (right_none (unknown v c) (unknown v a) h)))
     judged_visible (Member at a w q name) h = then_judged (member_of (defs_of v) at.at w name) (member_judged (defs_of v) at.at w name) (judged v a) (judged_visible a h)
     judged_visible (After at a step) h = then_judged (stepped (defs_of v) at.at step) (λ x. rule_judged _ at.at _ _) (judged v a) (judged_visible a h)
     judged_visible (Prefix at w a) h = then_judged (prefixed (defs_of v) at.at w) (prefixed_judged (defs_of v) at.at w) (judged v a) (judged_visible a h)
     judged_visible (SizeofType at s d) h = then_judged (sized (defs_of v) at.at) (sized_judged (defs_of v) at.at) (within v at.at d (starred v at.at d (Known (spec_type v s)))) (within_visible at.at d _ h (pointers_judged (defs_of v) at.at (stars_of d) (spec_type v s)))
-    judged_visible (Cast at s d a) h = two_judged (cast_to at.at) (λ t x. rule_judged _ at.at _ _) (within v at.at d (starred v at.at d (Known (spec_type v s)))) (judged v a) (within_visible at.at d _ (left_none (unknown v d) (unknown v a) h) (pointers_judged (defs_of v) at.at (stars_of d) (spec_type v s))) (judged_visible a (right_none (unknown v d) (unknown v a) h))
-    judged_visible (Binary at w a b) h = two_judged (joined (defs_of v) at.at w) (joined_judged (defs_of v) at.at w) (judged v a) (judged v b) (judged_visible a (left_none (unknown v a) (unknown v b) h)) (judged_visible b (right_none (unknown v a) (unknown v b) h))
+    judged_visible (Cast at s d a) h = joint_judged at.at _ _ (cast_to at.at) (λ t x. rule_judged _ at.at _ _) (within v at.at d (starred v at.at d (Known (spec_type v s)))) (judged v a) (within_visible at.at d _ (left_none (unknown v d) (unknown v a) h) (pointers_judged (defs_of v) at.at (stars_of d) (spec_type v s))) (judged_visible a (right_none (unknown v d) (unknown v a) h))
+    judged_visible (Binary at w a b) h = joint_judged at.at _ _ (joined (defs_of v) at.at w) (joined_judged (defs_of v) at.at w) (judged v a) (judged v b) (judged_visible a (left_none (unknown v a) (unknown v b) h)) (judged_visible b (right_none (unknown v a) (unknown v b) h))
     judged_visible (Choice at c a b) h =
         let rest = right_none (unknown v c) (first_of (unknown v a) (unknown v b)) h in
-        two_judged (λ p z. chosen_of at.at p.0 p.1 z) (λ p z. rule_judged _ at.at _ _) (two both_known (judged v c) (judged v a)) (judged v b)
-        (two_judged both_known (λ x y. tt) (judged v c) (judged v a) (judged_visible c (left_none (unknown v c) (first_of (unknown v a) (unknown v b)) h)) (judged_visible a (left_none (unknown v a) (unknown v b) rest)))
-        (judged_visible b (right_none (unknown v a) (unknown v b) rest))
+        joint_judged at.at _ _ (λ z p. chosen_of at.at z p.0 p.1) (λ z p. rule_judged _ at.at _ _) (judged v c) _
+        (judged_visible c (left_none (unknown v c) (first_of (unknown v a) (unknown v b)) h))
+        (joint_judged at.at _ _ both_known (λ x y. tt) (judged v a) (judged v b) (judged_visible a (left_none (unknown v a) (unknown v b) rest)) (judged_visible b (right_none (unknown v a) (unknown v b) rest)))
     judged_visible _ h = tt
 
-    calling_visible : (t : Tree) → unknown v t ≡ None → IsJudged (calling v t)
-    calling_visible (Call at f) h = then_judged without_arguments (λ c. tt) (callee v f (judged v f)) (by_name (name_alone f) (judged v f) (λ text e. none_alone f text h e) (judged_visible f h))
-    calling_visible (With c a) h = two_judged with_argument (λ s x. tt) (calling v c) (judged v a) (calling_visible c (left_none (unknown v c) (unknown v a) h)) (judged_visible a (right_none (unknown v c) (unknown v a) h))
-    calling_visible _ h = tt
+    calling_visible : (n : ℕ) (t : Tree) → unknown v t ≡ None → IsJudged (calling v n t)
+    calling_visible n (Call at f) h = then_judged _ (counted_judged v.asks at.at n) (callee v f (judged v f)) (by_name (name_alone f) (judged v f) (λ text e. none_alone f text h e) (judged_visible f h))
+    calling_visible n (With c a) h = two_judged with_argument (λ f x. tt) (calling v n c) _ (calling_visible n c (left_none (unknown v c) (unknown v a) h)) (then_judged _ (argument_judged c (place_of a).at) (judged v a) (judged_visible a (right_none (unknown v c) (unknown v a) h)))
+    calling_visible n _ h = tt
 
     within_visible : (at : ℕ) (t : Tree) (j : Answer Plain) → unknown v t ≡ None → IsJudged j → IsJudged (within v at t j)
     within_visible at (Stars n) j h k = k

@@ -1,5 +1,5 @@
 -- What is judged of a part of a program: what is known of it, a name in it that is not declared, or a rule that is broken in it.
-use Rattle.std.specs.Prelude.{ℕ, List}
+use Rattle.std.specs.Prelude.{ℕ, Bool, if◌then◌else◌, List, Option, Some, None}
 
 -- a rule by its number, with the offset where what breaks it begins
 pub data Answer (A : Type 0) : Type 0 where
@@ -26,6 +26,20 @@ two f (Known x) (Known y) = f x y
 abbrev pub both_known : {A B : Type 0} → A → B → Answer (A × B)
 both_known x y = Known (x, y)
 
--- and of three
-abbrev pub three : {A B C D : Type 0} → (A → B → C → Answer D) → Answer A → Answer B → Answer C → Answer D
-three f a b c = two (λ p z. f p.0 p.1 z) (two both_known a b) c
+-- Where a name in one of two parts is not declared, it stands for whatever keeps the rule: the rule that the other part breaks beside anything.
+abbrev pub alone : {A B : Type 0} → (A → Option ℕ) → (B → Option ℕ) → Answer A → Answer B → Option ℕ
+alone g h (Known x) (Unknown name) = g x
+alone g h (Unknown name) (Known y) = h y
+alone g h a b = None
+
+abbrev pub unless_broken : {C : Type 0} → (at : ℕ) → Option ℕ → Answer C → Answer C
+unless_broken at None j = j
+unless_broken at (Some r) j = Broken r at
+
+-- What is made of two parts by a rule that is asked of each of them also where a name in the other is not declared.
+abbrev pub joint : {A B C : Type 0} → (at : ℕ) → (A → Option ℕ) → (B → Option ℕ) → (A → B → Answer C) → Answer A → Answer B → Answer C
+joint at g h f a b = unless_broken at (alone g h a b) (two f a b)
+
+-- a rule that is broken unless this holds
+abbrev pub unless : Bool → (rule : ℕ) → Option ℕ
+unless b r = if b then None else Some r

@@ -1,5 +1,5 @@
 -- What an expression is, by recursion over its tree: what the rules of typing (C90 6.3) give, a name that is not declared, or a rule that is broken.
-use Rattle.std.specs.Prelude.{ℕ, zero, suc, Bool, true, false, ◌&&◌, nat_le, nat_lt, if◌then◌else◌, List, [], ◌∷◌, ◌++◌, length, Option, Some, None, option_and_then, slice_get}
+use Rattle.std.specs.Prelude.{ℕ, zero, suc, Bool, true, false, ◌&&◌, nat_le, nat_lt, ◌==◌, ◌||◌, not, if◌then◌else◌, List, length, Option, Some, None, option_and_then, slice_get}
 use Rattle.ldb_words.specs.Word.{word_of_signed}
 use Rattle.c_lex.specs.declared.number.Integer.{Integer}
 use Rattle.c_symbol.specs.declared.symbol.LeafKind.{LeafKind}
@@ -24,8 +24,8 @@ use Rattle.c_tree.specs.declared.typed.UnaryOp.{UnaryOp}
 use Rattle.c_tree.specs.declared.typed.UnaryOp.TheVariants.{Plus, Minus, Complement, Not}
 use Rattle.c_tree.specs.declared.typed.StepOp.{StepOp}
 use Rattle.c_tree.specs.declared.typed.StepOp.TheVariants.{Up, Down}
-use Rattle.c_typing.specs.Plain.{Plain, Char, Int, Unsigned, Void, Pointer, Array, Struct, is_scalar, is_void, is_complete}
-use Rattle.c_typing.specs.Rules.{Operand, value_of, may_drop, unary_type, followed, address_type, dot_type, arrow_type, index_type, binary_type, assignment_type, takes, compound_type, step_type, logical_type, choice_type, comma_type, cast_type, size_type}
+use Rattle.c_typing.specs.Plain.{Plain, Char, Int, Unsigned, Void, Pointer, Array, Struct, is_integer, is_pointer, is_scalar, is_struct, is_void, is_complete}
+use Rattle.c_typing.specs.Rules.{Operand, value_of, may_drop, unary_type, followed, address_type, dot_type, arrow_type, index_type, binary_type, equality_type, assignment_type, converts, is_move, is_movable, compound_type, step_type, logical_type, choice_type, comma_type, cast_type, size_type}
 use Rattle.c_typing.specs.Expressions.{Denoted, Object, Function, name_type}
 use Rattle.c_judge.specs.declared.part.Constant.{Constant}
 use Rattle.c_judge.specs.declared.part.Constant.TheVariants.{Variable, Number}
@@ -33,7 +33,7 @@ use Rattle.c_judge.specs.Scope.{Scope, defs_of, pointed_number}
 use Rattle.c_defs.specs.Depths.{deepest, is_within}
 use Rattle.c_defs.specs.Members.{member_number}
 use Rattle.c_judge.specs.Places.{place_of}
-use Rattle.c_judge.specs.Answers.{Answer, Known, Unknown, Broken, ◌then◌, two, three}
+use Rattle.c_judge.specs.Answers.{Answer, Known, Unknown, Broken, ◌then◌, two, both_known, joint, unless}
 use Rattle.c_judge.specs.Values.{is_unsigned, size_of, with_one, combined, turned, converted, chosen, both, either, is_null}
 
 -- what is known of an expression: what the rules ask of it as an operand, and what it is as a constant expression
@@ -185,9 +185,23 @@ rule_of _ = 30
 abbrev pub operation : List StructDef → (at : ℕ) → Operator → Judged → Judged → Verdict
 operation defs at o x y = by_rule (rule_of o) at (folded (combined o (value_type_of x) (value_type_of y) x.constant y.constant)) (binary_type defs o x.operand y.operand)
 
+-- 37. Compound assignment takes an lvalue that is an integer, or a pointer for `+=` and `-=`.
+abbrev pub is_stored_by : Operator → Operand → Bool
+is_stored_by o a = a.lvalue && (is_integer a.ctype || (is_pointer a.ctype && is_move o))
+
+abbrev pub is_typed : Option Plain → Bool
+is_typed None = false
+is_typed (Some t) = true
+
+-- The rule that a compound assignment breaks: that on its left operand, else that of the operator, else that on the assignment of what is to be stored (C90 6.3.16.2).
+abbrev pub compound_rule : List StructDef → Operator → Judged → Judged → ℕ
+compound_rule defs o x y =
+    if not (is_stored_by o x.operand) then 37
+    else (if is_typed (binary_type defs o x.operand y.operand) then 36 else rule_of o)
+
 abbrev pub assigned : List StructDef → (at : ℕ) → Option Operator → Judged → Judged → Verdict
 assigned defs at None x y = by_rule 36 at value (assignment_type x.operand y.operand)
-assigned defs at (Some o) x y = by_rule 37 at value (compound_type defs o x.operand (value_type_of y))
+assigned defs at (Some o) x y = by_rule (compound_rule defs o x y) at value (compound_type defs o x.operand (value_type_of y))
 
 -- an operator between two operands
 abbrev pub joined : List StructDef → (at : ℕ) → BinaryOp → Judged → Judged → Verdict
@@ -219,6 +233,87 @@ member_of defs at access.Arrow name x = by_rule 27 at object (option_and_then (a
 
 abbrev pub chosen_of : (at : ℕ) → Judged → Judged → Judged → Verdict
 chosen_of at c x y = by_rule 38 at (folded (chosen c.constant x.constant y.constant)) (choice_type (value_type_of c) x.operand y.operand)
+
+-- ---- operands beside a name that is not declared: the rule that an operand breaks whatever the other one is
+
+-- 28, 31, 32. An integer goes with a pointer, and a pointer with an integer. 34, 35. Comparisons take pointers too. The other operators take integers.
+abbrev pub is_operand : List StructDef → Operator → Plain → Bool
+is_operand defs op.Add t = is_integer t || is_movable defs t
+is_operand defs op.Subtract t = is_integer t || is_movable defs t
+is_operand defs op.Less t = is_scalar t
+is_operand defs op.Greater t = is_scalar t
+is_operand defs op.LessEqual t = is_scalar t
+is_operand defs op.GreaterEqual t = is_scalar t
+is_operand defs op.Equal t = is_scalar t
+is_operand defs op.Unequal t = is_scalar t
+is_operand defs o t = is_integer t
+
+abbrev pub operator_alone : List StructDef → Operator → Judged → Option ℕ
+operator_alone defs o x = unless (is_operand defs o (value_type_of x)) (rule_of o)
+
+abbrev pub index_alone : List StructDef → Judged → Option ℕ
+index_alone defs x = unless (is_operand defs op.Add (value_type_of x)) 28
+
+abbrev pub scalar_alone : Judged → Option ℕ
+scalar_alone x = unless (is_scalar (value_type_of x)) 38
+
+-- two branches go together as the operands of `==` do, whatever chooses between them
+abbrev pub branches_alone : Judged × Judged → Option ℕ
+branches_alone p = unless (is_typed (equality_type p.0.operand p.1.operand)) 38
+
+-- 40. what is cast to, and what is cast
+abbrev pub cast_alone : Plain → Option ℕ
+cast_alone t = unless (is_integer t) 40
+
+abbrev pub cast_operand_alone : Judged → Option ℕ
+cast_operand_alone x = unless (is_integer (value_type_of x)) 40
+
+-- 36. an object to which some value can be assigned
+abbrev pub is_assigned : Plain → Bool
+is_assigned t = is_scalar t || is_struct t
+
+-- what is assigned to, and by which operator
+abbrev pub target_alone : List StructDef → Option Operator → Judged → Option ℕ
+target_alone defs None x = unless (x.operand.lvalue && is_assigned x.operand.ctype) 36
+target_alone defs (Some o) x = if is_stored_by o x.operand then operator_alone defs o x else Some 37
+
+-- what is assigned; a compound assignment stores no pointer that `+` makes of one
+abbrev pub source_alone : List StructDef → Option Operator → Judged → Option ℕ
+source_alone defs None y = unless (is_scalar (value_type_of y) || (is_struct y.operand.ctype && y.operand.lvalue)) 36
+source_alone defs (Some o) y = if is_integer (value_type_of y) then None else Some (if is_operand defs o (value_type_of y) then 36 else rule_of o)
+
+-- the operator that is written between two operands, but for a comma, an assignment, `&&` and `||`
+abbrev pub operator_of : BinaryOp → Operator
+operator_of written.BitOr = op.BitOr
+operator_of written.BitXor = op.BitXor
+operator_of written.BitAnd = op.BitAnd
+operator_of written.Equal = op.Equal
+operator_of written.NotEqual = op.Unequal
+operator_of written.Less = op.Less
+operator_of written.Greater = op.Greater
+operator_of written.LessEqual = op.LessEqual
+operator_of written.GreaterEqual = op.GreaterEqual
+operator_of written.ShiftLeft = op.ShiftLeft
+operator_of written.ShiftRight = op.ShiftRight
+operator_of written.Add = op.Add
+operator_of written.Subtract = op.Subtract
+operator_of written.Divide = op.Divide
+operator_of written.Remainder = op.Remainder
+operator_of _ = op.Multiply
+
+abbrev pub left_alone : List StructDef → BinaryOp → Judged → Option ℕ
+left_alone defs written.Comma x = unless (may_drop x.operand) 22
+left_alone defs (written.Assign o) x = target_alone defs (compound_of o) x
+left_alone defs written.LogicalOr x = scalar_alone x
+left_alone defs written.LogicalAnd x = scalar_alone x
+left_alone defs o x = operator_alone defs (operator_of o) x
+
+abbrev pub right_alone : List StructDef → BinaryOp → Judged → Option ℕ
+right_alone defs written.Comma y = unless (is_scalar (value_type_of y)) 39
+right_alone defs (written.Assign o) y = source_alone defs (compound_of o) y
+right_alone defs written.LogicalOr y = scalar_alone y
+right_alone defs written.LogicalAnd y = scalar_alone y
+right_alone defs o y = operator_alone defs (operator_of o) y
 
 -- ---- names and constants
 
@@ -268,44 +363,62 @@ callee_by v None j = j then λ x. Known None
 abbrev pub callee : Scope → Tree → Verdict → Answer Callee
 callee v f j = callee_by v (name_alone f) j
 
-abbrev pub operands : List Judged → List Operand
-operands [] = []
-operands (j ∷ js) = j.operand ∷ operands js
+-- 29. What is called is a function, and it is called with as many arguments as it has parameters.
+abbrev pub has_parameters : ℕ → Callee → Bool
+has_parameters n None = false
+has_parameters n (Some f) = length f.1 == n
 
-abbrev pub are_scalars : List Judged → Bool
-are_scalars [] = true
-are_scalars (j ∷ js) = is_scalar (value_type_of j) && are_scalars js
+abbrev pub counted : (asks : Bool) (at : ℕ) → ℕ → Callee → Answer Callee
+counted asks at n f = if not asks || has_parameters n f then Known f else Broken 29 at
 
--- 29. A call has as many arguments as parameters, each by the rule of assignment; what is called is a function.
-abbrev pub asked : (at : ℕ) → Callee → List Judged → Answer Plain
-asked at None js = Broken 29 at
-asked at (Some f) js = if takes f.1 (operands js) then Known f.0 else Broken 29 at
+-- the name of what is called, and how many arguments there are
+abbrev pub called_name : Tree → Option (List ℕ)
+called_name (Call at f) = name_alone f
+called_name (With c a) = called_name c
+called_name _ = None
+
+abbrev pub arguments_in : Tree → ℕ
+arguments_in (With c a) = suc (arguments_in c)
+arguments_in _ = 0
+
+abbrev pub function_numbered : Scope → Option ℕ → Callee
+function_numbered v None = None
+function_numbered v (Some n) = function_of (slice_get v.among.names n)
+
+abbrev pub function_named : Scope → Option (List ℕ) → Callee
+function_named v None = None
+function_named v (Some text) = function_numbered v (v.number text)
+
+-- the type of a parameter by its place, where it is known
+abbrev pub parameter_at : (asks : Bool) → Callee → ℕ → Option Plain
+parameter_at asks None i = None
+parameter_at asks (Some f) i = if asks then slice_get f.1 i else None
+
+-- An argument goes as by assignment to its parameter; where that is not known, it is a scalar, as each parameter is.
+abbrev pub goes_to : Option Plain → Operand → Bool
+goes_to None a = is_scalar (value_of a)
+goes_to (Some t) a = converts t a
+
+-- 29. An argument keeps the rule of assignment. Where parameters are not known, 22: a `void` or struct value is no argument.
+abbrev pub passed : (asks : Bool) (at : ℕ) → Option Plain → Judged → Verdict
+passed asks at t x = if goes_to t x.operand then Known x else Broken (if asks then 29 else 22) at
+
+-- the argument behind those that a call has so far
+abbrev pub argument : Scope → Tree → (at : ℕ) → Judged → Verdict
+argument v c at x = passed v.asks at (parameter_at v.asks (function_named v (called_name c)) (arguments_in c)) x
 
 -- Where parameters are not known, what is no function counts as one with an `int` as its result, as a function that is not declared does.
 abbrev pub result_of : Callee → Plain
 result_of None = Int
 result_of (Some f) = f.0
 
--- 22. A `void` or struct value is no argument.
-abbrev pub unasked : (at : ℕ) → Callee → List Judged → Answer Plain
-unasked at f js = if are_scalars js then Known (result_of f) else Broken 22 at
+-- the value of a call
+abbrev pub called : Callee → Verdict
+called f = Known (value (result_of f))
 
--- the result of a call, whose rule is asked where the parameters are known, and its value
-abbrev pub result_type : (asks : Bool) (at : ℕ) → Callee → List Judged → Answer Plain
-result_type asks at f js = if asks then asked at f js else unasked at f js
-
-abbrev pub called : (asks : Bool) (at : ℕ) → Callee → List Judged → Verdict
-called asks at f js = result_type asks at f js then λ t. Known (value t)
-
--- what is called, and its arguments so far
-abbrev pub Calling : Type 0
-Calling = Callee × List Judged
-
-abbrev pub without_arguments : Callee → Answer Calling
-without_arguments f = Known (f, [])
-
-abbrev pub with_argument : Calling → Judged → Answer Calling
-with_argument s x = Known (s.0, s.1 ++ x ∷ [])
+-- what is called, and one argument more
+abbrev pub with_argument : Callee → Judged → Answer Callee
+with_argument f x = Known f
 
 -- ---- expressions
 
@@ -314,23 +427,23 @@ module _ (v : Scope) where
     pub judged : Tree → Verdict
     judged (Leaf at kind text) = leaf_of v at.at kind text
     judged (Paren at a) = judged a
-    judged (Index at a b) = two (indexed (defs_of v) at.at) (judged a) (judged b)
-    judged (Call at f) = callee v f (judged f) then λ c. called v.asks at.at c []
-    judged (With c a) = two (λ s x. called v.asks (place_of c).at s.0 (s.1 ++ x ∷ [])) (calling c) (judged a)
+    judged (Index at a b) = joint at.at (index_alone (defs_of v)) (index_alone (defs_of v)) (indexed (defs_of v) at.at) (judged a) (judged b)
+    judged (Call at f) = callee v f (judged f) then counted v.asks at.at 0 then called
+    judged (With c a) = two (λ f x. called f) (calling (suc (arguments_in c)) c) (judged a then argument v c (place_of a).at)
     judged (Member at a access _ name) = judged a then member_of (defs_of v) at.at access name
     judged (After at a step) = judged a then stepped (defs_of v) at.at step
     judged (Prefix at op a) = judged a then prefixed (defs_of v) at.at op
     judged (SizeofType at s d) = within at.at d (starred v at.at d (Known (spec_type v s))) then sized (defs_of v) at.at
-    judged (Cast at s d a) = two (cast_to at.at) (within at.at d (starred v at.at d (Known (spec_type v s)))) (judged a)
-    judged (Binary at op a b) = two (joined (defs_of v) at.at op) (judged a) (judged b)
-    judged (Choice at c a b) = three (chosen_of at.at) (judged c) (judged a) (judged b)
+    judged (Cast at s d a) = joint at.at cast_alone cast_operand_alone (cast_to at.at) (within at.at d (starred v at.at d (Known (spec_type v s)))) (judged a)
+    judged (Binary at op a b) = joint at.at (left_alone (defs_of v) op) (right_alone (defs_of v) op) (joined (defs_of v) at.at op) (judged a) (judged b)
+    judged (Choice at c a b) = joint at.at scalar_alone branches_alone (λ z p. chosen_of at.at z p.0 p.1) (judged c) (joint at.at scalar_alone scalar_alone both_known (judged a) (judged b))
     judged _ = Broken 0 0
 
-    -- what is called, with the arguments so far
-    pub calling : Tree → Answer Calling
-    calling (Call at f) = callee v f (judged f) then without_arguments
-    calling (With c a) = two with_argument (calling c) (judged a)
-    calling _ = Broken 0 0
+    -- what is called with so many arguments, by those that stand there so far
+    pub calling : ℕ → Tree → Answer Callee
+    calling n (Call at f) = callee v f (judged f) then counted v.asks at.at n
+    calling n (With c a) = two with_argument (calling n c) (judged a then argument v c (place_of a).at)
+    calling n _ = Broken 0 0
 
     -- The type of what is declared, once the `*` have been taken: the bounds from the last to the first, then the declarator in parentheses.
     -- Where a rule of types is broken, the place is that of the expression in which the type is written.

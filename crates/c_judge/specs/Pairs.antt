@@ -1,5 +1,5 @@
 -- Two results as one.
-use Rattle.std.specs.Prelude.{ℕ, Result, Ok, Err}
+use Rattle.std.specs.Prelude.{ℕ, Option, Some, None, Result, Ok, Err}
 use Rattle.c_judge.specs.declared.fault.Fault.{Fault}
 use Rattle.c_judge.specs.declared.fault.Fault.TheVariants.{Unknown, Rule, NoMemory}
 
@@ -15,6 +15,16 @@ abbrev pub paired : {A B : Type 0} → Result A Fault → Result B Fault → Res
 paired (Ok x) (Ok y) = Ok (x, y)
 paired (Ok x) (Err f) = Err f
 paired (Err f) y = Err (graver f y)
+
+-- the rule that one part breaks beside a name in the other that is not declared
+abbrev pub told_alone : {A B : Type 0} → (A → Option ℕ) → (B → Option ℕ) → Result A Fault → Result B Fault → Option ℕ
+told_alone g h (Ok x) (Err (Unknown name)) = g x
+told_alone g h (Err (Unknown name)) (Ok y) = h y
+told_alone g h x y = None
+
+abbrev pub refused : {A : Type 0} → (at : ℕ) → Option ℕ → Result A Fault → Result A Fault
+refused at None r = r
+refused at (Some n) r = Err (Rule n at)
 
 -- another value in place of one that is there
 abbrev pub dropped : {A B : Type 0} → Result A Fault → B → Result B Fault

@@ -1,16 +1,15 @@
 // Calls of checked parts.
-ghost use Rattle.std.specs.Prelude.{◌≡◌, map, option_map, slice_get, IfOk, List, Some, None};
+ghost use Rattle.std.specs.Prelude.{◌≡◌, ℕ, ◌||◌, not, length, map, option_map, IfOk, List, Some, None};
 ghost use Rattle.c_typing.specs.Plain.{plain};
-ghost use Rattle.c_typing.specs.Rules as rule;
-ghost use Rattle.c_judge.specs.Judgement.{are_scalars, operands, name_alone, asked, unasked, result_type, called};
-ghost use Rattle.c_judge.specs.Judges.{Denotes, Judges, Makes, scope_of};
+ghost use Rattle.c_judge.specs.Judgement.{name_alone, function_numbered, function_named, has_parameters, parameter_at, goes_to, result_of, called};
+ghost use Rattle.c_judge.specs.Judges.{Judges, Makes, scope_of};
 ghost use Rattle.c_judge.specs.Scope.{Scope as Names};
 ghost use Rattle.c_expr.specs.Tree.{Tree, Call, With, with_arguments};
 ghost use Rattle.c_lex.specs.declared.token.Place.{Place};
 ghost use Rattle.c_judge.specs.Elaboration.{IsCall};
-ghost use Rattle.c_judge.specs.Parts.{judged_of};
+ghost use Rattle.c_judge.specs.Parts.{operand_of};
 ghost use Rattle.c_judge.specs.Pairs.{dropped};
-ghost use Rattle.c_judge.specs.Calls.{typed_in, called_by, number_or_none, parameters_by, NamesCallee, IsWith, Calls, Gathers};
+ghost use Rattle.c_judge.specs.Calls.{typed_in, number_or_none, parameters_by, NamesCallee, IsWith, IsPassed, IsArgument, Calls, Gathers};
 
 use crate::fault::Fault;
 use crate::leaf::{number_of, unknown};
@@ -33,34 +32,6 @@ use std::alloc::{AllocError, Global};
 pub struct Calling {
     pub callee: Option<u32>,
     pub arguments: Vec<Part>,
-}
-
-/// Whether arguments fit the parameters: as many, each as by assignment (C90 6.3.2.2). The recursion goes as deep as there are parameters.
-pub fn takes(parameters: &[CType], arguments: &[Part]) -> bool
-    ensures { result ≡ rule.takes (map plain parameters.now) (operands (map judged_of arguments.now)) }
-{
-    match parameters {
-        [] => match arguments {
-            [] => true,
-            [_, ..] => false,
-        },
-        [t, parameters @ ..] => match arguments {
-            [] => false,
-            [x, arguments @ ..] => converts(t, x) && takes(parameters, arguments),
-        },
-    }
-}
-
-/// Whether the values of all parts are scalars.
-pub fn are_scalars(parts: &[Part]) -> bool
-    ensures { result ≡ are_scalars (map judged_of parts.now) }
-{
-    for part in parts {
-        if !is_scalar(type_of(part)) {
-            return false;
-        }
-    }
-    true
 }
 
 /// The typed trees of parts.
@@ -99,7 +70,7 @@ pub fn name_alone<'a>(e: &'a Expr) -> Option<&'a Text>
 
 /// The function with a number: its row, where it is one.
 fn function_at<'a, 'n>(v: &Scope<'a, 'n>, n: u32) -> Option<&'a Symbol>
-    ensures { option_map (λ s. (plain s.now.ctype, map plain (parameters_by v.now (Some n)))) result ≡ called_by (scope_of v.now) (Some n) }
+    ensures { option_map (λ s. (plain s.now.ctype, map plain (parameters_by v.now (Some n)))) result ≡ function_numbered (scope_of v.now) (Some n) }
 {
     match v.rows.get(n as usize) {
         None => None,
@@ -114,7 +85,7 @@ fn function_at<'a, 'n>(v: &Scope<'a, 'n>, n: u32) -> Option<&'a Symbol>
 
 /// The function that a number calls: its row, where it is one.
 fn function_by<'a, 'n>(v: &Scope<'a, 'n>, n: Option<u32>) -> Option<&'a Symbol>
-    ensures { option_map (λ s. (plain s.now.ctype, map plain (parameters_by v.now n))) result ≡ called_by (scope_of v.now) n }
+    ensures { option_map (λ s. (plain s.now.ctype, map plain (parameters_by v.now n))) result ≡ function_numbered (scope_of v.now) n }
 {
     match n {
         None => None,
@@ -135,64 +106,86 @@ fn parameters_by<'a, 'n>(v: &Scope<'a, 'n>, n: Option<u32>) -> &'a [CType]
     }
 }
 
-/// The result of a function that takes these arguments.
-fn asked<'a, 'n>(
-    v: &Scope<'a, 'n>,
-    at: Place,
-    n: Option<u32>,
-    parts: &[Part],
-) -> Result<CType, Fault>
-    ensures { Denotes (asked at.at (called_by (scope_of v.now) n) (map judged_of parts.now)) result }
+/// Whether so many arguments may stand in a call: as many as what is called has parameters, where these are known.
+fn is_counted<'a, 'n>(v: &Scope<'a, 'n>, n: Option<u32>, count: usize) -> bool
+    ensures { result ≡ (not v.now.asks || has_parameters count (function_numbered (scope_of v.now) n)) }
 {
-    let Some(symbol) = function_by(v, n) else {
-        return Err(Fault::Rule {
-            rule: 29,
-            at: at.at,
-        });
-    };
-    if !takes(parameters_by(v, n), parts) {
-        return Err(Fault::Rule {
-            rule: 29,
-            at: at.at,
-        });
-    }
-    Ok(copied(&symbol.ctype)?)
-}
-
-/// The result of a function whose parameters are not known.
-fn unasked<'a, 'n>(
-    v: &Scope<'a, 'n>,
-    at: Place,
-    n: Option<u32>,
-    parts: &[Part],
-) -> Result<CType, Fault>
-    ensures { Denotes (unasked at.at (called_by (scope_of v.now) n) (map judged_of parts.now)) result }
-{
-    if !are_scalars(parts) {
-        return Err(Fault::Rule {
-            rule: 22,
-            at: at.at,
-        });
+    if !v.asks {
+        return true;
     }
     match function_by(v, n) {
-        None => Ok(CType::Int),
-        Some(symbol) => Ok(copied(&symbol.ctype)?),
+        None => false,
+        Some(_) => parameters_by(v, n).len() == count,
     }
 }
 
-/// The result of a call; its rule is asked where the parameters are known.
-fn result_of<'a, 'n>(
-    v: &Scope<'a, 'n>,
-    at: Place,
-    n: Option<u32>,
-    parts: &[Part],
-) -> Result<CType, Fault>
-    ensures { Denotes (result_type v.now.asks at.at (called_by (scope_of v.now) n) (map judged_of parts.now)) result }
+/// The type of a parameter by its place, where it is known.
+fn parameter_at<'a, 'n>(v: &Scope<'a, 'n>, n: Option<u32>, i: usize) -> Option<&'a CType>
+    ensures { option_map (λ t. plain t.now) result ≡ parameter_at v.now.asks (function_numbered (scope_of v.now) n) i }
 {
-    if v.asks {
-        return asked(v, at, n, parts);
+    match function_by(v, n) {
+        None => None,
+        Some(_) => {
+            if v.asks {
+                return parameters_by(v, n).get(i);
+            }
+            None
+        }
     }
-    unasked(v, at, n, parts)
+}
+
+/// Whether the argument at a place goes to its parameter; where that is not known, it is a scalar.
+fn goes_to_parameter<'a, 'n>(v: &Scope<'a, 'n>, n: Option<u32>, i: usize, x: &Part) -> bool
+    ensures { result ≡ goes_to (parameter_at v.now.asks (function_numbered (scope_of v.now) n) i) (operand_of x.now) }
+{
+    match parameter_at(v, n, i) {
+        None => is_scalar(type_of(x)),
+        Some(t) => converts(t, x),
+    }
+}
+
+/// The argument at a place among those of a call, which keeps the rule of its parameter.
+pub fn passed<'a, 'n>(
+    v: &Scope<'a, 'n>,
+    n: Option<u32>,
+    i: usize,
+    at: u32,
+    x: Result<Part, Fault>,
+) -> Result<Part, Fault>
+    ensures { IsPassed v.now.asks at (parameter_at v.now.asks (function_numbered (scope_of v.now) n) i) x result }
+{
+    match x {
+        Ok(x) => {
+            if goes_to_parameter(v, n, i, &x) {
+                return Ok(x);
+            }
+            Err(Fault::Rule {
+                rule: if v.asks { 29 } else { 22 },
+                at,
+            })
+        }
+        Err(f) => Err(f),
+    }
+}
+
+/// The number of the name of what is called, where that is one.
+pub fn number_called<'a, 'n>(v: &Scope<'a, 'n>, f: &'n Expr) -> Option<u32>
+    ensures { function_numbered (scope_of v.now) result ≡ function_named (scope_of v.now) (name_alone f.now) }
+{
+    match name_alone(f) {
+        None => None,
+        Some(name) => number_of(v, name),
+    }
+}
+
+/// The result of a call; where what is called is no function, it is `int`.
+fn result_of<'a, 'n>(v: &Scope<'a, 'n>, n: Option<u32>) -> Result<CType, AllocError>
+    ensures { IfOk result (λ t. plain t ≡ result_of (function_numbered (scope_of v.now) n)) }
+{
+    match function_by(v, n) {
+        None => Ok(CType::Int),
+        Some(symbol) => copied(&symbol.ctype),
+    }
 }
 
 /// A call of what is called with checked arguments.
@@ -202,9 +195,9 @@ pub fn called<'a, 'n>(
     at: Place,
     calling: Calling,
 ) -> Result<Part, Fault>
-    ensures { Makes (called v.now.asks at.at (called_by (scope_of v.now) calling.callee) (map judged_of calling.arguments.items)) (IsCall (λ m. m ≡ number_or_none calling.callee) (map typed_in calling.arguments.items)) at result }
+    ensures { Makes (called (function_numbered (scope_of v.now) calling.callee)) (IsCall (λ m. m ≡ number_or_none calling.callee) (map typed_in calling.arguments.items)) at result }
 {
-    let t = result_of(v, at, calling.callee, calling.arguments.as_slice())?;
+    let t = result_of(v, calling.callee)?;
     let n = calling.callee.unwrap_or(0);
     let typed = typed_of(alloc, calling.arguments)?;
     part_of(alloc, Typed::Call(head(at, t), n, typed), VALUE)
@@ -231,7 +224,7 @@ pub fn with_argument(calling: Calling, x: Part) -> Result<Calling, Fault>
 
 /// A call with one argument more, where both are there.
 pub fn extended(calling: Result<Calling, Fault>, x: Result<Part, Fault>) -> Result<Calling, Fault>
-    ensures { (v : Names) (t e : Tree) → Gathers v t calling → Judges v e x → Gathers v (With t e) result }
+    ensures { (v : Names) (n : ℕ) (t e : Tree) → Gathers v n t calling → IsArgument v t e x → Gathers v n (With t e) result }
 {
     match pair(calling, x) {
         Ok((calling, x)) => with_argument(calling, x),
@@ -249,15 +242,29 @@ pub fn unnamed(x: Result<Part, Fault>) -> Result<Option<u32>, Fault>
     }
 }
 
-/// A call without its arguments.
-pub fn begun(alloc: Global, callee: Result<Option<u32>, Fault>) -> Result<Calling, Fault>
-    ensures { (v : Names) (at : Place) (f : Tree) → Calls v f callee → Gathers v (Call at f) result }
+/// A call with so many arguments, without these.
+pub fn begun<'a, 'n>(
+    alloc: Global,
+    v: &Scope<'a, 'n>,
+    at: Place,
+    count: usize,
+    callee: Result<Option<u32>, Fault>,
+) -> Result<Calling, Fault>
+    ensures { (f : Tree) → Calls (scope_of v.now) f callee → Gathers (scope_of v.now) count (Call at f) result }
 {
     match callee {
-        Ok(callee) => Ok(Calling {
-            callee,
-            arguments: Vec::new(alloc),
-        }),
+        Ok(callee) => {
+            if is_counted(v, callee, count) {
+                return Ok(Calling {
+                    callee,
+                    arguments: Vec::new(alloc),
+                });
+            }
+            Err(Fault::Rule {
+                rule: 29,
+                at: at.at,
+            })
+        }
         Err(f) => Err(f),
     }
 }
@@ -269,7 +276,7 @@ pub fn at_call<'a, 'n>(
     at: Place,
     calling: Result<Calling, Fault>,
 ) -> Result<Part, Fault>
-    ensures { (f : Tree) (es : List Tree) → Gathers (scope_of v.now) (with_arguments (Call at f) es) calling → Judges (scope_of v.now) (with_arguments (Call at f) es) result }
+    ensures { (f : Tree) (es : List Tree) → Gathers (scope_of v.now) (length es) (with_arguments (Call at f) es) calling → Judges (scope_of v.now) (with_arguments (Call at f) es) result }
 {
     match calling {
         Ok(calling) => called(alloc, v, at, calling),

@@ -1,6 +1,5 @@
 // The judgement of expressions. It goes as deep as the tree is nested.
-ghost use Rattle.std.specs.Prelude.{◌≡◌};
-ghost use Rattle.c_lex.specs.declared.token.Place.{Place};
+ghost use Rattle.std.specs.Prelude.{◌≡◌, length};
 ghost use Rattle.c_expr.specs.Tree as tree;
 ghost use Rattle.c_expr.specs.Tree.{with_arguments};
 ghost use Rattle.c_typing.specs.Plain.{Plain};
@@ -10,7 +9,9 @@ ghost use Rattle.c_judge.specs.Bounds.{all_bounds, one_bound};
 ghost use Rattle.c_judge.specs.Calls.{Calls, Gathers};
 ghost use Rattle.c_judge.specs.Judges.{Judges, Denotes, scope_of};
 
-use crate::calls::{Calling, at_call, begun, extended, name_alone, named, unnamed};
+use crate::calls::{
+    Calling, at_call, begun, extended, name_alone, named, number_called, passed, unnamed,
+};
 use crate::fault::Fault;
 use crate::leaf::{leaf, spec_type};
 use crate::nodes::{
@@ -21,6 +22,7 @@ use crate::part::Part;
 use crate::place::place_of;
 use crate::scope::Scope;
 use c_expr::{Abstract, Expr, Node, TypeName};
+use c_lex::Place;
 use c_tree::CType;
 use std::alloc::Global;
 
@@ -33,7 +35,12 @@ pub fn judge<'a, 'n>(alloc: Global, v: &Scope<'a, 'n>, e: &'n Expr) -> Result<Pa
         Node::Leaf(at, kind, text) => leaf(alloc, v, *at, *kind, text),
         Node::Paren(at, a) => at_paren(alloc, *at, judge(alloc, v, a)),
         Node::Index(at, a, b) => at_index(alloc, v, *at, judge(alloc, v, a), judge(alloc, v, b)),
-        Node::Call(at, f, arguments) => at_call(alloc, v, *at, gathered(alloc, v, f, arguments)),
+        Node::Call(at, f, arguments) => at_call(
+            alloc,
+            v,
+            *at,
+            gathered(alloc, v, *at, f, arguments),
+        ),
         Node::Member(at, a, access, _, name) => at_member(
             alloc,
             v,
@@ -143,14 +150,20 @@ fn one_bound<'a, 'n>(
 fn gathered<'a, 'n>(
     alloc: Global,
     v: &Scope<'a, 'n>,
+    at: Place,
     f: &'n Expr,
     arguments: &'n [Expr],
 ) -> Result<Calling, Fault>
-    ensures { (at : Place) → Gathers (scope_of v.now) (with_arguments (tree.Call at f.now) arguments.now) result }
+    ensures { Gathers (scope_of v.now) (length arguments.now) (with_arguments (tree.Call at f.now) arguments.now) result }
 {
-    let mut calling = begun(alloc, callee(alloc, v, f));
-    for argument in arguments {
-        calling = extended(calling, judge(alloc, v, argument));
+    let n = number_called(v, f);
+    let mut calling = begun(alloc, v, at, arguments.len(), callee(alloc, v, f));
+    let mut i = 0;
+    'gathering: while i < arguments.len() {
+        let e = &arguments[i];
+        let x = passed(v, n, i, place_of(e).at, judge(alloc, v, e));
+        calling = extended(calling, x);
+        i += 1;
     }
     calling
 }

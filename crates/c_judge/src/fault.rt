@@ -53,7 +53,8 @@ impl From<AllocFailed<Typed>> for Fault {
 
     ghost from_gives = { λ _ e. e ≡ NoMemory };
 
-    fn from(_: AllocFailed<Typed>) -> Self {
+    fn from(failed: AllocFailed<Typed>) -> Self {
+        drop(failed);
         Fault::NoMemory
     }
 }
@@ -63,7 +64,8 @@ impl From<AllocFailed<Part>> for Fault {
 
     ghost from_gives = { λ _ e. e ≡ NoMemory };
 
-    fn from(_: AllocFailed<Part>) -> Self {
+    fn from(failed: AllocFailed<Part>) -> Self {
+        drop(failed);
         Fault::NoMemory
     }
 }

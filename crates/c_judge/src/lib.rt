@@ -1,6 +1,7 @@
 //! Typing of expressions of C (C90 6.3): what the rules make of operands, and what constant expressions make of numbers.
 #![tactic(auto)]
 
+mod beside;
 mod calls;
 mod check;
 mod expr;

@@ -15,6 +15,9 @@ ghost use Rattle.c_judge.specs.Judges.{Judges, Denotes, Makes, scope_of};
 ghost use Rattle.c_judge.specs.Elaboration.{IsChoice};
 ghost use Rattle.c_judge.specs.Parts.{judged_of};
 
+use crate::beside::{
+    binary_alone, branch_alone, casts_alone, choice_alone, indices_alone, refused,
+};
 use crate::fault::Fault;
 use crate::forms::{after, cast, choice, index, member, paren, size_of_type};
 use crate::limits::{bounded, pointers};
@@ -112,7 +115,8 @@ pub fn at_index<'a, 'n>(
 ) -> Result<Part, Fault>
     ensures { (a b : Tree) → Judges (scope_of v.now) a x → Judges (scope_of v.now) b y → Judges (scope_of v.now) (tree.Index at a b) result }
 {
-    match pair(x, y) {
+    let rule = indices_alone(v.defs.defs(), &x, &y);
+    match refused(rule, at.at, pair(x, y)) {
         Ok((x, y)) => index(alloc, v.defs.defs(), at, x, y),
         Err(f) => Err(f),
     }
@@ -129,7 +133,8 @@ pub fn at_binary<'a, 'n>(
 ) -> Result<Part, Fault>
     ensures { (a b : Tree) → Judges (scope_of v.now) a x → Judges (scope_of v.now) b y → Judges (scope_of v.now) (tree.Binary at op a b) result }
 {
-    match pair(x, y) {
+    let rule = binary_alone(v.defs.defs(), op, &x, &y);
+    match refused(rule, at.at, pair(x, y)) {
         Ok((x, y)) => joined(alloc, v.defs.defs(), at, op, x, y),
         Err(f) => Err(f),
     }
@@ -144,7 +149,8 @@ pub fn at_cast(
 ) -> Result<Part, Fault>
     ensures { (v : Names) (s : Spec) (d a : Tree) → Denotes (declared v at.at d (Known (spec_type v s))) t → Judges v a x → Judges v (tree.Cast at s d a) result }
 {
-    match pair(t, x) {
+    let rule = casts_alone(&t, &x);
+    match refused(rule, at.at, pair(t, x)) {
         Ok((t, x)) => cast(alloc, at, t, x),
         Err(f) => Err(f),
     }
@@ -160,17 +166,20 @@ pub fn at_choice(
 ) -> Result<Part, Fault>
     ensures { (v : Names) (c a b : Tree) → Judges v c z → Judges v a x → Judges v b y → Judges v (tree.Choice at c a b) result }
 {
-    match pair(pair(z, x), y) {
-        Ok((first, y)) => chosen(alloc, at, first, y),
+    let rule = branch_alone(&x, &y);
+    let branches = refused(rule, at.at, pair(x, y));
+    let rule = choice_alone(&z, &branches);
+    match refused(rule, at.at, pair(z, branches)) {
+        Ok((z, branches)) => chosen(alloc, at, z, branches),
         Err(f) => Err(f),
     }
 }
 
 /// The same of parts that are there.
-fn chosen(alloc: Global, at: Place, first: (Part, Part), y: Part) -> Result<Part, Fault>
-    ensures { Makes (chosen_of at.at (judged_of first.0) (judged_of first.1) (judged_of y)) (IsChoice first.0.typed.value first.1.typed.value y.typed.value) at result }
+fn chosen(alloc: Global, at: Place, z: Part, branches: (Part, Part)) -> Result<Part, Fault>
+    ensures { Makes (chosen_of at.at (judged_of z) (judged_of branches.0) (judged_of branches.1)) (IsChoice z.typed.value branches.0.typed.value branches.1.typed.value) at result }
 {
-    let (z, x) = first;
+    let (x, y) = branches;
     choice(alloc, at, z, x, y)
 }
 

@@ -1,14 +1,15 @@
 // Operators on checked parts: which node they make, and what is known of it.
-ghost use Rattle.std.specs.Prelude.{◌≡◌, [], Some, None};
+ghost use Rattle.std.specs.Prelude.{◌≡◌, [], IfOk, Some, None};
 ghost use Rattle.c_symbol.specs.declared.symbol.BinaryOp.TheVariants as written;
 ghost use Rattle.c_typing.specs.Plain.{plain, value_type};
-ghost use Rattle.c_judge.specs.Judgement.{prefixed, joined, step_of, compound_of, unary, operation, assigned, rule_of, sized};
+ghost use Rattle.c_judge.specs.Judgement.{prefixed, joined, step_of, compound_of, unary, operation, assigned, compound_rule, rule_of, sized};
 ghost use Rattle.c_judge.specs.Elaboration.{site_of, IsUnary, IsPrefixed, IsAssigned, IsOperation, IsJoined};
 ghost use Rattle.c_symbol.specs.declared.symbol.PrefixOp.TheVariants as prefix;
 ghost use Rattle.c_judge.specs.Parts.{judged_of, value_of};
 ghost use Rattle.c_judge.specs.Values as value;
 ghost use Rattle.c_judge.specs.Judges.{IsPart, Makes};
 
+use crate::beside::is_stored_by;
 use crate::fault::Fault;
 use crate::limits::size_within;
 use crate::part::{Constant, Facts, Part};
@@ -21,7 +22,7 @@ use crate::values::{both, combined, either, turned};
 use c_lex::Place;
 use c_symbol::{AssignOp, BinaryOp as Written, PrefixOp, Step};
 use c_tree::{BinaryOp, CType, Head, Site, StepOp, StructDef, Typed, UnaryOp};
-use std::alloc::Global;
+use std::alloc::{AllocError, Global};
 
 /// What is known of an expression that designates an object.
 pub const OBJECT: Facts = Facts {
@@ -270,6 +271,19 @@ fn assign(alloc: Global, at: Place, x: Part, y: Part) -> Result<Part, Fault>
     )
 }
 
+/// The rule that a compound assignment breaks: that on its left operand, else that of the operator, else that on the assignment of what is to be stored.
+fn compound_rule(defs: &[StructDef], op: BinaryOp, x: &Part, y: &Part) -> Result<u8, AllocError>
+    ensures { IfOk result (λ r. r ≡ compound_rule defs.now op (judged_of x.now) (judged_of y.now)) }
+{
+    if !is_stored_by(op, x) {
+        return Ok(37);
+    }
+    match binary_type(defs, op, x, y)? {
+        Some(_) => Ok(36),
+        None => Ok(rule_of(op)),
+    }
+}
+
 /// A compound assignment (C90 6.3.16.2).
 #[tactic(auto, using(crate::proofs::Wholly::makes_part))]
 fn compound(
@@ -283,10 +297,8 @@ fn compound(
     ensures { Makes (assigned defs.now at.at (Some op) (judged_of x) (judged_of y)) (IsAssigned (Some op) x.typed.value y.typed.value) at result }
 {
     let Some(t) = compound_type(defs, op, &x, type_of(&y))? else {
-        return Err(Fault::Rule {
-            rule: 37,
-            at: at.at,
-        });
+        let rule = compound_rule(defs, op, &x, &y)?;
+        return Err(Fault::Rule { rule, at: at.at });
     };
     part_of(
         alloc,
@@ -296,7 +308,7 @@ fn compound(
 }
 
 /// The operator of a compound assignment.
-fn compound_of(op: AssignOp) -> Option<BinaryOp>
+pub fn compound_of(op: AssignOp) -> Option<BinaryOp>
     ensures { result ≡ compound_of op }
 {
     match op {
@@ -332,7 +344,7 @@ fn assigned(
 }
 
 /// The number of the rule of an operator: 30 `* / % & ^ |`, 31 `+`, 32 `-`, 33 shifts, 34 order, 35 equality.
-fn rule_of(op: BinaryOp) -> u8
+pub fn rule_of(op: BinaryOp) -> u8
     ensures { result ≡ rule_of op }
 {
     match op {

@@ -221,7 +221,7 @@ fn is_nulled(s: &CType, y: &Part) -> bool
 }
 
 /// Equality takes integers, two pointers of one type, or a pointer and a null constant (C90 6.3.9).
-fn equality_type(x: &Part, y: &Part) -> Option<CType>
+pub fn equality_type(x: &Part, y: &Part) -> Option<CType>
     ensures { option_map plain result ≡ rule.equality_type (operand_of x.now) (operand_of y.now) }
 {
     let s = type_of(x);

@@ -1,8 +1,7 @@
 use Rattle.std.proofs.Common.{◌≡◌, ◌+◌, ◌*◌, ◌++◌, map, drop}
 use Rattle.c_expr.specs.Tree.{depth}
-use Rattle.c_body.specs.Calls.{called}
+use Rattle.c_body.specs.Calls.{called, of_all, of_part}
 use Rattle.c_scope.specs.Here.{environment_of}
-use Rattle.c_body.specs.Passing.{of_all, of_part}
 use Rattle.c_mentions.specs.Tags.{now}
 use Rattle.c_mentions.proofs.Measures.{argument_depths, bound_depths, bound_depth}
 use Rattle.c_body.proofs.calls.+calling.Given as goal

@@ -3,6 +3,7 @@ use Rattle.std.proofs.lemmas.Grind.{common_steps}
 use Rattle.std.proofs.lemmas.List.{length-map}
 use Rattle.c_typing.specs.Accepted.{numbers}
 use Rattle.c_file.specs.Files.{called_all}
+use Rattle.c_scope.specs.Here.{environment_of}
 use Rattle.c_file.specs.Names.{defining}
 use Rattle.c_file.specs.Progress.{so_far, points_of}
 use Rattle.c_file.specs.Standing.{called}
@@ -23,7 +24,7 @@ returns c =
     let total = ap length points ∙ (points_count (length s.functions.items) s.points.items (map stop_of x.stops.items) ∙ ap (λ n. length s.points.items + n) (length-map x.stops.items stop_of)) in
     let strings = ap (map now) (c.in_ok-extend_from_slice.ensures.items ∙ ap (λ l. s.strings.items ++ l) c.deref-3.ensures.value) ∙ map_both now s.strings.items x.strings.items in
     let definitions = ap (map defining) c.in_ok-push.ensures.items ∙ map_both defining s.definitions.items _ in
-    let calls = c.in_ok-add_calls.ensures ∙ ap (λ l. map called s.calls.items ++ called_all unit (map now l)) c.deref-2.ensures.value in
+    let calls = c.in_ok-add_calls.ensures ∙ ap (λ l. map called s.calls.items ++ called_all unit (environment_of s.here).visible (map now l)) c.deref-2.ensures.value in
     record {
       row = record {
         name = c.in_ok-name.name;

@@ -1,5 +1,5 @@
 use Rattle.std.proofs.Common.{rules, ◌≡◌, ◌<◌, ◌+◌, ◌-◌, ◌∙◌, ap, sym, subst, suc, take, drop, length, [], ◌∷◌, ◌++◌, None, arith}
-use Rattle.std.proofs.lemmas.List.{take_more, take_all}
+use Rattle.std.proofs.lemmas.List.{take_more, take_all, length-take-le}
 use Rattle.c_expr.specs.Tree.{Call, Member, behind_stars, with_arguments}
 use Rattle.c_expr.specs.View.{tree_of}
 use Rattle.c_typing.specs.Plain.{plain}
@@ -9,7 +9,7 @@ use Rattle.c_judge.specs.Judges.{Gives, Judges, scope_of}
 use Rattle.c_lex.specs.declared.token.Place.{Place}
 use Rattle.c_judge.proofs.Bounds.{unbounded_denotes, bounds_more, declared_without, declared_with}
 use Rattle.c_judge.proofs.Depths.{depth_view, depth_call, depth_item, bound_item}
-use Rattle.c_judge.proofs.Called.{named_calls, dropped_calls}
+use Rattle.c_judge.proofs.Called.{named_calls, dropped_calls, argument_is}
 use Rattle.c_judge.proofs.Gathered.{one_more}
 use Rattle.c_judge.proofs.expr.+judging.Goals as goal
 
@@ -30,23 +30,35 @@ one_bound-returns-in-Some t c = λ j h.
     let v = scope_of c.args.v.now in
     subst (λ b. Gives plain (one_bound v c.args.at b j) c.at_bound.result) (sym c.in-Some.is) (c.at_bound.ensures j c.in-Some.e (ap (λ (q : Place). q.at) c.place_of.ensures) h c.judge.ensures)
 
-pub gathered-loop-argument-init : goal.gathered-loop-argument-init
-gathered-loop-argument-init t c = λ at. c.begun-calling.ensures (scope_of c.args.v.now) at c.args.f.now c.callee.ensures
+pub gathered-gathering-init : goal.gathered-gathering-init
+gathered-gathering-init t c = record {
+  inside = omega arith;
+  gathers = c.begun-calling.ensures c.args.f.now c.callee.ensures;
+}
 
-pub gathered-loop-argument-preserved : goal.gathered-loop-argument-preserved
-gathered-loop-argument-preserved t c = λ at.
+pub gathered-gathering-preserved : goal.gathered-gathering-preserved
+gathered-gathering-preserved t c =
     let v = scope_of c.args.v.now in
-    let i = c.loop-argument.argument-index in
+    let i = c.gathering.i in
     let es = c.args.arguments.now in
-    let e = c.argument-item.result in
-    let more : take (i + 1) es ≡ take i es ++ e ∷ [] = take_more es i e c.loop-argument-test.true ∙ ap (λ x. take i es ++ x ∷ []) (sym c.argument-item.is) in
-    subst (λ s. Gathers v s c.extended-calling.result) (sym (ap (with_arguments (Call at c.args.f.now)) more ∙ one_more (Call at c.args.f.now) (take i es) e))
-    (c.extended-calling.ensures v (with_arguments (Call at c.args.f.now) (take i es)) e (c.loop-argument.invariant at) c.judge.ensures)
+    let e = c.index-arguments-i.result in
+    let at = c.args.at in
+    let f = c.args.f.now in
+    let before = take i es in
+    let inside : i < length es = c.gathering-test.true in
+    let more : take (i + 1) es ≡ before ++ e ∷ [] = take_more es i e inside ∙ ap (λ x. before ++ x ∷ []) (sym c.index-arguments-i.is) in
+    let count : i ≡ length before = sym (length-take-le i es (omega (arith, inside))) in
+    let argument = argument_is v at f before e c.number_called-n.result i c.place_of.result.at c.judge.result c.passed-x.result c.number_called-n.ensures count (ap (λ (q : Place). q.at) c.place_of.ensures) c.judge.ensures c.passed-x.ensures in
+    record {
+      inside = omega (arith, inside);
+      gathers = subst (λ s. Gathers v (length es) s c.extended-calling.result) (sym (ap (with_arguments (Call at f)) more ∙ one_more (Call at f) before e))
+          (c.extended-calling.ensures v (length es) (with_arguments (Call at f) before) e c.gathering.invariant.gathers argument);
+    }
 
 pub gathered-returns : goal.gathered-returns
-gathered-returns t c = λ at.
+gathered-returns t c =
     let es = c.args.arguments.now in
-    subst (λ xs. Gathers (scope_of c.args.v.now) (with_arguments (Call at c.args.f.now) xs) c.loop-argument.calling) (take_all c.loop-argument.argument-index es (omega (arith, c.loop-argument-test.false))) (c.loop-argument.invariant at)
+    subst (λ xs. Gathers (scope_of c.args.v.now) (length es) (with_arguments (Call c.args.at c.args.f.now) xs) c.gathering.calling) (take_all c.gathering.i es (omega (arith, c.gathering-test.false))) c.gathering.invariant.gathers
 
 pub within_bounds-bounding-preserved : goal.within_bounds-bounding-preserved
 within_bounds-bounding-preserved t c =
@@ -86,7 +98,7 @@ declared-within_bounds-t-requires t c =
 
 pub gathered-judge-requires : goal.gathered-judge-requires
 gathered-judge-requires t c =
-    let less = depth_item c.args.arguments.now c.loop-argument.argument-index c.argument-item.result c.loop-argument-test.true c.argument-item.is in
+    let less = depth_item c.args.arguments.now c.gathering.i c.index-arguments-i.result c.gathering-test.true c.index-arguments-i.is in
     (first_of (omega (arith, less, c.decreases), search (rules, less), grind (arith, less, c.decreases)), tt)
 
 pub judge-gathered-requires : goal.judge-gathered-requires
@@ -124,8 +136,8 @@ judge-returns-in-Call t c =
     let view = ap tree_of (sym c.in-Call.is) ∙ c.e.view_is in
     let f = c.in-Call.f.value in
     let at = c.in-Call.at in
-    let gathers = subst (λ g. Gathers v (with_arguments (Call at g) c.deref-in-Call-2.result.now) c.gathered.result) c.deref-in-Call.ensures (c.gathered.ensures at) in
-    let all = subst (λ es. Gathers v (with_arguments (Call at f) es) c.gathered.result) c.deref-in-Call-2.ensures.value gathers in
+    let gathers = subst (λ g. Gathers v (length c.deref-in-Call-2.result.now) (with_arguments (Call at g) c.deref-in-Call-2.result.now) c.gathered.result) c.deref-in-Call.ensures c.gathered.ensures in
+    let all = subst (λ es. Gathers v (length es) (with_arguments (Call at f) es) c.gathered.result) c.deref-in-Call-2.ensures.value gathers in
     subst (λ e. Judges v e c.at_call.result) view (c.at_call.ensures f c.in-Call.arguments.items all)
 
 pub judge-returns-in-Member : goal.judge-returns-in-Member

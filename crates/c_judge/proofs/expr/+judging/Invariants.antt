@@ -1,5 +1,4 @@
-use Rattle.std.proofs.Common.{◌≤◌, ◌*◌, ◌+◌, take, drop, length}
-use Rattle.c_lex.specs.declared.token.Place.{Place}
+use Rattle.std.proofs.Common.{◌≤◌, ◌*◌, ◌+◌, ◌-◌, take, drop, length}
 use Rattle.c_expr.specs.Tree.{Call, depth, with_arguments}
 use Rattle.c_typing.specs.Plain.{Plain}
 use Rattle.c_judge.specs.Answers.{Answer}
@@ -30,8 +29,14 @@ decreases-one_bound l = 8 * bound_depth l.bound.now + 1
 abbrev pub decreases-callee : goal.decreases-callee
 decreases-callee l = 8 * depth l.f.now + 5
 
-abbrev pub invariant-gathered-loop-argument : goal.invariant-gathered-loop-argument
-invariant-gathered-loop-argument l = (at : Place) → Gathers (scope_of l.v) (with_arguments (Call at l.f) (take l.argument-index l.arguments)) l.calling
+abbrev pub invariant-gathered-gathering : goal.invariant-gathered-gathering
+invariant-gathered-gathering l = record {
+  inside : l.i ≤ length l.arguments;
+  gathers : Gathers (scope_of l.v) (length l.arguments) (with_arguments (Call l.fn.at l.f) (take l.i l.arguments)) l.calling;
+}
+
+abbrev pub decreases-gathered-gathering : goal.decreases-gathered-gathering
+decreases-gathered-gathering l = length l.arguments - l.i
 
 abbrev pub invariant-within_bounds-bounding : goal.invariant-within_bounds-bounding
 invariant-within_bounds-bounding l = record {

@@ -1,7 +1,7 @@
 use Rattle.std.proofs.Common.{refl, sym, ap, ◌∙◌, slice_get}
 use Rattle.std.proofs.lemmas.Option.{slice_get_read, slice_get_past}
 use Rattle.c_body.proofs.Calling.{callable_row, function_at}
-use Rattle.c_body.proofs.calls.is_function_at.Goals as goal
+use Rattle.c_body.proofs.calls.has_to_be_defined_at.Goals as goal
 
 pub returns-in-None : goal.returns-in-None
 returns-in-None c =
