@@ -1,18 +1,18 @@
 -- A message and its reply.
-use Rattle.std.proofs.Common.{◌≡◌, ◌≢◌, ◌∙◌, refl, sym, ap, subst, ℕ, zero, suc, ◌+◌, ◌≤◌, ◌<◌, Bool, true, false, List, [], ◌∷◌, ◌++◌, length, Option, Some, None, Result, Ok, Err, IfOk, arith}
+use Rattle.std.proofs.Common.{◌≡◌, ◌≢◌, ◌∙◌, refl, sym, subst, ℕ, ◌≤◌, ◌<◌, Bool, true, false, List, [], ◌++◌, length, Option, Some, Result, Ok, Err, IfOk, arith}
 use Rattle.std.proofs.lemmas.Grind.{common_steps}
 use Rattle.nub_wire.specs.declared.message.Msg.{Msg}
 use Rattle.nub_wire.specs.declared.message.Msg.TheVariants as msg
 use Rattle.nub_wire.specs.declared.link.Side.{Side}
 use Rattle.nub_wire.specs.declared.reply.Heard.{Heard}
-use Rattle.nub_wire.specs.declared.reply.Heard.TheVariants.{Ends, GoesOn, Bad}
+use Rattle.nub_wire.specs.declared.reply.Heard.TheVariants.{Ends, Bad}
 use Rattle.nub_wire.specs.Spelling.{frame_of, MsgFits}
 use Rattle.nub_wire.specs.Replies.{ends_reply, heard, ending}
 use Rattle.nub_wire.specs.Nub.{Host}
-use Rattle.nub_wire.specs.Delivery.{Conduct, LinkSide, World, side_of, on_side, with_sent, Receives}
-use Rattle.nub_wire.specs.Calls.{Sends, SendsNone, Hears, Owes, sent_whole, Asks, BadReply, takes_none, no_reply}
+use Rattle.nub_wire.specs.Delivery.{Conduct, LinkSide, World, side_of, on_side, with_sent}
+use Rattle.nub_wire.specs.Calls.{Sends, SendsNone, Owes, sent_whole, BadReply, takes_none, no_reply}
 use Rattle.nub_wire.specs.Rest.{IsIdle}
-use Rattle.nub_wire.specs.Exchange.{RepliesAtOnce, HearsReply, Exchanged, got_on}
+use Rattle.nub_wire.specs.Exchange.{RepliesAtOnce, got_on}
 use Rattle.nub_wire.specs.Told.{took_by}
 use Rattle.nub_wire.proofs.LawsOfStreams.{one_message_lem}
 use Rattle.nub_wire.proofs.Streams.{frame_short}
@@ -20,7 +20,7 @@ use Rattle.nub_wire.proofs.Told.{no_bad_reply}
 use Rattle.nub_wire.proofs.Worlds.{exchange_law}
 use Rattle.wire_talk.specs.declared.fault.TalkFault.{TalkFault}
 use Rattle.wire_talk.specs.declared.fault.TalkFault.TheVariants as fault
-use Rattle.wire_talk.specs.Talk.{IsShort, CountsTalk, owing, SendsAll, HeardOn, HeardBadly, Reads, ReadsTold, Judged, HearsNext, HearsNextTold, Talks, Came, TellsReply}
+use Rattle.wire_talk.specs.Talk.{IsShort, CountsTalk, owing, SendsAll, HeardOn, Reads, ReadsTold, Judged, HearsNext, HearsNextTold, Talks, Came, TellsReply}
 use Rattle.wire_talk.proofs.Sending.{sent_in_world}
 
 append_nil : (xs : List ℕ) → xs ++ [] ≡ xs

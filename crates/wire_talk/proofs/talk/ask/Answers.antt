@@ -1,4 +1,4 @@
-use Rattle.std.proofs.Common.{◌≡◌, ◌∙◌, sym, ap, subst, refl, ℕ, Some, List, length, ◌<◌, arith}
+use Rattle.std.proofs.Common.{◌≡◌, ◌∙◌, ap, subst, ℕ, Some, List, length, ◌<◌, arith}
 use Rattle.nub_wire.specs.Delivery.{World, LinkSide, on_side, with_sent}
 use Rattle.nub_wire.specs.Spelling.{frame_of}
 use Rattle.nub_wire.specs.Calls.{Sends, took_on, gave_on}

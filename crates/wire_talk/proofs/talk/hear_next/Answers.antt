@@ -1,4 +1,3 @@
-use Rattle.std.proofs.Common.{◌≡◌, ◌∙◌, ℕ, Some}
 use Rattle.nub_wire.specs.Delivery.{World}
 use Rattle.nub_wire.specs.Calls.{took_on, gave_on}
 use Rattle.wire_talk.proofs.Exchanging.{judged_counts, judged_fits, next_of, next_none, next_told, next_none_told}
