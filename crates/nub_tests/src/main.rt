@@ -3,9 +3,11 @@
 
 mod links;
 mod messages;
+mod sessions;
 
 use links::Links;
 use messages::append_message;
+use sessions::Sessions;
 use std::alloc::{AllocError, Global};
 use std::io;
 use std::process::ExitCode;
@@ -29,11 +31,12 @@ fn append_bytes(alloc: Global, bytes: &[u8], out: &mut Vec<u8>) -> Result<(), Al
     Ok(())
 }
 
-/// The links that the last rows made.
+/// The links and the images that the last rows made.
 #[derive(Drop)]
 struct Nubs {
     alloc: Global,
     links: Links,
+    sessions: Sessions,
 }
 
 impl Subject for Nubs {
@@ -52,6 +55,7 @@ impl Subject for Nubs {
             "image" | "faulty" | "answer" | "times" | "send" | "receive" => {
                 self.links.answer(kind, &pieces, out)
             }
+            "images" | "alike" => self.sessions.answer(kind, &pieces, out),
             _ => append_message(alloc, kind, &pieces, out),
         }
     }
@@ -60,5 +64,13 @@ impl Subject for Nubs {
 fn main(rt: HostRuntime) -> io::Result<ExitCode> {
     let alloc = rt.alloc();
     let links = Links::new(alloc);
-    run_tables(&rt, &mut Nubs { alloc, links })
+    let sessions = Sessions::new(alloc);
+    run_tables(
+        &rt,
+        &mut Nubs {
+            alloc,
+            links,
+            sessions,
+        },
+    )
 }

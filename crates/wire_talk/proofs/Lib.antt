@@ -1,2 +1,4 @@
+pub mod Exchanging
 pub mod Reading
+pub mod Resumptions
 pub mod Sending

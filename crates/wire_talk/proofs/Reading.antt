@@ -1,5 +1,5 @@
 -- A frame that is read.
-use Rattle.std.proofs.Common.{◌≡◌, ◌≢◌, ◌∙◌, refl, sym, ap, subst, ℕ, zero, suc, ◌+◌, ◌-◌, ◌≤◌, ◌<◌, min, nat_eq, Bool, true, false, List, [], ◌∷◌, ◌++◌, length, take, drop, Option, Some, None, arith, length-append}
+use Rattle.std.proofs.Common.{◌≡◌, ◌≢◌, ◌∙◌, refl, sym, ap, subst, ℕ, suc, ◌-◌, ◌≤◌, ◌<◌, nat_eq, Bool, true, false, List, [], ◌∷◌, ◌++◌, length, take, Option, Some, None, arith, length-append}
 use Rattle.std.proofs.lemmas.Grind.{common_steps}
 use Rattle.std.proofs.lemmas.Bool.Decides.{nat_tests}
 use Rattle.nub_wire.specs.declared.message.Msg.{Msg}
@@ -8,9 +8,9 @@ use Rattle.nub_wire.specs.declared.link.Side.{Side}
 use Rattle.nub_wire.specs.declared.feeder.Fed.{Fed}
 use Rattle.nub_wire.specs.declared.feeder.Fed.TheVariants as fed
 use Rattle.nub_wire.specs.Spelling.{frame_of, MsgFits}
-use Rattle.nub_wire.specs.Feeding.{Feeding, IsPartial, BeginsNoFrame, EndsNoSooner, Feeds, FeedsGood, StaysBad, by_state, Waits, Gives, Refuses}
+use Rattle.nub_wire.specs.Feeding.{Feeding, IsPartial, BeginsNoFrame, EndsNoSooner, Feeds, FeedsGood, StaysBad, by_state}
 use Rattle.nub_wire.specs.Delivery.{Conduct, World, OnWorlds, Receives}
-use Rattle.nub_wire.specs.Calls.{Hears, none_heard, hears, Owes, comes, BadReply, silent, no_frame}
+use Rattle.nub_wire.specs.Calls.{none_heard, hears, comes, BadReply, silent, no_frame}
 use Rattle.nub_wire.specs.Exchange.{got_on}
 use Rattle.nub_wire.specs.Told.{took_by}
 use Rattle.nub_wire.proofs.Streams.{frame_short}

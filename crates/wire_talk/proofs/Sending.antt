@@ -1,8 +1,7 @@
 -- A frame that is sent.
-use Rattle.std.proofs.Common.{◌≡◌, ◌≢◌, ◌∙◌, ◌⊎◌, inl, inr, refl, sym, ap, subst, ℕ, zero, suc, ◌+◌, ◌-◌, ◌≤◌, ◌<◌, min, List, [], ◌∷◌, ◌++◌, length, take, drop, Option, Some, None, option_map, IfSome, arith}
+use Rattle.std.proofs.Common.{◌≡◌, ◌≢◌, ◌∙◌, ◌⊎◌, inl, inr, refl, sym, ap, subst, ℕ, zero, suc, ◌+◌, ◌-◌, ◌≤◌, ◌<◌, List, [], ◌∷◌, ◌++◌, length, take, drop, Option, Some, None, option_map, IfSome, arith}
 use Rattle.std.proofs.lemmas.Grind.{common_steps}
 use Rattle.nub_wire.specs.declared.link.Side.{Side}
-use Rattle.nub_wire.specs.declared.link.Side.TheVariants.{First, Second}
 use Rattle.nub_wire.specs.Delivery.{LinkSide, World, side_of, on_side, with_sent, fitting}
 use Rattle.nub_wire.specs.Calls.{Sends, none_sent, sends, SendsNone}
 use Rattle.nub_wire.specs.Told.{took_by}

@@ -13,7 +13,7 @@ use ldb_edge::Failed;
 use nub_wire::{Fed, Feeder, Heard, Link, Msg, Side, encode, hear};
 
 /// Sends a whole frame.
-fn send_all<L: Link>(link: &mut L, side: Side, frame: &[u8]) -> Result<(), TalkFault>
+pub fn send_all<L: Link>(link: &mut L, side: Side, frame: &[u8]) -> Result<(), TalkFault>
     requires some { 0 < length frame.now }
     requires short { length frame.now ≤ 4096 }
     ensures calls { SendsAll (took_on L.took side) frame.now link.old result link.new }
@@ -108,7 +108,7 @@ fn judged(asked: &Msg, printed: u64, reply: Msg) -> Result<Msg, TalkFault>
 }
 
 /// Hears the next frame of the reply to `asked`, of which `printed` bytes of output came.
-fn hear_next<L: Link>(
+pub fn hear_next<L: Link>(
     link: &mut L,
     side: Side,
     asked: &Msg,

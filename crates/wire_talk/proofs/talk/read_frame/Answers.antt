@@ -1,12 +1,11 @@
-use Rattle.std.proofs.Common.{◌≡◌, ◌∙◌, sym, ap, subst, refl, ℕ, suc, Some, List, [], ◌++◌, length, ◌<◌, ◌≤◌, ◌+◌, arith, length-append}
+use Rattle.std.proofs.Common.{◌≡◌, ◌∙◌, sym, ap, subst, refl, ℕ, List, [], ◌++◌, length, ◌<◌, ◌≤◌, arith, length-append}
 use Rattle.nub_wire.specs.Delivery.{World}
-use Rattle.nub_wire.specs.Spelling.{frame_of}
-use Rattle.nub_wire.specs.Feeding.{IsPartial, EndsNoSooner}
+use Rattle.nub_wire.specs.Feeding.{IsPartial}
 use Rattle.nub_wire.specs.Calls.{took_on, gave_on}
 use Rattle.nub_wire.specs.Exchange.{got_on}
 use Rattle.nub_wire.specs.Told.{took_by}
-use Rattle.wire_talk.specs.Talk.{HeardOn, HeardBadly}
-use Rattle.wire_talk.proofs.Reading.{ToldOn, partial_nil, partial_short, heard_nothing, heard_more, heard_silent, heard_no_frame, told_more, told_silent, not_yet, whole, none, nothing_in, joined_is}
+use Rattle.wire_talk.specs.Talk.{HeardOn}
+use Rattle.wire_talk.proofs.Reading.{partial_nil, partial_short, heard_nothing, heard_more, heard_silent, heard_no_frame, told_more, told_silent, not_yet, whole, none, nothing_in, joined_is}
 use Rattle.wire_talk.proofs.talk.read_frame.Goals as goal
 
 pub pieces-init : goal.pieces-init

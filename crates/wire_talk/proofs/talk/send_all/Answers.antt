@@ -1,7 +1,7 @@
-use Rattle.std.proofs.Common.{◌≡◌, ◌∙◌, ℕ, Some, inl, refl, [], arith, drop, rules}
-use Rattle.nub_wire.specs.Delivery.{World, LinkSide, side_of, fitting}
+use Rattle.std.proofs.Common.{◌∙◌, inl, refl, arith}
+use Rattle.nub_wire.specs.Delivery.{World, LinkSide}
 use Rattle.nub_wire.specs.Calls.{took_on, none_sent}
-use Rattle.wire_talk.proofs.Sending.{from_bound, sent_more, sent_all, sent_none, room_of, told_more, told_none, told_all}
+use Rattle.wire_talk.proofs.Sending.{from_bound, sent_more, room_of, told_more}
 use Rattle.wire_talk.proofs.talk.send_all.Goals as goal
 
 pub loop-done-init : goal.loop-done-init

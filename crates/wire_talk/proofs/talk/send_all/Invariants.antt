@@ -1,4 +1,4 @@
-use Rattle.std.proofs.Common.{length, ◌-◌, ◌≡◌, ◌≤◌, ◌⊎◌, [], Some, ℕ, take}
+use Rattle.std.proofs.Common.{length, ◌-◌, ◌≡◌, ◌≤◌, [], Some, take}
 use Rattle.nub_wire.specs.Delivery.{World, LinkSide, side_of}
 use Rattle.nub_wire.specs.Calls.{Sends, took_on}
 use Rattle.wire_talk.proofs.Sending.{SentSoFar}
