@@ -17,15 +17,19 @@ use Rattle.c_source.specs.Control.{outermost_of}
 use Rattle.slot_ir.specs.declared.code.Access.{Access}
 use Rattle.slot_ir.specs.declared.code.Access.TheVariants as access
 use Rattle.slot_ir.specs.declared.code.SlotFunction.{SlotFunction}
+use Rattle.slot_ir.specs.declared.code.SlotStruct.{SlotStruct}
+use Rattle.c_tree.specs.declared.types.StructDef.{StructDef}
+use Rattle.std.proofs.lemmas.List.{length-map}
 use Rattle.slot_ir.specs.declared.code.SlotOp.{SlotOp}
 use Rattle.slot_ir.specs.declared.code.SlotOp.TheVariants as op
-use Rattle.slot_ir.specs.WellFormed.{weight_of, weight, function_weight, weight_in}
+use Rattle.slot_ir.specs.WellFormed.{weight_of, weight, function_weight, struct_weight, weight_in}
 use Rattle.slot_gen.specs.Expressions.{access_of, converting, cast_code, expr_code, unless_register, register_of, if_register, write_at, choice_code}
 use Rattle.slot_gen.specs.Statements.{Around, Target, nowhere, stmt_code, stmts_code, block_code, else_code, body_code, body_targets, body_defaults, row_targets, targets_at, constants_of, first_target, zeros_code, part_code, init_code, inits_code, test_code, loop_test, loop_body, loop_code, in_loop, in_switch, switch_code, seek_code, body_place, end_place, function_code, zero_code}
 use Rattle.slot_gen.specs.Tokens.{tokens_of, part_tokens, init_tokens, declared_tokens, stmt_tokens, stmts_tokens, else_tokens}
 use Rattle.slot_ir.specs.declared.code.SlotCode.{SlotCode}
-use Rattle.slot_formed.specs.Code.{AreFunctionRows, IsProgramCode}
-use Rattle.slot_formed.specs.Tokens.{function_tokens, program_tokens}
+use Rattle.slot_formed.specs.Code.{struct_row, struct_rows, AreFunctionRows, IsProgramCode}
+use Rattle.slot_gen.specs.Rows.{member_of}
+use Rattle.slot_formed.specs.Tokens.{function_tokens, struct_tokens, program_tokens}
 use Rattle.slot_formed.proofs.Lists.{sum_more}
 use Rattle.slot_formed.proofs.Stmts.{block_stmts}
 
@@ -38,7 +42,7 @@ cast_few d access.UnsignedHalf = omega arith
 cast_few d access.Pointer = omega arith
 
 two : (a b : List SlotOp) → weight (a ++ b) ≡ weight a + weight b
-two [] b = refl
+two [] b = omega arith
 two (o ∷ a) b = let e = two a b in omega (arith, e)
 
 constants_few : (s : Stmt) → length (constants_of s) ≤ 6 * stmt_tokens s
@@ -219,5 +223,10 @@ functions_few short p f (fn ∷ fs) (g ∷ gs) are =
     let same : weight g.code ≡ weight (function_code p f fn) = ap weight are.0.code in
     omega (arith, same, sum_more function_weight g gs, sum_more function_tokens fn fs, function_few short p f fn, functions_few short p (suc f) fs gs are.1)
 
+structs_few : (defs : List StructDef) (s : ℕ) (ds : List StructDef) → sum (map struct_weight (struct_rows defs s ds)) ≤ 6 * sum (map struct_tokens ds)
+structs_few defs s [] = omega arith
+structs_few defs s (d ∷ ds) =
+    omega (arith, length-map d.members member_of, sum_more struct_weight (struct_row defs s d) (struct_rows defs (suc s) ds), sum_more struct_tokens d ds, structs_few defs (suc s) ds)
+
 pub program_few : (short : (p : Program) (f at d : ℕ) (e : Typed) → weight (expr_code p f at d e) ≤ 6 * tokens_of e) (p : Program) (c : SlotCode) → IsProgramCode p c → weight_in c ≤ 6 * program_tokens p
-program_few short p c is = functions_few short p 0 p.functions c.functions is.functions
+program_few short p c is = omega (arith, functions_few short p 0 p.functions c.functions is.functions, structs_few p.defs 0 p.defs, ap (λ (ss : List SlotStruct). sum (map struct_weight ss)) is.structs)

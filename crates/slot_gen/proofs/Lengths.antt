@@ -25,7 +25,7 @@ use Rattle.slot_gen.specs.Expressions.{access_of, converting, cast_code, load_co
 use Rattle.slot_gen.specs.Tokens.{tokens_of, row_tokens}
 
 pub weight-append : (a b : List SlotOp) → weight (a ++ b) ≡ weight a + weight b
-weight-append [] b = refl
+weight-append [] b = omega arith
 weight-append (o ∷ a) b = let e = weight-append a b in omega (arith, e)
 
 -- code of at most so much weight

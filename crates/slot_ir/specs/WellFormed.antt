@@ -1,5 +1,5 @@
 -- Well-formed slot code: everything that is named is there.
-use Rattle.std.specs.Prelude.{◌≡◌, ◌≤◌, ◌<◌, ℕ, suc, zero, ◌+◌, ◌*◌, ◌%◌, ◌^◌, List, [], ◌∷◌, ◌++◌, Option, Some, None, slice_get, length, sum, map, take, ◌⊎◌}
+use Rattle.std.specs.Prelude.{◌≡◌, ◌≤◌, ◌<◌, ◌==◌, Bool, true, false, ℕ, suc, zero, ◌+◌, ◌*◌, ◌%◌, ◌^◌, List, [], ◌∷◌, ◌++◌, Option, Some, None, slice_get, length, sum, map, take, ◌⊎◌}
 use Rattle.std.specs.Int.{next_multiple_of}
 use Rattle.std.specs.List.{AllByRecursion}
 use Rattle.ldb_words.specs.declared.kinds.Kind.{Kind}
@@ -189,14 +189,17 @@ module _ (c : SlotCode) where
   members_in None = []
   members_in (Some s) = s.members
 
-  -- a struct holds structs that hold others, at most so many deep
-  abbrev pub NestsWithin : (deep : ℕ) → SlotItem → Type 0
-  NestsWithin deep (Scalar k) = Unit {0}
-  NestsWithin zero (Struct s) = ⊥
-  NestsWithin (suc deep) (Struct s) = AllByRecursion (λ (m : SlotMember). NestsWithin deep m.item) (members_in (slice_get c.structs s))
+  -- A struct holds structs that hold others, at most so many levels deep. More than one item is a level too, since a copy counts them.
+  abbrev pub NestsWithin : (deep : ℕ) → (is_one : Bool) → SlotItem → Type 0
+  NestsWithin zero true (Scalar k) = Unit {0}
+  NestsWithin zero true (Struct s) = ⊥
+  NestsWithin zero false item = ⊥
+  NestsWithin (suc deep) true (Scalar k) = Unit {0}
+  NestsWithin (suc deep) true (Struct s) = AllByRecursion (λ (m : SlotMember). NestsWithin deep (m.items == 1) m.item) (members_in (slice_get c.structs s))
+  NestsWithin (suc deep) false item = NestsWithin deep true item
 
 abbrev pub most_nested : ℕ
-most_nested = 64
+most_nested = 63
 
 -- ---- static objects
 
@@ -250,10 +253,14 @@ weight (op ∷ ops) = weight_of op + weight ops
 abbrev pub function_weight : SlotFunction → ℕ
 function_weight f = 16 + weight f.code
 
+-- and that of the code that copies a struct
+abbrev pub struct_weight : SlotStruct → ℕ
+struct_weight s = 2 + 3 * length s.members
+
 abbrev pub weight_in : SlotCode → ℕ
-weight_in c = sum (map function_weight c.functions)
+weight_in c = sum (map function_weight c.functions) + sum (map struct_weight c.structs)
 
 abbrev pub IsWellFormed : SlotCode → Type 0
 IsWellFormed c =
     ParamsIn (slice_get c.functions c.main) × AllByRecursion (IsFunction c) c.functions × AllByRecursion (IsObject c) c.objects
-    × AllByRecursion (IsStruct c) c.structs × ((s : ℕ) → NestsWithin c most_nested (Struct s)) × (static_bytes c ≤ most_static_bytes) × (weight_in c ≤ most_operators)
+    × AllByRecursion (IsStruct c) c.structs × ((s : ℕ) → NestsWithin c most_nested true (Struct s)) × (static_bytes c ≤ most_static_bytes) × (weight_in c ≤ most_operators)
