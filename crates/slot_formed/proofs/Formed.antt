@@ -1,6 +1,6 @@
 -- The code of an accepted program is well formed.
 use Rattle.std.proofs.Common.{◌≡◌, refl, sym, ap, subst, ◌∙◌, arith, ℕ, suc, zero, ◌+◌, ◌*◌, ◌<◌, ◌≤◌, List, [], ◌∷◌, ◌++◌, length, length-append, append_assoc, map, Bool, true, false, not, ◌&&◌, ◌||◌, Option, Some, None, true≢false, slice_get, inl, inr, take, drop}
-use Rattle.std.specs.Prelude.{◌==◌}
+use Rattle.std.specs.Prelude.{◌==◌, sum}
 use Rattle.std.specs.List.{AllByRecursion}
 use Rattle.std.proofs.lemmas.List.{length-map}
 use Rattle.ldb_words.specs.declared.kinds.Kind.TheVariants.{Byte, Word, Address}
@@ -32,7 +32,7 @@ use Rattle.slot_ir.specs.declared.code.SlotObject.{SlotObject}
 use Rattle.slot_ir.specs.declared.code.SlotStruct.{SlotStruct}
 use Rattle.slot_ir.specs.declared.code.SlotOp.{SlotOp}
 use Rattle.slot_ir.specs.declared.code.SlotOp.TheVariants as op
-use Rattle.slot_ir.specs.WellFormed.{weight_in, IsAmong, Differ, IsFunction, IsListed, IsWellFormed, NamesWhatIsThere, PlacesOf}
+use Rattle.slot_ir.specs.WellFormed.{struct_weight, weight_in, IsAmong, Differ, IsFunction, IsListed, IsWellFormed, NamesWhatIsThere, PlacesOf}
 use Rattle.slot_gen.specs.Expressions.{access_of, registers_from, register_at, register_of}
 use Rattle.slot_gen.specs.Statements.{nowhere, zeros_code, inits_code, stmts_code, zero_code, body_place, end_place, function_code}
 use Rattle.slot_gen.specs.Correct.{HasMain}
@@ -435,7 +435,7 @@ module _ (p : Program) (accepted : IsAccepted p) (ascend : (t : CType) → LieIn
         all_structs (code_with p c.functions) p.defs refl accepted.structs laid,
         all_nest (code_with p c.functions) p.defs refl accepted.structs,
         static_few p accepted ascend,
-        omega (arith, few, short),
+        omega (arith, few, short, ap (λ (ss : List SlotStruct). sum (map struct_weight ss)) is.structs),
       )
 
   pub uniform : Laid p.defs → (c : SlotCode) → IsProgramCode p c → IsUniform c

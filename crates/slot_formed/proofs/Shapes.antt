@@ -227,6 +227,7 @@ module _ (c : SlotCode) (defs : List StructDef) (same : c.structs ≡ struct_row
         by : (o : Option StructDef) → slice_get defs s ≡ o → AllByRecursion IsFull (members_in (slice_get defs s))
         by None e = subst (λ o. AllByRecursion IsFull (members_in o)) (sym e) tt
         by (Some d) e = subst (λ o. AllByRecursion IsFull (members_in o)) (sym e) (all_full d.members (struct_there defs structs s d e).2)
+
     -- a struct is at most 64 deep, also where there is none of that number
     within : (s : ℕ) → IsWithin defs 64 (Struct s)
     within s = by (slice_get defs s) refl

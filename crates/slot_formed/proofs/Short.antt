@@ -65,7 +65,7 @@ targets_length at (c ∷ cs) = ap suc (targets_length at cs)
 
 seek_length : (ls : List Target) → weight (seek_code ls) ≡ length ls
 seek_length [] = refl
-seek_length (l ∷ ls) = ap suc (seek_length ls)
+seek_length (l ∷ ls) = omega (arith, seek_length ls)
 
 zero_weight : (t : CType) → weight_of (zero_code t) ≡ 1
 zero_weight ctype.Char = refl
@@ -101,7 +101,7 @@ module _ (short : (p : Program) (f at d : ℕ) (e : Typed) → weight (expr_code
 
   zeros_weight : (ds : List DeclaredLocal) → weight (zeros_code ds) ≡ length ds
   zeros_weight [] = refl
-  zeros_weight (d ∷ ds) = ap suc (zeros_weight ds)
+  zeros_weight (d ∷ ds) = omega (arith, zeros_weight ds)
 
   -- with the zeros of the locals
   inits_few : (at : ℕ) (ds : List DeclaredLocal) → length ds + weight (inits_code p f at ds) ≤ 6 * declared_tokens ds
