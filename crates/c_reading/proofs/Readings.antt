@@ -1,6 +1,5 @@
 -- A text is one thing at a stopping point.
-use Rattle.std.proofs.Common.{◌≡◌, refl, sym, ap, ◌∙◌, subst, ℕ, ◌≤◌, List, Option, Some, None, inl, inr}
-use Rattle.std.specs.Prelude.{Ok, Err}
+use Rattle.std.proofs.Common.{◌≡◌, refl, sym, subst, ℕ, List, Option, Some, None, inl, inr}
 use Rattle.c_lex.proofs.Lexing.{one_list}
 use Rattle.c_symbol.specs.Terminals.{terminals}
 use Rattle.c_expr.specs.Tree.{Tree}
@@ -8,14 +7,16 @@ use Rattle.c_expr.specs.Grammar.{Spells}
 use Rattle.c_expr.proofs.Exact.{one}
 use Rattle.c_tree.specs.declared.typed.Typed.{Typed}
 use Rattle.c_tree.specs.declared.rows.Program.{Program}
-use Rattle.c_judge.specs.declared.fault.ExprFault.TheVariants as fault
-use Rattle.c_judge.specs.Scope.{Scope}
 use Rattle.c_judge.specs.Answers.{Known, Unknown, Broken}
 use Rattle.c_judge.specs.Judgement.{Verdict}
-use Rattle.c_judge.specs.Checks.{Checks, IsKnown, Breaks}
+use Rattle.c_judge.specs.Checks.{IsKnown, Breaks}
 use Rattle.c_session.specs.Commands.{Use, Refusal, BadLine, HasEnded, IsRunning, NoPlace, NoFrame, BadSyntax, NoScope, BadType, IsUndefined, Reading, Read, Unread}
+use Rattle.c_store.specs.Frames.{Here}
+use Rattle.c_tree.specs.Types.{type_of}
+use Rattle.c_typing.specs.Plain.{plain}
 use Rattle.c_reading.specs.Scope.{scope_of}
-use Rattle.c_reading.specs.Readings.{IsExpression, mode_of, IsTypedAs, LacksName, BreaksRule, Reads, Agree}
+use Rattle.c_reading.proofs.Meanings.{Same, same, heads_agree}
+use Rattle.c_reading.specs.Readings.{IsExpression, IsTypedAs, LacksName, BreaksRule, Reads, Agree}
 
 same_tree : (text : List ℕ) (e f : Tree) → IsExpression text e → IsExpression text f → e ≡ f
 same_tree text e f a b =
@@ -109,3 +110,10 @@ module _ (p : Program) (u : Use) (q : ℕ) where
     agree (Unread r) (Read y) a b = unread r y a b
     agree (Read x) (Unread r) a b = unread r x b a
     agree (Read x) (Read y) a b = read x y a b
+
+    -- two readings are typed trees of one expression
+    pub one_meaning : (h : Here) (x y : Typed) → Reads p u q text (Read x) → Reads p u q text (Read y) → Same p h x y
+    one_meaning h x y a b = let (e, i, s, t) = read x y a b in same p h (scope_of p q) e x y s.3 t.3
+
+    pub one_type_read : (x y : Typed) → Reads p u q text (Read x) → Reads p u q text (Read y) → plain (type_of x) ≡ plain (type_of y)
+    one_type_read x y a b = let (e, i, s, t) = read x y a b in heads_agree p (scope_of p q) e x y s.3 t.3

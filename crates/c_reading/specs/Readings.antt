@@ -16,7 +16,7 @@ use Rattle.c_judge.specs.declared.check.Mode.TheVariants as mode
 use Rattle.c_judge.specs.declared.fault.ExprFault.TheVariants as fault
 use Rattle.c_judge.specs.Checks.{Checks}
 use Rattle.c_session.specs.declared.command.Command.{Command}
-use Rattle.c_session.specs.Commands.{Use, AsValue, AsAssignment, Sides, Refusal, BadSyntax, NoScope, BadType, Reading, Read, Unread}
+use Rattle.c_session.specs.Commands.{Use, AsValue, AsAssignment, Sides, BadSyntax, NoScope, BadType, Reading, Read, Unread}
 use Rattle.c_session.specs.Allowed as session
 use Rattle.c_session.specs.Allowed.{Lines}
 use Rattle.c_reading.specs.Scope.{scope_of}

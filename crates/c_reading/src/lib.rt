@@ -3,4 +3,4 @@
 
 mod laws;
 
-pub use laws::readings_agree;
+pub use laws::{readings_agree, readings_mean_the_same};

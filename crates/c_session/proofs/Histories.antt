@@ -1,5 +1,6 @@
--- A session goes through the run of its program, with a history of assignments at the stops.
+-- A session goes through the run of its program, with a history of assignments at the stops. What holds of the assignments that it makes holds of the history's.
 use Rattle.std.proofs.Common.{◌≡◌, refl, sym, ap, ◌∙◌, subst, arith, ℕ, suc, zero, ◌+◌, ◌≤◌, List, [], ◌∷◌, ◌++◌, length, Bool, true, false, Option, Some, None, inl, inr}
+use Rattle.std.specs.List.{AllByRecursion}
 use Rattle.std.specs.Prelude.{Result, Ok, Err, slice_get, if◌then◌else◌, ◌==◌, codes, filter, not, ◌⊎◌}
 use Rattle.runs.specs.Runs.{Passes, Why, Reason, Stale, IllTyped, Event, Exited, Failed, Course, Going, Comes, until, Moment, Outcome, Reached, here, past, after_count, then_on, after}
 use Rattle.runs.specs.Runs as runs
@@ -59,8 +60,14 @@ put_long zero a h = refl
 put_long (suc j) a [] = ap suc (put_long j a [])
 put_long (suc j) a (x ∷ h) = ap suc (put_long j a h)
 
+put_all : (P : List Assignment → Type 0) → P [] → (j : ℕ) (a : List Assignment) (h : History) → AllByRecursion P h → P a → AllByRecursion P (put j a h)
+unfolding put
+put_all P none zero a h w v = (v, tt)
+put_all P none (suc j) a [] w v = (none, put_all P none j a [] tt v)
+put_all P none (suc j) a (x ∷ h) w v = (w.0, put_all P none j a h w.1 v)
+
 -- a state after some assignments
-abbrev set : List Assignment → State → State
+abbrev pub set : List Assignment → State → State
 set all t = record t { here = with_world t.here (all_assigned all t.here.world) }
 
 assigned_on : (xs ys : List Assignment) (u : World) → all_assigned (xs ++ ys) u ≡ all_assigned ys (all_assigned xs u)
@@ -73,43 +80,52 @@ set_on xs ys t = ap (λ w. record t { here = with_world t.here w }) (sym (assign
 quiet_from : (p : Program) (h : History) (i : ℕ) → length h ≤ i → Quiet (step p) (acted h) i
 quiet_from p h i le j t k = ap (λ a. set a t) (none_at h j (omega (arith, le, k)))
 
-module _ (p : Program) (input : List ℕ) where
+-- where an answer makes assignments at a stop, this holds of them
+abbrev IsSetBy : (List Assignment → Type 0) → Mode → State → Type 0
+IsSetBy P (Stopped s) t = (all : List Assignment) × (t ≡ set all s) × P all
+IsSetBy P m t = ⊥
+
+abbrev pub SetsBy : (List Assignment → Type 0) → Mode → Answer → Type 0
+SetsBy P m (Sets t) = IsSetBy P m t
+SetsBy P m a = Unit {0}
+
+module _ (p : Program) (input : List ℕ) (P : List Assignment → Type 0) (none : P []) (joins : (a b : List Assignment) → P a → P b → P (a ++ b)) where
   abbrev first : State
   first = begin p input
 
   -- the run with these assignments comes to a state, and none is made from there on
   abbrev OnRun : History → State → Type 0
-  OnRun h s = (n : ℕ) × (m : Moment State) × (after State (step p) (acted h) n 0 first ≡ Reached m) × (m.exit ≡ None) × (m.state ≡ s) × (length h ≤ length m.passed)
+  OnRun h s = (n : ℕ) × (m : Moment State) × (after State (step p) (acted h) n 0 first ≡ Reached m) × (m.exit ≡ None) × (m.state ≡ s) × (length h ≤ length m.passed) × AllByRecursion P h
 
   -- The run's next step comes to a stop, at which these assignments were made.
   abbrev AtStop : History → State → Type 0
   AtStop h s =
       (n : ℕ) × (m : Moment State) × (after State (step p) (acted h) n 0 first ≡ Reached m) × (m.exit ≡ None) × (length h ≤ length m.passed)
-      × (q c : ℕ) × (t : State) × (all : List Assignment) × (step p m.state ≡ Passes q c t) × (s ≡ set all t)
+      × (q c : ℕ) × (t : State) × (all : List Assignment) × (step p m.state ≡ Passes q c t) × (s ≡ set all t) × P all × AllByRecursion P h
 
   on_run_first : OnRun [] first
-  on_run_first = (zero, here State first, refl, refl, refl, omega arith)
+  on_run_first = (zero, here State first, refl, refl, refl, omega arith, tt)
 
   way : (h : History) (s : State) (stops : ℕ → Bool) (k c : ℕ) (q : State) → OnRun h s → until State (step p) stops k s ≡ Going c q → OnRun h q
-  way h s stops k c q (n, m, a, x, e, le) u =
+  way h s stops k c q (n, m, a, x, e, le, w) u =
       let u' : until State (step p) stops k m.state ≡ Going c q = subst (λ z. until State (step p) stops k z ≡ Going c q) (sym e) u in
       let (k2, m2, b, y, f) = on_the_way (step p) (acted h) stops k (0 + length m.passed) m.state c q (quiet_from p h (0 + length m.passed) (omega (arith, le))) u' in
       let (n3, m3, a3, x3, e3, l3) = extend (step p) (acted h) n k2 0 first m m2 a x b in
-      (n3, m3, a3, x3 ∙ y, e3 ∙ f, omega (arith, le, l3))
+      (n3, m3, a3, x3 ∙ y, e3 ∙ f, omega (arith, le, l3), w)
 
   stop : (h : History) (s : State) (stops : ℕ → Bool) (k c q : ℕ) (t : State) → OnRun h s → until State (step p) stops k s ≡ Comes c (runs.Stopped q t) → AtStop h t
-  stop h s stops k c q t (n, m, a, x, e, le) u =
+  stop h s stops k c q t (n, m, a, x, e, le, w) u =
       let u' : until State (step p) stops k m.state ≡ Comes c (runs.Stopped q t) = subst (λ z. until State (step p) stops k z ≡ Comes c (runs.Stopped q t)) (sym e) u in
       let (k2, m2, b, y, d) = comes_to_stop (step p) (acted h) stops k (0 + length m.passed) m.state c q t (quiet_from p h (0 + length m.passed) (omega (arith, le))) u' in
       let (n3, m3, a3, x3, e3, l3) = extend (step p) (acted h) n k2 0 first m m2 a x b in
-      (n3, m3, a3, x3 ∙ y, omega (arith, le, l3), q, d.0, t, [], ap (step p) e3 ∙ d.1, refl)
+      (n3, m3, a3, x3 ∙ y, omega (arith, le, l3), q, d.0, t, [], ap (step p) e3 ∙ d.1, refl, none, w)
 
-  assigns : (h : History) (s : State) (more : List Assignment) → AtStop h s → AtStop h (set more s)
-  assigns h s more (n, m, a, x, le, q, c, t, all, f, e) = (n, m, a, x, le, q, c, t, all ++ more, f, ap (set more) e ∙ set_on all more t)
+  assigns : (h : History) (s : State) (more : List Assignment) → P more → AtStop h s → AtStop h (set more s)
+  assigns h s more v (n, m, a, x, le, q, c, t, all, f, e, u, w) = (n, m, a, x, le, q, c, t, all ++ more, f, ap (set more) e ∙ set_on all more t, joins all more u v, w)
 
   -- the stop's assignments become part of the history
   onto_run : (h : History) (s : State) → AtStop h s → (h' : History) × OnRun h' s
-  onto_run h s (n, m, a, x, le, q, c, t, all, f, e) =
+  onto_run h s (n, m, a, x, le, q, c, t, all, f, e, v, w) =
       let j : ℕ = length m.passed in
       let h' : History = put j all h in
       let a' : after State (step p) (acted h') n 0 first ≡ Reached m = alike (step p) (acted h) (acted h') n 0 j first m (λ i u k. ap (λ l. set l u) (put_before j i all h k)) (omega arith) a in
@@ -118,7 +134,7 @@ module _ (p : Program) (input : List ℕ) where
       let (n3, m3, a3, x3, e3, l3) = extend (step p) (acted h') n 1 0 first m m2 a' x b in
       let place : 0 + j ≡ j = omega arith in
       let state : acted h' (0 + j) t ≡ s = ap (λ i. set (at_stop h' i) t) place ∙ ap (λ l. set l t) (put_at j all h) ∙ sym e in
-      (h', (n3, m3, a3, x3, e3 ∙ state, omega (arith, l3, put_long j all h)))
+      (h', (n3, m3, a3, x3, e3 ∙ state, omega (arith, l3, put_long j all h), put_all P none j all h w v))
 
   abbrev Each : History → Positions → Type 0
   Each h (One s) = OnRun h s
@@ -126,7 +142,7 @@ module _ (p : Program) (input : List ℕ) where
   Each h (FirstAlone s) = OnRun h s
   Each h (SecondAlone t) = OnRun h t
 
-  abbrev Follows : Mode → Type 0
+  abbrev pub Follows : Mode → Type 0
   Follows (Fresh s) = (h : History) × OnRun h s
   Follows (Stopped s) = (h : History) × AtStop h s
   Follows (Running how ps) = (h : History) × Each h ps
@@ -293,7 +309,7 @@ module _ (p : Program) (input : List ℕ) where
     by x (Running how ps) c e = running how ps c e
     by x Ended c e = over c
 
-    leaves : (x : Reading) (c : Option Command) → Leaves session.mode (answer p names sides session x c)
+    pub leaves : (x : Reading) (c : Option Command) → Leaves session.mode (answer p names sides session x c)
     leaves x None = tt
     leaves x (Some c) = by x session.mode c refl
 
@@ -309,39 +325,44 @@ module _ (p : Program) (input : List ℕ) where
   stands (Running how qs) ps (h, r) e = (h, subst (Each h) (sym e) r)
   stands Ended ps f k = absurd k
 
-  sets : (m : Mode) (t : State) → Follows m → IsSetIn m t → Follows (with_state p m t)
-  sets (Stopped s) t (h, r) (all, e) = (h, subst (AtStop h) (sym e) (assigns h s all r))
+  sets : (m : Mode) (t : State) → Follows m → IsSetBy P m t → Follows (with_state p m t)
+  sets (Stopped s) t (h, r) (all, e, v) = (h, subst (AtStop h) (sym e) (assigns h s all v r))
   sets (Fresh s) t f k = absurd k
   sets (Running how ps) t f k = absurd k
   sets Ended t f k = absurd k
 
-  same_next : (st next : Standing) → next ≡ st → Follows st.session.mode → Follows next.session.mode
+  pub same_next : (st next : Standing) → next ≡ st → Follows st.session.mode → Follows next.session.mode
   same_next st next e f = subst (λ y. Follows y.session.mode) (sym e) f
 
-  replied : (st : Standing) (a : Answer) (reply : Lines) (next : Standing) → Follows st.session.mode → Leaves st.session.mode a → AnswerReplies p st a reply next → Follows next.session.mode
-  replied st (Refuses u) reply next f l k = same_next st next k.1 f
-  replied st (Says lines session) reply next f l k = subst (λ y. Follows y.session.mode) (sym k.1) (subst Follows (sym l) f)
-  replied st (Shows w t vs) reply next f l k = same_next st next k.1 f
-  replied st (Sets t) reply next f l k = subst (λ y. Follows y.session.mode) (sym k.1) (sets st.session.mode t f l)
-  replied st ShowsAny reply next f l k = same_next st next k.1 f
-  replied st (Resumes how ps) reply next f l k = let d = stands st.session.mode ps f l in resumed st how ps reply next d.0 d.1 k
-  replied st (Raw n) reply next f l k = same_next st next k.1 f
-  replied st EndsClaim reply next f l k = absurd k
-  replied st Quits reply next f l k = absurd k
-  replied st Nothing reply next f l k = absurd k
+  pub replied : (st : Standing) (a : Answer) (reply : Lines) (next : Standing) → Follows st.session.mode → Leaves st.session.mode a → SetsBy P st.session.mode a → AnswerReplies p st a reply next → Follows next.session.mode
+  replied st (Refuses u) reply next f l v k = same_next st next k.1 f
+  replied st (Says lines session) reply next f l v k = subst (λ y. Follows y.session.mode) (sym k.1) (subst Follows (sym l) f)
+  replied st (Shows w t vs) reply next f l v k = same_next st next k.1 f
+  replied st (Sets t) reply next f l v k = subst (λ y. Follows y.session.mode) (sym k.1) (sets st.session.mode t f v)
+  replied st ShowsAny reply next f l v k = same_next st next k.1 f
+  replied st (Resumes how ps) reply next f l v k = let d = stands st.session.mode ps f l in resumed st how ps reply next d.0 d.1 k
+  replied st (Raw n) reply next f l v k = same_next st next k.1 f
+  replied st EndsClaim reply next f l v k = absurd k
+  replied st Quits reply next f l v k = absurd k
+  replied st Nothing reply next f l v k = absurd k
 
-  module _ (names : Names) (sides : Sides) where
+  pub begins_followed : Follows (Fresh first)
+  begins_followed = ([], on_run_first)
+
+  module _ (names : Names) (sides : Sides) (keeps : (m : Mode) (a : Answer) → Leaves m a → SetsBy P m a) where
     next_follows : (st next : Standing) (reply : Lines) (c : Option Command) → Follows st.session.mode
         → MemoryReplies st c reply next ⊎ ((x : Reading) × AnswerReplies p st (answer p names sides st.session x c) reply next) → Follows next.session.mode
     next_follows st next reply c f (inl m) = same_next st next m.2 f
-    next_follows st next reply c f (inr (x, k)) = replied st (answer p names sides st.session x c) reply next f (leaves names sides st.session x c) k
+    next_follows st next reply c f (inr (x, k)) =
+        let l = leaves names sides st.session x c in
+        replied st (answer p names sides st.session x c) reply next f l (keeps st.session.mode (answer p names sides st.session x c) l) k
 
-    goes_follows : (st last : Standing) (cs : List (Option Command)) → Follows st.session.mode → GoesOn p names sides st cs last → Follows last.session.mode
+    pub goes_follows : (st last : Standing) (cs : List (Option Command)) → Follows st.session.mode → GoesOn p names sides st cs last → Follows last.session.mode
     goes_follows st last [] f e = same_next st last e f
     goes_follows st last (c ∷ cs) f (reply, next, k, rest) = goes_follows next last cs (next_follows st next reply c f k) rest
 
   reached : (h : History) (s : State) → OnRun h s → IsReached p input h s
-  reached h s (n, m, a, x, e, le) = (n, m, a, x, e)
+  reached h s (n, m, a, x, e, le, w) = (n, m, a, x, e)
 
   each_reached : (h : History) (ps : Positions) → Each h ps → AreReached p input h ps
   each_reached h (One s) r = reached h s r
@@ -349,11 +370,48 @@ module _ (p : Program) (input : List ℕ) where
   each_reached h (FirstAlone s) r = reached h s r
   each_reached h (SecondAlone t) r = reached h t r
 
-  mode_reached : (m : Mode) → Follows m → (h : History) × IsModeReached p input h m
-  mode_reached (Fresh s) (h, r) = (h, reached h s r)
-  mode_reached (Stopped s) (h, r) = let d = onto_run h s r in (d.0, reached d.0 s d.1)
-  mode_reached (Running how ps) (h, r) = (h, each_reached h ps r)
-  mode_reached Ended f = ([], tt)
+  all_on_run : (h : History) (s : State) → OnRun h s → AllByRecursion P h
+  all_on_run h s (n, m, a, x, e, le, w) = w
+
+  each_all : (h : History) (ps : Positions) → Each h ps → AllByRecursion P h
+  each_all h (One s) r = all_on_run h s r
+  each_all h (Both s t) r = all_on_run h s r.0
+  each_all h (FirstAlone s) r = all_on_run h s r
+  each_all h (SecondAlone t) r = all_on_run h t r
+
+  pub mode_reached : (m : Mode) → Follows m → (h : History) × IsModeReached p input h m × AllByRecursion P h
+  mode_reached (Fresh s) (h, r) = (h, reached h s r, all_on_run h s r)
+  mode_reached (Stopped s) (h, r) = let d = onto_run h s r in (d.0, reached d.0 s d.1, all_on_run d.0 s d.1)
+  mode_reached (Running how ps) (h, r) = (h, each_reached h ps r, each_all h ps r)
+  mode_reached Ended f = ([], tt, tt)
+
+module _ (p : Program) (input : List ℕ) where
+  -- any assignments
+  abbrev Any : List Assignment → Type 0
+  Any all = Unit {0}
+
+  any_join : (a b : List Assignment) → Any a → Any b → Any (a ++ b)
+  any_join a b v w = tt
+
+  any_set : (m : Mode) (t : State) → IsSetIn p input Any tt any_join m t → IsSetBy Any m t
+  any_set (Stopped s) t (all, e) = (all, e, tt)
+  any_set (Fresh s) t k = k
+  any_set (Running how ps) t k = k
+  any_set Ended t k = k
+
+  any_kept : (m : Mode) (a : Answer) → Leaves p input Any tt any_join m a → SetsBy Any m a
+  any_kept m (Sets t) l = any_set m t l
+  any_kept m (Refuses u) l = tt
+  any_kept m (Says lines session) l = tt
+  any_kept m (Shows w t vs) l = tt
+  any_kept m ShowsAny l = tt
+  any_kept m (Resumes how ps) l = tt
+  any_kept m (Raw n) l = tt
+  any_kept m EndsClaim l = tt
+  any_kept m Quits l = tt
+  any_kept m Nothing l = tt
 
   pub sessions_follow : (names : Names) (sides : Sides) (cs : List (Option Command)) (st : Standing) → GoesOn p names sides (at_first p input) cs st → (h : History) × IsModeReached p input h st.session.mode
-  sessions_follow names sides cs st g = mode_reached st.session.mode (goes_follows names sides (at_first p input) st cs ([], on_run_first) g)
+  sessions_follow names sides cs st g =
+      let d = mode_reached p input Any tt any_join st.session.mode (goes_follows p input Any tt any_join names sides any_kept (at_first p input) st cs (begins_followed p input Any tt any_join) g) in
+      (d.0, d.1)

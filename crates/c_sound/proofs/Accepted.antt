@@ -1,6 +1,6 @@
 -- Accepted programs.
-use Rattle.std.proofs.Common.{◌≡◌, refl, sym, ◌∙◌, subst, ap, arith, ℕ, suc, zero, ◌+◌, ◌≤◌, List, [], ◌∷◌, Option, Some, None, length, length-append, le-add_right}
-use Rattle.std.specs.Prelude.{Bool, slice_get, Result, Ok, Err, true}
+use Rattle.std.proofs.Common.{◌≡◌, refl, sym, ◌∙◌, subst, ap, arith, ℕ, suc, zero, ◌+◌, ◌≤◌, le_refl, List, [], ◌∷◌, ◌++◌, Option, Some, None, length, length-append, le-add_right, true≢false}
+use Rattle.std.specs.Prelude.{Bool, slice_get, ◌==◌, if◌then◌else◌, Result, Ok, Err, true, false}
 use Rattle.c_tree.specs.declared.types.CType.{CType}
 use Rattle.c_tree.specs.declared.types.CType.TheVariants as ctype
 use Rattle.c_tree.specs.declared.rows.Program.{Program}
@@ -32,7 +32,8 @@ use Rattle.c_sound.proofs.Operators.{addr, zero_shape}
 use Rattle.c_sound.proofs.Steps.{ShapedFunction}
 use Rattle.c_sound.proofs.Rules.{no_none, some_same}
 use Rattle.c_sound.proofs.Typed.{HasParameters, evaluated, located}
-use Rattle.c_sound.proofs.Bodies.{given_back, body_ready}
+use Rattle.c_sound.proofs.Shaped.{Fresh}
+use Rattle.c_sound.proofs.Bodies.{given_back, body_ready, fresh_second}
 use Rattle.c_sound.proofs.Begins.{begins_good}
 use Rattle.c_sound.proofs.Courses.{courses_keep}
 use Rattle.c_sound.proofs.Runs.{runs_keep, ReachesGood, runs_reach}
@@ -46,6 +47,26 @@ each_from P n (y ∷ ys) (suc i) x h e = let z : i + suc n ≡ suc i + n = omega
 pub numbers_length : (from n : ℕ) → length (numbers from n) ≡ n
 numbers_length from zero = refl
 numbers_length from (suc n) = ap suc (numbers_length (suc from) n)
+
+numbers_fresh : (v : List ℕ) (from n : ℕ) → ((x : ℕ) → from ≤ x → has v x ≡ false) → Fresh v (numbers from n)
+numbers_fresh v from zero none = tt
+numbers_fresh v from (suc n) none = (none from (le_refl from), numbers_fresh (v ++ from ∷ []) (suc from) n (λ x le. one_more v x (none x (omega (arith, le))) le))
+  where
+    by : (t a : Bool) → t ≡ false → a ≡ false → (if t then true else a) ≡ false
+    by true a e h = absurd (true≢false e)
+    by false a e h = h
+
+    kept : (t a b : Bool) → (a ≡ false → b ≡ false) → (if t then true else a) ≡ false → (if t then true else b) ≡ false
+    kept true a b f h = h
+    kept false a b f h = f h
+
+    one_more : (v : List ℕ) (x : ℕ) → has v x ≡ false → suc from ≤ x → has (v ++ from ∷ []) x ≡ false
+    one_more [] x h le = by (from == x) false (grind (arith, le)) refl
+    one_more (y ∷ v) x h le = kept (y == x) (has v x) (has (v ++ from ∷ []) x) (λ k. one_more v x k le) h
+
+-- the locals of a body begin one after another behind the parameters
+locals_fresh : (fn : Function) → numbers 0 (length fn.locals) ≡ numbers 0 fn.params ++ locals_in fn.body → Fresh (numbers 0 fn.params) (locals_in fn.body)
+locals_fresh fn e = fresh_second [] (numbers 0 fn.params) (locals_in fn.body) (subst (Fresh []) e (numbers_fresh [] 0 (length fn.locals) (λ x le. refl)))
 
 abbrev result_in : Option Function → CType
 result_in None = ctype.Void
@@ -67,7 +88,7 @@ module _ (p : Program) (accepted : IsAccepted p) where
   function_ready g (Some fn) e =
       let i = function_there g fn e in
       let t : fn.result ≡ result_type p g = sym (ap result_in e) in
-      body_ready p parameters_there g (plain fn.result) (ap plain t) fn.body (numbers 0 fn.params) (Push (zero_as fn.result) ∷ GiveBack ∷ []) i.block i.body
+      body_ready p parameters_there g (plain fn.result) (ap plain t) fn.body (numbers 0 fn.params) (Push (zero_as fn.result) ∷ GiveBack ∷ []) (locals_fresh fn i.declared) i.block i.body
       (λ ls. zero_shape fn.result ∙ given_back fn.result i.result ∙ ap addr t)
 
   pub bodies_ready : (g : ℕ) → ShapedFunction p g (slice_get p.functions g)

@@ -1,5 +1,5 @@
 -- The bodies of an accepted program's functions can be done.
-use Rattle.std.proofs.Common.{◌≡◌, refl, sym, ◌∙◌, subst, ap, arith, ℕ, List, [], ◌∷◌, ◌++◌, Bool, true, false, Option, Some, None, true≢false, append_assoc}
+use Rattle.std.proofs.Common.{◌≡◌, refl, sym, ◌∙◌, subst, ap, arith, ℕ, List, [], ◌∷◌, ◌++◌, Bool, true, false, Option, Some, None, true≢false, append_assoc, append-nil}
 use Rattle.std.specs.Prelude.{slice_get, if◌then◌else◌, ◌==◌}
 use Rattle.c_tree.specs.declared.types.CType.{CType}
 use Rattle.c_tree.specs.declared.types.CType.TheVariants as ctype
@@ -19,10 +19,10 @@ use Rattle.c_typing.specs.Plain.{Plain, Char, Int, Unsigned, Void, Pointer, Arra
 use Rattle.c_typing.specs.Rules.{converts}
 use Rattle.c_typing.specs.Expressions.{operand, value, IsTyped}
 use Rattle.c_typing.specs.Declared.{has, scope_at, is_result, locals_in}
-use Rattle.c_typing.specs.Statements.{Around, in_function, local_numbers as numbers_of, type_of_local, IsTestOrNone, IsDropped, IsInitializer, AreInitialized, IsReturned, IsStatement, AreStatements, IsElse, IsSwitched}
+use Rattle.c_typing.specs.Statements.{Around, in_function, local_numbers as numbers_of, type_of_local, IsTestOrNone, IsDropped, IsInitializer, AreInitialized, IsReturned, IsStatement, AreStatements, IsElse, IsSwitched, locals_of, locals_of_row, locals_of_else}
 use Rattle.c_typing.specs.Accepted.{IsBlock}
 use Rattle.c_sound.proofs.Operators.{addr, conv}
-use Rattle.c_sound.proofs.Shaped.{shape, local_numbers, ShapedE, ShapedPart, ShapedInit, ShapedInits, ShapedReturn, ShapedS, ShapedRows, ShapedElse, ShapedBody}
+use Rattle.c_sound.proofs.Shaped.{shape, local_numbers, Fresh, ShapedE, ShapedPart, ShapedInit, ShapedInits, ShapedReturn, ShapedS, ShapedRows, ShapedElse, ShapedBody}
 use Rattle.c_sound.proofs.Ready.{Ready}
 use Rattle.c_sound.proofs.Lists.{has_more}
 use Rattle.c_sound.proofs.Continues.{inits_ready, runs_ready, rows_shaped}
@@ -67,6 +67,57 @@ type_in (Some l) = l.ctype
 abbrev plain_in : Option Local → Plain
 plain_in None = Void
 plain_in (Some l) = plain l.ctype
+
+-- ---- locals that begin one after another
+
+fresh_split : (v xs ys : List ℕ) → Fresh v (xs ++ ys) → Fresh v xs × Fresh (v ++ xs) ys
+fresh_split v [] ys q = (tt, subst (λ l. Fresh l ys) (sym (append-nil v)) q)
+fresh_split v (x ∷ xs) ys q = let r = fresh_split (v ++ x ∷ []) xs ys q.1 in ((q.0, r.0), subst (λ l. Fresh l ys) (append_assoc v (x ∷ []) xs) r.1)
+
+fewer_by : (t a b : Bool) → (b ≡ false → a ≡ false) → (if t then true else b) ≡ false → (if t then true else a) ≡ false
+fewer_by true a b f h = h
+fewer_by false a b f h = f h
+
+has_fewer : (v w : List ℕ) (x : ℕ) → has (v ++ w) x ≡ false → has v x ≡ false
+has_fewer [] w x h = refl
+has_fewer (y ∷ v) w x h = fewer_by (y == x) (has v x) (has (v ++ w) x) (has_fewer v w x) h
+
+-- also where fewer are in scope
+abbrev Fewer : List ℕ → List ℕ → Type 0
+Fewer u v = (x : ℕ) → has v x ≡ false → has u x ≡ false
+
+fewer_more : (u v : List ℕ) (y : ℕ) → Fewer u v → Fewer (u ++ y ∷ []) (v ++ y ∷ [])
+fewer_more u v y f x h = on_end u (f x (has_fewer v (y ∷ []) x h)) (last_of v h)
+  where
+    last_of : (v : List ℕ) → has (v ++ y ∷ []) x ≡ false → (y == x) ≡ false
+    last_of [] h = by (y == x) h
+      where
+        by : (t : Bool) → (if t then true else false) ≡ false → t ≡ false
+        by true h = h
+        by false h = refl
+    last_of (z ∷ v) h = last_of v (behind (z == x) (has (v ++ y ∷ []) x) h)
+      where
+        behind : (t b : Bool) → (if t then true else b) ≡ false → b ≡ false
+        behind true b h = absurd (true≢false h)
+        behind false b h = h
+
+    on_end : (u : List ℕ) → has u x ≡ false → (y == x) ≡ false → has (u ++ y ∷ []) x ≡ false
+    on_end [] h e = ap (λ t. if t then true else false) e
+    on_end (z ∷ u) h e = fewer_by (z == x) (has (u ++ y ∷ []) x) (has u x) (λ k. on_end u k e) h
+
+fresh_fewer : (u v xs : List ℕ) → Fewer u v → Fresh v xs → Fresh u xs
+fresh_fewer u v [] f q = tt
+fresh_fewer u v (x ∷ xs) f q = (f x q.0, fresh_fewer (u ++ x ∷ []) (v ++ x ∷ []) xs (fewer_more u v x f) q.1)
+
+-- behind others
+pub fresh_behind : (v xs ys : List ℕ) → Fresh v (xs ++ ys) → Fresh v ys
+fresh_behind v xs ys q = fresh_fewer v (v ++ xs) ys (λ x h. has_fewer v xs x h) (fresh_split v xs ys q).1
+
+pub fresh_first : (v xs ys : List ℕ) → Fresh v (xs ++ ys) → Fresh v xs
+fresh_first v xs ys q = (fresh_split v xs ys q).0
+
+pub fresh_second : (v xs ys : List ℕ) → Fresh v (xs ++ ys) → Fresh (v ++ xs) ys
+fresh_second v xs ys q = (fresh_split v xs ys q).1
 
 -- the value of a function whose end is reached
 pub given_back : (t : CType) → is_result (plain t) ≡ true → conv t false ≡ addr t
@@ -125,40 +176,41 @@ module _ (p : Program) (functions : (g : ℕ) (fn : Function) → slice_get p.fu
       (expression v e q.0, ap (conv t) (shape_there v e) ∙ conv_there t (ashape (value (scope_at p f v) e)) (subst (λ u. pconv u (ashape (value (scope_at p f v) e)) ≡ ashape u) is_its (converts_shape r (operand (scope_at p f v) e) q.1)))
 
   mutual
-    pub statement : (s : Stmt) (v : List ℕ) (a : Around) → IsStatement p f r v a s → ShapedS p f v a.loop a.breaks s
-    statement (Expression at e) v a q = dropped v e q
-    statement (Block' at ds x row l c) v a q =
+    pub statement : (s : Stmt) (v : List ℕ) (a : Around) → Fresh v (locals_of s) → IsStatement p f r v a s → ShapedS p f v a.loop a.breaks s
+    statement (Expression at e) v a n q = dropped v e q
+    statement (Block' at ds x row l c) v a n q =
         let e = same_numbers ds in
-        (all_initialized ds v (v ++ local_numbers ds) (λ y h. h) q.0, statements row (v ++ local_numbers ds) _ (subst (λ xs. AreStatements p f r (v ++ xs) (record a { labels = false }) row) e q.1))
-    statement (If' at c x s t) v a q = (expression v c.e q.0.0, statement s v _ q.1, otherwise t v _ q.2)
-    statement (Switch' at c x s) v a q = (expression v c.e q.0.0, shape_there v c.e ∙ integer_shape (value (scope_at p f v) c.e) q.0.1, switched s v a q.1)
-    statement (While' at c x s) v a q = (expression v c.e q.0.0, statement s v _ q.1)
-    statement (Do' at x s c) v a q = (expression v c.e q.1.0, statement s v _ q.0)
-    statement (For' at i c t x s) v a q = (dropped v i q.0, tested v c q.1, dropped v t q.2, statement s v _ q.3)
-    statement (Case' at c x s) v a q = statement s v a q.2
-    statement (Default' at x s) v a q = statement s v a q.1
-    statement (Break at) v a q = q
-    statement (Continue at) v a q = q
-    statement (Return at c e) v a q = returned v e q.0
+        let new : Fresh v (local_numbers ds ++ locals_of_row row) = subst (λ xs. Fresh v (xs ++ locals_of_row row)) e n in
+        (all_initialized ds v (v ++ local_numbers ds) (λ y h. h) q.0, statements row (v ++ local_numbers ds) _ (fresh_second v (local_numbers ds) (locals_of_row row) new) (subst (λ xs. AreStatements p f r (v ++ xs) (record a { labels = false }) row) e q.1), fresh_first v (local_numbers ds) (locals_of_row row) new)
+    statement (If' at c x s t) v a n q = (expression v c.e q.0.0, statement s v _ (fresh_first v (locals_of s) (locals_of_else t) n) q.1, otherwise t v _ (fresh_behind v (locals_of s) (locals_of_else t) n) q.2)
+    statement (Switch' at c x s) v a n q = (expression v c.e q.0.0, shape_there v c.e ∙ integer_shape (value (scope_at p f v) c.e) q.0.1, switched s v a n q.1)
+    statement (While' at c x s) v a n q = (expression v c.e q.0.0, statement s v _ n q.1)
+    statement (Do' at x s c) v a n q = (expression v c.e q.1.0, statement s v _ n q.0)
+    statement (For' at i c t x s) v a n q = (dropped v i q.0, tested v c q.1, dropped v t q.2, statement s v _ n q.3)
+    statement (Case' at c x s) v a n q = statement s v a n q.2
+    statement (Default' at x s) v a n q = statement s v a n q.1
+    statement (Break at) v a n q = q
+    statement (Continue at) v a n q = q
+    statement (Return at c e) v a n q = returned v e q.0
 
-    pub statements : {m : _} (row : Row_of-Stmt m) (v : List ℕ) (a : Around) → AreStatements p f r v a row → ShapedRows p f v a.loop a.breaks row
-    statements end_of-Stmt v a q = tt
-    statements (more_of-Stmt s rest) v a q = (statement s v a q.0, statements rest v a q.1)
+    pub statements : {m : _} (row : Row_of-Stmt m) (v : List ℕ) (a : Around) → Fresh v (locals_of_row row) → AreStatements p f r v a row → ShapedRows p f v a.loop a.breaks row
+    statements end_of-Stmt v a n q = tt
+    statements (more_of-Stmt s rest) v a n q = (statement s v a (fresh_first v (locals_of s) (locals_of_row rest) n) q.0, statements rest v a (fresh_behind v (locals_of s) (locals_of_row rest) n) q.1)
 
-    pub otherwise : (e : Held-Stmt-If-3) (v : List ℕ) (a : Around) → IsElse p f r v a e → ShapedElse p f v a.loop a.breaks e
-    otherwise None' v a q = tt
-    otherwise (Some' x s) v a q = statement s v a q
+    pub otherwise : (e : Held-Stmt-If-3) (v : List ℕ) (a : Around) → Fresh v (locals_of_else e) → IsElse p f r v a e → ShapedElse p f v a.loop a.breaks e
+    otherwise None' v a n q = tt
+    otherwise (Some' x s) v a n q = statement s v a n q
 
-    pub switched : (s : Stmt) (v : List ℕ) (a : Around) → IsSwitched p f r v (record { loop = a.loop; breaks = true; labels = true }) s → ShapedBody p f v a.loop s
-    switched (Block' at ds x row l c) v a q = statements row v (record { loop = a.loop; breaks = true; labels = true }) q.1
-    switched _ v a q = tt
+    pub switched : (s : Stmt) (v : List ℕ) (a : Around) → Fresh v (locals_of s) → IsSwitched p f r v (record { loop = a.loop; breaks = true; labels = true }) s → ShapedBody p f v a.loop s
+    switched (Block' at ds x row l c) v a n q = statements row v (record { loop = a.loop; breaks = true; labels = true }) (fresh_behind v (numbers_of ds) (locals_of_row row) n) q.1
+    switched _ v a n q = tt
 
   -- ---- bodies
 
-  pub body_ready : (s : Stmt) (v : List ℕ) (k : List Item) → IsBlock s → IsStatement p f r v in_function s → ((ls : List ℕ) → Ready p f k ls [])
+  pub body_ready : (s : Stmt) (v : List ℕ) (k : List Item) → Fresh v (locals_of s) → IsBlock s → IsStatement p f r v in_function s → ((ls : List ℕ) → Ready p f k ls [])
       → Ready p f (Open (declared_in s) ∷ (inits_of p f (declared_in s) ++ (runs_of (statements_in s) ++ k))) v []
-  body_ready (Block' at ds x row l c) v k b q go =
-      let u = statement (Block' at ds x row l c) v in_function q in
+  body_ready (Block' at ds x row l c) v k n b q go =
+      let u = statement (Block' at ds x row l c) v in_function n q in
       let ls = v ++ local_numbers ds in
-      inits_ready p f ds (runs_of (stmts row) ++ k) ls u.0 (runs_ready p f (stmts row) k ls false false (rows_shaped p f row ls false false u.1) (λ e. absurd (true≢false (sym e))) (λ e. absurd (true≢false (sym e))) (go ls))
-  body_ready _ v k b q go = absurd b
+      (u.2, inits_ready p f ds (runs_of (stmts row) ++ k) ls u.0 (runs_ready p f (stmts row) k ls false false (rows_shaped p f row ls false false u.1) (λ e. absurd (true≢false (sym e))) (λ e. absurd (true≢false (sym e))) (go ls)))
+  body_ready _ v k n b q go = absurd b

@@ -1,6 +1,6 @@
 -- What a step may answer.
 use Rattle.std.proofs.Common.{◌≡◌, refl, sym, ◌∙◌, subst, ap, arith, ℕ, suc, List, [], ◌∷◌, ◌++◌, Bool, true, false, Option, Some, None, length, take, map, append_assoc, append-nil}
-use Rattle.std.specs.Prelude.{Result, Ok, Err, slice_get, if◌then◌else◌, ◌==◌}
+use Rattle.std.specs.Prelude.{Result, Ok, Err, slice_get, if◌then◌else◌, ◌==◌, ◌&&◌}
 use Rattle.runs.specs.Runs.{Next, Goes, Passes, Exits, Undefined, Why, Reason, Stale, IllTyped}
 use Rattle.c_tree.specs.declared.rows.Program.{Program}
 use Rattle.c_tree.specs.declared.rows.Function.{Function}
@@ -8,17 +8,17 @@ use Rattle.c_tree.specs.declared.typed.DeclaredLocal.{DeclaredLocal}
 use Rattle.c_tree.specs.Layout.{size_of}
 use Rattle.std.specs.List.{AllByRecursion}
 use Rattle.c_store.specs.Store.{Value, Cell, with_first, ◌>>=◌}
-use Rattle.c_store.specs.Frames.{Here, made, left}
-use Rattle.c_source.specs.Blocks.{cells_of, converted, local_type, result_type, opened, given_one, given}
+use Rattle.c_store.specs.Frames.{Here, made, left, is_free}
+use Rattle.c_source.specs.Blocks.{cells_of, converted, local_type, result_type, opened, can_open, given_one, given}
 use Rattle.c_source.specs.Control.{Item, State, Activation}
 use Rattle.c_source.specs.Source.{on_ok, on_some, on_test}
 use Rattle.c_typing.specs.Accepted.{numbers}
 use Rattle.c_sound.specs.Shapes.{is_place}
 use Rattle.c_sound.proofs.World.{Gives, used_gives, CellFits, WorldFits, made_fits, left_fits}
 use Rattle.c_sound.proofs.Operators.{addr, converted_gives}
-use Rattle.c_sound.proofs.Shaped.{local_numbers, Given}
+use Rattle.c_sound.proofs.Shaped.{local_numbers, Fresh, Given}
 use Rattle.c_sound.proofs.Ready.{locals_of, Ready, HasFunction, Outside, Good}
-use Rattle.c_sound.proofs.Lists.{locals_append, locals_take}
+use Rattle.c_sound.proofs.Lists.{locals_append, locals_take, free_here}
 use Rattle.c_sound.proofs.Objects.{cells_fit, parameter_gives}
 
 abbrev pub shapes : List Value → List Bool
@@ -91,6 +91,20 @@ module _ (p : Program) where
       opened_good f ds (made d.local (size_of p.defs t) (cells_of p.defs t) h) vs k out
       (made_fits d.local (size_of p.defs t) (cells_of p.defs t) h w (cells_fit p.defs t)) i o
       (one_more h d.local (local_numbers ds) k (shapes vs) (length h.world.objects) r)
+
+  both_true : (a b : Bool) → a ≡ true → b ≡ true → a && b ≡ true
+  both_true true b e f = f
+  both_true false b e f = e
+
+  -- the objects of a block can begin where its locals are not in scope yet
+  pub opens : (f : ℕ) (ds : List DeclaredLocal) (h : Here) → Fresh (locals_of h.activation.locals) (local_numbers ds) → can_open p f ds h ≡ true
+  unfolding made
+  opens f [] h q = refl
+  opens f (d ∷ ds) h q =
+      let t = local_type p f d.local in
+      let more = record { local = d.local; object = length h.world.objects } ∷ [] in
+      both_true (is_free d.local h.activation.locals) (can_open p f ds (made d.local (size_of p.defs t) (cells_of p.defs t) h)) (free_here d.local h.activation.locals q.0)
+      (opens f ds (made d.local (size_of p.defs t) (cells_of p.defs t) h) (subst (λ ls. Fresh ls (local_numbers ds)) (sym (locals_append h.activation.locals more)) q.1))
 
   ok_bind : {A B : Type 0} (m : Result A Why) (g : A → Result B Why) (go : B → Next State) → Fine (on_ok m (λ x. on_ok (g x) go)) → Fine (on_ok (m >>= g) go)
   ok_bind (Ok x) g go f = f

@@ -3,7 +3,7 @@ use Rattle.std.proofs.Common.{◌≡◌, refl, sym, ◌∙◌, subst, ap, ℕ, s
 use Rattle.std.specs.Prelude.{◌==◌, if◌then◌else◌}
 use Rattle.std.proofs.lemmas.List.{reverse-append, reverse-reverse, length-reverse}
 use Rattle.c_store.specs.Store.{Value}
-use Rattle.c_store.specs.Frames.{Binding, bound}
+use Rattle.c_store.specs.Frames.{Binding, is_free, bound}
 use Rattle.c_typing.specs.Declared.{has}
 use Rattle.c_sound.proofs.Ready.{locals_of}
 
@@ -30,6 +30,15 @@ bound_by false o there rest f h = f h
 pub bound_here : (x : ℕ) (bs : List Binding) → has (locals_of bs) x ≡ true → (o : ℕ) × (bound x bs ≡ Some o)
 bound_here x [] h = absurd (true≢false (sym h))
 bound_here x (b ∷ bs) h = bound_by (b.local == x) b.object (has (locals_of bs) x) (bound x bs) (bound_here x bs) h
+
+-- and one that is not in scope has none
+free_by : (t there free : Bool) → (there ≡ false → free ≡ true) → (if t then true else there) ≡ false → (if t then false else free) ≡ true
+free_by true there free f h = absurd (true≢false h)
+free_by false there free f h = f h
+
+pub free_here : (x : ℕ) (bs : List Binding) → has (locals_of bs) x ≡ false → is_free x bs ≡ true
+free_here x [] h = refl
+free_here x (b ∷ bs) h = free_by (b.local == x) (has (locals_of bs) x) (is_free x bs) (free_here x bs) h
 
 -- ---- shapes
 

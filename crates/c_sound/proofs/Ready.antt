@@ -14,7 +14,7 @@ use Rattle.c_typing.specs.Declared.{has}
 use Rattle.c_sound.specs.Shapes.{is_place}
 use Rattle.c_sound.proofs.World.{WorldFits}
 use Rattle.c_sound.proofs.Operators.{addr, conv, takes, gives, takes_one}
-use Rattle.c_sound.proofs.Shaped.{shape, top, Updates, is_getchar, is_putchar, is_exit, local_numbers, CalledBuiltIn, Given, ShapedE, ShapedL, ShapedS, EachShaped, ShapedLoop}
+use Rattle.c_sound.proofs.Shaped.{shape, top, Updates, is_getchar, is_putchar, is_exit, local_numbers, Fresh, CalledBuiltIn, Given, ShapedE, ShapedL, ShapedS, EachShaped, ShapedLoop}
 
 -- there are no values computed
 abbrev pub IsClear : List Bool → Type 0
@@ -77,7 +77,7 @@ module _ (p : Program) where
       Ready (Run s ∷ k) ls ss = IsClear ss × ((l : Bool) × (b : Bool) × ShapedS p f ls l b s × (b ≡ true → Breaks k ls) × (l ≡ true → Continues k ls)) × Ready k ls []
       Ready (Stop q ∷ k) ls ss = Ready k ls ss
       Ready (Choose s t ∷ k) ls ss = top ss (λ c rest. IsClear rest × ((l : Bool) × (b : Bool) × ShapedS p f ls l b s × EachShaped p f ls l b t × (b ≡ true → Breaks k ls) × (l ≡ true → Continues k ls)) × Ready k ls [])
-      Ready (Open ds ∷ k) ls ss = Ready k (ls ++ local_numbers ds) ss
+      Ready (Open ds ∷ k) ls ss = Fresh ls (local_numbers ds) × Ready k (ls ++ local_numbers ds) ss
       Ready (Close n ∷ k) ls ss = Ready k (take n ls) ss
       Ready (Turn s n ∷ k) ls ss = top ss (λ c rest. IsClear rest × (n ≡ length ls) × ShapedLoop p f ls s × Ready k ls [])
       Ready (Again s n ∷ k) ls ss = IsClear ss × (n ≡ length ls) × ShapedLoop p f ls s × Ready k ls []

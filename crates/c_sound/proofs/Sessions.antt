@@ -1,5 +1,5 @@
 -- Sessions over accepted programs always have an answer.
-use Rattle.std.proofs.Common.{◌≡◌, refl, sym, subst, ℕ, suc, zero, List, [], ◌∷◌, ◌++◌, Bool, true, false, Option, Some, None, ◌⊎◌, inl, inr, length}
+use Rattle.std.proofs.Common.{◌≡◌, refl, sym, ap, subst, ℕ, suc, zero, List, [], ◌∷◌, ◌++◌, Bool, true, false, Option, Some, None, ◌⊎◌, inl, inr, length}
 use Rattle.std.specs.Prelude.{Result, Ok, Err, slice_get, if◌then◌else◌, option_and_then, bytes_eq, ◌==◌, codes, filter, not}
 use Rattle.runs.specs.Runs.{Next, Goes, Passes, Exits, Undefined, Why, Reason, Stale, IllTyped, Course, Going, Comes, Event, Stopped, Exited, Failed, counted, passing, onward, until}
 use Rattle.c_tree.specs.declared.types.CType.{CType}
@@ -10,7 +10,8 @@ use Rattle.c_tree.specs.declared.rows.Referent.{Referent}
 use Rattle.c_tree.specs.declared.rows.Referent.TheVariants as refers
 use Rattle.c_tree.specs.Types.{type_of, is_struct}
 use Rattle.c_store.specs.Store.{Value, World}
-use Rattle.c_store.specs.Frames.{Here, ActivationRecord, bound}
+use Rattle.c_store.specs.Frames.{Here, ActivationRecord, bound, with_world}
+use Rattle.c_store.specs.Assigned.{Assignment, History}
 use Rattle.c_source.specs.Control.{State}
 use Rattle.c_source.specs.Source.{step}
 use Rattle.c_source.specs.Begin.{begin}
@@ -25,7 +26,9 @@ use Rattle.c_session.specs.declared.command.Command.TheVariants as command
 use Rattle.c_session.specs.Commands.{Session, Mode, Fresh, Stopped as StoppedAt, Running, Ended, Resume, Sides, OneSide, TwoSides, Positions, One, Both, FirstAlone, SecondAlone, Use, AsValue, AsAssignment, Names, Reading, Read, Unread, Answer, Refuses, Says, Shows, Sets, ShowsAny, EndsClaim, Resumes, Quits, Raw, Nothing, answer, all_at, chosen, ReadsAt, ReadsIn, ReadsLine, break_at, clear_at, print_object, print_referent, print_symbol, eval_gives, eval_read, assign_gives, assign_read, in_frame, frame_at, frames_of, point_of, in_stopped, in_fresh, in_running, in_ended, by_mode, NoPlace, BadSyntax, has as has_point}
 use Rattle.c_session.specs.Places.{point_at}
 use Rattle.c_session.specs.Allowed.{Lines, Standing, stops_by, HasEvent, IsUnderway, AllMeet, Moves, one, both, second_comes, first_comes, first_goes, second_goes, ResumeReplies, AnswerReplies, MemoryReplies, after_event, with_state, at_first}
-use Rattle.c_sound.specs.Shapes.{IsAssigned}
+use Rattle.c_session.specs.Histories.{IsModeReached}
+use Rattle.c_session.proofs.Histories.{SetsBy, Follows, replied, same_next, leaves, begins_followed, mode_reached}
+use Rattle.c_sound.specs.Shapes.{AreFitting, IsFitting, IsAssigned}
 use Rattle.c_sound.specs.Sessions.{ReadsTyped, AreAnswered, HasAnswer}
 use Rattle.c_sound.proofs.Shaped.{ShapedL}
 use Rattle.c_sound.proofs.World.{Gives, WorldFits}
@@ -175,7 +178,7 @@ module _ (p : Program) (accepted : IsAccepted p) where
   -- what an answer to a session in this mode leaves
   abbrev SoundAnswer : Mode → Answer → Type 0
   SoundAnswer m (Says lines session) = session.mode ≡ m
-  SoundAnswer m (Sets s) = SoundMode (with_state p m s)
+  SoundAnswer m (Sets s) = SoundMode (with_state p m s) × SetsBy AreFitting m (Sets s)
   SoundAnswer m (Resumes how ps) = EachStands ps
   SoundAnswer m Nothing = ⊥
   SoundAnswer m _ = Unit {0}
@@ -196,7 +199,7 @@ module _ (p : Program) (accepted : IsAccepted p) where
   reply_sound st (Refuses u) reply next m q k = subst (λ x. SoundMode x.session.mode) (sym k.1) m
   reply_sound st (Says lines session) reply next m q k = subst (λ x. SoundMode x.session.mode) (sym k.1) (subst SoundMode (sym q) m)
   reply_sound st (Shows w t vs) reply next m q k = subst (λ x. SoundMode x.session.mode) (sym k.1) m
-  reply_sound st (Sets s) reply next m q k = subst (λ x. SoundMode x.session.mode) (sym k.1) q
+  reply_sound st (Sets s) reply next m q k = subst (λ x. SoundMode x.session.mode) (sym k.1) q.0
   reply_sound st ShowsAny reply next m q k = subst (λ x. SoundMode x.session.mode) (sym k.1) m
   reply_sound st (Resumes how ps) reply next m q k = resume_sound st how ps reply next q k
   reply_sound st (Raw n) reply next m q k = subst (λ x. SoundMode x.session.mode) (sym k.1) m
@@ -295,7 +298,7 @@ module _ (p : Program) (accepted : IsAccepted p) where
           )
 
       sets : (v : Result Given Why) → Gives (λ g. IsAssigned s.here.world g.world) v → SoundAnswer (StoppedAt s) (assign_gives p names sides session s v)
-      sets (Ok g) k = set_stands g.world k
+      sets (Ok g) k = (set_stands g.world k, (k.0, ap (λ w. record s { here = with_world s.here w }) k.1, k.2))
       sets (Err (Reason u)) k = tt
       sets (Err Stale) k = tt
       sets (Err IllTyped) k = absurd k
@@ -411,3 +414,41 @@ module _ (p : Program) (accepted : IsAccepted p) where
         let begun : Stands (begin p input) = (begins_good p input (bodies_ready p accepted) accepted.objects accepted.main (λ g fn e. (function_there p accepted g fn e).main), begins_in_scope p accepted input) in
         let g : SoundMode st.session.mode = answered_sound (at_first p input) st cs begun a in
         has_answer st.session.mode (answer p names sides st.session x c) (answer_sound names sides st.session g x c k)
+
+    -- ---- and their histories
+
+    fitting_join : (a b : List Assignment) → AreFitting a → AreFitting b → AreFitting (a ++ b)
+    fitting_join [] b v w = w
+    fitting_join (x ∷ a) b v w = (v.0, fitting_join a b v.1 w)
+
+    fits_of : (m : Mode) (a : Answer) → SoundAnswer m a → SetsBy AreFitting m a
+    fits_of m (Sets t) q = q.1
+    fits_of m (Refuses u) q = tt
+    fits_of m (Says lines session) q = tt
+    fits_of m (Shows w t vs) q = tt
+    fits_of m ShowsAny q = tt
+    fits_of m (Resumes how ps) q = tt
+    fits_of m (Raw n) q = tt
+    fits_of m EndsClaim q = tt
+    fits_of m Quits q = tt
+    fits_of m Nothing q = tt
+
+    module _ (input : List ℕ) where
+      abbrev Fits : Mode → Type 0
+      Fits m = Follows p input AreFitting tt fitting_join m
+
+      next_fits : (st next : Standing) (reply : Lines) (c : Option Command) → SoundMode st.session.mode → Fits st.session.mode
+          → MemoryReplies st c reply next ⊎ ((x : Reading) × ReadsLine p names sides st.session (ReadsTyped p) c x × AnswerReplies p st (answer p names sides st.session x c) reply next) → Fits next.session.mode
+      next_fits st next reply c g f (inl m) = same_next p input AreFitting tt fitting_join st next m.2 f
+      next_fits st next reply c g f (inr (x, k, a)) =
+          replied p input AreFitting tt fitting_join st (answer p names sides st.session x c) reply next f (leaves p input AreFitting tt fitting_join names sides st.session x c)
+          (fits_of st.session.mode (answer p names sides st.session x c) (answer_sound names sides st.session g x c k)) a
+
+      answered_fits : (st last : Standing) (cs : List (Option Command)) → SoundMode st.session.mode → Fits st.session.mode → AreAnswered p names sides st cs last → Fits last.session.mode
+      answered_fits st last [] g f a = subst (λ x. Fits x.session.mode) (sym a) f
+      answered_fits st last (c ∷ cs) g f (reply, next, a, rest) = answered_fits next last cs (next_sound st next reply c g a) (next_fits st next reply c g f a) rest
+
+      pub sessions_fit : (cs : List (Option Command)) (st : Standing) → AreAnswered p names sides (at_first p input) cs st → (h : History) × IsModeReached p input h st.session.mode × IsFitting h
+      sessions_fit cs st a =
+          let begun : Stands (begin p input) = (begins_good p input (bodies_ready p accepted) accepted.objects accepted.main (λ g fn e. (function_there p accepted g fn e).main), begins_in_scope p accepted input) in
+          mode_reached p input AreFitting tt fitting_join st.session.mode (answered_fits (at_first p input) st cs begun (begins_followed p input AreFitting tt fitting_join) a)

@@ -67,6 +67,11 @@ abbrev pub local_numbers : List DeclaredLocal → List ℕ
 local_numbers [] = []
 local_numbers (d ∷ ds) = d.local ∷ local_numbers ds
 
+-- locals that begin one after another where these are in scope: none of them is in scope already
+abbrev pub Fresh : List ℕ → List ℕ → Type 0
+Fresh ls [] = Unit {0}
+Fresh ls (x ∷ xs) = (has ls x ≡ false) × Fresh (ls ++ x ∷ []) xs
+
 module _ (p : Program) where
   -- ---- calls
 
@@ -182,7 +187,7 @@ module _ (p : Program) where
       -- a statement, where `continue` may stand and where `break` may
       pub ShapedS : List ℕ → (loop breaks : Bool) → Stmt → Type 0
       ShapedS ls l b (Expression at e) = ShapedPart ls e
-      ShapedS ls l b (Block' at ds _ row line column) = ShapedInits (ls ++ local_numbers ds) ds × ShapedRows (ls ++ local_numbers ds) l b row
+      ShapedS ls l b (Block' at ds _ row line column) = ShapedInits (ls ++ local_numbers ds) ds × ShapedRows (ls ++ local_numbers ds) l b row × Fresh ls (local_numbers ds)
       ShapedS ls l b (If' at q _ s t) = ShapedE ls q.e × ShapedS ls l b s × ShapedElse ls l b t
       ShapedS ls l b (Switch' at q _ s) = ShapedE ls q.e × (shape q.e ≡ false) × ShapedBody ls l s
       ShapedS ls l b (While' at q _ s) = ShapedE ls q.e × ShapedS ls true true s

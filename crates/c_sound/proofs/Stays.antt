@@ -19,7 +19,7 @@ use Rattle.c_tree.specs.Rows.{exprs, stmts}
 use Rattle.c_tree.specs.Layout.{size_of}
 use Rattle.c_store.specs.Store.{Value, Number, At as Pointing, World, used, load, store, load_struct, store_struct, moved, Cell, with_first, ◌>>=◌}
 use Rattle.c_store.specs.Frames.{Here, with_world, made, left, bound, new_activation}
-use Rattle.c_source.specs.Blocks.{cells_of, converted, local_type, opened, given_one, given, entered}
+use Rattle.c_source.specs.Blocks.{cells_of, converted, local_type, opened, can_open, given_one, given, entered}
 use Rattle.c_tree.specs.Rows.{statements_in}
 use Rattle.c_source.specs.Operators.{bits_in, is_zero, combined, changed}
 use Rattle.c_source.specs.Control.{Item, Eval, Locate, Push, Bound, Load, Convert, Store, Copy, Update, Change, Combine, Offset, Use, Discard, Truth, AndThen, OrElse, Pick, Joined, Enter, Run, Stop, Choose, Open, Close, Turn, Again, Select, Seek, Switched, GiveBack, Leave, Label, Round, State, Activation, outermost_of, runs_of, inits_of, broken, continued, body_of, seeks, labels_in, default_in}
@@ -319,7 +319,7 @@ module _ (p : Program) where
     act_stays (Run s) vs k q r = execute_stays s vs k r.0 r.1 r.2 r.3
     act_stays (Stop s) vs k q r = (record { inner = r.1; outer = o }, r.0)
     act_stays (Choose a b) vs k q r = one_stays vs _ λ v rest. test_stays v _ _ (goes 1 rest (Run a ∷ Joined ∷ k) (r.0, r.2, r.3, r.4)) (goes_behind 1 rest (runs_of b ++ k) (runs_scoped p f b k ls r.1 r.2 r.3 r.4))
-    act_stays (Open ds) vs k q r = opened_scoped f ds h vs k out o r
+    act_stays (Open ds) vs k q r = either_stays (can_open p f ds h) _ _ (opened_scoped f ds h vs k out o r) tt
     act_stays (Close n) vs k q r = left_stays n vs k r
     act_stays (Turn s n) vs k q r = one_stays vs _ λ v rest. test_stays v _ _ (goes_behind 1 rest _ (turns_scoped p f s n k ls r.0 r.1 r.2)) (goes_behind 1 rest k r.2)
     act_stays (Again s n) vs k q r = goes_behind 1 vs _ (goes_on_scoped p f s n k ls r.0 r.1 r.2)

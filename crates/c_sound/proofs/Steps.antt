@@ -22,7 +22,7 @@ use Rattle.c_tree.specs.Rows.{exprs, stmts}
 use Rattle.c_store.specs.Store.{Value, Number, At, World, used, load, store, load_struct, store_struct, moved, ◌>>=◌}
 use Rattle.c_store.specs.Frames.{Here, with_world, left, bound, new_activation}
 use Rattle.c_operators.specs.Bits.{minus_one}
-use Rattle.c_source.specs.Blocks.{cells_of, converted, result_type, entered}
+use Rattle.c_source.specs.Blocks.{cells_of, converted, result_type, can_open, entered}
 use Rattle.c_tree.specs.Rows.{statements_in}
 use Rattle.c_source.specs.Operators.{bits_in, combined, changed}
 use Rattle.c_source.specs.Control.{Item, Eval, Locate, Push, Bound, Load, Convert, Store, Copy, Update, Change, Combine, Offset, Use, Discard, Truth, AndThen, OrElse, Pick, Joined, Enter, Run, Stop, Choose, Open, Close, Turn, Again, Select, Seek, Switched, GiveBack, Leave, Label, Round, State, Activation, outermost_of, runs_of, inits_of, broken, continued, body_of, seeks, labels_in, default_in}
@@ -32,11 +32,11 @@ use Rattle.c_typing.specs.Accepted.{numbers}
 use Rattle.c_sound.specs.Shapes.{is_place, Fits}
 use Rattle.c_sound.proofs.World.{used_gives, load_gives, store_gives, moved_gives, load_struct_gives, store_struct_gives, FitEach, WorldFits, left_fits, Gives, gives_then}
 use Rattle.c_sound.proofs.Operators.{addr, conv, conv_own, converted_gives, takes, gives, combined_gives, changed_gives, bits_give}
-use Rattle.c_sound.proofs.Shaped.{shape, Updates, is_getchar, row_shapes, CalledBuiltIn, Given, Named, NamedBy, ShapedE, ShapedL, ShapedInits, ShapedRows, ShapedReturn, ShapedS, EachShaped, local_numbers, is_putchar, is_exit}
+use Rattle.c_sound.proofs.Shaped.{shape, Updates, is_getchar, row_shapes, CalledBuiltIn, Given, Named, NamedBy, ShapedE, ShapedL, ShapedInits, ShapedRows, ShapedReturn, ShapedS, EachShaped, Fresh, local_numbers, is_putchar, is_exit}
 use Rattle.c_sound.proofs.Ready.{locals_of, EntersFunction, EntersBy, Enters, EachLabel, Ready, Breaks, Continues, HasFunction, Outside, Good}
 use Rattle.c_sound.proofs.Lists.{locals_length, bound_here, take_map, drop_map, reverse_map, map_length, take_seam}
 use Rattle.c_sound.proofs.Continues.{nil_cons, fit, assign_ready, args_ready, row_length, enters, runs_ready, rows_shaped, body_shaped, breaks_more, continues_more, Lands, breaks_land, continues_land, inits_ready, part_ready, else_shaped, turns_ready, goes_on_ready, for_begins, while_begins, do_begins, labels_shaped, default_shaped}
-use Rattle.c_sound.proofs.Fine.{shapes, Fine, equal_numbers, if_fine, ok_fine, some_fine, there, left_good, opened_good, given_fine, test_fine}
+use Rattle.c_sound.proofs.Fine.{shapes, Fine, equal_numbers, if_fine, ok_fine, some_fine, there, left_good, opened_good, opens, given_fine, test_fine}
 
 module _ (p : Program) where
   -- a function whose body can be done from its first point on
@@ -274,14 +274,16 @@ module _ (p : Program) where
     counted = locals_length h.activation.locals
 
     -- the statements of a block, and then its end
-    block_ready : {m : _} (ds : List DeclaredLocal) (row : Row_of-Stmt m) (l b : Bool) (k : List Item) → ShapedInits p f (ls ++ local_numbers ds) ds → ShapedRows p f (ls ++ local_numbers ds) l b row
+    block_ready : {m : _} (ds : List DeclaredLocal) (row : Row_of-Stmt m) (l b : Bool) (k : List Item) → Fresh ls (local_numbers ds) → ShapedInits p f (ls ++ local_numbers ds) ds → ShapedRows p f (ls ++ local_numbers ds) l b row
         → (b ≡ true → Breaks p f k ls) → (l ≡ true → Continues p f k ls) → Can k []
         → Can (Open ds ∷ (inits_of p f ds ++ (runs_of (stmts row) ++ Close count ∷ k))) []
-    block_ready ds row l b k q s x y r =
-        let xs = local_numbers ds in
-        inits_ready p f ds (runs_of (stmts row) ++ Close count ∷ k) (ls ++ xs) q
-        (runs_ready p f (stmts row) (Close count ∷ k) (ls ++ xs) l b (rows_shaped p f row (ls ++ xs) l b s) (λ e. breaks_more p f k ls xs (x e)) (λ e. continues_more p f k ls xs (y e))
-        (subst (λ ys. Ready p f k ys []) (sym (ap (λ c. take c (ls ++ xs)) counted ∙ take_seam ls xs)) r))
+    block_ready ds row l b k new q s x y r =
+        let xs = local_numbers ds in (
+          new,
+          inits_ready p f ds (runs_of (stmts row) ++ Close count ∷ k) (ls ++ xs) q
+              (runs_ready p f (stmts row) (Close count ∷ k) (ls ++ xs) l b (rows_shaped p f row (ls ++ xs) l b s) (λ e. breaks_more p f k ls xs (x e)) (λ e. continues_more p f k ls xs (y e))
+              (subst (λ ys. Ready p f k ys []) (sym (ap (λ c. take c (ls ++ xs)) counted ∙ take_seam ls xs)) r)),
+        )
 
     returned : (o : Option Typed) (at : _) (q : ℕ) (k : List Item) → ShapedReturn p f ls o → IsFine (execute p h out (Return at q o) [] k)
     returned None at q k r = goes 1 [] _ r
@@ -289,7 +291,7 @@ module _ (p : Program) where
 
     execute_fine : (s : Stmt) (l b : Bool) (k : List Item) → ShapedS p f ls l b s → (b ≡ true → Breaks p f k ls) → (l ≡ true → Continues p f k ls) → Can k [] → IsFine (execute p h out s [] k)
     execute_fine (Expression at e) l b k q x y r = goes 1 [] _ (part_ready p f e k ls q r)
-    execute_fine (Block' at ds t row line column) l b k q x y r = goes 1 [] _ (block_ready ds row l b k q.0 q.1 x y r)
+    execute_fine (Block' at ds t row line column) l b k q x y r = goes 1 [] _ (block_ready ds row l b k q.2 q.0 q.1 x y r)
     execute_fine (If' at c t s e) l b k q x y r = goes 1 [] _ (q.0, (tt, (l, b, q.1, else_shaped p f e ls l b q.2, x, y), r))
     execute_fine (Switch' at c t s) l b k q x y r = goes 1 [] _ (q.0, (q.1, tt, counted, (l, body_shaped p f s ls l q.2, y), r))
     execute_fine (Case' at c t s) l b k q x y r = goes 1 [] _ (tt, (l, b, q, x, y), r)
@@ -369,7 +371,7 @@ module _ (p : Program) where
     act_fine (Choose a b) (v ∷ []) k r =
         test_fine p h out v _ _ (goes 1 [] (Run a ∷ Joined ∷ k) (tt, (r.1.0, r.1.1, r.1.2, r.1.4, r.1.5), r.2)) (goes 1 [] (runs_of b ++ k) (runs_ready p f b k ls r.1.0 r.1.1 r.1.3 r.1.4 r.1.5 r.2))
     act_fine (Choose a b) (v ∷ u ∷ vs) k r = absurd r.0
-    act_fine (Open ds) vs k r = opened_good p f ds h vs k out w i o r
+    act_fine (Open ds) vs k r = if_fine p (can_open p f ds h) _ _ (opens p f ds h r.0) (opened_good p f ds h vs k out w i o r.1)
     act_fine (Close n) vs k r = left_fine n vs k r
     act_fine (Turn s n) [] k r = r
     act_fine (Turn s n) (v ∷ []) k r = test_fine p h out v _ _ (goes 1 [] _ (turns_ready p f s n k ls r.1 r.2 r.3)) (goes 1 [] k r.3)

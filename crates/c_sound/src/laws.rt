@@ -18,6 +18,7 @@ ghost use Rattle.c_session.specs.declared.command.Command.{Command};
 ghost use Rattle.c_session.specs.Commands.{Names, Sides, Reading, answer, ReadsLine};
 ghost use Rattle.c_session.specs.Allowed.{Standing, at_first};
 ghost use Rattle.c_sound.specs.Sessions.{ReadsTyped, AreAnswered, HasAnswer};
+ghost use Rattle.c_session.specs.Histories.{IsModeReached};
 ghost use Rattle.c_sound.specs.Shapes.{IsFitting, IsMoment, KeepsShapes, CourseKeepsShapes, HasMeaning, IsAssigned, AreLive, HasItsLocals};
 
 /// However many steps of an accepted program are looked at, on any input and with any assignments of a debugger at its stops that give leaves values of their kind: it goes on, has ended, or was undefined for one of C's reasons. Never has a value the wrong shape, and never is a step without an answer. The same holds of each run to an event from a moment before the end.
@@ -41,4 +42,9 @@ pub fn stops_have_their_locals()
 /// A session over an accepted program in which each text is refused or read as an expression that keeps to the typing rules has an answer to each command, however it has gone on so far: no command comes to a value of the wrong shape.
 pub fn sessions_have_answers()
     ensures { (p : Program) (names : Names) (sides : Sides) (input : List ℕ) (cs : List (Option Command)) (st : Standing) (x : Reading) (c : Option Command) → IsAccepted p → AreAnswered p names sides (at_first p input) cs st → ReadsLine p names sides st.session (ReadsTyped p) c x → HasAnswer (answer p names sides st.session x c) }
+{}
+
+/// Such a session goes through a run of its program with a history of assignments that give leaves values of their kind, which is a run of `accepted_programs_keep_shapes`.
+pub fn sessions_follow_fitting_runs()
+    ensures { (p : Program) (names : Names) (sides : Sides) (input : List ℕ) (cs : List (Option Command)) (st : Standing) → IsAccepted p → AreAnswered p names sides (at_first p input) cs st → (h : History) × IsModeReached p input h st.session.mode × IsFitting h }
 {}

@@ -4,6 +4,6 @@
 mod laws;
 
 pub use laws::{
-    accepted_programs_keep_shapes, evaluations_keep_shapes, sessions_have_answers,
-    stops_have_their_locals,
+    accepted_programs_keep_shapes, evaluations_keep_shapes, sessions_follow_fitting_runs,
+    sessions_have_answers, stops_have_their_locals,
 };

@@ -1,21 +1,18 @@
 -- The objects of a block and of a call.
-use Rattle.std.specs.Prelude.{ℕ, suc, ◌+◌, List, [], ◌∷◌, Option, Some, None, Result, Ok, Err, slice_get, length, map}
+use Rattle.std.specs.Prelude.{ℕ, suc, ◌+◌, Bool, true, ◌&&◌, List, [], ◌∷◌, Option, Some, None, Result, Ok, Err, slice_get, length, map}
 use Rattle.c_tree.specs.declared.types.CType.{CType}
 use Rattle.c_tree.specs.declared.types.CType.TheVariants.{Char, Void, Pointer'}
 use Rattle.c_tree.specs.declared.types.StructDef.{StructDef}
 use Rattle.c_tree.specs.declared.types.Leaf.{Leaf}
 use Rattle.c_tree.specs.declared.typed.DeclaredLocal.{DeclaredLocal}
-use Rattle.c_tree.specs.declared.typed.Stmt.{Stmt}
-use Rattle.c_tree.specs.declared.typed.Stmt.TheVariants.{Block'}
 use Rattle.c_tree.specs.declared.rows.Program.{Program}
 use Rattle.c_tree.specs.declared.rows.Function.{Function}
 use Rattle.c_tree.specs.declared.rows.Local.{Local}
 use Rattle.c_tree.specs.Layout.{size_of, leaves_of}
-use Rattle.c_tree.specs.Rows.{stmts}
 use Rattle.runs.specs.Runs.{Why, IllTyped}
 use Rattle.c_operators.specs.Bits.{low_byte}
 use Rattle.c_store.specs.Store.{Value, Number, Null, Cell, World, zero_of, with_first, ◌>>=◌}
-use Rattle.c_store.specs.Frames.{Here, made, new_activation}
+use Rattle.c_store.specs.Frames.{Here, made, is_free, new_activation}
 
 -- a pointer operand; an integer there is a null pointer constant (C90 6.2.2.3)
 abbrev pub as_pointer : Value → Result Value Why
@@ -72,6 +69,11 @@ opened_one p f x h = made x (size_of p.defs (local_type p f x)) (cells_of p.defs
 abbrev pub opened : Program → (f : ℕ) → List DeclaredLocal → Here → Here
 opened p f [] h = h
 opened p f (d ∷ ds) h = opened p f ds (opened_one p f d.local h)
+
+-- each of its locals has no object of this activation yet, since a local has one at a time
+abbrev pub can_open : Program → (f : ℕ) → List DeclaredLocal → Here → Bool
+can_open p f [] h = true
+can_open p f (d ∷ ds) h = is_free d.local h.activation.locals && can_open p f ds (opened_one p f d.local h)
 
 -- how many leaves that makes
 abbrev pub leaf_count : Program → ℕ → List DeclaredLocal → ℕ

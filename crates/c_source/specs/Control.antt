@@ -13,7 +13,7 @@ use Rattle.c_tree.specs.declared.rows.Function.{Function}
 use Rattle.c_store.specs.Store.{Value}
 use Rattle.c_store.specs.Frames.{Here, ActivationRecord}
 use Rattle.c_source.specs.Blocks.{local_type, zero_as}
-use Rattle.c_tree.specs.Points.{first_of, last_of}
+use Rattle.c_tree.specs.Points.{first_of}
 use Rattle.c_tree.specs.Rows.{declared_in, statements_in}
 
 -- a label of a `switch`: its constant, and the statements from it on

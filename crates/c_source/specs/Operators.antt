@@ -1,17 +1,16 @@
 -- What the operators give (C90 6.3.3 to 6.3.12), and where they are undefined.
-use Rattle.std.specs.Prelude.{ℕ, suc, zero, ◌-◌, List, Bool, true, false, not, ◌&&◌, ◌==◌, nat_lt, nat_le, int_lt, int_le, int_div, ℤ, pos, neg_ℤ, ◌-ℤ◌, ◌*ℤ◌, Option, Some, None, Result, Ok, Err, bit_and, bit_or, bit_xor, if◌then◌else◌}
+use Rattle.std.specs.Prelude.{ℕ, suc, zero, List, Bool, true, false, not, ◌&&◌, ◌==◌, nat_lt, nat_le, int_div, ℤ, pos, neg_ℤ, ◌-ℤ◌, ◌*ℤ◌, Option, Some, None, Result, Ok, Err, if◌then◌else◌}
 use Rattle.ldb_words.specs.declared.kinds.Undef.{Undef}
 use Rattle.ldb_words.specs.declared.kinds.Undef.TheVariants.{Pointer}
-use Rattle.ldb_words.specs.Word.{signed, word_of_signed}
-use Rattle.c_operators.specs.Bits.{minus_one, signed_add, signed_subtract, signed_multiply, signed_negate, signed_divide, signed_remainder, add, subtract, multiply, divide, remainder, shift_left, shift_right, signed_shift_right}
+use Rattle.ldb_words.specs.Word.{word_of_signed}
 use Rattle.runs.specs.Runs.{Why, Reason, IllTyped}
 use Rattle.c_tree.specs.declared.types.CType.{CType}
 use Rattle.c_tree.specs.declared.types.StructDef.{StructDef}
 use Rattle.c_tree.specs.declared.typed.BinaryOp.{BinaryOp}
-use Rattle.c_tree.specs.declared.typed.BinaryOp.TheVariants.{BitOr, BitXor, BitAnd, Equal, Unequal, Less, Greater, LessEqual, GreaterEqual, ShiftLeft, ShiftRight, Add, Subtract, Multiply, Divide, Remainder}
+use Rattle.c_tree.specs.declared.typed.BinaryOp.TheVariants.{Equal, Unequal, Less, Greater, LessEqual, GreaterEqual, Add, Subtract}
 use Rattle.c_tree.specs.declared.typed.UnaryOp.{UnaryOp}
-use Rattle.c_tree.specs.declared.typed.UnaryOp.TheVariants.{Plus, Minus, Complement, Not}
-use Rattle.c_tree.specs.Types.{target_of, is_unsigned, promoted, common}
+use Rattle.c_tree.specs.declared.typed.UnaryOp.TheVariants.{Not}
+use Rattle.c_tree.specs.Types.{target_of, is_unsigned}
 use Rattle.c_tree.specs.Layout.{size_of}
 use Rattle.c_operators.specs.Arithmetic.{number_of, truth, on_ints, on_unsigned, operating_type, on_integer}
 use Rattle.c_store.specs.Store.{Value, Number, Null, At, World, used, moved, ◌>>=◌}

@@ -24,7 +24,7 @@ use Rattle.c_operators.specs.Bits.{minus_one}
 use Rattle.runs.specs.Runs.{Next, Goes, Passes, Exits, Undefined, Why, IllTyped}
 use Rattle.c_store.specs.Store.{Value, Number, At, used, load, store, load_struct, store_struct, moved, ◌>>=◌}
 use Rattle.c_store.specs.Frames.{Here, with_world, with_point, left, bound}
-use Rattle.c_source.specs.Blocks.{cells_of, converted, result_type, opened, leaf_count, entered}
+use Rattle.c_source.specs.Blocks.{cells_of, converted, result_type, opened, can_open, leaf_count, entered}
 use Rattle.c_source.specs.Operators.{bits_in, is_zero, combined, changed}
 use Rattle.c_source.specs.Control.{Item, Eval, Locate, Push, Bound, Load, Convert, Store, Copy, Update, Change, Combine, Offset, Use, Discard, Truth, AndThen, OrElse, Pick, Joined, Enter, Run, Stop, Choose, Open, Close, Turn, Again, Select, Seek, Switched, GiveBack, Leave, State, Activation, Label, runs_of, evals_of, inits_of, part_of, loop_begins, loop_goes_on, loop_turns, broken, continued, seeks, labels_in, default_in, outermost_of, body_of}
 use Rattle.c_tree.specs.Points.{last_of}
@@ -249,7 +249,9 @@ module _ (p : Program) (h : Here) (outer : List Activation) where
   act (Run s) vs k = execute s vs k
   act (Stop q) vs k = Passes q 1 (record { here = with_point h q; values = vs; control = k; outer = outer })
   act (Choose a b) vs k = on_one vs (λ v rest. on_test v (go 1 h rest (Run a ∷ Joined ∷ k)) (go 1 h rest (runs_of b ++ k)))
-  act (Open ds) vs k = go (1 + leaf_count p h.activation.function ds) (opened p h.activation.function ds h) vs k
+  act (Open ds) vs k =
+      if can_open p h.activation.function ds h then go (1 + leaf_count p h.activation.function ds) (opened p h.activation.function ds h) vs k
+      else Undefined IllTyped
   act (Close n) vs k = go 1 (left n h) vs k
   act (Turn s n) vs k = on_one vs (λ v rest. on_test v (go 1 h rest (loop_turns s n ++ k)) (go 1 h rest k))
   act (Again s n) vs k = go 1 h vs (loop_goes_on s n ++ k)

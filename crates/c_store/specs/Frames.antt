@@ -1,5 +1,5 @@
 -- Activations, and the objects that they make and end.
-use Rattle.std.specs.Prelude.{ℕ, List, [], ◌∷◌, ◌++◌, true, false, ◌==◌, Option, Some, None, slice_get, slice_set, take, drop, length, if◌then◌else◌}
+use Rattle.std.specs.Prelude.{ℕ, List, [], ◌∷◌, ◌++◌, Bool, true, false, ◌==◌, Option, Some, None, slice_get, slice_set, take, drop, length, if◌then◌else◌}
 use Rattle.c_store.specs.Store.{Cell, Object, World, Auto}
 
 -- a live local of an activation, and its object
@@ -52,6 +52,11 @@ left n h = record {
   world = record h.world { objects = ended (drop n h.activation.locals) h.world.objects };
   activation = record h.activation { locals = take n h.activation.locals };
 }
+
+-- no live object of the activation is this local's
+abbrev pub is_free : ℕ → List Binding → Bool
+is_free x [] = true
+is_free x (b ∷ bs) = if b.local == x then false else is_free x bs
 
 -- the object of a local
 abbrev pub bound : ℕ → List Binding → Option ℕ

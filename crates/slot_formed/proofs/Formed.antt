@@ -1,6 +1,6 @@
 -- The code of an accepted program is well formed.
 use Rattle.std.proofs.Common.{◌≡◌, refl, sym, ap, subst, ◌∙◌, arith, ℕ, suc, zero, ◌+◌, ◌*◌, ◌<◌, ◌≤◌, List, [], ◌∷◌, ◌++◌, length, length-append, append_assoc, map, Bool, true, false, not, ◌&&◌, ◌||◌, Option, Some, None, true≢false, slice_get, inl, inr, take, drop}
-use Rattle.std.specs.Prelude.{◌==◌}
+use Rattle.std.specs.Prelude.{◌==◌, sum}
 use Rattle.std.specs.List.{AllByRecursion}
 use Rattle.std.proofs.lemmas.List.{length-map}
 use Rattle.ldb_words.specs.declared.kinds.Kind.TheVariants.{Byte, Word, Address}
@@ -32,7 +32,7 @@ use Rattle.slot_ir.specs.declared.code.SlotObject.{SlotObject}
 use Rattle.slot_ir.specs.declared.code.SlotStruct.{SlotStruct}
 use Rattle.slot_ir.specs.declared.code.SlotOp.{SlotOp}
 use Rattle.slot_ir.specs.declared.code.SlotOp.TheVariants as op
-use Rattle.slot_ir.specs.WellFormed.{operators_in, IsFunction, IsListed, IsWellFormed, NamesWhatIsThere, PlacesOf}
+use Rattle.slot_ir.specs.WellFormed.{struct_weight, weight_in, IsAmong, Differ, IsFunction, IsListed, IsWellFormed, NamesWhatIsThere, PlacesOf}
 use Rattle.slot_gen.specs.Expressions.{access_of, registers_from, register_at, register_of}
 use Rattle.slot_gen.specs.Statements.{nowhere, zeros_code, inits_code, stmts_code, zero_code, body_place, end_place, function_code}
 use Rattle.slot_gen.specs.Correct.{HasMain}
@@ -77,6 +77,19 @@ last_among q (r ∷ qs) = inr (last_among r qs)
 last_behind : (q last : ℕ) (qs : List ℕ) → last_of (q ∷ (qs ++ last ∷ [])) ≡ last
 last_behind q last [] = refl
 last_behind q last (r ∷ qs) = last_behind r last qs
+
+-- numbers from one on are none before it, and differ
+none_below : (from count q : ℕ) → q < from → IsAmong q (numbers from count) → ⊥
+none_below from zero q le among = among
+none_below from (suc count) q le (inl e) = omega (arith, le, e)
+none_below from (suc count) q le (inr r) = none_below (suc from) count q (omega (arith, le)) r
+
+each_differs : (from count : ℕ) → Differ (numbers from count)
+each_differs from zero = tt
+each_differs from (suc count) = (none_below (suc from) count from (omega arith), each_differs (suc from) count)
+
+points_differ : (qs : List ℕ) → (first : ℕ) × (qs ≡ numbers first (length qs)) → Differ qs
+points_differ qs n = subst Differ (sym n.1) (each_differs n.0 (length qs))
 
 -- ---- operators
 
@@ -336,6 +349,7 @@ module _ (p : Program) (accepted : IsAccepted p) (ascend : (t : CType) → LieIn
     names_all (function_code p f fn) below (function_good p accepted ascend f fn here n size first last points),
     places_all fn.points placed places,
     stops_listed p accepted ascend f fn here n size first last points placed places,
+    points_differ fn.points (mine p accepted ascend f fn here n size).numbered,
   )
 
 points_stand : (p : Program) → IsAccepted p → ((t : CType) → LieIn 0 (leaves_of p.defs t) (size_of p.defs t)) → (f : ℕ) (fn : Function) → slice_get p.functions f ≡ Some fn → (first last : ℕ) → fn.points ≡ first ∷ (points_in fn.body ++ last ∷ []) → HasAll (function_code p f fn) fn.points
@@ -412,7 +426,7 @@ module _ (p : Program) (accepted : IsAccepted p) (ascend : (t : CType) → LieIn
       (subst (λ (ss : List (List ℕ)). P (record c { main = main_from 0 p.functions; objects = map (object_row p) p.objects; strings = ss })) (sym is.strings)
       (subst (λ (ts : List SlotStruct). P (record c { main = main_from 0 p.functions; objects = map (object_row p) p.objects; strings = p.strings; structs = ts })) (sym is.structs) h)))
 
-  pub well_formed : Laid p.defs → (c : SlotCode) → IsProgramCode p c → program_tokens p ≤ 40000 → operators_in c ≤ 6 * program_tokens p → IsWellFormed c
+  pub well_formed : Laid p.defs → (c : SlotCode) → IsProgramCode p c → program_tokens p ≤ 40000 → weight_in c ≤ 6 * program_tokens p → IsWellFormed c
   well_formed laid c is few short =
       of_code IsWellFormed c is (
         main_formed c.functions is.functions,
@@ -421,7 +435,7 @@ module _ (p : Program) (accepted : IsAccepted p) (ascend : (t : CType) → LieIn
         all_structs (code_with p c.functions) p.defs refl accepted.structs laid,
         all_nest (code_with p c.functions) p.defs refl accepted.structs,
         static_few p accepted ascend,
-        omega (arith, few, short),
+        omega (arith, few, short, ap (λ (ss : List SlotStruct). sum (map struct_weight ss)) is.structs),
       )
 
   pub uniform : Laid p.defs → (c : SlotCode) → IsProgramCode p c → IsUniform c

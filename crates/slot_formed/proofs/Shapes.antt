@@ -1,8 +1,9 @@
--- The rows of structs: their leaves are those of their members, and they nest at most 64 deep.
-use Rattle.std.proofs.Common.{◌≡◌, refl, sym, ap, subst, ◌∙◌, arith, ℕ, suc, zero, ◌+◌, ◌*◌, ◌<◌, ◌≤◌, List, [], ◌∷◌, ◌++◌, map, length, true, true≢false, Option, Some, None, slice_get, append_assoc}
+-- The rows of structs: their leaves are those of their members, and they nest at most 63 levels deep.
+use Rattle.std.proofs.Common.{◌≡◌, refl, sym, ap, subst, ◌∙◌, arith, ℕ, suc, zero, ◌+◌, ◌*◌, ◌<◌, ◌≤◌, List, [], ◌∷◌, ◌++◌, map, length, Bool, true, false, true≢false, Option, Some, None, slice_get, append_assoc}
 use Rattle.std.proofs.lemmas.List.{append-nil}
 use Rattle.std.specs.List.{AllByRecursion}
 use Rattle.ldb_words.specs.declared.kinds.Kind.{Kind}
+use Rattle.ldb_words.specs.declared.kinds.Kind.TheVariants.{Byte, Word, Address}
 use Rattle.c_tree.specs.declared.types.CType.{CType}
 use Rattle.c_tree.specs.declared.types.CType.TheVariants.{Char, Int, Unsigned, Void, Pointer', Array', Struct}
 use Rattle.c_tree.specs.declared.types.StructDef.{StructDef}
@@ -13,8 +14,8 @@ use Rattle.c_tree.specs.Layout.{size_of, size_in, members_in, members_of, IsWith
 use Rattle.c_tree.specs.Ordered.{LieIn, IsAligned}
 use Rattle.c_tree.proofs.Aligned.{same_leaves}
 use Rattle.std.proofs.Math.Nat.{one-le-mul}
-use Rattle.std.specs.Prelude.{nat_le}
-use Rattle.c_typing.specs.Plain.{plain, is_complete}
+use Rattle.std.specs.Prelude.{nat_le, not, ◌==◌}
+use Rattle.c_typing.specs.Plain.{plain, is_complete, is_empty}
 use Rattle.c_typing.specs.Written.{IsFormed, IsDeclared}
 use Rattle.c_typing.specs.Declared.{IsStruct as IsItsStruct}
 use Rattle.c_typing.specs.Accepted.{AllFrom}
@@ -161,32 +162,72 @@ module _ (c : SlotCode) (defs : List StructDef) (same : c.structs ≡ struct_row
 
   -- ---- how deep they nest
 
-  all_deeper : (deep : ℕ) → ((i : SlotItem) → NestsWithin c deep i → NestsWithin c (suc deep) i) → (ms : List SlotMember) → AllByRecursion (λ (m : SlotMember). NestsWithin c deep m.item) ms → AllByRecursion (λ (m : SlotMember). NestsWithin c (suc deep) m.item) ms
+  abbrev Nested : ℕ → SlotMember → Type 0
+  Nested deep m = NestsWithin c deep (m.items == 1) m.item
+
+  all_deeper : (deep : ℕ) → ((b : Bool) (i : SlotItem) → NestsWithin c deep b i → NestsWithin c (suc deep) b i) → (ms : List SlotMember) → AllByRecursion (Nested deep) ms → AllByRecursion (Nested (suc deep)) ms
   all_deeper deep go [] h = tt
-  all_deeper deep go (m ∷ ms) h = (go m.item h.0, all_deeper deep go ms h.1)
+  all_deeper deep go (m ∷ ms) h = (go (m.items == 1) m.item h.0, all_deeper deep go ms h.1)
 
-  more_deep : (deep : ℕ) (i : SlotItem) → NestsWithin c deep i → NestsWithin c (suc deep) i
-  more_deep deep (an_item.Scalar k) h = tt
-  more_deep zero (an_item.Struct s) h = absurd h
-  more_deep (suc deep) (an_item.Struct s) h = all_deeper deep (more_deep deep) (members_by (slice_get c.structs s)) h
+  more_deep : (deep : ℕ) (b : Bool) (i : SlotItem) → NestsWithin c deep b i → NestsWithin c (suc deep) b i
+  more_deep zero false i h = absurd h
+  more_deep zero true (an_item.Scalar k) h = tt
+  more_deep zero true (an_item.Struct s) h = absurd h
+  more_deep (suc deep) false i h = more_deep deep true i h
+  more_deep (suc deep) true (an_item.Scalar k) h = tt
+  more_deep (suc deep) true (an_item.Struct s) h = all_deeper deep (more_deep deep) (members_by (slice_get c.structs s)) h
 
-  members_nest : (deep : ℕ) → ((t : CType) → IsWithin defs deep t → NestsWithin c deep (item_of t)) → (ms : List Member) → AllByRecursion (λ (m : Member). IsWithin defs deep m.ctype) ms
-      → AllByRecursion (λ (m : SlotMember). NestsWithin c deep m.item) (map member_of ms)
-  members_nest deep go [] w = tt
-  members_nest deep go (m ∷ ms) w = (go m.ctype w.0, members_nest deep go ms w.1)
+  -- fewer items nest no deeper
+  as_one : (deep : ℕ) (b : Bool) (i : SlotItem) → NestsWithin c deep b i → NestsWithin c deep true i
+  as_one deep true i h = h
+  as_one zero false i h = absurd h
+  as_one (suc deep) false i h = more_deep deep true i h
 
-  nests : (deep : ℕ) (t : CType) → IsWithin defs deep t → NestsWithin c deep (item_of t)
-  nests zero t w = absurd w
-  nests (suc deep) Char w = tt
-  nests (suc deep) Int w = tt
-  nests (suc deep) Unsigned w = tt
-  nests (suc deep) Void w = tt
-  nests (suc deep) (Pointer' _ t) w = tt
-  nests (suc deep) (Array' _ t n) w = more_deep deep (item_of t) (nests deep t w)
-  nests (suc deep) (Struct s) w =
-      subst (λ (ms : List SlotMember). AllByRecursion (λ (m : SlotMember). NestsWithin c deep m.item) ms) (sym (members_there s)) (members_nest deep (nests deep) (members_in (slice_get defs s)) w)
+  in_array : (deep : ℕ) (b n : Bool) (i : SlotItem) → NestsWithin c deep b i → NestsWithin c (suc deep) n i
+  in_array deep b true i h = more_deep deep true i (as_one deep b i h)
+  in_array deep b false i h = as_one deep b i h
+
+  one_scalar : (deep : ℕ) (k : Kind) → NestsWithin c deep true (an_item.Scalar k)
+  one_scalar zero k = tt
+  one_scalar (suc deep) k = tt
+
+  abbrev IsFull : Member → Type 0
+  IsFull m = is_complete defs (plain m.ctype) ≡ true
+
+  members_nest : (deep : ℕ) → ((t : CType) → is_complete defs (plain t) ≡ true → IsWithin defs (suc deep) t → NestsWithin c deep (items_of t == 1) (item_of t)) → (ms : List Member) → AllByRecursion IsFull ms → AllByRecursion (λ (m : Member). IsWithin defs (suc deep) m.ctype) ms
+      → AllByRecursion (Nested deep) (map member_of ms)
+  members_nest deep go [] f w = tt
+  members_nest deep go (m ∷ ms) f w = (go m.ctype f.0 w.0, members_nest deep go ms f.1 w.1)
+
+  -- a struct that is complete is at least 2 deep
+  none_flat : (ms : List Member) → not (is_empty ms) ≡ true → AllByRecursion (λ (m : Member). IsWithin defs 0 m.ctype) ms → ⊥
+  none_flat [] f w = true≢false (sym f)
+  none_flat (m ∷ ms) f w = w.0
+
+  nests : ((s : ℕ) → AllByRecursion IsFull (members_in (slice_get defs s))) → (deep : ℕ) (t : CType) → is_complete defs (plain t) ≡ true → IsWithin defs (suc deep) t → NestsWithin c deep (items_of t == 1) (item_of t)
+  nests full deep Char f w = one_scalar deep Byte
+  nests full deep Int f w = one_scalar deep Word
+  nests full deep Unsigned f w = one_scalar deep Word
+  nests full deep Void f w = absurd (true≢false (sym f))
+  nests full deep (Pointer' _ t) f w = one_scalar deep Address
+  nests full zero (Array' _ t n) f w = absurd w
+  nests full (suc deep) (Array' b t n) f w = in_array deep (items_of t == 1) (items_of (Array' b t n) == 1) (item_of t) (nests full deep t (and_parts (nat_le 1 n) (is_complete defs (plain t)) f).1 w)
+  nests full zero (Struct s) f w = absurd (none_flat (members_of defs s) f w)
+  nests full (suc deep) (Struct s) f w =
+      subst (λ (ms : List SlotMember). AllByRecursion (Nested deep) ms) (sym (members_there s)) (members_nest deep (nests full deep) (members_in (slice_get defs s)) (full s) w)
 
   module _ (structs : AllFrom (IsItsStruct defs) 0 defs) where
+    all_full : (ms : List Member) → AllByRecursion (λ (m : Member). IsDeclared defs m.ctype) ms → AllByRecursion IsFull ms
+    all_full [] h = tt
+    all_full (m ∷ ms) h = (h.0.1, all_full ms h.1)
+
+    members_full : (s : ℕ) → AllByRecursion IsFull (members_in (slice_get defs s))
+    members_full s = by (slice_get defs s) refl
+      where
+        by : (o : Option StructDef) → slice_get defs s ≡ o → AllByRecursion IsFull (members_in (slice_get defs s))
+        by None e = subst (λ o. AllByRecursion IsFull (members_in o)) (sym e) tt
+        by (Some d) e = subst (λ o. AllByRecursion IsFull (members_in o)) (sym e) (all_full d.members (struct_there defs structs s d e).2)
+
     -- a struct is at most 64 deep, also where there is none of that number
     within : (s : ℕ) → IsWithin defs 64 (Struct s)
     within s = by (slice_get defs s) refl
@@ -195,8 +236,8 @@ module _ (c : SlotCode) (defs : List StructDef) (same : c.structs ≡ struct_row
         by None e = subst (λ o. AllByRecursion (λ (m : Member). IsWithin defs 63 m.ctype) (members_in o)) (sym e) tt
         by (Some d) e = (struct_there defs structs s d e).0.0
 
-    pub all_nest : (s : ℕ) → NestsWithin c 64 (an_item.Struct s)
-    all_nest s = nests 64 (Struct s) (within s)
+    pub all_nest : (s : ℕ) → NestsWithin c 63 true (an_item.Struct s)
+    all_nest s = subst (λ (ms : List SlotMember). AllByRecursion (Nested 62) ms) (sym (members_there s)) (members_nest 62 (nests members_full 62) (members_in (slice_get defs s)) (members_full s) (within s))
 
     item_there : (t : CType) → IsFormed defs t → IsItemThere c (item_of t)
     item_there Char h = tt

@@ -1,5 +1,6 @@
 -- The fewest tokens that a program is written with.
-use Rattle.std.specs.Prelude.{ℕ, ◌+◌, sum, map}
+use Rattle.std.specs.Prelude.{ℕ, ◌+◌, ◌*◌, sum, map, length}
+use Rattle.c_tree.specs.declared.types.StructDef.{StructDef}
 use Rattle.c_tree.specs.declared.rows.Program.{Program}
 use Rattle.c_tree.specs.declared.rows.Function.{Function}
 use Rattle.slot_gen.specs.Tokens.{stmt_tokens}
@@ -8,5 +9,9 @@ use Rattle.slot_gen.specs.Tokens.{stmt_tokens}
 abbrev pub function_tokens : Function → ℕ
 function_tokens f = 5 + stmt_tokens f.body
 
+-- `struct` and a tag, and for each member a name and what ends its declarator (C90 6.5.2.1)
+abbrev pub struct_tokens : StructDef → ℕ
+struct_tokens d = 2 + 2 * length d.members
+
 abbrev pub program_tokens : Program → ℕ
-program_tokens p = sum (map function_tokens p.functions)
+program_tokens p = sum (map function_tokens p.functions) + sum (map struct_tokens p.defs)

@@ -3,7 +3,7 @@ ghost use Rattle.std.specs.Prelude.{◌≤◌, ◌*◌};
 ghost use Rattle.c_tree.specs.declared.rows.Program.{Program};
 ghost use Rattle.c_typing.specs.Accepted.{IsAccepted};
 ghost use Rattle.slot_ir.specs.declared.code.SlotCode.{SlotCode};
-ghost use Rattle.slot_ir.specs.WellFormed.{operators_of_a_token, operators_in, IsWellFormed};
+ghost use Rattle.slot_ir.specs.WellFormed.{operators_of_a_token, weight_in, IsWellFormed};
 ghost use Rattle.slot_gen.specs.Correct.{IsCodeOf, Lowers};
 ghost use Rattle.slot_formed.specs.Accesses.{IsUniform};
 ghost use Rattle.std.specs.List.{AllByRecursion};
@@ -16,9 +16,9 @@ use slot_gen::{
     code_of_an_expression_is_short, code_takes_few_temporaries, slot_code_keeps_the_run,
 };
 
-/// A slot code of a program has at most so many operators for each token that the program is written with.
+/// A slot code of a program weighs at most so much for each token that the program is written with: an operator weighs 1, a call 1 more for each argument, and a function 16 more. So it has at most so many operators.
 pub fn code_of_a_program_is_short()
-    ensures { (p : Program) (c : SlotCode) → IsProgramCode p c → operators_in c ≤ operators_of_a_token * program_tokens p }
+    ensures { (p : Program) (c : SlotCode) → IsProgramCode p c → weight_in c ≤ operators_of_a_token * program_tokens p }
 {
     code_of_an_expression_is_short();
 }

@@ -1,9 +1,10 @@
--- The code of an expression has at most 6 operators for each of its tokens.
-use Rattle.std.proofs.Common.{ℕ, zero, suc, ◌+◌, ◌*◌, ◌≤◌, List, [], ◌∷◌, ◌++◌, length, Bool, true, false, Option, Some, None, arith, length-append}
+-- The code of an expression weighs at most 6 for each of its tokens.
+use Rattle.std.proofs.Common.{ℕ, zero, suc, ◌+◌, ◌*◌, ◌-◌, ◌≤◌, List, [], ◌∷◌, ◌++◌, length, Bool, true, false, Option, Some, None, ◌≡◌, refl, ap, ◌∙◌, sym, arith}
 use Rattle.std.specs.Prelude.{slice_get, bytes_eq, codes, if◌then◌else◌}
 use Rattle.c_tree.specs.declared.types.CType.{CType}
 use Rattle.c_tree.specs.declared.types.CType.TheVariants.{Int}
 use Rattle.c_tree.specs.declared.typed.BinaryOp.{BinaryOp}
+use Rattle.c_tree.specs.declared.typed.BinaryOp.TheVariants.{Equal, Unequal, Less, Greater, LessEqual, GreaterEqual, Add, Subtract}
 use Rattle.c_tree.specs.declared.typed.Typed.{Typed, Row_of-Typed, end_of-Typed, more_of-Typed}
 use Rattle.c_tree.specs.declared.typed.Typed.TheVariants.{Comma', Assign', Choice', Or', And', Binary', Cast', Before', Address', Follow', Unary', SizeOf', SizeOfType, Index', Call', Dot', Arrow', After', Name, Constant, Literal, Parens'}
 use Rattle.c_tree.specs.declared.rows.Program.{Program}
@@ -11,22 +12,28 @@ use Rattle.c_tree.specs.declared.rows.SymbolRow.{SymbolRow}
 use Rattle.c_tree.specs.declared.rows.Referent.{Referent}
 use Rattle.c_tree.specs.declared.rows.Referent.TheVariants.{Object, Local, Function as Defined, Declared}
 use Rattle.c_tree.specs.Rows.{exprs}
-use Rattle.c_tree.specs.Types.{type_of, is_array, is_struct, kind_of}
+use Rattle.c_tree.specs.Types.{type_of, target_of, is_array, is_struct, kind_of}
+use Rattle.c_tree.specs.Layout.{size_of}
 use Rattle.c_source.specs.Source.{stepping}
 use Rattle.slot_ir.specs.declared.code.Access.{Access}
 use Rattle.slot_ir.specs.declared.code.Access.TheVariants as access
 use Rattle.slot_ir.specs.declared.code.SlotOp.{SlotOp}
 use Rattle.slot_ir.specs.declared.code.SlotOp.TheVariants as op
 use Rattle.slot_ir.specs.declared.code.UnaryWordOp.TheVariants as unary
-use Rattle.slot_gen.specs.Expressions.{access_of, converting, cast_code, load_code, combine_op, call_code, built_in_code, enter_code, choice_code, and_code, or_code, name_code, referent_code, read_at, write_at, update_at, unless_register, register_in, expr_code, place_code, row_code}
+use Rattle.slot_ir.specs.WellFormed.{weight_of, weight}
+use Rattle.slot_gen.specs.Expressions.{access_of, converting, cast_code, load_code, mixed_op, pointers_op, targets_op, combine_op, call_code, built_in_code, enter_code, choice_code, and_code, or_code, name_code, referent_code, read_at, write_at, update_at, unless_register, register_in, expr_code, place_code, row_code}
 use Rattle.slot_gen.specs.Tokens.{tokens_of, row_tokens}
 
--- a list of at most so many operators
+pub weight-append : (a b : List SlotOp) → weight (a ++ b) ≡ weight a + weight b
+weight-append [] b = omega arith
+weight-append (o ∷ a) b = let e = weight-append a b in omega (arith, e)
+
+-- code of at most so much weight
 abbrev pub Few : ℕ → List SlotOp → Type 0
-Few n l = length l ≤ n
+Few n l = weight l ≤ n
 
 pub few_append : (m n k : ℕ) (a b : List SlotOp) → Few m a → Few n b → m + n ≤ k → Few k (a ++ b)
-few_append m n k a b x y le = omega (arith, length-append a b, x, y, le)
+few_append m n k a b x y le = omega (arith, weight-append a b, x, y, le)
 
 pub fewer : (m k : ℕ) (a : List SlotOp) → Few m a → m ≤ k → Few k a
 fewer m k a x le = omega (arith, x, le)
@@ -46,7 +53,7 @@ load_few d t = by (is_array t)
     by true = omega arith
     by false = omega arith
 
-enter_few : (d m : ℕ) (o : Option SymbolRow) → Few 1 (enter_code d o m)
+enter_few : (d m : ℕ) (o : Option SymbolRow) → Few (1 + m) (enter_code d o m)
 enter_few d m None = omega arith
 enter_few d m (Some s) = by s.refers
   where
@@ -62,11 +69,42 @@ enter_few d m (Some s) = by s.refers
     built_few zero = get_few (bytes_eq s.name (codes "getchar"))
     built_few (suc j) = put_few (bytes_eq s.name (codes "putchar"))
 
-    by : (r : Referent) → Few 1 (call_code d r s.name m)
+    by : (r : Referent) → Few (1 + m) (call_code d r s.name m)
     by (Object o) = omega arith
     by (Local x) = omega arith
     by (Defined j) = omega arith
-    by Declared = built_few m
+    by Declared = fewer 1 (1 + m) (built_in_code d s.name m) (built_few m) (omega arith)
+
+mixed_weight : (to l r size : ℕ) (o : BinaryOp) (t : CType) → weight_of (mixed_op to l r size o t) ≡ 1
+mixed_weight to l r size Add t = refl
+mixed_weight to l r size Subtract t = refl
+mixed_weight to l r size Equal t = refl
+mixed_weight to l r size Unequal t = refl
+mixed_weight to l r size _ t = refl
+
+pointers_weight : (to l r size : ℕ) (o : BinaryOp) → weight_of (pointers_op to l r size o) ≡ 1
+pointers_weight to l r size Equal = refl
+pointers_weight to l r size Unequal = refl
+pointers_weight to l r size Less = refl
+pointers_weight to l r size Greater = refl
+pointers_weight to l r size LessEqual = refl
+pointers_weight to l r size GreaterEqual = refl
+pointers_weight to l r size Subtract = refl
+pointers_weight to l r size _ = refl
+
+-- an operator on two operands weighs 1
+combine_weight : (p : Program) (to l r : ℕ) (o : BinaryOp) (s t : CType) → weight_of (combine_op p to l r o s t) ≡ 1
+combine_weight p to l r o s t = by (target_of s) (target_of t)
+  where
+    by : (a b : Option CType) → weight_of (targets_op p to l r o s t a b) ≡ 1
+    by None None = refl
+    by (Some a) None = mixed_weight to l r (size_of p.defs a) o t
+    by None (Some b) = mixed_weight to r l (size_of p.defs b) o s
+    by (Some a) (Some b) = pointers_weight to l r (size_of p.defs a) o
+
+-- a call's arguments are parted by commas
+commas : (tokens m : ℕ) → 6 * tokens + (1 + m) ≤ 6 * (3 + (tokens + (m - 1)))
+commas tokens m = omega arith
 
 module _ (p : Program) (f : ℕ) where
   name_few : (d : ℕ) (o : Option SymbolRow) → Few 1 (name_code p f d o)
@@ -92,17 +130,17 @@ module _ (p : Program) (f : ℕ) where
   write_few d (Some x) t = few_append 1 2 3 (cast_code (suc d) t) _ (cast_few (suc d) (access_of t)) (omega arith) (omega arith)
 
   update_few : (d : ℕ) (o : Option ℕ) (t : CType) (b : BinaryOp) (s : CType) (new : Bool) → Few 5 (update_at p f d o t b s new)
-  update_few d None t b s new = few_append 2 3 5 (op.Load (suc (suc d)) d (kind_of t) (access_of t) ∷ combine_op p (suc d) (suc (suc d)) (suc d) b t s ∷ []) _ (omega arith) (few_append 1 2 3 (cast_code (suc d) t) _ (cast_few (suc d) (access_of t)) (omega arith) (omega arith)) (omega arith)
-  update_few d (Some x) t b s new = few_append 2 3 5 (op.ReadRegister (suc (suc d)) x (kind_of t) (access_of t) ∷ combine_op p (suc d) (suc (suc d)) (suc d) b t s ∷ []) _ (omega arith) (few_append 1 2 3 (cast_code (suc d) t) _ (cast_few (suc d) (access_of t)) (omega arith) (omega arith)) (omega arith)
+  update_few d None t b s new = few_append 2 3 5 (op.Load (suc (suc d)) d (kind_of t) (access_of t) ∷ combine_op p (suc d) (suc (suc d)) (suc d) b t s ∷ []) _ (omega (arith, combine_weight p (suc d) (suc (suc d)) (suc d) b t s)) (few_append 1 2 3 (cast_code (suc d) t) _ (cast_few (suc d) (access_of t)) (omega arith) (omega arith)) (omega arith)
+  update_few d (Some x) t b s new = few_append 2 3 5 (op.ReadRegister (suc (suc d)) x (kind_of t) (access_of t) ∷ combine_op p (suc d) (suc (suc d)) (suc d) b t s ∷ []) _ (omega (arith, combine_weight p (suc d) (suc (suc d)) (suc d) b t s)) (few_append 1 2 3 (cast_code (suc d) t) _ (cast_few (suc d) (access_of t)) (omega arith) (omega arith)) (omega arith)
 
   choice_few : (m n k at d : ℕ) (a b : List SlotOp) → Few m a → Few n b → m + n + 2 ≤ k → Few k (choice_code at d a b)
-  choice_few m n k at d a b x y le = omega (arith, length-append a (op.Jump (at + 1 + length a + 1 + length b) ∷ b), x, y, le)
+  choice_few m n k at d a b x y le = omega (arith, weight-append a (op.Jump (at + 1 + length a + 1 + length b) ∷ b), x, y, le)
 
   and_few : (m k at d : ℕ) (b : List SlotOp) → Few m b → m + 4 ≤ k → Few k (and_code at d b)
-  and_few m k at d b y le = omega (arith, length-append b (op.Unary d unary.Truth ∷ op.Jump (at + 1 + length b + 3) ∷ op.Const d 0 ∷ []), y, le)
+  and_few m k at d b y le = omega (arith, weight-append b (op.Unary d unary.Truth ∷ op.Jump (at + 1 + length b + 3) ∷ op.Const d 0 ∷ []), y, le)
 
   or_few : (m k at d : ℕ) (b : List SlotOp) → Few m b → m + 4 ≤ k → Few k (or_code at d b)
-  or_few m k at d b y le = omega (arith, length-append b (op.Unary d unary.Truth ∷ op.Jump (at + 1 + length b + 3) ∷ op.Const d 1 ∷ []), y, le)
+  or_few m k at d b y le = omega (arith, weight-append b (op.Unary d unary.Truth ∷ op.Jump (at + 1 + length b + 3) ∷ op.Const d 1 ∷ []), y, le)
 
   either_few : (k : ℕ) (c : Bool) (x y : List SlotOp) → Few k x → Few k y → Few k (if c then x else y)
   either_few k true x y a b = a
@@ -137,7 +175,7 @@ module _ (p : Program) (f : ℕ) where
         few_append (6 * tokens_of a) (6 * tokens_of b + 4) _ ca _ (expr_few a at d) (and_few (6 * tokens_of b) _ (at + length ca) d (expr_code p f (at + length ca + 1) d b) (expr_few b (at + length ca + 1) d) (omega arith)) (omega arith)
     expr_few (Binary' h x a o y b) at d =
         let ca = expr_code p f at d a in
-        few_append (6 * tokens_of a) (6 * tokens_of b + 1) _ ca _ (expr_few a at d) (few_append (6 * tokens_of b) 1 _ (expr_code p f (at + length ca) (suc d) b) _ (expr_few b (at + length ca) (suc d)) (omega arith) (omega arith)) (omega arith)
+        few_append (6 * tokens_of a) (6 * tokens_of b + 1) _ ca _ (expr_few a at d) (few_append (6 * tokens_of b) 1 _ (expr_code p f (at + length ca) (suc d) b) _ (expr_few b (at + length ca) (suc d)) (omega (arith, combine_weight p d d (suc d) o (type_of a) (type_of b))) (omega arith)) (omega arith)
     expr_few (Cast' h x a) at d = few_append (6 * tokens_of a) 1 _ (expr_code p f at d a) _ (expr_few a at d) (cast_few d (access_of h.ctype)) (omega arith)
     expr_few (Before' h o x a) at d =
         let ca = place_code p f at d a in
@@ -146,7 +184,8 @@ module _ (p : Program) (f : ℕ) where
     expr_few (Unary' h o x a) at d = few_append (6 * tokens_of a) 1 _ (expr_code p f at d a) _ (expr_few a at d) (omega arith) (omega arith)
     expr_few (SizeOf' h x a) at d = omega arith
     expr_few (SizeOfType h t) at d = omega arith
-    expr_few (Call' h g x row) at d = few_append (6 * row_tokens row) 1 _ (row_code p f at d row) _ (row_few row at d) (enter_few d (length (exprs row)) (slice_get p.symbols g)) (omega arith)
+    expr_few (Call' h g x row) at d =
+        few_append (6 * row_tokens row) (1 + length (exprs row)) _ (row_code p f at d row) _ (row_few row at d) (enter_few d (length (exprs row)) (slice_get p.symbols g)) (commas (row_tokens row) (length (exprs row)))
     expr_few (After' h x a o) at d =
         let ca = place_code p f at d a in
         few_append (6 * tokens_of a) 6 _ (unless_register (register_in p f a) ca) _ (unless_few (6 * tokens_of a) (register_in p f a) ca (place_few a at d)) (few_append 1 5 6 (op.Const (suc d) 1 ∷ []) _ (omega arith) (update_few d (register_in p f a) (type_of a) (stepping o) Int false) (omega arith)) (omega arith)
@@ -158,7 +197,7 @@ module _ (p : Program) (f : ℕ) where
     expr_few (Follow' h x a) at d = few_append (6 * tokens_of a) 1 _ (expr_code p f at d a) _ (expr_few a at d) (load_few d h.ctype) (omega arith)
     expr_few (Index' h x a y b) at d =
         let ca = expr_code p f at d a in
-        few_append (6 * tokens_of a + (6 * tokens_of b + 1)) 1 _ _ (load_code d h.ctype) (few_append (6 * tokens_of a) (6 * tokens_of b + 1) _ ca _ (expr_few a at d) (few_append (6 * tokens_of b) 1 _ (expr_code p f (at + length ca) (suc d) b) _ (expr_few b (at + length ca) (suc d)) (omega arith) (omega arith)) (omega arith)) (load_few d h.ctype) (omega arith)
+        few_append (6 * tokens_of a + (6 * tokens_of b + 1)) 1 _ _ (load_code d h.ctype) (few_append (6 * tokens_of a) (6 * tokens_of b + 1) _ ca _ (expr_few a at d) (few_append (6 * tokens_of b) 1 _ (expr_code p f (at + length ca) (suc d) b) _ (expr_few b (at + length ca) (suc d)) (omega (arith, combine_weight p d d (suc d) Add (type_of a) (type_of b))) (omega arith)) (omega arith)) (load_few d h.ctype) (omega arith)
     expr_few (Dot' h x a m) at d = few_append (6 * tokens_of a + 1) 1 _ _ (load_code d h.ctype) (few_append (6 * tokens_of a) 1 _ (place_code p f at d a) _ (place_few a at d) (omega arith) (omega arith)) (load_few d h.ctype) (omega arith)
     expr_few (Arrow' h x a m) at d = few_append (6 * tokens_of a + 1) 1 _ _ (load_code d h.ctype) (few_append (6 * tokens_of a) 1 _ (expr_code p f at d a) _ (expr_few a at d) (omega arith) (omega arith)) (load_few d h.ctype) (omega arith)
 
@@ -168,7 +207,7 @@ module _ (p : Program) (f : ℕ) where
     place_few (Follow' h x a) at d = fewer (6 * tokens_of a) _ (expr_code p f at d a) (expr_few a at d) (omega arith)
     place_few (Index' h x a y b) at d =
         let ca = expr_code p f at d a in
-        few_append (6 * tokens_of a) (6 * tokens_of b + 1) _ ca _ (expr_few a at d) (few_append (6 * tokens_of b) 1 _ (expr_code p f (at + length ca) (suc d) b) _ (expr_few b (at + length ca) (suc d)) (omega arith) (omega arith)) (omega arith)
+        few_append (6 * tokens_of a) (6 * tokens_of b + 1) _ ca _ (expr_few a at d) (few_append (6 * tokens_of b) 1 _ (expr_code p f (at + length ca) (suc d) b) _ (expr_few b (at + length ca) (suc d)) (omega (arith, combine_weight p d d (suc d) Add (type_of a) (type_of b))) (omega arith)) (omega arith)
     place_few (Dot' h x a m) at d = few_append (6 * tokens_of a) 1 _ (place_code p f at d a) _ (place_few a at d) (omega arith) (omega arith)
     place_few (Arrow' h x a m) at d = few_append (6 * tokens_of a) 1 _ (expr_code p f at d a) _ (expr_few a at d) (omega arith) (omega arith)
     place_few (Parens' h x a) at d = fewer (6 * tokens_of a) _ (place_code p f at d a) (place_few a at d) (omega arith)

@@ -1,6 +1,6 @@
 -- Each step of the program is answered by its code.
-use Rattle.std.proofs.Common.{◌≡◌, ℕ, zero, suc, ◌+◌, List, [], ◌∷◌, ◌++◌, length, take, drop, Option, Some, None, Bool, true, false, refl, sym, ap, ◌∙◌, subst, arith, length-append, length-take-le, append_assoc, ⊎_elim}
-use Rattle.std.specs.Prelude.{slice_get, bytes_eq, codes, ◌==◌, if◌then◌else◌}
+use Rattle.std.proofs.Common.{◌≡◌, ℕ, zero, suc, ◌+◌, List, [], ◌∷◌, ◌++◌, length, take, drop, Option, Some, None, Bool, true, false, refl, sym, ap, ◌∙◌, subst, arith, length-append, length-take-le, append_assoc, ⊎_elim, true≢false}
+use Rattle.std.specs.Prelude.{slice_get, bytes_eq, codes, ◌==◌, ◌&&◌, if◌then◌else◌}
 use Rattle.c_tree.specs.declared.types.CType.{CType}
 use Rattle.c_tree.specs.declared.types.CType.TheVariants.{Struct}
 use Rattle.c_tree.specs.declared.typed.DeclaredLocal.{DeclaredLocal}
@@ -11,10 +11,10 @@ use Rattle.c_tree.specs.declared.rows.Referent.{Referent}
 use Rattle.c_tree.specs.declared.rows.Referent.TheVariants.{Object, Local, Function as Defined, Declared}
 use Rattle.c_tree.specs.Types.{is_array}
 use Rattle.c_tree.specs.Layout.{leaves_of}
-use Rattle.runs.specs.Runs.{Goes as GoesOn, Passes}
+use Rattle.runs.specs.Runs.{Goes as GoesOn, Passes, Undefined, IllTyped}
 use Rattle.c_store.specs.Store.{Value, Number, Null, At, is_stale, load_struct}
-use Rattle.c_store.specs.Frames.{Here, with_point, made, left, bound}
-use Rattle.c_source.specs.Blocks.{local_type, opened, opened_one, leaf_count, cells_of}
+use Rattle.c_store.specs.Frames.{Here, with_point, made, left, is_free, bound}
+use Rattle.c_source.specs.Blocks.{local_type, opened, opened_one, can_open, leaf_count, cells_of}
 use Rattle.c_tree.specs.Rows.{statements_in}
 use Rattle.c_source.specs.Operators.{bits_in}
 use Rattle.c_source.specs.Control.{Item, State, Activation, Eval, Locate, Push, Bound, Load, Convert, Store, Copy, Update, Change, Combine, Offset, Use, Discard, Truth, AndThen, OrElse, Pick, Joined, Enter, Run, Stop, Choose, Open, Close, Turn, Again, Select, Seek, Switched, GiveBack, Leave, Label, seeks, runs_of, part_of, test_of, loop_goes_on, loop_turns, labels_in, default_in, outermost_of}
@@ -125,24 +125,30 @@ module _ (set : Setting) (g : Ground set) where
   opened-scope [] j h = omega arith
   opened-scope (d ∷ ds) j h = omega (arith, opened-scope ds j (opened_one set.p j d.local h), length-append h.activation.locals (record { local = d.local; object = length h.world.objects } ∷ []))
 
+  both_true : (a b : Bool) → a && b ≡ true → (a ≡ true) × (b ≡ true)
+  both_true true b h = (refl, h)
+  both_true false b h = absurd (true≢false (sym h))
+
   -- the objects of a block are made one after another
-  opens : (ds : List DeclaredLocal) (o : State) (h : Here) (temps : Temps) (pc : ℕ) → h.activation.function ≡ f → h.world.output ≡ o.here.world.output → HasAt (code set g) pc (zeros_code ds)
+  opens : (ds : List DeclaredLocal) (o : State) (h : Here) (temps : Temps) (pc : ℕ) → h.activation.function ≡ f → h.world.output ≡ o.here.world.output → can_open set.p f ds h ≡ true → HasAt (code set g) pc (zeros_code ds)
       → Steps set g o (length ds) (leaf_count set.p f ds) (record { here = h; temps = temps; pc = pc; result_at = g.at; outer = g.frames }) (record { here = opened set.p f ds h; temps = temps; pc = pc + length ds; result_at = g.at; outer = g.frames })
   unfolding made
-  opens [] o h temps pc e w has = (refl, ap (λ i. record { here = h; temps = temps; pc = i; result_at = g.at; outer = g.frames }) (stays pc))
-  opens (d ∷ ds) o h temps pc e w has =
+  opens [] o h temps pc e w can has = (refl, ap (λ i. record { here = h; temps = temps; pc = i; result_at = g.at; outer = g.frames }) (stays pc))
+  opens (d ∷ ds) o h temps pc e w can has =
       let t : SlotState = record { here = h; temps = temps; pc = pc; result_at = g.at; outer = g.frames } in
       let h' = opened_one set.p f d.local h in
       let u : SlotState = record { here = h'; temps = temps; pc = pc + 1; result_at = g.at; outer = g.frames } in
       let one = length (leaves_of set.p.defs (local_type set.p f d.local)) in
+      let both = both_true (is_free d.local h.activation.locals) (can_open set.p f ds h') can in
       let step =
       ap (λ j. slots.at_op set.c t (slice_get (slots.code_of set.c j) pc)) e
       ∙ ap (slots.at_op set.c t) has.0
+      ∙ ap (λ b. if b then slots.goes set.c t (slots.leaf_count_in (slots.local_row set.c h.activation.function d.local)) (slots.zeroed_local set.c d.local h) else Undefined IllTyped) both.0
       ∙ ap (λ j. slots.goes set.c t (slots.leaf_count_in (slots.local_row set.c j d.local)) (slots.zeroed_local set.c d.local h)) e
       ∙ ap (λ c. slots.goes set.c t c (slots.zeroed_local set.c d.local h)) (counted_same set.p set.c set.is f d.local)
       ∙ ap (slots.goes set.c t one) (zeroed_same set.p set.c set.is d.local h)
       ∙ ap (λ j. slots.goes set.c t one (opened_one set.p j d.local h)) e in
-      let rest = opens ds o h' temps (pc + 1) e w has.1 in
+      let rest = opens ds o h' temps (pc + 1) e w both.1 has.1 in
       let at : pc + 1 + length ds ≡ pc + suc (length ds) = omega arith in
       (one, leaf_count set.p f ds, u, refl, step, subst (λ i. Steps set g o (length ds) (leaf_count set.p f ds) u (record { here = opened set.p f ds h'; temps = temps; pc = i; result_at = g.at; outer = g.frames })) at rest, w)
 
@@ -313,15 +319,15 @@ module _ (set : Setting) (g : Ground set) where
         outer = g.out;
       }
 
-  open_answers : (ds : List DeclaredLocal) (k : List Item) (temps : Temps) (pc : ℕ) → D set g [] [] (Open ds ∷ k) temps pc
+  opened_answers : (ds : List DeclaredLocal) (k : List Item) (temps : Temps) (pc : ℕ) → D set g [] [] (Open ds ∷ k) temps pc → can_open set.p f ds g.h ≡ true
       → Answered set (now set g [] (Open ds ∷ k)) (GoesOn (1 + leaf_count set.p f ds) (record { here = opened set.p f ds g.h; values = []; control = k; outer = g.outer })) (slot set g temps pc)
-  open_answers ds k temps pc d =
+  opened_answers ds k temps pc d can =
       let fo = d.follows in
       let to = fo.0 in
       let o = now set g [] (Open ds ∷ k) in
       let c = leaf_count set.p f ds in
       let len : to + length (zeros_code ds) ≡ to + length ds = omega (arith, length-zeros ds) in
-      let made_all = opens ds o g.h temps to refl refl fo.2 in
+      let made_all = opens ds o g.h temps to refl refl can fo.2 in
       let s : State = record { here = opened set.p f ds g.h; values = []; control = k; outer = g.outer } in
       let ma = open_matches ds k temps pc (to + length ds) d (subst (λ i. Follows set.p f (code set g) d.around (n + length ds) i [] k) len fo.3) in
       ⊎_elim
@@ -347,6 +353,15 @@ module _ (set : Setting) (g : Ground set) where
             ma,
             tt,
           )
+
+  open_answers : (ds : List DeclaredLocal) (k : List Item) (temps : Temps) (pc : ℕ) → D set g [] [] (Open ds ∷ k) temps pc
+      → Answered set (now set g [] (Open ds ∷ k)) (if can_open set.p f ds g.h then GoesOn (1 + leaf_count set.p f ds) (record { here = opened set.p f ds g.h; values = []; control = k; outer = g.outer }) else Undefined IllTyped) (slot set g temps pc)
+  open_answers ds k temps pc d = by (can_open set.p f ds g.h) refl
+    where
+      by : (b : Bool) → can_open set.p f ds g.h ≡ b
+          → Answered set (now set g [] (Open ds ∷ k)) (if b then GoesOn (1 + leaf_count set.p f ds) (record { here = opened set.p f ds g.h; values = []; control = k; outer = g.outer }) else Undefined IllTyped) (slot set g temps pc)
+      by true e = opened_answers ds k temps pc d e
+      by false e = tt
 
   close_answers : (m : ℕ) (k : List Item) (temps : Temps) (pc : ℕ) → D set g [] [] (Close m ∷ k) temps pc
       → Answered set (now set g [] (Close m ∷ k)) (GoesOn 1 (record { here = left m g.h; values = []; control = k; outer = g.outer })) (slot set g temps pc)

@@ -1,5 +1,6 @@
 -- The fewest tokens that a checked tree is written with: those of its own, and those of its parts. A type has one token at least.
-use Rattle.std.specs.Prelude.{ℕ, ◌+◌, List, [], ◌∷◌, Option, Some, None}
+use Rattle.std.specs.Prelude.{ℕ, ◌+◌, ◌-◌, List, [], ◌∷◌, length, Option, Some, None}
+use Rattle.c_tree.specs.Rows.{exprs}
 use Rattle.c_tree.specs.declared.typed.Typed.{Typed, Row_of-Typed, end_of-Typed, more_of-Typed}
 use Rattle.c_tree.specs.declared.typed.Typed.TheVariants.{Comma', Assign', Choice', Or', And', Binary', Cast', Before', Address', Follow', Unary', SizeOf', SizeOfType, Index', Call', Dot', Arrow', After', Parens'}
 use Rattle.c_tree.specs.declared.typed.Pointed.{Pointed}
@@ -23,7 +24,8 @@ abbrev mutual
   tokens_of (SizeOf' h _ a) = 1 + tokens_of a
   tokens_of (SizeOfType h t) = 4
   tokens_of (Index' h _ a _ b) = 2 + (tokens_of a + tokens_of b)
-  tokens_of (Call' h f _ row) = 3 + row_tokens row
+  -- a name, two parentheses, and a comma between each two arguments
+  tokens_of (Call' h f _ row) = 3 + (row_tokens row + (length (exprs row) - 1))
   tokens_of (Dot' h _ a m) = 2 + tokens_of a
   tokens_of (Arrow' h _ a m) = 2 + tokens_of a
   tokens_of (After' h _ a op) = 1 + tokens_of a

@@ -1,11 +1,11 @@
 // What holds of slot code.
-ghost use Rattle.std.specs.Prelude.{◌≤◌, ◌+◌, ◌*◌, ℕ, length};
+ghost use Rattle.std.specs.Prelude.{◌≤◌, ◌+◌, ◌*◌, ℕ};
 ghost use Rattle.c_tree.specs.declared.rows.Program.{Program};
 ghost use Rattle.c_tree.specs.declared.rows.Function.{Function};
 ghost use Rattle.c_tree.specs.declared.typed.Typed.{Typed};
 ghost use Rattle.c_source.specs.Size.{nodes_of, most_nodes};
 ghost use Rattle.slot_ir.specs.declared.code.SlotCode.{SlotCode};
-ghost use Rattle.slot_ir.specs.WellFormed.{operators_of_a_token};
+ghost use Rattle.slot_ir.specs.WellFormed.{operators_of_a_token, weight};
 ghost use Rattle.slot_gen.specs.Tokens.{tokens_of};
 ghost use Rattle.slot_gen.specs.Bounds.{temps_of, function_temps, AreBelow};
 ghost use Rattle.slot_gen.specs.Correct.{IsCodeOf, HasMain, Lowers};
@@ -31,7 +31,7 @@ pub fn code_takes_few_temporaries()
     ensures few_of_function { (fn : Function) → function_temps fn ≤ most_nodes fn.body + 2 }
 {}
 
-/// The code of an expression has at most so many operators for each token that the expression is written with.
+/// The code of an expression weighs at most so much for each token that the expression is written with: an operator weighs 1, and a call 1 more for each argument. So it has at most so many operators.
 pub fn code_of_an_expression_is_short()
-    ensures { (p : Program) (f at d : ℕ) (e : Typed) → length (expr_code p f at d e) ≤ operators_of_a_token * tokens_of e }
+    ensures { (p : Program) (f at d : ℕ) (e : Typed) → weight (expr_code p f at d e) ≤ operators_of_a_token * tokens_of e }
 {}

@@ -6,7 +6,7 @@ use Rattle.c_tree.specs.declared.types.Leaf.{Leaf}
 use Rattle.runs.specs.Runs.{Next, Goes, Passes, Exits, Undefined, Why, IllTyped}
 use Rattle.c_operators.specs.Bits.{minus_one}
 use Rattle.c_store.specs.Store.{Value, Number, Null, At, Cell, World, zero_of, used, load, store, moved, load_struct, store_struct, with_first, ◌>>=◌}
-use Rattle.c_store.specs.Frames.{Here, ActivationRecord, with_world, with_point, made, left, bound, new_activation}
+use Rattle.c_store.specs.Frames.{Here, ActivationRecord, with_world, with_point, made, left, is_free, bound, new_activation}
 use Rattle.slot_ir.specs.declared.code.SlotOp.{SlotOp}
 use Rattle.slot_ir.specs.declared.code.SlotOp.TheVariants.{Const, Null as NullOp, StaticAddress, TextAddress, LocalAddress, Load, Store, ReadRegister, WriteRegister, Convert, Unary, Binary, Compare, Index, Distance, Offset, Take, Jump, JumpIfZero, JumpIfNotZero, JumpIfEqual, Call, Return, Stop, Move, Zero, Leave, GetChar, PutChar, Exit}
 use Rattle.slot_ir.specs.declared.code.Access.{Access}
@@ -190,6 +190,12 @@ module _ (c : SlotCode) (t : SlotState) where
         outer = outer;
       })
 
+  -- a local begins where it has no live object in the activation yet
+  abbrev pub begins : ℕ → Next SlotState
+  begins x =
+      if is_free x t.here.activation.locals then goes (leaf_count_in (local_row c t.here.activation.function x)) (zeroed_local c x t.here)
+      else Undefined IllTyped
+
   -- A local's object counts its leaves; that blocks are left counts nothing, since a machine does nothing then.
   abbrev pub act : SlotOp → Next SlotState
   act (Const d n) = sets d (Number n)
@@ -217,7 +223,7 @@ module _ (c : SlotCode) (t : SlotState) where
   act (Return d) = on_temp (t.temps d) (λ v. returns v t.outer)
   act (Stop q) = Passes q 1 (record t { here = with_point t.here q; pc = t.pc + 1 })
   act (Move i j s) = copies i j (leaves_in (slice_get c.structs s))
-  act (Zero x) = goes (leaf_count_in (local_row c t.here.activation.function x)) (zeroed_local c x t.here)
+  act (Zero x) = begins x
   act (Leave n) = goes 0 (left n t.here)
   act (GetChar d) =
       Goes 1 (record t {

@@ -1,5 +1,5 @@
 -- Well-formed slot code: everything that is named is there.
-use Rattle.std.specs.Prelude.{◌≡◌, ◌≤◌, ◌<◌, ℕ, suc, zero, ◌+◌, ◌*◌, ◌%◌, ◌^◌, List, [], ◌∷◌, ◌++◌, Option, Some, None, slice_get, length, sum, map, take, ◌⊎◌}
+use Rattle.std.specs.Prelude.{◌≡◌, ◌≤◌, ◌<◌, ◌==◌, Bool, true, false, ℕ, suc, zero, ◌+◌, ◌*◌, ◌%◌, ◌^◌, List, [], ◌∷◌, ◌++◌, Option, Some, None, slice_get, length, sum, map, take, ◌⊎◌}
 use Rattle.std.specs.Int.{next_multiple_of}
 use Rattle.std.specs.List.{AllByRecursion}
 use Rattle.ldb_words.specs.declared.kinds.Kind.{Kind}
@@ -25,7 +25,7 @@ use Rattle.slot_ir.specs.declared.code.SlotValue.{SlotValue}
 use Rattle.slot_ir.specs.declared.code.SlotValue.TheVariants as start
 use Rattle.slot_ir.specs.Slots.{leaves_in}
 
--- the operators for a token of the sources, at most, and for the tokens that all sources have at most
+-- the weight of code for a token of the sources, at most, and for the tokens that all sources have at most
 abbrev pub operators_of_a_token : ℕ
 operators_of_a_token = 6
 
@@ -54,9 +54,14 @@ abbrev ParamsIn : Option SlotFunction → Type 0
 ParamsIn None = ⊥
 ParamsIn (Some f) = f.params ≡ 0
 
-abbrev IsAmong : ℕ → List ℕ → Type 0
+abbrev pub IsAmong : ℕ → List ℕ → Type 0
 IsAmong q [] = ⊥
 IsAmong q (r ∷ rs) = (q ≡ r) ⊎ IsAmong q rs
+
+-- no two of these are the same
+abbrev pub Differ : List ℕ → Type 0
+Differ [] = Unit {0}
+Differ (q ∷ qs) = (IsAmong q qs → ⊥) × Differ qs
 
 -- the place is listed for the point
 abbrev pub IsListed : (point place : ℕ) → List ℕ → List ℕ → Type 0
@@ -148,7 +153,7 @@ HaveOwnRegisters ls = (x y r : ℕ) (l k : SlotLocal) → slice_get ls x ≡ Som
 abbrev pub IsFunction : SlotCode → SlotFunction → Type 0
 IsFunction c f =
     (1 ≤ length f.code) × (f.params ≤ length f.locals) × (f.params ≤ most_arguments) × AllByRecursion IsScalar (take f.params f.locals) × AllByRecursion IsLocal f.locals
-    × HaveOwnRegisters f.locals × AllByRecursion (NamesWhatIsThere c f) f.code × PlacesOf c f f.points f.places × StopsAreListed c f
+    × HaveOwnRegisters f.locals × AllByRecursion (NamesWhatIsThere c f) f.code × PlacesOf c f f.points f.places × StopsAreListed c f × Differ f.points
 
 -- ---- structs
 
@@ -184,14 +189,17 @@ module _ (c : SlotCode) where
   members_in None = []
   members_in (Some s) = s.members
 
-  -- a struct holds structs that hold others, at most so many deep
-  abbrev pub NestsWithin : (deep : ℕ) → SlotItem → Type 0
-  NestsWithin deep (Scalar k) = Unit {0}
-  NestsWithin zero (Struct s) = ⊥
-  NestsWithin (suc deep) (Struct s) = AllByRecursion (λ (m : SlotMember). NestsWithin deep m.item) (members_in (slice_get c.structs s))
+  -- A struct holds structs that hold others, at most so many levels deep. More than one item is a level too, since a copy counts them.
+  abbrev pub NestsWithin : (deep : ℕ) → (is_one : Bool) → SlotItem → Type 0
+  NestsWithin zero true (Scalar k) = Unit {0}
+  NestsWithin zero true (Struct s) = ⊥
+  NestsWithin zero false item = ⊥
+  NestsWithin (suc deep) true (Scalar k) = Unit {0}
+  NestsWithin (suc deep) true (Struct s) = AllByRecursion (λ (m : SlotMember). NestsWithin deep (m.items == 1) m.item) (members_in (slice_get c.structs s))
+  NestsWithin (suc deep) false item = NestsWithin deep true item
 
 abbrev pub most_nested : ℕ
-most_nested = 64
+most_nested = 63
 
 -- ---- static objects
 
@@ -232,10 +240,27 @@ room size = next_multiple_of size 4 + 4
 abbrev pub static_bytes : SlotCode → ℕ
 static_bytes c = sum (map (λ (o : SlotObject). room o.size) c.objects) + sum (map (λ (s : List ℕ). room (length s + 1)) c.strings)
 
-abbrev pub operators_in : SlotCode → ℕ
-operators_in c = sum (map (λ (f : SlotFunction). length f.code) c.functions)
+-- the room that an operator takes in a text: a call takes one more for each argument
+abbrev pub weight_of : SlotOp → ℕ
+weight_of (Call d f n) = 1 + n
+weight_of op = 1
+
+abbrev pub weight : List SlotOp → ℕ
+weight [] = 0
+weight (op ∷ ops) = weight_of op + weight ops
+
+-- that of a function, which begins and ends in the room of 16 operators
+abbrev pub function_weight : SlotFunction → ℕ
+function_weight f = 16 + weight f.code
+
+-- and that of the code that copies a struct
+abbrev pub struct_weight : SlotStruct → ℕ
+struct_weight s = 2 + 3 * length s.members
+
+abbrev pub weight_in : SlotCode → ℕ
+weight_in c = sum (map function_weight c.functions) + sum (map struct_weight c.structs)
 
 abbrev pub IsWellFormed : SlotCode → Type 0
 IsWellFormed c =
     ParamsIn (slice_get c.functions c.main) × AllByRecursion (IsFunction c) c.functions × AllByRecursion (IsObject c) c.objects
-    × AllByRecursion (IsStruct c) c.structs × ((s : ℕ) → NestsWithin c most_nested (Struct s)) × (static_bytes c ≤ most_static_bytes) × (operators_in c ≤ most_operators)
+    × AllByRecursion (IsStruct c) c.structs × ((s : ℕ) → NestsWithin c most_nested true (Struct s)) × (static_bytes c ≤ most_static_bytes) × (weight_in c ≤ most_operators)
