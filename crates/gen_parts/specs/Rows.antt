@@ -9,6 +9,7 @@ use Rattle.flat_ir.specs.declared.code.FlatFunction.{FlatFunction}
 use Rattle.obj_file.specs.declared.object.LocalPlace.{LocalPlace}
 use Rattle.obj_file.specs.declared.object.LocalPlace.TheVariants.{Slot, Reg}
 use Rattle.obj_file.specs.declared.object.FunctionRow.{FunctionRow}
+use Rattle.gen_parts.specs.Uses.{offset_of}
 
 abbrev pub from_base : (frame at : ℕ) → ℤ
 from_base frame at = pos at -ℤ pos frame
@@ -26,3 +27,19 @@ place_by frame at (Register r) = Reg (16 + r)
 abbrev pub local_places : FlatFunction → ℕ → List SlotLocal → List LocalPlace
 local_places f x [] = []
 local_places f x (l ∷ ls) = place_by f.frame (slice_get f.locals x) l.home ∷ local_places f (suc x) ls
+
+-- a register that is saved, with its distance from the frame's base
+abbrev pub saved_place : (frame : ℕ) → ℕ × ℕ → ℕ × ℤ
+saved_place frame s = (s.0, from_base frame s.1)
+
+-- The row of a function whose code lies in the text from `entry` to `end`; `offsets` is where the code of each place begins.
+abbrev pub row : SlotFunction → FlatFunction → (entry end : ℕ) → (offsets : List ℕ) → (saved : List (ℕ × ℕ)) → FunctionRow
+row s f entry end offsets saved = record {
+  name = s.name;
+  entry = entry;
+  end = end;
+  frame = f.frame;
+  saved = map (saved_place f.frame) saved;
+  points = map (offset_of offsets) f.places;
+  locals = local_places f 0 s.locals;
+}

@@ -1,7 +1,9 @@
 // The rows of functions.
-ghost use Rattle.std.specs.Prelude.{◌≡◌, IfOk, slice_get};
-ghost use Rattle.gen_parts.specs.Rows.{from_base as from_base_of, slot_by, place_by, local_places};
+ghost use Rattle.std.specs.Prelude.{◌≡◌, IfOk, map, slice_get};
+ghost use Rattle.gen_parts.specs.Rows.{from_base as from_base_of, slot_by, place_by, local_places, saved_place, row};
+ghost use Rattle.gen_parts.specs.Uses.{offset_of};
 
+use crate::uses::offset_of;
 use flat_ir::FlatFunction;
 use ldb_words::{Many, Text};
 use obj_file::{FunctionRow, LocalPlace};
@@ -73,22 +75,20 @@ fn places_of(
 }
 
 /// Where stopping points lie in the text.
-fn points_of(alloc: Global, spots: &Spots, places: &[u32]) -> Result<Many<u32>, AllocError> {
+fn points_of(alloc: Global, spots: &Spots, places: &[u32]) -> Result<Many<u32>, AllocError>
+    ensures { IfOk result (λ ps. ps ≡ map (offset_of spots.now.places.now) places.now) }
+{
     let mut points = Vec::new(alloc);
     for place in places {
-        points.push(
-            spots
-                .places
-                .get(*place as usize)
-                .copied()
-                .ok_or(AllocError)?,
-        )?;
+        points.push(offset_of(spots.places, *place)?)?;
     }
     Ok(Many::from_vec(points))
 }
 
 /// The registers that a function saves, each with its distance from the stack pointer, as distances from the frame's base.
-fn saved_of(alloc: Global, frame: u32, saved: &[(u8, u32)]) -> Result<Many<(u8, i32)>, AllocError> {
+fn saved_of(alloc: Global, frame: u32, saved: &[(u8, u32)]) -> Result<Many<(u8, i32)>, AllocError>
+    ensures { IfOk result (λ ps. ps ≡ map (saved_place frame) saved.now) }
+{
     let mut rows = Vec::new(alloc);
     for (register, at) in saved {
         rows.push((*register, from_base(frame, *at)?))?;
@@ -104,10 +104,7 @@ pub fn row_of(
     spots: &Spots,
     saved: &[(u8, u32)],
 ) -> Result<FunctionRow, AllocError>
-    ensures name { IfOk result (λ r. r.name ≡ slots.now.name) }
-    ensures text { IfOk result (λ r. (r.entry ≡ spots.now.entry) × (r.end ≡ spots.now.end)) }
-    ensures frame { IfOk result (λ r. r.frame ≡ function.now.frame) }
-    ensures locals { IfOk result (λ r. r.locals ≡ local_places function.now 0 slots.now.locals) }
+    ensures { IfOk result (λ r. r ≡ row slots.now function.now spots.now.entry spots.now.end spots.now.places.now saved.now) }
 {
     Ok(FunctionRow {
         name: Text::from_slice(alloc, slots.name.as_bytes())?,
