@@ -2,12 +2,13 @@
 use Rattle.std.specs.Prelude.{ℕ, ◌==◌, Bool, true, false, ◌&&◌, nat_lt, if◌then◌else◌, Result, Ok, Err, List, [], ◌∷◌, length}
 use Rattle.ps_store.specs.declared.object.PsObj.{PsObj}
 use Rattle.ps_store.specs.declared.object.PsObj.TheVariants.{Str, Array, Dict}
+use Rattle.ps_store.specs.declared.object.Pair.{Pair}
 use Rattle.ps_store.specs.declared.object.ArrayId.{ArrayId}
 use Rattle.ps_store.specs.declared.object.DictId.{DictId}
 use Rattle.ps_store.specs.declared.object.StringId.{StringId}
 use Rattle.ps_store.specs.declared.key.Key.{Key}
 use Rattle.ps_store.specs.StoreState.{StoreState}
-use Rattle.ps_store.specs.Store.{bytes_of, entries_of, elements_of, putting_value, putting_element, writing_elements, writing_bytes, making_array, making_string, making_dict}
+use Rattle.ps_store.specs.Store.{bytes_of, entries_of, elements_of, putting_element, writing_elements, writing_bytes, making_array, making_string, making_dict}
 use Rattle.ps_step.specs.Results.{◌>>=◌, stored, opened, at}
 use Rattle.ps_step.specs.Values.{count_of, byte_of, element_at, byte_at}
 use Rattle.ps_step.specs.Keys.{value_under, put_under, under}
@@ -56,9 +57,9 @@ abbrev pub same_dict : DictId → DictId → Bool
 same_dict a b = same_part a.part b.part && a.index == b.index
 
 -- pairs are put into a dictionary in their order
-abbrev pub putting_pairs : StoreState → DictId → List (Key × PsObj) → Result StoreState (PsError × StoreState)
+abbrev pub putting_pairs : StoreState → DictId → List (Key × Pair) → Result StoreState (PsError × StoreState)
 putting_pairs s d [] = Ok s
-putting_pairs s d (pair ∷ rest) = at s (stored (putting_value s d pair.0 pair.1)) >>= λ given. putting_pairs given.1 d rest
+putting_pairs s d (e ∷ rest) = at s (put_under s d e.1.key e.1.value) >>= λ s'. putting_pairs s' d rest
 
 -- the pairs of a dictionary are copied to another one
 abbrev pub copied_dict : StoreState → DictId → DictId → MadePart

@@ -6,7 +6,7 @@ use Rattle.ps_store.specs.declared.object.DictId.{DictId}
 use Rattle.ps_store.specs.declared.key.Key.{Key}
 use Rattle.ps_store.specs.declared.key.Key.TheVariants.{Name as NameKey, Int as IntKey, Bool as TruthKey}
 use Rattle.ps_store.specs.StoreState.{StoreState}
-use Rattle.ps_store.specs.Store.{bytes_of, entries_of, putting_value}
+use Rattle.ps_store.specs.Store.{bytes_of, entries_of, putting_value, putting_under_name}
 use Rattle.ps_store.specs.Entries.{value_at}
 use Rattle.ps_store.specs.Operators.{operator_number}
 use Rattle.ps_step.specs.Results.{◌>>=◌, stored}
@@ -35,8 +35,13 @@ abbrev pub value_under : StoreState → DictId → PsObj → Result (Option PsOb
 value_under s d place = key_of s place >>= λ key. Ok (value_at (entries_of s d) key)
 
 -- a value is put under the key that an object is
+abbrev pub put_key : StoreState → DictId → PsObj → PsObj → Result StoreState PsError
+put_key s d place value = key_of s place >>= λ key. stored (putting_value s d key value) >>= λ given. Ok given.1
+
+-- the same, where a pair that is new keeps a name
 abbrev pub put_under : StoreState → DictId → PsObj → PsObj → Result StoreState PsError
-put_under s d place value = key_of s place >>= λ key. stored (putting_value s d key value) >>= λ given. Ok given.1
+put_under s d (Name t x) value = stored (putting_under_name s d t value) >>= λ given. Ok given.1
+put_under s d place value = put_key s d place value
 
 -- a value, or else another
 abbrev pub or_else : {A : Type 0} → Option A → Option A → Option A
@@ -56,10 +61,6 @@ holder_of s (d ∷ ds) key = if is_some (value_at (entries_of s d) key) then Som
 -- the value of a name: in the dictionaries, or else the operator of that name
 abbrev pub named : StoreState → List DictId → List ℕ → Option PsObj
 named s ds text = or_else (found_in s ds (NameKey text)) (option_map (λ n. Op n) (operator_number text))
-
--- the value in the dictionaries under the key that an object is
-abbrev pub value_of_key : StoreState → List DictId → PsObj → Result (Option PsObj) PsError
-value_of_key s ds object = key_of s object >>= λ key. Ok (found_in s ds key)
 
 -- the value of a key: that of a name, or the one in the dictionaries
 abbrev pub valued : StoreState → List DictId → Key → Option PsObj

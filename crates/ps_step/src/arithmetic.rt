@@ -1,7 +1,7 @@
 //! Operators on integers and booleans (PostScript Language Reference Manual, 8.1, "Arithmetic and Math", "Relational, Boolean, and Bitwise").
 
-ghost use Rattle.std.specs.Prelude.{◌≡◌, ◌+ℤ◌, ◌-ℤ◌, ◌*ℤ◌, neg_ℤ};
-ghost use Rattle.ps_step.specs.Arithmetic.{integer_of, truth_of, sum, difference, product, quotient, remainder, negative, of_integers, arithmetic_of, bits_of, truths_of, bitwise_of, opposite_of, negation_of, shifted, shifting_of};
+ghost use Rattle.std.specs.Prelude.{◌≡◌};
+ghost use Rattle.ps_step.specs.Arithmetic.{integer_of, truth_of, quotient, remainder, of_integers, arithmetic_of, bits_of, truths_of, bitwise_of, opposite_of, negation_of, shifted, shifting_of};
 
 use crate::fault::PsError;
 use ps_store::PsObj;
@@ -44,27 +44,6 @@ pub fn truth_of(object: PsObj) -> Result<bool, PsError>
     }
 }
 
-/// The sum of two integers.
-fn sum(x: i32, y: i32) -> Result<i32, PsError>
-    ensures { result ≡ sum x y }
-{
-    x.checked_add(y).ok_or(PsError::RangeCheck)
-}
-
-/// The difference of two integers.
-fn difference(x: i32, y: i32) -> Result<i32, PsError>
-    ensures { result ≡ difference x y }
-{
-    x.checked_sub(y).ok_or(PsError::RangeCheck)
-}
-
-/// The product of two integers.
-fn product(x: i32, y: i32) -> Result<i32, PsError>
-    ensures { result ≡ product x y }
-{
-    x.checked_mul(y).ok_or(PsError::RangeCheck)
-}
-
 /// The quotient of two integers, rounded toward zero.
 fn quotient(x: i32, y: i32) -> Result<i32, PsError>
     ensures { result ≡ quotient x y }
@@ -85,22 +64,15 @@ fn remainder(x: i32, y: i32) -> Result<i32, PsError>
     Ok(x.wrapping_rem(y))
 }
 
-/// The integer with the other sign.
-fn negative(x: i32) -> Result<i32, PsError>
-    ensures { result ≡ negative x }
-{
-    x.checked_neg().ok_or(PsError::RangeCheck)
-}
-
 impl Arithmetic {
     /// What the operator makes of two integers.
     fn of_integers(self, x: i32, y: i32) -> Result<i32, PsError>
         ensures { result ≡ of_integers self x y }
     {
         match self {
-            Arithmetic::Add => sum(x, y),
-            Arithmetic::Sub => difference(x, y),
-            Arithmetic::Mul => product(x, y),
+            Arithmetic::Add => x.checked_add(y).ok_or(PsError::RangeCheck),
+            Arithmetic::Sub => x.checked_sub(y).ok_or(PsError::RangeCheck),
+            Arithmetic::Mul => x.checked_mul(y).ok_or(PsError::RangeCheck),
             Arithmetic::Idiv => quotient(x, y),
             Arithmetic::Mod => remainder(x, y),
         }
@@ -168,7 +140,7 @@ pub fn negation_of(a: PsObj) -> Result<PsObj, PsError>
     ensures { result ≡ negation_of a }
 {
     let x = integer_of(a)?;
-    let n = negative(x)?;
+    let n = x.checked_neg().ok_or(PsError::RangeCheck)?;
     Ok(PsObj::Int(n))
 }
 

@@ -145,7 +145,7 @@ fn same_dict(a: DictId, b: DictId) -> bool
 }
 
 /// Puts the pair at a place of a dictionary into another one.
-#[tactic(auto, using(crate::proofs::Apart::apart, crate::proofs::Apart::pairs_from, crate::proofs::Apart::no_pairs_from))]
+#[tactic(auto, using(crate::proofs::Apart::no_pairs_from))]
 fn put_pair(store: &mut PsStore, from: DictId, to: DictId, at: usize) -> Result<(), PsFault>
     requires { same_dict from to ≡ false }
     ensures ok { OnOk result (putting_pairs store.old to (drop at (entries_of store.old from)) ≡ putting_pairs store.new to (drop (at + 1) (entries_of store.old from))) }
@@ -153,11 +153,8 @@ fn put_pair(store: &mut PsStore, from: DictId, to: DictId, at: usize) -> Result<
     ensures same { OnOk result (entries_of store.new from ≡ entries_of store.old from) }
     ensures closed { closed_part store.new ≡ closed_part store.old }
 {
-    match store.entry_at(from, at) {
-        Some((key, value)) => {
-            store.dict_put(to, key, value)?;
-            Ok(())
-        }
+    match store.pair_at(from, at) {
+        Some(pair) => put_under(store, to, pair.key, pair.value),
         None => Ok(()),
     }
 }

@@ -9,7 +9,7 @@ use ps_store::{ReadOnly, StoreFault};
 use std::alloc::AllocError;
 
 /// The errors of a program (PostScript Language Reference Manual, 8.1), and the dialect's own, which come last.
-#[derive(Clone, Copy, Debug, PartialEq, Eq)]
+#[derive(Clone, Copy, Debug)]
 pub enum PsError {
     StackUnderflow,
     StackOverflow,
@@ -58,7 +58,7 @@ impl PsError {
 }
 
 /// Why a run ends before its end.
-#[derive(Clone, Copy, Debug, PartialEq, Eq)]
+#[derive(Clone, Copy, Debug)]
 pub enum PsFault {
     /// An error that no `stopped` catches.
     Error(PsError),

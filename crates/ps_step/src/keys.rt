@@ -3,7 +3,7 @@
 ghost use Rattle.ps_store.specs.Store.{closed_part, bytes_of};
 ghost use Rattle.ps_store.specs.declared.key.Key.TheVariants.{Name as NameKey};
 ghost use Rattle.std.specs.Prelude.{◌≡◌};
-ghost use Rattle.ps_step.specs.Keys.{text_key, key_of, current, value_under, put_under, found_in, holder_of, named, value_of_key, meant_by, under};
+ghost use Rattle.ps_step.specs.Keys.{key_of, current, value_under, put_key, put_under, found_in, holder_of, named, meant_by, under};
 ghost use Rattle.ps_step.specs.Effects.{Stores};
 
 use crate::fault::{PsError, PsFault};
@@ -13,22 +13,15 @@ use ps_store::{DictId, Key, PsObj, PsStore, StringId};
 /// The most characters of a name.
 const MOST_CHARACTERS: usize = 127;
 
-/// The key that a text is.
-fn text_key(text: &[u8]) -> Result<Key, PsError>
-    ensures { result ≡ text_key text.now }
-{
-    match Key::name(text) {
-        Some(key) => Ok(key),
-        None => Err(PsError::LimitCheck),
-    }
-}
-
 /// The key that an object is. A string is the name of its characters.
 pub fn key_of(store: &PsStore, object: PsObj) -> Result<Key, PsError>
     ensures { result ≡ key_of store.now object }
 {
     match object {
-        PsObj::Name(t, _) | PsObj::Str(t, _) => text_key(store.string_get(t)),
+        PsObj::Name(t, _) | PsObj::Str(t, _) => match Key::name(store.string_get(t)) {
+            Some(key) => Ok(key),
+            None => Err(PsError::LimitCheck),
+        },
         PsObj::Int(n) => Ok(Key::Int(n)),
         PsObj::Bool(b) => Ok(Key::Bool(b)),
         _ => Err(PsError::TypeCheck),
@@ -63,10 +56,10 @@ pub fn value_under(store: &PsStore, d: DictId, place: PsObj) -> Result<Option<Ps
     }
 }
 
-/// Puts a value of a dictionary under the key that an object is, which is made here.
+/// Puts a value of a dictionary under the key that an object is, for which a name is made where it is new.
 #[inline(never)]
 fn put_key(store: &mut PsStore, d: DictId, place: PsObj, value: PsObj) -> Result<(), PsFault>
-    ensures stores { Stores result store.old store.new (put_under store.old d place value) }
+    ensures stores { Stores result store.old store.new (put_key store.old d place value) }
     ensures closed { closed_part store.new ≡ closed_part store.old }
 {
     let key = key_of(store, place)?;
@@ -81,7 +74,7 @@ pub fn put_under(store: &mut PsStore, d: DictId, place: PsObj, value: PsObj) -> 
     ensures closed { closed_part store.new ≡ closed_part store.old }
 {
     match place {
-        PsObj::Name(t, _) | PsObj::Str(t, _) => {
+        PsObj::Name(t, _) => {
             store.name_put(d, t, value)?;
             Ok(())
         }
@@ -141,19 +134,6 @@ pub fn named(store: &PsStore, dictionaries: &Stack<DictId>, name: StringId) -> O
     }
 }
 
-/// The value in the dictionaries under the key that an object is, which is made here.
-#[inline(never)]
-fn value_of_key(
-    store: &PsStore,
-    dictionaries: &Stack<DictId>,
-    object: PsObj,
-) -> Result<Option<PsObj>, PsError>
-    ensures { result ≡ value_of_key store.now dictionaries.now object }
-{
-    let key = key_of(store, object)?;
-    Ok(key_found(store, dictionaries, &key))
-}
-
 /// What `load` gives for an object: the value of the key that it is.
 pub fn meant_by(
     store: &PsStore,
@@ -169,7 +149,10 @@ pub fn meant_by(
             }
             Ok(named(store, dictionaries, t))
         }
-        _ => value_of_key(store, dictionaries, object),
+        _ => {
+            let key = key_of(store, object)?;
+            Ok(key_found(store, dictionaries, &key))
+        }
     }
 }
 

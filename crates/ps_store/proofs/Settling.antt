@@ -9,10 +9,11 @@ use Rattle.ps_store.specs.declared.object.DictId.{DictId}
 use Rattle.ps_store.specs.declared.object.StringId.{StringId}
 use Rattle.ps_store.specs.declared.object.Mark.{Mark}
 use Rattle.ps_store.specs.declared.object.PsObj.{PsObj}
+use Rattle.ps_store.specs.declared.object.Pair.{Pair}
 use Rattle.ps_store.specs.declared.key.Key.{Key}
 use Rattle.ps_store.specs.StoreState.{StoreState, Closed}
 use Rattle.ps_store.specs.Key.{same_key}
-use Rattle.ps_store.specs.Entries.{value_at, with_value}
+use Rattle.ps_store.specs.Entries.{value_at, with_value, replaced}
 use Rattle.ps_store.specs.Cut.{mark_of}
 use Rattle.ps_store.specs.Extends.{HoldsArray, HoldsDict, HoldsString}
 use Rattle.ps_store.specs.Store.{IsAbove, closed_part, is_closed, elements_of, bytes_of, entries_of, with_entries, is_deferred}
@@ -42,33 +43,33 @@ module _ {X : Type 0} where
 
 -- ---- pairs
 
-pub pairs_same : (es : List (Key × PsObj)) → ArePairsKept es es
+pub pairs_same : (es : List (Key × Pair)) → ArePairsKept es es
 pairs_same [] = tt
-pairs_same (e ∷ es) = (refl, inl refl, pairs_same es)
+pairs_same (e ∷ es) = (refl, refl, inl refl, pairs_same es)
 
 kept_on : (x y z : PsObj) → IsKept x y → IsKept y z → IsKept x z
 kept_on x y z (inl e) (inl f) = inl (f ∙ e)
 kept_on x y z (inl e) (inr d) = inr (subst (λ v. IsTrue (is_deferred (Some v))) e d)
 kept_on x y z (inr d) k = inr d
 
-pairs_on : (xs ys zs : List (Key × PsObj)) → ArePairsKept xs ys → ArePairsKept ys zs → ArePairsKept xs zs
+pairs_on : (xs ys zs : List (Key × Pair)) → ArePairsKept xs ys → ArePairsKept ys zs → ArePairsKept xs zs
 pairs_on [] [] [] h k = tt
 pairs_on [] [] (z ∷ zs) h k = absurd k
 pairs_on [] (y ∷ ys) zs h k = absurd h
 pairs_on (x ∷ xs) [] zs h k = absurd h
 pairs_on (x ∷ xs) (y ∷ ys) [] h k = absurd k
-pairs_on (x ∷ xs) (y ∷ ys) (z ∷ zs) h k = (k.0 ∙ h.0, kept_on x.1 y.1 z.1 h.1 k.1, pairs_on xs ys zs h.2 k.2)
+pairs_on (x ∷ xs) (y ∷ ys) (z ∷ zs) h k = (k.0 ∙ h.0, k.1 ∙ h.1, kept_on x.1.value y.1.value z.1.value h.2 k.2, pairs_on xs ys zs h.3 k.3)
 
 -- the value of a deferred entry is put in its place
-replaced : (b : Bool) (e : Key × PsObj) (es put : List (Key × PsObj)) (found : Option PsObj) (value : PsObj)
-    → IsTrue (is_deferred (if b then Some e.1 else found)) → (IsTrue (is_deferred found) → ArePairsKept es put)
-    → ArePairsKept (e ∷ es) (if b then (e.0, value) ∷ es else e ∷ put)
-replaced true e es put found value h rest = (refl, inr h, pairs_same es)
-replaced false e es put found value h rest = (refl, inl refl, rest h)
+put_there : (b : Bool) (e : Key × Pair) (es put : List (Key × Pair)) (found : Option PsObj) (value : PsObj)
+    → IsTrue (is_deferred (if b then Some e.1.value else found)) → (IsTrue (is_deferred found) → ArePairsKept es put)
+    → ArePairsKept (e ∷ es) (if b then with_value e value ∷ es else e ∷ put)
+put_there true e es put found value h rest = (refl, refl, inr h, pairs_same es)
+put_there false e es put found value h rest = (refl, refl, inl refl, rest h)
 
-pub value_settled : (es : List (Key × PsObj)) (key : Key) (value : PsObj) → IsTrue (is_deferred (value_at es key)) → ArePairsKept es (with_value es key value)
+pub value_settled : (es : List (Key × Pair)) (key : Key) (value : PsObj) → IsTrue (is_deferred (value_at es key)) → ArePairsKept es (replaced es key value)
 value_settled [] key value h = absurd (true≢false (sym h))
-value_settled (e ∷ es) key value h = replaced (same_key key e.0) e es (with_value es key value) (value_at es key) value h (value_settled es key value)
+value_settled (e ∷ es) key value h = put_there (same_key key e.0) e es (replaced es key value) (value_at es key) value h (value_settled es key value)
 
 -- what was found and wasn't deferred is found
 found_kept : (b : Bool) (v w x : PsObj) (found found' : Option PsObj) → IsKept v w → is_deferred (Some x) ≡ false
@@ -77,39 +78,39 @@ found_kept true v w x found found' (inl e) plain h rest = ap Some e ∙ h
 found_kept true v w x found found' (inr d) plain h rest = absurd (let e : v ≡ x = cc in let t : is_deferred (Some x) ≡ true = cc in cc)
 found_kept false v w x found found' k plain h rest = rest h
 
-pub value_kept : (xs ys : List (Key × PsObj)) (key : Key) (x : PsObj) → ArePairsKept xs ys → value_at xs key ≡ Some x → is_deferred (Some x) ≡ false → value_at ys key ≡ Some x
+pub value_kept : (xs ys : List (Key × Pair)) (key : Key) (x : PsObj) → ArePairsKept xs ys → value_at xs key ≡ Some x → is_deferred (Some x) ≡ false → value_at ys key ≡ Some x
 value_kept [] [] key x k h plain = h
 value_kept [] (b ∷ ys) key x k h plain = absurd k
 value_kept (a ∷ xs) [] key x k h plain = absurd k
 value_kept (a ∷ xs) (b ∷ ys) key x k h plain =
-    ap (λ c. if same_key key c then Some b.1 else value_at ys key) k.0
-    ∙ found_kept (same_key key a.0) a.1 b.1 x (value_at xs key) (value_at ys key) k.1 plain h (λ i. value_kept xs ys key x k.2 i plain)
+    ap (λ c. if same_key key c then Some b.1.value else value_at ys key) k.0
+    ∙ found_kept (same_key key a.0) a.1.value b.1.value x (value_at xs key) (value_at ys key) k.2 plain h (λ i. value_kept xs ys key x k.3 i plain)
 
 -- ---- dictionaries
 
-dicts_same : (ds : List (List (Key × PsObj))) → AreDictsKept ds ds
+dicts_same : (ds : List (List (Key × Pair))) → AreDictsKept ds ds
 dicts_same [] = tt
 dicts_same (d ∷ ds) = (pairs_same d, dicts_same ds)
 
-dicts_on : (xs ys zs : List (List (Key × PsObj))) → AreDictsKept xs ys → AreDictsKept ys zs → AreDictsKept xs zs
+dicts_on : (xs ys zs : List (List (Key × Pair))) → AreDictsKept xs ys → AreDictsKept ys zs → AreDictsKept xs zs
 dicts_on [] ys zs h k = tt
 dicts_on (x ∷ xs) [] zs h k = absurd h
 dicts_on (x ∷ xs) (y ∷ ys) [] h k = absurd k
 dicts_on (x ∷ xs) (y ∷ ys) (z ∷ zs) h k = (pairs_on x y z h.0 k.0, dicts_on xs ys zs h.1 k.1)
 
-dicts_take : (n m : ℕ) (ds : List (List (Key × PsObj))) → n ≤ m → AreDictsKept (take n ds) (take m ds)
+dicts_take : (n m : ℕ) (ds : List (List (Key × Pair))) → n ≤ m → AreDictsKept (take n ds) (take m ds)
 dicts_take zero m ds le = tt
 dicts_take (suc n) zero ds le = absurd (omega arith)
 dicts_take (suc n) (suc m) [] le = tt
 dicts_take (suc n) (suc m) (d ∷ ds) le = (pairs_same d, dicts_take n m ds (omega arith))
 
-dicts_set : (n i : ℕ) (ds : List (List (Key × PsObj))) (es : List (Key × PsObj)) → ArePairsKept (slice_index_or ds i []) es → AreDictsKept (take n ds) (take n (slice_set ds i es))
+dicts_set : (n i : ℕ) (ds : List (List (Key × Pair))) (es : List (Key × Pair)) → ArePairsKept (slice_index_or ds i []) es → AreDictsKept (take n ds) (take n (slice_set ds i es))
 dicts_set zero i ds es h = tt
 dicts_set (suc n) i [] es h = tt
 dicts_set (suc n) zero (d ∷ ds) es h = (h, dicts_same (take n ds))
 dicts_set (suc n) (suc i) (d ∷ ds) es h = (pairs_same d, dicts_set n i ds es h)
 
-pub dict_kept : (n m i : ℕ) (xs ys : List (List (Key × PsObj))) → i < n → i < length xs → AreDictsKept (take n xs) (take m ys) → n ≤ m → ArePairsKept (slice_index_or xs i []) (slice_index_or ys i [])
+pub dict_kept : (n m i : ℕ) (xs ys : List (List (Key × Pair))) → i < n → i < length xs → AreDictsKept (take n xs) (take m ys) → n ≤ m → ArePairsKept (slice_index_or xs i []) (slice_index_or ys i [])
 dict_kept zero m i xs ys low within k le = absurd (omega arith)
 dict_kept (suc n) zero i xs ys low within k le = absurd (omega arith)
 dict_kept (suc n) (suc m) i [] ys low within k le = absurd (omega arith)
@@ -163,7 +164,7 @@ all_settled s h = record {
 }
 
 -- a deferred entry is settled
-settled_in : (s : StoreState) (p : Part) (i : ℕ) (es : List (Key × PsObj)) → ArePairsKept (entries_of s (record { part = p; index = i })) es
+settled_in : (s : StoreState) (p : Part) (i : ℕ) (es : List (Key × Pair)) → ArePairsKept (entries_of s (record { part = p; index = i })) es
     → Settled (closed_part s) (closed_part (with_entries s (record { part = p; index = i }) es))
 settled_in s Command i es h = settled_same (closed_part s)
 settled_in s Table i es h = record {
@@ -177,8 +178,8 @@ settled_in s Table i es h = record {
 }
 
 pub entry_settled : (s : StoreState) (d : DictId) (key : Key) (value : PsObj) → IsTrue (is_deferred (value_at (entries_of s d) key))
-    → Settled (closed_part s) (closed_part (with_entries s d (with_value (entries_of s d) key value)))
-entry_settled s d key value h = settled_in s d.part d.index (with_value (entries_of s d) key value) (value_settled (entries_of s d) key value h)
+    → Settled (closed_part s) (closed_part (with_entries s d (replaced (entries_of s d) key value)))
+entry_settled s d key value h = settled_in s d.part d.index (replaced (entries_of s d) key value) (value_settled (entries_of s d) key value h)
 
 -- ---- stores whose closed parts were settled
 

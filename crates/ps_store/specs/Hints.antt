@@ -3,7 +3,7 @@
 use Rattle.std.specs.Prelude.{◌≡◌, ℕ, ◌+◌, ◌%◌, List, Option, Some, None, slice_set, slice_index_or}
 use Rattle.ps_store.specs.declared.key.Key.{Key}
 use Rattle.ps_store.specs.declared.key.Key.TheVariants.{Name, Int, Bool as Truth}
-use Rattle.ps_store.specs.declared.object.PsObj.{PsObj}
+use Rattle.ps_store.specs.declared.object.Pair.{Pair}
 use Rattle.ps_store.specs.Hashed.{text_hash}
 use Rattle.ps_store.specs.Operators.{operator_number}
 use Rattle.ps_store.specs.Entries.{value_at}
@@ -18,7 +18,7 @@ unfoldable pub bucket_of : List ℕ → ℕ
 bucket_of text = bucket (text_hash text) (operator_number text)
 
 -- no key is a name of a bucket whose hint is 0
-abbrev pub Hinted : List ℕ → List (Key × PsObj) → Type 0
+abbrev pub Hinted : List ℕ → List (Key × Pair) → Type 0
 Hinted hints es = (text : List ℕ) → slice_index_or hints (bucket_of text) 1 ≡ 0 → value_at es (Name text) ≡ None
 
 -- the hints with a hint for a key

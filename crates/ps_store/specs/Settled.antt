@@ -2,6 +2,7 @@
 use Rattle.std.specs.Prelude.{◌≡◌, ◌⊎◌, IsTrue, Some, List, [], ◌∷◌, ◌++◌}
 use Rattle.ps_store.specs.declared.key.Key.{Key}
 use Rattle.ps_store.specs.declared.object.PsObj.{PsObj}
+use Rattle.ps_store.specs.declared.object.Pair.{Pair}
 use Rattle.ps_store.specs.StoreState.{Closed}
 use Rattle.ps_store.specs.Store.{IsAbove, is_deferred}
 
@@ -15,14 +16,14 @@ abbrev pub IsKept : PsObj → PsObj → Type 0
 IsKept old new = (new ≡ old) ⊎ IsTrue (is_deferred (Some old))
 
 -- a dictionary has its keys in their order, and its values but for deferred ones
-abbrev pub ArePairsKept : List (Key × PsObj) → List (Key × PsObj) → Type 0
+abbrev pub ArePairsKept : List (Key × Pair) → List (Key × Pair) → Type 0
 ArePairsKept [] [] = Unit {0}
-ArePairsKept (x ∷ xs) (y ∷ ys) = (y.0 ≡ x.0) × IsKept x.1 y.1 × ArePairsKept xs ys
+ArePairsKept (x ∷ xs) (y ∷ ys) = (y.0 ≡ x.0) × (y.1.key ≡ x.1.key) × IsKept x.1.value y.1.value × ArePairsKept xs ys
 ArePairsKept [] (y ∷ ys) = ⊥
 ArePairsKept (x ∷ xs) [] = ⊥
 
 -- each dictionary is kept so, and more may be behind them
-abbrev pub AreDictsKept : List (List (Key × PsObj)) → List (List (Key × PsObj)) → Type 0
+abbrev pub AreDictsKept : List (List (Key × Pair)) → List (List (Key × Pair)) → Type 0
 AreDictsKept [] new = Unit {0}
 AreDictsKept (d ∷ ds) (e ∷ es) = ArePairsKept d e × AreDictsKept ds es
 AreDictsKept (d ∷ ds) [] = ⊥

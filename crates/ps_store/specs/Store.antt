@@ -1,21 +1,22 @@
 -- A store: the arrays, dictionaries and strings that objects share, in two parts.
-use Rattle.std.specs.Prelude.{◌≡◌, ◌≤◌, ℕ, ◌+◌, ◌/◌, Bool, false, not, ◌&&◌, ◌||◌, nat_lt, nat_le, is_none, if◌then◌else◌, Option, Some, None, Result, Ok, Err, List, [], ◌∷◌, ◌++◌, length, take, replicate, slice_index_or, slice_set}
+use Rattle.std.specs.Prelude.{◌≡◌, ◌≤◌, ℕ, ◌+◌, ◌/◌, Bool, false, ◌&&◌, nat_lt, nat_le, is_some, if◌then◌else◌, Option, Some, None, Result, Ok, Err, List, [], ◌∷◌, ◌++◌, length, take, replicate, slice_index_or, slice_set}
 use Rattle.ps_store.specs.declared.object.Part.{Part}
 use Rattle.ps_store.specs.declared.object.Part.TheVariants.{Table, Command}
 use Rattle.ps_store.specs.declared.object.ArrayId.{ArrayId}
 use Rattle.ps_store.specs.declared.object.DictId.{DictId}
 use Rattle.ps_store.specs.declared.object.StringId.{StringId}
 use Rattle.ps_store.specs.declared.object.PsObj.{PsObj}
-use Rattle.ps_store.specs.declared.object.PsObj.TheVariants.{Null, Str}
+use Rattle.ps_store.specs.declared.object.PsObj.TheVariants.{Null, Int, Bool as Truth, Name, Str}
+use Rattle.ps_store.specs.declared.object.Pair.{Pair}
 use Rattle.ps_store.specs.declared.key.Key.{Key}
-use Rattle.ps_store.specs.declared.key.Key.TheVariants.{Name as NameKey}
+use Rattle.ps_store.specs.declared.key.Key.TheVariants.{Name as NameKey, Int as IntKey, Bool as TruthKey}
 use Rattle.ps_store.specs.declared.object.Mark.{Mark}
 use Rattle.ps_store.specs.declared.fault.StoreFault.{StoreFault}
 use Rattle.ps_store.specs.declared.fault.StoreFault.TheVariants.{Limit, ReadOnly, NoMemory}
 use Rattle.ps_store.specs.declared.fault.ReadOnly.{ReadOnly as ReadOnlyFault}
 use Rattle.ps_store.specs.Held.{Held}
 use Rattle.ps_store.specs.StoreState.{StoreState, Closed}
-use Rattle.ps_store.specs.Entries.{value_at, with_value}
+use Rattle.ps_store.specs.Entries.{value_at, replaced}
 use Rattle.ps_store.specs.Overwritten.{overwritten}
 
 -- the objects of a part
@@ -32,7 +33,7 @@ with_held s Command h = record s { command = h }
 abbrev pub elements_of : StoreState → ArrayId → List PsObj
 elements_of s a = slice_index_or (held s a.part).arrays a.index []
 
-abbrev pub entries_of : StoreState → DictId → List (Key × PsObj)
+abbrev pub entries_of : StoreState → DictId → List (Key × Pair)
 entries_of s d = slice_index_or (held s d.part).dicts d.index []
 
 abbrev pub bytes_of : StoreState → StringId → List ℕ
@@ -42,7 +43,7 @@ bytes_of s t = slice_index_or (held s t.part).strings t.index []
 abbrev pub with_elements : StoreState → ArrayId → List PsObj → StoreState
 with_elements s a items = let h = held s a.part in with_held s a.part (record h { arrays = slice_set h.arrays a.index items })
 
-abbrev pub with_entries : StoreState → DictId → List (Key × PsObj) → StoreState
+abbrev pub with_entries : StoreState → DictId → List (Key × Pair) → StoreState
 with_entries s d entries = let h = held s d.part in with_held s d.part (record h { dicts = slice_set h.dicts d.index entries })
 
 abbrev pub with_bytes : StoreState → StringId → List ℕ → StoreState
@@ -131,20 +132,46 @@ making_zeros s len = making_string s (replicate len 0)
 abbrev pub making_name : StoreState → List ℕ → Given StringId
 making_name s text = making_text 127 s text
 
--- a value is put under a key of a dictionary: only a new key counts
-abbrev pub putting_value : StoreState → DictId → Key → PsObj → Given (Unit {0})
-putting_value s d key value =
+-- a literal name of the characters that were made
+abbrev pub named_object : Given StringId → Given PsObj
+named_object (Ok made) = Ok (Name made.0 false, made.1)
+named_object (Err fault) = Err fault
+
+-- the object that a key is: of a name a literal one, which is made
+abbrev pub key_object : StoreState → Key → Given PsObj
+key_object s (NameKey text) = named_object (making_name s text)
+key_object s (IntKey n) = Ok (Int n, s)
+key_object s (TruthKey b) = Ok (Truth b, s)
+
+-- a pair is put at the end of a dictionary, and counts a unit
+abbrev pub adding_pair : StoreState → DictId → Key → Pair → Given (Unit {0})
+adding_pair s d key pair =
     let h = held s d.part in
     let entries = entries_of s d in
-    let is_new = is_none (value_at entries key) in
-    if is_closed d.part d.index s.closed.dicts then Err ReadOnly
-    else if is_new && (nat_le 1000000 (length entries) || not (has_room s 1)) then Err Limit
-    else Ok (tt, with_held s d.part (record h { dicts = slice_set h.dicts d.index (with_value entries key value); units = h.units + (if is_new then 1 else 0) }))
+    if nat_lt (length entries) 1000000 && has_room s 1
+    then Ok (tt, with_held s d.part (record h { dicts = slice_set h.dicts d.index (entries ++ (key, pair) ∷ []); units = h.units + 1 }))
+    else Err Limit
 
--- a value is put under the name that a text is
-abbrev pub putting_under_text : StoreState → DictId → StringId → PsObj → Given (Unit {0})
-putting_under_text s d t value =
-    if nat_le (length (bytes_of s t)) 127 then putting_value s d (NameKey (bytes_of s t)) value else Err Limit
+-- the same, where the key's object is made first
+abbrev pub adding : DictId → Key → PsObj → Given PsObj → Given (Unit {0})
+adding d key value (Ok made) = adding_pair made.1 d key (record { key = made.0; value = value })
+adding d key value (Err fault) = Err fault
+
+-- A value is put under a key of a dictionary: in the place of the value that is there, or else in a new pair with the key's object.
+abbrev pub putting : StoreState → DictId → Key → Given PsObj → PsObj → Given (Unit {0})
+putting s d key object value =
+    if is_closed d.part d.index s.closed.dicts then Err ReadOnly
+    else if is_some (value_at (entries_of s d) key) then Ok (tt, with_entries s d (replaced (entries_of s d) key value))
+    else adding d key value object
+
+-- a value is put under a key; for a name that is new a name is made
+abbrev pub putting_value : StoreState → DictId → Key → PsObj → Given (Unit {0})
+putting_value s d key value = putting s d key (key_object s key) value
+
+-- a value is put under a name of the store, which a new pair keeps
+abbrev pub putting_under_name : StoreState → DictId → StringId → PsObj → Given (Unit {0})
+putting_under_name s d t value =
+    if nat_le (length (bytes_of s t)) 127 then putting s d (NameKey (bytes_of s t)) (Ok (Name t false, s)) value else Err Limit
 
 -- The call did what the definition gives, unless memory ran out: then the store is as before.
 abbrev pub Does : {X : Type 0} → Result X StoreFault → StoreState → StoreState → Given X → Type 0
@@ -161,9 +188,7 @@ writing_elements s a at items =
     else Some (with_elements s a (overwritten (elements_of s a) at items))
 
 abbrev pub putting_element : StoreState → ArrayId → ℕ → PsObj → Option StoreState
-putting_element s a at value =
-    if is_closed a.part a.index s.closed.arrays then None
-    else Some (with_elements s a (slice_set (elements_of s a) at value))
+putting_element s a at value = writing_elements s a at (value ∷ [])
 
 abbrev pub writing_bytes : StoreState → StringId → ℕ → List ℕ → Option StoreState
 writing_bytes s t at bytes =

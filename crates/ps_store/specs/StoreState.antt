@@ -4,6 +4,7 @@ use Rattle.ps_store.specs.declared.object.Part.{Part}
 use Rattle.ps_store.specs.declared.object.DictId.{DictId}
 use Rattle.ps_store.specs.declared.object.Mark.{Mark}
 use Rattle.ps_store.specs.declared.object.PsObj.{PsObj}
+use Rattle.ps_store.specs.declared.object.Pair.{Pair}
 use Rattle.ps_store.specs.declared.key.Key.{Key}
 use Rattle.ps_store.specs.Held.{Held}
 
@@ -21,7 +22,7 @@ pub record StoreState : Type 0 where
 -- the base dictionaries and the top dictionary.
 pub record Closed : Type 0 where
   pub arrays : List (List PsObj)
-  pub dicts : List (List (Key × PsObj))
+  pub dicts : List (List (Key × Pair))
   pub strings : List (List ℕ)
   pub mark : Mark
   pub part : Part

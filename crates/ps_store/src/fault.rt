@@ -25,5 +25,5 @@ impl From<AllocError> for StoreFault {
 }
 
 /// The object is closed, so it cannot be changed.
-#[derive(Clone, Copy, Debug, PartialEq, Eq)]
+#[derive(Clone, Copy, Debug)]
 pub struct ReadOnly;

@@ -36,11 +36,11 @@ impl NameText {
         ensures fits { IsSome result ↔ (length bytes.now ≤ 127) }
         ensures same { IfSome result (λ text. text ≡ bytes.now) }
     {
-        NameText::with_hash(NameQuery::new(bytes))
+        NameText::of_query(NameQuery::new(bytes))
     }
 
     /// The characters of a query, if there are at most 127.
-    fn with_hash(query: NameQuery<'_>) -> Option<NameText>
+    fn of_query(query: NameQuery<'_>) -> Option<NameText>
         ensures fits { IsSome result ↔ (length query.entry.text.now ≤ 127) }
         ensures same { IfSome result (λ text. text ≡ query.entry.text.now) }
     {
@@ -53,20 +53,6 @@ impl NameText {
         }
     }
 
-    /// A copy, which takes no memory.
-    fn copy(&self) -> NameText
-        ensures { result ≡ self.now }
-    {
-        let mut bytes = ArrayVec::new();
-        for byte in self.bytes.as_slice() {
-            bytes.push(*byte);
-        }
-        NameText {
-            bytes,
-            hash: self.hash,
-        }
-    }
-
     /// The characters.
     pub fn as_slice(&self) -> &[u8]
         ensures { result.now ≡ self.now }
@@ -74,11 +60,14 @@ impl NameText {
         self.bytes.as_slice()
     }
 
-    /// The hash of the characters.
-    fn hash(&self) -> u64
-        ensures { result ≡ text_hash self.now }
+    /// The characters with their hash.
+    pub fn query(&self) -> NameQuery<'_>
+        ensures { result.text.now ≡ self.now }
     {
-        self.hash
+        NameQuery {
+            text: self.bytes.as_slice(),
+            hash: self.hash,
+        }
     }
 }
 
@@ -154,21 +143,9 @@ impl Key {
         ensures fits { IsSome result ↔ (length query.entry.text.now ≤ 127) }
         ensures same { IfSome result (λ key. key ≡ NameKey query.entry.text.now) }
     {
-        match NameText::with_hash(query) {
+        match NameText::of_query(query) {
             Some(text) => Some(Key::Name(text)),
             None => None,
-        }
-    }
-
-    /// Whether both are the same key. Names are compared by their characters.
-    pub fn is_same(&self, other: &Key) -> bool
-        ensures { result ≡ same_key self.now other.now }
-    {
-        match (self, other) {
-            (Key::Name(a), Key::Name(b)) => a.as_slice() == b.as_slice(),
-            (Key::Int(a), Key::Int(b)) => *a == *b,
-            (Key::Bool(a), Key::Bool(b)) => *a == *b,
-            _ => false,
         }
     }
 
@@ -178,19 +155,11 @@ impl Key {
         ensures { result ≡ same_key (NameKey name.entry.text.now) self.now }
     {
         match self {
-            Key::Name(text) => name.hash == text.hash() && name.text == text.as_slice(),
+            Key::Name(text) => {
+                let own = text.query();
+                name.hash == own.hash && name.text == own.text
+            }
             _ => false,
-        }
-    }
-
-    /// A copy, which takes no memory.
-    pub fn copy(&self) -> Key
-        ensures { result ≡ self.now }
-    {
-        match self {
-            Key::Name(text) => Key::Name(text.copy()),
-            Key::Int(n) => Key::Int(*n),
-            Key::Bool(b) => Key::Bool(*b),
         }
     }
 }
@@ -204,7 +173,12 @@ impl PartialEq for Key {
     ghost laws = { partial_equiv_from_equiv same_key_equiv };
 
     fn eq(&self, other: &Self) -> bool {
-        self.is_same(other)
+        match (self, other) {
+            (Key::Name(a), Key::Name(b)) => a.query().text == b.query().text,
+            (Key::Int(a), Key::Int(b)) => *a == *b,
+            (Key::Bool(a), Key::Bool(b)) => *a == *b,
+            _ => false,
+        }
     }
 }
 
@@ -223,7 +197,7 @@ impl Hash for Key {
 
     fn hash<H: Hasher>(&self, state: &mut H) {
         match self {
-            Key::Name(text) => state.write_u64(text.hash()),
+            Key::Name(text) => state.write_u64(text.query().hash),
             Key::Int(n) => n.hash(state),
             Key::Bool(b) => b.hash(state),
         }
@@ -242,9 +216,6 @@ impl<'a> Equivalent<Key> for NameQuery<'a> {
     ghost respects_eq = { λ q x y h. same_key_equiv.congr (NameKey q.text.now) x y h };
 
     fn equivalent(&self, key: &Key) -> bool {
-        match key {
-            Key::Name(name) => self.hash == name.hash() && self.text == name.as_slice(),
-            _ => false,
-        }
+        key.is_name(*self)
     }
 }

@@ -5,6 +5,7 @@ ghost use Rattle.ps_store.specs.declared.object.ArrayId.{ArrayId};
 ghost use Rattle.ps_store.specs.declared.object.DictId.{DictId};
 ghost use Rattle.ps_store.specs.declared.object.StringId.{StringId};
 ghost use Rattle.ps_store.specs.declared.object.PsObj.{PsObj};
+ghost use Rattle.ps_store.specs.declared.object.Pair.{Pair};
 ghost use Rattle.ps_store.specs.declared.key.Key.{Key};
 ghost use Rattle.ps_store.specs.StoreState.{StoreState, Closed};
 ghost use Rattle.ps_store.specs.Entries.{value_at};
@@ -24,7 +25,7 @@ pub fn closed_objects_stay()
     ensures array { (s t : StoreState) (a : ArrayId) → Settled (closed_part s) (closed_part t) → HoldsArray s a → is_closed a.part a.index s.closed.arrays ≡ true → elements_of t a ≡ elements_of s a }
     ensures string { (s t : StoreState) (x : StringId) → Settled (closed_part s) (closed_part t) → HoldsString s x → is_closed x.part x.index s.closed.strings ≡ true → bytes_of t x ≡ bytes_of s x }
     ensures dict { (s t : StoreState) (d : DictId) → Settled (closed_part s) (closed_part t) → HoldsDict s d → is_closed d.part d.index s.closed.dicts ≡ true → ArePairsKept (entries_of s d) (entries_of t d) }
-    ensures value { (old new : List (Key × PsObj)) (key : Key) (x : PsObj) → ArePairsKept old new → value_at old key ≡ Some x → is_deferred (Some x) ≡ false → value_at new key ≡ Some x }
+    ensures value { (old new : List (Key × Pair)) (key : Key) (x : PsObj) → ArePairsKept old new → value_at old key ≡ Some x → is_deferred (Some x) ≡ false → value_at new key ≡ Some x }
 {}
 
 /// An object that is made is added to a store, and nothing else.

@@ -16,6 +16,6 @@ mod texts;
 pub use fault::{ReadOnly, StoreFault};
 pub use key::{Key, NameText};
 pub use laws::{closed_objects_stay, held_objects_stay, making_adds, settling_is_an_order};
-pub use object::{ArrayId, DictId, Mark, Part, PsObj, StringId};
+pub use object::{ArrayId, DictId, Mark, Pair, Part, PsObj, StringId};
 pub use operators::{OPERATOR_NAMES, STANDARD_OPERATORS, operator_number};
 pub use store::PsStore;

@@ -1,21 +1,14 @@
 //! The objects of one part of a store.
 
 ghost use Rattle.ps_store.specs.Cut.{mark_of, cut, IsMark};
-ghost use Rattle.std.specs.Prelude.{ℕ, ◌≡◌, ◌<◌, ◌+◌, ◌≤◌, ◌↔◌, IsSome, IfOk, OnOk, OnErr, None, List, [], ◌∷◌, ◌++◌, length, slice_set, slice_get, slice_index_or, take, is_some, IfSome};
-ghost use Rattle.ps_store.specs.declared.key.Key.TheVariants.{Name as NameKey};
-ghost use Rattle.ps_store.specs.Entries.{value_at, with_value};
-ghost use Rattle.ps_store.specs.Hints.{bucket_of};
-ghost use Rattle.ps_store.specs.Operators.{operator_number};
-ghost use Rattle.std.specs.Bool.{OnTrue};
+ghost use Rattle.std.specs.Prelude.{◌≡◌, ◌<◌, ◌+◌, ◌≤◌, IfOk, IfSome, IfNone, OnOk, OnErr, None, [], ◌∷◌, ◌++◌, length, slice_set, slice_index_or};
+ghost use Rattle.ps_store.specs.Entries.{value_at, with_value_in};
 ghost use Rattle.ps_store.specs.Overwritten.{overwritten};
-ghost use Rattle.indexmap.specs.IndexMap.{set_value_at};
-ghost use Rattle.ps_store.specs.declared.object.PsObj.{PsObj};
 
-use crate::bucket::bucket_of;
+use crate::bucket::Text;
 use crate::entries::Entries;
-use crate::key::{Key, NameQuery};
-use crate::object::{Mark, PsObj};
-use crate::operators::operator_number;
+use crate::key::Key;
+use crate::object::{Mark, Pair, PsObj};
 use crate::texts::{Characters, Elements};
 use std::alloc::{AllocError, Global};
 use std::marker::Model;
@@ -70,54 +63,22 @@ impl Objects {
         }
     }
 
-    /// The bytes of a string with their hash, none where there is no such string.
-    pub fn query(&self, index: u32) -> NameQuery<'_>
-        ensures { result.text.now ≡ slice_index_or self.now.strings index [] }
+    /// The text of a string, an empty one where there is no such string.
+    pub fn text(&self, index: u32) -> Text<'_>
+        ensures { result.query.text.now ≡ slice_index_or self.now.strings index [] }
     {
         match self.strings.get(index as usize) {
-            Some(bytes) => bytes.query(),
-            None => NameQuery::new(&[]),
+            Some(characters) => characters.text(),
+            None => Text::new(&[]),
         }
     }
 
-    /// The number of the operator whose name the bytes of a string are.
-    pub fn operator(&self, index: u32) -> Option<u16>
-        ensures { result ≡ operator_number (slice_index_or self.now.strings index []) }
+    /// The pairs of a dictionary, if it is there.
+    pub fn entries(&self, index: u32) -> Option<&Entries>
+        ensures some { IfSome result (λ entries. entries.now ≡ slice_index_or self.now.dicts index []) }
+        ensures none { IfNone result (slice_index_or self.now.dicts index [] ≡ []) }
     {
-        match self.strings.get(index as usize) {
-            Some(bytes) => bytes.operator(),
-            None => operator_number(&[]),
-        }
-    }
-
-    /// The bucket of the name that the bytes of a string are.
-    pub fn bucket(&self, index: u32) -> u8
-        ensures { result ≡ bucket_of (slice_index_or self.now.strings index []) }
-    {
-        match self.strings.get(index as usize) {
-            Some(bytes) => bytes.bucket(),
-            None => bucket_of(&[]),
-        }
-    }
-
-    /// Whether it is certain that no key of a dictionary is a name of a bucket.
-    pub fn lacks(&self, index: u32, bucket: u8) -> bool
-        ensures { OnTrue result ((text : List ℕ) → bucket_of text ≡ bucket → value_at (slice_index_or self.now.dicts index []) (NameKey text) ≡ None) }
-    {
-        match self.dicts.get(index as usize) {
-            Some(entries) => entries.lacks(bucket),
-            None => true,
-        }
-    }
-
-    /// The bytes of a string, none where there is no such string.
-    pub fn bytes(&self, index: u32) -> &[u8]
-        ensures { result.now ≡ slice_index_or self.now.strings index [] }
-    {
-        match self.strings.get(index as usize) {
-            Some(bytes) => bytes.as_slice(),
-            None => &[],
-        }
+        self.dicts.get(index as usize)
     }
 
     /// The allocator of the objects.
@@ -139,16 +100,6 @@ impl Objects {
         Ok(index)
     }
 
-    /// Puts an element into an array.
-    pub fn put_element(&mut self, index: u32, at: usize, value: PsObj)
-        requires { at < length (slice_index_or self.old.arrays index []) }
-        ensures { self.new ≡ record self.old { arrays = slice_set self.old.arrays index (slice_set (slice_index_or self.old.arrays index []) at value) } }
-    {
-        if let Some(elements) = self.arrays.get_mut(index as usize) {
-            elements.put(at, value);
-        }
-    }
-
     /// Puts elements into an array from a place on.
     pub fn write_elements(&mut self, index: u32, at: usize, items: &[PsObj])
         requires { at + length items.now ≤ length (slice_index_or self.old.arrays index []) }
@@ -166,80 +117,6 @@ impl Objects {
     {
         if let Some(characters) = self.strings.get_mut(index as usize) {
             characters.write(at, bytes);
-        }
-    }
-
-    /// The value under a key of a dictionary, none where there is no such dictionary.
-    pub fn value(&self, index: u32, key: &Key) -> Option<PsObj>
-        ensures { result ≡ value_at (slice_index_or self.now.dicts index []) key.now }
-    {
-        match self.dicts.get(index as usize) {
-            Some(entries) => entries.get(key),
-            None => None,
-        }
-    }
-
-    /// The value under a name of this bucket in a dictionary, none where there is no such dictionary.
-    pub fn name_value(&self, index: u32, name: NameQuery<'_>, bucket: u8) -> Option<PsObj>
-        ensures { result ≡ value_at (slice_index_or self.now.dicts index []) (NameKey name.entry.text.now) }
-    {
-        match self.dicts.get(index as usize) {
-            Some(entries) => entries.get_name(name, bucket),
-            None => None,
-        }
-    }
-
-    /// The same under a name whose bucket is not known.
-    pub fn text_value(&self, index: u32, name: NameQuery<'_>) -> Option<PsObj>
-        ensures { result ≡ value_at (slice_index_or self.now.dicts index []) (NameKey name.entry.text.now) }
-    {
-        match self.dicts.get(index as usize) {
-            Some(entries) => entries.search(name),
-            None => None,
-        }
-    }
-
-    /// The place of a key of a dictionary, none where there is no such dictionary.
-    pub fn place_of(&self, index: u32, key: &Key) -> Option<usize>
-        ensures found { is_some result ≡ is_some (value_at (slice_index_or self.now.dicts index []) key.now) }
-        ensures place { IfSome result (λ i. (value : PsObj) → with_value (slice_index_or self.now.dicts index []) key.now value ≡ set_value_at (slice_index_or self.now.dicts index []) i value) }
-        ensures within { IfSome result (λ i. i < length (slice_index_or self.now.dicts index [])) }
-    {
-        match self.dicts.get(index as usize) {
-            Some(entries) => entries.place_of(key),
-            None => None,
-        }
-    }
-
-    /// The place of a name of this bucket in a dictionary, none where there is no such dictionary.
-    pub fn place_of_name(&self, index: u32, name: NameQuery<'_>, bucket: u8) -> Option<usize>
-        ensures found { is_some result ≡ is_some (value_at (slice_index_or self.now.dicts index []) (NameKey name.entry.text.now)) }
-        ensures place { IfSome result (λ i. (value : PsObj) → with_value (slice_index_or self.now.dicts index []) (NameKey name.entry.text.now) value ≡ set_value_at (slice_index_or self.now.dicts index []) i value) }
-        ensures within { IfSome result (λ i. i < length (slice_index_or self.now.dicts index [])) }
-    {
-        match self.dicts.get(index as usize) {
-            Some(entries) => entries.place_of_name(name, bucket),
-            None => None,
-        }
-    }
-
-    /// The pair at a place of a dictionary, none where there is no such dictionary.
-    pub fn pair(&self, index: u32, at: usize) -> Option<(Key, PsObj)>
-        ensures { result ≡ slice_get (slice_index_or self.now.dicts index []) at }
-    {
-        match self.dicts.get(index as usize) {
-            Some(entries) => entries.at(at),
-            None => None,
-        }
-    }
-
-    /// How many entries a dictionary has.
-    pub fn dict_len(&self, index: u32) -> usize
-        ensures { result ≡ length (slice_index_or self.now.dicts index []) }
-    {
-        match self.dicts.get(index as usize) {
-            Some(entries) => entries.len(),
-            None => 0,
         }
     }
 
@@ -271,25 +148,26 @@ impl Objects {
         Ok(index)
     }
 
-    /// Puts a value at a place of a dictionary.
+    /// Puts another value at a place of a dictionary.
     #[inline(always)]
-    pub fn replace_value(&mut self, index: u32, at: usize, value: PsObj)
-        requires { at < length (slice_index_or self.old.dicts index []) }
-        ensures { self.new ≡ record self.old { dicts = slice_set self.old.dicts index (set_value_at (slice_index_or self.old.dicts index []) at value) } }
+    pub fn replace_value(&mut self, index: u32, place: usize, value: PsObj)
+        requires { place < length (slice_index_or self.old.dicts index []) }
+        ensures { self.new ≡ record self.old { dicts = slice_set self.old.dicts index (with_value_in (slice_index_or self.old.dicts index []) place value) } }
     {
         if let Some(entries) = self.dicts.get_mut(index as usize) {
-            entries.replace(at, value);
+            entries.replace(place, value);
         }
     }
 
-    /// Puts a value under a new key of a dictionary, which counts a unit.
-    pub fn put_value(&mut self, index: u32, key: Key, value: PsObj) -> Result<(), AllocError>
-        requires { self.old.units < 8000000 }
-        ensures ok { OnOk result (self.new ≡ record self.old { dicts = slice_set self.old.dicts index (with_value (slice_index_or self.old.dicts index []) key value); units = self.old.units + 1 }) }
+    /// Adds a pair to a dictionary under a key that is not there, which counts a unit.
+    pub fn add_pair(&mut self, index: u32, key: Key, pair: Pair) -> Result<(), AllocError>
+        requires room { self.old.units < 8000000 }
+        requires absent { value_at (slice_index_or self.old.dicts index []) key ≡ None }
+        ensures ok { OnOk result (self.new ≡ record self.old { dicts = slice_set self.old.dicts index (slice_index_or self.old.dicts index [] ++ (key, pair) ∷ []); units = self.old.units + 1 }) }
         ensures err { OnErr result (self.new ≡ self.old) }
     {
         if let Some(entries) = self.dicts.get_mut(index as usize) {
-            entries.put(key, value)?;
+            entries.add(key, pair)?;
         }
         self.units += 1;
         Ok(())

@@ -1,10 +1,13 @@
 //! The store: arrays, dictionaries and strings, in two parts (PostScript Language Reference, 3.3 and 3.7).
 
-ghost use Rattle.std.specs.Prelude.{◌≡◌, ◌<◌, ◌+◌, ◌≤◌, ◌^◌, IfOk, IfSome, OnOk, OnErr, Some, List, [], ◌∷◌, ◌++◌, length, slice_get, bytes_eq, is_some, false, true, ◌&&◌, ◌/◌, nat_le, IsTrue};
+ghost use Rattle.std.specs.Prelude.{◌≡◌, ◌<◌, ◌+◌, ◌≤◌, ◌^◌, IfOk, IfSome, IfNone, OnOk, OnErr, Some, None, [], ◌∷◌, ◌++◌, length, slice_get, option_map, bytes_eq, false, true, ◌&&◌, ◌/◌, nat_le, IsTrue};
+ghost use Rattle.ps_store.specs.Store.{is_closed};
 
+use crate::bucket::Text;
+use crate::entries::Entries;
 use crate::fault::{ReadOnly, StoreFault};
 use crate::key::{Key, NameQuery};
-use crate::object::{ArrayId, DictId, Mark, Part, PsObj, StringId};
+use crate::object::{ArrayId, DictId, Mark, Pair, Part, PsObj, StringId};
 use crate::objects::Objects;
 use crate::texts::{Characters, Elements};
 use std::alloc::{AllocError, Global};
@@ -46,15 +49,24 @@ const MOST_CHARACTERS: usize = 127;
 /// The most units of a store.
 const MOST_UNITS: usize = 8_000_000;
 
+/// Whether an object of a part is closed, where the first `count` objects of its kind in the table's part are.
+fn is_closed(part: Part, index: u32, count: u32) -> bool
+    ensures { result ≡ is_closed part index count }
+{
+    match part {
+        Part::Table => index < count,
+        Part::Command => false,
+    }
+}
+
 impl PsStore {
     ghost use Rattle.ps_store.specs.declared.key.Key.TheVariants.{Name as NameKey};
-    ghost use Rattle.ps_store.specs.Entries.{value_at, with_value};
-    ghost use Rattle.ps_store.specs.Hints.{bucket_of};
+    ghost use Rattle.ps_store.specs.declared.object.PsObj.TheVariants.{Name as NameObject};
+    ghost use Rattle.ps_store.specs.Entries.{place_of, value_at, replaced, with_value_in};
     ghost use Rattle.ps_store.specs.Operators.{operator_number};
     ghost use Rattle.ps_store.specs.Cut.{mark_of, cut, IsMark};
-    ghost use Rattle.ps_store.specs.Store.{KeepsClosed, is_deferred, held, with_held, with_entries, elements_of, entries_of, bytes_of, is_closed, has_room, making_array, making_nulls, writing_elements, putting_element, making_dict, making_text, making_string, making_zeros, making_name, text_units, writing_bytes, putting_value, putting_under_text, new_store, Does, Changes, closed_part};
+    ghost use Rattle.ps_store.specs.Store.{KeepsClosed, is_deferred, held, with_held, with_entries, elements_of, entries_of, bytes_of, has_room, making_array, making_nulls, writing_elements, putting_element, making_dict, making_text, making_string, making_zeros, making_name, text_units, writing_bytes, key_object, adding_pair, adding, putting_value, putting_under_name, new_store, Does, Changes, closed_part};
     ghost use Rattle.ps_store.specs.Settled.{Settled};
-    ghost use Rattle.indexmap.specs.IndexMap.{set_value_at};
 
     /// A store with the table's part in use and one base dictionary, which is empty.
     pub fn new(alloc: Global) -> Result<PsStore, AllocError>
@@ -102,28 +114,28 @@ impl PsStore {
     pub fn string_get(&self, s: StringId) -> &[u8]
         ensures { result.now ≡ bytes_of self.now s }
     {
-        self.held(s.part).bytes(s.index)
+        self.text(s).query.text
     }
 
-    /// The same with their hash, to look a name up.
-    fn query(&self, s: StringId) -> NameQuery<'_>
-        ensures { result.text.now ≡ bytes_of self.now s }
+    /// The same with what is known of the name that they are.
+    fn text(&self, s: StringId) -> Text<'_>
+        ensures { result.query.text.now ≡ bytes_of self.now s }
     {
-        self.held(s.part).query(s.index)
+        self.held(s.part).text(s.index)
     }
 
     /// Whether two strings have the same bytes.
     pub fn same_bytes(&self, a: StringId, b: StringId) -> bool
         ensures { result ≡ bytes_eq (bytes_of self.now a) (bytes_of self.now b) }
     {
-        a == b || self.query(a) == self.query(b)
+        a == b || self.string_get(a) == self.string_get(b)
     }
 
     /// The number of the operator that has this name. It takes no search.
     pub fn operator_named(&self, s: StringId) -> Option<u16>
         ensures { result ≡ operator_number (bytes_of self.now s) }
     {
-        self.held(s.part).operator(s.index)
+        self.text(s).operator
     }
 
     /// Whether there is room for so many more units.
@@ -182,30 +194,13 @@ impl PsStore {
         self.add_array(elements, len)
     }
 
-    /// Whether an array is closed.
-    fn is_closed_array(&self, a: ArrayId) -> bool
-        ensures { result ≡ is_closed a.part a.index self.now.closed.arrays }
-    {
-        match a.part {
-            Part::Table => a.index < self.closed.arrays,
-            Part::Command => false,
-        }
-    }
-
     /// Puts an element into an array.
     pub fn array_put(&mut self, a: ArrayId, at: u32, value: PsObj) -> Result<(), ReadOnly>
         requires { at < length (elements_of self.old a) }
         ensures changes { Changes result self.old self.new (putting_element self.old a at value) }
         ensures closed { closed_part self.new ≡ closed_part self.old }
     {
-        if self.is_closed_array(a) {
-            return Err(ReadOnly);
-        }
-        match a.part {
-            Part::Table => self.table.put_element(a.index, at as usize, value),
-            Part::Command => self.command.put_element(a.index, at as usize, value),
-        }
-        Ok(())
+        self.array_write(a, at, &[value])
     }
 
     /// Puts elements into an array from a place on.
@@ -214,7 +209,7 @@ impl PsStore {
         ensures changes { Changes result self.old self.new (writing_elements self.old a at items.now) }
         ensures closed { closed_part self.new ≡ closed_part self.old }
     {
-        if self.is_closed_array(a) {
+        if is_closed(a.part, a.index, self.closed.arrays) {
             return Err(ReadOnly);
         }
         match a.part {
@@ -307,23 +302,13 @@ impl PsStore {
         self.make_text(text, MOST_CHARACTERS)
     }
 
-    /// Whether a string is closed.
-    fn is_closed_string(&self, s: StringId) -> bool
-        ensures { result ≡ is_closed s.part s.index self.now.closed.strings }
-    {
-        match s.part {
-            Part::Table => s.index < self.closed.strings,
-            Part::Command => false,
-        }
-    }
-
     /// Puts bytes into a string from a place on.
     pub fn string_write(&mut self, s: StringId, at: u32, bytes: &[u8]) -> Result<(), ReadOnly>
         requires { at + length bytes.now ≤ length (bytes_of self.old s) }
         ensures changes { Changes result self.old self.new (writing_bytes self.old s at bytes.now) }
         ensures closed { closed_part self.new ≡ closed_part self.old }
     {
-        if self.is_closed_string(s) {
+        if is_closed(s.part, s.index, self.closed.strings) {
             return Err(ReadOnly);
         }
         match s.part {
@@ -333,170 +318,209 @@ impl PsStore {
         Ok(())
     }
 
+    /// The pairs of a dictionary, if it is there.
+    fn entries(&self, d: DictId) -> Option<&Entries>
+        ensures some { IfSome result (λ entries. entries.now ≡ entries_of self.now d) }
+        ensures none { IfNone result (entries_of self.now d ≡ []) }
+    {
+        self.held(d.part).entries(d.index)
+    }
+
     /// The value under a key of a dictionary.
+    #[tactic(auto, using(crate::proofs::Pairs::value_there))]
     pub fn dict_get(&self, d: DictId, key: &Key) -> Option<PsObj>
         ensures { result ≡ value_at (entries_of self.now d) key.now }
     {
-        self.held(d.part).value(d.index, key)
-    }
-
-    /// The bucket of the name that a text of the store is.
-    fn bucket(&self, name: StringId) -> u8
-        ensures { result ≡ bucket_of (bytes_of self.now name) }
-    {
-        self.held(name.part).bucket(name.index)
+        let entries = self.entries(d)?;
+        entries.value(entries.place_of(key))
     }
 
     /// The value of a dictionary under the name that a text of the store is. Where no key has the name's bucket, as with
     /// an operator's name that is not a key, it takes no search.
     #[inline(always)]
+    #[tactic(auto, using(crate::proofs::Pairs::value_there))]
     pub fn name_get(&self, d: DictId, name: StringId) -> Option<PsObj>
         ensures { result ≡ value_at (entries_of self.now d) (NameKey (bytes_of self.now name)) }
     {
-        if self.held(d.part).lacks(d.index, self.bucket(name)) {
+        let entries = self.entries(d)?;
+        let text = self.text(name);
+        if entries.lacks(text.bucket) {
             return None;
         }
-        self.name_search(d, name)
-    }
-
-    /// The same, by a search.
-    fn name_search(&self, d: DictId, name: StringId) -> Option<PsObj>
-        ensures { result ≡ value_at (entries_of self.now d) (NameKey (bytes_of self.now name)) }
-    {
-        self.held(d.part)
-            .name_value(d.index, self.query(name), self.bucket(name))
+        entries.value(entries.place_of_name(text))
     }
 
     /// The value of a dictionary under the name with these characters.
+    #[tactic(auto, using(crate::proofs::Pairs::value_there))]
     pub fn text_get(&self, d: DictId, text: &[u8]) -> Option<PsObj>
         ensures { result ≡ value_at (entries_of self.now d) (NameKey text.now) }
     {
-        self.held(d.part).text_value(d.index, NameQuery::new(text))
+        let entries = self.entries(d)?;
+        entries.value(entries.search(NameQuery::new(text)))
     }
 
     /// How many pairs a dictionary has.
     pub fn dict_len(&self, d: DictId) -> usize
         ensures { result ≡ length (entries_of self.now d) }
     {
-        self.held(d.part).dict_len(d.index)
-    }
-
-    /// The key and the value of a dictionary at a place, in the order in which keys were first put.
-    pub fn entry_at(&self, d: DictId, at: usize) -> Option<(Key, PsObj)>
-        ensures { result ≡ slice_get (entries_of self.now d) at }
-    {
-        self.held(d.part).pair(d.index, at)
-    }
-
-    /// Whether a dictionary is closed.
-    fn is_closed_dict(&self, d: DictId) -> bool
-        ensures { result ≡ is_closed d.part d.index self.now.closed.dicts }
-    {
-        match d.part {
-            Part::Table => d.index < self.closed.dicts,
-            Part::Command => false,
+        match self.entries(d) {
+            Some(entries) => entries.len(),
+            None => 0,
         }
     }
 
-    /// Puts a value at a place of a dictionary.
+    /// The pair of a dictionary at a place, in the order in which keys were first put. It takes no memory.
+    pub fn pair_at(&self, d: DictId, place: usize) -> Option<Pair>
+        ensures { result ≡ option_map (λ e. e.1) (slice_get (entries_of self.now d) place) }
+    {
+        self.entries(d)?.at(place)
+    }
+
+    /// Puts another value at a place of a dictionary.
     #[inline(always)]
-    fn replace_value(&mut self, d: DictId, at: usize, value: PsObj)
-        requires { at < length (entries_of self.old d) }
-        ensures { self.new ≡ with_entries self.old d (set_value_at (entries_of self.old d) at value) }
+    fn replace_value(&mut self, d: DictId, place: usize, value: PsObj)
+        requires { place < length (entries_of self.old d) }
+        ensures { self.new ≡ with_entries self.old d (with_value_in (entries_of self.old d) place value) }
     {
         match d.part {
-            Part::Table => self.table.replace_value(d.index, at, value),
-            Part::Command => self.command.replace_value(d.index, at, value),
+            Part::Table => self.table.replace_value(d.index, place, value),
+            Part::Command => self.command.replace_value(d.index, place, value),
         }
     }
 
-    /// Puts a value under a new key of a dictionary that is not closed.
-    fn add_value(&mut self, d: DictId, key: Key, value: PsObj) -> Result<(), StoreFault>
-        requires new { is_some (value_at (entries_of self.old d) key) ≡ false }
+    /// Adds a pair to a dictionary that is not closed, under a key that is not there.
+    fn add_pair(&mut self, d: DictId, key: Key, pair: Pair) -> Result<(), StoreFault>
+        requires absent { value_at (entries_of self.old d) key ≡ None }
         requires open { is_closed d.part d.index self.old.closed.dicts ≡ false }
-        ensures does { Does result self.old self.new (putting_value self.old d key value) }
+        ensures does { Does result self.old self.new (adding_pair self.old d key pair) }
         ensures closed { closed_part self.new ≡ closed_part self.old }
     {
         if self.dict_len(d) >= MOST_ELEMENTS || !self.has_room(1) {
             return Err(StoreFault::Limit);
         }
         match d.part {
-            Part::Table => self.table.put_value(d.index, key, value)?,
-            Part::Command => self.command.put_value(d.index, key, value)?,
+            Part::Table => self.table.add_pair(d.index, key, pair)?,
+            Part::Command => self.command.add_pair(d.index, key, pair)?,
         }
         Ok(())
     }
 
-    /// Puts a value under a key of a dictionary.
+    /// The object that a key is. For a name a literal one is made.
+    fn make_key(&mut self, key: &Key) -> Result<PsObj, StoreFault>
+        ensures does { Does result self.old self.new (key_object self.old key.now) }
+        ensures closed { closed_part self.new ≡ closed_part self.old }
+    {
+        match key {
+            Key::Name(text) => {
+                let name = self.make_name(text.query().text)?;
+                Ok(PsObj::Name(name, false))
+            }
+            Key::Int(n) => Ok(PsObj::Int(*n)),
+            Key::Bool(b) => Ok(PsObj::Bool(*b)),
+        }
+    }
+
+    /// Puts a value under a new key of a dictionary that is not closed. What was made for the key is dropped where the pair
+    /// is refused.
+    fn add_value(&mut self, d: DictId, key: Key, value: PsObj) -> Result<(), StoreFault>
+        requires absent { value_at (entries_of self.old d) key ≡ None }
+        requires open { is_closed d.part d.index self.old.closed.dicts ≡ false }
+        ensures does { Does result self.old self.new (adding d key value (key_object self.old key)) }
+        ensures closed { closed_part self.new ≡ closed_part self.old }
+    {
+        let mark = self.mark();
+        let object = self.make_key(&key)?;
+        match self.add_pair(d, key, Pair { key: object, value }) {
+            Ok(()) => Ok(()),
+            Err(fault) => {
+                self.cut_back(mark);
+                Err(fault)
+            }
+        }
+    }
+
+    /// Puts a value under a key of a dictionary. For a name that is new a name is made, which the pair keeps.
+    #[tactic(auto, using(crate::proofs::Putting::put_there, crate::proofs::Putting::put_new, crate::proofs::Pairs::value_nowhere, crate::proofs::Pairs::within_place))]
     pub fn dict_put(&mut self, d: DictId, key: Key, value: PsObj) -> Result<(), StoreFault>
         ensures does { Does result self.old self.new (putting_value self.old d key value) }
         ensures closed { closed_part self.new ≡ closed_part self.old }
     {
-        if self.is_closed_dict(d) {
+        if is_closed(d.part, d.index, self.closed.dicts) {
             return Err(StoreFault::ReadOnly);
         }
-        match self.held(d.part).place_of(d.index, &key) {
-            Some(at) => {
-                self.replace_value(d, at, value);
+        match self.place_of(d, &key) {
+            Some(place) => {
+                self.replace_value(d, place, value);
                 Ok(())
             }
             None => self.add_value(d, key, value),
         }
     }
 
-    /// Puts a value of a dictionary under the name that a text of the store is.
+    /// Puts a value of a dictionary under a name of the store, which a new pair keeps.
     #[inline(always)]
+    #[tactic(auto, using(crate::proofs::Putting::put_there, crate::proofs::Putting::put_new, crate::proofs::Pairs::value_nowhere, crate::proofs::Pairs::within_place))]
     pub fn name_put(&mut self, d: DictId, name: StringId, value: PsObj) -> Result<(), StoreFault>
-        ensures does { Does result self.old self.new (putting_under_text self.old d name value) }
+        ensures does { Does result self.old self.new (putting_under_name self.old d name value) }
         ensures closed { closed_part self.new ≡ closed_part self.old }
     {
         if self.string_get(name).len() > MOST_CHARACTERS {
             return Err(StoreFault::Limit);
         }
-        if self.is_closed_dict(d) {
+        if is_closed(d.part, d.index, self.closed.dicts) {
             return Err(StoreFault::ReadOnly);
         }
-        if let Some(at) = self.place_of_name(d, name) {
-            self.replace_value(d, at, value);
+        if let Some(place) = self.place_of_name(d, name) {
+            self.replace_value(d, place, value);
             return Ok(());
         }
         self.add_name(d, name, value)
     }
 
+    /// The place of a key in a dictionary.
+    fn place_of(&self, d: DictId, key: &Key) -> Option<usize>
+        ensures { result ≡ place_of (entries_of self.now d) key.now }
+    {
+        self.entries(d)?.place_of(key)
+    }
+
     /// The place in a dictionary of the name that a text of the store is.
     #[inline(never)]
     fn place_of_name(&self, d: DictId, name: StringId) -> Option<usize>
-        ensures found { is_some result ≡ is_some (value_at (entries_of self.now d) (NameKey (bytes_of self.now name))) }
-        ensures place { IfSome result (λ i. (value : PsObj) → with_value (entries_of self.now d) (NameKey (bytes_of self.now name)) value ≡ set_value_at (entries_of self.now d) i value) }
-        ensures within { IfSome result (λ i. i < length (entries_of self.now d)) }
+        ensures { result ≡ place_of (entries_of self.now d) (NameKey (bytes_of self.now name)) }
     {
-        self.held(d.part)
-            .place_of_name(d.index, self.query(name), self.bucket(name))
+        self.entries(d)?.place_of_name(self.text(name))
     }
 
     /// Puts a value under a new name of a dictionary that is not closed. Its key is made here, apart from where names are
     /// replaced.
     #[inline(never)]
     fn add_name(&mut self, d: DictId, name: StringId, value: PsObj) -> Result<(), StoreFault>
-        requires new { is_some (value_at (entries_of self.old d) (NameKey (bytes_of self.old name))) ≡ false }
+        requires short { length (bytes_of self.old name) ≤ 127 }
+        requires absent { value_at (entries_of self.old d) (NameKey (bytes_of self.old name)) ≡ None }
         requires open { is_closed d.part d.index self.old.closed.dicts ≡ false }
-        ensures does { Does result self.old self.new (putting_under_text self.old d name value) }
+        ensures does { Does result self.old self.new (adding_pair self.old d (NameKey (bytes_of self.old name)) (record { key = NameObject name false; value = value })) }
         ensures closed { closed_part self.new ≡ closed_part self.old }
     {
-        match Key::of_query(self.query(name)) {
-            Some(key) => self.add_value(d, key, value),
+        let pair = Pair {
+            key: PsObj::Name(name, false),
+            value,
+        };
+        match Key::of_query(self.text(name).query) {
+            Some(key) => self.add_pair(d, key, pair),
             None => Err(StoreFault::Limit),
         }
     }
 
     /// Puts a value in place of the executable string under a key, in a closed dictionary too.
+    #[tactic(auto, using(crate::proofs::Pairs::replaced_there, crate::proofs::Pairs::value_nowhere, crate::proofs::Pairs::within_place))]
     pub fn settle(&mut self, d: DictId, key: &Key, value: PsObj)
         requires { IsTrue (is_deferred (value_at (entries_of self.old d) key.now)) }
-        ensures entries { self.new ≡ with_entries self.old d (with_value (entries_of self.old d) key.now value) }
+        ensures entries { self.new ≡ with_entries self.old d (replaced (entries_of self.old d) key.now value) }
         ensures settled { Settled (closed_part self.old) (closed_part self.new) }
     {
-        if let Some(at) = self.held(d.part).place_of(d.index, key) {
-            self.replace_value(d, at, value);
+        if let Some(place) = self.place_of(d, key) {
+            self.replace_value(d, place, value);
         }
     }
 

@@ -7,11 +7,9 @@ ghost use Rattle.ps_store.specs.Operators.{operator_number};
 ghost use Rattle.ps_store.specs.Overwritten.{overwritten};
 ghost use Rattle.std.specs.Prelude.{◌≡◌, ◌<◌, ◌+◌, ◌≤◌, IfOk, List, ◌++◌, length, slice_set, take, drop, replicate, bytes_eq};
 
-use crate::bucket::bucket;
-use crate::hashed::text_hash;
+use crate::bucket::Text;
 use crate::key::NameQuery;
 use crate::object::PsObj;
-use crate::operators::operator_number;
 use std::alloc::{AllocError, Global};
 use std::marker::Model;
 
@@ -56,14 +54,6 @@ impl Elements {
         self.items.as_slice()
     }
 
-    /// Puts an element.
-    pub fn put(&mut self, at: usize, value: PsObj)
-        requires { at < length self.old }
-        ensures { self.new ≡ slice_set self.old at value }
-    {
-        self.items[at] = value;
-    }
-
     /// Puts elements from a place on.
     pub fn write(&mut self, at: usize, items: &[PsObj])
         requires { at + length items.now ≤ length self.old }
@@ -97,17 +87,18 @@ impl Model for Characters {
 
 impl Characters {
     /// These bytes.
-    #[tactic(auto, unfolding(crate::specs::Hints::bucket_of))]
     fn of(bytes: Vec<u8>) -> Characters
         ensures { result ≡ bytes.items }
     {
-        let hash = text_hash(bytes.as_slice());
-        let operator = operator_number(bytes.as_slice());
+        let text = Text::new(bytes.as_slice());
+        let hash = text.query.hash;
+        let operator = text.operator;
+        let bucket = text.bucket;
         Characters {
             bytes,
             hash,
             operator,
-            bucket: bucket(hash, operator),
+            bucket,
         }
     }
 
@@ -127,46 +118,32 @@ impl Characters {
         Ok(Characters::of(bytes))
     }
 
-    /// The bytes.
-    pub fn as_slice(&self) -> &[u8]
-        ensures { result.now ≡ self.now }
+    /// The bytes with what is known of the name that they are.
+    pub fn text(&self) -> Text<'_>
+        ensures { result.query.text.now ≡ self.now }
     {
-        self.bytes.as_slice()
-    }
-
-    /// The bytes with their hash.
-    pub fn query(&self) -> NameQuery<'_>
-        ensures { result.text.now ≡ self.now }
-    {
-        NameQuery {
-            text: self.bytes.as_slice(),
-            hash: self.hash,
+        Text {
+            query: NameQuery {
+                text: self.bytes.as_slice(),
+                hash: self.hash,
+            },
+            operator: self.operator,
+            bucket: self.bucket,
         }
     }
 
-    /// The number of the operator with this name.
-    pub fn operator(&self) -> Option<u16>
-        ensures { result ≡ operator_number self.now }
-    {
-        self.operator
-    }
-
-    /// The bucket of the name.
-    pub fn bucket(&self) -> u8
-        ensures { result ≡ bucket_of self.now }
-    {
-        self.bucket
-    }
-
     /// Puts bytes from a place on.
-    #[tactic(auto, unfolding(crate::specs::Hints::bucket_of))]
     pub fn write(&mut self, at: usize, bytes: &[u8])
         requires { at + length bytes.now ≤ length self.old }
         ensures { self.new ≡ overwritten self.old at bytes.now }
     {
         self.bytes[at..at + bytes.len()].copy_from_slice(bytes);
-        self.hash = text_hash(self.bytes.as_slice());
-        self.operator = operator_number(self.bytes.as_slice());
-        self.bucket = bucket(self.hash, self.operator);
+        let text = Text::new(self.bytes.as_slice());
+        let hash = text.query.hash;
+        let operator = text.operator;
+        let bucket = text.bucket;
+        self.hash = hash;
+        self.operator = operator;
+        self.bucket = bucket;
     }
 }
