@@ -34,7 +34,10 @@ fn continued(
     let mut stack = stack;
     match stack.push(OpenBraces { list }) {
         Ok(()) => goes(mode, stack),
-        Err(AllocError) => Err(SynFault::NoMemory),
+        Err(AllocError) => {
+            drop(mode);
+            Err(SynFault::NoMemory)
+        }
     }
 }
 
