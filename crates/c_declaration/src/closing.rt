@@ -55,8 +55,10 @@ pub fn called(
 ) -> Result<DeclaratorStep, SynFault>
     ensures { Answers result (called taking stack) }
 {
-    let d = whole_function(alloc, taking.function)?;
-    goes(Mode::Direct(taking.stars, d), stack)
+    match whole_function(alloc, taking.function) {
+        Ok(d) => goes(Mode::Direct(taking.stars, d), stack),
+        Err(AllocError) => Err(SynFault::NoMemory),
+    }
 }
 
 /// A `)` behind a declarator with a name.
@@ -69,15 +71,16 @@ fn named_closed(
     ensures { Answers result (named_closed frame d stack) }
 {
     match frame {
-        Frame::Nest(stars, place, _unnamed) => goes(
-            Mode::Direct(stars, parens_of(alloc, place, d)?),
-            stack,
-        ),
-        Frame::Parameter(taking, place, register, spec) => called(
-            alloc,
-            taken(taking, named_of(place, register, spec, d))?,
-            stack,
-        ),
+        Frame::Nest(stars, place, _unnamed) => match parens_of(alloc, place, d) {
+            Ok(d) => goes(Mode::Direct(stars, d), stack),
+            Err(AllocError) => Err(SynFault::NoMemory),
+        },
+        Frame::Parameter(taking, place, register, spec) => {
+            match taken(taking, named_of(place, register, spec, d)) {
+                Ok(taking) => called(alloc, taking, stack),
+                Err(AllocError) => Err(SynFault::NoMemory),
+            }
+        }
     }
 }
 
@@ -95,10 +98,12 @@ fn named_divided(
             drop(d);
             Err(SynFault::Syntax(place))
         }
-        Frame::Parameter(taking, begun, register, spec) => goes(
-            Mode::Parameters(taken(taking, named_of(begun, register, spec, d))?),
-            stack,
-        ),
+        Frame::Parameter(taking, begun, register, spec) => {
+            match taken(taking, named_of(begun, register, spec, d)) {
+                Ok(taking) => goes(Mode::Parameters(taking), stack),
+                Err(AllocError) => Err(SynFault::NoMemory),
+            }
+        }
     }
 }
 
@@ -172,7 +177,10 @@ fn unnamed_last(
         drop(parameter);
         return called(alloc, taking, stack);
     }
-    called(alloc, taken(taking, parameter)?, stack)
+    match taken(taking, parameter) {
+        Ok(taking) => called(alloc, taking, stack),
+        Err(AllocError) => Err(SynFault::NoMemory),
+    }
 }
 
 /// A `)` behind a declarator without a name, which may be without tokens.
@@ -189,8 +197,10 @@ fn unnamed_closed(
     match frame {
         Frame::Nest(stars, _place, unnamed) => {
             if unnamed && !none {
-                let a = around_of(alloc, count_of(stars), a)?;
-                return goes(Mode::Unnamed(a), stack);
+                return match around_of(alloc, count_of(stars), a) {
+                    Ok(a) => goes(Mode::Unnamed(a), stack),
+                    Err(AllocError) => Err(SynFault::NoMemory),
+                };
             }
             drop(a);
             Err(SynFault::Syntax(place))
@@ -229,8 +239,10 @@ fn unnamed_divided(
                 drop(a);
                 return Err(SynFault::Syntax(place));
             }
-            let taking = taken(taking, unnamed_of(begun, spec, a))?;
-            goes(Mode::Parameters(taking), stack)
+            match taken(taking, unnamed_of(begun, spec, a)) {
+                Ok(taking) => goes(Mode::Parameters(taking), stack),
+                Err(AllocError) => Err(SynFault::NoMemory),
+            }
         }
     }
 }

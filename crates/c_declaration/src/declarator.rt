@@ -94,6 +94,17 @@ fn may_be_unnamed(stack: &Stack<Frame>) -> bool
     }
 }
 
+/// Something begins inside which a declarator may stand.
+fn nested(stack: Stack<Frame>, frame: Frame) -> Result<DeclaratorStep, SynFault>
+    ensures { Answers result (goes (Front None) (frame ∷ stack)) }
+{
+    let mut stack = stack;
+    match stack.push(frame) {
+        Ok(()) => goes(Mode::Front(None), stack),
+        Err(AllocError) => Err(SynFault::NoMemory),
+    }
+}
+
 /// A parameter whose type has both words.
 fn spec_is(
     spec: Option<Spec>,
@@ -105,12 +116,8 @@ fn spec_is(
 ) -> Result<DeclaratorStep, SynFault>
     ensures { Answers result (spec_is spec taking begun register stack) }
 {
-    let mut stack = stack;
     match spec {
-        Some(spec) => {
-            stack.push(Frame::Parameter(taking, begun, register, spec))?;
-            goes(Mode::Front(None), stack)
-        }
+        Some(spec) => nested(stack, Frame::Parameter(taking, begun, register, spec)),
         None => {
             drop(taking);
             Err(SynFault::Syntax(place))
@@ -154,10 +161,8 @@ fn nesting(
 ) -> Result<DeclaratorStep, SynFault>
     ensures { Answers result (goes (Front None) (Nest stars place (may_be_unnamed (first stack)) ∷ stack)) }
 {
-    let mut stack = stack;
     let unnamed = may_be_unnamed(&stack);
-    stack.push(Frame::Nest(stars, place, unnamed))?;
-    goes(Mode::Front(None), stack)
+    nested(stack, Frame::Nest(stars, place, unnamed))
 }
 
 /// A `[` behind `*`.
@@ -202,11 +207,14 @@ fn fronting(
     ensures { Answers result (fronting stack stars symbol place text) }
 {
     match symbol {
-        Symbol::Binary(BinaryOp::Multiply) => goes(Mode::Front(starred(stars, place)?), stack),
-        Symbol::Leaf(LeafKind::Name) => goes(
-            Mode::Direct(stars, name_of(alloc, place, text)?),
-            stack,
-        ),
+        Symbol::Binary(BinaryOp::Multiply) => match starred(stars, place) {
+            Ok(stars) => goes(Mode::Front(stars), stack),
+            Err(AllocError) => Err(SynFault::NoMemory),
+        },
+        Symbol::Leaf(LeafKind::Name) => match name_of(alloc, place, text) {
+            Ok(d) => goes(Mode::Direct(stars, d), stack),
+            Err(AllocError) => Err(SynFault::NoMemory),
+        },
         Symbol::OpenParen => nesting(stack, stars, place),
         Symbol::OpenBracket => bounding_stars(alloc, stack, stars, place),
         Symbol::Word(TypeWord::Int) => wording(stack, stars, place),
@@ -230,21 +238,21 @@ fn directing(
 {
     match symbol {
         Symbol::OpenBracket => goes(Mode::Bounding(Bounded::Named(stars, d)), stack),
-        Symbol::OpenParen => {
-            let function = function_of(alloc, d)?;
-            goes(
+        Symbol::OpenParen => match function_of(alloc, d) {
+            Ok(function) => goes(
                 Mode::Parameters(Taking {
                     first: true,
                     stars,
                     function,
                 }),
                 stack,
-            )
-        }
-        _ => {
-            let d = pointed(alloc, stars, d)?;
-            behind_named(alloc, symbol, d, stack, place)
-        }
+            ),
+            Err(AllocError) => Err(SynFault::NoMemory),
+        },
+        _ => match pointed(alloc, stars, d) {
+            Ok(d) => behind_named(alloc, symbol, d, stack, place),
+            Err(AllocError) => Err(SynFault::NoMemory),
+        },
     }
 }
 
@@ -275,8 +283,14 @@ fn bounded(
 {
     let bound = expr_of(bound.tree);
     match before {
-        Bounded::Named(stars, d) => goes(Mode::Direct(stars, array_of(alloc, d, bound)?), stack),
-        Bounded::Unnamed(a) => goes(Mode::Unnamed(bounded_of(a, bound)?), stack),
+        Bounded::Named(stars, d) => match array_of(alloc, d, bound) {
+            Ok(d) => goes(Mode::Direct(stars, d), stack),
+            Err(AllocError) => Err(SynFault::NoMemory),
+        },
+        Bounded::Unnamed(a) => match bounded_of(a, bound) {
+            Ok(a) => goes(Mode::Unnamed(a), stack),
+            Err(AllocError) => Err(SynFault::NoMemory),
+        },
     }
 }
 
@@ -289,8 +303,14 @@ fn unbounded(
     ensures { Answers result (unbounded before stack) }
 {
     match before {
-        Bounded::Named(stars, d) => goes(Mode::Direct(stars, open_array_of(alloc, d)?), stack),
-        Bounded::Unnamed(a) => goes(Mode::Unnamed(unbounded_of(a)?), stack),
+        Bounded::Named(stars, d) => match open_array_of(alloc, d) {
+            Ok(d) => goes(Mode::Direct(stars, d), stack),
+            Err(AllocError) => Err(SynFault::NoMemory),
+        },
+        Bounded::Unnamed(a) => match unbounded_of(a) {
+            Ok(a) => goes(Mode::Unnamed(a), stack),
+            Err(AllocError) => Err(SynFault::NoMemory),
+        },
     }
 }
 
@@ -381,12 +401,11 @@ fn typed(
 ) -> Result<DeclaratorStep, SynFault>
     ensures { Answers result (typed stack taking begun register symbol) }
 {
-    let mut stack = stack;
     match symbol {
-        Symbol::Word(word) => {
-            stack.push(Frame::Parameter(taking, begun, register, spec_of(word)))?;
-            goes(Mode::Front(None), stack)
-        }
+        Symbol::Word(word) => nested(
+            stack,
+            Frame::Parameter(taking, begun, register, spec_of(word)),
+        ),
         Symbol::Struct => goes(Mode::Tagging(taking, begun, register), stack),
         _ => {
             drop(taking);
@@ -440,13 +459,11 @@ fn tagging(
 ) -> Result<DeclaratorStep, SynFault>
     ensures { Answers result (tagging stack taking begun register symbol text) }
 {
-    let mut stack = stack;
     match symbol {
-        Symbol::Leaf(LeafKind::Name) => {
-            let spec = Spec::Struct(text);
-            stack.push(Frame::Parameter(taking, begun, register, spec))?;
-            goes(Mode::Front(None), stack)
-        }
+        Symbol::Leaf(LeafKind::Name) => nested(
+            stack,
+            Frame::Parameter(taking, begun, register, Spec::Struct(text)),
+        ),
         _ => {
             drop(taking);
             drop(text);

@@ -131,9 +131,15 @@ fn head_with(
                 spec,
                 names,
             }),
-            None => None,
+            None => {
+                drop(spec);
+                None
+            }
         },
-        None => None,
+        None => {
+            drop(names);
+            None
+        }
     }
 }
 
@@ -316,9 +322,10 @@ fn inside(
 ) -> Result<FileStep, SynFault>
     ensures { Answers result (members_offered front (members_offer parser next)) }
 {
-    match members_offer(alloc, parser, next)? {
-        Step::Goes(parser) => Ok(Step::Goes(FileParser::Members(front, parser))),
-        Step::Ends(parts) => Ok(Step::Goes(FileParser::Whole(front, struct_of(parts)))),
+    match members_offer(alloc, parser, next) {
+        Ok(Step::Goes(parser)) => Ok(Step::Goes(FileParser::Members(front, parser))),
+        Ok(Step::Ends(parts)) => Ok(Step::Goes(FileParser::Whole(front, struct_of(parts)))),
+        Err(fault) => Err(fault),
     }
 }
 

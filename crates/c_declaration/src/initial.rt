@@ -1,11 +1,12 @@
 // Reading an initializer.
-ghost use Rattle.std.specs.Prelude.{◌≡◌, Some, drop};
+ghost use Rattle.std.specs.Prelude.{◌≡◌, ◌∷◌, Some, drop};
 ghost use Rattle.c_expr.specs.First.{first};
 ghost use Rattle.c_declaration.specs.Feeding.{Answers};
-ghost use Rattle.c_declaration.specs.Grown.{expr_of, value_of, item_of};
+ghost use Rattle.c_declaration.specs.Grown.{expr_of, value_of, item_of, closed_of};
+ghost use Rattle.c_declaration.specs.declared.state.InitialMode.TheVariants.{Done};
 ghost use Rattle.c_declaration.specs.InitialReading.{goes, braces_with, done, value_offered, valuing, is_open_brace, wanting, closed, is_close_brace, another, shift_mode, initial_offer, initial_start};
 
-use crate::braces::{braces_of, closed_of, item_of, value_of};
+use crate::braces::{BuiltBraces, braces_of, closed_of, item_of, value_of};
 use crate::built::{Built, expr_of};
 use crate::state::{InitialMode, InitialParser, InitialStep, OpenBraces};
 use crate::step::Step;
@@ -13,13 +14,45 @@ use crate::tree::Initial;
 use c_expr::{Boxed, Least, Offered, Parser, Stack, SynFault, offer};
 use c_lex::Place;
 use c_symbol::{BinaryOp, Symbol, Terminal};
-use std::alloc::Global;
+use std::alloc::{AllocError, Global};
 
 /// Reading goes on.
 fn goes(mode: InitialMode, stack: Stack<OpenBraces>) -> Result<InitialStep, SynFault>
     ensures { Answers result (goes mode stack) }
 {
     Ok(Step::Goes(InitialParser { stack, mode }))
+}
+
+/// A list to which an item is to come.
+fn continued(
+    stack: Stack<OpenBraces>,
+    list: Option<BuiltBraces>,
+    mode: InitialMode,
+) -> Result<InitialStep, SynFault>
+    ensures { Answers result (goes mode (braces_with list ∷ stack)) }
+{
+    let mut stack = stack;
+    match stack.push(OpenBraces { list }) {
+        Ok(()) => goes(mode, stack),
+        Err(AllocError) => {
+            drop(mode);
+            Err(SynFault::NoMemory)
+        }
+    }
+}
+
+/// A list that is whole.
+fn whole(
+    alloc: Global,
+    stack: Stack<OpenBraces>,
+    list: Option<BuiltBraces>,
+) -> Result<InitialStep, SynFault>
+    ensures { Answers result (goes (Done (closed_of list)) stack) }
+{
+    match closed_of(alloc, list) {
+        Ok(item) => goes(InitialMode::Done(item), stack),
+        Err(AllocError) => Err(SynFault::NoMemory),
+    }
 }
 
 /// The token behind an item of a list.
@@ -33,17 +66,15 @@ fn done_in(
 ) -> Result<InitialStep, SynFault>
     ensures { Answers result (done (Some waiting) symbol item stack) }
 {
-    let mut stack = stack;
     match symbol {
-        Symbol::Binary(BinaryOp::Comma) => {
-            let list = item_of(waiting.list, item)?;
-            stack.push(OpenBraces { list })?;
-            goes(InitialMode::Another, stack)
-        }
-        Symbol::CloseBrace => {
-            let list = item_of(waiting.list, item)?;
-            goes(InitialMode::Done(closed_of(alloc, list)?), stack)
-        }
+        Symbol::Binary(BinaryOp::Comma) => match item_of(waiting.list, item) {
+            Ok(list) => continued(stack, list, InitialMode::Another),
+            Err(AllocError) => Err(SynFault::NoMemory),
+        },
+        Symbol::CloseBrace => match item_of(waiting.list, item) {
+            Ok(list) => whole(alloc, stack, list),
+            Err(AllocError) => Err(SynFault::NoMemory),
+        },
         _ => {
             drop(waiting);
             drop(item);
@@ -80,12 +111,13 @@ fn valuing(
 {
     let symbol = next.symbol;
     let place = next.place;
-    match offer(alloc, parser, Least::Assignment, next)? {
-        Offered::Goes(parser) => goes(InitialMode::Value(parser), stack),
-        Offered::Ends(value) => {
-            let value = value_of(alloc, expr_of(value.tree))?;
-            done(alloc, symbol, value, stack, place)
-        }
+    match offer(alloc, parser, Least::Assignment, next) {
+        Ok(Offered::Goes(parser)) => goes(InitialMode::Value(parser), stack),
+        Ok(Offered::Ends(value)) => match value_of(alloc, expr_of(value.tree)) {
+            Ok(value) => done(alloc, symbol, value, stack, place),
+            Err(AllocError) => Err(SynFault::NoMemory),
+        },
+        Err(fault) => Err(fault),
     }
 }
 
@@ -113,15 +145,18 @@ fn is_close_brace(symbol: Symbol) -> bool
 fn wanting(alloc: Global, stack: Stack<OpenBraces>, next: Terminal) -> Result<InitialStep, SynFault>
     ensures { Answers result (wanting stack next) }
 {
-    let mut stack = stack;
     if is_open_brace(next.symbol) {
         let list = braces_of(alloc, next.place);
         drop(next);
-        stack.push(OpenBraces { list })?;
-        return goes(InitialMode::Want, stack);
+        return continued(stack, list, InitialMode::Want);
     }
-    let parser = Parser::new(alloc, Least::Assignment)?;
-    valuing(alloc, stack, parser, next)
+    match Parser::new(alloc, Least::Assignment) {
+        Ok(parser) => valuing(alloc, stack, parser, next),
+        Err(AllocError) => {
+            drop(next);
+            Err(SynFault::NoMemory)
+        }
+    }
 }
 
 /// The `}` behind a comma.
@@ -130,7 +165,7 @@ fn closed(alloc: Global, stack: Stack<OpenBraces>, place: Place) -> Result<Initi
 {
     let mut stack = stack;
     match stack.pop() {
-        Some(waiting) => goes(InitialMode::Done(closed_of(alloc, waiting.list)?), stack),
+        Some(waiting) => whole(alloc, stack, waiting.list),
         None => Err(SynFault::Syntax(place)),
     }
 }

@@ -55,9 +55,15 @@ fn with_of(
     match d {
         Some(d) => match initial {
             Some(initial) => with_both(d, initial),
-            None => None,
+            None => {
+                drop(d);
+                None
+            }
         },
-        None => None,
+        None => {
+            drop(initial);
+            None
+        }
     }
 }
 

@@ -95,10 +95,10 @@ fn behind_member(
             let parser = DeclaratorParser::new(alloc);
             goes(parts, inside, RowMode::Naming(row, declarators, parser))
         }
-        Symbol::Semicolon => {
-            let parts = last(parts, row_with(row, declarators))?;
-            goes(parts, inside, RowMode::Begin)
-        }
+        Symbol::Semicolon => match last(parts, row_with(row, declarators)) {
+            Ok(parts) => goes(parts, inside, RowMode::Begin),
+            Err(AllocError) => Err(SynFault::NoMemory),
+        },
         _ => {
             drop(parts);
             drop(row);
@@ -239,12 +239,19 @@ fn opened(
     match tag {
         Some(tag) => {
             if inside == u64::MAX {
+                drop(parts);
+                drop(tag);
                 return Err(SynFault::NoMemory);
             }
-            let parts = last(parts, Some(MemberPart::Opens(begun, tag)))?;
-            goes(parts, inside + 1, RowMode::Begin)
+            match last(parts, Some(MemberPart::Opens(begun, tag))) {
+                Ok(parts) => goes(parts, inside + 1, RowMode::Begin),
+                Err(AllocError) => Err(SynFault::NoMemory),
+            }
         }
-        None => Err(SynFault::Syntax(place)),
+        None => {
+            drop(parts);
+            Err(SynFault::Syntax(place))
+        }
     }
 }
 

@@ -43,9 +43,10 @@ pub fn name_offer(alloc: Global, parser: NameParser, next: Terminal) -> Result<N
 {
     let symbol = next.symbol;
     match parser {
-        NameParser::Declarator(parser) => match declarator_offer(alloc, parser, next)? {
-            Step::Goes(parser) => Ok(Step::Goes(NameParser::Declarator(parser))),
-            Step::Ends(d) => behind_declarator(alloc, symbol, d),
+        NameParser::Declarator(parser) => match declarator_offer(alloc, parser, next) {
+            Ok(Step::Goes(parser)) => Ok(Step::Goes(NameParser::Declarator(parser))),
+            Ok(Step::Ends(d)) => behind_declarator(alloc, symbol, d),
+            Err(fault) => Err(fault),
         },
         NameParser::Initial(d, parser) => match initial_offer(alloc, parser, next) {
             Ok(Step::Goes(parser)) => Ok(Step::Goes(NameParser::Initial(d, parser))),

@@ -50,6 +50,7 @@ pub fn around_of(
                     },
                 }));
             }
+            drop(inner);
             Ok(None)
         }
         None => Ok(None),
