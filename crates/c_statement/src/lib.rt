@@ -1,4 +1,4 @@
-//! Statements of C (C90 6.6): their trees, which tokens are one, and reading a block.
+//! Statements of C (C90 6.6): their trees, which tokens are one, and reading a block. Here too are the trees of units, which need no reader.
 #![tactic(auto)]
 
 mod block;
@@ -9,6 +9,7 @@ mod machine;
 mod parts;
 mod state;
 mod tree;
+mod unit;
 mod value;
 
 pub use block::{Block, Opened};
@@ -18,3 +19,4 @@ pub use state::{
     At, Closer, Control, Frame, Mode, Opener, Optional, Outer, Purpose, Reader, Required,
 };
 pub use tree::{Head, Statement, StatementNode};
+pub use unit::{External, Unit};
