@@ -12,8 +12,8 @@ use Rattle.c_declaration.specs.declared.tree.Storage.TheVariants as storage
 use Rattle.c_declaration.specs.InitialTree.{InitialTree, Value, Braces, Item}
 use Rattle.c_statement.specs.Tree.{Empty, Begun, Declares, Also, Closed, Headed, Return}
 use Rattle.c_statement.specs.declared.tree.Head.TheVariants as head
-use Rattle.c_syntax.specs.declared.tree.External.{External}
-use Rattle.c_syntax.specs.declared.tree.External.TheVariants.{Declaration, Definition}
+use Rattle.c_statement.specs.declared.unit.External.{External}
+use Rattle.c_statement.specs.declared.unit.External.TheVariants.{Declaration, Definition}
 use Rattle.c_defs.specs.Depths.{deepest}
 use Rattle.c_file.specs.Programs.{Rule, Faults, AllFiles, Well, at_first, tags_of}
 use Rattle.c_file.specs.Files.{State}

@@ -12,8 +12,8 @@ use Rattle.c_declaration.specs.Tree.{Name, Function}
 use Rattle.c_declaration.specs.declared.tree.FileSpec.TheVariants.{Named}
 use Rattle.c_declaration.specs.declared.tree.Storage.TheVariants as storage
 use Rattle.c_statement.specs.Tree.{StatementTree, Evaluate, Begun, Also, Closed, Return}
-use Rattle.c_syntax.specs.declared.tree.External.{External}
-use Rattle.c_syntax.specs.declared.tree.External.TheVariants.{Declaration, Definition}
+use Rattle.c_statement.specs.declared.unit.External.{External}
+use Rattle.c_statement.specs.declared.unit.External.TheVariants.{Declaration, Definition}
 use Rattle.c_defs.specs.Depths.{deepest}
 use Rattle.c_file.specs.Programs.{Rule, Twice, Undefined, NoMain, Faults}
 

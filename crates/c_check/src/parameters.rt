@@ -5,8 +5,7 @@ ghost use Rattle.c_file.specs.Programs.{any, takes_many, many_in, many_in_local,
 use c_declaration::{
     Declarator, DeclaratorNode, Declared, FileSpec, Local, MemberPart, Parameter, ParameterNode,
 };
-use c_statement::{Statement, StatementNode};
-use c_syntax::External;
+use c_statement::{External, Statement, StatementNode};
 
 /// The greatest number of parameters of a function.
 const MOST: usize = 16;

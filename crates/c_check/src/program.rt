@@ -8,7 +8,7 @@ use crate::faults::{CheckFault, fault_behind};
 use crate::parameters::any_many;
 use crate::tables::{Tables, rows_of};
 use c_file::{FileFault, State, all_files};
-use c_syntax::Unit;
+use c_statement::Unit;
 use c_tree::Program;
 use ldb_words::{Many, Text};
 use std::alloc::Global;

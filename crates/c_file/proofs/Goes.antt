@@ -6,7 +6,7 @@ use Rattle.c_declaration.specs.declared.tree.FunctionHead.{FunctionHead}
 use Rattle.c_declaration.specs.declared.tree.Head.{Head}
 use Rattle.c_declaration.specs.declared.tree.Storage.{Storage}
 use Rattle.c_statement.specs.Tree.{StatementTree}
-use Rattle.c_syntax.specs.declared.tree.External.TheVariants.{Declaration, Definition}
+use Rattle.c_statement.specs.declared.unit.External.TheVariants.{Declaration, Definition}
 use Rattle.c_tree.specs.declared.rows.Function.{Function as Row}
 use Rattle.c_tree.specs.declared.types.CType.{CType}
 use Rattle.c_typing.specs.Plain.{Plain, plain}

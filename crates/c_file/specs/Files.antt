@@ -13,8 +13,8 @@ use Rattle.c_declaration.specs.declared.tree.Storage.TheVariants as storage
 use Rattle.c_declaration.specs.declared.tree.Head.{Head}
 use Rattle.c_declaration.specs.declared.tree.FunctionHead.{FunctionHead}
 use Rattle.c_statement.specs.Tree.{StatementTree, Closed}
-use Rattle.c_syntax.specs.declared.tree.External.{External}
-use Rattle.c_syntax.specs.declared.tree.External.TheVariants.{Declaration, Definition}
+use Rattle.c_statement.specs.declared.unit.External.{External}
+use Rattle.c_statement.specs.declared.unit.External.TheVariants.{Declaration, Definition}
 use Rattle.c_tree.specs.declared.types.StructDef.{StructDef}
 use Rattle.c_typing.specs.Plain.{Plain, Array, Struct, is_complete}
 use Rattle.c_typing.specs.Expressions as typing

@@ -1,7 +1,7 @@
 // External declarations (C90 6.7).
 ghost use Rattle.c_file.specs.Files.{Externals, AllExternals};
 ghost use Rattle.c_file.specs.Progress.{Begins, GoesOn};
-ghost use Rattle.c_syntax.specs.declared.tree.External.TheVariants as external;
+ghost use Rattle.c_statement.specs.declared.unit.External.TheVariants as external;
 
 use crate::declarations::all_declared;
 use crate::functions::function;
@@ -10,9 +10,8 @@ use c_declaration::{FileSpec, FunctionHead, Head};
 use c_judge::Fault;
 use c_mentions::strings_in_spec;
 use c_scope::{Shape, shape};
-use c_statement::Statement;
+use c_statement::{External, Statement};
 use c_struct::specified;
-use c_syntax::External;
 use c_tree::CType;
 use std::alloc::Global;
 

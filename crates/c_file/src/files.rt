@@ -14,7 +14,7 @@ use crate::tag_numbers::tags_of;
 use c_defs::Structs;
 use c_judge::{Fault, Symbol};
 use c_scope::{Environment, Link, Mark, StructTags, Table};
-use c_syntax::Unit;
+use c_statement::Unit;
 use c_tree::{CType, StructDef};
 use ldb_words::{Many, Text};
 use std::alloc::{AllocError, Global};

@@ -16,8 +16,8 @@ use Rattle.c_declaration.specs.declared.tree.MemberPart.TheVariants.{Opens, Row,
 use Rattle.c_statement.specs.Tree.{StatementTree, Empty, Evaluate, Begun, Declares, Also, Closed, If, IfElse, Headed, Do, Break, Continue, Return}
 use Rattle.c_statement.specs.declared.tree.Head.{Head}
 use Rattle.c_statement.specs.declared.tree.Head.TheVariants as head
-use Rattle.c_syntax.specs.declared.tree.External.{External}
-use Rattle.c_syntax.specs.declared.tree.External.TheVariants.{Declaration, Definition}
+use Rattle.c_statement.specs.declared.unit.External.{External}
+use Rattle.c_statement.specs.declared.unit.External.TheVariants.{Declaration, Definition}
 use Rattle.c_typing.specs.Declared.{is_named}
 
 abbrev pub now : Bor (List ℕ) → List ℕ

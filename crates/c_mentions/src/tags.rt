@@ -9,8 +9,7 @@ use c_declaration::{
 };
 use c_defs::Numbers;
 use c_expr::{Abstract, Expr, Node, Spec, TypeName};
-use c_statement::{Statement, StatementNode};
-use c_syntax::External;
+use c_statement::{External, Statement, StatementNode};
 use ldb_words::Text;
 use std::alloc::{AllocError, Global};
 

@@ -25,7 +25,7 @@ use Rattle.c_statement.specs.Machine as block
 use Rattle.c_statement.specs.declared.state.Mode.{Mode as BlockMode}
 use Rattle.c_statement.specs.declared.state.Mode.TheVariants.{Done}
 use Rattle.c_statement.specs.declared.state.Reader.{Reader}
-use Rattle.c_syntax.specs.declared.tree.External.{External}
+use Rattle.c_statement.specs.declared.unit.External.{External}
 use Rattle.c_syntax.specs.declared.state.Kept.{Kept}
 use Rattle.c_syntax.specs.declared.state.Kept.TheVariants.{All}
 use Rattle.c_syntax.specs.declared.state.Mode.{Mode}

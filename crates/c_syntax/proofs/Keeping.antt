@@ -10,8 +10,8 @@ use Rattle.c_declaration.specs.declared.tree.FunctionHead.{FunctionHead}
 use Rattle.c_declaration.specs.Grown.{cut}
 use Rattle.c_declaration.specs.Laws.{kept}
 use Rattle.c_statement.specs.Tree.{StatementTree}
-use Rattle.c_syntax.specs.declared.tree.External.{External}
-use Rattle.c_syntax.specs.declared.tree.External.TheVariants.{Declaration, Definition}
+use Rattle.c_statement.specs.declared.unit.External.{External}
+use Rattle.c_statement.specs.declared.unit.External.TheVariants.{Declaration, Definition}
 use Rattle.c_syntax.specs.declared.state.Kept.{Kept}
 use Rattle.c_syntax.specs.declared.state.Kept.TheVariants.{All, TooDeep}
 use Rattle.c_syntax.specs.Machine.{more, declared_of, defined_of}

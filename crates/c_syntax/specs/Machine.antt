@@ -21,8 +21,8 @@ use Rattle.c_statement.specs.declared.state.Mode.TheVariants.{Done}
 use Rattle.c_statement.specs.declared.state.Reader.{Reader}
 use Rattle.c_statement.specs.Machine.{begun_block}
 use Rattle.c_statement.specs.Machine as block
-use Rattle.c_syntax.specs.declared.tree.External.{External}
-use Rattle.c_syntax.specs.declared.tree.External.TheVariants.{Declaration, Definition}
+use Rattle.c_statement.specs.declared.unit.External.{External}
+use Rattle.c_statement.specs.declared.unit.External.TheVariants.{Declaration, Definition}
 use Rattle.c_syntax.specs.declared.state.Kept.{Kept}
 use Rattle.c_syntax.specs.declared.state.Kept.TheVariants.{All, TooDeep}
 use Rattle.c_syntax.specs.declared.state.Mode.{Mode}

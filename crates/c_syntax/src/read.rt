@@ -6,9 +6,9 @@ ghost use Rattle.c_syntax.specs.Parses.{Parses, OneUnit};
 
 use crate::machine::shift;
 use crate::state::{Kept, Mode, UnitParser};
-use crate::tree::Unit;
 use c_expr::SynFault;
 use c_lex::{Place, Token};
+use c_statement::Unit;
 use c_symbol::{Joiner, Terminal, terminal_of};
 use std::alloc::Global;
 

@@ -1,10 +1,9 @@
 // What was read so far of a unit.
 
-use crate::tree::External;
 use c_declaration::{FileParser, FunctionHead};
 use c_expr::Boxed;
 use c_lex::Place;
-use c_statement::Reader;
+use c_statement::{External, Reader};
 use ldb_words::Many;
 
 /// The external declarations that were read, or where the first one begins that is nested too deeply.
