@@ -3,7 +3,7 @@ ghost use Rattle.std.specs.Prelude.{◌≡◌, ◌∷◌, Some, drop};
 ghost use Rattle.c_expr.specs.First.{first};
 ghost use Rattle.c_declaration.specs.Feeding.{Answers};
 ghost use Rattle.c_declaration.specs.Grown.{expr_of, value_of, item_of, closed_of};
-ghost use Rattle.c_declaration.specs.declared.state.InitialMode.TheVariants.{Done};
+ghost use Rattle.c_declaration.specs.declared.state.InitialMode.TheVariants.{Want, Another, Done};
 ghost use Rattle.c_declaration.specs.InitialReading.{goes, braces_with, done, value_offered, valuing, is_open_brace, wanting, closed, is_close_brace, another, shift_mode, initial_offer, initial_start};
 
 use crate::braces::{BuiltBraces, braces_of, closed_of, item_of, value_of};
@@ -23,21 +23,25 @@ fn goes(mode: InitialMode, stack: Stack<OpenBraces>) -> Result<InitialStep, SynF
     Ok(Step::Goes(InitialParser { stack, mode }))
 }
 
-/// A list to which an item is to come.
-fn continued(
-    stack: Stack<OpenBraces>,
-    list: Option<BuiltBraces>,
-    mode: InitialMode,
-) -> Result<InitialStep, SynFault>
-    ensures { Answers result (goes mode (braces_with list ∷ stack)) }
+/// A list behind a comma.
+fn continued(stack: Stack<OpenBraces>, list: Option<BuiltBraces>) -> Result<InitialStep, SynFault>
+    ensures { Answers result (goes Another (braces_with list ∷ stack)) }
 {
     let mut stack = stack;
     match stack.push(OpenBraces { list }) {
-        Ok(()) => goes(mode, stack),
-        Err(AllocError) => {
-            drop(mode);
-            Err(SynFault::NoMemory)
-        }
+        Ok(()) => goes(InitialMode::Another, stack),
+        Err(AllocError) => Err(SynFault::NoMemory),
+    }
+}
+
+/// A list behind its `{`.
+fn opened(stack: Stack<OpenBraces>, list: Option<BuiltBraces>) -> Result<InitialStep, SynFault>
+    ensures { Answers result (goes Want (braces_with list ∷ stack)) }
+{
+    let mut stack = stack;
+    match stack.push(OpenBraces { list }) {
+        Ok(()) => goes(InitialMode::Want, stack),
+        Err(AllocError) => Err(SynFault::NoMemory),
     }
 }
 
@@ -68,7 +72,7 @@ fn done_in(
 {
     match symbol {
         Symbol::Binary(BinaryOp::Comma) => match item_of(waiting.list, item) {
-            Ok(list) => continued(stack, list, InitialMode::Another),
+            Ok(list) => continued(stack, list),
             Err(AllocError) => Err(SynFault::NoMemory),
         },
         Symbol::CloseBrace => match item_of(waiting.list, item) {
@@ -148,7 +152,7 @@ fn wanting(alloc: Global, stack: Stack<OpenBraces>, next: Terminal) -> Result<In
     if is_open_brace(next.symbol) {
         let list = braces_of(alloc, next.place);
         drop(next);
-        return continued(stack, list, InitialMode::Want);
+        return opened(stack, list);
     }
     match Parser::new(alloc, Least::Assignment) {
         Ok(parser) => valuing(alloc, stack, parser, next),

@@ -1,0 +1,18 @@
+// Trees of units.
+
+use crate::tree::Statement;
+use c_declaration::{FunctionHead, Head};
+use ldb_words::Many;
+
+/// An external declaration (C90 6.7): a declaration, or the definition of a function, whose body is a block.
+#[derive(Drop)]
+pub enum External {
+    Declaration(Head),
+    Definition(FunctionHead, Statement),
+}
+
+/// A translation unit (C90 6.7), which has at least one external declaration.
+#[derive(Drop)]
+pub struct Unit {
+    pub externals: Many<External>,
+}
