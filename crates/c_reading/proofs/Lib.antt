@@ -1,2 +1,5 @@
 pub mod Readings
 pub mod Meanings
+pub mod Constants
+pub mod Keeping
+pub mod Sessions

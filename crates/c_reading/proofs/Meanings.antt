@@ -147,13 +147,13 @@ same_bind m n f g e k = ap (λ r. r >>= f) e ∙ by n
     by (Ok x) = k x
     by (Err w) = refl
 
-no_some : {A B : Type 0} (x : A) → ◌≡◌ {A = Option A} None (Some x) → B
+pub no_some : {A B : Type 0} (x : A) → ◌≡◌ {A = Option A} None (Some x) → B
 no_some {A} {B} x e = absurd (subst (λ (q : Option A). elim q as (λ _. Type 0) [ None ↦ Unit {0} | Some y ↦ ⊥ ]) e tt)
 
-one_some : {A : Type 0} (x y : A) → ◌≡◌ {A = Option A} (Some x) (Some y) → x ≡ y
+pub one_some : {A : Type 0} (x y : A) → ◌≡◌ {A = Option A} (Some x) (Some y) → x ≡ y
 one_some {A} x y e = ap (λ (q : Option A). elim q as (λ _. A) [ None ↦ x | Some z ↦ z ]) e
 
-one_known : {A : Type 0} (x y : A) → ◌≡◌ {A = Answer A} (Known x) (Known y) → x ≡ y
+pub one_known : {A : Type 0} (x y : A) → ◌≡◌ {A = Answer A} (Known x) (Known y) → x ≡ y
 one_known {A} x y e = ap (λ (q : Answer A). elim q as (λ _. A) [ Known z ↦ z | Unknown name ↦ x | Broken r at ↦ x ]) e
 
 abbrev because : Result ℕ Undef → Result Value Why

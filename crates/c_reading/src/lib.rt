@@ -3,4 +3,6 @@
 
 mod laws;
 
-pub use laws::{readings_agree, readings_mean_the_same};
+pub use laws::{
+    readings_agree, readings_keep_rules, readings_mean_the_same, sessions_are_answered,
+};

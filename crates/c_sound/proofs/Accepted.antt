@@ -15,7 +15,7 @@ use Rattle.c_source.specs.Source.{step}
 use Rattle.c_source.specs.Begin.{begin, acted}
 use Rattle.c_source.specs.Meaning.{Given, values_meant, assigned, IsPlain, IsAssignment}
 use Rattle.c_typing.specs.Plain.{plain}
-use Rattle.c_typing.specs.Expressions.{IsTyped}
+use Rattle.c_sound.specs.Kept.{KeepsRules}
 use Rattle.c_typing.specs.Declared.{has}
 use Rattle.c_typing.specs.Plain.{Plain}
 use Rattle.c_tree.specs.declared.rows.SymbolRow.{SymbolRow}
@@ -109,7 +109,7 @@ module _ (p : Program) (accepted : IsAccepted p) where
     pub course_keeps : (stops : ℕ → Bool) (k : ℕ) → CourseKeepsShapes (until State (step p) stops k m.state)
     course_keeps stops k = courses_keep p bodies_ready stops k m.state good_there
 
-    module _ (a : ActivationRecord) (v : List ℕ) (types : SymbolRow → Plain) (live : AreLive v a) (e : Typed) (typed : IsTyped (scope_with p a.function v types) e) where
+    module _ (a : ActivationRecord) (v : List ℕ) (types : SymbolRow → Plain) (live : AreLive v a) (e : Typed) (typed : KeepsRules (scope_with p a.function v types) e) where
       abbrev pub at : Here
       at = record { world = m.state.here.world; activation = a }
 

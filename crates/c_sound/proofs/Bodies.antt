@@ -28,7 +28,7 @@ use Rattle.c_sound.proofs.Lists.{has_more}
 use Rattle.c_sound.proofs.Continues.{inits_ready, runs_ready, rows_shaped}
 use Rattle.c_sound.proofs.Rules.{ashape, addr_plain, integer_shape, pconv, converts_shape}
 use Rattle.c_sound.specs.Scopes.{as_declared}
-use Rattle.c_sound.proofs.Typed.{HasParameters, conv_there, sh, evaluated}
+use Rattle.c_sound.proofs.Typed.{HasParameters, conv_there, sh, typed_keeps, evaluated}
 
 -- ---- lists of locals
 
@@ -131,7 +131,7 @@ given_back (ctype.Struct s) h = refl
 
 module _ (p : Program) (functions : (g : ℕ) (fn : Function) → slice_get p.functions g ≡ Some fn → HasParameters fn) (f : ℕ) (r : Plain) (is_its : r ≡ plain (result_type p f)) where
   expression : (v : List ℕ) (e : Typed) → IsTyped (scope_at p f v) e → ShapedE p v e
-  expression v e q = evaluated as_declared p f v v (λ x h. h) functions e q
+  expression v e q = evaluated as_declared p f v v (λ x h. h) functions e (typed_keeps (scope_at p f v) e q)
 
   shape_there : (v : List ℕ) (e : Typed) → shape e ≡ ashape (value (scope_at p f v) e)
   shape_there v e = sh as_declared p f v v (λ x h. h) functions e
@@ -156,7 +156,7 @@ module _ (p : Program) (functions : (g : ℕ) (fn : Function) → slice_get p.fu
       let t = local_type p f x in
       let e : plain t ≡ type_of_local p f r x = local_there (slice_get (locals_in (slice_get p.functions f)) x) in
       let k : converts (plain t) (operand (scope_at p f v) c.e) ≡ true = ap (λ u. converts u (operand (scope_at p f v) c.e)) e ∙ q.1 in
-      (there, evaluated as_declared p f v ls within functions c.e q.0, ap (conv t) (shape_there v c.e) ∙ conv_there t (ashape (value (scope_at p f v) c.e)) (converts_shape (plain t) (operand (scope_at p f v) c.e) k))
+      (there, evaluated as_declared p f v ls within functions c.e (typed_keeps (scope_at p f v) c.e q.0), ap (conv t) (shape_there v c.e) ∙ conv_there t (ashape (value (scope_at p f v) c.e)) (converts_shape (plain t) (operand (scope_at p f v) c.e) k))
 
   all_initialized : (ds : List DeclaredLocal) (v ls : List ℕ) → ((y : ℕ) → has (v ++ local_numbers ds) y ≡ true → has ls y ≡ true) → AreInitialized p f r v ds → ShapedInits p f ls ds
   all_initialized [] v ls within q = tt

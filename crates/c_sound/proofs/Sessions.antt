@@ -404,11 +404,11 @@ module _ (p : Program) (accepted : IsAccepted p) where
     next_sound st next reply c g (inl m) = subst (λ x. SoundMode x.session.mode) (sym m.2) g
     next_sound st next reply c g (inr (x, k, a)) = reply_sound st (answer p names sides st.session x c) reply next g (answer_sound names sides st.session g x c k) a
 
-    answered_sound : (st last : Standing) (cs : List (Option Command)) → SoundMode st.session.mode → AreAnswered p names sides st cs last → SoundMode last.session.mode
+    answered_sound : (st last : Standing) (cs : List (Option Command)) → SoundMode st.session.mode → AreAnswered p names sides (ReadsTyped p) st cs last → SoundMode last.session.mode
     answered_sound st last [] g a = subst (λ x. SoundMode x.session.mode) (sym a) g
     answered_sound st last (c ∷ cs) g (reply, next, a, rest) = answered_sound next last cs (next_sound st next reply c g a) rest
 
-    pub sessions_answer : (input : List ℕ) (cs : List (Option Command)) (st : Standing) (x : Reading) (c : Option Command) → AreAnswered p names sides (at_first p input) cs st → ReadsLine p names sides st.session (ReadsTyped p) c x
+    pub sessions_answer : (input : List ℕ) (cs : List (Option Command)) (st : Standing) (x : Reading) (c : Option Command) → AreAnswered p names sides (ReadsTyped p) (at_first p input) cs st → ReadsLine p names sides st.session (ReadsTyped p) c x
         → HasAnswer (answer p names sides st.session x c)
     sessions_answer input cs st x c a k =
         let begun : Stands (begin p input) = (begins_good p input (bodies_ready p accepted) accepted.objects accepted.main (λ g fn e. (function_there p accepted g fn e).main), begins_in_scope p accepted input) in
@@ -444,11 +444,11 @@ module _ (p : Program) (accepted : IsAccepted p) where
           replied p input AreFitting tt fitting_join st (answer p names sides st.session x c) reply next f (leaves p input AreFitting tt fitting_join names sides st.session x c)
           (fits_of st.session.mode (answer p names sides st.session x c) (answer_sound names sides st.session g x c k)) a
 
-      answered_fits : (st last : Standing) (cs : List (Option Command)) → SoundMode st.session.mode → Fits st.session.mode → AreAnswered p names sides st cs last → Fits last.session.mode
+      answered_fits : (st last : Standing) (cs : List (Option Command)) → SoundMode st.session.mode → Fits st.session.mode → AreAnswered p names sides (ReadsTyped p) st cs last → Fits last.session.mode
       answered_fits st last [] g f a = subst (λ x. Fits x.session.mode) (sym a) f
       answered_fits st last (c ∷ cs) g f (reply, next, a, rest) = answered_fits next last cs (next_sound st next reply c g a) (next_fits st next reply c g f a) rest
 
-      pub sessions_fit : (cs : List (Option Command)) (st : Standing) → AreAnswered p names sides (at_first p input) cs st → (h : History) × IsModeReached p input h st.session.mode × IsFitting h
+      pub sessions_fit : (cs : List (Option Command)) (st : Standing) → AreAnswered p names sides (ReadsTyped p) (at_first p input) cs st → (h : History) × IsModeReached p input h st.session.mode × IsFitting h
       sessions_fit cs st a =
           let begun : Stands (begin p input) = (begins_good p input (bodies_ready p accepted) accepted.objects accepted.main (λ g fn e. (function_there p accepted g fn e).main), begins_in_scope p accepted input) in
           mode_reached p input AreFitting tt fitting_join st.session.mode (answered_fits (at_first p input) st cs begun (begins_followed p input AreFitting tt fitting_join) a)

@@ -14,7 +14,8 @@ use Rattle.c_tree.specs.Types.{type_of, is_struct}
 use Rattle.c_source.specs.Meaning.{IsPlain}
 use Rattle.c_typing.specs.Plain.{Plain, Char, Int, Unsigned, Void, Pointer, Array, Struct, plain, same, is_integer, is_pointer, is_scalar, is_struct as is_a_struct, is_complete, promoted, common}
 use Rattle.c_typing.specs.Rules.{Operand, value_of, only, may_drop, unary_type, is_movable, is_nulled, arithmetic_type, sum_type, difference_type, binary_type, branches_type, choice_type}
-use Rattle.c_typing.specs.Expressions.{Scope, is_lvalue, is_string, is_register, is_constant_type, operand, value, IsTyped}
+use Rattle.c_typing.specs.Expressions.{Scope, is_lvalue, is_string, is_register, is_constant_type, operand, value}
+use Rattle.c_sound.specs.Kept.{KeepsRules}
 use Rattle.c_sound.proofs.Begins.{and_parts}
 use Rattle.c_sound.proofs.Rules.{or_parts, no_none, only_some, if_some}
 
@@ -165,7 +166,7 @@ module _ (s : Scope) where
   never : (t : CType) (e : Typed) → IsNone (plain t) → is_struct t ≡ true → IsLvalue e
   never t e n h = absurd (true≢false (sym h ∙ struct_plain t ∙ n))
 
-  pub struct_lvalue : (e : Typed) → IsPlain e → IsTyped s e → is_struct (type_of e) ≡ true → IsLvalue e
+  pub struct_lvalue : (e : Typed) → IsPlain e → KeepsRules s e → is_struct (type_of e) ≡ true → IsLvalue e
   struct_lvalue (Comma' h x a y b) i q k =
       let c = only_some (may_drop (operand s a) && is_scalar (value s b)) (value s b) (plain h.ctype) q.2 in
       never h.ctype (Comma' h x a y b) (from (value s b) (plain h.ctype) c.1 (scalar_none (value s b) (and_parts (may_drop (operand s a)) (is_scalar (value s b)) c.0).1)) k
@@ -179,8 +180,8 @@ module _ (s : Scope) where
   struct_lvalue (Address' h x a) i q k = never h.ctype (Address' h x a) (from (Pointer (plain (type_of a))) (plain h.ctype) (only_some (is_lvalue a && not (is_register s a) && not (is_string a)) (Pointer (plain (type_of a))) (plain h.ctype) q.1).1 refl) k
   struct_lvalue (Unary' h op x a) i q k = never h.ctype (Unary' h op x a) (unary_none op (value s a) (plain h.ctype) q.1) k
   struct_lvalue (SizeOf' h x a) i q k = never h.ctype (SizeOf' h x a) (from Unsigned (plain h.ctype) (only_some (is_complete s.defs (plain (type_of a))) Unsigned (plain h.ctype) q.1).1 refl) k
-  struct_lvalue (SizeOfType h t) i q k = never h.ctype (SizeOfType h t) (from Unsigned (plain h.ctype) (only_some (is_complete s.defs (plain t)) Unsigned (plain h.ctype) q.1).1 refl) k
-  struct_lvalue (Constant h n) i q k = never h.ctype (Constant h n) (constant_none (plain h.ctype) q.0) k
+  struct_lvalue (SizeOfType h t) i q k = never h.ctype (SizeOfType h t) (from Unsigned (plain h.ctype) (only_some (is_complete s.defs (plain t)) Unsigned (plain h.ctype) q).1 refl) k
+  struct_lvalue (Constant h n) i q k = never h.ctype (Constant h n) (constant_none (plain h.ctype) q) k
   struct_lvalue (Parens' h x a) i q k = struct_lvalue a i q.0 (struct_plain (type_of a) ∙ ap is_a_struct q.1 ∙ sym (struct_plain h.ctype) ∙ k)
   struct_lvalue (Name h n) i q k = refl
   struct_lvalue (Literal h n) i q k = refl

@@ -1,4 +1,4 @@
--- Well-typed expressions have the shapes that the steps need.
+-- Expressions that keep to the typing rules have the shapes that the steps need.
 use Rattle.std.proofs.Common.{◌≡◌, refl, sym, ◌∙◌, subst, ap, arith, ℕ, suc, zero, ◌≤◌, List, [], ◌∷◌, Bool, true, false, not, ◌&&◌, ◌||◌, Option, Some, None, ◌+◌, length-take-le, true≢false, length, map, take}
 use Rattle.std.specs.Prelude.{slice_get, if◌then◌else◌, option_and_then, option_map, bytes_eq, codes}
 use Rattle.std.proofs.lemmas.Option.{slice_get-map}
@@ -23,6 +23,7 @@ use Rattle.c_typing.specs.Rules.{Operand, may_drop, converts, is_copied, compoun
 use Rattle.c_typing.specs.Expressions.{Denoted, Object as AnObject, Function as AFunction, Hidden, Scope, object_type, result_type as called_type, is_lvalue, is_string, is_register, is_constant_type, operand, value, operands, IsTyped, AreTyped}
 use Rattle.c_typing.specs.Declared.{has, parameters, local_type as type_of_a_local, function_in, local_in, locals_in, denoted_by}
 use Rattle.c_sound.specs.Scopes.{scope_with}
+use Rattle.c_sound.specs.Kept.{KeepsRules, EachKeeps}
 use Rattle.c_sound.proofs.Operators.{addr, conv, takes, gives, takes_one}
 use Rattle.c_sound.proofs.Shaped.{shape, ByCase, Updates, row_shapes, is_one_leaf, Given, CalledFunction, OneNumber, CalledBuiltIn, CalledBy, Called, NamedBy, Named, ShapedE, ShapedL, ShapedRow}
 use Rattle.c_sound.proofs.Begins.{and_parts}
@@ -88,6 +89,39 @@ agree all (l ∷ rest) (suc n) x h =
 abbrev result_in : Option Function → CType
 result_in None = ctype.Void
 result_in (Some f) = f.result
+
+-- ---- well-typed expressions keep to the rules
+
+module _ (s : Scope) where
+  mutual
+    pub typed_keeps : (e : Typed) → IsTyped s e → KeepsRules s e
+    typed_keeps (Comma' h x a y b) q = (typed_keeps a q.0, typed_keeps b q.1, q.2)
+    typed_keeps (Assign' h x a None y b) q = (typed_keeps a q.0, typed_keeps b q.1, q.2)
+    typed_keeps (Assign' h x a (Some op) y b) q = (typed_keeps a q.0, typed_keeps b q.1, q.2)
+    typed_keeps (Choice' h x c y a z b) q = (typed_keeps c q.0, typed_keeps a q.1, typed_keeps b q.2, q.3)
+    typed_keeps (Or' h x a y b) q = (typed_keeps a q.0, typed_keeps b q.1, q.2)
+    typed_keeps (And' h x a y b) q = (typed_keeps a q.0, typed_keeps b q.1, q.2)
+    typed_keeps (Binary' h x a op y b) q = (typed_keeps a q.0, typed_keeps b q.1, q.2)
+    typed_keeps (Cast' h x a) q = (typed_keeps a q.0, q.1)
+    typed_keeps (Before' h op x a) q = (typed_keeps a q.0, q.1)
+    typed_keeps (Address' h x a) q = (typed_keeps a q.0, q.1)
+    typed_keeps (Follow' h x a) q = (typed_keeps a q.0, q.1)
+    typed_keeps (Unary' h op x a) q = (typed_keeps a q.0, q.1)
+    typed_keeps (SizeOf' h x a) q = (typed_keeps a q.0, q.1)
+    typed_keeps (SizeOfType h t) q = q.1
+    typed_keeps (Index' h x a y b) q = (typed_keeps a q.0, typed_keeps b q.1, q.2)
+    typed_keeps (Call' h f x row) q = (each_keeps row q.0, q.1)
+    typed_keeps (Dot' h x a m) q = (typed_keeps a q.0, q.1)
+    typed_keeps (Arrow' h x a m) q = (typed_keeps a q.0, q.1)
+    typed_keeps (After' h x a op) q = (typed_keeps a q.0, q.1)
+    typed_keeps (Name h n) q = q
+    typed_keeps (Constant h n) q = q.0
+    typed_keeps (Literal h n) q = q
+    typed_keeps (Parens' h x a) q = (typed_keeps a q.0, q.1)
+
+    pub each_keeps : {m : _} (row : Row_of-Typed m) → AreTyped s row → EachKeeps s row
+    each_keeps end_of-Typed q = tt
+    each_keeps (more_of-Typed e rest) q = (typed_keeps e q.0, each_keeps rest q.1)
 
 module _ (types : SymbolRow → Plain) (p : Program) (f : ℕ) (v ls : List ℕ) (within : (x : ℕ) → has v x ≡ true → has ls x ≡ true) (functions : (g : ℕ) (fn : Function) → slice_get p.functions g ≡ Some fn → HasParameters fn) where
   abbrev s : Scope
@@ -246,7 +280,7 @@ module _ (types : SymbolRow → Plain) (p : Program) (f : ℕ) (v ls : List ℕ)
   Located e = is_lvalue e ≡ true → ShapedL p ls e
 
   mutual
-    pub evaluated : (e : Typed) → IsTyped s e → ShapedE p ls e
+    pub evaluated : (e : Typed) → KeepsRules s e → ShapedE p ls e
     evaluated (Comma' h x a y b) q =
         (evaluated a q.0, evaluated b q.1, sh b ∙ from_type (value s b) h (only_some (may_drop (operand s a) && is_scalar (value s b)) (value s b) (plain h.ctype) q.2).1)
     evaluated (Assign' h x a None y b) q =
@@ -278,9 +312,9 @@ module _ (types : SymbolRow → Plain) (p : Program) (f : ℕ) (v ls : List ℕ)
         let c = unary_takes op (value s a) (plain h.ctype) q.1 in
         (evaluated a q.0, ap (takes_one op) (sh a) ∙ c.0, sym (addr_plain h.ctype ∙ c.1))
     evaluated (SizeOf' h x a) q = from_type Unsigned h (only_some (is_complete p.defs (plain (type_of a))) Unsigned (plain h.ctype) q.1).1
-    evaluated (SizeOfType h t) q = from_type Unsigned h (only_some (is_complete p.defs (plain t)) Unsigned (plain h.ctype) q.1).1
+    evaluated (SizeOfType h t) q = from_type Unsigned h (only_some (is_complete p.defs (plain t)) Unsigned (plain h.ctype) q).1
     evaluated (Call' h f x row) q = (rows_shaped row q.0, subst (Called p (slice_get p.symbols f) (row_shapes row)) (sym (addr_plain h.ctype)) (called_there f row (plain h.ctype) q.1))
-    evaluated (Constant h n) q = constant_shape (plain h.ctype) h refl q.0
+    evaluated (Constant h n) q = constant_shape (plain h.ctype) h refl q
       where
         constant_shape : (t : Plain) (h : Head) → t ≡ plain h.ctype → is_constant_type t ≡ true → false ≡ addr h.ctype
         constant_shape Int h e k = from_type Int h e
@@ -294,7 +328,7 @@ module _ (types : SymbolRow → Plain) (p : Program) (f : ℕ) (v ls : List ℕ)
     evaluated (Dot' h x a m) q = located a q.0 (dot_lvalue (is_lvalue a) _ (plain h.ctype) q.1)
     evaluated (Arrow' h x a m) q = (evaluated a q.0, sh a ∙ arrow_address (value s a) m (plain h.ctype) q.1)
 
-    pub located : (e : Typed) → IsTyped s e → Located e
+    pub located : (e : Typed) → KeepsRules s e → Located e
     located (Name h n) q l = name_there n (plain h.ctype) q
     located (Literal h n) q l = tt
     located (Follow' h x a) q l = (evaluated a q.0, sh a ∙ followed_address p.defs (value s a) (plain h.ctype) q.1)
@@ -304,6 +338,6 @@ module _ (types : SymbolRow → Plain) (p : Program) (f : ℕ) (v ls : List ℕ)
     located (Parens' h x a) q l = located a q.0 l
     located _ q l = absurd (true≢false (sym l))
 
-    pub rows_shaped : {m : _} (row : Row_of-Typed m) → AreTyped s row → ShapedRow p ls row
+    pub rows_shaped : {m : _} (row : Row_of-Typed m) → EachKeeps s row → ShapedRow p ls row
     rows_shaped end_of-Typed q = tt
     rows_shaped (more_of-Typed e rest) q = (evaluated e q.0, rows_shaped rest q.1)

@@ -1,3 +1,4 @@
+pub mod Kept
 pub mod Scopes
 pub mod Shapes
 pub mod Sessions
