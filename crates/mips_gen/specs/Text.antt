@@ -1,5 +1,5 @@
 -- The text of an object.
-use Rattle.std.specs.Prelude.{ℕ, ◌+◌, ◌*◌, ◌≡◌, List, [], ◌∷◌, ◌++◌, length, map}
+use Rattle.std.specs.Prelude.{ℕ, ◌+◌, ◌*◌, List, [], ◌∷◌, ◌++◌, length}
 use Rattle.std.specs.Int.{w32, to_le_bytes}
 use Rattle.mips_isa.specs.declared.insn.Insn.{Insn}
 use Rattle.mips_isa.specs.declared.insn.Insn.TheVariants.{Addu, Jal, Addiu, Syscall}
@@ -7,8 +7,6 @@ use Rattle.mips_isa.specs.Codec.{word_of}
 use Rattle.flat_ir.specs.declared.code.FlatOp.{FlatOp}
 use Rattle.flat_ir.specs.declared.code.FlatFunction.{FlatFunction}
 use Rattle.flat_ir.specs.declared.code.FlatCode.{FlatCode}
-use Rattle.slot_ir.specs.declared.code.SlotCode.{SlotCode}
-use Rattle.flat_gen.specs.Codes.{flat_function}
 use Rattle.mips_gen.specs.Insns.{no_op, insns}
 use Rattle.mips_gen.specs.Frames.{prologue, epilogue}
 use Rattle.mips_gen.specs.Movers.{movers_insns}
@@ -42,9 +40,3 @@ start_insns = Jal 0 ∷ no_op ∷ Addu 4 2 0 ∷ Addiu 2 0 3 ∷ Syscall ∷ []
 -- the start of the program, the copies of structs and the functions
 unfoldable pub program_insns : FlatCode → List Insn
 program_insns c = start_insns ++ movers_insns c.movers ++ functions_insns c.functions
-
--- The text is that of flat code of a program, whose frames begin with 100 bytes of the target's own. How structs are copied is left open.
-pub record IsTextOf (slots : SlotCode) (text : List ℕ) : Type 0 where
-  pub flat : FlatCode
-  pub functions : flat.functions ≡ map (flat_function 100 slots) slots.functions
-  pub bytes : text ≡ text_bytes (program_insns flat)

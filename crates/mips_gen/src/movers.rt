@@ -1,6 +1,7 @@
 // The code that copies structs. A is where to, B is where from; `$11` is the address of the words that a copy keeps, which lie from the end of the stack on: its return address, and the counts of items.
-ghost use Rattle.std.specs.Prelude.{◌≡◌, ◌*◌, ◌++◌, length, true, false, IfOk, OnOk};
+ghost use Rattle.std.specs.Prelude.{◌≡◌, ◌+◌, ◌*◌, [], ◌∷◌, ◌++◌, length, true, false, IfOk, OnOk};
 ghost use Rattle.flat_ir.specs.declared.moves.MoveStep.TheVariants as step;
+ghost use Rattle.mips_gen.specs.Parts.{direction_name as name_of_direction, jump_use, step_uses, copy_uses, choice_uses};
 ghost use Rattle.mips_gen.specs.Movers.{leaf_load as load_of_leaf, leaf_store as store_of_leaf, leaf_bytes as bytes_of_leaf, back_by as back_by_of, leaf_insns, skip_insns, items_insns, over_item as over_item_of, again_insns, struct_insns, step_insns, copy_insns, choice_insns};
 
 use crate::instructions::{addiu, addu, beq, bne, j, jal, jr, lb, lui, lw, no_op, sb, sltu, sw};
@@ -147,7 +148,8 @@ fn put_again(code: &mut Vec<Insn>, before: MoveStep) -> Result<(), AllocError>
 
 /// A struct inside, whose words lie behind those of this copy.
 fn put_struct(alloc: Global, making: &mut Making, name: Text, words: u8) -> Result<(), AllocError>
-    ensures { OnOk result (making.new.code.items ≡ making.old.code.items ++ struct_insns words) }
+    ensures code { OnOk result (making.new.code.items ≡ making.old.code.items ++ struct_insns words) }
+    ensures uses { OnOk result (making.new.uses.items ≡ making.old.uses.items ++ jump_use (length making.old.code.items + 1) name ∷ []) }
 {
     let bytes = 4 * u16::from(words);
     put(&mut making.code, addiu(OWN_TOO, OWN_TOO, bytes))?;
@@ -160,7 +162,9 @@ fn put_struct(alloc: Global, making: &mut Making, name: Text, words: u8) -> Resu
 }
 
 /// The name of the copy of a struct in a direction.
-fn direction_name(alloc: Global, number: u32, back: bool) -> Result<Text, AllocError> {
+fn direction_name(alloc: Global, number: u32, back: bool) -> Result<Text, AllocError>
+    ensures { IfOk result (λ t. t ≡ name_of_direction back number) }
+{
     if back {
         descending_name(alloc, number)
     } else {
@@ -187,7 +191,8 @@ fn put_step(
     before: MoveStep,
     step: MoveStep,
 ) -> Result<(), AllocError>
-    ensures { OnOk result (making.new.code.items ≡ making.old.code.items ++ step_insns back before step) }
+    ensures code { OnOk result (making.new.code.items ≡ making.old.code.items ++ step_insns back before step) }
+    ensures uses { OnOk result (making.new.uses.items ≡ making.old.uses.items ++ step_uses back (length making.old.code.items) step) }
 {
     match step {
         MoveStep::Leaf(kind) => put_leaf_of(&mut making.code, back, kind),
@@ -208,7 +213,8 @@ pub fn put_copy(
     back: bool,
     steps: &[MoveStep],
 ) -> Result<(), AllocError>
-    ensures { OnOk result (making.new.code.items ≡ making.old.code.items ++ copy_insns back steps.now) }
+    ensures code { OnOk result (making.new.code.items ≡ making.old.code.items ++ copy_insns back steps.now) }
+    ensures uses { OnOk result (making.new.uses.items ≡ making.old.uses.items ++ copy_uses back (length making.old.code.items) steps.now) }
 {
     let mut before = MoveStep::Again;
     put(&mut making.code, sw(RETURN_ADDRESS, OWN_TOO, 0))?;
@@ -234,7 +240,8 @@ pub fn put_choice(
     number: u32,
     size: u32,
 ) -> Result<(), AllocError>
-    ensures { OnOk result (making.new.code.items ≡ making.old.code.items ++ choice_insns size) }
+    ensures code { OnOk result (making.new.code.items ≡ making.old.code.items ++ choice_insns size) }
+    ensures uses { OnOk result (making.new.uses.items ≡ making.old.uses.items ++ choice_uses number (length making.old.code.items)) }
 {
     put_all(
         &mut making.code,

@@ -1,8 +1,11 @@
 // The object of a program.
-ghost use Rattle.std.specs.Prelude.{◌≡◌, ◌++◌, length, IfOk, OnOk};
+ghost use Rattle.std.specs.Prelude.{◌≡◌, [], ◌∷◌, ◌++◌, length, codes, IfOk, OnOk};
 ghost use Rattle.machine_state.specs.declared.layout.TheConstants.{MIPS as the_target};
-ghost use Rattle.mips_gen.specs.Text.{text_bytes, ops_insns, ops_offsets, function_insns, functions_insns, start_insns, program_insns, IsTextOf};
+ghost use Rattle.mips_gen.specs.Text.{text_bytes, ops_insns, ops_offsets, function_insns, functions_insns, start_insns, program_insns};
 ghost use Rattle.mips_gen.specs.Movers.{mover_insns, movers_insns};
+ghost use Rattle.gen_parts.specs.Names.{function_name as name_of_function};
+ghost use Rattle.gen_parts.specs.Rows.{row};
+ghost use Rattle.mips_gen.specs.Parts.{named, jump_use, mover_uses, mover_names, movers_uses, movers_names, function_uses, function_row, saved_registers, functions_uses, functions_names, functions_rows, program_uses, program_names, program_rows, BeginsWith, IsObjectOf};
 
 use crate::assemble::text_of;
 use crate::frames::{put_epilogue, put_prologue};
@@ -34,7 +37,10 @@ struct Parts {
 
 /// A name of what comes next.
 fn add_name(parts: &mut Parts, name: Text) -> Result<(), AllocError>
-    ensures { OnOk result (parts.new.text.code.items ≡ parts.old.text.code.items) }
+    ensures code { OnOk result (parts.new.text.code.items ≡ parts.old.text.code.items) }
+    ensures uses { OnOk result (parts.new.text.uses.items ≡ parts.old.text.uses.items) }
+    ensures names { OnOk result (parts.new.names.items ≡ parts.old.names.items ++ named (length parts.old.text.code.items) name ∷ []) }
+    ensures rows { OnOk result (parts.new.rows.items ≡ parts.old.rows.items) }
 {
     let at = offset(&parts.text.code)?;
     parts.names.push(Name { name, at })?;
@@ -43,7 +49,10 @@ fn add_name(parts: &mut Parts, name: Text) -> Result<(), AllocError>
 
 /// The start of a program: `main` is called, and the program exits with what it gives.
 fn add_start(alloc: Global, parts: &mut Parts, main: u32) -> Result<(), AllocError>
-    ensures { OnOk result (parts.new.text.code.items ≡ parts.old.text.code.items ++ start_insns) }
+    ensures code { OnOk result (parts.new.text.code.items ≡ parts.old.text.code.items ++ start_insns) }
+    ensures uses { OnOk result (parts.new.text.uses.items ≡ parts.old.text.uses.items ++ jump_use (length parts.old.text.code.items) (name_of_function main) ∷ []) }
+    ensures names { OnOk result (parts.new.names.items ≡ parts.old.names.items ++ named (length parts.old.text.code.items) (codes "start") ∷ []) }
+    ensures rows { OnOk result (parts.new.rows.items ≡ parts.old.rows.items) }
 {
     add_name(parts, Text::from_slice(alloc, b"start")?)?;
     let at = offset(&parts.text.code)?;
@@ -62,9 +71,16 @@ fn add_start(alloc: Global, parts: &mut Parts, main: u32) -> Result<(), AllocErr
 }
 
 /// The code that copies a struct.
-#[tactic(auto, unfolding(crate::specs::Movers::mover_insns))]
+#[tactic(auto, unfolding(
+    crate::specs::Movers::mover_insns,
+    crate::specs::Parts::mover_uses,
+    crate::specs::Parts::mover_names
+))]
 fn add_mover(alloc: Global, parts: &mut Parts, number: u32, mover: &Mover) -> Result<(), AllocError>
-    ensures { OnOk result (parts.new.text.code.items ≡ parts.old.text.code.items ++ mover_insns mover.now) }
+    ensures code { OnOk result (parts.new.text.code.items ≡ parts.old.text.code.items ++ mover_insns mover.now) }
+    ensures uses { OnOk result (parts.new.text.uses.items ≡ parts.old.text.uses.items ++ mover_uses number (length parts.old.text.code.items) mover.now) }
+    ensures names { OnOk result (parts.new.names.items ≡ parts.old.names.items ++ mover_names number (length parts.old.text.code.items) mover.now) }
+    ensures rows { OnOk result (parts.new.rows.items ≡ parts.old.rows.items) }
 {
     add_name(parts, mover_name(alloc, number)?)?;
     put_choice(alloc, &mut parts.text, number, mover.size)?;
@@ -76,7 +92,10 @@ fn add_mover(alloc: Global, parts: &mut Parts, number: u32, mover: &Mover) -> Re
 
 /// The code that copies each struct.
 fn add_movers(alloc: Global, parts: &mut Parts, movers: &[Mover]) -> Result<(), AllocError>
-    ensures { OnOk result (parts.new.text.code.items ≡ parts.old.text.code.items ++ movers_insns movers.now) }
+    ensures code { OnOk result (parts.new.text.code.items ≡ parts.old.text.code.items ++ movers_insns movers.now) }
+    ensures uses { OnOk result (parts.new.text.uses.items ≡ parts.old.text.uses.items ++ movers_uses 0 (length parts.old.text.code.items) movers.now) }
+    ensures names { OnOk result (parts.new.names.items ≡ parts.old.names.items ++ movers_names 0 (length parts.old.text.code.items) movers.now) }
+    ensures rows { OnOk result (parts.new.rows.items ≡ parts.old.rows.items) }
 {
     let mut number: u32 = 0;
     for mover in movers {
@@ -104,8 +123,27 @@ fn put_ops(
     Ok(places)
 }
 
+/// The row of a function.
+fn add_row(
+    alloc: Global,
+    rows: &mut Vec<FunctionRow>,
+    slots: &SlotFunction,
+    function: &FlatFunction,
+    spots: &Spots,
+) -> Result<(), AllocError>
+    ensures { OnOk result (rows.new.items ≡ rows.old.items ++ row slots.now function.now spots.now.entry spots.now.end spots.now.places.now saved_registers ∷ []) }
+{
+    let saved = SAVED;
+    rows.push(row_of(alloc, slots, function, spots, &saved)?)?;
+    Ok(())
+}
+
 /// A function: its code, its uses, its name and its row.
-#[tactic(auto, unfolding(crate::specs::Text::function_insns))]
+#[tactic(auto, unfolding(
+    crate::specs::Text::function_insns,
+    crate::specs::Parts::function_uses,
+    crate::specs::Parts::function_row
+))]
 fn add_function(
     alloc: Global,
     parts: &mut Parts,
@@ -113,7 +151,10 @@ fn add_function(
     slots: &SlotFunction,
     function: &FlatFunction,
 ) -> Result<(), AllocError>
-    ensures { OnOk result (parts.new.text.code.items ≡ parts.old.text.code.items ++ function_insns function.now) }
+    ensures code { OnOk result (parts.new.text.code.items ≡ parts.old.text.code.items ++ function_insns function.now) }
+    ensures uses { OnOk result (parts.new.text.uses.items ≡ parts.old.text.uses.items ++ function_uses number (length parts.old.text.code.items) function.now) }
+    ensures names { OnOk result (parts.new.names.items ≡ parts.old.names.items ++ named (length parts.old.text.code.items) (name_of_function number) ∷ []) }
+    ensures rows { OnOk result (parts.new.rows.items ≡ parts.old.rows.items ++ function_row (length parts.old.text.code.items) slots.now function.now ∷ []) }
 {
     add_name(parts, function_name(alloc, number)?)?;
     let entry = offset(&parts.text.code)?;
@@ -136,9 +177,7 @@ fn add_function(
         end,
         places: &places,
     };
-    parts
-        .rows
-        .push(row_of(alloc, slots, function, &spots, &SAVED)?)?;
+    add_row(alloc, &mut parts.rows, slots, function, &spots)?;
     Ok(())
 }
 
@@ -149,7 +188,10 @@ fn add_functions(
     slots: &[SlotFunction],
     functions: &[FlatFunction],
 ) -> Result<(), AllocError>
-    ensures { OnOk result (parts.new.text.code.items ≡ parts.old.text.code.items ++ functions_insns functions.now) }
+    ensures code { OnOk result (parts.new.text.code.items ≡ parts.old.text.code.items ++ functions_insns functions.now) }
+    ensures uses { OnOk result (parts.new.text.uses.items ≡ parts.old.text.uses.items ++ functions_uses 0 (length parts.old.text.code.items) functions.now) }
+    ensures names { OnOk result (parts.new.names.items ≡ parts.old.names.items ++ functions_names 0 (length parts.old.text.code.items) functions.now) }
+    ensures rows { OnOk result (parts.new.rows.items ≡ parts.old.rows.items ++ functions_rows (length parts.old.text.code.items) slots.now functions.now) }
 {
     let mut number: u32 = 0;
     for function in functions {
@@ -161,9 +203,17 @@ fn add_functions(
 }
 
 /// The text, its names and its rows.
-#[tactic(auto, unfolding(crate::specs::Text::program_insns))]
+#[tactic(auto, unfolding(
+    crate::specs::Text::program_insns,
+    crate::specs::Parts::program_uses,
+    crate::specs::Parts::program_names,
+    crate::specs::Parts::program_rows
+))]
 fn parts_of(alloc: Global, slots: &SlotCode, flat: &FlatCode) -> Result<Parts, AllocError>
-    ensures { IfOk result (λ p. p.text.code.items ≡ program_insns flat.now) }
+    ensures code { IfOk result (λ p. p.text.code.items ≡ program_insns flat.now) }
+    ensures uses { IfOk result (λ p. p.text.uses.items ≡ program_uses flat.now) }
+    ensures names { IfOk result (λ p. p.names.items ≡ program_names flat.now) }
+    ensures rows { IfOk result (λ p. p.rows.items ≡ program_rows slots.now.functions flat.now) }
 {
     let mut parts = Parts {
         text: Making {
@@ -185,11 +235,12 @@ fn parts_of(alloc: Global, slots: &SlotCode, flat: &FlatCode) -> Result<Parts, A
 }
 
 /// The uses in the text, and then those in the static objects.
-fn all_uses(uses: Vec<Use>, data_uses: Vec<Use>) -> Result<Vec<Use>, AllocError> {
-    let mut all = uses;
-    for data_use in data_uses {
-        all.push(data_use)?;
-    }
+fn all_uses(text: Vec<Use>, statics: Many<Use>) -> Result<Vec<Use>, AllocError>
+    ensures { IfOk result (λ v. v.items ≡ text.items ++ statics) }
+{
+    let mut all = text;
+    let mut others = statics.into_vec();
+    all.append(&mut others)?;
     Ok(all)
 }
 
@@ -197,6 +248,9 @@ fn all_uses(uses: Vec<Use>, data_uses: Vec<Use>) -> Result<Vec<Use>, AllocError>
 fn object_of(alloc: Global, slots: &SlotCode, flat: &FlatCode) -> Result<Object, AllocError>
     ensures target { IfOk result (λ o. o.target ≡ the_target) }
     ensures text { IfOk result (λ o. o.text ≡ text_bytes (program_insns flat.now)) }
+    ensures names { IfOk result (λ o. o.names ≡ program_names flat.now) }
+    ensures uses { IfOk result (λ o. BeginsWith (program_uses flat.now) o.uses) }
+    ensures functions { IfOk result (λ o. o.functions ≡ program_rows slots.now.functions flat.now) }
 {
     let data = data_of(alloc, Order::Little, slots)?;
     let Parts { text, names, rows } = parts_of(alloc, slots, flat)?;
@@ -205,7 +259,7 @@ fn object_of(alloc: Global, slots: &SlotCode, flat: &FlatCode) -> Result<Object,
         statics,
         uses: data_uses,
     } = data;
-    let uses = all_uses(uses, data_uses.into_vec())?;
+    let uses = all_uses(uses, data_uses)?;
     Ok(Object {
         target: MIPS,
         text: text_of(alloc, &code)?,
@@ -219,7 +273,7 @@ fn object_of(alloc: Global, slots: &SlotCode, flat: &FlatCode) -> Result<Object,
 /// The MIPS object of a program.
 pub fn emit(alloc: Global, slots: &SlotCode) -> Result<Object, AllocError>
     ensures target { IfOk result (λ o. o.target ≡ the_target) }
-    ensures text { IfOk result (λ o. IsTextOf slots.now o.text) }
+    ensures parts { IfOk result (λ o. IsObjectOf slots.now o) }
 {
     let flat = flat_code(alloc, LINKAGE, slots)?;
     let object = object_of(alloc, slots, &flat)?;
