@@ -1,20 +1,18 @@
 -- One step of a run: one object is executed, or one turn of a loop is made.
-use Rattle.std.specs.Prelude.{ℕ, ◌+ℤ◌, ◌+◌, ◌-◌, Bool, true, false, nat_lt, pos, if◌then◌else◌, Option, Some, None, Result, Ok, Err, List, [], ◌∷◌, length, slice_get, slice_index_or}
+use Rattle.std.specs.Prelude.{ℕ, ◌+ℤ◌, ◌+◌, ◌-◌, Bool, true, false, nat_lt, pos, if◌then◌else◌, Option, Some, None, Result, Ok, Err, List, [], ◌∷◌, length, option_map, slice_get, slice_index_or}
 use Rattle.ps_store.specs.declared.object.PsObj.{PsObj}
-use Rattle.ps_store.specs.declared.object.PsObj.TheVariants.{Int, Bool as Truth, Name, Null}
+use Rattle.ps_store.specs.declared.object.PsObj.TheVariants.{Int, Bool as Truth, Null}
 use Rattle.ps_store.specs.declared.object.ArrayId.{ArrayId}
-use Rattle.ps_store.specs.declared.key.Key.{Key}
-use Rattle.ps_store.specs.declared.key.Key.TheVariants.{Name as NameKey, Int as IntKey, Bool as TruthKey}
-use Rattle.ps_store.specs.StoreState.{StoreState}
-use Rattle.ps_store.specs.Store.{elements_of, entries_of, bytes_of, making_name}
+use Rattle.ps_store.specs.declared.object.Pair.{Pair}
+use Rattle.ps_store.specs.Store.{elements_of, entries_of, bytes_of}
 use Rattle.ps_step.specs.declared.fault.PsError.{PsError}
 use Rattle.ps_step.specs.declared.fault.PsError.TheVariants.{StackOverflow}
 use Rattle.ps_step.specs.declared.item.Item.{Item}
 use Rattle.ps_step.specs.declared.item.Item.TheVariants.{Object, Procedure, Text, Repeat, For, ForArray, ForString, ForDict, Loop, LastTurn, Stopped}
 use Rattle.ps_step.specs.declared.machine.PsCore.{PsCore}
-use Rattle.ps_step.specs.Results.{◌>>=◌, stored, at}
+use Rattle.ps_step.specs.Results.{◌>>=◌, at}
 use Rattle.ps_step.specs.Item.{under_stopped}
-use Rattle.ps_step.specs.State.{with_execution, pushing, calling}
+use Rattle.ps_step.specs.State.{with_execution, with_operands, pushing, calling}
 use Rattle.ps_step.specs.ControlOperators.{goes_on}
 use Rattle.ps_step.specs.CopyOperators.{MadeOrLeft}
 use Rattle.ps_step.specs.Executing.{Turn, alone, executing, meeting}
@@ -46,19 +44,12 @@ settled (Err failed) = raising failed.0 failed.1
 abbrev pub turning : PsObj → ArrayId → PsCore → MadeOrLeft
 turning x body c = at c (pushing x c) >>= λ c'. at c' (calling body c')
 
--- the object that a key is
-abbrev pub key_object : StoreState → Key → Result (PsObj × StoreState) PsError
-key_object s (NameKey text) = stored (making_name s text) >>= λ given. Ok (Name given.0 false, given.1)
-key_object s (IntKey n) = Ok (Int n, s)
-key_object s (TruthKey b) = Ok (Truth b, s)
-
--- a turn of `forall` over a dictionary: a key and its value are pushed, and the body is entered
-abbrev pub turning_pair : Option (Key × PsObj) → ArrayId → PsCore → MadeOrLeft
+-- a turn of `forall` over a dictionary: the key of a pair and its value are pushed, and the body is entered
+abbrev pub turning_pair : Option Pair → ArrayId → PsCore → MadeOrLeft
 turning_pair None body c = Ok c
 turning_pair (Some pair) body c =
     if nat_lt 99998 (length c.operands) then Err (StackOverflow, c)
-    else at c (key_object c.store pair.0) >>= λ made.
-    let c' : PsCore = record c { store = made.1; operands = pair.1 ∷ made.0 ∷ c.operands } in at c' (calling body c')
+    else let c' : PsCore = with_operands c (pair.value ∷ pair.key ∷ c.operands) in at c' (calling body c')
 
 -- the rest of a procedure: as it goes on, if there is an object behind this one
 abbrev pub going_on : ℕ → ℕ → Item → List Item → List Item
@@ -99,7 +90,7 @@ stepping (ForString t n body ∷ rest) c =
     settled (alone (turning (Int (pos (slice_index_or bytes n 0))) body (with_execution c (in_turn (nat_lt (n + 1) (length bytes)) (ForString t (n + 1) body) rest))))
 stepping (ForDict d n body ∷ rest) c =
     let pairs = entries_of c.store d in
-    settled (alone (turning_pair (slice_get pairs n) body (with_execution c (in_turn (nat_lt (n + 1) (length pairs)) (ForDict d (n + 1) body) rest))))
+    settled (alone (turning_pair (option_map (λ e. e.1) (slice_get pairs n)) body (with_execution c (in_turn (nat_lt (n + 1) (length pairs)) (ForDict d (n + 1) body) rest))))
 stepping (Loop body ∷ rest) c = settled (alone (at c (calling body c)))
 stepping (LastTurn ∷ rest) c = stepping rest (with_execution c rest)
 

@@ -5,17 +5,16 @@ ghost use Rattle.std.specs.Prelude.{◌≡◌, ◌≤◌, ◌+ℤ◌, length, tr
 ghost use Rattle.ps_step.specs.declared.item.Item.TheVariants.{Object, Procedure, Text, Repeat as Turns, Loop, For, ForArray, ForString, ForDict, Stopped};
 ghost use Rattle.ps_step.specs.ControlOperators.{goes_on};
 ghost use Rattle.ps_step.specs.Effects.{DoesOrLeaves};
-ghost use Rattle.ps_run.specs.Step.{raising, settled, turning, key_object, turning_pair, step};
+ghost use Rattle.ps_run.specs.Step.{raising, settled, turning, turning_pair, step};
 ghost use Rattle.ps_step.specs.State.{with_execution};
 ghost use Rattle.ps_step.specs.Executing.{alone, meeting};
 ghost use Rattle.ps_run.specs.Runs.{Raises, Steps};
-ghost use Rattle.ps_run.specs.Reads.{Makes};
 
 use crate::scan::read_object;
 use ps_step::fault::{PsError, PsFault};
 use ps_step::item::{Item, cut_to_stopped};
 use ps_step::machine::{MOST_OPERANDS, PsCore};
-use ps_store::{ArrayId, DictId, Key, PsObj, PsStore, StringId};
+use ps_store::{ArrayId, DictId, Pair, PsObj, StringId};
 
 /// What a step did.
 #[derive(Clone, Copy)]
@@ -232,35 +231,19 @@ fn step_string(
     make_turn(core, PsObj::Int(i32::from(byte)), body)
 }
 
-/// The object that a key is.
-fn key_object(store: &mut PsStore, key: Key) -> Result<PsObj, PsFault>
-    ensures makes { Makes result store.old store.new (key_object store.old key) }
-    ensures closed { closed_part store.new ≡ closed_part store.old }
-{
-    match key {
-        Key::Name(text) => {
-            let name = store.make_name(text.as_slice())?;
-            Ok(PsObj::Name(name, false))
-        }
-        Key::Int(n) => Ok(PsObj::Int(n)),
-        Key::Bool(b) => Ok(PsObj::Bool(b)),
-    }
-}
-
-/// Pushes a key and its value, and enters the body of a loop.
-fn turn_pair(core: &mut PsCore, pair: Option<(Key, PsObj)>, body: ArrayId) -> Result<(), PsFault>
+/// Pushes the key of a pair and its value, and enters the body of a loop. The store stays as it is.
+fn turn_pair(core: &mut PsCore, pair: Option<Pair>, body: ArrayId) -> Result<(), PsFault>
     ensures does { DoesOrLeaves result core.new (turning_pair pair body core.old) }
     ensures closed { closed_part core.new.store ≡ closed_part core.old.store }
 {
-    let Some((key, value)) = pair else {
+    let Some(pair) = pair else {
         return Ok(());
     };
     if core.operands.len() > MOST_OPERANDS - 2 {
         return Err(PsFault::Error(PsError::StackOverflow));
     }
-    let place = key_object(&mut core.store, key)?;
-    core.operands.push(place)?;
-    core.operands.push(value)?;
+    core.operands.push(pair.key)?;
+    core.operands.push(pair.value)?;
     core.call(body)?;
     Ok(())
 }
@@ -271,7 +254,7 @@ fn step_dict(core: &mut PsCore, d: DictId, at: usize, body: ArrayId) -> Result<P
     ensures steps { Steps result core.new (step core.old) }
     ensures closed { closed_part core.new.store ≡ closed_part core.old.store }
 {
-    let pair = core.store.entry_at(d, at);
+    let pair = core.store.pair_at(d, at);
     let count = core.store.dict_len(d);
     if at < count && at + 1 < count {
         core.execution.replace(1, Item::ForDict(d, at + 1, body));

@@ -134,14 +134,17 @@ impl Entries {
     fn hinted(&self, name: NameQuery<'_>, bucket: u8) -> Option<usize>
         ensures { IfSome result (λ i. place_of self.now (NameKey name.entry.text.now) ≡ Some i) }
     {
-        let hint = *self.hints.get(bucket as usize)?;
-        let place = hint.checked_sub(1)? as usize;
+        let place = match self.hints.get(bucket as usize) {
+            Some(hint) => (*hint as usize).wrapping_sub(1),
+            None => return None,
+        };
         if self.pairs.len() <= place {
             return None;
         }
-        let (key, _pair) = self.pairs.get_index(place)?;
-        if key.is_name(name) {
-            return Some(place);
+        if let Some((key, _pair)) = self.pairs.get_index(place) {
+            if key.is_name(name) {
+                return Some(place);
+            }
         }
         None
     }

@@ -173,11 +173,10 @@ impl PartialEq for Key {
     ghost laws = { partial_equiv_from_equiv same_key_equiv };
 
     fn eq(&self, other: &Self) -> bool {
-        match (self, other) {
-            (Key::Name(a), Key::Name(b)) => a.query().text == b.query().text,
-            (Key::Int(a), Key::Int(b)) => *a == *b,
-            (Key::Bool(a), Key::Bool(b)) => *a == *b,
-            _ => false,
+        match self {
+            Key::Name(a) => other.is_name(a.query()),
+            Key::Int(a) => matches!(other, Key::Int(b) if *b == *a),
+            Key::Bool(a) => matches!(other, Key::Bool(b) if *b == *a),
         }
     }
 }

@@ -166,8 +166,9 @@ impl Objects {
         ensures ok { OnOk result (self.new ≡ record self.old { dicts = slice_set self.old.dicts index (slice_index_or self.old.dicts index [] ++ (key, pair) ∷ []); units = self.old.units + 1 }) }
         ensures err { OnErr result (self.new ≡ self.old) }
     {
-        if let Some(entries) = self.dicts.get_mut(index as usize) {
-            entries.add(key, pair)?;
+        match self.dicts.get_mut(index as usize) {
+            Some(entries) => entries.add(key, pair)?,
+            None => drop(key),
         }
         self.units += 1;
         Ok(())

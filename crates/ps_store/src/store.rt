@@ -72,25 +72,37 @@ impl PsStore {
     pub fn new(alloc: Global) -> Result<PsStore, AllocError>
         ensures { IfOk result (λ store. store ≡ new_store) }
     {
-        let mut store = PsStore {
-            table: Objects::new(alloc),
-            command: Objects::new(alloc),
-            part: Part::Table,
-            closed: Mark {
-                arrays: 0,
-                dicts: 0,
-                strings: 0,
-                units: 0,
-            },
-            base: Vec::new(alloc),
-            top: None,
+        let mut table = Objects::new(alloc);
+        let index = match table.add_dict() {
+            Ok(index) => index,
+            Err(error) => {
+                drop(table);
+                return Err(error);
+            }
         };
-        let index = store.table.add_dict()?;
-        store.base.push(DictId {
+        let first = DictId {
             part: Part::Table,
             index,
-        })?;
-        Ok(store)
+        };
+        match Vec::from_slice(alloc, &[first]) {
+            Ok(base) => Ok(PsStore {
+                table,
+                command: Objects::new(alloc),
+                part: Part::Table,
+                closed: Mark {
+                    arrays: 0,
+                    dicts: 0,
+                    strings: 0,
+                    units: 0,
+                },
+                base,
+                top: None,
+            }),
+            Err(error) => {
+                drop(table);
+                Err(error)
+            }
+        }
     }
 
     /// The objects of a part.
@@ -161,11 +173,14 @@ impl PsStore {
     {
         let cost = 1 + len as u32;
         let part = self.part;
-        let index = match part {
-            Part::Table => self.table.add_array(elements, cost)?,
-            Part::Command => self.command.add_array(elements, cost)?,
+        let added = match part {
+            Part::Table => self.table.add_array(elements, cost),
+            Part::Command => self.command.add_array(elements, cost),
         };
-        Ok(ArrayId { part, index })
+        match added {
+            Ok(index) => Ok(ArrayId { part, index }),
+            Err(_) => Err(StoreFault::NoMemory),
+        }
     }
 
     /// Makes an array of so many nulls in the part in use.
@@ -228,11 +243,14 @@ impl PsStore {
             return Err(StoreFault::Limit);
         }
         let part = self.part;
-        let index = match part {
-            Part::Table => self.table.add_dict()?,
-            Part::Command => self.command.add_dict()?,
+        let added = match part {
+            Part::Table => self.table.add_dict(),
+            Part::Command => self.command.add_dict(),
         };
-        Ok(DictId { part, index })
+        match added {
+            Ok(index) => Ok(DictId { part, index }),
+            Err(_) => Err(StoreFault::NoMemory),
+        }
     }
 
     /// Adds a text to the part in use, for which there is room.
@@ -245,11 +263,14 @@ impl PsStore {
     {
         let cost = 1 + len.div_ceil(16) as u32;
         let part = self.part;
-        let index = match part {
-            Part::Table => self.table.add_string(characters, cost)?,
-            Part::Command => self.command.add_string(characters, cost)?,
+        let added = match part {
+            Part::Table => self.table.add_string(characters, cost),
+            Part::Command => self.command.add_string(characters, cost),
         };
-        Ok(StringId { part, index })
+        match added {
+            Ok(index) => Ok(StringId { part, index }),
+            Err(_) => Err(StoreFault::NoMemory),
+        }
     }
 
     /// Whether a text of so many bytes may be made where `most` are allowed.
@@ -396,13 +417,17 @@ impl PsStore {
         ensures closed { closed_part self.new ≡ closed_part self.old }
     {
         if self.dict_len(d) >= MOST_ELEMENTS || !self.has_room(1) {
+            drop(key);
             return Err(StoreFault::Limit);
         }
-        match d.part {
-            Part::Table => self.table.add_pair(d.index, key, pair)?,
-            Part::Command => self.command.add_pair(d.index, key, pair)?,
+        let added = match d.part {
+            Part::Table => self.table.add_pair(d.index, key, pair),
+            Part::Command => self.command.add_pair(d.index, key, pair),
+        };
+        match added {
+            Ok(()) => Ok(()),
+            Err(_) => Err(StoreFault::NoMemory),
         }
-        Ok(())
     }
 
     /// The object that a key is. For a name a literal one is made.
@@ -429,7 +454,13 @@ impl PsStore {
         ensures closed { closed_part self.new ≡ closed_part self.old }
     {
         let mark = self.mark();
-        let object = self.make_key(&key)?;
+        let object = match self.make_key(&key) {
+            Ok(object) => object,
+            Err(fault) => {
+                drop(key);
+                return Err(fault);
+            }
+        };
         match self.add_pair(d, key, Pair { key: object, value }) {
             Ok(()) => Ok(()),
             Err(fault) => {
@@ -446,10 +477,12 @@ impl PsStore {
         ensures closed { closed_part self.new ≡ closed_part self.old }
     {
         if is_closed(d.part, d.index, self.closed.dicts) {
+            drop(key);
             return Err(StoreFault::ReadOnly);
         }
         match self.place_of(d, &key) {
             Some(place) => {
+                drop(key);
                 self.replace_value(d, place, value);
                 Ok(())
             }
