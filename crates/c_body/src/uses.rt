@@ -6,7 +6,8 @@ ghost use Rattle.c_mentions.specs.Tags.{now};
 
 use crate::calls::{called, called_abstract, called_part};
 use c_declaration::{
-    Declarator, DeclaratorNode, FileSpec, Initial, InitialNode, MemberPart, Parameter, ParameterNode,
+    Declarator, DeclaratorNode, FileSpec, Initial, InitialNode, MemberPart, Parameter,
+    ParameterNode,
 };
 use c_scope::Environment;
 use ldb_words::Text;
