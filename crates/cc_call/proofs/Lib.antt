@@ -1,0 +1,4 @@
+pub mod Fronts
+pub mod Fronted
+pub mod Named
+pub mod ReadAll

@@ -1,0 +1,4 @@
+void num(unsigned n) { if (n >= 10u) num(n / 10u); putchar((int)(n % 10u) + 48); }
+void show(int n) { if (n < 0) { putchar('-'); num(-(unsigned)n); } else num((unsigned)n); putchar(10); }
+int a = -7; int b = 2; unsigned c = 4000000000u; unsigned d = 7u;
+int main(void) { show(a / b); show(a % b); show(a * b); show(a - b); show(a + b); show(a >> 1); show(a << 3); show(a & b); show(a | b); show(a ^ b); show(~a); show(-a); show(!a); show(!!a); show((int)(c / d)); show((int)(c % d)); show((int)(c * d)); show((int)(c - d)); show((int)(c >> 5)); show((int)(c << 5)); show(a < b); show(a > b); show(a <= b); show(a >= b); show(c < d); show(c > d); show(c <= d); show(c >= d); show(a == b); show(a != b); show((unsigned)a < c); show((unsigned)a > d); show(2147483647 / -1); show((-2147483647 - 1) % 3); show((-2147483647 - 1) / 2); return 0; }

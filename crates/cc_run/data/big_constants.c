@@ -1,0 +1,3 @@
+void num(unsigned n) { if (n >= 10u) num(n / 10u); putchar((int)(n % 10u) + 48); }
+void show(int n) { if (n < 0) { putchar('-'); num(-(unsigned)n); } else num((unsigned)n); putchar(10); }
+int main(void) { int a; unsigned u; a = 2147483647; show(a); a = -a - 1; show(a); u = 0xffffffffu; show((int)(u >> 1)); show((int)u); show(0x8000 + 0x7fff); show(65535 * 32767); show((int)(65535u * 65537u)); return 0; }

@@ -1,0 +1,4 @@
+void num(unsigned n) { if (n >= 10u) num(n / 10u); putchar((int)(n % 10u) + 48); }
+void show(int n) { if (n < 0) { putchar('-'); num(-(unsigned)n); } else num((unsigned)n); putchar(10); }
+int f(int n) { switch (n) { case 1: return 10; case 2: case 3: n = n + 1; break; default: n = -n; case -5: n = n * 2; } return n; }
+int main(void) { int i; int j; int k; k = 0; for (i = -6; i < 7; i++) show(f(i)); i = 0; do { if (i == 3) continue; if (i == 7) break; k += i; } while (++i < 10); show(k); for (i = 0, j = 10; i < j; i++, j--) ; show(i * j); while (1) { if (k-- < 0) break; } show(k); for (;;) { k++; if (k > 5) break; else continue; } show(k); show(i ? j ? 1 : 2 : 3); show(i && j || k); show((i = 0) && (j = 99)); show(j); show((i = 1) || (j = 99)); show(j); return k; }

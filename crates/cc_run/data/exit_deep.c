@@ -1,0 +1,1 @@
+void f(int n) { register int r; r = n; if (n == 20) exit(r * 2); f(n + 1); putchar('x'); } int main(void) { f(0); return 1; }

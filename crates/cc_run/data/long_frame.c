@@ -1,0 +1,3 @@
+void num(unsigned n) { if (n >= 10u) num(n / 10u); putchar((int)(n % 10u) + 48); }
+void show(int n) { if (n < 0) { putchar('-'); num(-(unsigned)n); } else num((unsigned)n); putchar(10); }
+int main(void) { int a[20000]; char c[5000]; int i; int s; int big[9000]; s = 0; for (i = 0; i < 20000; i++) a[i] = i * 3; for (i = 0; i < 5000; i++) c[i] = i; for (i = 0; i < 9000; i++) big[i] = a[i] - c[i % 5000]; for (i = 0; i < 9000; i++) s = (s + big[i]) % 1000003; show(s); return s & 127; }

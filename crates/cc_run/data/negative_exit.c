@@ -1,0 +1,1 @@
+int main(void) { exit(-3); return 0; }

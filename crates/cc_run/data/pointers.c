@@ -1,0 +1,4 @@
+void num(unsigned n) { if (n >= 10u) num(n / 10u); putchar((int)(n % 10u) + 48); }
+void show(int n) { if (n < 0) { putchar('-'); num(-(unsigned)n); } else num((unsigned)n); putchar(10); }
+int a[10]; int *p; int **q; char s[] = "pointer"; 
+int main(void) { int i; char *t; p = a; q = &p; for (i = 0; i < 10; i++) *(*q)++ = i * i; show(p - a); show(p == a + 10); show(p > a); show(a < p); --p; show(*p); show(p[-3]); p -= 4; show(*p); show(*(p + 2)); show(2[p]); show(&a[7] - &a[2]); show(p != 0); show(!p); t = s; while (*t) putchar(*t++ - 32); putchar(10); t = 0; show(t ? 1 : 2); show(t == 0); return 0; }

@@ -1,0 +1,4 @@
+void num(unsigned n) { if (n >= 10u) num(n / 10u); putchar((int)(n % 10u) + 48); }
+void show(int n) { if (n < 0) { putchar('-'); num(-(unsigned)n); } else num((unsigned)n); putchar(10); }
+int g(register int a, register int b) { register int c; register int d; c = a * b; d = a - b; if (a > 0) return g(a - 1, b + 1) + c - d + a; return c + d; }
+int main(void) { register int a; register int b; register int c; register int d; register int e; register int f; register int h; register int i; register int j; register char k; a = 1; b = 2; c = 3; d = 4; e = 5; f = 6; h = 7; i = 8; j = 9; k = 'k'; show(g(20, 3)); show(a + b * 10 + c * 100 + d * 1000 + e * 10000); show(f + h * 10 + i * 100 + j * 1000); putchar(k); return 0; }

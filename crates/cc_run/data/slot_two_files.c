@@ -1,0 +1,2 @@
+static int count;
+int step(int by) { count = count + by; return count; }

@@ -1,0 +1,4 @@
+void num(unsigned n) { if (n >= 10u) num(n / 10u); putchar((int)(n % 10u) + 48); }
+void show(int n) { if (n < 0) { putchar('-'); num(-(unsigned)n); } else num((unsigned)n); putchar(10); }
+struct n { char c; struct n *next; int v[2]; }; extern struct n b; struct n a = {'a', 0, {1, 2}}; struct n b = {'b', &a, {3}}; struct n *head = &b; char *msg = "text"; char *tail[2] = {"x", "yz"}; int m[2][3] = {{1, 2}, {4}}; 
+int main(void) { struct n *p; for (p = head; p; p = p->next) { putchar(p->c); show(p->v[0] + p->v[1]); } putchar(msg[1]); putchar(tail[1][1]); show(m[0][1] + m[1][0] + m[1][2]); return 0; }

@@ -1,0 +1,4 @@
+void num(unsigned n) { if (n >= 10u) num(n / 10u); putchar((int)(n % 10u) + 48); }
+void show(int n) { if (n < 0) { putchar('-'); num(-(unsigned)n); } else num((unsigned)n); putchar(10); }
+struct s0 { char a; int b; }; struct s1 { struct s0 a, b; }; struct s2 { struct s1 a, b; }; struct s3 { struct s2 a, b; }; struct s4 { struct s3 a, b; } g, h;
+int main(void) { int i; struct s0 *p; struct s0 *q; p = &g.a.a.a.a; g.b.b.b.b.b = 99; g.b.b.b.b.a = 'x'; p->b = 4; h = g; q = &h.a.a.a.a; show(q->b); show(h.b.b.b.b.b); putchar(h.b.b.b.b.a); i = sizeof g; show(i); h.a = h.b; show(h.a.b.b.b.b); return 0; }

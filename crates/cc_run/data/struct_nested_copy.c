@@ -1,0 +1,6 @@
+void num(unsigned n) { if (n >= 10u) num(n / 10u); putchar((int)(n % 10u) + 48); }
+void show(int n) { if (n < 0) { putchar('-'); num(-(unsigned)n); } else num((unsigned)n); putchar(10); }
+struct in { char c[3]; int v; char t; }; struct mid { struct in a[2]; char x; struct in b; }; struct out { char h; struct mid m[3]; int z; } g, w;
+void fill(struct out *p, int k) { int i; int j; int l; p->h = k; p->z = k * 100; for (i = 0; i < 3; i++) { p->m[i].x = i + k; for (j = 0; j < 2; j++) { p->m[i].a[j].v = i * 10 + j + k; p->m[i].a[j].t = j; for (l = 0; l < 3; l++) p->m[i].a[j].c[l] = l + j + i + k; } p->m[i].b = p->m[i].a[1]; p->m[i].b.v = -i; } }
+int sum(struct out *p) { int i; int j; int l; int s; s = p->h + p->z; for (i = 0; i < 3; i++) { s = s * 3 + p->m[i].x; for (j = 0; j < 2; j++) { s = s * 5 % 100003 + p->m[i].a[j].v + p->m[i].a[j].t; for (l = 0; l < 3; l++) s = s + p->m[i].a[j].c[l] * (l + 1); } s = s + p->m[i].b.v + p->m[i].b.c[2]; } return s; }
+int main(void) { struct out l; fill(&g, 5); w = g; show(sum(&w)); l = w; l.m[1] = l.m[2]; l.m[0].a[1] = l.m[2].b; show(sum(&l)); g = l; show(sum(&g)); show(sum(&w)); return 0; }

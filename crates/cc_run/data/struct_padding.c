@@ -1,0 +1,2 @@
+struct a { char c; int x; }; struct b { struct a a; char d; char e; int y; } b; struct a s;
+int main(void) { struct a *p; b.e = 'e'; b.d = 'd'; b.y = 7; s.c = 's'; s.x = 9; p = &b.a; p[0] = s; putchar(b.a.c); putchar(b.d); putchar(b.e); putchar(48 + b.a.x); putchar(48 + b.y); s.x = 3; *p = s; putchar(48 + b.a.x); putchar(b.d); putchar(10); return 0; }

@@ -1,0 +1,5 @@
+pub mod Firsts
+pub mod Counted
+pub mod Parsed
+pub mod Refused
+pub mod Anchors

@@ -1,0 +1,21 @@
+//! The compiler: C sources to an image and a table.
+//!
+//! Proved of `compile`: each cause of a refusal is one that the sources have by the definitions, in their order, and what is built is an image of the
+//! target and a table of the stated text, for a program that the sources are. Not claimed: that the image does what the program does, and that
+//! anything but want of memory is never answered as such.
+#![tactic(auto)]
+
+mod aim;
+mod building;
+mod compiling;
+mod fault;
+mod front;
+mod parsing;
+mod places;
+mod scanning;
+mod table;
+
+pub use aim::Aim;
+pub use building::build;
+pub use compiling::{Built, compile};
+pub use fault::BuildFault;
