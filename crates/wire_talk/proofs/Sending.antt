@@ -76,7 +76,6 @@ pub room_of : (P : World → Type 0) (o : Option World) (v : World) → IfSome o
 room_of P None v h e = cc
 room_of P (Some w) v h e = let same : w ≡ v = cc in subst P same h
 
-
 -- a side where nothing is on the way has room for a frame
 all_fits : (piece : List ℕ) (o : Option LinkSide) (s : LinkSide) → o ≡ Some s → s.sent ≡ [] → length piece ≤ 4096 → fitting piece o ≡ length piece
 all_fits piece None s e none h = cc

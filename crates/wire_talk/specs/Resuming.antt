@@ -1,15 +1,21 @@
 -- A resume whose messages come one by one.
-use Rattle.std.specs.Prelude.{◌≡◌, ◌≢◌, ℕ, List, [], Option, Some, Result, Ok, Err}
+use Rattle.std.specs.Prelude.{◌≡◌, ◌≢◌, ℕ, ◌^◌, ◌<◌, List, [], ◌∷◌, ◌++◌, Option, None, Some, Result, Ok, Err, IfOk}
+use Rattle.machine_state.specs.State.{Behaviour}
 use Rattle.nub_wire.specs.declared.message.Msg.{Msg}
 use Rattle.nub_wire.specs.declared.message.Msg.TheVariants as msg
 use Rattle.nub_wire.specs.declared.link.Side.{Side}
 use Rattle.nub_wire.specs.declared.reply.Heard.{Heard}
 use Rattle.nub_wire.specs.declared.reply.Heard.TheVariants.{Ends, GoesOn, Bad}
-use Rattle.nub_wire.specs.Spelling.{frame_of}
+use Rattle.nub_wire.specs.Spelling.{frame_of, MsgFits}
+use Rattle.nub_wire.specs.Feeding.{frames}
+use Rattle.nub_wire.specs.Nub.{Host}
+use Rattle.nub_wire.specs.Rest.{IsAtRest}
+use Rattle.nub_wire.specs.Resumes.{AreTold, run_from, after_run}
+use Rattle.nub_wire.specs.Fits.{TellsFitting}
 use Rattle.nub_wire.specs.Replies.{heard}
-use Rattle.nub_wire.specs.Delivery.{Conduct, World, on_side, with_sent}
-use Rattle.nub_wire.specs.Calls.{Sends, Owes, BadReply}
-use Rattle.nub_wire.specs.Exchange.{got_on}
+use Rattle.nub_wire.specs.Delivery.{Conduct, nubs_over, LinkSide, World, side_of, on_side, with_sent}
+use Rattle.nub_wire.specs.Calls.{Sends, Hears, Owes, BadReply}
+use Rattle.nub_wire.specs.Exchange.{got_on, Exchanged}
 use Rattle.nub_wire.specs.Told.{took_by}
 use Rattle.wire_talk.specs.declared.fault.TalkFault.{TalkFault}
 use Rattle.wire_talk.specs.declared.fault.TalkFault.TheVariants as fault
@@ -61,3 +67,37 @@ GoesOnBy {S = S} took gave r s (Err (fault.BadReply frame)) r' u =
 
 abbrev pub GoesOnTold : Conduct → Side → Resuming → World → Result Msg TalkFault → Resuming → Option World → Type 0
 GoesOnTold c side r w result r' o = (u : World) × (o ≡ Some u) × GoesOnBy (took_by side) (got_on c side) r w result r' u
+
+-- ---- over nubs that meet their definition
+
+abbrev pub resuming : ℕ → ℕ → Resuming
+resuming turns printed = record { turns = turns; printed = printed }
+
+-- A Resume was sent on a side of a world. These messages came since, with so many bytes of output, and more is owed.
+pub record InResume (c : Conduct) (side : Side) (turns : ℕ) (w : World) (before : List Msg) (printed : ℕ) (v : World) : Type 0 where
+  pub heard_is : Hears (got_on c side) (on_side side (with_sent (frame_of (msg.Resume turns))) w) (frames before) v
+  pub owes : Owes (took_by side) (got_on c side) (msg.Resume turns) w (owing (msg.Resume turns) printed []) v
+
+-- a message came: the last one, and the exchange is over, or more is to come
+abbrev pub GoesOnOrEnds : Conduct → Side → ℕ → World → Host → (before left : List Msg) → Resuming → World → Type 0
+GoesOnOrEnds c side turns w h before [] r u = Exchanged side h w u
+GoesOnOrEnds c side turns w h before (m ∷ left) r u = (printed : ℕ) × (r ≡ resuming turns printed) × InResume c side turns w before printed u
+
+-- the next message is the first of those that are left, or the link failed
+abbrev pub NextOf : Conduct → Side → ℕ → World → Host → (before : List Msg) → Msg → (left : List Msg) → Result Msg TalkFault → Resuming → World → Type 0
+NextOf c side turns w h before m left (Ok x) r u = (x ≡ m) × GoesOnOrEnds c side turns w h (before ++ (m ∷ [])) left r u
+NextOf c side turns w h before m left (Err fault.LinkFault) r u = Unit {0}
+NextOf c side turns w h before m left (Err (fault.BadReply frame)) r u = ⊥
+
+-- From a side at rest a resume brings its run message by message: output, and then the end. No bad reply comes.
+pub record RunComes (b : Behaviour) (side : Side) (turns : ℕ) (s : LinkSide) (w : World) : Type 0 where
+  pub messages : List Msg
+  pub told : AreTold messages (run_from b turns s.host.machine).output (run_from b turns s.host.machine).ending
+  pub begins : InResume (nubs_over b) side turns w [] 0 (on_side side (with_sent (frame_of (msg.Resume turns))) w)
+  pub comes : (before left : List Msg) (m : Msg) (printed : ℕ) (r : Resuming) (result : Result Msg TalkFault) (v u : World) → before ++ (m ∷ left) ≡ messages
+      → InResume (nubs_over b) side turns w before printed v → IfOk result MsgFits → GoesOnBy (took_by side) (got_on (nubs_over b) side) (resuming turns printed) v result r u
+      → NextOf (nubs_over b) side turns w (after_run (run_from b turns s.host.machine) s.host) before m left result r u
+
+abbrev pub ResumptionLaw : Behaviour → Type 0
+ResumptionLaw b = (side : Side) (turns : ℕ) (s : LinkSide) (w : World) → turns < 2 ^ 32 → side_of side w ≡ Some s → IsAtRest s → s.host.nub.ended ≡ None → TellsFitting b s.host
+    → RunComes b side turns s w

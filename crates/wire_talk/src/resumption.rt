@@ -44,7 +44,7 @@ impl Resumption {
         }
     }
 
-    /// The next message: output, or the end of the run.
+    /// The next message: output, or the end of the run, behind which nothing is owed: it is not called there.
     #[tactic(auto, using(crate::proofs::Resumptions::goes_within))]
     pub fn next<L: Link>(&mut self, link: &mut L, side: Side) -> Result<Msg, TalkFault>
         ensures calls { GoesOnBy (took_on L.took side) (gave_on L.gave side) self.old link.old result self.new link.new }

@@ -37,11 +37,7 @@ pub fn send_all<L: Link>(link: &mut L, side: Side, frame: &[u8]) -> Result<(), T
 }
 
 /// Answers of a nub, at most so many bytes; none where none come.
-fn next_piece<L: Link>(
-    link: &mut L,
-    side: Side,
-    most: usize,
-) -> Result<ArrayVec<u8, 1027>, Failed>
+fn next_piece<L: Link>(link: &mut L, side: Side, most: usize) -> Result<ArrayVec<u8, 1027>, Failed>
     requires fits { most ≤ 1027 }
     ensures call { IfOk result (λ p. L.gave link.old side most p.items link.new) }
     ensures world { IfOk result (λ p. OnWorlds (Receives L.conduct side most p.items) (L.world link.old) (L.world link.new)) }

@@ -51,8 +51,8 @@ pieces-preserved g c =
     record {
       calls = heard_more (took_on g.L.Link.took c.args.side) (gave_on g.L.Link.gave c.args.side) c.args.link.now c.pieces.link c.next_piece.new.link c.pieces.frame.items c.in-Ok.piece.items c.append.new.frame.items c.min-most.result i.calls i.partial some c.in-Ok.ensures.call piece;
       told = λ (w : World) is.
-        told_more g.L.Link.conduct c.args.side w c.pieces.frame.items c.in-Ok.piece.items c.append.new.frame.items c.min-most.result (g.L.Link.world c.pieces.link) (g.L.Link.world c.next_piece.new.link)
-        (i.told w is) i.partial some c.in-Ok.ensures.world piece;
+          told_more g.L.Link.conduct c.args.side w c.pieces.frame.items c.in-Ok.piece.items c.append.new.frame.items c.min-most.result (g.L.Link.world c.pieces.link) (g.L.Link.world c.next_piece.new.link)
+          (i.told w is) i.partial some c.in-Ok.ensures.world piece;
       faults = c.in-Ok.ensures.cause ∙ i.faults;
       held = p.held;
       good = p.good;
@@ -80,7 +80,7 @@ returns-in-BadFrame-clause-told g c = λ (w : World) is.
     let fits : length c.append.new.frame.items ≤ 1027 = omega (arith, short, ap length piece, length-append c.pieces.frame.items c.in-Ok.piece.items, c.in-Ok.ensures.bound, c.min-most.ensures, c.len.ensures.value) in
     let n = none c.pieces.feeder c.feed.new.self c.as_slice-bytes.result.now c.in-BadFrame.at c.pieces.frame.items c.append.new.frame.items i.good i.held c.append.ensures c.in-BadFrame.ensures in
     let t = told_more g.L.Link.conduct c.args.side w c.pieces.frame.items c.in-Ok.piece.items c.append.new.frame.items c.min-most.result (g.L.Link.world c.pieces.link) (g.L.Link.world c.next_piece.new.link)
-      (i.told w is) i.partial some c.in-Ok.ensures.world piece in
+    (i.told w is) i.partial some c.in-Ok.ensures.world piece in
     (t.0, t.1, heard_no_frame (took_by c.args.side) (got_on g.L.Link.conduct c.args.side) w t.0 c.append.new.frame.items t.2 fits n)
 
 pub returns-in-Msg-clause-calls : goal.returns-in-Msg-clause-calls
@@ -103,7 +103,7 @@ returns-in-Msg-clause-told g c = λ (w : World) is.
     let short_piece : length c.as_slice-bytes.result.now ≤ c.to_come.result = omega (arith, c.in-Ok.ensures.bound, c.min-most.ensures, ap length c.as_slice-bytes.ensures.value) in
     let x = whole c.pieces.feeder c.feed.new.self c.as_slice-bytes.result.now c.in-Msg.used c.to_come.result c.in-Msg.msg c.pieces.frame.items c.append.new.frame.items i.good i.held c.append.ensures c.to_come.ensures.sooner short_piece c.in-Msg.ensures in
     let t = told_more g.L.Link.conduct c.args.side w c.pieces.frame.items c.in-Ok.piece.items c.append.new.frame.items c.min-most.result (g.L.Link.world c.pieces.link) (g.L.Link.world c.next_piece.new.link)
-      (i.told w is) i.partial some c.in-Ok.ensures.world piece in
+    (i.told w is) i.partial some c.in-Ok.ensures.world piece in
     (t.0, t.1, subst (λ (l : List ℕ). HeardOn (took_by c.args.side) (got_on g.L.Link.conduct c.args.side) w l t.0) x.is t.2)
 
 pub returns-in-Msg-clause-fits : goal.returns-in-Msg-clause-fits

@@ -21,8 +21,8 @@ loop-done-preserved g c =
       calls = sent_more (took_on g.L.Link.took c.args.side) c.args.frame.now c.loop-done.done c.in-Ok.taken c.args.link.now c.loop-done.link c.send.new.self i.calls s.call;
       faults = s.cause ∙ i.faults;
       told = λ (w : World) (t : LinkSide) e there none.
-        told_more c.args.side c.args.frame.now w t c.loop-done.done c.in-Ok.taken (g.L.Link.world c.loop-done.link) (g.L.Link.world c.send.new.self) there none
-        c.requires.short c.loop-done-test.true (i.told w t e there none)
-        (λ (v : World) is. room_of _ (g.L.Link.world c.loop-done.link) v s.room is)
-        s.bytes;
+          told_more c.args.side c.args.frame.now w t c.loop-done.done c.in-Ok.taken (g.L.Link.world c.loop-done.link) (g.L.Link.world c.send.new.self) there none
+          c.requires.short c.loop-done-test.true (i.told w t e there none)
+          (λ (v : World) is. room_of _ (g.L.Link.world c.loop-done.link) v s.room is)
+          s.bytes;
     }
