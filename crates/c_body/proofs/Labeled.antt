@@ -16,7 +16,8 @@ use Rattle.c_body.specs.Calls.{called}
 use Rattle.c_body.specs.Becoming.{IsLabel}
 use Rattle.c_body.specs.Labels.{IsLabelValue}
 use Rattle.c_body.specs.Walks.{Walked, Passes}
-use Rattle.c_body.specs.Passing.{of_all, behind}
+use Rattle.c_body.specs.Calls.{of_all}
+use Rattle.c_body.specs.Passing.{behind}
 use Rattle.c_body.proofs.Passed.{or_none}
 
 module _ (v : Environment) where

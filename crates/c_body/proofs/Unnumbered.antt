@@ -78,22 +78,22 @@ module _ (v : Environment) (l : ℕ → ℕ) where
     unnumbered (Unbounded d) = refl
 
     uncalled : (n : ℕ) (e : Tree) → calling (scope v l) n e ≡ calling (scope_of v) n e
-    uncalled n (Call at f) = ap (λ x. ◌then◌ x (counted true at.at n)) (plain_callee (name_alone f) _ _ (unnumbered f))
-    uncalled n (With c a) = both with_argument (uncalled n c) (both_argued c (place_of a).at (unnumbered a))
-    uncalled n (Leaf at kind text) = refl
-    uncalled n (Paren at a) = refl
-    uncalled n (Index at a b) = refl
-    uncalled n (Member at a w q name) = refl
-    uncalled n (After at a step) = refl
-    uncalled n (Prefix at w a) = refl
-    uncalled n (SizeofType at s d) = refl
-    uncalled n (Cast at s d a) = refl
-    uncalled n (Binary at w a b) = refl
-    uncalled n (Choice at c a b) = refl
-    uncalled n (Stars n) = refl
-    uncalled n (Around n d) = refl
-    uncalled n (Bounded d e) = refl
-    uncalled n (Unbounded d) = refl
+    uncalled k (Call at f) = ap (λ x. ◌then◌ x (counted true at.at k)) (plain_callee (name_alone f) _ _ (unnumbered f))
+    uncalled k (With c a) = both with_argument (uncalled k c) (both_argued c (place_of a).at (unnumbered a))
+    uncalled k (Leaf at kind text) = refl
+    uncalled k (Paren at a) = refl
+    uncalled k (Index at a b) = refl
+    uncalled k (Member at a w q name) = refl
+    uncalled k (After at a step) = refl
+    uncalled k (Prefix at w a) = refl
+    uncalled k (SizeofType at s d) = refl
+    uncalled k (Cast at s d a) = refl
+    uncalled k (Binary at w a b) = refl
+    uncalled k (Choice at c a b) = refl
+    uncalled k (Stars n) = refl
+    uncalled k (Around n d) = refl
+    uncalled k (Bounded d e) = refl
+    uncalled k (Unbounded d) = refl
 
     unwritten : (at : ℕ) (d : Tree) (t u : Answer Plain) → t ≡ u → within (scope v l) at d t ≡ within (scope_of v) at d u
     unwritten at (Stars n) t u h = h

@@ -5,7 +5,7 @@ ghost use Rattle.c_body.specs.Bodies.{case_label, labels_before, labels_in, same
 ghost use Rattle.c_scope.specs.Findings.{fine};
 ghost use Rattle.c_scope.specs.Here.{environment_of};
 ghost use Rattle.c_body.specs.Labels.{label_of, is_seen, IsConstant, IsLabelValue};
-ghost use Rattle.c_body.specs.Passing.{of_all};
+ghost use Rattle.c_body.specs.Calls.{of_all};
 
 use c_expr::Expr;
 use c_judge::{Constant, Fault, place_of};

@@ -6,6 +6,7 @@ ghost use Rattle.c_typing.specs.Expressions.{Object};
 ghost use Rattle.c_typing.specs.Rules as rule;
 ghost use Rattle.c_judge.specs.Judges.{Denotes};
 ghost use Rattle.c_judge.specs.Parts.{judged_of};
+ghost use Rattle.c_judge.specs.Places.{place_of};
 ghost use Rattle.c_body.specs.Becoming.{IsInitial, AreLocals};
 ghost use Rattle.c_body.specs.Calls.{called_initial, called_locals};
 ghost use Rattle.c_scope.specs.Here.{environment_of};

@@ -2,7 +2,7 @@ use Rattle.std.proofs.Common.{◌≡◌, ◌++◌, map, drop}
 use Rattle.c_body.specs.Bodies.{labels_before}
 use Rattle.c_scope.specs.Here.{environment_of}
 use Rattle.c_body.specs.Labels.{label_of}
-use Rattle.c_body.specs.Passing.{of_all}
+use Rattle.c_body.specs.Calls.{of_all}
 use Rattle.c_body.proofs.labels.labels_of.Given as goal
 
 abbrev pub invariant-loop-statement : goal.invariant-loop-statement

@@ -58,7 +58,7 @@ returns-else-is_scalar-clause-found c =
     let at = c.args.at in
     let ok : Judged → Bool = λ j. is_scalar (plain c.args.t.now) && converts (plain c.args.t.now) j.operand in
     let P = IsInitial w.here (before_of w) (Some (Value e)) in
-    subst (λ f. Passes w (initialized w.here (plain c.args.t.now) (Value e)) w.here (stop w.here at ∷ []) (in_tree e) (called w.here e) P (Err f) (walk_of c.at_expression.new.walk)) (sym c.no_initializer.ensures)
+    subst (λ f. Passes w (initialized w.here (plain c.args.t.now) (Value e)) w.here (stop w.here at ∷ []) (in_tree e) (called w.here e) P (Err f) (walk_of c.at_expression.new.walk)) (sym c.no_initializer-else-is_scalar.ensures)
     (point_never w (walk_of c.point.new.walk) (walk_of c.at_expression.new.walk) e (stop w.here at) ok (is_scalar (plain c.args.t.now)) 14 (place_of e).at P
     c.in_ok-point.ensures.walk (subst (λ x. PassesExpression (walk_of c.point.new.walk) c.args.e.now (Ok x) (walk_of c.at_expression.new.walk)) q c.in-Ok-None.ensures.walk) (sym c.is_scalar.ensures ∙ c.if-is_scalar.false))
 

@@ -42,7 +42,7 @@ returns-then-is_void-clause-passes c =
     let e = c.args.e.now in
     let at = c.args.at in
     let t = plain c.args.to.now in
-    subst (λ f. Passes w (returned w.here t at.at (Some e)) w.here (stop w.here at ∷ []) (in_tree e) (called w.here e) (Becomes w.here (before_of w) (tree.Return at (Some e))) (Err f) (walk_of c.at_expression.new.walk)) (sym c.no_result.ensures)
+    subst (λ f. Passes w (returned w.here t at.at (Some e)) w.here (stop w.here at ∷ []) (in_tree e) (called w.here e) (Becomes w.here (before_of w) (tree.Return at (Some e))) (Err f) (walk_of c.at_expression.new.walk)) (sym c.no_result-then-is_void.ensures)
     (point_never w (walk_of c.point.new.walk) (walk_of c.at_expression.new.walk) e (stop w.here at) (λ j. converts t j.operand) (not (is_void t)) 20 (place_of e).at (Becomes w.here (before_of w) (tree.Return at (Some e)))
     c.in_ok-point.ensures.walk (subst (λ x. PassesExpression (walk_of c.point.new.walk) c.args.e.now (Ok x) (walk_of c.at_expression.new.walk)) q c.in-Ok-None.ensures.walk) (ap not (sym c.is_void.ensures ∙ c.if-is_void.true)))
 
