@@ -20,7 +20,7 @@ use Rattle.gen_parts.specs.Statics.{program_statics, data_uses}
 use Rattle.ldb_words.specs.declared.kinds.Order.TheVariants.{Little}
 use Rattle.mips_gen.specs.Frames.{prologue}
 use Rattle.mips_gen.specs.Movers.{step_insns, copy_insns, choice_insns, mover_insns, movers_insns}
-use Rattle.mips_gen.specs.Text.{text_bytes, ops_insns, ops_offsets, function_insns, functions_insns, start_insns, program_insns}
+use Rattle.mips_gen.specs.Text.{text_bytes, ops_insns, ops_offsets, function_insns, start_insns, program_insns}
 
 abbrev pub named : (n : ℕ) → (name : List ℕ) → Name
 named n name = record { name = name; at = n * 4 }

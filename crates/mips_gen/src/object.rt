@@ -73,11 +73,7 @@ fn add_start(alloc: Global, parts: &mut Parts, main: u32) -> Result<(), AllocErr
 }
 
 /// The code that copies a struct.
-#[tactic(auto, unfolding(
-    crate::specs::Movers::mover_insns,
-    crate::specs::Parts::mover_uses,
-    crate::specs::Parts::mover_names
-))]
+#[tactic(auto, unfolding(crate::specs::Movers::mover_insns, crate::specs::Parts::mover_uses, crate::specs::Parts::mover_names))]
 fn add_mover(alloc: Global, parts: &mut Parts, number: u32, mover: &Mover) -> Result<(), AllocError>
     ensures code { OnOk result (parts.new.text.code.items ≡ parts.old.text.code.items ++ mover_insns mover.now) }
     ensures uses { OnOk result (parts.new.text.uses.items ≡ parts.old.text.uses.items ++ mover_uses number (length parts.old.text.code.items) mover.now) }
@@ -141,11 +137,7 @@ fn add_row(
 }
 
 /// A function: its code, its uses, its name and its row.
-#[tactic(auto, unfolding(
-    crate::specs::Text::function_insns,
-    crate::specs::Parts::function_uses,
-    crate::specs::Parts::function_row
-))]
+#[tactic(auto, unfolding(crate::specs::Text::function_insns, crate::specs::Parts::function_uses, crate::specs::Parts::function_row))]
 fn add_function(
     alloc: Global,
     parts: &mut Parts,
@@ -205,12 +197,7 @@ fn add_functions(
 }
 
 /// The text, its names and its rows.
-#[tactic(auto, unfolding(
-    crate::specs::Text::program_insns,
-    crate::specs::Parts::program_uses,
-    crate::specs::Parts::program_names,
-    crate::specs::Parts::program_rows
-))]
+#[tactic(auto, unfolding(crate::specs::Text::program_insns, crate::specs::Parts::program_uses, crate::specs::Parts::program_names, crate::specs::Parts::program_rows))]
 fn parts_of(alloc: Global, slots: &SlotCode, flat: &FlatCode) -> Result<Parts, AllocError>
     ensures code { IfOk result (λ p. p.text.code.items ≡ program_insns flat.now) }
     ensures uses { IfOk result (λ p. p.text.uses.items ≡ program_uses flat.now) }
