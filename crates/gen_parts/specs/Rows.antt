@@ -1,6 +1,5 @@
 -- The row of a function: what a debugger has to know of it. Distances from the stack pointer become distances from the frame's base.
 use Rattle.std.specs.Prelude.{ℕ, suc, ◌+◌, pos, ℤ, ◌-ℤ◌, List, [], ◌∷◌, map, Option, Some, None, slice_get}
-use Rattle.ldb_words.specs.declared.kinds.Kind.{Kind}
 use Rattle.slot_ir.specs.declared.code.SlotFunction.{SlotFunction}
 use Rattle.slot_ir.specs.declared.code.SlotLocal.{SlotLocal}
 use Rattle.slot_ir.specs.declared.code.Home.{Home}

@@ -269,7 +269,13 @@ pub fn data_of(alloc: Global, order: Order, slots: &SlotCode) -> Result<Data, Al
     let setting = Setting { order, objects };
     let mut statics = Vec::new(alloc);
     let mut uses = Vec::new(alloc);
-    add_objects(alloc, &setting, &mut statics, &mut uses, slots.objects.as_slice())?;
+    add_objects(
+        alloc,
+        &setting,
+        &mut statics,
+        &mut uses,
+        slots.objects.as_slice(),
+    )?;
     add_strings(alloc, &mut statics, objects, slots.strings.as_slice())?;
     Ok(Data {
         statics: Many::from_vec(statics),

@@ -101,7 +101,13 @@ fn put_uses(
         FlatOp::Call { function } => {
             put_use(uses, at, Form::Jump, function_name(alloc, function)?, 0)
         }
-        FlatOp::Jump { place } => use_own(alloc, uses, around, at, offset_of(around.places, place)?),
+        FlatOp::Jump { place } => use_own(
+            alloc,
+            uses,
+            around,
+            at,
+            offset_of(around.places, place)?,
+        ),
         FlatOp::JumpIf { zero: _, place } => use_own(
             alloc,
             uses,

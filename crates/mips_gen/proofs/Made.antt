@@ -1,5 +1,5 @@
 -- The row of a function that is made piece by piece.
-use Rattle.std.proofs.Common.{◌≡◌, ℕ, ◌+◌, ◌*◌, List, ◌++◌, length, sym, ap, ap₂, ◌∙◌, length-append, add_assoc, arith}
+use Rattle.std.proofs.Common.{◌≡◌, ℕ, ◌+◌, ◌*◌, List, ◌++◌, length, ap, ap₂, ◌∙◌, length-append, arith}
 use Rattle.mips_isa.specs.declared.insn.Insn.{Insn}
 use Rattle.slot_ir.specs.declared.code.SlotFunction.{SlotFunction}
 use Rattle.flat_ir.specs.declared.code.FlatOp.{FlatOp}

@@ -16,9 +16,11 @@ use Rattle.flat_gen.specs.Codes.{flat_function}
 use Rattle.gen_parts.specs.Names.{function_name, mover_name, ascending_name, descending_name}
 use Rattle.gen_parts.specs.Uses.{text_use, ops_uses}
 use Rattle.gen_parts.specs.Rows.{row}
+use Rattle.gen_parts.specs.Statics.{program_statics, data_uses}
+use Rattle.ldb_words.specs.declared.kinds.Order.TheVariants.{Little}
 use Rattle.mips_gen.specs.Frames.{prologue}
 use Rattle.mips_gen.specs.Movers.{step_insns, copy_insns, choice_insns, mover_insns, movers_insns}
-use Rattle.mips_gen.specs.Text.{text_bytes, ops_insns, ops_offsets, function_insns, functions_insns, start_insns, program_insns}
+use Rattle.mips_gen.specs.Text.{text_bytes, ops_insns, ops_offsets, function_insns, start_insns, program_insns}
 
 abbrev pub named : (n : ℕ) → (name : List ℕ) → Name
 named n name = record { name = name; at = n * 4 }
@@ -129,15 +131,13 @@ program_rows slots c = functions_rows (functions_at c) slots c.functions
 
 -- ---- the object
 
-abbrev pub BeginsWith : (first whole : List Use) → Type 0
-BeginsWith first whole = (rest : List Use) × (whole ≡ first ++ rest)
-
--- The object is that of flat code of a program, whose frames begin with 100 bytes of the target's own. How structs are copied is left open, and so are the static objects and the uses in them, which stand last.
+-- The object is that of flat code of a program, whose frames begin with 100 bytes of the target's own; the uses in the text come before those in the static objects. How structs are copied is left open.
 pub record IsObjectOf (slots : SlotCode) (o : Object) : Type 0 where
   pub flat : FlatCode
   pub flat_functions : flat.functions ≡ map (flat_function 100 slots) slots.functions
   pub main : flat.main ≡ slots.main
   pub text : o.text ≡ text_bytes (program_insns flat)
   pub names : o.names ≡ program_names flat
-  pub uses : BeginsWith (program_uses flat) o.uses
+  pub statics : o.statics ≡ program_statics Little slots
+  pub uses : o.uses ≡ program_uses flat ++ data_uses Little slots
   pub functions : o.functions ≡ program_rows slots.functions flat

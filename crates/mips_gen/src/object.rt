@@ -5,7 +5,9 @@ ghost use Rattle.mips_gen.specs.Text.{text_bytes, ops_insns, ops_offsets, functi
 ghost use Rattle.mips_gen.specs.Movers.{mover_insns, movers_insns};
 ghost use Rattle.gen_parts.specs.Names.{function_name as name_of_function};
 ghost use Rattle.gen_parts.specs.Rows.{row};
-ghost use Rattle.mips_gen.specs.Parts.{named, jump_use, mover_uses, mover_names, movers_uses, movers_names, function_uses, function_row, saved_registers, functions_uses, functions_names, functions_rows, program_uses, program_names, program_rows, BeginsWith, IsObjectOf};
+ghost use Rattle.gen_parts.specs.Statics.{program_statics, data_uses};
+ghost use Rattle.ldb_words.specs.declared.kinds.Order.TheVariants.{Little as the_order};
+ghost use Rattle.mips_gen.specs.Parts.{named, jump_use, mover_uses, mover_names, movers_uses, movers_names, function_uses, function_row, saved_registers, functions_uses, functions_names, functions_rows, program_uses, program_names, program_rows, IsObjectOf};
 
 use crate::assemble::text_of;
 use crate::frames::{put_epilogue, put_prologue};
@@ -71,11 +73,7 @@ fn add_start(alloc: Global, parts: &mut Parts, main: u32) -> Result<(), AllocErr
 }
 
 /// The code that copies a struct.
-#[tactic(auto, unfolding(
-    crate::specs::Movers::mover_insns,
-    crate::specs::Parts::mover_uses,
-    crate::specs::Parts::mover_names
-))]
+#[tactic(auto, unfolding(crate::specs::Movers::mover_insns, crate::specs::Parts::mover_uses, crate::specs::Parts::mover_names))]
 fn add_mover(alloc: Global, parts: &mut Parts, number: u32, mover: &Mover) -> Result<(), AllocError>
     ensures code { OnOk result (parts.new.text.code.items ≡ parts.old.text.code.items ++ mover_insns mover.now) }
     ensures uses { OnOk result (parts.new.text.uses.items ≡ parts.old.text.uses.items ++ mover_uses number (length parts.old.text.code.items) mover.now) }
@@ -139,11 +137,7 @@ fn add_row(
 }
 
 /// A function: its code, its uses, its name and its row.
-#[tactic(auto, unfolding(
-    crate::specs::Text::function_insns,
-    crate::specs::Parts::function_uses,
-    crate::specs::Parts::function_row
-))]
+#[tactic(auto, unfolding(crate::specs::Text::function_insns, crate::specs::Parts::function_uses, crate::specs::Parts::function_row))]
 fn add_function(
     alloc: Global,
     parts: &mut Parts,
@@ -203,12 +197,7 @@ fn add_functions(
 }
 
 /// The text, its names and its rows.
-#[tactic(auto, unfolding(
-    crate::specs::Text::program_insns,
-    crate::specs::Parts::program_uses,
-    crate::specs::Parts::program_names,
-    crate::specs::Parts::program_rows
-))]
+#[tactic(auto, unfolding(crate::specs::Text::program_insns, crate::specs::Parts::program_uses, crate::specs::Parts::program_names, crate::specs::Parts::program_rows))]
 fn parts_of(alloc: Global, slots: &SlotCode, flat: &FlatCode) -> Result<Parts, AllocError>
     ensures code { IfOk result (λ p. p.text.code.items ≡ program_insns flat.now) }
     ensures uses { IfOk result (λ p. p.text.uses.items ≡ program_uses flat.now) }
@@ -249,7 +238,8 @@ fn object_of(alloc: Global, slots: &SlotCode, flat: &FlatCode) -> Result<Object,
     ensures target { IfOk result (λ o. o.target ≡ the_target) }
     ensures text { IfOk result (λ o. o.text ≡ text_bytes (program_insns flat.now)) }
     ensures names { IfOk result (λ o. o.names ≡ program_names flat.now) }
-    ensures uses { IfOk result (λ o. BeginsWith (program_uses flat.now) o.uses) }
+    ensures statics { IfOk result (λ o. o.statics ≡ program_statics the_order slots.now) }
+    ensures uses { IfOk result (λ o. o.uses ≡ program_uses flat.now ++ data_uses the_order slots.now) }
     ensures functions { IfOk result (λ o. o.functions ≡ program_rows slots.now.functions flat.now) }
 {
     let data = data_of(alloc, Order::Little, slots)?;

@@ -1,4 +1,8 @@
 // The object of a program.
+ghost use Rattle.std.specs.Prelude.{◌≡◌, IfOk};
+ghost use Rattle.ldb_words.specs.declared.kinds.Order.TheVariants.{Big as the_order};
+ghost use Rattle.machine_state.specs.declared.layout.TheConstants.{SPARC as the_target};
+ghost use Rattle.gen_parts.specs.Statics.{program_statics};
 
 use crate::assemble::text_of;
 use crate::frames::put_prologue;
@@ -166,7 +170,10 @@ fn all_uses(uses: Vec<Use>, data_uses: Vec<Use>) -> Result<Vec<Use>, AllocError>
 }
 
 /// The SPARC object of a program.
-pub fn emit(alloc: Global, slots: &SlotCode) -> Result<Object, AllocError> {
+pub fn emit(alloc: Global, slots: &SlotCode) -> Result<Object, AllocError>
+    ensures target { IfOk result (λ o. o.target ≡ the_target) }
+    ensures statics { IfOk result (λ o. o.statics ≡ program_statics the_order slots.now) }
+{
     let flat = flat_code(alloc, LINKAGE, slots)?;
     let data = data_of(alloc, Order::Big, slots)?;
     let Parts { text, names, rows } = parts_of(alloc, slots, &flat)?;

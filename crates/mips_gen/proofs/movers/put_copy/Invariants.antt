@@ -1,4 +1,4 @@
-use Rattle.std.proofs.Common.{◌≡◌, ◌+◌, ◌++◌, length, drop}
+use Rattle.std.proofs.Common.{◌≡◌, ◌++◌, length, drop}
 use Rattle.flat_ir.specs.declared.moves.MoveStep.TheVariants as step
 use Rattle.mips_gen.specs.Movers.{steps_insns}
 use Rattle.mips_gen.specs.Parts.{steps_uses}
