@@ -1,5 +1,5 @@
 -- The lines that are printed.
-use Rattle.std.specs.Prelude.{ℕ, zero, suc, List, [], ◌∷◌, ◌++◌, codes, decimal}
+use Rattle.std.specs.Prelude.{ℕ, zero, suc, Bool, true, false, List, [], ◌∷◌, ◌++◌, codes, decimal}
 use Rattle.ldb_cc.specs.declared.fault.BuildFault.{BuildFault}
 use Rattle.ldb_cc.specs.declared.fault.BuildFault.TheVariants as cause
 
@@ -30,6 +30,11 @@ cause_text names (cause.Unknown name) = codes "unknown " ++ name
 cause_text names cause.NoMain = codes "nomain"
 cause_text names cause.Statics = codes "limit data"
 cause_text names cause.NoMemory = []
+
+-- whether it is a cause of a refusal
+abbrev pub is_refusal : BuildFault → Bool
+is_refusal cause.NoMemory = false
+is_refusal _ = true
 
 abbrev pub refused_line : List (List ℕ) → BuildFault → List ℕ
 refused_line names fault = codes "program refused " ++ (cause_text names fault ++ end)

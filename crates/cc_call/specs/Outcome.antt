@@ -1,18 +1,17 @@
 -- What the call does with a request and the files: a line is printed, and two files are written.
-use Rattle.std.specs.Prelude.{◌≡◌, ◌≢◌, ◌⊎◌, ℕ, List, [], take, Option, Some, Result, Ok, Err}
+use Rattle.std.specs.Prelude.{◌≡◌, ◌⊎◌, ℕ, true, List, [], take, Option, Some, Result, Ok, Err}
 use Rattle.std.specs.FinMap as map
 use Rattle.std.specs.Option.{option_map}
 use Rattle.ldb_edge.specs.Known.{FileMap, known_and}
 use Rattle.obj_file.specs.Image.{ImageFields, image_bytes}
 use Rattle.ldb_cc.specs.declared.fault.BuildFault.{BuildFault}
-use Rattle.ldb_cc.specs.declared.fault.BuildFault.TheVariants as cause
 use Rattle.ldb_cc.specs.Sources.{IsCause}
 use Rattle.ldb_cc.specs.Built.{IsBuilt}
 use Rattle.cc_call.specs.declared.call.Answer.{Answer}
 use Rattle.cc_call.specs.declared.call.Answer.TheVariants.{Built, Refused, Missing}
 use Rattle.cc_call.specs.declared.ended.Fault.{Fault}
 use Rattle.cc_call.specs.Words.{Request}
-use Rattle.cc_call.specs.Lines.{missing_line, refused_line, built_line}
+use Rattle.cc_call.specs.Lines.{missing_line, is_refusal, refused_line, built_line}
 use Rattle.cc_call.specs.Faults.{TakesFront}
 use Rattle.cc_call.specs.Found.{AreRead, IsMissing}
 
@@ -24,7 +23,7 @@ pub record IsRefused (r : Request) (known : FileMap) (line : List ℕ) : Type 0 
   pub read : AreRead known r.sources texts
   pub fault : BuildFault
   pub is_cause : IsCause texts fault
-  pub is_refusal : fault ≢ cause.NoMemory
+  pub is_told : is_refusal fault ≡ true
   pub line_is : line ≡ refused_line r.sources fault
 
 -- the bytes of an image and of a table that are built of the sources

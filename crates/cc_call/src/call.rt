@@ -1,8 +1,16 @@
 // The call.
-ghost use Rattle.std.specs.Prelude.{◌≡◌, length, MatchResult};
+ghost use Rattle.std.specs.Prelude.{◌≡◌, length, map, string_bytes, MatchResult, Some, Ok};
+ghost use Rattle.ldb_edge.specs.Known.{FileMap};
+ghost use Rattle.obj_file.specs.Image.{image_bytes};
+ghost use Rattle.ldb_cc.specs.Scanning.{items_of};
+ghost use Rattle.cc_call.specs.declared.call.Answer.TheVariants.{Refused, Missing};
+ghost use Rattle.cc_call.specs.Words.{seen};
+ghost use Rattle.cc_call.specs.Lines.{missing_line, refused_line};
+ghost use Rattle.cc_call.specs.Found.{AreRead};
+ghost use Rattle.cc_call.specs.Outcome.{IsSaid, Writes, LeavesAll, Leaves};
 ghost use Rattle.cc_call.specs.Faults.{counts, HasCauses, CountsWrite};
 
-use crate::cause::refused_line;
+use crate::cause::{is_refusal, refused_line};
 use crate::ended::Fault;
 use crate::reading::{Found, names_of, read_all};
 use crate::saying::put;
@@ -24,6 +32,7 @@ pub enum Answer {
 
 /// Writes a line, and answers.
 fn say<S: Sink>(transcript: &mut S, line: &[u8], answer: Answer) -> Result<Answer, Fault>
+    ensures said { IsSaid answer line.now (S.taken transcript.old) (S.taken transcript.new) result }
     ensures cause { MatchResult result (λ _. S.faults transcript.new ≡ S.faults transcript.old)
         (CountsWrite (S.faults transcript.old) (S.faults transcript.new)) }
 {
@@ -35,6 +44,7 @@ fn say<S: Sink>(transcript: &mut S, line: &[u8], answer: Answer) -> Result<Answe
 
 /// Says that a file isn't there.
 fn miss<S: Sink>(alloc: Global, transcript: &mut S, name: &str) -> Result<Answer, Fault>
+    ensures said { IsSaid Missing (missing_line name.now) (S.taken transcript.old) (S.taken transcript.new) result }
     ensures cause { MatchResult result (λ _. S.faults transcript.new ≡ S.faults transcript.old)
         (CountsWrite (S.faults transcript.old) (S.faults transcript.new)) }
 {
@@ -51,6 +61,7 @@ fn refuse<S: Sink>(
     names: &[Text],
     fault: &BuildFault,
 ) -> Result<Answer, Fault>
+    ensures said { IsSaid Refused (refused_line names.now fault.now) (S.taken transcript.old) (S.taken transcript.new) result }
     ensures cause { MatchResult result (λ _. S.faults transcript.new ≡ S.faults transcript.old)
         (CountsWrite (S.faults transcript.old) (S.faults transcript.new)) }
 {
@@ -68,6 +79,7 @@ fn write_both<F: Files, S: Sink>(
     files: &mut F,
     transcript: &mut S,
 ) -> Result<Answer, Fault>
+    ensures writes { Writes (seen request.now) (image_bytes built.now.image) built.now.table.items (F.held files.old) (F.held files.new) (S.taken transcript.old) (S.taken transcript.new) result }
     ensures causes { HasCauses result
         (counts (F.read_faults files.old) (F.write_faults files.old) (S.faults transcript.old))
         (counts (F.read_faults files.new) (F.write_faults files.new) (S.faults transcript.new)) }
@@ -76,11 +88,13 @@ fn write_both<F: Files, S: Sink>(
         Ok(image) => image,
         Err(_) => return Err(Fault::NoMemory),
     };
-    if write_file(files, request.image, &image).is_err() {
-        return Err(Fault::Write);
+    match write_file(files, request.image, &image) {
+        Ok(()) => {}
+        Err(_) => return Err(Fault::Write),
     }
-    if write_file(files, request.table, &built.table).is_err() {
-        return Err(Fault::Write);
+    match write_file(files, request.table, &built.table) {
+        Ok(()) => {}
+        Err(_) => return Err(Fault::Write),
     }
     say(transcript, b"built\n", Answer::Built)
 }
@@ -94,6 +108,8 @@ fn with_texts<F: Files, S: Sink>(
     transcript: &mut S,
 ) -> Result<Answer, Fault>
     requires { length texts.now ≡ length request.now.sources.now }
+    ensures leaves { (known : FileMap) → F.held files.old ≡ Some known → AreRead known (map string_bytes request.now.sources.now) (map items_of texts.now) →
+        LeavesAll (seen request.now) known result (S.taken transcript.old) (S.taken transcript.new) (F.held files.new) }
     ensures causes { HasCauses result
         (counts (F.read_faults files.old) (F.write_faults files.old) (S.faults transcript.old))
         (counts (F.read_faults files.new) (F.write_faults files.new) (S.faults transcript.new)) }
@@ -104,7 +120,12 @@ fn with_texts<F: Files, S: Sink>(
     };
     match compile(alloc, request.aim, &names, texts) {
         Ok(built) => write_both(alloc, &built, request, files, transcript),
-        Err(fault) => refuse(alloc, transcript, &names, &fault),
+        Err(fault) => {
+            if !is_refusal(&fault) {
+                return Err(Fault::NoMemory);
+            }
+            refuse(alloc, transcript, &names, &fault)
+        }
     }
 }
 
@@ -115,6 +136,7 @@ pub fn compile_files<F: Files, S: Sink>(
     files: &mut F,
     transcript: &mut S,
 ) -> Result<Answer, Fault>
+    ensures leaves { Leaves (seen request.now) (F.held files.old) (F.held files.new) (S.taken transcript.old) (S.taken transcript.new) result }
     ensures causes { HasCauses result
         (counts (F.read_faults files.old) (F.write_faults files.old) (S.faults transcript.old))
         (counts (F.read_faults files.new) (F.write_faults files.new) (S.faults transcript.new)) }

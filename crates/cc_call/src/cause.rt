@@ -1,10 +1,17 @@
 // The lines that tell why sources are refused.
 ghost use Rattle.std.specs.Prelude.{◌≡◌, ◌++◌, codes, IfOk, OnOk};
-ghost use Rattle.cc_call.specs.Lines.{name_in, place_text, cause_text, refused_line, end};
+ghost use Rattle.cc_call.specs.Lines.{name_in, place_text, cause_text, is_refusal, refused_line, end};
 
 use ldb_cc::BuildFault;
 use ldb_words::Text;
 use std::alloc::{AllocError, Global};
+
+/// Whether a fault is a cause of a refusal: want of memory is none.
+pub fn is_refusal(fault: &BuildFault) -> bool
+    ensures { result ≡ is_refusal fault.now }
+{
+    !matches!(fault, BuildFault::NoMemory)
+}
 
 /// The name of a source.
 fn name_in(names: &[Text], unit: u32) -> &[u8]

@@ -1,8 +1,10 @@
-use Rattle.std.proofs.Common.{◌≡◌, ◌≤◌, ◌-◌, length}
+use Rattle.std.proofs.Common.{◌≡◌, ◌≤◌, ◌-◌, length, take}
+use Rattle.cc_call.specs.Outcome.{with_file}
 use Rattle.cc_call.proofs.writing.write_file.Given as goal
 
 abbrev pub invariant-loop-done : goal.invariant-loop-done
 invariant-loop-done g l = record {
+  held : g.F.Files.held l.files ≡ with_file l.name (take l.done l.bytes) (g.F.Files.held l.fn.files);
   created : g.F.Files.created l.files l.name;
   within : l.done ≤ length l.bytes;
   read : g.F.Files.read_faults l.files ≡ g.F.Files.read_faults l.fn.files;
