@@ -5,7 +5,7 @@ ghost use Rattle.sparc_isa.specs.Condition.{condition_code, condition_of, holds,
 
 /// When a branch is taken or a trap is made, by the codes N, Z, V and C of the last SUBcc. Each but
 /// `Never` and `Always` compares the two operands of that SUBcc, or asks for one of the codes.
-#[derive(Clone, Copy)]
+#[derive(Clone, Copy, Debug)]
 pub enum Condition {
     Never,
     Equal,

@@ -5,7 +5,7 @@ use crate::field::{Displacement22, Displacement30, Immediate22, Register};
 use crate::operand::{Operand, ShiftOperand, TrapOperand};
 
 /// An instruction, with the fields that it uses.
-#[derive(Clone, Copy)]
+#[derive(Clone, Copy, Debug)]
 pub enum Insn {
     /// Call, and leave the address of the call in `%o7`.
     Call {
