@@ -116,11 +116,7 @@ impl Sessions {
     }
 
     /// What a session of messages answers under a schedule. The first byte of each message says to which nub it goes.
-    fn replies(
-        &self,
-        schedule: Vec<Entry>,
-        messages: &[Vec<u8>],
-    ) -> Result<Vec<u8>, AllocError> {
+    fn replies(&self, schedule: Vec<Entry>, messages: &[Vec<u8>]) -> Result<Vec<u8>, AllocError> {
         let alloc = self.alloc;
         let mut out = Vec::new(alloc);
         let images = self.images.as_slice();
