@@ -55,7 +55,12 @@ fn arrays_are_shared(rt: HostRuntime) -> Result<(), Fail> {
     let a = store.make_array(3)?;
     assert!(rt; put_two(&mut store, a, [PsObj::Int(9), PsObj::Mark]));
     assert!(rt; put(&mut store, a, 0, PsObj::Bool(true)));
-    assert!(rt; matches!(store.array_get(a), [PsObj::Bool(true), PsObj::Mark, PsObj::Null]));
+    assert!(rt;
+        matches!(
+            store.array_get(a),
+            [PsObj::Bool(true), PsObj::Mark, PsObj::Null]
+        )
+    );
     Ok(())
 }
 
