@@ -1,6 +1,6 @@
 //! MIPS objects of slot code.
 //!
-//! Proved of `emit`: the object's target; and its text, which is, word for word, the start, the copies of structs and then each function's instructions, operator for operator, as `specs/` defines them for the flat code of each function.
+//! Proved of `emit`: the object's target; and its text, which is, word for word, the start, code for copies of structs and then each function's instructions, operator for operator, as `specs/` defines them for the flat code of each function.
 //!
 //! Its names, uses, rows and static objects are the defined ones too (`specs/Parts`, and `specs/` of `gen_parts`).
 //!
