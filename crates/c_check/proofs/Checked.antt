@@ -1,5 +1,5 @@
 -- What is told of a program is its first fault, and its rows are those of a program without faults.
-use Rattle.std.proofs.Common.{◌≡◌, ℕ, suc, Bool, true, false, List, [], ◌∷◌, map, length, ◌∙◌, sym, refl, ap, subst, Option, Some, None, Result, Ok, Err}
+use Rattle.std.proofs.Common.{◌≡◌, ℕ, suc, Bool, true, false, List, [], ◌∷◌, map, length, ◌∙◌, sym, refl, ap, subst, Option, Some, None, Result, Ok, Err, if◌then◌else◌}
 use Rattle.c_statement.specs.declared.unit.External.{External}
 use Rattle.c_statement.specs.declared.unit.Unit.{Unit as File}
 use Rattle.c_tree.specs.declared.rows.Program.{Program}
@@ -10,17 +10,24 @@ use Rattle.c_check.specs.declared.faults.CheckFault.{CheckFault}
 use Rattle.c_check.specs.declared.faults.CheckFault.TheVariants as code
 use Rattle.c_file.specs.Names.{twice}
 use Rattle.c_file.specs.Files.{State}
-use Rattle.c_file.specs.Programs.{any, many, Told, Well, Lacks, Breaks, Fault, Arguments, Rule, Twice, Undefined, Faults, FaultsAs, AllFiles, tags_of, at_first, ◌before◌, late_found, first_fault, behind_rules, externals_of}
+use Rattle.c_file.specs.Programs.{any, many, Told, Well, Lacks, Breaks, Fault, Arguments, Rule, Twice, Undefined, NoMain, has_main, uncalled, or_name, Faults, FaultsAs, AllFiles, tags_of, at_first, ◌before◌, late_found, first_fault, behind_rules, externals_of}
 use Rattle.c_file.specs.Standing.{Stands, told, LooksThrough}
 use Rattle.c_check.specs.Faulty.{IsTold, IsNotSize, fault_of, Checks}
 use Rattle.c_check.specs.Tables.{IsMade, IsFinished, refused_by}
 
 -- ---- where no fault is told, each name is declared
 
+abbrev missed : Option (List ℕ) → State → Option Fault
+missed o q = elim o as (λ _. Option Fault) [ Some m ↦ Some (Undefined m) | None ↦ if has_main q.definitions then None else Some NoMain ]
+
+some_missed : (n : List ℕ) (q : State) (o : Option (List ℕ)) → missed (or_name o (Some n)) q ≡ None → ⊥
+some_missed n q (Some m) h = absurd (let e : Some (Undefined m) ≡ None = h in cc)
+some_missed n q None h = absurd (let e : Some (Undefined n) ≡ None = h in cc)
+
 lacks : (n : List ℕ) (q : State) → behind_rules (Lacks n) q ≡ None → ⊥
-lacks n q = elim (twice [] q.definitions) as (λ t. (elim t as (λ _. Option Fault) [ Some m ↦ Some (Twice m) | None ↦ Some (Undefined n) ]) ≡ None → ⊥) [
+lacks n q = elim (twice [] q.definitions) as (λ t. (elim t as (λ _. Option Fault) [ Some m ↦ Some (Twice m) | None ↦ missed (or_name (uncalled q q.calls) (Some n)) q ]) ≡ None → ⊥) [
   | Some m ↦ λ h. absurd (let e : Some (Twice m) ≡ None = h in cc)
-  | None ↦ λ h. absurd (let e : Some (Undefined n) ≡ None = h in cc)
+  | None ↦ some_missed n q (uncalled q q.calls)
 ]
 
 all_declared : (o : Option (List ℕ)) (f : Told) (q : State) → first_fault (told o before f) q ≡ None → o ≡ None

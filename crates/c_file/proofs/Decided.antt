@@ -60,6 +60,11 @@ never a name h e = subst IsDecided e h
 pub holds_decided : (b : Bool) (r at : ℕ) → IsDecided (holds b r at)
 holds_decided b r at = if_decided b nothing (Broken r at) tt tt
 
+asked_decided : {A : Type 0} (ok : A → Bool) (r at : ℕ) (a : Answer A) → IsDecided a → IsDecided (asked ok r at a)
+asked_decided ok r at (Known x) h = holds_decided (ok x) r at
+asked_decided ok r at (Unknown name) h = absurd h
+asked_decided ok r at (Broken q i) h = tt
+
 pub constant_decided : (j : Verdict) → IsDecided (constant j)
 constant_decided (Known x) = tt
 constant_decided (Unknown name) = tt
@@ -167,10 +172,10 @@ module _ (v : Environment) where
   value_decided (plain.Pointer t) e = then_decided (constant (judged (scope_of v) e)) _ (constant_decided (judged (scope_of v) e)) (λ c. holds_decided _ 12 (place_of e).at)
   value_decided (plain.Array t n) e = holds_decided _ 13 (place_of e).at
   value_decided (plain.Struct s) e = tt
-  value_decided plain.Char e = then_decided (constant (judged (scope_of v) e)) _ (constant_decided (judged (scope_of v) e)) (λ c. holds_decided _ 11 (place_of e).at)
-  value_decided plain.Int e = then_decided (constant (judged (scope_of v) e)) _ (constant_decided (judged (scope_of v) e)) (λ c. holds_decided _ 11 (place_of e).at)
-  value_decided plain.Unsigned e = then_decided (constant (judged (scope_of v) e)) _ (constant_decided (judged (scope_of v) e)) (λ c. holds_decided _ 11 (place_of e).at)
-  value_decided plain.Void e = then_decided (constant (judged (scope_of v) e)) _ (constant_decided (judged (scope_of v) e)) (λ c. holds_decided _ 11 (place_of e).at)
+  value_decided plain.Char e = asked_decided _ 11 (place_of e).at (constant (judged (scope_of v) e)) (constant_decided (judged (scope_of v) e))
+  value_decided plain.Int e = asked_decided _ 11 (place_of e).at (constant (judged (scope_of v) e)) (constant_decided (judged (scope_of v) e))
+  value_decided plain.Unsigned e = asked_decided _ 11 (place_of e).at (constant (judged (scope_of v) e)) (constant_decided (judged (scope_of v) e))
+  value_decided plain.Void e = asked_decided _ 11 (place_of e).at (constant (judged (scope_of v) e)) (constant_decided (judged (scope_of v) e))
 
   item_decided : (r at : ℕ) (o : Option Plain) (f : Plain → Finding) → ((u : Plain) → IsDecided (f u)) → IsDecided (elim o as (λ _. Finding) [ None ↦ Broken r at | Some u ↦ f u ])
   item_decided r at None f h = tt

@@ -9,7 +9,6 @@ ghost use Rattle.c_scope.specs.Declarators.{denoted};
 ghost use Rattle.c_file.specs.FileNames.{file_name};
 ghost use Rattle.c_file.specs.Files as spec;
 ghost use Rattle.c_file.specs.Files.{is_static, standing, with_name, with_definition, with_strings, after_what, found_as, initial_or_none, declared_found, after_name, all_found, after_all};
-ghost use Rattle.c_scope.specs.Here.{meaning_of};
 ghost use Rattle.c_initial.specs.Initials.{initial_found};
 ghost use Rattle.c_file.specs.Names.{name_found};
 ghost use Rattle.c_file.specs.Progress.{Adds, Turns, with_given};
@@ -17,13 +16,14 @@ ghost use Rattle.c_scope.specs.Shapes.{parameter_of, shape_of};
 ghost use Rattle.c_file.specs.Standing.{awaited};
 ghost use Rattle.c_initial.specs.Starts.{late_place, begins_in};
 ghost use Rattle.c_mentions.specs.Tags.{now};
+ghost use Rattle.c_body.specs.Calls.{called_items};
+ghost use Rattle.c_scope.specs.Here.{environment_of, meaning_of};
 
 use crate::definitions::{Definition, Manner};
 use crate::file_names::FileName;
-use crate::function_rows::{add_calls, add_declarator_calls};
+use crate::function_rows::{add_declarator_calls, add_initial_calls};
 use crate::standing::{is_static, object_standing, object_type, parameter_types};
 use crate::state::{Awaited, Called, Started, State};
-use c_body::called_in_initial;
 use c_declaration::{Declared, Initial, Storage};
 use c_initial::{Initialized, LatePlace, initial};
 use c_judge::{Fault, copied};
@@ -97,13 +97,14 @@ fn add_awaited<'a>(
 
 /// What an initializer gives goes into the program, and its object is defined.
 fn started<'a>(
+    alloc: Global,
     state: &mut State<'a>,
     storage: Storage,
     name: &'a Text,
     given: Initialized<'a>,
-    names: &[&'a Text],
+    i: &'a Initial,
 ) -> Result<(), AllocError>
-    ensures { OnOk result (Turns (with_given (is_static storage) name.now (map late_place given.entry.late.items) (begins_in given.entry.begins.items) (map now given.entry.strings.items) (map now names.now)) state.old state.new) }
+    ensures { OnOk result (Turns (with_given (is_static storage) name.now (map late_place given.entry.late.items) (begins_in given.entry.begins.items) (map now given.entry.strings.items) (called_items (environment_of state.old.here) i.now)) state.old state.new) }
 {
     let Initialized {
         begins,
@@ -112,7 +113,7 @@ fn started<'a>(
     } = given;
     let unit = state.here.unit;
     add_awaited(&mut state.late, unit, &late)?;
-    add_calls(&mut state.calls, &state.here, unit, names)?;
+    add_initial_calls(alloc, &mut state.calls, &state.here, i)?;
     state.strings.extend_from_slice(&strings)?;
     state.starts.push(Started { name, unit, begins })?;
     state.definitions.push(Definition {
@@ -138,11 +139,9 @@ fn initialized<'a>(
     let Ok(first) = u32::try_from(state.strings.len()) else {
         return Err(Fault::NoMemory);
     };
-    let mut names = Vec::new(alloc);
-    called_in_initial(&mut names, &state.here, i)?;
     match initial(alloc, &state.here, first, t, i) {
         Ok(given) => {
-            started(state, storage, name, given, &names)?;
+            started(alloc, state, storage, name, given, i)?;
             Ok(())
         }
         Err(f) => Err(f),

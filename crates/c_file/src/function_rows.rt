@@ -6,13 +6,13 @@ ghost use Rattle.c_file.specs.Made.{Each};
 ghost use Rattle.c_file.specs.Progress.{IsLocalOf, points_of};
 ghost use Rattle.c_file.specs.Standing.{called};
 ghost use Rattle.c_mentions.specs.Tags.{now};
-ghost use Rattle.c_body.specs.Calls.{called_declarator, called_spec};
+ghost use Rattle.c_body.specs.Calls.{called_declarator, called_items, called_spec};
 ghost use Rattle.c_body.specs.Walking.{stop_of};
 ghost use Rattle.c_scope.specs.Here.{environment_of};
 
 use crate::state::Called;
-use c_body::{Stop, called_in_declarator, called_in_spec};
-use c_declaration::{Declarator, FileSpec};
+use c_body::{Stop, called_in_declarator, called_in_initial, called_in_spec};
+use c_declaration::{Declarator, FileSpec, Initial};
 use c_judge::{Symbol, copied};
 use c_scope::Environment;
 use c_tree::{Local, Point};
@@ -132,5 +132,19 @@ pub fn add_spec_calls<'a>(
 {
     let mut names = Vec::new(alloc);
     called_in_spec(&mut names, here, spec)?;
+    add_calls(calls, here, here.unit, &names)
+}
+
+/// Those in what a static object holds at first.
+pub fn add_initial_calls<'a>(
+    alloc: Global,
+    calls: &mut Vec<Called<'a>>,
+    here: &Environment<'a>,
+    i: &'a Initial,
+) -> Result<(), AllocError>
+    ensures { OnOk result (map called calls.new.items ≡ map called calls.old.items ++ called_all here.now.unit (environment_of here.now).visible (called_items (environment_of here.now) i.now)) }
+{
+    let mut names = Vec::new(alloc);
+    called_in_initial(&mut names, here, i)?;
     add_calls(calls, here, here.unit, &names)
 }

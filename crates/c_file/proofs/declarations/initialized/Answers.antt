@@ -17,7 +17,7 @@ returns-in_ok-started-in-Ok-initial c =
     let e = c.in-Ok-initial.ensures in
     let n : c.in-Ok.first ≡ length (map now s.strings.items) = grind (arith, common_steps) in
     given c.args.storage c.args.name.now (plain c.args.t.now) c.args.i.now s c.started.new.state _ _ _ _ e.3
-    (e.1 ∙ ap (λ k. begins_of (environment_of s.here) k (plain c.args.t.now) c.args.i.now) n) e.2 (ap (map now) (sym c.deref-names.ensures.value) ∙ c.in_ok-called_in_initial.ensures) e.0 c.in_ok-started-in-Ok-initial.ensures
+    (e.1 ∙ ap (λ k. begins_of (environment_of s.here) k (plain c.args.t.now) c.args.i.now) n) e.2 refl e.0 c.in_ok-started-in-Ok-initial.ensures
 
 pub returns-in-Err : goal.returns-in-Err
 returns-in-Err c = fails_as (λ p. initial_found p.here (plain c.args.t.now) c.args.i.now) c.args.state.now c.in-Err.f (λ bs. initial_decided (environment_of c.args.state.now.here) (plain c.args.t.now) c.args.i.now) (λ bs. c.in-Err.ensures)
