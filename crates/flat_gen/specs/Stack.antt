@@ -1,10 +1,11 @@
 -- The stack: which frames lie on it, and where each begins.
 use Rattle.std.specs.Prelude.{ℕ, ◌+◌, ◌-◌, Bool, ◌==◌, nat_le, List, [], ◌∷◌, Option, Some, None, slice_get, if◌then◌else◌}
-use Rattle.machine_state.specs.declared.layout.TheConstants.{STACK, FIRST_STACK_POINTER}
+use Rattle.machine_state.specs.declared.layout.TheConstants.{FIRST_STACK_POINTER}
 use Rattle.c_store.specs.Frames.{ActivationRecord}
 use Rattle.slot_ir.specs.Slots.{SlotState, Frame}
 use Rattle.slot_ir.specs.declared.code.SlotCode.{SlotCode}
 use Rattle.slot_ir.specs.declared.code.SlotFunction.{SlotFunction}
+use Rattle.flat_ir.specs.Flat.{lowest_pointer}
 use Rattle.flat_gen.specs.Layout.{layout}
 
 -- an activation by its number and its function, on which its addresses depend alone
@@ -46,6 +47,6 @@ module _ (linkage : ℕ) (c : SlotCode) where
   unfoldable pub pointer_of : List Activation → ℕ
   pointer_of ps = FIRST_STACK_POINTER - used ps
 
-  -- the frames lie in the region of the stack
+  -- there is room on the stack for the frames
   abbrev pub fits : SlotState → Bool
-  fits s = nat_le (used (stack_of s)) (FIRST_STACK_POINTER - STACK)
+  fits s = nat_le (used (stack_of s)) (FIRST_STACK_POINTER - lowest_pointer)

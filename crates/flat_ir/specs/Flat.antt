@@ -120,6 +120,10 @@ unfoldable pub items_apart : (size : ℕ) → ℕ → ℕ → Result ℕ Undef
 items_apart zero a b = Err Division
 items_apart (suc size) a b = Ok (word_of_signed (int_div (signed (difference_of a b)) (pos (suc size))))
 
+-- the lowest stack pointer: the lowest 256 bytes of the stack belong to copies of structs
+abbrev pub lowest_pointer : ℕ
+lowest_pointer = STACK + 256
+
 -- ---- how many machine steps an operator takes at most, on either target
 
 abbrev pub count_of : Setting → FlatOp → ℕ
@@ -216,7 +220,7 @@ module _ (c : FlatCode) (setting : Setting) (s : FlatState) (count : ℕ) where
   -- a new activation, for which there has to be room on the stack
   abbrev pub enters : ℕ → Next FlatState
   enters f =
-      where_ (nat_le (STACK + frame_of c f) s.here.sp)
+      where_ (nat_le (lowest_pointer + frame_of c f) s.here.sp)
       (Goes count (record s {
         here = record { function = f; pc = 0; sp = s.here.sp - frame_of c f; registers = no_registers };
         a = None;
