@@ -1,2 +1,5 @@
 pub mod Layout
 pub mod Codes
+pub mod Stack
+pub mod Locations
+pub mod Stands

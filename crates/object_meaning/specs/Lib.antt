@@ -1,0 +1,5 @@
+pub mod Changes
+pub mod Shown
+pub mod Rows
+pub mod Implements
+pub mod Targets
