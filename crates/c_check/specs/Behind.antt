@@ -1,13 +1,11 @@
 -- What the code finds behind the last file, where it knows the definitions as sets of names.
-use Rattle.std.specs.Prelude.{ℕ, Bool, false, not, ◌&&◌, ◌||◌, ◌==◌, nat_le, if◌then◌else◌, List, [], ◌∷◌, Option, Some, None, option_map}
+use Rattle.std.specs.Prelude.{ℕ, Bool, false, not, ◌&&◌, ◌||◌, ◌==◌, nat_le, List, Option, Some, None, option_map}
 use Rattle.std.specs.List.{find}
 use Rattle.c_file.specs.declared.state.State.{State as Standing}
 use Rattle.c_file.specs.declared.state.Called.{Called as CalledRow}
 use Rattle.c_file.specs.declared.state.Awaited.{Awaited as AwaitedRow}
-use Rattle.c_file.specs.declared.file_names.FileName.{FileName as Row}
 use Rattle.c_check.specs.declared.defined.DefinedNames.{DefinedNames}
 use Rattle.c_file.specs.Names.{FileName, is_built_in}
-use Rattle.c_file.specs.FileNames.{file_name}
 use Rattle.c_file.specs.Files.{Called, Awaited}
 use Rattle.c_check.specs.Sets.{defined_in}
 use Rattle.c_file.specs.Standing.{called, awaited}
