@@ -23,7 +23,6 @@ four_objects = record {
   structs = [];
 }
 
-
 on_mips : program_statics Little four_objects
     ≡ record { name = object_name 0; bytes = 0x61 ∷ [] }
     ∷ record { name = object_name 1; bytes = 2 ∷ 1 ∷ 0 ∷ 0 ∷ [] }
