@@ -9,7 +9,7 @@ use Rattle.ldb_cc.specs.Scanning.{items_of}
 use Rattle.cc_call.specs.declared.reading.Found.{Found}
 use Rattle.cc_call.specs.declared.reading.Found.TheVariants.{All, Missing}
 
--- a text of at most 1,048,576 bytes is all of the file, and a longer one its front
+-- a text of at most 1,048,576 bytes is all of the file; of a longer file something too long was read, and no more than it has
 pub record IsFrontOf (text whole : List ℕ) : Type 0 where
   pub all : length text ≤ 1048576 → text ≡ whole
   pub within : length text ≤ length whole
