@@ -10,7 +10,7 @@ use Rattle.slot_ir.specs.declared.code.SlotLocal.{SlotLocal}
 use Rattle.slot_ir.specs.declared.code.Home.TheVariants.{Block, Register}
 use Rattle.slot_ir.specs.declared.code.Access.TheVariants as access
 use Rattle.slot_ir.specs.declared.code.WordOp.TheVariants as word
-use Rattle.slot_ir.specs.declared.code.SlotOp.TheVariants.{Const, TextAddress, LocalAddress, Load, Store, ReadRegister, Binary, Index, Jump, JumpIfZero, Call, Return, Stop, Zero, Leave, GetChar, PutChar, Exit}
+use Rattle.slot_ir.specs.declared.code.SlotOp.TheVariants.{Const, TextAddress, LocalAddress, Load, Store, ReadRegister, Binary, Index, Jump, JumpIfZero, Call, Return, Stop, Zero, Leave, Move, StaticAddress, Offset, GetChar, PutChar, Exit}
 use Rattle.c_tree.specs.declared.types.Leaf.{Leaf}
 use Rattle.flat_ir.specs.Memory.{Memory, overlaid, number_at, copied, opened, closed}
 use Rattle.flat_ir.specs.Flat.{FlatState, Setting, step, begin, first_memory, on_word, scaled}
@@ -170,3 +170,68 @@ padding_stays m = refl
 overlap_copied : (m : Memory) → copied padded m 32 28 36 ≡ m 32
 unfolding copied
 overlap_copied m = refl
+
+-- ---- a copy and seven arguments in whole programs
+
+-- struct { char c; int x; } s[2]; int main(void) { s[1] = s[0]; return s[1].x; }
+abbrev copying : SlotCode
+copying = record {
+  functions = record {
+    name = codes "main";
+    params = 0;
+    locals = [];
+    temporaries = 2;
+    points = 0 ∷ [];
+    places = 0 ∷ [];
+    code =
+        Stop 0 ∷ StaticAddress 0 0 ∷ Offset 0 8 ∷ StaticAddress 1 0 ∷ Move 0 1 0
+        ∷ StaticAddress 0 0 ∷ Offset 0 12 ∷ Load 0 0 Word access.Word ∷ Exit 0 ∷ [];
+  } ∷ [];
+  main = 0;
+  objects = [];
+  strings = [];
+  structs = [];
+}
+
+abbrev with_struct : Setting → Setting
+with_struct setting = record setting { structs = padded ∷ [] }
+
+copying_exits : exit_of (run (with_struct mips) copying (1 ∷ 0 ∷ 0 ∷ 0 ∷ 42 ∷ 0 ∷ 0 ∷ 0 ∷ 2 ∷ 9 ∷ 9 ∷ 9 ∷ 3 ∷ 0 ∷ 0 ∷ 0 ∷ []) []) ≡ Some (pos 42)
+unfolding overlaid number_at copied opened closed step begin first_memory on_word scaled layout starts_of function_code flat_function
+copying_exits = refl
+
+-- seven arguments, of which the last four are passed in the frame on one target and the last on the other
+abbrev seven_words : List SlotLocal
+seven_words = a_word ∷ a_word ∷ a_word ∷ a_word ∷ a_word ∷ a_word ∷ a_word ∷ []
+
+-- int last(int a, int b, int c, int d, int e, int f, int g) { return g; }  int main(void) { exit(last(1, 2, 3, 4, 5, 6, 7)); }
+abbrev passing : SlotCode
+passing = record {
+  functions =
+      record {
+        name = codes "last";
+        params = 7;
+        locals = seven_words;
+        temporaries = 1;
+        points = 0 ∷ 1 ∷ [];
+        places = 0 ∷ 4 ∷ [];
+        code = Stop 0 ∷ LocalAddress 0 6 ∷ Load 0 0 Word access.Word ∷ Leave 7 ∷ Stop 1 ∷ Return 0 ∷ [];
+      }
+      ∷ record {
+        name = codes "main";
+        params = 0;
+        locals = [];
+        temporaries = 7;
+        points = 2 ∷ [];
+        places = 0 ∷ [];
+        code = Stop 2 ∷ Const 0 1 ∷ Const 1 2 ∷ Const 2 3 ∷ Const 3 4 ∷ Const 4 5 ∷ Const 5 6 ∷ Const 6 7 ∷ Call 0 0 7 ∷ Exit 0 ∷ [];
+      } ∷ [];
+  main = 1;
+  objects = [];
+  strings = [];
+  structs = [];
+}
+
+passing_exits : exit_of (run mips passing [] []) ≡ Some (pos 7)
+unfolding overlaid number_at opened closed step begin first_memory on_word scaled layout starts_of function_code flat_function
+passing_exits = refl

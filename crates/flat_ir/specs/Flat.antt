@@ -136,7 +136,7 @@ count_of setting (Load access) = 2
 count_of setting (Store kind) = 1
 count_of setting (Fill bytes) = 10 + 2 * bytes
 count_of setting (Copy shape) = 55 + 126 * length (leaves_of setting shape)
-count_of setting (ReadRegister register access) = 2
+count_of setting (ReadRegister register access) = 3
 count_of setting (WriteRegister register) = 1
 count_of setting (Extend access) = 2
 count_of setting (Unary op) = 4
@@ -144,7 +144,7 @@ count_of setting (Binary op) = 17
 count_of setting (Scale size back) = 6
 count_of setting (Apart size) = 10
 count_of setting (Jump place) = 2
-count_of setting (JumpIf is_zero place) = 4
+count_of setting (JumpIf is_zero place) = 5
 count_of setting (Pass number at) = 5
 count_of setting (Argument number to) = 5
 count_of setting (Call function) = 30
@@ -264,7 +264,7 @@ module _ (c : FlatCode) (setting : Setting) (s : FlatState) (count : ℕ) where
   act (Put from at) = on (scratch from) (λ w. stores (written_at setting.order s.memory (s.here.sp + at) 4 w))
   act (Load k) = on s.a (λ at. on (read_at setting.order s.memory at (width_by k)) (λ w. sets A (extended k w)))
   act (Store k) = on s.a (λ at. on s.b (λ w. stores (written_at setting.order s.memory at (width_of k) w)))
-  act (Fill n) = on s.a (λ at. where_ (has_room at n && (n % 4 == 0)) (overlays at (replicate n (Known 0))))
+  act (Fill n) = on s.a (λ at. where_ (has_room at n && (n % 4 == 0) && not (n == 0)) (overlays at (replicate n (Known 0))))
   act (Copy k) = on s.a (λ to. on s.b (λ from. copies (leaves_of setting k) to from))
   act (ReadRegister r k) = on (s.here.registers r) (λ w. sets A (extended k w))
   act (WriteRegister r) = on s.a (λ w. Goes count (with_registers (with_register s.here.registers r (Some w))))

@@ -8,6 +8,7 @@ use Rattle.machine_state.specs.Sound.{AreBytes, MayBegin}
 use Rattle.machine_state.specs.State.{MachineState, given_input, order_of_target}
 use Rattle.obj_file.specs.declared.object.Object.{Object}
 use Rattle.obj_file.specs.declared.object.FunctionRow.{FunctionRow}
+use Rattle.obj_file.specs.declared.object.StaticDef.{StaticDef}
 use Rattle.obj_file.specs.Image.{ImageFields}
 use Rattle.runs.specs.Runs.{Next, Goes, Passes, Exits, Undefined, Why, IllTyped, Moment, Outcome, Reached, Breaks, here, after}
 use Rattle.c_store.specs.Assigned.{History, at_stop}
@@ -18,7 +19,7 @@ use Rattle.slot_ir.specs.Begin.{begin, acted}
 use Rattle.targets.specs.Targets.{loaded}
 use Rattle.machine_runs.specs.Watched.{Watched, Change, Debugger, Led, led_after}
 use Rattle.flat_gen.specs.Stack.{fits}
-use Rattle.obj_placed.specs.Placed.{IsPlacing, names_of, address_of, placed_text, placed_statics}
+use Rattle.obj_placed.specs.Placed.{IsPlacing, IsResolved, names_of, address_of, placed_text, placed_statics}
 use Rattle.object_meaning.specs.Changes.{Target, AreSane, changes}
 use Rattle.object_meaning.specs.Rows.{IsRow, AreDisjoint, HasStatics}
 use Rattle.object_meaning.specs.Shown.{behaviour, point_at, Represents, Shows, CanSave}
@@ -177,6 +178,12 @@ started i input = (given_input input (loaded i)).1
 -- machine shows what the slot code does while its frames fit, and nothing else; where they don't it asks for more stack.
 pub record Implements (t : Target) (c : SlotCode) (o : Object) : Type 0 where
   pub target : o.target ≡ t.number
+  -- a linker makes an image of it: its text is of whole words, begins with the name `start`, and each use is found
+  pub text_words : (4 ≤ length o.text) × (length o.text ≤ 2 ^ 24) × (length o.text % 4 ≡ 0)
+  pub text_bytes : AreBytes o.text
+  pub static_bytes : (j : ℕ) (s : StaticDef) → slice_get o.statics j ≡ Some s → AreBytes s.bytes
+  pub start : (addresses : List ℕ) → IsPlacing o.statics addresses → addresses_in o addresses (codes "start") ≡ Some TEXT
+  pub resolved : (addresses : List ℕ) → IsPlacing o.statics addresses → IsResolved (addresses_in o addresses) o
   pub runs : (addresses : List ℕ) (i : ImageFields) → IsPlacing o.statics addresses → IsPlacedImage o addresses i
       → (input : List ℕ) → AreBytes input → length input ≤ 2 ^ 24
       → (h : History) (d : Debugger) → Makes t c o addresses h d input (started i input)
@@ -186,7 +193,7 @@ pub record Implements (t : Target) (c : SlotCode) (o : Object) : Type 0 where
   pub rows : (f : ℕ) (function : SlotFunction) (row : FunctionRow) → slice_get c.functions f ≡ Some function → slice_get o.functions f ≡ Some row → IsRow t c function row
   pub rows_inside : (f : ℕ) (row : FunctionRow) → slice_get o.functions f ≡ Some row → (row.entry ≤ row.end) × (row.end ≤ length o.text)
   pub rows_apart : AreDisjoint o.functions
-  -- a point is a no-op of its own
-  pub points : (f j a : ℕ) (row : FunctionRow) → slice_get o.functions f ≡ Some row → slice_get row.points j ≡ Some a
-      → (a % 4 ≡ 0) × (a + 4 ≤ length o.text) × (number_of (order_of_target o.target) 4 (drop a o.text) ≡ t.no_op)
+  -- a point is a no-op of its own, also once the object is placed
+  pub points : (addresses : List ℕ) → IsPlacing o.statics addresses → (f j a : ℕ) (row : FunctionRow) → slice_get o.functions f ≡ Some row → slice_get row.points j ≡ Some a
+      → (a % 4 ≡ 0) × (a + 4 ≤ length o.text) × (number_of (order_of_target o.target) 4 (drop a (placed_text (addresses_in o addresses) TEXT o)) ≡ t.no_op)
   pub statics : HasStatics c o.statics
