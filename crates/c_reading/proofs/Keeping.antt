@@ -30,9 +30,9 @@ use Rattle.c_typing.specs.Constants as constants
 use Rattle.c_defs.specs.Members.{member_number}
 use Rattle.c_judge.specs.declared.part.Constant.TheVariants as folds
 use Rattle.c_judge.specs.Scope.{Scope, pointed_number}
-use Rattle.c_judge.specs.Answers.{Answer, Known, Unknown, Broken, ◌then◌, two, both_known}
+use Rattle.c_judge.specs.Answers.{Answer, Known, Unknown, Broken, ◌then◌, two, both_known, alone, unless_broken, joint}
 use Rattle.c_judge.specs.Values as values
-use Rattle.c_judge.specs.Judgement.{Judged, value_type_of, object, variable, folded, by_rule, judged, declared, spec_type, unary, sized, cast_to, indexed, prefixed, joined, operation, assigned, member_of, chosen_of, named, leaf_of, register_of, integer_type, rule_of}
+use Rattle.c_judge.specs.Judgement.{Judged, value_type_of, object, variable, folded, by_rule, judged, declared, spec_type, unary, sized, cast_to, indexed, prefixed, joined, operation, assigned, member_of, chosen_of, named, leaf_of, register_of, integer_type, rule_of, index_alone, cast_alone, cast_operand_alone, left_alone, right_alone, scalar_alone, branches_alone}
 use Rattle.c_judge.specs.Forms.{first_of, forbidden_leaf, forbidden_prefix, forbidden_binary, forbidden, forbidden_beside, forbidden_as}
 use Rattle.c_judge.specs.Checks.{IsKnown}
 use Rattle.c_judge.specs.Elaboration.{HasHead, Elaborates, IsUnary, IsPrefixed, IsAssigned, IsOperation, IsJoined, IsParen, IsIndex, IsMember, IsChoice, IsCast, IsSizeOfType, IsConstant, IsLeaf, AreArguments, type_in}
@@ -58,6 +58,14 @@ two_known f (Unknown n) (Known y) j e = unknown_known (Unknown n) j (λ k. k) e
 two_known f (Unknown n) (Unknown m) j e = unknown_known (Unknown n) j (λ k. k) e
 two_known f (Unknown n) (Broken r at) j e = unknown_known (Broken r at) j (λ k. k) e
 two_known f (Broken r at) b j e = unknown_known (Broken r at) j (λ k. k) e
+
+unbroken : {C : Type 0} (at : ℕ) (o : Option ℕ) (k : Answer C) (j : C) → unless_broken at o k ≡ Known j → k ≡ Known j
+unbroken at None k j e = e
+unbroken at (Some r) k j e = unknown_known (Broken r at) j (λ k. k) e
+
+joint_known : {A B C : Type 0} (at : ℕ) (g : A → Option ℕ) (h : B → Option ℕ) (f : A → B → Answer C) (a : Answer A) (b : Answer B) (j : C) → joint at g h f a b ≡ Known j
+    → (x : A) × (y : B) × (a ≡ Known x) × (b ≡ Known y) × (f x y ≡ Known j)
+joint_known at g h f a b j e = two_known f a b j (unbroken at (alone g h a b) (two f a b) j e)
 
 ruled : (r at : ℕ) (f : Plain → Judged) (o : Option Plain) (j : Judged) → by_rule r at f o ≡ Known j → (t : Plain) × (o ≡ Some t) × (f t ≡ j)
 ruled r at f None j e = unknown_known (Broken r at) j (λ k. k) e
@@ -339,7 +347,7 @@ module _ (v : Scope) where
   told (Leaf at kind text) z j e n (i, r) = leaf_told at kind text z j r (head_type (Leaf at kind text) z j i e) e n
   told (Paren at a) z j e n (i, (x, r, k)) = paren_told z x j r (head_type (Paren at a) z j i e) (told a x j e n k)
   told (Index at a b) z j e n (i, (x, y, r, k, l)) =
-      let (p, q, f, g, w) = two_known (indexed s.defs at.at) (judged v a) (judged v b) j e in
+      let (p, q, f, g, w) = joint_known at.at (index_alone s.defs) (index_alone s.defs) (indexed s.defs at.at) (judged v a) (judged v b) j e in
       let o = neither (forbidden a) (forbidden b) n in
       index_told z x y p q j at.at r (head_type (Index at a b) z j i e) w (told a x p f o.0 k) (told b y q g o.1 l)
   told (Call at f) z j e n d = no_some at.at (sym n)
@@ -357,22 +365,22 @@ module _ (v : Scope) where
       let same : p ≡ t = one_known p t (sym f ∙ k) in
       size_type_told t z j at.at r (head_type (SizeofType at q d) z j i e) (subst (λ u. sized s.defs at.at u ≡ Known j) same g)
   told (Cast at q d a) z j e n (i, (x, r, k)) =
-      let (t, p, f, g, w) = two_known (cast_to at.at) (declared v at.at d (Known (spec_type v q))) (judged v a) j e in
+      let (t, p, f, g, w) = joint_known at.at cast_alone cast_operand_alone (cast_to at.at) (declared v at.at d (Known (spec_type v q))) (judged v a) j e in
       let o = neither (forbidden d) (forbidden a) n in
       cast_told z x t p j at.at r (head_type (Cast at q d a) z j i e) w (told a x p g o.1 k)
   told (Binary at w a b) z j e n (i, (x, y, r, k, l)) =
-      let (p, q, f, g, u) = two_known (joined s.defs at.at w) (judged v a) (judged v b) j e in
+      let (p, q, f, g, u) = joint_known at.at (left_alone s.defs w) (right_alone s.defs w) (joined s.defs at.at w) (judged v a) (judged v b) j e in
       let o = neither (forbidden_binary at w) (first_of (forbidden a) (forbidden b)) n in
       let m = neither (forbidden a) (forbidden b) o.1 in
       joined_told w z x y p q j at.at r (head_type (Binary at w a b) z j i e) u (told a x p f m.0 k) (told b y q g m.1 l) at o.0
   told (Choice at c a b) z j e n (i, (w, x, y, r, k, l, m)) =
-      let (pq, d, f, g, u) = two_known (λ p z. chosen_of at.at p.0 p.1 z) (two both_known (judged v c) (judged v a)) (judged v b) j e in
-      let (p, q, f1, f2, same) = two_known both_known (judged v c) (judged v a) pq f in
-      let is : (p, q) ≡ pq = one_known (p, q) pq same in
-      let u' : chosen_of at.at p q d ≡ Known j = subst (λ (h : Judged × Judged). chosen_of at.at h.0 h.1 d ≡ Known j) (sym is) u in
+      let (p, qd, f, g, u) = joint_known at.at scalar_alone branches_alone (λ z p. chosen_of at.at z p.0 p.1) (judged v c) (joint at.at scalar_alone scalar_alone both_known (judged v a) (judged v b)) j e in
+      let (q, d, f1, f2, same) = joint_known at.at scalar_alone scalar_alone both_known (judged v a) (judged v b) qd g in
+      let is : (q, d) ≡ qd = one_known (q, d) qd same in
+      let u' : chosen_of at.at p q d ≡ Known j = subst (λ (h : Judged × Judged). chosen_of at.at p h.0 h.1 ≡ Known j) (sym is) u in
       let o = neither (forbidden c) (first_of (forbidden a) (forbidden b)) n in
       let o2 = neither (forbidden a) (forbidden b) o.1 in
-      choice_told z w x y p q d j at.at r (head_type (Choice at c a b) z j i e) u' (told c w p f1 o.0 k) (told a x q f2 o2.0 l) (told b y d g o2.1 m)
+      choice_told z w x y p q d j at.at r (head_type (Choice at c a b) z j i e) u' (told c w p f o.0 k) (told a x q f1 o2.0 l) (told b y d f2 o2.1 m)
   told _ z j e n d = absurd d
 
   -- ---- a plain assignment
@@ -392,7 +400,7 @@ module _ (v : Scope) where
 
   pub assigns_told : (t : Tree) (z : Typed) (j : Judged) → judged v t ≡ Known j → forbidden_beside t ≡ None → Elaborates v t z → IsAssignment z × KeepsRules s z
   assigns_told (Binary at w a b) z j e n (i, (x, y, r, k, l)) =
-      let (p, q, f, g, u) = two_known (joined s.defs at.at w) (judged v a) (judged v b) j e in
+      let (p, q, f, g, u) = joint_known at.at (left_alone s.defs w) (right_alone s.defs w) (joined s.defs at.at w) (judged v a) (judged v b) j e in
       let o = plainly_assigns w at (first_of (forbidden a) (forbidden b)) n in
       let m = neither (forbidden a) (forbidden b) o.1 in
       assignment_told z x y p q j at.at (subst (λ w. IsJoined w x y z) o.0 r) (head_type (Binary at w a b) z j i e) (subst (λ w. joined s.defs at.at w p q ≡ Known j) o.0 u) (told a x p f m.0 k) (told b y q g m.1 l)
