@@ -14,7 +14,7 @@ pub struct CcRequest<'a> {
 }
 
 /// Whether a name has at most 255 bytes and ends in `.c` after at least one byte.
-fn is_source(name: &[u8]) -> bool
+pub fn is_source(name: &[u8]) -> bool
     ensures { result ≡ is_source name.now }
 {
     name.len() >= 3 && name.len() <= 255 && &name[name.len() - 2..] == ".c".as_bytes()
