@@ -23,7 +23,7 @@ use obj_file::write_image;
 use std::alloc::Global;
 
 /// How the call ended without a fault: both files were written, the sources are refused, or one isn't there.
-#[derive(Clone, Copy, Debug, PartialEq, Eq)]
+#[derive(Clone, Copy)]
 pub enum Answer {
     Built,
     Refused,

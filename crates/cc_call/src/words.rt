@@ -5,7 +5,7 @@ ghost use Rattle.cc_call.specs.Words.{is_source, are_sources, is_count, is_among
 use ldb_cc::Aim;
 
 /// What the words ask for: the target, the names of the two files to be written, and those of the sources.
-#[derive(Clone, Copy, Debug)]
+#[derive(Clone, Copy)]
 pub struct CcRequest<'a> {
     pub aim: Aim,
     pub image: &'a str,
