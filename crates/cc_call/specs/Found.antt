@@ -6,6 +6,7 @@ use Rattle.c_file.specs.Made.{Each}
 use Rattle.ldb_edge.specs.Known.{FileMap}
 use Rattle.ldb_cc.specs.Sources.{IsFirst}
 use Rattle.ldb_cc.specs.Scanning.{items_of}
+use Rattle.cc_call.specs.Lines.{name_in}
 use Rattle.cc_call.specs.declared.reading.Found.{Found}
 use Rattle.cc_call.specs.declared.reading.Found.TheVariants.{All, Missing}
 
@@ -41,3 +42,12 @@ AreFound known names (Missing n) = IsMissing known names n
 abbrev pub IsFoundOf : ℕ → Found → Type 0
 IsFoundOf count (All texts) = length texts.items ≡ count
 IsFoundOf count (Missing n) = n < count
+
+-- of a file that isn't there the files said so
+abbrev pub IsMissedOf : (List ℕ → Type 0) → List (List ℕ) → Found → Type 0
+IsMissedOf missed names (All texts) = Unit {0}
+IsMissedOf missed names (Missing n) = missed (name_in names n)
+
+-- of one of these names the files said that it isn't there
+abbrev pub HasMissed : (List ℕ → Type 0) → List (List ℕ) → Type 0
+HasMissed missed names = (n : ℕ) × (n < length names) × missed (name_in names n)

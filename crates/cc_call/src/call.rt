@@ -1,12 +1,12 @@
 // The call.
-ghost use Rattle.std.specs.Prelude.{◌≡◌, length, map, string_bytes, MatchResult, Some, Ok};
+ghost use Rattle.std.specs.Prelude.{◌≡◌, ◌≢◌, length, map, string_bytes, MatchResult, Some, Ok};
 ghost use Rattle.ldb_edge.specs.Known.{FileMap};
 ghost use Rattle.obj_file.specs.Image.{image_bytes};
 ghost use Rattle.ldb_cc.specs.Scanning.{items_of};
 ghost use Rattle.cc_call.specs.declared.call.Answer.TheVariants.{Refused, Missing};
 ghost use Rattle.cc_call.specs.Words.{seen};
 ghost use Rattle.cc_call.specs.Lines.{missing_line, refused_line};
-ghost use Rattle.cc_call.specs.Found.{AreRead};
+ghost use Rattle.cc_call.specs.Found.{AreRead, HasMissed};
 ghost use Rattle.cc_call.specs.Outcome.{IsSaid, Writes, LeavesAll, Leaves};
 ghost use Rattle.cc_call.specs.Faults.{counts, HasCauses, CountsWrite};
 
@@ -23,7 +23,7 @@ use obj_file::write_image;
 use std::alloc::Global;
 
 /// How the call ended without a fault: both files were written, the sources are refused, or one isn't there.
-#[derive(Clone, Copy, Debug, PartialEq, Eq)]
+#[derive(Clone, Copy)]
 pub enum Answer {
     Built,
     Refused,
@@ -33,6 +33,7 @@ pub enum Answer {
 /// Writes a line, and answers.
 fn say<S: Sink>(transcript: &mut S, line: &[u8], answer: Answer) -> Result<Answer, Fault>
     ensures said { IsSaid answer line.now (S.taken transcript.old) (S.taken transcript.new) result }
+    ensures other { answer ≢ Missing → result ≢ Ok Missing }
     ensures cause { MatchResult result (λ _. S.faults transcript.new ≡ S.faults transcript.old)
         (CountsWrite (S.faults transcript.old) (S.faults transcript.new)) }
 {
@@ -62,6 +63,7 @@ fn refuse<S: Sink>(
     fault: &BuildFault,
 ) -> Result<Answer, Fault>
     ensures said { IsSaid Refused (refused_line names.now fault.now) (S.taken transcript.old) (S.taken transcript.new) result }
+    ensures other { result ≢ Ok Missing }
     ensures cause { MatchResult result (λ _. S.faults transcript.new ≡ S.faults transcript.old)
         (CountsWrite (S.faults transcript.old) (S.faults transcript.new)) }
 {
@@ -80,6 +82,7 @@ fn write_both<F: Files, S: Sink>(
     transcript: &mut S,
 ) -> Result<Answer, Fault>
     ensures writes { Writes (seen request.now) (image_bytes built.now.image) built.now.table.items (F.held files.old) (F.held files.new) (S.taken transcript.old) (S.taken transcript.new) result }
+    ensures other { result ≢ Ok Missing }
     ensures causes { HasCauses result
         (counts (F.read_faults files.old) (F.write_faults files.old) (S.faults transcript.old))
         (counts (F.read_faults files.new) (F.write_faults files.new) (S.faults transcript.new)) }
@@ -110,6 +113,7 @@ fn with_texts<F: Files, S: Sink>(
     requires { length texts.now ≡ length request.now.sources.now }
     ensures leaves { (known : FileMap) → F.held files.old ≡ Some known → AreRead known (map string_bytes request.now.sources.now) (map items_of texts.now) →
         LeavesAll (seen request.now) known result (S.taken transcript.old) (S.taken transcript.new) (F.held files.new) }
+    ensures other { result ≢ Ok Missing }
     ensures causes { HasCauses result
         (counts (F.read_faults files.old) (F.write_faults files.old) (S.faults transcript.old))
         (counts (F.read_faults files.new) (F.write_faults files.new) (S.faults transcript.new)) }
@@ -137,6 +141,7 @@ pub fn compile_files<F: Files, S: Sink>(
     transcript: &mut S,
 ) -> Result<Answer, Fault>
     ensures leaves { Leaves (seen request.now) (F.held files.old) (F.held files.new) (S.taken transcript.old) (S.taken transcript.new) result }
+    ensures missed { result ≡ Ok Missing → HasMissed (F.missed files.new) (map string_bytes request.now.sources.now) }
     ensures causes { HasCauses result
         (counts (F.read_faults files.old) (F.write_faults files.old) (S.faults transcript.old))
         (counts (F.read_faults files.new) (F.write_faults files.new) (S.faults transcript.new)) }

@@ -5,7 +5,7 @@ ghost use Rattle.cc_call.specs.declared.ended.Fault.TheVariants.{NoMemory};
 use std::alloc::{AllocError, AllocFailed};
 
 /// A read failed, a write failed, or no memory was found.
-#[derive(Clone, Copy, Debug, PartialEq, Eq)]
+#[derive(Clone, Copy)]
 pub enum Fault {
     Read,
     Write,

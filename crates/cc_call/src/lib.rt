@@ -11,4 +11,6 @@ mod writing;
 
 pub use call::{Answer, compile_files};
 pub use ended::Fault;
-pub use words::{CcRequest, read_cc};
+pub use reading::read_source;
+pub use saying::put;
+pub use words::{CcRequest, is_source, read_cc};

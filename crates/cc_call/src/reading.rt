@@ -3,7 +3,7 @@ ghost use Rattle.std.specs.Prelude.{◌≡◌, length, map, string_bytes, IfOk, 
 ghost use Rattle.std.specs.FinMap as map_of_files;
 ghost use Rattle.ldb_edge.specs.Known.{FileMap};
 ghost use Rattle.cc_call.specs.Faults.{CountsRead};
-ghost use Rattle.cc_call.specs.Found.{IsFound, AreFound, IsFoundOf};
+ghost use Rattle.cc_call.specs.Found.{IsFound, AreFound, IsFoundOf, IsMissedOf};
 
 use crate::ended::Fault;
 use ldb_edge::{FileErr, Files};
@@ -54,6 +54,7 @@ pub enum Found {
 pub fn read_all<F: Files>(alloc: Global, files: &mut F, names: &[String]) -> Result<Found, Fault>
     ensures found { IfOk result (λ found. (known : FileMap) → F.held files.old ≡ Some known → AreFound known (map string_bytes names.now) found) }
     ensures count { IfOk result (IsFoundOf (length names.now)) }
+    ensures missed { IfOk result (IsMissedOf (F.missed files.new) (map string_bytes names.now)) }
     ensures same { F.held files.new ≡ F.held files.old }
     ensures write_faults { F.write_faults files.new ≡ F.write_faults files.old }
     ensures cause { MatchResult result (λ _. F.read_faults files.new ≡ F.read_faults files.old)

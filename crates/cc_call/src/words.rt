@@ -5,7 +5,7 @@ ghost use Rattle.cc_call.specs.Words.{is_source, are_sources, is_count, is_among
 use ldb_cc::Aim;
 
 /// What the words ask for: the target, the names of the two files to be written, and those of the sources.
-#[derive(Clone, Copy, Debug)]
+#[derive(Clone, Copy)]
 pub struct CcRequest<'a> {
     pub aim: Aim,
     pub image: &'a str,
@@ -14,7 +14,7 @@ pub struct CcRequest<'a> {
 }
 
 /// Whether a name has at most 255 bytes and ends in `.c` after at least one byte.
-fn is_source(name: &[u8]) -> bool
+pub fn is_source(name: &[u8]) -> bool
     ensures { result ≡ is_source name.now }
 {
     name.len() >= 3 && name.len() <= 255 && &name[name.len() - 2..] == ".c".as_bytes()

@@ -2,10 +2,13 @@
 #![tactic(auto)]
 
 mod answers;
+mod linked;
 mod run;
 mod sources;
 
 use answers::{append_causes, append_runs};
+use linked::append_linked;
+use machine_state::{MIPS, SPARC};
 use sources::{Sources, sources_in, sources_named};
 use std::alloc::AllocError;
 use std::io;
@@ -36,6 +39,8 @@ impl Subject for Programs {
                 sources.add(alloc, b"t.c", part(parts, 0))?;
                 append_runs(alloc, &sources, part(parts, 1), out)
             }
+            "linked_mips" => append_linked(alloc, MIPS, parts, out),
+            "linked_sparc" => append_linked(alloc, SPARC, parts, out),
             _ => append_causes(alloc, &sources_in(alloc, parts)?, out),
         }
     }

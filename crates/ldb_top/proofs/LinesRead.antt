@@ -5,10 +5,10 @@ use Rattle.assign_tree.specs.Made.{Tasks}
 use Rattle.ldb_top.specs.Command.{is_quit}
 use Rattle.ldb_top.specs.Follows.{Session}
 use Rattle.ldb_edge.specs.Count.{Rose}
-use Rattle.ldb_top.specs.Faults.{CountsRead, CountsWrite}
+use Rattle.cc_call.specs.Faults.{CountsRead, CountsWrite}
 use Rattle.ldb_top.specs.Talk.{IsServed, CountsFaults}
-use Rattle.ldb_top.specs.declared.fault.Fault.{Fault}
-use Rattle.ldb_top.specs.declared.fault.Fault.TheVariants.{Read, Write, NoMemory}
+use Rattle.cc_call.specs.declared.ended.Fault.{Fault}
+use Rattle.cc_call.specs.declared.ended.Fault.TheVariants.{Read, Write, NoMemory}
 use Rattle.ldb_top.specs.declared.lines.LineEnd.{LineEnd}
 use Rattle.ldb_top.specs.declared.lines.LineEnd.TheVariants.{Whole, Last, Cut}
 use Rattle.ldb_top.specs.declared.serving.Reading.{Reading}

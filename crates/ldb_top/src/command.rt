@@ -21,7 +21,7 @@ pub enum Asked {
 }
 
 /// Why a line gave no command.
-#[derive(Clone, Copy, Debug, PartialEq, Eq)]
+#[derive(Clone, Copy)]
 pub enum CmdFault {
     Line,
     NoMemory,

@@ -7,11 +7,12 @@ use ldb_top::{Status, ldb};
 use std::alloc::{AllocError, Global};
 use test_rows::{append, append_escaped, part};
 
-/// What the rows said last: the program in `a.c`, the words, the commands, and transcripts, of which the first is the right one and the others are those where a command finds no memory.
+/// What the rows said last: the program in `a.c`, names and texts of other files, the words, the commands, and transcripts, of which the first is the right one and the others are those where a command finds no memory.
 #[derive(Drop)]
 pub struct Sessions {
     alloc: Global,
     program: Vec<u8>,
+    others: Vec<(Vec<u8>, Vec<u8>)>,
     words: Vec<u8>,
     commands: Vec<u8>,
     told: Vec<Vec<u8>>,
@@ -44,40 +45,62 @@ impl Source for SingleBytes {
     }
 }
 
+/// Appends at most so many bytes of a file, or that it isn't there.
+fn append_file(
+    alloc: Global,
+    held: Option<&[u8]>,
+    most: usize,
+    out: &mut Vec<u8>,
+) -> Result<(), AllocError> {
+    append(out, " ")?;
+    match held {
+        Some(bytes) => append_escaped(alloc, out, bytes.get(..most).unwrap_or(bytes)),
+        None => append(out, "none"),
+    }
+}
+
 impl Sessions {
     pub fn new(alloc: Global) -> Sessions {
         Sessions {
             alloc,
             program: Vec::new(alloc),
+            others: Vec::new(alloc),
             words: Vec::new(alloc),
             commands: Vec::new(alloc),
             told: Vec::new(alloc),
         }
     }
 
-    fn word_list(&self) -> Result<Vec<String>, AllocError> {
+    /// The words, with that of a target in the place of `TARGET`.
+    fn word_list(&self, target: &str) -> Result<Vec<String>, AllocError> {
         let mut list = Vec::new(self.alloc);
         let words = std::str::from_utf8(&self.words).unwrap_or("");
         for word in words.split(' ') {
+            let word = if word == "TARGET" { target } else { word };
             list.push(String::from_str(self.alloc, word)?)?;
         }
         Ok(list)
     }
 
-    /// The source file `a.c` and an empty input file.
+    /// The source file `a.c`, an empty input file, and the other files.
     fn files(&self, fails: Vec<u64>) -> Result<MemFiles, AllocError> {
         let alloc = self.alloc;
         let mut rows = Vec::new(alloc);
         let program = Vec::from_slice(alloc, &self.program)?;
         rows.push((String::from_str(alloc, "a.c")?, program))?;
         rows.push((String::from_str(alloc, "in")?, Vec::new(alloc)))?;
+        for (name, text) in &self.others {
+            let name = std::str::from_utf8(name).unwrap_or("");
+            let text = Vec::from_slice(alloc, text)?;
+            rows.push((String::from_str(alloc, name)?, text))?;
+        }
         Ok(MemFiles::new(rows, fails))
     }
 
     /// A session in which these calls of the files, of the commands and of the transcript fail; its commands come byte by byte, or as much as is asked for.
     fn outcome(&self, fails: [&[u8]; 3], by_bytes: bool) -> Result<Outcome, AllocError> {
         let alloc = self.alloc;
-        let list = self.word_list()?;
+        let list = self.word_list("mips")?;
         let mut files = self.files(calls_of(alloc, fails[0])?)?;
         let commands = Vec::from_slice(alloc, &self.commands)?;
         let mut source = MemSource::new(commands, calls_of(alloc, fails[1])?);
@@ -123,7 +146,15 @@ impl Sessions {
         let text = part(parts, 0);
         let held = Vec::from_slice(self.alloc, text)?;
         match kind {
-            "program" => self.program = held,
+            "program" => {
+                self.others.clear();
+                self.program = held;
+            }
+            "file" => {
+                let name = Vec::from_slice(self.alloc, text)?;
+                let text = Vec::from_slice(self.alloc, part(parts, 1))?;
+                self.others.push((name, text))?;
+            }
             "words" => self.words = held,
             "commands" => self.commands = held,
             "told" => {
@@ -133,9 +164,43 @@ impl Sessions {
             "or" => {
                 self.told.push(held)?;
             }
+            "compiled" => return self.append_compiled([text, part(parts, 1)], out),
             _ => return self.append_session(kind, text, out),
         }
         Ok(())
+    }
+
+    /// Appends what a call with the word of this target came to: its status and transcript, the first twelve bytes of the file `image`, and the file `table`.
+    fn append_call(
+        &self,
+        target: &str,
+        fails: [&[u8]; 2],
+        out: &mut Vec<u8>,
+    ) -> Result<(), AllocError> {
+        let alloc = self.alloc;
+        let list = self.word_list(target)?;
+        let mut files = self.files(calls_of(alloc, fails[0])?)?;
+        let mut source = MemSource::new(Vec::new(alloc), Vec::new(alloc));
+        let mut sink = MemSink::new(Vec::new(alloc), calls_of(alloc, fails[1])?);
+        let status = ldb(alloc, &list, &mut files, &mut source, &mut sink);
+        append(out, format!(in alloc; "{status:?} ")?.as_str())?;
+        append_escaped(alloc, out, sink.bytes())?;
+        append_file(alloc, files.get("image"), 12, out)?;
+        append_file(alloc, files.get("table"), usize::MAX, out)
+    }
+
+    /// Appends what calls for both targets came to, of which these calls of the files and of the transcript fail; that for SPARC where it is another.
+    fn append_compiled(&self, fails: [&[u8]; 2], out: &mut Vec<u8>) -> Result<(), AllocError> {
+        let mut mips = Vec::new(self.alloc);
+        self.append_call("mips", fails, &mut mips)?;
+        let mut sparc = Vec::new(self.alloc);
+        self.append_call("sparc", fails, &mut sparc)?;
+        out.extend_from_slice(&mips)?;
+        if mips == sparc {
+            return Ok(());
+        }
+        append(out, " and ")?;
+        out.extend_from_slice(&sparc)
     }
 
     /// Appends the status of a session, and its transcript and output, or whether the transcript is told.

@@ -1,6 +1,7 @@
-use Rattle.std.proofs.Common.{◌∙◌, subst}
+use Rattle.std.proofs.Common.{◌∙◌, Ok, ap, subst}
 use Rattle.std.specs.FinMap as map
 use Rattle.cc_call.specs.Found.{IsFound}
+use Rattle.cc_call.proofs.Named.{name_read}
 use Rattle.cc_call.proofs.ReadAll.{missing_read, read_more, one_longer}
 use Rattle.cc_call.proofs.reading.read_all.Goals as goal
 
@@ -8,6 +9,12 @@ pub returns-in-Ok-None-clause-found : goal.returns-in-Ok-None-clause-found
 returns-in-Ok-None-clause-found g c = λ known h.
     missing_read known c.args.names.now c.loop-i.i c.index-names-i.result c.as_str.result.now c.loop-i.texts.items c.loop-i-test.true c.index-names-i.is c.as_str.ensures.value (c.loop-i.invariant.read_so_far known h)
     (subst (IsFound (map.get known c.as_str.result.now)) c.in-Ok-None.field-0-is (c.in-Ok-None.ensures.found known (c.loop-i.invariant.same ∙ h)))
+
+pub returns-in-Ok-None-clause-missed : goal.returns-in-Ok-None-clause-missed
+returns-in-Ok-None-clause-missed g c =
+    subst (g.F.Files.missed c.read_source.new.files)
+    (c.as_str.ensures.value ∙ name_read c.args.names.now c.loop-i.i c.index-names-i.result c.loop-i-test.true c.index-names-i.is)
+    (c.in-Ok-None.ensures.missed (ap Ok c.in-Ok-None.field-0-is))
 
 pub loop-i-preserved : goal.loop-i-preserved
 loop-i-preserved g c = record {
