@@ -6,6 +6,7 @@ mod joined;
 mod memory;
 mod nomem;
 mod register;
+mod walk;
 mod wire;
 
 pub use alias::Alias;
@@ -13,4 +14,5 @@ pub use joined::Joined;
 pub use memory::{AbsMem, MemFault};
 pub use nomem::NoMem;
 pub use register::Register;
+pub use walk::{Locate, WalkFault, told};
 pub use wire::Wire;
