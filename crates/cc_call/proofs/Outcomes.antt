@@ -1,10 +1,10 @@
 -- What is done, in whole and in part.
 use Rattle.std.proofs.Common.{◌≡◌, ◌<◌, inl, inr, ℕ, zero, suc, true, List, [], ◌∷◌, length, map, take, get_or, Option, Some, Result, Ok, Err, String, string_bytes, refl, sym, ap, ◌∙◌, subst, arith}
-use Rattle.std.proofs.lemmas.List.{take_all}
+use Rattle.std.proofs.lemmas.List.{take_all, length-map}
 use Rattle.std.specs.Prelude.{slice_get}
 use Rattle.std.specs.Global.{Global}
 use Rattle.std.specs.FinMap as files
-use Rattle.ldb_edge.specs.Known.{FileMap}
+use Rattle.ldb_edge.specs.Known.{FileMap, known_and}
 use Rattle.obj_file.specs.Image.{ImageFields, image_bytes}
 use Rattle.ldb_cc.specs.declared.fault.BuildFault.{BuildFault}
 use Rattle.ldb_cc.specs.Sources.{IsCause}
@@ -13,10 +13,11 @@ use Rattle.cc_call.specs.declared.call.Answer.{Answer}
 use Rattle.cc_call.specs.declared.call.Answer.TheVariants.{Built, Refused, Missing}
 use Rattle.cc_call.specs.declared.ended.Fault.{Fault}
 use Rattle.cc_call.specs.Words.{Request}
-use Rattle.cc_call.specs.Lines.{missing_line, is_refusal, refused_line, built_line}
+use Rattle.cc_call.specs.Lines.{name_in, missing_line, is_refusal, refused_line, built_line}
 use Rattle.cc_call.specs.Found.{AreRead, IsMissing}
-use Rattle.cc_call.specs.Outcome.{AreBuilt, with_files, Does, IsStage, LeavesAll, IsSaid, with_file, IsWrittenPart, WritesAs}
+use Rattle.cc_call.specs.Outcome.{AreBuilt, with_files, Does, IsStage, LeavesAll, HasMissed, IsSaid, with_file, IsWrittenPart, WritesAs}
 use Rattle.cc_call.proofs.Fronts.{known_none}
+use Rattle.cc_call.proofs.Named.{name_read}
 
 -- ---- files on the way
 
@@ -82,3 +83,16 @@ pub misses : (r : Request) (known : FileMap) (vs : List (String Global)) (n : �
 misses r known vs n v w s l e b m =
     let same : w ≡ m.text = b ∙ some_same (string_bytes v) m.text (sym (got vs n v l e) ∙ m.is) in
     subst (λ (ns : List (List ℕ)). (k : ℕ) × (q : IsMissing known ns k) × (missing_line w ≡ missing_line q.text) × (known ≡ known)) (sym s) (n, m, ap missing_line same, refl)
+
+-- the files said that the file of the printed name isn't there
+pub misses_one : (missed : List ℕ → Type 0) (vs : List (String Global)) (n : ℕ) (v : String Global) (w : List ℕ) (taken taken' : Option (List ℕ)) (result : Result Answer Fault) → n < length vs → v ≡ get_or vs n v → w ≡ string_bytes v
+    → missed (name_in (map string_bytes vs) n) → IsSaid Missing (missing_line w) taken taken' result → result ≡ Ok Missing → HasMissed missed (map string_bytes vs) taken taken'
+misses_one missed vs n v w taken taken' result l e b m s r =
+    let all : length (map string_bytes vs) ≡ length vs = length-map vs string_bytes in
+    let said : IsSaid Missing (missing_line w) taken taken' (Ok Missing) = subst (IsSaid Missing (missing_line w) taken taken') r s in
+    record {
+      number = n;
+      below = omega (arith, all, l);
+      told = m;
+      line_is = said.1 ∙ ap (λ x. known_and taken (missing_line x)) (b ∙ name_read vs n v l e);
+    }

@@ -47,7 +47,3 @@ IsFoundOf count (Missing n) = n < count
 abbrev pub IsMissedOf : (List ℕ → Type 0) → List (List ℕ) → Found → Type 0
 IsMissedOf missed names (All texts) = Unit {0}
 IsMissedOf missed names (Missing n) = missed (name_in names n)
-
--- of one of these names the files said that it isn't there
-abbrev pub HasMissed : (List ℕ → Type 0) → List (List ℕ) → Type 0
-HasMissed missed names = (n : ℕ) × (n < length names) × missed (name_in names n)

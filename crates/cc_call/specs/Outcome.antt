@@ -1,5 +1,5 @@
 -- What the call does with a request and the files: a line is printed, and two files are written.
-use Rattle.std.specs.Prelude.{◌≡◌, ◌⊎◌, ℕ, true, List, [], take, Option, Some, Result, Ok, Err}
+use Rattle.std.specs.Prelude.{◌≡◌, ◌<◌, ◌⊎◌, ℕ, true, List, [], length, take, Option, Some, Result, Ok, Err}
 use Rattle.std.specs.FinMap as map
 use Rattle.std.specs.Option.{option_map}
 use Rattle.ldb_edge.specs.Known.{FileMap, known_and}
@@ -11,7 +11,7 @@ use Rattle.cc_call.specs.declared.call.Answer.{Answer}
 use Rattle.cc_call.specs.declared.call.Answer.TheVariants.{Built, Refused, Missing}
 use Rattle.cc_call.specs.declared.ended.Fault.{Fault}
 use Rattle.cc_call.specs.Words.{Request}
-use Rattle.cc_call.specs.Lines.{missing_line, is_refusal, refused_line, built_line}
+use Rattle.cc_call.specs.Lines.{name_in, missing_line, is_refusal, refused_line, built_line}
 use Rattle.cc_call.specs.Faults.{TakesFront}
 use Rattle.cc_call.specs.Found.{AreRead, IsMissing}
 
@@ -74,6 +74,13 @@ pub record LeavesAll (r : Request) (known : FileMap) (result : Result Answer Fau
 
 abbrev pub Leaves : Request → Option FileMap → Option FileMap → (taken taken' : Option (List ℕ)) → Result Answer Fault → Type 0
 Leaves r held held' taken taken' result = (known : FileMap) → held ≡ Some known → LeavesAll r known result taken taken' held'
+
+-- of one of these names the files said that it isn't there, and the line says so
+pub record HasMissed (missed : List ℕ → Type 0) (names : List (List ℕ)) (taken taken' : Option (List ℕ)) : Type 0 where
+  pub number : ℕ
+  pub below : number < length names
+  pub told : missed (name_in names number)
+  pub line_is : taken' ≡ known_and taken (missing_line (name_in names number))
 
 -- ---- on the way
 

@@ -6,8 +6,8 @@ ghost use Rattle.ldb_cc.specs.Scanning.{items_of};
 ghost use Rattle.cc_call.specs.declared.call.Answer.TheVariants.{Refused, Missing};
 ghost use Rattle.cc_call.specs.Words.{seen};
 ghost use Rattle.cc_call.specs.Lines.{missing_line, refused_line};
-ghost use Rattle.cc_call.specs.Found.{AreRead, HasMissed};
-ghost use Rattle.cc_call.specs.Outcome.{IsSaid, Writes, LeavesAll, Leaves};
+ghost use Rattle.cc_call.specs.Found.{AreRead};
+ghost use Rattle.cc_call.specs.Outcome.{IsSaid, Writes, LeavesAll, Leaves, HasMissed};
 ghost use Rattle.cc_call.specs.Faults.{counts, HasCauses, CountsWrite};
 
 use crate::cause::{is_refusal, refused_line};
@@ -141,7 +141,7 @@ pub fn compile_files<F: Files, S: Sink>(
     transcript: &mut S,
 ) -> Result<Answer, Fault>
     ensures leaves { Leaves (seen request.now) (F.held files.old) (F.held files.new) (S.taken transcript.old) (S.taken transcript.new) result }
-    ensures missed { result ≡ Ok Missing → HasMissed (F.missed files.new) (map string_bytes request.now.sources.now) }
+    ensures missed { result ≡ Ok Missing → HasMissed (F.missed files.new) (map string_bytes request.now.sources.now) (S.taken transcript.old) (S.taken transcript.new) }
     ensures causes { HasCauses result
         (counts (F.read_faults files.old) (F.write_faults files.old) (S.faults transcript.old))
         (counts (F.read_faults files.new) (F.write_faults files.new) (S.faults transcript.new)) }

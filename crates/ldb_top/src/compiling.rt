@@ -2,7 +2,7 @@
 ghost use Rattle.std.specs.Prelude.{◌≡◌, ◌⊎◌, map, string_bytes};
 ghost use Rattle.ldb_edge.specs.Count.{Rose};
 ghost use Rattle.cc_call.specs.Faults.{counts, NoFault};
-ghost use Rattle.cc_call.specs.Found.{HasMissed};
+ghost use Rattle.cc_call.specs.Outcome.{HasMissed};
 ghost use Rattle.cc_call.specs.Words.{seen};
 ghost use Rattle.ldb_top.specs.Compiles.{Compiles};
 ghost use Rattle.ldb_top.specs.Faultless.{IsAnswer};
@@ -20,7 +20,7 @@ pub fn with_request<F: Files, S: Sink>(
     transcript: &mut S,
 ) -> Status
     ensures compiles { Compiles (seen request.now) (F.held files.old) (F.held files.new) (S.taken transcript.old) (S.taken transcript.new) result }
-    ensures missed { result ≡ Status.NoFile → HasMissed (F.missed files.new) (map string_bytes request.now.sources.now) }
+    ensures missed { result ≡ Status.NoFile → HasMissed (F.missed files.new) (map string_bytes request.now.sources.now) (S.taken transcript.old) (S.taken transcript.new) }
     ensures read_fault { result ≡ Status.ReadFault → Rose (F.read_faults files.old) (F.read_faults files.new) }
     ensures write_fault { result ≡ Status.WriteFault →
         Rose (F.write_faults files.old) (F.write_faults files.new) ⊎ Rose (S.faults transcript.old) (S.faults transcript.new) }

@@ -1,0 +1,34 @@
+-- Words that ask to compile.
+use Rattle.std.proofs.Common.{◌≡◌, ℕ, List, Option, Some, Ok, Err, sym, subst}
+use Rattle.std.specs.Prelude.{IsNone, IfSome}
+use Rattle.ldb_edge.specs.Known.{FileMap}
+use Rattle.cc_call.specs.declared.call.Answer.{Answer}
+use Rattle.cc_call.specs.declared.ended.Fault.{Fault}
+use Rattle.cc_call.specs.Words.{Request}
+use Rattle.cc_call.specs.Outcome.{Leaves}
+use Rattle.ldb_top.specs.declared.status.Status.{Status}
+use Rattle.ldb_top.specs.declared.status.Status.TheVariants.{Words, BadFile}
+use Rattle.ldb_top.specs.Compiles.{Compiles}
+
+-- what an answer leaves
+pub answer_leaves : (r : Request) (held held' : Option FileMap) (taken taken' : Option (List ℕ)) (a b : Answer) → a ≡ b → Leaves r held held' taken taken' (Ok a) → Leaves r held held' taken taken' (Ok b)
+answer_leaves r held held' taken taken' a b e l = subst (λ (x : Answer). Leaves r held held' taken taken' (Ok x)) e l
+
+-- what a fault leaves
+pub fault_leaves : (r : Request) (held held' : Option FileMap) (taken taken' : Option (List ℕ)) (a b : Fault) → a ≡ b → Leaves r held held' taken taken' (Err a) → Leaves r held held' taken taken' (Err b)
+fault_leaves r held held' taken taken' a b e l = subst (λ (x : Fault). Leaves r held held' taken taken' (Err x)) e l
+
+-- a fact of the request that the words are
+pub of_request : (asked : Option Request) (r : Request) (P : Request → Type 0) → asked ≡ Some r → P r → IfSome asked P
+of_request asked r P e p = subst (λ (o : Option Request). IfSome o P) (sym e) p
+
+-- words that are a request are not none
+pub is_asked : (asked : Option Request) (r : Request) → asked ≡ Some r → IsNone asked → ⊥
+is_asked asked r e n = subst (λ (o : Option Request). IsNone o) e n
+
+-- these statuses never come
+pub never_words : (r : Request) (held held' : Option FileMap) (taken taken' : Option (List ℕ)) (status : Status) → Compiles r held held' taken taken' status → status ≡ Words → ⊥
+never_words r held held' taken taken' status c e = subst (Compiles r held held' taken taken') e c
+
+pub never_bad : (r : Request) (held held' : Option FileMap) (taken taken' : Option (List ℕ)) (status : Status) → Compiles r held held' taken taken' status → status ≡ BadFile → ⊥
+never_bad r held held' taken taken' status c e = subst (Compiles r held held' taken taken') e c
