@@ -19,13 +19,9 @@ pub enum LinkFault {
     /// A use does not lie in its text or its object's static bytes, or is none of a word in static bytes.
     Uses,
     /// A name that is used is not defined.
-    Unresolved {
-        name: Text,
-    },
+    Unresolved { name: Text },
     /// A name that is used is defined more than once.
-    Doubled {
-        name: Text,
-    },
+    Doubled { name: Text },
     NoMemory,
 }
 

@@ -125,15 +125,7 @@ fn patch_all<'a>(
     ensures fault { IfErr result (λ f. IsUsesFault (entry_in addresses.now) in_text (length bytes.old) object.now f) }
 {
     for place in object.uses.as_slice() {
-        match patch_here(
-            alloc,
-            addresses,
-            object.target,
-            base,
-            in_text,
-            place,
-            bytes,
-        ) {
+        match patch_here(alloc, addresses, object.target, base, in_text, place, bytes) {
             Ok(()) => {}
             Err(fault) => return Err(fault),
         }
