@@ -1,11 +1,10 @@
 // The image of a checked program.
-ghost use Rattle.std.specs.Prelude.{◌≡◌, true, IfOk};
-ghost use Rattle.ldb_cc.specs.Built.{IsFor, AreAnchorsOf};
+ghost use Rattle.std.specs.Prelude.{IfOk};
+ghost use Rattle.ldb_cc.specs.Built.{IsEmitted, IsImageOf};
 
 use crate::aim::Aim;
 use c_tree::Program;
 use link_image::link;
-use machine_state::TEXT;
 use obj_file::{Image, LoaderRows, Object};
 use slot_gen::lower;
 use slot_ir::SlotCode;
@@ -13,45 +12,28 @@ use slot_run::is_lowerable;
 use std::alloc::{AllocError, Global};
 
 /// The object of a slot code.
-fn object_of(alloc: Global, aim: Aim, code: &SlotCode) -> Result<Object, AllocError> {
+fn object_of(alloc: Global, aim: Aim, code: &SlotCode) -> Result<Object, AllocError>
+    ensures { IfOk result (λ o. IsEmitted aim code.now o) }
+{
     match aim {
         Aim::Mips => mips_gen::emit(alloc, code),
         Aim::Sparc => sparc_gen::emit(alloc, code),
     }
 }
 
-/// Whether an image is for a target and begins with its first word.
-fn is_for(aim: Aim, image: &Image) -> bool
-    ensures { result ≡ true → IsFor aim image.now }
-{
-    image.target() == aim.target_byte() && image.entry() == TEXT
-}
-
-/// Whether there is one anchor for each static object and each string.
-fn are_anchors_of(program: &Program, rows: &LoaderRows) -> bool
-    ensures { result ≡ true → AreAnchorsOf program.now rows.now.anchors }
-{
-    match rows.anchors.len().checked_sub(program.objects.len()) {
-        Some(left) => left == program.strings.len(),
-        None => false,
-    }
-}
-
 /// The image of a program, and the places of its static objects, strings and functions.
-/// That a checked program can be lowered, that the image is the target's and begins with its first word, and that each static object and string has an
-/// anchor, is asked until it is proved; what isn't so is answered as want of memory.
+/// That a checked program can be lowered, and that the object of its slot code keeps what the linker asks, is asked until it is proved; what isn't
+/// so is answered as want of memory.
 pub fn build(alloc: Global, aim: Aim, program: &Program) -> Result<(Image, LoaderRows), AllocError>
-    ensures image { IfOk result (λ built. IsFor aim built.0) }
-    ensures anchors { IfOk result (λ built. AreAnchorsOf program.now built.1.anchors) }
+    ensures { IfOk result (λ built. IsImageOf aim program.now built.0 built.1) }
 {
     if !is_lowerable(alloc, program)? {
         return Err(AllocError);
     }
     let code = lower(alloc, program)?;
     let object = object_of(alloc, aim, &code)?;
-    let (image, rows) = link(alloc, &[object])?;
-    if !is_for(aim, &image) || !are_anchors_of(program, &rows) {
-        return Err(AllocError);
+    match link(alloc, &[object]) {
+        Ok(linked) => Ok(linked),
+        Err(_) => Err(AllocError),
     }
-    Ok((image, rows))
 }

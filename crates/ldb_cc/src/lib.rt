@@ -1,7 +1,7 @@
 //! The compiler: C sources to an image and a table.
 //!
-//! Proved of `compile`: each cause of a refusal is one that the sources have by the definitions, in their order, and what is built is an image of the
-//! target and a table of the stated text, for a program that the sources are. Not claimed: that the image does what the program does, and that
+//! Proved of `compile`: each cause of a refusal is one that the sources have by the definitions, in their order, and what is built is the linked image of
+//! the object of slot code of the program that the sources are, with a table of the stated text. Not claimed: that the image does what the program does, and that
 //! anything but want of memory is never answered as such.
 #![tactic(auto)]
 

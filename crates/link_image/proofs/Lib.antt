@@ -1,1 +1,5 @@
 pub mod Lists
+pub mod Named
+pub mod Uses
+pub mod Placing
+pub mod Image

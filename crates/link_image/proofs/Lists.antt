@@ -1,4 +1,4 @@
--- Names and static objects in two parts.
+-- Static objects in two parts, and texts and static objects behind one another.
 use Rattle.std.proofs.Common.{◌≡◌, ℕ, suc, ◌+◌, ◌-◌, ◌<◌, List, [], ◌∷◌, ◌++◌, length, map, take, drop, get_or, true, false, cond, Option, Some, None, bytes_eq, IsSome, Bool, refl, sym, ap, ap₂, ◌∙◌, if◌then◌else◌, append_assoc, append-nil, length-append, drop-drop, drop_of_length-le, subst, ◌≤◌, arith}
 use Rattle.std.specs.List.{AllByRecursion}
 use Rattle.std.proofs.Math.Seq.{drop-cons}
@@ -9,41 +9,25 @@ use Rattle.obj_file.specs.declared.object.Name.{Name}
 use Rattle.obj_file.specs.declared.object.StaticDef.{StaticDef}
 use Rattle.obj_file.specs.declared.object.Object.{Object}
 use Rattle.obj_file.specs.declared.object.Use.{Use}
-use Rattle.obj_placed.specs.Placed.{IsFound, IsResolved, address_of, named_at, text_names, names_of, all_statics, joined, cut, placed_statics, placed_texts, placed_text, placed_bytes}
+use Rattle.obj_placed.specs.Placed.{all_statics, joined, cut, placed_statics, placed_texts, placed_text, placed_bytes}
 use Rattle.obj_placed.specs.Patched.{patched, patched_by, stands_in}
-use Rattle.link_image.specs.Tables.{HasText, HasStatics, with_names}
 use Rattle.link_image.specs.Linked.{room_of, addresses_from, next_address, anchors_from, linked_address, linked_addresses, linked_text, linked_statics, data_from}
-
--- ---- names
-
-pub names_after : (o : Option ℕ) (ns ms : List (List ℕ × ℕ)) (t : List ℕ) → or_else (or_else o (address_of ns t)) (address_of ms t) ≡ or_else o (address_of (ns ++ ms) t)
-names_after None [] ms t = refl
-names_after (Some x) [] ms t = refl
-names_after (Some x) (n ∷ ns) ms t = or_else_some (cond (bytes_eq n.0 t) (Some n.1) (address_of ns t))
-  where
-    or_else_some : (p : Option ℕ) → or_else (or_else (Some x) p) (address_of ms t) ≡ Some x
-    or_else_some p = refl
-names_after None (n ∷ ns) ms t = by (bytes_eq n.0 t) (names_after None ns ms t)
-  where
-    by : (b : _) → or_else (address_of ns t) (address_of ms t) ≡ address_of (ns ++ ms) t → or_else (cond b (Some n.1) (address_of ns t)) (address_of ms t) ≡ cond b (Some n.1) (address_of (ns ++ ms) t)
-    by true e = refl
-    by false e = e
 
 -- ---- static objects
 
-next_after : (at : ℕ) (ss ts : List StaticDef) → next_address at (ss ++ ts) ≡ next_address (next_address at ss) ts
+pub next_after : (at : ℕ) (ss ts : List StaticDef) → next_address at (ss ++ ts) ≡ next_address (next_address at ss) ts
 next_after at [] ts = refl
 next_after at (s ∷ ss) ts = next_after (at + room_of s) ss ts
 
-addresses_after : (at : ℕ) (ss ts : List StaticDef) → addresses_from at (ss ++ ts) ≡ addresses_from at ss ++ addresses_from (next_address at ss) ts
+pub addresses_after : (at : ℕ) (ss ts : List StaticDef) → addresses_from at (ss ++ ts) ≡ addresses_from at ss ++ addresses_from (next_address at ss) ts
 addresses_after at [] ts = refl
 addresses_after at (s ∷ ss) ts = ap (λ rest. at ∷ rest) (addresses_after (at + room_of s) ss ts)
 
-anchors_after : (at : ℕ) (ss ts : List StaticDef) → anchors_from at (ss ++ ts) ≡ anchors_from at ss ++ anchors_from (next_address at ss) ts
+pub anchors_after : (at : ℕ) (ss ts : List StaticDef) → anchors_from at (ss ++ ts) ≡ anchors_from at ss ++ anchors_from (next_address at ss) ts
 anchors_after at [] ts = refl
 anchors_after at (s ∷ ss) ts = ap (λ rest. (s.name, at) ∷ rest) (anchors_after (at + room_of s) ss ts)
 
-zeros_length : (n : ℕ) → length (zeros n) ≡ n
+pub zeros_length : (n : ℕ) → length (zeros n) ≡ n
 unfolding zeros
 zeros_length n = length-replicate n 0
 
@@ -94,30 +78,6 @@ module _ (f g : List ℕ → Option ℕ) (same : (t : List ℕ) → f t ≡ g t)
 -- the list from an item on
 pub item_of : {T : Type 0} (xs : List T) (i : ℕ) (x : T) → i < length xs → x ≡ get_or xs i x → drop i xs ≡ x ∷ drop (i + 1) xs
 item_of xs i x h e = drop-cons xs i x h ∙ (ap (λ y. y ∷ drop (suc i) xs) (sym e) ∙ ap (λ j. x ∷ drop j xs) (let f : suc i ≡ i + 1 = omega arith in f))
-
-pub texts_step : (f g : List ℕ → Option ℕ) (base size next : ℕ) (o : Object) (names : List Name) (text : List ℕ) (os : List Object) (t : List ℕ) → names ≡ o.names → text ≡ o.text
-    → g t ≡ with_names f (map (named_at base) names) t → size ≡ length text → next ≡ base + size
-    → with_names g (text_names next os) t ≡ with_names f (text_names base (o ∷ os)) t
-texts_step f g base size next o names text os t en et e s n =
-    ap₂ (λ p m. or_else p (address_of (text_names m os) t)) e (n ∙ ap (λ m. base + m) (s ∙ ap length et))
-    ∙ (ap (λ ns. with_names (with_names f (map (named_at base) ns)) (text_names (base + length o.text) os) t) en
-    ∙ names_after (f t) (map (named_at base) o.names) (text_names (base + length o.text) os) t)
-
-pub statics_step : (f g : List ℕ → Option ℕ) (at next : ℕ) (o : Object) (ss : List StaticDef) (os : List Object) (t : List ℕ) → ss ≡ o.statics
-    → g t ≡ with_names f (anchors_from at ss) t → next ≡ next_address at ss
-    → with_names g (anchors_from next (all_statics os)) t ≡ with_names f (anchors_from at (all_statics (o ∷ os))) t
-statics_step f g at next o ss os t es e n =
-    ap₂ (λ p m. or_else p (address_of (anchors_from m (all_statics os)) t)) e n
-    ∙ (names_after (f t) (anchors_from at ss) (anchors_from (next_address at ss) (all_statics os)) t
-    ∙ (ap (λ l. with_names f l t) (sym (anchors_after at ss (all_statics os)))
-    ∙ ap (λ l. with_names f (anchors_from at (l ++ all_statics os)) t) es))
-
-pub names_linked : (e f g : List ℕ → Option ℕ) (os : List Object) (t : List ℕ) → e t ≡ None → f t ≡ with_names e (text_names TEXT os) t → g t ≡ with_names f (anchors_from DATA (all_statics os)) t
-    → g t ≡ linked_address os t
-unfolding linked_address names_of
-names_linked e f g os t none texts statics =
-    statics ∙ (ap (λ o. or_else o (address_of (anchors_from DATA (all_statics os)) t)) (texts ∙ ap (λ o. or_else o (address_of (text_names TEXT os) t)) none)
-    ∙ names_after None (text_names TEXT os) (anchors_from DATA (all_statics os)) t)
 
 pub anchors_step : (before after : List (List ℕ × ℕ)) (at next : ℕ) (o : Object) (ss : List StaticDef) (os : List Object) → ss ≡ o.statics
     → after ≡ before ++ anchors_from at ss → next ≡ next_address at ss
@@ -174,14 +134,3 @@ all_from P xs i x h e p rest = subst (λ l. AllByRecursion P l) (sym (item_of xs
 
 pub all_left : {T : Type 0} (P : T → Type 0) (xs : List T) (i : ℕ) → length xs ≤ i → AllByRecursion P (drop i xs)
 all_left P xs i h = subst (λ l. AllByRecursion P l) (sym (drop_of_length-le xs h)) tt
-
--- ---- uses that are found
-
-module _ (f g : List ℕ → Option ℕ) (same : (t : List ℕ) → f t ≡ g t) where
-  found_same : (in_text : Bool) (size : ℕ) (us : List Use) → AllByRecursion (IsFound f in_text size) us → AllByRecursion (IsFound g in_text size) us
-  found_same in_text size [] h = tt
-  found_same in_text size (u ∷ us) h = ((λ e. let h₀ : _ = h.0 e in (subst IsSome (same u.name) h₀.0, h₀.1)), found_same in_text size us h.1)
-
-  pub all_resolved : (os : List Object) → AllByRecursion (HasText f) os → AllByRecursion (HasStatics f) os → AllByRecursion (IsResolved g) os
-  all_resolved [] h k = tt
-  all_resolved (o ∷ os) h k = (record { text = found_same true (length o.text) o.uses h.0; statics = found_same false (length (joined o.statics)) o.uses k.0 }, all_resolved os h.1 k.1)

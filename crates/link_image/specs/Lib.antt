@@ -1,2 +1,4 @@
 pub mod Linked
+pub mod Conditions
+pub mod Links
 pub mod Tables

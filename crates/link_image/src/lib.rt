@@ -3,7 +3,9 @@
 
 mod addresses;
 mod anchors;
+mod fault;
 mod field;
+mod inside;
 mod linking;
 mod names;
 mod patch;
@@ -12,4 +14,5 @@ mod sizes;
 mod statics;
 mod texts;
 
+pub use fault::LinkFault;
 pub use linking::link;

@@ -1,75 +1,75 @@
 // Objects made into an image.
 
-ghost use Rattle.std.specs.Prelude.{◌≡◌, IfOk};
-ghost use Rattle.std.specs.List.{AllByRecursion};
-ghost use Rattle.machine_state.specs.declared.layout.TheConstants.{TEXT as FIRST_TEXT, DATA as FIRST_STATIC};
-ghost use Rattle.obj_placed.specs.Placed.{IsResolved, all_statics, placed_rows};
-ghost use Rattle.link_image.specs.Linked.{IsFor, linked_address, linked_text, linked_statics, anchors_from};
+ghost use Rattle.std.specs.Prelude.{◌≡◌, ◌⊎◌, ◌≤◌, ◌%◌, ◌^◌, IfOk, IfErr, true, length};
+ghost use Rattle.std.specs.List.{list_all};
+ghost use Rattle.machine_state.specs.declared.layout.TheConstants.{MIPS as KNOWN_MIPS, SPARC as KNOWN_SPARC, TEXT as FIRST_TEXT};
+ghost use Rattle.link_image.specs.Conditions.{is_known, is_for, are_for_one, is_sized, IsFault};
+ghost use Rattle.link_image.specs.Links.{Links};
 
 use crate::anchors::anchors_of;
+use crate::fault::LinkFault;
+use crate::inside::{are_for, have_rows_inside, have_whole_words};
 use crate::names::addresses_of;
 use crate::rows::rows_of;
 use crate::statics::statics_of;
 use crate::texts::text_of;
 use ldb_words::Many;
-use machine_state::{DATA_SIZE, MIPS, SPARC, TEXT};
+use machine_state::TEXT;
 use obj_file::{Image, LoaderRows, Object};
-use std::alloc::{AllocError, Global};
+use std::alloc::Global;
 
 /// How many bytes a text has at most.
 const MOST_TEXT: usize = 0x0100_0000;
 
-/// An image of these parts, which begins with the first word of the text.
-fn image_of(target: u8, text: Vec<u8>, statics: Vec<u8>) -> Result<Image, AllocError>
-    ensures target { IfOk result (λ i. i.target ≡ target) }
-    ensures entry { IfOk result (λ i. i.entry ≡ FIRST_TEXT) }
-    ensures text { IfOk result (λ i. i.text ≡ text.items) }
-    ensures statics { IfOk result (λ i. i.statics ≡ statics.items) }
+/// Whether the texts of objects together may be that of an image.
+fn is_sized(text: &[u8]) -> bool
+    ensures { result ≡ is_sized text.now }
 {
-    let size = text.len();
-    if target != MIPS && target != SPARC {
-        return Err(AllocError);
-    }
-    if size < 4 || size > MOST_TEXT || size % 4 != 0 || statics.len() > DATA_SIZE {
-        return Err(AllocError);
-    }
-    Ok(Image::new(target, TEXT, text, statics))
+    text.len() >= 4 && text.len() <= MOST_TEXT
 }
 
 /// The target that all objects are for.
-fn target_of(objects: &[Object]) -> Result<u8, AllocError>
-    ensures { IfOk result (λ t. AllByRecursion (IsFor t) objects.now) }
+fn target_of(objects: &[Object]) -> Result<u8, LinkFault>
+    ensures one { IfOk result (λ t. are_for_one objects.now ≡ true) }
+    ensures known { IfOk result (λ t. is_known t ≡ true) }
+    ensures each { IfOk result (λ t. list_all (is_for t) objects.now ≡ true) }
+    ensures fault { IfErr result (λ f. IsFault objects.now f) }
 {
-    let Some(first) = objects.first() else {
-        return Err(AllocError);
-    };
-    let target = first.target;
-    for object in objects {
-        if object.target != target {
-            return Err(AllocError);
-        }
+    if objects.is_empty() {
+        return Err(LinkFault::Size);
     }
-    Ok(target)
+    let target = objects[0].target;
+    if are_for(target, objects) {
+        Ok(target)
+    } else {
+        Err(LinkFault::Target)
+    }
 }
 
 /// The image of some objects, which begins with the first word of the text, and where their static objects and functions
-/// stand. Objects that no image can be made of are answered as want of memory.
-pub fn link(alloc: Global, objects: &[Object]) -> Result<(Image, LoaderRows), AllocError>
-    ensures target { IfOk result (λ r. AllByRecursion (IsFor r.0.target) objects.now) }
-    ensures entry { IfOk result (λ r. r.0.entry ≡ FIRST_TEXT) }
-    ensures text { IfOk result (λ r. r.0.text ≡ linked_text objects.now) }
-    ensures statics { IfOk result (λ r. r.0.statics ≡ linked_statics objects.now) }
-    ensures resolved { IfOk result (λ r. AllByRecursion (IsResolved (linked_address objects.now)) objects.now) }
-    ensures anchors { IfOk result (λ r. r.1.anchors ≡ anchors_from FIRST_STATIC (all_statics objects.now)) }
-    ensures functions { IfOk result (λ r. r.1.functions ≡ placed_rows FIRST_TEXT objects.now) }
+/// stand; or what is wrong with the objects, where no image is made of them.
+pub fn link(alloc: Global, objects: &[Object]) -> Result<(Image, LoaderRows), LinkFault>
+    ensures { Links objects.now result }
 {
+    let target = target_of(objects)?;
+    if !have_whole_words(objects) {
+        return Err(LinkFault::Words);
+    }
+    if !have_rows_inside(objects) {
+        return Err(LinkFault::Rows);
+    }
+    let anchors = anchors_of(alloc, objects)?;
+    let functions = rows_of(alloc, objects)?;
     let addresses = addresses_of(alloc, objects)?;
     let text = text_of(alloc, &addresses, objects)?;
+    if !is_sized(&text) {
+        return Err(LinkFault::Size);
+    }
     let statics = statics_of(alloc, &addresses, objects)?;
-    let image = image_of(target_of(objects)?, text, statics)?;
+    let image = Image::new(target, TEXT, text, statics);
     let rows = LoaderRows {
-        anchors: Many::from_vec(anchors_of(alloc, objects)?),
-        functions: Many::from_vec(rows_of(alloc, objects)?),
+        anchors: Many::from_vec(anchors),
+        functions: Many::from_vec(functions),
     };
     Ok((image, rows))
 }

@@ -3,8 +3,8 @@
 ghost use Rattle.std.specs.Prelude.{◌≡◌, ◌++◌, List, ℕ, OnOk, IfOk, map};
 ghost use Rattle.obj_placed.specs.Placed.{named_at, text_names, all_statics};
 ghost use Rattle.machine_state.specs.declared.layout.TheConstants.{TEXT as FIRST_TEXT, DATA as FIRST_STATIC};
-ghost use Rattle.link_image.specs.Tables.{address_in, with_names};
-ghost use Rattle.link_image.specs.Linked.{anchors_from, next_address, linked_address};
+ghost use Rattle.link_image.specs.Tables.{entry_in, seen, linked_entry};
+ghost use Rattle.link_image.specs.Linked.{anchors_from, next_address};
 
 use crate::addresses::Addresses;
 use crate::sizes::{behind, size_of, sum};
@@ -18,7 +18,7 @@ fn add_names<'a>(
     base: u32,
     names: &'a [Name],
 ) -> Result<(), AllocError>
-    ensures { OnOk result ((t : List ℕ) → address_in addresses.new t ≡ with_names (address_in addresses.old) (map (named_at base) names.now) t) }
+    ensures { OnOk result ((t : List ℕ) → entry_in addresses.new t ≡ seen (entry_in addresses.old t) (map (named_at base) names.now) t) }
 {
     for name in names {
         addresses.define(name.name.as_bytes(), sum(base, name.at)?)?;
@@ -28,7 +28,7 @@ fn add_names<'a>(
 
 /// The names of texts, which stand one after another.
 fn add_texts<'a>(addresses: &mut Addresses<'a>, objects: &'a [Object]) -> Result<(), AllocError>
-    ensures { OnOk result ((t : List ℕ) → address_in addresses.new t ≡ with_names (address_in addresses.old) (text_names FIRST_TEXT objects.now) t) }
+    ensures { OnOk result ((t : List ℕ) → entry_in addresses.new t ≡ seen (entry_in addresses.old t) (text_names FIRST_TEXT objects.now) t) }
 {
     let mut base = TEXT;
     for object in objects {
@@ -44,7 +44,7 @@ fn add_statics<'a>(
     first: u32,
     rows: &'a [StaticDef],
 ) -> Result<u32, AllocError>
-    ensures addresses { OnOk result ((t : List ℕ) → address_in addresses.new t ≡ with_names (address_in addresses.old) (anchors_from first rows.now) t) }
+    ensures addresses { OnOk result ((t : List ℕ) → entry_in addresses.new t ≡ seen (entry_in addresses.old t) (anchors_from first rows.now) t) }
     ensures next { IfOk result (λ n. n ≡ next_address first rows.now) }
 {
     let mut at = first;
@@ -60,7 +60,7 @@ fn add_all_statics<'a>(
     addresses: &mut Addresses<'a>,
     objects: &'a [Object],
 ) -> Result<(), AllocError>
-    ensures { OnOk result ((t : List ℕ) → address_in addresses.new t ≡ with_names (address_in addresses.old) (anchors_from FIRST_STATIC (all_statics objects.now)) t) }
+    ensures { OnOk result ((t : List ℕ) → entry_in addresses.new t ≡ seen (entry_in addresses.old t) (anchors_from FIRST_STATIC (all_statics objects.now)) t) }
 {
     let mut at = DATA;
     for object in objects {
@@ -71,7 +71,7 @@ fn add_all_statics<'a>(
 
 /// The address of each name in some objects.
 pub fn addresses_of<'a>(alloc: Global, objects: &'a [Object]) -> Result<Addresses<'a>, AllocError>
-    ensures { IfOk result (λ a. (t : List ℕ) → address_in a t ≡ linked_address objects.now t) }
+    ensures { IfOk result (λ a. (t : List ℕ) → entry_in a t ≡ linked_entry objects.now t) }
 {
     let mut addresses = Addresses::new(alloc);
     add_texts(&mut addresses, objects)?;

@@ -1,13 +1,15 @@
 // Texts and static bytes with each use patched.
 
-ghost use Rattle.std.specs.Prelude.{◌≡◌, ◌+◌, ◌≤◌, ◌++◌, IfOk, OnOk, true, false, length, drop, if◌then◌else◌};
+ghost use Rattle.std.specs.Prelude.{◌≡◌, ◌+◌, ◌≤◌, ◌++◌, IfOk, IfErr, OnOk, true, false, length, drop, if◌then◌else◌};
 ghost use Rattle.std.specs.List.{AllByRecursion};
 ghost use Rattle.machine_state.specs.Regions.{number_of, bytes_of};
 ghost use Rattle.obj_placed.specs.Patched.{patched_at, patched_by, patched, stands_in};
-ghost use Rattle.obj_placed.specs.Placed.{IsFound, joined, placed_text, placed_bytes};
-ghost use Rattle.link_image.specs.Tables.{address_in};
+ghost use Rattle.obj_placed.specs.Placed.{joined, placed_text, placed_bytes};
+ghost use Rattle.link_image.specs.Conditions.{has_form};
+ghost use Rattle.link_image.specs.Tables.{address_in, entry_in, IsTaken, HasText, HasStatics, IsUseFault, IsUsesFault};
 
 use crate::addresses::Addresses;
+use crate::fault::LinkFault;
 use crate::field::{order_of, patched_word};
 use byteorder::{BigEndian, ByteOrder, LittleEndian};
 use ldb_words::Order;
@@ -67,47 +69,66 @@ fn stands_in(in_text: bool, place: &Use) -> bool
     }
 }
 
+/// Whether a use of a form may stand there: in static objects only one of a word may.
+fn has_form(in_text: bool, form: Form) -> bool
+    ensures { result ≡ has_form in_text form }
+{
+    match form {
+        Form::Word => true,
+        Form::High | Form::Low | Form::Jump => in_text,
+    }
+}
+
 /// Patches a use, if it stands there, in bytes that begin at an address.
 fn patch_here<'a>(
+    alloc: Global,
     addresses: &Addresses<'a>,
     target: u8,
     base: u32,
     in_text: bool,
     place: &'a Use,
     bytes: &mut [u8],
-) -> Result<(), AllocError>
+) -> Result<(), LinkFault>
     ensures bytes { OnOk result (bytes.new ≡ (if stands_in in_text place.now then patched_by target base (address_in addresses.now place.now.name) place.now bytes.old else bytes.old)) }
-    ensures found { OnOk result (IsFound (address_in addresses.now) in_text (length bytes.old) place.now) }
+    ensures taken { OnOk result (IsTaken (entry_in addresses.now) in_text (length bytes.old) place.now) }
+    ensures fault { IfErr result (λ f. IsUseFault (entry_in addresses.now) in_text (length bytes.old) place.now f) }
 {
     if !stands_in(in_text, place) {
         return Ok(());
     }
-    if !in_text && place.form != Form::Word {
-        return Err(AllocError);
-    }
-    let Some(address) = addresses.find(place.name.as_bytes()) else {
-        return Err(AllocError);
-    };
     if bytes.len() < place.at as usize + 4 {
-        return Err(AllocError);
+        return Err(LinkFault::Uses);
     }
-    patch(target, base, address, place, bytes);
-    Ok(())
+    if !has_form(in_text, place.form) {
+        return Err(LinkFault::Uses);
+    }
+    match addresses.address_of(alloc, place.name.as_bytes()) {
+        Ok(address) => {
+            patch(target, base, address, place, bytes);
+            Ok(())
+        }
+        Err(fault) => Err(fault),
+    }
 }
 
 /// Patches the uses that stand in the text, or those that do not, in bytes that begin at an address.
 fn patch_all<'a>(
+    alloc: Global,
     addresses: &Addresses<'a>,
     object: &'a Object,
     in_text: bool,
     base: u32,
     bytes: &mut [u8],
-) -> Result<(), AllocError>
+) -> Result<(), LinkFault>
     ensures bytes { OnOk result (bytes.new ≡ patched object.now.target base (address_in addresses.now) in_text object.now.uses bytes.old) }
-    ensures found { OnOk result (AllByRecursion (IsFound (address_in addresses.now) in_text (length bytes.old)) object.now.uses) }
+    ensures taken { OnOk result (AllByRecursion (IsTaken (entry_in addresses.now) in_text (length bytes.old)) object.now.uses) }
+    ensures fault { IfErr result (λ f. IsUsesFault (entry_in addresses.now) in_text (length bytes.old) object.now f) }
 {
     for place in object.uses.as_slice() {
-        patch_here(addresses, object.target, base, in_text, place, bytes)?;
+        match patch_here(alloc, addresses, object.target, base, in_text, place, bytes) {
+            Ok(()) => {}
+            Err(fault) => return Err(fault),
+        }
     }
     Ok(())
 }
@@ -119,12 +140,13 @@ pub fn patched_text<'a>(
     addresses: &Addresses<'a>,
     object: &'a Object,
     base: u32,
-) -> Result<Vec<u8>, AllocError>
+) -> Result<Vec<u8>, LinkFault>
     ensures text { IfOk result (λ v. v.items ≡ placed_text (address_in addresses.now) base object.now) }
-    ensures found { IfOk result (λ _. AllByRecursion (IsFound (address_in addresses.now) true (length object.now.text)) object.now.uses) }
+    ensures taken { IfOk result (λ _. HasText (entry_in addresses.now) object.now) }
+    ensures fault { IfErr result (λ f. IsUsesFault (entry_in addresses.now) true (length object.now.text) object.now f) }
 {
     let mut text = Vec::from_slice(alloc, object.text.as_bytes())?;
-    patch_all(addresses, object, true, base, &mut text)?;
+    patch_all(alloc, addresses, object, true, base, &mut text)?;
     Ok(text)
 }
 
@@ -145,11 +167,12 @@ pub fn patched_statics<'a>(
     alloc: Global,
     addresses: &Addresses<'a>,
     object: &'a Object,
-) -> Result<Vec<u8>, AllocError>
+) -> Result<Vec<u8>, LinkFault>
     ensures bytes { IfOk result (λ v. v.items ≡ placed_bytes (address_in addresses.now) object.now) }
-    ensures found { IfOk result (λ _. AllByRecursion (IsFound (address_in addresses.now) false (length (joined object.now.statics))) object.now.uses) }
+    ensures taken { IfOk result (λ _. HasStatics (entry_in addresses.now) object.now) }
+    ensures fault { IfErr result (λ f. IsUsesFault (entry_in addresses.now) false (length (joined object.now.statics)) object.now f) }
 {
     let mut bytes = joined(alloc, object.statics.as_slice())?;
-    patch_all(addresses, object, false, 0, &mut bytes)?;
+    patch_all(alloc, addresses, object, false, 0, &mut bytes)?;
     Ok(bytes)
 }

@@ -1,14 +1,16 @@
 // The bytes of static objects, each at its address.
 
-ghost use Rattle.std.specs.Prelude.{◌≡◌, ◌-◌, ◌++◌, OnOk, IfOk, length};
+ghost use Rattle.std.specs.Prelude.{◌≡◌, ◌-◌, ◌++◌, List, ℕ, OnOk, IfOk, IfErr, length};
 ghost use Rattle.machine_state.specs.Regions.{zeros};
 ghost use Rattle.machine_state.specs.declared.layout.TheConstants.{DATA as FIRST_STATIC};
 ghost use Rattle.obj_placed.specs.Placed.{all_statics, cut, placed_statics};
 ghost use Rattle.std.specs.List.{AllByRecursion};
-ghost use Rattle.link_image.specs.Tables.{HasStatics, address_in};
+ghost use Rattle.link_image.specs.Conditions.{IsFault};
+ghost use Rattle.link_image.specs.Tables.{HasStatics, address_in, entry_in, linked_entry};
 ghost use Rattle.link_image.specs.Linked.{addresses_from, next_address, data_from};
 
 use crate::addresses::Addresses;
+use crate::fault::LinkFault;
 use crate::patch::patched_statics;
 use crate::sizes::{behind, end_of};
 use machine_state::DATA;
@@ -65,14 +67,19 @@ pub fn statics_of<'a>(
     alloc: Global,
     addresses: &Addresses<'a>,
     objects: &'a [Object],
-) -> Result<Vec<u8>, AllocError>
+) -> Result<Vec<u8>, LinkFault>
+    requires { (t : List ℕ) → entry_in addresses.now t ≡ linked_entry objects.now t }
     ensures bytes { IfOk result (λ v. v.items ≡ data_from 0 (addresses_from FIRST_STATIC (all_statics objects.now)) (placed_statics (address_in addresses.now) objects.now)) }
-    ensures found { IfOk result (λ _. AllByRecursion (HasStatics (address_in addresses.now)) objects.now) }
+    ensures taken { IfOk result (λ _. AllByRecursion (HasStatics (entry_in addresses.now)) objects.now) }
+    ensures fault { IfErr result (λ f. IsFault objects.now f) }
 {
     let mut statics = Vec::new(alloc);
     let mut at = DATA;
     for object in objects {
-        let bytes = patched_statics(alloc, addresses, object)?;
+        let bytes = match patched_statics(alloc, addresses, object) {
+            Ok(bytes) => bytes,
+            Err(fault) => return Err(fault),
+        };
         at = add_statics(&mut statics, at, object.statics.as_slice(), &bytes)?;
     }
     Ok(statics)

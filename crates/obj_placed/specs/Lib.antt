@@ -1,3 +1,4 @@
 pub mod Fields
 pub mod Patched
 pub mod Placed
+pub mod Words

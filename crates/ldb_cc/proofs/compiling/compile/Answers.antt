@@ -1,14 +1,12 @@
-use Rattle.std.proofs.Common.{◌∙◌, length, map, ap}
-use Rattle.std.proofs.lemmas.List.{length-map}
-use Rattle.ldb_cc.specs.Table.{address_of}
+use Rattle.std.proofs.Common.{◌∙◌, List, ℕ, map, ap}
+use Rattle.ldb_cc.specs.Table.{table_text, address_of}
 use Rattle.ldb_cc.proofs.compiling.compile.Goals as goal
 
 pub returns : goal.returns
 returns c = record {
   program = c.in_ok-program.program;
   is_program = c.in_ok-program.ensures;
-  is_for = c.in_ok-image.ensures.image;
-  addresses = map address_of c.as_slice.result.now;
-  one_each = length-map c.as_slice.result.now address_of ∙ (ap length c.as_slice.ensures ∙ c.in_ok-image.ensures.anchors);
-  table_is = c.in_ok-table.ensures;
+  rows = _;
+  image_of = c.in_ok-image.ensures;
+  table_is = c.in_ok-table.ensures ∙ ap (λ (anchors : List (List ℕ × ℕ)). table_text c.args.aim (map address_of anchors)) c.as_slice.ensures;
 }

@@ -1,9 +1,6 @@
-use Rattle.link_image.specs.Linked.{IsFor}
-use Rattle.link_image.proofs.Lists.{all_from, all_left}
+use Rattle.std.proofs.Common.{◌≡◌, rules, length}
+use Rattle.link_image.proofs.Image.{no_texts}
 use Rattle.link_image.proofs.linking.target_of.Goals as goal
 
-pub loop-object-preserved : goal.loop-object-preserved
-loop-object-preserved c = λ all. c.loop-object.invariant (all_from (IsFor c.in-Some.first.now.target) c.args.objects.now c.loop-object.object-index _ c.loop-object-test.true c.object-item.is c.if-object-target.false all)
-
-pub returns : goal.returns
-returns c = c.loop-object.invariant (all_left (IsFor c.in-Some.first.now.target) c.args.objects.now c.loop-object.object-index c.loop-object-test.false)
+pub returns-then-is_empty-clause-fault : goal.returns-then-is_empty-clause-fault
+returns-then-is_empty-clause-fault c = no_texts c.args.objects.now (let none : length c.args.objects.now ≡ 0 = search rules in none)
