@@ -1,6 +1,8 @@
 mod Lists
 mod Sizes
 mod Types
+mod Alignments
+mod Complete
 mod Homes
 mod Good
 mod Names

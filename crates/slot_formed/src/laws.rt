@@ -5,7 +5,6 @@ ghost use Rattle.c_typing.specs.Accepted.{IsAccepted};
 ghost use Rattle.slot_ir.specs.declared.code.SlotCode.{SlotCode};
 ghost use Rattle.slot_ir.specs.WellFormed.{operators_of_a_token, weight_in, IsWellFormed};
 ghost use Rattle.slot_gen.specs.Correct.{IsCodeOf, Lowers};
-ghost use Rattle.slot_formed.specs.Accesses.{IsUniform};
 ghost use Rattle.std.specs.List.{AllByRecursion};
 ghost use Rattle.slot_gen.specs.Rows.{HasRowsOf, IsLowerable};
 ghost use Rattle.slot_formed.specs.Code.{IsComplete, IsProgramCode, program_code};
@@ -23,10 +22,9 @@ pub fn code_of_a_program_is_short()
     code_of_an_expression_is_short();
 }
 
-/// A slot code of an accepted program that is written with at most 40,000 tokens is well formed. Its loads extend a byte and take a word or a pointer whole.
+/// A slot code of an accepted program that is written with at most 40,000 tokens is well formed.
 pub fn code_is_well_formed()
-    ensures formed { (p : Program) (c : SlotCode) → IsAccepted p → IsProgramCode p c → program_tokens p ≤ 40000 → IsWellFormed c }
-    ensures uniform { (p : Program) (c : SlotCode) → IsAccepted p → IsProgramCode p c → IsUniform c }
+    ensures { (p : Program) (c : SlotCode) → IsAccepted p → IsProgramCode p c → program_tokens p ≤ 40000 → IsWellFormed c }
 {
     code_of_a_program_is_short();
     leaves_ascend();

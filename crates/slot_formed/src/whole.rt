@@ -4,7 +4,6 @@ ghost use Rattle.std.specs.List.{AllByRecursion};
 ghost use Rattle.c_typing.specs.Accepted.{IsAccepted};
 ghost use Rattle.slot_ir.specs.WellFormed.{IsWellFormed};
 ghost use Rattle.slot_gen.specs.Correct.{Lowers};
-ghost use Rattle.slot_formed.specs.Accesses.{IsUniform};
 ghost use Rattle.slot_formed.specs.Code.{IsComplete};
 ghost use Rattle.slot_formed.specs.Tokens.{program_tokens};
 
@@ -22,7 +21,6 @@ pub fn lower_accepted(alloc: Global, program: &Program) -> Result<SlotCode, Allo
     requires accepted { IsAccepted program.now }
     requires few { program_tokens program.now ≤ 40000 }
     ensures formed { IfOk result (λ code. IsWellFormed code) }
-    ensures uniform { IfOk result (λ code. IsUniform code) }
     ensures runs { IfOk result (λ code. Lowers program.now code) }
 {
     accepted_programs_are_lowerable();
