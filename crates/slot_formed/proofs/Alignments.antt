@@ -60,29 +60,28 @@ module _ (defs : List StructDef) where
   one_or_four (suc deep) (Struct s) = of_members (alignment_within defs deep) (one_or_four deep) (members_in (slice_get defs s))
 
   -- a type that is not so deep has the same alignment where it is looked at deeper
-  mutual
-    same_alignment : (deep deeper : ℕ) → deep ≤ deeper → (t : CType) → IsWithin defs deep t → alignment_within defs deep t ≡ alignment_within defs deeper t
-    same_alignment zero d le t w = absurd w
-    same_alignment (suc deep) zero le t w = absurd (omega (arith, le))
-    same_alignment (suc deep) (suc d) le Char w = refl
-    same_alignment (suc deep) (suc d) le Int w = refl
-    same_alignment (suc deep) (suc d) le Unsigned w = refl
-    same_alignment (suc deep) (suc d) le Void w = refl
-    same_alignment (suc deep) (suc d) le (Pointer' _ t) w = refl
-    same_alignment (suc deep) (suc d) le (Array' _ t n) w = same_alignment deep d (omega (arith, le)) t w
-    same_alignment (suc deep) (suc d) le (Struct s) w = same_members deep d (omega (arith, le)) (members_in (slice_get defs s)) w
+  same_members : (W : CType → Type 0) (a b : CType → ℕ) → ((t : CType) → W t → a t ≡ b t) → (ms : List Member) → AllByRecursion (λ (m : Member). W m.ctype) ms → alignment_of_members a ms ≡ alignment_of_members b ms
+  same_members W a b same [] w = refl
+  same_members W a b same (m ∷ ms) w = ap (λ x. max x (alignment_of_members a ms)) (same m.ctype w.0) ∙ ap (max (b m.ctype)) (same_members W a b same ms w.1)
 
-    same_members : (deep deeper : ℕ) → deep ≤ deeper → (ms : List Member) → AllByRecursion (λ (m : Member). IsWithin defs deep m.ctype) ms → alignment_of_members (alignment_within defs deep) ms ≡ alignment_of_members (alignment_within defs deeper) ms
-    same_members deep d le [] w = refl
-    same_members deep d le (m ∷ ms) w =
-        ap (λ a. max a (alignment_of_members (alignment_within defs deep) ms)) (same_alignment deep d le m.ctype w.0) ∙ ap (max (alignment_within defs d m.ctype)) (same_members deep d le ms w.1)
+  same_alignment : (deep deeper : ℕ) → deep ≤ deeper → (t : CType) → IsWithin defs deep t → alignment_within defs deep t ≡ alignment_within defs deeper t
+  same_alignment zero d le t w = absurd w
+  same_alignment (suc deep) zero le t w = absurd (omega (arith, le))
+  same_alignment (suc deep) (suc d) le Char w = refl
+  same_alignment (suc deep) (suc d) le Int w = refl
+  same_alignment (suc deep) (suc d) le Unsigned w = refl
+  same_alignment (suc deep) (suc d) le Void w = refl
+  same_alignment (suc deep) (suc d) le (Pointer' _ t) w = refl
+  same_alignment (suc deep) (suc d) le (Array' _ t n) w = same_alignment deep d (omega (arith, le)) t w
+  same_alignment (suc deep) (suc d) le (Struct s) w =
+      same_members (IsWithin defs deep) (alignment_within defs deep) (alignment_within defs d) (same_alignment deep d (omega (arith, le))) (members_in (slice_get defs s)) w
 
   module _ (structs : AllFrom (IsStruct defs) 0 defs) where
     struct_multiple : (deep s : ℕ) → deep ≤ 64 → (o : Option StructDef) → slice_get defs s ≡ o → AllByRecursion (λ (m : Member). IsWithin defs deep m.ctype) (members_in o) → IsMultiple (alignment_of_members (alignment_within defs deep) (members_in o)) (size_in o)
     struct_multiple deep s le None e w = inr refl
     struct_multiple deep s le (Some d) e w =
         let laid = (struct_there defs structs s d e).3 in
-        let same = same_members deep 64 le d.members w in
+        let same = same_members (IsWithin defs deep) (alignment_within defs deep) (alignment_of defs) (same_alignment deep 64 le) d.members w in
         by laid.0 laid.2 same (of_members (alignment_of defs) (one_or_four 64) d.members)
       where
         by : (end : ℕ) → d.size ≡ next_multiple_of end (alignment_of_members (alignment_of defs) d.members) → alignment_of_members (alignment_within defs deep) d.members ≡ alignment_of_members (alignment_of defs) d.members

@@ -26,7 +26,7 @@ use Rattle.slot_gen.specs.Expressions.{is_scalar, access_of, cast_code, load_cod
 use Rattle.slot_formed.proofs.Lists.{no_none, and_parts, or_parts, map_some, below_length}
 use Rattle.slot_formed.proofs.Sizes.{Formed, formed, formed_size, size_plain}
 use Rattle.slot_formed.proofs.Types.{type_formed}
-use Rattle.slot_formed.proofs.Complete.{lvalue_complete}
+use Rattle.slot_formed.proofs.Lvalues.{lvalue_complete}
 use Rattle.slot_formed.proofs.Good.{G, Small, Apart, behind, cast_good, load_good, combine_good, read_good, write_good, update_good, unless_good, choice_good, and_good, or_good}
 use Rattle.slot_formed.proofs.Names.{small_type, binary_apart, integer_target, integer_apart, add_apart, dot_small, arrow_small, registers_in, no_scalar, inside_parens, name_good, addressed, enter_good, member_struct}
 

@@ -32,7 +32,7 @@ use Rattle.slot_ir.specs.declared.code.SlotObject.{SlotObject}
 use Rattle.slot_ir.specs.declared.code.SlotStruct.{SlotStruct}
 use Rattle.slot_ir.specs.declared.code.SlotOp.{SlotOp}
 use Rattle.slot_ir.specs.declared.code.SlotOp.TheVariants as op
-use Rattle.slot_ir.specs.WellFormed.{struct_weight, weight_in, IsAmong, Differ, IsFunction, IsListed, IsWellFormed, NamesWhatIsThere, PlacesOf, EndsBehind, EndsElsewhere}
+use Rattle.slot_ir.specs.WellFormed.{struct_weight, weight_in, IsAmong, Differ, IsFunction, IsListed, IsWellFormed, NamesWhatIsThere, PlacesOf, EndsBehind, IsClosed}
 use Rattle.slot_gen.specs.Expressions.{access_of, registers_from, register_at, register_of}
 use Rattle.slot_gen.specs.Statements.{nowhere, zeros_code, inits_code, stmts_code, zero_code, body_place, end_place, function_code}
 use Rattle.slot_gen.specs.Correct.{HasMain}
@@ -329,8 +329,8 @@ module _ (p : Program) (accepted : IsAccepted p) (ascend : (t : CType) → LieIn
   ends_behind o [] b h = h o
   ends_behind o (x ∷ a) b h = ends_behind x a b h
 
-  ends_elsewhere : EndsElsewhere (function_code p f fn)
-  ends_elsewhere =
+  is_closed : IsClosed (function_code p f fn)
+  is_closed =
       let zeros = zeros_code (declared_in fn.body) in
       let inits = inits_code p f (body_place + length zeros) (declared_in fn.body) in
       let code = stmts_code p f nowhere (outermost_of fn) (body_place + length zeros + length inits) (statements_in fn.body) in
@@ -339,7 +339,7 @@ module _ (p : Program) (accepted : IsAccepted p) (ascend : (t : CType) → LieIn
 
   function_formed : Laid p.defs → (first last : ℕ) → fn.points ≡ first ∷ (points_in fn.body ++ last ∷ []) → AreBelow temps (function_code p f fn) → ArePlaces (function_code p f fn) fn.points placed → IsFunction c row
   function_formed laid first last points below places = (
-    ends_elsewhere,
+    is_closed,
     omega (arith, locals_count p accepted ascend f fn here n size, locals_length p.defs fn.locals rs),
     (mine p accepted ascend f fn here n size).few,
     scalars_there p.defs fn.params fn.locals rs (mine p accepted ascend f fn here n size).scalars,

@@ -2,7 +2,7 @@ mod Lists
 mod Sizes
 mod Types
 mod Alignments
-mod Complete
+mod Lvalues
 mod Homes
 mod Good
 mod Names
@@ -17,3 +17,7 @@ mod Computed
 mod Given
 mod Shapes
 mod StopsOnce
+mod Inside
+mod Quiet
+mod Lands
+mod Passing

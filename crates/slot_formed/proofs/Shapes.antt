@@ -14,7 +14,7 @@ use Rattle.c_tree.specs.Layout.{size_of, size_in, members_in, members_of, IsWith
 use Rattle.std.specs.Int.{next_multiple_of}
 use Rattle.c_tree.specs.Ordered.{LieIn, IsAligned}
 use Rattle.c_tree.proofs.Aligned.{same_leaves}
-use Rattle.std.proofs.Math.Nat.{one-le-mul}
+use Rattle.std.proofs.Math.Nat.{one-le-mul, le-mul_of_pos_right}
 use Rattle.std.specs.Prelude.{nat_le, not, ◌==◌}
 use Rattle.c_typing.specs.Plain.{Struct as AStruct, plain, is_complete, is_empty}
 use Rattle.c_typing.specs.Written.{IsFormed, IsDeclared}
@@ -271,7 +271,8 @@ module _ (c : SlotCode) (defs : List StructDef) (same : c.structs ≡ struct_row
 
     -- a product is no less than a factor where the other is some
     no_less : (a b : ℕ) → 1 ≤ a * b → a ≤ a * b
-    no_less a b h = grind arith
+    no_less a zero h = absurd (omega (arith, h))
+    no_less a (suc b) h = le-mul_of_pos_right a (omega arith)
 
     few_items : ((t : CType) → LieIn 0 (leaves_of defs t) (size_of defs t)) → (t : CType) → IsDeclared defs t → items_of t ≤ 1048576
     few_items ascend t h =
@@ -301,7 +302,7 @@ module _ (c : SlotCode) (defs : List StructDef) (same : c.structs ≡ struct_row
     whole_alone size last (m ∷ k ∷ ms) d h e = tt
     whole_alone size last (m ∷ []) d h e =
         let front : m.at ≡ 0 = lone_at defs m h.0 in
-        let last_is : size_of defs m.ctype ≡ last = subst (λ n. n + size_of defs m.ctype ≡ last) front h.1 in
+        let last_is : size_of defs m.ctype ≡ last = omega (arith, front, h.1) in
         (front, sym (size_is m.ctype) ∙ sym (e ∙ ap (λ n. next_multiple_of n (alignment_of_members (alignment_of defs) (m ∷ []))) (sym last_is) ∙ lone_size defs structs m d.0))
 
     module _ (ascend : (t : CType) → LieIn 0 (leaves_of defs t) (size_of defs t)) (leaves : (t : CType) → IsWithin defs 64 t → AreLeavesOf (size_of defs t) (leaves_of defs t)) where

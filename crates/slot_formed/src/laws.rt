@@ -8,6 +8,7 @@ ghost use Rattle.slot_gen.specs.Correct.{IsCodeOf, Lowers};
 ghost use Rattle.std.specs.List.{AllByRecursion};
 ghost use Rattle.slot_gen.specs.Rows.{HasRowsOf, IsLowerable};
 ghost use Rattle.slot_formed.specs.Code.{IsComplete, IsProgramCode, program_code};
+ghost use Rattle.slot_formed.specs.Passed.{CallsStandBehindTheirPoints};
 ghost use Rattle.slot_formed.specs.Tokens.{program_tokens};
 
 use c_tree::{leaves_are_aligned, leaves_ascend, leaves_fill};
@@ -42,6 +43,11 @@ pub fn accepted_code_keeps_the_run()
     code_takes_few_temporaries();
     slot_code_keeps_the_run();
 }
+
+/// While a call goes on, the calling activation stands behind the point that it passed last: no other stop stands between that of its point and the place where it goes on.
+pub fn calls_stand_behind_their_points()
+    ensures { (p : Program) (c : SlotCode) → IsProgramCode p c → CallsStandBehindTheirPoints c }
+{}
 
 /// An accepted program can be lowered: its structs stand as the layout has them, its objects hold what their types say, and it has a `main` without parameters.
 pub fn accepted_programs_are_lowerable()

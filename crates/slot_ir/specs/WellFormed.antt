@@ -158,24 +158,25 @@ IsLocal l = (1 ≤ length l.leaves) × (l.size ≤ most_static_bytes) × AreLeav
 abbrev pub HaveOwnRegisters : List SlotLocal → Type 0
 HaveOwnRegisters ls = (x y r : ℕ) (l k : SlotLocal) → slice_get ls x ≡ Some l → slice_get ls y ≡ Some k → l.home ≡ Register r → k.home ≡ Register r → x ≡ y
 
--- the operator goes on elsewhere
+-- behind the operator nothing goes on with the next one
 abbrev IsLast : SlotOp → Type 0
 IsLast (Jump place) = Unit {0}
 IsLast (Return d) = Unit {0}
+IsLast (Exit d) = Unit {0}
 IsLast op = ⊥
 
 abbrev pub EndsBehind : SlotOp → List SlotOp → Type 0
 EndsBehind op [] = IsLast op
 EndsBehind op (next ∷ ops) = EndsBehind next ops
 
--- a code has operators, and the last one goes on elsewhere: none runs past its end
-abbrev pub EndsElsewhere : List SlotOp → Type 0
-EndsElsewhere [] = ⊥
-EndsElsewhere (op ∷ ops) = EndsBehind op ops
+-- a code has operators, and none runs past its end
+abbrev pub IsClosed : List SlotOp → Type 0
+IsClosed [] = ⊥
+IsClosed (op ∷ ops) = EndsBehind op ops
 
 abbrev pub IsFunction : SlotCode → SlotFunction → Type 0
 IsFunction c f =
-    EndsElsewhere f.code × (f.params ≤ length f.locals) × (f.params ≤ most_arguments) × AllByRecursion IsScalar (take f.params f.locals) × AllByRecursion IsLocal f.locals
+    IsClosed f.code × (f.params ≤ length f.locals) × (f.params ≤ most_arguments) × AllByRecursion IsScalar (take f.params f.locals) × AllByRecursion IsLocal f.locals
     × HaveOwnRegisters f.locals × AllByRecursion (NamesWhatIsThere c f) f.code × PlacesOf c f f.points f.places × StopsAreListed c f × Differ f.points
 
 -- ---- structs
