@@ -1,5 +1,5 @@
 -- The jumps of an expression lead on inside its code, in which no stop stands.
-use Rattle.std.proofs.Common.{◌≡◌, refl, subst, arith, ℕ, suc, zero, ◌+◌, ◌<◌, ◌≤◌, List, [], ◌∷◌, ◌++◌, length, length-append, Bool, true, false, Option, Some, None, slice_get}
+use Rattle.std.proofs.Common.{◌≡◌, subst, arith, ℕ, suc, zero, ◌+◌, ◌≤◌, List, [], ◌∷◌, ◌++◌, length, length-append, Bool, true, false, Option, Some, None, slice_get}
 use Rattle.std.specs.Prelude.{if◌then◌else◌, bytes_eq, codes}
 use Rattle.std.specs.List.{AllByRecursion}
 use Rattle.c_tree.specs.declared.types.CType.{CType}

@@ -1,5 +1,5 @@
 -- In the code of a function each jump keeps the last point, or goes to where no call stands before the next stop.
-use Rattle.std.proofs.Common.{◌≡◌, refl, sym, ap, subst, ◌∙◌, arith, ℕ, suc, zero, ◌+◌, ◌<◌, ◌≤◌, List, [], ◌∷◌, ◌++◌, length, length-append, Bool, true, false, Option, Some, None, slice_get}
+use Rattle.std.proofs.Common.{◌≡◌, refl, sym, ap, subst, ◌∙◌, arith, ℕ, suc, ◌+◌, ◌<◌, ◌≤◌, List, [], ◌∷◌, ◌++◌, length, length-append, Bool, true, false, Option, Some, None}
 use Rattle.std.specs.Prelude.{if◌then◌else◌}
 use Rattle.std.specs.List.{AllByRecursion}
 use Rattle.c_tree.specs.declared.types.CType.{CType}
@@ -12,16 +12,15 @@ use Rattle.c_tree.specs.declared.typed.Stmt.TheVariants.{Value, Block', If', Whi
 use Rattle.c_tree.specs.declared.rows.Program.{Program}
 use Rattle.c_tree.specs.declared.rows.Function.{Function}
 use Rattle.c_tree.specs.Rows.{declared_in, statements_in}
-use Rattle.c_tree.specs.Points.{first_of, last_of}
 use Rattle.c_source.specs.Blocks.{local_type, result_type}
 use Rattle.c_source.specs.Control.{outermost_of}
 use Rattle.slot_ir.specs.declared.code.SlotOp.{SlotOp}
 use Rattle.slot_ir.specs.declared.code.SlotOp.TheVariants as op
-use Rattle.slot_gen.specs.Expressions.{access_of, cast_code, expr_code, unless_register, register_of, if_register, write_at, choice_code}
-use Rattle.slot_gen.specs.Statements.{Around, Target, nowhere, stmt_code, stmts_code, block_code, else_code, body_code, body_targets, body_defaults, row_targets, row_defaults, targets_at, constants_of, is_default, first_target, zeros_code, part_code, init_code, inits_code, test_code, loop_test, loop_body, loop_code, in_loop, in_switch, switch_code, seek_code, zero_code, end_place, body_place, function_code}
+use Rattle.slot_gen.specs.Expressions.{access_of, cast_code, expr_code, unless_register, register_of, if_register, write_at}
+use Rattle.slot_gen.specs.Statements.{Around, Target, nowhere, stmt_code, stmts_code, block_code, else_code, body_code, body_targets, body_defaults, row_targets, row_defaults, targets_at, constants_of, is_default, first_target, zeros_code, part_code, init_code, inits_code, test_code, loop_test, loop_body, loop_code, in_loop, in_switch, seek_code, zero_code, end_place, body_place, function_code}
 use Rattle.slot_formed.proofs.Lists.{all_append}
 use Rattle.slot_formed.proofs.Inside.{EachAt, each_append, IsStraight, AreStraight, LeadsOn, expr_on, cast_straight, write_straight}
-use Rattle.slot_formed.proofs.Quiet.{HasAt, has_front, has_back, has_all, quiet_with, IsNoStop, Quiet, Moves, JumpsWell, AllJumpWell, to_quiet, walk_to, HasNoStop, here_in, quiet_stop, quiet_over, quiet_at, quiet_end}
+use Rattle.slot_formed.proofs.Quiet.{HasAt, has_front, has_back, has_all, quiet_with, IsNoStop, Quiet, JumpsWell, AllJumpWell, to_quiet, walk_to, HasNoStop, here_in, quiet_stop, quiet_over, quiet_at, quiet_end}
 
 test_length : (p : Program) (f at : ℕ) (o : Option Pointed) (end : ℕ) → length (test_code p f at o end) ≡ length (test_code p f at o 0)
 test_length p f at None end = refl
@@ -132,7 +131,7 @@ module _ (p : Program) (f : ℕ) (code : List SlotOp) where
       let behind = has_back code (at + 1) place (ce ++ last) h.1 in (
         tt,
         each_append (JumpsWell code) (at + 1) place (ce ++ last) (straight_well (at + 1) place (place_straight r x))
-        (each_append (JumpsWell code) (at + 1 + length place) ce last (expr_well (at + 1 + length place) 1 c.e (has_front code (at + 1 + length place) ce last behind)) (straight_well _ last (write_straight p f 0 r (local_type p f x)))),
+            (each_append (JumpsWell code) (at + 1 + length place) ce last (expr_well (at + 1 + length place) 1 c.e (has_front code (at + 1 + length place) ce last behind)) (straight_well _ last (write_straight p f 0 r (local_type p f x)))),
       )
 
   inits_quiet : (at : ℕ) (ds : List DeclaredLocal) → H at (inits_code p f at ds) → Q (at + length (inits_code p f at ds)) → Q at
@@ -379,7 +378,7 @@ module _ (p : Program) (f : ℕ) (code : List SlotOp) where
             each_append (JumpsWell code) (at + 1) test _ (expr_well (at + 1) 0 c.e (has_front code (at + 1) test (jump ∷ (ca ++ skip ∷ ce)) h.1)) (
               to_quiet code start over other,
               each_append (JumpsWell code) (start + 1) ca (skip ∷ ce) (stmt_well a r n (start + 1) w (has_front code (start + 1) ca (skip ∷ ce) h1.1) first)
-              (to_quiet code _ (over + length ce) end, else_well b r n over w h2.1 end),
+                  (to_quiet code _ (over + length ce) end, else_well b r n over w h2.1 end),
             ),
           )
       stmt_well (While' x c y b) r n at w h q =
@@ -438,11 +437,11 @@ module _ (p : Program) (f : ℕ) (code : List SlotOp) where
           each_append (JumpsWell code) (start + 2) body rest (body_well b around n (start + 2) (leave_quiet, w.1) hb over_quiet) (
             to_quiet code over end end_quiet,
             each_append (JumpsWell code) (over + 1) seeks last (seeks_well (over + 1) targets (body_targets_quiet b around n (start + 2) hb over_quiet))
-            (to_quiet code _ (first_target over defaults) (first_quiet over defaults over_quiet (body_defaults_quiet b around n (start + 2) hb over_quiet)), tt),
+                (to_quiet code _ (first_target over defaults) (first_quiet over defaults over_quiet (body_defaults_quiet b around n (start + 2) hb over_quiet)), tt),
           ) in (
             tt,
             each_append (JumpsWell code) (at + 1) test whole (expr_well (at + 1) 0 c.e (has_front code (at + 1) test whole h.1))
-            (to_quiet code start (over + 1) seek_quiet, (to_quiet code (start + 1) end end_quiet, subst (λ i. J i (body ++ rest)) (sym two) inner)),
+                (to_quiet code start (over + 1) seek_quiet, (to_quiet code (start + 1) end end_quiet, subst (λ i. J i (body ++ rest)) (sym two) inner)),
           )
       stmt_well (Case' x c y s) r n at w h q = stmt_well s r n at w h q
       stmt_well (Default' x y s) r n at w h q = stmt_well s r n at w h q
@@ -455,7 +454,7 @@ module _ (p : Program) (f : ℕ) (code : List SlotOp) where
           let last : List SlotOp = op.Jump end_place ∷ [] in (
             tt,
             each_append (JumpsWell code) (at + 1) ce (cast ++ last) (expr_well (at + 1) 0 e (has_front code (at + 1) ce (cast ++ last) h.1))
-            (each_append (JumpsWell code) (at + 1 + length ce) cast last (straight_well _ cast (cast_straight 0 (access_of (result_type p f)))) (to_quiet code _ end_place ends, tt)),
+                (each_append (JumpsWell code) (at + 1 + length ce) cast last (straight_well _ cast (cast_straight 0 (access_of (result_type p f)))) (to_quiet code _ end_place ends, tt)),
           )
 
       row_well : {k : _} (row : Row_of-Stmt k) (r : Around) (n at : ℕ) → AroundQuiet r → H at (block_code p f r n at row) → Q (at + length (block_code p f r n at row)) → J at (block_code p f r n at row)
@@ -551,11 +550,11 @@ module _ (p : Program) (f : ℕ) (fn : Function) where
       quiet_over code (start + length body) (zero_code fn.result) has_ending.0 (zero_over fn.result)
       (quiet_over code (start + length body + 1) (op.Jump end_place) has_ending.1.0 (λ b. refl) (quiet_at code _ _ length_is (quiet_end code)))
 
-  body_quiet : Quiet code start
-  body_quiet = stmts_quiet p f code (statements_in fn.body) nowhere (outermost_of fn) start (has_front code start body ending has_body) ending_quiet
+  stmts_are_quiet : Quiet code start
+  stmts_are_quiet = stmts_quiet p f code (statements_in fn.body) nowhere (outermost_of fn) start (has_front code start body ending has_body) ending_quiet
 
   inits_are_quiet : Quiet code (body_place + length zeros)
-  inits_are_quiet = inits_quiet p f code (body_place + length zeros) (declared_in fn.body) (has_front code (body_place + length zeros) inits (body ++ ending) has_inits) body_quiet
+  inits_are_quiet = inits_quiet p f code (body_place + length zeros) (declared_in fn.body) (has_front code (body_place + length zeros) inits (body ++ ending) has_inits) stmts_are_quiet
 
   zeros_are_quiet : Quiet code body_place
   zeros_are_quiet = zeros_quiet p f code body_place (declared_in fn.body) (has_front code body_place zeros (inits ++ (body ++ ending)) has) inits_are_quiet

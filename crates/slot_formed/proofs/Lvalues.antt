@@ -13,7 +13,7 @@ use Rattle.c_tree.specs.declared.rows.Referent.{Referent}
 use Rattle.c_tree.specs.declared.rows.Referent.TheVariants.{Object, Local, Function as Defined, Declared}
 use Rattle.c_tree.specs.Types.{type_of}
 use Rattle.c_tree.specs.Layout.{members_of}
-use Rattle.c_typing.specs.Plain.{Plain, Char, Int, Unsigned, Void, Pointer, Array, Struct, plain, same, is_struct, is_complete}
+use Rattle.c_typing.specs.Plain.{Plain, Char, Int, Void, Pointer, Array, Struct, plain, same, is_struct, is_complete}
 use Rattle.c_typing.specs.Rules.{only, followed, member_type, arrow_type, sum_type}
 use Rattle.c_typing.specs.Expressions.{Function as AFunction, Hidden, Scope, object_type, is_lvalue, operand, value, IsTyped}
 use Rattle.c_typing.specs.Declared.{IsStruct, locals_in, function_in, denoted, denoted_by, scope_at}

@@ -1,11 +1,11 @@
 -- Each step keeps it that activations that wait for a call stand behind the point that they passed last.
-use Rattle.std.proofs.Common.{◌≡◌, refl, sym, ap, subst, ◌∙◌, arith, ℕ, suc, zero, ◌+◌, List, [], ◌∷◌, length, Bool, true, false, true≢false, Option, Some, None, slice_get, inl, inr}
-use Rattle.std.specs.Prelude.{Result, Ok, Err, reverse, ℤ, if◌then◌else◌}
+use Rattle.std.proofs.Common.{◌≡◌, refl, sym, ap, subst, ◌∙◌, arith, ℕ, suc, zero, ◌+◌, ◌*◌, List, [], ◌∷◌, length, Bool, true, false, true≢false, Option, Some, None, slice_get, inl, inr}
+use Rattle.std.specs.Prelude.{Result, Ok, Err, reverse, if◌then◌else◌}
 use Rattle.std.specs.List.{AllByRecursion}
-use Rattle.runs.specs.Runs.{Next, Goes, Passes, Exits, Undefined, Why, IllTyped, Outcome, Reached, Breaks, Moment, after, after_count, past, then_on}
-use Rattle.c_store.specs.Store.{Value, World, used, store, load_struct, store_struct, with_first, ◌>>=◌}
+use Rattle.runs.specs.Runs.{Next, Goes, Passes, Exits, Undefined, Why, IllTyped, Outcome, Reached, Breaks, after, after_count, past, then_on}
+use Rattle.c_store.specs.Store.{Value, Number, Null, At, used, store, load_struct, store_struct, with_first, ◌>>=◌}
 use Rattle.c_store.specs.Frames.{Here, ActivationRecord, made, left, is_free, new_activation, with_world}
-use Rattle.c_store.specs.Assigned.{History, all_assigned, at_stop}
+use Rattle.c_store.specs.Assigned.{History}
 use Rattle.ldb_words.specs.declared.kinds.Kind.{Kind}
 use Rattle.c_tree.specs.declared.types.Leaf.{Leaf}
 use Rattle.c_tree.specs.declared.rows.Program.{Program}
@@ -19,13 +19,11 @@ use Rattle.slot_ir.specs.Operators.{extended, number_in}
 use Rattle.slot_ir.specs.Slots.{SlotState, Frame, code_of, code_in, local_row, zero_cells, zeroed_row, zeroed_local, leaf_count_in, given_row, given, entered, last_temps}
 use Rattle.slot_ir.specs.Slots as slots
 use Rattle.slot_ir.specs.Begin.{begin, acted}
-use Rattle.slot_gen.specs.Correct.{slots_after}
-use Rattle.slot_gen.specs.Statements.{function_code}
-use Rattle.slot_formed.specs.Passed.{point_or, point_before, StandsBehindItsPoint, CallsStandBehindTheirPoints}
-use Rattle.slot_formed.specs.Code.{IsFunctionRow, AreFunctionRows, IsProgramCode}
+use Rattle.slot_formed.specs.Passed.{point_before, StandsBehindItsPoint, CallsStandBehindTheirPoints}
+use Rattle.slot_formed.specs.Code.{AreFunctionRows, IsProgramCode}
 use Rattle.slot_formed.proofs.Lists.{no_none, some_same}
 use Rattle.slot_formed.proofs.Inside.{EachAt}
-use Rattle.slot_formed.proofs.Quiet.{quiet_with, is_quiet, quiet_step, point_first, point_step, IsNoStop, Quiet, Stands, Moves, JumpsWell, AllJumpWell, on_to_next}
+use Rattle.slot_formed.proofs.Quiet.{quiet_step, point_first, point_step, IsNoStop, Stands, Moves, JumpsWell, AllJumpWell, on_to_next}
 use Rattle.slot_formed.proofs.Lands.{function_well}
 
 -- ---- objects that begin and end leave the point
@@ -72,15 +70,15 @@ row_as (Some l) x v h = by (extended l.access v)
 
 given_as : (c : SlotCode) (f x : ℕ) (vs : List Value) (h : Here) → GivesAs h.activation (given c f x vs h)
 given_as c f x [] h = (refl, refl)
-given_as c f x (v ∷ vs) h = by (given_row (local_row c f x) x v h) (row_as (local_row c f x) x v h)
+given_as c f x (v ∷ vs) h = by (given_row (local_row c f x) x v h) (row_as (local_row c f x) x v h) (λ h'. given_as c f (suc x) vs h')
   where
     more : (h' : Here) → IsAs h.activation h' → (r : Result Here Why) → GivesAs h'.activation r → GivesAs h.activation r
     more h' e (Ok u) g = (g.0 ∙ e.0, g.1 ∙ e.1)
     more h' e (Err w) g = tt
 
-    by : (r : Result Here Why) → GivesAs h.activation r → GivesAs h.activation (r >>= given c f (suc x) vs)
-    by (Err w) g = tt
-    by (Ok h') g = more h' g (given c f (suc x) vs h') (given_as c f (suc x) vs h')
+    by : (r : Result Here Why) → GivesAs h.activation r → ((h' : Here) → GivesAs h'.activation (given c f (suc x) vs h')) → GivesAs h.activation (r >>= given c f (suc x) vs)
+    by (Err w) g rest = tt
+    by (Ok h') g rest = more h' g (given c f (suc x) vs h') (rest h')
 
 -- ---- operators by their places
 
@@ -192,17 +190,17 @@ module _ (c : SlotCode) (well : (g : ℕ) → AllJumpWell (code_of c g) 0 (code_
     begins_fine x e = by (is_free x t.here.activation.locals)
       where
         by : (b : Bool) → Fine (if b then slots.goes c t (leaf_count_in (local_row c t.here.activation.function x)) (zeroed_local c x t.here) else Undefined IllTyped)
-        by true = goes_fine (op.Zero x) e tt _ (zeroed_local c x t.here) (zeroed_as (local_row c t.here.activation.function x) x t.here)
+        by true = goes_fine (op.Zero x) e tt (leaf_count_in (local_row c t.here.activation.function x)) (zeroed_local c x t.here) (zeroed_as (local_row c t.here.activation.function x) x t.here)
         by false = tt
 
     stops_fine : (q : ℕ) → slice_get code t.pc ≡ Some (op.Stop q) → Some q ≡ point_before code (t.pc + 1)
     stops_fine q e = let z : suc t.pc ≡ t.pc + 1 = omega arith in sym (point_step None code t.pc (op.Stop q) e) ∙ ap (point_before code) z
 
     act_fine : (o : SlotOp) → slice_get code t.pc ≡ Some o → JumpsWell code t.pc o → Fine (slots.act c t o)
-    act_fine (op.Const d n) e w = sets_fine (op.Const d n) e tt d _
-    act_fine (op.Null d) e w = sets_fine (op.Null d) e tt d _
-    act_fine (op.StaticAddress d x) e w = sets_fine (op.StaticAddress d x) e tt d _
-    act_fine (op.TextAddress d x) e w = sets_fine (op.TextAddress d x) e tt d _
+    act_fine (op.Const d n) e w = sets_fine (op.Const d n) e tt d (Number n)
+    act_fine (op.Null d) e w = sets_fine (op.Null d) e tt d Null
+    act_fine (op.StaticAddress d x) e w = sets_fine (op.StaticAddress d x) e tt d (At x 0)
+    act_fine (op.TextAddress d x) e w = sets_fine (op.TextAddress d x) e tt d (At (length c.objects + x) 0)
     act_fine (op.LocalAddress d x) e w = on_some_fine (slots.address_of t.here x) _ λ v. sets_fine (op.LocalAddress d x) e tt d v
     act_fine (op.Load d i k a) e w = on_temp_fine (t.temps i) _ λ v. gives_fine (op.Load d i k a) e tt d _
     act_fine (op.Store i j k) e w = on_temp_fine (t.temps i) _ λ v. writes_fine (op.Store i j k) e tt k v j

@@ -1,5 +1,5 @@
 -- Where no call stands before the next stop, and jumps that keep the last point.
-use Rattle.std.proofs.Common.{◌≡◌, refl, sym, ap, subst, ◌∙◌, arith, ℕ, suc, zero, ◌+◌, ◌-◌, ◌<◌, ◌≤◌, List, [], ◌∷◌, ◌++◌, length, length-append, Bool, true, false, Option, Some, None, true≢false, slice_get, ◌⊎◌, inl, inr}
+use Rattle.std.proofs.Common.{◌≡◌, refl, sym, ap, subst, ◌∙◌, arith, ℕ, suc, zero, ◌+◌, ◌-◌, ◌<◌, ◌≤◌, List, [], ◌∷◌, ◌++◌, length, Bool, true, false, Option, Some, None, true≢false, slice_get, ◌⊎◌, inl, inr}
 use Rattle.slot_ir.specs.declared.code.SlotOp.{SlotOp}
 use Rattle.slot_ir.specs.declared.code.SlotOp.TheVariants as op
 use Rattle.slot_formed.specs.Passed.{point_or, point_behind, point_before}
@@ -120,11 +120,11 @@ module _ (code : List SlotOp) where
 
   pub here_in : (P : ℕ → SlotOp → Type 0) (at : ℕ) (l : List SlotOp) (i : ℕ) → HasAt code at l → EachAt P at l → at ≤ i → i < at + length l → (o : SlotOp) × (slice_get code i ≡ Some o) × P i o
   here_in P at [] i has each a b = absurd (omega (arith, a, b))
-  here_in P at (o ∷ l) i has each a b = by (i - at) (omega (arith, a))
+  here_in P at (o ∷ l) i has each a b = by (i - at) (omega (arith, a)) (λ le. here_in P (at + 1) l i has.1 each.1 le (omega (arith, b)))
     where
-      by : (k : ℕ) → i ≡ at + k → (o : SlotOp) × (slice_get code i ≡ Some o) × P i o
-      by zero e = let z : at ≡ i = omega (arith, e) in (o, subst (λ j. slice_get code j ≡ Some o) z has.0, subst (λ j. P j o) z each.0)
-      by (suc k) e = here_in P (at + 1) l i has.1 each.1 (omega (arith, e)) (omega (arith, b))
+      by : (k : ℕ) → i ≡ at + k → (at + 1 ≤ i → (o : SlotOp) × (slice_get code i ≡ Some o) × P i o) → (o : SlotOp) × (slice_get code i ≡ Some o) × P i o
+      by zero e later = let z : at ≡ i = omega (arith, e) in (o, subst (λ j. slice_get code j ≡ Some o) z has.0, subst (λ j. P j o) z each.0)
+      by (suc k) e later = later (omega (arith, e))
 
   -- ---- places before which nothing calls
 

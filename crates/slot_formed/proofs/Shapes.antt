@@ -17,7 +17,7 @@ use Rattle.c_tree.proofs.Aligned.{same_leaves}
 use Rattle.std.proofs.Math.Nat.{one-le-mul, le-mul_of_pos_right}
 use Rattle.std.specs.Prelude.{nat_le, not, ◌==◌}
 use Rattle.c_typing.specs.Plain.{Struct as AStruct, plain, is_complete, is_empty}
-use Rattle.c_typing.specs.Written.{IsFormed, IsDeclared}
+use Rattle.c_typing.specs.Written.{IsDeclared}
 use Rattle.c_typing.specs.Declared.{IsStruct as IsItsStruct}
 use Rattle.c_typing.specs.Accepted.{AllFrom}
 use Rattle.slot_ir.specs.declared.code.SlotCode.{SlotCode}

@@ -4,6 +4,7 @@ ghost use Rattle.std.specs.List.{AllByRecursion};
 ghost use Rattle.c_typing.specs.Accepted.{IsAccepted};
 ghost use Rattle.slot_ir.specs.WellFormed.{IsWellFormed};
 ghost use Rattle.slot_gen.specs.Correct.{Lowers};
+ghost use Rattle.slot_gen.specs.Rows.{HasRowsOf};
 ghost use Rattle.slot_formed.specs.Code.{IsComplete};
 ghost use Rattle.slot_formed.specs.Passed.{CallsStandBehindTheirPoints};
 ghost use Rattle.slot_formed.specs.Tokens.{program_tokens};
@@ -18,10 +19,11 @@ use slot_gen::lower;
 use slot_ir::{SlotCode, SlotFunction};
 use std::alloc::{AllocError, Global};
 
-/// The slot code of an accepted program that is written with at most 40,000 tokens. It is well formed, and keeps the program's run; an activation that waits for a call stands behind the point that it passed last.
+/// The slot code of an accepted program that is written with at most 40,000 tokens. It has the program's rows, is well formed, and keeps the program's run; an activation that waits for a call stands behind the point that it passed last.
 pub fn lower_accepted(alloc: Global, program: &Program) -> Result<SlotCode, AllocError>
     requires accepted { IsAccepted program.now }
     requires few { program_tokens program.now ≤ 40000 }
+    ensures rows { IfOk result (λ code. HasRowsOf program.now code) }
     ensures formed { IfOk result (λ code. IsWellFormed code) }
     ensures runs { IfOk result (λ code. Lowers program.now code) }
     ensures behind { IfOk result (λ code. CallsStandBehindTheirPoints code) }
