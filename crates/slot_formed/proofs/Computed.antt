@@ -7,7 +7,7 @@ use Rattle.slot_ir.specs.declared.code.SlotLocal.{SlotLocal}
 use Rattle.slot_ir.specs.declared.code.Home.TheVariants.{Register}
 use Rattle.slot_ir.specs.declared.code.Access.TheVariants as access
 use Rattle.slot_ir.specs.declared.code.WordOp.TheVariants as word
-use Rattle.slot_ir.specs.declared.code.SlotOp.TheVariants.{ReadRegister, Binary, Call, Return, Stop, Leave, GetChar, PutChar, Exit}
+use Rattle.slot_ir.specs.declared.code.SlotOp.TheVariants.{ReadRegister, Binary, Jump, Call, Return, Stop, Leave, GetChar, PutChar, Exit}
 use Rattle.slot_ir.specs.WellFormed.{IsWellFormed}
 
 abbrev in_register : SlotLocal
@@ -33,7 +33,7 @@ calling arguments = record {
         temporaries = 1;
         points = 3 ∷ 4 ∷ [];
         places = 0 ∷ 1 ∷ [];
-        code = Stop 3 ∷ Stop 4 ∷ GetChar 0 ∷ Call 0 0 arguments ∷ Exit 0 ∷ [];
+        code = Stop 3 ∷ Stop 4 ∷ GetChar 0 ∷ Call 0 0 arguments ∷ Exit 0 ∷ Jump 4 ∷ [];
       } ∷ [];
   main = 1;
   objects = [];

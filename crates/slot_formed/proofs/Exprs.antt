@@ -15,7 +15,7 @@ use Rattle.c_tree.specs.Types.{type_of, target_of, is_struct, is_array}
 use Rattle.c_tree.specs.Layout.{size_of, leaves_of}
 use Rattle.c_tree.specs.Ordered.{LieIn}
 use Rattle.c_source.specs.Source.{stepping, struct_number}
-use Rattle.c_typing.specs.Plain.{Plain, Char, Int, Pointer, Array, Struct, plain, same, is_integer, is_array as an_array, is_struct as is_a_struct}
+use Rattle.c_typing.specs.Plain.{Plain, Char, Int, Pointer, Array, Struct, plain, same, is_integer, is_array as an_array, is_struct as is_a_struct, is_complete}
 use Rattle.c_typing.specs.Rules.{Operand, converts, is_copied, member_type, is_movable, is_compound, is_move, stepping as stepped}
 use Rattle.c_typing.specs.Expressions.{Scope, is_lvalue, is_register, is_string, operand, value, IsTyped, AreTyped}
 use Rattle.c_typing.specs.Declared.{scope_at}
@@ -26,6 +26,7 @@ use Rattle.slot_gen.specs.Expressions.{is_scalar, access_of, cast_code, load_cod
 use Rattle.slot_formed.proofs.Lists.{no_none, and_parts, or_parts, map_some, below_length}
 use Rattle.slot_formed.proofs.Sizes.{Formed, formed, formed_size, size_plain}
 use Rattle.slot_formed.proofs.Types.{type_formed}
+use Rattle.slot_formed.proofs.Lvalues.{lvalue_complete}
 use Rattle.slot_formed.proofs.Good.{G, Small, Apart, behind, cast_good, load_good, combine_good, read_good, write_good, update_good, unless_good, choice_good, and_good, or_good}
 use Rattle.slot_formed.proofs.Names.{small_type, binary_apart, integer_target, integer_apart, add_apart, dot_small, arrow_small, registers_in, no_scalar, inside_parens, name_good, addressed, enter_good, member_struct}
 
@@ -60,8 +61,8 @@ convert_struct : (t : Plain) (b : Operand) → is_a_struct t ≡ true → conver
 convert_struct (Struct m) b h k = true≢false (sym k)
 convert_struct _ b h k = true≢false (sym h)
 
-struct_defined : (p : Program) (t : CType) → Formed p.defs (plain t) → is_struct t ≡ true → struct_number t < length p.defs
-struct_defined p (ctype.Struct s) h k = h.0
+struct_defined : (p : Program) (t : CType) → is_complete p.defs (plain t) ≡ true → is_struct t ≡ true → is_complete p.defs (Struct (struct_number t)) ≡ true
+struct_defined p (ctype.Struct s) h k = h
 struct_defined p ctype.Char h k = absurd (true≢false (sym k))
 struct_defined p ctype.Int h k = absurd (true≢false (sym k))
 struct_defined p ctype.Unsigned h k = absurd (true≢false (sym k))
@@ -160,7 +161,7 @@ module _ (p : Program) (accepted : IsAccepted p) (ascend : (t : CType) → LieIn
       by true e lt =
           let is_b : is_struct (type_of b) ≡ true = copied a b refl (only_true _ (plain (type_of a)) (plain h.ctype) t.2) e in
           behind p f fn n at ca _ lt (λ q. pa (no_scalar p accepted ascend f fn here n a (struct_no_scalar (type_of a) e)) at d q) λ q.
-          behind p f fn n (at + length ca) cb _ q (λ r. pb (no_scalar p accepted ascend f fn here n b (struct_no_scalar (type_of b) is_b)) (at + length ca) (suc d) r) λ r. (struct_defined p (type_of a) (type_formed p accepted f v a t.0) e, (omega arith, tt))
+          behind p f fn n (at + length ca) cb _ q (λ r. pb (no_scalar p accepted ascend f fn here n b (struct_no_scalar (type_of b) is_b)) (at + length ca) (suc d) r) λ r. (struct_defined p (type_of a) (lvalue_complete p accepted f fn here v a t.0 (and_parts (is_lvalue a) _ (only_true _ (plain (type_of a)) (plain h.ctype) t.2)).0 (sym (struct_there (type_of a)) ∙ e)) e, (omega arith, tt))
       by false e lt =
           behind p f fn n at ra _ lt (λ q. unless_place a at d pa q) λ q.
           behind p f fn n (at + length ra) eb_code _ q (λ r. eb (at + length ra) (suc d) r) λ r. write_good p f fn n d (register_in p f a) (type_of a) (registers_in p accepted ascend f fn here n a)

@@ -32,24 +32,23 @@ use Rattle.slot_ir.specs.declared.code.SlotObject.{SlotObject}
 use Rattle.slot_ir.specs.declared.code.SlotStruct.{SlotStruct}
 use Rattle.slot_ir.specs.declared.code.SlotOp.{SlotOp}
 use Rattle.slot_ir.specs.declared.code.SlotOp.TheVariants as op
-use Rattle.slot_ir.specs.WellFormed.{struct_weight, weight_in, IsAmong, Differ, IsFunction, IsListed, IsWellFormed, NamesWhatIsThere, PlacesOf}
+use Rattle.slot_ir.specs.WellFormed.{struct_weight, weight_in, IsAmong, Differ, IsFunction, IsListed, IsWellFormed, NamesWhatIsThere, PlacesOf, EndsBehind, IsClosed}
 use Rattle.slot_gen.specs.Expressions.{access_of, registers_from, register_at, register_of}
 use Rattle.slot_gen.specs.Statements.{nowhere, zeros_code, inits_code, stmts_code, zero_code, body_place, end_place, function_code}
 use Rattle.slot_gen.specs.Correct.{HasMain}
 use Rattle.slot_gen.specs.Bounds.{function_temps, IsBelow, AreBelow}
 use Rattle.slot_formed.specs.Code.{ArePlaces, IsFunctionRow, AreFunctionRows, IsProgramCode, struct_rows, home_of, local_rows, local_row, object_row, function_row, function_rows, stop_place, program_code}
-use Rattle.slot_formed.specs.Accesses.{ReadsItsKind, IsReadable, IsUniform}
 use Rattle.slot_formed.specs.Tokens.{program_tokens}
 use Rattle.slot_formed.proofs.Lists.{each_of, no_none, some_same, all_append, all_left, all_right, and_parts}
 use Rattle.slot_formed.proofs.Types.{function_there}
-use Rattle.slot_formed.proofs.Homes.{register_there, local_there, locals_length, structs_length, own_registers}
+use Rattle.slot_formed.proofs.Homes.{register_there, local_there, locals_length, own_registers}
 use Rattle.slot_formed.proofs.Good.{Among, Good, G}
 use Rattle.slot_formed.proofs.Names.{numbers_length}
 use Rattle.slot_formed.proofs.Stmts.{numbers_of, body_of_good, zero_good}
 use Rattle.slot_formed.proofs.Stops.{Has, HasAll, in_left, later, stop_found, body_of_has}
 use Rattle.slot_formed.proofs.StopsOnce.{one, stops, times, stops_append, times_append, block_few, zero_none, numbers_differ, listed}
 use Rattle.slot_formed.proofs.Rows.{Laid, scalars_there, locals_good, objects_good, static_few, main_there}
-use Rattle.slot_formed.proofs.Shapes.{all_structs, all_nest}
+use Rattle.slot_formed.proofs.Shapes.{all_structs, all_nest, is_filled}
 
 -- ---- lists of numbers
 
@@ -138,15 +137,6 @@ function_row_at p i h gs e are =
 -- ---- a function's code
 
 module _ (p : Program) (accepted : IsAccepted p) (ascend : (t : CType) → LieIn 0 (leaves_of p.defs t) (size_of p.defs t)) (f : ℕ) (fn : Function) (here : slice_get p.functions f ≡ Some fn) (n : ℕ) (size : n ≡ length (function_code p f fn)) where
-  reads_op : (o : SlotOp) → Good p f fn n o → ReadsItsKind o
-  reads_op (op.Load d i k a) g = g
-  reads_op (op.ReadRegister d x k a) g = g.2
-  reads_op _ g = tt
-
-  reads_all : (l : List SlotOp) → G p f fn n l → AllByRecursion ReadsItsKind l
-  reads_all [] g = tt
-  reads_all (o ∷ l) g = (reads_op o g.0, reads_all l g.1)
-
   mine : IsItsFunction p f fn
   mine = function_there p accepted f fn here
 
@@ -253,9 +243,6 @@ module _ (p : Program) (accepted : IsAccepted p) (ascend : (t : CType) → LieIn
     stops_listed : (is : List ℕ) → ArePlaces (function_code p f fn) fn.points is → (i q : ℕ) → slice_get (function_code p f fn) i ≡ Some (op.Stop q) → IsListed q i fn.points is
     stops_listed is places i q e = listed (function_code p f fn) q i fn.points is (stop_once q) (each_of (Good p f fn n) (function_code p f fn) i (op.Stop q) function_good e) places e
 
-    function_readable : (name : List ℕ) (temps : ℕ) (placed : List ℕ) → IsReadable (row_with p f fn name temps placed)
-    function_readable name temps placed = reads_all (function_code p f fn) function_good
-
 -- ---- a function's row
 
 module _ (p : Program) (accepted : IsAccepted p) (ascend : (t : CType) → LieIn 0 (leaves_of p.defs t) (size_of p.defs t)) (f : ℕ) (fn : Function) (here : slice_get p.functions f ≡ Some fn) (n : ℕ) (size : n ≡ length (function_code p f fn)) (gs : List SlotFunction) (are : AreFunctionRows p 0 p.functions gs) (name : List ℕ) (temps : ℕ) (placed : List ℕ) where
@@ -302,9 +289,9 @@ module _ (p : Program) (accepted : IsAccepted p) (ascend : (t : CType) → LieIn
   names_op (op.StaticAddress d o) t g = (t, subst (λ m. o < m) (sym (length-map p.objects (object_row p))) g)
   names_op (op.TextAddress d k) t g = (t, g)
   names_op (op.LocalAddress d x) t g = (t, block_there x g.0 g.1)
-  names_op (op.Load d i k a) t g = t
+  names_op (op.Load d i k a) t g = (t.0, t.1, g)
   names_op (op.Store i j k) t g = t
-  names_op (op.ReadRegister d x k a) t g = (t, register_in_there x g.0 g.1)
+  names_op (op.ReadRegister d x k a) t g = (t, register_in_there x g.0 g.1, g.2)
   names_op (op.WriteRegister j x k) t g = (t, register_in_there x g.0 g.1)
   names_op (op.Convert d a) t g = t
   names_op (op.Unary d o) t g = t
@@ -321,7 +308,7 @@ module _ (p : Program) (accepted : IsAccepted p) (ascend : (t : CType) → LieIn
   names_op (op.Call d k m) t g = (t.0, t.1, takes_there k m g.0 g.1 g.2)
   names_op (op.Return d) t g = t
   names_op (op.Stop q) t g = g
-  names_op (op.Move i j s) t g = (t.0, t.1, subst (λ m. s < m) (sym (structs_length p.defs 0 p.defs)) g)
+  names_op (op.Move i j s) t g = (t.0, t.1, is_filled c p.defs refl s g)
   names_op (op.Zero x) t g = subst (λ m. x < m) (sym (locals_length p.defs fn.locals rs)) g
   names_op (op.Leave m) t g = subst (λ k. m ≤ k) (sym (locals_length p.defs fn.locals rs)) g
   names_op (op.GetChar d) t g = t
@@ -338,9 +325,21 @@ module _ (p : Program) (accepted : IsAccepted p) (ascend : (t : CType) → LieIn
   places_all [] (i ∷ is) h = absurd h
   places_all (q ∷ qs) [] h = absurd h
 
+  ends_behind : (o : SlotOp) (a b : List SlotOp) → ((x : SlotOp) → EndsBehind x b) → EndsBehind o (a ++ b)
+  ends_behind o [] b h = h o
+  ends_behind o (x ∷ a) b h = ends_behind x a b h
+
+  is_closed : IsClosed (function_code p f fn)
+  is_closed =
+      let zeros = zeros_code (declared_in fn.body) in
+      let inits = inits_code p f (body_place + length zeros) (declared_in fn.body) in
+      let code = stmts_code p f nowhere (outermost_of fn) (body_place + length zeros + length inits) (statements_in fn.body) in
+      let ending : List SlotOp = zero_code fn.result ∷ op.Jump end_place ∷ [] in
+      ends_behind (op.Return 0) zeros (inits ++ (code ++ ending)) λ x. ends_behind x inits (code ++ ending) λ x. ends_behind x code ending λ x. tt
+
   function_formed : Laid p.defs → (first last : ℕ) → fn.points ≡ first ∷ (points_in fn.body ++ last ∷ []) → AreBelow temps (function_code p f fn) → ArePlaces (function_code p f fn) fn.points placed → IsFunction c row
   function_formed laid first last points below places = (
-    omega (arith, code_size p accepted ascend f fn here n size first last points, size),
+    is_closed,
     omega (arith, locals_count p accepted ascend f fn here n size, locals_length p.defs fn.locals rs),
     (mine p accepted ascend f fn here n size).few,
     scalars_there p.defs fn.params fn.locals rs (mine p accepted ascend f fn here n size).scalars,
@@ -374,11 +373,6 @@ module _ (p : Program) (accepted : IsAccepted p) (ascend : (t : CType) → LieIn
     formed_there f fn g e is =
         let q = (function_there p accepted f fn e).points in
         of_row (IsFunction (code_with p gs)) f fn g is (λ below places. function_formed p accepted ascend f fn e (length (function_code p f fn)) refl gs are g.name g.temporaries g.places laid q.0 q.1 q.2 below places)
-
-    readable_there : (f : ℕ) (fn : Function) (g : SlotFunction) → slice_get p.functions f ≡ Some fn → IsFunctionRow p f fn g → IsReadable g
-    readable_there f fn g e is =
-        let q = (function_there p accepted f fn e).points in
-        of_row IsReadable f fn g is (λ below places. function_readable p accepted ascend f fn e (length (function_code p f fn)) refl q.0 q.1 q.2 g.name g.temporaries g.places)
 
     each_row : (P : SlotFunction → Type 0) → ((f : ℕ) (fn : Function) (g : SlotFunction) → slice_get p.functions f ≡ Some fn → IsFunctionRow p f fn g → P g)
         → (n : ℕ) (fns : List Function) (hs : List SlotFunction) → AreFunctionRows p n fns hs → ((i : ℕ) (fn : Function) → slice_get fns i ≡ Some fn → slice_get p.functions (i + n) ≡ Some fn) → AllByRecursion P hs
@@ -432,14 +426,11 @@ module _ (p : Program) (accepted : IsAccepted p) (ascend : (t : CType) → LieIn
         main_formed c.functions is.functions,
         all_rows laid c.functions is.functions (IsFunction (code_with p c.functions)) (formed_there laid c.functions is.functions),
         objects_good p accepted ascend laid p.objects accepted.objects,
-        all_structs (code_with p c.functions) p.defs refl accepted.structs laid,
+        all_structs (code_with p c.functions) p.defs refl accepted.structs ascend laid,
         all_nest (code_with p c.functions) p.defs refl accepted.structs,
         static_few p accepted ascend,
         omega (arith, few, short, ap (λ (ss : List SlotStruct). sum (map struct_weight ss)) is.structs),
       )
-
-  pub uniform : Laid p.defs → (c : SlotCode) → IsProgramCode p c → IsUniform c
-  uniform laid c is = all_rows laid c.functions is.functions IsReadable (readable_there laid c.functions is.functions)
 
   -- ---- a code that there is
 

@@ -10,6 +10,7 @@ use Rattle.c_tree.specs.declared.rows.Program.{Program}
 use Rattle.c_tree.specs.declared.rows.Function.{Function}
 use Rattle.c_tree.specs.Types.{target_of, is_array, kind_of}
 use Rattle.c_tree.specs.Layout.{size_of}
+use Rattle.c_typing.specs.Plain.{Struct, is_complete}
 use Rattle.slot_ir.specs.declared.code.Access.{Access}
 use Rattle.slot_ir.specs.declared.code.Access.TheVariants as access
 use Rattle.slot_ir.specs.declared.code.UnaryWordOp.TheVariants as unary
@@ -43,7 +44,7 @@ module _ (p : Program) (f : ℕ) (fn : Function) (n : ℕ) where
   Good (op.JumpIfEqual d m place) = (m < 2 ^ 32) × (place < n)
   Good (op.Call d g m) = (h : Function) × (slice_get p.functions g ≡ Some h) × (m ≡ h.params)
   Good (op.Stop q) = Among q fn.points
-  Good (op.Move i j s) = s < length p.defs
+  Good (op.Move i j s) = is_complete p.defs (Struct s) ≡ true
   Good (op.Zero x) = x < length fn.locals
   Good (op.Leave m) = m ≤ length fn.locals
   Good _ = Unit {0}

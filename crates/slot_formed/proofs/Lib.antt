@@ -1,6 +1,8 @@
 mod Lists
 mod Sizes
 mod Types
+mod Alignments
+mod Lvalues
 mod Homes
 mod Good
 mod Names
@@ -15,3 +17,7 @@ mod Computed
 mod Given
 mod Shapes
 mod StopsOnce
+mod Inside
+mod Quiet
+mod Lands
+mod Passing

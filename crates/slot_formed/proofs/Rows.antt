@@ -112,7 +112,7 @@ module _ (p : Program) (accepted : IsAccepted p) (ascend : (t : CType) → LieIn
   object_there o i h = subst (λ (r : Option SlotObject). elim r as (λ _. Type 0) [ None ↦ ⊥ | Some o ↦ i ≤ o.size ]) (sym (slice_get-map (object_row p) p.objects o)) (inside i (slice_get p.objects o) h)
 
   leaf_good : (l : Leaf) (k : Kind) (x : Start) → l.kind ≡ k → Starts p k x → IsStart c (record { at = l.at; width = width_of k; value = start_value k x })
-  leaf_good l Byte (start.Number m) e h = (inr (inl refl, tt), byte_below m h)
+  leaf_good l Byte (start.Number m) e h = (inr (refl, tt), byte_below m h)
   leaf_good l Word (start.Number m) e h = (inl refl, h)
   leaf_good l Address (start.Number m) e h = (inl refl, tt)
   leaf_good l Address (start.Object o i) e h = (inl refl, object_there o i h)

@@ -1,4 +1,4 @@
--- The rows of structs: their leaves are those of their members, and they nest at most 63 levels deep.
+-- The rows of structs: their leaves are those of their members, which stand in order, and they nest at most 63 levels deep.
 use Rattle.std.proofs.Common.{◌≡◌, refl, sym, ap, subst, ◌∙◌, arith, ℕ, suc, zero, ◌+◌, ◌*◌, ◌<◌, ◌≤◌, List, [], ◌∷◌, ◌++◌, map, length, Bool, true, false, true≢false, Option, Some, None, slice_get, append_assoc}
 use Rattle.std.proofs.lemmas.List.{append-nil}
 use Rattle.std.specs.List.{AllByRecursion}
@@ -10,13 +10,14 @@ use Rattle.c_tree.specs.declared.types.StructDef.{StructDef}
 use Rattle.c_tree.specs.declared.types.Member.{Member}
 use Rattle.c_tree.specs.declared.types.Leaf.{Leaf}
 use Rattle.c_tree.specs.declared.rows.Program.{Program}
-use Rattle.c_tree.specs.Layout.{size_of, size_in, members_in, members_of, IsWithin, leaves_within, leaves_of, leaves_at, leaves_of_members, repeated}
+use Rattle.c_tree.specs.Layout.{size_of, size_in, members_in, members_of, IsWithin, leaves_within, leaves_of, leaves_at, leaves_of_members, repeated, AreLaid, alignment_of, alignment_of_members}
+use Rattle.std.specs.Int.{next_multiple_of}
 use Rattle.c_tree.specs.Ordered.{LieIn, IsAligned}
 use Rattle.c_tree.proofs.Aligned.{same_leaves}
-use Rattle.std.proofs.Math.Nat.{one-le-mul}
+use Rattle.std.proofs.Math.Nat.{one-le-mul, le-mul_of_pos_right}
 use Rattle.std.specs.Prelude.{nat_le, not, ◌==◌}
-use Rattle.c_typing.specs.Plain.{plain, is_complete, is_empty}
-use Rattle.c_typing.specs.Written.{IsFormed, IsDeclared}
+use Rattle.c_typing.specs.Plain.{Struct as AStruct, plain, is_complete, is_empty}
+use Rattle.c_typing.specs.Written.{IsDeclared}
 use Rattle.c_typing.specs.Declared.{IsStruct as IsItsStruct}
 use Rattle.c_typing.specs.Accepted.{AllFrom}
 use Rattle.slot_ir.specs.declared.code.SlotCode.{SlotCode}
@@ -25,11 +26,11 @@ use Rattle.slot_ir.specs.declared.code.SlotItem.TheVariants as an_item
 use Rattle.slot_ir.specs.declared.code.SlotMember.{SlotMember}
 use Rattle.slot_ir.specs.declared.code.SlotStruct.{SlotStruct}
 use Rattle.slot_ir.specs.Slots.{leaves_in}
-use Rattle.slot_ir.specs.WellFormed.{AreLeavesOf, item_size, item_leaves, leaves_by, IsItemThere, IsMember, IsStruct, NestsWithin}
+use Rattle.slot_ir.specs.WellFormed.{AreLeavesOf, item_size, item_leaves, leaves_by, IsFilled, IsItemThere, IsMember, MembersLieIn, IsWholeAlone, IsStruct, NestsWithin}
 use Rattle.slot_gen.specs.Rows.{item_of, items_of, member_of}
 use Rattle.slot_formed.specs.Code.{struct_row, struct_rows}
-use Rattle.slot_formed.proofs.Sizes.{struct_there}
-use Rattle.slot_formed.proofs.Homes.{structs_length}
+use Rattle.slot_formed.proofs.Sizes.{size_plain, formed, formed_size, positive, struct_there}
+use Rattle.slot_formed.proofs.Alignments.{lone_size, lone_at}
 use Rattle.slot_formed.proofs.Lists.{and_parts}
 
 -- ---- items one behind the other
@@ -119,6 +120,14 @@ module _ (c : SlotCode) (defs : List StructDef) (same : c.structs ≡ struct_row
       by : (o : Option StructDef) → slice_get defs s ≡ o → members_by (slice_get c.structs s) ≡ map member_of (members_in (slice_get defs s))
       by None e = ap members_by (here s ∙ row_is defs s None e) ∙ sym (ap (λ o. map member_of (members_in o)) e)
       by (Some d) e = ap members_by (here s ∙ row_is defs s (Some d) e) ∙ sym (ap (λ o. map member_of (members_in o)) e)
+
+  -- a struct that is complete has members
+  some_members : (ms : List Member) → not (is_empty ms) ≡ true → 1 ≤ length (map member_of ms)
+  some_members [] h = absurd (true≢false (sym h))
+  some_members (m ∷ ms) h = omega arith
+
+  pub is_filled : (s : ℕ) → is_complete defs (AStruct s) ≡ true → IsFilled (slice_get c.structs s)
+  is_filled s h = subst (λ (ms : List SlotMember). 1 ≤ length ms) (sym (members_there s)) (some_members (members_of defs s) h)
 
   -- ---- the items of a type
 
@@ -239,14 +248,14 @@ module _ (c : SlotCode) (defs : List StructDef) (same : c.structs ≡ struct_row
     pub all_nest : (s : ℕ) → NestsWithin c 63 true (an_item.Struct s)
     all_nest s = subst (λ (ms : List SlotMember). AllByRecursion (Nested 62) ms) (sym (members_there s)) (members_nest 62 (nests members_full 62) (members_in (slice_get defs s)) (members_full s) (within s))
 
-    item_there : (t : CType) → IsFormed defs t → IsItemThere c (item_of t)
+    item_there : (t : CType) → is_complete defs (plain t) ≡ true → IsItemThere c (item_of t)
     item_there Char h = tt
     item_there Int h = tt
     item_there Unsigned h = tt
-    item_there Void h = tt
+    item_there Void h = absurd (true≢false (sym h))
     item_there (Pointer' _ t) h = tt
-    item_there (Array' _ t n) h = item_there t h.0
-    item_there (Struct s) h = subst (λ (rows : List SlotStruct). s < length rows) (sym same) (subst (λ n. s < n) (sym (structs_length defs 0 defs)) h.0)
+    item_there (Array' _ t n) h = item_there t (and_parts (nat_le 1 n) (is_complete defs (plain t)) h).1
+    item_there (Struct s) h = is_filled s h
 
     at_least_one : (n : ℕ) → nat_le 1 n ≡ true → 1 ≤ n
     at_least_one n h = grind arith
@@ -260,11 +269,43 @@ module _ (c : SlotCode) (defs : List StructDef) (same : c.structs ≡ struct_row
     has_items (Array' _ t n) h = let q = and_parts (nat_le 1 n) (is_complete defs (plain t)) h in one-le-mul (at_least_one n q.0) (has_items t q.1)
     has_items (Struct s) h = omega arith
 
-    members_there_all : (ms : List Member) → AllByRecursion (λ (m : Member). IsDeclared defs m.ctype) ms → AllByRecursion (IsMember c) (map member_of ms)
-    members_there_all [] h = tt
-    members_there_all (m ∷ ms) h = ((has_items m.ctype h.0.1, item_there m.ctype h.0.0.1), members_there_all ms h.1)
+    -- a product is no less than a factor where the other is some
+    no_less : (a b : ℕ) → 1 ≤ a * b → a ≤ a * b
+    no_less a zero h = absurd (omega (arith, h))
+    no_less a (suc b) h = le-mul_of_pos_right a (omega arith)
 
-    module _ (leaves : (t : CType) → IsWithin defs 64 t → AreLeavesOf (size_of defs t) (leaves_of defs t)) where
+    few_items : ((t : CType) → LieIn 0 (leaves_of defs t) (size_of defs t)) → (t : CType) → IsDeclared defs t → items_of t ≤ 1048576
+    few_items ascend t h =
+        let some : 1 ≤ size_of defs t = subst (λ n. 1 ≤ n) (sym (size_plain defs t)) (positive defs structs ascend (plain t) h.1) in
+        let few : size_of defs t ≤ 1048576 = subst (λ n. n ≤ 1048576) (sym (size_plain defs t)) (formed_size defs (plain t) (formed defs t h.0.1)) in
+        let items = no_less (items_of t) (item_size c (item_of t)) (subst (λ n. 1 ≤ n) (size_is t) some) in
+        omega (arith, items, few, size_is t)
+
+    members_there_all : ((t : CType) → LieIn 0 (leaves_of defs t) (size_of defs t)) → (ms : List Member) → AllByRecursion (λ (m : Member). IsDeclared defs m.ctype) ms → AllByRecursion (IsMember c) (map member_of ms)
+    members_there_all ascend [] h = tt
+    members_there_all ascend (m ∷ ms) h = ((has_items m.ctype h.0.1, few_items ascend m.ctype h.0, item_there m.ctype h.0.1), members_there_all ascend ms h.1)
+
+    -- ---- where members stand
+
+    least_fits : (x y : ℕ) → x ≤ next_multiple_of x y
+    least_fits x y = omega arith
+
+    members_lie : (from last end : ℕ) (ms : List Member) → AreLaid defs from ms last → last ≤ end → MembersLieIn c from (map member_of ms) end
+    members_lie from last end [] h le = omega (arith, h, le)
+    members_lie from last end (m ∷ ms) h le = (
+      subst (λ n. from ≤ n) (sym h.0) (least_fits from (alignment_of defs m.ctype)),
+      subst (λ n. MembersLieIn c (m.at + n) (map member_of ms) end) (size_is m.ctype) (members_lie (m.at + size_of defs m.ctype) last end ms h.1 le),
+    )
+
+    whole_alone : (size last : ℕ) (ms : List Member) → AllByRecursion (λ (m : Member). IsDeclared defs m.ctype) ms → AreLaid defs 0 ms last → size ≡ next_multiple_of last (alignment_of_members (alignment_of defs) ms) → IsWholeAlone c size (map member_of ms)
+    whole_alone size last [] d h e = tt
+    whole_alone size last (m ∷ k ∷ ms) d h e = tt
+    whole_alone size last (m ∷ []) d h e =
+        let front : m.at ≡ 0 = lone_at defs m h.0 in
+        let last_is : size_of defs m.ctype ≡ last = omega (arith, front, h.1) in
+        (front, sym (size_is m.ctype) ∙ sym (e ∙ ap (λ n. next_multiple_of n (alignment_of_members (alignment_of defs) (m ∷ []))) (sym last_is) ∙ lone_size defs structs m d.0))
+
+    module _ (ascend : (t : CType) → LieIn 0 (leaves_of defs t) (size_of defs t)) (leaves : (t : CType) → IsWithin defs 64 t → AreLeavesOf (size_of defs t) (leaves_of defs t)) where
       row_good : (s : ℕ) (d : StructDef) → slice_get defs s ≡ Some d → IsStruct c (struct_row defs s d)
       row_good s d e =
           let w = within s in
@@ -274,7 +315,9 @@ module _ (c : SlotCode) (defs : List StructDef) (same : c.structs ≡ struct_row
             subst (λ o. size_in o ≤ 1048576) e its.0.1.1,
             subst (λ n. AreLeavesOf n (leaves_of defs (Struct s))) (ap size_in e) (leaves (Struct s) w),
             by_members ∙ members_are d.members (subst (λ ms. AllByRecursion (λ (m : Member). IsWithin defs 63 m.ctype) ms) members w),
-            members_there_all d.members its.2,
+            members_there_all ascend d.members its.2,
+            members_lie 0 its.3.0 d.size d.members its.3.1 (subst (λ n. its.3.0 ≤ n) (sym its.3.2) (least_fits its.3.0 (alignment_of_members (alignment_of defs) d.members))),
+            whole_alone d.size its.3.0 d.members its.2 its.3.1 its.3.2,
           )
 
       rows_good : (n : ℕ) (ds : List StructDef) → ((i : ℕ) (d : StructDef) → slice_get ds i ≡ Some d → slice_get defs (i + n) ≡ Some d) → AllByRecursion (IsStruct c) (struct_rows defs n ds)

@@ -1,3 +1,3 @@
 pub mod Code
 pub mod Tokens
-pub mod Accesses
+pub mod Passed

@@ -5,10 +5,10 @@ ghost use Rattle.c_typing.specs.Accepted.{IsAccepted};
 ghost use Rattle.slot_ir.specs.declared.code.SlotCode.{SlotCode};
 ghost use Rattle.slot_ir.specs.WellFormed.{operators_of_a_token, weight_in, IsWellFormed};
 ghost use Rattle.slot_gen.specs.Correct.{IsCodeOf, Lowers};
-ghost use Rattle.slot_formed.specs.Accesses.{IsUniform};
 ghost use Rattle.std.specs.List.{AllByRecursion};
 ghost use Rattle.slot_gen.specs.Rows.{HasRowsOf, IsLowerable};
 ghost use Rattle.slot_formed.specs.Code.{IsComplete, IsProgramCode, program_code};
+ghost use Rattle.slot_formed.specs.Passed.{CallsStandBehindTheirPoints};
 ghost use Rattle.slot_formed.specs.Tokens.{program_tokens};
 
 use c_tree::{leaves_are_aligned, leaves_ascend, leaves_fill};
@@ -23,10 +23,9 @@ pub fn code_of_a_program_is_short()
     code_of_an_expression_is_short();
 }
 
-/// A slot code of an accepted program that is written with at most 40,000 tokens is well formed. Its loads extend a byte and take a word or a pointer whole.
+/// A slot code of an accepted program that is written with at most 40,000 tokens is well formed.
 pub fn code_is_well_formed()
-    ensures formed { (p : Program) (c : SlotCode) → IsAccepted p → IsProgramCode p c → program_tokens p ≤ 40000 → IsWellFormed c }
-    ensures uniform { (p : Program) (c : SlotCode) → IsAccepted p → IsProgramCode p c → IsUniform c }
+    ensures { (p : Program) (c : SlotCode) → IsAccepted p → IsProgramCode p c → program_tokens p ≤ 40000 → IsWellFormed c }
 {
     code_of_a_program_is_short();
     leaves_ascend();
@@ -44,6 +43,11 @@ pub fn accepted_code_keeps_the_run()
     code_takes_few_temporaries();
     slot_code_keeps_the_run();
 }
+
+/// While a call goes on, the calling activation stands behind the point that it passed last: no other stop stands between that of its point and the place where it goes on.
+pub fn calls_stand_behind_their_points()
+    ensures { (p : Program) (c : SlotCode) → IsProgramCode p c → CallsStandBehindTheirPoints c }
+{}
 
 /// An accepted program can be lowered: its structs stand as the layout has them, its objects hold what their types say, and it has a `main` without parameters.
 pub fn accepted_programs_are_lowerable()

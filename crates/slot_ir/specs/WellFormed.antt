@@ -38,6 +38,14 @@ most_arguments = 16
 abbrev pub most_static_bytes : ℕ
 most_static_bytes = 1048576
 
+-- a byte is extended, and a word and a pointer are taken whole
+abbrev pub IsOfKind : Kind → Access → Type 0
+IsOfKind Byte access.SignedByte = Unit {0}
+IsOfKind Byte access.UnsignedByte = Unit {0}
+IsOfKind Word access.Word = Unit {0}
+IsOfKind Address access.Pointer = Unit {0}
+IsOfKind k a = ⊥
+
 abbrev IsBlockIn : Option SlotLocal → Type 0
 IsBlockIn None = ⊥
 IsBlockIn (Some l) = l.home ≡ Block
@@ -53,6 +61,14 @@ TakesIn (Some f) n = (n ≡ f.params) × (n ≤ most_arguments)
 abbrev ParamsIn : Option SlotFunction → Type 0
 ParamsIn None = ⊥
 ParamsIn (Some f) = f.params ≡ 0
+
+abbrev pub members_in : Option SlotStruct → List SlotMember
+members_in None = []
+members_in (Some s) = s.members
+
+-- a struct that has members, as a complete one has (C90 6.5.2.1)
+abbrev pub IsFilled : Option SlotStruct → Type 0
+IsFilled s = 1 ≤ length (members_in s)
 
 abbrev pub IsAmong : ℕ → List ℕ → Type 0
 IsAmong q [] = ⊥
@@ -82,9 +98,9 @@ module _ (c : SlotCode) (f : SlotFunction) where
   NamesWhatIsThere (StaticAddress d o) = IsTemp d × (o < length c.objects)
   NamesWhatIsThere (TextAddress d k) = IsTemp d × (k < length c.strings)
   NamesWhatIsThere (LocalAddress d x) = IsTemp d × IsBlockIn (slice_get f.locals x)
-  NamesWhatIsThere (Load d i k a) = IsTemp d × IsTemp i
+  NamesWhatIsThere (Load d i k a) = IsTemp d × IsTemp i × IsOfKind k a
   NamesWhatIsThere (Store i j k) = IsTemp i × IsTemp j
-  NamesWhatIsThere (ReadRegister d x k a) = IsTemp d × IsRegisterIn (slice_get f.locals x)
+  NamesWhatIsThere (ReadRegister d x k a) = IsTemp d × IsRegisterIn (slice_get f.locals x) × IsOfKind k a
   NamesWhatIsThere (WriteRegister j x k) = IsTemp j × IsRegisterIn (slice_get f.locals x)
   NamesWhatIsThere (Convert d a) = IsTemp d
   NamesWhatIsThere (Unary d op) = IsTemp d
@@ -101,7 +117,7 @@ module _ (c : SlotCode) (f : SlotFunction) where
   NamesWhatIsThere (Call d g n) = IsTemp d × (d + n ≤ f.temporaries) × TakesIn (slice_get c.functions g) n
   NamesWhatIsThere (Return d) = IsTemp d
   NamesWhatIsThere (Stop q) = IsAmong q f.points
-  NamesWhatIsThere (Move i j s) = IsTemp i × IsTemp j × (s < length c.structs)
+  NamesWhatIsThere (Move i j s) = IsTemp i × IsTemp j × IsFilled (slice_get c.structs s)
   NamesWhatIsThere (Zero x) = x < length f.locals
   NamesWhatIsThere (Leave n) = n ≤ length f.locals
   NamesWhatIsThere (GetChar d) = IsTemp d
@@ -124,14 +140,6 @@ module _ (c : SlotCode) (f : SlotFunction) where
 abbrev pub AreLeavesOf : (size : ℕ) → List Leaf → Type 0
 AreLeavesOf size ls = LieIn 0 ls size × AllByRecursion IsAligned ls × (size ≤ 4 * length ls)
 
--- a byte is extended, and a word and a pointer are taken whole
-abbrev pub IsOfKind : Kind → Access → Type 0
-IsOfKind Byte access.SignedByte = Unit {0}
-IsOfKind Byte access.UnsignedByte = Unit {0}
-IsOfKind Word access.Word = Unit {0}
-IsOfKind Address access.Pointer = Unit {0}
-IsOfKind k a = ⊥
-
 -- one leaf, which is the whole local, and into which an argument is converted by its kind
 abbrev pub IsScalar : SlotLocal → Type 0
 IsScalar l = (leaf : Leaf) × (l.leaves ≡ leaf ∷ []) × (leaf.at ≡ 0) × (l.size ≡ width_of leaf.kind) × IsOfKind leaf.kind l.access
@@ -150,14 +158,30 @@ IsLocal l = (1 ≤ length l.leaves) × (l.size ≤ most_static_bytes) × AreLeav
 abbrev pub HaveOwnRegisters : List SlotLocal → Type 0
 HaveOwnRegisters ls = (x y r : ℕ) (l k : SlotLocal) → slice_get ls x ≡ Some l → slice_get ls y ≡ Some k → l.home ≡ Register r → k.home ≡ Register r → x ≡ y
 
+-- behind the operator nothing goes on with the next one
+abbrev IsLast : SlotOp → Type 0
+IsLast (Jump place) = Unit {0}
+IsLast (Return d) = Unit {0}
+IsLast (Exit d) = Unit {0}
+IsLast op = ⊥
+
+abbrev pub EndsBehind : SlotOp → List SlotOp → Type 0
+EndsBehind op [] = IsLast op
+EndsBehind op (next ∷ ops) = EndsBehind next ops
+
+-- a code has operators, and none runs past its end
+abbrev pub IsClosed : List SlotOp → Type 0
+IsClosed [] = ⊥
+IsClosed (op ∷ ops) = EndsBehind op ops
+
 abbrev pub IsFunction : SlotCode → SlotFunction → Type 0
 IsFunction c f =
-    (1 ≤ length f.code) × (f.params ≤ length f.locals) × (f.params ≤ most_arguments) × AllByRecursion IsScalar (take f.params f.locals) × AllByRecursion IsLocal f.locals
+    IsClosed f.code × (f.params ≤ length f.locals) × (f.params ≤ most_arguments) × AllByRecursion IsScalar (take f.params f.locals) × AllByRecursion IsLocal f.locals
     × HaveOwnRegisters f.locals × AllByRecursion (NamesWhatIsThere c f) f.code × PlacesOf c f f.points f.places × StopsAreListed c f × Differ f.points
 
 -- ---- structs
 
-abbrev size_in : Option SlotStruct → ℕ
+abbrev pub size_in : Option SlotStruct → ℕ
 size_in None = 0
 size_in (Some s) = s.size
 
@@ -176,18 +200,29 @@ module _ (c : SlotCode) where
 
   abbrev pub IsItemThere : SlotItem → Type 0
   IsItemThere (Scalar k) = Unit {0}
-  IsItemThere (Struct s) = s < length c.structs
+  IsItemThere (Struct s) = IsFilled (slice_get c.structs s)
 
-  -- a member has an item, of a struct that is there
+  -- a member has an item, of a struct that has members
   abbrev pub IsMember : SlotMember → Type 0
-  IsMember m = (1 ≤ m.items) × IsItemThere m.item
+  IsMember m = (1 ≤ m.items) × (m.items ≤ most_static_bytes) × IsItemThere m.item
+
+  abbrev pub member_size : SlotMember → ℕ
+  member_size m = m.items * item_size m.item
+
+  -- members in order and apart between two offsets
+  abbrev pub MembersLieIn : ℕ → List SlotMember → ℕ → Type 0
+  MembersLieIn from [] end = from ≤ end
+  MembersLieIn from (m ∷ ms) end = (from ≤ m.at) × MembersLieIn (m.at + member_size m) ms end
+
+  -- a member that is the only one is the whole of its struct
+  abbrev pub IsWholeAlone : (size : ℕ) → List SlotMember → Type 0
+  IsWholeAlone size (m ∷ []) = (m.at ≡ 0) × (member_size m ≡ size)
+  IsWholeAlone size _ = Unit {0}
 
   abbrev pub IsStruct : SlotStruct → Type 0
-  IsStruct s = (s.size ≤ most_static_bytes) × AreLeavesOf s.size s.leaves × (s.leaves ≡ leaves_by s.members) × AllByRecursion IsMember s.members
-
-  abbrev members_in : Option SlotStruct → List SlotMember
-  members_in None = []
-  members_in (Some s) = s.members
+  IsStruct s =
+      (s.size ≤ most_static_bytes) × AreLeavesOf s.size s.leaves × (s.leaves ≡ leaves_by s.members) × AllByRecursion IsMember s.members
+      × MembersLieIn 0 s.members s.size × IsWholeAlone s.size s.members
 
   -- A struct holds structs that hold others, at most so many levels deep. More than one item is a level too, since a copy counts them.
   abbrev pub NestsWithin : (deep : ℕ) → (is_one : Bool) → SlotItem → Type 0
@@ -214,13 +249,13 @@ IsValueIn c start.Null = Unit {0}
 IsValueIn c (start.Object o i) = IsInside i (slice_get c.objects o)
 IsValueIn c (start.Str k) = k < length c.strings
 
--- a start of fewer than four bytes is a number (no program has one of two bytes yet)
+-- a start of one byte is a number
 abbrev pub IsNumber : SlotValue → Type 0
 IsNumber (start.Number n) = Unit {0}
 IsNumber _ = ⊥
 
 abbrev pub IsWide : SlotStart → Type 0
-IsWide s = (s.width ≡ 4) ⊎ (((s.width ≡ 1) ⊎ (s.width ≡ 2)) × IsNumber s.value)
+IsWide s = (s.width ≡ 4) ⊎ ((s.width ≡ 1) × IsNumber s.value)
 
 -- starts in order and apart between two offsets, each at a multiple of its width
 abbrev pub StartsLieIn : ℕ → List SlotStart → ℕ → Type 0
