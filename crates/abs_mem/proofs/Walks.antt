@@ -13,7 +13,7 @@ use Rattle.abs_mem.specs.declared.memory.MemFault.TheVariants.{Outside, LinkFaul
 use Rattle.abs_mem.specs.declared.walk.WalkFault.{WalkFault}
 use Rattle.abs_mem.specs.declared.walk.WalkFault.TheVariants as fault
 use Rattle.abs_mem.specs.Meaning.{Seen, Same, OnTold, Untold, Led}
-use Rattle.abs_mem.specs.Walking.{Walks, LedWalk, told, shape_of}
+use Rattle.abs_mem.specs.Walking.{Walks, LedWalk, told, told_of, shape_of}
 
 -- ---- what is told
 
@@ -78,11 +78,6 @@ walks_as {R = R} s u f g (Err (fault.Unforced n)) e h = (h.0, record { holds = �
 
 -- ---- the table alone
 
--- what a reading of the table is told as
-abbrev pub told_of : {A : Type 0} → Walked A → Result A WalkFault
-told_of (Ok x) = Ok x
-told_of (Err l) = Err (told l)
-
 pub walks_table : {R A : Type 0} (s : Seen R) (f : Bytes → Walked A) (x : Walked A) → ((b : Bytes) → f b ≡ x) → Walks f s (told_of x) s
 walks_table {R = R} s f (Ok x) e = (same_here s, record { holds = λ (b : Bytes) (r : R) t. e b })
 walks_table {R = R} s f (Err lack.Missing) e = (same_here s, record { holds = λ (b : Bytes) (r : R) t. ap shape_of (e b) })
@@ -113,9 +108,22 @@ led_then leads a b c x (Err (fault.Memory (BadReply frame))) go h k = go (Some f
 led_then leads a b c x (Err (fault.Shape missing)) go h k = go None h k
 led_then leads a b c x (Err (fault.Unforced u)) go h k = go None h k
 
-pub led_fail : {M A B : Type 0} (leads : M → Option (List ℕ) → M → Type 0) (a b : M) (x : WalkFault) → LedWalk {A = A} leads a (Err x) b → LedWalk {A = B} leads a (Err x) b
-led_fail leads a b (fault.Memory (Outside p)) h = h
-led_fail leads a b (fault.Memory LinkFault) h = h
-led_fail leads a b (fault.Memory (BadReply frame)) h = h
-led_fail leads a b (fault.Shape missing) h = h
-led_fail leads a b (fault.Unforced u) h = h
+pub led_fail : {M : Type 0} (A B : Type 0) (leads : M → Option (List ℕ) → M → Type 0) (a b : M) (x : WalkFault) → LedWalk {A = A} leads a (Err x) b → LedWalk {A = B} leads a (Err x) b
+led_fail A B leads a b (fault.Memory (Outside p)) h = h
+led_fail A B leads a b (fault.Memory LinkFault) h = h
+led_fail A B leads a b (fault.Memory (BadReply frame)) h = h
+led_fail A B leads a b (fault.Shape missing) h = h
+led_fail A B leads a b (fault.Unforced u) h = h
+
+-- where a walk stands on another one's way: the same function of the bytes is left
+pub walks_on : {R A : Type 0} (s u t : Seen R) (w h : Bytes → Walked A) (r : Result A WalkFault) → Same s u → OnTold s (λ b. w b ≡ h b) → Walks h u r t → Walks w s r t
+walks_on s u t w h (Ok y) x e k = (same_then s u t x k.0, on_told s u (λ b. h b ≡ Ok y) (λ b. w b ≡ h b) x e k.1 (λ b. w b ≡ Ok y) (λ b p q. p ∙ q))
+walks_on s u t w h (Err (fault.Memory (Outside p))) x e k =
+    (same_then s u t x k.0, on_told s u (λ b. h b ≡ Err lack.Outside) (λ b. w b ≡ h b) x e k.1 (λ b. w b ≡ Err lack.Outside) (λ b p q. p ∙ q))
+walks_on s u t w h (Err (fault.Memory LinkFault)) x e k = rose_then s.faults u.faults t.faults x.faults k
+walks_on {R = R} s u t w h (Err (fault.Memory (BadReply frame))) x e k =
+    record { faults = k.faults ∙ x.faults; never = λ (b : Bytes) (r : R) y. k.never b r (x.keeps b r y) }
+walks_on s u t w h (Err (fault.Shape missing)) x e k =
+    (same_then s u t x k.0, on_told s u (λ b. shape_of (h b) ≡ Some missing) (λ b. w b ≡ h b) x e k.1 (λ b. shape_of (w b) ≡ Some missing) (λ b p q. ap shape_of p ∙ q))
+walks_on s u t w h (Err (fault.Unforced n)) x e k =
+    (same_then s u t x k.0, on_told s u (λ b. h b ≡ Err (lack.Unforced n)) (λ b. w b ≡ h b) x e k.1 (λ b. w b ≡ Err (lack.Unforced n)) (λ b p q. p ∙ q))
