@@ -20,10 +20,10 @@ use Rattle.abs_mem.specs.Walking.{Walks, LedWalk, told, told_of, shape_of}
 pub same_here : {R : Type 0} (s : Seen R) → Same s s
 same_here {R = R} s = record { faults = refl; keeps = λ (b : Bytes) (r : R) t. t }
 
-same_then : {R : Type 0} (s u t : Seen R) → Same s u → Same u t → Same s t
+pub same_then : {R : Type 0} (s u t : Seen R) → Same s u → Same u t → Same s t
 same_then {R = R} s u t h k = record { faults = k.faults ∙ h.faults; keeps = λ (b : Bytes) (r : R) x. k.keeps b r (h.keeps b r x) }
 
-rose_then : (a b c : ℕ) → b ≡ a → Rose b c → Rose a c
+pub rose_then : (a b c : ℕ) → b ≡ a → Rose b c → Rose a c
 rose_then a b c e h = subst (λ (n : ℕ). Rose n c) e h
 
 -- ---- a step that can be left out: the functions are the same where the bytes are told

@@ -3,6 +3,7 @@ use Rattle.std.proofs.Common.{◌≡◌, ◌≢◌, ◌∙◌, refl, sym, ap, su
 use Rattle.std.proofs.lemmas.Bool.{eqb-true, eqb-false}
 use Rattle.ldb_words.specs.declared.kinds.Kind.TheVariants.{Word}
 use Rattle.frame_bytes.specs.declared.frame.Space.TheVariants.{Memory}
+use Rattle.frame_bytes.specs.declared.frame.Place.{Place}
 use Rattle.frame_bytes.specs.Bytes.{Bytes, fetched, stored}
 use Rattle.abs_mem.specs.declared.memory.MemFault.{MemFault}
 use Rattle.abs_mem.specs.declared.memory.MemFault.TheVariants.{Outside, LinkFault, BadReply}
@@ -13,8 +14,11 @@ use Rattle.break_plant.specs.declared.planting.PlantFault.TheVariants as fault
 use Rattle.break_plant.specs.Planted.{noop_of, break_of, in_memory, word_at, Planted, Plants, LedPlant, seen_by, done_by}
 use Rattle.break_plant.proofs.Holding.{word_none}
 
+abbrev seen_if : Bool → (at word : ℕ) → Result Unit PlantFault
+seen_if b at word = if b then Ok tt else Err (fault.NotNoop at word)
+
 refuses : {R : Type 0} (target at : ℕ) (s u : Seen R) (word : ℕ) (b : Bool) (e : PlantFault) → b ≡ nat_eq word (noop_of target) → Fetches s (in_memory at) Word (Ok word) u
-    → (if b then Ok tt else Err (fault.NotNoop at word)) ≡ Err e → Plants target at s (Err e) u
+    → seen_if b at word ≡ Err e → Plants target at s (Err e) u
 refuses target at s u word true e same h x = cc
 refuses target at s u word false e same h x =
     let is : fault.NotNoop at word ≡ e = cc in
@@ -27,7 +31,7 @@ refused target at s u (Err LinkFault) e h x = let is : fault.Memory LinkFault �
 refused target at s u (Err (BadReply frame)) e h x = let is : fault.Memory (BadReply frame) ≡ e = cc in subst (λ (z : PlantFault). Plants target at s (Err z) u) is h
 
 -- the word that was seen is the no-op
-seen_noop : (target at word : ℕ) (b : Bool) (x : Unit) → b ≡ nat_eq word (noop_of target) → (if b then Ok tt else Err (fault.NotNoop at word)) ≡ Ok x → word ≡ noop_of target
+seen_noop : (target at word : ℕ) (b : Bool) (x : Unit {0}) → b ≡ nat_eq word (noop_of target) → seen_if b at word ≡ Ok x → word ≡ noop_of target
 seen_noop target at word true x same e = eqb-true word (noop_of target) (sym same)
 seen_noop target at word false x same e = cc
 
@@ -45,27 +49,15 @@ stores target at word s u t (Err LinkFault) is h k = rose_then s.faults u.faults
 stores {R = R} target at word s u t (Err (BadReply frame)) is h k =
     record { faults = k.faults ∙ h.0.faults; never = λ (b : Bytes) (r : R) y. k.never b r (h.0.keeps b r y) }
 
-pub planted : {R : Type 0} (target at : ℕ) (s u t : Seen R) (w : Result ℕ MemFault) (x : Unit) (r : Result Unit MemFault) → Fetches s (in_memory at) Word w u → seen_by target at w ≡ Ok x
+pub planted : {R : Type 0} (target at : ℕ) (s u t : Seen R) (w : Result ℕ MemFault) (x : Unit {0}) (r : Result Unit MemFault) → Fetches s (in_memory at) Word w u → seen_by target at w ≡ Ok x
     → Stores u (in_memory at) Word (break_of target) r t → Plants target at s (done_by r) t
 planted target at s u t (Ok word) x r h e k = stores target at word s u t r (seen_noop target at word (nat_eq word (noop_of target)) x refl e) h k
 planted target at s u t (Err f) x r h e k = cc
 
--- ---- calls
-
-led_by_word : {M : Type 0} (leads : M → Option (List ℕ) → M → Type 0) (at word : ℕ) (t : Bool) (a b : M) (e : PlantFault) → leads a None b → (if t then Ok tt else Err (fault.NotNoop at word)) ≡ Err e → LedPlant leads a (Err e) b
-led_by_word leads at word true a b e h x = cc
-led_by_word leads at word false a b e h x = let is : fault.NotNoop at word ≡ e = cc in subst (λ (z : PlantFault). LedPlant leads a (Err z) b) is h
-
-pub led_refused : {M : Type 0} (leads : M → Option (List ℕ) → M → Type 0) (target at : ℕ) (a b : M) (w : Result ℕ MemFault) (e : PlantFault) → Led leads a w b → seen_by target at w ≡ Err e → LedPlant leads a (Err e) b
-led_refused leads target at a b (Ok word) e h x = led_by_word leads at word (nat_eq word (noop_of target)) a b e h x
-led_refused leads target at a b (Err (Outside p)) e h x = let is : fault.Memory (Outside p) ≡ e = cc in subst (λ (z : PlantFault). LedPlant leads a (Err z) b) is h
-led_refused leads target at a b (Err LinkFault) e h x = let is : fault.Memory LinkFault ≡ e = cc in subst (λ (z : PlantFault). LedPlant leads a (Err z) b) is h
-led_refused leads target at a b (Err (BadReply frame)) e h x = let is : fault.Memory (BadReply frame) ≡ e = cc in subst (λ (z : PlantFault). LedPlant leads a (Err z) b) is h
-
-pub led_planted : {M : Type 0} (leads : M → Option (List ℕ) → M → Type 0) (target at : ℕ) (a b c : M) (w : Result ℕ MemFault) (x : Unit) (r : Result Unit MemFault)
-    → ((o : Option (List ℕ)) → leads a None b → leads b o c → leads a o c) → Led leads a w b → seen_by target at w ≡ Ok x → Led leads b r c → LedPlant leads a (done_by r) c
-led_planted leads target at a b c (Ok word) x (Ok y) go h e k = go None h k
-led_planted leads target at a b c (Ok word) x (Err (Outside p)) go h e k = go None h k
-led_planted leads target at a b c (Ok word) x (Err LinkFault) go h e k = tt
-led_planted leads target at a b c (Ok word) x (Err (BadReply frame)) go h e k = go (Some frame.items) h k
-led_planted leads target at a b c (Err f) x r go h e k = cc
+-- the same as the code has it
+pub planted_by : {R : Type 0} (target at v : ℕ) (s u t : Seen R) (p : Place) (w : Result ℕ MemFault) (x : Unit {0}) (r : Result Unit MemFault) (seen done : Result Unit PlantFault) → p ≡ in_memory at → v ≡ break_of target
+    → Fetches s p Word w u → seen ≡ seen_by target at w → seen ≡ Ok x → Stores u p Word v r t → done ≡ done_by r → Plants target at s done t
+planted_by target at v s u t p w x r seen done there word h e is k by =
+    let h' = subst (λ (q : Place). Fetches s q Word w u) there h in
+    let k' = subst (λ (n : ℕ). Stores u (in_memory at) Word n r t) word (subst (λ (q : Place). Stores u q Word v r t) there k) in
+    subst (λ (y : Result Unit PlantFault). Plants target at s y t) (sym by) (planted target at s u t w x r h' (sym e ∙ is) k')

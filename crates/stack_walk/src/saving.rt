@@ -5,7 +5,7 @@ ghost use Rattle.frame_bytes.specs.Bytes.{Bytes};
 ghost use Rattle.table_model.specs.Frames.{saving_frame, saved_of, frame_in, next_frame};
 ghost use Rattle.table_model.specs.declared.row.TargetRow.TheVariants.{Saving};
 ghost use Rattle.abs_mem.specs.Walking.{Walks, LedWalk, told_of};
-ghost use Rattle.stack_walk.specs.Callers.{saved_in, caller_at, returned_to};
+ghost use Rattle.stack_walk.specs.Callers.{saved_in, outer_frame, caller_at, returned_to};
 
 use crate::fetching::{fetch_word, frame_told, function_told, kept_told, outer_told};
 use crate::places::{Places, preserved_places, words_from};
@@ -62,8 +62,22 @@ pub fn first_saving<M: AbsMem>(
     frame_told(saving_frame(table, pc, sp, places, function))
 }
 
-/// The frame of a caller at a pc, whose callee's function has these entries of `/saved`.
+/// The frame of a function at a pc, whose callee's function has these entries of `/saved`.
 #[tactic(auto, using(crate::proofs::Entries::caller_is))]
+fn outer_frame(
+    table: &PsStore,
+    saved: &[PsObj],
+    frame: &Frame,
+    pc: u32,
+    function: DictId,
+) -> Result<Frame, Lack>
+    ensures { result ≡ outer_frame table.now (saved_in table.now saved.now) frame.now.base frame.now.places pc function }
+{
+    let places = preserved_places(table, saved, frame.base, &frame.places)?;
+    saving_frame(table, pc, frame.base, places, function)
+}
+
+/// The frame of a caller at a pc, whose callee's function has these entries of `/saved`.
 fn caller_at(
     table: &PsStore,
     saved: &[PsObj],
@@ -75,8 +89,7 @@ fn caller_at(
     match function_at(table, pc)? {
         None => Ok(None),
         Some(row) => {
-            let places = preserved_places(table, saved, frame.base, &frame.places)?;
-            let outer = saving_frame(table, pc, frame.base, places, row.function)?;
+            let outer = outer_frame(table, saved, frame, pc, row.function)?;
             Ok(Some(outer))
         }
     }
@@ -121,6 +134,7 @@ fn caller_of<M: AbsMem>(
 }
 
 /// The frame outward of one.
+#[tactic(auto, unfolding(table_model::specs::Frames::next_frame))]
 pub fn up_saving<M: AbsMem>(
     target: ReturnRow,
     frame: &Frame,

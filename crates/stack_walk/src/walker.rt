@@ -52,6 +52,7 @@ fn frame_in<M: AbsMem>(
 }
 
 /// Frame 0, which stands at the pc of the context block at an address; none where no function holds that pc.
+#[tactic(auto, unfolding(table_model::specs::Frames::first_frame))]
 pub fn first<M: AbsMem>(
     row: TargetRow,
     context: u32,
@@ -73,6 +74,7 @@ pub fn first<M: AbsMem>(
 
 /// The frame outward of one; none where no function holds the pc of either, or where a function doesn't save its return
 /// address.
+#[tactic(auto, unfolding(table_model::specs::Frames::next_frame))]
 pub fn up<M: AbsMem>(
     row: TargetRow,
     frame: &Frame,
