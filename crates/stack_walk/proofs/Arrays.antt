@@ -1,7 +1,9 @@
 -- Arrays of places.
 use Rattle.std.proofs.Common.{◌≡◌, ◌≢◌, ◌∙◌, refl, sym, ap, subst, ℕ, suc, ◌+◌, ◌-◌, ◌≤◌, ◌<◌, ◌%◌, ◌^◌, Bool, true, false, List, [], ◌∷◌, ◌++◌, take, drop, set, length, replicate, Option, Some, None, Result, Ok, Err, is_ok, arith}
 use Rattle.std.proofs.Math.Seq.{drop-cons}
-use Rattle.std.proofs.lemmas.List.{append_assoc, take_more_set, drop-set-lt, take-append-drop, length-set}
+use Rattle.std.proofs.lemmas.Slice.{take-put_mid}
+use borrow.Rule.Slice.PartMut.{put_mid}
+use Rattle.std.proofs.lemmas.List.{append_assoc, take_more_set, drop-set-lt, take-append-drop, length-set, length-drop, take_all}
 use Rattle.ldb_words.specs.Word.{sum_of}
 use Rattle.ps_step.specs.Results.{◌>>=◌}
 use Rattle.table_model.specs.Reading.{Walked}
@@ -10,6 +12,14 @@ use Rattle.stack_walk.specs.Callers.{by_saved, outer_place}
 
 pub window_is : (at : ℕ) (inner places : List (Option ℕ)) → length inner ≡ 32 → take 16 places ≡ take 8 inner ++ drop 24 inner → take 16 places ++ words_from 16 at ≡ window_places at inner
 window_is at inner places size e = ap (λ l. l ++ words_from 16 at) e ∙ append_assoc (take 8 inner) (drop 24 inner) (words_from 16 at)
+
+-- the outs are the ins of the inner frame
+pub outs_are : (inner ys : List (Option ℕ)) → length inner ≡ 32 → ys ≡ take 8 (drop 24 inner) → take 16 (put_mid 8 8 inner ys) ≡ take 8 inner ++ drop 24 inner
+outs_are inner ys size e =
+    let last : length (drop 24 inner) ≡ 8 = length-drop 24 inner ∙ ap (λ n. n - 24) size in
+    let all : ys ≡ drop 24 inner = e ∙ take_all 8 (drop 24 inner) (omega (arith, last)) in
+    let count : length ys ≡ 8 = ap length all ∙ last in
+    take-put_mid 8 8 inner ys 16 (omega (arith, count)) (omega (arith, size)) ∙ ap (λ l. take 8 inner ++ l) all
 
 -- one more word
 pub words_more : (places : List (Option ℕ)) (i word next : ℕ) (whole : List (Option ℕ)) → i < 32 → length places ≡ 32 → next ≡ sum_of word 4 → take i places ++ words_from (32 - i) word ≡ whole
@@ -45,6 +55,9 @@ places_more (Ok s) base inner places r p all lt size e is =
     ∙ sym (ap (λ k. Ok (take r places ++ (outer_places k r base s inner ++ end))) left)
     ∙ is
 
+abbrev blank : ℕ → List (Option ℕ)
+blank k = replicate k None
+
 -- behind it there are none yet
 pub rest_more : (places : List (Option ℕ)) (r : ℕ) (p : Option ℕ) → r < 24 → length places ≡ 32 → drop r places ≡ replicate (32 - r) None → drop (r + 1) (set places r p) ≡ replicate (32 - (r + 1)) None
 rest_more places r p lt size rest =
@@ -52,7 +65,7 @@ rest_more places r p lt size rest =
     let here : r < length places = omega (arith, size) in
     let left : 32 - r ≡ suc n = omega arith in
     let next : r + 1 ≡ suc r = omega arith in
-    let none : replicate (32 - r) (None {A = ℕ}) ≡ None ∷ replicate n None = ap (λ k. replicate k None) left in
+    let none : blank (32 - r) ≡ None ∷ blank n = ap blank left in
     drop-set-lt (r + 1) places r p (omega arith)
     ∙ ap (λ k. drop k places) next
     ∙ ap (λ l. drop 1 l) (sym (drop-cons places r None here) ∙ rest ∙ none)
