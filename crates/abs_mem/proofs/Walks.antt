@@ -13,17 +13,17 @@ use Rattle.abs_mem.specs.declared.memory.MemFault.TheVariants.{Outside, LinkFaul
 use Rattle.abs_mem.specs.declared.walk.WalkFault.{WalkFault}
 use Rattle.abs_mem.specs.declared.walk.WalkFault.TheVariants as fault
 use Rattle.abs_mem.specs.Meaning.{Seen, Same, OnTold, Untold, Led}
-use Rattle.abs_mem.specs.Walking.{Walks, LedWalk, told, shape_of}
+use Rattle.abs_mem.specs.Walking.{Walks, LedWalk, told, told_of, shape_of}
 
 -- ---- what is told
 
 pub same_here : {R : Type 0} (s : Seen R) → Same s s
 same_here {R = R} s = record { faults = refl; keeps = λ (b : Bytes) (r : R) t. t }
 
-same_then : {R : Type 0} (s u t : Seen R) → Same s u → Same u t → Same s t
+pub same_then : {R : Type 0} (s u t : Seen R) → Same s u → Same u t → Same s t
 same_then {R = R} s u t h k = record { faults = k.faults ∙ h.faults; keeps = λ (b : Bytes) (r : R) x. k.keeps b r (h.keeps b r x) }
 
-rose_then : (a b c : ℕ) → b ≡ a → Rose b c → Rose a c
+pub rose_then : (a b c : ℕ) → b ≡ a → Rose b c → Rose a c
 rose_then a b c e h = subst (λ (n : ℕ). Rose n c) e h
 
 -- ---- a step that can be left out: the functions are the same where the bytes are told
@@ -44,9 +44,10 @@ walks_then s u t f g w x (Err (fault.Memory (Outside p))) h k e =
 walks_then s u t f g w x (Err (fault.Memory LinkFault)) h k e = rose_then s.faults u.faults t.faults h.0.faults k
 walks_then {R = R} s u t f g w x (Err (fault.Memory (BadReply frame))) h k e =
     record { faults = k.faults ∙ h.0.faults; never = λ (b : Bytes) (r : R) y. k.never b r (h.0.keeps b r y) }
-walks_then s u t f g w x (Err (fault.Shape missing)) h k e =
-    (same_then s u t h.0 k.0,
-    on_told s u (λ b. shape_of (g x b) ≡ Some missing) (λ b. f b ≡ Ok x) h.0 h.1 k.1 (λ b. shape_of (w b) ≡ Some missing) (λ b p q. ap shape_of (e b p) ∙ q))
+walks_then s u t f g w x (Err (fault.Shape missing)) h k e = (
+  same_then s u t h.0 k.0,
+  on_told s u (λ b. shape_of (g x b) ≡ Some missing) (λ b. f b ≡ Ok x) h.0 h.1 k.1 (λ b. shape_of (w b) ≡ Some missing) (λ b p q. ap shape_of (e b p) ∙ q),
+)
 walks_then s u t f g w x (Err (fault.Unforced n)) h k e =
     (same_then s u t h.0 k.0, on_told s u (λ b. g x b ≡ Err (lack.Unforced n)) (λ b. f b ≡ Ok x) h.0 h.1 k.1 (λ b. w b ≡ Err (lack.Unforced n)) (λ b p q. e b p ∙ q))
 
@@ -78,11 +79,6 @@ walks_as {R = R} s u f g (Err (fault.Unforced n)) e h = (h.0, record { holds = �
 
 -- ---- the table alone
 
--- what a reading of the table is told as
-abbrev pub told_of : {A : Type 0} → Walked A → Result A WalkFault
-told_of (Ok x) = Ok x
-told_of (Err l) = Err (told l)
-
 pub walks_table : {R A : Type 0} (s : Seen R) (f : Bytes → Walked A) (x : Walked A) → ((b : Bytes) → f b ≡ x) → Walks f s (told_of x) s
 walks_table {R = R} s f (Ok x) e = (same_here s, record { holds = λ (b : Bytes) (r : R) t. e b })
 walks_table {R = R} s f (Err lack.Missing) e = (same_here s, record { holds = λ (b : Bytes) (r : R) t. ap shape_of (e b) })
@@ -113,9 +109,22 @@ led_then leads a b c x (Err (fault.Memory (BadReply frame))) go h k = go (Some f
 led_then leads a b c x (Err (fault.Shape missing)) go h k = go None h k
 led_then leads a b c x (Err (fault.Unforced u)) go h k = go None h k
 
-pub led_fail : {M A B : Type 0} (leads : M → Option (List ℕ) → M → Type 0) (a b : M) (x : WalkFault) → LedWalk {A = A} leads a (Err x) b → LedWalk {A = B} leads a (Err x) b
-led_fail leads a b (fault.Memory (Outside p)) h = h
-led_fail leads a b (fault.Memory LinkFault) h = h
-led_fail leads a b (fault.Memory (BadReply frame)) h = h
-led_fail leads a b (fault.Shape missing) h = h
-led_fail leads a b (fault.Unforced u) h = h
+pub led_fail : {M : Type 0} (A B : Type 0) (leads : M → Option (List ℕ) → M → Type 0) (a b : M) (x : WalkFault) → LedWalk {A = A} leads a (Err x) b → LedWalk {A = B} leads a (Err x) b
+led_fail A B leads a b (fault.Memory (Outside p)) h = h
+led_fail A B leads a b (fault.Memory LinkFault) h = h
+led_fail A B leads a b (fault.Memory (BadReply frame)) h = h
+led_fail A B leads a b (fault.Shape missing) h = h
+led_fail A B leads a b (fault.Unforced u) h = h
+
+-- where a walk stands on another one's way: the same function of the bytes is left
+pub walks_on : {R A : Type 0} (s u t : Seen R) (w h : Bytes → Walked A) (r : Result A WalkFault) → Same s u → OnTold s (λ b. w b ≡ h b) → Walks h u r t → Walks w s r t
+walks_on s u t w h (Ok y) x e k = (same_then s u t x k.0, on_told s u (λ b. h b ≡ Ok y) (λ b. w b ≡ h b) x e k.1 (λ b. w b ≡ Ok y) (λ b p q. p ∙ q))
+walks_on s u t w h (Err (fault.Memory (Outside p))) x e k =
+    (same_then s u t x k.0, on_told s u (λ b. h b ≡ Err lack.Outside) (λ b. w b ≡ h b) x e k.1 (λ b. w b ≡ Err lack.Outside) (λ b p q. p ∙ q))
+walks_on s u t w h (Err (fault.Memory LinkFault)) x e k = rose_then s.faults u.faults t.faults x.faults k
+walks_on {R = R} s u t w h (Err (fault.Memory (BadReply frame))) x e k =
+    record { faults = k.faults ∙ x.faults; never = λ (b : Bytes) (r : R) y. k.never b r (x.keeps b r y) }
+walks_on s u t w h (Err (fault.Shape missing)) x e k =
+    (same_then s u t x k.0, on_told s u (λ b. shape_of (h b) ≡ Some missing) (λ b. w b ≡ h b) x e k.1 (λ b. shape_of (w b) ≡ Some missing) (λ b p q. ap shape_of p ∙ q))
+walks_on s u t w h (Err (fault.Unforced n)) x e k =
+    (same_then s u t x k.0, on_told s u (λ b. h b ≡ Err (lack.Unforced n)) (λ b. w b ≡ h b) x e k.1 (λ b. w b ≡ Err (lack.Unforced n)) (λ b p q. p ∙ q))

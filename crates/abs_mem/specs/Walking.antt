@@ -20,6 +20,11 @@ told lack.TooDeep = fault.Shape false
 told (lack.Unforced u) = fault.Unforced u
 told lack.Outside = fault.Memory (Outside (record { space = Memory; at = 0 }))
 
+-- how a reading of the table is told
+abbrev pub told_of : {A : Type 0} → Walked A → Result A WalkFault
+told_of (Ok x) = Ok x
+told_of (Err l) = Err (told l)
+
 -- whether a key is missing or of another type, if that is what is lacked
 abbrev pub shape_of : {A : Type 0} → Walked A → Option Bool
 shape_of (Err lack.Missing) = Some true

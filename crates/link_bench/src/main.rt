@@ -1,6 +1,9 @@
 //! Measures a link in this program, on a MIPS machine or, with a third word `sparc`, on a SPARC machine: `link N` fetches
-//! a word N times, `resume N` resumes once for N turns.
+//! a word N times, `resume N` resumes once for N turns. `frames N` makes a stack of N frames on a MIPS machine, at most 20,000,
+//! and walks over it.
 #![tactic(auto)]
+
+mod frames;
 
 use near_link::NearLink;
 use nub_wire::{Link, Msg, Side, encode};
@@ -72,6 +75,7 @@ fn words_of(rt: &(impl Env + AllocGlobal), alloc: Global) -> Result<Vec<String>,
 enum Work {
     Fetches(u64),
     Turns(u32),
+    Frames(u32),
 }
 
 /// What two words ask to measure.
@@ -79,6 +83,7 @@ fn work_of(name: &str, number: &str) -> Option<Work> {
     match name {
         "link" => Some(Work::Fetches(number.parse::<u64>().ok()?)),
         "resume" => Some(Work::Turns(number.parse::<u32>().ok()?)),
+        "frames" => Some(Work::Frames(number.parse::<u32>().ok()?)),
         _ => None,
     }
 }
@@ -101,11 +106,12 @@ fn main(rt: HostRuntime) -> io::Result<ExitCode> {
             let answered = match work {
                 Work::Fetches(count) => fetched(&mut link, count),
                 Work::Turns(turns) => resumed(&mut link, turns),
+                Work::Frames(count) => frames::walked(rt.alloc(), link, count)?,
             };
             println!(rt; "answered {answered}")?;
             return Ok(ExitCode::SUCCESS);
         }
     }
-    println!(rt; "link_bench link|resume N [sparc]")?;
+    println!(rt; "link_bench link|resume|frames N [sparc]")?;
     Ok(ExitCode::from(2))
 }
