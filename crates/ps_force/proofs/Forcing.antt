@@ -12,8 +12,11 @@ use Rattle.ps_store.specs.declared.key.Key.{Key}
 use Rattle.ps_store.specs.StoreState.{StoreState, Closed}
 use Rattle.ps_store.specs.Key.{same_key}
 use Rattle.ps_store.specs.Entries.{value_at, with_value, replaced}
+use Rattle.ps_store.specs.Cut.{mark_of}
 use Rattle.ps_store.specs.Store.{closed_part, entries_of, with_entries, is_deferred, KeepsClosed, KeepsClosedIn}
 use Rattle.ps_step.specs.declared.fault.PsFault.{PsFault}
+use Rattle.ps_step.specs.declared.fault.PsFault.TheVariants.{Error}
+use Rattle.ps_step.specs.declared.fault.PsError.TheVariants.{StackUnderflow, TypeCheck, Undefined}
 use Rattle.ps_step.specs.declared.machine.PsCore.{PsCore}
 use Rattle.ps_run.specs.Runs.{Answer, Operates}
 use Rattle.ps_force.specs.Forcing.{placing, left_on, placing_left, forced_by, Forces}
@@ -24,10 +27,16 @@ keeps_on s t m e h = subst (λ (p : Closed). KeepsClosedIn p.part p.mark m) (sym
 
 -- ---- values that were put in the place of others
 
-ok_is : (x y : PsObj) → Ok {E = PsFault} x ≡ Ok y → x ≡ y
+abbrev gives : PsObj → Result PsObj PsFault
+gives x = Ok x
+
+abbrev fails : PsFault → Result PsObj PsFault
+fails f = Err f
+
+ok_is : (x y : PsObj) → gives x ≡ Ok y → x ≡ y
 ok_is x y h = cc
 
-err_ok : (f : PsFault) (y : PsObj) → Err {A = PsObj} f ≡ Ok y → ⊥
+err_ok : (f : PsFault) (y : PsObj) → fails f ≡ Ok y → ⊥
 err_ok f y h = cc
 
 value_replaced : (es : List (Key × Pair)) (key : Key) (v x : PsObj) → value_at es key ≡ Some v → value_at (replaced es key x) key ≡ Some x
@@ -66,7 +75,7 @@ same_closed s m Table i = refl
 same_closed s m Command i = refl
 
 module _ (mark : Mark) (d : DictId) (key : Key) (s : StoreState) where
-  closed_given : (m : Mark) (t : StoreState) (x y : PsObj) → value_at (entries_of t d) key ≡ Some x → is_deferred (Some x) ≡ false → Ok {E = PsFault} x ≡ Ok y → Given d key (record t { closed = m }) y
+  closed_given : (m : Mark) (t : StoreState) (x y : PsObj) → value_at (entries_of t d) key ≡ Some x → is_deferred (Some x) ≡ false → gives x ≡ Ok y → Given d key (record t { closed = m }) y
   closed_given m t x y h plain e =
       let same : x ≡ y = ok_is x y e in
       record {
@@ -75,24 +84,24 @@ module _ (mark : Mark) (d : DictId) (key : Key) (s : StoreState) where
       }
 
   placing_gives : (x y : PsObj) (there : Option PsObj) → value_at (entries_of s d) key ≡ there → is_deferred (Some x) ≡ false → (placing mark d key x there s).0 ≡ Ok y → Given d key (placing mark d key x there s).1 y
-  placing_gives x y None h plain e = absurd (err_ok _ y e)
-  placing_gives x y (Some (Str t true)) h plain e = closed_given _ (with_entries s d (replaced (entries_of s d) key x)) x y (value_put s d key (Str t true) x h) plain e
-  placing_gives x y (Some (Str t false)) h plain e = closed_given _ s (Str t false) y h refl e
-  placing_gives x y (Some (Int n)) h plain e = closed_given _ s (Int n) y h refl e
-  placing_gives x y (Some (Truth b)) h plain e = closed_given _ s (Truth b) y h refl e
-  placing_gives x y (Some (Name t b)) h plain e = closed_given _ s (Name t b) y h refl e
-  placing_gives x y (Some (Array a b)) h plain e = closed_given _ s (Array a b) y h refl e
-  placing_gives x y (Some (Dict a)) h plain e = closed_given _ s (Dict a) y h refl e
-  placing_gives x y (Some (Op n)) h plain e = closed_given _ s (Op n) y h refl e
-  placing_gives x y (Some MarkObject) h plain e = closed_given _ s MarkObject y h refl e
-  placing_gives x y (Some Null) h plain e = closed_given _ s Null y h refl e
+  placing_gives x y None h plain e = absurd (err_ok (Error Undefined) y e)
+  placing_gives x y (Some (Str t true)) h plain e = closed_given (mark_of (with_entries s d (replaced (entries_of s d) key x)).table) (with_entries s d (replaced (entries_of s d) key x)) x y (value_put s d key (Str t true) x h) plain e
+  placing_gives x y (Some (Str t false)) h plain e = closed_given (mark_of s.table) s (Str t false) y h refl e
+  placing_gives x y (Some (Int n)) h plain e = closed_given (mark_of s.table) s (Int n) y h refl e
+  placing_gives x y (Some (Truth b)) h plain e = closed_given (mark_of s.table) s (Truth b) y h refl e
+  placing_gives x y (Some (Name t b)) h plain e = closed_given (mark_of s.table) s (Name t b) y h refl e
+  placing_gives x y (Some (Array a b)) h plain e = closed_given (mark_of s.table) s (Array a b) y h refl e
+  placing_gives x y (Some (Dict a)) h plain e = closed_given (mark_of s.table) s (Dict a) y h refl e
+  placing_gives x y (Some (Op n)) h plain e = closed_given (mark_of s.table) s (Op n) y h refl e
+  placing_gives x y (Some MarkObject) h plain e = closed_given (mark_of s.table) s MarkObject y h refl e
+  placing_gives x y (Some Null) h plain e = closed_given (mark_of s.table) s Null y h refl e
 
   left_gives : (x y : PsObj) → is_deferred (Some x) ≡ false → (placing_left mark d key (Ok x) s).0 ≡ Ok y → Given d key (placing_left mark d key (Ok x) s).1 y
   left_gives x y plain e = placing_gives x y (value_at (entries_of s d) key) refl plain e
 
   on_gives : (operands : List PsObj) (y : PsObj) → (placing_left mark d key (left_on operands) s).0 ≡ Ok y → Given d key (placing_left mark d key (left_on operands) s).1 y
-  on_gives [] y e = absurd (err_ok _ y e)
-  on_gives (Str t true ∷ rest) y e = absurd (err_ok _ y e)
+  on_gives [] y e = absurd (err_ok (Error StackUnderflow) y e)
+  on_gives (Str t true ∷ rest) y e = absurd (err_ok (Error TypeCheck) y e)
   on_gives (Str t false ∷ rest) y e = left_gives (Str t false) y refl e
   on_gives (Int n ∷ rest) y e = left_gives (Int n) y refl e
   on_gives (Truth b ∷ rest) y e = left_gives (Truth b) y refl e
@@ -112,13 +121,13 @@ same_part s q Table i = refl
 same_part s q Command i = refl
 
 module _ {D : Type 0} (Op' : Operates D) (n : ℕ) (dialect : D) (c : PsCore) (d : DictId) (key : Key) (text x : PsObj) (m : ℕ) (dialect' : D) (c' : PsCore) (h : Forces Op' n dialect c d key text (Ok x) m dialect' c') where
-  here : Given d key (forced_by _ d key h.answer h.core.operands h.core.store).1 x
-  here = forced_gives _ d key h.core.store h.answer h.core.operands x h.given
+  here : Given d key (forced_by (mark_of c.store.table) d key h.answer h.core.operands h.core.store).1 x
+  here = forced_gives (mark_of c.store.table) d key h.core.store h.answer h.core.operands x h.given
 
   pub forced_value : value_at (entries_of c'.store d) key ≡ Some x
   forced_value =
       ap (λ (k : PsCore). value_at (entries_of k.store d) key) h.after
-      ∙ ap (λ es. value_at es key) (same_part _ c.store.part d.part d.index) ∙ here.value
+      ∙ ap (λ es. value_at es key) (same_part (forced_by (mark_of c.store.table) d key h.answer h.core.operands h.core.store).1 c.store.part d.part d.index) ∙ here.value
 
   pub forced_plain : is_deferred (Some x) ≡ false
   forced_plain = here.plain

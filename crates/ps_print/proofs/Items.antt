@@ -41,10 +41,10 @@ some_left k = by_case (int_eq (pos (suc k)) (pos 0)) refl
     by_case false e = e
     by_case true e = let same : suc k ≡ 0 = ap pos_number ((signed_Decides (pos (suc k)) (pos 0)).0 e) in absurd (omega arith)
 
-dots_printable : AllPrintable (codes "...")
+pub dots_printable : AllPrintable (codes "...")
 dots_printable = (omega arith, omega arith, (omega arith, omega arith, (omega arith, omega arith, tt)))
 
-comma_printable : AllPrintable (codes ", ")
+pub comma_printable : AllPrintable (codes ", ")
 comma_printable = (omega arith, omega arith, (omega arith, omega arith, tt))
 
 module _ {D : Type 0} (Op : Operates D) (prints : Printing Op) (s : StoreState) (ds : List DictId) (digits : ArrayId) (holds : Holds s ds digits) (Q : ℕ → D → PsCore → Type 0)

@@ -25,32 +25,12 @@ use Rattle.ps_store.specs.declared.object.Part.TheVariants.{Table}
 use Rattle.ps_terms.specs.Machine.{Entry, Acts, Branch, Branches, Does, Gives, Words, meaning}
 use Rattle.ps_terms.specs.Stands.{Means, Knows}
 use Rattle.ps_print.specs.Words.{words, Holds}
-use Rattle.ps_print.specs.Loaded.{started, start, after, or_new, loaded, digits_id}
+use Rattle.ps_print.specs.Loaded.{start, after, or_new, executed, loaded, digits_id}
 use Rattle.ps_print.specs.Leads.{Leads}
 use Rattle.ps_run.specs.Runs.{Operates, Answer, Runs}
 use Rattle.ps_terms.specs.Printing.{further}
 use Rattle.ps_run.proofs.Apart.{behind}
-use Rattle.ps_print.specs.Prelude.{prelude, digits_body, signed_body, showint_body, showunsigned_body, items_body, showarray_body, show_body, print_body}
-
-abbrev run : ℕ → Option PsCore → Option ℕ
-run n None = None
-run n (Some c) = elim (after n c) [ None ↦ None | Some c' ↦ Some (length c'.operands) ]
-
-three : run 3 started ≡ Some 3
-unfolding digits is_white is_special is_regular is_hexadecimal operator_number
-three = refl
-
-one_definition : run 14 started ≡ Some 0
-unfolding digits is_white is_special is_regular is_hexadecimal operator_number
-one_definition = refl
-
-two_definitions : run 17 started ≡ Some 0
-unfolding digits is_white is_special is_regular is_hexadecimal operator_number
-two_definitions = refl
-
-all_definitions : run 74 started ≡ Some 0
-unfolding digits is_white is_special is_regular is_hexadecimal operator_number
-all_definitions = refl
+use Rattle.ps_print.specs.Prelude.{prelude, digits_body, signed_body, showint_body, showunsigned_body, showchar_body, showpointer_body, items_body, showarray_body, members_body, showstruct_body, show_body, print_body}
 
 -- ---- what the objects are, as a test
 
@@ -104,8 +84,9 @@ there name body = is_body (named loaded.store loaded.dictionaries name) body ≡
 
 bodies_there : there (codes "Digits") digits_body × there (codes "Signed") signed_body × there (codes "ShowInt") showint_body × there (codes "Items") items_body
     × there (codes "ShowArray") showarray_body × there (codes "Show") show_body × there (codes "PrintInt") print_body × there (codes "PrintArray") print_body × there (codes "ShowUnsigned") showunsigned_body
+    × there (codes "ShowChar") showchar_body × there (codes "ShowPointer") showpointer_body × there (codes "ShowStruct") showstruct_body × there (codes "Members") members_body
 unfolding digits is_white is_special is_regular is_hexadecimal operator_number
-bodies_there = (refl, refl, refl, refl, refl, refl, refl, refl, refl)
+bodies_there = (refl, refl, refl, refl, refl, refl, refl, refl, refl, refl, refl, refl, refl)
 
 does : (name : List ℕ) (body : Code) → there name body → Means loaded.store loaded.dictionaries name (Does body)
 does name body h = body_means (named loaded.store loaded.dictionaries name) name body refl h
@@ -128,16 +109,16 @@ known (w ∷ ws) h name entry e = by_name (known ws h.1 name entry) (bytes_eq w.
 
 digit_there : (r : ℕ) → r < 10 → (t : StringId) × (slice_get (elements_of loaded.store digits_id) r ≡ Some (Str t false)) × (bytes_of loaded.store t ≡ (48 + r) ∷ [])
 unfolding digits is_white is_special is_regular is_hexadecimal operator_number
-digit_there zero h = (record { part = Table; index = 3 }, refl, refl)
-digit_there (suc zero) h = (record { part = Table; index = 4 }, refl, refl)
-digit_there (suc (suc zero)) h = (record { part = Table; index = 5 }, refl, refl)
-digit_there (suc (suc (suc zero))) h = (record { part = Table; index = 6 }, refl, refl)
-digit_there (suc (suc (suc (suc zero)))) h = (record { part = Table; index = 7 }, refl, refl)
-digit_there (suc (suc (suc (suc (suc zero))))) h = (record { part = Table; index = 8 }, refl, refl)
-digit_there (suc (suc (suc (suc (suc (suc zero)))))) h = (record { part = Table; index = 9 }, refl, refl)
-digit_there (suc (suc (suc (suc (suc (suc (suc zero))))))) h = (record { part = Table; index = 10 }, refl, refl)
-digit_there (suc (suc (suc (suc (suc (suc (suc (suc zero)))))))) h = (record { part = Table; index = 11 }, refl, refl)
-digit_there (suc (suc (suc (suc (suc (suc (suc (suc (suc zero))))))))) h = (record { part = Table; index = 12 }, refl, refl)
+digit_there zero h = (record { part = Table; index = 6 }, refl, refl)
+digit_there (suc zero) h = (record { part = Table; index = 7 }, refl, refl)
+digit_there (suc (suc zero)) h = (record { part = Table; index = 8 }, refl, refl)
+digit_there (suc (suc (suc zero))) h = (record { part = Table; index = 9 }, refl, refl)
+digit_there (suc (suc (suc (suc zero)))) h = (record { part = Table; index = 10 }, refl, refl)
+digit_there (suc (suc (suc (suc (suc zero))))) h = (record { part = Table; index = 11 }, refl, refl)
+digit_there (suc (suc (suc (suc (suc (suc zero)))))) h = (record { part = Table; index = 12 }, refl, refl)
+digit_there (suc (suc (suc (suc (suc (suc (suc zero))))))) h = (record { part = Table; index = 13 }, refl, refl)
+digit_there (suc (suc (suc (suc (suc (suc (suc (suc zero)))))))) h = (record { part = Table; index = 14 }, refl, refl)
+digit_there (suc (suc (suc (suc (suc (suc (suc (suc (suc zero))))))))) h = (record { part = Table; index = 15 }, refl, refl)
 digit_there (suc (suc (suc (suc (suc (suc (suc (suc (suc (suc r)))))))))) h = absurd (omega arith)
 
 -- behind the prelude its words mean what its terms say
@@ -146,33 +127,34 @@ unfolding digits is_white is_special is_regular is_hexadecimal operator_number
 loaded_holds = record {
   knows = known (words digits_id) (refl, (refl, (refl, (refl, (refl, (refl, (refl, (refl, (refl, (refl, (refl, ((Array digits_id false, refl, refl, tt),
     (does (codes "Digits") digits_body bodies_there.0, (does (codes "Signed") signed_body bodies_there.1, (does (codes "ShowInt") showint_body bodies_there.2, (does (codes "ShowUnsigned") showunsigned_body bodies_there.8,
-    (does (codes "Items") items_body bodies_there.3, (does (codes "ShowArray") showarray_body bodies_there.4, (does (codes "Show") show_body bodies_there.5, tt)))))))))))))))))));
+    (does (codes "Items") items_body bodies_there.3, (does (codes "ShowArray") showarray_body bodies_there.4, (does (codes "Show") show_body bodies_there.5,
+    (does (codes "ShowChar") showchar_body bodies_there.9, (does (codes "ShowPointer") showpointer_body bodies_there.10, (does (codes "ShowStruct") showstruct_body bodies_there.11, (does (codes "Members") members_body bodies_there.12, tt)))))))))))))))))))))));
   get = refl;
+  length_of = refl;
   fetch = refl;
   udivs = refl;
   urem = refl;
   usub = refl;
   uadd = refl;
   put_chars = refl;
+  put_char = refl;
+  put_pointer = refl;
+  charrun = refl;
   put = refl;
   digit = digit_there;
 }
 
--- the 74 steps lead there, and nothing is left to be executed
+-- the steps lead there
 some_state : (o : Option PsCore) → is_some o ≡ true → o ≡ Some (or_new o)
 some_state (Some c) h = refl
 some_state None h = absurd (no_truth h)
 
-steps_made : is_some (after 74 start) ≡ true
+steps_made : is_some (after 75 start) ≡ true
 unfolding digits is_white is_special is_regular is_hexadecimal operator_number
 steps_made = refl
 
-steps_there : after 74 start ≡ Some loaded
-steps_there = some_state (after 74 start) steps_made
-
-nothing_waits : (length loaded.execution ≡ 1) × (length loaded.operands ≡ 0)
-unfolding digits is_white is_special is_regular is_hexadecimal operator_number
-nothing_waits = (refl, refl)
+steps_there : after 75 start ≡ Some executed
+steps_there = some_state (after 75 start) steps_made
 
 module _ {D : Type 0} (Op : Operates D) where
   after_leads : (n left : ℕ) (d : D) (c c' : PsCore) → after n c ≡ Some c' → Leads Op (further n left) d c left d c'
@@ -186,5 +168,5 @@ module _ {D : Type 0} (Op : Operates D) where
       on (Asks op c₁) s h rest = absurd (no_state h)
       on (Failed x c₁) s h rest = absurd (no_state h)
 
-  pub loads : (left : ℕ) (d : D) → Leads Op (further 74 left) d start left d loaded
-  loads left d = after_leads 74 left d start loaded steps_there
+  pub loads : (left : ℕ) (d : D) → Leads Op (further 75 left) d start left d executed
+  loads left d = after_leads 75 left d start executed steps_there

@@ -59,7 +59,7 @@ module _ {D : Type 0} (Op : Operates D) (prints : Printing Op) (s : StoreState) 
         (subst (λ x. Runs Op q.left q.dialect x r m d₂ c₂) q.holds.2 q.rest))
 
 pub printed : {D : Type 0} (Op : Operates D) (prints : Printing Op) (s : StoreState) (ds : List DictId) (digits : ArrayId) (d : D) (space : List ℕ) (defs : List StructDef) (t : CType) (type : DictId) (place : ℕ) (xs : List Showing) (i : Thing) (left : ℕ)
-    (operands o : List PsObj) (items under : List Item) → Holds s ds digits → Laid Op prints s d space 63 t type place xs i → RoomFor 400 o under
+    (operands o : List PsObj) (items under : List Item) → Holds s ds digits → Laid Op prints s d space defs 63 t type place xs i → RoomFor 400 o under
     → Are s operands (Obj (Dict type) ∷ Obj (Int (word place)) ∷ Key space ∷ []) → Frames s under items (print_body ∷ [])
     → Leads Op (print_steps i left) d (core s ds (operands ++ o) items) left (prints.append d (shown defs t xs)) (core s ds o under)
 printed {D} Op prints s ds digits d space defs t type place xs i left operands o items under holds laid room are frames =
@@ -67,6 +67,6 @@ printed {D} Op prints s ds digits d space defs t type place xs i left operands o
     let c' : PsCore = core s ds o under in
     let Q : ℕ → D → PsCore → Type 0 = There Op prints s ds digits d space left d' c' in
     leads Op prints s ds digits d space (print_steps i left) left d d' (core s ds (operands ++ o) items) c'
-    (print_goes Op prints s ds digits d space holds Q type place i left o under room (laid_shows Op prints s ds digits holds Q d space 63 t type place xs i laid) (prints.append_none d)
+    (print_goes Op prints s ds digits d space holds Q type place i left o under room (laid_shows Op prints s ds digits holds Q d space defs 63 t type place xs i laid) (prints.append_none d)
       (subst (λ x. Passes Op Q left (prints.append d x) c') (sym (laid_shown Op prints s d space defs t type place xs i laid)) (passes_here Op Q left d' c' (refl, refl, refl)))
       operands items are frames)

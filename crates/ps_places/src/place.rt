@@ -1,0 +1,163 @@
+// Places as operands.
+
+ghost use Rattle.ps_store.specs.Store.{closed_part};
+ghost use Rattle.std.specs.Prelude.{◌≡◌, ◌≤◌, length};
+ghost use Rattle.ps_step.specs.Effects.{Does};
+ghost use Rattle.frame_bytes.specs.declared.frame.Space.TheVariants.{Memory, Registers};
+ghost use Rattle.ps_places.specs.Places.{text_of, named_text, space_named, kind_named, space_of, kind_of, place_of, space_name, placing, placing_at, placing_local};
+
+use frame_bytes::{Place, Space};
+use ldb_words::Kind;
+use ps_step::fault::{PsError, PsFault};
+use ps_step::machine::{MOST_OPERANDS, PsCore};
+use ps_step::operands::one_of;
+use ps_store::{Part, PsObj, PsStore, StringId};
+use ps_words::word_in;
+
+/// The string of a name, or of a string that is no longer than a name may be: typecheck comes where an object is neither,
+/// limitcheck where the string is longer.
+pub fn text_of(store: &PsStore, object: PsObj) -> Result<StringId, PsError>
+    ensures { text_of store.now object ≡ named_text store.now result }
+{
+    match object {
+        PsObj::Name(t, _) => Ok(t),
+        PsObj::Str(t, _) => {
+            if store.string_get(t).len() > 127 {
+                return Err(PsError::LimitCheck);
+            }
+            Ok(t)
+        }
+        _ => Err(PsError::TypeCheck),
+    }
+}
+
+/// The space with a name.
+fn space_named(text: &[u8]) -> Result<Space, PsError>
+    ensures { result ≡ space_named text.now }
+{
+    if text == b"d" {
+        Ok(Space::Memory)
+    } else if text == b"r" {
+        Ok(Space::Registers)
+    } else if text == b"i" {
+        Ok(Space::Immediate)
+    } else {
+        Err(PsError::RangeCheck)
+    }
+}
+
+/// The kind with a name.
+fn kind_named(text: &[u8]) -> Result<Kind, PsError>
+    ensures { result ≡ kind_named text.now }
+{
+    if text == b"c" {
+        Ok(Kind::Byte)
+    } else if text == b"w" {
+        Ok(Kind::Word)
+    } else if text == b"p" {
+        Ok(Kind::Address)
+    } else {
+        Err(PsError::RangeCheck)
+    }
+}
+
+/// The space that an object names.
+fn space_of(store: &PsStore, object: PsObj) -> Result<Space, PsError>
+    ensures { result ≡ space_of store.now object }
+{
+    match text_of(store, object) {
+        Ok(t) => space_named(store.string_get(t)),
+        Err(error) => Err(error),
+    }
+}
+
+/// The kind that an object names.
+pub fn kind_of(store: &PsStore, object: PsObj) -> Result<Kind, PsError>
+    ensures { result ≡ kind_of store.now object }
+{
+    match text_of(store, object) {
+        Ok(t) => kind_named(store.string_get(t)),
+        Err(error) => Err(error),
+    }
+}
+
+/// The place of two operands, a space and an offset.
+pub fn place_of(store: &PsStore, space: PsObj, at: PsObj) -> Result<Place, PsError>
+    ensures { result ≡ place_of store.now space at }
+{
+    let space = space_of(store, space)?;
+    let at = word_in(at)?;
+    Ok(Place { space, at })
+}
+
+/// The name of a space: one of the first three strings of the table's part of the store.
+pub fn space_name(space: Space) -> PsObj
+    ensures { result ≡ space_name space }
+{
+    let index = match space {
+        Space::Memory => 0,
+        Space::Registers => 1,
+        Space::Immediate => 2,
+    };
+    PsObj::Name(
+        StringId {
+            part: Part::Table,
+            index,
+        },
+        false,
+    )
+}
+
+/// Leaves a place where the topmost operand was. stackoverflow comes where 100,000 operands are there.
+pub fn leave_place(core: &mut PsCore, space: Space, at: u32) -> Result<(), PsFault>
+    requires some { 1 ≤ length core.old.operands }
+    ensures does { Does result core.old core.new (placing space at core.old) }
+    ensures closed { closed_part core.new.store ≡ closed_part core.old.store }
+{
+    if core.operands.len() >= MOST_OPERANDS {
+        return Err(PsFault::Error(PsError::StackOverflow));
+    }
+    core.operands.set_top(space_name(space));
+    core.operands.push(PsObj::Int(at.cast_signed()))?;
+    Ok(())
+}
+
+/// Leaves the place in a space whose offset is the topmost operand.
+fn leave_at(core: &mut PsCore, space: Space) -> Result<(), PsFault>
+    ensures does { Does result core.old core.new (placing_at space core.old) }
+    ensures closed { closed_part core.new.store ≡ closed_part core.old.store }
+{
+    let a = one_of(&core.operands)?;
+    let n = word_in(a)?;
+    leave_place(core, space, n)
+}
+
+/// `Absolute`: the place in memory at an address. An error leaves the state as it was.
+pub fn absolute(core: &mut PsCore) -> Result<(), PsFault>
+    ensures does { Does result core.old core.new (placing_at Memory core.old) }
+    ensures closed { closed_part core.new.store ≡ closed_part core.old.store }
+{
+    leave_at(core, Space::Memory)
+}
+
+/// `Register`: the place of a register of the frame. An error leaves the state as it was.
+pub fn register(core: &mut PsCore) -> Result<(), PsFault>
+    ensures does { Does result core.old core.new (placing_at Registers core.old) }
+    ensures closed { closed_part core.new.store ≡ closed_part core.old.store }
+{
+    leave_at(core, Space::Registers)
+}
+
+/// `Local`: the place in memory so far from the base of the frame, modulo 2^32. rangecheck comes where there is no frame.
+/// An error leaves the state as it was.
+pub fn local(core: &mut PsCore, base: Option<u32>) -> Result<(), PsFault>
+    ensures does { Does result core.old core.new (placing_local base core.old) }
+    ensures closed { closed_part core.new.store ≡ closed_part core.old.store }
+{
+    let a = one_of(&core.operands)?;
+    let n = word_in(a)?;
+    match base {
+        Some(base) => leave_place(core, Space::Memory, base.wrapping_add(n)),
+        None => Err(PsFault::Error(PsError::RangeCheck)),
+    }
+}
