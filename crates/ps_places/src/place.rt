@@ -35,11 +35,11 @@ pub fn text_of(store: &PsStore, object: PsObj) -> Result<StringId, PsError>
 fn space_named(text: &[u8]) -> Result<Space, PsError>
     ensures { result ≡ space_named text.now }
 {
-    if text == b"d" {
+    if text == b"d".as_slice() {
         Ok(Space::Memory)
-    } else if text == b"r" {
+    } else if text == b"r".as_slice() {
         Ok(Space::Registers)
-    } else if text == b"i" {
+    } else if text == b"i".as_slice() {
         Ok(Space::Immediate)
     } else {
         Err(PsError::RangeCheck)
@@ -50,11 +50,11 @@ fn space_named(text: &[u8]) -> Result<Space, PsError>
 fn kind_named(text: &[u8]) -> Result<Kind, PsError>
     ensures { result ≡ kind_named text.now }
 {
-    if text == b"c" {
+    if text == b"c".as_slice() {
         Ok(Kind::Byte)
-    } else if text == b"w" {
+    } else if text == b"w".as_slice() {
         Ok(Kind::Word)
-    } else if text == b"p" {
+    } else if text == b"p".as_slice() {
         Ok(Kind::Address)
     } else {
         Err(PsError::RangeCheck)
