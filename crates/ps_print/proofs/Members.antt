@@ -206,7 +206,7 @@ module _ {D : Type 0} (Op : Operates D) (prints : Printing Op) (s : StoreState) 
                 (goes_through Op s ds (words digits) holds.knows Q o under members_body (showstruct_close ∷ []) opened [] (Int (pos (items_left is (suc r)))) m₃ (further 1 (suc left))
                   (prints.append d t₁) (prints.append d t₂)
                   (λ o' under' lo lu g'. members_run Op prints s ds digits holds Q k d space a e (length is) place within many few is 0 [] (suc r) (further 1 (suc left)) t₁ o' under'
-                    (let x = room.operands in let y = room.items in record { operands = omega arith; items = omega arith }) tt refl (omega arith) each g')
+                    (let x = room.operands in let y = room.items in record { operands = omega arith; items = omega arith }) tt (omega arith) (omega arith) each g')
                   (on 1 (suc left) t₂ (state (showstruct_close ∷ []) (Obj (Int (pos (items_left is (suc r)))) ∷ [])) (state (w "Put" Stop ∷ []) (Bytes (codes "}") ∷ Obj (Int (pos (items_left is (suc r)))) ∷ [])) refl
                     (put_at Op prints s ds digits holds Q o under Stop [] (codes "}") (Obj (Int (pos (items_left is (suc r)))) ∷ []) left d t₂ (omega arith, omega arith, tt)
                       (leaves Op prints s ds digits holds Q (Int (pos (items_left is (suc r)))) left (prints.append d (t₂ ++ codes "}")) o under
