@@ -1,0 +1,4 @@
+pub mod Meaning
+pub mod WireMeaning
+pub mod Layers
+pub mod Walking
