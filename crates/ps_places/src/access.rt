@@ -43,7 +43,7 @@ fn may_store(raw: bool, space: Space) -> bool
 }
 
 /// What a memory's fault is to an operator: a place outside is the error rangecheck.
-fn troubled(fault: MemFault) -> Trouble
+pub fn troubled(fault: MemFault) -> Trouble
     ensures { result ≡ troubled fault }
 {
     match fault {

@@ -5,6 +5,6 @@ mod access;
 mod memory;
 mod place;
 
-pub use access::{Trouble, fetch, immediate, store};
+pub use access::{Trouble, fetch, immediate, store, troubled};
 pub use memory::{AbsMem, MemFault};
 pub use place::{absolute, kind_of, leave_place, local, place_of, register, space_name, text_of};

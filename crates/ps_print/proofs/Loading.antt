@@ -1,5 +1,6 @@
 -- The prelude is loaded in a new state.
-use Rattle.std.proofs.Common.{◌≡◌, ◌≢◌, ℕ, zero, suc, ◌+◌, ◌-◌, ◌<◌, ◌≤◌, Bool, true, false, is_some, Option, Some, None, Result, Ok, Err, List, [], ◌∷◌, refl, sym, ap, ◌∙◌, subst, arith}
+use Rattle.std.proofs.Common.{◌≡◌, ◌≢◌, ℕ, zero, suc, ◌+◌, ◌-◌, ◌<◌, ◌≤◌, Bool, true, false, is_some, Option, Some, None, Result, Ok, Err, List, [], ◌∷◌, ◌++◌, refl, sym, ap, ◌∙◌, subst, arith}
+use Rattle.std.specs.Prelude.{OnOk}
 use Rattle.std.specs.Fmt.{digits}
 use Rattle.ps_scan.specs.Bytes.{is_white, is_special, is_regular, is_hexadecimal}
 use Rattle.ps_store.specs.declared.object.DictId.{DictId}
@@ -49,10 +50,19 @@ prepare_refused OutOfMemory old new c e h = tt
 prepare_refused Limit old new c e h = absurd (no_given (sym (ap is_given (sym (ap prepared e) ∙ h)) ∙ prepared_given))
 prepare_refused ReadOnly old new c e h = absurd (no_given (sym (ap is_given (sym (ap prepared e) ∙ h)) ∙ prepared_given))
 
-pub dict_refused : (f : StoreFault) (old new : StoreState) (c : PsCore) → old ≡ record ended.store { closed = mark_of ended.store.table } → Does (Err f) old new (making_dict old) → Loads (Err (fault_of f)) c
-dict_refused OutOfMemory old new c e h = tt
-dict_refused Limit old new c e h = absurd (no_given (sym (ap is_given (sym (ap making_dict e) ∙ h.0)) ∙ topped_given))
-dict_refused ReadOnly old new c e h = absurd (no_given (sym (ap is_given (sym (ap making_dict e) ∙ h.0)) ∙ topped_given))
+pub dict_refused : (core : PsCore) → core ≡ record ended { execution = [] } → (f : StoreFault) (old new : StoreState) (c : PsCore) → old ≡ record core.store { closed = mark_of core.store.table }
+    → Does (Err f) old new (making_dict old) → Loads (Err (fault_of f)) c
+dict_refused core e OutOfMemory old new c k h = tt
+dict_refused core e Limit old new c k h = absurd (no_given (sym (ap is_given (sym (ap making_dict (k ∙ ap (λ (x : PsCore). record x.store { closed = mark_of x.store.table }) e)) ∙ h.0)) ∙ topped_given))
+dict_refused core e ReadOnly old new c k h = absurd (no_given (sym (ap is_given (sym (ap making_dict (k ∙ ap (λ (x : PsCore). record x.store { closed = mark_of x.store.table }) e)) ∙ h.0)) ∙ topped_given))
+
+-- what is loaded then
+pub finished_at : (old : PsCore) → old ≡ record ended { execution = [] } → (closed s s' : StoreState) (d : DictId) → closed ≡ record old.store { closed = mark_of old.store.table }
+    → making_dict closed ≡ Ok (d, s) → s' ≡ record s { base = s.base ++ d ∷ [] } → record old { store = s'; dictionaries = d ∷ old.dictionaries } ≡ loaded
+finished_at old e closed s s' d k made on =
+    let made' : making_dict (record old.store { closed = mark_of old.store.table }) ≡ Ok (d, s) = sym (ap making_dict k) ∙ made in
+    let whole : finished old ≡ Some (record old { store = record s { base = s.base ++ d ∷ [] }; dictionaries = d ∷ old.dictionaries }) = ap (topped old) made' in
+    ap (λ (x : StoreState). record old { store = x; dictionaries = d ∷ old.dictionaries }) on ∙ sym (ap or_new whole) ∙ ap (λ (o : PsCore). or_new (finished o)) e
 
 -- ---- the run ends
 
@@ -74,7 +84,7 @@ record Ends (n : ℕ) (r : Answer) (m : ℕ) (c' : PsCore) : Type 0 where
 
 module _ {D : Type 0} (Op : Operates D) (n : ℕ) (t : StringId) (d d' : D) (c c' : PsCore) (r : Answer) (m : ℕ) (starts : with_execution c (Object (Str t true) ∷ []) ≡ start) (enough : 75 < n)
     (runs : RunsObject Op n (Str t true) d c r m d' c') (kept : c'.execution ≡ []) where
-  run_ends : r ≢ Err NoMemory → Ends n r m c'
+  pub run_ends : r ≢ Err NoMemory → Ends n r m c'
   run_ends other =
       let p = runs other in
       let k : ℕ = n - 76 in
@@ -97,5 +107,27 @@ module _ {D : Type 0} (Op : Operates D) (n : ℕ) (t : StringId) (d d' : D) (c c
   ran_by (Err Spent) e = absurd (let f : Ok tt ≡ Err Spent = sym (run_ends (λ h. absurd (let g : Err Spent ≡ Err NoMemory = sym e ∙ h in cc))).answered ∙ e in cc)
   ran_by (Err Link) e = absurd (let f : Ok tt ≡ Err Link = sym (run_ends (λ h. absurd (let g : Err Link ≡ Err NoMemory = sym e ∙ h in cc))).answered ∙ e in cc)
 
-  pub steps_by : (x : Unit {0}) → r ≡ Ok x → m + 75 ≡ n
-  steps_by x e = (run_ends (λ h. absurd (let f : Ok x ≡ Err NoMemory = sym e ∙ h in cc))).left
+  pub left_by : (x : Unit {0}) → r ≡ Ok x → m + 75 ≡ n
+  left_by x e = (run_ends (λ h. absurd (let f : Ok x ≡ Err NoMemory = sym e ∙ h in cc))).left
+
+started_at : (t : StringId) (s : StoreState) → prepared new_store ≡ Ok (t, s) → executing t s ≡ start
+started_at t s e = sym (ap (λ (g : Given StringId). or_new (started_with g)) e)
+
+module _ {D : Type 0} (Op : Operates D) (old c' : PsCore) (t : StringId) (s : StoreState) (d d' : D) (r : Answer) (taken limit taken' limit' : ℕ) (new : old ≡ new_core) (made : prepared old.store ≡ Ok (t, s))
+    (enough : taken + 75 < limit) (same : limit' ≡ limit) (within : taken' ≤ limit') (runs : RunsObject Op (limit - taken) (Str t true) d (record old { store = s }) r (limit' - taken') d' c') (kept : c'.execution ≡ old.execution) where
+  starts : with_execution (record old { store = s }) (Object (Str t true) ∷ []) ≡ start
+  starts = ap (λ (o : PsCore). with_execution (record o { store = s }) (Object (Str t true) ∷ [])) new ∙ started_at t s (sym (ap (λ (o : PsCore). prepared o.store) new) ∙ made)
+
+  empty : c'.execution ≡ []
+  empty = kept ∙ ap (λ (o : PsCore). o.execution) new
+
+  -- the prelude's text was run
+  pub ran_after : Ran r c'
+  ran_after = ran_by Op (limit - taken) t d d' (record old { store = s }) c' r (limit' - taken') starts (omega arith) runs empty r refl
+
+  taken_by : (a : Answer) → r ≡ a → OnOk a (taken' ≡ taken + 75)
+  taken_by (Ok x) e = let h : limit' - taken' + 75 ≡ limit - taken = left_by Op (limit - taken) t d d' (record old { store = s }) c' r (limit' - taken') starts (omega arith) runs empty x e in omega arith
+  taken_by (Err f) e = tt
+
+  pub taken_after : OnOk r (taken' ≡ taken + 75)
+  taken_after = taken_by r refl

@@ -18,17 +18,19 @@ fn prepare(store: &mut PsStore) -> Result<StringId, StoreFault>
 }
 
 /// Runs the prelude's text in a new state.
+#[tactic(auto, using(crate::proofs::Loading::prepare_refused, crate::proofs::Loading::ran_after, crate::proofs::Loading::taken_after))]
 fn run_prelude(core: &mut PsCore, steps: &mut Steps) -> Result<(), PsFault>
     requires new { core.old ≡ new_core }
     requires enough { steps.old.taken + 75 < steps.old.limit }
     ensures ran { Ran result core.new }
-    ensures steps { OnOk result (steps.new ≡ record steps.old { taken = steps.old.taken + 75 }) }
+    ensures steps { OnOk result (steps.new.taken ≡ steps.old.taken + 75) }
 {
     let text = prepare(&mut core.store)?;
     run(core, &mut NoDialect, PsObj::Str(text, true), steps)
 }
 
 /// Closes what was made, and puts an empty base dictionary on top.
+#[tactic(auto, using(crate::proofs::Loading::dict_refused, crate::proofs::Loading::finished_at))]
 fn finish(core: &mut PsCore) -> Result<(), PsFault>
     requires { core.old ≡ record ended { execution = [] } }
     ensures { Loads result core.new }
@@ -46,7 +48,7 @@ pub fn load_prelude(core: &mut PsCore, steps: &mut Steps) -> Result<(), PsFault>
     requires new { core.old ≡ new_core }
     requires enough { steps.old.taken + 75 < steps.old.limit }
     ensures loads { Loads result core.new }
-    ensures steps { OnOk result (steps.new ≡ record steps.old { taken = steps.old.taken + 75 }) }
+    ensures steps { OnOk result (steps.new.taken ≡ steps.old.taken + 75) }
 {
     run_prelude(core, steps)?;
     finish(core)
