@@ -19,11 +19,14 @@ pub struct Layout {
 }
 
 const CHAR: &[u8] = b"<< /kind /char /size 1 /printer /PrintChar load >> ";
+
 const INT: &[u8] = b"<< /kind /int /size 4 /printer /PrintInt load >> ";
+
 const UNSIGNED: &[u8] = b"<< /kind /unsigned /size 4 /printer /PrintUnsigned load >> ";
 
 /// `struct s { char c[3]; int i; }`
-const S: &[u8] = b"<< /kind /struct /size 8 /tag (s) /members [ [ (c) 0 << /kind /array /size 3 /count 3 /to << /kind /char /size 1 >> >> ] [ (i) 4 << /kind /int /size 4 >> ] ] /printer /PrintStruct load >> ";
+const S: &[u8] =
+    b"<< /kind /struct /size 8 /tag (s) /members [ [ (c) 0 << /kind /array /size 3 /count 3 /to << /kind /char /size 1 >> >> ] [ (i) 4 << /kind /int /size 4 >> ] ] /printer /PrintStruct load >> ";
 
 const S_LEAVES: [(u32, bool); 4] = [(0, true), (1, true), (2, true), (4, false)];
 

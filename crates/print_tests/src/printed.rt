@@ -10,7 +10,9 @@ use test_rows::{append, numbers, part};
 
 /// Where the value lies, and where the object into which a pointer leads, in a memory of 16,384 bytes.
 const VALUE: u32 = 4_096;
+
 const OBJECT: u32 = 12_288;
+
 const SIZE: usize = 16_384;
 
 fn put_byte(memory: &mut Vec<u8>, at: u32, byte: u8) {

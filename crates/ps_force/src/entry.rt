@@ -25,13 +25,7 @@ fn left_on(operands: &Stack<PsObj>) -> Result<PsObj, PsFault>
 }
 
 /// Puts a value in the place of a deferred entry, and closes what was made.
-fn place(
-    core: &mut PsCore,
-    d: DictId,
-    key: &Key,
-    mark: Mark,
-    x: PsObj,
-) -> Result<PsObj, PsFault>
+fn place(core: &mut PsCore, d: DictId, key: &Key, mark: Mark, x: PsObj) -> Result<PsObj, PsFault>
     requires counted { IsMark mark }
     requires keeps { KeepsClosed core.old.store mark }
     ensures given { placing mark d key.now x (value_at (entries_of core.old.store d) key.now) core.old.store ≡ (result, core.new.store) }

@@ -56,14 +56,6 @@ dict_refused core e OutOfMemory old new c k h = tt
 dict_refused core e Limit old new c k h = absurd (no_given (sym (ap is_given (sym (ap making_dict (k ∙ ap (λ (x : PsCore). record x.store { closed = mark_of x.store.table }) e)) ∙ h.0)) ∙ topped_given))
 dict_refused core e ReadOnly old new c k h = absurd (no_given (sym (ap is_given (sym (ap making_dict (k ∙ ap (λ (x : PsCore). record x.store { closed = mark_of x.store.table }) e)) ∙ h.0)) ∙ topped_given))
 
--- what is loaded then
-pub finished_at : (old : PsCore) → old ≡ record ended { execution = [] } → (closed s s' : StoreState) (d : DictId) → closed ≡ record old.store { closed = mark_of old.store.table }
-    → making_dict closed ≡ Ok (d, s) → s' ≡ record s { base = s.base ++ d ∷ [] } → record old { store = s'; dictionaries = d ∷ old.dictionaries } ≡ loaded
-finished_at old e closed s s' d k made on =
-    let made' : making_dict (record old.store { closed = mark_of old.store.table }) ≡ Ok (d, s) = sym (ap making_dict k) ∙ made in
-    let whole : finished old ≡ Some (record old { store = record s { base = s.base ++ d ∷ [] }; dictionaries = d ∷ old.dictionaries }) = ap (topped old) made' in
-    ap (λ (x : StoreState). record old { store = x; dictionaries = d ∷ old.dictionaries }) on ∙ sym (ap or_new whole) ∙ ap (λ (o : PsCore). or_new (finished o)) e
-
 -- ---- the run ends
 
 some_end : (o : Outcome) → is_some (end_in o) ≡ true → o ≡ Ended (or_new (end_in o))

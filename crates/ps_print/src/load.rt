@@ -18,7 +18,6 @@ fn prepare(store: &mut PsStore) -> Result<StringId, StoreFault>
 }
 
 /// Runs the prelude's text in a new state.
-#[tactic(auto, using(crate::proofs::Loading::prepare_refused, crate::proofs::Loading::ran_after, crate::proofs::Loading::taken_after))]
 fn run_prelude(core: &mut PsCore, steps: &mut Steps) -> Result<(), PsFault>
     requires new { core.old ≡ new_core }
     requires enough { steps.old.taken + 75 < steps.old.limit }
@@ -30,7 +29,6 @@ fn run_prelude(core: &mut PsCore, steps: &mut Steps) -> Result<(), PsFault>
 }
 
 /// Closes what was made, and puts an empty base dictionary on top.
-#[tactic(auto, using(crate::proofs::Loading::dict_refused, crate::proofs::Loading::finished_at))]
 fn finish(core: &mut PsCore) -> Result<(), PsFault>
     requires { core.old ≡ record ended { execution = [] } }
     ensures { Loads result core.new }

@@ -96,7 +96,7 @@ module _ {D : Type 0} (Op : Operates D) (s : StoreState) (ds : List DictId) (wor
           let made = does xs items' are in
           passes_asked Op Q n d (core s ds (xs ++ o) (Procedure a m ∷ items)) c' op stepped
           (λ answer k₁ d₁ c₁ a₁. behind_answers Op Q n d' (core s ds (made.0 ++ o) items') a₁.given d₁ a₁.core k₁ (made.2 n a₁.given d₁ a₁.core k₁ a₁.operates) answer c₁ a₁.settles
-            (g made.0 items' made.1 (then_is s under a m items (Name sp.0 true) sp.1 ks sp.2 below rest sp.4)))
+          (g made.0 items' made.1 (then_is s under a m items (Name sp.0 true) sp.1 ks sp.2 below rest sp.4)))
 
   -- an operator of the manual, by what it makes
   pub goes_made : (p : ℕ) (name : List ℕ) (rest : Code) (ks : List Code) (vs vs' : List Val) (n : ℕ) (d : D) → named s ds name ≡ Some (OpObj p)
@@ -125,7 +125,7 @@ module _ {D : Type 0} (Op : Operates D) (s : StoreState) (ds : List DictId) (wor
   -- what the innermost term does with the topmost operand, whatever is below
   pub goes_call : (k : Code) (ks : List Code) (v : Val) (vs : List Val) (n n' : ℕ) (d d' : D)
       → ((o' : List PsObj) (under' : List Item) → length o' ≡ length vs + length o → length under' ≡ length under + length ks → Passes Op Q n' d' (core s ds o' under')
-        → (x : PsObj) (items : List Item) → Is s x v → Frames s under' items (k ∷ []) → Passes Op Q n d (core s ds (x ∷ o') items))
+      → (x : PsObj) (items : List Item) → Is s x v → Frames s under' items (k ∷ []) → Passes Op Q n d (core s ds (x ∷ o') items))
       → Goes n' d' (state ks vs) → Goes n d (state (k ∷ ks) (v ∷ vs))
   goes_call k ks v vs n n' d d' inner g = λ xs items are frames. called xs items are frames
     where
@@ -137,7 +137,7 @@ module _ {D : Type 0} (Op : Operates D) (s : StoreState) (ds : List DictId) (wor
   -- what the innermost term does with the topmost operands, whatever is below: it leaves an object
   pub goes_through : (k : Code) (ks : List Code) (vs ws : List Val) (y : PsObj) (n n' : ℕ) (d d' : D)
       → ((o' : List PsObj) (under' : List Item) → length o' ≡ length ws + length o → length under' ≡ length under + length ks → Passes Op Q n' d' (core s ds (y ∷ o') under')
-        → (xs : List PsObj) (items : List Item) → Are s xs vs → Frames s under' items (k ∷ []) → Passes Op Q n d (core s ds (xs ++ o') items))
+      → (xs : List PsObj) (items : List Item) → Are s xs vs → Frames s under' items (k ∷ []) → Passes Op Q n d (core s ds (xs ++ o') items))
       → Goes n' d' (state ks (Obj y ∷ ws)) → Goes n d (state (k ∷ ks) (vs ++ ws))
   goes_through k ks vs ws y n n' d d' inner g = λ xs items are frames. through xs items are frames
     where
@@ -147,8 +147,8 @@ module _ {D : Type 0} (Op : Operates D) (s : StoreState) (ds : List DictId) (wor
           let whole : xs ++ o ≡ r.own ++ (r.below ++ o) = ap (λ l. l ++ o) r.whole ∙ append_assoc r.own r.below o in
           subst (λ l. Passes Op Q n d (core s ds l (Procedure a m ∷ items))) (sym whole)
           (inner (r.below ++ o) items (length-append r.below o ∙ ap (λ i. i + length o) (are_length s r.below ws r.are_below)) (frames_length s under items ks below)
-            (g (y ∷ r.below) items (more y (Obj y) r.below ws refl r.are_below) below)
-            r.own (Procedure a m ∷ items) r.are_own (frame a m items k [] sp bottom))
+          (g (y ∷ r.below) items (more y (Obj y) r.below ws refl r.are_below) below)
+          r.own (Procedure a m ∷ items) r.are_own (frame a m items k [] sp bottom))
 
   -- what a dictionary holds
   pub goes_get : (name key : List ℕ) (rest : Code) (ks : List Code) (dict : DictId) (v : Val) (vs : List Val) (n : ℕ) (d : D) → named s ds name ≡ Some (OpObj 32) → HasKey s dict key v
@@ -157,9 +157,11 @@ module _ {D : Type 0} (Op : Operates D) (s : StoreState) (ds : List DictId) (wor
     where
       does : (xs : List PsObj) (items : List Item) → Are s xs (Key key ∷ Obj (Dict dict) ∷ vs)
           → (xs' : List PsObj) × Are s xs' (v ∷ vs) × (numbered 32 (core s ds (xs ++ o) items) ≡ Ok (core s ds (xs' ++ o) items, None))
-      does _ items (more x _ _ _ i (more y _ xs vs' j r)) =
-          (has.object ∷ xs, more has.object v xs vs has.is r,
-            ap (λ z. numbered 32 (core s ds (z ∷ y ∷ (xs ++ o)) items)) i.1
+      does _ items (more x _ _ _ i (more y _ xs vs' j r)) = (
+        has.object ∷ xs,
+        more has.object v xs vs has.is r,
+        ap (λ z. numbered 32 (core s ds (z ∷ y ∷ (xs ++ o)) items)) i.1
             ∙ ap (λ z. numbered 32 (core s ds (Name i.0 false ∷ z ∷ (xs ++ o)) items)) j
             ∙ ap (λ (f : Result PsObj PsError). alone (at (core s ds (Name i.0 false ∷ Dict dict ∷ (xs ++ o)) items) (f >>= λ z. Ok (core s ds (z ∷ (xs ++ o)) items))))
-            (has.found i.0 i.2))
+            (has.found i.0 i.2),
+      )

@@ -166,10 +166,10 @@ reads_end g text s t at lead is within here =
     let none : next_token_of text at ≡ Ok None = ap (λ n. token_from text (at + n)) (ap (blank_len false) here ∙ blank_lead g lead) ∙ rw all refl in
     let read : reading s t [] at ≡ Nothing s =
     ap (λ bytes. if nat_lt (length bytes) at then Bad SyntaxError s
-      else elim (next_token_of bytes at) [
-        | Err e ↦ Bad SyntaxError s
-        | Ok found ↦ elim found [ None ↦ ended s [] | Some token ↦ read_token s bytes [] token ]
-      ]) is.bytes
+    else elim (next_token_of bytes at) [
+      | Err e ↦ Bad SyntaxError s
+      | Ok found ↦ elim found [ None ↦ ended s [] | Some token ↦ read_token s bytes [] token ]
+    ]) is.bytes
     ∙ rw (behind, none) refl in
     ap (λ n. reading_all n s t [] at) (add-one (length (bytes_of s t)))
     ∙ ap (λ (r : Read). elim r [

@@ -78,20 +78,20 @@ module _ (s : StoreState) (t : StringId) (text : List ℕ) (is : IsString s t te
 pub token_more : (n : ℕ) (s : StoreState) (t : StringId) (xs : List PsObj) (at : ℕ) (s' : StoreState) (xs' : List PsObj) (at' : ℕ)
     → reading s t xs at ≡ More s' xs' at' → reading_all (suc n) s t xs at ≡ reading_all n s' t xs' at'
 token_more n s t xs at s' xs' at' e = ap (λ (r : Read). elim r [
-      | More s' xs' at' ↦ reading_all n s' t xs' at'
-      | Whole x s' at' ↦ Whole x s' at'
-      | Nothing s' ↦ Nothing s'
-      | Bad e s' ↦ Bad e s'
-    ]) e
+  | More s' xs' at' ↦ reading_all n s' t xs' at'
+  | Whole x s' at' ↦ Whole x s' at'
+  | Nothing s' ↦ Nothing s'
+  | Bad e s' ↦ Bad e s'
+]) e
 
 pub token_whole : (n : ℕ) (s : StoreState) (t : StringId) (xs : List PsObj) (at : ℕ) (x : PsObj) (s' : StoreState) (at' : ℕ)
     → reading s t xs at ≡ Whole x s' at' → reading_all (suc n) s t xs at ≡ Whole x s' at'
 token_whole n s t xs at x s' at' e = ap (λ (r : Read). elim r [
-      | More s' xs' at' ↦ reading_all n s' t xs' at'
-      | Whole x s' at' ↦ Whole x s' at'
-      | Nothing s' ↦ Nothing s'
-      | Bad e s' ↦ Bad e s'
-    ]) e
+  | More s' xs' at' ↦ reading_all n s' t xs' at'
+  | Whole x s' at' ↦ Whole x s' at'
+  | Nothing s' ↦ Nothing s'
+  | Bad e s' ↦ Bad e s'
+]) e
 
 -- so many tokens more
 abbrev pub fuel : Code → ℕ → ℕ

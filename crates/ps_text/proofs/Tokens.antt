@@ -55,10 +55,10 @@ module _ (text : List ℕ) (at skip : ℕ) (kind : PsKind) (word rest : List ℕ
   token_read s t xs e =
       let behind : nat_lt (length text) at ≡ false = le-ltb (length text) at (let l = within in omega arith) in
       ap (λ bytes. if nat_lt (length bytes) at then Bad BadSyntax s
-        else elim (next_token_of bytes at) [
-          | Err e ↦ Bad BadSyntax s
-          | Ok found ↦ elim found [ None ↦ ended s xs | Some token ↦ read_token s bytes xs token ]
-        ]) e
+      else elim (next_token_of bytes at) [
+        | Err e ↦ Bad BadSyntax s
+        | Ok found ↦ elim found [ None ↦ ended s xs | Some token ↦ read_token s bytes xs token ]
+      ]) e
       ∙ rw (behind, token_next) refl
 
 -- ---- blanks
