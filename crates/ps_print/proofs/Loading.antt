@@ -76,7 +76,7 @@ record Ends (n : ℕ) (r : Answer) (m : ℕ) (c' : PsCore) : Type 0 where
 
 module _ {D : Type 0} (Op : Operates D) (n : ℕ) (t : StringId) (d d' : D) (c c' : PsCore) (r : Answer) (m : ℕ) (starts : with_execution c (Object (Str t true) ∷ []) ≡ start) (enough : 75 < n)
     (runs : RunsObject Op n (Str t true) d c r m d' c') (kept : c'.execution ≡ []) where
-  pub run_ends : r ≢ Err NoMemory → Ends n r m c'
+  run_ends : r ≢ Err NoMemory → Ends n r m c'
   run_ends other =
       let p = runs other in
       let k : ℕ = n - 76 in
