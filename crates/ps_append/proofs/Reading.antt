@@ -32,7 +32,6 @@ bytes_next n m b p e = ap (λ k. bytes_from k b p) e
 bytes_at : (n m : ℕ) (b : Bytes) (p : Place) (v : ℕ) → n ≡ suc m → fetched b p.space p.at Byte ≡ Some v → bytes_from n b p ≡ behind m b p v
 bytes_at n m b p v e known = bytes_next n m b p e ∙ ap (λ (o : Option ℕ). or_outside o >>= behind m b p) known
 
-
 module _ {R : Type 0} where
   pub same_same : (s : Seen R) → Same s s
   same_same s = record { faults = refl; keeps = λ b r h. h }
@@ -54,11 +53,15 @@ module _ {R : Type 0} where
 
   -- a NUL
   pub end_read : (s t : Seen R) (p : Place) (n m v : ℕ) (old : List ℕ) → n ≡ suc m → Fetches s p Byte (Ok v) t → (v % 256 == 0) ≡ true → ReadsBytes (λ b. bytes_from n b p) old s (Ok tt) old t
-  end_read s t p n m v old e h z =
-      (h.0, record { holds = λ b r x.
-        ap (λ (g : Given). g >>= λ bs. Ok (old ++ bs))
+  end_read s t p n m v old e h z = (
+    h.0,
+    record {
+      holds = λ b r x.
+          ap (λ (g : Given). g >>= λ bs. Ok (old ++ bs))
           (bytes_at n m b p v e (h.1.holds b r x) ∙ ap (λ (c : Bool). elim c [ true ↦ Ok [] | false ↦ bytes_from m b (record p { at = sum_of p.at 1 }) >>= λ bs. Ok ((v % 256) ∷ bs) ]) z)
-        ∙ ap Ok (append-nil old) })
+          ∙ ap Ok (append-nil old);
+    },
+  )
 
   module _ (s t u : Seen R) (p : Place) (n m v : ℕ) (old new : List ℕ) (e : n ≡ suc m) (h : Fetches s p Byte (Ok v) t) (z : (v % 256 == 0) ≡ false) where
     abbrev next : Place
@@ -78,9 +81,13 @@ module _ {R : Type 0} where
     failed g x k = ap (λ (g : Given). g >>= λ bs. Ok ((v % 256) ∷ bs)) k
 
     pub more_read : (result : Result (Unit {0}) Trouble) → ReadsBytes (λ b. bytes_from m b next) (old ++ (v % 256) ∷ []) t result new u → ReadsBytes (λ b. bytes_from n b p) old s result new u
-    more_read (Ok x) k =
-        (same_on s t u h.0 k.0, record { holds = λ b r y.
-          ap (λ (g : Given). g >>= λ bs. Ok (old ++ bs)) (read_on b r y) ∙ joined (bytes_from m b next) (k.1.holds b r (h.0.keeps b r y)) })
+    more_read (Ok x) k = (
+      same_on s t u h.0 k.0,
+      record {
+        holds = λ b r y.
+            ap (λ (g : Given). g >>= λ bs. Ok (old ++ bs)) (read_on b r y) ∙ joined (bytes_from m b next) (k.1.holds b r (h.0.keeps b r y));
+      },
+    )
     more_read (Err (Ps (Error x))) k =
         (same_on s t u h.0 k.0, record { holds = λ b r y. read_on b r y ∙ failed (bytes_from m b next) x (k.1.holds b r (h.0.keeps b r y)) })
     more_read (Err (Ps NoMemory)) k = tt

@@ -8,13 +8,15 @@ use Rattle.ps_step.specs.declared.fault.PsError.{PsError}
 use Rattle.ps_step.specs.declared.fault.PsFault.TheVariants.{Error, Spent, Link, NoMemory}
 use Rattle.ps_step.specs.declared.machine.PsCore.{PsCore}
 use Rattle.ps_step.specs.Results.{◌>>=◌}
+use Rattle.ps_step.specs.Arithmetic.{integer_of}
 use Rattle.ps_step.specs.Operands.{triple_of}
 use Rattle.ps_step.specs.State.{with_operands}
 use Rattle.ps_step.specs.Values.{count_of}
 use Rattle.frame_bytes.specs.declared.frame.Place.{Place}
 use Rattle.frame_bytes.specs.Bytes.{Bytes, fetched}
 use Rattle.ps_places.specs.Meaning.{Seen, Same, OnTold, Untold}
-use Rattle.ps_places.specs.Places.{place_of}
+use Rattle.ps_words.specs.Operators.{word_in}
+use Rattle.ps_places.specs.Places.{text_of, space_named, place}
 use Rattle.ps_places.specs.Accesses.{or_outside}
 use Rattle.ps_places.specs.declared.memory.MemFault.TheVariants.{Outside, LinkFault, BadReply}
 use Rattle.ps_places.specs.declared.access.Trouble.{Trouble}
@@ -31,7 +33,9 @@ bytes_from (suc n) b p = or_outside (fetched b p.space p.at Byte) >>= λ x. elim
 -- `space n count PutChars`: the place, and how many bytes are read: of more than 200 characters no more than show that there
 -- are more
 abbrev pub string_place : PsCore → Result (Place × ℕ) PsError
-string_place c = triple_of c.operands >>= λ t. place_of c.store t.0 t.1 >>= λ p. count_of t.2 >>= λ n. Ok (p, min n 201)
+string_place c =
+    triple_of c.operands >>= λ t. text_of c.store t.0 >>= λ space. word_in t.1 >>= λ at. integer_of t.2 >>= λ n.
+    space_named space >>= λ sp. count_of t.2 >>= λ count. Ok (place sp at, min count 201)
 
 abbrev pub appending_chars : List ℕ → Bytes → PsCore → Result (List ℕ × PsCore) PsError
 appending_chars out b c = string_place c >>= λ a. bytes_from a.1 b a.0 >>= λ bs. Ok (out ++ string_text bs, with_operands c (drop 3 c.operands))

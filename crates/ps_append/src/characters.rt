@@ -7,11 +7,13 @@ ghost use Rattle.ps_append.specs.Characters.{bytes_from, string_place, ReadsByte
 use crate::append::append_string;
 use frame_bytes::Place;
 use ldb_words::{Kind, Text};
-use ps_places::{AbsMem, Trouble, place_of, troubled};
+use ps_places::{AbsMem, Trouble, space_named, text_of, troubled};
+use ps_step::arithmetic::integer_of;
 use ps_step::fault::{PsError, PsFault};
 use ps_step::machine::PsCore;
 use ps_step::operands::triple_of;
 use ps_step::values::count_of;
+use ps_words::word_in;
 
 /// Reads the bytes from a place on up to the first NUL, at most so many, and adds them. It is as deep as it reads bytes.
 #[tactic(auto, using(crate::proofs::Reading::none_read, crate::proofs::Reading::fault_read, crate::proofs::Reading::end_read, crate::proofs::Reading::more_read))]
@@ -49,9 +51,12 @@ fn string_place(core: &PsCore) -> Result<(Place, u32), PsError>
     ensures enough { OnOk result (3 ≤ length core.now.operands) }
 {
     let (space, at, count) = triple_of(&core.operands)?;
-    let place = place_of(&core.store, space, at)?;
+    let space = text_of(&core.store, space)?;
+    let at = word_in(at)?;
+    integer_of(count)?;
+    let space = space_named(core.store.string_get(space))?;
     let count = count_of(count)?;
-    Ok((place, count.min(201)))
+    Ok((Place { space, at }, count.min(201)))
 }
 
 /// `PutChars`: the string at a place, of at most so many bytes. rangecheck comes where a byte of it is outside. An error leaves

@@ -1,5 +1,5 @@
 -- Accesses of the memory of a target, by the bytes that it tells.
-use Rattle.std.specs.Prelude.{◌≡◌, ℕ, ◌%◌, ◌^◌, Bool, true, nat_lt, length, pos, ◌∷◌, drop, if◌then◌else◌, Option, Some, None, Result, Ok, Err}
+use Rattle.std.specs.Prelude.{◌≡◌, ℕ, ◌%◌, ◌^◌, Bool, true, false, nat_lt, length, pos, ◌∷◌, drop, if◌then◌else◌, Option, Some, None, Result, Ok, Err}
 use Rattle.std.specs.Int.{w8, cast_signed}
 use Rattle.ldb_edge.specs.Count.{Rose}
 use Rattle.ldb_words.specs.declared.kinds.Kind.{Kind}
@@ -19,7 +19,7 @@ use Rattle.frame_bytes.specs.declared.frame.Space.TheVariants.{Memory, Registers
 use Rattle.frame_bytes.specs.declared.frame.Place.{Place}
 use Rattle.frame_bytes.specs.Bytes.{Bytes, fetched, stored}
 use Rattle.ps_places.specs.Meaning.{Seen, Same, Untold}
-use Rattle.ps_places.specs.Places.{place_of, kind_of, space_name}
+use Rattle.ps_places.specs.Places.{text_of, space_named, kind_named, place, space_name}
 use Rattle.ps_places.specs.declared.memory.MemFault.{MemFault}
 use Rattle.ps_places.specs.declared.memory.MemFault.TheVariants.{Outside, LinkFault, BadReply}
 use Rattle.ps_places.specs.declared.access.Trouble.{Trouble}
@@ -40,9 +40,11 @@ value_of Byte n = Int (cast_signed w8 (n % 2 ^ 8))
 value_of Word n = integer n
 value_of Address n = integer n
 
--- `space n kind fetch`: what is asked for, and the value in its place
+-- `space n kind fetch`: what is asked for, and the value in its place. Types of operands are asked before what they name.
 abbrev pub fetch_of : PsCore → Result (Place × Kind) PsError
-fetch_of c = triple_of c.operands >>= λ t. place_of c.store t.0 t.1 >>= λ p. kind_of c.store t.2 >>= λ k. Ok (p, k)
+fetch_of c =
+    triple_of c.operands >>= λ t. text_of c.store t.0 >>= λ space. word_in t.1 >>= λ at. text_of c.store t.2 >>= λ kind.
+    space_named space >>= λ sp. kind_named kind >>= λ k. Ok (place sp at, k)
 
 abbrev pub fetching : Bytes → PsCore → Act
 fetching b c = fetch_of c >>= λ a. or_outside (fetched b a.0.space a.0.at a.1) >>= λ v. Ok (b, with_operands c (value_of a.1 v ∷ drop 3 c.operands))
@@ -53,11 +55,15 @@ may_store raw Immediate = true
 may_store raw Memory = raw
 may_store raw Registers = raw
 
+abbrev pub allowed : Bool → Result (Unit {0}) PsError
+allowed true = Ok tt
+allowed false = Err InvalidAccess
+
 -- `v space n kind store`
 abbrev pub store_of : Bool → PsCore → Result (Place × Kind × ℕ) PsError
 store_of raw c =
-    quadruple_of c.operands >>= λ t. word_in t.0 >>= λ v. place_of c.store t.1 t.2 >>= λ p. kind_of c.store t.3 >>= λ k.
-    (if may_store raw p.space then Ok (p, k, v) else Err InvalidAccess)
+    quadruple_of c.operands >>= λ t. word_in t.0 >>= λ v. text_of c.store t.1 >>= λ space. word_in t.2 >>= λ at. text_of c.store t.3 >>= λ kind.
+    space_named space >>= λ sp. allowed (may_store raw sp) >>= λ u. kind_named kind >>= λ k. Ok (place sp at, k, v)
 
 abbrev pub storing : Bool → Bytes → PsCore → Act
 storing raw b c = store_of raw c >>= λ a. or_outside (stored b a.0.space a.0.at a.1 a.2) >>= λ b'. Ok (b', with_operands c (drop 4 c.operands))

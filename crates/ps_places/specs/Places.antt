@@ -20,10 +20,10 @@ use Rattle.frame_bytes.specs.declared.frame.Space.{Space}
 use Rattle.frame_bytes.specs.declared.frame.Space.TheVariants.{Memory, Registers, Immediate}
 use Rattle.frame_bytes.specs.declared.frame.Place.{Place}
 
--- the characters of a name, or of a string that is no longer than a name may be
+-- the characters of a name; a string stands for the name of its characters
 abbrev pub text_of : StoreState → PsObj → Result (List ℕ) PsError
 text_of s (Name t x) = Ok (bytes_of s t)
-text_of s (Str t x) = if nat_le (length (bytes_of s t)) 127 then Ok (bytes_of s t) else Err LimitCheck
+text_of s (Str t x) = Ok (bytes_of s t)
 text_of s other = Err TypeCheck
 
 -- the characters of the string that was found
@@ -31,29 +31,31 @@ abbrev pub named_text : StoreState → Result StringId PsError → Result (List 
 named_text s (Ok t) = Ok (bytes_of s t)
 named_text s (Err e) = Err e
 
+-- a name has at most 127 characters
+abbrev pub name_text : List ℕ → Result (List ℕ) PsError
+name_text text = if nat_le (length text) 127 then Ok text else Err LimitCheck
+
+abbrev pub name_of : StoreState → PsObj → Result (List ℕ) PsError
+name_of s x = text_of s x >>= name_text
+
 abbrev pub space_named : List ℕ → Result Space PsError
 space_named text =
-    if bytes_eq text (codes "d") then Ok Memory
-    else if bytes_eq text (codes "r") then Ok Registers
-    else if bytes_eq text (codes "i") then Ok Immediate
+    name_text text >>= λ name.
+    if bytes_eq name (codes "d") then Ok Memory
+    else if bytes_eq name (codes "r") then Ok Registers
+    else if bytes_eq name (codes "i") then Ok Immediate
     else Err RangeCheck
 
 abbrev pub kind_named : List ℕ → Result Kind PsError
 kind_named text =
-    if bytes_eq text (codes "c") then Ok Byte
-    else if bytes_eq text (codes "w") then Ok Word
-    else if bytes_eq text (codes "p") then Ok Address
+    name_text text >>= λ name.
+    if bytes_eq name (codes "c") then Ok Byte
+    else if bytes_eq name (codes "w") then Ok Word
+    else if bytes_eq name (codes "p") then Ok Address
     else Err RangeCheck
 
-abbrev pub space_of : StoreState → PsObj → Result Space PsError
-space_of s x = text_of s x >>= space_named
-
-abbrev pub kind_of : StoreState → PsObj → Result Kind PsError
-kind_of s x = text_of s x >>= kind_named
-
--- a place of two operands
-abbrev pub place_of : StoreState → PsObj → PsObj → Result Place PsError
-place_of s space at = space_of s space >>= λ sp. word_in at >>= λ n. Ok (record { space = sp; at = n })
+abbrev pub place : Space → ℕ → Place
+place space at = record { space = space; at = at }
 
 -- The first three strings of a store's table part are the names of the spaces, so an operator that leaves a place makes none.
 abbrev pub space_number : Space → ℕ

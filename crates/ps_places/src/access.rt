@@ -5,7 +5,7 @@ ghost use Rattle.std.specs.Prelude.{◌≡◌, ◌≤◌, OnOk, length};
 ghost use Rattle.ps_places.specs.Accesses.{value_of, may_store, fetch_of, fetching, store_of, storing, immediate_value, placing_value, Over, troubled};
 
 use crate::memory::{AbsMem, MemFault};
-use crate::place::{kind_of, place_of, space_name};
+use crate::place::{kind_named, space_name, space_named, text_of};
 use frame_bytes::{Place, Space};
 use ldb_words::Kind;
 use ps_step::fault::{PsError, PsFault};
@@ -58,9 +58,12 @@ fn fetch_of(core: &PsCore) -> Result<(Place, Kind), PsError>
     ensures enough { OnOk result (3 ≤ length core.now.operands) }
 {
     let (space, at, kind) = triple_of(&core.operands)?;
-    let place = place_of(&core.store, space, at)?;
-    let kind = kind_of(&core.store, kind)?;
-    Ok((place, kind))
+    let space = text_of(&core.store, space)?;
+    let at = word_in(at)?;
+    let kind = text_of(&core.store, kind)?;
+    let space = space_named(core.store.string_get(space))?;
+    let kind = kind_named(core.store.string_get(kind))?;
+    Ok((Place { space, at }, kind))
 }
 
 /// `fetch`: the value of a kind at a place. rangecheck comes where the place is outside. An error leaves all as it was.
@@ -87,12 +90,15 @@ fn store_of(core: &PsCore, raw: bool) -> Result<(Place, Kind, u32), PsError>
 {
     let (value, space, at, kind) = quadruple_of(&core.operands)?;
     let value = word_in(value)?;
-    let place = place_of(&core.store, space, at)?;
-    let kind = kind_of(&core.store, kind)?;
-    if !may_store(raw, place.space) {
+    let space = text_of(&core.store, space)?;
+    let at = word_in(at)?;
+    let kind = text_of(&core.store, kind)?;
+    let space = space_named(core.store.string_get(space))?;
+    if !may_store(raw, space) {
         return Err(PsError::InvalidAccess);
     }
-    Ok((place, kind, value))
+    let kind = kind_named(core.store.string_get(kind))?;
+    Ok((Place { space, at }, kind, value))
 }
 
 /// `store`: the lowest bytes of a value are put at a place, the cell or, where `raw` says so, the target. invalidaccess comes

@@ -7,4 +7,6 @@ mod place;
 
 pub use access::{Trouble, fetch, immediate, store, troubled};
 pub use memory::{AbsMem, MemFault};
-pub use place::{absolute, kind_of, leave_place, local, place_of, register, space_name, text_of};
+pub use place::{
+    absolute, kind_named, leave_place, local, name_of, register, space_name, space_named, text_of,
+};

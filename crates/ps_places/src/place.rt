@@ -4,9 +4,9 @@ ghost use Rattle.ps_store.specs.Store.{closed_part};
 ghost use Rattle.std.specs.Prelude.{◌≡◌, ◌≤◌, length};
 ghost use Rattle.ps_step.specs.Effects.{Does};
 ghost use Rattle.frame_bytes.specs.declared.frame.Space.TheVariants.{Memory, Registers};
-ghost use Rattle.ps_places.specs.Places.{text_of, named_text, space_named, kind_named, space_of, kind_of, place_of, space_name, placing, placing_at, placing_local};
+ghost use Rattle.ps_places.specs.Places.{text_of, named_text, name_of, space_named, kind_named, space_name, placing, placing_at, placing_local};
 
-use frame_bytes::{Place, Space};
+use frame_bytes::Space;
 use ldb_words::Kind;
 use ps_step::fault::{PsError, PsFault};
 use ps_step::machine::{MOST_OPERANDS, PsCore};
@@ -14,27 +14,34 @@ use ps_step::operands::one_of;
 use ps_store::{Part, PsObj, PsStore, StringId};
 use ps_words::word_in;
 
-/// The string of a name, or of a string that is no longer than a name may be: typecheck comes where an object is neither,
-/// limitcheck where the string is longer.
+/// The string of a name's characters, for which a string may stand: typecheck comes where an object is neither.
 pub fn text_of(store: &PsStore, object: PsObj) -> Result<StringId, PsError>
     ensures { text_of store.now object ≡ named_text store.now result }
 {
     match object {
-        PsObj::Name(t, _) => Ok(t),
-        PsObj::Str(t, _) => {
-            if store.string_get(t).len() > 127 {
-                return Err(PsError::LimitCheck);
-            }
-            Ok(t)
-        }
+        PsObj::Name(t, _) | PsObj::Str(t, _) => Ok(t),
         _ => Err(PsError::TypeCheck),
     }
 }
 
+/// The same, where limitcheck comes for more than 127 characters.
+pub fn name_of(store: &PsStore, object: PsObj) -> Result<StringId, PsError>
+    ensures { name_of store.now object ≡ named_text store.now result }
+{
+    let t = text_of(store, object)?;
+    if store.string_get(t).len() > 127 {
+        return Err(PsError::LimitCheck);
+    }
+    Ok(t)
+}
+
 /// The space with a name.
-fn space_named(text: &[u8]) -> Result<Space, PsError>
+pub fn space_named(text: &[u8]) -> Result<Space, PsError>
     ensures { result ≡ space_named text.now }
 {
+    if text.len() > 127 {
+        return Err(PsError::LimitCheck);
+    }
     if text == b"d".as_slice() {
         Ok(Space::Memory)
     } else if text == b"r".as_slice() {
@@ -47,9 +54,12 @@ fn space_named(text: &[u8]) -> Result<Space, PsError>
 }
 
 /// The kind with a name.
-fn kind_named(text: &[u8]) -> Result<Kind, PsError>
+pub fn kind_named(text: &[u8]) -> Result<Kind, PsError>
     ensures { result ≡ kind_named text.now }
 {
+    if text.len() > 127 {
+        return Err(PsError::LimitCheck);
+    }
     if text == b"c".as_slice() {
         Ok(Kind::Byte)
     } else if text == b"w".as_slice() {
@@ -59,35 +69,6 @@ fn kind_named(text: &[u8]) -> Result<Kind, PsError>
     } else {
         Err(PsError::RangeCheck)
     }
-}
-
-/// The space that an object names.
-fn space_of(store: &PsStore, object: PsObj) -> Result<Space, PsError>
-    ensures { result ≡ space_of store.now object }
-{
-    match text_of(store, object) {
-        Ok(t) => space_named(store.string_get(t)),
-        Err(error) => Err(error),
-    }
-}
-
-/// The kind that an object names.
-pub fn kind_of(store: &PsStore, object: PsObj) -> Result<Kind, PsError>
-    ensures { result ≡ kind_of store.now object }
-{
-    match text_of(store, object) {
-        Ok(t) => kind_named(store.string_get(t)),
-        Err(error) => Err(error),
-    }
-}
-
-/// The place of two operands, a space and an offset.
-pub fn place_of(store: &PsStore, space: PsObj, at: PsObj) -> Result<Place, PsError>
-    ensures { result ≡ place_of store.now space at }
-{
-    let space = space_of(store, space)?;
-    let at = word_in(at)?;
-    Ok(Place { space, at })
 }
 
 /// The name of a space: one of the first three strings of the table's part of the store.

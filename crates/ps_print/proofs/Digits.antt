@@ -58,10 +58,10 @@ module _ {D : Type 0} (Op : Operates D) (prints : Printing Op) (s : StoreState) 
         let digit : r < 10 = omega arith in
         urem_goes Op prints s ds digits holds Q o under digits_last [] v 10 [] (further 2 (suc (suc n₀))) d h (omega arith) (omega arith)
         (goes_on Op s ds (words digits) holds.knows Q o under room 2 (suc (suc n₀)) d
-          (state (digits_last ∷ []) (Obj (Int (word r)) ∷ []))
-          (state (w "get" digits_put ∷ []) (Obj (Int (word r)) ∷ Obj (Array digits false) ∷ [])) refl
-          (digit_goes Op prints s ds digits holds Q o under digits_put [] r [] (suc n₀) d digit
-            (put_goes Op prints s ds digits holds Q o under Stop [] ((48 + r) ∷ []) [] n₀ d (printable_digit r digit) g)))
+        (state (digits_last ∷ []) (Obj (Int (word r)) ∷ []))
+        (state (w "get" digits_put ∷ []) (Obj (Int (word r)) ∷ Obj (Array digits false) ∷ [])) refl
+        (digit_goes Op prints s ds digits holds Q o under digits_put [] r [] (suc n₀) d digit
+        (put_goes Op prints s ds digits holds Q o under Stop [] ((48 + r) ∷ []) [] n₀ d (printable_digit r digit) g)))
 
     -- up to the test whether there are more
     test_goes : (v n₀ : ℕ) (d : D) → v < 2 ^ 32 → Here n₀ d (state (digits_more ∷ []) (Obj (Truth (int_eq (word (v / 10)) (pos 0))) ∷ Obj (Int (word (v / 10))) ∷ Obj (Int (word v)) ∷ []))
@@ -71,9 +71,9 @@ module _ {D : Type 0} (Op : Operates D) (prints : Printing Op) (s : StoreState) 
         (state (digits_body ∷ []) (Obj (Int (word v)) ∷ []))
         (state (w "udivs" digits_test ∷ []) (Obj (Int (pos 10)) ∷ Obj (Int (word v)) ∷ Obj (Int (word v)) ∷ [])) refl
         (udivs_goes Op prints s ds digits holds Q o under digits_test [] v 10 (Obj (Int (word v)) ∷ []) (further 3 n₀) d h (omega arith) (omega arith)
-          (goes_on Op s ds (words digits) holds.knows Q o under room 3 n₀ d
-            (state (digits_test ∷ []) (Obj (Int (word (v / 10))) ∷ Obj (Int (word v)) ∷ []))
-            (state (digits_more ∷ []) (Obj (Truth (int_eq (word (v / 10)) (pos 0))) ∷ Obj (Int (word (v / 10))) ∷ Obj (Int (word v)) ∷ [])) refl g))
+        (goes_on Op s ds (words digits) holds.knows Q o under room 3 n₀ d
+        (state (digits_test ∷ []) (Obj (Int (word (v / 10))) ∷ Obj (Int (word v)) ∷ []))
+        (state (digits_more ∷ []) (Obj (Truth (int_eq (word (v / 10)) (pos 0))) ∷ Obj (Int (word (v / 10))) ∷ Obj (Int (word v)) ∷ [])) refl g))
 
     one_goes : (v n₀ : ℕ) (d : D) → v < 10 → Here n₀ (prints.append d (decimal v)) (state [] []) → Here (one n₀) d (state (digits_body ∷ []) (Obj (Int (word v)) ∷ []))
     one_goes v n₀ d h g =
@@ -82,14 +82,14 @@ module _ {D : Type 0} (Op : Operates D) (prints : Printing Op) (s : StoreState) 
         let text : decimal v ≡ (48 + v % 10) ∷ [] = decimal_digit v h ∙ ap (λ k. (48 + k) ∷ []) (sym r) in
         test_goes v (further 5 (last n₀)) d (omega arith)
         (subst (λ b. Here (further 5 (last n₀)) d (state (digits_more ∷ []) (Obj (Truth b) ∷ Obj (Int (word (v / 10))) ∷ Obj (Int (word v)) ∷ []))) (sym (zero_test (v / 10) (omega arith) q))
-          (goes_on Op s ds (words digits) holds.knows Q o under room 5 (last n₀) d
-            (state (digits_more ∷ []) (Obj (Truth true) ∷ Obj (Int (word (v / 10))) ∷ Obj (Int (word v)) ∷ []))
-            (state (w "urem" digits_last ∷ []) (Obj (Int (pos 10)) ∷ Obj (Int (word v)) ∷ [])) refl
-            (last_goes v n₀ d (omega arith) (subst (λ text. Here n₀ (prints.append d text) (state [] [])) text g))))
+        (goes_on Op s ds (words digits) holds.knows Q o under room 5 (last n₀) d
+        (state (digits_more ∷ []) (Obj (Truth true) ∷ Obj (Int (word (v / 10))) ∷ Obj (Int (word v)) ∷ []))
+        (state (w "urem" digits_last ∷ []) (Obj (Int (pos 10)) ∷ Obj (Int (word v)) ∷ [])) refl
+        (last_goes v n₀ d (omega arith) (subst (λ text. Here n₀ (prints.append d text) (state [] [])) text g))))
 
     many_goes : (v m n₀ : ℕ) (d : D) → v < 2 ^ 32 → 10 ≤ v
         → (Here (further 1 (last n₀)) (prints.append d (decimal (v / 10))) (state (digits_rest ∷ []) (Obj (Int (word v)) ∷ []))
-          → Here m d (state (digits_body ∷ digits_rest ∷ []) (Obj (Int (word (v / 10))) ∷ Obj (Int (word v)) ∷ [])))
+        → Here m d (state (digits_body ∷ digits_rest ∷ []) (Obj (Int (word (v / 10))) ∷ Obj (Int (word v)) ∷ [])))
         → Here n₀ (prints.append d (decimal v)) (state [] []) → Here (many m) d (state (digits_body ∷ []) (Obj (Int (word v)) ∷ []))
     many_goes v m n₀ d h ten_more inner g =
         let text : decimal v ≡ decimal (v / 10) ++ ((48 + v % 10) ∷ []) = decimal_step v ten_more (omega arith) in
@@ -97,14 +97,14 @@ module _ {D : Type 0} (Op : Operates D) (prints : Printing Op) (s : StoreState) 
         ap (prints.append d) text ∙ sym (prints.append_twice d (decimal (v / 10)) ((48 + v % 10) ∷ [])) in
         test_goes v (further 4 m) d h
         (subst (λ b. Here (further 4 m) d (state (digits_more ∷ []) (Obj (Truth b) ∷ Obj (Int (word (v / 10))) ∷ Obj (Int (word v)) ∷ []))) (sym (some_test (v / 10) (omega arith) (omega arith)))
-          (goes_on Op s ds (words digits) holds.knows Q o under room 4 m d
-            (state (digits_more ∷ []) (Obj (Truth false) ∷ Obj (Int (word (v / 10))) ∷ Obj (Int (word v)) ∷ []))
-            (state (digits_body ∷ digits_rest ∷ []) (Obj (Int (word (v / 10))) ∷ Obj (Int (word v)) ∷ [])) refl
-            (inner
-              (goes_on Op s ds (words digits) holds.knows Q o under room 1 (last n₀) (prints.append d (decimal (v / 10)))
-                (state (digits_rest ∷ []) (Obj (Int (word v)) ∷ []))
-                (state (w "urem" digits_last ∷ []) (Obj (Int (pos 10)) ∷ Obj (Int (word v)) ∷ [])) refl
-                (last_goes v n₀ (prints.append d (decimal (v / 10))) h (subst (λ d. Here n₀ d (state [] [])) whole g))))))
+        (goes_on Op s ds (words digits) holds.knows Q o under room 4 m d
+        (state (digits_more ∷ []) (Obj (Truth false) ∷ Obj (Int (word (v / 10))) ∷ Obj (Int (word v)) ∷ []))
+        (state (digits_body ∷ digits_rest ∷ []) (Obj (Int (word (v / 10))) ∷ Obj (Int (word v)) ∷ [])) refl
+        (inner
+        (goes_on Op s ds (words digits) holds.knows Q o under room 1 (last n₀) (prints.append d (decimal (v / 10)))
+        (state (digits_rest ∷ []) (Obj (Int (word v)) ∷ []))
+        (state (w "urem" digits_last ∷ []) (Obj (Int (pos 10)) ∷ Obj (Int (word v)) ∷ [])) refl
+        (last_goes v n₀ (prints.append d (decimal (v / 10))) h (subst (λ d. Here n₀ d (state [] [])) whole g))))))
 
   pub room_here : (k : ℕ) (o : List PsObj) (under : List Item) → RoomFor k o under → Room o under
   room_here k o under r = let a = r.operands in let b = r.items in record { operands = omega arith; items = omega arith }
@@ -134,7 +134,7 @@ module _ {D : Type 0} (Op : Operates D) (prints : Printing Op) (s : StoreState) 
           let ten_more : 10 ≤ v = ltb-false _ _ e in
           many_goes o under (room_here (suc f) o under room) v (digits_steps f (v / 10) (further 1 (last left))) left d small ten_more
           (λ rest. goes_call Op s ds (words digits) holds.knows Q o under digits_body (digits_rest ∷ []) (Obj (Int (word (v / 10)))) (Obj (Int (word v)) ∷ [])
-            (digits_steps f (v / 10) (further 1 (last left))) (further 1 (last left)) d (prints.append d (decimal (v / 10)))
-            (λ o' under' lo lu g' x items is frames. inner o' under' (let a = room.operands in let b = room.items in record { operands = omega arith; items = omega arith }) ten_more g' (x ∷ []) items (more x (Obj (Int (word (v / 10)))) [] [] is none) frames)
-            rest)
+          (digits_steps f (v / 10) (further 1 (last left))) (further 1 (last left)) d (prints.append d (decimal (v / 10)))
+          (λ o' under' lo lu g' x items is frames. inner o' under' (let a = room.operands in let b = room.items in record { operands = omega arith; items = omega arith }) ten_more g' (x ∷ []) items (more x (Obj (Int (word (v / 10)))) [] [] is none) frames)
+          rest)
           (finishes left (prints.append d (decimal v)) o under g)

@@ -65,11 +65,11 @@ module _ {D : Type 0} (Op : Operates D) (prints : Printing Op) (s : StoreState) 
           (state (signed_body ∷ []) (Obj (Int (word v)) ∷ []))
           (state (signed_rest ∷ []) (Obj (Truth (relates Lt (int_cmp (word v) (pos 0)))) ∷ Obj (Int (word v)) ∷ [])) refl
           (subst (λ b. On Op prints s ds digits holds Q o under (further 3 (digits_steps 9 v left)) d (state (signed_rest ∷ []) (Obj (Truth b) ∷ Obj (Int (word v)) ∷ []))) (sym test)
-            (goes_on Op s ds (words digits) holds.knows Q o under room' 3 (digits_steps 9 v left) d
-              (state (signed_rest ∷ []) (Obj (Truth false) ∷ Obj (Int (word v)) ∷ []))
-              (state (digits_body ∷ []) (Obj (Int (word v)) ∷ [])) refl
-              (digits_run Op prints s ds digits holds Q 9 v left d o under room'' (omega arith) h
-                (subst (λ z. Passes Op Q left (prints.append d (signed_decimal z)) (core s ds o under)) number g))))
+          (goes_on Op s ds (words digits) holds.knows Q o under room' 3 (digits_steps 9 v left) d
+          (state (signed_rest ∷ []) (Obj (Truth false) ∷ Obj (Int (word v)) ∷ []))
+          (state (digits_body ∷ []) (Obj (Int (word v)) ∷ [])) refl
+          (digits_run Op prints s ds digits holds Q 9 v left d o under room'' (omega arith) h
+          (subst (λ z. Passes Op Q left (prints.append d (signed_decimal z)) (core s ds o under)) number g))))
       by_sign false e =
           let large : 2 ^ 31 ≤ v = ltb-false _ _ e in
           let number : word v ≡ negsuc (2 ^ 32 - suc v) = word_large v large in
@@ -82,20 +82,20 @@ module _ {D : Type 0} (Op : Operates D) (prints : Printing Op) (s : StoreState) 
           (state (signed_body ∷ []) (Obj (Int (word v)) ∷ []))
           (state (signed_rest ∷ []) (Obj (Truth (relates Lt (int_cmp (word v) (pos 0)))) ∷ Obj (Int (word v)) ∷ [])) refl
           (subst (λ b. On Op prints s ds digits holds Q o under (minus_steps (digits_steps 9 (below_zero v) left)) d (state (signed_rest ∷ []) (Obj (Truth b) ∷ Obj (Int (word v)) ∷ []))) (sym test)
-            (goes_on Op s ds (words digits) holds.knows Q o under room' 3 (suc (further 2 (suc (further 1 (digits_steps 9 (below_zero v) left))))) d
-              (state (signed_rest ∷ []) (Obj (Truth true) ∷ Obj (Int (word v)) ∷ []))
-              (state (w "Put" signed_minus ∷ w "Digits" Stop ∷ []) (Bytes (45 ∷ []) ∷ Obj (Int (word v)) ∷ [])) refl
-              (put_goes Op prints s ds digits holds Q o under signed_minus (w "Digits" Stop ∷ []) (45 ∷ []) (Obj (Int (word v)) ∷ []) (further 2 (suc (further 1 (digits_steps 9 (below_zero v) left)))) d
-                (omega arith, omega arith, tt)
-                (goes_on Op s ds (words digits) holds.knows Q o under room' 2 (suc (further 1 (digits_steps 9 (below_zero v) left))) (prints.append d (45 ∷ []))
-                  (state (signed_minus ∷ w "Digits" Stop ∷ []) (Obj (Int (word v)) ∷ []))
-                  (state (w "usub" Stop ∷ w "Digits" Stop ∷ []) (Obj (Int (word v)) ∷ Obj (Int (pos 0)) ∷ [])) refl
-                  (usub_goes Op prints s ds digits holds Q o under Stop (w "Digits" Stop ∷ []) 0 v [] (further 1 (digits_steps 9 (below_zero v) left)) (prints.append d (45 ∷ [])) (omega arith) h
-                    (goes_on Op s ds (words digits) holds.knows Q o under room' 1 (digits_steps 9 (below_zero v) left) (prints.append d (45 ∷ []))
-                      (state (w "Digits" Stop ∷ []) (Obj (Int (word (below_zero v))) ∷ []))
-                      (state (digits_body ∷ []) (Obj (Int (word (below_zero v))) ∷ [])) refl
-                      (digits_run Op prints s ds digits holds Q 9 (below_zero v) left (prints.append d (45 ∷ [])) o under room'' (omega arith) fits
-                        (subst (λ d'. Passes Op Q left d' (core s ds o under)) text g))))))))
+          (goes_on Op s ds (words digits) holds.knows Q o under room' 3 (suc (further 2 (suc (further 1 (digits_steps 9 (below_zero v) left))))) d
+          (state (signed_rest ∷ []) (Obj (Truth true) ∷ Obj (Int (word v)) ∷ []))
+          (state (w "Put" signed_minus ∷ w "Digits" Stop ∷ []) (Bytes (45 ∷ []) ∷ Obj (Int (word v)) ∷ [])) refl
+          (put_goes Op prints s ds digits holds Q o under signed_minus (w "Digits" Stop ∷ []) (45 ∷ []) (Obj (Int (word v)) ∷ []) (further 2 (suc (further 1 (digits_steps 9 (below_zero v) left)))) d
+          (omega arith, omega arith, tt)
+          (goes_on Op s ds (words digits) holds.knows Q o under room' 2 (suc (further 1 (digits_steps 9 (below_zero v) left))) (prints.append d (45 ∷ []))
+          (state (signed_minus ∷ w "Digits" Stop ∷ []) (Obj (Int (word v)) ∷ []))
+          (state (w "usub" Stop ∷ w "Digits" Stop ∷ []) (Obj (Int (word v)) ∷ Obj (Int (pos 0)) ∷ [])) refl
+          (usub_goes Op prints s ds digits holds Q o under Stop (w "Digits" Stop ∷ []) 0 v [] (further 1 (digits_steps 9 (below_zero v) left)) (prints.append d (45 ∷ [])) (omega arith) h
+          (goes_on Op s ds (words digits) holds.knows Q o under room' 1 (digits_steps 9 (below_zero v) left) (prints.append d (45 ∷ []))
+          (state (w "Digits" Stop ∷ []) (Obj (Int (word (below_zero v))) ∷ []))
+          (state (digits_body ∷ []) (Obj (Int (word (below_zero v))) ∷ [])) refl
+          (digits_run Op prints s ds digits holds Q 9 (below_zero v) left (prints.append d (45 ∷ [])) o under room'' (omega arith) fits
+          (subst (λ d'. Passes Op Q left d' (core s ds o under)) text g))))))))
 
 -- one item less
 less_one : (r : ℕ) → pos (suc r) -ℤ pos 1 ≡ pos r
@@ -134,15 +134,15 @@ module _ {D : Type 0} (Op : Operates D) (prints : Printing Op) (s : StoreState) 
       (state (showint_body ∷ []) (type ∷ Obj (Int place) ∷ Key space ∷ Obj (Int (pos (suc r))) ∷ []))
       (state (w "fetch" showint_value ∷ []) (Key (codes "w") ∷ Obj (Int place) ∷ Key space ∷ Obj (Int (pos (suc r))) ∷ [])) refl
       (fetch_goes Op prints s ds digits holds Q o under showint_value [] space (codes "w") place (word v) (Obj (Int (pos (suc r))) ∷ []) (further 1 (signed_steps v (further 2 left))) d known
-        (goes_on Op s ds (words digits) holds.knows Q o under room' 1 (signed_steps v (further 2 left)) d
-          (state (showint_value ∷ []) (Obj (Int (word v)) ∷ Obj (Int (pos (suc r))) ∷ []))
-          (state (signed_body ∷ showint_rest ∷ []) (Obj (Int (word v)) ∷ Obj (Int (pos (suc r))) ∷ [])) refl
-          (goes_call Op s ds (words digits) holds.knows Q o under signed_body (showint_rest ∷ []) (Obj (Int (word v))) (Obj (Int (pos (suc r))) ∷ [])
-            (signed_steps v (further 2 left)) (further 2 left) d (prints.append d (signed_decimal (word v)))
-            (λ o' under' lo lu g' x items is frames.
-              signed_run Op prints s ds digits holds Q v (further 2 left) d o' under' (let a = room.operands in let b = room.items in record { operands = omega arith; items = omega arith }) h g'
-              (x ∷ []) items (more x (Obj (Int (word v))) [] [] is none) frames)
-            (count_goes r left (prints.append d (signed_decimal (word v))) o under room' small g))))
+      (goes_on Op s ds (words digits) holds.knows Q o under room' 1 (signed_steps v (further 2 left)) d
+      (state (showint_value ∷ []) (Obj (Int (word v)) ∷ Obj (Int (pos (suc r))) ∷ []))
+      (state (signed_body ∷ showint_rest ∷ []) (Obj (Int (word v)) ∷ Obj (Int (pos (suc r))) ∷ [])) refl
+      (goes_call Op s ds (words digits) holds.knows Q o under signed_body (showint_rest ∷ []) (Obj (Int (word v))) (Obj (Int (pos (suc r))) ∷ [])
+      (signed_steps v (further 2 left)) (further 2 left) d (prints.append d (signed_decimal (word v)))
+      (λ o' under' lo lu g' x items is frames.
+      signed_run Op prints s ds digits holds Q v (further 2 left) d o' under' (let a = room.operands in let b = room.items in record { operands = omega arith; items = omega arith }) h g'
+      (x ∷ []) items (more x (Obj (Int (word v))) [] [] is none) frames)
+      (count_goes r left (prints.append d (signed_decimal (word v))) o under room' small g))))
 
   -- The run of `ShowUnsigned` appends the unsigned number at the place, and leaves the room less one.
   pub unsigned_run : (v r left : ℕ) (space : List ℕ) (place : ℤ) (type : Val) (d : D) (o : List PsObj) (under : List Item) → RoomFor 13 o under → v < 2 ^ 32 → r < 2 ^ 31
@@ -155,12 +155,12 @@ module _ {D : Type 0} (Op : Operates D) (prints : Printing Op) (s : StoreState) 
       (state (showunsigned_body ∷ []) (type ∷ Obj (Int place) ∷ Key space ∷ Obj (Int (pos (suc r))) ∷ []))
       (state (w "fetch" showunsigned_value ∷ []) (Key (codes "w") ∷ Obj (Int place) ∷ Key space ∷ Obj (Int (pos (suc r))) ∷ [])) refl
       (fetch_goes Op prints s ds digits holds Q o under showunsigned_value [] space (codes "w") place (word v) (Obj (Int (pos (suc r))) ∷ []) (further 1 (digits_steps 9 v (further 2 left))) d known
-        (goes_on Op s ds (words digits) holds.knows Q o under room' 1 (digits_steps 9 v (further 2 left)) d
-          (state (showunsigned_value ∷ []) (Obj (Int (word v)) ∷ Obj (Int (pos (suc r))) ∷ []))
-          (state (digits_body ∷ showint_rest ∷ []) (Obj (Int (word v)) ∷ Obj (Int (pos (suc r))) ∷ [])) refl
-          (goes_call Op s ds (words digits) holds.knows Q o under digits_body (showint_rest ∷ []) (Obj (Int (word v))) (Obj (Int (pos (suc r))) ∷ [])
-            (digits_steps 9 v (further 2 left)) (further 2 left) d (prints.append d (decimal v))
-            (λ o' under' lo lu g' x items is frames.
-              digits_run Op prints s ds digits holds Q 9 v (further 2 left) d o' under' (let a = room.operands in let b = room.items in record { operands = omega arith; items = omega arith }) (omega arith) h g'
-              (x ∷ []) items (more x (Obj (Int (word v))) [] [] is none) frames)
-            (count_goes r left (prints.append d (decimal v)) o under room' small g))))
+      (goes_on Op s ds (words digits) holds.knows Q o under room' 1 (digits_steps 9 v (further 2 left)) d
+      (state (showunsigned_value ∷ []) (Obj (Int (word v)) ∷ Obj (Int (pos (suc r))) ∷ []))
+      (state (digits_body ∷ showint_rest ∷ []) (Obj (Int (word v)) ∷ Obj (Int (pos (suc r))) ∷ [])) refl
+      (goes_call Op s ds (words digits) holds.knows Q o under digits_body (showint_rest ∷ []) (Obj (Int (word v))) (Obj (Int (pos (suc r))) ∷ [])
+      (digits_steps 9 v (further 2 left)) (further 2 left) d (prints.append d (decimal v))
+      (λ o' under' lo lu g' x items is frames.
+      digits_run Op prints s ds digits holds Q 9 v (further 2 left) d o' under' (let a = room.operands in let b = room.items in record { operands = omega arith; items = omega arith }) (omega arith) h g'
+      (x ∷ []) items (more x (Obj (Int (word v))) [] [] is none) frames)
+      (count_goes r left (prints.append d (decimal v)) o under room' small g))))

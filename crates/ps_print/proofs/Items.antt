@@ -84,7 +84,7 @@ module _ {D : Type 0} (Op : Operates D) (prints : Printing Op) (s : StoreState) 
       none_goes place before r left t g =
           on 4 (further 8 left) t (at_items place [] before r) (state (items_test ∷ []) (Obj (Truth (int_eq (pos 0) (pos 0))) ∷ own place 0 before r)) refl
           (subst (λ b. Here (further 8 left) t (state (items_test ∷ []) (Obj (Truth b) ∷ own place 0 before r))) (sym none_left)
-            (on 8 left t (state (items_test ∷ []) (Obj (Truth true) ∷ own place 0 before r)) (state [] (Obj (Int (pos r)) ∷ [])) refl g))
+          (on 8 left t (state (items_test ∷ []) (Obj (Truth true) ∷ own place 0 before r)) (state [] (Obj (Int (pos r)) ∷ [])) refl g))
 
       -- up to the test whether room is left
       some_goes : (place count : ℕ) (before : List ℕ) (r left : ℕ) (t : List ℕ) → AllPrintable before
@@ -94,11 +94,11 @@ module _ {D : Type 0} (Op : Operates D) (prints : Printing Op) (s : StoreState) 
           on 4 (further 5 (suc (further 4 left))) t (state (items_body ∷ []) (own place (suc count) before r))
           (state (items_test ∷ []) (Obj (Truth (int_eq (pos (suc count)) (pos 0))) ∷ own place (suc count) before r)) refl
           (subst (λ b. Here (further 5 (suc (further 4 left))) t (state (items_test ∷ []) (Obj (Truth b) ∷ own place (suc count) before r))) (sym (some_left count))
-            (on 5 (suc (further 4 left)) t (state (items_test ∷ []) (Obj (Truth false) ∷ own place (suc count) before r))
-              (state (w "Put" items_before ∷ []) (Bytes before ∷ own place (suc count) before r)) refl
-              (put_at Op prints s ds digits holds Q o under items_before [] before (own place (suc count) before r) (further 4 left) d t printable
-                (on 4 left (t ++ before) (state (items_before ∷ []) (own place (suc count) before r))
-                  (state (items_room ∷ []) (Obj (Truth (int_eq (pos r) (pos 0))) ∷ own place (suc count) before r)) refl g))))
+          (on 5 (suc (further 4 left)) t (state (items_test ∷ []) (Obj (Truth false) ∷ own place (suc count) before r))
+          (state (w "Put" items_before ∷ []) (Bytes before ∷ own place (suc count) before r)) refl
+          (put_at Op prints s ds digits holds Q o under items_before [] before (own place (suc count) before r) (further 4 left) d t printable
+          (on 4 left (t ++ before) (state (items_before ∷ []) (own place (suc count) before r))
+          (state (items_room ∷ []) (Obj (Truth (int_eq (pos r) (pos 0))) ∷ own place (suc count) before r)) refl g))))
 
       -- no room is left
       cut_goes : (place count : ℕ) (before : List ℕ) (left : ℕ) (t : List ℕ)
@@ -107,9 +107,9 @@ module _ {D : Type 0} (Op : Operates D) (prints : Printing Op) (s : StoreState) 
       cut_goes place count before left t g =
           subst (λ b. Here (further 4 (suc (further 5 left))) t (state (items_room ∷ []) (Obj (Truth b) ∷ own place (suc count) before 0))) (sym none_left)
           (on 4 (suc (further 5 left)) t (state (items_room ∷ []) (Obj (Truth true) ∷ own place (suc count) before 0))
-            (state (w "Put" items_drop ∷ []) (Bytes (codes "...") ∷ own place (suc count) before 0)) refl
-            (put_at Op prints s ds digits holds Q o under items_drop [] (codes "...") (own place (suc count) before 0) (further 5 left) d t dots_printable
-              (on 5 left (t ++ codes "...") (state (items_drop ∷ []) (own place (suc count) before 0)) (state [] (Obj (Int (pos 0)) ∷ [])) refl g)))
+          (state (w "Put" items_drop ∷ []) (Bytes (codes "...") ∷ own place (suc count) before 0)) refl
+          (put_at Op prints s ds digits holds Q o under items_drop [] (codes "...") (own place (suc count) before 0) (further 5 left) d t dots_printable
+          (on 5 left (t ++ codes "...") (state (items_drop ∷ []) (own place (suc count) before 0)) (state [] (Obj (Int (pos 0)) ∷ [])) refl g)))
 
       -- what stands below an item that is shown
       abbrev below : ℕ → ℕ → List ℕ → List Val
@@ -125,17 +125,17 @@ module _ {D : Type 0} (Op : Operates D) (prints : Printing Op) (s : StoreState) 
           on 15 (suc (further 5 (suc (further 3 (suc (further 2 left)))))) t (state (items_turn ∷ []) (Obj (Int (pos r)) ∷ below place (suc count) before))
           (state (w "sub" items_size ∷ []) (Obj (Int (pos 1)) ∷ Obj (Int (pos (suc count))) ∷ vs)) refl
           (on 1 (further 5 (suc (further 3 (suc (further 2 left))))) t (state (w "sub" items_size ∷ []) (Obj (Int (pos 1)) ∷ Obj (Int (pos (suc count))) ∷ vs))
-            (state (items_size ∷ []) (Obj (Int (pos count)) ∷ vs))
-            (ap (λ (m : Result ℤ PsError). elim (acted items_size [] (result vs m)) [ None ↦ None | Some st ↦ Some st ]) (sub_one count few))
-            (on 5 (suc (further 3 (suc (further 2 left)))) t (state (items_size ∷ []) (Obj (Int (pos count)) ∷ vs))
-              (state (w "get" items_sum ∷ []) (Key (codes "size") ∷ Obj (Dict type) ∷ Obj (Dict type) ∷ Obj (Int (word place)) ∷ rest)) refl
-              (goes_get Op s ds (words digits) holds.knows Q o under (codes "get") (codes "size") items_sum [] type (Obj (Int (word size))) (Obj (Dict type) ∷ Obj (Int (word place)) ∷ rest)
-                (further 3 (suc (further 2 left))) (prints.append d t) holds.get sized
-                (on 3 (suc (further 2 left)) t (state (items_sum ∷ []) (Obj (Int (word size)) ∷ Obj (Dict type) ∷ Obj (Int (word place)) ∷ rest))
-                  (state (w "uadd" items_next ∷ []) (Obj (Int (word place)) ∷ Obj (Int (word size)) ∷ Obj (Dict type) ∷ rest)) refl
-                  (uadd_goes Op prints s ds digits holds Q o under items_next [] size place (Obj (Dict type) ∷ rest) (further 2 left) (prints.append d t) small within
-                    (on 2 left t (state (items_next ∷ []) (Obj (Int (word (after_item place))) ∷ Obj (Dict type) ∷ rest))
-                      (state (items_body ∷ []) (own (after_item place) count (codes ", ") r)) refl g))))))
+          (state (items_size ∷ []) (Obj (Int (pos count)) ∷ vs))
+          (ap (λ (m : Result ℤ PsError). elim (acted items_size [] (result vs m)) [ None ↦ None | Some st ↦ Some st ]) (sub_one count few))
+          (on 5 (suc (further 3 (suc (further 2 left)))) t (state (items_size ∷ []) (Obj (Int (pos count)) ∷ vs))
+          (state (w "get" items_sum ∷ []) (Key (codes "size") ∷ Obj (Dict type) ∷ Obj (Dict type) ∷ Obj (Int (word place)) ∷ rest)) refl
+          (goes_get Op s ds (words digits) holds.knows Q o under (codes "get") (codes "size") items_sum [] type (Obj (Int (word size))) (Obj (Dict type) ∷ Obj (Int (word place)) ∷ rest)
+          (further 3 (suc (further 2 left))) (prints.append d t) holds.get sized
+          (on 3 (suc (further 2 left)) t (state (items_sum ∷ []) (Obj (Int (word size)) ∷ Obj (Dict type) ∷ Obj (Int (word place)) ∷ rest))
+          (state (w "uadd" items_next ∷ []) (Obj (Int (word place)) ∷ Obj (Int (word size)) ∷ Obj (Dict type) ∷ rest)) refl
+          (uadd_goes Op prints s ds digits holds Q o under items_next [] size place (Obj (Dict type) ∷ rest) (further 2 left) (prints.append d t) small within
+          (on 2 left t (state (items_next ∷ []) (Obj (Int (word (after_item place))) ∷ Obj (Dict type) ∷ rest))
+          (state (items_body ∷ []) (own (after_item place) count (codes ", ") r)) refl g))))))
 
       -- an item is shown
       shown_goes : (i : Thing) (place count : ℕ) (before : List ℕ) (r left : ℕ) (t : List ℕ) → r < 1000 → Shows place i
@@ -145,10 +145,10 @@ module _ {D : Type 0} (Op : Operates D) (prints : Printing Op) (s : StoreState) 
           let vs : List Val = Obj (Dict type) ∷ Obj (Int (word place)) ∷ Key space ∷ Obj (Int (pos (suc r))) ∷ [] in
           subst (λ b. Here (further 13 (i.steps (suc r) left)) t (state (items_room ∷ []) (Obj (Truth b) ∷ own place (suc count) before (suc r)))) (sym (some_left r))
           (on 13 (i.steps (suc r) left) t (state (items_room ∷ []) (Obj (Truth false) ∷ own place (suc count) before (suc r)))
-            (state (show_body ∷ items_turn ∷ []) (vs ++ below place (suc count) before)) refl
-            (goes_through Op s ds (words digits) holds.knows Q o under show_body (items_turn ∷ []) vs (below place (suc count) before) (Int (pos (i.room (suc r)))) (i.steps (suc r) left) left
-              (prints.append d t) (prints.append d (t ++ i.text (suc r)))
-              (λ o' under' lo lu g'. shows t r left o' under' (let a = room.operands in let b = room.items in record { operands = omega arith; items = omega arith }) within g') g))
+          (state (show_body ∷ items_turn ∷ []) (vs ++ below place (suc count) before)) refl
+          (goes_through Op s ds (words digits) holds.knows Q o under show_body (items_turn ∷ []) vs (below place (suc count) before) (Int (pos (i.room (suc r)))) (i.steps (suc r) left) left
+          (prints.append d t) (prints.append d (t ++ i.text (suc r)))
+          (λ o' under' lo lu g'. shows t r left o' under' (let a = room.operands in let b = room.items in record { operands = omega arith; items = omega arith }) within g') g))
 
     -- The run of `Items` appends the items' texts with their separators, up to the room that there is, and leaves the room that is left.
     pub items_run : (is : List Thing) (before : List ℕ) (place r left : ℕ) (t : List ℕ) (o : List PsObj) (under : List Item) → RoomFor (5 + k) o under → AllPrintable before
@@ -158,12 +158,12 @@ module _ {D : Type 0} (Op : Operates D) (prints : Printing Op) (s : StoreState) 
     items_run [] before place r left t o under room printable within few enough each g =
         none_goes o under room place before r left t
         (subst (λ t. On Op prints s ds digits holds Q o under left (prints.append d t) (state [] (Obj (Int (pos r)) ∷ []))) (append-nil t)
-          (leaves Op prints s ds digits holds Q (Int (pos r)) left (prints.append d (t ++ [])) o under g))
+        (leaves Op prints s ds digits holds Q (Int (pos r)) left (prints.append d (t ++ [])) o under g))
     items_run (i ∷ is) before place zero left t o under room printable within few enough each g =
         some_goes o under room place (length is) before 0 (further 4 (suc (further 5 left))) t printable
         (cut_goes o under room place (length is) before left (t ++ before)
-          (subst (λ t. On Op prints s ds digits holds Q o under left (prints.append d t) (state [] (Obj (Int (pos 0)) ∷ []))) (sym (append_assoc t before (codes "...")))
-            (leaves Op prints s ds digits holds Q (Int (pos 0)) left (prints.append d (t ++ (before ++ codes "..."))) o under g)))
+        (subst (λ t. On Op prints s ds digits holds Q o under left (prints.append d t) (state [] (Obj (Int (pos 0)) ∷ []))) (sym (append_assoc t before (codes "...")))
+        (leaves Op prints s ds digits holds Q (Int (pos 0)) left (prints.append d (t ++ (before ++ codes "..."))) o under g)))
     items_run (i ∷ is) before place (suc r) left t o under room printable within few enough each g =
         let r' : ℕ = i.room (suc r) in
         let fewer : r' ≤ suc r = each.1 (suc r) in
@@ -172,6 +172,6 @@ module _ {D : Type 0} (Op : Operates D) (prints : Printing Op) (s : StoreState) 
         sym (append_assoc t (before ++ i.text (suc r)) (items_text (codes ", ") is r')) ∙ ap (λ x. x ++ items_text (codes ", ") is r') (sym (append_assoc t before (i.text (suc r)))) in
         some_goes o under room place (length is) before (suc r) (further 13 (i.steps (suc r) (further 15 (suc (further 5 (suc (further 3 (suc (further 2 (items_steps is r' left)))))))))) t printable
         (shown_goes o under room i place (length is) before r (further 15 (suc (further 5 (suc (further 3 (suc (further 2 (items_steps is r' left)))))))) (t ++ before) (omega arith) each.0
-          (turn_goes o under room place (length is) before r' (items_steps is r' left) t' within (omega arith)
-            (items_run is (codes ", ") (after_item place) r' left t' o under room comma_printable (omega arith) (omega arith) (omega arith) each.2
-              (subst (λ x. Passes Op Q left (prints.append d x) (core s ds (Int (pos (items_left is r')) ∷ o) under)) whole g))))
+        (turn_goes o under room place (length is) before r' (items_steps is r' left) t' within (omega arith)
+        (items_run is (codes ", ") (after_item place) r' left t' o under room comma_printable (omega arith) (omega arith) (omega arith) each.2
+        (subst (λ x. Passes Op Q left (prints.append d x) (core s ds (Int (pos (items_left is r')) ∷ o) under)) whole g))))

@@ -90,10 +90,11 @@ module _ {D : Type 0} (Op : Operates D) (prints : Printing Op) (s : StoreState) 
     members_show : (k : ℕ) (ms : List Member) (members : ArrayId) (e : Bool) (count i place : ℕ) (xs : List Showing) (is : List Thing) → MembersLaid Op prints s d space defs k ms members i place xs is
         → EachMember Op prints s ds digits holds Q (need k) d space members e count place i is
     members_show _ _ _ e count _ _ _ _ (no_member k members i place) = tt
-    members_show _ _ _ e count _ _ _ _ (a_member k m ms members i place offset type xs ys thing is at l ls) =
-        ((offset, type, at, laid_shows k m.ctype type ((place + offset) % 2 ^ 32) xs thing l),
-          laid_fewer Op prints s d space defs k m.ctype type ((place + offset) % 2 ^ 32) xs thing l,
-          members_show k ms members e count (suc i) place ys is ls)
+    members_show _ _ _ e count _ _ _ _ (a_member k m ms members i place offset type xs ys thing is at l ls) = (
+      (offset, type, at, laid_shows k m.ctype type ((place + offset) % 2 ^ 32) xs thing l),
+      laid_fewer Op prints s d space defs k m.ctype type ((place + offset) % 2 ^ 32) xs thing l,
+      members_show k ms members e count (suc i) place ys is ls,
+    )
 
 -- ---- the text of the C type
 

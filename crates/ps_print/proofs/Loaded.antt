@@ -106,7 +106,6 @@ known (w ∷ ws) h name entry e = by_name (known ws h.1 name entry) (bytes_eq w.
         subst (λ n. Means loaded.store loaded.dictionaries n entry) same (subst (Means loaded.store loaded.dictionaries w.0) it h.0)
     by_name rest false f g = rest g
 
-
 digit_there : (r : ℕ) → r < 10 → (t : StringId) × (slice_get (elements_of loaded.store digits_id) r ≡ Some (Str t false)) × (bytes_of loaded.store t ≡ (48 + r) ∷ [])
 unfolding digits is_white is_special is_regular is_hexadecimal operator_number
 digit_there zero h = (record { part = Table; index = 6 }, refl, refl)
@@ -125,10 +124,64 @@ digit_there (suc (suc (suc (suc (suc (suc (suc (suc (suc (suc r)))))))))) h = ab
 pub loaded_holds : Holds loaded.store loaded.dictionaries digits_id
 unfolding digits is_white is_special is_regular is_hexadecimal operator_number
 loaded_holds = record {
-  knows = known (words digits_id) (refl, (refl, (refl, (refl, (refl, (refl, (refl, (refl, (refl, (refl, (refl, ((Array digits_id false, refl, refl, tt),
-    (does (codes "Digits") digits_body bodies_there.0, (does (codes "Signed") signed_body bodies_there.1, (does (codes "ShowInt") showint_body bodies_there.2, (does (codes "ShowUnsigned") showunsigned_body bodies_there.8,
-    (does (codes "Items") items_body bodies_there.3, (does (codes "ShowArray") showarray_body bodies_there.4, (does (codes "Show") show_body bodies_there.5,
-    (does (codes "ShowChar") showchar_body bodies_there.9, (does (codes "ShowPointer") showpointer_body bodies_there.10, (does (codes "ShowStruct") showstruct_body bodies_there.11, (does (codes "Members") members_body bodies_there.12, tt)))))))))))))))))))))));
+  knows = known (words digits_id) (
+    refl,
+    (
+      refl,
+      (
+        refl,
+        (
+          refl,
+          (
+            refl,
+            (
+              refl,
+              (
+                refl,
+                (
+                  refl,
+                  (
+                    refl,
+                    (
+                      refl,
+                      (
+                        refl,
+                        (
+                          (Array digits_id false, refl, refl, tt),
+                          (
+                            does (codes "Digits") digits_body bodies_there.0,
+                            (
+                              does (codes "Signed") signed_body bodies_there.1,
+                              (
+                                does (codes "ShowInt") showint_body bodies_there.2,
+                                (
+                                  does (codes "ShowUnsigned") showunsigned_body bodies_there.8,
+                                  (
+                                    does (codes "Items") items_body bodies_there.3,
+                                    (
+                                      does (codes "ShowArray") showarray_body bodies_there.4,
+                                      (
+                                        does (codes "Show") show_body bodies_there.5,
+                                        (does (codes "ShowChar") showchar_body bodies_there.9, (does (codes "ShowPointer") showpointer_body bodies_there.10, (does (codes "ShowStruct") showstruct_body bodies_there.11, (does (codes "Members") members_body bodies_there.12, tt)))),
+                                      ),
+                                    ),
+                                  ),
+                                ),
+                              ),
+                            ),
+                          ),
+                        ),
+                      ),
+                    ),
+                  ),
+                ),
+              ),
+            ),
+          ),
+        ),
+      ),
+    ),
+  );
   get = refl;
   length_of = refl;
   fetch = refl;

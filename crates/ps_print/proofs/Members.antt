@@ -85,9 +85,9 @@ module _ {D : Type 0} (Op : Operates D) (prints : Printing Op) (s : StoreState) 
       choice_goes i before r left t b test g =
           on 4 (suc (further 1 left)) t (state (members_body ∷ []) (own i before r)) (state (members_length ∷ []) (Obj (Array a e) ∷ Obj (Int (pos i)) ∷ own i before r)) refl
           (length_goes Op prints s ds digits holds Q o under members_test [] a e count (Obj (Int (pos i)) ∷ own i before r) (further 1 left) (prints.append d t) many few
-            (on 1 left t (state (members_test ∷ []) (Obj (Int (pos count)) ∷ Obj (Int (pos i)) ∷ own i before r))
-              (state (members_choice ∷ []) (Obj (Truth (int_eq (pos i) (pos count))) ∷ own i before r)) refl
-              (subst (λ b. Here left t (state (members_choice ∷ []) (Obj (Truth b) ∷ own i before r))) (sym test) g)))
+          (on 1 left t (state (members_test ∷ []) (Obj (Int (pos count)) ∷ Obj (Int (pos i)) ∷ own i before r))
+          (state (members_choice ∷ []) (Obj (Truth (int_eq (pos i) (pos count))) ∷ own i before r)) refl
+          (subst (λ b. Here left t (state (members_choice ∷ []) (Obj (Truth b) ∷ own i before r))) (sym test) g)))
 
       -- no member is left
       none_goes : (i : ℕ) (before : List ℕ) (r left : ℕ) (t : List ℕ) → i ≡ count → Here left t (state [] (Obj (Int (pos r)) ∷ []))
@@ -103,8 +103,8 @@ module _ {D : Type 0} (Op : Operates D) (prints : Printing Op) (s : StoreState) 
       some_goes i before r left t other printable g =
           choice_goes i before r (further 5 (suc (further 4 left))) t false (other_number i count other)
           (on 5 (suc (further 4 left)) t (state (members_choice ∷ []) (Obj (Truth false) ∷ own i before r)) (state (w "Put" members_before ∷ []) (Bytes before ∷ own i before r)) refl
-            (put_at Op prints s ds digits holds Q o under members_before [] before (own i before r) (further 4 left) d t printable
-              (on 4 left (t ++ before) (state (members_before ∷ []) (own i before r)) (state (members_room ∷ []) (Obj (Truth (int_eq (pos r) (pos 0))) ∷ own i before r)) refl g)))
+          (put_at Op prints s ds digits holds Q o under members_before [] before (own i before r) (further 4 left) d t printable
+          (on 4 left (t ++ before) (state (members_before ∷ []) (own i before r)) (state (members_room ∷ []) (Obj (Truth (int_eq (pos r) (pos 0))) ∷ own i before r)) refl g)))
 
       -- no room is left
       cut_goes : (i : ℕ) (before : List ℕ) (left : ℕ) (t : List ℕ) → Here left (t ++ codes "...") (state [] (Obj (Int (pos 0)) ∷ []))
@@ -112,8 +112,8 @@ module _ {D : Type 0} (Op : Operates D) (prints : Printing Op) (s : StoreState) 
       cut_goes i before left t g =
           subst (λ b. Here (further 4 (suc (further 5 left))) t (state (members_room ∷ []) (Obj (Truth b) ∷ own i before 0))) (sym none_left)
           (on 4 (suc (further 5 left)) t (state (members_room ∷ []) (Obj (Truth true) ∷ own i before 0)) (state (w "Put" items_drop ∷ []) (Bytes (codes "...") ∷ own i before 0)) refl
-            (put_at Op prints s ds digits holds Q o under items_drop [] (codes "...") (own i before 0) (further 5 left) d t dots_printable
-              (on 5 left (t ++ codes "...") (state (items_drop ∷ []) (own i before 0)) (state [] (Obj (Int (pos 0)) ∷ [])) refl g)))
+          (put_at Op prints s ds digits holds Q o under items_drop [] (codes "...") (own i before 0) (further 5 left) d t dots_printable
+          (on 5 left (t ++ codes "...") (state (items_drop ∷ []) (own i before 0)) (state [] (Obj (Int (pos 0)) ∷ [])) refl g)))
 
       -- behind a member: the next turn
       turn_goes : (i : ℕ) (before : List ℕ) (r left : ℕ) (t : List ℕ) → suc i < 2 ^ 31 → Here left t (state (members_body ∷ []) (own (suc i) (codes ", ") r))
@@ -122,8 +122,8 @@ module _ {D : Type 0} (Op : Operates D) (prints : Printing Op) (s : StoreState) 
           let vs : List Val = Obj (Int (word place)) ∷ Key space ∷ Obj (Array a e) ∷ Bytes (codes ", ") ∷ Obj (Int (pos r)) ∷ [] in
           on 15 (suc (further 4 left)) t (state (members_turn ∷ []) (Obj (Int (pos r)) ∷ below i before)) (state (members_add ∷ []) (Obj (Int (pos 1)) ∷ Obj (Int (pos i)) ∷ vs)) refl
           (on 1 (further 4 left) t (state (members_add ∷ []) (Obj (Int (pos 1)) ∷ Obj (Int (pos i)) ∷ vs)) (state (members_next ∷ []) (Obj (Int (pos (suc i))) ∷ vs))
-            (ap (λ (m : Result ℤ PsError). elim (acted members_next [] (result vs m)) [ None ↦ None | Some st ↦ Some st ]) (add_one i small))
-            (on 4 left t (state (members_next ∷ []) (Obj (Int (pos (suc i))) ∷ vs)) (state (members_body ∷ []) (own (suc i) (codes ", ") r)) refl g))
+          (ap (λ (m : Result ℤ PsError). elim (acted members_next [] (result vs m)) [ None ↦ None | Some st ↦ Some st ]) (add_one i small))
+          (on 4 left t (state (members_next ∷ []) (Obj (Int (pos (suc i))) ∷ vs)) (state (members_body ∷ []) (own (suc i) (codes ", ") r)) refl g))
 
       -- a member is shown
       shown_goes : (thing : Thing) (i offset : ℕ) (type : DictId) (before : List ℕ) (r left : ℕ) (t : List ℕ) → r < 1000 → IsMember s a i offset type
@@ -140,18 +140,18 @@ module _ {D : Type 0} (Op : Operates D) (prints : Printing Op) (s : StoreState) 
           let m₂ : ℕ = further 7 (suc (suc m₃)) in
           subst (λ b. Here (further 10 (suc m₂)) t (state (members_room ∷ []) (Obj (Truth b) ∷ own i before (suc r)))) (sym (some_left r))
           (on 10 (suc m₂) t (state (members_room ∷ []) (Obj (Truth false) ∷ own i before (suc r))) (state (members_get ∷ []) (Obj (Int (pos i)) ∷ Obj (Array a e) ∷ rest)) refl
-            (element_goes Op prints s ds digits holds Q o under members_member [] a e i m rest m₂ (prints.append d t) its.at
-              (on 7 (suc (suc m₃)) t (state (members_member ∷ []) (Obj m ∷ rest))
-                (state (members_offset ∷ []) (Obj (Int (pos 1)) ∷ Obj m ∷ Obj (Int (word place)) ∷ Key space ∷ Obj m ∷ rest)) refl
-                (element_goes Op prints s ds digits holds Q o under members_sum [] its.member its.executable 1 (Int (word offset)) (Obj (Int (word place)) ∷ Key space ∷ Obj m ∷ rest) (suc m₃) (prints.append d t) its.its_offset
-                  (uadd_goes Op prints s ds digits holds Q o under members_place [] place offset (Key space ∷ Obj m ∷ rest) m₃ (prints.append d t) within its.small
-                    (on 4 (suc (further 1 m₄)) t (state (members_place ∷ []) (Obj (Int (word there)) ∷ Key space ∷ Obj m ∷ rest))
-                      (state (members_type ∷ []) (Obj (Int (pos 2)) ∷ Obj m ∷ Obj (Int (word there)) ∷ Key space ∷ rest)) refl
-                      (element_goes Op prints s ds digits holds Q o under members_show [] its.member its.executable 2 (Dict type) (Obj (Int (word there)) ∷ Key space ∷ rest) (further 1 m₄) (prints.append d t) its.its_type
-                        (on 1 m₄ t (state (members_show ∷ []) (Obj (Dict type) ∷ Obj (Int (word there)) ∷ Key space ∷ rest)) (state (show_body ∷ members_turn ∷ []) (vs ++ below i before)) refl
-                          (goes_through Op s ds (words digits) holds.knows Q o under show_body (members_turn ∷ []) vs (below i before) (Int (pos (thing.room (suc r)))) m₄ left
-                            (prints.append d t) (prints.append d (t ++ thing.text (suc r)))
-                            (λ o' under' lo lu g'. shows t r left o' under' (let x = room.operands in let y = room.items in record { operands = omega arith; items = omega arith }) enough g') g)))))))))
+          (element_goes Op prints s ds digits holds Q o under members_member [] a e i m rest m₂ (prints.append d t) its.at
+          (on 7 (suc (suc m₃)) t (state (members_member ∷ []) (Obj m ∷ rest))
+          (state (members_offset ∷ []) (Obj (Int (pos 1)) ∷ Obj m ∷ Obj (Int (word place)) ∷ Key space ∷ Obj m ∷ rest)) refl
+          (element_goes Op prints s ds digits holds Q o under members_sum [] its.member its.executable 1 (Int (word offset)) (Obj (Int (word place)) ∷ Key space ∷ Obj m ∷ rest) (suc m₃) (prints.append d t) its.its_offset
+          (uadd_goes Op prints s ds digits holds Q o under members_place [] place offset (Key space ∷ Obj m ∷ rest) m₃ (prints.append d t) within its.small
+          (on 4 (suc (further 1 m₄)) t (state (members_place ∷ []) (Obj (Int (word there)) ∷ Key space ∷ Obj m ∷ rest))
+          (state (members_type ∷ []) (Obj (Int (pos 2)) ∷ Obj m ∷ Obj (Int (word there)) ∷ Key space ∷ rest)) refl
+          (element_goes Op prints s ds digits holds Q o under members_show [] its.member its.executable 2 (Dict type) (Obj (Int (word there)) ∷ Key space ∷ rest) (further 1 m₄) (prints.append d t) its.its_type
+          (on 1 m₄ t (state (members_show ∷ []) (Obj (Dict type) ∷ Obj (Int (word there)) ∷ Key space ∷ rest)) (state (show_body ∷ members_turn ∷ []) (vs ++ below i before)) refl
+          (goes_through Op s ds (words digits) holds.knows Q o under show_body (members_turn ∷ []) vs (below i before) (Int (pos (thing.room (suc r)))) m₄ left
+          (prints.append d t) (prints.append d (t ++ thing.text (suc r)))
+          (λ o' under' lo lu g'. shows t r left o' under' (let x = room.operands in let y = room.items in record { operands = omega arith; items = omega arith }) enough g') g)))))))))
 
     -- The run of `Members` appends the members' texts with their separators, up to the room that there is, and leaves the room that is left.
     pub members_run : (is : List Thing) (i : ℕ) (before : List ℕ) (r left : ℕ) (t : List ℕ) (o : List PsObj) (under : List Item) → RoomFor (5 + k) o under → AllPrintable before
@@ -161,12 +161,12 @@ module _ {D : Type 0} (Op : Operates D) (prints : Printing Op) (s : StoreState) 
     members_run [] i before r left t o under room printable all enough each g =
         none_goes o under room i before r left t (omega (arith, all))
         (subst (λ t. On Op prints s ds digits holds Q o under left (prints.append d t) (state [] (Obj (Int (pos r)) ∷ []))) (append-nil t)
-          (leaves Op prints s ds digits holds Q (Int (pos r)) left (prints.append d (t ++ [])) o under g))
+        (leaves Op prints s ds digits holds Q (Int (pos r)) left (prints.append d (t ++ [])) o under g))
     members_run (thing ∷ is) i before zero left t o under room printable all enough each g =
         some_goes o under room i before 0 (further 4 (suc (further 5 left))) t (λ same. absurd (omega (arith, all, same))) printable
         (cut_goes o under room i before left (t ++ before)
-          (subst (λ t. On Op prints s ds digits holds Q o under left (prints.append d t) (state [] (Obj (Int (pos 0)) ∷ []))) (sym (append_assoc t before (codes "...")))
-            (leaves Op prints s ds digits holds Q (Int (pos 0)) left (prints.append d (t ++ (before ++ codes "..."))) o under g)))
+        (subst (λ t. On Op prints s ds digits holds Q o under left (prints.append d t) (state [] (Obj (Int (pos 0)) ∷ []))) (sym (append_assoc t before (codes "...")))
+        (leaves Op prints s ds digits holds Q (Int (pos 0)) left (prints.append d (t ++ (before ++ codes "..."))) o under g)))
     members_run (thing ∷ is) i before (suc r) left t o under room printable all enough each g =
         let r' : ℕ = thing.room (suc r) in
         let fewer : r' ≤ suc r = each.1 (suc r) in
@@ -177,9 +177,9 @@ module _ {D : Type 0} (Op : Operates D) (prints : Printing Op) (s : StoreState) 
         let rest : ℕ = members_steps is r' left in
         some_goes o under room i before (suc r) (before_member (thing.steps (suc r) (behind_member rest))) t (λ same. absurd (omega (arith, all, same))) printable
         (shown_goes o under room thing i its.0 its.1 before r (behind_member rest) (t ++ before) (omega arith) its.2 its.3
-          (turn_goes o under room i before r' rest t' (omega (arith, all))
-            (members_run is (suc i) (codes ", ") r' left t' o under room comma_printable (omega (arith, all)) (omega arith) each.2
-              (subst (λ x. Passes Op Q left (prints.append d x) (core s ds (Int (pos (items_left is r')) ∷ o) under)) whole g))))
+        (turn_goes o under room i before r' rest t' (omega (arith, all))
+        (members_run is (suc i) (codes ", ") r' left t' o under room comma_printable (omega (arith, all)) (omega arith) each.2
+        (subst (λ x. Passes Op Q left (prints.append d x) (core s ds (Int (pos (items_left is r')) ∷ o) under)) whole g))))
 
 module _ {D : Type 0} (Op : Operates D) (prints : Printing Op) (s : StoreState) (ds : List DictId) (digits : ArrayId) (holds : Holds s ds digits) (Q : ℕ → D → PsCore → Type 0) (d : D) (space : List ℕ) where
   module _ (k : ℕ) (type : DictId) (a : ArrayId) (e : Bool) (place : ℕ) (is : List Thing) (within : place < 2 ^ 32) (has : HasKey s type (codes "members") (Obj (Array a e)))
@@ -200,17 +200,17 @@ module _ {D : Type 0} (Op : Operates D) (prints : Printing Op) (s : StoreState) 
         let m₁ : ℕ = further 1 (suc m₂) in
         on 1 (suc m₁) t (state (showstruct_body ∷ []) (Obj (Dict type) ∷ vs)) (state (w "Put" showstruct_members ∷ []) (Bytes (codes "{") ∷ Obj (Dict type) ∷ vs)) refl
         (put_at Op prints s ds digits holds Q o under showstruct_members [] (codes "{") (Obj (Dict type) ∷ vs) m₁ d t (omega arith, omega arith, tt)
-          (on 1 (suc m₂) t₁ (state (showstruct_members ∷ []) (Obj (Dict type) ∷ vs)) (state (w "get" showstruct_open ∷ []) (Key (codes "members") ∷ Obj (Dict type) ∷ vs)) refl
-            (goes_get Op s ds (words digits) holds.knows Q o under (codes "get") (codes "members") showstruct_open [] type (Obj (Array a e)) vs m₂ (prints.append d t₁) holds.get has
-              (on 12 m₃ t₁ (state (showstruct_open ∷ []) (Obj (Array a e) ∷ vs)) (state (members_body ∷ showstruct_close ∷ []) opened) refl
-                (goes_through Op s ds (words digits) holds.knows Q o under members_body (showstruct_close ∷ []) opened [] (Int (pos (items_left is (suc r)))) m₃ (further 1 (suc left))
-                  (prints.append d t₁) (prints.append d t₂)
-                  (λ o' under' lo lu g'. members_run Op prints s ds digits holds Q k d space a e (length is) place within many few is 0 [] (suc r) (further 1 (suc left)) t₁ o' under'
-                    (let x = room.operands in let y = room.items in record { operands = omega arith; items = omega arith }) tt (omega arith) (omega arith) each g')
-                  (on 1 (suc left) t₂ (state (showstruct_close ∷ []) (Obj (Int (pos (items_left is (suc r)))) ∷ [])) (state (w "Put" Stop ∷ []) (Bytes (codes "}") ∷ Obj (Int (pos (items_left is (suc r)))) ∷ [])) refl
-                    (put_at Op prints s ds digits holds Q o under Stop [] (codes "}") (Obj (Int (pos (items_left is (suc r)))) ∷ []) left d t₂ (omega arith, omega arith, tt)
-                      (leaves Op prints s ds digits holds Q (Int (pos (items_left is (suc r)))) left (prints.append d (t₂ ++ codes "}")) o under
-                        (subst (λ x. Passes Op Q left (prints.append d x) (core s ds (Int (pos (items_left is (suc r))) ∷ o) under)) whole g)))))))))
+        (on 1 (suc m₂) t₁ (state (showstruct_members ∷ []) (Obj (Dict type) ∷ vs)) (state (w "get" showstruct_open ∷ []) (Key (codes "members") ∷ Obj (Dict type) ∷ vs)) refl
+        (goes_get Op s ds (words digits) holds.knows Q o under (codes "get") (codes "members") showstruct_open [] type (Obj (Array a e)) vs m₂ (prints.append d t₁) holds.get has
+        (on 12 m₃ t₁ (state (showstruct_open ∷ []) (Obj (Array a e) ∷ vs)) (state (members_body ∷ showstruct_close ∷ []) opened) refl
+        (goes_through Op s ds (words digits) holds.knows Q o under members_body (showstruct_close ∷ []) opened [] (Int (pos (items_left is (suc r)))) m₃ (further 1 (suc left))
+        (prints.append d t₁) (prints.append d t₂)
+        (λ o' under' lo lu g'. members_run Op prints s ds digits holds Q k d space a e (length is) place within many few is 0 [] (suc r) (further 1 (suc left)) t₁ o' under'
+        (let x = room.operands in let y = room.items in record { operands = omega arith; items = omega arith }) tt (omega arith) (omega arith) each g')
+        (on 1 (suc left) t₂ (state (showstruct_close ∷ []) (Obj (Int (pos (items_left is (suc r)))) ∷ [])) (state (w "Put" Stop ∷ []) (Bytes (codes "}") ∷ Obj (Int (pos (items_left is (suc r)))) ∷ [])) refl
+        (put_at Op prints s ds digits holds Q o under Stop [] (codes "}") (Obj (Int (pos (items_left is (suc r)))) ∷ []) left d t₂ (omega arith, omega arith, tt)
+        (leaves Op prints s ds digits holds Q (Int (pos (items_left is (suc r)))) left (prints.append d (t₂ ++ codes "}")) o under
+        (subst (λ x. Passes Op Q left (prints.append d x) (core s ds (Int (pos (items_left is (suc r))) ∷ o) under)) whole g)))))))))
       where
         on : (m n₀ : ℕ) (t : List ℕ) (st st' : State) → go (words digits) m st ≡ Some st' → On Op prints s ds digits holds Q o under n₀ (prints.append d t) st' → On Op prints s ds digits holds Q o under (further m n₀) (prints.append d t) st
         on m n₀ t st st' e g = goes_on Op s ds (words digits) holds.knows Q o under (room_here Op prints s ds digits holds Q (6 + k) o under room) m n₀ (prints.append d t) st st' e g

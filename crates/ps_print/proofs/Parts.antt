@@ -41,9 +41,12 @@ module _ {D : Type 0} (Op : Operates D) (prints : Printing Op) (s : StoreState) 
     where
       does : (xs : List PsObj) (items : List Item) → Are s xs (Bytes text ∷ vs)
           → (xs' : List PsObj) × Are s xs' vs × Surely Op d (core s ds (xs ++ o) items) 28 (prints.append d text) (core s ds (xs' ++ o) items)
-      does _ items (more x v xs vs' i r) =
-          (xs, r, subst (λ t. Surely Op d (core s ds (x ∷ (xs ++ o)) items) 28 (prints.append d t) (core s ds (xs ++ o) items)) i.2
-            (prints.put d (core s ds (x ∷ (xs ++ o)) items) i.0 false (xs ++ o) (ap (λ z. z ∷ (xs ++ o)) i.1) (subst AllPrintable (sym i.2) printable)))
+      does _ items (more x v xs vs' i r) = (
+        xs,
+        r,
+        subst (λ t. Surely Op d (core s ds (x ∷ (xs ++ o)) items) 28 (prints.append d t) (core s ds (xs ++ o) items)) i.2
+            (prints.put d (core s ds (x ∷ (xs ++ o)) items) i.0 false (xs ++ o) (ap (λ z. z ∷ (xs ++ o)) i.1) (subst AllPrintable (sym i.2) printable)),
+      )
 
   two : (x y z w : PsObj) (zs : List PsObj) → x ≡ z → y ≡ w → x ∷ y ∷ zs ≡ z ∷ w ∷ zs
   two x y z w zs i j = ap (λ u. u ∷ y ∷ zs) i ∙ ap (λ u. z ∷ u ∷ zs) j
@@ -55,9 +58,11 @@ module _ {D : Type 0} (Op : Operates D) (prints : Printing Op) (s : StoreState) 
     where
       does : (xs : List PsObj) (items : List Item) → Are s xs (Obj (Int (word b)) ∷ Obj (Int (word a)) ∷ vs)
           → (xs' : List PsObj) × Are s xs' (Obj (Int (word (a / b))) ∷ vs) × Surely Op d (core s ds (xs ++ o) items) 14 d (core s ds (xs' ++ o) items)
-      does _ items (more x _ _ _ i (more y _ xs vs' j r)) =
-          (Int (word (a / b)) ∷ xs, more (Int (word (a / b))) (Obj (Int (word (a / b)))) xs vs refl r,
-            prints.udivs d (core s ds (x ∷ y ∷ (xs ++ o)) items) a b (xs ++ o) (two x y _ _ (xs ++ o) i j) la lb some)
+      does _ items (more x _ _ _ i (more y _ xs vs' j r)) = (
+        Int (word (a / b)) ∷ xs,
+        more (Int (word (a / b))) (Obj (Int (word (a / b)))) xs vs refl r,
+        prints.udivs d (core s ds (x ∷ y ∷ (xs ++ o)) items) a b (xs ++ o) (two x y _ _ (xs ++ o) i j) la lb some,
+      )
 
   pub urem_goes : (rest : Code) (ks : List Code) (a b : ℕ) (vs : List Val) (n : ℕ) (d : D) → a < 2 ^ 32 → b < 2 ^ 32 → 0 < b
       → On n d (state (entered rest ks) (Obj (Int (word (a % b))) ∷ vs)) → On (suc n) d (state (Word (codes "urem") rest ∷ ks) (Obj (Int (word b)) ∷ Obj (Int (word a)) ∷ vs))
@@ -66,9 +71,11 @@ module _ {D : Type 0} (Op : Operates D) (prints : Printing Op) (s : StoreState) 
     where
       does : (xs : List PsObj) (items : List Item) → Are s xs (Obj (Int (word b)) ∷ Obj (Int (word a)) ∷ vs)
           → (xs' : List PsObj) × Are s xs' (Obj (Int (word (a % b))) ∷ vs) × Surely Op d (core s ds (xs ++ o) items) 15 d (core s ds (xs' ++ o) items)
-      does _ items (more x _ _ _ i (more y _ xs vs' j r)) =
-          (Int (word (a % b)) ∷ xs, more (Int (word (a % b))) (Obj (Int (word (a % b)))) xs vs refl r,
-            prints.urem d (core s ds (x ∷ y ∷ (xs ++ o)) items) a b (xs ++ o) (two x y _ _ (xs ++ o) i j) la lb some)
+      does _ items (more x _ _ _ i (more y _ xs vs' j r)) = (
+        Int (word (a % b)) ∷ xs,
+        more (Int (word (a % b))) (Obj (Int (word (a % b)))) xs vs refl r,
+        prints.urem d (core s ds (x ∷ y ∷ (xs ++ o)) items) a b (xs ++ o) (two x y _ _ (xs ++ o) i j) la lb some,
+      )
 
   pub usub_goes : (rest : Code) (ks : List Code) (a b : ℕ) (vs : List Val) (n : ℕ) (d : D) → a < 2 ^ 32 → b < 2 ^ 32
       → On n d (state (entered rest ks) (Obj (Int (word ((a + 2 ^ 32 - b) % 2 ^ 32))) ∷ vs)) → On (suc n) d (state (Word (codes "usub") rest ∷ ks) (Obj (Int (word b)) ∷ Obj (Int (word a)) ∷ vs))
@@ -77,9 +84,11 @@ module _ {D : Type 0} (Op : Operates D) (prints : Printing Op) (s : StoreState) 
     where
       does : (xs : List PsObj) (items : List Item) → Are s xs (Obj (Int (word b)) ∷ Obj (Int (word a)) ∷ vs)
           → (xs' : List PsObj) × Are s xs' (Obj (Int (word ((a + 2 ^ 32 - b) % 2 ^ 32))) ∷ vs) × Surely Op d (core s ds (xs ++ o) items) 17 d (core s ds (xs' ++ o) items)
-      does _ items (more x _ _ _ i (more y _ xs vs' j r)) =
-          (Int (word ((a + 2 ^ 32 - b) % 2 ^ 32)) ∷ xs, more _ (Obj (Int (word ((a + 2 ^ 32 - b) % 2 ^ 32)))) xs vs refl r,
-            prints.usub d (core s ds (x ∷ y ∷ (xs ++ o)) items) a b (xs ++ o) (two x y _ _ (xs ++ o) i j) la lb)
+      does _ items (more x _ _ _ i (more y _ xs vs' j r)) = (
+        Int (word ((a + 2 ^ 32 - b) % 2 ^ 32)) ∷ xs,
+        more _ (Obj (Int (word ((a + 2 ^ 32 - b) % 2 ^ 32)))) xs vs refl r,
+        prints.usub d (core s ds (x ∷ y ∷ (xs ++ o)) items) a b (xs ++ o) (two x y _ _ (xs ++ o) i j) la lb,
+      )
 
   -- a digit's string
   got : (r : ℕ) → r < 10 → (x : PsObj) → slice_get (elements_of s digits) r ≡ Some x → value_in s (Array digits false) (Int (word r)) ≡ Ok x
@@ -99,11 +108,13 @@ module _ {D : Type 0} (Op : Operates D) (prints : Printing Op) (s : StoreState) 
       does : (xs : List PsObj) (items : List Item) → Are s xs (Obj (Int (word r)) ∷ Obj (Array digits false) ∷ vs)
           → (xs' : List PsObj) × Are s xs' (Bytes ((48 + r) ∷ []) ∷ vs) × (numbered 32 (core s ds (xs ++ o) items) ≡ Ok (core s ds (xs' ++ o) items, None))
       does _ items (more x _ _ _ i (more y _ xs vs' j q)) =
-          let f = holds.digit r h in
-          (Str f.0 false ∷ xs, more (Str f.0 false) (Bytes ((48 + r) ∷ [])) xs vs (f.0, refl, f.2) q,
+          let f = holds.digit r h in (
+            Str f.0 false ∷ xs,
+            more (Str f.0 false) (Bytes ((48 + r) ∷ [])) xs vs (f.0, refl, f.2) q,
             ap (λ zs. numbered 32 (core s ds zs items)) (two x y _ _ (xs ++ o) i j)
-            ∙ ap (λ (v : Result PsObj PsError). alone (at (core s ds (Int (word r) ∷ Array digits false ∷ (xs ++ o)) items) (v >>= λ z. Ok (core s ds (z ∷ (xs ++ o)) items))))
-            (got r h (Str f.0 false) f.1))
+                ∙ ap (λ (v : Result PsObj PsError). alone (at (core s ds (Int (word r) ∷ Array digits false ∷ (xs ++ o)) items) (v >>= λ z. Ok (core s ds (z ∷ (xs ++ o)) items))))
+                (got r h (Str f.0 false) f.1),
+          )
 
   -- a value is fetched
   pub fetch_goes : (rest : Code) (ks : List Code) (space kind : List ℕ) (n v : ℤ) (vs : List Val) (left : ℕ) (d : D) → prints.value d space n kind ≡ Some v
@@ -113,11 +124,13 @@ module _ {D : Type 0} (Op : Operates D) (prints : Printing Op) (s : StoreState) 
     where
       does : (xs : List PsObj) (items : List Item) → Are s xs (Key kind ∷ Obj (Int n) ∷ Key space ∷ vs)
           → (xs' : List PsObj) × Are s xs' (Obj (Int v) ∷ vs) × Surely Op d (core s ds (xs ++ o) items) 6 d (core s ds (xs' ++ o) items)
-      does _ items (more x _ _ _ i (more y _ _ _ j (more z _ xs vs' k r))) =
-          (Int v ∷ xs, more (Int v) (Obj (Int v)) xs vs refl r,
-            prints.fetch d (core s ds (x ∷ y ∷ z ∷ (xs ++ o)) items) i.0 k.0 false false n v (xs ++ o)
+      does _ items (more x _ _ _ i (more y _ _ _ j (more z _ xs vs' k r))) = (
+        Int v ∷ xs,
+        more (Int v) (Obj (Int v)) xs vs refl r,
+        prints.fetch d (core s ds (x ∷ y ∷ z ∷ (xs ++ o)) items) i.0 k.0 false false n v (xs ++ o)
             (ap (λ u. u ∷ y ∷ z ∷ (xs ++ o)) i.1 ∙ ap (λ u. Name i.0 false ∷ u ∷ z ∷ (xs ++ o)) j ∙ ap (λ u. Name i.0 false ∷ Int n ∷ u ∷ (xs ++ o)) k.1)
-            (ap (λ t. prints.value d t n (bytes_of s i.0)) k.2 ∙ ap (prints.value d space n) i.2 ∙ known))
+            (ap (λ t. prints.value d t n (bytes_of s i.0)) k.2 ∙ ap (prints.value d space n) i.2 ∙ known),
+      )
 
   pub uadd_goes : (rest : Code) (ks : List Code) (a b : ℕ) (vs : List Val) (n : ℕ) (d : D) → a < 2 ^ 32 → b < 2 ^ 32
       → On n d (state (entered rest ks) (Obj (Int (word ((a + b) % 2 ^ 32))) ∷ vs)) → On (suc n) d (state (Word (codes "uadd") rest ∷ ks) (Obj (Int (word b)) ∷ Obj (Int (word a)) ∷ vs))
@@ -126,9 +139,11 @@ module _ {D : Type 0} (Op : Operates D) (prints : Printing Op) (s : StoreState) 
     where
       does : (xs : List PsObj) (items : List Item) → Are s xs (Obj (Int (word b)) ∷ Obj (Int (word a)) ∷ vs)
           → (xs' : List PsObj) × Are s xs' (Obj (Int (word ((a + b) % 2 ^ 32))) ∷ vs) × Surely Op d (core s ds (xs ++ o) items) 16 d (core s ds (xs' ++ o) items)
-      does _ items (more x _ _ _ i (more y _ xs vs' j r)) =
-          (Int (word ((a + b) % 2 ^ 32)) ∷ xs, more _ (Obj (Int (word ((a + b) % 2 ^ 32)))) xs vs refl r,
-            prints.uadd d (core s ds (x ∷ y ∷ (xs ++ o)) items) a b (xs ++ o) (two x y _ _ (xs ++ o) i j) la lb)
+      does _ items (more x _ _ _ i (more y _ xs vs' j r)) = (
+        Int (word ((a + b) % 2 ^ 32)) ∷ xs,
+        more _ (Obj (Int (word ((a + b) % 2 ^ 32)))) xs vs refl r,
+        prints.uadd d (core s ds (x ∷ y ∷ (xs ++ o)) items) a b (xs ++ o) (two x y _ _ (xs ++ o) i j) la lb,
+      )
 
   -- more is appended to what was
   pub put_at : (rest : Code) (ks : List Code) (text : List ℕ) (vs : List Val) (n : ℕ) (d : D) (t : List ℕ) → AllPrintable text
@@ -164,9 +179,11 @@ module _ {D : Type 0} (Op : Operates D) (prints : Printing Op) (s : StoreState) 
     where
       does : (xs : List PsObj) (items : List Item) → Are s xs (Obj (Int v) ∷ vs)
           → (xs' : List PsObj) × Are s xs' (Obj (Int (pos count)) ∷ vs) × Surely Op d (core s ds (xs ++ o) items) 32 d (core s ds (xs' ++ o) items)
-      does _ items (more x _ xs vs' i r) =
-          (Int (pos count) ∷ xs, more (Int (pos count)) (Obj (Int (pos count))) xs vs refl r,
-            prints.charrun d (core s ds (x ∷ (xs ++ o)) items) v count (xs ++ o) (ap (λ z. z ∷ (xs ++ o)) i) known)
+      does _ items (more x _ xs vs' i r) = (
+        Int (pos count) ∷ xs,
+        more (Int (pos count)) (Obj (Int (pos count))) xs vs refl r,
+        prints.charrun d (core s ds (x ∷ (xs ++ o)) items) v count (xs ++ o) (ap (λ z. z ∷ (xs ++ o)) i) known,
+      )
 
   -- a string at a place is appended
   pub put_chars_goes : (rest : Code) (ks : List Code) (space : List ℕ) (v : ℤ) (count : ℕ) (text : List ℕ) (vs : List Val) (n : ℕ) (d : D) → prints.chars d space v count ≡ Some text
@@ -176,10 +193,13 @@ module _ {D : Type 0} (Op : Operates D) (prints : Printing Op) (s : StoreState) 
     where
       does : (xs : List PsObj) (items : List Item) → Are s xs (Obj (Int (pos count)) ∷ Obj (Int v) ∷ Key space ∷ vs)
           → (xs' : List PsObj) × Are s xs' vs × Surely Op d (core s ds (xs ++ o) items) 31 (prints.append d text) (core s ds (xs' ++ o) items)
-      does _ items (more x _ _ _ i (more y _ _ _ j (more z _ xs vs' k r))) =
-          (xs, r, prints.put_chars d (core s ds (x ∷ y ∷ z ∷ (xs ++ o)) items) k.0 false v count text (xs ++ o)
+      does _ items (more x _ _ _ i (more y _ _ _ j (more z _ xs vs' k r))) = (
+        xs,
+        r,
+        prints.put_chars d (core s ds (x ∷ y ∷ z ∷ (xs ++ o)) items) k.0 false v count text (xs ++ o)
             (ap (λ u. u ∷ y ∷ z ∷ (xs ++ o)) i ∙ ap (λ u. Int (pos count) ∷ u ∷ z ∷ (xs ++ o)) j ∙ ap (λ u. Int (pos count) ∷ Int v ∷ u ∷ (xs ++ o)) k.1)
-            (ap (λ t. prints.chars d t v count) k.2 ∙ known))
+            (ap (λ t. prints.chars d t v count) k.2 ∙ known),
+      )
 
   -- an element of an array
   element : (a : ArrayId) (e : Bool) (i : ℕ) (y : PsObj) → slice_get (elements_of s a) i ≡ Some y → value_in s (Array a e) (Int (pos i)) ≡ Ok y
@@ -195,11 +215,13 @@ module _ {D : Type 0} (Op : Operates D) (prints : Printing Op) (s : StoreState) 
     where
       does : (xs : List PsObj) (items : List Item) → Are s xs (Obj (Int (pos i)) ∷ Obj (Array a e) ∷ vs)
           → (xs' : List PsObj) × Are s xs' (Obj y ∷ vs) × (numbered 32 (core s ds (xs ++ o) items) ≡ Ok (core s ds (xs' ++ o) items, None))
-      does _ items (more x _ _ _ h (more z _ xs vs' j q)) =
-          (y ∷ xs, more y (Obj y) xs vs refl q,
-            ap (λ zs. numbered 32 (core s ds zs items)) (two x z _ _ (xs ++ o) h j)
+      does _ items (more x _ _ _ h (more z _ xs vs' j q)) = (
+        y ∷ xs,
+        more y (Obj y) xs vs refl q,
+        ap (λ zs. numbered 32 (core s ds zs items)) (two x z _ _ (xs ++ o) h j)
             ∙ ap (λ (v : Result PsObj PsError). alone (at (core s ds (Int (pos i) ∷ Array a e ∷ (xs ++ o)) items) (v >>= λ z. Ok (core s ds (z ∷ (xs ++ o)) items))))
-            (element a e i y there))
+            (element a e i y there),
+      )
 
   -- how many elements an array has
   pub length_goes : (rest : Code) (ks : List Code) (a : ArrayId) (e : Bool) (count : ℕ) (vs : List Val) (n : ℕ) (d : D) → length (elements_of s a) ≡ count → count < 2 ^ 31
@@ -215,7 +237,9 @@ module _ {D : Type 0} (Op : Operates D) (prints : Printing Op) (s : StoreState) 
 
       does : (xs : List PsObj) (items : List Item) → Are s xs (Obj (Array a e) ∷ vs)
           → (xs' : List PsObj) × Are s xs' (Obj (Int (pos count)) ∷ vs) × (numbered 34 (core s ds (xs ++ o) items) ≡ Ok (core s ds (xs' ++ o) items, None))
-      does _ items (more x _ xs vs' h q) =
-          (Int (pos count) ∷ xs, more (Int (pos count)) (Obj (Int (pos count))) xs vs refl q,
-            ap (λ z. numbered 34 (core s ds (z ∷ (xs ++ o)) items)) h
-            ∙ ap (λ (c : Result PsObj PsError). alone (at (core s ds (Array a e ∷ (xs ++ o)) items) (c >>= λ z. Ok (core s ds (z ∷ (xs ++ o)) items)))) counted)
+      does _ items (more x _ xs vs' h q) = (
+        Int (pos count) ∷ xs,
+        more (Int (pos count)) (Obj (Int (pos count))) xs vs refl q,
+        ap (λ z. numbered 34 (core s ds (z ∷ (xs ++ o)) items)) h
+            ∙ ap (λ (c : Result PsObj PsError). alone (at (core s ds (Array a e ∷ (xs ++ o)) items) (c >>= λ z. Ok (core s ds (z ∷ (xs ++ o)) items)))) counted,
+      )

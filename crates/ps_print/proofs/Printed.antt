@@ -40,12 +40,12 @@ module _ {D : Type 0} (Op : Operates D) (prints : Printing Op) (s : StoreState) 
       goes_on Op s ds (words digits) holds.knows Q o under room' 5 (i.steps 1000 (further 1 left)) d
       (state (print_body ∷ []) (Obj (Dict type) ∷ Obj (Int (word place)) ∷ Key space ∷ [])) (state (show_body ∷ w "pop" Stop ∷ []) own) refl
       (subst (λ d'. Goes Op s ds (words digits) holds.knows Q o under (i.steps 1000 (further 1 left)) d' (state (show_body ∷ w "pop" Stop ∷ []) own)) empty
-        (goes_through Op s ds (words digits) holds.knows Q o under show_body (w "pop" Stop ∷ []) own [] (Int (pos (i.room 1000))) (i.steps 1000 (further 1 left)) (further 1 left)
-          (prints.append d []) (prints.append d (i.text 1000))
-          (λ o' under' lo lu g'. shows [] 999 (further 1 left) o' under' (let a = room.operands in let b = room.items in record { operands = omega arith; items = omega arith }) (omega arith) g')
-          (goes_on Op s ds (words digits) holds.knows Q o under room' 1 left (prints.append d (i.text 1000))
-            (state (w "pop" Stop ∷ []) (Obj (Int (pos (i.room 1000))) ∷ [])) (state [] []) refl
-            (finishes Op prints s ds digits holds Q left (prints.append d (i.text 1000)) o under g))))
+      (goes_through Op s ds (words digits) holds.knows Q o under show_body (w "pop" Stop ∷ []) own [] (Int (pos (i.room 1000))) (i.steps 1000 (further 1 left)) (further 1 left)
+      (prints.append d []) (prints.append d (i.text 1000))
+      (λ o' under' lo lu g'. shows [] 999 (further 1 left) o' under' (let a = room.operands in let b = room.items in record { operands = omega arith; items = omega arith }) (omega arith) g')
+      (goes_on Op s ds (words digits) holds.knows Q o under room' 1 left (prints.append d (i.text 1000))
+      (state (w "pop" Stop ∷ []) (Obj (Int (pos (i.room 1000))) ∷ [])) (state [] []) refl
+      (finishes Op prints s ds digits holds Q left (prints.append d (i.text 1000)) o under g))))
 
   -- a place on the way that is known
   abbrev There : ℕ → D → PsCore → ℕ → D → PsCore → Type 0
@@ -56,7 +56,7 @@ module _ {D : Type 0} (Op : Operates D) (prints : Printing Op) (s : StoreState) 
       let q : Passed Op (There n' d' c') r m d₂ c₂ = p r m d₂ c₂ other run in
       subst (λ k. Runs Op k d' c' r m d₂ c₂) q.holds.0
       (subst (λ e. Runs Op q.left e c' r m d₂ c₂) q.holds.1
-        (subst (λ x. Runs Op q.left q.dialect x r m d₂ c₂) q.holds.2 q.rest))
+      (subst (λ x. Runs Op q.left q.dialect x r m d₂ c₂) q.holds.2 q.rest))
 
 pub printed : {D : Type 0} (Op : Operates D) (prints : Printing Op) (s : StoreState) (ds : List DictId) (digits : ArrayId) (d : D) (space : List ℕ) (defs : List StructDef) (t : CType) (type : DictId) (place : ℕ) (xs : List Showing) (i : Thing) (left : ℕ)
     (operands o : List PsObj) (items under : List Item) → Holds s ds digits → Laid Op prints s d space defs 63 t type place xs i → RoomFor 400 o under
@@ -68,5 +68,5 @@ printed {D} Op prints s ds digits d space defs t type place xs i left operands o
     let Q : ℕ → D → PsCore → Type 0 = There Op prints s ds digits d space left d' c' in
     leads Op prints s ds digits d space (print_steps i left) left d d' (core s ds (operands ++ o) items) c'
     (print_goes Op prints s ds digits d space holds Q type place i left o under room (laid_shows Op prints s ds digits holds Q d space defs 63 t type place xs i laid) (prints.append_none d)
-      (subst (λ x. Passes Op Q left (prints.append d x) c') (sym (laid_shown Op prints s d space defs t type place xs i laid)) (passes_here Op Q left d' c' (refl, refl, refl)))
-      operands items are frames)
+    (subst (λ x. Passes Op Q left (prints.append d x) c') (sym (laid_shown Op prints s d space defs t type place xs i laid)) (passes_here Op Q left d' c' (refl, refl, refl)))
+    operands items are frames)

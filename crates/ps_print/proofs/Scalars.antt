@@ -49,10 +49,10 @@ module _ {D : Type 0} (Op : Operates D) (prints : Printing Op) (s : StoreState) 
         on 2 (suc (suc (further 2 left))) t (state (showchar_body ∷ []) (type ∷ Obj (Int place) ∷ Key space ∷ space_left))
         (state (w "fetch" showchar_value ∷ []) (Key (codes "c") ∷ Obj (Int place) ∷ Key space ∷ space_left)) refl
         (fetch_goes Op prints s ds digits holds Q o under showchar_value [] space (codes "c") place n space_left (suc (further 2 left)) (prints.append d t)
-          (prints.value_kept d t space place (codes "c") ∙ known)
-          (put_char_goes Op prints s ds digits holds Q o under showint_rest [] n space_left (further 2 left) (prints.append d t)
-            (subst (λ d'. On Op prints s ds digits holds Q o under (further 2 left) d' (state (showint_rest ∷ []) space_left)) (sym (prints.append_twice d t (prints.char_text n)))
-              (counted (t ++ prints.char_text n) g))))
+        (prints.value_kept d t space place (codes "c") ∙ known)
+        (put_char_goes Op prints s ds digits holds Q o under showint_rest [] n space_left (further 2 left) (prints.append d t)
+        (subst (λ d'. On Op prints s ds digits holds Q o under (further 2 left) d' (state (showint_rest ∷ []) space_left)) (sym (prints.append_twice d t (prints.char_text n)))
+        (counted (t ++ prints.char_text n) g))))
 
     blank_printable : AllPrintable (codes " ")
     blank_printable = (omega arith, omega arith, tt)
@@ -70,18 +70,18 @@ module _ {D : Type 0} (Op : Operates D) (prints : Printing Op) (s : StoreState) 
     to_count n kind t count m test known g =
         subst (λ b. Here (further 3 (further 1 (suc (further 3 m)))) t (state (pointer_choice ∷ []) (Obj (Truth b) ∷ Obj (Int n) ∷ space_left))) (sym test)
         (on 3 (further 1 (suc (further 3 m))) t (state (pointer_choice ∷ []) (Obj (Truth true) ∷ Obj (Int n) ∷ space_left)) (state (pointer_run ∷ showint_rest ∷ []) (Obj (Int n) ∷ space_left)) refl
-          (on 1 (suc (further 3 m)) t (state (pointer_run ∷ showint_rest ∷ []) (Obj (Int n) ∷ space_left)) (state (w "charrun" pointer_count ∷ showint_rest ∷ []) (Obj (Int n) ∷ Obj (Int n) ∷ space_left)) refl
-            (charrun_goes Op prints s ds digits holds Q o under pointer_count (showint_rest ∷ []) n count (Obj (Int n) ∷ space_left) (further 3 m) (prints.append d t)
-              (prints.chars_from_kept d t n ∙ known)
-              (on 3 m t (state (pointer_count ∷ showint_rest ∷ []) (Obj (Int (pos count)) ∷ Obj (Int n) ∷ space_left))
-                (state (pointer_some ∷ showint_rest ∷ []) (Obj (Truth (int_eq (pos count) (pos 0))) ∷ Obj (Int (pos count)) ∷ Obj (Int n) ∷ space_left)) refl g))))
+        (on 1 (suc (further 3 m)) t (state (pointer_run ∷ showint_rest ∷ []) (Obj (Int n) ∷ space_left)) (state (w "charrun" pointer_count ∷ showint_rest ∷ []) (Obj (Int n) ∷ Obj (Int n) ∷ space_left)) refl
+        (charrun_goes Op prints s ds digits holds Q o under pointer_count (showint_rest ∷ []) n count (Obj (Int n) ∷ space_left) (further 3 m) (prints.append d t)
+        (prints.chars_from_kept d t n ∙ known)
+        (on 3 m t (state (pointer_count ∷ showint_rest ∷ []) (Obj (Int (pos count)) ∷ Obj (Int n) ∷ space_left))
+        (state (pointer_some ∷ showint_rest ∷ []) (Obj (Truth (int_eq (pos count) (pos 0))) ∷ Obj (Int (pos count)) ∷ Obj (Int n) ∷ space_left)) refl g))))
 
     dangling_run : (n : ℤ) (kind t : List ℕ) → bytes_eq kind (codes "char") ≡ true → prints.chars_from d n ≡ Some 0 → Ends t
         → Here (tail_steps Dangling left) t (state (pointer_choice ∷ []) (Obj (Truth (bytes_eq kind (codes "char"))) ∷ Obj (Int n) ∷ space_left))
     dangling_run n kind t test known g =
         to_count n kind t 0 (further 5 (further 2 left)) test known
         (subst (λ b. Here (further 5 (further 2 left)) t (state (pointer_some ∷ showint_rest ∷ []) (Obj (Truth b) ∷ Obj (Int (pos 0)) ∷ Obj (Int n) ∷ space_left))) (sym none_left)
-          (on 5 (further 2 left) t (state (pointer_some ∷ showint_rest ∷ []) (Obj (Truth true) ∷ Obj (Int (pos 0)) ∷ Obj (Int n) ∷ space_left)) (state (showint_rest ∷ []) space_left) refl (counted t g)))
+        (on 5 (further 2 left) t (state (pointer_some ∷ showint_rest ∷ []) (Obj (Truth true) ∷ Obj (Int (pos 0)) ∷ Obj (Int n) ∷ space_left)) (state (showint_rest ∷ []) space_left) refl (counted t g)))
 
     strung_run : (n : ℤ) (kind t string : List ℕ) (count : ℕ) → bytes_eq kind (codes "char") ≡ true → prints.chars_from d n ≡ Some (suc count)
         → prints.chars d (codes "d") n (suc count) ≡ Some string → Ends (t ++ (codes " " ++ string))
@@ -93,15 +93,15 @@ module _ {D : Type 0} (Op : Operates D) (prints : Printing Op) (s : StoreState) 
         let m₁ : ℕ = further 3 (further 1 (suc m₂)) in
         to_count n kind t (suc count) m₁ test known
         (subst (λ b. Here m₁ t (state (pointer_some ∷ showint_rest ∷ []) (Obj (Truth b) ∷ after))) (sym (some_left count))
-          (on 3 (further 1 (suc m₂)) t (state (pointer_some ∷ showint_rest ∷ []) (Obj (Truth false) ∷ after)) (state (pointer_string ∷ showint_rest ∷ []) after) refl
-            (on 1 (suc m₂) t (state (pointer_string ∷ showint_rest ∷ []) after) (state (w "Put" pointer_chars ∷ showint_rest ∷ []) (Bytes (codes " ") ∷ after)) refl
-              (put_at Op prints s ds digits holds Q o under pointer_chars (showint_rest ∷ []) (codes " ") after m₂ d t blank_printable
-                (on 4 (suc (further 2 left)) t₁ (state (pointer_chars ∷ showint_rest ∷ []) after)
-                  (state (w "PutChars" Stop ∷ showint_rest ∷ []) (Obj (Int (pos (suc count))) ∷ Obj (Int n) ∷ Key (codes "d") ∷ space_left)) refl
-                  (put_chars_goes Op prints s ds digits holds Q o under Stop (showint_rest ∷ []) (codes "d") n (suc count) string space_left (further 2 left) (prints.append d t₁)
-                    (prints.chars_kept d t₁ (codes "d") n (suc count) ∙ lies)
-                    (subst (λ d'. On Op prints s ds digits holds Q o under (further 2 left) d' (state (showint_rest ∷ []) space_left)) (sym (prints.append_twice d t₁ string))
-                      (counted (t₁ ++ string) (subst Ends (sym (append_assoc t (codes " ") string)) g)))))))))
+        (on 3 (further 1 (suc m₂)) t (state (pointer_some ∷ showint_rest ∷ []) (Obj (Truth false) ∷ after)) (state (pointer_string ∷ showint_rest ∷ []) after) refl
+        (on 1 (suc m₂) t (state (pointer_string ∷ showint_rest ∷ []) after) (state (w "Put" pointer_chars ∷ showint_rest ∷ []) (Bytes (codes " ") ∷ after)) refl
+        (put_at Op prints s ds digits holds Q o under pointer_chars (showint_rest ∷ []) (codes " ") after m₂ d t blank_printable
+        (on 4 (suc (further 2 left)) t₁ (state (pointer_chars ∷ showint_rest ∷ []) after)
+        (state (w "PutChars" Stop ∷ showint_rest ∷ []) (Obj (Int (pos (suc count))) ∷ Obj (Int n) ∷ Key (codes "d") ∷ space_left)) refl
+        (put_chars_goes Op prints s ds digits holds Q o under Stop (showint_rest ∷ []) (codes "d") n (suc count) string space_left (further 2 left) (prints.append d t₁)
+        (prints.chars_kept d t₁ (codes "d") n (suc count) ∙ lies)
+        (subst (λ d'. On Op prints s ds digits holds Q o under (further 2 left) d' (state (showint_rest ∷ []) space_left)) (sym (prints.append_twice d t₁ string))
+        (counted (t₁ ++ string) (subst Ends (sym (append_assoc t (codes " ") string)) g)))))))))
 
     tail_run : (n : ℤ) (kind text t : List ℕ) (tail : Tail) → PointerText prints d kind n text tail → Ends (t ++ text)
         → (head : List ℕ) × (prints.pointer d n ≡ Some head) × Here (tail_steps tail left) (t ++ head) (state (pointer_choice ∷ []) (Obj (Truth (bytes_eq kind (codes "char"))) ∷ Obj (Int n) ∷ space_left))
@@ -123,17 +123,17 @@ module _ {D : Type 0} (Op : Operates D) (prints : Printing Op) (s : StoreState) 
         on 4 (suc (further 1 (suc m₃))) t (state (showpointer_body ∷ []) (Obj (Dict type) ∷ Obj (Int place) ∷ Key space ∷ space_left))
         (state (w "fetch" pointer_put ∷ []) (Key (codes "p") ∷ Obj (Int place) ∷ Key space ∷ own)) refl
         (fetch_goes Op prints s ds digits holds Q o under pointer_put [] space (codes "p") place n own (further 1 (suc m₃)) (prints.append d t)
-          (prints.value_kept d t space place (codes "p") ∙ known)
-          (on 1 (suc m₃) t (state (pointer_put ∷ []) (Obj (Int n) ∷ own)) (state (w "PutPointer" pointer_to ∷ []) (Obj (Int n) ∷ Obj (Int n) ∷ own)) refl
-            (put_pointer_goes Op prints s ds digits holds Q o under pointer_to [] n last.0 (Obj (Int n) ∷ own) m₃ (prints.append d t) (prints.pointer_kept d t n ∙ last.1)
-              (subst (λ d'. On Op prints s ds digits holds Q o under m₃ d' (state (pointer_to ∷ []) (Obj (Int n) ∷ own))) (sym (prints.append_twice d t last.0))
-                (on 2 (suc m₄) t₁ (state (pointer_to ∷ []) (Obj (Int n) ∷ own)) (state (w "get" pointer_kind ∷ []) (Key (codes "to") ∷ Obj (Dict type) ∷ Obj (Int n) ∷ space_left)) refl
-                  (goes_get Op s ds (words digits) holds.knows Q o under (codes "get") (codes "to") pointer_kind [] type (Obj (Dict target)) (Obj (Int n) ∷ space_left) m₄ (prints.append d t₁) holds.get to
-                    (on 1 (suc (further 2 (tail_steps tail left))) t₁ (state (pointer_kind ∷ []) (Obj (Dict target) ∷ Obj (Int n) ∷ space_left))
-                      (state (w "get" pointer_test ∷ []) (Key (codes "kind") ∷ Obj (Dict target) ∷ Obj (Int n) ∷ space_left)) refl
-                      (goes_get Op s ds (words digits) holds.knows Q o under (codes "get") (codes "kind") pointer_test [] target (Key kind) (Obj (Int n) ∷ space_left) (further 2 (tail_steps tail left)) (prints.append d t₁) holds.get its_kind
-                        (on 2 (tail_steps tail left) t₁ (state (pointer_test ∷ []) (Key kind ∷ Obj (Int n) ∷ space_left))
-                          (state (pointer_choice ∷ []) (Obj (Truth (bytes_eq kind (codes "char"))) ∷ Obj (Int n) ∷ space_left)) refl last.2)))))))))
+        (prints.value_kept d t space place (codes "p") ∙ known)
+        (on 1 (suc m₃) t (state (pointer_put ∷ []) (Obj (Int n) ∷ own)) (state (w "PutPointer" pointer_to ∷ []) (Obj (Int n) ∷ Obj (Int n) ∷ own)) refl
+        (put_pointer_goes Op prints s ds digits holds Q o under pointer_to [] n last.0 (Obj (Int n) ∷ own) m₃ (prints.append d t) (prints.pointer_kept d t n ∙ last.1)
+        (subst (λ d'. On Op prints s ds digits holds Q o under m₃ d' (state (pointer_to ∷ []) (Obj (Int n) ∷ own))) (sym (prints.append_twice d t last.0))
+        (on 2 (suc m₄) t₁ (state (pointer_to ∷ []) (Obj (Int n) ∷ own)) (state (w "get" pointer_kind ∷ []) (Key (codes "to") ∷ Obj (Dict type) ∷ Obj (Int n) ∷ space_left)) refl
+        (goes_get Op s ds (words digits) holds.knows Q o under (codes "get") (codes "to") pointer_kind [] type (Obj (Dict target)) (Obj (Int n) ∷ space_left) m₄ (prints.append d t₁) holds.get to
+        (on 1 (suc (further 2 (tail_steps tail left))) t₁ (state (pointer_kind ∷ []) (Obj (Dict target) ∷ Obj (Int n) ∷ space_left))
+        (state (w "get" pointer_test ∷ []) (Key (codes "kind") ∷ Obj (Dict target) ∷ Obj (Int n) ∷ space_left)) refl
+        (goes_get Op s ds (words digits) holds.knows Q o under (codes "get") (codes "kind") pointer_test [] target (Key kind) (Obj (Int n) ∷ space_left) (further 2 (tail_steps tail left)) (prints.append d t₁) holds.get its_kind
+        (on 2 (tail_steps tail left) t₁ (state (pointer_test ∷ []) (Key kind ∷ Obj (Int n) ∷ space_left))
+        (state (pointer_choice ∷ []) (Obj (Truth (bytes_eq kind (codes "char"))) ∷ Obj (Int n) ∷ space_left)) refl last.2)))))))))
 
     -- the run of `ShowArray` appends the string of an array of characters
     string_run : (type item : DictId) (kind text : List ℕ) (place : ℤ) (count : ℕ) (t : List ℕ) → bytes_eq kind (codes "char") ≡ true → HasKey s type (codes "to") (Obj (Dict item))
@@ -145,17 +145,17 @@ module _ {D : Type 0} (Op : Operates D) (prints : Printing Op) (s : StoreState) 
         let m₁ : ℕ = further 1 (suc (further 2 m₂)) in
         on 2 (suc m₁) t (state (showarray_body ∷ []) (Obj (Dict type) ∷ own)) (state (w "get" showarray_to ∷ []) (Key (codes "to") ∷ Obj (Dict type) ∷ Obj (Dict type) ∷ own)) refl
         (goes_get Op s ds (words digits) holds.knows Q o under (codes "get") (codes "to") showarray_to [] type (Obj (Dict item)) (Obj (Dict type) ∷ own) m₁ (prints.append d t) holds.get to
-          (on 1 (suc (further 2 m₂)) t (state (showarray_to ∷ []) (Obj (Dict item) ∷ Obj (Dict type) ∷ own)) (state (w "get" showarray_kind ∷ []) (Key (codes "kind") ∷ Obj (Dict item) ∷ Obj (Dict type) ∷ own)) refl
-            (goes_get Op s ds (words digits) holds.knows Q o under (codes "get") (codes "kind") showarray_kind [] item (Key kind) (Obj (Dict type) ∷ own) (further 2 m₂) (prints.append d t) holds.get its_kind
-              (on 2 m₂ t (state (showarray_kind ∷ []) (Key kind ∷ Obj (Dict type) ∷ own)) (state (showarray_choice ∷ []) (Obj (Truth (bytes_eq kind (codes "char"))) ∷ Obj (Dict type) ∷ own)) refl
-                (subst (λ b. Here m₂ t (state (showarray_choice ∷ []) (Obj (Truth b) ∷ Obj (Dict type) ∷ own))) (sym test)
-                  (on 3 (further 1 (suc (suc (further 2 left)))) t (state (showarray_choice ∷ []) (Obj (Truth true) ∷ Obj (Dict type) ∷ own)) (state (showarray_string ∷ []) (Obj (Dict type) ∷ own)) refl
-                    (on 1 (suc (suc (further 2 left))) t (state (showarray_string ∷ []) (Obj (Dict type) ∷ own)) (state (w "get" showarray_chars ∷ []) (Key (codes "count") ∷ Obj (Dict type) ∷ own)) refl
-                      (goes_get Op s ds (words digits) holds.knows Q o under (codes "get") (codes "count") showarray_chars [] type (Obj (Int (pos count))) own (suc (further 2 left)) (prints.append d t) holds.get counts
-                        (put_chars_goes Op prints s ds digits holds Q o under showint_rest [] space place count text space_left (further 2 left) (prints.append d t)
-                          (prints.chars_kept d t space place count ∙ lies)
-                          (subst (λ d'. On Op prints s ds digits holds Q o under (further 2 left) d' (state (showint_rest ∷ []) space_left)) (sym (prints.append_twice d t text))
-                            (counted (t ++ text) g)))))))))))
+        (on 1 (suc (further 2 m₂)) t (state (showarray_to ∷ []) (Obj (Dict item) ∷ Obj (Dict type) ∷ own)) (state (w "get" showarray_kind ∷ []) (Key (codes "kind") ∷ Obj (Dict item) ∷ Obj (Dict type) ∷ own)) refl
+        (goes_get Op s ds (words digits) holds.knows Q o under (codes "get") (codes "kind") showarray_kind [] item (Key kind) (Obj (Dict type) ∷ own) (further 2 m₂) (prints.append d t) holds.get its_kind
+        (on 2 m₂ t (state (showarray_kind ∷ []) (Key kind ∷ Obj (Dict type) ∷ own)) (state (showarray_choice ∷ []) (Obj (Truth (bytes_eq kind (codes "char"))) ∷ Obj (Dict type) ∷ own)) refl
+        (subst (λ b. Here m₂ t (state (showarray_choice ∷ []) (Obj (Truth b) ∷ Obj (Dict type) ∷ own))) (sym test)
+        (on 3 (further 1 (suc (suc (further 2 left)))) t (state (showarray_choice ∷ []) (Obj (Truth true) ∷ Obj (Dict type) ∷ own)) (state (showarray_string ∷ []) (Obj (Dict type) ∷ own)) refl
+        (on 1 (suc (suc (further 2 left))) t (state (showarray_string ∷ []) (Obj (Dict type) ∷ own)) (state (w "get" showarray_chars ∷ []) (Key (codes "count") ∷ Obj (Dict type) ∷ own)) refl
+        (goes_get Op s ds (words digits) holds.knows Q o under (codes "get") (codes "count") showarray_chars [] type (Obj (Int (pos count))) own (suc (further 2 left)) (prints.append d t) holds.get counts
+        (put_chars_goes Op prints s ds digits holds Q o under showint_rest [] space place count text space_left (further 2 left) (prints.append d t)
+        (prints.chars_kept d t space place count ∙ lies)
+        (subst (λ d'. On Op prints s ds digits holds Q o under (further 2 left) d' (state (showint_rest ∷ []) space_left)) (sym (prints.append_twice d t text))
+        (counted (t ++ text) g)))))))))))
 
   -- a value of a kind is shown by its procedure, so many steps behind the test of its kind
   pub shows_by : (k : ℕ) (type : DictId) (place : ℕ) (kind : List ℕ) (own left : ℕ) (t : List ℕ) (r : ℕ) (o : List PsObj) (under : List Item) (body : Code) (m : ℕ) → RoomFor k o under → HasKey s type (codes "kind") (Key kind)
@@ -168,8 +168,8 @@ module _ {D : Type 0} (Op : Operates D) (prints : Printing Op) (s : StoreState) 
       goes_on Op s ds (words digits) holds.knows Q o under room' 2 (suc (further m own)) (prints.append d t)
       (state (show_body ∷ []) (Obj (Dict type) ∷ vs)) (state (w "get" show_kind ∷ []) (Key (codes "kind") ∷ Obj (Dict type) ∷ Obj (Dict type) ∷ vs)) refl
       (goes_get Op s ds (words digits) holds.knows Q o under (codes "get") (codes "kind") show_kind [] type (Key kind) (Obj (Dict type) ∷ vs) (further m own) (prints.append d t) holds.get has
-        (goes_on Op s ds (words digits) holds.knows Q o under room' m own (prints.append d t)
-          (state (show_kind ∷ []) (Key kind ∷ Obj (Dict type) ∷ vs)) (state (body ∷ []) (Obj (Dict type) ∷ vs)) by g))
+      (goes_on Op s ds (words digits) holds.knows Q o under room' m own (prints.append d t)
+      (state (show_kind ∷ []) (Key kind ∷ Obj (Dict type) ∷ vs)) (state (body ∷ []) (Obj (Dict type) ∷ vs)) by g))
 
   -- a character is shown
   pub char_shows : (k : ℕ) (type : DictId) (place : ℕ) (n : ℤ) → HasKey s type (codes "kind") (Key (codes "char")) → prints.value d space (word place) (codes "c") ≡ Some n

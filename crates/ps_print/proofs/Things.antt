@@ -40,12 +40,12 @@ module _ {D : Type 0} (Op : Operates D) (prints : Printing Op) (s : StoreState) 
       goes_on Op s ds (words digits) holds.knows Q o under room' 2 (suc (further 20 (showint_steps v left))) (prints.append d t)
       (state (show_body ∷ []) (Obj (Dict type) ∷ own)) (state (w "get" show_kind ∷ []) (Key (codes "kind") ∷ Obj (Dict type) ∷ Obj (Dict type) ∷ own)) refl
       (goes_get Op s ds (words digits) holds.knows Q o under (codes "get") (codes "kind") show_kind [] type (Key (codes "int")) (Obj (Dict type) ∷ own) (further 20 (showint_steps v left)) (prints.append d t) holds.get kind
-        (goes_on Op s ds (words digits) holds.knows Q o under room' 20 (showint_steps v left) (prints.append d t)
-          (state (show_kind ∷ []) (Key (codes "int") ∷ Obj (Dict type) ∷ own)) (state (showint_body ∷ []) (Obj (Dict type) ∷ own)) refl
-          (int_run Op prints s ds digits holds Q v r left space (word place) (Obj (Dict type)) (prints.append d t) o under
-            (let a = room.operands in let b = room.items in record { operands = omega arith; items = omega arith }) h (omega arith)
-            (prints.value_kept d t space (word place) (codes "w") ∙ known)
-            (subst (λ d'. Passes Op Q left d' (core s ds (Int (pos r) ∷ o) under)) (sym (prints.append_twice d t (signed_decimal (word v)))) g))))
+      (goes_on Op s ds (words digits) holds.knows Q o under room' 20 (showint_steps v left) (prints.append d t)
+      (state (show_kind ∷ []) (Key (codes "int") ∷ Obj (Dict type) ∷ own)) (state (showint_body ∷ []) (Obj (Dict type) ∷ own)) refl
+      (int_run Op prints s ds digits holds Q v r left space (word place) (Obj (Dict type)) (prints.append d t) o under
+      (let a = room.operands in let b = room.items in record { operands = omega arith; items = omega arith }) h (omega arith)
+      (prints.value_kept d t space (word place) (codes "w") ∙ known)
+      (subst (λ d'. Passes Op Q left d' (core s ds (Int (pos r) ∷ o) under)) (sym (prints.append_twice d t (signed_decimal (word v)))) g))))
 
   -- an unsigned number is shown
   pub unsigned_shows : (k : ℕ) (type : DictId) (place v : ℕ) → 13 ≤ k → v < 2 ^ 32 → HasKey s type (codes "kind") (Key (codes "unsigned"))
@@ -56,12 +56,12 @@ module _ {D : Type 0} (Op : Operates D) (prints : Printing Op) (s : StoreState) 
       goes_on Op s ds (words digits) holds.knows Q o under room' 2 (suc (further 26 (showunsigned_steps v left))) (prints.append d t)
       (state (show_body ∷ []) (Obj (Dict type) ∷ own)) (state (w "get" show_kind ∷ []) (Key (codes "kind") ∷ Obj (Dict type) ∷ Obj (Dict type) ∷ own)) refl
       (goes_get Op s ds (words digits) holds.knows Q o under (codes "get") (codes "kind") show_kind [] type (Key (codes "unsigned")) (Obj (Dict type) ∷ own) (further 26 (showunsigned_steps v left)) (prints.append d t) holds.get kind
-        (goes_on Op s ds (words digits) holds.knows Q o under room' 26 (showunsigned_steps v left) (prints.append d t)
-          (state (show_kind ∷ []) (Key (codes "unsigned") ∷ Obj (Dict type) ∷ own)) (state (showunsigned_body ∷ []) (Obj (Dict type) ∷ own)) refl
-          (unsigned_run Op prints s ds digits holds Q v r left space (word place) (Obj (Dict type)) (prints.append d t) o under
-            (let a = room.operands in let b = room.items in record { operands = omega arith; items = omega arith }) h (omega arith)
-            (prints.value_kept d t space (word place) (codes "w") ∙ known)
-            (subst (λ d'. Passes Op Q left d' (core s ds (Int (pos r) ∷ o) under)) (sym (prints.append_twice d t (decimal v))) g))))
+      (goes_on Op s ds (words digits) holds.knows Q o under room' 26 (showunsigned_steps v left) (prints.append d t)
+      (state (show_kind ∷ []) (Key (codes "unsigned") ∷ Obj (Dict type) ∷ own)) (state (showunsigned_body ∷ []) (Obj (Dict type) ∷ own)) refl
+      (unsigned_run Op prints s ds digits holds Q v r left space (word place) (Obj (Dict type)) (prints.append d t) o under
+      (let a = room.operands in let b = room.items in record { operands = omega arith; items = omega arith }) h (omega arith)
+      (prints.value_kept d t space (word place) (codes "w") ∙ known)
+      (subst (λ d'. Passes Op Q left d' (core s ds (Int (pos r) ∷ o) under)) (sym (prints.append_twice d t (decimal v))) g))))
 
   module _ (type item : DictId) (kind : List ℕ) (size : ℕ) (to : HasKey s type (codes "to") (Obj (Dict item))) (its_kind : HasKey s item (codes "kind") (Key kind))
       (no_char : bytes_eq kind (codes "char") ≡ false) (sized : HasKey s item (codes "size") (Obj (Int (word size)))) (small : size < 2 ^ 32) where
@@ -83,25 +83,25 @@ module _ {D : Type 0} (Op : Operates D) (prints : Printing Op) (s : StoreState) 
         let n₃ : ℕ = further 6 (suc n₄) in
         on 2 (suc (further 1 (suc (further 2 (further 4 (suc n₃)))))) t (state (showarray_body ∷ []) (Obj (Dict type) ∷ own)) (state (w "get" showarray_to ∷ []) (Key (codes "to") ∷ Obj (Dict type) ∷ Obj (Dict type) ∷ own)) refl
         (goes_get Op s ds (words digits) holds.knows Q o under (codes "get") (codes "to") showarray_to [] type (Obj (Dict item)) (Obj (Dict type) ∷ own) (further 1 (suc (further 2 (further 4 (suc n₃))))) (prints.append d t) holds.get to
-          (on 1 (suc (further 2 (further 4 (suc n₃)))) t (state (showarray_to ∷ []) (Obj (Dict item) ∷ Obj (Dict type) ∷ own)) (state (w "get" showarray_kind ∷ []) (Key (codes "kind") ∷ Obj (Dict item) ∷ Obj (Dict type) ∷ own)) refl
-            (goes_get Op s ds (words digits) holds.knows Q o under (codes "get") (codes "kind") showarray_kind [] item (Key kind) (Obj (Dict type) ∷ own) (further 2 (further 4 (suc n₃))) (prints.append d t) holds.get its_kind
-              (on 2 (further 4 (suc n₃)) t (state (showarray_kind ∷ []) (Key kind ∷ Obj (Dict type) ∷ own)) (state (showarray_choice ∷ []) (Obj (Truth (bytes_eq kind (codes "char"))) ∷ Obj (Dict type) ∷ own)) refl
-                (subst (λ b. On Op prints s ds digits holds Q o under (further 4 (suc n₃)) (prints.append d t) (state (showarray_choice ∷ []) (Obj (Truth b) ∷ Obj (Dict type) ∷ own))) (sym no_char)
-                  (on 4 (suc n₃) t (state (showarray_choice ∷ []) (Obj (Truth false) ∷ Obj (Dict type) ∷ own)) (state (w "Put" showarray_open ∷ []) (Bytes (codes "{") ∷ Obj (Dict type) ∷ own)) refl
-                    (put_at Op prints s ds digits holds Q o under showarray_open [] (codes "{") (Obj (Dict type) ∷ own) n₃ d t (omega arith, omega arith, tt)
-                      (on 6 (suc n₄) t₁ (state (showarray_open ∷ []) (Obj (Dict type) ∷ own)) (state (w "get" showarray_count ∷ []) (Key (codes "count") ∷ Obj (Dict type) ∷ opened)) refl
-                        (goes_get Op s ds (words digits) holds.knows Q o under (codes "get") (codes "count") showarray_count [] type (Obj (Int (pos (length is)))) opened n₄ (prints.append d t₁) holds.get count
-                          (on 4 (suc (further 1 n₅)) t₁ (state (showarray_count ∷ []) (Obj (Int (pos (length is))) ∷ opened)) (state (w "get" showarray_items ∷ []) (Key (codes "to") ∷ Obj (Dict type) ∷ counted)) refl
-                            (goes_get Op s ds (words digits) holds.knows Q o under (codes "get") (codes "to") showarray_items [] type (Obj (Dict item)) counted (further 1 n₅) (prints.append d t₁) holds.get to
-                              (on 1 n₅ t₁ (state (showarray_items ∷ []) (Obj (Dict item) ∷ counted)) (state (items_body ∷ showarray_close ∷ []) (Obj (Dict item) ∷ counted)) refl
-                                (goes_through Op s ds (words digits) holds.knows Q o under items_body (showarray_close ∷ []) (Obj (Dict item) ∷ counted) [] (Int (pos (items_left is (suc r)))) n₅ (further 1 (suc left))
-                                  (prints.append d t₁) (prints.append d t₂)
-                                  (λ o' under' lo lu g'. items_run Op prints s ds digits holds Q k d item space size sized small is [] place (suc r) (further 1 (suc left)) t₁ o' under'
-                                    (let a = room.operands in let b = room.items in record { operands = omega arith; items = omega arith }) tt within few (omega arith) each g')
-                                  (on 1 (suc left) t₂ (state (showarray_close ∷ []) (Obj (Int (pos (items_left is (suc r)))) ∷ [])) (state (w "Put" Stop ∷ []) (Bytes (codes "}") ∷ Obj (Int (pos (items_left is (suc r)))) ∷ [])) refl
-                                    (put_at Op prints s ds digits holds Q o under Stop [] (codes "}") (Obj (Int (pos (items_left is (suc r)))) ∷ []) left d t₂ (omega arith, omega arith, tt)
-                                      (leaves Op prints s ds digits holds Q (Int (pos (items_left is (suc r)))) left (prints.append d (t₂ ++ codes "}")) o under
-                                        (subst (λ x. Passes Op Q left (prints.append d x) (core s ds (Int (pos (items_left is (suc r))) ∷ o) under)) whole g)))))))))))))))))
+        (on 1 (suc (further 2 (further 4 (suc n₃)))) t (state (showarray_to ∷ []) (Obj (Dict item) ∷ Obj (Dict type) ∷ own)) (state (w "get" showarray_kind ∷ []) (Key (codes "kind") ∷ Obj (Dict item) ∷ Obj (Dict type) ∷ own)) refl
+        (goes_get Op s ds (words digits) holds.knows Q o under (codes "get") (codes "kind") showarray_kind [] item (Key kind) (Obj (Dict type) ∷ own) (further 2 (further 4 (suc n₃))) (prints.append d t) holds.get its_kind
+        (on 2 (further 4 (suc n₃)) t (state (showarray_kind ∷ []) (Key kind ∷ Obj (Dict type) ∷ own)) (state (showarray_choice ∷ []) (Obj (Truth (bytes_eq kind (codes "char"))) ∷ Obj (Dict type) ∷ own)) refl
+        (subst (λ b. On Op prints s ds digits holds Q o under (further 4 (suc n₃)) (prints.append d t) (state (showarray_choice ∷ []) (Obj (Truth b) ∷ Obj (Dict type) ∷ own))) (sym no_char)
+        (on 4 (suc n₃) t (state (showarray_choice ∷ []) (Obj (Truth false) ∷ Obj (Dict type) ∷ own)) (state (w "Put" showarray_open ∷ []) (Bytes (codes "{") ∷ Obj (Dict type) ∷ own)) refl
+        (put_at Op prints s ds digits holds Q o under showarray_open [] (codes "{") (Obj (Dict type) ∷ own) n₃ d t (omega arith, omega arith, tt)
+        (on 6 (suc n₄) t₁ (state (showarray_open ∷ []) (Obj (Dict type) ∷ own)) (state (w "get" showarray_count ∷ []) (Key (codes "count") ∷ Obj (Dict type) ∷ opened)) refl
+        (goes_get Op s ds (words digits) holds.knows Q o under (codes "get") (codes "count") showarray_count [] type (Obj (Int (pos (length is)))) opened n₄ (prints.append d t₁) holds.get count
+        (on 4 (suc (further 1 n₅)) t₁ (state (showarray_count ∷ []) (Obj (Int (pos (length is))) ∷ opened)) (state (w "get" showarray_items ∷ []) (Key (codes "to") ∷ Obj (Dict type) ∷ counted)) refl
+        (goes_get Op s ds (words digits) holds.knows Q o under (codes "get") (codes "to") showarray_items [] type (Obj (Dict item)) counted (further 1 n₅) (prints.append d t₁) holds.get to
+        (on 1 n₅ t₁ (state (showarray_items ∷ []) (Obj (Dict item) ∷ counted)) (state (items_body ∷ showarray_close ∷ []) (Obj (Dict item) ∷ counted)) refl
+        (goes_through Op s ds (words digits) holds.knows Q o under items_body (showarray_close ∷ []) (Obj (Dict item) ∷ counted) [] (Int (pos (items_left is (suc r)))) n₅ (further 1 (suc left))
+        (prints.append d t₁) (prints.append d t₂)
+        (λ o' under' lo lu g'. items_run Op prints s ds digits holds Q k d item space size sized small is [] place (suc r) (further 1 (suc left)) t₁ o' under'
+        (let a = room.operands in let b = room.items in record { operands = omega arith; items = omega arith }) tt within few (omega arith) each g')
+        (on 1 (suc left) t₂ (state (showarray_close ∷ []) (Obj (Int (pos (items_left is (suc r)))) ∷ [])) (state (w "Put" Stop ∷ []) (Bytes (codes "}") ∷ Obj (Int (pos (items_left is (suc r)))) ∷ [])) refl
+        (put_at Op prints s ds digits holds Q o under Stop [] (codes "}") (Obj (Int (pos (items_left is (suc r)))) ∷ []) left d t₂ (omega arith, omega arith, tt)
+        (leaves Op prints s ds digits holds Q (Int (pos (items_left is (suc r)))) left (prints.append d (t₂ ++ codes "}")) o under
+        (subst (λ x. Passes Op Q left (prints.append d x) (core s ds (Int (pos (items_left is (suc r))) ∷ o) under)) whole g)))))))))))))))))
       where
         on : (m n₀ : ℕ) (t : List ℕ) (st st' : State) → go (words digits) m st ≡ Some st' → On Op prints s ds digits holds Q o under n₀ (prints.append d t) st' → On Op prints s ds digits holds Q o under (further m n₀) (prints.append d t) st
         on m n₀ t st st' e g = goes_on Op s ds (words digits) holds.knows Q o under (room_here Op prints s ds digits holds Q (6 + k) o under room) m n₀ (prints.append d t) st st' e g
@@ -115,9 +115,9 @@ module _ {D : Type 0} (Op : Operates D) (prints : Printing Op) (s : StoreState) 
         goes_on Op s ds (words digits) holds.knows Q o under room' 2 (suc (further 8 (list_steps is (suc r) left))) (prints.append d t)
         (state (show_body ∷ []) (Obj (Dict type) ∷ own)) (state (w "get" show_kind ∷ []) (Key (codes "kind") ∷ Obj (Dict type) ∷ Obj (Dict type) ∷ own)) refl
         (goes_get Op s ds (words digits) holds.knows Q o under (codes "get") (codes "kind") show_kind [] type (Key (codes "array")) (Obj (Dict type) ∷ own) (further 8 (list_steps is (suc r) left)) (prints.append d t) holds.get its
-          (goes_on Op s ds (words digits) holds.knows Q o under room' 8 (list_steps is (suc r) left) (prints.append d t)
-            (state (show_kind ∷ []) (Key (codes "array") ∷ Obj (Dict type) ∷ own)) (state (showarray_body ∷ []) (Obj (Dict type) ∷ own)) refl
-            (list_run k is place r left t o under room within few enough count each g)))
+        (goes_on Op s ds (words digits) holds.knows Q o under room' 8 (list_steps is (suc r) left) (prints.append d t)
+        (state (show_kind ∷ []) (Key (codes "array") ∷ Obj (Dict type) ∷ own)) (state (showarray_body ∷ []) (Obj (Dict type) ∷ own)) refl
+        (list_run k is place r left t o under room within few enough count each g)))
       where
         room' : Room o under
         room' = room_here Op prints s ds digits holds Q (6 + k) o under room

@@ -30,7 +30,7 @@ behind (Err e) f = Err e
 abbrev pub prepared : StoreState → Given StringId
 prepared s =
     behind (making_name s (codes "d")) (λ s₁. behind (making_name s₁ (codes "r")) (λ s₂. behind (making_name s₂ (codes "i")) (λ s₃.
-      making_string s₃ (render prelude))))
+    making_string s₃ (render prelude))))
 
 abbrev pub Prepares : Result StringId StoreFault → StoreState → StoreState → Type 0
 Prepares (Ok t) old new = prepared old ≡ Ok (t, new)

@@ -13,14 +13,15 @@ use Rattle.ps_step.specs.Results.{◌>>=◌}
 use Rattle.ps_step.specs.Operands.{one_of, pair_of}
 use Rattle.ps_step.specs.State.{Made, with_operands, scheduling}
 use Rattle.ps_words.specs.Operators.{word_in, integer}
-use Rattle.ps_places.specs.Places.{text_of, base_of}
+use Rattle.ps_places.specs.Places.{name_of, base_of}
 use Rattle.table_model.specs.declared.lack.Lack.{Lack}
 use Rattle.table_model.specs.declared.lack.Lack.TheVariants as lack
 use Rattle.table_model.specs.Reading.{Walked, entry, dict_at, top_of}
 use Rattle.table_model.specs.Objects.{anchor_of}
 use Rattle.table_model.specs.Symbols.{symbol_named}
 
--- the error of what a table lacks; a look-up of a name needs the functions of no unit
+-- The error of what a table lacks. A look-up of a name goes by the top dictionary or by `/uplink` alone, so it never needs the
+-- functions of a unit: that case is not met.
 abbrev pub error_of : Lack → PsError
 error_of lack.Missing = Undefined
 error_of lack.NoPoint = Undefined
@@ -36,7 +37,7 @@ looked (Err l) = Err (error_of l)
 -- `n /name Anchor`
 abbrev pub anchoring : PsCore → Made
 anchoring c =
-    pair_of c.operands >>= λ p. word_in p.0 >>= λ n. text_of c.store p.1 >>= λ name. looked (anchor_of c.store name) >>= λ at.
+    pair_of c.operands >>= λ p. word_in p.0 >>= λ n. name_of c.store p.1 >>= λ name. looked (anchor_of c.store name) >>= λ at.
     Ok (with_operands c (integer (sum_of n at) ∷ drop 2 c.operands))
 
 -- `/tag Struct`: the type of a tag
@@ -45,7 +46,7 @@ struct_named s tag = top_of s >>= λ top. dict_at s top (codes "structs") >>= λ
 
 abbrev pub finding_struct : PsCore → Made
 finding_struct c =
-    one_of c.operands >>= λ x. text_of c.store x >>= λ tag. looked (struct_named c.store tag) >>= λ t.
+    one_of c.operands >>= λ x. name_of c.store x >>= λ tag. looked (struct_named c.store tag) >>= λ t.
     Ok (with_operands c (Dict t ∷ drop 1 c.operands))
 
 -- the procedure that an object is
@@ -64,7 +65,7 @@ where_of s scope name =
 
 -- `/x Where`: the procedure is executed next in the place of the name; without a frame there is none
 abbrev pub asked_where : (base : Option ℕ) → (scope : Option DictId) → PsCore → Result PsObj PsError
-asked_where base scope c = one_of c.operands >>= λ x. text_of c.store x >>= λ name. base_of base >>= λ b. where_of c.store scope name
+asked_where base scope c = one_of c.operands >>= λ x. name_of c.store x >>= λ name. base_of base >>= λ b. where_of c.store scope name
 
 abbrev pub finding_symbol : (base : Option ℕ) → (scope : Option DictId) → PsCore → Made
 finding_symbol base scope c = asked_where base scope c >>= λ body. scheduling (Object body) (with_operands c (drop 1 c.operands))

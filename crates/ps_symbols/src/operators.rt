@@ -7,7 +7,7 @@ ghost use Rattle.table_model.specs.Objects.{anchor_of};
 ghost use Rattle.ps_symbols.specs.Naming.{error_of, looked, anchoring, struct_named, finding_struct, where_of, asked_where, finding_symbol};
 
 use crate::chain::symbol_named;
-use ps_places::text_of;
+use ps_places::name_of;
 use ps_step::fault::{PsError, PsFault};
 use ps_step::machine::PsCore;
 use ps_step::operands::{one_of, pair_of};
@@ -44,7 +44,7 @@ pub fn anchor(core: &mut PsCore) -> Result<(), PsFault>
 {
     let (number, name) = pair_of(&core.operands)?;
     let n = word_in(number)?;
-    let name = text_of(&core.store, name)?;
+    let name = name_of(&core.store, name)?;
     match anchor_of(&core.store, core.store.string_get(name)) {
         Ok(at) => {
             let sum = n.wrapping_add(at);
@@ -70,7 +70,7 @@ pub fn find_struct(core: &mut PsCore) -> Result<(), PsFault>
     ensures closed { closed_part core.new.store ≡ closed_part core.old.store }
 {
     let tag = one_of(&core.operands)?;
-    let tag = text_of(&core.store, tag)?;
+    let tag = name_of(&core.store, tag)?;
     match struct_named(&core.store, core.store.string_get(tag)) {
         Ok(t) => {
             core.operands.replace(1, PsObj::Dict(t));
@@ -96,16 +96,12 @@ fn where_of(store: &PsStore, scope: Option<DictId>, name: &[u8]) -> Result<PsObj
 }
 
 /// The procedure that `Where` takes.
-fn asked_where(
-    core: &PsCore,
-    base: Option<u32>,
-    scope: Option<DictId>,
-) -> Result<PsObj, PsError>
+fn asked_where(core: &PsCore, base: Option<u32>, scope: Option<DictId>) -> Result<PsObj, PsError>
     ensures asked { result ≡ asked_where base scope core.now }
     ensures enough { OnOk result (1 ≤ length core.now.operands) }
 {
     let x = one_of(&core.operands)?;
-    let name = text_of(&core.store, x)?;
+    let name = name_of(&core.store, x)?;
     if base.is_none() {
         return Err(PsError::RangeCheck);
     }

@@ -17,4 +17,4 @@ returns g t c =
     more_read (g.M.AbsMem.seen c.args.memory.now) (g.M.AbsMem.seen c.fetch.new.self) (g.M.AbsMem.seen c.read_bytes.new.memory) c.args.place c.args.most (c.args.most - 1) c.in-Ok.bits
     c.args.bytes.now c.read_bytes.new.bytes e c.in-Ok.ensures.meaning z c.read_bytes.result
     (subst (λ (l : List ℕ). ReadsBytes (λ b. bytes_from (c.args.most - 1) b (record c.args.place { at = sum_of c.args.place.at 1 })) l (g.M.AbsMem.seen c.fetch.new.self) c.read_bytes.result c.read_bytes.new.bytes (g.M.AbsMem.seen c.read_bytes.new.memory))
-      c.in_default.ensures.ok c.read_bytes.ensures)
+    c.in_default.ensures.ok c.read_bytes.ensures)
