@@ -1,0 +1,12 @@
+//! Operators of a PostScript dialect on places: how places are made, fetched from and stored to, over any memory of a target.
+#![tactic(auto)]
+
+mod access;
+mod memory;
+mod place;
+
+pub use access::{Trouble, fetch, immediate, store, troubled};
+pub use memory::{AbsMem, MemFault};
+pub use place::{
+    absolute, kind_named, leave_place, local, name_of, register, space_name, space_named, text_of,
+};

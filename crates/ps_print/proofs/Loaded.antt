@@ -1,0 +1,225 @@
+-- The prelude runs on a new store, by computing.
+use Rattle.std.proofs.Common.{◌≡◌, ℕ, ℤ, zero, suc, ◌+◌, Bool, true, false, ◌&&◌, nat_lt, bytes_eq, ltb-true, ap, subst, ◌<◌, arith, slice_get, is_some, if◌then◌else◌, Option, Some, None, Result, Ok, Err, List, [], ◌∷◌, length, codes, refl}
+use Rattle.std.specs.Fmt.{digits}
+use Rattle.std.specs.Ordering.{int_eq}
+use Rattle.std.specs.Cmp.{signed_Decides}
+use Rattle.std.specs.Cmp.Lexicographic.{bytes_decides}
+use Rattle.std.proofs.lemmas.Bool.{and_parts}
+use Rattle.ps_scan.specs.Bytes.{is_white, is_special, is_regular, is_hexadecimal}
+use Rattle.ps_store.specs.declared.object.PsObj.{PsObj}
+use Rattle.ps_store.specs.declared.object.PsObj.TheVariants.{Int, Bool as Truth, Name, Str, Array, Dict, Op, Mark, Null}
+use Rattle.ps_store.specs.declared.object.StringId.{StringId}
+use Rattle.ps_store.specs.declared.fault.StoreFault.{StoreFault}
+use Rattle.ps_store.specs.Operators.{operator_number}
+use Rattle.ps_store.specs.StoreState.{StoreState}
+use Rattle.ps_store.specs.Store.{new_store, making_string, held, bytes_of, elements_of}
+use Rattle.ps_step.specs.declared.item.Item.TheVariants.{Text}
+use Rattle.ps_step.specs.declared.machine.PsCore.{PsCore}
+use Rattle.ps_step.specs.Keys.{named}
+use Rattle.ps_run.specs.Step.{Outcome, Ended, Next, Asks, Failed, step}
+use Rattle.ps_text.specs.Code.{Code, Stop, Num, Word, Lit, Text as Quote, Proc, render}
+use Rattle.ps_text.specs.Grown.{IsString, IsArray}
+use Rattle.ps_text.specs.Spells.{Spells}
+use Rattle.ps_store.specs.declared.object.ArrayId.{ArrayId}
+use Rattle.ps_store.specs.declared.object.Part.TheVariants.{Table}
+use Rattle.ps_terms.specs.Machine.{Entry, Acts, Branch, Branches, Does, Gives, Words, meaning}
+use Rattle.ps_terms.specs.Stands.{Means, Knows}
+use Rattle.ps_print.specs.Words.{words, Holds}
+use Rattle.ps_print.specs.Loaded.{start, after, or_new, executed, loaded, digits_id}
+use Rattle.ps_print.specs.Leads.{Leads}
+use Rattle.ps_run.specs.Runs.{Operates, Answer, Runs}
+use Rattle.ps_terms.specs.Printing.{further}
+use Rattle.ps_run.proofs.Apart.{behind}
+use Rattle.ps_print.specs.Prelude.{prelude, digits_body, signed_body, showint_body, showunsigned_body, showchar_body, showpointer_body, items_body, showarray_body, members_body, showstruct_body, show_body, print_body}
+
+-- ---- what the objects are, as a test
+
+abbrev spelled : StoreState → Code → List PsObj → Bool
+spelled s Stop [] = true
+spelled s (Num n rest) (Int i ∷ xs) = int_eq i n && spelled s rest xs
+spelled s (Word name rest) (Name t true ∷ xs) = nat_lt t.index (length (held s t.part).strings) && (bytes_eq (bytes_of s t) name && spelled s rest xs)
+spelled s (Lit name rest) (Name t false ∷ xs) = nat_lt t.index (length (held s t.part).strings) && (bytes_eq (bytes_of s t) name && spelled s rest xs)
+spelled s (Quote text rest) (Str t false ∷ xs) = nat_lt t.index (length (held s t.part).strings) && (bytes_eq (bytes_of s t) text && spelled s rest xs)
+spelled s (Proc body rest) (Array a true ∷ xs) = nat_lt a.index (length (held s a.part).arrays) && (spelled s body (elements_of s a) && spelled s rest xs)
+spelled s k xs = false
+
+string_is : (s : StoreState) (t : StringId) (text : List ℕ) (b : Bool) → (nat_lt t.index (length (held s t.part).strings) && (bytes_eq (bytes_of s t) text && b)) ≡ true → IsString s t text × (b ≡ true)
+string_is s t text b h =
+    let p = and_parts (nat_lt t.index (length (held s t.part).strings)) (bytes_eq (bytes_of s t) text && b) h in
+    let q = and_parts (bytes_eq (bytes_of s t) text) b p.1 in
+    (record { has = ltb-true _ _ p.0; bytes = (bytes_decides (bytes_of s t) text).0 q.0 }, q.1)
+
+spelled_is : (k : Code) (s : StoreState) (xs : List PsObj) → spelled s k xs ≡ true → Spells s xs k
+spelled_is Stop s [] h = refl
+spelled_is (Num n rest) s (Int i ∷ xs) h =
+    let p = and_parts (int_eq i n) (spelled s rest xs) h in
+    (xs, ap (λ z. Int z ∷ xs) ((signed_Decides i n).0 p.0), spelled_is rest s xs p.1)
+spelled_is (Word name rest) s (Name t true ∷ xs) h = let p = string_is s t name (spelled s rest xs) h in (t, xs, refl, p.0, spelled_is rest s xs p.1)
+spelled_is (Lit name rest) s (Name t false ∷ xs) h = let p = string_is s t name (spelled s rest xs) h in (t, xs, refl, p.0, spelled_is rest s xs p.1)
+spelled_is (Quote text rest) s (Str t false ∷ xs) h = let p = string_is s t text (spelled s rest xs) h in (t, xs, refl, p.0, spelled_is rest s xs p.1)
+spelled_is (Proc body rest) s (Array a true ∷ xs) h =
+    let p = and_parts (nat_lt a.index (length (held s a.part).arrays)) (spelled s body (elements_of s a) && spelled s rest xs) h in
+    let q = and_parts (spelled s body (elements_of s a)) (spelled s rest xs) p.1 in
+    (a, elements_of s a, xs, refl, record { has = ltb-true _ _ p.0; items = refl }, spelled_is body s (elements_of s a) q.0, spelled_is rest s xs q.1)
+spelled_is k s xs h = absurd cc
+
+no_truth : false ≡ true → ⊥
+no_truth e = cc
+
+no_state : {c : PsCore} → None ≡ Some c → ⊥
+no_state e = cc
+
+-- the term under a name is there
+abbrev is_body : Option PsObj → Code → Bool
+is_body (Some (Array a e)) body = e && spelled loaded.store body (elements_of loaded.store a)
+is_body other body = false
+
+body_means : (o : Option PsObj) (name : List ℕ) (body : Code) → named loaded.store loaded.dictionaries name ≡ o → is_body o body ≡ true → Means loaded.store loaded.dictionaries name (Does body)
+body_means None name body e h = absurd (let f : false ≡ true = h in no_truth f)
+body_means (Some (Array a true)) name body e h = (a, e, spelled_is body loaded.store (elements_of loaded.store a) h)
+body_means o name body e h = absurd (no_truth h)
+
+abbrev there : List ℕ → Code → Type 0
+there name body = is_body (named loaded.store loaded.dictionaries name) body ≡ true
+
+bodies_there : there (codes "Digits") digits_body × there (codes "Signed") signed_body × there (codes "ShowInt") showint_body × there (codes "Items") items_body
+    × there (codes "ShowArray") showarray_body × there (codes "Show") show_body × there (codes "PrintInt") print_body × there (codes "PrintArray") print_body × there (codes "ShowUnsigned") showunsigned_body
+    × there (codes "ShowChar") showchar_body × there (codes "ShowPointer") showpointer_body × there (codes "ShowStruct") showstruct_body × there (codes "Members") members_body
+unfolding digits is_white is_special is_regular is_hexadecimal operator_number
+bodies_there = (refl, refl, refl, refl, refl, refl, refl, refl, refl, refl, refl, refl, refl)
+
+does : (name : List ℕ) (body : Code) → there name body → Means loaded.store loaded.dictionaries name (Does body)
+does name body h = body_means (named loaded.store loaded.dictionaries name) name body refl h
+
+abbrev EachMeans : Words → Type 0
+EachMeans [] = Unit {0}
+EachMeans (e ∷ es) = Means loaded.store loaded.dictionaries e.0 e.1 × EachMeans es
+
+known : (ws : Words) → EachMeans ws → Knows loaded.store loaded.dictionaries ws
+known [] h name entry e = absurd cc
+known (w ∷ ws) h name entry e = by_name (known ws h.1 name entry) (bytes_eq w.0 name) refl e
+  where
+    by_name : (meaning ws name ≡ Some entry → Means loaded.store loaded.dictionaries name entry) → (b : Bool) → bytes_eq w.0 name ≡ b → (if b then Some w.1 else meaning ws name) ≡ Some entry → Means loaded.store loaded.dictionaries name entry
+    by_name rest true f g =
+        let same : w.0 ≡ name = (bytes_decides w.0 name).0 f in
+        let it : w.1 ≡ entry = cc in
+        subst (λ n. Means loaded.store loaded.dictionaries n entry) same (subst (Means loaded.store loaded.dictionaries w.0) it h.0)
+    by_name rest false f g = rest g
+
+digit_there : (r : ℕ) → r < 10 → (t : StringId) × (slice_get (elements_of loaded.store digits_id) r ≡ Some (Str t false)) × (bytes_of loaded.store t ≡ (48 + r) ∷ [])
+unfolding digits is_white is_special is_regular is_hexadecimal operator_number
+digit_there zero h = (record { part = Table; index = 6 }, refl, refl)
+digit_there (suc zero) h = (record { part = Table; index = 7 }, refl, refl)
+digit_there (suc (suc zero)) h = (record { part = Table; index = 8 }, refl, refl)
+digit_there (suc (suc (suc zero))) h = (record { part = Table; index = 9 }, refl, refl)
+digit_there (suc (suc (suc (suc zero)))) h = (record { part = Table; index = 10 }, refl, refl)
+digit_there (suc (suc (suc (suc (suc zero))))) h = (record { part = Table; index = 11 }, refl, refl)
+digit_there (suc (suc (suc (suc (suc (suc zero)))))) h = (record { part = Table; index = 12 }, refl, refl)
+digit_there (suc (suc (suc (suc (suc (suc (suc zero))))))) h = (record { part = Table; index = 13 }, refl, refl)
+digit_there (suc (suc (suc (suc (suc (suc (suc (suc zero)))))))) h = (record { part = Table; index = 14 }, refl, refl)
+digit_there (suc (suc (suc (suc (suc (suc (suc (suc (suc zero))))))))) h = (record { part = Table; index = 15 }, refl, refl)
+digit_there (suc (suc (suc (suc (suc (suc (suc (suc (suc (suc r)))))))))) h = absurd (omega arith)
+
+-- behind the prelude its words mean what its terms say
+pub loaded_holds : Holds loaded.store loaded.dictionaries digits_id
+unfolding digits is_white is_special is_regular is_hexadecimal operator_number
+loaded_holds = record {
+  knows = known (words digits_id) (
+    refl,
+    (
+      refl,
+      (
+        refl,
+        (
+          refl,
+          (
+            refl,
+            (
+              refl,
+              (
+                refl,
+                (
+                  refl,
+                  (
+                    refl,
+                    (
+                      refl,
+                      (
+                        refl,
+                        (
+                          (Array digits_id false, refl, refl, tt),
+                          (
+                            does (codes "Digits") digits_body bodies_there.0,
+                            (
+                              does (codes "Signed") signed_body bodies_there.1,
+                              (
+                                does (codes "ShowInt") showint_body bodies_there.2,
+                                (
+                                  does (codes "ShowUnsigned") showunsigned_body bodies_there.8,
+                                  (
+                                    does (codes "Items") items_body bodies_there.3,
+                                    (
+                                      does (codes "ShowArray") showarray_body bodies_there.4,
+                                      (
+                                        does (codes "Show") show_body bodies_there.5,
+                                        (does (codes "ShowChar") showchar_body bodies_there.9, (does (codes "ShowPointer") showpointer_body bodies_there.10, (does (codes "ShowStruct") showstruct_body bodies_there.11, (does (codes "Members") members_body bodies_there.12, tt)))),
+                                      ),
+                                    ),
+                                  ),
+                                ),
+                              ),
+                            ),
+                          ),
+                        ),
+                      ),
+                    ),
+                  ),
+                ),
+              ),
+            ),
+          ),
+        ),
+      ),
+    ),
+  );
+  get = refl;
+  length_of = refl;
+  fetch = refl;
+  udivs = refl;
+  urem = refl;
+  usub = refl;
+  uadd = refl;
+  put_chars = refl;
+  put_char = refl;
+  put_pointer = refl;
+  charrun = refl;
+  put = refl;
+  digit = digit_there;
+}
+
+-- the steps lead there
+some_state : (o : Option PsCore) → is_some o ≡ true → o ≡ Some (or_new o)
+some_state (Some c) h = refl
+some_state None h = absurd (no_truth h)
+
+steps_made : is_some (after 75 start) ≡ true
+unfolding digits is_white is_special is_regular is_hexadecimal operator_number
+steps_made = refl
+
+steps_there : after 75 start ≡ Some executed
+steps_there = some_state (after 75 start) steps_made
+
+module _ {D : Type 0} (Op : Operates D) where
+  after_leads : (n left : ℕ) (d : D) (c c' : PsCore) → after n c ≡ Some c' → Leads Op (further n left) d c left d c'
+  after_leads zero left d c c' e = λ r m d₂ c₂ other run. let same : c ≡ c' = cc in subst (λ x. Runs Op left d x r m d₂ c₂) same run
+  after_leads (suc n) left d c c' e = λ r m d₂ c₂ other run. on (step c) refl e (λ c₁ h. after_leads n left d c₁ c' h) r m d₂ c₂ other run
+    where
+      on : (o : Outcome) → step c ≡ o → (elim o [ Next c' ↦ after n c' | Ended c' ↦ None | Asks op c' ↦ None | Failed e c' ↦ None ]) ≡ Some c'
+          → ((c₁ : PsCore) → after n c₁ ≡ Some c' → Leads Op (further n left) d c₁ left d c') → Leads Op (suc (further n left)) d c left d c'
+      on (Next c₁) s h rest = λ r m d₂ c₂ other run. rest c₁ h r m d₂ c₂ other (behind Op (further n left) d c (Next c₁) r m d₂ c₂ s run)
+      on (Ended c₁) s h rest = absurd (no_state h)
+      on (Asks op c₁) s h rest = absurd (no_state h)
+      on (Failed x c₁) s h rest = absurd (no_state h)
+
+  pub loads : (left : ℕ) (d : D) → Leads Op (further 75 left) d start left d executed
+  loads left d = after_leads 75 left d start executed steps_there

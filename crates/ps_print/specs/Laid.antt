@@ -1,0 +1,85 @@
+-- Values as they lie in memory, with the dictionaries of their types.
+use Rattle.std.specs.Prelude.{◌≡◌, ℕ, ℤ, pos, zero, suc, ◌+◌, ◌<◌, ◌≤◌, ◌%◌, ◌^◌, Bool, true, false, Some, List, [], ◌∷◌, ◌++◌, length, map, slice_get, codes, bytes_eq}
+use Rattle.std.specs.declared.alloc.Global.{Global}
+use Rattle.std.specs.declared.rc.Rc.{Rc}
+use Rattle.ps_store.specs.declared.object.PsObj.TheVariants.{Int, Array, Dict}
+use Rattle.ps_store.specs.declared.object.ArrayId.{ArrayId}
+use Rattle.ps_store.specs.declared.object.DictId.{DictId}
+use Rattle.ps_store.specs.StoreState.{StoreState}
+use Rattle.ps_store.specs.Store.{elements_of}
+use Rattle.c_tree.specs.declared.types.CType.{CType}
+use Rattle.c_tree.specs.declared.types.CType.TheVariants.{Char, Int as IntType, Unsigned, Void, Pointer', Array', Struct}
+use Rattle.c_tree.specs.declared.types.StructDef.{StructDef}
+use Rattle.c_tree.specs.declared.types.Member.{Member}
+use Rattle.c_tree.specs.Layout.{members_of}
+use Rattle.c_show.specs.declared.held.Held.TheVariants as held
+use Rattle.c_show.specs.Printed.{Showing, Told, is_char, byte_of, leaf_text, string_text}
+use Rattle.ps_run.specs.Runs.{Operates}
+use Rattle.ps_terms.specs.Machine.{Obj, Key}
+use Rattle.ps_terms.specs.Printing.{word, Printing, HasKey}
+use Rattle.ps_print.specs.Items.{Thing}
+use Rattle.ps_print.specs.Things.{Tail, Bare, Dangling, Strung, int_thing, unsigned_thing, char_thing, pointer_thing, string_thing, array_thing, struct_thing}
+
+-- room for a value of so many arrays and structs within one another
+abbrev pub need : ℕ → ℕ
+need zero = 13
+need (suc k) = 6 + need k
+
+-- the text of a pointer to a type of a kind, and what follows it
+pub data PointerText {D : Type 0} {Op : Operates D} (prints : Printing Op) (d : D) (kind : List ℕ) (n : ℤ) : List ℕ → Tail → Type 0 where
+  bare : (text : List ℕ) → bytes_eq kind (codes "char") ≡ false → prints.pointer d n ≡ Some text → PointerText prints d kind n text Bare
+  dangling : (text : List ℕ) → bytes_eq kind (codes "char") ≡ true → prints.pointer d n ≡ Some text → prints.chars_from d n ≡ Some 0 → PointerText prints d kind n text Dangling
+  strung : (text string : List ℕ) (count : ℕ) → bytes_eq kind (codes "char") ≡ true → prints.pointer d n ≡ Some text → prints.chars_from d n ≡ Some (suc count)
+      → prints.chars d (codes "d") n (suc count) ≡ Some string → PointerText prints d kind n (text ++ (codes " " ++ string)) Strung
+
+-- a member of a struct, by its place in the array of members: an array of its name, its offset and its type
+pub record IsMember (s : StoreState) (members : ArrayId) (i offset : ℕ) (type : DictId) : Type 0 where
+  pub member : ArrayId
+  pub executable : Bool
+  pub at : slice_get (elements_of s members) i ≡ Some (Array member executable)
+  pub its_offset : slice_get (elements_of s member) 1 ≡ Some (Int (word offset))
+  pub its_type : slice_get (elements_of s member) 2 ≡ Some (Dict type)
+  pub small : offset < 2 ^ 32
+
+mutual
+  -- a value of a type that is at most k arrays and structs deep lies at a place: its leaves, and what is shown for it
+  pub data Laid {D : Type 0} (Op : Operates D) (prints : Printing Op) (s : StoreState) (d : D) (space : List ℕ) (defs : List StructDef) : ℕ → CType → DictId → ℕ → List Showing → Thing → Type 0 where
+    an_int : (k : ℕ) (type : DictId) (place v : ℕ) → v < 2 ^ 32 → HasKey s type (codes "kind") (Key (codes "int"))
+        → prints.value d space (word place) (codes "w") ≡ Some (word v) → Laid Op prints s d space defs k IntType type place (Told (held.Number v) ∷ []) (int_thing v)
+    an_unsigned : (k : ℕ) (type : DictId) (place v : ℕ) → v < 2 ^ 32 → HasKey s type (codes "kind") (Key (codes "unsigned"))
+        → prints.value d space (word place) (codes "w") ≡ Some (word v) → Laid Op prints s d space defs k Unsigned type place (Told (held.Number v) ∷ []) (unsigned_thing v)
+    a_char : (k : ℕ) (type : DictId) (place : ℕ) (n : ℤ) (x : Showing) → HasKey s type (codes "kind") (Key (codes "char"))
+        → prints.value d space (word place) (codes "c") ≡ Some n → prints.char_text n ≡ leaf_text Char x → Laid Op prints s d space defs k Char type place (x ∷ []) (char_thing (prints.char_text n))
+    a_pointer : (k : ℕ) (b : Rc (Unit {0}) Global) (t : CType) (type target : DictId) (kind : List ℕ) (place : ℕ) (n : ℤ) (x : Showing) (text : List ℕ) (tail : Tail)
+        → HasKey s type (codes "kind") (Key (codes "pointer")) → HasKey s type (codes "to") (Obj (Dict target)) → HasKey s target (codes "kind") (Key kind)
+        → prints.value d space (word place) (codes "p") ≡ Some n → PointerText prints d kind n text tail → text ≡ leaf_text (Pointer' b t) x
+        → Laid Op prints s d space defs k (Pointer' b t) type place (x ∷ []) (pointer_thing tail text)
+    a_string : (k : ℕ) (b : Rc (Unit {0}) Global) (n : ℕ) (type item : DictId) (kind : List ℕ) (place : ℕ) (xs : List Showing) → bytes_eq kind (codes "char") ≡ true → length xs ≡ n
+        → HasKey s type (codes "kind") (Key (codes "array")) → HasKey s type (codes "to") (Obj (Dict item)) → HasKey s type (codes "count") (Obj (Int (pos n)))
+        → HasKey s item (codes "kind") (Key kind) → prints.chars d space (word place) n ≡ Some (string_text (map byte_of xs))
+        → Laid Op prints s d space defs (suc k) (Array' b Char n) type place xs (string_thing (string_text (map byte_of xs)))
+    an_array : (k : ℕ) (b : Rc (Unit {0}) Global) (t : CType) (n : ℕ) (type item : DictId) (kind : List ℕ) (size place : ℕ) (xs : List Showing) (is : List Thing)
+        → is_char (Some t) ≡ false → bytes_eq kind (codes "char") ≡ false
+        → HasKey s type (codes "kind") (Key (codes "array")) → HasKey s type (codes "to") (Obj (Dict item)) → HasKey s type (codes "count") (Obj (Int (pos n)))
+        → HasKey s item (codes "kind") (Key kind) → HasKey s item (codes "size") (Obj (Int (word size)))
+        → size < 2 ^ 32 → place < 2 ^ 32 → n < 2 ^ 31 → 1 ≤ n
+        → EachLaid Op prints s d space defs k t item size n place xs is → Laid Op prints s d space defs (suc k) (Array' b t n) type place xs (array_thing is)
+    a_struct : (k number : ℕ) (type : DictId) (members : ArrayId) (executable : Bool) (place : ℕ) (xs : List Showing) (is : List Thing)
+        → HasKey s type (codes "kind") (Key (codes "struct")) → HasKey s type (codes "members") (Obj (Array members executable))
+        → length (elements_of s members) ≡ length is → place < 2 ^ 32 → length is < 2 ^ 31 → 1 ≤ length is
+        → MembersLaid Op prints s d space defs k (members_of defs number) members 0 place xs is → Laid Op prints s d space defs (suc k) (Struct number) type place xs (struct_thing is)
+
+  -- so many of a type lie one after another
+  pub data EachLaid {D : Type 0} (Op : Operates D) (prints : Printing Op) (s : StoreState) (d : D) (space : List ℕ) (defs : List StructDef) : ℕ → CType → DictId → ℕ → ℕ → ℕ → List Showing → List Thing → Type 0 where
+    none : (k : ℕ) (t : CType) (item : DictId) (size place : ℕ) → EachLaid Op prints s d space defs k t item size 0 place [] []
+    more : (k : ℕ) (t : CType) (item : DictId) (size n place : ℕ) (xs ys : List Showing) (i : Thing) (is : List Thing)
+        → Laid Op prints s d space defs k t item place xs i → EachLaid Op prints s d space defs k t item size n ((size + place) % 2 ^ 32) ys is
+        → EachLaid Op prints s d space defs k t item size (suc n) place (xs ++ ys) (i ∷ is)
+
+  -- the members of a struct from one on lie at their offsets
+  pub data MembersLaid {D : Type 0} (Op : Operates D) (prints : Printing Op) (s : StoreState) (d : D) (space : List ℕ) (defs : List StructDef) : ℕ → List Member → ArrayId → ℕ → ℕ → List Showing → List Thing → Type 0 where
+    no_member : (k : ℕ) (members : ArrayId) (i place : ℕ) → MembersLaid Op prints s d space defs k [] members i place [] []
+    a_member : (k : ℕ) (m : Member) (ms : List Member) (members : ArrayId) (i place offset : ℕ) (type : DictId) (xs ys : List Showing) (thing : Thing) (is : List Thing)
+        → IsMember s members i offset type → Laid Op prints s d space defs k m.ctype type ((place + offset) % 2 ^ 32) xs thing
+        → MembersLaid Op prints s d space defs k ms members (suc i) place ys is
+        → MembersLaid Op prints s d space defs k (m ∷ ms) members i place (xs ++ ys) (thing ∷ is)

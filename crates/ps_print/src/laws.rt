@@ -1,0 +1,39 @@
+// What holds of the prelude.
+
+ghost use Rattle.std.specs.Prelude.{ℕ, ◌+◌, ◌≤◌, ◌++◌, ◌∷◌, [], List};
+ghost use Rattle.ps_store.specs.declared.object.PsObj.{PsObj};
+ghost use Rattle.ps_store.specs.declared.object.PsObj.TheVariants.{Int, Dict};
+ghost use Rattle.ps_store.specs.declared.object.ArrayId.{ArrayId};
+ghost use Rattle.ps_store.specs.declared.object.DictId.{DictId};
+ghost use Rattle.ps_store.specs.StoreState.{StoreState};
+ghost use Rattle.ps_step.specs.declared.item.Item.{Item};
+ghost use Rattle.c_tree.specs.declared.types.CType.{CType};
+ghost use Rattle.c_tree.specs.declared.types.StructDef.{StructDef};
+ghost use Rattle.c_show.specs.Printed.{Showing, shown};
+ghost use Rattle.ps_terms.specs.Machine.{Obj, Key};
+ghost use Rattle.ps_terms.specs.Stands.{Are, Frames, core};
+ghost use Rattle.ps_terms.specs.Printing.{word, Printing};
+ghost use Rattle.ps_print.specs.Prelude.{print_body};
+ghost use Rattle.ps_print.specs.Words.{Holds, RoomFor};
+ghost use Rattle.ps_print.specs.Items.{Thing};
+ghost use Rattle.ps_print.specs.Things.{print_steps};
+ghost use Rattle.ps_print.specs.Leads.{Leads};
+ghost use Rattle.ps_print.specs.Loaded.{start, executed, loaded, digits_id};
+ghost use Rattle.ps_terms.specs.Printing.{further};
+ghost use Rattle.ps_print.specs.Laid.{Laid};
+
+use ps_run::Dialect;
+
+/// A run of a type's printer on a place appends the text of the value that lies there, takes the place and the type, and
+/// leaves the store and all else as it was, after exactly so many steps, at most 7,951 for each of 1,000 items.
+pub fn values_are_printed<D: Dialect>()
+    ensures run { (prints : Printing D.operates) (s : StoreState) (ds : List DictId) (digits : ArrayId) (d : D) (space : List ℕ) (defs : List StructDef) (t : CType) (type : DictId) (place : ℕ) (xs : List Showing) (i : Thing) (left : ℕ) (operands o : List PsObj) (items under : List Item) → Holds s ds digits → Laid D.operates prints s d space defs 63 t type place xs i → RoomFor 400 o under → Are s operands (Obj (Dict type) ∷ Obj (Int (word place)) ∷ Key space ∷ []) → Frames s under items (print_body ∷ []) → Leads D.operates (print_steps i left) d (core s ds (operands ++ o) items) left (prints.append d (shown defs t xs)) (core s ds o under) }
+    ensures steps { (prints : Printing D.operates) (s : StoreState) (d : D) (space : List ℕ) (defs : List StructDef) (t : CType) (type : DictId) (place : ℕ) (xs : List Showing) (i : Thing) (left : ℕ) → Laid D.operates prints s d space defs 63 t type place xs i → print_steps i left ≤ left + 7951006 }
+{}
+
+/// A run of the prelude's text in a new state comes to its end in 75 steps, whatever the dialect, and where it is loaded its
+/// words mean what its terms say.
+pub fn prelude_is_loaded<D: Dialect>()
+    ensures run { (left : ℕ) (d : D) → Leads D.operates (further 75 left) d start left d executed }
+    ensures holds { Holds loaded.store loaded.dictionaries digits_id }
+{}
