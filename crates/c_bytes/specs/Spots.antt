@@ -67,7 +67,7 @@ abbrev pub only_place : List PsObj → Option (PsObj × PsObj)
 only_place (at ∷ space ∷ []) = Some (space, at)
 only_place xs = None
 
-abbrev place_in : PsCore → PsObj × PsObj → Acted Place
+abbrev pub place_in : PsCore → PsObj × PsObj → Acted Place
 place_in c p =
     results.◌>>=◌ (text_of c.store p.0) (λ text. results.◌>>=◌ (bits_of p.1) (λ n. results.◌>>=◌ (space_named text) (λ space. Ok (record { space = space; at = n }))))
 
