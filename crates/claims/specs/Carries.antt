@@ -10,7 +10,7 @@ use Rattle.c_session.specs.declared.command.Command.{Command}
 use Rattle.c_session.specs.declared.command.Command.TheVariants as command
 use Rattle.c_session.specs.Commands.{Sides, OneSide, TwoSides}
 use Rattle.c_reading.specs.Readings.{MayWrite}
-use Rattle.claims.specs.Side.{SessionState, first_side, first_session}
+use Rattle.claims.specs.Side.{SideState, SessionState, first_side, first_session}
 use Rattle.claims.specs.Lines.{Reply}
 use Rattle.claims.specs.Tables.{RunsTable}
 use Rattle.claims.specs.Outcome.{Answers}
@@ -62,7 +62,7 @@ StartAs prelude bs s = elim bs.second as (λ o. Type 0) [
   | Some b ↦ Starts prelude bs.first MIPS s.first × ((t : Starting) × (s.second ≡ Some t) × Starts prelude b SPARC t)
 ]
 
-abbrev begins_side : List ℕ → Starting → _
+abbrev begins_side : List ℕ → Starting → SideState
 begins_side input s = first_side machine_behaviour input s.table s.machine
 
 abbrev pub begins : (input : List ℕ) → Startings → SessionState

@@ -1,5 +1,5 @@
 -- Images and tables: what they are loaded and run to.
-use Rattle.std.specs.Prelude.{◌≡◌, ℕ, pos, Bool, true, false, List, [], ◌∷◌, bytes_eq, codes, ◌&&◌, reverse, Option, Some, None, Result, Ok, Err}
+use Rattle.std.specs.Prelude.{◌≡◌, ℕ, pos, Bool, true, false, nat_eq, List, [], ◌∷◌, length, bytes_eq, codes, ◌&&◌, Option, Some, None, Result, Ok, Err}
 use Rattle.std.specs.Ordering.{int_eq}
 use Rattle.ps_store.specs.declared.object.PsObj.{PsObj}
 use Rattle.ps_store.specs.declared.object.PsObj.TheVariants.{Int, Str, Array, Dict}
@@ -59,13 +59,15 @@ pub data TableFault : Type 0 where
 abbrev pub finished : StoreState → DictId → StoreState
 finished s d = record s { top = Some d; closed = mark_of s.table }
 
-abbrev shaped : StoreState → (target : ℕ) → (has : Bool) → Result StoreState TableFault
-shaped s target true = Ok s
-shaped s target false = Err Shape
+abbrev shaped : StoreState → (has_shape : Bool) → Result StoreState TableFault
+shaped s true = Ok s
+shaped s false = Err Shape
 
--- one dictionary and nothing else
+-- one dictionary and nothing else, on either stack
 abbrev left_by : (target : ℕ) → PsCore → List PsObj → Result StoreState TableFault
-left_by target c (Dict d ∷ []) = shaped (finished c.store d) target (has_shape (finished c.store d) target)
+left_by target c (Dict d ∷ []) =
+    let s = finished c.store d in
+    shaped s (nat_eq (length c.dictionaries) (length s.base) && has_shape s target)
 left_by target c xs = Err Shape
 
 abbrev result_of : (target : ℕ) → Answer → PsCore → Result StoreState TableFault
