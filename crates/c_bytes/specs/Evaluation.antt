@@ -1,7 +1,6 @@
 -- What an expression means over the bytes of a target.
-use Rattle.std.specs.Prelude.{ℕ, pos, Bool, List, [], ◌∷◌, ◌==◌, Option, Some, None}
+use Rattle.std.specs.Prelude.{ℕ, pos, List, [], ◌∷◌, ◌==◌, Option, Some, None}
 use Rattle.ldb_words.specs.declared.kinds.Kind.{Kind}
-use Rattle.c_tree.specs.declared.types.CType.{CType}
 use Rattle.c_tree.specs.declared.types.Leaf.{Leaf}
 use Rattle.c_tree.specs.declared.typed.Typed.{Typed}
 use Rattle.c_tree.specs.declared.typed.Typed.TheVariants.{Assign'}
@@ -12,7 +11,7 @@ use Rattle.frame_bytes.specs.declared.frame.Space.TheVariants.{Memory}
 use Rattle.frame_bytes.specs.Bytes.{Bytes, stored}
 use Rattle.table_model.specs.declared.found.Found.{Found}
 use Rattle.dialect_model.specs.TableUse.{gives, refuses, ◌>>=◌}
-use Rattle.c_bytes.specs.Spots.{IllTyped, Means, Scene, Spot, Named, Pointed, where_is, object_of, pointer, moved, or_range, load, live_at, fetched_from, leaf_of, moved_spot, member_at, address_of, place_of_spot, bytes_with}
+use Rattle.c_bytes.specs.Spots.{IllTyped, Means, Scene, Spot, Pointed, where_is, object_of, pointer, moved, or_range, load, live_at, fetched_from, leaf_of, moved_spot, member_at, address_of, place_of_spot, bytes_with}
 use Rattle.c_bytes.specs.Operators.{converted, combined, changed}
 
 module _ (sc : Scene) where

@@ -1,5 +1,5 @@
 -- Where an lvalue stands in a target, and how it is read.
-use Rattle.std.specs.Prelude.{◌≡◌, ◌≢◌, ◌⊎◌, ◌≤◌, ◌++◌, take, map, ℕ, ℤ, ◌+ℤ◌, zero, suc, pos, Bool, true, false, nat_eq, if◌then◌else◌, List, [], ◌∷◌, length, codes, slice_get, Option, Some, None, Ok, Err}
+use Rattle.std.specs.Prelude.{◌≡◌, ◌≢◌, ◌⊎◌, ◌≤◌, ◌++◌, take, map, ℕ, ℤ, ◌+ℤ◌, zero, suc, pos, Bool, true, false, List, [], ◌∷◌, length, codes, slice_get, Option, Some, None, Ok, Err}
 use Rattle.ldb_words.specs.Word.{sum_of}
 use Rattle.ldb_words.specs.declared.kinds.Kind.{Kind}
 use Rattle.ldb_words.specs.declared.kinds.Undef.{Undef}

@@ -80,10 +80,12 @@ regs = inl (refl, refl)
 
 pauses : Answers machine_behaviour start (Some command.Continue) (codes "pause at 00400008" ∷ []) paused.session
 unfolding computing
-pauses =
-    (Ok start.first, start.first,
-    record { use_after = now; comes = (Ok tt, now, (refl, inl refl), (Ok start.first, now, (refl, refl), (Ok tt, now, (refl, inl refl), (refl, refl)))); leaves = refl },
-    (rw zeros_long refl, refl))
+pauses = (
+  Ok start.first,
+  start.first,
+  record { use_after = now; comes = (Ok tt, now, (refl, inl refl), (Ok start.first, now, (refl, refl), (Ok tt, now, (refl, inl refl), (refl, refl)))); leaves = refl },
+  (rw zeros_long refl, refl),
+)
 
 -- ---- at the pause
 
@@ -96,14 +98,16 @@ no_frames = rw zeros_long refl
 
 lists_frames : Answers machine_behaviour paused.session (Some command.Frames) (codes "frames 0" ∷ []) paused.session
 unfolding computing
-lists_frames =
-    (Ok (record { lines = codes "frames 0" ∷ []; side = here }), here,
-    record {
-      use_after = now;
-      comes = (Ok tt, now, (refl, inl refl), (Ok (record { lines = codes "frames 0" ∷ []; side = here }), now, (Ok [], now, told no_frames, (refl, refl)), (Ok tt, now, (refl, inl refl), (refl, refl))));
-      leaves = refl;
-    },
-    (refl, refl))
+lists_frames = (
+  Ok (record { lines = codes "frames 0" ∷ []; side = here }),
+  here,
+  record {
+    use_after = now;
+    comes = (Ok tt, now, (refl, inl refl), (Ok (record { lines = codes "frames 0" ∷ []; side = here }), now, (Ok [], now, told no_frames, (refl, refl)), (Ok tt, now, (refl, inl refl), (refl, refl))));
+    leaves = refl;
+  },
+  (refl, refl),
+)
 
 -- ---- `ps 2 3 add` and `ps 1 0 idiv`
 
@@ -183,10 +187,12 @@ fails_to_divide = (raw.ps_result here (Err (Error UndefinedResult)) dial (after 
 
 exits : Answers machine_behaviour paused.session (Some command.Continue) (codes "exited 7" ∷ []) (resumed machine_behaviour ByContinue paused.session).session
 unfolding computing
-exits =
-    (Ok here, here,
-    record { use_after = now; comes = (Ok tt, now, (refl, inl refl), (Ok here, now, (refl, refl), (Ok tt, now, (refl, inl refl), (refl, refl)))); leaves = refl },
-    (refl, refl))
+exits = (
+  Ok here,
+  here,
+  record { use_after = now; comes = (Ok tt, now, (refl, inl refl), (Ok here, now, (refl, refl), (Ok tt, now, (refl, inl refl), (refl, refl)))); leaves = refl },
+  (refl, refl),
+)
 
 abbrev over : SessionState
 over = (resumed machine_behaviour ByContinue paused.session).session

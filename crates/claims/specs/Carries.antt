@@ -1,5 +1,5 @@
 -- Whole sessions, and when images with their tables carry a program.
-use Rattle.std.specs.Prelude.{◌≡◌, ◌⊎◌, ◌≤◌, ◌^◌, ℕ, Bool, true, false, List, [], ◌∷◌, ◌++◌, length, Option, Some, None, Ok}
+use Rattle.std.specs.Prelude.{◌≡◌, ◌⊎◌, ◌≤◌, ◌^◌, ℕ, List, [], ◌∷◌, ◌++◌, length, Option, Some, None, Ok}
 use Rattle.std.specs.List.{AllByRecursion}
 use Rattle.machine_state.specs.declared.layout.TheConstants.{MIPS, SPARC}
 use Rattle.machine_state.specs.State.{MachineState, Behaviour}

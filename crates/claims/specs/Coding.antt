@@ -3,10 +3,8 @@ use Rattle.std.specs.Prelude.{◌≡◌, ◌≢◌, ◌⊎◌, ℕ, true, false,
 use Rattle.std.specs.List.{AllByRecursion}
 use Rattle.ldb_words.specs.Word.{signed}
 use Rattle.machine_state.specs.declared.layout.TheConstants.{CONTEXT}
-use Rattle.machine_state.specs.State.{MachineState}
 use Rattle.c_tree.specs.Types.{type_of, is_struct}
 use Rattle.c_tree.specs.Layout.{leaves_of}
-use Rattle.c_evaluation.specs.Evaluation.{pick}
 use Rattle.ps_store.specs.declared.object.PsObj.{PsObj}
 use Rattle.ps_store.specs.declared.object.PsObj.TheVariants.{Int}
 use Rattle.ps_store.specs.declared.object.DictId.{DictId}
@@ -16,14 +14,13 @@ use Rattle.ps_step.specs.declared.machine.PsCore.{PsCore}
 use Rattle.ps_run.specs.Runs.{Answer, Runs}
 use Rattle.frame_bytes.specs.declared.frame.Frame.{Frame}
 use Rattle.table_model.specs.Frames.{frame_at, point_of}
-use Rattle.table_model.specs.Symbols.{scope_of}
 use Rattle.dialect_model.specs.Dial.{Dial, error_of}
 use Rattle.dialect_model.specs.Operating.{Operates}
 use Rattle.dialect_model.specs.TableUse.{TableUse, use_of, Trouble, Refused, Kind, Spent, Wanting, Eval, trouble_of, gives, ◌>>=◌}
 use Rattle.dialect_model.specs.Running.{Run}
 use Rattle.dialect_model.specs.Near.{slackened}
 use Rattle.c_session.specs.Commands.{AsValue}
-use Rattle.c_bytes.specs.Spots.{Cause, Reason, Disturbed, Scene, Named, only_place, place_in}
+use Rattle.c_bytes.specs.Spots.{Cause, Reason, Disturbed, Scene, Named, place_in}
 use Rattle.c_bytes.specs.Evaluation.{values_of, fetch_all}
 use Rattle.claims.specs.Side.{SideState, Change, OnSide, MOST_STEPS, row_of, memory_of, target_of}
 use Rattle.claims.specs.Raw.{ps_ready}

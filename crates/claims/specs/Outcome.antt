@@ -3,7 +3,7 @@
 --   Stopped  all
 --   Running  `continue`, `turns`, `regs`, `quit`
 --   Ended    `quit`
-use Rattle.std.specs.Prelude.{◌≡◌, ◌⊎◌, ℕ, Bool, true, false, List, [], ◌∷◌, ◌++◌, codes, decimal, Option, Some, None, Result, Ok, Err}
+use Rattle.std.specs.Prelude.{◌≡◌, ◌⊎◌, Bool, true, false, [], ◌∷◌, ◌++◌, codes, decimal, Option, Some, None, Result, Ok, Err}
 use Rattle.machine_state.specs.State.{Behaviour}
 use Rattle.dialect_model.specs.TableUse.{TableUse, use_of, Wanting, gives, takes_memory, ◌>>=◌}
 use Rattle.c_session.specs.declared.command.Command.{Command}

@@ -1,5 +1,5 @@
 -- `continue` and `step`: each side runs to its event, and the events are merged.
-use Rattle.std.specs.Prelude.{ℕ, ◌+◌, Bool, true, false, List, [], ◌∷◌, ◌++◌, if◌then◌else◌, Option, Some, None, Result, Ok, Err}
+use Rattle.std.specs.Prelude.{ℕ, Bool, true, false, List, [], ◌∷◌, ◌++◌, if◌then◌else◌, Option, Some, None, Result, Ok, Err}
 use Rattle.ldb_words.specs.Word.{sum_of}
 use Rattle.ldb_words.specs.declared.event.FaultKind.TheVariants as kind
 use Rattle.ldb_words.specs.declared.event.Outside.{Outside}

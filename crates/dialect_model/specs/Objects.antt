@@ -1,5 +1,5 @@
 -- Operators on pointers and on the objects that they point into.
-use Rattle.std.specs.Prelude.{ℕ, ℤ, zero, suc, pos, negsuc, ◌+ℤ◌, ◌-ℤ◌, ◌*ℤ◌, int_div, true, false, ◌&&◌, nat_eq, nat_le, if◌then◌else◌, List, [], ◌∷◌, length, drop, codes, Option, Some, None, Ok, Err}
+use Rattle.std.specs.Prelude.{ℕ, ℤ, zero, suc, pos, negsuc, ◌+ℤ◌, ◌-ℤ◌, ◌*ℤ◌, true, false, ◌&&◌, nat_eq, nat_le, if◌then◌else◌, List, [], ◌∷◌, length, drop, codes, Option, Some, None, Ok, Err}
 use Rattle.ldb_words.specs.Word.{signed, sum_of}
 use Rattle.ldb_words.specs.declared.kinds.Kind.TheVariants.{Byte}
 use Rattle.ps_store.specs.declared.object.PsObj.{PsObj}

@@ -7,7 +7,7 @@ use Rattle.c_operators.specs.Bits.{low_byte}
 use Rattle.c_show.specs.Printed.{is_printable, number_text, string_text}
 use Rattle.ps_store.specs.StoreState.{StoreState}
 use Rattle.ps_store.specs.Store.{bytes_of}
-use Rattle.ps_step.specs.declared.fault.PsError.TheVariants.{RangeCheck, TypeCheck}
+use Rattle.ps_step.specs.declared.fault.PsError.TheVariants.{RangeCheck}
 use Rattle.ps_step.specs.declared.machine.PsCore.{PsCore}
 use Rattle.ps_step.specs.Results.{◌>>=◌}
 use Rattle.ps_step.specs.Arithmetic.{integer_of}

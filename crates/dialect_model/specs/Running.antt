@@ -1,5 +1,5 @@
 -- Runs of PostScript in a command.
-use Rattle.std.specs.Prelude.{◌≡◌, ◌⊎◌, ◌≤◌, ℕ, zero, ◌+◌, ◌-◌, true, [], ◌∷◌, length, reverse, Option, Some, None, Result, Ok, Err}
+use Rattle.std.specs.Prelude.{◌≡◌, ◌⊎◌, ◌≤◌, ℕ, zero, ◌-◌, true, [], ◌∷◌, reverse, Option, Some, None, Result, Ok, Err}
 use Rattle.ps_store.specs.declared.object.Part.TheVariants.{Command}
 use Rattle.ps_store.specs.declared.object.DictId.{DictId}
 use Rattle.ps_store.specs.declared.object.PsObj.{PsObj}
