@@ -1,0 +1,15 @@
+pub mod Side
+pub mod Lines
+pub mod Breaks
+pub mod Frames
+pub mod Printing
+pub mod Names
+pub mod Mentions
+pub mod Reading
+pub mod Evaluating
+pub mod Raw
+pub mod Coding
+pub mod Resumes
+pub mod Outcome
+pub mod Tables
+pub mod Carries

@@ -1,0 +1,11 @@
+pub mod Dial
+pub mod Words
+pub mod Memory
+pub mod Objects
+pub mod Printing
+pub mod Operators
+pub mod Forcing
+pub mod Operating
+pub mod TableUse
+pub mod Running
+pub mod Near
