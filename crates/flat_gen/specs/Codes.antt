@@ -22,6 +22,8 @@ use Rattle.flat_ir.specs.declared.code.Landing.TheVariants as landing
 use Rattle.flat_ir.specs.declared.code.FlatOp.{FlatOp}
 use Rattle.flat_ir.specs.declared.code.FlatOp.TheVariants.{Set, StaticAddress, FrameAddress, Get, Put, Load, Store, Fill, Copy, ReadRegister, WriteRegister, Extend, Unary, Binary, Scale, Apart, Jump, JumpIf, Pass, Argument, Call, Return, Stop, Ask}
 use Rattle.flat_ir.specs.declared.code.FlatFunction.{FlatFunction}
+use Rattle.flat_ir.specs.declared.code.FlatCode.{FlatCode}
+use Rattle.flat_gen.specs.Movers.{movers}
 use Rattle.flat_gen.specs.declared.layout.Layout.{Layout}
 use Rattle.flat_gen.specs.Layout.{layout}
 
@@ -161,3 +163,7 @@ flat_by c f l = record { frame = l.frame; locals = l.locals; code = function_cod
 -- the flat code of a function, whose frame begins with so many bytes of the target's own
 unfoldable pub flat_function : (linkage : ℕ) → SlotCode → SlotFunction → FlatFunction
 flat_function linkage c f = flat_by c f (layout linkage f)
+
+-- the flat code of a program: of its functions, and of copies of its structs
+unfoldable pub flat_code : (linkage : ℕ) → SlotCode → FlatCode
+flat_code linkage c = record { functions = map (flat_function linkage c) c.functions; main = c.main; movers = movers c }

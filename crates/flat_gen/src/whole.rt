@@ -1,6 +1,6 @@
 // The flat code of a program.
 ghost use Rattle.std.specs.Prelude.{◌≡◌, map, IfOk};
-ghost use Rattle.flat_gen.specs.Codes.{flat_function as flat_function_of};
+ghost use Rattle.flat_gen.specs.Codes.{flat_function as flat_function_of, flat_code as flat_code_of};
 
 use crate::functions::flat_function;
 use crate::movers::movers_of;
@@ -26,12 +26,12 @@ fn flat_functions(
 }
 
 /// The flat code of a program, whose frames begin with so many bytes of the target's own.
+#[tactic(auto, unfolding(crate::specs::Codes::flat_code))]
 pub fn flat_code(alloc: Global, linkage: u32, slots: &SlotCode) -> Result<FlatCode, AllocError>
-    ensures functions { IfOk result (λ f. f.functions ≡ map (flat_function_of linkage slots.now) slots.now.functions) }
-    ensures main { IfOk result (λ f. f.main ≡ slots.now.main) }
+    ensures { IfOk result (λ f. f ≡ flat_code_of linkage slots.now) }
 {
     let functions = flat_functions(alloc, linkage, slots, slots.functions.as_slice())?;
-    let movers = movers_of(alloc, slots.structs.as_slice())?;
+    let movers = movers_of(alloc, slots)?;
     Ok(FlatCode {
         functions,
         main: slots.main,

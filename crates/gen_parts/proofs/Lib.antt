@@ -1,2 +1,4 @@
 pub mod Computed
+pub mod Given
+pub mod Links
 pub mod Starts

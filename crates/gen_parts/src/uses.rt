@@ -42,7 +42,7 @@ pub fn put_use(
 }
 
 /// So many words behind an offset in the text.
-fn words_on(at: u32, words: u32) -> Result<u32, AllocError>
+pub fn words_on(at: u32, words: u32) -> Result<u32, AllocError>
     ensures { IfOk result (λ n. n ≡ at + words * 4) }
 {
     let bytes = words.checked_mul(4).ok_or(AllocError)?;

@@ -6,7 +6,6 @@ use Rattle.mips_isa.specs.declared.insn.Insn.{Insn}
 use Rattle.mips_isa.specs.declared.insn.Insn.TheVariants.{Addu, Sltu, J, Jal, Jr, Beq, Bne, Addiu, Lui, Lb, Lw, Sb, Sw}
 use Rattle.flat_ir.specs.declared.moves.MoveStep.{MoveStep}
 use Rattle.flat_ir.specs.declared.moves.MoveStep.TheVariants as step
-use Rattle.flat_ir.specs.declared.moves.Mover.{Mover}
 use Rattle.mips_gen.specs.Insns.{no_op, word_insns}
 
 abbrev pub leaf_load : Kind → Insn
@@ -60,21 +59,13 @@ step_insns back before (step.Items count) = items_insns count
 step_insns back before step.Again = again_insns before
 step_insns back before (step.Struct number words) = struct_insns words
 
-abbrev pub steps_insns : (back : Bool) (before : MoveStep) → List MoveStep → List Insn
-steps_insns back before [] = []
-steps_insns back before (s ∷ rest) = step_insns back before s ++ steps_insns back s rest
+-- A copy keeps its return address, and returns by it.
+abbrev pub copy_begin : List Insn
+copy_begin = Sw 31 11 0 ∷ []
 
--- A copy keeps its return address, goes through its steps, and returns.
-abbrev pub copy_insns : (back : Bool) → List MoveStep → List Insn
-copy_insns back steps = (Sw 31 11 0 ∷ []) ++ steps_insns back step.Again steps ++ Lw 31 11 0 ∷ no_op ∷ Jr 31 ∷ no_op ∷ []
+abbrev pub copy_end : List Insn
+copy_end = Lw 31 11 0 ∷ no_op ∷ Jr 31 ∷ no_op ∷ []
 
 -- Where the place to copy to lies above the one to copy from, the copy descends from their ends.
 abbrev pub choice_insns : (size : ℕ) → List Insn
 choice_insns size = (Lui 11 0x7fef ∷ Sltu 10 9 8 ∷ Beq 10 0 7 ∷ no_op ∷ []) ++ word_insns 10 size ++ Addu 8 8 10 ∷ Addu 9 9 10 ∷ J 0 ∷ no_op ∷ []
-
-unfoldable pub mover_insns : Mover → List Insn
-mover_insns m = choice_insns m.size ++ copy_insns false m.ascending ++ copy_insns true m.descending
-
-abbrev pub movers_insns : List Mover → List Insn
-movers_insns [] = []
-movers_insns (m ∷ rest) = mover_insns m ++ movers_insns rest

@@ -1,33 +1,14 @@
 // The code that copies structs. A is where to, B is where from; `$11` is the address of the words that a copy keeps, which lie from the end of the stack on: its return address, and the counts of items.
-ghost use Rattle.std.specs.Prelude.{◌≡◌, ◌+◌, ◌*◌, [], ◌∷◌, ◌++◌, length, true, false, IfOk, OnOk};
-ghost use Rattle.flat_ir.specs.declared.moves.MoveStep.TheVariants as step;
-ghost use Rattle.mips_gen.specs.Parts.{direction_name as name_of_direction, jump_use, step_uses, copy_uses, choice_uses};
-ghost use Rattle.mips_gen.specs.Movers.{leaf_load as load_of_leaf, leaf_store as store_of_leaf, leaf_bytes as bytes_of_leaf, back_by as back_by_of, leaf_insns, skip_insns, items_insns, over_item as over_item_of, again_insns, struct_insns, step_insns, copy_insns, choice_insns};
+ghost use Rattle.std.specs.Prelude.{◌≡◌, ◌++◌, true, false, OnOk};
+ghost use Rattle.mips_gen.specs.Movers.{leaf_load as load_of_leaf, leaf_store as store_of_leaf, leaf_bytes as bytes_of_leaf, back_by as back_by_of, leaf_insns, skip_insns, items_insns, over_item as over_item_of, again_insns, struct_insns, step_insns, copy_begin, copy_end, choice_insns};
 
 use crate::instructions::{addiu, addu, beq, bne, j, jal, jr, lb, lui, lw, no_op, sb, sltu, sw};
 use crate::registers::{A, B, OWN, OWN_TOO, RETURN_ADDRESS, STACK_END_HIGH, ZERO};
 use crate::writing::{put, put_all, put_word};
 use flat_ir::MoveStep;
-use gen_parts::{ascending_name, descending_name, put_use};
-use ldb_words::{Kind, Text};
+use ldb_words::Kind;
 use mips_isa::Insn;
-use obj_file::{Form, Use};
-use std::alloc::{AllocError, Global};
-
-/// The text that is made, and its uses.
-#[derive(Drop)]
-pub struct Making {
-    pub code: Vec<Insn>,
-    pub uses: Vec<Use>,
-}
-
-/// The offset of the next instruction in the text.
-pub fn offset(code: &[Insn]) -> Result<u32, AllocError>
-    ensures { IfOk result (λ n. n ≡ length code.now * 4) }
-{
-    let words = u32::try_from(code.len()).map_err(|_| AllocError)?;
-    words.checked_mul(4).ok_or(AllocError)
-}
+use std::alloc::AllocError;
 
 /// The load of a leaf.
 fn leaf_load(kind: Kind) -> Insn
@@ -147,29 +128,19 @@ fn put_again(code: &mut Vec<Insn>, before: MoveStep) -> Result<(), AllocError>
 }
 
 /// A struct inside, whose words lie behind those of this copy.
-fn put_struct(alloc: Global, making: &mut Making, name: Text, words: u8) -> Result<(), AllocError>
-    ensures code { OnOk result (making.new.code.items ≡ making.old.code.items ++ struct_insns words) }
-    ensures uses { OnOk result (making.new.uses.items ≡ making.old.uses.items ++ jump_use (length making.old.code.items + 1) name ∷ []) }
+fn put_struct(code: &mut Vec<Insn>, words: u8) -> Result<(), AllocError>
+    ensures { OnOk result (code.new.items ≡ code.old.items ++ struct_insns words) }
 {
     let bytes = 4 * u16::from(words);
-    put(&mut making.code, addiu(OWN_TOO, OWN_TOO, bytes))?;
-    let at = offset(&making.code)?;
-    put_use(&mut making.uses, at, Form::Jump, name, 0)?;
     put_all(
-        &mut making.code,
-        &[jal(), no_op(), addiu(OWN_TOO, OWN_TOO, back_by(bytes))],
+        code,
+        &[
+            addiu(OWN_TOO, OWN_TOO, bytes),
+            jal(),
+            no_op(),
+            addiu(OWN_TOO, OWN_TOO, back_by(bytes)),
+        ],
     )
-}
-
-/// The name of the copy of a struct in a direction.
-fn direction_name(alloc: Global, number: u32, back: bool) -> Result<Text, AllocError>
-    ensures { IfOk result (λ t. t ≡ name_of_direction back number) }
-{
-    if back {
-        descending_name(alloc, number)
-    } else {
-        ascending_name(alloc, number)
-    }
 }
 
 /// A leaf in a direction.
@@ -184,46 +155,36 @@ fn put_leaf_of(code: &mut Vec<Insn>, back: bool, kind: Kind) -> Result<(), Alloc
 }
 
 /// A step, behind another.
-fn put_step(
-    alloc: Global,
-    making: &mut Making,
+pub fn put_step(
+    code: &mut Vec<Insn>,
     back: bool,
     before: MoveStep,
     step: MoveStep,
 ) -> Result<(), AllocError>
-    ensures code { OnOk result (making.new.code.items ≡ making.old.code.items ++ step_insns back before step) }
-    ensures uses { OnOk result (making.new.uses.items ≡ making.old.uses.items ++ step_uses back (length making.old.code.items) step) }
+    ensures { OnOk result (code.new.items ≡ code.old.items ++ step_insns back before step) }
 {
     match step {
-        MoveStep::Leaf(kind) => put_leaf_of(&mut making.code, back, kind),
-        MoveStep::Skip(bytes) => put_skip(&mut making.code, bytes),
-        MoveStep::Items(count) => put_items(&mut making.code, count),
-        MoveStep::Again => put_again(&mut making.code, before),
-        MoveStep::Struct { number, words } => {
-            let name = direction_name(alloc, number, back)?;
-            put_struct(alloc, making, name, words)
-        }
+        MoveStep::Leaf(kind) => put_leaf_of(code, back, kind),
+        MoveStep::Skip(bytes) => put_skip(code, bytes),
+        MoveStep::Items(count) => put_items(code, count),
+        MoveStep::Again => put_again(code, before),
+        MoveStep::Struct { number: _, words } => put_struct(code, words),
     }
 }
 
-/// The copy of a struct in a direction: it keeps its return address, goes through the steps, and returns.
-pub fn put_copy(
-    alloc: Global,
-    making: &mut Making,
-    back: bool,
-    steps: &[MoveStep],
-) -> Result<(), AllocError>
-    ensures code { OnOk result (making.new.code.items ≡ making.old.code.items ++ copy_insns back steps.now) }
-    ensures uses { OnOk result (making.new.uses.items ≡ making.old.uses.items ++ copy_uses back (length making.old.code.items) steps.now) }
+/// The beginning of a copy in a direction, which keeps its return address.
+pub fn put_copy_begin(code: &mut Vec<Insn>) -> Result<(), AllocError>
+    ensures { OnOk result (code.new.items ≡ code.old.items ++ copy_begin) }
 {
-    let mut before = MoveStep::Again;
-    put(&mut making.code, sw(RETURN_ADDRESS, OWN_TOO, 0))?;
-    for step in steps {
-        put_step(alloc, making, back, before, *step)?;
-        before = *step;
-    }
+    put(code, sw(RETURN_ADDRESS, OWN_TOO, 0))
+}
+
+/// The end of a copy in a direction, which returns.
+pub fn put_copy_end(code: &mut Vec<Insn>) -> Result<(), AllocError>
+    ensures { OnOk result (code.new.items ≡ code.old.items ++ copy_end) }
+{
     put_all(
-        &mut making.code,
+        code,
         &[
             lw(RETURN_ADDRESS, OWN_TOO, 0),
             no_op(),
@@ -234,17 +195,11 @@ pub fn put_copy(
 }
 
 /// The beginning of the copy of a struct, before the one that ascends: where the place to copy to lies above the one to copy from, the copy descends from their ends.
-pub fn put_choice(
-    alloc: Global,
-    making: &mut Making,
-    number: u32,
-    size: u32,
-) -> Result<(), AllocError>
-    ensures code { OnOk result (making.new.code.items ≡ making.old.code.items ++ choice_insns size) }
-    ensures uses { OnOk result (making.new.uses.items ≡ making.old.uses.items ++ choice_uses number (length making.old.code.items)) }
+pub fn put_choice(code: &mut Vec<Insn>, size: u32) -> Result<(), AllocError>
+    ensures { OnOk result (code.new.items ≡ code.old.items ++ choice_insns size) }
 {
     put_all(
-        &mut making.code,
+        code,
         &[
             lui(OWN_TOO, STACK_END_HIGH),
             sltu(OWN, B, A),
@@ -252,15 +207,6 @@ pub fn put_choice(
             no_op(),
         ],
     )?;
-    put_word(&mut making.code, OWN, size)?;
-    put_all(&mut making.code, &[addu(A, A, OWN), addu(B, B, OWN)])?;
-    let at = offset(&making.code)?;
-    put_use(
-        &mut making.uses,
-        at,
-        Form::Jump,
-        descending_name(alloc, number)?,
-        0,
-    )?;
-    put_all(&mut making.code, &[j(), no_op()])
+    put_word(code, OWN, size)?;
+    put_all(code, &[addu(A, A, OWN), addu(B, B, OWN), j(), no_op()])
 }
