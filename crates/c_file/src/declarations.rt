@@ -269,10 +269,13 @@ fn function<'a>(
 {
     match &d.initial {
         None => function_named(alloc, state, storage, to, ps, d),
-        Some(_) => Err(Fault::Rule {
-            rule: 9,
-            at: declarator_place(&d.declarator).at,
-        }),
+        Some(_) => {
+            drop(to);
+            Err(Fault::Rule {
+                rule: 9,
+                at: declarator_place(&d.declarator).at,
+            })
+        }
     }
 }
 

@@ -22,9 +22,20 @@ fn begun<'a>(alloc: Global, state: &mut State<'a>, spec: &'a FileSpec) -> Result
 {
     match specified(alloc, &state.others, &mut state.here, spec) {
         Ok(t) => {
-            strings_in_spec(alloc, &mut state.strings, spec)?;
-            add_spec_calls(alloc, &mut state.calls, &state.here, spec)?;
-            Ok(t)
+            match strings_in_spec(alloc, &mut state.strings, spec) {
+                Ok(()) => {}
+                Err(_) => {
+                    drop(t);
+                    return Err(Fault::NoMemory);
+                }
+            }
+            match add_spec_calls(alloc, &mut state.calls, &state.here, spec) {
+                Ok(()) => Ok(t),
+                Err(_) => {
+                    drop(t);
+                    Err(Fault::NoMemory)
+                }
+            }
         }
         Err(f) => Err(f),
     }
@@ -37,10 +48,20 @@ fn declaration<'a>(alloc: Global, state: State<'a>, h: &'a Head) -> Result<State
     let mut state = state;
     match begun(alloc, &mut state, &h.spec) {
         Ok(t) => match all_declared(alloc, &mut state, h.storage, &t, h.names.as_slice()) {
-            Ok(()) => Ok(state),
-            Err(f) => Err(f),
+            Ok(()) => {
+                drop(t);
+                Ok(state)
+            }
+            Err(f) => {
+                drop(t);
+                drop(state);
+                Err(f)
+            }
         },
-        Err(f) => Err(f),
+        Err(f) => {
+            drop(state);
+            Err(f)
+        }
     }
 }
 
@@ -57,9 +78,15 @@ fn definition<'a>(
     match begun(alloc, &mut state, &h.spec) {
         Ok(t) => match shape(alloc, &state.here, &h.declarator, t) {
             Ok(s) => function(alloc, state, h.storage, &h.declarator, s, body),
-            Err(f) => Err(f),
+            Err(f) => {
+                drop(state);
+                Err(f)
+            }
         },
-        Err(f) => Err(f),
+        Err(f) => {
+            drop(state);
+            Err(f)
+        }
     }
 }
 

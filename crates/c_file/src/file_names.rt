@@ -95,16 +95,25 @@ impl<'a> FileNames<'a> {
     {
         let here = self.here(name.unit, name.name.as_bytes());
         match self.broken(&name, here) {
-            Some(rule) => return Err(Fault::Rule { rule, at }),
+            Some(rule) => {
+                drop(name);
+                return Err(Fault::Rule { rule, at });
+            }
             None => {}
         }
         let told = match told(alloc, &name.meaning, here) {
             Ok(told) => told,
-            Err(_) => return Err(Fault::NoMemory),
+            Err(_) => {
+                drop(name);
+                return Err(Fault::NoMemory);
+            }
         };
         match self.add(name) {
             Ok(()) => Ok(told),
-            Err(_) => Err(Fault::NoMemory),
+            Err(_) => {
+                drop(told);
+                Err(Fault::NoMemory)
+            }
         }
     }
 

@@ -83,6 +83,14 @@ fn incomplete(alloc: Global, tags: &[&Text]) -> Result<Vec<StructDef>, AllocErro
     Ok(defs)
 }
 
+/// The structs with these tags before a file, none of which is complete.
+fn unfinished<'a>(alloc: Global, tags: &[&'a Text]) -> Result<Structs<'a>, AllocError>
+    ensures { IfOk result (λ s. s ≡ map incomplete (map now tags.now)) }
+{
+    let defs = incomplete(alloc, tags)?;
+    Structs::new(alloc, defs)
+}
+
 /// What is declared before the first file.
 fn at_first_here<'a>(alloc: Global, tags: &[&'a Text]) -> Result<Environment<'a>, AllocError>
     ensures { IfOk result (IsFirst (map now tags.now)) }
@@ -92,7 +100,7 @@ fn at_first_here<'a>(alloc: Global, tags: &[&'a Text]) -> Result<Environment<'a>
         return Err(AllocError);
     }
     let tags_here = StructTags::new(alloc, texts)?;
-    let defs = Structs::new(alloc, incomplete(alloc, tags)?)?;
+    let defs = unfinished(alloc, tags)?;
     let table = built_ins(alloc)?;
     Ok(Environment {
         unit: 0,
@@ -107,8 +115,8 @@ fn at_first_here<'a>(alloc: Global, tags: &[&'a Text]) -> Result<Environment<'a>
 fn at_first<'a>(alloc: Global, tags: &[&'a Text]) -> Result<State<'a>, AllocError>
     ensures { IfOk result (Starts (map now tags.now)) }
 {
-    let here = at_first_here(alloc, tags)?;
     let others = incomplete(alloc, tags)?;
+    let here = at_first_here(alloc, tags)?;
     Ok(State {
         here,
         others,
@@ -161,13 +169,24 @@ fn next_file<'a>(
 {
     let mut state = state;
     if state.here.unit == u32::MAX {
+        drop(state);
         return Err(AllocError);
     }
-    let defs = Structs::new(alloc, incomplete(alloc, tags)?)?;
+    let defs = match unfinished(alloc, tags) {
+        Ok(defs) => defs,
+        Err(f) => {
+            drop(state);
+            return Err(f);
+        }
+    };
     let completed = std::mem::replace(&mut state.here.defs, defs);
-    match completed_by(alloc, state.others, completed.into_defs()) {
+    let others = std::mem::replace(&mut state.others, Vec::new(alloc));
+    match completed_by(alloc, others, completed.into_defs()) {
         Ok(others) => state.others = others,
-        Err(f) => return Err(f),
+        Err(f) => {
+            drop(state);
+            return Err(f);
+        }
     }
     state.here.unit += 1;
     state.here.table.end(Mark {

@@ -109,8 +109,8 @@ fn headed<'a>(
 ) -> Result<(), Fault>
     ensures { Adds (λ p. name_found p.names (function_row storage d.now p (shape.Function (plain to.now) (map parameter_of ps.now))) (begins d.now).at) (λ p. with_head p d.now (function_row storage d.now p (shape.Function (plain to.now) (map parameter_of ps.now)))) state.old result state.new }
 {
-    let result = copied(to)?;
     let parameters = parameter_types(alloc, ps)?;
+    let result = copied(to)?;
     let row = FileName {
         name: name_in(d),
         unit: state.here.unit,
@@ -186,6 +186,13 @@ fn ended<'a>(
     requires mark { mark.start ≤ length (environment_of body.here).names }
     ensures { IfOk result (Ends outside mark body.entry) }
 {
+    let locals = match locals(alloc, &body.here.table.symbols()[outside..]) {
+        Ok(locals) => locals,
+        Err(f) => {
+            drop(body);
+            return Err(f);
+        }
+    };
     let Body {
         block,
         here,
@@ -194,7 +201,6 @@ fn ended<'a>(
         calls,
     } = body;
     let mut here = here;
-    let locals = locals(alloc, &here.table.symbols()[outside..])?;
     here.leave(mark);
     let inside = Inside {
         block,
@@ -223,7 +229,13 @@ fn walked_body<'a>(
     let outside = here.table.symbols().len();
     let mark = here.enter();
     here.locals = 0;
-    declare_parameters(alloc, &mut here, ps)?;
+    match declare_parameters(alloc, &mut here, ps) {
+        Ok(()) => {}
+        Err(_) => {
+            drop(here);
+            return Err(Fault::NoMemory);
+        }
+    }
     match check_body(alloc, here, before, to, block) {
         Ok(body) => {
             let w = ended(alloc, outside, mark, body)?;
@@ -240,6 +252,8 @@ fn keep_first(unknown: &mut Option<Text>, name: Text)
 {
     if unknown.is_none() {
         *unknown = Some(name);
+    } else {
+        drop(name);
     }
 }
 
@@ -270,6 +284,13 @@ pub struct Heading<'a> {
     pub params: u32,
 }
 
+/// There is no memory for what a body comes to.
+fn let_go(heading: Heading, inside: Inside) -> AllocError {
+    drop(heading);
+    drop(inside);
+    AllocError
+}
+
 /// What a body comes to goes into the program, and its function is defined.
 fn closed<'a>(
     alloc: Global,
@@ -279,42 +300,42 @@ fn closed<'a>(
 ) -> Result<(), AllocError>
     ensures { OnOk result (Closes heading.entry inside.entry state.old state.new) }
 {
-    let Heading {
-        name,
-        is_static,
-        to,
-        params,
-    } = heading;
-    let Inside {
-        block,
-        locals,
-        stops,
-        strings,
-        calls,
-    } = inside;
     let unit = state.here.unit;
     let Ok(function) = u32::try_from(state.functions.len()) else {
-        return Err(AllocError);
+        return Err(let_go(heading, inside));
     };
-    let points = numbers_from(alloc, state.points.len(), stops.len())?;
-    add_points(&mut state.points, function, &stops)?;
-    add_calls(&mut state.calls, &state.here, unit, &calls)?;
-    state.strings.extend_from_slice(&strings)?;
-    state.definitions.push(Definition {
-        name,
+    let Ok(points) = numbers_from(alloc, state.points.len(), inside.stops.len()) else {
+        return Err(let_go(heading, inside));
+    };
+    let Ok(()) = add_points(&mut state.points, function, &inside.stops) else {
+        return Err(let_go(heading, inside));
+    };
+    let Ok(()) = add_calls(&mut state.calls, &state.here, unit, &inside.calls) else {
+        return Err(let_go(heading, inside));
+    };
+    let Ok(()) = state.strings.extend_from_slice(&inside.strings) else {
+        return Err(let_go(heading, inside));
+    };
+    let definition = Definition {
+        name: heading.name,
         unit,
-        is_static,
+        is_static: heading.is_static,
         manner: Manner::Body,
-    })?;
-    let name = Text::from_slice(alloc, name.as_bytes())?;
-    let body = checked(&mut state.unknown, block);
+    };
+    let Ok(()) = state.definitions.push(definition) else {
+        return Err(let_go(heading, inside));
+    };
+    let Ok(name) = Text::from_slice(alloc, heading.name.as_bytes()) else {
+        return Err(let_go(heading, inside));
+    };
+    let body = checked(&mut state.unknown, inside.block);
     state.functions.push(Function {
         name,
         unit,
-        is_static,
-        result: to,
-        params,
-        locals,
+        is_static: heading.is_static,
+        result: heading.to,
+        params: heading.params,
+        locals: inside.locals,
         points,
         body,
     })?;
@@ -335,13 +356,25 @@ fn with_body<'a>(
     ensures { AddsBody heading.entry (map parameter_of ps.now) block.now state.entry result }
 {
     let mut state = state;
-    let before = counts(&state)?;
+    let before = match counts(&state) {
+        Ok(before) => before,
+        Err(_) => {
+            drop(state);
+            drop(heading);
+            return Err(Fault::NoMemory);
+        }
+    };
     match walked_body(alloc, state.here, before, &heading.to, ps, block) {
         Ok(w) => {
             let Walked { here, inside } = w;
             state.here = here;
-            closed(alloc, &mut state, heading, inside)?;
-            Ok(state)
+            match closed(alloc, &mut state, heading, inside) {
+                Ok(()) => Ok(state),
+                Err(_) => {
+                    drop(state);
+                    Err(Fault::NoMemory)
+                }
+            }
         }
         Err(f) => Err(f),
     }
@@ -382,13 +415,27 @@ fn bodied<'a>(
     let mut state = state;
     match headed(alloc, &mut state, storage, d, &to, ps) {
         Ok(()) => {}
-        Err(f) => return Err(f),
+        Err(f) => {
+            drop(state);
+            drop(to);
+            return Err(f);
+        }
     }
     match may_have(d, ps, block) {
         Ok(()) => {}
-        Err(f) => return Err(f),
+        Err(f) => {
+            drop(state);
+            drop(to);
+            return Err(f);
+        }
     }
-    let heading = heading_of(storage, d, to, ps.len())?;
+    let heading = match heading_of(storage, d, to, ps.len()) {
+        Ok(heading) => heading,
+        Err(_) => {
+            drop(state);
+            return Err(Fault::NoMemory);
+        }
+    };
     with_body(alloc, state, heading, ps, block)
 }
 
@@ -404,10 +451,14 @@ pub fn function<'a>(
     ensures { GoesOn (HasFunction storage d.now block.now (shape_of s.entry)) state.entry result }
 {
     match s {
-        Shape::Object(_) => Err(Fault::Rule {
-            rule: 9,
-            at: declarator_place(d).at,
-        }),
+        Shape::Object(t) => {
+            drop(t);
+            drop(state);
+            Err(Fault::Rule {
+                rule: 9,
+                at: declarator_place(d).at,
+            })
+        }
         Shape::Function(to, ps) => bodied(alloc, state, storage, d, to, &ps, block),
     }
 }

@@ -140,8 +140,8 @@ pub fn copied_meaning(alloc: Global, m: &Meaning) -> Result<Meaning, AllocError>
             })
         }
         Meaning::Function { result, parameters } => {
-            let result = copied(result)?;
             let parameters = copied_all(alloc, parameters.as_slice())?;
+            let result = copied(result)?;
             Ok(Meaning::Function { result, parameters })
         }
     }

@@ -105,7 +105,10 @@ pub fn object_standing(
     match in_limits(here, t, at) {
         Ok(u) => match may_stand(here, is_extern(storage), &u, at) {
             Ok(()) => Ok(u),
-            Err(f) => Err(f),
+            Err(f) => {
+                drop(u);
+                Err(f)
+            }
         },
         Err(f) => Err(f),
     }

@@ -53,7 +53,7 @@ pub struct State<'a> {
 }
 
 /// Why there is no program: a rule that is broken, with its file and the offset.
-#[derive(Clone, Copy, Debug, PartialEq, Eq)]
+#[derive(Clone, Copy)]
 pub enum FileFault {
     Rule { rule: u8, unit: u32, at: u32 },
     NoMemory,

@@ -1,9 +1,10 @@
 // Expressions among a few names.
 
 use crate::lexing::tokens_of;
+use c_discard::{discard_expr, discard_typed};
 use c_expr::{Expr, parse_expr};
 use c_judge::{ExprFault, Mode, Symbol, check_expr};
-use c_tree::{CType, Member, StructDef};
+use c_tree::{CType, Member, StructDef, Typed};
 use ldb_words::{Many, Text};
 use std::alloc::{AllocError, Global};
 use std::rc::Rc;
@@ -93,12 +94,19 @@ fn judged(alloc: Global, e: &Expr, mode: Mode) -> Result<String, AllocError> {
         return Err(AllocError);
     }
     match check_expr(alloc, e, &names, &defs, mode) {
-        Ok(typed) => String::from_str(alloc, kind_of(&c_judge::head_of(&typed).ctype)),
+        Ok(typed) => String::from_str(alloc, kind_of_typed(typed)),
         Err(ExprFault::Scope { .. }) => String::from_str(alloc, "scope"),
         Err(ExprFault::Rule { rule }) => format!(in alloc; "rule {rule}"),
         Err(ExprFault::Forbidden { at }) => format!(in alloc; "forbidden {at}"),
         Err(ExprFault::NoMemory) => Err(AllocError),
     }
+}
+
+/// The kind of the type of a checked expression.
+fn kind_of_typed(typed: Typed) -> &'static str {
+    let kind = kind_of(&c_judge::head_of(&typed).ctype);
+    discard_typed(typed);
+    kind
 }
 
 fn kind_of(t: &CType) -> &'static str {
@@ -129,7 +137,11 @@ pub fn append_judgement(
         return append(out, "no tokens");
     };
     match parse_expr(alloc, text, &found) {
-        Ok(e) => append(out, judged(alloc, &e, mode)?.as_str()),
+        Ok(e) => {
+            let told = judged(alloc, &e, mode);
+            discard_expr(e);
+            append(out, told?.as_str())
+        }
         Err(_) => append(out, "no tree"),
     }
 }

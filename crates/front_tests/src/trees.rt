@@ -2,13 +2,17 @@
 
 use crate::lexing::tokens_of;
 use c_declaration::{
-    Declarator, DeclaratorNode, FileParser, Head, InitialNode, LocalParser, ParameterNode,
-    ReadHead, Step, file_offer, local_offer,
+    Declarator, DeclaratorNode, FileParser, FileStep, Head, InitialNode, LocalParser, LocalStep,
+    ParameterNode, ReadHead, ReadLocal, Step, file_offer, local_offer,
 };
-use c_expr::{Node, SynFault, parse_expr};
+use c_discard::{
+    discard_expr, discard_file_parser, discard_head, discard_local, discard_local_parser,
+    discard_unit,
+};
+use c_expr::{Expr, Node, SynFault, parse_expr};
 use c_lex::Token;
 use c_symbol::{BinaryOp, Joiner, Symbol, terminal_of};
-use c_syntax::{External, parse_unit};
+use c_syntax::{External, Unit, parse_unit};
 use std::alloc::{AllocError, Global};
 use test_rows::append;
 
@@ -32,50 +36,118 @@ fn of_fault(fault: SynFault) -> Result<End, AllocError> {
     }
 }
 
+/// One token more of a declaration in a block.
+fn next_local(
+    alloc: Global,
+    parser: LocalParser,
+    text: &[u8],
+    token: Token,
+) -> Result<LocalStep, SynFault> {
+    match terminal_of(alloc, text, token) {
+        Ok(next) => local_offer(alloc, parser, next),
+        Err(_) => {
+            discard_local_parser(parser);
+            Err(SynFault::NoMemory)
+        }
+    }
+}
+
+/// How a declaration in a block ends that was read up to an offset.
+fn local_end(read: ReadLocal, at: u32) -> End {
+    let end = match &read.local {
+        Some(_) => End::Whole(at),
+        None => End::Deep(read.place.at),
+    };
+    discard_local(read);
+    end
+}
+
 /// How a declaration in a block ends.
 fn local(alloc: Global, text: &[u8], found: &[Token]) -> Result<End, AllocError> {
     let mut parser = LocalParser::Begin;
     for token in found {
-        let next = terminal_of(alloc, text, *token)?;
-        match local_offer(alloc, parser, next) {
+        match next_local(alloc, parser, text, *token) {
             Ok(Step::Goes(after)) => parser = after,
-            Ok(Step::Ends(read)) => {
-                return Ok(match read.local {
-                    Some(_local) => End::Whole(token.at),
-                    None => End::Deep(read.place.at),
-                });
-            }
+            Ok(Step::Ends(read)) => return Ok(local_end(read, token.at)),
             Err(fault) => return of_fault(fault),
         }
     }
+    discard_local_parser(parser);
     Ok(End::Open)
 }
 
+/// One token more of a declaration at file scope.
+fn next_of_file(
+    alloc: Global,
+    parser: FileParser,
+    text: &[u8],
+    token: Token,
+) -> Result<FileStep, SynFault> {
+    match terminal_of(alloc, text, token) {
+        Ok(next) => file_offer(alloc, parser, next),
+        Err(_) => {
+            discard_file_parser(parser);
+            Err(SynFault::NoMemory)
+        }
+    }
+}
+
+/// How a declaration at file scope ends that was read up to an offset.
+fn head_end(read: &ReadHead, at: u32) -> End {
+    match read {
+        ReadHead::Declaration(_, Some(_)) => End::Whole(at),
+        ReadHead::Function(_, Some(_)) => End::Body(at),
+        ReadHead::Declaration(place, None) | ReadHead::Function(place, None) => End::Deep(place.at),
+    }
+}
+
 /// How a declaration at file scope ends, and what it is.
-fn file(alloc: Global, text: &[u8], found: &[Token]) -> Result<(End, Option<Head>), AllocError> {
+fn file(
+    alloc: Global,
+    text: &[u8],
+    found: &[Token],
+) -> Result<(End, Option<ReadHead>), AllocError> {
     let mut parser = FileParser::Begin;
     for token in found {
-        let next = terminal_of(alloc, text, *token)?;
-        match file_offer(alloc, parser, next) {
+        match next_of_file(alloc, parser, text, *token) {
             Ok(Step::Goes(after)) => parser = after,
-            Ok(Step::Ends(ReadHead::Declaration(place, head))) => {
-                let end = match &head {
-                    Some(_) => End::Whole(token.at),
-                    None => End::Deep(place.at),
-                };
-                return Ok((end, head));
-            }
-            Ok(Step::Ends(ReadHead::Function(place, head))) => {
-                let end = match &head {
-                    Some(_) => End::Body(token.at),
-                    None => End::Deep(place.at),
-                };
-                return Ok((end, None));
-            }
+            Ok(Step::Ends(read)) => return Ok((head_end(&read, token.at), Some(read))),
             Err(fault) => return Ok((of_fault(fault)?, None)),
         }
     }
+    discard_file_parser(parser);
     Ok((End::Open, None))
+}
+
+/// How a declaration at file scope ends.
+fn file_end(alloc: Global, text: &[u8], found: &[Token]) -> Result<End, AllocError> {
+    let (end, read) = file(alloc, text, found)?;
+    if let Some(read) = read {
+        discard_head(read);
+    }
+    Ok(end)
+}
+
+/// How an expression ends.
+fn expr_end(alloc: Global, text: &[u8], found: &[Token]) -> Result<End, AllocError> {
+    match parse_expr(alloc, text, found) {
+        Ok(e) => {
+            discard_expr(e);
+            Ok(End::Tree)
+        }
+        Err(fault) => of_fault(fault),
+    }
+}
+
+/// How a file ends.
+fn unit_end(alloc: Global, text: &[u8], found: &[Token]) -> Result<End, AllocError> {
+    match parse_unit(alloc, text, found) {
+        Ok(unit) => {
+            discard_unit(unit);
+            Ok(End::Tree)
+        }
+        Err(fault) => of_fault(fault),
+    }
 }
 
 /// How reading a text ends, as an expression, a declaration in a block or at file scope, or a file.
@@ -84,16 +156,10 @@ pub fn read_tree(alloc: Global, kind: &str, text: &[u8]) -> Result<String, Alloc
         return String::from_str(alloc, "no tokens");
     };
     let end = match kind {
-        "expr" => match parse_expr(alloc, text, &found) {
-            Ok(_) => End::Tree,
-            Err(fault) => of_fault(fault)?,
-        },
+        "expr" => expr_end(alloc, text, &found)?,
         "local" => local(alloc, text, &found)?,
-        "file" => file(alloc, text, &found)?.0,
-        _ => match parse_unit(alloc, text, &found) {
-            Ok(_) => End::Tree,
-            Err(fault) => of_fault(fault)?,
-        },
+        "file" => file_end(alloc, text, &found)?,
+        _ => unit_end(alloc, text, &found)?,
     };
     match end {
         End::Tree => String::from_str(alloc, "tree"),
@@ -122,15 +188,7 @@ fn parameters_of(d: &Declarator) -> (usize, u32) {
 }
 
 /// Appends the numbers of parameters and of those without a name of each declared name, and of the items of its initializer.
-fn append_parameters(
-    alloc: Global,
-    text: &[u8],
-    found: &[Token],
-    out: &mut Vec<u8>,
-) -> Result<(), AllocError> {
-    let (_, Some(head)) = file(alloc, text, found)? else {
-        return append(out, "none");
-    };
+fn append_names(alloc: Global, head: &Head, out: &mut Vec<u8>) -> Result<(), AllocError> {
     for name in head.names.as_slice() {
         let (all, unnamed) = parameters_of(&name.declarator);
         append(out, format!(in alloc; "{all} {unnamed}")?.as_str())?;
@@ -143,6 +201,24 @@ fn append_parameters(
         append(out, ";")?;
     }
     Ok(())
+}
+
+/// Appends the same of a text that is a declaration.
+fn append_parameters(
+    alloc: Global,
+    text: &[u8],
+    found: &[Token],
+    out: &mut Vec<u8>,
+) -> Result<(), AllocError> {
+    let (_, Some(read)) = file(alloc, text, found)? else {
+        return append(out, "none");
+    };
+    let appended = match &read {
+        ReadHead::Declaration(_, Some(head)) => append_names(alloc, head, out),
+        _ => append(out, "none"),
+    };
+    discard_head(read);
+    appended
 }
 
 /// The name of what a token is to the grammar.
@@ -198,18 +274,48 @@ pub fn append_shape(
             Ok(())
         }
         "parameters" => append_parameters(alloc, text, &found, out),
-        "arguments" => match parse_expr(alloc, text, &found) {
-            Ok(e) => {
-                let count = match &e.node {
-                    Node::Call(_, _, arguments) => arguments.len(),
-                    _ => 0,
-                };
-                append(out, format!(in alloc; "{count}")?.as_str())
-            }
-            Err(_) => append(out, "no tree"),
-        },
+        "arguments" => append_arguments(alloc, text, &found, out),
         _ => append_externals(alloc, text, &found, out),
     }
+}
+
+/// How many arguments a call has.
+fn arguments_of(e: Expr) -> usize {
+    let count = match &e.node {
+        Node::Call(_, _, arguments) => arguments.len(),
+        _ => 0,
+    };
+    discard_expr(e);
+    count
+}
+
+/// Appends how many arguments a call has.
+fn append_arguments(
+    alloc: Global,
+    text: &[u8],
+    found: &[Token],
+    out: &mut Vec<u8>,
+) -> Result<(), AllocError> {
+    match parse_expr(alloc, text, found) {
+        Ok(e) => {
+            let count = arguments_of(e);
+            append(out, format!(in alloc; "{count}")?.as_str())
+        }
+        Err(_) => append(out, "no tree"),
+    }
+}
+
+/// How many external declarations a file has, and how many of them are definitions.
+fn externals_of(unit: Unit) -> (usize, u32) {
+    let mut definitions: u32 = 0;
+    for external in unit.externals.as_slice() {
+        if let External::Definition(_, _) = external {
+            definitions = definitions.wrapping_add(1);
+        }
+    }
+    let all = unit.externals.len();
+    discard_unit(unit);
+    (all, definitions)
 }
 
 /// Appends how many external declarations a file has, and how many of them are definitions.
@@ -219,15 +325,11 @@ fn append_externals(
     found: &[Token],
     out: &mut Vec<u8>,
 ) -> Result<(), AllocError> {
-    let Ok(unit) = parse_unit(alloc, text, found) else {
-        return append(out, "no tree");
-    };
-    let mut definitions: u32 = 0;
-    for external in unit.externals.as_slice() {
-        if let External::Definition(_, _) = external {
-            definitions = definitions.wrapping_add(1);
+    match parse_unit(alloc, text, found) {
+        Ok(unit) => {
+            let (all, definitions) = externals_of(unit);
+            append(out, format!(in alloc; "{all} {definitions}")?.as_str())
         }
+        Err(_) => append(out, "no tree"),
     }
-    let all = unit.externals.len();
-    append(out, format!(in alloc; "{all} {definitions}")?.as_str())
 }

@@ -7,7 +7,7 @@ use Rattle.c_file.proofs.functions.bodied.Goals as goal
 pub returns : goal.returns
 returns c =
     body_any c.args.storage c.args.d.now c.args.block.now (plain c.args.to) (map parameter_of c.args.ps.now) c.args.state c.headed.new.state c.in-Ok.ensures c.in-Ok-may_have.ensures.may
-    c.in_ok-heading.heading c.in_ok-heading.ensures.0 c.in_ok-heading.ensures.1 c.in_ok-heading.ensures.2 c.with_body.result c.with_body.ensures
+    c.in-Ok-heading_of.heading c.in-Ok-heading_of.ensures.0 c.in-Ok-heading_of.ensures.1 c.in-Ok-heading_of.ensures.2 c.with_body.result c.with_body.ensures
 
 pub returns-in-Err : goal.returns-in-Err
 returns-in-Err c = head_fails c.args.storage c.args.d.now c.args.block.now (plain c.args.to) (map parameter_of c.args.ps.now) c.args.state c.in-Err.f c.in-Err.ensures
