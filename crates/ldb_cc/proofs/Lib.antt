@@ -3,4 +3,4 @@ pub mod Counted
 pub mod Parsed
 pub mod Refused
 pub mod Anchors
-pub mod Building
+pub mod Made

@@ -1,5 +1,6 @@
 // The image of a checked program.
 ghost use Rattle.std.specs.Prelude.{IfOk};
+ghost use Rattle.link_image.specs.Links.{IsLinked};
 ghost use Rattle.ldb_cc.specs.Built.{IsEmitted, IsImageOf};
 
 use crate::aim::Aim;
@@ -16,8 +17,24 @@ fn object_of(alloc: Global, aim: Aim, code: &SlotCode) -> Result<Object, AllocEr
     ensures { IfOk result (λ o. IsEmitted aim code.now o) }
 {
     match aim {
-        Aim::Mips => mips_gen::emit(alloc, code),
-        Aim::Sparc => sparc_gen::emit(alloc, code),
+        Aim::Mips => {
+            let object = mips_gen::emit(alloc, code)?;
+            Ok(object)
+        }
+        Aim::Sparc => {
+            let object = sparc_gen::emit(alloc, code)?;
+            Ok(object)
+        }
+    }
+}
+
+/// The image of objects and its rows. Objects that don't keep what the linker asks are answered as want of memory.
+fn linked(alloc: Global, objects: &[Object]) -> Result<(Image, LoaderRows), AllocError>
+    ensures { IfOk result (λ r. IsLinked objects.now r.0 r.1) }
+{
+    match link(alloc, objects) {
+        Ok(linked) => Ok(linked),
+        Err(_) => Err(AllocError),
     }
 }
 
@@ -32,8 +49,6 @@ pub fn build(alloc: Global, aim: Aim, program: &Program) -> Result<(Image, Loade
     }
     let code = lower(alloc, program)?;
     let object = object_of(alloc, aim, &code)?;
-    match link(alloc, &[object]) {
-        Ok(linked) => Ok(linked),
-        Err(_) => Err(AllocError),
-    }
+    let (image, rows) = linked(alloc, &[object])?;
+    Ok((image, rows))
 }

@@ -6,7 +6,7 @@ use Rattle.machine_state.specs.declared.layout.TheConstants.{DATA}
 use Rattle.c_tree.specs.declared.rows.Program.{Program}
 use Rattle.slot_ir.specs.declared.code.SlotCode.{SlotCode}
 use Rattle.slot_ir.specs.declared.code.SlotObject.{SlotObject}
-use Rattle.slot_gen.specs.Rows.{EachFrom, HasRowsOf}
+use Rattle.slot_gen.specs.Rows.{EachFrom, HasRowsOf, IsObjectOf}
 use Rattle.slot_gen.specs.Correct.{Lowers}
 use Rattle.obj_file.specs.Image.{ImageFields}
 use Rattle.obj_file.specs.declared.object.Object.{Object}
@@ -38,7 +38,7 @@ statics_count : (order : Order) (c : SlotCode) → length (program_statics order
 unfolding program_statics
 statics_count order c =
     length-append (objects_statics order 0 c.objects) (strings_statics (length c.objects) c.strings)
-    ∙ ap₂ (λ (a b : ℕ). a + b) (object_count order 0 c.objects) (string_count (length c.objects) c.strings)
+    ∙ ap₂ (λ a b. a + b) (object_count order 0 c.objects) (string_count (length c.objects) c.strings)
 
 each_count : {A B : Type 0} (P : ℕ → A → B → Type 0) (n : ℕ) (xs : List A) (ys : List B) → EachFrom P n xs ys → length ys ≡ length xs
 each_count P n [] [] e = refl
@@ -62,7 +62,7 @@ anchored aim p c o image rows r e l =
     ∙ (ap (λ (ss : List StaticDef). length (anchors_from DATA ss)) (append-nil o.statics)
     ∙ (anchor_count DATA o.statics
     ∙ (emitted_count aim c o e
-    ∙ ap₂ (λ (a b : ℕ). a + b) (each_count _ 0 p.objects c.objects r.objects) (ap (λ (ts : List (List ℕ)). length ts) r.strings))))
+    ∙ ap₂ (λ a b. a + b) (each_count (IsObjectOf p) 0 p.objects c.objects r.objects) (ap (λ (ts : List (List ℕ)). length ts) r.strings))))
 
 pub made : (aim : Aim) (p : Program) (c : SlotCode) (o : Object) (image : ImageFields) (rows : LoaderRows) → HasRowsOf p c → Lowers p c → IsEmitted aim c o → IsLinked (o ∷ []) image rows → IsImageOf aim p image rows
 made aim p c o image rows r k e l = record {
