@@ -1,5 +1,6 @@
 -- Words that ask to compile.
 use Rattle.std.proofs.Common.{◌≡◌, ℕ, List, Option, Some, Ok, Err, sym, subst}
+use Rattle.std.proofs.lemmas.Bool.{true≢false}
 use Rattle.std.specs.Prelude.{IsNone, IfSome}
 use Rattle.ldb_edge.specs.Known.{FileMap}
 use Rattle.cc_call.specs.declared.call.Answer.{Answer}
@@ -24,7 +25,7 @@ of_request asked r P e p = subst (λ (o : Option Request). IfSome o P) (sym e) p
 
 -- words that are a request are not none
 pub is_asked : (asked : Option Request) (r : Request) → asked ≡ Some r → IsNone asked → ⊥
-is_asked asked r e n = subst (λ (o : Option Request). IsNone o) e n
+is_asked asked r e n = true≢false (subst (λ (o : Option Request). IsNone o) e n)
 
 -- these statuses never come
 pub never_words : (r : Request) (held held' : Option FileMap) (taken taken' : Option (List ℕ)) (status : Status) → Compiles r held held' taken taken' status → status ≡ Words → ⊥
