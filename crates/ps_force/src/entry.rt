@@ -99,6 +99,7 @@ fn run_on_base<D: Dialect>(
 }
 
 /// Runs an executable string and settles its entry. What it makes belongs to the table's part, and is closed.
+#[tactic(auto, using(crate::proofs::Forcing::part_back))]
 fn force_text<D: Dialect>(
     core: &mut PsCore,
     dialect: &mut D,
