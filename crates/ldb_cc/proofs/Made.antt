@@ -49,12 +49,12 @@ each_count P n (x ∷ xs) (y ∷ ys) e = ap suc (each_count P (suc n) xs ys e.1)
 -- ---- the object of a target
 
 emitted_target : (aim : Aim) (c : SlotCode) (o : Object) → IsEmitted aim c o → o.target ≡ target_byte aim
-emitted_target Mips c o h = h.0
-emitted_target Sparc c o h = h.0
+emitted_target Mips c o h = h.target
+emitted_target Sparc c o h = h.target
 
 emitted_count : (aim : Aim) (c : SlotCode) (o : Object) → IsEmitted aim c o → length o.statics ≡ length c.objects + length c.strings
-emitted_count Mips c o h = ap (λ (ss : List StaticDef). length ss) h.1.statics ∙ statics_count Little c
-emitted_count Sparc c o h = ap (λ (ss : List StaticDef). length ss) h.1 ∙ statics_count Big c
+emitted_count Mips c o h = ap (λ (ss : List StaticDef). length ss) h.statics ∙ statics_count Little c
+emitted_count Sparc c o h = ap (λ (ss : List StaticDef). length ss) h.statics ∙ statics_count Big c
 
 anchored : (aim : Aim) (p : Program) (c : SlotCode) (o : Object) (image : ImageFields) (rows : LoaderRows) → HasRowsOf p c → IsEmitted aim c o → IsLinked (o ∷ []) image rows → AreAnchorsOf p rows.anchors
 anchored aim p c o image rows r e l =

@@ -1,7 +1,6 @@
 -- What is built of sources.
 use Rattle.std.specs.Prelude.{◌≡◌, ℕ, ◌+◌, List, [], ◌∷◌, length, map, Result, Ok, Err}
-use Rattle.ldb_words.specs.declared.kinds.Order.TheVariants.{Big}
-use Rattle.machine_state.specs.declared.layout.TheConstants.{MIPS, SPARC, TEXT}
+use Rattle.machine_state.specs.declared.layout.TheConstants.{TEXT}
 use Rattle.c_tree.specs.declared.rows.Program.{Program}
 use Rattle.slot_ir.specs.declared.code.SlotCode.{SlotCode}
 use Rattle.slot_gen.specs.Rows.{HasRowsOf}
@@ -9,8 +8,10 @@ use Rattle.slot_gen.specs.Correct.{Lowers}
 use Rattle.obj_file.specs.Image.{ImageFields}
 use Rattle.obj_file.specs.declared.object.Object.{Object}
 use Rattle.obj_file.specs.declared.object.LoaderRows.{LoaderRows}
-use Rattle.gen_parts.specs.Statics.{program_statics}
-use Rattle.mips_gen.specs.Parts as mips
+use Rattle.flat_gen.specs.Codes.{flat_code}
+use Rattle.gen_parts.specs.Parts.{IsObjectOf}
+use Rattle.mips_gen.specs.Coding.{mips}
+use Rattle.sparc_gen.specs.Coding.{sparc}
 use Rattle.link_image.specs.Links.{IsLinked}
 use Rattle.ldb_cc.specs.declared.aim.Aim.{Aim}
 use Rattle.ldb_cc.specs.declared.aim.Aim.TheVariants.{Mips, Sparc}
@@ -30,8 +31,8 @@ AreAnchorsOf program anchors = length anchors ≡ length program.objects + lengt
 
 -- the object that a target's generator makes of slot code
 abbrev pub IsEmitted : Aim → SlotCode → Object → Type 0
-IsEmitted Mips code o = (o.target ≡ MIPS) × mips.IsObjectOf code o
-IsEmitted Sparc code o = (o.target ≡ SPARC) × (o.statics ≡ program_statics Big code)
+IsEmitted Mips code o = IsObjectOf mips code (flat_code 100 code) o
+IsEmitted Sparc code o = IsObjectOf sparc code (flat_code 132 code) o
 
 -- The image of a program, and its rows: slot code of the program, the object of the slot code, and what a linker makes of this one object. So
 -- the anchors are the program's static objects and then its strings, in its order, each with the address at which it is placed.
