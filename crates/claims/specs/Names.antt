@@ -9,7 +9,8 @@ use Rattle.ps_store.specs.StoreState.{StoreState}
 use Rattle.ps_store.specs.Store.{entries_of}
 use Rattle.ps_store.specs.Entries.{value_at}
 use Rattle.ps_step.specs.Results.{◌>>=◌}
-use Rattle.table_model.specs.Reading.{Walked, TooDeep, top_of, dict_in, dict_at, items_at, name_at, number_at, procedure_at}
+use Rattle.table_model.specs.declared.lack.Lack.TheVariants.{TooDeep}
+use Rattle.table_model.specs.Reading.{Walked, top_of, dict_in, dict_at, items_at, name_at, number_at, procedure_at}
 use Rattle.table_model.specs.Symbols.{is_function, is_called}
 use Rattle.table_model.specs.Types.{IntKind, UnsignedKind, CharKind, PointerKind, ArrayKind, StructKind, type_kind, member_in}
 

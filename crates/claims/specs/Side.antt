@@ -8,7 +8,8 @@ use Rattle.machine_state.specs.Regions.{Regions}
 use Rattle.ps_store.specs.StoreState.{StoreState}
 use Rattle.frame_bytes.specs.Bytes.{Bytes, bytes_of}
 use Rattle.table_model.specs.Rows.{PointRow}
-use Rattle.table_model.specs.Frames.{TargetRow, row_of_target}
+use Rattle.table_model.specs.declared.row.TargetRow.{TargetRow}
+use Rattle.table_model.specs.Frames.{row_of_target}
 use Rattle.dialect_model.specs.Dial.{Target, Standing, Dial}
 use Rattle.dialect_model.specs.TableUse.{TableUse, Trouble, Eval}
 use Rattle.c_session.specs.Commands.{Refusal, Resume}

@@ -12,8 +12,11 @@ use Rattle.ps_step.specs.declared.machine.PsCore.{PsCore}
 use Rattle.ps_step.specs.Results.{◌>>=◌}
 use Rattle.frame_bytes.specs.Bytes.{Bytes, places_of, no_bytes}
 use Rattle.frame_bytes.specs.declared.frame.Frame.{Frame}
-use Rattle.table_model.specs.Reading.{Walked, Lack, Missing, WrongType, Outside, NoPoint, TooDeep, Unforced}
-use Rattle.table_model.specs.Frames.{TargetRow, frame_at}
+use Rattle.table_model.specs.declared.lack.Lack.{Lack}
+use Rattle.table_model.specs.declared.lack.Lack.TheVariants.{Missing, WrongType, Outside, NoPoint, TooDeep, Unforced}
+use Rattle.table_model.specs.Reading.{Walked}
+use Rattle.table_model.specs.declared.row.TargetRow.{TargetRow}
+use Rattle.table_model.specs.Frames.{frame_at}
 use Rattle.table_model.specs.Symbols as symbols
 
 -- A target: how its frames are found, where its context block is, its byte order and its memory.

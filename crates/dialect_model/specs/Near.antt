@@ -8,7 +8,8 @@ use Rattle.ps_step.specs.declared.fault.PsError.TheVariants.{LimitCheck, ExecSta
 use Rattle.ps_step.specs.declared.fault.PsFault.TheVariants.{Spent as SpentFault}
 use Rattle.ps_step.specs.declared.machine.PsCore.{PsCore}
 use Rattle.ps_run.specs.Runs.{Runs}
-use Rattle.table_model.specs.Reading.{Walked, Unforced}
+use Rattle.table_model.specs.declared.lack.Lack.TheVariants.{Unforced}
+use Rattle.table_model.specs.Reading.{Walked}
 use Rattle.dialect_model.specs.Dial.{Dial, no_target}
 use Rattle.dialect_model.specs.Forcing.{NoTarget, ForcesUnit, deferred, forcing}
 use Rattle.dialect_model.specs.TableUse.{TableUse, with_store, Trouble, Kind, Spent, Eval, Looks}

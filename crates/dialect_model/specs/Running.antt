@@ -12,7 +12,8 @@ use Rattle.ps_step.specs.declared.fault.PsFault.TheVariants.{Spent as SpentFault
 use Rattle.ps_step.specs.declared.item.Item.TheVariants.{Object}
 use Rattle.ps_step.specs.declared.machine.PsCore.{PsCore}
 use Rattle.ps_run.specs.Runs.{Answer, Runs}
-use Rattle.table_model.specs.Reading.{Walked, WrongType}
+use Rattle.table_model.specs.declared.lack.Lack.TheVariants.{WrongType}
+use Rattle.table_model.specs.Reading.{Walked}
 use Rattle.dialect_model.specs.Dial.{Dial}
 use Rattle.dialect_model.specs.Operating.{Operates}
 use Rattle.dialect_model.specs.TableUse.{TableUse, Trouble, Kind, Wanting, Eval, trouble_of, gives, fails}

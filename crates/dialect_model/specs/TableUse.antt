@@ -5,7 +5,9 @@ use Rattle.ps_store.specs.declared.object.DictId.{DictId}
 use Rattle.ps_step.specs.declared.fault.PsError.{PsError}
 use Rattle.ps_step.specs.declared.fault.PsFault.{PsFault}
 use Rattle.ps_step.specs.declared.fault.PsFault.TheVariants.{Error, Spent as SpentFault, Link, NoMemory}
-use Rattle.table_model.specs.Reading.{Walked, Lack, Unforced, kind_of}
+use Rattle.table_model.specs.declared.lack.Lack.{Lack}
+use Rattle.table_model.specs.declared.lack.Lack.TheVariants.{Unforced}
+use Rattle.table_model.specs.Reading.{Walked, kind_of}
 use Rattle.dialect_model.specs.Forcing.{ForcesUnit}
 
 -- The table's store; the steps that are left to the command; the immediate cell; and the command's own dictionary, which it
