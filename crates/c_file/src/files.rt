@@ -58,11 +58,26 @@ fn built_ins<'a>(alloc: Global) -> Result<Table<'a>, AllocError>
     ensures { IfOk result HasBuiltIns }
 {
     let mut table = Table::new(alloc);
-    built_in(alloc, &mut table, b"getchar", CType::Int, Many::new(alloc))?;
-    let int = one_int(alloc)?;
-    built_in(alloc, &mut table, b"putchar", CType::Int, int)?;
-    let int = one_int(alloc)?;
-    built_in(alloc, &mut table, b"exit", CType::Void, int)?;
+    let Ok(()) = built_in(alloc, &mut table, b"getchar", CType::Int, Many::new(alloc)) else {
+        drop(table);
+        return Err(AllocError);
+    };
+    let Ok(int) = one_int(alloc) else {
+        drop(table);
+        return Err(AllocError);
+    };
+    let Ok(()) = built_in(alloc, &mut table, b"putchar", CType::Int, int) else {
+        drop(table);
+        return Err(AllocError);
+    };
+    let Ok(int) = one_int(alloc) else {
+        drop(table);
+        return Err(AllocError);
+    };
+    let Ok(()) = built_in(alloc, &mut table, b"exit", CType::Void, int) else {
+        drop(table);
+        return Err(AllocError);
+    };
     let _outside = table.begin();
     Ok(table)
 }
