@@ -1,5 +1,5 @@
 -- The digits of a number are appended.
-use Rattle.std.proofs.Common.{◌≡◌, ℕ, ℤ, pos, zero, suc, ◌+◌, ◌-◌, ◌*◌, ◌<◌, ◌≤◌, ◌/◌, ◌%◌, ◌^◌, Bool, true, false, nat_lt, Option, Some, None, List, [], ◌∷◌, ◌++◌, length, codes, decimal, if◌then◌else◌, refl, sym, ap, ◌∙◌, subst, arith, lt-ltb, le-ltb, ltb-true, ltb-false}
+use Rattle.std.proofs.Common.{◌≡◌, ℕ, ℤ, pos, zero, suc, ◌+◌, ◌*◌, ◌<◌, ◌≤◌, ◌/◌, ◌%◌, ◌^◌, Bool, true, false, nat_lt, List, [], ◌∷◌, ◌++◌, decimal, if◌then◌else◌, refl, sym, ap, ◌∙◌, subst, arith, ltb-true, ltb-false}
 use Rattle.std.proofs.lemmas.Fmt.{decimal_digit, decimal_step}
 use Rattle.std.specs.Ordering.{int_eq}
 use Rattle.std.specs.Cmp.{signed_Decides}
@@ -12,13 +12,13 @@ use Rattle.ps_step.specs.declared.item.Item.{Item}
 use Rattle.ps_step.specs.declared.machine.PsCore.{PsCore}
 use Rattle.ps_run.specs.Runs.{Operates}
 use Rattle.ps_run.specs.Passes.{Passes}
-use Rattle.ps_text.specs.Code.{Code, Stop, Word, ◌▸◌, n, w, l, t, p}
-use Rattle.ps_terms.specs.Machine.{Val, Obj, Key, Bytes, Quoted, State, state, entered}
-use Rattle.ps_terms.specs.Stands.{Is, Are, none, more, Frames, core}
-use Rattle.ps_terms.specs.Printing.{word, AllPrintable, Surely, Printing}
+use Rattle.ps_text.specs.Code.{Stop, n, w}
+use Rattle.ps_terms.specs.Machine.{Obj, State, state}
+use Rattle.ps_terms.specs.Stands.{Are, none, more, core}
+use Rattle.ps_terms.specs.Printing.{word, AllPrintable, Printing}
 use Rattle.ps_terms.proofs.Steps.{Room}
 use Rattle.ps_terms.specs.Printing.{further}
-use Rattle.ps_terms.proofs.Going.{Goes, goes_on, goes_end, goes_call}
+use Rattle.ps_terms.proofs.Going.{goes_on, goes_end, goes_call}
 use Rattle.ps_print.specs.Prelude.{digits_put, digits_last, digits_rest, digits_more, digits_test, digits_body}
 use Rattle.ps_print.specs.Words.{words, Holds, RoomFor, ten}
 use Rattle.ps_print.specs.Things.{last, one, many, digits_steps}

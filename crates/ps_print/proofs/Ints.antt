@@ -1,12 +1,11 @@
 -- A signed number is appended, and an integer at a place.
-use Rattle.std.proofs.Common.{◌≡◌, ℕ, ℤ, pos, negsuc, ◌-ℤ◌, zero, suc, ◌+◌, ◌-◌, ◌*◌, ◌<◌, ◌≤◌, ◌/◌, ◌%◌, ◌^◌, Bool, true, false, nat_lt, int_lt, Option, Some, None, Result, Ok, Err, List, [], ◌∷◌, ◌++◌, length, codes, decimal, if◌then◌else◌, refl, sym, ap, ◌∙◌, subst, arith, lt-ltb, le-ltb, ltb-true, ltb-false}
+use Rattle.std.proofs.Common.{◌≡◌, ℕ, ℤ, pos, negsuc, ◌-ℤ◌, suc, ◌-◌, ◌<◌, ◌≤◌, ◌^◌, Bool, true, false, nat_lt, int_lt, Some, None, Result, Ok, List, [], ◌∷◌, ◌++◌, codes, decimal, if◌then◌else◌, refl, sym, ap, ◌∙◌, subst, arith, lt-ltb, le-ltb, ltb-true, ltb-false}
 use Rattle.std.specs.Fmt.{signed_decimal}
 use Rattle.std.proofs.lemmas.Int.{ints}
 use Rattle.std.specs.Ordering.{int_cmp}
-use Rattle.std.specs.declared.cmp.Ordering.{Ordering}
 use Rattle.std.specs.declared.cmp.Ordering.TheVariants.{Less, Equal, Greater}
 use Rattle.ps_store.specs.declared.object.PsObj.{PsObj}
-use Rattle.ps_store.specs.declared.object.PsObj.TheVariants.{Int, Bool as Truth, Array}
+use Rattle.ps_store.specs.declared.object.PsObj.TheVariants.{Int, Bool as Truth}
 use Rattle.ps_store.specs.declared.object.ArrayId.{ArrayId}
 use Rattle.ps_store.specs.declared.object.DictId.{DictId}
 use Rattle.ps_store.specs.StoreState.{StoreState}
@@ -14,19 +13,19 @@ use Rattle.ps_step.specs.declared.compare.Relation.TheVariants.{Lt}
 use Rattle.ps_step.specs.declared.fault.PsError.{PsError}
 use Rattle.ps_step.specs.declared.item.Item.{Item}
 use Rattle.ps_step.specs.declared.machine.PsCore.{PsCore}
-use Rattle.ps_step.specs.Arithmetic.{difference, is_integer, in_range}
+use Rattle.ps_step.specs.Arithmetic.{difference, in_range}
 use Rattle.ps_step.specs.Compare.{holds as relates}
 use Rattle.ps_run.specs.Runs.{Operates}
 use Rattle.ps_run.specs.Passes.{Passes}
-use Rattle.ps_text.specs.Code.{Code, Stop, Word, ◌▸◌, n, w, l, t, p}
-use Rattle.ps_terms.specs.Machine.{Val, Obj, Key, Bytes, Quoted, State, state, entered, acted, result, go}
-use Rattle.ps_terms.specs.Stands.{Is, Are, none, more, Frames, core}
-use Rattle.ps_terms.specs.Printing.{word, AllPrintable, Surely, Printing}
+use Rattle.ps_text.specs.Code.{Stop, w}
+use Rattle.ps_terms.specs.Machine.{Val, Obj, Key, Bytes, state, acted, result}
+use Rattle.ps_terms.specs.Stands.{Are, none, more, core}
+use Rattle.ps_terms.specs.Printing.{word, Printing}
 use Rattle.ps_terms.proofs.Steps.{Room}
 use Rattle.ps_terms.specs.Printing.{further}
-use Rattle.ps_terms.proofs.Going.{Goes, goes_on, goes_end, goes_call}
+use Rattle.ps_terms.proofs.Going.{goes_on, goes_end, goes_call}
 use Rattle.ps_print.specs.Prelude.{digits_body, showunsigned_value, showunsigned_body, signed_minus, signed_rest, signed_body, showint_rest, showint_value, showint_body}
-use Rattle.ps_print.specs.Words.{words, Holds, RoomFor, ten}
+use Rattle.ps_print.specs.Words.{words, Holds, RoomFor}
 use Rattle.ps_print.proofs.Parts.{word_small, On, put_goes, usub_goes, fetch_goes}
 use Rattle.ps_print.specs.Things.{digits_steps, minus_steps, below_zero, signed_steps, showint_steps, showunsigned_steps}
 use Rattle.ps_print.proofs.Digits.{digits_run, room_here}

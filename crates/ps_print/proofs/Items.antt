@@ -1,9 +1,9 @@
 -- Items one after another, and arrays.
-use Rattle.std.proofs.Common.{◌≡◌, ℕ, ℤ, pos, negsuc, zero, suc, ◌+◌, ◌-◌, ◌*◌, ◌<◌, ◌≤◌, ◌%◌, ◌^◌, Bool, true, false, Option, Some, None, Result, Ok, Err, List, [], ◌∷◌, ◌++◌, length, codes, if◌then◌else◌, refl, sym, ap, ◌∙◌, subst, arith, append_assoc, append-nil}
+use Rattle.std.proofs.Common.{◌≡◌, ℕ, ℤ, pos, zero, suc, ◌+◌, ◌<◌, ◌≤◌, ◌%◌, ◌^◌, Bool, true, false, Some, None, Result, List, [], ◌∷◌, ◌++◌, length, codes, refl, sym, ap, ◌∙◌, subst, arith, append_assoc, append-nil}
 use Rattle.std.specs.Ordering.{int_eq}
 use Rattle.std.specs.Cmp.{signed_Decides}
 use Rattle.ps_store.specs.declared.object.PsObj.{PsObj}
-use Rattle.ps_store.specs.declared.object.PsObj.TheVariants.{Int, Bool as Truth, Array, Dict}
+use Rattle.ps_store.specs.declared.object.PsObj.TheVariants.{Int, Bool as Truth, Dict}
 use Rattle.ps_store.specs.declared.object.ArrayId.{ArrayId}
 use Rattle.ps_store.specs.declared.object.DictId.{DictId}
 use Rattle.ps_store.specs.StoreState.{StoreState}
@@ -12,14 +12,14 @@ use Rattle.ps_step.specs.declared.item.Item.{Item}
 use Rattle.ps_step.specs.declared.machine.PsCore.{PsCore}
 use Rattle.ps_run.specs.Runs.{Operates}
 use Rattle.ps_run.specs.Passes.{Passes}
-use Rattle.ps_text.specs.Code.{Code, Stop, Word, ◌▸◌, n, w, l, t, p}
-use Rattle.ps_terms.specs.Machine.{Val, Obj, Key, Bytes, Quoted, State, state, entered, acted, result, go}
-use Rattle.ps_terms.specs.Stands.{Is, Are, none, more, Frames, core}
-use Rattle.ps_terms.specs.Printing.{word, AllPrintable, Surely, Printing}
+use Rattle.ps_text.specs.Code.{n, w, t}
+use Rattle.ps_terms.specs.Machine.{Val, Obj, Key, Bytes, State, state, acted, result, go}
+use Rattle.ps_terms.specs.Stands.{core}
+use Rattle.ps_terms.specs.Printing.{word, AllPrintable, Printing}
 use Rattle.ps_terms.proofs.Steps.{Room}
 use Rattle.ps_terms.specs.Printing.{further, HasKey}
-use Rattle.ps_terms.proofs.Going.{Goes, goes_on, goes_end, goes_through, goes_get}
-use Rattle.ps_print.specs.Prelude.{items_next, items_sum, items_size, items_turn, items_item, items_drop, items_cut, items_room, items_before, items_some, items_test, items_body, show_body}
+use Rattle.ps_terms.proofs.Going.{goes_on, goes_through, goes_get}
+use Rattle.ps_print.specs.Prelude.{items_next, items_sum, items_size, items_turn, items_drop, items_room, items_before, items_test, items_body, show_body}
 use Rattle.ps_print.specs.Words.{words, Holds, RoomFor}
 use Rattle.ps_print.specs.Items.{Thing, items_text, items_left, items_steps}
 use Rattle.ps_print.proofs.Parts.{On, put_at, uadd_goes}

@@ -1,25 +1,24 @@
 -- Values are shown as their C type says.
-use Rattle.std.proofs.Common.{◌≡◌, ℕ, ℤ, pos, zero, suc, ◌+◌, ◌-◌, ◌<◌, ◌≤◌, ◌%◌, ◌^◌, ◌==◌, Bool, true, false, if◌then◌else◌, List, [], ◌∷◌, ◌++◌, length, map, take, drop, take_at, drop_at, replicate, codes, refl, sym, ap, ◌∙◌, subst, arith, append_assoc, append-nil, ne_eqb, Some}
+use Rattle.std.proofs.Common.{◌≡◌, ℕ, pos, zero, suc, ◌+◌, ◌-◌, ◌<◌, ◌≤◌, ◌%◌, ◌^◌, ◌==◌, Bool, true, false, if◌then◌else◌, List, [], ◌∷◌, ◌++◌, length, map, take, drop, take_at, drop_at, replicate, codes, refl, sym, ap, ◌∙◌, subst, arith, append_assoc, append-nil, ne_eqb, Some}
 use Rattle.std.specs.declared.alloc.Global.{Global}
 use Rattle.std.specs.declared.rc.Rc.{Rc}
-use Rattle.ps_store.specs.declared.object.PsObj.{PsObj}
-use Rattle.ps_store.specs.declared.object.PsObj.TheVariants.{Int, Dict}
+use Rattle.ps_store.specs.declared.object.PsObj.TheVariants.{Int}
 use Rattle.ps_store.specs.declared.object.ArrayId.{ArrayId}
 use Rattle.ps_store.specs.declared.object.DictId.{DictId}
 use Rattle.ps_store.specs.StoreState.{StoreState}
 use Rattle.ps_step.specs.declared.machine.PsCore.{PsCore}
 use Rattle.ps_run.specs.Runs.{Operates}
 use Rattle.c_tree.specs.declared.types.CType.{CType}
-use Rattle.c_tree.specs.declared.types.CType.TheVariants.{Char, Int as IntType, Unsigned, Void, Pointer', Array', Struct}
+use Rattle.c_tree.specs.declared.types.CType.TheVariants.{Char, Int as IntType, Unsigned, Pointer'}
 use Rattle.c_tree.specs.declared.types.StructDef.{StructDef}
 use Rattle.c_tree.specs.declared.types.Member.{Member}
 use Rattle.c_tree.specs.Layout.{members_of}
 use Rattle.c_show.specs.declared.held.Held.TheVariants as held
 use Rattle.c_show.specs.Printed.{Showing, Told, Page, with_text, put_scalar, put_items, in_braces, put_array, put_within, put_string, is_char, byte_of, leaf_text, string_text, shown}
-use Rattle.ps_terms.specs.Machine.{Obj, Key}
-use Rattle.ps_terms.specs.Printing.{word, Printing, HasKey}
+use Rattle.ps_terms.specs.Machine.{Obj}
+use Rattle.ps_terms.specs.Printing.{Printing, HasKey}
 use Rattle.ps_print.specs.Words.{Holds}
-use Rattle.ps_print.specs.Items.{Thing, items_text, items_left, less}
+use Rattle.ps_print.specs.Items.{Thing, items_text, items_left}
 use Rattle.ps_print.specs.Things.{Tail, int_thing, unsigned_thing, char_thing, pointer_thing, string_thing, array_thing, struct_thing}
 use Rattle.ps_print.specs.Laid.{need, Laid, an_int, an_unsigned, a_char, a_pointer, a_string, an_array, a_struct, EachLaid, none, more, MembersLaid, no_member, a_member}
 use Rattle.ps_print.proofs.Items.{Shows, EachShows}

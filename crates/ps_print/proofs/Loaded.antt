@@ -1,5 +1,5 @@
 -- The prelude runs on a new store, by computing.
-use Rattle.std.proofs.Common.{◌≡◌, ℕ, ℤ, zero, suc, ◌+◌, Bool, true, false, ◌&&◌, nat_lt, bytes_eq, ltb-true, ap, subst, ◌<◌, arith, slice_get, is_some, if◌then◌else◌, Option, Some, None, Result, Ok, Err, List, [], ◌∷◌, length, codes, refl}
+use Rattle.std.proofs.Common.{◌≡◌, ℕ, zero, suc, ◌+◌, Bool, true, false, ◌&&◌, nat_lt, bytes_eq, ltb-true, ap, subst, ◌<◌, arith, slice_get, is_some, if◌then◌else◌, Option, Some, None, List, [], ◌∷◌, length, codes, refl}
 use Rattle.std.specs.Fmt.{digits}
 use Rattle.std.specs.Ordering.{int_eq}
 use Rattle.std.specs.Cmp.{signed_Decides}
@@ -7,30 +7,27 @@ use Rattle.std.specs.Cmp.Lexicographic.{bytes_decides}
 use Rattle.std.proofs.lemmas.Bool.{and_parts}
 use Rattle.ps_scan.specs.Bytes.{is_white, is_special, is_regular, is_hexadecimal}
 use Rattle.ps_store.specs.declared.object.PsObj.{PsObj}
-use Rattle.ps_store.specs.declared.object.PsObj.TheVariants.{Int, Bool as Truth, Name, Str, Array, Dict, Op, Mark, Null}
+use Rattle.ps_store.specs.declared.object.PsObj.TheVariants.{Int, Name, Str, Array}
 use Rattle.ps_store.specs.declared.object.StringId.{StringId}
-use Rattle.ps_store.specs.declared.fault.StoreFault.{StoreFault}
 use Rattle.ps_store.specs.Operators.{operator_number}
 use Rattle.ps_store.specs.StoreState.{StoreState}
-use Rattle.ps_store.specs.Store.{new_store, making_string, held, bytes_of, elements_of}
-use Rattle.ps_step.specs.declared.item.Item.TheVariants.{Text}
+use Rattle.ps_store.specs.Store.{held, bytes_of, elements_of}
 use Rattle.ps_step.specs.declared.machine.PsCore.{PsCore}
 use Rattle.ps_step.specs.Keys.{named}
 use Rattle.ps_run.specs.Step.{Outcome, Ended, Next, Asks, Failed, step}
-use Rattle.ps_text.specs.Code.{Code, Stop, Num, Word, Lit, Text as Quote, Proc, render}
-use Rattle.ps_text.specs.Grown.{IsString, IsArray}
+use Rattle.ps_text.specs.Code.{Code, Stop, Num, Word, Lit, Text as Quote, Proc}
+use Rattle.ps_text.specs.Grown.{IsString}
 use Rattle.ps_text.specs.Spells.{Spells}
-use Rattle.ps_store.specs.declared.object.ArrayId.{ArrayId}
 use Rattle.ps_store.specs.declared.object.Part.TheVariants.{Table}
-use Rattle.ps_terms.specs.Machine.{Entry, Acts, Branch, Branches, Does, Gives, Words, meaning}
+use Rattle.ps_terms.specs.Machine.{Does, Words, meaning}
 use Rattle.ps_terms.specs.Stands.{Means, Knows}
 use Rattle.ps_print.specs.Words.{words, Holds}
 use Rattle.ps_print.specs.Loaded.{start, after, or_new, executed, loaded, digits_id}
 use Rattle.ps_print.specs.Leads.{Leads}
-use Rattle.ps_run.specs.Runs.{Operates, Answer, Runs}
+use Rattle.ps_run.specs.Runs.{Operates, Runs}
 use Rattle.ps_terms.specs.Printing.{further}
 use Rattle.ps_run.proofs.Apart.{behind}
-use Rattle.ps_print.specs.Prelude.{prelude, digits_body, signed_body, showint_body, showunsigned_body, showchar_body, showpointer_body, items_body, showarray_body, members_body, showstruct_body, show_body, print_body}
+use Rattle.ps_print.specs.Prelude.{digits_body, signed_body, showint_body, showunsigned_body, showchar_body, showpointer_body, items_body, showarray_body, members_body, showstruct_body, show_body, print_body}
 
 -- ---- what the objects are, as a test
 

@@ -1,5 +1,5 @@
 -- Members of a struct one after another, and structs.
-use Rattle.std.proofs.Common.{◌≡◌, ◌≢◌, ℕ, ℤ, pos, negsuc, ◌+ℤ◌, zero, suc, ◌+◌, ◌-◌, ◌*◌, ◌<◌, ◌≤◌, ◌%◌, ◌^◌, Bool, true, false, nat_lt, Option, Some, None, Result, Ok, Err, List, [], ◌∷◌, ◌++◌, length, codes, if◌then◌else◌, refl, sym, ap, ◌∙◌, subst, arith, append_assoc, append-nil, lt-ltb}
+use Rattle.std.proofs.Common.{◌≡◌, ◌≢◌, ℕ, ℤ, pos, ◌+ℤ◌, zero, suc, ◌+◌, ◌<◌, ◌≤◌, ◌%◌, ◌^◌, Bool, true, false, nat_lt, Some, None, Result, Ok, List, [], ◌∷◌, ◌++◌, length, codes, refl, sym, ap, ◌∙◌, subst, arith, append_assoc, append-nil, lt-ltb}
 use Rattle.std.proofs.lemmas.Int.{ints}
 use Rattle.std.specs.Ordering.{int_eq}
 use Rattle.std.specs.Cmp.{signed_Decides}
@@ -15,13 +15,12 @@ use Rattle.ps_step.specs.declared.machine.PsCore.{PsCore}
 use Rattle.ps_step.specs.Arithmetic.{sum, in_range}
 use Rattle.ps_run.specs.Runs.{Operates}
 use Rattle.ps_run.specs.Passes.{Passes}
-use Rattle.ps_text.specs.Code.{Code, Stop, ◌▸◌, w}
+use Rattle.ps_text.specs.Code.{Stop, w}
 use Rattle.ps_terms.specs.Machine.{Val, Obj, Key, Bytes, State, state, acted, result, go}
 use Rattle.ps_terms.specs.Stands.{core}
 use Rattle.ps_terms.specs.Printing.{word, AllPrintable, Printing, further, HasKey}
-use Rattle.ps_terms.proofs.Steps.{Room}
 use Rattle.ps_terms.proofs.Going.{goes_on, goes_through, goes_get}
-use Rattle.ps_print.specs.Prelude.{items_drop, items_cut, show_kind, show_body, members_next, members_add, members_turn, members_show, members_type, members_place, members_sum, members_offset, members_member, members_get, members_item, members_room, members_before, members_some, members_choice, members_test, members_length, members_body, showstruct_close, showstruct_open, showstruct_members, showstruct_body}
+use Rattle.ps_print.specs.Prelude.{items_drop, show_body, members_next, members_add, members_turn, members_show, members_type, members_place, members_sum, members_offset, members_member, members_get, members_room, members_before, members_choice, members_test, members_length, members_body, showstruct_close, showstruct_open, showstruct_members, showstruct_body}
 use Rattle.ps_print.specs.Words.{words, Holds, RoomFor}
 use Rattle.ps_print.specs.Items.{Thing, items_text, items_left, to_member, to_room, before_member, behind_member, members_steps}
 use Rattle.ps_print.specs.Laid.{IsMember}

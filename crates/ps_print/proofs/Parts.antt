@@ -1,5 +1,5 @@
 -- Single operators of the dialect in a run.
-use Rattle.std.proofs.Common.{◌≡◌, ℕ, ℤ, pos, zero, suc, ◌+◌, ◌-◌, ◌<◌, ◌≤◌, ◌/◌, ◌%◌, ◌^◌, Bool, true, false, Option, Some, None, Result, Ok, Err, List, [], ◌∷◌, ◌++◌, length, slice_get, nat_le, int_le, unsigned_abs, codes, if◌then◌else◌, refl, sym, ap, ◌∙◌, subst, arith, le-leb}
+use Rattle.std.proofs.Common.{◌≡◌, ℕ, ℤ, pos, suc, ◌+◌, ◌-◌, ◌<◌, ◌/◌, ◌%◌, ◌^◌, Bool, true, false, Some, None, Result, Ok, List, [], ◌∷◌, ◌++◌, length, slice_get, nat_le, int_le, codes, refl, sym, ap, ◌∙◌, subst, arith, le-leb}
 use Rattle.std.proofs.lemmas.Int.{to_z_pos}
 use Rattle.std.specs.Int.{w32}
 use Rattle.ps_store.specs.declared.object.PsObj.{PsObj}
@@ -17,11 +17,11 @@ use Rattle.ps_step.specs.Results.{◌>>=◌, at}
 use Rattle.ps_step.specs.Values.{count_of, as_count, within}
 use Rattle.ps_step.specs.Composites.{value_in}
 use Rattle.ps_step.specs.State.{with_operands}
-use Rattle.ps_step.specs.Executing.{Turn, alone, numbered}
+use Rattle.ps_step.specs.Executing.{alone, numbered}
 use Rattle.ps_run.specs.Runs.{Operates}
 use Rattle.ps_text.specs.Code.{Code, Word}
-use Rattle.ps_terms.specs.Machine.{Val, Obj, Key, Bytes, Quoted, State, state, entered}
-use Rattle.ps_terms.specs.Stands.{Is, Are, none, more, core}
+use Rattle.ps_terms.specs.Machine.{Val, Obj, Key, Bytes, State, state, entered}
+use Rattle.ps_terms.specs.Stands.{Are, more, core}
 use Rattle.ps_terms.specs.Printing.{word, AllPrintable, Surely, Printing}
 use Rattle.ps_terms.proofs.Going.{Goes, goes_asked, goes_made}
 use Rattle.ps_print.specs.Words.{words, Holds}

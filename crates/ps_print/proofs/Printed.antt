@@ -1,5 +1,5 @@
 -- Values are printed.
-use Rattle.std.proofs.Common.{◌≡◌, ◌≢◌, ℕ, ℤ, pos, zero, suc, ◌+◌, ◌≤◌, Err, List, [], ◌∷◌, ◌++◌, length, codes, refl, sym, ap, ◌∙◌, subst, arith, append_assoc}
+use Rattle.std.proofs.Common.{◌≡◌, ℕ, pos, List, [], ◌∷◌, ◌++◌, refl, sym, subst, arith}
 use Rattle.ps_store.specs.declared.object.PsObj.{PsObj}
 use Rattle.ps_store.specs.declared.object.PsObj.TheVariants.{Int, Dict}
 use Rattle.ps_store.specs.declared.object.ArrayId.{ArrayId}
@@ -13,8 +13,8 @@ use Rattle.ps_run.proofs.Apart.{passes_here}
 use Rattle.c_tree.specs.declared.types.CType.{CType}
 use Rattle.c_tree.specs.declared.types.StructDef.{StructDef}
 use Rattle.c_show.specs.Printed.{Showing, shown}
-use Rattle.ps_text.specs.Code.{Code, Stop, Word, ◌▸◌, n, w, l, t, p}
-use Rattle.ps_terms.specs.Machine.{Val, Obj, Key, State, state}
+use Rattle.ps_text.specs.Code.{Stop, n, w, t, p}
+use Rattle.ps_terms.specs.Machine.{Val, Obj, Key, state}
 use Rattle.ps_terms.specs.Stands.{Are, Frames, core}
 use Rattle.ps_terms.specs.Printing.{word, Printing, further}
 use Rattle.ps_terms.proofs.Steps.{Room}

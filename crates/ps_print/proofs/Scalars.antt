@@ -1,8 +1,8 @@
 -- Characters, pointers and strings as things that `Show` shows.
-use Rattle.std.proofs.Common.{◌≡◌, ℕ, ℤ, pos, negsuc, zero, suc, ◌+◌, ◌-◌, ◌*◌, ◌<◌, ◌≤◌, ◌%◌, ◌^◌, Bool, true, false, Option, Some, None, List, [], ◌∷◌, ◌++◌, length, codes, bytes_eq, refl, sym, ap, ◌∙◌, subst, arith, append_assoc}
+use Rattle.std.proofs.Common.{◌≡◌, ℕ, ℤ, pos, suc, ◌<◌, ◌^◌, true, false, Some, List, [], ◌∷◌, ◌++◌, codes, bytes_eq, refl, sym, ◌∙◌, subst, arith, append_assoc}
 use Rattle.std.specs.Ordering.{int_eq}
 use Rattle.ps_store.specs.declared.object.PsObj.{PsObj}
-use Rattle.ps_store.specs.declared.object.PsObj.TheVariants.{Int, Bool as Truth, Array, Dict}
+use Rattle.ps_store.specs.declared.object.PsObj.TheVariants.{Int, Bool as Truth, Dict}
 use Rattle.ps_store.specs.declared.object.ArrayId.{ArrayId}
 use Rattle.ps_store.specs.declared.object.DictId.{DictId}
 use Rattle.ps_store.specs.StoreState.{StoreState}
@@ -10,8 +10,8 @@ use Rattle.ps_step.specs.declared.item.Item.{Item}
 use Rattle.ps_step.specs.declared.machine.PsCore.{PsCore}
 use Rattle.ps_run.specs.Runs.{Operates}
 use Rattle.ps_run.specs.Passes.{Passes}
-use Rattle.ps_text.specs.Code.{Code, Stop, Word, ◌▸◌, n, w, l, t, p}
-use Rattle.ps_terms.specs.Machine.{Val, Obj, Key, Bytes, Quoted, State, state, entered, go}
+use Rattle.ps_text.specs.Code.{Code, Stop, n, w, t}
+use Rattle.ps_terms.specs.Machine.{Val, Obj, Key, Bytes, State, state, go}
 use Rattle.ps_terms.specs.Stands.{core}
 use Rattle.ps_terms.specs.Printing.{word, AllPrintable, Printing, further, HasKey}
 use Rattle.ps_terms.proofs.Steps.{Room}

@@ -1,5 +1,5 @@
 -- How many steps printing takes at most.
-use Rattle.std.proofs.Common.{◌≡◌, ℕ, zero, suc, ◌+◌, ◌-◌, ◌*◌, ◌<◌, ◌≤◌, ◌/◌, ◌%◌, ◌^◌, Bool, true, false, nat_lt, if◌then◌else◌, List, [], ◌∷◌, length, map, refl, sym, ap, ◌∙◌, subst, arith}
+use Rattle.std.proofs.Common.{◌≡◌, ℕ, zero, suc, ◌+◌, ◌*◌, ◌≤◌, ◌/◌, ◌%◌, ◌^◌, Bool, true, false, nat_lt, if◌then◌else◌, List, [], ◌∷◌, length, map, refl, sym, subst, arith}
 use Rattle.ps_store.specs.declared.object.ArrayId.{ArrayId}
 use Rattle.ps_store.specs.declared.object.DictId.{DictId}
 use Rattle.ps_store.specs.StoreState.{StoreState}
@@ -11,7 +11,7 @@ use Rattle.c_tree.specs.Layout.{members_of}
 use Rattle.c_show.specs.Printed.{Showing, byte_of, string_text}
 use Rattle.ps_terms.specs.Printing.{Printing}
 use Rattle.ps_print.specs.Items.{Thing, items_left, items_steps, behind_member, members_steps}
-use Rattle.ps_print.specs.Things.{Tail, Bare, Dangling, Strung, tail_steps, char_thing, pointer_thing, string_thing, struct_thing, last, one, many, digits_steps, minus_steps, below_zero, signed_steps, showint_steps, showunsigned_steps, int_thing, unsigned_thing, list_steps, array_thing, print_steps}
+use Rattle.ps_print.specs.Things.{Tail, Bare, Dangling, Strung, tail_steps, char_thing, pointer_thing, string_thing, struct_thing, last, one, many, digits_steps, minus_steps, below_zero, signed_steps, int_thing, unsigned_thing, array_thing, print_steps}
 use Rattle.ps_print.specs.Laid.{Laid, an_int, an_unsigned, a_char, a_pointer, a_string, an_array, a_struct, EachLaid, none, more, MembersLaid, no_member, a_member}
 
 -- 16 for each digit

@@ -1,8 +1,8 @@
 -- Integers and arrays as things that `Show` shows.
-use Rattle.std.proofs.Common.{◌≡◌, ℕ, ℤ, pos, negsuc, zero, suc, ◌+◌, ◌-◌, ◌*◌, ◌<◌, ◌≤◌, ◌%◌, ◌^◌, Bool, true, false, Option, Some, None, Result, Ok, Err, List, [], ◌∷◌, ◌++◌, length, codes, decimal, bytes_eq, if◌then◌else◌, refl, sym, ap, ◌∙◌, subst, arith, append_assoc, append-nil}
+use Rattle.std.proofs.Common.{◌≡◌, ℕ, pos, zero, suc, ◌+◌, ◌<◌, ◌≤◌, ◌^◌, false, Some, List, [], ◌∷◌, ◌++◌, length, codes, decimal, bytes_eq, refl, sym, ap, ◌∙◌, subst, arith, append_assoc}
 use Rattle.std.specs.Fmt.{signed_decimal}
 use Rattle.ps_store.specs.declared.object.PsObj.{PsObj}
-use Rattle.ps_store.specs.declared.object.PsObj.TheVariants.{Int, Bool as Truth, Array, Dict}
+use Rattle.ps_store.specs.declared.object.PsObj.TheVariants.{Int, Bool as Truth, Dict}
 use Rattle.ps_store.specs.declared.object.ArrayId.{ArrayId}
 use Rattle.ps_store.specs.declared.object.DictId.{DictId}
 use Rattle.ps_store.specs.StoreState.{StoreState}
@@ -10,14 +10,14 @@ use Rattle.ps_step.specs.declared.item.Item.{Item}
 use Rattle.ps_step.specs.declared.machine.PsCore.{PsCore}
 use Rattle.ps_run.specs.Runs.{Operates}
 use Rattle.ps_run.specs.Passes.{Passes}
-use Rattle.ps_text.specs.Code.{Code, Stop, Word, ◌▸◌, n, w, l, t, p}
-use Rattle.ps_terms.specs.Machine.{Val, Obj, Key, Bytes, Quoted, State, state, entered, go}
-use Rattle.ps_terms.specs.Stands.{Is, Are, none, more, Frames, core}
-use Rattle.ps_terms.specs.Printing.{word, AllPrintable, Surely, Printing}
+use Rattle.ps_text.specs.Code.{Stop, w, t}
+use Rattle.ps_terms.specs.Machine.{Val, Obj, Key, Bytes, State, state, go}
+use Rattle.ps_terms.specs.Stands.{core}
+use Rattle.ps_terms.specs.Printing.{word, Printing}
 use Rattle.ps_terms.proofs.Steps.{Room}
 use Rattle.ps_terms.specs.Printing.{further, HasKey}
-use Rattle.ps_terms.proofs.Going.{Goes, goes_on, goes_end, goes_through, goes_get}
-use Rattle.ps_print.specs.Prelude.{items_body, show_kind, show_body, showint_body, showunsigned_body, showarray_close, showarray_items, showarray_count, showarray_open, showarray_list, showarray_choice, showarray_kind, showarray_to, showarray_body}
+use Rattle.ps_terms.proofs.Going.{goes_on, goes_through, goes_get}
+use Rattle.ps_print.specs.Prelude.{items_body, show_kind, show_body, showint_body, showunsigned_body, showarray_close, showarray_items, showarray_count, showarray_open, showarray_choice, showarray_kind, showarray_to, showarray_body}
 use Rattle.ps_print.specs.Words.{words, Holds, RoomFor}
 use Rattle.ps_print.specs.Items.{Thing, items_text, items_left, items_steps, less}
 use Rattle.ps_print.specs.Things.{int_thing, unsigned_thing, array_thing, list_steps, showint_steps, showunsigned_steps}

@@ -8,7 +8,7 @@ use Rattle.ps_store.specs.declared.object.DictId.{DictId}
 use Rattle.ps_store.specs.StoreState.{StoreState}
 use Rattle.ps_store.specs.Store.{elements_of}
 use Rattle.c_tree.specs.declared.types.CType.{CType}
-use Rattle.c_tree.specs.declared.types.CType.TheVariants.{Char, Int as IntType, Unsigned, Void, Pointer', Array', Struct}
+use Rattle.c_tree.specs.declared.types.CType.TheVariants.{Char, Int as IntType, Unsigned, Pointer', Array', Struct}
 use Rattle.c_tree.specs.declared.types.StructDef.{StructDef}
 use Rattle.c_tree.specs.declared.types.Member.{Member}
 use Rattle.c_tree.specs.Layout.{members_of}

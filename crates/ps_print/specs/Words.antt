@@ -1,5 +1,5 @@
 -- What is known of a store that holds the prelude.
-use Rattle.std.specs.Prelude.{◌≡◌, ℕ, ℤ, pos, ◌+◌, ◌-◌, ◌<◌, ◌≤◌, ◌/◌, ◌*◌, zero, suc, Bool, true, false, nat_lt, if◌then◌else◌, Some, List, [], ◌∷◌, length, slice_get, codes}
+use Rattle.std.specs.Prelude.{◌≡◌, ℕ, ◌+◌, ◌<◌, ◌≤◌, ◌*◌, zero, suc, false, Some, List, [], ◌∷◌, length, slice_get, codes}
 use Rattle.ps_store.specs.declared.object.PsObj.{PsObj}
 use Rattle.ps_store.specs.declared.object.PsObj.TheVariants.{Array, Str, Op}
 use Rattle.ps_store.specs.declared.object.ArrayId.{ArrayId}
