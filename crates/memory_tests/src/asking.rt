@@ -1,10 +1,13 @@
 // What is asked of a memory, and its answers as texts.
 
+ghost use Rattle.std.specs.Prelude.{◌≡◌, ◌⊎◌};
+ghost use Rattle.machine_state.specs.declared.layout.TheConstants.{MIPS, SPARC};
+
 use abs_mem::{AbsMem, Joined, MemFault, WalkFault, Wire};
 use break_plant::{PlantFault, plant, resume_pc, unplant};
 use frame_bytes::{Frame, Place, Space};
 use ldb_words::Kind;
-use machine_state::CONTEXT;
+use machine_state::{CONTEXT, MIPS, SPARC};
 use near_link::FaultyLink;
 use nub_wire::Msg;
 use ps_store::PsStore;
@@ -38,6 +41,13 @@ fn place_of(space: u32, at: u32) -> Place {
 /// The kind of a number: 0 a byte, else a word.
 fn kind_of(kind: u32) -> Kind {
     if kind == 0 { Kind::Byte } else { Kind::Word }
+}
+
+/// The target of a number: 1 the MIPS, else the SPARC.
+fn known(target: u8) -> u8
+    ensures { (result ≡ MIPS) ⊎ (result ≡ SPARC) }
+{
+    if target == MIPS { MIPS } else { SPARC }
 }
 
 /// How a fault of a memory is told.
@@ -140,9 +150,9 @@ impl<'a> Asking<'a> {
         out: &mut Vec<u8>,
     ) -> Result<(), AllocError> {
         let done = if is_planting {
-            plant(self.target, self.memory, at)
+            plant(known(self.target), self.memory, at)
         } else {
-            match unplant(self.target, self.memory, at) {
+            match unplant(known(self.target), self.memory, at) {
                 Ok(()) => Ok(()),
                 Err(fault) => Err(PlantFault::Memory(fault)),
             }
@@ -206,7 +216,7 @@ impl<'a> Asking<'a> {
         count: u32,
         out: &mut Vec<u8>,
     ) -> Result<(), AllocError> {
-        if plant(self.target, self.memory, at).is_err() {
+        if plant(known(self.target), self.memory, at).is_err() {
             return append(out, "not planted");
         }
         let mut past = None;
@@ -216,7 +226,7 @@ impl<'a> Asking<'a> {
                 Some(pc) => past = Some(pc),
             }
         }
-        if unplant(self.target, self.memory, at).is_err() {
+        if unplant(known(self.target), self.memory, at).is_err() {
             return append(out, "still planted");
         }
         match past {
