@@ -8,7 +8,7 @@ use c_judge::Fault;
 
 /// What stands round a statement: a loop, a loop or `switch`, a `switch`; whether labels may stand directly before it, and whether it is the body of
 /// a `switch`.
-#[derive(Clone, Copy, Debug, PartialEq, Eq)]
+#[derive(Clone, Copy)]
 pub struct Around {
     pub repeats: bool,
     pub breaks: bool,

@@ -47,16 +47,25 @@ pub fn check_body<'a>(
     let mut walk = begun(alloc, here, before);
     match add_stop(&mut walk, braces.opening) {
         Ok(()) => {}
-        Err(f) => return Err(f),
+        Err(f) => {
+            drop(walk);
+            return Err(f);
+        }
     }
     let inside = match in_braces(alloc, &mut walk, in_function(), to, braces) {
         Ok(inside) => inside,
-        Err(f) => return Err(f),
+        Err(f) => {
+            drop(walk);
+            return Err(f);
+        }
     };
     let ends = add_stop(&mut walk, braces.closing);
     match kept(inside, ends) {
         Ok(inside) => Ok(ended(walk, making::block(braces.opening, inside, braces.closing))),
-        Err(f) => Err(f),
+        Err(f) => {
+            drop(walk);
+            Err(f)
+        }
     }
 }
 

@@ -55,9 +55,11 @@ fn kept_object<'a>(
     ensures { Denotes (kept (environment_of here.now) register at (declarators.Object (plain t))) result }
 {
     if !is_complete(here.defs.defs(), &t) {
+        drop(t);
         return Err(Fault::Rule { rule: 1, at });
     }
     if register && !is_scalar(&t) {
+        drop(t);
         return Err(Fault::Rule { rule: 8, at });
     }
     Ok(t)
@@ -223,7 +225,10 @@ fn at_local<'a>(
     let at = declarator_place(&d.declarator).at;
     match declare(alloc, &mut walk.here, name, at, &t, register) {
         Ok(()) => {}
-        Err(f) => return Err(f),
+        Err(f) => {
+            drop(t);
+            return Err(f);
+        }
     }
     match at_initial_or_none(alloc, walk, &t, d) {
         Ok(Some(init)) => Ok(Some(DeclaredLocal { local, init })),
@@ -240,9 +245,15 @@ fn with_one(
     ensures { IfOk result (λ r. option_map (λ v. v.items) r ≡ with_made (option_map (λ v. v.items) made) one) }
 {
     match made {
-        None => Ok(None),
+        None => {
+            drop(one);
+            Ok(None)
+        }
         Some(made) => match one {
-            None => Ok(None),
+            None => {
+                drop(made);
+                Ok(None)
+            }
             Some(one) => Ok(Some(with_last(made, one)?)),
         },
     }

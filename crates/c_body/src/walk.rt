@@ -4,7 +4,7 @@ use c_scope::Environment;
 use ldb_words::Text;
 
 /// A stopping point: where its token stands, both from 1, and the innermost name in scope.
-#[derive(Clone, Copy, Debug, PartialEq, Eq)]
+#[derive(Clone, Copy)]
 pub struct Stop {
     pub line: u32,
     pub column: u32,
@@ -12,14 +12,14 @@ pub struct Stop {
 }
 
 /// How many stopping points and strings stand before a part of a program.
-#[derive(Clone, Copy, Debug, PartialEq, Eq)]
+#[derive(Clone, Copy)]
 pub struct Counts {
     pub points: u32,
     pub strings: u32,
 }
 
 /// What an expression at a stopping point is asked: whether it can be tested, can select among labels, or may be dropped.
-#[derive(Clone, Copy, Debug, PartialEq, Eq)]
+#[derive(Clone, Copy)]
 pub enum Asking {
     Tested,
     Selected,

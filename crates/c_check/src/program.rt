@@ -32,7 +32,10 @@ fn made<'a>(alloc: Global, names: &[Text], state: State<'a>) -> Result<Program, 
 {
     let rows = match rows_of(alloc, names, &state) {
         Ok(rows) => rows,
-        Err(f) => return Err(f),
+        Err(f) => {
+            drop(state);
+            return Err(f);
+        }
     };
     let Tables { objects, symbols } = rows.tables;
     let units = Many::from_vec(rows.units);
@@ -75,7 +78,10 @@ fn finished<'a>(
 {
     match fault_behind(alloc, units, &state) {
         Ok(()) => made(alloc, names, state),
-        Err(f) => Err(f),
+        Err(f) => {
+            drop(state);
+            Err(f)
+        }
     }
 }
 

@@ -3,6 +3,7 @@ ghost use Rattle.std.specs.Prelude.{◌≡◌, true, IfOk};
 ghost use Rattle.ldb_cc.specs.Built.{IsFor, AreAnchorsOf};
 
 use crate::aim::Aim;
+use c_discard::discard_program;
 use c_tree::Program;
 use link_image::link;
 use machine_state::TEXT;
@@ -40,7 +41,7 @@ fn are_anchors_of(program: &Program, rows: &LoaderRows) -> bool
 /// The image of a program, and the places of its static objects, strings and functions.
 /// That a checked program can be lowered, that the image is the target's and begins with its first word, and that each static object and string has an
 /// anchor, is asked until it is proved; what isn't so is answered as want of memory.
-pub fn build(alloc: Global, aim: Aim, program: &Program) -> Result<(Image, LoaderRows), AllocError>
+fn build_of(alloc: Global, aim: Aim, program: &Program) -> Result<(Image, LoaderRows), AllocError>
     ensures image { IfOk result (λ built. IsFor aim built.0) }
     ensures anchors { IfOk result (λ built. AreAnchorsOf program.now built.1.anchors) }
 {
@@ -54,4 +55,14 @@ pub fn build(alloc: Global, aim: Aim, program: &Program) -> Result<(Image, Loade
         return Err(AllocError);
     }
     Ok((image, rows))
+}
+
+/// The image of a program, which goes, and the places of its static objects, strings and functions.
+pub fn build(alloc: Global, aim: Aim, program: Program) -> Result<(Image, LoaderRows), AllocError>
+    ensures image { IfOk result (λ built. IsFor aim built.0) }
+    ensures anchors { IfOk result (λ built. AreAnchorsOf program built.1.anchors) }
+{
+    let built = build_of(alloc, aim, &program);
+    discard_program(program);
+    built
 }

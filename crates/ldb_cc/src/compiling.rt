@@ -30,7 +30,7 @@ pub fn compile(
     ensures { Builds aim names.now (map items_of texts.now) result }
 {
     let program = program_of(alloc, names, texts)?;
-    let (image, rows) = build(alloc, aim, &program)?;
+    let (image, rows) = build(alloc, aim, program)?;
     let table = table_of(alloc, aim, rows.anchors.as_slice())?;
     Ok(Built { image, table })
 }

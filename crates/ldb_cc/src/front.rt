@@ -11,6 +11,7 @@ use crate::parsing::parse_all;
 use crate::places::spot_of;
 use crate::scanning::{any_long, scan_all};
 use c_check::{CheckFault, check_program};
+use c_discard::discard_units;
 use c_syntax::Unit;
 use c_tree::Program;
 use ldb_words::Text;
@@ -69,7 +70,13 @@ pub fn program_of(alloc: Global, names: &[Text], texts: &[Vec<u8>]) -> Result<Pr
     let all = scan_all(alloc, texts)?;
     let units = parse_all(alloc, texts, &all)?;
     match check_program(alloc, names, &units) {
-        Ok(program) => Ok(program),
-        Err(fault) => Err(refusal(texts, fault)),
+        Ok(program) => {
+            discard_units(units);
+            Ok(program)
+        }
+        Err(fault) => {
+            discard_units(units);
+            Err(refusal(texts, fault))
+        }
     }
 }

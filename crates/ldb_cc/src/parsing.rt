@@ -5,6 +5,7 @@ ghost use Rattle.ldb_cc.specs.Scanning.{items_of, AreTokens};
 ghost use Rattle.ldb_cc.specs.Parsing.{IsDeepIn, Grows, IsShallowOf, AreTrees};
 
 use crate::fault::BuildFault;
+use c_discard::discard_units;
 use c_lex::{Place, Token, one_reading};
 use c_syntax::{SynFault, Unit, parse_unit};
 use std::alloc::Global;
@@ -42,19 +43,28 @@ fn add_tree(
             let mut units = units;
             match units.push(tree) {
                 Ok(()) => Ok(Trees { deep, units }),
-                Err(_) => Err(BuildFault::NoMemory),
+                Err(_) => {
+                    discard_units(units);
+                    Err(BuildFault::NoMemory)
+                }
             }
         }
-        Err(SynFault::Syntax(place)) => Err(BuildFault::Syntax {
-            unit,
-            line: place.line,
-            column: place.column,
-        }),
+        Err(SynFault::Syntax(place)) => {
+            discard_units(units);
+            Err(BuildFault::Syntax {
+                unit,
+                line: place.line,
+                column: place.column,
+            })
+        }
         Err(SynFault::Deep(place)) => {
             let deep = first_deep(deep, unit, place);
             Ok(Trees { deep, units })
         }
-        Err(SynFault::NoMemory) => Err(BuildFault::NoMemory),
+        Err(SynFault::NoMemory) => {
+            discard_units(units);
+            Err(BuildFault::NoMemory)
+        }
     }
 }
 
@@ -63,11 +73,14 @@ fn shallow(trees: Trees) -> Result<Vec<Unit>, BuildFault>
     ensures { IsShallowOf trees result }
 {
     match trees.deep {
-        Some((unit, place)) => Err(BuildFault::Deep {
-            unit,
-            line: place.line,
-            column: place.column,
-        }),
+        Some((unit, place)) => {
+            discard_units(trees.units);
+            Err(BuildFault::Deep {
+                unit,
+                line: place.line,
+                column: place.column,
+            })
+        }
         None => Ok(trees.units),
     }
 }
@@ -89,6 +102,7 @@ pub fn parse_all(
     };
     for i in 0..texts.len() {
         let Ok(unit) = u32::try_from(i) else {
+            discard_units(trees.units);
             return Err(BuildFault::NoMemory);
         };
         trees = match add_tree(alloc, trees, unit, &texts[i], &all[i]) {
