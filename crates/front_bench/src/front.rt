@@ -1,6 +1,7 @@
 // The front of the compiler over the files of a program.
 
 use c_check::{CheckFault, check_program};
+use c_discard::discard_units;
 use c_lex::{LexFault, Token, tokens};
 use c_syntax::{SynFault, Unit, parse_unit};
 use c_tree::Program;
@@ -95,20 +96,12 @@ fn add_file(alloc: Global, trees: &mut Trees, unit: usize, text: &[u8]) -> Resul
     }
 }
 
-/// The trees of the files.
-fn trees_of(alloc: Global, sources: &[Source]) -> Result<Trees, AllocError> {
-    let mut trees = Trees {
-        bad: None,
-        many: false,
-        count: 0,
-        syntax: None,
-        deep: None,
-        units: Vec::new(alloc),
-    };
+/// Adds the files.
+fn add_files(alloc: Global, trees: &mut Trees, sources: &[Source]) -> Result<(), AllocError> {
     for (unit, source) in sources.iter().enumerate() {
-        add_file(alloc, &mut trees, unit, &source.text)?;
+        add_file(alloc, &mut *trees, unit, &source.text)?;
     }
-    Ok(trees)
+    Ok(())
 }
 
 /// Why the files have no trees.
@@ -139,13 +132,13 @@ fn names_of(alloc: Global, sources: &[Source]) -> Result<Vec<Text>, AllocError> 
     Ok(names)
 }
 
-/// The checked program of some files, or why there is none.
-pub fn program_of(
+/// The checked program of some files with these trees, or why there is none.
+fn program_with(
     alloc: Global,
     sources: &[Source],
+    trees: &Trees,
 ) -> Result<Result<Program, Refusal>, AllocError> {
-    let trees = trees_of(alloc, sources)?;
-    if let Some(why) = without_trees(sources, &trees) {
+    if let Some(why) = without_trees(sources, trees) {
         return Ok(Err(why));
     }
     let names = names_of(alloc, sources)?;
@@ -157,4 +150,25 @@ pub fn program_of(
         Err(CheckFault::NoMemory) => Err(AllocError),
         Err(fault) => Ok(Err(Refusal::Check(fault))),
     }
+}
+
+/// The checked program of some files, or why there is none.
+pub fn program_of(
+    alloc: Global,
+    sources: &[Source],
+) -> Result<Result<Program, Refusal>, AllocError> {
+    let mut trees = Trees {
+        bad: None,
+        many: false,
+        count: 0,
+        syntax: None,
+        deep: None,
+        units: Vec::new(alloc),
+    };
+    let program = match add_files(alloc, &mut trees, sources) {
+        Ok(()) => program_with(alloc, sources, &trees),
+        Err(fault) => Err(fault),
+    };
+    discard_units(trees.units);
+    program
 }

@@ -2,6 +2,7 @@
 
 use crate::front::{Refusal, Source, Spot, program_of};
 use c_check::CheckFault;
+use c_discard::discard_program;
 use c_tree::{Point, Program};
 use std::alloc::{AllocError, Global};
 
@@ -114,22 +115,30 @@ fn file_of<'a>(program: &'a Program, point: &Point) -> &'a [u8] {
     }
 }
 
+/// Appends `accepted` and each stopping point of a program.
+fn append_points(alloc: Global, out: &mut Vec<u8>, program: &Program) -> Result<(), AllocError> {
+    out.extend_from_slice(b"accepted\n")?;
+    for point in program.points.as_slice() {
+        append_place(
+            alloc,
+            out,
+            file_of(program, point),
+            point.line,
+            point.column,
+        )?;
+    }
+    Ok(())
+}
+
 /// The lines that tell what some files are: `accepted` and each stopping point, or why they are refused.
 pub fn report(alloc: Global, sources: &[Source]) -> Result<Vec<u8>, AllocError> {
     let mut out = Vec::new(alloc);
     match program_of(alloc, sources)? {
         Err(why) => append_refusal(alloc, &mut out, sources, &why)?,
         Ok(program) => {
-            out.extend_from_slice(b"accepted\n")?;
-            for point in program.points.as_slice() {
-                append_place(
-                    alloc,
-                    &mut out,
-                    file_of(&program, point),
-                    point.line,
-                    point.column,
-                )?;
-            }
+            let appended = append_points(alloc, &mut out, &program);
+            discard_program(program);
+            appended?;
         }
     }
     Ok(out)

@@ -3,6 +3,7 @@
 use crate::front::{Source, program_of};
 use crate::report::report;
 use crate::sources;
+use c_discard::discard_program;
 use c_tree::{Program, Start};
 use ldb_words::Text;
 use std::alloc::{AllocError, Global};
@@ -96,7 +97,9 @@ impl Subject for Tables {
         };
         if kind == "counts" || kind == "held" {
             if let Ok(program) = program_of(alloc, &files)? {
-                return append_program(alloc, kind, &program, out);
+                let appended = append_program(alloc, kind, &program, out);
+                discard_program(program);
+                return appended;
             }
         }
         let lines = report(alloc, &files)?;

@@ -1,8 +1,10 @@
 // The slot code of files of C, and where it stops.
 
 use c_check::check_program;
+use c_discard::{discard_program, discard_units};
 use c_lex::tokens;
 use c_syntax::{Unit, parse_unit};
+use c_tree::Program;
 use ldb_words::Text;
 use slot_gen::lower;
 use slot_ir::{SlotCode, SlotFunction, SlotOp};
@@ -21,25 +23,52 @@ fn unit_of(alloc: Global, text: &[u8]) -> Option<Unit> {
     parse_unit(alloc, text, &found).ok()
 }
 
-/// The trees of the files whose names stand between blanks, and these names, as many.
-fn units_of(
+/// Adds the trees of the files whose names stand between blanks, and these names, as many. Or tells that one of them has no tree.
+fn add_units(
     rt: &(impl Files + AllocGlobal),
     files: &str,
-) -> Result<Option<(Vec<Text>, Vec<Unit>)>, AllocError> {
+    names: &mut Vec<Text>,
+    units: &mut Vec<Unit>,
+) -> Result<bool, AllocError> {
     let alloc = rt.alloc();
-    let mut names = Vec::new(alloc);
-    let mut units = Vec::new(alloc);
     for file in files.split_ascii_whitespace() {
         let Ok(text) = fs::read(rt, file) else {
-            return Ok(None);
+            return Ok(false);
         };
-        let Some(unit) = unit_of(alloc, &text) else {
-            return Ok(None);
-        };
+        match unit_of(alloc, &text) {
+            Some(unit) => units.push(unit)?,
+            None => return Ok(false),
+        }
         names.push(Text::from_slice(alloc, file.as_bytes())?)?;
-        units.push(unit)?;
     }
-    Ok(Some((names, units)))
+    Ok(true)
+}
+
+/// The slot code of a program, where it can be made of it.
+fn code_of_program(alloc: Global, program: &Program) -> Result<Option<SlotCode>, AllocError> {
+    if !is_lowerable(alloc, program)? {
+        return Ok(None);
+    }
+    Ok(Some(lower(alloc, program)?))
+}
+
+/// The slot code of files with these names, where they are a program of which it can be made.
+fn code_of_units(
+    alloc: Global,
+    names: &[Text],
+    units: &[Unit],
+) -> Result<Option<SlotCode>, AllocError> {
+    if names.len() != units.len() {
+        return Ok(None);
+    }
+    match check_program(alloc, names, units) {
+        Ok(program) => {
+            let code = code_of_program(alloc, &program);
+            discard_program(program);
+            code
+        }
+        Err(_) => Ok(None),
+    }
 }
 
 /// The slot code of the files whose names stand between blanks, where they are a program of which it can be made.
@@ -49,19 +78,15 @@ pub fn code_of(
 ) -> Result<Option<SlotCode>, AllocError> {
     let alloc = rt.alloc();
     let files = std::str::from_utf8(files).unwrap_or("");
-    let Some((names, units)) = units_of(rt, files)? else {
-        return Ok(None);
+    let mut names = Vec::new(alloc);
+    let mut units = Vec::new(alloc);
+    let code = match add_units(rt, files, &mut names, &mut units) {
+        Ok(true) => code_of_units(alloc, &names, &units),
+        Ok(false) => Ok(None),
+        Err(fault) => Err(fault),
     };
-    if names.len() != units.len() {
-        return Ok(None);
-    }
-    let Ok(program) = check_program(alloc, &names, &units) else {
-        return Ok(None);
-    };
-    if !is_lowerable(alloc, &program)? {
-        return Ok(None);
-    }
-    Ok(Some(lower(alloc, &program)?))
+    discard_units(units);
+    code
 }
 
 /// Whether each stopping point stands at its place.
