@@ -1,7 +1,7 @@
 // Objects that are linked.
 
 use ldb_words::{Many, Text};
-use link_image::link;
+use link_image::{LinkFault, link};
 use obj_file::{Form, LoaderRows, Name, Object, StaticDef, Use};
 use std::alloc::{AllocError, Global};
 use test_rows::append;
@@ -126,6 +126,26 @@ pub fn append_linked(
             append_words(alloc, " data", image.statics(), out)?;
             append_anchors(alloc, &rows, out)
         }
-        Err(AllocError) => append(out, "no image"),
+        Err(fault) => append_fault(&fault, out),
     }
+}
+
+/// Appends what is wrong with objects.
+fn append_fault(fault: &LinkFault, out: &mut Vec<u8>) -> Result<(), AllocError> {
+    let (what, name) = match fault {
+        LinkFault::Target => ("target", None),
+        LinkFault::Words => ("words", None),
+        LinkFault::Size => ("size", None),
+        LinkFault::Statics => ("statics", None),
+        LinkFault::Rows => ("rows", None),
+        LinkFault::Uses => ("uses", None),
+        LinkFault::Unresolved { name } => ("unresolved ", Some(name)),
+        LinkFault::Doubled { name } => ("doubled ", Some(name)),
+        LinkFault::NoMemory => ("no memory", None),
+    };
+    append(out, what)?;
+    if let Some(name) = name {
+        out.extend_from_slice(name.as_bytes())?;
+    }
+    Ok(())
 }
