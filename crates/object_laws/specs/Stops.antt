@@ -1,0 +1,44 @@
+-- Stopping points of a text.
+use Rattle.std.specs.Prelude.{◌≡◌, ◌≤◌, ℕ, ◌+◌, ◌-◌, ◌%◌, List, [], ◌∷◌, take, drop, length, Bool, true, false, not}
+use Rattle.std.specs.List.{AllByRecursion}
+use Rattle.obj_file.specs.declared.object.FunctionRow.{FunctionRow}
+use Rattle.flat_ir.specs.declared.code.FlatOp.{FlatOp}
+use Rattle.flat_ir.specs.declared.code.FlatOp.TheVariants as flat
+use Rattle.gen_parts.specs.Coding.{Coding}
+
+-- whether the last of some instructions is no transfer; of none, whether the one before them is none
+abbrev pub goes_on_behind : {Insn : Type 0} → (is_transfer : Insn → Bool) → (before : Bool) → List Insn → Bool
+goes_on_behind is_transfer before [] = before
+goes_on_behind is_transfer before (i ∷ is) = goes_on_behind is_transfer (not (is_transfer i)) is
+
+-- a target, its no-op, and which of its instructions are transfers
+module _ {Insn : Type 0} (t : Coding Insn) (no_op : Insn) (is_transfer : Insn → Bool) where
+  -- ---- of a text
+
+  module _ (text : List ℕ) where
+    -- the word at an offset is that of an instruction
+    abbrev pub StandsAt : Insn → ℕ → Type 0
+    StandsAt i at = take 4 (drop at text) ≡ t.bytes_of i
+
+    -- A stopping point between two offsets: a word that is the no-op, behind one that lies there too and is no transfer.
+    pub record IsStop (from end at : ℕ) : Type 0 where
+      pub whole : at % 4 ≡ 0
+      pub behind : from + 4 ≤ at
+      pub inside : at + 4 ≤ end
+      pub is_no_op : StandsAt no_op at
+      pub last : Insn
+      pub is_last : StandsAt last (at - 4)
+      pub goes_on : is_transfer last ≡ false
+
+    -- so is each point of a function
+    abbrev pub HasStops : FunctionRow → Type 0
+    HasStops r = AllByRecursion (IsStop r.entry r.end) r.points
+
+  -- ---- what a target has to give
+
+  -- a stopping point is the no-op; the last instruction of an operator, and of a function's beginning, is no transfer
+  pub record HasPlainEnds : Type 0 where
+    pub word : (i : Insn) → length (t.bytes_of i) ≡ 4
+    pub stop : (frame point : ℕ) → t.operator frame (flat.Stop point) ≡ no_op ∷ []
+    pub operator : (frame : ℕ) (o : FlatOp) → goes_on_behind is_transfer true (t.operator frame o) ≡ true
+    pub prologue : (frame : ℕ) → goes_on_behind is_transfer false (t.prologue frame) ≡ true

@@ -1,0 +1,6 @@
+//! Laws of the objects that both generators make: what follows of an object's being the defined one (`IsObjectOf` of `gen_parts`), and no clause of a generator says.
+#![tactic(auto)]
+
+mod laws;
+
+pub use laws::stopping_points;
