@@ -1,5 +1,6 @@
 -- What a run of a deferred entry leaves.
 use Rattle.std.proofs.Common.{◌≡◌, refl, sym, ap, subst, ◌∙◌, ℕ, zero, suc, Bool, true, false, if◌then◌else◌, Option, Some, None, Result, Ok, Err, List, [], ◌∷◌, slice_index_or, slice_set}
+use Rattle.std.specs.Prelude.{OnErr}
 use Rattle.std.proofs.lemmas.Option.{none-some}
 use Rattle.ps_store.specs.declared.object.Part.{Part}
 use Rattle.ps_store.specs.declared.object.Part.TheVariants.{Table, Command}
@@ -24,6 +25,12 @@ use Rattle.ps_force.specs.Forcing.{placing, left_on, placing_left, forced_by, Fo
 -- a mark that keeps what is closed still does where that is the same
 pub keeps_on : (s t : StoreState) (m : Mark) → closed_part t ≡ closed_part s → KeepsClosed s m → KeepsClosed t m
 keeps_on s t m e h = subst (λ (p : Closed). KeepsClosedIn p.part p.mark m) (sym e) h
+
+-- what is closed is as it was where objects are made in the part as before
+pub part_back : (r : Result PsObj PsFault) (old s t : StoreState) (part : Part) → part ≡ old.part → closed_part s ≡ closed_part (record old { part = Table }) → OnErr r (closed_part t ≡ closed_part s)
+    → OnErr r (closed_part (record t { part = part }) ≡ closed_part old)
+part_back (Ok x) old s t part e h k = tt
+part_back (Err f) old s t part e h k = ap (λ (p : Closed). record p { part = part }) (k ∙ h) ∙ ap (λ q. record (closed_part old) { part = q }) e
 
 -- ---- values that were put in the place of others
 

@@ -5,7 +5,7 @@ ghost use Rattle.ps_store.specs.Store.{closed_part, entries_of, KeepsClosed};
 ghost use Rattle.ps_store.specs.Entries.{value_at};
 ghost use Rattle.ps_store.specs.Cut.{mark_of, IsMark};
 ghost use Rattle.ps_store.specs.Settled.{Settled};
-ghost use Rattle.std.specs.Prelude.{◌≡◌, ◌≤◌, ◌-◌, reverse};
+ghost use Rattle.std.specs.Prelude.{◌≡◌, ◌≤◌, ◌-◌, OnErr, reverse};
 ghost use Rattle.ps_run.specs.Runs.{RunsObject};
 ghost use Rattle.ps_force.specs.Forcing.{left_on, forced_by, placing, Forces, Uses};
 
@@ -30,6 +30,7 @@ fn place(core: &mut PsCore, d: DictId, key: &Key, mark: Mark, x: PsObj) -> Resul
     requires keeps { KeepsClosed core.old.store mark }
     ensures given { placing mark d key.now x (value_at (entries_of core.old.store d) key.now) core.old.store ≡ (result, core.new.store) }
     ensures others { core.new ≡ record core.old { store = core.new.store } }
+    ensures stays { OnErr result (closed_part core.new.store ≡ closed_part core.old.store) }
     ensures closed { Settled (closed_part core.old.store) (closed_part core.new.store) }
 {
     match core.store.dict_get(d, key) {
@@ -61,6 +62,7 @@ fn settle_by(
     requires keeps { KeepsClosed core.old.store mark }
     ensures given { forced_by mark d key.now answer core.old.operands core.old.store ≡ (result, core.new.store) }
     ensures others { core.new ≡ record core.old { store = core.new.store } }
+    ensures stays { OnErr result (closed_part core.new.store ≡ closed_part core.old.store) }
     ensures closed { Settled (closed_part core.old.store) (closed_part core.new.store) }
 {
     if let Err(fault) = answer {
@@ -97,6 +99,7 @@ fn run_on_base<D: Dialect>(
 }
 
 /// Runs an executable string and settles its entry. What it makes belongs to the table's part, and is closed.
+#[tactic(auto, using(crate::proofs::Forcing::part_back))]
 fn force_text<D: Dialect>(
     core: &mut PsCore,
     dialect: &mut D,
@@ -110,6 +113,7 @@ fn force_text<D: Dialect>(
     ensures limit { steps.new.limit ≡ steps.old.limit }
     ensures within { steps.new.taken ≤ steps.new.limit }
     ensures more { steps.old.taken ≤ steps.new.taken }
+    ensures stays { OnErr result (closed_part core.new.store ≡ closed_part core.old.store) }
     ensures closed { Settled (closed_part core.old.store) (closed_part core.new.store) }
     ensures forces { Forces D.operates (steps.old.limit - steps.old.taken) dialect.old core.old d key.now text result (steps.new.limit - steps.new.taken) dialect.new core.new }
 {
@@ -128,11 +132,12 @@ fn force_text<D: Dialect>(
 
 /// Gives the value under a key of a dictionary. An executable string there is run once: on no operands and the store's base
 /// dictionaries, as a part of the table, and the topmost operand that it leaves takes its place, so that each later use gives
-/// that object. What it made is closed.
+/// that object; but where the run itself put another value there, as it can into a dictionary that is not closed, that one
+/// stays and is given. What it made is closed. `dialect` is a new one, without a target, for each use.
 ///
 /// undefined comes where the key is not there, stackunderflow where the string leaves nothing, typecheck where it leaves an
-/// executable string, and else the error of its run. Then the entry is as it was, and what the run made is dropped. Spent comes
-/// exactly where the run spends the steps. The stacks are as before, whatever the answer but want of memory.
+/// executable string, and else the error of its run. Then what is closed, with the entry, is as it was, also where memory runs
+/// out, and what the run made is dropped. Spent comes exactly where the run spends the steps. The stacks are as before, whatever the answer but want of memory.
 pub fn force<D: Dialect>(
     core: &mut PsCore,
     dialect: &mut D,
@@ -145,6 +150,7 @@ pub fn force<D: Dialect>(
     ensures limit { steps.new.limit ≡ steps.old.limit }
     ensures within { steps.new.taken ≤ steps.new.limit }
     ensures more { steps.old.taken ≤ steps.new.taken }
+    ensures stays { OnErr result (closed_part core.new.store ≡ closed_part core.old.store) }
     ensures closed { Settled (closed_part core.old.store) (closed_part core.new.store) }
     ensures uses { Uses D.operates (steps.old.limit - steps.old.taken) dialect.old core.old d key.now (value_at (entries_of core.old.store d) key.now) result (steps.new.limit - steps.new.taken) dialect.new core.new }
 {
