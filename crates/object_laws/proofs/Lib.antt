@@ -1,3 +1,7 @@
+mod InText
+mod Lists
 mod Places
+mod StaticUses
 mod Stops
 mod StopsOfTargets
+mod UsedNames

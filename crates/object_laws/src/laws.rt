@@ -1,16 +1,19 @@
 // What holds of the objects of slot code.
 
+ghost use Rattle.std.specs.Prelude.{◌++◌};
 ghost use Rattle.std.specs.List.{AllByRecursion};
 ghost use Rattle.obj_file.specs.declared.object.Object.{Object};
 ghost use Rattle.slot_ir.specs.declared.code.SlotCode.{SlotCode};
 ghost use Rattle.slot_ir.specs.WellFormed.{IsWellFormed};
 ghost use Rattle.flat_gen.specs.Codes.{flat_code};
+ghost use Rattle.gen_parts.specs.Links.{text_names, static_names};
 ghost use Rattle.gen_parts.specs.Parts.{IsObjectOf};
 ghost use Rattle.mips_isa.specs.Step.{is_transfer};
 ghost use Rattle.mips_gen.specs.Insns.{no_op as mips_no_op};
 ghost use Rattle.mips_gen.specs.Coding.{mips};
 ghost use Rattle.sparc_gen.specs.Insns.{no_op as sparc_no_op};
 ghost use Rattle.sparc_gen.specs.Coding.{sparc};
+ghost use Rattle.object_laws.specs.Found.{IsStaticUse, IsGiven};
 ghost use Rattle.object_laws.specs.Stops.{HasStops};
 ghost use Rattle.object_laws.specs.Delayed.{is_delayed};
 
@@ -19,4 +22,17 @@ ghost use Rattle.object_laws.specs.Delayed.{is_delayed};
 pub fn stopping_points()
     ensures mips { (c : SlotCode) (o : Object) → IsWellFormed c → IsObjectOf mips c (flat_code 100 c) o → AllByRecursion (HasStops mips mips_no_op is_transfer o.text) o.functions }
     ensures sparc { (c : SlotCode) (o : Object) → IsWellFormed c → IsObjectOf sparc c (flat_code 132 c) o → AllByRecursion (HasStops sparc sparc_no_op is_delayed o.text) o.functions }
+{}
+
+/// Each use in static objects is of a whole word, which lies at a multiple of 4 of one of these objects, and names one of them. Where a use
+/// lies is counted through the bytes of all of them, one after another.
+pub fn uses_in_static_objects()
+    ensures mips { (c : SlotCode) (o : Object) → IsWellFormed c → IsObjectOf mips c (flat_code 100 c) o → AllByRecursion (IsStaticUse o.statics) o.uses }
+    ensures sparc { (c : SlotCode) (o : Object) → IsWellFormed c → IsObjectOf sparc c (flat_code 132 c) o → AllByRecursion (IsStaticUse o.statics) o.uses }
+{}
+
+/// Each name that an object uses is one that it gives, to a place in its text or to a static object.
+pub fn used_names()
+    ensures mips { (c : SlotCode) (o : Object) → IsWellFormed c → IsObjectOf mips c (flat_code 100 c) o → AllByRecursion (IsGiven (text_names o.names ++ static_names o.statics)) o.uses }
+    ensures sparc { (c : SlotCode) (o : Object) → IsWellFormed c → IsObjectOf sparc c (flat_code 132 c) o → AllByRecursion (IsGiven (text_names o.names ++ static_names o.statics)) o.uses }
 {}

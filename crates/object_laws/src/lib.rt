@@ -3,4 +3,4 @@
 
 mod laws;
 
-pub use laws::stopping_points;
+pub use laws::{stopping_points, used_names, uses_in_static_objects};
