@@ -1,3 +1,4 @@
+mod Fit
 mod InText
 mod Lists
 mod Places

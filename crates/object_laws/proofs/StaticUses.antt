@@ -51,7 +51,7 @@ number_long : (order : Order) (bits : ℕ) → (length (number_bytes order 4 bit
 number_long Little bits = (refl, refl)
 number_long Big bits = (refl, refl)
 
-value_long : (order : Order) (width : ℕ) (v : SlotValue) → (width ≡ 4) ⊎ ((width ≡ 1) × IsNumber v) → length (value_bytes order width v) ≡ width
+pub value_long : (order : Order) (width : ℕ) (v : SlotValue) → (width ≡ 4) ⊎ ((width ≡ 1) × IsNumber v) → length (value_bytes order width v) ≡ width
 value_long order width (value.Number bits) (inl e) = subst (λ (w : ℕ). length (number_bytes order w bits) ≡ w) (sym e) (number_long order bits).0
 value_long order width (value.Number bits) (inr e) = subst (λ (w : ℕ). length (number_bytes order w bits) ≡ w) (sym e.0) (number_long order bits).1
 value_long order width value.Null (inl e) = subst (λ (w : ℕ). length (number_bytes order w 0) ≡ w) (sym e) (number_long order 0).0
@@ -76,7 +76,7 @@ four width (inl e) = e
 four width (inr e) = absurd e.1
 
 module _ (c : SlotCode) (order : Order) (names : List (List ℕ)) (objects : (k : ℕ) → k < length c.objects → IsOneOf (object_name k) names)
-  (strings : (k : ℕ) → k < length c.strings → IsOneOf (object_name (length c.objects + k)) names) where
+    (strings : (k : ℕ) → k < length c.strings → IsOneOf (object_name (length c.objects + k)) names) where
   -- a use in an object of a size
   abbrev Inside : (before size : ℕ) → Use → Type 0
   Inside before size u = (u.form ≡ Word) × ((k : ℕ) × (u.at ≡ before + k * 4) × (k * 4 + 4 ≤ size)) × IsOneOf u.name names

@@ -1,8 +1,8 @@
 -- Each name that a text uses is given.
-use Rattle.std.proofs.Common.{◌≡◌, ◌≤◌, ◌<◌, ◌⊎◌, inl, inr, ℕ, zero, suc, ◌+◌, ◌*◌, List, [], ◌∷◌, ◌++◌, length, length-map, map, reverse, take, Bool, true, false, if◌then◌else◌, nat_eq, Option, Some, None, slice_get, refl, sym, ap, subst, ◌∙◌, arith}
+use Rattle.std.proofs.Common.{◌≡◌, ◌≤◌, ◌<◌, ◌⊎◌, inl, inr, ℕ, zero, suc, ◌+◌, ◌*◌, List, [], ◌∷◌, ◌++◌, length, map, reverse, take, Bool, true, false, if◌then◌else◌, nat_eq, Option, Some, None, slice_get, refl, sym, ap, subst, ◌∙◌, arith}
 use Rattle.std.specs.Prelude.{codes}
 use Rattle.std.specs.List.{AllByRecursion}
-use Rattle.std.proofs.lemmas.List.{reverse-append}
+use Rattle.std.proofs.lemmas.List.{reverse-append, length-map}
 use Rattle.ldb_words.specs.Word.{difference_of}
 use Rattle.obj_file.specs.declared.object.Name.{Name}
 use Rattle.obj_file.specs.declared.object.Object.{Object}
@@ -62,12 +62,11 @@ filled_there [] s h = absurd (omega (arith, h))
 filled_there (x ∷ ss) zero h = omega arith
 filled_there (x ∷ ss) (suc s) h = omega (arith, filled_there ss s h)
 
-HasNoParams : Option SlotFunction → Type 0
+abbrev HasNoParams : Option SlotFunction → Type 0
 HasNoParams None = ⊥
 HasNoParams (Some f) = f.params ≡ 0
 
 main_there : (fs : List SlotFunction) (m : ℕ) → HasNoParams (slice_get fs m) → m < length fs
-unfolding HasNoParams
 main_there [] m h = absurd h
 main_there (f ∷ fs) zero h = omega arith
 main_there (f ∷ fs) (suc m) h = omega (arith, main_there fs m h)
@@ -141,7 +140,7 @@ module _ (c : SlotCode) where
     skip_there from to = all_if IsStepThere (nat_eq (difference_of to from) 0) [] (step.Skip (difference_of to from) ∷ []) tt (tt, tt)
 
     member_there : (m : SlotMember) → IsMemberThere m → AllByRecursion IsStepThere (member_steps c m)
-    member_there m h = items_there (innermost c deepest m).items (innermost c deepest m).item (innermost_there deepest m h)
+    member_there m h = items_there (innermost c (deepest c) m).items (innermost c (deepest c) m).item (innermost_there (deepest c) m h)
 
     ascending_there : (size at : ℕ) (ms : List SlotMember) → AllByRecursion IsMemberThere ms → AllByRecursion IsStepThere (ascending c size at ms)
     ascending_there size at [] h = skip_there at size
@@ -181,7 +180,7 @@ module _ (c : SlotCode) (names : List (List ℕ)) where
   IsCodeThere f = AllByRecursion IsOpThere f.code
 
 module _ (c : SlotCode) (names : List (List ℕ)) (objects : (k : ℕ) → k < length c.objects → IsOneOf (object_name k) names)
-  (strings : (k : ℕ) → k < length c.strings → IsOneOf (object_name (length c.objects + k)) names) where
+    (strings : (k : ℕ) → k < length c.strings → IsOneOf (object_name (length c.objects + k)) names) where
   module _ (f : SlotFunction) (l : Layout) (starts : List ℕ) where
     passes_there : (d n : ℕ) → AllByRecursion (IsOpThere c names) (passes c f l starts d n)
     passes_there d zero = tt
@@ -321,7 +320,7 @@ right_of name (x ∷ xs) ys h = inr (right_of name xs ys h)
 -- ---- uses
 
 module _ {Insn : Type 0} (t : Coding Insn) (c : SlotCode) (names : List (List ℕ)) (functions : (k : ℕ) → k < length c.functions → IsOneOf (function_name k) names)
-  (structs : (k : ℕ) → k < length c.structs → AreGiven t k names) where
+    (structs : (k : ℕ) → k < length c.structs → AreGiven t k names) where
   abbrev IsNamed : Use → Type 0
   IsNamed u = IsOneOf u.name names
 
@@ -406,11 +405,11 @@ module _ {Insn : Type 0} (t : Coding Insn) (c : SlotCode) (names : List (List �
   program_named : (flat : FlatCode) → length flat.functions ≤ length c.functions → length flat.movers ≤ length c.structs → flat.main < length c.functions → AllByRecursion (IsCodeThere c names) flat.functions
       → AllByRecursion AreStepsThere flat.movers → AllByRecursion IsNamed (program_uses t flat)
   unfolding program_uses
-  program_named flat fs ms main codes steps =
+  program_named flat fs ms main code steps =
       let call : List Use = jump_use 0 (function_name flat.main) ∷ [] in
       all_append IsNamed (call ++ movers_uses t 0 (length t.start) flat.movers) (functions_uses t 0 (functions_at t flat) flat.functions)
-      (all_append IsNamed call (movers_uses t 0 (length t.start) flat.movers) (functions flat.main main, tt) (movers_named 0 (length t.start) flat.movers ms steps))
-      (functions_named 0 (functions_at t flat) flat.functions fs codes)
+      (all_append IsNamed call (movers_uses t 0 (length t.start) flat.movers) (functions flat.main main, tt) (movers_named 0 (length t.start) flat.movers (omega (arith, ms)) steps))
+      (functions_named 0 (functions_at t flat) flat.functions (omega (arith, fs)) code)
 
 -- ---- the object
 

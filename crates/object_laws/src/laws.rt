@@ -1,7 +1,8 @@
 // What holds of the objects of slot code.
 
-ghost use Rattle.std.specs.Prelude.{◌++◌};
+ghost use Rattle.std.specs.Prelude.{◌≡◌, ◌++◌, true};
 ghost use Rattle.std.specs.List.{AllByRecursion};
+ghost use Rattle.machine_state.specs.declared.layout.TheConstants.{DATA};
 ghost use Rattle.obj_file.specs.declared.object.Object.{Object};
 ghost use Rattle.slot_ir.specs.declared.code.SlotCode.{SlotCode};
 ghost use Rattle.slot_ir.specs.WellFormed.{IsWellFormed};
@@ -13,6 +14,7 @@ ghost use Rattle.mips_gen.specs.Insns.{no_op as mips_no_op};
 ghost use Rattle.mips_gen.specs.Coding.{mips};
 ghost use Rattle.sparc_gen.specs.Insns.{no_op as sparc_no_op};
 ghost use Rattle.sparc_gen.specs.Coding.{sparc};
+ghost use Rattle.link_image.specs.Conditions.{are_fitting};
 ghost use Rattle.object_laws.specs.Found.{IsStaticUse, IsGiven};
 ghost use Rattle.object_laws.specs.Stops.{HasStops};
 ghost use Rattle.object_laws.specs.Delayed.{is_delayed};
@@ -35,4 +37,10 @@ pub fn uses_in_static_objects()
 pub fn used_names()
     ensures mips { (c : SlotCode) (o : Object) → IsWellFormed c → IsObjectOf mips c (flat_code 100 c) o → AllByRecursion (IsGiven (text_names o.names ++ static_names o.statics)) o.uses }
     ensures sparc { (c : SlotCode) (o : Object) → IsWellFormed c → IsObjectOf sparc c (flat_code 132 c) o → AllByRecursion (IsGiven (text_names o.names ++ static_names o.statics)) o.uses }
+{}
+
+/// The static objects fit the data region, where a linker places them one behind the other, each at a multiple of 4 and 4 bytes or more apart.
+pub fn static_objects_fit()
+    ensures mips { (c : SlotCode) (o : Object) → IsWellFormed c → IsObjectOf mips c (flat_code 100 c) o → are_fitting DATA o.statics ≡ true }
+    ensures sparc { (c : SlotCode) (o : Object) → IsWellFormed c → IsObjectOf sparc c (flat_code 132 c) o → are_fitting DATA o.statics ≡ true }
 {}

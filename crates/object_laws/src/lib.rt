@@ -3,4 +3,4 @@
 
 mod laws;
 
-pub use laws::{stopping_points, used_names, uses_in_static_objects};
+pub use laws::{static_objects_fit, stopping_points, used_names, uses_in_static_objects};
