@@ -1,9 +1,8 @@
 -- The uses in static objects.
-use Rattle.std.proofs.Common.{◌≡◌, ◌≤◌, ◌<◌, ◌⊎◌, inl, inr, ℕ, zero, suc, ◌+◌, ◌-◌, ◌*◌, ◌/◌, ◌%◌, List, [], ◌∷◌, ◌++◌, length, true, false, true≢false, refl, sym, ap, subst, ◌∙◌, arith}
+use Rattle.std.proofs.Common.{◌≡◌, ◌≤◌, ◌<◌, ◌⊎◌, inl, inr, ℕ, zero, suc, ◌+◌, ◌-◌, ◌*◌, ◌/◌, ◌%◌, List, [], ◌∷◌, ◌++◌, length, true≢false, refl, sym, ap, subst, ◌∙◌, arith}
 use Rattle.std.specs.List.{AllByRecursion}
 use Rattle.ldb_words.specs.declared.kinds.Order.{Order}
 use Rattle.ldb_words.specs.declared.kinds.Order.TheVariants.{Little, Big}
-use Rattle.machine_state.specs.Regions.{bytes_of, zeros}
 use Rattle.obj_file.specs.declared.object.Form.TheVariants.{Word}
 use Rattle.obj_file.specs.declared.object.Object.{Object}
 use Rattle.obj_file.specs.declared.object.StaticDef.{StaticDef}
@@ -21,7 +20,7 @@ use Rattle.gen_parts.specs.Names.{object_name}
 use Rattle.gen_parts.specs.Parts.{program_uses, IsObjectOf}
 use Rattle.gen_parts.specs.Statics.{number_bytes, value_bytes, leaf_bytes, value_uses, start_bytes, start_uses, object_bytes, objects_statics, objects_uses, strings_statics, program_statics, data_uses}
 use Rattle.gen_parts.proofs.Starts.{filled_length}
-use Rattle.object_laws.specs.Found.{IsWordOf, LiesInOne, IsStaticUse}
+use Rattle.object_laws.specs.Found.{LiesInOne, IsStaticUse}
 use Rattle.object_laws.proofs.Lists.{all_append, all_weaker}
 use Rattle.object_laws.proofs.InText.{IsInText, program_in}
 

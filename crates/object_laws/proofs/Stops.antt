@@ -1,5 +1,5 @@
 -- The stopping points of an object, for any target whose operators go on behind their ends.
-use Rattle.std.proofs.Common.{◌≡◌, ◌≤◌, ◌<◌, ℕ, suc, zero, ◌+◌, ◌-◌, ◌*◌, ◌%◌, List, [], ◌∷◌, ◌++◌, length, length-append, append_assoc, append-nil, map, take, drop, Bool, true, false, not, Option, Some, None, slice_get, true≢false, refl, sym, ap, ap₂, subst, ◌∙◌, arith}
+use Rattle.std.proofs.Common.{◌≡◌, ◌≤◌, ◌<◌, ℕ, suc, zero, ◌+◌, ◌-◌, ◌*◌, List, [], ◌∷◌, ◌++◌, length, length-append, append_assoc, append-nil, map, take, drop, Bool, true, false, not, Some, slice_get, true≢false, refl, sym, ap, ap₂, subst, ◌∙◌, arith}
 use Rattle.std.specs.List.{AllByRecursion}
 use Rattle.std.proofs.lemmas.List.{take_all, take-append-le}
 use Rattle.std.proofs.Math.Seq.{drop-append-add}
@@ -14,8 +14,8 @@ use Rattle.flat_ir.specs.declared.code.FlatCode.{FlatCode}
 use Rattle.gen_parts.specs.Coding.{Coding}
 use Rattle.gen_parts.specs.Text.{text_bytes, ops_insns, ops_offsets, function_insns, functions_insns, movers_insns, program_insns}
 use Rattle.gen_parts.specs.Uses.{or_zero, offset_of}
-use Rattle.gen_parts.specs.Parts.{operators_at, offsets, function_row, functions_rows, functions_at, program_rows, IsObjectOf}
-use Rattle.object_laws.specs.Stops.{IsStop, HasStops, StandsAt, goes_on_behind, HasPlainEnds}
+use Rattle.gen_parts.specs.Parts.{operators_at, function_row, functions_rows, functions_at, program_rows, IsObjectOf}
+use Rattle.object_laws.specs.Stops.{IsStop, HasStops, goes_on_behind, HasPlainEnds}
 use Rattle.object_laws.proofs.Places.{some_same, here, IsStopPlace, HasStopPlaces}
 
 not_true : (b : Bool) → not b ≡ true → b ≡ false

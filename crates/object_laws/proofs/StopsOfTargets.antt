@@ -18,12 +18,10 @@ use Rattle.flat_ir.specs.declared.code.FlatOp.{FlatOp}
 use Rattle.flat_ir.specs.declared.code.FlatOp.TheVariants as flat
 use Rattle.flat_gen.specs.Codes.{flat_code}
 use Rattle.gen_parts.specs.Parts.{IsObjectOf}
-use Rattle.mips_isa.specs.declared.insn.Insn.{Insn as MipsInsn}
 use Rattle.mips_isa.specs.declared.insn.Insn.TheVariants.{Lw, Sw}
 use Rattle.mips_isa.specs.Step.{is_transfer}
 use Rattle.mips_gen.specs.Insns as m
 use Rattle.mips_gen.specs.Coding.{mips}
-use Rattle.sparc_isa.specs.declared.insn.Insn.{Insn as SparcInsn}
 use Rattle.sparc_isa.specs.declared.insn.Insn.TheVariants.{Ld, St}
 use Rattle.sparc_isa.specs.declared.operand.Operand.TheVariants.{Register, Immediate}
 use Rattle.sparc_gen.specs.Insns as s

@@ -1,7 +1,6 @@
 -- Uses of an object whose words and names are there.
-use Rattle.std.specs.Prelude.{◌≡◌, ◌≤◌, ◌⊎◌, ℕ, ◌+◌, ◌*◌, false, List, [], ◌∷◌, ◌++◌, length}
+use Rattle.std.specs.Prelude.{◌≡◌, ◌≤◌, ◌⊎◌, ℕ, ◌+◌, ◌*◌, false, List, [], ◌∷◌, length}
 use Rattle.obj_file.specs.declared.object.Form.TheVariants.{Word}
-use Rattle.obj_file.specs.declared.object.Object.{Object}
 use Rattle.obj_file.specs.declared.object.StaticDef.{StaticDef}
 use Rattle.obj_file.specs.declared.object.Use.{Use}
 use Rattle.gen_parts.specs.Links.{IsOneOf, static_names}
