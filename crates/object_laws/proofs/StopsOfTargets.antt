@@ -18,6 +18,7 @@ use Rattle.flat_ir.specs.declared.code.FlatOp.{FlatOp}
 use Rattle.flat_ir.specs.declared.code.FlatOp.TheVariants as flat
 use Rattle.flat_gen.specs.Codes.{flat_code}
 use Rattle.gen_parts.specs.Parts.{IsObjectOf}
+use Rattle.gen_parts.specs.Text.{program_insns}
 use Rattle.mips_isa.specs.declared.insn.Insn.TheVariants.{Lw, Sw}
 use Rattle.mips_isa.specs.Step.{is_transfer}
 use Rattle.mips_gen.specs.Insns as m
@@ -155,7 +156,7 @@ mips_ends = record {
   prologue = λ frame. refl;
 }
 
-pub mips_stops : (c : SlotCode) (o : Object) → IsWellFormed c → IsObjectOf mips c (flat_code 100 c) o → AllByRecursion (HasStops mips m.no_op is_transfer o.text) o.functions
+pub mips_stops : (c : SlotCode) (o : Object) → IsWellFormed c → IsObjectOf mips c (flat_code 100 c) o → AllByRecursion (HasStops mips m.no_op is_transfer (program_insns mips (flat_code 100 c)) o.text) o.functions
 unfolding flat_code
 mips_stops c o h is = object_stops mips m.no_op is_transfer mips_ends c (flat_code 100 c) o (functions_places 100 c c.functions h.1) is
 
@@ -276,6 +277,6 @@ sparc_ends = record {
   prologue = λ frame. refl;
 }
 
-pub sparc_stops : (c : SlotCode) (o : Object) → IsWellFormed c → IsObjectOf sparc c (flat_code 132 c) o → AllByRecursion (HasStops sparc s.no_op is_delayed o.text) o.functions
+pub sparc_stops : (c : SlotCode) (o : Object) → IsWellFormed c → IsObjectOf sparc c (flat_code 132 c) o → AllByRecursion (HasStops sparc s.no_op is_delayed (program_insns sparc (flat_code 132 c)) o.text) o.functions
 unfolding flat_code
 sparc_stops c o h is = object_stops sparc s.no_op is_delayed sparc_ends c (flat_code 132 c) o (functions_places 132 c c.functions h.1) is

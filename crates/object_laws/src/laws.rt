@@ -9,6 +9,7 @@ ghost use Rattle.slot_ir.specs.WellFormed.{IsWellFormed};
 ghost use Rattle.flat_gen.specs.Codes.{flat_code};
 ghost use Rattle.gen_parts.specs.Links.{text_names, static_names};
 ghost use Rattle.gen_parts.specs.Parts.{IsObjectOf};
+ghost use Rattle.gen_parts.specs.Text.{program_insns};
 ghost use Rattle.mips_isa.specs.Step.{is_transfer};
 ghost use Rattle.mips_gen.specs.Insns.{no_op as mips_no_op};
 ghost use Rattle.mips_gen.specs.Coding.{mips};
@@ -19,11 +20,12 @@ ghost use Rattle.object_laws.specs.Found.{IsStaticUse, IsGiven};
 ghost use Rattle.object_laws.specs.Stops.{HasStops};
 ghost use Rattle.object_laws.specs.Delayed.{is_delayed};
 
-/// Each stopping point of each function lies in the function, at a word of the text that is the target's no-op. The word before it lies in
-/// the function too and is no branch or jump, so a stopping point stands in no delay slot; on MIPS it is no system call either.
+/// Each stopping point of each function lies in the function, at an instruction of the text that is the target's no-op, and whose word is. The
+/// instruction before it lies in the function too and is no branch or jump, so a stopping point stands in no delay slot; on MIPS it is no
+/// system call either.
 pub fn stopping_points()
-    ensures mips { (c : SlotCode) (o : Object) → IsWellFormed c → IsObjectOf mips c (flat_code 100 c) o → AllByRecursion (HasStops mips mips_no_op is_transfer o.text) o.functions }
-    ensures sparc { (c : SlotCode) (o : Object) → IsWellFormed c → IsObjectOf sparc c (flat_code 132 c) o → AllByRecursion (HasStops sparc sparc_no_op is_delayed o.text) o.functions }
+    ensures mips { (c : SlotCode) (o : Object) → IsWellFormed c → IsObjectOf mips c (flat_code 100 c) o → AllByRecursion (HasStops mips mips_no_op is_transfer (program_insns mips (flat_code 100 c)) o.text) o.functions }
+    ensures sparc { (c : SlotCode) (o : Object) → IsWellFormed c → IsObjectOf sparc c (flat_code 132 c) o → AllByRecursion (HasStops sparc sparc_no_op is_delayed (program_insns sparc (flat_code 132 c)) o.text) o.functions }
 {}
 
 /// Each use in static objects is of a whole word, which lies at a multiple of 4 of one of these objects, and names one of them. Where a use
