@@ -1,5 +1,6 @@
 mod Fit
 mod InText
+mod Inside
 mod Lists
 mod Places
 mod StaticUses

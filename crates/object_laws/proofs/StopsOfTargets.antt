@@ -1,5 +1,5 @@
 -- The operators of both targets go on behind their ends.
-use Rattle.std.proofs.Common.{◌≡◌, ℕ, ◌+◌, ◌*◌, ◌%◌, ◌^◌, List, [], ◌∷◌, ◌++◌, Bool, true, false, not, nat_lt, if◌then◌else◌, refl, ap, ◌∙◌}
+use Rattle.std.proofs.Common.{◌≡◌, ℕ, ◌+◌, ◌*◌, ◌%◌, ◌^◌, List, [], ◌∷◌, ◌++◌, Bool, true, false, not, ◌≤◌, length, nat_lt, if◌then◌else◌, refl, ap, ◌∙◌, arith}
 use Rattle.std.specs.List.{AllByRecursion}
 use Rattle.ldb_words.specs.declared.kinds.Kind.{Kind}
 use Rattle.ldb_words.specs.declared.kinds.Kind.TheVariants.{Byte, Word, Address}
@@ -29,6 +29,9 @@ use Rattle.sparc_gen.specs.Insns as s
 use Rattle.sparc_gen.specs.Coding.{sparc}
 use Rattle.object_laws.specs.Delayed.{is_delayed}
 use Rattle.object_laws.specs.Stops.{HasStops, goes_on_behind, HasPlainEnds}
+use Rattle.gen_parts.specs.Links.{IsInOrder}
+use Rattle.link_image.specs.Conditions.{has_rows_inside}
+use Rattle.object_laws.proofs.Inside.{all_inside}
 use Rattle.object_laws.proofs.Places.{functions_places}
 use Rattle.object_laws.proofs.Stops.{behind_both, object_stops}
 
@@ -160,6 +163,10 @@ pub mips_stops : (c : SlotCode) (o : Object) → IsWellFormed c → IsObjectOf m
 unfolding flat_code
 mips_stops c o h is = object_stops mips m.no_op is_transfer mips_ends c (flat_code 100 c) o (functions_places 100 c c.functions h.1) is
 
+pub mips_inside : (c : SlotCode) (o : Object) → IsWellFormed c → IsObjectOf mips c (flat_code 100 c) o → IsInOrder o → has_rows_inside o ≡ true
+mips_inside c o h made order =
+    all_inside mips m.no_op is_transfer (program_insns mips (flat_code 100 c)) o.text mips_ends (omega arith) (omega arith) (λ frame. omega arith) c (flat_code 100 c) o made order (mips_stops c o h made)
+
 -- ---- SPARC
 
 sparc_get : (before : Bool) (to at : ℕ) → goes_on_behind is_delayed before (s.get_insns to at) ≡ true
@@ -280,3 +287,7 @@ sparc_ends = record {
 pub sparc_stops : (c : SlotCode) (o : Object) → IsWellFormed c → IsObjectOf sparc c (flat_code 132 c) o → AllByRecursion (HasStops sparc s.no_op is_delayed (program_insns sparc (flat_code 132 c)) o.text) o.functions
 unfolding flat_code
 sparc_stops c o h is = object_stops sparc s.no_op is_delayed sparc_ends c (flat_code 132 c) o (functions_places 132 c c.functions h.1) is
+
+pub sparc_inside : (c : SlotCode) (o : Object) → IsWellFormed c → IsObjectOf sparc c (flat_code 132 c) o → IsInOrder o → has_rows_inside o ≡ true
+sparc_inside c o h made order =
+    all_inside sparc s.no_op is_delayed (program_insns sparc (flat_code 132 c)) o.text sparc_ends (omega arith) (omega arith) (λ frame. omega arith) c (flat_code 132 c) o made order (sparc_stops c o h made)

@@ -7,7 +7,7 @@ ghost use Rattle.obj_file.specs.declared.object.Object.{Object};
 ghost use Rattle.slot_ir.specs.declared.code.SlotCode.{SlotCode};
 ghost use Rattle.slot_ir.specs.WellFormed.{IsWellFormed};
 ghost use Rattle.flat_gen.specs.Codes.{flat_code};
-ghost use Rattle.gen_parts.specs.Links.{text_names, static_names};
+ghost use Rattle.gen_parts.specs.Links.{text_names, static_names, IsInOrder};
 ghost use Rattle.gen_parts.specs.Parts.{IsObjectOf};
 ghost use Rattle.gen_parts.specs.Text.{program_insns};
 ghost use Rattle.mips_isa.specs.Step.{is_transfer};
@@ -15,7 +15,7 @@ ghost use Rattle.mips_gen.specs.Insns.{no_op as mips_no_op};
 ghost use Rattle.mips_gen.specs.Coding.{mips};
 ghost use Rattle.sparc_gen.specs.Insns.{no_op as sparc_no_op};
 ghost use Rattle.sparc_gen.specs.Coding.{sparc};
-ghost use Rattle.link_image.specs.Conditions.{are_fitting};
+ghost use Rattle.link_image.specs.Conditions.{are_fitting, has_rows_inside};
 ghost use Rattle.object_laws.specs.Found.{IsStaticUse, IsGiven};
 ghost use Rattle.object_laws.specs.Stops.{HasStops};
 ghost use Rattle.object_laws.specs.Delayed.{is_delayed};
@@ -45,4 +45,11 @@ pub fn used_names()
 pub fn static_objects_fit()
     ensures mips { (c : SlotCode) (o : Object) → IsWellFormed c → IsObjectOf mips c (flat_code 100 c) o → are_fitting DATA o.statics ≡ true }
     ensures sparc { (c : SlotCode) (o : Object) → IsWellFormed c → IsObjectOf sparc c (flat_code 132 c) o → are_fitting DATA o.statics ≡ true }
+{}
+
+/// Names, functions and stopping points lie in the text, as a linker asks: a name before its end. That they lie in order is what each
+/// generator says of its object.
+pub fn rows_lie_inside()
+    ensures mips { (c : SlotCode) (o : Object) → IsWellFormed c → IsObjectOf mips c (flat_code 100 c) o → IsInOrder o → has_rows_inside o ≡ true }
+    ensures sparc { (c : SlotCode) (o : Object) → IsWellFormed c → IsObjectOf sparc c (flat_code 132 c) o → IsInOrder o → has_rows_inside o ≡ true }
 {}

@@ -3,4 +3,6 @@
 
 mod laws;
 
-pub use laws::{static_objects_fit, stopping_points, used_names, uses_in_static_objects};
+pub use laws::{
+    rows_lie_inside, static_objects_fit, stopping_points, used_names, uses_in_static_objects,
+};
