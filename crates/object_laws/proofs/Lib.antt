@@ -7,3 +7,4 @@ mod StaticUses
 mod Stops
 mod StopsOfTargets
 mod UsedNames
+mod UsesInside

@@ -15,7 +15,7 @@ ghost use Rattle.mips_gen.specs.Insns.{no_op as mips_no_op};
 ghost use Rattle.mips_gen.specs.Coding.{mips};
 ghost use Rattle.sparc_gen.specs.Insns.{no_op as sparc_no_op};
 ghost use Rattle.sparc_gen.specs.Coding.{sparc};
-ghost use Rattle.link_image.specs.Conditions.{are_fitting, has_rows_inside};
+ghost use Rattle.link_image.specs.Conditions.{are_fitting, has_rows_inside, has_uses_inside};
 ghost use Rattle.object_laws.specs.Found.{IsStaticUse, IsGiven};
 ghost use Rattle.object_laws.specs.Stops.{HasStops};
 ghost use Rattle.object_laws.specs.Delayed.{is_delayed};
@@ -52,4 +52,10 @@ pub fn static_objects_fit()
 pub fn rows_lie_inside()
     ensures mips { (c : SlotCode) (o : Object) → IsWellFormed c → IsObjectOf mips c (flat_code 100 c) o → IsInOrder o → has_rows_inside o ≡ true }
     ensures sparc { (c : SlotCode) (o : Object) → IsWellFormed c → IsObjectOf sparc c (flat_code 132 c) o → IsInOrder o → has_rows_inside o ≡ true }
+{}
+
+/// Uses in the text end before it does, and uses in static objects are of words in these, as a linker asks.
+pub fn uses_lie_inside()
+    ensures mips { (c : SlotCode) (o : Object) → IsWellFormed c → IsObjectOf mips c (flat_code 100 c) o → IsInOrder o → has_uses_inside o ≡ true }
+    ensures sparc { (c : SlotCode) (o : Object) → IsWellFormed c → IsObjectOf sparc c (flat_code 132 c) o → IsInOrder o → has_uses_inside o ≡ true }
 {}

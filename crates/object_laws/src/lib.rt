@@ -5,4 +5,5 @@ mod laws;
 
 pub use laws::{
     rows_lie_inside, static_objects_fit, stopping_points, used_names, uses_in_static_objects,
+    uses_lie_inside,
 };
