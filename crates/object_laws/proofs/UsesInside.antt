@@ -1,5 +1,5 @@
 -- Uses lie in the text, or are of words in the static objects, as a linker asks.
-use Rattle.std.proofs.Common.{◌≡◌, ◌≤◌, ◌<◌, ◌⊎◌, inl, inr, ℕ, zero, suc, ◌+◌, ◌*◌, ◌%◌, ◌^◌, List, [], ◌∷◌, ◌++◌, length, length-append, append-nil, map, Bool, true, false, not, ◌&&◌, ◌||◌, nat_le, nat_eq, refl, sym, ap, ap₂, subst, ◌∙◌, arith, le-leb}
+use Rattle.std.proofs.Common.{◌≡◌, ◌≤◌, ◌⊎◌, inl, inr, ℕ, ◌+◌, List, [], ◌∷◌, length, length-append, Bool, true, false, not, ◌&&◌, ◌||◌, nat_le, refl, sym, ap, ap₂, subst, ◌∙◌, arith, le-leb}
 use Rattle.std.specs.List.{AllByRecursion, list_all}
 use Rattle.obj_file.specs.declared.object.Form.{Form}
 use Rattle.obj_file.specs.declared.object.Form.TheVariants.{High, Low, Jump, Word}
@@ -8,9 +8,8 @@ use Rattle.obj_file.specs.declared.object.StaticDef.{StaticDef}
 use Rattle.obj_file.specs.declared.object.Use.{Use}
 use Rattle.gen_parts.specs.Links.{UsesLieIn, IsInData, IsInOrder}
 use Rattle.obj_placed.specs.Placed.{joined}
-use Rattle.obj_placed.specs.Patched.{stands_in}
 use Rattle.link_image.specs.Conditions.{has_form, use_lies, has_uses_inside}
-use Rattle.object_laws.specs.Found.{IsWordOf, LiesInOne, IsStaticUse}
+use Rattle.object_laws.specs.Found.{LiesInOne, IsStaticUse}
 use Rattle.object_laws.proofs.Lists.{all_append}
 
 -- a use in the text before its end, or one in static objects
