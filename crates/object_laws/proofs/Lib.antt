@@ -1,3 +1,10 @@
+mod Fit
+mod InText
+mod Inside
+mod Lists
 mod Places
+mod StaticUses
 mod Stops
 mod StopsOfTargets
+mod UsedNames
+mod UsesInside

@@ -15,7 +15,7 @@ use Rattle.flat_ir.specs.declared.code.FlatOp.TheVariants as flat
 use Rattle.flat_ir.specs.declared.code.FlatFunction.{FlatFunction}
 use Rattle.flat_gen.specs.declared.layout.Layout.{Layout}
 use Rattle.flat_gen.specs.Layout.{layout}
-use Rattle.flat_gen.specs.Codes.{or_zero, zeros_by, zeros_in, passes, op_code, stop_code, one_code, ops_code, starts_from, arguments, params_code, code_by, starts_by, starts_of, function_code, place_of, flat_by, flat_function}
+use Rattle.flat_gen.specs.Codes.{or_zero, zeros_by, zeros_in, passes, op_code, stop_code, one_code, ops_code, starts_from, arguments, params_code, code_by, starts_by, starts_of, function_code, place_of, flat_function}
 
 pub some_same : {A : Type 0} (x y : A) → Some x ≡ Some y → x ≡ y
 some_same x y e = cc

@@ -1,5 +1,5 @@
 -- The stopping points of an object, for any target whose operators go on behind their ends.
-use Rattle.std.proofs.Common.{◌≡◌, ◌≤◌, ◌<◌, ℕ, suc, zero, ◌+◌, ◌-◌, ◌*◌, ◌%◌, List, [], ◌∷◌, ◌++◌, length, length-append, append_assoc, append-nil, map, take, drop, Bool, true, false, not, Option, Some, None, slice_get, true≢false, refl, sym, ap, ap₂, subst, ◌∙◌, arith}
+use Rattle.std.proofs.Common.{◌≡◌, ◌≤◌, ◌<◌, ℕ, suc, zero, ◌+◌, ◌*◌, List, [], ◌∷◌, ◌++◌, length, length-append, append_assoc, append-nil, map, take, drop, Bool, true, false, not, Some, slice_get, true≢false, refl, sym, ap, ap₂, subst, ◌∙◌, arith}
 use Rattle.std.specs.List.{AllByRecursion}
 use Rattle.std.proofs.lemmas.List.{take_all, take-append-le}
 use Rattle.std.proofs.Math.Seq.{drop-append-add}
@@ -14,8 +14,8 @@ use Rattle.flat_ir.specs.declared.code.FlatCode.{FlatCode}
 use Rattle.gen_parts.specs.Coding.{Coding}
 use Rattle.gen_parts.specs.Text.{text_bytes, ops_insns, ops_offsets, function_insns, functions_insns, movers_insns, program_insns}
 use Rattle.gen_parts.specs.Uses.{or_zero, offset_of}
-use Rattle.gen_parts.specs.Parts.{operators_at, offsets, function_row, functions_rows, functions_at, program_rows, IsObjectOf}
-use Rattle.object_laws.specs.Stops.{IsStop, HasStops, StandsAt, goes_on_behind, HasPlainEnds}
+use Rattle.gen_parts.specs.Parts.{operators_at, function_row, functions_rows, functions_at, program_rows, IsObjectOf}
+use Rattle.object_laws.specs.Stops.{IsStop, HasStops, goes_on_behind, HasPlainEnds}
 use Rattle.object_laws.proofs.Places.{some_same, here, IsStopPlace, HasStopPlaces}
 
 not_true : (b : Bool) → not b ≡ true → b ≡ false
@@ -66,20 +66,23 @@ module _ {Insn : Type 0} (t : Coding Insn) (no_op : Insn) (is_transfer : Insn �
 
   module _ (all : List Insn) where
     abbrev Stop : (from end at : ℕ) → Type 0
-    Stop from end at = IsStop t no_op is_transfer (text_bytes t all) from end at
+    Stop from end at = IsStop t no_op is_transfer all (text_bytes t all) from end at
 
     -- a no-op behind so many instructions that go on
     stop_here : (low n high : ℕ) (before rest : List Insn) → all ≡ before ++ no_op ∷ rest → n ≡ length before → GoesOn before → low < n → n < high → Stop (low * 4) (high * 4) (n * 4)
     stop_here low n high before rest e size goes above below =
         let l : Last before (no_op ∷ rest) = last before (no_op ∷ rest) goes in
-        let k : n * 4 - 4 ≡ l.0 * 4 = omega (arith, size, l.2) in
+        let next : n ≡ suc l.0 = omega (arith, size, l.2) in
+        let is : slice_get all n ≡ Some no_op = ap₂ (λ (x : List Insn) (m : ℕ). slice_get x m) e size ∙ here before no_op rest in
         record {
-          whole = omega arith;
-          behind = omega (arith, above);
+          before = l.0;
+          place = ap (λ m. m * 4) next;
+          behind = omega (arith, above, next);
           inside = omega (arith, below);
-          is_no_op = word_stands all n no_op (ap₂ (λ (x : List Insn) (m : ℕ). slice_get x m) e size ∙ here before no_op rest);
+          is_no_op = ap (λ m. slice_get all m) (sym next) ∙ is;
+          word = word_stands all n no_op is;
           last = l.1;
-          is_last = subst (λ (m : ℕ). take 4 (drop m (text_bytes t all)) ≡ t.bytes_of l.1) (sym k) (word_stands all l.0 l.1 (ap (λ (x : List Insn). slice_get x l.0) e ∙ l.3));
+          is_last = ap (λ (x : List Insn). slice_get x l.0) e ∙ l.3;
           goes_on = l.4;
         }
 
@@ -111,7 +114,7 @@ module _ {Insn : Type 0} (t : Coding Insn) (no_op : Insn) (is_transfer : Insn �
           (subst (λ (x : ℕ). Stop (low * 4) (high * 4) x) (sym (ap or_zero at.1)) at.2, points_stop before rest n os ps e size goes above below h.1)
 
     function_stops : (before rest : List Insn) (n : ℕ) (s : SlotFunction) (f : FlatFunction) → all ≡ before ++ (function_insns t f ++ rest) → n ≡ length before → HasStopPlaces f
-        → HasStops t no_op is_transfer (text_bytes t all) (function_row t n s f)
+        → HasStops t no_op is_transfer all (text_bytes t all) (function_row t n s f)
     unfolding function_insns function_row
     function_stops before rest n s f e size h =
         let first : List Insn = t.prologue f.frame in
@@ -125,7 +128,7 @@ module _ {Insn : Type 0} (t : Coding Insn) (no_op : Insn) (is_transfer : Insn �
         (omega (arith, length-append (first ++ code) final, length-append first code)) h
 
     functions_stop : (before rest : List Insn) (n : ℕ) (ss : List SlotFunction) (fs : List FlatFunction) → all ≡ before ++ (functions_insns t fs ++ rest) → n ≡ length before → AllByRecursion HasStopPlaces fs
-        → AllByRecursion (HasStops t no_op is_transfer (text_bytes t all)) (functions_rows t n ss fs)
+        → AllByRecursion (HasStops t no_op is_transfer all (text_bytes t all)) (functions_rows t n ss fs)
     functions_stop before rest n ss [] e size h = tt
     functions_stop before rest n [] (f ∷ fs) e size h = tt
     functions_stop before rest n (s ∷ ss) (f ∷ fs) e size h =
@@ -136,7 +139,7 @@ module _ {Insn : Type 0} (t : Coding Insn) (no_op : Insn) (is_transfer : Insn �
           functions_stop (before ++ code) rest (n + length code) ss fs (split ∙ sym (append_assoc before code (others ++ rest))) (omega (arith, size, length-append before code)) h.1,
         )
 
-  program_stops : (ss : List SlotFunction) (c : FlatCode) → AllByRecursion HasStopPlaces c.functions → AllByRecursion (HasStops t no_op is_transfer (text_bytes t (program_insns t c))) (program_rows t ss c)
+  program_stops : (ss : List SlotFunction) (c : FlatCode) → AllByRecursion HasStopPlaces c.functions → AllByRecursion (HasStops t no_op is_transfer (program_insns t c) (text_bytes t (program_insns t c))) (program_rows t ss c)
   unfolding program_insns program_rows
   program_stops ss c h =
       let before : List Insn = t.start ++ movers_insns t c.movers in
@@ -145,7 +148,7 @@ module _ {Insn : Type 0} (t : Coding Insn) (no_op : Insn) (is_transfer : Insn �
 
   -- ---- the object
 
-  pub object_stops : (slots : SlotCode) (c : FlatCode) (o : Object) → AllByRecursion HasStopPlaces c.functions → IsObjectOf t slots c o → AllByRecursion (HasStops t no_op is_transfer o.text) o.functions
+  pub object_stops : (slots : SlotCode) (c : FlatCode) (o : Object) → AllByRecursion HasStopPlaces c.functions → IsObjectOf t slots c o → AllByRecursion (HasStops t no_op is_transfer (program_insns t c) o.text) o.functions
   object_stops slots c o h is =
-      subst (λ (x : List ℕ). AllByRecursion (HasStops t no_op is_transfer x) o.functions) (sym is.text)
-      (subst (λ (rs : List FunctionRow). AllByRecursion (HasStops t no_op is_transfer (text_bytes t (program_insns t c))) rs) (sym is.functions) (program_stops slots.functions c h))
+      subst (λ (x : List ℕ). AllByRecursion (HasStops t no_op is_transfer (program_insns t c) x) o.functions) (sym is.text)
+      (subst (λ (rs : List FunctionRow). AllByRecursion (HasStops t no_op is_transfer (program_insns t c) (text_bytes t (program_insns t c))) rs) (sym is.functions) (program_stops slots.functions c h))

@@ -1,5 +1,5 @@
 -- The operators of both targets go on behind their ends.
-use Rattle.std.proofs.Common.{◌≡◌, ℕ, ◌+◌, ◌*◌, ◌%◌, ◌^◌, List, [], ◌∷◌, ◌++◌, Bool, true, false, not, nat_lt, if◌then◌else◌, refl, ap, ◌∙◌}
+use Rattle.std.proofs.Common.{◌≡◌, ℕ, ◌+◌, ◌*◌, ◌%◌, ◌^◌, List, [], ◌∷◌, ◌++◌, Bool, true, false, not, nat_lt, if◌then◌else◌, refl, ap, ◌∙◌, arith}
 use Rattle.std.specs.List.{AllByRecursion}
 use Rattle.ldb_words.specs.declared.kinds.Kind.{Kind}
 use Rattle.ldb_words.specs.declared.kinds.Kind.TheVariants.{Byte, Word, Address}
@@ -18,18 +18,20 @@ use Rattle.flat_ir.specs.declared.code.FlatOp.{FlatOp}
 use Rattle.flat_ir.specs.declared.code.FlatOp.TheVariants as flat
 use Rattle.flat_gen.specs.Codes.{flat_code}
 use Rattle.gen_parts.specs.Parts.{IsObjectOf}
-use Rattle.mips_isa.specs.declared.insn.Insn.{Insn as MipsInsn}
+use Rattle.gen_parts.specs.Text.{program_insns}
 use Rattle.mips_isa.specs.declared.insn.Insn.TheVariants.{Lw, Sw}
 use Rattle.mips_isa.specs.Step.{is_transfer}
 use Rattle.mips_gen.specs.Insns as m
 use Rattle.mips_gen.specs.Coding.{mips}
-use Rattle.sparc_isa.specs.declared.insn.Insn.{Insn as SparcInsn}
 use Rattle.sparc_isa.specs.declared.insn.Insn.TheVariants.{Ld, St}
 use Rattle.sparc_isa.specs.declared.operand.Operand.TheVariants.{Register, Immediate}
 use Rattle.sparc_gen.specs.Insns as s
 use Rattle.sparc_gen.specs.Coding.{sparc}
 use Rattle.object_laws.specs.Delayed.{is_delayed}
 use Rattle.object_laws.specs.Stops.{HasStops, goes_on_behind, HasPlainEnds}
+use Rattle.gen_parts.specs.Links.{IsInOrder}
+use Rattle.link_image.specs.Conditions.{has_rows_inside}
+use Rattle.object_laws.proofs.Inside.{all_inside}
 use Rattle.object_laws.proofs.Places.{functions_places}
 use Rattle.object_laws.proofs.Stops.{behind_both, object_stops}
 
@@ -157,9 +159,13 @@ mips_ends = record {
   prologue = λ frame. refl;
 }
 
-pub mips_stops : (c : SlotCode) (o : Object) → IsWellFormed c → IsObjectOf mips c (flat_code 100 c) o → AllByRecursion (HasStops mips m.no_op is_transfer o.text) o.functions
+pub mips_stops : (c : SlotCode) (o : Object) → IsWellFormed c → IsObjectOf mips c (flat_code 100 c) o → AllByRecursion (HasStops mips m.no_op is_transfer (program_insns mips (flat_code 100 c)) o.text) o.functions
 unfolding flat_code
 mips_stops c o h is = object_stops mips m.no_op is_transfer mips_ends c (flat_code 100 c) o (functions_places 100 c c.functions h.1) is
+
+pub mips_inside : (c : SlotCode) (o : Object) → IsWellFormed c → IsObjectOf mips c (flat_code 100 c) o → IsInOrder o → has_rows_inside o ≡ true
+mips_inside c o h made order =
+    all_inside mips m.no_op is_transfer (program_insns mips (flat_code 100 c)) o.text mips_ends (omega arith) (omega arith) (λ frame. omega arith) c (flat_code 100 c) o made order (mips_stops c o h made)
 
 -- ---- SPARC
 
@@ -278,6 +284,10 @@ sparc_ends = record {
   prologue = λ frame. refl;
 }
 
-pub sparc_stops : (c : SlotCode) (o : Object) → IsWellFormed c → IsObjectOf sparc c (flat_code 132 c) o → AllByRecursion (HasStops sparc s.no_op is_delayed o.text) o.functions
+pub sparc_stops : (c : SlotCode) (o : Object) → IsWellFormed c → IsObjectOf sparc c (flat_code 132 c) o → AllByRecursion (HasStops sparc s.no_op is_delayed (program_insns sparc (flat_code 132 c)) o.text) o.functions
 unfolding flat_code
 sparc_stops c o h is = object_stops sparc s.no_op is_delayed sparc_ends c (flat_code 132 c) o (functions_places 132 c c.functions h.1) is
+
+pub sparc_inside : (c : SlotCode) (o : Object) → IsWellFormed c → IsObjectOf sparc c (flat_code 132 c) o → IsInOrder o → has_rows_inside o ≡ true
+sparc_inside c o h made order =
+    all_inside sparc s.no_op is_delayed (program_insns sparc (flat_code 132 c)) o.text sparc_ends (omega arith) (omega arith) (λ frame. omega arith) c (flat_code 132 c) o made order (sparc_stops c o h made)

@@ -1,2 +1,3 @@
 pub mod Delayed
+pub mod Found
 pub mod Stops

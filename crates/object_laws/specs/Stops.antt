@@ -1,5 +1,5 @@
 -- Stopping points of a text.
-use Rattle.std.specs.Prelude.{◌≡◌, ◌≤◌, ℕ, ◌+◌, ◌-◌, ◌%◌, List, [], ◌∷◌, take, drop, length, Bool, true, false, not}
+use Rattle.std.specs.Prelude.{◌≡◌, ◌≤◌, ℕ, suc, ◌+◌, ◌*◌, List, [], ◌∷◌, take, drop, length, Bool, true, false, not, Some, slice_get}
 use Rattle.std.specs.List.{AllByRecursion}
 use Rattle.obj_file.specs.declared.object.FunctionRow.{FunctionRow}
 use Rattle.flat_ir.specs.declared.code.FlatOp.{FlatOp}
@@ -13,21 +13,19 @@ goes_on_behind is_transfer before (i ∷ is) = goes_on_behind is_transfer (not (
 
 -- a target, its no-op, and which of its instructions are transfers
 module _ {Insn : Type 0} (t : Coding Insn) (no_op : Insn) (is_transfer : Insn → Bool) where
-  -- ---- of a text
+  -- ---- of a text, and the instructions that it is of
 
-  module _ (text : List ℕ) where
-    -- the word at an offset is that of an instruction
-    abbrev pub StandsAt : Insn → ℕ → Type 0
-    StandsAt i at = take 4 (drop at text) ≡ t.bytes_of i
-
-    -- A stopping point between two offsets: a word that is the no-op, behind one that lies there too and is no transfer.
+  module _ (is : List Insn) (text : List ℕ) where
+    -- A stopping point between two offsets: an instruction that is the no-op, as its word is, behind one that lies there too and is no transfer.
     pub record IsStop (from end at : ℕ) : Type 0 where
-      pub whole : at % 4 ≡ 0
-      pub behind : from + 4 ≤ at
+      pub before : ℕ
+      pub place : at ≡ suc before * 4
+      pub behind : from ≤ before * 4
       pub inside : at + 4 ≤ end
-      pub is_no_op : StandsAt no_op at
+      pub is_no_op : slice_get is (suc before) ≡ Some no_op
+      pub word : take 4 (drop at text) ≡ t.bytes_of no_op
       pub last : Insn
-      pub is_last : StandsAt last (at - 4)
+      pub is_last : slice_get is before ≡ Some last
       pub goes_on : is_transfer last ≡ false
 
     -- so is each point of a function

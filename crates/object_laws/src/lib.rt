@@ -3,4 +3,7 @@
 
 mod laws;
 
-pub use laws::stopping_points;
+pub use laws::{
+    rows_lie_inside, static_objects_fit, stopping_points, used_names, uses_in_static_objects,
+    uses_lie_inside,
+};
