@@ -42,3 +42,33 @@ count_after n x = x >>= λ k. Ok (n + k)
 pub counts_begin : (x : Walked ℕ) → x ≡ count_after 0 x
 counts_begin (Ok k) = refl
 counts_begin (Err l) = refl
+
+one_more : (n : ℕ) (x : Walked (List Frame)) (g : Frame) → count_after n ((x >>= λ hs. Ok (g ∷ hs)) >>= λ fs. Ok (length fs)) ≡ count_after (n + 1) (x >>= λ fs. Ok (length fs))
+one_more n (Err l) g = refl
+one_more n (Ok hs) g = let e : n + suc (length hs) ≡ n + 1 + length hs = omega arith in ap (λ (k : ℕ). Ok k) e
+
+pub counts_on : (row : TargetRow) (s : StoreState) (b : Bytes) (n k most : ℕ) (f g : Frame) → most ≡ suc k → next_frame row s b f ≡ Ok (Some g)
+    → count_after n (outward_count row s b most f) ≡ count_after (n + 1) (outward_count row s b k g)
+counts_on row s b n k most f g m e =
+    ap (λ j. count_after n (outward_count row s b j f)) m
+    ∙ ap (λ (x : Walked (Option Frame)). count_after n ((x >>= λ o. elim o [ None ↦ Ok [] | Some h ↦ outward row s b k h >>= λ hs. Ok (h ∷ hs) ]) >>= λ fs. Ok (length fs))) e
+    ∙ one_more n (outward row s b k g) g
+
+pub counts_end : (row : TargetRow) (s : StoreState) (b : Bytes) (n k most : ℕ) (f : Frame) → most ≡ suc k → next_frame row s b f ≡ Ok None → count_after n (outward_count row s b most f) ≡ Ok n
+counts_end row s b n k most f m e =
+    let none : n + 0 ≡ n = omega arith in
+    ap (λ j. count_after n (outward_count row s b j f)) m
+    ∙ ap (λ (x : Walked (Option Frame)). count_after n ((x >>= λ o. elim o [ None ↦ Ok [] | Some h ↦ outward row s b k h >>= λ hs. Ok (h ∷ hs) ]) >>= λ fs. Ok (length fs))) e
+    ∙ ap (λ (j : ℕ). Ok j) none
+
+-- ---- looking
+
+-- the local of a frame itself, with the number of its activation
+pub looks_here : (row : TargetRow) (s : StoreState) (b : Bytes) (address n number : ℕ) (f : Frame) (o : Found) → local_at s number f address ≡ Ok (Some o)
+    → found_outward row s b address n number f ≡ (outward row s b n f >>= λ outer. Ok (Some (with_activation o outer)))
+looks_here row s b address zero number f o e = ap (λ (x : Walked (Option Found)). x >>= λ found. elim found [ None ↦ Ok None | Some p ↦ Ok (Some (with_activation p [])) ]) e
+looks_here row s b address (suc n) number f o e =
+    ap (λ (x : Walked (Option Found)). x >>= λ found. elim found [
+      | Some p ↦ outward row s b (suc n) f >>= λ outer. Ok (Some (with_activation p outer))
+      | None ↦ next_frame row s b f >>= λ g. elim g [ None ↦ Ok None | Some g ↦ found_outward row s b address n (suc number) g ]
+    ]) e
