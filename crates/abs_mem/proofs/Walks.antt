@@ -44,9 +44,10 @@ walks_then s u t f g w x (Err (fault.Memory (Outside p))) h k e =
 walks_then s u t f g w x (Err (fault.Memory LinkFault)) h k e = rose_then s.faults u.faults t.faults h.0.faults k
 walks_then {R = R} s u t f g w x (Err (fault.Memory (BadReply frame))) h k e =
     record { faults = k.faults ∙ h.0.faults; never = λ (b : Bytes) (r : R) y. k.never b r (h.0.keeps b r y) }
-walks_then s u t f g w x (Err (fault.Shape missing)) h k e =
-    (same_then s u t h.0 k.0,
-    on_told s u (λ b. shape_of (g x b) ≡ Some missing) (λ b. f b ≡ Ok x) h.0 h.1 k.1 (λ b. shape_of (w b) ≡ Some missing) (λ b p q. ap shape_of (e b p) ∙ q))
+walks_then s u t f g w x (Err (fault.Shape missing)) h k e = (
+  same_then s u t h.0 k.0,
+  on_told s u (λ b. shape_of (g x b) ≡ Some missing) (λ b. f b ≡ Ok x) h.0 h.1 k.1 (λ b. shape_of (w b) ≡ Some missing) (λ b p q. ap shape_of (e b p) ∙ q),
+)
 walks_then s u t f g w x (Err (fault.Unforced n)) h k e =
     (same_then s u t h.0 k.0, on_told s u (λ b. g x b ≡ Err (lack.Unforced n)) (λ b. f b ≡ Ok x) h.0 h.1 k.1 (λ b. w b ≡ Err (lack.Unforced n)) (λ b p q. e b p ∙ q))
 

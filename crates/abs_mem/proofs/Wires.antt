@@ -66,10 +66,10 @@ tells_after : (c : Conduct) (o o' : Option World) (side : Side) (order : Order) 
 tells_after c o o' side order b r t h w' is x nub machine holds same =
     let host_is : x.now.host ≡ h = x.host_is in
     let rest_is : r ≡ rest_of side order x.now.host r.beside =
-      t.rest_is
-      ∙ ap (λ (n : NubState). rest_from side order n (blank t.now.host.machine) r.beside) (sym nub)
-      ∙ ap (λ (m : MachineState). rest_from side order h.nub m r.beside) (sym machine)
-      ∙ ap (λ (g : Host). rest_of side order g r.beside) (sym host_is) in
+    t.rest_is
+    ∙ ap (λ (n : NubState). rest_from side order n (blank t.now.host.machine) r.beside) (sym nub)
+    ∙ ap (λ (m : MachineState). rest_from side order h.nub m r.beside) (sym machine)
+    ∙ ap (λ (g : Host). rest_of side order g r.beside) (sym host_is) in
     record {
       meets = t.meets;
       world = w';
@@ -131,21 +131,23 @@ pub wire_fetches : (c : Conduct) → FetchLaw c → (o o' : Option World) (f f' 
     → CountsTalk f asked f' → IfOk asked (λ r. heard (msg.Fetch at (size_of k)) 0 r ≡ Ends)
     → ((w : World) → o ≡ Some w → TellsReply c side (msg.Fetch at (size_of k)) w asked o')
     → Fetches (wire_seen c o f side order) (in_memory at) k (fetched_by (in_memory at) asked) (wire_seen c o' f' side order)
-wire_fetches c law o o' f f' side order at k (Ok (msg.Word v)) small counts ends tell =
-    (record { faults = counts; keeps = λ b r t. (fetched_told c law o o' side order at k (msg.Word v) small tell b r t).tells },
-    record { holds = λ b r t. (fetched_told c law o o' side order at k (msg.Word v) small tell b r t).some v refl })
-wire_fetches c law o o' f f' side order at k (Ok msg.Outside) small counts ends tell =
-    (refl,
-    record { faults = counts; keeps = λ b r t. (fetched_told c law o o' side order at k msg.Outside small tell b r t).tells },
-    record { holds = λ b r t. (fetched_told c law o o' side order at k msg.Outside small tell b r t).none refl })
+wire_fetches c law o o' f f' side order at k (Ok (msg.Word v)) small counts ends tell = (
+  record { faults = counts; keeps = λ b r t. (fetched_told c law o o' side order at k (msg.Word v) small tell b r t).tells },
+  record { holds = λ b r t. (fetched_told c law o o' side order at k (msg.Word v) small tell b r t).some v refl },
+)
+wire_fetches c law o o' f f' side order at k (Ok msg.Outside) small counts ends tell = (
+  refl,
+  record { faults = counts; keeps = λ b r t. (fetched_told c law o o' side order at k msg.Outside small tell b r t).tells },
+  record { holds = λ b r t. (fetched_told c law o o' side order at k msg.Outside small tell b r t).none refl },
+)
 wire_fetches c law o o' f f' side order at k (Ok x) small counts ends tell = absurd (fetch_replies at (size_of k) x ends (λ e. (cc)) (λ v e. (cc)))
 wire_fetches c law o o' f f' side order at k (Err talk.LinkFault) small counts ends tell = counts
 wire_fetches c law o o' f f' side order at k (Err (talk.BadReply frame)) small counts ends tell =
     record {
       faults = counts;
       never = λ (b : Bytes) (r : WireRest) (t : WireTells c o side order b r).
-        let l = law t.now at (size_of k) t.meets t.rest t.holds small in
-        tell t.world t.told t.now (fetch_of t.now.host.machine at (size_of k)) t.now.host t.there t.rest.idle l.0 (ap ending l.1);
+          let l = law t.now at (size_of k) t.meets t.rest t.holds small in
+          tell t.world t.told t.now (fetch_of t.now.host.machine at (size_of k)) t.now.host t.there t.rest.idle l.0 (ap ending l.1);
     }
 
 -- ---- a store
@@ -184,9 +186,10 @@ stored_case c o o' side order at k v x b r t w' (Err y) kept e is there came =
     let told : WireTells c o' side order (memory_of m) r = tells_after c o o' side order b r t t.now.host w' there came refl refl t.holds refl in
     record {
       done = λ (d : x ≡ msg.Done). let both : msg.Outside ≡ msg.Done = sym is ∙ d in (cc);
-      none = λ (d : x ≡ msg.Outside).
-        (ap (λ (z : Bytes). stored z Memory at k v) t.bytes_are ∙ stored_memory m at k v ∙ ap (λ (z : Result Regions OutsideError). put_back (memory_of m) (or_none z)) e,
-        subst (λ (z : Bytes). WireTells c o' side order z r) (sym t.bytes_are) told);
+      none = λ (d : x ≡ msg.Outside). (
+        ap (λ (z : Bytes). stored z Memory at k v) t.bytes_are ∙ stored_memory m at k v ∙ ap (λ (z : Result Regions OutsideError). put_back (memory_of m) (or_none z)) e,
+        subst (λ (z : Bytes). WireTells c o' side order z r) (sym t.bytes_are) told,
+      );
     }
 
 is_width : (s : Size) → IsWidth (size_byte s)
@@ -211,19 +214,20 @@ pub wire_stores : (c : Conduct) → StoreLaw c → (o o' : Option World) (f f' :
     → Stores (wire_seen c o f side order) (in_memory at) k v (stored_by (in_memory at) asked) (wire_seen c o' f' side order)
 wire_stores c law o o' f f' side order at k v (Ok msg.Done) small fits counts ends tell =
     record { faults = counts; after = λ b r t. (stored_told c law o o' side order at k v msg.Done small fits tell b r t).done refl }
-wire_stores c law o o' f f' side order at k v (Ok msg.Outside) small fits counts ends tell =
-    (refl,
-    record { faults = counts; keeps = λ b r t. ((stored_told c law o o' side order at k v msg.Outside small fits tell b r t).none refl).1 },
-    record { holds = λ b r t. ((stored_told c law o o' side order at k v msg.Outside small fits tell b r t).none refl).0 })
+wire_stores c law o o' f f' side order at k v (Ok msg.Outside) small fits counts ends tell = (
+  refl,
+  record { faults = counts; keeps = λ b r t. ((stored_told c law o o' side order at k v msg.Outside small fits tell b r t).none refl).1 },
+  record { holds = λ b r t. ((stored_told c law o o' side order at k v msg.Outside small fits tell b r t).none refl).0 },
+)
 wire_stores c law o o' f f' side order at k v (Ok x) small fits counts ends tell = absurd (store_replies at v (size_of k) x ends (λ e. (cc)) (λ e. (cc)))
 wire_stores c law o o' f f' side order at k v (Err talk.LinkFault) small fits counts ends tell = counts
 wire_stores c law o o' f f' side order at k v (Err (talk.BadReply frame)) small fits counts ends tell =
     record {
       faults = counts;
       never = λ (b : Bytes) (r : WireRest) (t : WireTells c o side order b r).
-        let res = store_of t.now.host.machine at (size_of k) v in
-        let l = law t.now at (size_of k) v t.meets t.rest small fits in
-        tell t.world t.told t.now (store_reply res) (after_store res t.now.host) t.there t.rest.idle l.0 (ap ending l.1);
+          let res = store_of t.now.host.machine at (size_of k) v in
+          let l = law t.now at (size_of k) v t.meets t.rest small fits in
+          tell t.world t.told t.now (store_reply res) (after_store res t.now.host) t.there t.rest.idle l.0 (ap ending l.1);
     }
 
 -- ---- the calls
@@ -252,18 +256,20 @@ led_store took gave m p s u (Err (talk.BadReply frame)) h = badly m h
 pub wire_no_fetch : (c : Conduct) (o : Option World) (f : ℕ) (side : Side) (order : Order) (p : Place) (k : Kind)
     → ((b : Bytes) → b.registers ≡ no_places → b.cell ≡ None → fetched b p.space p.at k ≡ None)
     → Fetches (wire_seen c o f side order) p k (Err (Outside p)) (wire_seen c o f side order)
-wire_no_fetch c o f side order p k none =
-    (refl,
-    record { faults = refl; keeps = λ b r t. t },
-    record { holds = λ (b : Bytes) (r : WireRest) (t : WireTells c o side order b r). none b (ap (λ (z : Bytes). z.registers) t.bytes_are) (ap (λ (z : Bytes). z.cell) t.bytes_are) })
+wire_no_fetch c o f side order p k none = (
+  refl,
+  record { faults = refl; keeps = λ b r t. t },
+  record { holds = λ (b : Bytes) (r : WireRest) (t : WireTells c o side order b r). none b (ap (λ (z : Bytes). z.registers) t.bytes_are) (ap (λ (z : Bytes). z.cell) t.bytes_are) },
+)
 
 pub wire_no_store : (c : Conduct) (o : Option World) (f : ℕ) (side : Side) (order : Order) (p : Place) (k : Kind) (v : ℕ)
     → ((b : Bytes) → b.registers ≡ no_places → b.cell ≡ None → stored b p.space p.at k v ≡ None)
     → Stores (wire_seen c o f side order) p k v (Err (Outside p)) (wire_seen c o f side order)
-wire_no_store c o f side order p k v none =
-    (refl,
-    record { faults = refl; keeps = λ b r t. t },
-    record { holds = λ (b : Bytes) (r : WireRest) (t : WireTells c o side order b r). none b (ap (λ (z : Bytes). z.registers) t.bytes_are) (ap (λ (z : Bytes). z.cell) t.bytes_are) })
+wire_no_store c o f side order p k v none = (
+  refl,
+  record { faults = refl; keeps = λ b r t. t },
+  record { holds = λ (b : Bytes) (r : WireRest) (t : WireTells c o side order b r). none b (ap (λ (z : Bytes). z.registers) t.bytes_are) (ap (λ (z : Bytes). z.cell) t.bytes_are) },
+)
 
 -- ---- as the code has it
 

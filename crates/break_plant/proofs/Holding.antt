@@ -40,12 +40,12 @@ held_none r at ys e =
     let behind = none_second a (or_else b (or_else c d)) e in
     let last = none_second b (or_else c d) behind in
     none_both (or_else (bytes_from r.text_bytes text) (or_else (bytes_from r.data_bytes statics) (bytes_from r.stack_bytes stack))) (bytes_from r.context_bytes context)
-      (none_both (bytes_from r.text_bytes text) (or_else (bytes_from r.data_bytes statics) (bytes_from r.stack_bytes stack))
-        (no_bytes (with_text r ys) r.text_bytes text (none_first a (or_else b (or_else c d)) e))
-        (none_both (bytes_from r.data_bytes statics) (bytes_from r.stack_bytes stack)
-          (no_bytes (with_data r ys) r.data_bytes statics (none_first b (or_else c d) behind))
-          (no_bytes (with_stack r ys) r.stack_bytes stack (none_first c d last))))
-      (no_bytes (with_context r ys) r.context_bytes context (none_second c d last))
+    (none_both (bytes_from r.text_bytes text) (or_else (bytes_from r.data_bytes statics) (bytes_from r.stack_bytes stack))
+    (no_bytes (with_text r ys) r.text_bytes text (none_first a (or_else b (or_else c d)) e))
+    (none_both (bytes_from r.data_bytes statics) (bytes_from r.stack_bytes stack)
+    (no_bytes (with_data r ys) r.data_bytes statics (none_first b (or_else c d) behind))
+    (no_bytes (with_stack r ys) r.stack_bytes stack (none_first c d last))))
+    (no_bytes (with_context r ys) r.context_bytes context (none_second c d last))
 
 four_bytes : (o : Order) (v : ℕ) → length (bytes_of o 4 v) ≡ 4
 four_bytes Little v = refl
@@ -72,5 +72,5 @@ pub word_none : (b : Bytes) (at v : ℕ) → stored b Memory at Word v ≡ None 
 unfolding stored fetched read_of write_of
 word_none b at v e =
     outside_both at (overlaid b.regions at (bytes_of b.order 4 v)) (option_map (number_of b.order 4) (held b.regions at 4))
-      (λ n. mapped_none (number_of b.order 4) (held b.regions at 4) (subst (λ (k : ℕ). held b.regions at k ≡ None) (four_bytes b.order v) (held_none b.regions at (bytes_of b.order 4 v) n)))
-      (put_none b (or_none (or_outside at 4 (overlaid b.regions at (bytes_of b.order 4 v)))) e)
+    (λ n. mapped_none (number_of b.order 4) (held b.regions at 4) (subst (λ (k : ℕ). held b.regions at k ≡ None) (four_bytes b.order v) (held_none b.regions at (bytes_of b.order 4 v) n)))
+    (put_none b (or_none (or_outside at 4 (overlaid b.regions at (bytes_of b.order 4 v)))) e)

@@ -12,7 +12,8 @@ use stack_walk::{first, row_of_target, up};
 use std::alloc::{AllocError, Global};
 
 /// A function of the whole text, whose frames have 16 bytes and keep the return address in the last word.
-const TABLE: &[u8] = b"<< /units [ << /functions [ << /entry 16#400000 /end 16#400008 /frame 16 /saved [ [ 31 -4 ] ] >> ] >> ] >>";
+const TABLE: &[u8] =
+    b"<< /units [ << /functions [ << /entry 16#400000 /end 16#400008 /frame 16 /saved [ [ 31 -4 ] ] >> ] >> ] >>";
 
 /// The innermost stack pointer.
 const INNERMOST: u32 = 0x7fef_0000;
@@ -28,7 +29,13 @@ fn table(alloc: Global) -> Result<Option<PsStore>, AllocError> {
         taken: 0,
         limit: 1000,
     };
-    let done = run(&mut core, &mut NoDialect, PsObj::Str(text, true), &mut steps).is_ok();
+    let done = run(
+        &mut core,
+        &mut NoDialect,
+        PsObj::Str(text, true),
+        &mut steps,
+    )
+    .is_ok();
     let top = core.operands.get(0);
     let mut store = core.into_store();
     if let Some(PsObj::Dict(d)) = top {

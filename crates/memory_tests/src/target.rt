@@ -125,12 +125,7 @@ impl Targets {
 
     /// Appends how the frames of the made stack are told where one call of the link goes wrong, for each of so many calls: how
     /// many were told as they are, failed, and had a bad reply.
-    fn append_mishaps(
-        &self,
-        how: Mishap,
-        calls: u32,
-        out: &mut Vec<u8>,
-    ) -> Result<(), AllocError> {
+    fn append_mishaps(&self, how: Mishap, calls: u32, out: &mut Vec<u8>) -> Result<(), AllocError> {
         let mut counts = [0u32; 4];
         let right = self.frames_text(u64::MAX, how)?;
         for call in 0..calls {
@@ -149,8 +144,9 @@ impl Targets {
         let [same, failed, bad, other] = counts;
         append(
             out,
-            format!(in self.alloc; "{same} as they are, {failed} failed, {bad} bad, {other} otherwise")?
-                .as_str(),
+            format!(in self.alloc;
+                "{same} as they are, {failed} failed, {bad} bad, {other} otherwise"
+            )?.as_str(),
         )
     }
 

@@ -43,8 +43,8 @@ kept_through s base r n None [] = refl
 kept_through s base r n (Some at) [] = refl
 kept_through s base r n o (x ∷ xs) =
     bind_same (pair_in s x) (λ p. kept_from s base r (or_else o (kept_at base p r)) xs)
-      (λ p. after_kept (or_else o (kept_at base p r)) (all_from (λ m y. pair_in s y) (suc n) xs >>= λ zs. Ok (kept_at base zs r)))
-      (λ p. kept_through s base r (suc n) (or_else o (kept_at base p r)) xs)
+    (λ p. after_kept (or_else o (kept_at base p r)) (all_from (λ m y. pair_in s y) (suc n) xs >>= λ zs. Ok (kept_at base zs r)))
+    (λ p. kept_through s base r (suc n) (or_else o (kept_at base p r)) xs)
     ∙ kept_joined base r o (pair_in s x) (all_from (λ m y. pair_in s y) (suc n) xs)
 
 unkept : (x : Walked (Option ℕ)) → after_kept None x ≡ x

@@ -53,22 +53,11 @@ pub fn point_below(store: &PsStore, pc: u32, points: &[PsObj]) -> Result<Option<
 }
 
 /// Of a point and the best one so far the one with the greatest address below an address; the first of those there.
-fn nearest(
-    best: Option<(u32, DictId)>,
-    pc: u32,
-    at: u32,
-    point: DictId,
-) -> Option<(u32, DictId)>
+fn nearest(best: Option<(u32, DictId)>, pc: u32, at: u32, point: DictId) -> Option<(u32, DictId)>
     ensures { result ≡ nearest best pc at point }
 {
     match best {
-        None => {
-            if at < pc {
-                Some((at, point))
-            } else {
-                None
-            }
-        }
+        None => { if at < pc { Some((at, point)) } else { None } }
         Some((greatest, old)) => {
             if at < pc && greatest < at {
                 Some((at, point))
