@@ -1,0 +1,7 @@
+use Rattle.std.proofs.Common.{◌≡◌, ◌-◌}
+use Rattle.table_model.specs.Objects.{local_among}
+use Rattle.locate.proofs.locals.local_among.Given as goal
+
+-- what is left of the chain decides
+abbrev pub invariant-loop-passed : goal.invariant-loop-passed
+invariant-loop-passed l = local_among (99999 - l.passed) l.store l.base l.address l.next ≡ local_among 99999 l.store l.base l.address l.scope
