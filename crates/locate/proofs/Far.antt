@@ -1,19 +1,12 @@
--- Frames passed so far, and what is left to look at.
-use Rattle.std.proofs.Common.{◌≡◌, ◌∙◌, refl, sym, ap, subst, ℕ, zero, suc, ◌+◌, ◌-◌, ◌<◌, List, [], ◌∷◌, length, Option, Some, None, Result, Ok, Err, arith}
-use Rattle.ps_store.specs.StoreState.{StoreState}
-use Rattle.ps_step.specs.Results.{◌>>=◌}
+-- What is left to ask of a memory that was read so far.
+use Rattle.std.proofs.Common.{◌≡◌, ◌∙◌, refl, Result, Ok, Err}
 use Rattle.frame_bytes.specs.Bytes.{Bytes}
-use Rattle.frame_bytes.specs.declared.frame.Frame.{Frame}
-use Rattle.table_model.specs.declared.found.Found.{Found}
-use Rattle.table_model.specs.declared.row.TargetRow.{TargetRow}
+use Rattle.ps_step.specs.Results.{◌>>=◌}
 use Rattle.table_model.specs.Reading.{Walked}
-use Rattle.table_model.specs.Frames.{next_frame, outward}
-use Rattle.table_model.specs.Objects.{found_outward, local_at, with_activation}
 use Rattle.abs_mem.specs.declared.walk.WalkFault.{WalkFault}
 use Rattle.abs_mem.specs.Meaning.{Seen, Same, OnTold}
-use Rattle.abs_mem.specs.Walking.{Walks, LedWalk}
-use Rattle.abs_mem.proofs.Walks.{same_here, same_then, walks_on, walks_then}
-use Rattle.locate.specs.Counting.{outward_count}
+use Rattle.abs_mem.specs.Walking.{Walks}
+use Rattle.abs_mem.proofs.Walks.{same_here, same_then, walks_on, walks_as, walks_fail}
 
 -- A memory that was read so far: what was asked comes to what is left.
 pub record SoFar {R A : Type 0} (s u : Seen R) (whole left : Bytes → Walked A) : Type 0 where
@@ -31,44 +24,16 @@ so_far_then {R = R} s u t whole left f x g far h e = record {
   told = record { holds = λ (b : Bytes) (r : R) y. far.told.holds b r y ∙ e b (h.1.holds b r (far.same.keeps b r y)) };
 }
 
-pub so_far_ends : {R A : Type 0} (s u t : Seen R) (whole left : Bytes → Walked A) (r : Result A WalkFault) → SoFar s u whole left → Walks left u r t → Walks whole s r t
-so_far_ends s u t whole left r far k = walks_on s u t whole left r far.same far.told k
+-- nothing is left
+pub so_far_is : {R A : Type 0} (s u : Seen R) (whole left : Bytes → Walked A) (y : A) → SoFar s u whole left → ((b : Bytes) → left b ≡ Ok y) → Walks whole s (Ok y) u
+so_far_is {R = R} s u whole left y far e = (far.same, record { holds = λ (b : Bytes) (r : R) t. far.told.holds b r t ∙ e b })
 
--- ---- counting
+-- nothing is left behind a walk more
+pub so_far_gives : {R A B : Type 0} (s u t : Seen R) (whole left : Bytes → Walked A) (f : Bytes → Walked B) (x : B) (y : A) → SoFar s u whole left → Walks f u (Ok x) t
+    → ((b : Bytes) → f b ≡ Ok x → left b ≡ Ok y) → Walks whole s (Ok y) t
+so_far_gives s u t whole left f x y far h e = so_far_is s t whole (λ b. Ok y) y (so_far_then s u t whole left f x (λ b. Ok y) far h e) (λ b. refl)
 
-abbrev pub count_after : ℕ → Walked ℕ → Walked ℕ
-count_after n x = x >>= λ k. Ok (n + k)
-
-pub counts_begin : (x : Walked ℕ) → x ≡ count_after 0 x
-counts_begin (Ok k) = refl
-counts_begin (Err l) = refl
-
-one_more : (n : ℕ) (x : Walked (List Frame)) (g : Frame) → count_after n ((x >>= λ hs. Ok (g ∷ hs)) >>= λ fs. Ok (length fs)) ≡ count_after (n + 1) (x >>= λ fs. Ok (length fs))
-one_more n (Err l) g = refl
-one_more n (Ok hs) g = let e : n + suc (length hs) ≡ n + 1 + length hs = omega arith in ap (λ (k : ℕ). Ok k) e
-
-pub counts_on : (row : TargetRow) (s : StoreState) (b : Bytes) (n k most : ℕ) (f g : Frame) → most ≡ suc k → next_frame row s b f ≡ Ok (Some g)
-    → count_after n (outward_count row s b most f) ≡ count_after (n + 1) (outward_count row s b k g)
-counts_on row s b n k most f g m e =
-    ap (λ j. count_after n (outward_count row s b j f)) m
-    ∙ ap (λ (x : Walked (Option Frame)). count_after n ((x >>= λ o. elim o [ None ↦ Ok [] | Some h ↦ outward row s b k h >>= λ hs. Ok (h ∷ hs) ]) >>= λ fs. Ok (length fs))) e
-    ∙ one_more n (outward row s b k g) g
-
-pub counts_end : (row : TargetRow) (s : StoreState) (b : Bytes) (n k most : ℕ) (f : Frame) → most ≡ suc k → next_frame row s b f ≡ Ok None → count_after n (outward_count row s b most f) ≡ Ok n
-counts_end row s b n k most f m e =
-    let none : n + 0 ≡ n = omega arith in
-    ap (λ j. count_after n (outward_count row s b j f)) m
-    ∙ ap (λ (x : Walked (Option Frame)). count_after n ((x >>= λ o. elim o [ None ↦ Ok [] | Some h ↦ outward row s b k h >>= λ hs. Ok (h ∷ hs) ]) >>= λ fs. Ok (length fs))) e
-    ∙ ap (λ (j : ℕ). Ok j) none
-
--- ---- looking
-
--- the local of a frame itself, with the number of its activation
-pub looks_here : (row : TargetRow) (s : StoreState) (b : Bytes) (address n number : ℕ) (f : Frame) (o : Found) → local_at s number f address ≡ Ok (Some o)
-    → found_outward row s b address n number f ≡ (outward row s b n f >>= λ outer. Ok (Some (with_activation o outer)))
-looks_here row s b address zero number f o e = ap (λ (x : Walked (Option Found)). x >>= λ found. elim found [ None ↦ Ok None | Some p ↦ Ok (Some (with_activation p [])) ]) e
-looks_here row s b address (suc n) number f o e =
-    ap (λ (x : Walked (Option Found)). x >>= λ found. elim found [
-      | Some p ↦ outward row s b (suc n) f >>= λ outer. Ok (Some (with_activation p outer))
-      | None ↦ next_frame row s b f >>= λ g. elim g [ None ↦ Ok None | Some g ↦ found_outward row s b address n (suc number) g ]
-    ]) e
+-- a walk more, which had none
+pub so_far_fails : {R A B : Type 0} (s u t : Seen R) (whole left : Bytes → Walked A) (f : Bytes → Walked B) (k : Bytes → B → Walked A) (x : WalkFault) → SoFar s u whole left → Walks f u (Err x) t
+    → ((b : Bytes) → left b ≡ (f b >>= k b)) → Walks whole s (Err x) t
+so_far_fails s u t whole left f k x far h e = walks_on s u t whole left (Err x) far.same far.told (walks_as u t (λ b. f b >>= k b) left (Err x) e (walks_fail u t f k x h))

@@ -4,7 +4,8 @@ ghost use Rattle.std.specs.Prelude.{◌≡◌, ◌⊎◌, ◌<◌, ◌≤◌, �
 ghost use Rattle.frame_bytes.specs.Bytes.{Bytes};
 ghost use Rattle.table_model.specs.Objects.{found_outward, found_at};
 ghost use Rattle.abs_mem.specs.Walking.{Walks, LedWalk, told_of};
-ghost use Rattle.locate.specs.Counting.{outward_count};
+ghost use Rattle.locate.specs.Counting.{outward_count, found_here, found_in_frames};
+ghost use Rattle.table_model.specs.Frames.{row_of_target};
 
 use crate::locals::local_at;
 use crate::statics::static_at;
@@ -49,6 +50,34 @@ fn outward_count<M: AbsMem>(
     Ok(most)
 }
 
+/// The local of a frame to which the address belongs, with the number of its activation: so many frames at most are outward of
+/// the frame.
+fn found_here<M: AbsMem>(
+    row: TargetRow,
+    table: &PsStore,
+    m: &mut M,
+    number: u32,
+    frame: Frame,
+    address: u32,
+    left: u32,
+) -> Result<Option<Found>, WalkFault>
+    requires { left < 20000 }
+    ensures meaning { Walks (λ b. found_here row table.now b address left number frame) (M.seen m.old) result (M.seen m.new) }
+    ensures calls { LedWalk M.leads m.old result m.new }
+{
+    match found_told(local_at(table, number, &frame, address))? {
+        None => Ok(None),
+        Some(found) => {
+            let count = outward_count(row, table, m, frame, left)?;
+            let activation = Some(count);
+            Ok(Some(Found {
+                activation,
+                ..found
+            }))
+        }
+    }
+}
+
 /// The first local of a frame and of those outward of it to which the address belongs.
 fn found_outward<M: AbsMem>(
     row: TargetRow,
@@ -63,12 +92,9 @@ fn found_outward<M: AbsMem>(
     let mut frame = innermost;
     for number in 0..MOST_FRAMES {
         let left = MOST_FRAMES - 1 - number;
-        if let Some(found) = found_told(local_at(table, number, &frame, address))? {
-            let activation = Some(outward_count(row, table, m, frame, left)?);
-            return Ok(Some(Found {
-                activation,
-                ..found
-            }));
+        match found_here(row, table, m, number, frame, address, left)? {
+            Some(found) => return Ok(Some(found)),
+            None => {}
         }
         if left == 0 {
             return Ok(None);
@@ -79,6 +105,24 @@ fn found_outward<M: AbsMem>(
         }
     }
     Ok(None)
+}
+
+/// The first local to which the address belongs, frame by frame from the innermost one on.
+fn found_in_frames<M: AbsMem>(
+    target: u8,
+    context: u32,
+    table: &PsStore,
+    m: &mut M,
+    address: u32,
+) -> Result<Option<Found>, WalkFault>
+    ensures meaning { Walks (λ b. found_in_frames (row_of_target target) table.now b context address) (M.seen m.old) result (M.seen m.new) }
+    ensures calls { LedWalk M.leads m.old result m.new }
+{
+    let row = row_of_target(target);
+    match first(row, context, table, m)? {
+        None => Ok(None),
+        Some(frame) => found_outward(row, table, m, frame, address),
+    }
 }
 
 /// Finds the objects of a target by its number and the address of its context block.
@@ -95,19 +139,16 @@ impl Locate for Locator {
 
     ghost context = { λ l. l.context };
 
+    #[tactic(auto, unfolding(table_model::specs::Objects::found_at))]
     fn find<M: AbsMem>(
         &mut self,
         table: &PsStore,
         m: &mut M,
         address: u32,
     ) -> Result<Option<Found>, WalkFault> {
-        if let Some(found) = found_told(static_at(table, address))? {
-            return Ok(Some(found));
-        }
-        let row = row_of_target(self.target);
-        match first(row, self.context, table, m)? {
-            None => Ok(None),
-            Some(frame) => found_outward(row, table, m, frame, address),
+        match found_told(static_at(table, address))? {
+            Some(found) => Ok(Some(found)),
+            None => found_in_frames(self.target, self.context, table, m, address),
         }
     }
 }
