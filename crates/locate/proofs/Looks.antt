@@ -7,12 +7,12 @@ use Rattle.frame_bytes.specs.declared.frame.Frame.{Frame}
 use Rattle.table_model.specs.declared.found.Found.{Found}
 use Rattle.table_model.specs.declared.row.TargetRow.{TargetRow}
 use Rattle.table_model.specs.Reading.{Walked}
-use Rattle.table_model.specs.Frames.{next_frame, outward}
+use Rattle.table_model.specs.Frames.{first_frame, next_frame, outward}
 use Rattle.table_model.specs.Objects.{local_at, with_activation, found_outward}
 use Rattle.abs_mem.specs.declared.walk.WalkFault.{WalkFault}
 use Rattle.abs_mem.specs.Meaning.{Seen}
 use Rattle.abs_mem.specs.Walking.{Walks}
-use Rattle.locate.specs.Counting.{found_here}
+use Rattle.locate.specs.Counting.{found_here, found_in_frames}
 use Rattle.locate.proofs.Far.{SoFar, so_far_then, so_far_gives, so_far_fails}
 
 -- what is found, or else what comes behind it
@@ -89,3 +89,12 @@ module _ {R : Type 0} (o u t : Seen R) (row : TargetRow) (s : StoreState) (addre
   outer_on g next e far h =
       so_far_then o u t whole to_find (λ b. next_frame row s b f) (Some g) (λ b. found_outward row s b address k next g) far h
       (λ b is. ap (λ (w : Walked (Option Frame)). w >>= outer_found row s address b k number) is ∙ ap (λ j. found_outward row s b address k j g) (sym e))
+
+-- ---- from the innermost frame on
+
+abbrev pub from_frame : TargetRow → StoreState → Bytes → (address : ℕ) → Option Frame → Walked (Option Found)
+from_frame row s b address None = Ok None
+from_frame row s b address (Some f) = found_outward row s b address 19999 0 f
+
+pub found_from : (row : TargetRow) (s : StoreState) (b : Bytes) (context address : ℕ) (f : Option Frame) → first_frame row s b context ≡ Ok f → found_in_frames row s b context address ≡ from_frame row s b address f
+found_from row s b context address f e = ap (λ (w : Walked (Option Frame)). w >>= from_frame row s b address) e

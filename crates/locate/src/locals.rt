@@ -33,7 +33,7 @@ fn local_one(
 }
 
 /// The first local on a chain to which the address belongs.
-#[tactic(auto, using(crate::proofs::Chains::among_none, crate::proofs::Chains::among_by, crate::proofs::Chains::among_behind))]
+#[tactic(auto, using(crate::proofs::Chains::among_none))]
 fn local_among(
     store: &PsStore,
     base: u32,

@@ -21,21 +21,21 @@ loop-number-init g c =
       more = omega arith;
     }
 
-pub returns-in_err-found_here-clause-meaning : goal.returns-in_err-found_here-clause-meaning
-returns-in_err-found_here-clause-meaning g c =
+pub returns-in_err-found-clause-meaning : goal.returns-in_err-found-clause-meaning
+returns-in_err-found-clause-meaning g c =
     let row = c.args.row in
     let t = c.args.table.now in
     let p = err_from_is_err_and c.from_residual.result c.from_residual.ensures.1 in
     rw (p.1, p.2)
     (looks_fail (g.M.AbsMem.seen c.args.m.now) (g.M.AbsMem.seen c.loop-number.m) (g.M.AbsMem.seen c.found_here.new.m) row t c.args.address (λ b. found_outward row t b c.args.address 19999 0 c.args.innermost) (19999 - c.loop-number.number) c.loop-number.number c.loop-number.frame
-      c.in_err-found_here.field-0.0 c.loop-number.invariant.far c.in_err-found_here.ensures.meaning)
+      c.in_err-found.field-0.0 c.loop-number.invariant.far c.in_err-found.ensures.meaning)
 
 pub returns-in-Some-clause-meaning : goal.returns-in-Some-clause-meaning
 returns-in-Some-clause-meaning g c =
     let row = c.args.row in
     let t = c.args.table.now in
     let n = 19999 - c.loop-number.number in
-    let walk = subst (λ (o : Option Found). Walks (λ b. found_here row t b c.args.address n c.loop-number.number c.loop-number.frame) (g.M.AbsMem.seen c.loop-number.m) (Ok o) (g.M.AbsMem.seen c.found_here.new.m)) c.in-Some.is c.in_ok-found_here.ensures.meaning in
+    let walk = subst (λ (o : Option Found). Walks (λ b. found_here row t b c.args.address n c.loop-number.number c.loop-number.frame) (g.M.AbsMem.seen c.loop-number.m) (Ok o) (g.M.AbsMem.seen c.found_here.new.m)) c.in-Some.is c.in_ok-found.ensures.meaning in
     looks_found (g.M.AbsMem.seen c.args.m.now) (g.M.AbsMem.seen c.loop-number.m) (g.M.AbsMem.seen c.found_here.new.m) row t c.args.address (λ b. found_outward row t b c.args.address 19999 0 c.args.innermost) n c.loop-number.number c.loop-number.frame
     c.in-Some.found c.loop-number.invariant.far walk
 
@@ -44,7 +44,7 @@ returns-then-left-eq0-clause-meaning g c =
     let row = c.args.row in
     let t = c.args.table.now in
     let n = 19999 - c.loop-number.number in
-    let walk = subst (λ (o : Option Found). Walks (λ b. found_here row t b c.args.address n c.loop-number.number c.loop-number.frame) (g.M.AbsMem.seen c.loop-number.m) (Ok o) (g.M.AbsMem.seen c.found_here.new.m)) c.in-None.is c.in_ok-found_here.ensures.meaning in
+    let walk = subst (λ (o : Option Found). Walks (λ b. found_here row t b c.args.address n c.loop-number.number c.loop-number.frame) (g.M.AbsMem.seen c.loop-number.m) (Ok o) (g.M.AbsMem.seen c.found_here.new.m)) c.in-None.is c.in_ok-found.ensures.meaning in
     let none : n ≡ 0 = omega (arith, c.if-left-eq0.true) in
     looks_last (g.M.AbsMem.seen c.args.m.now) (g.M.AbsMem.seen c.loop-number.m) (g.M.AbsMem.seen c.found_here.new.m) row t c.args.address (λ b. found_outward row t b c.args.address 19999 0 c.args.innermost) n c.loop-number.number c.loop-number.frame
     none c.loop-number.invariant.far walk
@@ -56,7 +56,7 @@ returns-in_err-up-clause-meaning g c =
     let n = 19999 - c.loop-number.number in
     let k = 19999 - (c.loop-number.number + 1) in
     let more : n ≡ suc k = omega (arith, c.if-left-eq0.false) in
-    let walk = subst (λ (o : Option Found). Walks (λ b. found_here row t b c.args.address n c.loop-number.number c.loop-number.frame) (g.M.AbsMem.seen c.loop-number.m) (Ok o) (g.M.AbsMem.seen c.found_here.new.m)) c.in-None.is c.in_ok-found_here.ensures.meaning in
+    let walk = subst (λ (o : Option Found). Walks (λ b. found_here row t b c.args.address n c.loop-number.number c.loop-number.frame) (g.M.AbsMem.seen c.loop-number.m) (Ok o) (g.M.AbsMem.seen c.found_here.new.m)) c.in-None.is c.in_ok-found.ensures.meaning in
     let far = looks_outward (g.M.AbsMem.seen c.args.m.now) (g.M.AbsMem.seen c.loop-number.m) (g.M.AbsMem.seen c.found_here.new.m) row t c.args.address (λ b. found_outward row t b c.args.address 19999 0 c.args.innermost) n c.loop-number.number c.loop-number.frame
     k more c.loop-number.invariant.far walk in
     let p = err_from_is_err_and c.from_residual-in_err-up.result c.from_residual-in_err-up.ensures.1 in
@@ -71,7 +71,7 @@ returns-in-None-2-clause-meaning g c =
     let n = 19999 - c.loop-number.number in
     let k = 19999 - (c.loop-number.number + 1) in
     let more : n ≡ suc k = omega (arith, c.if-left-eq0.false) in
-    let walk = subst (λ (o : Option Found). Walks (λ b. found_here row t b c.args.address n c.loop-number.number c.loop-number.frame) (g.M.AbsMem.seen c.loop-number.m) (Ok o) (g.M.AbsMem.seen c.found_here.new.m)) c.in-None.is c.in_ok-found_here.ensures.meaning in
+    let walk = subst (λ (o : Option Found). Walks (λ b. found_here row t b c.args.address n c.loop-number.number c.loop-number.frame) (g.M.AbsMem.seen c.loop-number.m) (Ok o) (g.M.AbsMem.seen c.found_here.new.m)) c.in-None.is c.in_ok-found.ensures.meaning in
     let far = looks_outward (g.M.AbsMem.seen c.args.m.now) (g.M.AbsMem.seen c.loop-number.m) (g.M.AbsMem.seen c.found_here.new.m) row t c.args.address (λ b. found_outward row t b c.args.address 19999 0 c.args.innermost) n c.loop-number.number c.loop-number.frame
     k more c.loop-number.invariant.far walk in
     let next = subst (λ (o : Option Frame). Walks (λ b. next_frame row t b c.loop-number.frame) (g.M.AbsMem.seen c.found_here.new.m) (Ok o) (g.M.AbsMem.seen c.up.new.m)) c.in-None-2.is c.in_ok-up.ensures.meaning in
@@ -85,7 +85,7 @@ loop-number-preserved g c =
     let k = 19999 - (c.loop-number.number + 1) in
     let more : n ≡ suc k = omega (arith, c.if-left-eq0.false) in
     let one : c.loop-number.number + 1 ≡ suc c.loop-number.number = omega arith in
-    let walk = subst (λ (o : Option Found). Walks (λ b. found_here row t b c.args.address n c.loop-number.number c.loop-number.frame) (g.M.AbsMem.seen c.loop-number.m) (Ok o) (g.M.AbsMem.seen c.found_here.new.m)) c.in-None.is c.in_ok-found_here.ensures.meaning in
+    let walk = subst (λ (o : Option Found). Walks (λ b. found_here row t b c.args.address n c.loop-number.number c.loop-number.frame) (g.M.AbsMem.seen c.loop-number.m) (Ok o) (g.M.AbsMem.seen c.found_here.new.m)) c.in-None.is c.in_ok-found.ensures.meaning in
     let far = looks_outward (g.M.AbsMem.seen c.args.m.now) (g.M.AbsMem.seen c.loop-number.m) (g.M.AbsMem.seen c.found_here.new.m) row t c.args.address (λ b. found_outward row t b c.args.address 19999 0 c.args.innermost) n c.loop-number.number c.loop-number.frame
     k more c.loop-number.invariant.far walk in
     let next = subst (λ (o : Option Frame). Walks (λ b. next_frame row t b c.loop-number.frame) (g.M.AbsMem.seen c.found_here.new.m) (Ok o) (g.M.AbsMem.seen c.up.new.m)) c.in-Some-2.is c.in_ok-up.ensures.meaning in

@@ -1,4 +1,4 @@
-use Rattle.std.proofs.Common.{rules, ◌≡◌, ℕ, suc, ◌+◌, ◌-◌, arith, subst, Option, Ok}
+use Rattle.std.proofs.Common.{rules, ◌≡◌, ◌∙◌, ap, ℕ, suc, ◌+◌, ◌-◌, arith, subst, Option, Ok}
 use Rattle.std.proofs.lemmas.Result.{err_from_is_err_and}
 use Rattle.frame_bytes.specs.Bytes.{Bytes}
 use Rattle.frame_bytes.specs.declared.frame.Frame.{Frame}
@@ -13,8 +13,10 @@ use Rattle.locate.proofs.locator.outward_count.Goals as goal
 pub loop-count-init : goal.loop-count-init
 loop-count-init g c =
     let whole : Bytes → Walked ℕ = λ b. outward_count c.args.row c.args.table.now b c.args.most c.args.frame in
+    let left : ℕ → Bytes → Walked ℕ = λ n b. count_after 0 (outward_count c.args.row c.args.table.now b n c.args.frame) in
+    let all : c.args.most ≡ c.args.most - 0 = omega arith in
     record {
-      far = so_far_here (g.M.AbsMem.seen c.args.m.now) whole (λ b. count_after 0 (whole b)) (λ b. counts_begin (whole b));
+      far = so_far_here (g.M.AbsMem.seen c.args.m.now) whole (left (c.args.most - 0)) (λ b. counts_begin (whole b) ∙ ap (λ n. left n b) all);
       led = search rules;
     }
 
