@@ -1,5 +1,5 @@
 -- Frames outward of one, counted one after another.
-use Rattle.std.proofs.Common.{◌≡◌, ◌∙◌, refl, ap, ℕ, zero, suc, ◌+◌, List, [], ◌∷◌, length, Option, Some, None, Result, Ok, Err, arith}
+use Rattle.std.proofs.Common.{◌≡◌, ◌∙◌, refl, ap, ℕ, suc, ◌+◌, List, [], ◌∷◌, length, Option, Some, None, Ok, Err, arith}
 use Rattle.ps_store.specs.StoreState.{StoreState}
 use Rattle.ps_step.specs.Results.{◌>>=◌}
 use Rattle.frame_bytes.specs.Bytes.{Bytes}

@@ -1,5 +1,5 @@
 -- What is left to ask of a memory that was read so far.
-use Rattle.std.proofs.Common.{◌≡◌, ◌∙◌, refl, Result, Ok, Err}
+use Rattle.std.proofs.Common.{◌≡◌, ◌∙◌, refl, Ok, Err}
 use Rattle.frame_bytes.specs.Bytes.{Bytes}
 use Rattle.ps_step.specs.Results.{◌>>=◌}
 use Rattle.table_model.specs.Reading.{Walked}

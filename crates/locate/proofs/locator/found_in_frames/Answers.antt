@@ -1,4 +1,4 @@
-use Rattle.std.proofs.Common.{◌≡◌, ◌∙◌, sym, ap, subst, Option, Some, Ok}
+use Rattle.std.proofs.Common.{◌∙◌, sym, ap, subst, Option, Some, Ok}
 use Rattle.frame_bytes.specs.Bytes.{Bytes}
 use Rattle.frame_bytes.specs.declared.frame.Frame.{Frame}
 use Rattle.table_model.specs.declared.found.Found.{Found}

@@ -1,4 +1,4 @@
-use Rattle.std.proofs.Common.{rules, ◌≡◌, ℕ, suc, ◌+◌, ◌-◌, ◌<◌, arith, refl, subst, Option, None, Ok}
+use Rattle.std.proofs.Common.{rules, ◌≡◌, suc, ◌+◌, ◌-◌, arith, refl, subst, Option, None, Ok}
 use Rattle.std.proofs.lemmas.Result.{err_from_is_err_and}
 use Rattle.frame_bytes.specs.Bytes.{Bytes}
 use Rattle.frame_bytes.specs.declared.frame.Frame.{Frame}
@@ -8,7 +8,7 @@ use Rattle.table_model.specs.Reading.{Walked}
 use Rattle.table_model.specs.Objects.{found_outward}
 use Rattle.abs_mem.specs.Walking.{Walks}
 use Rattle.locate.specs.Counting.{found_here}
-use Rattle.locate.proofs.Far.{SoFar, so_far_here}
+use Rattle.locate.proofs.Far.{so_far_here}
 use Rattle.locate.proofs.Looks.{looks_fail, looks_found, looks_last, looks_outward, outer_fail, outer_none, outer_on}
 use Rattle.locate.proofs.locator.found_outward.Goals as goal
 
@@ -28,7 +28,7 @@ returns-in_err-found-clause-meaning g c =
     let p = err_from_is_err_and c.from_residual.result c.from_residual.ensures.1 in
     rw (p.1, p.2)
     (looks_fail (g.M.AbsMem.seen c.args.m.now) (g.M.AbsMem.seen c.loop-number.m) (g.M.AbsMem.seen c.found_here.new.m) row t c.args.address (λ b. found_outward row t b c.args.address 19999 0 c.args.innermost) (19999 - c.loop-number.number) c.loop-number.number c.loop-number.frame
-      c.in_err-found.field-0.0 c.loop-number.invariant.far c.in_err-found.ensures.meaning)
+    c.in_err-found.field-0.0 c.loop-number.invariant.far c.in_err-found.ensures.meaning)
 
 pub returns-in-Some-clause-meaning : goal.returns-in-Some-clause-meaning
 returns-in-Some-clause-meaning g c =
@@ -62,7 +62,7 @@ returns-in_err-up-clause-meaning g c =
     let p = err_from_is_err_and c.from_residual-in_err-up.result c.from_residual-in_err-up.ensures.1 in
     rw (p.1, p.2)
     (outer_fail (g.M.AbsMem.seen c.args.m.now) (g.M.AbsMem.seen c.found_here.new.m) (g.M.AbsMem.seen c.up.new.m) row t c.args.address (λ b. found_outward row t b c.args.address 19999 0 c.args.innermost) k c.loop-number.number c.loop-number.frame
-      c.in_err-up.field-0.0 far c.in_err-up.ensures.meaning)
+    c.in_err-up.field-0.0 far c.in_err-up.ensures.meaning)
 
 pub returns-in-None-2-clause-meaning : goal.returns-in-None-2-clause-meaning
 returns-in-None-2-clause-meaning g c =
@@ -89,8 +89,9 @@ loop-number-preserved g c =
     let far = looks_outward (g.M.AbsMem.seen c.args.m.now) (g.M.AbsMem.seen c.loop-number.m) (g.M.AbsMem.seen c.found_here.new.m) row t c.args.address (λ b. found_outward row t b c.args.address 19999 0 c.args.innermost) n c.loop-number.number c.loop-number.frame
     k more c.loop-number.invariant.far walk in
     let next = subst (λ (o : Option Frame). Walks (λ b. next_frame row t b c.loop-number.frame) (g.M.AbsMem.seen c.found_here.new.m) (Ok o) (g.M.AbsMem.seen c.up.new.m)) c.in-Some-2.is c.in_ok-up.ensures.meaning in
+    let half = g.met.M.AbsMem.goes_on c.args.m.now c.loop-number.m c.found_here.new.m None c.loop-number.invariant.led c.in_ok-found.ensures.calls in
     record {
       far = outer_on (g.M.AbsMem.seen c.args.m.now) (g.M.AbsMem.seen c.found_here.new.m) (g.M.AbsMem.seen c.up.new.m) row t c.args.address (λ b. found_outward row t b c.args.address 19999 0 c.args.innermost) k c.loop-number.number c.loop-number.frame c.in-Some-2.outer (c.loop-number.number + 1) one far next;
-      led = search rules;
+      led = g.met.M.AbsMem.goes_on c.args.m.now c.found_here.new.m c.up.new.m None half c.in_ok-up.ensures.calls;
       more = omega (arith, more);
     }
