@@ -1,0 +1,4 @@
+mod Far
+mod Counts
+mod Looks
+mod Chains
