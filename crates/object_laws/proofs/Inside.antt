@@ -73,6 +73,15 @@ module _ {Insn : Type 0} (t : Coding Insn) (start : 1 ≤ length t.start) (copie
   text_long word [] = refl
   text_long word (i ∷ is) = omega (arith, length-append (t.bytes_of i) (text_bytes t is), word i, text_long word is)
 
+  -- a text has an instruction
+  pub text_least : ((i : Insn) → length (t.bytes_of i) ≡ 4) → (c : SlotCode) (flat : FlatCode) (o : Object) → IsObjectOf t c flat o → 4 ≤ length o.text
+  unfolding program_insns
+  text_least word c flat o made =
+      let movers : List Insn = movers_insns t flat.movers in
+      let others : List Insn = functions_insns t flat.functions in
+      let size : length o.text ≡ length (t.start ++ movers ++ others) * 4 = ap length made.text ∙ text_long word (t.start ++ movers ++ others) in
+      omega (arith, start, size, three t.start movers others)
+
 -- ---- as a linker asks
 
 names_lie : (high size : ℕ) (ns : List Name) → size ≡ high * 4 → AllByRecursion (IsBelow high) ns → list_all (name_lies size) ns ≡ true

@@ -1,6 +1,7 @@
 mod Fit
 mod InText
 mod Inside
+mod Linkable
 mod Lists
 mod Places
 mod StaticUses

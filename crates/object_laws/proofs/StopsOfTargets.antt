@@ -1,5 +1,5 @@
 -- The operators of both targets go on behind their ends.
-use Rattle.std.proofs.Common.{◌≡◌, ℕ, ◌+◌, ◌*◌, ◌%◌, ◌^◌, List, [], ◌∷◌, ◌++◌, Bool, true, false, not, nat_lt, if◌then◌else◌, refl, ap, ◌∙◌, arith}
+use Rattle.std.proofs.Common.{◌≡◌, ◌≤◌, ℕ, ◌+◌, ◌*◌, ◌%◌, ◌^◌, List, [], ◌∷◌, ◌++◌, Bool, true, false, not, length, nat_lt, if◌then◌else◌, refl, ap, ◌∙◌, arith}
 use Rattle.std.specs.List.{AllByRecursion}
 use Rattle.ldb_words.specs.declared.kinds.Kind.{Kind}
 use Rattle.ldb_words.specs.declared.kinds.Kind.TheVariants.{Byte, Word, Address}
@@ -16,6 +16,7 @@ use Rattle.flat_ir.specs.declared.code.Landing.{Landing}
 use Rattle.flat_ir.specs.declared.code.Landing.TheVariants as landing
 use Rattle.flat_ir.specs.declared.code.FlatOp.{FlatOp}
 use Rattle.flat_ir.specs.declared.code.FlatOp.TheVariants as flat
+use Rattle.flat_ir.specs.declared.code.FlatCode.{FlatCode}
 use Rattle.flat_gen.specs.Codes.{flat_code}
 use Rattle.gen_parts.specs.Parts.{IsObjectOf}
 use Rattle.gen_parts.specs.Text.{program_insns}
@@ -31,7 +32,7 @@ use Rattle.object_laws.specs.Delayed.{is_delayed}
 use Rattle.object_laws.specs.Stops.{HasStops, goes_on_behind, HasPlainEnds}
 use Rattle.gen_parts.specs.Links.{IsInOrder}
 use Rattle.link_image.specs.Conditions.{has_rows_inside}
-use Rattle.object_laws.proofs.Inside.{all_inside}
+use Rattle.object_laws.proofs.Inside.{all_inside, text_least}
 use Rattle.object_laws.proofs.Places.{functions_places}
 use Rattle.object_laws.proofs.Stops.{behind_both, object_stops}
 
@@ -167,6 +168,9 @@ pub mips_inside : (c : SlotCode) (o : Object) → IsWellFormed c → IsObjectOf 
 mips_inside c o h made order =
     all_inside mips m.no_op is_transfer (program_insns mips (flat_code 100 c)) o.text mips_ends (omega arith) (omega arith) (λ frame. omega arith) c (flat_code 100 c) o made order (mips_stops c o h made)
 
+pub mips_least : (c : SlotCode) (flat : FlatCode) (o : Object) → IsObjectOf mips c flat o → 4 ≤ length o.text
+mips_least = text_least mips (omega arith) (omega arith) (λ frame. omega arith) (λ i. refl)
+
 -- ---- SPARC
 
 sparc_get : (before : Bool) (to at : ℕ) → goes_on_behind is_delayed before (s.get_insns to at) ≡ true
@@ -291,3 +295,6 @@ sparc_stops c o h is = object_stops sparc s.no_op is_delayed sparc_ends c (flat_
 pub sparc_inside : (c : SlotCode) (o : Object) → IsWellFormed c → IsObjectOf sparc c (flat_code 132 c) o → IsInOrder o → has_rows_inside o ≡ true
 sparc_inside c o h made order =
     all_inside sparc s.no_op is_delayed (program_insns sparc (flat_code 132 c)) o.text sparc_ends (omega arith) (omega arith) (λ frame. omega arith) c (flat_code 132 c) o made order (sparc_stops c o h made)
+
+pub sparc_least : (c : SlotCode) (flat : FlatCode) (o : Object) → IsObjectOf sparc c flat o → 4 ≤ length o.text
+sparc_least = text_least sparc (omega arith) (omega arith) (λ frame. omega arith) (λ i. refl)

@@ -13,7 +13,7 @@ use Rattle.object_laws.specs.Found.{LiesInOne, IsStaticUse}
 use Rattle.object_laws.proofs.Lists.{all_append}
 
 -- a use in the text before its end, or one in static objects
-abbrev Stands : (size : ℕ) → Use → Type 0
+abbrev pub Stands : (size : ℕ) → Use → Type 0
 Stands size u = ((u.in_text ≡ true) × (u.at + 4 ≤ size)) ⊎ (u.in_text ≡ false)
 
 uses_end : (from : ℕ) (us : List Use) (end : ℕ) → UsesLieIn from us end → from ≤ end
@@ -28,7 +28,7 @@ data_stands : (size : ℕ) (us : List Use) → AllByRecursion IsInData us → Al
 data_stands size [] h = tt
 data_stands size (u ∷ us) h = (inr h.0, data_stands size us h.1)
 
-all_stand : (o : Object) → IsInOrder o → AllByRecursion (Stands (length o.text)) o.uses
+pub all_stand : (o : Object) → IsInOrder o → AllByRecursion (Stands (length o.text)) o.uses
 all_stand o order =
     subst (λ (us : List Use). AllByRecursion (Stands (length o.text)) us) (sym order.uses)
     (all_append (Stands (length o.text)) order.text_uses order.data_uses (text_stands 0 (length o.text) order.text_uses order.in_text) (data_stands (length o.text) order.data_uses order.in_data))

@@ -1,13 +1,13 @@
 // What holds of the objects of slot code.
 
-ghost use Rattle.std.specs.Prelude.{◌≡◌, ◌++◌, true};
+ghost use Rattle.std.specs.Prelude.{◌≡◌, ◌≤◌, ◌^◌, [], ◌∷◌, ◌++◌, length, true};
 ghost use Rattle.std.specs.List.{AllByRecursion};
 ghost use Rattle.machine_state.specs.declared.layout.TheConstants.{DATA};
 ghost use Rattle.obj_file.specs.declared.object.Object.{Object};
 ghost use Rattle.slot_ir.specs.declared.code.SlotCode.{SlotCode};
 ghost use Rattle.slot_ir.specs.WellFormed.{IsWellFormed};
 ghost use Rattle.flat_gen.specs.Codes.{flat_code};
-ghost use Rattle.gen_parts.specs.Links.{text_names, static_names, IsInOrder};
+ghost use Rattle.gen_parts.specs.Links.{text_names, static_names, AreOnce, IsInOrder};
 ghost use Rattle.gen_parts.specs.Parts.{IsObjectOf};
 ghost use Rattle.gen_parts.specs.Text.{program_insns};
 ghost use Rattle.mips_isa.specs.Step.{is_transfer};
@@ -15,7 +15,7 @@ ghost use Rattle.mips_gen.specs.Insns.{no_op as mips_no_op};
 ghost use Rattle.mips_gen.specs.Coding.{mips};
 ghost use Rattle.sparc_gen.specs.Insns.{no_op as sparc_no_op};
 ghost use Rattle.sparc_gen.specs.Coding.{sparc};
-ghost use Rattle.link_image.specs.Conditions.{are_fitting, has_rows_inside, has_uses_inside};
+ghost use Rattle.link_image.specs.Conditions.{are_fitting, has_rows_inside, has_uses_inside, AreLinkable};
 ghost use Rattle.object_laws.specs.Found.{IsStaticUse, IsGiven};
 ghost use Rattle.object_laws.specs.Stops.{HasStops};
 ghost use Rattle.object_laws.specs.Delayed.{is_delayed};
@@ -58,4 +58,11 @@ pub fn rows_lie_inside()
 pub fn uses_lie_inside()
     ensures mips { (c : SlotCode) (o : Object) → IsWellFormed c → IsObjectOf mips c (flat_code 100 c) o → IsInOrder o → has_uses_inside o ≡ true }
     ensures sparc { (c : SlotCode) (o : Object) → IsWellFormed c → IsObjectOf sparc c (flat_code 132 c) o → IsInOrder o → has_uses_inside o ≡ true }
+{}
+
+/// The object alone is linkable: nothing of what a linker asks is missing, if its text has at most 16,777,216 bytes. That its places lie in
+/// order and its names are given once is what each generator says of its object.
+pub fn objects_are_linkable()
+    ensures mips { (c : SlotCode) (o : Object) → IsWellFormed c → IsObjectOf mips c (flat_code 100 c) o → IsInOrder o → AreOnce (text_names o.names ++ static_names o.statics) → length o.text ≤ 2 ^ 24 → AreLinkable (o ∷ []) }
+    ensures sparc { (c : SlotCode) (o : Object) → IsWellFormed c → IsObjectOf sparc c (flat_code 132 c) o → IsInOrder o → AreOnce (text_names o.names ++ static_names o.statics) → length o.text ≤ 2 ^ 24 → AreLinkable (o ∷ []) }
 {}

@@ -4,6 +4,6 @@
 mod laws;
 
 pub use laws::{
-    rows_lie_inside, static_objects_fit, stopping_points, used_names, uses_in_static_objects,
-    uses_lie_inside,
+    objects_are_linkable, rows_lie_inside, static_objects_fit, stopping_points, used_names,
+    uses_in_static_objects, uses_lie_inside,
 };
