@@ -3,17 +3,18 @@
 ghost use Rattle.std.specs.Prelude.{◌≡◌, ◌⊎◌};
 ghost use Rattle.machine_state.specs.declared.layout.TheConstants.{MIPS, SPARC};
 
-use abs_mem::{AbsMem, Joined, MemFault, WalkFault, Wire};
+use abs_mem::{AbsMem, Joined, Locate, MemFault, WalkFault, Wire};
 use break_plant::{PlantFault, plant, resume_pc, unplant};
 use frame_bytes::{Frame, Place, Space};
 use ldb_words::Kind;
+use locate::Locator;
 use machine_state::{CONTEXT, MIPS, SPARC};
 use near_link::FaultyLink;
 use nub_wire::Msg;
 use ps_store::PsStore;
 use stack_walk::{first, row_of_target, up};
 use std::alloc::{AllocError, Global};
-use test_rows::append;
+use test_rows::{append, append_escaped};
 use wire_talk::{Resumption, TalkFault};
 
 /// The memory of a target behind a link of which one call may go wrong.
@@ -139,6 +140,27 @@ impl<'a> Asking<'a> {
                 append(out, format!(in self.alloc; "{pc:x}")?.as_str())
             }
             None => append(out, "none"),
+        }
+    }
+
+    /// Appends to which object an address belongs: its label, for a local its activation, where in it and of how many bytes.
+    pub fn append_found(&mut self, address: u32, out: &mut Vec<u8>) -> Result<(), AllocError> {
+        let mut locator = Locator {
+            target: self.target,
+            context: CONTEXT,
+        };
+        match locator.find(self.table, self.memory, address) {
+            Err(fault) => append(out, walk_text(&fault)),
+            Ok(None) => append(out, "none"),
+            Ok(Some(found)) => {
+                append_escaped(self.alloc, out, self.table.string_get(found.label))?;
+                if let Some(activation) = found.activation {
+                    append(out, format!(in self.alloc; "@{activation}")?.as_str())?;
+                }
+                let (at, size) = (found.at, found.size);
+                append(out, format!(in self.alloc; "+{at} of {size}")?.as_str())?;
+                append(out, if found.literal { " literal" } else { "" })
+            }
         }
     }
 

@@ -1,4 +1,4 @@
-//! Compares memories, walks over stacks and planted words with the rows of the tables that its words name. docs/TESTS.md has the kinds of rows.
+//! Compares memories, walks over stacks, planted words and found objects with the rows of the tables that its words name. docs/TESTS.md has the kinds of rows.
 #![tactic(auto)]
 
 mod asking;

@@ -240,6 +240,7 @@ impl Subject for Targets {
             "frame" => asking.append_chosen(first, out),
             "fetch" => asking.append_fetched(given.as_slice(), out),
             "store" => asking.append_stored(given.as_slice(), out),
+            "find" => asking.append_found(first, out),
             "plant" => asking.append_planted(true, first, out),
             "unplant" => asking.append_planted(false, first, out),
             "stops" => asking.append_stops(first, given.get(1).copied().unwrap_or(1), out),
