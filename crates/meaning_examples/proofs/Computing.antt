@@ -1,8 +1,8 @@
 -- What machines are computed with, and lists of one item or two.
-use Rattle.std.specs.Prelude.{◌≡◌, ℕ, zero, suc, List, [], ◌∷◌, Some, slice_get, length}
+use Rattle.std.specs.Prelude.{◌≡◌, ℕ, zero, suc, [], ◌∷◌, Some, slice_get, length}
 use Rattle.std.proofs.Common.{subst}
 use Rattle.std.proofs.lemmas.List.{length-replicate}
-use Rattle.machine_state.specs.Regions.{zeros, first_regions, readable, load_of, fetch_of, overwritten, written, store_of, writable, held, read_of, overlaid, write_of, saved_words, store_words_of, load_words_of}
+use Rattle.machine_state.specs.Regions.{zeros, readable, load_of, fetch_of, overwritten, written, store_of, writable, held, read_of, overlaid, write_of, saved_words, store_words_of, load_words_of}
 use Rattle.machine_state.specs.Step as common
 use Rattle.mips_isa.specs.Step as mips
 use Rattle.mips_isa.specs.Loaded as mips_loaded

@@ -1,5 +1,5 @@
 -- One state of slot code, machines of both targets that stand for it, and one that differs in a byte and does not.
-use Rattle.std.specs.Prelude.{◌≡◌, ◌≤◌, ◌<◌, ◌↔◌, ℕ, zero, suc, pos, ◌+◌, ◌*◌, List, [], ◌∷◌, ◌++◌, codes, length, drop, replicate, Option, Some, None, Result, Ok, slice_get, slice_set}
+use Rattle.std.specs.Prelude.{◌≡◌, ◌<◌, ◌↔◌, ℕ, pos, ◌+◌, List, [], ◌∷◌, ◌++◌, codes, true, length, drop, replicate, Some, None, Result, Ok, slice_get, slice_set}
 use Rattle.std.proofs.Common.{refl, sym, ap, subst, ◌∙◌, arith, length-append}
 use Rattle.std.proofs.lemmas.List.{drop-drop, drop_at}
 use Rattle.ldb_words.specs.declared.kinds.Order.{Order}
@@ -16,7 +16,6 @@ use Rattle.obj_file.specs.declared.object.LocalPlace.TheVariants.{Slot}
 use Rattle.c_store.specs.Store.{Number, Static, Auto, Cell, Object as StoredObject}
 use Rattle.slot_ir.specs.declared.code.SlotCode.{SlotCode}
 use Rattle.slot_ir.specs.declared.code.SlotFunction.{SlotFunction}
-use Rattle.slot_ir.specs.declared.code.SlotLocal.{SlotLocal}
 use Rattle.slot_ir.specs.declared.code.Home.TheVariants.{Block}
 use Rattle.slot_ir.specs.declared.code.Access.TheVariants as access
 use Rattle.slot_ir.specs.declared.code.SlotOp.TheVariants.{Const, Zero, Leave, Stop, Return}
@@ -28,7 +27,7 @@ use Rattle.flat_gen.specs.Locations.{location_of}
 use Rattle.object_meaning.specs.Changes.{Target, locations}
 use Rattle.object_meaning.specs.Shown.{behaviour, LiesIn, LeafStands, IsAtPlace, Shows, Represents}
 use Rattle.object_meaning.specs.Targets.{mips_target, sparc_target}
-use Rattle.meaning_examples.proofs.Computing.{remembering, saving, watching, zeros_long, some_same, of_one, of_two}
+use Rattle.meaning_examples.proofs.Computing.{saving, watching, zeros_long, some_same, of_one, of_two}
 
 -- ---- the state
 
@@ -178,13 +177,16 @@ mips_shows = record {
 mips_represents : Represents mips_target code (object mips_target) addresses state (watch (mips_machine 7) (codes "a"))
 mips_represents = record { output = refl; input = refl; shows = mips_shows; pc = place mips_target }
 
-other_number : (w : ℕ) → Ok {E = Outside} 263 ≡ Ok w → w ≡ 7 → ⊥
+abbrev read_as : ℕ → Result ℕ Outside
+read_as n = Ok n
+
+other_number : (w : ℕ) → read_as 263 ≡ read_as w → w ≡ 7 → ⊥
 other_number w e h = absurd cc
 
 -- 263 has the low byte of 7: the second byte of `count` is another
 mips_other_byte : Shows mips_target code (object mips_target) addresses state (mips_saved 263) → ⊥
 unfolding watching location_of
-mips_other_byte shows = let leaf = shows.leaves 0 0 count (a_cell 7) refl refl in other_number leaf.0 leaf.1.0 leaf.1.1
+mips_other_byte shows = let leaf = shows.leaves 0 0 count (a_cell 7) refl refl in other_number leaf.0 leaf.1 leaf.2
 
 -- ---- SPARC: `main` runs in window 7, and its caller's window 0 has been flushed
 
@@ -231,4 +233,4 @@ sparc_represents = record { output = refl; input = refl; shows = sparc_shows; pc
 
 sparc_other_byte : Shows sparc_target code (object sparc_target) addresses state (sparc_saved 263) → ⊥
 unfolding saving location_of
-sparc_other_byte shows = let leaf = shows.leaves 0 0 count (a_cell 7) refl refl in other_number leaf.0 leaf.1.0 leaf.1.1
+sparc_other_byte shows = let leaf = shows.leaves 0 0 count (a_cell 7) refl refl in other_number leaf.0 leaf.1 leaf.2

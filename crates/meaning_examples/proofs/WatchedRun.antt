@@ -1,13 +1,13 @@
 -- A MIPS program of eight words that is watched at its second one: it makes 'A' out of 1, prints it, and exits with its number.
-use Rattle.std.specs.Prelude.{◌≡◌, ℕ, pos, ℤ, Bool, true, false, ◌||◌, ◌==◌, ◌+◌, ◌*◌, List, [], ◌∷◌, codes, Option, Some, None, slice_index, if◌then◌else◌}
+use Rattle.std.specs.Prelude.{◌≡◌, ℕ, pos, ℤ, ◌||◌, ◌==◌, ◌+◌, ◌*◌, List, [], ◌∷◌, codes, Option, Some, None, slice_index, if◌then◌else◌}
 use Rattle.std.proofs.Common.{refl}
 use Rattle.ldb_words.specs.declared.kinds.Order.TheVariants.{Little}
 use Rattle.machine_state.specs.Regions.{words_bytes}
 use Rattle.machine_state.specs.State.{MachineState, no_facts}
 use Rattle.machine_state.specs.declared.layout.TheConstants.{MIPS, TEXT, CONTEXT}
 use Rattle.mips_isa.specs.Loaded.{mips_behaviour}
-use Rattle.runs.specs.Runs.{Why, IllTyped, Moment, Outcome, Reached, Breaks, after}
-use Rattle.machine_runs.specs.Watched.{Watched, Change, Debugger, Led, next, watch, led_after}
+use Rattle.runs.specs.Runs.{IllTyped, Outcome, Reached, Breaks, after}
+use Rattle.machine_runs.specs.Watched.{Watched, Debugger, Led, next, watch, led_after}
 use Rattle.meaning_examples.proofs.Computing.{watching}
 
 -- addiu $8,$0,1; the point; addiu $8,$8,2; addiu $4,$8,62; addiu $2,$0,2; syscall (putchar); addiu $2,$0,3; syscall (exit)
@@ -73,7 +73,7 @@ past_the_point : seen (run no_op 3) ≡ Some (record { passed = 5 ∷ []; count 
 unfolding watching
 past_the_point = refl
 
-to_the_end : seen (run no_op 8) ≡ Some (record { passed = 5 ∷ []; count = 8; exit = Some (pos 65); register = 3; pc = 0x0040_001c; output = codes "A" })
+to_the_end : seen (run no_op 8) ≡ Some (record { passed = 5 ∷ []; count = 8; exit = Some (pos 65); register = 3; pc = 0x0040_0020; output = codes "A" })
 unfolding watching
 to_the_end = refl
 
@@ -104,6 +104,6 @@ led_past : seen_led (led 2) ≡ Some (record { passed = 5 ∷ []; count = 2; exi
 unfolding watching
 led_past = refl
 
-led_to_the_end : seen_led (led 8) ≡ Some (record { passed = 5 ∷ []; count = 8; exit = Some (pos 74); register = 12; pc = 0x0040_001c; output = codes "J" })
+led_to_the_end : seen_led (led 8) ≡ Some (record { passed = 5 ∷ []; count = 8; exit = Some (pos 74); register = 12; pc = 0x0040_0020; output = codes "J" })
 unfolding watching
 led_to_the_end = refl
