@@ -53,7 +53,7 @@ module _ (t : Target) (c : SlotCode) (o : Object) (addresses : List ℕ) where
   Reads m at width n = read_of (order_of_target t.number) m.memory at width ≡ Ok n
 
   module _ (s : SlotState) (m : MachineState) where
-    abbrev LeafStands : Option Location → Cell → Type 0
+    abbrev pub LeafStands : Option Location → Cell → Type 0
     LeafStands None cell = Unit {0}
     LeafStands (Some (InMemory a)) cell = (w : ℕ) × Reads m (a + cell.at) (width_of cell.kind) w × KindStands (locations t addresses c s) cell.kind cell.value w
     LeafStands (Some (InRegister n r)) cell = (w : ℕ) × Reads m (kept_at t addresses c s n r) 4 w × KindStands (locations t addresses c s) cell.kind cell.value (w % 256 ^ width_of cell.kind)

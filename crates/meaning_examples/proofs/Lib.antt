@@ -1,0 +1,3 @@
+pub mod Computing
+pub mod WatchedRun
+pub mod ShownState
