@@ -112,6 +112,9 @@ fn print(alloc: Global, layout: &Layout, printer: &mut Printer) -> Result<u32, P
         limit: 10_000_000,
     };
     load_prelude(&mut core, &mut steps)?;
+    if steps.taken > steps.limit {
+        return Err(PsFault::Spent);
+    }
     let head = format!(in alloc; "/d {VALUE} ")?;
     let mut text = Vec::from_slice(alloc, head.as_bytes())?;
     text.extend_from_slice(&layout.text)?;
