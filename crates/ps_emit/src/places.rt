@@ -1,0 +1,168 @@
+// Procedures that leave places, and the static objects.
+ghost use Rattle.std.specs.Prelude.{◌≡◌, ◌++◌, OnOk, length, slice_get};
+ghost use Rattle.ps_text.specs.Code.{render};
+ghost use Rattle.ps_scan.specs.Escaping.{escaped};
+ghost use Rattle.ps_emit.specs.Places.{anchored, absolute, placed, placed_at, without_ending, object_label, string_label, object_code, objects_from, string_code, strings_from, objects_code};
+ghost use Rattle.ps_text.specs.Code.{Stop, Text as Str};
+
+use crate::terms::{
+    add_anchor_name, add_bytes, add_integer, add_name, add_number, add_string, add_word, following,
+};
+use crate::types::add_type;
+use c_tree::{ObjectRow, Program, UnitRow};
+use itoa::Buffer;
+use ldb_words::Text;
+use obj_file::LocalPlace;
+use std::alloc::AllocError;
+
+/// Adds the place at an anchor.
+fn add_anchored(text: &mut Text, k: u32) -> Result<(), AllocError>
+    ensures { OnOk result (text.new ≡ text.old ++ render (anchored k)) }
+{
+    add_word(text, b"{")?;
+    add_integer(text, 0)?;
+    add_anchor_name(text, k)?;
+    add_word(text, b"Anchor")?;
+    add_word(text, b"Absolute")?;
+    add_word(text, b"}")
+}
+
+/// Adds the place at an address.
+pub fn add_absolute(text: &mut Text, address: u32) -> Result<(), AllocError>
+    ensures { OnOk result (text.new ≡ text.old ++ render (absolute address)) }
+{
+    add_word(text, b"{")?;
+    add_number(text, address)?;
+    add_word(text, b"Absolute")?;
+    add_word(text, b"}")
+}
+
+/// Adds the place of a local.
+fn add_local_place(text: &mut Text, place: LocalPlace) -> Result<(), AllocError>
+    ensures { OnOk result (text.new ≡ text.old ++ render (placed place)) }
+{
+    add_word(text, b"{")?;
+    match place {
+        LocalPlace::Slot(offset) => {
+            add_integer(text, offset)?;
+            add_word(text, b"Local")?;
+        }
+        LocalPlace::Reg(register) => {
+            add_integer(text, i32::from(register))?;
+            add_word(text, b"Register")?;
+        }
+    }
+    add_word(text, b"}")
+}
+
+/// Adds the place of a local by its number.
+pub fn add_place(text: &mut Text, places: &[LocalPlace], x: u32) -> Result<(), AllocError>
+    ensures { OnOk result (text.new ≡ text.old ++ render (placed_at (slice_get places.now x))) }
+{
+    match places.get(x as usize) {
+        Some(place) => add_local_place(text, *place),
+        None => {
+            add_word(text, b"{")?;
+            add_word(text, b"}")
+        }
+    }
+}
+
+/// A file's name without its ending.
+fn without_ending(file: &[u8]) -> &[u8]
+    ensures { result.now ≡ without_ending file.now }
+{
+    &file[..file.len().saturating_sub(2)]
+}
+
+/// The name of a unit's file.
+fn file_of(units: &[UnitRow], u: u32) -> &[u8] {
+    match units.get(u as usize) {
+        Some(unit) => unit.file.as_bytes(),
+        None => &[],
+    }
+}
+
+/// Adds the label of a static object, as a string.
+fn add_label(text: &mut Text, units: &[UnitRow], o: &ObjectRow) -> Result<(), AllocError>
+    ensures { OnOk result (text.new ≡ text.old ++ render (Str (object_label units.now o.now) Stop)) }
+{
+    text.push(b'(')?;
+    if o.is_static {
+        add_bytes(text, without_ending(file_of(units, o.unit)))?;
+        text.push(b'.')?;
+    }
+    add_bytes(text, o.name.as_bytes())?;
+    text.append(b") ")
+}
+
+/// Adds a static object.
+fn add_object(text: &mut Text, units: &[UnitRow], k: u32, o: &ObjectRow) -> Result<(), AllocError>
+    ensures { OnOk result (text.new ≡ text.old ++ render (object_code units.now k o.now)) }
+{
+    add_string(text, o.name.as_bytes())?;
+    add_label(text, units, o)?;
+    add_anchored(text, k)?;
+    add_type(text, &o.ctype)?;
+    add_word(text, b"NewObject")
+}
+
+/// Adds static objects, and gives the number behind them.
+fn add_objects(text: &mut Text, units: &[UnitRow], objects: &[ObjectRow]) -> Result<u32, AllocError>
+    ensures { OnOk result (text.new ≡ text.old ++ render (objects_from units.now 0 objects.now)) }
+    ensures number { IfOk result (λ k. k ≡ length objects.now) }
+{
+    let mut k: u32 = 0;
+    for o in objects {
+        add_object(text, units, k, o)?;
+        k = following(k)?;
+    }
+    Ok(k)
+}
+
+/// Adds the label of a string.
+fn add_string_label(text: &mut Text, k: u32) -> Result<(), AllocError>
+    ensures { OnOk result (text.new ≡ text.old ++ render (Str (string_label k) Stop)) }
+{
+    let mut digits = Buffer::new();
+    text.append(b"(str")?;
+    text.append(digits.format(k).as_bytes())?;
+    text.append(b") ")
+}
+
+/// Adds a string literal with so many characters.
+fn add_literal(text: &mut Text, k: u32, anchor: u32, size: usize) -> Result<(), AllocError> {
+    let size = u32::try_from(size).map_err(|_| AllocError)?;
+    add_string_label(text, k)?;
+    add_anchored(text, anchor)?;
+    add_word(text, b"char")?;
+    add_number(text, following(size)?)?;
+    add_word(text, b"ArrayOf")?;
+    add_word(text, b"NewString")
+}
+
+/// Adds string literals, whose anchors are numbered from one on.
+fn add_literals(text: &mut Text, first: u32, strings: &[Text]) -> Result<(), AllocError>
+    ensures { OnOk result (text.new ≡ text.old ++ render (strings_from 0 first strings.now)) }
+{
+    let mut k: u32 = 0;
+    let mut anchor = first;
+    for string in strings {
+        add_literal(text, k, anchor, string.len())?;
+        k = following(k)?;
+        anchor = following(anchor)?;
+    }
+    Ok(())
+}
+
+/// Adds the array of static objects and strings.
+pub fn add_statics(text: &mut Text, program: &Program) -> Result<(), AllocError>
+    ensures { OnOk result (text.new ≡ text.old ++ render (objects_code program.now)) }
+{
+    add_name(text, b"objects")?;
+    add_word(text, b"[")?;
+    let first = add_objects(text, program.units.as_slice(), program.objects.as_slice())?;
+    add_literals(text, first, program.strings.as_slice())?;
+    add_word(text, b"]")?;
+    add_word(text, b"def")
+}

@@ -1,0 +1,151 @@
+// Symbols of a table.
+ghost use Rattle.std.specs.Prelude.{◌≡◌, ◌++◌, OnOk, IfOk, length, reverse, slice_get};
+ghost use Rattle.ps_text.specs.Code.{render};
+ghost use Rattle.ps_emit.specs.Symbols.{linked, symbol_by, symbol_code, coming, symbols_code, made_with};
+
+use crate::places::{add_absolute, add_place};
+use crate::terms::{add_number, add_string, add_word, following};
+use crate::types::add_type;
+use c_tree::{Program, Referent, SymbolRow};
+use ldb_words::Text;
+use obj_file::{FunctionRow, LocalPlace};
+use std::alloc::{AllocError, Global};
+
+/// What symbols are made from: the program, its functions' rows, and where the locals of one of them are.
+#[derive(Clone, Copy)]
+pub struct Scene<'a> {
+    pub program: &'a Program,
+    pub functions: &'a [FunctionRow],
+    pub places: &'a [LocalPlace],
+}
+
+/// Adds a symbol by its number, or null.
+pub fn add_link(text: &mut Text, s: Option<u32>) -> Result<(), AllocError>
+    ensures { OnOk result (text.new ≡ text.old ++ render (linked s)) }
+{
+    match s {
+        None => add_word(text, b"null"),
+        Some(s) => {
+            add_number(text, s)?;
+            add_word(text, b"load")
+        }
+    }
+}
+
+/// The address of a function's first instruction.
+fn entry_of(functions: &[FunctionRow], f: u32) -> u32 {
+    match functions.get(f as usize) {
+        Some(row) => row.entry,
+        None => 0,
+    }
+}
+
+/// Adds a symbol of a static object.
+fn add_object_symbol(text: &mut Text, row: &SymbolRow, o: u32) -> Result<(), AllocError> {
+    add_type(text, &row.ctype)?;
+    add_link(text, row.up)?;
+    add_word(text, b"objects")?;
+    add_number(text, o)?;
+    add_word(text, b"get")?;
+    add_word(text, b"ObjectSymbol")
+}
+
+/// Adds a symbol of a function at an address.
+fn add_function_symbol(text: &mut Text, row: &SymbolRow, entry: u32) -> Result<(), AllocError> {
+    add_string(text, row.name.as_bytes())?;
+    add_type(text, &row.ctype)?;
+    add_absolute(text, entry)?;
+    add_link(text, row.up)?;
+    add_word(text, b"FunctionSymbol")
+}
+
+/// Adds a symbol of a local.
+fn add_local_symbol(
+    text: &mut Text,
+    places: &[LocalPlace],
+    row: &SymbolRow,
+    x: u32,
+) -> Result<(), AllocError> {
+    add_string(text, row.name.as_bytes())?;
+    add_type(text, &row.ctype)?;
+    add_place(text, places, x)?;
+    add_link(text, row.up)?;
+    add_word(text, b"NewSymbol")
+}
+
+/// Adds a symbol under its number.
+fn add_symbol(text: &mut Text, scene: Scene, s: u32, row: &SymbolRow) -> Result<(), AllocError>
+    ensures { OnOk result (text.new ≡ text.old ++ render (symbol_code scene.functions.now scene.places.now s row.now)) }
+{
+    add_number(text, s)?;
+    match row.refers {
+        Referent::Object(o) => add_object_symbol(text, row, o)?,
+        Referent::Local(x) => add_local_symbol(text, scene.places, row, x)?,
+        Referent::Function(f) => add_function_symbol(text, row, entry_of(scene.functions, f))?,
+        Referent::Declared => add_function_symbol(text, row, 0)?,
+    }
+    add_word(text, b"def")
+}
+
+/// The symbol outward of one.
+fn up_of(symbols: &[SymbolRow], s: u32) -> Option<u32> {
+    match symbols.get(s as usize) {
+        Some(row) => row.up,
+        None => None,
+    }
+}
+
+/// The symbols of a chain, the innermost first, before the first with a number below `made`.
+fn coming(
+    alloc: Global,
+    symbols: &[SymbolRow],
+    made: u32,
+    from: Option<u32>,
+) -> Result<Vec<u32>, AllocError>
+    ensures { IfOk result (λ v. v.items ≡ coming (length symbols.now) symbols.now made from) }
+{
+    let mut chain = Vec::new(alloc);
+    let mut at = from;
+    for _ in 0..symbols.len() {
+        let Some(s) = at else {
+            return Ok(chain);
+        };
+        if s < made {
+            return Ok(chain);
+        }
+        chain.push(s)?;
+        at = up_of(symbols, s);
+    }
+    Ok(chain)
+}
+
+/// Adds these symbols, the last one first.
+fn add_symbols(text: &mut Text, scene: Scene, chain: &[u32]) -> Result<(), AllocError>
+    ensures { OnOk result (text.new ≡ text.old ++ render (symbols_code scene.functions.now scene.places.now scene.program.now.symbols chain.now)) }
+{
+    for s in chain.iter().rev() {
+        if let Some(row) = scene.program.symbols.as_slice().get(*s as usize) {
+            add_symbol(text, scene, *s, row)?;
+        }
+    }
+    Ok(())
+}
+
+/// Adds the symbols that come into scope where this is the innermost one, and gives the number below which all are made.
+pub fn open_scope(
+    alloc: Global,
+    text: &mut Text,
+    scene: Scene,
+    made: u32,
+    from: Option<u32>,
+) -> Result<u32, AllocError>
+    ensures text { OnOk result (text.new ≡ text.old ++ render (symbols_code scene.functions.now scene.places.now scene.program.now.symbols (coming (length scene.program.now.symbols) scene.program.now.symbols made from))) }
+    ensures made { IfOk result (λ n. n ≡ made_with made from) }
+{
+    let chain = coming(alloc, scene.program.symbols.as_slice(), made, from)?;
+    add_symbols(text, scene, &chain)?;
+    match from {
+        Some(s) if made <= s => following(s),
+        _ => Ok(made),
+    }
+}
