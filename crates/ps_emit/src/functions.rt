@@ -77,7 +77,7 @@ fn add_function(
     row: &FunctionRow,
 ) -> Result<u32, AllocError>
     requires { scene.places.now ≡ row.now.locals }
-    ensures { OnOk result (text.new ≡ text.old ++ render (function_code scene.program.now scene.functions.now made function.now row.now)) }
+    ensures text { OnOk result (text.new ≡ text.old ++ render (function_code scene.program.now scene.functions.now made function.now row.now)) }
     ensures made { IfOk result (λ n. n ≡ made_by scene.program.now scene.functions.now made function.now.points row.now.points) }
 {
     add_string(text, function.name.as_bytes())?;

@@ -1,5 +1,5 @@
 // Procedures that leave places, and the static objects.
-ghost use Rattle.std.specs.Prelude.{◌≡◌, ◌++◌, OnOk, length, slice_get};
+ghost use Rattle.std.specs.Prelude.{◌≡◌, ◌++◌, OnOk, IfOk, length, slice_get};
 ghost use Rattle.ps_text.specs.Code.{render};
 ghost use Rattle.ps_scan.specs.Escaping.{escaped};
 ghost use Rattle.ps_emit.specs.Places.{anchored, absolute, placed, placed_at, without_ending, object_label, string_label, object_code, objects_from, string_code, strings_from, objects_code};
@@ -109,7 +109,7 @@ fn add_object(text: &mut Text, units: &[UnitRow], k: u32, o: &ObjectRow) -> Resu
 
 /// Adds static objects, and gives the number behind them.
 fn add_objects(text: &mut Text, units: &[UnitRow], objects: &[ObjectRow]) -> Result<u32, AllocError>
-    ensures { OnOk result (text.new ≡ text.old ++ render (objects_from units.now 0 objects.now)) }
+    ensures text { OnOk result (text.new ≡ text.old ++ render (objects_from units.now 0 objects.now)) }
     ensures number { IfOk result (λ k. k ≡ length objects.now) }
 {
     let mut k: u32 = 0;

@@ -2,7 +2,7 @@
 ghost use Rattle.std.specs.Prelude.{◌≡◌, ◌++◌, OnOk};
 ghost use Rattle.ps_text.specs.Code.{render};
 ghost use Rattle.ps_emit.specs.Terms.{item as item_code};
-ghost use Rattle.ps_emit.specs.Types.{type_code, struct_code, structs_code, member_code, each_member, filled_struct, filled_structs, tag_code, tags_code};
+ghost use Rattle.ps_emit.specs.Types.{type_code, struct_code, each_struct, structs_code, member_code, each_member, filled_struct, filled_structs, tag_code, tags_code};
 
 use crate::terms::{add_name, add_number, add_string, add_word, following};
 use c_tree::{CType, Member, StructDef};
@@ -49,15 +49,23 @@ fn add_struct(text: &mut Text, def: &StructDef) -> Result<(), AllocError>
     add_word(text, b"NewStruct")
 }
 
+/// Adds structs without their members.
+fn add_each_struct(text: &mut Text, defs: &[StructDef]) -> Result<(), AllocError>
+    ensures { OnOk result (text.new ≡ text.old ++ render (each_struct defs.now)) }
+{
+    for def in defs {
+        add_struct(text, def)?;
+    }
+    Ok(())
+}
+
 /// Adds the array of structs.
 pub fn add_structs(text: &mut Text, defs: &[StructDef]) -> Result<(), AllocError>
     ensures { OnOk result (text.new ≡ text.old ++ render (structs_code defs.now)) }
 {
     add_name(text, b"structs")?;
     add_word(text, b"[")?;
-    for def in defs {
-        add_struct(text, def)?;
-    }
+    add_each_struct(text, defs)?;
     add_word(text, b"]")?;
     add_word(text, b"def")
 }
