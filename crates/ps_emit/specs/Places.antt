@@ -30,7 +30,7 @@ placed_at (Some p) = placed p
 
 -- ---- labels
 
-abbrev file_in : Option UnitRow → List ℕ
+abbrev pub file_in : Option UnitRow → List ℕ
 file_in None = []
 file_in (Some u) = u.file
 

@@ -15,19 +15,27 @@ abbrev pub linked : Option ℕ → Code
 linked None = word "null"
 linked (Some s) = number s ⋯ word "load"
 
-abbrev entry_in : Option FunctionRow → ℕ
+abbrev pub entry_in : Option FunctionRow → ℕ
 entry_in None = 0
 entry_in (Some f) = f.entry
 
 -- ---- a symbol
 
--- a symbol of a function, of which such rows are told, in whose scope locals have such places; a built-in stands at address 0
+abbrev pub object_symbol : SymbolRow → ℕ → Code
+object_symbol row o = type_code row.ctype ⋯ linked row.up ⋯ item "objects" o ⋯ word "ObjectSymbol"
+
+abbrev pub local_symbol : List LocalPlace → SymbolRow → ℕ → Code
+local_symbol places row x = string row.name ⋯ type_code row.ctype ⋯ placed_at (slice_get places x) ⋯ linked row.up ⋯ word "NewSymbol"
+
+abbrev pub function_symbol : SymbolRow → (entry : ℕ) → Code
+function_symbol row entry = string row.name ⋯ type_code row.ctype ⋯ absolute entry ⋯ linked row.up ⋯ word "FunctionSymbol"
+
+-- a symbol by what its name denotes, where functions have such rows and locals such places; a built-in stands at address 0
 abbrev pub symbol_by : List FunctionRow → List LocalPlace → SymbolRow → Referent → Code
-symbol_by fs places row (refers.Object o) = type_code row.ctype ⋯ linked row.up ⋯ item "objects" o ⋯ word "ObjectSymbol"
-symbol_by fs places row (refers.Local x) = string row.name ⋯ type_code row.ctype ⋯ placed_at (slice_get places x) ⋯ linked row.up ⋯ word "NewSymbol"
-symbol_by fs places row (refers.Function f) =
-    string row.name ⋯ type_code row.ctype ⋯ absolute (entry_in (slice_get fs f)) ⋯ linked row.up ⋯ word "FunctionSymbol"
-symbol_by fs places row refers.Declared = string row.name ⋯ type_code row.ctype ⋯ absolute 0 ⋯ linked row.up ⋯ word "FunctionSymbol"
+symbol_by fs places row (refers.Object o) = object_symbol row o
+symbol_by fs places row (refers.Local x) = local_symbol places row x
+symbol_by fs places row (refers.Function f) = function_symbol row (entry_in (slice_get fs f))
+symbol_by fs places row refers.Declared = function_symbol row 0
 
 abbrev pub symbol_code : List FunctionRow → List LocalPlace → ℕ → SymbolRow → Code
 symbol_code fs places s row = number s ⋯ symbol_by fs places row row.refers ⋯ word "def"

@@ -2,7 +2,7 @@
 ghost use Rattle.std.specs.Prelude.{◌≡◌, ◌++◌, OnOk, IfOk, length, slice_get};
 ghost use Rattle.ps_text.specs.Code.{render};
 ghost use Rattle.ps_scan.specs.Escaping.{escaped};
-ghost use Rattle.ps_emit.specs.Places.{anchored, absolute, placed, placed_at, without_ending, object_label, string_label, object_code, objects_from, string_code, strings_from, objects_code};
+ghost use Rattle.ps_emit.specs.Places.{anchored, absolute, placed, placed_at, file_in, without_ending, object_label, string_label, object_code, objects_from, string_code, strings_from, objects_code};
 ghost use Rattle.ps_text.specs.Code.{Stop, Text as Str};
 
 use crate::terms::{
@@ -76,7 +76,9 @@ fn without_ending(file: &[u8]) -> &[u8]
 }
 
 /// The name of a unit's file.
-fn file_of(units: &[UnitRow], u: u32) -> &[u8] {
+fn file_of(units: &[UnitRow], u: u32) -> &[u8]
+    ensures { result.now ≡ file_in (slice_get units.now u) }
+{
     match units.get(u as usize) {
         Some(unit) => unit.file.as_bytes(),
         None => &[],
@@ -130,9 +132,11 @@ fn add_string_label(text: &mut Text, k: u32) -> Result<(), AllocError>
     text.append(b") ")
 }
 
-/// Adds a string literal with so many characters.
-fn add_literal(text: &mut Text, k: u32, anchor: u32, size: usize) -> Result<(), AllocError> {
-    let size = u32::try_from(size).map_err(|_| AllocError)?;
+/// Adds a string literal.
+fn add_literal(text: &mut Text, k: u32, anchor: u32, string: &Text) -> Result<(), AllocError>
+    ensures { OnOk result (text.new ≡ text.old ++ render (string_code k anchor string.now)) }
+{
+    let size = u32::try_from(string.len()).map_err(|_| AllocError)?;
     add_string_label(text, k)?;
     add_anchored(text, anchor)?;
     add_word(text, b"char")?;
@@ -148,7 +152,7 @@ fn add_literals(text: &mut Text, first: u32, strings: &[Text]) -> Result<(), All
     let mut k: u32 = 0;
     let mut anchor = first;
     for string in strings {
-        add_literal(text, k, anchor, string.len())?;
+        add_literal(text, k, anchor, string)?;
         k = following(k)?;
         anchor = following(anchor)?;
     }

@@ -1,7 +1,7 @@
 // Symbols of a table.
-ghost use Rattle.std.specs.Prelude.{◌≡◌, ◌++◌, OnOk, IfOk, length, reverse, slice_get};
+ghost use Rattle.std.specs.Prelude.{◌≡◌, ◌++◌, OnOk, IfOk, length, slice_get};
 ghost use Rattle.ps_text.specs.Code.{render};
-ghost use Rattle.ps_emit.specs.Symbols.{linked, symbol_by, symbol_code, coming, symbols_code, made_with};
+ghost use Rattle.ps_emit.specs.Symbols.{linked, entry_in, object_symbol, local_symbol, function_symbol, symbol_code, up_in, coming, symbols_code, made_with};
 
 use crate::places::{add_absolute, add_place};
 use crate::terms::{add_number, add_string, add_word, following};
@@ -33,7 +33,9 @@ pub fn add_link(text: &mut Text, s: Option<u32>) -> Result<(), AllocError>
 }
 
 /// The address of a function's first instruction.
-fn entry_of(functions: &[FunctionRow], f: u32) -> u32 {
+fn entry_of(functions: &[FunctionRow], f: u32) -> u32
+    ensures { result ≡ entry_in (slice_get functions.now f) }
+{
     match functions.get(f as usize) {
         Some(row) => row.entry,
         None => 0,
@@ -41,7 +43,9 @@ fn entry_of(functions: &[FunctionRow], f: u32) -> u32 {
 }
 
 /// Adds a symbol of a static object.
-fn add_object_symbol(text: &mut Text, row: &SymbolRow, o: u32) -> Result<(), AllocError> {
+fn add_object_symbol(text: &mut Text, row: &SymbolRow, o: u32) -> Result<(), AllocError>
+    ensures { OnOk result (text.new ≡ text.old ++ render (object_symbol row.now o)) }
+{
     add_type(text, &row.ctype)?;
     add_link(text, row.up)?;
     add_word(text, b"objects")?;
@@ -51,7 +55,9 @@ fn add_object_symbol(text: &mut Text, row: &SymbolRow, o: u32) -> Result<(), All
 }
 
 /// Adds a symbol of a function at an address.
-fn add_function_symbol(text: &mut Text, row: &SymbolRow, entry: u32) -> Result<(), AllocError> {
+fn add_function_symbol(text: &mut Text, row: &SymbolRow, entry: u32) -> Result<(), AllocError>
+    ensures { OnOk result (text.new ≡ text.old ++ render (function_symbol row.now entry)) }
+{
     add_string(text, row.name.as_bytes())?;
     add_type(text, &row.ctype)?;
     add_absolute(text, entry)?;
@@ -65,7 +71,9 @@ fn add_local_symbol(
     places: &[LocalPlace],
     row: &SymbolRow,
     x: u32,
-) -> Result<(), AllocError> {
+) -> Result<(), AllocError>
+    ensures { OnOk result (text.new ≡ text.old ++ render (local_symbol places.now row.now x)) }
+{
     add_string(text, row.name.as_bytes())?;
     add_type(text, &row.ctype)?;
     add_place(text, places, x)?;
@@ -88,7 +96,9 @@ fn add_symbol(text: &mut Text, scene: Scene, s: u32, row: &SymbolRow) -> Result<
 }
 
 /// The symbol outward of one.
-fn up_of(symbols: &[SymbolRow], s: u32) -> Option<u32> {
+fn up_of(symbols: &[SymbolRow], s: u32) -> Option<u32>
+    ensures { result ≡ up_in (slice_get symbols.now s) }
+{
     match symbols.get(s as usize) {
         Some(row) => row.up,
         None => None,
@@ -106,7 +116,7 @@ fn coming(
 {
     let mut chain = Vec::new(alloc);
     let mut at = from;
-    for _ in 0..symbols.len() {
+    for _step in 0..symbols.len() {
         let Some(s) = at else {
             return Ok(chain);
         };
@@ -123,9 +133,10 @@ fn coming(
 fn add_symbols(text: &mut Text, scene: Scene, chain: &[u32]) -> Result<(), AllocError>
     ensures { OnOk result (text.new ≡ text.old ++ render (symbols_code scene.functions.now scene.places.now scene.program.now.symbols chain.now)) }
 {
-    for s in chain.iter().rev() {
-        if let Some(row) = scene.program.symbols.as_slice().get(*s as usize) {
-            add_symbol(text, scene, *s, row)?;
+    for i in 0..chain.len() {
+        let s = chain[chain.len() - 1 - i];
+        if let Some(row) = scene.program.symbols.as_slice().get(s as usize) {
+            add_symbol(text, scene, s, row)?;
         }
     }
     Ok(())
