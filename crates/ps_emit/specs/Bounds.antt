@@ -8,6 +8,8 @@ use Rattle.c_tree.specs.declared.types.Member.{Member}
 use Rattle.c_tree.specs.declared.rows.Program.{Program}
 use Rattle.c_tree.specs.declared.rows.ObjectRow.{ObjectRow}
 use Rattle.c_tree.specs.declared.rows.SymbolRow.{SymbolRow}
+use Rattle.c_tree.specs.declared.rows.Referent.{Referent}
+use Rattle.c_tree.specs.declared.rows.Referent.TheVariants as refers
 
 -- `made` are the units of what is made; that of the texts is one for each 16 bytes
 pub record Cost : Type 0 where
@@ -34,6 +36,10 @@ all (c ∷ cs) = c and all cs
 -- `int`, `PointerTo`, `n ArrayOf`, `structs n get`
 abbrev pub per_constructor : Cost
 per_constructor = record { bytes = 24; made = 8; steps = 37 }
+
+-- `s type uplink objects n get ObjectSymbol def`
+abbrev pub per_object_symbol : Cost
+per_object_symbol = record { bytes = 70; made = 18; steps = 23 }
 
 -- `s (name) type where uplink FunctionSymbol def`
 abbrev pub per_symbol : Cost
@@ -73,7 +79,7 @@ per_string = record { bytes = 111; made = 35; steps = 71 }
 
 -- the words, and what stands round the items
 abbrev pub always : Cost
-always = record { bytes = 1750; made = 1000; steps = 200 }
+always = record { bytes = 1750; made = 800; steps = 140 }
 
 -- ---- programs
 
@@ -94,8 +100,12 @@ of_struct d = per_struct and all (map of_member d.members)
 abbrev of_object : ObjectRow → Cost
 of_object o = per_object and of_type o.ctype
 
+abbrev of_referent : Referent → Cost
+of_referent (refers.Object o) = per_object_symbol
+of_referent _ = per_symbol
+
 abbrev of_symbol : SymbolRow → Cost
-of_symbol s = per_symbol and of_type s.ctype
+of_symbol s = of_referent s.refers and of_type s.ctype
 
 abbrev pub cost_of : Program → Cost
 cost_of p =
@@ -105,3 +115,11 @@ cost_of p =
 -- All units of the store: a deferred text is also a part of the table's text, and each text counts a unit and one for each 16 bytes begun.
 abbrev pub units_of : Program → ℕ
 units_of p = (cost_of p).made + (cost_of p).bytes / 8 + 2 * (1 + length p.units)
+
+-- ---- tokens
+
+-- What an item costs for each token that it is written with, at most. An object and its symbol stand at a name, which another token follows;
+-- a `*` is a constructor of both; a function has six tokens and two points; any other point, a local, a member and a string have two, and so has
+-- the mention of a struct.
+abbrev pub per_token : Cost
+per_token = record { bytes = 414; made = 42; steps = 74 }

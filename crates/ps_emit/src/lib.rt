@@ -5,10 +5,10 @@ mod functions;
 mod placement;
 mod places;
 mod symbols;
-mod table;
+mod tables;
 mod terms;
 mod types;
 mod words;
 
 pub use placement::Placement;
-pub use table::table;
+pub use tables::table;

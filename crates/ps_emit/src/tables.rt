@@ -6,7 +6,9 @@ ghost use Rattle.ps_emit.specs.Table.{target_name, anchor_code, anchors_code, to
 use crate::functions::add_units;
 use crate::placement::Placement;
 use crate::places::add_statics;
-use crate::terms::{add_anchor_name, add_integer, add_name, add_number, add_string, add_word, following};
+use crate::terms::{
+    add_anchor_name, add_integer, add_name, add_number, add_string, add_word, following,
+};
 use crate::types::{add_structs, add_tags, fill_structs};
 use crate::words::words_text;
 use c_tree::Program;

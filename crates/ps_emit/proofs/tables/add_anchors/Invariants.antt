@@ -1,7 +1,7 @@
 use Rattle.std.proofs.Common.{◌≡◌, ◌++◌, drop}
 use Rattle.ps_text.specs.Code.{render}
 use Rattle.ps_emit.specs.Table.{anchors_code}
-use Rattle.ps_emit.proofs.table.add_anchors.Given as goal
+use Rattle.ps_emit.proofs.tables.add_anchors.Given as goal
 
 abbrev pub invariant-loop-address : goal.invariant-loop-address
 invariant-loop-address l = record {
