@@ -79,7 +79,7 @@ per_string = record { bytes = 111; made = 35; steps = 71 }
 
 -- the words, and what stands round the items
 abbrev pub always : Cost
-always = record { bytes = 1750; made = 800; steps = 140 }
+always = record { bytes = 1750; made = 900; steps = 140 }
 
 -- ---- programs
 

@@ -36,8 +36,8 @@ module _ (p : Program) (fs : List Placed) where
 
   -- below which number all symbols are made, once these points are
   abbrev pub made_by : (made : ℕ) → (points addresses : List ℕ) → ℕ
-  made_by made (x ∷ xs) (a ∷ as) = made_by (made_with made (symbol_at (slice_get p.points x))) xs as
-  made_by made xs as = made
+  made_by made (x ∷ xs) (a ∷ rest) = made_by (made_with made (symbol_at (slice_get p.points x))) xs rest
+  made_by made xs rest = made
 
   abbrev point_in : List LocalPlace → (made address : ℕ) → Option Point → Code
   point_in places made address None = Stop
@@ -45,9 +45,9 @@ module _ (p : Program) (fs : List Placed) where
 
   -- points by their numbers, which stand at such addresses
   abbrev pub points_code : List LocalPlace → (made : ℕ) → (points addresses : List ℕ) → Code
-  points_code places made (x ∷ xs) (a ∷ as) =
-      point_in places made a (slice_get p.points x) ⋯ points_code places (made_with made (symbol_at (slice_get p.points x))) xs as
-  points_code places made xs as = Stop
+  points_code places made (x ∷ xs) (a ∷ rest) =
+      point_in places made a (slice_get p.points x) ⋯ points_code places (made_with made (symbol_at (slice_get p.points x))) xs rest
+  points_code places made xs rest = Stop
 
   -- ---- functions
 

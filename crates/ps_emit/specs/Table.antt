@@ -19,7 +19,7 @@ anchor_code k anchor = Lit (anchor_name k) Stop ⋯ number anchor.1
 
 abbrev pub anchors_code : ℕ → List (List ℕ × ℕ) → Code
 anchors_code k [] = Stop
-anchors_code k (a ∷ as) = anchor_code k a ⋯ anchors_code (suc k) as
+anchors_code k (a ∷ rest) = anchor_code k a ⋯ anchors_code (suc k) rest
 
 -- pairs of a key and a value
 abbrev pub paired : Code → Code

@@ -54,8 +54,8 @@ fn add_points(
     points: &[u32],
     addresses: &[u32],
 ) -> Result<u32, AllocError>
-    ensures text { OnOk result (text.new ≡ text.old ++ render (points_code scene.program.now scene.functions.now scene.places.now made points.now addresses.now)) }
-    ensures made { IfOk result (λ n. n ≡ made_by scene.program.now scene.functions.now made points.now addresses.now) }
+    ensures text { OnOk result (text.new ≡ text.old ++ render (points_code scene.entry.program.now scene.entry.functions.now scene.entry.places.now made points.now addresses.now)) }
+    ensures made { IfOk result (λ n. n ≡ made_by scene.entry.program.now scene.entry.functions.now made points.now addresses.now) }
 {
     let mut made = made;
     for (x, address) in points.iter().zip(addresses) {
@@ -77,8 +77,8 @@ fn add_function(
     row: &FunctionRow,
 ) -> Result<u32, AllocError>
     requires { scene.places.now ≡ row.now.locals }
-    ensures text { OnOk result (text.new ≡ text.old ++ render (function_code scene.program.now scene.functions.now made function.now row.now)) }
-    ensures made { IfOk result (λ n. n ≡ made_by scene.program.now scene.functions.now made function.now.points row.now.points) }
+    ensures text { OnOk result (text.new ≡ text.old ++ render (function_code scene.entry.program.now scene.entry.functions.now made function.now row.now)) }
+    ensures made { IfOk result (λ n. n ≡ made_by scene.entry.program.now scene.entry.functions.now made function.now.points row.now.points) }
 {
     add_string(text, function.name.as_bytes())?;
     add_truth(text, function.is_static)?;

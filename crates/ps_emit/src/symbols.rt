@@ -83,7 +83,7 @@ fn add_local_symbol(
 
 /// Adds a symbol under its number.
 fn add_symbol(text: &mut Text, scene: Scene, s: u32, row: &SymbolRow) -> Result<(), AllocError>
-    ensures { OnOk result (text.new ≡ text.old ++ render (symbol_code scene.functions.now scene.places.now s row.now)) }
+    ensures { OnOk result (text.new ≡ text.old ++ render (symbol_code scene.entry.functions.now scene.entry.places.now s row.now)) }
 {
     add_number(text, s)?;
     match row.refers {
@@ -131,7 +131,7 @@ fn coming(
 
 /// Adds these symbols, the last one first.
 fn add_symbols(text: &mut Text, scene: Scene, chain: &[u32]) -> Result<(), AllocError>
-    ensures { OnOk result (text.new ≡ text.old ++ render (symbols_code scene.functions.now scene.places.now scene.program.now.symbols chain.now)) }
+    ensures { OnOk result (text.new ≡ text.old ++ render (symbols_code scene.entry.functions.now scene.entry.places.now scene.entry.program.now.symbols chain.now)) }
 {
     for i in 0..chain.len() {
         let s = chain[chain.len() - 1 - i];
@@ -150,7 +150,7 @@ pub fn open_scope(
     made: u32,
     from: Option<u32>,
 ) -> Result<u32, AllocError>
-    ensures text { OnOk result (text.new ≡ text.old ++ render (symbols_code scene.functions.now scene.places.now scene.program.now.symbols (coming (length scene.program.now.symbols) scene.program.now.symbols made from))) }
+    ensures text { OnOk result (text.new ≡ text.old ++ render (symbols_code scene.entry.functions.now scene.entry.places.now scene.entry.program.now.symbols (coming (length scene.entry.program.now.symbols) scene.entry.program.now.symbols made from))) }
     ensures made { IfOk result (λ n. n ≡ made_with made from) }
 {
     let chain = coming(alloc, scene.program.symbols.as_slice(), made, from)?;
