@@ -20,15 +20,15 @@ abbrev pub saved_code : List (ℕ × ℤ) → Code
 saved_code [] = Stop
 saved_code (s ∷ ss) = bracketed (integer (pos s.0) ⋯ integer s.1) ⋯ saved_code ss
 
+abbrev pub point_code : (address : ℕ) → Point → Code
+point_code address q = number q.line ⋯ number q.column ⋯ number address ⋯ linked q.symbol ⋯ word "NewPoint"
+
 module _ (p : Program) (fs : List Placed) where
   -- ---- points
 
   -- the symbols that come into scope at a point, where all below a number are made
   abbrev pub opened : List LocalPlace → (made : ℕ) → Point → Code
   opened places made q = symbols_code fs places p.symbols (coming (length p.symbols) p.symbols made q.symbol)
-
-  abbrev pub point_code : (address : ℕ) → Point → Code
-  point_code address q = number q.line ⋯ number q.column ⋯ number address ⋯ linked q.symbol ⋯ word "NewPoint"
 
   abbrev symbol_at : Option Point → Option ℕ
   symbol_at None = None
