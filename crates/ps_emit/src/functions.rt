@@ -35,6 +35,7 @@ fn add_saved(text: &mut Text, saved: &[(u8, i32)]) -> Result<(), AllocError>
 }
 
 /// Adds a stopping point at an address.
+#[tactic(auto, using(crate::proofs::Followed::render_followed))]
 fn add_point(text: &mut Text, address: u32, point: &Point) -> Result<(), AllocError>
     ensures { OnOk result (text.new ≡ text.old ++ render (point_code address point.now)) }
 {
@@ -46,6 +47,7 @@ fn add_point(text: &mut Text, address: u32, point: &Point) -> Result<(), AllocEr
 }
 
 /// Adds stopping points at their addresses, each behind the symbols that come into scope there, and gives the number below which all symbols are made.
+#[tactic(auto, using(crate::proofs::Followed::render_followed))]
 fn add_points(
     alloc: Global,
     text: &mut Text,
@@ -68,6 +70,7 @@ fn add_points(
 }
 
 /// Adds a function, and gives the number below which all symbols are made.
+#[tactic(auto, using(crate::proofs::Followed::render_followed))]
 fn add_function(
     alloc: Global,
     text: &mut Text,
@@ -97,6 +100,7 @@ fn add_function(
 }
 
 /// Adds functions by their numbers.
+#[tactic(auto, using(crate::proofs::Followed::render_followed))]
 fn add_functions(
     alloc: Global,
     text: &mut Text,
@@ -122,6 +126,7 @@ fn add_functions(
 }
 
 /// The text that leaves a unit's functions.
+#[tactic(auto, using(crate::proofs::Followed::render_followed))]
 fn deferred(
     alloc: Global,
     program: &Program,
@@ -142,6 +147,7 @@ fn deferred(
 }
 
 /// Adds a unit.
+#[tactic(auto, using(crate::proofs::Followed::render_followed))]
 fn add_unit(
     alloc: Global,
     text: &mut Text,
@@ -159,6 +165,7 @@ fn add_unit(
 }
 
 /// Adds the units.
+#[tactic(auto, using(crate::proofs::Followed::render_followed))]
 pub fn add_units(
     alloc: Global,
     text: &mut Text,

@@ -56,6 +56,7 @@ fn add_local_place(text: &mut Text, place: LocalPlace) -> Result<(), AllocError>
 }
 
 /// Adds the place of a local by its number.
+#[tactic(auto, using(crate::proofs::Followed::render_followed))]
 pub fn add_place(text: &mut Text, places: &[LocalPlace], x: u32) -> Result<(), AllocError>
     ensures { OnOk result (text.new ≡ text.old ++ render (placed_at (slice_get places.now x))) }
 {
@@ -99,6 +100,7 @@ fn add_label(text: &mut Text, units: &[UnitRow], o: &ObjectRow) -> Result<(), Al
 }
 
 /// Adds a static object.
+#[tactic(auto, using(crate::proofs::Followed::render_followed))]
 fn add_object(text: &mut Text, units: &[UnitRow], k: u32, o: &ObjectRow) -> Result<(), AllocError>
     ensures { OnOk result (text.new ≡ text.old ++ render (object_code units.now k o.now)) }
 {
@@ -110,6 +112,7 @@ fn add_object(text: &mut Text, units: &[UnitRow], k: u32, o: &ObjectRow) -> Resu
 }
 
 /// Adds static objects, and gives the number behind them.
+#[tactic(auto, using(crate::proofs::Followed::render_followed))]
 fn add_objects(text: &mut Text, units: &[UnitRow], objects: &[ObjectRow]) -> Result<u32, AllocError>
     ensures text { OnOk result (text.new ≡ text.old ++ render (objects_from units.now 0 objects.now)) }
     ensures number { IfOk result (λ k. k ≡ length objects.now) }
@@ -133,6 +136,7 @@ fn add_string_label(text: &mut Text, k: u32) -> Result<(), AllocError>
 }
 
 /// Adds a string literal.
+#[tactic(auto, using(crate::proofs::Followed::render_followed))]
 fn add_literal(text: &mut Text, k: u32, anchor: u32, string: &Text) -> Result<(), AllocError>
     ensures { OnOk result (text.new ≡ text.old ++ render (string_code k anchor string.now)) }
 {
@@ -146,6 +150,7 @@ fn add_literal(text: &mut Text, k: u32, anchor: u32, string: &Text) -> Result<()
 }
 
 /// Adds string literals, whose anchors are numbered from one on.
+#[tactic(auto, using(crate::proofs::Followed::render_followed))]
 fn add_literals(text: &mut Text, first: u32, strings: &[Text]) -> Result<(), AllocError>
     ensures { OnOk result (text.new ≡ text.old ++ render (strings_from 0 first strings.now)) }
 {
@@ -160,6 +165,7 @@ fn add_literals(text: &mut Text, first: u32, strings: &[Text]) -> Result<(), All
 }
 
 /// Adds the array of static objects and strings.
+#[tactic(auto, using(crate::proofs::Followed::render_followed))]
 pub fn add_statics(text: &mut Text, program: &Program) -> Result<(), AllocError>
     ensures { OnOk result (text.new ≡ text.old ++ render (objects_code program.now)) }
 {

@@ -43,6 +43,7 @@ fn entry_of(functions: &[FunctionRow], f: u32) -> u32
 }
 
 /// Adds a symbol of a static object.
+#[tactic(auto, using(crate::proofs::Followed::render_followed))]
 fn add_object_symbol(text: &mut Text, row: &SymbolRow, o: u32) -> Result<(), AllocError>
     ensures { OnOk result (text.new ≡ text.old ++ render (object_symbol row.now o)) }
 {
@@ -55,6 +56,7 @@ fn add_object_symbol(text: &mut Text, row: &SymbolRow, o: u32) -> Result<(), All
 }
 
 /// Adds a symbol of a function at an address.
+#[tactic(auto, using(crate::proofs::Followed::render_followed))]
 fn add_function_symbol(text: &mut Text, row: &SymbolRow, entry: u32) -> Result<(), AllocError>
     ensures { OnOk result (text.new ≡ text.old ++ render (function_symbol row.now entry)) }
 {
@@ -66,6 +68,7 @@ fn add_function_symbol(text: &mut Text, row: &SymbolRow, entry: u32) -> Result<(
 }
 
 /// Adds a symbol of a local.
+#[tactic(auto, using(crate::proofs::Followed::render_followed))]
 fn add_local_symbol(
     text: &mut Text,
     places: &[LocalPlace],
@@ -82,6 +85,7 @@ fn add_local_symbol(
 }
 
 /// Adds a symbol under its number.
+#[tactic(auto, using(crate::proofs::Followed::render_followed))]
 fn add_symbol(text: &mut Text, scene: Scene, s: u32, row: &SymbolRow) -> Result<(), AllocError>
     ensures { OnOk result (text.new ≡ text.old ++ render (symbol_code scene.entry.functions.now scene.entry.places.now s row.now)) }
 {
@@ -130,6 +134,7 @@ fn coming(
 }
 
 /// Adds these symbols, the last one first.
+#[tactic(auto, using(crate::proofs::Followed::render_followed))]
 fn add_symbols(text: &mut Text, scene: Scene, chain: &[u32]) -> Result<(), AllocError>
     ensures { OnOk result (text.new ≡ text.old ++ render (symbols_code scene.entry.functions.now scene.entry.places.now scene.entry.program.now.symbols chain.now)) }
 {
@@ -143,6 +148,7 @@ fn add_symbols(text: &mut Text, scene: Scene, chain: &[u32]) -> Result<(), Alloc
 }
 
 /// Adds the symbols that come into scope where this is the innermost one, and gives the number below which all are made.
+#[tactic(auto, using(crate::proofs::Followed::render_followed))]
 pub fn open_scope(
     alloc: Global,
     text: &mut Text,

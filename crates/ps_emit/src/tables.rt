@@ -37,6 +37,7 @@ fn add_anchors(text: &mut Text, anchors: &[(Text, u32)]) -> Result<(), AllocErro
 }
 
 /// Adds the dictionary that a table leaves.
+#[tactic(auto, using(crate::proofs::Followed::render_followed))]
 fn add_top(
     alloc: Global,
     text: &mut Text,
@@ -68,6 +69,7 @@ fn add_top(
 }
 
 /// The table of a program that is placed so.
+#[tactic(auto, using(crate::proofs::Followed::render_followed))]
 pub fn table(alloc: Global, program: &Program, at: &Placement) -> Result<Text, AllocError>
     ensures { IfOk result (λ t. t ≡ table_text program.now at.now) }
 {

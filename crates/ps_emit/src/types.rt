@@ -19,6 +19,7 @@ fn add_struct_number(text: &mut Text, s: u32) -> Result<(), AllocError>
 }
 
 /// Adds a type.
+#[tactic(auto, using(crate::proofs::Followed::render_followed))]
 pub fn add_type(text: &mut Text, t: &CType) -> Result<(), AllocError>
     ensures { OnOk result (text.new ≡ text.old ++ render (type_code t.now)) }
 {
@@ -60,6 +61,7 @@ fn add_each_struct(text: &mut Text, defs: &[StructDef]) -> Result<(), AllocError
 }
 
 /// Adds the array of structs.
+#[tactic(auto, using(crate::proofs::Followed::render_followed))]
 pub fn add_structs(text: &mut Text, defs: &[StructDef]) -> Result<(), AllocError>
     ensures { OnOk result (text.new ≡ text.old ++ render (structs_code defs.now)) }
 {
@@ -71,6 +73,7 @@ pub fn add_structs(text: &mut Text, defs: &[StructDef]) -> Result<(), AllocError
 }
 
 /// Adds a member.
+#[tactic(auto, using(crate::proofs::Followed::render_followed))]
 fn add_member(text: &mut Text, member: &Member) -> Result<(), AllocError>
     ensures { OnOk result (text.new ≡ text.old ++ render (member_code member.now)) }
 {
@@ -82,6 +85,7 @@ fn add_member(text: &mut Text, member: &Member) -> Result<(), AllocError>
 }
 
 /// Adds members.
+#[tactic(auto, using(crate::proofs::Followed::render_followed))]
 fn add_members(text: &mut Text, members: &[Member]) -> Result<(), AllocError>
     ensures { OnOk result (text.new ≡ text.old ++ render (each_member members.now)) }
 {
@@ -92,6 +96,7 @@ fn add_members(text: &mut Text, members: &[Member]) -> Result<(), AllocError>
 }
 
 /// Puts a struct's members into it.
+#[tactic(auto, using(crate::proofs::Followed::render_followed))]
 fn fill_struct(text: &mut Text, s: u32, members: &[Member]) -> Result<(), AllocError>
     ensures { OnOk result (text.new ≡ text.old ++ render (filled_struct s members.now)) }
 {
@@ -104,6 +109,7 @@ fn fill_struct(text: &mut Text, s: u32, members: &[Member]) -> Result<(), AllocE
 }
 
 /// Puts the members of structs into them.
+#[tactic(auto, using(crate::proofs::Followed::render_followed))]
 pub fn fill_structs(text: &mut Text, defs: &[StructDef]) -> Result<(), AllocError>
     ensures { OnOk result (text.new ≡ text.old ++ render (filled_structs 0 defs.now)) }
 {
