@@ -1,0 +1,49 @@
+-- A number other than 0 as a pointer: slot code has the null pointer, and flat code keeps the number.
+use Rattle.std.proofs.Common.{◌≡◌, [], ◌∷◌, Option, None, Some, refl}
+use Rattle.std.specs.Prelude.{ℤ, pos, codes, map}
+use Rattle.ldb_words.specs.declared.kinds.Order.TheVariants.{Little}
+use Rattle.runs.specs.Runs.{Outcome, Reached, Breaks, after}
+use Rattle.slot_ir.specs.declared.code.SlotCode.{SlotCode}
+use Rattle.slot_ir.specs.declared.code.Access.TheVariants as access
+use Rattle.slot_ir.specs.declared.code.UnaryWordOp.TheVariants as unary_word
+use Rattle.slot_ir.specs.declared.code.SlotOp.TheVariants.{Const, Convert, Unary, Exit}
+use Rattle.c_store.specs.Store.{is_stale}
+use Rattle.slot_ir.specs.Operators.{unary}
+use Rattle.slot_ir.specs.Slots as slots
+use Rattle.slot_ir.specs.Begin as slots_begin
+use Rattle.flat_ir.specs.Memory.{overlaid, number_at, opened, closed}
+use Rattle.flat_ir.specs.Flat.{FlatState, Setting, step, begin, first_memory, on_word}
+use Rattle.flat_ir.specs.declared.code.FlatCode.{FlatCode}
+use Rattle.flat_gen.specs.Layout.{layout}
+use Rattle.flat_gen.specs.Codes.{starts_of, function_code, flat_function}
+
+abbrev code : SlotCode
+code = record {
+  functions = record { name = codes "main"; params = 0; locals = []; temporaries = 1; points = []; places = []; code = Const 0 5 ∷ Convert 0 access.Pointer ∷ Unary 0 unary_word.Truth ∷ Exit 0 ∷ [] } ∷ [];
+  main = 0;
+  objects = [];
+  strings = [];
+  structs = [];
+}
+
+abbrev flat_code : FlatCode
+flat_code = record { functions = map (flat_function 100 code) code.functions; main = 0; movers = [] }
+
+abbrev setting : Setting
+setting = record { order = Little; linkage = 100; addresses = []; structs = [] }
+
+abbrev slot_exit : Outcome slots.SlotState → Option ℤ
+slot_exit (Reached m) = m.exit
+slot_exit (Breaks w) = None
+
+abbrev flat_exit : Outcome FlatState → Option ℤ
+flat_exit (Reached m) = m.exit
+flat_exit (Breaks w) = None
+
+slot_code_exits : slot_exit (after slots.SlotState (slots.step code) (λ i s. s) 10 0 (slots_begin.begin code [])) ≡ Some (pos 0)
+unfolding unary is_stale
+slot_code_exits = refl
+
+flat_code_exits : flat_exit (after FlatState (step flat_code setting) (λ i s. s) 20 0 (begin flat_code setting [] [])) ≡ Some (pos 1)
+unfolding overlaid number_at opened closed step begin first_memory on_word layout starts_of function_code flat_function
+flat_code_exits = refl
