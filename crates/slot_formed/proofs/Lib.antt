@@ -21,3 +21,10 @@ mod Inside
 mod Quiet
 mod Lands
 mod Passing
+mod Objects
+mod Evaluated
+mod Safe
+mod Claims
+mod Triples
+mod Taking
+mod TakingStmts

@@ -1,0 +1,1102 @@
+-- The code of a well-typed expression takes no number but 0 as a pointer.
+use Rattle.std.proofs.Common.{◌≡◌, refl, sym, ap, subst, ◌∙◌, arith, ℕ, zero, suc, ◌+◌, ◌<◌, ◌≤◌, ◌^◌, List, [], ◌∷◌, ◌++◌, length, length-append, Bool, true, false, not, ◌&&◌, ◌||◌, Option, Some, None, true≢false, slice_get, ◌⊎◌, inl, inr}
+use Rattle.std.specs.Prelude.{Ok, map, take, drop, reverse, reverse_aux, ◌==◌, bytes_eq, codes, option_and_then, option_map, if◌then◌else◌}
+use Rattle.ldb_words.specs.Word.{bit_of}
+use Rattle.c_tree.specs.declared.types.CType.{CType}
+use Rattle.c_tree.specs.declared.types.CType.TheVariants as ctype
+use Rattle.c_tree.specs.declared.typed.BinaryOp.{BinaryOp}
+use Rattle.c_tree.specs.declared.typed.BinaryOp.TheVariants.{Equal, Unequal, Less, Greater, LessEqual, GreaterEqual, Add, Subtract}
+use Rattle.c_tree.specs.declared.typed.UnaryOp.{UnaryOp}
+use Rattle.c_tree.specs.declared.typed.Head.{Head}
+use Rattle.c_tree.specs.declared.typed.StepOp.{StepOp}
+use Rattle.c_tree.specs.declared.typed.Typed.{Typed, Row_of-Typed, end_of-Typed, more_of-Typed}
+use Rattle.c_tree.specs.declared.typed.Typed.TheVariants.{Comma', Assign', Choice', Or', And', Binary', Cast', Before', Address', Follow', Unary', SizeOf', SizeOfType, Index', Call', Dot', Arrow', After', Name, Constant, Literal, Parens'}
+use Rattle.c_tree.specs.declared.rows.Program.{Program}
+use Rattle.c_tree.specs.declared.rows.Function.{Function}
+use Rattle.c_tree.specs.declared.rows.Local.{Local as ALocal}
+use Rattle.c_tree.specs.declared.rows.SymbolRow.{SymbolRow}
+use Rattle.c_tree.specs.declared.rows.Referent.{Referent}
+use Rattle.c_tree.specs.declared.rows.Referent.TheVariants.{Object, Local, Function as Defined, Declared}
+use Rattle.c_tree.specs.Rows.{exprs}
+use Rattle.c_tree.specs.Types.{type_of, target_of, kind_of, is_struct, is_array, is_unsigned}
+use Rattle.c_tree.specs.Layout.{size_of}
+use Rattle.c_operators.specs.Arithmetic.{operating_type, truth}
+use Rattle.c_source.specs.Source.{dot_offset, arrow_offset, stepping, struct_number}
+use Rattle.c_typing.specs.Plain.{Plain, Char, Int, Unsigned, Void, Pointer, Array, Struct, plain, same, is_integer, is_pointer, is_struct as is_a_struct, is_scalar, is_void, is_complete, value_type, promoted, common}
+use Rattle.c_typing.specs.Constants.{is_built, evaluated, operated, operated_on, cast_to, chosen, truth_of, is_true}
+use Rattle.c_typing.specs.Rules.{Operand, takes as takes_all, value_of, only, may_drop, followed, is_movable, sum_type, binary_type, converts, is_copied, is_compound, is_move, compound_type, stepping as stepped, branches_type, choice_type, member_type}
+use Rattle.c_typing.specs.Expressions.{Denoted, Object as AnObject, Function as AFunction, Hidden, Scope, object_type, is_lvalue, is_register, is_string, operand, operands, value, name_type, call_type, result_type, IsTyped, AreTyped}
+use Rattle.c_typing.specs.Declared.{has, parameters, local_type, function_in, local_in, locals_in, built_in, is_result, denoted_by, scope_at}
+use Rattle.c_typing.specs.Accepted.{IsAccepted}
+use Rattle.c_store.specs.Store.{Value, Number, World}
+use Rattle.slot_ir.specs.declared.code.Access.{Access}
+use Rattle.slot_ir.specs.declared.code.Access.TheVariants as access
+use Rattle.slot_ir.specs.declared.code.SlotCode.{SlotCode}
+use Rattle.slot_ir.specs.declared.code.SlotOp.{SlotOp}
+use Rattle.slot_ir.specs.declared.code.SlotOp.TheVariants as op
+use Rattle.slot_ir.specs.declared.code.PointerOp.{PointerOp}
+use Rattle.slot_ir.specs.declared.code.PointerOp.TheVariants as pointer
+use Rattle.slot_ir.specs.Operators.{extended, is_zero, unary, binary}
+use Rattle.c_store.specs.Frames.{Here, new_activation}
+use Rattle.slot_ir.specs.Slots.{SlotState, Temps, with_temp, no_temps, Frame, local_row, locals_in as slot_locals, last_temps, entered}
+use Rattle.slot_ir.specs.Slots as slots
+use Rattle.slot_pointers.specs.Taken.{is_pointer as points, serves, holds, takes, serves_in, serve_from, serve}
+use Rattle.slot_gen.specs.Expressions.{access_of, cast_code, load_code, word_op, unary_op, mixed_op, pointers_op, targets_op, combine_op, choice_code, and_code, or_code, referent_code, unless_register, name_code, read_at, write_at, update_at, register_in, register_inside, call_code, built_in_code, enter_code, registers_from, expr_code, place_code, row_code, is_scalar as is_scalar_type}
+use Rattle.slot_formed.specs.Code.{local_rows, IsProgramCode}
+use Rattle.slot_formed.proofs.Lists.{no_none, some_same, and_parts, or_parts, then_some, map_some}
+use Rattle.slot_formed.proofs.Sizes.{Formed, formed, formed_size, size_plain}
+use Rattle.slot_formed.proofs.Types.{type_formed, function_there, name_there, callee_there}
+use Rattle.slot_formed.proofs.Evaluated.{Is, suc_is, binary_is, unary_is, cast_is}
+use Rattle.slot_formed.proofs.Safe.{Safe, at_op, ok_after, temps_after, extended_serves}
+use Rattle.slot_formed.proofs.Objects.{IsAs, GivesAs, given_as}
+use Rattle.slot_formed.proofs.Formed.{function_row_at}
+use Rattle.slot_formed.proofs.Claims.{Held, Moves, Claim, no_both, only_is, target_none, target_some, integer_none, cast_serves, serves_type, holds_all, binary_moves, binary_value, integer_constant, converted_points, equal_points, branch_points, choice_value, choice_common, integer_unary, built_integer, built_none, value_twice, integer_same}
+use Rattle.slot_formed.proofs.Triples as triples
+use Rattle.slot_formed.proofs.Triples.{Enters, Gives, Runs, Any, Below, Sets, Casts, Zero, sets_below, sets_above, sets_held, held_same, below_less, below_then, seq, post, nothing, weaker}
+
+-- ---- types
+
+integer_no : (t : Plain) → is_integer t ≡ true → is_pointer (value_type t) ≡ true → ⊥
+integer_no t h k = no_both t h (subst (λ z. is_pointer z ≡ true) (integer_same t h) k)
+
+no_array_value : (t : CType) → is_array t ≡ false → value_type (plain t) ≡ plain t
+no_array_value (ctype.Array' b t n) h = absurd (true≢false h)
+no_array_value ctype.Char h = refl
+no_array_value ctype.Int h = refl
+no_array_value ctype.Unsigned h = refl
+no_array_value ctype.Void h = refl
+no_array_value (ctype.Pointer' b t) h = refl
+no_array_value (ctype.Struct s) h = refl
+
+pub register_value : (t : CType) (o : Option ℕ) (x : ℕ) → (if is_scalar_type t then o else None) ≡ Some x → value_type (plain t) ≡ plain t
+register_value (ctype.Array' b t n) o x e = no_none x e
+register_value ctype.Char o x e = refl
+register_value ctype.Int o x e = refl
+register_value ctype.Unsigned o x e = refl
+register_value ctype.Void o x e = refl
+register_value (ctype.Pointer' b t) o x e = refl
+register_value (ctype.Struct s) o x e = refl
+
+-- a type that is assigned to is no array
+assigned_pointer : (t : Plain) (b : Operand) (x y : Bool) → converts t b || ((is_a_struct t && x) && y) ≡ true → is_pointer (value_type t) ≡ true → is_pointer t ≡ true
+assigned_pointer (Array t n) b x y h k = absurd (true≢false (sym h))
+assigned_pointer Char b x y h k = k
+assigned_pointer Int b x y h k = k
+assigned_pointer Unsigned b x y h k = k
+assigned_pointer Void b x y h k = k
+assigned_pointer (Pointer t) b x y h k = k
+assigned_pointer (Struct n) b x y h k = k
+
+struct_no : (t : CType) (b : Operand) → is_struct t ≡ true → converts (plain t) b ≡ true → ⊥
+struct_no (ctype.Struct s) b h k = true≢false (sym k)
+struct_no ctype.Char b h k = true≢false (sym h)
+struct_no ctype.Int b h k = true≢false (sym h)
+struct_no ctype.Unsigned b h k = true≢false (sym h)
+struct_no ctype.Void b h k = true≢false (sym h)
+struct_no (ctype.Pointer' x t) b h k = true≢false (sym h)
+struct_no (ctype.Array' x t n) b h k = true≢false (sym h)
+
+struct_pointer : (t : Plain) → is_a_struct t ≡ true → is_pointer t ≡ true → ⊥
+struct_pointer (Struct n) h k = true≢false (sym k)
+struct_pointer _ h k = true≢false (sym h)
+
+followed_pointer : (p : Program) (t r : Plain) → followed p.defs t ≡ Some r → is_pointer t ≡ true
+followed_pointer p (Pointer t) r e = refl
+followed_pointer p Char r e = no_none r e
+followed_pointer p Int r e = no_none r e
+followed_pointer p Unsigned r e = no_none r e
+followed_pointer p Void r e = no_none r e
+followed_pointer p (Array t n) r e = no_none r e
+followed_pointer p (Struct s) r e = no_none r e
+
+movable_pointer : (p : Program) (t : Plain) → is_movable p.defs t ≡ true → is_pointer t ≡ true
+movable_pointer p (Pointer t) h = refl
+movable_pointer p _ h = absurd (true≢false (sym h))
+
+pointer_value : (t : Plain) → is_pointer t ≡ true → is_pointer (value_type t) ≡ true
+pointer_value (Pointer t) h = refl
+pointer_value _ h = absurd (true≢false (sym h))
+
+integer_extended : (t : CType) → is_integer (plain t) ≡ true → (n : ℕ) → extended (access_of t) (Number n) ≡ Ok (Number (cast_to t n))
+integer_extended ctype.Char h n = refl
+integer_extended ctype.Int h n = refl
+integer_extended ctype.Unsigned h n = refl
+integer_extended ctype.Void h n = absurd (true≢false (sym h))
+integer_extended (ctype.Pointer' b t) h n = absurd (true≢false (sym h))
+integer_extended (ctype.Array' b t m) h n = absurd (true≢false (sym h))
+integer_extended (ctype.Struct s) h n = absurd (true≢false (sym h))
+
+abbrev is_wide : Plain → Bool
+is_wide Int = true
+is_wide Unsigned = true
+is_wide _ = false
+
+promoted_wide : (t : Plain) → is_wide (promoted t) ≡ true
+promoted_wide Unsigned = refl
+promoted_wide _ = refl
+
+common_wide : (s t : Plain) → is_wide (common s t) ≡ true
+common_wide Unsigned t = refl
+common_wide Char t = promoted_wide t
+common_wide Int t = promoted_wide t
+common_wide Void t = promoted_wide t
+common_wide (Pointer s) t = promoted_wide t
+common_wide (Array s n) t = promoted_wide t
+common_wide (Struct s) t = promoted_wide t
+
+wide_access : (t : CType) → is_wide (plain t) ≡ true → access_of t ≡ access.Word
+wide_access ctype.Int h = refl
+wide_access ctype.Unsigned h = refl
+wide_access ctype.Char h = absurd (true≢false (sym h))
+wide_access ctype.Void h = absurd (true≢false (sym h))
+wide_access (ctype.Pointer' b t) h = absurd (true≢false (sym h))
+wide_access (ctype.Array' b t n) h = absurd (true≢false (sym h))
+wide_access (ctype.Struct s) h = absurd (true≢false (sym h))
+
+-- ---- truths
+
+chosen_first : (m : ℕ) (o q : Option ℕ) → is_zero (Number m) ≡ false → chosen m o q ≡ o
+chosen_first zero o q h = absurd (true≢false h)
+chosen_first (suc m) o q h = ap (λ b. if (if b then false else true) then o else q) (suc_is m)
+
+chosen_second : (m : ℕ) (o q : Option ℕ) → is_zero (Number m) ≡ true → chosen m o q ≡ q
+chosen_second zero o q h = refl
+chosen_second (suc m) o q h = absurd (true≢false (sym h))
+
+truth_same : (m : ℕ) → bit_of (not (is_zero (Number m))) ≡ truth (is_true m)
+truth_same zero = refl
+truth_same (suc m) = ap (λ b. truth (if b then false else true)) (sym (suc_is m))
+
+bit_small : (b : Bool) → bit_of b < 2 ^ 32
+bit_small true = omega arith
+bit_small false = omega arith
+
+pub is_true_of : (y v : Value) (o : Option ℕ) → Is y o → v ≡ Number (bit_of (not (is_zero y))) → Is v (truth_of o)
+is_true_of y v o h e n w =
+    let q = map_some (λ m. truth (is_true m)) o n w in
+    let i = h q.0 q.1 in
+    let same : bit_of (not (is_zero y)) ≡ n = ap (λ z. bit_of (not (is_zero z))) i.0 ∙ truth_same q.0 ∙ q.2 in
+    (e ∙ ap Number same, subst (λ z. z < 2 ^ 32) same (bit_small (not (is_zero y))))
+
+-- a number that was tested
+chosen_is : (x v : Value) (z : Bool) (o a b : Option ℕ) → Is x o → is_zero x ≡ z → Is v (if z then b else a) → Is v (option_and_then (λ m. chosen m a b) o)
+chosen_is x v z o a b h k i n e =
+    let q = then_some (λ m. chosen m a b) o n e in
+    let t : is_zero (Number q.0) ≡ z = ap is_zero (sym (h q.0 q.1).0) ∙ k in
+    by z q.0 t i q.2
+  where
+    by : (z : Bool) (m : ℕ) → is_zero (Number m) ≡ z → Is v (if z then b else a) → chosen m a b ≡ Some n → (v ≡ Number n) × (n < 2 ^ 32)
+    by true m t i e = i n (sym (chosen_second m a b t) ∙ e)
+    by false m t i e = i n (sym (chosen_first m a b t) ∙ e)
+
+number_is : (v : Value) (m : ℕ) → v ≡ Number m → m < 2 ^ 32 → Is v (Some m)
+number_is v m e h n w = let s = some_same m n w in (e ∙ ap Number s, subst (λ z. z < 2 ^ 32) s h)
+
+none_is : (v : Value) → Is v None
+none_is v n e = no_none n e
+
+-- ---- operators on two temporaries
+
+abbrev Compares : BinaryOp → Temps → ℕ → ℕ → Type 0
+Compares Equal t x y = holds points (t x) && holds points (t y) ≡ true
+Compares Unequal t x y = holds points (t x) && holds points (t y) ≡ true
+Compares _ t x y = Unit {0}
+
+abbrev Moved : BinaryOp → Value → Type 0
+Moved Add v = points v ≡ true
+Moved Subtract v = points v ≡ true
+Moved _ v = Unit {0}
+
+moved_first : (op : BinaryOp) (u : CType) (v : Value) → Moves (Some u) None op → Moved op v → points v ≡ true
+moved_first Add u v m h = h
+moved_first Subtract u v m h = h
+moved_first _ u v m h = absurd m
+
+moved_second : (op : BinaryOp) (u : CType) (v : Value) → Moves None (Some u) op → Moved op v → points v ≡ true
+moved_second Add u v m h = h
+moved_second _ u v m h = absurd m
+
+module _ (c : SlotCode) (f r : ℕ) (frames : List Frame) (K at : ℕ) (P : Temps → Type 0) where
+  loose : (d : ℕ) (o : SlotOp) (C : Value → Type 0) (Q : Temps → Temps → Type 0) → ((t u : Temps) → P t → Q t u → Sets d C t u) → Runs c f r frames K at P (o ∷ []) Q → Runs c f r frames K at P (o ∷ []) (Sets d C)
+  loose d o C Q w x = post c f r frames K at P (o ∷ []) Q (Sets d C) w x
+
+  binary_loose : (to x y : ℕ) (o : _) → Runs c f r frames K at P (op.Binary to x y o ∷ []) (Sets to (λ v. Unit {0}))
+  binary_loose to x y o =
+      loose to (op.Binary to x y o) (λ v. Unit {0}) (λ t u. Sets to (λ v. (m n : Value) × (t x ≡ Some m) × (t y ≡ Some n) × (binary o m n ≡ Ok v)) t u) (λ t u pre s. (s.0, tt, s.2)) (triples.binary_runs c f r frames K at P to x y o)
+
+  mixed_runs : (to x y size : ℕ) (o : BinaryOp) (t : CType) → ((u : Temps) → P u → Compares o u x y) → Runs c f r frames K at P (mixed_op to x y size o t ∷ []) (Sets to (Moved o))
+  mixed_runs to x y size Add t w = triples.index_runs c f r frames K at P to x y size (is_unsigned t) false
+  mixed_runs to x y size Subtract t w = triples.index_runs c f r frames K at P to x y size (is_unsigned t) true
+  mixed_runs to x y size Equal t w = triples.compare_runs c f r frames K at P to x y pointer.Equal (λ s pre. w s.temps pre)
+  mixed_runs to x y size Unequal t w = triples.compare_runs c f r frames K at P to x y pointer.Unequal (λ s pre. w s.temps pre)
+  mixed_runs to x y size _ t w = binary_loose to x y _
+
+  pointers_runs : (to x y size : ℕ) (o : BinaryOp) → ((u : Temps) → P u → Compares o u x y) → Runs c f r frames K at P (pointers_op to x y size o ∷ []) (Sets to (λ v. Unit {0}))
+  pointers_runs to x y size Equal w = triples.compare_runs c f r frames K at P to x y pointer.Equal (λ s pre. w s.temps pre)
+  pointers_runs to x y size Unequal w = triples.compare_runs c f r frames K at P to x y pointer.Unequal (λ s pre. w s.temps pre)
+  pointers_runs to x y size Less w = triples.compare_runs c f r frames K at P to x y pointer.Less (λ s pre. refl)
+  pointers_runs to x y size Greater w = triples.compare_runs c f r frames K at P to x y pointer.Greater (λ s pre. refl)
+  pointers_runs to x y size LessEqual w = triples.compare_runs c f r frames K at P to x y pointer.LessEqual (λ s pre. refl)
+  pointers_runs to x y size GreaterEqual w = triples.compare_runs c f r frames K at P to x y pointer.GreaterEqual (λ s pre. refl)
+  pointers_runs to x y size Subtract w = triples.distance_runs c f r frames K at P to x y size
+  pointers_runs to x y size _ w = binary_loose to x y _
+
+swap_compares : (o : BinaryOp) (t : Temps) (x y : ℕ) → Compares o t x y → Compares o t y x
+swap_compares Equal t x y h = let q = and_parts (holds points (t x)) (holds points (t y)) h in ap (λ b. b && holds points (t x)) q.1 ∙ q.0
+swap_compares Unequal t x y h = let q = and_parts (holds points (t x)) (holds points (t y)) h in ap (λ b. b && holds points (t x)) q.1 ∙ q.0
+swap_compares _ t x y h = tt
+
+module _ (p : Program) (accepted : IsAccepted p) (c : SlotCode) (f : ℕ) (v : List ℕ) (r : ℕ) (frames : List Frame) (K : ℕ) where
+  abbrev s : Scope
+  s = scope_at p f v
+
+  abbrev RR : ℕ → (Temps → Type 0) → List SlotOp → (Temps → Temps → Type 0) → Type 0
+  RR at P l Q = Runs c f r frames K at P l Q
+
+  abbrev pub Result : Typed → ℕ → Temps → Temps → Type 0
+  Result e d t u = Below d t u × Held (Claim s e) (u d)
+
+  abbrev pub Place : ℕ → Temps → Temps → Type 0
+  Place d t u = Below d t u × Held (λ v. points v ≡ true) (u d)
+
+  -- ---- operators
+
+  -- what is claimed of the result of an operator
+  abbrev Combined : Typed → Typed → BinaryOp → Plain → Value → Type 0
+  Combined a b o rt v =
+      (is_pointer rt ≡ true → points v ≡ true)
+      × (is_built a ≡ true → is_built b ≡ true → Is v (option_and_then (λ m. option_and_then (operated o (type_of a) (type_of b) m) (evaluated p.defs b)) (evaluated p.defs a)))
+
+  module _ (a b : Typed) (ta : IsTyped s a) (tb : IsTyped s b) (o : BinaryOp) (rt : Plain) (e : binary_type p.defs o (operand s a) (operand s b) ≡ Some rt) (at to x y : ℕ) (P : Temps → Type 0)
+      (ha : (t : Temps) → P t → Held (Claim s a) (t x)) (hb : (t : Temps) → P t → Held (Claim s b) (t y)) where
+    abbrev C : Value → Type 0
+    C v = Combined a b o rt v
+
+    compared : (A B : Option CType) → target_of (type_of a) ≡ A → target_of (type_of b) ≡ B → ((A ≡ None) × (B ≡ None) → ⊥) → (o : BinaryOp) → binary_type p.defs o (operand s a) (operand s b) ≡ Some rt → (t : Temps) → P t → Compares o t x y
+    compared A B i j never o e t pre = by o e
+      where
+        both : ((target_of (type_of a) ≡ None) × (target_of (type_of b) ≡ None)) ⊎ ((holds points (t x) ≡ true) × (holds points (t y) ≡ true)) → holds points (t x) && holds points (t y) ≡ true
+        both (inl q) = absurd (never (sym i ∙ q.0, sym j ∙ q.1))
+        both (inr q) = ap (λ z. z && holds points (t y)) q.0 ∙ q.1
+
+        by : (o : BinaryOp) → binary_type p.defs o (operand s a) (operand s b) ≡ Some rt → Compares o t x y
+        by Equal e = both (equal_points s a b (t x) (t y) rt e (ha t pre) (hb t pre))
+        by Unequal e = both (equal_points s a b (t x) (t y) rt e (ha t pre) (hb t pre))
+        by _ e = tt
+
+    not_none : (A : Option CType) (u : CType) → target_of (type_of a) ≡ Some u → is_built a ≡ true → ⊥
+    not_none A u i k = no_none u (sym (built_none s a ta k) ∙ i)
+
+    by_targets : (A B : Option CType) → target_of (type_of a) ≡ A → target_of (type_of b) ≡ B → RR at P (targets_op p to x y o (type_of a) (type_of b) A B ∷ []) (Sets to C)
+    by_targets None None i j =
+        let w = word_op o (is_unsigned (operating_type o (type_of a) (type_of b))) in
+        post c f r frames K at P (op.Binary to x y w ∷ []) (λ t u. Sets to (λ v. (m n : Value) × (t x ≡ Some m) × (t y ≡ Some n) × (binary w m n ≡ Ok v)) t u) (Sets to C)
+        (λ t u pre q. (
+          q.0,
+          (
+            λ k. absurd (subst (λ A. Moves A None o) i (subst (λ B. Moves (target_of (type_of a)) B o) j (binary_moves p.defs o s a b rt e k))),
+            λ k l. binary_is o (type_of a) (type_of b) q.1.0 q.1.1 q.0 (evaluated p.defs a) (evaluated p.defs b) ((ha t pre q.1.0 q.1.2).1 k) ((hb t pre q.1.1 q.1.3).1 l) q.1.4,
+          ),
+          q.2,
+        )) (triples.binary_runs c f r frames K at P to x y w)
+    by_targets (Some u) None i j =
+        post c f r frames K at P (mixed_op to x y (size_of p.defs u) o (type_of b) ∷ []) (Sets to (Moved o)) (Sets to C)
+        (λ t w pre q. (
+          q.0,
+          (
+            λ k. moved_first o u q.0 (subst (λ A. Moves A None o) i (subst (λ B. Moves (target_of (type_of a)) B o) j (binary_moves p.defs o s a b rt e k))) q.1,
+            λ k l. no_none u (sym (built_none s a ta k) ∙ i),
+          ),
+          q.2,
+        )) (mixed_runs c f r frames K at P to x y (size_of p.defs u) o (type_of b) (compared (Some u) None i j (λ z. no_none u (sym z.0)) o e))
+    by_targets None (Some u) i j =
+        post c f r frames K at P (mixed_op to y x (size_of p.defs u) o (type_of a) ∷ []) (Sets to (Moved o)) (Sets to C)
+        (λ t w pre q. (
+          q.0,
+          (
+            λ k. moved_second o u q.0 (subst (λ A. Moves A (Some u) o) i (subst (λ B. Moves (target_of (type_of a)) B o) j (binary_moves p.defs o s a b rt e k))) q.1,
+            λ k l. no_none u (sym (built_none s b tb l) ∙ j),
+          ),
+          q.2,
+        )) (mixed_runs c f r frames K at P to y x (size_of p.defs u) o (type_of a) (λ t pre. swap_compares o t x y (compared None (Some u) i j (λ z. no_none u (sym z.1)) o e t pre)))
+    by_targets (Some u) (Some w) i j =
+        post c f r frames K at P (pointers_op to x y (size_of p.defs u) o ∷ []) (Sets to (λ v. Unit {0})) (Sets to C)
+        (λ t z pre q. (
+          q.0,
+          (
+            λ k. absurd (subst (λ A. Moves A (Some w) o) i (subst (λ B. Moves (target_of (type_of a)) B o) j (binary_moves p.defs o s a b rt e k))),
+            λ k l. no_none u (sym (built_none s a ta k) ∙ i),
+          ),
+          q.2,
+        )) (pointers_runs c f r frames K at P to x y (size_of p.defs u) o (compared (Some u) (Some w) i j (λ z. no_none u (sym z.0)) o e))
+
+    pub combine_runs : RR at P (combine_op p to x y o (type_of a) (type_of b) ∷ []) (Sets to C)
+    combine_runs = by_targets (target_of (type_of a)) (target_of (type_of b)) refl refl
+
+  -- of a compound assignment, whose left side is an integer or is moved
+  abbrev Compound : BinaryOp → CType → CType → Type 0
+  Compound o t w = (is_integer (value_type (plain w)) ≡ true) × (((is_integer (plain t) ≡ true) ⊎ ((is_pointer (plain t) ≡ true) × (is_move o ≡ true))))
+
+  compound_runs : (at to x y : ℕ) (o : BinaryOp) (t w : CType) (P : Temps → Type 0) → Compound o t w → RR at P (combine_op p to x y o t w ∷ []) (Sets to (λ z. is_pointer (plain t) ≡ true → points z ≡ true))
+  compound_runs at to x y o t w P h = by h.1
+    where
+      C : Value → Type 0
+      C z = is_pointer (plain t) ≡ true → points z ≡ true
+
+      target_w : target_of w ≡ None
+      target_w = target_none w h.0
+
+      moved : (o : BinaryOp) (u : CType) → is_move o ≡ true → RR at P (mixed_op to x y (size_of p.defs u) o w ∷ []) (Sets to (λ z. is_pointer (plain t) ≡ true → points z ≡ true))
+      moved Add u k = post c f r frames K at P (mixed_op to x y (size_of p.defs u) Add w ∷ []) (Sets to (λ z. points z ≡ true)) _ (λ t' u' pre q. (q.0, λ i. q.1, q.2)) (triples.index_runs c f r frames K at P to x y (size_of p.defs u) (is_unsigned w) false)
+      moved Subtract u k = post c f r frames K at P (mixed_op to x y (size_of p.defs u) Subtract w ∷ []) (Sets to (λ z. points z ≡ true)) _ (λ t' u' pre q. (q.0, λ i. q.1, q.2)) (triples.index_runs c f r frames K at P to x y (size_of p.defs u) (is_unsigned w) true)
+      moved _ u k = absurd (true≢false (sym k))
+
+      by : (is_integer (plain t) ≡ true) ⊎ ((is_pointer (plain t) ≡ true) × (is_move o ≡ true)) → RR at P (combine_op p to x y o t w ∷ []) (Sets to (λ z. is_pointer (plain t) ≡ true → points z ≡ true))
+      by (inl i) =
+          subst (λ A. RR at P (targets_op p to x y o t w A (target_of w) ∷ []) (Sets to (λ z. is_pointer (plain t) ≡ true → points z ≡ true))) (sym (integer_none t i))
+          (subst (λ B. RR at P (targets_op p to x y o t w None B ∷ []) (Sets to (λ z. is_pointer (plain t) ≡ true → points z ≡ true))) (sym target_w)
+          (post c f r frames K at P (targets_op p to x y o t w None None ∷ []) (Sets to (λ z. Unit {0})) _ (λ t' u' pre q. (q.0, λ k. absurd (no_both (plain t) i k), q.2)) (binary_loose c f r frames K at P to x y _)))
+      by (inr i) =
+          let u = target_some t (pointer_value (plain t) i.0) in
+          subst (λ A. RR at P (targets_op p to x y o t w A (target_of w) ∷ []) (Sets to (λ z. is_pointer (plain t) ≡ true → points z ≡ true))) (sym u.1)
+          (subst (λ B. RR at P (targets_op p to x y o t w (Some u.0) B ∷ []) (Sets to (λ z. is_pointer (plain t) ≡ true → points z ≡ true))) (sym target_w) (moved o u.0 i.1))
+
+  -- ---- reading and writing
+
+  abbrev Loaded : CType → Value → Type 0
+  Loaded t z = is_pointer (value_type (plain t)) ≡ true → points z ≡ true
+
+  abbrev Kept : ℕ → (Value → Type 0) → Temps → Temps → Type 0
+  Kept d C t u = Below d t u × Held C (u d)
+
+  sets_kept : (d : ℕ) (C D : Value → Type 0) (t u : Temps) → ((z : Value) → C z → D z) → Sets d C t u → Kept d D t u
+  sets_kept d C D t u w q = (sets_below d C t u q, λ z g. w z (sets_held d C t u q z g))
+
+  read_claim : (t : CType) (z : Value) → value_type (plain t) ≡ plain t → serves (access_of t) z ≡ true → Loaded t z
+  read_claim t z e h k = serves_type t z h (subst (λ y. is_pointer y ≡ true) e k)
+
+  load_runs : (at d : ℕ) (t : CType) (P : Temps → Type 0) → ((u : Temps) → P u → Held (λ z. points z ≡ true) (u d)) → RR at P (load_code d t) (Kept d (Loaded t))
+  load_runs at d t P w = by (is_array t) refl
+    where
+      by : (b : Bool) → is_array t ≡ b → RR at P (if b then [] else op.Load d d (kind_of t) (access_of t) ∷ []) (Kept d (Loaded t))
+      by true e = nothing c f r frames K at P (Kept d (Loaded t)) (λ u pre. (λ x lt. refl, λ z g k. w u pre z g))
+      by false e = post c f r frames K at P (op.Load d d (kind_of t) (access_of t) ∷ []) (Sets d (λ z. serves (access_of t) z ≡ true)) (Kept d (Loaded t))
+          (λ u w' pre q. sets_kept d (λ z. serves (access_of t) z ≡ true) (Loaded t) u w' (λ z h. read_claim t z (no_array_value t e) h) q) (triples.load_runs c f r frames K at P d d (kind_of t) (access_of t))
+
+  -- a place is computed where there is no register, and read
+  read_runs : (at d : ℕ) (o : Option ℕ) (t : CType) (place : List SlotOp) → ((x : ℕ) → o ≡ Some x → value_type (plain t) ≡ plain t) → (o ≡ None → RR at Any place (Place d)) → RR at Any (unless_register o place ++ read_at p f d o t) (Kept d (Loaded t))
+  read_runs at d None t place h w =
+      seq c f r frames K at Any place (load_code d t) (Place d) (Kept d (Loaded t)) (w refl) λ t0 pre.
+      post c f r frames K (at + length place) (Place d t0) (load_code d t) (Kept d (Loaded t)) (λ u z. Kept d (Loaded t) t0 z) (λ u z q k. (below_then d t0 u z q.0 k.0, k.1))
+      (load_runs (at + length place) d t (Place d t0) (λ u q. q.1))
+  read_runs at d (Some x) t place h w =
+      post c f r frames K at Any (op.ReadRegister d x (kind_of t) (access_of t) ∷ []) (Sets d (λ z. serves (access_of t) z ≡ true)) (Kept d (Loaded t))
+      (λ u z pre q. sets_kept d (λ z. serves (access_of t) z ≡ true) (Loaded t) u z (λ z g. read_claim t z (h x refl) g) q) (triples.read_runs c f r frames K at Any d x (kind_of t) (access_of t))
+
+  -- a place is computed where there is no register
+  unless_runs : (at d : ℕ) (o : Option ℕ) (place : List SlotOp) → RR at Any place (Place d) → RR at Any (unless_register o place) (Below d)
+  unless_runs at d None place w = post c f r frames K at Any place (Place d) (Below d) (λ t u pre q. q.0) w
+  unless_runs at d (Some x) place w = nothing c f r frames K at Any (Below d) (λ t pre x lt. refl)
+
+  module _ (d : ℕ) (t : CType) where
+    abbrev Fits : Value → Type 0
+    Fits z = is_pointer (plain t) ≡ true → points z ≡ true
+
+    cast_fits : (u w : Temps) → Casts (suc d) (access_of t) u w → Held Fits (w (suc d))
+    cast_fits u w q z g k = let y = q.2 z g in serves_type t z (extended_serves (access_of t) y.0 z y.2) k
+
+    -- behind a conversion, a write and a value that is taken
+    taken : (at from : ℕ) (P : Temps → Type 0) (o : SlotOp) → RR at P (o ∷ []) (λ u w. w ≡ u) → ((u : Temps) → P u → Held Fits (u from)) → RR at P (o ∷ op.Take d from ∷ []) (Kept d Fits)
+    taken at from P o x w =
+        seq c f r frames K at P (o ∷ []) (op.Take d from ∷ []) (λ u z. z ≡ u) (Kept d Fits) x λ u pre.
+        post c f r frames K (at + length (o ∷ [])) (λ z. z ≡ u) (op.Take d from ∷ []) (λ z y. Sets d (λ q. z from ≡ Some q) z y) (λ z y. Kept d Fits u y)
+        (λ z y e q. (
+          below_then d u z y (λ x lt. ap (λ (g : Temps). g x) e) (sets_below d (λ q. z from ≡ Some q) z y q),
+          λ i g k. let m = sets_held d (λ q. z from ≡ Some q) z y q i g in w u pre i (sym (ap (λ (g : Temps). g from) e) ∙ m) k,
+        )) (triples.take_runs c f r frames K (at + length (o ∷ [])) (λ z. z ≡ u) d from)
+
+    write_behind : (at from : ℕ) (P : Temps → Type 0) (o : SlotOp) → ((at : ℕ) (P : Temps → Type 0) → RR at P (o ∷ []) (λ u w. w ≡ u)) → ((u : Temps) → P u → Held Fits (u (suc d)))
+        → ((u w : Temps) → P u → Casts (suc d) (access_of t) u w → Held Fits (w from)) → RR at P (cast_code (suc d) t ++ (o ∷ op.Take d from ∷ [])) (Kept d Fits)
+    write_behind at from P o x w y =
+        seq c f r frames K at P (cast_code (suc d) t) (o ∷ op.Take d from ∷ []) (Casts (suc d) (access_of t)) (Kept d Fits) (triples.cast_runs c f r frames K at P (suc d) t w) λ u pre.
+        post c f r frames K (at + length (cast_code (suc d) t)) (Casts (suc d) (access_of t) u) (o ∷ op.Take d from ∷ []) (Kept d Fits) (λ z g. Kept d Fits u g)
+        (λ z g q k. (below_then d u z g (λ x lt. q.0 x (omega (arith, lt))) k.0, k.1))
+        (taken (at + length (cast_code (suc d) t)) from (Casts (suc d) (access_of t) u) o (x (at + length (cast_code (suc d) t)) (Casts (suc d) (access_of t) u)) (λ z q. y u z pre q))
+
+    pub write_runs : (at : ℕ) (o : Option ℕ) (P : Temps → Type 0) → ((u : Temps) → P u → Held Fits (u (suc d))) → RR at P (write_at p f d o t) (Kept d Fits)
+    write_runs at None P w = write_behind at (suc d) P (op.Store d (suc d) (kind_of t)) (λ at P. triples.store_runs c f r frames K at P d (suc d) (kind_of t)) w (λ u z pre q. cast_fits u z q)
+    write_runs at (Some x) P w = write_behind at (suc d) P (op.WriteRegister (suc d) x (kind_of t)) (λ at P. triples.write_runs c f r frames K at P (suc d) x (kind_of t)) w (λ u z pre q. cast_fits u z q)
+
+    from_fits : (new : Bool) (u w : Temps) → Held Fits (u (suc (suc d))) → Casts (suc d) (access_of t) u w → Held Fits (w (if new then suc d else suc (suc d)))
+    from_fits true u w h q = cast_fits u w q
+    from_fits false u w h q = held_same Fits (u (suc (suc d))) (w (suc (suc d))) (q.1 (suc (suc d)) (omega arith)) h
+
+    -- what was read, an operator, a conversion and a write
+    changed : (at : ℕ) (w : CType) (o : BinaryOp) (new : Bool) (P : Temps → Type 0) (first write : SlotOp) → Compound o t w → RR at P (first ∷ []) (Sets (suc (suc d)) (λ z. serves (access_of t) z ≡ true)) → ((at : ℕ) (P : Temps → Type 0) → RR at P (write ∷ []) (λ u z. z ≡ u))
+        → RR at P (first ∷ combine_op p (suc d) (suc (suc d)) (suc d) o t w ∷ (cast_code (suc d) t ++ write ∷ op.Take d (if new then suc d else suc (suc d)) ∷ [])) (Kept d Fits)
+    changed at w o new P first write h x y =
+        let S1 : Temps → Temps → Type 0 = Sets (suc (suc d)) (λ z. serves (access_of t) z ≡ true) in
+        let S2 : Temps → Temps → Type 0 = Sets (suc d) Fits in
+        let o2 : SlotOp = combine_op p (suc d) (suc (suc d)) (suc d) o t w in
+        let rest : List SlotOp = cast_code (suc d) t ++ write ∷ op.Take d (if new then suc d else suc (suc d)) ∷ [] in
+        seq c f r frames K at P (first ∷ []) (o2 ∷ rest) S1 (Kept d Fits) x λ t0 pre.
+        seq c f r frames K (at + length (first ∷ [])) (S1 t0) (o2 ∷ []) rest S2 (λ u z. Kept d Fits t0 z) (compound_runs (at + length (first ∷ [])) (suc d) (suc (suc d)) (suc d) o t w (S1 t0) h) λ t1 q1.
+        post c f r frames K (at + length (first ∷ []) + length (o2 ∷ [])) (S2 t1) rest (Kept d Fits) (λ u z. Kept d Fits t0 z)
+        (λ u z q2 k. (
+          below_then d t0 u z (below_then d t0 t1 u (below_less d (suc (suc d)) t0 t1 (omega arith) (sets_below (suc (suc d)) (λ z. serves (access_of t) z ≡ true) t0 t1 q1)) (below_less d (suc d) t1 u (omega arith) (sets_below (suc d) Fits t1 u q2))) k.0,
+          k.1,
+        ))
+        (write_behind (at + length (first ∷ []) + length (o2 ∷ [])) (if new then suc d else suc (suc d)) (S2 t1) write y (λ u q2. sets_held (suc d) Fits t1 u q2)
+        (λ u z q2 g. from_fits new u z
+        (held_same Fits (t1 (suc (suc d))) (u (suc (suc d))) (sets_above (suc d) (suc (suc d)) Fits t1 u (omega arith) q2)
+        (λ i e k. serves_type t i (sets_held (suc (suc d)) (λ z. serves (access_of t) z ≡ true) t0 t1 q1 i e) k)) g))
+
+    pub update_runs : (at : ℕ) (o : Option ℕ) (w : CType) (b : BinaryOp) (new : Bool) (P : Temps → Type 0) → Compound b t w → RR at P (update_at p f d o t b w new) (Kept d Fits)
+    update_runs at None w b new P h =
+        changed at w b new P (op.Load (suc (suc d)) d (kind_of t) (access_of t)) (op.Store d (suc d) (kind_of t)) h (triples.load_runs c f r frames K at P (suc (suc d)) d (kind_of t) (access_of t)) (λ at P. triples.store_runs c f r frames K at P d (suc d) (kind_of t))
+    update_runs at (Some x) w b new P h =
+        changed at w b new P (op.ReadRegister (suc (suc d)) x (kind_of t) (access_of t)) (op.WriteRegister (suc d) x (kind_of t)) h (triples.read_runs c f r frames K at P (suc (suc d)) x (kind_of t) (access_of t)) (λ at P. triples.write_runs c f r frames K at P (suc d) x (kind_of t))
+
+  -- ---- places of names
+
+  no_built : (name : List ℕ) (t : Plain) → object_type (built_in name) ≡ Some t → ⊥
+  no_built name t e = first (bytes_eq name (codes "getchar")) e
+    where
+      third : (b : Bool) → object_type (if b then AFunction Void (Int ∷ []) else Hidden) ≡ Some t → ⊥
+      third true e = no_none t e
+      third false e = no_none t e
+
+      second : (b : Bool) → object_type (if b then AFunction Int (Int ∷ []) else (if bytes_eq name (codes "exit") then AFunction Void (Int ∷ []) else Hidden)) ≡ Some t → ⊥
+      second true e = no_none t e
+      second false e = third (bytes_eq name (codes "exit")) e
+
+      first : (b : Bool) → object_type (if b then AFunction Int [] else (if bytes_eq name (codes "putchar") then AFunction Int (Int ∷ []) else (if bytes_eq name (codes "exit") then AFunction Void (Int ∷ []) else Hidden))) ≡ Some t → ⊥
+      first true e = no_none t e
+      first false e = second (bytes_eq name (codes "putchar")) e
+
+  no_function : (o : Option Function) (t : Plain) → object_type (function_in o) ≡ Some t → ⊥
+  no_function None t e = no_none t e
+  no_function (Some h) t e = no_none t e
+
+  set_place : (at d : ℕ) (o : SlotOp) → RR at Any (o ∷ []) (Sets d (λ z. points z ≡ true)) → RR at Any (o ∷ []) (Place d)
+  set_place at d o x = post c f r frames K at Any (o ∷ []) (Sets d (λ z. points z ≡ true)) (Place d) (λ u w pre q. sets_kept d (λ z. points z ≡ true) (λ z. points z ≡ true) u w (λ z h. h) q) x
+
+  referent_runs : (at d : ℕ) (row : SymbolRow) (t : Plain) (o : Referent) → object_type (denoted_by p f v (plain row.ctype) row.name o) ≡ Some t → RR at Any (referent_code d o) (Place d)
+  referent_runs at d row t (Object o) e = set_place at d (op.StaticAddress d o) (triples.static_runs c f r frames K at Any d o)
+  referent_runs at d row t (Local x) e = set_place at d (op.LocalAddress d x) (triples.local_runs c f r frames K at Any d x)
+  referent_runs at d row t (Defined g) e = absurd (no_function (slice_get p.functions g) t e)
+  referent_runs at d row t Declared e = absurd (no_built row.name t e)
+
+  name_runs : (at d m : ℕ) (t : Plain) → name_type s m ≡ Some t → RR at Any (name_code p f d (slice_get p.symbols m)) (Place d)
+  name_runs at d m t e = let q = name_there p accepted f v m t e in subst (λ o. RR at Any (name_code p f d o) (Place d)) (sym q.1) (referent_runs at d q.0 t q.0.refers q.2)
+
+  -- ---- pieces of expressions
+
+  abbrev pub Expr : Typed → Type 0
+  Expr e = (at d : ℕ) → RR at Any (expr_code p f at d e) (Result e d)
+
+  abbrev pub Spot : Typed → Type 0
+  Spot e = (at d : ℕ) → RR at Any (place_code p f at d e) (Place d)
+
+  any : (at : ℕ) (P : Temps → Type 0) (l : List SlotOp) (Q : Temps → Temps → Type 0) → RR at Any l Q → RR at P l Q
+  any at P l Q x = weaker c f r frames K at Any P l Q (λ t pre. tt) x
+
+  -- two operands and an operator
+  both_runs : (a b : Typed) (o : BinaryOp) (rt : Plain) → IsTyped s a → IsTyped s b → binary_type p.defs o (operand s a) (operand s b) ≡ Some rt → Expr a → Expr b → (at d : ℕ)
+      → RR at Any (expr_code p f at d a ++ (expr_code p f (at + length (expr_code p f at d a)) (suc d) b ++ combine_op p d d (suc d) o (type_of a) (type_of b) ∷ [])) (Kept d (Combined a b o rt))
+  both_runs a b o rt ta tb e ea eb at d =
+      let ca = expr_code p f at d a in
+      let cb = expr_code p f (at + length ca) (suc d) b in
+      let last : SlotOp = combine_op p d d (suc d) o (type_of a) (type_of b) in
+      let C : Value → Type 0 = Combined a b o rt in
+      seq c f r frames K at Any ca (cb ++ last ∷ []) (Result a d) (Kept d C) (ea at d) λ t0 pre.
+      seq c f r frames K (at + length ca) (Result a d t0) cb (last ∷ []) (λ u w. Result a d t0 u × Result b (suc d) u w) (λ u w. Kept d C t0 w)
+      (post c f r frames K (at + length ca) (Result a d t0) cb (Result b (suc d)) (λ u w. Result a d t0 u × Result b (suc d) u w) (λ u w q k. (q, k)) (any (at + length ca) (Result a d t0) cb (Result b (suc d)) (eb (at + length ca) (suc d)))) λ u q.
+      post c f r frames K (at + length ca + length cb) (λ w. Result a d t0 u × Result b (suc d) u w) (last ∷ []) (Sets d C) (λ w z. Kept d C t0 z)
+      (λ w z k g. (
+        below_then d t0 w z (below_then d t0 u w k.0.0 (below_less d (suc d) u w (omega arith) k.1.0)) (sets_below d C w z g),
+        sets_held d C w z g,
+      ))
+      (combine_runs a b ta tb o rt e (at + length ca + length cb) d d (suc d) (λ w. Result a d t0 u × Result b (suc d) u w)
+      (λ w k. held_same (Claim s a) (u d) (w d) (k.1.0 d (omega arith)) k.0.1) (λ w k. k.1.1))
+
+  -- an expression and a load from where it points, as the value of an lvalue
+  loaded : (at d : ℕ) (t : CType) (place : List SlotOp) → RR at Any place (Place d) → RR at Any (place ++ load_code d t) (Kept d (Loaded t))
+  loaded at d t place x =
+      seq c f r frames K at Any place (load_code d t) (Place d) (Kept d (Loaded t)) x λ t0 pre.
+      post c f r frames K (at + length place) (Place d t0) (load_code d t) (Kept d (Loaded t)) (λ u w. Kept d (Loaded t) t0 w) (λ u w q k. (below_then d t0 u w q.0 k.0, k.1)) (load_runs (at + length place) d t (Place d t0) (λ u q. q.1))
+
+  -- and an offset
+  offset_runs : (at d n : ℕ) (l : List SlotOp) → RR at Any l (Below d) → RR at Any (l ++ op.Offset d n ∷ []) (Place d)
+  offset_runs at d n l x =
+      seq c f r frames K at Any l (op.Offset d n ∷ []) (Below d) (Place d) x λ t0 pre.
+      post c f r frames K (at + length l) (Below d t0) (op.Offset d n ∷ []) (Sets d (λ z. points z ≡ true)) (λ u w. Place d t0 w)
+      (λ u w q k. (below_then d t0 u w q (sets_below d (λ z. points z ≡ true) u w k), sets_held d (λ z. points z ≡ true) u w k)) (triples.offset_runs c f r frames K (at + length l) (Below d t0) d n)
+
+  -- a value that is no constant, of a type
+  typed_claim : (e : Typed) (t : CType) → value s e ≡ value_type (plain t) → is_built e ≡ false → (z : Value) → Loaded t z → Claim s e z
+  typed_claim e t w b z h = (λ k. h (subst (λ y. is_pointer y ≡ true) w k), λ k. absurd (true≢false (sym k ∙ b)))
+
+  value_runs : (e : Typed) (t : CType) (at d : ℕ) (l : List SlotOp) → value s e ≡ value_type (plain t) → is_built e ≡ false → RR at Any l (Kept d (Loaded t)) → RR at Any l (Result e d)
+  value_runs e t at d l w b x = post c f r frames K at Any l (Kept d (Loaded t)) (Result e d) (λ u z pre q. (q.0, λ y g. typed_claim e t w b y (q.1 y g))) x
+
+  -- an integer, where it is no constant expression
+  no_claim : (e : Typed) → is_integer (value s e) ≡ true → is_built e ≡ false → (z : Value) → Claim s e z
+  no_claim e i b z = (λ k. absurd (no_both (value s e) i k), λ k. absurd (true≢false (sym k ∙ b)))
+
+  place_any : (at d : ℕ) (l : List SlotOp) → RR at Any l (Place d) → RR at Any l (Below d)
+  place_any at d l x = post c f r frames K at Any l (Place d) (Below d) (λ u w pre q. q.0) x
+
+  result_any : (e : Typed) (at d : ℕ) (l : List SlotOp) → RR at Any l (Result e d) → RR at Any l (Below d)
+  result_any e at d l x = post c f r frames K at Any l (Result e d) (Below d) (λ u w pre q. q.0) x
+
+  -- ---- assignments
+
+  -- the value behind an assignment
+  fits_claim : (e : Typed) (t : CType) → plain t ≡ plain (type_of e) → is_built e ≡ false → (is_pointer (value_type (plain t)) ≡ true → is_pointer (plain t) ≡ true) → (z : Value) → Fits 0 t z → Claim s e z
+  fits_claim e t w b g z h = (λ k. h (g (subst (λ y. is_pointer (value_type y) ≡ true) (sym w) k)), λ k. absurd (true≢false (sym k ∙ b)))
+
+  fits_runs : (e : Typed) (t : CType) (at d : ℕ) (l : List SlotOp) → plain t ≡ plain (type_of e) → is_built e ≡ false → (is_pointer (value_type (plain t)) ≡ true → is_pointer (plain t) ≡ true) → RR at Any l (Kept d (Fits 0 t)) → RR at Any l (Result e d)
+  fits_runs e t at d l w b g x = post c f r frames K at Any l (Kept d (Fits 0 t)) (Result e d) (λ u z pre q. (q.0, λ y k. fits_claim e t w b g y (q.1 y k))) x
+
+  lvalue_of_only : (b : Bool) (x y : Bool) (t q : Plain) → only (b && (x || y)) t ≡ Some q → (b ≡ true) × (x || y ≡ true) × (t ≡ q)
+  lvalue_of_only b x y t q e = let o = only_is (b && (x || y)) t q e in let a = and_parts b (x || y) o.0 in (a.0, a.1, o.1)
+
+  assign_fits : (a b : Typed) → converts (plain (type_of a)) (operand s b) || is_copied (operand s a) (operand s b) ≡ true → (z : Value) → Claim s b z → Fits 0 (type_of a) z
+  assign_fits a b h z k i = by (or_parts (converts (plain (type_of a)) (operand s b)) (is_copied (operand s a) (operand s b)) h)
+    where
+      by : (converts (plain (type_of a)) (operand s b) ≡ true) ⊎ (is_copied (operand s a) (operand s b) ≡ true) → points z ≡ true
+      by (inl q) = converted_points s (plain (type_of a)) b z q k i
+      by (inr q) =
+          let g = and_parts (is_a_struct (plain (type_of a)) && same (plain (type_of a)) (plain (type_of b))) (is_lvalue b) q in
+          absurd (struct_pointer (plain (type_of a)) (and_parts (is_a_struct (plain (type_of a))) (same (plain (type_of a)) (plain (type_of b))) g.0).0 i)
+
+  copied_lvalue : (a b : Typed) → is_struct (type_of a) ≡ true → converts (plain (type_of a)) (operand s b) || is_copied (operand s a) (operand s b) ≡ true → is_lvalue b ≡ true
+  copied_lvalue a b k h = by (or_parts (converts (plain (type_of a)) (operand s b)) (is_copied (operand s a) (operand s b)) h)
+    where
+      by : (converts (plain (type_of a)) (operand s b) ≡ true) ⊎ (is_copied (operand s a) (operand s b) ≡ true) → is_lvalue b ≡ true
+      by (inl q) = absurd (struct_no (type_of a) (operand s b) k q)
+      by (inr q) = (and_parts (is_a_struct (plain (type_of a)) && same (plain (type_of a)) (plain (type_of b))) (is_lvalue b) q).1
+
+  -- a struct is copied
+  copy_runs : (e : Typed) (n : ℕ) (a b : List SlotOp) (at d : ℕ) → is_built e ≡ false → RR at Any a (Place d) → RR (at + length a) Any b (Place (suc d)) → RR at Any (a ++ (b ++ op.Move d (suc d) n ∷ op.Const d 0 ∷ [])) (Result e d)
+  copy_runs e n a b at d k x y =
+      let move : SlotOp = op.Move d (suc d) n in
+      let zero_op : SlotOp = op.Const d 0 in
+      seq c f r frames K at Any a (b ++ move ∷ zero_op ∷ []) (Below d) (Result e d) (place_any at d a x) λ t0 pre.
+      seq c f r frames K (at + length a) (Below d t0) b (move ∷ zero_op ∷ []) (λ u w. Below d t0 w) (λ u w. Result e d t0 w)
+      (post c f r frames K (at + length a) (Below d t0) b (Place (suc d)) (λ u w. Below d t0 w) (λ u w q g. below_then d t0 u w q (below_less d (suc d) u w (omega arith) g.0)) (any (at + length a) (Below d t0) b (Place (suc d)) y)) λ u q.
+      seq c f r frames K (at + length a + length b) (Below d t0) (move ∷ []) (zero_op ∷ []) (λ w z. Below d t0 z) (λ w z. Result e d t0 z)
+      (post c f r frames K (at + length a + length b) (Below d t0) (move ∷ []) (λ w z. z ≡ w) (λ w z. Below d t0 z) (λ w z g h. subst (λ y. Below d t0 y) (sym h) g) (triples.move_runs c f r frames K (at + length a + length b) (Below d t0) d (suc d) n)) λ w g.
+      post c f r frames K (at + length a + length b + length (move ∷ [])) (Below d t0) (zero_op ∷ []) (Sets d (λ z. z ≡ Number 0)) (λ z y. Result e d t0 y)
+      (λ z y g h. (
+        below_then d t0 z y g (sets_below d (λ z. z ≡ Number 0) z y h),
+        λ i j. (λ m. ap points (sets_held d (λ z. z ≡ Number 0) z y h i j), λ m. absurd (true≢false (sym m ∙ k))),
+      )) (triples.const_runs c f r frames K (at + length a + length b + length (move ∷ [])) (Below d t0) d 0)
+
+  -- a value is written
+  write_value : (t : CType) (b : Typed) (o : Option ℕ) (place : List SlotOp) (at d : ℕ) → RR at Any place (Place d) → Expr b → ((z : Value) → Claim s b z → Fits 0 t z)
+      → RR at Any (unless_register o place ++ (expr_code p f (at + length (unless_register o place)) (suc d) b ++ write_at p f d o t)) (Kept d (Fits 0 t))
+  write_value t b o place at d x y h =
+      let ca = unless_register o place in
+      let cb = expr_code p f (at + length ca) (suc d) b in
+      seq c f r frames K at Any ca (cb ++ write_at p f d o t) (Below d) (Kept d (Fits 0 t)) (unless_runs at d o place x) λ t0 pre.
+      seq c f r frames K (at + length ca) (Below d t0) cb (write_at p f d o t) (λ u w. Below d t0 u × Result b (suc d) u w) (λ u w. Kept d (Fits 0 t) t0 w)
+      (post c f r frames K (at + length ca) (Below d t0) cb (Result b (suc d)) (λ u w. Below d t0 u × Result b (suc d) u w) (λ u w q k. (q, k)) (any (at + length ca) (Below d t0) cb (Result b (suc d)) (y (at + length ca) (suc d)))) λ u q.
+      post c f r frames K (at + length ca + length cb) (λ w. Below d t0 u × Result b (suc d) u w) (write_at p f d o t) (Kept d (Fits 0 t)) (λ w z. Kept d (Fits 0 t) t0 z)
+      (λ w z g k. (below_then d t0 w z (below_then d t0 u w g.0 (below_less d (suc d) u w (omega arith) g.1.0)) k.0, k.1))
+      (write_runs d t (at + length ca + length cb) o (λ w. Below d t0 u × Result b (suc d) u w) (λ w g z k. h z (g.1.1 z k)))
+
+  assign_runs : (h : Head) (x y : _) (a b : Typed) → IsTyped s (Assign' h x a None y b) → (is_lvalue a ≡ true → Spot a) → (is_lvalue b ≡ true → Spot b) → Expr b → Expr (Assign' h x a None y b)
+  assign_runs h x y a b t pa pb eb at d = by (is_struct (type_of a)) refl
+    where
+      e : Typed
+      e = Assign' h x a None y b
+
+      q : (is_lvalue a ≡ true) × (converts (plain (type_of a)) (operand s b) || is_copied (operand s a) (operand s b) ≡ true) × (plain (type_of a) ≡ plain h.ctype)
+      q = lvalue_of_only (is_lvalue a) (converts (plain (type_of a)) (operand s b)) (is_copied (operand s a) (operand s b)) (plain (type_of a)) (plain h.ctype) t.2
+
+      by : (o : Bool) → is_struct (type_of a) ≡ o
+          → RR at Any (if o then place_code p f at d a ++ (place_code p f (at + length (place_code p f at d a)) (suc d) b ++ op.Move d (suc d) (struct_number (type_of a)) ∷ op.Const d 0 ∷ [])
+          else unless_register (register_in p f a) (place_code p f at d a) ++ (expr_code p f (at + length (unless_register (register_in p f a) (place_code p f at d a))) (suc d) b ++ write_at p f d (register_in p f a) (type_of a))) (Result (Assign' h x a None y b) d)
+      by true g = copy_runs (Assign' h x a None y b) (struct_number (type_of a)) (place_code p f at d a) (place_code p f (at + length (place_code p f at d a)) (suc d) b) at d refl (pa q.0 at d) (pb (copied_lvalue a b g q.1) (at + length (place_code p f at d a)) (suc d))
+      by false g =
+          fits_runs (Assign' h x a None y b) (type_of a) at d _ q.2 refl
+          (assigned_pointer (plain (type_of a)) (operand s b) (same (plain (type_of a)) (plain (type_of b))) (is_lvalue b) q.1)
+          (write_value (type_of a) b (register_in p f a) (place_code p f at d a) at d (pa q.0 at d) eb (assign_fits a b q.1))
+
+  compound_is : (o : BinaryOp) (a : Typed) (w : Plain) (t q : Plain) → compound_type p.defs o (operand s a) w ≡ Some q
+      → (is_lvalue a ≡ true) × (plain (type_of a) ≡ q) × (is_integer w ≡ true) × ((is_integer (plain (type_of a)) ≡ true) ⊎ ((is_pointer (plain (type_of a)) ≡ true) × (is_move o ≡ true)))
+  compound_is o a w t q e =
+      let i = only_is ((is_lvalue a && is_integer w) && ((is_integer (plain (type_of a)) && is_compound o) || (is_movable p.defs (plain (type_of a)) && is_move o))) (plain (type_of a)) q e in
+      let j = and_parts (is_lvalue a && is_integer w) ((is_integer (plain (type_of a)) && is_compound o) || (is_movable p.defs (plain (type_of a)) && is_move o)) i.0 in
+      let k = and_parts (is_lvalue a) (is_integer w) j.0 in
+      (k.0, i.1, k.1, by (or_parts (is_integer (plain (type_of a)) && is_compound o) (is_movable p.defs (plain (type_of a)) && is_move o) j.1))
+    where
+      by : (is_integer (plain (type_of a)) && is_compound o ≡ true) ⊎ (is_movable p.defs (plain (type_of a)) && is_move o ≡ true) → (is_integer (plain (type_of a)) ≡ true) ⊎ ((is_pointer (plain (type_of a)) ≡ true) × (is_move o ≡ true))
+      by (inl g) = inl (and_parts (is_integer (plain (type_of a))) (is_compound o) g).0
+      by (inr g) = let m = and_parts (is_movable p.defs (plain (type_of a))) (is_move o) g in inr (movable_pointer p (plain (type_of a)) m.0, m.1)
+
+  -- such a type is no array
+  compound_pointer : (t : Plain) (o : BinaryOp) → (is_integer t ≡ true) ⊎ ((is_pointer t ≡ true) × (is_move o ≡ true)) → is_pointer (value_type t) ≡ true → is_pointer t ≡ true
+  compound_pointer t o (inl i) h = absurd (integer_no t i h)
+  compound_pointer t o (inr i) h = i.0
+
+  compound_assign : (h : Head) (x y : _) (a b : Typed) (o : BinaryOp) → IsTyped s (Assign' h x a (Some o) y b) → (is_lvalue a ≡ true → Spot a) → Expr b → Expr (Assign' h x a (Some o) y b)
+  compound_assign h x y a b o t pa eb at d =
+      let q = compound_is o a (value s b) (plain h.ctype) (plain h.ctype) t.2 in
+      let ca = unless_register (register_in p f a) (place_code p f at d a) in
+      let cb = expr_code p f (at + length ca) (suc d) b in
+      let cu = update_at p f d (register_in p f a) (type_of a) o (type_of b) true in
+      let F : Value → Type 0 = Fits 0 (type_of a) in
+      fits_runs (Assign' h x a (Some o) y b) (type_of a) at d (ca ++ (cb ++ cu)) q.1 refl (compound_pointer (plain (type_of a)) o q.3)
+      (seq c f r frames K at Any ca (cb ++ cu) (Below d) (Kept d F) (unless_runs at d (register_in p f a) (place_code p f at d a) (pa q.0 at d)) λ t0 pre.
+      seq c f r frames K (at + length ca) (Below d t0) cb cu (λ u w. Below d t0 w) (λ u w. Kept d F t0 w)
+      (post c f r frames K (at + length ca) (Below d t0) cb (Result b (suc d)) (λ u w. Below d t0 w) (λ u w g k. below_then d t0 u w g (below_less d (suc d) u w (omega arith) k.0)) (any (at + length ca) (Below d t0) cb (Result b (suc d)) (eb (at + length ca) (suc d)))) λ u g.
+      post c f r frames K (at + length ca + length cb) (Below d t0) cu (Kept d F) (λ w z. Kept d F t0 z) (λ w z g k. (below_then d t0 w z g k.0, k.1))
+      (update_runs d (type_of a) (at + length ca + length cb) (register_in p f a) (type_of b) o true (Below d t0) (q.2, q.3)))
+
+  step_runs : (e a : Typed) (o : BinaryOp) (new : Bool) → compound_type p.defs o (operand s a) Int ≡ Some (plain (type_of e)) → is_built e ≡ false → (is_lvalue a ≡ true → Spot a) → (at d : ℕ)
+      → RR at Any (unless_register (register_in p f a) (place_code p f at d a) ++ op.Const (suc d) 1 ∷ update_at p f d (register_in p f a) (type_of a) o ctype.Int new) (Result e d)
+  step_runs e a o new t b pa at d =
+      let q = compound_is o a Int (plain (type_of e)) (plain (type_of e)) t in
+      let ca = unless_register (register_in p f a) (place_code p f at d a) in
+      let cu = update_at p f d (register_in p f a) (type_of a) o ctype.Int new in
+      let one : SlotOp = op.Const (suc d) 1 in
+      let F : Value → Type 0 = Fits 0 (type_of a) in
+      fits_runs e (type_of a) at d (ca ++ one ∷ cu) q.1 b (compound_pointer (plain (type_of a)) o q.3)
+      (seq c f r frames K at Any ca (one ∷ cu) (Below d) (Kept d F) (unless_runs at d (register_in p f a) (place_code p f at d a) (pa q.0 at d)) λ t0 pre.
+      seq c f r frames K (at + length ca) (Below d t0) (one ∷ []) cu (λ u w. Below d t0 w) (λ u w. Kept d F t0 w)
+      (post c f r frames K (at + length ca) (Below d t0) (one ∷ []) (Sets (suc d) (λ z. z ≡ Number 1)) (λ u w. Below d t0 w) (λ u w g k. below_then d t0 u w g (below_less d (suc d) u w (omega arith) (sets_below (suc d) (λ z. z ≡ Number 1) u w k))) (triples.const_runs c f r frames K (at + length ca) (Below d t0) (suc d) 1)) λ u g.
+      post c f r frames K (at + length ca + length (one ∷ [])) (Below d t0) cu (Kept d F) (λ w z. Kept d F t0 z) (λ w z g k. (below_then d t0 w z g k.0, k.1))
+      (update_runs d (type_of a) (at + length ca + length (one ∷ [])) (register_in p f a) ctype.Int o new (Below d t0) (refl, q.3)))
+
+  -- ---- choices
+
+  abbrev Truths : ℕ → Temps → Value → Type 0
+  Truths d u z = (x : Value) × (u d ≡ Some x) × (z ≡ Number (bit_of (not (is_zero x))))
+
+  choose_runs : (h : Head) (x y z : _) (e a b : Typed) → IsTyped s (Choice' h x e y a z b) → Expr e → Expr a → Expr b → Expr (Choice' h x e y a z b)
+  choose_runs h x y z e a b t ge ga gb at d =
+      let cc = expr_code p f at d e in
+      let ca = expr_code p f (at + length cc + 1) d a ++ cast_code d h.ctype in
+      let cb = expr_code p f (at + length cc + 1 + length ca + 1) d b ++ cast_code d h.ctype in
+      seq c f r frames K at Any cc (choice_code (at + length cc) d ca cb) (Result e d) (Result (Choice' h x e y a z b) d) (ge at d) λ t0 pre.
+      triples.choice_runs c f r frames K (at + length cc) d (Result e d t0) ca cb (λ u w. Result (Choice' h x e y a z b) d t0 w)
+      (branch t0 false a (at + length cc + 1) d (ga (at + length cc + 1) d) (λ o i w. (branch_points s a b o None (value s e) (plain h.ctype) t.3 i).0 w) (λ k. (built_parts k).1) (λ z m. m))
+      (branch t0 true b (at + length cc + 1 + length ca + 1) d (gb (at + length cc + 1 + length ca + 1) d) (λ o i w. (branch_points s a b None o (value s e) (plain h.ctype) t.3 i).1 w) (λ k. (built_parts k).2) (λ z m. m))
+    where
+      built_parts : is_built e && is_built a && is_built b ≡ true → (is_built e ≡ true) × (is_built a ≡ true) × (is_built b ≡ true)
+      built_parts k = let q = and_parts (is_built e && is_built a) (is_built b) k in let i = and_parts (is_built e) (is_built a) q.0 in (i.0, i.1, q.1)
+
+      plain_value : value_type (plain h.ctype) ≡ plain h.ctype
+      plain_value = choice_value s a b None None (value s e) (plain h.ctype) t.3
+
+      word : is_built e && is_built a && is_built b ≡ true → access_of h.ctype ≡ access.Word
+      word k =
+          let q = built_parts k in
+          let i = built_integer s a t.1 q.1 in
+          let j = built_integer s b t.2 q.2 in
+          let g = choice_common s a b None None (value s e) (plain h.ctype) (subst (λ m. is_integer m ≡ true) (sym (integer_same (plain (type_of a)) i)) i) (subst (λ m. is_integer m ≡ true) (sym (integer_same (plain (type_of b)) j)) j) t.3 in
+          wide_access h.ctype (subst (λ m. is_wide m ≡ true) g (common_wide (value s a) (value s b)))
+
+      same_word : (acc : Access) (y z : Value) → acc ≡ access.Word → extended acc y ≡ Ok z → z ≡ y
+      same_word acc y z g i = let m : extended access.Word y ≡ Ok z = subst (λ k. extended k y ≡ Ok z) g i in cc
+
+      branch : (t0 : Temps) (zero_side : Bool) (q : Typed) (at d : ℕ) → RR at Any (expr_code p f at d q) (Result q d) → ((o : Option Value) → is_pointer (plain h.ctype) ≡ true → Held (Claim s q) o → Held (λ v. points v ≡ true) o)
+          → (is_built e && is_built a && is_built b ≡ true → is_built q ≡ true)
+          → ((z : Value) → Is z (evaluated p.defs q) → Is z (if zero_side then evaluated p.defs b else evaluated p.defs a))
+          → RR at (λ u. Result e d t0 u × Zero c f r frames K d zero_side u) (expr_code p f at d q ++ cast_code d h.ctype) (λ u w. Result (Choice' h x e y a z b) d t0 w)
+      branch t0 side q at d gq points_there built_q is_q =
+          let cq = expr_code p f at d q in
+          let P : Temps → Type 0 = λ u. Result e d t0 u × Zero c f r frames K d side u in
+          seq c f r frames K at P cq (cast_code d h.ctype) (Result q d) (λ u w. Result (Choice' h x e y a z b) d t0 w) (any at P cq (Result q d) gq) λ u pre.
+          post c f r frames K (at + length cq) (Result q d u) (cast_code d h.ctype) (Casts d (access_of h.ctype)) (λ w g. Result (Choice' h x e y a z b) d t0 g)
+          (λ w g qw k. (
+            below_then d t0 w g (below_then d t0 u w pre.0.0 qw.0) k.0,
+            λ m j. let n = k.2 m j in (
+              λ i. serves_type h.ctype m (extended_serves (access_of h.ctype) n.0 m n.2) (subst (λ o. is_pointer o ≡ true) plain_value i),
+              λ i. subst (λ o. Is o (evaluated p.defs (Choice' h x e y a z b))) (sym (same_word (access_of h.ctype) n.0 m (word i) n.2))
+                  (chosen_is pre.1.0 n.0 side (evaluated p.defs e) (evaluated p.defs a) (evaluated p.defs b) ((pre.0.1 pre.1.0 pre.1.1).1 (built_parts i).0) pre.1.2 (is_q n.0 ((qw.1 n.0 n.1).1 (built_q i)))),
+            ),
+          ))
+          (triples.cast_runs c f r frames K (at + length cq) (Result q d u) d h.ctype (λ w qw o j i. points_there (w d) i qw.1 o j))
+
+  -- what was tested is a number, where it is constant
+  and_runs : (h : Head) (x y : _) (a b : Typed) → IsTyped s (And' h x a y b) → Expr a → Expr b → Expr (And' h x a y b)
+  and_runs h x y a b t ga gb at d =
+      let ca = expr_code p f at d a in
+      let cb = expr_code p f (at + length ca + 1) d b in
+      seq c f r frames K at Any ca (and_code (at + length ca) d cb) (Result a d) (Result (And' h x a y b) d) (ga at d) λ t0 pre.
+      triples.and_runs c f r frames K (at + length ca) d (Result a d t0) cb (Result b d) (λ u w. Result (And' h x a y b) d t0 w)
+      (any (at + length ca + 1) (λ u. Result a d t0 u × Zero c f r frames K d false u) cb (Result b d) (gb (at + length ca + 1) d))
+      (λ u w g q k m. (
+        below_then d t0 w g (below_then d t0 u w q.0.0 k.0) (sets_below d (Truths d w) w g m),
+        λ i j. let n = sets_held d (Truths d w) w g m i j in (
+          λ o. absurd (integer_no (plain h.ctype) int o),
+          λ o. let l = and_parts (is_built a) (is_built b) o in
+              chosen_is q.1.0 i false (evaluated p.defs a) (truth_of (evaluated p.defs b)) (Some 0) ((q.0.1 q.1.0 q.1.1).1 l.0) q.1.2 (is_true_of n.0 i (evaluated p.defs b) ((k.1 n.0 n.1).1 l.1) n.2),
+        ),
+      ))
+      (λ u w q m. (
+        below_then d t0 u w q.0.0 (sets_below d (λ z. z ≡ Number 0) u w m),
+        λ i j. let n = sets_held d (λ z. z ≡ Number 0) u w m i j in (
+          λ o. absurd (integer_no (plain h.ctype) int o),
+          λ o. chosen_is q.1.0 i true (evaluated p.defs a) (truth_of (evaluated p.defs b)) (Some 0) ((q.0.1 q.1.0 q.1.1).1 (and_parts (is_built a) (is_built b) o).0) q.1.2 (number_is i 0 n (omega arith)),
+        ),
+      ))
+    where
+      int : is_integer (plain h.ctype) ≡ true
+      int = subst (λ m. is_integer m ≡ true) (only_is (is_scalar (value s a) && is_scalar (value s b)) Int (plain h.ctype) t.2).1 refl
+
+  or_runs : (h : Head) (x y : _) (a b : Typed) → IsTyped s (Or' h x a y b) → Expr a → Expr b → Expr (Or' h x a y b)
+  or_runs h x y a b t ga gb at d =
+      let ca = expr_code p f at d a in
+      let cb = expr_code p f (at + length ca + 1) d b in
+      seq c f r frames K at Any ca (or_code (at + length ca) d cb) (Result a d) (Result (Or' h x a y b) d) (ga at d) λ t0 pre.
+      triples.or_runs c f r frames K (at + length ca) d (Result a d t0) cb (Result b d) (λ u w. Result (Or' h x a y b) d t0 w)
+      (any (at + length ca + 1) (λ u. Result a d t0 u × Zero c f r frames K d true u) cb (Result b d) (gb (at + length ca + 1) d))
+      (λ u w g q k m. (
+        below_then d t0 w g (below_then d t0 u w q.0.0 k.0) (sets_below d (Truths d w) w g m),
+        λ i j. let n = sets_held d (Truths d w) w g m i j in (
+          λ o. absurd (integer_no (plain h.ctype) int o),
+          λ o. let l = and_parts (is_built a) (is_built b) o in
+              chosen_is q.1.0 i true (evaluated p.defs a) (Some 1) (truth_of (evaluated p.defs b)) ((q.0.1 q.1.0 q.1.1).1 l.0) q.1.2 (is_true_of n.0 i (evaluated p.defs b) ((k.1 n.0 n.1).1 l.1) n.2),
+        ),
+      ))
+      (λ u w q m. (
+        below_then d t0 u w q.0.0 (sets_below d (λ z. z ≡ Number 1) u w m),
+        λ i j. let n = sets_held d (λ z. z ≡ Number 1) u w m i j in (
+          λ o. absurd (integer_no (plain h.ctype) int o),
+          λ o. chosen_is q.1.0 i false (evaluated p.defs a) (Some 1) (truth_of (evaluated p.defs b)) ((q.0.1 q.1.0 q.1.1).1 (and_parts (is_built a) (is_built b) o).0) q.1.2 (number_is i 1 n (omega arith)),
+        ),
+      ))
+    where
+      int : is_integer (plain h.ctype) ≡ true
+      int = subst (λ m. is_integer m ≡ true) (only_is (is_scalar (value s a) && is_scalar (value s b)) Int (plain h.ctype) t.2).1 refl
+
+  -- ---- expressions of one operand
+
+  abbrev Applied : UnaryOp → Typed → ℕ → Temps → Value → Type 0
+  Applied o a d u z = (w : World) × (y : Value) × (u d ≡ Some y) × (unary w (unary_op o (type_of a)) y ≡ Ok z)
+
+  unary_value : (h : Head) (o : _) (x : _) (a : Typed) → IsTyped s (Unary' h o x a) → Expr a → Expr (Unary' h o x a)
+  unary_value h o x a t ga at d =
+      let ca = expr_code p f at d a in
+      let last : SlotOp = op.Unary d (unary_op o (type_of a)) in
+      seq c f r frames K at Any ca (last ∷ []) (Result a d) (Result (Unary' h o x a) d) (ga at d) λ t0 pre.
+      post c f r frames K (at + length ca) (Result a d t0) (last ∷ []) (λ u w. Sets d (Applied o a d u) u w) (λ u w. Result (Unary' h o x a) d t0 w)
+      (λ u w q m. (
+        below_then d t0 u w q.0 (sets_below d (Applied o a d u) u w m),
+        λ i j. let n = sets_held d (Applied o a d u) u w m i j in (
+          λ k. absurd (integer_no (plain h.ctype) (integer_unary s o (value s a) (plain h.ctype) t.1) k),
+          λ k. unary_is n.0 o (type_of a) n.1 i (evaluated p.defs a) ((q.1 n.1 n.2).1 k) n.3,
+        ),
+      )) (triples.unary_runs c f r frames K (at + length ca) (Result a d t0) d (unary_op o (type_of a)))
+
+  cast_value : (h : Head) (x : _) (a : Typed) → IsTyped s (Cast' h x a) → Expr a → Expr (Cast' h x a)
+  cast_value h x a t ga at d =
+      let ca = expr_code p f at d a in
+      seq c f r frames K at Any ca (cast_code d h.ctype) (Result a d) (Result (Cast' h x a) d) (ga at d) λ t0 pre.
+      post c f r frames K (at + length ca) (Result a d t0) (cast_code d h.ctype) (Casts d (access_of h.ctype)) (λ u w. Result (Cast' h x a) d t0 w)
+      (λ u w q m. (
+        below_then d t0 u w q.0 m.0,
+        λ i j. let n = m.2 i j in (
+          λ k. absurd (integer_no (plain h.ctype) int k),
+          λ k. cast_is h.ctype n.0 i (evaluated p.defs a) ((q.1 n.0 n.1).1 k) n.2 (λ m lt. integer_extended h.ctype int m),
+        ),
+      )) (triples.cast_runs c f r frames K (at + length ca) (Result a d t0) d h.ctype (λ u q i j k. absurd (no_both (plain h.ctype) int k)))
+    where
+      int : is_integer (plain h.ctype) ≡ true
+      int = (and_parts (is_integer (plain h.ctype)) (is_integer (value s a)) (only_is (is_integer (plain h.ctype) && is_integer (value s a)) (plain h.ctype) (plain h.ctype) t.1).0).0
+
+  -- a constant
+  constant_value : (e : Typed) (n : ℕ) → is_integer (plain (type_of e)) ≡ true → n < 2 ^ 32 → evaluated p.defs e ≡ Some n → (at d : ℕ) → RR at Any (op.Const d n ∷ []) (Result e d)
+  constant_value e n i lt g at d =
+      post c f r frames K at Any (op.Const d n ∷ []) (Sets d (λ z. z ≡ Number n)) (Result e d)
+      (λ u w pre m. (
+        sets_below d (λ z. z ≡ Number n) u w m,
+        λ y j. (λ k. absurd (integer_no (plain (type_of e)) i k), λ k. subst (Is y) (sym g) (number_is y n (sets_held d (λ z. z ≡ Number n) u w m y j) lt)),
+      )) (triples.const_runs c f r frames K at Any d n)
+
+  size_small : (t : CType) → Formed p.defs (plain t) → size_of p.defs t < 2 ^ 32
+  size_small t h = omega (arith, size_plain p.defs t, formed_size p.defs (plain t) h)
+
+  unsigned_is : (b : Bool) (t : Plain) → only b Unsigned ≡ Some t → is_integer t ≡ true
+  unsigned_is b t e = subst (λ m. is_integer m ≡ true) (only_is b Unsigned t e).1 refl
+
+-- ---- calls
+
+-- the arguments, of which the last comes first, serve the parameters
+abbrev Serve : SlotCode → (function : ℕ) → ℕ → List Value → Type 0
+Serve c g n [] = Unit {0}
+Serve c g zero (x ∷ vs) = ⊥
+Serve c g (suc n) (x ∷ vs) = (serves_in (local_row c g n) x ≡ true) × Serve c g n vs
+
+served : (c : SlotCode) (g n : ℕ) (vs acc : List Value) → length vs ≡ n → Serve c g n vs → serve_from c g n acc ≡ true → serve_from c g 0 (reverse_aux vs acc) ≡ true
+served c g zero [] acc e h k = k
+served c g zero (x ∷ vs) acc e h k = absurd h
+served c g (suc n) [] acc e h k = absurd (omega (arith, e))
+served c g (suc n) (x ∷ vs) acc e h k = served c g n vs (x ∷ acc) (omega (arith, e)) h.1 (ap (λ b. b && serve_from c g (suc n) acc) h.0 ∙ k)
+
+module _ (c : SlotCode) (g d : ℕ) (t : Temps) where
+  abbrev Arguments : ℕ → Type 0
+  Arguments n = (i : ℕ) → i < n → Held (λ z. serves_in (local_row c g i) z ≡ true) (t (d + i))
+
+  joined_parts : (o : Option Value) (q : Option (List Value)) (vs : List Value) → slots.joined o q ≡ Some vs → (x : Value) × (o ≡ Some x) × (xs : List Value) × (q ≡ Some xs) × (x ∷ xs ≡ vs)
+  joined_parts None q vs e = no_none vs e
+  joined_parts (Some x) None vs e = no_none vs e
+  joined_parts (Some x) (Some xs) vs e = (x, refl, xs, refl, some_same (x ∷ xs) vs e)
+
+  last_serve : (n : ℕ) (vs : List Value) → last_temps t d n ≡ Some vs → Arguments n → (length vs ≡ n) × Serve c g n vs
+  last_serve zero vs e h = let s = some_same [] vs e in (ap (λ (l : List Value). length l) (sym s), subst (Serve c g 0) s tt)
+  last_serve (suc n) vs e h =
+      let q = joined_parts (t (d + n)) (last_temps t d n) vs e in
+      let rest = last_serve n q.2 q.3 (λ i lt. h i (omega (arith, lt))) in
+      (subst (λ (l : List Value). length l ≡ suc n) q.4 (ap suc rest.0), subst (Serve c g (suc n)) q.4 (h n (omega arith) q.0 q.1, rest.1))
+
+  arguments_serve : (n : ℕ) → Arguments n → serve c g (last_temps t d n) ≡ true
+  arguments_serve n h = by (last_temps t d n) refl
+    where
+      by : (o : Option (List Value)) → last_temps t d n ≡ o → serve c g o ≡ true
+      by None e = refl
+      by (Some vs) e = let q = last_serve n vs e h in served c g n vs [] q.0 q.1 refl
+
+module _ (p : Program) (accepted : IsAccepted p) (c : SlotCode) (is : IsProgramCode p c) (f : ℕ) (v : List ℕ) (r : ℕ) (frames : List Frame) (K : ℕ) (enters : Enters p c K) where
+  abbrev S : Scope
+  S = scope_at p f v
+
+  abbrev T : ℕ → (Temps → Type 0) → List SlotOp → (Temps → Temps → Type 0) → Type 0
+  T at P l Q = Runs c f r frames K at P l Q
+
+  abbrev pub ExprRuns : Typed → Type 0
+  ExprRuns e = Expr p accepted c f v r frames K e
+
+  abbrev pub SpotRuns : Typed → Type 0
+  SpotRuns e = Spot p accepted c f v r frames K e
+
+  call_runs : (at d g n : ℕ) (fn : Function) → slice_get p.functions g ≡ Some fn → (P : Temps → Type 0) → ((t : Temps) → P t → Arguments c g d t n) → T at P (op.Call d g n ∷ []) (Sets d (Gives fn))
+  call_runs at d g n fn there P w k le has h i temps pre go =
+      at_op c f r frames k h i temps at (op.Call d g n) has.0 (arguments_serve c g d temps n (w temps pre)) λ j lt.
+      temps_after c (Safe c j) (last_temps temps d n) _ λ vs s.
+      ok_after c (Safe c j) (entered c (suc h.activation.number) g (reverse vs) h.world) _ λ h' e.
+      let begun : Here = record { world = h.world; activation = new_activation (suc h.activation.number) g } in
+      let same : IsAs begun.activation h' = subst (GivesAs begun.activation) e (given_as c g 0 (reverse vs) begun) in
+      enters j (omega (arith, lt, le)) g fn there d (record { activation = h.activation; temps = temps; pc = at + 1; result_at = r } ∷ frames)
+      (λ m lm w z gives. go m (omega (arith, lm, lt)) (record { world = w; activation = h.activation }) i (with_temp temps d z) (z, gives, refl)) h' same.1 no_temps
+
+  abbrev HeldRow : {m : _} → Row_of-Typed m → ℕ → Temps → Type 0
+  HeldRow end_of-Typed d u = Unit {0}
+  HeldRow (more_of-Typed e rest) d u = Held (Claim S e) (u d) × HeldRow rest (suc d) u
+
+  argued : (ls : List ALocal) (rs : List (Option ℕ)) (n : ℕ) {m : _} (row : Row_of-Typed m) (d : ℕ) (u : Temps) → takes_all (take n (map local_type ls)) (operands S row) ≡ true → HeldRow row d u
+      → (i : ℕ) → i < length (exprs row) → Held (λ z. serves_in (slice_get (local_rows p.defs ls rs) i) z ≡ true) (u (d + i))
+  argued ls rs n end_of-Typed d u h k i lt = absurd (omega (arith, lt))
+  argued ls rs zero (more_of-Typed e rest) d u h k i lt = absurd (true≢false (sym h))
+  argued [] rs (suc n) (more_of-Typed e rest) d u h k i lt = absurd (true≢false (sym h))
+  argued (l ∷ ls) rs (suc n) (more_of-Typed e rest) d u h k zero lt =
+      let a = and_parts (converts (plain l.ctype) (operand S e)) (takes_all (take n (map local_type ls)) (operands S rest)) h in
+      let z : d + 0 ≡ d = omega arith in
+      λ y g. cast_serves l.ctype y (converted_points S (plain l.ctype) e y a.0 (k.0 y (ap u (sym z) ∙ g)))
+  argued (l ∷ ls) rs (suc n) (more_of-Typed e rest) d u h k (suc i) lt =
+      let a = and_parts (converts (plain l.ctype) (operand S e)) (takes_all (take n (map local_type ls)) (operands S rest)) h in
+      let z : suc d + i ≡ d + suc i = omega arith in
+      subst (λ j. Held (λ y. serves_in (slice_get (local_rows p.defs ls (drop 1 rs)) i) y ≡ true) (u j)) z (argued ls (drop 1 rs) n rest (suc d) u a.1 k.1 i (omega (arith, lt)))
+
+  row_at : (g i : ℕ) (fn : Function) → slice_get p.functions g ≡ Some fn → local_row c g i ≡ slice_get (local_rows p.defs fn.locals (registers_from fn.locals 0)) i
+  row_at g i fn e =
+      let q = function_row_at p g fn c.functions e is.functions in
+      ap (λ o. slice_get (slot_locals o) i) q.1 ∙ ap (λ ls. slice_get ls i) q.2.locals
+
+  -- ---- what is called
+
+  no_local : (t u : Plain) (args : List Operand) (b : Bool) (o : Option ALocal) → result_type (if b then local_in t o else Hidden) args ≡ Some u → ⊥
+  no_local t u args true (Some l) e = by (same t (plain l.ctype)) e
+    where
+      by : (b : Bool) → result_type (if b then AnObject t l.register else Hidden) args ≡ Some u → ⊥
+      by true e = no_none u e
+      by false e = no_none u e
+  no_local t u args true None e = no_none u e
+  no_local t u args false o e = no_none u e
+
+  result_is : (b : Bool) (t q : Plain) → (if b then Some t else None) ≡ Some q → (b ≡ true) × (t ≡ q)
+  result_is true t q e = (refl, some_same t q e)
+  result_is false t q e = no_none q e
+
+  built_no : (name : List ℕ) (args : List Operand) (t : Plain) → result_type (built_in name) args ≡ Some t → is_pointer (value_type t) ≡ true → ⊥
+  built_no name args t e k = first (bytes_eq name (codes "getchar")) e
+    where
+      gives : (a : Plain) (ts : List Plain) → (is_pointer (value_type a) ≡ true → ⊥) → result_type (AFunction a ts) args ≡ Some t → ⊥
+      gives a ts never e = never (subst (λ z. is_pointer (value_type z) ≡ true) (sym (result_is (takes_all ts args) a t e).1) k)
+
+      third : (b : Bool) → result_type (if b then AFunction Void (Int ∷ []) else Hidden) args ≡ Some t → ⊥
+      third true e = gives Void (Int ∷ []) (λ z. true≢false (sym z)) e
+      third false e = no_none t e
+
+      second : (b : Bool) → result_type (if b then AFunction Int (Int ∷ []) else (if bytes_eq name (codes "exit") then AFunction Void (Int ∷ []) else Hidden)) args ≡ Some t → ⊥
+      second true e = gives Int (Int ∷ []) (λ z. true≢false (sym z)) e
+      second false e = third (bytes_eq name (codes "exit")) e
+
+      first : (b : Bool) → result_type (if b then AFunction Int [] else (if bytes_eq name (codes "putchar") then AFunction Int (Int ∷ []) else (if bytes_eq name (codes "exit") then AFunction Void (Int ∷ []) else Hidden))) args ≡ Some t → ⊥
+      first true e = gives Int [] (λ z. true≢false (sym z)) e
+      first false e = second (bytes_eq name (codes "putchar")) e
+
+  module _ (h : Head) (g : ℕ) (x : _) {m : _} (row : Row_of-Typed m) (d : ℕ) where
+    abbrev E : Typed
+    E = Call' h g x row
+
+    abbrev Before : Temps → Temps → Type 0
+    Before t u = Below d t u × HeldRow row d u
+
+    claimed : (C : Value → Type 0) (t u w : Temps) → ((z : Value) → C z → is_pointer (value_type (plain h.ctype)) ≡ true → points z ≡ true) → Below d t u → Sets d C u w → Result p accepted c f v r frames K E d t w
+    claimed C t u w k b q = (below_then d t u w b (sets_below d C u w q), λ z e. (k z (sets_held d C u w q z e), λ i. absurd (true≢false (sym i))))
+
+    function_runs : (at gi : ℕ) (o : Option Function) (t : Temps) → slice_get p.functions gi ≡ o → result_type (function_in o) (operands S row) ≡ Some (plain h.ctype) → T at (Before t) (op.Call d gi (length (exprs row)) ∷ []) (λ u w. Result p accepted c f v r frames K E d t w)
+    function_runs at gi None t e k = no_none (plain h.ctype) k
+    function_runs at gi (Some fn) t e k =
+        let q = result_is (takes_all (parameters fn) (operands S row)) (plain fn.result) (plain h.ctype) k in
+        let result : value_type (plain h.ctype) ≡ plain fn.result = ap value_type (sym q.1) ∙ is_value fn (function_there p accepted gi fn e).result in
+        post c f r frames K at (Before t) (op.Call d gi (length (exprs row)) ∷ []) (Sets d (Gives fn)) (λ u w. Result p accepted c f v r frames K E d t w)
+        (λ u w b y. claimed (Gives fn) t u w (λ z gives i. gives (subst (λ a. is_pointer a ≡ true) result i)) b.0 y)
+        (call_runs at d gi (length (exprs row)) fn e (Before t)
+        (λ u b i lt. subst (λ o. Held (λ z. serves_in o z ≡ true) (u (d + i))) (sym (row_at gi i fn e)) (argued fn.locals (registers_from fn.locals 0) fn.params row d u q.0 b.1 i lt)))
+      where
+        scalar_value : (t : Plain) → is_void t || is_scalar t ≡ true → value_type t ≡ t
+        scalar_value (Array t n) h = absurd (true≢false (sym h))
+        scalar_value Char h = refl
+        scalar_value Int h = refl
+        scalar_value Unsigned h = refl
+        scalar_value Void h = refl
+        scalar_value (Pointer t) h = refl
+        scalar_value (Struct n) h = refl
+
+        is_value : (fn : Function) → is_result (plain fn.result) ≡ true → value_type (plain fn.result) ≡ plain fn.result
+        is_value fn i = scalar_value (plain fn.result) i
+
+    built_runs : (at n : ℕ) (name : List ℕ) (t : Temps) → result_type (built_in name) (operands S row) ≡ Some (plain h.ctype) → T at (Before t) (built_in_code d name n) (λ u w. Result p accepted c f v r frames K E d t w)
+    built_runs at n name t e = by n
+      where
+        free : (u w : Temps) → Before t u → Sets d (λ z. Unit {0}) u w → Result p accepted c f v r frames K E d t w
+        free u w b y = claimed (λ z. Unit {0}) t u w (λ z q i. absurd (built_no name (operands S row) (plain h.ctype) e i)) b.0 y
+
+        get : (b : Bool) → T at (Before t) (if b then op.GetChar d ∷ [] else []) (λ u w. Result p accepted c f v r frames K E d t w)
+        get true = post c f r frames K at (Before t) (op.GetChar d ∷ []) (Sets d (λ z. Unit {0})) (λ u w. Result p accepted c f v r frames K E d t w) free (triples.get_runs c f r frames K at (Before t) d)
+        get false = nothing c f r frames K at (Before t) (λ u w. Result p accepted c f v r frames K E d t w) (λ u b. (b.0, λ z q. (λ i. absurd (built_no name (operands S row) (plain h.ctype) e i), λ i. absurd (true≢false (sym i)))))
+
+        put : (b : Bool) → T at (Before t) (if b then op.PutChar d ∷ [] else op.Exit d ∷ []) (λ u w. Result p accepted c f v r frames K E d t w)
+        put true = post c f r frames K at (Before t) (op.PutChar d ∷ []) (Sets d (λ z. Unit {0})) (λ u w. Result p accepted c f v r frames K E d t w) free (triples.put_runs c f r frames K at (Before t) d)
+        put false = triples.exit_runs c f r frames K at (Before t) d (λ u w. Result p accepted c f v r frames K E d t w)
+
+        by : (n : ℕ) → T at (Before t) (built_in_code d name n) (λ u w. Result p accepted c f v r frames K E d t w)
+        by zero = get (bytes_eq name (codes "getchar"))
+        by (suc n) = put (bytes_eq name (codes "putchar"))
+
+    referred_runs : (at : ℕ) (t : Temps) (sr : SymbolRow) (o : Referent) → result_type (denoted_by p f v (plain sr.ctype) sr.name o) (operands S row) ≡ Some (plain h.ctype)
+        → T at (Before t) (call_code d o sr.name (length (exprs row))) (λ u w. Result p accepted c f v r frames K E d t w)
+    referred_runs at t sr (Object o) e = no_none (plain h.ctype) e
+    referred_runs at t sr (Local y) e = absurd (no_local (plain sr.ctype) (plain h.ctype) (operands S row) (has v y) (slice_get (locals_in (slice_get p.functions f)) y) e)
+    referred_runs at t sr (Defined gi) e = function_runs at gi (slice_get p.functions gi) t refl e
+    referred_runs at t sr Declared e = built_runs at (length (exprs row)) sr.name t e
+
+    enter_runs : (at : ℕ) (t : Temps) → call_type S g (operands S row) ≡ Some (plain h.ctype) → T at (Before t) (enter_code d (slice_get p.symbols g) (length (exprs row))) (λ u w. Result p accepted c f v r frames K E d t w)
+    enter_runs at t e =
+        let q = callee_there p accepted f v g (operands S row) (plain h.ctype) e in
+        subst (λ o. T at (Before t) (enter_code d o (length (exprs row))) (λ u w. Result p accepted c f v r frames K E d t w)) (sym q.1) (referred_runs at t q.0 q.0.refers q.2)
+
+  -- ---- all expressions
+
+  dot_lvalue : (b : Bool) (t : Plain) (m : ℕ) (q : Plain) → (if b then member_type p.defs t m else None) ≡ Some q → b ≡ true
+  dot_lvalue true t m q e = refl
+  dot_lvalue false t m q e = no_none q e
+
+  follow_runs : (h : Head) (x : _) (a : Typed) → IsTyped S (Follow' h x a) → ExprRuns a → (at d : ℕ) → T at Any (expr_code p f at d a) (Place p accepted c f v r frames K d)
+  follow_runs h x a t go at d =
+      post c f r frames K at Any (expr_code p f at d a) (Result p accepted c f v r frames K a d) (Place p accepted c f v r frames K d) (λ u w pre m. (m.0, λ z g. (m.1 z g).0 (followed_pointer p (value S a) (plain h.ctype) t.1))) (go at d)
+
+  index_runs : (h : Head) (x y : _) (a b : Typed) → IsTyped S (Index' h x a y b) → ExprRuns a → ExprRuns b → (at d : ℕ)
+      → T at Any (expr_code p f at d a ++ (expr_code p f (at + length (expr_code p f at d a)) (suc d) b ++ combine_op p d d (suc d) Add (type_of a) (type_of b) ∷ [])) (Place p accepted c f v r frames K d)
+  index_runs h x y a b t ga gb at d =
+      let q = then_some (followed p.defs) (sum_type p.defs (value S a) (value S b)) (plain h.ctype) t.2 in
+      post c f r frames K at Any (expr_code p f at d a ++ (expr_code p f (at + length (expr_code p f at d a)) (suc d) b ++ combine_op p d d (suc d) Add (type_of a) (type_of b) ∷ [])) (Kept p accepted c f v r frames K d (Combined p accepted c f v r frames K a b Add q.0)) (Place p accepted c f v r frames K d)
+      (λ u w pre m. (m.0, λ z g. (m.1 z g).0 (followed_pointer p q.0 (plain h.ctype) q.2)))
+      (both_runs p accepted c f v r frames K a b Add q.0 t.0 t.1 q.1 ga gb at d)
+
+  dot_runs : (h : Head) (x : _) (a : Typed) (n : ℕ) → IsTyped S (Dot' h x a n) → (is_lvalue a ≡ true → SpotRuns a) → (at d : ℕ) → T at Any (place_code p f at d a ++ op.Offset d (dot_offset p a n) ∷ []) (Place p accepted c f v r frames K d)
+  dot_runs h x a n t go at d =
+      offset_runs p accepted c f v r frames K at d (dot_offset p a n) (place_code p f at d a)
+      (place_any p accepted c f v r frames K at d (place_code p f at d a) (go (dot_lvalue (is_lvalue a) (plain (type_of a)) n (plain h.ctype) t.1) at d))
+
+  arrow_runs : (a : Typed) (n : ℕ) → ExprRuns a → (at d : ℕ) → T at Any (expr_code p f at d a ++ op.Offset d (arrow_offset p a n) ∷ []) (Place p accepted c f v r frames K d)
+  arrow_runs a n go at d = offset_runs p accepted c f v r frames K at d (arrow_offset p a n) (expr_code p f at d a) (result_any p accepted c f v r frames K a at d (expr_code p f at d a) (go at d))
+
+  text_runs : (at d n : ℕ) → T at Any (op.TextAddress d n ∷ []) (Place p accepted c f v r frames K d)
+  text_runs at d n = set_place p accepted c f v r frames K at d (op.TextAddress d n) (triples.text_runs c f r frames K at Any d n)
+
+  binary_runs : (h : Head) (x y : _) (a b : Typed) (o : BinaryOp) → IsTyped S (Binary' h x a o y b) → ExprRuns a → ExprRuns b → ExprRuns (Binary' h x a o y b)
+  binary_runs h x y a b o t ga gb at d =
+      post c f r frames K at Any (expr_code p f at d a ++ (expr_code p f (at + length (expr_code p f at d a)) (suc d) b ++ combine_op p d d (suc d) o (type_of a) (type_of b) ∷ [])) (Kept p accepted c f v r frames K d (Combined p accepted c f v r frames K a b o (plain h.ctype))) (Result p accepted c f v r frames K (Binary' h x a o y b) d)
+      (λ u w pre m. (m.0, λ z g. let q = m.1 z g in (λ k. q.0 (subst (λ i. is_pointer i ≡ true) (binary_value p.defs o S a b (plain h.ctype) t.2) k), λ k. let i = and_parts (is_built a) (is_built b) k in q.1 i.0 i.1)))
+      (both_runs p accepted c f v r frames K a b o (plain h.ctype) t.0 t.1 t.2 ga gb at d)
+
+  mutual
+    pub expr_runs : (e : Typed) → IsTyped S e → ExprRuns e
+    expr_runs (Comma' h x a y b) t at d =
+        let ca = expr_code p f at d a in
+        let cb = expr_code p f (at + length ca) d b in
+        let q = only_is (may_drop (operand S a) && is_scalar (value S b)) (value S b) (plain h.ctype) t.2 in
+        let same_value : value_type (plain h.ctype) ≡ value S b = ap value_type (sym q.1) ∙ value_twice (plain (type_of b)) in
+        seq c f r frames K at Any ca cb (Below d) (Result p accepted c f v r frames K (Comma' h x a y b) d) (result_any p accepted c f v r frames K a at d ca (expr_runs a t.0 at d)) λ t0 pre.
+        post c f r frames K (at + length ca) (Below d t0) cb (Result p accepted c f v r frames K b d) (λ u w. Result p accepted c f v r frames K (Comma' h x a y b) d t0 w)
+        (λ u w q m. (below_then d t0 u w q m.0, λ z g. (λ k. (m.1 z g).0 (subst (λ i. is_pointer i ≡ true) same_value k), λ k. absurd (true≢false (sym k)))))
+        (any p accepted c f v r frames K (at + length ca) (Below d t0) cb (Result p accepted c f v r frames K b d) (expr_runs b t.1 (at + length ca) d))
+    expr_runs (Assign' h x a None y b) t at d = assign_runs p accepted c f v r frames K h x y a b t (λ i m n. spot_runs a t.0 i m n) (λ i m n. spot_runs b t.1 i m n) (λ m n. expr_runs b t.1 m n) at d
+    expr_runs (Assign' h x a (Some o) y b) t at d = compound_assign p accepted c f v r frames K h x y a b o t (λ i m n. spot_runs a t.0 i m n) (λ m n. expr_runs b t.1 m n) at d
+    expr_runs (Choice' h x e y a z b) t at d = choose_runs p accepted c f v r frames K h x y z e a b t (λ m n. expr_runs e t.0 m n) (λ m n. expr_runs a t.1 m n) (λ m n. expr_runs b t.2 m n) at d
+    expr_runs (Or' h x a y b) t at d = or_runs p accepted c f v r frames K h x y a b t (λ m n. expr_runs a t.0 m n) (λ m n. expr_runs b t.1 m n) at d
+    expr_runs (And' h x a y b) t at d = and_runs p accepted c f v r frames K h x y a b t (λ m n. expr_runs a t.0 m n) (λ m n. expr_runs b t.1 m n) at d
+    expr_runs (Binary' h x a o y b) t at d = binary_runs h x y a b o t (λ m n. expr_runs a t.0 m n) (λ m n. expr_runs b t.1 m n) at d
+    expr_runs (Cast' h x a) t at d = cast_value p accepted c f v r frames K h x a t (λ m n. expr_runs a t.0 m n) at d
+    expr_runs (Before' h o x a) t at d = step_runs p accepted c f v r frames K (Before' h o x a) a (stepped o) true t.1 refl (λ i m n. spot_runs a t.0 i m n) at d
+    expr_runs (Address' h x a) t at d =
+        let q = only_is (is_lvalue a && not (is_register S a) && not (is_string a)) (Pointer (plain (type_of a))) (plain h.ctype) t.1 in
+        let i = and_parts (is_lvalue a) (not (is_register S a)) (and_parts (is_lvalue a && not (is_register S a)) (not (is_string a)) q.0).0 in
+        post c f r frames K at Any (place_code p f at d a) (Place p accepted c f v r frames K d) (Result p accepted c f v r frames K (Address' h x a) d) (λ u w pre m. (m.0, λ z g. (λ k. m.1 z g, λ k. absurd (true≢false (sym k))))) (spot_runs a t.0 i.0 at d)
+    expr_runs (Unary' h o x a) t at d = unary_value p accepted c f v r frames K h o x a t (λ m n. expr_runs a t.0 m n) at d
+    expr_runs (SizeOf' h x a) t at d = constant_value p accepted c f v r frames K (SizeOf' h x a) (size_of p.defs (type_of a)) (unsigned_is p accepted c f v r frames K _ (plain h.ctype) t.1) (size_small p accepted c f v r frames K (type_of a) (type_formed p accepted f v a t.0)) refl at d
+    expr_runs (SizeOfType h u) t at d = constant_value p accepted c f v r frames K (SizeOfType h u) (size_of p.defs u) (unsigned_is p accepted c f v r frames K _ (plain h.ctype) t.1) (size_small p accepted c f v r frames K u (formed p.defs u t.0.1)) refl at d
+    expr_runs (Call' h g x row) t at d =
+        let cr = row_code p f at d row in
+        seq c f r frames K at Any cr (enter_code d (slice_get p.symbols g) (length (exprs row))) (Before h g x row d) (Result p accepted c f v r frames K (Call' h g x row) d) (row_runs row t.0 at d) λ t0 pre. enter_runs h g x row d (at + length cr) t0 t.1
+    expr_runs (After' h x a o) t at d = step_runs p accepted c f v r frames K (After' h x a o) a (stepped o) false t.1 refl (λ i m n. spot_runs a t.0 i m n) at d
+    expr_runs (Constant h n) t at d = constant_value p accepted c f v r frames K (Constant h n) n (integer_constant S (plain h.ctype) t.0) t.1 refl at d
+    expr_runs (Parens' h x a) t at d =
+        post c f r frames K at Any (expr_code p f at d a) (Result p accepted c f v r frames K a d) (Result p accepted c f v r frames K (Parens' h x a) d)
+        (λ u w pre m. (m.0, λ z g. (λ k. (m.1 z g).0 (subst (λ i. is_pointer (value_type i) ≡ true) (sym t.1) k), λ k. (m.1 z g).1 k))) (expr_runs a t.0 at d)
+    expr_runs (Name h n) t at d =
+        value_runs p accepted c f v r frames K (Name h n) h.ctype at d (expr_code p f at d (Name h n)) refl refl
+        (read_runs p accepted c f v r frames K at d (register_in p f (Name h n)) h.ctype (name_code p f d (slice_get p.symbols n)) (λ x e. register_value h.ctype (register_inside p f (Name h n)) x e) (λ e. name_runs p accepted c f v r frames K at d n (plain h.ctype) t))
+    expr_runs (Literal h n) t at d = value_runs p accepted c f v r frames K (Literal h n) h.ctype at d (expr_code p f at d (Literal h n)) refl refl (loaded p accepted c f v r frames K at d h.ctype (op.TextAddress d n ∷ []) (text_runs at d n))
+    expr_runs (Follow' h x a) t at d = value_runs p accepted c f v r frames K (Follow' h x a) h.ctype at d (expr_code p f at d (Follow' h x a)) refl refl (loaded p accepted c f v r frames K at d h.ctype (expr_code p f at d a) (follow_runs h x a t (λ m n. expr_runs a t.0 m n) at d))
+    expr_runs (Index' h x a y b) t at d = value_runs p accepted c f v r frames K (Index' h x a y b) h.ctype at d (expr_code p f at d (Index' h x a y b)) refl refl (loaded p accepted c f v r frames K at d h.ctype (place_code p f at d (Index' h x a y b)) (index_runs h x y a b t (λ m n. expr_runs a t.0 m n) (λ m n. expr_runs b t.1 m n) at d))
+    expr_runs (Dot' h x a n) t at d = value_runs p accepted c f v r frames K (Dot' h x a n) h.ctype at d (expr_code p f at d (Dot' h x a n)) refl refl (loaded p accepted c f v r frames K at d h.ctype (place_code p f at d (Dot' h x a n)) (dot_runs h x a n t (λ l i j. spot_runs a t.0 l i j) at d))
+    expr_runs (Arrow' h x a n) t at d = value_runs p accepted c f v r frames K (Arrow' h x a n) h.ctype at d (expr_code p f at d (Arrow' h x a n)) refl refl (loaded p accepted c f v r frames K at d h.ctype (place_code p f at d (Arrow' h x a n)) (arrow_runs a n (λ m n. expr_runs a t.0 m n) at d))
+
+    pub spot_runs : (e : Typed) → IsTyped S e → is_lvalue e ≡ true → SpotRuns e
+    spot_runs (Name h n) t l at d = name_runs p accepted c f v r frames K at d n (plain h.ctype) t
+    spot_runs (Literal h n) t l at d = text_runs at d n
+    spot_runs (Follow' h x a) t l at d = follow_runs h x a t (λ m n. expr_runs a t.0 m n) at d
+    spot_runs (Index' h x a y b) t l at d = index_runs h x y a b t (λ m n. expr_runs a t.0 m n) (λ m n. expr_runs b t.1 m n) at d
+    spot_runs (Dot' h x a n) t l at d = dot_runs h x a n t (λ l i j. spot_runs a t.0 l i j) at d
+    spot_runs (Arrow' h x a n) t l at d = arrow_runs a n (λ m n. expr_runs a t.0 m n) at d
+    spot_runs (Parens' h x a) t l at d = spot_runs a t.0 l at d
+    spot_runs _ t l at d = absurd (true≢false (sym l))
+
+    row_runs : {m : _} (row : Row_of-Typed m) → AreTyped S row → (at d : ℕ) → T at Any (row_code p f at d row) (λ t u. Below d t u × HeldRow row d u)
+    row_runs end_of-Typed t at d = nothing c f r frames K at Any (λ t u. Below d t u × Unit {0}) (λ t pre. (λ x lt. refl, tt))
+    row_runs (more_of-Typed e rest) t at d =
+        let ce = expr_code p f at d e in
+        let cr = row_code p f (at + length ce) (suc d) rest in
+        seq c f r frames K at Any ce cr (Result p accepted c f v r frames K e d) (λ t u. Below d t u × (Held (Claim S e) (u d) × HeldRow rest (suc d) u)) (expr_runs e t.0 at d) λ t0 pre.
+        post c f r frames K (at + length ce) (Result p accepted c f v r frames K e d t0) cr (λ u w. Below (suc d) u w × HeldRow rest (suc d) w) (λ u w. Below d t0 w × (Held (Claim S e) (w d) × HeldRow rest (suc d) w))
+        (λ u w q m. (below_then d t0 u w q.0 (below_less d (suc d) u w (omega arith) m.0), (held_same (Claim S e) (u d) (w d) (m.0 d (omega arith)) q.1, m.1)))
+        (any p accepted c f v r frames K (at + length ce) (Result p accepted c f v r frames K e d t0) cr (λ u w. Below (suc d) u w × HeldRow rest (suc d) w) (row_runs rest t.1 (at + length ce) (suc d)))
