@@ -1,6 +1,8 @@
 -- The code of a well-typed expression takes no number but 0 as a pointer.
-use Rattle.std.proofs.Common.{◌≡◌, refl, sym, ap, subst, ◌∙◌, arith, ℕ, zero, suc, ◌+◌, ◌<◌, ◌≤◌, ◌^◌, List, [], ◌∷◌, ◌++◌, length, length-append, Bool, true, false, not, ◌&&◌, ◌||◌, Option, Some, None, true≢false, slice_get, ◌⊎◌, inl, inr}
-use Rattle.std.specs.Prelude.{Ok, map, take, drop, reverse, reverse_aux, ◌==◌, bytes_eq, codes, option_and_then, option_map, if◌then◌else◌}
+use Rattle.std.proofs.Common.{◌≡◌, refl, sym, ap, subst, ◌∙◌, arith, ℕ, zero, suc, ◌+◌, ◌<◌, ◌≤◌, ◌^◌, List, [], ◌∷◌, ◌++◌, length, length-append, append_assoc, Bool, true, false, not, ◌&&◌, ◌||◌, Option, Some, None, true≢false, slice_get, ◌⊎◌, inl, inr}
+use Rattle.std.specs.Prelude.{Ok, map, take, drop, reverse, ◌==◌, bytes_eq, codes, option_and_then, option_map, if◌then◌else◌}
+use Rattle.std.proofs.lemmas.Grind.{reverse_onto}
+use Rattle.std.proofs.lemmas.List.{append-nil}
 use Rattle.ldb_words.specs.Word.{bit_of}
 use Rattle.c_tree.specs.declared.types.CType.{CType}
 use Rattle.c_tree.specs.declared.types.CType.TheVariants as ctype
@@ -366,7 +368,7 @@ module _ (p : Program) (accepted : IsAccepted p) (c : SlotCode) (f : ℕ) (v : L
   abbrev Loaded : CType → Value → Type 0
   Loaded t z = is_pointer (value_type (plain t)) ≡ true → points z ≡ true
 
-  abbrev Kept : ℕ → (Value → Type 0) → Temps → Temps → Type 0
+  abbrev pub Kept : ℕ → (Value → Type 0) → Temps → Temps → Type 0
   Kept d C t u = Below d t u × Held C (u d)
 
   sets_kept : (d : ℕ) (C D : Value → Type 0) (t u : Temps) → ((z : Value) → C z → D z) → Sets d C t u → Kept d D t u
@@ -394,12 +396,12 @@ module _ (p : Program) (accepted : IsAccepted p) (c : SlotCode) (f : ℕ) (v : L
       (λ u z pre q. sets_kept d (λ z. serves (access_of t) z ≡ true) (Loaded t) u z (λ z g. read_claim t z (h x refl) g) q) (triples.read_runs c f r frames K at Any d x (kind_of t) (access_of t))
 
   -- a place is computed where there is no register
-  unless_runs : (at d : ℕ) (o : Option ℕ) (place : List SlotOp) → RR at Any place (Place d) → RR at Any (unless_register o place) (Below d)
+  pub unless_runs : (at d : ℕ) (o : Option ℕ) (place : List SlotOp) → RR at Any place (Place d) → RR at Any (unless_register o place) (Below d)
   unless_runs at d None place w = post c f r frames K at Any place (Place d) (Below d) (λ t u pre q. q.0) w
   unless_runs at d (Some x) place w = nothing c f r frames K at Any (Below d) (λ t pre x lt. refl)
 
   module _ (d : ℕ) (t : CType) where
-    abbrev Fits : Value → Type 0
+    abbrev pub Fits : Value → Type 0
     Fits z = is_pointer (plain t) ≡ true → points z ≡ true
 
     cast_fits : (u w : Temps) → Casts (suc d) (access_of t) u w → Held Fits (w (suc d))
@@ -478,7 +480,7 @@ module _ (p : Program) (accepted : IsAccepted p) (c : SlotCode) (f : ℕ) (v : L
   no_function None t e = no_none t e
   no_function (Some h) t e = no_none t e
 
-  set_place : (at d : ℕ) (o : SlotOp) → RR at Any (o ∷ []) (Sets d (λ z. points z ≡ true)) → RR at Any (o ∷ []) (Place d)
+  pub set_place : (at d : ℕ) (o : SlotOp) → RR at Any (o ∷ []) (Sets d (λ z. points z ≡ true)) → RR at Any (o ∷ []) (Place d)
   set_place at d o x = post c f r frames K at Any (o ∷ []) (Sets d (λ z. points z ≡ true)) (Place d) (λ u w pre q. sets_kept d (λ z. points z ≡ true) (λ z. points z ≡ true) u w (λ z h. h) q) x
 
   referent_runs : (at d : ℕ) (row : SymbolRow) (t : Plain) (o : Referent) → object_type (denoted_by p f v (plain row.ctype) row.name o) ≡ Some t → RR at Any (referent_code d o) (Place d)
@@ -498,7 +500,7 @@ module _ (p : Program) (accepted : IsAccepted p) (c : SlotCode) (f : ℕ) (v : L
   abbrev pub Spot : Typed → Type 0
   Spot e = (at d : ℕ) → RR at Any (place_code p f at d e) (Place d)
 
-  any : (at : ℕ) (P : Temps → Type 0) (l : List SlotOp) (Q : Temps → Temps → Type 0) → RR at Any l Q → RR at P l Q
+  pub any : (at : ℕ) (P : Temps → Type 0) (l : List SlotOp) (Q : Temps → Temps → Type 0) → RR at Any l Q → RR at P l Q
   any at P l Q x = weaker c f r frames K at Any P l Q (λ t pre. tt) x
 
   -- two operands and an operator
@@ -833,11 +835,13 @@ Serve c g n [] = Unit {0}
 Serve c g zero (x ∷ vs) = ⊥
 Serve c g (suc n) (x ∷ vs) = (serves_in (local_row c g n) x ≡ true) × Serve c g n vs
 
-served : (c : SlotCode) (g n : ℕ) (vs acc : List Value) → length vs ≡ n → Serve c g n vs → serve_from c g n acc ≡ true → serve_from c g 0 (reverse_aux vs acc) ≡ true
+served : (c : SlotCode) (g n : ℕ) (vs acc : List Value) → length vs ≡ n → Serve c g n vs → serve_from c g n acc ≡ true → serve_from c g 0 (reverse vs ++ acc) ≡ true
 served c g zero [] acc e h k = k
 served c g zero (x ∷ vs) acc e h k = absurd h
 served c g (suc n) [] acc e h k = absurd (omega (arith, e))
-served c g (suc n) (x ∷ vs) acc e h k = served c g n vs (x ∷ acc) (omega (arith, e)) h.1 (ap (λ b. b && serve_from c g (suc n) acc) h.0 ∙ k)
+served c g (suc n) (x ∷ vs) acc e h k =
+    let same : reverse (x ∷ vs) ++ acc ≡ reverse vs ++ (x ∷ acc) = ap (λ (l : List Value). l ++ acc) (reverse_onto vs x []) ∙ append_assoc (reverse vs) (x ∷ []) acc in
+    ap (serve_from c g 0) same ∙ served c g n vs (x ∷ acc) (omega (arith, e)) h.1 (ap (λ b. b && serve_from c g (suc n) acc) h.0 ∙ k)
 
 module _ (c : SlotCode) (g d : ℕ) (t : Temps) where
   abbrev Arguments : ℕ → Type 0
@@ -860,7 +864,7 @@ module _ (c : SlotCode) (g d : ℕ) (t : Temps) where
     where
       by : (o : Option (List Value)) → last_temps t d n ≡ o → serve c g o ≡ true
       by None e = refl
-      by (Some vs) e = let q = last_serve n vs e h in served c g n vs [] q.0 q.1 refl
+      by (Some vs) e = let q = last_serve n vs e h in ap (serve_from c g 0) (sym (append-nil (reverse vs))) ∙ served c g n vs [] q.0 q.1 refl
 
 module _ (p : Program) (accepted : IsAccepted p) (c : SlotCode) (is : IsProgramCode p c) (f : ℕ) (v : List ℕ) (r : ℕ) (frames : List Frame) (K : ℕ) (enters : Enters p c K) where
   abbrev S : Scope
@@ -941,21 +945,19 @@ module _ (p : Program) (accepted : IsAccepted p) (c : SlotCode) (is : IsProgramC
       first true e = gives Int [] (λ z. true≢false (sym z)) e
       first false e = second (bytes_eq name (codes "putchar")) e
 
-  module _ (h : Head) (g : ℕ) (x : _) {m : _} (row : Row_of-Typed m) (d : ℕ) where
-    abbrev E : Typed
-    E = Call' h g x row
-
+  -- a call of this type, which is no constant
+  module _ (E : Typed) (ct : CType) (is_value : value S E ≡ value_type (plain ct)) (is_call : is_built E ≡ false) {m : _} (row : Row_of-Typed m) (d : ℕ) where
     abbrev Before : Temps → Temps → Type 0
     Before t u = Below d t u × HeldRow row d u
 
-    claimed : (C : Value → Type 0) (t u w : Temps) → ((z : Value) → C z → is_pointer (value_type (plain h.ctype)) ≡ true → points z ≡ true) → Below d t u → Sets d C u w → Result p accepted c f v r frames K E d t w
-    claimed C t u w k b q = (below_then d t u w b (sets_below d C u w q), λ z e. (k z (sets_held d C u w q z e), λ i. absurd (true≢false (sym i))))
+    claimed : (C : Value → Type 0) (t u w : Temps) → ((z : Value) → C z → is_pointer (value_type (plain ct)) ≡ true → points z ≡ true) → Below d t u → Sets d C u w → Result p accepted c f v r frames K E d t w
+    claimed C t u w k b q = (below_then d t u w b (sets_below d C u w q), λ z e. (λ i. k z (sets_held d C u w q z e) (subst (λ a. is_pointer a ≡ true) is_value i), λ i. absurd (true≢false (sym i ∙ is_call))))
 
-    function_runs : (at gi : ℕ) (o : Option Function) (t : Temps) → slice_get p.functions gi ≡ o → result_type (function_in o) (operands S row) ≡ Some (plain h.ctype) → T at (Before t) (op.Call d gi (length (exprs row)) ∷ []) (λ u w. Result p accepted c f v r frames K E d t w)
-    function_runs at gi None t e k = no_none (plain h.ctype) k
+    function_runs : (at gi : ℕ) (o : Option Function) (t : Temps) → slice_get p.functions gi ≡ o → result_type (function_in o) (operands S row) ≡ Some (plain ct) → T at (Before t) (op.Call d gi (length (exprs row)) ∷ []) (λ u w. Result p accepted c f v r frames K E d t w)
+    function_runs at gi None t e k = no_none (plain ct) k
     function_runs at gi (Some fn) t e k =
-        let q = result_is (takes_all (parameters fn) (operands S row)) (plain fn.result) (plain h.ctype) k in
-        let result : value_type (plain h.ctype) ≡ plain fn.result = ap value_type (sym q.1) ∙ is_value fn (function_there p accepted gi fn e).result in
+        let q = result_is (takes_all (parameters fn) (operands S row)) (plain fn.result) (plain ct) k in
+        let result : value_type (plain ct) ≡ plain fn.result = ap value_type (sym q.1) ∙ result_value fn (function_there p accepted gi fn e).result in
         post c f r frames K at (Before t) (op.Call d gi (length (exprs row)) ∷ []) (Sets d (Gives fn)) (λ u w. Result p accepted c f v r frames K E d t w)
         (λ u w b y. claimed (Gives fn) t u w (λ z gives i. gives (subst (λ a. is_pointer a ≡ true) result i)) b.0 y)
         (call_runs at d gi (length (exprs row)) fn e (Before t)
@@ -970,18 +972,18 @@ module _ (p : Program) (accepted : IsAccepted p) (c : SlotCode) (is : IsProgramC
         scalar_value (Pointer t) h = refl
         scalar_value (Struct n) h = refl
 
-        is_value : (fn : Function) → is_result (plain fn.result) ≡ true → value_type (plain fn.result) ≡ plain fn.result
-        is_value fn i = scalar_value (plain fn.result) i
+        result_value : (fn : Function) → is_result (plain fn.result) ≡ true → value_type (plain fn.result) ≡ plain fn.result
+        result_value fn i = scalar_value (plain fn.result) i
 
-    built_runs : (at n : ℕ) (name : List ℕ) (t : Temps) → result_type (built_in name) (operands S row) ≡ Some (plain h.ctype) → T at (Before t) (built_in_code d name n) (λ u w. Result p accepted c f v r frames K E d t w)
+    built_runs : (at n : ℕ) (name : List ℕ) (t : Temps) → result_type (built_in name) (operands S row) ≡ Some (plain ct) → T at (Before t) (built_in_code d name n) (λ u w. Result p accepted c f v r frames K E d t w)
     built_runs at n name t e = by n
       where
         free : (u w : Temps) → Before t u → Sets d (λ z. Unit {0}) u w → Result p accepted c f v r frames K E d t w
-        free u w b y = claimed (λ z. Unit {0}) t u w (λ z q i. absurd (built_no name (operands S row) (plain h.ctype) e i)) b.0 y
+        free u w b y = claimed (λ z. Unit {0}) t u w (λ z q i. absurd (built_no name (operands S row) (plain ct) e i)) b.0 y
 
         get : (b : Bool) → T at (Before t) (if b then op.GetChar d ∷ [] else []) (λ u w. Result p accepted c f v r frames K E d t w)
         get true = post c f r frames K at (Before t) (op.GetChar d ∷ []) (Sets d (λ z. Unit {0})) (λ u w. Result p accepted c f v r frames K E d t w) free (triples.get_runs c f r frames K at (Before t) d)
-        get false = nothing c f r frames K at (Before t) (λ u w. Result p accepted c f v r frames K E d t w) (λ u b. (b.0, λ z q. (λ i. absurd (built_no name (operands S row) (plain h.ctype) e i), λ i. absurd (true≢false (sym i)))))
+        get false = nothing c f r frames K at (Before t) (λ u w. Result p accepted c f v r frames K E d t w) (λ u b. (b.0, λ z q. (λ i. absurd (built_no name (operands S row) (plain ct) e (subst (λ a. is_pointer a ≡ true) is_value i)), λ i. absurd (true≢false (sym i ∙ is_call)))))
 
         put : (b : Bool) → T at (Before t) (if b then op.PutChar d ∷ [] else op.Exit d ∷ []) (λ u w. Result p accepted c f v r frames K E d t w)
         put true = post c f r frames K at (Before t) (op.PutChar d ∷ []) (Sets d (λ z. Unit {0})) (λ u w. Result p accepted c f v r frames K E d t w) free (triples.put_runs c f r frames K at (Before t) d)
@@ -991,16 +993,16 @@ module _ (p : Program) (accepted : IsAccepted p) (c : SlotCode) (is : IsProgramC
         by zero = get (bytes_eq name (codes "getchar"))
         by (suc n) = put (bytes_eq name (codes "putchar"))
 
-    referred_runs : (at : ℕ) (t : Temps) (sr : SymbolRow) (o : Referent) → result_type (denoted_by p f v (plain sr.ctype) sr.name o) (operands S row) ≡ Some (plain h.ctype)
+    referred_runs : (at : ℕ) (t : Temps) (sr : SymbolRow) (o : Referent) → result_type (denoted_by p f v (plain sr.ctype) sr.name o) (operands S row) ≡ Some (plain ct)
         → T at (Before t) (call_code d o sr.name (length (exprs row))) (λ u w. Result p accepted c f v r frames K E d t w)
-    referred_runs at t sr (Object o) e = no_none (plain h.ctype) e
-    referred_runs at t sr (Local y) e = absurd (no_local (plain sr.ctype) (plain h.ctype) (operands S row) (has v y) (slice_get (locals_in (slice_get p.functions f)) y) e)
+    referred_runs at t sr (Object o) e = no_none (plain ct) e
+    referred_runs at t sr (Local y) e = absurd (no_local (plain sr.ctype) (plain ct) (operands S row) (has v y) (slice_get (locals_in (slice_get p.functions f)) y) e)
     referred_runs at t sr (Defined gi) e = function_runs at gi (slice_get p.functions gi) t refl e
     referred_runs at t sr Declared e = built_runs at (length (exprs row)) sr.name t e
 
-    enter_runs : (at : ℕ) (t : Temps) → call_type S g (operands S row) ≡ Some (plain h.ctype) → T at (Before t) (enter_code d (slice_get p.symbols g) (length (exprs row))) (λ u w. Result p accepted c f v r frames K E d t w)
-    enter_runs at t e =
-        let q = callee_there p accepted f v g (operands S row) (plain h.ctype) e in
+    enter_runs : (at g : ℕ) (t : Temps) → call_type S g (operands S row) ≡ Some (plain ct) → T at (Before t) (enter_code d (slice_get p.symbols g) (length (exprs row))) (λ u w. Result p accepted c f v r frames K E d t w)
+    enter_runs at g t e =
+        let q = callee_there p accepted f v g (operands S row) (plain ct) e in
         subst (λ o. T at (Before t) (enter_code d o (length (exprs row))) (λ u w. Result p accepted c f v r frames K E d t w)) (sym q.1) (referred_runs at t q.0 q.0.refers q.2)
 
   -- ---- all expressions
@@ -1066,7 +1068,7 @@ module _ (p : Program) (accepted : IsAccepted p) (c : SlotCode) (is : IsProgramC
     expr_runs (SizeOfType h u) t at d = constant_value p accepted c f v r frames K (SizeOfType h u) (size_of p.defs u) (unsigned_is p accepted c f v r frames K _ (plain h.ctype) t.1) (size_small p accepted c f v r frames K u (formed p.defs u t.0.1)) refl at d
     expr_runs (Call' h g x row) t at d =
         let cr = row_code p f at d row in
-        seq c f r frames K at Any cr (enter_code d (slice_get p.symbols g) (length (exprs row))) (Before h g x row d) (Result p accepted c f v r frames K (Call' h g x row) d) (row_runs row t.0 at d) λ t0 pre. enter_runs h g x row d (at + length cr) t0 t.1
+        seq c f r frames K at Any cr (enter_code d (slice_get p.symbols g) (length (exprs row))) (λ t u. Below d t u × HeldRow row d u) (Result p accepted c f v r frames K (Call' h g x row) d) (row_runs row t.0 at d) λ t0 pre. enter_runs (Call' h g x row) h.ctype refl refl row d (at + length cr) g t0 t.1
     expr_runs (After' h x a o) t at d = step_runs p accepted c f v r frames K (After' h x a o) a (stepped o) false t.1 refl (λ i m n. spot_runs a t.0 i m n) at d
     expr_runs (Constant h n) t at d = constant_value p accepted c f v r frames K (Constant h n) n (integer_constant S (plain h.ctype) t.0) t.1 refl at d
     expr_runs (Parens' h x a) t at d =

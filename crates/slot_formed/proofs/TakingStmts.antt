@@ -443,8 +443,8 @@ module _ (p : Program) (accepted : IsAccepted p) (c : SlotCode) (is : IsProgramC
           behind_test v k at q code t.0.0 le has
           (λ go1. switch_on start body targets defaults k le has1
           (λ leave over. let parts = switched_on s v (switched a) around m (start + 2) k t.1 le
-              (inside_has start body targets defaults has1)
-              (λ e. leave, λ e. jumps.1 e) over in (parts.1, parts.2)) go1) go
+          (inside_has start body targets defaults has1)
+          (λ e. leave, λ e. jumps.1 e) over in (parts.1, parts.2)) go1) go
       stmt_on (Case' x n y s) v a w m at k t le has jumps go = stmt_on s v a w m at k t.2 le has jumps go
       stmt_on (Default' x y s) v a w m at k t le has jumps go = stmt_on s v a w m at k t.1 le has jumps go
       stmt_on (Break x) v a w m at k t le has jumps go = leave_jump k at w.leave_scope w.leave has (jumps.0 t)
@@ -533,7 +533,7 @@ module _ (p : Program) (accepted : IsAccepted p) (c : SlotCode) (is : IsProgramC
       let has4 = has_back W start rows last has2 in
       let ends = ends_there ret in
       let end : On K (start + length rows) =
-          zero_to K (start + length rows) (omega arith) (λ j lj h i u q. end_jump ends K (start + length rows + 1) (omega arith) has4.1.0 j lj h i u (λ y g k. q y g)) fn.result has4.0 in
+      zero_to K (start + length rows) (omega arith) (λ j lj h i u q. end_jump ends K (start + length rows + 1) (omega arith) has4.1.0 j lj h i u (λ y g k. q y g)) fn.result has4.0 in
       let count : start + length rows ≡ start + length (block_code p f nowhere m start row) = ap (λ (l : List SlotOp). start + length l) (sym same) in
       zeros_on ds K at (has_front W at zeros (inits ++ (rows ++ last)) has)
       (inits_on (numbers 0 fn.params) ds K (at + length zeros) t.0 (omega arith) (has_front W (at + length zeros) inits (rows ++ last) has1)

@@ -266,9 +266,9 @@ module _ (c : SlotCode) (f r : ℕ) (frames : List Frame) (K : ℕ) where
         let to : at + 1 + length body + 1 ≡ at + 1 + length b + 2 = omega (arith, size) in
         let end : at + 1 + length body + 1 + 1 ≡ at + 1 + length b + 3 = omega (arith, size) in
         let same : choice_code at d body (op.Const d 0 ∷ []) ≡ and_code at d b =
-            ap (λ n. op.JumpIfZero d n ∷ (body ++ op.Jump (at + 1 + length body + 1 + 1) ∷ op.Const d 0 ∷ [])) to
-            ∙ ap (λ n. op.JumpIfZero d (at + 1 + length b + 2) ∷ (body ++ op.Jump n ∷ op.Const d 0 ∷ [])) end
-            ∙ ap (λ l. op.JumpIfZero d (at + 1 + length b + 2) ∷ l) (joined (op.Jump (at + 1 + length b + 3)) (op.Const d 0)) in
+        ap (λ n. op.JumpIfZero d n ∷ (body ++ op.Jump (at + 1 + length body + 1 + 1) ∷ op.Const d 0 ∷ [])) to
+        ∙ ap (λ n. op.JumpIfZero d (at + 1 + length b + 2) ∷ (body ++ op.Jump n ∷ op.Const d 0 ∷ [])) end
+        ∙ ap (λ l. op.JumpIfZero d (at + 1 + length b + 2) ∷ l) (joined (op.Jump (at + 1 + length b + 3)) (op.Const d 0)) in
         same_code at P (choice_code at d body (op.Const d 0 ∷ [])) (and_code at d b) R same
         (choice_runs at d P body (op.Const d 0 ∷ []) R (tested false x g) (post (at + 1 + length body + 1) (λ t. P t × Zero d true t) (op.Const d 0 ∷ []) (Sets d (λ v. v ≡ Number 0)) R z (const_runs (at + 1 + length body + 1) (λ t. P t × Zero d true t) d 0)))
 
@@ -281,8 +281,8 @@ module _ (c : SlotCode) (f r : ℕ) (frames : List Frame) (K : ℕ) where
         let end : at + 1 + length body + 1 + 1 ≡ at + 1 + length b + 3 = omega (arith, size) in
         let code : List SlotOp = op.JumpIfNotZero d (at + 1 + length body + 1) ∷ (body ++ op.Jump (at + 1 + length body + 1 + 1) ∷ op.Const d 1 ∷ []) in
         let same : code ≡ or_code at d b =
-            ap (λ n. op.JumpIfNotZero d n ∷ (body ++ op.Jump (at + 1 + length body + 1 + 1) ∷ op.Const d 1 ∷ [])) to
-            ∙ ap (λ n. op.JumpIfNotZero d (at + 1 + length b + 2) ∷ (body ++ op.Jump n ∷ op.Const d 1 ∷ [])) end
-            ∙ ap (λ l. op.JumpIfNotZero d (at + 1 + length b + 2) ∷ l) (joined (op.Jump (at + 1 + length b + 3)) (op.Const d 1)) in
+        ap (λ n. op.JumpIfNotZero d n ∷ (body ++ op.Jump (at + 1 + length body + 1 + 1) ∷ op.Const d 1 ∷ [])) to
+        ∙ ap (λ n. op.JumpIfNotZero d (at + 1 + length b + 2) ∷ (body ++ op.Jump n ∷ op.Const d 1 ∷ [])) end
+        ∙ ap (λ l. op.JumpIfNotZero d (at + 1 + length b + 2) ∷ l) (joined (op.Jump (at + 1 + length b + 3)) (op.Const d 1)) in
         same_code at P code (or_code at d b) R same
         (other_runs at d P body (op.Const d 1 ∷ []) R (tested true x g) (post (at + 1 + length body + 1) (λ t. P t × Zero d false t) (op.Const d 1 ∷ []) (Sets d (λ v. v ≡ Number 1)) R z (const_runs (at + 1 + length body + 1) (λ t. P t × Zero d false t) d 1)))
