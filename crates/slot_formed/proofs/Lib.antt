@@ -26,5 +26,7 @@ mod Evaluated
 mod Safe
 mod Claims
 mod Triples
+mod Scalars
 mod Taking
+mod Calling
 mod TakingStmts

@@ -49,7 +49,8 @@ use Rattle.slot_formed.proofs.Safe as safe
 use Rattle.slot_formed.proofs.Safe.{Safe, After, slot, In, From, code, fewer, at_op, temp_after, ok_after, extended_serves}
 use Rattle.slot_formed.proofs.Triples as triples
 use Rattle.slot_formed.proofs.Triples.{Gives, Returning, Enters, Runs, Any, Below, Sets, Casts, sets_below, sets_held, below_less, below_then, seq, post, nothing}
-use Rattle.slot_formed.proofs.Taking.{Result, Kept, Place, Fits, any, unless_runs, write_runs, expr_runs, set_place}
+use Rattle.slot_formed.proofs.Taking.{Result, Kept, Fits, any, unless_runs, write_runs, set_place}
+use Rattle.slot_formed.proofs.Calling.{expr_runs}
 
 module _ (p : Program) (accepted : IsAccepted p) (c : SlotCode) (is : IsProgramCode p c) (f : ℕ) (fn : Function) (here : slice_get p.functions f ≡ Some fn) (r : ℕ) (frames : List Frame) (K : ℕ) (enters : Enters p c K) where
   abbrev T : ℕ → (Temps → Type 0) → List SlotOp → (Temps → Temps → Type 0) → Type 0
