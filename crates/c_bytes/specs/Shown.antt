@@ -25,7 +25,7 @@ use Rattle.dialect_model.specs.Objects.{byte_run}
 use Rattle.dialect_model.specs.Printing.{hex_text, activation_text, MOST_READ}
 use Rattle.dialect_model.specs.TableUse.{Kind as Error, gives, fails, ◌>>=◌}
 use Rattle.dialect_model.specs.Near.{looking}
-use Rattle.c_bytes.specs.Spots.{Means, Scene, object_of, or_range, bytes_with}
+use Rattle.c_bytes.specs.Lvalues.{Means, Scene, object_of, or_range, bytes_with}
 use Rattle.c_bytes.specs.Evaluation.{values_of}
 
 -- ---- which leaves are pointers to `char`

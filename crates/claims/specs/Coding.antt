@@ -19,8 +19,8 @@ use Rattle.dialect_model.specs.Operating.{Operates}
 use Rattle.dialect_model.specs.TableUse.{TableUse, use_of, Trouble, Refused, Kind, Spent, Wanting, Eval, trouble_of, gives, ◌>>=◌}
 use Rattle.dialect_model.specs.Running.{Run}
 use Rattle.dialect_model.specs.Near.{slackened}
-use Rattle.c_session.specs.Commands.{AsValue}
-use Rattle.c_bytes.specs.Spots.{Cause, Reason, Disturbed, Scene, Named, place_in}
+use Rattle.c_reading.specs.Readings.{AsValue}
+use Rattle.c_bytes.specs.Lvalues.{Cause, Reason, Disturbed, Scene, Named, place_in}
 use Rattle.c_bytes.specs.Evaluation.{values_of, fetch_all}
 use Rattle.claims.specs.Side.{SideState, Change, OnSide, MOST_STEPS, row_of, memory_of, target_of}
 use Rattle.claims.specs.Raw.{ps_ready}

@@ -11,23 +11,23 @@ use Rattle.table_model.specs.Types.{checked_type}
 use Rattle.dialect_model.specs.Dial.{InFrame}
 use Rattle.dialect_model.specs.TableUse.{Looks, gives, refuses, ◌>>=◌}
 use Rattle.dialect_model.specs.Running.{or_error, beginning, running, procedure}
-use Rattle.c_session.specs.Commands.{NoScope, BadType, BadSyntax}
-use Rattle.c_reading.specs.Readings.{is_identifier}
+use Rattle.c_session.specs.Commands.{BadText}
+use Rattle.c_reading.specs.Readings.{NoScope, BadType, BadSyntax, is_identifier}
 use Rattle.claims.specs.Side.{SideState, Change, OnSide, dial_of}
 use Rattle.claims.specs.Frames.{chosen}
 
 abbrev pub or_no_scope : {A : Type 0} → Option A → OnSide A
-or_no_scope None = refuses NoScope
+or_no_scope None = refuses (BadText NoScope)
 or_no_scope (Some x) = gives x
 
 -- a function's name is of no object
 abbrev pub of_object : (is_function : Bool) → OnSide (Unit {0})
-of_object true = refuses BadType
+of_object true = refuses (BadText BadType)
 of_object false = gives tt
 
 abbrev pub one_name : (is_name : Bool) → OnSide (Unit {0})
 one_name true = gives tt
-one_name false = refuses BadSyntax
+one_name false = refuses (BadText BadSyntax)
 
 -- what is appended by a symbol's procedure and then by its type's printer
 abbrev pub printed : SideState → Frame → (scope : Option DictId) → (symbol type : DictId) → OnSide (List ℕ)

@@ -56,9 +56,9 @@ abbrev pub bytes_with : Scene → (cell : ℕ) → Bytes
 bytes_with sc cell = target_bytes sc.target (Some sc.frame) cell
 
 -- a place that a name has, with the cell beside it; or one through a pointer
-pub data Spot : Type 0 where
-  Named : (place : Place) (cell : ℕ) → Spot
-  Pointed : (address : ℕ) → Spot
+pub data Lvalue : Type 0 where
+  Named : (place : Place) (cell : ℕ) → Lvalue
+  Pointed : (address : ℕ) → Lvalue
 
 -- ---- procedures that leave places
 
@@ -75,9 +75,9 @@ abbrev or_disturbed : {A : Type 0} → Acted A → Means A
 or_disturbed (Ok x) = gives x
 or_disturbed (Err halt) = refuses Disturbed
 
-abbrev pub spot_left : Run → Option (PsObj × PsObj) → Means Spot
-spot_left run None = refuses Disturbed
-spot_left run (Some p) = or_disturbed (place_in run.core p) >>= λ place. gives (Named place run.dial.cell)
+abbrev pub lvalue_left : Run → Option (PsObj × PsObj) → Means Lvalue
+lvalue_left run None = refuses Disturbed
+lvalue_left run (Some p) = or_disturbed (place_in run.core p) >>= λ place. gives (Named place run.dial.cell)
 
 -- A run takes operands beneath its own: above some others, of which a text has at most 1,000, it comes to something else.
 pub record TakesBelow (x : PsObj) (d : Dial) (c : PsCore) (t : TableUse) : Type 0 where
@@ -113,16 +113,16 @@ pub record Keeps (before c : PsCore) : Type 0 where
 abbrev or_changing : {A : Type 0} → PsCore → Run → Means A → Means A
 or_changing before run m t r t' = m t r t' ⊎ ((Keeps before run.core → ⊥) × (r ≡ Err (Refused Disturbed)) × (t' ≡ t))
 
-abbrev pub place_of_symbol : Scene → Option DictId → Means Spot
+abbrev pub place_of_symbol : Scene → Option DictId → Means Lvalue
 place_of_symbol sc None = refuses IllTyped
 place_of_symbol sc (Some x) = do
   where_is ← looking (λ s. results.◌>>=◌ (entry s x (codes "where")) procedure)
   c ← beginning
   run ← placed where_is (dial_of sc) c
-  or_changing c run (spot_left run (only_place run.core.operands))
+  or_changing c run (lvalue_left run (only_place run.core.operands))
 
 -- the place of a name, by its symbol's procedure
-abbrev pub where_is : Scene → ℕ → Means Spot
+abbrev pub where_is : Scene → ℕ → Means Lvalue
 where_is sc n = place_of_symbol sc (slice_get sc.symbols n)
 
 -- ---- objects
@@ -151,7 +151,7 @@ row_of l = record { at = l.at; kind = l.kind }
 
 -- An access through a pointer needs live leaves: all of them in the one object to which the pointer belongs. A named place is
 -- read by its bytes.
-abbrev pub live_at : Scene → Spot → List Leaf → Means (Unit {0})
+abbrev pub live_at : Scene → Lvalue → List Leaf → Means (Unit {0})
 live_at sc (Named p cell) ls = gives tt
 live_at sc (Pointed p) [] = gives tt
 live_at sc (Pointed p) (l ∷ ls) = do
@@ -170,35 +170,35 @@ abbrev pub or_range : {A : Type 0} → Option A → Means A
 or_range None = fails (Error RangeCheck)
 or_range (Some x) = gives x
 
-abbrev pub place_of_spot : Spot → Place
-place_of_spot (Named p cell) = p
-place_of_spot (Pointed p) = record { space = Memory; at = p }
+abbrev pub place_of_lvalue : Lvalue → Place
+place_of_lvalue (Named p cell) = p
+place_of_lvalue (Pointed p) = record { space = Memory; at = p }
 
-abbrev cell_of_spot : Spot → ℕ
-cell_of_spot (Named p cell) = cell
-cell_of_spot (Pointed p) = 0
+abbrev cell_of_lvalue : Lvalue → ℕ
+cell_of_lvalue (Named p cell) = cell
+cell_of_lvalue (Pointed p) = 0
 
 -- the number at a place
-abbrev pub fetched_from : Scene → Kind → Spot → Means ℕ
-fetched_from sc k p = or_range (fetched_at (bytes_with sc (cell_of_spot p)) (place_of_spot p) k)
+abbrev pub fetched_from : Scene → Kind → Lvalue → Means ℕ
+fetched_from sc k p = or_range (fetched_at (bytes_with sc (cell_of_lvalue p)) (place_of_lvalue p) k)
 
 -- a scalar's leaf
 abbrev pub leaf_of : Kind → Leaf
 leaf_of k = record { at = 0; kind = k }
 
-abbrev pub load : Scene → Kind → Spot → Means ℕ
+abbrev pub load : Scene → Kind → Lvalue → Means ℕ
 load sc k p = live_at sc p (leaf_of k ∷ []) >>= λ u. fetched_from sc k p
 
 -- a place so far behind one
-abbrev pub moved_spot : ℕ → Spot → Spot
-moved_spot n (Named p cell) = Named (record p { at = sum_of p.at n }) cell
-moved_spot n (Pointed p) = Pointed (sum_of p n)
+abbrev pub moved_lvalue : ℕ → Lvalue → Lvalue
+moved_lvalue n (Named p cell) = Named (record p { at = sum_of p.at n }) cell
+moved_lvalue n (Pointed p) = Pointed (sum_of p n)
 
 -- a member so far from the start of a struct: through a pointer this is arithmetic on it
-abbrev pub member_at : Scene → ℕ → Spot → Means Spot
-member_at sc n (Named p cell) = gives (moved_spot n (Named p cell))
+abbrev pub member_at : Scene → ℕ → Lvalue → Means Lvalue
+member_at sc n (Named p cell) = gives (moved_lvalue n (Named p cell))
 member_at sc n (Pointed p) = moved sc p (pos n) >>= λ q. gives (Pointed q)
 
 -- the address that an array becomes, and that `&` gives
-abbrev pub address_of : Spot → ℕ
-address_of p = (place_of_spot p).at
+abbrev pub address_of : Lvalue → ℕ
+address_of p = (place_of_lvalue p).at
