@@ -1,0 +1,3 @@
+pub mod Followed
+pub mod Chains
+pub mod Points

@@ -1,0 +1,17 @@
+use Rattle.std.proofs.Common.{refl, sym, ◌∙◌, ap, ◌≡◌, arith, suc, ◌+◌, ◌-◌, ◌++◌, List, ℕ, drop, length, get_or}
+use Rattle.std.proofs.lemmas.Result.{on_ok_weaker}
+use Rattle.ps_text.specs.Code.{render}
+use Rattle.ps_emit.proofs.Followed.{◌and◌, one_more, one_more_at, none_left, counted_more, nothing, braced, labelled, fronted}
+use Rattle.ps_emit.proofs.functions.add_function.Goals as goal
+
+pub returns : goal.returns
+returns c =
+    let named = rw c.as_bytes.ensures at c.in_ok-add_string.ensures in
+    let saved = rw c.as_slice.ensures at c.in_ok-add_saved.ensures in
+    let points = rw (c.requires, c.as_slice-2.ensures, c.as_slice-3.ensures) at c.in_ok-made.ensures.text in
+    record {
+      text =
+          named and c.in_ok-add_truth.ensures and c.in_ok-add_number.ensures and c.in_ok-add_number-2.ensures and c.in_ok-add_number-3.ensures
+          and (c.in_ok-add_word.ensures and saved and c.in_ok-add_word-2.ensures) and (c.in_ok-add_word-3.ensures and points and c.in_ok-add_word-4.ensures) and c.in_ok-add_word-5.ensures;
+      made = rw (c.as_slice-2.ensures, c.as_slice-3.ensures) at c.in_ok-made.ensures.made;
+    }

@@ -1,0 +1,15 @@
+use Rattle.std.proofs.Common.{refl, sym, ◌∙◌, ap, ◌≡◌, arith, rules, zero, suc, ◌+◌, ◌-◌, ◌++◌, List, ℕ, drop, length, get_or}
+use Rattle.std.proofs.lemmas.Result.{on_ok_weaker}
+use Rattle.ps_text.specs.Code.{render}
+use Rattle.ps_emit.proofs.Followed.{◌and◌, one_more, one_more_at, none_left, counted_more, nothing, braced, labelled, fronted}
+use Rattle.ps_emit.specs.Table.{anchor_code, anchors_code}
+use Rattle.ps_emit.proofs.tables.add_anchors.Goals as goal
+
+pub loop-i-preserved : goal.loop-i-preserved
+loop-i-preserved c =
+    counted_more anchors_code c.loop-i.k c.in_ok-k.k (anchor_code c.loop-i.k c.index-anchors-i.result.1) c.args.anchors.now c.loop-i.i c.index-anchors-i.result
+        c.in_ok-k.ensures c.loop-i-test.true c.index-anchors-i.is refl c.in_ok-add_anchor.ensures
+    ∙ c.loop-i.invariant
+
+pub returns : goal.returns
+returns c = record { text = sym (none_left (anchors_code c.loop-i.k) c.args.anchors.now c.loop-i.i c.loop-i.text refl c.loop-i-test.false) ∙ c.loop-i.invariant }

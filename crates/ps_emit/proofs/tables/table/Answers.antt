@@ -1,0 +1,17 @@
+use Rattle.std.proofs.Common.{refl, sym, ◌∙◌, ap, ◌≡◌, arith, suc, ◌+◌, ◌-◌, ◌++◌, List, ℕ, drop, length, get_or}
+use Rattle.std.proofs.lemmas.Result.{on_ok_weaker}
+use Rattle.ps_text.specs.Code.{render}
+use Rattle.ps_emit.proofs.Followed.{◌and◌, one_more, one_more_at, none_left, counted_more, nothing, braced, labelled, fronted}
+use Rattle.ps_emit.specs.Words.{words}
+use Rattle.ps_emit.specs.Table.{table_text}
+use Rattle.ps_emit.proofs.Followed.{render_followed}
+use Rattle.ps_emit.proofs.tables.table.Goals as goal
+
+pub returns : goal.returns
+unfolding table_text
+returns c =
+    let structs = rw c.as_slice.ensures at c.in_ok-add_structs.ensures in
+    let filled = rw c.as_slice-2.ensures at c.in_ok-fill_structs.ensures in
+    let whole = structs and filled and c.in_ok-add_statics.ensures and c.in_ok-add_top.ensures in
+    let begun = rw (c.in_ok-text.ensures, c.words_text.ensures) at whole.text in
+    begun ∙ sym (render_followed words _)
