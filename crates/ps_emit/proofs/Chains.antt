@@ -34,10 +34,10 @@ pub chain_ends : (front rest all : List ℕ) → rest ≡ [] → front ++ rest �
 chain_ends front rest all e h = sym (append-nil front) ∙ (ap (λ (xs : List ℕ). front ++ xs) (sym e) ∙ h)
 
 -- one symbol more in front of those that are added
-pub one_before : (fs : List FunctionRow) (places : List LocalPlace) (ss : List SymbolRow) (xs : List ℕ) (i x : ℕ) {a b c : List ℕ} → i < length xs
+pub one_before : (fs : List FunctionRow) (places : List LocalPlace) (ss : List SymbolRow) (xs : List ℕ) (i x : ℕ) (a b c : List ℕ) → i < length xs
     → x ≡ get_or xs (length xs - (i + 1)) 0 → b ≡ a ++ render (symbols_code fs places ss (drop (length xs - i) xs)) → Grows (symbol_of fs places x (slice_get ss x)) b c
     → c ≡ a ++ render (symbols_code fs places ss (drop (length xs - (i + 1)) xs))
-one_before fs places ss xs i x {a} {b} {c} l e h g =
+one_before fs places ss xs i x a b c l e h g =
     let k : ℕ = length xs - (i + 1) in
     let next : length xs - i ≡ k + 1 = omega arith in
     let within : k < length xs = omega arith in

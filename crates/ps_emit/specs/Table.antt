@@ -33,8 +33,12 @@ top_code p at = paired (
     ⋯ name "objects" ⋯ word "objects"
     ⋯ name "units" ⋯ bracketed (units_code p at.functions p.units))
 
+-- what stands behind the words
+abbrev pub parts_code : Program → Placement → Code
+parts_code p at = structs_code p.defs ⋯ filled_structs 0 p.defs ⋯ objects_code p ⋯ top_code p at
+
 abbrev pub table_code : Program → Placement → Code
-table_code p at = words ⋯ structs_code p.defs ⋯ filled_structs 0 p.defs ⋯ objects_code p ⋯ top_code p at
+table_code p at = words ⋯ parts_code p at
 
 unfoldable pub table_text : Program → Placement → List ℕ
 table_text p at = render (table_code p at)

@@ -1,5 +1,5 @@
 // Units, functions and stopping points of a table.
-ghost use Rattle.std.specs.Prelude.{◌≡◌, OnOk, IfOk, slice_get};
+ghost use Rattle.std.specs.Prelude.{◌≡◌, OnOk, IfOk, Some, slice_get};
 ghost use Rattle.ps_text.specs.Code.{render};
 ghost use Rattle.ps_emit.specs.Grown.{Grows};
 ghost use Rattle.ps_emit.specs.Symbols.{made_with};
@@ -62,6 +62,23 @@ fn add_point(text: &mut Text, address: u32, point: &Point) -> Result<(), AllocEr
 }
 
 /// Adds a stopping point at an address behind the symbols that come into scope there, and gives the number below which all symbols are made.
+fn add_opened_point(
+    alloc: Global,
+    text: &mut Text,
+    scene: Scene,
+    made: u32,
+    point: &Point,
+    address: u32,
+) -> Result<u32, AllocError>
+    ensures text { OnOk result (Grows (point_in scene.entry.program.now scene.entry.functions.now scene.entry.places.now made address (Some point.now)) text.old text.new) }
+    ensures made { IfOk result (λ n. n ≡ made_with made point.now.symbol) }
+{
+    let made = open_scope(alloc, text, scene, made, point.symbol)?;
+    add_point(text, address, point)?;
+    Ok(made)
+}
+
+/// The same for a stopping point by its number.
 fn add_point_of(
     alloc: Global,
     text: &mut Text,
@@ -73,12 +90,10 @@ fn add_point_of(
     ensures text { OnOk result (Grows (point_in scene.entry.program.now scene.entry.functions.now scene.entry.places.now made address (slice_get scene.entry.program.now.points x)) text.old text.new) }
     ensures made { IfOk result (λ n. n ≡ made_with made (symbol_at (slice_get scene.entry.program.now.points x))) }
 {
-    let Some(point) = scene.program.points.as_slice().get(x as usize) else {
-        return Ok(made);
-    };
-    let made = open_scope(alloc, text, scene, made, point.symbol)?;
-    add_point(text, address, point)?;
-    Ok(made)
+    match scene.program.points.as_slice().get(x as usize) {
+        Some(point) => add_opened_point(alloc, text, scene, made, point, address),
+        None => Ok(made),
+    }
 }
 
 /// Adds stopping points at their addresses, each behind the symbols that come into scope there, and gives the number below which all symbols are made.

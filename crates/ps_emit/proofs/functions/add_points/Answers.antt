@@ -29,3 +29,15 @@ returns c = record {
       sym (made_points_end c.args.scene.program.now c.args.scene.functions.now c.loop-i.made c.args.points.now c.args.addresses.now c.loop-i.i c.loop-i-test.false)
       ∙ c.loop-i.invariant.made;
 }
+
+pub returns-then-i-addresses-clause-text : goal.returns-then-i-addresses-clause-text
+returns-then-i-addresses-clause-text c = record {
+  text =
+      sym (addresses_end c.args.scene.program.now c.args.scene.functions.now c.args.scene.places.now c.loop-i.made c.args.points.now c.args.addresses.now c.loop-i.i c.loop-i.text
+          (omega arith))
+      ∙ c.loop-i.invariant.text
+}
+
+pub returns-then-i-addresses-clause-made : goal.returns-then-i-addresses-clause-made
+returns-then-i-addresses-clause-made c =
+    sym (made_addresses_end c.args.scene.program.now c.args.scene.functions.now c.loop-i.made c.args.points.now c.args.addresses.now c.loop-i.i (omega arith)) ∙ c.loop-i.invariant.made

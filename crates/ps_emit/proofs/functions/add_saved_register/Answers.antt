@@ -1,4 +1,4 @@
-use Rattle.std.proofs.Common.{refl, sym, ◌∙◌, ap, ◌≡◌, arith, rules, zero, suc, ◌+◌, ◌-◌, ◌++◌, List, ℕ, drop, length, get_or}
+use Rattle.std.proofs.Common.{refl, sym, ◌∙◌, ap, ◌≡◌, arith, rules, zero, suc, ◌+◌, ◌-◌, ◌++◌, List, ℕ, drop, length, get_or, w32}
 use Rattle.std.proofs.lemmas.Result.{on_ok_weaker}
 use Rattle.ps_text.specs.Code.{render}
 use Rattle.ps_emit.proofs.Followed.{◌and◌, one_more, one_more_at, none_left, counted_more, nothing, braced, labelled, fronted}
@@ -7,5 +7,5 @@ use Rattle.ps_emit.proofs.functions.add_saved_register.Goals as goal
 
 pub returns : goal.returns
 returns c =
-    let pair = rw (to_z-of_z {z = c.args.offset} (search rules)) at c.in_ok-add_register_offset.ensures in
+    let pair = rw (to_z-of_z {w = w32} {z = c.args.offset} (search rules)) at c.in_ok-add_register_offset.ensures in
     on_ok_weaker _ (λ e. c.in_ok-add_word.ensures and pair and e) c.add_word-2.ensures

@@ -7,8 +7,9 @@ use Rattle.ps_emit.proofs.tables.add_anchors.Goals as goal
 
 pub loop-i-preserved : goal.loop-i-preserved
 loop-i-preserved c =
+    let added = rw (← c.index-anchors-i.is) at c.in_ok-add_anchor.ensures in
     counted_more anchors_code c.loop-i.k c.in_ok-k.k (anchor_code c.loop-i.k c.index-anchors-i.result.1) c.args.anchors.now c.loop-i.i c.index-anchors-i.result
-        c.in_ok-k.ensures c.loop-i-test.true c.index-anchors-i.is refl c.in_ok-add_anchor.ensures
+        c.in_ok-k.ensures c.loop-i-test.true c.index-anchors-i.is refl added
     ∙ c.loop-i.invariant
 
 pub returns : goal.returns

@@ -3,7 +3,7 @@ use Rattle.std.proofs.lemmas.Result.{on_ok_weaker}
 use Rattle.ps_text.specs.Code.{render}
 use Rattle.ps_emit.proofs.Followed.{◌and◌, one_more, one_more_at, none_left, counted_more, nothing, braced, labelled, fronted}
 use Rattle.ps_emit.specs.Words.{words}
-use Rattle.ps_emit.specs.Table.{table_text}
+use Rattle.ps_emit.specs.Table.{parts_code, table_text}
 use Rattle.ps_emit.proofs.Followed.{render_followed}
 use Rattle.ps_emit.proofs.tables.table.Goals as goal
 
@@ -14,4 +14,4 @@ returns c =
     let filled = rw c.as_slice-2.ensures at c.in_ok-fill_structs.ensures in
     let whole = structs and filled and c.in_ok-add_statics.ensures and c.in_ok-add_top.ensures in
     let begun = rw (c.in_ok-text.ensures, c.words_text.ensures) at whole.text in
-    begun ∙ sym (render_followed words _)
+    begun ∙ sym (render_followed words (parts_code c.args.program.now c.args.at.now))
