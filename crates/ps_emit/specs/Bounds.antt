@@ -1,8 +1,8 @@
 -- What a table costs: the bytes of its text, and the units of the store and the steps that it takes when it is run and each of its units is used.
 -- One number for each item of the program, all names having at most 63 bytes and file names at most 255.
-use Rattle.std.specs.Prelude.{ℕ, suc, ◌+◌, ◌*◌, ◌/◌, sum, List, [], ◌∷◌, map, length}
+use Rattle.std.specs.Prelude.{ℕ, suc, ◌+◌, ◌*◌, ◌/◌, List, [], ◌∷◌, map, length}
 use Rattle.c_tree.specs.declared.types.CType.{CType}
-use Rattle.c_tree.specs.declared.types.CType.TheVariants.{Char, Int, Unsigned, Void, Pointer', Array', Struct}
+use Rattle.c_tree.specs.declared.types.CType.TheVariants.{Pointer', Array'}
 use Rattle.c_tree.specs.declared.types.StructDef.{StructDef}
 use Rattle.c_tree.specs.declared.types.Member.{Member}
 use Rattle.c_tree.specs.declared.rows.Program.{Program}

@@ -1,12 +1,11 @@
 -- Units, functions and stopping points of a table.
-use Rattle.std.specs.Prelude.{ℕ, ℤ, pos, zero, List, [], ◌∷◌, length, Bool, true, false, Option, Some, None, slice_get}
+use Rattle.std.specs.Prelude.{ℕ, ℤ, pos, List, [], ◌∷◌, length, Bool, true, false, Option, Some, None, slice_get}
 use Rattle.obj_file.specs.declared.object.FunctionRow.{FunctionRow as Placed}
 use Rattle.obj_file.specs.declared.object.LocalPlace.{LocalPlace}
 use Rattle.c_tree.specs.declared.rows.Program.{Program}
 use Rattle.c_tree.specs.declared.rows.UnitRow.{UnitRow}
 use Rattle.c_tree.specs.declared.rows.Function.{Function}
 use Rattle.c_tree.specs.declared.rows.Point.{Point}
-use Rattle.c_tree.specs.declared.rows.SymbolRow.{SymbolRow}
 use Rattle.ps_text.specs.Code.{Code, Stop, render}
 use Rattle.ps_emit.specs.Terms.{◌⋯◌, word, string, integer, number, bracketed}
 use Rattle.ps_emit.specs.Symbols.{linked, coming, symbols_code, made_with}

@@ -1,5 +1,5 @@
 -- Procedures that leave the place of an object, and the static objects.
-use Rattle.std.specs.Prelude.{ℕ, suc, ◌+◌, ◌-◌, List, [], ◌∷◌, ◌++◌, Bool, true, false, take, length, codes, decimal, Option, Some, None, slice_get, if◌then◌else◌, pos}
+use Rattle.std.specs.Prelude.{ℕ, suc, ◌+◌, ◌-◌, List, [], ◌∷◌, ◌++◌, take, length, codes, decimal, Option, Some, None, slice_get, if◌then◌else◌, pos}
 use Rattle.obj_file.specs.declared.object.LocalPlace.{LocalPlace}
 use Rattle.obj_file.specs.declared.object.LocalPlace.TheVariants.{Slot, Reg}
 use Rattle.c_tree.specs.declared.rows.Program.{Program}

@@ -1,5 +1,5 @@
 -- Symbols of a table. They are made unit by unit, each when it first comes into scope at a stopping point, and kept under their numbers.
-use Rattle.std.specs.Prelude.{ℕ, zero, suc, nat_lt, List, [], ◌∷◌, ◌++◌, Option, Some, None, slice_get, if◌then◌else◌}
+use Rattle.std.specs.Prelude.{ℕ, zero, suc, nat_lt, List, [], ◌∷◌, Option, Some, None, slice_get, if◌then◌else◌}
 use Rattle.obj_file.specs.declared.object.LocalPlace.{LocalPlace}
 use Rattle.obj_file.specs.declared.object.FunctionRow.{FunctionRow}
 use Rattle.c_tree.specs.declared.rows.SymbolRow.{SymbolRow}

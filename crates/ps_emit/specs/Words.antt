@@ -1,7 +1,7 @@
 -- The words that a table begins with: each takes the parts of a dictionary from the operands, and leaves the dictionary. A table would say the
 -- same without them, in more bytes: each key would be scanned again with each dictionary.
 use Prim.Native.String.{String}
-use Rattle.std.specs.Prelude.{ℕ, pos, negsuc, codes}
+use Rattle.std.specs.Prelude.{ℕ, pos, negsuc}
 use Rattle.ps_text.specs.Code.{Code, Stop, ◌▸◌, n, w, l, p}
 use Rattle.ps_emit.specs.Terms.{◌⋯◌}
 

@@ -160,13 +160,7 @@ fn made_with(made: u32, s: Option<u32>) -> Result<u32, AllocError>
     ensures { IfOk result (λ n. n ≡ made_with made s) }
 {
     match s {
-        Some(s) => {
-            if s < made {
-                Ok(made)
-            } else {
-                following(s)
-            }
-        }
+        Some(s) => { if s < made { Ok(made) } else { following(s) } }
         None => Ok(made),
     }
 }

@@ -1,4 +1,4 @@
-use Rattle.std.proofs.Common.{◌≡◌, ◌++◌, ◌-◌, length, drop}
+use Rattle.std.proofs.Common.{◌≡◌, ◌++◌, ◌-◌, drop}
 use Rattle.ps_text.specs.Code.{render}
 use Rattle.ps_emit.specs.Functions.{functions_code}
 use Rattle.ps_emit.proofs.functions.add_functions.Given as goal

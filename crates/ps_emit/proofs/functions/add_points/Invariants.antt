@@ -1,4 +1,4 @@
-use Rattle.std.proofs.Common.{◌≡◌, ◌++◌, ◌-◌, length, drop}
+use Rattle.std.proofs.Common.{◌≡◌, ◌++◌, ◌-◌, drop}
 use Rattle.ps_text.specs.Code.{render}
 use Rattle.ps_emit.specs.Functions.{points_code, made_by}
 use Rattle.ps_emit.proofs.functions.add_points.Given as goal

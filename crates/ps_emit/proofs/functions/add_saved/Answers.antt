@@ -1,7 +1,5 @@
-use Rattle.std.proofs.Common.{refl, sym, ◌∙◌, ap, ◌≡◌, arith, rules, zero, suc, ◌+◌, ◌-◌, ◌++◌, List, ℕ, drop, length, get_or, w32, pos}
-use Rattle.std.proofs.lemmas.Result.{on_ok_weaker}
-use Rattle.ps_text.specs.Code.{render}
-use Rattle.ps_emit.proofs.Followed.{◌and◌, one_more, one_more_at, none_left, counted_more, nothing, braced, labelled, fronted}
+use Rattle.std.proofs.Common.{refl, sym, ◌∙◌, rules, ◌-◌, get_or, w32, pos}
+use Rattle.ps_emit.proofs.Followed.{one_more_at, none_left}
 use Rattle.ps_emit.specs.Functions.{saved_register, saved_code}
 use Rattle.std.proofs.Math.Facts.{to_z-of_z}
 use Rattle.ps_emit.proofs.functions.add_saved.Goals as goal

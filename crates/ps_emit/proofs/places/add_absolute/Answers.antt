@@ -1,6 +1,5 @@
-use Rattle.std.proofs.Common.{refl, sym, ◌∙◌, ap, ◌≡◌, arith, suc, ◌++◌}
 use Rattle.std.proofs.lemmas.Result.{on_ok_weaker}
-use Rattle.ps_emit.proofs.Followed.{◌and◌, one_more, one_more_at, none_left, counted_more, nothing, braced, labelled}
+use Rattle.ps_emit.proofs.Followed.{◌and◌, braced}
 use Rattle.ps_emit.proofs.places.add_absolute.Goals as goal
 
 pub returns : goal.returns

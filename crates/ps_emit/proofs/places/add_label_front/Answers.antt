@@ -1,7 +1,4 @@
-use Rattle.std.proofs.Common.{refl, sym, ◌∙◌, ap, ◌≡◌, arith, suc, ◌+◌, ◌++◌, List, ℕ, drop}
-use Rattle.std.proofs.lemmas.Result.{on_ok_weaker}
-use Rattle.ps_text.specs.Code.{render}
-use Rattle.ps_emit.proofs.Followed.{◌and◌, one_more, one_more_at, none_left, counted_more, nothing, braced, labelled, fronted}
+use Rattle.ps_emit.proofs.Followed.{fronted}
 use Rattle.std.proofs.Common.{slice_get}
 use Rattle.ps_emit.specs.Places.{file_in, without_ending}
 use Rattle.ps_emit.proofs.places.add_label_front.Goals as goal
@@ -10,4 +7,4 @@ pub returns-in_ok-push : goal.returns-in_ok-push
 returns-in_ok-push c =
     let h = rw (c.without_ending.ensures, c.file_of.ensures) at c.in_ok-add_bytes.ensures in
     rw c.if-o.true
-        (fronted c.args.text.now c.add_bytes.new.text c.push.new.self (without_ending (file_in (slice_get c.args.units.now c.args.o.now.unit))) h c.in_ok-push.ensures.ok)
+    (fronted c.args.text.now c.add_bytes.new.text c.push.new.self (without_ending (file_in (slice_get c.args.units.now c.args.o.now.unit))) h c.in_ok-push.ensures.ok)

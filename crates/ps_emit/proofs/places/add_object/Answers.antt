@@ -1,7 +1,5 @@
-use Rattle.std.proofs.Common.{refl, sym, ◌∙◌, ap, ◌≡◌, arith, suc, ◌+◌, ◌++◌, List, ℕ, drop}
 use Rattle.std.proofs.lemmas.Result.{on_ok_weaker}
-use Rattle.ps_text.specs.Code.{render}
-use Rattle.ps_emit.proofs.Followed.{◌and◌, one_more, one_more_at, none_left, counted_more, nothing, braced, labelled, fronted}
+use Rattle.ps_emit.proofs.Followed.{◌and◌}
 use Rattle.ps_emit.proofs.places.add_object.Goals as goal
 
 pub returns : goal.returns

@@ -1,9 +1,6 @@
-use Rattle.std.proofs.Common.{refl, sym, ◌∙◌, ap, ◌≡◌, arith, rules, zero, suc, ◌+◌, ◌-◌, ◌++◌, List, ℕ, drop, length, get_or}
-use Rattle.std.proofs.lemmas.Result.{on_ok_weaker}
-use Rattle.ps_text.specs.Code.{render}
-use Rattle.ps_emit.proofs.Followed.{◌and◌, one_more, one_more_at, none_left, counted_more, nothing, braced, labelled, fronted}
+use Rattle.std.proofs.Common.{ap, ◌≡◌, arith, zero, ◌-◌, length}
 use Rattle.ps_emit.specs.Symbols.{coming}
-use Rattle.ps_emit.proofs.Chains.{coming_none, coming_made, chain_more, chain_ends, one_before}
+use Rattle.ps_emit.proofs.Chains.{coming_none, coming_made, chain_more, chain_ends}
 use Rattle.ps_emit.proofs.symbols.coming.Goals as goal
 
 pub loop-step-init : goal.loop-step-init
@@ -15,8 +12,8 @@ pub loop-step-preserved : goal.loop-step-preserved
 loop-step-preserved c =
     let before = rw c.in-Some.is at c.loop-step.invariant in
     rw (c.in_ok-push.ensures.items, c.up_of-at.ensures)
-        (chain_more c.loop-step.chain.items (length c.args.symbols.now) c.loop-step.step c.args.symbols.now c.args.made c.in-Some.s
-            (coming (length c.args.symbols.now) c.args.symbols.now c.args.made c.args.from) c.loop-step-test.true c.if-s-made.false before)
+    (chain_more c.loop-step.chain.items (length c.args.symbols.now) c.loop-step.step c.args.symbols.now c.args.made c.in-Some.s
+    (coming (length c.args.symbols.now) c.args.symbols.now c.args.made c.args.from) c.loop-step-test.true c.if-s-made.false before)
 
 pub returns-in_default : goal.returns-in_default
 returns-in_default c =

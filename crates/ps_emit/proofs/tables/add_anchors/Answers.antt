@@ -1,7 +1,5 @@
-use Rattle.std.proofs.Common.{refl, sym, ◌∙◌, ap, ◌≡◌, arith, rules, zero, suc, ◌+◌, ◌-◌, ◌++◌, List, ℕ, drop, length, get_or}
-use Rattle.std.proofs.lemmas.Result.{on_ok_weaker}
-use Rattle.ps_text.specs.Code.{render}
-use Rattle.ps_emit.proofs.Followed.{◌and◌, one_more, one_more_at, none_left, counted_more, nothing, braced, labelled, fronted}
+use Rattle.std.proofs.Common.{refl, sym, ◌∙◌, ◌-◌}
+use Rattle.ps_emit.proofs.Followed.{none_left, counted_more}
 use Rattle.ps_emit.specs.Table.{anchor_code, anchors_code}
 use Rattle.ps_emit.proofs.tables.add_anchors.Goals as goal
 
@@ -9,7 +7,7 @@ pub loop-i-preserved : goal.loop-i-preserved
 loop-i-preserved c =
     let added = rw (← c.index-anchors-i.is) at c.in_ok-add_anchor.ensures in
     counted_more anchors_code c.loop-i.k c.in_ok-k.k (anchor_code c.loop-i.k c.index-anchors-i.result.1) c.args.anchors.now c.loop-i.i c.index-anchors-i.result
-        c.in_ok-k.ensures c.loop-i-test.true c.index-anchors-i.is refl added
+    c.in_ok-k.ensures c.loop-i-test.true c.index-anchors-i.is refl added
     ∙ c.loop-i.invariant
 
 pub returns : goal.returns

@@ -1,7 +1,6 @@
-use Rattle.std.proofs.Common.{refl, sym, ◌∙◌, ap, ◌≡◌, arith, suc, ◌+◌, ◌-◌, ◌++◌, List, ℕ, drop, length, get_or}
+use Rattle.std.proofs.Common.{◌-◌}
 use Rattle.std.proofs.lemmas.Result.{on_ok_weaker}
-use Rattle.ps_text.specs.Code.{render}
-use Rattle.ps_emit.proofs.Followed.{◌and◌, one_more, one_more_at, none_left, counted_more, nothing, braced, labelled, fronted}
+use Rattle.ps_emit.proofs.Followed.{◌and◌}
 use Rattle.ps_emit.proofs.tables.add_top.Goals as goal
 
 pub returns : goal.returns
@@ -11,11 +10,11 @@ returns c =
     let tags = rw c.as_slice-2.ensures at c.in_ok-add_tags.ensures in
     let units = rw (c.as_slice-3.ensures, c.as_slice-4.ensures) at c.in_ok-add_units.ensures in
     on_ok_weaker _
-        (λ e. c.in_ok-add_word.ensures and
-            (c.in_ok-add_name.ensures and c.in_ok-add_integer.ensures and c.in_ok-add_name-2.ensures and target
-            and c.in_ok-add_name-3.ensures and (c.in_ok-add_word-2.ensures and anchors and c.in_ok-add_word-3.ensures)
-            and c.in_ok-add_name-4.ensures and (c.in_ok-add_word-4.ensures and tags and c.in_ok-add_word-5.ensures)
-            and c.in_ok-add_name-5.ensures and c.in_ok-add_word-6.ensures
-            and c.in_ok-add_name-6.ensures and (c.in_ok-add_word-7.ensures and units and c.in_ok-add_word-8.ensures))
-            and e)
-        c.add_word-9.ensures
+    (λ e. c.in_ok-add_word.ensures and
+    (c.in_ok-add_name.ensures and c.in_ok-add_integer.ensures and c.in_ok-add_name-2.ensures and target
+    and c.in_ok-add_name-3.ensures and (c.in_ok-add_word-2.ensures and anchors and c.in_ok-add_word-3.ensures)
+    and c.in_ok-add_name-4.ensures and (c.in_ok-add_word-4.ensures and tags and c.in_ok-add_word-5.ensures)
+    and c.in_ok-add_name-5.ensures and c.in_ok-add_word-6.ensures
+    and c.in_ok-add_name-6.ensures and (c.in_ok-add_word-7.ensures and units and c.in_ok-add_word-8.ensures))
+    and e)
+    c.add_word-9.ensures

@@ -1,7 +1,5 @@
-use Rattle.std.proofs.Common.{refl, sym, ◌∙◌, ap, ◌≡◌, arith, suc, ◌+◌, ◌-◌, ◌++◌, List, ℕ, drop, length, get_or}
-use Rattle.std.proofs.lemmas.Result.{on_ok_weaker}
-use Rattle.ps_text.specs.Code.{render}
-use Rattle.ps_emit.proofs.Followed.{◌and◌, one_more, one_more_at, none_left, counted_more, nothing, braced, labelled, fronted}
+use Rattle.std.proofs.Common.{sym, ◌∙◌, ◌-◌}
+use Rattle.ps_emit.proofs.Followed.{◌and◌}
 use Rattle.ps_emit.specs.Words.{words}
 use Rattle.ps_emit.specs.Table.{parts_code, table_text}
 use Rattle.ps_emit.proofs.Followed.{render_followed}

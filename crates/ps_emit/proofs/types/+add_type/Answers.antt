@@ -1,4 +1,3 @@
-use Rattle.std.proofs.Common.{refl, sym, ap, ◌∙◌}
 use Rattle.std.proofs.lemmas.Result.{on_ok_weaker}
 use Rattle.ps_emit.proofs.Followed.{◌and◌}
 use Rattle.ps_emit.proofs.types.+add_type.Goals as goal
