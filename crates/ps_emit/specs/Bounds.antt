@@ -53,13 +53,21 @@ per_point = record { bytes = 62; made = 10; steps = 32 }
 abbrev pub per_saved : Cost
 per_saved = record { bytes = 28; made = 8; steps = 4 }
 
--- `(name) static entry end frame [ ] [ ] NewFunction`, with as many saved registers as a function has at most
-abbrev pub per_function : Cost
-per_function = record { bytes = 130; made = 28; steps = 54 } and times 9 per_saved
+-- `(name) static entry end frame [ ] [ ] NewFunction`
+abbrev pub function_alone : Cost
+function_alone = record { bytes = 130; made = 28; steps = 54 }
 
--- `(file) (..) cvx NewUnit`, `1 dict begin [ ] end`, and the three symbols of the built-ins with their types
+-- with as many saved registers as a function has at most
+abbrev pub per_function : Cost
+per_function = function_alone and times 9 per_saved
+
+-- `(file) (..) cvx NewUnit` and `1 dict begin [ ] end`
+abbrev pub unit_alone : Cost
+unit_alone = record { bytes = 559; made = 40; steps = 24 }
+
+-- with the three symbols of the built-ins and their types
 abbrev pub per_unit : Cost
-per_unit = record { bytes = 549; made = 40; steps = 24 } and times 3 (per_symbol and per_constructor)
+per_unit = unit_alone and times 3 (per_symbol and per_constructor)
 
 -- `/tag size NewStruct`, `structs n get /members [ ] put`, `/tag structs n get`
 abbrev pub per_struct : Cost
@@ -67,15 +75,15 @@ per_struct = record { bytes = 217; made = 37; steps = 30 }
 
 -- `[ (name) offset type ]`
 abbrev pub per_member : Cost
-per_member = record { bytes = 82; made = 14; steps = 4 }
+per_member = record { bytes = 84; made = 14; steps = 4 }
 
 -- `(name) (label) { 0 /aK Anchor Absolute } type NewObject`, and `/aK address`
 abbrev pub per_object : Cost
-per_object = record { bytes = 709; made = 50; steps = 35 }
+per_object = record { bytes = 721; made = 50; steps = 35 }
 
 -- `(strK) { 0 /aK Anchor Absolute } char n ArrayOf NewString`, and `/aK address`
 abbrev pub per_string : Cost
-per_string = record { bytes = 111; made = 35; steps = 58 }
+per_string = record { bytes = 123; made = 35; steps = 58 }
 
 -- the words, and what stands round the items
 abbrev pub always : Cost
@@ -88,23 +96,23 @@ constructors (Pointer' _ t) = suc (constructors t)
 constructors (Array' _ t n) = suc (constructors t)
 constructors _ = 1
 
-abbrev of_type : CType → Cost
+abbrev pub of_type : CType → Cost
 of_type t = times (constructors t) per_constructor
 
-abbrev of_member : Member → Cost
+abbrev pub of_member : Member → Cost
 of_member m = per_member and of_type m.ctype
 
 abbrev of_struct : StructDef → Cost
 of_struct d = per_struct and all (map of_member d.members)
 
-abbrev of_object : ObjectRow → Cost
+abbrev pub of_object : ObjectRow → Cost
 of_object o = per_object and of_type o.ctype
 
-abbrev of_named : Referent → CType → Cost
+abbrev pub of_named : Referent → CType → Cost
 of_named (refers.Object o) t = per_object_symbol
 of_named _ t = per_symbol and of_type t
 
-abbrev of_symbol : SymbolRow → Cost
+abbrev pub of_symbol : SymbolRow → Cost
 of_symbol s = of_named s.refers s.ctype
 
 abbrev pub cost_of : Program → Cost
@@ -120,7 +128,7 @@ units_of p = (cost_of p).made + (cost_of p).bytes / 8 + 2 * (1 + length p.units)
 
 -- What an item costs for each token that it is written with, at most. An object and its symbol stand at a name, which another token follows;
 -- a `*` is a constructor; a function has six tokens and two points; any other point, a local, a member and a string have two, and so has the
--- mention of a struct; a string that is a statement has two, and a point. 40,000 tokens in 16 files make at most 16,098,604 bytes, of the
+-- mention of a struct; a string that is a statement has two, and a point. 40,000 tokens in 16 files make at most 16,338,764 bytes, of the
 -- 16,777,216 that a text may have, and 1,804,154 steps.
 abbrev pub per_token : Cost
-per_token = record { bytes = 402; made = 38; steps = 45 }
+per_token = record { bytes = 408; made = 38; steps = 45 }

@@ -7,3 +7,4 @@ pub mod Symbols
 pub mod Functions
 pub mod Table
 pub mod Bounds
+pub mod Lengths

@@ -2,6 +2,7 @@
 #![tactic(auto)]
 
 mod functions;
+mod laws;
 mod placement;
 mod places;
 mod symbols;
@@ -10,5 +11,6 @@ mod terms;
 mod types;
 mod words;
 
+pub use laws::items_are_short;
 pub use placement::Placement;
 pub use tables::table;
