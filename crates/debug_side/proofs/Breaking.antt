@@ -24,8 +24,8 @@ use Rattle.debug_side.specs.Wrote.{Wrote, none_written, writes}
 use Rattle.debug_side.specs.Planting.{IsPut, IsOther, PlantsOne, IsSide}
 use Rattle.debug_side.specs.Breaks.{PlantsTo, SetsBreak, ClearsTo, ClearsBreak}
 use Rattle.debug_side.proofs.Putting.{left_of, not_left}
-use Rattle.debug_side.proofs.Events.{noop_is, break_is}
-use Rattle.debug_side.proofs.StepWords.{read_word, side_word, side_with, was_read, differs, bind_ok, bind_err, in_range, out_of_range, no_op_there}
+use Rattle.debug_side.proofs.Events.{noop_is, break_is, with_some, with_none}
+use Rattle.debug_side.proofs.StepWords.{read_word, side_word, differs, bind_ok, bind_err, in_range, out_of_range, no_op_there}
 
 -- ---- a side of a target with these bytes
 
@@ -51,7 +51,7 @@ planted : (target : ℕ) (p : Point) (b : Bytes) (r : Regions) → IsPut target 
 planted target p b r put = λ (a : SideState) (s : StoreState) (t : TableUse) is.
     let test : no_op_there a (noop_of target) ≡ true = eq-eqb (noop_of target) (words_of a).no_op (sym (no_op_is target b a is)) in
     let write = write_is target b a p.at (break_of target) (words_of a).break_word (Ok r) is (break_is a.machine.target ∙ ap break_of is.target_is) put.is in
-    let there : planted_if a (point_row s p) true t (Ok (with_memory r a)) t = in_range (with_word a p.at (words_of a).break_word) (with_memory r a) t (side_with a p.at (words_of a).break_word r write) in
+    let there : planted_if a (point_row s p) true t (Ok (with_memory r a)) t = in_range (with_word a p.at (words_of a).break_word) (with_memory r a) t (with_some a p.at (words_of a).break_word r write) in
     bind_ok (or_range (word_of_side a p.at)) (λ (w : ℕ). planted_if a (point_row s p) (no_op_there a w)) (noop_of target) t (Ok (with_memory r a)) t
     (in_range (word_of_side a p.at) (noop_of target) t (word_is target b a p.at (Some (noop_of target)) is put.was))
     (subst (λ (x : Bool). planted_if a (point_row s p) x t (Ok (with_memory r a)) t) (sym test) there)
@@ -82,11 +82,7 @@ sets target p s s' (Err (mem.BadReply frame)) h = h
 cleared : (target : ℕ) (p : Point) (b : Bytes) (r : Regions) → write_of b.order b.regions p.at 4 (noop_of target) ≡ Ok r → ClearsTo target p (λ a. Ok (with_memory r a)) b
 cleared target p b r e = λ (a : SideState) (t : TableUse) is.
     in_range (with_word a p.at (words_of a).no_op) (with_memory r a) t
-    (side_with a p.at (words_of a).no_op r (write_is target b a p.at (noop_of target) (words_of a).no_op (Ok r) is (no_op_is target b a is) e))
-
-side_without : (a : SideState) (at w : ℕ) (z : Outside) → write_of (order_of a.machine) a.machine.memory at 4 w ≡ Err z → with_word a at w ≡ None
-unfolding stored
-side_without a at w z e = rw e refl
+    (with_some a p.at (words_of a).no_op r (write_is target b a p.at (noop_of target) (words_of a).no_op (Ok r) is (no_op_is target b a is) e))
 
 not_done : (x : Result Regions Outside) → or_none x ≡ None → (z : Outside) × (x ≡ Err z)
 not_done (Ok r) e = cc
@@ -96,7 +92,7 @@ not_cleared : (target : ℕ) (p : Point) (b : Bytes) → stored b Memory p.at Wo
 not_cleared target p b none = λ (a : SideState) (t : TableUse) is.
     let x = not_done (write_of b.order b.regions p.at 4 (noop_of target)) (not_left b p.at (noop_of target) none) in
     let write = write_is target b a p.at (noop_of target) (words_of a).no_op (Err x.0) is (no_op_is target b a is) x.1 in
-    out_of_range (with_word a p.at (words_of a).no_op) t (side_without a p.at (words_of a).no_op x.0 write)
+    out_of_range (with_word a p.at (words_of a).no_op) t (with_none a p.at (words_of a).no_op x.0 write)
 
 pub clears : {R : Type 0} (target : ℕ) (p : Point) (s s' : Seen R) (x : Result Unit MemFault) → Stores s (in_memory p.at) Word (noop_of target) x s' → ClearsBreak target p s x s'
 clears {R = R} target p s s' (Ok x) h = record {

@@ -15,7 +15,7 @@ use Rattle.frame_bytes.specs.Bytes.{stored, or_none}
 use Rattle.ps_store.specs.StoreState.{StoreState}
 use Rattle.table_model.specs.Rows.{PointRow}
 use Rattle.break_plant.specs.Planted.{noop_of, break_of}
-use Rattle.claims.specs.Side.{SideEvent, SideState, words_of_target, with_memory, context_place}
+use Rattle.claims.specs.Side.{SideEvent, SideState, words_of_target, words_of, with_memory, context_place}
 use Rattle.claims.specs.Breaks.{at_address, with_word, words_removed, remove_step_words}
 use Rattle.claims.specs.Resumes.{past_no_op, with_context_word, event_by, stop_address as stop_address_of, after_event}
 use Rattle.debug_side.specs.declared.point.Point.{Point}
@@ -99,12 +99,39 @@ address_is s event.OutOfStack = refl
 
 -- ---- the words of a step are taken away
 
-step_removed : (s : StoreState) (p : Point) (ps : List Point) (a : SideState) (x : Result Regions Outside) → write_of (order_of a.machine) a.machine.memory p.at 4 (noop_of a.machine.target) ≡ x
-    → ((a' : SideState) → words_removed (point_rows s ps) a' ≡ with_memory (words_put (order_of a'.machine) (noop_of a'.machine.target) (map address_of ps) a'.machine.memory) a')
-    → words_removed (point_rows s (p ∷ ps)) a ≡ with_memory (words_put (order_of a.machine) (noop_of a.machine.target) (map address_of (p ∷ ps)) a.machine.memory) a
+pub with_some : (a : SideState) (at w : ℕ) (r : Regions) → write_of (order_of a.machine) a.machine.memory at 4 w ≡ Ok r → with_word a at w ≡ Some (with_memory r a)
 unfolding stored
-step_removed s p ps a (Ok r) e ih = rw (noop_is a.machine.target, e) (ih (with_memory r a))
-step_removed s p ps a (Err z) e ih = rw (noop_is a.machine.target, e) (ih a)
+with_some a at w r e = rw e refl
+
+pub with_none : (a : SideState) (at w : ℕ) (z : Outside) → write_of (order_of a.machine) a.machine.memory at 4 w ≡ Err z → with_word a at w ≡ None
+unfolding stored
+with_none a at w z e = rw e refl
+
+abbrev taken : SideState → Option SideState → SideState
+taken a None = a
+taken a (Some a') = a'
+
+one_removed : (rows : List PointRow) (row : PointRow) (a : SideState) (x : Option SideState) → with_word a row.at (words_of a).no_op ≡ x → words_removed (row ∷ rows) a ≡ words_removed rows (taken a x)
+one_removed rows row a x e = ap (λ (y : Option SideState). words_removed rows (taken a y)) e
+
+-- the words of all points are put back
+abbrev all_back : List Point → SideState → Regions → SideState
+all_back ps a r = with_memory (words_put (order_of a.machine) (noop_of a.machine.target) (map address_of ps) r) a
+
+step_removed : (s : StoreState) (p : Point) (ps : List Point) (a : SideState) (x : Result Regions Outside) → write_of (order_of a.machine) a.machine.memory p.at 4 (noop_of a.machine.target) ≡ x
+    → ((a' : SideState) → words_removed (point_rows s ps) a' ≡ all_back ps a' a'.machine.memory) → words_removed (point_rows s (p ∷ ps)) a ≡ all_back (p ∷ ps) a a.machine.memory
+step_removed s p ps a (Ok r) e ih =
+    let write : write_of (order_of a.machine) a.machine.memory p.at 4 (words_of a).no_op ≡ Ok r = ap (λ (w : ℕ). write_of (order_of a.machine) a.machine.memory p.at 4 w) (noop_is a.machine.target) ∙ e in
+    let put : word_put (order_of a.machine) (noop_of a.machine.target) p.at a.machine.memory ≡ r = ap (λ (z : Result Regions Outside). or_same a.machine.memory (or_none z)) e in
+    one_removed (point_rows s ps) (point_row s p) a (Some (with_memory r a)) (with_some a p.at (words_of a).no_op r write)
+    ∙ ih (with_memory r a)
+    ∙ ap (λ (m : Regions). all_back ps a m) (sym put)
+step_removed s p ps a (Err z) e ih =
+    let write : write_of (order_of a.machine) a.machine.memory p.at 4 (words_of a).no_op ≡ Err z = ap (λ (w : ℕ). write_of (order_of a.machine) a.machine.memory p.at 4 w) (noop_is a.machine.target) ∙ e in
+    let put : word_put (order_of a.machine) (noop_of a.machine.target) p.at a.machine.memory ≡ a.machine.memory = ap (λ (y : Result Regions Outside). or_same a.machine.memory (or_none y)) e in
+    one_removed (point_rows s ps) (point_row s p) a None (with_none a p.at (words_of a).no_op z write)
+    ∙ ih a
+    ∙ ap (λ (m : Regions). all_back ps a m) (sym put)
 
 pub removed_is : (s : StoreState) (ps : List Point) (a : SideState)
     → words_removed (point_rows s ps) a ≡ with_memory (words_put (order_of a.machine) (noop_of a.machine.target) (map address_of ps) a.machine.memory) a

@@ -55,17 +55,17 @@ abbrev TurnReached : Behaviour → MachineState → Turn → Type 0
 TurnReached b m (Goes byte n) = Reached b m n
 TurnReached b m (Ends c n) = Reached b m n
 
-either_turn : {b : Behaviour} {m : MachineState} (t : Bool) (x y : Turn) → TurnReached b m x → TurnReached b m y → TurnReached b m (if t then x else y)
-either_turn true x y h k = h
-either_turn false x y h k = k
+either_turn : (b : Behaviour) (m : MachineState) (t : Bool) (x y : Turn) → TurnReached b m x → TurnReached b m y → TurnReached b m (if t then x else y)
+either_turn b m true x y h k = h
+either_turn b m false x y h k = k
 
 module _ (b : Behaviour) (m : MachineState) where
   requested_reached : (k : ℕ) (n : MachineState) → Reached b m n → TurnReached b m (requested b k n)
   requested_reached k n h =
-      either_turn {b} {m} (nat_eq k 2) (Goes n.put (record n { put = None })) _ (taken h)
-      (either_turn {b} {m} (nat_eq k 3) (Ends (cause.Exit (b.argument n)) n) _ h
-      (either_turn {b} {m} (nat_eq k 4) (Ends cause.Pause n) _ h
-      (either_turn {b} {m} (nat_eq k 5) (Ends cause.Stack n) (Goes None n) h h)))
+      either_turn b m (nat_eq k 2) (Goes n.put (record n { put = None })) _ (taken h)
+      (either_turn b m (nat_eq k 3) (Ends (cause.Exit (b.argument n)) n) _ h
+      (either_turn b m (nat_eq k 4) (Ends cause.Pause n) _ h
+      (either_turn b m (nat_eq k 5) (Ends cause.Stack n) (Goes None n) h h)))
 
   answered_reached : (p : Event × MachineState) → Reached b m p.1 → TurnReached b m (answered b p)
   answered_reached (event.Went, n) h = h

@@ -37,7 +37,7 @@ use Rattle.debug_side.specs.declared.point.MachineKind.{MachineKind}
 use Rattle.debug_side.specs.declared.point.SideRow.{SideRow}
 use Rattle.debug_side.specs.declared.event.Event.{Event}
 use Rattle.debug_side.specs.declared.event.Event.TheVariants as event
-use Rattle.debug_side.specs.Meant.{address_of, point_rows, side_event, kept_event, side_by, event_of, stop_address, is_turns}
+use Rattle.debug_side.specs.Meant.{address_of, point_rows, side_event, kept_event, side_by, event_of, stop_address, is_turns, keeps_words}
 use Rattle.debug_side.specs.Wrote.{Wrote, Puts, LedTalk, passed, words_put}
 use Rattle.debug_side.specs.Ran.{GoesOn, MayResume, ran_side, met_side, Resumed, SideTold, Talked, asked, ran, SideCalled}
 use Rattle.debug_side.proofs.Here.{reached_on, run_from_reached, Changed, wire_changed, wire_untold, puts_count}
@@ -45,21 +45,21 @@ use Rattle.debug_side.proofs.Events.{past_is, event_is, address_is, removed_is, 
 
 -- ---- counts
 
-pub counts_talk : {A : Type 0} (link link' out : ℕ) (f : TalkFault) → CountsTalk {A = Unit {0}} link (Err f) link' → CountsRun {A = A} link link' out out (Err (fault.Talk f))
-counts_talk link link' out talk.LinkFault h = (h, refl)
-counts_talk link link' out (talk.BadReply frame) h = (h, refl)
+pub counts_talk : (A : Type 0) (link link' out : ℕ) (f : TalkFault) → CountsTalk {A = Unit {0}} link (Err f) link' → CountsRun {A = A} link link' out out (Err (fault.Talk f))
+counts_talk A link link' out talk.LinkFault h = (h, refl)
+counts_talk A link link' out (talk.BadReply frame) h = (h, refl)
 
-pub counts_after : {A B : Type 0} (a b c out out' : ℕ) (x : Result A RunFault) → b ≡ a → CountsRun b c out out' x → CountsRun a c out out' x
-counts_after {A = A} a b c out out' x e h = subst (λ (n : ℕ). CountsRun {A = A} n c out out' x) e h
+pub counts_after : (A : Type 0) (a b c out out' : ℕ) (x : Result A RunFault) → b ≡ a → CountsRun b c out out' x → CountsRun a c out out' x
+counts_after A a b c out out' x e h = subst (λ (n : ℕ). CountsRun {A = A} n c out out' x) e h
 
-pub counts_other : {A B : Type 0} (a b out out' : ℕ) (f : RunFault) → CountsRun {A = A} a b out out' (Err f) → CountsRun {A = B} a b out out' (Err f)
-counts_other a b out out' (fault.Talk talk.LinkFault) h = h
-counts_other a b out out' (fault.Talk (talk.BadReply frame)) h = h
-counts_other a b out out' fault.Output h = h
+pub counts_other : (A B : Type 0) (a b out out' : ℕ) (f : RunFault) → CountsRun {A = A} a b out out' (Err f) → CountsRun {A = B} a b out out' (Err f)
+counts_other A B a b out out' (fault.Talk talk.LinkFault) h = h
+counts_other A B a b out out' (fault.Talk (talk.BadReply frame)) h = h
+counts_other A B a b out out' fault.Output h = h
 
-pub counts_then : {A B : Type 0} (a b c out out' : ℕ) (x : A) (f : TalkFault) → CountsRun {A = A} a b out out' (Ok x) → CountsTalk {A = Unit {0}} b (Err f) c → CountsRun {A = B} a c out out' (Err (fault.Talk f))
-counts_then a b c out out' x talk.LinkFault h k = (subst (λ (n : ℕ). Rose n c) h.0 k, h.1)
-counts_then a b c out out' x (talk.BadReply frame) h k = (k ∙ h.0, h.1)
+pub counts_then : (A B : Type 0) (a b c out out' : ℕ) (x : A) (f : TalkFault) → CountsRun {A = A} a b out out' (Ok x) → CountsTalk {A = Unit {0}} b (Err f) c → CountsRun {A = B} a c out out' (Err (fault.Talk f))
+counts_then A B a b c out out' x talk.LinkFault h k = (subst (λ (n : ℕ). Rose n c) h.0 k, h.1)
+counts_then A B a b c out out' x (talk.BadReply frame) h k = (k ∙ h.0, h.1)
 
 -- ---- calls
 
@@ -77,9 +77,9 @@ module _ {S : Type 0} (took : S → Side → List ℕ → ℕ → S → Type 0) 
   called_badly side side' s u talk.LinkFault h = tt
   called_badly side side' s u (talk.BadReply frame) h = asked h.calls
 
-  pub called_run : (side side' : Side) (s t u : S) (turns : ℕ) (x : Result Ending RunFault) (r : Result Event RunFault) (e : Ending) (end : Event) → WireLeads took gave s side None t side'
+  pub called_run : (side side' : Side) (s t u : S) (turns : ℕ) (e : Ending) (end : Event) → WireLeads took gave s side None t side'
       → RunsBy (took_on took side') (gave_on gave side') turns t (Ok e) u → SideCalled took gave side s (Ok end) side' u
-  called_run side side' s t u turns x r e end led runs =
+  called_run side side' s t u turns e end led runs =
       let run = subst (λ (y : Side). RunsBy (took_on took y) (gave_on gave y) turns t (Ok e) u) led.side_is runs in
       (led.side_is, ran turns run.0 e led.calls run.1 (asked none_more))
 
@@ -292,9 +292,9 @@ module _ (b : Behaviour) (c : Conduct) (kind : MachineKind) (side : Side) (order
   fails_told fault.Output row' row'' side' order' o' taken taken' t = subst (TakesFront taken taken') (same_output row.kept refl) t
 
   -- a run behind which the words of a step are taken away
-  words_go : (e : Event) (k : Option Event) (is_kept : Bool) → row.kept ≡ k → side_event s e ≡ met.event → (k ≡ None → is_turns e ≡ false) → the_whole ≡ without_words met
-  words_go e (Some x) is_kept kept came_to other = resume_some b limit start (side_event s x) (ap (kept_event s) kept)
-  words_go e None is_kept kept came_to other =
+  words_go : (e : Event) (k : Option Event) → row.kept ≡ k → side_event s e ≡ met.event → (k ≡ None → is_turns e ≡ false) → the_whole ≡ without_words met
+  words_go e (Some x) kept came_to other = resume_some b limit start (side_event s x) (ap (kept_event s) kept)
+  words_go e None kept came_to other =
       let x = none_kept kept in
       let its : event_by start its_run.ending ≡ side_event s e = sym (ap (λ (r : SideRun). r.event) x.0) ∙ sym came_to in
       let ran_to : SideState = record start { machine = its_run.machine } in
@@ -312,12 +312,12 @@ module _ (b : Behaviour) (c : Conduct) (kind : MachineKind) (side : Side) (order
   same_target m n reached =
       may.order_is ∙ ap order_of_target (may.target_is h.machine begins ∙ sym (may.target_is m reached))
 
-  pub words_told : (e : Event) (is_kept : Bool) (row' row'' : SideRow) (side' side'' : Side) (order' order'' : Order) (o' o'' : Option World) (fl fl' : ℕ) (taken taken' : Option (List ℕ))
+  pub words_told : (e : Event) (row' row'' : SideRow) (side' side'' : Side) (order' order'' : Order) (o' o'' : Option World) (fl fl' : ℕ) (taken taken' : Option (List ℕ))
       → (row.kept ≡ None → is_turns e ≡ false) → row''.step_words.items ≡ [] → row''.breaks ≡ row'.breaks → row''.stands_at ≡ row'.stands_at → row''.kept ≡ row'.kept
       → SideTold b c side order s frame met h beside (Ok e) row' side' order' o' taken taken'
       → Wrote (wire_seen c o' fl side' order') (wire_seen c o'' fl' side'' order'') (λ y r. r ≡ words_put y.order (noop_of kind.target) (map address_of row'.step_words.items) y.regions)
       → SideTold b c side order s frame the_whole h beside (Ok e) row'' side'' order'' o'' taken taken'
-  words_told e is_kept row' row'' side' side'' order' order'' o' o'' fl fl' taken taken' other none breaks stands kept q wrote =
+  words_told e row' row'' side' side'' order' order'' o' o'' fl fl' taken taken' other none breaks stands kept q wrote =
       let m : MachineState = q.host.machine in
       let ats : List ℕ = map address_of row'.step_words.items in
       let w1 = subst (λ (x : Side). Wrote (wire_seen c o' fl x order') (wire_seen c o'' fl' side'' order'') (λ y r. r ≡ words_put y.order (noop_of kind.target) ats y.regions)) q.side_kept wrote in
@@ -328,7 +328,7 @@ module _ (b : Behaviour) (c : Conduct) (kind : MachineKind) (side : Side) (order
       let target_side : side_by s m' frame row'' ≡ remove_step_words (side_by s m frame row') =
       ap (λ (w : ℕ). side_by s (record m { memory = words_put (order_of m) w ats m.memory }) frame row'') noop
       ∙ all_removed s m frame row' row'' none breaks stands kept in
-      let run : the_whole ≡ without_words met = words_go e row.kept is_kept refl q.event_is (λ k. other k) in
+      let run : the_whole ≡ without_words met = words_go e row.kept refl q.event_is other in
       subst (λ (r : SideRun). Resumed b c side order s frame r h beside e row'' side'' order'' o'' taken taken') (sym run)
       (record {
         host = host q.host.nub m';
@@ -351,3 +351,13 @@ module _ (b : Behaviour) (c : Conduct) (kind : MachineKind) (side : Side) (order
       let p1 = subst (λ (x : Side). Untold (wire_seen c o' fl x order') (wire_seen c o'' fl' side'' order'')) q.side_kept p in
       let p2 = subst (λ (x : Order). Untold (wire_seen c o' fl side x) (wire_seen c o'' fl' side'' order'')) q.order_kept p1 in
       wire_untold b c side order o' q.host beside q.stands fl fl' side'' order'' o'' (same_target q.host.machine q.host.machine q.reached) p2
+
+-- ---- whether the words of a step stay
+
+pub stay_by : (k : Option Event) (e : Event) → keeps_words k e ≡ true → (k ≡ None) × (is_turns e ≡ true)
+stay_by None e h = (refl, h)
+stay_by (Some x) e h = cc
+
+pub go_by : (k : Option Event) (e : Event) → keeps_words k e ≡ false → k ≡ None → is_turns e ≡ false
+go_by None e h n = h
+go_by (Some x) e h n = cc

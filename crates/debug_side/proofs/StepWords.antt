@@ -13,11 +13,14 @@ use Rattle.machine_state.specs.Sound.{IsMemory}
 use Rattle.machine_state.proofs.SoundMemory.{write_memory}
 use Rattle.std.proofs.Common.{inr, IfOk}
 use Rattle.frame_bytes.specs.declared.frame.Space.TheVariants.{Memory}
+use Rattle.frame_bytes.specs.declared.frame.Place.{Place}
+use Rattle.wire_talk.specs.declared.fault.TalkFault.{TalkFault}
+use Rattle.wire_talk.specs.declared.fault.TalkFault.TheVariants as talk
 use Rattle.frame_bytes.specs.Bytes.{Bytes, fetched, stored, or_none}
 use Rattle.ps_step.specs.declared.fault.PsError.TheVariants.{RangeCheck}
 use Rattle.ps_store.specs.StoreState.{StoreState}
 use Rattle.table_model.specs.Rows.{PointRow}
-use Rattle.abs_mem.specs.Meaning.{Seen, Same, OnTold, Untold}
+use Rattle.abs_mem.specs.Meaning.{Seen, Same, OnTold, Untold, Led}
 use Rattle.abs_mem.specs.declared.memory.MemFault.{MemFault}
 use Rattle.abs_mem.specs.declared.memory.MemFault.TheVariants as mem
 use Rattle.break_plant.specs.declared.planting.PlantFault.{PlantFault}
@@ -29,10 +32,10 @@ use Rattle.claims.specs.Side.{SideState, OnSide, Troubled, with_memory, words_of
 use Rattle.claims.specs.Breaks.{or_range, word_at as word_of_side, with_word, step_word_at, step_words_at}
 use Rattle.debug_side.specs.declared.point.Point.{Point}
 use Rattle.debug_side.specs.Meant.{address_of, point_row, point_rows}
-use Rattle.debug_side.specs.Wrote.{Writes, none_written, writes, Wrote, Kept, AreOf, or_same, word_put, words_put_back}
-use Rattle.debug_side.specs.Planting.{IsPut, IsOther, PlantsOne, GivesUp, IsSide, ArePlanted, AreRefused, PlantsForStep}
+use Rattle.debug_side.specs.Wrote.{Writes, none_written, writes, Wrote, Kept, AreOf, or_same, word_put, words_put_back, Puts, LedTalk}
+use Rattle.debug_side.specs.Planting.{LedOn, mem_fault, IsPut, IsOther, PlantsOne, GivesUp, IsSide, ArePlanted, AreRefused, PlantsForStep}
 use Rattle.debug_side.proofs.Putting.{left_of, wrote_then, rose_after, untold_after}
-use Rattle.debug_side.proofs.Events.{noop_is, break_is}
+use Rattle.debug_side.proofs.Events.{noop_is, break_is, with_some}
 use Rattle.debug_side.proofs.Undone.{undone}
 
 -- ---- one address
@@ -66,10 +69,6 @@ read_word b at = refl
 pub side_word : (a : SideState) (at : ℕ) → word_of_side a at ≡ or_none (read_of (order_of a.machine) a.machine.memory at 4)
 unfolding fetched
 side_word a at = refl
-
-pub side_with : (a : SideState) (at w : ℕ) (r : Regions) → write_of (order_of a.machine) a.machine.memory at 4 w ≡ Ok r → with_word a at w ≡ Some (with_memory r a)
-unfolding stored
-side_with a at w r e = rw e refl
 
 pub was_read : (x : Result ℕ Outside) (v : ℕ) → or_none x ≡ Some v → x ≡ Ok v
 was_read (Ok w) v e = let same : w ≡ v = cc in ap (λ (n : ℕ). Ok n) same
@@ -158,7 +157,7 @@ put_more target points kept left p b m n h put =
           let break_word : (words_of a').break_word ≡ break_of target = break_is a.machine.target ∙ ap break_of is.target_is in
           let write : write_of (order_of a.machine) m p.at 4 (words_of a').break_word ≡ Ok n =
           ap (λ (w : ℕ). write_of (order_of a.machine) m p.at 4 w) break_word ∙ ap (λ (o : Order). write_of o m p.at 4 (break_of target)) (sym is.bytes.order_is) ∙ put.is in
-          let put' = planted_there a' (point_row s p) (noop_of target) n t test (side_with a' p.at (words_of a').break_word n write) in
+          let put' = planted_there a' (point_row s p) (noop_of target) n t test (with_some a' p.at (words_of a').break_word n write) in
           let same : side_then a n s (kept ++ p ∷ []) ≡ (record (with_memory n a') { step_words = a'.step_words ++ point_row s p ∷ [] }) =
           ap (λ (l : List PointRow). record (with_memory n a) { step_words = l })
           (ap (λ (l : List PointRow). a.step_words ++ l) (map_snoc (point_row s) kept p) ∙ sym (append_assoc a.step_words (point_rows s kept) (point_row s p ∷ []))) in
@@ -231,3 +230,64 @@ taken_back {R = R} target points kept left p s u v w h k none back = (
   },
   record { holds = λ (b : Bytes) (r : R) t. let x = h.after b r t in put_refused target points kept left p b x.0 x.2 (none.holds (record b { regions = x.0 }) r x.3) },
 )
+
+-- ---- one address, as the code has it
+
+pub passes_here : {R : Type 0} (target at a word : ℕ) (s s' : Seen R) (f : PlantFault) → f ≡ plant.NotNoop a word → Plants target at s (Err f) s' → PlantsOne target at s (Ok false) s'
+passes_here target at a word s s' f e h = passes_one target at a word s s' (subst (λ (z : PlantFault). Plants target at s (Err z) s') e h)
+
+pub fails_here : {R : Type 0} (target at : ℕ) (s s' : Seen R) (f : MemFault) (z : PlantFault) → z ≡ plant.Memory f → Plants target at s (Err z) s' → PlantsOne target at s (Err f) s'
+fails_here target at s s' f z e h = fails_one target at s s' f (subst (λ (y : PlantFault). Plants target at s (Err y) s') e h)
+
+pub led_one : {M : Type 0} (leads : M → Option (List ℕ) → M → Type 0) (m m' : M) (a word : ℕ) (f : PlantFault) → f ≡ plant.NotNoop a word → LedPlant leads m (Err f) m' → leads m None m'
+led_one {M = M} leads m m' a word f e h = subst (λ (z : PlantFault). LedPlant leads m (Err z) m') e h
+
+led_memory : {M : Type 0} (leads : M → Option (List ℕ) → M → Type 0) (m m' : M) (f : MemFault) → LedPlant leads m (Err (plant.Memory f)) m' → Led {A = Bool} leads m (Err f) m'
+led_memory leads m m' (mem.Outside place) h = h
+led_memory leads m m' mem.LinkFault h = tt
+led_memory leads m m' (mem.BadReply frame) h = h
+
+pub led_fault : {M : Type 0} (leads : M → Option (List ℕ) → M → Type 0) (m m' : M) (f : MemFault) (z : PlantFault) → z ≡ plant.Memory f → LedPlant leads m (Err z) m' → Led {A = Bool} leads m (Err f) m'
+led_fault {M = M} leads m m' f z e h = led_memory leads m m' f (subst (λ (y : PlantFault). LedPlant leads m (Err y) m') e h)
+
+-- ---- what was planted is taken away again, as the code has it
+
+same_of : {R : Type 0} (s : Seen R) → Same s s
+same_of {R = R} s = record { faults = refl; keeps = λ (b : Bytes) (r : R) t. t }
+
+pub gives_back : {R : Type 0} (target : ℕ) (planted : List Point) (s u : Seen R) (f : MemFault) (place : Place) → f ≡ mem.Outside place
+    → Wrote s u (λ b r. r ≡ words_put_back b.order (noop_of target) (map address_of planted) b.regions) → GivesUp target s planted f (Err (mem.Outside place)) u
+gives_back target planted s u f place e h = subst (λ (z : MemFault). GivesUp target s planted z (Err (mem.Outside place)) u) (sym e) (refl, h)
+
+gives_fault : {R : Type 0} (target : ℕ) (planted : List Point) (s u : Seen R) (place : Place) (t : TalkFault) (P : Bytes → Regions → Type 0) → Puts s (Err t) P u → GivesUp target s planted (mem.Outside place) (Err (mem_fault t)) u
+gives_fault target planted s u place talk.LinkFault P h = h
+gives_fault target planted s u place (talk.BadReply frame) P h = h
+
+pub gives_badly : {R : Type 0} (target : ℕ) (planted : List Point) (s u : Seen R) (f : MemFault) (place : Place) (t : TalkFault) (m : MemFault) (P : Bytes → Regions → Type 0) → f ≡ mem.Outside place → m ≡ mem_fault t
+    → Puts s (Err t) P u → GivesUp target s planted f (Err m) u
+gives_badly target planted s u f place t m P e is h =
+    subst (λ (z : MemFault). GivesUp target s planted z (Err m) u) (sym e) (subst (λ (z : MemFault). GivesUp target s planted (mem.Outside place) (Err z) u) (sym is) (gives_fault target planted s u place t P h))
+
+pub gives_link : {R : Type 0} (target : ℕ) (planted : List Point) (s : Seen R) (f : MemFault) → f ≡ mem.LinkFault → GivesUp target s planted f (Err mem.LinkFault) s
+gives_link target planted s f e = subst (λ (z : MemFault). GivesUp target s planted z (Err mem.LinkFault) s) (sym e) (refl, same_of s)
+
+pub gives_reply : {R : Type 0} (target : ℕ) (planted : List Point) (s : Seen R) (f : MemFault) (frame : _) → f ≡ mem.BadReply frame → GivesUp target s planted f (Err (mem.BadReply frame)) s
+gives_reply target planted s f frame e = subst (λ (z : MemFault). GivesUp target s planted z (Err (mem.BadReply frame)) s) (sym e) (refl, same_of s)
+
+led_mem : {M : Type 0} (leads : M → Option (List ℕ) → M → Type 0) (m m' : M) (t : TalkFault) → LedTalk {A = Unit {0}} leads m (Err t) m' → Led {A = Unit {0}} leads m (Err (mem_fault t)) m'
+led_mem leads m m' talk.LinkFault h = tt
+led_mem leads m m' (talk.BadReply frame) h = h
+
+pub led_back : {M : Type 0} (leads : M → Option (List ℕ) → M → Type 0) (m m' : M) (f : MemFault) (place : Place) → f ≡ mem.Outside place → leads m None m' → LedOn leads m f (Err (mem.Outside place)) m'
+led_back {M = M} leads m m' f place e h = subst (λ (z : MemFault). LedOn leads m z (Err (mem.Outside place)) m') (sym e) h
+
+pub led_badly : {M : Type 0} (leads : M → Option (List ℕ) → M → Type 0) (m m' : M) (f : MemFault) (place : Place) (t : TalkFault) (x : MemFault) → f ≡ mem.Outside place → x ≡ mem_fault t → LedTalk {A = Unit {0}} leads m (Err t) m'
+    → LedOn leads m f (Err x) m'
+led_badly {M = M} leads m m' f place t x e is h =
+    subst (λ (z : MemFault). LedOn leads m z (Err x) m') (sym e) (subst (λ (z : MemFault). Led {A = Unit {0}} leads m (Err z) m') (sym is) (led_mem leads m m' t h))
+
+pub led_link : {M : Type 0} (leads : M → Option (List ℕ) → M → Type 0) (m : M) (f : MemFault) → f ≡ mem.LinkFault → LedOn leads m f (Err mem.LinkFault) m
+led_link {M = M} leads m f e = subst (λ (z : MemFault). LedOn leads m z (Err mem.LinkFault) m) (sym e) (refl, refl)
+
+pub led_reply : {M : Type 0} (leads : M → Option (List ℕ) → M → Type 0) (m : M) (f : MemFault) (frame : _) → f ≡ mem.BadReply frame → LedOn leads m f (Err (mem.BadReply frame)) m
+led_reply {M = M} leads m f frame e = subst (λ (z : MemFault). LedOn leads m z (Err (mem.BadReply frame)) m) (sym e) (refl, refl)

@@ -168,13 +168,24 @@ some_bytes r xs at None None None (Some n) m et ed es ec was =
     subst (λ (l : List ℕ). AreBytes l × (4 ≤ length l)) bytes (below_drop 256 n r.context_bytes m.context.each, omega (arith, length-drop n r.context_bytes, in_region CONTEXT (length r.context_bytes) at n ec))
 some_bytes r xs at None None None None m et ed es ec was = cc
 
+-- a result where the address is a multiple of 4
+abbrev if_even : {A : Type 0} → Bool → A → Result A Outside
+if_even true y = Ok y
+if_even false y = Err (record {})
+
+even : {A : Type 0} (at : ℕ) (y : A) (t : Bool) → nat_eq (at % 4) 0 ≡ t → or_outside at 4 (Some y) ≡ if_even t y
+even at y true e = rw e refl
+even at y false e = rw e refl
+
+some_one : {A : Type 0} (x y : A) (t : Bool) → if_even t y ≡ Ok x → (Some y ≡ Some x) × (t ≡ true)
+some_one {A = A} x y true e = let same : y ≡ x = cc in (ap (λ (z : A). Some z) same, refl)
+some_one x y false e = cc
+
 aligned : {A : Type 0} (at : ℕ) (o : Option A) (x : A) → or_outside at 4 o ≡ Ok x → (o ≡ Some x) × ((y : A) → or_outside at 4 (Some y) ≡ Ok y)
 aligned at None x e = cc
-aligned {A = A} at (Some y) x e = by (nat_eq (at % 4) 0) refl e
-  where
-    by : (t : Bool) → nat_eq (at % 4) 0 ≡ t → (if t then Ok y else Err (record {})) ≡ Ok x → (Some y ≡ Some x) × ((z : A) → or_outside at 4 (Some z) ≡ Ok z)
-    by true e' is = let same : y ≡ x = cc in (ap (λ (z : A). Some z) same, λ (z : A). ap (λ (b : Bool). if b then Ok z else Err (record {})) e')
-    by false e' is = cc
+aligned {A = A} at (Some y) x e =
+    let s = some_one x y (nat_eq (at % 4) 0) (sym (even at y (nat_eq (at % 4) 0) refl) ∙ e) in
+    (s.0, λ (z : A). even at z true s.1)
 
 mapped : {A B : Type 0} (f : A → B) (o : Option A) (y : B) → option_map f o ≡ Some y → (x : A) × (o ≡ Some x) × (f x ≡ y)
 mapped f None y e = cc

@@ -80,3 +80,8 @@ stop_address e = None
 abbrev pub is_turns : Event → Bool
 is_turns event.OutOfTurns = true
 is_turns e = false
+
+-- the words of a step stay where a side that kept no event used up its turns
+abbrev pub keeps_words : Option Event → Event → Bool
+keeps_words (Some k) e = false
+keeps_words None e = is_turns e

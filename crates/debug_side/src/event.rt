@@ -1,7 +1,7 @@
 // The event of a side.
 
 ghost use Rattle.std.specs.Prelude.{◌≡◌};
-ghost use Rattle.debug_side.specs.Meant.{event_of, stop_of, stop_address, is_turns};
+ghost use Rattle.debug_side.specs.Meant.{event_of, stop_of, stop_address, keeps_words};
 
 use crate::point::{Point, SideRow, point_at};
 use ldb_words::FaultKind;
@@ -64,9 +64,15 @@ pub fn stop_address(event: Event) -> Option<u32>
     }
 }
 
-/// Whether the turns were used up.
-pub fn is_turns(event: Event) -> bool
-    ensures { result ≡ is_turns event }
+/// Whether the words of a step stay: where a side that kept no event used up its turns.
+pub fn keeps_words(kept: Option<Event>, event: Event) -> bool
+    ensures { result ≡ keeps_words kept event }
 {
-    matches!(event, Event::OutOfTurns)
+    match kept {
+        Some(_) => false,
+        None => match event {
+            Event::OutOfTurns => true,
+            _ => false,
+        },
+    }
 }

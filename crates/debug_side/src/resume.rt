@@ -10,7 +10,7 @@ ghost use Rattle.resuming.specs.Runs.{CountsRun};
 ghost use Rattle.debug_side.specs.Meant.{side_by};
 ghost use Rattle.debug_side.specs.Ran.{MayResume, met_side, SideTold, SideCalled};
 
-use crate::event::{Event, event_by, is_turns, stop_address};
+use crate::event::{Event, event_by, keeps_words, stop_address};
 use crate::point::{MachineKind, SideRow};
 use crate::words::{pass_no_op, unplant_all};
 use abs_mem::Wire;
@@ -31,20 +31,19 @@ fn meet<L: Link + Drop, S: Sink>(
     ensures calls { SideCalled L.took L.gave wire.old.side wire.old.link result wire.new.side wire.new.link }
     ensures cause { CountsRun (L.faults wire.old.link) (L.faults wire.new.link) (S.faults out.old) (S.faults out.new) result }
 {
-    if let Some(event) = row.kept {
-        return Ok(event);
-    }
-    match pass_no_op(kind.context, wire, row.stands_at) {
-        Ok(()) => {}
-        Err(fault) => return Err(RunFault::Talk(fault)),
-    }
-    match run_to_event(&mut wire.link, wire.side, limit, out) {
-        Err(fault) => Err(fault),
-        Ok(ending) => {
-            let event = event_by(row, ending);
-            row.stands_at = stop_address(event);
-            Ok(event)
-        }
+    match row.kept {
+        Some(event) => Ok(event),
+        None => match pass_no_op(kind.context, wire, row.stands_at) {
+            Err(fault) => Err(RunFault::Talk(fault)),
+            Ok(()) => match run_to_event(&mut wire.link, wire.side, limit, out) {
+                Err(fault) => Err(fault),
+                Ok(ending) => {
+                    let event = event_by(row, ending);
+                    row.stands_at = stop_address(event);
+                    Ok(event)
+                }
+            },
+        },
     }
 }
 
@@ -64,15 +63,15 @@ pub fn resume_side<L: Link + Drop, S: Sink>(
     ensures calls { SideCalled L.took L.gave wire.old.side wire.old.link result wire.new.side wire.new.link }
     ensures cause { CountsRun (L.faults wire.old.link) (L.faults wire.new.link) (S.faults out.old) (S.faults out.new) result }
 {
-    let is_kept = row.kept.is_some();
+    let kept = row.kept;
     let event = match meet(kind, wire, row, limit, out) {
         Ok(event) => event,
         Err(fault) => return Err(fault),
     };
-    if !is_kept && is_turns(event) {
+    if keeps_words(kept, event) {
         return Ok(event);
     }
-    match unplant_all(kind.target, wire, &row.step_words) {
+    match unplant_all(kind.target, wire, row.step_words.as_slice()) {
         Err(fault) => Err(RunFault::Talk(fault)),
         Ok(()) => {
             row.step_words.clear();

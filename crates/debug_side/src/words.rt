@@ -1,6 +1,7 @@
 // Words that are put where they can be.
 
 ghost use Rattle.std.specs.Prelude.{◌≡◌, ◌⊎◌, map};
+ghost use Rattle.ldb_words.specs.Word.{sum_of};
 ghost use Rattle.machine_state.specs.declared.layout.TheConstants.{MIPS, SPARC};
 ghost use Rattle.break_plant.specs.Planted.{noop_of, in_memory};
 ghost use Rattle.debug_side.specs.Wrote.{Puts, LedTalk, where_it_can, word_put, words_put, words_put_back, passed};
@@ -8,7 +9,7 @@ ghost use Rattle.debug_side.specs.Meant.{address_of};
 
 use crate::point::Point;
 use abs_mem::{AbsMem, MemFault};
-use break_plant::{resume_pc, unplant};
+use break_plant::unplant;
 use frame_bytes::{Place, Space};
 use ldb_words::Kind;
 use wire_talk::TalkFault;
@@ -23,7 +24,8 @@ fn where_it_can(stored: Result<(), MemFault>) -> Result<(), TalkFault>
     ensures { result ≡ where_it_can stored }
 {
     match stored {
-        Ok(()) | Err(MemFault::Outside { .. }) => Ok(()),
+        Ok(()) => Ok(()),
+        Err(MemFault::Outside { .. }) => Ok(()),
         Err(MemFault::LinkFault) => Err(TalkFault::LinkFault),
         Err(MemFault::BadReply { frame }) => Err(TalkFault::BadReply { frame }),
     }
@@ -79,6 +81,33 @@ pub fn unplant_back<M: AbsMem>(target: u8, m: &mut M, points: &[Point]) -> Resul
     Ok(())
 }
 
+/// A sum modulo 2^32.
+fn word_sum(left: u32, right: u32) -> u32
+    ensures { result ≡ sum_of left right }
+{
+    left.wrapping_add(right)
+}
+
+/// Puts the next pc of a context block behind the no-op at an address.
+fn put_next_pc<M: AbsMem>(context: u32, m: &mut M, at: u32) -> Result<(), TalkFault>
+    ensures meaning { Puts (M.seen m.old) result (λ b r. r ≡ word_put b.order (sum_of at 8) (sum_of context NEXT_PC_OFFSET) b.regions) (M.seen m.new) }
+    ensures calls { LedTalk M.leads m.old result m.new }
+{
+    let place = word_sum(context, NEXT_PC_OFFSET);
+    let next_pc = word_sum(at, 8);
+    put_word(m, place, next_pc)
+}
+
+/// Puts the pc of a context block at the end of the no-op at an address.
+fn put_pc<M: AbsMem>(context: u32, m: &mut M, at: u32) -> Result<(), TalkFault>
+    ensures meaning { Puts (M.seen m.old) result (λ b r. r ≡ word_put b.order (sum_of at 4) (sum_of context PC_OFFSET) b.regions) (M.seen m.new) }
+    ensures calls { LedTalk M.leads m.old result m.new }
+{
+    let place = word_sum(context, PC_OFFSET);
+    let pc = word_sum(at, 4);
+    put_word(m, place, pc)
+}
+
 /// Puts the pc and the next pc of a context block past the no-op at which a side stands, if it stands at one.
 pub fn pass_no_op<M: AbsMem>(
     context: u32,
@@ -88,12 +117,11 @@ pub fn pass_no_op<M: AbsMem>(
     ensures meaning { Puts (M.seen m.old) result (λ b r. r ≡ passed context stands_at b.order b.regions) (M.seen m.new) }
     ensures calls { LedTalk M.leads m.old result m.new }
 {
-    let Some(at) = stands_at else {
-        return Ok(());
-    };
-    let (pc, next_pc) = resume_pc(at);
-    match put_word(m, context.wrapping_add(PC_OFFSET), pc) {
-        Err(fault) => Err(fault),
-        Ok(()) => put_word(m, context.wrapping_add(NEXT_PC_OFFSET), next_pc),
+    match stands_at {
+        None => Ok(()),
+        Some(at) => match put_pc(context, m, at) {
+            Err(fault) => Err(fault),
+            Ok(()) => put_next_pc(context, m, at),
+        },
     }
 }

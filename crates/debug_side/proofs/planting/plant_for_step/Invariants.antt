@@ -1,4 +1,4 @@
-use Rattle.std.proofs.Common.{◌≡◌, ◌-◌, ◌≤◌, None, drop, take, length, vec_len}
+use Rattle.std.proofs.Common.{◌≡◌, ◌-◌, ◌≤◌, None, drop, take, length}
 use Rattle.debug_side.specs.Wrote.{Wrote}
 use Rattle.debug_side.proofs.StepWords.{PutSoFar}
 use Rattle.debug_side.proofs.planting.plant_for_step.Given as goal
