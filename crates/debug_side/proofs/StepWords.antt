@@ -33,7 +33,7 @@ use Rattle.claims.specs.Breaks.{or_range, word_at as word_of_side, with_word, st
 use Rattle.debug_side.specs.declared.point.Point.{Point}
 use Rattle.debug_side.specs.Meant.{address_of, point_row, point_rows}
 use Rattle.debug_side.specs.Wrote.{Writes, none_written, writes, Wrote, Kept, AreOf, or_same, word_put, words_put_back, Puts, LedTalk}
-use Rattle.debug_side.specs.Planting.{LedOn, mem_fault, IsPut, IsOther, PlantsOne, GivesUp, IsSide, ArePlanted, AreRefused, PlantsForStep}
+use Rattle.debug_side.specs.Planting.{LedOn, mem_fault, kept_with, IsPut, IsOther, PlantsOne, GivesUp, IsSide, ArePlanted, AreRefused, PlantsForStep}
 use Rattle.debug_side.proofs.Putting.{left_of, wrote_then, rose_after, untold_after}
 use Rattle.debug_side.proofs.Events.{noop_is, break_is, with_some}
 use Rattle.debug_side.proofs.Undone.{undone}
@@ -291,3 +291,31 @@ led_link {M = M} leads m f e = subst (λ (z : MemFault). LedOn leads m z (Err me
 
 pub led_reply : {M : Type 0} (leads : M → Option (List ℕ) → M → Type 0) (m : M) (f : MemFault) (frame : _) → f ≡ mem.BadReply frame → LedOn leads m f (Err (mem.BadReply frame)) m
 led_reply {M = M} leads m f frame e = subst (λ (z : MemFault). LedOn leads m z (Err (mem.BadReply frame)) m) (sym e) (refl, refl)
+
+-- ---- the points one by one
+
+pub put_step : {R : Type 0} (target : ℕ) (points kept left : List Point) (p : Point) (is_put : Bool) (s u v : Seen R) → Wrote s u (PutSoFar target points kept (p ∷ left)) → PlantsOne target p.at u (Ok is_put) v
+    → Wrote s v (PutSoFar target points (kept_with is_put kept p) left)
+put_step target points kept left p true s u v h k =
+    wrote_then s u v (PutSoFar target points kept (p ∷ left)) (IsPut target p.at) (PutSoFar target points (kept ++ p ∷ []) left) h k (λ (b : Bytes) (m n : Regions) x y. put_more target points kept left p b m n x y)
+put_step target points kept left p false s u v h k =
+    wrote_same s u v (PutSoFar target points kept (p ∷ left)) (PutSoFar target points kept left) (IsOther target p.at) h k.0 k.1 (λ (b : Bytes) (m : Regions) x y. put_other target points kept left p b m x y)
+
+-- planting gives up at a point
+pub stops_step : {R : Type 0} (target : ℕ) (points kept left : List Point) (p : Point) (s u v w : Seen R) (f f' : MemFault) (end : List Point) → Wrote s u (PutSoFar target points kept (p ∷ left)) → PlantsOne target p.at u (Err f) v
+    → GivesUp target v kept f (Err f') w → PlantsForStep target s points (Err f') end w
+stops_step target points kept left p s u v w (mem.Outside place) (mem.Outside place') end h k back = taken_back target points kept left p s u v w h k.0 k.1 back.1
+stops_step target points kept left p s u v w (mem.Outside place) mem.LinkFault end h k back = rose_after s.faults v.faults w.faults (k.0.faults ∙ h.faults) back
+stops_step {R = R} target points kept left p s u v w (mem.Outside place) (mem.BadReply frame) end h k back =
+    record { faults = back.faults ∙ k.0.faults ∙ h.faults; never = λ (b : Bytes) (r : R) t. let x = h.after b r t in back.never (record b { regions = x.0 }) r (k.0.keeps (record b { regions = x.0 }) r x.3) }
+stops_step target points kept left p s u v w mem.LinkFault (mem.Outside place') end h k back = cc
+stops_step target points kept left p s u v w mem.LinkFault mem.LinkFault end h k back =
+    rose_on (rose_after s.faults u.faults v.faults h.faults k) back.1.faults
+  where
+    rose_on : Rose s.faults v.faults → w.faults ≡ v.faults → Rose s.faults w.faults
+    rose_on x e = subst (λ (n : ℕ). Rose s.faults n) (sym e) x
+stops_step target points kept left p s u v w mem.LinkFault (mem.BadReply frame) end h k back = cc
+stops_step target points kept left p s u v w (mem.BadReply frame) (mem.Outside place') end h k back = cc
+stops_step target points kept left p s u v w (mem.BadReply frame) mem.LinkFault end h k back = cc
+stops_step {R = R} target points kept left p s u v w (mem.BadReply frame) (mem.BadReply frame') end h k back =
+    record { faults = back.1.faults ∙ k.faults ∙ h.faults; never = λ (b : Bytes) (r : R) t. let x = h.after b r t in k.never (record b { regions = x.0 }) r x.3 }

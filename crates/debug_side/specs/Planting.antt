@@ -1,5 +1,5 @@
 -- What is put before a step, and taken away where it can't be put.
-use Rattle.std.specs.Prelude.{◌≡◌, ◌≢◌, ℕ, true, false, List, ◌++◌, map, Option, Some, None, Bool, Result, Ok, Err}
+use Rattle.std.specs.Prelude.{◌≡◌, ◌≢◌, ℕ, true, false, List, [], ◌∷◌, ◌++◌, map, Option, Some, None, Bool, Result, Ok, Err}
 use Rattle.ldb_edge.specs.Count.{Rose}
 use Rattle.machine_state.specs.Regions.{Regions, write_of}
 use Rattle.frame_bytes.specs.Bytes.{Bytes}
@@ -57,6 +57,11 @@ LedOn leads m (mem.Outside place) result m' = Led leads m result m'
 LedOn leads m fault result m' = (result ≡ Err fault) × (m' ≡ m)
 
 -- ---- the points of a step
+
+-- the points that are kept, and one more whose word was put
+abbrev pub kept_with : (is_put : Bool) → List Point → Point → List Point
+kept_with true kept p = kept ++ p ∷ []
+kept_with false kept p = kept
 
 -- a side with these bytes, whose machine is one of a target
 pub record IsSide (target : ℕ) (b : Bytes) (a : SideState) : Type 0 where

@@ -1,9 +1,10 @@
 // The words of a step.
 
-ghost use Rattle.std.specs.Prelude.{◌≡◌, ◌⊎◌};
+ghost use Rattle.std.specs.Prelude.{◌≡◌, ◌⊎◌, ◌+◌, ◌<◌, ◌≤◌, ◌∷◌, length, take, drop};
+ghost use Rattle.debug_side.specs.declared.point.Point.{Point};
 ghost use Rattle.machine_state.specs.declared.layout.TheConstants.{MIPS, SPARC};
 ghost use Rattle.abs_mem.specs.Meaning.{Led};
-ghost use Rattle.debug_side.specs.Planting.{PlantsOne, GivesUp, LedOn, PlantsForStep, mem_fault};
+ghost use Rattle.debug_side.specs.Planting.{PlantsOne, GivesUp, LedOn, PlantsForStep, mem_fault, kept_with};
 
 use crate::point::Point;
 use crate::words::unplant_back;
@@ -56,6 +57,24 @@ fn gives_up<M: AbsMem>(
     }
 }
 
+/// Keeps the point at a place behind those that are kept already, if its word was put, and says how many are kept.
+fn keep(points: &mut Vec<Point>, kept: usize, at: usize, is_put: bool) -> usize
+    requires behind { kept ≤ at }
+    requires inside { at < length points.old.items }
+    ensures front { (point : Point) → drop at points.old.items ≡ point ∷ drop (at + 1) points.old.items
+        → take result points.new.items ≡ kept_with is_put (take kept points.old.items) point }
+    ensures rest { drop (at + 1) points.new.items ≡ drop (at + 1) points.old.items }
+    ensures same_length { length points.new.items ≡ length points.old.items }
+    ensures behind { result ≤ at + 1 }
+{
+    if !is_put {
+        return kept;
+    }
+    let point = points[at];
+    points[kept] = point;
+    kept + 1
+}
+
 /// Puts the break word of a target at each of some points where the no-op stands, and keeps those points alone. It takes no
 /// memory. Where an address is outside, that one is told, and the target is as before; `points` then hold nothing of use.
 pub fn plant_for_step<M: AbsMem>(
@@ -72,11 +91,7 @@ pub fn plant_for_step<M: AbsMem>(
     while at < points.len() {
         let point = points[at];
         match plant_one(target, m, point.at) {
-            Ok(true) => {
-                points[kept] = point;
-                kept += 1;
-            }
-            Ok(false) => {}
+            Ok(is_put) => kept = keep(points, kept, at, is_put),
             Err(fault) => return gives_up(target, m, &points[..kept], fault),
         }
         at += 1;
