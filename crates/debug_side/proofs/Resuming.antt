@@ -20,6 +20,7 @@ use Rattle.nub_wire.specs.Delivery.{Conduct, World}
 use Rattle.nub_wire.specs.Calls.{BadReply, took_on, gave_on}
 use Rattle.ps_store.specs.StoreState.{StoreState}
 use Rattle.abs_mem.specs.WireMeaning.{WireLeads, Exchanges, none_more, asks, badly, go_on, wire_seen}
+use Rattle.abs_mem.proofs.Wires.{leads_by}
 use Rattle.wire_talk.specs.declared.fault.TalkFault.{TalkFault}
 use Rattle.wire_talk.specs.declared.fault.TalkFault.TheVariants as talk
 use Rattle.wire_talk.specs.Talk.{CountsTalk}
@@ -72,10 +73,10 @@ module _ {S : Type 0} (took : S → Side → List ℕ → ℕ → S → Type 0) 
   pub called_none : (side : Side) (s : S) (e : Event) → SideCalled took gave side s (Ok e) side s
   called_none side s e = (refl, asked none_more)
 
-  pub called_badly : (side side' : Side) (s u : S) (f : TalkFault) → LedTalk {M = S × Side} {A = Unit {0}} (λ a o b. WireLeads took gave a.0 a.1 o b.0 b.1) (s, side) (Err f) (u, side')
-      → SideCalled took gave side s (Err (fault.Talk f)) side' u
-  called_badly side side' s u talk.LinkFault h = tt
-  called_badly side side' s u (talk.BadReply frame) h = asked h.calls
+  pub called_badly : {W : Type 0} (link : W → S) (side : W → Side) (a b : W) (f : TalkFault) → LedTalk {A = Unit {0}} (leads_by took gave link side) a (Err f) b
+      → SideCalled took gave (side a) (link a) (Err (fault.Talk f)) (side b) (link b)
+  called_badly link side a b talk.LinkFault h = tt
+  called_badly link side a b (talk.BadReply frame) h = asked h.calls
 
   pub called_run : (side side' : Side) (s t u : S) (turns : ℕ) (e : Ending) (end : Event) → WireLeads took gave s side None t side'
       → RunsBy (took_on took side') (gave_on gave side') turns t (Ok e) u → SideCalled took gave side s (Ok end) side' u
@@ -96,11 +97,11 @@ module _ {S : Type 0} (took : S → Side → List ℕ → ℕ → S → Type 0) 
       let x = subst (λ (y : Side). Exchanges (took_on took y) (gave_on gave y) t None u) h.0 led.calls in
       (led.side_is ∙ h.0, talked_then h.1 refl x)
 
-  pub called_then_badly : (side side' side'' : Side) (s t u : S) (e : Event) (f : TalkFault) → SideCalled took gave side s (Ok e) side' t
-      → LedTalk {M = S × Side} {A = Unit {0}} (λ a o b. WireLeads took gave a.0 a.1 o b.0 b.1) (t, side') (Err f) (u, side'') → SideCalled took gave side s (Err (fault.Talk f)) side'' u
-  called_then_badly side side' side'' s t u e talk.LinkFault h led = tt
-  called_then_badly side side' side'' s t u e (talk.BadReply frame) h led =
-      talked_then h.1 refl (subst (λ (y : Side). Exchanges (took_on took y) (gave_on gave y) t (Some frame.items) u) h.0 led.calls)
+  pub called_then_badly : {W : Type 0} (link : W → S) (side : W → Side) (start : Side) (s : S) (a b : W) (e : Event) (f : TalkFault) → SideCalled took gave start s (Ok e) (side a) (link a)
+      → LedTalk {A = Unit {0}} (leads_by took gave link side) a (Err f) b → SideCalled took gave start s (Err (fault.Talk f)) (side b) (link b)
+  called_then_badly link side start s a b e talk.LinkFault h led = tt
+  called_then_badly link side start s a b e (talk.BadReply frame) h led =
+      talked_then h.1 refl (subst (λ (y : Side). Exchanges (took_on took y) (gave_on gave y) (link a) (Some frame.items) (link b)) h.0 led.calls)
 
 -- ---- the run of a side
 

@@ -23,7 +23,7 @@ returns-in-Err-clause-told g c =
     pass_fails b g.L.Link.conduct c.args.kind c.args.wire.now.side c.args.wire.now.order (g.L.Link.world c.args.wire.now.link) h beside s frame c.args.limit c.args.row.now may c.in-Err.fault (g.L.Link.faults c.args.wire.now.link) (g.L.Link.faults c.pass_no_op.new.m.link) c.args.row.now c.pass_no_op.new.m.side c.pass_no_op.new.m.order (g.L.Link.world c.pass_no_op.new.m.link) (g.S.Sink.taken c.args.out.now) _ c.in-Err.ensures.meaning
 
 pub returns-in-Err-clause-calls : goal.returns-in-Err-clause-calls
-returns-in-Err-clause-calls g c = called_badly g.L.Link.took g.L.Link.gave c.args.wire.now.side c.pass_no_op.new.m.side c.args.wire.now.link c.pass_no_op.new.m.link c.in-Err.fault c.in-Err.ensures.calls
+returns-in-Err-clause-calls g c = called_badly g.L.Link.took g.L.Link.gave (λ w. w.link) (λ w. w.side) c.args.wire.now c.pass_no_op.new.m c.in-Err.fault c.in-Err.ensures.calls
 
 pub returns-in-Err-clause-cause : goal.returns-in-Err-clause-cause
 returns-in-Err-clause-cause g c =
@@ -53,8 +53,8 @@ returns-in-Ok-run_to_event-clause-told g c =
     let ch = passes b g.L.Link.conduct c.args.kind c.args.wire.now.side c.args.wire.now.order (g.L.Link.world c.args.wire.now.link) h beside s frame c.args.limit c.args.row.now may (g.L.Link.faults c.args.wire.now.link) (g.L.Link.faults c.pass_no_op.new.m.link) c.pass_no_op.new.m.side c.pass_no_op.new.m.order (g.L.Link.world c.pass_no_op.new.m.link) c.in-Ok.ensures.meaning in
     let t = run_told b g.L.Link.conduct c.args.kind c.args.wire.now.side c.args.wire.now.order (g.L.Link.world c.args.wire.now.link) h beside s frame c.args.limit c.args.row.now may (Ok c.in-Ok-run_to_event.ending) c.pass_no_op.new.m.side c.pass_no_op.new.m.order (g.L.Link.world c.pass_no_op.new.m.link) (g.L.Link.world c.run_to_event.new.link) (g.S.Sink.taken c.args.out.now) (g.S.Sink.taken c.run_to_event.new.out) c.in-None.is ch
     (λ (k : Host) (beside' : Option Host) there none. c.in-Ok-run_to_event.ensures.told b k beside' there none) in
-    runs b g.L.Link.conduct c.args.kind c.args.wire.now.side c.args.wire.now.order (g.L.Link.world c.args.wire.now.link) h beside s frame c.args.limit c.args.row.now may c.in-Ok-run_to_event.ending c.event_by-event.result (record c.args.row.now { stands_at = c.stop_address.result }) c.pass_no_op.new.m.side c.pass_no_op.new.m.order (g.L.Link.world c.run_to_event.new.link) (g.S.Sink.taken c.args.out.now) (g.S.Sink.taken c.run_to_event.new.out) c.in-None.is ch.side_kept ch.order_kept
-    c.event_by-event.ensures (ap (λ (a : Option ℕ). record c.args.row.now { stands_at = a }) c.stop_address.ensures) ch.reached t
+    runs b g.L.Link.conduct c.args.kind c.args.wire.now.side c.args.wire.now.order (g.L.Link.world c.args.wire.now.link) h beside s frame c.args.limit c.args.row.now may c.in-Ok-run_to_event.ending c.event_by-event.result (record c.args.row.now { stands_at = c.stop_address-row.result }) c.pass_no_op.new.m.side c.pass_no_op.new.m.order (g.L.Link.world c.run_to_event.new.link) (g.S.Sink.taken c.args.out.now) (g.S.Sink.taken c.run_to_event.new.out) c.in-None.is ch.side_kept ch.order_kept
+    c.event_by-event.ensures (ap (λ (a : Option ℕ). record c.args.row.now { stands_at = a }) c.stop_address-row.ensures) ch.reached t
 
 pub returns-in-Ok-run_to_event-clause-calls : goal.returns-in-Ok-run_to_event-clause-calls
 returns-in-Ok-run_to_event-clause-calls g c =

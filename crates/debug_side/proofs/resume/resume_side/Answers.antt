@@ -32,7 +32,7 @@ returns-in-Err-unplant_all-clause-told g c =
 
 pub returns-in-Err-unplant_all-clause-calls : goal.returns-in-Err-unplant_all-clause-calls
 returns-in-Err-unplant_all-clause-calls g c =
-    called_then_badly g.L.Link.took g.L.Link.gave c.args.wire.now.side c.meet.new.wire.side c.unplant_all.new.m.side c.args.wire.now.link c.meet.new.wire.link c.unplant_all.new.m.link c.in-Ok.event c.in-Err-unplant_all.fault c.in-Ok.ensures.calls c.in-Err-unplant_all.ensures.calls
+    called_then_badly g.L.Link.took g.L.Link.gave (λ w. w.link) (λ w. w.side) c.args.wire.now.side c.args.wire.now.link c.meet.new.wire c.unplant_all.new.m c.in-Ok.event c.in-Err-unplant_all.fault c.in-Ok.ensures.calls c.in-Err-unplant_all.ensures.calls
 
 pub returns-in-Err-unplant_all-clause-cause : goal.returns-in-Err-unplant_all-clause-cause
 returns-in-Err-unplant_all-clause-cause g c =

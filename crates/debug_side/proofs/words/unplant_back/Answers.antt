@@ -12,11 +12,11 @@ past_end ps i h = grind (arith, common_steps)
 
 pub loop-left-init : goal.loop-left-init
 loop-left-init g c =
-    let end : length c.args.points.now ≤ c.len-left.result = omega arith in
+    let end : length c.args.points.now ≤ length c.args.points.now = omega arith in
     record {
       within = omega arith;
-      wrote = wrote_none (g.M.AbsMem.seen c.args.m.now) (BackDone (noop_of c.args.target) c.args.points.now c.len-left.result)
-          (λ b. sym (ap (λ (l : List Point). words_put_back b.order (noop_of c.args.target) (map address_of l) b.regions) (past_end c.args.points.now c.len-left.result end)));
+      wrote = wrote_none (g.M.AbsMem.seen c.args.m.now) (BackDone (noop_of c.args.target) c.args.points.now (length c.args.points.now))
+          (λ b. sym (ap (λ (l : List Point). words_put_back b.order (noop_of c.args.target) (map address_of l) b.regions) (past_end c.args.points.now (length c.args.points.now) end)));
       calls = g.met.M.AbsMem.stays c.args.m.now;
     }
 
