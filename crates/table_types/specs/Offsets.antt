@@ -90,10 +90,13 @@ type_live s found (suc deep) t i = type_kind s t >>= λ k. elim k [
   | StructKind ↦ items_at s t (codes "members") >>= members_live s (λ m j. type_live s found deep m j) i
 ]
 
--- the type of a found object is at most as deep as the rules allow
+-- a type is at most as deep as the rules allow; and so is that of a found object
+abbrev pub checked : StoreState → DictId → Walked (Unit {0})
+checked s t = checked_type s t >>= λ u. Ok tt
+
 abbrev pub checked_found : StoreState → Option Found → Walked (Unit {0})
 checked_found s None = Ok tt
-checked_found s (Some o) = checked_type s o.ctype >>= λ t. Ok tt
+checked_found s (Some o) = checked s o.ctype
 
 -- ---- runs of bytes
 
