@@ -55,6 +55,11 @@ abbrev pub found : Dial → StoreState → (address : ℕ) → Acted (Option Fou
 found d s zero = Ok None
 found d s (suc n) = found_in s (suc n) d.target
 
+-- that of a second address, which is looked for only where the first belongs to an object
+abbrev pub found_behind : Option Found → Dial → StoreState → (address : ℕ) → Acted (Option Found)
+found_behind None d s p = Ok None
+found_behind (Some o) d s p = found d s p
+
 -- ---- places
 
 -- `n Local`
@@ -113,7 +118,7 @@ abbrev pub subtracting : Dial → PsCore → Act
 subtracting d c = do
   t ← raised (pointers.difference_operands c)
   o ← found d c.store t.0
-  other ← found d c.store t.1
+  other ← found_behind o d c.store t.1
   with_state d (pointers.leaving_difference o other t.2 c)
 
 -- `p q ptrcmp`
@@ -121,7 +126,7 @@ abbrev pub comparing : Dial → PsCore → Act
 comparing d c = do
   t ← raised (pointers.comparison_operands c)
   o ← found d c.store t.0
-  other ← found d c.store t.1
+  other ← found_behind o d c.store t.1
   with_state d (pointers.leaving_order o other c)
 
 -- `p kind Leaf`, `p type Leaf`
