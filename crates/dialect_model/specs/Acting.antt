@@ -16,8 +16,8 @@ use Rattle.ps_places.specs.Accesses as accesses
 use Rattle.ps_append.specs.Appending as texts
 use Rattle.ps_append.specs.Characters as characters
 use Rattle.ps_pointers.specs.Pointers as pointers
-use Rattle.ps_pointers.specs.Leaves as leaves
-use Rattle.ps_pointers.specs.Forms as forms
+use Rattle.ps_leaves.specs.Leaves as leaves
+use Rattle.ps_leaves.specs.Forms as forms
 use Rattle.ps_symbols.specs.Naming as names
 use Rattle.dialect_model.specs.Dial.{Dial, Target, Acted, Act, raised, looked, target_bytes, bytes_in, with_bytes, frame_of, scope_of}
 

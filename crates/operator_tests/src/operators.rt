@@ -3,10 +3,11 @@
 use crate::objects::{object_at, scope_of};
 use ldb_words::Text;
 use ps_append::{put, put_char};
+use ps_leaves::{leaf_operands, leave_leaf, leave_run, put_pointer};
 use ps_places::{absolute, local, register, top_word};
 use ps_pointers::{
-    comparison_operands, difference_operands, leaf_operands, leave_difference, leave_leaf,
-    leave_order, leave_run, leave_sum, put_pointer, sum_operands,
+    comparison_operands, difference_operands, leave_difference, leave_order, leave_sum,
+    sum_operands,
 };
 use ps_run::{Dialect, PsCore, PsError, PsFault, Steps};
 use ps_symbols::{anchor, find_struct, find_symbol, top_name};

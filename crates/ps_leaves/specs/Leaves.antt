@@ -17,8 +17,8 @@ use Rattle.frame_bytes.specs.declared.frame.Space.TheVariants.{Memory}
 use Rattle.table_model.specs.declared.found.Found.{Found}
 use Rattle.table_model.specs.Reading.{Walked}
 use Rattle.table_types.specs.Offsets.{offset_of, kind_live, type_live, checked, checked_found, byte_run}
-use Rattle.ps_pointers.specs.declared.leaves.Access.{Access}
-use Rattle.ps_pointers.specs.declared.leaves.Access.TheVariants.{OfKind, OfType}
+use Rattle.ps_leaves.specs.declared.leaves.Access.{Access}
+use Rattle.ps_leaves.specs.declared.leaves.Access.TheVariants.{OfKind, OfType}
 
 -- ---- `p kind Leaf`, `p type Leaf`
 

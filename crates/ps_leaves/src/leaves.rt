@@ -3,7 +3,7 @@
 ghost use Rattle.ps_store.specs.Store.{closed_part};
 ghost use Rattle.std.specs.Prelude.{◌≡◌, ◌≤◌, OnOk, length};
 ghost use Rattle.ps_step.specs.Effects.{Does};
-ghost use Rattle.ps_pointers.specs.Leaves.{access_of, leaf_operands, all_live, need_live, leaving_leaf, run_of, leaving_run};
+ghost use Rattle.ps_leaves.specs.Leaves.{access_of, leaf_operands, all_live, need_live, leaving_leaf, run_of, leaving_run};
 
 use frame_bytes::Space;
 use ldb_words::Kind;

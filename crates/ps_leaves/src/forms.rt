@@ -3,7 +3,7 @@
 ghost use Rattle.ps_store.specs.Store.{closed_part};
 ghost use Rattle.std.specs.Prelude.{◌≡◌, ◌++◌, OnOk, decimal};
 ghost use Rattle.ps_append.specs.Appending.{Appends};
-ghost use Rattle.ps_pointers.specs.Forms.{hex_digit, hex_text, activation_text, pointer_text, pointer_text_of};
+ghost use Rattle.ps_leaves.specs.Forms.{hex_digit, hex_text, activation_text, pointer_text, pointer_text_of};
 
 use ldb_words::Text;
 use ps_places::top_word;
