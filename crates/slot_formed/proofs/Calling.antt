@@ -1,16 +1,12 @@
 -- The code of any well-typed expression, calls among them, takes no number but 0 as a pointer.
-use Rattle.std.proofs.Common.{◌≡◌, refl, sym, ap, subst, ◌∙◌, arith, ℕ, zero, suc, ◌+◌, ◌<◌, ◌≤◌, ◌^◌, List, [], ◌∷◌, ◌++◌, length, length-append, append_assoc, Bool, true, false, not, ◌&&◌, ◌||◌, Option, Some, None, true≢false, slice_get, ◌⊎◌, inl, inr}
-use Rattle.std.specs.Prelude.{Ok, map, take, drop, reverse, ◌==◌, bytes_eq, codes, option_and_then, option_map, if◌then◌else◌}
+use Rattle.std.proofs.Common.{◌≡◌, refl, sym, ap, subst, ◌∙◌, arith, ℕ, zero, suc, ◌+◌, ◌<◌, List, [], ◌∷◌, ◌++◌, length, append_assoc, Bool, true, false, not, ◌&&◌, ◌||◌, Option, Some, None, true≢false, slice_get}
+use Rattle.std.specs.Prelude.{map, take, drop, reverse, bytes_eq, codes, if◌then◌else◌}
 use Rattle.std.proofs.lemmas.Grind.{reverse_onto}
 use Rattle.std.proofs.lemmas.List.{append-nil}
-use Rattle.ldb_words.specs.Word.{bit_of}
 use Rattle.c_tree.specs.declared.types.CType.{CType}
-use Rattle.c_tree.specs.declared.types.CType.TheVariants as ctype
 use Rattle.c_tree.specs.declared.typed.BinaryOp.{BinaryOp}
-use Rattle.c_tree.specs.declared.typed.BinaryOp.TheVariants.{Equal, Unequal, Less, Greater, LessEqual, GreaterEqual, Add, Subtract}
-use Rattle.c_tree.specs.declared.typed.UnaryOp.{UnaryOp}
+use Rattle.c_tree.specs.declared.typed.BinaryOp.TheVariants.{Add}
 use Rattle.c_tree.specs.declared.typed.Head.{Head}
-use Rattle.c_tree.specs.declared.typed.StepOp.{StepOp}
 use Rattle.c_tree.specs.declared.typed.Typed.{Typed, Row_of-Typed, end_of-Typed, more_of-Typed}
 use Rattle.c_tree.specs.declared.typed.Typed.TheVariants.{Comma', Assign', Choice', Or', And', Binary', Cast', Before', Address', Follow', Unary', SizeOf', SizeOfType, Index', Call', Dot', Arrow', After', Name, Constant, Literal, Parens'}
 use Rattle.c_tree.specs.declared.rows.Program.{Program}
@@ -20,39 +16,32 @@ use Rattle.c_tree.specs.declared.rows.SymbolRow.{SymbolRow}
 use Rattle.c_tree.specs.declared.rows.Referent.{Referent}
 use Rattle.c_tree.specs.declared.rows.Referent.TheVariants.{Object, Local, Function as Defined, Declared}
 use Rattle.c_tree.specs.Rows.{exprs}
-use Rattle.c_tree.specs.Types.{type_of, target_of, kind_of, is_struct, is_array, is_unsigned}
+use Rattle.c_tree.specs.Types.{type_of}
 use Rattle.c_tree.specs.Layout.{size_of}
-use Rattle.c_operators.specs.Arithmetic.{operating_type, truth}
-use Rattle.c_source.specs.Source.{dot_offset, arrow_offset, stepping, struct_number}
-use Rattle.c_typing.specs.Plain.{Plain, Char, Int, Unsigned, Void, Pointer, Array, Struct, plain, same, is_integer, is_pointer, is_struct as is_a_struct, is_scalar, is_void, is_complete, value_type, promoted, common}
-use Rattle.c_typing.specs.Constants.{is_built, evaluated, operated, operated_on, cast_to, chosen, truth_of, is_true}
-use Rattle.c_typing.specs.Rules.{Operand, takes as takes_all, value_of, only, may_drop, followed, is_movable, sum_type, binary_type, converts, is_copied, is_compound, is_move, compound_type, stepping as stepped, branches_type, choice_type, member_type}
-use Rattle.c_typing.specs.Expressions.{Denoted, Object as AnObject, Function as AFunction, Hidden, Scope, object_type, is_lvalue, is_register, is_string, operand, operands, value, name_type, call_type, result_type, IsTyped, AreTyped}
+use Rattle.c_source.specs.Source.{dot_offset, arrow_offset}
+use Rattle.c_typing.specs.Plain.{Plain, Char, Int, Unsigned, Void, Pointer, Array, Struct, plain, same, is_pointer, is_scalar, is_void, value_type}
+use Rattle.c_typing.specs.Constants.{is_built}
+use Rattle.c_typing.specs.Rules.{Operand, takes as takes_all, may_drop, followed, sum_type, converts, stepping as stepped, member_type}
+use Rattle.c_typing.specs.Expressions.{Object as AnObject, Function as AFunction, Hidden, Scope, is_lvalue, is_register, is_string, operand, operands, value, call_type, result_type, IsTyped, AreTyped}
 use Rattle.c_typing.specs.Declared.{has, parameters, local_type, function_in, local_in, locals_in, built_in, is_result, denoted_by, scope_at}
 use Rattle.c_typing.specs.Accepted.{IsAccepted}
-use Rattle.c_store.specs.Store.{Value, Number, World}
-use Rattle.slot_ir.specs.declared.code.Access.{Access}
-use Rattle.slot_ir.specs.declared.code.Access.TheVariants as access
+use Rattle.c_store.specs.Store.{Value}
 use Rattle.slot_ir.specs.declared.code.SlotCode.{SlotCode}
 use Rattle.slot_ir.specs.declared.code.SlotOp.{SlotOp}
 use Rattle.slot_ir.specs.declared.code.SlotOp.TheVariants as op
-use Rattle.slot_ir.specs.declared.code.PointerOp.{PointerOp}
-use Rattle.slot_ir.specs.declared.code.PointerOp.TheVariants as pointer
-use Rattle.slot_ir.specs.Operators.{extended, is_zero, unary, binary}
 use Rattle.c_store.specs.Frames.{Here, new_activation}
 use Rattle.slot_ir.specs.Slots.{SlotState, Temps, with_temp, no_temps, Frame, local_row, locals_in as slot_locals, last_temps, entered}
 use Rattle.slot_ir.specs.Slots as slots
-use Rattle.slot_pointers.specs.Taken.{is_pointer as points, serves, holds, takes, serves_in, serve_from, serve}
-use Rattle.slot_gen.specs.Expressions.{access_of, cast_code, load_code, word_op, unary_op, mixed_op, pointers_op, targets_op, combine_op, choice_code, and_code, or_code, referent_code, unless_register, name_code, read_at, write_at, update_at, register_in, register_inside, call_code, built_in_code, enter_code, registers_from, expr_code, place_code, row_code, is_scalar as is_scalar_type}
+use Rattle.slot_pointers.specs.Taken.{is_pointer as points, serves_in, serve_from, serve}
+use Rattle.slot_gen.specs.Expressions.{combine_op, name_code, register_in, register_inside, call_code, built_in_code, enter_code, registers_from, expr_code, place_code, row_code}
 use Rattle.slot_formed.specs.Code.{local_rows, IsProgramCode}
-use Rattle.slot_formed.proofs.Lists.{no_none, some_same, and_parts, or_parts, then_some, map_some}
-use Rattle.slot_formed.proofs.Sizes.{Formed, formed, formed_size, size_plain}
-use Rattle.slot_formed.proofs.Types.{type_formed, function_there, name_there, callee_there}
-use Rattle.slot_formed.proofs.Evaluated.{Is, suc_is, binary_is, unary_is, cast_is}
-use Rattle.slot_formed.proofs.Safe.{Safe, at_op, ok_after, temps_after, extended_serves}
+use Rattle.slot_formed.proofs.Lists.{no_none, some_same, and_parts, then_some}
+use Rattle.slot_formed.proofs.Sizes.{formed}
+use Rattle.slot_formed.proofs.Types.{type_formed, function_there, callee_there}
+use Rattle.slot_formed.proofs.Safe.{Safe, at_op, ok_after, temps_after}
 use Rattle.slot_formed.proofs.Objects.{IsAs, GivesAs, given_as}
 use Rattle.slot_formed.proofs.Formed.{function_row_at}
-use Rattle.slot_formed.proofs.Claims.{Held, Moves, Claim, no_both, only_is, target_none, target_some, integer_none, cast_serves, serves_type, holds_all, binary_moves, binary_value, integer_constant, converted_points, equal_points, branch_points, choice_value, choice_common, integer_unary, built_integer, built_none, value_twice, integer_same}
+use Rattle.slot_formed.proofs.Claims.{Held, Claim, only_is, cast_serves, binary_value, integer_constant, converted_points, value_twice}
 use Rattle.slot_formed.proofs.Triples as triples
 use Rattle.slot_formed.proofs.Triples.{Enters, Gives, Runs, Any, Below, Sets, Casts, Zero, sets_below, sets_above, sets_held, held_same, below_less, below_then, seq, post, nothing, weaker}
 use Rattle.slot_formed.proofs.Scalars.{register_value, followed_pointer}

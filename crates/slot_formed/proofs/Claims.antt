@@ -1,6 +1,6 @@
 -- What the typing rules say of an expression's value: it is a pointer, or 0, where its type is a pointer's, and the number of a constant expression.
-use Rattle.std.proofs.Common.{◌≡◌, refl, sym, ap, subst, ◌∙◌, arith, ℕ, zero, suc, ◌<◌, ◌^◌, List, [], ◌∷◌, Bool, true, false, ◌&&◌, ◌||◌, Option, Some, None, true≢false, ◌⊎◌, inl, inr}
-use Rattle.std.specs.Prelude.{◌==◌, option_and_then, option_map, if◌then◌else◌}
+use Rattle.std.proofs.Common.{◌≡◌, refl, sym, ap, subst, ◌∙◌, ℕ, zero, suc, List, Bool, true, false, ◌&&◌, ◌||◌, Option, Some, None, true≢false, ◌⊎◌, inl, inr}
+use Rattle.std.specs.Prelude.{◌==◌, if◌then◌else◌}
 use Rattle.c_tree.specs.declared.types.CType.{CType}
 use Rattle.c_tree.specs.declared.types.CType.TheVariants as ctype
 use Rattle.c_tree.specs.declared.types.StructDef.{StructDef}
@@ -9,14 +9,13 @@ use Rattle.c_tree.specs.declared.typed.BinaryOp.TheVariants.{BitOr, BitXor, BitA
 use Rattle.c_tree.specs.declared.typed.UnaryOp.{UnaryOp}
 use Rattle.c_tree.specs.declared.typed.UnaryOp.TheVariants as sign
 use Rattle.c_tree.specs.declared.typed.Typed.{Typed}
-use Rattle.c_tree.specs.declared.typed.Typed.TheVariants.{Comma', Assign', Choice', Or', And', Binary', Cast', Before', Address', Follow', Unary', SizeOf', SizeOfType, Index', Call', Dot', Arrow', After', Name, Constant, Literal, Parens'}
+use Rattle.c_tree.specs.declared.typed.Typed.TheVariants.{Choice', Or', And', Binary', Cast', Unary', SizeOf', SizeOfType, Constant, Parens'}
 use Rattle.c_tree.specs.Types.{type_of, target_of}
-use Rattle.c_typing.specs.Plain.{Plain, Char, Int, Unsigned, Void, Pointer, Array, Struct, plain, same, is_integer, is_pointer, is_scalar, is_complete, value_type, promoted, common}
-use Rattle.c_typing.specs.Constants.{is_built, evaluated, constant_of, is_null, is_zero}
-use Rattle.c_typing.specs.Rules.{Operand, value_of, only, is_movable, arithmetic_type, sum_type, difference_type, shift_type, order_type, is_nulled, equality_type, binary_type, converts, is_compound, is_move, branches_type, choice_type, cast_type, unary_type}
+use Rattle.c_typing.specs.Plain.{Plain, Char, Int, Unsigned, Void, Pointer, Array, Struct, plain, same, is_integer, is_pointer, is_scalar, value_type, promoted, common}
+use Rattle.c_typing.specs.Constants.{is_built, evaluated, is_null, is_zero}
+use Rattle.c_typing.specs.Rules.{Operand, only, is_movable, arithmetic_type, sum_type, difference_type, shift_type, order_type, is_nulled, equality_type, binary_type, converts, branches_type, choice_type, unary_type}
 use Rattle.c_typing.specs.Expressions.{Scope, operand, value, is_constant_type, IsTyped}
-use Rattle.c_store.specs.Store.{Value, Number}
-use Rattle.slot_ir.specs.declared.code.Access.TheVariants as access
+use Rattle.c_store.specs.Store.{Value}
 use Rattle.slot_pointers.specs.Taken.{is_pointer as points, serves, holds}
 use Rattle.slot_gen.specs.Expressions.{access_of}
 use Rattle.slot_formed.proofs.Lists.{no_none, some_same, and_parts, or_parts}

@@ -1,14 +1,14 @@
 -- What the operators of slot code give on the numbers of a constant expression, which are words.
-use Rattle.std.proofs.Common.{◌≡◌, refl, sym, ap, subst, ◌∙◌, ℕ, zero, suc, ◌+◌, ◌-◌, ◌*◌, ◌/◌, ◌%◌, ◌^◌, ◌<◌, ◌≤◌, nat_lt, Bool, true, false, true≢false, Option, Some, None, ℤ, pos, negsuc, neg_ℤ, nat_abs, to_z, w8, w32, lit<, arith}
-use Rattle.std.specs.Prelude.{Result, Ok, Err, ◌==◌, not, ◌+ℤ◌, ◌-ℤ◌, ◌*ℤ◌, bit_and, bit_or, bit_xor, int_div, int_rem, int_lt, int_le, nat_le, option_and_then, option_map, if◌then◌else◌}
-use Rattle.std.specs.Int.{int_shr, cast_signed}
+use Rattle.std.proofs.Common.{◌≡◌, refl, sym, ap, subst, ◌∙◌, ℕ, zero, suc, ◌-◌, ◌/◌, ◌%◌, ◌^◌, ◌<◌, ◌≤◌, nat_lt, Bool, true, false, Option, Some, ℤ, pos, negsuc, neg_ℤ, nat_abs, to_z, w8, w32, lit<, arith}
+use Rattle.std.specs.Prelude.{Result, Ok, Err, ◌==◌, not, ◌+ℤ◌, ◌-ℤ◌, ◌*ℤ◌, bit_xor, int_div, int_rem, int_lt, int_le, nat_le, option_and_then, option_map, if◌then◌else◌}
+use Rattle.std.specs.Int.{int_shr}
 use Rattle.std.specs.Int.RustNames.{unsigned_abs}
 use Rattle.std.specs.Int.Bits.{and_lt, xor_add_and}
 use Rattle.std.proofs.lemmas.Nat.{or_lt, xor_lt, and_mask, and_comm}
 use Rattle.std.proofs.Math.Nat.{div-le_self, mod-le}
 use Rattle.std.proofs.Math.IntN.{+ℤ_idl}
-use Rattle.ldb_words.specs.Word.{signed, word_of_signed, bit_of}
-use Rattle.ldb_words.specs.Arithmetic.{is_int, checked, divides, checked_quotient, shifted, checked_shift}
+use Rattle.ldb_words.specs.Word.{signed, word_of_signed}
+use Rattle.ldb_words.specs.Arithmetic.{is_int, checked, divides, checked_quotient, shifted}
 use Rattle.ldb_words.specs.declared.kinds.Undef.{Undef}
 use Rattle.ldb_words.specs.declared.kinds.Undef.TheVariants.{Overflow, Division, Shift}
 use Rattle.ldb_words.specs.declared.kinds.Way.TheVariants.{Left, RightSigned, RightUnsigned}
@@ -22,8 +22,8 @@ use Rattle.c_tree.specs.Types.{is_unsigned}
 use Rattle.c_operators.specs.Bits.{minus_one, low_byte, patterned, subtract, signed_negate}
 use Rattle.c_operators.specs.Arithmetic.{truth, on_ints, on_unsigned, operating_type}
 use Rattle.c_typing.specs.Constants.{defined, operated, operated_on, cast_to}
-use Rattle.runs.specs.Runs.{Why, IllTyped}
-use Rattle.c_store.specs.Store.{Value, Number, Null, At, World, used, is_stale}
+use Rattle.runs.specs.Runs.{Why}
+use Rattle.c_store.specs.Store.{Value, Number, World, is_stale}
 use Rattle.slot_ir.specs.Operators.{on_words, binary, unary, because, extended}
 use Rattle.slot_gen.specs.Expressions.{word_op, unary_op, access_of}
 use Rattle.slot_formed.proofs.Lists.{no_none, some_same, then_some, map_some}

@@ -3,8 +3,8 @@ use Rattle.std.proofs.Common.{◌≡◌, refl, sym, ap, subst, ◌∙◌, arith,
 use Rattle.std.specs.Prelude.{Result, Ok, Err, reverse, if◌then◌else◌}
 use Rattle.std.specs.List.{AllByRecursion}
 use Rattle.runs.specs.Runs.{Next, Goes, Passes, Exits, Undefined, Why, IllTyped, Outcome, Reached, Breaks, after, after_count, past, then_on}
-use Rattle.c_store.specs.Store.{Value, Number, Null, At, used, store, load_struct, store_struct, with_first, ◌>>=◌}
-use Rattle.c_store.specs.Frames.{Here, ActivationRecord, made, left, is_free, new_activation, with_world}
+use Rattle.c_store.specs.Store.{Value, Number, Null, At, used, store, load_struct, store_struct}
+use Rattle.c_store.specs.Frames.{Here, ActivationRecord, left, is_free, new_activation, with_world}
 use Rattle.c_store.specs.Assigned.{History}
 use Rattle.ldb_words.specs.declared.kinds.Kind.{Kind}
 use Rattle.c_tree.specs.declared.types.Leaf.{Leaf}
@@ -12,10 +12,9 @@ use Rattle.c_tree.specs.declared.rows.Program.{Program}
 use Rattle.c_tree.specs.declared.rows.Function.{Function}
 use Rattle.slot_ir.specs.declared.code.SlotCode.{SlotCode}
 use Rattle.slot_ir.specs.declared.code.SlotFunction.{SlotFunction}
-use Rattle.slot_ir.specs.declared.code.SlotLocal.{SlotLocal}
 use Rattle.slot_ir.specs.declared.code.SlotOp.{SlotOp}
 use Rattle.slot_ir.specs.declared.code.SlotOp.TheVariants as op
-use Rattle.slot_ir.specs.Operators.{extended, number_in}
+use Rattle.slot_ir.specs.Operators.{number_in}
 use Rattle.slot_ir.specs.Slots.{SlotState, Frame, code_of, code_in, local_row, zero_cells, zeroed_row, zeroed_local, leaf_count_in, given_row, given, entered, last_temps}
 use Rattle.slot_ir.specs.Slots as slots
 use Rattle.slot_ir.specs.Begin.{begin, acted}

@@ -1,12 +1,11 @@
 -- Runs that take no number but 0 as a pointer for so many steps, whatever is assigned at stops: what each operator asks.
-use Rattle.std.proofs.Common.{◌≡◌, refl, sym, ap, subst, ◌∙◌, arith, ℕ, zero, suc, ◌+◌, ◌<◌, ◌≤◌, List, [], ◌∷◌, length, Bool, true, false, ◌&&◌, Option, Some, None, true≢false, slice_get, ℤ, pos, negsuc}
+use Rattle.std.proofs.Common.{◌≡◌, refl, sym, ap, subst, ◌∙◌, arith, ℕ, zero, suc, ◌+◌, ◌<◌, ◌≤◌, List, length, Bool, true, false, Option, Some, None, slice_get, ℤ, pos, negsuc}
 use Rattle.std.specs.Prelude.{Result, Ok, Err, ◌+ℤ◌, nat_le, if◌then◌else◌}
 use Rattle.ldb_words.specs.declared.kinds.Kind.{Kind}
 use Rattle.ldb_words.specs.declared.kinds.Undef.TheVariants.{Pointer as PointerReason}
 use Rattle.runs.specs.Runs.{Next, Goes, Passes, Exits, Undefined, Why, Reason, IllTyped, Stale}
-use Rattle.c_tree.specs.declared.types.Leaf.{Leaf}
 use Rattle.c_store.specs.Store.{Value, Number, Null, At, Object, World, used, is_stale, load, store, moved, load_struct, store_struct, ◌>>=◌}
-use Rattle.c_store.specs.Frames.{Here, ActivationRecord, with_world, with_point, made, left, is_free, bound}
+use Rattle.c_store.specs.Frames.{Here, with_world, with_point, bound}
 use Rattle.slot_ir.specs.declared.code.Access.{Access}
 use Rattle.slot_ir.specs.declared.code.Access.TheVariants as access
 use Rattle.slot_ir.specs.declared.code.SlotCode.{SlotCode}
@@ -15,11 +14,11 @@ use Rattle.slot_ir.specs.declared.code.SlotOp.TheVariants as op
 use Rattle.slot_ir.specs.declared.code.PointerOp.{PointerOp}
 use Rattle.slot_ir.specs.declared.code.UnaryWordOp.{UnaryWordOp}
 use Rattle.slot_ir.specs.declared.code.WordOp.{WordOp}
-use Rattle.slot_ir.specs.Operators.{extended, as_pointer, number_in, is_zero, unary, binary, compared, indexed, distance}
+use Rattle.slot_ir.specs.Operators.{extended, number_in, is_zero, unary, binary, compared, indexed, distance}
 use Rattle.slot_ir.specs.Slots.{SlotState, Temps, with_temp, Frame, code_of, local_row, zero_cells, zeroed_local, leaf_count_in}
 use Rattle.slot_ir.specs.Slots as slots
 use Rattle.slot_pointers.specs.Taken.{is_pointer, serves, holds, takes, takes_at, takes_pointers}
-use Rattle.slot_formed.proofs.Lists.{no_none, some_same, map_some}
+use Rattle.slot_formed.proofs.Lists.{map_some}
 
 -- ---- values
 

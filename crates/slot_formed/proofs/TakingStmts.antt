@@ -20,7 +20,7 @@ use Rattle.c_typing.specs.Plain.{Plain, plain, is_pointer}
 use Rattle.c_typing.specs.Rules.{converts}
 use Rattle.c_typing.specs.Expressions.{Scope, operand, IsTyped}
 use Rattle.c_typing.specs.Declared.{scope_at, locals_in}
-use Rattle.c_typing.specs.Statements.{Around as Stands, in_function, in_loop as looped, in_switch as switched, inside, local_numbers, type_in, type_of_local, IsTestOrNone, IsDropped, IsInitializer, AreInitialized, IsReturned, IsStatement, AreStatements, IsElse, IsSwitched}
+use Rattle.c_typing.specs.Statements.{Around as Stands, in_function, in_loop as looped, in_switch as switched, inside, local_numbers, type_in, type_of_local, IsTestOrNone, IsDropped, IsInitializer, AreInitialized, IsStatement, AreStatements, IsElse, IsSwitched}
 use Rattle.c_typing.specs.Accepted.{numbers, IsBlock, IsAccepted}
 use Rattle.c_store.specs.Store.{Value, Number}
 use Rattle.c_store.specs.Frames.{Here, is_free, left}
@@ -31,7 +31,7 @@ use Rattle.slot_ir.specs.Begin.{begin, acted}
 use Rattle.slot_ir.specs.declared.code.SlotCode.{SlotCode}
 use Rattle.slot_ir.specs.declared.code.SlotOp.{SlotOp}
 use Rattle.slot_ir.specs.declared.code.SlotOp.TheVariants as op
-use Rattle.slot_ir.specs.Operators.{extended, number_in}
+use Rattle.slot_ir.specs.Operators.{number_in}
 use Rattle.slot_ir.specs.Slots.{SlotState, Temps, with_temp, no_temps, Frame, code_in, code_of, local_row, zeroed_local, leaf_count_in}
 use Rattle.slot_ir.specs.Slots as slots
 use Rattle.slot_pointers.specs.Taken.{is_pointer as points, takes_at, takes_pointers, TakesPointers}

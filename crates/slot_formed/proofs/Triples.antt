@@ -1,6 +1,6 @@
 -- Pieces of code that take no number but 0 as a pointer: where what stands behind a piece does so, the piece does.
-use Rattle.std.proofs.Common.{◌≡◌, refl, sym, ap, subst, ◌∙◌, arith, ℕ, zero, suc, ◌+◌, ◌<◌, ◌≤◌, List, [], ◌∷◌, ◌++◌, length, length-append, append_assoc, Bool, true, false, not, Option, Some, None, true≢false, slice_get}
-use Rattle.std.specs.Prelude.{Result, Ok, Err}
+use Rattle.std.proofs.Common.{◌≡◌, refl, sym, ap, subst, ◌∙◌, arith, ℕ, ◌+◌, ◌<◌, ◌≤◌, List, [], ◌∷◌, ◌++◌, length, length-append, append_assoc, Bool, true, false, not, Option, Some, slice_get}
+use Rattle.std.specs.Prelude.{Ok}
 use Rattle.std.proofs.lemmas.Bool.{ne_eqb}
 use Rattle.std.proofs.Math.Dec.{eqb_refl}
 use Rattle.ldb_words.specs.declared.kinds.Kind.{Kind}
@@ -24,7 +24,7 @@ use Rattle.slot_ir.specs.Operators.{extended, is_zero, unary, binary}
 use Rattle.slot_ir.specs.Slots.{SlotState, Temps, with_temp, Frame}
 use Rattle.slot_pointers.specs.Taken.{is_pointer as points, serves, takes}
 use Rattle.slot_gen.specs.Expressions.{access_of, converting, cast_code, choice_code, and_code, or_code}
-use Rattle.slot_formed.proofs.Lists.{no_none, some_same}
+use Rattle.slot_formed.proofs.Lists.{some_same}
 use Rattle.slot_formed.proofs.Quiet.{HasAt, has_front, has_back}
 use Rattle.slot_formed.proofs.Claims.{Held, holds_all, cast_serves}
 use Rattle.slot_formed.proofs.Safe as safe
