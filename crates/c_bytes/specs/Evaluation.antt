@@ -1,12 +1,13 @@
 -- What an expression means over the bytes of a target.
-use Rattle.std.specs.Prelude.{ℕ, pos, List, [], ◌∷◌, ◌==◌, Option, Some, None}
+use Rattle.std.specs.Prelude.{ℕ, pos, cond, List, [], ◌∷◌, ◌==◌, Option, Some, None}
 use Rattle.ldb_words.specs.declared.kinds.Kind.{Kind}
 use Rattle.c_tree.specs.declared.types.Leaf.{Leaf}
+use Rattle.c_tree.specs.declared.typed.BinaryOp.TheVariants.{Add}
 use Rattle.c_tree.specs.declared.typed.Typed.{Typed}
 use Rattle.c_tree.specs.declared.typed.Typed.TheVariants.{Assign'}
 use Rattle.c_tree.specs.Types.{type_of, kind_of, is_struct}
 use Rattle.c_tree.specs.Layout.{leaves_of}
-use Rattle.c_evaluation.specs.Evaluation.{Ground, pick, value_by, place_by, values_by}
+use Rattle.c_source.specs.Evaluation.{Ground, value_by, place_by, values_by}
 use Rattle.frame_bytes.specs.declared.frame.Space.TheVariants.{Memory}
 use Rattle.frame_bytes.specs.Bytes.{Bytes, stored}
 use Rattle.table_model.specs.declared.found.Found.{Found}
@@ -39,7 +40,7 @@ module _ (sc : Scene) where
     name_at = λ n. where_is sc n;
     text_at = λ n. refuses IllTyped;
     led_by = λ p. gives (Pointed p);
-    at_moved = λ p. Pointed p;
+    item_at = λ s t x y. combined sc Add s t x y >>= λ p. gives (Pointed p);
     member = λ n s. member_at sc n s;
     led_member = λ n p. moved sc p (pos n) >>= λ q. gives (Pointed q);
     address_of = address_of;
@@ -76,7 +77,7 @@ module _ (sc : Scene) where
 
   abbrev pub if_writable : Option Found → Means (Unit {0})
   if_writable None = gives tt
-  if_writable (Some o) = pick o.literal pointer (gives tt)
+  if_writable (Some o) = cond o.literal pointer (gives tt)
 
   -- no string literal is written
   abbrev pub may_write : Option ℕ → Means (Unit {0})
@@ -120,5 +121,5 @@ module _ (sc : Scene) where
 
   -- the bytes after an assignment
   abbrev pub assignment : Typed → Means Bytes
-  assignment (Assign' t _ a None _ b) = pick (is_struct (type_of a)) (copying a b (leaves_of sc.defs (type_of a))) (setting a b (leaf_of (kind_of (type_of a)) ∷ []))
+  assignment (Assign' t _ a None _ b) = cond (is_struct (type_of a)) (copying a b (leaves_of sc.defs (type_of a))) (setting a b (leaf_of (kind_of (type_of a)) ∷ []))
   assignment _ = refuses IllTyped

@@ -1,3 +1,4 @@
 pub mod Computing
 pub mod WatchedRun
 pub mod ShownState
+pub mod NumberAsPointer

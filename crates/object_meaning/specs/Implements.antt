@@ -1,5 +1,5 @@
 -- What an object promises of the slot code that it was made of, wherever it is placed: its machine simulates the slot code forward, and comes to nothing else.
-use Rattle.std.specs.Prelude.{◌≡◌, ◌≢◌, ◌≤◌, ◌<◌, ◌⊎◌, ℕ, zero, suc, ℤ, ◌+◌, ◌-◌, ◌*◌, ◌%◌, ◌^◌, List, [], ◌∷◌, length, take, drop, Bool, true, false, Option, Some, None, slice_get, codes}
+use Rattle.std.specs.Prelude.{◌≡◌, ◌≢◌, ◌≤◌, ◌<◌, ◌⊎◌, ℕ, zero, suc, ℤ, ◌+◌, ◌-◌, ◌*◌, ◌%◌, ◌^◌, List, [], ◌∷◌, ◌++◌, length, take, drop, Bool, true, false, Option, Some, None, slice_get, codes}
 use Rattle.std.specs.List.{AllByRecursion}
 use Rattle.ldb_words.specs.declared.event.Event.TheVariants.{Request}
 use Rattle.machine_state.specs.declared.layout.TheConstants.{TEXT, DATA}
@@ -14,17 +14,20 @@ use Rattle.runs.specs.Runs.{Next, Goes, Passes, Exits, Undefined, Why, IllTyped,
 use Rattle.c_store.specs.Assigned.{History, at_stop}
 use Rattle.slot_ir.specs.declared.code.SlotCode.{SlotCode}
 use Rattle.slot_ir.specs.declared.code.SlotFunction.{SlotFunction}
-use Rattle.slot_ir.specs.Slots.{SlotState, step}
+use Rattle.slot_ir.specs.Slots.{SlotState}
+use Rattle.slot_pointers.specs.Taken.{strict_step}
 use Rattle.slot_ir.specs.Begin.{begin, acted}
 use Rattle.targets.specs.Targets.{loaded}
 use Rattle.machine_runs.specs.Watched.{Watched, Change, Debugger, Led, led_after}
 use Rattle.flat_gen.specs.Stack.{fits}
+use Rattle.gen_parts.specs.Links.{text_names, static_names, AreOnce}
+use Rattle.link_image.specs.Conditions.{AreLinkable}
 use Rattle.obj_placed.specs.Placed.{IsPlacing, IsResolved, names_of, address_of, placed_text, placed_statics}
 use Rattle.object_meaning.specs.Changes.{Target, AreSane, changes}
 use Rattle.object_meaning.specs.Rows.{IsRow, AreDisjoint, HasStatics}
 use Rattle.object_meaning.specs.Shown.{behaviour, point_at, Represents, Shows, CanSave}
 
--- ---- slot code on a stack of bounded size
+-- ---- slot code that takes no number but 0 as a pointer, on a stack of bounded size
 
 abbrev if_true : Bool → Next SlotState → Next SlotState
 if_true true next = next
@@ -36,9 +39,9 @@ fitting linkage c (Passes q n s) = Passes q n s
 fitting linkage c (Exits v n s) = Exits v n s
 fitting linkage c (Undefined why) = Undefined why
 
--- a step after which the frames don't fit is undefined
+-- a step is undefined that takes a number but 0 as a pointer, or after which the frames don't fit
 unfoldable pub fitting_step : (linkage : ℕ) → SlotCode → SlotState → Next SlotState
-fitting_step linkage c s = fitting linkage c (step c s)
+fitting_step linkage c s = fitting linkage c (strict_step c s)
 
 -- ---- runs
 
@@ -152,7 +155,7 @@ module _ (t : Target) (c : SlotCode) (o : Object) (addresses : List ℕ) (h : Hi
       pub comes_to : (j : ℕ) → (n : ℕ) × ((j < at (suc n)) ⊎ ((why : Why) × (slots_after n ≡ Breaks why)))
       pub stops : (n q count : ℕ) (m : Moment SlotState) (s : SlotState) → slots_after n ≡ Reached m → fitting_step t.linkage c m.state ≡ Passes q count s
           → (j : ℕ) × (k : Moment Led) × (at (suc n) ≡ suc j) × (machine_after j ≡ Reached k) × IsStop q s m.passed k
-      pub stack : (n units : ℕ) (m : Moment SlotState) (s : SlotState) → slots_after n ≡ Reached m → step c m.state ≡ Goes units s → fits t.linkage c s ≡ false
+      pub stack : (n units : ℕ) (m : Moment SlotState) (s : SlotState) → slots_after n ≡ Reached m → strict_step c m.state ≡ Goes units s → fits t.linkage c s ≡ false
           → AsksForStack m units (at n)
 
 -- ---- images
@@ -174,11 +177,14 @@ pub record IsPlacedImage (o : Object) (addresses : List ℕ) (i : ImageFields) :
 abbrev pub started : ImageFields → List ℕ → MachineState
 started i input = (given_input input (loaded i)).1
 
--- A step of the slot code after which the frames don't fit is undefined. For every place, input and debugger: the image's
+-- A step of the slot code that takes a number but 0 as a pointer, or after which the frames don't fit, is undefined. For every place, input and debugger: the image's
 -- machine shows what the slot code does while its frames fit, and nothing else; where they don't it asks for more stack.
 pub record Implements (t : Target) (c : SlotCode) (o : Object) : Type 0 where
   pub target : o.target ≡ t.number
-  -- a linker makes an image of it: its text is of whole words, begins with the name `start`, and each use is found
+  -- A linker makes an image of it alone: its static objects fit, what is named lies in its text, uses among static objects are of whole words, and each name that it uses is defined once. So are the others that it gives.
+  pub linkable : AreLinkable (o ∷ [])
+  pub names : AreOnce (text_names o.names ++ static_names o.statics)
+  -- its text is of whole words, begins with the name `start`, and each use is found
   pub text_words : (4 ≤ length o.text) × (length o.text ≤ 2 ^ 24) × (length o.text % 4 ≡ 0)
   pub text_bytes : AreBytes o.text
   pub static_bytes : (j : ℕ) (s : StaticDef) → slice_get o.statics j ≡ Some s → AreBytes s.bytes

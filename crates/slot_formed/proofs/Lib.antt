@@ -21,3 +21,12 @@ mod Inside
 mod Quiet
 mod Lands
 mod Passing
+mod Objects
+mod Evaluated
+mod Safe
+mod Claims
+mod Triples
+mod Scalars
+mod Taking
+mod Calling
+mod TakingStmts

@@ -7,6 +7,7 @@ ghost use Rattle.slot_ir.specs.WellFormed.{operators_of_a_token, weight_in, IsWe
 ghost use Rattle.slot_gen.specs.Correct.{IsCodeOf, Lowers};
 ghost use Rattle.std.specs.List.{AllByRecursion};
 ghost use Rattle.slot_gen.specs.Rows.{HasRowsOf, IsLowerable};
+ghost use Rattle.slot_pointers.specs.Taken.{TakesPointers};
 ghost use Rattle.slot_formed.specs.Code.{IsComplete, IsProgramCode, program_code};
 ghost use Rattle.slot_formed.specs.Passed.{CallsStandBehindTheirPoints};
 ghost use Rattle.slot_formed.specs.Tokens.{program_tokens};
@@ -42,6 +43,13 @@ pub fn accepted_code_keeps_the_run()
     leaves_ascend();
     code_takes_few_temporaries();
     slot_code_keeps_the_run();
+}
+
+/// No step of a run of an accepted program's slot code takes a number but 0 as a pointer, for every input and all assignments made at the stops. An integer stands for a pointer only in a null constant, whose code comes to 0; what is read, moved or converted as a pointer is one.
+pub fn numbers_taken_are_zero()
+    ensures { (p : Program) (c : SlotCode) → IsAccepted p → IsProgramCode p c → TakesPointers c }
+{
+    leaves_ascend();
 }
 
 /// While a call goes on, the calling activation stands behind the point that it passed last: no other stop stands between that of its point and the place where it goes on.

@@ -1,6 +1,5 @@
--- What stands at the front of bytes: a frame, part of one, or no frame however they go on. It is the middle term of the
--- proofs about the reader of frames, and no public contract cites it.
-use Rattle.std.specs.Prelude.{ℕ, ◌+◌, ◌-◌, ◌*◌, ◌^◌, List, [], ◌∷◌, length, take, nat_eq, nat_le, nat_lt, ◌&&◌, ◌||◌, if◌then◌else◌, Option, Some, None}
+-- A reader of frames that computes: the middle term of the proofs about what stands at the front of bytes.
+use Rattle.std.specs.Prelude.{ℕ, ◌+◌, ◌-◌, ◌*◌, ◌^◌, List, [], ◌∷◌, length, take, nat_eq, nat_le, nat_lt, ◌&&◌, if◌then◌else◌, Option, Some, None}
 use Rattle.ldb_words.specs.declared.event.FaultKind.{FaultKind}
 use Rattle.ldb_words.specs.declared.event.FaultKind.TheVariants as kind
 use Rattle.nub_wire.specs.declared.message.Size.{Size}
@@ -112,8 +111,3 @@ front_of [] = Part
 front_of (high ∷ []) = if nat_le high 4 then Part else Nothing
 front_of (high ∷ low ∷ []) = if nat_le 1 (256 * high + low) && nat_le (256 * high + low) 1025 then Part else Nothing
 front_of (high ∷ low ∷ tag ∷ payload) = tagged (256 * high + low) tag payload
-
--- How many bytes more decide something about part of a frame. Of input and output only the last byte does.
-abbrev pub awaited : List ℕ → ℕ
-awaited (high ∷ low ∷ tag ∷ payload) = if nat_eq tag 0x06 || nat_eq tag 0x85 then 256 * high + low - 1 - length payload else 1
-awaited _ = 1

@@ -1,16 +1,14 @@
 -- The value of an expression without assignments and calls, by recursion over its tree, over anything that can be loaded, moved and used.
-use Rattle.std.specs.Prelude.{ℕ, Bool, true, false, List, [], ◌∷◌, slice_get, Option, Some, None}
+use Rattle.std.specs.Prelude.{ℕ, Bool, cond, List, [], ◌∷◌}
 use Rattle.c_tree.specs.declared.types.CType.{CType}
 use Rattle.c_tree.specs.declared.types.StructDef.{StructDef}
-use Rattle.c_tree.specs.declared.types.Member.{Member}
 use Rattle.c_tree.specs.declared.typed.BinaryOp.{BinaryOp}
-use Rattle.c_tree.specs.declared.typed.BinaryOp.TheVariants.{Add}
 use Rattle.c_tree.specs.declared.typed.UnaryOp.{UnaryOp}
 use Rattle.c_tree.specs.declared.typed.Typed.{Typed}
 use Rattle.c_tree.specs.declared.typed.Typed.TheVariants.{Comma', Choice', Or', And', Binary', Cast', Address', Follow', Unary', SizeOf', SizeOfType, Index', Dot', Arrow', Name, Constant, Literal, Parens'}
 use Rattle.c_tree.specs.Types.{type_of, target_of, is_struct, is_array}
-use Rattle.c_tree.specs.Layout.{size_of, members_of}
-use Rattle.c_source.specs.Source.{struct_number}
+use Rattle.c_tree.specs.Layout.{size_of}
+use Rattle.c_source.specs.Source.{offset_of, struct_number, target_number}
 
 -- What an expression is evaluated over: M is what an evaluation may come to, V are the values and S the places.
 pub record Ground {ℓ} (M : Type 0 → Type ℓ) (V S : Type 0) : Type (ℓ ⊔ 1) where
@@ -25,11 +23,11 @@ pub record Ground {ℓ} (M : Type 0 → Type ℓ) (V S : Type 0) : Type (ℓ ⊔
   pub convert : CType → V → M V
   pub combine : BinaryOp → CType → CType → V → V → M V
   pub change : UnaryOp → CType → V → M V
-  -- places: of a name and of a string by their numbers, and where a pointer leads, which uses it; a pointer that was moved is one already
+  -- places: of a name and of a string by their numbers, where a pointer leads, which uses it, and where the sum of a pointer and an integer leads
   pub name_at : (symbol : ℕ) → M S
   pub text_at : (string : ℕ) → M S
   pub led_by : V → M S
-  pub at_moved : V → S
+  pub item_at : CType → CType → V → V → M S
   -- a member so many bytes from a place, and from where a pointer leads
   pub member : (bytes : ℕ) → S → M S
   pub led_member : (bytes : ℕ) → V → M S
@@ -38,31 +36,14 @@ pub record Ground {ℓ} (M : Type 0 → Type ℓ) (V S : Type 0) : Type (ℓ ⊔
   pub load : CType → S → M V
   pub load_struct : CType → S → M (List V)
 
-abbrev pub pick {ℓ} : {A : Type ℓ} → Bool → A → A → A
-pick true x y = x
-pick false x y = y
-
--- ---- offsets of members
-
-abbrev offset_in : Option Member → ℕ
-offset_in None = 0
-offset_in (Some m) = m.at
-
-abbrev pub offset_of : List StructDef → (struct member : ℕ) → ℕ
-offset_of defs s m = offset_in (slice_get (members_of defs s) m)
-
-abbrev pub number_in : Option CType → ℕ
-number_in None = 0
-number_in (Some t) = struct_number t
-
 module _ {ℓ} {M : Type 0 → Type ℓ} {V S : Type 0} (defs : List StructDef) (g : Ground M V S) where
   -- what stands at a place: a scalar is read, and an array is its place
   abbrev pub value_at : CType → S → M V
-  value_at t s = pick (is_array t) (g.gives (g.address_of s)) (g.load t s)
+  value_at t s = cond (is_array t) (g.gives (g.address_of s)) (g.load t s)
 
   -- a condition, which is a use
   abbrev pub tested : M V → (holds fails : M V) → M V
-  tested m holds fails = g.chain m (λ v. g.chain (g.use_of v) (λ x. pick (g.is_zero x) fails holds))
+  tested m holds fails = g.chain m (λ v. g.chain (g.use_of v) (λ x. cond (g.is_zero x) fails holds))
 
   abbrev pub truth_of : M V → M V
   truth_of m = tested m (g.gives (g.number 1)) (g.gives (g.number 0))
@@ -72,7 +53,7 @@ module _ {ℓ} {M : Type 0 → Type ℓ} {V S : Type 0} (defs : List StructDef) 
   chosen_as t m = g.chain m (λ v. g.chain (g.use_of v) (g.convert t))
 
   abbrev pub indexed : CType → CType → M V → M V → M S
-  indexed s t a b = g.chain a (λ x. g.chain b (λ y. g.chain (g.combine Add s t x y) (λ v. g.gives (g.at_moved v))))
+  indexed s t a b = g.chain a (λ x. g.chain b (λ y. g.item_at s t x y))
 
   abbrev mutual
     -- the value of an expression
@@ -94,7 +75,7 @@ module _ {ℓ} {M : Type 0 → Type ℓ} {V S : Type 0} (defs : List StructDef) 
     value_by (Follow' t _ a) = g.chain (g.chain (value_by a) g.led_by) (value_at t.ctype)
     value_by (Index' t _ a _ b) = g.chain (indexed (type_of a) (type_of b) (value_by a) (value_by b)) (value_at t.ctype)
     value_by (Dot' t _ a m) = g.chain (g.chain (place_by a) (g.member (offset_of defs (struct_number (type_of a)) m))) (value_at t.ctype)
-    value_by (Arrow' t _ a m) = g.chain (g.chain (value_by a) (g.led_member (offset_of defs (number_in (target_of (type_of a))) m))) (value_at t.ctype)
+    value_by (Arrow' t _ a m) = g.chain (g.chain (value_by a) (g.led_member (offset_of defs (target_number (target_of (type_of a))) m))) (value_at t.ctype)
     value_by _ = g.ill_typed
 
     -- where an lvalue stands
@@ -104,17 +85,10 @@ module _ {ℓ} {M : Type 0 → Type ℓ} {V S : Type 0} (defs : List StructDef) 
     place_by (Follow' t _ a) = g.chain (value_by a) g.led_by
     place_by (Index' t _ a _ b) = indexed (type_of a) (type_of b) (value_by a) (value_by b)
     place_by (Dot' t _ a m) = g.chain (place_by a) (g.member (offset_of defs (struct_number (type_of a)) m))
-    place_by (Arrow' t _ a m) = g.chain (value_by a) (g.led_member (offset_of defs (number_in (target_of (type_of a))) m))
+    place_by (Arrow' t _ a m) = g.chain (value_by a) (g.led_member (offset_of defs (target_number (target_of (type_of a))) m))
     place_by (Parens' t _ a) = place_by a
     place_by _ = g.ill_typed
 
   -- the leaf values of an expression: of a struct place all of them, and else its one value
   abbrev pub values_by : Typed → M (List V)
-  values_by e = pick (is_struct (type_of e)) (g.chain (place_by e) (g.load_struct (type_of e))) (g.chain (value_by e) (λ v. g.gives (v ∷ [])))
-
--- ---- code of an expression
-
--- A text is the code of an expression at a stopping point where in each state in which the frame stands at this point it leaves what the expression comes to there. What leaves a result, and which states stand at a point, is told.
-module _ {ℓ} {M : Type 0 → Type ℓ} {V S State : Type 0} (defs : List StructDef) (over : State → Ground M V S) (StandsAt : State → (point : ℕ) → Type 0) (Leaves : State → (text : List ℕ) → M (List V) → Type 0) where
-  abbrev pub IsCode : (point : ℕ) → Typed → (text : List ℕ) → Type 0
-  IsCode point e text = (s : State) → StandsAt s point → Leaves s text (values_by defs (over s) e)
+  values_by e = cond (is_struct (type_of e)) (g.chain (place_by e) (g.load_struct (type_of e))) (g.chain (value_by e) (λ v. g.gives (v ∷ [])))
