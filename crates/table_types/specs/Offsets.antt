@@ -9,7 +9,7 @@ use Rattle.ps_step.specs.Results.{◌>>=◌}
 use Rattle.table_model.specs.declared.lack.Lack.TheVariants.{TooDeep}
 use Rattle.table_model.specs.declared.found.Found.{Found}
 use Rattle.table_model.specs.Reading.{Walked, dict_at, items_at, number_at}
-use Rattle.table_model.specs.Types.{TypeKind, IntKind, UnsignedKind, CharKind, PointerKind, ArrayKind, StructKind, type_kind, member_in, checked_type, same_kind}
+use Rattle.table_model.specs.Types.{TypeKind, IntKind, UnsignedKind, CharKind, PointerKind, ArrayKind, StructKind, type_kind, member_in, is_within, same_kind}
 
 -- ---- the leaf at an offset
 
@@ -97,7 +97,7 @@ type_live s found (suc deep) t i = type_kind s t >>= λ k. elim k [
 
 -- a type is at most as deep as the rules allow; and so is that of a found object
 abbrev pub checked : StoreState → DictId → Walked (Unit {0})
-checked s t = checked_type s t >>= λ u. Ok tt
+checked s t = is_within s 64 t
 
 abbrev pub checked_found : StoreState → Option Found → Walked (Unit {0})
 checked_found s None = Ok tt

@@ -14,6 +14,7 @@ const MOST_DEEP: u32 = 64;
 
 /// Checks that a type is at most so deep.
 #[cycle(depth)]
+#[tactic(auto, using(crate::proofs::Unfolding::within_none, crate::proofs::Unfolding::within_by))]
 fn check_within(store: &PsStore, deep: u32, t: DictId) -> Result<(), Lack>
     ensures { result ≡ is_within store.now deep t }
 {

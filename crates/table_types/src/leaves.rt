@@ -54,6 +54,7 @@ fn holder(store: &PsStore, at: u32, members: &[PsObj]) -> Result<Option<(u32, Di
 }
 
 /// The kind of the leaf at an offset of a type that is at most so deep.
+#[tactic(auto, using(crate::proofs::Unfolding::leaf_none, crate::proofs::Unfolding::leaf_by))]
 fn leaf_within(store: &PsStore, deep: u32, t: DictId, at: u32) -> Result<Option<Kind>, Lack>
     ensures { result ≡ leaf_within store.now deep t at }
 {

@@ -70,6 +70,7 @@ fn live_from(
 
 /// Whether each leaf of a type that begins at an offset is live.
 #[cycle(live)]
+#[tactic(auto, using(crate::proofs::Unfolding::live_none, crate::proofs::Unfolding::live_by))]
 fn live_within(
     store: &PsStore,
     found: Option<Found>,
