@@ -96,7 +96,7 @@ type_live s found (suc deep) t i = type_kind s t >>= λ k. elim k [
 ]
 
 -- a type is at most as deep as the rules allow; and so is that of a found object
-abbrev pub checked : StoreState → DictId → Walked (Unit {0})
+unfoldable pub checked : StoreState → DictId → Walked (Unit {0})
 checked s t = is_within s 64 t
 
 abbrev pub checked_found : StoreState → Option Found → Walked (Unit {0})
@@ -106,7 +106,7 @@ checked_found s (Some o) = checked s o.ctype
 -- ---- runs of bytes
 
 -- the number of Byte leaves one behind another from an offset on, up to so many, behind some that were counted
-abbrev pub run_from : StoreState → Option Found → (most counted at : ℕ) → Walked ℕ
+unfoldable pub run_from : StoreState → Option Found → (most counted at : ℕ) → Walked ℕ
 run_from s found zero k i = Ok k
 run_from s found (suc n) k i = if_offset i (kind_live s found Byte i) >>= λ b. elim b [ false ↦ Ok k | true ↦ run_from s found n (suc k) (suc i) ]
 

@@ -102,7 +102,7 @@ fn live_within(
 
 /// Whether so many items are live one behind another.
 #[cycle(live)]
-#[tactic(auto, using(crate::proofs::Rows::items_over, crate::proofs::Rows::items_end))]
+#[tactic(auto, using(crate::proofs::Rows::items_lack, crate::proofs::Rows::items_on))]
 fn items_live(
     store: &PsStore,
     found: Option<Found>,
@@ -176,7 +176,7 @@ fn byte_live(store: &PsStore, found: Option<Found>, at: u64) -> Result<bool, Lac
 }
 
 /// How many Byte leaves stand one behind another from an offset on, at most 2,147,483,648.
-#[tactic(auto, using(crate::proofs::Rows::run_over, crate::proofs::Rows::run_next))]
+#[tactic(auto, using(crate::proofs::Rows::run_first, crate::proofs::Rows::run_done, crate::proofs::Rows::run_lack, crate::proofs::Rows::run_stop, crate::proofs::Rows::run_on))]
 fn run_from(store: &PsStore, found: Option<Found>, at: u32) -> Result<u32, Lack>
     ensures { result ≡ run_from store.now found MOST_RUN 0 at }
 {
