@@ -20,7 +20,7 @@ use Rattle.ps_pointers.specs.Pointers as pointers
 use Rattle.ps_pointers.specs.Leaves as leaves
 use Rattle.ps_pointers.specs.Forms as forms
 use Rattle.ps_symbols.specs.Naming as names
-use Rattle.dialect_model.specs.Dial.{Dial, Target, Acted, Act, raised, looked, target_bytes, bytes_in, with_bytes, frame_of, scope_of}
+use Rattle.dialect_model.specs.Dial.{Dial, Target, Acted, Act, raised, looked, memory_bytes, bytes_in, with_bytes, frame_of, scope_of}
 
 -- ---- what is left
 
@@ -49,7 +49,7 @@ space_bytes d s space = Ok (bytes_in d None)
 
 abbrev found_in : StoreState → (address : ℕ) → Option Target → Acted (Option Found)
 found_in s p None = Ok None
-found_in s p (Some t) = looked (found_at t.row s (target_bytes t None 0) t.context p)
+found_in s p (Some t) = looked (found_at t.row s (memory_bytes t) t.context p)
 
 -- the object to which an address belongs: none where there is no target, and null belongs to none
 abbrev pub found : Dial → StoreState → (address : ℕ) → Acted (Option Found)

@@ -8,7 +8,7 @@ use Rattle.ps_step.specs.declared.fault.PsError.{PsError}
 use Rattle.ps_step.specs.declared.fault.PsError.TheVariants.{RangeCheck}
 use Rattle.ps_step.specs.declared.machine.PsCore.{PsCore}
 use Rattle.ps_step.specs.Results.{◌>>=◌}
-use Rattle.frame_bytes.specs.Bytes.{Bytes, places_of, no_bytes}
+use Rattle.frame_bytes.specs.Bytes.{Bytes, no_places, places_of, no_bytes}
 use Rattle.frame_bytes.specs.declared.frame.Frame.{Frame}
 use Rattle.table_model.specs.declared.lack.Lack.{Lack}
 use Rattle.table_model.specs.declared.lack.Lack.TheVariants.{Unforced}
@@ -98,11 +98,15 @@ cell_or n (Some m) = m
 abbrev pub with_bytes : Bytes → Dial → Dial
 with_bytes b d = record d { target = with_memory b d.target; cell = cell_or d.cell b.cell }
 
+-- a target's memory alone, which is all that a search for a frame or an object sees
+abbrev pub memory_bytes : Target → Bytes
+memory_bytes t = record { order = t.order; regions = t.regions; registers = no_places; cell = None }
+
 -- ---- the frame, and the innermost symbol in scope there
 
 abbrev numbered_frame : StoreState → (number : ℕ) → Option Target → Acted (Option Frame)
 numbered_frame s n None = Ok None
-numbered_frame s n (Some t) = looked (frame_at t.row s (target_bytes t None 0) t.context n)
+numbered_frame s n (Some t) = looked (frame_at t.row s (memory_bytes t) t.context n)
 
 abbrev pub frame_of : Dial → StoreState → Acted (Option Frame)
 frame_of d s = elim d.standing [

@@ -46,7 +46,7 @@ abbrev pub deferred : StoreState → (unit : ℕ) → Walked (DictId × PsObj)
 deferred s u = units_of s >>= λ us. or_missing (slice_get us u) >>= deferred_in s
 
 -- that a value was given
-abbrev answer_of : Result PsObj PsFault → Answer
+abbrev pub answer_of : Result PsObj PsFault → Answer
 answer_of (Ok x) = Ok tt
 answer_of (Err f) = Err f
 

@@ -60,7 +60,7 @@ operators =
     ∷ named (codes "charrun") measuring_run
     ∷ []
 
-abbrev act_of : Option Operator → Dial → PsCore → Act
+abbrev pub act_of : Option Operator → Dial → PsCore → Act
 act_of None d c = Err (Raises Undefined)
 act_of (Some o) d c = o.act d c
 
