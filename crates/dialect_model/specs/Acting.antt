@@ -1,6 +1,6 @@
 -- What operators make of a dial and of the interpreter's state: an operator says what it asks for, this is looked up, and the
 -- operator leaves its result.
-use Rattle.std.specs.Prelude.{ℕ, zero, suc, true, false, Bool, List, [], ◌∷◌, is_some, option_map, Option, Some, None, Result, Ok, Err}
+use Rattle.std.specs.Prelude.{ℕ, zero, suc, List, is_some, option_map, Option, Some, None, Result, Ok}
 use Rattle.ps_store.specs.StoreState.{StoreState}
 use Rattle.ps_step.specs.declared.fault.PsError.{PsError}
 use Rattle.ps_step.specs.declared.machine.PsCore.{PsCore}
@@ -10,7 +10,6 @@ use Rattle.frame_bytes.specs.declared.frame.Space.{Space}
 use Rattle.frame_bytes.specs.declared.frame.Space.TheVariants.{Registers}
 use Rattle.frame_bytes.specs.Bytes.{Bytes}
 use Rattle.table_model.specs.declared.found.Found.{Found}
-use Rattle.table_model.specs.Types.{LeafRow}
 use Rattle.table_model.specs.Objects.{found_at}
 use Rattle.ps_places.specs.Places as places
 use Rattle.ps_places.specs.Accesses as accesses
@@ -55,11 +54,6 @@ found_in s p (Some t) = looked (found_at t.row s (memory_bytes t) t.context p)
 abbrev pub found : Dial → StoreState → (address : ℕ) → Acted (Option Found)
 found d s zero = Ok None
 found d s (suc n) = found_in s (suc n) d.target
-
--- the same, where there are leaves that have to be live
-abbrev pub found_for : List LeafRow → Dial → StoreState → (address : ℕ) → Acted (Option Found)
-found_for [] d s p = Ok None
-found_for (l ∷ ls) d s p = found d s p
 
 -- ---- places
 
@@ -134,7 +128,7 @@ comparing d c = do
 abbrev pub taking_leaf : Dial → PsCore → Act
 taking_leaf d c = do
   a ← raised (leaves.leaf_operands c)
-  o ← found_for a.1 d c.store a.0
+  o ← found d c.store a.0
   with_state d (leaves.leaving_leaf o c)
 
 -- `p charrun`

@@ -1,0 +1,77 @@
+// The leaf at an offset.
+
+ghost use Rattle.std.specs.Prelude.{◌≡◌, None};
+ghost use Rattle.table_types.specs.Offsets.{scalar_at, holder, leaf_within, leaf_in};
+
+use crate::kinds::{TypeKind, member_in, type_kind};
+use ldb_words::Kind;
+use ps_store::{DictId, PsObj, PsStore};
+use table_model::{Found, Lack};
+use table_read::{dict_at, items_at, number_at};
+
+/// The most that a type is deep.
+const MOST_DEEP: u32 = 64;
+
+/// A scalar's leaf, if the offset is its beginning.
+fn scalar_at(kind: Kind, at: u32) -> Option<Kind>
+    ensures { result ≡ scalar_at kind at }
+{
+    if at == 0 { Some(kind) } else { None }
+}
+
+/// The offset and the type of the last member that begins at an offset or before it.
+fn holder(store: &PsStore, at: u32, members: &[PsObj]) -> Result<Option<(u32, DictId)>, Lack>
+    ensures { result ≡ holder store.now at None members.now }
+{
+    let mut best = None;
+    for object in members {
+        let member = member_in(store, *object)?;
+        if member.at <= at {
+            best = Some((member.at, member.ctype));
+        }
+    }
+    Ok(best)
+}
+
+/// The kind of the leaf at an offset of a type that is at most so deep.
+fn leaf_within(store: &PsStore, deep: u32, t: DictId, at: u32) -> Result<Option<Kind>, Lack>
+    ensures { result ≡ leaf_within store.now deep t at }
+{
+    if deep == 0 {
+        return Err(Lack::TooDeep);
+    }
+    match type_kind(store, t)? {
+        TypeKind::Int | TypeKind::Unsigned => Ok(scalar_at(Kind::Word, at)),
+        TypeKind::Char => Ok(scalar_at(Kind::Byte, at)),
+        TypeKind::Pointer => Ok(scalar_at(Kind::Address, at)),
+        TypeKind::Array => {
+            let item = dict_at(store, t, b"to")?;
+            let size = number_at(store, item, b"size")?;
+            let count = number_at(store, t, b"count")?;
+            if size > 0 && at / size < count {
+                leaf_within(store, deep - 1, item, at % size)
+            } else {
+                Ok(None)
+            }
+        }
+        TypeKind::Struct => {
+            let members = items_at(store, t, b"members")?;
+            match holder(store, at, members)? {
+                Some((from, ctype)) => {
+                    leaf_within(store, deep - 1, ctype, at.saturating_sub(from))
+                },
+                None => Ok(None),
+            }
+        }
+    }
+}
+
+/// The kind of the leaf at an offset of an object, if there is one. Its type is at most 64 deep on the way.
+pub fn leaf_in(store: &PsStore, found: Option<Found>, at: u32) -> Result<Option<Kind>, Lack>
+    ensures { result ≡ leaf_in store.now found at }
+{
+    match found {
+        None => Ok(None),
+        Some(o) => leaf_within(store, MOST_DEEP, o.ctype, at),
+    }
+}
