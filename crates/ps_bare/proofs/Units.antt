@@ -1,0 +1,150 @@
+-- The unit whose functions are run.
+use Rattle.std.proofs.Common.{◌≡◌, ◌≢◌, ◌<◌, ◌≤◌, ℕ, true, false, Option, Some, None, Result, Ok, Err, List, slice_get, codes, refl, sym, ap, ◌∙◌, subst, arith}
+use Rattle.ps_store.specs.declared.object.PsObj.{PsObj}
+use Rattle.ps_store.specs.declared.object.PsObj.TheVariants.{Int, Bool as Truth, Name, Str, Array, Dict, Op, Mark as MarkObject, Null}
+use Rattle.ps_store.specs.declared.object.DictId.{DictId}
+use Rattle.ps_store.specs.declared.object.StringId.{StringId}
+use Rattle.ps_store.specs.StoreState.{StoreState}
+use Rattle.ps_store.specs.Store.{entries_of}
+use Rattle.ps_store.specs.Entries.{value_at}
+use Rattle.ps_store.specs.Cut.{mark_of}
+use Rattle.ps_step.specs.declared.fault.PsError.{PsError}
+use Rattle.ps_step.specs.declared.fault.PsFault.{PsFault}
+use Rattle.ps_step.specs.declared.fault.PsFault.TheVariants.{NoMemory}
+use Rattle.ps_step.specs.declared.item.Item.TheVariants.{Object}
+use Rattle.ps_step.specs.declared.machine.PsCore.{PsCore}
+use Rattle.ps_step.specs.State.{with_execution}
+use Rattle.ps_step.specs.Results.{◌>>=◌}
+use Rattle.ps_run.specs.Runs.{Answer, Operates, Runs, RunsObject}
+use Rattle.ps_run.specs.Passes.{TakesNone}
+use Rattle.ps_run.proofs.Apart.{some_steps}
+use Rattle.ps_force.specs.Forcing.{forced_by, apart, Forces}
+use Rattle.table_model.specs.Reading.{Walked, dict_in, entry, or_missing}
+use Rattle.table_model.specs.Rows.{units_of}
+use Rattle.ps_places.specs.Lacks.{looked}
+use Rattle.dialect_model.specs.Dial.{Dial, no_target}
+use Rattle.dialect_model.specs.Forcing as model
+use Rattle.ps_bare.specs.declared.dialect.NoTarget.{NoTarget}
+use Rattle.ps_bare.specs.Bare.{bare, OperatesBare}
+use Rattle.ps_bare.specs.Unit.{unit_of, if_text, deferred_unit, IsDeferred}
+use Rattle.ps_bare.proofs.Mapped.{mapped_but}
+
+abbrev gives : DictId → Result DictId PsError
+gives x = Ok x
+
+-- what comes after a result was reached, so that was
+record Reached {A B E : Type 0} (m : Result A E) (f : A → Result B E) (y : B) : Type 0 where
+  pub first : A
+  pub is_first : m ≡ Ok first
+  pub behind : f first ≡ Ok y
+
+ok_is : (x y : DictId) → gives x ≡ Ok y → x ≡ y
+ok_is x y h = cc
+
+reached : {A B E : Type 0} (m : Result A E) (f : A → Result B E) (y : B) → (m >>= f) ≡ Ok y → Reached m f y
+reached (Ok x) f y h = record { first = x; is_first = refl; behind = h }
+reached (Err e) f y h = absurd (let k = h in cc)
+
+there : (o : Option PsObj) (x : PsObj) → or_missing o ≡ Ok x → o ≡ Some x
+there None x h = absurd (let k = h in cc)
+there (Some y) x h = let k = h in cc
+
+record Stands (s : StoreState) (u : ℕ) (d : DictId) (x : PsObj) : Type 0 where
+  pub unit : unit_of s u ≡ Ok d
+  pub value : value_at (entries_of s d) model.FUNCTIONS ≡ Some x
+
+stands : (s : StoreState) (u : ℕ) (d : DictId) (x : PsObj) → model.deferred s u ≡ Ok (d, x) → Stands s u d x
+stands s u d x h =
+    let us : Reached (units_of s) (λ us. or_missing (slice_get us u) >>= model.deferred_in s) (d, x) = reached _ _ _ h in
+    let o : Reached (or_missing (slice_get us.first u)) (model.deferred_in s) (d, x) = reached _ _ _ us.behind in
+    let e : Reached (dict_in o.first) (λ d. entry s d (codes "functions") >>= λ text. Ok (d, text)) (d, x) = reached _ _ _ o.behind in
+    let t : Reached (entry s e.first (codes "functions")) (λ text. Ok (e.first, text)) (d, x) = reached _ _ _ e.behind in
+    let same : e.first ≡ d = let k = t.behind in cc in
+    let text : t.first ≡ x = let k = t.behind in cc in
+    record {
+      unit = ap (λ m. m >>= λ us. or_missing (slice_get us u) >>= dict_in) us.is_first ∙ ap (λ m. m >>= dict_in) o.is_first ∙ e.is_first ∙ ap Ok same;
+      value = ap (λ d. value_at (entries_of s d) model.FUNCTIONS) (sym same) ∙ there _ _ t.is_first ∙ ap Some text;
+    }
+
+-- a unit that is deferred is found so
+pub deferred_is : (s : StoreState) (u : ℕ) (h : IsDeferred s u) → deferred_unit s u ≡ Ok h.unit
+deferred_is s u h =
+    let k : Stands s u h.unit (Str h.text true) = stands s u h.unit (Str h.text true) h.stands in
+    ap (λ m. looked m >>= λ d. looked (entry s d (codes "functions")) >>= if_text d) k.unit ∙ ap (λ o. looked (or_missing o) >>= if_text h.unit) k.value
+
+-- ---- and one that is found so has an executable string
+
+record HasText (s : StoreState) (d : DictId) : Type 0 where
+  pub text : StringId
+  pub value : value_at (entries_of s d) model.FUNCTIONS ≡ Some (Str text true)
+
+text_if : (s : StoreState) (e d : DictId) (o : Option PsObj) → value_at (entries_of s e) model.FUNCTIONS ≡ o → (looked (or_missing o) >>= if_text e) ≡ Ok d → HasText s d
+text_if s e d (Some (Str t true)) v h = record { text = t; value = ap (λ d. value_at (entries_of s d) model.FUNCTIONS) (sym (ok_is e d h)) ∙ v }
+text_if s e d None v h = absurd (let k = h in cc)
+text_if s e d (Some (Str t false)) v h = absurd (let k = h in cc)
+text_if s e d (Some (Int n)) v h = absurd (let k = h in cc)
+text_if s e d (Some (Truth b)) v h = absurd (let k = h in cc)
+text_if s e d (Some (Name t b)) v h = absurd (let k = h in cc)
+text_if s e d (Some (Array a b)) v h = absurd (let k = h in cc)
+text_if s e d (Some (Dict a)) v h = absurd (let k = h in cc)
+text_if s e d (Some (Op n)) v h = absurd (let k = h in cc)
+text_if s e d (Some MarkObject) v h = absurd (let k = h in cc)
+text_if s e d (Some Null) v h = absurd (let k = h in cc)
+
+pub has_text : (s : StoreState) (u : ℕ) (d : DictId) → deferred_unit s u ≡ Ok d → HasText s d
+has_text s u d h =
+    let e : Reached (looked (unit_of s u)) (λ d. looked (entry s d (codes "functions")) >>= if_text d) d = reached _ _ _ h in
+    text_if s e.first d (value_at (entries_of s e.first) model.FUNCTIONS) refl e.behind
+
+-- ---- the dialect without a target, as the definition's
+
+abbrev pub Op' : Operates NoTarget
+Op' d c op left answer d' c' left' = OperatesBare d.cell c op left answer d'.cell c' left'
+
+abbrev pub dial_of : NoTarget → Dial
+dial_of d = bare d.cell
+
+bare_over : (d : NoTarget) (c : PsCore) (op n : ℕ) (r : Answer) (d' : NoTarget) (c' : PsCore) (k : ℕ) → r ≢ Err NoMemory → Op' d c op n r d' c' k
+    → model.NoTarget (dial_of d) c op n r (dial_of d') c' k
+bare_over d c op n r d' c' k other h = subst (λ j. model.NoTarget (dial_of d) c op n r (dial_of d') c' j) (sym h.0) (h.1 other)
+
+bare_none : TakesNone Op'
+bare_none d c op n r d' c' k h = omega (arith, h.0)
+
+-- the run of an object by the dialect is one by the definition
+pub object_over : (n : ℕ) (x : PsObj) (d : NoTarget) (c : PsCore) (r : Answer) (m : ℕ) (d' : NoTarget) (c' : PsCore) → RunsObject Op' n x d c r m d' c'
+    → RunsObject model.NoTarget n x (dial_of d) c r m (dial_of d') c'
+object_over n x d c r m d' c' h = λ other.
+    let found = h other in
+    (found.0, mapped_but Op' model.NoTarget dial_of bare_over n d (with_execution c (Object x ∷ [])) r m d' (with_execution c' found.0) other found.1)
+
+pub forces_over : (n : ℕ) (d : NoTarget) (c : PsCore) (u : DictId) (text : PsObj) (given : Result PsObj PsFault) (m : ℕ) (d' : NoTarget) (c' : PsCore)
+    → Forces Op' n d c u model.FUNCTIONS text given m d' c' → Forces model.NoTarget n (dial_of d) c u model.FUNCTIONS text given m (dial_of d') c'
+forces_over n d c u text given m d' c' h =
+    record { answer = h.answer; core = h.core; runs = object_over n text d (apart c) h.answer m d' h.core h.runs; given = h.given; after = h.after }
+
+-- ---- the answers
+
+pub forces_unit : (u : ℕ) (c : PsCore) (h : IsDeferred c.store u) (n : ℕ) (d : NoTarget) (given : Result PsObj PsFault) (answer : Answer) (m : ℕ) (d' : NoTarget) (c' : PsCore)
+    → d.cell ≡ 0 → answer ≡ model.answer_of given → answer ≢ Err NoMemory → Forces Op' n d c h.unit model.FUNCTIONS (Str h.text true) given m d' c' → model.ForcesUnit u c n answer m c'
+forces_unit u c h n d given answer m d' c' zero e other f =
+    record {
+      unit = h.unit;
+      text = Str h.text true;
+      stands = h.stands;
+      given = given;
+      dial = dial_of d';
+      forces = subst (λ cell. Forces model.NoTarget n (bare cell) c h.unit model.FUNCTIONS (Str h.text true) given m (dial_of d') c') zero (forces_over n d c h.unit (Str h.text true) given m d' c' f);
+      answers = e;
+      found_memory = other;
+    }
+
+-- a value was given where the run came to its end
+ended_ok : (s : StoreState) (d : DictId) (answer : Answer) (c : PsCore) (x : PsObj) → (forced_by (mark_of s.table) d model.FUNCTIONS answer c.operands c.store).0 ≡ Ok x → answer ≡ Ok tt
+ended_ok s d (Ok tt) c x h = refl
+ended_ok s d (Err f) c x h = absurd (let k = h in cc)
+
+pub some_taken : (n : ℕ) (d : NoTarget) (c : PsCore) (u : DictId) (text x : PsObj) (m : ℕ) (d' : NoTarget) (c' : PsCore) → Forces Op' n d c u model.FUNCTIONS text (Ok x) m d' c' → m < n
+some_taken n d c u text x m d' c' h =
+    some_steps Op' bare_none n text d (apart c) m d' h.core
+    (subst (λ a. RunsObject Op' n text d (apart c) a m d' h.core) (ended_ok c.store u h.answer h.core x h.given) h.runs)

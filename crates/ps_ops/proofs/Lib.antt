@@ -1,0 +1,4 @@
+pub mod Halting
+pub mod Asked
+pub mod Overs
+pub mod Retries
