@@ -23,7 +23,7 @@ use Rattle.frame_bytes.specs.Bytes.{fetched}
 use Rattle.table_model.specs.declared.found.Found.{Found}
 use Rattle.ps_append.specs.Characters.{MOST_READ}
 use Rattle.table_types.specs.Offsets.{byte_run}
-use Rattle.ps_pointers.specs.Forms.{hex_text, activation_text}
+use Rattle.ps_leaves.specs.Forms.{hex_text, activation_text}
 use Rattle.dialect_model.specs.TableUse.{Kind as Error, gives, fails, ◌>>=◌}
 use Rattle.dialect_model.specs.Near.{looking}
 use Rattle.c_bytes.specs.Spots.{Means, Scene, object_of, or_range, bytes_with}

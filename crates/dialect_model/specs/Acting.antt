@@ -16,8 +16,8 @@ use Rattle.ps_places.specs.Accesses as accesses
 use Rattle.ps_append.specs.Appending as texts
 use Rattle.ps_append.specs.Characters as characters
 use Rattle.ps_pointers.specs.Pointers as pointers
-use Rattle.ps_pointers.specs.Leaves as leaves
-use Rattle.ps_pointers.specs.Forms as forms
+use Rattle.ps_leaves.specs.Leaves as leaves
+use Rattle.ps_leaves.specs.Forms as forms
 use Rattle.ps_symbols.specs.Naming as names
 use Rattle.dialect_model.specs.Dial.{Dial, Target, Acted, Act, raised, looked, memory_bytes, bytes_in, with_bytes, frame_of, scope_of}
 
@@ -54,6 +54,11 @@ found_in s p (Some t) = looked (found_at t.row s (memory_bytes t) t.context p)
 abbrev pub found : Dial → StoreState → (address : ℕ) → Acted (Option Found)
 found d s zero = Ok None
 found d s (suc n) = found_in s (suc n) d.target
+
+-- that of a second address, which is looked for only where the first belongs to an object
+abbrev pub found_behind : Option Found → Dial → StoreState → (address : ℕ) → Acted (Option Found)
+found_behind None d s p = Ok None
+found_behind (Some o) d s p = found d s p
 
 -- ---- places
 
@@ -113,7 +118,7 @@ abbrev pub subtracting : Dial → PsCore → Act
 subtracting d c = do
   t ← raised (pointers.difference_operands c)
   o ← found d c.store t.0
-  other ← found d c.store t.1
+  other ← found_behind o d c.store t.1
   with_state d (pointers.leaving_difference o other t.2 c)
 
 -- `p q ptrcmp`
@@ -121,7 +126,7 @@ abbrev pub comparing : Dial → PsCore → Act
 comparing d c = do
   t ← raised (pointers.comparison_operands c)
   o ← found d c.store t.0
-  other ← found d c.store t.1
+  other ← found_behind o d c.store t.1
   with_state d (pointers.leaving_order o other c)
 
 -- `p kind Leaf`, `p type Leaf`

@@ -1,3 +1,1 @@
 pub mod Pointers
-pub mod Leaves
-pub mod Forms

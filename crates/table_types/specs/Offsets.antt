@@ -21,10 +21,15 @@ scalar_at k i = if nat_eq i 0 then Some k else None
 abbrev pub item_at : (ℕ → Walked (Option Kind)) → (size count at : ℕ) → Walked (Option Kind)
 item_at leaf size count i = if nat_lt 0 size && nat_lt (i / size) count then leaf (i % size) else Ok None
 
--- the offset and the type of the last member that begins at an offset or before it
+-- of a member and the best one so far, by their offsets and types, the one nearest below an offset; of equal ones the later
+abbrev pub nearer : (at : ℕ) → Option (ℕ × DictId) → (from : ℕ) → DictId → Option (ℕ × DictId)
+nearer i None n t = if nat_le n i then Some (n, t) else None
+nearer i (Some best) n t = if nat_le n i && nat_le best.0 n then Some (n, t) else Some best
+
+-- the member nearest below an offset
 abbrev pub holder : StoreState → (at : ℕ) → Option (ℕ × DictId) → List PsObj → Walked (Option (ℕ × DictId))
 holder s i best [] = Ok best
-holder s i best (x ∷ xs) = member_in s x >>= λ m. holder s i (if nat_le m.at i then Some (m.at, m.ctype) else best) xs
+holder s i best (x ∷ xs) = member_in s x >>= λ m. holder s i (nearer i best m.at m.ctype) xs
 
 -- a struct's leaf is that of the member in which the offset is
 abbrev pub member_at : (DictId → ℕ → Walked (Option Kind)) → (at : ℕ) → Option (ℕ × DictId) → Walked (Option Kind)
@@ -90,10 +95,13 @@ type_live s found (suc deep) t i = type_kind s t >>= λ k. elim k [
   | StructKind ↦ items_at s t (codes "members") >>= members_live s (λ m j. type_live s found deep m j) i
 ]
 
--- the type of a found object is at most as deep as the rules allow
+-- a type is at most as deep as the rules allow; and so is that of a found object
+abbrev pub checked : StoreState → DictId → Walked (Unit {0})
+checked s t = checked_type s t >>= λ u. Ok tt
+
 abbrev pub checked_found : StoreState → Option Found → Walked (Unit {0})
 checked_found s None = Ok tt
-checked_found s (Some o) = checked_type s o.ctype >>= λ t. Ok tt
+checked_found s (Some o) = checked s o.ctype
 
 -- ---- runs of bytes
 

@@ -1,8 +1,8 @@
 // How deep types are.
 
-ghost use Rattle.std.specs.Prelude.{◌≡◌, ◌≤◌, Ok, Err};
-ghost use Rattle.ps_step.specs.Results.{◌>>=◌};
-ghost use Rattle.table_model.specs.Types.{is_within, each_part, checked_type};
+ghost use Rattle.std.specs.Prelude.{◌≡◌};
+ghost use Rattle.table_model.specs.Types.{is_within, each_part};
+ghost use Rattle.table_types.specs.Offsets.{checked};
 
 use crate::kinds::{TypeKind, member_in, type_kind};
 use ps_store::{DictId, PsObj, PsStore};
@@ -55,7 +55,7 @@ fn check_members(store: &PsStore, deep: u32, members: &[PsObj]) -> Result<(), La
 /// Checks that a type is at most 64 deep: an integer and a pointer to a struct are 1 deep, and another pointer, an array and a struct
 /// are one deeper than what they lead to or hold.
 pub fn check_type(store: &PsStore, t: DictId) -> Result<(), Lack>
-    ensures { result ≡ (checked_type store.now t >>= λ u. Ok tt) }
+    ensures { result ≡ checked store.now t }
 {
     check_within(store, MOST_DEEP, t)
 }

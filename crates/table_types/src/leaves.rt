@@ -1,7 +1,7 @@
 // The leaf at an offset.
 
 ghost use Rattle.std.specs.Prelude.{◌≡◌, None};
-ghost use Rattle.table_types.specs.Offsets.{scalar_at, holder, leaf_within, leaf_in};
+ghost use Rattle.table_types.specs.Offsets.{scalar_at, nearer, holder, leaf_within, leaf_in};
 
 use crate::kinds::{TypeKind, member_in, type_kind};
 use ldb_words::Kind;
@@ -19,16 +19,36 @@ fn scalar_at(kind: Kind, at: u32) -> Option<Kind>
     if at == 0 { Some(kind) } else { None }
 }
 
-/// The offset and the type of the last member that begins at an offset or before it.
+/// Of a member and the best one so far, by their offsets and types, the one nearest below an offset; of equal ones the later.
+fn nearer(at: u32, best: Option<(u32, DictId)>, from: u32, ctype: DictId) -> Option<(u32, DictId)>
+    ensures { result ≡ nearer at best from ctype }
+{
+    match best {
+        None => {
+            if from <= at {
+                Some((from, ctype))
+            } else {
+                None
+            }
+        }
+        Some((greatest, old)) => {
+            if from <= at && greatest <= from {
+                Some((from, ctype))
+            } else {
+                Some((greatest, old))
+            }
+        }
+    }
+}
+
+/// The offset and the type of the member nearest below an offset.
 fn holder(store: &PsStore, at: u32, members: &[PsObj]) -> Result<Option<(u32, DictId)>, Lack>
     ensures { result ≡ holder store.now at None members.now }
 {
     let mut best = None;
     for object in members {
         let member = member_in(store, *object)?;
-        if member.at <= at {
-            best = Some((member.at, member.ctype));
-        }
+        best = nearer(at, best, member.at, member.ctype);
     }
     Ok(best)
 }

@@ -101,6 +101,7 @@ fn live_within(
 
 /// Whether so many items are live one behind another.
 #[cycle(live)]
+#[tactic(auto, using(crate::proofs::Rows::items_over, crate::proofs::Rows::items_end))]
 fn items_live(
     store: &PsStore,
     found: Option<Found>,
@@ -117,7 +118,7 @@ fn items_live(
         if next > 4_294_967_295 {
             return Ok(false);
         }
-        if !live_within(store, found, deep, item, next as u32)? {
+        if !live_from(store, found, deep, item, next)? {
             return Ok(false);
         }
         next += u64::from(size);
@@ -174,6 +175,7 @@ fn byte_live(store: &PsStore, found: Option<Found>, at: u64) -> Result<bool, Lac
 }
 
 /// How many Byte leaves stand one behind another from an offset on, at most 2,147,483,648.
+#[tactic(auto, using(crate::proofs::Rows::run_over, crate::proofs::Rows::run_next))]
 fn run_from(store: &PsStore, found: Option<Found>, at: u32) -> Result<u32, Lack>
     ensures { result ≡ run_from store.now found MOST_RUN 0 at }
 {

@@ -9,7 +9,7 @@ abbrev pub decreases-live_from : goal.decreases-live_from
 decreases-live_from l = 3 * l.deep + 1
 
 abbrev pub decreases-items_live : goal.decreases-items_live
-decreases-items_live l = 3 * l.deep + 1
+decreases-items_live l = 3 * l.deep + 2
 
 abbrev pub decreases-members_live : goal.decreases-members_live
 decreases-members_live l = 3 * l.deep + 2

@@ -16,16 +16,15 @@ use Rattle.ps_places.specs.Lacks.{looked}
 use Rattle.frame_bytes.specs.declared.frame.Space.TheVariants.{Memory}
 use Rattle.table_model.specs.declared.found.Found.{Found}
 use Rattle.table_model.specs.Reading.{Walked}
-use Rattle.table_model.specs.Types.{checked_type}
-use Rattle.table_types.specs.Offsets.{offset_of, kind_live, type_live, checked_found, byte_run}
-use Rattle.ps_pointers.specs.declared.leaves.Access.{Access}
-use Rattle.ps_pointers.specs.declared.leaves.Access.TheVariants.{OfKind, OfType}
+use Rattle.table_types.specs.Offsets.{offset_of, kind_live, type_live, checked, checked_found, byte_run}
+use Rattle.ps_leaves.specs.declared.leaves.Access.{Access}
+use Rattle.ps_leaves.specs.declared.leaves.Access.TheVariants.{OfKind, OfType}
 
 -- ---- `p kind Leaf`, `p type Leaf`
 
 -- what an access takes: a leaf of a kind, or those of a type
 abbrev pub access_of : StoreState → PsObj → Result Access PsError
-access_of s (Dict t) = looked (checked_type s t) >>= λ u. Ok (OfType t)
+access_of s (Dict t) = looked (checked s t) >>= λ u. Ok (OfType t)
 access_of s x = text_of s x >>= kind_named >>= λ k. Ok (OfKind k)
 
 abbrev pub leaf_operands : PsCore → Result (ℕ × Access) PsError
@@ -43,13 +42,19 @@ abbrev pub if_live : Bool → Result (Unit {0}) PsError
 if_live true = Ok tt
 if_live false = Err Pointer
 
+abbrev pub need_live : StoreState → Option Found → Access → Result (Unit {0}) PsError
+need_live s found a = looked (all_live s found a) >>= if_live
+
 abbrev pub leaving_leaf : Option Found → PsCore → Made
 leaving_leaf found c =
-    leaf_operands c >>= λ a. looked (all_live c.store found a.1) >>= if_live >>= λ u.
+    leaf_operands c >>= λ a. need_live c.store found a.1 >>= λ u.
     Ok (with_operands c (integer a.0 ∷ space_name Memory ∷ drop 2 c.operands))
 
 -- ---- `p charrun`
 
 -- a number that no integer holds is out of range
+abbrev pub run_of : StoreState → Option Found → Result PsObj PsError
+run_of s found = looked (byte_run s found) >>= as_count
+
 abbrev pub leaving_run : Option Found → PsCore → Made
-leaving_run found c = looked (byte_run c.store found) >>= as_count >>= λ x. Ok (with_operands c (x ∷ drop 1 c.operands))
+leaving_run found c = run_of c.store found >>= λ x. Ok (with_operands c (x ∷ drop 1 c.operands))

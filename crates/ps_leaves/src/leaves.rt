@@ -2,12 +2,8 @@
 
 ghost use Rattle.ps_store.specs.Store.{closed_part};
 ghost use Rattle.std.specs.Prelude.{◌≡◌, ◌≤◌, OnOk, length};
-ghost use Rattle.ps_places.specs.Lacks.{looked};
 ghost use Rattle.ps_step.specs.Effects.{Does};
-ghost use Rattle.ps_step.specs.Results.{◌>>=◌};
-ghost use Rattle.ps_step.specs.Values.{as_count};
-ghost use Rattle.table_types.specs.Offsets.{byte_run};
-ghost use Rattle.ps_pointers.specs.Leaves.{access_of, leaf_operands, access_live, all_live, if_live, leaving_leaf, leaving_run};
+ghost use Rattle.ps_leaves.specs.Leaves.{access_of, leaf_operands, all_live, need_live, leaving_leaf, run_of, leaving_run};
 
 use frame_bytes::Space;
 use ldb_words::Kind;
@@ -67,8 +63,8 @@ fn all_live(store: &PsStore, found: Option<Found>, access: Access) -> Result<boo
 }
 
 /// Checks that each leaf of an access is live where a pointer leads.
-fn check_live(store: &PsStore, found: Option<Found>, access: Access) -> Result<(), PsError>
-    ensures { result ≡ (looked (all_live store.now found access) >>= if_live) }
+fn need_live(store: &PsStore, found: Option<Found>, access: Access) -> Result<(), PsError>
+    ensures { result ≡ need_live store.now found access }
 {
     match all_live(store, found, access) {
         Ok(true) => Ok(()),
@@ -84,7 +80,7 @@ pub fn leave_leaf(core: &mut PsCore, found: Option<Found>) -> Result<(), PsFault
     ensures closed { closed_part core.new.store ≡ closed_part core.old.store }
 {
     let (pointer, access) = leaf_operands(core)?;
-    check_live(&core.store, found, access)?;
+    need_live(&core.store, found, access)?;
     core.operands.replace(2, space_name(Space::Memory));
     core.operands.push(PsObj::Int(pointer.cast_signed()))?;
     Ok(())
@@ -92,7 +88,7 @@ pub fn leave_leaf(core: &mut PsCore, found: Option<Found>) -> Result<(), PsFault
 
 /// The number of bytes of a run, as an object.
 fn run_of(store: &PsStore, found: Option<Found>) -> Result<PsObj, PsError>
-    ensures { result ≡ (looked (byte_run store.now found) >>= as_count) }
+    ensures { result ≡ run_of store.now found }
 {
     match byte_run(store, found) {
         Ok(count) => {

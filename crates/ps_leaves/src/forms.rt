@@ -3,7 +3,7 @@
 ghost use Rattle.ps_store.specs.Store.{closed_part};
 ghost use Rattle.std.specs.Prelude.{◌≡◌, ◌++◌, OnOk, decimal};
 ghost use Rattle.ps_append.specs.Appending.{Appends};
-ghost use Rattle.ps_pointers.specs.Forms.{hex_digit, hex_text, activation_text, pointer_text, pointer_text_of};
+ghost use Rattle.ps_leaves.specs.Forms.{hex_digit, hex_text, activation_text, pointer_text, pointer_text_of};
 
 use ldb_words::Text;
 use ps_places::top_word;
@@ -86,11 +86,7 @@ fn append_pointer(
 }
 
 /// `PutPointer`, where a pointer's object was looked for: the form of the pointer. An error leaves all as it was.
-pub fn put_pointer(
-    core: &mut PsCore,
-    found: Option<Found>,
-    out: &mut Text,
-) -> Result<(), PsFault>
+pub fn put_pointer(core: &mut PsCore, found: Option<Found>, out: &mut Text) -> Result<(), PsFault>
     ensures does { Appends 1 (pointer_text_of found core.old) out.old core.old result out.new core.new }
     ensures closed { closed_part core.new.store ≡ closed_part core.old.store }
 {
