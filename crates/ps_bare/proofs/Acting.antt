@@ -29,14 +29,13 @@ use Rattle.ps_places.specs.Accesses.{Over}
 use Rattle.ps_append.specs.Appending.{Appends, appending}
 use Rattle.ps_append.specs.Characters.{AppendsChars, appending_chars, string_place, bytes_from}
 use Rattle.ps_pointers.specs.Pointers as pointers
-use Rattle.ps_pointers.specs.Leaves as leaves
-use Rattle.ps_pointers.specs.Forms as forms
-use Rattle.ps_pointers.specs.declared.leaves.Access.{Access}
-use Rattle.ps_places.specs.Lacks.{looked}
+use Rattle.ps_leaves.specs.Leaves as leaves
+use Rattle.ps_leaves.specs.Forms as forms
+use Rattle.ps_leaves.specs.declared.leaves.Access.{Access}
 use Rattle.ps_symbols.specs.Naming as names
 use Rattle.table_model.specs.declared.found.Found.{Found}
 use Rattle.dialect_model.specs.Dial.{Dial, Act, Acted, Raises, raised, with_bytes, frame_of}
-use Rattle.dialect_model.specs.Acting.{with_state, with_told, with_text, space_bytes, found}
+use Rattle.dialect_model.specs.Acting.{with_state, with_told, with_text, space_bytes, found, found_behind}
 use Rattle.dialect_model.specs.Operators.{act}
 use Rattle.dialect_model.specs.Forcing as model
 use Rattle.ps_bare.proofs.Acts.{acts_2, acts_5, acts_6, acts_7, acts_23, acts_24, acts_25, acts_26, acts_30, acts_31, acts_32}
@@ -184,14 +183,12 @@ module _ (cell : ℕ) (c : PsCore) where
   pub difference_bare : (t : ℕ × ℕ × ℤ) → pointers.difference_operands c ≡ Ok t → act 24 (bare cell) c ≡ with_state (bare cell) (pointers.leaving_difference None None t.2 c)
   difference_bare t h =
       acts_24 (bare cell) c ∙ then_ok (pointers.difference_operands c) _ t h
-      ∙ ap (λ m. m >>= λ o. found (bare cell) c.store t.1 >>= λ other. with_state (bare cell) (pointers.leaving_difference o other t.2 c)) (none_found cell c.store t.0)
-      ∙ ap (λ m. m >>= λ other. with_state (bare cell) (pointers.leaving_difference None other t.2 c)) (none_found cell c.store t.1)
+      ∙ ap (λ m. m >>= λ o. found_behind o (bare cell) c.store t.1 >>= λ other. with_state (bare cell) (pointers.leaving_difference o other t.2 c)) (none_found cell c.store t.0)
 
   pub comparison_bare : (t : ℕ × ℕ) → pointers.comparison_operands c ≡ Ok t → act 25 (bare cell) c ≡ with_state (bare cell) (pointers.leaving_order None None c)
   comparison_bare t h =
       acts_25 (bare cell) c ∙ then_ok (pointers.comparison_operands c) _ t h
-      ∙ ap (λ m. m >>= λ o. found (bare cell) c.store t.1 >>= λ other. with_state (bare cell) (pointers.leaving_order o other c)) (none_found cell c.store t.0)
-      ∙ ap (λ m. m >>= λ other. with_state (bare cell) (pointers.leaving_order None other c)) (none_found cell c.store t.1)
+      ∙ ap (λ m. m >>= λ o. found_behind o (bare cell) c.store t.1 >>= λ other. with_state (bare cell) (pointers.leaving_order o other c)) (none_found cell c.store t.0)
 
   pub difference_failed : (e : PsError) → pointers.difference_operands c ≡ Err e → act 24 (bare cell) c ≡ Err (Raises e)
   difference_failed e h = acts_24 (bare cell) c ∙ then_err (pointers.difference_operands c) _ e h
@@ -209,7 +206,7 @@ module _ (cell : ℕ) (c : PsCore) where
   leaf_bare =
       acts_26 (bare cell) c
       ∙ asked_again (leaves.leaf_operands c) None (λ (a : ℕ × Access). found (bare cell) c.store a.0)
-      (λ (o : Option Found) (a : ℕ × Access). looked (leaves.all_live c.store o a.1) >>= leaves.if_live >>= λ u. Ok (with_operands c (integer a.0 ∷ places.space_name Memory ∷ drop 2 c.operands)))
+      (λ (o : Option Found) (a : ℕ × Access). leaves.need_live c.store o a.1 >>= λ u. Ok (with_operands c (integer a.0 ∷ places.space_name Memory ∷ drop 2 c.operands)))
       (with_state (bare cell)) (λ a. none_found cell c.store a.0) (λ e. refl)
 
   pub pointer_bare : act 30 (bare cell) c ≡ with_text (bare cell) (appending 1 (forms.pointer_text_of None c) [] c)

@@ -4,10 +4,11 @@ ghost use Rattle.std.specs.Prelude.{◌≡◌, ◌≤◌, ℕ};
 ghost use Rattle.ps_store.specs.Store.{closed_part};
 ghost use Rattle.ps_bare.specs.Bare.{ActsBare, IsOnObject};
 
+use ps_leaves::{leave_leaf, leave_run};
 use ps_places::top_word;
 use ps_pointers::{
-    comparison_operands, difference_operands, leave_difference, leave_leaf, leave_order, leave_run,
-    leave_sum, sum_operands,
+    comparison_operands, difference_operands, leave_difference, leave_order, leave_sum,
+    sum_operands,
 };
 use ps_run::{PsCore, PsFault};
 use ps_symbols::find_struct;

@@ -8,7 +8,7 @@ use crate::places::quiet;
 use abs_mem::{NoMem, Register};
 use ldb_words::Text;
 use ps_append::{put, put_char, put_chars};
-use ps_pointers::put_pointer;
+use ps_leaves::put_pointer;
 use ps_run::{PsCore, PsFault};
 
 /// `Put`.

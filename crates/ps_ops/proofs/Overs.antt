@@ -51,11 +51,10 @@ module _ {R : Type 0} (n : ℕ) (k : Desk) (s s₁ s' : Seen R) (c c' : PsCore) 
       → s'.tells (memory_of (record k { order = order; cell = cell; out = out }) rg) r × (dial_of (record k { order = order; cell = cell; out = out }) rg ≡ dial_of (record k { out = out }) rg)
   still out h rg r t =
       let now : CellTells (alias_seen places order s') cell (bytes rg) (rest r) = h.keeps (bytes rg) (rest r) (told rg r t) in
-      let there : AliasTells s' places order (record (bytes rg) { cell = None }) (rest r) = now.below in
-      (
+      let there : AliasTells s' places order (record (bytes rg) { cell = None }) (rest r) = now.below in (
         subst (λ o. s'.tells (memory_of (record k { order = o; cell = cell; out = out }) rg) r) there.order_is there.below,
         ap (λ w. dial_of (record k { order = order; cell = w; out = out }) rg) (some_is k.cell cell now.cell_is)
-        ∙ ap (λ o. dial_of (record k { order = o; out = out }) rg) (sym there.order_is)
+            ∙ ap (λ o. dial_of (record k { order = o; out = out }) rg) (sym there.order_is),
       )
 
   rose : Rose s₁.faults s'.faults → Rose s.faults s'.faults
@@ -64,29 +63,31 @@ module _ {R : Type 0} (n : ℕ) (k : Desk) (s s₁ s' : Seen R) (c c' : PsCore) 
   module _ (g : Bytes → PsCore → accesses.Act) (acts : (rg : Regions) → act n (dial_of k rg) c ≡ (look (memory_of k rg) >>= λ f. with_told (dial_of k rg) (g (bytes_in (dial_of k rg) f) c))) where
     pub over_acts : (r : Result (Unit {0}) Trouble) → Over g before c r after c' → ActsOn n k s c (left_over r) (record k { order = order; cell = cell }) s' c'
     over_acts (Ok x) h = (
-        h.0 ∙ looked.0.faults, refl,
-        λ rg r t.
-            let given = h.1 (bytes rg) (rest r) (told rg r t) in
-            let now : CellTells (alias_seen places order s') cell given.0 (rest r) = given.1 in
-            let there : AliasTells s' places order (record given.0 { cell = None }) (rest r) = now.below in
-            (
-              given.0.regions,
-              subst (λ o. s'.tells (memory_of (record k { order = o; cell = cell }) given.0.regions) r) there.order_is there.below,
-              acts rg ∙ ap (λ m. m >>= λ f. with_told (dial_of k rg) (g (bytes_in (dial_of k rg) f) c)) (looked.1.holds (memory_of k rg) r t)
-              ∙ ap (with_told (dial_of k rg)) given.2
-              ∙ ap (λ w. Ok (with_bytes (record given.0 { cell = w }) (dial_of k rg), c')) now.cell_is
-              ∙ ap (λ o. Ok (with_bytes (record given.0 { order = o; cell = Some cell }) (dial_of k rg), c')) there.order_is
-            )
+      h.0 ∙ looked.0.faults,
+      refl,
+      λ rg r t.
+          let given = h.1 (bytes rg) (rest r) (told rg r t) in
+          let now : CellTells (alias_seen places order s') cell given.0 (rest r) = given.1 in
+          let there : AliasTells s' places order (record given.0 { cell = None }) (rest r) = now.below in (
+            given.0.regions,
+            subst (λ o. s'.tells (memory_of (record k { order = o; cell = cell }) given.0.regions) r) there.order_is there.below,
+            acts rg ∙ ap (λ m. m >>= λ f. with_told (dial_of k rg) (g (bytes_in (dial_of k rg) f) c)) (looked.1.holds (memory_of k rg) r t)
+                ∙ ap (with_told (dial_of k rg)) given.2
+                ∙ ap (λ w. Ok (with_bytes (record given.0 { cell = w }) (dial_of k rg), c')) now.cell_is
+                ∙ ap (λ o. Ok (with_bytes (record given.0 { order = o; cell = Some cell }) (dial_of k rg), c')) there.order_is,
+          ),
     )
     over_acts (Err (Ps (Error e))) h = (
-        h.0.faults ∙ looked.0.faults, refl, h.1,
-        λ rg r t.
-            let on = still k.out h.0 rg r t in
-            (
-              on.0, on.1,
-              acts rg ∙ ap (λ m. m >>= λ f. with_told (dial_of k rg) (g (bytes_in (dial_of k rg) f) c)) (looked.1.holds (memory_of k rg) r t)
-              ∙ ap (with_told (dial_of k rg)) (h.2 (bytes rg) (rest r) (told rg r t))
-            )
+      h.0.faults ∙ looked.0.faults,
+      refl,
+      h.1,
+      λ rg r t.
+          let on = still k.out h.0 rg r t in (
+            on.0,
+            on.1,
+            acts rg ∙ ap (λ m. m >>= λ f. with_told (dial_of k rg) (g (bytes_in (dial_of k rg) f) c)) (looked.1.holds (memory_of k rg) r t)
+                ∙ ap (with_told (dial_of k rg)) (h.2 (bytes rg) (rest r) (told rg r t)),
+          ),
     )
     over_acts (Err (Ps NoMemory)) h = refl
     over_acts (Err (Ps Spent)) h = absurd h
@@ -98,25 +99,27 @@ module _ {R : Type 0} (n : ℕ) (k : Desk) (s s₁ s' : Seen R) (c c' : PsCore) 
   module _ (acts : (rg : Regions) → act n (dial_of k rg) c ≡ (look (memory_of k rg) >>= λ f. with_text (dial_of k rg) (appending_chars k.out (bytes_in (dial_of k rg) f) c))) where
     pub chars_act : (out : List ℕ) (r : Result (Unit {0}) Trouble) → AppendsChars k.out before c r out after c' → ActsOn n k s c (left_over r) (record k { order = order; cell = cell; out = out }) s' c'
     chars_act out (Ok x) h = (
-        h.0.faults ∙ looked.0.faults, refl,
-        λ rg r t.
-            let on = still out h.0 rg r t in
-            (
-              rg, on.0,
-              acts rg ∙ ap (λ m. m >>= λ f. with_text (dial_of k rg) (appending_chars k.out (bytes_in (dial_of k rg) f) c)) (looked.1.holds (memory_of k rg) r t)
-              ∙ ap (with_text (dial_of k rg)) (h.1 (bytes rg) (rest r) (told rg r t)) ∙ ap (λ d. Ok (d, c')) (sym on.1)
-            )
+      h.0.faults ∙ looked.0.faults,
+      refl,
+      λ rg r t.
+          let on = still out h.0 rg r t in (
+            rg,
+            on.0,
+            acts rg ∙ ap (λ m. m >>= λ f. with_text (dial_of k rg) (appending_chars k.out (bytes_in (dial_of k rg) f) c)) (looked.1.holds (memory_of k rg) r t)
+                ∙ ap (with_text (dial_of k rg)) (h.1 (bytes rg) (rest r) (told rg r t)) ∙ ap (λ d. Ok (d, c')) (sym on.1),
+          ),
     )
     chars_act out (Err (Ps (Error e))) h = (
-        h.0.faults ∙ looked.0.faults, refl, h.2.0,
-        λ rg r t.
-            let on = still out h.0 rg r t in
-            (
-              on.0,
-              on.1 ∙ ap (λ o. dial_of (record k { out = o }) rg) h.1,
-              acts rg ∙ ap (λ m. m >>= λ f. with_text (dial_of k rg) (appending_chars k.out (bytes_in (dial_of k rg) f) c)) (looked.1.holds (memory_of k rg) r t)
-              ∙ ap (with_text (dial_of k rg)) (h.2.1 (bytes rg) (rest r) (told rg r t))
-            )
+      h.0.faults ∙ looked.0.faults,
+      refl,
+      h.2.0,
+      λ rg r t.
+          let on = still out h.0 rg r t in (
+            on.0,
+            on.1 ∙ ap (λ o. dial_of (record k { out = o }) rg) h.1,
+            acts rg ∙ ap (λ m. m >>= λ f. with_text (dial_of k rg) (appending_chars k.out (bytes_in (dial_of k rg) f) c)) (looked.1.holds (memory_of k rg) r t)
+                ∙ ap (with_text (dial_of k rg)) (h.2.1 (bytes rg) (rest r) (told rg r t)),
+          ),
     )
     chars_act out (Err (Ps NoMemory)) h = refl
     chars_act out (Err (Ps Spent)) h = absurd h

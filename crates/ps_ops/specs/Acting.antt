@@ -34,7 +34,7 @@ module _ {R : Type 0} where
   ActsOn op k s c (Err (Needs u)) k' s' c' =
       (s'.faults ≡ s.faults) × (k'.view ≡ k.view) × (c' ≡ c)
       × ((rg : Regions) (r : R) → s.tells (memory_of k rg) r
-        → s'.tells (memory_of k' rg) r × (dial_of k' rg ≡ dial_of k rg) × (act op (dial_of k rg) c ≡ Err (Wants u)) × IsDeferred c.store u)
+      → s'.tells (memory_of k' rg) r × (dial_of k' rg ≡ dial_of k rg) × (act op (dial_of k rg) c ≡ Err (Wants u)) × IsDeferred c.store u)
   ActsOn op k s c (Err Wanting) k' s' c' = k'.view ≡ k.view
   ActsOn op k s c (Err (Broken LinkFault)) k' s' c' = Rose s.faults s'.faults
   ActsOn op k s c (Err (Broken (BadReply frame))) k' s' c' = NeverTold k s s'

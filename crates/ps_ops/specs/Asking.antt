@@ -63,3 +63,12 @@ found_by v t b (suc p) = looked (found_at (row_of_target v.target) t b v.context
 abbrev pub frame_for : View → StoreState → Bytes → Space → Acted (Option Frame)
 frame_for v t b Registers = frame_by v t b
 frame_for v t b space = Ok None
+
+-- that of a second address, behind the object of the first
+abbrev pub found_behind : View → StoreState → Bytes → Option Found → (address : ℕ) → Acted (Option Found)
+found_behind v t b None p = Ok None
+found_behind v t b (Some o) p = found_by v t b p
+
+-- both
+abbrev pub found_two : View → StoreState → Bytes → (p q : ℕ) → Acted (Option Found × Option Found)
+found_two v t b p q = found_by v t b p >>= λ o. found_behind v t b o q >>= λ other. Ok (o, other)

@@ -2,9 +2,9 @@
 
 ghost use Rattle.std.specs.Prelude.{◌≡◌};
 ghost use Rattle.frame_bytes.specs.Bytes.{Bytes};
-ghost use Rattle.table_model.specs.Frames.{frame_at, row_of_target};
+ghost use Rattle.table_model.specs.Frames.{frame_at, outward_by, row_of_target};
 ghost use Rattle.abs_mem.specs.Walking.{Walks, LedWalk};
-ghost use Rattle.ps_ops.specs.Asking.{LooksUp, frame_by, scope_by, found_by};
+ghost use Rattle.ps_ops.specs.Asking.{LooksUp, frame_by, scope_by, found_by, found_two};
 
 use crate::halt::{Halt, halted};
 use crate::view::{Standing, View};
@@ -12,8 +12,8 @@ use abs_mem::{AbsMem, Locate, WalkFault};
 use frame_bytes::Frame;
 use locate::Locator;
 use ps_places::error_of;
-use ps_store::{DictId, PsStore};
 use ps_run::PsError;
+use ps_store::{DictId, PsStore};
 use stack_walk::{first, row_of_target, up};
 use table_model::{Found, Lack, TargetRow};
 use table_read::scope_of;
@@ -116,5 +116,25 @@ pub fn found<M: AbsMem>(
     match locator.find(table, m, address) {
         Ok(found) => Ok(found),
         Err(fault) => Err(halted(fault)),
+    }
+}
+
+/// The objects to which two addresses belong. The second is looked for only where the first belongs to one.
+pub fn found_two<M: AbsMem>(
+    view: &View,
+    table: &PsStore,
+    m: &mut M,
+    p: u32,
+    q: u32,
+) -> Result<(Option<Found>, Option<Found>), Halt>
+    ensures { LooksUp table.now (λ b. found_two view.now table.now b p q) (M.seen m.old) result (M.seen m.new) }
+{
+    match found(view, table, m, p) {
+        Err(halt) => Err(halt),
+        Ok(None) => Ok((None, None)),
+        Ok(Some(first)) => match found(view, table, m, q) {
+            Err(halt) => Err(halt),
+            Ok(second) => Ok((Some(first), second)),
+        },
     }
 }

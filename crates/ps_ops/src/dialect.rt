@@ -1,8 +1,10 @@
 // The dialect of a command.
 
-ghost use Rattle.std.specs.Prelude.{◌≡◌, ◌≤◌, ◌-◌};
+ghost use Rattle.std.specs.Prelude.{◌≡◌, ◌≤◌, ◌-◌, Err};
 ghost use Rattle.ps_store.specs.Store.{closed_part};
-ghost use Rattle.ps_ops.specs.Acting.{ActsOn};
+ghost use Rattle.ps_store.specs.Settled.{Settled};
+ghost use Rattle.ps_step.specs.declared.fault.PsFault.TheVariants.{Spent as OutOfSteps};
+ghost use Rattle.ps_ops.specs.Acting.{ActsOn, OperatesOn};
 ghost use Rattle.ps_ops.specs.Desk.{desk_of};
 
 use crate::halt::{Halt, left};
@@ -49,6 +51,42 @@ fn act<W: AbsMem + Drop>(
     }
 }
 
+/// Runs the operator with a number. Where it needs the functions of a unit, these are run first, and it acts again, which a step
+/// was taken for. Where the memory gave no answer it is told why.
+fn run_operator<W: AbsMem + Drop>(
+    view: &View,
+    memory: &mut Joined<W>,
+    core: &mut PsCore,
+    out: &mut Text,
+    broken: &mut Option<MemFault>,
+    op: u16,
+    steps: &mut Steps,
+) -> Result<(), PsFault>
+    requires { steps.old.taken ≤ steps.old.limit }
+    ensures operates { OperatesOn (desk_of view.now memory.old.below.below.order memory.old.below.cell out.old) (W.seen memory.old.below.below.below) core.old op (steps.old.limit - steps.old.taken) result (desk_of view.now memory.new.below.below.order memory.new.below.cell out.new) (W.seen memory.new.below.below.below) core.new (steps.new.limit - steps.new.taken) }
+    ensures limit { steps.new.limit ≡ steps.old.limit }
+    ensures within { steps.new.taken ≤ steps.new.limit }
+    ensures spent { result ≡ Err OutOfSteps → steps.new.taken ≡ steps.new.limit }
+    ensures closed { Settled (closed_part core.old.store) (closed_part core.new.store) }
+    ensures more { steps.old.taken ≤ steps.new.taken }
+{
+    'again: loop {
+        match act(view, memory, core, out, op) {
+            Ok(()) => return Ok(()),
+            Err(Halt::Raised(error)) => return Err(PsFault::Error(error)),
+            Err(Halt::Wanting) => return Err(PsFault::NoMemory),
+            Err(Halt::Broken(fault)) => {
+                *broken = Some(fault);
+                return Err(PsFault::Link);
+            }
+            Err(Halt::Needs { unit }) => match force_unit(core, unit, steps) {
+                Ok(()) => {}
+                Err(fault) => return Err(fault),
+            },
+        }
+    }
+}
+
 /// The dialect of a command over the memory of a target. An operator that needs the functions of a unit has them run first and
 /// acts again; each appends to the text.
 #[derive(Drop)]
@@ -61,30 +99,22 @@ pub struct Operators<W> {
 }
 
 impl<W: AbsMem + Drop> Dialect for Operators<W> {
-    ghost use Rattle.ps_store.specs.Settled.{Settled};
     ghost use Rattle.ps_store.proofs.Settling.{settled_same, settled_on};
-    ghost use Rattle.ps_ops.specs.Acting.{OperatesOn};
 
     ghost operates = { λ o c op left answer o' c' left'. OperatesOn (desk_of o.view o.memory.below.below.order o.memory.below.cell o.out) (W.seen o.memory.below.below.below) c op left answer (desk_of o'.view o'.memory.below.below.order o'.memory.below.cell o'.out) (W.seen o'.memory.below.below.below) c' left' };
 
     ghost remains = { Settled };
 
     fn operate(&mut self, core: &mut PsCore, op: u16, steps: &mut Steps) -> Result<(), PsFault> {
-        loop {
-            match act(&self.view, &mut self.memory, core, &mut self.out, op) {
-                Ok(()) => return Ok(()),
-                Err(Halt::Raised(error)) => return Err(PsFault::Error(error)),
-                Err(Halt::Wanting) => return Err(PsFault::NoMemory),
-                Err(Halt::Broken(fault)) => {
-                    self.broken = Some(fault);
-                    return Err(PsFault::Link);
-                }
-                Err(Halt::Needs { unit }) => match force_unit(core, unit, steps) {
-                    Ok(()) => {}
-                    Err(fault) => return Err(fault),
-                },
-            }
-        }
+        run_operator(
+            &self.view,
+            &mut self.memory,
+            core,
+            &mut self.out,
+            &mut self.broken,
+            op,
+            steps,
+        )
     }
 
     ghost stays = { settled_same };

@@ -1,6 +1,6 @@
 // Operators on places.
 
-ghost use Rattle.std.specs.Prelude.{◌≡◌, ℕ, List};
+ghost use Rattle.std.specs.Prelude.{◌≡◌, ℕ, List, option_map};
 ghost use Rattle.ps_store.specs.Store.{closed_part};
 ghost use Rattle.ps_ops.specs.Acting.{ActsOn};
 ghost use Rattle.ps_ops.specs.Desk.{desk_of};
@@ -14,6 +14,16 @@ use frame_bytes::{Frame, Space};
 use ps_places::{fetch, fetch_of, immediate, local, store, store_of, top_word};
 use ps_run::PsCore;
 use ps_store::PsStore;
+
+/// The base of a frame.
+fn base_of(frame: Option<Frame>) -> Option<u32>
+    ensures { result ≡ option_map (λ f. f.base) frame }
+{
+    match frame {
+        None => None,
+        Some(frame) => Some(frame.base),
+    }
+}
 
 /// The frame whose registers a space has: none where it isn't that of registers.
 pub fn frame_for<M: AbsMem>(
@@ -39,13 +49,12 @@ pub fn local_in<W: AbsMem + Drop>(
     ensures acts { (out : List ℕ) → ActsOn 2 (desk_of view.now memory.old.below.below.order memory.old.below.cell out) (W.seen memory.old.below.below.below) core.old result (desk_of view.now memory.new.below.below.order memory.new.below.cell out) (W.seen memory.new.below.below.below) core.new }
     ensures closed { closed_part core.new.store ≡ closed_part core.old.store }
 {
-    let _ = match top_word(core) {
-        Ok(asked) => asked,
-        Err(error) => return Err(Halt::Raised(error)),
-    };
-    match frame_of(view, &core.store, &mut memory.below.below.below) {
-        Ok(frame) => left(local(core, frame.map(|frame| frame.base))),
-        Err(halt) => Err(halt),
+    match top_word(core) {
+        Err(error) => Err(Halt::Raised(error)),
+        Ok(_) => match frame_of(view, &core.store, &mut memory.below.below.below) {
+            Err(halt) => Err(halt),
+            Ok(frame) => left(local(core, base_of(frame))),
+        },
     }
 }
 
@@ -71,16 +80,21 @@ pub fn fetch_at<W: AbsMem + Drop>(
     ensures acts { (out : List ℕ) → ActsOn 6 (desk_of view.now memory.old.below.below.order memory.old.below.cell out) (W.seen memory.old.below.below.below) core.old result (desk_of view.now memory.new.below.below.order memory.new.below.cell out) (W.seen memory.new.below.below.below) core.new }
     ensures closed { closed_part core.new.store ≡ closed_part core.old.store }
 {
-    let (place, _) = match fetch_of(core) {
-        Ok(asked) => asked,
-        Err(error) => return Err(Halt::Raised(error)),
-    };
-    let frame = match frame_for(view, &core.store, &mut memory.below.below.below, place.space) {
-        Ok(frame) => frame,
-        Err(halt) => return Err(halt),
-    };
-    memory.set_frame(frame.as_ref());
-    left_over(fetch(core, memory))
+    match fetch_of(core) {
+        Err(error) => Err(Halt::Raised(error)),
+        Ok((place, _)) => match frame_for(
+            view,
+            &core.store,
+            &mut memory.below.below.below,
+            place.space,
+        ) {
+            Err(halt) => Err(halt),
+            Ok(frame) => {
+                memory.set_frame(frame.as_ref());
+                left_over(fetch(core, memory))
+            }
+        },
+    }
 }
 
 /// `store`.
@@ -92,14 +106,19 @@ pub fn store_at<W: AbsMem + Drop>(
     ensures acts { (out : List ℕ) → ActsOn 7 (desk_of view.now memory.old.below.below.order memory.old.below.cell out) (W.seen memory.old.below.below.below) core.old result (desk_of view.now memory.new.below.below.order memory.new.below.cell out) (W.seen memory.new.below.below.below) core.new }
     ensures closed { closed_part core.new.store ≡ closed_part core.old.store }
 {
-    let (place, _, _) = match store_of(core, view.raw) {
-        Ok(asked) => asked,
-        Err(error) => return Err(Halt::Raised(error)),
-    };
-    let frame = match frame_for(view, &core.store, &mut memory.below.below.below, place.space) {
-        Ok(frame) => frame,
-        Err(halt) => return Err(halt),
-    };
-    memory.set_frame(frame.as_ref());
-    left_over(store(core, memory, view.raw))
+    match store_of(core, view.raw) {
+        Err(error) => Err(Halt::Raised(error)),
+        Ok((place, _, _)) => match frame_for(
+            view,
+            &core.store,
+            &mut memory.below.below.below,
+            place.space,
+        ) {
+            Err(halt) => Err(halt),
+            Ok(frame) => {
+                memory.set_frame(frame.as_ref());
+                left_over(store(core, memory, view.raw))
+            }
+        },
+    }
 }

@@ -12,8 +12,8 @@ use crate::view::View;
 use abs_mem::{AbsMem, Joined};
 use ldb_words::Text;
 use ps_append::{put, put_char, put_chars, string_place};
+use ps_leaves::put_pointer;
 use ps_places::top_word;
-use ps_pointers::put_pointer;
 use ps_run::PsCore;
 
 /// `PutPointer`.
@@ -26,13 +26,12 @@ fn put_address<W: AbsMem + Drop>(
     ensures acts { ActsOn 30 (desk_of view.now memory.old.below.below.order memory.old.below.cell out.old) (W.seen memory.old.below.below.below) core.old result (desk_of view.now memory.new.below.below.order memory.new.below.cell out.new) (W.seen memory.new.below.below.below) core.new }
     ensures closed { closed_part core.new.store ≡ closed_part core.old.store }
 {
-    let pointer = match top_word(core) {
-        Ok(asked) => asked,
-        Err(error) => return Err(Halt::Raised(error)),
-    };
-    match found(view, &core.store, &mut memory.below.below.below, pointer) {
-        Ok(object) => left(put_pointer(core, object, out)),
-        Err(halt) => Err(halt),
+    match top_word(core) {
+        Err(error) => Err(Halt::Raised(error)),
+        Ok(pointer) => match found(view, &core.store, &mut memory.below.below.below, pointer) {
+            Err(halt) => Err(halt),
+            Ok(object) => left(put_pointer(core, object, out)),
+        },
     }
 }
 
@@ -46,16 +45,22 @@ fn put_characters<W: AbsMem + Drop>(
     ensures acts { ActsOn 31 (desk_of view.now memory.old.below.below.order memory.old.below.cell out.old) (W.seen memory.old.below.below.below) core.old result (desk_of view.now memory.new.below.below.order memory.new.below.cell out.new) (W.seen memory.new.below.below.below) core.new }
     ensures closed { closed_part core.new.store ≡ closed_part core.old.store }
 {
-    let (place, _) = match string_place(core) {
-        Ok(asked) => asked,
-        Err(error) => return Err(Halt::Raised(error)),
-    };
-    match frame_for(view, &core.store, &mut memory.below.below.below, place.space) {
-        Ok(frame) => {
-            memory.set_frame(frame.as_ref());
-            left_over(put_chars(core, memory, out))
-        }
-        Err(halt) => Err(halt),
+    match string_place(core) {
+        Err(error) => Err(Halt::Raised(error)),
+        Ok((place, _)) => {
+            match frame_for(
+                view,
+                &core.store,
+                &mut memory.below.below.below,
+                place.space,
+            ) {
+                Ok(frame) => {
+                    memory.set_frame(frame.as_ref());
+                    left_over(put_chars(core, memory, out))
+                }
+                Err(halt) => Err(halt),
+            }
+        },
     }
 }
 

@@ -9,10 +9,7 @@ pub enum Standing {
     /// There is none.
     NoFrame,
     /// One that was found, with the innermost symbol in scope there, if there is one.
-    InFrame {
-        frame: Frame,
-        scope: Option<DictId>,
-    },
+    InFrame { frame: Frame, scope: Option<DictId> },
     /// The one with a number, which is looked for when an operator asks for it.
     Numbered { number: u32 },
 }

@@ -1,6 +1,6 @@
 use Rattle.std.proofs.Common.{None, ◌∙◌, sym}
 use Rattle.ps_pointers.specs.Pointers as pointers
-use Rattle.ps_pointers.specs.Leaves as leaves
+use Rattle.ps_leaves.specs.Leaves as leaves
 use Rattle.ps_bare.proofs.Acting.{did, failed, sum_bare, sum_failed}
 use Rattle.ps_bare.proofs.objects.add.Goals as goal
 

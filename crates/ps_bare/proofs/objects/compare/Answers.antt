@@ -1,6 +1,6 @@
 use Rattle.std.proofs.Common.{None, ◌∙◌, sym}
 use Rattle.ps_pointers.specs.Pointers as pointers
-use Rattle.ps_pointers.specs.Leaves as leaves
+use Rattle.ps_leaves.specs.Leaves as leaves
 use Rattle.ps_bare.proofs.Acting.{did, failed, comparison_bare, comparison_failed}
 use Rattle.ps_bare.proofs.objects.compare.Goals as goal
 

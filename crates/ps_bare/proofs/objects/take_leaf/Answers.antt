@@ -1,5 +1,5 @@
 use Rattle.std.proofs.Common.{None}
-use Rattle.ps_pointers.specs.Leaves as leaves
+use Rattle.ps_leaves.specs.Leaves as leaves
 use Rattle.ps_bare.proofs.Acting.{did, leaf_bare}
 use Rattle.ps_bare.proofs.objects.take_leaf.Goals as goal
 

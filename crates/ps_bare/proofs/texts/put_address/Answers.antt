@@ -1,5 +1,5 @@
 use Rattle.std.proofs.Common.{None}
-use Rattle.ps_pointers.specs.Forms.{pointer_text_of}
+use Rattle.ps_leaves.specs.Forms.{pointer_text_of}
 use Rattle.ps_bare.proofs.Acting.{dropped_text, pointer_bare}
 use Rattle.ps_bare.proofs.texts.put_address.Goals as goal
 
