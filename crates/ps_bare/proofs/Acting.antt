@@ -94,7 +94,7 @@ over_bare n cell cell' c c' (Ok x) f e h =
     let t = h.1 (no_bytes cell) tt (told cell) in
     e ∙ ap (with_told (bare cell)) t.2 ∙ ap (λ w. Ok (with_bytes (record t.0 { cell = w }) (bare cell), c')) t.1.cell_is
 over_bare n cell cell' c c' (Err (Ps (Error g))) f e h =
-    (e ∙ ap (with_told (bare cell)) (h.2.1 (no_bytes cell) tt (told cell)), cell_of cell cell' (let k = h.0.keeps (no_bytes cell) tt (told cell) in k.cell_is), h.2.0)
+    (e ∙ ap (with_told (bare cell)) (h.2 (no_bytes cell) tt (told cell)), cell_of cell cell' (let k = h.0.keeps (no_bytes cell) tt (told cell) in k.cell_is), h.1)
 over_bare n cell cell' c c' (Err (Ps NoMemory)) f e h = tt
 over_bare n cell cell' c c' (Err (Ps Spent)) f e h = h
 over_bare n cell cell' c c' (Err (Ps Link)) f e h = h
@@ -118,9 +118,9 @@ dropped_chars n cell cell' c c' (Ok x) out out' e z h =
     let same : cell' ≡ cell = cell_of cell cell' (let k = h.0.keeps (no_bytes cell) tt (told cell) in k.cell_is) in
     e ∙ ap (with_text (bare cell)) (ap (λ o. appending_chars o (no_bytes cell) c) (sym z) ∙ h.1 (no_bytes cell) tt (told cell)) ∙ ap (λ w. Ok (bare w, c')) (sym same)
 dropped_chars n cell cell' c c' (Err (Ps (Error g))) out out' e z h = (
-  e ∙ ap (with_text (bare cell)) (ap (λ o. appending_chars o (no_bytes cell) c) (sym z) ∙ h.2.2.1 (no_bytes cell) tt (told cell)),
+  e ∙ ap (with_text (bare cell)) (ap (λ o. appending_chars o (no_bytes cell) c) (sym z) ∙ h.3 (no_bytes cell) tt (told cell)),
   cell_of cell cell' (let k = h.0.keeps (no_bytes cell) tt (told cell) in k.cell_is),
-  h.2.1,
+  h.2,
 )
 dropped_chars n cell cell' c c' (Err (Ps NoMemory)) out out' e z h = tt
 dropped_chars n cell cell' c c' (Err (Ps Spent)) out out' e z h = h

@@ -25,7 +25,7 @@ use Rattle.table_model.specs.Frames.{Saved, saved_pair, saved_of, saving_frame, 
 use Rattle.table_model.specs.Symbols.{scope_of_point, scope_of, uplink_of, Form, FromBase, Absolute, FromAnchor, Other, is_local}
 use Rattle.table_model.specs.Objects.{form_of, anchor_of, address_of, belongs, object_at, object_or_none, found_symbol, as_static, static_object, statics_in, static_at, local_here, local_among, local_at, with_activation, found_outward, found_at}
 use Rattle.dialect_model.specs.Forcing.{deferred, deferred_in}
-use Rattle.ps_bare.specs.Unit.{IsDeferred}
+use Rattle.ps_bare.specs.Deferred.{IsDeferred}
 
 abbrev pub LacksOf : StoreState → Lack → Type 0
 LacksOf s (Unforced u) = IsDeferred s u

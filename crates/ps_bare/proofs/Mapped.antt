@@ -18,6 +18,15 @@ settles_memory (Err NoMemory) c answer c' e s = s.0
 abbrev pub OverBut : {D E : Type 0} → Operates D → Operates E → (D → E) → Type 0
 OverBut {D} {E} Op Op' f = (d : D) (c : PsCore) (op n : ℕ) (r : Answer) (d' : D) (c' : PsCore) (k : ℕ) → r ≢ Err NoMemory → Op d c op n r d' c' k → Op' (f d) c op n r (f d') c' k
 
+abbrev fails : PsFault → Answer
+fails f = Err f
+
+kept : (g : PsFault) (k : ℕ) → fails g ≡ Err NoMemory → fault_with k g ≡ NoMemory
+kept (Error e) k h = absurd (let i = h in cc)
+kept Spent k h = absurd (let i = h in cc)
+kept Link k h = absurd (let i = h in cc)
+kept NoMemory k h = no_memory k
+
 module _ {D E : Type 0} (Op : Operates D) (Op' : Operates E) (f : D → E) (over : OverBut Op Op' f) where
   asked_but : (d : D) (c : PsCore) (op n : ℕ) (answer : Answer) (d' : D) (c' : PsCore) (k : ℕ) → answer ≢ Err NoMemory → Asked Op d c op n answer d' c' k → Asked Op' (f d) c op n answer (f d') c' k
   asked_but d c op n answer d' c' k other a =
@@ -32,6 +41,3 @@ module _ {D E : Type 0} (Op : Operates D) (Op' : Operates E) (f : D → E) (over
       asked n k m (f d) (f d₁) (f d') c c₁ c₂ c' op r s (asked_but d c₁ op n (Ok tt) d₁ c₂ k (λ h. cc) a) (mapped_but k d₁ c₂ r m d' c' other run)
   mapped_but _ _ _ _ _ _ _ other (broken n k d d₁ c c₁ c₂ op g x s a told) =
       broken n k (f d) (f d₁) c c₁ c₂ op g x s (asked_but d c₁ op n (Err g) d₁ c₂ k (λ e. other (ap Err (told ∙ kept g k e))) a) told
-    where
-      kept : (g : PsFault) (k : ℕ) → Result.Err g ≡ Err NoMemory → fault_with k g ≡ NoMemory
-      kept g k e = ap (fault_with k) (let h = e in cc) ∙ no_memory k

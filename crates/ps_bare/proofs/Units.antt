@@ -1,5 +1,5 @@
 -- The unit whose functions are run.
-use Rattle.std.proofs.Common.{◌≡◌, ◌≢◌, ◌<◌, ◌≤◌, ℕ, true, false, Option, Some, None, Result, Ok, Err, List, slice_get, codes, refl, sym, ap, ◌∙◌, subst, arith}
+use Rattle.std.proofs.Common.{◌≡◌, ◌≢◌, ◌<◌, ◌≤◌, ℕ, zero, suc, true, false, Option, Some, None, Result, Ok, Err, List, [], ◌∷◌, slice_get, codes, refl, sym, ap, ◌∙◌, subst, arith}
 use Rattle.ps_store.specs.declared.object.PsObj.{PsObj}
 use Rattle.ps_store.specs.declared.object.PsObj.TheVariants.{Int, Bool as Truth, Name, Str, Array, Dict, Op, Mark as MarkObject, Null}
 use Rattle.ps_store.specs.declared.object.DictId.{DictId}
@@ -10,15 +10,16 @@ use Rattle.ps_store.specs.Entries.{value_at}
 use Rattle.ps_store.specs.Cut.{mark_of}
 use Rattle.ps_step.specs.declared.fault.PsError.{PsError}
 use Rattle.ps_step.specs.declared.fault.PsFault.{PsFault}
-use Rattle.ps_step.specs.declared.fault.PsFault.TheVariants.{NoMemory}
+use Rattle.ps_step.specs.declared.fault.PsFault.TheVariants.{Error, Spent, Link, NoMemory}
 use Rattle.ps_step.specs.declared.item.Item.TheVariants.{Object}
 use Rattle.ps_step.specs.declared.machine.PsCore.{PsCore}
 use Rattle.ps_step.specs.State.{with_execution}
 use Rattle.ps_step.specs.Results.{◌>>=◌}
-use Rattle.ps_run.specs.Runs.{Answer, Operates, Runs, RunsObject}
+use Rattle.ps_run.specs.Runs.{Answer, Operates, Asked, Runs, RunsObject, Settles, fault_with}
+use Rattle.ps_run.specs.Runs as runs
 use Rattle.ps_run.specs.Passes.{TakesNone}
 use Rattle.ps_run.proofs.Apart.{some_steps}
-use Rattle.ps_force.specs.Forcing.{forced_by, apart, Forces}
+use Rattle.ps_force.specs.Forcing.{left_on, placing, placing_left, forced_by, apart, Forces}
 use Rattle.table_model.specs.Reading.{Walked, dict_in, entry, or_missing}
 use Rattle.table_model.specs.Rows.{units_of}
 use Rattle.ps_places.specs.Lacks.{looked}
@@ -26,7 +27,7 @@ use Rattle.dialect_model.specs.Dial.{Dial, no_target}
 use Rattle.dialect_model.specs.Forcing as model
 use Rattle.ps_bare.specs.declared.dialect.NoTarget.{NoTarget}
 use Rattle.ps_bare.specs.Bare.{bare, OperatesBare}
-use Rattle.ps_bare.specs.Unit.{unit_of, if_text, deferred_unit, IsDeferred}
+use Rattle.ps_bare.specs.Deferred.{unit_of, if_text, deferred_unit, IsDeferred}
 use Rattle.ps_bare.proofs.Mapped.{mapped_but}
 
 abbrev gives : DictId → Result DictId PsError
@@ -148,3 +149,91 @@ pub some_taken : (n : ℕ) (d : NoTarget) (c : PsCore) (u : DictId) (text x : Ps
 some_taken n d c u text x m d' c' h =
     some_steps Op' bare_none n text d (apart c) m d' h.core
     (subst (λ a. RunsObject Op' n text d (apart c) a m d' h.core) (ended_ok c.store u h.answer h.core x h.given) h.runs)
+
+-- ---- no answer is a link's fault
+
+abbrev is_fault : PsFault → Answer
+is_fault f = Err f
+
+error_link : (n : ℕ) (e : PsError) → is_fault (fault_with n (Error e)) ≡ Err Link → ⊥
+error_link zero e h = let k = h in cc
+error_link (suc n) e h = let k = h in cc
+
+with_link : (n : ℕ) (g : PsFault) → is_fault (fault_with n g) ≡ Err Link → is_fault g ≡ Err Link
+with_link n (Error e) h = absurd (error_link n e h)
+with_link zero Spent h = h
+with_link (suc n) Spent h = h
+with_link n Link h = refl
+with_link zero NoMemory h = h
+with_link (suc n) NoMemory h = h
+
+defined_link : (d : Dial) (c : PsCore) (op n : ℕ) (r : Answer) (d' : Dial) (c' : PsCore) (k : ℕ) → model.NoTarget d c op n r d' c' k → r ≡ Err Link → ⊥
+defined_link _ _ _ _ _ _ _ _ (model.acted d d' c c' op left e) h = let k = h in cc
+defined_link _ _ _ _ _ _ _ _ (model.raised d c op left e a) h = let k = h in cc
+defined_link _ _ _ _ _ _ _ _ (model.wanting d c op left) h = let k = h in cc
+
+settled_link : (given : Answer) (c : PsCore) (answer : Answer) (c' : PsCore) → Settles given c answer c' → answer ≡ Err Link → given ≡ Err Link
+settled_link (Ok x) c answer c' s h = absurd (let a = s.0 in cc)
+settled_link (Err (Error e)) c (Ok x) c' s h = absurd (let a = h in cc)
+settled_link (Err (Error e)) c (Err (Error f)) c' s h = absurd (let a = h in cc)
+settled_link (Err (Error e)) c (Err Spent) c' s h = absurd s
+settled_link (Err (Error e)) c (Err Link) c' s h = absurd s
+settled_link (Err (Error e)) c (Err NoMemory) c' s h = absurd (let a = h in cc)
+settled_link (Err Spent) c answer c' s h = absurd (let a = s.0 in cc)
+settled_link (Err Link) c answer c' s h = refl
+settled_link (Err NoMemory) c answer c' s h = absurd (let a = s.0 in cc)
+
+asked_link : (d : NoTarget) (c : PsCore) (op n : ℕ) (answer : Answer) (d' : NoTarget) (c' : PsCore) (k : ℕ) → Asked Op' d c op n answer d' c' k → answer ≡ Err Link → ⊥
+asked_link d c op n answer d' c' k a h =
+    let given : a.given ≡ Err Link = settled_link a.given a.core answer c' a.settles h in
+    defined_link (dial_of d) c op n a.given (dial_of d') a.core n (a.operates.1 (λ e. cc)) given
+
+run_link : (n : ℕ) (d : NoTarget) (c : PsCore) (r : Answer) (m : ℕ) (d' : NoTarget) (c' : PsCore) → Runs Op' n d c r m d' c' → r ≡ Err Link → ⊥
+run_link _ _ _ _ _ _ _ (runs.spent d c) h = let k = h in cc
+run_link _ _ _ _ _ _ _ (runs.ended n d c c' s) h = let k = h in cc
+run_link _ _ _ _ _ _ _ (runs.failed n d c c' x f s told) h = error_link n x (ap is_fault (sym told) ∙ h)
+run_link _ _ _ _ _ _ _ (runs.next n m d d' c c₁ c' r s run) h = run_link n d c₁ r m d' c' run h
+run_link _ _ _ _ _ _ _ (runs.asked n k m d d₁ d' c c₁ c₂ c' op r s a run) h = run_link k d₁ c₂ r m d' c' run h
+run_link _ _ _ _ _ _ _ (runs.broken n k d d₁ c c₁ c₂ op g f s a told) h = asked_link d c₁ op n (Err g) d₁ c₂ k a (with_link k g (ap is_fault (sym told) ∙ h))
+
+-- what is left is no fault of a link
+left_link : (xs : List PsObj) → left_on xs ≡ Err Link → ⊥
+left_link [] h = let k = h in cc
+left_link (Str t true ∷ rest) h = let k = h in cc
+left_link (Str t false ∷ rest) h = let k = h in cc
+left_link (Int n ∷ rest) h = let k = h in cc
+left_link (Truth b ∷ rest) h = let k = h in cc
+left_link (Name t b ∷ rest) h = let k = h in cc
+left_link (Array a b ∷ rest) h = let k = h in cc
+left_link (Dict a ∷ rest) h = let k = h in cc
+left_link (Op n ∷ rest) h = let k = h in cc
+left_link (MarkObject ∷ rest) h = let k = h in cc
+left_link (Null ∷ rest) h = let k = h in cc
+
+module _ (s t : StoreState) (d : DictId) where
+  placed_link : (x : PsObj) (o : Option PsObj) → (placing (mark_of s.table) d model.FUNCTIONS x o t).0 ≡ Err Link → ⊥
+  placed_link x None k = let j = k in cc
+  placed_link x (Some (Str t true)) k = let j = k in cc
+  placed_link x (Some (Str t false)) k = let j = k in cc
+  placed_link x (Some (Int n)) k = let j = k in cc
+  placed_link x (Some (Truth b)) k = let j = k in cc
+  placed_link x (Some (Name t b)) k = let j = k in cc
+  placed_link x (Some (Array a b)) k = let j = k in cc
+  placed_link x (Some (Dict a)) k = let j = k in cc
+  placed_link x (Some (Op n)) k = let j = k in cc
+  placed_link x (Some MarkObject) k = let j = k in cc
+  placed_link x (Some Null) k = let j = k in cc
+
+  placed_left : (l : Result PsObj PsFault) → (placing_left (mark_of s.table) d model.FUNCTIONS l t).0 ≡ Err Link → l ≡ Err Link
+  placed_left (Ok x) k = absurd (placed_link x (value_at (entries_of t d) model.FUNCTIONS) k)
+  placed_left (Err f) k = let j = k in cc
+
+  ended_link : (answer : Answer) (xs : List PsObj) → (forced_by (mark_of s.table) d model.FUNCTIONS answer xs t).0 ≡ Err Link → answer ≡ Err Link
+  ended_link (Err f) xs h = let k = h in cc
+  ended_link (Ok tt) xs h = absurd (left_link xs (placed_left (left_on xs) h))
+
+pub no_link : (n : ℕ) (d : NoTarget) (c : PsCore) (u : DictId) (text : PsObj) (m : ℕ) (d' : NoTarget) (c' : PsCore) → Forces Op' n d c u model.FUNCTIONS text (Err Link) m d' c' → ⊥
+no_link n d c u text m d' c' h =
+    let is : h.answer ≡ Err Link = ended_link c.store h.core.store u h.answer h.core.operands h.given in
+    let run = h.runs (λ e. let a = is in cc) in
+    run_link n d (with_execution (apart c) (Object text ∷ [])) h.answer m d' (with_execution h.core run.0) run.1 is

@@ -4,9 +4,9 @@ ghost use Rattle.std.specs.Prelude.{◌≡◌, ◌≢◌, ◌≤◌, ◌<◌, �
 ghost use Rattle.ps_store.specs.Store.{closed_part};
 ghost use Rattle.ps_store.specs.Settled.{Settled};
 ghost use Rattle.ps_step.specs.declared.fault.PsError.{PsError};
-ghost use Rattle.ps_step.specs.declared.fault.PsFault.TheVariants.{Error as Raised, Spent as OutOfSteps, NoMemory as OutOfMemory};
+ghost use Rattle.ps_step.specs.declared.fault.PsFault.TheVariants.{Error as Raised, Spent as OutOfSteps, Link as LinkFailed, NoMemory as OutOfMemory};
 ghost use Rattle.dialect_model.specs.Forcing.{ForcesUnit};
-ghost use Rattle.ps_bare.specs.Unit.{IsDeferred, unit_of, deferred_unit};
+ghost use Rattle.ps_bare.specs.Deferred.{IsDeferred, unit_of, deferred_unit};
 
 use crate::dialect::NoTarget;
 use ps_force::force;
@@ -56,6 +56,7 @@ pub fn force_unit(core: &mut PsCore, unit: usize, steps: &mut Steps) -> Result<(
     ensures more { steps.old.taken ≤ steps.new.taken }
     ensures undeferred { (error : PsError) → deferred_unit core.old.store unit ≡ Err error → (result ≡ Err (Raised error)) × (core.new ≡ core.old) × (steps.new.taken ≡ steps.old.taken) }
     ensures some { OnOk result (steps.old.taken < steps.new.taken) }
+    ensures unlinked { result ≢ Err LinkFailed }
     ensures spent { result ≡ Err OutOfSteps → steps.new.taken ≡ steps.new.limit }
     ensures stays { OnErr result (closed_part core.new.store ≡ closed_part core.old.store) }
     ensures closed { Settled (closed_part core.old.store) (closed_part core.new.store) }

@@ -112,13 +112,13 @@ module _ {R : Type 0} (n : ℕ) (k : Desk) (s s₁ s' : Seen R) (c c' : PsCore) 
     chars_act out (Err (Ps (Error e))) h = (
       h.0.faults ∙ looked.0.faults,
       refl,
-      h.2.0,
+      h.2,
       λ rg r t.
           let on = still out h.0 rg r t in (
             on.0,
             on.1 ∙ ap (λ o. dial_of (record k { out = o }) rg) h.1,
             acts rg ∙ ap (λ m. m >>= λ f. with_text (dial_of k rg) (appending_chars k.out (bytes_in (dial_of k rg) f) c)) (looked.1.holds (memory_of k rg) r t)
-                ∙ ap (with_text (dial_of k rg)) (h.2.1 (bytes rg) (rest r) (told rg r t)),
+                ∙ ap (with_text (dial_of k rg)) (h.3 (bytes rg) (rest r) (told rg r t)),
           ),
     )
     chars_act out (Err (Ps NoMemory)) h = refl

@@ -11,7 +11,7 @@ use Rattle.dialect_model.specs.Dial.{Dial, Raises, Needs as Wants}
 use Rattle.dialect_model.specs.Operators.{act}
 use Rattle.dialect_model.specs.Operating.{Operates}
 use Rattle.dialect_model.specs.Forcing.{ForcesUnit}
-use Rattle.ps_bare.specs.Unit.{IsDeferred}
+use Rattle.ps_bare.specs.Deferred.{IsDeferred}
 use Rattle.ps_ops.specs.declared.halt.Halt.{Halt}
 use Rattle.ps_ops.specs.declared.halt.Halt.TheVariants.{Raised, Wanting, Broken, Needs}
 use Rattle.ps_ops.specs.Desk.{Desk, dial_of, memory_of}
@@ -42,12 +42,12 @@ module _ {R : Type 0} where
 
   -- What an operator of the dialect may do: units that it needs are run first. A link's fault is told only where its count rose,
   -- or where a bad reply came, and so no bytes were told.
-  abbrev OperatesTold : Desk → Seen R → PsCore → (op left : ℕ) → Answer → Desk → Seen R → PsCore → (left' : ℕ) → Type 0
+  abbrev pub OperatesTold : Desk → Seen R → PsCore → (op left : ℕ) → Answer → Desk → Seen R → PsCore → (left' : ℕ) → Type 0
   OperatesTold k s c op left answer k' s' c' left' =
       (s'.faults ≡ s.faults) × (k'.view ≡ k.view)
       × ((rg : Regions) (r : R) → s.tells (memory_of k rg) r → (rg' : Regions) × s'.tells (memory_of k' rg') r × Operates (dial_of k rg) c op left answer (dial_of k' rg') c' left')
 
-  abbrev OperatesBy : Desk → Seen R → PsCore → (op left : ℕ) → Answer → Desk → Seen R → PsCore → (left' : ℕ) → Type 0
+  abbrev pub OperatesBy : Desk → Seen R → PsCore → (op left : ℕ) → Answer → Desk → Seen R → PsCore → (left' : ℕ) → Type 0
   OperatesBy k s c op left (Ok x) k' s' c' left' = OperatesTold k s c op left (Ok x) k' s' c' left'
   OperatesBy k s c op left (Err (Error e)) k' s' c' left' = OperatesTold k s c op left (Err (Error e)) k' s' c' left'
   OperatesBy k s c op left (Err Spent) k' s' c' left' = OperatesTold k s c op left (Err Spent) k' s' c' left'

@@ -16,7 +16,7 @@ use Rattle.table_model.specs.Objects.{found_at}
 use Rattle.abs_mem.specs.Meaning.{Seen, Same, OnTold, Untold}
 use Rattle.abs_mem.specs.declared.memory.MemFault.TheVariants.{Outside, LinkFault, BadReply}
 use Rattle.dialect_model.specs.Dial.{Acted, Raises, Needs as Wants, looked}
-use Rattle.ps_bare.specs.Unit.{IsDeferred}
+use Rattle.ps_bare.specs.Deferred.{IsDeferred}
 use Rattle.ps_ops.specs.declared.view.View.{View}
 use Rattle.ps_ops.specs.declared.view.Standing.TheVariants as standing
 use Rattle.ps_ops.specs.declared.halt.Halt.{Halt}
