@@ -22,7 +22,7 @@ use Rattle.table_model.specs.declared.found.Found.{Found}
 use Rattle.table_model.specs.Reading.{Walked, or_missing, entry, dict_in, items_in, procedure_in, string_in, number_in, dict_or_null, dict_at, items_at, procedure_at, string_at, number_at, top_of, or_outside, fetch_at, first_from, first_in, all_from, all_in}
 use Rattle.table_model.specs.Rows.{units_of, functions_in, functions_of, covers, covering, covering_in, function_at, points_of, point_address, standing_at, point_at, nearest, point_below_from, point_below, or_no_point}
 use Rattle.table_model.specs.Frames.{Saved, saved_pair, saved_of, saving_frame, window_frame, framed, context_word, frame_in, first_frame, caller_saving, next_saving, next_window, next_frame, outward, outward_by, frame_at, point_in, point_of_row, point_of, words_from, preserved_places, window_places, kept_at, MOST_FRAMES}
-use Rattle.table_model.specs.Symbols.{scope_of_point, scope_of, uplink_of, Form, FromBase, Absolute, FromAnchor, Other, is_local}
+use Rattle.table_model.specs.Symbols.{MOST_SYMBOLS, scope_of_point, scope_of, uplink_of, Form, FromBase, Absolute, FromAnchor, Other, is_local}
 use Rattle.table_model.specs.Objects.{form_of, anchor_of, address_of, belongs, object_at, object_or_none, found_symbol, as_static, static_object, statics_in, static_at, local_here, local_among, local_at, with_activation, found_outward, found_at}
 use Rattle.dialect_model.specs.Forcing.{deferred, deferred_in}
 use Rattle.ps_bare.specs.Deferred.{IsDeferred}
@@ -173,7 +173,7 @@ module _ (s : StoreState) where
   pub function_at_lacks : (pc : ℕ) → Lacks s (function_at s pc)
   unfolding function_at
   function_at_lacks pc =
-      on_known (units_of s) _ units_lacks (λ us a. first_from_lacks (covering_in s pc) 0 us (λ u x b. covering_in_lacks pc u us x a b))
+      on_known (units_of s) _ units_lacks (λ us a. first_from_lacks (covering_in s pc) 0 us (λ u x b. let e : u ≡ 0 + u = omega arith in subst (λ n. Lacks s (covering_in s pc n x)) e (covering_in_lacks pc u us x a b)))
 
   -- ---- points
 
@@ -343,7 +343,7 @@ module _ (s : StoreState) where
 
   local_at_lacks : (n : ℕ) (f : Frame) (address : ℕ) → Lacks s (local_at s n f address)
   unfolding local_at
-  local_at_lacks n f address = on (scope_of s n f) _ (scope_of_lacks n f) (local_among_lacks _ f.base address)
+  local_at_lacks n f address = on (scope_of s n f) _ (scope_of_lacks n f) (local_among_lacks (MOST_SYMBOLS - 1) f.base address)
 
   module _ (row : TargetRow) (b : Bytes) (address : ℕ) where
     last_on : (o : Option Found) → Lacks s (elim o [ None ↦ Ok None | Some o ↦ Ok (Some (with_activation o [])) ])

@@ -46,6 +46,12 @@ reached : {A B E : Type 0} (m : Result A E) (f : A → Result B E) (y : B) → (
 reached (Ok x) f y h = record { first = x; is_first = refl; behind = h }
 reached (Err e) f y h = absurd (let k = h in cc)
 
+abbrev gives_both : DictId × PsObj → Walked (DictId × PsObj)
+gives_both p = Ok p
+
+pair_is : (e d : DictId) (t x : PsObj) → gives_both (e, t) ≡ Ok (d, x) → (e ≡ d) × (t ≡ x)
+pair_is e d t x h = (cc, cc)
+
 there : (o : Option PsObj) (x : PsObj) → or_missing o ≡ Ok x → o ≡ Some x
 there None x h = absurd (let k = h in cc)
 there (Some y) x h = let k = h in cc
@@ -60,8 +66,9 @@ stands s u d x h =
     let o : Reached (or_missing (slice_get us.first u)) (model.deferred_in s) (d, x) = reached _ _ _ us.behind in
     let e : Reached (dict_in o.first) (λ d. entry s d (codes "functions") >>= λ text. Ok (d, text)) (d, x) = reached _ _ _ o.behind in
     let t : Reached (entry s e.first (codes "functions")) (λ text. Ok (e.first, text)) (d, x) = reached _ _ _ e.behind in
-    let same : e.first ≡ d = let k = t.behind in cc in
-    let text : t.first ≡ x = let k = t.behind in cc in
+    let is : (e.first ≡ d) × (t.first ≡ x) = pair_is e.first d t.first x t.behind in
+    let same : e.first ≡ d = is.0 in
+    let text : t.first ≡ x = is.1 in
     record {
       unit = ap (λ m. m >>= λ us. or_missing (slice_get us u) >>= dict_in) us.is_first ∙ ap (λ m. m >>= dict_in) o.is_first ∙ e.is_first ∙ ap Ok same;
       value = ap (λ d. value_at (entries_of s d) model.FUNCTIONS) (sym same) ∙ there _ _ t.is_first ∙ ap Some text;
@@ -75,7 +82,7 @@ deferred_is s u h =
 
 -- ---- and one that is found so has an executable string
 
-record HasText (s : StoreState) (d : DictId) : Type 0 where
+pub record HasText (s : StoreState) (d : DictId) : Type 0 where
   pub text : StringId
   pub value : value_at (entries_of s d) model.FUNCTIONS ≡ Some (Str text true)
 

@@ -104,7 +104,10 @@ module _ {R : Type 0} (op : ℕ) (k : Desk) (s : Seen R) (c : PsCore) where
   text_acts f given x s' (Err Link) out c' a h d = absurd d
 
 -- nothing is looked up
-pub nothing_looked : {R : Type 0} (t : StoreState) (s : Seen R) → LooksUp t (λ b. Ok tt) s (Ok tt) s
+abbrev pub nothing : Bytes → Acted (Unit {0})
+nothing b = Ok tt
+
+pub nothing_looked : {R : Type 0} (t : StoreState) (s : Seen R) → LooksUp t nothing s (Ok tt) s
 nothing_looked t s = (record { faults = refl; keeps = λ b r h. h }, record { holds = λ b r h. refl })
 
 together : {R : Type 0} (s s₁ s₂ : Seen R) → Same s s₁ → Same s₁ s₂ → Same s s₂

@@ -44,7 +44,7 @@ by_ok (Err h) f g = refl
 
 both : {A B : Type 0} (m : Acted A) (n : A → Acted B) (g : A → B → Act) → (m >>= λ x. n x >>= g x) ≡ ((m >>= λ x. n x >>= λ y. Ok (x, y)) >>= λ p. g p.0 p.1)
 both (Err h) n g = refl
-both (Ok x) n g = next (n x) (g x)
+both {B = B} (Ok x) n g = next (n x) (g x)
   where
     next : (w : Acted B) (f : B → Act) → (w >>= f) ≡ ((w >>= λ y. Ok (x, y)) >>= λ p. f p.1)
     next (Ok y) f = refl
