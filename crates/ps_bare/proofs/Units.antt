@@ -4,6 +4,7 @@ use Rattle.ps_store.specs.declared.object.PsObj.{PsObj}
 use Rattle.ps_store.specs.declared.object.PsObj.TheVariants.{Int, Bool as Truth, Name, Str, Array, Dict, Op, Mark as MarkObject, Null}
 use Rattle.ps_store.specs.declared.object.DictId.{DictId}
 use Rattle.ps_store.specs.declared.object.StringId.{StringId}
+use Rattle.ps_store.specs.declared.key.Key.{Key}
 use Rattle.ps_store.specs.StoreState.{StoreState}
 use Rattle.ps_store.specs.Store.{entries_of}
 use Rattle.ps_store.specs.Entries.{value_at}
@@ -19,7 +20,7 @@ use Rattle.ps_run.specs.Runs.{Answer, Operates, Asked, Runs, RunsObject, Settles
 use Rattle.ps_run.specs.Runs as runs
 use Rattle.ps_run.specs.Passes.{TakesNone}
 use Rattle.ps_run.proofs.Apart.{some_steps}
-use Rattle.ps_force.specs.Forcing.{left_on, placing, placing_left, forced_by, apart, Forces}
+use Rattle.ps_force.specs.Forcing.{left_on, placing, placing_left, forced_by, apart, Forces, Uses}
 use Rattle.table_model.specs.Reading.{Walked, dict_in, entry, or_missing}
 use Rattle.table_model.specs.Rows.{units_of}
 use Rattle.ps_places.specs.Lacks.{looked}
@@ -49,8 +50,11 @@ reached (Err e) f y h = absurd (let k = h in cc)
 abbrev gives_both : DictId × PsObj → Walked (DictId × PsObj)
 gives_both p = Ok p
 
+both_is : (p q : DictId × PsObj) → gives_both p ≡ Ok q → p ≡ q
+both_is p q h = cc
+
 pair_is : (e d : DictId) (t x : PsObj) → gives_both (e, t) ≡ Ok (d, x) → (e ≡ d) × (t ≡ x)
-pair_is e d t x h = (cc, cc)
+pair_is e d t x h = let k : (e, t) ≡ (d, x) = both_is (e, t) (d, x) h in (ap (λ (p : DictId × PsObj). p.0) k, ap (λ (p : DictId × PsObj). p.1) k)
 
 there : (o : Option PsObj) (x : PsObj) → or_missing o ≡ Ok x → o ≡ Some x
 there None x h = absurd (let k = h in cc)
@@ -244,3 +248,36 @@ no_link n d c u text m d' c' h =
     let is : h.answer ≡ Err Link = ended_link c.store h.core.store u h.answer h.core.operands h.given in
     let run = h.runs (λ e. let a = is in cc) in
     run_link n d (with_execution (apart c) (Object text ∷ [])) h.answer m d' (with_execution h.core run.0) run.1 is
+
+-- ---- a use of the functions of a unit
+
+module _ (u n : ℕ) (c : PsCore) (old : NoTarget) (begins : old.cell ≡ 0) (d : DictId) (key : Key) (is_key : key ≡ model.FUNCTIONS) (found : deferred_unit c.store u ≡ Ok d) (given : Result PsObj PsFault) (m : ℕ)
+    (new : NoTarget) (c' : PsCore) (uses : Uses Op' n old c d key (value_at (entries_of c.store d) key) given m new c') where
+  -- the use, where the key is known
+  used : Uses Op' n old c d model.FUNCTIONS (value_at (entries_of c.store d) model.FUNCTIONS) given m new c'
+  used = subst (λ k. Uses Op' n old c d k (value_at (entries_of c.store d) k) given m new c') is_key uses
+
+  text : HasText c.store d
+  text = has_text c.store u d found
+
+  forces : given ≢ Err NoMemory → Forces Op' n old c d model.FUNCTIONS (Str text.text true) given m new c'
+  forces = subst (λ o. Uses Op' n old c d model.FUNCTIONS o given m new c') text.value used
+
+  pub keeps_others : given ≢ Err NoMemory → c' ≡ record c { store = c'.store }
+  keeps_others other =
+      let h = forces other in
+      h.after ∙ ap (λ t. record c { store = t }) (sym (ap (λ (x : PsCore). x.store) h.after))
+
+  pub takes_some : (x : PsObj) → given ≡ Ok x → m < n
+  takes_some x e = some_taken n old c d (Str text.text true) x m new c' (subst (λ r. Forces Op' n old c d model.FUNCTIONS (Str text.text true) r m new c') e (forces (λ k. let a = k in let b = e in cc)))
+
+  pub never_linked : given ≡ Err Link → ⊥
+  never_linked e = no_link n old c d (Str text.text true) m new c' (subst (λ r. Forces Op' n old c d model.FUNCTIONS (Str text.text true) r m new c') e (forces (λ k. let a = k in let b = e in cc)))
+
+  pub forces_it : (answer : Answer) → answer ≡ model.answer_of given → IsDeferred c.store u → answer ≢ Err NoMemory → model.ForcesUnit u c n answer m c'
+  forces_it answer e h other =
+      let same : d ≡ h.unit = ok_is d h.unit (sym found ∙ deferred_is c.store u h) in
+      let there : Stands c.store u h.unit (Str h.text true) = stands c.store u h.unit (Str h.text true) h.stands in
+      let there_used = subst (λ i. Uses Op' n old c i model.FUNCTIONS (value_at (entries_of c.store i) model.FUNCTIONS) given m new c') same used in
+      let there_forces : given ≢ Err NoMemory → Forces Op' n old c h.unit model.FUNCTIONS (Str h.text true) given m new c' = subst (λ o. Uses Op' n old c h.unit model.FUNCTIONS o given m new c') there.value there_used in
+      forces_unit u c h n old given answer m new c' begins e other (there_forces (λ k. other (e ∙ ap model.answer_of k)))

@@ -63,16 +63,17 @@ pub fn force_unit(core: &mut PsCore, unit: usize, steps: &mut Steps) -> Result<(
     ensures others { result ≢ Err OutOfMemory → core.new ≡ record core.old { store = core.new.store } }
     ensures forces { IsDeferred core.old.store unit → result ≢ Err OutOfMemory → ForcesUnit unit core.old (steps.old.limit - steps.old.taken) result (steps.new.limit - steps.new.taken) core.new }
 {
-    let d = match deferred_unit(&core.store, unit) {
-        Ok(d) => d,
-        Err(error) => return Err(PsFault::Error(error)),
-    };
-    let Some(functions) = Key::name(b"functions") else {
-        return Err(PsFault::NoMemory);
-    };
-    let mut dialect = NoTarget { cell: 0 };
-    match force(core, &mut dialect, d, &functions, steps) {
-        Ok(_) => Ok(()),
-        Err(fault) => Err(fault),
+    match deferred_unit(&core.store, unit) {
+        Err(error) => Err(PsFault::Error(error)),
+        Ok(d) => match Key::name(b"functions") {
+            None => Err(PsFault::NoMemory),
+            Some(functions) => {
+                let mut dialect = NoTarget { cell: 0 };
+                match force(core, &mut dialect, d, &functions, steps) {
+                    Ok(_) => Ok(()),
+                    Err(fault) => Err(fault),
+                }
+            }
+        },
     }
 }

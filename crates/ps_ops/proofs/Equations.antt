@@ -44,11 +44,11 @@ by_ok (Err h) f g = refl
 
 both : {A B : Type 0} (m : Acted A) (n : A → Acted B) (g : A → B → Act) → (m >>= λ x. n x >>= g x) ≡ ((m >>= λ x. n x >>= λ y. Ok (x, y)) >>= λ p. g p.0 p.1)
 both (Err h) n g = refl
-both {B = B} (Ok x) n g = next (n x) (g x)
+both {B = B} (Ok x) n g = next (n x)
   where
-    next : (w : Acted B) (f : B → Act) → (w >>= f) ≡ ((w >>= λ y. Ok (x, y)) >>= λ p. f p.1)
-    next (Ok y) f = refl
-    next (Err h) f = refl
+    next : (w : Acted B) → (w >>= g x) ≡ ((w >>= λ y. Ok (x, y)) >>= λ p. g p.0 p.1)
+    next (Ok y) = refl
+    next (Err h) = refl
 
 -- ---- what is looked up
 
