@@ -15,7 +15,7 @@ use Rattle.dialect_model.specs.Forcing.{ForcesUnit}
 use Rattle.ps_bare.specs.Deferred.{IsDeferred}
 use Rattle.ps_ops.specs.declared.halt.Halt.TheVariants.{Raised, Needs}
 use Rattle.ps_ops.specs.Desk.{Desk, dial_of, memory_of}
-use Rattle.ps_ops.specs.Acting.{ActsOn, NeverTold, OperatesBy, Prepares, begun, further}
+use Rattle.ps_ops.specs.Acting.{ActsOn, NeverTold, OperatesTold, Prepares, begun, further}
 
 -- what it does once units were run is what it does
 pub prepared : (d : Dial) (op : ℕ) (c : PsCore) (left : ℕ) (c₁ : PsCore) (m : ℕ) → Prepares d op c left c₁ m → (answer : Answer) (d' : Dial) (c' : PsCore) (left' : ℕ) → model.Operates d c₁ op m answer d' c' left'
@@ -35,7 +35,7 @@ module _ {R : Type 0} (op : ℕ) (k : Desk) (s : Seen R) (c : PsCore) (n : ℕ) 
   so_far_begun = record { faults = refl; view = refl; told = λ rg r t. (t, refl, begun) }
 
   module _ (k₁ : Desk) (s₁ : Seen R) (c₁ : PsCore) (m : ℕ) (far : SoFar k₁ s₁ c₁ m) (k' : Desk) (s' : Seen R) (c' : PsCore) where
-    pub done_acts : ActsOn op k₁ s₁ c₁ (Ok tt) k' s' c' → OperatesBy k s c op n (Ok tt) k' s' c' m
+    pub done_acts : ActsOn op k₁ s₁ c₁ (Ok tt) k' s' c' → OperatesTold k s c op n (Ok tt) k' s' c' m
     done_acts h = (
       h.0 ∙ far.faults,
       h.1 ∙ far.view,
@@ -49,7 +49,7 @@ module _ {R : Type 0} (op : ℕ) (k : Desk) (s : Seen R) (c : PsCore) (n : ℕ) 
           ),
     )
 
-    pub raised_acts : (e : PsError) → ActsOn op k₁ s₁ c₁ (Err (Raised e)) k' s' c' → OperatesBy k s c op n (Err (Error e)) k' s' c' m
+    pub raised_acts : (e : PsError) → ActsOn op k₁ s₁ c₁ (Err (Raised e)) k' s' c' → OperatesTold k s c op n (Err (Error e)) k' s' c' m
     raised_acts e h = (
       h.0 ∙ far.faults,
       h.1 ∙ far.view,

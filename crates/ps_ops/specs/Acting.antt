@@ -1,8 +1,9 @@
 -- What an operator did, by the memory that is told.
-use Rattle.std.specs.Prelude.{◌≡◌, ◌≤◌, ◌⊎◌, ℕ, Result, Ok, Err}
+use Rattle.std.specs.Prelude.{◌≡◌, ◌≤◌, ℕ, Option, Some, None, Result, Ok, Err}
 use Rattle.ldb_edge.specs.Count.{Rose}
 use Rattle.machine_state.specs.Regions.{Regions}
 use Rattle.abs_mem.specs.Meaning.{Seen}
+use Rattle.abs_mem.specs.declared.memory.MemFault.{MemFault}
 use Rattle.abs_mem.specs.declared.memory.MemFault.TheVariants.{Outside, LinkFault, BadReply}
 use Rattle.ps_step.specs.declared.fault.PsFault.TheVariants.{Error, Spent, Link, NoMemory}
 use Rattle.ps_step.specs.declared.machine.PsCore.{PsCore}
@@ -40,22 +41,29 @@ module _ {R : Type 0} where
   ActsOn op k s c (Err (Broken (BadReply frame))) k' s' c' = NeverTold k s s'
   ActsOn op k s c (Err (Broken (Outside p))) k' s' c' = ⊥
 
-  -- What an operator of the dialect may do: units that it needs are run first. A link's fault is told only where its count rose,
-  -- or where a bad reply came, and so no bytes were told.
+  -- What an operator of the dialect may do: units that it needs are run first.
   abbrev pub OperatesTold : Desk → Seen R → PsCore → (op left : ℕ) → Answer → Desk → Seen R → PsCore → (left' : ℕ) → Type 0
   OperatesTold k s c op left answer k' s' c' left' =
       (s'.faults ≡ s.faults) × (k'.view ≡ k.view)
       × ((rg : Regions) (r : R) → s.tells (memory_of k rg) r → (rg' : Regions) × s'.tells (memory_of k' rg') r × Operates (dial_of k rg) c op left answer (dial_of k' rg') c' left')
 
-  abbrev pub OperatesBy : Desk → Seen R → PsCore → (op left : ℕ) → Answer → Desk → Seen R → PsCore → (left' : ℕ) → Type 0
-  OperatesBy k s c op left (Ok x) k' s' c' left' = OperatesTold k s c op left (Ok x) k' s' c' left'
-  OperatesBy k s c op left (Err (Error e)) k' s' c' left' = OperatesTold k s c op left (Err (Error e)) k' s' c' left'
-  OperatesBy k s c op left (Err Spent) k' s' c' left' = OperatesTold k s c op left (Err Spent) k' s' c' left'
-  OperatesBy k s c op left (Err Link) k' s' c' left' = Rose s.faults s'.faults ⊎ NeverTold k s s'
-  OperatesBy k s c op left (Err NoMemory) k' s' c' left' = Unit {0}
+  -- why the memory gave no answer: the link's count rose, or a bad reply came, and so no bytes were told
+  abbrev pub KeepsFault : Option MemFault → Desk → Seen R → Seen R → Type 0
+  KeepsFault (Some LinkFault) k s s' = Rose s.faults s'.faults
+  KeepsFault (Some (BadReply frame)) k s s' = NeverTold k s s'
+  KeepsFault (Some (Outside p)) k s s' = ⊥
+  KeepsFault None k s s' = ⊥
 
-  abbrev pub OperatesOn : Desk → Seen R → PsCore → (op left : ℕ) → Answer → Desk → Seen R → PsCore → (left' : ℕ) → Type 0
-  OperatesOn k s c op left answer k' s' c' left' = (left' ≤ left) × OperatesBy k s c op left answer k' s' c' left'
+  abbrev pub OperatesBy : Desk → Seen R → PsCore → (op left : ℕ) → Answer → Desk → Seen R → PsCore → (left' : ℕ) → Option MemFault → Type 0
+  OperatesBy k s c op left (Ok x) k' s' c' left' fault = OperatesTold k s c op left (Ok x) k' s' c' left'
+  OperatesBy k s c op left (Err (Error e)) k' s' c' left' fault = OperatesTold k s c op left (Err (Error e)) k' s' c' left'
+  OperatesBy k s c op left (Err Spent) k' s' c' left' fault = OperatesTold k s c op left (Err Spent) k' s' c' left'
+  OperatesBy k s c op left (Err Link) k' s' c' left' fault = KeepsFault fault k s s'
+  OperatesBy k s c op left (Err NoMemory) k' s' c' left' fault = Unit {0}
+
+  -- it gives no steps back; the fault is the one that is kept then
+  abbrev pub OperatesOn : Desk → Seen R → PsCore → (op left : ℕ) → Answer → Desk → Seen R → PsCore → (left' : ℕ) → (fault : Option MemFault) → Type 0
+  OperatesOn k s c op left answer k' s' c' left' fault = (left' ≤ left) × OperatesBy k s c op left answer k' s' c' left' fault
 
 -- units that an operator needed were run, one after another, since so many steps were left
 pub data Prepares (d : Dial) (op : ℕ) (c : PsCore) (left : ℕ) : PsCore → ℕ → Type 0 where

@@ -58,12 +58,12 @@ fn run_operator<W: AbsMem + Drop>(
     memory: &mut Joined<W>,
     core: &mut PsCore,
     out: &mut Text,
-    broken: &mut Option<MemFault>,
+    fault: &mut Option<MemFault>,
     op: u16,
     steps: &mut Steps,
 ) -> Result<(), PsFault>
     requires { steps.old.taken ≤ steps.old.limit }
-    ensures operates { OperatesOn (desk_of view.now memory.old.below.below.order memory.old.below.cell out.old) (W.seen memory.old.below.below.below) core.old op (steps.old.limit - steps.old.taken) result (desk_of view.now memory.new.below.below.order memory.new.below.cell out.new) (W.seen memory.new.below.below.below) core.new (steps.new.limit - steps.new.taken) }
+    ensures operates { OperatesOn (desk_of view.now memory.old.below.below.order memory.old.below.cell out.old) (W.seen memory.old.below.below.below) core.old op (steps.old.limit - steps.old.taken) result (desk_of view.now memory.new.below.below.order memory.new.below.cell out.new) (W.seen memory.new.below.below.below) core.new (steps.new.limit - steps.new.taken) fault.new }
     ensures limit { steps.new.limit ≡ steps.old.limit }
     ensures within { steps.new.taken ≤ steps.new.limit }
     ensures spent { result ≡ Err OutOfSteps → steps.new.taken ≡ steps.new.limit }
@@ -75,13 +75,13 @@ fn run_operator<W: AbsMem + Drop>(
             Ok(()) => return Ok(()),
             Err(Halt::Raised(error)) => return Err(PsFault::Error(error)),
             Err(Halt::Wanting) => return Err(PsFault::NoMemory),
-            Err(Halt::Broken(fault)) => {
-                *broken = Some(fault);
+            Err(Halt::Broken(why)) => {
+                *fault = Some(why);
                 return Err(PsFault::Link);
             }
             Err(Halt::Needs { unit }) => match force_unit(core, unit, steps) {
                 Ok(()) => {}
-                Err(fault) => return Err(fault),
+                Err(stopped) => return Err(stopped),
             },
         }
     }
@@ -95,13 +95,13 @@ pub struct Operators<W> {
     pub view: View,
     pub out: Text,
     /// Why the memory gave no answer, where an operator answered `Link`.
-    pub broken: Option<MemFault>,
+    pub fault: Option<MemFault>,
 }
 
 impl<W: AbsMem + Drop> Dialect for Operators<W> {
     ghost use Rattle.ps_store.proofs.Settling.{settled_same, settled_on};
 
-    ghost operates = { λ o c op left answer o' c' left'. OperatesOn (desk_of o.view o.memory.below.below.order o.memory.below.cell o.out) (W.seen o.memory.below.below.below) c op left answer (desk_of o'.view o'.memory.below.below.order o'.memory.below.cell o'.out) (W.seen o'.memory.below.below.below) c' left' };
+    ghost operates = { λ o c op left answer o' c' left'. OperatesOn (desk_of o.view o.memory.below.below.order o.memory.below.cell o.out) (W.seen o.memory.below.below.below) c op left answer (desk_of o'.view o'.memory.below.below.order o'.memory.below.cell o'.out) (W.seen o'.memory.below.below.below) c' left' o'.fault };
 
     ghost remains = { Settled };
 
@@ -111,7 +111,7 @@ impl<W: AbsMem + Drop> Dialect for Operators<W> {
             &mut self.memory,
             core,
             &mut self.out,
-            &mut self.broken,
+            &mut self.fault,
             op,
             steps,
         )
