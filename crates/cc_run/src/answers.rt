@@ -112,7 +112,7 @@ fn append_table(
 ) -> Result<(), AllocError> {
     match built(alloc, aim, sources) {
         Err(fault) => append_cause(alloc, sources, &fault, out),
-        Ok(built) => append_escaped(alloc, out, &built.table),
+        Ok(built) => append_escaped(alloc, out, built.table.as_bytes()),
     }
 }
 

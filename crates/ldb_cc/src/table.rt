@@ -50,8 +50,8 @@ fn add_anchor(table: &mut Vec<u8>, number: u32, address: u32) -> Result<(), Allo
 }
 
 /// The table of an image whose static objects and strings have these addresses.
-pub fn table_of(alloc: Global, aim: Aim, anchors: &[(Text, u32)]) -> Result<Vec<u8>, AllocError>
-    ensures { IfOk result (λ table. table.items ≡ table_text aim (map address_of anchors.now)) }
+pub fn table_of(alloc: Global, aim: Aim, anchors: &[(Text, u32)]) -> Result<Text, AllocError>
+    ensures { IfOk result (λ table. table ≡ table_text aim (map address_of anchors.now)) }
 {
     let mut table = Vec::from_slice(alloc, b"<< /ldb 1 /target (")?;
     table.extend_from_slice(aim.name())?;
@@ -63,5 +63,5 @@ pub fn table_of(alloc: Global, aim: Aim, anchors: &[(Text, u32)]) -> Result<Vec<
         add_anchor(&mut table, number, anchors[i].1)?;
     }
     table.extend_from_slice(b">> /structs << >> /units [ ] >>")?;
-    Ok(table)
+    Ok(Text::from_vec(table))
 }
