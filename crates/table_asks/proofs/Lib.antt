@@ -1,2 +1,4 @@
 pub mod Units
 pub mod Looking
+pub mod Told
+pub mod Spots

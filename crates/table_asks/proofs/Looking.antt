@@ -25,7 +25,7 @@ use Rattle.ps_bare.specs.Deferred.{IsDeferred}
 use Rattle.ps_bare.proofs.Lacking.{Lacks, LacksOf}
 use Rattle.table_asks.specs.declared.fault.AskFault.{AskFault}
 use Rattle.table_asks.specs.declared.fault.AskFault.TheVariants.{Refused, Raised, Spent, NoMemory, Broken}
-use Rattle.table_asks.specs.Asking.{Asks, looks, seen_by, answered, RunsUnit, Settles, SettlesWalk, IsOwn}
+use Rattle.table_asks.specs.Asking.{Asked, Asks, looks, seen_by, answered, RunsUnit, Settles, SettlesWalk, IsOwn}
 
 -- units that a look-up met were run, one after another
 pub data Prepares {A : Type 0} (q : StoreState → Walked A) (t : TableUse) : TableUse → Type 0 where
@@ -56,7 +56,7 @@ module _ {A : Type 0} (q : StoreState → Walked A) where
   shape_lacks t missing (Err (Unforced u)) e l h = cc
   shape_lacks t missing (Ok x) e l h = cc
 
-module _ {R A : Type 0} (q : Bytes → StoreState → Walked A) (q_lacks : (b : Bytes) (s : StoreState) → Lacks s (q b s)) (s : Seen R) (t : TableUse) where
+module _ {R A : Type 0} (q : Bytes → StoreState → Walked A) (s : Seen R) (t : TableUse) where
   -- units were run, and the memory is as it was
   pub record SoFar (s₁ : Seen R) (t₁ : TableUse) : Type 0 where
     pub same : Same s s₁
@@ -65,7 +65,8 @@ module _ {R A : Type 0} (q : Bytes → StoreState → Walked A) (q_lacks : (b : 
   pub so_far_begun : SoFar s t
   so_far_begun = record { same = record { faults = refl; keeps = λ (b : Bytes) (x : R) h. h }; run = λ (b : Bytes) (x : R) h. begun }
 
-  module _ (s₁ : Seen R) (t₁ : TableUse) (far : SoFar s₁ t₁) (s₂ : Seen R) where
+module _ {R A : Type 0} (q : Bytes → StoreState → Walked A) (q_lacks : (b : Bytes) (s : StoreState) → Lacks s (q b s)) (s : Seen R) (t : TableUse) where
+  module _ (s₁ : Seen R) (t₁ : TableUse) (far : SoFar q s t s₁ t₁) (s₂ : Seen R) where
     -- what a look comes to
     comes : (r : Result A (Trouble Refusal)) (t₂ : TableUse) → Same s₁ s₂ → ((b : Bytes) (x : R) → s₁.tells b x → Looks (q b) t₁ r t₂)
         → (s₂.faults ≡ s.faults) × ((b : Bytes) (x : R) → s.tells b x → (b' : Bytes) × s₂.tells b' x × looks q b t r t₂ b')
@@ -78,7 +79,7 @@ module _ {R A : Type 0} (q : Bytes → StoreState → Walked A) (q_lacks : (b : 
     look_told y h = comes (Ok y) t₁ h.0 (λ b x z. told (h.1.holds b x z))
 
     -- a unit was run
-    pub look_again : (f : WalkFault) (t₂ : TableUse) → Walks (λ b. q b t₁.store) s₁ (Err f) s₂ → SettlesWalk f t₁ (Ok tt) t₂ → SoFar s₂ t₂
+    pub look_again : (f : WalkFault) (t₂ : TableUse) → Walks (λ b. q b t₁.store) s₁ (Err f) s₂ → SettlesWalk f t₁ (Ok tt) t₂ → SoFar q s t s₂ t₂
     look_again (walk.Memory (Outside p)) t₂ h k = cc
     look_again (walk.Memory LinkFault) t₂ h k = cc
     look_again (walk.Memory (BadReply frame)) t₂ h k = cc
@@ -162,3 +163,14 @@ module _ {R A : Type 0} (q : Bytes → StoreState → Walked A) (q_lacks : (b : 
       where
         by : (e : AskFault) (t₂ : TableUse) → Err e ≡ Err (Broken (BadReply frame)) → Asks (looks q) s t (Err e) s₂ t₂
         by _ t₂ refl = record { faults = h.faults ∙ far.same.faults; never = λ (b : Bytes) (x : R) y. h.never b x (far.same.keeps b x y) }
+
+-- a result as it is seen
+pub as_seen : {R A B : Type 0} (f : StoreState → A → B) (m : Asked B) (s : Seen R) (t : TableUse) (r : Result A AskFault) (s' : Seen R) (t' : TableUse) → Asks m s t (in_ok (f t'.store) r) s' t' → Asks (seen_by f m) s t r s' t'
+as_seen f m s t (Ok x) s' t' h = h
+as_seen f m s t (Err (Refused c)) s' t' h = h
+as_seen f m s t (Err (Raised e)) s' t' h = h
+as_seen f m s t (Err Spent) s' t' h = h
+as_seen f m s t (Err NoMemory) s' t' h = h
+as_seen f m s t (Err (Broken LinkFault)) s' t' h = h
+as_seen f m s t (Err (Broken (BadReply frame))) s' t' h = h
+as_seen f m s t (Err (Broken (Outside p))) s' t' h = h

@@ -23,6 +23,7 @@ pub struct Inquiry {
 
 /// Runs the unit that a look-up met, after which it is asked again; or tells the error of what the table lacks. The steps that are
 /// taken grow where a unit was run.
+#[tactic(auto, using(crate::proofs::Units::unit_run))]
 pub fn settle(inquiry: &mut Inquiry, lack: Lack) -> Result<(), AskFault>
     requires within { inquiry.old.steps.taken ≤ inquiry.old.steps.limit }
     ensures settles { Settles lack (using inquiry.old) result (using inquiry.new) }

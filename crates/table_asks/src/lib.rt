@@ -4,9 +4,11 @@
 mod fault;
 mod frames;
 mod inquiry;
+mod points;
 mod row;
 
 pub use fault::{AskFault, Cause};
 pub use frames::frame_told;
 pub use inquiry::{Inquiry, settle, settle_walk};
+pub use points::line_told;
 pub use row::{PointPlace, told_frame};

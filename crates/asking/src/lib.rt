@@ -1,0 +1,9 @@
+//! The commands of a session that don't resume, on one side: what they ask of its table and its target, and what they say.
+#![tactic(auto)]
+
+mod breaks;
+mod frames;
+mod lines;
+
+pub use breaks::{breaking, clearing};
+pub use frames::{choosing, listing};
