@@ -3,7 +3,9 @@
 
 mod breaks;
 mod frames;
+mod kept;
 mod lines;
 
 pub use breaks::{breaking, clearing};
 pub use frames::{choosing, listing};
+pub use kept::Breakpoint;

@@ -2,3 +2,4 @@ pub mod Units
 pub mod Looking
 pub mod Told
 pub mod Spots
+pub mod Then
