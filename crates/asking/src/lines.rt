@@ -54,7 +54,7 @@ pub fn append_frame(
 
 /// The line of some frames' number, `frames N`, and their lines behind it.
 pub fn frames_text(alloc: Global, count: u32, lines: &Text) -> Result<Text, AllocError>
-    ensures { IfOk result (λ t. t ≡ codes "frames " ++ decimal count ++ 10 ∷ lines.now) }
+    ensures { IfOk result (λ t. t ≡ (codes "frames " ++ decimal count) ++ (10 ∷ lines.now)) }
 {
     let mut out = Text::new(alloc);
     out.append(b"frames ")?;

@@ -72,7 +72,7 @@ module _ {R A : Type 0} (q : Bytes → StoreState → Walked A) (q_lacks : (b : 
         → (s₂.faults ≡ s.faults) × ((b : Bytes) (x : R) → s.tells b x → (b' : Bytes) × s₂.tells b' x × looks q b t r t₂ b')
     comes r t₂ same h = (
       same.faults ∙ far.same.faults,
-      λ (b : Bytes) (x : R) y. let z = far.same.keeps b x y in (b, same.keeps b x z, (prepared (q b) t t₁ (far.run b x y) r t₂ (h b x z), refl)),
+      λ (b : Bytes) (x : R) y. let z = far.same.keeps b x y in (b, same.keeps b x z, record { looks = prepared (q b) t t₁ (far.run b x y) r t₂ (h b x z); stays = refl }),
     )
 
     pub look_told : (y : A) → Walks (λ b. q b t₁.store) s₁ (Ok y) s₂ → Asks (looks q) s t (Ok y) s₂ t₁
@@ -137,7 +137,7 @@ module _ {R A : Type 0} (q : Bytes → StoreState → Walked A) (q_lacks : (b : 
           (λ b x z. let g = k (is_deferred b x z) in subst (λ (v : TableUse). Looks {R = Refusal} (q b) t₁ (Err trouble.Spent) v) (sym g.leaves) (spent_by b g.answer t₂.left g.store (h.1.holds b x z) g.forces g.result))
       unit_fails NoMemory t₂ k own = (
         h.0.faults ∙ far.same.faults,
-        λ (b : Bytes) (x : R) y. let z = far.same.keeps b x y in (t₁, b, h.0.keeps b x z, (prepared (q b) t t₁ (far.run b x y) (Err Wanting) t₁ wanting, refl), k),
+        λ (b : Bytes) (x : R) y. let z = far.same.keeps b x y in (t₁, b, h.0.keeps b x z, record { looks = prepared (q b) t t₁ (far.run b x y) (Err Wanting) t₁ wanting; stays = refl }, k),
       )
 
     -- the look-up has no result

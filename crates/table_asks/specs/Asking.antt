@@ -47,8 +47,12 @@ abbrev pub ◌>>=◌ : {A B : Type 0} → Asked A → (A → Asked B) → Asked 
 (m >>= f) b t r t' b' = (x : _) × (u : TableUse) × (c : Bytes) × m b t x u c × onward f x c u r t' b'
 
 -- a look-up of the table over the bytes of the target, which changes none of them
+pub record LooksOver {A : Type 0} (q : Bytes → StoreState → Walked A) (b : Bytes) (t : TableUse) (r : Result A (Trouble Refusal)) (t' : TableUse) (b' : Bytes) : Type 0 where
+  pub looks : Looks (q b) t r t'
+  pub stays : b' ≡ b
+
 abbrev pub looks : {A : Type 0} → (Bytes → StoreState → Walked A) → Asked A
-looks q b t r t' b' = Looks (q b) t r t' × (b' ≡ b)
+looks q b t r t' b' = LooksOver q b t r t' b'
 
 -- a part whose result is seen in a way, by the store that it leaves
 abbrev pub seen_by : {A B : Type 0} → (StoreState → A → B) → Asked B → Asked A
