@@ -3,7 +3,7 @@
 ghost use Rattle.std.specs.Prelude.{◌≡◌, ◌≤◌, option_map};
 ghost use Rattle.frame_bytes.specs.Bytes.{Bytes};
 ghost use Rattle.table_read.specs.Reads.{in_ok};
-ghost use Rattle.table_model.specs.Frames.{row_of_target, told_frame_at};
+ghost use Rattle.table_model.specs.Frames.{row_of_target, frame_at, told_frame_at};
 ghost use Rattle.abs_mem.specs.Walking.{Walks, LedWalk, told_of};
 ghost use Rattle.table_asks.specs.Asking.{using, Asks, looks, seen_by};
 ghost use Rattle.table_asks.specs.Rows.{row_in};
@@ -64,6 +64,31 @@ pub fn frame_told<M: AbsMem>(
     'again: loop {
         match walk_to(row, context, &inquiry.core.store, m, number) {
             Ok(place) => return Ok(place),
+            Err(fault) => match settle_walk(inquiry, fault) {
+                Ok(()) => {}
+                Err(fault) => return Err(fault),
+            },
+        }
+    }
+}
+
+/// The frame with a number; none where there is no such frame. The context block is at the address.
+pub fn frame_found<M: AbsMem>(
+    inquiry: &mut Inquiry,
+    target: u8,
+    context: u32,
+    m: &mut M,
+    number: u32,
+) -> Result<Option<Frame>, AskFault>
+    requires within { inquiry.old.steps.taken ≤ inquiry.old.steps.limit }
+    ensures asks { Asks (looks (λ b s. frame_at (row_of_target target) s b context number)) (M.seen m.old) (using inquiry.old) result (M.seen m.new) (using inquiry.new) }
+    ensures within { inquiry.new.steps.taken ≤ inquiry.new.steps.limit }
+    ensures limit { inquiry.new.steps.limit ≡ inquiry.old.steps.limit }
+{
+    let row = row_of_target(target);
+    'again: loop {
+        match frame_numbered(row, context, &inquiry.core.store, m, number) {
+            Ok(frame) => return Ok(frame),
             Err(fault) => match settle_walk(inquiry, fault) {
                 Ok(()) => {}
                 Err(fault) => return Err(fault),

@@ -4,11 +4,13 @@
 mod fault;
 mod frames;
 mod inquiry;
+mod named;
 mod points;
 mod row;
 
 pub use fault::{AskFault, Cause};
-pub use frames::frame_told;
+pub use frames::{frame_found, frame_told};
 pub use inquiry::{Inquiry, settle, settle_walk};
-pub use points::line_told;
+pub use named::function_point;
+pub use points::{line_told, spot_point};
 pub use row::{PointPlace, told_frame};
