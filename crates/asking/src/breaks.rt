@@ -1,10 +1,9 @@
-// `break` and `clear`, by a line.
+// `break` and `clear`.
 
-ghost use Rattle.std.specs.Prelude.{◌≡◌, ◌⊎◌, ◌≤◌};
+ghost use Rattle.std.specs.Prelude.{◌≡◌, ◌⊎◌, ◌≤◌, option_map};
 ghost use Rattle.frame_bytes.specs.Bytes.{Bytes};
 ghost use Rattle.machine_state.specs.declared.layout.TheConstants.{MIPS, SPARC};
-ghost use Rattle.c_session.specs.declared.command.Spot.TheVariants.{Line};
-ghost use Rattle.table_asks.specs.Asking.{using, Asks};
+ghost use Rattle.table_asks.specs.Asking.{using, Asks, looks, seen_by};
 ghost use Rattle.claims.specs.Side.{SideState};
 ghost use Rattle.claims.specs.Breaks as claimed;
 ghost use Rattle.asking.specs.Saying.{SaysOf};
@@ -15,9 +14,10 @@ use crate::kept::{Breakpoint, is_at, is_set, keep};
 use crate::lines::point_text;
 use abs_mem::{AbsMem, MemFault};
 use break_plant::{PlantFault, plant, unplant};
+use c_session::Spot;
 use ldb_words::Text;
 use ps_run::PsError;
-use table_asks::{AskFault, Cause, Inquiry, PointPlace, line_told};
+use table_asks::{AskFault, Cause, Inquiry, PointPlace, body_told, line_told};
 
 /// Why no breakpoint is planted, or none is taken away: the word there is another one, or is outside.
 fn planting_fault(fault: PlantFault) -> AskFault
@@ -73,23 +73,39 @@ fn set<M: AbsMem>(
     }
 }
 
-/// `break F:L.C`, `break F:L`: a breakpoint is set at the point. A breakpoint that is set already is answered again and changes
+/// The point that a spot says.
+fn spot_told<M: AbsMem>(
+    inquiry: &mut Inquiry,
+    m: &M,
+    spot: &Spot,
+) -> Result<Option<PointPlace>, AskFault>
+    requires within { inquiry.old.steps.taken ≤ inquiry.old.steps.limit }
+    ensures asks { Asks (seen_by (λ s. option_map (row_in s)) (looks (λ b s. claimed.point_of_spot spot.now s))) (M.seen m.now) (using inquiry.old) result (M.seen m.now) (using inquiry.new) }
+    ensures within { inquiry.new.steps.taken ≤ inquiry.new.steps.limit }
+{
+    match spot {
+        Spot::Line { file, line, column } => {
+            line_told(inquiry, m, file.as_bytes(), *line, *column)
+        }
+        Spot::Func { name } => body_told(inquiry, m, name.as_bytes()),
+    }
+}
+
+/// `break`: a breakpoint is set at the point. A breakpoint that is set already is answered again and changes
 /// nothing.
 pub fn breaking<M: AbsMem>(
     inquiry: &mut Inquiry,
     target: u8,
     kept: &mut Vec<Breakpoint>,
     m: &mut M,
-    file: &Text,
-    line: u32,
-    column: Option<u32>,
+    spot: &Spot,
 ) -> Result<Text, AskFault>
     requires within { inquiry.old.steps.taken ≤ inquiry.old.steps.limit }
     requires known { (target ≡ MIPS) ⊎ (target ≡ SPARC) }
-    ensures asks { (a : SideState) → a.machine.target ≡ target → Asks (SaysOf kept.old.items kept.new.items (λ a. claimed.breaking a (Line file.now line column)) a) (M.seen m.old) (using inquiry.old) result (M.seen m.new) (using inquiry.new) }
+    ensures asks { (a : SideState) → a.machine.target ≡ target → Asks (SaysOf kept.old.items kept.new.items (λ a. claimed.breaking a spot.now) a) (M.seen m.old) (using inquiry.old) result (M.seen m.new) (using inquiry.new) }
     ensures within { inquiry.new.steps.taken ≤ inquiry.new.steps.limit }
 {
-    match line_told(inquiry, m, file.as_bytes(), line, column) {
+    match spot_told(inquiry, m, spot) {
         Err(fault) => Err(fault),
         Ok(None) => Err(AskFault::Refused(Cause::NoPlace)),
         Ok(Some(place)) => set(inquiry, target, kept, m, &place),
@@ -124,22 +140,20 @@ fn unset<M: AbsMem>(
     }
 }
 
-/// `clear F:L.C`, `clear F:L`: the breakpoint at the point is taken away.
+/// `clear`: the breakpoint at the point is taken away.
 pub fn clearing<M: AbsMem>(
     inquiry: &mut Inquiry,
     target: u8,
     kept: &mut Vec<Breakpoint>,
     m: &mut M,
-    file: &Text,
-    line: u32,
-    column: Option<u32>,
+    spot: &Spot,
 ) -> Result<Text, AskFault>
     requires within { inquiry.old.steps.taken ≤ inquiry.old.steps.limit }
     requires known { (target ≡ MIPS) ⊎ (target ≡ SPARC) }
-    ensures asks { (a : SideState) → a.machine.target ≡ target → Asks (SaysOf kept.old.items kept.new.items (λ a. claimed.clearing a (Line file.now line column)) a) (M.seen m.old) (using inquiry.old) result (M.seen m.new) (using inquiry.new) }
+    ensures asks { (a : SideState) → a.machine.target ≡ target → Asks (SaysOf kept.old.items kept.new.items (λ a. claimed.clearing a spot.now) a) (M.seen m.old) (using inquiry.old) result (M.seen m.new) (using inquiry.new) }
     ensures within { inquiry.new.steps.taken ≤ inquiry.new.steps.limit }
 {
-    match line_told(inquiry, m, file.as_bytes(), line, column) {
+    match spot_told(inquiry, m, spot) {
         Err(fault) => Err(fault),
         Ok(None) => Err(AskFault::Refused(Cause::NoPlace)),
         Ok(Some(place)) => unset(inquiry, target, kept, m, &place),

@@ -12,5 +12,5 @@ pub use fault::{AskFault, Cause};
 pub use frames::{frame_found, frame_told};
 pub use inquiry::{Inquiry, settle, settle_walk};
 pub use named::function_point;
-pub use points::{line_told, spot_point};
+pub use points::{body_told, line_told, spot_point};
 pub use row::{PointPlace, told_frame};

@@ -5,13 +5,14 @@ ghost use Rattle.frame_bytes.specs.Bytes.{Bytes};
 ghost use Rattle.ps_store.specs.Store.{bytes_of};
 ghost use Rattle.table_read.specs.Reads.{in_ok};
 ghost use Rattle.table_model.specs.Reading.{first_in};
-ghost use Rattle.table_model.specs.Places.{is_column, on_line, in_function, in_unit, spot_point};
+ghost use Rattle.table_model.specs.Places.{is_column, on_line, in_function, in_unit, spot_point, function_point};
 ghost use Rattle.abs_mem.specs.Walking.{Walks};
 ghost use Rattle.table_asks.specs.Asking.{using, Asks, looks, seen_by};
 ghost use Rattle.table_asks.specs.Rows.{row_in};
 
 use crate::fault::AskFault;
 use crate::inquiry::{Inquiry, settle_walk};
+use crate::named::function_point;
 use crate::row::PointPlace;
 use abs_mem::{AbsMem, WalkFault, told};
 use ps_store::{DictId, PsObj, PsStore, StringId};
@@ -185,6 +186,43 @@ pub fn line_told<M: AbsMem>(
 {
     'again: loop {
         match walk_to_line(&inquiry.core.store, m, file, line, column) {
+            Ok(found) => return Ok(found),
+            Err(fault) => match settle_walk(inquiry, fault) {
+                Ok(()) => {}
+                Err(fault) => return Err(fault),
+            },
+        }
+    }
+}
+
+/// The point at which the body of a function begins, as a walk tells it, which reads no memory.
+fn walk_to_body<M: AbsMem>(
+    store: &PsStore,
+    _m: &M,
+    name: &[u8],
+) -> Result<Option<PointPlace>, WalkFault>
+    ensures { Walks (λ b. function_point store.now name.now) (M.seen _m.now) (in_ok (option_map (row_in store.now)) result) (M.seen _m.now) }
+{
+    match function_point(store, name) {
+        Ok(found) => Ok(found),
+        Err(lack) => Err(told(lack)),
+    }
+}
+
+/// The point at which the body of the function with a name begins: the external one, or else the static one where one unit alone
+/// has the name. All units' functions are run if they have to be.
+pub fn body_told<M: AbsMem>(
+    inquiry: &mut Inquiry,
+    m: &M,
+    name: &[u8],
+) -> Result<Option<PointPlace>, AskFault>
+    requires within { inquiry.old.steps.taken ≤ inquiry.old.steps.limit }
+    ensures asks { Asks (seen_by (λ s. option_map (row_in s)) (looks (λ b s. function_point s name.now))) (M.seen m.now) (using inquiry.old) result (M.seen m.now) (using inquiry.new) }
+    ensures within { inquiry.new.steps.taken ≤ inquiry.new.steps.limit }
+    ensures limit { inquiry.new.steps.limit ≡ inquiry.old.steps.limit }
+{
+    'again: loop {
+        match walk_to_body(&inquiry.core.store, m, name) {
             Ok(found) => return Ok(found),
             Err(fault) => match settle_walk(inquiry, fault) {
                 Ok(()) => {}
