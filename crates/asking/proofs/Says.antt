@@ -150,39 +150,50 @@ module _ (a : SideState) (target number : ℕ) (is : a.machine.target ≡ target
     choosing_says p text h q = (
       h.0,
       λ (b : Bytes) (x : R) y.
-          let z = h.1 b x y in
-          (z.0, z.1, λ (i : b ≡ memory_of a). (
-            Ok (line_of p),
-            done (choosing a number) t t' (line_of p) (Ok (Some p), t', frame_seen b t (Ok (Some p)) t' i z.2.looks, (Ok p, t', (refl, refl), (refl, refl))),
-            ap (λ (w : List ℕ). Ok w) q,
-            z.2.stays ∙ i,
-          )),
+          let z = h.1 b x y in (
+            z.0,
+            z.1,
+            λ (i : b ≡ memory_of a). (
+              Ok (line_of p),
+              done (choosing a number) t t' (line_of p) (Ok (Some p), t', frame_seen b t (Ok (Some p)) t' i z.2.looks, (Ok p, t', (refl, refl), (refl, refl))),
+              ap (λ (w : List ℕ). Ok w) q,
+              z.2.stays ∙ i,
+            ),
+          ),
     )
 
     pub choosing_runs_out : (p : PointRow) → Comes (looks asked_frame) s t (Ok (Some p)) s' t' → Asks (Says choosing_it a) s t (Err NoMemory) s' t'
     choosing_runs_out p h = (
       h.0,
       λ (b : Bytes) (x : R) y.
-          let z = h.1 b x y in
-          (t', z.0, z.1, λ (i : b ≡ memory_of a). (
-            Err Wanting,
-            ran_out (choosing a number) t t' (line_of p) (Ok (Some p), t', frame_seen b t (Ok (Some p)) t' i z.2.looks, (Ok p, t', (refl, refl), (refl, refl))),
+          let z = h.1 b x y in (
+            t',
+            z.0,
+            z.1,
+            λ (i : b ≡ memory_of a). (
+              Err Wanting,
+              ran_out (choosing a number) t t' (line_of p) (Ok (Some p), t', frame_seen b t (Ok (Some p)) t' i z.2.looks, (Ok p, t', (refl, refl), (refl, refl))),
+              refl,
+              z.2.stays ∙ i,
+            ),
             refl,
-            z.2.stays ∙ i,
-          ), refl),
+          ),
     )
 
     pub choosing_refuses : Comes (looks asked_frame) s t (Ok None) s' t' → Asks (Says choosing_it a) s t (Err (Refused cause.NoFrame)) s' t'
     choosing_refuses h = (
       h.0,
       λ (b : Bytes) (x : R) y.
-          let z = h.1 b x y in
-          (z.0, z.1, λ (i : b ≡ memory_of a). (
-            Err (trouble.Refused NoFrame),
-            failed (choosing a number) t t' (trouble.Refused NoFrame) (Ok None, t', frame_seen b t (Ok None) t' i z.2.looks, (Err (trouble.Refused NoFrame), t', (refl, refl), (refl, refl))),
-            refl,
-            z.2.stays ∙ i,
-          )),
+          let z = h.1 b x y in (
+            z.0,
+            z.1,
+            λ (i : b ≡ memory_of a). (
+              Err (trouble.Refused NoFrame),
+              failed (choosing a number) t t' (trouble.Refused NoFrame) (Ok None, t', frame_seen b t (Ok None) t' i z.2.looks, (Err (trouble.Refused NoFrame), t', (refl, refl), (refl, refl))),
+              refl,
+              z.2.stays ∙ i,
+            ),
+          ),
     )
 
     pub choosing_ends : (e : AskFault) → Asks (looks asked_frame) s t (Err e) s' t' → Asks (Says choosing_it a) s t (Err e) s' t'

@@ -17,9 +17,7 @@ use crate::row::PointPlace;
 use abs_mem::{AbsMem, WalkFault, told};
 use ps_store::{DictId, PsObj, PsStore, StringId};
 use table_model::Lack;
-use table_read::{
-    dict_in, functions_of, number_at, point_address, points_of, string_at, units_of,
-};
+use table_read::{dict_in, functions_of, number_at, point_address, points_of, string_at, units_of};
 
 /// Whether a column is meant: any is where none is given.
 fn is_column(wanted: Option<u32>, column: u32) -> bool
