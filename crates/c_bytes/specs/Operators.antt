@@ -15,7 +15,7 @@ use Rattle.ps_step.specs.declared.fault.PsError.{PsError}
 use Rattle.ps_step.specs.Arithmetic.{quotient}
 use Rattle.dialect_model.specs.Objects.{offsets_in_one}
 use Rattle.dialect_model.specs.TableUse.{Kind, gives, fails, refuses, ◌>>=◌}
-use Rattle.c_bytes.specs.Spots.{Reason, IllTyped, Means, Scene, live, or_pointer, moved}
+use Rattle.c_bytes.specs.Lvalues.{Reason, IllTyped, Means, Scene, live, or_pointer, moved}
 
 abbrev pub defined : Result ℕ Undef → Means ℕ
 defined (Ok n) = gives n

@@ -1,5 +1,5 @@
 -- The text of a value over the bytes of a target.
-use Rattle.std.specs.Prelude.{ℕ, zero, suc, ◌-◌, length, min, take, map, ◌==◌, Bool, true, false, List, [], ◌∷◌, ◌++◌, codes, Option, Some, None, Result, Ok, Err}
+use Rattle.std.specs.Prelude.{cond, ℕ, zero, suc, ◌-◌, length, min, take, map, ◌==◌, Bool, true, false, List, [], ◌∷◌, ◌++◌, codes, Option, Some, None, Result, Ok, Err}
 use Rattle.ldb_words.specs.declared.kinds.Kind.{Kind}
 use Rattle.ldb_words.specs.declared.kinds.Kind.TheVariants.{Byte, Word, Address}
 use Rattle.ldb_words.specs.Word.{sum_of}
@@ -13,7 +13,6 @@ use Rattle.c_tree.specs.Layout.{members_of}
 use Rattle.c_operators.specs.Bits.{low_byte}
 use Rattle.c_show.specs.declared.held.Held.TheVariants as held
 use Rattle.c_show.specs.Printed.{Showing, Told, Free, put_within, shown}
-use Rattle.c_evaluation.specs.Evaluation.{pick}
 use Rattle.ps_store.specs.declared.object.PsObj.{PsObj}
 use Rattle.ps_store.specs.Store.{bytes_of}
 use Rattle.ps_step.specs.declared.fault.PsError.{PsError}
@@ -26,7 +25,7 @@ use Rattle.dialect_model.specs.Objects.{byte_run}
 use Rattle.dialect_model.specs.Printing.{hex_text, activation_text, MOST_READ}
 use Rattle.dialect_model.specs.TableUse.{Kind as Error, gives, fails, ◌>>=◌}
 use Rattle.dialect_model.specs.Near.{looking}
-use Rattle.c_bytes.specs.Spots.{Means, Scene, object_of, or_range, bytes_with}
+use Rattle.c_bytes.specs.Lvalues.{Means, Scene, object_of, or_range, bytes_with}
 use Rattle.c_bytes.specs.Evaluation.{values_of}
 
 -- ---- which leaves are pointers to `char`
@@ -78,7 +77,7 @@ module _ (sc : Scene) where
   -- the bytes of memory from an address on up to the first NUL, at most so many
   abbrev pub characters : (most : ℕ) → (at : ℕ) → Means (List ℕ)
   characters zero at = gives []
-  characters (suc n) at = or_range (fetched (bytes_with sc 0) Memory at Byte) >>= λ b. pick (b == 0) (gives []) (characters n (sum_of at 1) >>= λ bs. gives (b ∷ bs))
+  characters (suc n) at = or_range (fetched (bytes_with sc 0) Memory at Byte) >>= λ b. cond (b == 0) (gives []) (characters n (sum_of at 1) >>= λ bs. gives (b ∷ bs))
 
   -- so many Byte leaves from an address on are a string; where there is none, there is no string
   abbrev string_at : (at count : ℕ) → Means (Option (List ℕ))

@@ -36,7 +36,7 @@ use Rattle.c_judge.specs.Judgement.{Judged, value_type_of, object, variable, fol
 use Rattle.c_judge.specs.Forms.{first_of, forbidden_leaf, forbidden_prefix, forbidden_binary, forbidden, forbidden_beside, forbidden_as}
 use Rattle.c_judge.specs.Checks.{IsKnown}
 use Rattle.c_judge.specs.Elaboration.{HasHead, Elaborates, IsUnary, IsPrefixed, IsAssigned, IsOperation, IsJoined, IsParen, IsIndex, IsMember, IsChoice, IsCast, IsSizeOfType, IsConstant, IsLeaf, AreArguments, type_in}
-use Rattle.c_sound.specs.Kept.{KeepsRules}
+use Rattle.c_reading.specs.Kept.{KeepsRules}
 use Rattle.c_reading.proofs.Meanings.{one_some, one_known, no_some}
 use Rattle.c_reading.proofs.Constants.{IsVal, null_is, size_is, unary_val, cast_val, binary_val, or_val, and_val, choice_val}
 

@@ -2,4 +2,4 @@ pub mod Readings
 pub mod Meanings
 pub mod Constants
 pub mod Keeping
-pub mod Sessions
+pub mod Rules

@@ -35,7 +35,8 @@ use Rattle.c_operators.specs.Arithmetic.{operating_type, number_of, on_ints, on_
 use Rattle.c_source.specs.Blocks.{converted, cells_of, zero_cell}
 use Rattle.c_source.specs.Operators.{bits_in, by_targets, combined, changed, on_integers, pointer_integer, two_pointers}
 use Rattle.c_source.specs.Source.{struct_number, place_in, dot_offset, arrow_offset, no_value}
-use Rattle.c_source.specs.Meaning.{Meant, or_ill_typed, value_at, tested, truth_of, chosen_as, member_at, value_of, place_of, values_meant, assigned, scalar_assigned, struct_assigned}
+use Rattle.c_source.specs.Meaning.{Meant, or_ill_typed, value_of, place_of, values_meant, assigned, scalar_assigned, struct_assigned}
+use Rattle.c_source.proofs.Parts.{value_at, tested, truth_of, chosen_as, member_at}
 use Rattle.c_typing.specs.Plain.{Plain, Char, Int, Unsigned, Void, Pointer, Array, Struct, plain, value_type}
 use Rattle.c_defs.specs.Members.{member_number}
 use Rattle.c_judge.specs.Scope.{Scope, defs_of, pointed_number}
@@ -358,7 +359,7 @@ module _ (p : Program) (h : Here) where
 
   prefixed : (o : PrefixOp) (x y a c : Typed) → IsPrefixed o a x → IsPrefixed o c y → Heads x y → Same a c → Same x y
   prefixed (prefix.Step s) (Before' t v i a') (Before' u w j c') a c e f z q = record { ctype = z; value = refl; place = refl; assigns = refl }
-  prefixed prefix.Address (Address' t i a') (Address' u j c') a c e f z q = record { ctype = z; value = (alike_parts a' a c' c e f q).place; place = refl; assigns = refl }
+  prefixed prefix.Address (Address' t i a') (Address' u j c') a c e f z q = record { ctype = z; value = ap (λ m. m >>= λ v. Ok v) (alike_parts a' a c' c e f q).place; place = refl; assigns = refl }
   prefixed prefix.Dereference (Follow' t i a') (Follow' u j c') a c e f z q =
       let v = same_used (value_of p h a') (value_of p h c') (alike_parts a' a c' c e f q).value in
       record { ctype = z; value = same_placed t.ctype u.ctype _ _ z v; place = v; assigns = refl }

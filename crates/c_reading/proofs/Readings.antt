@@ -10,13 +10,12 @@ use Rattle.c_tree.specs.declared.rows.Program.{Program}
 use Rattle.c_judge.specs.Answers.{Known, Unknown, Broken}
 use Rattle.c_judge.specs.Judgement.{Verdict}
 use Rattle.c_judge.specs.Checks.{IsKnown, Breaks}
-use Rattle.c_session.specs.Commands.{Use, Refusal, BadLine, HasEnded, IsRunning, NoPlace, NoFrame, BadSyntax, NoScope, BadType, IsUndefined, Reading, Read, Unread}
 use Rattle.c_store.specs.Frames.{Here}
 use Rattle.c_tree.specs.Types.{type_of}
 use Rattle.c_typing.specs.Plain.{plain}
 use Rattle.c_reading.specs.Scope.{scope_of}
 use Rattle.c_reading.proofs.Meanings.{Same, same, heads_agree}
-use Rattle.c_reading.specs.Readings.{IsExpression, IsTypedAs, LacksName, BreaksRule, Reads, Agree}
+use Rattle.c_reading.specs.Readings.{Use, Unreadable, BadSyntax, NoScope, BadType, Reading, Read, Unread, IsExpression, IsTypedAs, LacksName, BreaksRule, Reads, Agree}
 
 same_tree : (text : List ℕ) (e f : Tree) → IsExpression text e → IsExpression text f → e ≡ f
 same_tree text e f a b =
@@ -55,7 +54,7 @@ module _ (p : Program) (u : Use) (q : ℕ) where
     no_tree : {A : Type 0} (P : Tree → Type 0) → ((e : Tree) → IsExpression text e → ⊥) → Is P → A
     no_tree P n (e, a, x) = absurd (n e a)
 
-    refused : (r r' : Refusal) → Reads p u q text (Unread r) → Reads p u q text (Unread r') → r ≡ r'
+    refused : (r r' : Unreadable) → Reads p u q text (Unread r) → Reads p u q text (Unread r') → r ≡ r'
     refused BadSyntax BadSyntax a b = refl
     refused BadSyntax NoScope a b = no_tree (LacksName p u q) a b
     refused BadSyntax BadType a b = no_tree (BreaksRule p u q) a b
@@ -65,42 +64,12 @@ module _ (p : Program) (u : Use) (q : ℕ) where
     refused BadType BadSyntax a b = no_tree (BreaksRule p u q) b a
     refused BadType NoScope a b = on_one (LacksName p u q) (BreaksRule p u q) (λ e. lacks_breaks e) b a
     refused BadType BadType a b = refl
-    refused BadLine r' a b = absurd a
-    refused HasEnded r' a b = absurd a
-    refused IsRunning r' a b = absurd a
-    refused NoPlace r' a b = absurd a
-    refused NoFrame r' a b = absurd a
-    refused (IsUndefined w) r' a b = absurd a
-    refused BadSyntax BadLine a b = absurd b
-    refused BadSyntax HasEnded a b = absurd b
-    refused BadSyntax IsRunning a b = absurd b
-    refused BadSyntax NoPlace a b = absurd b
-    refused BadSyntax NoFrame a b = absurd b
-    refused BadSyntax (IsUndefined w) a b = absurd b
-    refused NoScope BadLine a b = absurd b
-    refused NoScope HasEnded a b = absurd b
-    refused NoScope IsRunning a b = absurd b
-    refused NoScope NoPlace a b = absurd b
-    refused NoScope NoFrame a b = absurd b
-    refused NoScope (IsUndefined w) a b = absurd b
-    refused BadType BadLine a b = absurd b
-    refused BadType HasEnded a b = absurd b
-    refused BadType IsRunning a b = absurd b
-    refused BadType NoPlace a b = absurd b
-    refused BadType NoFrame a b = absurd b
-    refused BadType (IsUndefined w) a b = absurd b
 
     -- a text that is refused is no expression that keeps to the rules
-    unread : {A : Type 0} (r : Refusal) (x : Typed) → Reads p u q text (Unread r) → Is (λ e. IsTypedAs p u q e x) → A
+    unread : {A : Type 0} (r : Unreadable) (x : Typed) → Reads p u q text (Unread r) → Is (λ e. IsTypedAs p u q e x) → A
     unread BadSyntax x a b = no_tree (λ e. IsTypedAs p u q e x) a b
     unread NoScope x a b = on_one (λ e. IsTypedAs p u q e x) (LacksName p u q) (λ e. typed_lacks e x) b a
     unread BadType x a b = on_one (λ e. IsTypedAs p u q e x) (BreaksRule p u q) (λ e. typed_breaks e x) b a
-    unread BadLine x a b = absurd a
-    unread HasEnded x a b = absurd a
-    unread IsRunning x a b = absurd a
-    unread NoPlace x a b = absurd a
-    unread NoFrame x a b = absurd a
-    unread (IsUndefined w) x a b = absurd a
 
     read : (x y : Typed) → Is (λ e. IsTypedAs p u q e x) → Is (λ e. IsTypedAs p u q e y) → Agree p u q text (Read x) (Read y)
     read x y (e, a, t) (e', b, s) = (e, a, t, subst (λ f. IsTypedAs p u q f y) (sym (same_tree text e e' a b)) s)

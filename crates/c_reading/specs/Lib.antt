@@ -1,2 +1,4 @@
 pub mod Scope
+pub mod Kept
 pub mod Readings
+pub mod Rules

@@ -15,11 +15,20 @@ use Rattle.c_judge.specs.declared.check.Mode.{Mode}
 use Rattle.c_judge.specs.declared.check.Mode.TheVariants as mode
 use Rattle.c_judge.specs.declared.fault.ExprFault.TheVariants as fault
 use Rattle.c_judge.specs.Checks.{Checks}
-use Rattle.c_session.specs.declared.command.Command.{Command}
-use Rattle.c_session.specs.Commands.{Use, AsValue, AsAssignment, Sides, BadSyntax, NoScope, BadType, Reading, Read, Unread}
-use Rattle.c_session.specs.Allowed as session
-use Rattle.c_session.specs.Allowed.{Lines}
 use Rattle.c_reading.specs.Scope.{scope_of}
+
+-- what a text is read for: an expression's value, or a plain assignment
+pub data Use : Type 0 where
+  AsValue AsAssignment : Use
+
+-- why a text is refused, in the order in which it is asked
+pub data Unreadable : Type 0 where
+  BadSyntax NoScope BadType : Unreadable
+
+-- what reading a text gives: a refusal, or a typed expression over the program's symbols
+pub data Reading : Type 0 where
+  Unread : (why : Unreadable) → Reading
+  Read : (e : Typed) → Reading
 
 -- ---- identifiers (C90 6.1.2)
 
@@ -59,14 +68,7 @@ abbrev pub Reads : Program → Use → (point : ℕ) → List ℕ → Reading �
 Reads p u q text (Unread BadSyntax) = (e : Tree) → IsExpression text e → ⊥
 Reads p u q text (Unread NoScope) = (e : Tree) × IsExpression text e × LacksName p u q e
 Reads p u q text (Unread BadType) = (e : Tree) × IsExpression text e × BreaksRule p u q e
-Reads p u q text (Unread r) = ⊥
 Reads p u q text (Read x) = (e : Tree) × IsExpression text e × IsTypedAs p u q e x
-
--- ---- sessions
-
--- what a session over a program, an input and command lines may write
-abbrev pub MayWrite : Program → Sides → (input : List ℕ) → List (Option Command) → Lines → (output : List ℕ) → Type 0
-MayWrite p sides input commands transcript output = session.Allowed p is_identifier (Reads p) sides input commands transcript output
 
 -- readings that may be of one text: the same refusal, or the same expression
 abbrev pub Agree : Program → Use → (point : ℕ) → List ℕ → Reading → Reading → Type 0

@@ -1,22 +1,13 @@
 // What holds of the texts of a session.
-ghost use Rattle.std.specs.Prelude.{◌≡◌, ℕ, List, Option};
+ghost use Rattle.std.specs.Prelude.{◌≡◌, ℕ, List};
 ghost use Rattle.c_tree.specs.declared.typed.Typed.{Typed};
 ghost use Rattle.c_tree.specs.Types.{type_of};
 ghost use Rattle.c_tree.specs.declared.rows.Program.{Program};
 ghost use Rattle.c_store.specs.Frames.{Here};
 ghost use Rattle.c_source.specs.Meaning.{values_meant, assigned};
 ghost use Rattle.c_typing.specs.Plain.{plain};
-ghost use Rattle.c_store.specs.Assigned.{History};
-ghost use Rattle.c_typing.specs.Accepted.{IsAccepted};
-ghost use Rattle.c_session.specs.declared.command.Command.{Command};
-ghost use Rattle.c_session.specs.Commands.{Use, Reading, Read, Sides, answer, ReadsLine};
-ghost use Rattle.c_session.specs.Allowed.{Standing, at_first};
-ghost use Rattle.c_session.specs.Histories.{IsModeReached};
-ghost use Rattle.c_sound.specs.Sessions.{ReadsTyped, AreAnswered, HasAnswer};
-ghost use Rattle.c_sound.specs.Shapes.{IsFitting};
-ghost use Rattle.c_reading.specs.Readings.{is_identifier, Reads, Agree};
-
-use c_sound::{sessions_follow_fitting_runs, sessions_have_answers};
+ghost use Rattle.c_reading.specs.Readings.{Use, Reading, Read, Reads, Agree};
+ghost use Rattle.c_reading.specs.Rules.{ReadsTyped};
 
 /// A text is one thing at a stopping point: refused for one reason, or one expression.
 pub fn readings_agree()
@@ -34,12 +25,3 @@ pub fn readings_mean_the_same()
 pub fn readings_keep_rules()
     ensures { (p : Program) (u : Use) (point : ℕ) (text : List ℕ) (x : Reading) → Reads p u point text x → ReadsTyped p u point text x }
 {}
-
-/// A session over an accepted program has an answer to each command: no command comes to a value of the wrong shape. And it goes through a run of its program with assignments that give leaves values of their kind.
-pub fn sessions_are_answered()
-    ensures answers { (p : Program) (sides : Sides) (input : List ℕ) (cs : List (Option Command)) (st : Standing) (x : Reading) (c : Option Command) → IsAccepted p → AreAnswered p is_identifier sides (Reads p) (at_first p input) cs st → ReadsLine p is_identifier sides st.session (Reads p) c x → HasAnswer (answer p is_identifier sides st.session x c) }
-    ensures history { (p : Program) (sides : Sides) (input : List ℕ) (cs : List (Option Command)) (st : Standing) → IsAccepted p → AreAnswered p is_identifier sides (Reads p) (at_first p input) cs st → (h : History) × IsModeReached p input h st.session.mode × IsFitting h }
-{
-    sessions_have_answers();
-    sessions_follow_fitting_runs();
-}

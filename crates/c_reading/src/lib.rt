@@ -3,6 +3,4 @@
 
 mod laws;
 
-pub use laws::{
-    readings_agree, readings_keep_rules, readings_mean_the_same, sessions_are_answered,
-};
+pub use laws::{readings_agree, readings_keep_rules, readings_mean_the_same};

@@ -15,7 +15,8 @@ use Rattle.c_source.specs.Control.{State}
 use Rattle.c_source.specs.Source.{step}
 use Rattle.c_show.specs.Printed.{shown}
 use Rattle.c_show.specs.Shown.{showing}
-use Rattle.c_session.specs.Commands.{Mode, Stopped, OneSide, Positions, One, Use, AsValue, AsAssignment, Reading, chosen, point_of, Unread, BadSyntax, Resume, refusal_text, Answer, Refuses, Says, Shows, Sets, ShowsAny, EndsClaim, Resumes, Quits, Raw, Nothing, answer}
+use Rattle.c_reading.specs.Readings.{Use, AsValue, AsAssignment, Reading, Unread, BadSyntax}
+use Rattle.c_session.specs.Commands.{Mode, Stopped, OneSide, Positions, One, chosen, point_of, Resume, refusal_text, Answer, Refuses, Says, Shows, Sets, ShowsAny, EndsClaim, Resumes, Quits, Raw, answer, IllTyped}
 use Rattle.c_session.specs.Allowed.{Lines, Standing, event_text, event_output, after_event, at_first, stops_by, with_state}
 
 -- what a session computes with
@@ -42,16 +43,6 @@ abbrev read_from : List Text → ℕ → List ℕ → Reading
 read_from [] q text = Unread BadSyntax
 read_from (t ∷ ts) q text = if (t.point == q) && bytes_eq t.text text then t.reading else read_from ts q text
 
-abbrev is_letter : ℕ → Bool
-is_letter c = (nat_le 65 c && nat_le c 90) || (nat_le 97 c && nat_le c 122) || (c == 95)
-
-abbrev is_digit : ℕ → Bool
-is_digit c = nat_le 48 c && nat_le c 57
-
-abbrev pub is_word : List ℕ → Bool
-is_word [] = false
-is_word (c ∷ cs) = is_letter c && list_all (λ d. is_letter d || is_digit d) cs
-
 -- what some texts are read as
 pub record Reader : Type 0 where
   pub values : List Text
@@ -65,17 +56,14 @@ abbrev pub read : Reader → Use → ℕ → List ℕ → Reading
 read r AsValue q text = read_from r.values q text
 read r AsAssignment q text = read_from r.assignments q text
 
-abbrev pub ReadBy : Reader → Use → (point : ℕ) → List ℕ → Reading → Type 0
-ReadBy r u q text x = x ≡ read r u q text
-
 module _ (p : Program) (r : Reader) (session : Standing) where
   abbrev pub read_at : Use → List ℕ → Option ActivationRecord → Reading
   read_at u text None = Unread BadSyntax
-  read_at u text (Some a) = read r u (point_of p is_word OneSide session.session a) text
+  read_at u text (Some a) = read r u (point_of p OneSide session.session a) text
 
   abbrev pub read_in : Mode → Command → Reading
-  read_in (Stopped s) (command.Eval text) = read_at AsValue text (chosen p is_word OneSide session.session s)
-  read_in (Stopped s) (command.Assign text) = read_at AsAssignment text (chosen p is_word OneSide session.session s)
+  read_in (Stopped s) (command.Eval text) = read_at AsValue text (chosen p OneSide session.session s)
+  read_in (Stopped s) (command.Assign text) = read_at AsAssignment text (chosen p OneSide session.session s)
   read_in m c = Unread BadSyntax
 
   abbrev pub read_line : Option Command → Reading
@@ -102,7 +90,7 @@ module _ (p : Program) (r : Reader) (fuel : ℕ) where
   by_answer st (Raw n) = record { lines = codes "raw" ∷ []; next = st }
   by_answer st EndsClaim = record { lines = codes "the claim ends" ∷ []; next = st }
   by_answer st Quits = record { lines = []; next = st }
-  by_answer st Nothing = record { lines = codes "nothing" ∷ []; next = st }
+  by_answer st IllTyped = record { lines = codes "ill-typed" ∷ []; next = st }
 
   abbrev pub then_lines : Lines → Session → Session
   then_lines lines s = record s { lines = lines ++ s.lines }
@@ -119,7 +107,7 @@ module _ (p : Program) (r : Reader) (fuel : ℕ) where
   abbrev pub from : Standing → List (Option Command) → Session
   from st [] = record { lines = []; output = st.written }
   from st (c ∷ cs) =
-      let a = answer p is_word OneSide st.session (read_line p r st c) c in
+      let a = answer p OneSide st.session (read_line p r st c) c in
       let reply = by_answer st a in
       going_on (ends a) (record { lines = reply.lines; output = st.written }) (then_lines reply.lines (from reply.next cs))
 

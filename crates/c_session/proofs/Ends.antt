@@ -15,10 +15,11 @@ use Rattle.c_session.specs.declared.command.Command.TheVariants as command
 use Rattle.ldb_words.specs.declared.kinds.Undef.TheVariants.{Overflow}
 use Rattle.runs.specs.Runs.{Failed, Reason}
 use Rattle.c_source.specs.Begin.{begin}
-use Rattle.c_session.specs.Commands.{OneSide, Unread, BadSyntax}
+use Rattle.c_reading.specs.Readings.{Unread, BadSyntax}
+use Rattle.c_session.specs.Commands.{OneSide}
 use Rattle.c_session.specs.Allowed.{Lines, Allowed}
 use Rattle.std.proofs.Common.{inl, inr}
-use Rattle.c_session.proofs.Computed.{reader, is_word, ReadBy, computing}
+use Rattle.c_session.proofs.Computed.{computing}
 use Rattle.c_session.proofs.Trees.{somewhere, of_type, at, shape_of}
 
 module _ (b : Box (Unit {0}) Global) where
@@ -43,6 +44,6 @@ module _ (b : Box (Unit {0}) Global) where
   }
 
   -- where a run meets an overflow before its event, every reply and every output is allowed from there on
-  it_tells : (transcript : Lines) (output : List ℕ) → Allowed program is_word (ReadBy (reader [] [])) OneSide [] (Some command.Continue ∷ []) transcript output
+  it_tells : (transcript : Lines) (output : List ℕ) → Allowed program OneSide [] (Some command.Continue ∷ []) transcript output
   unfolding computing
   it_tells transcript output = inr (Unread BadSyntax, tt, inr (inl ((begin program [], _, Failed (Reason Overflow), refl, (100, refl), tt), (output, refl))))

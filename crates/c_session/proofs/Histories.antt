@@ -2,7 +2,8 @@
 use Rattle.std.proofs.Common.{◌≡◌, refl, sym, ap, ◌∙◌, subst, arith, ℕ, suc, zero, ◌+◌, ◌≤◌, List, [], ◌∷◌, ◌++◌, length, Bool, true, false, Option, Some, None, inl, inr}
 use Rattle.std.specs.List.{AllByRecursion}
 use Rattle.std.specs.Prelude.{Result, Ok, Err, slice_get, if◌then◌else◌, ◌==◌, codes, filter, not, ◌⊎◌}
-use Rattle.runs.specs.Runs.{Passes, Why, Reason, Stale, IllTyped, Event, Exited, Failed, Course, Going, Comes, until, Moment, Outcome, Reached, here, past, after_count, then_on, after}
+use Rattle.runs.specs.Runs as runs
+use Rattle.runs.specs.Runs.{Passes, Why, Reason, Stale, Event, Exited, Failed, Course, Going, Comes, until, Moment, Outcome, Reached, here, past, after_count, then_on, after}
 use Rattle.runs.specs.Runs as runs
 use Rattle.c_tree.specs.declared.types.CType.{CType}
 use Rattle.c_tree.specs.declared.rows.Program.{Program}
@@ -22,7 +23,8 @@ use Rattle.c_source.proofs.Assignments.{assigned_follows}
 use Rattle.c_session.specs.declared.command.Command.{Command}
 use Rattle.c_session.specs.declared.command.Command.TheVariants as command
 use Rattle.c_session.specs.Places.{point_at}
-use Rattle.c_session.specs.Commands.{Session, Mode, Fresh, Stopped, Running, Ended, Resume, Sides, OneSide, TwoSides, Positions, One, Both, FirstAlone, SecondAlone, Names, Reading, Unread, Read, NoPlace, Answer, Refuses, Says, Shows, Sets, ShowsAny, EndsClaim, Resumes, Quits, Raw, Nothing, answer, all_at, chosen, has, break_at, clear_at, frame_at, frames_of, point_of, print_object, print_referent, print_symbol, eval_gives, eval_read, assign_gives, assign_read, in_frame, in_stopped, in_fresh, in_running, in_ended, by_mode, BadSyntax}
+use Rattle.c_reading.specs.Readings.{is_identifier, Reading, Unread, Read, BadSyntax}
+use Rattle.c_session.specs.Commands.{Session, Mode, Fresh, Stopped, Running, Ended, Resume, Sides, OneSide, TwoSides, Positions, One, Both, FirstAlone, SecondAlone, NoPlace, BadText, Answer, Refuses, Says, Shows, Sets, ShowsAny, EndsClaim, Resumes, Quits, Raw, answer, all_at, chosen, has, break_at, clear_at, frame_at, frames_of, point_of, print_object, print_referent, print_symbol, eval_gives, eval_read, assign_gives, assign_read, in_frame, in_stopped, in_fresh, in_running, in_ended, by_mode, IllTyped}
 use Rattle.c_session.specs.Allowed.{Lines, Standing, stops_by, HasEvent, IsUnderway, AllMeet, Moves, one, both, second_comes, first_comes, first_goes, second_goes, ResumeReplies, AnswerReplies, MemoryReplies, after_event, with_state, at_first}
 use Rattle.c_session.specs.Histories.{GoesOn, IsReached, AreReached, IsModeReached}
 use Rattle.c_session.proofs.Onward.{extend, Quiet, on_the_way, comes_to_stop, alike}
@@ -204,81 +206,81 @@ module _ (p : Program) (input : List ℕ) (P : List Assignment → Type 0) (none
   either m true x y q k = q
   either m false x y q k = k
 
-  module _ (names : Names) (sides : Sides) (session : Session) where
-    breaks : (o : Option ℕ) → Leaves session.mode (break_at p names sides session o)
+  module _ (sides : Sides) (session : Session) where
+    breaks : (o : Option ℕ) → Leaves session.mode (break_at p sides session o)
     breaks None = tt
     breaks (Some q) = either_mode _ session _ session.mode refl refl
 
-    clears : (o : Option ℕ) → Leaves session.mode (clear_at p names sides session o)
+    clears : (o : Option ℕ) → Leaves session.mode (clear_at p sides session o)
     clears None = tt
     clears (Some q) = either session.mode (has session.breaks q) (Says ((codes "clear " ++ place_text p q) ∷ []) (record session { breaks = filter (λ r. not (r == q)) session.breaks })) (Refuses NoPlace) refl tt
 
-    frames : (n : ℕ) (o : Option ActivationRecord) → Leaves session.mode (frame_at p names sides session n o)
+    frames : (n : ℕ) (o : Option ActivationRecord) → Leaves session.mode (frame_at p sides session n o)
     frames n None = tt
     frames n (Some a) = refl
 
     module _ (m : Mode) where
-      object : (w : World) (t : CType) (o : Option ℕ) → Leaves m (print_object p names sides session w t o)
+      object : (w : World) (t : CType) (o : Option ℕ) → Leaves m (print_object p sides session w t o)
       object w t None = tt
       object w t (Some o) = tt
 
-      referent : (w : World) (a : ActivationRecord) (r : Referent) → Leaves m (print_referent p names sides session w a r)
+      referent : (w : World) (a : ActivationRecord) (r : Referent) → Leaves m (print_referent p sides session w a r)
       referent w a (refers.Object o) = tt
       referent w a (refers.Local x) = object w _ (bound x a.locals)
       referent w a (refers.Function f) = tt
       referent w a refers.Declared = tt
 
-      symbol : (w : World) (a : ActivationRecord) (o : Option SymbolRow) → Leaves m (print_symbol p names sides session w a o)
+      symbol : (w : World) (a : ActivationRecord) (o : Option SymbolRow) → Leaves m (print_symbol p sides session w a o)
       symbol w a None = tt
       symbol w a (Some row) = referent w a row.refers
 
-      values : (w : World) (t : CType) (v : Result (List Value) Why) → Leaves m (eval_gives p names sides session w t v)
+      values : (w : World) (t : CType) (v : Result (List Value) Why) → Leaves m (eval_gives p sides session w t v)
       values w t (Ok vs) = tt
       values w t (Err (Reason u)) = tt
       values w t (Err Stale) = tt
-      values w t (Err IllTyped) = tt
+      values w t (Err runs.IllTyped) = tt
 
-      evaluates : (w : World) (a : ActivationRecord) (x : Reading) → Leaves m (eval_read p names sides session w a x)
+      evaluates : (w : World) (a : ActivationRecord) (x : Reading) → Leaves m (eval_read p sides session w a x)
       evaluates w a (Unread u) = tt
       evaluates w a (Read e) = values w (type_of e) (values_meant p (record { world = w; activation = a }) e)
 
-      framed : (o : Option ActivationRecord) (go : ActivationRecord → Answer) → ((a : ActivationRecord) → Leaves m (go a)) → Leaves m (in_frame p names sides session o go)
+      framed : (o : Option ActivationRecord) (go : ActivationRecord → Answer) → ((a : ActivationRecord) → Leaves m (go a)) → Leaves m (in_frame p sides session o go)
       framed None go k = tt
       framed (Some a) go k = k a
 
-    given : (s : State) (v : Result Given Why) → ((g : Given) → v ≡ Ok g → (all : List Assignment) × (g.world ≡ all_assigned all s.here.world)) → Leaves (Stopped s) (assign_gives p names sides session s v)
+    given : (s : State) (v : Result Given Why) → ((g : Given) → v ≡ Ok g → (all : List Assignment) × (g.world ≡ all_assigned all s.here.world)) → Leaves (Stopped s) (assign_gives p sides session s v)
     given s (Ok g) k = let d = k g refl in (d.0, ap (λ w. record s { here = with_world s.here w }) d.1)
     given s (Err (Reason u)) k = tt
     given s (Err Stale) k = tt
-    given s (Err IllTyped) k = tt
+    given s (Err runs.IllTyped) k = tt
 
-    assignment : (s : State) (a : ActivationRecord) (x : Reading) → Leaves (Stopped s) (assign_read p names sides session s a x)
+    assignment : (s : State) (a : ActivationRecord) (x : Reading) → Leaves (Stopped s) (assign_read p sides session s a x)
     assignment s a (Unread u) = tt
     assignment s a (Read e) = given s (assigned p (record { world = s.here.world; activation = a }) e) (λ g k. assigned_follows p (record { world = s.here.world; activation = a }) e g k)
 
     at_mode : (m : Mode) (a : Answer) → session.mode ≡ m → Leaves session.mode a → Leaves m a
     at_mode m a e k = subst (λ z. Leaves z a) e k
 
-    stopped : (x : Reading) (s : State) (c : Command) → session.mode ≡ Stopped s → Leaves (Stopped s) (in_stopped p names sides session x s c)
-    stopped x s (command.Break spot) e = at_mode (Stopped s) (break_at p names sides session (point_at p spot)) e (breaks (point_at p spot))
-    stopped x s (command.Clear spot) e = at_mode (Stopped s) (clear_at p names sides session (point_at p spot)) e (clears (point_at p spot))
+    stopped : (x : Reading) (s : State) (c : Command) → session.mode ≡ Stopped s → Leaves (Stopped s) (in_stopped p sides session x s c)
+    stopped x s (command.Break spot) e = at_mode (Stopped s) (break_at p sides session (point_at p spot)) e (breaks (point_at p spot))
+    stopped x s (command.Clear spot) e = at_mode (Stopped s) (clear_at p sides session (point_at p spot)) e (clears (point_at p spot))
     stopped x s command.Continue e = (sides, refl)
     stopped x s command.Step e = (sides, refl)
     stopped x s (command.Turns n) e = e
     stopped x s command.Frames e = e
-    stopped x s (command.Frame n) e = at_mode (Stopped s) (frame_at p names sides session n (slice_get (frames_of p names sides session s) n)) e (frames n (slice_get (frames_of p names sides session s) n))
+    stopped x s (command.Frame n) e = at_mode (Stopped s) (frame_at p sides session n (slice_get (frames_of p sides session s) n)) e (frames n (slice_get (frames_of p sides session s) n))
     stopped x s (command.Print name) e =
-        framed (Stopped s) (chosen p names sides session s) _ (λ a. either (Stopped s) (names name) (print_symbol p names sides session s.here.world a (named p name (point_of p names sides session a))) (Refuses BadSyntax) (symbol (Stopped s) s.here.world a (named p name (point_of p names sides session a))) tt)
-    stopped x s (command.Eval text) e = framed (Stopped s) (chosen p names sides session s) _ (λ a. evaluates (Stopped s) s.here.world a x)
-    stopped x s (command.Assign text) e = framed (Stopped s) (chosen p names sides session s) _ (λ a. assignment s a x)
+        framed (Stopped s) (chosen p sides session s) _ (λ a. either (Stopped s) (is_identifier name) (print_symbol p sides session s.here.world a (named p name (point_of p sides session a))) (Refuses (BadText BadSyntax)) (symbol (Stopped s) s.here.world a (named p name (point_of p sides session a))) tt)
+    stopped x s (command.Eval text) e = framed (Stopped s) (chosen p sides session s) _ (λ a. evaluates (Stopped s) s.here.world a x)
+    stopped x s (command.Assign text) e = framed (Stopped s) (chosen p sides session s) _ (λ a. assignment s a x)
     stopped x s command.Quit e = tt
     stopped x s command.Regs e = tt
     stopped x s (command.Code text) e = tt
     stopped x s (command.Ps text) e = tt
 
-    fresh : (x : Reading) (s : State) (c : Command) → session.mode ≡ Fresh s → Leaves (Fresh s) (in_fresh p names sides session x s c)
-    fresh x s (command.Break spot) e = at_mode (Fresh s) (break_at p names sides session (point_at p spot)) e (breaks (point_at p spot))
-    fresh x s (command.Clear spot) e = at_mode (Fresh s) (clear_at p names sides session (point_at p spot)) e (clears (point_at p spot))
+    fresh : (x : Reading) (s : State) (c : Command) → session.mode ≡ Fresh s → Leaves (Fresh s) (in_fresh p sides session x s c)
+    fresh x s (command.Break spot) e = at_mode (Fresh s) (break_at p sides session (point_at p spot)) e (breaks (point_at p spot))
+    fresh x s (command.Clear spot) e = at_mode (Fresh s) (clear_at p sides session (point_at p spot)) e (clears (point_at p spot))
     fresh x s command.Continue e = (sides, refl)
     fresh x s command.Step e = (sides, refl)
     fresh x s (command.Turns n) e = e
@@ -292,24 +294,24 @@ module _ (p : Program) (input : List ℕ) (P : List Assignment → Type 0) (none
     fresh x s (command.Code text) e = tt
     fresh x s (command.Ps text) e = tt
 
-    running : (how : Resume) (ps : Positions) (c : Command) → session.mode ≡ Running how ps → Leaves (Running how ps) (in_running p names sides session how ps c)
+    running : (how : Resume) (ps : Positions) (c : Command) → session.mode ≡ Running how ps → Leaves (Running how ps) (in_running p sides session how ps c)
     running how ps command.Continue e = refl
     running how ps (command.Turns n) e = e
     running how ps command.Regs e = tt
     running how ps command.Quit e = tt
     running how ps _ e = tt
 
-    over : (c : Command) → Leaves Ended (in_ended p names sides session c)
+    over : (c : Command) → Leaves Ended (in_ended p sides session c)
     over command.Quit = tt
     over _ = tt
 
-    by : (x : Reading) (m : Mode) (c : Command) → session.mode ≡ m → Leaves m (by_mode p names sides session x m c)
+    by : (x : Reading) (m : Mode) (c : Command) → session.mode ≡ m → Leaves m (by_mode p sides session x m c)
     by x (Fresh s) c e = fresh x s c e
     by x (Stopped s) c e = stopped x s c e
     by x (Running how ps) c e = running how ps c e
     by x Ended c e = over c
 
-    pub leaves : (x : Reading) (c : Option Command) → Leaves session.mode (answer p names sides session x c)
+    pub leaves : (x : Reading) (c : Option Command) → Leaves session.mode (answer p sides session x c)
     leaves x None = tt
     leaves x (Some c) = by x session.mode c refl
 
@@ -344,20 +346,20 @@ module _ (p : Program) (input : List ℕ) (P : List Assignment → Type 0) (none
   replied st (Raw n) reply next f l v k = same_next st next k.1 f
   replied st EndsClaim reply next f l v k = absurd k
   replied st Quits reply next f l v k = absurd k
-  replied st Nothing reply next f l v k = absurd k
+  replied st IllTyped reply next f l v k = absurd k
 
   pub begins_followed : Follows (Fresh first)
   begins_followed = ([], on_run_first)
 
-  module _ (names : Names) (sides : Sides) (keeps : (m : Mode) (a : Answer) → Leaves m a → SetsBy P m a) where
+  module _ (sides : Sides) (keeps : (m : Mode) (a : Answer) → Leaves m a → SetsBy P m a) where
     next_follows : (st next : Standing) (reply : Lines) (c : Option Command) → Follows st.session.mode
-        → MemoryReplies st c reply next ⊎ ((x : Reading) × AnswerReplies p st (answer p names sides st.session x c) reply next) → Follows next.session.mode
+        → MemoryReplies st c reply next ⊎ ((x : Reading) × AnswerReplies p st (answer p sides st.session x c) reply next) → Follows next.session.mode
     next_follows st next reply c f (inl m) = same_next st next m.2 f
     next_follows st next reply c f (inr (x, k)) =
-        let l = leaves names sides st.session x c in
-        replied st (answer p names sides st.session x c) reply next f l (keeps st.session.mode (answer p names sides st.session x c) l) k
+        let l = leaves sides st.session x c in
+        replied st (answer p sides st.session x c) reply next f l (keeps st.session.mode (answer p sides st.session x c) l) k
 
-    pub goes_follows : (st last : Standing) (cs : List (Option Command)) → Follows st.session.mode → GoesOn p names sides st cs last → Follows last.session.mode
+    pub goes_follows : (st last : Standing) (cs : List (Option Command)) → Follows st.session.mode → GoesOn p sides st cs last → Follows last.session.mode
     goes_follows st last [] f e = same_next st last e f
     goes_follows st last (c ∷ cs) f (reply, next, k, rest) = goes_follows next last cs (next_follows st next reply c f k) rest
 
@@ -409,9 +411,9 @@ module _ (p : Program) (input : List ℕ) where
   any_kept m (Raw n) l = tt
   any_kept m EndsClaim l = tt
   any_kept m Quits l = tt
-  any_kept m Nothing l = tt
+  any_kept m IllTyped l = tt
 
-  pub sessions_follow : (names : Names) (sides : Sides) (cs : List (Option Command)) (st : Standing) → GoesOn p names sides (at_first p input) cs st → (h : History) × IsModeReached p input h st.session.mode
-  sessions_follow names sides cs st g =
-      let d = mode_reached p input Any tt any_join st.session.mode (goes_follows p input Any tt any_join names sides any_kept (at_first p input) st cs (begins_followed p input Any tt any_join) g) in
+  pub sessions_follow : (sides : Sides) (cs : List (Option Command)) (st : Standing) → GoesOn p sides (at_first p input) cs st → (h : History) × IsModeReached p input h st.session.mode
+  sessions_follow sides cs st g =
+      let d = mode_reached p input Any tt any_join st.session.mode (goes_follows p input Any tt any_join sides any_kept (at_first p input) st cs (begins_followed p input Any tt any_join) g) in
       (d.0, d.1)

@@ -10,6 +10,7 @@ pub mod StructSession
 pub mod ShadowedSession
 pub mod LoopSession
 pub mod TurnsSession
+pub mod ReadSession
 pub mod InputSession
 pub mod TwoFileSession
 pub mod StaleSession

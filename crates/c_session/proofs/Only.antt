@@ -11,7 +11,7 @@ use Rattle.c_source.specs.Begin.{begin}
 use Rattle.c_session.specs.Commands.{ByStep, OneSide, Positions, One}
 use Rattle.c_source.specs.Size.{need_of}
 use Rattle.c_session.specs.Allowed.{Lines, Allowed, AllowedFrom, stops_by, event_text, ResumeReplies, Moves, one, IsBroken, event_output, at_first, Standing}
-use Rattle.c_session.proofs.Computed.{reader, is_word, ReadBy, computing}
+use Rattle.c_session.proofs.Computed.{computing}
 use Rattle.c_session.proofs.AssignmentSession.{program}
 
 module _ (b : Box (Unit {0}) Global) where
@@ -71,7 +71,7 @@ module _ (b : Box (Unit {0}) Global) where
 
   by_resume : (t : Lines) (out : List ℕ) (reply rest : Lines) (next : Standing) → t ≡ reply ++ rest
       → ResumeReplies (program b) (at_first (program b) []) ByStep (One start) reply next
-      → AllowedFrom (program b) is_word (ReadBy (reader [] [])) OneSide next [] rest out → Replies t out
+      → AllowedFrom (program b) OneSide next [] rest out → Replies t out
   by_resume t out reply rest next e (inl (ev, is, m, r, x)) k =
       let same : Same State m.0 1 ev stop = is_stop m.1.0 m.0 ev m.1.1 in (
         inl (lines t reply rest _ e (r ∙ ap (λ z. z ∷ []) (ap (event_text (program b)) same.event ∙ text)) k.0),
@@ -85,7 +85,7 @@ module _ (b : Box (Unit {0}) Global) where
       let h' : run n ≡ Comes c e = subst (λ z. until State (step (program b)) (stops_by [] ByStep) n z ≡ Comes c e) (sym p) h in
       subst IsBroken (is_stop n c e h').event u
 
-  only : (t : Lines) (out : List ℕ) → Allowed (program b) is_word (ReadBy (reader [] [])) OneSide [] (Some command.Step ∷ []) t out → Replies t out
+  only : (t : Lines) (out : List ℕ) → Allowed (program b) OneSide [] (Some command.Step ∷ []) t out → Replies t out
   only t out (inl (reply, rest, next, e, m, k)) = (inr (lines t reply rest _ e m.1 k.0), k.1 ∙ ap (λ n. n.written) m.2)
   only t out (inr (y, _, inl (q, _, _))) = absurd q
   only t out (inr (y, _, inr (inl ((s, c, e, p, m, u), _)))) = absurd (undoomed s m.0 c e p m.1 u)

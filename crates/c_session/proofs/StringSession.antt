@@ -12,7 +12,7 @@ use Rattle.c_tree.specs.declared.rows.Program.{Program}
 use Rattle.c_tree.specs.declared.rows.Start.TheVariants as starts
 use Rattle.c_tree.specs.declared.rows.Referent.TheVariants as refers
 use Rattle.c_session.specs.declared.command.Command.TheVariants as command
-use Rattle.c_session.specs.Commands.{Read}
+use Rattle.c_reading.specs.Readings.{Read}
 use Rattle.c_session.proofs.Computed.{session, reader, computing}
 use Rattle.c_session.proofs.Trees.{somewhere, of_type, at, shape_of}
 

@@ -9,9 +9,10 @@ use Rattle.c_session.specs.declared.command.Command.TheVariants as command
 use Rattle.c_session.specs.declared.command.Spot.TheVariants as spot
 use Rattle.c_source.specs.Control.{State}
 use Rattle.c_source.specs.Source.{step}
-use Rattle.c_session.specs.Commands.{ByContinue, OneSide, TwoSides, One, SecondAlone, Unread, BadSyntax}
+use Rattle.c_reading.specs.Readings.{Unread, BadSyntax}
+use Rattle.c_session.specs.Commands.{ByContinue, OneSide, TwoSides, One, SecondAlone}
 use Rattle.c_session.specs.Allowed.{Lines, Allowed, IsLate, one, first_comes, stops_by}
-use Rattle.c_session.proofs.Computed.{reader, is_word, ReadBy, computing}
+use Rattle.c_session.proofs.Computed.{computing}
 use Rattle.c_session.proofs.AssignmentSession.{program}
 use Rattle.c_session.proofs.Only.{start, stop}
 
@@ -36,7 +37,7 @@ module _ (b : Box (Unit {0}) Global) where
       ∷ Some command.Step ∷ Some (command.Turns 10000000) ∷ Some command.Continue ∷ []
 
   -- with one side
-  one_side : Allowed (program b) is_word (ReadBy (reader [] [])) OneSide [] commands replies []
+  one_side : Allowed (program b) OneSide [] commands replies []
   unfolding computing
   one_side = inr (
     Unread BadSyntax,
@@ -118,7 +119,7 @@ module _ (b : Box (Unit {0}) Global) where
   )
 
   -- with two sides, of which the first has come to the stop at `turns` and the second has not
-  two_sides : Allowed (program b) is_word (ReadBy (reader [] [])) TwoSides [] commands replies []
+  two_sides : Allowed (program b) TwoSides [] commands replies []
   unfolding computing
   two_sides = inr (
     Unread BadSyntax,

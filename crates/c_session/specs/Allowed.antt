@@ -2,7 +2,7 @@
 use Rattle.std.specs.Prelude.{◌≡◌, ◌⊎◌, ℕ, ◌+◌, ◌*◌, ◌<◌, ◌≤◌, List, [], ◌∷◌, ◌++◌, length, Bool, true, Option, Some, None, codes}
 use Rattle.std.specs.Fmt.{signed_decimal}
 use Rattle.std.specs.List.{AllByRecursion}
-use Rattle.runs.specs.Runs.{Next, Goes, Passes, Exits, Undefined, Why, Reason, Stale, IllTyped, Event, Exited, Failed, RunsTo, OnTheWay, count_of}
+use Rattle.runs.specs.Runs.{Next, Goes, Passes, Exits, Undefined, Why, Reason, Stale, Event, Exited, Failed, RunsTo, OnTheWay, count_of}
 use Rattle.runs.specs.Runs as runs
 use Rattle.c_tree.specs.declared.rows.Program.{Program}
 use Rattle.c_session.specs.declared.command.Command.{Command}
@@ -13,7 +13,8 @@ use Rattle.c_source.specs.Begin.{begin}
 use Rattle.c_source.specs.Size.{need_of}
 use Rattle.c_source.specs.Names.{stop_text}
 use Rattle.c_show.specs.Shown.{Shows as TextShows, IsOneLine}
-use Rattle.c_session.specs.Commands.{Session, Mode, Fresh, Stopped, Running, Ended, Resume, ByStep, ByContinue, Sides, Positions, One, Both, FirstAlone, SecondAlone, Use, Reading, Names, Refusal, refusal_text, Answer, Refuses, Says, Shows, Sets, ShowsAny, EndsClaim, Resumes, Quits, Raw, Nothing, answer, ReadsLine, has}
+use Rattle.c_reading.specs.Readings.{Reading}
+use Rattle.c_session.specs.Commands.{Session, Mode, Fresh, Stopped, Running, Ended, Resume, ByStep, ByContinue, Sides, Positions, One, Both, FirstAlone, SecondAlone, Refusal, refusal_text, Answer, Refuses, Says, Shows, Sets, ShowsAny, EndsClaim, Resumes, Quits, Raw, IllTyped, answer, ReadsLine, has}
 
 abbrev pub Lines : Type 0
 Lines = List (List ℕ)
@@ -192,7 +193,7 @@ module _ (p : Program) where
   AnswerReplies st (Raw n) reply next = IsRawReply n reply × (next ≡ st)
   AnswerReplies st EndsClaim reply next = ⊥
   AnswerReplies st Quits reply next = ⊥
-  AnswerReplies st Nothing reply next = ⊥
+  AnswerReplies st IllTyped reply next = ⊥
 
   -- from here on nothing is claimed
   abbrev pub ClaimEnds : Standing → Answer → Type 0
@@ -206,14 +207,14 @@ module _ (p : Program) where
 
 -- ---- sessions
 
-module _ (p : Program) (names : Names) (Reads : Use → (point : ℕ) → List ℕ → Reading → Type 0) (sides : Sides) where
+module _ (p : Program) (sides : Sides) where
   -- The lines from a standing on, with their transcript and the whole output. A line is a command or malformed. Commands about machines and the debugger are taken out with their replies, as if they changed nothing; one that runs PostScript may store in the target, and of a list with such a one nothing is promised.
   abbrev pub AllowedFrom : Standing → List (Option Command) → Lines → List ℕ → Type 0
   AllowedFrom st [] transcript output = (transcript ≡ []) × (output ≡ st.written)
   AllowedFrom st (c ∷ cs) transcript output =
       ((reply rest : Lines) × (next : Standing) × (transcript ≡ reply ++ rest) × MemoryReplies st c reply next × AllowedFrom next cs rest output)
-      ⊎ ((x : Reading) × ReadsLine p names sides st.session Reads c x × (
-      let a : Answer = answer p names sides st.session x c in
+      ⊎ ((x : Reading) × ReadsLine p sides st.session c x × (
+      let a : Answer = answer p sides st.session x c in
       (IsQuit p a × (transcript ≡ []) × (output ≡ st.written))
       ⊎ (ClaimEnds p st a × IsPrefix st.written output)
       ⊎ ((reply rest : Lines) × (next : Standing) × (transcript ≡ reply ++ rest) × AnswerReplies p st a reply next × AllowedFrom next cs rest output)))
@@ -221,7 +222,7 @@ module _ (p : Program) (names : Names) (Reads : Use → (point : ℕ) → List �
 abbrev pub at_first : Program → (input : List ℕ) → Standing
 at_first p input = record { session = record { mode = Fresh (begin p input); breaks = []; frame = 0; limit = 10000000 }; written = [] }
 
-module _ (p : Program) (names : Names) (Reads : Use → (point : ℕ) → List ℕ → Reading → Type 0) (sides : Sides) where
+module _ (p : Program) (sides : Sides) where
   -- what a session over a program, an input and command lines may write
   abbrev pub Allowed : (input : List ℕ) → List (Option Command) → Lines → List ℕ → Type 0
-  Allowed input commands transcript output = AllowedFrom p names Reads sides (at_first p input) commands transcript output
+  Allowed input commands transcript output = AllowedFrom p sides (at_first p input) commands transcript output

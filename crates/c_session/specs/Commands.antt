@@ -1,12 +1,12 @@
 -- What each command answers, and what it changes.
-use Rattle.std.specs.Prelude.{ℕ, suc, List, [], ◌∷◌, ◌++◌, Bool, not, ◌==◌, Option, Some, None, Result, Ok, Err, slice_get, length, map, take, filter, codes, decimal, if◌then◌else◌}
+use Rattle.std.specs.Prelude.{ℕ, suc, List, [], ◌∷◌, ◌++◌, Bool, not, ◌==◌, Option, Some, None, Ok, Err, slice_get, length, map, take, filter, codes, decimal, if◌then◌else◌}
 use Rattle.std.specs.List.{list_any}
 use Rattle.ldb_words.specs.declared.kinds.Undef.{Undef}
 use Rattle.ldb_words.specs.declared.kinds.Undef.TheVariants.{Overflow, Division, Shift, Pointer}
-use Rattle.runs.specs.Runs.{Why, Reason, Stale, IllTyped}
+use Rattle.runs.specs.Runs.{Why, Reason, Stale}
+use Rattle.runs.specs.Runs as runs
 use Rattle.c_tree.specs.declared.types.CType.{CType}
 use Rattle.c_tree.specs.declared.types.CType.TheVariants.{Void, Pointer', Array'}
-use Rattle.c_tree.specs.declared.typed.Typed.{Typed}
 use Rattle.c_tree.specs.declared.rows.Program.{Program}
 use Rattle.c_tree.specs.declared.rows.ObjectRow.{ObjectRow}
 use Rattle.c_tree.specs.declared.rows.SymbolRow.{SymbolRow}
@@ -22,12 +22,14 @@ use Rattle.c_source.specs.Control.{State}
 use Rattle.c_source.specs.Begin.{records}
 use Rattle.c_source.specs.Names.{named, place_text, activation_text}
 use Rattle.c_session.specs.Places.{point_at}
-use Rattle.c_source.specs.Meaning.{Given, values_meant, assigned}
+use Rattle.c_source.specs.Meaning.{Given, Told, values_meant, assigned}
+use Rattle.c_reading.specs.Readings.{Use, AsValue, AsAssignment, Unreadable, BadSyntax, NoScope, BadType, Reading, Unread, Read, Reads, is_identifier}
 
 -- ---- refusals, in the order in which they are asked
 
 pub data Refusal : Type 0 where
-  BadLine HasEnded IsRunning NoPlace NoFrame BadSyntax NoScope BadType : Refusal
+  BadLine HasEnded IsRunning NoPlace NoFrame : Refusal
+  BadText : (why : Unreadable) → Refusal
   IsUndefined : (reason : Undef) → Refusal
 
 abbrev undef_text : Undef → List ℕ
@@ -36,15 +38,18 @@ undef_text Division = codes "undefined division"
 undef_text Shift = codes "undefined shift"
 undef_text Pointer = codes "undefined pointer"
 
+abbrev text_reason : Unreadable → List ℕ
+text_reason BadSyntax = codes "syntax"
+text_reason NoScope = codes "scope"
+text_reason BadType = codes "type"
+
 abbrev reason_text : Refusal → List ℕ
 reason_text BadLine = codes "line"
 reason_text HasEnded = codes "ended"
 reason_text IsRunning = codes "running"
 reason_text NoPlace = codes "place"
 reason_text NoFrame = codes "frame"
-reason_text BadSyntax = codes "syntax"
-reason_text NoScope = codes "scope"
-reason_text BadType = codes "type"
+reason_text (BadText why) = text_reason why
 reason_text (IsUndefined r) = undef_text r
 
 abbrev pub refusal_text : Refusal → List ℕ
@@ -80,15 +85,6 @@ pub record Session : Type 0 where
   pub frame : ℕ
   pub limit : ℕ
 
--- what reading a text gives: a refusal, or a typed expression over the program's symbols
-pub data Reading : Type 0 where
-  Unread : (r : Refusal) → Reading
-  Read : (e : Typed) → Reading
-
--- what a text is read for: an expression's value, or a plain assignment
-pub data Use : Type 0 where
-  AsValue AsAssignment : Use
-
 -- what a command answers
 pub data Answer : Type 0 where
   Refuses : (r : Refusal) → Answer
@@ -105,8 +101,8 @@ pub data Answer : Type 0 where
   Quits : Answer
   -- what a command about machines or the debugger tells, which no program knows: so many lines, or one that says why not; where the command prints what it likes, any lines
   Raw : (lines : Option ℕ) → Answer
-  -- this comes to no accepted program
-  Nothing : Answer
+  -- a value of the wrong shape, or none where one is wanted: it never comes in an accepted program
+  IllTyped : Answer
 
 abbrev pub has : List ℕ → ℕ → Bool
 has qs q = list_any (λ r. r == q) qs
@@ -123,11 +119,7 @@ abbrev line_count : Sides → ℕ
 line_count OneSide = 1
 line_count TwoSides = 2
 
--- whether a text is one identifier
-abbrev pub Names : Type 0
-Names = List ℕ → Bool
-
-module _ (p : Program) (names : Names) (sides : Sides) (session : Session) where
+module _ (p : Program) (sides : Sides) (session : Session) where
   -- ---- breakpoints
 
   abbrev pub break_at : Option ℕ → Answer
@@ -172,7 +164,7 @@ module _ (p : Program) (names : Names) (sides : Sides) (session : Session) where
   cells_of (Some o) = map (λ c. c.value) o.cells
 
   abbrev pub print_object : World → CType → Option ℕ → Answer
-  print_object w t None = Nothing
+  print_object w t None = IllTyped
   print_object w t (Some o) = Shows w t (cells_of (slice_get w.objects o))
 
   abbrev pub row_type : Option ObjectRow → CType
@@ -183,11 +175,11 @@ module _ (p : Program) (names : Names) (sides : Sides) (session : Session) where
   abbrev pub print_referent : World → ActivationRecord → Referent → Answer
   print_referent w a (refers.Object o) = print_object w (row_type (slice_get p.objects o)) (Some o)
   print_referent w a (refers.Local x) = print_object w (local_type p a.function x) (bound x a.locals)
-  print_referent w a (refers.Function f) = Refuses BadType
-  print_referent w a refers.Declared = Refuses BadType
+  print_referent w a (refers.Function f) = Refuses (BadText BadType)
+  print_referent w a refers.Declared = Refuses (BadText BadType)
 
   abbrev pub print_symbol : World → ActivationRecord → Option SymbolRow → Answer
-  print_symbol w a None = Refuses NoScope
+  print_symbol w a None = Refuses (BadText NoScope)
   print_symbol w a (Some s) = print_referent w a s.refers
 
   -- ---- `eval` and `assign`
@@ -197,25 +189,25 @@ module _ (p : Program) (names : Names) (sides : Sides) (session : Session) where
   shown_type (Array' b t n) = Pointer' b t
   shown_type t = t
 
-  abbrev pub eval_gives : World → CType → Result (List Value) Why → Answer
+  abbrev pub eval_gives : World → CType → Told (List Value) → Answer
   eval_gives w t (Ok vs) = Shows w (shown_type t) vs
   eval_gives w t (Err (Reason u)) = Refuses (IsUndefined u)
   eval_gives w t (Err Stale) = ShowsAny
-  eval_gives w t (Err IllTyped) = Nothing
+  eval_gives w t (Err runs.IllTyped) = IllTyped
 
   abbrev pub eval_read : World → ActivationRecord → Reading → Answer
-  eval_read w a (Unread u) = Refuses u
+  eval_read w a (Unread why) = Refuses (BadText why)
   eval_read w a (Read e) = eval_gives w (type_of e) (values_meant p (record { world = w; activation = a }) e)
 
   -- it changes the leaves that the assignment's steps change, and nothing else
-  abbrev pub assign_gives : State → Result Given Why → Answer
+  abbrev pub assign_gives : State → Told Given → Answer
   assign_gives s (Ok g) = Sets (record s { here = record s.here { world = g.world } })
   assign_gives s (Err (Reason u)) = Refuses (IsUndefined u)
   assign_gives s (Err Stale) = EndsClaim
-  assign_gives s (Err IllTyped) = Nothing
+  assign_gives s (Err runs.IllTyped) = IllTyped
 
   abbrev pub assign_read : State → ActivationRecord → Reading → Answer
-  assign_read s a (Unread u) = Refuses u
+  assign_read s a (Unread why) = Refuses (BadText why)
   assign_read s a (Read e) = assign_gives s (assigned p (record { world = s.here.world; activation = a }) e)
 
   abbrev pub in_frame : Option ActivationRecord → (ActivationRecord → Answer) → Answer
@@ -239,7 +231,7 @@ module _ (p : Program) (names : Names) (sides : Sides) (session : Session) where
   in_stopped x s (command.Turns n) = with_limit n
   in_stopped x s command.Frames = all_frames (frames_of s)
   in_stopped x s (command.Frame n) = frame_at n (slice_get (frames_of s) n)
-  in_stopped x s (command.Print name) = in_frame (chosen s) (λ a. if names name then print_symbol s.here.world a (named p name (point_of a)) else Refuses BadSyntax)
+  in_stopped x s (command.Print name) = in_frame (chosen s) (λ a. if is_identifier name then print_symbol s.here.world a (named p name (point_of a)) else Refuses (BadText BadSyntax))
   in_stopped x s (command.Eval text) = in_frame (chosen s) (λ a. eval_read s.here.world a x)
   in_stopped x s (command.Assign text) = in_frame (chosen s) (λ a. assign_read s a x)
   in_stopped x s command.Quit = Quits
@@ -282,22 +274,17 @@ module _ (p : Program) (names : Names) (sides : Sides) (session : Session) where
 
   -- ---- texts
 
-  -- what is read in the chosen frame, at the point that it passed last, by a reader of texts
-  module _ (Reads : Use → (point : ℕ) → List ℕ → Reading → Type 0) where
-    abbrev pub ReadsAt : Use → List ℕ → Option ActivationRecord → Reading → Type 0
-    ReadsAt u text None x = Unit {0}
-    ReadsAt u text (Some a) x = Reads u (point_of a) text x
+  -- what a text is in a frame, at the point that it passed last
+  abbrev pub ReadsAt : Use → List ℕ → Option ActivationRecord → Reading → Type 0
+  ReadsAt u text None x = Unit {0}
+  ReadsAt u text (Some a) x = Reads p u (point_of a) text x
 
-    abbrev pub ReadsIn : Mode → Command → Reading → Type 0
-    ReadsIn (Stopped s) (command.Eval text) x = ReadsAt AsValue text (chosen s) x
-    ReadsIn (Stopped s) (command.Assign text) x = ReadsAt AsAssignment text (chosen s) x
-    ReadsIn m c x = Unit {0}
+  abbrev pub ReadsIn : Mode → Command → Reading → Type 0
+  ReadsIn (Stopped s) (command.Eval text) x = ReadsAt AsValue text (chosen s) x
+  ReadsIn (Stopped s) (command.Assign text) x = ReadsAt AsAssignment text (chosen s) x
+  ReadsIn m c x = Unit {0}
 
-    -- the text of the line, if it has one that is read, may be read as this
-    abbrev pub ReadsLine : Option Command → Reading → Type 0
-    ReadsLine None x = Unit {0}
-    ReadsLine (Some c) x = ReadsIn session.mode c x
-
--- a reader that reads no text
-abbrev pub ReadsNothing : Use → (point : ℕ) → List ℕ → Reading → Type 0
-ReadsNothing u point text x = ⊥
+  -- the text of the line, if it has one that is read, is this in the chosen frame
+  abbrev pub ReadsLine : Option Command → Reading → Type 0
+  ReadsLine None x = Unit {0}
+  ReadsLine (Some c) x = ReadsIn session.mode c x

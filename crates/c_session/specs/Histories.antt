@@ -7,15 +7,16 @@ use Rattle.c_source.specs.Control.{State}
 use Rattle.c_source.specs.Source.{step}
 use Rattle.c_source.specs.Begin.{begin, acted}
 use Rattle.c_session.specs.declared.command.Command.{Command}
-use Rattle.c_session.specs.Commands.{Mode, Fresh, Stopped, Running, Ended, Positions, One, Both, FirstAlone, SecondAlone, Sides, Names, Reading, answer}
+use Rattle.c_session.specs.Commands.{Mode, Fresh, Stopped, Running, Ended, Positions, One, Both, FirstAlone, SecondAlone, Sides, answer}
+use Rattle.c_reading.specs.Readings.{Reading}
 use Rattle.c_session.specs.Allowed.{Lines, Standing, AnswerReplies, MemoryReplies}
 
-module _ (p : Program) (names : Names) (sides : Sides) where
+module _ (p : Program) (sides : Sides) where
   -- these lines were answered, whatever their texts were read as, and the session went on
   abbrev pub GoesOn : Standing → List (Option Command) → Standing → Type 0
   GoesOn st [] last = last ≡ st
   GoesOn st (c ∷ cs) last =
-      (reply : Lines) × (next : Standing) × (MemoryReplies st c reply next ⊎ ((x : Reading) × AnswerReplies p st (answer p names sides st.session x c) reply next)) × GoesOn next cs last
+      (reply : Lines) × (next : Standing) × (MemoryReplies st c reply next ⊎ ((x : Reading) × AnswerReplies p st (answer p sides st.session x c) reply next)) × GoesOn next cs last
 
 module _ (p : Program) (input : List ℕ) (h : History) where
   -- the run on this input, with these assignments at its stops, comes to this state and goes on there

@@ -15,11 +15,11 @@ use Rattle.c_source.specs.Source.{step}
 use Rattle.c_source.specs.Begin.{begin, acted}
 use Rattle.c_source.specs.Meaning.{Given, values_meant, assigned, IsPlain, IsAssignment}
 use Rattle.c_typing.specs.Plain.{plain}
-use Rattle.c_sound.specs.Kept.{KeepsRules}
+use Rattle.c_reading.specs.Kept.{KeepsRules}
 use Rattle.c_typing.specs.Declared.{has}
 use Rattle.c_typing.specs.Plain.{Plain}
 use Rattle.c_tree.specs.declared.rows.SymbolRow.{SymbolRow}
-use Rattle.c_sound.specs.Scopes.{scope_with}
+use Rattle.c_reading.specs.Scope.{scope_with}
 use Rattle.c_typing.specs.Statements.{locals_of as locals_in}
 use Rattle.c_typing.specs.Accepted.{AllFrom, numbers, IsFunction, IsAccepted}
 use Rattle.c_sound.specs.Shapes.{IsFitting, KeepsShapes, CourseKeepsShapes, HasMeaning, IsAssigned, AreLive}

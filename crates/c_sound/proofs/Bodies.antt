@@ -11,6 +11,7 @@ use Rattle.c_tree.specs.declared.typed.Stmt.TheVariants.{Value as Expression, Bl
 use Rattle.c_tree.specs.declared.rows.Program.{Program}
 use Rattle.c_tree.specs.declared.rows.Function.{Function}
 use Rattle.c_tree.specs.declared.rows.Local.{Local}
+use Rattle.c_tree.specs.declared.rows.SymbolRow.{SymbolRow}
 use Rattle.c_tree.specs.Rows.{stmts}
 use Rattle.c_source.specs.Blocks.{local_type, result_type}
 use Rattle.c_tree.specs.Rows.{declared_in, statements_in}
@@ -27,8 +28,11 @@ use Rattle.c_sound.proofs.Ready.{Ready}
 use Rattle.c_sound.proofs.Lists.{has_more}
 use Rattle.c_sound.proofs.Continues.{inits_ready, runs_ready, rows_shaped}
 use Rattle.c_sound.proofs.Rules.{ashape, addr_plain, integer_shape, pconv, converts_shape}
-use Rattle.c_sound.specs.Scopes.{as_declared}
 use Rattle.c_sound.proofs.Typed.{HasParameters, conv_there, sh, typed_keeps, evaluated}
+
+-- a type for each symbol: the one that its own file declares
+abbrev as_declared : SymbolRow → Plain
+as_declared row = plain row.ctype
 
 -- ---- lists of locals
 

@@ -19,7 +19,8 @@ use Rattle.c_store.specs.Assigned.{Assignment, stored_or, all_assigned}
 use Rattle.c_source.specs.Blocks.{cells_of, converted}
 use Rattle.c_source.specs.Operators.{is_zero, combined}
 use Rattle.c_source.specs.Source.{place_in, dot_offset, arrow_offset}
-use Rattle.c_source.specs.Meaning.{Given, Meant, or_ill_typed, value_at, tested, truth_of, chosen_as, indexed, member_at, value_of, place_of, assigned, scalar_assigned, struct_assigned, values_meant, IsPlain, IsAssignment}
+use Rattle.c_source.specs.Meaning.{Given, Meant, or_ill_typed, value_of, place_of, assigned, scalar_assigned, struct_assigned, values_meant, IsPlain, IsAssignment}
+use Rattle.c_source.proofs.Parts.{value_at, tested, truth_of, chosen_as, indexed, member_at}
 use Rattle.c_sound.specs.Shapes.{is_place, Fits, AreFitting, IsAssigned}
 use Rattle.c_sound.proofs.World.{Gives, gives_then, either_gives, used_gives, load_gives, store_gives, moved_gives, load_struct_gives, FitEach, WorldFits}
 use Rattle.c_sound.proofs.Operators.{addr, conv, conv_own, converted_gives, takes, gives, takes_one, any_gives, combined_gives, changed_gives}
@@ -117,7 +118,7 @@ module _ (p : Program) (h : Here) (w : WorldFits h.world) where
     value_shaped (And' t x a y b) i q = to _ false (addr t.ctype) q.2 (test_shape (value_of p h a) _ (Ok (Number 0)) (shape a) false (value_shaped a i.0 q.0) (truth_shape (value_of p h b) (shape b) (value_shaped b i.1 q.1)) refl)
     value_shaped (Binary' t x a op y b) i q = both_shape op (type_of a) (type_of b) (value_of p h a) (value_of p h b) (addr t.ctype) (value_shaped a i.0 q.0) (value_shaped b i.1 q.1) q.2 q.3
     value_shaped (Cast' t x a) i q = gives_then (V (shape a)) (V (addr t.ctype)) (value_of p h a) _ (value_shaped a i q.0) λ v e. converted_gives t.ctype v (ap (conv t.ctype) e ∙ q.1)
-    value_shaped (Address' t x a) i q = to _ true (addr t.ctype) q.1 (place_shaped a i q.0)
+    value_shaped (Address' t x a) i q = to _ true (addr t.ctype) q.1 (gives_then (V true) (V true) (place_of p h a) _ (place_shaped a i q.0) λ v e. e)
     value_shaped (Unary' t op x a) i q = to _ false (addr t.ctype) q.2 (gives_then (V (shape a)) (V false) (value_of p h a) _ (value_shaped a i q.0) λ v e. changed_gives h.world op (type_of a) v (ap (takes_one op) e ∙ q.1))
     value_shaped (SizeOf' t x a) i q = q
     value_shaped (SizeOfType t u) i q = q

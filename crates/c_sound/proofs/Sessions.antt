@@ -18,18 +18,22 @@ use Rattle.c_source.specs.Begin.{begin}
 use Rattle.c_source.specs.Meaning.{Given, values_meant, assigned}
 use Rattle.c_source.specs.Names.{named, place_text}
 use Rattle.c_typing.specs.Declared.{has}
-use Rattle.c_sound.specs.Scopes.{as_completed, scope_with}
+use Rattle.c_reading.specs.Scope.{as_completed, scope_with}
 use Rattle.c_typing.specs.Statements.{local_on, locals_from, locals_at}
 use Rattle.c_typing.specs.Accepted.{IsAccepted}
 use Rattle.c_session.specs.declared.command.Command.{Command}
 use Rattle.c_session.specs.declared.command.Command.TheVariants as command
-use Rattle.c_session.specs.Commands.{Session, Mode, Fresh, Stopped as StoppedAt, Running, Ended, Resume, Sides, OneSide, TwoSides, Positions, One, Both, FirstAlone, SecondAlone, Use, AsValue, AsAssignment, Names, Reading, Read, Unread, Answer, Refuses, Says, Shows, Sets, ShowsAny, EndsClaim, Resumes, Quits, Raw, Nothing, answer, all_at, chosen, ReadsAt, ReadsIn, ReadsLine, break_at, clear_at, print_object, print_referent, print_symbol, eval_gives, eval_read, assign_gives, assign_read, in_frame, frame_at, frames_of, point_of, in_stopped, in_fresh, in_running, in_ended, by_mode, NoPlace, BadSyntax, has as has_point}
+use Rattle.c_reading.specs.Readings.{is_identifier, Use, AsValue, AsAssignment, Reading, Read, Unread, BadSyntax}
+use Rattle.c_reading.specs.Rules.{ReadsTyped}
+use Rattle.c_reading.proofs.Rules.{reads_typed}
+use Rattle.c_session.specs.Commands.{Session, Mode, Fresh, Stopped as StoppedAt, Running, Ended, Resume, Sides, OneSide, TwoSides, Positions, One, Both, FirstAlone, SecondAlone, Answer, Refuses, Says, Shows, Sets, ShowsAny, EndsClaim, Resumes, Quits, Raw, answer, all_at, chosen, ReadsAt, ReadsIn, ReadsLine, break_at, clear_at, print_object, print_referent, print_symbol, eval_gives, eval_read, assign_gives, assign_read, in_frame, frame_at, frames_of, point_of, in_stopped, in_fresh, in_running, in_ended, by_mode, NoPlace, has as has_point, BadText}
+use Rattle.c_session.specs.Commands as mode
 use Rattle.c_session.specs.Places.{point_at}
 use Rattle.c_session.specs.Allowed.{Lines, Standing, stops_by, HasEvent, IsUnderway, AllMeet, Moves, one, both, second_comes, first_comes, first_goes, second_goes, ResumeReplies, AnswerReplies, MemoryReplies, after_event, with_state, at_first}
 use Rattle.c_session.specs.Histories.{IsModeReached}
 use Rattle.c_session.proofs.Histories.{SetsBy, Follows, replied, same_next, leaves, begins_followed, mode_reached}
 use Rattle.c_sound.specs.Shapes.{AreFitting, IsFitting, IsAssigned}
-use Rattle.c_sound.specs.Sessions.{ReadsTyped, AreAnswered, HasAnswer}
+use Rattle.c_sound.specs.Sessions.{AreAnswered, HasAnswer}
 use Rattle.c_sound.proofs.Shaped.{ShapedL}
 use Rattle.c_sound.proofs.World.{Gives, WorldFits}
 use Rattle.c_sound.proofs.Ready.{locals_of, Good}
@@ -180,7 +184,7 @@ module _ (p : Program) (accepted : IsAccepted p) where
   SoundAnswer m (Says lines session) = session.mode ≡ m
   SoundAnswer m (Sets s) = SoundMode (with_state p m s) × SetsBy AreFitting m (Sets s)
   SoundAnswer m (Resumes how ps) = EachStands ps
-  SoundAnswer m Nothing = ⊥
+  SoundAnswer m mode.IllTyped = ⊥
   SoundAnswer m _ = Unit {0}
 
   -- ---- resumes
@@ -205,11 +209,11 @@ module _ (p : Program) (accepted : IsAccepted p) where
   reply_sound st (Raw n) reply next m q k = subst (λ x. SoundMode x.session.mode) (sym k.1) m
   reply_sound st EndsClaim reply next m q k = absurd k
   reply_sound st Quits reply next m q k = absurd k
-  reply_sound st Nothing reply next m q k = absurd k
+  reply_sound st mode.IllTyped reply next m q k = absurd k
 
   -- ---- commands
 
-  module _ (names : Names) (sides : Sides) (session : Session) where
+  module _ (sides : Sides) (session : Session) where
     abbrev point_or_0 : Option ℕ → ℕ
     point_or_0 None = 0
     point_or_0 (Some q) = q
@@ -230,16 +234,16 @@ module _ (p : Program) (accepted : IsAccepted p) where
     either_answer m true x y q k = q
     either_answer m false x y q k = k
 
-    breaks : (o : Option ℕ) → SoundAnswer session.mode (break_at p names sides session o)
+    breaks : (o : Option ℕ) → SoundAnswer session.mode (break_at p sides session o)
     breaks None = tt
     breaks (Some q) = either_mode _ session _ session.mode refl refl
 
-    clears : (o : Option ℕ) → SoundAnswer session.mode (clear_at p names sides session o)
+    clears : (o : Option ℕ) → SoundAnswer session.mode (clear_at p sides session o)
     clears None = tt
     clears (Some q) =
         either_answer session.mode (has_point session.breaks q) (Says ((codes "clear " ++ place_text p q) ∷ []) (record session { breaks = filter (λ r. not (r == q)) session.breaks })) (Refuses NoPlace) refl tt
 
-    frames : (n : ℕ) (o : Option ActivationRecord) → SoundAnswer session.mode (frame_at p names sides session n o)
+    frames : (n : ℕ) (o : Option ActivationRecord) → SoundAnswer session.mode (frame_at p sides session n o)
     frames n None = tt
     frames n (Some a) = refl
 
@@ -258,26 +262,26 @@ module _ (p : Program) (accepted : IsAccepted p) where
       there : At p a.function q (locals_of a.locals)
       there = at_point a.function a.point (locals_of a.locals) covered
 
-      prints_object : (t : CType) (o : Option ℕ) (b : ℕ) → o ≡ Some b → SoundAnswer m (print_object p names sides session w t o)
-      prints_object t o b e = subst (λ o. SoundAnswer m (print_object p names sides session w t o)) (sym e) tt
+      prints_object : (t : CType) (o : Option ℕ) (b : ℕ) → o ≡ Some b → SoundAnswer m (print_object p sides session w t o)
+      prints_object t o b e = subst (λ o. SoundAnswer m (print_object p sides session w t o)) (sym e) tt
 
-      prints_referent : (x : Referent) → LiveReferent (locals_at p q) x → SoundAnswer m (print_referent p names sides session w a x)
+      prints_referent : (x : Referent) → LiveReferent (locals_at p q) x → SoundAnswer m (print_referent p sides session w a x)
       prints_referent (refers.Object o) l = tt
       prints_referent (refers.Local x) l = let b = bound_here x a.locals (there.0 x l) in prints_object _ (bound x a.locals) b.0 b.1
       prints_referent (refers.Function f) l = tt
       prints_referent refers.Declared l = tt
 
-      prints_symbol : (o : Option SymbolRow) → LiveName (locals_at p q) o → SoundAnswer m (print_symbol p names sides session w a o)
+      prints_symbol : (o : Option SymbolRow) → LiveName (locals_at p q) o → SoundAnswer m (print_symbol p sides session w a o)
       prints_symbol None l = tt
       prints_symbol (Some row) l = prints_referent row.refers l
 
-      evaluates : (t : CType) (v : Result (List Value) Why) → Gives (λ _. Unit {0}) v → SoundAnswer m (eval_gives p names sides session w t v)
+      evaluates : (t : CType) (v : Result (List Value) Why) → Gives (λ _. Unit {0}) v → SoundAnswer m (eval_gives p sides session w t v)
       evaluates t (Ok vs) g = tt
       evaluates t (Err (Reason u)) g = tt
       evaluates t (Err Stale) g = tt
       evaluates t (Err IllTyped) g = absurd g
 
-      reads_value : (text : List ℕ) (x : Reading) → ReadsTyped p AsValue q text x → SoundAnswer m (eval_read p names sides session w a x)
+      reads_value : (text : List ℕ) (x : Reading) → ReadsTyped p AsValue q text x → SoundAnswer m (eval_read p sides session w a x)
       reads_value text (Unread u) e = tt
       reads_value text (Read d) e =
           let k = e a.function d there.1 refl in
@@ -297,13 +301,13 @@ module _ (p : Program) (accepted : IsAccepted p) where
             at.1,
           )
 
-      sets : (v : Result Given Why) → Gives (λ g. IsAssigned s.here.world g.world) v → SoundAnswer (StoppedAt s) (assign_gives p names sides session s v)
+      sets : (v : Result Given Why) → Gives (λ g. IsAssigned s.here.world g.world) v → SoundAnswer (StoppedAt s) (assign_gives p sides session s v)
       sets (Ok g) k = (set_stands g.world k, (k.0, ap (λ w. record s { here = with_world s.here w }) k.1, k.2))
       sets (Err (Reason u)) k = tt
       sets (Err Stale) k = tt
       sets (Err IllTyped) k = absurd k
 
-      reads_assignment : (text : List ℕ) (x : Reading) → ReadsTyped p AsAssignment (point_or_0 a.point) text x → SoundAnswer (StoppedAt s) (assign_read p names sides session s a x)
+      reads_assignment : (text : List ℕ) (x : Reading) → ReadsTyped p AsAssignment (point_or_0 a.point) text x → SoundAnswer (StoppedAt s) (assign_read p sides session s a x)
       reads_assignment text (Unread u) e = tt
       reads_assignment text (Read d) e =
           let q = point_or_0 a.point in
@@ -313,43 +317,43 @@ module _ (p : Program) (accepted : IsAccepted p) where
           let here : Here = record { world = s.here.world; activation = a } in
           sets (assigned p here d) (assigned_given p here at.0.0.world d k.0 i)
 
-    in_frame_sound : (m : Mode) (o : Option ActivationRecord) (go : ActivationRecord → Answer) → ((a : ActivationRecord) → o ≡ Some a → SoundAnswer m (go a)) → SoundAnswer m (in_frame p names sides session o go)
+    in_frame_sound : (m : Mode) (o : Option ActivationRecord) (go : ActivationRecord → Answer) → ((a : ActivationRecord) → o ≡ Some a → SoundAnswer m (go a)) → SoundAnswer m (in_frame p sides session o go)
     in_frame_sound m None go k = tt
     in_frame_sound m (Some a) go k = k a refl
 
-    chosen_sound : (s : State) (at : AtStop s) (go : ActivationRecord → Answer) → ((a : ActivationRecord) → chosen p names sides session s ≡ Some a → CoveredAt p a → SoundAnswer (StoppedAt s) (go a)) → SoundAnswer (StoppedAt s) (in_frame p names sides session (chosen p names sides session s) go)
-    chosen_sound s at go k = in_frame_sound (StoppedAt s) (chosen p names sides session s) go (λ a e. k a e (all_live p accepted s session.frame a at.0.1 at.1 e))
+    chosen_sound : (s : State) (at : AtStop s) (go : ActivationRecord → Answer) → ((a : ActivationRecord) → chosen p sides session s ≡ Some a → CoveredAt p a → SoundAnswer (StoppedAt s) (go a)) → SoundAnswer (StoppedAt s) (in_frame p sides session (chosen p sides session s) go)
+    chosen_sound s at go k = in_frame_sound (StoppedAt s) (chosen p sides session s) go (λ a e. k a e (all_live p accepted s session.frame a at.0.1 at.1 e))
 
     -- what is read in the chosen frame
-    there_read : (u : Use) (text : List ℕ) (x : Reading) (o : Option ActivationRecord) (a : ActivationRecord) → o ≡ Some a → ReadsAt p names sides session (ReadsTyped p) u text o x → ReadsTyped p u (point_of p names sides session a) text x
-    there_read u text x o a e k = subst (λ o. ReadsAt p names sides session (ReadsTyped p) u text o x) e k
+    there_read : (u : Use) (text : List ℕ) (x : Reading) (o : Option ActivationRecord) (a : ActivationRecord) → o ≡ Some a → ReadsAt p sides session u text o x → ReadsTyped p u (point_of p sides session a) text x
+    there_read u text x o a e k = reads_typed p u (point_of p sides session a) text x (subst (λ o. ReadsAt p sides session u text o x) e k)
 
     abbrev Reads : Mode → Command → Reading → Type 0
-    Reads m c x = ReadsIn p names sides session (ReadsTyped p) m c x
+    Reads m c x = ReadsIn p sides session m c x
 
     -- the commands that a fresh and a stopped session answer alike; the session's mode is m
-    stopped_sound : (x : Reading) (s : State) (at : AtStop s) (c : Command) → Reads (StoppedAt s) c x → session.mode ≡ StoppedAt s → SoundAnswer (StoppedAt s) (in_stopped p names sides session x s c)
-    stopped_sound x s at (command.Break place) k e = subst (λ m. SoundAnswer m (break_at p names sides session (point_at p place))) e (breaks (point_at p place))
-    stopped_sound x s at (command.Clear place) k e = subst (λ m. SoundAnswer m (clear_at p names sides session (point_at p place))) e (clears (point_at p place))
+    stopped_sound : (x : Reading) (s : State) (at : AtStop s) (c : Command) → Reads (StoppedAt s) c x → session.mode ≡ StoppedAt s → SoundAnswer (StoppedAt s) (in_stopped p sides session x s c)
+    stopped_sound x s at (command.Break place) k e = subst (λ m. SoundAnswer m (break_at p sides session (point_at p place))) e (breaks (point_at p place))
+    stopped_sound x s at (command.Clear place) k e = subst (λ m. SoundAnswer m (clear_at p sides session (point_at p place))) e (clears (point_at p place))
     stopped_sound x s at command.Continue k e = sides_stand sides s at.0
     stopped_sound x s at command.Step k e = sides_stand sides s at.0
     stopped_sound x s at (command.Turns n) k e = e
     stopped_sound x s at command.Frames k e = e
-    stopped_sound x s at (command.Frame n) k e = subst (λ m. SoundAnswer m (frame_at p names sides session n (slice_get (frames_of p names sides session s) n))) e (frames n (slice_get (frames_of p names sides session s) n))
+    stopped_sound x s at (command.Frame n) k e = subst (λ m. SoundAnswer m (frame_at p sides session n (slice_get (frames_of p sides session s) n))) e (frames n (slice_get (frames_of p sides session s) n))
     stopped_sound x s at (command.Print name) k e =
         chosen_sound s at _ λ a f c.
-        either_answer (StoppedAt s) (names name) (print_symbol p names sides session s.here.world a (named p name (point_of p names sides session a))) (Refuses BadSyntax)
-        (prints_symbol (StoppedAt s) s at a c (named p name (point_of p names sides session a)) (name_live p name (point_of p names sides session a))) tt
-    stopped_sound x s at (command.Eval text) k e = chosen_sound s at _ λ a f c. reads_value (StoppedAt s) s at a c text x (there_read AsValue text x (chosen p names sides session s) a f k)
-    stopped_sound x s at (command.Assign text) k e = chosen_sound s at _ λ a f c. reads_assignment s at a c text x (there_read AsAssignment text x (chosen p names sides session s) a f k)
+        either_answer (StoppedAt s) (is_identifier name) (print_symbol p sides session s.here.world a (named p name (point_of p sides session a))) (Refuses (BadText BadSyntax))
+        (prints_symbol (StoppedAt s) s at a c (named p name (point_of p sides session a)) (name_live p name (point_of p sides session a))) tt
+    stopped_sound x s at (command.Eval text) k e = chosen_sound s at _ λ a f c. reads_value (StoppedAt s) s at a c text x (there_read AsValue text x (chosen p sides session s) a f k)
+    stopped_sound x s at (command.Assign text) k e = chosen_sound s at _ λ a f c. reads_assignment s at a c text x (there_read AsAssignment text x (chosen p sides session s) a f k)
     stopped_sound x s at command.Quit k e = tt
     stopped_sound x s at command.Regs k e = tt
     stopped_sound x s at (command.Code text) k e = tt
     stopped_sound x s at (command.Ps text) k e = tt
 
-    fresh_sound : (x : Reading) (s : State) → Stands s → (c : Command) → session.mode ≡ Fresh s → SoundAnswer (Fresh s) (in_fresh p names sides session x s c)
-    fresh_sound x s g (command.Break place) e = subst (λ m. SoundAnswer m (break_at p names sides session (point_at p place))) e (breaks (point_at p place))
-    fresh_sound x s g (command.Clear place) e = subst (λ m. SoundAnswer m (clear_at p names sides session (point_at p place))) e (clears (point_at p place))
+    fresh_sound : (x : Reading) (s : State) → Stands s → (c : Command) → session.mode ≡ Fresh s → SoundAnswer (Fresh s) (in_fresh p sides session x s c)
+    fresh_sound x s g (command.Break place) e = subst (λ m. SoundAnswer m (break_at p sides session (point_at p place))) e (breaks (point_at p place))
+    fresh_sound x s g (command.Clear place) e = subst (λ m. SoundAnswer m (clear_at p sides session (point_at p place))) e (clears (point_at p place))
     fresh_sound x s g command.Continue e = sides_stand sides s g
     fresh_sound x s g command.Step e = sides_stand sides s g
     fresh_sound x s g (command.Turns n) e = e
@@ -363,24 +367,24 @@ module _ (p : Program) (accepted : IsAccepted p) where
     fresh_sound x s g (command.Code text) e = tt
     fresh_sound x s g (command.Ps text) e = tt
 
-    running_sound : (how : Resume) (ps : Positions) → EachStands ps → (c : Command) → session.mode ≡ Running how ps → SoundAnswer (Running how ps) (in_running p names sides session how ps c)
+    running_sound : (how : Resume) (ps : Positions) → EachStands ps → (c : Command) → session.mode ≡ Running how ps → SoundAnswer (Running how ps) (in_running p sides session how ps c)
     running_sound how ps g command.Continue e = g
     running_sound how ps g (command.Turns n) e = e
     running_sound how ps g command.Regs e = tt
     running_sound how ps g command.Quit e = tt
     running_sound how ps g _ e = tt
 
-    ended_sound : (c : Command) → SoundAnswer Ended (in_ended p names sides session c)
+    ended_sound : (c : Command) → SoundAnswer Ended (in_ended p sides session c)
     ended_sound command.Quit = tt
     ended_sound _ = tt
 
-    mode_sound : (x : Reading) (m : Mode) → SoundMode m → session.mode ≡ m → (c : Command) → Reads m c x → SoundAnswer m (by_mode p names sides session x m c)
+    mode_sound : (x : Reading) (m : Mode) → SoundMode m → session.mode ≡ m → (c : Command) → Reads m c x → SoundAnswer m (by_mode p sides session x m c)
     mode_sound x (Fresh s) g e c k = fresh_sound x s g c e
     mode_sound x (StoppedAt s) g e c k = stopped_sound x s g c k e
     mode_sound x (Running how ps) g e c k = running_sound how ps g c e
     mode_sound x Ended g e c k = ended_sound c
 
-    answer_sound : SoundMode session.mode → (x : Reading) (c : Option Command) → ReadsLine p names sides session (ReadsTyped p) c x → SoundAnswer session.mode (answer p names sides session x c)
+    answer_sound : SoundMode session.mode → (x : Reading) (c : Option Command) → ReadsLine p sides session c x → SoundAnswer session.mode (answer p sides session x c)
     answer_sound g x None k = tt
     answer_sound g x (Some c) k = mode_sound x session.mode g refl c k
 
@@ -396,24 +400,24 @@ module _ (p : Program) (accepted : IsAccepted p) where
   has_answer m (Resumes how ps) q = tt
   has_answer m (Raw n) q = tt
   has_answer m Quits q = tt
-  has_answer m Nothing q = q
+  has_answer m mode.IllTyped q = q
 
-  module _ (names : Names) (sides : Sides) where
+  module _ (sides : Sides) where
     next_sound : (st next : Standing) (reply : Lines) (c : Option Command) → SoundMode st.session.mode
-        → MemoryReplies st c reply next ⊎ ((x : Reading) × ReadsLine p names sides st.session (ReadsTyped p) c x × AnswerReplies p st (answer p names sides st.session x c) reply next) → SoundMode next.session.mode
+        → MemoryReplies st c reply next ⊎ ((x : Reading) × ReadsLine p sides st.session c x × AnswerReplies p st (answer p sides st.session x c) reply next) → SoundMode next.session.mode
     next_sound st next reply c g (inl m) = subst (λ x. SoundMode x.session.mode) (sym m.2) g
-    next_sound st next reply c g (inr (x, k, a)) = reply_sound st (answer p names sides st.session x c) reply next g (answer_sound names sides st.session g x c k) a
+    next_sound st next reply c g (inr (x, k, a)) = reply_sound st (answer p sides st.session x c) reply next g (answer_sound sides st.session g x c k) a
 
-    answered_sound : (st last : Standing) (cs : List (Option Command)) → SoundMode st.session.mode → AreAnswered p names sides (ReadsTyped p) st cs last → SoundMode last.session.mode
+    answered_sound : (st last : Standing) (cs : List (Option Command)) → SoundMode st.session.mode → AreAnswered p sides st cs last → SoundMode last.session.mode
     answered_sound st last [] g a = subst (λ x. SoundMode x.session.mode) (sym a) g
     answered_sound st last (c ∷ cs) g (reply, next, a, rest) = answered_sound next last cs (next_sound st next reply c g a) rest
 
-    pub sessions_answer : (input : List ℕ) (cs : List (Option Command)) (st : Standing) (x : Reading) (c : Option Command) → AreAnswered p names sides (ReadsTyped p) (at_first p input) cs st → ReadsLine p names sides st.session (ReadsTyped p) c x
-        → HasAnswer (answer p names sides st.session x c)
+    pub sessions_answer : (input : List ℕ) (cs : List (Option Command)) (st : Standing) (x : Reading) (c : Option Command) → AreAnswered p sides (at_first p input) cs st → ReadsLine p sides st.session c x
+        → HasAnswer (answer p sides st.session x c)
     sessions_answer input cs st x c a k =
         let begun : Stands (begin p input) = (begins_good p input (bodies_ready p accepted) accepted.objects accepted.main (λ g fn e. (function_there p accepted g fn e).main), begins_in_scope p accepted input) in
         let g : SoundMode st.session.mode = answered_sound (at_first p input) st cs begun a in
-        has_answer st.session.mode (answer p names sides st.session x c) (answer_sound names sides st.session g x c k)
+        has_answer st.session.mode (answer p sides st.session x c) (answer_sound sides st.session g x c k)
 
     -- ---- and their histories
 
@@ -431,24 +435,24 @@ module _ (p : Program) (accepted : IsAccepted p) where
     fits_of m (Raw n) q = tt
     fits_of m EndsClaim q = tt
     fits_of m Quits q = tt
-    fits_of m Nothing q = tt
+    fits_of m mode.IllTyped q = tt
 
     module _ (input : List ℕ) where
       abbrev Fits : Mode → Type 0
       Fits m = Follows p input AreFitting tt fitting_join m
 
       next_fits : (st next : Standing) (reply : Lines) (c : Option Command) → SoundMode st.session.mode → Fits st.session.mode
-          → MemoryReplies st c reply next ⊎ ((x : Reading) × ReadsLine p names sides st.session (ReadsTyped p) c x × AnswerReplies p st (answer p names sides st.session x c) reply next) → Fits next.session.mode
+          → MemoryReplies st c reply next ⊎ ((x : Reading) × ReadsLine p sides st.session c x × AnswerReplies p st (answer p sides st.session x c) reply next) → Fits next.session.mode
       next_fits st next reply c g f (inl m) = same_next p input AreFitting tt fitting_join st next m.2 f
       next_fits st next reply c g f (inr (x, k, a)) =
-          replied p input AreFitting tt fitting_join st (answer p names sides st.session x c) reply next f (leaves p input AreFitting tt fitting_join names sides st.session x c)
-          (fits_of st.session.mode (answer p names sides st.session x c) (answer_sound names sides st.session g x c k)) a
+          replied p input AreFitting tt fitting_join st (answer p sides st.session x c) reply next f (leaves p input AreFitting tt fitting_join sides st.session x c)
+          (fits_of st.session.mode (answer p sides st.session x c) (answer_sound sides st.session g x c k)) a
 
-      answered_fits : (st last : Standing) (cs : List (Option Command)) → SoundMode st.session.mode → Fits st.session.mode → AreAnswered p names sides (ReadsTyped p) st cs last → Fits last.session.mode
+      answered_fits : (st last : Standing) (cs : List (Option Command)) → SoundMode st.session.mode → Fits st.session.mode → AreAnswered p sides st cs last → Fits last.session.mode
       answered_fits st last [] g f a = subst (λ x. Fits x.session.mode) (sym a) f
       answered_fits st last (c ∷ cs) g f (reply, next, a, rest) = answered_fits next last cs (next_sound st next reply c g a) (next_fits st next reply c g f a) rest
 
-      pub sessions_fit : (cs : List (Option Command)) (st : Standing) → AreAnswered p names sides (ReadsTyped p) (at_first p input) cs st → (h : History) × IsModeReached p input h st.session.mode × IsFitting h
+      pub sessions_fit : (cs : List (Option Command)) (st : Standing) → AreAnswered p sides (at_first p input) cs st → (h : History) × IsModeReached p input h st.session.mode × IsFitting h
       sessions_fit cs st a =
           let begun : Stands (begin p input) = (begins_good p input (bodies_ready p accepted) accepted.objects accepted.main (λ g fn e. (function_there p accepted g fn e).main), begins_in_scope p accepted input) in
           mode_reached p input AreFitting tt fitting_join st.session.mode (answered_fits (at_first p input) st cs begun (begins_followed p input AreFitting tt fitting_join) a)

@@ -15,7 +15,7 @@ use Rattle.c_source.specs.Meaning.{IsPlain}
 use Rattle.c_typing.specs.Plain.{Plain, Char, Int, Unsigned, Void, Pointer, Array, Struct, plain, same, is_integer, is_pointer, is_scalar, is_struct as is_a_struct, is_complete, promoted, common}
 use Rattle.c_typing.specs.Rules.{Operand, value_of, only, may_drop, unary_type, is_movable, is_nulled, arithmetic_type, sum_type, difference_type, binary_type, branches_type, choice_type}
 use Rattle.c_typing.specs.Expressions.{Scope, is_lvalue, is_string, is_register, is_constant_type, operand, value}
-use Rattle.c_sound.specs.Kept.{KeepsRules}
+use Rattle.c_reading.specs.Kept.{KeepsRules}
 use Rattle.c_sound.proofs.Begins.{and_parts}
 use Rattle.c_sound.proofs.Rules.{or_parts, no_none, only_some, if_some}
 

@@ -22,8 +22,8 @@ use Rattle.c_typing.specs.Plain.{Plain, Char, Int, Unsigned, Void, Pointer, Arra
 use Rattle.c_typing.specs.Rules.{Operand, may_drop, converts, is_copied, compound_type, arrow_type, takes as takes_arguments, binary_type, stepping}
 use Rattle.c_typing.specs.Expressions.{Denoted, Object as AnObject, Function as AFunction, Hidden, Scope, object_type, result_type as called_type, is_lvalue, is_string, is_register, is_constant_type, operand, value, operands, IsTyped, AreTyped}
 use Rattle.c_typing.specs.Declared.{has, parameters, local_type as type_of_a_local, function_in, local_in, locals_in, denoted_by}
-use Rattle.c_sound.specs.Scopes.{scope_with}
-use Rattle.c_sound.specs.Kept.{KeepsRules, EachKeeps}
+use Rattle.c_reading.specs.Scope.{scope_with}
+use Rattle.c_reading.specs.Kept.{KeepsRules, EachKeeps}
 use Rattle.c_sound.proofs.Operators.{addr, conv, takes, gives, takes_one}
 use Rattle.c_sound.proofs.Shaped.{shape, ByCase, Updates, row_shapes, is_one_leaf, Given, CalledFunction, OneNumber, CalledBuiltIn, CalledBy, Called, NamedBy, Named, ShapedE, ShapedL, ShapedRow}
 use Rattle.c_sound.proofs.Begins.{and_parts}

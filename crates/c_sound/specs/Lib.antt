@@ -1,4 +1,2 @@
-pub mod Kept
-pub mod Scopes
 pub mod Shapes
 pub mod Sessions

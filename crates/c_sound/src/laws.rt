@@ -10,15 +10,16 @@ ghost use Rattle.c_source.specs.Source.{step};
 ghost use Rattle.c_source.specs.Begin.{begin, acted, records};
 ghost use Rattle.c_source.specs.Meaning.{Given, values_meant, assigned, IsPlain, IsAssignment};
 ghost use Rattle.c_typing.specs.Expressions.{Scope, IsTyped};
-ghost use Rattle.c_sound.specs.Kept.{KeepsRules};
+ghost use Rattle.c_reading.specs.Kept.{KeepsRules};
 ghost use Rattle.c_typing.specs.Plain.{Plain};
 ghost use Rattle.c_tree.specs.declared.rows.SymbolRow.{SymbolRow};
-ghost use Rattle.c_sound.specs.Scopes.{scope_with};
+ghost use Rattle.c_reading.specs.Scope.{scope_with};
+ghost use Rattle.c_reading.specs.Readings.{Reading};
 ghost use Rattle.c_typing.specs.Accepted.{IsAccepted};
 ghost use Rattle.c_session.specs.declared.command.Command.{Command};
-ghost use Rattle.c_session.specs.Commands.{Names, Sides, Reading, answer, ReadsLine};
+ghost use Rattle.c_session.specs.Commands.{Sides, answer, ReadsLine};
 ghost use Rattle.c_session.specs.Allowed.{Standing, at_first};
-ghost use Rattle.c_sound.specs.Sessions.{ReadsTyped, AreAnswered, HasAnswer};
+ghost use Rattle.c_sound.specs.Sessions.{AreAnswered, HasAnswer};
 ghost use Rattle.c_session.specs.Histories.{IsModeReached};
 ghost use Rattle.c_sound.specs.Shapes.{IsFitting, IsMoment, KeepsShapes, CourseKeepsShapes, HasMeaning, IsAssigned, AreLive, HasItsLocals};
 
@@ -40,14 +41,14 @@ pub fn stops_have_their_locals()
     ensures { (p : Program) (input : List ℕ) (h : History) (m : Moment State) (q c : ℕ) (s : State) (i : ℕ) (a : ActivationRecord) → IsMoment p input h m → step p m.state ≡ Passes q c s → slice_get (records s) i ≡ Some a → HasItsLocals p a }
 {}
 
-/// A session over an accepted program in which each text is refused or read as an expression that keeps to the typing rules has an answer to each command, however it has gone on so far: no command comes to a value of the wrong shape.
+/// A session over an accepted program has an answer to each command, however it has gone on so far: no command comes to a value of the wrong shape.
 pub fn sessions_have_answers()
-    ensures { (p : Program) (names : Names) (sides : Sides) (input : List ℕ) (cs : List (Option Command)) (st : Standing) (x : Reading) (c : Option Command) → IsAccepted p → AreAnswered p names sides (ReadsTyped p) (at_first p input) cs st → ReadsLine p names sides st.session (ReadsTyped p) c x → HasAnswer (answer p names sides st.session x c) }
+    ensures { (p : Program) (sides : Sides) (input : List ℕ) (cs : List (Option Command)) (st : Standing) (x : Reading) (c : Option Command) → IsAccepted p → AreAnswered p sides (at_first p input) cs st → ReadsLine p sides st.session c x → HasAnswer (answer p sides st.session x c) }
 {}
 
-/// Such a session goes through a run of its program with a history of assignments that give leaves values of their kind, which is a run of `accepted_programs_keep_shapes`.
+/// A session over an accepted program goes through a run of it with a history of assignments that give leaves values of their kind, which is a run of `accepted_programs_keep_shapes`.
 pub fn sessions_follow_fitting_runs()
-    ensures { (p : Program) (names : Names) (sides : Sides) (input : List ℕ) (cs : List (Option Command)) (st : Standing) → IsAccepted p → AreAnswered p names sides (ReadsTyped p) (at_first p input) cs st → (h : History) × IsModeReached p input h st.session.mode × IsFitting h }
+    ensures { (p : Program) (sides : Sides) (input : List ℕ) (cs : List (Option Command)) (st : Standing) → IsAccepted p → AreAnswered p sides (at_first p input) cs st → (h : History) × IsModeReached p input h st.session.mode × IsFitting h }
 {}
 
 /// A well-typed expression keeps to the typing rules.

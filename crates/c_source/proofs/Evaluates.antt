@@ -17,8 +17,9 @@ use Rattle.c_source.specs.Blocks.{cells_of, converted}
 use Rattle.c_source.specs.Operators.{is_zero, combined, changed}
 use Rattle.c_source.specs.Control.{Item, Eval, Locate, Load, Convert, Store, Copy, Change, Combine, Offset, Use, Discard, Truth, AndThen, OrElse, Pick, Joined, State, Activation}
 use Rattle.c_source.specs.Source.{step, on_ok, on_some, on_test, place_in, dot_offset, arrow_offset, no_value}
-use Rattle.c_source.specs.Meaning.{Given, Meant, or_ill_typed, value_at, truth_of, chosen_as, indexed, member_at, value_of, place_of, assigned, scalar_assigned, struct_assigned, IsPlain, IsAssignment}
+use Rattle.c_source.specs.Meaning.{Given, Meant, or_ill_typed, value_of, place_of, assigned, scalar_assigned, struct_assigned, IsPlain, IsAssignment}
 use Rattle.c_source.specs.Leads.{Steps, Leads}
+use Rattle.c_source.proofs.Parts.{value_at, truth_of, chosen_as, indexed, member_at}
 
 module _ (p : Program) where
   steps_on : (n m : ℕ) (s u w : State) → Steps p n s u → Steps p m u w → (k : ℕ) × Steps p k s w
@@ -159,7 +160,9 @@ module _ (p : Program) where
       eval_leads (Cast' t x a) q vs k =
           one_step 1 _ (now vs (Eval a ∷ Convert t.ctype ∷ k)) (value_of p h (Cast' t x a)) (λ v. now (v ∷ vs) k) refl
           (leads_then _ (value_of p h a) (λ v. now (v ∷ vs) (Convert t.ctype ∷ k)) (λ v. now (v ∷ vs) k) (converted t.ctype) (eval_leads a q vs (Convert t.ctype ∷ k)) (λ v. convert_leads t.ctype v vs k))
-      eval_leads (Address' t x a) q vs k = one_step 1 _ (now vs (Locate a ∷ k)) (place_of p h a) (λ v. now (v ∷ vs) k) refl (locate_leads a q vs k)
+      eval_leads (Address' t x a) q vs k =
+          one_step 1 _ (now vs (Locate a ∷ k)) (value_of p h (Address' t x a)) (λ v. now (v ∷ vs) k) refl
+          (leads_then _ (place_of p h a) (λ v. now (v ∷ vs) k) (λ v. now (v ∷ vs) k) (λ v. Ok v) (locate_leads a q vs k) (λ v. (0, refl)))
       eval_leads (Unary' t op x a) q vs k =
           one_step 1 _ (now vs (Eval a ∷ Change op (type_of a) ∷ k)) (value_of p h (Unary' t op x a)) (λ v. now (v ∷ vs) k) refl
           (leads_then _ (value_of p h a) (λ v. now (v ∷ vs) (Change op (type_of a) ∷ k)) (λ v. now (v ∷ vs) k) (λ v. changed h.world op (type_of a) v) (eval_leads a q vs (Change op (type_of a) ∷ k)) (λ v.

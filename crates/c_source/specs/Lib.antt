@@ -5,5 +5,6 @@ pub mod Source
 pub mod Begin
 pub mod Size
 pub mod Names
+pub mod Evaluation
 pub mod Meaning
 pub mod Leads

@@ -1,107 +1,83 @@
--- What an expression means in an activation, by recursion over it. It makes no calls and assigns nothing; an assignment is a case of its own.
-use Rattle.std.specs.Prelude.{ℕ, ◌+◌, List, [], ◌∷◌, length, pos, Option, Some, None, Result, Ok, Err, slice_get, if◌then◌else◌}
+-- What an expression means in an activation: its evaluation over the store. It makes no calls and assigns nothing; an assignment is a case of its own.
+use Rattle.std.specs.Prelude.{◌+◌, List, length, pos, Option, Some, None, Result, Ok, Err, slice_get, if◌then◌else◌}
 use Rattle.c_tree.specs.declared.types.CType.{CType}
 use Rattle.c_tree.specs.declared.typed.BinaryOp.TheVariants.{Add}
 use Rattle.c_tree.specs.declared.typed.Typed.{Typed}
 use Rattle.c_tree.specs.declared.typed.Typed.TheVariants.{Comma', Assign', Choice', Or', And', Binary', Cast', Before', Address', Follow', Unary', SizeOf', SizeOfType, Index', Call', Dot', Arrow', After', Name, Constant, Literal, Parens'}
 use Rattle.c_tree.specs.declared.rows.Program.{Program}
-use Rattle.c_tree.specs.Types.{type_of, kind_of, is_struct, is_array}
-use Rattle.c_tree.specs.Layout.{size_of}
+use Rattle.c_tree.specs.Types.{type_of, kind_of, is_struct}
 use Rattle.runs.specs.Runs.{Why, IllTyped}
 use Rattle.c_store.specs.Store.{Value, Number, At, World, used, load, store, moved, load_struct, store_struct, ◌>>=◌}
 use Rattle.c_store.specs.Frames.{Here}
 use Rattle.c_source.specs.Blocks.{cells_of, converted}
 use Rattle.c_source.specs.Operators.{is_zero, combined, changed}
-use Rattle.c_source.specs.Source.{place_in, dot_offset, arrow_offset, no_value}
+use Rattle.c_source.specs.Source.{place_in, no_value}
+use Rattle.c_source.specs.Evaluation.{Ground, value_by, place_by, values_by}
 
 -- the world and the value after an assignment
 pub record Given : Type 0 where
   pub world : World
   pub value : Value
 
--- a value, or why there is none
+-- a result, or why there is none
+abbrev pub Told : Type 0 → Type 0
+Told A = Result A Why
+
 abbrev pub Meant : Type 0
-Meant = Result Value Why
+Meant = Told Value
 
 abbrev pub or_ill_typed : Option Value → Meant
 or_ill_typed None = Err IllTyped
 or_ill_typed (Some v) = Ok v
 
+-- Values and places are the store's values, and what is used is not stale.
+abbrev pub over_store : Program → Here → Ground Told Value Value
+over_store p h = record {
+  gives = λ x. Ok x;
+  chain = λ m f. m >>= f;
+  ill_typed = Err IllTyped;
+  number = λ n. Number n;
+  is_zero = is_zero;
+  use_of = λ v. used h.world v;
+  convert = converted;
+  combine = λ op s t x y. combined p.defs h.world op s t x y;
+  change = λ op t v. changed h.world op t v;
+  name_at = λ n. or_ill_typed (place_in (slice_get p.symbols n) h);
+  text_at = λ n. Ok (At (length p.objects + n) 0);
+  led_by = λ v. used h.world v;
+  item_at = λ s t x y. combined p.defs h.world Add s t x y;
+  member = λ n v. moved h.world v (pos n);
+  led_member = λ n v. moved h.world v (pos n);
+  address_of = λ v. v;
+  load = λ t v. load h.world (kind_of t) v >>= converted t;
+  load_struct = λ t v. load_struct h.world (cells_of p.defs t) v;
+}
+
 module _ (p : Program) (h : Here) where
-  -- what stands at a place: a scalar is read, and an array is its place
-  abbrev pub value_at : CType → Value → Meant
-  value_at t v = if is_array t then Ok v else (load h.world (kind_of t) v >>= converted t)
+  -- the value of an expression, and where an lvalue stands
+  abbrev pub value_of : Typed → Meant
+  value_of e = value_by p.defs (over_store p h) e
 
-  -- a condition, which is a use
-  abbrev pub tested : Meant → (holds fails : Meant) → Meant
-  tested m holds fails = m >>= λ v. used h.world v >>= λ x. if is_zero x then fails else holds
-
-  abbrev pub truth_of : Meant → Meant
-  truth_of m = tested m (Ok (Number 1)) (Ok (Number 0))
-
-  -- an operand that is chosen is used
-  abbrev pub chosen_as : CType → Meant → Meant
-  chosen_as t m = m >>= λ v. used h.world v >>= converted t
-
-  abbrev pub indexed : CType → CType → Meant → Meant → Meant
-  indexed s t a b = a >>= λ x. b >>= λ y. combined p.defs h.world Add s t x y
-
-  abbrev pub member_at : ℕ → Meant → Meant
-  member_at n m = m >>= λ v. moved h.world v (pos n)
-
-  abbrev mutual
-    -- the value of an expression
-    pub value_of : Typed → Meant
-    value_of (Comma' t _ a _ b) = value_of a >>= λ v. used h.world v >>= λ x. value_of b >>= λ y. used h.world y
-    value_of (Choice' t _ c _ a _ b) = tested (value_of c) (chosen_as t.ctype (value_of a)) (chosen_as t.ctype (value_of b))
-    value_of (Or' t _ a _ b) = tested (value_of a) (Ok (Number 1)) (truth_of (value_of b))
-    value_of (And' t _ a _ b) = tested (value_of a) (truth_of (value_of b)) (Ok (Number 0))
-    value_of (Binary' t _ a op _ b) = value_of a >>= λ x. value_of b >>= λ y. combined p.defs h.world op (type_of a) (type_of b) x y
-    value_of (Cast' t _ a) = value_of a >>= converted t.ctype
-    value_of (Address' t _ a) = place_of a
-    value_of (Unary' t op _ a) = value_of a >>= λ v. changed h.world op (type_of a) v
-    value_of (SizeOf' t _ a) = Ok (Number (size_of p.defs (type_of a)))
-    value_of (SizeOfType t of) = Ok (Number (size_of p.defs of))
-    value_of (Constant t n) = Ok (Number n)
-    value_of (Parens' t _ a) = value_of a
-    value_of (Name t n) = or_ill_typed (place_in (slice_get p.symbols n) h) >>= value_at t.ctype
-    value_of (Literal t n) = value_at t.ctype (At (length p.objects + n) 0)
-    value_of (Follow' t _ a) = (value_of a >>= λ v. used h.world v) >>= value_at t.ctype
-    value_of (Index' t _ a _ b) = indexed (type_of a) (type_of b) (value_of a) (value_of b) >>= value_at t.ctype
-    value_of (Dot' t _ a m) = member_at (dot_offset p a m) (place_of a) >>= value_at t.ctype
-    value_of (Arrow' t _ a m) = member_at (arrow_offset p a m) (value_of a) >>= value_at t.ctype
-    value_of _ = Err IllTyped
-
-    -- where an lvalue stands
-    pub place_of : Typed → Meant
-    place_of (Name t n) = or_ill_typed (place_in (slice_get p.symbols n) h)
-    place_of (Literal t n) = Ok (At (length p.objects + n) 0)
-    place_of (Follow' t _ a) = value_of a >>= λ v. used h.world v
-    place_of (Index' t _ a _ b) = indexed (type_of a) (type_of b) (value_of a) (value_of b)
-    place_of (Dot' t _ a m) = member_at (dot_offset p a m) (place_of a)
-    place_of (Arrow' t _ a m) = member_at (arrow_offset p a m) (value_of a)
-    place_of (Parens' t _ a) = place_of a
-    place_of _ = Err IllTyped
+  abbrev pub place_of : Typed → Meant
+  place_of e = place_by p.defs (over_store p h) e
 
   -- the leaf values of an expression: of a struct place all of them, and else its one value
-  abbrev pub values_meant : Typed → Result (List Value) Why
-  values_meant e =
-      if is_struct (type_of e) then (place_of e >>= λ v. load_struct h.world (cells_of p.defs (type_of e)) v)
-      else (value_of e >>= λ v. Ok (v ∷ []))
+  abbrev pub values_meant : Typed → Told (List Value)
+  values_meant e = values_by p.defs (over_store p h) e
 
-  abbrev pub scalar_assigned : CType → Typed → Typed → Result Given Why
+  abbrev pub scalar_assigned : CType → Typed → Typed → Told Given
   scalar_assigned t a b =
       place_of a >>= λ place. value_of b >>= λ v. converted t v >>= λ x.
       store h.world (kind_of t) place x >>= λ w. Ok (record { world = w; value = x })
 
-  abbrev pub struct_assigned : CType → Typed → Typed → Result Given Why
+  abbrev pub struct_assigned : CType → Typed → Typed → Told Given
   struct_assigned t a b =
       place_of a >>= λ to. place_of b >>= λ from.
       load_struct h.world (cells_of p.defs t) from >>= λ xs.
       store_struct h.world (cells_of p.defs t) to xs >>= λ w. Ok (record { world = w; value = no_value })
 
   -- a plain assignment: the place, then the right side, then the leaves
-  abbrev pub assigned : Typed → Result Given Why
+  abbrev pub assigned : Typed → Told Given
   assigned (Assign' t _ a None _ b) = if is_struct (type_of a) then struct_assigned (type_of a) a b else scalar_assigned (type_of a) a b
   assigned _ = Err IllTyped
 

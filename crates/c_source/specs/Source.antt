@@ -2,6 +2,7 @@
 use Rattle.std.specs.Prelude.{ℕ, suc, ◌+◌, ◌*◌, ◌%◌, List, [], ◌∷◌, ◌++◌, Bool, true, false, ◌==◌, pos, Option, Some, None, Result, Ok, Err, reverse, slice_get, take, drop, length, bytes_eq, codes, option_map, if◌then◌else◌}
 use Rattle.c_tree.specs.declared.types.CType.{CType}
 use Rattle.c_tree.specs.declared.types.CType.TheVariants.{Int, Struct}
+use Rattle.c_tree.specs.declared.types.StructDef.{StructDef}
 use Rattle.c_tree.specs.declared.types.Member.{Member}
 use Rattle.c_tree.specs.declared.typed.BinaryOp.{BinaryOp}
 use Rattle.c_tree.specs.declared.typed.BinaryOp.TheVariants.{Add, Subtract}
@@ -59,7 +60,7 @@ abbrev pub struct_number : CType → ℕ
 struct_number (Struct s) = s
 struct_number _ = 0
 
-abbrev target_number : Option CType → ℕ
+abbrev pub target_number : Option CType → ℕ
 target_number None = 0
 target_number (Some t) = struct_number t
 
@@ -67,12 +68,15 @@ abbrev pub stepping : StepOp → BinaryOp
 stepping Up = Add
 stepping Down = Subtract
 
--- the offset of a member of a struct, and of one that a pointer points to
+-- the offset of a member of a struct, by its number, and of one that a pointer points to
+abbrev pub offset_of : List StructDef → (struct member : ℕ) → ℕ
+offset_of defs s m = offset_in (slice_get (members_of defs s) m)
+
 abbrev pub dot_offset : Program → Typed → (member : ℕ) → ℕ
-dot_offset p a m = offset_in (slice_get (members_of p.defs (struct_number (type_of a))) m)
+dot_offset p a m = offset_of p.defs (struct_number (type_of a)) m
 
 abbrev pub arrow_offset : Program → Typed → (member : ℕ) → ℕ
-arrow_offset p a m = offset_in (slice_get (members_of p.defs (target_number (target_of (type_of a)))) m)
+arrow_offset p a m = offset_of p.defs (target_number (target_of (type_of a))) m
 
 abbrev pub place_of : Referent → Here → Option Value
 place_of (Object o) h = Some (At o 0)

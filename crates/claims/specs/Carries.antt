@@ -9,7 +9,7 @@ use Rattle.ps_store.specs.StoreState.{StoreState}
 use Rattle.c_session.specs.declared.command.Command.{Command}
 use Rattle.c_session.specs.declared.command.Command.TheVariants as command
 use Rattle.c_session.specs.Commands.{Sides, OneSide, TwoSides}
-use Rattle.c_reading.specs.Readings.{MayWrite}
+use Rattle.c_session.specs.Allowed.{Allowed}
 use Rattle.claims.specs.Side.{SideState, SessionState, first_side, first_session}
 use Rattle.claims.specs.Lines.{Reply}
 use Rattle.claims.specs.Tables.{RunsTable}
@@ -82,4 +82,4 @@ pub record Carries (prelude : StoreState) (p : Program) (bs : Builts) : Type 0 w
   pub start : Startings
   pub starts : StartAs prelude bs start
   pub allowed : (input : List ℕ) (lines : List (Option Command)) (transcript : Reply) (output : List ℕ) → length input ≤ 2 ^ 24 → AllByRecursion IsNoPs lines
-      → Converses machine_behaviour (begins input start) lines transcript output → MayWrite p (sides_of start) input lines transcript output
+      → Converses machine_behaviour (begins input start) lines transcript output → Allowed p (sides_of start) input lines transcript output

@@ -16,11 +16,12 @@ use Rattle.frame_bytes.specs.declared.frame.Frame.{Frame}
 use Rattle.table_model.specs.Frames.{frame_at, point_of}
 use Rattle.dialect_model.specs.Dial.{Dial, error_of}
 use Rattle.dialect_model.specs.Operating.{Operates}
+use Rattle.dialect_model.specs.Forcing.{ForcesUnit}
 use Rattle.dialect_model.specs.TableUse.{TableUse, use_of, Trouble, Refused, Kind, Spent, Wanting, Eval, trouble_of, gives, ◌>>=◌}
 use Rattle.dialect_model.specs.Running.{Run}
 use Rattle.dialect_model.specs.Near.{slackened}
-use Rattle.c_session.specs.Commands.{AsValue}
-use Rattle.c_bytes.specs.Spots.{Cause, Reason, Disturbed, Scene, Named, place_in}
+use Rattle.c_reading.specs.Readings.{AsValue}
+use Rattle.c_bytes.specs.Lvalues.{Cause, Reason, Disturbed, Scene, Named, place_in}
 use Rattle.c_bytes.specs.Evaluation.{values_of, fetch_all}
 use Rattle.claims.specs.Side.{SideState, Change, OnSide, MOST_STEPS, row_of, memory_of, target_of}
 use Rattle.claims.specs.Raw.{ps_ready}
@@ -61,20 +62,26 @@ abbrev ServesBy : Scene → ReadText → TableUse → Answer → Dial → PsCore
 ServesBy sc x t (Ok u) d c = (vs : List ℕ) × (t' : TableUse) × valued sc x t (Ok vs) t' × Leaves sc x vs d c
 ServesBy sc x t (Err f) d c = ServesTrouble sc x t (trouble_of f)
 
--- no text can mean an expression in which a disturbed place is met
+-- It stores nothing in the target. No text can mean an expression in which a disturbed place is met.
 abbrev pub Serves : Scene → ReadText → TableUse → Answer → Dial → PsCore → Type 0
-Serves sc x t answer d c = ServesBy sc x t answer d c ⊎ ((t' : TableUse) × values_of sc x.tree t (Err (Refused Disturbed)) t')
+Serves sc x t answer d c = ((d.target ≡ Some sc.target) × ServesBy sc x t answer d c) ⊎ ((t' : TableUse) × values_of sc x.tree t (Err (Refused Disturbed)) t')
 
 -- ---- where it is run
 
+-- a table in which the functions of some more units were run
+pub data HasRun : StoreState → StoreState → Type 0 where
+  no_more : {s : StoreState} → HasRun s s
+  one_more : {s s₁ s' : StoreState} {u n m : ℕ} → ForcesUnit u s n (Ok s₁) m → HasRun s₁ s' → HasRun s s'
+
 -- A frame of any machine of the side's target that stands at the point at which the chosen frame stands, where a session chose it.
+-- The functions of more units may have been run there.
 pub record StandsAlike (a : SideState) (s : StoreState) (x : ReadText) (b : SideState) (f : Frame) : Type 0 where
   pub target : b.machine.target ≡ a.machine.target
-  pub table : b.table ≡ s
+  pub table : HasRun s b.table
   pub point : DictId
   pub here : point_of s a.frame x.frame ≡ Ok point
-  pub found : frame_at (row_of b) s (memory_of b) CONTEXT b.frame ≡ Ok (Some f)
-  pub there : point_of s b.frame f ≡ Ok point
+  pub found : frame_at (row_of b) b.table (memory_of b) CONTEXT b.frame ≡ Ok (Some f)
+  pub there : point_of b.table b.frame f ≡ Ok point
 
 abbrev scene_in : SideState → Frame → Scene → Scene
 scene_in b f sc = record sc { target = target_of b; frame = f }
@@ -83,8 +90,8 @@ scene_in b f sc = record sc { target = target_of b; frame = f }
 abbrev pub IsCode : SideState → ReadText → StoreState → List ℕ → Type 0
 IsCode a x s text = AllByRecursion (λ c. c ≢ 10) text
     × (is_disturbed s ≡ false → (b : SideState) (f : Frame) (run : Run) (t : TableUse) (answer : Answer) (left : ℕ) (d : Dial) (c : PsCore)
-    → StandsAlike a s x b f → ps_ready b text (use_of s MOST_STEPS) (Ok run) t → Runs Operates t.left run.dial run.core answer left d c
-    → Serves (scene_in b f x.scene) x (use_of s MOST_STEPS) answer d c)
+    → StandsAlike a s x b f → ps_ready b text (use_of b.table MOST_STEPS) (Ok run) t → Runs Operates t.left run.dial run.core answer left d c
+    → Serves (scene_in b f x.scene) x (use_of b.table MOST_STEPS) answer d c)
 
 abbrev any_code : SideState → ReadText → OnSide (List ℕ)
 any_code a x t r t' = (text : List ℕ) × IsCode a x t.store text × (r ≡ Ok text) × (t' ≡ t)

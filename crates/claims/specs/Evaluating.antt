@@ -15,8 +15,9 @@ use Rattle.ps_step.specs.declared.fault.PsError.TheVariants as ps
 use Rattle.frame_bytes.specs.Bytes.{Bytes}
 use Rattle.dialect_model.specs.TableUse.{TableUse, Trouble, Refused, Kind, Spent, Wanting, gives, ◌>>=◌}
 use Rattle.dialect_model.specs.Near.{slackened}
-use Rattle.c_session.specs.Commands.{AsValue, AsAssignment, IsUndefined}
-use Rattle.c_bytes.specs.Spots.{Cause, Reason, Disturbed, IllTyped, Means, Scene, Spot, bytes_with}
+use Rattle.c_reading.specs.Readings.{AsValue, AsAssignment}
+use Rattle.c_session.specs.Commands.{IsUndefined}
+use Rattle.c_bytes.specs.Lvalues.{Cause, Reason, Disturbed, IllTyped, Means, Scene, Lvalue, bytes_with}
 use Rattle.c_bytes.specs.Evaluation.{target_place, assignment, leavings, stored_all}
 use Rattle.c_bytes.specs.Shown.{text_of}
 use Rattle.claims.specs.Side.{SideState, Change, OnSide, Troubled, with_memory}
@@ -75,11 +76,11 @@ abbrev pub AnyText : TableUse → List ℕ → Type 0
 AnyText t text = AllByRecursion (λ c. c ≢ 10) text
 
 -- any numbers in the leaves of the place on the left; where this comes to no place, in those of some one
-abbrev IsTarget : Scene → Typed → TableUse → Spot → Type 0
-IsTarget sc e t to = ((t' : TableUse) × target_place sc e t (Ok to) t') ⊎ ((p : Spot) (t' : TableUse) → target_place sc e t (Ok p) t' → ⊥)
+abbrev IsTarget : Scene → Typed → TableUse → Lvalue → Type 0
+IsTarget sc e t to = ((t' : TableUse) × target_place sc e t (Ok to) t') ⊎ ((p : Lvalue) (t' : TableUse) → target_place sc e t (Ok p) t' → ⊥)
 
 abbrev pub AnyLeaves : Scene → Typed → TableUse → Bytes → Type 0
-AnyLeaves sc e t b = (to : Spot) × (vs : List ℕ) × IsTarget sc e t to × (stored_all sc (leavings sc to (leaves_of sc.defs (type_of e)) vs) (bytes_with sc 0) ≡ Some b)
+AnyLeaves sc e t b = (to : Lvalue) × (vs : List ℕ) × IsTarget sc e t to × (stored_all sc (leavings sc to (leaves_of sc.defs (type_of e)) vs) (bytes_with sc 0) ≡ Some b)
 
 -- ---- the commands
 

@@ -9,13 +9,13 @@ use Rattle.c_judge.specs.declared.symbol.Symbol.{Symbol}
 use Rattle.c_judge.specs.declared.fault.ExprFault.TheVariants as fault
 use Rattle.c_judge.specs.Session.{session}
 use Rattle.c_judge.specs.Checks.{Checks}
-use Rattle.c_reading.specs.Readings.{IsExpression, mode_of}
+use Rattle.c_reading.specs.Readings.{Use, BadSyntax, BadType, IsExpression, mode_of}
 use Rattle.ps_store.specs.declared.object.DictId.{DictId}
 use Rattle.frame_bytes.specs.declared.frame.Frame.{Frame}
 use Rattle.table_model.specs.Symbols.{scope_of, symbol_named}
 use Rattle.dialect_model.specs.TableUse.{Refused, Looks, gives, ◌>>=◌}
-use Rattle.c_session.specs.Commands.{Use, BadSyntax, BadType}
-use Rattle.c_bytes.specs.Spots.{Scene}
+use Rattle.c_session.specs.Commands.{BadText}
+use Rattle.c_bytes.specs.Lvalues.{Scene}
 use Rattle.claims.specs.Side.{SideState, OnSide, target_of}
 use Rattle.claims.specs.Frames.{chosen}
 use Rattle.claims.specs.Printing.{or_no_scope}
@@ -28,7 +28,7 @@ abbrev IsNoExpression : List ℕ → Type 0
 IsNoExpression text = (e : Tree) → IsExpression text e → ⊥
 
 abbrev pub parsing : List ℕ → OnSide Tree
-parsing text t r t' = (t' ≡ t) × (((e : Tree) × IsExpression text e × (r ≡ Ok e)) ⊎ (IsNoExpression text × (r ≡ Err (Refused BadSyntax))))
+parsing text t r t' = (t' ≡ t) × (((e : Tree) × IsExpression text e × (r ≡ Ok e)) ⊎ (IsNoExpression text × (r ≡ Err (Refused (BadText BadSyntax)))))
 
 -- ---- names and tags, in the order of the text
 
@@ -91,7 +91,7 @@ pub record BreaksRule (u : Use) (k : Known) (e : Tree) : Type 0 where
   pub breaks : ((rule : ℕ) × Checks (session symbols defs) (mode_of u) e (Err (fault.Rule rule))) ⊎ ((at : ℕ) × Checks (session symbols defs) (mode_of u) e (Err (fault.Forbidden at)))
 
 abbrev pub typing : Use → Known → Tree → OnSide TypedText
-typing u k e t r t' = (t' ≡ t) × (((x : TypedText) × HasType u k e x × (r ≡ Ok x)) ⊎ (BreaksRule u k e × (r ≡ Err (Refused BadType))))
+typing u k e t r t' = (t' ≡ t) × (((x : TypedText) × HasType u k e x × (r ≡ Ok x)) ⊎ (BreaksRule u k e × (r ≡ Err (Refused (BadText BadType)))))
 
 -- ---- all
 

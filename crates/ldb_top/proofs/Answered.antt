@@ -25,7 +25,8 @@ use Rattle.c_source.specs.Names.{named}
 use Rattle.c_show.specs.Shown.{null, IsOneLine}
 use Rattle.c_session.specs.declared.command.Command.{Command}
 use Rattle.c_session.specs.declared.command.Command.TheVariants as command
-use Rattle.c_session.specs.Commands.{Names, OneSide, ReadsNothing, ReadsIn, ReadsLine, Mode, Answer, Refuses, BadSyntax, NoScope, BadType, answer, print_symbol}
+use Rattle.c_reading.specs.Readings.{BadSyntax, NoScope, BadType}
+use Rattle.c_session.specs.Commands.{OneSide, ReadsIn, ReadsLine, Mode, Answer, Refuses, BadText, answer, print_symbol}
 use Rattle.c_session.specs.Commands as mode
 use Rattle.c_session.specs.Allowed.{Lines, bytes_of, Standing, AnswerReplies, MemoryReplies, IsQuitLine, ClaimEnds, event_text}
 use Rattle.assign_tree.specs.Assigning.{IsBody, AreNames, program_with, point_row, point_rows}
@@ -36,13 +37,14 @@ use Rattle.assign_tree.proofs.Words.{object_is, object_absent, by_bool, bytes_sa
 use Rattle.assign_tree.proofs.Objects.{object_here, int_at}
 use Rattle.assign_tree.proofs.Sums.{signed_word}
 use Rattle.assign_tree.proofs.Scope.{names_object, names_other, exit_row, putchar_row, getchar_row}
+use Rattle.ldb_top.proofs.Identifiers.{same_identifiers}
 use Rattle.ldb_top.specs.declared.session.Phase.{Phase}
 use Rattle.ldb_top.specs.declared.session.Phase.TheVariants.{Fresh, Stopped, Ended}
 use Rattle.ldb_top.specs.Talk.{Tells}
 use Rattle.ldb_top.specs.Command.{is_empty, is_quit, is_quit_command, read_of, command_of, lone_of, words_of}
 use Rattle.ldb_top.specs.Follows.{Session, session, first_session, IsRefused, Resumes, Steps, IsPrinted, Shows, Prints, Follows, Breaks, IsResumable}
 use Rattle.ldb_top.specs.Follows as follows
-use Rattle.ldb_top.specs.Allowed.{TakesNames, no_text, Beside, before, at, behind, standing_in, OfEach, IsPlain, ArePlain, Replies, EndsClaim}
+use Rattle.ldb_top.specs.Allowed.{no_text, Beside, before, at, behind, standing_in, OfEach, IsPlain, ArePlain, Replies, EndsClaim}
 
 -- ---- the commands that a line may be
 
@@ -78,17 +80,17 @@ asked line = by (nat_le (length line) 1000)
     by false = malformed
 
 -- no text is read for such a command
-reads_in : (q : Program) (r : Names) (s : mode.Session) (m : Mode) (c : Command) → IsAsked (Some c) → ReadsIn q r OneSide s ReadsNothing m c no_text
-reads_in q r s (mode.Stopped t) _ stepping = tt
-reads_in q r s (mode.Stopped t) _ (printing name) = tt
-reads_in q r s (mode.Stopped t) _ quitting = tt
-reads_in q r s (mode.Fresh t) c k = tt
-reads_in q r s (mode.Running how ps) c k = tt
-reads_in q r s mode.Ended c k = tt
+reads_in : (q : Program) (s : mode.Session) (m : Mode) (c : Command) → IsAsked (Some c) → ReadsIn q OneSide s m c no_text
+reads_in q s (mode.Stopped t) _ stepping = tt
+reads_in q s (mode.Stopped t) _ (printing name) = tt
+reads_in q s (mode.Stopped t) _ quitting = tt
+reads_in q s (mode.Fresh t) c k = tt
+reads_in q s (mode.Running how ps) c k = tt
+reads_in q s mode.Ended c k = tt
 
-pub reads_no_text : (q : Program) (r : Names) (s : mode.Session) (c : Option Command) → IsAsked c → ReadsLine q r OneSide s ReadsNothing c no_text
-reads_no_text q r s None k = tt
-reads_no_text q r s (Some c) k = reads_in q r s s.mode c k
+pub reads_no_text : (q : Program) (s : mode.Session) (c : Option Command) → IsAsked c → ReadsLine q OneSide s c no_text
+reads_no_text q s None k = tt
+reads_no_text q s (Some c) k = reads_in q s s.mode c k
 
 -- ---- words
 
@@ -139,10 +141,10 @@ module _ (tasks : Tasks) (file : List ℕ) where
   p body = program_with file tasks.objects tasks.body body
 
   -- it is enough to look at the program with this block
-  each : (old : Session) (P : Program → Names → Standing → Type 0)
-      → ((body : Stmt) → AreNames tasks.objects → IsBody (length tasks.objects) tasks.body body → (r : Names) (st : Standing) → TakesNames r → Beside tasks (p body) old st → P (p body) r st) → OfEach tasks file old P
-  each old P f = λ q r st is takes beside.
-      subst (λ x. Beside tasks x old st → P x r st) (sym is.is) (f is.body is.names is.block r st takes) beside
+  each : (old : Session) (P : Program → Standing → Type 0)
+      → ((body : Stmt) → AreNames tasks.objects → IsBody (length tasks.objects) tasks.body body → (st : Standing) → Beside tasks (p body) old st → P (p body) st) → OfEach tasks file old P
+  each old P f = λ q st is beside.
+      subst (λ x. Beside tasks x old st → P x st) (sym is.is) (f is.body is.names is.block st) beside
 
   -- ---- want of memory
 
@@ -154,69 +156,69 @@ module _ (tasks : Tasks) (file : List ℕ) where
 
   -- ---- `print`
 
-  abbrev asks : Stmt → Names → State → List ℕ → Answer
-  asks body r s name = answer (p body) r OneSide (standing_in (mode.Stopped s)).session no_text (Some (command.Print name))
+  abbrev asks : Stmt → State → List ℕ → Answer
+  asks body s name = answer (p body) OneSide (standing_in (mode.Stopped s)).session no_text (Some (command.Print name))
 
   -- by whether the word is a name, and what it names
-  abbrev Told : Stmt → Names → State → Bool → Option SymbolRow → Answer
-  Told body r s is_name o = if is_name then print_symbol (p body) r OneSide (standing_in (mode.Stopped s)).session s.here.world s.here.activation o else Refuses BadSyntax
+  abbrev Told : Stmt → State → Bool → Option SymbolRow → Answer
+  Told body s is_name o = if is_name then print_symbol (p body) OneSide (standing_in (mode.Stopped s)).session s.here.world s.here.activation o else Refuses (BadText BadSyntax)
 
   -- at a stop of these numbers
-  asks_at : (body : Stmt) (r : Names) (left : Left) (s : State) (name : List ℕ) → TakesNames r → (d : Stop tasks.objects tasks.body left s)
-      → asks body r s name ≡ Told body r (at_point left.values d.q d.computed d.control) (is_identifier name) (named (p body) name d.q)
-  asks_at body r left s name takes d =
-      ap (λ x. asks body r x name) d.is ∙ ap (λ b. Told body r (at_point left.values d.q d.computed d.control) b (named (p body) name d.q)) (takes name)
+  asks_at : (body : Stmt) (left : Left) (s : State) (name : List ℕ) → (d : Stop tasks.objects tasks.body left s)
+      → asks body s name ≡ Told body (at_point left.values d.q d.computed d.control) (is_identifier name) (named (p body) name d.q)
+  asks_at body left s name d =
+      ap (λ x. asks body x name) d.is ∙ ap (λ b. Told body (at_point left.values d.q d.computed d.control) b (named (p body) name d.q)) (same_identifiers name)
 
   -- an object's number is shown
-  asks_object : (body : Stmt) (r : Names) (left : Left) (s : State) (name : List ℕ) (k : ℕ) → AreNames tasks.objects → TakesNames r → (d : Stop tasks.objects tasks.body left s) → object_of tasks.objects name ≡ Some k
-      → asks body r s name ≡ mode.Shows (at_point left.values d.q d.computed d.control).here.world Int (Number (word_of_signed (object_value left.values k)) ∷ [])
-  asks_object body r left s name k are takes d h =
+  asks_object : (body : Stmt) (left : Left) (s : State) (name : List ℕ) (k : ℕ) → AreNames tasks.objects → (d : Stop tasks.objects tasks.body left s) → object_of tasks.objects name ≡ Some k
+      → asks body s name ≡ mode.Shows (at_point left.values d.q d.computed d.control).here.world Int (Number (word_of_signed (object_value left.values k)) ∷ [])
+  asks_object body left s name k are d h =
       let spelled = object_is tasks.objects name k h in
       let low : k < length tasks.objects = slice_get_within tasks.objects k name spelled in
       let found : named (p body) name d.q ≡ Some (object_symbol k name) = names_object tasks.objects name file tasks.body body d.q d.at d.point k are spelled in
       let identifier : is_identifier name ≡ true = of_name name (are.named k name spelled) in
       let object = object_here k left.values (omega (arith, low, d.all)) in
       let row : slice_get (object_rows tasks.objects) k ≡ Some (object_row name) = row_at tasks.objects k name spelled in
-      asks_at body r left s name takes d ∙ rw identifier (rw found (rw object (rw row refl)))
+      asks_at body left s name d ∙ rw identifier (rw found (rw object (rw row refl)))
 
   -- a word that names no object is refused
-  refused_word : (body : Stmt) (r : Names) (t : State) (count : ℕ) (w : List ℕ) (m e u g : Bool)
-      → Told body r t true (if m then Some (main_symbol count) else (if e then Some (exit_row tasks.objects w) else (if u then Some (putchar_row tasks.objects w) else (if g then Some (getchar_row tasks.objects w) else None))))
-      ≡ (if m || (g || (u || (e || false))) then Refuses BadType else Refuses NoScope)
-  refused_word body r t count w true e u g = refl
-  refused_word body r t count w false true true true = refl
-  refused_word body r t count w false true true false = refl
-  refused_word body r t count w false true false true = refl
-  refused_word body r t count w false true false false = refl
-  refused_word body r t count w false false true true = refl
-  refused_word body r t count w false false true false = refl
-  refused_word body r t count w false false false true = refl
-  refused_word body r t count w false false false false = refl
+  refused_word : (body : Stmt) (t : State) (count : ℕ) (w : List ℕ) (m e u g : Bool)
+      → Told body t true (if m then Some (main_symbol count) else (if e then Some (exit_row tasks.objects w) else (if u then Some (putchar_row tasks.objects w) else (if g then Some (getchar_row tasks.objects w) else None))))
+      ≡ (if m || (g || (u || (e || false))) then Refuses (BadText BadType) else Refuses (BadText NoScope))
+  refused_word body t count w true e u g = refl
+  refused_word body t count w false true true true = refl
+  refused_word body t count w false true true false = refl
+  refused_word body t count w false true false true = refl
+  refused_word body t count w false true false false = refl
+  refused_word body t count w false false true true = refl
+  refused_word body t count w false false true false = refl
+  refused_word body t count w false false false true = refl
+  refused_word body t count w false false false false = refl
 
-  asks_other : (body : Stmt) (r : Names) (left : Left) (s : State) (name : List ℕ) → TakesNames r → (d : Stop tasks.objects tasks.body left s) → object_of tasks.objects name ≡ None
-      → asks body r s name ≡ (if is_identifier name then (if is_function name then Refuses BadType else Refuses NoScope) else Refuses BadSyntax)
-  asks_other body r left s name takes d h =
+  asks_other : (body : Stmt) (left : Left) (s : State) (name : List ℕ) → (d : Stop tasks.objects tasks.body left s) → object_of tasks.objects name ≡ None
+      → asks body s name ≡ (if is_identifier name then (if is_function name then Refuses (BadText BadType) else Refuses (BadText NoScope)) else Refuses (BadText BadSyntax))
+  asks_other body left s name d h =
       let t = at_point left.values d.q d.computed d.control in
       let found = names_other tasks.objects name file tasks.body body d.q d.at d.point (λ j e. object_absent tasks.objects name j h e) in
-      let other : Told body r t true (named (p body) name d.q) ≡ (if is_function name then Refuses BadType else Refuses NoScope) =
-      ap (Told body r t true) found
-      ∙ refused_word body r t (length tasks.objects) name (bytes_eq (codes "main") name) (bytes_eq (codes "exit") name) (bytes_eq (codes "putchar") name) (bytes_eq (codes "getchar") name)
-      ∙ ap (λ b. if b then Refuses BadType else Refuses NoScope) (sym (functions name)) in
-      asks_at body r left s name takes d ∙ by (is_identifier name) other
+      let other : Told body t true (named (p body) name d.q) ≡ (if is_function name then Refuses (BadText BadType) else Refuses (BadText NoScope)) =
+      ap (Told body t true) found
+      ∙ refused_word body t (length tasks.objects) name (bytes_eq (codes "main") name) (bytes_eq (codes "exit") name) (bytes_eq (codes "putchar") name) (bytes_eq (codes "getchar") name)
+      ∙ ap (λ b. if b then Refuses (BadText BadType) else Refuses (BadText NoScope)) (sym (functions name)) in
+      asks_at body left s name d ∙ by (is_identifier name) other
     where
-      by : (b : Bool) → Told body r (at_point left.values d.q d.computed d.control) true (named (p body) name d.q) ≡ (if is_function name then Refuses BadType else Refuses NoScope)
-          → Told body r (at_point left.values d.q d.computed d.control) b (named (p body) name d.q) ≡ (if b then (if is_function name then Refuses BadType else Refuses NoScope) else Refuses BadSyntax)
+      by : (b : Bool) → Told body (at_point left.values d.q d.computed d.control) true (named (p body) name d.q) ≡ (if is_function name then Refuses (BadText BadType) else Refuses (BadText NoScope))
+          → Told body (at_point left.values d.q d.computed d.control) b (named (p body) name d.q) ≡ (if b then (if is_function name then Refuses (BadText BadType) else Refuses (BadText NoScope)) else Refuses (BadText BadSyntax))
       by true e = e
       by false e = refl
 
   refusal_line : List ℕ → Lines
   refusal_line why = (codes "refused " ++ why) ∷ []
 
-  tells_other : (q : Program) (st : Standing) (name : List ℕ) (a : Answer) → a ≡ (if is_identifier name then (if is_function name then Refuses BadType else Refuses NoScope) else Refuses BadSyntax) → AnswerReplies q st a (refusal_line (print_refusal name)) st
+  tells_other : (q : Program) (st : Standing) (name : List ℕ) (a : Answer) → a ≡ (if is_identifier name then (if is_function name then Refuses (BadText BadType) else Refuses (BadText NoScope)) else Refuses (BadText BadSyntax)) → AnswerReplies q st a (refusal_line (print_refusal name)) st
   unfolding refusal_line
   tells_other q st name a e = subst (λ x. AnswerReplies q st x ((codes "refused " ++ print_refusal name) ∷ []) st) (sym e) (by (is_identifier name) (is_function name))
     where
-      by : (a b : Bool) → AnswerReplies q st (if a then (if b then Refuses BadType else Refuses NoScope) else Refuses BadSyntax) ((codes "refused " ++ (if not a then codes "syntax" else (if b then codes "type" else codes "scope"))) ∷ []) st
+      by : (a b : Bool) → AnswerReplies q st (if a then (if b then Refuses (BadText BadType) else Refuses (BadText NoScope)) else Refuses (BadText BadSyntax)) ((codes "refused " ++ (if not a then codes "syntax" else (if b then codes "type" else codes "scope"))) ∷ []) st
       by true true = (refl, refl)
       by true false = (refl, refl)
       by false b = (refl, refl)
@@ -270,7 +272,7 @@ module _ (tasks : Tasks) (file : List ℕ) where
 
   -- memory may be wanting for any command but `quit`
   pub no_memory : (line : List ℕ) (old : Session) → is_quit line ≡ false → Replies tasks file (read_of line) old NO_MEMORY old
-  no_memory line old n = each old _ (λ body are is r st takes beside. (st, inr (no_quit_line (read_of line) n, refl, refl), beside))
+  no_memory line old n = each old _ (λ body are is st beside. (st, inr (no_quit_line (read_of line) n, refl, refl), beside))
 
   -- ---- `step`
 
@@ -307,9 +309,9 @@ module _ (tasks : Tasks) (file : List ℕ) where
   stop_line body q place s h = rw h (in_a_row (codes "stop ") file (codes ":") (decimal place.line) (codes ".") (decimal place.column) (codes " ") (codes "main"))
 
   -- a session after an event, beside the tasks
-  abbrev AfterStep : Stmt → Names → Standing → Lines → Session → Type 0
-  AfterStep body r st lines new =
-      (next : Standing) × (AnswerReplies (p body) st (answer (p body) r OneSide st.session no_text (Some command.Step)) lines next ⊎ MemoryReplies st (Some command.Step) lines next) × Beside tasks (p body) new next
+  abbrev AfterStep : Stmt → Standing → Lines → Session → Type 0
+  AfterStep body st lines new =
+      (next : Standing) × (AnswerReplies (p body) st (answer (p body) OneSide st.session no_text (Some command.Step)) lines next ⊎ MemoryReplies st (Some command.Step) lines next) × Beside tasks (p body) new next
 
   -- at a stop or before the start
   data MayResume (body : Stmt) (s : State) : Standing → Type 0 where
@@ -319,27 +321,27 @@ module _ (tasks : Tasks) (file : List ℕ) where
   abbrev Comes : Stmt → State → Event → Left → Type 0
   Comes body s e left = (whole : WholeEvent State) × Meets file tasks.objects tasks.body body s whole × Answers tasks.objects tasks.body e left whole
 
-  stopped_at : (body : Stmt) (r : Names) (s : State) (st : Standing) → MayResume body s st → (place : Place) (left : Left) (q : ℕ) (t : State)
-      → Meets file tasks.objects tasks.body body s (StoppedAt q t) → Answers tasks.objects tasks.body (event.Stop place) left (StoppedAt q t) → AfterStep body r st (event_line (event.Stop place) ∷ []) (session Stopped left)
-  stopped_at body r s _ first place left q t m a =
+  stopped_at : (body : Stmt) (s : State) (st : Standing) → MayResume body s st → (place : Place) (left : Left) (q : ℕ) (t : State)
+      → Meets file tasks.objects tasks.body body s (StoppedAt q t) → Answers tasks.objects tasks.body (event.Stop place) left (StoppedAt q t) → AfterStep body st (event_line (event.Stop place) ∷ []) (session Stopped left)
+  stopped_at body s _ first place left q t m a =
       (_, inl (inl (StoppedAt q t, tt, m, ap (λ x. x ∷ []) (sym (stop_line body q place t a.1)), refl)), subst (λ x. Beside tasks (p body) (session Stopped left) (record { session = (standing_in (mode.Stopped t)).session; written = x })) (sym a.2) (at left t a.0))
-  stopped_at body r s _ later place left q t m a =
+  stopped_at body s _ later place left q t m a =
       (_, inl (inl (StoppedAt q t, tt, m, ap (λ x. x ∷ []) (sym (stop_line body q place t a.1)), refl)), subst (λ x. Beside tasks (p body) (session Stopped left) (record { session = (standing_in (mode.Stopped t)).session; written = x })) (sym a.2) (at left t a.0))
 
-  exited_at : (body : Stmt) (r : Names) (s : State) (st : Standing) → MayResume body s st → (status : ℤ) (left : Left) (n : ℤ) (t : State)
-      → Meets file tasks.objects tasks.body body s (Exited n t) → Answers tasks.objects tasks.body (event.Exit status) left (Exited n t) → AfterStep body r st (event_line (event.Exit status) ∷ []) (session Ended left)
-  exited_at body r s _ first status left n t m a =
+  exited_at : (body : Stmt) (s : State) (st : Standing) → MayResume body s st → (status : ℤ) (left : Left) (n : ℤ) (t : State)
+      → Meets file tasks.objects tasks.body body s (Exited n t) → Answers tasks.objects tasks.body (event.Exit status) left (Exited n t) → AfterStep body st (event_line (event.Exit status) ∷ []) (session Ended left)
+  exited_at body s _ first status left n t m a =
       (_, inl (inl (Exited n t, tt, m, exit_line n status a.0, refl)), subst (λ x. Beside tasks (p body) (session Ended left) (record { session = (standing_in mode.Ended).session; written = x })) (sym a.1) (behind left))
-  exited_at body r s _ later status left n t m a =
+  exited_at body s _ later status left n t m a =
       (_, inl (inl (Exited n t, tt, m, exit_line n status a.0, refl)), subst (λ x. Beside tasks (p body) (session Ended left) (record { session = (standing_in mode.Ended).session; written = x })) (sym a.1) (behind left))
 
-  resumes : (body : Stmt) (r : Names) (s : State) (st : Standing) → MayResume body s st → (e : Event) (left : Left) → Comes body s e left → AfterStep body r st (event_line e ∷ []) (session (follows.phase_after e) left)
-  resumes body r s st may (event.Stop place) left (StoppedAt q t, m, a) = stopped_at body r s st may place left q t m a
-  resumes body r s st may (event.Stop place) left (Exited n t, m, a) = absurd a
-  resumes body r s st may (event.Stop place) left (Failed w, m, a) = absurd a
-  resumes body r s st may (event.Exit status) left (StoppedAt q t, m, a) = absurd a
-  resumes body r s st may (event.Exit status) left (Exited n t, m, a) = exited_at body r s st may status left n t m a
-  resumes body r s st may (event.Exit status) left (Failed w, m, a) = absurd a
+  resumes : (body : Stmt) (s : State) (st : Standing) → MayResume body s st → (e : Event) (left : Left) → Comes body s e left → AfterStep body st (event_line e ∷ []) (session (follows.phase_after e) left)
+  resumes body s st may (event.Stop place) left (StoppedAt q t, m, a) = stopped_at body s st may place left q t m a
+  resumes body s st may (event.Stop place) left (Exited n t, m, a) = absurd a
+  resumes body s st may (event.Stop place) left (Failed w, m, a) = absurd a
+  resumes body s st may (event.Exit status) left (StoppedAt q t, m, a) = absurd a
+  resumes body s st may (event.Exit status) left (Exited n t, m, a) = exited_at body s st may status left n t m a
+  resumes body s st may (event.Exit status) left (Failed w, m, a) = absurd a
 
   -- ---- any command
 
@@ -348,37 +350,37 @@ module _ (tasks : Tasks) (file : List ℕ) where
 
   -- a refusal, whatever the standing beside this session
   refuses : (c : Option Command) (why : List ℕ) (u : mode.Refusal) (old new : Session) (text : List ℕ) → mode.refusal_text u ≡ codes "refused " ++ why → IsRefused why old text new
-      → ((body : Stmt) (r : Names) (st : Standing) → Beside tasks (p body) old st → answer (p body) r OneSide st.session no_text c ≡ Refuses u) → Told_as c old text new
+      → ((body : Stmt) (st : Standing) → Beside tasks (p body) old st → answer (p body) OneSide st.session no_text c ≡ Refuses u) → Told_as c old text new
   refuses c why u old new text same d f =
-      let replies : Replies tasks file c old (refusal_line why) new = each old _ (λ body are is r st takes beside. (st, inl (refusal_said (p body) st _ u why same (f body r st beside)), subst (λ x. Beside tasks (p body) x st) (sym d.same) beside)) in
+      let replies : Replies tasks file c old (refusal_line why) new = each old _ (λ body are is st beside. (st, inl (refusal_said (p body) st _ u why same (f body st beside)), subst (λ x. Beside tasks (p body) x st) (sym d.same) beside)) in
       (refusal_line why, d.reply_is ∙ refusal_bytes why, refusal_plain why, inl replies)
 
-  ended : (c : Command) (left : Left) → (c ≡ command.Quit → ⊥) → (body : Stmt) (r : Names) (st : Standing) → Beside tasks (p body) (session Ended left) st → answer (p body) r OneSide st.session no_text (Some c) ≡ Refuses mode.HasEnded
-  ended c left n body r _ (behind _) = other c n
+  ended : (c : Command) (left : Left) → (c ≡ command.Quit → ⊥) → (body : Stmt) (st : Standing) → Beside tasks (p body) (session Ended left) st → answer (p body) OneSide st.session no_text (Some c) ≡ Refuses mode.HasEnded
+  ended c left n body _ (behind _) = other c n
     where
-      other : (c : Command) → (c ≡ command.Quit → ⊥) → mode.in_ended (p body) r OneSide (standing_in mode.Ended).session c ≡ Refuses mode.HasEnded
+      other : (c : Command) → (c ≡ command.Quit → ⊥) → mode.in_ended (p body) OneSide (standing_in mode.Ended).session c ≡ Refuses mode.HasEnded
       other command.Quit n = absurd (n refl)
       other _ n = refl
 
-  running : (name : List ℕ) (left : Left) (body : Stmt) (r : Names) (st : Standing) → Beside tasks (p body) (session Fresh left) st → answer (p body) r OneSide st.session no_text (Some (command.Print name)) ≡ Refuses mode.IsRunning
-  running name _ body r _ before = refl
+  running : (name : List ℕ) (left : Left) (body : Stmt) (st : Standing) → Beside tasks (p body) (session Fresh left) st → answer (p body) OneSide st.session no_text (Some (command.Print name)) ≡ Refuses mode.IsRunning
+  running name _ body _ before = refl
 
-  from_start : (left : Left) (e : Event) (new : Left) → ComesTo left e new → (body : Stmt) (is : IsBody (length tasks.objects) tasks.body body) (r : Names) (st : Standing) → Beside tasks (p body) (session Fresh left) st → AfterStep body r st (event_line e ∷ []) (session (follows.phase_after e) new)
-  from_start _ e new runs body is r _ before = resumes body r (begin (p body) []) _ first e new (runs file tasks.objects tasks.body body _ is beginning)
+  from_start : (left : Left) (e : Event) (new : Left) → ComesTo left e new → (body : Stmt) (is : IsBody (length tasks.objects) tasks.body body) (st : Standing) → Beside tasks (p body) (session Fresh left) st → AfterStep body st (event_line e ∷ []) (session (follows.phase_after e) new)
+  from_start _ e new runs body is _ before = resumes body (begin (p body) []) _ first e new (runs file tasks.objects tasks.body body _ is beginning)
 
-  from_stop : (left : Left) (e : Event) (new : Left) → ComesTo left e new → (body : Stmt) (is : IsBody (length tasks.objects) tasks.body body) (r : Names) (st : Standing) → Beside tasks (p body) (session Stopped left) st → AfterStep body r st (event_line e ∷ []) (session (follows.phase_after e) new)
-  from_stop left e new runs body is r _ (at _ s stands) = resumes body r s _ later e new (runs file tasks.objects tasks.body body s is (stopping left s stands))
+  from_stop : (left : Left) (e : Event) (new : Left) → ComesTo left e new → (body : Stmt) (is : IsBody (length tasks.objects) tasks.body body) (st : Standing) → Beside tasks (p body) (session Stopped left) st → AfterStep body st (event_line e ∷ []) (session (follows.phase_after e) new)
+  from_stop left e new runs body is _ (at _ s stands) = resumes body s _ later e new (runs file tasks.objects tasks.body body s is (stopping left s stands))
 
-  said : (left : Left) (name : List ℕ) (k : ℕ) → object_of tasks.objects name ≡ Some k → (body : Stmt) → AreNames tasks.objects → (r : Names) (st : Standing) → TakesNames r → Beside tasks (p body) (session Stopped left) st
-      → AnswerReplies (p body) st (answer (p body) r OneSide st.session no_text (Some (command.Print name))) (value_line (object_value left.values k)) st
-  said left name k h body are r _ takes (at _ s stands) =
+  said : (left : Left) (name : List ℕ) (k : ℕ) → object_of tasks.objects name ≡ Some k → (body : Stmt) → AreNames tasks.objects → (st : Standing) → Beside tasks (p body) (session Stopped left) st
+      → AnswerReplies (p body) st (answer (p body) OneSide st.session no_text (Some (command.Print name))) (value_line (object_value left.values k)) st
+  said left name k h body are _ (at _ s stands) =
       let stop = stop_of tasks.objects tasks.body left s stands in
-      tells_value body _ left k _ stop.q stop.computed stop.control (int_at k left.values stop.ints) (asks_object body r left s name k are takes stop h)
+      tells_value body _ left k _ stop.q stop.computed stop.control (int_at k left.values stop.ints) (asks_object body left s name k are stop h)
 
-  unsaid : (left : Left) (name : List ℕ) → object_of tasks.objects name ≡ None → (body : Stmt) (r : Names) (st : Standing) → TakesNames r → Beside tasks (p body) (session Stopped left) st
-      → AnswerReplies (p body) st (answer (p body) r OneSide st.session no_text (Some (command.Print name))) (refusal_line (print_refusal name)) st
-  unsaid left name h body r _ takes (at _ s stands) =
-      tells_other (p body) _ name _ (asks_other body r left s name takes (stop_of tasks.objects tasks.body left s stands) h)
+  unsaid : (left : Left) (name : List ℕ) → object_of tasks.objects name ≡ None → (body : Stmt) (st : Standing) → Beside tasks (p body) (session Stopped left) st
+      → AnswerReplies (p body) st (answer (p body) OneSide st.session no_text (Some (command.Print name))) (refusal_line (print_refusal name)) st
+  unsaid left name h body _ (at _ s stands) =
+      tells_other (p body) _ name _ (asks_other body left s name (stop_of tasks.objects tasks.body left s stands) h)
 
   -- nothing changes
   same_beside : (old new : Session) → new ≡ old → (body : Stmt) (st : Standing) → Beside tasks (p body) old st → Beside tasks (p body) new st
@@ -388,19 +390,19 @@ module _ (tasks : Tasks) (file : List ℕ) where
   told_step Ended left text new d = refuses (Some command.Step) (codes "ended") mode.HasEnded (session Ended left) new text refl d (ended command.Step left (λ e. cc))
   told_step Fresh left text new (e, d) =
       let after : session (follows.phase_after e) new.source ≡ new = ap (λ x. session x new.source) (sym d.phase_is) in
-      let replies : Replies tasks file (Some command.Step) (session Fresh left) (event_line e ∷ []) new = each (session Fresh left) _ (λ body are is r st takes beside. subst (AfterStep body r st (event_line e ∷ [])) after (from_start left e new.source d.runs body is r st beside)) in
+      let replies : Replies tasks file (Some command.Step) (session Fresh left) (event_line e ∷ []) new = each (session Fresh left) _ (λ body are is st beside. subst (AfterStep body st (event_line e ∷ [])) after (from_start left e new.source d.runs body is st beside)) in
       (event_line e ∷ [], d.reply_is ∙ event_bytes e, event_plain e, inl replies)
   told_step Stopped left text new (e, d) =
       let after : session (follows.phase_after e) new.source ≡ new = ap (λ x. session x new.source) (sym d.phase_is) in
-      let replies : Replies tasks file (Some command.Step) (session Stopped left) (event_line e ∷ []) new = each (session Stopped left) _ (λ body are is r st takes beside. subst (AfterStep body r st (event_line e ∷ [])) after (from_stop left e new.source d.runs body is r st beside)) in
+      let replies : Replies tasks file (Some command.Step) (session Stopped left) (event_line e ∷ []) new = each (session Stopped left) _ (λ body are is st beside. subst (AfterStep body st (event_line e ∷ [])) after (from_stop left e new.source d.runs body is st beside)) in
       (event_line e ∷ [], d.reply_is ∙ event_bytes e, event_plain e, inl replies)
 
   told_object : (left : Left) (name text : List ℕ) (new : Session) (o : Option ℕ) → object_of tasks.objects name ≡ o → Shows o name (session Stopped left) text new → Told_as (Some (command.Print name)) (session Stopped left) text new
   told_object left name text new (Some k) h d =
-      let replies : Replies tasks file (Some (command.Print name)) (session Stopped left) (value_line (object_value left.values k)) new = each (session Stopped left) _ (λ body are is r st takes beside. (st, inl (said left name k h body are r st takes beside), same_beside (session Stopped left) new d.same body st beside)) in
+      let replies : Replies tasks file (Some (command.Print name)) (session Stopped left) (value_line (object_value left.values k)) new = each (session Stopped left) _ (λ body are is st beside. (st, inl (said left name k h body are st beside), same_beside (session Stopped left) new d.same body st beside)) in
       (value_line (object_value left.values k), d.reply_is ∙ value_bytes (object_value left.values k), value_plain (object_value left.values k), inl replies)
   told_object left name text new None h d =
-      let replies : Replies tasks file (Some (command.Print name)) (session Stopped left) (refusal_line (print_refusal name)) new = each (session Stopped left) _ (λ body are is r st takes beside. (st, inl (unsaid left name h body r st takes beside), same_beside (session Stopped left) new d.same body st beside)) in
+      let replies : Replies tasks file (Some (command.Print name)) (session Stopped left) (refusal_line (print_refusal name)) new = each (session Stopped left) _ (λ body are is st beside. (st, inl (unsaid left name h body st beside), same_beside (session Stopped left) new d.same body st beside)) in
       (refusal_line (print_refusal name), d.reply_is ∙ refusal_bytes (print_refusal name), refusal_plain (print_refusal name), inl replies)
 
   told_print : (phase : Phase) (left : Left) (name text : List ℕ) (new : Session) → Prints (object_of tasks.objects name) name phase (session phase left) text new → Told_as (Some (command.Print name)) (session phase left) text new
@@ -409,26 +411,26 @@ module _ (tasks : Tasks) (file : List ℕ) where
   told_print Stopped left name text new d = told_object left name text new (object_of tasks.objects name) refl d
 
   pub told : (c : Option Command) → IsAsked c → (old new : Session) (text : List ℕ) → Follows tasks file c old text new → Told_as c old text new
-  told _ malformed old new text d = refuses None (codes "line") mode.BadLine old new text refl d (λ body r st beside. refl)
+  told _ malformed old new text d = refuses None (codes "line") mode.BadLine old new text refl d (λ body st beside. refl)
   told _ stepping old new text d = told_step old.phase old.source text new d
   told _ (printing name) old new text d = told_print old.phase old.source name text new d
   told _ quitting old new text d = absurd d
 
   -- ---- undefined steps
 
-  doomed : (body : Stmt) (is : IsBody (length tasks.objects) tasks.body body) (r : Names) (old : Session) (st : Standing) → Beside tasks (p body) old st → IsResumable old.phase → Fails old.source
-      → ClaimEnds (p body) st (answer (p body) r OneSide st.session no_text (Some command.Step))
-  doomed body is r _ _ before may f =
+  doomed : (body : Stmt) (is : IsBody (length tasks.objects) tasks.body body) (old : Session) (st : Standing) → Beside tasks (p body) old st → IsResumable old.phase → Fails old.source
+      → ClaimEnds (p body) st (answer (p body) OneSide st.session no_text (Some command.Step))
+  doomed body is _ _ before may f =
       let fails = f file tasks.objects tasks.body body _ is beginning in
       (begin (p body) [], fails.1.0, Failed (Reason fails.0), refl, fails.1.1, tt)
-  doomed body is r _ _ (at left s stands) may f =
+  doomed body is _ _ (at left s stands) may f =
       let fails = f file tasks.objects tasks.body body s is (stopping left s stands) in
       (s, fails.1.0, Failed (Reason fails.0), refl, fails.1.1, tt)
-  doomed body is r _ _ (behind left) may f = absurd may
+  doomed body is _ _ (behind left) may f = absurd may
 
   pub told_free : (old new : Session) (text : List ℕ) → IsResumable old.phase → Breaks file old text → Told_as (Some command.Step) old text new
   told_free old new text may d =
-      (event_line d.event ∷ [], d.reply_is ∙ event_bytes d.event, event_plain d.event, inr (each old _ (λ body are is r st takes beside. doomed body is r old st beside may d.meets)))
+      (event_line d.event ∷ [], d.reply_is ∙ event_bytes d.event, event_plain d.event, inr (each old _ (λ body are is st beside. doomed body is old st beside may d.meets)))
 
   -- ---- a line
 

@@ -5,7 +5,7 @@ use Rattle.assign_tree.specs.Made.{Tasks}
 use Rattle.c_tree.specs.declared.rows.Program.{Program}
 use Rattle.c_session.specs.declared.command.Command.{Command}
 use Rattle.c_session.specs.declared.command.Command.TheVariants.{Quit}
-use Rattle.c_session.specs.Commands.{Names, OneSide, ReadsNothing, answer, Quits}
+use Rattle.c_session.specs.Commands.{OneSide, answer, Quits}
 use Rattle.c_session.specs.Allowed.{Lines, bytes_of, Standing, AllowedFrom, IsQuit}
 use Rattle.ldb_top.specs.Command.{is_empty, is_quit, is_quit_command, read_of, commands_of}
 use Rattle.ldb_top.specs.Follows.{Session, first_session}
@@ -28,19 +28,19 @@ module _ (program : Tasks) (file : List ℕ) where
   nothing_written p _ _ (behind left) = refl
 
   pub allowed_end : (now : Session) → Allowed program file now [] []
-  allowed_end now = record { transcript = []; bytes = refl; plain = tt; each = λ p r st is takes beside. (refl, nothing_written p now st beside) }
+  allowed_end now = record { transcript = []; bytes = refl; plain = tt; each = λ p st is beside. (refl, nothing_written p now st beside) }
 
-  quits : (old : Session) (p : Program) (r : Names) (st : Standing) → Beside program p old st → answer p r OneSide st.session no_text (Some Quit) ≡ Quits
-  quits _ p r _ before = refl
-  quits _ p r _ (at left s stands) = refl
-  quits _ p r _ (behind left) = refl
+  quits : (old : Session) (p : Program) (st : Standing) → Beside program p old st → answer p OneSide st.session no_text (Some Quit) ≡ Quits
+  quits _ p _ before = refl
+  quits _ p _ (at left s stands) = refl
+  quits _ p _ (behind left) = refl
 
   module _ (line : List ℕ) (lines : List (List ℕ)) (old : Session) where
     abbrev LineCommands : Bool → List (Option Command)
     LineCommands blank = cond blank (commands_of lines) (read_of line ∷ commands_of lines)
 
     abbrev Each : List (Option Command) → Lines → Type 0
-    Each commands transcript = OfEach program file old (λ p r st. AllowedFrom p r ReadsNothing OneSide st commands transcript [])
+    Each commands transcript = OfEach program file old (λ p st. AllowedFrom p OneSide st commands transcript [])
 
     pub allowed_blank : (out : List ℕ) → is_empty line ≡ true → Allowed program file old lines out → Allowed program file old (line ∷ lines) out
     allowed_blank out b h = record { transcript = h.transcript; bytes = h.bytes; plain = h.plain; each = subst (λ t. Each (LineCommands t) h.transcript) (sym b) h.each }
@@ -60,24 +60,24 @@ module _ (program : Tasks) (file : List ℕ) where
     pub allowed_quit : is_empty line ≡ false → is_quit line ≡ true → Allowed program file old (line ∷ lines) []
     allowed_quit b q =
         let read : read_of line ≡ Some Quit = quit_read (read_of line) q in
-        by_command [] [] refl tt b (λ p r st is takes beside.
-        inr (no_text, reads_no_text p r st.session (read_of line) (asked line), inl (subst (IsQuit p) (sym (ap (answer p r OneSide st.session no_text) read ∙ quits old p r st beside)) tt, refl, nothing_written p old st beside)))
+        by_command [] [] refl tt b (λ p st is beside.
+        inr (no_text, reads_no_text p st.session (read_of line) (asked line), inl (subst (IsQuit p) (sym (ap (answer p OneSide st.session no_text) read ∙ quits old p st beside)) tt, refl, nothing_written p old st beside)))
 
     -- the first line is allowed by what its reply and the rest allow
     pub allowed_reply : (new : Session) (reply : Lines) (more : List ℕ) → ArePlain reply → is_empty line ≡ false → is_quit line ≡ false → Replies program file (read_of line) old reply new → Allowed program file new lines more → Allowed program file old (line ∷ lines) (bytes_of reply ++ more)
     allowed_reply new reply more plain b q told h =
-        by_command (bytes_of reply ++ more) (reply ++ h.transcript) (ap (λ t. bytes_of reply ++ t) h.bytes ∙ sym (bytes-append reply h.transcript)) (plain-append reply h.transcript plain h.plain) b (λ p r st is takes beside.
-        let t = told p r st is takes beside in
+        by_command (bytes_of reply ++ more) (reply ++ h.transcript) (ap (λ t. bytes_of reply ++ t) h.bytes ∙ sym (bytes-append reply h.transcript)) (plain-append reply h.transcript plain h.plain) b (λ p st is beside.
+        let t = told p st is beside in
         elim t.1 [
-          | inl a ↦ inr (no_text, reads_no_text p r st.session (read_of line) (asked line), inr (inr (reply, h.transcript, t.0, refl, a, h.each p r t.0 is takes t.2)))
-          | inr m ↦ inl (reply, h.transcript, t.0, refl, m, h.each p r t.0 is takes t.2)
+          | inl a ↦ inr (no_text, reads_no_text p st.session (read_of line) (asked line), inr (inr (reply, h.transcript, t.0, refl, a, h.each p t.0 is t.2)))
+          | inr m ↦ inl (reply, h.transcript, t.0, refl, m, h.each p t.0 is t.2)
         ])
 
     -- it is allowed with any lines where it ends the claim
     pub allowed_free : (reply more : Lines) → ArePlain reply → ArePlain more → is_empty line ≡ false → is_quit line ≡ false → EndsClaim program file (read_of line) old → Allowed program file old (line ∷ lines) (bytes_of reply ++ bytes_of more)
     allowed_free reply more plain also b q ends =
-        by_command (bytes_of reply ++ bytes_of more) (reply ++ more) (sym (bytes-append reply more)) (plain-append reply more plain also) b (λ p r st is takes beside.
-        inr (no_text, reads_no_text p r st.session (read_of line) (asked line), inr (inl (ends p r st is takes beside, ([], sym (ap (λ w. w ++ []) (sym (nothing_written p old st beside))))))))
+        by_command (bytes_of reply ++ bytes_of more) (reply ++ more) (sym (bytes-append reply more)) (plain-append reply more plain also) b (λ p st is beside.
+        inr (no_text, reads_no_text p st.session (read_of line) (asked line), inr (inl (ends p st is beside, ([], sym (ap (λ w. w ++ []) (sym (nothing_written p old st beside))))))))
 
   -- from each state there is some transcript
   pub some_rest : (now : Session) (lines : List (List ℕ)) → (more : List ℕ) × Allowed program file now lines more
@@ -93,4 +93,4 @@ module _ (program : Tasks) (file : List ℕ) where
 
   -- from the start on
   pub transcript_of : (lines : List (List ℕ)) (out : List ℕ) → Allowed program file (first_session program) lines out → IsTaskTranscript program file lines out
-  transcript_of lines out h = record { transcript = h.transcript; bytes_are = h.bytes; plain = h.plain; allowed = λ p r is takes. h.each p r _ is takes before }
+  transcript_of lines out h = record { transcript = h.transcript; bytes_are = h.bytes; plain = h.plain; allowed = λ p is. h.each p _ is before }

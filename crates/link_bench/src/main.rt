@@ -1,10 +1,11 @@
 //! Measures a link in this program, on a MIPS machine or, with a third word `sparc`, on a SPARC machine: `link N` fetches
-//! a word N times, `resume N` resumes once for N turns. `frames N` makes a stack of N frames on a MIPS machine, at most 20,000,
-//! and walks over it.
+//! a word N times, `resume N` resumes once for N turns. `frames N` makes a stack of N frames, at most 16,000, and walks over it
+//! 100 times.
 #![tactic(auto)]
 
 mod frames;
 
+use machine_state::{MIPS, SPARC};
 use near_link::NearLink;
 use nub_wire::{Link, Msg, Side, encode};
 use obj_file::read_image;
@@ -51,8 +52,13 @@ fn resumed<L: Link>(link: &mut L, turns: u32) -> u64 {
     if sent == Ok(7) && got == Ok(3) { 1 } else { 0 }
 }
 
-/// The link to the machine of an image.
-fn link_of(alloc: Global, bytes: &[u8]) -> Result<Option<NearLink>, AllocError> {
+/// The link to a machine of a target.
+fn link_of(alloc: Global, target: u8) -> Result<Option<NearLink>, AllocError> {
+    let bytes = if target == SPARC {
+        &SPARC_IMAGE
+    } else {
+        &MIPS_IMAGE
+    };
     match read_image(alloc, bytes) {
         Ok(image) => {
             let link = NearLink::new(alloc, &[image], Vec::new(alloc))?;
@@ -88,12 +94,12 @@ fn work_of(name: &str, number: &str) -> Option<Work> {
     }
 }
 
-/// What the words ask to measure, and on which image.
-fn plan_of(words: &[String]) -> Option<(Work, &'static [u8])> {
+/// What the words ask to measure, and on a machine of which target.
+fn plan_of(words: &[String]) -> Option<(Work, u8)> {
     match words {
-        [name, number] => Some((work_of(name.as_str(), number.as_str())?, &MIPS_IMAGE[..])),
+        [name, number] => Some((work_of(name.as_str(), number.as_str())?, MIPS)),
         [name, number, target] if target.as_str() == "sparc" => {
-            Some((work_of(name.as_str(), number.as_str())?, &SPARC_IMAGE[..]))
+            Some((work_of(name.as_str(), number.as_str())?, SPARC))
         }
         _ => None,
     }
@@ -101,12 +107,12 @@ fn plan_of(words: &[String]) -> Option<(Work, &'static [u8])> {
 
 fn main(rt: HostRuntime) -> io::Result<ExitCode> {
     let words = words_of(&rt, rt.alloc())?;
-    if let Some((work, image)) = plan_of(words.as_slice()) {
-        if let Some(mut link) = link_of(rt.alloc(), image)? {
+    if let Some((work, target)) = plan_of(words.as_slice()) {
+        if let Some(mut link) = link_of(rt.alloc(), target)? {
             let answered = match work {
                 Work::Fetches(count) => fetched(&mut link, count),
                 Work::Turns(turns) => resumed(&mut link, turns),
-                Work::Frames(count) => frames::walked(rt.alloc(), link, count)?,
+                Work::Frames(count) => frames::walked(rt.alloc(), link, target, count)?,
             };
             println!(rt; "answered {answered}")?;
             return Ok(ExitCode::SUCCESS);

@@ -2,13 +2,13 @@
 use Rattle.std.proofs.Common.{◌≡◌, ◌∙◌, sym, ap, subst, refl, ℕ, ◌+◌, ◌<◌, ◌≤◌, List, [], ◌∷◌, ◌++◌, length, take, drop, slice_index, Bool, true, false, arith, append_assoc}
 use Rattle.std.proofs.lemmas.Grind.{common_steps}
 use Rattle.nub_wire.specs.declared.message.Msg.{Msg}
-use Rattle.nub_wire.specs.declared.front.Front.TheVariants.{Part, Whole, Nothing}
+use Rattle.nub_wire.specs.declared.front.Front.{Front}
 use Rattle.nub_wire.specs.Spelling.{frame_of, AllBytes, MsgFits}
-use Rattle.nub_wire.specs.Front.{front_of}
-use Rattle.nub_wire.specs.Feeding.{Feeding, BeginsNoFrame, Waits, Gives, StaysBad, by_state, Feeds}
+use Rattle.nub_wire.specs.Held.{BeginsFrame, IsFront}
+use Rattle.nub_wire.specs.Feeding.{Feeding, IsPartial, BeginsNoFrame, Waits, Gives, StaysBad, by_state, Feeds}
 use Rattle.nub_wire.specs.declared.feeder.Fed.TheVariants as fed
 use Rattle.nub_wire.proofs.Fronts.{append_bytes}
-use Rattle.nub_wire.proofs.Streams.{none_begins, whole_spells, Spells}
+use Rattle.nub_wire.proofs.Streams.{whole_spells, Spells}
 
 -- nothing that follows helps
 none_longer : (xs more : List ℕ) → BeginsNoFrame xs → BeginsNoFrame (xs ++ more)
@@ -56,9 +56,13 @@ pub pushed_is : (held piece now pushed : List ℕ) (i : ℕ) → i < length piec
 pushed_is held piece now pushed i h e p =
     p ∙ ap (λ (l : List ℕ). l ++ slice_index piece i ∷ []) e ∙ append_assoc held (take i piece) (slice_index piece i ∷ []) ∙ ap (λ (l : List ℕ). held ++ l) (take_one piece i h)
 
-pub refuses_now : (held piece pushed : List ℕ) (i : ℕ) → pushed ≡ held ++ take (i + 1) piece → front_of pushed ≡ Nothing → BeginsNoFrame (held ++ piece)
+-- what was judged
+pub front_now : (judged pushed : List ℕ) (f f' : Front) → judged ≡ pushed → f ≡ f' → IsFront judged f → IsFront pushed f'
+front_now judged pushed f f' e is h = subst (λ (l : List ℕ). IsFront l f') e (subst (λ (x : Front). IsFront judged x) is h)
+
+pub refuses_now : (held piece pushed : List ℕ) (i : ℕ) → pushed ≡ held ++ take (i + 1) piece → BeginsNoFrame pushed → BeginsNoFrame (held ++ piece)
 refuses_now held piece pushed i e h =
-    let none : BeginsNoFrame (held ++ take (i + 1) piece) = subst (λ (l : List ℕ). BeginsNoFrame l) e (none_begins pushed h) in
+    let none : BeginsNoFrame (held ++ take (i + 1) piece) = subst (λ (l : List ℕ). BeginsNoFrame l) e h in
     let longer : BeginsNoFrame ((held ++ take (i + 1) piece) ++ drop (i + 1) piece) = none_longer (held ++ take (i + 1) piece) (drop (i + 1) piece) none in
     let same : (held ++ take (i + 1) piece) ++ drop (i + 1) piece ≡ held ++ piece = append_assoc held (take (i + 1) piece) (drop (i + 1) piece) ∙ ap (λ (l : List ℕ). held ++ l) (split_at (i + 1) piece) in
     subst (λ (l : List ℕ). BeginsNoFrame l) same longer
@@ -66,9 +70,9 @@ refuses_now held piece pushed i e h =
 pub one_byte_more : (now pushed : List ℕ) (b : ℕ) → AllBytes now → b < 256 → pushed ≡ now ++ b ∷ [] → AllBytes pushed
 one_byte_more now pushed b h k e = subst (λ (l : List ℕ). AllBytes l) (sym e) (append_bytes now (b ∷ []) h (k, tt))
 
-pub spells_now : (now pushed : List ℕ) (b : ℕ) (m : Msg) → AllBytes now → b < 256 → pushed ≡ now ++ b ∷ [] → front_of now ≡ Part → front_of pushed ≡ Whole m → Spells pushed m
-spells_now now pushed b m h k e part whole =
-    subst (λ (l : List ℕ). Spells l m) (sym e) (whole_spells now b m (append_bytes now (b ∷ []) h (k, tt)) part (ap front_of (sym e) ∙ whole))
+pub spells_now : (now pushed : List ℕ) (b : ℕ) (m : Msg) → pushed ≡ now ++ b ∷ [] → IsPartial now → BeginsFrame pushed m → Spells pushed m
+spells_now now pushed b m e part whole =
+    subst (λ (l : List ℕ). Spells l m) (sym e) (whole_spells now b m part (subst (λ (l : List ℕ). BeginsFrame l m) e whole))
 
 pub all_taken : (i : ℕ) (xs : List ℕ) → length xs ≤ i → take i xs ≡ xs
 all_taken i xs h = grind (arith, common_steps)

@@ -13,7 +13,7 @@ use Rattle.nub_wire.specs.declared.message.Msg.TheVariants as msg
 use Rattle.nub_wire.specs.declared.front.Front.{Front}
 use Rattle.nub_wire.specs.declared.front.Front.TheVariants.{Part, Whole, Nothing}
 use Rattle.nub_wire.specs.Spelling.{word_bytes, size_byte, reason_byte, kind_byte, body_of, AllBytes, IsChunk, MsgFits}
-use Rattle.nub_wire.specs.Front.{word_of, size_named, reason_named, kind_named, chosen, worded, fetched, stored, stopped, faulted, held_bytes, Reader, NoTag, Fixed, Bytes, alone, reader_of, read, tagged, front_of}
+use Rattle.nub_wire.proofs.Reader.{word_of, size_named, reason_named, kind_named, chosen, worded, fetched, stored, stopped, faulted, held_bytes, Reader, NoTag, Fixed, Bytes, alone, reader_of, read, tagged, front_of}
 
 -- ---- what must be shown of a payload's reader
 
@@ -21,9 +21,6 @@ abbrev pub IsWhole : Front → Type 0
 IsWhole Part = ⊥
 IsWhole (Whole m) = Unit {0}
 IsWhole Nothing = ⊥
-
-abbrev pub is_byte : ℕ → Bool
-is_byte b = nat_lt b 256
 
 -- bytes that complete a frame
 pub record Filling (f : List ℕ → Front) (p : List ℕ) : Type 0 where
@@ -158,15 +155,15 @@ chosen_spelled None make p m b h = cc
 chosen_spelled (Some x) make p m b h = record { x = x; x_is = refl; word = worded_spelled (make x) p m b h }
 
 -- the bytes that name something
-size_back : (b : ℕ) (s : Size) → size_named b ≡ Some s → size_byte s ≡ b
+pub size_back : (b : ℕ) (s : Size) → size_named b ≡ Some s → size_byte s ≡ b
 size_back b size.Byte h = grind (arith, nat_tests)
 size_back b size.Word h = grind (arith, nat_tests)
 
-reason_back : (b : ℕ) (r : Reason) → reason_named b ≡ Some r → reason_byte r ≡ b
+pub reason_back : (b : ℕ) (r : Reason) → reason_named b ≡ Some r → reason_byte r ≡ b
 reason_back b reason.Break h = grind (arith, nat_tests)
 reason_back b reason.Pause h = grind (arith, nat_tests)
 
-kind_back : (b : ℕ) (k : FaultKind) → kind_named b ≡ Some k → kind_byte k ≡ b
+pub kind_back : (b : ℕ) (k : FaultKind) → kind_named b ≡ Some k → kind_byte k ≡ b
 kind_back b kind.Hazard h = grind (arith, nat_tests)
 kind_back b kind.Illegal h = grind (arith, nat_tests)
 kind_back b kind.Align h = grind (arith, nat_tests)
@@ -282,9 +279,6 @@ stored_stays (a ∷ b ∷ c ∷ []) ys h = cc
 stored_stays (a ∷ b ∷ c ∷ d ∷ []) ys h = cc
 stored_stays (a ∷ b ∷ c ∷ d ∷ w ∷ p) ys h = chosen_stays (size_named w) (λ s. msg.Store (word_of a b c d) s) p ys h
 
-stored_after : {p : List ℕ} (rest : List ℕ) → AllBytes rest → IsWhole (stored (p ++ rest)) → Filling stored p
-stored_after rest b w = record { more = rest; bytes = b; whole = w }
-
 stored_five : AllBytes (1 ∷ 0 ∷ 0 ∷ 0 ∷ 0 ∷ [])
 stored_five = (one_byte, (zero_byte, (zero_byte, (zero_byte, (zero_byte, tt)))))
 
@@ -330,10 +324,6 @@ if_whole : (b : Bool) (m m' : Msg) → (if b then Part else Whole m) ≡ Whole m
 if_whole true m m' h = cc
 if_whole false m m' h = (refl, cc)
 
-if_part : {A : Type 0} (b : Bool) (m : Msg) → b ≡ false → (if b then Part else Whole m) ≡ Part → A
-if_part true m e h = cc
-if_part false m e h = cc
-
 zeros_bytes : (n : ℕ) → AllBytes (replicate n 0)
 zeros_bytes zero = tt
 zeros_bytes (suc n) = (zero_byte, zeros_bytes n)
@@ -354,8 +344,11 @@ false_whole : (b : Bool) (m : Msg) → b ≡ false → IsWhole (if b then Part e
 false_whole true m h = cc
 false_whole false m h = tt
 
-not_lt : (a b : ℕ) → b ≤ a → nat_lt a b ≡ false
+pub not_lt : (a b : ℕ) → b ≤ a → nat_lt a b ≡ false
 not_lt a b h = grind (arith, nat_tests)
+
+pub yes_lt : (a b : ℕ) → a < b → nat_lt a b ≡ true
+yes_lt a b h = grind (arith, nat_tests)
 
 lt_no : (a b : ℕ) → nat_lt a b ≡ false → b ≤ a
 lt_no a b h = grind (arith, nat_tests)

@@ -1,40 +1,17 @@
 -- Streams of frames.
-use Rattle.std.proofs.Common.{◌≡◌, ◌≢◌, ◌∙◌, sym, ap, subst, refl, ℕ, ◌+◌, ◌≤◌, ◌-◌, ◌^◌, min, Bool, true, false, List, [], ◌∷◌, ◌++◌, length, take, drop, arith, append_assoc, length-append}
-use Rattle.std.proofs.lemmas.Grind.{common_steps}
+use Rattle.std.proofs.Common.{◌≡◌, ◌∙◌, sym, ap, subst, refl, ℕ, ◌+◌, ◌≤◌, ◌-◌, ◌^◌, min, Bool, true, false, List, [], ◌∷◌, ◌++◌, length, take, drop, arith, append_assoc, length-append}
 use Rattle.nub_wire.specs.declared.message.Msg.{Msg}
-use Rattle.nub_wire.specs.declared.front.Front.TheVariants.{Whole}
 use Rattle.nub_wire.specs.declared.feeder.Fed.TheVariants as fed
-use Rattle.nub_wire.specs.Spelling.{frame_of, MsgFits}
-use Rattle.nub_wire.specs.Front.{front_of}
+use Rattle.nub_wire.specs.Spelling.{frame_of}
 use Rattle.nub_wire.specs.Feeding.{Feeding, IsPartial, joined, frames, AllFit, Splits, FeedsAll, done, waits, gives, nothing_fed, Feeds, Breaks, Refuses, StaysBad, by_state, moved_on}
-use Rattle.nub_wire.proofs.Streams.{front_again}
+use Rattle.nub_wire.proofs.Streams.{append_nil, one_message_lem, no_frame}
 use Rattle.nub_wire.proofs.Feeds.{split_at, waits_of, gives_of}
-
-cancel : (a x y : List ℕ) → a ++ x ≡ a ++ y → x ≡ y
-cancel [] x y e = e
-cancel (z ∷ a) x y e = cancel a x y (cc)
-
-same_message : (m n : Msg) (xs ys : List ℕ) → MsgFits m → MsgFits n → frame_of m ++ xs ≡ frame_of n ++ ys → m ≡ n
-same_message m n xs ys f g e =
-    let p : front_of (frame_of m ++ xs) ≡ Whole m = front_again m xs f in
-    let q : front_of (frame_of n ++ ys) ≡ Whole n = front_again n ys g in
-    let s : front_of (frame_of m ++ xs) ≡ front_of (frame_of n ++ ys) = ap front_of e in
-    let w : Whole m ≡ Whole n = sym p ∙ s ∙ q in
-    cc
-
-pub one_message_lem : (m n : Msg) (xs ys : List ℕ) → MsgFits m → MsgFits n → frame_of m ++ xs ≡ frame_of n ++ ys → (m ≡ n) × (xs ≡ ys)
-one_message_lem m n xs ys f g e =
-    let same : m ≡ n = same_message m n xs ys f g e in
-    (same, cancel (frame_of m) xs ys (e ∙ ap (λ (k : Msg). frame_of k ++ ys) (sym same)))
 
 -- what was held, and the pieces, are the frames of the messages and what is held in the end
 pub record Adds (old : Feeding) (pieces : List (List ℕ)) (ms : List Msg) (last : Feeding) : Type 0 where
   pub fit : AllFit ms
   pub whole : old.held ++ joined pieces ≡ frames ms ++ last.held
   pub partial : IsPartial last.held
-
-append_nil : (xs : List ℕ) → xs ++ [] ≡ xs
-append_nil xs = grind (arith, common_steps)
 
 pub adds : {old last : Feeding} {pieces : List (List ℕ)} {ms : List Msg} → FeedsAll old pieces ms last → Adds old pieces ms last
 adds {old = old} (done p) = record { fit = tt; whole = append_nil old.held; partial = p }
@@ -66,18 +43,6 @@ adds {old = old} {last = last} (gives {next = next} {piece = piece} {pieces = pi
 
 pub split_pieces : (pieces : List (List ℕ)) (messages : List Msg) (last : Feeding) → FeedsAll nothing_fed pieces messages last → Splits (joined pieces) messages last.held
 split_pieces pieces messages last f = let a = adds f in record { fit = a.fit; whole = a.whole; partial = a.partial }
-
-nothing_left : (xs ys : List ℕ) → ys ≢ [] → xs ++ ys ≡ [] → ⊥
-nothing_left [] ys h e = h e
-nothing_left (x ∷ xs) ys h e = cc
-
--- part of a frame begins with no frame
-no_frame : {A : Type 0} (m : Msg) (more rest : List ℕ) → MsgFits m → IsPartial rest → frame_of m ++ more ≡ rest → A
-no_frame m more rest f p e =
-    let whole : frame_of m ++ (more ++ p.rest) ≡ frame_of p.message ++ [] =
-    sym (append_assoc (frame_of m) more p.rest) ∙ ap (λ (l : List ℕ). l ++ p.rest) e ∙ p.whole ∙ sym (append_nil (frame_of p.message)) in
-    let o = one_message_lem m p.message (more ++ p.rest) [] f p.fits whole in
-    absurd (nothing_left more p.rest p.some o.1)
 
 pub only_split : (ms ns : List Msg) (xs ys : List ℕ) → AllFit ms → AllFit ns → IsPartial xs → IsPartial ys → frames ms ++ xs ≡ frames ns ++ ys → (ms ≡ ns) × (xs ≡ ys)
 only_split [] [] xs ys f g p q e = (refl, e)

@@ -8,8 +8,10 @@ pub mod Fronts
 pub mod LawsOfStreams
 pub mod NoBadReplies
 pub mod Outputs
+pub mod Payloads
 pub mod Pendings
 pub mod Quiet
+pub mod Reader
 pub mod Replies
 pub mod ResumeExchange
 pub mod ResumesAreRuns

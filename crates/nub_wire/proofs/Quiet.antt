@@ -1,30 +1,42 @@
 -- Part of a frame, and how many bytes more decide something about it.
-use Rattle.std.proofs.Common.{◌≡◌, ◌∙◌, sym, ap, subst, refl, ℕ, ◌+◌, ◌-◌, ◌*◌, ◌<◌, ◌≤◌, List, [], ◌∷◌, ◌++◌, length, Bool, true, false, nat_eq, nat_le, nat_lt, ◌&&◌, ◌||◌, if◌then◌else◌, arith, append_assoc, length-append}
-use Rattle.std.proofs.lemmas.Grind.{common_steps}
+use Rattle.std.proofs.Common.{◌≡◌, ◌∙◌, sym, ap, subst, refl, ℕ, ◌+◌, ◌-◌, ◌*◌, ◌<◌, ◌≤◌, ◌⊎◌, inl, inr, List, [], ◌∷◌, ◌++◌, length, slice_index, Bool, true, false, nat_le, nat_lt, ◌&&◌, if◌then◌else◌, arith, append_assoc, length-append}
 use Rattle.std.proofs.lemmas.Bool.Decides.{nat_tests}
 use Rattle.nub_wire.specs.declared.message.Msg.{Msg}
 use Rattle.nub_wire.specs.declared.message.Msg.TheVariants as msg
 use Rattle.nub_wire.specs.declared.front.Front.{Front}
 use Rattle.nub_wire.specs.declared.front.Front.TheVariants.{Part, Whole, Nothing}
-use Rattle.nub_wire.specs.Front.{read, Bytes, tagged, front_of, awaited}
-use Rattle.nub_wire.specs.Held.{IsQuiet}
-use Rattle.nub_wire.proofs.Fronts.{eq_yes}
+use Rattle.nub_wire.specs.Spelling.{AllBytes}
+use Rattle.nub_wire.specs.Feeding.{IsPartial}
+use Rattle.nub_wire.specs.Held.{IsFeeding, IsQuiet}
+use Rattle.nub_wire.proofs.Reader.{read, Bytes, tagged}
+use Rattle.nub_wire.proofs.Fronts.{append_bytes, yes_lt}
+use Rattle.nub_wire.proofs.Streams.{append_nil, part_begins, part_reads}
 
-nothing_behind : (xs : List ℕ) → xs ++ [] ≡ xs
-nothing_behind xs = grind (arith, common_steps)
+pub one_quiet : (xs : List ℕ) → IsPartial xs → IsQuiet xs 1
+one_quiet xs p [] b lt = subst (λ (l : List ℕ). IsPartial l) (sym (append_nil xs)) p
+one_quiet xs p (x ∷ more) b lt = absurd (omega arith)
 
-one_quiet : (xs : List ℕ) → front_of xs ≡ Part → (more : List ℕ) → length more < 1 → front_of (xs ++ more) ≡ Part
-one_quiet xs h [] lt = ap front_of (nothing_behind xs) ∙ h
-one_quiet xs h (x ∷ more) lt = absurd (omega arith)
+empty_part : IsPartial []
+empty_part = part_begins [] tt refl
 
-pub part_now : (xs : List ℕ) (missing : ℕ) → 1 ≤ missing → IsQuiet xs missing → front_of xs ≡ Part
-part_now xs missing some q = ap front_of (sym (nothing_behind xs)) ∙ q [] (omega arith)
+-- before a frame
+pub empty_feeding : (held : List ℕ) (missing : ℕ) (is_bad : Bool) → held ≡ [] → missing ≡ 1 → is_bad ≡ false → IsFeeding held missing is_bad
+empty_feeding held missing is_bad none one good = record {
+  each = rw none tt;
+  partial = λ h. rw (none, one) (one_quiet [] empty_part);
+  some = omega arith;
+  cleared = λ h. none;
+}
+
+pub part_now : (xs : List ℕ) (missing : ℕ) → 1 ≤ missing → IsQuiet xs missing → IsPartial xs
+part_now xs missing some q = subst (λ (l : List ℕ). IsPartial l) (append_nil xs) (q [] tt (omega arith))
 
 -- a byte that decides nothing
-pub quiet_less : (now pushed : List ℕ) (b missing : ℕ) → IsQuiet now missing → pushed ≡ now ++ b ∷ [] → IsQuiet pushed (missing - 1)
-quiet_less now pushed b missing q e = λ more lt.
+pub quiet_less : (now pushed : List ℕ) (b missing : ℕ) → b < 256 → IsQuiet now missing → pushed ≡ now ++ b ∷ [] → IsQuiet pushed (missing - 1)
+quiet_less now pushed b missing k q e = λ more bytes lt.
     let longer : length (b ∷ more) < missing = omega arith in
-    ap (λ (l : List ℕ). front_of (l ++ more)) e ∙ ap front_of (append_assoc now (b ∷ []) more) ∙ q (b ∷ more) longer
+    let same : now ++ b ∷ more ≡ pushed ++ more = sym (append_assoc now (b ∷ []) more) ∙ ap (λ (l : List ℕ). l ++ more) (sym e) in
+    subst (λ (l : List ℕ). IsPartial l) same (q (b ∷ more) (k, bytes) longer)
 
 -- ---- payloads of bytes
 
@@ -46,9 +58,6 @@ yes_part false m h = cc
 
 lt_yes : (a b : ℕ) → nat_lt a b ≡ true → a < b
 lt_yes a b h = grind (arith, nat_tests)
-
-yes_lt : (a b : ℕ) → a < b → nat_lt a b ≡ true
-yes_lt a b h = grind (arith, nat_tests)
 
 bytes_short : (make : List ℕ → Msg) (n : ℕ) (p : List ℕ) → read n (Bytes make) p ≡ Part → length p < n - 1
 bytes_short make n p h = lt_yes (length p) (n - 1) (if_part_yes _ _ (cond_part (nat_le 2 n && nat_le n 1025) _ h))
@@ -72,40 +81,30 @@ output_waits : (n : ℕ) (p : List ℕ) → tagged n 0x85 p ≡ Part → Waiting
 unfolding tagged
 output_waits n p h = record { some = bytes_short msg.Output n p h; stays = λ ys lt. bytes_quiet msg.Output n p ys h lt }
 
-tag_waits : (n tag : ℕ) (p : List ℕ) (a b : Bool) → nat_eq tag 0x06 ≡ a → nat_eq tag 0x85 ≡ b → (a || b) ≡ true → tagged n tag p ≡ Part → Waiting n tag p
-tag_waits n tag p true b e f t h =
-    let is : tag ≡ 0x06 = eq_yes tag 0x06 e in
-    subst (λ (k : ℕ). Waiting n k p) (sym is) (input_waits n p (subst (λ (k : ℕ). tagged n k p ≡ Part) is h))
-tag_waits n tag p false true e f t h =
-    let is : tag ≡ 0x85 = eq_yes tag 0x85 f in
-    subst (λ (k : ℕ). Waiting n k p) (sym is) (output_waits n p (subst (λ (k : ℕ). tagged n k p ≡ Part) is h))
-tag_waits n tag p false false e f t h = cc
+tag_waits : (n tag : ℕ) (p : List ℕ) → (tag ≡ 0x06) ⊎ (tag ≡ 0x85) → tagged n tag p ≡ Part → Waiting n tag p
+tag_waits n tag p (inl is) h = subst (λ (k : ℕ). Waiting n k p) (sym is) (input_waits n p (subst (λ (k : ℕ). tagged n k p ≡ Part) is h))
+tag_waits n tag p (inr is) h = subst (λ (k : ℕ). Waiting n k p) (sym is) (output_waits n p (subst (λ (k : ℕ). tagged n k p ≡ Part) is h))
 
--- a frame that has begun is part of one until so many bytes more have come
+-- of a frame of bytes only the last byte decides something
 pub record Awaits (xs : List ℕ) (n : ℕ) : Type 0 where
   pub some : 1 ≤ n
   pub quiet : IsQuiet xs n
 
-one_awaits : (xs : List ℕ) → front_of xs ≡ Part → Awaits xs 1
-one_awaits xs h = record { some = omega arith; quiet = one_quiet xs h }
-
-if_awaits : (xs : List ℕ) (c : Bool) (n : ℕ) → (c ≡ true → Awaits xs n) → front_of xs ≡ Part → Awaits xs (if c then n else 1)
-if_awaits xs true n f h = f refl
-if_awaits xs false n f h = one_awaits xs h
-
-three_awaits : (high low tag : ℕ) (p : List ℕ) → Waiting (256 * high + low) tag p → Awaits (high ∷ low ∷ tag ∷ p) (256 * high + low - 1 - length p)
-three_awaits high low tag p w =
+bytes_await : (high low tag : ℕ) (p : List ℕ) → (tag ≡ 0x06) ⊎ (tag ≡ 0x85) → AllBytes (high ∷ low ∷ tag ∷ p) → IsPartial (high ∷ low ∷ tag ∷ p)
+    → Awaits (high ∷ low ∷ tag ∷ p) (256 * high + low - 1 - length p)
+bytes_await high low tag p t b h =
+    let w = tag_waits (256 * high + low) tag p t (part_reads (high ∷ low ∷ tag ∷ p) b h) in
     let short : length p < 256 * high + low - 1 = w.some in
-    record { some = omega arith; quiet = w.stays }
+    record {
+      some = omega arith;
+      quiet = λ more bytes lt. part_begins (high ∷ low ∷ tag ∷ (p ++ more)) (append_bytes (high ∷ low ∷ tag ∷ p) more b bytes) (w.stays more lt);
+    }
 
-pub awaits : (xs : List ℕ) → front_of xs ≡ Part → Awaits xs (awaited xs)
-awaits [] h = one_awaits [] h
-awaits (high ∷ []) h = one_awaits (high ∷ []) h
-awaits (high ∷ low ∷ []) h = one_awaits (high ∷ low ∷ []) h
-awaits (high ∷ low ∷ tag ∷ p) h =
-    if_awaits
-    (high ∷ low ∷ tag ∷ p)
-    (nat_eq tag 0x06 || nat_eq tag 0x85)
-    (256 * high + low - 1 - length p)
-    (λ t. three_awaits high low tag p (tag_waits (256 * high + low) tag p (nat_eq tag 0x06) (nat_eq tag 0x85) refl refl t h))
-    h
+pub three_await : (xs : List ℕ) (n : ℕ) → AllBytes xs → IsPartial xs → 3 ≤ length xs → (slice_index xs 2 ≡ 0x06) ⊎ (slice_index xs 2 ≡ 0x85)
+    → n ≡ 256 * slice_index xs 0 + slice_index xs 1 - 1 - (length xs - 3) → Awaits xs n
+three_await [] n b h some t e = absurd (omega arith)
+three_await (x ∷ []) n b h some t e = absurd (omega arith)
+three_await (x ∷ y ∷ []) n b h some t e = absurd (omega arith)
+three_await (x ∷ y ∷ z ∷ xs) n b h some t e =
+    let same : 256 * x + y - 1 - length xs ≡ n = omega (arith, e) in
+    subst (λ (k : ℕ). Awaits (x ∷ y ∷ z ∷ xs) k) same (bytes_await x y z xs t b h)

@@ -10,7 +10,7 @@ use Rattle.nub_wire.specs.Feeding.{frames, Feeding, Feeds, FeedsGood, StaysBad, 
 use Rattle.machine_state.specs.State.{Behaviour}
 use Rattle.nub_wire.specs.Nub.{Host, Replied, turn_of}
 use Rattle.nub_wire.specs.Delivery.{Conduct, LinkSide, takes_bytes, replied, after_byte, Reaches, Delivers, enough, none_left, takes_none, reaches, Runs, full, quiet, tells, some_ready, Moves, UntilAnswer, answered, shut, runs_on, all_ready, Answers, WaitsOut}
-use Rattle.nub_wire.proofs.LawsOfStreams.{one_message_lem}
+use Rattle.nub_wire.proofs.Streams.{one_message_lem}
 use Rattle.nub_wire.specs.Rest.{IsIdle}
 use Rattle.nub_wire.specs.Exchange.{Replies, at_once, later}
 use Rattle.nub_wire.proofs.Pendings.{none_told, same_told, Pending, over, running_on, pending_quiet, pending_told, pending_shut, frame_some}

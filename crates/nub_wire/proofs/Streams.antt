@@ -1,5 +1,5 @@
 -- The front of bytes and the frames of messages.
-use Rattle.std.proofs.Common.{◌≡◌, ◌≢◌, ◌∙◌, sym, ap, subst, refl, ℕ, ◌+◌, ◌-◌, ◌*◌, ◌/◌, ◌%◌, ◌^◌, ◌<◌, ◌≤◌, ◌⊎◌, inl, inr, List, [], ◌∷◌, ◌++◌, length, take, Bool, true, false, nat_le, nat_lt, ◌&&◌, if◌then◌else◌, arith, length-append}
+use Rattle.std.proofs.Common.{◌≡◌, ◌≢◌, ◌∙◌, sym, ap, subst, refl, ℕ, ◌+◌, ◌-◌, ◌*◌, ◌/◌, ◌%◌, ◌^◌, ◌<◌, ◌≤◌, ◌⊎◌, inl, inr, List, [], ◌∷◌, ◌++◌, length, take, Bool, true, false, nat_le, nat_lt, ◌&&◌, if◌then◌else◌, arith, length-append, append_assoc}
 use Rattle.std.proofs.lemmas.Grind.{common_steps}
 use Rattle.std.proofs.lemmas.Bool.Decides.{nat_tests}
 use Rattle.ldb_words.specs.declared.event.FaultKind.TheVariants as kind
@@ -10,15 +10,10 @@ use Rattle.nub_wire.specs.declared.message.Msg.TheVariants as msg
 use Rattle.nub_wire.specs.declared.front.Front.{Front}
 use Rattle.nub_wire.specs.declared.front.Front.TheVariants.{Part, Whole, Nothing}
 use Rattle.nub_wire.specs.Spelling.{body_of, frame_of, AllBytes, IsChunk, MsgFits}
-use Rattle.nub_wire.specs.Front.{word_of, read, Bytes, tagged, front_of}
+use Rattle.nub_wire.proofs.Reader.{word_of, read, Bytes, tagged, front_of}
 use Rattle.nub_wire.specs.Feeding.{IsPartial, BeginsNoFrame}
+use Rattle.nub_wire.specs.Held.{BeginsFrame, IsFront}
 use Rattle.nub_wire.proofs.Fronts.{IsWhole, tagged_good, front_stays, front_fills, append_bytes, word_again}
-
--- a frame, and bytes behind it
-pub record Begins (xs : List ℕ) (m : Msg) : Type 0 where
-  pub fits : MsgFits m
-  pub rest : List ℕ
-  pub is : xs ≡ frame_of m ++ rest
 
 high_of : (high low n : ℕ) → low < 256 → n ≡ 256 * high + low → n / 256 ≡ high
 high_of high low n h e = omega arith
@@ -30,7 +25,7 @@ if_never : {A : Type 0} (b : Bool) (m : Msg) → (if b then Part else Nothing) �
 if_never true m h = cc
 if_never false m h = cc
 
-pub front_spelled : (xs : List ℕ) (m : Msg) → AllBytes xs → front_of xs ≡ Whole m → Begins xs m
+pub front_spelled : (xs : List ℕ) (m : Msg) → AllBytes xs → front_of xs ≡ Whole m → BeginsFrame xs m
 unfolding frame_of
 front_spelled [] m b h = cc
 front_spelled (high ∷ []) m b h = if_never (nat_le high 4) m h
@@ -39,8 +34,8 @@ front_spelled (high ∷ low ∷ tag ∷ p) m b h =
     let s = (tagged_good tag (256 * high + low)).spelled p m b.1.1.1 h in
     record {
       fits = s.fits;
-      rest = s.rest;
-      is = rw (high_of high low (length (body_of m)) b.1.0 s.size, low_of high low (length (body_of m)) b.1.0 s.size) (ap (λ (l : List ℕ). high ∷ low ∷ l) s.body);
+      behind = s.rest;
+      whole = rw (high_of high low (length (body_of m)) b.1.0 s.size, low_of high low (length (body_of m)) b.1.0 s.size) (ap (λ (l : List ℕ). high ∷ low ∷ l) s.body);
     }
 
 -- ---- a frame is read again, whatever follows
@@ -57,7 +52,7 @@ held_again make xs rest n c e =
     let u : nat_lt (length (xs ++ rest)) (n - 1) ≡ false = grind (arith, nat_tests) in
     rw (t, u) (ap (λ (l : List ℕ). Whole (make l)) (take_front (n - 1) xs rest (omega arith)))
 
-whole_length : (n : ℕ) → 256 * (n / 256) + n % 256 ≡ n
+pub whole_length : (n : ℕ) → 256 * (n / 256) + n % 256 ≡ n
 whole_length n = omega arith
 
 pub front_again : (m : Msg) (rest : List ℕ) → MsgFits m → front_of (frame_of m ++ rest) ≡ Whole m
@@ -91,6 +86,40 @@ front_again (msg.Faulted kind.Request pc) rest f = ap (λ (v : ℕ). Whole (msg.
 front_again (msg.Faulted kind.Window pc) rest f = ap (λ (v : ℕ). Whole (msg.Faulted kind.Window v)) (word_again pc f)
 front_again msg.Turns rest f = refl
 front_again msg.Stack rest f = refl
+
+-- ---- no frame begins another
+
+cancel : (a x y : List ℕ) → a ++ x ≡ a ++ y → x ≡ y
+cancel [] x y e = e
+cancel (z ∷ a) x y e = cancel a x y (cc)
+
+same_message : (m n : Msg) (xs ys : List ℕ) → MsgFits m → MsgFits n → frame_of m ++ xs ≡ frame_of n ++ ys → m ≡ n
+same_message m n xs ys f g e =
+    let p : front_of (frame_of m ++ xs) ≡ Whole m = front_again m xs f in
+    let q : front_of (frame_of n ++ ys) ≡ Whole n = front_again n ys g in
+    let s : front_of (frame_of m ++ xs) ≡ front_of (frame_of n ++ ys) = ap front_of e in
+    let w : Whole m ≡ Whole n = sym p ∙ s ∙ q in
+    cc
+
+pub one_message_lem : (m n : Msg) (xs ys : List ℕ) → MsgFits m → MsgFits n → frame_of m ++ xs ≡ frame_of n ++ ys → (m ≡ n) × (xs ≡ ys)
+one_message_lem m n xs ys f g e =
+    let same : m ≡ n = same_message m n xs ys f g e in
+    (same, cancel (frame_of m) xs ys (e ∙ ap (λ (k : Msg). frame_of k ++ ys) (sym same)))
+
+pub append_nil : (xs : List ℕ) → xs ++ [] ≡ xs
+append_nil xs = grind (arith, common_steps)
+
+nothing_left : (xs ys : List ℕ) → ys ≢ [] → xs ++ ys ≡ [] → ⊥
+nothing_left [] ys h e = h e
+nothing_left (x ∷ xs) ys h e = cc
+
+-- part of a frame begins with no frame
+pub no_frame : {A : Type 0} (m : Msg) (more rest : List ℕ) → MsgFits m → IsPartial rest → frame_of m ++ more ≡ rest → A
+no_frame m more rest f p e =
+    let whole : frame_of m ++ (more ++ p.rest) ≡ frame_of p.message ++ [] =
+    sym (append_assoc (frame_of m) more p.rest) ∙ ap (λ (l : List ℕ). l ++ p.rest) e ∙ p.whole ∙ sym (append_nil (frame_of p.message)) in
+    let o = one_message_lem m p.message (more ++ p.rest) [] f p.fits whole in
+    absurd (nothing_left more p.rest p.some o.1)
 
 -- ---- where two lists are split
 
@@ -158,7 +187,7 @@ part_begins xs b h =
     let f = front_fills xs h in
     let m = message_of (front_of (xs ++ f.more)) f.whole in
     let w = front_spelled (xs ++ f.more) m.message (append_bytes xs f.more b f.bytes) m.is in
-    part_of xs m.message f.more w.rest w.fits h (split xs f.more (frame_of m.message) w.rest w.is)
+    part_of xs m.message f.more w.behind w.fits h (split xs f.more (frame_of m.message) w.behind w.whole)
 
 one_more : (x : ℕ) (more d : List ℕ) → more ≢ [] → x ∷ [] ≡ more ++ d → more ≡ x ∷ []
 one_more x [] d some e = absurd (some refl)
@@ -169,16 +198,30 @@ pub record Spells (xs : List ℕ) (m : Msg) : Type 0 where
   pub fits : MsgFits m
   pub is : xs ≡ frame_of m
 
-whole_of : (xs : List ℕ) (x : ℕ) (m : Msg) (d : List ℕ) → MsgFits m → front_of xs ≡ Part
+whole_of : (xs : List ℕ) (x : ℕ) (m : Msg) (d : List ℕ) → MsgFits m → IsPartial xs
     → Longer xs (frame_of m) ⊎ Shorter xs (x ∷ []) (frame_of m) d → Spells (xs ++ x ∷ []) m
-whole_of xs x m d fits h (inl l) = not_part xs l.more m fits l.front h
+whole_of xs x m d fits h (inl l) = no_frame m l.more xs fits h (sym l.front)
 whole_of xs x m d fits h (inr s) = record { fits = fits; is = ap (λ (l : List ℕ). xs ++ l) (sym (one_more x s.more d s.some s.back)) ∙ s.front }
 
 -- the byte that completes a frame is its last
-pub whole_spells : (xs : List ℕ) (x : ℕ) (m : Msg) → AllBytes (xs ++ x ∷ []) → front_of xs ≡ Part → front_of (xs ++ x ∷ []) ≡ Whole m → Spells (xs ++ x ∷ []) m
-whole_spells xs x m b h e =
-    let w = front_spelled (xs ++ x ∷ []) m b e in
-    whole_of xs x m w.rest w.fits h (split xs (x ∷ []) (frame_of m) w.rest w.is)
+pub whole_spells : (xs : List ℕ) (x : ℕ) (m : Msg) → IsPartial xs → BeginsFrame (xs ++ x ∷ []) m → Spells (xs ++ x ∷ []) m
+whole_spells xs x m p w = whole_of xs x m w.behind w.fits p (split xs (x ∷ []) (frame_of m) w.behind w.whole)
+
+-- ---- the reader and the front
+
+pub stands : (xs : List ℕ) (f : Front) → AllBytes xs → front_of xs ≡ f → IsFront xs f
+stands xs Part b e = part_begins xs b e
+stands xs (Whole m) b e = front_spelled xs m b e
+stands xs Nothing b e = none_begins xs e
+
+reads_part : (xs : List ℕ) (f : Front) → AllBytes xs → IsPartial xs → front_of xs ≡ f → f ≡ Part
+reads_part xs Part b p e = refl
+reads_part xs (Whole m) b p e = let w = front_spelled xs m b e in no_frame m w.behind xs w.fits p (sym w.whole)
+reads_part xs Nothing b p e = absurd (none_begins xs e p.message p.rest [] p.fits (p.whole ∙ sym (append_nil (frame_of p.message))))
+
+-- the reader sees part of a frame where there is one
+pub part_reads : (xs : List ℕ) → AllBytes xs → IsPartial xs → front_of xs ≡ Part
+part_reads xs b p = reads_part xs (front_of xs) b p refl
 
 -- ---- lengths
 
@@ -204,9 +247,8 @@ some_length : (xs : List ℕ) → xs ≢ [] → 1 ≤ length xs
 some_length [] h = absurd (h refl)
 some_length (x ∷ xs) h = omega arith
 
-pub part_short : (xs : List ℕ) → AllBytes xs → front_of xs ≡ Part → length xs < 1027
-part_short xs b h =
-    let p = part_begins xs b h in
+pub part_short : (xs : List ℕ) → IsPartial xs → length xs < 1027
+part_short xs p =
     let short : length (frame_of p.message) ≤ 1027 = frame_short p.message p.fits in
     let some : 1 ≤ length p.rest = some_length p.rest p.some in
     omega (arith, length-append xs p.rest, ap length p.whole)

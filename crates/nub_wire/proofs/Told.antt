@@ -13,7 +13,7 @@ use Rattle.nub_wire.specs.Rest.{IsIdle}
 use Rattle.nub_wire.specs.Calls.{Sends, none_sent, sends, SendsNone, Hears, none_heard, hears, Owed, Owes, sent_whole, comes, goes_on, BadReply, takes_none, silent, no_frame, no_reply}
 use Rattle.nub_wire.specs.Exchange.{Replies, at_once, got_on, HearsReplies}
 use Rattle.nub_wire.specs.Told.{took_by, NoBadReply}
-use Rattle.nub_wire.proofs.LawsOfStreams.{one_message_lem}
+use Rattle.nub_wire.proofs.Streams.{one_message_lem}
 use Rattle.nub_wire.proofs.Streams.{frame_short}
 use Rattle.nub_wire.proofs.Sides.{append_nil, nil_right, cancel}
 use Rattle.nub_wire.proofs.ResumesEnd.{AreHeard, last_heard, more_heard}

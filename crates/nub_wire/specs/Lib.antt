@@ -5,7 +5,6 @@ pub mod Endings
 pub mod Exchange
 pub mod Feeding
 pub mod Fits
-pub mod Front
 pub mod Heard
 pub mod Held
 pub mod Nub

@@ -2,7 +2,6 @@
 
 ghost use Rattle.std.specs.Prelude.{◌≡◌, ◌≤◌, ◌+◌, ◌<◌, ◌++◌, [], length, take, min, ◌^◌, ◌-◌};
 ghost use Rattle.nub_wire.specs.Feeding.{Feeds, nothing_fed, EndsNoSooner};
-ghost use Rattle.nub_wire.specs.Held.{told_length};
 
 use crate::front::{Front, awaited, judge};
 use crate::message::Msg;
@@ -91,19 +90,18 @@ impl Feeder {
         ensures fits { result ≤ 1027 }
         ensures sooner { EndsNoSooner self.now.held result }
     {
-        told_length(self.held.as_slice())
-            .saturating_sub(self.held.len())
-            .clamp(1, 1027)
+        left_at_least(self.held.as_slice()).clamp(1, 1027)
     }
 }
 
-/// How long a frame is by its first bytes, as far as they tell.
-fn told_length(bytes: &[u8]) -> usize
-    ensures is { result ≡ told_length bytes.now }
-    ensures bound { result ≤ 65537 }
+/// How many bytes a frame has at least behind these, by its length as far as they tell it.
+fn left_at_least(bytes: &[u8]) -> usize
+    ensures { EndsNoSooner bytes.now result }
 {
     match bytes {
-        [high, low, ..] => 2 + (256 * usize::from(*high) + usize::from(*low)),
-        _ => 3,
+        [high, low, rest @ ..] => {
+            (256 * usize::from(*high) + usize::from(*low)).saturating_sub(rest.len())
+        }
+        _ => 3_usize.saturating_sub(bytes.len()),
     }
 }

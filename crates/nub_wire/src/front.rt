@@ -1,7 +1,9 @@
 // What stands at the front of bytes.
 
-ghost use Rattle.std.specs.Prelude.{◌≡◌, ◌≤◌, ◌+◌, ◌*◌, ◌<◌, MatchOption, length};
-ghost use Rattle.nub_wire.specs.Front.{word_of, cut_word, cut_byte, size_named, reason_named, kind_named, fetched, stored, worded, stopped, faulted, held_bytes, tagged, front_of, awaited};
+ghost use Rattle.std.specs.Prelude.{◌≡◌, ◌≢◌, ◌≤◌, ◌<◌, ◌+◌, ◌/◌, ◌%◌, ◌∷◌, ◌++◌, [], length, MatchOption};
+ghost use Rattle.nub_wire.specs.Spelling.{word_bytes, size_byte, reason_byte, kind_byte};
+ghost use Rattle.nub_wire.specs.Feeding.{IsPartial};
+ghost use Rattle.nub_wire.specs.Held.{IsFront, IsQuiet};
 
 use crate::message::{Chunk, Msg, Reason, Size};
 use ldb_words::FaultKind;
@@ -15,9 +17,8 @@ pub enum Front {
 }
 
 /// The number in the first four bytes, and the bytes behind it.
-#[tactic(auto, using(crate::proofs::Cuts::cut_short, crate::proofs::Cuts::cut_long))]
 fn cut_word(bytes: &[u8]) -> Option<(u32, &[u8])>
-    ensures { MatchOption result (cut_word bytes.now ≡ None) (λ p. cut_word bytes.now ≡ Some (p.0, p.1.now)) }
+    ensures { MatchOption result (length bytes.now < 4) (λ p. bytes.now ≡ word_bytes p.0 ++ p.1.now) }
 {
     if bytes.len() < 4 {
         None
@@ -32,7 +33,7 @@ fn cut_word(bytes: &[u8]) -> Option<(u32, &[u8])>
 
 /// The first byte, and the bytes behind it.
 fn cut_byte(bytes: &[u8]) -> Option<(u8, &[u8])>
-    ensures { MatchOption result (cut_byte bytes.now ≡ None) (λ p. cut_byte bytes.now ≡ Some (p.0, p.1.now)) }
+    ensures { MatchOption result (bytes.now ≡ []) (λ p. bytes.now ≡ p.0 ∷ p.1.now) }
 {
     match bytes {
         [] => None,
@@ -42,7 +43,7 @@ fn cut_byte(bytes: &[u8]) -> Option<(u8, &[u8])>
 
 /// The size that a byte names.
 fn size_named(byte: u8) -> Option<Size>
-    ensures { result ≡ size_named byte }
+    ensures { MatchOption result ((s : Size) → size_byte s ≢ byte) (λ s. size_byte s ≡ byte) }
 {
     match byte {
         1 => Some(Size::Byte),
@@ -53,7 +54,7 @@ fn size_named(byte: u8) -> Option<Size>
 
 /// The reason that a byte names.
 fn reason_named(byte: u8) -> Option<Reason>
-    ensures { result ≡ reason_named byte }
+    ensures { MatchOption result ((r : Reason) → reason_byte r ≢ byte) (λ r. reason_byte r ≡ byte) }
 {
     match byte {
         1 => Some(Reason::Break),
@@ -64,7 +65,7 @@ fn reason_named(byte: u8) -> Option<Reason>
 
 /// The kind of a fault that a byte names.
 fn kind_named(byte: u8) -> Option<FaultKind>
-    ensures { result ≡ kind_named byte }
+    ensures { MatchOption result ((k : FaultKind) → kind_byte k ≢ byte) (λ k. kind_byte k ≡ byte) }
 {
     match byte {
         1 => Some(FaultKind::Hazard),
@@ -81,7 +82,7 @@ fn kind_named(byte: u8) -> Option<FaultKind>
 
 /// A fetch's payload.
 fn fetched(payload: &[u8]) -> Front
-    ensures { result ≡ fetched payload.now }
+    ensures { IsFront (0 ∷ 6 ∷ 0x02 ∷ payload.now) result }
 {
     let Some((address, rest)) = cut_word(payload) else {
         return Front::Part;
@@ -97,7 +98,7 @@ fn fetched(payload: &[u8]) -> Front
 
 /// A store's payload.
 fn stored(payload: &[u8]) -> Front
-    ensures { result ≡ stored payload.now }
+    ensures { IsFront (0 ∷ 10 ∷ 0x03 ∷ payload.now) result }
 {
     let Some((address, rest)) = cut_word(payload) else {
         return Front::Part;
@@ -120,7 +121,7 @@ fn stored(payload: &[u8]) -> Front
 
 /// The payload of a resume.
 fn resumed(payload: &[u8]) -> Front
-    ensures { result ≡ worded Msg.Resume payload.now }
+    ensures { IsFront (0 ∷ 5 ∷ 0x04 ∷ payload.now) result }
 {
     match cut_word(payload) {
         None => Front::Part,
@@ -130,7 +131,7 @@ fn resumed(payload: &[u8]) -> Front
 
 /// The payload of a word.
 fn answered(payload: &[u8]) -> Front
-    ensures { result ≡ worded Msg.Word payload.now }
+    ensures { IsFront (0 ∷ 5 ∷ 0x81 ∷ payload.now) result }
 {
     match cut_word(payload) {
         None => Front::Part,
@@ -140,7 +141,7 @@ fn answered(payload: &[u8]) -> Front
 
 /// The payload of an exit.
 fn exited(payload: &[u8]) -> Front
-    ensures { result ≡ worded Msg.Exited payload.now }
+    ensures { IsFront (0 ∷ 5 ∷ 0x86 ∷ payload.now) result }
 {
     match cut_word(payload) {
         None => Front::Part,
@@ -150,7 +151,7 @@ fn exited(payload: &[u8]) -> Front
 
 /// The payload of a stop.
 fn stopped(payload: &[u8]) -> Front
-    ensures { result ≡ stopped payload.now }
+    ensures { IsFront (0 ∷ 6 ∷ 0x84 ∷ payload.now) result }
 {
     let Some((byte, rest)) = cut_byte(payload) else {
         return Front::Part;
@@ -166,7 +167,7 @@ fn stopped(payload: &[u8]) -> Front
 
 /// The payload of a fault.
 fn faulted(payload: &[u8]) -> Front
-    ensures { result ≡ faulted payload.now }
+    ensures { IsFront (0 ∷ 6 ∷ 0x87 ∷ payload.now) result }
 {
     let Some((byte, rest)) = cut_byte(payload) else {
         return Front::Part;
@@ -184,7 +185,7 @@ fn faulted(payload: &[u8]) -> Front
 fn input(count: usize, payload: &[u8]) -> Front
     requires some { 1 ≤ count }
     requires fits { count ≤ 1024 }
-    ensures { result ≡ held_bytes Msg.Input count payload.now }
+    ensures { IsFront ((count + 1) / 256 ∷ (count + 1) % 256 ∷ 0x06 ∷ payload.now) result }
 {
     if payload.len() < count {
         return Front::Part;
@@ -198,7 +199,7 @@ fn input(count: usize, payload: &[u8]) -> Front
 fn output(count: usize, payload: &[u8]) -> Front
     requires some { 1 ≤ count }
     requires fits { count ≤ 1024 }
-    ensures { result ≡ held_bytes Msg.Output count payload.now }
+    ensures { IsFront ((count + 1) / 256 ∷ (count + 1) % 256 ∷ 0x85 ∷ payload.now) result }
 {
     if payload.len() < count {
         return Front::Part;
@@ -209,9 +210,9 @@ fn output(count: usize, payload: &[u8]) -> Front
 }
 
 /// What stands behind a length, by the tag.
-#[tactic(auto, unfolding(crate::specs::Front::tagged, crate::specs::Front::read))]
 fn tagged(length: usize, tag: u8, payload: &[u8]) -> Front
-    ensures { result ≡ tagged length tag payload.now }
+    requires { length ≤ 65535 }
+    ensures { IsFront (length / 256 ∷ length % 256 ∷ tag ∷ payload.now) result }
 {
     match (tag, length) {
         (0x01, 1) => Front::Whole(Msg::Hello),
@@ -235,7 +236,7 @@ fn tagged(length: usize, tag: u8, payload: &[u8]) -> Front
 
 /// What stands at the front of bytes.
 pub fn judge(bytes: &[u8]) -> Front
-    ensures { result ≡ front_of bytes.now }
+    ensures { IsFront bytes.now result }
 {
     match bytes {
         [] => Front::Part,
@@ -264,7 +265,9 @@ pub fn judge(bytes: &[u8]) -> Front
 
 /// How many bytes more decide something about part of a frame. Of input and output only the last byte does.
 pub fn awaited(bytes: &[u8]) -> usize
-    ensures { result ≡ awaited bytes.now }
+    requires { IsPartial bytes.now }
+    ensures some { 1 ≤ result }
+    ensures quiet { IsQuiet bytes.now result }
 {
     match bytes {
         [high, low, tag, payload @ ..] => {

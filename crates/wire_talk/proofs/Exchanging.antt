@@ -14,8 +14,7 @@ use Rattle.nub_wire.specs.Calls.{Sends, SendsNone, Owes, sent_whole, BadReply, t
 use Rattle.nub_wire.specs.Rest.{IsIdle}
 use Rattle.nub_wire.specs.Exchange.{RepliesAtOnce, got_on}
 use Rattle.nub_wire.specs.Told.{took_by}
-use Rattle.nub_wire.proofs.LawsOfStreams.{one_message_lem}
-use Rattle.nub_wire.proofs.Streams.{frame_short}
+use Rattle.nub_wire.proofs.Streams.{frame_short, one_message_lem}
 use Rattle.nub_wire.proofs.Told.{no_bad_reply}
 use Rattle.nub_wire.proofs.Worlds.{exchange_law}
 use Rattle.wire_talk.specs.declared.fault.TalkFault.{TalkFault}

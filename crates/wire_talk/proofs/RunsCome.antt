@@ -20,8 +20,7 @@ use Rattle.nub_wire.specs.Resumes.{Whole, finish, Tells, AreTold, the_end, some_
 use Rattle.nub_wire.specs.Exchange.{Replies, later, got_on}
 use Rattle.nub_wire.specs.Fits.{TellsFitting}
 use Rattle.nub_wire.specs.Told.{took_by}
-use Rattle.nub_wire.proofs.LawsOfStreams.{one_message_lem}
-use Rattle.nub_wire.proofs.Streams.{frame_short}
+use Rattle.nub_wire.proofs.Streams.{frame_short, one_message_lem}
 use Rattle.nub_wire.proofs.Sides.{cancel}
 use Rattle.nub_wire.proofs.Worlds.{replies_come}
 use Rattle.nub_wire.proofs.ResumesAreRuns.{resumes_are_runs}

@@ -1,4 +1,4 @@
-use Rattle.c_reading.proofs.Sessions.{reads_typed}
+use Rattle.c_reading.proofs.Rules.{reads_typed}
 use Rattle.c_reading.proofs.laws.readings_keep_rules.Goals as goal
 
 pub returns : goal.returns

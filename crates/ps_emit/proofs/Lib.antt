@@ -1,0 +1,5 @@
+pub mod Followed
+pub mod Chains
+pub mod Points
+pub mod Lengths
+pub mod Items

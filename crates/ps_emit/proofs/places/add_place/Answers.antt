@@ -1,0 +1,6 @@
+use Rattle.std.proofs.lemmas.Result.{on_ok_weaker}
+use Rattle.ps_emit.proofs.Followed.{braced}
+use Rattle.ps_emit.proofs.places.add_place.Goals as goal
+
+pub returns : goal.returns
+returns c = on_ok_weaker _ (λ e. braced c.in_ok-add_word.ensures c.in_ok-add_place_of.ensures e) c.add_word-2.ensures

@@ -1,0 +1,10 @@
+pub mod Terms
+pub mod Grown
+pub mod Words
+pub mod Types
+pub mod Places
+pub mod Symbols
+pub mod Functions
+pub mod Table
+pub mod Bounds
+pub mod Lengths
