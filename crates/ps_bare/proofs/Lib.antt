@@ -1,0 +1,5 @@
+pub mod Mapped
+pub mod Units
+pub mod Acts
+pub mod Acting
+pub mod Lacking

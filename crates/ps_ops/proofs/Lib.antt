@@ -1,0 +1,5 @@
+pub mod Halting
+pub mod Asked
+pub mod Equations
+pub mod Overs
+pub mod Retries

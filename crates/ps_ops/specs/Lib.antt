@@ -1,0 +1,4 @@
+pub mod Desk
+pub mod Halts
+pub mod Asking
+pub mod Acting
