@@ -40,12 +40,12 @@ Lacks s (Ok x) = Unit {0}
 Lacks s (Err l) = LacksOf s l
 
 module _ (s : StoreState) where
-  on : {A B : Type 0} (m : Walked A) (f : A → Walked B) → Lacks s m → ((x : A) → Lacks s (f x)) → Lacks s (m >>= f)
+  pub on : {A B : Type 0} (m : Walked A) (f : A → Walked B) → Lacks s m → ((x : A) → Lacks s (f x)) → Lacks s (m >>= f)
   on (Ok x) f h k = k x
   on (Err l) f h k = h
 
   -- the same, where the first result is known
-  on_known : {A B : Type 0} (m : Walked A) (f : A → Walked B) → Lacks s m → ((x : A) → m ≡ Ok x → Lacks s (f x)) → Lacks s (m >>= f)
+  pub on_known : {A B : Type 0} (m : Walked A) (f : A → Walked B) → Lacks s m → ((x : A) → m ≡ Ok x → Lacks s (f x)) → Lacks s (m >>= f)
   on_known (Ok x) f h k = k x refl
   on_known (Err l) f h k = h
 
@@ -59,10 +59,10 @@ module _ (s : StoreState) where
   or_outside_lacks None = tt
   or_outside_lacks (Some x) = tt
 
-  entry_lacks : (d : DictId) (name : List ℕ) → Lacks s (entry s d name)
+  pub entry_lacks : (d : DictId) (name : List ℕ) → Lacks s (entry s d name)
   entry_lacks d name = or_missing_lacks (value_at (entries_of s d) (NameKey name))
 
-  dict_in_lacks : (x : PsObj) → Lacks s (dict_in x)
+  pub dict_in_lacks : (x : PsObj) → Lacks s (dict_in x)
   dict_in_lacks (Dict d) = tt
   dict_in_lacks x = tt
 
@@ -90,7 +90,7 @@ module _ (s : StoreState) where
   dict_at_lacks : (d : DictId) (name : List ℕ) → Lacks s (dict_at s d name)
   dict_at_lacks d name = on (entry s d name) dict_in (entry_lacks d name) dict_in_lacks
 
-  items_at_lacks : (d : DictId) (name : List ℕ) → Lacks s (items_at s d name)
+  pub items_at_lacks : (d : DictId) (name : List ℕ) → Lacks s (items_at s d name)
   items_at_lacks d name = on (entry s d name) (items_in s) (entry_lacks d name) items_in_lacks
 
   procedure_at_lacks : (d : DictId) (name : List ℕ) → Lacks s (procedure_at s d name)
@@ -99,7 +99,7 @@ module _ (s : StoreState) where
   string_at_lacks : (d : DictId) (name : List ℕ) → Lacks s (string_at s d name)
   string_at_lacks d name = on (entry s d name) string_in (entry_lacks d name) string_in_lacks
 
-  number_at_lacks : (d : DictId) (name : List ℕ) → Lacks s (number_at s d name)
+  pub number_at_lacks : (d : DictId) (name : List ℕ) → Lacks s (number_at s d name)
   number_at_lacks d name = on (entry s d name) number_in (entry_lacks d name) number_in_lacks
 
   top_lacks : Lacks s (top_of s)
@@ -114,27 +114,27 @@ module _ (s : StoreState) where
   found_on (Some y) rest h = tt
   found_on None rest h = h
 
-  first_from_lacks : {A B : Type 0} (test : ℕ → A → Walked (Option B)) (n : ℕ) (xs : List A) → ((k : ℕ) (x : A) → slice_get xs k ≡ Some x → Lacks s (test (n + k) x)) → Lacks s (first_from test n xs)
+  pub first_from_lacks : {A B : Type 0} (test : ℕ → A → Walked (Option B)) (n : ℕ) (xs : List A) → ((k : ℕ) (x : A) → slice_get xs k ≡ Some x → Lacks s (test (n + k) x)) → Lacks s (first_from test n xs)
   first_from_lacks test n [] h = tt
   first_from_lacks test n (x ∷ xs) h =
       on (test n x) (λ found. elim found [ Some y ↦ Ok (Some y) | None ↦ first_from test (suc n) xs ])
       (let e : n + 0 ≡ n = omega arith in subst (λ k. Lacks s (test k x)) e (h 0 x refl))
       (λ found. found_on found (first_from test (suc n) xs) (first_from_lacks test (suc n) xs (λ k y g. let e : n + suc k ≡ suc n + k = omega arith in subst (λ k. Lacks s (test k y)) e (h (suc k) y g))))
 
-  first_in_lacks : {A B : Type 0} (test : A → Walked (Option B)) (xs : List A) → ((x : A) → Lacks s (test x)) → Lacks s (first_in test xs)
+  pub first_in_lacks : {A B : Type 0} (test : A → Walked (Option B)) (xs : List A) → ((x : A) → Lacks s (test x)) → Lacks s (first_in test xs)
   first_in_lacks test xs h = first_from_lacks (λ n x. test x) 0 xs (λ k x e. h x)
 
-  all_from_lacks : {A B : Type 0} (test : ℕ → A → Walked (List B)) (n : ℕ) (xs : List A) → ((k : ℕ) (x : A) → Lacks s (test k x)) → Lacks s (all_from test n xs)
+  pub all_from_lacks : {A B : Type 0} (test : ℕ → A → Walked (List B)) (n : ℕ) (xs : List A) → ((k : ℕ) (x : A) → Lacks s (test k x)) → Lacks s (all_from test n xs)
   all_from_lacks test n [] h = tt
   all_from_lacks test n (x ∷ xs) h = on (test n x) _ (h n x) (λ ys. on (all_from test (suc n) xs) _ (all_from_lacks test (suc n) xs h) (λ zs. tt))
 
   -- ---- units
 
-  units_lacks : Lacks s (units_of s)
+  pub units_lacks : Lacks s (units_of s)
   units_lacks = on (top_of s) (λ top. items_at s top (codes "units")) top_lacks (λ top. items_at_lacks top (codes "units"))
 
   -- a unit whose functions stand so is deferred
-  is_deferred : (u : ℕ) (us : List PsObj) (x : PsObj) (d : DictId) (t : StringId) → units_of s ≡ Ok us → slice_get us u ≡ Some x → dict_in x ≡ Ok d → entry s d (codes "functions") ≡ Ok (Str t true) → IsDeferred s u
+  pub is_deferred : (u : ℕ) (us : List PsObj) (x : PsObj) (d : DictId) (t : StringId) → units_of s ≡ Ok us → slice_get us u ≡ Some x → dict_in x ≡ Ok d → entry s d (codes "functions") ≡ Ok (Str t true) → IsDeferred s u
   is_deferred u us x d t a b c e = record {
     unit = d;
     text = t;
@@ -145,7 +145,7 @@ module _ (s : StoreState) where
         ∙ ap (λ m. m >>= λ text. Ok (d, text)) e;
   }
 
-  functions_in_lacks : (u : ℕ) (x : PsObj) → ((t : StringId) → x ≡ Str t true → IsDeferred s u) → Lacks s (functions_in s u x)
+  pub functions_in_lacks : (u : ℕ) (x : PsObj) → ((t : StringId) → x ≡ Str t true → IsDeferred s u) → Lacks s (functions_in s u x)
   functions_in_lacks u (Array a b) h = tt
   functions_in_lacks u (Str t true) h = h t refl
   functions_in_lacks u (Str t false) h = tt
@@ -193,7 +193,7 @@ module _ (s : StoreState) where
   or_no_point_lacks None = tt
   or_no_point_lacks (Some p) = tt
 
-  point_of_row_lacks : (b : Bool) (pc : ℕ) (o : Option FunctionRow) → Lacks s (point_of_row s b pc o)
+  pub point_of_row_lacks : (b : Bool) (pc : ℕ) (o : Option FunctionRow) → Lacks s (point_of_row s b pc o)
   point_of_row_lacks b pc None = tt
   point_of_row_lacks b pc (Some row) =
       on (points_of s row.function) _ (items_at_lacks row.function (codes "points")) (λ ps. on (point_in s b pc ps) or_no_point (point_in_lacks b pc ps) or_no_point_lacks)

@@ -1,0 +1,5 @@
+pub mod Units
+pub mod Looking
+pub mod Told
+pub mod Spots
+pub mod Then
