@@ -1,0 +1,5 @@
+pub mod Breaks
+pub mod Meant
+pub mod Planting
+pub mod Ran
+pub mod Wrote
