@@ -31,6 +31,6 @@ pub fn compile(
 {
     let program = program_of(alloc, names, texts)?;
     let (image, rows) = build(alloc, aim, &program)?;
-    let table = table_of(alloc, aim, rows.anchors.as_slice())?;
+    let table = table_of(alloc, aim, &program, rows)?;
     Ok(Built { image, table })
 }

@@ -170,7 +170,7 @@ impl Sessions {
         Ok(())
     }
 
-    /// Appends what a call with the word of this target came to: its status and transcript, the first twelve bytes of the file `image`, and the file `table`.
+    /// Appends what a call with the word of this target came to: its status and transcript, the first twelve bytes of the file `image`, and the first eleven of the file `table`.
     fn append_call(
         &self,
         target: &str,
@@ -186,7 +186,7 @@ impl Sessions {
         append(out, format!(in alloc; "{status:?} ")?.as_str())?;
         append_escaped(alloc, out, sink.bytes())?;
         append_file(alloc, files.get("image"), 12, out)?;
-        append_file(alloc, files.get("table"), usize::MAX, out)
+        append_file(alloc, files.get("table"), 11, out)
     }
 
     /// Appends what calls for both targets came to, of which these calls of the files and of the transcript fail; that for SPARC where it is another.
