@@ -57,5 +57,5 @@ pub record IsBuilt (aim : Aim) (names texts : List (List ℕ)) (image : ImageFie
 
 -- what is built of sources with these names, or the cause why nothing is
 abbrev pub Builds : Aim → (names texts : List (List ℕ)) → Result Built BuildFault → Type 0
-Builds aim names texts (Ok b) = IsBuilt aim names texts b.image b.table.items
+Builds aim names texts (Ok b) = IsBuilt aim names texts b.image b.table
 Builds aim names texts (Err f) = IsCause texts f

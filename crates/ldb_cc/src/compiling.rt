@@ -16,7 +16,7 @@ use std::alloc::Global;
 #[derive(Drop)]
 pub struct Built {
     pub image: Image,
-    pub table: Vec<u8>,
+    pub table: Text,
 }
 
 /// Compiles sources with these names, one text for each, or tells the first cause why they are refused.
