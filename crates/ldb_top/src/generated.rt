@@ -1,12 +1,16 @@
 // Generated programs and sessions with them.
+ghost use Rattle.std.specs.Prelude.{◌≡◌, IfErr};
+ghost use Rattle.ldb_top.specs.Stops.{IsBuildStop};
+
 use crate::opening::begin;
-use crate::serving::{Ending, Talk, serve};
+use crate::serving::serve;
 use crate::status::Stop;
 use crate::words::Aims;
-use cc_call::Fault;
 use ldb_edge::{SureFiles, SureSink, SureSource};
 use ldb_make::{Made, make};
 use ldb_words::Text;
+use near_link::NearLink;
+use session::Session;
 use std::alloc::{AllocError, Global};
 
 /// The name of the output file of a generated session.
@@ -22,11 +26,12 @@ struct Counts {
 }
 
 /// A generated program and its commands, with a line between them.
-pub fn made_text(alloc: Global, number: u32) -> Result<Text, AllocError> {
-    let made = make(alloc, number)?;
-    let mut text = made.program;
+pub fn made_text(alloc: Global, number: u32) -> Result<Text, AllocError>
+{
+    let Made { program, commands } = make(alloc, number)?;
+    let mut text = program;
     text.append(b"----\n")?;
-    text.append(made.commands.as_bytes())?;
+    text.append(commands.as_bytes())?;
     Ok(text)
 }
 
@@ -85,40 +90,53 @@ fn summary_line(
 }
 
 /// Serves a session from memory, and sums it up.
-fn summary_of(alloc: Global, number: u32, talk: &mut Talk<'_>, commands: Text) -> Result<Text, Stop> {
+fn summary_of(
+    alloc: Global,
+    number: u32,
+    session: &mut Session<NearLink>,
+    commands: Text,
+) -> Result<Text, AllocError> {
     let mut files = SureFiles::new(Vec::new(alloc));
     let mut source = SureSource::new(commands.into_vec());
     let mut sink = SureSink::new(Vec::new(alloc));
-    match serve(alloc, talk, &mut files, &mut source, &mut sink) {
-        Ok(_) => {}
-        Err(_) => return Err(Stop::NoMemory),
+    if serve(alloc, session, OUTPUT, &mut files, &mut source, &mut sink).is_err() {
+        return Err(AllocError);
     }
     let output = match files.get(OUTPUT) {
         Some(bytes) => bytes.len(),
         None => 0,
     };
-    Ok(summary_line(alloc, number, sink.bytes(), output)?)
+    summary_line(alloc, number, sink.bytes(), output)
 }
 
-/// Runs the session with a generated program on both targets under the schedule of its number, and sums it up in a line.
-pub fn own_text(alloc: Global, number: u32) -> Result<Text, Stop> {
-    let made = make(alloc, number)?;
-    let Made { program, commands } = made;
+/// Begins the session with a generated program on both targets, under the schedule of its number.
+fn begin_own(alloc: Global, number: u32, program: Text) -> Result<Session<NearLink>, Stop>
+    ensures { IfErr result IsBuildStop }
+{
     let mut names = Vec::new(alloc);
     names.push(Text::from_slice(alloc, b"make.c")?)?;
     let mut texts = Vec::new(alloc);
     texts.push(program.into_vec())?;
-    let session = begin(
+    begin(
         alloc,
         Aims::Both,
         Some(u64::from(number)),
         &names,
         &texts,
         &[],
-    )?;
-    let mut talk = Talk {
-        session,
-        output: OUTPUT,
-    };
-    summary_of(alloc, number, &mut talk, commands)
+    )
+}
+
+/// Runs the session with a generated program, and sums it up in a line.
+pub fn own_text(alloc: Global, number: u32) -> Result<Text, Stop>
+    ensures { IfErr result IsBuildStop }
+{
+    let Made { program, commands } = make(alloc, number)?;
+    match begin_own(alloc, number, program) {
+        Ok(mut session) => Ok(summary_of(alloc, number, &mut session, commands)?),
+        Err(stop) => {
+            drop(commands);
+            Err(stop)
+        }
+    }
 }
