@@ -87,6 +87,7 @@ fn list_frames<M: AbsMem>(
 }
 
 /// `frames`: the number of frames, and a line for each from the innermost one on.
+#[tactic(auto, using(ps_store::proofs::Settling::settled_same, ps_store::proofs::Settling::settled_on))]
 pub fn listing<W: AbsMem + Drop>(
     inquiry: &mut Inquiry,
     talk: &mut Operators<W>,
@@ -117,6 +118,7 @@ pub fn listing<W: AbsMem + Drop>(
 }
 
 /// `frame N`: the line of the frame with the number.
+#[tactic(auto, using(ps_store::proofs::Settling::settled_same, ps_store::proofs::Settling::settled_on))]
 pub fn choosing<W: AbsMem + Drop>(
     inquiry: &mut Inquiry,
     talk: &mut Operators<W>,

@@ -78,6 +78,7 @@ fn operands_text(alloc: Global, core: &PsCore) -> Result<Text, AllocError> {
 
 /// `ps TEXT`: runs a text of PostScript in the frame with the number, and tells the operands that are left. No frame is walked before
 /// the text asks for that one. What the text stored to the target stays, however it ends.
+#[tactic(auto, using(ps_store::proofs::Settling::settled_same, ps_store::proofs::Settling::settled_on))]
 pub fn running_text<W: AbsMem + Drop>(
     inquiry: &mut Inquiry,
     talk: &mut Operators<W>,

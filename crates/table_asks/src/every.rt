@@ -82,6 +82,7 @@ fn add_unit(store: &PsStore, number: usize, points: &mut Vec<Point>) -> Result<(
 }
 
 /// Adds the points of the unit with a number, whose functions are run first if they have to be.
+#[tactic(auto, using(ps_store::proofs::Settling::settled_same, ps_store::proofs::Settling::settled_on))]
 fn add_settled(
     inquiry: &mut Inquiry,
     number: usize,
@@ -117,6 +118,7 @@ fn count_units(inquiry: &Inquiry) -> Result<usize, AskFault>
 }
 
 /// Every point of the table in its order, each unit's functions being run before they are read, if they have to be.
+#[tactic(auto, using(ps_store::proofs::Settling::settled_same, ps_store::proofs::Settling::settled_on))]
 pub fn every_point(inquiry: &mut Inquiry) -> Result<Vec<Point>, AskFault>
     requires within { inquiry.old.steps.taken ≤ inquiry.old.steps.limit }
     ensures own { IsOwn result }

@@ -36,6 +36,7 @@ fn walk_to<M: AbsMem>(
 }
 
 /// What the frame with a number tells; none where there is no such frame.
+#[tactic(auto, using(ps_store::proofs::Settling::settled_same, ps_store::proofs::Settling::settled_on))]
 pub fn frame_told<W: AbsMem + Drop>(
     inquiry: &mut Inquiry,
     talk: &mut Operators<W>,
@@ -62,6 +63,7 @@ pub fn frame_told<W: AbsMem + Drop>(
 }
 
 /// The frame with a number; none where there is no such frame.
+#[tactic(auto, using(ps_store::proofs::Settling::settled_same, ps_store::proofs::Settling::settled_on))]
 pub fn frame_found<W: AbsMem + Drop>(
     inquiry: &mut Inquiry,
     talk: &mut Operators<W>,
@@ -88,6 +90,7 @@ pub fn frame_found<W: AbsMem + Drop>(
 }
 
 /// The innermost symbol in scope in a frame, if there is one.
+#[tactic(auto, using(ps_store::proofs::Settling::settled_same, ps_store::proofs::Settling::settled_on))]
 pub fn scope_found(
     inquiry: &mut Inquiry,
     number: u32,

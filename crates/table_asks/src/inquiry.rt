@@ -111,6 +111,7 @@ pub fn run_object<W: AbsMem + Drop>(
 
 /// Runs the unit that a look-up met, after which it is asked again; or tells the error of what the table lacks. The steps that are
 /// taken grow where a unit was run.
+#[tactic(auto, using(ps_store::proofs::Settling::settled_same, ps_store::proofs::Settling::settled_on))]
 pub fn settle(inquiry: &mut Inquiry, lack: Lack) -> Result<(), AskFault>
     requires within { inquiry.old.steps.taken ≤ inquiry.old.steps.limit }
     ensures own { IsOwn result }
@@ -133,6 +134,7 @@ pub fn settle(inquiry: &mut Inquiry, lack: Lack) -> Result<(), AskFault>
 }
 
 /// The same for what a walk tells: where the memory gave no answer that is told.
+#[tactic(auto, using(ps_store::proofs::Settling::settled_same, ps_store::proofs::Settling::settled_on))]
 pub fn settle_walk(inquiry: &mut Inquiry, fault: WalkFault) -> Result<(), AskFault>
     requires within { inquiry.old.steps.taken ≤ inquiry.old.steps.limit }
     ensures own { IsOfWalk fault result }

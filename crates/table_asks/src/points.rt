@@ -153,6 +153,7 @@ pub fn spot_point(
 
 /// The first point on a line of a file, in a column if one is given. The first unit of the file answers, whose functions are run
 /// if they have to be.
+#[tactic(auto, using(ps_store::proofs::Settling::settled_same, ps_store::proofs::Settling::settled_on))]
 pub fn line_told(
     inquiry: &mut Inquiry,
     file: &[u8],
@@ -180,6 +181,7 @@ pub fn line_told(
 
 /// The point at which the body of the function with a name begins: the external one, or else the static one where one unit alone
 /// has the name. All units' functions are run if they have to be.
+#[tactic(auto, using(ps_store::proofs::Settling::settled_same, ps_store::proofs::Settling::settled_on))]
 pub fn body_told(inquiry: &mut Inquiry, name: &[u8]) -> Result<Option<Point>, AskFault>
     requires within { inquiry.old.steps.taken ≤ inquiry.old.steps.limit }
     ensures own { IsOwn result }
