@@ -1,15 +1,15 @@
 use Rattle.std.proofs.Common.{◌≡◌, ◌≤◌, ◌-◌}
-use Rattle.table_model.specs.Frames.{row_of_target, frame_at}
-use Rattle.table_asks.specs.Asking.{using}
-use Rattle.table_asks.proofs.Looking.{SoFar}
+use Rattle.ps_store.specs.Store.{closed_part}
+use Rattle.ps_store.specs.Settled.{Settled}
 use Rattle.table_asks.proofs.frames.frame_found.Given as goal
 
 -- units were run so far
 abbrev pub invariant-again : goal.invariant-again
 invariant-again g l = record {
-  far : SoFar (λ b s. frame_at (row_of_target l.target) s b l.context l.number) (g.M.AbsMem.seen l.initial.m) (using l.initial.inquiry) (g.M.AbsMem.seen l.m) (using l.inquiry);
   limit : l.inquiry.steps.limit ≡ l.initial.inquiry.steps.limit;
   within : l.inquiry.steps.taken ≤ l.inquiry.steps.limit;
+  more : l.initial.inquiry.steps.taken ≤ l.inquiry.steps.taken;
+  closed : Settled (closed_part l.initial.inquiry.core.store) (closed_part l.inquiry.core.store);
 }
 
 abbrev pub decreases-again : goal.decreases-again

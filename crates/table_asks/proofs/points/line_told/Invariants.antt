@@ -1,16 +1,16 @@
 use Rattle.std.proofs.Common.{◌≡◌, ◌≤◌, ◌-◌}
-use Rattle.table_model.specs.Places.{spot_point}
-use Rattle.table_asks.specs.Asking.{using}
-use Rattle.table_asks.proofs.Looking.{SoFar}
+use Rattle.ps_store.specs.Store.{closed_part}
+use Rattle.ps_store.specs.Settled.{Settled}
 use Rattle.table_asks.proofs.points.line_told.Given as goal
 
 -- units were run so far
 abbrev pub invariant-again : goal.invariant-again
-invariant-again g l = record {
-  far : SoFar (λ b s. spot_point s l.file l.line l.column) (g.M.AbsMem.seen l.m) (using l.initial.inquiry) (g.M.AbsMem.seen l.m) (using l.inquiry);
+invariant-again l = record {
   limit : l.inquiry.steps.limit ≡ l.initial.inquiry.steps.limit;
   within : l.inquiry.steps.taken ≤ l.inquiry.steps.limit;
+  more : l.initial.inquiry.steps.taken ≤ l.inquiry.steps.taken;
+  closed : Settled (closed_part l.initial.inquiry.core.store) (closed_part l.inquiry.core.store);
 }
 
 abbrev pub decreases-again : goal.decreases-again
-decreases-again g l = l.inquiry.steps.limit - l.inquiry.steps.taken
+decreases-again l = l.inquiry.steps.limit - l.inquiry.steps.taken
