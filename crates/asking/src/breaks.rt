@@ -1,161 +1,159 @@
 // `break` and `clear`.
 
-ghost use Rattle.std.specs.Prelude.{◌≡◌, ◌⊎◌, ◌≤◌, option_map};
-ghost use Rattle.frame_bytes.specs.Bytes.{Bytes};
+ghost use Rattle.std.specs.Prelude.{◌≡◌, ◌⊎◌, ◌≤◌, OnErr};
 ghost use Rattle.machine_state.specs.declared.layout.TheConstants.{MIPS, SPARC};
-ghost use Rattle.table_asks.specs.Asking.{using, Asks, looks, seen_by};
-ghost use Rattle.claims.specs.Side.{SideState};
-ghost use Rattle.claims.specs.Breaks as claimed;
-ghost use Rattle.asking.specs.Saying.{SaysOf};
-ghost use Rattle.asking.specs.Setting.{setting, unsetting, planting_fault, memory_fault};
-ghost use Rattle.table_asks.specs.Rows.{row_in};
+ghost use Rattle.ps_store.specs.Store.{closed_part};
+ghost use Rattle.ps_store.specs.Settled.{Settled};
 
-use crate::kept::{Breakpoint, is_at, is_set, keep};
 use crate::lines::point_text;
-use abs_mem::{AbsMem, MemFault};
+use abs_mem::AbsMem;
 use break_plant::{PlantFault, plant, unplant};
 use c_session::Spot;
 use ldb_words::Text;
-use ps_run::PsError;
-use table_asks::{AskFault, Cause, Inquiry, PointPlace, body_told, line_told};
+use machine_state::{MIPS, SPARC};
+use ps_ops::Operators;
+use ps_store::PsStore;
+use table_asks::{AskFault, Cause, Inquiry, Point, body_told, line_told, memory_fault};
 
-/// Why no breakpoint is planted, or none is taken away: the word there is another one, or is outside.
-fn planting_fault(fault: PlantFault) -> AskFault
-    ensures { result ≡ planting_fault fault }
+/// The target with a number: SPARC or else MIPS.
+fn known(target: u8) -> u8
+    ensures { (result ≡ MIPS) ⊎ (result ≡ SPARC) }
 {
+    if target == SPARC { SPARC } else { MIPS }
+}
+
+/// Whether two points are the same: the names of their files and functions are the same bytes.
+fn is_same(table: &PsStore, one: Point, other: Point) -> bool {
+    one.at == other.at
+        && one.line == other.line
+        && one.column == other.column
+        && table.same_bytes(one.file, other.file)
+        && table.same_bytes(one.function, other.function)
+}
+
+/// Whether a breakpoint is set at a point.
+fn is_set(table: &PsStore, breaks: &[Point], place: Point) -> bool {
+    breaks.iter().any(|point| is_same(table, *point, place))
+}
+
+/// Why no breakpoint is planted: the word there is another one, or isn't read or stored.
+fn planting_fault(fault: PlantFault) -> AskFault {
     match fault {
         PlantFault::NotNoop { .. } => AskFault::Refused(Cause::NoPlace),
         PlantFault::Memory(fault) => memory_fault(fault),
     }
 }
 
-/// Why a word isn't stored.
-fn memory_fault(fault: MemFault) -> AskFault
-    ensures { result ≡ memory_fault fault }
-{
-    match fault {
-        MemFault::Outside { .. } => AskFault::Raised(PsError::RangeCheck),
-        other => AskFault::Broken(other),
-    }
-}
-
 /// Sets a breakpoint at a point, unless one is set there. Memory is taken before anything is stored.
-fn set<M: AbsMem>(
+fn set<W: AbsMem + Drop>(
     inquiry: &Inquiry,
-    target: u8,
-    kept: &mut Vec<Breakpoint>,
-    m: &mut M,
-    place: &PointPlace,
+    talk: &mut Operators<W>,
+    breaks: &mut Vec<Point>,
+    place: Point,
 ) -> Result<Text, AskFault>
-    requires known { (target ≡ MIPS) ⊎ (target ≡ SPARC) }
-    ensures { (a : SideState) → a.machine.target ≡ target → Asks (SaysOf kept.old.items kept.new.items (setting (row_in inquiry.now.core.store place.now)) a) (M.seen m.old) (using inquiry.now) result (M.seen m.new) (using inquiry.now) }
+    ensures kept { OnErr result (breaks.new.items ≡ breaks.old.items) }
 {
-    let alloc = inquiry.core.operands.allocator();
     let table = &inquiry.core.store;
+    let alloc = inquiry.core.operands.allocator();
     let Ok(text) = point_text(alloc, b"break ", table, place) else {
         return Err(AskFault::NoMemory);
     };
-    if is_set(kept.as_slice(), table, place) {
+    if is_set(table, breaks.as_slice(), place) {
         return Ok(text);
     }
-    let Ok(breakpoint) = keep(alloc, table, place) else {
-        return Err(AskFault::NoMemory);
-    };
-    if kept.push(breakpoint).is_err() {
+    if breaks.push(place).is_err() {
         return Err(AskFault::NoMemory);
     }
-    match plant(target, m, place.at) {
+    let target = known(talk.view.target);
+    match plant(target, &mut talk.memory.below.below.below, place.at) {
         Ok(()) => Ok(text),
         Err(fault) => {
-            kept.pop();
+            breaks.pop();
             Err(planting_fault(fault))
         }
     }
 }
 
-/// The point that a spot says.
-fn spot_told<M: AbsMem>(
-    inquiry: &mut Inquiry,
-    m: &M,
-    spot: &Spot,
-) -> Result<Option<PointPlace>, AskFault>
+/// The point that a spot says, whose units are run if they have to be.
+fn spot_told(inquiry: &mut Inquiry, spot: &Spot) -> Result<Option<Point>, AskFault>
     requires within { inquiry.old.steps.taken ≤ inquiry.old.steps.limit }
-    ensures asks { Asks (seen_by (λ s. option_map (row_in s)) (looks (λ b s. claimed.point_of_spot spot.now s))) (M.seen m.now) (using inquiry.old) result (M.seen m.now) (using inquiry.new) }
     ensures within { inquiry.new.steps.taken ≤ inquiry.new.steps.limit }
+    ensures limit { inquiry.new.steps.limit ≡ inquiry.old.steps.limit }
+    ensures more { inquiry.old.steps.taken ≤ inquiry.new.steps.taken }
+    ensures closed { Settled (closed_part inquiry.old.core.store) (closed_part inquiry.new.core.store) }
 {
     match spot {
-        Spot::Line { file, line, column } => {
-            line_told(inquiry, m, file.as_bytes(), *line, *column)
-        }
-        Spot::Func { name } => body_told(inquiry, m, name.as_bytes()),
+        Spot::Line { file, line, column } => line_told(inquiry, file.as_bytes(), *line, *column),
+        Spot::Func { name } => body_told(inquiry, name.as_bytes()),
     }
 }
 
-/// `break`: a breakpoint is set at the point. A breakpoint that is set already is answered again and changes
-/// nothing.
-pub fn breaking<M: AbsMem>(
+/// `break`: a breakpoint is set at the point. One that is set already is answered again and changes nothing. Where it isn't done the
+/// breakpoints are as before.
+pub fn breaking<W: AbsMem + Drop>(
     inquiry: &mut Inquiry,
-    target: u8,
-    kept: &mut Vec<Breakpoint>,
-    m: &mut M,
+    talk: &mut Operators<W>,
+    breaks: &mut Vec<Point>,
     spot: &Spot,
 ) -> Result<Text, AskFault>
     requires within { inquiry.old.steps.taken ≤ inquiry.old.steps.limit }
-    requires known { (target ≡ MIPS) ⊎ (target ≡ SPARC) }
-    ensures asks { (a : SideState) → a.machine.target ≡ target → Asks (SaysOf kept.old.items kept.new.items (λ a. claimed.breaking a spot.now) a) (M.seen m.old) (using inquiry.old) result (M.seen m.new) (using inquiry.new) }
+    ensures kept { OnErr result (breaks.new.items ≡ breaks.old.items) }
     ensures within { inquiry.new.steps.taken ≤ inquiry.new.steps.limit }
+    ensures limit { inquiry.new.steps.limit ≡ inquiry.old.steps.limit }
+    ensures more { inquiry.old.steps.taken ≤ inquiry.new.steps.taken }
+    ensures closed { Settled (closed_part inquiry.old.core.store) (closed_part inquiry.new.core.store) }
 {
-    match spot_told(inquiry, m, spot) {
+    match spot_told(inquiry, spot) {
         Err(fault) => Err(fault),
         Ok(None) => Err(AskFault::Refused(Cause::NoPlace)),
-        Ok(Some(place)) => set(inquiry, target, kept, m, &place),
+        Ok(Some(place)) => set(inquiry, talk, breaks, place),
     }
 }
 
-/// Takes the breakpoint at a point away: the no-op is put back.
-fn unset<M: AbsMem>(
+/// Takes the breakpoint at a point away: the no-op is put back. Memory is taken before anything is stored.
+fn unset<W: AbsMem + Drop>(
     inquiry: &Inquiry,
-    target: u8,
-    kept: &mut Vec<Breakpoint>,
-    m: &mut M,
-    place: &PointPlace,
+    talk: &mut Operators<W>,
+    breaks: &mut Vec<Point>,
+    place: Point,
 ) -> Result<Text, AskFault>
-    requires known { (target ≡ MIPS) ⊎ (target ≡ SPARC) }
-    ensures { (a : SideState) → a.machine.target ≡ target → Asks (SaysOf kept.old.items kept.new.items (unsetting (row_in inquiry.now.core.store place.now)) a) (M.seen m.old) (using inquiry.now) result (M.seen m.new) (using inquiry.now) }
+    ensures kept { OnErr result (breaks.new.items ≡ breaks.old.items) }
 {
-    let alloc = inquiry.core.operands.allocator();
     let table = &inquiry.core.store;
-    if !is_set(kept.as_slice(), table, place) {
+    if !is_set(table, breaks.as_slice(), place) {
         return Err(AskFault::Refused(Cause::NoPlace));
     }
+    let alloc = inquiry.core.operands.allocator();
     let Ok(text) = point_text(alloc, b"clear ", table, place) else {
         return Err(AskFault::NoMemory);
     };
-    match unplant(target, m, place.at) {
+    let target = known(talk.view.target);
+    match unplant(target, &mut talk.memory.below.below.below, place.at) {
         Ok(()) => {
-            kept.retain(|breakpoint| !is_at(breakpoint, table, place));
+            breaks.retain(|point| !is_same(table, *point, place));
             Ok(text)
         }
         Err(fault) => Err(memory_fault(fault)),
     }
 }
 
-/// `clear`: the breakpoint at the point is taken away.
-pub fn clearing<M: AbsMem>(
+/// `clear`: the breakpoint at the point is taken away. Where it isn't done the breakpoints are as before.
+pub fn clearing<W: AbsMem + Drop>(
     inquiry: &mut Inquiry,
-    target: u8,
-    kept: &mut Vec<Breakpoint>,
-    m: &mut M,
+    talk: &mut Operators<W>,
+    breaks: &mut Vec<Point>,
     spot: &Spot,
 ) -> Result<Text, AskFault>
     requires within { inquiry.old.steps.taken ≤ inquiry.old.steps.limit }
-    requires known { (target ≡ MIPS) ⊎ (target ≡ SPARC) }
-    ensures asks { (a : SideState) → a.machine.target ≡ target → Asks (SaysOf kept.old.items kept.new.items (λ a. claimed.clearing a spot.now) a) (M.seen m.old) (using inquiry.old) result (M.seen m.new) (using inquiry.new) }
+    ensures kept { OnErr result (breaks.new.items ≡ breaks.old.items) }
     ensures within { inquiry.new.steps.taken ≤ inquiry.new.steps.limit }
+    ensures limit { inquiry.new.steps.limit ≡ inquiry.old.steps.limit }
+    ensures more { inquiry.old.steps.taken ≤ inquiry.new.steps.taken }
+    ensures closed { Settled (closed_part inquiry.old.core.store) (closed_part inquiry.new.core.store) }
 {
-    match spot_told(inquiry, m, spot) {
+    match spot_told(inquiry, spot) {
         Err(fault) => Err(fault),
         Ok(None) => Err(AskFault::Refused(Cause::NoPlace)),
-        Ok(Some(place)) => unset(inquiry, target, kept, m, &place),
+        Ok(Some(place)) => unset(inquiry, talk, breaks, place),
     }
 }

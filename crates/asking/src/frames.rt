@@ -1,19 +1,14 @@
 // `frames` and `frame`.
 
-ghost use Rattle.std.specs.Prelude.{◌≡◌, ◌≤◌, option_map};
-ghost use Rattle.frame_bytes.specs.Bytes.{Bytes};
-ghost use Rattle.table_model.specs.Frames.{row_of_target};
-ghost use Rattle.table_asks.specs.Asking.{using, Asks, looks};
-ghost use Rattle.claims.specs.Side.{SideState};
-ghost use Rattle.claims.specs.Frames as claimed;
-ghost use Rattle.asking.specs.Saying.{Says};
-ghost use Rattle.asking.specs.Listing.{Lists, listed_outward, listed_frames};
+ghost use Rattle.std.specs.Prelude.{◌≡◌, ◌≤◌};
+ghost use Rattle.ps_store.specs.Store.{closed_part};
+ghost use Rattle.ps_store.specs.Settled.{Settled};
 
 use crate::lines::{append_frame, frames_text};
 use abs_mem::{AbsMem, WalkFault, told};
 use frame_bytes::Frame;
 use ldb_words::Text;
-use machine_state::CONTEXT;
+use ps_ops::Operators;
 use ps_store::PsStore;
 use stack_walk::{first, row_of_target, up};
 use std::alloc::Global;
@@ -45,9 +40,7 @@ fn list_outward<M: AbsMem>(
     table: &PsStore,
     m: &mut M,
     innermost: Frame,
-) -> Result<Listed, ListFault>
-    ensures { Lists (λ b. listed_outward row table.now b innermost) (M.seen m.old) result (M.seen m.new) }
-{
+) -> Result<Listed, ListFault> {
     let mut lines = Text::new(alloc);
     let mut frame = innermost;
     for number in 0..MOST_FRAMES {
@@ -56,7 +49,7 @@ fn list_outward<M: AbsMem>(
             Ok(place) => place,
             Err(lack) => return Err(ListFault::Walk(told(lack))),
         };
-        match append_frame(alloc, &mut lines, table, number, &place) {
+        match append_frame(alloc, &mut lines, table, number, place) {
             Ok(()) => {}
             Err(_) => return Err(ListFault::NoMemory),
         }
@@ -82,9 +75,7 @@ fn list_frames<M: AbsMem>(
     context: u32,
     table: &PsStore,
     m: &mut M,
-) -> Result<Listed, ListFault>
-    ensures { Lists (λ b. listed_frames row table.now b context) (M.seen m.old) result (M.seen m.new) }
-{
+) -> Result<Listed, ListFault> {
     match first(row, context, table, m) {
         Err(fault) => Err(ListFault::Walk(fault)),
         Ok(None) => Ok(Listed {
@@ -96,15 +87,22 @@ fn list_frames<M: AbsMem>(
 }
 
 /// `frames`: the number of frames, and a line for each from the innermost one on.
-pub fn listing<M: AbsMem>(inquiry: &mut Inquiry, target: u8, m: &mut M) -> Result<Text, AskFault>
+pub fn listing<W: AbsMem + Drop>(
+    inquiry: &mut Inquiry,
+    talk: &mut Operators<W>,
+) -> Result<Text, AskFault>
     requires within { inquiry.old.steps.taken ≤ inquiry.old.steps.limit }
-    ensures asks { (a : SideState) → a.machine.target ≡ target → Asks (Says claimed.listing a) (M.seen m.old) (using inquiry.old) result (M.seen m.new) (using inquiry.new) }
     ensures within { inquiry.new.steps.taken ≤ inquiry.new.steps.limit }
+    ensures limit { inquiry.new.steps.limit ≡ inquiry.old.steps.limit }
+    ensures more { inquiry.old.steps.taken ≤ inquiry.new.steps.taken }
+    ensures closed { Settled (closed_part inquiry.old.core.store) (closed_part inquiry.new.core.store) }
 {
-    let row = row_of_target(target);
+    let row = row_of_target(talk.view.target);
+    let context = talk.view.context;
     let alloc = inquiry.core.operands.allocator();
+    let m = &mut talk.memory.below.below.below;
     'again: loop {
-        match list_frames(alloc, row, CONTEXT, &inquiry.core.store, m) {
+        match list_frames(alloc, row, context, &inquiry.core.store, m) {
             Ok(all) => match frames_text(alloc, all.count, &all.lines) {
                 Ok(text) => return Ok(text),
                 Err(_) => return Err(AskFault::NoMemory),
@@ -118,24 +116,25 @@ pub fn listing<M: AbsMem>(inquiry: &mut Inquiry, target: u8, m: &mut M) -> Resul
     }
 }
 
-/// `frame N`: the line of the frame with the number, which the session chooses.
-pub fn choosing<M: AbsMem>(
+/// `frame N`: the line of the frame with the number.
+pub fn choosing<W: AbsMem + Drop>(
     inquiry: &mut Inquiry,
-    target: u8,
-    m: &mut M,
+    talk: &mut Operators<W>,
     number: u32,
 ) -> Result<Text, AskFault>
     requires within { inquiry.old.steps.taken ≤ inquiry.old.steps.limit }
-    ensures asks { (a : SideState) → a.machine.target ≡ target → Asks (Says (λ a. claimed.choosing a number) a) (M.seen m.old) (using inquiry.old) result (M.seen m.new) (using inquiry.new) }
     ensures within { inquiry.new.steps.taken ≤ inquiry.new.steps.limit }
+    ensures limit { inquiry.new.steps.limit ≡ inquiry.old.steps.limit }
+    ensures more { inquiry.old.steps.taken ≤ inquiry.new.steps.taken }
+    ensures closed { Settled (closed_part inquiry.old.core.store) (closed_part inquiry.new.core.store) }
 {
-    let alloc = inquiry.core.operands.allocator();
-    match frame_told(inquiry, target, CONTEXT, m, number) {
+    match frame_told(inquiry, talk, number) {
         Err(fault) => Err(fault),
         Ok(None) => Err(AskFault::Refused(Cause::NoFrame)),
         Ok(Some(place)) => {
+            let alloc = inquiry.core.operands.allocator();
             let mut line = Text::new(alloc);
-            match append_frame(alloc, &mut line, &inquiry.core.store, number, &place) {
+            match append_frame(alloc, &mut line, &inquiry.core.store, number, place) {
                 Ok(()) => Ok(line),
                 Err(_) => Err(AskFault::NoMemory),
             }

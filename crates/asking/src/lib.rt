@@ -3,9 +3,11 @@
 
 mod breaks;
 mod frames;
-mod kept;
 mod lines;
+mod printing;
+mod raw;
 
 pub use breaks::{breaking, clearing};
 pub use frames::{choosing, listing};
-pub use kept::Breakpoint;
+pub use printing::{begin_talk, printing, procedure_of};
+pub use raw::{registers, running_text};

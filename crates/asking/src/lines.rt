@@ -1,13 +1,11 @@
 // Lines of replies.
 
 ghost use Rattle.std.specs.Prelude.{◌≡◌, ◌∷◌, ◌++◌, [], OnOk, IfOk, codes, decimal};
-ghost use Rattle.table_asks.specs.Rows.{row_in};
-ghost use Rattle.claims.specs.Lines.{place_text, frame_text};
 
 use ldb_words::Text;
 use ps_store::PsStore;
 use std::alloc::{AllocError, Global};
-use table_asks::PointPlace;
+use table_asks::Point;
 
 /// Adds a number in decimal digits.
 fn append_decimal(alloc: Global, out: &mut Text, n: u32) -> Result<(), AllocError>
@@ -22,10 +20,8 @@ fn append_place(
     alloc: Global,
     out: &mut Text,
     table: &PsStore,
-    place: &PointPlace,
-) -> Result<(), AllocError>
-    ensures { OnOk result (out.new ≡ out.old ++ place_text (row_in table.now place.now)) }
-{
+    place: Point,
+) -> Result<(), AllocError> {
     out.append(table.string_get(place.file))?;
     out.append(b":")?;
     append_decimal(alloc, out, place.line)?;
@@ -39,10 +35,8 @@ pub fn append_frame(
     out: &mut Text,
     table: &PsStore,
     number: u32,
-    place: &PointPlace,
-) -> Result<(), AllocError>
-    ensures { OnOk result (out.new ≡ out.old ++ (frame_text number (row_in table.now place.now) ++ (10 ∷ []))) }
-{
+    place: Point,
+) -> Result<(), AllocError> {
     out.append(b"frame ")?;
     append_decimal(alloc, out, number)?;
     out.append(b" ")?;
@@ -69,13 +63,22 @@ pub fn point_text(
     alloc: Global,
     word: &[u8],
     table: &PsStore,
-    place: &PointPlace,
-) -> Result<Text, AllocError>
-    ensures { IfOk result (λ t. t ≡ word.now ++ (place_text (row_in table.now place.now) ++ (10 ∷ []))) }
-{
+    place: Point,
+) -> Result<Text, AllocError> {
     let mut out = Text::new(alloc);
     out.append(word)?;
     append_place(alloc, &mut out, table, place)?;
+    out.append(b"\n")?;
+    Ok(out)
+}
+
+/// The line of a shown value, `value TEXT`, with its LF.
+pub fn value_text(alloc: Global, shown: &Text) -> Result<Text, AllocError>
+    ensures { IfOk result (λ t. t ≡ codes "value " ++ (shown.now ++ (10 ∷ []))) }
+{
+    let mut out = Text::new(alloc);
+    out.append(b"value ")?;
+    out.append(shown.as_bytes())?;
     out.append(b"\n")?;
     Ok(out)
 }

@@ -1,5 +1,2 @@
-pub mod Mapped
+pub mod Answering
 pub mod Units
-pub mod Acts
-pub mod Acting
-pub mod Lacking

@@ -2,7 +2,7 @@
 
 ghost use Rattle.std.specs.Prelude.{◌≡◌, ◌≤◌};
 ghost use Rattle.ps_store.specs.Store.{closed_part};
-ghost use Rattle.ps_bare.specs.Bare.{ActsBare};
+ghost use Rattle.ps_bare.specs.Bare.{Plain};
 
 use crate::objects::run_on_object;
 use crate::places::run_on_place;
@@ -13,7 +13,7 @@ use ps_run::{Dialect, PsCore, PsError, PsFault, Steps};
 
 /// Runs the operator with a number once.
 fn act(core: &mut PsCore, memory: &mut Register<NoMem>, op: u16) -> Result<(), PsFault>
-    ensures acts { ActsBare op memory.old.cell core.old result memory.new.cell core.new }
+    ensures plain { Plain result }
     ensures closed { closed_part core.new.store ≡ closed_part core.old.store }
 {
     if op <= 7 {
@@ -42,7 +42,7 @@ impl Dialect for NoTarget {
     ghost use Rattle.std.proofs.Common.{◌∙◌};
     ghost use Rattle.ps_bare.specs.Bare.{OperatesBare};
 
-    ghost operates = { λ d c op left answer d' c' left'. OperatesBare d.cell c op left answer d'.cell c' left' };
+    ghost operates = { λ d c op left answer d' c' left'. OperatesBare left answer left' };
 
     ghost remains = { λ p q. q ≡ p };
 

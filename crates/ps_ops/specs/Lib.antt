@@ -1,4 +1,2 @@
-pub mod Desk
 pub mod Halts
-pub mod Asking
-pub mod Acting
+pub mod Operating

@@ -1,11 +1,5 @@
 // What is looked up for an operator.
 
-ghost use Rattle.std.specs.Prelude.{◌≡◌};
-ghost use Rattle.frame_bytes.specs.Bytes.{Bytes};
-ghost use Rattle.table_model.specs.Frames.{frame_at, outward_by, row_of_target};
-ghost use Rattle.abs_mem.specs.Walking.{Walks, LedWalk};
-ghost use Rattle.ps_ops.specs.Asking.{LooksUp, frame_by, scope_by, found_by, found_two};
-
 use crate::halt::{Halt, halted};
 use crate::view::{Standing, View};
 use abs_mem::{AbsMem, Locate, WalkFault};
@@ -28,10 +22,7 @@ fn outward_by<M: AbsMem>(
     m: &mut M,
     innermost: Frame,
     count: u32,
-) -> Result<Option<Frame>, WalkFault>
-    ensures meaning { Walks (λ b. outward_by row table.now b count innermost) (M.seen m.old) result (M.seen m.new) }
-    ensures calls { LedWalk M.leads m.old result m.new }
-{
+) -> Result<Option<Frame>, WalkFault> {
     let mut frame = innermost;
     for _ in 0..count {
         match up(row, &frame, table, m)? {
@@ -49,10 +40,7 @@ pub fn frame_numbered<M: AbsMem>(
     table: &PsStore,
     m: &mut M,
     number: u32,
-) -> Result<Option<Frame>, WalkFault>
-    ensures meaning { Walks (λ b. frame_at row table.now b context number) (M.seen m.old) result (M.seen m.new) }
-    ensures calls { LedWalk M.leads m.old result m.new }
-{
+) -> Result<Option<Frame>, WalkFault> {
     if number >= MOST_FRAMES {
         return Ok(None);
     }
@@ -63,9 +51,7 @@ pub fn frame_numbered<M: AbsMem>(
 }
 
 /// The frame in which operators work, if there is one.
-pub fn frame_of<M: AbsMem>(view: &View, table: &PsStore, m: &mut M) -> Result<Option<Frame>, Halt>
-    ensures { LooksUp table.now (λ b. frame_by view.now table.now b) (M.seen m.old) result (M.seen m.new) }
-{
+pub fn frame_of<M: AbsMem>(view: &View, table: &PsStore, m: &mut M) -> Result<Option<Frame>, Halt> {
     match view.standing {
         Standing::NoFrame => Ok(None),
         Standing::InFrame { frame, .. } => Ok(Some(frame)),
@@ -79,9 +65,11 @@ pub fn frame_of<M: AbsMem>(view: &View, table: &PsStore, m: &mut M) -> Result<Op
 }
 
 /// The innermost symbol in scope in that frame, which has to be there.
-pub fn scope_in<M: AbsMem>(view: &View, table: &PsStore, m: &mut M) -> Result<Option<DictId>, Halt>
-    ensures { LooksUp table.now (λ b. scope_by view.now table.now b) (M.seen m.old) result (M.seen m.new) }
-{
+pub fn scope_in<M: AbsMem>(
+    view: &View,
+    table: &PsStore,
+    m: &mut M,
+) -> Result<Option<DictId>, Halt> {
     match view.standing {
         Standing::NoFrame => Err(Halt::Raised(PsError::RangeCheck)),
         Standing::InFrame { scope, .. } => Ok(scope),
@@ -103,9 +91,7 @@ pub fn found<M: AbsMem>(
     table: &PsStore,
     m: &mut M,
     address: u32,
-) -> Result<Option<Found>, Halt>
-    ensures { LooksUp table.now (λ b. found_by view.now table.now b address) (M.seen m.old) result (M.seen m.new) }
-{
+) -> Result<Option<Found>, Halt> {
     if address == 0 {
         return Ok(None);
     }
@@ -126,9 +112,7 @@ pub fn found_two<M: AbsMem>(
     m: &mut M,
     p: u32,
     q: u32,
-) -> Result<(Option<Found>, Option<Found>), Halt>
-    ensures { LooksUp table.now (λ b. found_two view.now table.now b p q) (M.seen m.old) result (M.seen m.new) }
-{
+) -> Result<(Option<Found>, Option<Found>), Halt> {
     match found(view, table, m, p) {
         Err(halt) => Err(halt),
         Ok(None) => Ok((None, None)),

@@ -1,9 +1,7 @@
 // Operators on pointers and names.
 
-ghost use Rattle.std.specs.Prelude.{◌≡◌, ℕ, List};
+ghost use Rattle.std.specs.Prelude.{◌≡◌};
 ghost use Rattle.ps_store.specs.Store.{closed_part};
-ghost use Rattle.ps_ops.specs.Acting.{ActsOn};
-ghost use Rattle.ps_ops.specs.Desk.{desk_of};
 
 use crate::asking::{found, found_two, scope_in};
 use crate::halt::{Halt, left};
@@ -24,7 +22,6 @@ pub fn find_where<W: AbsMem + Drop>(
     memory: &mut Joined<W>,
     core: &mut PsCore,
 ) -> Result<(), Halt>
-    ensures acts { (out : List ℕ) → ActsOn 5 (desk_of view.now memory.old.below.below.order memory.old.below.cell out) (W.seen memory.old.below.below.below) core.old result (desk_of view.now memory.new.below.below.order memory.new.below.cell out) (W.seen memory.new.below.below.below) core.new }
     ensures closed { closed_part core.new.store ≡ closed_part core.old.store }
 {
     match top_name(core) {
@@ -42,7 +39,6 @@ pub fn add<W: AbsMem + Drop>(
     memory: &mut Joined<W>,
     core: &mut PsCore,
 ) -> Result<(), Halt>
-    ensures acts { (out : List ℕ) → ActsOn 23 (desk_of view.now memory.old.below.below.order memory.old.below.cell out) (W.seen memory.old.below.below.below) core.old result (desk_of view.now memory.new.below.below.order memory.new.below.cell out) (W.seen memory.new.below.below.below) core.new }
     ensures closed { closed_part core.new.store ≡ closed_part core.old.store }
 {
     match sum_operands(core) {
@@ -65,7 +61,6 @@ pub fn subtract<W: AbsMem + Drop>(
     memory: &mut Joined<W>,
     core: &mut PsCore,
 ) -> Result<(), Halt>
-    ensures acts { (out : List ℕ) → ActsOn 24 (desk_of view.now memory.old.below.below.order memory.old.below.cell out) (W.seen memory.old.below.below.below) core.old result (desk_of view.now memory.new.below.below.order memory.new.below.cell out) (W.seen memory.new.below.below.below) core.new }
     ensures closed { closed_part core.new.store ≡ closed_part core.old.store }
 {
     match difference_operands(core) {
@@ -89,7 +84,6 @@ pub fn compare<W: AbsMem + Drop>(
     memory: &mut Joined<W>,
     core: &mut PsCore,
 ) -> Result<(), Halt>
-    ensures acts { (out : List ℕ) → ActsOn 25 (desk_of view.now memory.old.below.below.order memory.old.below.cell out) (W.seen memory.old.below.below.below) core.old result (desk_of view.now memory.new.below.below.order memory.new.below.cell out) (W.seen memory.new.below.below.below) core.new }
     ensures closed { closed_part core.new.store ≡ closed_part core.old.store }
 {
     match comparison_operands(core) {
@@ -107,7 +101,6 @@ pub fn take_leaf<W: AbsMem + Drop>(
     memory: &mut Joined<W>,
     core: &mut PsCore,
 ) -> Result<(), Halt>
-    ensures acts { (out : List ℕ) → ActsOn 26 (desk_of view.now memory.old.below.below.order memory.old.below.cell out) (W.seen memory.old.below.below.below) core.old result (desk_of view.now memory.new.below.below.order memory.new.below.cell out) (W.seen memory.new.below.below.below) core.new }
     ensures closed { closed_part core.new.store ≡ closed_part core.old.store }
 {
     match leaf_operands(core) {
@@ -125,7 +118,6 @@ pub fn measure_run<W: AbsMem + Drop>(
     memory: &mut Joined<W>,
     core: &mut PsCore,
 ) -> Result<(), Halt>
-    ensures acts { (out : List ℕ) → ActsOn 32 (desk_of view.now memory.old.below.below.order memory.old.below.cell out) (W.seen memory.old.below.below.below) core.old result (desk_of view.now memory.new.below.below.order memory.new.below.cell out) (W.seen memory.new.below.below.below) core.new }
     ensures closed { closed_part core.new.store ≡ closed_part core.old.store }
 {
     match top_word(core) {

@@ -1,3 +1,3 @@
-pub mod Asking
+pub mod Faults
 pub mod Rows
 pub mod Meant

@@ -1,7 +1,13 @@
 // Why a part of a command has no result.
 
+ghost use Rattle.std.specs.Prelude.{◌≡◌};
+ghost use Rattle.table_asks.specs.Faults.{fault_of_run, memory_fault, raised};
+
 use abs_mem::MemFault;
-use ps_run::PsError;
+use ldb_words::Undef;
+use ps_places::error_of;
+use ps_run::{PsError, PsFault};
+use table_model::Lack;
 
 /// Why a command is refused, once the state of the session allows it.
 #[derive(Clone, Copy, PartialEq, Eq, Debug)]
@@ -13,6 +19,8 @@ pub enum Cause {
     BadSyntax,
     NoScope,
     BadType,
+    /// The first undefined step of an evaluation has this reason.
+    Undefined(Undef),
 }
 
 /// Why a part of a command has no result.
@@ -26,4 +34,37 @@ pub enum AskFault {
     NoMemory,
     /// The link failed, or a bad reply came.
     Broken(MemFault),
+}
+
+/// The error of what a table lacks.
+pub fn raised(lack: Lack) -> AskFault
+    ensures { result ≡ raised lack }
+{
+    AskFault::Raised(error_of(lack))
+}
+
+/// Why a run of PostScript over a target's memory ended early, where the memory's fault was kept. A run that ended by the link
+/// keeps its fault.
+pub fn fault_of_run(fault: PsFault, kept: Option<MemFault>) -> AskFault
+    ensures { result ≡ fault_of_run fault kept }
+{
+    match fault {
+        PsFault::Error(error) => AskFault::Raised(error),
+        PsFault::Spent => AskFault::Spent,
+        PsFault::NoMemory => AskFault::NoMemory,
+        PsFault::Link => match kept {
+            Some(why) => AskFault::Broken(why),
+            None => AskFault::Broken(MemFault::LinkFault),
+        },
+    }
+}
+
+/// Why a word of a target isn't read or stored.
+pub fn memory_fault(fault: MemFault) -> AskFault
+    ensures { result ≡ memory_fault fault }
+{
+    match fault {
+        MemFault::Outside { .. } => AskFault::Raised(PsError::RangeCheck),
+        other => AskFault::Broken(other),
+    }
 }

@@ -1,32 +1,22 @@
-// Frames and what they tell.
+// Frames, what they tell, and the symbols in scope there.
 
-ghost use Rattle.std.specs.Prelude.{◌≡◌, ◌≤◌, option_map};
-ghost use Rattle.frame_bytes.specs.Bytes.{Bytes};
-ghost use Rattle.table_read.specs.Reads.{in_ok};
-ghost use Rattle.table_model.specs.Frames.{row_of_target, frame_at, told_frame_at};
-ghost use Rattle.abs_mem.specs.Walking.{Walks, LedWalk, told_of};
-ghost use Rattle.table_asks.specs.Asking.{using, Asks, looks, seen_by};
-ghost use Rattle.table_asks.specs.Rows.{row_in};
+ghost use Rattle.std.specs.Prelude.{◌≡◌, ◌≤◌, IfOk, Ok};
+ghost use Rattle.ps_store.specs.Store.{closed_part};
+ghost use Rattle.ps_store.specs.Settled.{Settled};
+ghost use Rattle.table_model.specs.Symbols.{scope_of, symbol_named};
+ghost use Rattle.table_asks.specs.Faults.{IsOwn};
 
-use crate::fault::AskFault;
-use crate::inquiry::{Inquiry, settle_walk};
-use crate::row::{PointPlace, told_frame};
+use crate::fault::{AskFault, raised};
+use crate::inquiry::{Inquiry, settle, settle_walk};
+use crate::row::{Point, told_frame};
 use abs_mem::{AbsMem, WalkFault, told};
 use frame_bytes::Frame;
-use ps_ops::frame_numbered;
-use ps_store::PsStore;
+use ps_ops::{Operators, frame_numbered};
+use ps_store::{DictId, PsStore};
+use ps_symbols::symbol_named;
 use stack_walk::row_of_target;
-use table_model::{Lack, TargetRow};
-
-/// What the table says of a frame, as a walk tells it.
-fn place_told(place: Result<PointPlace, Lack>) -> Result<PointPlace, WalkFault>
-    ensures { result ≡ told_of place }
-{
-    match place {
-        Ok(place) => Ok(place),
-        Err(lack) => Err(told(lack)),
-    }
-}
+use table_model::TargetRow;
+use table_read::scope_of;
 
 /// What the frame with a number tells, in one walk; none where there is no such frame.
 fn walk_to<M: AbsMem>(
@@ -35,32 +25,31 @@ fn walk_to<M: AbsMem>(
     table: &PsStore,
     m: &mut M,
     number: u32,
-) -> Result<Option<PointPlace>, WalkFault>
-    ensures meaning { Walks (λ b. told_frame_at row table.now b context number) (M.seen m.old) (in_ok (option_map (row_in table.now)) result) (M.seen m.new) }
-{
+) -> Result<Option<Point>, WalkFault> {
     match frame_numbered(row, context, table, m, number)? {
         None => Ok(None),
-        Some(frame) => {
-            let place = place_told(told_frame(table, number, &frame))?;
-            Ok(Some(place))
-        }
+        Some(frame) => match told_frame(table, number, &frame) {
+            Ok(place) => Ok(Some(place)),
+            Err(lack) => Err(told(lack)),
+        },
     }
 }
 
-/// What the frame with a number tells; none where there is no such frame. The context block is at the address.
-pub fn frame_told<M: AbsMem>(
+/// What the frame with a number tells; none where there is no such frame.
+pub fn frame_told<W: AbsMem + Drop>(
     inquiry: &mut Inquiry,
-    target: u8,
-    context: u32,
-    m: &mut M,
+    talk: &mut Operators<W>,
     number: u32,
-) -> Result<Option<PointPlace>, AskFault>
+) -> Result<Option<Point>, AskFault>
     requires within { inquiry.old.steps.taken ≤ inquiry.old.steps.limit }
-    ensures asks { Asks (seen_by (λ s. option_map (row_in s)) (looks (λ b s. told_frame_at (row_of_target target) s b context number))) (M.seen m.old) (using inquiry.old) result (M.seen m.new) (using inquiry.new) }
     ensures within { inquiry.new.steps.taken ≤ inquiry.new.steps.limit }
     ensures limit { inquiry.new.steps.limit ≡ inquiry.old.steps.limit }
+    ensures more { inquiry.old.steps.taken ≤ inquiry.new.steps.taken }
+    ensures closed { Settled (closed_part inquiry.old.core.store) (closed_part inquiry.new.core.store) }
 {
-    let row = row_of_target(target);
+    let row = row_of_target(talk.view.target);
+    let context = talk.view.context;
+    let m = &mut talk.memory.below.below.below;
     'again: loop {
         match walk_to(row, context, &inquiry.core.store, m, number) {
             Ok(place) => return Ok(place),
@@ -72,20 +61,21 @@ pub fn frame_told<M: AbsMem>(
     }
 }
 
-/// The frame with a number; none where there is no such frame. The context block is at the address.
-pub fn frame_found<M: AbsMem>(
+/// The frame with a number; none where there is no such frame.
+pub fn frame_found<W: AbsMem + Drop>(
     inquiry: &mut Inquiry,
-    target: u8,
-    context: u32,
-    m: &mut M,
+    talk: &mut Operators<W>,
     number: u32,
 ) -> Result<Option<Frame>, AskFault>
     requires within { inquiry.old.steps.taken ≤ inquiry.old.steps.limit }
-    ensures asks { Asks (looks (λ b s. frame_at (row_of_target target) s b context number)) (M.seen m.old) (using inquiry.old) result (M.seen m.new) (using inquiry.new) }
     ensures within { inquiry.new.steps.taken ≤ inquiry.new.steps.limit }
     ensures limit { inquiry.new.steps.limit ≡ inquiry.old.steps.limit }
+    ensures more { inquiry.old.steps.taken ≤ inquiry.new.steps.taken }
+    ensures closed { Settled (closed_part inquiry.old.core.store) (closed_part inquiry.new.core.store) }
 {
-    let row = row_of_target(target);
+    let row = row_of_target(talk.view.target);
+    let context = talk.view.context;
+    let m = &mut talk.memory.below.below.below;
     'again: loop {
         match frame_numbered(row, context, &inquiry.core.store, m, number) {
             Ok(frame) => return Ok(frame),
@@ -94,5 +84,45 @@ pub fn frame_found<M: AbsMem>(
                 Err(fault) => return Err(fault),
             },
         }
+    }
+}
+
+/// The innermost symbol in scope in a frame, if there is one.
+pub fn scope_found(
+    inquiry: &mut Inquiry,
+    number: u32,
+    frame: &Frame,
+) -> Result<Option<DictId>, AskFault>
+    requires within { inquiry.old.steps.taken ≤ inquiry.old.steps.limit }
+    ensures own { IsOwn result }
+    ensures within { inquiry.new.steps.taken ≤ inquiry.new.steps.limit }
+    ensures limit { inquiry.new.steps.limit ≡ inquiry.old.steps.limit }
+    ensures more { inquiry.old.steps.taken ≤ inquiry.new.steps.taken }
+    ensures closed { Settled (closed_part inquiry.old.core.store) (closed_part inquiry.new.core.store) }
+    ensures found { IfOk result (λ scope. scope_of inquiry.new.core.store number frame.now ≡ Ok scope) }
+{
+    'again: loop {
+        match scope_of(&inquiry.core.store, number, frame) {
+            Ok(scope) => return Ok(scope),
+            Err(lack) => match settle(inquiry, lack) {
+                Ok(()) => {}
+                Err(fault) => return Err(fault),
+            },
+        }
+    }
+}
+
+/// The first symbol with a name on the chain that begins with one. No unit is run for it.
+pub fn symbol_found(
+    inquiry: &Inquiry,
+    scope: Option<DictId>,
+    name: &[u8],
+) -> Result<Option<DictId>, AskFault>
+    ensures own { IsOwn result }
+    ensures found { IfOk result (λ symbol. symbol_named inquiry.now.core.store scope name.now ≡ Ok symbol) }
+{
+    match symbol_named(&inquiry.core.store, scope, name) {
+        Ok(symbol) => Ok(symbol),
+        Err(lack) => Err(raised(lack)),
     }
 }

@@ -1,6 +1,7 @@
 //! How a command asks a symbol table: look-ups, over a target's memory, with the units run that they meet.
 #![tactic(auto)]
 
+mod every;
 mod fault;
 mod frames;
 mod inquiry;
@@ -8,9 +9,12 @@ mod named;
 mod points;
 mod row;
 
-pub use fault::{AskFault, Cause};
-pub use frames::{frame_found, frame_told};
-pub use inquiry::{Inquiry, settle, settle_walk};
+pub use every::every_point;
+pub use fault::{AskFault, Cause, fault_of_run, memory_fault, raised};
+pub use frames::{frame_found, frame_told, scope_found, symbol_found};
+pub use inquiry::{
+    Inquiry, begin_command, begin_run, end_command, run_object, settle, settle_walk,
+};
 pub use named::function_point;
 pub use points::{body_told, line_told, spot_point};
-pub use row::{PointPlace, told_frame};
+pub use row::{Point, told_frame};

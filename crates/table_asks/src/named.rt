@@ -7,7 +7,7 @@ ghost use Rattle.table_model.specs.Places.{Named, called, called_in, point_of_na
 ghost use Rattle.table_asks.specs.Rows.{row_in};
 ghost use Rattle.table_asks.specs.Meant.{named_of, meant_of, Adds};
 
-use crate::row::PointPlace;
+use crate::row::Point;
 use ps_store::{DictId, PsObj, PsStore};
 use table_model::Lack;
 use table_read::{
@@ -152,7 +152,7 @@ fn chosen(meant: Meant) -> Option<NamedFunction>
 }
 
 /// The first point of a function; none where it has none.
-fn first_point(store: &PsStore, function: NamedFunction) -> Result<Option<PointPlace>, Lack>
+fn first_point(store: &PsStore, function: NamedFunction) -> Result<Option<Point>, Lack>
     ensures { (text : List ℕ) → text_at store.now function.function (codes "name") ≡ Ok text → in_ok (option_map (row_in store.now)) result ≡ point_of_named store.now text (Some (named_of function)) }
 {
     let points = points_of(store, function.function)?;
@@ -165,7 +165,7 @@ fn first_point(store: &PsStore, function: NamedFunction) -> Result<Option<PointP
     let at = point_address(store, point)?;
     let file = string_at(store, function.unit, b"file")?;
     let name = string_at(store, function.function, b"name")?;
-    Ok(Some(PointPlace {
+    Ok(Some(Point {
         file,
         function: name,
         line,
@@ -176,7 +176,7 @@ fn first_point(store: &PsStore, function: NamedFunction) -> Result<Option<PointP
 
 /// The point at which the body of the function with a name begins.
 #[tactic(auto, unfolding(table_model::specs::Places::function_point))]
-pub fn function_point(store: &PsStore, name: &[u8]) -> Result<Option<PointPlace>, Lack>
+pub fn function_point(store: &PsStore, name: &[u8]) -> Result<Option<Point>, Lack>
     ensures { in_ok (option_map (row_in store.now)) result ≡ function_point store.now name.now }
 {
     let units = units_of(store)?;

@@ -1,20 +1,19 @@
 // Points by their places.
 
-ghost use Rattle.std.specs.Prelude.{◌≡◌, ◌≤◌, option_map};
-ghost use Rattle.frame_bytes.specs.Bytes.{Bytes};
+ghost use Rattle.std.specs.Prelude.{◌≡◌, ◌≤◌, IfOk, Ok, option_map};
+ghost use Rattle.ps_store.specs.Store.{closed_part};
+ghost use Rattle.ps_store.specs.Settled.{Settled};
 ghost use Rattle.ps_store.specs.Store.{bytes_of};
 ghost use Rattle.table_read.specs.Reads.{in_ok};
 ghost use Rattle.table_model.specs.Reading.{first_in};
 ghost use Rattle.table_model.specs.Places.{is_column, on_line, in_function, in_unit, spot_point, function_point};
-ghost use Rattle.abs_mem.specs.Walking.{Walks};
-ghost use Rattle.table_asks.specs.Asking.{using, Asks, looks, seen_by};
+ghost use Rattle.table_asks.specs.Faults.{IsOwn};
 ghost use Rattle.table_asks.specs.Rows.{row_in};
 
 use crate::fault::AskFault;
-use crate::inquiry::{Inquiry, settle_walk};
+use crate::inquiry::{Inquiry, settle};
 use crate::named::function_point;
-use crate::row::PointPlace;
-use abs_mem::{AbsMem, WalkFault, told};
+use crate::row::Point;
 use ps_store::{DictId, PsObj, PsStore, StringId};
 use table_model::Lack;
 use table_read::{dict_in, functions_of, number_at, point_address, points_of, string_at, units_of};
@@ -37,7 +36,7 @@ fn on_line(
     column: Option<u32>,
     function: DictId,
     object: PsObj,
-) -> Result<Option<PointPlace>, Lack>
+) -> Result<Option<Point>, Lack>
     ensures { in_ok (option_map (row_in store.now)) result ≡ on_line store.now (bytes_of store.now file) line column function object }
 {
     let point = dict_in(object)?;
@@ -48,7 +47,7 @@ fn on_line(
     }
     let at = point_address(store, point)?;
     let name = string_at(store, function, b"name")?;
-    Ok(Some(PointPlace {
+    Ok(Some(Point {
         file,
         function: name,
         line: at_line,
@@ -65,7 +64,7 @@ fn first_on_line(
     column: Option<u32>,
     function: DictId,
     points: &[PsObj],
-) -> Result<Option<PointPlace>, Lack>
+) -> Result<Option<Point>, Lack>
     ensures { in_ok (option_map (row_in store.now)) result ≡ first_in (on_line store.now (bytes_of store.now file) line column function) points.now }
 {
     for point in points {
@@ -84,7 +83,7 @@ fn in_function(
     line: u32,
     column: Option<u32>,
     object: PsObj,
-) -> Result<Option<PointPlace>, Lack>
+) -> Result<Option<Point>, Lack>
     ensures { in_ok (option_map (row_in store.now)) result ≡ in_function store.now (bytes_of store.now file) line column object }
 {
     let function = dict_in(object)?;
@@ -99,7 +98,7 @@ fn first_in_functions(
     line: u32,
     column: Option<u32>,
     functions: &[PsObj],
-) -> Result<Option<PointPlace>, Lack>
+) -> Result<Option<Point>, Lack>
     ensures { in_ok (option_map (row_in store.now)) result ≡ first_in (in_function store.now (bytes_of store.now file) line column) functions.now }
 {
     for function in functions {
@@ -119,7 +118,7 @@ fn in_unit(
     column: Option<u32>,
     number: usize,
     object: PsObj,
-) -> Result<Option<Option<PointPlace>>, Lack>
+) -> Result<Option<Option<Point>>, Lack>
     ensures { in_ok (option_map (option_map (row_in store.now))) result ≡ in_unit store.now file.now line column number object }
 {
     let unit = dict_in(object)?;
@@ -139,7 +138,7 @@ pub fn spot_point(
     file: &[u8],
     line: u32,
     column: Option<u32>,
-) -> Result<Option<PointPlace>, Lack>
+) -> Result<Option<Point>, Lack>
     ensures { in_ok (option_map (row_in store.now)) result ≡ spot_point store.now file.now line column }
 {
     let units = units_of(store)?;
@@ -152,40 +151,26 @@ pub fn spot_point(
     Ok(None)
 }
 
-/// The same as a walk tells it, which reads no memory.
-fn walk_to_line<M: AbsMem>(
-    store: &PsStore,
-    _m: &M,
-    file: &[u8],
-    line: u32,
-    column: Option<u32>,
-) -> Result<Option<PointPlace>, WalkFault>
-    ensures { Walks (λ b. spot_point store.now file.now line column) (M.seen _m.now) (in_ok (option_map (row_in store.now)) result) (M.seen _m.now) }
-{
-    match spot_point(store, file, line, column) {
-        Ok(found) => Ok(found),
-        Err(lack) => Err(told(lack)),
-    }
-}
-
 /// The first point on a line of a file, in a column if one is given. The first unit of the file answers, whose functions are run
 /// if they have to be.
-pub fn line_told<M: AbsMem>(
+pub fn line_told(
     inquiry: &mut Inquiry,
-    m: &M,
     file: &[u8],
     line: u32,
     column: Option<u32>,
-) -> Result<Option<PointPlace>, AskFault>
+) -> Result<Option<Point>, AskFault>
     requires within { inquiry.old.steps.taken ≤ inquiry.old.steps.limit }
-    ensures asks { Asks (seen_by (λ s. option_map (row_in s)) (looks (λ b s. spot_point s file.now line column))) (M.seen m.now) (using inquiry.old) result (M.seen m.now) (using inquiry.new) }
+    ensures own { IsOwn result }
     ensures within { inquiry.new.steps.taken ≤ inquiry.new.steps.limit }
     ensures limit { inquiry.new.steps.limit ≡ inquiry.old.steps.limit }
+    ensures more { inquiry.old.steps.taken ≤ inquiry.new.steps.taken }
+    ensures closed { Settled (closed_part inquiry.old.core.store) (closed_part inquiry.new.core.store) }
+    ensures found { IfOk result (λ found. Ok (option_map (row_in inquiry.new.core.store) found) ≡ spot_point inquiry.new.core.store file.now line column) }
 {
     'again: loop {
-        match walk_to_line(&inquiry.core.store, m, file, line, column) {
+        match spot_point(&inquiry.core.store, file, line, column) {
             Ok(found) => return Ok(found),
-            Err(fault) => match settle_walk(inquiry, fault) {
+            Err(lack) => match settle(inquiry, lack) {
                 Ok(()) => {}
                 Err(fault) => return Err(fault),
             },
@@ -193,36 +178,21 @@ pub fn line_told<M: AbsMem>(
     }
 }
 
-/// The point at which the body of a function begins, as a walk tells it, which reads no memory.
-fn walk_to_body<M: AbsMem>(
-    store: &PsStore,
-    _m: &M,
-    name: &[u8],
-) -> Result<Option<PointPlace>, WalkFault>
-    ensures { Walks (λ b. function_point store.now name.now) (M.seen _m.now) (in_ok (option_map (row_in store.now)) result) (M.seen _m.now) }
-{
-    match function_point(store, name) {
-        Ok(found) => Ok(found),
-        Err(lack) => Err(told(lack)),
-    }
-}
-
 /// The point at which the body of the function with a name begins: the external one, or else the static one where one unit alone
 /// has the name. All units' functions are run if they have to be.
-pub fn body_told<M: AbsMem>(
-    inquiry: &mut Inquiry,
-    m: &M,
-    name: &[u8],
-) -> Result<Option<PointPlace>, AskFault>
+pub fn body_told(inquiry: &mut Inquiry, name: &[u8]) -> Result<Option<Point>, AskFault>
     requires within { inquiry.old.steps.taken ≤ inquiry.old.steps.limit }
-    ensures asks { Asks (seen_by (λ s. option_map (row_in s)) (looks (λ b s. function_point s name.now))) (M.seen m.now) (using inquiry.old) result (M.seen m.now) (using inquiry.new) }
+    ensures own { IsOwn result }
     ensures within { inquiry.new.steps.taken ≤ inquiry.new.steps.limit }
     ensures limit { inquiry.new.steps.limit ≡ inquiry.old.steps.limit }
+    ensures more { inquiry.old.steps.taken ≤ inquiry.new.steps.taken }
+    ensures closed { Settled (closed_part inquiry.old.core.store) (closed_part inquiry.new.core.store) }
+    ensures found { IfOk result (λ found. Ok (option_map (row_in inquiry.new.core.store) found) ≡ function_point inquiry.new.core.store name.now) }
 {
     'again: loop {
-        match walk_to_body(&inquiry.core.store, m, name) {
+        match function_point(&inquiry.core.store, name) {
             Ok(found) => return Ok(found),
-            Err(fault) => match settle_walk(inquiry, fault) {
+            Err(lack) => match settle(inquiry, lack) {
                 Ok(()) => {}
                 Err(fault) => return Err(fault),
             },

@@ -13,7 +13,7 @@ use table_read::{function_at, number_at, point_address, point_of_row, string_at}
 /// What a stop line and a frame line tell of a point: the table's strings for the names of its file and function, its line and
 /// column from 1, and the address of its no-op.
 #[derive(Clone, Copy)]
-pub struct PointPlace {
+pub struct Point {
     pub file: StringId,
     pub function: StringId,
     pub line: u32,
@@ -27,7 +27,7 @@ fn told_row(
     is_inner: bool,
     pc: u32,
     row: Option<FunctionRow>,
-) -> Result<PointPlace, Lack>
+) -> Result<Point, Lack>
     ensures { in_ok (row_in store.now) result ≡ told_row store.now is_inner pc row }
 {
     let found = match row {
@@ -40,7 +40,7 @@ fn told_row(
     let line = number_at(store, point, b"line")?;
     let column = number_at(store, point, b"column")?;
     let at = point_address(store, point)?;
-    Ok(PointPlace {
+    Ok(Point {
         file,
         function,
         line,
@@ -51,7 +51,7 @@ fn told_row(
 
 /// What the frame with a number tells: the names of its function and file, then its point.
 #[tactic(auto, unfolding(table_model::specs::Frames::told_frame))]
-pub fn told_frame(store: &PsStore, number: u32, frame: &Frame) -> Result<PointPlace, Lack>
+pub fn told_frame(store: &PsStore, number: u32, frame: &Frame) -> Result<Point, Lack>
     ensures { in_ok (row_in store.now) result ≡ told_frame store.now number frame.now }
 {
     let row = function_at(store, frame.pc)?;

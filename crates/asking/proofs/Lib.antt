@@ -1,4 +1,0 @@
-pub mod Mapped
-pub mod Lists
-pub mod Says
-pub mod Points

@@ -1,5 +1,0 @@
-pub mod Halting
-pub mod Asked
-pub mod Equations
-pub mod Overs
-pub mod Retries

@@ -1,0 +1,144 @@
+// Every stopping point of a table.
+
+ghost use Rattle.std.specs.Prelude.{◌≡◌, ◌≤◌};
+ghost use Rattle.ps_store.specs.Store.{closed_part};
+ghost use Rattle.ps_store.specs.Settled.{Settled};
+ghost use Rattle.table_asks.specs.Faults.{IsOwn};
+
+use crate::fault::{AskFault, raised};
+use crate::inquiry::{Inquiry, settle};
+use crate::row::Point;
+use ps_store::{PsObj, PsStore, StringId};
+use std::alloc::AllocError;
+use table_model::Lack;
+use table_read::{dict_in, functions_of, number_at, point_address, points_of, string_at, units_of};
+
+/// Why points aren't added.
+#[derive(Drop)]
+enum PointsFault {
+    Lacks(Lack),
+    NoMemory,
+}
+
+impl From<Lack> for PointsFault {
+    fn from(lack: Lack) -> PointsFault {
+        PointsFault::Lacks(lack)
+    }
+}
+
+impl From<AllocError> for PointsFault {
+    fn from(_error: AllocError) -> PointsFault {
+        PointsFault::NoMemory
+    }
+}
+
+/// Adds the points of a function.
+fn add_points(
+    store: &PsStore,
+    file: StringId,
+    function: StringId,
+    objects: &[PsObj],
+    points: &mut Vec<Point>,
+) -> Result<(), PointsFault> {
+    for object in objects {
+        let point = dict_in(*object)?;
+        let line = number_at(store, point, b"line")?;
+        let column = number_at(store, point, b"column")?;
+        let at = point_address(store, point)?;
+        points.push(Point {
+            at,
+            line,
+            column,
+            file,
+            function,
+        })?;
+    }
+    Ok(())
+}
+
+/// Adds the points of some functions.
+fn add_functions(
+    store: &PsStore,
+    file: StringId,
+    functions: &[PsObj],
+    points: &mut Vec<Point>,
+) -> Result<(), PointsFault> {
+    for object in functions {
+        let function = dict_in(*object)?;
+        let name = string_at(store, function, b"name")?;
+        let objects = points_of(store, function)?;
+        add_points(store, file, name, objects, points)?;
+    }
+    Ok(())
+}
+
+/// Adds the points of the unit with a number; none where its functions are still to be run.
+fn add_unit(store: &PsStore, number: usize, points: &mut Vec<Point>) -> Result<(), PointsFault> {
+    let units = units_of(store)?;
+    let object = match units.get(number) {
+        Some(object) => *object,
+        None => return Err(PointsFault::Lacks(Lack::Missing)),
+    };
+    let unit = dict_in(object)?;
+    let file = string_at(store, unit, b"file")?;
+    let functions = functions_of(store, number, unit)?;
+    add_functions(store, file, functions, points)
+}
+
+/// Adds the points of the unit with a number, whose functions are run first if they have to be.
+fn add_settled(
+    inquiry: &mut Inquiry,
+    number: usize,
+    points: &mut Vec<Point>,
+) -> Result<(), AskFault>
+    requires within { inquiry.old.steps.taken ≤ inquiry.old.steps.limit }
+    ensures own { IsOwn result }
+    ensures within { inquiry.new.steps.taken ≤ inquiry.new.steps.limit }
+    ensures limit { inquiry.new.steps.limit ≡ inquiry.old.steps.limit }
+    ensures more { inquiry.old.steps.taken ≤ inquiry.new.steps.taken }
+    ensures closed { Settled (closed_part inquiry.old.core.store) (closed_part inquiry.new.core.store) }
+{
+    'again: loop {
+        match add_unit(&inquiry.core.store, number, points) {
+            Ok(()) => return Ok(()),
+            Err(PointsFault::NoMemory) => return Err(AskFault::NoMemory),
+            Err(PointsFault::Lacks(lack)) => match settle(inquiry, lack) {
+                Ok(()) => {}
+                Err(fault) => return Err(fault),
+            },
+        }
+    }
+}
+
+/// How many units the table has.
+fn count_units(inquiry: &Inquiry) -> Result<usize, AskFault>
+    ensures own { IsOwn result }
+{
+    match units_of(&inquiry.core.store) {
+        Ok(units) => Ok(units.len()),
+        Err(lack) => Err(raised(lack)),
+    }
+}
+
+/// Every point of the table in its order, each unit's functions being run before they are read, if they have to be.
+pub fn every_point(inquiry: &mut Inquiry) -> Result<Vec<Point>, AskFault>
+    requires within { inquiry.old.steps.taken ≤ inquiry.old.steps.limit }
+    ensures own { IsOwn result }
+    ensures within { inquiry.new.steps.taken ≤ inquiry.new.steps.limit }
+    ensures limit { inquiry.new.steps.limit ≡ inquiry.old.steps.limit }
+    ensures more { inquiry.old.steps.taken ≤ inquiry.new.steps.taken }
+    ensures closed { Settled (closed_part inquiry.old.core.store) (closed_part inquiry.new.core.store) }
+{
+    let count = match count_units(inquiry) {
+        Ok(count) => count,
+        Err(fault) => return Err(fault),
+    };
+    let mut points = Vec::new(inquiry.core.operands.allocator());
+    for number in 0..count {
+        match add_settled(inquiry, number, &mut points) {
+            Ok(()) => {}
+            Err(fault) => return Err(fault),
+        }
+    }
+    Ok(points)
+}
