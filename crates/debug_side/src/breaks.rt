@@ -8,9 +8,9 @@ ghost use Rattle.break_plant.specs.Planted.{noop_of, in_memory};
 ghost use Rattle.debug_side.specs.Planting.{PlantsOne};
 
 use crate::planting::plant_one;
-use crate::point::Point;
 use abs_mem::{AbsMem, MemFault};
 use break_plant::unplant;
+use table_asks::Point;
 
 /// Puts the break word of a target at a point where the no-op stands; another word stands there where it answers false, and
 /// stays.

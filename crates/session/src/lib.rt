@@ -5,6 +5,7 @@ mod answers;
 mod asked;
 mod assigning;
 mod both;
+mod evaluated;
 mod line;
 mod merging;
 mod modes;

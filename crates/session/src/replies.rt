@@ -2,12 +2,12 @@
 
 use crate::line::Line;
 use crate::modes::ModeRefusal;
-use debug_side::{Event, Point};
+use debug_side::Event;
 use ldb_words::{FaultKind, Text, Undef};
 use ps_run::PsError;
 use ps_store::PsStore;
 use std::alloc::{AllocError, Global};
-use table_asks::{AskFault, Cause};
+use table_asks::{Cause, Point};
 
 /// The bytes that the reply to a resume has beside the names of a file and a function.
 const EVENT_ROOM: usize = 64;
