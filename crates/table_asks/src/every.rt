@@ -9,7 +9,6 @@ use crate::fault::{AskFault, raised};
 use crate::inquiry::{Inquiry, settle};
 use crate::row::Point;
 use ps_store::{PsObj, PsStore, StringId};
-use std::alloc::AllocError;
 use table_model::Lack;
 use table_read::{dict_in, functions_of, number_at, point_address, points_of, string_at, units_of};
 
@@ -26,12 +25,6 @@ impl From<Lack> for PointsFault {
     }
 }
 
-impl From<AllocError> for PointsFault {
-    fn from(_error: AllocError) -> PointsFault {
-        PointsFault::NoMemory
-    }
-}
-
 /// Adds the points of a function.
 fn add_points(
     store: &PsStore,
@@ -45,13 +38,16 @@ fn add_points(
         let line = number_at(store, point, b"line")?;
         let column = number_at(store, point, b"column")?;
         let at = point_address(store, point)?;
-        points.push(Point {
+        let place = Point {
             at,
             line,
             column,
             file,
             function,
-        })?;
+        };
+        if points.push(place).is_err() {
+            return Err(PointsFault::NoMemory);
+        }
     }
     Ok(())
 }
