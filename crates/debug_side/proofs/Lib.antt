@@ -1,7 +1,3 @@
-pub mod Breaking
-pub mod Events
-pub mod Here
-pub mod StepWords
+pub mod Planted
 pub mod Putting
 pub mod Resuming
-pub mod Undone

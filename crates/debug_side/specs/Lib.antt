@@ -1,4 +1,3 @@
-pub mod Breaks
 pub mod Meant
 pub mod Planting
 pub mod Ran

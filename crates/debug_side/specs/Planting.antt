@@ -3,20 +3,15 @@ use Rattle.std.specs.Prelude.{◌≡◌, ◌≢◌, ℕ, true, false, List, [], 
 use Rattle.ldb_edge.specs.Count.{Rose}
 use Rattle.machine_state.specs.Regions.{Regions, write_of}
 use Rattle.frame_bytes.specs.Bytes.{Bytes}
-use Rattle.ps_step.specs.declared.fault.PsError.TheVariants.{RangeCheck}
-use Rattle.ps_store.specs.StoreState.{StoreState}
 use Rattle.abs_mem.specs.Meaning.{Seen, Same, OnTold, Untold, Led}
 use Rattle.abs_mem.specs.declared.memory.MemFault.{MemFault}
 use Rattle.abs_mem.specs.declared.memory.MemFault.TheVariants as mem
 use Rattle.wire_talk.specs.declared.fault.TalkFault.{TalkFault}
 use Rattle.wire_talk.specs.declared.fault.TalkFault.TheVariants as talk
 use Rattle.break_plant.specs.Planted.{noop_of, break_of, word_at}
-use Rattle.dialect_model.specs.TableUse.{TableUse, Kind}
-use Rattle.claims.specs.Side.{SideState, with_memory}
-use Rattle.claims.specs.Breaks.{step_words_at}
-use Rattle.debug_side.specs.declared.point.Point.{Point}
-use Rattle.debug_side.specs.Meant.{address_of, point_rows}
-use Rattle.debug_side.specs.Wrote.{Wrote, Kept, AreOf, words_put_back}
+use Rattle.table_asks.specs.declared.row.Point.{Point}
+use Rattle.debug_side.specs.Meant.{address_of}
+use Rattle.debug_side.specs.Wrote.{Wrote, words_put_back}
 
 abbrev pub mem_fault : TalkFault → MemFault
 mem_fault talk.LinkFault = mem.LinkFault
@@ -62,23 +57,3 @@ LedOn leads m fault result m' = (result ≡ Err fault) × (m' ≡ m)
 abbrev pub kept_with : (is_put : Bool) → List Point → Point → List Point
 kept_with true kept p = kept ++ p ∷ []
 kept_with false kept p = kept
-
--- a side with these bytes, whose machine is one of a target
-pub record IsSide (target : ℕ) (b : Bytes) (a : SideState) : Type 0 where
-  pub bytes : AreOf a.machine b
-  pub target_is : a.machine.target ≡ target
-
--- the side when the break word was put at each of some points where the no-op stood, which are those that are kept
-abbrev pub ArePlanted : (target : ℕ) → (points kept : List Point) → Bytes → Regions → Type 0
-ArePlanted target points kept b r = (a : SideState) (s : StoreState) (t : TableUse) → IsSide target b a
-    → step_words_at (point_rows s points) a t (Ok (record (with_memory r a) { step_words = a.step_words ++ point_rows s kept })) t
-
--- an address is out of range
-abbrev pub AreRefused : (target : ℕ) → (points : List Point) → Bytes → Type 0
-AreRefused target points b = (a : SideState) (s : StoreState) (t : TableUse) → IsSide target b a → step_words_at (point_rows s points) a t (Err (Kind RangeCheck)) t
-
-abbrev pub PlantsForStep : {R : Type 0} → (target : ℕ) → Seen R → List Point → Result Unit MemFault → List Point → Seen R → Type 0
-PlantsForStep target s points (Ok x) kept s' = Wrote s s' (ArePlanted target points kept)
-PlantsForStep target s points (Err (mem.Outside place)) kept s' = Kept s s' × OnTold s (AreRefused target points)
-PlantsForStep target s points (Err mem.LinkFault) kept s' = Rose s.faults s'.faults
-PlantsForStep target s points (Err (mem.BadReply frame)) kept s' = Untold s s'

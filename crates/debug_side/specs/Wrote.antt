@@ -4,8 +4,6 @@ use Rattle.ldb_words.specs.declared.kinds.Order.{Order}
 use Rattle.ldb_words.specs.Word.{sum_of}
 use Rattle.ldb_edge.specs.Count.{Rose}
 use Rattle.machine_state.specs.Regions.{Regions, write_of}
-use Rattle.machine_state.specs.Sound.{IsMemory}
-use Rattle.machine_state.specs.State.{MachineState, order_of}
 use Rattle.frame_bytes.specs.Bytes.{Bytes, or_none}
 use Rattle.abs_mem.specs.Meaning.{Seen, Untold}
 use Rattle.abs_mem.specs.declared.memory.MemFault.{MemFault}
@@ -24,16 +22,6 @@ pub data Writes (o : Order) : Regions → Regions → Type 0 where
 pub record Wrote {R : Type 0} (s s' : Seen R) (P : Bytes → Regions → Type 0) : Type 0 where
   pub faults : s'.faults ≡ s.faults
   pub after : (b : Bytes) (r : R) → s.tells b r → (m : Regions) × Writes b.order b.regions m × P b m × s'.tells (record b { regions = m }) r
-
--- no fault came, and what was told of a memory that holds bytes still is
-pub record Kept {R : Type 0} (s s' : Seen R) : Type 0 where
-  pub faults : s'.faults ≡ s.faults
-  pub keeps : (b : Bytes) (r : R) → s.tells b r → IsMemory b.regions → s'.tells b r
-
--- the bytes are those of the memory of a machine
-pub record AreOf (m : MachineState) (b : Bytes) : Type 0 where
-  pub order_is : b.order ≡ order_of m
-  pub regions_are : b.regions ≡ m.memory
 
 -- ---- a word where it can be written
 

@@ -3,9 +3,10 @@
 ghost use Rattle.std.specs.Prelude.{◌≡◌};
 ghost use Rattle.debug_side.specs.Meant.{event_of, stop_of, stop_address, keeps_words};
 
-use crate::point::{Point, SideRow, point_at};
+use crate::point::{SideRow, point_at};
 use ldb_words::FaultKind;
 use nub_wire::{Ending, Reason};
+use table_asks::Point;
 
 /// What a side came to: a stop at a point, a pause, the end of its program, a fault, or the end of its turns or its stack.
 #[derive(Clone, Copy)]

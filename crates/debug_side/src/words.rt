@@ -7,12 +7,12 @@ ghost use Rattle.break_plant.specs.Planted.{noop_of, in_memory};
 ghost use Rattle.debug_side.specs.Wrote.{Puts, LedTalk, where_it_can, word_put, words_put, words_put_back, passed};
 ghost use Rattle.debug_side.specs.Meant.{address_of};
 
-use crate::point::Point;
 use abs_mem::{AbsMem, MemFault};
 use break_plant::unplant;
 use frame_bytes::{Place, Space};
 use ldb_words::Kind;
 use wire_talk::TalkFault;
+use table_asks::Point;
 
 /// How far into a context block the word of the pc stands, and that of the next pc: they are words 34 and 35.
 const PC_OFFSET: u32 = 136;

@@ -1,4 +1,4 @@
-use Rattle.debug_side.proofs.StepWords.{gives_back, gives_badly, gives_link, gives_reply, led_back, led_badly, led_link, led_reply}
+use Rattle.debug_side.proofs.Planted.{gives_back, gives_badly, gives_link, gives_reply, led_back, led_badly, led_link, led_reply}
 use Rattle.debug_side.proofs.planting.gives_up.Goals as goal
 
 pub returns-in-Ok-clause-meaning : goal.returns-in-Ok-clause-meaning

@@ -1,4 +1,4 @@
-use Rattle.debug_side.proofs.StepWords.{plants_one, passes_here, fails_here, led_one, led_fault}
+use Rattle.debug_side.proofs.Planted.{plants_one, passes_here, fails_here, led_one, led_fault}
 use Rattle.debug_side.proofs.planting.plant_one.Goals as goal
 
 pub returns-in-Ok-clause-meaning : goal.returns-in-Ok-clause-meaning
