@@ -45,8 +45,9 @@ fn add_points(
             file,
             function,
         };
-        if points.push(place).is_err() {
-            return Err(PointsFault::NoMemory);
+        match points.push(place) {
+            Ok(()) => {}
+            Err(_) => return Err(PointsFault::NoMemory),
         }
     }
     Ok(())

