@@ -2,7 +2,7 @@
 
 ghost use Rattle.std.specs.Prelude.{◌≡◌, ◌≤◌};
 
-use crate::evaluated::{coding, evaluating};
+use evaluating::{coding, evaluating};
 use crate::sides::{SideRecord, turn};
 use abs_mem::Wire;
 use asking::{breaking, choosing, clearing, listing, printing, registers, running_text};

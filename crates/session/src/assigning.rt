@@ -1,6 +1,6 @@
 // `assign` on one side.
 
-use crate::evaluated::{Changes, assignment, store_all};
+use evaluating::{Changes, assignment, store_all};
 use crate::sides::{SideRecord, turn};
 use abs_mem::Wire;
 use nub_wire::Link;
@@ -30,5 +30,5 @@ pub fn store<L: Link + Drop>(
     changes: &Changes,
 ) -> Result<(), AskFault> {
     turn(talk, record);
-    store_all(talk, record.frame, changes)
+    store_all(talk, changes)
 }
