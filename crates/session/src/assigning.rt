@@ -1,5 +1,7 @@
 // `assign` on one side.
 
+ghost use Rattle.session.specs.Kept.{IsKept};
+
 use evaluating::{Changes, assignment, store_all};
 use crate::sides::{SideRecord, turn};
 use abs_mem::Wire;
@@ -12,7 +14,9 @@ pub fn assigned<L: Link + Drop>(
     talk: &mut Operators<Wire<L>>,
     record: &mut SideRecord,
     text: &[u8],
-) -> Result<Changes, AskFault> {
+) -> Result<Changes, AskFault>
+    ensures { IsKept record.old record.new }
+{
     turn(talk, record);
     let mark = match begin_command(&mut record.inquiry) {
         Ok(mark) => mark,
