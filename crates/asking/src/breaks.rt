@@ -75,6 +75,7 @@ fn set<W: AbsMem + Drop>(
 }
 
 /// The point that a spot says, whose units are run if they have to be.
+#[tactic(auto, using(ps_store::proofs::Settling::settled_same, ps_store::proofs::Settling::settled_on))]
 fn spot_told(inquiry: &mut Inquiry, spot: &Spot) -> Result<Option<Point>, AskFault>
     requires within { inquiry.old.steps.taken ≤ inquiry.old.steps.limit }
     ensures within { inquiry.new.steps.taken ≤ inquiry.new.steps.limit }
@@ -90,6 +91,7 @@ fn spot_told(inquiry: &mut Inquiry, spot: &Spot) -> Result<Option<Point>, AskFau
 
 /// `break`: a breakpoint is set at the point. One that is set already is answered again and changes nothing. Where it isn't done the
 /// breakpoints are as before.
+#[tactic(auto, using(ps_store::proofs::Settling::settled_same, ps_store::proofs::Settling::settled_on))]
 pub fn breaking<W: AbsMem + Drop>(
     inquiry: &mut Inquiry,
     talk: &mut Operators<W>,
@@ -138,6 +140,7 @@ fn unset<W: AbsMem + Drop>(
 }
 
 /// `clear`: the breakpoint at the point is taken away. Where it isn't done the breakpoints are as before.
+#[tactic(auto, using(ps_store::proofs::Settling::settled_same, ps_store::proofs::Settling::settled_on))]
 pub fn clearing<W: AbsMem + Drop>(
     inquiry: &mut Inquiry,
     talk: &mut Operators<W>,

@@ -99,6 +99,7 @@ fn variable_type(inquiry: &Inquiry, symbol: DictId) -> Result<DictId, AskFault> 
 }
 
 /// Runs the procedure of a symbol, in a dictionary of the command's own.
+#[tactic(auto, using(ps_store::proofs::Settling::settled_same, ps_store::proofs::Settling::settled_on))]
 fn place<W: AbsMem + Drop>(
     inquiry: &mut Inquiry,
     talk: &mut Operators<W>,
@@ -121,6 +122,7 @@ fn place<W: AbsMem + Drop>(
 }
 
 /// Runs the printer of a type on the place that was left.
+#[tactic(auto, using(ps_store::proofs::Settling::settled_same, ps_store::proofs::Settling::settled_on))]
 fn show<W: AbsMem + Drop>(
     inquiry: &mut Inquiry,
     talk: &mut Operators<W>,
@@ -143,6 +145,7 @@ fn show<W: AbsMem + Drop>(
 }
 
 /// Prints a variable in a frame whose innermost symbol in scope is given.
+#[tactic(auto, using(ps_store::proofs::Settling::settled_same, ps_store::proofs::Settling::settled_on))]
 fn print_symbol<W: AbsMem + Drop>(
     inquiry: &mut Inquiry,
     talk: &mut Operators<W>,
@@ -172,6 +175,7 @@ fn print_symbol<W: AbsMem + Drop>(
 }
 
 /// Prints the variable of a name in a frame.
+#[tactic(auto, using(ps_store::proofs::Settling::settled_same, ps_store::proofs::Settling::settled_on))]
 fn print_in<W: AbsMem + Drop>(
     inquiry: &mut Inquiry,
     talk: &mut Operators<W>,
@@ -204,6 +208,7 @@ fn print_in<W: AbsMem + Drop>(
 }
 
 /// `print NAME`: the text of the variable of the name that is in scope in the frame with the number.
+#[tactic(auto, using(ps_store::proofs::Settling::settled_same, ps_store::proofs::Settling::settled_on))]
 pub fn printing<W: AbsMem + Drop>(
     inquiry: &mut Inquiry,
     talk: &mut Operators<W>,

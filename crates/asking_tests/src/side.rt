@@ -151,7 +151,7 @@ fn points_text(alloc: Global, side: &mut Side) -> Result<Text, AskFault> {
         let Ok(()) = add_point(alloc, store, *point, &mut out) else {
             return Err(AskFault::NoMemory);
         };
-        let Ok(told) = format!(in alloc; ":{line}.{column}@{at:x} ") else {
+        let Ok(told) = format!(in alloc; ":{line}.{column}@{at:x}\n") else {
             return Err(AskFault::NoMemory);
         };
         if append(&mut out, told.as_str()).is_err() {

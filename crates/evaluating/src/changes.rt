@@ -1,11 +1,10 @@
 // What an assignment changes.
 
-use abs_mem::{AbsMem, MemFault};
+use abs_mem::AbsMem;
 use frame_bytes::{Frame, Place};
 use ldb_words::{Kind, Many};
 use ps_ops::Operators;
-use ps_run::PsError;
-use table_asks::AskFault;
+use table_asks::{AskFault, memory_fault};
 
 /// A leaf to be stored: its place, its kind and the number.
 #[derive(Clone, Copy)]
@@ -22,14 +21,6 @@ pub struct Changes {
     pub leaves: Many<Leaving>,
 }
 
-/// What a memory's fault is to a command.
-pub fn faulted(fault: MemFault) -> AskFault {
-    match fault {
-        MemFault::Outside { .. } => AskFault::Raised(PsError::RangeCheck),
-        other => AskFault::Broken(other),
-    }
-}
-
 /// Stores the leaves of an assignment, in order. All were fetched before, so no place is outside.
 pub fn store_all<W: AbsMem + Drop>(
     talk: &mut Operators<W>,
@@ -39,7 +30,7 @@ pub fn store_all<W: AbsMem + Drop>(
     for leaf in changes.leaves.as_slice() {
         match talk.memory.store(leaf.place, leaf.kind, leaf.value) {
             Ok(()) => {}
-            Err(fault) => return Err(faulted(fault)),
+            Err(fault) => return Err(memory_fault(fault)),
         }
     }
     Ok(())

@@ -14,6 +14,7 @@ pub enum Standing {
 }
 
 /// A text that grows, and the names and structs of its expression.
+#[derive(Drop)]
 pub struct Emitter<'a> {
     pub alloc: Global,
     pub out: Text,

@@ -165,6 +165,12 @@ fn add_defs(alloc: Global, defs: &mut Vec<StructDef>, all: &[StructDef]) -> Resu
     Ok(())
 }
 
+/// Adds a name.
+fn add_symbol(symbols: &mut Vec<Symbol>, symbol: Symbol) -> Result<(), AllocError> {
+    symbols.push(symbol)?;
+    Ok(())
+}
+
 /// Whether a name or a tag was answered already.
 fn is_known(mention: &Mention, symbols: &[Symbol], defs: &[StructDef]) -> bool {
     let text = mention.text.as_bytes();
@@ -251,7 +257,7 @@ impl Server {
                 Err(Refuse::Scope)
             }
             Some(symbol) => {
-                self.symbols.push(symbol)?;
+                add_symbol(&mut self.symbols, symbol)?;
                 add_defs(self.alloc, &mut self.defs, defs)?;
                 Ok(())
             }

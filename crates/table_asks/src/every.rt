@@ -1,6 +1,6 @@
 // Every stopping point of a table.
 
-ghost use Rattle.std.specs.Prelude.{◌≡◌, ◌≤◌};
+ghost use Rattle.std.specs.Prelude.{◌≡◌, ◌≤◌, IfErr};
 ghost use Rattle.ps_store.specs.Store.{closed_part};
 ghost use Rattle.ps_store.specs.Settled.{Settled};
 ghost use Rattle.table_asks.specs.Faults.{IsOwn};
@@ -82,13 +82,14 @@ fn add_unit(store: &PsStore, number: usize, points: &mut Vec<Point>) -> Result<(
 }
 
 /// Adds the points of the unit with a number, whose functions are run first if they have to be.
+#[tactic(auto, using(ps_store::proofs::Settling::settled_same, ps_store::proofs::Settling::settled_on))]
 fn add_settled(
     inquiry: &mut Inquiry,
     number: usize,
     points: &mut Vec<Point>,
 ) -> Result<(), AskFault>
     requires within { inquiry.old.steps.taken ≤ inquiry.old.steps.limit }
-    ensures own { IsOwn result }
+    ensures own { IfErr result (λ fault. IsOwn fault) }
     ensures within { inquiry.new.steps.taken ≤ inquiry.new.steps.limit }
     ensures limit { inquiry.new.steps.limit ≡ inquiry.old.steps.limit }
     ensures more { inquiry.old.steps.taken ≤ inquiry.new.steps.taken }
@@ -108,7 +109,7 @@ fn add_settled(
 
 /// How many units the table has.
 fn count_units(inquiry: &Inquiry) -> Result<usize, AskFault>
-    ensures own { IsOwn result }
+    ensures own { IfErr result (λ fault. IsOwn fault) }
 {
     match units_of(&inquiry.core.store) {
         Ok(units) => Ok(units.len()),
@@ -117,9 +118,10 @@ fn count_units(inquiry: &Inquiry) -> Result<usize, AskFault>
 }
 
 /// Every point of the table in its order, each unit's functions being run before they are read, if they have to be.
+#[tactic(auto, using(ps_store::proofs::Settling::settled_same, ps_store::proofs::Settling::settled_on))]
 pub fn every_point(inquiry: &mut Inquiry) -> Result<Vec<Point>, AskFault>
     requires within { inquiry.old.steps.taken ≤ inquiry.old.steps.limit }
-    ensures own { IsOwn result }
+    ensures own { IfErr result (λ fault. IsOwn fault) }
     ensures within { inquiry.new.steps.taken ≤ inquiry.new.steps.limit }
     ensures limit { inquiry.new.steps.limit ≡ inquiry.old.steps.limit }
     ensures more { inquiry.old.steps.taken ≤ inquiry.new.steps.taken }

@@ -1,7 +1,7 @@
 // Why a part of a command has no result.
 
 ghost use Rattle.std.specs.Prelude.{◌≡◌};
-ghost use Rattle.table_asks.specs.Faults.{fault_of_run, memory_fault, raised};
+ghost use Rattle.table_asks.specs.Faults.{IsUnrefused, fault_of_run, memory_fault, raised};
 
 use abs_mem::MemFault;
 use ldb_words::Undef;
@@ -46,7 +46,8 @@ pub fn raised(lack: Lack) -> AskFault
 /// Why a run of PostScript over a target's memory ended early, where the memory's fault was kept. A run that ended by the link
 /// keeps its fault.
 pub fn fault_of_run(fault: PsFault, kept: Option<MemFault>) -> AskFault
-    ensures { result ≡ fault_of_run fault kept }
+    ensures value { result ≡ fault_of_run fault kept }
+    ensures unrefused { IsUnrefused result }
 {
     match fault {
         PsFault::Error(error) => AskFault::Raised(error),
@@ -61,7 +62,8 @@ pub fn fault_of_run(fault: PsFault, kept: Option<MemFault>) -> AskFault
 
 /// Why a word of a target isn't read or stored.
 pub fn memory_fault(fault: MemFault) -> AskFault
-    ensures { result ≡ memory_fault fault }
+    ensures value { result ≡ memory_fault fault }
+    ensures unrefused { IsUnrefused result }
 {
     match fault {
         MemFault::Outside { .. } => AskFault::Raised(PsError::RangeCheck),

@@ -1,10 +1,10 @@
 // Frames, what they tell, and the symbols in scope there.
 
-ghost use Rattle.std.specs.Prelude.{◌≡◌, ◌≤◌, IfOk, Ok};
+ghost use Rattle.std.specs.Prelude.{◌≡◌, ◌≤◌, IfOk, IfErr, Ok};
 ghost use Rattle.ps_store.specs.Store.{closed_part};
 ghost use Rattle.ps_store.specs.Settled.{Settled};
 ghost use Rattle.table_model.specs.Symbols.{scope_of, symbol_named};
-ghost use Rattle.table_asks.specs.Faults.{IsOwn};
+ghost use Rattle.table_asks.specs.Faults.{IsOwn, IsUnrefused};
 
 use crate::fault::{AskFault, raised};
 use crate::inquiry::{Inquiry, settle, settle_walk};
@@ -36,6 +36,7 @@ fn walk_to<M: AbsMem>(
 }
 
 /// What the frame with a number tells; none where there is no such frame.
+#[tactic(auto, using(ps_store::proofs::Settling::settled_same, ps_store::proofs::Settling::settled_on))]
 pub fn frame_told<W: AbsMem + Drop>(
     inquiry: &mut Inquiry,
     talk: &mut Operators<W>,
@@ -46,6 +47,7 @@ pub fn frame_told<W: AbsMem + Drop>(
     ensures limit { inquiry.new.steps.limit ≡ inquiry.old.steps.limit }
     ensures more { inquiry.old.steps.taken ≤ inquiry.new.steps.taken }
     ensures closed { Settled (closed_part inquiry.old.core.store) (closed_part inquiry.new.core.store) }
+    ensures unrefused { IfErr result (λ fault. IsUnrefused fault) }
 {
     let row = row_of_target(talk.view.target);
     let context = talk.view.context;
@@ -62,6 +64,7 @@ pub fn frame_told<W: AbsMem + Drop>(
 }
 
 /// The frame with a number; none where there is no such frame.
+#[tactic(auto, using(ps_store::proofs::Settling::settled_same, ps_store::proofs::Settling::settled_on))]
 pub fn frame_found<W: AbsMem + Drop>(
     inquiry: &mut Inquiry,
     talk: &mut Operators<W>,
@@ -72,6 +75,7 @@ pub fn frame_found<W: AbsMem + Drop>(
     ensures limit { inquiry.new.steps.limit ≡ inquiry.old.steps.limit }
     ensures more { inquiry.old.steps.taken ≤ inquiry.new.steps.taken }
     ensures closed { Settled (closed_part inquiry.old.core.store) (closed_part inquiry.new.core.store) }
+    ensures unrefused { IfErr result (λ fault. IsUnrefused fault) }
 {
     let row = row_of_target(talk.view.target);
     let context = talk.view.context;
@@ -88,13 +92,14 @@ pub fn frame_found<W: AbsMem + Drop>(
 }
 
 /// The innermost symbol in scope in a frame, if there is one.
+#[tactic(auto, using(ps_store::proofs::Settling::settled_same, ps_store::proofs::Settling::settled_on))]
 pub fn scope_found(
     inquiry: &mut Inquiry,
     number: u32,
     frame: &Frame,
 ) -> Result<Option<DictId>, AskFault>
     requires within { inquiry.old.steps.taken ≤ inquiry.old.steps.limit }
-    ensures own { IsOwn result }
+    ensures own { IfErr result (λ fault. IsOwn fault) }
     ensures within { inquiry.new.steps.taken ≤ inquiry.new.steps.limit }
     ensures limit { inquiry.new.steps.limit ≡ inquiry.old.steps.limit }
     ensures more { inquiry.old.steps.taken ≤ inquiry.new.steps.taken }
@@ -118,7 +123,7 @@ pub fn symbol_found(
     scope: Option<DictId>,
     name: &[u8],
 ) -> Result<Option<DictId>, AskFault>
-    ensures own { IsOwn result }
+    ensures own { IfErr result (λ fault. IsOwn fault) }
     ensures found { IfOk result (λ symbol. symbol_named inquiry.now.core.store scope name.now ≡ Ok symbol) }
 {
     match symbol_named(&inquiry.core.store, scope, name) {

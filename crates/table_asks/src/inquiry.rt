@@ -1,11 +1,11 @@
 // A command's use of a table.
 
-ghost use Rattle.std.specs.Prelude.{◌≡◌, ◌≤◌, ◌<◌, IfOk, OnOk, OnErr};
+ghost use Rattle.std.specs.Prelude.{◌≡◌, ◌≤◌, ◌<◌, IfOk, IfErr, OnOk, OnErr};
 ghost use Rattle.ps_store.specs.Store.{closed_part};
 ghost use Rattle.ps_store.specs.Settled.{Settled};
 ghost use Rattle.ps_store.specs.Cut.{IsMark};
 ghost use Rattle.ps_store.specs.declared.object.Part.TheVariants.{Command as CommandPart};
-ghost use Rattle.table_asks.specs.Faults.{IsOwn, IsOfWalk};
+ghost use Rattle.table_asks.specs.Faults.{IsOwn, IsUnrefused};
 
 use crate::fault::{AskFault, fault_of_run, raised};
 use abs_mem::{AbsMem, MemFault, WalkFault};
@@ -79,7 +79,7 @@ fn stand_on(inquiry: &mut Inquiry, own: DictId) -> Result<(), AllocError>
 pub fn begin_run(inquiry: &mut Inquiry) -> Result<(), AskFault>
     ensures steps { inquiry.new.steps ≡ inquiry.old.steps }
     ensures closed { closed_part inquiry.new.core.store ≡ closed_part inquiry.old.core.store }
-    ensures own { IsOwn result }
+    ensures own { IfErr result (λ fault. IsOwn fault) }
 {
     match inquiry.core.store.make_dict() {
         Ok(own) => match stand_on(inquiry, own) {
@@ -102,6 +102,7 @@ pub fn run_object<W: AbsMem + Drop>(
     ensures limit { inquiry.new.steps.limit ≡ inquiry.old.steps.limit }
     ensures more { inquiry.old.steps.taken ≤ inquiry.new.steps.taken }
     ensures closed { Settled (closed_part inquiry.old.core.store) (closed_part inquiry.new.core.store) }
+    ensures unrefused { IfErr result (λ fault. IsUnrefused fault) }
 {
     match run(&mut inquiry.core, talk, what, &mut inquiry.steps) {
         Ok(()) => Ok(()),
@@ -111,9 +112,10 @@ pub fn run_object<W: AbsMem + Drop>(
 
 /// Runs the unit that a look-up met, after which it is asked again; or tells the error of what the table lacks. The steps that are
 /// taken grow where a unit was run.
+#[tactic(auto, using(ps_store::proofs::Settling::settled_same, ps_store::proofs::Settling::settled_on))]
 pub fn settle(inquiry: &mut Inquiry, lack: Lack) -> Result<(), AskFault>
     requires within { inquiry.old.steps.taken ≤ inquiry.old.steps.limit }
-    ensures own { IsOwn result }
+    ensures own { IfErr result (λ fault. IsOwn fault) }
     ensures within { inquiry.new.steps.taken ≤ inquiry.new.steps.limit }
     ensures limit { inquiry.new.steps.limit ≡ inquiry.old.steps.limit }
     ensures some { OnOk result (inquiry.old.steps.taken < inquiry.new.steps.taken) }
@@ -133,9 +135,10 @@ pub fn settle(inquiry: &mut Inquiry, lack: Lack) -> Result<(), AskFault>
 }
 
 /// The same for what a walk tells: where the memory gave no answer that is told.
+#[tactic(auto, using(ps_store::proofs::Settling::settled_same, ps_store::proofs::Settling::settled_on, crate::proofs::Owns::own_unrefused))]
 pub fn settle_walk(inquiry: &mut Inquiry, fault: WalkFault) -> Result<(), AskFault>
     requires within { inquiry.old.steps.taken ≤ inquiry.old.steps.limit }
-    ensures own { IsOfWalk fault result }
+    ensures unrefused { IfErr result (λ fault. IsUnrefused fault) }
     ensures within { inquiry.new.steps.taken ≤ inquiry.new.steps.limit }
     ensures limit { inquiry.new.steps.limit ≡ inquiry.old.steps.limit }
     ensures some { OnOk result (inquiry.old.steps.taken < inquiry.new.steps.taken) }

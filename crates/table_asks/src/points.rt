@@ -1,6 +1,6 @@
 // Points by their places.
 
-ghost use Rattle.std.specs.Prelude.{◌≡◌, ◌≤◌, IfOk, Ok, option_map};
+ghost use Rattle.std.specs.Prelude.{◌≡◌, ◌≤◌, IfOk, IfErr, Ok, option_map};
 ghost use Rattle.ps_store.specs.Store.{closed_part};
 ghost use Rattle.ps_store.specs.Settled.{Settled};
 ghost use Rattle.ps_store.specs.Store.{bytes_of};
@@ -153,6 +153,7 @@ pub fn spot_point(
 
 /// The first point on a line of a file, in a column if one is given. The first unit of the file answers, whose functions are run
 /// if they have to be.
+#[tactic(auto, using(ps_store::proofs::Settling::settled_same, ps_store::proofs::Settling::settled_on))]
 pub fn line_told(
     inquiry: &mut Inquiry,
     file: &[u8],
@@ -160,7 +161,7 @@ pub fn line_told(
     column: Option<u32>,
 ) -> Result<Option<Point>, AskFault>
     requires within { inquiry.old.steps.taken ≤ inquiry.old.steps.limit }
-    ensures own { IsOwn result }
+    ensures own { IfErr result (λ fault. IsOwn fault) }
     ensures within { inquiry.new.steps.taken ≤ inquiry.new.steps.limit }
     ensures limit { inquiry.new.steps.limit ≡ inquiry.old.steps.limit }
     ensures more { inquiry.old.steps.taken ≤ inquiry.new.steps.taken }
@@ -180,9 +181,10 @@ pub fn line_told(
 
 /// The point at which the body of the function with a name begins: the external one, or else the static one where one unit alone
 /// has the name. All units' functions are run if they have to be.
+#[tactic(auto, using(ps_store::proofs::Settling::settled_same, ps_store::proofs::Settling::settled_on))]
 pub fn body_told(inquiry: &mut Inquiry, name: &[u8]) -> Result<Option<Point>, AskFault>
     requires within { inquiry.old.steps.taken ≤ inquiry.old.steps.limit }
-    ensures own { IsOwn result }
+    ensures own { IfErr result (λ fault. IsOwn fault) }
     ensures within { inquiry.new.steps.taken ≤ inquiry.new.steps.limit }
     ensures limit { inquiry.new.steps.limit ≡ inquiry.old.steps.limit }
     ensures more { inquiry.old.steps.taken ≤ inquiry.new.steps.taken }
