@@ -99,3 +99,19 @@ led_link {M = M} leads m f e = subst (λ (z : MemFault). LedOn leads m z (Err me
 
 pub led_reply : {M : Type 0} (leads : M → Option (List ℕ) → M → Type 0) (m : M) (f : MemFault) (frame : _) → f ≡ mem.BadReply frame → LedOn leads m f (Err (mem.BadReply frame)) m
 led_reply {M = M} leads m f frame e = subst (λ (z : MemFault). LedOn leads m z (Err (mem.BadReply frame)) m) (sym e) (refl, refl)
+
+-- ---- planting stops at a point
+
+pub led_more : {M A : Type 0} (leads : M → Option (List ℕ) → M → Type 0) (law : (a b c : M) (o : Option (List ℕ)) → leads a None b → leads b o c → leads a o c) (a b c : M) (x : Result A MemFault) → leads a None b
+    → Led leads b x c → Led leads a x c
+led_more leads law a b c (Ok x) h k = law a b c None h k
+led_more leads law a b c (Err (mem.Outside place)) h k = law a b c None h k
+led_more leads law a b c (Err mem.LinkFault) h k = tt
+led_more leads law a b c (Err (mem.BadReply frame)) h k = law a b c (Some frame.items) h k
+
+pub led_stop : {M : Type 0} (leads : M → Option (List ℕ) → M → Type 0) (law : (a b c : M) (o : Option (List ℕ)) → leads a None b → leads b o c → leads a o c) (a b c d : M) (f : MemFault) (x : Result Unit MemFault) → leads a None b
+    → Led {A = Bool} leads b (Err f) c → LedOn leads c f x d → Led {A = Unit {0}} leads a x d
+led_stop leads law a b c d (mem.Outside place) x h k l = led_more leads law a c d x (law a b c None h k) l
+led_stop leads law a b c d mem.LinkFault x h k l = subst (λ (y : Result Unit MemFault). Led leads a y d) (sym l.0) tt
+led_stop {M = M} leads law a b c d (mem.BadReply frame) x h k l =
+    subst (λ (y : Result Unit MemFault). Led leads a y d) (sym l.0) (subst (λ (m : M). leads a (Some frame.items) m) (sym l.1) (law a b c (Some frame.items) h k))

@@ -1,10 +1,11 @@
 // A command that doesn't resume, on one side.
 
-ghost use Rattle.std.specs.Prelude.{◌≡◌, ◌≤◌};
+ghost use Rattle.std.specs.Prelude.{◌≡◌, ◌≤◌, OnErr};
+ghost use Rattle.session.specs.Kept.{IsKept};
 
-use crate::evaluated::{coding, evaluating};
+use evaluating::{coding, evaluating};
 use crate::sides::{SideRecord, turn};
-use abs_mem::Wire;
+use abs_mem::{MemFault, Wire};
 use asking::{breaking, choosing, clearing, listing, printing, registers, running_text};
 use c_session::Command;
 use ldb_words::Text;
@@ -19,6 +20,7 @@ fn told<L: Link + Drop>(
     command: &Command,
 ) -> Result<Text, AskFault>
     requires within { record.old.inquiry.steps.taken ≤ record.old.inquiry.steps.limit }
+    ensures kept { OnErr result (record.new.row.breaks.items ≡ record.old.row.breaks.items) }
     ensures frame { record.new.frame ≡ record.old.frame }
 {
     let inquiry = &mut record.inquiry;
@@ -32,7 +34,6 @@ fn told<L: Link + Drop>(
         Command::Eval(text) => evaluating(inquiry, talk, frame, text.as_bytes()),
         Command::Code(text) => coding(inquiry, talk, frame, text.as_bytes()),
         Command::Ps(text) => running_text(inquiry, talk, frame, text.as_bytes()),
-        Command::Regs => registers(inquiry.core.operands.allocator(), talk),
         _ => Ok(Text::new(inquiry.core.operands.allocator())),
     }
 }
@@ -45,12 +46,13 @@ fn chosen(command: &Command, frame: u32) -> u32 {
     }
 }
 
-/// What a command says on a side. One that isn't done leaves the chosen frame.
+/// What a command says on a side. One that isn't done leaves the breakpoints and the chosen frame.
 pub fn asked<L: Link + Drop>(
     talk: &mut Operators<Wire<L>>,
     record: &mut SideRecord,
     command: &Command,
 ) -> Result<Text, AskFault>
+    ensures kept { OnErr result (IsKept record.old record.new) }
 {
     turn(talk, record);
     let mark = match begin_command(&mut record.inquiry) {
@@ -59,8 +61,42 @@ pub fn asked<L: Link + Drop>(
     };
     let said = told(talk, record, command);
     end_command(&mut record.inquiry, mark);
-    if said.is_ok() {
-        record.frame = chosen(command, record.frame);
+    match said {
+        Err(fault) => Err(fault),
+        Ok(text) => {
+            record.frame = chosen(command, record.frame);
+            Ok(text)
+        }
     }
-    said
+}
+
+/// Runs a text of PostScript on a side, and says nothing; why it ended early, where the link failed. Breakpoints and the chosen
+/// frame stay.
+pub fn ran<L: Link + Drop>(
+    talk: &mut Operators<Wire<L>>,
+    record: &mut SideRecord,
+    text: &[u8],
+) -> Result<(), MemFault>
+    ensures { IsKept record.old record.new }
+{
+    turn(talk, record);
+    let mark = match begin_command(&mut record.inquiry) {
+        Ok(mark) => mark,
+        Err(_) => return Ok(()),
+    };
+    let said = running_text(&mut record.inquiry, talk, record.frame, text);
+    end_command(&mut record.inquiry, mark);
+    match said {
+        Err(AskFault::Broken(why)) => Err(why),
+        _ => Ok(()),
+    }
+}
+
+/// What `regs` says on a side.
+pub fn registers_of<L: Link + Drop>(
+    talk: &mut Operators<Wire<L>>,
+    record: &SideRecord,
+) -> Result<Text, AskFault> {
+    turn(talk, record);
+    registers(record.inquiry.core.operands.allocator(), talk)
 }

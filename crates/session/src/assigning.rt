@@ -1,6 +1,8 @@
 // `assign` on one side.
 
-use crate::evaluated::{Changes, assignment, store_all};
+ghost use Rattle.session.specs.Kept.{IsKept};
+
+use evaluating::{Changes, assignment, store_all};
 use crate::sides::{SideRecord, turn};
 use abs_mem::Wire;
 use nub_wire::Link;
@@ -12,7 +14,9 @@ pub fn assigned<L: Link + Drop>(
     talk: &mut Operators<Wire<L>>,
     record: &mut SideRecord,
     text: &[u8],
-) -> Result<Changes, AskFault> {
+) -> Result<Changes, AskFault>
+    ensures { IsKept record.old record.new }
+{
     turn(talk, record);
     let mark = match begin_command(&mut record.inquiry) {
         Ok(mark) => mark,
@@ -30,5 +34,5 @@ pub fn store<L: Link + Drop>(
     changes: &Changes,
 ) -> Result<(), AskFault> {
     turn(talk, record);
-    store_all(talk, record.frame, changes)
+    store_all(talk, changes)
 }

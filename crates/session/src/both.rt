@@ -1,6 +1,9 @@
 // A command that doesn't resume, on both sides.
 
-use crate::asked::asked;
+ghost use Rattle.std.specs.Prelude.{◌≡◌};
+ghost use Rattle.session.specs.Kept.{IsKept, IsUndone};
+
+use crate::asked::{asked, ran, registers_of};
 use crate::assigning::{assigned, store};
 use crate::sides::{SideRecord, turn};
 use abs_mem::{MemFault, Wire};
@@ -9,84 +12,67 @@ use debug_side::{clear_break, point_at, set_break};
 use ldb_words::Text;
 use nub_wire::Link;
 use ps_ops::Operators;
-use std::alloc::{AllocError, Global};
+use std::alloc::Global;
 use table_asks::{AskFault, Point};
 
-/// Whether a command is a text of PostScript, which may store in the target.
-fn is_ps(command: &Command) -> bool {
-    match command {
-        Command::Ps(_) => true,
-        _ => false,
-    }
-}
-
-/// What a command that isn't done on the first side says, once a text of PostScript has run on the second side too.
+/// Why a command isn't done on the first side, once a text of PostScript, which may store in the target, has run on the second
+/// side too.
 fn undone<L: Link + Drop>(
     talk: &mut Operators<Wire<L>>,
     second: &mut SideRecord,
     command: &Command,
     fault: AskFault,
-) -> Result<Text, AskFault>
+) -> AskFault
+    ensures { IsKept second.old second.new }
 {
-    if !is_ps(command) {
-        return Err(fault);
-    }
-    match asked(talk, second, command) {
-        Err(AskFault::Broken(why)) => Err(AskFault::Broken(why)),
-        _ => Err(fault),
+    match command {
+        Command::Ps(text) => match ran(talk, second, text.as_bytes()) {
+            Ok(()) => fault,
+            Err(why) => AskFault::Broken(why),
+        },
+        _ => fault,
     }
 }
 
-/// Puts back the breakpoints that a side had. Its words can be fetched and stored.
+/// Puts back the words of the breakpoints that a side had.
 fn put_back<L: Link + Drop>(
     talk: &mut Operators<Wire<L>>,
-    record: &mut SideRecord,
-    before: Vec<Point>,
+    record: &SideRecord,
+    before: &[Point],
 ) -> Result<(), MemFault> {
     turn(talk, record);
     let target = record.machine.byte();
     let wire = &mut talk.memory.below.below.below;
     for point in &record.row.breaks {
-        if point_at(&before, point.at).is_none() {
+        if point_at(before, point.at).is_none() {
             clear_break(target, wire, *point)?;
         }
     }
-    for point in &before {
-        if point_at(&record.row.breaks, point.at).is_none() {
+    for point in before {
+        if point_at(record.row.breaks.as_slice(), point.at).is_none() {
             set_break(target, wire, *point)?;
         }
     }
-    record.row.breaks = before;
     Ok(())
 }
 
-/// The same, where the second side has no memory for a command that the first one has done.
+/// Why a command isn't done that the first side had done: breakpoints and the chosen frame are put back there. Words that are put
+/// back were there, so none of them is outside.
 fn given_up<L: Link + Drop>(
     talk: &mut Operators<Wire<L>>,
     first: &mut SideRecord,
     before: Vec<Point>,
     frame: u32,
-) -> AskFault {
+) -> AskFault
+    ensures breaks { first.new.row.breaks.items ≡ before.items }
+    ensures frame { first.new.frame ≡ frame }
+{
     first.frame = frame;
-    match put_back(talk, first, before) {
+    let back = put_back(talk, first, before.as_slice());
+    first.row.breaks = before;
+    match back {
         Ok(()) | Err(MemFault::Outside { .. }) => AskFault::NoMemory,
         Err(why) => AskFault::Broken(why),
-    }
-}
-
-/// A copy of some points.
-fn copied(alloc: Global, points: &[Point]) -> Result<Vec<Point>, AllocError> {
-    Vec::from_slice(alloc, points)
-}
-
-/// The reply to `regs` of two sides.
-fn joined(command: &Command, mut text: Text, second: &Text) -> Result<Text, AskFault> {
-    match command {
-        Command::Regs => match text.append(second.as_bytes()) {
-            Ok(()) => Ok(text),
-            Err(_) => Err(AskFault::NoMemory),
-        },
-        _ => Ok(text),
     }
 }
 
@@ -98,21 +84,36 @@ pub fn asked_both<L: Link + Drop>(
     second: &mut SideRecord,
     command: &Command,
 ) -> Result<Text, AskFault>
+    ensures first { IsUndone result → IsKept first.old first.new }
+    ensures second { IsUndone result → IsKept second.old second.new }
 {
     let alloc = first.inquiry.core.operands.allocator();
     let frame = first.frame;
-    let Ok(before) = copied(alloc, first.row.breaks.as_slice()) else {
-        return Err(AskFault::NoMemory);
+    let before = match Vec::from_slice(alloc, first.row.breaks.as_slice()) {
+        Ok(before) => before,
+        Err(_) => return Err(AskFault::NoMemory),
     };
-    let text = match asked(talk, first, command) {
-        Ok(text) => text,
-        Err(fault) => return undone(talk, second, command, fault),
-    };
-    match asked(talk, second, command) {
-        Ok(other) => joined(command, text, &other),
-        Err(AskFault::Broken(why)) => Err(AskFault::Broken(why)),
-        Err(AskFault::NoMemory) => Err(given_up(talk, first, before, frame)),
-        Err(_) => Ok(text),
+    match asked(talk, first, command) {
+        Err(fault) => Err(undone(talk, second, command, fault)),
+        Ok(text) => match asked(talk, second, command) {
+            Err(AskFault::Broken(why)) => Err(AskFault::Broken(why)),
+            Err(AskFault::NoMemory) => Err(given_up(talk, first, before, frame)),
+            _ => Ok(text),
+        },
+    }
+}
+
+/// What `regs` says of both sides, the first one first.
+pub fn registers_both<L: Link + Drop>(
+    talk: &mut Operators<Wire<L>>,
+    first: &SideRecord,
+    second: &SideRecord,
+) -> Result<Text, AskFault> {
+    let mut text = registers_of(talk, first)?;
+    let other = registers_of(talk, second)?;
+    match text.append(other.as_bytes()) {
+        Ok(()) => Ok(text),
+        Err(_) => Err(AskFault::NoMemory),
     }
 }
 
@@ -129,7 +130,9 @@ pub fn assign_one<L: Link + Drop>(
     talk: &mut Operators<Wire<L>>,
     first: &mut SideRecord,
     text: &[u8],
-) -> Result<Text, AskFault> {
+) -> Result<Text, AskFault>
+    ensures { IsKept first.old first.new }
+{
     let said = set_text(first.inquiry.core.operands.allocator())?;
     let changes = assigned(talk, first, text)?;
     store(talk, first, &changes)?;
@@ -143,7 +146,10 @@ pub fn assign_both<L: Link + Drop>(
     first: &mut SideRecord,
     second: &mut SideRecord,
     text: &[u8],
-) -> Result<Text, AskFault> {
+) -> Result<Text, AskFault>
+    ensures first { IsKept first.old first.new }
+    ensures second { IsKept second.old second.new }
+{
     let said = set_text(first.inquiry.core.operands.allocator())?;
     let changes = assigned(talk, first, text)?;
     let others = match assigned(talk, second, text) {

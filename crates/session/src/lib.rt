@@ -5,7 +5,6 @@ mod answers;
 mod asked;
 mod assigning;
 mod both;
-mod evaluated;
 mod line;
 mod merging;
 mod modes;

@@ -1,5 +1,7 @@
 // The modes of a session, and which commands each refuses.
 
+ghost use Rattle.std.specs.Prelude.{◌≡◌, Some};
+
 use c_session::Command;
 
 /// What began a resume: `step` stops at each point, and `continue` at those with a breakpoint.
@@ -48,7 +50,9 @@ fn goes_while_running(command: &Command) -> bool {
 }
 
 /// Why a command other than `quit` is refused in a mode, if it is.
-pub fn refused_in(mode: Mode, command: &Command) -> Option<ModeRefusal> {
+pub fn refused_in(mode: Mode, command: &Command) -> Option<ModeRefusal>
+    ensures { mode ≡ Mode.Ended → result ≡ Some ModeRefusal.Ended }
+{
     match mode {
         Mode::Stopped => None,
         Mode::Ended => Some(ModeRefusal::Ended),

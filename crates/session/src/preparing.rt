@@ -1,5 +1,7 @@
 // What is done before a step.
 
+ghost use Rattle.session.specs.Kept.{IsKept};
+
 use crate::line::Line;
 use crate::replies::{room_for, room_for_kept};
 use crate::sides::{SideRecord, turn};
@@ -12,7 +14,9 @@ use table_asks::{AskFault, Point, begin_command, end_command, every_point, memor
 use wire_talk::TalkFault;
 
 /// All points of a side's table.
-fn points_of(record: &mut SideRecord) -> Result<Vec<Point>, AskFault> {
+fn points_of(record: &mut SideRecord) -> Result<Vec<Point>, AskFault>
+    ensures { IsKept record.old record.new }
+{
     let mark = match begin_command(&mut record.inquiry) {
         Ok(mark) => mark,
         Err(_) => return Err(AskFault::NoMemory),
@@ -26,7 +30,9 @@ fn points_of(record: &mut SideRecord) -> Result<Vec<Point>, AskFault> {
 pub fn prepared<L: Link + Drop>(
     talk: &mut Operators<Wire<L>>,
     record: &mut SideRecord,
-) -> Result<(), AskFault> {
+) -> Result<(), AskFault>
+    ensures { IsKept record.old record.new }
+{
     turn(talk, record);
     let mut points = points_of(record)?;
     let target = record.machine.byte();
@@ -43,7 +49,9 @@ pub fn prepared<L: Link + Drop>(
 pub fn unprepared<L: Link + Drop>(
     talk: &mut Operators<Wire<L>>,
     record: &mut SideRecord,
-) -> Result<(), TalkFault> {
+) -> Result<(), TalkFault>
+    ensures { IsKept record.old record.new }
+{
     turn(talk, record);
     let target = record.machine.byte();
     unplant_all(

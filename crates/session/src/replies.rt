@@ -1,5 +1,8 @@
 // The texts of replies.
 
+ghost use Rattle.std.specs.Prelude.{◌≡◌, IfOk};
+ghost use Rattle.session.specs.Answered.{ENDED_REPLY};
+
 use crate::line::Line;
 use crate::modes::ModeRefusal;
 use debug_side::Event;
@@ -87,7 +90,9 @@ pub fn event_reply(mut line: Line, table: &PsStore, event: Event) -> Text {
 }
 
 /// The reply to a command that the mode refuses.
-pub fn mode_reply(alloc: Global, why: ModeRefusal) -> Result<Text, AllocError> {
+pub fn mode_reply(alloc: Global, why: ModeRefusal) -> Result<Text, AllocError>
+    ensures { IfOk result (λ t. why ≡ ModeRefusal.Ended → t ≡ ENDED_REPLY) }
+{
     match why {
         ModeRefusal::Ended => Text::from_slice(alloc, b"refused ended\n"),
         ModeRefusal::Running => Text::from_slice(alloc, b"refused running\n"),

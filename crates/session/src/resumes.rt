@@ -1,5 +1,7 @@
 // A resume of both sides.
 
+ghost use Rattle.session.specs.Counted.{CountsOutput};
+
 use crate::merging::{kept_of, merged, stands};
 use crate::sides::{SideRecord, turn};
 use abs_mem::Wire;
@@ -15,7 +17,9 @@ fn resumed<L: Link + Drop, O: Sink>(
     record: &mut SideRecord,
     limit: u32,
     out: &mut O,
-) -> Result<Event, RunFault> {
+) -> Result<Event, RunFault>
+    ensures { CountsOutput (O.faults out.old) (O.faults out.new) result }
+{
     turn(talk, record);
     let kind = record.kind();
     resume_side(
@@ -41,7 +45,9 @@ pub fn resumed_one<L: Link + Drop, O: Sink>(
     first: &mut SideRecord,
     limit: u32,
     out: &mut O,
-) -> Result<Event, RunFault> {
+) -> Result<Event, RunFault>
+    ensures { CountsOutput (O.faults out.old) (O.faults out.new) result }
+{
     match resumed(talk, first, limit, out) {
         Err(fault) => Err(fault),
         Ok(event) => {
@@ -58,14 +64,17 @@ pub fn resumed_both<L: Link + Drop, O: Sink>(
     second: &mut SideRecord,
     limit: u32,
     out: &mut O,
-) -> Result<Event, RunFault> {
+) -> Result<Event, RunFault>
+    ensures { CountsOutput (O.faults out.old) (O.faults out.new) result }
+{
     let event = match resumed(talk, first, limit, out) {
         Ok(event) => event,
         Err(fault) => return Err(fault),
     };
     let other = match resumed(talk, second, limit, &mut Dropped) {
         Ok(other) => other,
-        Err(fault) => return Err(fault),
+        Err(RunFault::Talk(fault)) => return Err(RunFault::Talk(fault)),
+        Err(RunFault::Output) => unreachable!(),
     };
     let all = merged(event, Some(other));
     settle_side(first, all, event);

@@ -1,8 +1,15 @@
 // A session.
 
+ghost use Rattle.std.specs.Prelude.{◌≡◌, ◌×◌, IfOk, OnOk, OnErr, IsErrOf, Ok, Err, Some};
+ghost use Rattle.c_session.specs.declared.command.Command.TheVariants.{Quit};
+ghost use Rattle.cmd_lang.specs.Commands.{read_of};
+ghost use Rattle.session.specs.Answered.{IsLineReply, IsEndedReply, AnswersEnded};
+ghost use Rattle.session.specs.Counted.{CountsOutput, CountsEnd, IsNoQuit};
+ghost use Rattle.session.specs.Kept.{IsKept, IsUndone};
+
 use crate::answers::{Answer, End, StartFault};
-use crate::asked::asked;
-use crate::both::{asked_both, assign_both, assign_one};
+use crate::asked::{asked, registers_of};
+use crate::both::{asked_both, assign_both, assign_one, registers_both};
 use crate::line::Line;
 use crate::merging::mode_after;
 use crate::modes::{How, Mode, refused_in};
@@ -52,7 +59,9 @@ fn answer(said: Result<Text, AllocError>) -> Answer {
 }
 
 /// The answer to a line that is no command.
-fn malformed(alloc: Global, line: &[u8]) -> Answer {
+fn malformed(alloc: Global, line: &[u8]) -> Answer
+    ensures { IsLineReply result }
+{
     if is_empty(line) {
         return Answer::Lines(Text::new(alloc));
     }
@@ -132,8 +141,17 @@ impl<L: Link + Drop> Session<L> {
         })
     }
 
-    /// The answer to a line; program output goes to `out` before.
-    pub fn command<O: Sink>(&mut self, line: &[u8], out: &mut O) -> Result<Answer, End> {
+    /// The answer to a line; program output goes to `out` before it. Once the session has ended every line but `quit` is refused, and
+    /// nothing changes. Without memory the session is as before; units of tables that were run stay so, and what a text of PostScript
+    /// stored in the target stays.
+    pub fn command<O: Sink>(&mut self, line: &[u8], out: &mut O) -> Result<Answer, End>
+        ensures quit { read_of self.old.raw line.now ≡ Some Quit → result ≡ Err End.Quit }
+        ensures quits { result ≡ Err End.Quit → read_of self.old.raw line.now ≡ Some Quit }
+        ensures output { CountsEnd (O.faults out.old) (O.faults out.new) result }
+        ensures ended { self.old.mode ≡ Mode.Ended → AnswersEnded result × (self.new ≡ self.old) }
+        ensures no_memory { result ≡ Ok Answer.NoMemory → (self.new.mode ≡ self.old.mode) × (self.new.limit ≡ self.old.limit) × IsKept self.old.first self.new.first }
+        ensures out_fault { result ≡ Err End.OutFault → self.new.mode ≡ Mode.Ended }
+    {
         match read_command(self.alloc, line, self.raw) {
             Err(CmdFault::Line) => Ok(malformed(self.alloc, line)),
             Err(CmdFault::NoMemory) => Ok(Answer::NoMemory),
@@ -143,7 +161,14 @@ impl<L: Link + Drop> Session<L> {
     }
 
     /// The answer to a command other than `quit`.
-    fn obey<O: Sink>(&mut self, command: &Command, out: &mut O) -> Result<Answer, End> {
+    fn obey<O: Sink>(&mut self, command: &Command, out: &mut O) -> Result<Answer, End>
+        ensures no_quit { IsNoQuit result }
+        ensures output { CountsEnd (O.faults out.old) (O.faults out.new) result }
+        ensures ended { self.old.mode ≡ Mode.Ended → IfOk result (λ a. IsEndedReply a) × (self.new ≡ self.old) }
+        ensures going { self.old.mode ≡ Mode.Ended → OnErr result ⊥ }
+        ensures no_memory { result ≡ Ok Answer.NoMemory → (self.new.mode ≡ self.old.mode) × (self.new.limit ≡ self.old.limit) × IsKept self.old.first self.new.first }
+        ensures out_fault { OnErr result (self.new.mode ≡ Mode.Ended) }
+    {
         if let Some(why) = refused_in(self.mode, command) {
             return Ok(answer(mode_reply(self.alloc, why)));
         }
@@ -151,6 +176,10 @@ impl<L: Link + Drop> Session<L> {
             Command::Continue => self.resume(How::ByContinue, out),
             Command::Step => self.resume(How::ByStep, out),
             Command::Turns(limit) => Ok(self.set_limit(*limit)),
+            Command::Regs => {
+                let said = self.registers();
+                Ok(self.reply(said))
+            }
             Command::Assign(text) => {
                 let said = self.assign(text.as_bytes());
                 Ok(self.reply(said))
@@ -163,13 +192,20 @@ impl<L: Link + Drop> Session<L> {
     }
 
     /// The session ends, since its link failed.
-    fn break_off(&mut self) -> Answer {
+    fn break_off(&mut self) -> Answer
+        ensures mode { self.new.mode ≡ Mode.Ended }
+        ensures some { result ≡ Answer.Lines self.old.broken }
+    {
         self.mode = Mode::Ended;
         Answer::Lines(mem::replace(&mut self.broken, Text::new(self.alloc)))
     }
 
     /// The answer to a command, by what was said or why nothing was.
-    fn reply(&mut self, said: Result<Text, AskFault>) -> Answer {
+    fn reply(&mut self, said: Result<Text, AskFault>) -> Answer
+        ensures limit { self.new.limit ≡ self.old.limit }
+        ensures first { self.new.first ≡ self.old.first }
+        ensures no_memory { result ≡ Answer.NoMemory → IsUndone said × (self.new.mode ≡ self.old.mode) }
+    {
         match said {
             Ok(text) => Answer::Lines(text),
             Err(AskFault::NoMemory) => Answer::NoMemory,
@@ -181,7 +217,9 @@ impl<L: Link + Drop> Session<L> {
     }
 
     /// `turns`.
-    fn set_limit(&mut self, limit: u32) -> Answer {
+    fn set_limit(&mut self, limit: u32) -> Answer
+        ensures no_memory { result ≡ Answer.NoMemory → self.new ≡ self.old }
+    {
         match limit_reply(self.alloc, limit) {
             Ok(text) => {
                 self.limit = limit;
@@ -191,8 +229,24 @@ impl<L: Link + Drop> Session<L> {
         }
     }
 
+    /// What `regs` says.
+    fn registers(&mut self) -> Result<Text, AskFault>
+        ensures mode { self.new.mode ≡ self.old.mode }
+        ensures limit { self.new.limit ≡ self.old.limit }
+        ensures first { self.new.first ≡ self.old.first }
+    {
+        match &self.second {
+            None => registers_of(&mut self.talk, &self.first),
+            Some(second) => registers_both(&mut self.talk, &self.first, second),
+        }
+    }
+
     /// What a command that doesn't resume says.
-    fn ask(&mut self, command: &Command) -> Result<Text, AskFault> {
+    fn ask(&mut self, command: &Command) -> Result<Text, AskFault>
+        ensures mode { self.new.mode ≡ self.old.mode }
+        ensures limit { self.new.limit ≡ self.old.limit }
+        ensures kept { IsUndone result → IsKept self.old.first self.new.first }
+    {
         match &mut self.second {
             None => asked(&mut self.talk, &mut self.first, command),
             Some(second) => asked_both(&mut self.talk, &mut self.first, second, command),
@@ -200,7 +254,11 @@ impl<L: Link + Drop> Session<L> {
     }
 
     /// What `assign` says.
-    fn assign(&mut self, text: &[u8]) -> Result<Text, AskFault> {
+    fn assign(&mut self, text: &[u8]) -> Result<Text, AskFault>
+        ensures mode { self.new.mode ≡ self.old.mode }
+        ensures limit { self.new.limit ≡ self.old.limit }
+        ensures kept { IsKept self.old.first self.new.first }
+    {
         match &mut self.second {
             None => assign_one(&mut self.talk, &mut self.first, text),
             Some(second) => assign_both(&mut self.talk, &mut self.first, second, text),
@@ -208,7 +266,11 @@ impl<L: Link + Drop> Session<L> {
     }
 
     /// Puts the break words of a step on all sides, or on none.
-    fn prepare(&mut self) -> Result<(), AskFault> {
+    fn prepare(&mut self) -> Result<(), AskFault>
+        ensures mode { self.new.mode ≡ self.old.mode }
+        ensures limit { self.new.limit ≡ self.old.limit }
+        ensures kept { IsKept self.old.first self.new.first }
+    {
         match prepared(&mut self.talk, &mut self.first) {
             Ok(()) => {}
             Err(fault) => return Err(fault),
@@ -223,7 +285,11 @@ impl<L: Link + Drop> Session<L> {
     }
 
     /// Takes the break words of a step away, since there is no memory for it.
-    fn unprepare(&mut self) -> AskFault {
+    fn unprepare(&mut self) -> AskFault
+        ensures mode { self.new.mode ≡ self.old.mode }
+        ensures limit { self.new.limit ≡ self.old.limit }
+        ensures kept { IsKept self.old.first self.new.first }
+    {
         let first = left(unprepared(&mut self.talk, &mut self.first), AskFault::NoMemory);
         match &mut self.second {
             None => first,
@@ -232,7 +298,11 @@ impl<L: Link + Drop> Session<L> {
     }
 
     /// All that is to be done before a resume, and the line of its reply: nothing takes memory behind it.
-    fn ready(&mut self, how: How) -> Result<Line, AskFault> {
+    fn ready(&mut self, how: How) -> Result<Line, AskFault>
+        ensures mode { self.new.mode ≡ self.old.mode }
+        ensures limit { self.new.limit ≡ self.old.limit }
+        ensures kept { IsKept self.old.first self.new.first }
+    {
         match (self.mode, how) {
             (Mode::Running(_), _) | (_, How::ByContinue) => {
                 match line_for(self.alloc, &self.first) {
@@ -251,7 +321,9 @@ impl<L: Link + Drop> Session<L> {
     }
 
     /// Resumes all sides up to their event.
-    fn run<O: Sink>(&mut self, out: &mut O) -> Result<Event, RunFault> {
+    fn run<O: Sink>(&mut self, out: &mut O) -> Result<Event, RunFault>
+        ensures { CountsOutput (O.faults out.old) (O.faults out.new) result }
+    {
         match &mut self.second {
             None => resumed_one(&mut self.talk, &mut self.first, self.limit, out),
             Some(second) => {
@@ -261,7 +333,12 @@ impl<L: Link + Drop> Session<L> {
     }
 
     /// `continue` and `step`; an interrupted resume goes on, whichever command began it.
-    fn resume<O: Sink>(&mut self, how: How, out: &mut O) -> Result<Answer, End> {
+    fn resume<O: Sink>(&mut self, how: How, out: &mut O) -> Result<Answer, End>
+        ensures no_quit { IsNoQuit result }
+        ensures output { CountsEnd (O.faults out.old) (O.faults out.new) result }
+        ensures no_memory { result ≡ Ok Answer.NoMemory → (self.new.mode ≡ self.old.mode) × (self.new.limit ≡ self.old.limit) × IsKept self.old.first self.new.first }
+        ensures out_fault { OnErr result (self.new.mode ≡ Mode.Ended) }
+    {
         let line = match self.ready(how) {
             Ok(line) => line,
             Err(fault) => return Ok(self.reply(Err(fault))),
