@@ -5,9 +5,8 @@ use Rattle.table_asks.specs.declared.fault.AskFault.TheVariants.{Refused, Raised
 use Rattle.session.specs.declared.sides.SideRecord.{SideRecord}
 
 -- its breakpoints and its chosen frame
-pub record IsKept (old new : SideRecord) : Type 0 where
-  pub breaks : new.row.breaks.items ≡ old.row.breaks.items
-  pub frame : new.frame ≡ old.frame
+abbrev pub IsKept : (old new : SideRecord) → Type 0
+IsKept old new = (new.row.breaks.items ≡ old.row.breaks.items) × (new.frame ≡ old.frame)
 
 -- A command isn't done, and its link goes on. (Behind a fault of the link the session has ended.)
 abbrev pub IsUndone : {A : Type 0} → Result A AskFault → Type 0

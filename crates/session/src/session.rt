@@ -1,6 +1,6 @@
 // A session.
 
-ghost use Rattle.std.specs.Prelude.{◌≡◌, ◌×◌, IfOk, OnOk, OnErr, IsErrOf, Ok, Err, Some};
+ghost use Rattle.std.specs.Prelude.{◌≡◌, IfOk, OnErr, Ok, Err, Some};
 ghost use Rattle.c_session.specs.declared.command.Command.TheVariants.{Quit};
 ghost use Rattle.cmd_lang.specs.Commands.{read_of};
 ghost use Rattle.session.specs.Answered.{IsLineReply, IsEndedReply, AnswersEnded};
