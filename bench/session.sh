@@ -24,7 +24,7 @@ int work(int n) {
 }
 int main(void) {
   int i;
-  work(9999);
+  work(4999);
   for (i = 0; i < 1000000; i = i + 1)
     sum = sum + i % 7;
   return 0;

@@ -10,9 +10,9 @@ unfoldable pub words_from : (count : ℕ) → Stream → List ℕ
 words_from zero s = []
 words_from (suc k) s = (next_u64 s).0 ∷ words_from k (next_u64 s).1
 
--- 412 words of xoshiro256++, seeded with a number by SplitMix64
+-- 450 words of xoshiro256++, seeded with a number by SplitMix64
 abbrev pub words : ℕ → List ℕ
-words n = words_from 412 (stream_of (steps_u64_high plus_plus) (of_seed (splitmix_seed 32 n)))
+words n = words_from 450 (stream_of (steps_u64_high plus_plus) (of_seed (splitmix_seed 32 n)))
 
 -- a number below a bound, of the word with a number
 abbrev pub pick : List ℕ → (number bound : ℕ) → ℕ

@@ -1,55 +1,50 @@
 // The commands.
 
-ghost use Rattle.std.specs.Prelude.{◌≡◌, ◌++◌, OnOk, IfOk};
-ghost use Rattle.ldb_make.specs.Commands.{opening, item_lines, closing, commands_text};
+ghost use Rattle.std.specs.Prelude.{◌≡◌, ◌<◌, ◌++◌, OnOk, IfOk};
+ghost use Rattle.ldb_make.specs.Commands.{round_text, rounds_text, commands_text};
 
 use crate::lines::add_with;
 use crate::words::pick;
 use ldb_words::Text;
 use std::alloc::{AllocError, Global};
 
-/// The word of which the item is drawn that is read and assigned; the next one is that of its new value.
-const ITEM: usize = 410;
+/// How many rounds there are.
+const ROUNDS: usize = 20;
 
-/// The commands before those that are drawn.
-const OPENING: &[u8] =
-    b"turns 1000000000\nbreak f0\ncontinue\ncontinue\ncontinue\ncontinue\ncontinue\ncontinue\ncontinue\ncontinue\ncontinue\ncontinue\ncontinue\ncontinue\ncontinue\ncontinue\ncontinue\ncontinue\ncontinue\ncontinue\ncontinue\ncontinue\nframes\nprint a\nframe 10\nprint t\n";
+/// The first word behind those of the program.
+const FIRST: usize = 410;
 
-/// The commands before those that are drawn.
-#[tactic(auto, unfolding(crate::specs::Commands::opening))]
-fn opening() -> &'static [u8]
-    ensures { result.now ≡ opening }
+/// What a round does before the item is named that it reads and assigns.
+const LOOK: &str = "continue\nframes\nprint a\nframe 10\nprint t\neval t + g[";
+
+/// Adds a round, drawn from the word with this number and the next one.
+fn add_round(alloc: Global, text: &mut Text, words: &[u64], number: usize) -> Result<(), AllocError>
+    requires { number < 450 }
+    ensures { OnOk result (text.new ≡ text.old ++ round_text words.now number) }
 {
-    OPENING
-}
-
-/// The commands behind those that are drawn.
-#[tactic(auto, unfolding(crate::specs::Commands::closing))]
-fn closing() -> &'static [u8]
-    ensures { result.now ≡ closing }
-{
-    b"clear f0\ncontinue\n"
-}
-
-/// Adds the commands that read an item and give it a new value.
-#[tactic(auto, unfolding(crate::specs::Commands::item_lines))]
-fn add_item_lines(alloc: Global, text: &mut Text, item: u64, value: u64) -> Result<(), AllocError>
-    ensures { OnOk result (text.new ≡ text.old ++ item_lines item value) }
-{
-    add_with(alloc, text, "eval t + g[", item, "]\n")?;
+    let item = pick(words, number, 16);
+    let value = pick(words, number + 1, 1000);
+    add_with(alloc, text, LOOK, item, "]\n")?;
     add_with(alloc, text, "assign g[", item, "] = ")?;
     add_with(alloc, text, "", value, "u\n")
 }
 
+/// Adds all rounds.
+fn add_rounds(alloc: Global, text: &mut Text, words: &[u64]) -> Result<(), AllocError>
+    ensures { OnOk result (text.new ≡ text.old ++ rounds_text words.now) }
+{
+    for round in 0..ROUNDS {
+        add_round(alloc, text, words, FIRST + 2 * round)?;
+    }
+    Ok(())
+}
+
 /// The commands of these words.
-#[tactic(auto, unfolding(crate::specs::Commands::commands_text))]
 pub fn commands_of(alloc: Global, words: &[u64]) -> Result<Text, AllocError>
     ensures { IfOk result (λ t. t ≡ commands_text words.now) }
 {
-    let item = pick(words, ITEM, 16);
-    let value = pick(words, ITEM + 1, 1000);
-    let mut text = Text::from_slice(alloc, opening())?;
-    add_item_lines(alloc, &mut text, item, value)?;
-    text.append(closing())?;
+    let mut text = Text::from_slice(alloc, b"turns 1000000000\nbreak f0\n")?;
+    add_rounds(alloc, &mut text, words)?;
+    text.append(b"clear f0\ncontinue\n")?;
     Ok(text)
 }

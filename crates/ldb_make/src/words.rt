@@ -8,7 +8,7 @@ use rand_xoshiro::Xoshiro256PlusPlus;
 use std::alloc::{AllocError, Global};
 
 /// How many words a program and its commands take.
-const WORDS: usize = 412;
+const WORDS: usize = 450;
 
 /// The words of a number: the first of xoshiro256++, seeded with it.
 pub fn words_of(alloc: Global, n: u32) -> Result<Vec<u64>, AllocError>
