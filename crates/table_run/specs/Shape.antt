@@ -1,5 +1,5 @@
 -- The shape of a table: what is asked of it before a session. The rest is checked when it is used.
-use Rattle.std.specs.Prelude.{◌≡◌, ℕ, pos, Bool, true, false, nat_eq, if◌then◌else◌, ◌&&◌, List, codes, Option, Some, None}
+use Rattle.std.specs.Prelude.{◌≡◌, ℕ, ℤ, pos, Bool, true, false, nat_eq, if◌then◌else◌, ◌&&◌, List, codes, Option, Some, None}
 use Rattle.std.specs.Str.{bytes_eq}
 use Rattle.std.specs.Ordering.{int_eq}
 use Rattle.ps_store.specs.declared.object.PsObj.{PsObj}
@@ -14,7 +14,7 @@ use Rattle.ps_store.specs.Entries.{value_at}
 abbrev pub target_text : ℕ → List ℕ
 target_text target = if nat_eq target 1 then codes "mips" else codes "sparc"
 
-abbrev pub is_number : _ → Option PsObj → Bool
+abbrev pub is_number : ℤ → Option PsObj → Bool
 is_number n (Some (Int k)) = int_eq k n
 is_number n o = false
 

@@ -1,7 +1,5 @@
 // A table's text is run.
-ghost use Rattle.std.specs.Prelude.{◌≡◌, ◌++◌, IfOk, Some, true};
-ghost use Rattle.ps_store.specs.declared.store.PsStore.{};
-ghost use Rattle.ps_print.specs.Loaded.{Loads};
+ghost use Rattle.std.specs.Prelude.{◌≡◌, IfOk};
 ghost use Rattle.table_run.specs.Shape.{HasShape};
 ghost use Rattle.table_run.specs.declared.run.TableFault.TheVariants.{NoMemory as OutOfMemory};
 
