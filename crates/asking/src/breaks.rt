@@ -13,7 +13,8 @@ use ldb_words::Text;
 use machine_state::{MIPS, SPARC};
 use ps_ops::Operators;
 use ps_store::PsStore;
-use table_asks::{AskFault, Cause, Inquiry, Point, body_told, line_told, memory_fault};
+use table_asks::{AskFault, Cause, Inquiry, body_told, line_told, memory_fault};
+use table_points::Point;
 
 /// The target with a number: SPARC or else MIPS.
 fn known(target: u8) -> u8
@@ -61,8 +62,9 @@ fn set<W: AbsMem + Drop>(
     if is_set(table, breaks.as_slice(), place) {
         return Ok(text);
     }
-    if breaks.push(place).is_err() {
-        return Err(AskFault::NoMemory);
+    match breaks.push(place) {
+        Ok(()) => {}
+        Err(_) => return Err(AskFault::NoMemory),
     }
     let target = known(talk.view.target);
     match plant(target, &mut talk.memory.below.below.below, place.at) {

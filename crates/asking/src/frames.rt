@@ -13,8 +13,9 @@ use ps_ops::Operators;
 use ps_store::PsStore;
 use stack_walk::{first, row_of_target, up};
 use std::alloc::Global;
-use table_asks::{AskFault, Cause, Inquiry, frame_told, settle_walk, told_frame};
+use table_asks::{AskFault, Cause, Inquiry, frame_told, settle_walk};
 use table_model::TargetRow;
+use table_points::told_frame;
 
 /// The most frames that are listed.
 const MOST_FRAMES: u32 = 20_000;

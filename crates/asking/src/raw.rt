@@ -36,10 +36,7 @@ fn head_of(alloc: Global, target: u8) -> Result<Text, AllocError> {
 }
 
 /// `regs`: the target and the words of its context block.
-pub fn registers<W: AbsMem + Drop>(
-    alloc: Global,
-    talk: &mut Operators<W>,
-) -> Result<Text, AskFault>
+pub fn registers<W: AbsMem + Drop>(alloc: Global, talk: &mut Operators<W>) -> Result<Text, AskFault>
     ensures unrefused { IfErr result (λ fault. IsUnrefused fault) }
 {
     let Ok(mut out) = head_of(alloc, talk.view.target) else {

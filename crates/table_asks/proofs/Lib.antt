@@ -1,2 +1,1 @@
 mod Owns
-mod Reading

@@ -7,79 +7,8 @@ ghost use Rattle.table_asks.specs.Faults.{IsOwn};
 
 use crate::fault::{AskFault, raised};
 use crate::inquiry::{Inquiry, settle};
-use crate::row::Point;
-use ps_store::{PsObj, PsStore, StringId};
-use table_model::Lack;
-use table_read::{dict_in, functions_of, number_at, point_address, points_of, string_at, units_of};
-
-/// Why points aren't added.
-#[derive(Drop)]
-enum PointsFault {
-    Lacks(Lack),
-    NoMemory,
-}
-
-impl From<Lack> for PointsFault {
-    fn from(lack: Lack) -> PointsFault {
-        PointsFault::Lacks(lack)
-    }
-}
-
-/// Adds the points of a function.
-fn add_points(
-    store: &PsStore,
-    file: StringId,
-    function: StringId,
-    objects: &[PsObj],
-    points: &mut Vec<Point>,
-) -> Result<(), PointsFault> {
-    for object in objects {
-        let point = dict_in(*object)?;
-        let line = number_at(store, point, b"line")?;
-        let column = number_at(store, point, b"column")?;
-        let at = point_address(store, point)?;
-        let place = Point {
-            at,
-            line,
-            column,
-            file,
-            function,
-        };
-        if points.push(place).is_err() {
-            return Err(PointsFault::NoMemory);
-        }
-    }
-    Ok(())
-}
-
-/// Adds the points of some functions.
-fn add_functions(
-    store: &PsStore,
-    file: StringId,
-    functions: &[PsObj],
-    points: &mut Vec<Point>,
-) -> Result<(), PointsFault> {
-    for object in functions {
-        let function = dict_in(*object)?;
-        let name = string_at(store, function, b"name")?;
-        let objects = points_of(store, function)?;
-        add_points(store, file, name, objects, points)?;
-    }
-    Ok(())
-}
-
-/// Adds the points of the unit with a number; none where its functions are still to be run.
-fn add_unit(store: &PsStore, number: usize, points: &mut Vec<Point>) -> Result<(), PointsFault> {
-    let units = units_of(store)?;
-    let object = match units.get(number) {
-        Some(object) => *object,
-        None => return Err(PointsFault::Lacks(Lack::Missing)),
-    };
-    let unit = dict_in(object)?;
-    let file = string_at(store, unit, b"file")?;
-    let functions = functions_of(store, number, unit)?;
-    add_functions(store, file, functions, points)
-}
+use table_points::{Point, PointsFault, add_unit};
+use table_read::units_of;
 
 /// Adds the points of the unit with a number, whose functions are run first if they have to be.
 #[tactic(auto, using(ps_store::proofs::Settling::settled_same, ps_store::proofs::Settling::settled_on))]

@@ -8,7 +8,6 @@ ghost use Rattle.table_asks.specs.Faults.{IsOwn, IsUnrefused};
 
 use crate::fault::{AskFault, raised};
 use crate::inquiry::{Inquiry, settle, settle_walk};
-use crate::row::{Point, told_frame};
 use abs_mem::{AbsMem, WalkFault, told};
 use frame_bytes::Frame;
 use ps_ops::{Operators, frame_numbered};
@@ -16,6 +15,7 @@ use ps_store::{DictId, PsStore};
 use ps_symbols::symbol_named;
 use stack_walk::row_of_target;
 use table_model::TargetRow;
+use table_points::{Point, told_frame};
 use table_read::scope_of;
 
 /// What the frame with a number tells, in one walk; none where there is no such frame.

@@ -3,7 +3,7 @@
 ghost use Rattle.std.specs.Prelude.{◌≡◌};
 ghost use Rattle.table_read.specs.Reads.{in_ok};
 ghost use Rattle.table_model.specs.Frames.{told_row, told_frame};
-ghost use Rattle.table_asks.specs.Rows.{row_in};
+ghost use Rattle.table_points.specs.Rows.{row_in};
 
 use frame_bytes::Frame;
 use ps_store::{PsStore, StringId};
@@ -36,7 +36,7 @@ fn told_row(
     };
     let function = string_at(store, found.function, b"name")?;
     let file = string_at(store, found.unit, b"file")?;
-    let point = point_of_row(store, is_inner, pc, row)?;
+    let point = point_of_row(store, is_inner, pc, Some(found))?;
     let line = number_at(store, point, b"line")?;
     let column = number_at(store, point, b"column")?;
     let at = point_address(store, point)?;
