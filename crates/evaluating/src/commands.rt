@@ -1,6 +1,10 @@
 // The commands.
 
-use crate::changes::{Changes, Leaving};
+ghost use Rattle.std.specs.Prelude.{◌≡◌, ◌≤◌};
+ghost use Rattle.ps_store.specs.Store.{closed_part};
+ghost use Rattle.ps_store.specs.Settled.{Settled};
+
+use crate::storing::{Changes, Leaving};
 use crate::depths::is_struct;
 use crate::leaves::{fetch_leaves, further, leaves_of};
 use crate::reading::{ReadText, read_text};
@@ -49,12 +53,18 @@ fn reply(alloc: Global, word: &[u8], text: &[u8]) -> Result<Text, AskFault> {
 }
 
 /// The text of an expression's value.
+#[tactic(auto, using(ps_store::proofs::Settling::settled_same, ps_store::proofs::Settling::settled_on))]
 fn value<W: AbsMem + Drop>(
     inquiry: &mut Inquiry,
     talk: &mut Operators<W>,
     frame: u32,
     text: &[u8],
-) -> Result<Text, AskFault> {
+) -> Result<Text, AskFault>
+    requires within { inquiry.old.steps.taken ≤ inquiry.old.steps.limit }
+    ensures within { inquiry.new.steps.taken ≤ inquiry.new.steps.limit }
+    ensures limit { inquiry.new.steps.limit ≡ inquiry.old.steps.limit }
+    ensures closed { Settled (closed_part inquiry.old.core.store) (closed_part inquiry.new.core.store) }
+{
     let alloc = inquiry.core.operands.allocator();
     match read_text(inquiry, talk, frame, text, Mode::Value) {
         Err(fault) => Err(fault),
@@ -66,12 +76,18 @@ fn value<W: AbsMem + Drop>(
 }
 
 /// `eval`: the value of an expression in the frame with a number, as the line `value TEXT`.
+#[tactic(auto, using(ps_store::proofs::Settling::settled_same, ps_store::proofs::Settling::settled_on))]
 pub fn evaluating<W: AbsMem + Drop>(
     inquiry: &mut Inquiry,
     talk: &mut Operators<W>,
     frame: u32,
     text: &[u8],
-) -> Result<Text, AskFault> {
+) -> Result<Text, AskFault>
+    requires within { inquiry.old.steps.taken ≤ inquiry.old.steps.limit }
+    ensures within { inquiry.new.steps.taken ≤ inquiry.new.steps.limit }
+    ensures limit { inquiry.new.steps.limit ≡ inquiry.old.steps.limit }
+    ensures closed { Settled (closed_part inquiry.old.core.store) (closed_part inquiry.new.core.store) }
+{
     let alloc = inquiry.core.operands.allocator();
     match value(inquiry, talk, frame, text) {
         Err(fault) => Err(reasoned(fault)),
@@ -80,12 +96,18 @@ pub fn evaluating<W: AbsMem + Drop>(
 }
 
 /// `code`: the PostScript that computes an expression in the frame with a number, as the line `code TEXT`. It is not run.
+#[tactic(auto, using(ps_store::proofs::Settling::settled_same, ps_store::proofs::Settling::settled_on))]
 pub fn coding<W: AbsMem + Drop>(
     inquiry: &mut Inquiry,
     talk: &mut Operators<W>,
     frame: u32,
     text: &[u8],
-) -> Result<Text, AskFault> {
+) -> Result<Text, AskFault>
+    requires within { inquiry.old.steps.taken ≤ inquiry.old.steps.limit }
+    ensures within { inquiry.new.steps.taken ≤ inquiry.new.steps.limit }
+    ensures limit { inquiry.new.steps.limit ≡ inquiry.old.steps.limit }
+    ensures closed { Settled (closed_part inquiry.old.core.store) (closed_part inquiry.new.core.store) }
+{
     let alloc = inquiry.core.operands.allocator();
     match read_text(inquiry, talk, frame, text, Mode::Value) {
         Err(fault) => Err(fault),
@@ -170,12 +192,18 @@ fn right_side<W: AbsMem + Drop>(
 }
 
 /// What an assignment changes, once its text has run: no literal, and all leaves can be fetched.
+#[tactic(auto, using(ps_store::proofs::Settling::settled_same, ps_store::proofs::Settling::settled_on))]
 fn fetch_changes<W: AbsMem + Drop>(
     alloc: Global,
     inquiry: &mut Inquiry,
     talk: &mut Operators<W>,
     read: &ReadText,
-) -> Result<Changes, AskFault> {
+) -> Result<Changes, AskFault>
+    requires within { inquiry.old.steps.taken ≤ inquiry.old.steps.limit }
+    ensures within { inquiry.new.steps.taken ≤ inquiry.new.steps.limit }
+    ensures limit { inquiry.new.steps.limit ≡ inquiry.old.steps.limit }
+    ensures closed { Settled (closed_part inquiry.old.core.store) (closed_part inquiry.new.core.store) }
+{
     let place = match target_left(inquiry, read) {
         Err(fault) => return Err(fault),
         Ok(place) => place,
@@ -204,12 +232,18 @@ fn fetch_changes<W: AbsMem + Drop>(
 
 /// `assign`: what a plain assignment changes in the frame with a number. Its text is run, a place in memory that belongs to a string literal is
 /// refused, and then each leaf is fetched. Nothing is stored.
+#[tactic(auto, using(ps_store::proofs::Settling::settled_same, ps_store::proofs::Settling::settled_on))]
 pub fn assignment<W: AbsMem + Drop>(
     inquiry: &mut Inquiry,
     talk: &mut Operators<W>,
     frame: u32,
     text: &[u8],
-) -> Result<Changes, AskFault> {
+) -> Result<Changes, AskFault>
+    requires within { inquiry.old.steps.taken ≤ inquiry.old.steps.limit }
+    ensures within { inquiry.new.steps.taken ≤ inquiry.new.steps.limit }
+    ensures limit { inquiry.new.steps.limit ≡ inquiry.old.steps.limit }
+    ensures closed { Settled (closed_part inquiry.old.core.store) (closed_part inquiry.new.core.store) }
+{
     let alloc = inquiry.core.operands.allocator();
     let read = match read_text(inquiry, talk, frame, text, Mode::Assign) {
         Err(fault) => return Err(reasoned(fault)),

@@ -1,5 +1,8 @@
 // Dictionaries of types, made anew for a value that is shown.
 
+ghost use Rattle.std.specs.Prelude.{◌≡◌};
+ghost use Rattle.ps_store.specs.Store.{closed_part};
+
 use c_tree::{CType, Member, StructDef, members, size_of};
 use ps_store::{DictId, Key, PsObj, PsStore, StoreFault};
 use std::alloc::Global;
@@ -23,7 +26,9 @@ fn words_of(t: &CType) -> (&'static [u8], &'static [u8]) {
 }
 
 /// Puts a value under a name of the dialect.
-fn put(store: &mut PsStore, d: DictId, name: &[u8], value: PsObj) -> Result<(), StoreFault> {
+fn put(store: &mut PsStore, d: DictId, name: &[u8], value: PsObj) -> Result<(), StoreFault>
+    ensures closed { closed_part store.new ≡ closed_part store.old }
+{
     match Key::name(name) {
         Some(key) => store.dict_put(d, key, value),
         None => Err(StoreFault::Limit),
@@ -44,7 +49,9 @@ struct Dresser<'a> {
 
 impl Dresser<'_> {
     /// A dictionary with the kind of a type.
-    fn begun(&self, store: &mut PsStore, t: &CType) -> Result<DictId, StoreFault> {
+    fn begun(&self, store: &mut PsStore, t: &CType) -> Result<DictId, StoreFault>
+        ensures closed { closed_part store.new ≡ closed_part store.old }
+    {
         let d = store.make_dict()?;
         let (kind, _) = words_of(t);
         let name = store.make_name(kind)?;
@@ -53,7 +60,9 @@ impl Dresser<'_> {
     }
 
     /// The same with the size and the printer.
-    fn with_printer(&self, store: &mut PsStore, t: &CType) -> Result<DictId, StoreFault> {
+    fn with_printer(&self, store: &mut PsStore, t: &CType) -> Result<DictId, StoreFault>
+        ensures closed { closed_part store.new ≡ closed_part store.old }
+    {
         let d = self.begun(store, t)?;
         let size = size_of(t, self.defs).unwrap_or(0);
         put(store, d, b"size", PsObj::Int(size.cast_signed()))?;
@@ -62,88 +71,99 @@ impl Dresser<'_> {
         put(store, d, b"printer", printer)?;
         Ok(d)
     }
+}
 
-    /// The dictionary of a type. Of what a pointer points to only the kind is asked.
-    #[cycle(dressing)]
-    fn dress(&mut self, store: &mut PsStore, deep: u32, t: &CType) -> Result<DictId, StoreFault> {
-        if deep == 0 {
-            return Err(StoreFault::Limit);
+/// The dictionary of a type. Of what a pointer points to only the kind is asked.
+#[cycle(dressing)]
+fn dress(
+    dresser: &mut Dresser<'_>,
+    store: &mut PsStore,
+    deep: u32,
+    t: &CType,
+) -> Result<DictId, StoreFault>
+    ensures closed { closed_part store.new ≡ closed_part store.old }
+{
+    if deep == 0 {
+        return Err(StoreFault::Limit);
+    }
+    match t {
+        CType::Pointer(to) => {
+            let d = dresser.with_printer(store, t)?;
+            let target = dresser.begun(store, to)?;
+            put(store, d, b"to", PsObj::Dict(target))?;
+            Ok(d)
         }
-        match t {
-            CType::Pointer(to) => {
-                let d = self.with_printer(store, t)?;
-                let target = self.begun(store, to)?;
-                put(store, d, b"to", PsObj::Dict(target))?;
-                Ok(d)
-            }
-            CType::Array(item, n) => {
-                let d = self.with_printer(store, t)?;
-                let of = self.dress(store, deep - 1, item)?;
-                put(store, d, b"to", PsObj::Dict(of))?;
-                put(store, d, b"count", PsObj::Int(n.cast_signed()))?;
-                Ok(d)
-            }
-            CType::Struct(s) => self.dress_struct(store, deep, t, *s),
-            CType::Char | CType::Int | CType::Unsigned | CType::Void => self.with_printer(store, t),
+        CType::Array(item, n) => {
+            let d = dresser.with_printer(store, t)?;
+            let of = dress(dresser, store, deep - 1, item)?;
+            put(store, d, b"to", PsObj::Dict(of))?;
+            put(store, d, b"count", PsObj::Int(n.cast_signed()))?;
+            Ok(d)
+        }
+        CType::Struct(s) => dress_struct(dresser, store, deep, t, *s),
+        CType::Char | CType::Int | CType::Unsigned | CType::Void => dresser.with_printer(store, t),
+    }
+}
+
+/// The dictionary of a struct, which is made once.
+#[cycle(dressing)]
+fn dress_struct(
+    dresser: &mut Dresser<'_>,
+    store: &mut PsStore,
+    deep: u32,
+    t: &CType,
+    s: u32,
+) -> Result<DictId, StoreFault>
+    ensures closed { closed_part store.new ≡ closed_part store.old }
+{
+    if deep == 0 {
+        return Err(StoreFault::Limit);
+    }
+    if let Some(Some(d)) = dresser.made.get(s as usize) {
+        return Ok(*d);
+    }
+    let d = dresser.with_printer(store, t)?;
+    let mut rows = Vec::new(dresser.alloc);
+    let defs = dresser.defs;
+    for member in members(defs, s) {
+        let ctype = dress_member(dresser, store, deep - 1, member)?;
+        let name = store.make_string(member.name.as_bytes())?;
+        let row = [
+            PsObj::Str(name, false),
+            PsObj::Int(member.at.cast_signed()),
+            PsObj::Dict(ctype),
+        ];
+        let row = store.make_array_of(&row)?;
+        if rows.push(PsObj::Array(row, false)).is_err() {
+            return Err(StoreFault::NoMemory);
         }
     }
-
-    /// The dictionary of a struct, which is made once.
-    #[cycle(dressing)]
-    fn dress_struct(
-        &mut self,
-        store: &mut PsStore,
-        deep: u32,
-        t: &CType,
-        s: u32,
-    ) -> Result<DictId, StoreFault> {
-        if deep == 0 {
-            return Err(StoreFault::Limit);
-        }
-        if let Some(Some(d)) = self.made.get(s as usize) {
-            return Ok(*d);
-        }
-        let d = self.with_printer(store, t)?;
-        let mut rows = Vec::new(self.alloc);
-        let defs = self.defs;
-        for member in members(defs, s) {
-            let ctype = self.dress_member(store, deep - 1, member)?;
-            let name = store.make_string(member.name.as_bytes())?;
-            let row = [
-                PsObj::Str(name, false),
-                PsObj::Int(member.at.cast_signed()),
-                PsObj::Dict(ctype),
-            ];
-            let row = store.make_array_of(&row)?;
-            if rows.push(PsObj::Array(row, false)).is_err() {
-                return Err(StoreFault::NoMemory);
-            }
-        }
-        let rows = store.make_array_of(rows.as_slice())?;
-        put(store, d, b"members", PsObj::Array(rows, false))?;
-        if let Some(place) = self.made.get_mut(s as usize) {
-            *place = Some(d);
-        }
-        Ok(d)
+    let rows = store.make_array_of(rows.as_slice())?;
+    put(store, d, b"members", PsObj::Array(rows, false))?;
+    if let Some(place) = dresser.made.get_mut(s as usize) {
+        *place = Some(d);
     }
+    Ok(d)
+}
 
-    /// The dictionary of a member's type. One behind the items that are shown is never asked.
-    #[cycle(dressing)]
-    fn dress_member(
-        &mut self,
-        store: &mut PsStore,
-        deep: u32,
-        member: &Member,
-    ) -> Result<DictId, StoreFault> {
-        if self.room == 0 {
-            return Ok(self.plain);
-        }
-        match &member.ctype {
-            CType::Struct(_) => {}
-            _ => self.room -= 1,
-        }
-        self.dress(store, deep, &member.ctype)
+/// The dictionary of a member's type. One behind the items that are shown is never asked.
+#[cycle(dressing)]
+fn dress_member(
+    dresser: &mut Dresser<'_>,
+    store: &mut PsStore,
+    deep: u32,
+    member: &Member,
+) -> Result<DictId, StoreFault>
+    ensures closed { closed_part store.new ≡ closed_part store.old }
+{
+    if dresser.room == 0 {
+        return Ok(dresser.plain);
     }
+    match &member.ctype {
+        CType::Struct(_) => {}
+        _ => dresser.room -= 1,
+    }
+    dress(dresser, store, deep, &member.ctype)
 }
 
 /// The dictionary of a type, with the printers of the prelude.
@@ -153,7 +173,9 @@ pub fn type_of_value(
     prelude: DictId,
     defs: &[StructDef],
     t: &CType,
-) -> Result<DictId, StoreFault> {
+) -> Result<DictId, StoreFault>
+    ensures closed { closed_part store.new ≡ closed_part store.old }
+{
     let plain = store.make_dict()?;
     let name = store.make_name(b"int")?;
     put(store, plain, b"kind", PsObj::Name(name, false))?;
@@ -171,5 +193,5 @@ pub fn type_of_value(
         room: MOST_ITEMS,
         plain,
     };
-    dresser.dress(store, DEEPEST, t)
+    dress(&mut dresser, store, DEEPEST, t)
 }

@@ -1,5 +1,8 @@
 // What a table tells of the names and tags of an expression.
 
+ghost use Rattle.std.specs.Prelude.{◌≡◌};
+ghost use Rattle.ps_store.specs.Store.{closed_part};
+
 use crate::depths::{depth_within, small_size, struct_depth};
 use c_judge::{Symbol, array_of, pointer_to};
 use c_tree::{CType, Member, StructDef};
@@ -71,6 +74,11 @@ pub struct Known {
     checked: usize,
 }
 
+/// The number of a struct by its place; a table has far fewer than 2^32.
+fn as_number(place: usize) -> u32 {
+    u32::try_from(place).unwrap_or(u32::MAX)
+}
+
 /// The name under a key.
 fn name_at(store: &PsStore, d: DictId, key: &[u8]) -> Result<StringId, Lack> {
     match entry(store, d, key)? {
@@ -137,7 +145,9 @@ fn add_struct(
 
 impl Known {
     /// No structs.
-    pub fn new(alloc: Global, store: &mut PsStore) -> Result<Known, Want> {
+    pub fn new(alloc: Global, store: &mut PsStore) -> Result<Known, Want>
+        ensures closed { closed_part store.new ≡ closed_part store.old }
+    {
         let tags = store.make_dict()?;
         Ok(Known {
             alloc,
@@ -149,11 +159,13 @@ impl Known {
     }
 
     /// The number of the struct with a tag, which joins the others if it is new.
-    fn number_of(&mut self, store: &mut PsStore, tag: StringId) -> Result<u32, Want> {
+    fn number_of(&mut self, store: &mut PsStore, tag: StringId) -> Result<u32, Want>
+        ensures closed { closed_part store.new ≡ closed_part store.old }
+    {
         if let Some(PsObj::Int(n)) = store.name_get(self.tags, tag) {
             return Ok(n.cast_unsigned());
         }
-        let number = self.defs.len() as u32 & 0x7fff_ffff;
+        let number = as_number(self.defs.len());
         let tag_text = Text::from_slice(self.alloc, store.string_get(tag))?;
         store.name_put(self.tags, tag, PsObj::Int(number.cast_signed()))?;
         let def = StructDef {
@@ -166,57 +178,24 @@ impl Known {
     }
 
     /// The struct that a type is.
-    fn read_tagged(&mut self, store: &mut PsStore, t: DictId) -> Result<CType, Want> {
+    fn read_tagged(&mut self, store: &mut PsStore, t: DictId) -> Result<CType, Want>
+        ensures closed { closed_part store.new ≡ closed_part store.old }
+    {
         let tag = name_at(store, t, b"tag")?;
         let number = self.number_of(store, tag)?;
         Ok(CType::Struct(number))
     }
 
-    /// A type of the table, of which at most so many levels are read.
-    #[cycle(reading)]
-    fn read(&mut self, store: &mut PsStore, deep: u32, t: DictId) -> Result<CType, Want> {
-        if deep == 0 {
-            return Err(Want::Lacks(Lack::TooDeep));
-        }
-        match type_kind(store, t)? {
-            TypeKind::Int => Ok(CType::Int),
-            TypeKind::Unsigned => Ok(CType::Unsigned),
-            TypeKind::Char => Ok(CType::Char),
-            TypeKind::Struct => self.read_tagged(store, t),
-            TypeKind::Pointer => {
-                let to = dict_at(store, t, b"to")?;
-                self.read_pointer(store, deep, to)
-            }
-            TypeKind::Array => {
-                let item = dict_at(store, t, b"to")?;
-                let count = number_at(store, t, b"count")?;
-                let read = self.read(store, deep - 1, item)?;
-                Ok(array_of(self.alloc, read, count)?)
-            }
-        }
-    }
-
-    /// A pointer to a type; one to a struct leads no deeper.
-    #[cycle(reading)]
-    fn read_pointer(&mut self, store: &mut PsStore, deep: u32, to: DictId) -> Result<CType, Want> {
-        if deep == 0 {
-            return Err(Want::Lacks(Lack::TooDeep));
-        }
-        let target = match type_kind(store, to)? {
-            TypeKind::Struct => self.read_tagged(store, to)?,
-            _ => self.read(store, deep - 1, to)?,
-        };
-        Ok(pointer_to(self.alloc, target)?)
-    }
-
     /// The members of a struct.
-    fn read_members(&mut self, store: &mut PsStore, rows: ArrayId) -> Result<Many<Member>, Want> {
+    fn read_members(&mut self, store: &mut PsStore, rows: ArrayId) -> Result<Many<Member>, Want>
+        ensures closed { closed_part store.new ≡ closed_part store.old }
+    {
         let mut members = Many::new(self.alloc);
         for i in 0..store.array_get(rows).len() {
             let object = store.array_get(rows).get(i).copied().unwrap_or(PsObj::Null);
             let row = member_in(store, object)?;
             let name = Text::from_slice(self.alloc, store.string_get(row.name))?;
-            let ctype = self.read(store, DEEPEST, row.ctype)?;
+            let ctype = read(self, store, DEEPEST, row.ctype)?;
             members.push(Member {
                 name,
                 at: row.at,
@@ -227,7 +206,9 @@ impl Known {
     }
 
     /// Reads the struct with a number.
-    fn read_struct(&mut self, store: &mut PsStore, number: usize) -> Result<(), Want> {
+    fn read_struct(&mut self, store: &mut PsStore, number: usize) -> Result<(), Want>
+        ensures closed { closed_part store.new ≡ closed_part store.old }
+    {
         let told = match self.defs.get(number) {
             None => return Ok(()),
             Some(def) => struct_told(store, def.tag.as_bytes())?,
@@ -248,7 +229,9 @@ impl Known {
     }
 
     /// Reads the structs from one on, and those that they lead to.
-    fn read_structs(&mut self, store: &mut PsStore, from: usize) -> Result<(), Want> {
+    fn read_structs(&mut self, store: &mut PsStore, from: usize) -> Result<(), Want>
+        ensures closed { closed_part store.new ≡ closed_part store.old }
+    {
         for number in from..MOST_STRUCTS {
             if number >= self.defs.len() {
                 return Ok(());
@@ -264,19 +247,13 @@ impl Known {
         match defs.get(number) {
             None => true,
             Some(def) => {
-                small_size(defs, &CType::Struct(number as u32 & 0x7fff_ffff)).is_some()
+                small_size(defs, &CType::Struct(as_number(number))).is_some()
                     && def
                         .members
                         .as_slice()
                         .iter()
                         .all(|member| small_size(defs, &member.ctype).is_some())
-                    && struct_depth(
-                        defs,
-                        &mut self.heights,
-                        DEEPEST,
-                        number as u32 & 0x7fff_ffff,
-                    )
-                    .is_some()
+                    && struct_depth(defs, &mut self.heights, DEEPEST, as_number(number)).is_some()
             }
         }
     }
@@ -305,9 +282,11 @@ impl Known {
     }
 
     /// A type of the table with every struct that it leads to.
-    fn whole_type(&mut self, store: &mut PsStore, t: DictId) -> Result<CType, Want> {
+    fn whole_type(&mut self, store: &mut PsStore, t: DictId) -> Result<CType, Want>
+        ensures closed { closed_part store.new ≡ closed_part store.old }
+    {
         let from = self.defs.len();
-        let ctype = self.read(store, DEEPEST, t)?;
+        let ctype = read(self, store, DEEPEST, t)?;
         self.read_structs(store, from)?;
         self.check_type(&ctype)?;
         self.check_structs()?;
@@ -320,7 +299,9 @@ impl Known {
         store: &mut PsStore,
         name: Text,
         symbol: DictId,
-    ) -> Result<Symbol, Want> {
+    ) -> Result<Symbol, Want>
+        ensures closed { closed_part store.new ≡ closed_part store.old }
+    {
         if is_function(store, symbol)? {
             return Ok(Symbol {
                 name,
@@ -341,7 +322,9 @@ impl Known {
     }
 
     /// Reads the struct with a tag and those that it leads to.
-    pub fn tag_told(&mut self, store: &mut PsStore, tag: &[u8]) -> Result<(), Want> {
+    pub fn tag_told(&mut self, store: &mut PsStore, tag: &[u8]) -> Result<(), Want>
+        ensures closed { closed_part store.new ≡ closed_part store.old }
+    {
         let from = self.defs.len();
         let name = store.make_name(tag)?;
         self.number_of(store, name)?;
@@ -353,4 +336,45 @@ impl Known {
     pub fn into_defs(self) -> Vec<StructDef> {
         self.defs
     }
+}
+
+/// A type of the table, of which at most so many levels are read.
+#[cycle(reading)]
+fn read(known: &mut Known, store: &mut PsStore, deep: u32, t: DictId) -> Result<CType, Want>
+    ensures closed { closed_part store.new ≡ closed_part store.old }
+{
+    if deep == 0 {
+        return Err(Want::Lacks(Lack::TooDeep));
+    }
+    match type_kind(store, t)? {
+        TypeKind::Int => Ok(CType::Int),
+        TypeKind::Unsigned => Ok(CType::Unsigned),
+        TypeKind::Char => Ok(CType::Char),
+        TypeKind::Struct => known.read_tagged(store, t),
+        TypeKind::Pointer => {
+            let to = dict_at(store, t, b"to")?;
+            read_pointer(known, store, deep, to)
+        }
+        TypeKind::Array => {
+            let item = dict_at(store, t, b"to")?;
+            let count = number_at(store, t, b"count")?;
+            let read = read(known, store, deep - 1, item)?;
+            Ok(array_of(known.alloc, read, count)?)
+        }
+    }
+}
+
+/// A pointer to a type; one to a struct leads no deeper.
+#[cycle(reading)]
+fn read_pointer(known: &mut Known, store: &mut PsStore, deep: u32, to: DictId) -> Result<CType, Want>
+    ensures closed { closed_part store.new ≡ closed_part store.old }
+{
+    if deep == 0 {
+        return Err(Want::Lacks(Lack::TooDeep));
+    }
+    let target = match type_kind(store, to)? {
+        TypeKind::Struct => known.read_tagged(store, to)?,
+        _ => read(known, store, deep - 1, to)?,
+    };
+    Ok(pointer_to(known.alloc, target)?)
 }

@@ -27,69 +27,69 @@ impl Gathered {
         self.leaves.push(Leaf { at, kind })?;
         Ok(())
     }
+}
 
-    /// Adds the leaves of a type that stands at an offset.
-    #[cycle(gathering)]
-    fn add_type(
-        &mut self,
-        defs: &[StructDef],
-        deep: u32,
-        t: &CType,
-        at: u32,
-    ) -> Result<(), AllocError> {
-        if deep == 0 || self.parts >= MOST_PARTS {
-            return Err(AllocError);
-        }
-        self.parts = self.parts.saturating_add(1);
-        match t {
-            CType::Char => self.add(at, Kind::Byte),
-            CType::Int | CType::Unsigned => self.add(at, Kind::Word),
-            CType::Pointer(_) => self.add(at, Kind::Address),
-            CType::Void => Ok(()),
-            CType::Array(item, n) => self.add_items(defs, deep, item, *n, at),
-            CType::Struct(s) => self.add_members(defs, deep, *s, at),
-        }
+/// Adds the leaves of a type that stands at an offset.
+#[cycle(gathering)]
+fn add_type(
+    gathered: &mut Gathered,
+    defs: &[StructDef],
+    deep: u32,
+    t: &CType,
+    at: u32,
+) -> Result<(), AllocError> {
+    if deep == 0 || gathered.parts >= MOST_PARTS {
+        return Err(AllocError);
     }
+    gathered.parts = gathered.parts.saturating_add(1);
+    match t {
+        CType::Char => gathered.add(at, Kind::Byte),
+        CType::Int | CType::Unsigned => gathered.add(at, Kind::Word),
+        CType::Pointer(_) => gathered.add(at, Kind::Address),
+        CType::Void => Ok(()),
+        CType::Array(item, n) => add_items(gathered, defs, deep, item, *n, at),
+        CType::Struct(s) => add_members(gathered, defs, deep, *s, at),
+    }
+}
 
-    /// Adds the leaves of so many items, one behind the other.
-    #[cycle(gathering)]
-    fn add_items(
-        &mut self,
-        defs: &[StructDef],
-        deep: u32,
-        item: &CType,
-        n: u32,
-        at: u32,
-    ) -> Result<(), AllocError> {
-        if deep == 0 {
-            return Err(AllocError);
-        }
-        let size = size_of(item, defs).unwrap_or(0);
-        let mut at = at;
-        for _ in 0..n {
-            self.add_type(defs, deep - 1, item, at)?;
-            at = at.wrapping_add(size);
-        }
-        Ok(())
+/// Adds the leaves of so many items, one behind the other.
+#[cycle(gathering)]
+fn add_items(
+    gathered: &mut Gathered,
+    defs: &[StructDef],
+    deep: u32,
+    item: &CType,
+    n: u32,
+    at: u32,
+) -> Result<(), AllocError> {
+    if deep == 0 {
+        return Err(AllocError);
     }
+    let size = size_of(item, defs).unwrap_or(0);
+    let mut at = at;
+    for _ in 0..n {
+        add_type(gathered, defs, deep - 1, item, at)?;
+        at = at.wrapping_add(size);
+    }
+    Ok(())
+}
 
-    /// Adds the leaves of the members of a struct.
-    #[cycle(gathering)]
-    fn add_members(
-        &mut self,
-        defs: &[StructDef],
-        deep: u32,
-        s: u32,
-        at: u32,
-    ) -> Result<(), AllocError> {
-        if deep == 0 {
-            return Err(AllocError);
-        }
-        for member in members(defs, s) {
-            self.add_type(defs, deep - 1, &member.ctype, at.wrapping_add(member.at))?;
-        }
-        Ok(())
+/// Adds the leaves of the members of a struct.
+#[cycle(gathering)]
+fn add_members(
+    gathered: &mut Gathered,
+    defs: &[StructDef],
+    deep: u32,
+    s: u32,
+    at: u32,
+) -> Result<(), AllocError> {
+    if deep == 0 {
+        return Err(AllocError);
     }
+    for member in members(defs, s) {
+        add_type(gathered, defs, deep - 1, &member.ctype, at.wrapping_add(member.at))?;
+    }
+    Ok(())
 }
 
 /// The leaves of a type in order. There is no memory for a type whose leaves overlap to more than four million parts.
@@ -98,7 +98,7 @@ pub fn leaves_of(alloc: Global, defs: &[StructDef], t: &CType) -> Result<Vec<Lea
         leaves: Vec::new(alloc),
         parts: 0,
     };
-    gathered.add_type(defs, DEEPEST, t, 0)?;
+    add_type(&mut gathered, defs, DEEPEST, t, 0)?;
     Ok(gathered.leaves)
 }
 

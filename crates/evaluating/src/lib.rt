@@ -3,7 +3,6 @@
 #![tactic(auto)]
 
 mod apart;
-mod changes;
 mod commands;
 mod depths;
 mod dressing;
@@ -12,6 +11,7 @@ mod leaves;
 mod reading;
 mod running;
 mod showing;
+mod storing;
 
-pub use changes::{Changes, Leaving, store_all};
 pub use commands::{assignment, coding, evaluating};
+pub use storing::{Changes, Leaving, store_all};

@@ -1,5 +1,9 @@
 // How the text of a command is read: its frame, its grammar, its names and tags by the table, and the typing rules.
 
+ghost use Rattle.std.specs.Prelude.{◌≡◌, ◌≤◌};
+ghost use Rattle.ps_store.specs.Store.{closed_part};
+ghost use Rattle.ps_store.specs.Settled.{Settled};
+
 use crate::known::{Known, Want, wanted};
 use abs_mem::AbsMem;
 use c_judge::Mode;
@@ -43,7 +47,10 @@ fn answer_name(
     known: &mut Known,
     server: &mut Server,
     name: Text,
-) -> Result<(), AskFault> {
+) -> Result<(), AskFault>
+    ensures steps { inquiry.new.steps ≡ inquiry.old.steps }
+    ensures closed { closed_part inquiry.new.core.store ≡ closed_part inquiry.old.core.store }
+{
     let symbol = match symbol_found(inquiry, scope, name.as_bytes()) {
         Err(fault) => return Err(fault),
         Ok(None) => return Err(AskFault::Refused(Cause::NoScope)),
@@ -64,7 +71,10 @@ fn answer_tag(
     known: &mut Known,
     server: &mut Server,
     tag: &Text,
-) -> Result<(), AskFault> {
+) -> Result<(), AskFault>
+    ensures steps { inquiry.new.steps ≡ inquiry.old.steps }
+    ensures closed { closed_part inquiry.new.core.store ≡ closed_part inquiry.old.core.store }
+{
     match known.tag_told(&mut inquiry.core.store, tag.as_bytes()) {
         Err(want) => Err(wanted(want)),
         Ok(()) => match server.answer_tag(known.defs.as_slice()) {
@@ -80,7 +90,10 @@ fn serve(
     scope: Option<DictId>,
     known: &mut Known,
     server: Server,
-) -> Result<(Text, CType), AskFault> {
+) -> Result<(Text, CType), AskFault>
+    ensures steps { inquiry.new.steps ≡ inquiry.old.steps }
+    ensures closed { closed_part inquiry.new.core.store ≡ closed_part inquiry.old.core.store }
+{
     let mut server = server;
     for _ in 0..=MOST_MENTIONS {
         match server.advance() {
@@ -112,7 +125,10 @@ fn read_in(
     frame: Frame,
     scope: Option<DictId>,
     server: Server,
-) -> Result<ReadText, AskFault> {
+) -> Result<ReadText, AskFault>
+    ensures steps { inquiry.new.steps ≡ inquiry.old.steps }
+    ensures closed { closed_part inquiry.new.core.store ≡ closed_part inquiry.old.core.store }
+{
     let mut known = match Known::new(alloc, &mut inquiry.core.store) {
         Ok(known) => known,
         Err(want) => return Err(wanted(want)),
@@ -130,13 +146,19 @@ fn read_in(
 }
 
 /// Reads a text in the frame with a number: the frame, the grammar, the names and tags in their order, and then the typing rules.
+#[tactic(auto, using(ps_store::proofs::Settling::settled_same, ps_store::proofs::Settling::settled_on))]
 pub fn read_text<W: AbsMem + Drop>(
     inquiry: &mut Inquiry,
     talk: &mut Operators<W>,
     number: u32,
     text: &[u8],
     mode: Mode,
-) -> Result<ReadText, AskFault> {
+) -> Result<ReadText, AskFault>
+    requires within { inquiry.old.steps.taken ≤ inquiry.old.steps.limit }
+    ensures within { inquiry.new.steps.taken ≤ inquiry.new.steps.limit }
+    ensures limit { inquiry.new.steps.limit ≡ inquiry.old.steps.limit }
+    ensures closed { Settled (closed_part inquiry.old.core.store) (closed_part inquiry.new.core.store) }
+{
     let alloc = inquiry.core.operands.allocator();
     let frame = match frame_found(inquiry, talk, number) {
         Err(fault) => return Err(fault),

@@ -1,5 +1,9 @@
 // Running the PostScript of an expression, and what it leaves.
 
+ghost use Rattle.std.specs.Prelude.{◌≡◌, ◌≤◌};
+ghost use Rattle.ps_store.specs.Store.{closed_part};
+ghost use Rattle.ps_store.specs.Settled.{Settled};
+
 use crate::known::{Want, wanted};
 use crate::reading::ReadText;
 use abs_mem::{AbsMem, Locate};
@@ -16,11 +20,17 @@ use ldb_words::Undef;
 use table_model::Found;
 
 /// Runs the PostScript of a text in its frame.
+#[tactic(auto, using(ps_store::proofs::Settling::settled_same, ps_store::proofs::Settling::settled_on))]
 pub fn run_text<W: AbsMem + Drop>(
     inquiry: &mut Inquiry,
     talk: &mut Operators<W>,
     read: &ReadText,
-) -> Result<(), AskFault> {
+) -> Result<(), AskFault>
+    requires within { inquiry.old.steps.taken ≤ inquiry.old.steps.limit }
+    ensures within { inquiry.new.steps.taken ≤ inquiry.new.steps.limit }
+    ensures limit { inquiry.new.steps.limit ≡ inquiry.old.steps.limit }
+    ensures closed { Settled (closed_part inquiry.old.core.store) (closed_part inquiry.new.core.store) }
+{
     talk.view.standing = Standing::InFrame {
         frame: read.frame,
         scope: read.scope,
@@ -61,11 +71,17 @@ pub fn place_left(core: &PsCore, depth: usize) -> Result<Place, PsError> {
 }
 
 /// The object to which an address belongs, if there is one.
+#[tactic(auto, using(ps_store::proofs::Settling::settled_same, ps_store::proofs::Settling::settled_on))]
 fn object_at<W: AbsMem + Drop>(
     inquiry: &mut Inquiry,
     talk: &mut Operators<W>,
     address: u32,
-) -> Result<Option<Found>, AskFault> {
+) -> Result<Option<Found>, AskFault>
+    requires within { inquiry.old.steps.taken ≤ inquiry.old.steps.limit }
+    ensures within { inquiry.new.steps.taken ≤ inquiry.new.steps.limit }
+    ensures limit { inquiry.new.steps.limit ≡ inquiry.old.steps.limit }
+    ensures closed { Settled (closed_part inquiry.old.core.store) (closed_part inquiry.new.core.store) }
+{
     let mut locator = Locator {
         target: talk.view.target,
         context: talk.view.context,
@@ -83,11 +99,17 @@ fn object_at<W: AbsMem + Drop>(
 }
 
 /// Whether a place may be written: no string literal is.
+#[tactic(auto, using(ps_store::proofs::Settling::settled_same, ps_store::proofs::Settling::settled_on))]
 pub fn check_writable<W: AbsMem + Drop>(
     inquiry: &mut Inquiry,
     talk: &mut Operators<W>,
     place: Place,
-) -> Result<(), AskFault> {
+) -> Result<(), AskFault>
+    requires within { inquiry.old.steps.taken ≤ inquiry.old.steps.limit }
+    ensures within { inquiry.new.steps.taken ≤ inquiry.new.steps.limit }
+    ensures limit { inquiry.new.steps.limit ≡ inquiry.old.steps.limit }
+    ensures closed { Settled (closed_part inquiry.old.core.store) (closed_part inquiry.new.core.store) }
+{
     if place.space != Space::Memory || place.at == 0 {
         return Ok(());
     }

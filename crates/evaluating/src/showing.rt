@@ -1,5 +1,9 @@
 // Showing the value that a text left.
 
+ghost use Rattle.std.specs.Prelude.{◌≡◌, ◌≤◌};
+ghost use Rattle.ps_store.specs.Store.{closed_part};
+ghost use Rattle.ps_store.specs.Settled.{Settled};
+
 use crate::apart::Apart;
 use crate::depths::is_struct;
 use crate::dressing::type_of_value;
@@ -24,7 +28,7 @@ const MOST_STEPS: u32 = 10_000_000;
 /// The place of what is shown: of a struct where it stands, once all its leaves were fetched; any other value is put into the immediate cell.
 fn shown_place<W: AbsMem + Drop>(
     alloc: Global,
-    inquiry: &mut Inquiry,
+    inquiry: &Inquiry,
     talk: &mut Operators<W>,
     read: &ReadText,
 ) -> Result<Place, AskFault> {
@@ -68,7 +72,10 @@ fn stand(
     prelude: DictId,
     place: Place,
     ctype: DictId,
-) -> Result<(), AllocError> {
+) -> Result<(), AllocError>
+    ensures steps { inquiry.new.steps ≡ inquiry.old.steps }
+    ensures closed { closed_part inquiry.new.core.store ≡ closed_part inquiry.old.core.store }
+{
     inquiry.core.dictionaries.clear();
     inquiry.core.dictionaries.push(prelude)?;
     inquiry.core.operands.clear();
@@ -81,11 +88,17 @@ fn stand(
 }
 
 /// Runs a printer on the operands. Its own steps don't count for the command, but those of the units that it runs do.
+#[tactic(auto, using(ps_store::proofs::Settling::settled_same, ps_store::proofs::Settling::settled_on))]
 fn run_printer<W: AbsMem + Drop>(
     inquiry: &mut Inquiry,
     talk: &mut Operators<W>,
     printer: PsObj,
-) -> Result<(), AskFault> {
+) -> Result<(), AskFault>
+    requires within { inquiry.old.steps.taken ≤ inquiry.old.steps.limit }
+    ensures within { inquiry.new.steps.taken ≤ inquiry.new.steps.limit }
+    ensures limit { inquiry.new.steps.limit ≡ inquiry.old.steps.limit }
+    ensures closed { Settled (closed_part inquiry.old.core.store) (closed_part inquiry.new.core.store) }
+{
     let mut steps = Steps {
         taken: 0,
         limit: MOST_STEPS,
@@ -95,7 +108,7 @@ fn run_printer<W: AbsMem + Drop>(
         counted: inquiry.steps,
     };
     let ended = run(&mut inquiry.core, &mut apart, printer, &mut steps);
-    inquiry.steps = apart.counted;
+    inquiry.steps.taken = apart.counted.taken.min(inquiry.steps.limit);
     match ended {
         Ok(()) => Ok(()),
         Err(fault) => Err(fault_of_run(fault, talk.fault.take())),
@@ -103,12 +116,18 @@ fn run_printer<W: AbsMem + Drop>(
 }
 
 /// Shows what a text left: the text of its value.
+#[tactic(auto, using(ps_store::proofs::Settling::settled_same, ps_store::proofs::Settling::settled_on))]
 pub fn show<W: AbsMem + Drop>(
     alloc: Global,
     inquiry: &mut Inquiry,
     talk: &mut Operators<W>,
     read: &ReadText,
-) -> Result<Text, AskFault> {
+) -> Result<Text, AskFault>
+    requires within { inquiry.old.steps.taken ≤ inquiry.old.steps.limit }
+    ensures within { inquiry.new.steps.taken ≤ inquiry.new.steps.limit }
+    ensures limit { inquiry.new.steps.limit ≡ inquiry.old.steps.limit }
+    ensures closed { Settled (closed_part inquiry.old.core.store) (closed_part inquiry.new.core.store) }
+{
     let place = match shown_place(alloc, inquiry, talk, read) {
         Err(fault) => return Err(fault),
         Ok(place) => place,

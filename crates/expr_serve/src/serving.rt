@@ -1,5 +1,12 @@
 // Serving an expression: its names and tags are asked for, and then its text is made.
 
+ghost use Rattle.std.specs.Prelude.{◌≡◌, ◌≤◌, length, List, IfOk, OnOk, Err};
+ghost use Rattle.c_lex.specs.declared.token.Token.{Token as Piece};
+ghost use Rattle.c_lex.specs.Grammar.{HasTokens};
+ghost use Rattle.c_symbol.specs.Terminals.{terminals};
+ghost use Rattle.expr_serve.specs.declared.fault.Refuse.TheVariants.{Syntax as NoExpression};
+ghost use Rattle.expr_serve.specs.Texts.{AreExpression, IsExpression};
+
 use crate::coder::text_of;
 use crate::fault::Refuse;
 use crate::mention::{Mention, mentions};
@@ -41,35 +48,54 @@ pub enum Turn {
 }
 
 /// The tokens of a text of at most 1,000 bytes.
-fn tokens_of(alloc: Global, text: &[u8]) -> Result<Vec<Token>, Refuse> {
+#[tactic(auto, using(crate::proofs::Texts::none_with_fault, crate::proofs::Texts::none_too_many))]
+fn tokens_of(alloc: Global, text: &[u8]) -> Result<Vec<Token>, Refuse>
+    ensures tokens { IfOk result (λ found. HasTokens text.now found.items) }
+    ensures none { result ≡ Err NoExpression → length text.now ≤ 1000 → (ts : List Piece) → HasTokens text.now ts → ⊥ }
+{
     if text.len() > MOST_BYTES {
         return Err(Refuse::Syntax);
     }
     match tokens(alloc, text) {
         Ok(found) => Ok(found),
         Err(LexFault::NoMemory) => Err(Refuse::NoMemory),
-        Err(LexFault::Bad { .. } | LexFault::TooMany) => Err(Refuse::Syntax),
+        Err(LexFault::Bad { .. }) => Err(Refuse::Syntax),
+        Err(LexFault::TooMany) => Err(Refuse::Syntax),
     }
 }
 
 /// The tree of a text with these tokens.
-fn tree_of(alloc: Global, text: &[u8], tokens: &[Token]) -> Result<Expr, Refuse> {
+#[tactic(auto, using(crate::proofs::Texts::none_deep))]
+fn tree_of(alloc: Global, text: &[u8], tokens: &[Token]) -> Result<Expr, Refuse>
+    ensures tree { OnOk result (AreExpression (terminals text.now tokens.now)) }
+    ensures none { result ≡ Err NoExpression → AreExpression (terminals text.now tokens.now) → ⊥ }
+{
     match parse_expr(alloc, text, tokens) {
         Ok(expr) => Ok(expr),
         Err(SynFault::NoMemory) => Err(Refuse::NoMemory),
-        Err(SynFault::Syntax(_) | SynFault::Deep(_)) => Err(Refuse::Syntax),
+        Err(SynFault::Syntax(_)) => Err(Refuse::Syntax),
+        Err(SynFault::Deep(_)) => Err(Refuse::Syntax),
     }
 }
 
 /// The names and tags of a text, which is an expression.
-fn mentions_of(alloc: Global, text: &[u8]) -> Result<Vec<Mention>, Refuse> {
-    let found = tokens_of(alloc, text)?;
+#[tactic(auto, using(crate::proofs::Texts::none_by_tokens))]
+fn mentions_of(alloc: Global, text: &[u8]) -> Result<Vec<Mention>, Refuse>
+    ensures text { OnOk result (IsExpression text.now) }
+    ensures none { result ≡ Err NoExpression → length text.now ≤ 1000 → IsExpression text.now → ⊥ }
+{
+    let found = match tokens_of(alloc, text) {
+        Ok(found) => found,
+        Err(refused) => return Err(refused),
+    };
     match tree_of(alloc, text, found.as_slice()) {
         Ok(expr) => discard_expr(expr),
         Err(refused) => return Err(refused),
     }
-    let mentions = mentions(alloc, text, found.as_slice())?;
-    Ok(mentions)
+    match mentions(alloc, text, found.as_slice()) {
+        Ok(mentions) => Ok(mentions),
+        Err(_) => Err(Refuse::NoMemory),
+    }
 }
 
 /// Why the checker refused.
@@ -156,8 +182,9 @@ fn copied_def(alloc: Global, def: &StructDef) -> Result<StructDef, AllocError> {
 
 /// Adds copies of the structs behind those that are there.
 fn add_defs(alloc: Global, defs: &mut Vec<StructDef>, all: &[StructDef]) -> Result<(), AllocError> {
-    for (number, def) in all.iter().enumerate() {
-        if number >= defs.len() {
+    let known = defs.len();
+    if let Some(more) = all.get(known..) {
+        for def in more {
             let copy = copied_def(alloc, def)?;
             defs.push(copy)?;
         }
@@ -183,18 +210,26 @@ fn is_known(mention: &Mention, symbols: &[Symbol], defs: &[StructDef]) -> bool {
 
 impl Server {
     /// Begins to serve a text. Syntax comes where it has more than 1,000 bytes or is no expression with a nesting of at most 64.
-    pub fn start(alloc: Global, text: &[u8], mode: Mode) -> Result<Server, Refuse> {
-        let mentions = mentions_of(alloc, text)?;
-        let text = Text::from_slice(alloc, text)?;
-        Ok(Server {
-            alloc,
-            text,
-            mode,
-            mentions,
-            symbols: Vec::new(alloc),
-            defs: Vec::new(alloc),
-            is_unknown: false,
-        })
+    pub fn start(alloc: Global, text: &[u8], mode: Mode) -> Result<Server, Refuse>
+        ensures text { OnOk result (IsExpression text.now) }
+        ensures none { result ≡ Err NoExpression → length text.now ≤ 1000 → IsExpression text.now → ⊥ }
+    {
+        let mentions = match mentions_of(alloc, text) {
+            Ok(mentions) => mentions,
+            Err(refused) => return Err(refused),
+        };
+        match Text::from_slice(alloc, text) {
+            Err(_) => Err(Refuse::NoMemory),
+            Ok(text) => Ok(Server {
+                alloc,
+                text,
+                mode,
+                mentions,
+                symbols: Vec::new(alloc),
+                defs: Vec::new(alloc),
+                is_unknown: false,
+            }),
+        }
     }
 
     /// The next name or tag that was not answered, if there is one.
