@@ -14,7 +14,7 @@ use Rattle.abs_mem.specs.declared.memory.MemFault.TheVariants as mem
 use Rattle.abs_mem.proofs.Wires.{in_memory, put_back}
 use Rattle.wire_talk.specs.declared.fault.TalkFault.{TalkFault}
 use Rattle.wire_talk.specs.declared.fault.TalkFault.TheVariants as talk
-use Rattle.table_asks.specs.declared.row.Point.{Point}
+use Rattle.table_points.specs.declared.row.Point.{Point}
 use Rattle.debug_side.specs.declared.words.TheConstants.{PC_OFFSET, NEXT_PC_OFFSET}
 use Rattle.debug_side.specs.Meant.{address_of}
 use Rattle.debug_side.specs.Wrote.{Writes, none_written, writes, Wrote, or_same, word_put, words_put, words_put_back, passed, Puts, LedTalk, where_it_can}
