@@ -25,6 +25,7 @@ use Rattle.table_model.specs.Reading.{entry, or_missing}
 use Rattle.ps_places.specs.Lacks.{looked}
 use Rattle.ps_bare.specs.declared.dialect.NoTarget.{NoTarget}
 use Rattle.ps_bare.specs.Bare.{OperatesBare}
+use Rattle.ps_bare.proofs.Answering.{unlinked}
 use Rattle.ps_bare.specs.Deferred.{FUNCTIONS, unit_of, if_text, deferred_unit}
 
 abbrev gives : DictId → Result DictId PsError
@@ -102,13 +103,6 @@ with_link n Link h = refl
 with_link zero NoMemory h = h
 with_link (suc n) NoMemory h = h
 
-plain_link : (n k : ℕ) (r : Answer) → OperatesBare n r k → r ≡ Err Link → ⊥
-plain_link n k (Ok x) h e = let j = e in cc
-plain_link n k (Err (Error f)) h e = let j = e in cc
-plain_link n k (Err NoMemory) h e = let j = e in cc
-plain_link n k (Err Spent) h e = h.1
-plain_link n k (Err Link) h e = h.1
-
 settled_link : (given : Answer) (c : PsCore) (answer : Answer) (c' : PsCore) → Settles given c answer c' → answer ≡ Err Link → given ≡ Err Link
 settled_link (Ok x) c answer c' s h = absurd (let a = s.0 in cc)
 settled_link (Err (Error e)) c (Ok x) c' s h = absurd (let a = h in cc)
@@ -121,7 +115,7 @@ settled_link (Err Link) c answer c' s h = refl
 settled_link (Err NoMemory) c answer c' s h = absurd (let a = s.0 in cc)
 
 asked_link : (d : NoTarget) (c : PsCore) (op n : ℕ) (answer : Answer) (d' : NoTarget) (c' : PsCore) (k : ℕ) → Asked Op' d c op n answer d' c' k → answer ≡ Err Link → ⊥
-asked_link d c op n answer d' c' k a h = plain_link n k a.given a.operates (settled_link a.given a.core answer c' a.settles h)
+asked_link d c op n answer d' c' k a h = unlinked a.given a.operates.1 (settled_link a.given a.core answer c' a.settles h)
 
 run_link : (n : ℕ) (d : NoTarget) (c : PsCore) (r : Answer) (m : ℕ) (d' : NoTarget) (c' : PsCore) → Runs Op' n d c r m d' c' → r ≡ Err Link → ⊥
 run_link _ _ _ _ _ _ _ (runs.spent d c) h = let k = h in cc

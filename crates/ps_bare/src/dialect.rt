@@ -13,19 +13,25 @@ use ps_run::{Dialect, PsCore, PsError, PsFault, Steps};
 
 /// Runs the operator with a number once.
 fn act(core: &mut PsCore, memory: &mut Register<NoMem>, op: u16) -> Result<(), PsFault>
-    ensures plain { Plain result }
     ensures closed { closed_part core.new.store ≡ closed_part core.old.store }
 {
-    if op <= 7 {
-        run_on_place(core, memory, op)
-    } else if op <= 22 {
-        run_on_words(core, op)
-    } else if op <= 27 || op == 32 {
-        run_on_object(core, op)
-    } else if op <= 31 {
-        append(core, memory, op)
-    } else {
-        Err(PsFault::Error(PsError::Undefined))
+    match op {
+        0..=7 => run_on_place(core, memory, op),
+        8..=22 => run_on_words(core, op),
+        23..=27 | 32 => run_on_object(core, op),
+        28..=31 => append(core, memory, op),
+        _ => Err(PsFault::Error(PsError::Undefined)),
+    }
+}
+
+/// An operator's answer. No operator spends steps or asks a link where there is no target.
+fn calm(answer: Result<(), PsFault>) -> Result<(), PsFault>
+    ensures { Plain result }
+{
+    match answer {
+        Ok(()) => Ok(()),
+        Err(PsFault::Error(error)) => Err(PsFault::Error(error)),
+        Err(PsFault::Spent | PsFault::Link | PsFault::NoMemory) => Err(PsFault::NoMemory),
     }
 }
 
@@ -53,7 +59,7 @@ impl Dialect for NoTarget {
         };
         let answer = act(core, &mut memory, op);
         self.cell = memory.cell;
-        answer
+        calm(answer)
     }
 
     ghost stays = { λ p. refl };

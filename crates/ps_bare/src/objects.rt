@@ -2,7 +2,7 @@
 
 ghost use Rattle.std.specs.Prelude.{◌≡◌};
 ghost use Rattle.ps_store.specs.Store.{closed_part};
-ghost use Rattle.ps_bare.specs.Bare.{Plain, IsOnObject};
+ghost use Rattle.ps_bare.specs.Bare.{IsOnObject};
 
 use ps_leaves::{leave_leaf, leave_run};
 use ps_places::top_word;
@@ -15,7 +15,6 @@ use ps_symbols::find_struct;
 
 /// `ptradd`.
 fn add(core: &mut PsCore) -> Result<(), PsFault>
-    ensures plain { Plain result }
     ensures closed { closed_part core.new.store ≡ closed_part core.old.store }
 {
     match sum_operands(core) {
@@ -26,7 +25,6 @@ fn add(core: &mut PsCore) -> Result<(), PsFault>
 
 /// `ptrsub`.
 fn subtract(core: &mut PsCore) -> Result<(), PsFault>
-    ensures plain { Plain result }
     ensures closed { closed_part core.new.store ≡ closed_part core.old.store }
 {
     match difference_operands(core) {
@@ -37,7 +35,6 @@ fn subtract(core: &mut PsCore) -> Result<(), PsFault>
 
 /// `ptrcmp`.
 fn compare(core: &mut PsCore) -> Result<(), PsFault>
-    ensures plain { Plain result }
     ensures closed { closed_part core.new.store ≡ closed_part core.old.store }
 {
     match comparison_operands(core) {
@@ -48,7 +45,6 @@ fn compare(core: &mut PsCore) -> Result<(), PsFault>
 
 /// `Leaf`.
 fn take_leaf(core: &mut PsCore) -> Result<(), PsFault>
-    ensures plain { Plain result }
     ensures closed { closed_part core.new.store ≡ closed_part core.old.store }
 {
     leave_leaf(core, None)
@@ -56,7 +52,6 @@ fn take_leaf(core: &mut PsCore) -> Result<(), PsFault>
 
 /// `charrun`.
 fn measure_run(core: &mut PsCore) -> Result<(), PsFault>
-    ensures plain { Plain result }
     ensures closed { closed_part core.new.store ≡ closed_part core.old.store }
 {
     match top_word(core) {
@@ -68,7 +63,6 @@ fn measure_run(core: &mut PsCore) -> Result<(), PsFault>
 /// An operator on pointers: `ptradd` to `Leaf`, `charrun`; and `Struct`.
 pub fn run_on_object(core: &mut PsCore, op: u16) -> Result<(), PsFault>
     requires { IsOnObject op }
-    ensures plain { Plain result }
     ensures closed { closed_part core.new.store ≡ closed_part core.old.store }
 {
     match op {

@@ -2,7 +2,7 @@
 
 ghost use Rattle.std.specs.Prelude.{◌≡◌, ◌≤◌};
 ghost use Rattle.ps_store.specs.Store.{closed_part};
-ghost use Rattle.ps_bare.specs.Bare.{Plain, quiet};
+ghost use Rattle.ps_bare.specs.Bare.{quiet};
 
 use abs_mem::{NoMem, Register};
 use ps_places::{Trouble, absolute, fetch, immediate, local, register, store};
@@ -22,7 +22,6 @@ pub fn quiet(answer: Result<(), Trouble>) -> Result<(), PsFault>
 
 /// `Immediate`.
 fn place_value(core: &mut PsCore, memory: &mut Register<NoMem>) -> Result<(), PsFault>
-    ensures plain { Plain result }
     ensures closed { closed_part core.new.store ≡ closed_part core.old.store }
 {
     quiet(immediate(core, memory))
@@ -30,7 +29,6 @@ fn place_value(core: &mut PsCore, memory: &mut Register<NoMem>) -> Result<(), Ps
 
 /// `fetch`.
 fn fetch_bare(core: &mut PsCore, memory: &mut Register<NoMem>) -> Result<(), PsFault>
-    ensures plain { Plain result }
     ensures closed { closed_part core.new.store ≡ closed_part core.old.store }
 {
     quiet(fetch(core, memory))
@@ -38,7 +36,6 @@ fn fetch_bare(core: &mut PsCore, memory: &mut Register<NoMem>) -> Result<(), PsF
 
 /// `store`.
 fn store_bare(core: &mut PsCore, memory: &mut Register<NoMem>) -> Result<(), PsFault>
-    ensures plain { Plain result }
     ensures closed { closed_part core.new.store ≡ closed_part core.old.store }
 {
     quiet(store(core, memory, false))
@@ -46,7 +43,6 @@ fn store_bare(core: &mut PsCore, memory: &mut Register<NoMem>) -> Result<(), PsF
 
 /// `Where`, in no frame.
 fn find_nowhere(core: &mut PsCore) -> Result<(), PsFault>
-    ensures plain { Plain result }
     ensures closed { closed_part core.new.store ≡ closed_part core.old.store }
 {
     match top_name(core) {
@@ -58,7 +54,6 @@ fn find_nowhere(core: &mut PsCore) -> Result<(), PsFault>
 /// An operator on a place: `Anchor` to `store`.
 pub fn run_on_place(core: &mut PsCore, memory: &mut Register<NoMem>, op: u16) -> Result<(), PsFault>
     requires { op ≤ 7 }
-    ensures plain { Plain result }
     ensures closed { closed_part core.new.store ≡ closed_part core.old.store }
 {
     match op {

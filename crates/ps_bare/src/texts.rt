@@ -2,7 +2,6 @@
 
 ghost use Rattle.std.specs.Prelude.{◌≡◌, ◌≤◌};
 ghost use Rattle.ps_store.specs.Store.{closed_part};
-ghost use Rattle.ps_bare.specs.Bare.{Plain};
 
 use crate::places::quiet;
 use abs_mem::{NoMem, Register};
@@ -13,7 +12,6 @@ use ps_run::{PsCore, PsFault};
 
 /// `Put`.
 fn put_string(core: &mut PsCore) -> Result<(), PsFault>
-    ensures plain { Plain result }
     ensures closed { closed_part core.new.store ≡ closed_part core.old.store }
 {
     let mut out = Text::new(core.operands.allocator());
@@ -22,7 +20,6 @@ fn put_string(core: &mut PsCore) -> Result<(), PsFault>
 
 /// `PutChar`.
 fn put_character(core: &mut PsCore) -> Result<(), PsFault>
-    ensures plain { Plain result }
     ensures closed { closed_part core.new.store ≡ closed_part core.old.store }
 {
     let mut out = Text::new(core.operands.allocator());
@@ -31,7 +28,6 @@ fn put_character(core: &mut PsCore) -> Result<(), PsFault>
 
 /// `PutPointer`.
 fn put_address(core: &mut PsCore) -> Result<(), PsFault>
-    ensures plain { Plain result }
     ensures closed { closed_part core.new.store ≡ closed_part core.old.store }
 {
     let mut out = Text::new(core.operands.allocator());
@@ -40,7 +36,6 @@ fn put_address(core: &mut PsCore) -> Result<(), PsFault>
 
 /// `PutChars`.
 fn put_characters(core: &mut PsCore, memory: &mut Register<NoMem>) -> Result<(), PsFault>
-    ensures plain { Plain result }
     ensures closed { closed_part core.new.store ≡ closed_part core.old.store }
 {
     let mut out = Text::new(core.operands.allocator());
@@ -51,7 +46,6 @@ fn put_characters(core: &mut PsCore, memory: &mut Register<NoMem>) -> Result<(),
 pub fn append(core: &mut PsCore, memory: &mut Register<NoMem>, op: u16) -> Result<(), PsFault>
     requires from { 28 ≤ op }
     requires to { op ≤ 31 }
-    ensures plain { Plain result }
     ensures closed { closed_part core.new.store ≡ closed_part core.old.store }
 {
     match op {

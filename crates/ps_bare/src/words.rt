@@ -2,7 +2,6 @@
 
 ghost use Rattle.std.specs.Prelude.{◌≡◌, ◌≤◌};
 ghost use Rattle.ps_store.specs.Store.{closed_part};
-ghost use Rattle.ps_bare.specs.Bare.{Plain};
 
 use ps_run::{PsCore, PsFault};
 use ps_words::{WordOperator, compare_unsigned, negate, run_on_two};
@@ -11,7 +10,6 @@ use ps_words::{WordOperator, compare_unsigned, negate, run_on_two};
 pub fn run_on_words(core: &mut PsCore, op: u16) -> Result<(), PsFault>
     requires from { 8 ≤ op }
     requires to { op ≤ 22 }
-    ensures plain { Plain result }
     ensures closed { closed_part core.new.store ≡ closed_part core.old.store }
 {
     match op {

@@ -1,3 +1,2 @@
+pub mod Closing
 pub mod Faults
-pub mod Rows
-pub mod Meant

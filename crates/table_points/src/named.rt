@@ -1,11 +1,7 @@
 // The first point of a function by its name.
 
-ghost use Rattle.std.specs.Prelude.{◌≡◌, ◌∷◌, ◌++◌, [], ℕ, List, Some, Ok, codes, option_map};
-ghost use Rattle.table_read.specs.Reads.{in_ok};
-ghost use Rattle.table_model.specs.Reading.{truth_at, text_at, all_in, all_from};
-ghost use Rattle.table_model.specs.Places.{Named, called, called_in, point_of_named, chosen_of, function_point};
-ghost use Rattle.table_asks.specs.Rows.{row_in};
-ghost use Rattle.table_asks.specs.Meant.{named_of, meant_of, Adds};
+ghost use Rattle.std.specs.Prelude.{◌≡◌};
+ghost use Rattle.table_model.specs.Reading.{truth_at};
 
 use crate::row::Point;
 use ps_store::{DictId, PsObj, PsStore};
@@ -33,9 +29,7 @@ pub struct Meant {
 }
 
 /// One function more.
-fn add(meant: Meant, more: NamedFunction) -> Meant
-    ensures { (fs : List Named) → meant ≡ meant_of fs → result ≡ meant_of (fs ++ (named_of more ∷ [])) }
-{
+fn add(meant: Meant, more: NamedFunction) -> Meant {
     if !more.is_static {
         return Meant {
             external: meant.external.or(Some(more)),
@@ -72,9 +66,7 @@ fn add_called(
     unit: DictId,
     object: PsObj,
     meant: Meant,
-) -> Result<Meant, Lack>
-    ensures { (fs : List Named) → meant ≡ meant_of fs → Adds (called store.now name.now number unit object) fs result }
-{
+) -> Result<Meant, Lack> {
     let function = dict_in(object)?;
     let text = string_at(store, function, b"name")?;
     let is_static = truth_at(store, function, b"static")?;
@@ -101,9 +93,7 @@ fn add_functions(
     unit: DictId,
     functions: &[PsObj],
     before: Meant,
-) -> Result<Meant, Lack>
-    ensures { (fs : List Named) → before ≡ meant_of fs → Adds (all_in (called store.now name.now number unit) functions.now) fs result }
-{
+) -> Result<Meant, Lack> {
     let mut meant = before;
     for function in functions {
         meant = add_called(store, name, number, unit, *function, meant)?;
@@ -118,18 +108,14 @@ fn add_unit(
     number: usize,
     object: PsObj,
     before: Meant,
-) -> Result<Meant, Lack>
-    ensures { (fs : List Named) → before ≡ meant_of fs → Adds (called_in store.now name.now number object) fs result }
-{
+) -> Result<Meant, Lack> {
     let unit = dict_in(object)?;
     let functions = functions_of(store, number, unit)?;
     add_functions(store, name, number, unit, functions, before)
 }
 
 /// Which functions of the table have the name: all units are read.
-fn functions_named(store: &PsStore, name: &[u8], units: &[PsObj]) -> Result<Meant, Lack>
-    ensures { Adds (all_from (called_in store.now name.now) 0 units.now) [] result }
-{
+fn functions_named(store: &PsStore, name: &[u8], units: &[PsObj]) -> Result<Meant, Lack> {
     let mut meant = Meant {
         external: None,
         inner: None,
@@ -142,9 +128,7 @@ fn functions_named(store: &PsStore, name: &[u8], units: &[PsObj]) -> Result<Mean
 }
 
 /// The function that is meant: the external one, or else the first static one where one unit alone has any.
-fn chosen(meant: Meant) -> Option<NamedFunction>
-    ensures { (fs : List Named) → meant ≡ meant_of fs → option_map named_of result ≡ chosen_of fs }
-{
+fn chosen(meant: Meant) -> Option<NamedFunction> {
     match meant.external {
         Some(external) => Some(external),
         None => { if meant.several { None } else { meant.inner } }
@@ -152,9 +136,7 @@ fn chosen(meant: Meant) -> Option<NamedFunction>
 }
 
 /// The first point of a function; none where it has none.
-fn first_point(store: &PsStore, function: NamedFunction) -> Result<Option<Point>, Lack>
-    ensures { (text : List ℕ) → text_at store.now function.function (codes "name") ≡ Ok text → in_ok (option_map (row_in store.now)) result ≡ point_of_named store.now text (Some (named_of function)) }
-{
+fn first_point(store: &PsStore, function: NamedFunction) -> Result<Option<Point>, Lack> {
     let points = points_of(store, function.function)?;
     let Some(first) = points.first() else {
         return Ok(None);
@@ -175,10 +157,7 @@ fn first_point(store: &PsStore, function: NamedFunction) -> Result<Option<Point>
 }
 
 /// The point at which the body of the function with a name begins.
-#[tactic(auto, unfolding(table_model::specs::Places::function_point))]
-pub fn function_point(store: &PsStore, name: &[u8]) -> Result<Option<Point>, Lack>
-    ensures { in_ok (option_map (row_in store.now)) result ≡ function_point store.now name.now }
-{
+pub fn function_point(store: &PsStore, name: &[u8]) -> Result<Option<Point>, Lack> {
     let units = units_of(store)?;
     let meant = functions_named(store, name, units)?;
     match chosen(meant) {
