@@ -1,5 +1,5 @@
 -- A text has one reading.
-use Rattle.std.proofs.Common.{◌≡◌, ◌≤◌, ◌<◌, ℕ, List, length, ap, subst, Err, arith}
+use Rattle.std.proofs.Common.{◌≡◌, ◌<◌, ℕ, List, length, ap, subst, Err, arith}
 use Rattle.c_lex.specs.declared.token.Token.{Token}
 use Rattle.c_lex.specs.declared.token.Place.{Place}
 use Rattle.c_lex.specs.declared.token.LexFault.TheVariants.{TooMany}
