@@ -6,7 +6,7 @@
 # The samples that are named, or all of them, in the order in which they are best read.
 sample_names() {
   local name
-  [ $# -gt 0 ] || set -- first recursion structs bug files both hand
+  [ $# -gt 0 ] || set -- first recursion structs bug sum files both hand
   for name; do
     if [ ! -f "$name/words" ]; then
       echo "there is no sample $name" >&2
