@@ -2,16 +2,16 @@
 
 ghost use Rattle.std.specs.Prelude.{◌≡◌, ◌≤◌, IfErr};
 ghost use Rattle.ps_store.specs.Store.{closed_part};
-ghost use Rattle.ps_store.specs.Settled.{Settled};
+ghost use Rattle.table_asks.specs.Closing.{Settles};
 ghost use Rattle.table_asks.specs.Faults.{IsOwn};
 
-use crate::fault::{AskFault, raised};
+use crate::fault::AskFault;
 use crate::inquiry::{Inquiry, settle};
+use ps_places::error_of;
 use table_points::{Point, PointsFault, add_unit};
 use table_read::units_of;
 
 /// Adds the points of the unit with a number, whose functions are run first if they have to be.
-#[tactic(auto, using(ps_store::proofs::Settling::settled_same, ps_store::proofs::Settling::settled_on))]
 fn add_settled(
     inquiry: &mut Inquiry,
     number: usize,
@@ -22,7 +22,7 @@ fn add_settled(
     ensures within { inquiry.new.steps.taken ≤ inquiry.new.steps.limit }
     ensures limit { inquiry.new.steps.limit ≡ inquiry.old.steps.limit }
     ensures more { inquiry.old.steps.taken ≤ inquiry.new.steps.taken }
-    ensures closed { Settled (closed_part inquiry.old.core.store) (closed_part inquiry.new.core.store) }
+    ensures closed { Settles (closed_part inquiry.old.core.store) (closed_part inquiry.new.core.store) }
 {
     'again: loop {
         match add_unit(&inquiry.core.store, number, points) {
@@ -42,19 +42,18 @@ fn count_units(inquiry: &Inquiry) -> Result<usize, AskFault>
 {
     match units_of(&inquiry.core.store) {
         Ok(units) => Ok(units.len()),
-        Err(lack) => Err(raised(lack)),
+        Err(lack) => Err(AskFault::Raised(error_of(lack))),
     }
 }
 
 /// Every point of the table in its order, each unit's functions being run before they are read, if they have to be.
-#[tactic(auto, using(ps_store::proofs::Settling::settled_same, ps_store::proofs::Settling::settled_on))]
 pub fn every_point(inquiry: &mut Inquiry) -> Result<Vec<Point>, AskFault>
     requires within { inquiry.old.steps.taken ≤ inquiry.old.steps.limit }
     ensures own { IfErr result (λ fault. IsOwn fault) }
     ensures within { inquiry.new.steps.taken ≤ inquiry.new.steps.limit }
     ensures limit { inquiry.new.steps.limit ≡ inquiry.old.steps.limit }
     ensures more { inquiry.old.steps.taken ≤ inquiry.new.steps.taken }
-    ensures closed { Settled (closed_part inquiry.old.core.store) (closed_part inquiry.new.core.store) }
+    ensures closed { Settles (closed_part inquiry.old.core.store) (closed_part inquiry.new.core.store) }
 {
     let count = match count_units(inquiry) {
         Ok(count) => count,
