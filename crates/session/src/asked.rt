@@ -70,6 +70,14 @@ pub fn asked<L: Link + Drop>(
     }
 }
 
+/// Why a link failed, where it is why a command isn't done.
+fn unbroken(fault: AskFault) -> Result<(), MemFault> {
+    match fault {
+        AskFault::Broken(why) => Err(why),
+        _ => Ok(()),
+    }
+}
+
 /// Runs a text of PostScript on a side, and says nothing; why it ended early, where the link failed. Breakpoints and the chosen
 /// frame stay.
 pub fn ran<L: Link + Drop>(
@@ -87,8 +95,8 @@ pub fn ran<L: Link + Drop>(
     let said = running_text(&mut side.inquiry, talk, side.frame, text);
     end_command(&mut side.inquiry, mark);
     match said {
-        Err(AskFault::Broken(why)) => Err(why),
-        _ => Ok(()),
+        Ok(_said) => Ok(()),
+        Err(fault) => unbroken(fault),
     }
 }
 
