@@ -8,7 +8,7 @@ use Rattle.cc_call.specs.declared.ended.Fault.{Fault}
 use Rattle.cc_call.specs.Words.{Request}
 use Rattle.cc_call.specs.Outcome.{Leaves}
 use Rattle.ldb_top.specs.declared.status.Status.{Status}
-use Rattle.ldb_top.specs.declared.status.Status.TheVariants.{Words, BadFile}
+use Rattle.ldb_top.specs.declared.status.Status.TheVariants.{Words}
 use Rattle.ldb_top.specs.Compiles.{Compiles}
 
 -- what an answer leaves
@@ -27,9 +27,6 @@ of_request asked r P e p = subst (λ (o : Option Request). IfSome o P) (sym e) p
 pub is_asked : (asked : Option Request) (r : Request) → asked ≡ Some r → IsNone asked → ⊥
 is_asked asked r e n = true≢false (subst (λ (o : Option Request). IsNone o) e n)
 
--- these statuses never come
+-- this status never comes
 pub never_words : (r : Request) (held held' : Option FileMap) (taken taken' : Option (List ℕ)) (status : Status) → Compiles r held held' taken taken' status → status ≡ Words → ⊥
 never_words r held held' taken taken' status c e = subst (Compiles r held held' taken taken') e c
-
-pub never_bad : (r : Request) (held held' : Option FileMap) (taken taken' : Option (List ℕ)) (status : Status) → Compiles r held held' taken taken' status → status ≡ BadFile → ⊥
-never_bad r held held' taken taken' status c e = subst (Compiles r held held' taken taken') e c

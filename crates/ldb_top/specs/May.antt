@@ -1,10 +1,10 @@
 -- Which answers words of a form may get.
-use Rattle.std.specs.Prelude.{ℕ, List, Option, Some, None, Ok, Err}
+use Rattle.std.specs.Prelude.{Option, Some, None, Ok, Err}
 use Rattle.std.specs.declared.result.Result.{Result}
 use Rattle.cc_call.specs.declared.ended.Fault.{Fault}
 use Rattle.cc_call.specs.declared.ended.Fault.TheVariants.{Read, Write, NoMemory as NoRoom}
 use Rattle.ldb_top.specs.declared.status.Status.{Status}
-use Rattle.ldb_top.specs.declared.status.Status.TheVariants.{Done, Refused, Words, ReadFault, WriteFault, NoMemory, NoFile, BadFile, TooLong}
+use Rattle.ldb_top.specs.declared.status.Status.TheVariants.{Done, Refused, Words, ReadFault, WriteFault, NoMemory, BadFile}
 use Rattle.ldb_top.specs.Words.{Form, Debug, Go, Make, Own}
 
 -- the status that a result is answered with

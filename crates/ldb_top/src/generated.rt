@@ -26,8 +26,7 @@ struct Counts {
 }
 
 /// A generated program and its commands, with a line between them.
-pub fn made_text(alloc: Global, number: u32) -> Result<Text, AllocError>
-{
+pub fn made_text(alloc: Global, number: u32) -> Result<Text, AllocError> {
     let Made { program, commands } = make(alloc, number)?;
     let mut text = program;
     text.append(b"----\n")?;
@@ -81,7 +80,9 @@ fn summary_line(
     let lines = counts.lines;
     let length = transcript.len();
     let sum = counts.sum;
-    let head = format!(in alloc; "self {number} stops {stops} lines {lines} transcript {length} output {output} exit ")?;
+    let head = format!(in alloc;
+        "self {number} stops {stops} lines {lines} transcript {length} output {output} exit "
+    )?;
     let tail = format!(in alloc; " sum {sum:08x}\n")?;
     let mut line = Text::from_slice(alloc, head.as_bytes())?;
     line.append(counts.exit.as_bytes())?;

@@ -33,11 +33,17 @@ fn is_plain(word: &[u8]) -> bool
     }
 }
 
+fn is_digits(word: &[u8]) -> bool
+    ensures { result ≡ list_all is_digit word.now }
+{
+    word.iter().all(|b| is_digit(*b))
+}
+
 /// Whether a word is up to twenty digits without a needless zero in front.
 fn is_numeral(word: &[u8]) -> bool
     ensures { result ≡ is_numeral word.now }
 {
-    is_plain(word) && word.len() <= 20 && word.iter().all(|b| is_digit(*b))
+    is_plain(word) && word.len() <= 20 && is_digits(word)
 }
 
 /// The number that a word is, of at most 64 bits.

@@ -1,5 +1,5 @@
 -- The shape of a table: what is asked of it before a session. The rest is checked when it is used.
-use Rattle.std.specs.Prelude.{◌≡◌, ℕ, ℤ, pos, Bool, true, false, nat_eq, if◌then◌else◌, ◌&&◌, List, codes, Option, Some, None}
+use Rattle.std.specs.Prelude.{◌≡◌, ℕ, ℤ, pos, Bool, true, false, nat_eq, if◌then◌else◌, ◌&&◌, List, codes, Option, Some}
 use Rattle.std.specs.Str.{bytes_eq}
 use Rattle.std.specs.Ordering.{int_eq}
 use Rattle.ps_store.specs.declared.object.PsObj.{PsObj}

@@ -72,16 +72,14 @@ fn computed(alloc: Global, number: &str, made: &str) -> Result<Vec<u8>, AllocErr
     let length = transcript.len();
     let output = files.get("out").unwrap_or(&[]).len();
     let exit = std::str::from_utf8(&counts.exit).unwrap_or("");
-    let line = format!(in alloc; "self {number} stops {stops} lines {lines} transcript {length} output {output} exit {exit} sum {sum:08x}\n")?;
+    let line = format!(in alloc;
+        "self {number} stops {stops} lines {lines} transcript {length} output {output} exit {exit} sum {sum:08x}\n"
+    )?;
     Ok(line.into_bytes())
 }
 
 /// Appends the stops, lines and bytes of output of the generated program of a number, and whether the sum of its session is twice what is computed from a session with it.
-pub fn append_own(
-    alloc: Global,
-    parts: &[Vec<u8>],
-    out: &mut Vec<u8>,
-) -> Result<(), AllocError> {
+pub fn append_own(alloc: Global, parts: &[Vec<u8>], out: &mut Vec<u8>) -> Result<(), AllocError> {
     let number = std::str::from_utf8(part(parts, 0)).unwrap_or("");
     let mut files = MemFiles::new(Vec::new(alloc), Vec::new(alloc));
     let made = printed(
@@ -104,5 +102,8 @@ pub fn append_own(
     append(out, front)?;
     let (_, behind) = line.split_once(" output ").unwrap_or(("", line));
     let (output, _) = behind.split_once(" exit ").unwrap_or((behind, ""));
-    append(out, format!(in alloc; " output {output} as computed")?.as_str())
+    append(
+        out,
+        format!(in alloc; " output {output} as computed")?.as_str(),
+    )
 }

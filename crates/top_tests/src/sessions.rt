@@ -302,11 +302,7 @@ fn list_of(alloc: Global, words: [&str; 5]) -> Result<Vec<String>, AllocError> {
 }
 
 /// Appends the status of a session, its output file between quotes, and its transcript.
-fn append_outcome(
-    alloc: Global,
-    outcome: &Outcome,
-    out: &mut Vec<u8>,
-) -> Result<(), AllocError> {
+fn append_outcome(alloc: Global, outcome: &Outcome, out: &mut Vec<u8>) -> Result<(), AllocError> {
     let status = outcome.status;
     append(out, format!(in alloc; "{status:?} ")?.as_str())?;
     match &outcome.output {
