@@ -1,5 +1,8 @@
 pub mod Dial
-pub mod Acting
+pub mod Words
+pub mod Memory
+pub mod Objects
+pub mod Printing
 pub mod Operators
 pub mod Forcing
 pub mod Operating
