@@ -86,7 +86,6 @@ fn in_function(
 }
 
 /// The first point of some functions on a line.
-#[tactic(auto, using(crate::proofs::Looks::first_onward))]
 fn first_in_functions(
     store: &PsStore,
     file: StringId,
