@@ -1,5 +1,7 @@
 // The operators of a command under a run whose own steps don't count.
 
+ghost use Rattle.std.specs.Prelude.{◌≤◌};
+
 use abs_mem::AbsMem;
 use ps_ops::Operators;
 use ps_run::{Dialect, PsCore, PsFault, Steps};
@@ -13,7 +15,6 @@ pub struct Apart<'a, W> {
 }
 
 impl<W: AbsMem + Drop> Dialect for Apart<'_, W> {
-    ghost use Rattle.std.specs.Prelude.{◌≤◌};
     ghost use Rattle.ps_store.specs.Settled.{Settled};
     ghost use Rattle.ps_store.proofs.Settling.{settled_same, settled_on};
 

@@ -4,12 +4,12 @@ ghost use Rattle.std.specs.Prelude.{◌≡◌, ◌≤◌};
 ghost use Rattle.ps_store.specs.Store.{closed_part};
 ghost use Rattle.table_asks.specs.Closing.{Settles};
 
-use crate::storing::{Changes, Leaving};
 use crate::depths::is_struct;
 use crate::leaves::{fetch_leaves, further, leaves_of};
 use crate::reading::{ReadText, read_text};
 use crate::running::{check_writable, number_left, place_left, run_text};
 use crate::showing::show;
+use crate::storing::{Changes, Leaving};
 use abs_mem::AbsMem;
 use c_judge::Mode;
 use c_tree::{CType, Leaf};
@@ -220,7 +220,13 @@ fn fetch_changes<W: AbsMem + Drop>(
         Err(fault) => return Err(fault),
         Ok(_) => {}
     }
-    match leavings(alloc, read.frame, place, leaves.as_slice(), values.as_slice()) {
+    match leavings(
+        alloc,
+        read.frame,
+        place,
+        leaves.as_slice(),
+        values.as_slice(),
+    ) {
         Ok(changes) => Ok(changes),
         Err(_) => Err(AskFault::NoMemory),
     }

@@ -77,12 +77,7 @@ fn one_more(depth: Option<u32>) -> Option<u32> {
 
 /// How deep a struct is, if it is at most so deep: one deeper than its members.
 #[cycle(depth)]
-pub fn struct_depth(
-    defs: &[StructDef],
-    heights: &mut Vec<u32>,
-    deep: u32,
-    s: u32,
-) -> Option<u32> {
+pub fn struct_depth(defs: &[StructDef], heights: &mut Vec<u32>, deep: u32, s: u32) -> Option<u32> {
     if deep == 0 {
         return None;
     }

@@ -366,7 +366,12 @@ fn read(known: &mut Known, store: &mut PsStore, deep: u32, t: DictId) -> Result<
 
 /// A pointer to a type; one to a struct leads no deeper.
 #[cycle(reading)]
-fn read_pointer(known: &mut Known, store: &mut PsStore, deep: u32, to: DictId) -> Result<CType, Want>
+fn read_pointer(
+    known: &mut Known,
+    store: &mut PsStore,
+    deep: u32,
+    to: DictId,
+) -> Result<CType, Want>
     ensures closed { closed_part store.new ≡ closed_part store.old }
 {
     if deep == 0 {

@@ -87,7 +87,13 @@ fn add_members(
         return Err(AllocError);
     }
     for member in members(defs, s) {
-        add_type(gathered, defs, deep - 1, &member.ctype, at.wrapping_add(member.at))?;
+        add_type(
+            gathered,
+            defs,
+            deep - 1,
+            &member.ctype,
+            at.wrapping_add(member.at),
+        )?;
     }
     Ok(())
 }

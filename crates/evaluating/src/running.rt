@@ -8,7 +8,7 @@ use crate::known::{Want, wanted};
 use crate::reading::ReadText;
 use abs_mem::{AbsMem, Locate};
 use frame_bytes::{Place, Space};
-use ldb_words::Text;
+use ldb_words::{Text, Undef};
 use locate::Locator;
 use ps_ops::{Operators, Standing};
 use ps_places::{space_named, text_of};
@@ -16,7 +16,6 @@ use ps_run::{PsCore, PsError};
 use ps_store::PsObj;
 use ps_words::word_in;
 use table_asks::{AskFault, Cause, Inquiry, begin_run, run_object, settle_walk};
-use ldb_words::Undef;
 use table_model::Found;
 
 /// Runs the PostScript of a text in its frame.

@@ -88,7 +88,6 @@ fn stand(
 }
 
 /// Runs a printer on the operands. Its own steps don't count for the command, but those of the units that it runs do.
-#[tactic(auto, using(ps_store::proofs::Settling::settled_on))]
 fn run_printer<W: AbsMem + Drop>(
     inquiry: &mut Inquiry,
     talk: &mut Operators<W>,
