@@ -11,9 +11,9 @@ mod modes;
 mod preparing;
 mod replies;
 mod resumes;
-mod session;
+mod conversation;
 mod sides;
 mod start;
 
 pub use answers::{Answer, End, StartFault};
-pub use session::Session;
+pub use conversation::Session;
