@@ -2,7 +2,7 @@
 
 ghost use Rattle.std.specs.Prelude.{◌≡◌, ◌≤◌};
 ghost use Rattle.ps_store.specs.Store.{closed_part};
-ghost use Rattle.ps_store.specs.Settled.{Settled};
+ghost use Rattle.table_asks.specs.Closing.{Settles};
 
 use crate::apart::Apart;
 use crate::depths::is_struct;
@@ -88,7 +88,7 @@ fn stand(
 }
 
 /// Runs a printer on the operands. Its own steps don't count for the command, but those of the units that it runs do.
-#[tactic(auto, using(ps_store::proofs::Settling::settled_same, ps_store::proofs::Settling::settled_on))]
+#[tactic(auto, using(ps_store::proofs::Settling::settled_on))]
 fn run_printer<W: AbsMem + Drop>(
     inquiry: &mut Inquiry,
     talk: &mut Operators<W>,
@@ -97,7 +97,7 @@ fn run_printer<W: AbsMem + Drop>(
     requires within { inquiry.old.steps.taken ≤ inquiry.old.steps.limit }
     ensures within { inquiry.new.steps.taken ≤ inquiry.new.steps.limit }
     ensures limit { inquiry.new.steps.limit ≡ inquiry.old.steps.limit }
-    ensures closed { Settled (closed_part inquiry.old.core.store) (closed_part inquiry.new.core.store) }
+    ensures closed { Settles (closed_part inquiry.old.core.store) (closed_part inquiry.new.core.store) }
 {
     let mut steps = Steps {
         taken: 0,
@@ -116,7 +116,6 @@ fn run_printer<W: AbsMem + Drop>(
 }
 
 /// Shows what a text left: the text of its value.
-#[tactic(auto, using(ps_store::proofs::Settling::settled_same, ps_store::proofs::Settling::settled_on))]
 pub fn show<W: AbsMem + Drop>(
     alloc: Global,
     inquiry: &mut Inquiry,
@@ -126,7 +125,7 @@ pub fn show<W: AbsMem + Drop>(
     requires within { inquiry.old.steps.taken ≤ inquiry.old.steps.limit }
     ensures within { inquiry.new.steps.taken ≤ inquiry.new.steps.limit }
     ensures limit { inquiry.new.steps.limit ≡ inquiry.old.steps.limit }
-    ensures closed { Settled (closed_part inquiry.old.core.store) (closed_part inquiry.new.core.store) }
+    ensures closed { Settles (closed_part inquiry.old.core.store) (closed_part inquiry.new.core.store) }
 {
     let place = match shown_place(alloc, inquiry, talk, read) {
         Err(fault) => return Err(fault),
