@@ -5,7 +5,7 @@ ghost use Rattle.ps_store.specs.Store.{closed_part};
 ghost use Rattle.table_asks.specs.Closing.{Settles};
 ghost use Rattle.table_asks.specs.Faults.{IsUnrefused};
 
-use crate::printing::begin_talk;
+use crate::shown::begin_talk;
 use abs_mem::AbsMem;
 use frame_bytes::{Place, Space};
 use ldb_words::{Kind, Text};

@@ -119,6 +119,7 @@ pub fn settle(inquiry: &mut Inquiry, lack: Lack) -> Result<(), AskFault>
     ensures unrefused { IfErr result (λ fault. IsUnrefused fault) }
     ensures within { inquiry.new.steps.taken ≤ inquiry.new.steps.limit }
     ensures limit { inquiry.new.steps.limit ≡ inquiry.old.steps.limit }
+    ensures more { inquiry.old.steps.taken ≤ inquiry.new.steps.taken }
     ensures some { OnOk result (inquiry.old.steps.taken < inquiry.new.steps.taken) }
     ensures closed { Settles (closed_part inquiry.old.core.store) (closed_part inquiry.new.core.store) }
 {
@@ -141,6 +142,7 @@ pub fn settle_walk(inquiry: &mut Inquiry, fault: WalkFault) -> Result<(), AskFau
     ensures unrefused { IfErr result (λ fault. IsUnrefused fault) }
     ensures within { inquiry.new.steps.taken ≤ inquiry.new.steps.limit }
     ensures limit { inquiry.new.steps.limit ≡ inquiry.old.steps.limit }
+    ensures more { inquiry.old.steps.taken ≤ inquiry.new.steps.taken }
     ensures some { OnOk result (inquiry.old.steps.taken < inquiry.new.steps.taken) }
     ensures closed { Settles (closed_part inquiry.old.core.store) (closed_part inquiry.new.core.store) }
 {

@@ -1,4 +1,4 @@
-use Rattle.std.proofs.Common.{◌≡◌, ◌≤◌, ◌-◌}
+use Rattle.std.proofs.Common.{◌≡◌, ◌≤◌}
 use Rattle.ps_store.specs.Store.{closed_part}
 use Rattle.table_asks.specs.Closing.{Settles}
 use Rattle.table_asks.proofs.every.every_point.Given as goal
