@@ -5,13 +5,13 @@ mod answers;
 mod asked;
 mod assigning;
 mod both;
+mod conversation;
 mod line;
 mod merging;
 mod modes;
 mod preparing;
 mod replies;
 mod resumes;
-mod conversation;
 mod sides;
 mod start;
 

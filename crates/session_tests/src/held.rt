@@ -170,8 +170,10 @@ impl Held {
 
     /// Keeps what a row spells.
     fn keep(&mut self, parts: &[Vec<u8>], out: &mut Vec<u8>) -> Result<(), AllocError> {
-        self.made.push(Vec::from_slice(self.alloc, part(parts, 0))?)?;
-        self.tables.push(Vec::from_slice(self.alloc, part(parts, 1))?)?;
+        self.made
+            .push(Vec::from_slice(self.alloc, part(parts, 0))?)?;
+        self.tables
+            .push(Vec::from_slice(self.alloc, part(parts, 1))?)?;
         append(out, "kept")
     }
 }
