@@ -9,8 +9,8 @@ ghost use Rattle.debug_side.specs.Planting.{PlantsOne, GivesUp, LedOn, mem_fault
 use crate::words::unplant_back;
 use abs_mem::{AbsMem, MemFault};
 use break_plant::{PlantFault, plant};
-use wire_talk::TalkFault;
 use table_points::Point;
+use wire_talk::TalkFault;
 
 /// Puts the break word at an address where the no-op stands, and says whether it stood there.
 pub fn plant_one<M: AbsMem>(target: u8, m: &mut M, at: u32) -> Result<bool, MemFault>

@@ -3,11 +3,11 @@
 ghost use Rattle.std.specs.Prelude.{◌≡◌, ◌≤◌, OnErr};
 ghost use Rattle.session.specs.Kept.{IsKept};
 
-use evaluating::{coding, evaluating};
 use crate::sides::{SideRecord, turn};
 use abs_mem::{MemFault, Wire};
 use asking::{breaking, choosing, clearing, listing, printing, registers, running_text};
 use c_session::Command;
+use evaluating::{coding, evaluating};
 use ldb_words::Text;
 use nub_wire::Link;
 use ps_ops::Operators;

@@ -2,9 +2,9 @@
 
 ghost use Rattle.session.specs.Kept.{IsKept};
 
-use evaluating::{Changes, assignment, store_all};
 use crate::sides::{SideRecord, turn};
 use abs_mem::Wire;
+use evaluating::{Changes, assignment, store_all};
 use nub_wire::Link;
 use ps_ops::Operators;
 use table_asks::{AskFault, begin_command, end_command};

@@ -5,15 +5,15 @@ mod answers;
 mod asked;
 mod assigning;
 mod both;
+mod conversation;
 mod line;
 mod merging;
 mod modes;
 mod preparing;
 mod replies;
 mod resumes;
-mod session;
 mod sides;
 mod start;
 
 pub use answers::{Answer, End, StartFault};
-pub use session::Session;
+pub use conversation::Session;

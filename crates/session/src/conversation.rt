@@ -298,7 +298,10 @@ impl<L: Link + Drop> Session<L> {
         ensures limit { self.new.limit ≡ self.old.limit }
         ensures kept { IsKept self.old.first self.new.first }
     {
-        let first = left(unprepared(&mut self.talk, &mut self.first), AskFault::NoMemory);
+        let first = left(
+            unprepared(&mut self.talk, &mut self.first),
+            AskFault::NoMemory,
+        );
         match &mut self.second {
             None => first,
             Some(second) => left(unprepared(&mut self.talk, second), first),
