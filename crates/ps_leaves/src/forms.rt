@@ -1,7 +1,7 @@
 // The forms of pointers.
 
 ghost use Rattle.ps_store.specs.Store.{closed_part};
-ghost use Rattle.std.specs.Prelude.{◌≡◌, ◌++◌, OnOk, decimal};
+ghost use Rattle.std.specs.Prelude.{◌≡◌, ◌<◌, ◌++◌, OnOk, decimal};
 ghost use Rattle.ps_append.specs.Appending.{Appends};
 ghost use Rattle.ps_leaves.specs.Forms.{hex_digit, hex_text, activation_text, pointer_text, pointer_text_of};
 

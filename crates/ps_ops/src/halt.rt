@@ -1,7 +1,7 @@
 // Why an operator does nothing.
 
 ghost use Rattle.std.specs.Prelude.{◌≡◌};
-ghost use Rattle.ps_ops.specs.Halts.{halted, left};
+ghost use Rattle.ps_ops.specs.Halts.{halted, left, left_over};
 
 use abs_mem::{MemFault, WalkFault};
 use ps_places::Trouble;

@@ -1,5 +1,5 @@
 -- A name on a chain, symbol by symbol.
-use Rattle.std.proofs.Common.{◌≡◌, refl, sym, ap, ◌∙◌, ℕ, zero, suc, ◌-◌, ◌<◌, Bool, true, false, bytes_eq, Option, Some, None, Result, Ok, Err, List, codes, arith}
+use Rattle.std.proofs.Common.{◌≡◌, refl, ap, ◌∙◌, ℕ, zero, suc, ◌-◌, ◌<◌, Bool, true, false, bytes_eq, Option, Some, None, Ok, Err, List, codes, arith}
 use Rattle.ps_store.specs.declared.object.DictId.{DictId}
 use Rattle.ps_store.specs.StoreState.{StoreState}
 use Rattle.ps_step.specs.Results.{◌>>=◌}

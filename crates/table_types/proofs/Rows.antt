@@ -1,5 +1,5 @@
 -- Items and bytes one behind another, one at a time.
-use Rattle.std.proofs.Common.{◌≡◌, refl, sym, ap, ◌∙◌, ℕ, zero, suc, ◌+◌, ◌-◌, ◌<◌, Bool, true, false, Option, Result, Ok, Err, arith}
+use Rattle.std.proofs.Common.{◌≡◌, refl, ap, ◌∙◌, ℕ, zero, suc, ◌+◌, ◌-◌, ◌<◌, Bool, true, false, Option, Ok, Err, arith}
 use Rattle.ldb_words.specs.declared.kinds.Kind.TheVariants.{Byte}
 use Rattle.ps_store.specs.declared.object.DictId.{DictId}
 use Rattle.ps_store.specs.StoreState.{StoreState}

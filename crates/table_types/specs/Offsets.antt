@@ -9,7 +9,7 @@ use Rattle.ps_step.specs.Results.{◌>>=◌}
 use Rattle.table_model.specs.declared.lack.Lack.TheVariants.{TooDeep}
 use Rattle.table_model.specs.declared.found.Found.{Found}
 use Rattle.table_model.specs.Reading.{Walked, dict_at, items_at, number_at}
-use Rattle.table_model.specs.Types.{TypeKind, IntKind, UnsignedKind, CharKind, PointerKind, ArrayKind, StructKind, type_kind, member_in, is_within, same_kind}
+use Rattle.table_model.specs.Types.{IntKind, UnsignedKind, CharKind, PointerKind, ArrayKind, StructKind, type_kind, member_in, is_within, same_kind}
 
 -- ---- the leaf at an offset
 

@@ -27,11 +27,7 @@ fn check_within(store: &PsStore, deep: u32, t: DictId) -> Result<(), Lack>
             let to = dict_at(store, t, b"to")?;
             match type_kind(store, to)? {
                 TypeKind::Struct => Ok(()),
-                TypeKind::Int
-                | TypeKind::Unsigned
-                | TypeKind::Char
-                | TypeKind::Pointer
-                | TypeKind::Array => check_within(store, deep - 1, to),
+                _ => check_within(store, deep - 1, to),
             }
         }
         TypeKind::Array => {

@@ -1,7 +1,7 @@
 // The leaf at an offset.
 
 ghost use Rattle.std.specs.Prelude.{◌≡◌, None};
-ghost use Rattle.table_types.specs.Offsets.{scalar_at, nearer, holder, leaf_within, leaf_in};
+ghost use Rattle.table_types.specs.Offsets.{scalar_at, item_at, nearer, holder, member_at, leaf_within, leaf_in};
 
 use crate::kinds::{TypeKind, member_in, type_kind};
 use ldb_words::Kind;
@@ -53,7 +53,43 @@ fn holder(store: &PsStore, at: u32, members: &[PsObj]) -> Result<Option<(u32, Di
     Ok(best)
 }
 
+/// The kind of the leaf at an offset, of the member that holds it, whose type is at most so deep.
+#[cycle(leaf)]
+fn leaf_held(
+    store: &PsStore,
+    deep: u32,
+    held: Option<(u32, DictId)>,
+    at: u32,
+) -> Result<Option<Kind>, Lack>
+    ensures { result ≡ member_at (λ m j. leaf_within store.now deep m j) at held }
+{
+    match held {
+        None => Ok(None),
+        Some((from, ctype)) => leaf_within(store, deep, ctype, at.saturating_sub(from)),
+    }
+}
+
+/// The kind of the leaf at an offset of an item of an array.
+#[cycle(leaf)]
+fn leaf_of_item(
+    store: &PsStore,
+    deep: u32,
+    item: DictId,
+    size: u32,
+    count: u32,
+    at: u32,
+) -> Result<Option<Kind>, Lack>
+    ensures { result ≡ item_at (λ j. leaf_within store.now deep item j) size count at }
+{
+    if size > 0 && at / size < count {
+        leaf_within(store, deep, item, at % size)
+    } else {
+        Ok(None)
+    }
+}
+
 /// The kind of the leaf at an offset of a type that is at most so deep.
+#[cycle(leaf)]
 #[tactic(auto, using(crate::proofs::Unfolding::leaf_none, crate::proofs::Unfolding::leaf_by))]
 fn leaf_within(store: &PsStore, deep: u32, t: DictId, at: u32) -> Result<Option<Kind>, Lack>
     ensures { result ≡ leaf_within store.now deep t at }
@@ -69,19 +105,13 @@ fn leaf_within(store: &PsStore, deep: u32, t: DictId, at: u32) -> Result<Option<
             let item = dict_at(store, t, b"to")?;
             let size = number_at(store, item, b"size")?;
             let count = number_at(store, t, b"count")?;
-            if size > 0 && at / size < count {
-                leaf_within(store, deep - 1, item, at % size)
-            } else {
-                Ok(None)
-            }
+            leaf_of_item(store, deep - 1, item, size, count, at)
         }
         TypeKind::Struct => {
             let members = items_at(store, t, b"members")?;
-            match holder(store, at, members)? {
-                Some((from, ctype)) => {
-                    leaf_within(store, deep - 1, ctype, at.saturating_sub(from))
-                },
-                None => Ok(None),
+            match holder(store, at, members) {
+                Err(lack) => Err(lack),
+                Ok(held) => leaf_held(store, deep - 1, held, at),
             }
         }
     }

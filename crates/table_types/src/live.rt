@@ -84,7 +84,8 @@ fn live_within(
         return Err(Lack::TooDeep);
     }
     match type_kind(store, t)? {
-        TypeKind::Int | TypeKind::Unsigned => kind_live(store, found, Kind::Word, at),
+        TypeKind::Int => kind_live(store, found, Kind::Word, at),
+        TypeKind::Unsigned => kind_live(store, found, Kind::Word, at),
         TypeKind::Char => kind_live(store, found, Kind::Byte, at),
         TypeKind::Pointer => kind_live(store, found, Kind::Address, at),
         TypeKind::Array => {
@@ -119,10 +120,11 @@ fn items_live(
         if next > 4_294_967_295 {
             return Ok(false);
         }
-        if !live_from(store, found, deep, item, next)? {
-            return Ok(false);
+        match live_from(store, found, deep, item, next) {
+            Ok(true) => next += u64::from(size),
+            Ok(false) => return Ok(false),
+            Err(lack) => return Err(lack),
         }
-        next += u64::from(size);
     }
     Ok(true)
 }
@@ -182,8 +184,10 @@ fn run_from(store: &PsStore, found: Option<Found>, at: u32) -> Result<u32, Lack>
 {
     for count in 0..MOST_RUN {
         let next = u64::from(at) + u64::from(count);
-        if !byte_live(store, found, next)? {
-            return Ok(count);
+        match byte_live(store, found, next) {
+            Ok(true) => {}
+            Ok(false) => return Ok(count),
+            Err(lack) => return Err(lack),
         }
     }
     Ok(MOST_RUN)

@@ -1,4 +1,4 @@
-use Rattle.std.proofs.Common.{◌≡◌, ℕ, ◌+◌, ◌*◌, ◌^◌, ◌<◌, ◌≤◌, ◌∙◌, ap, arith, lit<, ◌+ℤ◌, ◌*ℤ◌, ℤ, pos, negsuc, FitsSigned, to_z, of_z, w32, w64}
+use Rattle.std.proofs.Common.{◌≡◌, ℕ, ◌^◌, ◌<◌, ◌≤◌, ◌∙◌, ap, arith, ◌+ℤ◌, ◌*ℤ◌, ℤ, pos, negsuc, FitsSigned, to_z, of_z, w32, w64}
 use Rattle.std.specs.Int.RustNames.{unsigned_abs}
 use Rattle.std.proofs.Math.Nat.{mul-le-mul}
 use Rattle.std.proofs.lemmas.Int.{to_z-of_z, fits_signed_from_abs, unsigned_abs-mul}
@@ -32,7 +32,7 @@ sum_is x y z at n m below f g e e' e'' =
     let d : to_z w64 (of_z w64 z) ≡ m = ap (λ i. to_z w64 (of_z w64 i)) (e'' ∙ to_z-of_z w32 m g) ∙ to_z-of_z w64 m (wide m g) in
     let small : unsigned_abs (n *ℤ m) ≤ 2 ^ 62 = product_below n m (abs_of n f) (abs_of m g) in
     let p : to_z w64 (of_z w64 (to_z w64 (of_z w64 y) *ℤ to_z w64 (of_z w64 z))) ≡ n *ℤ m =
-        ap (λ i. to_z w64 (of_z w64 (i *ℤ to_z w64 (of_z w64 z)))) b ∙ (ap (λ i. to_z w64 (of_z w64 (n *ℤ i))) d ∙ to_z-of_z w64 (n *ℤ m) (below_fits (n *ℤ m) small)) in
+    ap (λ i. to_z w64 (of_z w64 (i *ℤ to_z w64 (of_z w64 z)))) b ∙ (ap (λ i. to_z w64 (of_z w64 (n *ℤ i))) d ∙ to_z-of_z w64 (n *ℤ m) (below_fits (n *ℤ m) small)) in
     ap (λ i. to_z w64 (of_z w64 (i +ℤ to_z w64 (of_z w64 (to_z w64 (of_z w64 y) *ℤ to_z w64 (of_z w64 z)))))) a
     ∙ (ap (λ i. to_z w64 (of_z w64 (pos at +ℤ i))) p ∙ to_z-of_z w64 (pos at +ℤ (n *ℤ m)) (sum_fits at (n *ℤ m) below small))
 
