@@ -3,7 +3,7 @@
 ghost use Rattle.std.specs.Prelude.{◌≡◌, ◌⊎◌, ◌≤◌, OnErr};
 ghost use Rattle.machine_state.specs.declared.layout.TheConstants.{MIPS, SPARC};
 ghost use Rattle.ps_store.specs.Store.{closed_part};
-ghost use Rattle.ps_store.specs.Settled.{Settled};
+ghost use Rattle.table_asks.specs.Closing.{Settles};
 
 use crate::lines::point_text;
 use abs_mem::AbsMem;
@@ -13,7 +13,8 @@ use ldb_words::Text;
 use machine_state::{MIPS, SPARC};
 use ps_ops::Operators;
 use ps_store::PsStore;
-use table_asks::{AskFault, Cause, Inquiry, Point, body_told, line_told, memory_fault};
+use table_asks::{AskFault, Cause, Inquiry, body_told, line_told, memory_fault};
+use table_points::Point;
 
 /// The target with a number: SPARC or else MIPS.
 fn known(target: u8) -> u8
@@ -76,13 +77,12 @@ fn set<W: AbsMem + Drop>(
 }
 
 /// The point that a spot says, whose units are run if they have to be.
-#[tactic(auto, using(ps_store::proofs::Settling::settled_same, ps_store::proofs::Settling::settled_on))]
 fn spot_told(inquiry: &mut Inquiry, spot: &Spot) -> Result<Option<Point>, AskFault>
     requires within { inquiry.old.steps.taken ≤ inquiry.old.steps.limit }
     ensures within { inquiry.new.steps.taken ≤ inquiry.new.steps.limit }
     ensures limit { inquiry.new.steps.limit ≡ inquiry.old.steps.limit }
     ensures more { inquiry.old.steps.taken ≤ inquiry.new.steps.taken }
-    ensures closed { Settled (closed_part inquiry.old.core.store) (closed_part inquiry.new.core.store) }
+    ensures closed { Settles (closed_part inquiry.old.core.store) (closed_part inquiry.new.core.store) }
 {
     match spot {
         Spot::Line { file, line, column } => line_told(inquiry, file.as_bytes(), *line, *column),
@@ -92,7 +92,6 @@ fn spot_told(inquiry: &mut Inquiry, spot: &Spot) -> Result<Option<Point>, AskFau
 
 /// `break`: a breakpoint is set at the point. One that is set already is answered again and changes nothing. Where it isn't done the
 /// breakpoints are as before.
-#[tactic(auto, using(ps_store::proofs::Settling::settled_same, ps_store::proofs::Settling::settled_on))]
 pub fn breaking<W: AbsMem + Drop>(
     inquiry: &mut Inquiry,
     talk: &mut Operators<W>,
@@ -104,7 +103,7 @@ pub fn breaking<W: AbsMem + Drop>(
     ensures within { inquiry.new.steps.taken ≤ inquiry.new.steps.limit }
     ensures limit { inquiry.new.steps.limit ≡ inquiry.old.steps.limit }
     ensures more { inquiry.old.steps.taken ≤ inquiry.new.steps.taken }
-    ensures closed { Settled (closed_part inquiry.old.core.store) (closed_part inquiry.new.core.store) }
+    ensures closed { Settles (closed_part inquiry.old.core.store) (closed_part inquiry.new.core.store) }
 {
     match spot_told(inquiry, spot) {
         Err(fault) => Err(fault),
@@ -141,7 +140,6 @@ fn unset<W: AbsMem + Drop>(
 }
 
 /// `clear`: the breakpoint at the point is taken away. Where it isn't done the breakpoints are as before.
-#[tactic(auto, using(ps_store::proofs::Settling::settled_same, ps_store::proofs::Settling::settled_on))]
 pub fn clearing<W: AbsMem + Drop>(
     inquiry: &mut Inquiry,
     talk: &mut Operators<W>,
@@ -153,7 +151,7 @@ pub fn clearing<W: AbsMem + Drop>(
     ensures within { inquiry.new.steps.taken ≤ inquiry.new.steps.limit }
     ensures limit { inquiry.new.steps.limit ≡ inquiry.old.steps.limit }
     ensures more { inquiry.old.steps.taken ≤ inquiry.new.steps.taken }
-    ensures closed { Settled (closed_part inquiry.old.core.store) (closed_part inquiry.new.core.store) }
+    ensures closed { Settles (closed_part inquiry.old.core.store) (closed_part inquiry.new.core.store) }
 {
     match spot_told(inquiry, spot) {
         Err(fault) => Err(fault),

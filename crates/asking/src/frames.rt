@@ -2,7 +2,7 @@
 
 ghost use Rattle.std.specs.Prelude.{◌≡◌, ◌≤◌, IfErr};
 ghost use Rattle.ps_store.specs.Store.{closed_part};
-ghost use Rattle.ps_store.specs.Settled.{Settled};
+ghost use Rattle.table_asks.specs.Closing.{Settles};
 ghost use Rattle.table_asks.specs.Faults.{IsUnrefused};
 
 use crate::lines::{append_frame, frames_text};
@@ -13,8 +13,9 @@ use ps_ops::Operators;
 use ps_store::PsStore;
 use stack_walk::{first, row_of_target, up};
 use std::alloc::Global;
-use table_asks::{AskFault, Cause, Inquiry, frame_told, settle_walk, told_frame};
+use table_asks::{AskFault, Cause, Inquiry, frame_told, settle_walk};
 use table_model::TargetRow;
+use table_points::told_frame;
 
 /// The most frames that are listed.
 const MOST_FRAMES: u32 = 20_000;
@@ -88,7 +89,6 @@ fn list_frames<M: AbsMem>(
 }
 
 /// `frames`: the number of frames, and a line for each from the innermost one on.
-#[tactic(auto, using(ps_store::proofs::Settling::settled_same, ps_store::proofs::Settling::settled_on))]
 pub fn listing<W: AbsMem + Drop>(
     inquiry: &mut Inquiry,
     talk: &mut Operators<W>,
@@ -97,7 +97,7 @@ pub fn listing<W: AbsMem + Drop>(
     ensures within { inquiry.new.steps.taken ≤ inquiry.new.steps.limit }
     ensures limit { inquiry.new.steps.limit ≡ inquiry.old.steps.limit }
     ensures more { inquiry.old.steps.taken ≤ inquiry.new.steps.taken }
-    ensures closed { Settled (closed_part inquiry.old.core.store) (closed_part inquiry.new.core.store) }
+    ensures closed { Settles (closed_part inquiry.old.core.store) (closed_part inquiry.new.core.store) }
     ensures unrefused { IfErr result (λ fault. IsUnrefused fault) }
 {
     let row = row_of_target(talk.view.target);
@@ -120,7 +120,6 @@ pub fn listing<W: AbsMem + Drop>(
 }
 
 /// `frame N`: the line of the frame with the number.
-#[tactic(auto, using(ps_store::proofs::Settling::settled_same, ps_store::proofs::Settling::settled_on))]
 pub fn choosing<W: AbsMem + Drop>(
     inquiry: &mut Inquiry,
     talk: &mut Operators<W>,
@@ -130,7 +129,7 @@ pub fn choosing<W: AbsMem + Drop>(
     ensures within { inquiry.new.steps.taken ≤ inquiry.new.steps.limit }
     ensures limit { inquiry.new.steps.limit ≡ inquiry.old.steps.limit }
     ensures more { inquiry.old.steps.taken ≤ inquiry.new.steps.taken }
-    ensures closed { Settled (closed_part inquiry.old.core.store) (closed_part inquiry.new.core.store) }
+    ensures closed { Settles (closed_part inquiry.old.core.store) (closed_part inquiry.new.core.store) }
 {
     match frame_told(inquiry, talk, number) {
         Err(fault) => Err(fault),

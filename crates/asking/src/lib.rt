@@ -4,10 +4,10 @@
 mod breaks;
 mod frames;
 mod lines;
-mod printing;
 mod raw;
+mod shown;
 
 pub use breaks::{breaking, clearing};
 pub use frames::{choosing, listing};
-pub use printing::{begin_talk, printing, procedure_of};
 pub use raw::{registers, running_text};
+pub use shown::{begin_talk, printing, procedure_of};

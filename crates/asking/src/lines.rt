@@ -5,7 +5,7 @@ ghost use Rattle.std.specs.Prelude.{◌≡◌, ◌∷◌, ◌++◌, [], OnOk, If
 use ldb_words::Text;
 use ps_store::PsStore;
 use std::alloc::{AllocError, Global};
-use table_asks::Point;
+use table_points::Point;
 
 /// Adds a number in decimal digits.
 fn append_decimal(alloc: Global, out: &mut Text, n: u32) -> Result<(), AllocError>

@@ -2,10 +2,10 @@
 
 ghost use Rattle.std.specs.Prelude.{◌≡◌, ◌≤◌, IfErr};
 ghost use Rattle.ps_store.specs.Store.{closed_part};
-ghost use Rattle.ps_store.specs.Settled.{Settled};
+ghost use Rattle.table_asks.specs.Closing.{Settles};
 ghost use Rattle.table_asks.specs.Faults.{IsUnrefused};
 
-use crate::printing::begin_talk;
+use crate::shown::begin_talk;
 use abs_mem::AbsMem;
 use frame_bytes::{Place, Space};
 use ldb_words::{Kind, Text};
@@ -36,10 +36,7 @@ fn head_of(alloc: Global, target: u8) -> Result<Text, AllocError> {
 }
 
 /// `regs`: the target and the words of its context block.
-pub fn registers<W: AbsMem + Drop>(
-    alloc: Global,
-    talk: &mut Operators<W>,
-) -> Result<Text, AskFault>
+pub fn registers<W: AbsMem + Drop>(alloc: Global, talk: &mut Operators<W>) -> Result<Text, AskFault>
     ensures unrefused { IfErr result (λ fault. IsUnrefused fault) }
 {
     let Ok(mut out) = head_of(alloc, talk.view.target) else {
@@ -81,7 +78,6 @@ fn operands_text(alloc: Global, core: &PsCore) -> Result<Text, AllocError> {
 
 /// `ps TEXT`: runs a text of PostScript in the frame with the number, and tells the operands that are left. No frame is walked before
 /// the text asks for that one. What the text stored to the target stays, however it ends.
-#[tactic(auto, using(ps_store::proofs::Settling::settled_same, ps_store::proofs::Settling::settled_on))]
 pub fn running_text<W: AbsMem + Drop>(
     inquiry: &mut Inquiry,
     talk: &mut Operators<W>,
@@ -92,7 +88,7 @@ pub fn running_text<W: AbsMem + Drop>(
     ensures within { inquiry.new.steps.taken ≤ inquiry.new.steps.limit }
     ensures limit { inquiry.new.steps.limit ≡ inquiry.old.steps.limit }
     ensures more { inquiry.old.steps.taken ≤ inquiry.new.steps.taken }
-    ensures closed { Settled (closed_part inquiry.old.core.store) (closed_part inquiry.new.core.store) }
+    ensures closed { Settles (closed_part inquiry.old.core.store) (closed_part inquiry.new.core.store) }
     ensures unrefused { IfErr result (λ fault. IsUnrefused fault) }
 {
     let alloc = inquiry.core.operands.allocator();

@@ -1,2 +1,2 @@
+pub mod Closing
 pub mod Faults
-pub mod Rows

@@ -2,88 +2,16 @@
 
 ghost use Rattle.std.specs.Prelude.{◌≡◌, ◌≤◌, IfErr};
 ghost use Rattle.ps_store.specs.Store.{closed_part};
-ghost use Rattle.ps_store.specs.Settled.{Settled};
+ghost use Rattle.table_asks.specs.Closing.{Settles};
 ghost use Rattle.table_asks.specs.Faults.{IsOwn};
 
-use crate::fault::{AskFault, raised};
+use crate::fault::AskFault;
 use crate::inquiry::{Inquiry, settle};
-use crate::row::Point;
-use ps_store::{PsObj, PsStore, StringId};
-use table_model::Lack;
-use table_read::{dict_in, functions_of, number_at, point_address, points_of, string_at, units_of};
-
-/// Why points aren't added.
-#[derive(Drop)]
-enum PointsFault {
-    Lacks(Lack),
-    NoMemory,
-}
-
-impl From<Lack> for PointsFault {
-    fn from(lack: Lack) -> PointsFault {
-        PointsFault::Lacks(lack)
-    }
-}
-
-/// Adds the points of a function.
-fn add_points(
-    store: &PsStore,
-    file: StringId,
-    function: StringId,
-    objects: &[PsObj],
-    points: &mut Vec<Point>,
-) -> Result<(), PointsFault> {
-    for object in objects {
-        let point = dict_in(*object)?;
-        let line = number_at(store, point, b"line")?;
-        let column = number_at(store, point, b"column")?;
-        let at = point_address(store, point)?;
-        let place = Point {
-            at,
-            line,
-            column,
-            file,
-            function,
-        };
-        match points.push(place) {
-            Ok(()) => {}
-            Err(_) => return Err(PointsFault::NoMemory),
-        }
-    }
-    Ok(())
-}
-
-/// Adds the points of some functions.
-fn add_functions(
-    store: &PsStore,
-    file: StringId,
-    functions: &[PsObj],
-    points: &mut Vec<Point>,
-) -> Result<(), PointsFault> {
-    for object in functions {
-        let function = dict_in(*object)?;
-        let name = string_at(store, function, b"name")?;
-        let objects = points_of(store, function)?;
-        add_points(store, file, name, objects, points)?;
-    }
-    Ok(())
-}
-
-/// Adds the points of the unit with a number; none where its functions are still to be run.
-fn add_unit(store: &PsStore, number: usize, points: &mut Vec<Point>) -> Result<(), PointsFault> {
-    let units = units_of(store)?;
-    let object = match units.get(number) {
-        Some(object) => *object,
-        None => return Err(PointsFault::Lacks(Lack::Missing)),
-    };
-    let unit = dict_in(object)?;
-    let file = string_at(store, unit, b"file")?;
-    let functions = functions_of(store, number, unit)?;
-    add_functions(store, file, functions, points)
-}
+use ps_places::error_of;
+use table_points::{Point, PointsFault, add_unit};
+use table_read::units_of;
 
 /// Adds the points of the unit with a number, whose functions are run first if they have to be.
-#[tactic(auto, using(ps_store::proofs::Settling::settled_same, ps_store::proofs::Settling::settled_on))]
 fn add_settled(
     inquiry: &mut Inquiry,
     number: usize,
@@ -94,7 +22,7 @@ fn add_settled(
     ensures within { inquiry.new.steps.taken ≤ inquiry.new.steps.limit }
     ensures limit { inquiry.new.steps.limit ≡ inquiry.old.steps.limit }
     ensures more { inquiry.old.steps.taken ≤ inquiry.new.steps.taken }
-    ensures closed { Settled (closed_part inquiry.old.core.store) (closed_part inquiry.new.core.store) }
+    ensures closed { Settles (closed_part inquiry.old.core.store) (closed_part inquiry.new.core.store) }
 {
     'again: loop {
         match add_unit(&inquiry.core.store, number, points) {
@@ -114,19 +42,18 @@ fn count_units(inquiry: &Inquiry) -> Result<usize, AskFault>
 {
     match units_of(&inquiry.core.store) {
         Ok(units) => Ok(units.len()),
-        Err(lack) => Err(raised(lack)),
+        Err(lack) => Err(AskFault::Raised(error_of(lack))),
     }
 }
 
 /// Every point of the table in its order, each unit's functions being run before they are read, if they have to be.
-#[tactic(auto, using(ps_store::proofs::Settling::settled_same, ps_store::proofs::Settling::settled_on))]
 pub fn every_point(inquiry: &mut Inquiry) -> Result<Vec<Point>, AskFault>
     requires within { inquiry.old.steps.taken ≤ inquiry.old.steps.limit }
     ensures own { IfErr result (λ fault. IsOwn fault) }
     ensures within { inquiry.new.steps.taken ≤ inquiry.new.steps.limit }
     ensures limit { inquiry.new.steps.limit ≡ inquiry.old.steps.limit }
     ensures more { inquiry.old.steps.taken ≤ inquiry.new.steps.taken }
-    ensures closed { Settled (closed_part inquiry.old.core.store) (closed_part inquiry.new.core.store) }
+    ensures closed { Settles (closed_part inquiry.old.core.store) (closed_part inquiry.new.core.store) }
 {
     let count = match count_units(inquiry) {
         Ok(count) => count,

@@ -1,7 +1,7 @@
 // Why a part of a command has no result.
 
 ghost use Rattle.std.specs.Prelude.{◌≡◌};
-ghost use Rattle.table_asks.specs.Faults.{IsUnrefused, fault_of_run, memory_fault, raised};
+ghost use Rattle.table_asks.specs.Faults.{IsOwn, IsUnrefused, fault_of_run, memory_fault, raised};
 
 use abs_mem::MemFault;
 use ldb_words::Undef;
@@ -38,7 +38,9 @@ pub enum AskFault {
 
 /// The error of what a table lacks.
 pub fn raised(lack: Lack) -> AskFault
-    ensures { result ≡ raised lack }
+    ensures value { result ≡ raised lack }
+    ensures own { IsOwn result }
+    ensures unrefused { IsUnrefused result }
 {
     AskFault::Raised(error_of(lack))
 }

@@ -2,20 +2,21 @@
 
 ghost use Rattle.std.specs.Prelude.{◌≡◌, ◌≤◌, IfOk, IfErr, Ok};
 ghost use Rattle.ps_store.specs.Store.{closed_part};
-ghost use Rattle.ps_store.specs.Settled.{Settled};
+ghost use Rattle.table_asks.specs.Closing.{Settles};
 ghost use Rattle.table_model.specs.Symbols.{scope_of, symbol_named};
 ghost use Rattle.table_asks.specs.Faults.{IsOwn, IsUnrefused};
 
-use crate::fault::{AskFault, raised};
+use crate::fault::AskFault;
 use crate::inquiry::{Inquiry, settle, settle_walk};
-use crate::row::{Point, told_frame};
 use abs_mem::{AbsMem, WalkFault, told};
 use frame_bytes::Frame;
 use ps_ops::{Operators, frame_numbered};
+use ps_places::error_of;
 use ps_store::{DictId, PsStore};
 use ps_symbols::symbol_named;
 use stack_walk::row_of_target;
 use table_model::TargetRow;
+use table_points::{Point, told_frame};
 use table_read::scope_of;
 
 /// What the frame with a number tells, in one walk; none where there is no such frame.
@@ -36,7 +37,6 @@ fn walk_to<M: AbsMem>(
 }
 
 /// What the frame with a number tells; none where there is no such frame.
-#[tactic(auto, using(ps_store::proofs::Settling::settled_same, ps_store::proofs::Settling::settled_on))]
 pub fn frame_told<W: AbsMem + Drop>(
     inquiry: &mut Inquiry,
     talk: &mut Operators<W>,
@@ -46,7 +46,7 @@ pub fn frame_told<W: AbsMem + Drop>(
     ensures within { inquiry.new.steps.taken ≤ inquiry.new.steps.limit }
     ensures limit { inquiry.new.steps.limit ≡ inquiry.old.steps.limit }
     ensures more { inquiry.old.steps.taken ≤ inquiry.new.steps.taken }
-    ensures closed { Settled (closed_part inquiry.old.core.store) (closed_part inquiry.new.core.store) }
+    ensures closed { Settles (closed_part inquiry.old.core.store) (closed_part inquiry.new.core.store) }
     ensures unrefused { IfErr result (λ fault. IsUnrefused fault) }
 {
     let row = row_of_target(talk.view.target);
@@ -64,7 +64,6 @@ pub fn frame_told<W: AbsMem + Drop>(
 }
 
 /// The frame with a number; none where there is no such frame.
-#[tactic(auto, using(ps_store::proofs::Settling::settled_same, ps_store::proofs::Settling::settled_on))]
 pub fn frame_found<W: AbsMem + Drop>(
     inquiry: &mut Inquiry,
     talk: &mut Operators<W>,
@@ -74,7 +73,7 @@ pub fn frame_found<W: AbsMem + Drop>(
     ensures within { inquiry.new.steps.taken ≤ inquiry.new.steps.limit }
     ensures limit { inquiry.new.steps.limit ≡ inquiry.old.steps.limit }
     ensures more { inquiry.old.steps.taken ≤ inquiry.new.steps.taken }
-    ensures closed { Settled (closed_part inquiry.old.core.store) (closed_part inquiry.new.core.store) }
+    ensures closed { Settles (closed_part inquiry.old.core.store) (closed_part inquiry.new.core.store) }
     ensures unrefused { IfErr result (λ fault. IsUnrefused fault) }
 {
     let row = row_of_target(talk.view.target);
@@ -92,7 +91,6 @@ pub fn frame_found<W: AbsMem + Drop>(
 }
 
 /// The innermost symbol in scope in a frame, if there is one.
-#[tactic(auto, using(ps_store::proofs::Settling::settled_same, ps_store::proofs::Settling::settled_on))]
 pub fn scope_found(
     inquiry: &mut Inquiry,
     number: u32,
@@ -103,7 +101,7 @@ pub fn scope_found(
     ensures within { inquiry.new.steps.taken ≤ inquiry.new.steps.limit }
     ensures limit { inquiry.new.steps.limit ≡ inquiry.old.steps.limit }
     ensures more { inquiry.old.steps.taken ≤ inquiry.new.steps.taken }
-    ensures closed { Settled (closed_part inquiry.old.core.store) (closed_part inquiry.new.core.store) }
+    ensures closed { Settles (closed_part inquiry.old.core.store) (closed_part inquiry.new.core.store) }
     ensures found { IfOk result (λ scope. scope_of inquiry.new.core.store number frame.now ≡ Ok scope) }
 {
     'again: loop {
@@ -128,6 +126,6 @@ pub fn symbol_found(
 {
     match symbol_named(&inquiry.core.store, scope, name) {
         Ok(symbol) => Ok(symbol),
-        Err(lack) => Err(raised(lack)),
+        Err(lack) => Err(AskFault::Raised(error_of(lack))),
     }
 }

@@ -2,15 +2,16 @@
 
 ghost use Rattle.std.specs.Prelude.{◌≡◌, ◌≤◌, ◌<◌, IfOk, IfErr, OnOk, OnErr};
 ghost use Rattle.ps_store.specs.Store.{closed_part};
-ghost use Rattle.ps_store.specs.Settled.{Settled};
+ghost use Rattle.table_asks.specs.Closing.{Settles};
 ghost use Rattle.ps_store.specs.Cut.{IsMark};
 ghost use Rattle.ps_store.specs.declared.object.Part.TheVariants.{Command as CommandPart};
 ghost use Rattle.table_asks.specs.Faults.{IsOwn, IsUnrefused};
 
-use crate::fault::{AskFault, fault_of_run, raised};
+use crate::fault::{AskFault, fault_of_run};
 use abs_mem::{AbsMem, MemFault, WalkFault};
 use ps_bare::force_unit;
 use ps_ops::Operators;
+use ps_places::error_of;
 use ps_run::{PsCore, PsError, PsFault, Steps, run};
 use ps_step::stack::Stack;
 use ps_store::{DictId, Mark, Part, PsObj, StoreFault};
@@ -101,7 +102,7 @@ pub fn run_object<W: AbsMem + Drop>(
     ensures within { inquiry.new.steps.taken ≤ inquiry.new.steps.limit }
     ensures limit { inquiry.new.steps.limit ≡ inquiry.old.steps.limit }
     ensures more { inquiry.old.steps.taken ≤ inquiry.new.steps.taken }
-    ensures closed { Settled (closed_part inquiry.old.core.store) (closed_part inquiry.new.core.store) }
+    ensures closed { Settles (closed_part inquiry.old.core.store) (closed_part inquiry.new.core.store) }
     ensures unrefused { IfErr result (λ fault. IsUnrefused fault) }
 {
     match run(&mut inquiry.core, talk, what, &mut inquiry.steps) {
@@ -112,14 +113,15 @@ pub fn run_object<W: AbsMem + Drop>(
 
 /// Runs the unit that a look-up met, after which it is asked again; or tells the error of what the table lacks. The steps that are
 /// taken grow where a unit was run.
-#[tactic(auto, using(ps_store::proofs::Settling::settled_same, ps_store::proofs::Settling::settled_on))]
 pub fn settle(inquiry: &mut Inquiry, lack: Lack) -> Result<(), AskFault>
     requires within { inquiry.old.steps.taken ≤ inquiry.old.steps.limit }
     ensures own { IfErr result (λ fault. IsOwn fault) }
+    ensures unrefused { IfErr result (λ fault. IsUnrefused fault) }
     ensures within { inquiry.new.steps.taken ≤ inquiry.new.steps.limit }
     ensures limit { inquiry.new.steps.limit ≡ inquiry.old.steps.limit }
+    ensures more { inquiry.old.steps.taken ≤ inquiry.new.steps.taken }
     ensures some { OnOk result (inquiry.old.steps.taken < inquiry.new.steps.taken) }
-    ensures closed { Settled (closed_part inquiry.old.core.store) (closed_part inquiry.new.core.store) }
+    ensures closed { Settles (closed_part inquiry.old.core.store) (closed_part inquiry.new.core.store) }
 {
     match lack {
         Lack::Unforced { unit } => {
@@ -130,19 +132,19 @@ pub fn settle(inquiry: &mut Inquiry, lack: Lack) -> Result<(), AskFault>
                 Err(PsFault::Link | PsFault::NoMemory) => Err(AskFault::NoMemory),
             }
         }
-        other => Err(raised(other)),
+        other => Err(AskFault::Raised(error_of(other))),
     }
 }
 
 /// The same for what a walk tells: where the memory gave no answer that is told.
-#[tactic(auto, using(ps_store::proofs::Settling::settled_same, ps_store::proofs::Settling::settled_on, crate::proofs::Owns::own_unrefused))]
 pub fn settle_walk(inquiry: &mut Inquiry, fault: WalkFault) -> Result<(), AskFault>
     requires within { inquiry.old.steps.taken ≤ inquiry.old.steps.limit }
     ensures unrefused { IfErr result (λ fault. IsUnrefused fault) }
     ensures within { inquiry.new.steps.taken ≤ inquiry.new.steps.limit }
     ensures limit { inquiry.new.steps.limit ≡ inquiry.old.steps.limit }
+    ensures more { inquiry.old.steps.taken ≤ inquiry.new.steps.taken }
     ensures some { OnOk result (inquiry.old.steps.taken < inquiry.new.steps.taken) }
-    ensures closed { Settled (closed_part inquiry.old.core.store) (closed_part inquiry.new.core.store) }
+    ensures closed { Settles (closed_part inquiry.old.core.store) (closed_part inquiry.new.core.store) }
 {
     match fault {
         WalkFault::Unforced { unit } => settle(inquiry, Lack::Unforced { unit }),

@@ -5,9 +5,7 @@ mod every;
 mod fault;
 mod frames;
 mod inquiry;
-mod named;
 mod points;
-mod row;
 
 pub use every::every_point;
 pub use fault::{AskFault, Cause, fault_of_run, memory_fault, raised};
@@ -15,6 +13,5 @@ pub use frames::{frame_found, frame_told, scope_found, symbol_found};
 pub use inquiry::{
     Inquiry, begin_command, begin_run, end_command, run_object, settle, settle_walk,
 };
-pub use named::function_point;
-pub use points::{body_told, line_told, spot_point};
-pub use row::{Point, told_frame};
+pub use points::{body_told, line_told};
+pub use table_points::{Point, told_frame};

@@ -2,7 +2,7 @@ use Rattle.std.proofs.Common.{◌≡◌, drop}
 use Rattle.ps_store.specs.Store.{bytes_of}
 use Rattle.table_model.specs.Reading.{first_from}
 use Rattle.table_model.specs.Places.{on_line}
-use Rattle.table_asks.proofs.points.first_on_line.Given as goal
+use Rattle.table_points.proofs.spots.first_on_line.Given as goal
 
 -- what is left decides
 abbrev pub invariant-loop-point : goal.invariant-loop-point

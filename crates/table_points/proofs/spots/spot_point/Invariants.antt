@@ -1,7 +1,7 @@
 use Rattle.std.proofs.Common.{◌≡◌, drop}
 use Rattle.table_model.specs.Reading.{first_from}
 use Rattle.table_model.specs.Places.{in_unit}
-use Rattle.table_asks.proofs.points.spot_point.Given as goal
+use Rattle.table_points.proofs.spots.spot_point.Given as goal
 
 -- what is left decides
 abbrev pub invariant-loop-number : goal.invariant-loop-number

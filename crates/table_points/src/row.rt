@@ -3,7 +3,8 @@
 ghost use Rattle.std.specs.Prelude.{◌≡◌};
 ghost use Rattle.table_read.specs.Reads.{in_ok};
 ghost use Rattle.table_model.specs.Frames.{told_row, told_frame};
-ghost use Rattle.table_asks.specs.Rows.{row_in};
+ghost use Rattle.ps_store.specs.Store.{bytes_of};
+ghost use Rattle.table_points.specs.Rows.{row_in, told_at};
 
 use frame_bytes::Frame;
 use ps_store::{PsStore, StringId};
@@ -21,22 +22,18 @@ pub struct Point {
     pub at: u32,
 }
 
-/// What a frame at a pc tells, by the function that holds this pc.
-fn told_row(
+/// What a frame at a pc tells in a function, of which the names are known.
+fn told_at(
     store: &PsStore,
     is_inner: bool,
     pc: u32,
-    row: Option<FunctionRow>,
+    row: FunctionRow,
+    file: StringId,
+    function: StringId,
 ) -> Result<Point, Lack>
-    ensures { in_ok (row_in store.now) result ≡ told_row store.now is_inner pc row }
+    ensures { in_ok (row_in store.now) result ≡ told_at store.now is_inner pc row (bytes_of store.now file) (bytes_of store.now function) }
 {
-    let found = match row {
-        None => return Err(Lack::NoPoint),
-        Some(found) => found,
-    };
-    let function = string_at(store, found.function, b"name")?;
-    let file = string_at(store, found.unit, b"file")?;
-    let point = point_of_row(store, is_inner, pc, row)?;
+    let point = point_of_row(store, is_inner, pc, Some(row))?;
     let line = number_at(store, point, b"line")?;
     let column = number_at(store, point, b"column")?;
     let at = point_address(store, point)?;
@@ -47,6 +44,25 @@ fn told_row(
         column,
         at,
     })
+}
+
+/// What a frame at a pc tells, by the function that holds this pc.
+fn told_row(
+    store: &PsStore,
+    is_inner: bool,
+    pc: u32,
+    row: Option<FunctionRow>,
+) -> Result<Point, Lack>
+    ensures { in_ok (row_in store.now) result ≡ told_row store.now is_inner pc row }
+{
+    match row {
+        None => Err(Lack::NoPoint),
+        Some(found) => {
+            let function = string_at(store, found.function, b"name")?;
+            let file = string_at(store, found.unit, b"file")?;
+            told_at(store, is_inner, pc, found, file, function)
+        }
+    }
 }
 
 /// What the frame with a number tells: the names of its function and file, then its point.

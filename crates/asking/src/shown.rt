@@ -2,7 +2,7 @@
 
 ghost use Rattle.std.specs.Prelude.{◌≡◌, ◌≤◌};
 ghost use Rattle.ps_store.specs.Store.{closed_part};
-ghost use Rattle.ps_store.specs.Settled.{Settled};
+ghost use Rattle.table_asks.specs.Closing.{Settles};
 
 use crate::lines::value_text;
 use abs_mem::AbsMem;
@@ -99,7 +99,6 @@ fn variable_type(inquiry: &Inquiry, symbol: DictId) -> Result<DictId, AskFault> 
 }
 
 /// Runs the procedure of a symbol, in a dictionary of the command's own.
-#[tactic(auto, using(ps_store::proofs::Settling::settled_same, ps_store::proofs::Settling::settled_on))]
 fn place<W: AbsMem + Drop>(
     inquiry: &mut Inquiry,
     talk: &mut Operators<W>,
@@ -109,7 +108,7 @@ fn place<W: AbsMem + Drop>(
     ensures within { inquiry.new.steps.taken ≤ inquiry.new.steps.limit }
     ensures limit { inquiry.new.steps.limit ≡ inquiry.old.steps.limit }
     ensures more { inquiry.old.steps.taken ≤ inquiry.new.steps.taken }
-    ensures closed { Settled (closed_part inquiry.old.core.store) (closed_part inquiry.new.core.store) }
+    ensures closed { Settles (closed_part inquiry.old.core.store) (closed_part inquiry.new.core.store) }
 {
     let where_is = match procedure_of(&inquiry.core.store, symbol) {
         Ok(procedure) => procedure,
@@ -122,7 +121,6 @@ fn place<W: AbsMem + Drop>(
 }
 
 /// Runs the printer of a type on the place that was left.
-#[tactic(auto, using(ps_store::proofs::Settling::settled_same, ps_store::proofs::Settling::settled_on))]
 fn show<W: AbsMem + Drop>(
     inquiry: &mut Inquiry,
     talk: &mut Operators<W>,
@@ -132,7 +130,7 @@ fn show<W: AbsMem + Drop>(
     ensures within { inquiry.new.steps.taken ≤ inquiry.new.steps.limit }
     ensures limit { inquiry.new.steps.limit ≡ inquiry.old.steps.limit }
     ensures more { inquiry.old.steps.taken ≤ inquiry.new.steps.taken }
-    ensures closed { Settled (closed_part inquiry.old.core.store) (closed_part inquiry.new.core.store) }
+    ensures closed { Settles (closed_part inquiry.old.core.store) (closed_part inquiry.new.core.store) }
 {
     match inquiry.core.push(PsObj::Dict(ctype)) {
         Ok(()) => {}
@@ -145,7 +143,6 @@ fn show<W: AbsMem + Drop>(
 }
 
 /// Prints a variable in a frame whose innermost symbol in scope is given.
-#[tactic(auto, using(ps_store::proofs::Settling::settled_same, ps_store::proofs::Settling::settled_on))]
 fn print_symbol<W: AbsMem + Drop>(
     inquiry: &mut Inquiry,
     talk: &mut Operators<W>,
@@ -155,7 +152,7 @@ fn print_symbol<W: AbsMem + Drop>(
     ensures within { inquiry.new.steps.taken ≤ inquiry.new.steps.limit }
     ensures limit { inquiry.new.steps.limit ≡ inquiry.old.steps.limit }
     ensures more { inquiry.old.steps.taken ≤ inquiry.new.steps.taken }
-    ensures closed { Settled (closed_part inquiry.old.core.store) (closed_part inquiry.new.core.store) }
+    ensures closed { Settles (closed_part inquiry.old.core.store) (closed_part inquiry.new.core.store) }
 {
     let ctype = match variable_type(inquiry, symbol) {
         Ok(ctype) => ctype,
@@ -175,7 +172,6 @@ fn print_symbol<W: AbsMem + Drop>(
 }
 
 /// Prints the variable of a name in a frame.
-#[tactic(auto, using(ps_store::proofs::Settling::settled_same, ps_store::proofs::Settling::settled_on))]
 fn print_in<W: AbsMem + Drop>(
     inquiry: &mut Inquiry,
     talk: &mut Operators<W>,
@@ -187,7 +183,7 @@ fn print_in<W: AbsMem + Drop>(
     ensures within { inquiry.new.steps.taken ≤ inquiry.new.steps.limit }
     ensures limit { inquiry.new.steps.limit ≡ inquiry.old.steps.limit }
     ensures more { inquiry.old.steps.taken ≤ inquiry.new.steps.taken }
-    ensures closed { Settled (closed_part inquiry.old.core.store) (closed_part inquiry.new.core.store) }
+    ensures closed { Settles (closed_part inquiry.old.core.store) (closed_part inquiry.new.core.store) }
 {
     if !is_identifier(name) {
         return Err(AskFault::Refused(Cause::BadSyntax));
@@ -208,7 +204,6 @@ fn print_in<W: AbsMem + Drop>(
 }
 
 /// `print NAME`: the text of the variable of the name that is in scope in the frame with the number.
-#[tactic(auto, using(ps_store::proofs::Settling::settled_same, ps_store::proofs::Settling::settled_on))]
 pub fn printing<W: AbsMem + Drop>(
     inquiry: &mut Inquiry,
     talk: &mut Operators<W>,
@@ -219,7 +214,7 @@ pub fn printing<W: AbsMem + Drop>(
     ensures within { inquiry.new.steps.taken ≤ inquiry.new.steps.limit }
     ensures limit { inquiry.new.steps.limit ≡ inquiry.old.steps.limit }
     ensures more { inquiry.old.steps.taken ≤ inquiry.new.steps.taken }
-    ensures closed { Settled (closed_part inquiry.old.core.store) (closed_part inquiry.new.core.store) }
+    ensures closed { Settles (closed_part inquiry.old.core.store) (closed_part inquiry.new.core.store) }
 {
     match frame_found(inquiry, talk, number) {
         Err(fault) => Err(fault),

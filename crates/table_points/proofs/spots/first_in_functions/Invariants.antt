@@ -2,7 +2,7 @@ use Rattle.std.proofs.Common.{◌≡◌, drop}
 use Rattle.ps_store.specs.Store.{bytes_of}
 use Rattle.table_model.specs.Reading.{first_from}
 use Rattle.table_model.specs.Places.{in_function}
-use Rattle.table_asks.proofs.points.first_in_functions.Given as goal
+use Rattle.table_points.proofs.spots.first_in_functions.Given as goal
 
 -- what is left decides
 abbrev pub invariant-loop-function : goal.invariant-loop-function
