@@ -10,8 +10,8 @@ use Rattle.abs_mem.specs.declared.memory.MemFault.{MemFault}
 use Rattle.abs_mem.specs.declared.memory.MemFault.TheVariants as mem
 use Rattle.break_plant.specs.declared.planting.PlantFault.{PlantFault}
 use Rattle.break_plant.specs.declared.planting.PlantFault.TheVariants as plant
-use Rattle.break_plant.specs.Planted.{noop_of, break_of, word_at, Planted, Plants, LedPlant}
-use Rattle.table_asks.specs.declared.row.Point.{Point}
+use Rattle.break_plant.specs.Planted.{noop_of, break_of, Planted, Plants, LedPlant}
+use Rattle.table_points.specs.declared.row.Point.{Point}
 use Rattle.debug_side.specs.Meant.{address_of}
 use Rattle.debug_side.specs.Wrote.{none_written, writes, Wrote, words_put_back, Puts, LedTalk}
 use Rattle.debug_side.specs.Planting.{LedOn, mem_fault, IsPut, PlantsOne, GivesUp}

@@ -1,5 +1,5 @@
 -- Words that are put one after another.
-use Rattle.std.proofs.Common.{◌≡◌, ◌∙◌, refl, sym, ap, subst, ℕ, ◌+◌, ◌<◌, ◌≤◌, List, [], ◌∷◌, ◌++◌, length, drop, get_or, map, Option, Some, None, Result, Ok, Err, arith, add-one, drop-cons}
+use Rattle.std.proofs.Common.{◌≡◌, ◌∙◌, refl, sym, ap, subst, ℕ, ◌+◌, ◌<◌, List, [], ◌∷◌, length, drop, get_or, map, Option, Some, None, Result, Ok, Err, add-one, drop-cons}
 use Rattle.ldb_words.specs.declared.kinds.Order.{Order}
 use Rattle.ldb_words.specs.declared.kinds.Kind.TheVariants.{Word}
 use Rattle.ldb_words.specs.declared.event.Outside.{Outside}
@@ -8,13 +8,13 @@ use Rattle.ldb_edge.specs.Count.{Rose}
 use Rattle.machine_state.specs.Regions.{Regions, write_of}
 use Rattle.frame_bytes.specs.declared.frame.Space.TheVariants.{Memory}
 use Rattle.frame_bytes.specs.Bytes.{Bytes, stored, or_none}
-use Rattle.abs_mem.specs.Meaning.{Seen, Same, Untold, Stored, Stores, Led}
+use Rattle.abs_mem.specs.Meaning.{Seen, Untold, Stores, Led}
 use Rattle.abs_mem.specs.declared.memory.MemFault.{MemFault}
 use Rattle.abs_mem.specs.declared.memory.MemFault.TheVariants as mem
 use Rattle.abs_mem.proofs.Wires.{in_memory, put_back}
 use Rattle.wire_talk.specs.declared.fault.TalkFault.{TalkFault}
 use Rattle.wire_talk.specs.declared.fault.TalkFault.TheVariants as talk
-use Rattle.table_asks.specs.declared.row.Point.{Point}
+use Rattle.table_points.specs.declared.row.Point.{Point}
 use Rattle.debug_side.specs.declared.words.TheConstants.{PC_OFFSET, NEXT_PC_OFFSET}
 use Rattle.debug_side.specs.Meant.{address_of}
 use Rattle.debug_side.specs.Wrote.{Writes, none_written, writes, Wrote, or_same, word_put, words_put, words_put_back, passed, Puts, LedTalk, where_it_can}

@@ -4,7 +4,7 @@ use Rattle.ldb_words.specs.declared.event.FaultKind.TheVariants as kind
 use Rattle.nub_wire.specs.declared.message.Ending.{Ending}
 use Rattle.nub_wire.specs.declared.message.Ending.TheVariants as ending
 use Rattle.nub_wire.specs.declared.message.Reason.TheVariants as reason
-use Rattle.table_asks.specs.declared.row.Point.{Point}
+use Rattle.table_points.specs.declared.row.Point.{Point}
 use Rattle.debug_side.specs.declared.event.Event.{Event}
 use Rattle.debug_side.specs.declared.event.Event.TheVariants as event
 

@@ -9,7 +9,7 @@ use Rattle.abs_mem.specs.declared.memory.MemFault.TheVariants as mem
 use Rattle.wire_talk.specs.declared.fault.TalkFault.{TalkFault}
 use Rattle.wire_talk.specs.declared.fault.TalkFault.TheVariants as talk
 use Rattle.break_plant.specs.Planted.{noop_of, break_of, word_at}
-use Rattle.table_asks.specs.declared.row.Point.{Point}
+use Rattle.table_points.specs.declared.row.Point.{Point}
 use Rattle.debug_side.specs.Meant.{address_of}
 use Rattle.debug_side.specs.Wrote.{Wrote, words_put_back}
 

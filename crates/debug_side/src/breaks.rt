@@ -10,7 +10,7 @@ ghost use Rattle.debug_side.specs.Planting.{PlantsOne};
 use crate::planting::plant_one;
 use abs_mem::{AbsMem, MemFault};
 use break_plant::unplant;
-use table_asks::Point;
+use table_points::Point;
 
 /// Puts the break word of a target at a point where the no-op stands; another word stands there where it answers false, and
 /// stays.

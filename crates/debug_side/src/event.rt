@@ -6,7 +6,7 @@ ghost use Rattle.debug_side.specs.Meant.{event_of, stop_of, stop_address, keeps_
 use crate::point::{SideRow, point_at};
 use ldb_words::FaultKind;
 use nub_wire::{Ending, Reason};
-use table_asks::Point;
+use table_points::Point;
 
 /// What a side came to: a stop at a point, a pause, the end of its program, a fault, or the end of its turns or its stack.
 #[derive(Clone, Copy)]

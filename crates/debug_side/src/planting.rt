@@ -1,7 +1,7 @@
 // The words of a step.
 
 ghost use Rattle.std.specs.Prelude.{◌≡◌, ◌⊎◌, ◌+◌, ◌<◌, ◌≤◌, ◌∷◌, length, take, drop};
-ghost use Rattle.table_asks.specs.declared.row.Point.{Point};
+ghost use Rattle.table_points.specs.declared.row.Point.{Point};
 ghost use Rattle.machine_state.specs.declared.layout.TheConstants.{MIPS, SPARC};
 ghost use Rattle.abs_mem.specs.Meaning.{Led};
 ghost use Rattle.debug_side.specs.Planting.{PlantsOne, GivesUp, LedOn, mem_fault, kept_with};
@@ -9,8 +9,8 @@ ghost use Rattle.debug_side.specs.Planting.{PlantsOne, GivesUp, LedOn, mem_fault
 use crate::words::unplant_back;
 use abs_mem::{AbsMem, MemFault};
 use break_plant::{PlantFault, plant};
+use table_points::Point;
 use wire_talk::TalkFault;
-use table_asks::Point;
 
 /// Puts the break word at an address where the no-op stands, and says whether it stood there.
 pub fn plant_one<M: AbsMem>(target: u8, m: &mut M, at: u32) -> Result<bool, MemFault>

@@ -4,7 +4,7 @@ ghost use Rattle.std.specs.Prelude.{◌≡◌};
 ghost use Rattle.debug_side.specs.Meant.{point_at};
 
 use crate::event::Event;
-use table_asks::Point;
+use table_points::Point;
 
 /// What a debugger knows of a machine: its target byte, and the address of its context block.
 #[derive(Clone, Copy)]

@@ -11,8 +11,8 @@ use abs_mem::{AbsMem, MemFault};
 use break_plant::unplant;
 use frame_bytes::{Place, Space};
 use ldb_words::Kind;
+use table_points::Point;
 use wire_talk::TalkFault;
-use table_asks::Point;
 
 /// How far into a context block the word of the pc stands, and that of the next pc: they are words 34 and 35.
 const PC_OFFSET: u32 = 136;

@@ -16,18 +16,18 @@ use table_asks::{AskFault, begin_command, end_command};
 /// What a command says on a side, whose steps are begun. Those that are asked of no side say nothing.
 fn told<L: Link + Drop>(
     talk: &mut Operators<Wire<L>>,
-    record: &mut SideRecord,
+    side: &mut SideRecord,
     command: &Command,
 ) -> Result<Text, AskFault>
-    requires within { record.old.inquiry.steps.taken ≤ record.old.inquiry.steps.limit }
-    ensures kept { OnErr result (record.new.row.breaks.items ≡ record.old.row.breaks.items) }
-    ensures frame { record.new.frame ≡ record.old.frame }
+    requires within { side.old.inquiry.steps.taken ≤ side.old.inquiry.steps.limit }
+    ensures kept { OnErr result (side.new.row.breaks.items ≡ side.old.row.breaks.items) }
+    ensures frame { side.new.frame ≡ side.old.frame }
 {
-    let inquiry = &mut record.inquiry;
-    let frame = record.frame;
+    let inquiry = &mut side.inquiry;
+    let frame = side.frame;
     match command {
-        Command::Break(spot) => breaking(inquiry, talk, &mut record.row.breaks, spot),
-        Command::Clear(spot) => clearing(inquiry, talk, &mut record.row.breaks, spot),
+        Command::Break(spot) => breaking(inquiry, talk, &mut side.row.breaks, spot),
+        Command::Clear(spot) => clearing(inquiry, talk, &mut side.row.breaks, spot),
         Command::Frames => listing(inquiry, talk),
         Command::Frame(number) => choosing(inquiry, talk, *number),
         Command::Print(name) => printing(inquiry, talk, frame, name.as_bytes()),
@@ -49,24 +49,32 @@ fn chosen(command: &Command, frame: u32) -> u32 {
 /// What a command says on a side. One that isn't done leaves the breakpoints and the chosen frame.
 pub fn asked<L: Link + Drop>(
     talk: &mut Operators<Wire<L>>,
-    record: &mut SideRecord,
+    side: &mut SideRecord,
     command: &Command,
 ) -> Result<Text, AskFault>
-    ensures kept { OnErr result (IsKept record.old record.new) }
+    ensures kept { OnErr result (IsKept side.old side.new) }
 {
-    turn(talk, record);
-    let mark = match begin_command(&mut record.inquiry) {
+    turn(talk, side);
+    let mark = match begin_command(&mut side.inquiry) {
         Ok(mark) => mark,
         Err(_) => return Err(AskFault::NoMemory),
     };
-    let said = told(talk, record, command);
-    end_command(&mut record.inquiry, mark);
+    let said = told(talk, side, command);
+    end_command(&mut side.inquiry, mark);
     match said {
         Err(fault) => Err(fault),
         Ok(text) => {
-            record.frame = chosen(command, record.frame);
+            side.frame = chosen(command, side.frame);
             Ok(text)
         }
+    }
+}
+
+/// Why a link failed, where it is why a command isn't done.
+fn unbroken(fault: AskFault) -> Result<(), MemFault> {
+    match fault {
+        AskFault::Broken(why) => Err(why),
+        _ => Ok(()),
     }
 }
 
@@ -74,29 +82,29 @@ pub fn asked<L: Link + Drop>(
 /// frame stay.
 pub fn ran<L: Link + Drop>(
     talk: &mut Operators<Wire<L>>,
-    record: &mut SideRecord,
+    side: &mut SideRecord,
     text: &[u8],
 ) -> Result<(), MemFault>
-    ensures { IsKept record.old record.new }
+    ensures { IsKept side.old side.new }
 {
-    turn(talk, record);
-    let mark = match begin_command(&mut record.inquiry) {
+    turn(talk, side);
+    let mark = match begin_command(&mut side.inquiry) {
         Ok(mark) => mark,
         Err(_) => return Ok(()),
     };
-    let said = running_text(&mut record.inquiry, talk, record.frame, text);
-    end_command(&mut record.inquiry, mark);
+    let said = running_text(&mut side.inquiry, talk, side.frame, text);
+    end_command(&mut side.inquiry, mark);
     match said {
-        Err(AskFault::Broken(why)) => Err(why),
-        _ => Ok(()),
+        Ok(_said) => Ok(()),
+        Err(fault) => unbroken(fault),
     }
 }
 
 /// What `regs` says on a side.
 pub fn registers_of<L: Link + Drop>(
     talk: &mut Operators<Wire<L>>,
-    record: &SideRecord,
+    side: &SideRecord,
 ) -> Result<Text, AskFault> {
-    turn(talk, record);
-    registers(record.inquiry.core.operands.allocator(), talk)
+    turn(talk, side);
+    registers(side.inquiry.core.operands.allocator(), talk)
 }

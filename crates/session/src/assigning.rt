@@ -12,27 +12,27 @@ use table_asks::{AskFault, begin_command, end_command};
 /// What an assignment changes on a side. Nothing is stored.
 pub fn assigned<L: Link + Drop>(
     talk: &mut Operators<Wire<L>>,
-    record: &mut SideRecord,
+    side: &mut SideRecord,
     text: &[u8],
 ) -> Result<Changes, AskFault>
-    ensures { IsKept record.old record.new }
+    ensures { IsKept side.old side.new }
 {
-    turn(talk, record);
-    let mark = match begin_command(&mut record.inquiry) {
+    turn(talk, side);
+    let mark = match begin_command(&mut side.inquiry) {
         Ok(mark) => mark,
         Err(_) => return Err(AskFault::NoMemory),
     };
-    let changes = assignment(&mut record.inquiry, talk, record.frame, text);
-    end_command(&mut record.inquiry, mark);
+    let changes = assignment(&mut side.inquiry, talk, side.frame, text);
+    end_command(&mut side.inquiry, mark);
     changes
 }
 
 /// Stores what an assignment changes on a side.
 pub fn store<L: Link + Drop>(
     talk: &mut Operators<Wire<L>>,
-    record: &SideRecord,
+    side: &SideRecord,
     changes: &Changes,
 ) -> Result<(), AskFault> {
-    turn(talk, record);
+    turn(talk, side);
     store_all(talk, changes)
 }

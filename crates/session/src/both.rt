@@ -37,19 +37,19 @@ fn undone<L: Link + Drop>(
 /// Puts back the words of the breakpoints that a side had.
 fn put_back<L: Link + Drop>(
     talk: &mut Operators<Wire<L>>,
-    record: &SideRecord,
+    side: &SideRecord,
     before: &[Point],
 ) -> Result<(), MemFault> {
-    turn(talk, record);
-    let target = record.machine.byte();
+    turn(talk, side);
+    let target = side.machine.byte();
     let wire = &mut talk.memory.below.below.below;
-    for point in &record.row.breaks {
+    for point in &side.row.breaks {
         if point_at(before, point.at).is_none() {
             clear_break(target, wire, *point)?;
         }
     }
     for point in before {
-        if point_at(record.row.breaks.as_slice(), point.at).is_none() {
+        if point_at(side.row.breaks.as_slice(), point.at).is_none() {
             set_break(target, wire, *point)?;
         }
     }

@@ -14,28 +14,28 @@ use resuming::{Dropped, RunFault};
 /// Resumes a side up to its event.
 fn resumed<L: Link + Drop, O: Sink>(
     talk: &mut Operators<Wire<L>>,
-    record: &mut SideRecord,
+    side: &mut SideRecord,
     limit: u32,
     out: &mut O,
 ) -> Result<Event, RunFault>
     ensures { CountsOutput (O.faults out.old) (O.faults out.new) result }
 {
-    turn(talk, record);
-    let kind = record.kind();
+    turn(talk, side);
+    let kind = side.kind();
     resume_side(
         kind,
         &mut talk.memory.below.below.below,
-        &mut record.row,
+        &mut side.row,
         limit,
         out,
     )
 }
 
 /// What a side keeps behind a resume.
-fn settle_side(record: &mut SideRecord, all: Event, event: Event) {
-    record.row.kept = kept_of(all, event);
+fn settle_side(side: &mut SideRecord, all: Event, event: Event) {
+    side.row.kept = kept_of(all, event);
     if stands(all) {
-        record.frame = 0;
+        side.frame = 0;
     }
 }
 

@@ -51,7 +51,10 @@ pub struct Session<L> {
 }
 
 /// A reply, if there was memory for it.
-fn answer(said: Result<Text, AllocError>) -> Answer {
+fn answer(said: Result<Text, AllocError>) -> Answer
+    ensures ok { IfOk said (λ text. result ≡ Answer.Lines text) }
+    ensures err { OnErr said (result ≡ Answer.NoMemory) }
+{
     match said {
         Ok(text) => Answer::Lines(text),
         Err(_) => Answer::NoMemory,
@@ -65,7 +68,10 @@ fn malformed(alloc: Global, line: &[u8]) -> Answer
     if is_empty(line) {
         return Answer::Lines(Text::new(alloc));
     }
-    answer(Text::from_slice(alloc, b"refused line\n"))
+    match Text::from_slice(alloc, b"refused line\n") {
+        Ok(text) => Answer::Lines(text),
+        Err(_) => Answer::NoMemory,
+    }
 }
 
 /// The command that began a resume, where the session may stand in an interrupted one.
@@ -194,6 +200,8 @@ impl<L: Link + Drop> Session<L> {
     /// The session ends, since its link failed.
     fn break_off(&mut self) -> Answer
         ensures mode { self.new.mode ≡ Mode.Ended }
+        ensures limit { self.new.limit ≡ self.old.limit }
+        ensures first { self.new.first ≡ self.old.first }
         ensures some { result ≡ Answer.Lines self.old.broken }
     {
         self.mode = Mode::Ended;

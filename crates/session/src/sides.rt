@@ -42,7 +42,7 @@ impl Machine {
 /// steps of a command in it, its breakpoints and where it stands, and the number of its chosen frame.
 #[derive(Drop)]
 pub struct SideRecord {
-    pub side: Side,
+    pub which: Side,
     pub machine: Machine,
     pub context: u32,
     pub inquiry: Inquiry,
@@ -63,11 +63,11 @@ impl SideRecord {
 }
 
 /// The memory that operators see is that of this side.
-pub fn turn<L>(talk: &mut Operators<Wire<L>>, record: &SideRecord) {
-    let order = record.machine.order();
-    talk.memory.below.below.below.side = record.side;
+pub fn turn<L>(talk: &mut Operators<Wire<L>>, side: &SideRecord) {
+    let order = side.machine.order();
+    talk.memory.below.below.below.side = side.which;
     talk.memory.below.below.below.order = order;
     talk.memory.below.below.order = order;
-    talk.view.target = record.machine.byte();
-    talk.view.context = record.context;
+    talk.view.target = side.machine.byte();
+    talk.view.context = side.context;
 }

@@ -78,7 +78,7 @@ pub fn begun<L: Link>(
     let context = context_of(link, side)?;
     give_all(link, side, input)?;
     Ok(SideRecord {
-        side,
+        which: side,
         machine,
         context,
         inquiry: Inquiry {

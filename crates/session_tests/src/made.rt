@@ -1,13 +1,10 @@
 // Images and tables.
 
-use ldb_cc::{Aim, compile};
-use ldb_words::Text;
 use machine_state::TEXT;
 use obj_file::{Image, read_image};
 use ps_store::PsStore;
 use std::alloc::{AllocError, Global};
 use table_run::run_table;
-use test_rows::part;
 
 /// An image with its table.
 #[derive(Drop)]
@@ -50,29 +47,6 @@ pub fn by_hand(alloc: Global, given: &[u32], table: &[u8]) -> Result<Option<Made
     let target = image.target();
     match run_table(alloc, table, target) {
         Ok(table) => Ok(Some(Made { image, table })),
-        Err(_) => Ok(None),
-    }
-}
-
-/// What is compiled of sources, whose names and texts stand one behind the other.
-pub fn compiled(alloc: Global, aim: Aim, parts: &[Vec<u8>]) -> Result<Option<Made>, AllocError> {
-    let mut names = Vec::new(alloc);
-    let mut texts = Vec::new(alloc);
-    let mut at = 0;
-    while at < parts.len() {
-        names.push(Text::from_slice(alloc, part(parts, at))?)?;
-        texts.push(Vec::from_slice(alloc, part(parts, at + 1))?)?;
-        at += 2;
-    }
-    let Ok(built) = compile(alloc, aim, names.as_slice(), texts.as_slice()) else {
-        return Ok(None);
-    };
-    let target = built.image.target();
-    match run_table(alloc, built.table.as_bytes(), target) {
-        Ok(table) => Ok(Some(Made {
-            image: built.image,
-            table,
-        })),
         Err(_) => Ok(None),
     }
 }

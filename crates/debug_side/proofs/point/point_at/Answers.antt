@@ -1,7 +1,7 @@
 use Rattle.std.proofs.Common.{◌≡◌, ◌≢◌, ◌∙◌, refl, sym, ap, ℕ, ◌+◌, ◌<◌, ◌≤◌, nat_eq, Bool, true, false, List, [], ◌∷◌, length, drop, Option, Some, arith, eq-eqb}
 use Rattle.std.proofs.lemmas.Bool.{eqb-true}
 use Rattle.std.proofs.lemmas.Grind.{common_steps}
-use Rattle.table_asks.specs.declared.row.Point.{Point}
+use Rattle.table_points.specs.declared.row.Point.{Point}
 use Rattle.debug_side.specs.Meant.{point_at}
 use Rattle.debug_side.proofs.Putting.{at_drop}
 use Rattle.debug_side.proofs.point.point_at.Goals as goal

@@ -1,4 +1,4 @@
-use Rattle.std.proofs.Common.{◌∙◌, Ok, Err}
+use Rattle.std.proofs.Common.{◌∙◌, Err}
 use Rattle.nub_wire.specs.declared.message.Ending.{Ending}
 use Rattle.debug_side.specs.declared.event.Event.{Event}
 use Rattle.debug_side.proofs.Resuming.{counts_talk, counts_after, counts_other, called_none, called_badly, called_run, called_fault, puts_count}

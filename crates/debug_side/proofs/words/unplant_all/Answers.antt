@@ -1,7 +1,7 @@
 use Rattle.std.proofs.Common.{◌≡◌, ◌<◌, ◌≤◌, ℕ, List, [], length, drop, refl, None, arith}
 use Rattle.std.proofs.lemmas.Grind.{common_steps}
 use Rattle.break_plant.specs.Planted.{noop_of}
-use Rattle.table_asks.specs.declared.row.Point.{Point}
+use Rattle.table_points.specs.declared.row.Point.{Point}
 use Rattle.debug_side.proofs.Putting.{FrontLeft, wrote_none, puts_after, at_drop, front_more, front_all, led_after}
 use Rattle.debug_side.proofs.words.unplant_all.Goals as goal
 

@@ -1,7 +1,7 @@
 use Rattle.std.proofs.Common.{◌≡◌, ◌<◌, ◌≤◌, ◌+◌, ◌-◌, ℕ, List, [], length, drop, map, sym, ap, None, arith}
 use Rattle.std.proofs.lemmas.Grind.{common_steps}
 use Rattle.break_plant.specs.Planted.{noop_of}
-use Rattle.table_asks.specs.declared.row.Point.{Point}
+use Rattle.table_points.specs.declared.row.Point.{Point}
 use Rattle.debug_side.specs.Meant.{address_of}
 use Rattle.debug_side.specs.Wrote.{words_put_back}
 use Rattle.debug_side.proofs.Putting.{BackDone, wrote_none, puts_after, at_drop, back_more, back_all, led_after}
