@@ -2,7 +2,7 @@
 
 ghost use Rattle.std.specs.Prelude.{◌≡◌, ◌≤◌};
 ghost use Rattle.ps_store.specs.Store.{closed_part};
-ghost use Rattle.ps_store.specs.Settled.{Settled};
+ghost use Rattle.table_asks.specs.Closing.{Settles};
 
 use crate::depths::is_struct;
 use crate::leaves::{fetch_leaves, further, leaves_of};
@@ -53,7 +53,6 @@ fn reply(alloc: Global, word: &[u8], text: &[u8]) -> Result<Text, AskFault> {
 }
 
 /// The text of an expression's value.
-#[tactic(auto, using(ps_store::proofs::Settling::settled_same, ps_store::proofs::Settling::settled_on))]
 fn value<W: AbsMem + Drop>(
     inquiry: &mut Inquiry,
     talk: &mut Operators<W>,
@@ -63,7 +62,7 @@ fn value<W: AbsMem + Drop>(
     requires within { inquiry.old.steps.taken ≤ inquiry.old.steps.limit }
     ensures within { inquiry.new.steps.taken ≤ inquiry.new.steps.limit }
     ensures limit { inquiry.new.steps.limit ≡ inquiry.old.steps.limit }
-    ensures closed { Settled (closed_part inquiry.old.core.store) (closed_part inquiry.new.core.store) }
+    ensures closed { Settles (closed_part inquiry.old.core.store) (closed_part inquiry.new.core.store) }
 {
     let alloc = inquiry.core.operands.allocator();
     match read_text(inquiry, talk, frame, text, Mode::Value) {
@@ -76,7 +75,6 @@ fn value<W: AbsMem + Drop>(
 }
 
 /// `eval`: the value of an expression in the frame with a number, as the line `value TEXT`.
-#[tactic(auto, using(ps_store::proofs::Settling::settled_same, ps_store::proofs::Settling::settled_on))]
 pub fn evaluating<W: AbsMem + Drop>(
     inquiry: &mut Inquiry,
     talk: &mut Operators<W>,
@@ -86,7 +84,7 @@ pub fn evaluating<W: AbsMem + Drop>(
     requires within { inquiry.old.steps.taken ≤ inquiry.old.steps.limit }
     ensures within { inquiry.new.steps.taken ≤ inquiry.new.steps.limit }
     ensures limit { inquiry.new.steps.limit ≡ inquiry.old.steps.limit }
-    ensures closed { Settled (closed_part inquiry.old.core.store) (closed_part inquiry.new.core.store) }
+    ensures closed { Settles (closed_part inquiry.old.core.store) (closed_part inquiry.new.core.store) }
 {
     let alloc = inquiry.core.operands.allocator();
     match value(inquiry, talk, frame, text) {
@@ -96,7 +94,6 @@ pub fn evaluating<W: AbsMem + Drop>(
 }
 
 /// `code`: the PostScript that computes an expression in the frame with a number, as the line `code TEXT`. It is not run.
-#[tactic(auto, using(ps_store::proofs::Settling::settled_same, ps_store::proofs::Settling::settled_on))]
 pub fn coding<W: AbsMem + Drop>(
     inquiry: &mut Inquiry,
     talk: &mut Operators<W>,
@@ -106,7 +103,7 @@ pub fn coding<W: AbsMem + Drop>(
     requires within { inquiry.old.steps.taken ≤ inquiry.old.steps.limit }
     ensures within { inquiry.new.steps.taken ≤ inquiry.new.steps.limit }
     ensures limit { inquiry.new.steps.limit ≡ inquiry.old.steps.limit }
-    ensures closed { Settled (closed_part inquiry.old.core.store) (closed_part inquiry.new.core.store) }
+    ensures closed { Settles (closed_part inquiry.old.core.store) (closed_part inquiry.new.core.store) }
 {
     let alloc = inquiry.core.operands.allocator();
     match read_text(inquiry, talk, frame, text, Mode::Value) {
@@ -192,7 +189,6 @@ fn right_side<W: AbsMem + Drop>(
 }
 
 /// What an assignment changes, once its text has run: no literal, and all leaves can be fetched.
-#[tactic(auto, using(ps_store::proofs::Settling::settled_same, ps_store::proofs::Settling::settled_on))]
 fn fetch_changes<W: AbsMem + Drop>(
     alloc: Global,
     inquiry: &mut Inquiry,
@@ -202,7 +198,7 @@ fn fetch_changes<W: AbsMem + Drop>(
     requires within { inquiry.old.steps.taken ≤ inquiry.old.steps.limit }
     ensures within { inquiry.new.steps.taken ≤ inquiry.new.steps.limit }
     ensures limit { inquiry.new.steps.limit ≡ inquiry.old.steps.limit }
-    ensures closed { Settled (closed_part inquiry.old.core.store) (closed_part inquiry.new.core.store) }
+    ensures closed { Settles (closed_part inquiry.old.core.store) (closed_part inquiry.new.core.store) }
 {
     let place = match target_left(inquiry, read) {
         Err(fault) => return Err(fault),
@@ -238,7 +234,6 @@ fn fetch_changes<W: AbsMem + Drop>(
 
 /// `assign`: what a plain assignment changes in the frame with a number. Its text is run, a place in memory that belongs to a string literal is
 /// refused, and then each leaf is fetched. Nothing is stored.
-#[tactic(auto, using(ps_store::proofs::Settling::settled_same, ps_store::proofs::Settling::settled_on))]
 pub fn assignment<W: AbsMem + Drop>(
     inquiry: &mut Inquiry,
     talk: &mut Operators<W>,
@@ -248,7 +243,7 @@ pub fn assignment<W: AbsMem + Drop>(
     requires within { inquiry.old.steps.taken ≤ inquiry.old.steps.limit }
     ensures within { inquiry.new.steps.taken ≤ inquiry.new.steps.limit }
     ensures limit { inquiry.new.steps.limit ≡ inquiry.old.steps.limit }
-    ensures closed { Settled (closed_part inquiry.old.core.store) (closed_part inquiry.new.core.store) }
+    ensures closed { Settles (closed_part inquiry.old.core.store) (closed_part inquiry.new.core.store) }
 {
     let alloc = inquiry.core.operands.allocator();
     let read = match read_text(inquiry, talk, frame, text, Mode::Assign) {

@@ -2,7 +2,7 @@
 
 ghost use Rattle.std.specs.Prelude.{◌≡◌, ◌≤◌};
 ghost use Rattle.ps_store.specs.Store.{closed_part};
-ghost use Rattle.ps_store.specs.Settled.{Settled};
+ghost use Rattle.table_asks.specs.Closing.{Settles};
 
 use crate::known::{Known, Want, wanted};
 use abs_mem::AbsMem;
@@ -146,7 +146,6 @@ fn read_in(
 }
 
 /// Reads a text in the frame with a number: the frame, the grammar, the names and tags in their order, and then the typing rules.
-#[tactic(auto, using(ps_store::proofs::Settling::settled_same, ps_store::proofs::Settling::settled_on))]
 pub fn read_text<W: AbsMem + Drop>(
     inquiry: &mut Inquiry,
     talk: &mut Operators<W>,
@@ -157,7 +156,7 @@ pub fn read_text<W: AbsMem + Drop>(
     requires within { inquiry.old.steps.taken ≤ inquiry.old.steps.limit }
     ensures within { inquiry.new.steps.taken ≤ inquiry.new.steps.limit }
     ensures limit { inquiry.new.steps.limit ≡ inquiry.old.steps.limit }
-    ensures closed { Settled (closed_part inquiry.old.core.store) (closed_part inquiry.new.core.store) }
+    ensures closed { Settles (closed_part inquiry.old.core.store) (closed_part inquiry.new.core.store) }
 {
     let alloc = inquiry.core.operands.allocator();
     let frame = match frame_found(inquiry, talk, number) {

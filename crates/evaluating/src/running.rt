@@ -2,7 +2,7 @@
 
 ghost use Rattle.std.specs.Prelude.{◌≡◌, ◌≤◌};
 ghost use Rattle.ps_store.specs.Store.{closed_part};
-ghost use Rattle.ps_store.specs.Settled.{Settled};
+ghost use Rattle.table_asks.specs.Closing.{Settles};
 
 use crate::known::{Want, wanted};
 use crate::reading::ReadText;
@@ -19,7 +19,6 @@ use table_asks::{AskFault, Cause, Inquiry, begin_run, run_object, settle_walk};
 use table_model::Found;
 
 /// Runs the PostScript of a text in its frame.
-#[tactic(auto, using(ps_store::proofs::Settling::settled_same, ps_store::proofs::Settling::settled_on))]
 pub fn run_text<W: AbsMem + Drop>(
     inquiry: &mut Inquiry,
     talk: &mut Operators<W>,
@@ -28,7 +27,7 @@ pub fn run_text<W: AbsMem + Drop>(
     requires within { inquiry.old.steps.taken ≤ inquiry.old.steps.limit }
     ensures within { inquiry.new.steps.taken ≤ inquiry.new.steps.limit }
     ensures limit { inquiry.new.steps.limit ≡ inquiry.old.steps.limit }
-    ensures closed { Settled (closed_part inquiry.old.core.store) (closed_part inquiry.new.core.store) }
+    ensures closed { Settles (closed_part inquiry.old.core.store) (closed_part inquiry.new.core.store) }
 {
     talk.view.standing = Standing::InFrame {
         frame: read.frame,
@@ -70,7 +69,6 @@ pub fn place_left(core: &PsCore, depth: usize) -> Result<Place, PsError> {
 }
 
 /// The object to which an address belongs, if there is one.
-#[tactic(auto, using(ps_store::proofs::Settling::settled_same, ps_store::proofs::Settling::settled_on))]
 fn object_at<W: AbsMem + Drop>(
     inquiry: &mut Inquiry,
     talk: &mut Operators<W>,
@@ -79,7 +77,7 @@ fn object_at<W: AbsMem + Drop>(
     requires within { inquiry.old.steps.taken ≤ inquiry.old.steps.limit }
     ensures within { inquiry.new.steps.taken ≤ inquiry.new.steps.limit }
     ensures limit { inquiry.new.steps.limit ≡ inquiry.old.steps.limit }
-    ensures closed { Settled (closed_part inquiry.old.core.store) (closed_part inquiry.new.core.store) }
+    ensures closed { Settles (closed_part inquiry.old.core.store) (closed_part inquiry.new.core.store) }
 {
     let mut locator = Locator {
         target: talk.view.target,
@@ -98,7 +96,6 @@ fn object_at<W: AbsMem + Drop>(
 }
 
 /// Whether a place may be written: no string literal is.
-#[tactic(auto, using(ps_store::proofs::Settling::settled_same, ps_store::proofs::Settling::settled_on))]
 pub fn check_writable<W: AbsMem + Drop>(
     inquiry: &mut Inquiry,
     talk: &mut Operators<W>,
@@ -107,7 +104,7 @@ pub fn check_writable<W: AbsMem + Drop>(
     requires within { inquiry.old.steps.taken ≤ inquiry.old.steps.limit }
     ensures within { inquiry.new.steps.taken ≤ inquiry.new.steps.limit }
     ensures limit { inquiry.new.steps.limit ≡ inquiry.old.steps.limit }
-    ensures closed { Settled (closed_part inquiry.old.core.store) (closed_part inquiry.new.core.store) }
+    ensures closed { Settles (closed_part inquiry.old.core.store) (closed_part inquiry.new.core.store) }
 {
     if place.space != Space::Memory || place.at == 0 {
         return Ok(());

@@ -1,6 +1,8 @@
 // Pieces of a text of PostScript.
 
-use crate::operators::{conversion, is_unsigned, kind_of, on_ints, on_pointers, on_unsigned, works_on_unsigned};
+use crate::operators::{
+    conversion, is_unsigned, kind_of, on_ints, on_pointers, on_unsigned, works_on_unsigned,
+};
 use c_judge::Symbol;
 use c_tree::{BinaryOp, CType, StructDef, members, size_of};
 use ldb_words::Text;

@@ -44,11 +44,7 @@ fn role_behind(text: &[u8], before: Token) -> Role {
 }
 
 /// The names and tags of an expression by its tokens, in the order of the text.
-pub fn mentions(
-    alloc: Global,
-    text: &[u8],
-    tokens: &[Token],
-) -> Result<Vec<Mention>, AllocError> {
+pub fn mentions(alloc: Global, text: &[u8], tokens: &[Token]) -> Result<Vec<Mention>, AllocError> {
     let mut found = Vec::new(alloc);
     let mut role = Role::Name;
     for token in tokens {

@@ -10,7 +10,6 @@ ghost use Rattle.expr_serve.specs.Texts.{AreExpression, IsExpression};
 use crate::coder::text_of;
 use crate::fault::Refuse;
 use crate::mention::{Mention, mentions};
-use c_discard::{discard_expr, discard_typed};
 use c_expr::{Expr, SynFault, parse_expr};
 use c_judge::{ExprFault, Mode, Symbol, check_expr, copied, head_of, value_type};
 use c_lex::{LexFault, Token, tokens};
@@ -65,7 +64,6 @@ fn tokens_of(alloc: Global, text: &[u8]) -> Result<Vec<Token>, Refuse>
 }
 
 /// The tree of a text with these tokens.
-#[tactic(auto, using(crate::proofs::Texts::none_deep))]
 fn tree_of(alloc: Global, text: &[u8], tokens: &[Token]) -> Result<Expr, Refuse>
     ensures tree { OnOk result (AreExpression (terminals text.now tokens.now)) }
     ensures none { result ≡ Err NoExpression → AreExpression (terminals text.now tokens.now) → ⊥ }
@@ -89,7 +87,7 @@ fn mentions_of(alloc: Global, text: &[u8]) -> Result<Vec<Mention>, Refuse>
         Err(refused) => return Err(refused),
     };
     match tree_of(alloc, text, found.as_slice()) {
-        Ok(expr) => discard_expr(expr),
+        Ok(expr) => drop(expr),
         Err(refused) => return Err(refused),
     }
     match mentions(alloc, text, found.as_slice()) {
@@ -123,7 +121,7 @@ fn checked(
         Err(refused) => Err(refused),
         Ok(expr) => {
             let result = check_expr(alloc, &expr, symbols, defs, mode);
-            discard_expr(expr);
+            drop(expr);
             match result {
                 Ok(typed) => Ok(typed),
                 Err(fault) => Err(refused_by(&fault)),
@@ -261,7 +259,7 @@ impl Server {
             Err(refused) => Err(refused),
             Ok(typed) => {
                 let result = told(self.alloc, &typed, self.mode, symbols, defs);
-                discard_typed(typed);
+                drop(typed);
                 Ok(result?)
             }
         }

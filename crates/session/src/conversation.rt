@@ -1,7 +1,7 @@
 // A session.
 
-ghost use Rattle.std.specs.Prelude.{◌≡◌, IfOk, OnErr, Ok, Err, Some};
-ghost use Rattle.c_session.specs.declared.command.Command.TheVariants.{Quit};
+ghost use Rattle.std.specs.Prelude.{◌≡◌, ◌⊎◌, IfOk, OnErr, Ok, Err, Some};
+ghost use Rattle.c_session.specs.declared.command.Command.TheVariants.{Quit, Turns};
 ghost use Rattle.cmd_lang.specs.Commands.{read_of};
 ghost use Rattle.session.specs.Answered.{IsLineReply, IsEndedReply, AnswersEnded};
 ghost use Rattle.session.specs.Counted.{CountsOutput, CountsEnd, IsNoQuit};
@@ -157,6 +157,8 @@ impl<L: Link + Drop> Session<L> {
         ensures ended { self.old.mode ≡ Mode.Ended → AnswersEnded result × (self.new ≡ self.old) }
         ensures no_memory { result ≡ Ok Answer.NoMemory → (self.new.mode ≡ self.old.mode) × (self.new.limit ≡ self.old.limit) × IsKept self.old.first self.new.first }
         ensures out_fault { result ≡ Err End.OutFault → self.new.mode ≡ Mode.Ended }
+        ensures limit { (self.new.limit ≡ self.old.limit) ⊎ (read_of self.old.raw line.now ≡ Some (Turns self.new.limit)) }
+        ensures raw { self.new.raw ≡ self.old.raw }
     {
         match read_command(self.alloc, line, self.raw) {
             Err(CmdFault::Line) => Ok(malformed(self.alloc, line)),
@@ -174,6 +176,8 @@ impl<L: Link + Drop> Session<L> {
         ensures going { self.old.mode ≡ Mode.Ended → OnErr result ⊥ }
         ensures no_memory { result ≡ Ok Answer.NoMemory → (self.new.mode ≡ self.old.mode) × (self.new.limit ≡ self.old.limit) × IsKept self.old.first self.new.first }
         ensures out_fault { OnErr result (self.new.mode ≡ Mode.Ended) }
+        ensures limit { (self.new.limit ≡ self.old.limit) ⊎ (command.now ≡ Turns self.new.limit) }
+        ensures raw { self.new.raw ≡ self.old.raw }
     {
         if let Some(why) = refused_in(self.mode, command) {
             return Ok(answer(mode_reply(self.alloc, why)));
@@ -203,6 +207,7 @@ impl<L: Link + Drop> Session<L> {
         ensures limit { self.new.limit ≡ self.old.limit }
         ensures first { self.new.first ≡ self.old.first }
         ensures some { result ≡ Answer.Lines self.old.broken }
+        ensures raw { self.new.raw ≡ self.old.raw }
     {
         self.mode = Mode::Ended;
         Answer::Lines(mem::replace(&mut self.broken, Text::new(self.alloc)))
@@ -213,6 +218,7 @@ impl<L: Link + Drop> Session<L> {
         ensures limit { self.new.limit ≡ self.old.limit }
         ensures first { self.new.first ≡ self.old.first }
         ensures no_memory { result ≡ Answer.NoMemory → IsUndone said × (self.new.mode ≡ self.old.mode) }
+        ensures raw { self.new.raw ≡ self.old.raw }
     {
         match said {
             Ok(text) => Answer::Lines(text),
@@ -227,6 +233,8 @@ impl<L: Link + Drop> Session<L> {
     /// `turns`.
     fn set_limit(&mut self, limit: u32) -> Answer
         ensures no_memory { result ≡ Answer.NoMemory → self.new ≡ self.old }
+        ensures limit { (self.new.limit ≡ self.old.limit) ⊎ (self.new.limit ≡ limit) }
+        ensures raw { self.new.raw ≡ self.old.raw }
     {
         match limit_reply(self.alloc, limit) {
             Ok(text) => {
@@ -242,6 +250,7 @@ impl<L: Link + Drop> Session<L> {
         ensures mode { self.new.mode ≡ self.old.mode }
         ensures limit { self.new.limit ≡ self.old.limit }
         ensures first { self.new.first ≡ self.old.first }
+        ensures raw { self.new.raw ≡ self.old.raw }
     {
         match &self.second {
             None => registers_of(&mut self.talk, &self.first),
@@ -254,6 +263,7 @@ impl<L: Link + Drop> Session<L> {
         ensures mode { self.new.mode ≡ self.old.mode }
         ensures limit { self.new.limit ≡ self.old.limit }
         ensures kept { IsUndone result → IsKept self.old.first self.new.first }
+        ensures raw { self.new.raw ≡ self.old.raw }
     {
         match &mut self.second {
             None => asked(&mut self.talk, &mut self.first, command),
@@ -266,6 +276,7 @@ impl<L: Link + Drop> Session<L> {
         ensures mode { self.new.mode ≡ self.old.mode }
         ensures limit { self.new.limit ≡ self.old.limit }
         ensures kept { IsKept self.old.first self.new.first }
+        ensures raw { self.new.raw ≡ self.old.raw }
     {
         match &mut self.second {
             None => assign_one(&mut self.talk, &mut self.first, text),
@@ -278,6 +289,7 @@ impl<L: Link + Drop> Session<L> {
         ensures mode { self.new.mode ≡ self.old.mode }
         ensures limit { self.new.limit ≡ self.old.limit }
         ensures kept { IsKept self.old.first self.new.first }
+        ensures raw { self.new.raw ≡ self.old.raw }
     {
         match prepared(&mut self.talk, &mut self.first) {
             Ok(()) => {}
@@ -297,6 +309,7 @@ impl<L: Link + Drop> Session<L> {
         ensures mode { self.new.mode ≡ self.old.mode }
         ensures limit { self.new.limit ≡ self.old.limit }
         ensures kept { IsKept self.old.first self.new.first }
+        ensures raw { self.new.raw ≡ self.old.raw }
     {
         let first = left(
             unprepared(&mut self.talk, &mut self.first),
@@ -313,6 +326,7 @@ impl<L: Link + Drop> Session<L> {
         ensures mode { self.new.mode ≡ self.old.mode }
         ensures limit { self.new.limit ≡ self.old.limit }
         ensures kept { IsKept self.old.first self.new.first }
+        ensures raw { self.new.raw ≡ self.old.raw }
     {
         match (self.mode, how) {
             (Mode::Running(_), _) | (_, How::ByContinue) => {
@@ -333,7 +347,9 @@ impl<L: Link + Drop> Session<L> {
 
     /// Resumes all sides up to their event.
     fn run<O: Sink>(&mut self, out: &mut O) -> Result<Event, RunFault>
-        ensures { CountsOutput (O.faults out.old) (O.faults out.new) result }
+        ensures output { CountsOutput (O.faults out.old) (O.faults out.new) result }
+        ensures limit { self.new.limit ≡ self.old.limit }
+        ensures raw { self.new.raw ≡ self.old.raw }
     {
         match &mut self.second {
             None => resumed_one(&mut self.talk, &mut self.first, self.limit, out),
@@ -349,6 +365,8 @@ impl<L: Link + Drop> Session<L> {
         ensures output { CountsEnd (O.faults out.old) (O.faults out.new) result }
         ensures no_memory { result ≡ Ok Answer.NoMemory → (self.new.mode ≡ self.old.mode) × (self.new.limit ≡ self.old.limit) × IsKept self.old.first self.new.first }
         ensures out_fault { OnErr result (self.new.mode ≡ Mode.Ended) }
+        ensures limit { self.new.limit ≡ self.old.limit }
+        ensures raw { self.new.raw ≡ self.old.raw }
     {
         let line = match self.ready(how) {
             Ok(line) => line,
