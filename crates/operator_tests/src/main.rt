@@ -4,9 +4,9 @@
 
 mod objects;
 mod operators;
-mod runs;
+mod running;
 
-use runs::{append_run, table_of};
+use running::{append_run, table_of};
 use std::alloc::{AllocError, Global};
 use std::io;
 use std::process::ExitCode;

@@ -108,7 +108,11 @@ impl Dialect for Operators {
     ghost remains = { λ p q. Unit {0} };
 
     fn operate(&mut self, core: &mut PsCore, op: u16, _steps: &mut Steps) -> Result<(), PsFault> {
-        self.act(core, op)
+        match self.act(core, op) {
+            Ok(()) => Ok(()),
+            Err(PsFault::Error(error)) => Err(PsFault::Error(error)),
+            Err(_) => Err(PsFault::NoMemory),
+        }
     }
 
     ghost stays = { λ p. tt };

@@ -1,5 +1,7 @@
 // Texts are run.
 
+ghost use Rattle.std.specs.Prelude.{◌≤◌};
+
 use crate::operators::Operators;
 use ldb_words::Text;
 use ps_run::{NoDialect, PsCore, PsFault, Steps, run};
@@ -10,7 +12,9 @@ use test_rows::append;
 /// The most steps of a text.
 const MOST_STEPS: u32 = 10_000_000;
 
-fn steps() -> Steps {
+fn steps() -> Steps
+    ensures { result.taken ≤ result.limit }
+{
     Steps {
         taken: 0,
         limit: MOST_STEPS,
@@ -105,10 +109,9 @@ pub fn append_run(
         out: Text::new(alloc),
     };
     let ended = run(&mut core, &mut operators, PsObj::Str(t, true), &mut steps());
-    let mut depth = core.operands.len();
-    while depth > 0 {
-        depth -= 1;
-        if let Some(object) = core.operands.get(depth) {
+    let count = core.operands.len();
+    for above in 0..count {
+        if let Some(object) = core.operands.get(count - 1 - above) {
             append_object(alloc, &core.store, object, out)?;
             append(out, " ")?;
         }
