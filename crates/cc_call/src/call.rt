@@ -81,7 +81,7 @@ fn write_both<F: Files, S: Sink>(
     files: &mut F,
     transcript: &mut S,
 ) -> Result<Answer, Fault>
-    ensures writes { Writes (seen request.now) (image_bytes built.now.image) built.now.table.items (F.held files.old) (F.held files.new) (S.taken transcript.old) (S.taken transcript.new) result }
+    ensures writes { Writes (seen request.now) (image_bytes built.now.image) built.now.table (F.held files.old) (F.held files.new) (S.taken transcript.old) (S.taken transcript.new) result }
     ensures other { result ≢ Ok Missing }
     ensures causes { HasCauses result
         (counts (F.read_faults files.old) (F.write_faults files.old) (S.faults transcript.old))
@@ -95,7 +95,7 @@ fn write_both<F: Files, S: Sink>(
         Ok(()) => {}
         Err(_) => return Err(Fault::Write),
     }
-    match write_file(files, request.table, &built.table) {
+    match write_file(files, request.table, built.table.as_bytes()) {
         Ok(()) => {}
         Err(_) => return Err(Fault::Write),
     }

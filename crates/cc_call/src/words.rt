@@ -21,7 +21,7 @@ pub fn is_source(name: &[u8]) -> bool
 }
 
 /// Whether all are names of sources.
-fn are_sources(names: &[String]) -> bool
+pub fn are_sources(names: &[String]) -> bool
     ensures { result ≡ are_sources (map string_bytes names.now) }
 {
     for name in names {
@@ -45,7 +45,7 @@ fn is_among(name: &str, names: &[String]) -> bool
 }
 
 /// Whether no name stands twice.
-fn all_differ(names: &[String]) -> bool
+pub fn all_differ(names: &[String]) -> bool
     ensures { result ≡ all_differ (map string_bytes names.now) }
 {
     for i in 0..names.len() {
@@ -57,14 +57,14 @@ fn all_differ(names: &[String]) -> bool
 }
 
 /// Whether there may be so many sources.
-fn is_count(count: usize) -> bool
+pub fn is_count(count: usize) -> bool
     ensures { result ≡ is_count count }
 {
     count >= 1 && count <= 16
 }
 
 /// The target of a word.
-fn aim_of(word: &str) -> Option<Aim>
+pub fn aim_of(word: &str) -> Option<Aim>
     ensures { MatchOption result (aim_of word.now ≡ None) (λ aim. aim_of word.now ≡ Some aim) }
 {
     if word == "mips" {

@@ -1,5 +1,7 @@
 // What programs do, and why sources are refused.
 
+ghost use Rattle.std.specs.Prelude.{◌≤◌, length};
+
 use crate::run::{Ended, run_built};
 use crate::sources::Sources;
 use ldb_cc::{Aim, BuildFault, Built, compile};
@@ -103,7 +105,26 @@ fn append_run(
     }
 }
 
-/// Appends the table of a program for a target, or why it is refused.
+/// Where a word first stands in a text, or the text's length.
+fn place_of(text: &[u8], word: &[u8]) -> usize
+    ensures { result ≤ length text.now }
+{
+    for i in 0..text.len() {
+        if text[i..].starts_with(word) {
+            return i;
+        }
+    }
+    text.len()
+}
+
+/// What a table says of its target and its anchors.
+fn head_of(table: &[u8]) -> &[u8] {
+    let from = place_of(table, b"<< /ldb ");
+    let to = place_of(table, b" /structs << ");
+    if from < to { &table[from..to] } else { &[] }
+}
+
+/// Appends what the table of a program for a target says of its target and its anchors, or why the program is refused.
 fn append_table(
     alloc: Global,
     aim: Aim,
@@ -112,7 +133,7 @@ fn append_table(
 ) -> Result<(), AllocError> {
     match built(alloc, aim, sources) {
         Err(fault) => append_cause(alloc, sources, &fault, out),
-        Ok(built) => append_escaped(alloc, out, &built.table),
+        Ok(built) => append_escaped(alloc, out, head_of(built.table.as_bytes())),
     }
 }
 

@@ -2,5 +2,4 @@ pub mod Firsts
 pub mod Counted
 pub mod Parsed
 pub mod Refused
-pub mod Anchors
 pub mod Made

@@ -1,5 +1,5 @@
 -- What is built of sources.
-use Rattle.std.specs.Prelude.{◌≡◌, ℕ, ◌+◌, List, [], ◌∷◌, length, map, Result, Ok, Err}
+use Rattle.std.specs.Prelude.{◌≡◌, ℕ, ◌+◌, List, [], ◌∷◌, length, Result, Ok, Err}
 use Rattle.machine_state.specs.declared.layout.TheConstants.{TEXT}
 use Rattle.c_tree.specs.declared.rows.Program.{Program}
 use Rattle.slot_ir.specs.declared.code.SlotCode.{SlotCode}
@@ -18,7 +18,8 @@ use Rattle.ldb_cc.specs.declared.aim.Aim.TheVariants.{Mips, Sparc}
 use Rattle.ldb_cc.specs.declared.compiling.Built.{Built}
 use Rattle.ldb_cc.specs.declared.fault.BuildFault.{BuildFault}
 use Rattle.ldb_cc.specs.Sources.{IsProgram, IsCause}
-use Rattle.ldb_cc.specs.Table.{target_byte, table_text, address_of}
+use Rattle.ps_emit.specs.Table.{table_text}
+use Rattle.ldb_cc.specs.Table.{target_byte, placement_of}
 
 -- an image of a target, which begins with the first word of the text
 pub record IsFor (aim : Aim) (image : ImageFields) : Type 0 where
@@ -52,9 +53,9 @@ pub record IsBuilt (aim : Aim) (names texts : List (List ℕ)) (image : ImageFie
   pub is_program : IsProgram names texts program
   pub rows : LoaderRows
   pub image_of : IsImageOf aim program image rows
-  pub table_is : table ≡ table_text aim (map address_of rows.anchors)
+  pub table_is : table ≡ table_text program (placement_of aim rows)
 
 -- what is built of sources with these names, or the cause why nothing is
 abbrev pub Builds : Aim → (names texts : List (List ℕ)) → Result Built BuildFault → Type 0
-Builds aim names texts (Ok b) = IsBuilt aim names texts b.image b.table.items
+Builds aim names texts (Ok b) = IsBuilt aim names texts b.image b.table
 Builds aim names texts (Err f) = IsCause texts f

@@ -16,7 +16,7 @@ use std::alloc::Global;
 #[derive(Drop)]
 pub struct Built {
     pub image: Image,
-    pub table: Vec<u8>,
+    pub table: Text,
 }
 
 /// Compiles sources with these names, one text for each, or tells the first cause why they are refused.
@@ -31,6 +31,6 @@ pub fn compile(
 {
     let program = program_of(alloc, names, texts)?;
     let (image, rows) = build(alloc, aim, &program)?;
-    let table = table_of(alloc, aim, rows.anchors.as_slice())?;
+    let table = table_of(alloc, aim, &program, rows)?;
     Ok(Built { image, table })
 }

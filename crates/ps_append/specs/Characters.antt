@@ -30,12 +30,15 @@ bytes_from (suc n) b p = or_outside (fetched b p.space p.at Byte) >>= λ x. elim
   | false ↦ bytes_from n b (record p { at = sum_of p.at 1 }) >>= λ bs. Ok ((x % 256) ∷ bs)
 ]
 
--- `space n count PutChars`: the place, and how many bytes are read: of more than 200 characters no more than show that there
--- are more
+-- of more than 200 characters no more bytes are read than show that there are more
+abbrev pub MOST_READ : ℕ
+MOST_READ = 201
+
+-- `space n count PutChars`: the place, and how many bytes are read
 abbrev pub string_place : PsCore → Result (Place × ℕ) PsError
 string_place c =
     triple_of c.operands >>= λ t. text_of c.store t.0 >>= λ space. word_in t.1 >>= λ at. integer_of t.2 >>= λ n.
-    space_named space >>= λ sp. count_of t.2 >>= λ count. Ok (place sp at, min count 201)
+    space_named space >>= λ sp. count_of t.2 >>= λ count. Ok (place sp at, min count MOST_READ)
 
 abbrev pub appending_chars : List ℕ → Bytes → PsCore → Result (List ℕ × PsCore) PsError
 appending_chars out b c = string_place c >>= λ a. bytes_from a.1 b a.0 >>= λ bs. Ok (out ++ string_text bs, with_operands c (drop 3 c.operands))

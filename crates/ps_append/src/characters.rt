@@ -46,8 +46,8 @@ fn read_bytes<M: AbsMem>(
     read_bytes(memory, next, most - 1, bytes)
 }
 
-/// The place of a string, and how many of its bytes are read.
-fn string_place(core: &PsCore) -> Result<(Place, u32), PsError>
+/// The place of the string that `PutChars` takes, and how many of its bytes are read at most.
+pub fn string_place(core: &PsCore) -> Result<(Place, u32), PsError>
     ensures asked { result ≡ string_place core.now }
     ensures enough { OnOk result (3 ≤ length core.now.operands) }
 {

@@ -5,5 +5,5 @@ mod append;
 mod characters;
 mod operators;
 
-pub use characters::put_chars;
+pub use characters::{put_chars, string_place};
 pub use operators::{put, put_char};

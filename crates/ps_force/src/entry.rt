@@ -5,8 +5,9 @@ ghost use Rattle.ps_store.specs.Store.{closed_part, entries_of, KeepsClosed};
 ghost use Rattle.ps_store.specs.Entries.{value_at};
 ghost use Rattle.ps_store.specs.Cut.{mark_of, IsMark};
 ghost use Rattle.ps_store.specs.Settled.{Settled};
-ghost use Rattle.std.specs.Prelude.{◌≡◌, ◌≤◌, ◌-◌, OnErr, reverse};
-ghost use Rattle.ps_run.specs.Runs.{RunsObject};
+ghost use Rattle.std.specs.Prelude.{◌≡◌, ◌≢◌, ◌≤◌, ◌-◌, Err, OnErr, reverse};
+ghost use Rattle.ps_step.specs.declared.fault.PsFault.TheVariants.{Spent as OutOfSteps};
+ghost use Rattle.ps_run.specs.Runs.{RunsObject, TellsSteps};
 ghost use Rattle.ps_force.specs.Forcing.{left_on, forced_by, placing, Forces, Uses};
 
 use ps_run::{Dialect, PsCore, PsError, PsFault, Steps, run};
@@ -15,7 +16,8 @@ use ps_store::{DictId, Key, Mark, Part, PsObj};
 
 /// What a run leaves: its topmost operand, which may not be an executable string.
 fn left_on(operands: &Stack<PsObj>) -> Result<PsObj, PsFault>
-    ensures { result ≡ left_on operands.now }
+    ensures left { result ≡ left_on operands.now }
+    ensures unspent { result ≢ Err OutOfSteps }
 {
     match operands.get(0) {
         None => Err(PsFault::Error(PsError::StackUnderflow)),
@@ -30,6 +32,7 @@ fn place(core: &mut PsCore, d: DictId, key: &Key, mark: Mark, x: PsObj) -> Resul
     requires keeps { KeepsClosed core.old.store mark }
     ensures given { placing mark d key.now x (value_at (entries_of core.old.store d) key.now) core.old.store ≡ (result, core.new.store) }
     ensures others { core.new ≡ record core.old { store = core.new.store } }
+    ensures unspent { result ≢ Err OutOfSteps }
     ensures stays { OnErr result (closed_part core.new.store ≡ closed_part core.old.store) }
     ensures closed { Settled (closed_part core.old.store) (closed_part core.new.store) }
 {
@@ -62,6 +65,7 @@ fn settle_by(
     requires keeps { KeepsClosed core.old.store mark }
     ensures given { forced_by mark d key.now answer core.old.operands core.old.store ≡ (result, core.new.store) }
     ensures others { core.new ≡ record core.old { store = core.new.store } }
+    ensures spent { result ≡ Err OutOfSteps → answer ≡ Err OutOfSteps }
     ensures stays { OnErr result (closed_part core.new.store ≡ closed_part core.old.store) }
     ensures closed { Settled (closed_part core.old.store) (closed_part core.new.store) }
 {
@@ -92,6 +96,7 @@ fn run_on_base<D: Dialect>(
     ensures more { steps.old.taken ≤ steps.new.taken }
     ensures kept { core.new.execution ≡ core.old.execution }
     ensures closed { closed_part core.new.store ≡ closed_part core.old.store }
+    ensures told { TellsSteps result (steps.new.limit - steps.new.taken) }
     ensures runs { RunsObject D.operates (steps.old.limit - steps.old.taken) text dialect.old (record core.old { dictionaries = reverse core.old.store.base }) result (steps.new.limit - steps.new.taken) dialect.new core.new }
 {
     core.dictionaries = Stack::copy_of(core.operands.allocator(), core.store.base())?;
@@ -113,6 +118,7 @@ fn force_text<D: Dialect>(
     ensures limit { steps.new.limit ≡ steps.old.limit }
     ensures within { steps.new.taken ≤ steps.new.limit }
     ensures more { steps.old.taken ≤ steps.new.taken }
+    ensures spent { result ≡ Err OutOfSteps → steps.new.taken ≡ steps.new.limit }
     ensures stays { OnErr result (closed_part core.new.store ≡ closed_part core.old.store) }
     ensures closed { Settled (closed_part core.old.store) (closed_part core.new.store) }
     ensures forces { Forces D.operates (steps.old.limit - steps.old.taken) dialect.old core.old d key.now text result (steps.new.limit - steps.new.taken) dialect.new core.new }
@@ -150,6 +156,7 @@ pub fn force<D: Dialect>(
     ensures limit { steps.new.limit ≡ steps.old.limit }
     ensures within { steps.new.taken ≤ steps.new.limit }
     ensures more { steps.old.taken ≤ steps.new.taken }
+    ensures spent { result ≡ Err OutOfSteps → steps.new.taken ≡ steps.new.limit }
     ensures stays { OnErr result (closed_part core.new.store ≡ closed_part core.old.store) }
     ensures closed { Settled (closed_part core.old.store) (closed_part core.new.store) }
     ensures uses { Uses D.operates (steps.old.limit - steps.old.taken) dialect.old core.old d key.now (value_at (entries_of core.old.store d) key.now) result (steps.new.limit - steps.new.taken) dialect.new core.new }

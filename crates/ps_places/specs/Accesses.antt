@@ -11,7 +11,7 @@ use Rattle.ps_step.specs.declared.fault.PsError.TheVariants.{RangeCheck, Invalid
 use Rattle.ps_step.specs.declared.fault.PsFault.TheVariants.{Error, Spent, Link, NoMemory}
 use Rattle.ps_step.specs.declared.machine.PsCore.{PsCore}
 use Rattle.ps_step.specs.Results.{◌>>=◌}
-use Rattle.ps_step.specs.Operands.{one_of, triple_of, quadruple_of}
+use Rattle.ps_step.specs.Operands.{triple_of, quadruple_of}
 use Rattle.ps_step.specs.State.{with_operands}
 use Rattle.ps_words.specs.Operators.{word_in, integer}
 use Rattle.frame_bytes.specs.declared.frame.Space.{Space}
@@ -19,7 +19,7 @@ use Rattle.frame_bytes.specs.declared.frame.Space.TheVariants.{Memory, Registers
 use Rattle.frame_bytes.specs.declared.frame.Place.{Place}
 use Rattle.frame_bytes.specs.Bytes.{Bytes, fetched, stored}
 use Rattle.abs_mem.specs.Meaning.{Seen, Same, Untold}
-use Rattle.ps_places.specs.Places.{text_of, space_named, kind_named, place, space_name}
+use Rattle.ps_places.specs.Places.{text_of, space_named, kind_named, place, space_name, top_word}
 use Rattle.abs_mem.specs.declared.memory.MemFault.{MemFault}
 use Rattle.abs_mem.specs.declared.memory.MemFault.TheVariants.{Outside, LinkFault, BadReply}
 use Rattle.ps_places.specs.declared.access.Trouble.{Trouble}
@@ -73,7 +73,7 @@ abbrev pub cell_place : Place
 cell_place = record { space = Immediate; at = 0 }
 
 abbrev pub immediate_value : PsCore → Result ℕ PsError
-immediate_value c = one_of c.operands >>= λ a. word_in a >>= λ v. (if nat_lt (length c.operands) 100000 then Ok v else Err StackOverflow)
+immediate_value c = top_word c >>= λ v. (if nat_lt (length c.operands) 100000 then Ok v else Err StackOverflow)
 
 abbrev pub with_cell_place : PsCore → PsCore
 with_cell_place c = with_operands c (Int (pos 0) ∷ space_name Immediate ∷ drop 1 c.operands)

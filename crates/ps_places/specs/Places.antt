@@ -71,9 +71,13 @@ abbrev pub placing : Space → ℕ → PsCore → Made
 placing space at c =
     if nat_lt (length c.operands) 100000 then Ok (with_operands c (integer at ∷ space_name space ∷ drop 1 c.operands)) else Err StackOverflow
 
+-- the word that is the topmost operand
+abbrev pub top_word : PsCore → Result ℕ PsError
+top_word c = one_of c.operands >>= word_in
+
 -- `n Absolute`, `n Register`
 abbrev pub placing_at : Space → PsCore → Made
-placing_at space c = one_of c.operands >>= λ a. word_in a >>= λ n. placing space n c
+placing_at space c = top_word c >>= λ n. placing space n c
 
 -- `n Local`: so far from the base of the frame, if there is one
 abbrev pub base_of : Option ℕ → Result ℕ PsError
@@ -81,4 +85,4 @@ base_of None = Err RangeCheck
 base_of (Some base) = Ok base
 
 abbrev pub placing_local : Option ℕ → PsCore → Made
-placing_local base c = one_of c.operands >>= λ a. word_in a >>= λ n. base_of base >>= λ b. placing Memory (sum_of b n) c
+placing_local base c = top_word c >>= λ n. base_of base >>= λ b. placing Memory (sum_of b n) c

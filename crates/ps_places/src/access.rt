@@ -4,13 +4,13 @@ ghost use Rattle.ps_store.specs.Store.{closed_part};
 ghost use Rattle.std.specs.Prelude.{◌≡◌, ◌≤◌, OnOk, length};
 ghost use Rattle.ps_places.specs.Accesses.{value_of, may_store, fetch_of, fetching, store_of, storing, immediate_value, placing_value, Over, troubled};
 
-use crate::place::{kind_named, space_name, space_named, text_of};
+use crate::place::{kind_named, space_name, space_named, text_of, top_word};
 use abs_mem::{AbsMem, MemFault};
 use frame_bytes::{Place, Space};
 use ldb_words::Kind;
 use ps_step::fault::{PsError, PsFault};
 use ps_step::machine::{MOST_OPERANDS, PsCore};
-use ps_step::operands::{one_of, quadruple_of, triple_of};
+use ps_step::operands::{quadruple_of, triple_of};
 use ps_store::PsObj;
 use ps_words::word_in;
 
@@ -53,7 +53,7 @@ pub fn troubled(fault: MemFault) -> Trouble
 }
 
 /// The place and the kind that `fetch` takes.
-fn fetch_of(core: &PsCore) -> Result<(Place, Kind), PsError>
+pub fn fetch_of(core: &PsCore) -> Result<(Place, Kind), PsError>
     ensures asked { result ≡ fetch_of core.now }
     ensures enough { OnOk result (3 ≤ length core.now.operands) }
 {
@@ -83,8 +83,9 @@ pub fn fetch<M: AbsMem>(core: &mut PsCore, memory: &mut M) -> Result<(), Trouble
     }
 }
 
-/// The place, the kind and the value that `store` takes.
-fn store_of(core: &PsCore, raw: bool) -> Result<(Place, Kind, u32), PsError>
+/// The place, the kind and the value that `store` takes. invalidaccess comes where `raw` does not say that the target may be
+/// stored to.
+pub fn store_of(core: &PsCore, raw: bool) -> Result<(Place, Kind, u32), PsError>
     ensures asked { result ≡ store_of raw core.now }
     ensures enough { OnOk result (4 ≤ length core.now.operands) }
 {
@@ -124,8 +125,7 @@ fn immediate_value(core: &PsCore) -> Result<u32, PsError>
     ensures value { result ≡ immediate_value core.now }
     ensures enough { OnOk result (1 ≤ length core.now.operands) }
 {
-    let a = one_of(&core.operands)?;
-    let value = word_in(a)?;
+    let value = top_word(core)?;
     if core.operands.len() >= MOST_OPERANDS {
         return Err(PsError::StackOverflow);
     }

@@ -1,10 +1,10 @@
 // Places as operands.
 
 ghost use Rattle.ps_store.specs.Store.{closed_part};
-ghost use Rattle.std.specs.Prelude.{◌≡◌, ◌≤◌, length};
+ghost use Rattle.std.specs.Prelude.{◌≡◌, ◌≤◌, OnOk, length};
 ghost use Rattle.ps_step.specs.Effects.{Does};
 ghost use Rattle.frame_bytes.specs.declared.frame.Space.TheVariants.{Memory, Registers};
-ghost use Rattle.ps_places.specs.Places.{text_of, named_text, name_of, space_named, kind_named, space_name, placing, placing_at, placing_local};
+ghost use Rattle.ps_places.specs.Places.{text_of, named_text, name_of, space_named, kind_named, space_name, top_word, placing, placing_at, placing_local};
 
 use frame_bytes::Space;
 use ldb_words::Kind;
@@ -103,13 +103,21 @@ pub fn leave_place(core: &mut PsCore, space: Space, at: u32) -> Result<(), PsFau
     Ok(())
 }
 
+/// The word that is the topmost operand.
+pub fn top_word(core: &PsCore) -> Result<u32, PsError>
+    ensures word { result ≡ top_word core.now }
+    ensures some { OnOk result (1 ≤ length core.now.operands) }
+{
+    let a = one_of(&core.operands)?;
+    word_in(a)
+}
+
 /// Leaves the place in a space whose offset is the topmost operand.
 fn leave_at(core: &mut PsCore, space: Space) -> Result<(), PsFault>
     ensures does { Does result core.old core.new (placing_at space core.old) }
     ensures closed { closed_part core.new.store ≡ closed_part core.old.store }
 {
-    let a = one_of(&core.operands)?;
-    let n = word_in(a)?;
+    let n = top_word(core)?;
     leave_place(core, space, n)
 }
 
@@ -135,8 +143,7 @@ pub fn local(core: &mut PsCore, base: Option<u32>) -> Result<(), PsFault>
     ensures does { Does result core.old core.new (placing_local base core.old) }
     ensures closed { closed_part core.new.store ≡ closed_part core.old.store }
 {
-    let a = one_of(&core.operands)?;
-    let n = word_in(a)?;
+    let n = top_word(core)?;
     match base {
         Some(base) => leave_place(core, Space::Memory, base.wrapping_add(n)),
         None => Err(PsFault::Error(PsError::RangeCheck)),

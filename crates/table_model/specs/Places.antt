@@ -14,7 +14,7 @@ is_column None c = true
 is_column (Some d) c = nat_eq c d
 
 -- a point on a line, and in a column if one is given
-abbrev on_line : StoreState → List ℕ → ℕ → Option ℕ → DictId → PsObj → Walked (Option PointRow)
+abbrev pub on_line : StoreState → List ℕ → ℕ → Option ℕ → DictId → PsObj → Walked (Option PointRow)
 on_line s file l c f x = do
   p ← dict_in x
   line ← number_at s p (codes "line")
@@ -26,14 +26,14 @@ on_line s file l c f x = do
         Ok (Some (record { file = file; function = name; line = line; column = column; at = at }))
   ]
 
-abbrev in_function : StoreState → List ℕ → ℕ → Option ℕ → PsObj → Walked (Option PointRow)
+abbrev pub in_function : StoreState → List ℕ → ℕ → Option ℕ → PsObj → Walked (Option PointRow)
 in_function s file l c x = do
   f ← dict_in x
   ps ← points_of s f
   first_in (on_line s file l c f) ps
 
 -- the first unit of a file answers, whether it has the point or not
-abbrev in_unit : StoreState → List ℕ → ℕ → Option ℕ → ℕ → PsObj → Walked (Option (Option PointRow))
+abbrev pub in_unit : StoreState → List ℕ → ℕ → Option ℕ → ℕ → PsObj → Walked (Option (Option PointRow))
 in_unit s file l c u x = do
   unit ← dict_in x
   name ← text_at s unit (codes "file")
@@ -61,14 +61,14 @@ pub record Named : Type 0 where
   pub function : DictId
   pub is_static : Bool
 
-abbrev called : StoreState → List ℕ → ℕ → DictId → PsObj → Walked (List Named)
+abbrev pub called : StoreState → List ℕ → ℕ → DictId → PsObj → Walked (List Named)
 called s text u unit x = do
   f ← dict_in x
   name ← text_at s f (codes "name")
   static ← truth_at s f (codes "static")
   Ok (if bytes_eq name text then record { number = u; unit = unit; function = f; is_static = static } ∷ [] else [])
 
-abbrev called_in : StoreState → List ℕ → ℕ → PsObj → Walked (List Named)
+abbrev pub called_in : StoreState → List ℕ → ℕ → PsObj → Walked (List Named)
 called_in s text u x = do
   unit ← dict_in x
   fs ← functions_of s u unit
@@ -91,7 +91,7 @@ abbrev pub chosen_of : List Named → Option Named
 chosen_of fs = chosen (filter (λ f. not f.is_static) fs) (filter (λ f. f.is_static) fs)
 
 -- the point of a function's `{`, which is its first one
-abbrev first_point : StoreState → List ℕ → Named → List PsObj → Walked (Option PointRow)
+abbrev pub first_point : StoreState → List ℕ → Named → List PsObj → Walked (Option PointRow)
 first_point s text f [] = Ok None
 first_point s text f (x ∷ xs) = do
   p ← dict_in x
@@ -101,7 +101,7 @@ first_point s text f (x ∷ xs) = do
   file ← text_at s f.unit (codes "file")
   Ok (Some (record { file = file; function = text; line = line; column = column; at = at }))
 
-abbrev point_of_named : StoreState → List ℕ → Option Named → Walked (Option PointRow)
+abbrev pub point_of_named : StoreState → List ℕ → Option Named → Walked (Option PointRow)
 point_of_named s text None = Ok None
 point_of_named s text (Some f) = points_of s f.function >>= first_point s text f
 
@@ -113,7 +113,7 @@ function_point s text = do
 
 -- ---- all
 
-abbrev row_of : StoreState → List ℕ → List ℕ → PsObj → Walked (List PointRow)
+abbrev pub row_of : StoreState → List ℕ → List ℕ → PsObj → Walked (List PointRow)
 row_of s file name x = do
   p ← dict_in x
   line ← number_at s p (codes "line")
@@ -121,14 +121,14 @@ row_of s file name x = do
   at ← point_address s p
   Ok (record { file = file; function = name; line = line; column = column; at = at } ∷ [])
 
-abbrev rows_of : StoreState → List ℕ → PsObj → Walked (List PointRow)
+abbrev pub rows_of : StoreState → List ℕ → PsObj → Walked (List PointRow)
 rows_of s file x = do
   f ← dict_in x
   name ← text_at s f (codes "name")
   ps ← points_of s f
   all_in (row_of s file name) ps
 
-abbrev rows_in : StoreState → ℕ → PsObj → Walked (List PointRow)
+abbrev pub rows_in : StoreState → ℕ → PsObj → Walked (List PointRow)
 rows_in s u x = do
   unit ← dict_in x
   file ← text_at s unit (codes "file")

@@ -85,7 +85,7 @@ fn point_in(
 }
 
 /// The point of a frame in its function.
-fn point_of_row(
+pub fn point_of_row(
     store: &PsStore,
     is_inner: bool,
     pc: u32,

@@ -2,9 +2,11 @@
 #![tactic(auto)]
 
 mod edge;
+mod own;
 mod sessions;
 
 use edge::append_edge;
+use own::append_own;
 use sessions::Sessions;
 use std::alloc::AllocError;
 use std::io;
@@ -27,6 +29,7 @@ impl Subject for Top {
     ) -> Result<(), AllocError> {
         match kind {
             "source" | "sink" | "files" | "remove" => append_edge(&self.rt, kind, parts, out),
+            "own" => append_own(self.rt.alloc(), parts, out),
             _ => self.sessions.answer(kind, parts, out),
         }
     }

@@ -7,23 +7,24 @@ use ldb_top::{Status, ldb};
 use std::alloc::{AllocError, Global};
 use test_rows::{append, append_escaped, part};
 
-/// What the rows said last: the program in `a.c`, names and texts of other files, the words, the commands, and transcripts, of which the first is the right one and the others are those where a command finds no memory.
+/// What the rows said last: the program in `a.c`, the input, names and texts of other files, the words, the commands, and transcripts, of which the first is the right one and the others are those where a command finds no memory.
 #[derive(Drop)]
 pub struct Sessions {
     alloc: Global,
     program: Vec<u8>,
+    input: Vec<u8>,
     others: Vec<(Vec<u8>, Vec<u8>)>,
     words: Vec<u8>,
     commands: Vec<u8>,
     told: Vec<Vec<u8>>,
 }
 
-/// What a call came to: its status, its transcript, and how many bytes the output file has.
+/// What a call came to: its status, its transcript, and the output file.
 #[derive(Drop)]
 struct Outcome {
     status: Status,
     transcript: Vec<u8>,
-    output: Option<usize>,
+    output: Option<Vec<u8>>,
 }
 
 /// A source that gives its bytes one by one, however much is asked for.
@@ -64,6 +65,7 @@ impl Sessions {
         Sessions {
             alloc,
             program: Vec::new(alloc),
+            input: Vec::new(alloc),
             others: Vec::new(alloc),
             words: Vec::new(alloc),
             commands: Vec::new(alloc),
@@ -82,13 +84,14 @@ impl Sessions {
         Ok(list)
     }
 
-    /// The source file `a.c`, an empty input file, and the other files.
+    /// The source file `a.c`, the input file, and the other files.
     fn files(&self, fails: Vec<u64>) -> Result<MemFiles, AllocError> {
         let alloc = self.alloc;
         let mut rows = Vec::new(alloc);
         let program = Vec::from_slice(alloc, &self.program)?;
         rows.push((String::from_str(alloc, "a.c")?, program))?;
-        rows.push((String::from_str(alloc, "in")?, Vec::new(alloc)))?;
+        let input = Vec::from_slice(alloc, &self.input)?;
+        rows.push((String::from_str(alloc, "in")?, input))?;
         for (name, text) in &self.others {
             let name = std::str::from_utf8(name).unwrap_or("");
             let text = Vec::from_slice(alloc, text)?;
@@ -97,10 +100,15 @@ impl Sessions {
         Ok(MemFiles::new(rows, fails))
     }
 
-    /// A session in which these calls of the files, of the commands and of the transcript fail; its commands come byte by byte, or as much as is asked for.
-    fn outcome(&self, fails: [&[u8]; 3], by_bytes: bool) -> Result<Outcome, AllocError> {
+    /// A session with the word of this target in which these calls of the files, of the commands and of the transcript fail; its commands come byte by byte, or as much as is asked for.
+    fn outcome(
+        &self,
+        target: &str,
+        fails: [&[u8]; 3],
+        by_bytes: bool,
+    ) -> Result<Outcome, AllocError> {
         let alloc = self.alloc;
-        let list = self.word_list("mips")?;
+        let list = self.word_list(target)?;
         let mut files = self.files(calls_of(alloc, fails[0])?)?;
         let commands = Vec::from_slice(alloc, &self.commands)?;
         let mut source = MemSource::new(commands, calls_of(alloc, fails[1])?);
@@ -113,7 +121,7 @@ impl Sessions {
         };
         let transcript = Vec::from_slice(alloc, sink.bytes())?;
         let output = match files.get("out") {
-            Some(bytes) => Some(bytes.len()),
+            Some(bytes) => Some(Vec::from_slice(alloc, bytes)?),
             None => None,
         };
         Ok(Outcome {
@@ -148,6 +156,7 @@ impl Sessions {
         match kind {
             "program" => {
                 self.others.clear();
+                self.input.clear();
                 self.program = held;
             }
             "file" => {
@@ -155,6 +164,7 @@ impl Sessions {
                 let text = Vec::from_slice(self.alloc, part(parts, 1))?;
                 self.others.push((name, text))?;
             }
+            "input" => self.input = held,
             "words" => self.words = held,
             "commands" => self.commands = held,
             "told" => {
@@ -164,13 +174,16 @@ impl Sessions {
             "or" => {
                 self.told.push(held)?;
             }
+            "one" => return self.append_whole("mips", out),
+            "all" => return self.append_all(out),
+            "rebuilt" => return self.append_rebuilt(text, out),
             "compiled" => return self.append_compiled([text, part(parts, 1)], out),
             _ => return self.append_session(kind, text, out),
         }
         Ok(())
     }
 
-    /// Appends what a call with the word of this target came to: its status and transcript, the first twelve bytes of the file `image`, and the file `table`.
+    /// Appends what a call with the word of this target came to: its status and transcript, the first twelve bytes of the file `image`, and the first eleven of the file `table`.
     fn append_call(
         &self,
         target: &str,
@@ -186,7 +199,7 @@ impl Sessions {
         append(out, format!(in alloc; "{status:?} ")?.as_str())?;
         append_escaped(alloc, out, sink.bytes())?;
         append_file(alloc, files.get("image"), 12, out)?;
-        append_file(alloc, files.get("table"), usize::MAX, out)
+        append_file(alloc, files.get("table"), 11, out)
     }
 
     /// Appends what calls for both targets came to, of which these calls of the files and of the transcript fail; that for SPARC where it is another.
@@ -212,16 +225,16 @@ impl Sessions {
     ) -> Result<(), AllocError> {
         let alloc = self.alloc;
         let outcome = match kind {
-            "file_calls" => self.outcome([fails, &[], &[]], false)?,
-            "reads" => self.outcome([&[], fails, &[]], false)?,
-            "writes" => self.outcome([&[], &[], fails], false)?,
-            _ => self.outcome([&[], &[], &[]], kind == "bytes")?,
+            "file_calls" => self.outcome("mips", [fails, &[], &[]], false)?,
+            "reads" => self.outcome("mips", [&[], fails, &[]], false)?,
+            "writes" => self.outcome("mips", [&[], &[], fails], false)?,
+            _ => self.outcome("mips", [&[], &[], &[]], kind == "bytes")?,
         };
         let status = outcome.status;
         append(out, format!(in alloc; "{status:?}")?.as_str())?;
         match kind {
             "session" | "bytes" => {
-                let output = outcome.output;
+                let output = outcome.output.map(|bytes| bytes.len());
                 append(out, format!(in alloc; " {output:?} ")?.as_str())?;
                 append_escaped(alloc, out, &outcome.transcript)
             }
@@ -236,4 +249,69 @@ impl Sessions {
             ),
         }
     }
+
+    /// Appends the status of a session with the word of this target, its output file between quotes, and its transcript.
+    fn append_whole(&self, target: &str, out: &mut Vec<u8>) -> Result<(), AllocError> {
+        let outcome = self.outcome(target, [&[], &[], &[]], false)?;
+        append_outcome(self.alloc, &outcome, out)
+    }
+
+    /// Appends what sessions for both targets and for both at once came to: once where they came to the same.
+    fn append_all(&self, out: &mut Vec<u8>) -> Result<(), AllocError> {
+        let mut mips = Vec::new(self.alloc);
+        self.append_whole("mips", &mut mips)?;
+        out.extend_from_slice(&mips)?;
+        for target in ["sparc", "both"] {
+            let mut other = Vec::new(self.alloc);
+            self.append_whole(target, &mut other)?;
+            if mips != other {
+                append(out, " and ")?;
+                out.extend_from_slice(&other)?;
+            }
+        }
+        Ok(())
+    }
+
+    /// Appends what a session came to over the image and the table that `cc` wrote for this target.
+    fn append_rebuilt(&self, target: &[u8], out: &mut Vec<u8>) -> Result<(), AllocError> {
+        let alloc = self.alloc;
+        let target = std::str::from_utf8(target).unwrap_or("");
+        let mut files = self.files(Vec::new(alloc))?;
+        let built = list_of(alloc, ["cc", target, "image", "table", "a.c"])?;
+        let mut none = MemSource::new(Vec::new(alloc), Vec::new(alloc));
+        let mut sink = MemSink::new(Vec::new(alloc), Vec::new(alloc));
+        let _built = ldb(alloc, &built, &mut files, &mut none, &mut sink);
+        append_escaped(alloc, out, sink.bytes())?;
+        let debugged = list_of(alloc, ["debug", "image", "table", "in", "out"])?;
+        let commands = Vec::from_slice(alloc, &self.commands)?;
+        let mut source = MemSource::new(commands, Vec::new(alloc));
+        let mut sink = MemSink::new(Vec::new(alloc), Vec::new(alloc));
+        let status = ldb(alloc, &debugged, &mut files, &mut source, &mut sink);
+        append(out, format!(in alloc; "{status:?} ")?.as_str())?;
+        append_escaped(alloc, out, sink.bytes())
+    }
+}
+
+/// Some words.
+fn list_of(alloc: Global, words: [&str; 5]) -> Result<Vec<String>, AllocError> {
+    let mut list = Vec::new(alloc);
+    for word in words {
+        list.push(String::from_str(alloc, word)?)?;
+    }
+    Ok(list)
+}
+
+/// Appends the status of a session, its output file between quotes, and its transcript.
+fn append_outcome(alloc: Global, outcome: &Outcome, out: &mut Vec<u8>) -> Result<(), AllocError> {
+    let status = outcome.status;
+    append(out, format!(in alloc; "{status:?} ")?.as_str())?;
+    match &outcome.output {
+        Some(bytes) => {
+            append(out, "'")?;
+            append_escaped(alloc, out, bytes)?;
+            append(out, "' ")?;
+        }
+        None => append(out, "none ")?,
+    }
+    append_escaped(alloc, out, &outcome.transcript)
 }

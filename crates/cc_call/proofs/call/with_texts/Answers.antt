@@ -12,7 +12,7 @@ returns-in-Err-clause-leaves g c = λ known h a. leaves_nothing (seen c.args.req
 pub returns-in-Ok-compile-clause-leaves : goal.returns-in-Ok-compile-clause-leaves
 returns-in-Ok-compile-clause-leaves g c = λ known h a.
     leaves_built (seen c.args.request.now) known _ _ _ _ _ c.write_both.result
-    (built_of (seen c.args.request.now) known c.deref.result.now (map items_of c.args.texts.now) c.in-Ok-compile.built.image c.in-Ok-compile.built.table.items (c.deref.ensures.value ∙ c.in-Ok.ensures) a c.in-Ok-compile.ensures) (c.write_both.ensures.writes known h)
+    (built_of (seen c.args.request.now) known c.deref.result.now (map items_of c.args.texts.now) c.in-Ok-compile.built.image c.in-Ok-compile.built.table (c.deref.ensures.value ∙ c.in-Ok.ensures) a c.in-Ok-compile.ensures) (c.write_both.ensures.writes known h)
 
 pub returns-then-not-is_refusal-clause-leaves : goal.returns-then-not-is_refusal-clause-leaves
 returns-then-not-is_refusal-clause-leaves g c = λ known h a. leaves_nothing (seen c.args.request.now) known _ _ _ _ refl h

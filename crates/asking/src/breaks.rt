@@ -1,0 +1,161 @@
+// `break` and `clear`.
+
+ghost use Rattle.std.specs.Prelude.{◌≡◌, ◌⊎◌, ◌≤◌, OnErr};
+ghost use Rattle.machine_state.specs.declared.layout.TheConstants.{MIPS, SPARC};
+ghost use Rattle.ps_store.specs.Store.{closed_part};
+ghost use Rattle.table_asks.specs.Closing.{Settles};
+
+use crate::lines::point_text;
+use abs_mem::AbsMem;
+use break_plant::{PlantFault, plant, unplant};
+use c_session::Spot;
+use ldb_words::Text;
+use machine_state::{MIPS, SPARC};
+use ps_ops::Operators;
+use ps_store::PsStore;
+use table_asks::{AskFault, Cause, Inquiry, body_told, line_told, memory_fault};
+use table_points::Point;
+
+/// The target with a number: SPARC or else MIPS.
+fn known(target: u8) -> u8
+    ensures { (result ≡ MIPS) ⊎ (result ≡ SPARC) }
+{
+    if target == SPARC { SPARC } else { MIPS }
+}
+
+/// Whether two points are the same: the names of their files and functions are the same bytes.
+fn is_same(table: &PsStore, one: Point, other: Point) -> bool {
+    one.at == other.at
+        && one.line == other.line
+        && one.column == other.column
+        && table.same_bytes(one.file, other.file)
+        && table.same_bytes(one.function, other.function)
+}
+
+/// Whether a breakpoint is set at a point.
+fn is_set(table: &PsStore, breaks: &[Point], place: Point) -> bool {
+    breaks.iter().any(|point| is_same(table, *point, place))
+}
+
+/// Why no breakpoint is planted: the word there is another one, or isn't read or stored.
+fn planting_fault(fault: PlantFault) -> AskFault {
+    match fault {
+        PlantFault::NotNoop { .. } => AskFault::Refused(Cause::NoPlace),
+        PlantFault::Memory(fault) => memory_fault(fault),
+    }
+}
+
+/// Sets a breakpoint at a point, unless one is set there. Memory is taken before anything is stored.
+fn set<W: AbsMem + Drop>(
+    inquiry: &Inquiry,
+    talk: &mut Operators<W>,
+    breaks: &mut Vec<Point>,
+    place: Point,
+) -> Result<Text, AskFault>
+    ensures kept { OnErr result (breaks.new.items ≡ breaks.old.items) }
+{
+    let table = &inquiry.core.store;
+    let alloc = inquiry.core.operands.allocator();
+    let Ok(text) = point_text(alloc, b"break ", table, place) else {
+        return Err(AskFault::NoMemory);
+    };
+    if is_set(table, breaks.as_slice(), place) {
+        return Ok(text);
+    }
+    match breaks.push(place) {
+        Ok(()) => {}
+        Err(_) => return Err(AskFault::NoMemory),
+    }
+    let target = known(talk.view.target);
+    match plant(target, &mut talk.memory.below.below.below, place.at) {
+        Ok(()) => Ok(text),
+        Err(fault) => {
+            breaks.pop();
+            Err(planting_fault(fault))
+        }
+    }
+}
+
+/// The point that a spot says, whose units are run if they have to be.
+fn spot_told(inquiry: &mut Inquiry, spot: &Spot) -> Result<Option<Point>, AskFault>
+    requires within { inquiry.old.steps.taken ≤ inquiry.old.steps.limit }
+    ensures within { inquiry.new.steps.taken ≤ inquiry.new.steps.limit }
+    ensures limit { inquiry.new.steps.limit ≡ inquiry.old.steps.limit }
+    ensures more { inquiry.old.steps.taken ≤ inquiry.new.steps.taken }
+    ensures closed { Settles (closed_part inquiry.old.core.store) (closed_part inquiry.new.core.store) }
+{
+    match spot {
+        Spot::Line { file, line, column } => line_told(inquiry, file.as_bytes(), *line, *column),
+        Spot::Func { name } => body_told(inquiry, name.as_bytes()),
+    }
+}
+
+/// `break`: a breakpoint is set at the point. One that is set already is answered again and changes nothing. Where it isn't done the
+/// breakpoints are as before.
+pub fn breaking<W: AbsMem + Drop>(
+    inquiry: &mut Inquiry,
+    talk: &mut Operators<W>,
+    breaks: &mut Vec<Point>,
+    spot: &Spot,
+) -> Result<Text, AskFault>
+    requires within { inquiry.old.steps.taken ≤ inquiry.old.steps.limit }
+    ensures kept { OnErr result (breaks.new.items ≡ breaks.old.items) }
+    ensures within { inquiry.new.steps.taken ≤ inquiry.new.steps.limit }
+    ensures limit { inquiry.new.steps.limit ≡ inquiry.old.steps.limit }
+    ensures more { inquiry.old.steps.taken ≤ inquiry.new.steps.taken }
+    ensures closed { Settles (closed_part inquiry.old.core.store) (closed_part inquiry.new.core.store) }
+{
+    match spot_told(inquiry, spot) {
+        Err(fault) => Err(fault),
+        Ok(None) => Err(AskFault::Refused(Cause::NoPlace)),
+        Ok(Some(place)) => set(inquiry, talk, breaks, place),
+    }
+}
+
+/// Takes the breakpoint at a point away: the no-op is put back. Memory is taken before anything is stored.
+fn unset<W: AbsMem + Drop>(
+    inquiry: &Inquiry,
+    talk: &mut Operators<W>,
+    breaks: &mut Vec<Point>,
+    place: Point,
+) -> Result<Text, AskFault>
+    ensures kept { OnErr result (breaks.new.items ≡ breaks.old.items) }
+{
+    let table = &inquiry.core.store;
+    if !is_set(table, breaks.as_slice(), place) {
+        return Err(AskFault::Refused(Cause::NoPlace));
+    }
+    let alloc = inquiry.core.operands.allocator();
+    let Ok(text) = point_text(alloc, b"clear ", table, place) else {
+        return Err(AskFault::NoMemory);
+    };
+    let target = known(talk.view.target);
+    match unplant(target, &mut talk.memory.below.below.below, place.at) {
+        Ok(()) => {
+            breaks.retain(|point| !is_same(table, *point, place));
+            Ok(text)
+        }
+        Err(fault) => Err(memory_fault(fault)),
+    }
+}
+
+/// `clear`: the breakpoint at the point is taken away. Where it isn't done the breakpoints are as before.
+pub fn clearing<W: AbsMem + Drop>(
+    inquiry: &mut Inquiry,
+    talk: &mut Operators<W>,
+    breaks: &mut Vec<Point>,
+    spot: &Spot,
+) -> Result<Text, AskFault>
+    requires within { inquiry.old.steps.taken ≤ inquiry.old.steps.limit }
+    ensures kept { OnErr result (breaks.new.items ≡ breaks.old.items) }
+    ensures within { inquiry.new.steps.taken ≤ inquiry.new.steps.limit }
+    ensures limit { inquiry.new.steps.limit ≡ inquiry.old.steps.limit }
+    ensures more { inquiry.old.steps.taken ≤ inquiry.new.steps.taken }
+    ensures closed { Settles (closed_part inquiry.old.core.store) (closed_part inquiry.new.core.store) }
+{
+    match spot_told(inquiry, spot) {
+        Err(fault) => Err(fault),
+        Ok(None) => Err(AskFault::Refused(Cause::NoPlace)),
+        Ok(Some(place)) => unset(inquiry, talk, breaks, place),
+    }
+}

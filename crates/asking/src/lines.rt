@@ -1,0 +1,84 @@
+// Lines of replies.
+
+ghost use Rattle.std.specs.Prelude.{◌≡◌, ◌∷◌, ◌++◌, [], OnOk, IfOk, codes, decimal};
+
+use ldb_words::Text;
+use ps_store::PsStore;
+use std::alloc::{AllocError, Global};
+use table_points::Point;
+
+/// Adds a number in decimal digits.
+fn append_decimal(alloc: Global, out: &mut Text, n: u32) -> Result<(), AllocError>
+    ensures { OnOk result (out.new ≡ out.old ++ decimal n) }
+{
+    let digits = format!(in alloc; "{n}")?;
+    out.append(digits.as_bytes())
+}
+
+/// Adds a point's place, `F:L.C`.
+fn append_place(
+    alloc: Global,
+    out: &mut Text,
+    table: &PsStore,
+    place: Point,
+) -> Result<(), AllocError> {
+    out.append(table.string_get(place.file))?;
+    out.append(b":")?;
+    append_decimal(alloc, out, place.line)?;
+    out.append(b".")?;
+    append_decimal(alloc, out, place.column)
+}
+
+/// Adds the line of a frame, `frame K FUNC F:L.C`, with its LF.
+pub fn append_frame(
+    alloc: Global,
+    out: &mut Text,
+    table: &PsStore,
+    number: u32,
+    place: Point,
+) -> Result<(), AllocError> {
+    out.append(b"frame ")?;
+    append_decimal(alloc, out, number)?;
+    out.append(b" ")?;
+    out.append(table.string_get(place.function))?;
+    out.append(b" ")?;
+    append_place(alloc, out, table, place)?;
+    out.append(b"\n")
+}
+
+/// The line of some frames' number, `frames N`, and their lines behind it.
+pub fn frames_text(alloc: Global, count: u32, lines: &Text) -> Result<Text, AllocError>
+    ensures { IfOk result (λ t. t ≡ (codes "frames " ++ decimal count) ++ (10 ∷ lines.now)) }
+{
+    let mut out = Text::new(alloc);
+    out.append(b"frames ")?;
+    append_decimal(alloc, &mut out, count)?;
+    out.append(b"\n")?;
+    out.append(lines.as_bytes())?;
+    Ok(out)
+}
+
+/// The line of a point behind a word and a space, as `break F:L.C`, with its LF.
+pub fn point_text(
+    alloc: Global,
+    word: &[u8],
+    table: &PsStore,
+    place: Point,
+) -> Result<Text, AllocError> {
+    let mut out = Text::new(alloc);
+    out.append(word)?;
+    append_place(alloc, &mut out, table, place)?;
+    out.append(b"\n")?;
+    Ok(out)
+}
+
+/// The line of a shown value, `value TEXT`, with its LF.
+pub fn value_text(alloc: Global, shown: &Text) -> Result<Text, AllocError>
+    ensures { IfOk result (λ t. t ≡ codes "value " ++ (shown.now ++ (10 ∷ []))) }
+{
+    let mut out = Text::new(alloc);
+    out.append(b"value ")?;
+    out.append(shown.as_bytes())?;
+    out.append(b"\n")?;
+    Ok(out)
+}

@@ -1,0 +1,224 @@
+// `print`.
+
+ghost use Rattle.std.specs.Prelude.{◌≡◌, ◌≤◌};
+ghost use Rattle.ps_store.specs.Store.{closed_part};
+ghost use Rattle.table_asks.specs.Closing.{Settles};
+
+use crate::lines::value_text;
+use abs_mem::AbsMem;
+use c_lex::keyword_of;
+use frame_bytes::Frame;
+use ldb_words::Text;
+use ps_ops::{Operators, Standing};
+use ps_store::{DictId, PsObj, PsStore};
+use std::alloc::Global;
+use table_asks::{
+    AskFault, Cause, Inquiry, begin_run, fault_of_run, frame_found, raised, run_object,
+    scope_found, symbol_found,
+};
+use table_model::Lack;
+use table_read::{dict_at, entry};
+use table_types::check_type;
+
+/// The most bytes of an identifier.
+const MOST_LETTERS: usize = 63;
+
+/// Before a command runs PostScript: in which frame its operators work, and whether they may store to the target. Nothing is
+/// appended yet, the immediate cell is 0, and no fault is kept.
+pub fn begin_talk<W: AbsMem + Drop>(
+    alloc: Global,
+    talk: &mut Operators<W>,
+    standing: Standing,
+    raw: bool,
+) {
+    talk.view.standing = standing;
+    talk.view.raw = raw;
+    talk.memory.below.cell = 0;
+    talk.out = Text::new(alloc);
+    talk.fault = None;
+}
+
+/// Whether a byte may stand in an identifier behind its first one.
+fn is_part(b: u8) -> bool {
+    b.is_ascii_alphanumeric() || b == b'_'
+}
+
+/// Whether a text is one identifier: a letter or `_`, then letters, digits and `_`, at most 63 bytes, and no keyword.
+fn is_identifier(text: &[u8]) -> bool {
+    match text {
+        [] => false,
+        [first, ..] => {
+            !first.is_ascii_digit()
+                && text.len() <= MOST_LETTERS
+                && text.iter().all(|b| is_part(*b))
+                && keyword_of(text).is_none()
+        }
+    }
+}
+
+/// Whether a symbol is of a function; the other ones are of variables.
+fn is_function(store: &PsStore, symbol: DictId) -> Result<bool, Lack> {
+    match entry(store, symbol, b"kind")? {
+        PsObj::Name(text, _) => match store.string_get(text) {
+            b"function" => Ok(true),
+            b"variable" => Ok(false),
+            _ => Err(Lack::WrongType),
+        },
+        _ => Err(Lack::WrongType),
+    }
+}
+
+/// The type of a symbol, unless it is too deep. What else a type lacks is met by its printer, where that asks for it.
+fn printed_type(store: &PsStore, symbol: DictId) -> Result<DictId, Lack> {
+    let ctype = dict_at(store, symbol, b"type")?;
+    match check_type(store, ctype) {
+        Err(Lack::TooDeep) => Err(Lack::TooDeep),
+        Ok(()) | Err(_) => Ok(ctype),
+    }
+}
+
+/// The procedure of a symbol that leaves its place.
+pub fn procedure_of(store: &PsStore, symbol: DictId) -> Result<PsObj, Lack> {
+    match entry(store, symbol, b"where")? {
+        PsObj::Array(a, true) => Ok(PsObj::Array(a, true)),
+        _ => Err(Lack::WrongType),
+    }
+}
+
+/// The type of the variable that a symbol is; a function is none.
+fn variable_type(inquiry: &Inquiry, symbol: DictId) -> Result<DictId, AskFault> {
+    let store = &inquiry.core.store;
+    match is_function(store, symbol) {
+        Err(lack) => Err(raised(lack)),
+        Ok(true) => Err(AskFault::Refused(Cause::BadType)),
+        Ok(false) => match printed_type(store, symbol) {
+            Ok(ctype) => Ok(ctype),
+            Err(lack) => Err(raised(lack)),
+        },
+    }
+}
+
+/// Runs the procedure of a symbol, in a dictionary of the command's own.
+fn place<W: AbsMem + Drop>(
+    inquiry: &mut Inquiry,
+    talk: &mut Operators<W>,
+    symbol: DictId,
+) -> Result<(), AskFault>
+    requires within { inquiry.old.steps.taken ≤ inquiry.old.steps.limit }
+    ensures within { inquiry.new.steps.taken ≤ inquiry.new.steps.limit }
+    ensures limit { inquiry.new.steps.limit ≡ inquiry.old.steps.limit }
+    ensures more { inquiry.old.steps.taken ≤ inquiry.new.steps.taken }
+    ensures closed { Settles (closed_part inquiry.old.core.store) (closed_part inquiry.new.core.store) }
+{
+    let where_is = match procedure_of(&inquiry.core.store, symbol) {
+        Ok(procedure) => procedure,
+        Err(lack) => return Err(raised(lack)),
+    };
+    match begin_run(inquiry) {
+        Err(fault) => Err(fault),
+        Ok(()) => run_object(inquiry, talk, where_is),
+    }
+}
+
+/// Runs the printer of a type on the place that was left.
+fn show<W: AbsMem + Drop>(
+    inquiry: &mut Inquiry,
+    talk: &mut Operators<W>,
+    ctype: DictId,
+) -> Result<(), AskFault>
+    requires within { inquiry.old.steps.taken ≤ inquiry.old.steps.limit }
+    ensures within { inquiry.new.steps.taken ≤ inquiry.new.steps.limit }
+    ensures limit { inquiry.new.steps.limit ≡ inquiry.old.steps.limit }
+    ensures more { inquiry.old.steps.taken ≤ inquiry.new.steps.taken }
+    ensures closed { Settles (closed_part inquiry.old.core.store) (closed_part inquiry.new.core.store) }
+{
+    match inquiry.core.push(PsObj::Dict(ctype)) {
+        Ok(()) => {}
+        Err(fault) => return Err(fault_of_run(fault, None)),
+    }
+    match entry(&inquiry.core.store, ctype, b"printer") {
+        Ok(printer) => run_object(inquiry, talk, printer),
+        Err(lack) => Err(raised(lack)),
+    }
+}
+
+/// Prints a variable in a frame whose innermost symbol in scope is given.
+fn print_symbol<W: AbsMem + Drop>(
+    inquiry: &mut Inquiry,
+    talk: &mut Operators<W>,
+    symbol: DictId,
+) -> Result<Text, AskFault>
+    requires within { inquiry.old.steps.taken ≤ inquiry.old.steps.limit }
+    ensures within { inquiry.new.steps.taken ≤ inquiry.new.steps.limit }
+    ensures limit { inquiry.new.steps.limit ≡ inquiry.old.steps.limit }
+    ensures more { inquiry.old.steps.taken ≤ inquiry.new.steps.taken }
+    ensures closed { Settles (closed_part inquiry.old.core.store) (closed_part inquiry.new.core.store) }
+{
+    let ctype = match variable_type(inquiry, symbol) {
+        Ok(ctype) => ctype,
+        Err(fault) => return Err(fault),
+    };
+    match place(inquiry, talk, symbol) {
+        Ok(()) => {}
+        Err(fault) => return Err(fault),
+    }
+    match show(inquiry, talk, ctype) {
+        Ok(()) => match value_text(inquiry.core.operands.allocator(), &talk.out) {
+            Ok(text) => Ok(text),
+            Err(_) => Err(AskFault::NoMemory),
+        },
+        Err(fault) => Err(fault),
+    }
+}
+
+/// Prints the variable of a name in a frame.
+fn print_in<W: AbsMem + Drop>(
+    inquiry: &mut Inquiry,
+    talk: &mut Operators<W>,
+    number: u32,
+    frame: Frame,
+    name: &[u8],
+) -> Result<Text, AskFault>
+    requires within { inquiry.old.steps.taken ≤ inquiry.old.steps.limit }
+    ensures within { inquiry.new.steps.taken ≤ inquiry.new.steps.limit }
+    ensures limit { inquiry.new.steps.limit ≡ inquiry.old.steps.limit }
+    ensures more { inquiry.old.steps.taken ≤ inquiry.new.steps.taken }
+    ensures closed { Settles (closed_part inquiry.old.core.store) (closed_part inquiry.new.core.store) }
+{
+    if !is_identifier(name) {
+        return Err(AskFault::Refused(Cause::BadSyntax));
+    }
+    let scope = match scope_found(inquiry, number, &frame) {
+        Ok(scope) => scope,
+        Err(fault) => return Err(fault),
+    };
+    match symbol_found(inquiry, scope, name) {
+        Err(fault) => Err(fault),
+        Ok(None) => Err(AskFault::Refused(Cause::NoScope)),
+        Ok(Some(symbol)) => {
+            let alloc = inquiry.core.operands.allocator();
+            begin_talk(alloc, talk, Standing::InFrame { frame, scope }, false);
+            print_symbol(inquiry, talk, symbol)
+        }
+    }
+}
+
+/// `print NAME`: the text of the variable of the name that is in scope in the frame with the number.
+pub fn printing<W: AbsMem + Drop>(
+    inquiry: &mut Inquiry,
+    talk: &mut Operators<W>,
+    number: u32,
+    name: &[u8],
+) -> Result<Text, AskFault>
+    requires within { inquiry.old.steps.taken ≤ inquiry.old.steps.limit }
+    ensures within { inquiry.new.steps.taken ≤ inquiry.new.steps.limit }
+    ensures limit { inquiry.new.steps.limit ≡ inquiry.old.steps.limit }
+    ensures more { inquiry.old.steps.taken ≤ inquiry.new.steps.taken }
+    ensures closed { Settles (closed_part inquiry.old.core.store) (closed_part inquiry.new.core.store) }
+{
+    match frame_found(inquiry, talk, number) {
+        Err(fault) => Err(fault),
+        Ok(None) => Err(AskFault::Refused(Cause::NoFrame)),
+        Ok(Some(frame)) => print_in(inquiry, talk, number, frame, name),
+    }
+}

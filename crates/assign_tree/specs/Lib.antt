@@ -1,4 +1,0 @@
-pub mod Made
-pub mod Assigning
-pub mod Stands
-pub mod Tasks

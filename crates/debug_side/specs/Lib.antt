@@ -1,0 +1,4 @@
+pub mod Meant
+pub mod Planting
+pub mod Ran
+pub mod Wrote

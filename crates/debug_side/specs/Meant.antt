@@ -1,0 +1,46 @@
+-- The point of a stop, and the event of a run.
+use Rattle.std.specs.Prelude.{ℕ, nat_eq, Bool, true, false, if◌then◌else◌, List, [], ◌∷◌, Option, Some, None}
+use Rattle.ldb_words.specs.declared.event.FaultKind.TheVariants as kind
+use Rattle.nub_wire.specs.declared.message.Ending.{Ending}
+use Rattle.nub_wire.specs.declared.message.Ending.TheVariants as ending
+use Rattle.nub_wire.specs.declared.message.Reason.TheVariants as reason
+use Rattle.table_points.specs.declared.row.Point.{Point}
+use Rattle.debug_side.specs.declared.event.Event.{Event}
+use Rattle.debug_side.specs.declared.event.Event.TheVariants as event
+
+abbrev pub address_of : Point → ℕ
+address_of p = p.at
+
+-- the first of some points at an address
+abbrev pub point_at : List Point → ℕ → Option Point
+point_at [] at = None
+point_at (p ∷ ps) at = if nat_eq p.at at then Some p else point_at ps at
+
+abbrev pub stop_or : Option Point → Event → Event
+stop_or None e = e
+stop_or (Some p) e = event.Stops p
+
+-- a point with a breakpoint, else one of a step; a break where none was put is a fault
+abbrev pub stop_of : (breaks words : List Point) → (pc : ℕ) → Event
+stop_of breaks words pc = stop_or (point_at breaks pc) (stop_or (point_at words pc) (event.Faults kind.Break pc))
+
+abbrev pub event_of : (breaks words : List Point) → Ending → Event
+event_of breaks words (ending.Stopped reason.Break pc) = stop_of breaks words pc
+event_of breaks words (ending.Stopped reason.Pause pc) = event.Pauses pc
+event_of breaks words (ending.Exited status) = event.Exits status
+event_of breaks words (ending.Faulted fault pc) = event.Faults fault pc
+event_of breaks words ending.Turns = event.OutOfTurns
+event_of breaks words ending.Stack = event.OutOfStack
+
+abbrev pub stop_address : Event → Option ℕ
+stop_address (event.Stops p) = Some p.at
+stop_address e = None
+
+abbrev pub is_turns : Event → Bool
+is_turns event.OutOfTurns = true
+is_turns e = false
+
+-- the words of a step stay where a side that kept no event used up its turns
+abbrev pub keeps_words : Option Event → Event → Bool
+keeps_words (Some k) e = false
+keeps_words None e = is_turns e

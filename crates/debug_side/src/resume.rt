@@ -1,0 +1,72 @@
+// A resume of a side up to its event.
+
+ghost use Rattle.std.specs.Prelude.{◌≡◌, ◌⊎◌};
+ghost use Rattle.machine_state.specs.declared.layout.TheConstants.{MIPS, SPARC};
+ghost use Rattle.resuming.specs.Runs.{CountsRun};
+ghost use Rattle.debug_side.specs.Ran.{SideCalled};
+
+use crate::event::{Event, event_by, keeps_words, stop_address};
+use crate::point::{MachineKind, SideRow};
+use crate::words::{pass_no_op, unplant_all};
+use abs_mem::Wire;
+use ldb_edge::Sink;
+use nub_wire::Link;
+use resuming::{RunFault, run_to_event};
+
+/// The event that a side keeps; else it runs from where it stands to its event, its output is put, and it stands there.
+fn meet<L: Link + Drop, S: Sink>(
+    kind: MachineKind,
+    wire: &mut Wire<L>,
+    row: &mut SideRow,
+    limit: u32,
+    out: &mut S,
+) -> Result<Event, RunFault>
+    ensures calls { SideCalled L.took L.gave wire.old.side wire.old.link result wire.new.side wire.new.link }
+    ensures cause { CountsRun (L.faults wire.old.link) (L.faults wire.new.link) (S.faults out.old) (S.faults out.new) result }
+{
+    match row.kept {
+        Some(event) => Ok(event),
+        None => match pass_no_op(kind.context, wire, row.stands_at) {
+            Err(fault) => Err(RunFault::Talk(fault)),
+            Ok(()) => match run_to_event(&mut wire.link, wire.side, limit, out) {
+                Err(fault) => Err(fault),
+                Ok(ending) => {
+                    let event = event_by(row, ending);
+                    row.stands_at = stop_address(event);
+                    Ok(event)
+                }
+            },
+        },
+    }
+}
+
+/// Resumes a side for at most `limit` instructions up to its event, and puts its output as it comes; a side that keeps its
+/// event isn't run. Behind the event the words of a step are taken away, but where the turns were used up. It takes no
+/// memory. After a fault the side is not to be asked again.
+pub fn resume_side<L: Link + Drop, S: Sink>(
+    kind: MachineKind,
+    wire: &mut Wire<L>,
+    row: &mut SideRow,
+    limit: u32,
+    out: &mut S,
+) -> Result<Event, RunFault>
+    requires known { (kind.target ≡ MIPS) ⊎ (kind.target ≡ SPARC) }
+    ensures calls { SideCalled L.took L.gave wire.old.side wire.old.link result wire.new.side wire.new.link }
+    ensures cause { CountsRun (L.faults wire.old.link) (L.faults wire.new.link) (S.faults out.old) (S.faults out.new) result }
+{
+    let kept = row.kept;
+    let event = match meet(kind, wire, row, limit, out) {
+        Ok(event) => event,
+        Err(fault) => return Err(fault),
+    };
+    if keeps_words(kept, event) {
+        return Ok(event);
+    }
+    match unplant_all(kind.target, wire, row.step_words.as_slice()) {
+        Err(fault) => Err(RunFault::Talk(fault)),
+        Ok(()) => {
+            row.step_words.clear();
+            Ok(event)
+        }
+    }
+}

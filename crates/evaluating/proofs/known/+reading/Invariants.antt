@@ -1,0 +1,8 @@
+use Rattle.std.proofs.Common.{◌+◌, ◌*◌}
+use Rattle.evaluating.proofs.known.+reading.Given as goal
+
+abbrev pub decreases-read : goal.decreases-read
+decreases-read l = 2 * l.deep + 1
+
+abbrev pub decreases-read_pointer : goal.decreases-read_pointer
+decreases-read_pointer l = 2 * l.deep

@@ -1,0 +1,13 @@
+//! Expressions of C as texts of PostScript: names and tags are asked for in the order of the text, and the text that is then given
+//! computes the expression by the operators of the dialect, or leaves the places and values of an assignment.
+#![tactic(auto)]
+
+mod coder;
+mod emit;
+mod fault;
+mod mention;
+mod operators;
+mod serving;
+
+pub use fault::Refuse;
+pub use serving::{Server, Turn};

@@ -1,0 +1,305 @@
+// Serving an expression: its names and tags are asked for, and then its text is made.
+
+ghost use Rattle.std.specs.Prelude.{◌≡◌, ◌≤◌, length, List, IfOk, OnOk, Err};
+ghost use Rattle.c_lex.specs.declared.token.Token.{Token as Piece};
+ghost use Rattle.c_lex.specs.Grammar.{HasTokens};
+ghost use Rattle.c_symbol.specs.Terminals.{terminals};
+ghost use Rattle.expr_serve.specs.declared.fault.Refuse.TheVariants.{Syntax as NoExpression};
+ghost use Rattle.expr_serve.specs.Texts.{AreExpression, IsExpression};
+
+use crate::coder::text_of;
+use crate::fault::Refuse;
+use crate::mention::{Mention, mentions};
+use c_expr::{Expr, SynFault, parse_expr};
+use c_judge::{ExprFault, Mode, Symbol, check_expr, copied, head_of, value_type};
+use c_lex::{LexFault, Token, tokens};
+use c_tree::{CType, Member, StructDef, Typed};
+use ldb_words::{Many, Text};
+use std::alloc::{AllocError, Global};
+
+/// The most bytes of a text.
+const MOST_BYTES: usize = 1_000;
+
+/// The most names or structs of an expression.
+const MOST_ROWS: usize = 4_294_967_295;
+
+/// An expression whose names and tags are asked for.
+#[derive(Drop)]
+pub struct Server {
+    alloc: Global,
+    text: Text,
+    mode: Mode,
+    mentions: Vec<Mention>,
+    symbols: Vec<Symbol>,
+    defs: Vec<StructDef>,
+    /// Whether a name was answered to be none.
+    is_unknown: bool,
+}
+
+/// What a server does next.
+pub enum Turn {
+    /// It asks for a name.
+    Ask { name: Text, server: Server },
+    /// It asks for a struct's tag.
+    AskTag { tag: Text, server: Server },
+    /// The text of PostScript, without LF, and the type of the value, or of what is assigned to.
+    Done { postscript: Text, ctype: CType },
+}
+
+/// The tokens of a text of at most 1,000 bytes.
+#[tactic(auto, using(crate::proofs::Texts::none_with_fault, crate::proofs::Texts::none_too_many))]
+fn tokens_of(alloc: Global, text: &[u8]) -> Result<Vec<Token>, Refuse>
+    ensures tokens { IfOk result (λ found. HasTokens text.now found.items) }
+    ensures none { result ≡ Err NoExpression → length text.now ≤ 1000 → (ts : List Piece) → HasTokens text.now ts → ⊥ }
+{
+    if text.len() > MOST_BYTES {
+        return Err(Refuse::Syntax);
+    }
+    match tokens(alloc, text) {
+        Ok(found) => Ok(found),
+        Err(LexFault::NoMemory) => Err(Refuse::NoMemory),
+        Err(LexFault::Bad { .. }) => Err(Refuse::Syntax),
+        Err(LexFault::TooMany) => Err(Refuse::Syntax),
+    }
+}
+
+/// The tree of a text with these tokens.
+fn tree_of(alloc: Global, text: &[u8], tokens: &[Token]) -> Result<Expr, Refuse>
+    ensures tree { OnOk result (AreExpression (terminals text.now tokens.now)) }
+    ensures none { result ≡ Err NoExpression → AreExpression (terminals text.now tokens.now) → ⊥ }
+{
+    match parse_expr(alloc, text, tokens) {
+        Ok(expr) => Ok(expr),
+        Err(SynFault::NoMemory) => Err(Refuse::NoMemory),
+        Err(SynFault::Syntax(_)) => Err(Refuse::Syntax),
+        Err(SynFault::Deep(_)) => Err(Refuse::Syntax),
+    }
+}
+
+/// The names and tags of a text, which is an expression.
+#[tactic(auto, using(crate::proofs::Texts::none_by_tokens))]
+fn mentions_of(alloc: Global, text: &[u8]) -> Result<Vec<Mention>, Refuse>
+    ensures text { OnOk result (IsExpression text.now) }
+    ensures none { result ≡ Err NoExpression → length text.now ≤ 1000 → IsExpression text.now → ⊥ }
+{
+    let found = match tokens_of(alloc, text) {
+        Ok(found) => found,
+        Err(refused) => return Err(refused),
+    };
+    match tree_of(alloc, text, found.as_slice()) {
+        Ok(expr) => drop(expr),
+        Err(refused) => return Err(refused),
+    }
+    match mentions(alloc, text, found.as_slice()) {
+        Ok(mentions) => Ok(mentions),
+        Err(_) => Err(Refuse::NoMemory),
+    }
+}
+
+/// Why the checker refused.
+fn refused_by(fault: &ExprFault) -> Refuse {
+    match fault {
+        ExprFault::Scope { .. } => Refuse::Scope,
+        ExprFault::Rule { .. } | ExprFault::Forbidden { .. } => Refuse::Rule,
+        ExprFault::NoMemory => Refuse::NoMemory,
+    }
+}
+
+/// The checked tree of a text among these names and structs.
+fn checked(
+    alloc: Global,
+    text: &[u8],
+    mode: Mode,
+    symbols: &[Symbol],
+    defs: &[StructDef],
+) -> Result<Typed, Refuse> {
+    if symbols.len() > MOST_ROWS || defs.len() > MOST_ROWS {
+        return Err(Refuse::NoMemory);
+    }
+    let found = tokens_of(alloc, text)?;
+    match tree_of(alloc, text, found.as_slice()) {
+        Err(refused) => Err(refused),
+        Ok(expr) => {
+            let result = check_expr(alloc, &expr, symbols, defs, mode);
+            drop(expr);
+            match result {
+                Ok(typed) => Ok(typed),
+                Err(fault) => Err(refused_by(&fault)),
+            }
+        }
+    }
+}
+
+/// The type of the value of a checked expression: an array is a pointer.
+fn given_type(typed: &Typed, mode: Mode) -> Result<CType, AllocError> {
+    let t = &head_of(typed).ctype;
+    match mode {
+        Mode::Value => value_type(t),
+        Mode::Assign => copied(t),
+    }
+}
+
+/// The text of a checked expression, and its type.
+fn told(
+    alloc: Global,
+    typed: &Typed,
+    mode: Mode,
+    symbols: &[Symbol],
+    defs: &[StructDef],
+) -> Result<(Text, CType), AllocError> {
+    let ctype = given_type(typed, mode)?;
+    let postscript = text_of(alloc, typed, mode, symbols, defs)?;
+    Ok((postscript, ctype))
+}
+
+/// A copy of a struct's members.
+fn copied_members(alloc: Global, members: &[Member]) -> Result<Many<Member>, AllocError> {
+    let mut copies = Many::new(alloc);
+    for member in members {
+        let name = Text::from_slice(alloc, member.name.as_bytes())?;
+        let ctype = copied(&member.ctype)?;
+        copies.push(Member {
+            name,
+            at: member.at,
+            ctype,
+        })?;
+    }
+    Ok(copies)
+}
+
+/// A copy of a struct.
+fn copied_def(alloc: Global, def: &StructDef) -> Result<StructDef, AllocError> {
+    let tag = Text::from_slice(alloc, def.tag.as_bytes())?;
+    let members = copied_members(alloc, def.members.as_slice())?;
+    Ok(StructDef {
+        tag,
+        size: def.size,
+        members,
+    })
+}
+
+/// Adds copies of the structs behind those that are there.
+fn add_defs(alloc: Global, defs: &mut Vec<StructDef>, all: &[StructDef]) -> Result<(), AllocError> {
+    let known = defs.len();
+    if let Some(more) = all.get(known..) {
+        for def in more {
+            let copy = copied_def(alloc, def)?;
+            defs.push(copy)?;
+        }
+    }
+    Ok(())
+}
+
+/// Adds a name.
+fn add_symbol(symbols: &mut Vec<Symbol>, symbol: Symbol) -> Result<(), AllocError> {
+    symbols.push(symbol)?;
+    Ok(())
+}
+
+/// Whether a name or a tag was answered already.
+fn is_known(mention: &Mention, symbols: &[Symbol], defs: &[StructDef]) -> bool {
+    let text = mention.text.as_bytes();
+    if mention.is_tag {
+        defs.iter().any(|def| def.tag.as_bytes() == text)
+    } else {
+        symbols.iter().any(|symbol| symbol.name.as_bytes() == text)
+    }
+}
+
+impl Server {
+    /// Begins to serve a text. Syntax comes where it has more than 1,000 bytes or is no expression with a nesting of at most 64.
+    pub fn start(alloc: Global, text: &[u8], mode: Mode) -> Result<Server, Refuse>
+        ensures text { OnOk result (IsExpression text.now) }
+        ensures none { result ≡ Err NoExpression → length text.now ≤ 1000 → IsExpression text.now → ⊥ }
+    {
+        let mentions = match mentions_of(alloc, text) {
+            Ok(mentions) => mentions,
+            Err(refused) => return Err(refused),
+        };
+        match Text::from_slice(alloc, text) {
+            Err(_) => Err(Refuse::NoMemory),
+            Ok(text) => Ok(Server {
+                alloc,
+                text,
+                mode,
+                mentions,
+                symbols: Vec::new(alloc),
+                defs: Vec::new(alloc),
+                is_unknown: false,
+            }),
+        }
+    }
+
+    /// The next name or tag that was not answered, if there is one.
+    fn next_open(&self) -> Option<&Mention> {
+        for mention in self.mentions.as_slice() {
+            if !is_known(mention, self.symbols.as_slice(), self.defs.as_slice()) {
+                return Some(mention);
+            }
+        }
+        None
+    }
+
+    /// What is asked for next: a text, and whether it is a tag.
+    fn asked(&self) -> Result<Option<(Text, bool)>, AllocError> {
+        match self.next_open() {
+            None => Ok(None),
+            Some(mention) => {
+                let text = Text::from_slice(self.alloc, mention.text.as_bytes())?;
+                Ok(Some((text, mention.is_tag)))
+            }
+        }
+    }
+
+    /// The text of the expression, once all names and tags were answered, and its type.
+    fn finished(&self) -> Result<(Text, CType), Refuse> {
+        let symbols = self.symbols.as_slice();
+        let defs = self.defs.as_slice();
+        match checked(self.alloc, self.text.as_bytes(), self.mode, symbols, defs) {
+            Err(refused) => Err(refused),
+            Ok(typed) => {
+                let result = told(self.alloc, &typed, self.mode, symbols, defs);
+                drop(typed);
+                Ok(result?)
+            }
+        }
+    }
+
+    /// Asks for the next name or tag, each once and in the order of the text, or gives the text of PostScript. Scope comes only
+    /// where a name was answered to be none, Rule where a typing rule is broken or a form stands in the text that is forbidden.
+    pub fn advance(self) -> Result<Turn, Refuse> {
+        if self.is_unknown {
+            return Err(Refuse::Scope);
+        }
+        let server = self;
+        match server.asked()? {
+            Some((text, true)) => Ok(Turn::AskTag { tag: text, server }),
+            Some((text, false)) => Ok(Turn::Ask { name: text, server }),
+            None => {
+                let (postscript, ctype) = server.finished()?;
+                Ok(Turn::Done { postscript, ctype })
+            }
+        }
+    }
+
+    /// Answers the name that was asked for, with all structs so far; those of the answer before come first.
+    pub fn answer(&mut self, symbol: Option<Symbol>, defs: &[StructDef]) -> Result<(), Refuse> {
+        match symbol {
+            None => {
+                self.is_unknown = true;
+                Err(Refuse::Scope)
+            }
+            Some(symbol) => {
+                add_symbol(&mut self.symbols, symbol)?;
+                add_defs(self.alloc, &mut self.defs, defs)?;
+                Ok(())
+            }
+        }
+    }
+
+    /// Answers the tag that was asked for, with all structs so far; those of the answer before come first.
+    pub fn answer_tag(&mut self, defs: &[StructDef]) -> Result<(), Refuse> {
+        add_defs(self.alloc, &mut self.defs, defs)?;
+        Ok(())
+    }
+}

@@ -1,0 +1,60 @@
+-- What ends a call before its session, and when it may.
+use Rattle.std.specs.Prelude.{◌≡◌, ◌⊎◌, ℕ, List}
+use Rattle.std.specs.Prelude.{Ok, Err}
+use Rattle.std.specs.declared.result.Result.{Result}
+use Rattle.ldb_edge.specs.Count.{Rose}
+use Rattle.cc_call.specs.Lines.{missing_line}
+use Rattle.cc_call.specs.declared.ended.Fault.{Fault}
+use Rattle.cc_call.specs.declared.ended.Fault.TheVariants as fault
+use Rattle.ldb_top.specs.declared.status.Status.{Status}
+use Rattle.ldb_top.specs.declared.status.Status.TheVariants as status
+use Rattle.ldb_top.specs.declared.status.Stop.{Stop}
+use Rattle.ldb_top.specs.declared.status.Stop.TheVariants.{Read, NoMemory, Missing, TooLong, Refused, Bad}
+use Rattle.ldb_top.specs.Causes.{IsMissed}
+
+-- how a call ends by such a stop, if its line can be written
+abbrev pub ending_of : Stop → Result Status Fault
+ending_of Read = Err fault.Read
+ending_of NoMemory = Err fault.NoMemory
+ending_of (Missing line) = Ok status.NoFile
+ending_of (TooLong line) = Ok status.TooLong
+ending_of (Refused line) = Ok status.Refused
+ending_of (Bad line) = Ok status.BadFile
+
+-- a file isn't there, or there was no memory to say so
+abbrev pub IsMissing : List ℕ → Stop → Type 0
+IsMissing name (Missing line) = line ≡ missing_line name
+IsMissing name NoMemory = Unit {0}
+IsMissing name _ = ⊥
+
+-- while files are read: a failed read raises the count, and nothing else moves it; a file that isn't there is named
+abbrev pub IsReadStop : (missed : List ℕ → Type 0) → (before now : ℕ) → Stop → Type 0
+IsReadStop missed before now Read = Rose before now
+IsReadStop missed before now NoMemory = Unit {0}
+IsReadStop missed before now (Missing line) = (now ≡ before) × IsMissed missed line
+IsReadStop missed before now (TooLong line) = now ≡ before
+IsReadStop missed before now (Refused line) = ⊥
+IsReadStop missed before now (Bad line) = ⊥
+
+-- while sources are compiled and tables run
+abbrev pub IsBuildStop : Stop → Type 0
+IsBuildStop NoMemory = Unit {0}
+IsBuildStop (Refused line) = Unit {0}
+IsBuildStop (Bad line) = Unit {0}
+IsBuildStop _ = ⊥
+
+-- while an image and a table are read
+abbrev pub IsLoadStop : Stop → Type 0
+IsLoadStop NoMemory = Unit {0}
+IsLoadStop (Bad line) = Unit {0}
+IsLoadStop _ = ⊥
+
+-- the one, with no count moved, or the other
+abbrev pub IsOpenStop : (Stop → Type 0) → (missed : List ℕ → Type 0) → (before now : ℕ) → Stop → Type 0
+IsOpenStop P missed before now stop = (P stop × (now ≡ before)) ⊎ IsReadStop missed before now stop
+
+-- how the count of failed writes moves where a stop is told
+abbrev pub CountsTold : ℕ → ℕ → Fault → Type 0
+CountsTold before now fault.Read = now ≡ before
+CountsTold before now fault.Write = Rose before now
+CountsTold before now fault.NoMemory = now ≡ before

@@ -1,0 +1,110 @@
+// A command that doesn't resume, on one side.
+
+ghost use Rattle.std.specs.Prelude.{◌≡◌, ◌≤◌, OnErr};
+ghost use Rattle.session.specs.Kept.{IsKept};
+
+use crate::sides::{SideRecord, turn};
+use abs_mem::{MemFault, Wire};
+use asking::{breaking, choosing, clearing, listing, printing, registers, running_text};
+use c_session::Command;
+use evaluating::{coding, evaluating};
+use ldb_words::Text;
+use nub_wire::Link;
+use ps_ops::Operators;
+use table_asks::{AskFault, begin_command, end_command};
+
+/// What a command says on a side, whose steps are begun. Those that are asked of no side say nothing.
+fn told<L: Link + Drop>(
+    talk: &mut Operators<Wire<L>>,
+    side: &mut SideRecord,
+    command: &Command,
+) -> Result<Text, AskFault>
+    requires within { side.old.inquiry.steps.taken ≤ side.old.inquiry.steps.limit }
+    ensures kept { OnErr result (side.new.row.breaks.items ≡ side.old.row.breaks.items) }
+    ensures frame { side.new.frame ≡ side.old.frame }
+{
+    let inquiry = &mut side.inquiry;
+    let frame = side.frame;
+    match command {
+        Command::Break(spot) => breaking(inquiry, talk, &mut side.row.breaks, spot),
+        Command::Clear(spot) => clearing(inquiry, talk, &mut side.row.breaks, spot),
+        Command::Frames => listing(inquiry, talk),
+        Command::Frame(number) => choosing(inquiry, talk, *number),
+        Command::Print(name) => printing(inquiry, talk, frame, name.as_bytes()),
+        Command::Eval(text) => evaluating(inquiry, talk, frame, text.as_bytes()),
+        Command::Code(text) => coding(inquiry, talk, frame, text.as_bytes()),
+        Command::Ps(text) => running_text(inquiry, talk, frame, text.as_bytes()),
+        _ => Ok(Text::new(inquiry.core.operands.allocator())),
+    }
+}
+
+/// The frame that a command chooses, where it is done.
+fn chosen(command: &Command, frame: u32) -> u32 {
+    match command {
+        Command::Frame(number) => *number,
+        _ => frame,
+    }
+}
+
+/// What a command says on a side. One that isn't done leaves the breakpoints and the chosen frame.
+pub fn asked<L: Link + Drop>(
+    talk: &mut Operators<Wire<L>>,
+    side: &mut SideRecord,
+    command: &Command,
+) -> Result<Text, AskFault>
+    ensures kept { OnErr result (IsKept side.old side.new) }
+{
+    turn(talk, side);
+    let mark = match begin_command(&mut side.inquiry) {
+        Ok(mark) => mark,
+        Err(_) => return Err(AskFault::NoMemory),
+    };
+    let said = told(talk, side, command);
+    end_command(&mut side.inquiry, mark);
+    match said {
+        Err(fault) => Err(fault),
+        Ok(text) => {
+            side.frame = chosen(command, side.frame);
+            Ok(text)
+        }
+    }
+}
+
+/// Why a link failed, where it is why a command isn't done.
+fn unbroken(fault: AskFault) -> Result<(), MemFault> {
+    match fault {
+        AskFault::Broken(why) => Err(why),
+        _ => Ok(()),
+    }
+}
+
+/// Runs a text of PostScript on a side, and says nothing; why it ended early, where the link failed. Breakpoints and the chosen
+/// frame stay.
+pub fn ran<L: Link + Drop>(
+    talk: &mut Operators<Wire<L>>,
+    side: &mut SideRecord,
+    text: &[u8],
+) -> Result<(), MemFault>
+    ensures { IsKept side.old side.new }
+{
+    turn(talk, side);
+    let mark = match begin_command(&mut side.inquiry) {
+        Ok(mark) => mark,
+        Err(_) => return Ok(()),
+    };
+    let said = running_text(&mut side.inquiry, talk, side.frame, text);
+    end_command(&mut side.inquiry, mark);
+    match said {
+        Ok(_said) => Ok(()),
+        Err(fault) => unbroken(fault),
+    }
+}
+
+/// What `regs` says on a side.
+pub fn registers_of<L: Link + Drop>(
+    talk: &mut Operators<Wire<L>>,
+    side: &SideRecord,
+) -> Result<Text, AskFault> {
+    turn(talk, side);
+    registers(side.inquiry.core.operands.allocator(), talk)
+}

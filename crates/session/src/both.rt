@@ -1,0 +1,166 @@
+// A command that doesn't resume, on both sides.
+
+ghost use Rattle.std.specs.Prelude.{◌≡◌};
+ghost use Rattle.session.specs.Kept.{IsKept, IsUndone};
+
+use crate::asked::{asked, ran, registers_of};
+use crate::assigning::{assigned, store};
+use crate::sides::{SideRecord, turn};
+use abs_mem::{MemFault, Wire};
+use c_session::Command;
+use debug_side::{clear_break, point_at, set_break};
+use ldb_words::Text;
+use nub_wire::Link;
+use ps_ops::Operators;
+use std::alloc::Global;
+use table_asks::{AskFault, Point};
+
+/// Why a command isn't done on the first side, once a text of PostScript, which may store in the target, has run on the second
+/// side too.
+fn undone<L: Link + Drop>(
+    talk: &mut Operators<Wire<L>>,
+    second: &mut SideRecord,
+    command: &Command,
+    fault: AskFault,
+) -> AskFault
+    ensures { IsKept second.old second.new }
+{
+    match command {
+        Command::Ps(text) => match ran(talk, second, text.as_bytes()) {
+            Ok(()) => fault,
+            Err(why) => AskFault::Broken(why),
+        },
+        _ => fault,
+    }
+}
+
+/// Puts back the words of the breakpoints that a side had.
+fn put_back<L: Link + Drop>(
+    talk: &mut Operators<Wire<L>>,
+    side: &SideRecord,
+    before: &[Point],
+) -> Result<(), MemFault> {
+    turn(talk, side);
+    let target = side.machine.byte();
+    let wire = &mut talk.memory.below.below.below;
+    for point in &side.row.breaks {
+        if point_at(before, point.at).is_none() {
+            clear_break(target, wire, *point)?;
+        }
+    }
+    for point in before {
+        if point_at(side.row.breaks.as_slice(), point.at).is_none() {
+            set_break(target, wire, *point)?;
+        }
+    }
+    Ok(())
+}
+
+/// Why a command isn't done that the first side had done: breakpoints and the chosen frame are put back there. Words that are put
+/// back were there, so none of them is outside.
+fn given_up<L: Link + Drop>(
+    talk: &mut Operators<Wire<L>>,
+    first: &mut SideRecord,
+    before: Vec<Point>,
+    frame: u32,
+) -> AskFault
+    ensures breaks { first.new.row.breaks.items ≡ before.items }
+    ensures frame { first.new.frame ≡ frame }
+{
+    first.frame = frame;
+    let back = put_back(talk, first, before.as_slice());
+    first.row.breaks = before;
+    match back {
+        Ok(()) | Err(MemFault::Outside { .. }) => AskFault::NoMemory,
+        Err(why) => AskFault::Broken(why),
+    }
+}
+
+/// What a command says on both sides: the reply is the first side's. Where that side doesn't do it, or the second side alone has
+/// no memory for it, breakpoints and chosen frames stay on both; where the second side alone refuses it, they stay on that one.
+pub fn asked_both<L: Link + Drop>(
+    talk: &mut Operators<Wire<L>>,
+    first: &mut SideRecord,
+    second: &mut SideRecord,
+    command: &Command,
+) -> Result<Text, AskFault>
+    ensures first { IsUndone result → IsKept first.old first.new }
+    ensures second { IsUndone result → IsKept second.old second.new }
+{
+    let alloc = first.inquiry.core.operands.allocator();
+    let frame = first.frame;
+    let before = match Vec::from_slice(alloc, first.row.breaks.as_slice()) {
+        Ok(before) => before,
+        Err(_) => return Err(AskFault::NoMemory),
+    };
+    match asked(talk, first, command) {
+        Err(fault) => Err(undone(talk, second, command, fault)),
+        Ok(text) => match asked(talk, second, command) {
+            Err(AskFault::Broken(why)) => Err(AskFault::Broken(why)),
+            Err(AskFault::NoMemory) => Err(given_up(talk, first, before, frame)),
+            _ => Ok(text),
+        },
+    }
+}
+
+/// What `regs` says of both sides, the first one first.
+pub fn registers_both<L: Link + Drop>(
+    talk: &mut Operators<Wire<L>>,
+    first: &SideRecord,
+    second: &SideRecord,
+) -> Result<Text, AskFault> {
+    let mut text = registers_of(talk, first)?;
+    let other = registers_of(talk, second)?;
+    match text.append(other.as_bytes()) {
+        Ok(()) => Ok(text),
+        Err(_) => Err(AskFault::NoMemory),
+    }
+}
+
+/// The text that says that an assignment is done, or why there is none.
+fn set_text(alloc: Global) -> Result<Text, AskFault> {
+    match Text::from_slice(alloc, b"set\n") {
+        Ok(text) => Ok(text),
+        Err(_) => Err(AskFault::NoMemory),
+    }
+}
+
+/// `assign` on one side.
+pub fn assign_one<L: Link + Drop>(
+    talk: &mut Operators<Wire<L>>,
+    first: &mut SideRecord,
+    text: &[u8],
+) -> Result<Text, AskFault>
+    ensures { IsKept first.old first.new }
+{
+    let said = set_text(first.inquiry.core.operands.allocator())?;
+    let changes = assigned(talk, first, text)?;
+    store(talk, first, &changes)?;
+    Ok(said)
+}
+
+/// `assign` on both sides, which are both asked before the first one stores. Where the first side doesn't do it, no side stores,
+/// and where the second one alone refuses it, the first one stores alone.
+pub fn assign_both<L: Link + Drop>(
+    talk: &mut Operators<Wire<L>>,
+    first: &mut SideRecord,
+    second: &mut SideRecord,
+    text: &[u8],
+) -> Result<Text, AskFault>
+    ensures first { IsKept first.old first.new }
+    ensures second { IsKept second.old second.new }
+{
+    let said = set_text(first.inquiry.core.operands.allocator())?;
+    let changes = assigned(talk, first, text)?;
+    let others = match assigned(talk, second, text) {
+        Ok(others) => Some(others),
+        Err(AskFault::Broken(why)) => return Err(AskFault::Broken(why)),
+        Err(AskFault::NoMemory) => return Err(AskFault::NoMemory),
+        Err(_) => None,
+    };
+    store(talk, first, &changes)?;
+    if let Some(others) = others {
+        store(talk, second, &others)?;
+    }
+    Ok(said)
+}

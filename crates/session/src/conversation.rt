@@ -1,0 +1,388 @@
+// A session.
+
+ghost use Rattle.std.specs.Prelude.{◌≡◌, ◌⊎◌, IfOk, OnErr, Ok, Err, Some};
+ghost use Rattle.c_session.specs.declared.command.Command.TheVariants.{Quit, Turns};
+ghost use Rattle.cmd_lang.specs.Commands.{read_of};
+ghost use Rattle.session.specs.Answered.{IsLineReply, IsEndedReply, AnswersEnded};
+ghost use Rattle.session.specs.Counted.{CountsOutput, CountsEnd, IsNoQuit};
+ghost use Rattle.session.specs.Kept.{IsKept, IsUndone};
+
+use crate::answers::{Answer, End, StartFault};
+use crate::asked::{asked, registers_of};
+use crate::both::{asked_both, assign_both, assign_one, registers_both};
+use crate::line::Line;
+use crate::merging::mode_after;
+use crate::modes::{How, Mode, refused_in};
+use crate::preparing::{line_for, prepared, unprepared};
+use crate::replies::{error_reply, event_reply, limit_reply, mode_reply, refusal, spent_reply};
+use crate::resumes::{resumed_both, resumed_one};
+use crate::sides::SideRecord;
+use crate::start::begun;
+use abs_mem::{Joined, MemFault, Wire};
+use c_session::Command;
+use cmd_lang::{CmdFault, is_empty, read_command};
+use debug_side::Event;
+use ldb_edge::Sink;
+use ldb_words::Text;
+use nub_wire::{Link, Side};
+use ps_ops::{Operators, Standing, View};
+use ps_store::PsStore;
+use resuming::RunFault;
+use std::alloc::{AllocError, Global};
+use std::mem;
+use table_asks::AskFault;
+use wire_talk::TalkFault;
+
+/// The turns of a resume at the start.
+const FIRST_LIMIT: u32 = 10_000_000;
+
+/// A session over a link to one nub or two: its sides, their mode, and the most instructions of a resume on each.
+#[derive(Drop)]
+pub struct Session<L> {
+    alloc: Global,
+    talk: Operators<Wire<L>>,
+    first: SideRecord,
+    second: Option<SideRecord>,
+    mode: Mode,
+    limit: u32,
+    raw: bool,
+    /// The reply of a session whose link failed, for which memory is taken at the start.
+    broken: Text,
+}
+
+/// A reply, if there was memory for it.
+fn answer(said: Result<Text, AllocError>) -> Answer
+    ensures ok { IfOk said (λ text. result ≡ Answer.Lines text) }
+    ensures err { OnErr said (result ≡ Answer.NoMemory) }
+{
+    match said {
+        Ok(text) => Answer::Lines(text),
+        Err(_) => Answer::NoMemory,
+    }
+}
+
+/// The answer to a line that is no command.
+fn malformed(alloc: Global, line: &[u8]) -> Answer
+    ensures { IsLineReply result }
+{
+    if is_empty(line) {
+        return Answer::Lines(Text::new(alloc));
+    }
+    match Text::from_slice(alloc, b"refused line\n") {
+        Ok(text) => Answer::Lines(text),
+        Err(_) => Answer::NoMemory,
+    }
+}
+
+/// The command that began a resume, where the session may stand in an interrupted one.
+fn began(mode: Mode, how: How) -> How {
+    match mode {
+        Mode::Running(before) => before,
+        _ => how,
+    }
+}
+
+/// Why a resume isn't begun, once what was put before it was taken away.
+fn left(taken: Result<(), TalkFault>, fault: AskFault) -> AskFault {
+    match taken {
+        Ok(()) => fault,
+        Err(TalkFault::LinkFault) => AskFault::Broken(MemFault::LinkFault),
+        Err(TalkFault::BadReply { frame }) => AskFault::Broken(MemFault::BadReply { frame }),
+    }
+}
+
+/// The operators over a link, before a side is turned to.
+fn operators<L: Link + Drop>(alloc: Global, link: L, first: &SideRecord) -> Operators<Wire<L>> {
+    let order = first.machine.order();
+    let wire = Wire {
+        link,
+        side: Side::First,
+        order,
+    };
+    Operators {
+        memory: Joined::new(wire, order),
+        view: View {
+            target: first.machine.byte(),
+            context: first.context,
+            standing: Standing::NoFrame,
+            raw: false,
+        },
+        out: Text::new(alloc),
+        fault: None,
+    }
+}
+
+impl<L: Link + Drop> Session<L> {
+    /// A session over a link to the nubs of one target or two, which have had no message yet: greets each, and gives it the input.
+    /// There is a table for each target, which was run and is closed; a third one is left alone. Where `raw` is true, `ps` is a
+    /// command too.
+    pub fn start(
+        alloc: Global,
+        mut link: L,
+        tables: Vec<PsStore>,
+        input: &[u8],
+        raw: bool,
+    ) -> Result<Session<L>, StartFault> {
+        let Ok(broken) = Text::from_slice(alloc, b"target\n") else {
+            return Err(StartFault::NoMemory);
+        };
+        let mut tables = tables.into_iter();
+        let Some(table) = tables.next() else {
+            return Err(StartFault::Target);
+        };
+        let first = begun(alloc, &mut link, Side::First, table, input)?;
+        let second = match tables.next() {
+            None => None,
+            Some(table) => Some(begun(alloc, &mut link, Side::Second, table, input)?),
+        };
+        Ok(Session {
+            alloc,
+            talk: operators(alloc, link, &first),
+            first,
+            second,
+            mode: Mode::Fresh,
+            limit: FIRST_LIMIT,
+            raw,
+            broken,
+        })
+    }
+
+    /// The answer to a line; program output goes to `out` before it. Once the session has ended every line but `quit` is refused, and
+    /// nothing changes. Without memory the session is as before; units of tables that were run stay so, and what a text of PostScript
+    /// stored in the target stays.
+    pub fn command<O: Sink>(&mut self, line: &[u8], out: &mut O) -> Result<Answer, End>
+        ensures quit { read_of self.old.raw line.now ≡ Some Quit → result ≡ Err End.Quit }
+        ensures quits { result ≡ Err End.Quit → read_of self.old.raw line.now ≡ Some Quit }
+        ensures output { CountsEnd (O.faults out.old) (O.faults out.new) result }
+        ensures ended { self.old.mode ≡ Mode.Ended → AnswersEnded result × (self.new ≡ self.old) }
+        ensures no_memory { result ≡ Ok Answer.NoMemory → (self.new.mode ≡ self.old.mode) × (self.new.limit ≡ self.old.limit) × IsKept self.old.first self.new.first }
+        ensures out_fault { result ≡ Err End.OutFault → self.new.mode ≡ Mode.Ended }
+        ensures limit { (self.new.limit ≡ self.old.limit) ⊎ (read_of self.old.raw line.now ≡ Some (Turns self.new.limit)) }
+        ensures raw { self.new.raw ≡ self.old.raw }
+    {
+        match read_command(self.alloc, line, self.raw) {
+            Err(CmdFault::Line) => Ok(malformed(self.alloc, line)),
+            Err(CmdFault::NoMemory) => Ok(Answer::NoMemory),
+            Ok(Command::Quit) => Err(End::Quit),
+            Ok(command) => self.obey(&command, out),
+        }
+    }
+
+    /// The answer to a command other than `quit`.
+    fn obey<O: Sink>(&mut self, command: &Command, out: &mut O) -> Result<Answer, End>
+        ensures no_quit { IsNoQuit result }
+        ensures output { CountsEnd (O.faults out.old) (O.faults out.new) result }
+        ensures ended { self.old.mode ≡ Mode.Ended → IfOk result (λ a. IsEndedReply a) × (self.new ≡ self.old) }
+        ensures going { self.old.mode ≡ Mode.Ended → OnErr result ⊥ }
+        ensures no_memory { result ≡ Ok Answer.NoMemory → (self.new.mode ≡ self.old.mode) × (self.new.limit ≡ self.old.limit) × IsKept self.old.first self.new.first }
+        ensures out_fault { OnErr result (self.new.mode ≡ Mode.Ended) }
+        ensures limit { (self.new.limit ≡ self.old.limit) ⊎ (command.now ≡ Turns self.new.limit) }
+        ensures raw { self.new.raw ≡ self.old.raw }
+    {
+        if let Some(why) = refused_in(self.mode, command) {
+            return Ok(answer(mode_reply(self.alloc, why)));
+        }
+        match command {
+            Command::Continue => self.resume(How::ByContinue, out),
+            Command::Step => self.resume(How::ByStep, out),
+            Command::Turns(limit) => Ok(self.set_limit(*limit)),
+            Command::Regs => {
+                let said = self.registers();
+                Ok(self.reply(said))
+            }
+            Command::Assign(text) => {
+                let said = self.assign(text.as_bytes());
+                Ok(self.reply(said))
+            }
+            other => {
+                let said = self.ask(other);
+                Ok(self.reply(said))
+            }
+        }
+    }
+
+    /// The session ends, since its link failed.
+    fn break_off(&mut self) -> Answer
+        ensures mode { self.new.mode ≡ Mode.Ended }
+        ensures limit { self.new.limit ≡ self.old.limit }
+        ensures first { self.new.first ≡ self.old.first }
+        ensures some { result ≡ Answer.Lines self.old.broken }
+        ensures raw { self.new.raw ≡ self.old.raw }
+    {
+        self.mode = Mode::Ended;
+        Answer::Lines(mem::replace(&mut self.broken, Text::new(self.alloc)))
+    }
+
+    /// The answer to a command, by what was said or why nothing was.
+    fn reply(&mut self, said: Result<Text, AskFault>) -> Answer
+        ensures limit { self.new.limit ≡ self.old.limit }
+        ensures first { self.new.first ≡ self.old.first }
+        ensures no_memory { result ≡ Answer.NoMemory → IsUndone said × (self.new.mode ≡ self.old.mode) }
+        ensures raw { self.new.raw ≡ self.old.raw }
+    {
+        match said {
+            Ok(text) => Answer::Lines(text),
+            Err(AskFault::NoMemory) => Answer::NoMemory,
+            Err(AskFault::Broken(_)) => self.break_off(),
+            Err(AskFault::Refused(cause)) => answer(refusal(self.alloc, cause)),
+            Err(AskFault::Raised(error)) => answer(error_reply(self.alloc, error)),
+            Err(AskFault::Spent) => answer(spent_reply(self.alloc)),
+        }
+    }
+
+    /// `turns`.
+    fn set_limit(&mut self, limit: u32) -> Answer
+        ensures no_memory { result ≡ Answer.NoMemory → self.new ≡ self.old }
+        ensures limit { (self.new.limit ≡ self.old.limit) ⊎ (self.new.limit ≡ limit) }
+        ensures raw { self.new.raw ≡ self.old.raw }
+    {
+        match limit_reply(self.alloc, limit) {
+            Ok(text) => {
+                self.limit = limit;
+                Answer::Lines(text)
+            }
+            Err(_) => Answer::NoMemory,
+        }
+    }
+
+    /// What `regs` says.
+    fn registers(&mut self) -> Result<Text, AskFault>
+        ensures mode { self.new.mode ≡ self.old.mode }
+        ensures limit { self.new.limit ≡ self.old.limit }
+        ensures first { self.new.first ≡ self.old.first }
+        ensures raw { self.new.raw ≡ self.old.raw }
+    {
+        match &self.second {
+            None => registers_of(&mut self.talk, &self.first),
+            Some(second) => registers_both(&mut self.talk, &self.first, second),
+        }
+    }
+
+    /// What a command that doesn't resume says.
+    fn ask(&mut self, command: &Command) -> Result<Text, AskFault>
+        ensures mode { self.new.mode ≡ self.old.mode }
+        ensures limit { self.new.limit ≡ self.old.limit }
+        ensures kept { IsUndone result → IsKept self.old.first self.new.first }
+        ensures raw { self.new.raw ≡ self.old.raw }
+    {
+        match &mut self.second {
+            None => asked(&mut self.talk, &mut self.first, command),
+            Some(second) => asked_both(&mut self.talk, &mut self.first, second, command),
+        }
+    }
+
+    /// What `assign` says.
+    fn assign(&mut self, text: &[u8]) -> Result<Text, AskFault>
+        ensures mode { self.new.mode ≡ self.old.mode }
+        ensures limit { self.new.limit ≡ self.old.limit }
+        ensures kept { IsKept self.old.first self.new.first }
+        ensures raw { self.new.raw ≡ self.old.raw }
+    {
+        match &mut self.second {
+            None => assign_one(&mut self.talk, &mut self.first, text),
+            Some(second) => assign_both(&mut self.talk, &mut self.first, second, text),
+        }
+    }
+
+    /// Puts the break words of a step on all sides, or on none.
+    fn prepare(&mut self) -> Result<(), AskFault>
+        ensures mode { self.new.mode ≡ self.old.mode }
+        ensures limit { self.new.limit ≡ self.old.limit }
+        ensures kept { IsKept self.old.first self.new.first }
+        ensures raw { self.new.raw ≡ self.old.raw }
+    {
+        match prepared(&mut self.talk, &mut self.first) {
+            Ok(()) => {}
+            Err(fault) => return Err(fault),
+        }
+        match &mut self.second {
+            None => Ok(()),
+            Some(second) => match prepared(&mut self.talk, second) {
+                Ok(()) => Ok(()),
+                Err(fault) => Err(left(unprepared(&mut self.talk, &mut self.first), fault)),
+            },
+        }
+    }
+
+    /// Takes the break words of a step away, since there is no memory for it.
+    fn unprepare(&mut self) -> AskFault
+        ensures mode { self.new.mode ≡ self.old.mode }
+        ensures limit { self.new.limit ≡ self.old.limit }
+        ensures kept { IsKept self.old.first self.new.first }
+        ensures raw { self.new.raw ≡ self.old.raw }
+    {
+        let first = left(
+            unprepared(&mut self.talk, &mut self.first),
+            AskFault::NoMemory,
+        );
+        match &mut self.second {
+            None => first,
+            Some(second) => left(unprepared(&mut self.talk, second), first),
+        }
+    }
+
+    /// All that is to be done before a resume, and the line of its reply: nothing takes memory behind it.
+    fn ready(&mut self, how: How) -> Result<Line, AskFault>
+        ensures mode { self.new.mode ≡ self.old.mode }
+        ensures limit { self.new.limit ≡ self.old.limit }
+        ensures kept { IsKept self.old.first self.new.first }
+        ensures raw { self.new.raw ≡ self.old.raw }
+    {
+        match (self.mode, how) {
+            (Mode::Running(_), _) | (_, How::ByContinue) => {
+                match line_for(self.alloc, &self.first) {
+                    Ok(line) => Ok(line),
+                    Err(_) => Err(AskFault::NoMemory),
+                }
+            }
+            (_, How::ByStep) => {
+                self.prepare()?;
+                match line_for(self.alloc, &self.first) {
+                    Ok(line) => Ok(line),
+                    Err(_) => Err(self.unprepare()),
+                }
+            }
+        }
+    }
+
+    /// Resumes all sides up to their event.
+    fn run<O: Sink>(&mut self, out: &mut O) -> Result<Event, RunFault>
+        ensures output { CountsOutput (O.faults out.old) (O.faults out.new) result }
+        ensures limit { self.new.limit ≡ self.old.limit }
+        ensures raw { self.new.raw ≡ self.old.raw }
+    {
+        match &mut self.second {
+            None => resumed_one(&mut self.talk, &mut self.first, self.limit, out),
+            Some(second) => {
+                resumed_both(&mut self.talk, &mut self.first, second, self.limit, out)
+            }
+        }
+    }
+
+    /// `continue` and `step`; an interrupted resume goes on, whichever command began it.
+    fn resume<O: Sink>(&mut self, how: How, out: &mut O) -> Result<Answer, End>
+        ensures no_quit { IsNoQuit result }
+        ensures output { CountsEnd (O.faults out.old) (O.faults out.new) result }
+        ensures no_memory { result ≡ Ok Answer.NoMemory → (self.new.mode ≡ self.old.mode) × (self.new.limit ≡ self.old.limit) × IsKept self.old.first self.new.first }
+        ensures out_fault { OnErr result (self.new.mode ≡ Mode.Ended) }
+        ensures limit { self.new.limit ≡ self.old.limit }
+        ensures raw { self.new.raw ≡ self.old.raw }
+    {
+        let line = match self.ready(how) {
+            Ok(line) => line,
+            Err(fault) => return Ok(self.reply(Err(fault))),
+        };
+        match self.run(out) {
+            Ok(event) => {
+                self.mode = mode_after(began(self.mode, how), event);
+                let table = &self.first.inquiry.core.store;
+                Ok(Answer::Lines(event_reply(line, table, event)))
+            }
+            Err(RunFault::Output) => {
+                self.mode = Mode::Ended;
+                Err(End::OutFault)
+            }
+            Err(RunFault::Talk(_)) => Ok(self.break_off()),
+        }
+    }
+}

@@ -1,0 +1,73 @@
+// What is done before a step.
+
+ghost use Rattle.session.specs.Kept.{IsKept};
+
+use crate::line::Line;
+use crate::replies::{room_for, room_for_kept};
+use crate::sides::{SideRecord, turn};
+use abs_mem::Wire;
+use debug_side::{plant_for_step, unplant_all};
+use nub_wire::Link;
+use ps_ops::Operators;
+use std::alloc::{AllocError, Global};
+use table_asks::{AskFault, Point, begin_command, end_command, every_point, memory_fault};
+use wire_talk::TalkFault;
+
+/// All points of a side's table.
+fn points_of(side: &mut SideRecord) -> Result<Vec<Point>, AskFault>
+    ensures { IsKept side.old side.new }
+{
+    let mark = match begin_command(&mut side.inquiry) {
+        Ok(mark) => mark,
+        Err(_) => return Err(AskFault::NoMemory),
+    };
+    let points = every_point(&mut side.inquiry);
+    end_command(&mut side.inquiry, mark);
+    points
+}
+
+/// Puts the break word at each point of a side that holds the no-op; where it can't be done, its target stays as it is.
+pub fn prepared<L: Link + Drop>(
+    talk: &mut Operators<Wire<L>>,
+    side: &mut SideRecord,
+) -> Result<(), AskFault>
+    ensures { IsKept side.old side.new }
+{
+    turn(talk, side);
+    let mut points = points_of(side)?;
+    let target = side.machine.byte();
+    match plant_for_step(target, &mut talk.memory.below.below.below, &mut points) {
+        Ok(()) => {
+            side.row.step_words = points;
+            Ok(())
+        }
+        Err(fault) => Err(memory_fault(fault)),
+    }
+}
+
+/// Takes away what was put before a step, which isn't begun.
+pub fn unprepared<L: Link + Drop>(
+    talk: &mut Operators<Wire<L>>,
+    side: &mut SideRecord,
+) -> Result<(), TalkFault>
+    ensures { IsKept side.old side.new }
+{
+    turn(talk, side);
+    let target = side.machine.byte();
+    unplant_all(
+        target,
+        &mut talk.memory.below.below.below,
+        side.row.step_words.as_slice(),
+    )?;
+    side.row.step_words.clear();
+    Ok(())
+}
+
+/// A line with room for the reply to a resume of a side.
+pub fn line_for(alloc: Global, side: &SideRecord) -> Result<Line, AllocError> {
+    let table = &side.inquiry.core.store;
+    let breaks = room_for(table, side.row.breaks.as_slice(), 0);
+    let steps = room_for(table, side.row.step_words.as_slice(), breaks);
+    let room = room_for_kept(table, side.row.kept, steps);
+    Line::with_room(alloc, room)
+}

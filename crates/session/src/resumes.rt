@@ -1,0 +1,83 @@
+// A resume of both sides.
+
+ghost use Rattle.session.specs.Counted.{CountsOutput};
+
+use crate::merging::{kept_of, merged, stands};
+use crate::sides::{SideRecord, turn};
+use abs_mem::Wire;
+use debug_side::{Event, resume_side};
+use ldb_edge::Sink;
+use nub_wire::Link;
+use ps_ops::Operators;
+use resuming::{Dropped, RunFault};
+
+/// Resumes a side up to its event.
+fn resumed<L: Link + Drop, O: Sink>(
+    talk: &mut Operators<Wire<L>>,
+    side: &mut SideRecord,
+    limit: u32,
+    out: &mut O,
+) -> Result<Event, RunFault>
+    ensures { CountsOutput (O.faults out.old) (O.faults out.new) result }
+{
+    turn(talk, side);
+    let kind = side.kind();
+    resume_side(
+        kind,
+        &mut talk.memory.below.below.below,
+        &mut side.row,
+        limit,
+        out,
+    )
+}
+
+/// What a side keeps behind a resume.
+fn settle_side(side: &mut SideRecord, all: Event, event: Event) {
+    side.row.kept = kept_of(all, event);
+    if stands(all) {
+        side.frame = 0;
+    }
+}
+
+/// Resumes one side, and says its event.
+pub fn resumed_one<L: Link + Drop, O: Sink>(
+    talk: &mut Operators<Wire<L>>,
+    first: &mut SideRecord,
+    limit: u32,
+    out: &mut O,
+) -> Result<Event, RunFault>
+    ensures { CountsOutput (O.faults out.old) (O.faults out.new) result }
+{
+    match resumed(talk, first, limit, out) {
+        Err(fault) => Err(fault),
+        Ok(event) => {
+            settle_side(first, event, event);
+            Ok(event)
+        }
+    }
+}
+
+/// Resumes both sides, the output of the first one being put, and says the event of both.
+pub fn resumed_both<L: Link + Drop, O: Sink>(
+    talk: &mut Operators<Wire<L>>,
+    first: &mut SideRecord,
+    second: &mut SideRecord,
+    limit: u32,
+    out: &mut O,
+) -> Result<Event, RunFault>
+    ensures { CountsOutput (O.faults out.old) (O.faults out.new) result }
+{
+    let event = match resumed(talk, first, limit, out) {
+        Ok(event) => event,
+        Err(fault) => return Err(fault),
+    };
+    let other = match resumed(talk, second, limit, &mut Dropped) {
+        Ok(other) => other,
+        Err(RunFault::Talk(fault)) => return Err(RunFault::Talk(fault)),
+        Err(RunFault::Output) => unreachable!(),
+    };
+    let all = merged(event, Some(other));
+    settle_side(first, all, event);
+    settle_side(second, all, other);
+    Ok(all)
+}
