@@ -2,13 +2,11 @@
 #![tactic(auto)]
 
 mod answers;
-mod generated;
 mod linked;
 mod run;
 mod sources;
 
 use answers::{append_causes, append_runs};
-use generated::{append_made, sources_made};
 use linked::append_linked;
 use machine_state::{MIPS, SPARC};
 use sources::{Sources, sources_in, sources_named};
@@ -41,8 +39,6 @@ impl Subject for Programs {
                 sources.add(alloc, b"t.c", part(parts, 0))?;
                 append_runs(alloc, &sources, part(parts, 1), out)
             }
-            "made" => append_made(alloc, part(parts, 0), out),
-            "made_run" => append_runs(alloc, &sources_made(alloc, part(parts, 0))?, &[], out),
             "linked_mips" => append_linked(alloc, MIPS, parts, out),
             "linked_sparc" => append_linked(alloc, SPARC, parts, out),
             _ => append_causes(alloc, &sources_in(alloc, parts)?, out),
