@@ -38,16 +38,17 @@ fn run_text(
     run(core, &mut NoDialect, PsObj::Str(t, true), steps)
 }
 
-/// The same behind the prelude.
-fn run_on(
-    alloc: Global,
-    core: &mut PsCore,
-    table: &[u8],
-    text: &[u8],
-    steps: &mut Steps,
-) -> Result<(), PsFault> {
-    load_prelude(core, steps)?;
-    run_text(alloc, core, table, text, steps)
+/// The same behind the prelude, by an interpreter of its own.
+fn run_on(alloc: Global, table: &[u8], text: &[u8]) -> Result<PsCore, PsFault> {
+    let store = PsStore::new(alloc)?;
+    let mut core = PsCore::new(alloc, store)?;
+    let mut steps = Steps {
+        taken: 0,
+        limit: 10_000_000,
+    };
+    load_prelude(&mut core, &mut steps)?;
+    run_text(alloc, &mut core, table, text, &mut steps)?;
+    Ok(core)
 }
 
 /// Appends the operands from the bottom, as `cvs` writes them.
@@ -109,15 +110,8 @@ pub fn append_asked(
 ) -> Result<(), AllocError> {
     let target = if kind == "sparc" { 2 } else { 1 };
     let table = table_of(alloc, part(parts, 0), target)?;
-    let store = PsStore::new(alloc)?;
-    let mut core = PsCore::new(alloc, store)?;
-    let mut steps = Steps {
-        taken: 0,
-        limit: 10_000_000,
-    };
-    let ended = run_on(alloc, &mut core, &table, part(parts, 1), &mut steps);
-    match ended {
-        Ok(()) => append_operands(out, &core, alloc),
+    match run_on(alloc, &table, part(parts, 1)) {
+        Ok(core) => append_operands(out, &core, alloc),
         Err(fault) => append(out, format!(in alloc; "{fault:?}")?.as_str()),
     }
 }
