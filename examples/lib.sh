@@ -152,11 +152,11 @@ build_proved() {
   done
 }
 
-# A library, or the program at the end, which `rt run` leaves in out/.
+# A library, or the program at the end, which `rt run` leaves in out/ and runs: for a call without a
+# form it prints `words`. So a program that an earlier run left isn't taken for this one.
 build_crate() {
   if [ "$1" = ldb ]; then
-    cd "$root/crates/ldb" && rt run -- words
-    [ -x "$root/crates/ldb/out/ldb" ]
+    cd "$root/crates/ldb" && [ "$(rt run -- words)" = words ]
   else
     cd "$root/crates/$1" && rt lib
   fi
