@@ -238,7 +238,6 @@ impl Sessions {
                 append(out, format!(in alloc; " {output:?} ")?.as_str())?;
                 append_escaped(alloc, out, &outcome.transcript)
             }
-            "file_calls" => Ok(()),
             _ => append(
                 out,
                 if self.is_told(&outcome) {
