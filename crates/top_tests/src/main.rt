@@ -1,6 +1,7 @@
 //! Compares the forms of the outside, and whole sessions over those in memory, with the rows of the tables that its words name. docs/TESTS.md has the kinds of rows.
 #![tactic(auto)]
 
+mod broken;
 mod edge;
 mod own;
 mod sessions;

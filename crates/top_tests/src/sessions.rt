@@ -1,6 +1,7 @@
 // Whole sessions over forms in memory.
 ghost use Rattle.std.specs.Prelude.{◌≡◌};
 
+use crate::broken::Wrong;
 use crate::edge::calls_of;
 use ldb_edge::{Failed, MemFiles, MemSink, MemSource, Source};
 use ldb_top::{Status, ldb};
@@ -144,6 +145,19 @@ impl Sessions {
         }
     }
 
+    /// The session of which one call goes wrong.
+    fn wrong(&self) -> Wrong<'_> {
+        Wrong {
+            alloc: self.alloc,
+            program: &self.program,
+            commands: &self.commands,
+            told: match self.told.first() {
+                Some(told) => told.as_slice(),
+                None => &[],
+            },
+        }
+    }
+
     /// Appends the answer to a row about sessions.
     pub fn answer(
         &mut self,
@@ -178,6 +192,7 @@ impl Sessions {
             "all" => return self.append_all(out),
             "rebuilt" => return self.append_rebuilt(text, out),
             "compiled" => return self.append_compiled([text, part(parts, 1)], out),
+            "faulty" => return self.wrong().append_faulty(text, part(parts, 1), out),
             _ => return self.append_session(kind, text, out),
         }
         Ok(())
