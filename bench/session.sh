@@ -2,7 +2,7 @@
 # session.sh [TIMES]: times sessions of `ldb go` for both targets, and of gdb over what gcc (-g -O0) makes of the same text where both are installed,
 # TIMES times each by turns (5 if left out). A time is the user's and the system's time of a whole call, which compiles, reads the table, runs the
 # program and answers. `start` ends at its first stop, so what a command takes is the difference to it, divided by how many there are.
-# The program is crates/ldb/out/ldb, which `rt run` in crates/ldb makes.
+# The program is crates/ldb/out/ldb, which `rt run` in crates/ldb makes, or LDB=PROGRAM.
 set -eu
 times=${1:-5}
 here=$(cd "$(dirname "$0")" && pwd)

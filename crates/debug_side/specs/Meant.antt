@@ -1,6 +1,7 @@
 -- The point of a stop, and the event of a run.
-use Rattle.std.specs.Prelude.{ℕ, nat_eq, Bool, true, false, if◌then◌else◌, List, [], ◌∷◌, Option, Some, None}
+use Rattle.std.specs.Prelude.{ℕ, ◌%◌, ◌&&◌, nat_eq, nat_lt, Bool, true, false, if◌then◌else◌, List, [], ◌∷◌, Option, Some, None}
 use Rattle.ldb_words.specs.declared.event.FaultKind.TheVariants as kind
+use Rattle.machine_state.specs.declared.layout.TheConstants.{DATA}
 use Rattle.nub_wire.specs.declared.message.Ending.{Ending}
 use Rattle.nub_wire.specs.declared.message.Ending.TheVariants as ending
 use Rattle.nub_wire.specs.declared.message.Reason.TheVariants as reason
@@ -40,7 +41,12 @@ abbrev pub is_turns : Event → Bool
 is_turns event.OutOfTurns = true
 is_turns e = false
 
--- the words of a step stay where a side that kept no event used up its turns
-abbrev pub keeps_words : Option Event → Event → Bool
-keeps_words (Some k) e = false
-keeps_words None e = is_turns e
+-- no store of a program changes the word, and no two such words overlap
+abbrev pub stands_in_text : Point → Bool
+stands_in_text p = nat_eq (p.at % 4) 0 && nat_lt p.at DATA
+
+-- the words of a step are left where they may stay, and where a side that kept no event used up its turns
+abbrev pub keeps_words : (stay : Bool) → Option Event → Event → Bool
+keeps_words true kept e = true
+keeps_words false (Some k) e = false
+keeps_words false None e = is_turns e

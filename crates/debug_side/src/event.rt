@@ -65,10 +65,14 @@ pub fn stop_address(event: Event) -> Option<u32>
     }
 }
 
-/// Whether the words of a step stay: where a side that kept no event used up its turns.
-pub fn keeps_words(kept: Option<Event>, event: Event) -> bool
-    ensures { result ≡ keeps_words kept event }
+/// Whether the words of a step are left behind an event: where they may stay, and where a side that kept no event used up its
+/// turns.
+pub fn keeps_words(stay: bool, kept: Option<Event>, event: Event) -> bool
+    ensures { result ≡ keeps_words stay kept event }
 {
+    if stay {
+        return true;
+    }
     match kept {
         Some(_) => false,
         None => match event {

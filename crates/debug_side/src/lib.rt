@@ -11,6 +11,6 @@ mod words;
 pub use breaks::{clear_break, set_break};
 pub use event::Event;
 pub use planting::plant_for_step;
-pub use point::{MachineKind, SideRow, point_at};
+pub use point::{MachineKind, SideRow, may_stay, point_at};
 pub use resume::resume_side;
 pub use words::unplant_all;

@@ -41,8 +41,8 @@ fn meet<L: Link + Drop, S: Sink>(
 }
 
 /// Resumes a side for at most `limit` instructions up to its event, and puts its output as it comes; a side that keeps its
-/// event isn't run. Behind the event the words of a step are taken away, but where the turns were used up. It takes no
-/// memory. After a fault the side is not to be asked again.
+/// event isn't run. Behind the event the words of a step are taken away, but where they may stay and where the turns were used
+/// up. It takes no memory. After a fault the side is not to be asked again.
 pub fn resume_side<L: Link + Drop, S: Sink>(
     kind: MachineKind,
     wire: &mut Wire<L>,
@@ -59,7 +59,7 @@ pub fn resume_side<L: Link + Drop, S: Sink>(
         Ok(event) => event,
         Err(fault) => return Err(fault),
     };
-    if keeps_words(kept, event) {
+    if keeps_words(row.words_stay, kept, event) {
         return Ok(event);
     }
     match unplant_all(kind.target, wire, row.step_words.as_slice()) {

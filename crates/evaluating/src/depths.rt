@@ -1,9 +1,13 @@
-// How deep and how large types are.
+// How deep and how large types are, and how much there is inside.
 
 use c_tree::{CType, StructDef, members};
 
 /// The largest size of a type.
 const LARGEST: u32 = 1_048_576;
+
+/// The most parts of a struct: a type of that size that is 64 deep has no more. A table by hand may tell sizes that are too small for
+/// what stands inside, and who walks such a struct must not walk for ever.
+const MOST_PARTS: u32 = 67_108_864;
 
 /// Whether a type is a struct.
 pub fn is_struct(t: &CType) -> bool {
@@ -43,57 +47,92 @@ pub fn small_size(defs: &[StructDef], t: &CType) -> Option<u32> {
     }
 }
 
-/// How deep a type is, if it is at most so deep. How deep structs are is remembered, 0 standing for one that wasn't asked yet.
+/// How deep a type is, and how many parts it has: itself and those of its item or of its members, a struct counting anew wherever it
+/// stands. A pointer to a struct is one part.
+#[derive(Clone, Copy)]
+pub struct Extent {
+    pub depth: u32,
+    pub parts: u32,
+}
+
+/// What stands for a struct that wasn't asked yet.
+pub const UNASKED: Extent = Extent { depth: 0, parts: 0 };
+
+/// The extent of what is around a type alone.
+fn around(extent: Extent) -> Extent {
+    Extent {
+        depth: extent.depth.saturating_add(1),
+        parts: extent.parts.saturating_add(1),
+    }
+}
+
+/// The extent of two members, one beside the other.
+fn beside(one: Extent, other: Extent) -> Extent {
+    Extent {
+        depth: one.depth.max(other.depth),
+        parts: one.parts.saturating_add(other.parts),
+    }
+}
+
+/// The extent of a type, if it is at most so deep and has at most 67,108,864 parts. Those of structs are remembered.
 #[cycle(depth)]
-pub fn depth_within(
+pub fn extent_within(
     defs: &[StructDef],
-    heights: &mut Vec<u32>,
+    extents: &mut Vec<Extent>,
     deep: u32,
     t: &CType,
-) -> Option<u32> {
+) -> Option<Extent> {
     if deep == 0 {
         return None;
     }
     match t {
-        CType::Char | CType::Int | CType::Unsigned | CType::Void => Some(1),
+        CType::Char | CType::Int | CType::Unsigned | CType::Void => Some(around(UNASKED)),
         CType::Pointer(to) => {
             if is_struct(to) {
-                return Some(1);
+                return Some(around(UNASKED));
             }
-            one_more(depth_within(defs, heights, deep - 1, to))
+            let target = extent_within(defs, extents, deep - 1, to)?;
+            Some(around(target))
         }
-        CType::Array(item, _) => one_more(depth_within(defs, heights, deep - 1, item)),
-        CType::Struct(s) => struct_depth(defs, heights, deep, *s),
+        CType::Array(item, _) => {
+            let item = extent_within(defs, extents, deep - 1, item)?;
+            Some(around(item))
+        }
+        CType::Struct(s) => struct_extent(defs, extents, deep, *s),
     }
 }
 
-/// A depth and one more.
-fn one_more(depth: Option<u32>) -> Option<u32> {
-    match depth {
-        Some(n) => Some(n.saturating_add(1)),
-        None => None,
-    }
-}
-
-/// How deep a struct is, if it is at most so deep: one deeper than its members.
+/// The extent of a struct, if it is at most so deep and has at most 67,108,864 parts: it is around its members.
 #[cycle(depth)]
-pub fn struct_depth(defs: &[StructDef], heights: &mut Vec<u32>, deep: u32, s: u32) -> Option<u32> {
+pub fn struct_extent(
+    defs: &[StructDef],
+    extents: &mut Vec<Extent>,
+    deep: u32,
+    s: u32,
+) -> Option<Extent> {
     if deep == 0 {
         return None;
     }
-    let height = heights.get(s as usize).copied().unwrap_or(0);
-    if height > 0 {
-        return if height <= deep { Some(height) } else { None };
+    let known = extents.get(s as usize).copied().unwrap_or(UNASKED);
+    if known.depth > 0 {
+        return if known.depth <= deep {
+            Some(known)
+        } else {
+            None
+        };
     }
-    let mut most = 0;
+    let mut inner = UNASKED;
     for member in members(defs, s) {
-        match depth_within(defs, heights, deep - 1, &member.ctype) {
-            Some(depth) => most = most.max(depth),
+        match extent_within(defs, extents, deep - 1, &member.ctype) {
+            Some(extent) => inner = beside(inner, extent),
             None => return None,
         }
     }
-    let own = most.saturating_add(1);
-    if let Some(place) = heights.get_mut(s as usize) {
+    let own = around(inner);
+    if own.parts > MOST_PARTS {
+        return None;
+    }
+    if let Some(place) = extents.get_mut(s as usize) {
         *place = own;
     }
     Some(own)

@@ -3,7 +3,7 @@
 ghost use Rattle.std.specs.Prelude.{◌≡◌};
 ghost use Rattle.ps_store.specs.Store.{closed_part};
 
-use crate::depths::{depth_within, small_size, struct_depth};
+use crate::depths::{Extent, UNASKED, extent_within, small_size, struct_extent};
 use c_judge::{Symbol, array_of, pointer_to};
 use c_tree::{CType, Member, StructDef};
 use ldb_words::{Many, Text};
@@ -68,8 +68,8 @@ pub struct Known {
     /// The number of each tag, in a dictionary of the command.
     tags: DictId,
     pub defs: Vec<StructDef>,
-    /// How deep each struct is, 0 for one that wasn't asked yet.
-    heights: Vec<u32>,
+    /// How deep and how large inside each struct is, as far as it was asked.
+    extents: Vec<Extent>,
     /// Of how many structs the limits were asked.
     checked: usize,
 }
@@ -132,13 +132,13 @@ fn struct_told(store: &PsStore, tag: &[u8]) -> Result<Option<(DictId, ArrayId)>,
     }
 }
 
-/// Adds a struct whose depth wasn't asked yet.
+/// Adds a struct whose extent wasn't asked yet.
 fn add_struct(
     defs: &mut Vec<StructDef>,
-    heights: &mut Vec<u32>,
+    extents: &mut Vec<Extent>,
     def: StructDef,
 ) -> Result<(), AllocError> {
-    heights.push(0)?;
+    extents.push(UNASKED)?;
     defs.push(def)?;
     Ok(())
 }
@@ -153,7 +153,7 @@ impl Known {
             alloc,
             tags,
             defs: Vec::new(alloc),
-            heights: Vec::new(alloc),
+            extents: Vec::new(alloc),
             checked: 0,
         })
     }
@@ -173,7 +173,7 @@ impl Known {
             size: 0,
             members: Many::new(self.alloc),
         };
-        add_struct(&mut self.defs, &mut self.heights, def)?;
+        add_struct(&mut self.defs, &mut self.extents, def)?;
         Ok(number)
     }
 
@@ -253,12 +253,12 @@ impl Known {
                         .as_slice()
                         .iter()
                         .all(|member| small_size(defs, &member.ctype).is_some())
-                    && struct_depth(defs, &mut self.heights, DEEPEST, as_number(number)).is_some()
+                    && struct_extent(defs, &mut self.extents, DEEPEST, as_number(number)).is_some()
             }
         }
     }
 
-    /// Asks the limits of the structs that are new: at most 64 deep, and of at most 1,048,576 bytes.
+    /// Asks the limits of the structs that are new: at most 64 deep, of at most 1,048,576 bytes, and with no more inside than fits there.
     fn check_structs(&mut self) -> Result<(), Want> {
         for number in self.checked..self.defs.len() {
             if !self.is_within(number) {
@@ -273,7 +273,7 @@ impl Known {
     fn check_type(&mut self, t: &CType) -> Result<(), Want> {
         let defs = self.defs.as_slice();
         if small_size(defs, t).is_some()
-            && depth_within(defs, &mut self.heights, DEEPEST, t).is_some()
+            && extent_within(defs, &mut self.extents, DEEPEST, t).is_some()
         {
             Ok(())
         } else {

@@ -26,14 +26,16 @@ impl Model for Queue {
     ghost invariant = { λ q. (q.taken ≤ array_vec_len q.bytes) × (array_vec_len q.bytes ≤ 4096) };
 }
 
-/// A copy of bytes.
-fn copied(bytes: &[u8]) -> ArrayVec<u8, 4096>
-    requires { length bytes.now ≤ 4096 }
-    ensures { result.items ≡ bytes.now }
+/// Drops so many bytes at the front. It stands alone since a function pays for the room of its locals on each call.
+#[inline(never)]
+fn drop_front(bytes: &mut ArrayVec<u8, 4096>, count: usize)
+    requires bound { count ≤ length bytes.old.items }
+    requires fits { length bytes.old.items ≤ 4096 }
+    ensures { bytes.new.items ≡ drop count bytes.old.items }
 {
-    let mut copy = ArrayVec::new();
-    let _ = copy.try_extend_from_slice(bytes);
-    copy
+    let mut rest = ArrayVec::new();
+    let _ = rest.try_extend_from_slice(&bytes[count..]);
+    *bytes = rest;
 }
 
 impl Queue {
@@ -69,10 +71,9 @@ impl Queue {
         ensures { self.new ≡ self.old ++ piece.now }
     {
         if self.bytes.len() + piece.len() > ROOM {
-            let mut whole = copied(&self.bytes[self.taken..]);
-            let _ = whole.try_extend_from_slice(piece);
-            self.bytes = whole;
+            drop_front(&mut self.bytes, self.taken);
             self.taken = 0;
+            let _ = self.bytes.try_extend_from_slice(piece);
             return;
         }
         let _ = self.bytes.try_extend_from_slice(piece);

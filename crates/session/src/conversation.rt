@@ -82,12 +82,32 @@ fn began(mode: Mode, how: How) -> How {
     }
 }
 
+/// A fault of a link as one of a command.
+fn broken(fault: TalkFault) -> AskFault {
+    match fault {
+        TalkFault::LinkFault => AskFault::Broken(MemFault::LinkFault),
+        TalkFault::BadReply { frame } => AskFault::Broken(MemFault::BadReply { frame }),
+    }
+}
+
 /// Why a resume isn't begun, once what was put before it was taken away.
-fn left(taken: Result<(), TalkFault>, fault: AskFault) -> AskFault {
+fn left(taken: Result<(), AskFault>, fault: AskFault) -> AskFault {
     match taken {
         Ok(()) => fault,
-        Err(TalkFault::LinkFault) => AskFault::Broken(MemFault::LinkFault),
-        Err(TalkFault::BadReply { frame }) => AskFault::Broken(MemFault::BadReply { frame }),
+        Err(why) => why,
+    }
+}
+
+/// Takes away what a step put on a side.
+fn taken_away<L: Link + Drop>(
+    talk: &mut Operators<Wire<L>>,
+    side: &mut SideRecord,
+) -> Result<(), AskFault>
+    ensures { IsKept side.old side.new }
+{
+    match unprepared(talk, side) {
+        Ok(()) => Ok(()),
+        Err(fault) => Err(broken(fault)),
     }
 }
 
@@ -186,16 +206,8 @@ impl<L: Link + Drop> Session<L> {
             Command::Continue => self.resume(How::ByContinue, out),
             Command::Step => self.resume(How::ByStep, out),
             Command::Turns(limit) => Ok(self.set_limit(*limit)),
-            Command::Regs => {
-                let said = self.registers();
-                Ok(self.reply(said))
-            }
-            Command::Assign(text) => {
-                let said = self.assign(text.as_bytes());
-                Ok(self.reply(said))
-            }
             other => {
-                let said = self.ask(other);
+                let said = self.inquire(other);
                 Ok(self.reply(said))
             }
         }
@@ -284,6 +296,24 @@ impl<L: Link + Drop> Session<L> {
         }
     }
 
+    /// What a command says that looks at the target or changes it: nothing that a step put stands then.
+    fn inquire(&mut self, command: &Command) -> Result<Text, AskFault>
+        ensures mode { self.new.mode ≡ self.old.mode }
+        ensures limit { self.new.limit ≡ self.old.limit }
+        ensures kept { IsUndone result → IsKept self.old.first self.new.first }
+        ensures raw { self.new.raw ≡ self.old.raw }
+    {
+        match self.settle() {
+            Ok(()) => {}
+            Err(fault) => return Err(fault),
+        }
+        match command {
+            Command::Regs => self.registers(),
+            Command::Assign(text) => self.assign(text.as_bytes()),
+            other => self.ask(other),
+        }
+    }
+
     /// Puts the break words of a step on all sides, or on none.
     fn prepare(&mut self) -> Result<(), AskFault>
         ensures mode { self.new.mode ≡ self.old.mode }
@@ -299,25 +329,28 @@ impl<L: Link + Drop> Session<L> {
             None => Ok(()),
             Some(second) => match prepared(&mut self.talk, second) {
                 Ok(()) => Ok(()),
-                Err(fault) => Err(left(unprepared(&mut self.talk, &mut self.first), fault)),
+                Err(fault) => Err(left(taken_away(&mut self.talk, &mut self.first), fault)),
             },
         }
     }
 
-    /// Takes the break words of a step away, since there is no memory for it.
-    fn unprepare(&mut self) -> AskFault
+    /// Takes the break words of a step away, but while it is interrupted.
+    fn settle(&mut self) -> Result<(), AskFault>
         ensures mode { self.new.mode ≡ self.old.mode }
         ensures limit { self.new.limit ≡ self.old.limit }
         ensures kept { IsKept self.old.first self.new.first }
         ensures raw { self.new.raw ≡ self.old.raw }
     {
-        let first = left(
-            unprepared(&mut self.talk, &mut self.first),
-            AskFault::NoMemory,
-        );
+        if let Mode::Running(_) = self.mode {
+            return Ok(());
+        }
+        match taken_away(&mut self.talk, &mut self.first) {
+            Ok(()) => {}
+            Err(fault) => return Err(fault),
+        }
         match &mut self.second {
-            None => first,
-            Some(second) => left(unprepared(&mut self.talk, second), first),
+            None => Ok(()),
+            Some(second) => taken_away(&mut self.talk, second),
         }
     }
 
@@ -329,19 +362,13 @@ impl<L: Link + Drop> Session<L> {
         ensures raw { self.new.raw ≡ self.old.raw }
     {
         match (self.mode, how) {
-            (Mode::Running(_), _) | (_, How::ByContinue) => {
-                match line_for(self.alloc, &self.first) {
-                    Ok(line) => Ok(line),
-                    Err(_) => Err(AskFault::NoMemory),
-                }
-            }
-            (_, How::ByStep) => {
-                self.prepare()?;
-                match line_for(self.alloc, &self.first) {
-                    Ok(line) => Ok(line),
-                    Err(_) => Err(self.unprepare()),
-                }
-            }
+            (Mode::Running(_), _) => {}
+            (_, How::ByContinue) => self.settle()?,
+            (_, How::ByStep) => self.prepare()?,
+        }
+        match line_for(self.alloc, &self.first) {
+            Ok(line) => Ok(line),
+            Err(_) => Err(left(self.settle(), AskFault::NoMemory)),
         }
     }
 

@@ -6,7 +6,7 @@ use crate::line::Line;
 use crate::replies::{room_for, room_for_kept};
 use crate::sides::{SideRecord, turn};
 use abs_mem::Wire;
-use debug_side::{plant_for_step, unplant_all};
+use debug_side::{may_stay, plant_for_step, unplant_all};
 use nub_wire::Link;
 use ps_ops::Operators;
 use std::alloc::{AllocError, Global};
@@ -26,26 +26,32 @@ fn points_of(side: &mut SideRecord) -> Result<Vec<Point>, AskFault>
     points
 }
 
-/// Puts the break word at each point of a side that holds the no-op; where it can't be done, its target stays as it is.
+/// Puts the break word at each point of a side that holds the no-op, unless the words of the step before still stand; where it can't
+/// be done, its target stays as it is.
 pub fn prepared<L: Link + Drop>(
     talk: &mut Operators<Wire<L>>,
     side: &mut SideRecord,
 ) -> Result<(), AskFault>
     ensures { IsKept side.old side.new }
 {
+    if !side.row.step_words.is_empty() {
+        return Ok(());
+    }
     turn(talk, side);
     let mut points = points_of(side)?;
+    let words_stay = may_stay(points.as_slice());
     let target = side.machine.byte();
     match plant_for_step(target, &mut talk.memory.below.below.below, &mut points) {
         Ok(()) => {
             side.row.step_words = points;
+            side.row.words_stay = words_stay;
             Ok(())
         }
         Err(fault) => Err(memory_fault(fault)),
     }
 }
 
-/// Takes away what was put before a step, which isn't begun.
+/// Takes away what was put before a step, which isn't begun or whose event has come.
 pub fn unprepared<L: Link + Drop>(
     talk: &mut Operators<Wire<L>>,
     side: &mut SideRecord,

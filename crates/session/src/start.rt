@@ -88,6 +88,7 @@ pub fn begun<L: Link>(
         row: SideRow {
             breaks: Vec::new(alloc),
             step_words: Vec::new(alloc),
+            words_stay: false,
             stands_at: None,
             kept: None,
         },
