@@ -9,16 +9,14 @@ use Rattle.ps_store.specs.declared.object.DictId.{DictId}
 use Rattle.ps_store.specs.StoreState.{StoreState}
 use Rattle.ps_step.specs.declared.fault.PsError.{PsError}
 use Rattle.ps_step.specs.declared.item.Item.{Item}
-use Rattle.ps_step.specs.declared.machine.PsCore.{PsCore}
 use Rattle.ps_run.specs.Runs.{Operates}
-use Rattle.ps_run.specs.Passes.{Passes}
 use Rattle.ps_text.specs.Code.{n, w, t}
+use Rattle.ps_terms.specs.Faring.{Aim}
 use Rattle.ps_terms.specs.Machine.{Val, Obj, Key, Bytes, State, state, acted, result, go}
-use Rattle.ps_terms.specs.Stands.{core}
 use Rattle.ps_terms.specs.Printing.{word, AllPrintable, Printing}
 use Rattle.ps_terms.proofs.Steps.{Room}
 use Rattle.ps_terms.specs.Printing.{further, HasKey}
-use Rattle.ps_terms.proofs.Going.{goes_on, goes_through, goes_get}
+use Rattle.ps_terms.proofs.Going.{Ends, goes_on, goes_through, goes_get}
 use Rattle.ps_print.specs.Prelude.{items_next, items_sum, items_size, items_turn, items_drop, items_room, items_before, items_test, items_body, show_body}
 use Rattle.ps_print.specs.Words.{words, Holds, RoomFor}
 use Rattle.ps_print.specs.Items.{Thing, items_text, items_left, items_steps}
@@ -47,13 +45,13 @@ dots_printable = (omega arith, omega arith, (omega arith, omega arith, (omega ar
 pub comma_printable : AllPrintable (codes ", ")
 comma_printable = (omega arith, omega arith, (omega arith, omega arith, tt))
 
-module _ {D : Type 0} (Op : Operates D) (prints : Printing Op) (s : StoreState) (ds : List DictId) (digits : ArrayId) (holds : Holds s ds digits) (Q : ℕ → D → PsCore → Type 0)
+module _ {D : Type 0} (Op : Operates D) (prints : Printing Op) (s : StoreState) (ds : List DictId) (digits : ArrayId) (holds : Holds s ds digits) (aim : Aim Op prints s ds)
     (k : ℕ) (d : D) (type : DictId) (space : List ℕ) (size : ℕ) where
   -- a run of `Show` at a place shows the thing, whatever was appended before
   abbrev pub Shows : ℕ → Thing → Type 0
   Shows place i = (t : List ℕ) (r left : ℕ) (o : List PsObj) (under : List Item) → RoomFor k o under → r < 1000
-      → Passes Op Q left (prints.append d (t ++ i.text (suc r))) (core s ds (Int (pos (i.room (suc r))) ∷ o) under)
-      → On Op prints s ds digits holds Q o under (i.steps (suc r) left) (prints.append d t) (state (show_body ∷ []) (Obj (Dict type) ∷ Obj (Int (word place)) ∷ Key space ∷ Obj (Int (pos (suc r))) ∷ []))
+      → Ends Op prints s ds aim left (prints.append d (t ++ i.text (suc r))) (Int (pos (i.room (suc r))) ∷ o) under
+      → On Op prints s ds digits holds aim o under (i.steps (suc r) left) (prints.append d t) (state (show_body ∷ []) (Obj (Dict type) ∷ Obj (Int (word place)) ∷ Key space ∷ Obj (Int (pos (suc r))) ∷ []))
 
   abbrev pub after_item : ℕ → ℕ
   after_item place = (size + place) % 2 ^ 32
@@ -68,16 +66,16 @@ module _ {D : Type 0} (Op : Operates D) (prints : Printing Op) (s : StoreState) 
   module _ (sized : HasKey s type (codes "size") (Obj (Int (word size)))) (small : size < 2 ^ 32) where
     module _ (o : List PsObj) (under : List Item) (room : RoomFor (5 + k) o under) where
       abbrev Here : ℕ → List ℕ → State → Type 0
-      Here n t st = On Op prints s ds digits holds Q o under n (prints.append d t) st
+      Here n t st = On Op prints s ds digits holds aim o under n (prints.append d t) st
 
       room' : Room o under
-      room' = room_here Op prints s ds digits holds Q (5 + k) o under room
+      room' = room_here Op prints s ds digits holds aim (5 + k) o under room
 
       abbrev own : ℕ → ℕ → List ℕ → ℕ → List Val
       own place count before r = Obj (Dict type) ∷ Obj (Int (word place)) ∷ Key space ∷ Obj (Int (pos count)) ∷ Bytes before ∷ Obj (Int (pos r)) ∷ []
 
       on : (m n₀ : ℕ) (t : List ℕ) (st st' : State) → go (words digits) m st ≡ Some st' → Here n₀ t st' → Here (further m n₀) t st
-      on m n₀ t st st' e g = goes_on Op s ds (words digits) holds.knows Q o under room' m n₀ (prints.append d t) st st' e g
+      on m n₀ t st st' e g = goes_on Op prints s ds (words digits) holds.knows aim o under room' m n₀ (prints.append d t) st st' e g
 
       -- none is left
       none_goes : (place : ℕ) (before : List ℕ) (r left : ℕ) (t : List ℕ) → Here left t (state [] (Obj (Int (pos r)) ∷ [])) → Here (further 12 left) t (at_items place [] before r)
@@ -96,7 +94,7 @@ module _ {D : Type 0} (Op : Operates D) (prints : Printing Op) (s : StoreState) 
           (subst (λ b. Here (further 5 (suc (further 4 left))) t (state (items_test ∷ []) (Obj (Truth b) ∷ own place (suc count) before r))) (sym (some_left count))
           (on 5 (suc (further 4 left)) t (state (items_test ∷ []) (Obj (Truth false) ∷ own place (suc count) before r))
           (state (w "Put" items_before ∷ []) (Bytes before ∷ own place (suc count) before r)) refl
-          (put_at Op prints s ds digits holds Q o under items_before [] before (own place (suc count) before r) (further 4 left) d t printable
+          (put_at Op prints s ds digits holds aim o under items_before [] before (own place (suc count) before r) (further 4 left) d t printable
           (on 4 left (t ++ before) (state (items_before ∷ []) (own place (suc count) before r))
           (state (items_room ∷ []) (Obj (Truth (int_eq (pos r) (pos 0))) ∷ own place (suc count) before r)) refl g))))
 
@@ -108,7 +106,7 @@ module _ {D : Type 0} (Op : Operates D) (prints : Printing Op) (s : StoreState) 
           subst (λ b. Here (further 4 (suc (further 5 left))) t (state (items_room ∷ []) (Obj (Truth b) ∷ own place (suc count) before 0))) (sym none_left)
           (on 4 (suc (further 5 left)) t (state (items_room ∷ []) (Obj (Truth true) ∷ own place (suc count) before 0))
           (state (w "Put" items_drop ∷ []) (Bytes (codes "...") ∷ own place (suc count) before 0)) refl
-          (put_at Op prints s ds digits holds Q o under items_drop [] (codes "...") (own place (suc count) before 0) (further 5 left) d t dots_printable
+          (put_at Op prints s ds digits holds aim o under items_drop [] (codes "...") (own place (suc count) before 0) (further 5 left) d t dots_printable
           (on 5 left (t ++ codes "...") (state (items_drop ∷ []) (own place (suc count) before 0)) (state [] (Obj (Int (pos 0)) ∷ [])) refl g)))
 
       -- what stands below an item that is shown
@@ -129,11 +127,11 @@ module _ {D : Type 0} (Op : Operates D) (prints : Printing Op) (s : StoreState) 
           (ap (λ (m : Result ℤ PsError). elim (acted items_size [] (result vs m)) [ None ↦ None | Some st ↦ Some st ]) (sub_one count few))
           (on 5 (suc (further 3 (suc (further 2 left)))) t (state (items_size ∷ []) (Obj (Int (pos count)) ∷ vs))
           (state (w "get" items_sum ∷ []) (Key (codes "size") ∷ Obj (Dict type) ∷ Obj (Dict type) ∷ Obj (Int (word place)) ∷ rest)) refl
-          (goes_get Op s ds (words digits) holds.knows Q o under (codes "get") (codes "size") items_sum [] type (Obj (Int (word size))) (Obj (Dict type) ∷ Obj (Int (word place)) ∷ rest)
+          (goes_get Op prints s ds (words digits) holds.knows aim o under (codes "get") (codes "size") items_sum [] type (Obj (Int (word size))) (Obj (Dict type) ∷ Obj (Int (word place)) ∷ rest)
           (further 3 (suc (further 2 left))) (prints.append d t) holds.get sized
           (on 3 (suc (further 2 left)) t (state (items_sum ∷ []) (Obj (Int (word size)) ∷ Obj (Dict type) ∷ Obj (Int (word place)) ∷ rest))
           (state (w "uadd" items_next ∷ []) (Obj (Int (word place)) ∷ Obj (Int (word size)) ∷ Obj (Dict type) ∷ rest)) refl
-          (uadd_goes Op prints s ds digits holds Q o under items_next [] size place (Obj (Dict type) ∷ rest) (further 2 left) (prints.append d t) small within
+          (uadd_goes Op prints s ds digits holds aim o under items_next [] size place (Obj (Dict type) ∷ rest) (further 2 left) (prints.append d t) small within
           (on 2 left t (state (items_next ∷ []) (Obj (Int (word (after_item place))) ∷ Obj (Dict type) ∷ rest))
           (state (items_body ∷ []) (own (after_item place) count (codes ", ") r)) refl g))))))
 
@@ -146,24 +144,24 @@ module _ {D : Type 0} (Op : Operates D) (prints : Printing Op) (s : StoreState) 
           subst (λ b. Here (further 13 (i.steps (suc r) left)) t (state (items_room ∷ []) (Obj (Truth b) ∷ own place (suc count) before (suc r)))) (sym (some_left r))
           (on 13 (i.steps (suc r) left) t (state (items_room ∷ []) (Obj (Truth false) ∷ own place (suc count) before (suc r)))
           (state (show_body ∷ items_turn ∷ []) (vs ++ below place (suc count) before)) refl
-          (goes_through Op s ds (words digits) holds.knows Q o under show_body (items_turn ∷ []) vs (below place (suc count) before) (Int (pos (i.room (suc r)))) (i.steps (suc r) left) left
+          (goes_through Op prints s ds (words digits) holds.knows aim o under show_body (items_turn ∷ []) vs (below place (suc count) before) (Int (pos (i.room (suc r)))) (i.steps (suc r) left) left
           (prints.append d t) (prints.append d (t ++ i.text (suc r)))
           (λ o' under' lo lu g'. shows t r left o' under' (let a = room.operands in let b = room.items in record { operands = omega arith; items = omega arith }) within g') g))
 
     -- The run of `Items` appends the items' texts with their separators, up to the room that there is, and leaves the room that is left.
     pub items_run : (is : List Thing) (before : List ℕ) (place r left : ℕ) (t : List ℕ) (o : List PsObj) (under : List Item) → RoomFor (5 + k) o under → AllPrintable before
         → place < 2 ^ 32 → length is < 2 ^ 31 → r ≤ 1000 → EachShows place is
-        → Passes Op Q left (prints.append d (t ++ items_text before is r)) (core s ds (Int (pos (items_left is r)) ∷ o) under)
-        → On Op prints s ds digits holds Q o under (items_steps is r left) (prints.append d t) (at_items place is before r)
+        → Ends Op prints s ds aim left (prints.append d (t ++ items_text before is r)) (Int (pos (items_left is r)) ∷ o) under
+        → On Op prints s ds digits holds aim o under (items_steps is r left) (prints.append d t) (at_items place is before r)
     items_run [] before place r left t o under room printable within few enough each g =
         none_goes o under room place before r left t
-        (subst (λ t. On Op prints s ds digits holds Q o under left (prints.append d t) (state [] (Obj (Int (pos r)) ∷ []))) (append-nil t)
-        (leaves Op prints s ds digits holds Q (Int (pos r)) left (prints.append d (t ++ [])) o under g))
+        (subst (λ t. On Op prints s ds digits holds aim o under left (prints.append d t) (state [] (Obj (Int (pos r)) ∷ []))) (append-nil t)
+        (leaves Op prints s ds digits holds aim (Int (pos r)) left (prints.append d (t ++ [])) o under g))
     items_run (i ∷ is) before place zero left t o under room printable within few enough each g =
         some_goes o under room place (length is) before 0 (further 4 (suc (further 5 left))) t printable
         (cut_goes o under room place (length is) before left (t ++ before)
-        (subst (λ t. On Op prints s ds digits holds Q o under left (prints.append d t) (state [] (Obj (Int (pos 0)) ∷ []))) (sym (append_assoc t before (codes "...")))
-        (leaves Op prints s ds digits holds Q (Int (pos 0)) left (prints.append d (t ++ (before ++ codes "..."))) o under g)))
+        (subst (λ t. On Op prints s ds digits holds aim o under left (prints.append d t) (state [] (Obj (Int (pos 0)) ∷ []))) (sym (append_assoc t before (codes "...")))
+        (leaves Op prints s ds digits holds aim (Int (pos 0)) left (prints.append d (t ++ (before ++ codes "..."))) o under g)))
     items_run (i ∷ is) before place (suc r) left t o under room printable within few enough each g =
         let r' : ℕ = i.room (suc r) in
         let fewer : r' ≤ suc r = each.1 (suc r) in
@@ -174,4 +172,4 @@ module _ {D : Type 0} (Op : Operates D) (prints : Printing Op) (s : StoreState) 
         (shown_goes o under room i place (length is) before r (further 15 (suc (further 5 (suc (further 3 (suc (further 2 (items_steps is r' left)))))))) (t ++ before) (omega arith) each.0
         (turn_goes o under room place (length is) before r' (items_steps is r' left) t' within (omega arith)
         (items_run is (codes ", ") (after_item place) r' left t' o under room comma_printable (omega arith) (omega arith) (omega arith) each.2
-        (subst (λ x. Passes Op Q left (prints.append d x) (core s ds (Int (pos (items_left is r')) ∷ o) under)) whole g))))
+        (subst (λ x. Ends Op prints s ds aim left (prints.append d x) (Int (pos (items_left is r')) ∷ o) under) whole g))))

@@ -6,7 +6,6 @@ use Rattle.ps_store.specs.declared.object.PsObj.TheVariants.{Int}
 use Rattle.ps_store.specs.declared.object.ArrayId.{ArrayId}
 use Rattle.ps_store.specs.declared.object.DictId.{DictId}
 use Rattle.ps_store.specs.StoreState.{StoreState}
-use Rattle.ps_step.specs.declared.machine.PsCore.{PsCore}
 use Rattle.ps_run.specs.Runs.{Operates}
 use Rattle.c_tree.specs.declared.types.CType.{CType}
 use Rattle.c_tree.specs.declared.types.CType.TheVariants.{Char, Int as IntType, Unsigned, Pointer'}
@@ -15,12 +14,14 @@ use Rattle.c_tree.specs.declared.types.Member.{Member}
 use Rattle.c_tree.specs.Layout.{members_of}
 use Rattle.c_show.specs.declared.held.Held.TheVariants as held
 use Rattle.c_show.specs.Printed.{Showing, Told, Page, with_text, put_scalar, put_items, in_braces, put_array, put_within, put_string, is_char, byte_of, leaf_text, string_text, shown}
+use Rattle.ps_terms.specs.Faring.{Aim}
 use Rattle.ps_terms.specs.Machine.{Obj}
 use Rattle.ps_terms.specs.Printing.{Printing, HasKey}
 use Rattle.ps_print.specs.Words.{Holds}
 use Rattle.ps_print.specs.Items.{Thing, items_text, items_left}
 use Rattle.ps_print.specs.Things.{Tail, int_thing, unsigned_thing, char_thing, pointer_thing, string_thing, array_thing, struct_thing}
 use Rattle.ps_print.specs.Laid.{need, Laid, an_int, an_unsigned, a_char, a_pointer, a_string, an_array, a_struct, EachLaid, none, more, MembersLaid, no_member, a_member}
+use Rattle.ps_print.proofs.Parts.{some_there}
 use Rattle.ps_print.proofs.Items.{Shows, EachShows}
 use Rattle.ps_print.proofs.Things.{less_fewer, int_shows, unsigned_shows, list_shows}
 use Rattle.ps_print.proofs.Scalars.{char_shows, pointer_shows, string_shows}
@@ -34,13 +35,13 @@ more_fewer : (i : Thing) (is : List Thing) → ((r : ℕ) → i.room r ≤ r) �
 more_fewer i is f g zero = omega arith
 more_fewer i is f g (suc r) = let a = f (suc r) in let b = g (i.room (suc r)) in omega arith
 
-module _ {D : Type 0} (Op : Operates D) (prints : Printing Op) (s : StoreState) (d : D) (space : List ℕ) (defs : List StructDef) where
-  pub each_length : (k : ℕ) (t : CType) (item : DictId) (size n place : ℕ) (xs : List Showing) (is : List Thing) → EachLaid Op prints s d space defs k t item size n place xs is → length is ≡ n
+module _ {D : Type 0} (Op : Operates D) (prints : Printing Op) (s first : StoreState) (d : D) (space : List ℕ) (defs : List StructDef) where
+  pub each_length : (k : ℕ) (t : CType) (item : DictId) (size n place : ℕ) (xs : List Showing) (is : List Thing) → EachLaid Op prints s first d space defs k t item size n place xs is → length is ≡ n
   each_length _ _ _ _ _ _ _ _ (none k t item size place) = refl
   each_length _ _ _ _ _ _ _ _ (more k t item size n place xs ys i is l ls) = ap suc (each_length k t item size n ((size + place) % 2 ^ 32) ys is ls)
 
   mutual
-    laid_fewer : (k : ℕ) (t : CType) (type : DictId) (place : ℕ) (xs : List Showing) (i : Thing) → Laid Op prints s d space defs k t type place xs i → (r : ℕ) → i.room r ≤ r
+    laid_fewer : (k : ℕ) (t : CType) (type : DictId) (place : ℕ) (xs : List Showing) (i : Thing) → Laid Op prints s first d space defs k t type place xs i → (r : ℕ) → i.room r ≤ r
     laid_fewer _ _ _ _ _ _ (an_int k type place v h kind known) r = less_fewer r
     laid_fewer _ _ _ _ _ _ (an_unsigned k type place v h kind known) r = less_fewer r
     laid_fewer _ _ _ _ _ _ (a_char k type place n x kind known told) r = less_fewer r
@@ -49,49 +50,49 @@ module _ {D : Type 0} (Op : Operates D) (prints : Printing Op) (s : StoreState) 
     laid_fewer _ _ _ _ _ _ (a_struct k number type members e place xs is its has many l2 l3 l4 ms) r = members_fewer k (members_of defs number) members 0 place xs is ms r
     laid_fewer _ _ _ _ _ _ (an_array k b t n type item kind size place xs is c e a to count ik sized l1 l2 l3 l4 ls) r = each_fewer k t item size n place xs is ls r
 
-    each_fewer : (k : ℕ) (t : CType) (item : DictId) (size n place : ℕ) (xs : List Showing) (is : List Thing) → EachLaid Op prints s d space defs k t item size n place xs is → (r : ℕ) → items_left is r ≤ r
+    each_fewer : (k : ℕ) (t : CType) (item : DictId) (size n place : ℕ) (xs : List Showing) (is : List Thing) → EachLaid Op prints s first d space defs k t item size n place xs is → (r : ℕ) → items_left is r ≤ r
     each_fewer _ _ _ _ _ _ _ _ (none k t item size place) r = omega arith
     each_fewer _ _ _ _ _ _ _ _ (more k t item size n place xs ys i is l ls) r =
         more_fewer i is (laid_fewer k t item place xs i l) (each_fewer k t item size n ((size + place) % 2 ^ 32) ys is ls) r
 
-    members_fewer : (k : ℕ) (ms : List Member) (members : ArrayId) (i place : ℕ) (xs : List Showing) (is : List Thing) → MembersLaid Op prints s d space defs k ms members i place xs is → (r : ℕ) → items_left is r ≤ r
+    members_fewer : (k : ℕ) (ms : List Member) (members : ArrayId) (i place : ℕ) (xs : List Showing) (is : List Thing) → MembersLaid Op prints s first d space defs k ms members i place xs is → (r : ℕ) → items_left is r ≤ r
     members_fewer _ _ _ _ _ _ _ (no_member k members i place) r = omega arith
     members_fewer _ _ _ _ _ _ _ (a_member k m ms members i place offset type xs ys thing is at l ls) r =
         more_fewer thing is (laid_fewer k m.ctype type ((place + offset) % 2 ^ 32) xs thing l) (members_fewer k ms members (suc i) place ys is ls) r
 
-module _ {D : Type 0} (Op : Operates D) (prints : Printing Op) (s : StoreState) (ds : List DictId) (digits : ArrayId) (holds : Holds s ds digits) (Q : ℕ → D → PsCore → Type 0) (d : D) (space : List ℕ) (defs : List StructDef) where
+module _ {D : Type 0} (Op : Operates D) (prints : Printing Op) (s : StoreState) (ds : List DictId) (digits : ArrayId) (holds : Holds s ds digits) (aim : Aim Op prints s ds) (d : D) (space : List ℕ) (defs : List StructDef) where
   mutual
     -- a run of `Show` shows the value
-    pub laid_shows : (k : ℕ) (t : CType) (type : DictId) (place : ℕ) (xs : List Showing) (i : Thing) → Laid Op prints s d space defs k t type place xs i
-        → Shows Op prints s ds digits holds Q (need k) d type space 0 place i
-    laid_shows _ _ _ _ _ _ (an_int k type place v h kind known) = int_shows Op prints s ds digits holds Q d space (need k) type place v (need_some k) h kind known
-    laid_shows _ _ _ _ _ _ (an_unsigned k type place v h kind known) = unsigned_shows Op prints s ds digits holds Q d space (need k) type place v (need_some k) h kind known
-    laid_shows _ _ _ _ _ _ (a_char k type place n x kind known told) = char_shows Op prints s ds digits holds Q d space (need k) type place n kind known
+    pub laid_shows : (k : ℕ) (t : CType) (type : DictId) (place : ℕ) (xs : List Showing) (i : Thing) → Laid Op prints s aim.first d space defs k t type place xs i
+        → Shows Op prints s ds digits holds aim (need k) d type space 0 place i
+    laid_shows _ _ _ _ _ _ (an_int k type place v h kind known) = int_shows Op prints s ds digits holds aim d space (need k) type place v (need_some k) h kind known
+    laid_shows _ _ _ _ _ _ (an_unsigned k type place v h kind known) = unsigned_shows Op prints s ds digits holds aim d space (need k) type place v (need_some k) h kind known
+    laid_shows _ _ _ _ _ _ (a_char k type place n x kind known told) = char_shows Op prints s ds digits holds aim d space (need k) type place n kind known
     laid_shows _ _ _ _ _ _ (a_pointer k b t type target kind place n x text tail its to its_kind known shows told) =
-        pointer_shows Op prints s ds digits holds Q d space (need k) type target kind text place n tail its to its_kind known shows
+        pointer_shows Op prints s ds digits holds aim d space (need k) type target kind text place n tail its to its_kind known shows
     laid_shows _ _ _ _ _ _ (a_string k b n type item kind place xs e len a to count ik lies) =
-        string_shows Op prints s ds digits holds Q d space (6 + need k) type item kind (string_text (map byte_of xs)) place n e a to count ik lies
+        string_shows Op prints s ds digits holds aim d space (6 + need k) type item kind (string_text (map byte_of xs)) place n e a to count ik lies
     laid_shows _ _ _ _ _ _ (a_struct k number type members e place xs is its has many l2 l3 l4 ms) =
-        struct_shows Op prints s ds digits holds Q d space (need k) type members e place is l2 has many l3
+        struct_shows Op prints s ds digits holds aim d space (need k) type members e place is l2 has (some_there s members (length is) many l4) many l3
         (members_show k (members_of defs number) members e (length is) 0 place xs is ms) its
     laid_shows _ _ _ _ _ _ (an_array k b t n type item kind size place xs is c e a to count ik sized l1 l2 l3 l4 ls) =
-        let len : length is ≡ n = each_length Op prints s d space defs k t item size n place xs is ls in
-        list_shows Op prints s ds digits holds Q d space type item kind size to ik e sized l1 (need k) is place l2 (omega arith) a
+        let len : length is ≡ n = each_length Op prints s aim.first d space defs k t item size n place xs is ls in
+        list_shows Op prints s ds digits holds aim d space type item kind size to ik e sized l1 (need k) is place l2 (omega arith) a
         (subst (λ m. HasKey s type (codes "count") (Obj (Int (pos m)))) (sym len) count)
         (each_shows k t item size n place xs is ls)
 
-    each_shows : (k : ℕ) (t : CType) (item : DictId) (size n place : ℕ) (xs : List Showing) (is : List Thing) → EachLaid Op prints s d space defs k t item size n place xs is
-        → EachShows Op prints s ds digits holds Q (need k) d item space size place is
+    each_shows : (k : ℕ) (t : CType) (item : DictId) (size n place : ℕ) (xs : List Showing) (is : List Thing) → EachLaid Op prints s aim.first d space defs k t item size n place xs is
+        → EachShows Op prints s ds digits holds aim (need k) d item space size place is
     each_shows _ _ _ _ _ _ _ _ (none k t item size place) = tt
     each_shows _ _ _ _ _ _ _ _ (more k t item size n place xs ys i is l ls) =
-        (laid_shows k t item place xs i l, laid_fewer Op prints s d space defs k t item place xs i l, each_shows k t item size n ((size + place) % 2 ^ 32) ys is ls)
+        (laid_shows k t item place xs i l, laid_fewer Op prints s aim.first d space defs k t item place xs i l, each_shows k t item size n ((size + place) % 2 ^ 32) ys is ls)
 
-    members_show : (k : ℕ) (ms : List Member) (members : ArrayId) (e : Bool) (count i place : ℕ) (xs : List Showing) (is : List Thing) → MembersLaid Op prints s d space defs k ms members i place xs is
-        → EachMember Op prints s ds digits holds Q (need k) d space members e count place i is
+    members_show : (k : ℕ) (ms : List Member) (members : ArrayId) (e : Bool) (count i place : ℕ) (xs : List Showing) (is : List Thing) → MembersLaid Op prints s aim.first d space defs k ms members i place xs is
+        → EachMember Op prints s ds digits holds aim (need k) d space members e count place i is
     members_show _ _ _ e count _ _ _ _ (no_member k members i place) = tt
     members_show _ _ _ e count _ _ _ _ (a_member k m ms members i place offset type xs ys thing is at l ls) = (
       (offset, type, at, laid_shows k m.ctype type ((place + offset) % 2 ^ 32) xs thing l),
-      laid_fewer Op prints s d space defs k m.ctype type ((place + offset) % 2 ^ 32) xs thing l,
+      laid_fewer Op prints s aim.first d space defs k m.ctype type ((place + offset) % 2 ^ 32) xs thing l,
       members_show k ms members e count (suc i) place ys is ls,
     )
 
@@ -213,10 +214,10 @@ string_puts n xs len = record {
   rest = λ page more r e f g. ap (drop n) e ∙ drop_at xs more n len;
 }
 
-module _ {D : Type 0} (Op : Operates D) (prints : Printing Op) (s : StoreState) (d : D) (space : List ℕ) (defs : List StructDef) where
+module _ {D : Type 0} (Op : Operates D) (prints : Printing Op) (s first : StoreState) (d : D) (space : List ℕ) (defs : List StructDef) where
   mutual
     -- the C type's text of the leaves is that of the thing
-    pub laid_puts : (k : ℕ) (t : CType) (type : DictId) (place : ℕ) (xs : List Showing) (i : Thing) → Laid Op prints s d space defs k t type place xs i → Puts (put_within defs (suc k) t) i xs
+    pub laid_puts : (k : ℕ) (t : CType) (type : DictId) (place : ℕ) (xs : List Showing) (i : Thing) → Laid Op prints s first d space defs k t type place xs i → Puts (put_within defs (suc k) t) i xs
     laid_puts _ _ _ _ _ _ (an_int k type place v h kind known) = int_puts v
     laid_puts _ _ _ _ _ _ (an_unsigned k type place v h kind known) = unsigned_puts v
     laid_puts _ _ _ _ _ _ (a_char k type place n x kind known told) = char_puts x (prints.char_text n) told
@@ -225,16 +226,16 @@ module _ {D : Type 0} (Op : Operates D) (prints : Printing Op) (s : StoreState) 
     laid_puts _ _ _ _ _ _ (a_struct k number type members e place xs is its has many l2 l3 l4 ms) =
         braces_put (map (λ m. put_within defs (suc k) m.ctype) (members_of defs number)) is xs (members_puts k (members_of defs number) members 0 place xs is ms)
     laid_puts _ _ _ _ _ _ (an_array k b t n type item kind size place xs is c e a to count ik sized l1 l2 l3 l4 ls) =
-        subst (λ m. Puts (put_array t m (put_within defs (suc k) t)) (array_thing is) xs) (each_length Op prints s d space defs k t item size n place xs is ls)
+        subst (λ m. Puts (put_array t m (put_within defs (suc k) t)) (array_thing is) xs) (each_length Op prints s first d space defs k t item size n place xs is ls)
         (array_puts (put_within defs (suc k) t) t is xs c (each_puts k t item size n place xs is ls))
 
-    each_puts : (k : ℕ) (t : CType) (item : DictId) (size n place : ℕ) (xs : List Showing) (is : List Thing) → EachLaid Op prints s d space defs k t item size n place xs is
+    each_puts : (k : ℕ) (t : CType) (item : DictId) (size n place : ℕ) (xs : List Showing) (is : List Thing) → EachLaid Op prints s first d space defs k t item size n place xs is
         → AllPut (replicate (length is) (put_within defs (suc k) t)) is xs
     each_puts _ _ _ _ _ _ _ _ (none k t item size place) = none_put
     each_puts _ _ _ _ _ _ _ _ (more k t item size n place xs ys i is l ls) =
         more_put (put_within defs (suc k) t) (replicate (length is) (put_within defs (suc k) t)) i is xs ys (laid_puts k t item place xs i l) (each_puts k t item size n ((size + place) % 2 ^ 32) ys is ls)
 
-    members_puts : (k : ℕ) (ms : List Member) (members : ArrayId) (i place : ℕ) (xs : List Showing) (is : List Thing) → MembersLaid Op prints s d space defs k ms members i place xs is
+    members_puts : (k : ℕ) (ms : List Member) (members : ArrayId) (i place : ℕ) (xs : List Showing) (is : List Thing) → MembersLaid Op prints s first d space defs k ms members i place xs is
         → AllPut (map (λ m. put_within defs (suc k) m.ctype) ms) is xs
     members_puts _ _ _ _ _ _ _ (no_member k members i place) = none_put
     members_puts _ _ _ _ _ _ _ (a_member k m ms members i place offset type xs ys thing is at l ls) =
@@ -242,5 +243,5 @@ module _ {D : Type 0} (Op : Operates D) (prints : Printing Op) (s : StoreState) 
         (members_puts k ms members (suc i) place ys is ls)
 
   -- so a whole value's text is what is shown of its leaves
-  pub laid_shown : (t : CType) (type : DictId) (place : ℕ) (xs : List Showing) (i : Thing) → Laid Op prints s d space defs 63 t type place xs i → i.text 1000 ≡ shown defs t xs
+  pub laid_shown : (t : CType) (type : DictId) (place : ℕ) (xs : List Showing) (i : Thing) → Laid Op prints s first d space defs 63 t type place xs i → i.text 1000 ≡ shown defs t xs
   laid_shown t type place xs i l = sym ((laid_puts 63 t type place xs i l).text (record { text = []; rest = xs; room = 1000 }) [] 999 (sym (append-nil xs)) refl)

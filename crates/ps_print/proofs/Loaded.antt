@@ -68,12 +68,14 @@ no_state e = cc
 
 -- the term under a name is there
 abbrev is_body : Option PsObj → Code → Bool
-is_body (Some (Array a e)) body = e && spelled loaded.store body (elements_of loaded.store a)
+is_body (Some (Array a e)) body = e && (nat_lt a.index (length (held loaded.store a.part).arrays) && spelled loaded.store body (elements_of loaded.store a))
 is_body other body = false
 
 body_means : (o : Option PsObj) (name : List ℕ) (body : Code) → named loaded.store loaded.dictionaries name ≡ o → is_body o body ≡ true → Means loaded.store loaded.dictionaries name (Does body)
 body_means None name body e h = absurd (let f : false ≡ true = h in no_truth f)
-body_means (Some (Array a true)) name body e h = (a, e, spelled_is body loaded.store (elements_of loaded.store a) h)
+body_means (Some (Array a true)) name body e h =
+    let p = and_parts (nat_lt a.index (length (held loaded.store a.part).arrays)) (spelled loaded.store body (elements_of loaded.store a)) h in
+    (a, e, ltb-true _ _ p.0, spelled_is body loaded.store (elements_of loaded.store a) p.1)
 body_means o name body e h = absurd (no_truth h)
 
 abbrev there : List ℕ → Code → Type 0
@@ -103,18 +105,18 @@ known (w ∷ ws) h name entry e = by_name (known ws h.1 name entry) (bytes_eq w.
         subst (λ n. Means loaded.store loaded.dictionaries n entry) same (subst (Means loaded.store loaded.dictionaries w.0) it h.0)
     by_name rest false f g = rest g
 
-digit_there : (r : ℕ) → r < 10 → (t : StringId) × (slice_get (elements_of loaded.store digits_id) r ≡ Some (Str t false)) × (bytes_of loaded.store t ≡ (48 + r) ∷ [])
+digit_there : (r : ℕ) → r < 10 → (t : StringId) × (slice_get (elements_of loaded.store digits_id) r ≡ Some (Str t false)) × IsString loaded.store t ((48 + r) ∷ [])
 unfolding digits is_white is_special is_regular is_hexadecimal operator_number
-digit_there zero h = (record { part = Table; index = 6 }, refl, refl)
-digit_there (suc zero) h = (record { part = Table; index = 7 }, refl, refl)
-digit_there (suc (suc zero)) h = (record { part = Table; index = 8 }, refl, refl)
-digit_there (suc (suc (suc zero))) h = (record { part = Table; index = 9 }, refl, refl)
-digit_there (suc (suc (suc (suc zero)))) h = (record { part = Table; index = 10 }, refl, refl)
-digit_there (suc (suc (suc (suc (suc zero))))) h = (record { part = Table; index = 11 }, refl, refl)
-digit_there (suc (suc (suc (suc (suc (suc zero)))))) h = (record { part = Table; index = 12 }, refl, refl)
-digit_there (suc (suc (suc (suc (suc (suc (suc zero))))))) h = (record { part = Table; index = 13 }, refl, refl)
-digit_there (suc (suc (suc (suc (suc (suc (suc (suc zero)))))))) h = (record { part = Table; index = 14 }, refl, refl)
-digit_there (suc (suc (suc (suc (suc (suc (suc (suc (suc zero))))))))) h = (record { part = Table; index = 15 }, refl, refl)
+digit_there zero h = (record { part = Table; index = 6 }, refl, record { has = ltb-true _ _ refl; bytes = refl })
+digit_there (suc zero) h = (record { part = Table; index = 7 }, refl, record { has = ltb-true _ _ refl; bytes = refl })
+digit_there (suc (suc zero)) h = (record { part = Table; index = 8 }, refl, record { has = ltb-true _ _ refl; bytes = refl })
+digit_there (suc (suc (suc zero))) h = (record { part = Table; index = 9 }, refl, record { has = ltb-true _ _ refl; bytes = refl })
+digit_there (suc (suc (suc (suc zero)))) h = (record { part = Table; index = 10 }, refl, record { has = ltb-true _ _ refl; bytes = refl })
+digit_there (suc (suc (suc (suc (suc zero))))) h = (record { part = Table; index = 11 }, refl, record { has = ltb-true _ _ refl; bytes = refl })
+digit_there (suc (suc (suc (suc (suc (suc zero)))))) h = (record { part = Table; index = 12 }, refl, record { has = ltb-true _ _ refl; bytes = refl })
+digit_there (suc (suc (suc (suc (suc (suc (suc zero))))))) h = (record { part = Table; index = 13 }, refl, record { has = ltb-true _ _ refl; bytes = refl })
+digit_there (suc (suc (suc (suc (suc (suc (suc (suc zero)))))))) h = (record { part = Table; index = 14 }, refl, record { has = ltb-true _ _ refl; bytes = refl })
+digit_there (suc (suc (suc (suc (suc (suc (suc (suc (suc zero))))))))) h = (record { part = Table; index = 15 }, refl, record { has = ltb-true _ _ refl; bytes = refl })
 digit_there (suc (suc (suc (suc (suc (suc (suc (suc (suc (suc r)))))))))) h = absurd (omega arith)
 
 -- behind the prelude its words mean what its terms say

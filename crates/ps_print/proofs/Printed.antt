@@ -1,5 +1,5 @@
 -- Values are printed.
-use Rattle.std.proofs.Common.{◌≡◌, ℕ, pos, List, [], ◌∷◌, ◌++◌, refl, sym, subst, arith}
+use Rattle.std.proofs.Common.{◌≡◌, ℕ, pos, Bool, false, true≢false, ◌∙◌, List, [], ◌∷◌, ◌++◌, refl, sym, subst, arith}
 use Rattle.ps_store.specs.declared.object.PsObj.{PsObj}
 use Rattle.ps_store.specs.declared.object.PsObj.TheVariants.{Int, Dict}
 use Rattle.ps_store.specs.declared.object.ArrayId.{ArrayId}
@@ -7,18 +7,18 @@ use Rattle.ps_store.specs.declared.object.DictId.{DictId}
 use Rattle.ps_store.specs.StoreState.{StoreState}
 use Rattle.ps_step.specs.declared.item.Item.{Item}
 use Rattle.ps_step.specs.declared.machine.PsCore.{PsCore}
-use Rattle.ps_run.specs.Runs.{Operates, Runs}
-use Rattle.ps_run.specs.Passes.{Passes, Passed}
-use Rattle.ps_run.proofs.Apart.{passes_here}
+use Rattle.ps_run.specs.Runs.{Answer, Operates, Runs}
 use Rattle.c_tree.specs.declared.types.CType.{CType}
 use Rattle.c_tree.specs.declared.types.StructDef.{StructDef}
 use Rattle.c_show.specs.Printed.{Showing, shown}
-use Rattle.ps_text.specs.Code.{Stop, n, w, t, p}
+use Rattle.ps_text.specs.Code.{Stop, n, w, t}
+use Rattle.ps_terms.specs.Faring.{Stays, Aim, Fares, arrives, fails, starves, Comes}
 use Rattle.ps_terms.specs.Machine.{Val, Obj, Key, state}
-use Rattle.ps_terms.specs.Stands.{Are, Frames, core}
-use Rattle.ps_terms.specs.Printing.{word, Printing, further}
+use Rattle.ps_terms.specs.Stands.{Are, Frames, Keeps, core}
+use Rattle.ps_terms.specs.Printing.{word, Printing, further, Looked, nothing, after}
 use Rattle.ps_terms.proofs.Steps.{Room}
-use Rattle.ps_terms.proofs.Going.{Goes, goes_on, goes_through}
+use Rattle.ps_terms.proofs.Going.{Ends, ends_here, Goes, goes_on, goes_through}
+use Rattle.ps_terms.proofs.Kept.{keeps_same}
 use Rattle.ps_print.specs.Prelude.{show_body, print_body}
 use Rattle.ps_print.specs.Words.{words, Holds, RoomFor}
 use Rattle.ps_print.specs.Items.{Thing}
@@ -31,42 +31,58 @@ use Rattle.ps_print.proofs.Laid.{laid_shows, laid_shown}
 
 module _ {D : Type 0} (Op : Operates D) (prints : Printing Op) (s : StoreState) (ds : List DictId) (digits : ArrayId) (d : D) (space : List ℕ) where
   -- what is shown is printed, with room for 1,000 items
-  print_goes : (holds : Holds s ds digits) (Q : ℕ → D → PsCore → Type 0) (type : DictId) (place : ℕ) (i : Thing) (left : ℕ) (o : List PsObj) (under : List Item) → RoomFor 400 o under
-      → Shows Op prints s ds digits holds Q 391 d type space 0 place i → (empty : prints.append d [] ≡ d) → Passes Op Q left (prints.append d (i.text 1000)) (core s ds o under)
-      → Goes Op s ds (words digits) holds.knows Q o under (print_steps i left) d (state (print_body ∷ []) (Obj (Dict type) ∷ Obj (Int (word place)) ∷ Key space ∷ []))
-  print_goes holds Q type place i left o under room shows empty g =
-      let room' : Room o under = room_here Op prints s ds digits holds Q 400 o under room in
+  print_goes : (holds : Holds s ds digits) (aim : Aim Op prints s ds) (type : DictId) (place : ℕ) (i : Thing) (left : ℕ) (o : List PsObj) (under : List Item) → RoomFor 400 o under
+      → Shows Op prints s ds digits holds aim 391 d type space 0 place i → (empty : prints.append d [] ≡ d) → Ends Op prints s ds aim left (prints.append d (i.text 1000)) o under
+      → Goes Op prints s ds (words digits) holds.knows aim o under (print_steps i left) d (state (print_body ∷ []) (Obj (Dict type) ∷ Obj (Int (word place)) ∷ Key space ∷ []))
+  print_goes holds aim type place i left o under room shows empty g =
+      let room' : Room o under = room_here Op prints s ds digits holds aim 400 o under room in
       let own : List Val = Obj (Dict type) ∷ Obj (Int (word place)) ∷ Key space ∷ Obj (Int (pos 1000)) ∷ [] in
-      goes_on Op s ds (words digits) holds.knows Q o under room' 5 (i.steps 1000 (further 1 left)) d
+      goes_on Op prints s ds (words digits) holds.knows aim o under room' 5 (i.steps 1000 (further 1 left)) d
       (state (print_body ∷ []) (Obj (Dict type) ∷ Obj (Int (word place)) ∷ Key space ∷ [])) (state (show_body ∷ w "pop" Stop ∷ []) own) refl
-      (subst (λ d'. Goes Op s ds (words digits) holds.knows Q o under (i.steps 1000 (further 1 left)) d' (state (show_body ∷ w "pop" Stop ∷ []) own)) empty
-      (goes_through Op s ds (words digits) holds.knows Q o under show_body (w "pop" Stop ∷ []) own [] (Int (pos (i.room 1000))) (i.steps 1000 (further 1 left)) (further 1 left)
+      (subst (λ d'. Goes Op prints s ds (words digits) holds.knows aim o under (i.steps 1000 (further 1 left)) d' (state (show_body ∷ w "pop" Stop ∷ []) own)) empty
+      (goes_through Op prints s ds (words digits) holds.knows aim o under show_body (w "pop" Stop ∷ []) own [] (Int (pos (i.room 1000))) (i.steps 1000 (further 1 left)) (further 1 left)
       (prints.append d []) (prints.append d (i.text 1000))
       (λ o' under' lo lu g'. shows [] 999 (further 1 left) o' under' (let a = room.operands in let b = room.items in record { operands = omega arith; items = omega arith }) (omega arith) g')
-      (goes_on Op s ds (words digits) holds.knows Q o under room' 1 left (prints.append d (i.text 1000))
+      (goes_on Op prints s ds (words digits) holds.knows aim o under room' 1 left (prints.append d (i.text 1000))
       (state (w "pop" Stop ∷ []) (Obj (Int (pos (i.room 1000))) ∷ [])) (state [] []) refl
-      (finishes Op prints s ds digits holds Q left (prints.append d (i.text 1000)) o under g))))
+      (finishes Op prints s ds digits holds aim left (prints.append d (i.text 1000)) o under g))))
 
-  -- a place on the way that is known
-  abbrev There : ℕ → D → PsCore → ℕ → D → PsCore → Type 0
-  There n d c k d₁ c₁ = (k ≡ n) × (d₁ ≡ d) × (c₁ ≡ c)
+module _ {D : Type 0} (Op : Operates D) (prints : Printing Op) (s first : StoreState) (ds : List DictId) (digits : ArrayId) (d : D) (space : List ℕ) (defs : List StructDef) (t : CType) (type : DictId) (place : ℕ) (xs : List Showing) (i : Thing) (left : ℕ)
+    (operands o : List PsObj) (items under : List Item) where
+  pub printed : Holds s ds digits → Stays Op prints s ds first → Laid Op prints s first d space defs 63 t type place xs i → RoomFor 400 o under
+      → Are s operands (Obj (Dict type) ∷ Obj (Int (word place)) ∷ Key space ∷ []) → Frames s under items (print_body ∷ [])
+      → Comes Op prints.needs first (print_steps i left) d (core first ds (operands ++ o) items) ds left (prints.append d (shown defs t xs)) o under
+  printed holds stays laid room are frames =
+      let aim : Aim Op prints s ds = record { first = first; stays = stays; left = left; dialect = prints.append d (shown defs t xs); operands = o; items = under } in
+      (print_goes Op prints s ds digits d space holds aim type place i left o under room (laid_shows Op prints s ds digits holds aim d space defs 63 t type place xs i laid) (prints.append_none d)
+      (subst (λ x. Ends Op prints s ds aim left (prints.append d x) o under) (sym (laid_shown Op prints s first d space defs t type place xs i laid)) (ends_here Op prints s ds aim))
+      operands items are frames first (print_steps i left) 0 nothing (omega arith)).1
 
-  leads : (n n' : ℕ) (d₀ d' : D) (c c' : PsCore) → Passes Op (There n' d' c') n d₀ c → Leads Op n d₀ c n' d' c'
-  leads n n' d₀ d' c c' p r m d₂ c₂ other run =
-      let q : Passed Op (There n' d' c') r m d₂ c₂ = p r m d₂ c₂ other run in
-      subst (λ k. Runs Op k d' c' r m d₂ c₂) q.holds.0
-      (subst (λ e. Runs Op q.left e c' r m d₂ c₂) q.holds.1
-      (subst (λ x. Runs Op q.left q.dialect x r m d₂ c₂) q.holds.2 q.rest))
+-- ---- where no operator needs a unit
 
-pub printed : {D : Type 0} (Op : Operates D) (prints : Printing Op) (s : StoreState) (ds : List DictId) (digits : ArrayId) (d : D) (space : List ℕ) (defs : List StructDef) (t : CType) (type : DictId) (place : ℕ) (xs : List Showing) (i : Thing) (left : ℕ)
-    (operands o : List PsObj) (items under : List Item) → Holds s ds digits → Laid Op prints s d space defs 63 t type place xs i → RoomFor 400 o under
+module _ {D : Type 0} (Op : Operates D) (needs : D → PsCore → ℕ → Bool) (none_needs : (d : D) (c : PsCore) (op : ℕ) → needs d c op ≡ false) where
+  looked_same : (first now : StoreState) (j : ℕ) → Looked Op needs first now j → (now ≡ first) × (j ≡ 0)
+  looked_same _ _ _ nothing = (refl, refl)
+  looked_same _ _ _ (after d d' c c' op n k i j looked some operates settled sum) = absurd (true≢false (sym some ∙ none_needs d c op))
+
+  leads : (s : StoreState) (ds : List DictId) (n left : ℕ) (d d' : D) (operands o : List PsObj) (items under : List Item) → Comes Op needs s n d (core s ds operands items) ds left d' o under
+      → Leads Op n d (core s ds operands items) left d' (core s ds o under)
+  leads s ds n left d d' operands o items under comes r m d₂ c₂ other run = by_fare r m d₂ c₂ (comes r m d₂ c₂ other run)
+    where
+      by_fare : (r : Answer) (m : ℕ) (d₂ : D) (c₂ : PsCore) → Fares Op needs s ds left d' o under r m d₂ c₂ → Runs Op left d' (core s ds o under) r m d₂ c₂
+      by_fare _ _ _ _ (arrives r m d₂ c₂ now k j looked sum rest) =
+          let same = looked_same s now j looked in
+          subst (λ q. Runs Op q d' (core s ds o under) r m d₂ c₂) (let none = same.1 in omega (arith, sum))
+          (subst (λ q. Runs Op k d' (core q ds o under) r m d₂ c₂) same.0 rest)
+      by_fare _ _ _ _ (fails r m d₂ c₂ d₁ c₁ op k j f looked some met given) = absurd (true≢false (sym some ∙ none_needs d₁ c₁ op))
+      by_fare _ _ _ _ (starves m d₂ c₂ now j looked less) = let none = (looked_same s now j looked).1 in absurd (omega arith)
+
+-- a value is printed at once
+pub printed_at_once : {D : Type 0} (Op : Operates D) (prints : Printing Op) (s : StoreState) (ds : List DictId) (digits : ArrayId) (d : D) (space : List ℕ) (defs : List StructDef) (t : CType) (type : DictId) (place : ℕ) (xs : List Showing) (i : Thing) (left : ℕ)
+    (operands o : List PsObj) (items under : List Item) → ((d : D) (c : PsCore) (op : ℕ) → prints.needs d c op ≡ false) → Holds s ds digits → Laid Op prints s s d space defs 63 t type place xs i → RoomFor 400 o under
     → Are s operands (Obj (Dict type) ∷ Obj (Int (word place)) ∷ Key space ∷ []) → Frames s under items (print_body ∷ [])
     → Leads Op (print_steps i left) d (core s ds (operands ++ o) items) left (prints.append d (shown defs t xs)) (core s ds o under)
-printed {D} Op prints s ds digits d space defs t type place xs i left operands o items under holds laid room are frames =
-    let d' : D = prints.append d (shown defs t xs) in
-    let c' : PsCore = core s ds o under in
-    let Q : ℕ → D → PsCore → Type 0 = There Op prints s ds digits d space left d' c' in
-    leads Op prints s ds digits d space (print_steps i left) left d d' (core s ds (operands ++ o) items) c'
-    (print_goes Op prints s ds digits d space holds Q type place i left o under room (laid_shows Op prints s ds digits holds Q d space defs 63 t type place xs i laid) (prints.append_none d)
-    (subst (λ x. Passes Op Q left (prints.append d x) c') (sym (laid_shown Op prints s d space defs t type place xs i laid)) (passes_here Op Q left d' c' (refl, refl, refl)))
-    operands items are frames)
+printed_at_once {D} Op prints s ds digits d space defs t type place xs i left operands o items under none_needs holds laid room are frames =
+    leads Op prints.needs none_needs s ds (print_steps i left) left d (prints.append d (shown defs t xs)) (operands ++ o) o items under
+    (printed Op prints s s ds digits d space defs t type place xs i left operands o items under holds
+    (λ now j looked. subst (λ q. Keeps s ds q) (sym (looked_same Op prints.needs none_needs s now j looked).0) (keeps_same s ds)) laid room are frames)

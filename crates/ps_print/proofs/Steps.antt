@@ -142,9 +142,9 @@ struct_at_most c is a t = record {
   takes = t;
 }
 
-module _ {D : Type 0} (Op : Operates D) (prints : Printing Op) (s : StoreState) (d : D) (space : List ℕ) (defs : List StructDef) where
+module _ {D : Type 0} (Op : Operates D) (prints : Printing Op) (s first : StoreState) (d : D) (space : List ℕ) (defs : List StructDef) where
   mutual
-    pub laid_at_most : (k : ℕ) (t : CType) (type : DictId) (place : ℕ) (xs : List Showing) (i : Thing) → Laid Op prints s d space defs k t type place xs i → AtMost (item_cost k) i
+    pub laid_at_most : (k : ℕ) (t : CType) (type : DictId) (place : ℕ) (xs : List Showing) (i : Thing) → Laid Op prints s first d space defs k t type place xs i → AtMost (item_cost k) i
     laid_at_most _ _ _ _ _ _ (an_int k type place v h kind known) = int_at_most v (item_cost k) (cost_some k)
     laid_at_most _ _ _ _ _ _ (an_unsigned k type place v h kind known) = unsigned_at_most v (item_cost k) (cost_some k)
     laid_at_most _ _ _ _ _ _ (a_char k type place n x kind known told) = char_at_most (prints.char_text n) (item_cost k) (cost_some k)
@@ -155,7 +155,7 @@ module _ {D : Type 0} (Op : Operates D) (prints : Printing Op) (s : StoreState) 
     laid_at_most _ _ _ _ _ _ (an_array k b t n type item kind size place xs is c e a to count ik sized l1 l2 l3 l4 ls) =
         let all = each_at_most k t item size n place xs is ls in list_at_most (item_cost k) is all.0 (all.1 l4)
 
-    each_at_most : (k : ℕ) (t : CType) (item : DictId) (size n place : ℕ) (xs : List Showing) (is : List Thing) → EachLaid Op prints s d space defs k t item size n place xs is
+    each_at_most : (k : ℕ) (t : CType) (item : DictId) (size n place : ℕ) (xs : List Showing) (is : List Thing) → EachLaid Op prints s first d space defs k t item size n place xs is
         → AllAtMost (item_cost k) is × (1 ≤ n → (r : ℕ) → items_left is (suc r) ≤ r)
     each_at_most _ _ _ _ _ _ _ _ (none k t item size place) = (none_at_most (item_cost k), λ h. absurd (omega arith))
     each_at_most _ _ _ _ _ _ _ _ (more k t item size n place xs ys i is l ls) =
@@ -163,7 +163,7 @@ module _ {D : Type 0} (Op : Operates D) (prints : Printing Op) (s : StoreState) 
         let b = each_at_most k t item size n ((size + place) % 2 ^ 32) ys is ls in
         (more_at_most (item_cost k) i is a b.0, λ h. nonempty_takes (item_cost k) i is a b.0)
 
-    members_at_most : (k : ℕ) (ms : List Member) (members : ArrayId) (i place : ℕ) (xs : List Showing) (is : List Thing) → MembersLaid Op prints s d space defs k ms members i place xs is
+    members_at_most : (k : ℕ) (ms : List Member) (members : ArrayId) (i place : ℕ) (xs : List Showing) (is : List Thing) → MembersLaid Op prints s first d space defs k ms members i place xs is
         → MembersAtMost (item_cost k) is × (1 ≤ length is → (r : ℕ) → items_left is (suc r) ≤ r)
     members_at_most _ _ _ _ _ _ _ (no_member k members i place) = (no_member_at_most (item_cost k), λ h. absurd (omega arith))
     members_at_most _ _ _ _ _ _ _ (a_member k m ms members i place offset type xs ys thing is at l ls) =
@@ -172,5 +172,5 @@ module _ {D : Type 0} (Op : Operates D) (prints : Printing Op) (s : StoreState) 
         (more_members_at_most (item_cost k) thing is a b.0, λ h. nonempty_members_take (item_cost k) thing is a b.0)
 
   -- a whole value takes at most 7,951 steps for each of at most 1,000 items
-  pub print_at_most : (t : CType) (type : DictId) (place : ℕ) (xs : List Showing) (i : Thing) (left : ℕ) → Laid Op prints s d space defs 63 t type place xs i → print_steps i left ≤ left + 7951006
+  pub print_at_most : (t : CType) (type : DictId) (place : ℕ) (xs : List Showing) (i : Thing) (left : ℕ) → Laid Op prints s first d space defs 63 t type place xs i → print_steps i left ≤ left + 7951006
   print_at_most t type place xs i left l = let a = laid_at_most 63 t type place xs i l in let e = a.steps 999 (suc left) in omega arith

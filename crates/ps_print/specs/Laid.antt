@@ -16,7 +16,7 @@ use Rattle.c_show.specs.declared.held.Held.TheVariants as held
 use Rattle.c_show.specs.Printed.{Showing, Told, is_char, byte_of, leaf_text, string_text}
 use Rattle.ps_run.specs.Runs.{Operates}
 use Rattle.ps_terms.specs.Machine.{Obj, Key}
-use Rattle.ps_terms.specs.Printing.{word, Printing, HasKey}
+use Rattle.ps_terms.specs.Printing.{word, Printing, HasKey, Finds}
 use Rattle.ps_print.specs.Items.{Thing}
 use Rattle.ps_print.specs.Things.{Tail, Bare, Dangling, Strung, int_thing, unsigned_thing, char_thing, pointer_thing, string_thing, array_thing, struct_thing}
 
@@ -25,12 +25,28 @@ abbrev pub need : ℕ → ℕ
 need zero = 13
 need (suc k) = 6 + need k
 
+module _ {D : Type 0} (Op : Operates D) (prints : Printing Op) (first : StoreState) (d : D) where
+  -- `fetch` gives a value of a kind
+  abbrev pub Fetches : List ℕ → ℤ → List ℕ → ℤ → Type 0
+  Fetches space n kind v = Finds Op prints first d 6 (Key kind ∷ Obj (Int n) ∷ Key space ∷ []) (Int v ∷ []) []
+
+  -- `PutChars` appends a string, `PutPointer` the text of a pointer
+  abbrev pub PutsChars : List ℕ → ℤ → ℕ → List ℕ → Type 0
+  PutsChars space n count text = Finds Op prints first d 31 (Obj (Int (pos count)) ∷ Obj (Int n) ∷ Key space ∷ []) [] text
+
+  abbrev pub PutsPointer : ℤ → List ℕ → Type 0
+  PutsPointer n text = Finds Op prints first d 30 (Obj (Int n) ∷ []) [] text
+
+  -- `charrun` counts the characters where a pointer leads
+  abbrev pub Counts : ℤ → ℕ → Type 0
+  Counts n count = Finds Op prints first d 32 (Obj (Int n) ∷ []) (Int (pos count) ∷ []) []
+
 -- the text of a pointer to a type of a kind, and what follows it
-pub data PointerText {D : Type 0} {Op : Operates D} (prints : Printing Op) (d : D) (kind : List ℕ) (n : ℤ) : List ℕ → Tail → Type 0 where
-  bare : (text : List ℕ) → bytes_eq kind (codes "char") ≡ false → prints.pointer d n ≡ Some text → PointerText prints d kind n text Bare
-  dangling : (text : List ℕ) → bytes_eq kind (codes "char") ≡ true → prints.pointer d n ≡ Some text → prints.chars_from d n ≡ Some 0 → PointerText prints d kind n text Dangling
-  strung : (text string : List ℕ) (count : ℕ) → bytes_eq kind (codes "char") ≡ true → prints.pointer d n ≡ Some text → prints.chars_from d n ≡ Some (suc count)
-      → prints.chars d (codes "d") n (suc count) ≡ Some string → PointerText prints d kind n (text ++ (codes " " ++ string)) Strung
+pub data PointerText {D : Type 0} {Op : Operates D} (prints : Printing Op) (first : StoreState) (d : D) (kind : List ℕ) (n : ℤ) : List ℕ → Tail → Type 0 where
+  bare : (text : List ℕ) → bytes_eq kind (codes "char") ≡ false → PutsPointer Op prints first d n text → PointerText prints first d kind n text Bare
+  dangling : (text : List ℕ) → bytes_eq kind (codes "char") ≡ true → PutsPointer Op prints first d n text → Counts Op prints first d n 0 → PointerText prints first d kind n text Dangling
+  strung : (text string : List ℕ) (count : ℕ) → bytes_eq kind (codes "char") ≡ true → PutsPointer Op prints first d n text → Counts Op prints first d n (suc count)
+      → PutsChars Op prints first d (codes "d") n (suc count) string → PointerText prints first d kind n (text ++ (codes " " ++ string)) Strung
 
 -- a member of a struct, by its place in the array of members: an array of its name, its offset and its type
 pub record IsMember (s : StoreState) (members : ArrayId) (i offset : ℕ) (type : DictId) : Type 0 where
@@ -42,44 +58,45 @@ pub record IsMember (s : StoreState) (members : ArrayId) (i offset : ℕ) (type 
   pub small : offset < 2 ^ 32
 
 mutual
-  -- a value of a type that is at most k arrays and structs deep lies at a place: its leaves, and what is shown for it
-  pub data Laid {D : Type 0} (Op : Operates D) (prints : Printing Op) (s : StoreState) (d : D) (space : List ℕ) (defs : List StructDef) : ℕ → CType → DictId → ℕ → List Showing → Thing → Type 0 where
+  -- A value of a type that is at most k arrays and structs deep lies at a place: its leaves, and what is shown for it. What is known
+  -- of its types is in the one store; the operators give what they give, whatever look-ups make of the other.
+  pub data Laid {D : Type 0} (Op : Operates D) (prints : Printing Op) (s first : StoreState) (d : D) (space : List ℕ) (defs : List StructDef) : ℕ → CType → DictId → ℕ → List Showing → Thing → Type 0 where
     an_int : (k : ℕ) (type : DictId) (place v : ℕ) → v < 2 ^ 32 → HasKey s type (codes "kind") (Key (codes "int"))
-        → prints.value d space (word place) (codes "w") ≡ Some (word v) → Laid Op prints s d space defs k IntType type place (Told (held.Number v) ∷ []) (int_thing v)
+        → Fetches Op prints first d space (word place) (codes "w") (word v) → Laid Op prints s first d space defs k IntType type place (Told (held.Number v) ∷ []) (int_thing v)
     an_unsigned : (k : ℕ) (type : DictId) (place v : ℕ) → v < 2 ^ 32 → HasKey s type (codes "kind") (Key (codes "unsigned"))
-        → prints.value d space (word place) (codes "w") ≡ Some (word v) → Laid Op prints s d space defs k Unsigned type place (Told (held.Number v) ∷ []) (unsigned_thing v)
+        → Fetches Op prints first d space (word place) (codes "w") (word v) → Laid Op prints s first d space defs k Unsigned type place (Told (held.Number v) ∷ []) (unsigned_thing v)
     a_char : (k : ℕ) (type : DictId) (place : ℕ) (n : ℤ) (x : Showing) → HasKey s type (codes "kind") (Key (codes "char"))
-        → prints.value d space (word place) (codes "c") ≡ Some n → prints.char_text n ≡ leaf_text Char x → Laid Op prints s d space defs k Char type place (x ∷ []) (char_thing (prints.char_text n))
+        → Fetches Op prints first d space (word place) (codes "c") n → prints.char_text n ≡ leaf_text Char x → Laid Op prints s first d space defs k Char type place (x ∷ []) (char_thing (prints.char_text n))
     a_pointer : (k : ℕ) (b : Rc (Unit {0}) Global) (t : CType) (type target : DictId) (kind : List ℕ) (place : ℕ) (n : ℤ) (x : Showing) (text : List ℕ) (tail : Tail)
         → HasKey s type (codes "kind") (Key (codes "pointer")) → HasKey s type (codes "to") (Obj (Dict target)) → HasKey s target (codes "kind") (Key kind)
-        → prints.value d space (word place) (codes "p") ≡ Some n → PointerText prints d kind n text tail → text ≡ leaf_text (Pointer' b t) x
-        → Laid Op prints s d space defs k (Pointer' b t) type place (x ∷ []) (pointer_thing tail text)
+        → Fetches Op prints first d space (word place) (codes "p") n → PointerText prints first d kind n text tail → text ≡ leaf_text (Pointer' b t) x
+        → Laid Op prints s first d space defs k (Pointer' b t) type place (x ∷ []) (pointer_thing tail text)
     a_string : (k : ℕ) (b : Rc (Unit {0}) Global) (n : ℕ) (type item : DictId) (kind : List ℕ) (place : ℕ) (xs : List Showing) → bytes_eq kind (codes "char") ≡ true → length xs ≡ n
         → HasKey s type (codes "kind") (Key (codes "array")) → HasKey s type (codes "to") (Obj (Dict item)) → HasKey s type (codes "count") (Obj (Int (pos n)))
-        → HasKey s item (codes "kind") (Key kind) → prints.chars d space (word place) n ≡ Some (string_text (map byte_of xs))
-        → Laid Op prints s d space defs (suc k) (Array' b Char n) type place xs (string_thing (string_text (map byte_of xs)))
+        → HasKey s item (codes "kind") (Key kind) → PutsChars Op prints first d space (word place) n (string_text (map byte_of xs))
+        → Laid Op prints s first d space defs (suc k) (Array' b Char n) type place xs (string_thing (string_text (map byte_of xs)))
     an_array : (k : ℕ) (b : Rc (Unit {0}) Global) (t : CType) (n : ℕ) (type item : DictId) (kind : List ℕ) (size place : ℕ) (xs : List Showing) (is : List Thing)
         → is_char (Some t) ≡ false → bytes_eq kind (codes "char") ≡ false
         → HasKey s type (codes "kind") (Key (codes "array")) → HasKey s type (codes "to") (Obj (Dict item)) → HasKey s type (codes "count") (Obj (Int (pos n)))
         → HasKey s item (codes "kind") (Key kind) → HasKey s item (codes "size") (Obj (Int (word size)))
         → size < 2 ^ 32 → place < 2 ^ 32 → n < 2 ^ 31 → 1 ≤ n
-        → EachLaid Op prints s d space defs k t item size n place xs is → Laid Op prints s d space defs (suc k) (Array' b t n) type place xs (array_thing is)
+        → EachLaid Op prints s first d space defs k t item size n place xs is → Laid Op prints s first d space defs (suc k) (Array' b t n) type place xs (array_thing is)
     a_struct : (k number : ℕ) (type : DictId) (members : ArrayId) (executable : Bool) (place : ℕ) (xs : List Showing) (is : List Thing)
         → HasKey s type (codes "kind") (Key (codes "struct")) → HasKey s type (codes "members") (Obj (Array members executable))
         → length (elements_of s members) ≡ length is → place < 2 ^ 32 → length is < 2 ^ 31 → 1 ≤ length is
-        → MembersLaid Op prints s d space defs k (members_of defs number) members 0 place xs is → Laid Op prints s d space defs (suc k) (Struct number) type place xs (struct_thing is)
+        → MembersLaid Op prints s first d space defs k (members_of defs number) members 0 place xs is → Laid Op prints s first d space defs (suc k) (Struct number) type place xs (struct_thing is)
 
   -- so many of a type lie one after another
-  pub data EachLaid {D : Type 0} (Op : Operates D) (prints : Printing Op) (s : StoreState) (d : D) (space : List ℕ) (defs : List StructDef) : ℕ → CType → DictId → ℕ → ℕ → ℕ → List Showing → List Thing → Type 0 where
-    none : (k : ℕ) (t : CType) (item : DictId) (size place : ℕ) → EachLaid Op prints s d space defs k t item size 0 place [] []
+  pub data EachLaid {D : Type 0} (Op : Operates D) (prints : Printing Op) (s first : StoreState) (d : D) (space : List ℕ) (defs : List StructDef) : ℕ → CType → DictId → ℕ → ℕ → ℕ → List Showing → List Thing → Type 0 where
+    none : (k : ℕ) (t : CType) (item : DictId) (size place : ℕ) → EachLaid Op prints s first d space defs k t item size 0 place [] []
     more : (k : ℕ) (t : CType) (item : DictId) (size n place : ℕ) (xs ys : List Showing) (i : Thing) (is : List Thing)
-        → Laid Op prints s d space defs k t item place xs i → EachLaid Op prints s d space defs k t item size n ((size + place) % 2 ^ 32) ys is
-        → EachLaid Op prints s d space defs k t item size (suc n) place (xs ++ ys) (i ∷ is)
+        → Laid Op prints s first d space defs k t item place xs i → EachLaid Op prints s first d space defs k t item size n ((size + place) % 2 ^ 32) ys is
+        → EachLaid Op prints s first d space defs k t item size (suc n) place (xs ++ ys) (i ∷ is)
 
   -- the members of a struct from one on lie at their offsets
-  pub data MembersLaid {D : Type 0} (Op : Operates D) (prints : Printing Op) (s : StoreState) (d : D) (space : List ℕ) (defs : List StructDef) : ℕ → List Member → ArrayId → ℕ → ℕ → List Showing → List Thing → Type 0 where
-    no_member : (k : ℕ) (members : ArrayId) (i place : ℕ) → MembersLaid Op prints s d space defs k [] members i place [] []
+  pub data MembersLaid {D : Type 0} (Op : Operates D) (prints : Printing Op) (s first : StoreState) (d : D) (space : List ℕ) (defs : List StructDef) : ℕ → List Member → ArrayId → ℕ → ℕ → List Showing → List Thing → Type 0 where
+    no_member : (k : ℕ) (members : ArrayId) (i place : ℕ) → MembersLaid Op prints s first d space defs k [] members i place [] []
     a_member : (k : ℕ) (m : Member) (ms : List Member) (members : ArrayId) (i place offset : ℕ) (type : DictId) (xs ys : List Showing) (thing : Thing) (is : List Thing)
-        → IsMember s members i offset type → Laid Op prints s d space defs k m.ctype type ((place + offset) % 2 ^ 32) xs thing
-        → MembersLaid Op prints s d space defs k ms members (suc i) place ys is
-        → MembersLaid Op prints s d space defs k (m ∷ ms) members i place (xs ++ ys) (thing ∷ is)
+        → IsMember s members i offset type → Laid Op prints s first d space defs k m.ctype type ((place + offset) % 2 ^ 32) xs thing
+        → MembersLaid Op prints s first d space defs k ms members (suc i) place ys is
+        → MembersLaid Op prints s first d space defs k (m ∷ ms) members i place (xs ++ ys) (thing ∷ is)

@@ -6,9 +6,10 @@ use Rattle.ps_store.specs.declared.object.ArrayId.{ArrayId}
 use Rattle.ps_store.specs.declared.object.DictId.{DictId}
 use Rattle.ps_store.specs.declared.object.StringId.{StringId}
 use Rattle.ps_store.specs.StoreState.{StoreState}
-use Rattle.ps_store.specs.Store.{elements_of, bytes_of}
+use Rattle.ps_store.specs.Store.{elements_of}
 use Rattle.ps_step.specs.declared.item.Item.{Item}
 use Rattle.ps_step.specs.Keys.{named}
+use Rattle.ps_text.specs.Grown.{IsString}
 use Rattle.ps_terms.specs.Machine.{Obj, Dup, Pop, Exch, Index, Roll, Add, Sub, Eq, Lt', Acts, Branch, Branches, Does, Gives, Words}
 use Rattle.ps_terms.specs.Stands.{Knows}
 use Rattle.ps_print.specs.Prelude.{digits_body, signed_body, showint_body, showunsigned_body, showchar_body, showpointer_body, showarray_body, showstruct_body, show_body, items_body, members_body}
@@ -37,7 +38,7 @@ pub record Holds (s : StoreState) (ds : List DictId) (digits : ArrayId) : Type 0
   pub put_pointer : named s ds (codes "PutPointer") ≡ Some (Op 91)
   pub charrun : named s ds (codes "charrun") ≡ Some (Op 93)
   pub put : named s ds (codes "Put") ≡ Some (Op 89)
-  pub digit : (r : ℕ) → r < 10 → (t : StringId) × (slice_get (elements_of s digits) r ≡ Some (Str t false)) × (bytes_of s t ≡ (48 + r) ∷ [])
+  pub digit : (r : ℕ) → r < 10 → (t : StringId) × (slice_get (elements_of s digits) r ≡ Some (Str t false)) × IsString s t ((48 + r) ∷ [])
 
 -- room for so many calls within one another
 pub record RoomFor (k : ℕ) (o : List PsObj) (under : List Item) : Type 0 where
