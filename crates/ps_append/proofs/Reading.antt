@@ -51,6 +51,10 @@ module _ {R : Type 0} where
   fault_read s t p n m old LinkFault e h = h
   fault_read s t p n m old (BadReply frame) e h = h
 
+  -- there is no room for a byte
+  pub no_room : (s t : Seen R) (p : Place) (n v : ℕ) (old new : List ℕ) → Fetches s p Byte (Ok v) t → ReadsBytes (λ b. bytes_from n b p) old s (Err (Ps NoMemory)) new t
+  no_room s t p n v old new h = h.0
+
   -- a NUL
   pub end_read : (s t : Seen R) (p : Place) (n m v : ℕ) (old : List ℕ) → n ≡ suc m → Fetches s p Byte (Ok v) t → (v % 256 == 0) ≡ true → ReadsBytes (λ b. bytes_from n b p) old s (Ok tt) old t
   end_read s t p n m v old e h z = (
@@ -90,7 +94,7 @@ module _ {R : Type 0} where
     )
     more_read (Err (Ps (Error x))) k =
         (same_on s t u h.0 k.0, record { holds = λ b r y. read_on b r y ∙ failed (bytes_from m b next) x (k.1.holds b r (h.0.keeps b r y)) })
-    more_read (Err (Ps NoMemory)) k = tt
+    more_read (Err (Ps NoMemory)) k = same_on s t u h.0 k
     more_read (Err (Ps Spent)) k = k
     more_read (Err (Ps Link)) k = k
     more_read (Err (Broken LinkFault)) k = subst (λ f. Rose f u.faults) h.0.faults k
@@ -116,10 +120,14 @@ module _ {R : Type 0} where
       chars_appended bytes k =
           (k.0, λ b r h. asked b ∙ ap (λ (g : Given). g >>= λ bs. Ok (out ++ string_text bs, with_operands c (drop 3 c.operands))) (plain (bytes_from n b p) bytes (k.1.holds b r h)))
 
+      -- there is no room for the text
+      pub chars_without_room : (bytes out' : List ℕ) (c' : PsCore) → ReadsBytes (λ b. bytes_from n b p) [] s (Ok tt) bytes t → AppendsChars out s c (Err (Ps NoMemory)) out' t c'
+      chars_without_room bytes out' c' k = k.0
+
       pub chars_troubled : (bytes : List ℕ) (trouble : Trouble) → ReadsBytes (λ b. bytes_from n b p) [] s (Err trouble) bytes t → AppendsChars out s c (Err trouble) out t c
       chars_troubled bytes (Ps (Error x)) k =
           (k.0, refl, refl, λ b r h. asked b ∙ ap (λ (g : Given). g >>= λ bs. Ok (out ++ string_text bs, with_operands c (drop 3 c.operands))) (k.1.holds b r h))
-      chars_troubled bytes (Ps NoMemory) k = tt
+      chars_troubled bytes (Ps NoMemory) k = k
       chars_troubled bytes (Ps Spent) k = k
       chars_troubled bytes (Ps Link) k = k
       chars_troubled bytes (Broken LinkFault) k = k

@@ -47,18 +47,19 @@ appending_chars out b c = string_place c >>= λ a. bytes_from a.1 b a.0 >>= λ b
 abbrev pub ReadsBytes : {R : Type 0} → (Bytes → Result (List ℕ) PsError) → List ℕ → Seen R → Result (Unit {0}) Trouble → List ℕ → Seen R → Type 0
 ReadsBytes f old s (Ok x) new s' = Same s s' × OnTold s (λ b. (f b >>= λ bs. Ok (old ++ bs)) ≡ Ok new)
 ReadsBytes f old s (Err (Ps (Error e))) new s' = Same s s' × OnTold s (λ b. f b ≡ Err e)
-ReadsBytes f old s (Err (Ps NoMemory)) new s' = Unit {0}
+ReadsBytes f old s (Err (Ps NoMemory)) new s' = Same s s'
 ReadsBytes f old s (Err (Ps Spent)) new s' = ⊥
 ReadsBytes f old s (Err (Ps Link)) new s' = ⊥
 ReadsBytes f old s (Err (Broken LinkFault)) new s' = Rose s.faults s'.faults
 ReadsBytes f old s (Err (Broken (BadReply frame))) new s' = Untold s s'
 ReadsBytes f old s (Err (Broken (Outside p))) new s' = ⊥
 
--- The string was appended. An error leaves the text and the state as they were, and a reading changes nothing.
+-- The string was appended. An error leaves the text and the state as they were. A reading changes no byte, also where memory runs
+-- out.
 abbrev pub AppendsChars : {R : Type 0} → List ℕ → Seen R → PsCore → Result (Unit {0}) Trouble → List ℕ → Seen R → PsCore → Type 0
 AppendsChars {R} out s c (Ok x) out' s' c' = Same s s' × ((b : Bytes) (r : R) → s.tells b r → appending_chars out b c ≡ Ok (out', c'))
 AppendsChars {R} out s c (Err (Ps (Error e))) out' s' c' = Same s s' × (out' ≡ out) × (c' ≡ c) × ((b : Bytes) (r : R) → s.tells b r → appending_chars out b c ≡ Err e)
-AppendsChars out s c (Err (Ps NoMemory)) out' s' c' = Unit {0}
+AppendsChars out s c (Err (Ps NoMemory)) out' s' c' = Same s s'
 AppendsChars out s c (Err (Ps Spent)) out' s' c' = ⊥
 AppendsChars out s c (Err (Ps Link)) out' s' c' = ⊥
 AppendsChars out s c (Err (Broken LinkFault)) out' s' c' = Rose s.faults s'.faults

@@ -17,7 +17,7 @@ use ps_step::values::count_of;
 use ps_words::word_in;
 
 /// Reads the bytes from a place on up to the first NUL, at most so many, and adds them. It is as deep as it reads bytes.
-#[tactic(auto, using(crate::proofs::Reading::none_read, crate::proofs::Reading::fault_read, crate::proofs::Reading::end_read, crate::proofs::Reading::more_read))]
+#[tactic(auto, using(crate::proofs::Reading::none_read, crate::proofs::Reading::fault_read, crate::proofs::Reading::end_read, crate::proofs::Reading::no_room, crate::proofs::Reading::more_read))]
 fn read_bytes<M: AbsMem>(
     memory: &mut M,
     place: Place,
@@ -62,7 +62,7 @@ pub fn string_place(core: &PsCore) -> Result<(Place, u32), PsError>
 
 /// `PutChars`: the string at a place, of at most so many bytes. rangecheck comes where a byte of it is outside. An error leaves
 /// all as it was.
-#[tactic(auto, using(crate::proofs::Reading::unasked, crate::proofs::Reading::chars_appended, crate::proofs::Reading::chars_troubled))]
+#[tactic(auto, using(crate::proofs::Reading::unasked, crate::proofs::Reading::chars_appended, crate::proofs::Reading::chars_without_room, crate::proofs::Reading::chars_troubled))]
 pub fn put_chars<M: AbsMem>(
     core: &mut PsCore,
     memory: &mut M,

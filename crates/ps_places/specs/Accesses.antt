@@ -86,12 +86,18 @@ abbrev pub troubled : MemFault → Trouble
 troubled (Outside p) = Ps (Error RangeCheck)
 troubled other = Broken other
 
+-- no fault came, and what was told still is, but for what the cell holds
+pub record ButCell {R : Type 0} (s s' : Seen R) : Type 0 where
+  pub faults : s'.faults ≡ s.faults
+  pub keeps : (b : Bytes) (r : R) → s.tells b r → (cell : Option ℕ) × s'.tells (record b { cell = cell }) r
+
 -- The operator did what the definition makes of the bytes that are told. An error leaves the bytes and the state as they were.
--- Where the link failed, or a bad reply came, and where memory ran out, nothing is said of the state.
+-- Where memory ran out no byte of a target changed. Of the interpreter's state nothing is said then, nor where the link failed
+-- or a bad reply came.
 abbrev pub Over : {R : Type 0} → (Bytes → PsCore → Act) → Seen R → PsCore → Result (Unit {0}) Trouble → Seen R → PsCore → Type 0
 Over {R} act s c (Ok x) s' c' = (s'.faults ≡ s.faults) × ((b : Bytes) (r : R) → s.tells b r → (b' : Bytes) × s'.tells b' r × (act b c ≡ Ok (b', c')))
 Over {R} act s c (Err (Ps (Error e))) s' c' = Same s s' × (c' ≡ c) × ((b : Bytes) (r : R) → s.tells b r → act b c ≡ Err e)
-Over act s c (Err (Ps NoMemory)) s' c' = Unit {0}
+Over act s c (Err (Ps NoMemory)) s' c' = ButCell s s'
 Over act s c (Err (Ps Spent)) s' c' = ⊥
 Over act s c (Err (Ps Link)) s' c' = ⊥
 Over act s c (Err (Broken LinkFault)) s' c' = Rose s.faults s'.faults
