@@ -14,6 +14,7 @@ after_part b b' v (Some w) e = some_is (record b { cell = Some v }) b' e
 after_part b b' v None e = absurd (let k = e in cc)
 
 after_store : (b b' : Bytes) (v : ℕ) → stored b Immediate 0 Word v ≡ Some b' → b' ≡ record b { cell = Some v }
+unfolding stored
 after_store b b' v e = after_part b b' v (cell_at b 0) e
 
 -- no other byte changes

@@ -134,7 +134,6 @@ fn immediate_value(core: &PsCore) -> Result<u32, PsError>
 
 /// `Immediate`: the cell's place, where the value is put. An error leaves all as it was. Where memory runs out the cell may hold the
 /// value.
-#[tactic(auto, using(crate::proofs::Cells::only_cell))]
 pub fn immediate<M: AbsMem>(core: &mut PsCore, memory: &mut M) -> Result<(), Trouble>
     ensures does { Over placing_value (M.seen memory.old) core.old result (M.seen memory.new) core.new }
     ensures closed { closed_part core.new.store ≡ closed_part core.old.store }
