@@ -1,5 +1,5 @@
 -- What operators do where there is no target.
-use Rattle.std.proofs.Common.{◌≡◌, ◌≢◌, inl, inr, ℕ, ℤ, zero, suc, ◌≤◌, true, false, List, [], ◌∷◌, ◌++◌, drop, option_map, Option, Some, None, Result, Ok, Err, refl, sym, ap, ◌∙◌, subst, arith}
+use Rattle.std.proofs.Common.{◌≡◌, ℕ, ℤ, zero, suc, ◌≤◌, true, false, List, [], ◌∷◌, ◌++◌, drop, option_map, Option, Some, None, Result, Ok, Err, refl, sym, ap, ◌∙◌, subst, arith}
 use Rattle.ldb_edge.specs.Count.{Rose}
 use Rattle.ldb_words.specs.Word.{sum_of}
 use Rattle.ldb_words.specs.declared.kinds.Kind.{Kind}
@@ -39,7 +39,7 @@ use Rattle.dialect_model.specs.Acting.{with_state, with_told, with_text, space_b
 use Rattle.dialect_model.specs.Operators.{act}
 use Rattle.dialect_model.specs.Forcing as model
 use Rattle.ps_bare.proofs.Acts.{acts_2, acts_5, acts_6, acts_7, acts_23, acts_24, acts_25, acts_26, acts_30, acts_31, acts_32, acts_past}
-use Rattle.ps_bare.specs.Bare.{bare, ActsAlone, ActsBare, OperatesBare, IsOnObject, quiet}
+use Rattle.ps_bare.specs.Bare.{bare, ActsAlone, ActsBare, OperatesBare, quiet}
 
 -- an operator on the state alone
 pub did_alone : (n : ℕ) (d : Dial) (c c' : PsCore) (r : Answer) (made : Made) → act n d c ≡ with_state d made → Does r c c' made → ActsAlone n d c r c'
@@ -229,10 +229,6 @@ words_bare op cell c r c' h = alone_bare op cell c r c' (h (bare cell))
 
 pub past_bare : (op cell : ℕ) (c : PsCore) → 33 ≤ op → ActsBare op cell c (Err (Error Undefined)) cell c
 past_bare op cell c h = (acts_past (bare cell) c op h, refl, refl)
-
-pub last_on_object : (op : ℕ) → IsOnObject op → op ≢ 23 → op ≢ 24 → op ≢ 25 → op ≢ 26 → op ≢ 27 → op ≡ 32
-last_on_object op (inl h) not_23 not_24 not_25 not_26 not_27 = omega (arith, h.0, h.1, not_23, not_24, not_25, not_26, not_27)
-last_on_object op (inr h) not_23 not_24 not_25 not_26 not_27 = h
 
 -- ---- what a dialect's operator does
 

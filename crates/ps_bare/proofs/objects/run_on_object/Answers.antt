@@ -1,8 +1,8 @@
-use Rattle.std.proofs.Common.{false}
+use Rattle.std.proofs.Common.{◌≡◌, false, inl, inr, arith}
 use Rattle.ps_symbols.specs.Naming as names
 use Rattle.ps_bare.specs.Bare.{bare}
 use Rattle.ps_bare.proofs.Acts.{acts_27}
-use Rattle.ps_bare.proofs.Acting.{did, at_number, last_on_object}
+use Rattle.ps_bare.proofs.Acting.{did, at_number}
 use Rattle.ps_bare.proofs.objects.run_on_object.Goals as goal
 
 pub returns-in-23-clause-acts : goal.returns-in-23-clause-acts
@@ -25,5 +25,5 @@ returns-in-27-clause-acts c =
 
 pub returns-in_default-clause-acts : goal.returns-in_default-clause-acts
 returns-in_default-clause-acts c =
-    let last = last_on_object c.args.op c.requires c.in_default.not-23 c.in_default.not-24 c.in_default.not-25 c.in_default.not-26 c.in_default.not-27 in
+    let last : c.args.op ≡ 32 = elim c.requires [ inl h ↦ omega (arith, h.0, h.1) | inr h ↦ h ] in
     λ cell. at_number 32 c.args.op cell c.args.core.now c.measure_run.result cell c.measure_run.new.core last (c.measure_run.ensures.acts cell)

@@ -42,5 +42,5 @@ returns-in-6-clause-acts c = at_number 6 c.args.op c.args.memory.now.cell c.args
 
 pub returns-in_default-clause-acts : goal.returns-in_default-clause-acts
 returns-in_default-clause-acts c =
-    let last : c.args.op ≡ 7 = omega (arith, c.requires, c.in_default.not-0, c.in_default.not-1, c.in_default.not-2, c.in_default.not-3, c.in_default.not-4, c.in_default.not-5, c.in_default.not-6) in
+    let last : c.args.op ≡ 7 = omega arith in
     at_number 7 c.args.op c.args.memory.now.cell c.args.core.now c.store_bare.result c.store_bare.new.memory.cell c.store_bare.new.core last c.store_bare.ensures.acts

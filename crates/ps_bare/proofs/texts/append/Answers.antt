@@ -19,5 +19,5 @@ returns-in-30-clause-acts c =
 
 pub returns-in_default-clause-acts : goal.returns-in_default-clause-acts
 returns-in_default-clause-acts c =
-    let last : c.args.op ≡ 31 = omega (arith, c.requires.from, c.requires.to, c.in_default.not-28, c.in_default.not-29, c.in_default.not-30) in
+    let last : c.args.op ≡ 31 = omega arith in
     at_number 31 c.args.op c.args.memory.now.cell c.args.core.now c.put_characters.result c.put_characters.new.memory.cell c.put_characters.new.core last c.put_characters.ensures.acts

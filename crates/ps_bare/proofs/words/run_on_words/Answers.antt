@@ -63,5 +63,5 @@ returns-in-21-clause-acts c =
 
 pub returns-in_default-clause-acts : goal.returns-in_default-clause-acts
 returns-in_default-clause-acts c =
-    let last : c.args.op ≡ 22 = omega (arith, c.requires.from, c.requires.to, c.in_default.not-8, c.in_default.not-9, c.in_default.not-10, c.in_default.not-11, c.in_default.not-12, c.in_default.not-13, c.in_default.not-14, c.in_default.not-15, c.in_default.not-16, c.in_default.not-17, c.in_default.not-18, c.in_default.not-19, c.in_default.not-20, c.in_default.not-21) in
+    let last : c.args.op ≡ 22 = omega arith in
     λ d. at_number_alone 22 c.args.op d c.args.core.now c.compare_unsigned.result c.compare_unsigned.new.core last (did_alone 22 d c.args.core.now c.compare_unsigned.new.core c.compare_unsigned.result (below c.args.core.now) (acts_22 d c.args.core.now) c.compare_unsigned.ensures.does)
