@@ -143,14 +143,14 @@ forces_over n d c u text given m d' c' h =
 
 pub forces_unit : (u : ℕ) (c : PsCore) (h : IsDeferred c.store u) (n : ℕ) (d : NoTarget) (given : Result PsObj PsFault) (answer : Answer) (m : ℕ) (d' : NoTarget) (c' : PsCore)
     → d.cell ≡ 0 → answer ≡ model.answer_of given → answer ≢ Err NoMemory → Forces Op' n d c h.unit model.FUNCTIONS (Str h.text true) given m d' c' → model.ForcesUnit u c n answer m c'
-forces_unit u c h n d given answer m d' c' zero e other f =
+forces_unit u c h n d given answer m d' c' begins e other f =
     record {
       unit = h.unit;
       text = Str h.text true;
       stands = h.stands;
       given = given;
       dial = dial_of d';
-      forces = subst (λ cell. Forces model.NoTarget n (bare cell) c h.unit model.FUNCTIONS (Str h.text true) given m (dial_of d') c') zero (forces_over n d c h.unit (Str h.text true) given m d' c' f);
+      forces = subst (λ cell. Forces model.NoTarget n (bare cell) c h.unit model.FUNCTIONS (Str h.text true) given m (dial_of d') c') begins (forces_over n d c h.unit (Str h.text true) given m d' c' f);
       answers = e;
       found_memory = other;
     }
