@@ -1,5 +1,5 @@
 -- Where an lvalue stands in a target, and how it is read.
-use Rattle.std.specs.Prelude.{◌≡◌, ◌≢◌, ◌⊎◌, ◌≤◌, ◌++◌, take, map, ℕ, ℤ, ◌+ℤ◌, zero, suc, pos, Bool, true, false, List, [], ◌∷◌, length, codes, slice_get, Option, Some, None, Ok, Err}
+use Rattle.std.specs.Prelude.{◌≡◌, ◌≢◌, ◌⊎◌, ◌≤◌, ◌++◌, take, ℕ, ℤ, ◌+◌, ◌+ℤ◌, zero, suc, pos, Bool, true, false, List, [], ◌∷◌, length, codes, slice_get, Option, Some, None, Result, Ok, Err}
 use Rattle.ldb_words.specs.Word.{sum_of}
 use Rattle.ldb_words.specs.declared.kinds.Kind.{Kind}
 use Rattle.ldb_words.specs.declared.kinds.Undef.{Undef}
@@ -8,7 +8,9 @@ use Rattle.c_tree.specs.declared.types.StructDef.{StructDef}
 use Rattle.c_tree.specs.declared.types.Leaf.{Leaf}
 use Rattle.ps_store.specs.declared.object.DictId.{DictId}
 use Rattle.ps_store.specs.declared.object.PsObj.{PsObj}
+use Rattle.ps_store.specs.StoreState.{StoreState}
 use Rattle.ps_step.specs.Results as results
+use Rattle.ps_step.specs.declared.fault.PsError.{PsError}
 use Rattle.ps_step.specs.declared.fault.PsError.TheVariants.{RangeCheck}
 use Rattle.ps_step.specs.declared.fault.PsFault.TheVariants.{NoMemory}
 use Rattle.ps_step.specs.declared.machine.PsCore.{PsCore}
@@ -18,13 +20,13 @@ use Rattle.frame_bytes.specs.declared.frame.Place.{Place}
 use Rattle.frame_bytes.specs.declared.frame.Frame.{Frame}
 use Rattle.frame_bytes.specs.Bytes.{Bytes, fetched_at}
 use Rattle.table_model.specs.declared.found.Found.{Found}
-use Rattle.table_model.specs.Reading.{entry}
-use Rattle.table_model.specs.Types.{LeafRow, leaves_of, are_leaves}
+use Rattle.table_model.specs.Reading.{Walked, entry}
+use Rattle.table_types.specs.Offsets.{offset_of, kind_live, if_offset, checked_found}
 use Rattle.table_model.specs.Objects.{found_at}
-use Rattle.dialect_model.specs.Dial.{Dial, Target, InFrame, Acted, target_bytes}
-use Rattle.dialect_model.specs.Words.{bits_of}
-use Rattle.dialect_model.specs.Memory.{text_of, space_named}
-use Rattle.dialect_model.specs.Objects.{address_at}
+use Rattle.ps_words.specs.Operators.{word_in}
+use Rattle.ps_places.specs.Places.{text_of, space_named}
+use Rattle.ps_pointers.specs.Pointers.{address_at}
+use Rattle.dialect_model.specs.Dial.{Dial, Target, InFrame, target_bytes}
 use Rattle.dialect_model.specs.Operating.{Operates}
 use Rattle.dialect_model.specs.TableUse.{TableUse, Refused, Kind as Error, Eval, gives, fails, refuses, ◌>>=◌}
 use Rattle.dialect_model.specs.Running.{Run, beginning, ready, with_cell, procedure}
@@ -67,13 +69,13 @@ abbrev pub only_place : List PsObj → Option (PsObj × PsObj)
 only_place (at ∷ space ∷ []) = Some (space, at)
 only_place xs = None
 
-abbrev pub place_in : PsCore → PsObj × PsObj → Acted Place
+abbrev pub place_in : PsCore → PsObj × PsObj → Result Place PsError
 place_in c p =
-    results.◌>>=◌ (text_of c.store p.0) (λ text. results.◌>>=◌ (bits_of p.1) (λ n. results.◌>>=◌ (space_named text) (λ space. Ok (record { space = space; at = n }))))
+    results.◌>>=◌ (text_of c.store p.0) (λ text. results.◌>>=◌ (word_in p.1) (λ n. results.◌>>=◌ (space_named text) (λ space. Ok (record { space = space; at = n }))))
 
-abbrev or_disturbed : {A : Type 0} → Acted A → Means A
+abbrev or_disturbed : {A : Type 0} → Result A PsError → Means A
 or_disturbed (Ok x) = gives x
-or_disturbed (Err halt) = refuses Disturbed
+or_disturbed (Err e) = refuses Disturbed
 
 abbrev pub lvalue_left : Run → Option (PsObj × PsObj) → Means Lvalue
 lvalue_left run None = refuses Disturbed
@@ -146,18 +148,22 @@ abbrev pub if_live : Bool → Means (Unit {0})
 if_live true = gives tt
 if_live false = pointer
 
-abbrev row_of : Leaf → LeafRow
-row_of l = record { at = l.at; kind = l.kind }
+-- whether some leaves are live behind where a pointer leads; the first that is not decides
+abbrev leaf_live : StoreState → Option Found → Leaf → Walked Bool
+leaf_live s found l = if_offset (offset_of found + l.at) (kind_live s found l.kind (offset_of found + l.at))
+
+abbrev leaves_live : StoreState → Option Found → List Leaf → Walked Bool
+leaves_live s found [] = Ok true
+leaves_live s found (l ∷ ls) = results.◌>>=◌ (leaf_live s found l) (λ b. elim b [ false ↦ Ok false | true ↦ leaves_live s found ls ])
+
+abbrev all_live : List Leaf → Option Found → StoreState → Walked Bool
+all_live ls found s = results.◌>>=◌ (checked_found s found) (λ u. leaves_live s found ls)
 
 -- An access through a pointer needs live leaves: all of them in the one object to which the pointer belongs. A named place is
 -- read by its bytes.
 abbrev pub live_at : Scene → Lvalue → List Leaf → Means (Unit {0})
 live_at sc (Named p cell) ls = gives tt
-live_at sc (Pointed p) [] = gives tt
-live_at sc (Pointed p) (l ∷ ls) = do
-  o ← live sc p
-  all ← looking (λ s. leaves_of s o.ctype)
-  if_live (are_leaves all o.at (map row_of (l ∷ ls)))
+live_at sc (Pointed p) ls = object_of sc p >>= λ found. looking (all_live ls found) >>= if_live
 
 -- a pointer moved by some bytes; the sum is exact, and stays within the object
 abbrev pub moved : Scene → (address : ℕ) → ℤ → Means ℕ

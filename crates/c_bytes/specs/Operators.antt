@@ -13,7 +13,7 @@ use Rattle.c_operators.specs.Bits.{low_byte}
 use Rattle.c_operators.specs.Arithmetic.{truth, number_of, on_ints, on_unsigned, on_integer, operating_type}
 use Rattle.ps_step.specs.declared.fault.PsError.{PsError}
 use Rattle.ps_step.specs.Arithmetic.{quotient}
-use Rattle.dialect_model.specs.Objects.{offsets_in_one}
+use Rattle.ps_pointers.specs.Pointers.{offsets_in_one}
 use Rattle.dialect_model.specs.TableUse.{Kind, gives, fails, refuses, ◌>>=◌}
 use Rattle.c_bytes.specs.Lvalues.{Reason, IllTyped, Means, Scene, live, or_pointer, moved}
 

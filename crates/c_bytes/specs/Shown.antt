@@ -20,9 +20,9 @@ use Rattle.ps_step.specs.Values.{as_count}
 use Rattle.frame_bytes.specs.declared.frame.Space.TheVariants.{Memory}
 use Rattle.frame_bytes.specs.Bytes.{fetched}
 use Rattle.table_model.specs.declared.found.Found.{Found}
-use Rattle.table_model.specs.Types.{leaves_of}
-use Rattle.dialect_model.specs.Objects.{byte_run}
-use Rattle.dialect_model.specs.Printing.{hex_text, activation_text, MOST_READ}
+use Rattle.ps_append.specs.Characters.{MOST_READ}
+use Rattle.table_types.specs.Offsets.{byte_run}
+use Rattle.ps_leaves.specs.Forms.{hex_text, activation_text}
 use Rattle.dialect_model.specs.TableUse.{Kind as Error, gives, fails, ◌>>=◌}
 use Rattle.dialect_model.specs.Near.{looking}
 use Rattle.c_bytes.specs.Lvalues.{Means, Scene, object_of, or_range, bytes_with}
@@ -86,7 +86,7 @@ module _ (sc : Scene) where
 
   abbrev pub string_of : (to_chars : Bool) → Found → Means (Option (List ℕ))
   string_of false o = gives None
-  string_of true o = looking (λ s. leaves_of s o.ctype) >>= λ ls. string_at (sum_of o.base o.at) (byte_run ls o.at)
+  string_of true o = looking (λ s. byte_run s (Some o)) >>= string_at (sum_of o.base o.at)
 
   -- ---- leaves
 

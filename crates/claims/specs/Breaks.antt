@@ -4,15 +4,17 @@ use Rattle.ldb_words.specs.declared.kinds.Kind.TheVariants.{Word}
 use Rattle.ps_step.specs.declared.fault.PsError.TheVariants.{RangeCheck}
 use Rattle.ps_store.specs.StoreState.{StoreState}
 use Rattle.frame_bytes.specs.declared.frame.Space.TheVariants.{Memory}
-use Rattle.frame_bytes.specs.Bytes.{Bytes, fetched, stored}
+use Rattle.frame_bytes.specs.Bytes.{Bytes, stored}
 use Rattle.table_model.specs.Reading.{Walked}
 use Rattle.table_model.specs.Rows.{PointRow}
 use Rattle.table_model.specs.Places.{spot_point, function_point, all_points}
 use Rattle.dialect_model.specs.TableUse.{Kind, Looks, gives, fails, refuses, ◌>>=◌}
+use Rattle.break_plant.specs.Planted as planted
+use Rattle.break_plant.specs.Planted.{noop_of, break_of}
 use Rattle.c_session.specs.declared.command.Spot.{Spot}
 use Rattle.c_session.specs.declared.command.Spot.TheVariants.{Line, Func}
 use Rattle.c_session.specs.Commands.{NoPlace}
-use Rattle.claims.specs.Side.{SideState, Change, OnSide, words_of, memory_of, with_memory, has, without}
+use Rattle.claims.specs.Side.{SideState, Change, OnSide, memory_of, with_memory, has, without}
 use Rattle.claims.specs.Lines.{place_text}
 
 -- ---- a word of a target
@@ -23,7 +25,7 @@ or_range None = fails (Kind RangeCheck)
 or_range (Some x) = gives x
 
 abbrev pub word_at : SideState → (address : ℕ) → Option ℕ
-word_at a at = fetched (memory_of a) Memory at Word
+word_at a at = planted.word_at (memory_of a) at
 
 abbrev with_bytes : SideState → Option Bytes → Option SideState
 with_bytes a None = None
@@ -45,11 +47,11 @@ or_no_place (Some x) = gives x
 
 -- the break word goes where a no-op stands
 abbrev pub planted_if : SideState → PointRow → (is_no_op : Bool) → OnSide SideState
-planted_if a p true = or_range (with_word a p.at (words_of a).break_word)
+planted_if a p true = or_range (with_word a p.at (break_of a.machine.target))
 planted_if a p false = refuses NoPlace
 
 abbrev pub planting : SideState → PointRow → OnSide SideState
-planting a p = or_range (word_at a p.at) >>= λ w. planted_if a p (nat_eq w (words_of a).no_op)
+planting a p = or_range (word_at a p.at) >>= λ w. planted_if a p (nat_eq w (noop_of a.machine.target))
 
 -- a breakpoint that is set already is answered again, and changes nothing
 abbrev pub broken_at : SideState → PointRow → (is_set : Bool) → OnSide SideState
@@ -65,7 +67,7 @@ breaking a spot = do
 
 -- the no-op is put back, whatever stands there
 abbrev pub cleared_at : SideState → PointRow → (is_set : Bool) → OnSide SideState
-cleared_at a p true = or_range (with_word a p.at (words_of a).no_op) >>= λ a'. gives (record a' { breaks = without p a'.breaks })
+cleared_at a p true = or_range (with_word a p.at (noop_of a.machine.target)) >>= λ a'. gives (record a' { breaks = without p a'.breaks })
 cleared_at a p false = refuses NoPlace
 
 abbrev pub clearing : SideState → Spot → OnSide Change
@@ -80,11 +82,11 @@ clearing a spot = do
 -- a point that holds another word than the no-op is passed over
 abbrev pub step_word_at : SideState → PointRow → (is_no_op : Bool) → OnSide SideState
 step_word_at a p false = gives a
-step_word_at a p true = or_range (with_word a p.at (words_of a).break_word) >>= λ a'. gives (record a' { step_words = a'.step_words ++ p ∷ [] })
+step_word_at a p true = or_range (with_word a p.at (break_of a.machine.target)) >>= λ a'. gives (record a' { step_words = a'.step_words ++ p ∷ [] })
 
 abbrev pub step_words_at : List PointRow → SideState → OnSide SideState
 step_words_at [] a = gives a
-step_words_at (p ∷ ps) a = or_range (word_at a p.at) >>= λ w. step_word_at a p (nat_eq w (words_of a).no_op) >>= step_words_at ps
+step_words_at (p ∷ ps) a = or_range (word_at a p.at) >>= λ w. step_word_at a p (nat_eq w (noop_of a.machine.target)) >>= step_words_at ps
 
 -- all points are read first
 abbrev pub plant_for_step : SideState → OnSide SideState
@@ -98,7 +100,7 @@ or_same a (Some a') = a'
 
 abbrev pub words_removed : List PointRow → SideState → SideState
 words_removed [] a = a
-words_removed (p ∷ ps) a = words_removed ps (or_same a (with_word a p.at (words_of a).no_op))
+words_removed (p ∷ ps) a = words_removed ps (or_same a (with_word a p.at (noop_of a.machine.target)))
 
 abbrev pub remove_step_words : SideState → SideState
 remove_step_words a = record (words_removed a.step_words a) { step_words = [] }

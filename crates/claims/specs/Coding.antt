@@ -14,7 +14,8 @@ use Rattle.ps_step.specs.declared.machine.PsCore.{PsCore}
 use Rattle.ps_run.specs.Runs.{Answer, Runs}
 use Rattle.frame_bytes.specs.declared.frame.Frame.{Frame}
 use Rattle.table_model.specs.Frames.{frame_at, point_of}
-use Rattle.dialect_model.specs.Dial.{Dial, error_of}
+use Rattle.ps_words.specs.Words.{error_of}
+use Rattle.dialect_model.specs.Dial.{Dial}
 use Rattle.dialect_model.specs.Operating.{Operates}
 use Rattle.dialect_model.specs.Forcing.{ForcesUnit}
 use Rattle.dialect_model.specs.TableUse.{TableUse, use_of, Trouble, Refused, Kind, Spent, Wanting, Eval, trouble_of, gives, ◌>>=◌}

@@ -8,7 +8,7 @@ use Rattle.machine_state.specs.declared.layout.TheConstants.{SPARC}
 use Rattle.ps_step.specs.declared.fault.PsError.{PsError}
 use Rattle.ps_step.specs.declared.fault.PsError.TheVariants as ps
 use Rattle.table_model.specs.Rows.{PointRow}
-use Rattle.dialect_model.specs.Printing.{hex_text}
+use Rattle.ps_leaves.specs.Forms.{hex_text}
 use Rattle.dialect_model.specs.TableUse.{Refused, Kind, Spent, Wanting}
 use Rattle.c_session.specs.Commands.{refusal_text}
 use Rattle.claims.specs.Side.{SideEvent, Stops, Pauses, Exits, Faults, OutOfTurns, OutOfStack, Troubled}

@@ -1,8 +1,8 @@
 -- The state of a session over one machine or two, and of one side of it.
-use Rattle.std.specs.Prelude.{ℕ, ◌+◌, ◌*◌, Bool, true, false, not, ◌&&◌, nat_eq, bytes_eq, List, [], filter, if◌then◌else◌, Option, Some, None, Result, Ok, Err}
+use Rattle.std.specs.Prelude.{ℕ, ◌+◌, ◌*◌, Bool, true, false, not, ◌&&◌, nat_eq, bytes_eq, List, [], filter, Option, Some, None, Result, Ok, Err}
 use Rattle.std.specs.List.{list_any}
 use Rattle.ldb_words.specs.declared.event.FaultKind.{FaultKind}
-use Rattle.machine_state.specs.declared.layout.TheConstants.{SPARC, CONTEXT}
+use Rattle.machine_state.specs.declared.layout.TheConstants.{CONTEXT}
 use Rattle.machine_state.specs.State.{MachineState, Behaviour, order_of, given_input}
 use Rattle.machine_state.specs.Regions.{Regions}
 use Rattle.ps_store.specs.StoreState.{StoreState}
@@ -15,14 +15,6 @@ use Rattle.dialect_model.specs.TableUse.{TableUse, Trouble, Eval}
 use Rattle.c_session.specs.Commands.{Refusal, Resume}
 
 -- ---- targets
-
--- what a debugger writes to a target: the word of a break, and the one that it takes for a no-op
-pub record TargetWords : Type 0 where
-  pub break_word : ℕ
-  pub no_op : ℕ
-
-abbrev pub words_of_target : ℕ → TargetWords
-words_of_target target = if nat_eq target SPARC then record { break_word = 0x91D02001; no_op = 0x01000000 } else record { break_word = 0x0000000D; no_op = 0 }
 
 -- the address of a word of the context block, by its number; pc is word 34, and next pc word 35
 abbrev pub context_place : ℕ → ℕ
@@ -100,9 +92,6 @@ abbrev pub first_session : SideState → Option SideState → SessionState
 first_session a b = record { first = a; second = b; state = Fresh; limit = FIRST_LIMIT; written = [] }
 
 -- ---- what commands see of a side
-
-abbrev pub words_of : SideState → TargetWords
-words_of a = words_of_target a.machine.target
 
 abbrev pub row_of : SideState → TargetRow
 row_of a = row_of_target a.machine.target

@@ -1,23 +1,22 @@
 -- What stands beside the interpreter while it runs for a session.
 use Rattle.std.specs.Prelude.{ℕ, Bool, false, List, [], Option, Some, None, Result, Ok, Err}
 use Rattle.ldb_words.specs.declared.kinds.Order.{Order}
-use Rattle.ldb_words.specs.declared.kinds.Undef.{Undef}
-use Rattle.ldb_words.specs.declared.kinds.Undef.TheVariants as undef
 use Rattle.machine_state.specs.Regions.{Regions}
 use Rattle.ps_store.specs.declared.object.DictId.{DictId}
 use Rattle.ps_store.specs.StoreState.{StoreState}
 use Rattle.ps_step.specs.declared.fault.PsError.{PsError}
-use Rattle.ps_step.specs.declared.fault.PsError.TheVariants.{Undefined, TypeCheck, RangeCheck, LimitCheck, Overflow, Division, Shift, Pointer}
+use Rattle.ps_step.specs.declared.fault.PsError.TheVariants.{RangeCheck}
 use Rattle.ps_step.specs.declared.machine.PsCore.{PsCore}
 use Rattle.ps_step.specs.Results.{◌>>=◌}
-use Rattle.frame_bytes.specs.Bytes.{Bytes, places_of, no_bytes}
+use Rattle.frame_bytes.specs.Bytes.{Bytes, no_places, places_of, no_bytes}
 use Rattle.frame_bytes.specs.declared.frame.Frame.{Frame}
 use Rattle.table_model.specs.declared.lack.Lack.{Lack}
-use Rattle.table_model.specs.declared.lack.Lack.TheVariants.{Missing, WrongType, Outside, NoPoint, TooDeep, Unforced}
+use Rattle.table_model.specs.declared.lack.Lack.TheVariants.{Unforced}
 use Rattle.table_model.specs.Reading.{Walked}
 use Rattle.table_model.specs.declared.row.TargetRow.{TargetRow}
 use Rattle.table_model.specs.Frames.{frame_at}
 use Rattle.table_model.specs.Symbols as symbols
+use Rattle.ps_places.specs.Lacks.{error_of}
 
 -- A target: how its frames are found, where its context block is, its byte order and its memory.
 pub record Target : Type 0 where
@@ -61,14 +60,10 @@ Acted A = Result A Halt
 abbrev pub Act : Type 0
 Act = Acted (Dial × PsCore)
 
--- the error of what a table lacks
+-- what a table lacks
 abbrev pub halt_of : Lack → Halt
-halt_of Missing = Raises Undefined
-halt_of WrongType = Raises TypeCheck
-halt_of Outside = Raises RangeCheck
-halt_of NoPoint = Raises Undefined
-halt_of TooDeep = Raises LimitCheck
 halt_of (Unforced unit) = Needs unit
+halt_of l = Raises (error_of l)
 
 abbrev pub looked : {A : Type 0} → Walked A → Acted A
 looked (Ok x) = Ok x
@@ -77,21 +72,6 @@ looked (Err l) = Err (halt_of l)
 abbrev pub raised : {A : Type 0} → Result A PsError → Acted A
 raised (Ok x) = Ok x
 raised (Err e) = Err (Raises e)
-
-abbrev pub or_raise : {A : Type 0} → PsError → Option A → Acted A
-or_raise e None = Err (Raises e)
-or_raise e (Some x) = Ok x
-
--- the error of an undefined step
-abbrev pub error_of : Undef → PsError
-error_of undef.Overflow = Overflow
-error_of undef.Division = Division
-error_of undef.Shift = Shift
-error_of undef.Pointer = Pointer
-
-abbrev pub defined : {A : Type 0} → Result A Undef → Acted A
-defined (Ok x) = Ok x
-defined (Err u) = Err (Raises (error_of u))
 
 -- ---- bytes
 
@@ -106,9 +86,9 @@ bytes_by (Some t) f cell = target_bytes t f cell
 abbrev pub bytes_in : Dial → Option Frame → Bytes
 bytes_in d f = bytes_by d.target f d.cell
 
-abbrev with_regions : Regions → Option Target → Option Target
-with_regions r None = None
-with_regions r (Some t) = Some (record t { regions = r })
+abbrev with_memory : Bytes → Option Target → Option Target
+with_memory b None = None
+with_memory b (Some t) = Some (record t { order = b.order; regions = b.regions })
 
 abbrev cell_or : ℕ → Option ℕ → ℕ
 cell_or n None = n
@@ -116,13 +96,17 @@ cell_or n (Some m) = m
 
 -- the dial with these bytes
 abbrev pub with_bytes : Bytes → Dial → Dial
-with_bytes b d = record d { target = with_regions b.regions d.target; cell = cell_or d.cell b.cell }
+with_bytes b d = record d { target = with_memory b d.target; cell = cell_or d.cell b.cell }
+
+-- a target's memory alone, which is all that a search for a frame or an object sees
+abbrev pub memory_bytes : Target → Bytes
+memory_bytes t = record { order = t.order; regions = t.regions; registers = no_places; cell = None }
 
 -- ---- the frame, and the innermost symbol in scope there
 
 abbrev numbered_frame : StoreState → (number : ℕ) → Option Target → Acted (Option Frame)
 numbered_frame s n None = Ok None
-numbered_frame s n (Some t) = looked (frame_at t.row s (target_bytes t None 0) t.context n)
+numbered_frame s n (Some t) = looked (frame_at t.row s (memory_bytes t) t.context n)
 
 abbrev pub frame_of : Dial → StoreState → Acted (Option Frame)
 frame_of d s = elim d.standing [
@@ -131,17 +115,15 @@ frame_of d s = elim d.standing [
   | Numbered n ↦ numbered_frame s n d.target
 ]
 
-abbrev scope_in : StoreState → (number : ℕ) → Option Frame → Acted (Option DictId)
-scope_in s n None = Ok None
-scope_in s n (Some f) = looked (symbols.scope_of s n f)
+-- an operator that needs a frame where there is none is out of range
+abbrev or_no_frame : Option Frame → Acted Frame
+or_no_frame None = Err (Raises RangeCheck)
+or_no_frame (Some f) = Ok f
 
+-- the innermost symbol in scope in the frame, which has to be there
 abbrev pub scope_of : Dial → StoreState → Acted (Option DictId)
 scope_of d s = elim d.standing [
-  | NoFrame ↦ Ok None
+  | NoFrame ↦ Err (Raises RangeCheck)
   | InFrame f scope ↦ Ok scope
-  | Numbered n ↦ numbered_frame s n d.target >>= scope_in s n
+  | Numbered n ↦ numbered_frame s n d.target >>= or_no_frame >>= λ f. looked (symbols.scope_of s n f)
 ]
-
--- an operator that needs a frame where there is none is out of range
-abbrev pub needed_frame : Dial → StoreState → Acted Frame
-needed_frame d s = frame_of d s >>= or_raise RangeCheck

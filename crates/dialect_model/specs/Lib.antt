@@ -1,8 +1,5 @@
 pub mod Dial
-pub mod Words
-pub mod Memory
-pub mod Objects
-pub mod Printing
+pub mod Acting
 pub mod Operators
 pub mod Forcing
 pub mod Operating

@@ -11,7 +11,7 @@ use Rattle.ps_run.specs.Runs.{Runs}
 use Rattle.table_model.specs.declared.lack.Lack.TheVariants.{Unforced}
 use Rattle.table_model.specs.Reading.{Walked}
 use Rattle.dialect_model.specs.Dial.{Dial, no_target}
-use Rattle.dialect_model.specs.Forcing.{NoTarget, ForcesUnit, deferred, forcing}
+use Rattle.dialect_model.specs.Forcing.{NoTarget, ForcesUnit, deferred, forcing, idle}
 use Rattle.dialect_model.specs.TableUse.{TableUse, with_store, Trouble, Kind, Spent, Eval, Looks}
 use Rattle.dialect_model.specs.Running.{Run, ComesSoFar, running}
 
@@ -76,8 +76,8 @@ pub data LooksNear {R A : Type 0} (q : StoreState → Walked A) : TableUse → T
   spent : {t : TableUse} → t.left ≤ 100000 → LooksNear q t Spent t
   within : {t : TableUse} {u taken : ℕ} {c : PsCore} {e : Trouble R} → q t.store ≡ Err (Unforced u) → ForcesSome u t.store t.left taken c
       → IsOfAll e → ComesNear t.left taken c e → LooksNear q t e (with_store t t.store (t.left - taken))
-  later : {t t' : TableUse} {u n : ℕ} {s : StoreState} {e : Trouble R} → q t.store ≡ Err (Unforced u) → ForcesUnit u t.store t.left (Ok s) n
-      → LooksNear q (with_store t s n) e t' → LooksNear q t e t'
+  later : {t t' : TableUse} {u n : ℕ} {c : PsCore} {e : Trouble R} → q t.store ≡ Err (Unforced u) → ForcesUnit u (idle t.store) t.left (Ok tt) n c
+      → LooksNear q (with_store t c.store n) e t' → LooksNear q t e t'
 
 -- a query beside which more counts
 abbrev pub looking : {R A : Type 0} → (StoreState → Walked A) → Eval R A

@@ -2,13 +2,14 @@
 use Rattle.std.specs.Prelude.{◌≡◌, ◌⊎◌, ℕ, Option, Some, None, Result, Ok, Err}
 use Rattle.ps_store.specs.StoreState.{StoreState}
 use Rattle.ps_store.specs.declared.object.DictId.{DictId}
+use Rattle.ps_step.specs.declared.machine.PsCore.{PsCore}
 use Rattle.ps_step.specs.declared.fault.PsError.{PsError}
 use Rattle.ps_step.specs.declared.fault.PsFault.{PsFault}
 use Rattle.ps_step.specs.declared.fault.PsFault.TheVariants.{Error, Spent as SpentFault, Link, NoMemory}
 use Rattle.table_model.specs.declared.lack.Lack.{Lack}
 use Rattle.table_model.specs.declared.lack.Lack.TheVariants.{Unforced}
 use Rattle.table_model.specs.Reading.{Walked, kind_of}
-use Rattle.dialect_model.specs.Forcing.{ForcesUnit}
+use Rattle.dialect_model.specs.Forcing.{ForcesUnit, idle}
 
 -- The table's store; the steps that are left to the command; the immediate cell; and the command's own dictionary, which it
 -- has once PostScript ran in it.
@@ -73,8 +74,8 @@ trouble_of NoMemory = Wanting
 pub data Looks {R A : Type 0} (q : StoreState → Walked A) : TableUse → Result A (Trouble R) → TableUse → Type 0 where
   told : {t : TableUse} {x : A} → q t.store ≡ Ok x → Looks q t (Ok x) t
   lacks : {t : TableUse} {l : Lack} {e : PsError} → q t.store ≡ Err l → kind_of l ≡ Some e → Looks q t (Err (Kind e)) t
-  forced : {t t' : TableUse} {u n : ℕ} {s : StoreState} {r : Result A (Trouble R)} → q t.store ≡ Err (Unforced u)
-      → ForcesUnit u t.store t.left (Ok s) n → Looks q (with_store t s n) r t' → Looks q t r t'
-  broken : {t : TableUse} {u n : ℕ} {f : PsFault} → q t.store ≡ Err (Unforced u)
-      → ForcesUnit u t.store t.left (Err f) n → Looks q t (Err (trouble_of f)) (with_store t t.store n)
+  forced : {t t' : TableUse} {u n : ℕ} {c : PsCore} {r : Result A (Trouble R)} → q t.store ≡ Err (Unforced u)
+      → ForcesUnit u (idle t.store) t.left (Ok tt) n c → Looks q (with_store t c.store n) r t' → Looks q t r t'
+  broken : {t : TableUse} {u n : ℕ} {c : PsCore} {f : PsFault} → q t.store ≡ Err (Unforced u)
+      → ForcesUnit u (idle t.store) t.left (Err f) n c → Looks q t (Err (trouble_of f)) (with_store t c.store n)
   wanting : {t : TableUse} → Looks q t (Err Wanting) t

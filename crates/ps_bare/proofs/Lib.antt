@@ -1,2 +1,5 @@
-pub mod Answering
+pub mod Mapped
 pub mod Units
+pub mod Acts
+pub mod Acting
+pub mod Lacking

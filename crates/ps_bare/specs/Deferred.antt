@@ -3,8 +3,7 @@ use Rattle.std.specs.Prelude.{◌≡◌, ℕ, true, slice_get, codes, Result, Ok
 use Rattle.ps_store.specs.declared.object.PsObj.{PsObj}
 use Rattle.ps_store.specs.declared.object.PsObj.TheVariants.{Str}
 use Rattle.ps_store.specs.declared.object.DictId.{DictId}
-use Rattle.ps_store.specs.declared.key.Key.{Key}
-use Rattle.ps_store.specs.declared.key.Key.TheVariants.{Name as NameKey}
+use Rattle.ps_store.specs.declared.object.StringId.{StringId}
 use Rattle.ps_store.specs.StoreState.{StoreState}
 use Rattle.ps_step.specs.declared.fault.PsError.{PsError}
 use Rattle.ps_step.specs.declared.fault.PsError.TheVariants.{TypeCheck}
@@ -12,10 +11,7 @@ use Rattle.ps_step.specs.Results.{◌>>=◌}
 use Rattle.ps_places.specs.Lacks.{looked}
 use Rattle.table_model.specs.Reading.{Walked, dict_in, entry, or_missing}
 use Rattle.table_model.specs.Rows.{units_of}
-
--- the key of a unit's functions
-abbrev pub FUNCTIONS : Key
-FUNCTIONS = NameKey (codes "functions")
+use Rattle.dialect_model.specs.Forcing.{deferred}
 
 -- the dictionary of a unit
 abbrev pub unit_of : StoreState → (unit : ℕ) → Walked DictId
@@ -28,3 +24,9 @@ if_text d x = Err TypeCheck
 
 abbrev pub deferred_unit : StoreState → (unit : ℕ) → Result DictId PsError
 deferred_unit s u = looked (unit_of s u) >>= λ d. looked (entry s d (codes "functions")) >>= if_text d
+
+-- the functions of a unit are an executable string
+pub record IsDeferred (s : StoreState) (u : ℕ) : Type 0 where
+  pub unit : DictId
+  pub text : StringId
+  pub stands : deferred s u ≡ Ok (unit, Str text true)

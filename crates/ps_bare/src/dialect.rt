@@ -2,7 +2,7 @@
 
 ghost use Rattle.std.specs.Prelude.{◌≡◌, ◌≤◌};
 ghost use Rattle.ps_store.specs.Store.{closed_part};
-ghost use Rattle.ps_bare.specs.Bare.{Plain};
+ghost use Rattle.ps_bare.specs.Bare.{ActsBare};
 
 use crate::objects::run_on_object;
 use crate::places::run_on_place;
@@ -12,7 +12,9 @@ use abs_mem::{NoMem, Register};
 use ps_run::{Dialect, PsCore, PsError, PsFault, Steps};
 
 /// Runs the operator with a number once.
+#[tactic(auto, using(crate::proofs::Acting::words_bare, crate::proofs::Acting::past_bare))]
 fn act(core: &mut PsCore, memory: &mut Register<NoMem>, op: u16) -> Result<(), PsFault>
+    ensures acts { ActsBare op memory.old.cell core.old result memory.new.cell core.new }
     ensures closed { closed_part core.new.store ≡ closed_part core.old.store }
 {
     match op {
@@ -21,17 +23,6 @@ fn act(core: &mut PsCore, memory: &mut Register<NoMem>, op: u16) -> Result<(), P
         23..=27 | 32 => run_on_object(core, op),
         28..=31 => append(core, memory, op),
         _ => Err(PsFault::Error(PsError::Undefined)),
-    }
-}
-
-/// An operator's answer. No operator spends steps or asks a link where there is no target.
-fn calm(answer: Result<(), PsFault>) -> Result<(), PsFault>
-    ensures { Plain result }
-{
-    match answer {
-        Ok(()) => Ok(()),
-        Err(PsFault::Error(error)) => Err(PsFault::Error(error)),
-        Err(PsFault::Spent | PsFault::Link | PsFault::NoMemory) => Err(PsFault::NoMemory),
     }
 }
 
@@ -48,10 +39,11 @@ impl Dialect for NoTarget {
     ghost use Rattle.std.proofs.Common.{◌∙◌};
     ghost use Rattle.ps_bare.specs.Bare.{OperatesBare};
 
-    ghost operates = { λ d c op left answer d' c' left'. OperatesBare left answer left' };
+    ghost operates = { λ d c op left answer d' c' left'. OperatesBare d.cell c op left answer d'.cell c' left' };
 
     ghost remains = { λ p q. q ≡ p };
 
+    #[tactic(auto, using(crate::proofs::Acting::operated, crate::proofs::Acting::never_spent))]
     fn operate(&mut self, core: &mut PsCore, op: u16, _steps: &mut Steps) -> Result<(), PsFault> {
         let mut memory = Register {
             below: NoMem,
@@ -59,7 +51,7 @@ impl Dialect for NoTarget {
         };
         let answer = act(core, &mut memory, op);
         self.cell = memory.cell;
-        calm(answer)
+        answer
     }
 
     ghost stays = { λ p. refl };

@@ -1,8 +1,8 @@
 // Operators on pointers and types. No object is live.
 
-ghost use Rattle.std.specs.Prelude.{◌≡◌};
+ghost use Rattle.std.specs.Prelude.{◌≡◌, ◌≤◌, ℕ};
 ghost use Rattle.ps_store.specs.Store.{closed_part};
-ghost use Rattle.ps_bare.specs.Bare.{IsOnObject};
+ghost use Rattle.ps_bare.specs.Bare.{ActsBare, IsOnObject};
 
 use ps_leaves::{leave_leaf, leave_run};
 use ps_places::top_word;
@@ -15,6 +15,7 @@ use ps_symbols::find_struct;
 
 /// `ptradd`.
 fn add(core: &mut PsCore) -> Result<(), PsFault>
+    ensures acts { (cell : ℕ) → ActsBare 23 cell core.old result cell core.new }
     ensures closed { closed_part core.new.store ≡ closed_part core.old.store }
 {
     match sum_operands(core) {
@@ -25,6 +26,7 @@ fn add(core: &mut PsCore) -> Result<(), PsFault>
 
 /// `ptrsub`.
 fn subtract(core: &mut PsCore) -> Result<(), PsFault>
+    ensures acts { (cell : ℕ) → ActsBare 24 cell core.old result cell core.new }
     ensures closed { closed_part core.new.store ≡ closed_part core.old.store }
 {
     match difference_operands(core) {
@@ -35,6 +37,7 @@ fn subtract(core: &mut PsCore) -> Result<(), PsFault>
 
 /// `ptrcmp`.
 fn compare(core: &mut PsCore) -> Result<(), PsFault>
+    ensures acts { (cell : ℕ) → ActsBare 25 cell core.old result cell core.new }
     ensures closed { closed_part core.new.store ≡ closed_part core.old.store }
 {
     match comparison_operands(core) {
@@ -45,6 +48,7 @@ fn compare(core: &mut PsCore) -> Result<(), PsFault>
 
 /// `Leaf`.
 fn take_leaf(core: &mut PsCore) -> Result<(), PsFault>
+    ensures acts { (cell : ℕ) → ActsBare 26 cell core.old result cell core.new }
     ensures closed { closed_part core.new.store ≡ closed_part core.old.store }
 {
     leave_leaf(core, None)
@@ -52,6 +56,7 @@ fn take_leaf(core: &mut PsCore) -> Result<(), PsFault>
 
 /// `charrun`.
 fn measure_run(core: &mut PsCore) -> Result<(), PsFault>
+    ensures acts { (cell : ℕ) → ActsBare 32 cell core.old result cell core.new }
     ensures closed { closed_part core.new.store ≡ closed_part core.old.store }
 {
     match top_word(core) {
@@ -63,6 +68,7 @@ fn measure_run(core: &mut PsCore) -> Result<(), PsFault>
 /// An operator on pointers: `ptradd` to `Leaf`, `charrun`; and `Struct`.
 pub fn run_on_object(core: &mut PsCore, op: u16) -> Result<(), PsFault>
     requires { IsOnObject op }
+    ensures acts { (cell : ℕ) → ActsBare op cell core.old result cell core.new }
     ensures closed { closed_part core.new.store ≡ closed_part core.old.store }
 {
     match op {

@@ -1,8 +1,8 @@
 // Operators on places and names.
 
-ghost use Rattle.std.specs.Prelude.{◌≡◌, ◌≤◌};
+ghost use Rattle.std.specs.Prelude.{◌≡◌, ◌≤◌, ℕ};
 ghost use Rattle.ps_store.specs.Store.{closed_part};
-ghost use Rattle.ps_bare.specs.Bare.{quiet};
+ghost use Rattle.ps_bare.specs.Bare.{ActsBare, quiet};
 
 use abs_mem::{NoMem, Register};
 use ps_places::{Trouble, absolute, fetch, immediate, local, register, store};
@@ -22,6 +22,7 @@ pub fn quiet(answer: Result<(), Trouble>) -> Result<(), PsFault>
 
 /// `Immediate`.
 fn place_value(core: &mut PsCore, memory: &mut Register<NoMem>) -> Result<(), PsFault>
+    ensures acts { ActsBare 4 memory.old.cell core.old result memory.new.cell core.new }
     ensures closed { closed_part core.new.store ≡ closed_part core.old.store }
 {
     quiet(immediate(core, memory))
@@ -29,6 +30,7 @@ fn place_value(core: &mut PsCore, memory: &mut Register<NoMem>) -> Result<(), Ps
 
 /// `fetch`.
 fn fetch_bare(core: &mut PsCore, memory: &mut Register<NoMem>) -> Result<(), PsFault>
+    ensures acts { ActsBare 6 memory.old.cell core.old result memory.new.cell core.new }
     ensures closed { closed_part core.new.store ≡ closed_part core.old.store }
 {
     quiet(fetch(core, memory))
@@ -36,6 +38,7 @@ fn fetch_bare(core: &mut PsCore, memory: &mut Register<NoMem>) -> Result<(), PsF
 
 /// `store`.
 fn store_bare(core: &mut PsCore, memory: &mut Register<NoMem>) -> Result<(), PsFault>
+    ensures acts { ActsBare 7 memory.old.cell core.old result memory.new.cell core.new }
     ensures closed { closed_part core.new.store ≡ closed_part core.old.store }
 {
     quiet(store(core, memory, false))
@@ -43,6 +46,7 @@ fn store_bare(core: &mut PsCore, memory: &mut Register<NoMem>) -> Result<(), PsF
 
 /// `Where`, in no frame.
 fn find_nowhere(core: &mut PsCore) -> Result<(), PsFault>
+    ensures acts { (cell : ℕ) → ActsBare 5 cell core.old result cell core.new }
     ensures closed { closed_part core.new.store ≡ closed_part core.old.store }
 {
     match top_name(core) {
@@ -54,6 +58,7 @@ fn find_nowhere(core: &mut PsCore) -> Result<(), PsFault>
 /// An operator on a place: `Anchor` to `store`.
 pub fn run_on_place(core: &mut PsCore, memory: &mut Register<NoMem>, op: u16) -> Result<(), PsFault>
     requires { op ≤ 7 }
+    ensures acts { ActsBare op memory.old.cell core.old result memory.new.cell core.new }
     ensures closed { closed_part core.new.store ≡ closed_part core.old.store }
 {
     match op {

@@ -1,7 +1,8 @@
 // Operators that append. Where there is no target the text is dropped.
 
-ghost use Rattle.std.specs.Prelude.{◌≡◌, ◌≤◌};
+ghost use Rattle.std.specs.Prelude.{◌≡◌, ◌≤◌, ℕ};
 ghost use Rattle.ps_store.specs.Store.{closed_part};
+ghost use Rattle.ps_bare.specs.Bare.{ActsBare};
 
 use crate::places::quiet;
 use abs_mem::{NoMem, Register};
@@ -12,6 +13,7 @@ use ps_run::{PsCore, PsFault};
 
 /// `Put`.
 fn put_string(core: &mut PsCore) -> Result<(), PsFault>
+    ensures acts { (cell : ℕ) → ActsBare 28 cell core.old result cell core.new }
     ensures closed { closed_part core.new.store ≡ closed_part core.old.store }
 {
     let mut out = Text::new(core.operands.allocator());
@@ -20,6 +22,7 @@ fn put_string(core: &mut PsCore) -> Result<(), PsFault>
 
 /// `PutChar`.
 fn put_character(core: &mut PsCore) -> Result<(), PsFault>
+    ensures acts { (cell : ℕ) → ActsBare 29 cell core.old result cell core.new }
     ensures closed { closed_part core.new.store ≡ closed_part core.old.store }
 {
     let mut out = Text::new(core.operands.allocator());
@@ -28,6 +31,7 @@ fn put_character(core: &mut PsCore) -> Result<(), PsFault>
 
 /// `PutPointer`.
 fn put_address(core: &mut PsCore) -> Result<(), PsFault>
+    ensures acts { (cell : ℕ) → ActsBare 30 cell core.old result cell core.new }
     ensures closed { closed_part core.new.store ≡ closed_part core.old.store }
 {
     let mut out = Text::new(core.operands.allocator());
@@ -36,6 +40,7 @@ fn put_address(core: &mut PsCore) -> Result<(), PsFault>
 
 /// `PutChars`.
 fn put_characters(core: &mut PsCore, memory: &mut Register<NoMem>) -> Result<(), PsFault>
+    ensures acts { ActsBare 31 memory.old.cell core.old result memory.new.cell core.new }
     ensures closed { closed_part core.new.store ≡ closed_part core.old.store }
 {
     let mut out = Text::new(core.operands.allocator());
@@ -46,6 +51,7 @@ fn put_characters(core: &mut PsCore, memory: &mut Register<NoMem>) -> Result<(),
 pub fn append(core: &mut PsCore, memory: &mut Register<NoMem>, op: u16) -> Result<(), PsFault>
     requires from { 28 ≤ op }
     requires to { op ≤ 31 }
+    ensures acts { ActsBare op memory.old.cell core.old result memory.new.cell core.new }
     ensures closed { closed_part core.new.store ≡ closed_part core.old.store }
 {
     match op {

@@ -1,11 +1,12 @@
 // The functions of a unit.
 
-ghost use Rattle.std.specs.Prelude.{◌≡◌, ◌≢◌, ◌≤◌, ◌<◌, Err, OnOk, OnErr};
+ghost use Rattle.std.specs.Prelude.{◌≡◌, ◌≢◌, ◌≤◌, ◌<◌, ◌-◌, Err, OnOk, OnErr};
 ghost use Rattle.ps_store.specs.Store.{closed_part};
 ghost use Rattle.ps_store.specs.Settled.{Settled};
 ghost use Rattle.ps_step.specs.declared.fault.PsError.{PsError};
 ghost use Rattle.ps_step.specs.declared.fault.PsFault.TheVariants.{Error as Raised, Spent as OutOfSteps, Link as LinkFailed, NoMemory as OutOfMemory};
-ghost use Rattle.ps_bare.specs.Deferred.{unit_of, deferred_unit};
+ghost use Rattle.dialect_model.specs.Forcing.{ForcesUnit};
+ghost use Rattle.ps_bare.specs.Deferred.{IsDeferred, unit_of, deferred_unit};
 
 use crate::dialect::NoTarget;
 use ps_force::force;
@@ -60,6 +61,7 @@ pub fn force_unit(core: &mut PsCore, unit: usize, steps: &mut Steps) -> Result<(
     ensures stays { OnErr result (closed_part core.new.store ≡ closed_part core.old.store) }
     ensures closed { Settled (closed_part core.old.store) (closed_part core.new.store) }
     ensures others { result ≢ Err OutOfMemory → core.new ≡ record core.old { store = core.new.store } }
+    ensures forces { IsDeferred core.old.store unit → result ≢ Err OutOfMemory → ForcesUnit unit core.old (steps.old.limit - steps.old.taken) result (steps.new.limit - steps.new.taken) core.new }
 {
     match deferred_unit(&core.store, unit) {
         Err(error) => Err(PsFault::Error(error)),

@@ -1,7 +1,9 @@
 // Operators on words.
 
-ghost use Rattle.std.specs.Prelude.{◌≡◌, ◌≤◌};
+ghost use Rattle.std.specs.Prelude.{◌≡◌, ◌≤◌, ℕ};
 ghost use Rattle.ps_store.specs.Store.{closed_part};
+ghost use Rattle.ps_bare.specs.Bare.{ActsAlone};
+ghost use Rattle.dialect_model.specs.Dial.{Dial};
 
 use ps_run::{PsCore, PsFault};
 use ps_words::{WordOperator, compare_unsigned, negate, run_on_two};
@@ -10,6 +12,7 @@ use ps_words::{WordOperator, compare_unsigned, negate, run_on_two};
 pub fn run_on_words(core: &mut PsCore, op: u16) -> Result<(), PsFault>
     requires from { 8 ≤ op }
     requires to { op ≤ 22 }
+    ensures acts { (d : Dial) → ActsAlone op d core.old result core.new }
     ensures closed { closed_part core.new.store ≡ closed_part core.old.store }
 {
     match op {
