@@ -1,8 +1,8 @@
 // Programs and placements, as a checker and a linker would give them.
 
 use c_tree::{
-    CType, Function, Member, ObjectRow, Point, Program, Referent, Site, Stmt, StructDef, SymbolRow,
-    UnitRow,
+    CType, Function, Local, Member, ObjectRow, Point, Program, Referent, Site, Stmt, StructDef,
+    SymbolRow, UnitRow,
 };
 use ldb_words::{Many, Text};
 use obj_file::{FunctionRow, LocalPlace};
@@ -26,6 +26,19 @@ fn array(alloc: Global, item: CType, count: u32) -> Result<CType, AllocError> {
     Ok(CType::Array(Rc::new(alloc, item)?, count))
 }
 
+/// Locals, and which of them are declared `register`.
+fn locals(alloc: Global, registers: &[bool]) -> Result<Many<Local>, AllocError> {
+    let mut locals = Many::new(alloc);
+    for register in registers {
+        locals.push(Local {
+            name: text(alloc, b"local")?,
+            ctype: CType::Int,
+            register: *register,
+        })?;
+    }
+    Ok(locals)
+}
+
 /// A program without rows.
 fn nothing(alloc: Global) -> Program {
     Program {
@@ -44,6 +57,7 @@ fn add_function(
     program: &mut Program,
     name: &[u8],
     unit: u32,
+    locals: Many<Local>,
     points: &[u32],
 ) -> Result<(), AllocError> {
     program.functions.push(Function {
@@ -52,7 +66,7 @@ fn add_function(
         is_static: unit > 0,
         result: CType::Int,
         params: 0,
-        locals: Many::new(alloc),
+        locals,
         points: many(alloc, points)?,
         body: Stmt::Break(Site {
             at: 0,
@@ -171,7 +185,7 @@ fn row_of(
 pub fn none_program(alloc: Global, target: u8) -> Result<(Program, Placement), AllocError> {
     let mut program = nothing(alloc);
     add_unit(alloc, &mut program, b"none.c", &[0])?;
-    add_function(alloc, &mut program, b"main", 0, &[0])?;
+    add_function(alloc, &mut program, b"main", 0, Many::new(alloc), &[0])?;
     add_point(&mut program, 0, 1, 16, 3)?;
     add_built_ins(alloc, &mut program)?;
     add_symbol(
@@ -217,7 +231,7 @@ fn add_structs(alloc: Global, program: &mut Program) -> Result<(), AllocError> {
     })
 }
 
-/// The names: those of the file `list.c` from 3 on, those of `b(1).c` from 7 on. There `table` is declared without its bound.
+/// The names: those of the file `list.c` from 3 on, those of `b(1).c` from 8 on. There `table` is declared without its bound.
 fn add_names(alloc: Global, program: &mut Program) -> Result<(), AllocError> {
     add_built_ins(alloc, program)?;
     let node = pointer(alloc, CType::Struct(0))?;
@@ -246,6 +260,14 @@ fn add_names(alloc: Global, program: &mut Program) -> Result<(), AllocError> {
         Referent::Local(1),
         Some(5),
     )?;
+    add_symbol(
+        alloc,
+        program,
+        b"late",
+        CType::Int,
+        Referent::Local(2),
+        Some(6),
+    )?;
     let open = array(alloc, CType::Int, 0)?;
     add_symbol(alloc, program, b"table", open, Referent::Object(1), Some(2))?;
     add_symbol(
@@ -254,7 +276,7 @@ fn add_names(alloc: Global, program: &mut Program) -> Result<(), AllocError> {
         b"help",
         CType::Unsigned,
         Referent::Function(1),
-        Some(7),
+        Some(8),
     )
 }
 
@@ -271,6 +293,7 @@ fn list_placement(alloc: Global, target: u8) -> Result<Placement, AllocError> {
     main.saved.push((16, -12))?;
     main.locals.push(LocalPlace::Slot(-20))?;
     main.locals.push(LocalPlace::Reg(16))?;
+    main.locals.push(LocalPlace::Slot(-28))?;
     let mut functions = Many::new(alloc);
     functions.push(main)?;
     functions.push(row_of(alloc, b"help", 4_194_400, 4_194_432, &[4_194_408])?)?;
@@ -285,7 +308,7 @@ fn list_placement(alloc: Global, target: u8) -> Result<Placement, AllocError> {
     })
 }
 
-/// Two files with structs, static objects, a string, locals in memory and in a register, and a name that is declared in two ways.
+/// Two files with structs, static objects, a string, locals in memory and in a register, a `register` variable that got none, and a name that is declared in two ways.
 pub fn list_program(alloc: Global, target: u8) -> Result<(Program, Placement), AllocError> {
     let mut program = nothing(alloc);
     add_unit(alloc, &mut program, b"list.c", &[0])?;
@@ -296,11 +319,12 @@ pub fn list_program(alloc: Global, target: u8) -> Result<(Program, Placement), A
     let three = array(alloc, CType::Int, 3)?;
     add_object(alloc, &mut program, b"table", 1, three)?;
     program.strings.push(text(alloc, b"hi")?)?;
-    add_function(alloc, &mut program, b"main", 0, &[0, 1])?;
-    add_function(alloc, &mut program, b"help", 1, &[2])?;
+    let of_main = locals(alloc, &[false, true, true])?;
+    add_function(alloc, &mut program, b"main", 0, of_main, &[0, 1])?;
+    add_function(alloc, &mut program, b"help", 1, Many::new(alloc), &[2])?;
     add_point(&mut program, 0, 3, 16, 4)?;
-    add_point(&mut program, 0, 4, 3, 6)?;
-    add_point(&mut program, 1, 1, 9, 8)?;
+    add_point(&mut program, 0, 4, 3, 7)?;
+    add_point(&mut program, 1, 1, 9, 9)?;
     add_names(alloc, &mut program)?;
     Ok((program, list_placement(alloc, target)?))
 }

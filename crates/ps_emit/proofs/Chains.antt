@@ -2,11 +2,11 @@
 use Rattle.std.proofs.Common.{◌≡◌, ◌<◌, ◌≤◌, ℕ, zero, suc, ◌+◌, ◌-◌, List, [], ◌∷◌, ◌++◌, length, drop, get_or, slice_get, Some, None, if◌then◌else◌, refl, sym, ap, ◌∙◌, append_assoc, append-nil, arith}
 use Rattle.std.proofs.lemmas.List.{at_drop_more}
 use Rattle.std.proofs.lemmas.Bool.{lt-ltb, le-ltb}
-use Rattle.obj_file.specs.declared.object.LocalPlace.{LocalPlace}
 use Rattle.obj_file.specs.declared.object.FunctionRow.{FunctionRow}
 use Rattle.c_tree.specs.declared.rows.SymbolRow.{SymbolRow}
 use Rattle.ps_text.specs.Code.{render}
 use Rattle.ps_emit.specs.Grown.{Grows}
+use Rattle.ps_emit.specs.Places.{Homes}
 use Rattle.ps_emit.specs.Symbols.{up_in, coming, symbol_of, symbols_code}
 use Rattle.ps_emit.proofs.Followed.{◌and◌}
 
@@ -34,14 +34,14 @@ pub chain_ends : (front rest all : List ℕ) → rest ≡ [] → front ++ rest �
 chain_ends front rest all e h = sym (append-nil front) ∙ (ap (λ (xs : List ℕ). front ++ xs) (sym e) ∙ h)
 
 -- one symbol more in front of those that are added
-pub one_before : (fs : List FunctionRow) (places : List LocalPlace) (ss : List SymbolRow) (xs : List ℕ) (i x : ℕ) (a b c : List ℕ) → i < length xs
-    → x ≡ get_or xs (length xs - (i + 1)) 0 → b ≡ a ++ render (symbols_code fs places ss (drop (length xs - i) xs)) → Grows (symbol_of fs places x (slice_get ss x)) b c
-    → c ≡ a ++ render (symbols_code fs places ss (drop (length xs - (i + 1)) xs))
-one_before fs places ss xs i x a b c l e h g =
+pub one_before : (fs : List FunctionRow) (homes : Homes) (ss : List SymbolRow) (xs : List ℕ) (i x : ℕ) (a b c : List ℕ) → i < length xs
+    → x ≡ get_or xs (length xs - (i + 1)) 0 → b ≡ a ++ render (symbols_code fs homes ss (drop (length xs - i) xs)) → Grows (symbol_of fs homes x (slice_get ss x)) b c
+    → c ≡ a ++ render (symbols_code fs homes ss (drop (length xs - (i + 1)) xs))
+one_before fs homes ss xs i x a b c l e h g =
     let k : ℕ = length xs - (i + 1) in
     let next : length xs - i ≡ k + 1 = omega arith in
     let within : k < length xs = omega arith in
-    let before : Grows (symbols_code fs places ss (drop (k + 1) xs)) a b = record { text = h ∙ ap (λ n. a ++ render (symbols_code fs places ss (drop n xs))) next } in
+    let before : Grows (symbols_code fs homes ss (drop (k + 1) xs)) a b = record { text = h ∙ ap (λ n. a ++ render (symbols_code fs homes ss (drop n xs))) next } in
     (before and g).text ∙
-    (ap (λ y. a ++ render (symbols_code fs places ss (y ∷ drop (k + 1) xs))) e ∙
-    sym (at_drop_more (λ ys. a ++ render (symbols_code fs places ss ys)) xs k 0 within))
+    (ap (λ y. a ++ render (symbols_code fs homes ss (y ∷ drop (k + 1) xs))) e ∙
+    sym (at_drop_more (λ ys. a ++ render (symbols_code fs homes ss ys)) xs k 0 within))

@@ -20,7 +20,7 @@ use Rattle.ps_scan.specs.Escaping.{escaped}
 use Rattle.ps_text.specs.Code.{Code, Text, Proc, render}
 use Rattle.ps_emit.specs.Terms.{◌⋯◌, word, string, integer, number, bracketed, anchor_name}
 use Rattle.ps_emit.specs.Types.{type_code, struct_code, filled_struct, tag_code, member_code}
-use Rattle.ps_emit.specs.Places.{words_at, anchored, file_in, without_ending, label_front, object_label, object_code, string_label, string_code}
+use Rattle.ps_emit.specs.Places.{Homes, homes, declared_register, register_told, words_at, home_words, anchored, file_in, without_ending, label_front, object_label, object_code, string_label, string_code}
 use Rattle.ps_emit.specs.Symbols.{linked, entry_in, symbol_by, symbol_code}
 use Rattle.ps_emit.specs.Functions.{truth, point_code, saved_register, saved_code, points_code, function_code, functions_code, deferred, unit_code}
 use Rattle.ps_emit.specs.Table.{anchor_code}
@@ -81,15 +81,20 @@ saved_short r offset h k =
     let n = neat_written (saved_register r offset) (known refl, (short_pos r h, (short_integer offset k.0 k.1 k.2, (known refl, tt)))) in
     omega arith
 
-neat_place : (p : Option LocalPlace) → IsPlace p → Neat (words_at p)
-neat_place None h = tt
-neat_place (Some (Slot offset)) h = (short_integer offset h.0 h.1 h.2, (known refl, tt))
-neat_place (Some (Reg r)) h = (short_pos r h, (known refl, tt))
+neat_told : (b : Bool) → Neat (register_told b)
+neat_told true = (short_pos 0 (omega arith), (known refl, (known refl, (known refl, tt))))
+neat_told false = tt
 
-weight_place : (p : Option LocalPlace) → weight (words_at p) ≤ 21
-weight_place None = omega arith
-weight_place (Some (Slot offset)) = omega arith
-weight_place (Some (Reg r)) = omega arith
+neat_place : (p : Option LocalPlace) (b : Bool) → IsPlace p → Neat (words_at p b)
+neat_place None b h = tt
+neat_place (Some (Slot offset)) b h = (short_integer offset h.0 h.1 h.2, (known refl, neat_told b))
+neat_place (Some (Reg r)) b h = (short_pos r h, (known refl, tt))
+
+weight_place : (p : Option LocalPlace) (b : Bool) → weight (words_at p b) ≤ 50
+weight_place None b = omega arith
+weight_place (Some (Slot offset)) true = omega arith
+weight_place (Some (Slot offset)) false = omega arith
+weight_place (Some (Reg r)) b = omega arith
 
 -- the terms of symbols behind their names: a type, a place, and what is outward
 abbrev outward : Option ℕ → Code → Code
@@ -110,33 +115,33 @@ weight_behind row place end =
     let d = weight_link row.up in
     omega arith
 
-module _ (fs : List FunctionRow) (places : List LocalPlace) (row : SymbolRow) where
-  neat_by : (r : Referent) → IsName row.name → HasWords row.ctype → IsLink row.up → IsFound fs places r → Neat (symbol_by fs places row r)
+module _ (fs : List FunctionRow) (h : Homes) (row : SymbolRow) where
+  neat_by : (r : Referent) → IsName row.name → HasWords row.ctype → IsLink row.up → IsFound fs h r → Neat (symbol_by fs h row r)
   neat_by (refers.Object o) n t u f = neat_followed (linked row.up) _ (neat_link row.up u) (known refl, (short_word o f, (known refl, (known refl, tt))))
-  neat_by (refers.Local x) n t u f = (known n.plain, neat_behind row (words_at (slice_get places x)) (word "NewSymbol") t u (neat_place (slice_get places x) f) (known refl, tt))
+  neat_by (refers.Local x) n t u f = (known n.plain, neat_behind row (home_words h x) (word "NewSymbol") t u (neat_place (slice_get h.places x) _ f) (known refl, tt))
   neat_by (refers.Function f) n t u e =
       (known n.plain, neat_behind row (number (entry_in (slice_get fs f)) ⋯ word "Absolute") (word "FunctionSymbol") t u (short_word (entry_in (slice_get fs f)) e, (known refl, tt)) (known refl, tt))
   neat_by refers.Declared n t u e =
       (known n.plain, neat_behind row (number 0 ⋯ word "Absolute") (word "FunctionSymbol") t u (short_word 0 (omega arith), (known refl, tt)) (known refl, tt))
 
-  weight_by : (r : Referent) → length row.name ≤ 63 → weight (symbol_by fs places row r) + 16 ≤ (of_named r row.ctype).bytes
+  weight_by : (r : Referent) → length row.name ≤ 63 → weight (symbol_by fs h row r) + 16 ≤ (of_named r row.ctype).bytes
   weight_by (refers.Object o) n =
       let a = weight_followed (linked row.up) (word "objects" ⋯ (number o ⋯ (word "get" ⋯ word "ObjectSymbol"))) in
       let b = weight_link row.up in
       omega arith
   weight_by (refers.Local x) n =
-      let a = weight_behind row (words_at (slice_get places x)) (word "NewSymbol") in
-      let b = weight_place (slice_get places x) in
+      let a = weight_behind row (home_words h x) (word "NewSymbol") in
+      let b = weight_place (slice_get h.places x) (declared_register (slice_get h.locals x)) in
       omega arith
   weight_by (refers.Function f) n = let a = weight_behind row (number (entry_in (slice_get fs f)) ⋯ word "Absolute") (word "FunctionSymbol") in omega arith
   weight_by refers.Declared n = let a = weight_behind row (number 0 ⋯ word "Absolute") (word "FunctionSymbol") in omega arith
 
-  pub symbols_short : (s : ℕ) → IsSymbolRow fs places s row → written (symbol_code fs places s row) ≤ (of_symbol row).bytes
-  symbols_short s h =
-      let inner = neat_followed (symbol_by fs places row row.refers) (word "def") (neat_by row.refers h.name h.ctype h.up h.found) (known refl, tt) in
-      let n = neat_written (symbol_code fs places s row) (short_word s h.number, inner) in
-      let a = weight_followed (symbol_by fs places row row.refers) (word "def") in
-      let b = weight_by row.refers h.name.short in
+  pub symbols_short : (s : ℕ) → IsSymbolRow fs h s row → written (symbol_code fs h s row) ≤ (of_symbol row).bytes
+  symbols_short s k =
+      let inner = neat_followed (symbol_by fs h row row.refers) (word "def") (neat_by row.refers k.name k.ctype k.up k.found) (known refl, tt) in
+      let n = neat_written (symbol_code fs h s row) (short_word s k.number, inner) in
+      let a = weight_followed (symbol_by fs h row row.refers) (word "def") in
+      let b = weight_by row.refers k.name.short in
       omega arith
 
 -- ---- structs
@@ -236,10 +241,10 @@ number_short : (n : ℕ) → IsWord n → written (number n) ≤ 12
 number_short n h = neat_written (number n) (short_word n h, tt)
 
 pub functions_short : (p : Program) (fs : List FunctionRow) (made : ℕ) (f : Function) (row : FunctionRow) → IsFunctionRow f row
-    → written (function_code p fs made f row) ≤ function_alone.bytes + written (saved_code row.saved) + written (points_code p fs row.locals made f.points row.points)
+    → written (function_code p fs made f row) ≤ function_alone.bytes + written (saved_code row.saved) + written (points_code p fs (homes row.locals f.locals) made f.points row.points)
 functions_short p fs made f row h =
     let saved : Code = saved_code row.saved in
-    let points : Code = points_code p fs row.locals made f.points row.points in
+    let points : Code = points_code p fs (homes row.locals f.locals) made f.points row.points in
     let r₆ : Code = bracketed points ⋯ word "NewFunction" in
     let r₅ : Code = bracketed saved ⋯ r₆ in
     let r₄ : Code = number row.frame ⋯ r₅ in

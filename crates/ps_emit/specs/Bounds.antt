@@ -41,9 +41,9 @@ per_constructor = record { bytes = 24; made = 8; steps = 30 }
 abbrev pub per_object_symbol : Cost
 per_object_symbol = record { bytes = 70; made = 18; steps = 17 }
 
--- `s (name) type where uplink FunctionSymbol def`
+-- `s (name) type where uplink NewSymbol def`, of a `register` variable in memory where is `{ n Local 0 Register pop pop }`
 abbrev pub per_symbol : Cost
-per_symbol = record { bytes = 141; made = 24; steps = 45 }
+per_symbol = record { bytes = 165; made = 34; steps = 45 }
 
 -- `line column address uplink NewPoint`
 abbrev pub per_point : Cost
@@ -128,7 +128,7 @@ units_of p = (cost_of p).made + (cost_of p).bytes / 8 + 2 * (1 + length p.units)
 
 -- What an item costs for each token that it is written with, at most. An object and its symbol stand at a name, which another token follows;
 -- a `*` is a constructor; a function has six tokens and two points; any other point, a local, a member and a string have two, and so has the
--- mention of a struct; a string that is a statement has two, and a point. 40,000 tokens in 16 files make at most 16,338,764 bytes, of the
+-- mention of a struct; a string that is a statement has two, and a point. 40,000 tokens in 16 files make at most 16,339,916 bytes, of the
 -- 16,777,216 that a text may have, and 1,804,154 steps.
 abbrev pub per_token : Cost
 per_token = record { bytes = 408; made = 38; steps = 45 }

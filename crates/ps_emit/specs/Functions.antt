@@ -1,13 +1,13 @@
 -- Units, functions and stopping points of a table.
 use Rattle.std.specs.Prelude.{ℕ, ℤ, pos, List, [], ◌∷◌, length, Bool, true, false, Option, Some, None, slice_get}
 use Rattle.obj_file.specs.declared.object.FunctionRow.{FunctionRow as Placed}
-use Rattle.obj_file.specs.declared.object.LocalPlace.{LocalPlace}
 use Rattle.c_tree.specs.declared.rows.Program.{Program}
 use Rattle.c_tree.specs.declared.rows.UnitRow.{UnitRow}
 use Rattle.c_tree.specs.declared.rows.Function.{Function}
 use Rattle.c_tree.specs.declared.rows.Point.{Point}
 use Rattle.ps_text.specs.Code.{Code, Stop, render}
 use Rattle.ps_emit.specs.Terms.{◌⋯◌, word, string, integer, number, bracketed}
+use Rattle.ps_emit.specs.Places.{Homes, homes}
 use Rattle.ps_emit.specs.Symbols.{linked, coming, symbols_code, made_with}
 
 abbrev pub truth : Bool → Code
@@ -36,30 +36,30 @@ module _ (p : Program) (fs : List Placed) where
   -- ---- points
 
   -- the symbols that come into scope at a point, where all below a number are made
-  abbrev pub opened : List LocalPlace → (made : ℕ) → Point → Code
-  opened places made q = symbols_code fs places p.symbols (coming (length p.symbols) p.symbols made q.symbol)
+  abbrev pub opened : Homes → (made : ℕ) → Point → Code
+  opened h made q = symbols_code fs h p.symbols (coming (length p.symbols) p.symbols made q.symbol)
 
   -- below which number all symbols are made, once these points are
   abbrev pub made_by : (made : ℕ) → (points addresses : List ℕ) → ℕ
   made_by made (x ∷ xs) (a ∷ rest) = made_by (made_with made (symbol_at (slice_get p.points x))) xs rest
   made_by made xs rest = made
 
-  abbrev pub point_in : List LocalPlace → (made address : ℕ) → Option Point → Code
-  point_in places made address None = Stop
-  point_in places made address (Some q) = opened places made q ⋯ point_code address q
+  abbrev pub point_in : Homes → (made address : ℕ) → Option Point → Code
+  point_in h made address None = Stop
+  point_in h made address (Some q) = opened h made q ⋯ point_code address q
 
   -- points by their numbers, which stand at such addresses
-  abbrev pub points_code : List LocalPlace → (made : ℕ) → (points addresses : List ℕ) → Code
-  points_code places made (x ∷ xs) (a ∷ rest) =
-      point_in places made a (slice_get p.points x) ⋯ points_code places (made_with made (symbol_at (slice_get p.points x))) xs rest
-  points_code places made xs rest = Stop
+  abbrev pub points_code : Homes → (made : ℕ) → (points addresses : List ℕ) → Code
+  points_code h made (x ∷ xs) (a ∷ rest) =
+      point_in h made a (slice_get p.points x) ⋯ points_code h (made_with made (symbol_at (slice_get p.points x))) xs rest
+  points_code h made xs rest = Stop
 
   -- ---- functions
 
   abbrev pub function_code : (made : ℕ) → Function → Placed → Code
   function_code made f at =
       string f.name ⋯ truth f.is_static ⋯ number at.entry ⋯ number at.end ⋯ number at.frame ⋯ bracketed (saved_code at.saved)
-      ⋯ bracketed (points_code at.locals made f.points at.points) ⋯ word "NewFunction"
+      ⋯ bracketed (points_code (homes at.locals f.locals) made f.points at.points) ⋯ word "NewFunction"
 
   abbrev pub function_in : (made : ℕ) → Option Function → Option Placed → Code
   function_in made (Some f) (Some at) = function_code made f at

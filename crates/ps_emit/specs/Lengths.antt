@@ -17,7 +17,7 @@ use Rattle.obj_file.specs.declared.object.LocalPlace.{LocalPlace}
 use Rattle.obj_file.specs.declared.object.LocalPlace.TheVariants.{Slot, Reg}
 use Rattle.obj_file.specs.declared.object.FunctionRow.{FunctionRow}
 use Rattle.ps_text.specs.Code.{Code, render}
-use Rattle.ps_emit.specs.Places.{file_in}
+use Rattle.ps_emit.specs.Places.{Homes, file_in}
 use Rattle.ps_emit.specs.Symbols.{entry_in}
 
 -- how many bytes a term has, and how many as it stands in a deferred string
@@ -62,18 +62,18 @@ IsPlace (Some (Slot offset)) = IsInteger offset
 IsPlace (Some (Reg r)) = IsWord r
 
 -- what a name denotes has such a place
-abbrev pub IsFound : List FunctionRow → List LocalPlace → Referent → Type 0
-IsFound fs places (refers.Object o) = IsWord o
-IsFound fs places (refers.Local x) = IsPlace (slice_get places x)
-IsFound fs places (refers.Function f) = IsWord (entry_in (slice_get fs f))
-IsFound fs places refers.Declared = Unit {0}
+abbrev pub IsFound : List FunctionRow → Homes → Referent → Type 0
+IsFound fs h (refers.Object o) = IsWord o
+IsFound fs h (refers.Local x) = IsPlace (slice_get h.places x)
+IsFound fs h (refers.Function f) = IsWord (entry_in (slice_get fs f))
+IsFound fs h refers.Declared = Unit {0}
 
-pub record IsSymbolRow (fs : List FunctionRow) (places : List LocalPlace) (s : ℕ) (row : SymbolRow) : Type 0 where
+pub record IsSymbolRow (fs : List FunctionRow) (h : Homes) (s : ℕ) (row : SymbolRow) : Type 0 where
   pub number : IsWord s
   pub name : IsName row.name
   pub ctype : HasWords row.ctype
   pub up : IsLink row.up
-  pub found : IsFound fs places row.refers
+  pub found : IsFound fs h row.refers
 
 pub record IsMemberRow (m : Member) : Type 0 where
   pub name : IsName m.name

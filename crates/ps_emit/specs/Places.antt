@@ -1,10 +1,11 @@
 -- Procedures that leave the place of an object, and the static objects.
-use Rattle.std.specs.Prelude.{ℕ, suc, ◌+◌, ◌-◌, List, [], ◌∷◌, ◌++◌, take, length, codes, decimal, Option, Some, None, slice_get, if◌then◌else◌, pos}
+use Rattle.std.specs.Prelude.{ℕ, Bool, true, false, suc, ◌+◌, ◌-◌, List, [], ◌∷◌, ◌++◌, take, length, codes, decimal, Option, Some, None, slice_get, if◌then◌else◌, pos}
 use Rattle.obj_file.specs.declared.object.LocalPlace.{LocalPlace}
 use Rattle.obj_file.specs.declared.object.LocalPlace.TheVariants.{Slot, Reg}
 use Rattle.c_tree.specs.declared.rows.Program.{Program}
 use Rattle.c_tree.specs.declared.rows.UnitRow.{UnitRow}
 use Rattle.c_tree.specs.declared.rows.ObjectRow.{ObjectRow}
+use Rattle.c_tree.specs.declared.rows.Local.{Local}
 use Rattle.ps_text.specs.Code.{Code, Stop, Lit, Proc}
 use Rattle.ps_emit.specs.Terms.{◌⋯◌, word, string, integer, number, bracketed, defined, anchor_name}
 use Rattle.ps_emit.specs.Types.{type_code}
@@ -19,17 +20,37 @@ anchored k = procedure (integer (pos 0) ⋯ Lit (anchor_name k) Stop ⋯ word "A
 abbrev pub absolute : ℕ → Code
 absolute address = procedure (number address ⋯ word "Absolute")
 
-abbrev pub place_words : LocalPlace → Code
-place_words (Slot offset) = integer offset ⋯ word "Local"
-place_words (Reg r) = integer (pos r) ⋯ word "Register"
+-- where the locals of a function are, and how it declares them
+pub record Homes : Type 0 where
+  pub places : List LocalPlace
+  pub locals : List Local
+
+abbrev pub homes : List LocalPlace → List Local → Homes
+homes places locals = record { places = places; locals = locals }
+
+abbrev pub declared_register : Option Local → Bool
+declared_register None = false
+declared_register (Some l) = l.register
+
+-- The word `Register` is how a table tells that a variable is `register`. One that got none drops a register's place again.
+abbrev pub register_told : Bool → Code
+register_told true = integer (pos 0) ⋯ word "Register" ⋯ word "pop" ⋯ word "pop"
+register_told false = Stop
+
+abbrev pub place_words : LocalPlace → (register : Bool) → Code
+place_words (Slot offset) register = integer offset ⋯ word "Local" ⋯ register_told register
+place_words (Reg r) register = integer (pos r) ⋯ word "Register"
 
 -- a local whose place is not told has none
-abbrev pub words_at : Option LocalPlace → Code
-words_at None = Stop
-words_at (Some p) = place_words p
+abbrev pub words_at : Option LocalPlace → (register : Bool) → Code
+words_at None register = Stop
+words_at (Some p) register = place_words p register
 
-abbrev pub placed_at : Option LocalPlace → Code
-placed_at p = procedure (words_at p)
+abbrev pub home_words : Homes → ℕ → Code
+home_words h x = words_at (slice_get h.places x) (declared_register (slice_get h.locals x))
+
+abbrev pub placed_at : Homes → ℕ → Code
+placed_at h x = procedure (home_words h x)
 
 -- ---- labels
 

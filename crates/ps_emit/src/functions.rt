@@ -2,6 +2,7 @@
 ghost use Rattle.std.specs.Prelude.{◌≡◌, OnOk, IfOk, Some, slice_get};
 ghost use Rattle.ps_text.specs.Code.{render};
 ghost use Rattle.ps_emit.specs.Grown.{Grows};
+ghost use Rattle.ps_emit.specs.Places.{homes};
 ghost use Rattle.ps_emit.specs.Symbols.{made_with};
 ghost use Rattle.ps_emit.specs.Functions.{truth, register_offset, saved_register, saved_code, point_code, symbol_at, point_in, points_code, made_by, function_code, function_in, made_in, functions_code, deferred, unit_code, units_code};
 
@@ -70,7 +71,7 @@ fn add_opened_point(
     point: &Point,
     address: u32,
 ) -> Result<u32, AllocError>
-    ensures text { OnOk result (Grows (point_in scene.entry.program.now scene.entry.functions.now scene.entry.places.now made address (Some point.now)) text.old text.new) }
+    ensures text { OnOk result (Grows (point_in scene.entry.program.now scene.entry.functions.now (homes scene.entry.places.now scene.entry.locals.now) made address (Some point.now)) text.old text.new) }
     ensures made { IfOk result (λ n. n ≡ made_with made point.now.symbol) }
 {
     let made = open_scope(alloc, text, scene, made, point.symbol)?;
@@ -87,7 +88,7 @@ fn add_point_of(
     x: u32,
     address: u32,
 ) -> Result<u32, AllocError>
-    ensures text { OnOk result (Grows (point_in scene.entry.program.now scene.entry.functions.now scene.entry.places.now made address (slice_get scene.entry.program.now.points x)) text.old text.new) }
+    ensures text { OnOk result (Grows (point_in scene.entry.program.now scene.entry.functions.now (homes scene.entry.places.now scene.entry.locals.now) made address (slice_get scene.entry.program.now.points x)) text.old text.new) }
     ensures made { IfOk result (λ n. n ≡ made_with made (symbol_at (slice_get scene.entry.program.now.points x))) }
 {
     match scene.program.points.as_slice().get(x as usize) {
@@ -105,7 +106,7 @@ fn add_points(
     points: &[u32],
     addresses: &[u32],
 ) -> Result<u32, AllocError>
-    ensures text { OnOk result (Grows (points_code scene.entry.program.now scene.entry.functions.now scene.entry.places.now made points.now addresses.now) text.old text.new) }
+    ensures text { OnOk result (Grows (points_code scene.entry.program.now scene.entry.functions.now (homes scene.entry.places.now scene.entry.locals.now) made points.now addresses.now) text.old text.new) }
     ensures made { IfOk result (λ n. n ≡ made_by scene.entry.program.now scene.entry.functions.now made points.now addresses.now) }
 {
     let mut made = made;
@@ -127,7 +128,8 @@ fn add_function(
     function: &Function,
     row: &FunctionRow,
 ) -> Result<u32, AllocError>
-    requires { scene.places.now ≡ row.now.locals }
+    requires places { scene.places.now ≡ row.now.locals }
+    requires locals { scene.locals.now ≡ function.now.locals }
     ensures text { OnOk result (Grows (function_code scene.entry.program.now scene.entry.functions.now made function.now row.now) text.old text.new) }
     ensures made { IfOk result (λ n. n ≡ made_by scene.entry.program.now scene.entry.functions.now made function.now.points row.now.points) }
 {
@@ -175,6 +177,7 @@ fn add_function_of(
         program,
         functions: rows,
         places: row.locals.as_slice(),
+        locals: function.locals.as_slice(),
     };
     add_function(alloc, text, scene, made, function, row)
 }

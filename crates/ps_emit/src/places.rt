@@ -2,14 +2,14 @@
 ghost use Rattle.std.specs.Prelude.{◌≡◌, ◌++◌, suc, OnOk, IfOk, length, slice_get};
 ghost use Rattle.ps_emit.specs.Grown.{Grows};
 ghost use Rattle.ps_scan.specs.Escaping.{escaped};
-ghost use Rattle.ps_emit.specs.Places.{anchored, absolute, place_words, words_at, placed_at, file_in, without_ending, label_front, object_label, string_label, object_code, objects_from, string_code, strings_from, objects_code};
+ghost use Rattle.ps_emit.specs.Places.{anchored, absolute, homes, declared_register, register_told, place_words, words_at, home_words, placed_at, file_in, without_ending, label_front, object_label, string_label, object_code, objects_from, string_code, strings_from, objects_code};
 ghost use Rattle.ps_text.specs.Code.{Stop, Text as Str};
 
 use crate::terms::{
     add_anchor_name, add_bytes, add_integer, add_name, add_number, add_string, add_word, following,
 };
 use crate::types::add_type;
-use c_tree::{ObjectRow, Program, UnitRow};
+use c_tree::{Local, ObjectRow, Program, UnitRow};
 use itoa::Buffer;
 use ldb_words::Text;
 use obj_file::LocalPlace;
@@ -37,14 +37,28 @@ pub fn add_absolute(text: &mut Text, address: u32) -> Result<(), AllocError>
     add_word(text, b"}")
 }
 
+/// Adds the word by which a table tells that a variable in memory is `register`, and drops its place.
+fn add_register_told(text: &mut Text, register: bool) -> Result<(), AllocError>
+    ensures { OnOk result (Grows (register_told register) text.old text.new) }
+{
+    if register {
+        add_integer(text, 0)?;
+        add_word(text, b"Register")?;
+        add_word(text, b"pop")?;
+        add_word(text, b"pop")?;
+    }
+    Ok(())
+}
+
 /// Adds what leaves the place of a local.
-fn add_place_words(text: &mut Text, place: LocalPlace) -> Result<(), AllocError>
-    ensures { OnOk result (Grows (place_words place) text.old text.new) }
+fn add_place_words(text: &mut Text, place: LocalPlace, register: bool) -> Result<(), AllocError>
+    ensures { OnOk result (Grows (place_words place register) text.old text.new) }
 {
     match place {
         LocalPlace::Slot(offset) => {
             add_integer(text, offset)?;
-            add_word(text, b"Local")
+            add_word(text, b"Local")?;
+            add_register_told(text, register)
         }
         LocalPlace::Reg(register) => {
             add_integer(text, i32::from(register))?;
@@ -53,22 +67,42 @@ fn add_place_words(text: &mut Text, place: LocalPlace) -> Result<(), AllocError>
     }
 }
 
+/// Whether a local is declared `register`.
+fn declared_register(locals: &[Local], x: u32) -> bool
+    ensures { result ≡ declared_register (slice_get locals.now x) }
+{
+    match locals.get(x as usize) {
+        Some(local) => local.register,
+        None => false,
+    }
+}
+
 /// Adds what leaves the place of a local by its number.
-fn add_place_of(text: &mut Text, places: &[LocalPlace], x: u32) -> Result<(), AllocError>
-    ensures { OnOk result (Grows (words_at (slice_get places.now x)) text.old text.new) }
+fn add_place_of(
+    text: &mut Text,
+    places: &[LocalPlace],
+    locals: &[Local],
+    x: u32,
+) -> Result<(), AllocError>
+    ensures { OnOk result (Grows (home_words (homes places.now locals.now) x) text.old text.new) }
 {
     match places.get(x as usize) {
-        Some(place) => add_place_words(text, *place),
+        Some(place) => add_place_words(text, *place, declared_register(locals, x)),
         None => Ok(()),
     }
 }
 
 /// Adds the place of a local by its number.
-pub fn add_place(text: &mut Text, places: &[LocalPlace], x: u32) -> Result<(), AllocError>
-    ensures { OnOk result (Grows (placed_at (slice_get places.now x)) text.old text.new) }
+pub fn add_place(
+    text: &mut Text,
+    places: &[LocalPlace],
+    locals: &[Local],
+    x: u32,
+) -> Result<(), AllocError>
+    ensures { OnOk result (Grows (placed_at (homes places.now locals.now) x) text.old text.new) }
 {
     add_word(text, b"{")?;
-    add_place_of(text, places, x)?;
+    add_place_of(text, places, locals, x)?;
     add_word(text, b"}")
 }
 

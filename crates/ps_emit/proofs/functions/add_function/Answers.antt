@@ -6,7 +6,7 @@ pub returns : goal.returns
 returns c =
     let named = rw c.as_bytes.ensures at c.in_ok-add_string.ensures in
     let saved = rw c.as_slice.ensures at c.in_ok-add_saved.ensures in
-    let points = rw (c.requires, c.as_slice-2.ensures, c.as_slice-3.ensures) at c.in_ok-made.ensures.text in
+    let points = rw (c.requires.places, c.requires.locals, c.as_slice-2.ensures, c.as_slice-3.ensures) at c.in_ok-made.ensures.text in
     record {
       text =
           named and c.in_ok-add_truth.ensures and c.in_ok-add_number.ensures and c.in_ok-add_number-2.ensures and c.in_ok-add_number-3.ensures

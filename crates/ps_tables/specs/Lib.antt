@@ -1,0 +1,4 @@
+pub mod Taken
+pub mod Dictionaries
+pub mod Making
+pub mod Executed
