@@ -1,5 +1,6 @@
 // Generated programs and sessions with them.
-ghost use Rattle.std.specs.Prelude.{◌≡◌, IfErr};
+ghost use Rattle.std.specs.Prelude.{◌≡◌, IfErr, IfOk};
+ghost use Rattle.ldb_top.specs.Said.{generated};
 ghost use Rattle.ldb_top.specs.Stops.{IsBuildStop};
 
 use crate::opening::begin;
@@ -26,7 +27,9 @@ struct Counts {
 }
 
 /// A generated program and its commands, with a line between them.
-pub fn made_text(alloc: Global, number: u32) -> Result<Text, AllocError> {
+pub fn made_text(alloc: Global, number: u32) -> Result<Text, AllocError>
+    ensures { IfOk result (λ text. text ≡ generated number) }
+{
     let Made { program, commands } = make(alloc, number)?;
     let mut text = program;
     text.append(b"----\n")?;

@@ -192,6 +192,7 @@ pub fn open_go<F: Files>(
     request: &GoRequest<'_>,
     files: &mut F,
 ) -> Result<Session<NearLink>, Stop>
+    ensures same { F.held files.new ≡ F.held files.old }
     ensures write_faults { F.write_faults files.new ≡ F.write_faults files.old }
     ensures cause { MatchResult result (λ _. F.read_faults files.new ≡ F.read_faults files.old)
         (IsOpenStop IsBuildStop (F.missed files.new) (F.read_faults files.old) (F.read_faults files.new)) }
@@ -232,6 +233,7 @@ pub fn open_debug<F: Files>(
     request: &DebugRequest<'_>,
     files: &mut F,
 ) -> Result<Session<NearLink>, Stop>
+    ensures same { F.held files.new ≡ F.held files.old }
     ensures write_faults { F.write_faults files.new ≡ F.write_faults files.old }
     ensures cause { MatchResult result (λ _. F.read_faults files.new ≡ F.read_faults files.old)
         (IsOpenStop IsLoadStop (F.missed files.new) (F.read_faults files.old) (F.read_faults files.new)) }

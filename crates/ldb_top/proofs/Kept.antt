@@ -1,0 +1,44 @@
+-- Files of which one is written.
+use Rattle.std.proofs.Common.{◌≡◌, ◌≢◌, ℕ, Bool, true, false, List, [], ◌++◌, cond, take, Option, None, Some, Ok, Err, refl, sym, ap, ◌∙◌, subst, is_some}
+use Rattle.std.specs.Prelude.{unwrap_or, IfOk, OnErr}
+use Rattle.std.specs.declared.result.Result.{Result}
+use Rattle.std.specs.Option.{option_map}
+use Rattle.std.specs.Str.{bytes_eq}
+use Rattle.std.specs.FinMap as map
+use Rattle.ldb_edge.specs.Count.{Rose, CountsFault}
+use Rattle.ldb_edge.specs.Known.{FileMap, appended}
+use Rattle.ldb_edge.specs.declared.outside.FileErr.{FileErr}
+use Rattle.ldb_edge.specs.declared.outside.FileErr.TheVariants.{Absent, Failed}
+use Rattle.ldb_edge.proofs.Maps.{get-insert, equal_bytes}
+use Rattle.ldb_top.specs.Output.{held_under, OthersKept}
+
+apart : (name other : List ℕ) (b : Bool) (x y : Option (List ℕ)) → bytes_eq other name ≡ b → other ≢ name → cond b x y ≡ y
+apart name other true x y e n = absurd (n (equal_bytes other name e))
+apart name other false x y e n = refl
+
+pub others_same : (name : List ℕ) (held held' : Option FileMap) → held' ≡ held → OthersKept name held held'
+others_same name held held' e = (ap is_some e, λ other n. ap (λ h. held_under h other) e)
+
+-- one name was set
+pub others_kept : (name : List ℕ) (bytes : FileMap → List ℕ) (held held' : Option FileMap) → held' ≡ option_map (λ files. map.insert files name (bytes files)) held → OthersKept name held held'
+others_kept name bytes None held' e = others_same name None held' e
+others_kept name bytes (Some m) held' e =
+    (ap is_some e, λ other n. ap (λ h. held_under h other) e ∙ get-insert m name (bytes m) other ∙ apart name other (bytes_eq other name) (Some (bytes m)) (map.get m other) refl n)
+
+pub others_on : (name : List ℕ) (a b c : Option FileMap) → OthersKept name a b → OthersKept name b c → OthersKept name a c
+others_on name a b c p q = (q.0 ∙ p.0, λ other n. q.1 other n ∙ p.1 other n)
+
+-- an append to it
+pub others_appended : (name name' piece : List ℕ) (a b c : Option FileMap) (r : Result ℕ FileErr) → name' ≡ name → OthersKept name a b
+    → IfOk r (λ n. c ≡ option_map (λ files. appended files name' (take n piece)) b) → OnErr r (c ≡ b) → OthersKept name a c
+others_appended name name' piece a b c (Ok n) e k o f = others_on name a b c k (subst (λ x. OthersKept x b c) e (others_kept name' (λ files. unwrap_or (map.get files name') [] ++ take n piece) b c o))
+others_appended name name' piece a b c (Err x) e k o f = others_on name a b c k (others_same name b c f)
+
+-- a fault of a file that is there
+pub rose_at : (before now : ℕ) (e : FileErr) → (e ≡ Absent → ⊥) → CountsFault before now e → Rose before now
+rose_at before now Absent n c = absurd (n refl)
+rose_at before now Failed n c = c
+
+-- a file that was made
+pub others_made : (name : List ℕ) (start held held' : Option FileMap) → held' ≡ option_map (λ files. map.insert files name []) held → OthersKept name start held → OthersKept name start held'
+others_made name start held held' e k = others_on name start held held' k (others_kept name (λ files. []) held held' e)

@@ -1,0 +1,34 @@
+-- What a call writes to the transcript.
+use Rattle.std.specs.Prelude.{◌≡◌, ℕ, List, ◌++◌, drop, codes, Option, Some, unwrap_or, IfSome}
+use Rattle.cc_call.specs.Lines.{name_in}
+use Rattle.ldb_make.specs.Words.{words}
+use Rattle.ldb_make.specs.Program.{program_text}
+use Rattle.ldb_make.specs.Commands.{commands_text}
+use Rattle.ldb_top.specs.declared.words.Request.{Request}
+use Rattle.ldb_top.specs.declared.words.Request.TheVariants as request
+use Rattle.ldb_top.specs.Words.{number_of, Debug, Go}
+use Rattle.ldb_top.specs.Output.{output_of}
+
+-- some bytes have these in front
+pub record IsFront (front bytes : List ℕ) : Type 0 where
+  pub rest : List ℕ
+  pub is : bytes ≡ front ++ rest
+
+-- what was taken has these bytes in front, where it is told
+abbrev pub BeginsWith : List ℕ → Option (List ℕ) → Type 0
+BeginsWith front taken = IfSome taken (IsFront front)
+
+-- the generated program of a number and its commands, with a line between them
+abbrev pub generated : ℕ → List ℕ
+generated number = (program_text (words number) ++ codes "----\n") ++ commands_text (words number)
+
+-- the number of the words `make N`
+abbrev pub number_in : List (List ℕ) → ℕ
+number_in asked = unwrap_or (number_of (name_in (drop 1 asked) 0)) 0
+
+-- the names and numbers of a request are those of the words behind the first
+abbrev pub IsNamed : List (List ℕ) → Request → Type 0
+IsNamed words (request.Debug r) = r.output.now ≡ output_of Debug words
+IsNamed words (request.Go r) = r.output.now ≡ output_of Go words
+IsNamed words (request.Make n) = number_of (name_in words 0) ≡ Some n
+IsNamed words (request.Own n) = number_of (name_in words 0) ≡ Some n
