@@ -15,7 +15,7 @@ ghost use Rattle.ps_terms.specs.Stands.{Are, Frames, core};
 ghost use Rattle.ps_terms.specs.Printing.{word, Printing, Looked};
 ghost use Rattle.ps_terms.specs.Faring.{shut, HoldsDicts, Stays, Comes};
 ghost use Rattle.ps_store.specs.Settled.{Settled};
-ghost use Rattle.ps_store.specs.Store.{closed_part};
+ghost use Rattle.ps_store.specs.Store.{closed_part, new_store};
 ghost use Rattle.ps_step.specs.declared.machine.PsCore.{PsCore};
 ghost use Rattle.ps_print.specs.Prelude.{print_body};
 ghost use Rattle.ps_print.specs.Words.{Holds, RoomFor};
@@ -42,8 +42,9 @@ pub fn values_are_printed<D: Dialect>()
 {}
 
 /// A run of the prelude's text in a new state comes to its end in 75 steps, whatever the dialect, and where it is loaded its
-/// words mean what its terms say.
+/// words mean what its terms say: also on the prelude's dictionary alone, by what is closed of each store that comes behind.
 pub fn prelude_is_loaded<D: Dialect>()
     ensures run { (left : ℕ) (d : D) → Leads D.operates (further 75 left) d start left d executed }
     ensures holds { Holds loaded.store loaded.dictionaries digits_id }
+    ensures stays { (now : StoreState) → Settled (closed_part loaded.store) (closed_part now) → Holds (shut now) new_store.base digits_id }
 {}
