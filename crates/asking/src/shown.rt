@@ -17,11 +17,17 @@ use table_asks::{
     scope_found, symbol_found,
 };
 use table_model::Lack;
-use table_read::{dict_at, entry};
-use table_types::check_type;
+use table_read::{dict_at, entry, items_at};
+use table_types::{TypeKind, member_in, type_kind};
 
 /// The most bytes of an identifier.
 const MOST_LETTERS: usize = 63;
+
+/// The most that a type is deep.
+const MOST_DEEP: u32 = 64;
+
+/// The most parts of a type: one of 1,048,576 bytes that is 64 deep has no more.
+const MOST_PARTS: u32 = 67_108_864;
 
 /// Before a command runs PostScript: in which frame its operators work, and whether they may store to the target. Nothing is
 /// appended yet, the immediate cell is 0, and no fault is kept.
@@ -68,12 +74,51 @@ fn is_function(store: &PsStore, symbol: DictId) -> Result<bool, Lack> {
     }
 }
 
-/// The type of a symbol, unless it is too deep. What else a type lacks is met by its printer, where that asks for it.
+/// How many parts may still be walked behind a type of which at most so many levels are, in the order of its parts; none where there
+/// are too many.
+#[cycle(parts)]
+fn parts_left(store: &PsStore, deep: u32, left: u32, t: DictId) -> Result<u32, Lack> {
+    if deep == 0 || left == 0 {
+        return Err(Lack::TooDeep);
+    }
+    match type_kind(store, t)? {
+        TypeKind::Int | TypeKind::Unsigned | TypeKind::Char => Ok(left - 1),
+        TypeKind::Pointer => {
+            let to = dict_at(store, t, b"to")?;
+            match type_kind(store, to)? {
+                TypeKind::Struct => Ok(left - 1),
+                _ => parts_left(store, deep - 1, left - 1, to),
+            }
+        }
+        TypeKind::Array => {
+            let item = dict_at(store, t, b"to")?;
+            parts_left(store, deep - 1, left - 1, item)
+        }
+        TypeKind::Struct => {
+            let members = items_at(store, t, b"members")?;
+            members_left(store, deep - 1, left - 1, members)
+        }
+    }
+}
+
+/// The same behind the types of some members.
+#[cycle(parts)]
+fn members_left(store: &PsStore, deep: u32, left: u32, members: &[PsObj]) -> Result<u32, Lack> {
+    let mut left = left;
+    for object in members {
+        let member = member_in(store, *object)?;
+        left = parts_left(store, deep, left, member.ctype)?;
+    }
+    Ok(left)
+}
+
+/// The type of a symbol, unless it is too deep or has too much inside. What else a type lacks is met by its printer, where that asks
+/// for it.
 fn printed_type(store: &PsStore, symbol: DictId) -> Result<DictId, Lack> {
     let ctype = dict_at(store, symbol, b"type")?;
-    match check_type(store, ctype) {
+    match parts_left(store, MOST_DEEP, MOST_PARTS, ctype) {
         Err(Lack::TooDeep) => Err(Lack::TooDeep),
-        Ok(()) | Err(_) => Ok(ctype),
+        Ok(_) | Err(_) => Ok(ctype),
     }
 }
 
