@@ -104,12 +104,12 @@ fn parts_left(store: &PsStore, deep: u32, left: u32, t: DictId) -> Result<u32, L
 /// The same behind the types of some members.
 #[cycle(parts)]
 fn members_left(store: &PsStore, deep: u32, left: u32, members: &[PsObj]) -> Result<u32, Lack> {
-    let mut left = left;
+    let mut rest = left;
     for object in members {
         let member = member_in(store, *object)?;
-        left = parts_left(store, deep, left, member.ctype)?;
+        rest = parts_left(store, deep, rest, member.ctype)?;
     }
-    Ok(left)
+    Ok(rest)
 }
 
 /// The type of a symbol, unless it is too deep or has too much inside. What else a type lacks is met by its printer, where that asks
