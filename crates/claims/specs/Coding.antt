@@ -17,7 +17,7 @@ use Rattle.table_model.specs.Frames.{frame_at, point_of}
 use Rattle.ps_words.specs.Words.{error_of}
 use Rattle.dialect_model.specs.Dial.{Dial}
 use Rattle.dialect_model.specs.Operating.{Operates}
-use Rattle.dialect_model.specs.Forcing.{ForcesUnit}
+use Rattle.dialect_model.specs.Forcing.{ForcesUnit, idle}
 use Rattle.dialect_model.specs.TableUse.{TableUse, use_of, Trouble, Refused, Kind, Spent, Wanting, Eval, trouble_of, gives, ◌>>=◌}
 use Rattle.dialect_model.specs.Running.{Run}
 use Rattle.dialect_model.specs.Near.{slackened}
@@ -72,7 +72,7 @@ Serves sc x t answer d c = ((d.target ≡ Some sc.target) × ServesBy sc x t ans
 -- a table in which the functions of some more units were run
 pub data HasRun : StoreState → StoreState → Type 0 where
   no_more : {s : StoreState} → HasRun s s
-  one_more : {s s₁ s' : StoreState} {u n m : ℕ} → ForcesUnit u s n (Ok s₁) m → HasRun s₁ s' → HasRun s s'
+  one_more : {s s' : StoreState} {u n m : ℕ} {c : PsCore} → ForcesUnit u (idle s) n (Ok tt) m c → HasRun c.store s' → HasRun s s'
 
 -- A frame of any machine of the side's target that stands at the point at which the chosen frame stands, where a session chose it.
 -- The functions of more units may have been run there.

@@ -1,4 +1,0 @@
-pub mod Taken
-pub mod Dictionaries
-pub mod Making
-pub mod Executed

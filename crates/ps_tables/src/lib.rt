@@ -1,6 +1,0 @@
-//! What a run of a table does.
-#![tactic(auto)]
-
-mod laws;
-
-pub use laws::{dictionaries_are_made, steps_are_taken, texts_are_executed};
