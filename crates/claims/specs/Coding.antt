@@ -25,7 +25,7 @@ use Rattle.c_reading.specs.Readings.{AsValue}
 use Rattle.c_bytes.specs.Lvalues.{Cause, Reason, Disturbed, Scene, Named, place_in}
 use Rattle.c_bytes.specs.Evaluation.{values_of, fetch_all}
 use Rattle.claims.specs.Side.{SideState, Change, OnSide, MOST_STEPS, row_of, memory_of, target_of}
-use Rattle.claims.specs.Raw.{ps_ready}
+use Rattle.claims.specs.Raw.{text_ready}
 use Rattle.claims.specs.Reading.{ReadText, reading}
 use Rattle.claims.specs.Evaluating.{is_disturbed}
 
@@ -87,11 +87,12 @@ pub record StandsAlike (a : SideState) (s : StoreState) (x : ReadText) (b : Side
 abbrev scene_in : SideState → Frame → Scene → Scene
 scene_in b f sc = record sc { target = target_of b; frame = f }
 
--- The text has no LF. It serves wherever it is run as `ps` runs texts, but under a disturbed table, where no text does.
+-- The text has no LF. It serves wherever it is run as a text of `ps` that may not store in the target, as no evaluation may; but
+-- under a disturbed table no text does.
 abbrev pub IsCode : SideState → ReadText → StoreState → List ℕ → Type 0
 IsCode a x s text = AllByRecursion (λ c. c ≢ 10) text
     × (is_disturbed s ≡ false → (b : SideState) (f : Frame) (run : Run) (t : TableUse) (answer : Answer) (left : ℕ) (d : Dial) (c : PsCore)
-    → StandsAlike a s x b f → ps_ready b text (use_of b.table MOST_STEPS) (Ok run) t → Runs Operates t.left run.dial run.core answer left d c
+    → StandsAlike a s x b f → text_ready false b text (use_of b.table MOST_STEPS) (Ok run) t → Runs Operates t.left run.dial run.core answer left d c
     → Serves (scene_in b f x.scene) x (use_of b.table MOST_STEPS) answer d c)
 
 abbrev any_code : SideState → ReadText → OnSide (List ℕ)

@@ -1,5 +1,5 @@
 -- `regs` and `ps`: commands about the target itself.
-use Rattle.std.specs.Prelude.{◌≡◌, ◌≤◌, ℕ, zero, true, List, [], ◌∷◌, ◌++◌, reverse, codes, Option, Some, None, Result, Ok, Err}
+use Rattle.std.specs.Prelude.{◌≡◌, ◌≤◌, ℕ, zero, Bool, true, List, [], ◌∷◌, ◌++◌, reverse, codes, Option, Some, None, Result, Ok, Err}
 use Rattle.machine_state.specs.declared.layout.TheConstants.{CONTEXT_WORDS}
 use Rattle.machine_state.specs.State.{order_of}
 use Rattle.machine_state.specs.Regions.{words_in}
@@ -35,9 +35,12 @@ texted_by t d c (Err f) r t' = (r ≡ Err (Kind LimitCheck)) × (t' ≡ t)
 abbrev texted : List ℕ → Dial → PsCore → OnSide Run
 texted text d c t r t' = texted_by t d c (making_string t.store text) r t'
 
--- What is to run. No frame is walked before the text asks for the chosen one.
+-- What is to run, where a text may store in the target (`raw`) or not. No frame is walked before the text asks for the chosen one.
+abbrev pub text_ready : (raw : Bool) → SideState → List ℕ → OnSide Run
+text_ready raw a text = beginning >>= texted text (dial_of a (Numbered a.frame) raw)
+
 abbrev pub ps_ready : SideState → List ℕ → OnSide Run
-ps_ready a text = beginning >>= texted text (dial_of a (Numbered a.frame) true)
+ps_ready a text = text_ready true a text
 
 -- the operands that are left, from the bottom
 abbrev pub operand_texts : StoreState → List PsObj → List ℕ

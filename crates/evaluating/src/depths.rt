@@ -6,7 +6,7 @@ use c_tree::{CType, StructDef, members};
 const LARGEST: u32 = 1_048_576;
 
 /// The most parts of a struct: a type of that size that is 64 deep has no more. A table by hand may tell sizes that are too small for
-/// what stands inside, and who walks such a struct must not walk for ever.
+/// what stands inside; for a walk of such a struct there is no memory, and no time.
 const MOST_PARTS: u32 = 67_108_864;
 
 /// Whether a type is a struct.
@@ -74,6 +74,13 @@ fn beside(one: Extent, other: Extent) -> Extent {
     }
 }
 
+/// Why the extent of a type isn't told: the type is too deep, or has more than 67,108,864 parts.
+#[derive(Clone, Copy)]
+pub enum Beyond {
+    Depth,
+    Parts,
+}
+
 /// The extent of a type, if it is at most so deep and has at most 67,108,864 parts. Those of structs are remembered.
 #[cycle(depth)]
 pub fn extent_within(
@@ -81,22 +88,22 @@ pub fn extent_within(
     extents: &mut Vec<Extent>,
     deep: u32,
     t: &CType,
-) -> Option<Extent> {
+) -> Result<Extent, Beyond> {
     if deep == 0 {
-        return None;
+        return Err(Beyond::Depth);
     }
     match t {
-        CType::Char | CType::Int | CType::Unsigned | CType::Void => Some(around(UNASKED)),
+        CType::Char | CType::Int | CType::Unsigned | CType::Void => Ok(around(UNASKED)),
         CType::Pointer(to) => {
             if is_struct(to) {
-                return Some(around(UNASKED));
+                return Ok(around(UNASKED));
             }
             let target = extent_within(defs, extents, deep - 1, to)?;
-            Some(around(target))
+            Ok(around(target))
         }
         CType::Array(item, _) => {
             let item = extent_within(defs, extents, deep - 1, item)?;
-            Some(around(item))
+            Ok(around(item))
         }
         CType::Struct(s) => struct_extent(defs, extents, deep, *s),
     }
@@ -109,31 +116,31 @@ pub fn struct_extent(
     extents: &mut Vec<Extent>,
     deep: u32,
     s: u32,
-) -> Option<Extent> {
+) -> Result<Extent, Beyond> {
     if deep == 0 {
-        return None;
+        return Err(Beyond::Depth);
     }
     let known = extents.get(s as usize).copied().unwrap_or(UNASKED);
     if known.depth > 0 {
         return if known.depth <= deep {
-            Some(known)
+            Ok(known)
         } else {
-            None
+            Err(Beyond::Depth)
         };
     }
     let mut inner = UNASKED;
     for member in members(defs, s) {
         match extent_within(defs, extents, deep - 1, &member.ctype) {
-            Some(extent) => inner = beside(inner, extent),
-            None => return None,
+            Ok(extent) => inner = beside(inner, extent),
+            Err(why) => return Err(why),
         }
     }
     let own = around(inner);
     if own.parts > MOST_PARTS {
-        return None;
+        return Err(Beyond::Parts);
     }
     if let Some(place) = extents.get_mut(s as usize) {
         *place = own;
     }
-    Some(own)
+    Ok(own)
 }

@@ -3,7 +3,7 @@
 ghost use Rattle.std.specs.Prelude.{◌≡◌};
 ghost use Rattle.ps_store.specs.Store.{closed_part};
 
-use crate::depths::{Extent, UNASKED, extent_within, small_size, struct_extent};
+use crate::depths::{Beyond, Extent, UNASKED, extent_within, small_size, struct_extent};
 use c_judge::{Symbol, array_of, pointer_to};
 use c_tree::{CType, Member, StructDef};
 use ldb_words::{Many, Text};
@@ -40,6 +40,15 @@ impl From<AllocError> for Want {
 impl From<Lack> for Want {
     fn from(lack: Lack) -> Self {
         Want::Lacks(lack)
+    }
+}
+
+impl From<Beyond> for Want {
+    fn from(why: Beyond) -> Self {
+        match why {
+            Beyond::Depth => Want::Lacks(Lack::TooDeep),
+            Beyond::Parts => Want::NoMemory,
+        }
     }
 }
 
@@ -241,29 +250,30 @@ impl Known {
         Ok(())
     }
 
-    /// Whether a struct is within the limits.
-    fn is_within(&mut self, number: usize) -> bool {
+    /// Asks the limits of a struct.
+    fn check_struct(&mut self, number: usize) -> Result<(), Want> {
         let defs = self.defs.as_slice();
-        match defs.get(number) {
-            None => true,
-            Some(def) => {
-                small_size(defs, &CType::Struct(as_number(number))).is_some()
-                    && def
-                        .members
-                        .as_slice()
-                        .iter()
-                        .all(|member| small_size(defs, &member.ctype).is_some())
-                    && struct_extent(defs, &mut self.extents, DEEPEST, as_number(number)).is_some()
-            }
+        let Some(def) = defs.get(number) else {
+            return Ok(());
+        };
+        let is_small = small_size(defs, &CType::Struct(as_number(number))).is_some()
+            && def
+                .members
+                .as_slice()
+                .iter()
+                .all(|member| small_size(defs, &member.ctype).is_some());
+        if !is_small {
+            return Err(Want::Lacks(Lack::TooDeep));
         }
+        struct_extent(defs, &mut self.extents, DEEPEST, as_number(number))?;
+        Ok(())
     }
 
-    /// Asks the limits of the structs that are new: at most 64 deep, of at most 1,048,576 bytes, and with no more inside than fits there.
+    /// Asks the limits of the structs that are new: at most 64 deep, of at most 1,048,576 bytes, and with no more inside than there is
+    /// memory for.
     fn check_structs(&mut self) -> Result<(), Want> {
         for number in self.checked..self.defs.len() {
-            if !self.is_within(number) {
-                return Err(Want::Lacks(Lack::TooDeep));
-            }
+            self.check_struct(number)?;
         }
         self.checked = self.defs.len();
         Ok(())
@@ -272,13 +282,11 @@ impl Known {
     /// Asks the limits of a type.
     fn check_type(&mut self, t: &CType) -> Result<(), Want> {
         let defs = self.defs.as_slice();
-        if small_size(defs, t).is_some()
-            && extent_within(defs, &mut self.extents, DEEPEST, t).is_some()
-        {
-            Ok(())
-        } else {
-            Err(Want::Lacks(Lack::TooDeep))
+        if small_size(defs, t).is_none() {
+            return Err(Want::Lacks(Lack::TooDeep));
         }
+        extent_within(defs, &mut self.extents, DEEPEST, t)?;
+        Ok(())
     }
 
     /// A type of the table with every struct that it leads to.
