@@ -21,7 +21,7 @@ use Rattle.claims.specs.Resumes.{resumed}
 
 -- ---- the refusals by the session's state
 
-abbrev needs_stop : Command → Bool
+abbrev pub needs_stop : Command → Bool
 needs_stop command.Frames = true
 needs_stop (command.Frame n) = true
 needs_stop (command.Print name) = true
@@ -31,7 +31,7 @@ needs_stop (command.Code text) = true
 needs_stop (command.Ps text) = true
 needs_stop c = false
 
-abbrev goes_while_running : Command → Bool
+abbrev pub goes_while_running : Command → Bool
 goes_while_running command.Continue = true
 goes_while_running (command.Turns n) = true
 goes_while_running command.Regs = true

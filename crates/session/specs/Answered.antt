@@ -1,28 +1,51 @@
--- What a session that has ended answers.
-use Rattle.std.specs.Prelude.{◌≡◌, ◌⊎◌, ℕ, List, [], codes, Result, Ok, Err}
+-- What a session answers before it asks anything: to a line that is no command, and to a command that its state refuses.
+use Rattle.std.specs.Prelude.{◌≡◌, ◌⊎◌, ℕ, List, [], ◌++◌, codes, decimal, Result, Ok, Err, if◌then◌else◌}
+use Rattle.c_session.specs.declared.command.Command.{Command}
+use Rattle.c_session.specs.Commands.{Refusal, BadLine, HasEnded, IsRunning, refusal_text, Resume, ByStep, ByContinue}
+use Rattle.cmd_lang.specs.Words.{is_empty}
+use Rattle.claims.specs.Side.{State, Fresh, Stopped, Running, Ended}
 use Rattle.session.specs.declared.answers.Answer.{Answer}
 use Rattle.session.specs.declared.answers.Answer.TheVariants.{Lines, NoMemory}
 use Rattle.session.specs.declared.answers.End.{End}
-use Rattle.session.specs.declared.answers.End.TheVariants.{Quit, OutFault}
+use Rattle.session.specs.declared.modes.How.{How}
+use Rattle.session.specs.declared.modes.How.TheVariants as how
+use Rattle.session.specs.declared.modes.Mode.{Mode}
+use Rattle.session.specs.declared.modes.Mode.TheVariants as mode
+use Rattle.session.specs.declared.modes.ModeRefusal.{ModeRefusal}
+use Rattle.session.specs.declared.modes.ModeRefusal.TheVariants as because
 
--- the reply to a line that is no command, and to a command of a session that has ended
-abbrev pub LINE_REPLY : List ℕ
-LINE_REPLY = codes "refused line\n"
+abbrev resume_of : How → Resume
+resume_of how.ByStep = ByStep
+resume_of how.ByContinue = ByContinue
 
-abbrev pub ENDED_REPLY : List ℕ
-ENDED_REPLY = codes "refused ended\n"
+-- the state of the machine session in a mode
+abbrev pub state_of : Mode → State
+state_of mode.Fresh = Fresh
+state_of mode.Stopped = Stopped
+state_of (mode.Running began) = Running (resume_of began)
+state_of mode.Ended = Ended
 
--- nothing to a line of blanks
-abbrev pub IsLineReply : Answer → Type 0
-IsLineReply (Lines t) = (t ≡ []) ⊎ (t ≡ LINE_REPLY)
-IsLineReply NoMemory = Unit {0}
+abbrev pub reason_of : ModeRefusal → Refusal
+reason_of because.Ended = HasEnded
+reason_of because.Running = IsRunning
 
-abbrev pub IsEndedReply : Answer → Type 0
-IsEndedReply (Lines t) = t ≡ ENDED_REPLY
-IsEndedReply NoMemory = Unit {0}
+-- the reply that refuses a command
+abbrev pub refusal_reply : Refusal → List ℕ
+refusal_reply u = refusal_text u ++ codes "\n"
 
--- a session that has ended answers `quit`, and lines that are none
-abbrev pub AnswersEnded : Result Answer End → Type 0
-AnswersEnded (Ok a) = IsLineReply a ⊎ IsEndedReply a
-AnswersEnded (Err Quit) = Unit {0}
-AnswersEnded (Err OutFault) = ⊥
+-- the reply to a line that is no command: nothing to one of blanks
+abbrev pub line_reply : List ℕ → List ℕ
+line_reply line = if is_empty line then [] else refusal_reply BadLine
+
+-- the reply to a new limit of turns
+abbrev pub limit_reply : ℕ → List ℕ
+limit_reply n = codes "limit " ++ (decimal n ++ codes "\n")
+
+-- a reply for which memory may be wanting
+abbrev pub Replies : List ℕ → Answer → Type 0
+Replies text (Lines t) = t ≡ text
+Replies text NoMemory = Unit {0}
+
+abbrev pub Answers : List ℕ → Result Answer End → Type 0
+Answers text (Ok a) = Replies text a
+Answers text (Err e) = ⊥

@@ -1,9 +1,12 @@
 // A session.
 
-ghost use Rattle.std.specs.Prelude.{◌≡◌, ◌⊎◌, IfOk, OnErr, Ok, Err, Some};
+ghost use Rattle.std.specs.Prelude.{◌≡◌, ◌⊎◌, ℕ, IfOk, OnErr, Ok, Err, Some, None};
+ghost use Rattle.c_session.specs.declared.command.Command.{Command};
 ghost use Rattle.c_session.specs.declared.command.Command.TheVariants.{Quit, Turns};
 ghost use Rattle.cmd_lang.specs.Commands.{read_of};
-ghost use Rattle.session.specs.Answered.{IsLineReply, IsEndedReply, AnswersEnded};
+ghost use Rattle.c_session.specs.Commands.{Refusal};
+ghost use Rattle.claims.specs.Outcome.{refused_by_state};
+ghost use Rattle.session.specs.Answered.{state_of, refusal_reply, line_reply, limit_reply, Replies, Answers};
 ghost use Rattle.session.specs.Counted.{CountsOutput, CountsEnd, IsNoQuit};
 ghost use Rattle.session.specs.Kept.{IsKept, IsUndone};
 
@@ -63,7 +66,7 @@ fn answer(said: Result<Text, AllocError>) -> Answer
 
 /// The answer to a line that is no command.
 fn malformed(alloc: Global, line: &[u8]) -> Answer
-    ensures { IsLineReply result }
+    ensures { Replies (line_reply line.now) result }
 {
     if is_empty(line) {
         return Answer::Lines(Text::new(alloc));
@@ -167,14 +170,16 @@ impl<L: Link + Drop> Session<L> {
         })
     }
 
-    /// The answer to a line; program output goes to `out` before it. Once the session has ended every line but `quit` is refused, and
-    /// nothing changes. Without memory the session is as before; units of tables that were run stay so, and what a text of PostScript
-    /// stored in the target stays.
+    /// The answer to a line; program output goes to `out` before it. A line that is no command, and a command that the session's state
+    /// refuses, changes nothing; once the session has ended that is every one but `quit`. Without memory the session is as before;
+    /// units of tables that were run stay so, and what a text of PostScript stored in the target stays.
     pub fn command<O: Sink>(&mut self, line: &[u8], out: &mut O) -> Result<Answer, End>
         ensures quit { read_of self.old.raw line.now ≡ Some Quit → result ≡ Err End.Quit }
         ensures quits { result ≡ Err End.Quit → read_of self.old.raw line.now ≡ Some Quit }
         ensures output { CountsEnd (O.faults out.old) (O.faults out.new) result }
-        ensures ended { self.old.mode ≡ Mode.Ended → AnswersEnded result × (self.new ≡ self.old) }
+        ensures turns { (n : ℕ) → read_of self.old.raw line.now ≡ Some (Turns n) → refused_by_state (state_of self.old.mode) (Turns n) ≡ None → ((result ≡ Ok (Answer.Lines (limit_reply n))) × (self.new ≡ record self.old { limit = n })) ⊎ ((result ≡ Ok Answer.NoMemory) × (self.new ≡ self.old)) }
+        ensures line { read_of self.old.raw line.now ≡ None → Answers (line_reply line.now) result × (self.new ≡ self.old) }
+        ensures refused { (c : Command) (u : Refusal) → read_of self.old.raw line.now ≡ Some c → refused_by_state (state_of self.old.mode) c ≡ Some u → Answers (refusal_reply u) result × (self.new ≡ self.old) }
         ensures no_memory { result ≡ Ok Answer.NoMemory → (self.new.mode ≡ self.old.mode) × (self.new.limit ≡ self.old.limit) × IsKept self.old.first self.new.first }
         ensures out_fault { result ≡ Err End.OutFault → self.new.mode ≡ Mode.Ended }
         ensures limit { (self.new.limit ≡ self.old.limit) ⊎ (read_of self.old.raw line.now ≡ Some (Turns self.new.limit)) }
@@ -192,8 +197,8 @@ impl<L: Link + Drop> Session<L> {
     fn obey<O: Sink>(&mut self, command: &Command, out: &mut O) -> Result<Answer, End>
         ensures no_quit { IsNoQuit result }
         ensures output { CountsEnd (O.faults out.old) (O.faults out.new) result }
-        ensures ended { self.old.mode ≡ Mode.Ended → IfOk result (λ a. IsEndedReply a) × (self.new ≡ self.old) }
-        ensures going { self.old.mode ≡ Mode.Ended → OnErr result ⊥ }
+        ensures turns { (n : ℕ) → command.now ≡ Turns n → refused_by_state (state_of self.old.mode) command.now ≡ None → ((result ≡ Ok (Answer.Lines (limit_reply n))) × (self.new ≡ record self.old { limit = n })) ⊎ ((result ≡ Ok Answer.NoMemory) × (self.new ≡ self.old)) }
+        ensures refused { (u : Refusal) → refused_by_state (state_of self.old.mode) command.now ≡ Some u → Answers (refusal_reply u) result × (self.new ≡ self.old) }
         ensures no_memory { result ≡ Ok Answer.NoMemory → (self.new.mode ≡ self.old.mode) × (self.new.limit ≡ self.old.limit) × IsKept self.old.first self.new.first }
         ensures out_fault { OnErr result (self.new.mode ≡ Mode.Ended) }
         ensures limit { (self.new.limit ≡ self.old.limit) ⊎ (command.now ≡ Turns self.new.limit) }
@@ -244,9 +249,7 @@ impl<L: Link + Drop> Session<L> {
 
     /// `turns`.
     fn set_limit(&mut self, limit: u32) -> Answer
-        ensures no_memory { result ≡ Answer.NoMemory → self.new ≡ self.old }
-        ensures limit { (self.new.limit ≡ self.old.limit) ⊎ (self.new.limit ≡ limit) }
-        ensures raw { self.new.raw ≡ self.old.raw }
+        ensures { ((result ≡ Answer.Lines (limit_reply limit)) × (self.new ≡ record self.old { limit = limit })) ⊎ ((result ≡ Answer.NoMemory) × (self.new ≡ self.old)) }
     {
         match limit_reply(self.alloc, limit) {
             Ok(text) => {

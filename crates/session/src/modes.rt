@@ -1,6 +1,9 @@
 // The modes of a session, and which commands each refuses.
 
-ghost use Rattle.std.specs.Prelude.{◌≡◌, Some};
+ghost use Rattle.std.specs.Prelude.{◌≡◌};
+ghost use Rattle.std.specs.Option.{option_map};
+ghost use Rattle.claims.specs.Outcome.{needs_stop, goes_while_running, refused_by_state};
+ghost use Rattle.session.specs.Answered.{state_of, reason_of};
 
 use c_session::Command;
 
@@ -28,7 +31,9 @@ pub enum ModeRefusal {
 }
 
 /// Whether a command needs a program that was resumed.
-fn needs_stop(command: &Command) -> bool {
+fn needs_stop(command: &Command) -> bool
+    ensures { result ≡ needs_stop command.now }
+{
     match command {
         Command::Frames
         | Command::Frame(_)
@@ -42,20 +47,25 @@ fn needs_stop(command: &Command) -> bool {
 }
 
 /// Whether a command may come while a resume is interrupted.
-fn goes_while_running(command: &Command) -> bool {
+fn goes_while_running(command: &Command) -> bool
+    ensures { result ≡ goes_while_running command.now }
+{
     match command {
-        Command::Continue | Command::Turns(_) | Command::Regs => true,
+        Command::Continue | Command::Turns(_) | Command::Regs | Command::Quit => true,
         _ => false,
     }
 }
 
-/// Why a command other than `quit` is refused in a mode, if it is.
+/// Why a command is refused in a mode, if it is.
 pub fn refused_in(mode: Mode, command: &Command) -> Option<ModeRefusal>
-    ensures { mode ≡ Mode.Ended → result ≡ Some ModeRefusal.Ended }
+    ensures { option_map reason_of result ≡ refused_by_state (state_of mode) command.now }
 {
     match mode {
         Mode::Stopped => None,
-        Mode::Ended => Some(ModeRefusal::Ended),
+        Mode::Ended => match command {
+            Command::Quit => None,
+            _ => Some(ModeRefusal::Ended),
+        },
         Mode::Fresh => {
             if needs_stop(command) {
                 Some(ModeRefusal::Running)

@@ -1,7 +1,7 @@
 // The texts of replies.
 
 ghost use Rattle.std.specs.Prelude.{◌≡◌, IfOk};
-ghost use Rattle.session.specs.Answered.{ENDED_REPLY};
+ghost use Rattle.session.specs.Answered.{reason_of, refusal_reply, limit_reply};
 
 use crate::line::Line;
 use crate::modes::ModeRefusal;
@@ -91,7 +91,7 @@ pub fn event_reply(mut line: Line, table: &PsStore, event: Event) -> Text {
 
 /// The reply to a command that the mode refuses.
 pub fn mode_reply(alloc: Global, why: ModeRefusal) -> Result<Text, AllocError>
-    ensures { IfOk result (λ t. why ≡ ModeRefusal.Ended → t ≡ ENDED_REPLY) }
+    ensures { IfOk result (λ t. t ≡ refusal_reply (reason_of why)) }
 {
     match why {
         ModeRefusal::Ended => Text::from_slice(alloc, b"refused ended\n"),
@@ -144,7 +144,9 @@ pub fn spent_reply(alloc: Global) -> Result<Text, AllocError> {
 }
 
 /// The reply to a new limit of turns.
-pub fn limit_reply(alloc: Global, limit: u32) -> Result<Text, AllocError> {
+pub fn limit_reply(alloc: Global, limit: u32) -> Result<Text, AllocError>
+    ensures { IfOk result (λ t. t ≡ limit_reply limit) }
+{
     let line = format!(in alloc; "limit {limit}\n")?;
     Text::from_slice(alloc, line.as_bytes())
 }
