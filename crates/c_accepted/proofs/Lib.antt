@@ -5,3 +5,4 @@ pub mod Told
 pub mod Forms
 pub mod Calls
 pub mod Expressions
+mod Example
