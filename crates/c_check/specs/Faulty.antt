@@ -1,13 +1,13 @@
 -- What the code answers of the faults of a program.
-use Rattle.std.specs.Prelude.{◌≡◌, ◌<◌, ℕ, List, Option, Some, None, Result, Ok, Err}
+use Rattle.std.specs.Prelude.{◌≡◌, ◌<◌, ℕ, false, List, Option, Some, None, Result, Ok, Err}
 use Rattle.c_statement.specs.declared.unit.External.{External}
 use Rattle.c_tree.specs.declared.rows.Program.{Program}
 use Rattle.c_file.specs.declared.state.State.{State as Standing}
 use Rattle.c_check.specs.declared.faults.CheckFault.{CheckFault}
 use Rattle.c_check.specs.declared.faults.CheckFault.TheVariants as code
 use Rattle.c_file.specs.Files.{State}
-use Rattle.c_file.specs.Programs.{Fault, Arguments, Rule, Twice, Undefined, NoMain, Faults, Well, AllFiles, tags_of, at_first, ◌before◌, late_found, first_fault}
-use Rattle.c_file.specs.Made.{Makes, room}
+use Rattle.c_file.specs.Programs.{any, many, Fault, Arguments, Rule, Twice, Undefined, NoMain, Faults, Well, AllFiles, tags_of, at_first, ◌before◌, late_found, first_fault}
+use Rattle.c_file.specs.Made.{HasRows, room}
 use Rattle.c_file.specs.Standing.{Stands, told}
 
 -- the fault that is answered; a program that is too big has none of the others
@@ -43,8 +43,15 @@ abbrev pub IsBig : List (List External) → CheckFault → Type 0
 IsBig us code.TooBig = IsTooBig us
 IsBig us f = Unit {0}
 
+-- One state behind the last file, in which nothing is wrong and of which these are the rows.
+pub record Accepts (names : List (List ℕ)) (us : List (List External)) (p : Program) : Type 0 where
+  pub behind : State
+  pub files : AllFiles (tags_of us) (at_first (tags_of us)) us Well behind
+  pub faultless : first_fault (late_found behind.names behind.late) behind ≡ None
+  pub rows : HasRows behind names p
+
 -- The checked program of some files with these names, whose static data have at most 1,048,576 bytes; or else the first fault.
 abbrev pub Checks : List (List ℕ) → List (List External) → Result Program CheckFault → Type 0
-Checks names us (Ok p) = Faults us None × Makes names us p
+Checks names us (Ok p) = (any (any many) us ≡ false) × Accepts names us p
 Checks names us (Err code.NoMemory) = Unit {0}
 Checks names us (Err f) = (x : Option Fault) × Faults us x × IsTold x f × IsBig us f

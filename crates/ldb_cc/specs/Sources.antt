@@ -9,8 +9,8 @@ use Rattle.c_syntax.specs.Grammar.{IsUnit}
 use Rattle.c_tree.specs.declared.rows.Program.{Program}
 use Rattle.c_file.specs.Programs.{Fault, Faults}
 use Rattle.c_file.specs.Programs as told
-use Rattle.c_file.specs.Made.{Each, Makes}
-use Rattle.c_check.specs.Faulty.{IsTooBig}
+use Rattle.c_file.specs.Made.{Each}
+use Rattle.c_check.specs.Faulty.{IsTooBig, Checks}
 use Rattle.ldb_cc.specs.declared.fault.BuildFault.{BuildFault}
 use Rattle.ldb_cc.specs.declared.fault.BuildFault.TheVariants as cause
 
@@ -121,7 +121,7 @@ IsCause texts cause.NoMemory = Unit {0}
 
 -- the checked program of sources with these names
 abbrev pub IsProgram : (names texts : List (List ℕ)) → Program → Type 0
-IsProgram names texts p = (units : List (List External)) × AreFiles texts units × Faults units None × Makes names units p
+IsProgram names texts p = (units : List (List External)) × AreFiles texts units × Checks names units (Ok p)
 
 -- the checked program of sources with these names, or the cause why there is none
 abbrev pub Reads : (names texts : List (List ℕ)) → Result Program BuildFault → Type 0
