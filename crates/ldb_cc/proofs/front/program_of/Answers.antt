@@ -14,7 +14,7 @@ check_program-requires c =
 pub returns-in-Ok : goal.returns-in-Ok
 returns-in-Ok c =
     let files = subst (λ (us : List UnitTree). AreFiles (map items_of c.args.texts.now) (map externals_of us)) (sym c.deref-2.ensures.value) c.in_ok-units.ensures in
-    (map externals_of c.deref-2.result.now, files, c.in-Ok.ensures.0, c.in-Ok.ensures.1)
+    (map externals_of c.deref-2.result.now, files, c.in-Ok.ensures)
 
 pub returns : goal.returns
 returns c =
