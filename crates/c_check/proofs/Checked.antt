@@ -79,13 +79,15 @@ pub all_told : (names : List (List ℕ)) (us : List (List External)) (n : ℕ) (
     → AllFiles (tags_of us) (at_first (tags_of us)) us (told s.unknown) q → Stands n s q → IsFinished n names s r → Checks names us r
 all_told names us n s q (Ok p) h a st m =
     let f = (m q st).0 in
-    let known = known_all s q f in
-    (h, record {
-      behind = q;
-      files = subst (λ (o : Option (List ℕ)). AllFiles (tags_of us) (at_first (tags_of us)) us (told o) q) known a;
-      faultless = subst (λ (o : Option (List ℕ)). first_fault (told o before late_found q.names q.late) q ≡ None) known f;
-      rows = (m q st).1;
-    })
+    let known = known_all s q f in (
+      h,
+      record {
+        behind = q;
+        files = subst (λ (o : Option (List ℕ)). AllFiles (tags_of us) (at_first (tags_of us)) us (told o) q) known a;
+        faultless = subst (λ (o : Option (List ℕ)). first_fault (told o before late_found q.names q.late) q ≡ None) known f;
+        rows = (m q st).1;
+      },
+    )
 all_told names us n s q (Err code.TooBig) h a st m =
     let f = (m q st).0 in (
       None,
