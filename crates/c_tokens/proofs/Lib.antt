@@ -1,0 +1,5 @@
+pub mod Spelled
+pub mod Typed
+pub mod Declared
+pub mod Statements
+pub mod Becomes
