@@ -3,3 +3,7 @@ pub mod Typed
 pub mod Declared
 pub mod Statements
 pub mod Becomes
+pub mod Structs
+pub mod Shapes
+pub mod Stays
+pub mod Program
