@@ -1,5 +1,5 @@
 -- The fewest terminals of declarators, initializers and declarations, beside one for each tag of a struct in them.
-use Rattle.std.proofs.Common.{◌≡◌, ℕ, suc, ◌+◌, ◌≤◌, Bool, true, false, List, [], ◌∷◌, ◌++◌, length, length-append, Option, Some, None, arith}
+use Rattle.std.proofs.Common.{◌≡◌, ap, ℕ, suc, ◌+◌, ◌≤◌, Bool, true, false, List, [], ◌∷◌, ◌++◌, length, length-append, Option, Some, None, arith}
 use Rattle.c_lex.specs.declared.token.Place.{Place}
 use Rattle.c_symbol.specs.declared.terminal.Terminal.{Terminal}
 use Rattle.c_expr.specs.Tree.{Tree}
@@ -36,6 +36,9 @@ at_most false = omega arith
 
 abbrev pub declarator_tokens : DeclaratorTree → ℕ
 declarator_tokens d = 1 + parentheses (is_of_function d)
+
+pub of_function : (d : DeclaratorTree) → is_of_function d ≡ true → declarator_tokens d ≡ 3
+of_function d e = ap (λ b. 1 + parentheses b) e
 
 mutual
   direct_tokens : {d : DeclaratorTree} {h : ℕ} {ts : List Terminal} → IsDirect d h ts → declarator_tokens d + length (in_declarator d) ≤ length ts
@@ -76,7 +79,7 @@ value_tokens (Value e) = tree_tokens e
 value_tokens _ = 0
 
 mutual
-  initial_spelled : {i : InitialTree} {h : ℕ} {ts : List Terminal} → IsInitial i h ts → value_tokens i + length (in_initial i) ≤ length ts
+  pub initial_spelled : {i : InitialTree} {h : ℕ} {ts : List Terminal} → IsInitial i h ts → value_tokens i + length (in_initial i) ≤ length ts
   initial_spelled (value d) = spelled d
   initial_spelled (braces c {i} {h} {ts} d ce) = omega (arith, items_spelled d, length-append ts (c ∷ []))
   initial_spelled (braces_comma t c {i} {h} {ts} d te ce) = omega (arith, items_spelled d, length-append ts (t ∷ c ∷ []))

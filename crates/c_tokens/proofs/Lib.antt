@@ -6,4 +6,5 @@ pub mod Becomes
 pub mod Structs
 pub mod Shapes
 pub mod Stays
+pub mod Joined
 pub mod Program
