@@ -50,8 +50,11 @@ initial_becomes v c i q h = absurd h
 locals_become : (l : Local) (v : Environment) (c : Before) (ds : List Declared) (zs : List DeclaredLocal) → AreLocals l v c ds zs → declared_tokens zs ≤ names_tokens ds
 locals_become l v c [] [] h = omega arith
 locals_become l v c (d ∷ ds) (z ∷ zs) (n, i, r) =
-    omega (arith, initial_becomes (after_local l.register l.spec v d) (past c 0 (literals.in_declarator d.declarator)) d.initial z.init i,
-    locals_become l (after_local l.register l.spec v d) (past c (of_initial d.initial) (literals.in_declared d)) ds zs r)
+    omega (
+      arith,
+      initial_becomes (after_local l.register l.spec v d) (past c 0 (literals.in_declarator d.declarator)) d.initial z.init i,
+      locals_become l (after_local l.register l.spec v d) (past c (of_initial d.initial) (literals.in_declared d)) ds zs r,
+    )
 locals_become l v c ds zs h = absurd h
 
 declared-append : (ds es : List DeclaredLocal) → declared_tokens (ds ++ es) ≡ declared_tokens ds + declared_tokens es

@@ -1,5 +1,6 @@
 -- A program has at most the tokens of its files.
-use Rattle.std.proofs.Common.{◌≡◌, refl, sym, ap, ◌∙◌, subst, ℕ, suc, ◌+◌, ◌*◌, ◌-◌, ◌≤◌, Bool, true, false, List, [], ◌∷◌, ◌++◌, length, length-append, map, sum, Option, Some, None, arith}
+use Rattle.std.proofs.Common.{◌≡◌, refl, sym, ap, ◌∙◌, subst, ℕ, suc, ◌+◌, ◌*◌, ◌-◌, ◌≤◌, Bool, true, false, List, [], ◌∷◌, ◌++◌, length, length-append, map, sum, arith}
+use Rattle.std.proofs.lemmas.List.Sums.{sum-map, sum_by-cons}
 use Rattle.std.proofs.lemmas.List.{length-map}
 use Rattle.std.specs.Prelude.{if◌then◌else◌}
 use Rattle.c_symbol.specs.declared.terminal.Terminal.{Terminal}
@@ -11,7 +12,7 @@ use Rattle.c_declaration.specs.declared.tree.FunctionHead.{FunctionHead}
 use Rattle.c_declaration.specs.Grammar.{IsFileDeclared, bare, with_value, AreFileDeclared, one_file_name, more_file_names, IsHead, only_spec, with_names, IsFunctionHead, function_head}
 use Rattle.c_statement.specs.Tree.{StatementTree}
 use Rattle.c_statement.specs.declared.unit.External.{External}
-use Rattle.c_statement.specs.declared.unit.External.TheVariants.{Declaration, Definition}
+use Rattle.c_statement.specs.declared.unit.External.TheVariants.{Declaration}
 use Rattle.c_syntax.specs.Grammar.{IsExternal, declaration, definition, IsUnit, first_external, next_external}
 use Rattle.c_mentions.specs.Tags.{in_all, in_declarator, in_initial, in_declared, in_file_spec, in_statement, in_external, each_once}
 use Rattle.c_typing.specs.Declared.{is_named}
@@ -20,15 +21,13 @@ use Rattle.c_tree.specs.declared.rows.Program.{Program}
 use Rattle.c_tree.specs.declared.rows.Function.{Function as FunctionRow}
 use Rattle.c_typing.specs.Plain.{Plain, is_empty}
 use Rattle.c_judge.specs.Answers.{Answer, Known, Unknown, Broken, ◌then◌}
-use Rattle.c_scope.specs.Findings.{Finding, ◌beside◌}
-use Rattle.c_scope.specs.Environment.{Environment, enter, leave}
+use Rattle.c_scope.specs.Findings.{Finding}
+use Rattle.c_scope.specs.Environment.{Environment, enter}
 use Rattle.c_scope.specs.Declarators.{Shape, Object, Function, Parameter, shape}
-use Rattle.c_body.specs.Bodies.{after}
 use Rattle.c_body.specs.Stops.{inside_block}
 use Rattle.c_file.specs.Files.{State, Bodied, with_spec, with_head, function_row, body_environment, bodied, after_function, after_all, behind_known, Externals, Onward, AllExternals}
-use Rattle.c_file.specs.Programs.{Told, Well, completed_one, completed_by, incomplete, at_first, next_file, AllFiles, tags_of}
-use Rattle.c_file.specs.Made.{Each, IsFunctionOf, HasRows, Makes}
-use Rattle.slot_gen.specs.Tokens.{stmt_tokens}
+use Rattle.c_file.specs.Programs.{Told, Well, completed_by, incomplete, at_first, next_file, AllFiles, tags_of}
+use Rattle.c_file.specs.Made.{Each, IsFunctionOf, Makes}
 use Rattle.slot_formed.specs.Tokens.{function_tokens, struct_tokens, program_tokens}
 use Rattle.c_tokens.specs.Units.{AreSpelled, terminals_in}
 use Rattle.c_tokens.proofs.Declared.{declarator_tokens, of_function, declarator_spelled, initial_spelled, tags_of_two, all-append}
@@ -54,8 +53,15 @@ head_spelled : {d : Head} {h : ℕ} {ts : List Terminal} → IsHead d h ts → 2
 head_spelled (only_spec c {st} {f} {at} {h} {us} {vs} sd fd pd ce) =
     omega (arith, file_spec_spelled fd, tags_of_two (in_file_spec f) [], length-append us (vs ++ c ∷ []), length-append vs (c ∷ []))
 head_spelled (with_names c {st} {f} {at} {ds} {m} {n} {us} {vs} {ws} sd fd pd ds' ce) =
-    omega (arith, file_spec_spelled fd, file_names_tags ds', tags_of_two (in_file_spec f) (in_all in_declared ds),
-    length-append us (vs ++ (ws ++ c ∷ [])), length-append vs (ws ++ c ∷ []), length-append ws (c ∷ []))
+    omega (
+      arith,
+      file_spec_spelled fd,
+      file_names_tags ds',
+      tags_of_two (in_file_spec f) (in_all in_declared ds),
+      length-append us (vs ++ (ws ++ c ∷ [])),
+      length-append vs (ws ++ c ∷ []),
+      length-append ws (c ∷ []),
+    )
 
 -- ---- the program so far
 
@@ -115,8 +121,15 @@ external_held : (p q : State) {e : External} (f : Finding) {h : ℕ} {ts : List 
 external_held p q f (declaration {d} {h} {ts} d') (a, v, s, k, l) =
     omega (arith, head_spelled d', spec_held p d a v (specifies_count p.others p.here v d.spec a s), ap held l)
 external_held p q f (definition {d} {x} {m} {n} {us} {vs} d' x') (a, b, v, s, k, i, l) =
-    omega (arith, definition_spelled d', block_spelled x', definition_held p d x a b v (specifies_count p.others p.here v d.spec b s) k, ap held l,
-    three_tags (in_file_spec d.spec) (in_declarator d.declarator) (in_statement x), length-append us vs)
+    omega (
+      arith,
+      definition_spelled d',
+      block_spelled x',
+      definition_held p d x a b v (specifies_count p.others p.here v d.spec b s) k,
+      ap held l,
+      three_tags (in_file_spec d.spec) (in_declarator d.declarator) (in_statement x),
+      length-append us vs,
+    )
 
 external_tags : {e : External} {h : ℕ} {ts : List Terminal} → IsExternal e h ts → length (in_external e) ≤ length ts
 external_tags (declaration d) = omega (arith, head_spelled d)
@@ -212,19 +225,31 @@ once_length seen (t ∷ ts) = by (is_named seen t) (once_length seen ts) (once_l
     by true m n = omega (arith, m)
     by false m n = omega (arith, n, length-append seen (t ∷ []))
 
+sum_more : {A : Type 0} (f : A → ℕ) (x : A) (xs : List A) → sum (map f (x ∷ xs)) ≡ f x + sum (map f xs)
+sum_more f x xs = sum-map f (x ∷ xs) ∙ sum_by-cons f x xs ∙ ap (λ n. f x + n) (sym (sum-map f xs))
+
 functions_tokens : (q : State) (bs : List Bodied) (fs : List FunctionRow) → Each (IsFunctionOf q) bs fs → sum (map function_tokens fs) ≤ bodies_tokens bs
 functions_tokens q [] [] e = omega arith
 functions_tokens q [] (f ∷ fs) e = absurd e
 functions_tokens q (b ∷ bs) [] e = absurd e
 functions_tokens q (b ∷ bs) (f ∷ fs) (h, e) =
-    omega (arith, body_becomes b.here (record { points = suc b.before.points; strings = b.before.strings }) b.block f.body h.7, functions_tokens q bs fs e)
+    omega (arith, body_becomes b.here (record { points = suc b.before.points; strings = b.before.strings }) b.block f.body h.7, functions_tokens q bs fs e, sum_more function_tokens f fs)
 
 structs_tokens : (ds : List StructDef) → sum (map struct_tokens ds) ≡ length ds + 2 * count ds
 structs_tokens [] = omega arith
-structs_tokens (d ∷ ds) = omega (arith, structs_tokens ds)
+structs_tokens (d ∷ ds) = omega (arith, structs_tokens ds, sum_more struct_tokens d ds)
 
 pub few_tokens : (names : List (List ℕ)) (us : List (List External)) (tss : List (List Terminal)) (p : Program) → AreSpelled us tss → Makes names us p → program_tokens p ≤ terminals_in tss
 few_tokens names us tss p s (q, a, rows) =
     let first = incomplete_count (tags_of us) in
-    omega (arith, files_held (tags_of us) (at_first (tags_of us)) q us Well tss s a, functions_tokens q q.bodies p.functions rows.functions,
-    structs_tokens p.defs, ap (λ l. length l) rows.defs, ap count rows.defs, once_length [] (in_all file_tags us), first, length-map (tags_of us) incomplete)
+    omega (
+      arith,
+      files_held (tags_of us) (at_first (tags_of us)) q us Well tss s a,
+      functions_tokens q q.bodies p.functions rows.functions,
+      structs_tokens p.defs,
+      ap (λ l. length l) rows.defs,
+      ap count rows.defs,
+      once_length [] (in_all file_tags us),
+      first,
+      length-map (tags_of us) incomplete,
+    )

@@ -1,13 +1,11 @@
 -- What declares a function is a function's declarator.
-use Rattle.std.proofs.Common.{◌≡◌, refl, ℕ, Bool, true, false, List, [], ◌∷◌, Option, Some, None}
-use Rattle.std.specs.Prelude.{if◌then◌else◌}
+use Rattle.std.proofs.Common.{◌≡◌, refl, ℕ, Bool, true, false, List, Some, None}
 use Rattle.c_declaration.specs.Tree.{DeclaratorTree, Name, Parens, Pointers, Array, Function as Applied, Taking, Named, Unnamed}
-use Rattle.c_typing.specs.Plain as plain
 use Rattle.c_typing.specs.Plain.{Plain}
-use Rattle.c_judge.specs.Answers.{Answer, Known, Unknown, Broken, ◌then◌}
+use Rattle.c_judge.specs.Answers.{Known}
 use Rattle.c_judge.specs.Judgement.{pointers}
 use Rattle.c_scope.specs.Environment.{Environment}
-use Rattle.c_scope.specs.Declarators.{Shape, Object, Function, Parameter, is_name, unbounded, bounded, unsized, shape}
+use Rattle.c_scope.specs.Declarators.{Object, Function, Parameter, is_name, unbounded, bounded, unsized, shape}
 use Rattle.c_tokens.proofs.Declared.{is_of_function}
 use Rattle.c_tokens.proofs.Structs.{then_known}
 

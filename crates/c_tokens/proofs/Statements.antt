@@ -1,5 +1,5 @@
 -- The fewest terminals of a statement, beside one for each tag of a struct in it.
-use Rattle.std.proofs.Common.{◌≡◌, ℕ, suc, ◌+◌, ◌≤◌, Bool, List, [], ◌∷◌, ◌++◌, length, length-append, Option, Some, None, arith}
+use Rattle.std.proofs.Common.{◌≡◌, ℕ, ◌+◌, ◌≤◌, Bool, List, [], ◌∷◌, ◌++◌, length, length-append, Option, Some, None, arith}
 use Rattle.c_lex.specs.declared.token.Place.{Place}
 use Rattle.c_symbol.specs.declared.terminal.Terminal.{Terminal}
 use Rattle.c_expr.specs.Tree.{Tree}
@@ -52,8 +52,16 @@ head_spelled : {hd : Head} {h : ℕ} {ts : List Terminal} → IsHead hd h ts →
 head_spelled (while_head d) = omega (arith, control_spelled d)
 head_spelled (switch_head d) = omega (arith, control_spelled d)
 head_spelled (for_head t o y z c {d} {e} {f} {k} {m} {n} {us} {vs} {ws} te oe d' ye e' ze f' ce) =
-    omega (arith, part_spelled d', part_spelled e', part_spelled f', three_tags (in_part in_tree d) (in_part in_tree e) (in_part in_tree f),
-    around_length us y (vs ++ z ∷ (ws ++ c ∷ [])), around_length vs z (ws ++ c ∷ []), length-append ws (c ∷ []))
+    omega (
+      arith,
+      part_spelled d',
+      part_spelled e',
+      part_spelled f',
+      three_tags (in_part in_tree d) (in_part in_tree e) (in_part in_tree f),
+      around_length us y (vs ++ z ∷ (ws ++ c ∷ [])),
+      around_length vs z (ws ++ c ∷ []),
+      length-append ws (c ∷ []),
+    )
 head_spelled (case_head t c {e} {at} {h} {ts} te d ce) = omega (arith, spelled d, length-append ts (c ∷ []))
 head_spelled (default_head t c te ce) = omega arith
 

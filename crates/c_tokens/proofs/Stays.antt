@@ -1,20 +1,19 @@
 -- What declarations and functions leave of the structs and of the functions so far.
-use Rattle.std.proofs.Common.{◌≡◌, refl, ap, ◌∙◌, ℕ, List, [], ◌∷◌, Option, Some, None}
+use Rattle.std.proofs.Common.{◌≡◌, refl, ◌∙◌, ℕ, List, [], ◌∷◌, Option, Some, None}
 use Rattle.c_expr.specs.declared.tree.Spec.{Spec}
 use Rattle.c_declaration.specs.InitialTree.{InitialTree}
 use Rattle.c_declaration.specs.declared.tree.Declared.{Declared}
-use Rattle.c_declaration.specs.declared.tree.Local.{Local}
 use Rattle.c_declaration.specs.declared.tree.Storage.{Storage}
 use Rattle.c_statement.specs.Tree.{StatementTree, Empty, Evaluate, Begun, Declares, Also, Closed, If, IfElse, Headed, Do, Break, Continue, Return}
 use Rattle.c_typing.specs.Plain.{Plain}
 use Rattle.c_typing.specs.Expressions.{Denoted}
 use Rattle.c_typing.specs.Expressions as typing
 use Rattle.c_judge.specs.Answers.{Answer, Known, Unknown, Broken}
-use Rattle.c_scope.specs.Environment.{Environment, enter, leave, declare_local}
+use Rattle.c_scope.specs.Environment.{Environment, enter, declare_local}
 use Rattle.c_scope.specs.Declarators.{Parameter}
-use Rattle.c_body.specs.Locals.{local_type, with_local, after_local, after_names, after_declaration}
+use Rattle.c_body.specs.Locals.{local_type, with_local, after_local, after_names}
 use Rattle.c_body.specs.Bodies.{after}
-use Rattle.c_file.specs.Files.{State, with_declarator, with_name, row_of, with_strings, with_initial, with_definition, after_what, what, after_name, after_all, with_parameters}
+use Rattle.c_file.specs.Files.{State, with_name, row_of, with_strings, with_definition, after_what, what, after_name, after_all, with_parameters}
 
 -- ---- the structs of an environment
 

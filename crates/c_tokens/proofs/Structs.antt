@@ -1,8 +1,7 @@
 -- The members of structs: how many a declaration gives, and the terminals that it takes for them.
-use Rattle.std.proofs.Common.{◌≡◌, refl, sym, ap, ◌∙◌, subst, ℕ, zero, suc, ◌+◌, ◌*◌, ◌≤◌, Bool, true, false, List, [], ◌∷◌, ◌++◌, length, length-append, map, Option, Some, None, arith}
+use Rattle.std.proofs.Common.{◌≡◌, refl, sym, ap, ℕ, zero, suc, ◌+◌, ◌*◌, ◌≤◌, Bool, true, false, List, [], ◌∷◌, ◌++◌, length, length-append, Option, Some, None, arith}
 use Rattle.std.proofs.lemmas.List.{length-map}
 use Rattle.std.specs.Prelude.{slice_get, ◌==◌, if◌then◌else◌}
-use Rattle.c_lex.specs.declared.token.Place.{Place}
 use Rattle.c_symbol.specs.declared.terminal.Terminal.{Terminal}
 use Rattle.c_expr.specs.declared.tree.Spec.{Spec}
 use Rattle.c_declaration.specs.Tree.{DeclaratorTree, begins}
@@ -18,7 +17,7 @@ use Rattle.c_judge.specs.Answers.{Answer, Known, Unknown, Broken, ◌then◌}
 use Rattle.c_judge.specs.Judgement.{spec_type, limited}
 use Rattle.c_scope.specs.Environment.{Environment, scope_of, struct_of}
 use Rattle.c_scope.specs.Declarators.{Shape, Object, Function, shape, name_in}
-use Rattle.c_struct.specs.Structs.{Open, Written, written, object_member, member, members, IsRow, IsRowOf, Completes, completed_found}
+use Rattle.c_struct.specs.Structs.{Open, Written, written, member, members, IsRowOf, Completes, completed_found}
 use Rattle.c_struct.specs.Specifies.{Goes, Ends, Inside, Specifies}
 use Rattle.c_tokens.proofs.Spelled.{spec_tokens}
 use Rattle.c_tokens.proofs.Declared.{declarator_spelled, tags_of_two, all-append}
@@ -51,12 +50,34 @@ declarators_spelled (more_declarators t {d} {ds} {m} {n} {us} {vs} ds' te d') =
 members_spelled : {ps : List MemberPart} {h : ℕ} {ts : List Terminal} → AreMembers ps h ts → 2 * parts_members ps + length (in_all in_member ps) ≤ length ts
 members_spelled (no_members t name o te ne oe) = omega arith
 members_spelled (named_row c {ps} {base} {at} {ds} {m} {n} {us} {vs} {ws} d sd fd ds' ce) =
-    omega (arith, members_spelled d, spec_tokens sd, declarators_spelled ds', members-append ps (Row at base ds ∷ []), all-append in_member ps (Row at base ds ∷ []),
-    tags_of_two (in_spec base ++ in_all in_declarator ds) [], tags_of_two (in_spec base) (in_all in_declarator ds), length-append us (vs ++ (ws ++ c ∷ [])), length-append vs (ws ++ c ∷ []), length-append ws (c ∷ []))
+    omega (
+      arith,
+      members_spelled d,
+      spec_tokens sd,
+      declarators_spelled ds',
+      members-append ps (Row at base ds ∷ []),
+      all-append in_member ps (Row at base ds ∷ []),
+      tags_of_two (in_spec base ++ in_all in_declarator ds) [],
+      tags_of_two (in_spec base) (in_all in_declarator ds),
+      length-append us (vs ++ (ws ++ c ∷ [])),
+      length-append vs (ws ++ c ∷ []),
+      length-append ws (c ∷ []),
+    )
 members_spelled (struct_row o c {ps} {qs} {ds} {l} {m} {n} {us} {vs} {ws} d d' oe ds' ce) =
-    omega (arith, members_spelled d, members_spelled d', declarators_spelled ds', members-append ps (qs ++ Closes ds ∷ []), members-append qs (Closes ds ∷ []),
-    all-append in_member ps (qs ++ Closes ds ∷ []), all-append in_member qs (Closes ds ∷ []), tags_of_two (in_all in_declarator ds) [],
-    length-append us (vs ++ o ∷ (ws ++ c ∷ [])), length-append vs (o ∷ (ws ++ c ∷ [])), length-append ws (c ∷ []))
+    omega (
+      arith,
+      members_spelled d,
+      members_spelled d',
+      declarators_spelled ds',
+      members-append ps (qs ++ Closes ds ∷ []),
+      members-append qs (Closes ds ∷ []),
+      all-append in_member ps (qs ++ Closes ds ∷ []),
+      all-append in_member qs (Closes ds ∷ []),
+      tags_of_two (in_all in_declarator ds) [],
+      length-append us (vs ++ o ∷ (ws ++ c ∷ [])),
+      length-append vs (o ∷ (ws ++ c ∷ [])),
+      length-append ws (c ∷ []),
+    )
 
 pub file_spec_spelled : {f : FileSpec} {h : ℕ} {ts : List Terminal} → IsFileSpec f h ts → 1 + (2 * spec_members f + length (in_file_spec f)) ≤ length ts
 file_spec_spelled (named_spec sd) = omega (arith, spec_tokens sd)
@@ -151,7 +172,7 @@ module _ (others : List StructDef) where
   ends_count v w o a P n le f h =
       goes_count (completed_found others v o) v w a _ n (omega (arith, le))
       (λ y e g. let c = completes_count v g.0 o g.1 in
-        goes_count (limited g.0.defs o.at (Struct (struct_of g.0.tags o.tag))) g.0 w a _ n (omega (arith, le, c)) (λ z k p. f g.0 c p) g.2) h
+      goes_count (limited g.0.defs o.at (Struct (struct_of g.0.tags o.tag))) g.0 w a _ n (omega (arith, le, c)) (λ z k p. f g.0 c p) g.2) h
 
   at_end : (v w : Environment) (n : ℕ) → w ≡ v → count w.defs ≤ count v.defs + n
   at_end v w n e = omega (arith, ap (λ (u : Environment). count u.defs) e)
@@ -177,7 +198,7 @@ module _ (others : List StructDef) where
   inside_count v w (o ∷ p ∷ os) (Closes ds ∷ ps) a h =
       ends_count v w o a _ _ (omega arith)
       (λ u c g. goes_count (members u p.members (Struct (struct_of u.tags o.tag)) ds) u w a _ _ (omega (arith, c))
-        (λ ms e k. omega (arith, c, members_more u p.members ms (Struct (struct_of u.tags o.tag)) ds e, inside_count u w (record p { members = ms } ∷ os) ps a k)) g) h
+      (λ ms e k. omega (arith, c, members_more u p.members ms (Struct (struct_of u.tags o.tag)) ds e, inside_count u w (record p { members = ms } ∷ os) ps a k)) g) h
 
   pub specifies_count : (v w : Environment) (f : FileSpec) (a : Answer Plain) → Specifies others v f a w → count w.defs ≤ count v.defs + spec_members f
   specifies_count v w (file.Named s) a h = at_end v w _ h.1

@@ -1,5 +1,5 @@
 -- What an expression becomes has at most as many tokens as the expression is spelled with.
-use Rattle.std.proofs.Common.{◌≡◌, refl, sym, ap, ◌∙◌, subst, ℕ, suc, ◌+◌, ◌-◌, ◌≤◌, List, [], ◌∷◌, ◌++◌, length, length-append, arith}
+use Rattle.std.proofs.Common.{◌≡◌, refl, ap, ◌∙◌, ℕ, ◌+◌, ◌-◌, ◌≤◌, List, [], ◌∷◌, ◌++◌, length, length-append, arith}
 use Rattle.c_lex.specs.declared.token.Place.{Place}
 use Rattle.c_symbol.specs.declared.symbol.LeafKind.{LeafKind}
 use Rattle.c_symbol.specs.declared.symbol.LeafKind.TheVariants as leaf
@@ -21,8 +21,7 @@ use Rattle.c_tree.specs.Rows.{exprs}
 use Rattle.c_typing.specs.Plain.{Plain}
 use Rattle.slot_gen.specs.Tokens.{tokens_of, row_tokens}
 use Rattle.c_judge.specs.Scope.{Scope}
-use Rattle.c_judge.specs.Judgement.{compound_of}
-use Rattle.c_judge.specs.Elaboration.{Elaborates, AreArguments, IsUnary, IsPrefixed, IsAssigned, IsOperation, IsJoined, IsParen, IsIndex, IsMember, IsAfter, IsChoice, IsCast, IsSizeOfType, IsConstant, IsLeaf, IsCall}
+use Rattle.c_judge.specs.Elaboration.{Elaborates, AreArguments, IsUnary, IsPrefixed, IsOperation, IsJoined, IsParen, IsIndex, IsMember, IsAfter, IsChoice, IsCast, IsSizeOfType, IsConstant, IsLeaf, IsCall}
 use Rattle.c_tokens.proofs.Spelled.{tree_tokens, arguments_tokens}
 
 -- ---- the forms
