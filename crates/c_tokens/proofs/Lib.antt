@@ -1,0 +1,10 @@
+pub mod Spelled
+pub mod Typed
+pub mod Declared
+pub mod Statements
+pub mod Becomes
+pub mod Structs
+pub mod Shapes
+pub mod Stays
+pub mod Joined
+pub mod Program
