@@ -1,7 +1,9 @@
 // Operators on pointers and names.
 
-ghost use Rattle.std.specs.Prelude.{◌≡◌};
+ghost use Rattle.std.specs.Prelude.{◌≡◌, ℕ, List};
 ghost use Rattle.ps_store.specs.Store.{closed_part};
+ghost use Rattle.ps_ops.specs.Acting.{ActsOn};
+ghost use Rattle.ps_ops.specs.Desk.{desk_of};
 
 use crate::asking::{found, found_two, scope_in};
 use crate::halt::{Halt, left};
@@ -17,11 +19,13 @@ use ps_run::PsCore;
 use ps_symbols::{find_symbol, top_name};
 
 /// `Where`.
+#[tactic(auto, using(crate::proofs::Pointing::where_unasked, crate::proofs::Pointing::where_halts, crate::proofs::Pointing::where_leaves))]
 pub fn find_where<W: AbsMem + Drop>(
     view: &View,
     memory: &mut Joined<W>,
     core: &mut PsCore,
 ) -> Result<(), Halt>
+    ensures acts { (out : List ℕ) → ActsOn 5 (desk_of view.now memory.old.below.below.order memory.old.below.cell out) (W.seen memory.old.below.below.below) core.old result (desk_of view.now memory.new.below.below.order memory.new.below.cell out) (W.seen memory.new.below.below.below) core.new }
     ensures closed { closed_part core.new.store ≡ closed_part core.old.store }
 {
     match top_name(core) {
@@ -34,11 +38,13 @@ pub fn find_where<W: AbsMem + Drop>(
 }
 
 /// `ptradd`.
+#[tactic(auto, using(crate::proofs::Pointing::sum_unasked, crate::proofs::Pointing::sum_halts, crate::proofs::Pointing::sum_leaves))]
 pub fn add<W: AbsMem + Drop>(
     view: &View,
     memory: &mut Joined<W>,
     core: &mut PsCore,
 ) -> Result<(), Halt>
+    ensures acts { (out : List ℕ) → ActsOn 23 (desk_of view.now memory.old.below.below.order memory.old.below.cell out) (W.seen memory.old.below.below.below) core.old result (desk_of view.now memory.new.below.below.order memory.new.below.cell out) (W.seen memory.new.below.below.below) core.new }
     ensures closed { closed_part core.new.store ≡ closed_part core.old.store }
 {
     match sum_operands(core) {
@@ -56,11 +62,13 @@ pub fn add<W: AbsMem + Drop>(
 }
 
 /// `ptrsub`.
+#[tactic(auto, using(crate::proofs::Pointing::difference_unasked, crate::proofs::Pointing::difference_halts, crate::proofs::Pointing::difference_leaves))]
 pub fn subtract<W: AbsMem + Drop>(
     view: &View,
     memory: &mut Joined<W>,
     core: &mut PsCore,
 ) -> Result<(), Halt>
+    ensures acts { (out : List ℕ) → ActsOn 24 (desk_of view.now memory.old.below.below.order memory.old.below.cell out) (W.seen memory.old.below.below.below) core.old result (desk_of view.now memory.new.below.below.order memory.new.below.cell out) (W.seen memory.new.below.below.below) core.new }
     ensures closed { closed_part core.new.store ≡ closed_part core.old.store }
 {
     match difference_operands(core) {
@@ -79,11 +87,13 @@ pub fn subtract<W: AbsMem + Drop>(
 }
 
 /// `ptrcmp`.
+#[tactic(auto, using(crate::proofs::Pointing::comparison_unasked, crate::proofs::Pointing::comparison_halts, crate::proofs::Pointing::comparison_leaves))]
 pub fn compare<W: AbsMem + Drop>(
     view: &View,
     memory: &mut Joined<W>,
     core: &mut PsCore,
 ) -> Result<(), Halt>
+    ensures acts { (out : List ℕ) → ActsOn 25 (desk_of view.now memory.old.below.below.order memory.old.below.cell out) (W.seen memory.old.below.below.below) core.old result (desk_of view.now memory.new.below.below.order memory.new.below.cell out) (W.seen memory.new.below.below.below) core.new }
     ensures closed { closed_part core.new.store ≡ closed_part core.old.store }
 {
     match comparison_operands(core) {
@@ -96,11 +106,13 @@ pub fn compare<W: AbsMem + Drop>(
 }
 
 /// `Leaf`.
+#[tactic(auto, using(crate::proofs::Pointing::leaf_unasked, crate::proofs::Pointing::leaf_halts, crate::proofs::Pointing::leaf_leaves))]
 pub fn take_leaf<W: AbsMem + Drop>(
     view: &View,
     memory: &mut Joined<W>,
     core: &mut PsCore,
 ) -> Result<(), Halt>
+    ensures acts { (out : List ℕ) → ActsOn 26 (desk_of view.now memory.old.below.below.order memory.old.below.cell out) (W.seen memory.old.below.below.below) core.old result (desk_of view.now memory.new.below.below.order memory.new.below.cell out) (W.seen memory.new.below.below.below) core.new }
     ensures closed { closed_part core.new.store ≡ closed_part core.old.store }
 {
     match leaf_operands(core) {
@@ -113,11 +125,13 @@ pub fn take_leaf<W: AbsMem + Drop>(
 }
 
 /// `charrun`.
+#[tactic(auto, using(crate::proofs::Pointing::run_unasked, crate::proofs::Pointing::run_halts, crate::proofs::Pointing::run_leaves))]
 pub fn measure_run<W: AbsMem + Drop>(
     view: &View,
     memory: &mut Joined<W>,
     core: &mut PsCore,
 ) -> Result<(), Halt>
+    ensures acts { (out : List ℕ) → ActsOn 32 (desk_of view.now memory.old.below.below.order memory.old.below.cell out) (W.seen memory.old.below.below.below) core.old result (desk_of view.now memory.new.below.below.order memory.new.below.cell out) (W.seen memory.new.below.below.below) core.new }
     ensures closed { closed_part core.new.store ≡ closed_part core.old.store }
 {
     match top_word(core) {

@@ -1,7 +1,10 @@
 // Operators on places.
 
-ghost use Rattle.std.specs.Prelude.{◌≡◌, option_map};
+ghost use Rattle.std.specs.Prelude.{◌≡◌, ℕ, List, option_map};
 ghost use Rattle.ps_store.specs.Store.{closed_part};
+ghost use Rattle.ps_ops.specs.Acting.{ActsOn};
+ghost use Rattle.ps_ops.specs.Desk.{desk_of};
+ghost use Rattle.ps_ops.specs.Asking.{LooksUp, frame_for};
 
 use crate::asking::frame_of;
 use crate::halt::{Halt, left, left_over};
@@ -28,7 +31,9 @@ pub fn frame_for<M: AbsMem>(
     table: &PsStore,
     m: &mut M,
     space: Space,
-) -> Result<Option<Frame>, Halt> {
+) -> Result<Option<Frame>, Halt>
+    ensures { LooksUp table.now (λ b. frame_for view.now table.now b space) (M.seen m.old) result (M.seen m.new) }
+{
     match space {
         Space::Registers => frame_of(view, table, m),
         Space::Memory | Space::Immediate => Ok(None),
@@ -36,11 +41,13 @@ pub fn frame_for<M: AbsMem>(
 }
 
 /// `Local`.
+#[tactic(auto, using(crate::proofs::Placing::local_unasked, crate::proofs::Placing::local_halts, crate::proofs::Placing::local_leaves))]
 pub fn local_in<W: AbsMem + Drop>(
     view: &View,
     memory: &mut Joined<W>,
     core: &mut PsCore,
 ) -> Result<(), Halt>
+    ensures acts { (out : List ℕ) → ActsOn 2 (desk_of view.now memory.old.below.below.order memory.old.below.cell out) (W.seen memory.old.below.below.below) core.old result (desk_of view.now memory.new.below.below.order memory.new.below.cell out) (W.seen memory.new.below.below.below) core.new }
     ensures closed { closed_part core.new.store ≡ closed_part core.old.store }
 {
     match top_word(core) {
@@ -58,6 +65,7 @@ pub fn place_value<W: AbsMem + Drop>(
     memory: &mut Joined<W>,
     core: &mut PsCore,
 ) -> Result<(), Halt>
+    ensures acts { (out : List ℕ) → ActsOn 4 (desk_of view.now memory.old.below.below.order memory.old.below.cell out) (W.seen memory.old.below.below.below) core.old result (desk_of view.now memory.new.below.below.order memory.new.below.cell out) (W.seen memory.new.below.below.below) core.new }
     ensures closed { closed_part core.new.store ≡ closed_part core.old.store }
 {
     memory.set_frame(None);
@@ -65,11 +73,13 @@ pub fn place_value<W: AbsMem + Drop>(
 }
 
 /// `fetch`.
+#[tactic(auto, using(crate::proofs::Placing::fetch_unasked, crate::proofs::Placing::fetch_halts))]
 pub fn fetch_at<W: AbsMem + Drop>(
     view: &View,
     memory: &mut Joined<W>,
     core: &mut PsCore,
 ) -> Result<(), Halt>
+    ensures acts { (out : List ℕ) → ActsOn 6 (desk_of view.now memory.old.below.below.order memory.old.below.cell out) (W.seen memory.old.below.below.below) core.old result (desk_of view.now memory.new.below.below.order memory.new.below.cell out) (W.seen memory.new.below.below.below) core.new }
     ensures closed { closed_part core.new.store ≡ closed_part core.old.store }
 {
     match fetch_of(core) {
@@ -90,11 +100,13 @@ pub fn fetch_at<W: AbsMem + Drop>(
 }
 
 /// `store`.
+#[tactic(auto, using(crate::proofs::Placing::store_unasked, crate::proofs::Placing::store_halts))]
 pub fn store_at<W: AbsMem + Drop>(
     view: &View,
     memory: &mut Joined<W>,
     core: &mut PsCore,
 ) -> Result<(), Halt>
+    ensures acts { (out : List ℕ) → ActsOn 7 (desk_of view.now memory.old.below.below.order memory.old.below.cell out) (W.seen memory.old.below.below.below) core.old result (desk_of view.now memory.new.below.below.order memory.new.below.cell out) (W.seen memory.new.below.below.below) core.new }
     ensures closed { closed_part core.new.store ≡ closed_part core.old.store }
 {
     match store_of(core, view.raw) {

@@ -1,7 +1,9 @@
 // Operators that append.
 
-ghost use Rattle.std.specs.Prelude.{◌≡◌, ◌≤◌};
+ghost use Rattle.std.specs.Prelude.{◌≡◌, ◌≤◌, ℕ, List};
 ghost use Rattle.ps_store.specs.Store.{closed_part};
+ghost use Rattle.ps_ops.specs.Acting.{ActsOn};
+ghost use Rattle.ps_ops.specs.Desk.{desk_of};
 
 use crate::asking::found;
 use crate::halt::{Halt, left, left_over};
@@ -15,12 +17,14 @@ use ps_places::top_word;
 use ps_run::PsCore;
 
 /// `PutPointer`.
+#[tactic(auto, using(crate::proofs::Placing::pointer_unasked, crate::proofs::Placing::pointer_halts, crate::proofs::Placing::pointer_put))]
 fn put_address<W: AbsMem + Drop>(
     view: &View,
     memory: &mut Joined<W>,
     core: &mut PsCore,
     out: &mut Text,
 ) -> Result<(), Halt>
+    ensures acts { ActsOn 30 (desk_of view.now memory.old.below.below.order memory.old.below.cell out.old) (W.seen memory.old.below.below.below) core.old result (desk_of view.now memory.new.below.below.order memory.new.below.cell out.new) (W.seen memory.new.below.below.below) core.new }
     ensures closed { closed_part core.new.store ≡ closed_part core.old.store }
 {
     match top_word(core) {
@@ -33,12 +37,14 @@ fn put_address<W: AbsMem + Drop>(
 }
 
 /// `PutChars`.
+#[tactic(auto, using(crate::proofs::Placing::chars_unasked, crate::proofs::Placing::chars_halt))]
 fn put_characters<W: AbsMem + Drop>(
     view: &View,
     memory: &mut Joined<W>,
     core: &mut PsCore,
     out: &mut Text,
 ) -> Result<(), Halt>
+    ensures acts { ActsOn 31 (desk_of view.now memory.old.below.below.order memory.old.below.cell out.old) (W.seen memory.old.below.below.below) core.old result (desk_of view.now memory.new.below.below.order memory.new.below.cell out.new) (W.seen memory.new.below.below.below) core.new }
     ensures closed { closed_part core.new.store ≡ closed_part core.old.store }
 {
     match string_place(core) {
@@ -61,6 +67,7 @@ fn put_characters<W: AbsMem + Drop>(
 }
 
 /// An operator that appends: `Put` to `PutChars`.
+#[tactic(auto, using(crate::proofs::Placing::put_acts, crate::proofs::Placing::put_char_acts, crate::proofs::States::at_number, crate::proofs::States::last_appends))]
 pub fn append<W: AbsMem + Drop>(
     view: &View,
     memory: &mut Joined<W>,
@@ -70,6 +77,7 @@ pub fn append<W: AbsMem + Drop>(
 ) -> Result<(), Halt>
     requires from { 28 ≤ op }
     requires to { op ≤ 31 }
+    ensures acts { ActsOn op (desk_of view.now memory.old.below.below.order memory.old.below.cell out.old) (W.seen memory.old.below.below.below) core.old result (desk_of view.now memory.new.below.below.order memory.new.below.cell out.new) (W.seen memory.new.below.below.below) core.new }
     ensures closed { closed_part core.new.store ≡ closed_part core.old.store }
 {
     match op {
