@@ -32,7 +32,7 @@ returns-in-Ok-clause-operates g c =
     let acts : ActsOn c.args.op k₁ (seen m₁.below.below.below) c.again.core (Ok tt) k' (seen m'.below.below.below) c.act.new.core =
     subst (λ (r : Result (Unit {0}) Halt). ActsOn c.args.op k₁ (seen m₁.below.below.below) c.again.core r k' (seen m'.below.below.below) c.act.new.core) c.in-Ok.is c.act.ensures.acts in
     done_on c.args.op k (seen m.below.below.below) c.args.core.now (c.args.steps.now.limit - c.args.steps.now.taken) k₁ (seen m₁.below.below.below) c.again.core (c.again.steps.limit - c.again.steps.taken) c.again.invariant.far
-        k' (seen m'.below.below.below) c.act.new.core _ (omega (arith, c.again.invariant.more, c.again.invariant.limit)) acts
+    k' (seen m'.below.below.below) c.act.new.core _ (omega (arith, c.again.invariant.more, c.again.invariant.limit)) acts
 
 pub returns-in-Err-Raised-clause-operates : goal.returns-in-Err-Raised-clause-operates
 returns-in-Err-Raised-clause-operates g c =
@@ -46,7 +46,7 @@ returns-in-Err-Raised-clause-operates g c =
     let acts : ActsOn c.args.op k₁ (seen m₁.below.below.below) c.again.core (Err (Raised c.in-Err-Raised.error)) k' (seen m'.below.below.below) c.act.new.core =
     subst (λ (r : Result (Unit {0}) Halt). ActsOn c.args.op k₁ (seen m₁.below.below.below) c.again.core r k' (seen m'.below.below.below) c.act.new.core) (c.in-Err-Raised.is ∙ ap Err c.in-Err-Raised.field-0-is) c.act.ensures.acts in
     raised_on c.args.op k (seen m.below.below.below) c.args.core.now (c.args.steps.now.limit - c.args.steps.now.taken) k₁ (seen m₁.below.below.below) c.again.core (c.again.steps.limit - c.again.steps.taken) c.again.invariant.far
-        k' (seen m'.below.below.below) c.act.new.core _ c.in-Err-Raised.error (omega (arith, c.again.invariant.more, c.again.invariant.limit)) acts
+    k' (seen m'.below.below.below) c.act.new.core _ c.in-Err-Raised.error (omega (arith, c.again.invariant.more, c.again.invariant.limit)) acts
 
 pub returns-in-Err-Wanting-clause-operates : goal.returns-in-Err-Wanting-clause-operates
 returns-in-Err-Wanting-clause-operates g c =
@@ -60,7 +60,7 @@ returns-in-Err-Wanting-clause-operates g c =
     let acts : ActsOn c.args.op k₁ (seen m₁.below.below.below) c.again.core (Err Wanting) k' (seen m'.below.below.below) c.act.new.core =
     subst (λ (r : Result (Unit {0}) Halt). ActsOn c.args.op k₁ (seen m₁.below.below.below) c.again.core r k' (seen m'.below.below.below) c.act.new.core) (c.in-Err-Wanting.is ∙ ap Err c.in-Err-Wanting.field-0-is) c.act.ensures.acts in
     wanting_on c.args.op k (seen m.below.below.below) c.args.core.now (c.args.steps.now.limit - c.args.steps.now.taken) k₁ (seen m₁.below.below.below) c.again.core (c.again.steps.limit - c.again.steps.taken) c.again.invariant.far
-        k' (seen m'.below.below.below) c.act.new.core _ (omega (arith, c.again.invariant.more, c.again.invariant.limit)) acts
+    k' (seen m'.below.below.below) c.act.new.core _ (omega (arith, c.again.invariant.more, c.again.invariant.limit)) acts
 
 pub returns-in-Err-Broken-clause-operates : goal.returns-in-Err-Broken-clause-operates
 returns-in-Err-Broken-clause-operates g c =
@@ -74,7 +74,7 @@ returns-in-Err-Broken-clause-operates g c =
     let acts : ActsOn c.args.op k₁ (seen m₁.below.below.below) c.again.core (Err (Broken c.in-Err-Broken.why)) k' (seen m'.below.below.below) c.act.new.core =
     subst (λ (r : Result (Unit {0}) Halt). ActsOn c.args.op k₁ (seen m₁.below.below.below) c.again.core r k' (seen m'.below.below.below) c.act.new.core) (c.in-Err-Broken.is ∙ ap Err c.in-Err-Broken.field-0-is) c.act.ensures.acts in
     broken_on c.args.op k (seen m.below.below.below) c.args.core.now (c.args.steps.now.limit - c.args.steps.now.taken) k₁ (seen m₁.below.below.below) c.again.core (c.again.steps.limit - c.again.steps.taken) c.again.invariant.far
-        k' (seen m'.below.below.below) c.act.new.core c.args.fault.now c.in-Err-Broken.why (omega (arith, c.again.invariant.more, c.again.invariant.limit)) acts
+    k' (seen m'.below.below.below) c.act.new.core c.args.fault.now c.in-Err-Broken.why (omega (arith, c.again.invariant.more, c.again.invariant.limit)) acts
 
 pub returns-in-Err-clause-operates : goal.returns-in-Err-clause-operates
 returns-in-Err-clause-operates g c =
@@ -89,8 +89,8 @@ returns-in-Err-clause-operates g c =
     let acts : ActsOn c.args.op k₁ (seen m₁.below.below.below) c.again.core (Err (Needs u)) k' (seen m'.below.below.below) c.act.new.core =
     subst (λ (r : Result (Unit {0}) Halt). ActsOn c.args.op k₁ (seen m₁.below.below.below) c.again.core r k' (seen m'.below.below.below) c.act.new.core) (c.in-Err-Needs.is ∙ ap Err c.in-Err-Needs.field-0-is) c.act.ensures.acts in
     stopped_on c.args.op k (seen m.below.below.below) c.args.core.now (c.args.steps.now.limit - c.args.steps.now.taken) k₁ (seen m₁.below.below.below) c.again.core (c.again.steps.limit - c.again.steps.taken) c.again.invariant.far
-        k' (seen m'.below.below.below) c.act.new.core _ u acts c.force_unit.new.core (c.force_unit.new.steps.limit - c.force_unit.new.steps.taken) c.in-Err.stopped
-        (omega (arith, c.again.invariant.more, c.again.invariant.limit, c.force_unit.ensures.more, c.force_unit.ensures.limit)) c.in-Err.ensures.unlinked c.in-Err.ensures.forces
+    k' (seen m'.below.below.below) c.act.new.core _ u acts c.force_unit.new.core (c.force_unit.new.steps.limit - c.force_unit.new.steps.taken) c.in-Err.stopped
+    (omega (arith, c.again.invariant.more, c.again.invariant.limit, c.force_unit.ensures.more, c.force_unit.ensures.limit)) c.in-Err.ensures.unlinked c.in-Err.ensures.forces
 
 pub again-preserved : goal.again-preserved
 again-preserved g c =
