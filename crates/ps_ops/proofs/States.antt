@@ -1,5 +1,5 @@
 -- Operators that look nothing up, by their numbers.
-use Rattle.std.proofs.Common.{◌≡◌, ◌≢◌, ◌≤◌, ◌∙◌, ℕ, true, List, Result, Ok, Err, sym, subst, arith}
+use Rattle.std.proofs.Common.{◌≡◌, ◌≤◌, ℕ, true, List, Err, sym, subst}
 use Rattle.ldb_words.specs.declared.kinds.Order.{Order}
 use Rattle.machine_state.specs.Regions.{Regions}
 use Rattle.ps_step.specs.declared.fault.PsError.TheVariants.{Undefined}
@@ -17,7 +17,6 @@ use Rattle.dialect_model.specs.Operators.{act}
 use Rattle.ps_bare.specs.Bare.{ActsAlone}
 use Rattle.ps_bare.proofs.Acts.{acts_0, acts_1, acts_3, acts_27, acts_past}
 use Rattle.ps_ops.specs.declared.view.View.{View}
-use Rattle.ps_ops.specs.declared.halt.Halt.{Halt}
 use Rattle.ps_ops.specs.declared.halt.Halt.TheVariants.{Raised}
 use Rattle.ps_ops.specs.Desk.{Desk, desk_of, dial_of}
 use Rattle.ps_ops.specs.Halts.{left}
@@ -50,11 +49,3 @@ module _ {R : Type 0} (v : View) (o : Order) (cell : ℕ) (out : List ℕ) (s : 
 
   pub past_acts : 33 ≤ op → ActsOn op (desk_of v o cell out) s c (Err (Raised Undefined)) (desk_of v o cell out) s c
   past_acts h = unasked op k s c Undefined (λ rg. acts_past (dial_of k rg) c op h)
-
-module _ {R : Type 0} (k k' : Desk) (s s' : Seen R) (c c' : PsCore) (r : Result (Unit {0}) Halt) (op : ℕ) where
-  -- the number is known
-  pub at_number : (n : ℕ) → op ≡ n → ActsOn n k s c r k' s' c' → ActsOn op k s c r k' s' c'
-  at_number n e h = subst (λ j. ActsOn j k s c r k' s' c') (sym e) h
-
-  pub last_appends : 28 ≤ op → op ≤ 31 → op ≢ 28 → op ≢ 29 → op ≢ 30 → ActsOn 31 k s c r k' s' c' → ActsOn op k s c r k' s' c'
-  last_appends from to not_28 not_29 not_30 h = let e : op ≡ 31 = omega (arith, from, to, not_28, not_29, not_30) in at_number 31 e h

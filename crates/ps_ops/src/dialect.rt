@@ -20,7 +20,7 @@ use ps_run::{Dialect, PsCore, PsError, PsFault, Steps};
 use ps_symbols::{anchor, find_struct};
 
 /// Runs the operator with a number once.
-#[tactic(auto, using(crate::proofs::States::anchor_acts, crate::proofs::States::absolute_acts, crate::proofs::States::register_acts, crate::proofs::States::struct_acts, crate::proofs::States::words_act, crate::proofs::States::past_acts, crate::proofs::States::at_number))]
+#[tactic(auto, using(crate::proofs::States::words_act))]
 fn act<W: AbsMem + Drop>(
     view: &View,
     memory: &mut Joined<W>,
@@ -54,7 +54,6 @@ fn act<W: AbsMem + Drop>(
 
 /// Runs the operator with a number. Where it needs the functions of a unit, these are run first, and it acts again, which a step
 /// was taken for. Where the memory gave no answer it is told why.
-#[tactic(auto, using(crate::proofs::Retries::done_on, crate::proofs::Retries::raised_on, crate::proofs::Retries::wanting_on, crate::proofs::Retries::broken_on, crate::proofs::Retries::stopped_on))]
 fn run_operator<W: AbsMem + Drop>(
     view: &View,
     memory: &mut Joined<W>,

@@ -19,7 +19,6 @@ use ps_run::PsCore;
 use ps_symbols::{find_symbol, top_name};
 
 /// `Where`.
-#[tactic(auto, using(crate::proofs::Pointing::where_unasked, crate::proofs::Pointing::where_halts, crate::proofs::Pointing::where_leaves))]
 pub fn find_where<W: AbsMem + Drop>(
     view: &View,
     memory: &mut Joined<W>,
@@ -38,7 +37,6 @@ pub fn find_where<W: AbsMem + Drop>(
 }
 
 /// `ptradd`.
-#[tactic(auto, using(crate::proofs::Pointing::sum_unasked, crate::proofs::Pointing::sum_halts, crate::proofs::Pointing::sum_leaves))]
 pub fn add<W: AbsMem + Drop>(
     view: &View,
     memory: &mut Joined<W>,
@@ -62,7 +60,6 @@ pub fn add<W: AbsMem + Drop>(
 }
 
 /// `ptrsub`.
-#[tactic(auto, using(crate::proofs::Pointing::difference_unasked, crate::proofs::Pointing::difference_halts, crate::proofs::Pointing::difference_leaves))]
 pub fn subtract<W: AbsMem + Drop>(
     view: &View,
     memory: &mut Joined<W>,
@@ -87,7 +84,6 @@ pub fn subtract<W: AbsMem + Drop>(
 }
 
 /// `ptrcmp`.
-#[tactic(auto, using(crate::proofs::Pointing::comparison_unasked, crate::proofs::Pointing::comparison_halts, crate::proofs::Pointing::comparison_leaves))]
 pub fn compare<W: AbsMem + Drop>(
     view: &View,
     memory: &mut Joined<W>,
@@ -106,7 +102,6 @@ pub fn compare<W: AbsMem + Drop>(
 }
 
 /// `Leaf`.
-#[tactic(auto, using(crate::proofs::Pointing::leaf_unasked, crate::proofs::Pointing::leaf_halts, crate::proofs::Pointing::leaf_leaves))]
 pub fn take_leaf<W: AbsMem + Drop>(
     view: &View,
     memory: &mut Joined<W>,
@@ -125,7 +120,6 @@ pub fn take_leaf<W: AbsMem + Drop>(
 }
 
 /// `charrun`.
-#[tactic(auto, using(crate::proofs::Pointing::run_unasked, crate::proofs::Pointing::run_halts, crate::proofs::Pointing::run_leaves))]
 pub fn measure_run<W: AbsMem + Drop>(
     view: &View,
     memory: &mut Joined<W>,

@@ -41,7 +41,6 @@ pub fn frame_for<M: AbsMem>(
 }
 
 /// `Local`.
-#[tactic(auto, using(crate::proofs::Placing::local_unasked, crate::proofs::Placing::local_halts, crate::proofs::Placing::local_leaves))]
 pub fn local_in<W: AbsMem + Drop>(
     view: &View,
     memory: &mut Joined<W>,
@@ -73,7 +72,6 @@ pub fn place_value<W: AbsMem + Drop>(
 }
 
 /// `fetch`.
-#[tactic(auto, using(crate::proofs::Placing::fetch_unasked, crate::proofs::Placing::fetch_halts))]
 pub fn fetch_at<W: AbsMem + Drop>(
     view: &View,
     memory: &mut Joined<W>,
@@ -100,7 +98,6 @@ pub fn fetch_at<W: AbsMem + Drop>(
 }
 
 /// `store`.
-#[tactic(auto, using(crate::proofs::Placing::store_unasked, crate::proofs::Placing::store_halts))]
 pub fn store_at<W: AbsMem + Drop>(
     view: &View,
     memory: &mut Joined<W>,

@@ -17,7 +17,6 @@ use ps_places::top_word;
 use ps_run::PsCore;
 
 /// `PutPointer`.
-#[tactic(auto, using(crate::proofs::Placing::pointer_unasked, crate::proofs::Placing::pointer_halts, crate::proofs::Placing::pointer_put))]
 fn put_address<W: AbsMem + Drop>(
     view: &View,
     memory: &mut Joined<W>,
@@ -37,7 +36,6 @@ fn put_address<W: AbsMem + Drop>(
 }
 
 /// `PutChars`.
-#[tactic(auto, using(crate::proofs::Placing::chars_unasked, crate::proofs::Placing::chars_halt))]
 fn put_characters<W: AbsMem + Drop>(
     view: &View,
     memory: &mut Joined<W>,
@@ -67,7 +65,6 @@ fn put_characters<W: AbsMem + Drop>(
 }
 
 /// An operator that appends: `Put` to `PutChars`.
-#[tactic(auto, using(crate::proofs::Placing::put_acts, crate::proofs::Placing::put_char_acts, crate::proofs::States::at_number, crate::proofs::States::last_appends))]
 pub fn append<W: AbsMem + Drop>(
     view: &View,
     memory: &mut Joined<W>,
