@@ -1,2 +1,4 @@
+pub mod Desk
 pub mod Halts
-pub mod Operating
+pub mod Asking
+pub mod Acting

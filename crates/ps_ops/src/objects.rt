@@ -1,7 +1,9 @@
 // Operators on pointers and names.
 
-ghost use Rattle.std.specs.Prelude.{◌≡◌};
+ghost use Rattle.std.specs.Prelude.{◌≡◌, ℕ, List};
 ghost use Rattle.ps_store.specs.Store.{closed_part};
+ghost use Rattle.ps_ops.specs.Acting.{ActsOn};
+ghost use Rattle.ps_ops.specs.Desk.{desk_of};
 
 use crate::asking::{found, found_two, scope_in};
 use crate::halt::{Halt, left};
@@ -22,6 +24,7 @@ pub fn find_where<W: AbsMem + Drop>(
     memory: &mut Joined<W>,
     core: &mut PsCore,
 ) -> Result<(), Halt>
+    ensures acts { (out : List ℕ) → ActsOn 5 (desk_of view.now memory.old.below.below.order memory.old.below.cell out) (W.seen memory.old.below.below.below) core.old result (desk_of view.now memory.new.below.below.order memory.new.below.cell out) (W.seen memory.new.below.below.below) core.new }
     ensures closed { closed_part core.new.store ≡ closed_part core.old.store }
 {
     match top_name(core) {
@@ -39,6 +42,7 @@ pub fn add<W: AbsMem + Drop>(
     memory: &mut Joined<W>,
     core: &mut PsCore,
 ) -> Result<(), Halt>
+    ensures acts { (out : List ℕ) → ActsOn 23 (desk_of view.now memory.old.below.below.order memory.old.below.cell out) (W.seen memory.old.below.below.below) core.old result (desk_of view.now memory.new.below.below.order memory.new.below.cell out) (W.seen memory.new.below.below.below) core.new }
     ensures closed { closed_part core.new.store ≡ closed_part core.old.store }
 {
     match sum_operands(core) {
@@ -61,6 +65,7 @@ pub fn subtract<W: AbsMem + Drop>(
     memory: &mut Joined<W>,
     core: &mut PsCore,
 ) -> Result<(), Halt>
+    ensures acts { (out : List ℕ) → ActsOn 24 (desk_of view.now memory.old.below.below.order memory.old.below.cell out) (W.seen memory.old.below.below.below) core.old result (desk_of view.now memory.new.below.below.order memory.new.below.cell out) (W.seen memory.new.below.below.below) core.new }
     ensures closed { closed_part core.new.store ≡ closed_part core.old.store }
 {
     match difference_operands(core) {
@@ -84,6 +89,7 @@ pub fn compare<W: AbsMem + Drop>(
     memory: &mut Joined<W>,
     core: &mut PsCore,
 ) -> Result<(), Halt>
+    ensures acts { (out : List ℕ) → ActsOn 25 (desk_of view.now memory.old.below.below.order memory.old.below.cell out) (W.seen memory.old.below.below.below) core.old result (desk_of view.now memory.new.below.below.order memory.new.below.cell out) (W.seen memory.new.below.below.below) core.new }
     ensures closed { closed_part core.new.store ≡ closed_part core.old.store }
 {
     match comparison_operands(core) {
@@ -101,6 +107,7 @@ pub fn take_leaf<W: AbsMem + Drop>(
     memory: &mut Joined<W>,
     core: &mut PsCore,
 ) -> Result<(), Halt>
+    ensures acts { (out : List ℕ) → ActsOn 26 (desk_of view.now memory.old.below.below.order memory.old.below.cell out) (W.seen memory.old.below.below.below) core.old result (desk_of view.now memory.new.below.below.order memory.new.below.cell out) (W.seen memory.new.below.below.below) core.new }
     ensures closed { closed_part core.new.store ≡ closed_part core.old.store }
 {
     match leaf_operands(core) {
@@ -118,6 +125,7 @@ pub fn measure_run<W: AbsMem + Drop>(
     memory: &mut Joined<W>,
     core: &mut PsCore,
 ) -> Result<(), Halt>
+    ensures acts { (out : List ℕ) → ActsOn 32 (desk_of view.now memory.old.below.below.order memory.old.below.cell out) (W.seen memory.old.below.below.below) core.old result (desk_of view.now memory.new.below.below.order memory.new.below.cell out) (W.seen memory.new.below.below.below) core.new }
     ensures closed { closed_part core.new.store ≡ closed_part core.old.store }
 {
     match top_word(core) {

@@ -1,7 +1,10 @@
 // Operators on places.
 
-ghost use Rattle.std.specs.Prelude.{◌≡◌, option_map};
+ghost use Rattle.std.specs.Prelude.{◌≡◌, ℕ, List, option_map};
 ghost use Rattle.ps_store.specs.Store.{closed_part};
+ghost use Rattle.ps_ops.specs.Acting.{ActsOn};
+ghost use Rattle.ps_ops.specs.Desk.{desk_of};
+ghost use Rattle.ps_ops.specs.Asking.{LooksUp, frame_for};
 
 use crate::asking::frame_of;
 use crate::halt::{Halt, left, left_over};
@@ -28,7 +31,9 @@ pub fn frame_for<M: AbsMem>(
     table: &PsStore,
     m: &mut M,
     space: Space,
-) -> Result<Option<Frame>, Halt> {
+) -> Result<Option<Frame>, Halt>
+    ensures { LooksUp table.now (λ b. frame_for view.now table.now b space) (M.seen m.old) result (M.seen m.new) }
+{
     match space {
         Space::Registers => frame_of(view, table, m),
         Space::Memory | Space::Immediate => Ok(None),
@@ -41,6 +46,7 @@ pub fn local_in<W: AbsMem + Drop>(
     memory: &mut Joined<W>,
     core: &mut PsCore,
 ) -> Result<(), Halt>
+    ensures acts { (out : List ℕ) → ActsOn 2 (desk_of view.now memory.old.below.below.order memory.old.below.cell out) (W.seen memory.old.below.below.below) core.old result (desk_of view.now memory.new.below.below.order memory.new.below.cell out) (W.seen memory.new.below.below.below) core.new }
     ensures closed { closed_part core.new.store ≡ closed_part core.old.store }
 {
     match top_word(core) {
@@ -58,6 +64,7 @@ pub fn place_value<W: AbsMem + Drop>(
     memory: &mut Joined<W>,
     core: &mut PsCore,
 ) -> Result<(), Halt>
+    ensures acts { (out : List ℕ) → ActsOn 4 (desk_of view.now memory.old.below.below.order memory.old.below.cell out) (W.seen memory.old.below.below.below) core.old result (desk_of view.now memory.new.below.below.order memory.new.below.cell out) (W.seen memory.new.below.below.below) core.new }
     ensures closed { closed_part core.new.store ≡ closed_part core.old.store }
 {
     memory.set_frame(None);
@@ -70,6 +77,7 @@ pub fn fetch_at<W: AbsMem + Drop>(
     memory: &mut Joined<W>,
     core: &mut PsCore,
 ) -> Result<(), Halt>
+    ensures acts { (out : List ℕ) → ActsOn 6 (desk_of view.now memory.old.below.below.order memory.old.below.cell out) (W.seen memory.old.below.below.below) core.old result (desk_of view.now memory.new.below.below.order memory.new.below.cell out) (W.seen memory.new.below.below.below) core.new }
     ensures closed { closed_part core.new.store ≡ closed_part core.old.store }
 {
     match fetch_of(core) {
@@ -95,6 +103,7 @@ pub fn store_at<W: AbsMem + Drop>(
     memory: &mut Joined<W>,
     core: &mut PsCore,
 ) -> Result<(), Halt>
+    ensures acts { (out : List ℕ) → ActsOn 7 (desk_of view.now memory.old.below.below.order memory.old.below.cell out) (W.seen memory.old.below.below.below) core.old result (desk_of view.now memory.new.below.below.order memory.new.below.cell out) (W.seen memory.new.below.below.below) core.new }
     ensures closed { closed_part core.new.store ≡ closed_part core.old.store }
 {
     match store_of(core, view.raw) {

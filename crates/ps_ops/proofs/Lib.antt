@@ -1,0 +1,10 @@
+pub mod Halting
+pub mod Asked
+pub mod Looking
+pub mod Outward
+pub mod Equations
+pub mod Overs
+pub mod Pointing
+pub mod Placing
+pub mod States
+pub mod Retries

@@ -1,0 +1,33 @@
+use Rattle.std.proofs.Common.{sym, ◌∙◌}
+use Rattle.ps_ops.proofs.Placing.{places_set, chars_unasked, chars_halt, chars_put}
+use Rattle.ps_ops.proofs.texts.put_characters.Goals as goal
+
+pub returns-in-Err-clause-acts : goal.returns-in-Err-clause-acts
+returns-in-Err-clause-acts g c =
+    let v = c.args.view.now in
+    let core = c.args.core.now in
+    let m = c.args.memory.now in
+    let seen = g.W.AbsMem.seen in
+    chars_unasked v m.below.below.order m.below.cell c.args.out.now (seen m.below.below.below) core c.in-Err.error (sym c.string_place.ensures.asked ∙ c.in-Err.is)
+
+pub returns-in-Err-frame_for-clause-acts : goal.returns-in-Err-frame_for-clause-acts
+returns-in-Err-frame_for-clause-acts g c =
+    let v = c.args.view.now in
+    let core = c.args.core.now in
+    let m = c.args.memory.now in
+    let seen = g.W.AbsMem.seen in
+    chars_halt v m.below.below.order m.below.cell c.args.out.now (seen m.below.below.below) core (seen c.frame_for.new.m) c.in-Err-frame_for.halt c.in-Ok.place _ (sym c.string_place.ensures.asked ∙ c.in-Ok.is) c.in-Err-frame_for.ensures
+
+pub returns-in-Ok-frame_for-clause-acts : goal.returns-in-Ok-frame_for-clause-acts
+returns-in-Ok-frame_for-clause-acts g c =
+    let v = c.args.view.now in
+    let core = c.args.core.now in
+    let m = c.args.memory.now in
+    let seen = g.W.AbsMem.seen in
+    let m₁ = c.set_frame.new.self in
+    let m' = c.put_chars.new.memory in
+    let f = c.in-Ok-frame_for.frame in
+    rw c.left_over.ensures
+    (chars_put seen v m.below.below.order m.below.cell c.args.out.now m.below.below.below c.frame_for.new.m m₁.below.below.below m'.below.below.below core c.put_chars.new.core f m₁.below.below.places m'.below.below.places m₁.below.below.order
+    m'.below.below.order m₁.below.cell m'.below.cell c.put_chars.result c.set_frame.ensures.below (places_set c.as_ref.result f m₁.below.below.places c.set_frame.ensures.places c.as_ref.ensures.value) c.set_frame.ensures.order
+    c.set_frame.ensures.cell c.in-Ok.place c.in-Ok-frame_for.ensures _ c.put_chars.new.out (sym c.string_place.ensures.asked ∙ c.in-Ok.is) c.put_chars.ensures.does)
