@@ -12,6 +12,7 @@ use Rattle.ldb_top.specs.declared.words.Request.{Request}
 use Rattle.ldb_top.specs.declared.words.Request.TheVariants as request
 use Rattle.ldb_top.specs.Words.{Form, Debug, Go, Make, Own, form_of, form_in}
 use Rattle.ldb_top.specs.May.{MayAnswer, status_of}
+use Rattle.ldb_top.specs.Names.{Names}
 use Rattle.ldb_top.specs.Output.{OthersKept, LeavesFiles, IsEarly, output_of}
 use Rattle.ldb_top.specs.Said.{IsNamed, generated, number_in}
 use Rattle.ldb_top.proofs.Kept.{others_same}
@@ -19,14 +20,14 @@ use Rattle.ldb_top.proofs.Kept.{others_same}
 pub left_debug : (asked : List (List ℕ)) (q : Request) (r : DebugRequest) (held held' : Option FileMap) → q ≡ request.Debug r → Some (form_in q) ≡ form_of asked → IsNamed (drop 1 asked) q
     → ((start : Option FileMap) → OthersKept r.output.now start held → OthersKept r.output.now start held') → LeavesFiles (form_of asked) asked held held'
 left_debug asked q r held held' e f n k =
-    let named : r.output.now ≡ output_of Debug (drop 1 asked) = subst (IsNamed (drop 1 asked)) e n in
+    let named : r.output.now ≡ output_of Debug (drop 1 asked) = ap (λ (x : Names). x.output) (subst (IsNamed (drop 1 asked)) e n) in
     let form : Some Debug ≡ form_of asked = ap (λ (x : Request). Some (form_in x)) (sym e) ∙ f in
     subst (λ o. LeavesFiles o asked held held') form (subst (λ x. OthersKept x held held') named (k held (others_same r.output.now held held refl)))
 
 pub left_go : (asked : List (List ℕ)) (q : Request) (r : GoRequest) (held held' : Option FileMap) → q ≡ request.Go r → Some (form_in q) ≡ form_of asked → IsNamed (drop 1 asked) q
     → ((start : Option FileMap) → OthersKept r.output.now start held → OthersKept r.output.now start held') → LeavesFiles (form_of asked) asked held held'
 left_go asked q r held held' e f n k =
-    let named : r.output.now ≡ output_of Go (drop 1 asked) = subst (IsNamed (drop 1 asked)) e n in
+    let named : r.output.now ≡ output_of Go (drop 1 asked) = ap (λ (x : Names). x.output) (subst (IsNamed (drop 1 asked)) e n) in
     let form : Some Go ≡ form_of asked = ap (λ (x : Request). Some (form_in x)) (sym e) ∙ f in
     subst (λ o. LeavesFiles o asked held held') form (subst (λ x. OthersKept x held held') named (k held (others_same r.output.now held held refl)))
 
