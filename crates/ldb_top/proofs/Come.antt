@@ -1,5 +1,5 @@
 -- What a call comes to whose words ask for a session.
-use Rattle.std.proofs.Common.{◌≡◌, ◌⊎◌, ℕ, false, true, List, drop, Option, Some, Ok, Err, inl, inr, refl, sym, ap, ◌∙◌, subst, tt}
+use Rattle.std.proofs.Common.{◌≡◌, ◌⊎◌, ℕ, true, List, drop, Option, None, Some, Ok, Err, inl, inr, refl, sym, ap, ◌∙◌, subst}
 use Rattle.std.specs.declared.result.Result.{Result}
 use Rattle.std.specs.Prelude.{OnOk}
 use Rattle.ldb_edge.specs.Known.{FileMap, known_and}
@@ -13,13 +13,14 @@ use Rattle.ldb_top.specs.declared.words.DebugRequest.{DebugRequest}
 use Rattle.ldb_top.specs.declared.words.GoRequest.{GoRequest}
 use Rattle.ldb_top.specs.declared.words.Request.{Request}
 use Rattle.ldb_top.specs.declared.words.Request.TheVariants as request
-use Rattle.ldb_top.specs.Ahead.{lines_of}
-use Rattle.ldb_top.specs.Comes.{Outside, EndsEarly, ComesTo, Served, SessionComesTo}
+use Rattle.ldb_top.specs.Ahead.{Lines, lines_of}
+use Rattle.ldb_top.specs.Comes.{Outside, EndsEarly, Comes, ComesTo, Served, SessionComes, SessionComesTo}
+use Rattle.ldb_top.specs.Late.{LateAs}
 use Rattle.ldb_top.specs.Names.{Names, names_of, names_in_debug, names_in_go}
 use Rattle.ldb_top.specs.Said.{IsNamed}
 use Rattle.ldb_top.specs.Stops.{ending_of}
-use Rattle.ldb_top.specs.Why.{IsWhy, Begins, line_of}
-use Rattle.ldb_top.specs.Words.{Form, Debug, Go, form_of, form_in}
+use Rattle.ldb_top.specs.Why.{IsWhy, Begins, line_of, late_line}
+use Rattle.ldb_top.specs.Words.{Form, Debug, Go, Make, Own, form_of, form_in}
 
 -- ---- before the session
 
@@ -39,7 +40,7 @@ told_comes form n old new (stop.Bad line) r (inl e) why said h u = subst (ComesT
 
 pub served_comes : (form : Form) (n : Names) (old new : Outside) (r : Result Status Fault) → ((known : FileMap) → old.held ≡ Some known → Begins form n known) → Served (lines_of old.left) new.taken r → ComesTo form n old new r
 served_comes form n old new (Ok Done) b s = record { begun = b; read = s }
-served_comes form n old new (Ok TooLong) b s = inr (record { begun = b; late = s.0; before = s.1; told = s.2 })
+served_comes form n old new (Ok TooLong) b s = inr (record { begun = b; late = s.0; before = s.1.0; told = s.1.1 })
 served_comes form n old new (Ok Refused) b s = absurd s
 served_comes form n old new (Ok Words) b s = absurd s
 served_comes form n old new (Ok ReadFault) b s = absurd s
@@ -49,7 +50,20 @@ served_comes form n old new (Ok NoFile) b s = absurd s
 served_comes form n old new (Ok BadFile) b s = absurd s
 served_comes form n old new (Err f) b s = tt
 
+-- the last line of one whose commands were too many
+pub served_late : (lines : Option Lines) (before taken : Option (List ℕ)) (r : Result Status Fault) → LateAs true lines → (r ≡ Ok TooLong) ⊎ (r ≡ Err fault.Write) → OnOk r (taken ≡ known_and before late_line) → Served lines taken r
+served_late lines before taken r l (inr e) said = subst (Served lines taken) (sym e) tt
+served_late lines before taken r l (inl e) said = subst (Served lines taken) (sym e) (l, (before, subst (λ x. OnOk x (taken ≡ known_and before late_line)) e said))
+
 -- ---- words of a form
+
+-- a status that says nothing
+pub comes_always : (form : Option Form) (asked : List (List ℕ)) (old new : Outside) (status : Status) → ((f : Form) (n : Names) → Comes f n old new status) → SessionComes form asked old new status
+comes_always None asked old new status c = tt
+comes_always (Some Debug) asked old new status c = c Debug (names_of Debug (drop 1 asked))
+comes_always (Some Go) asked old new status c = c Go (names_of Go (drop 1 asked))
+comes_always (Some Make) asked old new status c = tt
+comes_always (Some Own) asked old new status c = tt
 
 debug_named : (asked : List (List ℕ)) (r : Result Status Fault) (old new : Outside) → ComesTo Debug (names_of Debug (drop 1 asked)) old new r → SessionComesTo (Some Debug) asked old new r
 debug_named asked (Ok status) old new c = c

@@ -1,17 +1,25 @@
 -- Commands that are too many, line by line.
-use Rattle.std.proofs.Common.{◌≡◌, ℕ, Bool, true, false, ◌&&◌, ◌||◌, not, List, [], ◌∷◌, Option, None, Some, refl, sym, ap, ◌∙◌, subst, tt, nat_le, codes, length, if◌then◌else◌}
+use Rattle.std.proofs.Common.{◌≡◌, ℕ, Bool, true, false, ◌&&◌, ◌||◌, not, List, [], ◌∷◌, Option, None, Some, Ok, Err, refl, sym, ap, ◌∙◌, subst, nat_le, codes, length, if◌then◌else◌}
+use Rattle.std.specs.declared.result.Result.{Result}
+use Rattle.std.specs.Prelude.{IfOk}
 use Rattle.std.specs.List.{list_any}
 use Rattle.std.specs.Option.{option_map}
 use Rattle.std.specs.Str.{bytes_eq}
 use Rattle.c_session.specs.declared.command.Command.{Command}
 use Rattle.c_session.specs.declared.command.Command.TheVariants.{Break, Clear, Continue, Step, Turns, Frames, Frame, Print, Eval, Assign, Quit, Regs, Code, Ps}
 use Rattle.c_session.specs.declared.command.Spot.{Spot}
+use Rattle.cc_call.specs.declared.ended.Fault.{Fault}
+use Rattle.session.specs.declared.answers.Answer.{Answer}
+use Rattle.session.specs.declared.answers.End.{End}
+use Rattle.session.specs.declared.answers.End.TheVariants as end
 use Rattle.cmd_lang.specs.Numbers.{number_of, limit_of}
 use Rattle.cmd_lang.specs.Places.{spot_of}
 use Rattle.cmd_lang.specs.Words.{is_nothing, without_blanks, first_word, behind_word, lone_word}
 use Rattle.cmd_lang.specs.Commands.{with_word, with_lone, with_text, command_of, read_of, alone}
 use Rattle.ldb_top.specs.Ahead.{Lines, line_and, lines_if}
-use Rattle.ldb_top.specs.Late.{asks_quit, is_quit, is_late, LateAs}
+use Rattle.ldb_top.specs.Late.{asks_quit, is_quit, is_late, LateAs, Follows}
+use Rattle.ldb_top.specs.declared.serving.Next.{Next}
+use Rattle.ldb_top.specs.declared.serving.Next.TheVariants as next
 
 -- ---- `quit` is read the same where PostScript is taken
 
@@ -93,6 +101,15 @@ quit_alone (Some (Ps x)) n = refl
 
 pub quits_not : (raw : Bool) (line : List ℕ) → (read_of raw line ≡ Some Quit → ⊥) → is_quit line ≡ false
 quits_not raw line n = sym (same_quit raw line) ∙ quit_alone (read_of raw line) n
+
+-- ---- one line, answered
+
+no_end : (answer : Result Answer End) (a : Answer) → answer ≡ Ok a → answer ≡ Err end.Quit → ⊥
+no_end answer a e f = absurd cc
+
+pub follows_answer : (raw : Bool) (line : List ℕ) (answer : Result Answer End) (a : Answer) (r : Result Next Fault) → answer ≡ Ok a → (read_of raw line ≡ Some Quit → answer ≡ Err end.Quit) → IfOk r (λ x. x ≡ next.Line) → IfOk r (Follows line)
+follows_answer raw line answer a (Ok x) e q n = subst (Follows line) (sym n) (quits_not raw line (λ asked. no_end answer a e (q asked)))
+follows_answer raw line answer a (Err f) e q n = tt
 
 -- ---- one line after another
 

@@ -1,11 +1,11 @@
 -- What words of each form leave and print.
-use Rattle.std.proofs.Common.{◌≡◌, ◌⊎◌, ℕ, List, drop, Option, Some, Ok, refl, sym, ap, subst, ◌∙◌, inl, inr}
+use Rattle.std.proofs.Common.{◌≡◌, ℕ, List, drop, Option, Some, Ok, refl, sym, ap, subst, ◌∙◌}
 use Rattle.std.specs.Prelude.{OnOk, unwrap_or}
 use Rattle.std.specs.declared.result.Result.{Result}
 use Rattle.ldb_edge.specs.Known.{FileMap, known_and}
 use Rattle.cc_call.specs.declared.ended.Fault.{Fault}
 use Rattle.ldb_top.specs.declared.status.Status.{Status}
-use Rattle.ldb_top.specs.declared.status.Status.TheVariants.{Words, Done, TooLong}
+use Rattle.ldb_top.specs.declared.status.Status.TheVariants.{Words}
 use Rattle.ldb_top.specs.declared.words.DebugRequest.{DebugRequest}
 use Rattle.ldb_top.specs.declared.words.GoRequest.{GoRequest}
 use Rattle.ldb_top.specs.declared.words.Request.{Request}
@@ -13,7 +13,7 @@ use Rattle.ldb_top.specs.declared.words.Request.TheVariants as request
 use Rattle.ldb_top.specs.Words.{Form, Debug, Go, Make, Own, form_of, form_in}
 use Rattle.ldb_top.specs.May.{MayAnswer, status_of}
 use Rattle.ldb_top.specs.Names.{Names}
-use Rattle.ldb_top.specs.Output.{OthersKept, LeavesFiles, IsEarly, output_of}
+use Rattle.ldb_top.specs.Output.{OthersKept, LeavesFiles, output_of}
 use Rattle.ldb_top.specs.Said.{IsNamed, generated, number_in}
 use Rattle.ldb_top.proofs.Kept.{others_same}
 
@@ -43,8 +43,3 @@ never_said Debug result m e = subst (λ r. MayAnswer (Some Debug) (status_of r))
 never_said Go result m e = subst (λ r. MayAnswer (Some Go) (status_of r)) e m
 never_said Make result m e = subst (λ r. MayAnswer (Some Make) (status_of r)) e m
 never_said Own result m e = subst (λ r. MayAnswer (Some Own) (status_of r)) e m
-
--- a session was begun
-pub late : (status : Status) → (status ≡ Done) ⊎ (status ≡ TooLong) → IsEarly status → ⊥
-late status (inl e) a = subst IsEarly e a
-late status (inr e) a = subst IsEarly e a

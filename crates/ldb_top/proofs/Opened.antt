@@ -1,5 +1,5 @@
 -- Sessions that are begun, and why others aren't.
-use Rattle.std.proofs.Common.{◌≡◌, ◌⊎◌, ℕ, true, false, List, [], ◌∷◌, ◌++◌, Option, None, Some, Ok, Err, inl, inr, refl, sym, ap, ◌∙◌, subst, tt}
+use Rattle.std.proofs.Common.{◌≡◌, ◌⊎◌, ℕ, true, false, List, [], ◌∷◌, ◌++◌, codes, Option, None, Some, Ok, Err, inl, inr, refl, sym, ap, ◌∙◌, subst}
 use Rattle.std.specs.declared.result.Result.{Result}
 use Rattle.std.specs.Prelude.{IfErr}
 use Rattle.std.specs.FinMap as files
@@ -8,20 +8,21 @@ use Rattle.obj_file.specs.Image.{ImageFields, first_wrong, Reads}
 use Rattle.obj_file.specs.declared.image.ImageFault.{ImageFault}
 use Rattle.obj_file.specs.declared.image.ImageFault.TheVariants as fault
 use Rattle.ldb_cc.specs.declared.aim.Aim.{Aim}
-use Rattle.ldb_cc.specs.declared.fault.BuildFault.{BuildFault}
-use Rattle.ldb_cc.specs.Sources.{IsCause}
 use Rattle.ldb_cc.specs.Built.{IsBuilt}
-use Rattle.cc_call.specs.Lines.{is_refusal, refused_line}
+use Rattle.cc_call.specs.Lines.{end}
 use Rattle.cc_call.specs.Found.{AreRead}
 use Rattle.ldb_top.specs.Files.{first_missing, is_long, IsRead}
 use Rattle.ldb_top.specs.Names.{Names, read_names}
 use Rattle.ldb_top.specs.Words.{Form, Debug, Go}
 use Rattle.ldb_top.specs.declared.status.Stop.{Stop}
 use Rattle.ldb_top.specs.declared.status.Stop.TheVariants.{Read, NoMemory, Missing, TooLong, Refused, Bad}
-use Rattle.ldb_top.specs.Why.{IsTableStop, IsImageTold, IsBuildWhy, IsLoadWhy, BuildsFrom, LoadsFrom, AreProgram, IsFileStop, IsInputStop, AreRight, Opens, IsWhy}
+use Rattle.ldb_top.specs.Why.{IsTableLine, IsTableStop, IsImageTold, IsBuildWhy, IsLoadWhy, BuildsFrom, LoadsFrom, AreProgram, IsFileStop, IsInputStop, AreRight, Opens, IsWhy}
 use Rattle.ldb_top.proofs.Fronted.{all_on, missing_on}
 
 -- ---- sources, and an image
+
+pub table_line : (what line : List ℕ) → line ≡ codes "badfile table " ++ (what ++ end) → IsTableLine line
+table_line what line e = record { what = what; line_is = e }
 
 pub built_then : {A : Type 0} (aim : Aim) (names texts : List (List ℕ)) (image : ImageFields) (table : List ℕ) (r : Result A Stop) → IsBuilt aim names texts image table → IfErr r IsTableStop → BuildsFrom names texts r
 built_then aim names texts image table (Ok x) b t = (b.program, b.is_program)

@@ -3,8 +3,6 @@ use Rattle.std.specs.Prelude.{◌≡◌, ◌≢◌, ℕ, Bool, List, drop, Optio
 use Rattle.std.specs.FinMap as map
 use Rattle.std.specs.Coded.{Coded-set, coded_option, coded_list, coded_bool, coded_ℕ, ×_prop, Π_prop}
 use Rattle.ldb_edge.specs.Known.{FileMap}
-use Rattle.ldb_top.specs.declared.status.Status.{Status}
-use Rattle.ldb_top.specs.declared.status.Status.TheVariants.{Refused, NoFile, BadFile}
 use Rattle.ldb_top.specs.Names.{names_of}
 use Rattle.ldb_top.specs.Words.{Form, Debug, Go}
 
@@ -30,10 +28,3 @@ abbrev pub LeavesFiles : Option Form → (words : List (List ℕ)) → (held hel
 LeavesFiles (Some Debug) words held held' = OthersKept (output_of Debug (drop 1 words)) held held'
 LeavesFiles (Some Go) words held held' = OthersKept (output_of Go (drop 1 words)) held held'
 LeavesFiles _ words held held' = held' ≡ held
-
--- the statuses of a call that ended before its session began
-abbrev pub IsEarly : Status → Type 0
-IsEarly Refused = Unit {0}
-IsEarly NoFile = Unit {0}
-IsEarly BadFile = Unit {0}
-IsEarly _ = ⊥

@@ -24,7 +24,7 @@ abbrev pub long_line : List ℕ → List ℕ
 long_line name = codes "toolong " ++ (name ++ end)
 
 abbrev pub late_line : List ℕ
-late_line = codes "toolong commands" ++ end
+late_line = codes "toolong commands\n"
 
 abbrev pub bad_image_line : ℕ → List ℕ
 bad_image_line at = codes "badfile image at " ++ (decimal at ++ end)

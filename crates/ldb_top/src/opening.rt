@@ -8,7 +8,7 @@ ghost use Rattle.ldb_top.specs.Stops.{IsBuildStop, IsLoadStop, IsOpenStop};
 ghost use Rattle.ldb_top.specs.Why.{IsTableStop, IsImageTold, IsBuildWhy, BuildsFrom, LoadsFrom, Opens};
 ghost use Rattle.ldb_top.specs.Words.{Debug, Go};
 
-use crate::reading::{read_file, read_input, read_sources};
+use crate::reading::{line_with, read_file, read_input, read_sources};
 use crate::status::Stop;
 use crate::words::{Aims, DebugRequest, GoRequest};
 use cc_call::{is_refusal, names_of, refused_line};
@@ -36,6 +36,7 @@ struct Sides {
 }
 
 /// What is told of a table that can't be used.
+#[tactic(auto, using(crate::proofs::Opened::table_line))]
 fn bad_table(alloc: Global, fault: TableFault) -> Stop
     ensures stop { IsLoadStop result }
     ensures told { IsTableStop result }
@@ -46,8 +47,8 @@ fn bad_table(alloc: Global, fault: TableFault) -> Stop
         TableFault::Shape => "shape",
         TableFault::NoMemory => return Stop::NoMemory,
     };
-    match format!(in alloc; "badfile table {why}\n") {
-        Ok(line) => Stop::Bad(Text::from_vec(line.into_bytes())),
+    match line_with(alloc, "badfile table ", why) {
+        Ok(line) => Stop::Bad(line),
         Err(_) => Stop::NoMemory,
     }
 }
