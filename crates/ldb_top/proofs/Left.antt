@@ -1,32 +1,33 @@
 -- What words of each form leave and print.
-use Rattle.std.proofs.Common.{◌≡◌, ◌⊎◌, ℕ, List, drop, Option, Some, Ok, refl, sym, ap, subst, ◌∙◌, inl, inr}
+use Rattle.std.proofs.Common.{◌≡◌, ℕ, List, drop, Option, Some, Ok, refl, sym, ap, subst, ◌∙◌}
 use Rattle.std.specs.Prelude.{OnOk, unwrap_or}
 use Rattle.std.specs.declared.result.Result.{Result}
 use Rattle.ldb_edge.specs.Known.{FileMap, known_and}
 use Rattle.cc_call.specs.declared.ended.Fault.{Fault}
 use Rattle.ldb_top.specs.declared.status.Status.{Status}
-use Rattle.ldb_top.specs.declared.status.Status.TheVariants.{Words, Done, TooLong}
+use Rattle.ldb_top.specs.declared.status.Status.TheVariants.{Words}
 use Rattle.ldb_top.specs.declared.words.DebugRequest.{DebugRequest}
 use Rattle.ldb_top.specs.declared.words.GoRequest.{GoRequest}
 use Rattle.ldb_top.specs.declared.words.Request.{Request}
 use Rattle.ldb_top.specs.declared.words.Request.TheVariants as request
 use Rattle.ldb_top.specs.Words.{Form, Debug, Go, Make, Own, form_of, form_in}
 use Rattle.ldb_top.specs.May.{MayAnswer, status_of}
-use Rattle.ldb_top.specs.Output.{OthersKept, LeavesFiles, IsEarly, output_of}
+use Rattle.ldb_top.specs.Names.{Names}
+use Rattle.ldb_top.specs.Output.{OthersKept, LeavesFiles, output_of}
 use Rattle.ldb_top.specs.Said.{IsNamed, generated, number_in}
 use Rattle.ldb_top.proofs.Kept.{others_same}
 
 pub left_debug : (asked : List (List ℕ)) (q : Request) (r : DebugRequest) (held held' : Option FileMap) → q ≡ request.Debug r → Some (form_in q) ≡ form_of asked → IsNamed (drop 1 asked) q
     → ((start : Option FileMap) → OthersKept r.output.now start held → OthersKept r.output.now start held') → LeavesFiles (form_of asked) asked held held'
 left_debug asked q r held held' e f n k =
-    let named : r.output.now ≡ output_of Debug (drop 1 asked) = subst (IsNamed (drop 1 asked)) e n in
+    let named : r.output.now ≡ output_of Debug (drop 1 asked) = ap (λ (x : Names). x.output) (subst (IsNamed (drop 1 asked)) e n) in
     let form : Some Debug ≡ form_of asked = ap (λ (x : Request). Some (form_in x)) (sym e) ∙ f in
     subst (λ o. LeavesFiles o asked held held') form (subst (λ x. OthersKept x held held') named (k held (others_same r.output.now held held refl)))
 
 pub left_go : (asked : List (List ℕ)) (q : Request) (r : GoRequest) (held held' : Option FileMap) → q ≡ request.Go r → Some (form_in q) ≡ form_of asked → IsNamed (drop 1 asked) q
     → ((start : Option FileMap) → OthersKept r.output.now start held → OthersKept r.output.now start held') → LeavesFiles (form_of asked) asked held held'
 left_go asked q r held held' e f n k =
-    let named : r.output.now ≡ output_of Go (drop 1 asked) = subst (IsNamed (drop 1 asked)) e n in
+    let named : r.output.now ≡ output_of Go (drop 1 asked) = ap (λ (x : Names). x.output) (subst (IsNamed (drop 1 asked)) e n) in
     let form : Some Go ≡ form_of asked = ap (λ (x : Request). Some (form_in x)) (sym e) ∙ f in
     subst (λ o. LeavesFiles o asked held held') form (subst (λ x. OthersKept x held held') named (k held (others_same r.output.now held held refl)))
 
@@ -42,8 +43,3 @@ never_said Debug result m e = subst (λ r. MayAnswer (Some Debug) (status_of r))
 never_said Go result m e = subst (λ r. MayAnswer (Some Go) (status_of r)) e m
 never_said Make result m e = subst (λ r. MayAnswer (Some Make) (status_of r)) e m
 never_said Own result m e = subst (λ r. MayAnswer (Some Own) (status_of r)) e m
-
--- a session was begun
-pub late : (status : Status) → (status ≡ Done) ⊎ (status ≡ TooLong) → IsEarly status → ⊥
-late status (inl e) a = subst IsEarly e a
-late status (inr e) a = subst IsEarly e a

@@ -12,6 +12,7 @@ use Rattle.ldb_top.specs.declared.status.Status.TheVariants as status
 use Rattle.ldb_top.specs.declared.status.Stop.{Stop}
 use Rattle.ldb_top.specs.declared.status.Stop.TheVariants.{Read, NoMemory, Missing, TooLong, Refused, Bad}
 use Rattle.ldb_top.specs.Causes.{IsMissed, TellsMissed}
+use Rattle.ldb_top.specs.Why.{line_of}
 use Rattle.ldb_top.specs.Stops.{ending_of, IsMissing, IsReadStop, IsBuildStop, IsLoadStop, IsOpenStop}
 
 -- the name at a place
@@ -39,9 +40,9 @@ said_missed : (missed : List ℕ → Type 0) (line : List ℕ) (taken taken' : O
 said_missed missed line taken taken' m e = record { name = m.name; told = m.told; line_is = e ∙ ap (known_and taken) m.line_is }
 
 pub told_missed : (P : Stop → Type 0) (missed : List ℕ → Type 0) (r r' : ℕ) (taken taken' : Option (List ℕ)) (stop : Stop) (result : Result Status Fault) → ((line : List ℕ) → P (Missing line) → ⊥) → IsOpenStop P missed r r' stop
-    → (result ≡ ending_of stop) ⊎ (result ≡ Err fault.Write) → ((line : List ℕ) → stop ≡ Missing line → OnOk result (taken' ≡ known_and taken line)) → result ≡ Ok status.NoFile → TellsMissed missed taken taken'
+    → (result ≡ ending_of stop) ⊎ (result ≡ Err fault.Write) → OnOk result (taken' ≡ known_and taken (line_of stop)) → result ≡ Ok status.NoFile → TellsMissed missed taken taken'
 told_missed P missed r r' taken taken' stop result never s (inr o) said n = absurd cc
-told_missed P missed r r' taken taken' (Missing line) result never s (inl o) said n = said_missed missed line taken taken' (missed_in missed P r r' line (never line) s) (subst (λ x. OnOk x (taken' ≡ known_and taken line)) n (said line refl))
+told_missed P missed r r' taken taken' (Missing line) result never s (inl o) said n = said_missed missed line taken taken' (missed_in missed P r r' line (never line) s) (subst (λ x. OnOk x (taken' ≡ known_and taken line)) n said)
 told_missed P missed r r' taken taken' Read result never s (inl o) said n = absurd cc
 told_missed P missed r r' taken taken' NoMemory result never s (inl o) said n = absurd cc
 told_missed P missed r r' taken taken' (TooLong line) result never s (inl o) said n = absurd cc

@@ -1,12 +1,10 @@
 -- What a call leaves of the files.
-use Rattle.std.specs.Prelude.{◌≡◌, ◌≢◌, ℕ, Bool, List, [], drop, Option, None, Some, is_some}
+use Rattle.std.specs.Prelude.{◌≡◌, ◌≢◌, ℕ, Bool, List, drop, Option, None, Some, is_some}
 use Rattle.std.specs.FinMap as map
 use Rattle.std.specs.Coded.{Coded-set, coded_option, coded_list, coded_bool, coded_ℕ, ×_prop, Π_prop}
 use Rattle.ldb_edge.specs.Known.{FileMap}
-use Rattle.cc_call.specs.Lines.{name_in}
-use Rattle.ldb_top.specs.declared.status.Status.{Status}
-use Rattle.ldb_top.specs.declared.status.Status.TheVariants.{Refused, NoFile, BadFile}
-use Rattle.ldb_top.specs.Words.{Form, Debug, Go, unscheduled}
+use Rattle.ldb_top.specs.Names.{names_of}
+use Rattle.ldb_top.specs.Words.{Form, Debug, Go}
 
 -- what a name holds, where the files tell it
 abbrev pub held_under : Option FileMap → List ℕ → Option (List ℕ)
@@ -23,19 +21,10 @@ others_kept_prop name held held' = ×_prop (Coded-set coded_bool _ _) (Π_prop (
 
 -- the name of the output of a session, among the words behind `debug` or `go`
 abbrev pub output_of : Form → List (List ℕ) → List ℕ
-output_of Debug words = name_in words 3
-output_of Go words = name_in (unscheduled words) 2
-output_of _ words = []
+output_of form words = (names_of form words).output
 
 -- a session writes its output alone, and words of another form write no file
 abbrev pub LeavesFiles : Option Form → (words : List (List ℕ)) → (held held' : Option FileMap) → Type 0
 LeavesFiles (Some Debug) words held held' = OthersKept (output_of Debug (drop 1 words)) held held'
 LeavesFiles (Some Go) words held held' = OthersKept (output_of Go (drop 1 words)) held held'
 LeavesFiles _ words held held' = held' ≡ held
-
--- the statuses of a call that ended before its session began
-abbrev pub IsEarly : Status → Type 0
-IsEarly Refused = Unit {0}
-IsEarly NoFile = Unit {0}
-IsEarly BadFile = Unit {0}
-IsEarly _ = ⊥

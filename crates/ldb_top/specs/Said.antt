@@ -7,7 +7,7 @@ use Rattle.ldb_make.specs.Commands.{commands_text}
 use Rattle.ldb_top.specs.declared.words.Request.{Request}
 use Rattle.ldb_top.specs.declared.words.Request.TheVariants as request
 use Rattle.ldb_top.specs.Words.{number_of, Debug, Go}
-use Rattle.ldb_top.specs.Output.{output_of}
+use Rattle.ldb_top.specs.Names.{names_of, names_in_debug, names_in_go}
 
 -- some bytes have these in front
 pub record IsFront (front bytes : List ℕ) : Type 0 where
@@ -28,7 +28,7 @@ number_in asked = unwrap_or (number_of (name_in (drop 1 asked) 0)) 0
 
 -- the names and numbers of a request are those of the words behind the first
 abbrev pub IsNamed : List (List ℕ) → Request → Type 0
-IsNamed words (request.Debug r) = r.output.now ≡ output_of Debug words
-IsNamed words (request.Go r) = r.output.now ≡ output_of Go words
+IsNamed words (request.Debug r) = names_in_debug r ≡ names_of Debug words
+IsNamed words (request.Go r) = names_in_go r ≡ names_of Go words
 IsNamed words (request.Make n) = number_of (name_in words 0) ≡ Some n
 IsNamed words (request.Own n) = number_of (name_in words 0) ≡ Some n

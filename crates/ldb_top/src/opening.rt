@@ -1,8 +1,14 @@
 // Machines and their tables: what a session stands on.
-ghost use Rattle.std.specs.Prelude.{◌≡◌, ◌+◌, ◌⊎◌, [], length, IfErr, IfOk, OnOk, MatchResult};
+ghost use Rattle.std.specs.Prelude.{◌≡◌, ◌+◌, ◌⊎◌, ℕ, List, [], length, map, string_bytes, IfErr, IfOk, OnOk, MatchResult, Some};
+ghost use Rattle.ldb_edge.specs.Known.{FileMap};
+ghost use Rattle.ldb_cc.specs.Scanning.{items_of};
+ghost use Rattle.ldb_cc.specs.Sources.{IsCause};
+ghost use Rattle.ldb_top.specs.Names.{names_in_debug, names_in_go};
 ghost use Rattle.ldb_top.specs.Stops.{IsBuildStop, IsLoadStop, IsOpenStop};
+ghost use Rattle.ldb_top.specs.Why.{IsTableStop, IsImageTold, IsBuildWhy, BuildsFrom, LoadsFrom, Opens};
+ghost use Rattle.ldb_top.specs.Words.{Debug, Go};
 
-use crate::reading::{read_file, read_input, read_sources};
+use crate::reading::{line_with, read_file, read_input, read_sources};
 use crate::status::Stop;
 use crate::words::{Aims, DebugRequest, GoRequest};
 use cc_call::{is_refusal, names_of, refused_line};
@@ -30,8 +36,10 @@ struct Sides {
 }
 
 /// What is told of a table that can't be used.
+#[tactic(auto, using(crate::proofs::Opened::table_line))]
 fn bad_table(alloc: Global, fault: TableFault) -> Stop
-    ensures { IsLoadStop result }
+    ensures stop { IsLoadStop result }
+    ensures told { IsTableStop result }
 {
     let why = match fault {
         TableFault::Raised(error) => error.name(),
@@ -39,15 +47,16 @@ fn bad_table(alloc: Global, fault: TableFault) -> Stop
         TableFault::Shape => "shape",
         TableFault::NoMemory => return Stop::NoMemory,
     };
-    match format!(in alloc; "badfile table {why}\n") {
-        Ok(line) => Stop::Bad(Text::from_vec(line.into_bytes())),
+    match line_with(alloc, "badfile table ", why) {
+        Ok(line) => Stop::Bad(line),
         Err(_) => Stop::NoMemory,
     }
 }
 
 /// What is told of an image that is none.
 fn bad_image(alloc: Global, fault: ImageFault) -> Stop
-    ensures { IsLoadStop result }
+    ensures stop { IsLoadStop result }
+    ensures told { IsImageTold fault result }
 {
     match fault {
         ImageFault::NoMemory => Stop::NoMemory,
@@ -60,7 +69,8 @@ fn bad_image(alloc: Global, fault: ImageFault) -> Stop
 
 /// What is told of sources that are refused.
 fn refusal(alloc: Global, names: &[Text], fault: &BuildFault) -> Stop
-    ensures { IsBuildStop result }
+    ensures stop { IsBuildStop result }
+    ensures why { (texts : List (List ℕ)) → IsCause texts fault.now → IsBuildWhy names.now texts result }
 {
     if !is_refusal(fault) {
         return Stop::NoMemory;
@@ -85,6 +95,7 @@ impl Sides {
     fn add(&mut self, alloc: Global, image: Image, table: &[u8]) -> Result<(), Stop>
         ensures count { OnOk result (length self.new.images.items ≡ length self.old.images.items + 1) }
         ensures stop { IfErr result IsLoadStop }
+        ensures told { IfErr result IsTableStop }
     {
         let store = match run_table(alloc, table, image.target()) {
             Ok(store) => store,
@@ -106,6 +117,7 @@ impl Sides {
         requires { length names.now ≡ length texts.now }
         ensures count { OnOk result (length self.new.images.items ≡ length self.old.images.items + 1) }
         ensures stop { IfErr result IsBuildStop }
+        ensures builds { BuildsFrom names.now (map items_of texts.now) result }
     {
         match compile(alloc, aim, names, texts) {
             Ok(built) => {
@@ -125,7 +137,7 @@ impl Sides {
         raw: bool,
     ) -> Result<Session<NearLink>, Stop>
         requires { (length self.images.items ≡ 1) ⊎ (length self.images.items ≡ 2) }
-        ensures { IfErr result IsLoadStop }
+        ensures { IfErr result (λ stop. stop ≡ Stop.NoMemory) }
     {
         let link = NearLink::new(alloc, &self.images, schedule)?;
         match Session::start(alloc, link, self.tables, input, raw) {
@@ -140,6 +152,7 @@ fn sides_of(alloc: Global, aims: Aims, names: &[Text], texts: &[Vec<u8>]) -> Res
     requires { length names.now ≡ length texts.now }
     ensures count { IfOk result (λ sides. (length sides.images.items ≡ 1) ⊎ (length sides.images.items ≡ 2)) }
     ensures stop { IfErr result IsBuildStop }
+    ensures builds { BuildsFrom names.now (map items_of texts.now) result }
 {
     let mut sides = Sides::new(alloc);
     match aims {
@@ -162,7 +175,8 @@ pub fn begin(
     input: &[u8],
 ) -> Result<Session<NearLink>, Stop>
     requires { length names.now ≡ length texts.now }
-    ensures { IfErr result IsBuildStop }
+    ensures stop { IfErr result IsBuildStop }
+    ensures builds { BuildsFrom names.now (map items_of texts.now) result }
 {
     let sides = sides_of(alloc, aims, names, texts)?;
     let entries = match schedule {
@@ -180,7 +194,8 @@ fn open_texts(
     input: &[u8],
 ) -> Result<Session<NearLink>, Stop>
     requires { length texts.now ≡ length request.now.sources.now }
-    ensures { IfErr result IsBuildStop }
+    ensures stop { IfErr result IsBuildStop }
+    ensures builds { BuildsFrom (map string_bytes request.now.sources.now) (map items_of texts.now) result }
 {
     let names = names_of(alloc, request.sources)?;
     begin(alloc, request.aims, request.schedule, &names, texts, input)
@@ -192,6 +207,7 @@ pub fn open_go<F: Files>(
     request: &GoRequest<'_>,
     files: &mut F,
 ) -> Result<Session<NearLink>, Stop>
+    ensures opens { (known : FileMap) → F.held files.old ≡ Some known → Opens Go (names_in_go request.now) known result }
     ensures same { F.held files.new ≡ F.held files.old }
     ensures write_faults { F.write_faults files.new ≡ F.write_faults files.old }
     ensures cause { MatchResult result (λ _. F.read_faults files.new ≡ F.read_faults files.old)
@@ -214,7 +230,8 @@ fn open_image(
     table: &[u8],
     input: &[u8],
 ) -> Result<Session<NearLink>, Stop>
-    ensures { IfErr result IsLoadStop }
+    ensures stop { IfErr result IsLoadStop }
+    ensures loads { LoadsFrom image.now result }
 {
     let image = match read_image(alloc, image) {
         Ok(image) => image,
@@ -233,6 +250,7 @@ pub fn open_debug<F: Files>(
     request: &DebugRequest<'_>,
     files: &mut F,
 ) -> Result<Session<NearLink>, Stop>
+    ensures opens { (known : FileMap) → F.held files.old ≡ Some known → Opens Debug (names_in_debug request.now) known result }
     ensures same { F.held files.new ≡ F.held files.old }
     ensures write_faults { F.write_faults files.new ≡ F.write_faults files.old }
     ensures cause { MatchResult result (λ _. F.read_faults files.new ≡ F.read_faults files.old)

@@ -1,0 +1,134 @@
+-- Commands that are too many, line by line.
+use Rattle.std.proofs.Common.{◌≡◌, ℕ, Bool, true, false, ◌&&◌, ◌||◌, not, List, [], ◌∷◌, Option, None, Some, Ok, Err, refl, sym, ap, ◌∙◌, subst, nat_le, codes, length, if◌then◌else◌}
+use Rattle.std.specs.declared.result.Result.{Result}
+use Rattle.std.specs.Prelude.{IfOk}
+use Rattle.std.specs.List.{list_any}
+use Rattle.std.specs.Option.{option_map}
+use Rattle.std.specs.Str.{bytes_eq}
+use Rattle.c_session.specs.declared.command.Command.{Command}
+use Rattle.c_session.specs.declared.command.Command.TheVariants.{Break, Clear, Continue, Step, Turns, Frames, Frame, Print, Eval, Assign, Quit, Regs, Code, Ps}
+use Rattle.c_session.specs.declared.command.Spot.{Spot}
+use Rattle.cc_call.specs.declared.ended.Fault.{Fault}
+use Rattle.session.specs.declared.answers.Answer.{Answer}
+use Rattle.session.specs.declared.answers.End.{End}
+use Rattle.session.specs.declared.answers.End.TheVariants as end
+use Rattle.cmd_lang.specs.Numbers.{number_of, limit_of}
+use Rattle.cmd_lang.specs.Places.{spot_of}
+use Rattle.cmd_lang.specs.Words.{is_nothing, without_blanks, first_word, behind_word, lone_word}
+use Rattle.cmd_lang.specs.Commands.{with_word, with_lone, with_text, command_of, read_of, alone}
+use Rattle.ldb_top.specs.Ahead.{Lines, line_and, lines_if}
+use Rattle.ldb_top.specs.Late.{asks_quit, is_quit, is_late, LateAs, Follows}
+use Rattle.ldb_top.specs.declared.serving.Next.{Next}
+use Rattle.ldb_top.specs.declared.serving.Next.TheVariants as next
+
+-- ---- `quit` is read the same where PostScript is taken
+
+mapped_break : (o : Option Spot) → asks_quit (option_map Break o) ≡ false
+mapped_break None = refl
+mapped_break (Some x) = refl
+
+mapped_clear : (o : Option Spot) → asks_quit (option_map Clear o) ≡ false
+mapped_clear None = refl
+mapped_clear (Some x) = refl
+
+mapped_turns : (o : Option ℕ) → asks_quit (option_map Turns o) ≡ false
+mapped_turns None = refl
+mapped_turns (Some x) = refl
+
+mapped_frame : (o : Option ℕ) → asks_quit (option_map Frame o) ≡ false
+mapped_frame None = refl
+mapped_frame (Some x) = refl
+
+-- a test of which both answers ask for no end
+neither : (b : Bool) (x y : Option Command) → asks_quit x ≡ false → asks_quit y ≡ false → asks_quit (if b then x else y) ≡ false
+neither true x y p q = p
+neither false x y p q = q
+
+word_no_quit : (w a : List ℕ) → asks_quit (with_word w a) ≡ false
+word_no_quit w a =
+    neither (bytes_eq w (codes "print")) _ _ refl
+    (neither (bytes_eq w (codes "break")) _ _ (mapped_break (spot_of a))
+    (neither (bytes_eq w (codes "clear")) _ _ (mapped_clear (spot_of a))
+    (neither (bytes_eq w (codes "turns")) _ _ (mapped_turns (limit_of a))
+    (neither (bytes_eq w (codes "frame")) _ _ (mapped_frame (number_of a)) refl))))
+
+lone_no_quit : (w : List ℕ) (o : Option (List ℕ)) → asks_quit (with_lone w o) ≡ false
+lone_no_quit w None = refl
+lone_no_quit w (Some a) = word_no_quit w a
+
+text_no_quit : (raw : Bool) (w text : List ℕ) → asks_quit (with_text raw w text) ≡ false
+text_no_quit raw w text =
+    neither (bytes_eq w (codes "eval")) _ _ refl
+    (neither (bytes_eq w (codes "assign")) _ _ refl
+    (neither (bytes_eq w (codes "code")) _ _ refl
+    (neither (raw && bytes_eq w (codes "ps")) _ _ refl (lone_no_quit w (lone_word text)))))
+
+same_test : (b : Bool) (x y z : Option Command) → asks_quit y ≡ asks_quit z → asks_quit (if b then x else y) ≡ asks_quit (if b then x else z)
+same_test true x y z e = refl
+same_test false x y z e = e
+
+same_front : (b : Bool) (x y : Option Command) → asks_quit x ≡ asks_quit y → asks_quit (if b then x else None) ≡ asks_quit (if b then y else None)
+same_front true x y e = e
+same_front false x y e = refl
+
+pub same_quit : (raw : Bool) (line : List ℕ) → asks_quit (read_of raw line) ≡ is_quit line
+same_quit raw line =
+    let text = without_blanks line in
+    let w = first_word text in
+    let rest = behind_word text in
+    same_front (nat_le (length line) 1000) (command_of raw w rest) (command_of false w rest)
+    (same_test (is_nothing rest) (alone w) (with_text raw w rest) (with_text false w rest) (text_no_quit raw w rest ∙ sym (text_no_quit false w rest)))
+
+pub quits : (raw : Bool) (line : List ℕ) → read_of raw line ≡ Some Quit → is_quit line ≡ true
+quits raw line e = sym (same_quit raw line) ∙ ap asks_quit e
+
+quit_alone : (o : Option Command) → (o ≡ Some Quit → ⊥) → asks_quit o ≡ false
+quit_alone None n = refl
+quit_alone (Some Quit) n = absurd (n refl)
+quit_alone (Some (Break x)) n = refl
+quit_alone (Some (Clear x)) n = refl
+quit_alone (Some Continue) n = refl
+quit_alone (Some Step) n = refl
+quit_alone (Some (Turns x)) n = refl
+quit_alone (Some Frames) n = refl
+quit_alone (Some (Frame x)) n = refl
+quit_alone (Some (Print x)) n = refl
+quit_alone (Some (Eval x)) n = refl
+quit_alone (Some (Assign x)) n = refl
+quit_alone (Some Regs) n = refl
+quit_alone (Some (Code x)) n = refl
+quit_alone (Some (Ps x)) n = refl
+
+pub quits_not : (raw : Bool) (line : List ℕ) → (read_of raw line ≡ Some Quit → ⊥) → is_quit line ≡ false
+quits_not raw line n = sym (same_quit raw line) ∙ quit_alone (read_of raw line) n
+
+-- ---- one line, answered
+
+no_end : (answer : Result Answer End) (a : Answer) → answer ≡ Ok a → answer ≡ Err end.Quit → ⊥
+no_end answer a e f = absurd cc
+
+pub follows_answer : (raw : Bool) (line : List ℕ) (answer : Result Answer End) (a : Answer) (r : Result Next Fault) → answer ≡ Ok a → (read_of raw line ≡ Some Quit → answer ≡ Err end.Quit) → IfOk r (λ x. x ≡ next.Line) → IfOk r (Follows line)
+follows_answer raw line answer a (Ok x) e q n = subst (Follows line) (sym n) (quits_not raw line (λ asked. no_end answer a e (q asked)))
+follows_answer raw line answer a (Err f) e q n = tt
+
+-- ---- one line after another
+
+pub late_on : (line : List ℕ) (before after : Option Lines) → before ≡ line_and line after → is_quit line ≡ false → (late : Bool) → LateAs late after → LateAs late before
+late_on line before None e q late l = subst (LateAs late) (sym e) tt
+late_on line before (Some (lines, cut)) e q late l = subst (LateAs late) (sym e) (ap (λ b. cut && not (b || list_any is_quit lines)) q ∙ l)
+
+and_false : (b : Bool) → (b && false) ≡ false
+and_false true = refl
+and_false false = refl
+
+pub late_quit : (line : List ℕ) (before after : Option Lines) → before ≡ line_and line after → is_quit line ≡ true → LateAs false before
+late_quit line before None e q = subst (LateAs false) (sym e) tt
+late_quit line before (Some (lines, cut)) e q = subst (LateAs false) (sym e) (ap (λ b. cut && not (b || list_any is_quit lines)) q ∙ and_false cut)
+
+pub late_last : (line : List ℕ) (before : Option Lines) (left : Option (List ℕ)) → before ≡ lines_if left (line ∷ [], false) → LateAs false before
+late_last line before None e = subst (LateAs false) (sym e) tt
+late_last line before (Some bytes) e = subst (LateAs false) (sym e) refl
+
+pub late_cut : (before : Option Lines) (left : Option (List ℕ)) → before ≡ lines_if left ([], true) → LateAs true before
+late_cut before None e = subst (LateAs true) (sym e) tt
+late_cut before (Some bytes) e = subst (LateAs true) (sym e) refl
