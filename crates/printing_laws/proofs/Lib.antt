@@ -1,0 +1,7 @@
+mod Printer
+mod Asking
+mod Leaving
+mod Units
+mod Finding
+mod Found
+mod Acts

@@ -1,0 +1,2 @@
+//! Laws of printing under the debugger's dialect.
+#![tactic(auto)]
