@@ -4,4 +4,9 @@ mod Leaving
 mod Units
 mod Finding
 mod Found
+mod Stores
+mod Parts
+mod Operators
+mod Steps
 mod Acts
+mod Runs

@@ -36,7 +36,7 @@ out_twice : (t : Option Target) (a b out : List ℕ) → out_with t b (out_with 
 out_twice None a b out = refl
 out_twice (Some t) a b out = append_assoc out a b
 
-append_none : (d : Dial) → append d [] ≡ d
+pub append_none : (d : Dial) → append d [] ≡ d
 append_none d = ap (λ (out : List ℕ). record d { out = out }) (out_none d.target d.out)
 
 pub append_twice : (d : Dial) (a b : List ℕ) → append (append d a) b ≡ append d (a ++ b)
@@ -53,11 +53,11 @@ told d text c = told_to d.target d text c
 -- ---- what an operator does that raises nothing and needs nothing
 
 given_dial : Dial → Act → Dial
-given_dial d (Ok done) = done.0
+given_dial d (Ok made) = made.0
 given_dial d (Err halt) = d
 
 given_core : PsCore → Act → PsCore
-given_core c (Ok done) = done.1
+given_core c (Ok made) = made.1
 given_core c (Err halt) = c
 
 pub same_dial : (d d' : Dial) (c c' : PsCore) (a : Act) → a ≡ Ok (d, c) → a ≡ Ok (d', c') → d ≡ d'
@@ -79,7 +79,7 @@ surely _ _ _ _ _ _ _ _ (broken d c c₁ op u n m f e g) d' c' h = absurd (cc)
 surely _ _ _ _ _ _ _ _ (wanting d c op n) d' c' h = full d c n
 
 -- the same, where the operands are known
-sure : (op : ℕ) (d d' : Dial) (c : PsCore) (operands left : List PsObj) → c.operands ≡ operands → act op d (with_operands c operands) ≡ Ok (d', with_operands c left)
+pub sure : (op : ℕ) (d d' : Dial) (c : PsCore) (operands left : List PsObj) → c.operands ≡ operands → act op d (with_operands c operands) ≡ Ok (d', with_operands c left)
     → Surely Operates d c op d' (with_operands c left)
 sure op d d' c operands left e h =
     let here : act op d c ≡ Ok (d', with_operands c left) = subst (λ o. act op d (with_operands c o) ≡ Ok (d', with_operands c left)) (sym e) h in
@@ -96,12 +96,12 @@ plain (b ∷ bs) h =
     ap (λ (q : Bool). (if q then b ∷ [] else 92 ∷ (48 + b / 64) ∷ (48 + b / 8 % 8) ∷ (48 + b % 8) ∷ []) ++ plain_text bs) (printable b h.0 h.1)
     ∙ ap (λ l. b ∷ l) (plain bs h.2)
 
-putting : (d : Dial) (c : PsCore) (t : StringId) (x : Bool) (rest : List PsObj) → AllPrintable (bytes_of c.store t)
+pub putting : (d : Dial) (c : PsCore) (t : StringId) (x : Bool) (rest : List PsObj) → AllPrintable (bytes_of c.store t)
     → act 28 d (with_operands c (Str t x ∷ rest)) ≡ Ok (append d (bytes_of c.store t), with_operands c rest)
 unfolding act
 putting d c t x rest h = told d (plain_text (bytes_of c.store t)) (with_operands c rest) ∙ ap (λ text. Ok (append d text, with_operands c rest)) (plain (bytes_of c.store t) h)
 
-putting_char : (d : Dial) (c : PsCore) (n : ℤ) (rest : List PsObj) → act 29 d (with_operands c (Int n ∷ rest)) ≡ Ok (append d (char_text n), with_operands c rest)
+pub putting_char : (d : Dial) (c : PsCore) (n : ℤ) (rest : List PsObj) → act 29 d (with_operands c (Int n ∷ rest)) ≡ Ok (append d (char_text n), with_operands c rest)
 unfolding act
 putting_char d c n rest = told d (char_text n) (with_operands c rest)
 
@@ -123,22 +123,22 @@ leaves a b h = ap (λ (q : Bool). if q then Err Division else Ok (a % b)) (ne_eq
 takes : (a b : ℕ) → b < 2 ^ 32 → of_two Subtract a b ≡ Ok ((a + 2 ^ 32 - b) % 2 ^ 32)
 takes a b h = let e : a + (2 ^ 32 - b) ≡ a + 2 ^ 32 - b = omega (arith, h) in ap (λ n. Ok (n % 2 ^ 32)) e
 
-dividing : (d : Dial) (c : PsCore) (a b : ℕ) (rest : List PsObj) → a < 2 ^ 32 → b < 2 ^ 32 → 0 < b
+pub dividing : (d : Dial) (c : PsCore) (a b : ℕ) (rest : List PsObj) → a < 2 ^ 32 → b < 2 ^ 32 → 0 < b
     → act 14 d (with_operands c (Int (word b) ∷ Int (word a) ∷ rest)) ≡ Ok (d, with_operands c (Int (word (a / b)) ∷ rest))
 unfolding act
 dividing d c a b rest la lb h = ap (with_state d) (on_words Divide c a b (a / b) rest la lb (divides a b h))
 
-leaving : (d : Dial) (c : PsCore) (a b : ℕ) (rest : List PsObj) → a < 2 ^ 32 → b < 2 ^ 32 → 0 < b
+pub leaving : (d : Dial) (c : PsCore) (a b : ℕ) (rest : List PsObj) → a < 2 ^ 32 → b < 2 ^ 32 → 0 < b
     → act 15 d (with_operands c (Int (word b) ∷ Int (word a) ∷ rest)) ≡ Ok (d, with_operands c (Int (word (a % b)) ∷ rest))
 unfolding act
 leaving d c a b rest la lb h = ap (with_state d) (on_words Remainder c a b (a % b) rest la lb (leaves a b h))
 
-taking : (d : Dial) (c : PsCore) (a b : ℕ) (rest : List PsObj) → a < 2 ^ 32 → b < 2 ^ 32
+pub taking : (d : Dial) (c : PsCore) (a b : ℕ) (rest : List PsObj) → a < 2 ^ 32 → b < 2 ^ 32
     → act 17 d (with_operands c (Int (word b) ∷ Int (word a) ∷ rest)) ≡ Ok (d, with_operands c (Int (word ((a + 2 ^ 32 - b) % 2 ^ 32)) ∷ rest))
 unfolding act
 taking d c a b rest la lb = ap (with_state d) (on_words Subtract c a b ((a + 2 ^ 32 - b) % 2 ^ 32) rest la lb (takes a b lb))
 
-summing : (d : Dial) (c : PsCore) (a b : ℕ) (rest : List PsObj) → a < 2 ^ 32 → b < 2 ^ 32
+pub summing : (d : Dial) (c : PsCore) (a b : ℕ) (rest : List PsObj) → a < 2 ^ 32 → b < 2 ^ 32
     → act 16 d (with_operands c (Int (word b) ∷ Int (word a) ∷ rest)) ≡ Ok (d, with_operands c (Int (word ((a + b) % 2 ^ 32)) ∷ rest))
 unfolding act
 summing d c a b rest la lb = ap (with_state d) (on_words Add c a b ((a + b) % 2 ^ 32) rest la lb refl)

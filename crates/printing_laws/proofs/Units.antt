@@ -30,7 +30,7 @@ use Rattle.printing_laws.proofs.Leaving.{Above, Leaves}
 
 -- runs without a target leave what is closed
 abbrev pub RunsLeave : Type 0
-RunsLeave = (n : ℕ) (d : Dial) (c : PsCore) (r : Answer) (m : ℕ) (d' : Dial) (c' : PsCore) → Runs NoTarget n d c r m d' c' → Leaves c.store c'.store
+RunsLeave = (n : ℕ) (d : Dial) (c : PsCore) (r : Answer) (m : ℕ) (d' : Dial) (c' : PsCore) → r ≢ Err NoMemory → Runs NoTarget n d c r m d' c' → Leaves c.store c'.store
 
 takes_none : TakesNone NoTarget
 takes_none _ _ _ _ _ _ _ _ (acted d d' c c' op n e) = omega arith
@@ -82,7 +82,7 @@ module _ (mark : Mark) (d : DictId) (key : Key) where
 -- ---- the functions of a unit
 
 module _ (leaves : RunsLeave) (u n m : ℕ) (c c' : PsCore) (above : Above c.store) (f : ForcesUnit u c n (Ok tt) m c') where
-  ran : Forces NoTarget n no_target c f.unit FUNCTIONS f.text f.given m f.dial c'
+  abbrev ran : Forces NoTarget n no_target c f.unit FUNCTIONS f.text f.given m f.dial c'
   ran = f.forces
 
   given : Ok tt ≡ answer_of (forced_by (mark_of c.store.table) f.unit FUNCTIONS ran.answer ran.core.operands ran.core.store).0
@@ -94,11 +94,11 @@ module _ (leaves : RunsLeave) (u n m : ℕ) (c c' : PsCore) (above : Above c.sto
   pub unit_steps : m ≤ n
   unit_steps = fewer NoTarget takes_none n no_target (with_execution (apart c) (Object f.text ∷ [])) ran.answer m f.dial _ run
 
-  left : StoreState
+  abbrev left : StoreState
   left = (forced_by (mark_of c.store.table) f.unit FUNCTIONS ran.answer ran.core.operands ran.core.store).1
 
   ran_leaves : (closed_part ran.core.store ≡ closed_part (apart c).store) × Above ran.core.store
-  ran_leaves = leaves n no_target (with_execution (apart c) (Object f.text ∷ [])) ran.answer m f.dial _ run above
+  ran_leaves = leaves n no_target (with_execution (apart c) (Object f.text ∷ [])) ran.answer m f.dial _ (found_memory (mark_of c.store.table) f.unit FUNCTIONS ran.answer ran.core.operands ran.core.store given) run above
 
   left_settles : Settles ran.core.store left
   left_settles = was_run (mark_of c.store.table) f.unit FUNCTIONS ran.answer ran.core.operands ran.core.store ran_leaves.1 given

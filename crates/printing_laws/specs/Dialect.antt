@@ -18,7 +18,7 @@ append d text = record d { out = out_with d.target text d.out }
 
 -- whether an operator needs functions of a unit first
 abbrev pub needs_unit : Act → Bool
-needs_unit (Ok done) = false
+needs_unit (Ok made) = false
 needs_unit (Err (Raises e)) = false
 needs_unit (Err (Needs unit)) = true
 
