@@ -14,14 +14,13 @@ use Rattle.ps_run.specs.Runs.{Answer}
 use Rattle.ps_terms.specs.Machine.{Val}
 use Rattle.ps_terms.specs.Stands.{Are}
 use Rattle.ps_terms.specs.Printing.{Looked, nothing, after, Seeks, lacking, at_once, failed, behind, FindsAt}
-use Rattle.ps_terms.specs.Faring.{shut}
 use Rattle.dialect_model.specs.Dial.{Dial, Act, Raises}
 use Rattle.dialect_model.specs.Operators.{act}
 use Rattle.dialect_model.specs.Forcing.{ForcesUnit}
 use Rattle.dialect_model.specs.Operating.{Operates, acted, raised, forced, broken, wanting}
 use Rattle.printing_laws.specs.Dialect.{needs, needs_unit}
 use Rattle.printing_laws.specs.Lookups.{Reached, unmoved, onward}
-use Rattle.printing_laws.proofs.Leaving.{Above}
+use Rattle.printing_laws.specs.Stays.{Above}
 use Rattle.printing_laws.proofs.Printer.{printing, same_dial, same_core}
 use Rattle.printing_laws.proofs.Asking.{Gives}
 use Rattle.printing_laws.proofs.Units.{RunsLeave, Settles, unit_steps, unit_state, unit_settles}
@@ -51,12 +50,12 @@ module _ (leaves : RunsLeave) (keeps : ActsLeave) (first : StoreState) (above : 
   looked_reached _ _ nothing = unmoved
   looked_reached _ _ (after d d' c c' op n k i j looked some operates settled sum) = done_reaches d c op n (Ok tt) d' c' k operates refl (looked_reached c.store i looked)
 
-  -- ---- an operator that gives one answer, or needs a unit
+module _ (first s : StoreState) (d d' : Dial) (op : ℕ) (taken : List Val) (left : List PsObj) where
+  -- an operator gives one answer, or needs a unit, whichever functions of units were run
+  abbrev pub GivesSo : Type 0
+  GivesSo = (c : PsCore) (xs o : List PsObj) → Reached first c.store → Are s xs taken → c.operands ≡ xs ++ o → Gives (act op d c) d' (with_operands c (left ++ o))
 
-  module _ (d d' : Dial) (op : ℕ) (taken : List Val) (left : List PsObj) where
-    abbrev pub GivesSo : Type 0
-    GivesSo = (c : PsCore) (xs o : List PsObj) → Reached first c.store → Are (shut first) xs taken → c.operands ≡ xs ++ o → Gives (act op d c) d' (with_operands c (left ++ o))
-
+module _ (leaves : RunsLeave) (keeps : ActsLeave) (first : StoreState) (above : Above first) (s : StoreState) where
   -- an operator failed, or left its answer with another store
   data Sought (d : Dial) (c : PsCore) (left : List PsObj) (n : ℕ) : Answer → Dial → PsCore → ℕ → Type 0 where
     lost : (f : PsFault) (d' : Dial) (c' : PsCore) (k : ℕ) → Sought d c left n (Err f) d' c' k
@@ -74,17 +73,17 @@ module _ (leaves : RunsLeave) (keeps : ActsLeave) (first : StoreState) (above : 
   gave d d' d₁ c c₁ op n left e (inr h) = absurd (let f = h.1 in cc)
 
   module _ (taken : List Val) (left : List PsObj) where
-    sought : (d : Dial) (c : PsCore) (op n : ℕ) (r : Answer) (d₁ : Dial) (c₁ : PsCore) (k : ℕ) → Operates d c op n r d₁ c₁ k → (d' : Dial) (xs o : List PsObj) → GivesSo d d' op taken left
-        → Reached first c.store → Are (shut first) xs taken → c.operands ≡ xs ++ o → Sought d' c (left ++ o) n r d₁ c₁ k
+    sought : (d : Dial) (c : PsCore) (op n : ℕ) (r : Answer) (d₁ : Dial) (c₁ : PsCore) (k : ℕ) → Operates d c op n r d₁ c₁ k → (d' : Dial) (xs o : List PsObj) → GivesSo first s d d' op taken left
+        → Reached first c.store → Are s xs taken → c.operands ≡ xs ++ o → Sought d' c (left ++ o) n r d₁ c₁ k
     sought _ _ _ _ _ _ _ _ (acted d d₁ c c₁ op n e) d' xs o so reached are eq =
         let it = gave d d' d₁ c c₁ op n (left ++ o) e (so c xs o reached are eq) in
         subst (λ x. Sought d' c (left ++ o) n (Ok tt) x c₁ n) (sym it.0)
         (subst (λ y. Sought d' c (left ++ o) n (Ok tt) d' y n) (sym it.1) (given c.store n (omega arith) (settled_same (closed_part c.store))))
     sought _ _ _ _ _ _ _ _ (raised d c op n x e) d' xs o so reached are eq = lost (Error x) d c n
     sought _ _ _ _ _ _ _ _ (forced d d₁ c c₁ c₂ op u n m k r e f rest) d' xs o so reached are eq =
-        let same : c₁ ≡ record c { store = c₁.store } = unit_state leaves u n m c c₁ (reached_settles c.store reached).1 f in
-        let settles : Settles c.store c₁.store = unit_settles leaves u n m c c₁ (reached_settles c.store reached).1 f in
-        carried d' c c₁ (left ++ o) n m r d₁ c₂ k same (unit_steps leaves u n m c c₁ (reached_settles c.store reached).1 f) settles.0
+        let same : c₁ ≡ record c { store = c₁.store } = unit_state leaves u n m c c₁ (reached_settles leaves keeps first above c.store reached).1 f in
+        let settles : Settles c.store c₁.store = unit_settles leaves u n m c c₁ (reached_settles leaves keeps first above c.store reached).1 f in
+        carried d' c c₁ (left ++ o) n m r d₁ c₂ k same (unit_steps leaves u n m c c₁ (reached_settles leaves keeps first above c.store reached).1 f) settles.0
         (sought d c₁ op m r d₁ c₂ k rest d' xs o so (onward u n m c c₁ reached f) are (ap (λ (q : PsCore). q.operands) same ∙ eq))
     sought _ _ _ _ _ _ _ _ (broken d c c₁ op u n m x e f) d' xs o so reached are eq = lost x d c₁ m
     sought _ _ _ _ _ _ _ _ (wanting d c op n) d' xs o so reached are eq = lost NoMemory d c n
@@ -99,8 +98,8 @@ module _ (leaves : RunsLeave) (keeps : ActsLeave) (first : StoreState) (above : 
     never a x d c e (inl h) = absurd (cc)
     never a x d c e (inr h) = absurd (let g = h.1 in cc)
 
-    seeks : (d : Dial) (c : PsCore) (op n : ℕ) (r : Answer) (d₁ : Dial) (c₁ : PsCore) (k : ℕ) → Operates d c op n r d₁ c₁ k → (d' : Dial) (xs o : List PsObj) → GivesSo d d' op taken left
-        → Reached first c.store → Are (shut first) xs taken → c.operands ≡ xs ++ o → Seeks (needs d c op) d' c (left ++ o) n r d₁ c₁ k
+    seeks : (d : Dial) (c : PsCore) (op n : ℕ) (r : Answer) (d₁ : Dial) (c₁ : PsCore) (k : ℕ) → Operates d c op n r d₁ c₁ k → (d' : Dial) (xs o : List PsObj) → GivesSo first s d d' op taken left
+        → Reached first c.store → Are s xs taken → c.operands ≡ xs ++ o → Seeks (needs d c op) d' c (left ++ o) n r d₁ c₁ k
     seeks _ _ _ _ _ _ _ _ (acted d d₁ c c₁ op n e) d' xs o so reached are eq =
         let it = gave d d' d₁ c c₁ op n (left ++ o) e (so c xs o reached are eq) in
         subst (λ x. Seeks (needs d c op) d' c (left ++ o) n (Ok tt) x c₁ n) (sym it.0)
@@ -113,6 +112,6 @@ module _ (leaves : RunsLeave) (keeps : ActsLeave) (first : StoreState) (above : 
     seeks _ _ _ _ _ _ _ _ (wanting d c op n) d' xs o so reached are eq = lacking d c n
 
   -- so it finds it
-  pub finds_at : (d d' : Dial) (op : ℕ) (taken : List Val) (left : List PsObj) → GivesSo d d' op taken left → FindsAt Operates printing (shut first) first d d' op taken left
+  pub finds_at : (d d' : Dial) (op : ℕ) (taken : List Val) (left : List PsObj) → GivesSo first s d d' op taken left → FindsAt Operates printing s first d d' op taken left
   finds_at d d' op taken left so = λ c j xs o looked are eq n r d₁ c₁ k run.
-      seeks taken left d c op n r d₁ c₁ k run d' xs o so (looked_reached c.store j looked) are eq
+      seeks taken left d c op n r d₁ c₁ k run d' xs o so (looked_reached leaves keeps first above c.store j looked) are eq

@@ -1,10 +1,10 @@
 -- Results of which all that is given is of a kind, and stores of which what is closed is left as it is.
 use Rattle.std.proofs.Common.{◌≡◌, Bool, true, false, if◌then◌else◌, Option, Some, None, Result, Ok, Err, refl, ◌∙◌}
 use Rattle.ps_store.specs.StoreState.{StoreState}
-use Rattle.ps_store.specs.Store.{closed_part, IsAbove}
-use Rattle.ps_store.specs.Cut.{mark_of}
+use Rattle.ps_store.specs.Store.{closed_part}
 use Rattle.ps_step.specs.declared.fault.PsError.{PsError}
 use Rattle.ps_step.specs.Results.{◌>>=◌, at}
+use Rattle.printing_laws.specs.Stays.{Above}
 
 -- what is given is of a kind
 abbrev pub All : {A E : Type 0} → (A → Type 0) → Result A E → Type 0
@@ -59,16 +59,12 @@ module _ {A B S : Type 0} (P : B → Type 0) (Q : PsError × S → Type 0) where
   behind_at s (Ok x) f h q = h x
   behind_at s (Err e) f h q = q e
 
--- no less is there than is closed
-abbrev pub Above : StoreState → Type 0
-Above s = IsAbove s.closed (mark_of s.table)
-
 -- What is closed of a store is left as it is, and what is there is not less than that.
-abbrev pub Leaves : StoreState → StoreState → Type 0
-Leaves s s' = Above s → (closed_part s' ≡ closed_part s) × Above s'
+pub record Leaves (s s' : StoreState) : Type 0 where
+  pub keeps : Above s → (closed_part s' ≡ closed_part s) × Above s'
 
 pub leaves_same : (s : StoreState) → Leaves s s
-leaves_same s = λ h. (refl, h)
+leaves_same s = record { keeps = λ h. (refl, h) }
 
 pub leaves_on : (s t u : StoreState) → Leaves s t → Leaves t u → Leaves s u
-leaves_on s t u f g = λ h. let a = f h in let b = g a.1 in (b.0 ∙ a.0, b.1)
+leaves_on s t u f g = record { keeps = λ h. let a = f.keeps h in let b = g.keeps a.1 in (b.0 ∙ a.0, b.1) }

@@ -10,3 +10,5 @@ mod Operators
 mod Steps
 mod Acts
 mod Runs
+mod Laid
+mod Printed

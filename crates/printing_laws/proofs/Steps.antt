@@ -1,10 +1,11 @@
 -- A step leaves what is closed.
-use Rattle.std.proofs.Common.{ℕ, ℤ, zero, suc, ◌+◌, ◌-◌, Bool, true, false, nat_lt, if◌then◌else◌, Option, Some, None, Result, Ok, Err, List, [], ◌∷◌, length, drop}
+use Rattle.std.proofs.Common.{ℕ, ℤ, pos, ◌+ℤ◌, zero, suc, ◌+◌, ◌-◌, Bool, true, false, nat_lt, if◌then◌else◌, Option, Some, None, Result, Ok, Err, List, [], ◌∷◌, length, drop, take, reverse, option_map, slice_get, slice_index_or}
 use Rattle.ps_scan.specs.declared.token.PsKind.{PsKind}
 use Rattle.ps_scan.specs.declared.token.PsKind.TheVariants.{Integer, Name as Word, LiteralName, Str as Text', Open, Close}
 use Rattle.ps_scan.specs.declared.token.PsToken.{PsToken}
 use Rattle.ps_scan.specs.Number.{value_of}
 use Rattle.ps_scan.specs.Characters.{string_value}
+use Rattle.ps_scan.specs.declared.token.SyntaxError.{SyntaxError as BadToken}
 use Rattle.ps_scan.specs.Token.{next_token_of}
 use Rattle.ps_store.specs.declared.object.ArrayId.{ArrayId}
 use Rattle.ps_store.specs.declared.object.Pair.{Pair}
@@ -12,9 +13,9 @@ use Rattle.ps_store.specs.declared.object.PsObj.{PsObj}
 use Rattle.ps_store.specs.declared.object.PsObj.TheVariants.{Int, Bool as Truth, Name, Str, Array, Op, Mark, Null}
 use Rattle.ps_store.specs.declared.object.StringId.{StringId}
 use Rattle.ps_store.specs.StoreState.{StoreState}
-use Rattle.ps_store.specs.Store.{bytes_of, making_string}
+use Rattle.ps_store.specs.Store.{bytes_of, elements_of, entries_of, making_string, making_name, making_array}
 use Rattle.ps_step.specs.declared.fault.PsError.{PsError}
-use Rattle.ps_step.specs.declared.fault.PsError.TheVariants.{StackOverflow, SyntaxError}
+use Rattle.ps_step.specs.declared.fault.PsError.TheVariants.{StackOverflow, SyntaxError, Undefined}
 use Rattle.ps_step.specs.declared.item.Item.{Item}
 use Rattle.ps_step.specs.declared.item.Item.TheVariants.{Object, Procedure, Text, Repeat, For, ForArray, ForString, ForDict, Loop, LastTurn, Stopped}
 use Rattle.ps_step.specs.declared.machine.PsCore.{PsCore}
@@ -26,9 +27,10 @@ use Rattle.ps_step.specs.Keys.{named}
 use Rattle.ps_step.specs.Marks.{mark_from}
 use Rattle.ps_step.specs.Operator.{operator_at}
 use Rattle.ps_step.specs.Results.{◌>>=◌, at, stored}
-use Rattle.ps_step.specs.State.{with_execution, with_operands, calling}
+use Rattle.ps_step.specs.ControlOperators.{goes_on}
+use Rattle.ps_step.specs.State.{Made, with_execution, with_operands, pushing, scheduling, calling}
 use Rattle.ps_run.specs.Scan.{MadeObject, name_text, naming_text, object_of, procedure_of_top, Read, More, Whole, Nothing, Bad, placed, closed, read_token, ended, reading, reading_all, reading_object, word_of}
-use Rattle.ps_run.specs.Step.{Outcome, Ended, Next, Asks, Failed, raising, settled, turning, turning_pair, stepping, step}
+use Rattle.ps_run.specs.Step.{Outcome, Ended, Next, Asks, Failed, raising, settled, turning, turning_pair, going_on, in_turn, stepping, step}
 use Rattle.printing_laws.proofs.Leaving.{All, all_map, behind_all, Both, behind_both, at_both, either_both, Leaves, leaves_same, leaves_on}
 use Rattle.printing_laws.proofs.Stores.{array_leaves, text_leaves}
 use Rattle.printing_laws.proofs.Operators.{After, Raised, pushed, scheduled, called, operated}
@@ -50,39 +52,44 @@ module _ (c : PsCore) where
   numbered_left n (Some op) = alone_left (operating op c) (operated c op)
   numbered_left n None = same
 
-  acting_left : (x : PsObj) → Turned (acting x c)
-  acting_left (Array a true) = alone_left _ (at_both (After c) (Raised c) c _ (called c a) (λ e. same))
-  acting_left (Op n) = numbered_left n (operator_at n)
-  acting_left (Name t true) = alone_left _ (at_both (After c) (Raised c) c _ (scheduled c (Object (Name t true))) (λ e. same))
-  acting_left (Str t true) = alone_left _ (at_both (After c) (Raised c) c _ (scheduled c (Text t 0)) (λ e. same))
-  acting_left x = alone_left _ (at_both (After c) (Raised c) c _ (pushed c x) (λ e. same))
+  made_left : (r : Made) → All (After c) r → Turned (alone (at c r))
+  made_left r l = alone_left (at c r) (at_both (After c) (Raised c) c r l (λ e. same))
 
-  named_left : (o : Option PsObj) (e : PsError) → Turned (elim o [ Some x ↦ acting x c | None ↦ Err (e, c) ])
-  named_left (Some x) e = acting_left x
-  named_left None e = same
+  acting_left : (x : PsObj) → Turned (acting x c)
+  acting_left (Array a true) = made_left (calling a c) (called c a)
+  acting_left (Op n) = numbered_left n (operator_at n)
+  acting_left (Name t true) = made_left (scheduling (Object (Name t true)) c) (scheduled c (Object (Name t true)))
+  acting_left (Str t true) = made_left (scheduling (Text t 0) c) (scheduled c (Text t 0))
+  acting_left x = made_left (pushing x c) (pushed c x)
+
+  named_left : (o : Option PsObj) → Turned (elim o [ Some x ↦ acting x c | None ↦ Err (Undefined, c) ])
+  named_left (Some x) = acting_left x
+  named_left None = same
 
   executing_left : (x : PsObj) → Turned (executing x c)
-  executing_left (Name t true) = named_left (named c.store c.dictionaries (bytes_of c.store t)) _
+  executing_left (Name t true) = named_left (named c.store c.dictionaries (bytes_of c.store t))
   executing_left x = acting_left x
 
   meeting_left : (x : PsObj) → Turned (meeting x c)
-  meeting_left (Array a true) = alone_left _ (at_both (After c) (Raised c) c _ (pushed c (Array a true)) (λ e. same))
+  meeting_left (Array a true) = made_left (pushing (Array a true) c) (pushed c (Array a true))
   meeting_left x = executing_left x
 
   entered_left : (body : ArrayId) → Turned (alone (at c (calling body c)))
-  entered_left body = alone_left _ (at_both (After c) (Raised c) c _ (called c body) (λ e. same))
+  entered_left body = made_left (calling body c) (called c body)
 
   turned_left : (x : PsObj) (body : ArrayId) → Turned (alone (turning x body c))
   turned_left x body =
       alone_left (turning x body c)
-      (behind_both (After c) (Raised c) (After c) _ _ (at_both (After c) (Raised c) c _ (pushed c x) (λ e. same))
-      (λ c' l. at_both (After c) (Raised c) c' _ (all_map (After c') (After c) (λ q k. leaves_on c.store c'.store q.store l k) _ (called c' body)) (λ e. l)))
+      (behind_both (After c) (Raised c) (After c) (at c (pushing x c)) (λ c'. at c' (calling body c')) (at_both (After c) (Raised c) c (pushing x c) (pushed c x) (λ e. same))
+      (λ c' l. at_both (After c) (Raised c) c' (calling body c') (all_map (After c') (After c) (λ q k. leaves_on c.store c'.store q.store l k) (calling body c') (called c' body)) (λ e. l)))
 
   pair_left : (o : Option Pair) (body : ArrayId) → Turned (alone (turning_pair o body c))
   pair_left None body = same
   pair_left (Some pair) body =
       let c' : PsCore = with_operands c (pair.value ∷ pair.key ∷ c.operands) in
-      alone_left (turning_pair (Some pair) body c) (either_both (After c) (Raised c) _ _ _ same (at_both (After c) (Raised c) c' _ (called c' body) (λ e. same)))
+      alone_left (turning_pair (Some pair) body c)
+      (either_both (After c) (Raised c) (nat_lt 99998 (length c.operands)) (Err (StackOverflow, c)) (at c' (calling body c')) same
+      (at_both (After c) (Raised c) c' (calling body c') (called c' body) (λ e. same)))
 
 -- ---- objects are read
 
@@ -99,21 +106,21 @@ read_on s s' l (Nothing t) k = leaves_on s s' t l k
 read_on s s' l (Bad e t) k = leaves_on s s' t l k
 
 module _ (s : StoreState) where
-  abbrev Made : PsObj × StoreState → Type 0
-  Made made = Leaves s made.1
+  abbrev Made' : PsObj × StoreState → Type 0
+  Made' made = Leaves s made.1
 
-  name_left : (o : Option (List ℕ)) (x : Bool) → All Made (naming_text s o x)
+  name_left : (o : Option (List ℕ)) (x : Bool) → All Made' (naming_text s o x)
   name_left None x = tt
-  name_left (Some word) x = behind_all Made (λ made. Leaves s made.1) _ _ (text_leaves 127 s word) (λ made l. l)
+  name_left (Some word) x = behind_all Made' (λ made. Leaves s made.1) (stored (making_name s word)) _ (text_leaves 127 s word) (λ made l. l)
 
-  number_left : (o : Option ℤ) → All Made (elim o [ Some n ↦ Ok (Int n, s) | None ↦ Err SyntaxError ])
+  number_left : (o : Option ℤ) → All Made' (elim o [ Some n ↦ Ok (Int n, s) | None ↦ Err SyntaxError ])
   number_left (Some n) = leaves_same s
   number_left None = tt
 
-  object_left : (text : List ℕ) (token : PsToken) → All Made (object_of s text token)
+  object_left : (text : List ℕ) (token : PsToken) → All Made' (object_of s text token)
   object_left text token = by_kind token.kind
     where
-      by_kind : (k : PsKind) → All Made (elim k [
+      by_kind : (k : PsKind) → All Made' (elim k [
         | Integer ↦ elim (value_of (word_of text token)) [ Some n ↦ Ok (Int n, s) | None ↦ Err SyntaxError ]
         | Word ↦ naming_text s (name_text (word_of text token)) true
         | LiteralName ↦ naming_text s (name_text (drop 1 (word_of text token))) false
@@ -124,11 +131,12 @@ module _ (s : StoreState) where
       by_kind Integer = number_left (value_of (word_of text token))
       by_kind Word = name_left (name_text (word_of text token)) true
       by_kind LiteralName = name_left (name_text (drop 1 (word_of text token))) false
-      by_kind Text' = behind_all Made (λ made. Leaves s made.1) _ _ (text_leaves 16777216 s (string_value (word_of text token))) (λ made l. l)
+      by_kind Text' =
+          behind_all Made' (λ made. Leaves s made.1) (stored (making_string s (string_value (word_of text token)))) _ (text_leaves 16777216 s (string_value (word_of text token))) (λ made l. l)
       by_kind Open = tt
       by_kind Close = tt
 
-  placed_read : (xs : List PsObj) (at : ℕ) (r : MadeObject) → All Made r → ReadLeft s (placed xs at s r)
+  placed_read : (xs : List PsObj) (at : ℕ) (r : MadeObject) → All Made' r → ReadLeft s (placed xs at s r)
   placed_read xs at (Err e) l = leaves_same s
   placed_read [] at (Ok made) l = l
   placed_read (y ∷ ys) at (Ok made) l = l
@@ -138,7 +146,8 @@ module _ (s : StoreState) where
     where
       by_mark : (o : Option ℕ) → ReadLeft s (elim o [ None ↦ Bad SyntaxError s | Some n ↦ placed (drop (n + 1) xs) at s (procedure_of_top s xs n) ])
       by_mark None = leaves_same s
-      by_mark (Some n) = placed_read (drop (n + 1) xs) at (procedure_of_top s xs n) (behind_all Made (λ made. Leaves s made.1) _ _ (array_leaves s _) (λ made l. l))
+      by_mark (Some n) = placed_read (drop (n + 1) xs) at (procedure_of_top s xs n) 
+          (behind_all Made' (λ made. Leaves s made.1) (stored (making_array s (reverse (take n xs)))) _ (array_leaves s (reverse (take n xs))) (λ made l. l))
 
   token_read : (text : List ℕ) (xs : List PsObj) (token : PsToken) → ReadLeft s (read_token s text xs token)
   token_read text xs token = by_kind token.kind
@@ -169,7 +178,7 @@ module _ (s : StoreState) where
   one_read : (t : StringId) (xs : List PsObj) (at : ℕ) → ReadLeft s (reading s t xs at)
   one_read t xs at = by_end (nat_lt (length (bytes_of s t)) at) (next_token_of (bytes_of s t) at)
     where
-      by_end : (b : Bool) (r : _) → ReadLeft s (if b then Bad SyntaxError s else elim r [ Err e ↦ Bad SyntaxError s | Ok token ↦ elim token [ None ↦ ended s xs | Some token ↦ read_token s (bytes_of s t) xs token ] ])
+      by_end : (b : Bool) (r : Result (Option PsToken) BadToken) → ReadLeft s (if b then Bad SyntaxError s else elim r [ Err e ↦ Bad SyntaxError s | Ok token ↦ elim token [ None ↦ ended s xs | Some token ↦ read_token s (bytes_of s t) xs token ] ])
       by_end true r = leaves_same s
       by_end false (Err e) = leaves_same s
       by_end false (Ok o) = maybe_read (bytes_of s t) xs o
@@ -220,7 +229,7 @@ raised_left s e c l = by_stopped (under_stopped c.execution)
           else Failed StackOverflow (with_execution c [])
     ])
     by_stopped None = l
-    by_stopped (Some rest) = outcome_if s _ _ _ l l
+    by_stopped (Some rest) = outcome_if s (nat_lt (length c.operands) 100000) _ _ l l
 
 asked_left : (s : StoreState) (o : Option ℕ) (c : PsCore) → Leaves s c.store → OutcomeLeft s (elim o [ None ↦ Next c | Some op ↦ Asks op c ])
 asked_left s None c l = l
@@ -232,7 +241,7 @@ settled_left s (Err failed) l = raised_left s failed.0 failed.1 l
 
 stepping_left : (items : List Item) (c : PsCore) → OutcomeLeft c.store (stepping items c)
 stepping_left [] c = leaves_same c.store
-stepping_left (Stopped ∷ rest) c = outcome_if c.store _ _ _ (stepping_left rest (record c { operands = Truth false ∷ c.operands; execution = rest })) (leaves_same c.store)
+stepping_left (Stopped ∷ rest) c = outcome_if c.store (nat_lt (length c.operands) 100000) _ _ (stepping_left rest (record c { operands = Truth false ∷ c.operands; execution = rest })) (leaves_same c.store)
 stepping_left (Text t n ∷ rest) c = by_read (reading_object c.store t n) (object_read c.store t n) (λ c'. stepping_left rest c')
   where
     by_read : (r : Read) → ReadLeft c.store r → ((c' : PsCore) → OutcomeLeft c'.store (stepping rest c')) → OutcomeLeft c.store (elim r [
@@ -241,18 +250,35 @@ stepping_left (Text t n ∷ rest) c = by_read (reading_object c.store t n) (obje
       | Bad e s ↦ raising e (record c { store = s; execution = rest })
       | More s xs next ↦ Ended c
     ])
-    by_read (Nothing s) l on = outcome_on c.store s l _ (on (record c { store = s; execution = rest }))
-    by_read (Whole x s next) l on = outcome_on c.store s l _ (settled_left s _ (meeting_left (record c { store = s; execution = Text t next ∷ rest }) x))
+    by_read (Nothing s) l on = outcome_on c.store s l (stepping rest (record c { store = s; execution = rest })) (on (record c { store = s; execution = rest }))
+    by_read (Whole x s next) l on =
+        let c' : PsCore = record c { store = s; execution = Text t next ∷ rest } in
+        outcome_on c.store s l (settled (meeting x c')) (settled_left s (meeting x c') (meeting_left c' x))
     by_read (Bad e s) l on = raised_left c.store e (record c { store = s; execution = rest }) l
     by_read (More s xs next) l on = leaves_same c.store
-stepping_left (Object x ∷ rest) c = settled_left c.store _ (executing_left (with_execution c rest) x)
-stepping_left (Procedure a n ∷ rest) c = settled_left c.store _ (meeting_left _ _)
-stepping_left (Repeat n body ∷ rest) c = settled_left c.store _ (entered_left _ body)
-stepping_left (For next by limit body ∷ rest) c = settled_left c.store _ (turned_left _ (Int next) body)
-stepping_left (ForArray a n body ∷ rest) c = settled_left c.store _ (turned_left _ _ body)
-stepping_left (ForString t n body ∷ rest) c = settled_left c.store _ (turned_left _ _ body)
-stepping_left (ForDict d n body ∷ rest) c = settled_left c.store _ (pair_left _ _ body)
-stepping_left (Loop body ∷ rest) c = settled_left c.store _ (entered_left c body)
+stepping_left (Object x ∷ rest) c = settled_left c.store (executing x (with_execution c rest)) (executing_left (with_execution c rest) x)
+stepping_left (Procedure a n ∷ rest) c =
+    let items = elements_of c.store a in
+    let c' : PsCore = with_execution c (going_on (n + 1) (length items) (Procedure a (n + 1)) rest) in
+    settled_left c.store (meeting (slice_index_or items n Null) c') (meeting_left c' (slice_index_or items n Null))
+stepping_left (Repeat n body ∷ rest) c =
+    let c' : PsCore = with_execution c (in_turn (nat_lt 1 n) (Repeat (n - 1) body) rest) in settled_left c.store (alone (at c' (calling body c'))) (entered_left c' body)
+stepping_left (For next by limit body ∷ rest) c =
+    let c' : PsCore = with_execution c (in_turn (goes_on (next +ℤ by) by limit) (For (next +ℤ by) by limit body) rest) in
+    settled_left c.store (alone (turning (Int next) body c')) (turned_left c' (Int next) body)
+stepping_left (ForArray a n body ∷ rest) c =
+    let items = elements_of c.store a in
+    let c' : PsCore = with_execution c (in_turn (nat_lt (n + 1) (length items)) (ForArray a (n + 1) body) rest) in
+    settled_left c.store (alone (turning (slice_index_or items n Null) body c')) (turned_left c' (slice_index_or items n Null) body)
+stepping_left (ForString t n body ∷ rest) c =
+    let bytes = bytes_of c.store t in
+    let c' : PsCore = with_execution c (in_turn (nat_lt (n + 1) (length bytes)) (ForString t (n + 1) body) rest) in
+    settled_left c.store (alone (turning (Int (pos (slice_index_or bytes n 0))) body c')) (turned_left c' (Int (pos (slice_index_or bytes n 0))) body)
+stepping_left (ForDict d n body ∷ rest) c =
+    let pairs = entries_of c.store d in
+    let c' : PsCore = with_execution c (in_turn (nat_lt (n + 1) (length pairs)) (ForDict d (n + 1) body) rest) in
+    settled_left c.store (alone (turning_pair (option_map (λ e. e.1) (slice_get pairs n)) body c')) (pair_left c' (option_map (λ e. e.1) (slice_get pairs n)) body)
+stepping_left (Loop body ∷ rest) c = settled_left c.store (alone (at c (calling body c))) (entered_left c body)
 stepping_left (LastTurn ∷ rest) c = stepping_left rest (with_execution c rest)
 
 pub step_left : (c : PsCore) → OutcomeLeft c.store (step c)

@@ -31,7 +31,7 @@ closed_as a d s m p b t = record { arrays = a; dicts = d; strings = s; mark = m;
 -- ---- objects are added
 
 extends_leave : (s t : StoreState) → Extends s t → Leaves s t
-extends_leave s t x = λ h.
+extends_leave s t x = record { keeps = λ h.
     let a = h.arrays in let d = h.dicts in let z = h.strings in let u = h.units in
     let ma : t.closed.arrays ≡ s.closed.arrays = ap (λ (m : Mark). m.arrays) x.closed in
     let md : t.closed.dicts ≡ s.closed.dicts = ap (λ (m : Mark). m.dicts) x.closed in
@@ -55,7 +55,7 @@ extends_leave s t x = λ h.
           ∙ ap (λ q. closed_as (take s.closed.arrays s.table.arrays) (take s.closed.dicts s.table.dicts) (take s.closed.strings s.table.strings) s.closed s.part q t.top) x.base
           ∙ ap (λ q. closed_as (take s.closed.arrays s.table.arrays) (take s.closed.dicts s.table.dicts) (take s.closed.strings s.table.strings) s.closed s.part s.base q) x.top,
       record { arrays = omega arith; dicts = omega arith; strings = omega arith; units = omega arith },
-    )
+    ) }
 
 stored_leaves : {X : Type 0} (s : StoreState) (g : Given X) → ((x : X) (t : StoreState) → g ≡ Ok (x, t) → Leaves s t) → All (λ made. Leaves s made.1) (stored g)
 stored_leaves s (Ok made) h = h made.0 made.1 refl
@@ -73,48 +73,48 @@ text_leaves most s bytes = stored_leaves s (making_text most s bytes) (λ x t e.
 -- ---- objects that are not closed are changed
 
 elements_left : (s : StoreState) (p : Part) (i : ℕ) (xs : List PsObj) → is_closed p i s.closed.arrays ≡ false → Leaves s (with_elements s (record { part = p; index = i }) xs)
-elements_left s Command i xs open = λ h. (refl, h)
-elements_left s Table i xs open = λ h.
+elements_left s Command i xs free = record { keeps = λ h. (refl, h) }
+elements_left s Table i xs free = record { keeps = λ h.
     let a = h.arrays in
     let same : length (slice_set s.table.arrays i xs) ≡ length s.table.arrays = length-set s.table.arrays i xs in
     let low : s.closed.arrays ≤ i = grind (arith, nat_tests) in (
       ap (λ l. record (closed_part s) { arrays = l }) (take-set-le s.closed.arrays s.table.arrays i xs low),
       record { arrays = omega arith; dicts = h.dicts; strings = h.strings; units = h.units },
-    )
+    ) }
 
 bytes_left : (s : StoreState) (p : Part) (i : ℕ) (bs : List ℕ) → is_closed p i s.closed.strings ≡ false → Leaves s (with_bytes s (record { part = p; index = i }) bs)
-bytes_left s Command i bs open = λ h. (refl, h)
-bytes_left s Table i bs open = λ h.
+bytes_left s Command i bs free = record { keeps = λ h. (refl, h) }
+bytes_left s Table i bs free = record { keeps = λ h.
     let a = h.strings in
     let same : length (slice_set s.table.strings i bs) ≡ length s.table.strings = length-set s.table.strings i bs in
     let low : s.closed.strings ≤ i = grind (arith, nat_tests) in (
       ap (λ l. record (closed_part s) { strings = l }) (take-set-le s.closed.strings s.table.strings i bs low),
       record { arrays = h.arrays; dicts = h.dicts; strings = omega arith; units = h.units },
-    )
+    ) }
 
 -- a dictionary's entries, with so many units more
 abbrev more_entries : StoreState → DictId → List (Key × Pair) → ℕ → StoreState
 more_entries s d es n = let h = held s d.part in with_held s d.part (record h { dicts = slice_set h.dicts d.index es; units = h.units + n })
 
 entries_left : (s : StoreState) (p : Part) (i : ℕ) (es : List (Key × Pair)) (n : ℕ) → is_closed p i s.closed.dicts ≡ false → Leaves s (more_entries s (record { part = p; index = i }) es n)
-entries_left s Command i es n open = λ h. (refl, h)
-entries_left s Table i es n open = λ h.
+entries_left s Command i es n free = record { keeps = λ h. (refl, h) }
+entries_left s Table i es n free = record { keeps = λ h.
     let a = h.dicts in let b = h.units in
     let same : length (slice_set s.table.dicts i es) ≡ length s.table.dicts = length-set s.table.dicts i es in
     let low : s.closed.dicts ≤ i = grind (arith, nat_tests) in (
       ap (λ l. record (closed_part s) { dicts = l }) (take-set-le s.closed.dicts s.table.dicts i es low),
       record { arrays = h.arrays; dicts = omega arith; strings = h.strings; units = omega arith },
-    )
+    ) }
 
 replaced_left : (s : StoreState) (p : Part) (i : ℕ) (es : List (Key × Pair)) → is_closed p i s.closed.dicts ≡ false → Leaves s (with_entries s (record { part = p; index = i }) es)
-replaced_left s Command i es open = λ h. (refl, h)
-replaced_left s Table i es open = λ h.
+replaced_left s Command i es free = record { keeps = λ h. (refl, h) }
+replaced_left s Table i es free = record { keeps = λ h.
     let a = h.dicts in
     let same : length (slice_set s.table.dicts i es) ≡ length s.table.dicts = length-set s.table.dicts i es in
     let low : s.closed.dicts ≤ i = grind (arith, nat_tests) in (
       ap (λ l. record (closed_part s) { dicts = l }) (take-set-le s.closed.dicts s.table.dicts i es low),
       record { arrays = h.arrays; dicts = omega arith; strings = h.strings; units = h.units },
-    )
+    ) }
 
 if_open : (s t : StoreState) (b : Bool) → (b ≡ false → Leaves s t) → All (Leaves s) (opened (if b then None else Some t))
 if_open s t true h = tt
@@ -138,27 +138,27 @@ module _ (s : StoreState) (d : DictId) (key : Key) (value : PsObj) where
   -- the key's object was made
   added : (object : Given PsObj) → ((x : PsObj) (t : StoreState) → object ≡ Ok (x, t) → Extends s t) → is_closed d.part d.index s.closed.dicts ≡ false
       → All (λ (made : Unit {0} × StoreState). Leaves s made.1) (stored (adding d key value object))
-  added (Err f) h open = tt
-  added (Ok made) h open =
+  added (Err f) h free = tt
+  added (Ok made) h free =
       let x : Extends s made.1 = h made.0 made.1 refl in
-      let open' : is_closed d.part d.index made.1.closed.dicts ≡ false = ap (λ (m : Mark). is_closed d.part d.index m.dicts) x.closed ∙ open in
+      let free' : is_closed d.part d.index made.1.closed.dicts ≡ false = ap (λ (m : Mark). is_closed d.part d.index m.dicts) x.closed ∙ free in
       let entries : List (Key × Pair) = entries_of made.1 d ++ (key, record { key = made.0; value = value }) ∷ [] in
       if_room s (more_entries made.1 d entries 1) (nat_lt (length (entries_of made.1 d)) 1000000 && has_room made.1 1)
-      (leaves_on s made.1 (more_entries made.1 d entries 1) (extends_leave s made.1 x) (entries_left made.1 d.part d.index entries 1 open'))
+      (leaves_on s made.1 (more_entries made.1 d entries 1) (extends_leave s made.1 x) (entries_left made.1 d.part d.index entries 1 free'))
 
   put_leaves : (object : Given PsObj) → ((x : PsObj) (t : StoreState) → object ≡ Ok (x, t) → Extends s t) → All (λ (made : Unit {0} × StoreState). Leaves s made.1) (stored (putting s d key object value))
   put_leaves object h = by_closed (is_closed d.part d.index s.closed.dicts) refl
     where
       by_found : (b : Bool) → is_closed d.part d.index s.closed.dicts ≡ false
           → All (λ (made : Unit {0} × StoreState). Leaves s made.1) (stored (if b then Ok (tt, with_entries s d (replaced (entries_of s d) key value)) else adding d key value object))
-      by_found true open = replaced_left s d.part d.index (replaced (entries_of s d) key value) open
-      by_found false open = added object h open
+      by_found true free = replaced_left s d.part d.index (replaced (entries_of s d) key value) free
+      by_found false free = added object h free
 
       by_closed : (b : Bool) → is_closed d.part d.index s.closed.dicts ≡ b
           → All (λ (made : Unit {0} × StoreState). Leaves s made.1)
           (stored (if b then Err ReadOnly else if is_some (value_at (entries_of s d) key) then Ok (tt, with_entries s d (replaced (entries_of s d) key value)) else adding d key value object))
       by_closed true closed = tt
-      by_closed false open = by_found (is_some (value_at (entries_of s d) key)) open
+      by_closed false free = by_found (is_some (value_at (entries_of s d) key)) free
 
 key_made : (s : StoreState) (key : Key) (x : PsObj) (t : StoreState) → key_object s key ≡ Ok (x, t) → Extends s t
 key_made s (NameKey text) x t e = by_name (making_text 127 s text) refl e

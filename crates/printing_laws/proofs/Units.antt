@@ -26,7 +26,8 @@ use Rattle.ps_run.proofs.Apart.{fewer}
 use Rattle.ps_force.specs.Forcing.{Forces, apart, forced_by, placing_left, placing, left_on, with_part}
 use Rattle.dialect_model.specs.Dial.{Dial, no_target}
 use Rattle.dialect_model.specs.Forcing.{NoTarget, acted, raised, wanting, ForcesUnit, FUNCTIONS, answer_of}
-use Rattle.printing_laws.proofs.Leaving.{Above, Leaves}
+use Rattle.printing_laws.specs.Stays.{Above}
+use Rattle.printing_laws.proofs.Leaving.{Leaves}
 
 -- runs without a target leave what is closed
 abbrev pub RunsLeave : Type 0
@@ -98,7 +99,7 @@ module _ (leaves : RunsLeave) (u n m : ℕ) (c c' : PsCore) (above : Above c.sto
   left = (forced_by (mark_of c.store.table) f.unit FUNCTIONS ran.answer ran.core.operands ran.core.store).1
 
   ran_leaves : (closed_part ran.core.store ≡ closed_part (apart c).store) × Above ran.core.store
-  ran_leaves = leaves n no_target (with_execution (apart c) (Object f.text ∷ [])) ran.answer m f.dial _ (found_memory (mark_of c.store.table) f.unit FUNCTIONS ran.answer ran.core.operands ran.core.store given) run above
+  ran_leaves = (leaves n no_target (with_execution (apart c) (Object f.text ∷ [])) ran.answer m f.dial _ (found_memory (mark_of c.store.table) f.unit FUNCTIONS ran.answer ran.core.operands ran.core.store given) run).keeps above
 
   left_settles : Settles ran.core.store left
   left_settles = was_run (mark_of c.store.table) f.unit FUNCTIONS ran.answer ran.core.operands ran.core.store ran_leaves.1 given
