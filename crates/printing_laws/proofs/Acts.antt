@@ -35,18 +35,24 @@ module _ (c : PsCore) where
   abbrev Same : PsCore → Type 0
   Same c' = c'.store ≡ c.store
 
-  abbrev Told : {B : Type 0} → B × PsCore → Type 0
+  abbrev Told : Dial × PsCore → Type 0
   Told t = t.1.store ≡ c.store
+
+  abbrev ToldBytes : Bytes × PsCore → Type 0
+  ToldBytes t = t.1.store ≡ c.store
+
+  abbrev ToldText : List ℕ × PsCore → Type 0
+  ToldText t = t.1.store ≡ c.store
 
   state_kept : (d : Dial) (r : Made) → All Same r → All Told (with_state d r)
   state_kept d (Ok c') e = e
   state_kept d (Err x) e = tt
 
-  told_kept : (d : Dial) (r : Result (Bytes × PsCore) PsError) → All Told r → All Told (with_told d r)
+  told_kept : (d : Dial) (r : Result (Bytes × PsCore) PsError) → All ToldBytes r → All Told (with_told d r)
   told_kept d (Ok t) e = e
   told_kept d (Err x) e = tt
 
-  text_kept : (d : Dial) (r : Result (List ℕ × PsCore) PsError) → All Told r → All Told (with_text d r)
+  text_kept : (d : Dial) (r : Result (List ℕ × PsCore) PsError) → All ToldText r → All Told (with_text d r)
   text_kept d (Ok t) e = e
   text_kept d (Err x) e = tt
 
@@ -65,8 +71,8 @@ module _ (c : PsCore) where
   negating_kept : All Same (negating c)
   negating_kept = behind Same (one_of c.operands) _ (λ a. behind Same (word_in a) _ (λ x. behind Same (defined (signed_negate x)) _ (λ n. refl)))
 
-  appending_kept : (n : ℕ) (given : Result (List ℕ) PsError) (out : List ℕ) → All Told (texts.appending n given out c)
-  appending_kept n given out = behind Told given _ (λ text. refl)
+  appending_kept : (n : ℕ) (given : Result (List ℕ) PsError) (out : List ℕ) → All ToldText (texts.appending n given out c)
+  appending_kept n given out = behind ToldText given _ (λ text. refl)
 
   module _ (d : Dial) where
     anchoring_kept : All Told (anchoring d c)
@@ -83,7 +89,7 @@ module _ (c : PsCore) where
     value_kept : All Told (placing_value d c)
     value_kept =
         told_kept d (accesses.placing_value (bytes_in d None) c)
-        (behind Told (accesses.immediate_value c) _ (λ v. behind Told (accesses.or_outside (stored (bytes_in d None) Immediate 0 Word v)) _ (λ b. refl)))
+        (behind ToldBytes (accesses.immediate_value c) _ (λ v. behind ToldBytes (accesses.or_outside (stored (bytes_in d None) Immediate 0 Word v)) _ (λ b. refl)))
 
     locating_kept : All Told (locating d c)
     locating_kept =
@@ -93,12 +99,12 @@ module _ (c : PsCore) where
     fetching_kept : All Told (fetching d c)
     fetching_kept =
         behind Told (raised (accesses.fetch_of c)) _ (λ a. behind Told (space_bytes d c.store a.0.space) _ (λ b. told_kept d (accesses.fetching b c)
-        (behind Told (accesses.fetch_of c) _ (λ a. behind Told (accesses.or_outside (fetched b a.0.space a.0.at a.1)) _ (λ v. refl)))))
+        (behind ToldBytes (accesses.fetch_of c) _ (λ a. behind ToldBytes (accesses.or_outside (fetched b a.0.space a.0.at a.1)) _ (λ v. refl)))))
 
     storing_kept : All Told (storing d c)
     storing_kept =
         behind Told (raised (accesses.store_of d.raw c)) _ (λ a. behind Told (space_bytes d c.store a.0.space) _ (λ b. told_kept d (accesses.storing d.raw b c)
-        (behind Told (accesses.store_of d.raw c) _ (λ a. behind Told (accesses.or_outside (stored b a.0.space a.0.at a.1 a.2)) _ (λ v. refl)))))
+        (behind ToldBytes (accesses.store_of d.raw c) _ (λ a. behind ToldBytes (accesses.or_outside (stored b a.0.space a.0.at a.1 a.2)) _ (λ v. refl)))))
 
     adding_kept : All Told (adding d c)
     adding_kept =
@@ -142,7 +148,7 @@ module _ (c : PsCore) where
     chars_kept : All Told (putting_chars d c)
     chars_kept =
         behind Told (raised (characters.string_place c)) _ (λ a. behind Told (space_bytes d c.store a.0.space) _ (λ b. text_kept d (characters.appending_chars d.out b c)
-        (behind Told (characters.string_place c) _ (λ a. behind Told (characters.bytes_from a.1 b a.0) _ (λ bs. refl)))))
+        (behind ToldText (characters.string_place c) _ (λ a. behind ToldText (characters.bytes_from a.1 b a.0) _ (λ bs. refl)))))
 
 -- ---- by its number
 

@@ -11,4 +11,5 @@ mod Steps
 mod Acts
 mod Runs
 mod Laid
+mod Reading
 mod Printed

@@ -13,7 +13,7 @@ use Rattle.ps_store.specs.declared.object.Pair.{Pair}
 use Rattle.ps_store.specs.declared.object.Part.{Part}
 use Rattle.ps_store.specs.declared.object.Part.TheVariants.{Table, Command}
 use Rattle.ps_store.specs.declared.object.PsObj.{PsObj}
-use Rattle.ps_store.specs.declared.object.PsObj.TheVariants.{Name}
+use Rattle.ps_store.specs.declared.object.PsObj.TheVariants.{Int as IntObject, Bool as TruthObject, Name}
 use Rattle.ps_store.specs.declared.object.StringId.{StringId}
 use Rattle.ps_store.specs.StoreState.{StoreState, Closed}
 use Rattle.ps_store.specs.Entries.{value_at, replaced}
@@ -160,14 +160,21 @@ module _ (s : StoreState) (d : DictId) (key : Key) (value : PsObj) where
       by_closed true closed = tt
       by_closed false free = by_found (is_some (value_at (entries_of s d) key)) free
 
+abbrev store_in : StoreState → Given PsObj → StoreState
+store_in s (Ok made) = made.1
+store_in s (Err f) = s
+
+same_store : (s u t : StoreState) (y x : PsObj) → Ok (y, u) ≡ Ok (x, t) → Extends s u → Extends s t
+same_store s u t y x e h = subst (Extends s) (let q : u ≡ t = ap (λ (g : Given PsObj). store_in s g) e in q) h
+
 key_made : (s : StoreState) (key : Key) (x : PsObj) (t : StoreState) → key_object s key ≡ Ok (x, t) → Extends s t
 key_made s (NameKey text) x t e = by_name (making_text 127 s text) refl e
   where
     by_name : (g : Given StringId) → making_text 127 s text ≡ g → named_object g ≡ Ok (x, t) → Extends s t
-    by_name (Ok made) f e = subst (Extends s) (let q : made.1 ≡ t = cc in q) (text_made 127 s made.1 text made.0 f)
+    by_name (Ok made) f e = same_store s made.1 t (Name made.0 false) x e (text_made 127 s made.1 text made.0 f)
     by_name (Err fault) f e = absurd cc
-key_made s (IntKey n) x t e = subst (Extends s) (let q : s ≡ t = cc in q) (extends_same s)
-key_made s (TruthKey b) x t e = subst (Extends s) (let q : s ≡ t = cc in q) (extends_same s)
+key_made s (IntKey n) x t e = same_store s s t (IntObject n) x e (extends_same s)
+key_made s (TruthKey b) x t e = same_store s s t (TruthObject b) x e (extends_same s)
 
 pub value_leaves : (s : StoreState) (d : DictId) (key : Key) (value : PsObj) → All (λ (made : Unit {0} × StoreState). Leaves s made.1) (stored (putting s d key (key_object s key) value))
 value_leaves s d key value = put_leaves s d key value (key_object s key) (key_made s key)
@@ -176,5 +183,5 @@ pub name_leaves : (s : StoreState) (d : DictId) (t : StringId) (value : PsObj) �
 name_leaves s d t value = by_length (nat_le (length (bytes_of s t)) 127)
   where
     by_length : (b : Bool) → All (λ (made : Unit {0} × StoreState). Leaves s made.1) (stored (if b then putting s d (NameKey (bytes_of s t)) (Ok (Name t false, s)) value else Err Limit))
-    by_length true = put_leaves s d (NameKey (bytes_of s t)) value (Ok (Name t false, s)) (λ x u e. subst (Extends s) (let q : s ≡ u = cc in q) (extends_same s))
+    by_length true = put_leaves s d (NameKey (bytes_of s t)) value (Ok (Name t false, s)) (λ x u e. same_store s s u (Name t false) x e (extends_same s))
     by_length false = tt

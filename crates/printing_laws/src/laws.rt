@@ -1,6 +1,6 @@
 // What holds of values that are printed.
 
-ghost use Rattle.std.specs.Prelude.{◌≡◌, ◌≤◌, ◌+◌, ℕ, ◌++◌, ◌∷◌, [], List, Ok};
+ghost use Rattle.std.specs.Prelude.{◌≡◌, ◌≤◌, ◌+◌, ℕ, ◌++◌, ◌∷◌, [], List, Ok, Some, None, Option, min, codes};
 ghost use Rattle.ps_store.specs.declared.object.PsObj.{PsObj};
 ghost use Rattle.ps_store.specs.declared.object.PsObj.TheVariants.{Int, Dict};
 ghost use Rattle.ps_store.specs.declared.object.ArrayId.{ArrayId};
@@ -13,8 +13,13 @@ ghost use Rattle.ps_step.specs.declared.item.Item.{Item};
 ghost use Rattle.c_tree.specs.declared.types.CType.{CType};
 ghost use Rattle.c_tree.specs.declared.types.StructDef.{StructDef};
 ghost use Rattle.c_show.specs.Printed.{Showing, shown};
+ghost use Rattle.ldb_words.specs.declared.kinds.Kind.{Kind};
+ghost use Rattle.frame_bytes.specs.Bytes.{fetched};
+ghost use Rattle.frame_bytes.specs.declared.frame.Frame.{Frame};
 ghost use Rattle.frame_bytes.specs.declared.frame.Space.{Space};
-ghost use Rattle.ps_places.specs.Places.{space_named};
+ghost use Rattle.frame_bytes.specs.declared.frame.Space.TheVariants.{Memory, Registers, Immediate};
+ghost use Rattle.ps_places.specs.Places.{place, space_named};
+ghost use Rattle.ps_append.specs.Characters.{bytes_from, MOST_READ};
 ghost use Rattle.ps_terms.specs.Machine.{Obj, Key};
 ghost use Rattle.ps_terms.specs.Stands.{Are, Frames, core};
 ghost use Rattle.ps_terms.specs.Printing.{word, Printing, Looked};
@@ -23,10 +28,10 @@ ghost use Rattle.ps_print.specs.Prelude.{print_body};
 ghost use Rattle.ps_print.specs.Words.{Holds, RoomFor};
 ghost use Rattle.ps_print.specs.Items.{Thing};
 ghost use Rattle.ps_print.specs.Things.{print_steps};
-ghost use Rattle.dialect_model.specs.Dial.{Dial};
+ghost use Rattle.dialect_model.specs.Dial.{Dial, InFrame, bytes_in};
 ghost use Rattle.dialect_model.specs.Operating.{Operates};
 ghost use Rattle.printing_laws.specs.Dialect.{append, needs};
-ghost use Rattle.printing_laws.specs.Lookups.{Reached};
+ghost use Rattle.printing_laws.specs.Lookups.{Reached, Always, number_there, string_there, pointer_there};
 ghost use Rattle.printing_laws.specs.Lies.{Lies};
 ghost use Rattle.printing_laws.specs.Stays.{Above, Remains, StaysEmpty};
 
@@ -55,4 +60,14 @@ pub fn units_settle()
 /// unit where it says so.
 pub fn dialect_prints()
     ensures { (prints : Printing Operates) × (prints.append ≡ append) × (prints.needs ≡ needs) }
+{}
+
+/// What is read in memory, in the immediate cell and in the registers of a frame that was found needs no unit: it is what the bytes say.
+/// The null pointer's text is `0`.
+pub fn places_are_read()
+    ensures memory { (first : StoreState) (d : Dial) (at v : ℕ) (k : Kind) → fetched (bytes_in d None) Memory at k ≡ Some v → Always first (number_there d Memory at k) v }
+    ensures cell { (first : StoreState) (d : Dial) (at v : ℕ) (k : Kind) → fetched (bytes_in d None) Immediate at k ≡ Some v → Always first (number_there d Immediate at k) v }
+    ensures register { (first : StoreState) (d : Dial) (f : Frame) (scope : Option DictId) (at v : ℕ) (k : Kind) → d.standing ≡ InFrame f scope → fetched (bytes_in d (Some f)) Registers at k ≡ Some v → Always first (number_there d Registers at k) v }
+    ensures string { (first : StoreState) (d : Dial) (at count : ℕ) (bs : List ℕ) → bytes_from (min count MOST_READ) (bytes_in d None) (place Memory at) ≡ Ok bs → Always first (string_there d Memory at count) bs }
+    ensures null { (first : StoreState) (d : Dial) → Always first (pointer_there d 0) (codes "0") }
 {}
