@@ -169,12 +169,90 @@ two op d c = state_kept c d (on_two op c) (two_kept c op)
 
 each : EachKeeps operators
 each = (
-  λ d c. anchoring_kept c d, (λ d c. state_kept c d (placing_at Memory c) (at_kept c Memory), (λ d c. local_kept c d, (λ d c. state_kept c d (placing_at Registers c) (at_kept c Registers), (λ d c. value_kept c d, (λ d c. locating_kept c d,
-  (λ d c. fetching_kept c d, (λ d c. storing_kept c d,
-  (two SignedAdd, (two SignedSubtract, (two SignedMultiply, (two SignedDivide, (two SignedRemainder, (λ d c. state_kept c d (negating c) (negating_kept c),
-  (two Divide, (two Remainder, (two Add, (two Subtract, (two Multiply, (two ShiftLeft, (two SignedShiftRight, (two ShiftRight, (λ d c. state_kept c d (below c) (below_kept c),
-  (λ d c. adding_kept c d, (λ d c. subtracting_kept c d, (λ d c. comparing_kept c d, (λ d c. leaf_kept c d, (λ d c. struct_kept c d,
-  (λ d c. putting_kept c d, (λ d c. char_kept c d, (λ d c. pointer_kept c d, (λ d c. chars_kept c d, (λ d c. run_kept c d, tt)))))))))))))))))))))))))))))))))
+  λ d c. anchoring_kept c d,
+  (
+    λ d c. state_kept c d (placing_at Memory c) (at_kept c Memory),
+    (
+      λ d c. local_kept c d,
+      (
+        λ d c. state_kept c d (placing_at Registers c) (at_kept c Registers),
+        (
+          λ d c. value_kept c d,
+          (
+            λ d c. locating_kept c d,
+            (
+              λ d c. fetching_kept c d,
+              (
+                λ d c. storing_kept c d,
+                (
+                  two SignedAdd,
+                  (
+                    two SignedSubtract,
+                    (
+                      two SignedMultiply,
+                      (
+                        two SignedDivide,
+                        (
+                          two SignedRemainder,
+                          (
+                            λ d c. state_kept c d (negating c) (negating_kept c),
+                            (
+                              two Divide,
+                              (
+                                two Remainder,
+                                (
+                                  two Add,
+                                  (
+                                    two Subtract,
+                                    (
+                                      two Multiply,
+                                      (
+                                        two ShiftLeft,
+                                        (
+                                          two SignedShiftRight,
+                                          (
+                                            two ShiftRight,
+                                            (
+                                              λ d c. state_kept c d (below c) (below_kept c),
+                                              (
+                                                λ d c. adding_kept c d,
+                                                (
+                                                  λ d c. subtracting_kept c d,
+                                                  (
+                                                    λ d c. comparing_kept c d,
+                                                    (
+                                                      λ d c. leaf_kept c d,
+                                                      (
+                                                        λ d c. struct_kept c d,
+                                                        (λ d c. putting_kept c d, (λ d c. char_kept c d, (λ d c. pointer_kept c d, (λ d c. chars_kept c d, (λ d c. run_kept c d, tt))))),
+                                                      ),
+                                                    ),
+                                                  ),
+                                                ),
+                                              ),
+                                            ),
+                                          ),
+                                        ),
+                                      ),
+                                    ),
+                                  ),
+                                ),
+                              ),
+                            ),
+                          ),
+                        ),
+                      ),
+                    ),
+                  ),
+                ),
+              ),
+            ),
+          ),
+        ),
+      ),
+    ),
+  ),
+)
 
 acts : (op : ℕ) → Keeps (act op)
 unfolding act

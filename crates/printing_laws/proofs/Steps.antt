@@ -146,7 +146,7 @@ module _ (s : StoreState) where
     where
       by_mark : (o : Option ℕ) → ReadLeft s (elim o [ None ↦ Bad SyntaxError s | Some n ↦ placed (drop (n + 1) xs) at s (procedure_of_top s xs n) ])
       by_mark None = leaves_same s
-      by_mark (Some n) = placed_read (drop (n + 1) xs) at (procedure_of_top s xs n) 
+      by_mark (Some n) = placed_read (drop (n + 1) xs) at (procedure_of_top s xs n)
           (behind_all Made' (λ made. Leaves s made.1) (stored (making_array s (reverse (take n xs)))) _ (array_leaves s (reverse (take n xs))) (λ made l. l))
 
   token_read : (text : List ℕ) (xs : List PsObj) (token : PsToken) → ReadLeft s (read_token s text xs token)

@@ -31,31 +31,33 @@ closed_as a d s m p b t = record { arrays = a; dicts = d; strings = s; mark = m;
 -- ---- objects are added
 
 extends_leave : (s t : StoreState) → Extends s t → Leaves s t
-extends_leave s t x = record { keeps = λ h.
-    let a = h.arrays in let d = h.dicts in let z = h.strings in let u = h.units in
-    let ma : t.closed.arrays ≡ s.closed.arrays = ap (λ (m : Mark). m.arrays) x.closed in
-    let md : t.closed.dicts ≡ s.closed.dicts = ap (λ (m : Mark). m.dicts) x.closed in
-    let mz : t.closed.strings ≡ s.closed.strings = ap (λ (m : Mark). m.strings) x.closed in
-    let mu : t.closed.units ≡ s.closed.units = ap (λ (m : Mark). m.units) x.closed in
-    let ea : take t.closed.arrays t.table.arrays ≡ take s.closed.arrays s.table.arrays =
-    ap (λ n. take n t.table.arrays) ma ∙ ap (take s.closed.arrays) x.table.arrays.whole ∙ take-append-le s.closed.arrays s.table.arrays x.table.arrays.rest a in
-    let ed : take t.closed.dicts t.table.dicts ≡ take s.closed.dicts s.table.dicts =
-    ap (λ n. take n t.table.dicts) md ∙ ap (take s.closed.dicts) x.table.dicts.whole ∙ take-append-le s.closed.dicts s.table.dicts x.table.dicts.rest d in
-    let ez : take t.closed.strings t.table.strings ≡ take s.closed.strings s.table.strings =
-    ap (λ n. take n t.table.strings) mz ∙ ap (take s.closed.strings) x.table.strings.whole ∙ take-append-le s.closed.strings s.table.strings x.table.strings.rest z in
-    let la : length t.table.arrays ≡ length s.table.arrays + length x.table.arrays.rest = ap length x.table.arrays.whole ∙ length-append s.table.arrays x.table.arrays.rest in
-    let ld : length t.table.dicts ≡ length s.table.dicts + length x.table.dicts.rest = ap length x.table.dicts.whole ∙ length-append s.table.dicts x.table.dicts.rest in
-    let lz : length t.table.strings ≡ length s.table.strings + length x.table.strings.rest = ap length x.table.strings.whole ∙ length-append s.table.strings x.table.strings.rest in
-    let lu = x.table.units in (
-      ap (λ q. closed_as q (take t.closed.dicts t.table.dicts) (take t.closed.strings t.table.strings) t.closed t.part t.base t.top) ea
-          ∙ ap (λ q. closed_as (take s.closed.arrays s.table.arrays) q (take t.closed.strings t.table.strings) t.closed t.part t.base t.top) ed
-          ∙ ap (λ q. closed_as (take s.closed.arrays s.table.arrays) (take s.closed.dicts s.table.dicts) q t.closed t.part t.base t.top) ez
-          ∙ ap (λ q. closed_as (take s.closed.arrays s.table.arrays) (take s.closed.dicts s.table.dicts) (take s.closed.strings s.table.strings) q t.part t.base t.top) x.closed
-          ∙ ap (λ q. closed_as (take s.closed.arrays s.table.arrays) (take s.closed.dicts s.table.dicts) (take s.closed.strings s.table.strings) s.closed q t.base t.top) x.part
-          ∙ ap (λ q. closed_as (take s.closed.arrays s.table.arrays) (take s.closed.dicts s.table.dicts) (take s.closed.strings s.table.strings) s.closed s.part q t.top) x.base
-          ∙ ap (λ q. closed_as (take s.closed.arrays s.table.arrays) (take s.closed.dicts s.table.dicts) (take s.closed.strings s.table.strings) s.closed s.part s.base q) x.top,
-      record { arrays = omega arith; dicts = omega arith; strings = omega arith; units = omega arith },
-    ) }
+extends_leave s t x = record {
+  keeps = λ h.
+      let a = h.arrays in let d = h.dicts in let z = h.strings in let u = h.units in
+      let ma : t.closed.arrays ≡ s.closed.arrays = ap (λ (m : Mark). m.arrays) x.closed in
+      let md : t.closed.dicts ≡ s.closed.dicts = ap (λ (m : Mark). m.dicts) x.closed in
+      let mz : t.closed.strings ≡ s.closed.strings = ap (λ (m : Mark). m.strings) x.closed in
+      let mu : t.closed.units ≡ s.closed.units = ap (λ (m : Mark). m.units) x.closed in
+      let ea : take t.closed.arrays t.table.arrays ≡ take s.closed.arrays s.table.arrays =
+      ap (λ n. take n t.table.arrays) ma ∙ ap (take s.closed.arrays) x.table.arrays.whole ∙ take-append-le s.closed.arrays s.table.arrays x.table.arrays.rest a in
+      let ed : take t.closed.dicts t.table.dicts ≡ take s.closed.dicts s.table.dicts =
+      ap (λ n. take n t.table.dicts) md ∙ ap (take s.closed.dicts) x.table.dicts.whole ∙ take-append-le s.closed.dicts s.table.dicts x.table.dicts.rest d in
+      let ez : take t.closed.strings t.table.strings ≡ take s.closed.strings s.table.strings =
+      ap (λ n. take n t.table.strings) mz ∙ ap (take s.closed.strings) x.table.strings.whole ∙ take-append-le s.closed.strings s.table.strings x.table.strings.rest z in
+      let la : length t.table.arrays ≡ length s.table.arrays + length x.table.arrays.rest = ap length x.table.arrays.whole ∙ length-append s.table.arrays x.table.arrays.rest in
+      let ld : length t.table.dicts ≡ length s.table.dicts + length x.table.dicts.rest = ap length x.table.dicts.whole ∙ length-append s.table.dicts x.table.dicts.rest in
+      let lz : length t.table.strings ≡ length s.table.strings + length x.table.strings.rest = ap length x.table.strings.whole ∙ length-append s.table.strings x.table.strings.rest in
+      let lu = x.table.units in (
+        ap (λ q. closed_as q (take t.closed.dicts t.table.dicts) (take t.closed.strings t.table.strings) t.closed t.part t.base t.top) ea
+            ∙ ap (λ q. closed_as (take s.closed.arrays s.table.arrays) q (take t.closed.strings t.table.strings) t.closed t.part t.base t.top) ed
+            ∙ ap (λ q. closed_as (take s.closed.arrays s.table.arrays) (take s.closed.dicts s.table.dicts) q t.closed t.part t.base t.top) ez
+            ∙ ap (λ q. closed_as (take s.closed.arrays s.table.arrays) (take s.closed.dicts s.table.dicts) (take s.closed.strings s.table.strings) q t.part t.base t.top) x.closed
+            ∙ ap (λ q. closed_as (take s.closed.arrays s.table.arrays) (take s.closed.dicts s.table.dicts) (take s.closed.strings s.table.strings) s.closed q t.base t.top) x.part
+            ∙ ap (λ q. closed_as (take s.closed.arrays s.table.arrays) (take s.closed.dicts s.table.dicts) (take s.closed.strings s.table.strings) s.closed s.part q t.top) x.base
+            ∙ ap (λ q. closed_as (take s.closed.arrays s.table.arrays) (take s.closed.dicts s.table.dicts) (take s.closed.strings s.table.strings) s.closed s.part s.base q) x.top,
+        record { arrays = omega arith; dicts = omega arith; strings = omega arith; units = omega arith },
+      );
+}
 
 stored_leaves : {X : Type 0} (s : StoreState) (g : Given X) → ((x : X) (t : StoreState) → g ≡ Ok (x, t) → Leaves s t) → All (λ made. Leaves s made.1) (stored g)
 stored_leaves s (Ok made) h = h made.0 made.1 refl
@@ -74,23 +76,27 @@ text_leaves most s bytes = stored_leaves s (making_text most s bytes) (λ x t e.
 
 elements_left : (s : StoreState) (p : Part) (i : ℕ) (xs : List PsObj) → is_closed p i s.closed.arrays ≡ false → Leaves s (with_elements s (record { part = p; index = i }) xs)
 elements_left s Command i xs free = record { keeps = λ h. (refl, h) }
-elements_left s Table i xs free = record { keeps = λ h.
-    let a = h.arrays in
-    let same : length (slice_set s.table.arrays i xs) ≡ length s.table.arrays = length-set s.table.arrays i xs in
-    let low : s.closed.arrays ≤ i = grind (arith, nat_tests) in (
-      ap (λ l. record (closed_part s) { arrays = l }) (take-set-le s.closed.arrays s.table.arrays i xs low),
-      record { arrays = omega arith; dicts = h.dicts; strings = h.strings; units = h.units },
-    ) }
+elements_left s Table i xs free = record {
+  keeps = λ h.
+      let a = h.arrays in
+      let same : length (slice_set s.table.arrays i xs) ≡ length s.table.arrays = length-set s.table.arrays i xs in
+      let low : s.closed.arrays ≤ i = grind (arith, nat_tests) in (
+        ap (λ l. record (closed_part s) { arrays = l }) (take-set-le s.closed.arrays s.table.arrays i xs low),
+        record { arrays = omega arith; dicts = h.dicts; strings = h.strings; units = h.units },
+      );
+}
 
 bytes_left : (s : StoreState) (p : Part) (i : ℕ) (bs : List ℕ) → is_closed p i s.closed.strings ≡ false → Leaves s (with_bytes s (record { part = p; index = i }) bs)
 bytes_left s Command i bs free = record { keeps = λ h. (refl, h) }
-bytes_left s Table i bs free = record { keeps = λ h.
-    let a = h.strings in
-    let same : length (slice_set s.table.strings i bs) ≡ length s.table.strings = length-set s.table.strings i bs in
-    let low : s.closed.strings ≤ i = grind (arith, nat_tests) in (
-      ap (λ l. record (closed_part s) { strings = l }) (take-set-le s.closed.strings s.table.strings i bs low),
-      record { arrays = h.arrays; dicts = h.dicts; strings = omega arith; units = h.units },
-    ) }
+bytes_left s Table i bs free = record {
+  keeps = λ h.
+      let a = h.strings in
+      let same : length (slice_set s.table.strings i bs) ≡ length s.table.strings = length-set s.table.strings i bs in
+      let low : s.closed.strings ≤ i = grind (arith, nat_tests) in (
+        ap (λ l. record (closed_part s) { strings = l }) (take-set-le s.closed.strings s.table.strings i bs low),
+        record { arrays = h.arrays; dicts = h.dicts; strings = omega arith; units = h.units },
+      );
+}
 
 -- a dictionary's entries, with so many units more
 abbrev more_entries : StoreState → DictId → List (Key × Pair) → ℕ → StoreState
@@ -98,23 +104,27 @@ more_entries s d es n = let h = held s d.part in with_held s d.part (record h { 
 
 entries_left : (s : StoreState) (p : Part) (i : ℕ) (es : List (Key × Pair)) (n : ℕ) → is_closed p i s.closed.dicts ≡ false → Leaves s (more_entries s (record { part = p; index = i }) es n)
 entries_left s Command i es n free = record { keeps = λ h. (refl, h) }
-entries_left s Table i es n free = record { keeps = λ h.
-    let a = h.dicts in let b = h.units in
-    let same : length (slice_set s.table.dicts i es) ≡ length s.table.dicts = length-set s.table.dicts i es in
-    let low : s.closed.dicts ≤ i = grind (arith, nat_tests) in (
-      ap (λ l. record (closed_part s) { dicts = l }) (take-set-le s.closed.dicts s.table.dicts i es low),
-      record { arrays = h.arrays; dicts = omega arith; strings = h.strings; units = omega arith },
-    ) }
+entries_left s Table i es n free = record {
+  keeps = λ h.
+      let a = h.dicts in let b = h.units in
+      let same : length (slice_set s.table.dicts i es) ≡ length s.table.dicts = length-set s.table.dicts i es in
+      let low : s.closed.dicts ≤ i = grind (arith, nat_tests) in (
+        ap (λ l. record (closed_part s) { dicts = l }) (take-set-le s.closed.dicts s.table.dicts i es low),
+        record { arrays = h.arrays; dicts = omega arith; strings = h.strings; units = omega arith },
+      );
+}
 
 replaced_left : (s : StoreState) (p : Part) (i : ℕ) (es : List (Key × Pair)) → is_closed p i s.closed.dicts ≡ false → Leaves s (with_entries s (record { part = p; index = i }) es)
 replaced_left s Command i es free = record { keeps = λ h. (refl, h) }
-replaced_left s Table i es free = record { keeps = λ h.
-    let a = h.dicts in
-    let same : length (slice_set s.table.dicts i es) ≡ length s.table.dicts = length-set s.table.dicts i es in
-    let low : s.closed.dicts ≤ i = grind (arith, nat_tests) in (
-      ap (λ l. record (closed_part s) { dicts = l }) (take-set-le s.closed.dicts s.table.dicts i es low),
-      record { arrays = h.arrays; dicts = omega arith; strings = h.strings; units = h.units },
-    ) }
+replaced_left s Table i es free = record {
+  keeps = λ h.
+      let a = h.dicts in
+      let same : length (slice_set s.table.dicts i es) ≡ length s.table.dicts = length-set s.table.dicts i es in
+      let low : s.closed.dicts ≤ i = grind (arith, nat_tests) in (
+        ap (λ l. record (closed_part s) { dicts = l }) (take-set-le s.closed.dicts s.table.dicts i es low),
+        record { arrays = h.arrays; dicts = omega arith; strings = h.strings; units = h.units },
+      );
+}
 
 if_open : (s t : StoreState) (b : Bool) → (b ≡ false → Leaves s t) → All (Leaves s) (opened (if b then None else Some t))
 if_open s t true h = tt
@@ -164,7 +174,7 @@ abbrev store_in : StoreState → Given PsObj → StoreState
 store_in s (Ok made) = made.1
 store_in s (Err f) = s
 
-same_store : (s u t : StoreState) (y x : PsObj) → Ok (y, u) ≡ Ok (x, t) → Extends s u → Extends s t
+same_store : (s u t : StoreState) (y x : PsObj) → ◌≡◌ {A = Given PsObj} (Ok (y, u)) (Ok (x, t)) → Extends s u → Extends s t
 same_store s u t y x e h = subst (Extends s) (let q : u ≡ t = ap (λ (g : Given PsObj). store_in s g) e in q) h
 
 key_made : (s : StoreState) (key : Key) (x : PsObj) (t : StoreState) → key_object s key ≡ Ok (x, t) → Extends s t
