@@ -12,4 +12,5 @@ mod Acts
 mod Runs
 mod Laid
 mod Reading
+mod Held
 mod Printed
