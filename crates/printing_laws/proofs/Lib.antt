@@ -12,5 +12,4 @@ mod Acts
 mod Runs
 mod Laid
 mod Reading
-mod Held
 mod Printed

@@ -7,7 +7,7 @@ ghost use Rattle.ps_store.specs.declared.object.ArrayId.{ArrayId};
 ghost use Rattle.ps_store.specs.declared.object.DictId.{DictId};
 ghost use Rattle.ps_store.specs.declared.object.Part.TheVariants.{Command};
 ghost use Rattle.ps_store.specs.StoreState.{StoreState};
-ghost use Rattle.ps_store.specs.Store.{closed_part, new_store};
+ghost use Rattle.ps_store.specs.Store.{closed_part};
 ghost use Rattle.ps_store.specs.Settled.{Settled};
 ghost use Rattle.ps_step.specs.declared.item.Item.{Item};
 ghost use Rattle.c_tree.specs.declared.types.CType.{CType};
@@ -27,7 +27,6 @@ ghost use Rattle.ps_terms.specs.Faring.{shut, HoldsDicts, Comes};
 ghost use Rattle.ps_print.specs.Prelude.{print_body};
 ghost use Rattle.ps_print.specs.Words.{Holds, RoomFor};
 ghost use Rattle.ps_print.specs.Items.{Thing};
-ghost use Rattle.ps_print.specs.Loaded.{loaded, digits_id};
 ghost use Rattle.ps_print.specs.Things.{print_steps};
 ghost use Rattle.dialect_model.specs.Dial.{Dial, InFrame, bytes_in};
 ghost use Rattle.dialect_model.specs.Operating.{Operates};
@@ -71,10 +70,4 @@ pub fn places_are_read()
     ensures register { (first : StoreState) (d : Dial) (f : Frame) (scope : Option DictId) (at v : ℕ) (k : Kind) → d.standing ≡ InFrame f scope → fetched (bytes_in d (Some f)) Registers at k ≡ Some v → Always first (number_there d Registers at k) v }
     ensures string { (first : StoreState) (d : Dial) (at count : ℕ) (bs : List ℕ) → bytes_from (min count MOST_READ) (bytes_in d None) (place Memory at) ≡ Ok bs → Always first (string_there d Memory at count) bs }
     ensures null { (first : StoreState) (d : Dial) → Always first (pointer_there d 0) (codes "0") }
-{}
-
-/// On the prelude's dictionary alone its words mean what its terms say, by what is closed of each store that comes behind the prelude.
-pub fn prelude_stays()
-    ensures holds { (now : StoreState) → Settled (closed_part loaded.store) (closed_part now) → Holds (shut now) new_store.base digits_id }
-    ensures held { (now : StoreState) → Settled (closed_part loaded.store) (closed_part now) → HoldsDicts (shut now) new_store.base }
 {}

@@ -3,6 +3,4 @@
 
 mod laws;
 
-pub use laws::{
-    dialect_prints, places_are_read, prelude_stays, units_settle, values_are_printed,
-};
+pub use laws::{dialect_prints, places_are_read, units_settle, values_are_printed};
