@@ -1,8 +1,7 @@
 -- The dialect's operators leave the store as it is.
-use Rattle.std.proofs.Common.{◌≡◌, refl, subst, ℕ, zero, suc, nat_lt, is_some, option_map, Option, Some, None, Result, Ok, Err, List, [], ◌∷◌, length, slice_get}
+use Rattle.std.proofs.Common.{◌≡◌, refl, subst, ℕ, zero, suc, nat_lt, is_some, option_map, None, Result, Ok, Err, List, [], ◌∷◌, length, slice_get}
 use Rattle.ps_step.specs.declared.fault.PsError.{PsError}
 use Rattle.ps_step.specs.declared.machine.PsCore.{PsCore}
-use Rattle.ps_step.specs.Results.{◌>>=◌}
 use Rattle.ps_step.specs.State.{Made}
 use Rattle.ldb_words.specs.Word.{sum_of}
 use Rattle.ldb_words.specs.declared.kinds.Kind.TheVariants.{Word}

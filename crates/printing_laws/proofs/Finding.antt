@@ -1,5 +1,5 @@
 -- An operator that looks something up finds it, whatever functions of units are run on the way.
-use Rattle.std.proofs.Common.{◌≡◌, ◌⊎◌, inl, inr, refl, sym, ap, subst, ◌∙◌, ℕ, ◌≤◌, true, Ok, Err, List, ◌++◌, arith}
+use Rattle.std.proofs.Common.{◌≡◌, inl, inr, refl, sym, ap, subst, ◌∙◌, ℕ, ◌≤◌, true, Ok, Err, List, ◌++◌, arith}
 use Rattle.ps_store.specs.declared.object.PsObj.{PsObj}
 use Rattle.ps_store.specs.StoreState.{StoreState}
 use Rattle.ps_store.specs.Store.{closed_part}
@@ -16,7 +16,6 @@ use Rattle.ps_terms.specs.Stands.{Are}
 use Rattle.ps_terms.specs.Printing.{Looked, nothing, after, Seeks, lacking, at_once, failed, behind, FindsAt}
 use Rattle.dialect_model.specs.Dial.{Dial, Act, Raises}
 use Rattle.dialect_model.specs.Operators.{act}
-use Rattle.dialect_model.specs.Forcing.{ForcesUnit}
 use Rattle.dialect_model.specs.Operating.{Operates, acted, raised, forced, broken, wanting}
 use Rattle.printing_laws.specs.Dialect.{needs, needs_unit}
 use Rattle.printing_laws.specs.Lookups.{Reached, unmoved, onward}

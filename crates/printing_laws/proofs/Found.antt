@@ -1,5 +1,5 @@
 -- What the operators that print find, by what is looked up.
-use Rattle.std.proofs.Common.{◌≡◌, refl, sym, ap, subst, ◌∙◌, ℕ, ℤ, pos, false, Ok, List, [], ◌∷◌, ◌++◌, append-nil}
+use Rattle.std.proofs.Common.{◌≡◌, sym, ap, subst, ◌∙◌, ℕ, ℤ, pos, false, Ok, List, [], ◌∷◌, ◌++◌, append-nil}
 use Rattle.ldb_words.specs.Word.{word_of_signed}
 use Rattle.ldb_words.specs.declared.kinds.Kind.{Kind}
 use Rattle.c_show.specs.Printed.{string_text}
@@ -7,14 +7,13 @@ use Rattle.ps_store.specs.declared.object.PsObj.{PsObj}
 use Rattle.ps_store.specs.declared.object.PsObj.TheVariants.{Int, Name}
 use Rattle.ps_store.specs.declared.object.StringId.{StringId}
 use Rattle.ps_store.specs.StoreState.{StoreState}
-use Rattle.ps_step.specs.declared.machine.PsCore.{PsCore}
 use Rattle.ps_step.specs.Results.{◌>>=◌}
 use Rattle.ps_step.specs.State.{with_operands}
 use Rattle.frame_bytes.specs.declared.frame.Space.{Space}
 use Rattle.ps_places.specs.Places.{space_named, kind_named}
 use Rattle.ps_places.specs.Accesses.{value_of}
 use Rattle.ps_terms.specs.Machine.{Val, Obj, Key}
-use Rattle.ps_terms.specs.Stands.{Are, none, more}
+use Rattle.ps_terms.specs.Stands.{none, more}
 use Rattle.ps_terms.specs.Printing.{FindsAt}
 use Rattle.ps_text.specs.Grown.{IsString}
 use Rattle.ps_print.specs.Laid.{Fetches, PutsChars, PutsPointer, Counts}

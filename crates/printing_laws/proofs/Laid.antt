@@ -1,5 +1,5 @@
 -- A value that lies at a place, by what is looked up, is laid there for the printers.
-use Rattle.std.proofs.Common.{◌≡◌, refl, sym, ap, subst, ℕ, pos, suc, ◌+◌, ◌<◌, ◌%◌, ◌^◌, Ok, List, [], ◌∷◌, map, codes}
+use Rattle.std.proofs.Common.{◌≡◌, refl, sym, subst, ℕ, pos, suc, ◌+◌, ◌<◌, ◌%◌, ◌^◌, Ok, List, codes}
 use Rattle.std.specs.Int.{w32}
 use Rattle.std.proofs.lemmas.Int.{of_z-to_z}
 use Rattle.ldb_words.specs.Word.{word_of_signed}
@@ -9,7 +9,7 @@ use Rattle.c_tree.specs.declared.types.CType.{CType}
 use Rattle.c_tree.specs.declared.types.StructDef.{StructDef}
 use Rattle.c_tree.specs.declared.types.Member.{Member}
 use Rattle.c_tree.specs.Layout.{members_of}
-use Rattle.c_show.specs.Printed.{Showing, byte_of, string_text}
+use Rattle.c_show.specs.Printed.{Showing, string_text}
 use Rattle.ps_store.specs.declared.object.PsObj.TheVariants.{Int}
 use Rattle.ps_store.specs.declared.object.ArrayId.{ArrayId}
 use Rattle.ps_store.specs.declared.object.DictId.{DictId}

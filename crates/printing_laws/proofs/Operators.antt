@@ -1,8 +1,8 @@
 -- The operators of the manual leave what is closed.
-use Rattle.std.proofs.Common.{ℕ, ◌%◌, ◌+◌, ◌-◌, ◌==◌, nat_lt, nat_le, Bool, true, false, if◌then◌else◌, Option, Some, None, Result, Ok, Err, List, [], ◌∷◌, length, reverse, take, drop, replicate, slice_get}
+use Rattle.std.proofs.Common.{ℕ, ◌%◌, ◌+◌, ◌-◌, ◌==◌, nat_lt, nat_le, Bool, true, false, if◌then◌else◌, Option, Some, None, Result, Ok, Err, List, length, reverse, take, drop, replicate, slice_get}
 use Rattle.ps_store.specs.declared.object.ArrayId.{ArrayId}
 use Rattle.ps_store.specs.declared.object.PsObj.{PsObj}
-use Rattle.ps_store.specs.declared.object.PsObj.TheVariants.{Int, Bool as Truth, Name, Str, Array, Op, Mark, Null}
+use Rattle.ps_store.specs.declared.object.PsObj.TheVariants.{Int, Bool as Truth, Mark, Null}
 use Rattle.ps_store.specs.StoreState.{StoreState}
 use Rattle.ps_store.specs.Store.{bytes_of, elements_of, making_array, making_dict, making_text, writing_elements}
 use Rattle.ps_step.specs.declared.fault.PsError.{PsError}
@@ -24,7 +24,7 @@ use Rattle.ps_step.specs.Arithmetic.{integer_of, truth_of, arithmetic_of, bitwis
 use Rattle.ps_step.specs.Compare.{relation_of}
 use Rattle.ps_step.specs.Composites.{MadePart, value_in, put_in, placed_text, copied, filled}
 use Rattle.ps_step.specs.ControlOperators.{goes_on, cursor_of}
-use Rattle.ps_step.specs.CopyOperators.{MadeOrLeft, replacing, copying_by, copying, closing_dict, writing_text}
+use Rattle.ps_step.specs.CopyOperators.{replacing, copying_by}
 use Rattle.ps_step.specs.Executing.{on_stack, on_composites, on_values, on_control, operating}
 use Rattle.ps_step.specs.Item.{loop_from}
 use Rattle.ps_step.specs.Keys.{current, holder_of, key_of, meant_by, put_under, under, value_under}

@@ -1,5 +1,5 @@
 -- What is put into arrays, strings and dictionaries, and copied between them, leaves what is closed.
-use Rattle.std.proofs.Common.{ℕ, ◌==◌, Bool, nat_lt, Result, Ok, Err, List, [], ◌∷◌, length}
+use Rattle.std.proofs.Common.{ℕ, ◌==◌, Bool, nat_lt, Result, List, [], ◌∷◌, length}
 use Rattle.ps_store.specs.declared.key.Key.{Key}
 use Rattle.ps_store.specs.declared.object.ArrayId.{ArrayId}
 use Rattle.ps_store.specs.declared.object.DictId.{DictId}

@@ -1,8 +1,7 @@
 -- Values are printed under the debugger's dialect.
-use Rattle.std.proofs.Common.{◌≡◌, refl, sym, ap, ◌∙◌, ℕ, ◌+◌, ◌≤◌, false, Option, Some, None, Ok, List, [], ◌∷◌, ◌++◌, option_map}
+use Rattle.std.proofs.Common.{◌≡◌, refl, sym, ap, ◌∙◌, ℕ, ◌+◌, ◌≤◌, Ok, List, [], ◌∷◌, ◌++◌, option_map}
 use Rattle.ps_store.specs.declared.key.Key.TheVariants.{Name as NameKey}
-use Rattle.ps_store.specs.declared.object.Part.{Part}
-use Rattle.ps_store.specs.declared.object.Part.TheVariants.{Table, Command}
+use Rattle.ps_store.specs.declared.object.Part.TheVariants.{Command}
 use Rattle.ps_store.specs.declared.object.PsObj.{PsObj}
 use Rattle.ps_store.specs.declared.object.PsObj.TheVariants.{Int, Dict, Op as OpObj}
 use Rattle.ps_store.specs.declared.object.ArrayId.{ArrayId}
@@ -10,7 +9,7 @@ use Rattle.ps_store.specs.declared.object.DictId.{DictId}
 use Rattle.ps_store.specs.StoreState.{StoreState}
 use Rattle.ps_store.specs.Entries.{value_at}
 use Rattle.ps_store.specs.Operators.{operator_number}
-use Rattle.ps_store.specs.Store.{closed_part, entries_of, is_deferred}
+use Rattle.ps_store.specs.Store.{closed_part, entries_of}
 use Rattle.ps_store.specs.Settled.{Settled}
 use Rattle.ps_step.specs.Keys.{or_else, found_in, named}
 use Rattle.ps_step.specs.declared.item.Item.{Item}

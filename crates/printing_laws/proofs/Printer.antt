@@ -1,5 +1,5 @@
 -- The debugger's dialect is one that prints.
-use Rattle.std.proofs.Common.{◌≡◌, ℕ, ℤ, ◌+◌, ◌-◌, ◌/◌, ◌%◌, ◌^◌, ◌<◌, ◌≤◌, ◌==◌, ◌&&◌, nat_le, Bool, true, false, if◌then◌else◌, Option, Some, None, Result, Ok, Err, List, [], ◌∷◌, ◌++◌, refl, sym, ap, subst, ◌∙◌, append-nil, append_assoc, le-leb, ne_eqb, arith}
+use Rattle.std.proofs.Common.{◌≡◌, ℕ, ℤ, ◌+◌, ◌-◌, ◌/◌, ◌%◌, ◌^◌, ◌<◌, ◌≤◌, ◌&&◌, nat_le, Bool, true, if◌then◌else◌, Option, Some, None, Result, Ok, Err, List, [], ◌∷◌, ◌++◌, refl, sym, ap, subst, ◌∙◌, append-nil, append_assoc, le-leb, ne_eqb, arith}
 use Rattle.std.specs.Int.{w32}
 use Rattle.std.proofs.lemmas.Int.{of_z-to_z}
 use Rattle.ldb_words.specs.Word.{word_of_signed}
@@ -20,7 +20,7 @@ use Rattle.ps_words.specs.Operators.{on_two, integer}
 use Rattle.ps_append.specs.Appending.{plain_text}
 use Rattle.ps_run.specs.Runs.{Answer}
 use Rattle.ps_terms.specs.Printing.{word, AllPrintable, Answers, full, done, Surely, Printing}
-use Rattle.dialect_model.specs.Dial.{Dial, Target, Act, Raises, Needs}
+use Rattle.dialect_model.specs.Dial.{Dial, Target, Act}
 use Rattle.dialect_model.specs.Acting.{with_state, with_text}
 use Rattle.dialect_model.specs.Operators.{act}
 use Rattle.dialect_model.specs.Operating.{Operates, acted, raised, forced, broken, wanting}

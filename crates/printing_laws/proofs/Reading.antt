@@ -4,7 +4,7 @@ use Rattle.ldb_words.specs.declared.kinds.Kind.{Kind}
 use Rattle.ps_store.specs.declared.object.DictId.{DictId}
 use Rattle.ps_store.specs.StoreState.{StoreState}
 use Rattle.ps_step.specs.Results.{◌>>=◌}
-use Rattle.frame_bytes.specs.Bytes.{Bytes, fetched}
+use Rattle.frame_bytes.specs.Bytes.{fetched}
 use Rattle.frame_bytes.specs.declared.frame.Frame.{Frame}
 use Rattle.frame_bytes.specs.declared.frame.Space.TheVariants.{Memory, Registers, Immediate}
 use Rattle.ps_places.specs.Places.{place}

@@ -1,15 +1,12 @@
 -- A run without a target leaves what is closed.
-use Rattle.std.proofs.Common.{◌≡◌, ◌≢◌, refl, sym, ap, subst, ◌∙◌, ℕ, Result, Ok, Err}
+use Rattle.std.proofs.Common.{◌≡◌, ◌≢◌, refl, sym, ap, subst, ◌∙◌, ℕ, Ok, Err}
 use Rattle.ps_store.specs.StoreState.{StoreState}
-use Rattle.ps_step.specs.declared.fault.PsError.{PsError}
-use Rattle.ps_step.specs.declared.fault.PsFault.{PsFault}
 use Rattle.ps_step.specs.declared.fault.PsFault.TheVariants.{Error, Spent, Link, NoMemory}
 use Rattle.ps_step.specs.declared.machine.PsCore.{PsCore}
-use Rattle.ps_run.specs.Step.{Outcome, Ended, Next, Asks, Failed, raising, step}
-use Rattle.ps_run.specs.Runs.{Answer, Asked, Settles, Runs, fault_with, spent, ended, failed, next, asked, broken}
+use Rattle.ps_run.specs.Step.{Outcome, Ended, Next, Asks, Failed, step}
+use Rattle.ps_run.specs.Runs.{Answer, Asked, Settles, fault_with, spent, ended, failed, next, asked, broken}
 use Rattle.ps_run.proofs.Going.{no_memory}
 use Rattle.dialect_model.specs.Dial.{Dial}
-use Rattle.dialect_model.specs.Operators.{act}
 use Rattle.dialect_model.specs.Forcing.{NoTarget, acted, raised, wanting}
 use Rattle.printing_laws.proofs.Leaving.{Leaves, leaves_same, leaves_on}
 use Rattle.printing_laws.proofs.Steps.{OutcomeLeft, raised_left, step_left}

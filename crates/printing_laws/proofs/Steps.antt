@@ -21,7 +21,7 @@ use Rattle.ps_step.specs.declared.item.Item.TheVariants.{Object, Procedure, Text
 use Rattle.ps_step.specs.declared.machine.PsCore.{PsCore}
 use Rattle.ps_step.specs.declared.operator.Operator.{Operator}
 use Rattle.ps_step.specs.CopyOperators.{MadeOrLeft}
-use Rattle.ps_step.specs.Executing.{Turn, alone, numbered, acting, naming, executing, meeting, operating}
+use Rattle.ps_step.specs.Executing.{Turn, alone, acting, executing, meeting, operating}
 use Rattle.ps_step.specs.Item.{under_stopped}
 use Rattle.ps_step.specs.Keys.{named}
 use Rattle.ps_step.specs.Marks.{mark_from}

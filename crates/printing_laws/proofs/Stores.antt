@@ -1,8 +1,7 @@
 -- What calls of a store leave of it.
-use Rattle.std.proofs.Common.{◌≡◌, refl, sym, ap, subst, ◌∙◌, ℕ, ◌+◌, ◌≤◌, Bool, true, false, ◌&&◌, nat_lt, if◌then◌else◌, is_some, Option, Some, None, Result, Ok, Err, List, [], ◌∷◌, ◌++◌, length, take, slice_set, length-append, nat_le, arith}
+use Rattle.std.proofs.Common.{◌≡◌, refl, ap, subst, ◌∙◌, ℕ, ◌+◌, ◌≤◌, Bool, true, false, ◌&&◌, nat_lt, if◌then◌else◌, is_some, Option, Some, None, Ok, Err, List, [], ◌∷◌, ◌++◌, length, take, slice_set, length-append, nat_le, arith}
 use Rattle.std.proofs.lemmas.Bool.Decides.{nat_tests}
 use Rattle.std.proofs.lemmas.List.{take-append-le, take-set-le, length-set}
-use Rattle.ps_store.specs.declared.fault.StoreFault.{StoreFault}
 use Rattle.ps_store.specs.declared.fault.StoreFault.TheVariants.{Limit, ReadOnly}
 use Rattle.ps_store.specs.declared.key.Key.{Key}
 use Rattle.ps_store.specs.declared.key.Key.TheVariants.{Name as NameKey, Int as IntKey, Bool as TruthKey}
@@ -19,9 +18,8 @@ use Rattle.ps_store.specs.StoreState.{StoreState, Closed}
 use Rattle.ps_store.specs.Entries.{value_at, replaced}
 use Rattle.ps_store.specs.Extends.{Extends}
 use Rattle.ps_store.specs.Overwritten.{overwritten}
-use Rattle.ps_store.specs.Store.{Given, closed_part, held, with_held, is_closed, has_room, elements_of, entries_of, bytes_of, with_elements, with_entries, with_bytes, making_array, making_dict, making_text, key_object, named_object, adding_pair, adding, putting, putting_under_name, writing_elements, writing_bytes}
+use Rattle.ps_store.specs.Store.{Given, closed_part, held, with_held, is_closed, has_room, elements_of, entries_of, bytes_of, with_elements, with_entries, with_bytes, making_array, making_dict, making_text, key_object, named_object, adding, putting, putting_under_name, writing_elements, writing_bytes}
 use Rattle.ps_store.proofs.Extending.{array_made, dict_made, text_made, extends_same}
-use Rattle.ps_step.specs.declared.fault.PsError.{PsError}
 use Rattle.ps_step.specs.Results.{stored, opened}
 use Rattle.printing_laws.proofs.Leaving.{All, Leaves, leaves_on}
 

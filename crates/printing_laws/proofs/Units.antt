@@ -1,5 +1,5 @@
 -- Functions of units that are run settle deferred entries of what is closed, and take no steps back.
-use Rattle.std.proofs.Common.{◌≡◌, ◌≢◌, refl, sym, ap, subst, ◌∙◌, ℕ, ◌≤◌, true, false, IsTrue, Option, Some, None, Result, Ok, Err, List, [], ◌∷◌, length, slice_set, arith}
+use Rattle.std.proofs.Common.{◌≡◌, ◌≢◌, refl, sym, ap, subst, ◌∙◌, ℕ, ◌≤◌, true, IsTrue, Option, Some, None, Result, Ok, Err, List, [], ◌∷◌, length, slice_set, arith}
 use Rattle.std.proofs.lemmas.List.{length-set}
 use Rattle.ps_store.specs.declared.key.Key.{Key}
 use Rattle.ps_store.specs.declared.object.Mark.{Mark}
@@ -20,7 +20,7 @@ use Rattle.ps_step.specs.declared.fault.PsFault.TheVariants.{NoMemory}
 use Rattle.ps_step.specs.declared.item.Item.TheVariants.{Object}
 use Rattle.ps_step.specs.declared.machine.PsCore.{PsCore}
 use Rattle.ps_step.specs.State.{with_execution}
-use Rattle.ps_run.specs.Runs.{Answer, Runs, RunsObject}
+use Rattle.ps_run.specs.Runs.{Answer, Runs}
 use Rattle.ps_run.specs.Passes.{TakesNone}
 use Rattle.ps_run.proofs.Apart.{fewer}
 use Rattle.ps_force.specs.Forcing.{Forces, apart, forced_by, placing_left, placing, left_on, with_part}

@@ -1,5 +1,5 @@
 -- What the debugger's dialect looks up when values are printed, whatever functions of units are run on the way.
-use Rattle.std.specs.Prelude.{◌≡◌, ◌⊎◌, ℕ, ℤ, ◌^◌, ◌%◌, min, List, Option, Result, Ok, Err}
+use Rattle.std.specs.Prelude.{◌≡◌, ◌⊎◌, ℕ, ℤ, ◌^◌, ◌%◌, min, List, Ok, Err}
 use Rattle.std.specs.Int.{w8, cast_signed}
 use Rattle.ldb_words.specs.Word.{signed}
 use Rattle.ldb_words.specs.declared.kinds.Kind.{Kind}
