@@ -123,7 +123,7 @@ module _ {D : Type 0} (Op : Operates D) (prints : Printing Op) (s : StoreState) 
 
   -- The run of `ShowInt` appends the integer at the place, and leaves the room less one.
   pub int_run : (v r left : ℕ) (space : List ℕ) (place : ℤ) (type : Val) (d : D) (o : List PsObj) (under : List Item) → RoomFor 13 o under → v < 2 ^ 32 → r < 2 ^ 31
-      → FindsAt Op prints aim.first d d 6 (Key (codes "w") ∷ Obj (Int place) ∷ Key space ∷ []) (Int (word v) ∷ [])
+      → FindsAt Op prints s aim.first d d 6 (Key (codes "w") ∷ Obj (Int place) ∷ Key space ∷ []) (Int (word v) ∷ [])
       → Ends Op prints s ds aim left (prints.append d (signed_decimal (word v))) (Int (pos r) ∷ o) under
       → On Op prints s ds digits holds aim o under (showint_steps v left) d (state (showint_body ∷ []) (type ∷ Obj (Int place) ∷ Key space ∷ Obj (Int (pos (suc r))) ∷ []))
   int_run v r left space place type d o under room h small known g =
@@ -144,7 +144,7 @@ module _ {D : Type 0} (Op : Operates D) (prints : Printing Op) (s : StoreState) 
 
   -- The run of `ShowUnsigned` appends the unsigned number at the place, and leaves the room less one.
   pub unsigned_run : (v r left : ℕ) (space : List ℕ) (place : ℤ) (type : Val) (d : D) (o : List PsObj) (under : List Item) → RoomFor 13 o under → v < 2 ^ 32 → r < 2 ^ 31
-      → FindsAt Op prints aim.first d d 6 (Key (codes "w") ∷ Obj (Int place) ∷ Key space ∷ []) (Int (word v) ∷ [])
+      → FindsAt Op prints s aim.first d d 6 (Key (codes "w") ∷ Obj (Int place) ∷ Key space ∷ []) (Int (word v) ∷ [])
       → Ends Op prints s ds aim left (prints.append d (decimal v)) (Int (pos r) ∷ o) under
       → On Op prints s ds digits holds aim o under (showunsigned_steps v left) d (state (showunsigned_body ∷ []) (type ∷ Obj (Int place) ∷ Key space ∷ Obj (Int (pos (suc r))) ∷ []))
   unsigned_run v r left space place type d o under room h small known g =

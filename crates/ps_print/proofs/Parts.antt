@@ -141,10 +141,10 @@ module _ {D : Type 0} (Op : Operates D) (prints : Printing Op) (s : StoreState) 
 
   -- a value is fetched
   pub fetch_goes : (rest : Code) (ks : List Code) (space kind : List ℕ) (n v : ℤ) (vs : List Val) (left : ℕ) (d : D)
-      → FindsAt Op prints aim.first d d 6 (Key kind ∷ Obj (Int n) ∷ Key space ∷ []) (Int v ∷ [])
+      → FindsAt Op prints s aim.first d d 6 (Key kind ∷ Obj (Int n) ∷ Key space ∷ []) (Int v ∷ [])
       → On left d (state (entered rest ks) (Obj (Int v) ∷ vs)) → On (suc left) d (state (Word (codes "fetch") rest ∷ ks) (Key kind ∷ Obj (Int n) ∷ Key space ∷ vs))
   fetch_goes rest ks space kind n v vs left d known g =
-      goes_found Op prints s ds (words digits) holds.knows aim o under 67 6 (codes "fetch") rest ks (Key kind ∷ Obj (Int n) ∷ Key space ∷ []) (Int v ∷ []) vs left d d holds.fetch refl refl tt known g
+      goes_found Op prints s ds (words digits) holds.knows aim o under 67 6 (codes "fetch") rest ks (Key kind ∷ Obj (Int n) ∷ Key space ∷ []) (Int v ∷ []) vs left d d holds.fetch refl refl known g
 
   pub uadd_goes : (rest : Code) (ks : List Code) (a b : ℕ) (vs : List Val) (n : ℕ) (d : D) → a < 2 ^ 32 → b < 2 ^ 32
       → On n d (state (entered rest ks) (Obj (Int (word ((a + b) % 2 ^ 32))) ∷ vs)) → On (suc n) d (state (Word (codes "uadd") rest ∷ ks) (Obj (Int (word b)) ∷ Obj (Int (word a)) ∷ vs))
@@ -182,26 +182,26 @@ module _ {D : Type 0} (Op : Operates D) (prints : Printing Op) (s : StoreState) 
   put_char_goes rest ks v vs n d g = one_goes 90 29 (codes "PutChar") rest ks v (prints.char_text v) vs n d holds.put_char refl refl (λ c xs e. prints.put_char d c v xs e) g
 
   -- what an operator gives that appends nothing
-  pub told_nothing : (d : D) (op : ℕ) (taken : List Val) (left : List PsObj) (t : List ℕ) → Finds Op prints aim.first d op taken left [] → FindsAt Op prints aim.first (prints.append d t) (prints.append d t) op taken left
-  told_nothing d op taken left t known = subst (λ l. FindsAt Op prints aim.first (prints.append d t) (prints.append d l) op taken left) (append-nil t) (known t)
+  pub told_nothing : (d : D) (op : ℕ) (taken : List Val) (left : List PsObj) (t : List ℕ) → Finds Op prints s aim.first d op taken left [] → FindsAt Op prints s aim.first (prints.append d t) (prints.append d t) op taken left
+  told_nothing d op taken left t known = subst (λ l. FindsAt Op prints s aim.first (prints.append d t) (prints.append d l) op taken left) (append-nil t) (known t)
 
-  pub put_pointer_goes : (rest : Code) (ks : List Code) (v : ℤ) (text : List ℕ) (vs : List Val) (n : ℕ) (d : D) (t : List ℕ) → PutsPointer Op prints aim.first d v text
+  pub put_pointer_goes : (rest : Code) (ks : List Code) (v : ℤ) (text : List ℕ) (vs : List Val) (n : ℕ) (d : D) (t : List ℕ) → PutsPointer Op prints s aim.first d v text
       → On n (prints.append d (t ++ text)) (state (entered rest ks) vs) → On (suc n) (prints.append d t) (state (Word (codes "PutPointer") rest ∷ ks) (Obj (Int v) ∷ vs))
   put_pointer_goes rest ks v text vs n d t known g =
-      goes_found Op prints s ds (words digits) holds.knows aim o under 91 30 (codes "PutPointer") rest ks (Obj (Int v) ∷ []) [] vs n (prints.append d t) (prints.append d (t ++ text)) holds.put_pointer refl refl tt (known t) g
+      goes_found Op prints s ds (words digits) holds.knows aim o under 91 30 (codes "PutPointer") rest ks (Obj (Int v) ∷ []) [] vs n (prints.append d t) (prints.append d (t ++ text)) holds.put_pointer refl refl (known t) g
 
   -- how many characters lie where a pointer leads
-  pub charrun_goes : (rest : Code) (ks : List Code) (v : ℤ) (count : ℕ) (vs : List Val) (n : ℕ) (d : D) (t : List ℕ) → Counts Op prints aim.first d v count
+  pub charrun_goes : (rest : Code) (ks : List Code) (v : ℤ) (count : ℕ) (vs : List Val) (n : ℕ) (d : D) (t : List ℕ) → Counts Op prints s aim.first d v count
       → On n (prints.append d t) (state (entered rest ks) (Obj (Int (pos count)) ∷ vs)) → On (suc n) (prints.append d t) (state (Word (codes "charrun") rest ∷ ks) (Obj (Int v) ∷ vs))
   charrun_goes rest ks v count vs n d t known g =
-      goes_found Op prints s ds (words digits) holds.knows aim o under 93 32 (codes "charrun") rest ks (Obj (Int v) ∷ []) (Int (pos count) ∷ []) vs n (prints.append d t) (prints.append d t) holds.charrun refl refl tt
+      goes_found Op prints s ds (words digits) holds.knows aim o under 93 32 (codes "charrun") rest ks (Obj (Int v) ∷ []) (Int (pos count) ∷ []) vs n (prints.append d t) (prints.append d t) holds.charrun refl refl
       (told_nothing d 32 (Obj (Int v) ∷ []) (Int (pos count) ∷ []) t known) g
 
   -- a string at a place is appended
-  pub put_chars_goes : (rest : Code) (ks : List Code) (space : List ℕ) (v : ℤ) (count : ℕ) (text : List ℕ) (vs : List Val) (n : ℕ) (d : D) (t : List ℕ) → PutsChars Op prints aim.first d space v count text
+  pub put_chars_goes : (rest : Code) (ks : List Code) (space : List ℕ) (v : ℤ) (count : ℕ) (text : List ℕ) (vs : List Val) (n : ℕ) (d : D) (t : List ℕ) → PutsChars Op prints s aim.first d space v count text
       → On n (prints.append d (t ++ text)) (state (entered rest ks) vs) → On (suc n) (prints.append d t) (state (Word (codes "PutChars") rest ∷ ks) (Obj (Int (pos count)) ∷ Obj (Int v) ∷ Key space ∷ vs))
   put_chars_goes rest ks space v count text vs n d t known g =
-      goes_found Op prints s ds (words digits) holds.knows aim o under 92 31 (codes "PutChars") rest ks (Obj (Int (pos count)) ∷ Obj (Int v) ∷ Key space ∷ []) [] vs n (prints.append d t) (prints.append d (t ++ text)) holds.put_chars refl refl tt (known t) g
+      goes_found Op prints s ds (words digits) holds.knows aim o under 92 31 (codes "PutChars") rest ks (Obj (Int (pos count)) ∷ Obj (Int v) ∷ Key space ∷ []) [] vs n (prints.append d t) (prints.append d (t ++ text)) holds.put_chars refl refl (known t) g
 
   -- an element of an array
   pub element_goes : (rest : Code) (ks : List Code) (a : ArrayId) (e : Bool) (i : ℕ) (y : PsObj) (vs : List Val) (n : ℕ) (d : D) → slice_get (elements_of s a) i ≡ Some y

@@ -60,29 +60,30 @@ module _ {D : Type 0} (Op : Operates D) (prints : Printing Op) (s first : StoreS
 
 -- ---- where no operator needs a unit
 
-module _ {D : Type 0} (Op : Operates D) (needs : D → PsCore → ℕ → Bool) (none_needs : (d : D) (c : PsCore) (op : ℕ) → needs d c op ≡ false) where
-  looked_same : (first now : StoreState) (j : ℕ) → Looked Op needs first now j → (now ≡ first) × (j ≡ 0)
-  looked_same _ _ _ nothing = (refl, refl)
-  looked_same _ _ _ (after d d' c c' op n k i j looked some operates settled sum) = absurd (true≢false (sym some ∙ none_needs d c op))
+module _ {D : Type 0} (Op : Operates D) (needs : D → PsCore → ℕ → Bool) (s : StoreState) (none_needs : (d : D) (c : PsCore) (op j : ℕ) → Looked Op needs s c.store j → needs d c op ≡ false) where
+  looked_same : (now : StoreState) (j : ℕ) → Looked Op needs s now j → (now ≡ s) × (j ≡ 0)
+  looked_same _ _ nothing = (refl, refl)
+  looked_same _ _ (after d d' c c' op n k i j looked some operates settled sum) = absurd (true≢false (sym some ∙ none_needs d c op i looked))
 
-  leads : (s : StoreState) (ds : List DictId) (n left : ℕ) (d d' : D) (operands o : List PsObj) (items under : List Item) → Comes Op needs s n d (core s ds operands items) ds left d' o under
+  leads : (ds : List DictId) (n left : ℕ) (d d' : D) (operands o : List PsObj) (items under : List Item) → Comes Op needs s n d (core s ds operands items) ds left d' o under
       → Leads Op n d (core s ds operands items) left d' (core s ds o under)
-  leads s ds n left d d' operands o items under comes r m d₂ c₂ other run = by_fare r m d₂ c₂ (comes r m d₂ c₂ other run)
+  leads ds n left d d' operands o items under comes r m d₂ c₂ other run = by_fare r m d₂ c₂ (comes r m d₂ c₂ other run)
     where
       by_fare : (r : Answer) (m : ℕ) (d₂ : D) (c₂ : PsCore) → Fares Op needs s ds left d' o under r m d₂ c₂ → Runs Op left d' (core s ds o under) r m d₂ c₂
       by_fare _ _ _ _ (arrives r m d₂ c₂ now k j looked sum rest) =
-          let same = looked_same s now j looked in
+          let same = looked_same now j looked in
           subst (λ q. Runs Op q d' (core s ds o under) r m d₂ c₂) (let none = same.1 in omega (arith, sum))
           (subst (λ q. Runs Op k d' (core q ds o under) r m d₂ c₂) same.0 rest)
-      by_fare _ _ _ _ (fails r m d₂ c₂ d₁ c₁ op k j f looked some met given) = absurd (true≢false (sym some ∙ none_needs d₁ c₁ op))
-      by_fare _ _ _ _ (starves m d₂ c₂ now j looked less) = let none = (looked_same s now j looked).1 in absurd (omega arith)
+      by_fare _ _ _ _ (fails r m d₂ c₂ d₁ c₁ op k j f looked some met given) = absurd (true≢false (sym some ∙ none_needs d₁ c₁ op j looked))
+      by_fare _ _ _ _ (starves m d₂ c₂ now j looked less) = let none = (looked_same now j looked).1 in absurd (omega arith)
 
 -- a value is printed at once
 pub printed_at_once : {D : Type 0} (Op : Operates D) (prints : Printing Op) (s : StoreState) (ds : List DictId) (digits : ArrayId) (d : D) (space : List ℕ) (defs : List StructDef) (t : CType) (type : DictId) (place : ℕ) (xs : List Showing) (i : Thing) (left : ℕ)
-    (operands o : List PsObj) (items under : List Item) → ((d : D) (c : PsCore) (op : ℕ) → prints.needs d c op ≡ false) → Holds s ds digits → Laid Op prints s s d space defs 63 t type place xs i → RoomFor 400 o under
+    (operands o : List PsObj) (items under : List Item) → ((d : D) (c : PsCore) (op j : ℕ) → Looked Op prints.needs s c.store j → prints.needs d c op ≡ false) → Holds s ds digits
+    → Laid Op prints s s d space defs 63 t type place xs i → RoomFor 400 o under
     → Are s operands (Obj (Dict type) ∷ Obj (Int (word place)) ∷ Key space ∷ []) → Frames s under items (print_body ∷ [])
     → Leads Op (print_steps i left) d (core s ds (operands ++ o) items) left (prints.append d (shown defs t xs)) (core s ds o under)
 printed_at_once {D} Op prints s ds digits d space defs t type place xs i left operands o items under none_needs holds laid room are frames =
-    leads Op prints.needs none_needs s ds (print_steps i left) left d (prints.append d (shown defs t xs)) (operands ++ o) o items under
+    leads Op prints.needs s none_needs ds (print_steps i left) left d (prints.append d (shown defs t xs)) (operands ++ o) o items under
     (printed Op prints s s ds digits d space defs t type place xs i left operands o items under holds
-    (λ now j looked. subst (λ q. Keeps s ds q) (sym (looked_same Op prints.needs none_needs s now j looked).0) (keeps_same s ds)) laid room are frames)
+    (λ now j looked. subst (λ q. Keeps s ds q) (sym (looked_same Op prints.needs s none_needs now j looked).0) (keeps_same s ds)) laid room are frames)

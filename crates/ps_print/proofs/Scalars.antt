@@ -41,7 +41,7 @@ module _ {D : Type 0} (Op : Operates D) (prints : Printing Op) (s : StoreState) 
     counted t g = count_goes Op prints s ds digits holds aim r left (prints.append d t) o under room small g
 
     -- the run of `ShowChar` appends the character's form
-    char_run : (n : ℤ) (place : ℤ) (type : Val) (t : List ℕ) → Fetches Op prints aim.first d space place (codes "c") n → Then (t ++ prints.char_text n)
+    char_run : (n : ℤ) (place : ℤ) (type : Val) (t : List ℕ) → Fetches Op prints s aim.first d space place (codes "c") n → Then (t ++ prints.char_text n)
         → Here (showchar_steps left) t (state (showchar_body ∷ []) (type ∷ Obj (Int place) ∷ Key space ∷ space_left))
     char_run n place type t known g =
         on 2 (suc (suc (further 2 left))) t (state (showchar_body ∷ []) (type ∷ Obj (Int place) ∷ Key space ∷ space_left))
@@ -62,7 +62,7 @@ module _ {D : Type 0} (Op : Operates D) (prints : Printing Op) (s : StoreState) 
         subst (λ b. Here (further 4 (further 2 left)) t (state (pointer_choice ∷ []) (Obj (Truth b) ∷ Obj (Int n) ∷ space_left))) (sym test)
         (on 4 (further 2 left) t (state (pointer_choice ∷ []) (Obj (Truth false) ∷ Obj (Int n) ∷ space_left)) (state (showint_rest ∷ []) space_left) refl (counted t g))
 
-    to_count : (n : ℤ) (kind t : List ℕ) (count m : ℕ) → bytes_eq kind (codes "char") ≡ true → Counts Op prints aim.first d n count
+    to_count : (n : ℤ) (kind t : List ℕ) (count m : ℕ) → bytes_eq kind (codes "char") ≡ true → Counts Op prints s aim.first d n count
         → Here m t (state (pointer_some ∷ showint_rest ∷ []) (Obj (Truth (int_eq (pos count) (pos 0))) ∷ Obj (Int (pos count)) ∷ Obj (Int n) ∷ space_left))
         → Here (further 3 (further 1 (suc (further 3 m)))) t (state (pointer_choice ∷ []) (Obj (Truth (bytes_eq kind (codes "char"))) ∷ Obj (Int n) ∷ space_left))
     to_count n kind t count m test known g =
@@ -73,15 +73,15 @@ module _ {D : Type 0} (Op : Operates D) (prints : Printing Op) (s : StoreState) 
         (on 3 m t (state (pointer_count ∷ showint_rest ∷ []) (Obj (Int (pos count)) ∷ Obj (Int n) ∷ space_left))
         (state (pointer_some ∷ showint_rest ∷ []) (Obj (Truth (int_eq (pos count) (pos 0))) ∷ Obj (Int (pos count)) ∷ Obj (Int n) ∷ space_left)) refl g))))
 
-    dangling_run : (n : ℤ) (kind t : List ℕ) → bytes_eq kind (codes "char") ≡ true → Counts Op prints aim.first d n 0 → Then t
+    dangling_run : (n : ℤ) (kind t : List ℕ) → bytes_eq kind (codes "char") ≡ true → Counts Op prints s aim.first d n 0 → Then t
         → Here (tail_steps Dangling left) t (state (pointer_choice ∷ []) (Obj (Truth (bytes_eq kind (codes "char"))) ∷ Obj (Int n) ∷ space_left))
     dangling_run n kind t test known g =
         to_count n kind t 0 (further 5 (further 2 left)) test known
         (subst (λ b. Here (further 5 (further 2 left)) t (state (pointer_some ∷ showint_rest ∷ []) (Obj (Truth b) ∷ Obj (Int (pos 0)) ∷ Obj (Int n) ∷ space_left))) (sym none_left)
         (on 5 (further 2 left) t (state (pointer_some ∷ showint_rest ∷ []) (Obj (Truth true) ∷ Obj (Int (pos 0)) ∷ Obj (Int n) ∷ space_left)) (state (showint_rest ∷ []) space_left) refl (counted t g)))
 
-    strung_run : (n : ℤ) (kind t string : List ℕ) (count : ℕ) → bytes_eq kind (codes "char") ≡ true → Counts Op prints aim.first d n (suc count)
-        → PutsChars Op prints aim.first d (codes "d") n (suc count) string → Then (t ++ (codes " " ++ string))
+    strung_run : (n : ℤ) (kind t string : List ℕ) (count : ℕ) → bytes_eq kind (codes "char") ≡ true → Counts Op prints s aim.first d n (suc count)
+        → PutsChars Op prints s aim.first d (codes "d") n (suc count) string → Then (t ++ (codes " " ++ string))
         → Here (tail_steps Strung left) t (state (pointer_choice ∷ []) (Obj (Truth (bytes_eq kind (codes "char"))) ∷ Obj (Int n) ∷ space_left))
     strung_run n kind t string count test known lies g =
         let t₁ : List ℕ = t ++ codes " " in
@@ -98,8 +98,8 @@ module _ {D : Type 0} (Op : Operates D) (prints : Printing Op) (s : StoreState) 
         (put_chars_goes Op prints s ds digits holds aim o under Stop (showint_rest ∷ []) (codes "d") n (suc count) string space_left (further 2 left) d t₁ lies
         (counted (t₁ ++ string) (subst Then (sym (append_assoc t (codes " ") string)) g))))))))
 
-    tail_run : (n : ℤ) (kind text t : List ℕ) (tail : Tail) → PointerText prints aim.first d kind n text tail → Then (t ++ text)
-        → (head : List ℕ) × PutsPointer Op prints aim.first d n head × Here (tail_steps tail left) (t ++ head) (state (pointer_choice ∷ []) (Obj (Truth (bytes_eq kind (codes "char"))) ∷ Obj (Int n) ∷ space_left))
+    tail_run : (n : ℤ) (kind text t : List ℕ) (tail : Tail) → PointerText prints s aim.first d kind n text tail → Then (t ++ text)
+        → (head : List ℕ) × PutsPointer Op prints s aim.first d n head × Here (tail_steps tail left) (t ++ head) (state (pointer_choice ∷ []) (Obj (Truth (bytes_eq kind (codes "char"))) ∷ Obj (Int n) ∷ space_left))
     tail_run n kind _ t _ (bare text test known) g = (text, known, bare_run n kind (t ++ text) test g)
     tail_run n kind _ t _ (dangling text test known none) g = (text, known, dangling_run n kind (t ++ text) test none g)
     tail_run n kind _ t _ (strung text string count test known some lies) g =
@@ -107,7 +107,7 @@ module _ {D : Type 0} (Op : Operates D) (prints : Printing Op) (s : StoreState) 
 
     -- the run of `ShowPointer` appends the pointer's text, and where it leads to characters their string
     pointer_goes : (type target : DictId) (kind text : List ℕ) (place n : ℤ) (t : List ℕ) (tail : Tail) → HasKey s type (codes "to") (Obj (Dict target)) → HasKey s target (codes "kind") (Key kind)
-        → Fetches Op prints aim.first d space place (codes "p") n → PointerText prints aim.first d kind n text tail → Then (t ++ text)
+        → Fetches Op prints s aim.first d space place (codes "p") n → PointerText prints s aim.first d kind n text tail → Then (t ++ text)
         → Here (showpointer_steps tail left) t (state (showpointer_body ∷ []) (Obj (Dict type) ∷ Obj (Int place) ∷ Key space ∷ space_left))
     pointer_goes type target kind text place n t tail to its_kind known shown g =
         let last = tail_run n kind text t tail shown g in
@@ -131,7 +131,7 @@ module _ {D : Type 0} (Op : Operates D) (prints : Printing Op) (s : StoreState) 
 
     -- the run of `ShowArray` appends the string of an array of characters
     string_run : (type item : DictId) (kind text : List ℕ) (place : ℤ) (count : ℕ) (t : List ℕ) → bytes_eq kind (codes "char") ≡ true → HasKey s type (codes "to") (Obj (Dict item))
-        → HasKey s type (codes "count") (Obj (Int (pos count))) → HasKey s item (codes "kind") (Key kind) → PutsChars Op prints aim.first d space place count text → Then (t ++ text)
+        → HasKey s type (codes "count") (Obj (Int (pos count))) → HasKey s item (codes "kind") (Key kind) → PutsChars Op prints s aim.first d space place count text → Then (t ++ text)
         → Here (string_steps left) t (state (showarray_body ∷ []) (Obj (Dict type) ∷ Obj (Int place) ∷ Key space ∷ space_left))
     string_run type item kind text place count t test to counts its_kind lies g =
         let own : List Val = Obj (Int place) ∷ Key space ∷ space_left in
@@ -164,7 +164,7 @@ module _ {D : Type 0} (Op : Operates D) (prints : Printing Op) (s : StoreState) 
       (state (show_kind ∷ []) (Key kind ∷ Obj (Dict type) ∷ vs)) (state (body ∷ []) (Obj (Dict type) ∷ vs)) by g))
 
   -- a character is shown
-  pub char_shows : (k : ℕ) (type : DictId) (place : ℕ) (n : ℤ) → HasKey s type (codes "kind") (Key (codes "char")) → Fetches Op prints aim.first d space (word place) (codes "c") n
+  pub char_shows : (k : ℕ) (type : DictId) (place : ℕ) (n : ℤ) → HasKey s type (codes "kind") (Key (codes "char")) → Fetches Op prints s aim.first d space (word place) (codes "c") n
       → Shows Op prints s ds digits holds aim k d type space 0 place (char_thing (prints.char_text n))
   char_shows k type place n kind known t r left o under room within g =
       shows_by k type place (codes "char") (showchar_steps left) left t r o under showchar_body 30 room kind refl
@@ -172,7 +172,7 @@ module _ {D : Type 0} (Op : Operates D) (prints : Printing Op) (s : StoreState) 
 
   -- a pointer is shown
   pub pointer_shows : (k : ℕ) (type target : DictId) (kind text : List ℕ) (place : ℕ) (n : ℤ) (tail : Tail) → HasKey s type (codes "kind") (Key (codes "pointer"))
-      → HasKey s type (codes "to") (Obj (Dict target)) → HasKey s target (codes "kind") (Key kind) → Fetches Op prints aim.first d space (word place) (codes "p") n → PointerText prints aim.first d kind n text tail
+      → HasKey s type (codes "to") (Obj (Dict target)) → HasKey s target (codes "kind") (Key kind) → Fetches Op prints s aim.first d space (word place) (codes "p") n → PointerText prints s aim.first d kind n text tail
       → Shows Op prints s ds digits holds aim k d type space 0 place (pointer_thing tail text)
   pointer_shows k type target kind text place n tail its to target_kind known shown t r left o under room within g =
       shows_by k type place (codes "pointer") (showpointer_steps tail left) left t r o under showpointer_body 30 room its refl
@@ -180,7 +180,7 @@ module _ {D : Type 0} (Op : Operates D) (prints : Printing Op) (s : StoreState) 
 
   -- an array of characters is shown
   pub string_shows : (k : ℕ) (type item : DictId) (kind text : List ℕ) (place count : ℕ) → bytes_eq kind (codes "char") ≡ true → HasKey s type (codes "kind") (Key (codes "array"))
-      → HasKey s type (codes "to") (Obj (Dict item)) → HasKey s type (codes "count") (Obj (Int (pos count))) → HasKey s item (codes "kind") (Key kind) → PutsChars Op prints aim.first d space (word place) count text
+      → HasKey s type (codes "to") (Obj (Dict item)) → HasKey s type (codes "count") (Obj (Int (pos count))) → HasKey s item (codes "kind") (Key kind) → PutsChars Op prints s aim.first d space (word place) count text
       → Shows Op prints s ds digits holds aim k d type space 0 place (string_thing text)
   string_shows k type item kind text place count test its to counts item_kind lies t r left o under room within g =
       shows_by k type place (codes "array") (string_steps left) left t r o under showarray_body 8 room its refl

@@ -32,7 +32,7 @@ less_fewer (suc r) = omega arith
 module _ {D : Type 0} (Op : Operates D) (prints : Printing Op) (s : StoreState) (ds : List DictId) (digits : ArrayId) (holds : Holds s ds digits) (aim : Aim Op prints s ds) (d : D) (space : List ℕ) where
   -- an integer is shown
   pub int_shows : (k : ℕ) (type : DictId) (place v : ℕ) → 13 ≤ k → v < 2 ^ 32 → HasKey s type (codes "kind") (Key (codes "int"))
-      → Fetches Op prints aim.first d space (word place) (codes "w") (word v) → Shows Op prints s ds digits holds aim k d type space 0 place (int_thing v)
+      → Fetches Op prints s aim.first d space (word place) (codes "w") (word v) → Shows Op prints s ds digits holds aim k d type space 0 place (int_thing v)
   int_shows k type place v deep h kind known t r left o under room within g =
       let room' : Room o under = room_here Op prints s ds digits holds aim k o under room in
       let own : List Val = Obj (Int (word place)) ∷ Key space ∷ Obj (Int (pos (suc r))) ∷ [] in
@@ -48,7 +48,7 @@ module _ {D : Type 0} (Op : Operates D) (prints : Printing Op) (s : StoreState) 
 
   -- an unsigned number is shown
   pub unsigned_shows : (k : ℕ) (type : DictId) (place v : ℕ) → 13 ≤ k → v < 2 ^ 32 → HasKey s type (codes "kind") (Key (codes "unsigned"))
-      → Fetches Op prints aim.first d space (word place) (codes "w") (word v) → Shows Op prints s ds digits holds aim k d type space 0 place (unsigned_thing v)
+      → Fetches Op prints s aim.first d space (word place) (codes "w") (word v) → Shows Op prints s ds digits holds aim k d type space 0 place (unsigned_thing v)
   unsigned_shows k type place v deep h kind known t r left o under room within g =
       let room' : Room o under = room_here Op prints s ds digits holds aim k o under room in
       let own : List Val = Obj (Int (word place)) ∷ Key space ∷ Obj (Int (pos (suc r))) ∷ [] in

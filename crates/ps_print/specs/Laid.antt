@@ -25,28 +25,28 @@ abbrev pub need : ℕ → ℕ
 need zero = 13
 need (suc k) = 6 + need k
 
-module _ {D : Type 0} (Op : Operates D) (prints : Printing Op) (first : StoreState) (d : D) where
+module _ {D : Type 0} (Op : Operates D) (prints : Printing Op) (s first : StoreState) (d : D) where
   -- `fetch` gives a value of a kind
   abbrev pub Fetches : List ℕ → ℤ → List ℕ → ℤ → Type 0
-  Fetches space n kind v = Finds Op prints first d 6 (Key kind ∷ Obj (Int n) ∷ Key space ∷ []) (Int v ∷ []) []
+  Fetches space n kind v = Finds Op prints s first d 6 (Key kind ∷ Obj (Int n) ∷ Key space ∷ []) (Int v ∷ []) []
 
   -- `PutChars` appends a string, `PutPointer` the text of a pointer
   abbrev pub PutsChars : List ℕ → ℤ → ℕ → List ℕ → Type 0
-  PutsChars space n count text = Finds Op prints first d 31 (Obj (Int (pos count)) ∷ Obj (Int n) ∷ Key space ∷ []) [] text
+  PutsChars space n count text = Finds Op prints s first d 31 (Obj (Int (pos count)) ∷ Obj (Int n) ∷ Key space ∷ []) [] text
 
   abbrev pub PutsPointer : ℤ → List ℕ → Type 0
-  PutsPointer n text = Finds Op prints first d 30 (Obj (Int n) ∷ []) [] text
+  PutsPointer n text = Finds Op prints s first d 30 (Obj (Int n) ∷ []) [] text
 
   -- `charrun` counts the characters where a pointer leads
   abbrev pub Counts : ℤ → ℕ → Type 0
-  Counts n count = Finds Op prints first d 32 (Obj (Int n) ∷ []) (Int (pos count) ∷ []) []
+  Counts n count = Finds Op prints s first d 32 (Obj (Int n) ∷ []) (Int (pos count) ∷ []) []
 
 -- the text of a pointer to a type of a kind, and what follows it
-pub data PointerText {D : Type 0} {Op : Operates D} (prints : Printing Op) (first : StoreState) (d : D) (kind : List ℕ) (n : ℤ) : List ℕ → Tail → Type 0 where
-  bare : (text : List ℕ) → bytes_eq kind (codes "char") ≡ false → PutsPointer Op prints first d n text → PointerText prints first d kind n text Bare
-  dangling : (text : List ℕ) → bytes_eq kind (codes "char") ≡ true → PutsPointer Op prints first d n text → Counts Op prints first d n 0 → PointerText prints first d kind n text Dangling
-  strung : (text string : List ℕ) (count : ℕ) → bytes_eq kind (codes "char") ≡ true → PutsPointer Op prints first d n text → Counts Op prints first d n (suc count)
-      → PutsChars Op prints first d (codes "d") n (suc count) string → PointerText prints first d kind n (text ++ (codes " " ++ string)) Strung
+pub data PointerText {D : Type 0} {Op : Operates D} (prints : Printing Op) (s first : StoreState) (d : D) (kind : List ℕ) (n : ℤ) : List ℕ → Tail → Type 0 where
+  bare : (text : List ℕ) → bytes_eq kind (codes "char") ≡ false → PutsPointer Op prints s first d n text → PointerText prints s first d kind n text Bare
+  dangling : (text : List ℕ) → bytes_eq kind (codes "char") ≡ true → PutsPointer Op prints s first d n text → Counts Op prints s first d n 0 → PointerText prints s first d kind n text Dangling
+  strung : (text string : List ℕ) (count : ℕ) → bytes_eq kind (codes "char") ≡ true → PutsPointer Op prints s first d n text → Counts Op prints s first d n (suc count)
+      → PutsChars Op prints s first d (codes "d") n (suc count) string → PointerText prints s first d kind n (text ++ (codes " " ++ string)) Strung
 
 -- a member of a struct, by its place in the array of members: an array of its name, its offset and its type
 pub record IsMember (s : StoreState) (members : ArrayId) (i offset : ℕ) (type : DictId) : Type 0 where
@@ -62,18 +62,18 @@ mutual
   -- of its types is in the one store; the operators give what they give, whatever look-ups make of the other.
   pub data Laid {D : Type 0} (Op : Operates D) (prints : Printing Op) (s first : StoreState) (d : D) (space : List ℕ) (defs : List StructDef) : ℕ → CType → DictId → ℕ → List Showing → Thing → Type 0 where
     an_int : (k : ℕ) (type : DictId) (place v : ℕ) → v < 2 ^ 32 → HasKey s type (codes "kind") (Key (codes "int"))
-        → Fetches Op prints first d space (word place) (codes "w") (word v) → Laid Op prints s first d space defs k IntType type place (Told (held.Number v) ∷ []) (int_thing v)
+        → Fetches Op prints s first d space (word place) (codes "w") (word v) → Laid Op prints s first d space defs k IntType type place (Told (held.Number v) ∷ []) (int_thing v)
     an_unsigned : (k : ℕ) (type : DictId) (place v : ℕ) → v < 2 ^ 32 → HasKey s type (codes "kind") (Key (codes "unsigned"))
-        → Fetches Op prints first d space (word place) (codes "w") (word v) → Laid Op prints s first d space defs k Unsigned type place (Told (held.Number v) ∷ []) (unsigned_thing v)
+        → Fetches Op prints s first d space (word place) (codes "w") (word v) → Laid Op prints s first d space defs k Unsigned type place (Told (held.Number v) ∷ []) (unsigned_thing v)
     a_char : (k : ℕ) (type : DictId) (place : ℕ) (n : ℤ) (x : Showing) → HasKey s type (codes "kind") (Key (codes "char"))
-        → Fetches Op prints first d space (word place) (codes "c") n → prints.char_text n ≡ leaf_text Char x → Laid Op prints s first d space defs k Char type place (x ∷ []) (char_thing (prints.char_text n))
+        → Fetches Op prints s first d space (word place) (codes "c") n → prints.char_text n ≡ leaf_text Char x → Laid Op prints s first d space defs k Char type place (x ∷ []) (char_thing (prints.char_text n))
     a_pointer : (k : ℕ) (b : Rc (Unit {0}) Global) (t : CType) (type target : DictId) (kind : List ℕ) (place : ℕ) (n : ℤ) (x : Showing) (text : List ℕ) (tail : Tail)
         → HasKey s type (codes "kind") (Key (codes "pointer")) → HasKey s type (codes "to") (Obj (Dict target)) → HasKey s target (codes "kind") (Key kind)
-        → Fetches Op prints first d space (word place) (codes "p") n → PointerText prints first d kind n text tail → text ≡ leaf_text (Pointer' b t) x
+        → Fetches Op prints s first d space (word place) (codes "p") n → PointerText prints s first d kind n text tail → text ≡ leaf_text (Pointer' b t) x
         → Laid Op prints s first d space defs k (Pointer' b t) type place (x ∷ []) (pointer_thing tail text)
     a_string : (k : ℕ) (b : Rc (Unit {0}) Global) (n : ℕ) (type item : DictId) (kind : List ℕ) (place : ℕ) (xs : List Showing) → bytes_eq kind (codes "char") ≡ true → length xs ≡ n
         → HasKey s type (codes "kind") (Key (codes "array")) → HasKey s type (codes "to") (Obj (Dict item)) → HasKey s type (codes "count") (Obj (Int (pos n)))
-        → HasKey s item (codes "kind") (Key kind) → PutsChars Op prints first d space (word place) n (string_text (map byte_of xs))
+        → HasKey s item (codes "kind") (Key kind) → PutsChars Op prints s first d space (word place) n (string_text (map byte_of xs))
         → Laid Op prints s first d space defs (suc k) (Array' b Char n) type place xs (string_thing (string_text (map byte_of xs)))
     an_array : (k : ℕ) (b : Rc (Unit {0}) Global) (t : CType) (n : ℕ) (type item : DictId) (kind : List ℕ) (size place : ℕ) (xs : List Showing) (is : List Thing)
         → is_char (Some t) ≡ false → bytes_eq kind (codes "char") ≡ false

@@ -59,21 +59,6 @@ pub are_objects : (s : StoreState) (xs : List PsObj) (ys : List PsObj) (vs : Lis
 are_objects s [] ys vs are = are
 are_objects s (x ∷ xs) ys vs are = more x (Obj x) (xs ++ ys) (map (λ x. Obj x) xs ++ vs) refl (are_objects s xs ys vs are)
 
--- operands without procedures stand as they do where the store holds what was known
-abbrev pub NoneQuoted : List Val → Type 0
-NoneQuoted [] = Unit {0}
-NoneQuoted (Quoted body ∷ vs) = ⊥
-NoneQuoted (v ∷ vs) = NoneQuoted vs
-
-are_kept : (s now : StoreState) (ds : List DictId) (xs : List PsObj) (vs : List Val) → Keeps s ds now → NoneQuoted vs → Are s xs vs → Are now xs vs
-are_kept s now ds _ _ keeps plain none = none
-are_kept s now ds _ _ keeps plain (more x (Obj y) xs vs is are) = more x (Obj y) xs vs is (are_kept s now ds xs vs keeps plain are)
-are_kept s now ds _ _ keeps plain (more x (Key name) xs vs is are) =
-    more x (Key name) xs vs (is.0, is.1, keeps.strings is.0 name is.2) (are_kept s now ds xs vs keeps plain are)
-are_kept s now ds _ _ keeps plain (more x (Bytes text) xs vs is are) =
-    more x (Bytes text) xs vs (is.0, is.1, keeps.strings is.0 text is.2) (are_kept s now ds xs vs keeps plain are)
-are_kept s now ds _ _ keeps plain (more x (Quoted body) xs vs is are) = absurd plain
-
 module _ {D : Type 0} (Op : Operates D) (prints : Printing Op) (s : StoreState) (ds : List DictId) (aim : Aim Op prints s ds) where
   -- each run from here, of which memory does not run out, comes to the aim
   abbrev pub Reaches : ℕ → D → PsCore → Type 0
@@ -210,9 +195,9 @@ module _ {D : Type 0} (Op : Operates D) (prints : Printing Op) (s : StoreState) 
 
   -- an operator whose answer is known of some operands, above others
   pub goes_found : (p op : ℕ) (name : List ℕ) (rest : Code) (ks : List Code) (taken : List Val) (left : List PsObj) (vs : List Val) (n : ℕ) (d d' : D)
-      → named s ds name ≡ Some (OpObj p) → operator_at p ≡ None → p - 61 ≡ op → NoneQuoted taken → FindsAt Op prints aim.first d d' op taken left
+      → named s ds name ≡ Some (OpObj p) → operator_at p ≡ None → p - 61 ≡ op → FindsAt Op prints s aim.first d d' op taken left
       → Goes n d' (state (entered rest ks) (map (λ x. Obj x) left ++ vs)) → Goes (suc n) d (state (Word name rest ∷ ks) (taken ++ vs))
-  goes_found p op name rest ks taken left vs n d d' means none_at numbers plain finds g =
+  goes_found p op name rest ks taken left vs n d d' means none_at numbers finds g =
       goes_sought p op name rest ks (taken ++ vs) (map (λ x. Obj x) left ++ vs) n d d' means none_at numbers does g
     where
       does : (now : StoreState) (j : ℕ) → Looked Op prints.needs aim.first now j → (xs : List PsObj) (items : List Item) → Are s xs (taken ++ vs)
@@ -225,7 +210,7 @@ module _ {D : Type 0} (Op : Operates D) (prints : Printing Op) (s : StoreState) 
             are_objects s left r.below vs r.are_below,
             λ k a d₁ c₁ k₁ operates. subst (λ l. Seeks (prints.needs d (core now ds (xs ++ o) items) op) d' (core now ds (xs ++ o) items) l k a d₁ c₁ k₁)
                 (sym (append_assoc left r.below o))
-                (finds (core now ds (xs ++ o) items) j r.own (r.below ++ o) looked (are_kept s now ds r.own taken (aim.stays now j looked) plain r.are_own) whole k a d₁ c₁ k₁ operates),
+                (finds (core now ds (xs ++ o) items) j r.own (r.below ++ o) looked r.are_own whole k a d₁ c₁ k₁ operates),
           )
 
   -- an operator of the manual, by what it makes

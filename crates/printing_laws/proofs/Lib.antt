@@ -1,0 +1,15 @@
+mod Printer
+mod Asking
+mod Leaving
+mod Units
+mod Finding
+mod Found
+mod Stores
+mod Parts
+mod Operators
+mod Steps
+mod Acts
+mod Runs
+mod Laid
+mod Reading
+mod Printed

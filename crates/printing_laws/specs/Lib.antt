@@ -1,0 +1,4 @@
+pub mod Lookups
+pub mod Dialect
+pub mod Lies
+pub mod Stays
