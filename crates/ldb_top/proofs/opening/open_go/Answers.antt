@@ -1,10 +1,25 @@
+use Rattle.std.proofs.Common.{ℕ, List, [], ◌∷◌, ◌∙◌, map, string_bytes, refl, sym, subst}
+use Rattle.std.specs.Global.{Vec}
+use Rattle.ldb_cc.specs.Scanning.{items_of}
+use Rattle.cc_call.specs.Found.{AreRead}
+use Rattle.ldb_top.specs.Names.{names_in_go}
+use Rattle.ldb_top.specs.Words.{Go}
+use Rattle.ldb_top.proofs.Opened.{file_why, input_why, go_opens}
 use Rattle.ldb_top.proofs.opening.open_go.Goals as goal
 
 pub returns-in-Err-clause-opens : goal.returns-in-Err-clause-opens
-returns-in-Err-clause-opens g c = ?
+returns-in-Err-clause-opens g c = λ known h.
+    let names = names_in_go c.args.request.now in
+    file_why Go names known [] names.about (names.input ∷ []) c.in-Err.stop refl refl (c.in-Err.ensures.finds known h)
 
 pub returns-in-Ok-read_input-clause-opens : goal.returns-in-Ok-read_input-clause-opens
-returns-in-Ok-read_input-clause-opens g c = ?
+returns-in-Ok-read_input-clause-opens g c = λ known h.
+    let sources = c.in-Ok.ensures.finds known h in
+    let input = c.in-Ok-read_input.ensures.finds known (c.in-Ok.ensures.same ∙ h) in
+    let read = subst (λ (texts : List (Vec ℕ)). AreRead known (map string_bytes c.args.request.now.sources.now) (map items_of texts)) (sym c.deref.ensures.value) sources.1 in
+    go_opens (names_in_go c.args.request.now) known (map items_of c.deref.result.now) c.open_texts.result sources.0 read input.0 input.1 c.open_texts.ensures.builds
 
 pub returns-clause-opens : goal.returns-clause-opens
-returns-clause-opens g c = ?
+returns-clause-opens g c = λ known h.
+    let sources = c.in-Ok.ensures.finds known h in
+    input_why Go (names_in_go c.args.request.now) known c.in-Err-read_input.stop sources.0 (c.in-Err-read_input.ensures.finds known (c.in-Ok.ensures.same ∙ h))
