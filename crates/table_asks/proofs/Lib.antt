@@ -1,0 +1,6 @@
+mod Outward
+pub mod Fair
+pub mod Framed
+pub mod Looking
+mod Named
+pub mod Binding

@@ -1,0 +1,3 @@
+pub mod Replies
+pub mod Framing
+pub mod Listing
