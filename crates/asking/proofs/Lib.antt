@@ -1,2 +1,3 @@
-pub mod Far
-pub mod Listing
+mod Far
+mod Listing
+mod Walked

@@ -1,6 +1,6 @@
 // `frames` and `frame`.
 
-ghost use Rattle.std.specs.Prelude.{◌≡◌, ◌≤◌, IfErr};
+ghost use Rattle.std.specs.Prelude.{◌≡◌, ◌≤◌, [], IfErr};
 ghost use Rattle.frame_bytes.specs.Bytes.{Bytes};
 ghost use Rattle.ps_store.specs.StoreState.{StoreState};
 ghost use Rattle.ps_store.specs.Store.{closed_part};
@@ -106,7 +106,24 @@ fn reply_of(alloc: Global, all: &Listed) -> Result<Text, ListFault>
     }
 }
 
-/// The lines of all frames, in one walk. The context block is at the address.
+/// The reply of `frames` from the innermost frame on, in one walk.
+fn list_from<M: AbsMem>(
+    alloc: Global,
+    row: TargetRow,
+    table: &PsStore,
+    m: &mut M,
+    innermost: Frame,
+) -> Result<Text, ListFault>
+    ensures meaning { ListWalks (λ b. in_ok frames_reply (told_outward row table.now b 19999 0 innermost)) (M.seen m.old) result (M.seen m.new) }
+    ensures calls { LedList M.leads m.old result m.new }
+{
+    match list_outward(alloc, row, table, m, innermost) {
+        Err(fault) => Err(fault),
+        Ok(all) => reply_of(alloc, &all),
+    }
+}
+
+/// The reply of `frames`, in one walk. The context block is at the address.
 fn list_frames<M: AbsMem>(
     alloc: Global,
     row: TargetRow,
@@ -117,18 +134,14 @@ fn list_frames<M: AbsMem>(
     ensures meaning { ListWalks (λ b. in_ok frames_reply (told_frames row table.now b context)) (M.seen m.old) result (M.seen m.new) }
     ensures calls { LedList M.leads m.old result m.new }
 {
-    let all = match first(row, context, table, m) {
-        Err(fault) => return Err(ListFault::Walk(fault)),
-        Ok(None) => Listed {
-            count: 0,
-            lines: Text::new(alloc),
-        },
-        Ok(Some(frame)) => match list_outward(alloc, row, table, m, frame) {
-            Err(fault) => return Err(fault),
-            Ok(all) => all,
-        },
-    };
-    reply_of(alloc, &all)
+    match first(row, context, table, m) {
+        Err(fault) => Err(ListFault::Walk(fault)),
+        Ok(None) => {
+            let lines = Text::new(alloc);
+            reply_of(alloc, &Listed { count: 0, lines })
+        }
+        Ok(Some(frame)) => list_from(alloc, row, table, m, frame),
+    }
 }
 
 /// `frames`: the number of frames, and a line for each from the innermost one on.

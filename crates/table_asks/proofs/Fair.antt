@@ -176,10 +176,10 @@ pub record IsUnit (s : StoreState) (u : ℕ) (x : PsObj) : Type 0 where
   pub are : units_of s ≡ Ok units
   pub stands : slice_get units u ≡ Some x
 
-units_fair : (s : StoreState) → Fair s (units_of s)
+pub units_fair : (s : StoreState) → Fair s (units_of s)
 units_fair s = behind s (top_of s) (λ top. items_at s top (codes "units")) (missing s s.top) (λ top e. items_fair s top (codes "units"))
 
-unit_there : (s : StoreState) (us : List PsObj) → units_of s ≡ Ok us → (k : ℕ) (x : PsObj) → slice_get us k ≡ Some x → IsUnit s (0 + k) x
+pub unit_there : (s : StoreState) (us : List PsObj) → units_of s ≡ Ok us → (k : ℕ) (x : PsObj) → slice_get us k ≡ Some x → IsUnit s (0 + k) x
 unit_there s us e k x h = let is : k ≡ 0 + k = omega arith in subst (λ (j : ℕ). IsUnit s j x) is (record { units = us; are = e; stands = h })
 
 module _ {B : Type 0} (s : StoreState) where

@@ -78,7 +78,7 @@ module _ {A : Type 0} (q : StoreState → Walked A) (old now : Inquiry) (far : O
   pub table_wants : (new : Inquiry) → closed_part new.core.store ≡ closed_part now.core.store → Comes (Looks q) old (Err NoMemory) new
   table_wants new e = λ t. record { use_after = used_by now t; comes = far.on t (Err Wanting) (used_by now t) wanting; closed = sym e }
 
-  table_lacks : (l : Lack) (e : PsError) → q now.core.store ≡ Err l → kind_of l ≡ Some e → Comes (Looks q) old (Err (Raised e)) now
+  pub table_lacks : (l : Lack) (e : PsError) → q now.core.store ≡ Err l → kind_of l ≡ Some e → Comes (Looks q) old (Err (Raised e)) now
   table_lacks l e is kind = λ t. far.on t (Err (Kind e)) (used_by now t) (lacks is kind)
 
 module _ {A : Type 0} (q : StoreState → Walked A) (old now : Inquiry) (far : Onward q old now) (fair : Fair now.core.store (q now.core.store)) where

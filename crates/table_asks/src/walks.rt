@@ -2,7 +2,6 @@
 
 ghost use Rattle.std.specs.Prelude.{◌≡◌, Some, option_map};
 ghost use Rattle.frame_bytes.specs.Bytes.{Bytes};
-ghost use Rattle.ps_step.specs.Results.{◌>>=◌};
 ghost use Rattle.abs_mem.specs.Walking.{Walks, LedWalk, told_of};
 ghost use Rattle.table_read.specs.Reads.{in_ok};
 ghost use Rattle.table_model.specs.Frames.{outward_by, frame_at, told_frame, told_frame_at};
@@ -62,7 +61,7 @@ pub fn frame_numbered<M: AbsMem>(
 
 /// What a frame tells, as a walk does.
 fn place_told(table: &PsStore, number: u32, frame: &Frame) -> Result<Option<Point>, WalkFault>
-    ensures { in_ok (option_map (row_in table.now)) result ≡ told_of (told_frame table.now number frame.now >>= λ t. Ok (Some t)) }
+    ensures { in_ok (option_map (row_in table.now)) result ≡ told_of (in_ok (λ t. Some t) (told_frame table.now number frame.now)) }
 {
     match told_frame(table, number, frame) {
         Ok(place) => Ok(Some(place)),
@@ -71,6 +70,7 @@ fn place_told(table: &PsStore, number: u32, frame: &Frame) -> Result<Option<Poin
 }
 
 /// What the frame with a number tells, in one walk; none where there is no such frame.
+#[tactic(auto, using(crate::proofs::Told::told_fails, crate::proofs::Told::told_none, crate::proofs::Told::told_some))]
 pub fn place_numbered<M: AbsMem>(
     row: TargetRow,
     context: u32,
