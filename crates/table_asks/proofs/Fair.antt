@@ -14,6 +14,7 @@ use Rattle.table_model.specs.declared.lack.Lack.{Lack}
 use Rattle.table_model.specs.declared.lack.Lack.TheVariants as lack
 use Rattle.table_model.specs.Reading.{Walked, or_missing, entry, dict_in, items_in, text_in, number_in, dict_or_null, truth_in, dict_at, items_at, text_at, number_at, truth_at, top_of, first_from, first_in, all_from, all_in}
 use Rattle.table_model.specs.Rows.{units_of, functions_in, functions_of}
+use Rattle.table_read.specs.Reads.{in_ok}
 use Rattle.ps_bare.specs.Deferred.{IsDeferred}
 use Rattle.dialect_model.specs.Forcing.{deferred, deferred_in}
 
@@ -134,6 +135,10 @@ module _ (s : StoreState) (d : DictId) (name : List ℕ) where
 
   pub truth_fair : Fair s (truth_at s d name)
   truth_fair = behind s (entry s d name) truth_in entry_fair (λ y e. (reads s y).truth)
+
+pub mapped_fair : {A B : Type 0} (s : StoreState) (f : A → B) (w : Walked A) → Fair s w → Fair s (in_ok f w)
+mapped_fair s f (Ok x) h = gives s (f x)
+mapped_fair {B = B} s f (Err l) h = lacking B s l (h.lacks l refl)
 
 -- ---- lists
 
