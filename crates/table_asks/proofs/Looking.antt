@@ -148,14 +148,14 @@ module _ {R A : Type 0} (q : Bytes → StoreState → Walked A) (s u v : Seen R)
   shape_fails m h = (
     same_then s u v far.same h.0,
     on_told q s u v old now far (λ b. shape_of (q b now.core.store) ≡ Some m) (λ b. Comes (Looks (q b)) old (Err (Raised (shape_error m))) now) h.1
-    (λ b on e. let k = shape_kind now.core.store (q b now.core.store) m (fair b now.core.store) e in table_lacks (q b) old now on k.0 (shape_error m) k.1 k.2),
+        (λ b on e. let k = shape_kind now.core.store (q b now.core.store) m (fair b now.core.store) e in table_lacks (q b) old now on k.0 (shape_error m) k.1 k.2),
   )
 
   outside_fails : (o : OnTold u (λ b. q b now.core.store ≡ Err lack.Outside)) → Same u v → ComesOver (λ b. Looks (q b)) old s (Err (Raised RangeCheck)) now v
   outside_fails h same = (
     same_then s u v far.same same,
     on_told q s u v old now far (λ b. q b now.core.store ≡ Err lack.Outside) (λ b. Comes (Looks (q b)) old (Err (Raised RangeCheck)) now) h
-    (λ b on e. table_lacks (q b) old now on lack.Outside RangeCheck e refl),
+        (λ b on e. table_lacks (q b) old now on lack.Outside RangeCheck e refl),
   )
 
   told_fails : (n : ℕ) (f : AskFault) (new : Inquiry) → OnTold u (λ b. q b now.core.store ≡ Err (lack.Unforced n)) → RunsUnit n now (Err f) new → OnTold s (λ b. Comes (Looks (q b)) old (Err f) new)

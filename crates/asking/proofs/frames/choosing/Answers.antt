@@ -25,7 +25,7 @@ returns-in-Ok-None-clause-meaning g c =
     let new = c.frame_told.new.inquiry in
     let is : c.in-Ok-None.field-0 ≡ None = cc in
     let told =
-        subst (λ (o : Option Point). ComesOver (λ (b : Bytes). Looks (λ (s : StoreState). told_frame_at (row_of_target c.args.talk.now.view.target) s b c.args.talk.now.view.context c.args.number)) c.args.inquiry.now (seen start) (Ok (option_map (row_in new.core.store) o)) new (seen end))
-        is c.in-Ok-None.ensures.meaning in
+    subst (λ (o : Option Point). ComesOver (λ (b : Bytes). Looks (λ (s : StoreState). told_frame_at (row_of_target c.args.talk.now.view.target) s b c.args.talk.now.view.context c.args.number)) c.args.inquiry.now (seen start) (Ok (option_map (row_in new.core.store) o)) new (seen end))
+    is c.in-Ok-None.ensures.meaning in
     behind_refusal (λ (b : Bytes). Looks (λ (s : StoreState). told_frame_at (row_of_target c.args.talk.now.view.target) s b c.args.talk.now.view.context c.args.number)) (λ (b : Bytes). frame_reply c.args.number) c.args.inquiry.now new (seen start) (seen end) None NoFrame told
     (λ b u. (refl, refl))
