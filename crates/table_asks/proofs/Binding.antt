@@ -1,10 +1,8 @@
 -- What comes behind a query.
-use Rattle.std.proofs.Common.{◌≡◌, refl, sym, ap, List, Result, Ok, Err}
+use Rattle.std.proofs.Common.{◌≡◌, refl, sym, ap, Result, Ok, Err}
 use Rattle.ps_store.specs.StoreState.{StoreState}
-use Rattle.ps_store.specs.Store.{closed_part}
-use Rattle.ps_step.specs.declared.fault.PsError.{PsError}
 use Rattle.frame_bytes.specs.Bytes.{Bytes}
-use Rattle.abs_mem.specs.Meaning.{Seen, Same, OnTold}
+use Rattle.abs_mem.specs.Meaning.{Seen, OnTold}
 use Rattle.abs_mem.specs.declared.memory.MemFault.TheVariants.{Outside, LinkFault, BadReply}
 use Rattle.table_model.specs.declared.lack.Lack.{Lack}
 use Rattle.table_model.specs.declared.lack.Lack.TheVariants as lack
@@ -15,7 +13,7 @@ use Rattle.table_asks.specs.declared.fault.Cause.{Cause}
 use Rattle.table_asks.specs.declared.fault.AskFault.{AskFault}
 use Rattle.table_asks.specs.declared.fault.AskFault.TheVariants.{Refused, Raised, Spent, NoMemory, Broken}
 use Rattle.table_asks.specs.declared.inquiry.Inquiry.{Inquiry}
-use Rattle.table_asks.specs.Asking.{used_by, WantedMemory, ComesFrom, Comes, ComesOver}
+use Rattle.table_asks.specs.Asking.{used_by, Comes, ComesOver}
 
 -- ---- a fault ends all
 

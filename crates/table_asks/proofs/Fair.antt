@@ -1,5 +1,5 @@
 -- What a query of frames and points may lack: never a type that is too deep, and of units only those whose functions are an executable string.
-use Rattle.std.proofs.Common.{◌≡◌, ◌∙◌, refl, sym, ap, subst, ℕ, zero, suc, ◌+◌, ◌-◌, arith, Bool, true, false, if◌then◌else◌, List, [], ◌∷◌, ◌++◌, slice_get, codes, Option, Some, None, Result, Ok, Err}
+use Rattle.std.proofs.Common.{◌≡◌, ◌∙◌, refl, ap, subst, ℕ, suc, ◌+◌, arith, Bool, true, false, List, [], ◌∷◌, ◌++◌, slice_get, codes, Option, Some, None, Ok, Err}
 use Rattle.ldb_words.specs.Word.{word_of_signed}
 use Rattle.ps_store.specs.declared.object.PsObj.{PsObj}
 use Rattle.ps_store.specs.declared.object.PsObj.TheVariants.{Int, Bool as Truth, Name, Str, Array, Dict, Op, Mark as MarkObject, Null}
@@ -12,11 +12,11 @@ use Rattle.ps_store.specs.Entries.{value_at}
 use Rattle.ps_step.specs.Results.{◌>>=◌}
 use Rattle.table_model.specs.declared.lack.Lack.{Lack}
 use Rattle.table_model.specs.declared.lack.Lack.TheVariants as lack
-use Rattle.table_model.specs.Reading.{Walked, or_missing, entry, dict_in, items_in, text_in, number_in, dict_or_null, truth_in, dict_at, items_at, text_at, number_at, truth_at, top_of, first_from, first_in, all_from, all_in}
+use Rattle.table_model.specs.Reading.{Walked, or_missing, entry, dict_in, items_in, text_in, number_in, dict_or_null, truth_in, items_at, text_at, number_at, truth_at, top_of, first_from, first_in, all_from, all_in}
 use Rattle.table_model.specs.Rows.{units_of, functions_in, functions_of}
 use Rattle.table_read.specs.Reads.{in_ok}
 use Rattle.ps_bare.specs.Deferred.{IsDeferred}
-use Rattle.dialect_model.specs.Forcing.{deferred, deferred_in}
+use Rattle.dialect_model.specs.Forcing.{deferred_in}
 
 -- ---- what a query may lack
 

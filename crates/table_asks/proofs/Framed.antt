@@ -1,5 +1,5 @@
 -- The same of frames, of what they tell, and of the symbols in scope there.
-use Rattle.std.proofs.Common.{◌≡◌, refl, ℕ, zero, suc, ◌-◌, ◌*◌, Bool, true, false, nat_eq, nat_le, nat_lt, ◌&&◌, if◌then◌else◌, List, [], ◌∷◌, ◌++◌, codes, Option, Some, None, Ok, Err}
+use Rattle.std.proofs.Common.{ℕ, zero, suc, ◌-◌, ◌*◌, Bool, true, false, nat_eq, nat_le, nat_lt, ◌&&◌, if◌then◌else◌, List, [], ◌∷◌, codes, Option, Some, None, Ok}
 use Rattle.ldb_words.specs.Word.{sum_of, difference_of}
 use Rattle.ldb_words.specs.declared.kinds.Kind.TheVariants.{Word}
 use Rattle.ps_store.specs.declared.object.PsObj.{PsObj}
@@ -9,16 +9,15 @@ use Rattle.ps_step.specs.Results.{◌>>=◌}
 use Rattle.frame_bytes.specs.Bytes.{Bytes, fetched, word_address}
 use Rattle.frame_bytes.specs.declared.frame.Frame.{Frame}
 use Rattle.frame_bytes.specs.declared.frame.Space.TheVariants.{Memory}
-use Rattle.table_model.specs.declared.lack.Lack.{Lack}
 use Rattle.table_model.specs.declared.lack.Lack.TheVariants as lack
 use Rattle.table_model.specs.declared.row.FunctionRow.{FunctionRow}
 use Rattle.table_model.specs.declared.row.TargetRow.{TargetRow}
 use Rattle.table_model.specs.declared.row.TargetRow.TheVariants.{Saving, Windows}
-use Rattle.table_model.specs.Reading.{Walked, or_outside, fetch_at, dict_in, items_in, items_at, number_in, number_at, text_at, dict_or_null, entry, first_in, all_in}
-use Rattle.table_model.specs.Rows.{PointRow, functions_of, covers, covering, covering_in, function_at, points_of, point_address, standing_at, point_at, nearest, point_below_from, point_below, or_no_point}
+use Rattle.table_model.specs.Reading.{Walked, or_outside, fetch_at, dict_in, items_in, items_at, number_in, number_at, text_at, first_in, all_in}
+use Rattle.table_model.specs.Rows.{PointRow, functions_of, covers, covering, covering_in, function_at, points_of, point_address, standing_at, nearest, point_below_from, or_no_point}
 use Rattle.table_model.specs.Frames.{Saved, saved_pair, saved_of, kept_at, words_from, preserved_places, saving_frame, window_places, window_frame, framed, context_word, frame_in, first_frame, caller_saving, next_saving, next_window, next_frame, MOST_FRAMES, outward_by, frame_at, point_in, point_of_row, point_of, told_row, told_frame, told_outward, told_frames, told_frame_at}
 use Rattle.table_model.specs.Symbols.{scope_of_point, scope_of}
-use Rattle.table_asks.proofs.Fair.{Fair, IsUnit, gives, lacking, wrong, behind, reads, entry_fair, items_fair, text_fair, number_fair, link_fair, first_in_fair, all_in_fair, units_first, functions_fair}
+use Rattle.table_asks.proofs.Fair.{Fair, IsUnit, gives, lacking, wrong, behind, reads, items_fair, text_fair, number_fair, link_fair, first_in_fair, all_in_fair, units_first, functions_fair}
 
 -- ---- functions and points
 

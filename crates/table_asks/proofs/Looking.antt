@@ -1,14 +1,13 @@
 -- A query of the table that is asked again and again, until it is answered.
-use Rattle.std.proofs.Common.{◌≡◌, ◌∙◌, refl, sym, ap, subst, ℕ, Bool, true, false, List, Option, Some, None, Result, Ok, Err}
-use Rattle.ldb_edge.specs.Count.{Rose}
+use Rattle.std.proofs.Common.{◌≡◌, ◌∙◌, refl, sym, ap, subst, ℕ, Bool, List, Option, Some, None, Result, Ok, Err}
 use Rattle.ps_store.specs.StoreState.{StoreState}
 use Rattle.ps_store.specs.Store.{closed_part}
 use Rattle.ps_step.specs.declared.fault.PsError.{PsError}
-use Rattle.ps_step.specs.declared.fault.PsError.TheVariants.{Undefined, TypeCheck, RangeCheck}
+use Rattle.ps_step.specs.declared.fault.PsError.TheVariants.{RangeCheck}
 use Rattle.ps_step.specs.declared.machine.PsCore.{PsCore}
 use Rattle.ps_run.specs.Runs.{Answer}
 use Rattle.frame_bytes.specs.Bytes.{Bytes}
-use Rattle.abs_mem.specs.Meaning.{Seen, Same, OnTold, Untold}
+use Rattle.abs_mem.specs.Meaning.{Seen, Same, OnTold}
 use Rattle.abs_mem.specs.Walking.{Walks, LedWalk, shape_of}
 use Rattle.abs_mem.specs.declared.memory.MemFault.TheVariants.{Outside, LinkFault, BadReply}
 use Rattle.abs_mem.specs.declared.walk.WalkFault.{WalkFault}
@@ -24,7 +23,7 @@ use Rattle.table_asks.specs.declared.fault.Cause.{Cause}
 use Rattle.table_asks.specs.declared.fault.AskFault.{AskFault}
 use Rattle.table_asks.specs.declared.fault.AskFault.TheVariants.{Refused, Raised, Spent, NoMemory, Broken}
 use Rattle.table_asks.specs.declared.inquiry.Inquiry.{Inquiry}
-use Rattle.table_asks.specs.Asking.{used_by, left_of, WantedMemory, ComesFrom, Comes, ComesOver, LedAsk, RunsUnit, Answers, SettlesLack, SettlesWalk, shape_error}
+use Rattle.table_asks.specs.Asking.{used_by, left_of, Comes, ComesOver, LedAsk, RunsUnit, Answers, SettlesLack, SettlesWalk, shape_error}
 use Rattle.table_asks.proofs.Fair.{Fair}
 
 -- ---- the run of a unit asks nothing of the stacks

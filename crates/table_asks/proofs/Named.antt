@@ -1,10 +1,10 @@
 -- The first symbol of a name on a chain: no unit is lacking for it.
-use Rattle.std.proofs.Common.{◌≡◌, refl, ℕ, zero, suc, ◌-◌, Bool, true, false, bytes_eq, List, codes, Option, Some, None, Ok, Err}
+use Rattle.std.proofs.Common.{◌≡◌, refl, ℕ, zero, suc, ◌-◌, Bool, true, false, bytes_eq, List, codes, Option, Some, None, Ok}
 use Rattle.ps_store.specs.declared.object.DictId.{DictId}
 use Rattle.ps_store.specs.StoreState.{StoreState}
 use Rattle.ps_step.specs.Results.{◌>>=◌}
 use Rattle.table_model.specs.declared.lack.Lack.{Lack}
-use Rattle.table_model.specs.Reading.{Walked, kind_of, entry, dict_or_null, text_at}
+use Rattle.table_model.specs.Reading.{Walked, kind_of, text_at}
 use Rattle.table_model.specs.Symbols.{MOST_SYMBOLS, uplink_of, named_among, symbol_named}
 use Rattle.ps_places.specs.Lacks.{error_of}
 use Rattle.table_asks.proofs.Fair.{LacksOnly, Usual, gives_any, behind_any, text_any, link_any}

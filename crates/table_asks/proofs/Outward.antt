@@ -1,5 +1,5 @@
 -- Frames outward of one, up to the one with a number.
-use Rattle.std.proofs.Common.{◌≡◌, ◌∙◌, ◌≤◌, ◌<◌, refl, ap, ℕ, suc, Bool, true, false, nat_le, Option, Some, None, Result, Ok, Err}
+use Rattle.std.proofs.Common.{◌≡◌, ◌∙◌, ◌≤◌, ◌<◌, ap, ℕ, suc, Bool, true, false, Option, Some, None, Result, Ok, Err}
 use Rattle.std.proofs.lemmas.Bool.{le-leb, lt-leb}
 use Rattle.ps_store.specs.StoreState.{StoreState}
 use Rattle.ps_step.specs.Results.{◌>>=◌}

@@ -1,5 +1,5 @@
 -- What becomes of what a query lacks.
-use Rattle.std.proofs.Common.{◌≡◌, ◌≢◌, ◌∙◌, refl, sym, subst, ℕ, Result, Ok, Err}
+use Rattle.std.proofs.Common.{◌≡◌, ◌≢◌, ◌∙◌, refl, sym, subst, ℕ, Ok, Err}
 use Rattle.ps_store.specs.Store.{closed_part}
 use Rattle.ps_step.specs.declared.fault.PsError.{PsError}
 use Rattle.ps_step.specs.declared.fault.PsFault.TheVariants.{Error, Spent as OutOfSteps, NoMemory as OutOfMemory}
@@ -13,7 +13,6 @@ use Rattle.table_model.specs.declared.lack.Lack.TheVariants as lack
 use Rattle.ps_places.specs.Lacks.{error_of}
 use Rattle.ps_bare.specs.Deferred.{IsDeferred}
 use Rattle.dialect_model.specs.Forcing.{ForcesUnit, idle}
-use Rattle.table_asks.specs.declared.fault.AskFault.{AskFault}
 use Rattle.table_asks.specs.declared.fault.AskFault.TheVariants.{Raised, Spent, NoMemory, Broken}
 use Rattle.table_asks.specs.declared.inquiry.Inquiry.{Inquiry}
 use Rattle.table_asks.specs.Asking.{left_of, SettlesLack, SettlesWalk}

@@ -1,5 +1,5 @@
 -- The same of points by their places.
-use Rattle.std.proofs.Common.{◌≡◌, refl, ℕ, ◌+◌, Bool, true, false, nat_eq, ◌&&◌, bytes_eq, List, codes, Option, Some, None, Ok}
+use Rattle.std.proofs.Common.{◌≡◌, ℕ, ◌+◌, true, false, nat_eq, ◌&&◌, bytes_eq, List, codes, Option, Some, None, Ok}
 use Rattle.ps_store.specs.declared.object.PsObj.{PsObj}
 use Rattle.ps_store.specs.declared.object.DictId.{DictId}
 use Rattle.ps_store.specs.StoreState.{StoreState}

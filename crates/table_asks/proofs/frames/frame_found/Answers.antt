@@ -1,4 +1,4 @@
-use Rattle.std.proofs.Common.{rules, ◌≡◌, ◌∙◌, refl, sym, subst, arith, List, ℕ, Option, None, Result, Ok, Err, option_map}
+use Rattle.std.proofs.Common.{◌∙◌, refl, subst, arith, Option, Ok, Err}
 use Rattle.ps_store.specs.StoreState.{StoreState}
 use Rattle.frame_bytes.specs.Bytes.{Bytes}
 use Rattle.frame_bytes.specs.declared.frame.Frame.{Frame}

@@ -1,7 +1,6 @@
-use Rattle.std.proofs.Common.{rules, ◌≡◌, ◌∙◌, refl, sym, subst, arith, List, ℕ, Option, None, Result, Ok, Err, option_map}
+use Rattle.std.proofs.Common.{◌∙◌, refl, subst, arith, Option, Ok, Err, option_map}
 use Rattle.ps_store.specs.StoreState.{StoreState}
 use Rattle.frame_bytes.specs.Bytes.{Bytes}
-use Rattle.frame_bytes.specs.declared.frame.Frame.{Frame}
 use Rattle.table_model.specs.declared.row.TargetRow.{TargetRow}
 use Rattle.table_model.specs.Frames.{told_frame_at}
 use Rattle.table_points.specs.declared.row.Point.{Point}

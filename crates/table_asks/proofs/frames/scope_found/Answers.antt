@@ -1,4 +1,4 @@
-use Rattle.std.proofs.Common.{◌≡◌, ◌∙◌, sym, arith, Ok, Err, option_map}
+use Rattle.std.proofs.Common.{◌∙◌, sym, arith}
 use Rattle.ps_store.specs.StoreState.{StoreState}
 use Rattle.table_model.specs.Symbols.{scope_of}
 use Rattle.table_asks.proofs.Framed.{scope_fair}

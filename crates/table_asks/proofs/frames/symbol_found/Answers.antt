@@ -1,4 +1,4 @@
-use Rattle.std.proofs.Common.{◌≡◌, sym, subst, Ok, Err}
+use Rattle.std.proofs.Common.{sym, subst, Err}
 use Rattle.ps_store.specs.StoreState.{StoreState}
 use Rattle.ps_step.specs.declared.fault.PsError.{PsError}
 use Rattle.ps_places.specs.Lacks.{error_of}

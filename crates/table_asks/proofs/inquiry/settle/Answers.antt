@@ -1,4 +1,4 @@
-use Rattle.std.proofs.Common.{◌≡◌, Ok, Err}
+use Rattle.std.proofs.Common.{◌≡◌, Err}
 use Rattle.ps_store.proofs.Settling.{settled_on}
 use Rattle.ps_step.specs.declared.fault.PsFault.TheVariants.{Error, Spent}
 use Rattle.table_asks.specs.declared.inquiry.Inquiry.{Inquiry}

@@ -1,4 +1,4 @@
-use Rattle.std.proofs.Common.{◌≡◌, ◌∙◌, sym, arith, Ok, Err, option_map}
+use Rattle.std.proofs.Common.{◌∙◌, sym, arith, option_map}
 use Rattle.ps_store.specs.StoreState.{StoreState}
 use Rattle.table_model.specs.Places.{spot_point}
 use Rattle.table_points.specs.Rows.{row_in}

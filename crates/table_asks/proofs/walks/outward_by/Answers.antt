@@ -1,4 +1,4 @@
-use Rattle.std.proofs.Common.{rules, ◌≡◌, ap, ℕ, suc, ◌+◌, ◌-◌, arith, subst, Option, Ok}
+use Rattle.std.proofs.Common.{rules, ◌≡◌, ap, suc, ◌+◌, ◌-◌, arith, subst, Option, Ok}
 use Rattle.std.proofs.lemmas.Result.{err_from_is_err_and}
 use Rattle.frame_bytes.specs.Bytes.{Bytes}
 use Rattle.frame_bytes.specs.declared.frame.Frame.{Frame}
