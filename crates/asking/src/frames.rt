@@ -1,17 +1,9 @@
 // `frames` and `frame`.
 
-ghost use Rattle.std.specs.Prelude.{◌≡◌, ◌≤◌, [], IfErr};
-ghost use Rattle.frame_bytes.specs.Bytes.{Bytes};
-ghost use Rattle.ps_store.specs.StoreState.{StoreState};
+ghost use Rattle.std.specs.Prelude.{◌≡◌, ◌≤◌, IfErr};
 ghost use Rattle.ps_store.specs.Store.{closed_part};
-ghost use Rattle.abs_mem.specs.Walking.{Walks};
-ghost use Rattle.table_read.specs.Reads.{in_ok};
-ghost use Rattle.table_model.specs.Frames.{row_of_target, told_frame, told_frames, told_outward};
-ghost use Rattle.table_asks.specs.Asking.{ComesOver, LedAsk};
 ghost use Rattle.table_asks.specs.Closing.{Settles};
 ghost use Rattle.table_asks.specs.Faults.{IsUnrefused};
-ghost use Rattle.asking.specs.Framing.{frames_reply, listing, choosing};
-ghost use Rattle.asking.specs.Listing.{AddsLine, listed, HasReply, ListWalks, LedList};
 
 use crate::lines::{append_frame, frames_text};
 use abs_mem::{AbsMem, WalkFault, told};
@@ -42,25 +34,6 @@ pub struct Listed {
     pub lines: Text,
 }
 
-/// Adds the line of the frame with a number.
-fn add_line(
-    alloc: Global,
-    table: &PsStore,
-    number: u32,
-    frame: &Frame,
-    lines: &mut Text,
-) -> Result<(), ListFault>
-    ensures { AddsLine number (told_frame table.now number frame.now) lines.old result lines.new }
-{
-    match told_frame(table, number, frame) {
-        Err(lack) => Err(ListFault::Walk(told(lack))),
-        Ok(place) => match append_frame(alloc, lines, table, number, place) {
-            Ok(()) => Ok(()),
-            Err(_) => Err(ListFault::NoMemory),
-        },
-    }
-}
-
 /// The lines from the innermost frame on, in one walk: each frame is told before the one outward of it is looked for, and none
 /// is kept.
 fn list_outward<M: AbsMem>(
@@ -69,18 +42,19 @@ fn list_outward<M: AbsMem>(
     table: &PsStore,
     m: &mut M,
     innermost: Frame,
-) -> Result<Listed, ListFault>
-    ensures meaning { ListWalks (λ b. listed 0 [] (told_outward row table.now b 19999 0 innermost)) (M.seen m.old) result (M.seen m.new) }
-    ensures calls { LedList M.leads m.old result m.new }
-{
+) -> Result<Listed, ListFault> {
     let mut lines = Text::new(alloc);
     let mut frame = innermost;
     for number in 0..MOST_FRAMES {
-        match add_line(alloc, table, number, &frame, &mut lines) {
-            Ok(()) => {}
-            Err(fault) => return Err(fault),
-        }
         let count = number + 1;
+        let place = match told_frame(table, number, &frame) {
+            Ok(place) => place,
+            Err(lack) => return Err(ListFault::Walk(told(lack))),
+        };
+        match append_frame(alloc, &mut lines, table, number, place) {
+            Ok(()) => {}
+            Err(_) => return Err(ListFault::NoMemory),
+        }
         if count == MOST_FRAMES {
             return Ok(Listed { count, lines });
         }
@@ -96,51 +70,21 @@ fn list_outward<M: AbsMem>(
     })
 }
 
-/// The reply of `frames`.
-fn reply_of(alloc: Global, all: &Listed) -> Result<Text, ListFault>
-    ensures { HasReply all.now result }
-{
-    match frames_text(alloc, all.count, &all.lines) {
-        Ok(text) => Ok(text),
-        Err(_) => Err(ListFault::NoMemory),
-    }
-}
-
-/// The reply of `frames` from the innermost frame on, in one walk.
-fn list_from<M: AbsMem>(
-    alloc: Global,
-    row: TargetRow,
-    table: &PsStore,
-    m: &mut M,
-    innermost: Frame,
-) -> Result<Text, ListFault>
-    ensures meaning { ListWalks (λ b. in_ok frames_reply (told_outward row table.now b 19999 0 innermost)) (M.seen m.old) result (M.seen m.new) }
-    ensures calls { LedList M.leads m.old result m.new }
-{
-    match list_outward(alloc, row, table, m, innermost) {
-        Err(fault) => Err(fault),
-        Ok(all) => reply_of(alloc, &all),
-    }
-}
-
-/// The reply of `frames`, in one walk. The context block is at the address.
+/// The lines of all frames, in one walk. The context block is at the address.
 fn list_frames<M: AbsMem>(
     alloc: Global,
     row: TargetRow,
     context: u32,
     table: &PsStore,
     m: &mut M,
-) -> Result<Text, ListFault>
-    ensures meaning { ListWalks (λ b. in_ok frames_reply (told_frames row table.now b context)) (M.seen m.old) result (M.seen m.new) }
-    ensures calls { LedList M.leads m.old result m.new }
-{
+) -> Result<Listed, ListFault> {
     match first(row, context, table, m) {
         Err(fault) => Err(ListFault::Walk(fault)),
-        Ok(None) => {
-            let lines = Text::new(alloc);
-            reply_of(alloc, &Listed { count: 0, lines })
-        }
-        Ok(Some(frame)) => list_from(alloc, row, table, m, frame),
+        Ok(None) => Ok(Listed {
+            count: 0,
+            lines: Text::new(alloc),
+        }),
+        Ok(Some(frame)) => list_outward(alloc, row, table, m, frame),
     }
 }
 
@@ -155,8 +99,6 @@ pub fn listing<W: AbsMem + Drop>(
     ensures more { inquiry.old.steps.taken ≤ inquiry.new.steps.taken }
     ensures closed { Settles (closed_part inquiry.old.core.store) (closed_part inquiry.new.core.store) }
     ensures unrefused { IfErr result (λ fault. IsUnrefused fault) }
-    ensures meaning { ComesOver (λ b. listing (row_of_target talk.old.view.target) b talk.old.view.context) inquiry.old (W.seen talk.old.memory.below.below.below) result inquiry.new (W.seen talk.new.memory.below.below.below) }
-    ensures calls { LedAsk W.leads talk.old.memory.below.below.below result talk.new.memory.below.below.below }
 {
     let row = row_of_target(talk.view.target);
     let context = talk.view.context;
@@ -164,7 +106,10 @@ pub fn listing<W: AbsMem + Drop>(
     let m = &mut talk.memory.below.below.below;
     'again: loop {
         match list_frames(alloc, row, context, &inquiry.core.store, m) {
-            Ok(text) => return Ok(text),
+            Ok(all) => match frames_text(alloc, all.count, &all.lines) {
+                Ok(text) => return Ok(text),
+                Err(_) => return Err(AskFault::NoMemory),
+            },
             Err(ListFault::NoMemory) => return Err(AskFault::NoMemory),
             Err(ListFault::Walk(fault)) => match settle_walk(inquiry, fault) {
                 Ok(()) => {}
@@ -185,8 +130,6 @@ pub fn choosing<W: AbsMem + Drop>(
     ensures limit { inquiry.new.steps.limit ≡ inquiry.old.steps.limit }
     ensures more { inquiry.old.steps.taken ≤ inquiry.new.steps.taken }
     ensures closed { Settles (closed_part inquiry.old.core.store) (closed_part inquiry.new.core.store) }
-    ensures meaning { ComesOver (λ b. choosing (row_of_target talk.old.view.target) b talk.old.view.context number) inquiry.old (W.seen talk.old.memory.below.below.below) result inquiry.new (W.seen talk.new.memory.below.below.below) }
-    ensures calls { LedAsk W.leads talk.old.memory.below.below.below result talk.new.memory.below.below.below }
 {
     match frame_told(inquiry, talk, number) {
         Err(fault) => Err(fault),

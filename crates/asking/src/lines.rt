@@ -1,8 +1,6 @@
 // Lines of replies.
 
 ghost use Rattle.std.specs.Prelude.{◌≡◌, ◌∷◌, ◌++◌, [], OnOk, IfOk, codes, decimal};
-ghost use Rattle.table_points.specs.Rows.{row_in};
-ghost use Rattle.asking.specs.Replies.{place_text, frame_text, lines_text};
 
 use ldb_words::Text;
 use ps_store::PsStore;
@@ -23,9 +21,7 @@ fn append_place(
     out: &mut Text,
     table: &PsStore,
     place: Point,
-) -> Result<(), AllocError>
-    ensures { OnOk result (out.new ≡ out.old ++ place_text (row_in table.now place)) }
-{
+) -> Result<(), AllocError> {
     out.append(table.string_get(place.file))?;
     out.append(b":")?;
     append_decimal(alloc, out, place.line)?;
@@ -40,9 +36,7 @@ pub fn append_frame(
     table: &PsStore,
     number: u32,
     place: Point,
-) -> Result<(), AllocError>
-    ensures { OnOk result (out.new ≡ out.old ++ lines_text (frame_text number (row_in table.now place) ∷ [])) }
-{
+) -> Result<(), AllocError> {
     out.append(b"frame ")?;
     append_decimal(alloc, out, number)?;
     out.append(b" ")?;
@@ -70,9 +64,7 @@ pub fn point_text(
     word: &[u8],
     table: &PsStore,
     place: Point,
-) -> Result<Text, AllocError>
-    ensures { IfOk result (λ t. t ≡ lines_text ((word.now ++ place_text (row_in table.now place)) ∷ [])) }
-{
+) -> Result<Text, AllocError> {
     let mut out = Text::new(alloc);
     out.append(word)?;
     append_place(alloc, &mut out, table, place)?;

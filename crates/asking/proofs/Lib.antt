@@ -1,3 +1,0 @@
-mod Far
-mod Listing
-mod Walked

@@ -1,3 +1,0 @@
-pub mod Replies
-pub mod Framing
-pub mod Listing
