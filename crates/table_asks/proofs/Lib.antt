@@ -1,0 +1,9 @@
+mod Outward
+mod Told
+mod Settled
+pub mod Fair
+pub mod Framed
+mod Spots
+pub mod Looking
+mod Named
+pub mod Binding

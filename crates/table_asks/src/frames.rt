@@ -1,40 +1,31 @@
 // Frames, what they tell, and the symbols in scope there.
 
-ghost use Rattle.std.specs.Prelude.{◌≡◌, ◌≤◌, IfOk, IfErr, Ok};
+ghost use Rattle.std.specs.Prelude.{◌≡◌, ◌≤◌, IfErr, option_map};
+ghost use Rattle.frame_bytes.specs.Bytes.{Bytes};
+ghost use Rattle.ps_store.specs.StoreState.{StoreState};
 ghost use Rattle.ps_store.specs.Store.{closed_part};
-ghost use Rattle.table_asks.specs.Closing.{Settles};
+ghost use Rattle.table_read.specs.Reads.{in_ok};
+ghost use Rattle.table_model.specs.Frames.{row_of_target, frame_at, told_frame_at};
 ghost use Rattle.table_model.specs.Symbols.{scope_of, symbol_named};
+ghost use Rattle.table_points.specs.Rows.{row_in};
+ghost use Rattle.dialect_model.specs.TableUse.{Looks};
+ghost use Rattle.table_asks.specs.Asking.{Comes, ComesOver, LedAsk};
+ghost use Rattle.table_asks.specs.Closing.{Settles};
+ghost use Rattle.table_asks.specs.Talking.{with_target};
 ghost use Rattle.table_asks.specs.Faults.{IsOwn, IsUnrefused};
 
 use crate::fault::AskFault;
 use crate::inquiry::{Inquiry, settle, settle_walk};
-use abs_mem::{AbsMem, WalkFault, told};
+use crate::walks::{frame_numbered, place_numbered};
+use abs_mem::AbsMem;
 use frame_bytes::Frame;
-use ps_ops::{Operators, frame_numbered};
+use ps_ops::Operators;
 use ps_places::error_of;
-use ps_store::{DictId, PsStore};
+use ps_store::DictId;
 use ps_symbols::symbol_named;
 use stack_walk::row_of_target;
-use table_model::TargetRow;
-use table_points::{Point, told_frame};
+use table_points::Point;
 use table_read::scope_of;
-
-/// What the frame with a number tells, in one walk; none where there is no such frame.
-fn walk_to<M: AbsMem>(
-    row: TargetRow,
-    context: u32,
-    table: &PsStore,
-    m: &mut M,
-    number: u32,
-) -> Result<Option<Point>, WalkFault> {
-    match frame_numbered(row, context, table, m, number)? {
-        None => Ok(None),
-        Some(frame) => match told_frame(table, number, &frame) {
-            Ok(place) => Ok(Some(place)),
-            Err(lack) => Err(told(lack)),
-        },
-    }
-}
 
 /// What the frame with a number tells; none where there is no such frame.
 pub fn frame_told<W: AbsMem + Drop>(
@@ -48,12 +39,15 @@ pub fn frame_told<W: AbsMem + Drop>(
     ensures more { inquiry.old.steps.taken ≤ inquiry.new.steps.taken }
     ensures closed { Settles (closed_part inquiry.old.core.store) (closed_part inquiry.new.core.store) }
     ensures unrefused { IfErr result (λ fault. IsUnrefused fault) }
+    ensures meaning { ComesOver (λ b. Looks (λ s. told_frame_at (row_of_target talk.old.view.target) s b talk.old.view.context number)) inquiry.old (W.seen talk.old.memory.below.below.below) (in_ok (option_map (row_in inquiry.new.core.store)) result) inquiry.new (W.seen talk.new.memory.below.below.below) }
+    ensures calls { LedAsk W.leads talk.old.memory.below.below.below result talk.new.memory.below.below.below }
+    ensures kept { talk.new ≡ with_target talk.old talk.new.memory.below.below.below }
 {
     let row = row_of_target(talk.view.target);
     let context = talk.view.context;
     let m = &mut talk.memory.below.below.below;
     'again: loop {
-        match walk_to(row, context, &inquiry.core.store, m, number) {
+        match place_numbered(row, context, &inquiry.core.store, m, number) {
             Ok(place) => return Ok(place),
             Err(fault) => match settle_walk(inquiry, fault) {
                 Ok(()) => {}
@@ -75,6 +69,9 @@ pub fn frame_found<W: AbsMem + Drop>(
     ensures more { inquiry.old.steps.taken ≤ inquiry.new.steps.taken }
     ensures closed { Settles (closed_part inquiry.old.core.store) (closed_part inquiry.new.core.store) }
     ensures unrefused { IfErr result (λ fault. IsUnrefused fault) }
+    ensures meaning { ComesOver (λ b. Looks (λ s. frame_at (row_of_target talk.old.view.target) s b talk.old.view.context number)) inquiry.old (W.seen talk.old.memory.below.below.below) result inquiry.new (W.seen talk.new.memory.below.below.below) }
+    ensures calls { LedAsk W.leads talk.old.memory.below.below.below result talk.new.memory.below.below.below }
+    ensures kept { talk.new ≡ with_target talk.old talk.new.memory.below.below.below }
 {
     let row = row_of_target(talk.view.target);
     let context = talk.view.context;
@@ -102,7 +99,7 @@ pub fn scope_found(
     ensures limit { inquiry.new.steps.limit ≡ inquiry.old.steps.limit }
     ensures more { inquiry.old.steps.taken ≤ inquiry.new.steps.taken }
     ensures closed { Settles (closed_part inquiry.old.core.store) (closed_part inquiry.new.core.store) }
-    ensures found { IfOk result (λ scope. scope_of inquiry.new.core.store number frame.now ≡ Ok scope) }
+    ensures meaning { Comes (Looks (λ s. scope_of s number frame.now)) inquiry.old result inquiry.new }
 {
     'again: loop {
         match scope_of(&inquiry.core.store, number, frame) {
@@ -122,7 +119,7 @@ pub fn symbol_found(
     name: &[u8],
 ) -> Result<Option<DictId>, AskFault>
     ensures own { IfErr result (λ fault. IsOwn fault) }
-    ensures found { IfOk result (λ symbol. symbol_named inquiry.now.core.store scope name.now ≡ Ok symbol) }
+    ensures meaning { Comes (Looks (λ s. symbol_named s scope name.now)) inquiry.now result inquiry.now }
 {
     match symbol_named(&inquiry.core.store, scope, name) {
         Ok(symbol) => Ok(symbol),

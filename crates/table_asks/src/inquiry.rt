@@ -6,6 +6,7 @@ ghost use Rattle.table_asks.specs.Closing.{Settles};
 ghost use Rattle.ps_store.specs.Cut.{IsMark};
 ghost use Rattle.ps_store.specs.declared.object.Part.TheVariants.{Command as CommandPart};
 ghost use Rattle.table_asks.specs.Faults.{IsOwn, IsUnrefused};
+ghost use Rattle.table_asks.specs.Asking.{SettlesLack, SettlesWalk};
 
 use crate::fault::{AskFault, fault_of_run};
 use abs_mem::{AbsMem, MemFault, WalkFault};
@@ -122,6 +123,7 @@ pub fn settle(inquiry: &mut Inquiry, lack: Lack) -> Result<(), AskFault>
     ensures more { inquiry.old.steps.taken ≤ inquiry.new.steps.taken }
     ensures some { OnOk result (inquiry.old.steps.taken < inquiry.new.steps.taken) }
     ensures closed { Settles (closed_part inquiry.old.core.store) (closed_part inquiry.new.core.store) }
+    ensures settles { SettlesLack lack inquiry.old result inquiry.new }
 {
     match lack {
         Lack::Unforced { unit } => {
@@ -145,6 +147,7 @@ pub fn settle_walk(inquiry: &mut Inquiry, fault: WalkFault) -> Result<(), AskFau
     ensures more { inquiry.old.steps.taken ≤ inquiry.new.steps.taken }
     ensures some { OnOk result (inquiry.old.steps.taken < inquiry.new.steps.taken) }
     ensures closed { Settles (closed_part inquiry.old.core.store) (closed_part inquiry.new.core.store) }
+    ensures settles { SettlesWalk fault inquiry.old result inquiry.new }
 {
     match fault {
         WalkFault::Unforced { unit } => settle(inquiry, Lack::Unforced { unit }),

@@ -6,6 +6,7 @@ mod fault;
 mod frames;
 mod inquiry;
 mod points;
+mod walks;
 
 pub use every::every_point;
 pub use fault::{AskFault, Cause, fault_of_run, memory_fault, raised};

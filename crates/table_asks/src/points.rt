@@ -1,10 +1,13 @@
 // Points by their places and names, with the units run that are met.
 
-ghost use Rattle.std.specs.Prelude.{◌≡◌, ◌≤◌, IfOk, IfErr, Ok, option_map};
+ghost use Rattle.std.specs.Prelude.{◌≡◌, ◌≤◌, IfErr, option_map};
 ghost use Rattle.ps_store.specs.Store.{closed_part};
 ghost use Rattle.table_asks.specs.Closing.{Settles};
 ghost use Rattle.table_model.specs.Places.{spot_point};
 ghost use Rattle.table_points.specs.Rows.{row_in};
+ghost use Rattle.table_read.specs.Reads.{in_ok};
+ghost use Rattle.dialect_model.specs.TableUse.{Looks};
+ghost use Rattle.table_asks.specs.Asking.{Comes};
 ghost use Rattle.table_asks.specs.Faults.{IsOwn};
 
 use crate::fault::AskFault;
@@ -25,7 +28,7 @@ pub fn line_told(
     ensures limit { inquiry.new.steps.limit ≡ inquiry.old.steps.limit }
     ensures more { inquiry.old.steps.taken ≤ inquiry.new.steps.taken }
     ensures closed { Settles (closed_part inquiry.old.core.store) (closed_part inquiry.new.core.store) }
-    ensures found { IfOk result (λ found. Ok (option_map (row_in inquiry.new.core.store) found) ≡ spot_point inquiry.new.core.store file.now line column) }
+    ensures meaning { Comes (Looks (λ s. spot_point s file.now line column)) inquiry.old (in_ok (option_map (row_in inquiry.new.core.store)) result) inquiry.new }
 {
     'again: loop {
         match spot_point(&inquiry.core.store, file, line, column) {
