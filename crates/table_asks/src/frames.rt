@@ -16,10 +16,10 @@ ghost use Rattle.table_asks.specs.Faults.{IsOwn, IsUnrefused};
 
 use crate::fault::AskFault;
 use crate::inquiry::{Inquiry, settle, settle_walk};
-use crate::walks::{frame_numbered, place_numbered};
+use crate::walks::place_numbered;
 use abs_mem::AbsMem;
 use frame_bytes::Frame;
-use ps_ops::Operators;
+use ps_ops::{Operators, frame_numbered};
 use ps_places::error_of;
 use ps_store::DictId;
 use ps_symbols::symbol_named;
