@@ -1,4 +1,3 @@
-mod Outward
 mod Told
 mod Settled
 pub mod Fair
