@@ -4,6 +4,7 @@
 mod breaks;
 mod frames;
 mod lines;
+mod parts;
 mod raw;
 mod shown;
 

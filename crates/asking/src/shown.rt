@@ -5,6 +5,7 @@ ghost use Rattle.ps_store.specs.Store.{closed_part};
 ghost use Rattle.table_asks.specs.Closing.{Settles};
 
 use crate::lines::value_text;
+use crate::parts::parts_left;
 use abs_mem::AbsMem;
 use c_lex::keyword_of;
 use frame_bytes::Frame;
@@ -18,7 +19,13 @@ use table_asks::{
 };
 use table_model::Lack;
 use table_read::{dict_at, entry};
-use table_types::check_type;
+
+/// The most that a type is deep.
+const MOST_DEEP: u32 = 64;
+
+/// The most parts of a type that are walked, as many as a type of C has bytes. A table by hand may tell more, each struct holding
+/// others twice: for a walk of such a type there is no memory, and no time.
+const MOST_PARTS: u32 = 1_048_576;
 
 /// The most bytes of an identifier.
 const MOST_LETTERS: usize = 63;
@@ -68,12 +75,17 @@ fn is_function(store: &PsStore, symbol: DictId) -> Result<bool, Lack> {
     }
 }
 
-/// The type of a symbol, unless it is too deep. What else a type lacks is met by its printer, where that asks for it.
-fn printed_type(store: &PsStore, symbol: DictId) -> Result<DictId, Lack> {
-    let ctype = dict_at(store, symbol, b"type")?;
-    match check_type(store, ctype) {
-        Err(Lack::TooDeep) => Err(Lack::TooDeep),
-        Ok(()) | Err(_) => Ok(ctype),
+/// The type of a symbol, unless it is too deep or has more inside than there is memory for. What else a type lacks is met by its
+/// printer, where that asks for it.
+fn printed_type(store: &PsStore, symbol: DictId) -> Result<DictId, AskFault> {
+    let ctype = match dict_at(store, symbol, b"type") {
+        Ok(ctype) => ctype,
+        Err(lack) => return Err(raised(lack)),
+    };
+    match parts_left(store, MOST_DEEP, MOST_PARTS, ctype) {
+        Err(Lack::TooDeep) => Err(raised(Lack::TooDeep)),
+        Ok(0) => Err(AskFault::NoMemory),
+        Ok(_) | Err(_) => Ok(ctype),
     }
 }
 
@@ -91,10 +103,7 @@ fn variable_type(inquiry: &Inquiry, symbol: DictId) -> Result<DictId, AskFault> 
     match is_function(store, symbol) {
         Err(lack) => Err(raised(lack)),
         Ok(true) => Err(AskFault::Refused(Cause::BadType)),
-        Ok(false) => match printed_type(store, symbol) {
-            Ok(ctype) => Ok(ctype),
-            Err(lack) => Err(raised(lack)),
-        },
+        Ok(false) => printed_type(store, symbol),
     }
 }
 
