@@ -2,5 +2,9 @@
 #![tactic(auto)]
 
 mod laws;
+mod function_laws;
+mod program_laws;
 
 pub use laws::judged_expressions_are_typed;
+pub use function_laws::functions_keep_to_the_rules;
+pub use program_laws::checked_programs_are_accepted;
