@@ -1,10 +1,9 @@
 -- The program that the checker gives is accepted, where its functions, its objects and its names are.
-use Rattle.std.proofs.Common.{◌≡◌, refl, sym, ap, ◌∙◌, subst, ℕ, suc, Bool, true, false, not, ◌==◌, true≢false, List, [], ◌∷◌, ◌++◌, length, map, filter, Option, Some, None, codes, if◌then◌else◌, arith}
+use Rattle.std.proofs.Common.{◌≡◌, refl, sym, ap, ◌∙◌, subst, ℕ, suc, Bool, true, false, not, ◌==◌, true≢false, List, [], ◌∷◌, ◌++◌, length, map, filter, Option, Some, None, if◌then◌else◌, arith}
 use Rattle.std.specs.Prelude.{slice_get}
 use Rattle.std.specs.List.{AllByRecursion}
 use Rattle.std.proofs.lemmas.Bool.{eqb-true}
 use Rattle.c_statement.specs.declared.unit.External.{External}
-use Rattle.c_tree.specs.declared.types.StructDef.{StructDef}
 use Rattle.c_tree.specs.declared.rows.Program.{Program}
 use Rattle.c_tree.specs.declared.rows.UnitRow.{UnitRow}
 use Rattle.c_tree.specs.declared.rows.Function.{Function as FunctionRow}
@@ -12,26 +11,23 @@ use Rattle.c_tree.specs.declared.rows.ObjectRow.{ObjectRow}
 use Rattle.c_typing.specs.Declared.{IsStruct, Differ}
 use Rattle.c_tree.specs.Layout.{leaves_of}
 use Rattle.c_typing.specs.Starts.{AreStarts, IsObject}
-use Rattle.c_typing.specs.Accepted.{AllFrom, IsFunction, IsAccepted, has_main, external_names, names_of_unit}
-use Rattle.c_judge.specs.Answers.{Known, Unknown, Broken}
-use Rattle.c_mentions.specs.Tags.{in_all, in_external}
-use Rattle.c_file.specs.Names.{Defining, is_defined, twice}
-use Rattle.c_file.specs.Files.{State, Bodied, Externals}
+use Rattle.c_typing.specs.Accepted.{AllFrom, IsFunction, IsAccepted, has_main, names_of_unit}
+use Rattle.c_file.specs.Names.{twice}
+use Rattle.c_file.specs.Files.{State, Bodied}
 use Rattle.c_file.specs.Programs as programs
 use Rattle.c_file.specs.Programs.{Told, Well, Lacks, Breaks, Fault, Rule, Twice, Undefined, NoMain, uncalled, or_name, missing, behind_rules, first_fault, late_found, AllFiles, tags_of, at_first, next_file}
-use Rattle.c_file.specs.Made.{Each, IsFunctionOf, HasRows, bodies_of, objects_from}
+use Rattle.c_file.specs.Made.{Each, bodies_of, objects_from}
 use Rattle.c_accepted.specs.Completed.{AreSound}
 use Rattle.c_accepted.specs.Declarations.{AreDeclared, IsWholeIn}
-use Rattle.c_accepted.specs.Begun.{IsBegun, IsOfGrammar}
+use Rattle.c_accepted.specs.Begun.{IsOfGrammar}
 use Rattle.c_accepted.specs.Grown.{Grows}
 use Rattle.c_check.specs.Faulty.{Accepts}
-use Rattle.c_accepted.specs.Asked.{CallsAreThere, IsReferentOf}
+use Rattle.c_accepted.specs.Asked.{CallsAreThere}
 use Rattle.c_accepted.specs.Wanted.{AreSought}
 use Rattle.c_accepted.specs.Starting.{ObjectsHaveWords, PlacesAreThere}
 use Rattle.c_accepted.proofs.AllTags.{tags_there}
 use Rattle.c_accepted.proofs.Structs.{structs_keep}
-use Rattle.c_accepted.proofs.Shapes.{AreTags}
-use Rattle.c_accepted.proofs.Walked.{Stands, Goes, first_stands}
+use Rattle.c_accepted.proofs.Walked.{Stands, first_stands}
 use Rattle.c_accepted.proofs.Walks.{walk_files, files_counted}
 use Rattle.c_accepted.proofs.Names.{AreOfFiles, external_declared, first_of_files, next_of_files}
 use Rattle.c_accepted.proofs.Counted.{room_kept, units_kept, units_counted, points_kept}
@@ -43,12 +39,12 @@ use Rattle.c_accepted.proofs.Merged.{merged_sound}
 use Rattle.c_accepted.proofs.Started.{AreBegun, external_begun, begins_begun}
 use Rattle.c_accepted.proofs.Begun.{AllGive, all_begun}
 use Rattle.c_accepted.proofs.Given.{all_give}
-use Rattle.c_accepted.proofs.Symbols.{all_symbols}
+use Rattle.c_accepted.proofs.Symbols.{IsReferentOf, all_symbols}
 use Rattle.c_accepted.proofs.Wanted.{external_sought}
 use Rattle.c_accepted.proofs.Entries.{Entry}
 use Rattle.c_accepted.proofs.Denotes.{AreTold, external_told, first_told, next_told}
 use Rattle.c_accepted.proofs.Referents.{calls_there, referents_there}
-use Rattle.c_accepted.proofs.Differing.{Chooses, chosen, name_of, mains, rows_for, IsRowFor, main_there, all_differ, function_names, object_names}
+use Rattle.c_accepted.proofs.Differing.{Chooses, mains, rows_for, IsRowFor, main_there, all_differ, function_names, object_names}
 
 -- ---- no fault
 
@@ -98,7 +94,7 @@ none_more (u ∷ us) = (no_asking u, none_more us)
 pub declared_behind : (us : List (List External)) (q : State) → AllFiles (tags_of us) (at_first (tags_of us)) us Well q → Stands (tags_of us) q × AreOfFiles (tags_of us) q
 declared_behind us q h =
     walk_files (tags_of us) NoMore AreDeclared (AreOfFiles (tags_of us)) (λ p e q s t w i g n. external_declared (tags_of us) p e q i g n) (λ p s n. n.declared) (λ p s n. next_of_files (tags_of us) p n)
-      us (at_first (tags_of us)) Well q (first_stands (tags_of us), first_of_files (tags_of us)) (tags_there us) (none_more us) h refl
+    us (at_first (tags_of us)) Well q (first_stands (tags_of us), first_of_files (tags_of us)) (tags_there us) (none_more us) h refl
 
 abbrev TypedNow : State → Type 0
 TypedNow p = TypedIn (whole p) p
@@ -109,7 +105,7 @@ TypedBefore p = TypedIn p.others p
 pub typed_behind : (us : List (List External)) (q : State) → AllFiles (tags_of us) (at_first (tags_of us)) us Well q → TypedIn q.others q
 typed_behind us q h =
     (walk_files (tags_of us) NoMore TypedNow TypedBefore (λ p e q s t w i g n. external_typed (tags_of us) p e q s t i g n) (λ p s n. begins_typed (tags_of us) p s n) (λ p s n. next_typed (tags_of us) p n)
-      us (at_first (tags_of us)) Well q (first_stands (tags_of us), first_typed (tags_of us)) (tags_there us) (none_more us) h refl).1
+    us (at_first (tags_of us)) Well q (first_stands (tags_of us), first_typed (tags_of us)) (tags_there us) (none_more us) h refl).1
 
 abbrev WholeNow : State → Type 0
 WholeNow p = AreWhole (whole p) p
@@ -120,7 +116,7 @@ WholeBefore p = AreWhole p.others p
 pub whole_behind : (us : List (List External)) (q : State) → AllByRecursion (AllByRecursion IsOfGrammar) us → AllFiles (tags_of us) (at_first (tags_of us)) us Well q → AreWhole q.others q
 whole_behind us q w h =
     (walk_files (tags_of us) IsOfGrammar WholeNow WholeBefore (λ p e q s t w i g n. external_whole (tags_of us) p e q s w.0 i g n) (λ p s n. begins_whole (tags_of us) p s n) (λ p s n. n)
-      us (at_first (tags_of us)) Well q (first_stands (tags_of us), tt) (tags_there us) w h refl).1
+    us (at_first (tags_of us)) Well q (first_stands (tags_of us), tt) (tags_there us) w h refl).1
 
 abbrev BegunNow : State → Type 0
 BegunNow p = AreBegun (whole p) p
@@ -134,17 +130,17 @@ same_whole tags q s = extended (whole q) (whole q) (merged_sound q.others q.here
 pub begun_behind : (us : List (List External)) (q : State) → AllByRecursion (AllByRecursion IsOfGrammar) us → AllFiles (tags_of us) (at_first (tags_of us)) us Well q → AreBegun q.others q
 begun_behind us q w h =
     (walk_files (tags_of us) IsOfGrammar BegunNow BegunBefore (λ p e q s t w i g n. external_begun (tags_of us) (same_whole (tags_of us)) p e q s t w i g n) (λ p s n. begins_begun (tags_of us) p s n) (λ p s n. n)
-      us (at_first (tags_of us)) Well q (first_stands (tags_of us), tt) (tags_there us) w h refl).1
+    us (at_first (tags_of us)) Well q (first_stands (tags_of us), tt) (tags_there us) w h refl).1
 
 pub sought_behind : (us : List (List External)) (q : State) → AllFiles (tags_of us) (at_first (tags_of us)) us Well q → AreSought q
 sought_behind us q h =
     (walk_files (tags_of us) NoMore AreSought AreSought (λ p e q s t w i g n. external_sought p e q i n) (λ p s n. n) (λ p s n. n)
-      us (at_first (tags_of us)) Well q (first_stands (tags_of us), tt) (tags_there us) (none_more us) h refl).1
+    us (at_first (tags_of us)) Well q (first_stands (tags_of us), tt) (tags_there us) (none_more us) h refl).1
 
 pub told_behind : (us : List (List External)) (q : State) → AllFiles (tags_of us) (at_first (tags_of us)) us Well q → AreTold q
 told_behind us q h =
     (walk_files (tags_of us) NoMore AreTold AreTold (λ p e q s t w i g n. external_told (tags_of us) p e q s t i n) (λ p s n. n) (λ p s n. next_told (tags_of us) p n)
-      us (at_first (tags_of us)) Well q (first_stands (tags_of us), first_told (tags_of us)) (tags_there us) (none_more us) h refl).1
+    us (at_first (tags_of us)) Well q (first_stands (tags_of us), first_told (tags_of us)) (tags_there us) (none_more us) h refl).1
 
 -- ---- which names are chosen
 

@@ -1,17 +1,15 @@
 -- Objects without an initializer begin with zeros.
 use Rattle.std.proofs.Common.{◌≡◌, refl, sym, ap, ◌∙◌, subst, ℕ, zero, suc, Bool, true, false, ◌&&◌, ◌==◌, List, [], ◌∷◌, map, replicate, bytes_eq, if◌then◌else◌}
 use Rattle.std.specs.List.{AllByRecursion}
-use Rattle.c_tree.specs.declared.types.StructDef.{StructDef}
 use Rattle.c_tree.specs.declared.rows.Program.{Program}
 use Rattle.c_tree.specs.declared.rows.ObjectRow.{ObjectRow}
-use Rattle.c_tree.specs.declared.rows.Start.{Start}
 use Rattle.c_tree.specs.declared.rows.Start.TheVariants.{Number}
 use Rattle.c_tree.specs.Layout.{leaves_of}
-use Rattle.c_typing.specs.Plain.{Plain, plain}
+use Rattle.c_typing.specs.Plain.{plain}
 use Rattle.c_typing.specs.Starts.{AreStarts}
 use Rattle.c_defs.specs.Depths.{deepest}
 use Rattle.c_defs.specs.Leaves.{leaf_count}
-use Rattle.c_initial.specs.Begins.{Begin, Bits, zeros}
+use Rattle.c_initial.specs.Begins.{Bits, zeros}
 use Rattle.c_file.specs.Names.{Defining}
 use Rattle.c_file.specs.Files.{State, Started}
 use Rattle.c_file.specs.Made.{Each, IsObjectOf, object_type, started, begins_in}
@@ -33,7 +31,7 @@ module _ (p : Program) (q : State) (same : p.defs ≡ q.others) where
   zeros_begin : (d : Defining) → Hold p (kinds_of p.defs deepest (object_type q d)) (map (started q d.unit) (zeros q.others (object_type q d)))
   zeros_begin d =
       let e : map (started q d.unit) (zeros q.others (object_type q d)) ≡ replicate (leaf_count p.defs deepest (object_type q d)) (Number 0) =
-          zeros_started d.unit (leaf_count q.others deepest (object_type q d)) ∙ ap (λ ds. replicate (leaf_count ds deepest (object_type q d)) (Number 0)) (sym same) in
+      zeros_started d.unit (leaf_count q.others deepest (object_type q d)) ∙ ap (λ ds. replicate (leaf_count ds deepest (object_type q d)) (Number 0)) (sym same) in
       subst (Hold p (kinds_of p.defs deepest (object_type q d))) (sym e) (zeros_hold p (object_type q d))
 
   begun : (d : Defining) (ss : List Started) → AllByRecursion (GivesLeaves p q d) ss → Hold p (kinds_of p.defs deepest (object_type q d)) (map (started q d.unit) (begins_in q ss d))

@@ -2,17 +2,13 @@
 use Rattle.std.proofs.Common.{◌≡◌, ◌≤◌, ◌<◌, refl, sym, ap, ◌∙◌, subst, arith, ℕ, zero, suc, ◌+◌, ◌-◌, Bool, true, false, true≢false, List, [], ◌∷◌, ◌++◌, length, map, take, drop, length-append, append_assoc, Option, Some, None}
 use Rattle.std.specs.Prelude.{slice_get}
 use Rattle.std.specs.List.{AllByRecursion}
-use Rattle.std.proofs.lemmas.List.{map-append}
-use Rattle.c_statement.specs.Tree.{StatementTree}
 use Rattle.c_tree.specs.declared.rows.Program.{Program}
 use Rattle.c_tree.specs.declared.rows.Function.{Function as FunctionRow}
 use Rattle.c_tree.specs.declared.rows.Local.{Local as LocalRow}
-use Rattle.c_tree.specs.declared.rows.SymbolRow.{SymbolRow}
 use Rattle.c_tree.specs.declared.rows.Referent.{Referent}
 use Rattle.c_tree.specs.declared.rows.Referent.TheVariants as refers
-use Rattle.c_tree.specs.declared.types.StructDef.{StructDef}
 use Rattle.c_tree.specs.declared.types.CType.TheVariants as ctype
-use Rattle.c_typing.specs.Plain.{Plain, Struct, plain}
+use Rattle.c_typing.specs.Plain.{Plain, plain}
 use Rattle.c_typing.specs.Written.{IsWritten}
 use Rattle.c_typing.specs.Expressions.{Object}
 use Rattle.c_typing.specs.Declared.{scope_at, local_type, parameters}
@@ -20,16 +16,15 @@ use Rattle.c_typing.specs.Statements.{locals_from}
 use Rattle.c_typing.specs.Accepted.{numbers}
 use Rattle.c_judge.specs.Answers.{Known}
 use Rattle.c_mentions.specs.Literals.{in_statement}
-use Rattle.c_scope.specs.Environment.{Environment, Row, Visible, declare_local, innermost, number_of}
+use Rattle.c_scope.specs.Environment.{Environment, Row, declare_local, innermost, number_of}
 use Rattle.c_scope.specs.Findings.{Fine}
 use Rattle.c_scope.specs.Declarators.{Parameter, parameter_type}
-use Rattle.c_body.specs.Bodies.{after, found, in_function}
+use Rattle.c_body.specs.Bodies.{found, in_function}
 use Rattle.c_body.specs.Stops.{stops_of, inside_block}
 use Rattle.c_body.specs.Calls.{calls_in}
 use Rattle.c_file.specs.Files.{State, Bodied, with_parameters, are_named}
-use Rattle.c_file.specs.Made.{Each, behind_block, rows_of, local_rows, IsLocalOf, IsFunctionOf, IsSymbolOf, referent, referent_of, type_of_name}
+use Rattle.c_file.specs.Made.{Each, behind_block, rows_of, local_rows, IsLocalOf, IsFunctionOf, IsSymbolOf, referent_of, type_of_name}
 use Rattle.c_accepted.specs.Grown.{Grows}
-use Rattle.c_accepted.specs.Sources.{IsInOrder, AllIn, HasWordsIn}
 use Rattle.c_accepted.proofs.Keeps.{Keeps, IsLocalRow, keeps_self, keeps_one, keeps_on, after_keeps, Within, within_before}
 use Rattle.c_accepted.proofs.Scopes.{Ground, Fits, fits_local, first_there, some_same}
 use Rattle.c_accepted.proofs.Listed.{Listed}

@@ -1,6 +1,6 @@
 -- What is known of the bodies of a program behind its last file.
-use Rattle.std.proofs.Common.{◌≡◌, ◌≤◌, ◌<◌, refl, sym, ap, ◌∙◌, subst, arith, ℕ, zero, suc, ◌+◌, Bool, true, false, not, ◌&&◌, ◌||◌, true≢false, List, [], ◌∷◌, ◌++◌, length, map, length-append, append_assoc, Option, Some, None}
-use Rattle.std.specs.Prelude.{slice_get, codes}
+use Rattle.std.proofs.Common.{◌≡◌, ◌≤◌, refl, sym, ap, ◌∙◌, subst, arith, ℕ, suc, ◌+◌, Bool, true, false, not, ◌&&◌, true≢false, List, [], ◌∷◌, ◌++◌, length, map, length-append, Some, None}
+use Rattle.std.specs.Prelude.{codes}
 use Rattle.std.specs.List.{AllByRecursion}
 use Rattle.c_declaration.specs.Tree.{DeclaratorTree, begins}
 use Rattle.c_declaration.specs.declared.tree.FileSpec.{FileSpec}
@@ -10,22 +10,21 @@ use Rattle.c_statement.specs.declared.unit.External.{External}
 use Rattle.c_statement.specs.declared.unit.External.TheVariants.{Declaration, Definition}
 use Rattle.c_tree.specs.declared.types.StructDef.{StructDef}
 use Rattle.c_typing.specs.Plain.{Plain, Int, Void}
-use Rattle.c_typing.specs.Expressions as typing
 use Rattle.c_typing.specs.Declared.{built_in}
 use Rattle.c_judge.specs.Answers.{Answer, Known, Unknown, Broken, ◌then◌}
 use Rattle.c_mentions.specs.Tags.{in_all, in_external, in_file_spec, in_declared, in_declarator, in_statement}
-use Rattle.c_scope.specs.Environment.{Environment, Row, Visible, enter}
-use Rattle.c_scope.specs.Findings.{Finding, Fine, fine, nothing, ◌beside◌, holds}
-use Rattle.c_scope.specs.Declarators.{Shape, Object, Function, Parameter, shape, parameter_type, name_in}
+use Rattle.c_scope.specs.Environment.{Environment, enter}
+use Rattle.c_scope.specs.Findings.{Finding, fine, nothing, ◌beside◌, holds}
+use Rattle.c_scope.specs.Declarators.{Shape, Object, Function, shape, parameter_type, name_in}
 use Rattle.c_body.specs.Bodies.{found, in_function, is_block, after}
 use Rattle.c_body.specs.Stops.{inside_block}
-use Rattle.c_file.specs.Names.{FileName, name_found, as_built_in, as_main, one_linkage, one_type, is_built_in}
-use Rattle.c_file.specs.Files.{State, Bodied, with_name, with_declarator, with_head, with_spec, after_all, function_row, body_environment, function_found, behind_body, after_function, are_named, Externals, AllExternals, Onward}
-use Rattle.c_file.specs.Programs.{Told, Well, Lacks, Breaks, in_file, ◌before◌, built_ins, built_in_rows, incomplete, next_file, at_first, AllFiles, takes_many}
+use Rattle.c_file.specs.Names.{name_found, as_built_in, as_main, one_linkage, one_type, is_built_in}
+use Rattle.c_file.specs.Files.{State, with_name, with_head, with_spec, after_all, function_row, body_environment, function_found, behind_body, after_function, are_named, Externals, AllExternals, Onward}
+use Rattle.c_file.specs.Programs.{Told, Well, Breaks, in_file, ◌before◌, built_ins, built_in_rows, next_file, at_first, AllFiles, takes_many}
 use Rattle.c_accepted.specs.Grown.{Grows}
 use Rattle.c_accepted.specs.Sources.{IsInOrder, AllIn}
 use Rattle.c_accepted.proofs.Known.{never}
-use Rattle.c_accepted.proofs.Keeps.{Keeps, keeps_on, after_keeps}
+use Rattle.c_accepted.proofs.Keeps.{keeps_on, after_keeps}
 use Rattle.c_accepted.proofs.Bodied.{parameters_keep}
 use Rattle.c_accepted.proofs.Statements.{beside_known}
 use Rattle.c_accepted.proofs.Labels.{holds_known}
@@ -37,7 +36,7 @@ use Rattle.c_accepted.proofs.Inside.{Behind, specified}
 use Rattle.c_accepted.proofs.Completing.{extended, no_more}
 use Rattle.c_accepted.proofs.Merged.{grows_others}
 use Rattle.c_accepted.proofs.Walked.{Stands, Goes, external, first_stands, next_stands, unbroken, first_known, behind_one, two_parts, well_one, well_both}
-use Rattle.c_accepted.proofs.Entries.{Entry, Inv, Later, later_self, inv_later, FileScope, AreShown, shown_more, function_plain, points_all}
+use Rattle.c_accepted.proofs.Entries.{Inv, later_self, inv_later, FileScope, AreShown, shown_more, function_plain}
 use Rattle.c_accepted.proofs.Steps.{Step, step_on, name_step, declarator_step, spec_step, all_step, whole, grows_to, grows_more, same_tags, body_inv, IsSourced}
 
 nothing_more : {A : Type 0} (xs : List A) → xs ≡ xs ++ []

@@ -1,5 +1,5 @@
 -- A bound that an initializer sets is within the limits: a complete type has at least one byte.
-use Rattle.std.proofs.Common.{◌≡◌, ◌≤◌, ◌<◌, refl, sym, ap, ◌∙◌, subst, arith, ℕ, zero, suc, ◌+◌, ◌*◌, Bool, true, false, ◌&&◌, true≢false, List, [], ◌∷◌, map, Option, Some, None, if◌then◌else◌}
+use Rattle.std.proofs.Common.{◌≡◌, ◌≤◌, refl, sym, ap, ◌∙◌, subst, arith, ℕ, zero, suc, ◌+◌, ◌*◌, Bool, true, false, ◌&&◌, true≢false, List, [], ◌∷◌, Option, Some, None, if◌then◌else◌}
 use Rattle.std.specs.Prelude.{slice_get, nat_le}
 use Rattle.std.specs.Int.{next_multiple_of}
 use Rattle.std.specs.List.{AllByRecursion}
@@ -9,24 +9,23 @@ use Rattle.c_tree.specs.declared.types.StructDef.{StructDef}
 use Rattle.c_tree.specs.declared.types.Member.{Member}
 use Rattle.c_tree.specs.Layout as layout
 use Rattle.c_tree.specs.Layout.{members_of, members_in, size_in, alignment_of, alignment_of_members, AreLaid}
-use Rattle.c_typing.specs.Plain.{Plain, Char, Int, Unsigned, Void, Pointer, Array, Struct, plain, is_empty, is_complete}
+use Rattle.c_typing.specs.Plain.{Plain, Char, Int, Unsigned, Void, Pointer, Array, Struct, is_empty, is_complete}
 use Rattle.c_typing.specs.Expressions as typing
 use Rattle.c_typing.specs.Expressions.{Denoted}
 use Rattle.c_defs.specs.Depths.{deepest, is_within, are_within}
 use Rattle.c_judge.specs.Values.{size_of}
-use Rattle.c_judge.specs.Answers.{Answer, Known, Unknown, Broken, ◌then◌}
+use Rattle.c_judge.specs.Answers.{Known, Broken, ◌then◌}
 use Rattle.c_judge.specs.Judgement.{limited}
 use Rattle.c_judge.proofs.Sizes.{size_of_plain}
 use Rattle.c_scope.specs.Environment.{Environment}
-use Rattle.c_scope.specs.Declarators.{Shape, Object, Function, Parameter, denoted}
-use Rattle.c_initial.specs.Initials.{with_bound, bound_set}
-use Rattle.c_file.specs.Files.{object_type, in_limits, may_stand, is_extern, object_standing, standing}
+use Rattle.c_scope.specs.Declarators.{Shape, Object, Function, denoted}
+use Rattle.c_initial.specs.Initials.{bound_set}
+use Rattle.c_file.specs.Files.{object_type, in_limits, may_stand, is_extern, standing}
 use Rattle.c_accepted.specs.Grown.{ctype_of, IsMade, IsHeld}
 use Rattle.c_accepted.specs.Completed.{IsSound, AreSound}
 use Rattle.c_accepted.proofs.Growth.{both_parts, not_empty}
 use Rattle.c_accepted.proofs.Known.{never, one_known, then_known, if_known}
-use Rattle.c_accepted.proofs.Written.{IsLimited, IsNamed}
-use Rattle.c_accepted.proofs.Structs.{limited_of}
+use Rattle.c_accepted.proofs.Written.{IsNamed}
 use Rattle.c_accepted.proofs.Shapes.{IsShaped}
 use Rattle.c_accepted.proofs.Types.{IsDenotedIn}
 

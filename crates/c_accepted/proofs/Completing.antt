@@ -1,5 +1,5 @@
 -- A struct that is sound stays so as further structs are completed.
-use Rattle.std.proofs.Common.{◌≡◌, ◌≤◌, ◌<◌, refl, sym, ap, ◌∙◌, subst, arith, ℕ, zero, suc, ◌+◌, ◌*◌, max, Bool, true, false, not, ◌&&◌, ◌||◌, true≢false, List, [], ◌∷◌, length, map, Option, Some, None}
+use Rattle.std.proofs.Common.{◌≡◌, ◌≤◌, ◌<◌, refl, sym, ap, ◌∙◌, subst, arith, ℕ, zero, suc, ◌+◌, ◌*◌, max, Bool, true, false, ◌&&◌, List, [], ◌∷◌, length, map, Option, Some, None}
 use Rattle.std.specs.Prelude.{slice_get, nat_le}
 use Rattle.std.specs.Int.{next_multiple_of}
 use Rattle.std.specs.List.{AllByRecursion}
@@ -9,9 +9,8 @@ use Rattle.c_tree.specs.declared.types.StructDef.{StructDef}
 use Rattle.c_tree.specs.declared.types.Member.{Member}
 use Rattle.c_tree.specs.Layout as layout
 use Rattle.c_tree.specs.Layout.{members_of, members_in, size_in, struct_size_of, alignment_within, alignment_of, alignment_of_members, AreLaid, IsLaidOut}
-use Rattle.c_typing.specs.Plain.{Plain, Char, Int, Unsigned, Void, Pointer, Array, Struct, plain, is_struct, is_empty, is_complete}
+use Rattle.c_typing.specs.Plain.{Plain, Char, Int, Unsigned, Void, Pointer, Array, Struct, plain, is_empty, is_complete}
 use Rattle.c_defs.specs.Depths.{is_within, are_within}
-use Rattle.c_judge.specs.Values.{size_of}
 use Rattle.c_judge.proofs.Sizes.{size_of_plain}
 use Rattle.c_accepted.specs.Grown.{ctype_of, IsMade, IsHeld, Grows}
 use Rattle.c_accepted.specs.Completed.{IsSound, AreSound, Extends}
@@ -111,9 +110,9 @@ module _ (before behind : List StructDef) (g : Grows before behind) where
   pub laid_out_grows : (d : StructDef) → AllByRecursion (IsHeld before) d.members → IsLaidOut before d → IsLaidOut behind d
   laid_out_grows d h (end, a, e) =
       let same : alignment_of_members (alignment_of behind) d.members ≡ alignment_of_members (alignment_of before) d.members =
-          members_aligned (alignment_of behind) (aligned behind 64) (λ u. as_aligned behind 64 u) d.members ∙
-          all_same (IsHeld before) (aligned behind 64) (aligned before 64) (λ m a. aligned_grows 64 (ctype_of m) a.1) d.members h ∙
-          sym (members_aligned (alignment_of before) (aligned before 64) (λ u. as_aligned before 64 u) d.members) in
+      members_aligned (alignment_of behind) (aligned behind 64) (λ u. as_aligned behind 64 u) d.members ∙
+      all_same (IsHeld before) (aligned behind 64) (aligned before 64) (λ m a. aligned_grows 64 (ctype_of m) a.1) d.members h ∙
+      sym (members_aligned (alignment_of before) (aligned before 64) (λ u. as_aligned before 64 u) d.members) in
       (end, laid_grows 0 d.members end h a, e ∙ ap (next_multiple_of end) (sym same))
 
   pub held_all : (ms : List Member) → AllByRecursion (IsHeld before) ms → AllByRecursion (IsHeld behind) ms

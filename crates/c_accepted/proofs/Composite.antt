@@ -1,5 +1,5 @@
 -- The type of an object is that of its definition.
-use Rattle.std.proofs.Common.{◌≡◌, refl, sym, ap, ◌∙◌, subst, arith, ℕ, zero, suc, Bool, true, false, not, ◌&&◌, ◌||◌, ◌==◌, true≢false, List, [], ◌∷◌, Option, Some, None, bytes_eq, ⊎_elim, if◌then◌else◌}
+use Rattle.std.proofs.Common.{◌≡◌, refl, sym, ap, ◌∙◌, subst, arith, ℕ, zero, suc, Bool, true, false, not, ◌&&◌, ◌||◌, ◌==◌, true≢false, List, [], ◌∷◌, Some, None, bytes_eq, ⊎_elim, if◌then◌else◌}
 use Rattle.std.specs.Prelude.{slice_get}
 use Rattle.std.specs.List.{AllByRecursion}
 use Rattle.std.proofs.lemmas.Bool.{or_cases, eqb-true}
@@ -117,8 +117,8 @@ turned_bounds a m n h =
     by true c e f k = refl
     by false true e f k = refl
     by false false e f k = absurd (⊎_elim
-      (λ x. ⊎_elim (λ y. true≢false (sym (let z = eqb-true (suc n) m y in (let w : (m == suc n) ≡ true = ap (λ j. j == suc n) (sym z) ∙ itself (suc n) in w)) ∙ e)) (λ y. zero_only n y) (or_cases (suc n == m) (suc n == 0) x))
-      (λ x. true≢false (sym x ∙ f)) (or_cases ((suc n == m) || (suc n == 0)) (m == 0) k))
+        (λ x. ⊎_elim (λ y. true≢false (sym (let z = eqb-true (suc n) m y in (let w : (m == suc n) ≡ true = ap (λ j. j == suc n) (sym z) ∙ itself (suc n) in w)) ∙ e)) (λ y. zero_only n y) (or_cases (suc n == m) (suc n == 0) x))
+        (λ x. true≢false (sym x ∙ f)) (or_cases ((suc n == m) || (suc n == 0)) (m == 0) k))
       where
         itself : (j : ℕ) → (j == j) ≡ true
         itself j = grind arith
@@ -307,7 +307,7 @@ object_type_is q d n f t c b e name unit linkage o =
     let itself : is_same (as_name q d) f ≡ true = sym (same f) ∙ self in
     let first = first_told q (as_name q d) t b q.names n f tells e itself in
     of_type (type_in q (first_type q (as_name q d) q.names) (as_name q d) q.names) t
-      (then_whole q (as_name q d) t b (first_type q (as_name q d) q.names) q.names n f first tells e itself o)
+    (then_whole q (as_name q d) t b (first_type q (as_name q d) q.names) q.names n f first tells e itself o)
   where
     number : (m : ℕ) → (m == m) ≡ true
     number m = grind arith

@@ -1,18 +1,16 @@
 -- What a declarator declares has types that may be written at its place; a function has a result and parameters that functions may have.
-use Rattle.std.proofs.Common.{◌≡◌, ◌≤◌, ◌<◌, refl, sym, ap, ◌∙◌, subst, arith, ℕ, zero, suc, ◌+◌, Bool, true, false, not, ◌&&◌, ◌||◌, true≢false, List, [], ◌∷◌, ◌++◌, length, map, length-append, Option, Some, None}
-use Rattle.std.specs.Prelude.{nat_le, nat_lt, if◌then◌else◌}
+use Rattle.std.proofs.Common.{◌≡◌, ◌≤◌, ◌<◌, refl, sym, ap, ◌∙◌, subst, arith, ℕ, suc, Bool, true, false, ◌||◌, true≢false, List, [], ◌∷◌, ◌++◌, length, length-append, Option, Some, None}
+use Rattle.std.specs.Prelude.{nat_lt, if◌then◌else◌}
 use Rattle.std.specs.List.{AllByRecursion}
 use Rattle.c_expr.specs.Tree as tree
 use Rattle.c_expr.specs.Tree.{Tree}
 use Rattle.c_expr.specs.declared.tree.Spec.{Spec}
 use Rattle.c_expr.specs.declared.tree.Spec.TheVariants as spec
 use Rattle.c_declaration.specs.Tree.{DeclaratorTree, Name, Parens, Pointers, Array, Function as Applied, Taking, Named, Unnamed, begins}
-use Rattle.c_tree.specs.declared.types.StructDef.{StructDef}
 use Rattle.c_typing.specs.Plain as plain
 use Rattle.c_typing.specs.Plain.{Plain, is_scalar, is_void, is_struct, is_complete, value_type}
 use Rattle.c_typing.specs.Declared.{is_result}
-use Rattle.c_judge.specs.declared.part.Constant.{Constant}
-use Rattle.c_judge.specs.Answers.{Answer, Known, Unknown, Broken, ◌then◌}
+use Rattle.c_judge.specs.Answers.{Known, Broken, ◌then◌}
 use Rattle.c_judge.specs.Places.{place_of}
 use Rattle.c_judge.specs.Judgement.{judged, spec_type, pointers, starred, array, bound}
 use Rattle.c_defs.specs.Depths.{deepest, is_within}
@@ -20,10 +18,9 @@ use Rattle.c_mentions.specs.Tags as tags
 use Rattle.c_scope.specs.Environment.{Environment, scope_of, struct_of}
 use Rattle.c_scope.specs.Declarators.{Shape, Object, Function, Parameter, shape, parameters, taken, with_one, is_taken, is_name, is_function, function, unsized, unbounded, bounded, constant, unnamed, unnamed_within, parameter, name_in}
 use Rattle.c_file.specs.Programs.{takes_many, parameters_of}
-use Rattle.c_accepted.specs.Grown.{IsMade}
 use Rattle.c_accepted.proofs.Known.{never, one_known, then_known, if_known}
 use Rattle.c_accepted.proofs.Runs.{all_first, all_second, all_both}
-use Rattle.c_accepted.proofs.Written.{IsNamed, IsLimited, pointers_named, array_named, bound_most, starred_named, AllNamed, unless_known}
+use Rattle.c_accepted.proofs.Written.{IsNamed, pointers_named, array_named, bound_most, starred_named, unless_known}
 
 same_shape : (t : Plain) (ps : List Parameter) (u : Plain) (qs : List Parameter) → ◌≡◌ {A = Shape} (Function t ps) (Function u qs) → (t ≡ u) × (ps ≡ qs)
 same_shape t ps u qs e = (cc, cc)

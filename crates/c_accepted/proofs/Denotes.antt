@@ -1,5 +1,5 @@
 -- A name at file scope denotes what its declaration and those before it in its file tell, a body is that of a declared function, and no built-in has one.
-use Rattle.std.proofs.Common.{◌≡◌, refl, sym, ap, ◌∙◌, subst, ℕ, suc, Bool, true, false, not, ◌&&◌, ◌||◌, true≢false, List, [], ◌∷◌, ◌++◌, map, Option, Some, None, bytes_eq, codes, if◌then◌else◌, append_assoc}
+use Rattle.std.proofs.Common.{◌≡◌, refl, sym, ap, ◌∙◌, subst, ℕ, suc, Bool, true, false, not, ◌&&◌, ◌||◌, true≢false, List, [], ◌∷◌, ◌++◌, map, Option, Some, None, bytes_eq, codes, if◌then◌else◌}
 use Rattle.std.specs.Prelude.{slice_get}
 use Rattle.std.specs.List.{AllByRecursion}
 use Rattle.c_declaration.specs.Tree.{DeclaratorTree, begins}
@@ -15,8 +15,8 @@ use Rattle.c_typing.specs.Expressions as typing
 use Rattle.c_typing.specs.Expressions.{Denoted}
 use Rattle.c_judge.specs.Answers.{Answer, Known, Unknown, Broken, ◌then◌}
 use Rattle.c_scope.specs.Environment.{Environment, Row, enter, innermost}
-use Rattle.c_scope.specs.Declarators.{Shape, Object, Function, Parameter, parameter_type, shape, name_in}
-use Rattle.c_scope.specs.Findings.{Finding, Fine, fine, nothing, ◌beside◌, holds}
+use Rattle.c_scope.specs.Declarators.{Shape, Object, Function, parameter_type, shape, name_in}
+use Rattle.c_scope.specs.Findings.{nothing, ◌beside◌, holds}
 use Rattle.c_body.specs.Bodies.{after, is_block}
 use Rattle.c_body.specs.Stops.{inside_block}
 use Rattle.c_mentions.specs.Tags.{in_all, in_external, in_file_spec, in_declared, in_declarator, in_statement}
@@ -29,7 +29,7 @@ use Rattle.c_accepted.proofs.Known.{never, one_known, then_known}
 use Rattle.c_accepted.proofs.Shapes.{AreTags, both_tags}
 use Rattle.c_accepted.proofs.Inside.{specified}
 use Rattle.c_accepted.proofs.Walked.{Stands, two_parts, first_known, behind_one, unbroken as is_known}
-use Rattle.c_accepted.proofs.Keeps.{Keeps, IsLocalRow, keeps_on, after_keeps}
+use Rattle.c_accepted.proofs.Keeps.{IsLocalRow, keeps_on, after_keeps}
 use Rattle.c_accepted.proofs.Bodied.{parameters_keep}
 use Rattle.c_accepted.proofs.Names.{four_rules, all_last, all_as}
 use Rattle.c_accepted.proofs.Differing.{is_function}
@@ -117,10 +117,12 @@ pub record AreTold (p : State) : Type 0 where
 
 row_on : (f : FileName) (fs : List FileName) (r : Row) → IsOuterRow fs r → IsOuterRow (f ∷ fs) r
 row_on f fs r h l =
-    let q = h l in
-    (q.0, λ e. (
-        let k = q.1 e in
-        record { declaration = k.declaration; front = f ∷ k.front; before = k.before; split = ap (λ xs. f ∷ xs) k.split; name = k.name; unit = k.unit; denoted = k.denoted }))
+    let q = h l in (
+      q.0,
+      λ e. (
+          let k = q.1 e in
+          record { declaration = k.declaration; front = f ∷ k.front; before = k.before; split = ap (λ xs. f ∷ xs) k.split; name = k.name; unit = k.unit; denoted = k.denoted }),
+    )
 
 body_on : (f : FileName) (fs : List FileName) (b : Bodied) → IsBodyTold fs b → IsBodyTold (f ∷ fs) b
 body_on f fs b k = record { declaration = k.declaration; number = suc k.number; there = k.there; name = k.name; unit = k.unit; linkage = k.linkage; denoted = k.denoted; own = k.own }

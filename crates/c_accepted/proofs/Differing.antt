@@ -1,18 +1,18 @@
 -- A program has a function `main`, and one definition of each name.
-use Rattle.std.proofs.Common.{◌≡◌, refl, sym, ap, ◌∙◌, subst, ℕ, zero, suc, Bool, true, false, not, ◌&&◌, ◌||◌, ◌==◌, true≢false, List, [], ◌∷◌, ◌++◌, length, map, filter, Option, Some, None, bytes_eq, codes, if◌then◌else◌, arith}
+use Rattle.std.proofs.Common.{◌≡◌, refl, sym, ap, ◌∙◌, subst, ℕ, zero, suc, Bool, true, false, not, ◌&&◌, ◌||◌, ◌==◌, true≢false, List, [], ◌∷◌, ◌++◌, map, filter, Some, None, bytes_eq, codes, if◌then◌else◌, arith}
 use Rattle.std.specs.Prelude.{slice_get}
 use Rattle.std.specs.List.{AllByRecursion}
 use Rattle.std.proofs.lemmas.Bool.{eqb-true}
 use Rattle.std.proofs.lemmas.Slice.Eq.{bytes_eq-Decides}
 use Rattle.c_tree.specs.declared.rows.Function.{Function as FunctionRow}
 use Rattle.c_tree.specs.declared.rows.ObjectRow.{ObjectRow}
-use Rattle.c_typing.specs.Plain.{Plain, Int}
+use Rattle.c_typing.specs.Plain.{Int}
 use Rattle.c_typing.specs.Expressions.{Denoted, Object, Function, Hidden}
 use Rattle.c_typing.specs.Declared.{is_named, Differ}
-use Rattle.c_typing.specs.Accepted.{is_main, has_main, is_called_main}
+use Rattle.c_typing.specs.Accepted.{is_main, has_main}
 use Rattle.c_file.specs.declared.definitions.Manner.{Manner}
 use Rattle.c_file.specs.declared.definitions.Manner.TheVariants.{Body, Initialized, Tentative}
-use Rattle.c_file.specs.Names.{FileName, Defining, agree_as, is_here, is_same, one_type, as_main, declared_as_main, defines, is_defined, same_manner, is_second, is_defined_before, twice}
+use Rattle.c_file.specs.Names.{FileName, Defining, agree_as, is_here, is_same, one_type, defines, is_defined, same_manner, is_second, is_defined_before, twice}
 use Rattle.c_file.specs.FileNames.{AreConsistent}
 use Rattle.c_file.specs.Files.{State, Bodied}
 use Rattle.c_file.specs.Made.{Each, IsFunctionOf, IsObjectOf, bodies_of, is_body, is_on, objects_from}
@@ -406,9 +406,9 @@ module _ (fs : List FileName) (consistent : AreConsistent fs) (k : ℕ → Bool 
       let objects : AllByRecursion IsAnObject (objects_from [] ds) = unseen IsAnObject [] ds (λ e x y. x) in
       let rows : AllByRecursion (λ e. AllByRecursion (IsOneKind e) (objects_from [] ds)) ds = each_row ds pairs in
       differ_both (map name_of (filter (chosen k) (bodies_of ds))) (map name_of (filter (chosen k) (objects_from [] ds)))
-        (differ_chosen k c (bodies_of ds) (bodies_apart ds a) (bodies_other (bodies_of ds) (bodies_are ds)))
-        (differ_chosen k c (objects_from [] ds) (objects_apart [] ds a) (objects_other [] ds))
-        (across (bodies_of ds) (objects_from [] ds) (bodies_are ds) objects (all_bodies (λ e. AllByRecursion (IsOneKind e) (objects_from [] ds)) ds rows))
+      (differ_chosen k c (bodies_of ds) (bodies_apart ds a) (bodies_other (bodies_of ds) (bodies_are ds)))
+      (differ_chosen k c (objects_from [] ds) (objects_apart [] ds a) (objects_other [] ds))
+      (across (bodies_of ds) (objects_from [] ds) (bodies_are ds) objects (all_bodies (λ e. AllByRecursion (IsOneKind e) (objects_from [] ds)) ds rows))
     where
       each_row : (es : List Defining) → AllByRecursion (λ e. AllByRecursion (IsOneKind e) ds) es → AllByRecursion (λ e. AllByRecursion (IsOneKind e) (objects_from [] ds)) es
       each_row [] g = tt

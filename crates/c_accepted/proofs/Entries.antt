@@ -1,39 +1,31 @@
 -- The bodies of a program as far as its files are looked through: what was found in each, and where it stands among what the program has so far.
-use Rattle.std.proofs.Common.{◌≡◌, ◌≤◌, ◌<◌, refl, sym, ap, ◌∙◌, subst, arith, ℕ, zero, suc, ◌+◌, Bool, true, false, not, ◌&&◌, ◌||◌, true≢false, List, [], ◌∷◌, ◌++◌, length, map, length-append, append_assoc, Option, Some, None}
+use Rattle.std.proofs.Common.{◌≡◌, ◌≤◌, ◌<◌, refl, sym, ap, ◌∙◌, subst, arith, ℕ, suc, ◌+◌, Bool, true, false, List, [], ◌∷◌, ◌++◌, length, map, length-append, append_assoc, Some, None}
 use Rattle.std.specs.Prelude.{slice_get, if◌then◌else◌, bytes_eq}
 use Rattle.std.specs.List.{AllByRecursion}
 use Rattle.std.proofs.lemmas.Option.{slice_get_within}
-use Rattle.c_expr.specs.Tree.{Tree}
-use Rattle.c_declaration.specs.Tree.{DeclaratorTree, begins}
-use Rattle.c_declaration.specs.InitialTree.{InitialTree}
-use Rattle.c_declaration.specs.declared.tree.Declared.{Declared}
-use Rattle.c_declaration.specs.declared.tree.Storage.{Storage}
-use Rattle.c_statement.specs.Tree.{StatementTree}
-use Rattle.c_statement.specs.declared.unit.External.{External}
-use Rattle.c_statement.specs.declared.unit.External.TheVariants.{Declaration, Definition}
 use Rattle.c_tree.specs.declared.types.StructDef.{StructDef}
 use Rattle.c_tree.specs.declared.rows.Point.{Point}
 use Rattle.c_tree.specs.Layout.{members_of}
 use Rattle.c_typing.specs.Plain.{Plain, is_empty}
 use Rattle.c_typing.specs.Expressions as typing
 use Rattle.c_typing.specs.Expressions.{Denoted}
-use Rattle.c_judge.specs.Answers.{Answer, Known, Unknown, Broken, ◌then◌}
+use Rattle.c_judge.specs.Answers.{Known, ◌then◌}
 use Rattle.c_mentions.specs.Literals.{in_statement, texts}
 use Rattle.c_mentions.specs.Tags as tags
-use Rattle.c_scope.specs.Environment.{Environment, Row, Visible, declare_global, enter, leave, innermost, number_of}
-use Rattle.c_scope.specs.Findings.{Finding, Fine, fine, nothing, ◌beside◌, holds}
-use Rattle.c_scope.specs.Declarators.{Shape, Object, Function, Parameter, shape, denoted, name_in, parameter_type}
-use Rattle.c_body.specs.Bodies.{after, found, in_function, is_block}
+use Rattle.c_scope.specs.Environment.{Environment, Row, Visible, declare_global, innermost, number_of}
+use Rattle.c_scope.specs.Findings.{Fine}
+use Rattle.c_scope.specs.Declarators.{Function, parameter_type}
+use Rattle.c_body.specs.Bodies.{after, found, in_function}
 use Rattle.c_body.specs.Stops.{Stop, stops_of, inside_block}
 use Rattle.c_body.specs.Calls.{calls_in}
 use Rattle.c_file.specs.Names.{FileName, is_built_in, is_here, composite, declared_as_main, told_before, bounded_one}
 use Rattle.c_file.specs.Files.{State, Bodied, Called, called_all, with_parameters, are_named}
 use Rattle.c_file.specs.Programs.{built_in_rows}
-use Rattle.c_accepted.specs.Grown.{Grows, ctype_of}
+use Rattle.c_accepted.specs.Grown.{Grows}
 use Rattle.c_accepted.specs.Sources.{IsInOrder, AllIn}
-use Rattle.c_accepted.proofs.Runs.{IsAt, at_append}
+use Rattle.c_accepted.proofs.Runs.{IsAt}
 use Rattle.c_accepted.proofs.Merged.{as_empty}
-use Rattle.c_accepted.proofs.Scopes.{first_there, last_there, some_same}
+use Rattle.c_accepted.proofs.Scopes.{first_there, some_same}
 use Rattle.c_accepted.proofs.Declarators as declarators
 use Rattle.c_accepted.proofs.Locals.{AreTagged}
 use Rattle.c_accepted.proofs.Keeping.{IsApart}

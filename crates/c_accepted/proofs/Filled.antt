@@ -1,7 +1,6 @@
 -- An initializer gives each leaf of its object what a leaf of its kind may hold, where the expressions in it do.
-use Rattle.std.proofs.Common.{◌≡◌, ◌≤◌, ◌<◌, refl, sym, ap, ◌∙◌, subst, arith, ℕ, zero, suc, ◌+◌, ◌-◌, ◌*◌, Bool, true, false, ◌&&◌, ◌||◌, true≢false, List, [], ◌∷◌, ◌++◌, length, map, take, drop, replicate, slice_get, append_assoc, length-append, Option, Some, None, option_map, if◌then◌else◌}
+use Rattle.std.proofs.Common.{◌≡◌, ◌≤◌, refl, sym, ap, ◌∙◌, subst, arith, ℕ, zero, suc, ◌+◌, ◌-◌, ◌*◌, Bool, true, false, true≢false, List, [], ◌∷◌, ◌++◌, length, map, take, drop, replicate, slice_get, append_assoc, length-append, Option, Some, None, option_map, if◌then◌else◌}
 use Rattle.std.specs.Prelude.{nat_le, nat_lt}
-use Rattle.std.specs.List.{AllByRecursion}
 use Rattle.c_lex.specs.declared.token.Place.{Place}
 use Rattle.c_expr.specs.Tree.{Tree}
 use Rattle.c_declaration.specs.InitialTree.{InitialTree, Value, Braces, Item}
@@ -9,14 +8,12 @@ use Rattle.ldb_words.specs.declared.kinds.Kind.{Kind}
 use Rattle.c_tree.specs.declared.types.StructDef.{StructDef}
 use Rattle.c_tree.specs.declared.types.Member.{Member}
 use Rattle.c_tree.specs.declared.rows.Program.{Program}
-use Rattle.c_tree.specs.declared.rows.Start.{Start}
-use Rattle.c_tree.specs.declared.rows.Start.TheVariants.{Number}
 use Rattle.c_tree.specs.Layout.{members_of}
-use Rattle.c_typing.specs.Plain.{Plain, Char, Int, Unsigned, Void, Pointer, Array, Struct, plain, is_struct, is_complete}
+use Rattle.c_typing.specs.Plain.{Plain, Char, Int, Unsigned, Void, Pointer, Array, Struct, plain, is_complete}
 use Rattle.c_defs.specs.Depths.{deepest, is_within, are_within}
 use Rattle.c_defs.specs.Leaves.{leaf_count}
-use Rattle.c_judge.specs.Answers.{Known, Unknown, Broken}
-use Rattle.c_scope.specs.Findings.{Finding, fine, nothing, ◌beside◌, holds}
+use Rattle.c_judge.specs.Answers.{Broken}
+use Rattle.c_scope.specs.Findings.{Finding, nothing, holds}
 use Rattle.c_scope.specs.Spelling.{initial_at}
 use Rattle.c_scope.specs.Environment.{Environment}
 use Rattle.c_initial.specs.Initials.{rule_of, is_aggregate, count_of, part_of, value_found, initial_found}
@@ -154,7 +151,7 @@ module _ (p : Program) (q : State) (unit : ℕ) (v : Environment) (w : AreWhole 
   members_give [] = tt
   members_give (m ∷ ms) =
       gives_both (kinds_of v.defs deepest (ctype_of m)) (kinds_of_all (kinds_of v.defs deepest) (map ctype_of ms)) (zeros v.defs (plain m.ctype)) (zeros_of_members v.defs ms)
-        (zeros_give (kinds_of v.defs deepest (ctype_of m)) (leaf_count v.defs deepest (ctype_of m)) (kinds_count v.defs deepest (ctype_of m))) (members_give ms)
+      (zeros_give (kinds_of v.defs deepest (ctype_of m)) (leaf_count v.defs deepest (ctype_of m)) (kinds_count v.defs deepest (ctype_of m))) (members_give ms)
 
   times_count : (n : ℕ) (ks : List Kind) → length (times_of n ks) ≡ n * length ks
   times_count zero ks = omega arith
@@ -174,8 +171,7 @@ module _ (p : Program) (q : State) (unit : ℕ) (v : Environment) (w : AreWhole 
       → (is_within v.defs deepest u ≡ true) × (is_complete v.defs u ≡ true) × IsAtMost t (suc k) × (first_kinds v.defs t (suc k) ≡ first_kinds v.defs t k ++ kinds_of v.defs deepest u)
   part_known (Array t n) k u h i c =
       let e = chosen (nat_lt k n) t u h in
-      let s = kinds_of v.defs deepest t in
-      (
+      let s = kinds_of v.defs deepest t in (
         ap (is_within v.defs deepest) (sym e.1) ∙ i,
         ap (is_complete v.defs) (sym e.1) ∙ (both_parts (nat_le 1 n) (is_complete v.defs t) c).1,
         less k n e.0,

@@ -1,12 +1,12 @@
 -- A declared object of a program is one of its objects.
-use Rattle.std.proofs.Common.{◌≡◌, refl, sym, ap, ◌∙◌, subst, arith, ℕ, zero, suc, ◌+◌, Bool, true, false, not, ◌&&◌, ◌||◌, ◌==◌, true≢false, List, [], ◌∷◌, Option, Some, None, bytes_eq, ⊎_elim, if◌then◌else◌}
+use Rattle.std.proofs.Common.{◌≡◌, refl, sym, ap, ◌∙◌, subst, arith, ℕ, zero, suc, ◌+◌, Bool, true, false, not, ◌&&◌, ◌||◌, ◌==◌, true≢false, List, [], ◌∷◌, Some, None, bytes_eq, if◌then◌else◌}
 use Rattle.std.specs.Prelude.{slice_get}
 use Rattle.std.specs.List.{AllByRecursion}
 use Rattle.std.proofs.lemmas.Bool.{eqb-true}
 use Rattle.std.proofs.lemmas.Slice.Eq.{bytes_eq-Decides}
 use Rattle.c_typing.specs.Plain.{Plain}
-use Rattle.c_typing.specs.Expressions.{Denoted, Object}
-use Rattle.c_file.specs.Names.{FileName, Defining, agree_as, is_here, is_external, is_same, one_type, defines, is_defined}
+use Rattle.c_typing.specs.Expressions.{Object}
+use Rattle.c_file.specs.Names.{FileName, Defining, is_here, is_external, is_same, one_type, defines, is_defined}
 use Rattle.c_file.specs.FileNames.{AreConsistent}
 use Rattle.c_file.specs.Made.{is_body, is_on, objects_from, number_from}
 use Rattle.c_accepted.specs.Declarations.{IsDeclaredBy}
@@ -43,9 +43,11 @@ numbered_first n (x ∷ ds) u s name k d e h = by (defines u s name x) refl k e 
   where
     by : (b : Bool) → defines u s name x ≡ b → (k : ℕ) → slice_get (x ∷ ds) k ≡ Some d → ((j : ℕ) → slice_get ds j ≡ Some d → IsNumbered (suc n) ds u s name) → IsNumbered n (x ∷ ds) u s name
     by true f k g w = record {
-      place = 0; definition = x;
+      place = 0;
+      definition = x;
       number = ap (λ b. if b then Some n else number_from (suc n) ds u s name) f ∙ ap (λ m. Some m) (let z : n ≡ n + 0 = omega arith in z);
-      there = refl; defining = f;
+      there = refl;
+      defining = f;
     }
     by false f zero g w =
         let p : Some x ≡ Some d = g in
@@ -54,9 +56,11 @@ numbered_first n (x ∷ ds) u s name k d e h = by (defines u s name x) refl k e 
     by false f (suc k) g w =
         let r = w k g in
         record {
-          place = suc r.place; definition = r.definition;
+          place = suc r.place;
+          definition = r.definition;
           number = ap (λ b. if b then Some n else number_from (suc n) ds u s name) f ∙ r.number ∙ ap (λ m. Some m) (let z : suc n + r.place ≡ n + suc r.place = omega arith in z);
-          there = r.there; defining = r.defining;
+          there = r.there;
+          defining = r.defining;
         }
 
 -- ---- each object is once on the list
@@ -79,7 +83,7 @@ listed P seen (x ∷ ds) zero d a e b h =
     let q : x ≡ d = cc in
     let new : (is_body x.manner || is_on x seen) ≡ false = ap (λ (y : Defining). is_body y.manner || is_on y seen) q ∙ (λ i. b i || h i) in
     subst (λ c. IsListed (if c then objects_from seen ds else x ∷ objects_from (x ∷ seen) ds) P d) (sym new)
-      (record { number = 0; object = x; there = refl; unit = ap (λ (y : Defining). y.unit) q; name = ap (λ (y : Defining). y.name) q; holds = a.0 })
+    (record { number = 0; object = x; there = refl; unit = ap (λ (y : Defining). y.unit) q; name = ap (λ (y : Defining). y.name) q; holds = a.0 })
 listed P seen (x ∷ ds) (suc k) d a e b h =
     by (is_body x.manner || is_on x seen) ((d.unit == x.unit) && bytes_eq d.name x.name) refl (listed P seen ds k d a.1 e b h) (λ w. listed P (x ∷ seen) ds k d a.1 e b w)
   where
@@ -164,4 +168,4 @@ module _ (fs : List FileName) (consistent : AreConsistent fs) (ds : List Definin
       let told = l.holds in
       let linkage : x.is_static ≡ d.is_static = sym told.linkage ∙ one_linkage_in fs told.number by.number told.declaration g consistent told.there by.there (told.unit ∙ l.unit ∙ sym by.unit) (told.name ∙ l.name ∙ sym by.name) ∙ by.linkage in
       numbered_first 0 (objects_from [] ds) f.unit f.is_static f.name l.number x l.there
-        (defines_if f.unit f.is_static f.name x (l.name ∙ is.0) (λ s. (linkage ∙ (is.1 s).0, l.unit ∙ (is.1 s).1)) (λ s. linkage ∙ is.2 s))
+      (defines_if f.unit f.is_static f.name x (l.name ∙ is.0) (λ s. (linkage ∙ (is.1 s).0, l.unit ∙ (is.1 s).1)) (λ s. linkage ∙ is.2 s))

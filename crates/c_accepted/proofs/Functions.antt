@@ -1,11 +1,9 @@
 -- A function of the program keeps to the rules: its body, its points, its locals, and what is in scope at its braces.
-use Rattle.std.proofs.Common.{◌≡◌, ◌≤◌, ◌<◌, refl, sym, ap, ◌∙◌, subst, arith, ℕ, zero, suc, ◌+◌, Bool, true, false, true≢false, List, [], ◌∷◌, ◌++◌, length, map, length-append, append_assoc, Option, Some, None}
+use Rattle.std.proofs.Common.{◌≡◌, refl, sym, ap, ◌∙◌, subst, arith, ℕ, zero, suc, ◌+◌, List, [], ◌∷◌, ◌++◌, length, map, length-append, Some}
 use Rattle.std.specs.Prelude.{slice_get}
-use Rattle.std.specs.List.{AllByRecursion}
 use Rattle.std.proofs.lemmas.List.{map-append}
 use Rattle.c_expr.specs.Tree.{Tree}
 use Rattle.c_statement.specs.Tree.{StatementTree, Closed}
-use Rattle.c_tree.specs.declared.types.StructDef.{StructDef}
 use Rattle.c_tree.specs.declared.typed.Stmt.{Stmt}
 use Rattle.c_tree.specs.declared.typed.Stmt.TheVariants as typed
 use Rattle.c_tree.specs.declared.rows.Program.{Program}
@@ -18,8 +16,8 @@ use Rattle.c_typing.specs.Statements as rules
 use Rattle.c_typing.specs.Statements.{IsPointWith, IsStatement, local_numbers, locals_of}
 use Rattle.c_typing.specs.Accepted.{numbers, IsBlock, AreEnds}
 use Rattle.c_judge.specs.Answers.{Known}
-use Rattle.c_mentions.specs.Literals.{in_statement, texts}
-use Rattle.c_scope.specs.Environment.{Environment, Row, Visible}
+use Rattle.c_mentions.specs.Literals.{in_statement}
+use Rattle.c_scope.specs.Environment.{Environment, Row}
 use Rattle.c_scope.specs.Findings.{Fine}
 use Rattle.c_body.specs.Bodies as bodies
 use Rattle.c_body.specs.Bodies.{after, found}
@@ -29,14 +27,14 @@ use Rattle.c_body.specs.Becoming.{Before, IsBodyOf, row_list}
 use Rattle.c_file.specs.Files.{State, Bodied}
 use Rattle.c_file.specs.Made.{behind_block}
 use Rattle.c_accepted.specs.Sources.{IsInOrder, AllIn, HasWordsIn}
-use Rattle.c_accepted.proofs.Runs.{Runs, runs_on, runs_to, runs_same, runs_numbers, runs_length, numbers_run, numbers_length, IsAt, at_first, at_second}
-use Rattle.c_accepted.proofs.Points.{holds_run, row_points, block_points, points_of_all, points_of_inits}
-use Rattle.c_accepted.proofs.Keeps.{Keeps, after_keeps, Within, within_before}
-use Rattle.c_accepted.proofs.Scopes.{Ground, Fits, placed}
+use Rattle.c_accepted.proofs.Runs.{Runs, runs_on, runs_to, runs_same, numbers_run, numbers_length, IsAt, at_first, at_second}
+use Rattle.c_accepted.proofs.Points.{holds_run, row_points, block_points, points_of_inits}
+use Rattle.c_accepted.proofs.Keeps.{after_keeps, Within, within_before}
+use Rattle.c_accepted.proofs.Scopes.{Fits, placed}
 use Rattle.c_accepted.proofs.Listed.{Listed, stop_row}
 use Rattle.c_accepted.proofs.Statements.{AllTold, IsSource, block, typed_row, words_row, Matches}
-use Rattle.c_accepted.proofs.LocalNumbers.{block_run, row_locals, locals_of_all}
-use Rattle.c_accepted.proofs.Bodied.{ends, Stood, ground, FitsIn, here_fits, here_locals, within_ends, locals_count}
+use Rattle.c_accepted.proofs.LocalNumbers.{block_run, row_locals}
+use Rattle.c_accepted.proofs.Bodied.{ends, Stood, ground, here_fits, here_locals, within_ends, locals_count}
 
 last_number : (a n : ℕ) → last_of (numbers a (suc n)) ≡ a + n
 last_number a zero = omega arith

@@ -1,5 +1,5 @@
 -- An initializer gives the leaves of its object, where its numbers are words and its places are in objects.
-use Rattle.std.proofs.Common.{◌≡◌, ◌≤◌, ◌<◌, refl, sym, ap, ◌∙◌, subst, arith, ℕ, zero, suc, ◌+◌, Bool, true, false, not, ◌&&◌, ◌||◌, ◌==◌, true≢false, List, [], ◌∷◌, length, map, Option, Some, None, bytes_eq, if◌then◌else◌}
+use Rattle.std.proofs.Common.{◌≡◌, refl, sym, ap, ◌∙◌, subst, arith, ℕ, zero, suc, true, not, ◌||◌, ◌==◌, List, [], ◌∷◌, length, map, Some, None, bytes_eq, if◌then◌else◌}
 use Rattle.std.specs.Prelude.{slice_get}
 use Rattle.std.specs.List.{AllByRecursion}
 use Rattle.std.proofs.lemmas.Bool.{eqb-true}
@@ -9,10 +9,8 @@ use Rattle.c_tree.specs.declared.types.StructDef.{StructDef}
 use Rattle.c_tree.specs.declared.types.Member.{Member}
 use Rattle.c_tree.specs.declared.rows.Program.{Program}
 use Rattle.c_tree.specs.Layout.{members_of}
-use Rattle.c_typing.specs.Plain.{Plain, plain, is_complete}
 use Rattle.c_defs.specs.Depths.{deepest}
 use Rattle.c_scope.specs.Environment.{Environment}
-use Rattle.c_initial.specs.Begins.{strings_of, begins_of}
 use Rattle.c_initial.specs.Filled as filled
 use Rattle.c_initial.specs.Filled.{AreComplete}
 use Rattle.c_file.specs.Names.{FileName, Defining, is_here, one_linkage}

@@ -1,26 +1,20 @@
 -- Behind the type that a declaration begins with, its structs are sound.
-use Rattle.std.proofs.Common.{◌≡◌, ◌≤◌, ◌<◌, refl, sym, ap, ◌∙◌, subst, ℕ, Bool, true, false, List, [], ◌∷◌, ◌++◌, length, map, Option, Some, None}
-use Rattle.std.specs.Prelude.{slice_get}
-use Rattle.std.specs.List.{AllByRecursion}
-use Rattle.c_expr.specs.declared.tree.Spec.{Spec}
-use Rattle.c_declaration.specs.Tree.{DeclaratorTree}
+use Rattle.std.proofs.Common.{◌≡◌, refl, sym, ap, ◌∙◌, subst, ℕ, List, [], ◌∷◌, ◌++◌, Option, Some, None}
 use Rattle.c_declaration.specs.declared.tree.FileSpec.{FileSpec}
 use Rattle.c_declaration.specs.declared.tree.FileSpec.TheVariants as file
 use Rattle.c_declaration.specs.declared.tree.MemberPart.{MemberPart}
 use Rattle.c_declaration.specs.declared.tree.MemberPart.TheVariants.{Opens, Row, Closes}
 use Rattle.c_tree.specs.declared.types.StructDef.{StructDef}
 use Rattle.c_tree.specs.declared.types.Member.{Member}
-use Rattle.c_tree.specs.Layout.{members_of}
-use Rattle.c_typing.specs.Plain.{Plain, Struct, is_empty, is_complete}
+use Rattle.c_typing.specs.Plain.{Plain, Struct, is_empty}
 use Rattle.c_judge.specs.Answers.{Answer, Known, Unknown, Broken}
 use Rattle.c_judge.specs.Judgement.{limited, spec_type}
 use Rattle.c_scope.specs.Environment.{Environment, scope_of, struct_of}
-use Rattle.c_scope.specs.Findings.{Finding, Fine, fine, nothing}
+use Rattle.c_scope.specs.Findings.{Fine, fine, nothing}
 use Rattle.c_mentions.specs.Tags.{in_spec, in_all, in_member, in_file_spec, in_declarator}
 use Rattle.c_struct.specs.Structs.{Written, Open, members, Completes, completed_found}
 use Rattle.c_struct.specs.Specifies.{Goes, Ends, Inside, Specifies}
-use Rattle.c_accepted.specs.Grown.{IsMade, Grows}
-use Rattle.c_accepted.specs.Completed.{AreSound, Extends}
+use Rattle.c_accepted.specs.Grown.{Grows}
 use Rattle.c_accepted.proofs.Growth.{complete_grows}
 use Rattle.c_accepted.proofs.Known.{never, one_known}
 use Rattle.c_accepted.proofs.Written.{IsNamed}

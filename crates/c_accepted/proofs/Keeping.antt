@@ -1,5 +1,5 @@
 -- A function of the program keeps to every rule on functions.
-use Rattle.std.proofs.Common.{◌≡◌, ◌≤◌, ◌<◌, refl, sym, ap, ◌∙◌, subst, arith, ℕ, zero, suc, ◌+◌, Bool, true, false, not, ◌&&◌, ◌||◌, true≢false, List, [], ◌∷◌, ◌++◌, length, map, drop, length-append, append_assoc, Option, Some, None}
+use Rattle.std.proofs.Common.{◌≡◌, ◌≤◌, ◌<◌, refl, sym, ap, ◌∙◌, subst, arith, ℕ, zero, suc, ◌+◌, Bool, true, false, not, ◌&&◌, ◌||◌, true≢false, List, [], ◌∷◌, ◌++◌, length, map, drop, Option, Some, None}
 use Rattle.std.specs.Prelude.{slice_get, if◌then◌else◌, ◌==◌, bytes_eq, codes}
 use Rattle.std.specs.List.{AllByRecursion}
 use Rattle.c_expr.specs.Tree.{Tree}
@@ -11,29 +11,27 @@ use Rattle.c_statement.specs.declared.tree.Head.TheVariants as head
 use Rattle.c_tree.specs.declared.rows.Program.{Program}
 use Rattle.c_tree.specs.declared.rows.UnitRow.{UnitRow}
 use Rattle.c_tree.specs.declared.rows.Function.{Function as FunctionRow}
-use Rattle.c_typing.specs.Plain.{Plain, Int, plain, same, is_scalar}
+use Rattle.c_typing.specs.Plain.{Plain, Int, plain, same}
 use Rattle.c_typing.specs.Written.{IsWritten}
 use Rattle.c_typing.specs.Expressions.{Function}
-use Rattle.c_typing.specs.Declared.{has, is_result, parameters}
-use Rattle.c_typing.specs.Accepted.{IsFunction, AreScalars, is_called_main, IsLocal}
+use Rattle.c_typing.specs.Declared.{has, is_result}
+use Rattle.c_typing.specs.Accepted.{IsFunction, AreScalars, IsLocal}
 use Rattle.c_mentions.specs.Literals.{in_tree}
 use Rattle.c_mentions.specs.Tags as tags
-use Rattle.c_scope.specs.Environment.{Environment, Row, struct_of}
+use Rattle.c_scope.specs.Environment.{Environment, struct_of}
 use Rattle.c_scope.specs.Declarators.{Parameter, parameter_type}
 use Rattle.c_scope.specs.Declarators as shapes
-use Rattle.c_body.specs.Bodies.{after}
 use Rattle.c_body.specs.Stops.{inside_block}
-use Rattle.c_file.specs.Names.{declared_as_main, agree_as, same_all}
-use Rattle.c_file.specs.Files.{State, Bodied, with_parameters}
-use Rattle.c_file.specs.Made.{Each, IsLocalOf, HasRows, AreUnits, functions_of, behind_block}
+use Rattle.c_file.specs.Names.{declared_as_main, agree_as}
+use Rattle.c_file.specs.Files.{State, Bodied}
+use Rattle.c_file.specs.Made.{HasRows, AreUnits, functions_of, behind_block}
 use Rattle.c_accepted.specs.Sources.{IsInOrder, AreApart, AllIn, AllInPart, AllInInitial, AllInNames, AllInHead, HasWordsIn}
 use Rattle.c_accepted.proofs.Runs.{all_first, all_second}
 use Rattle.c_accepted.proofs.Written.{IsNamed, written}
-use Rattle.c_accepted.proofs.Keeps.{Keeps}
 use Rattle.c_accepted.proofs.Statements.{AllTold, IsSource}
 use Rattle.c_accepted.proofs.Declarators.{IsTaken, IsShaped}
 use Rattle.c_accepted.proofs.Locals.{IsGood, AreTagged, Goods, goods_on, after_good, parameters_good, locals_good}
-use Rattle.c_accepted.proofs.Bodied.{ends, Stood, ground, more, keeps_ends, each_local, parameters_are}
+use Rattle.c_accepted.proofs.Bodied.{ends, Stood, ground, keeps_ends, each_local, parameters_are}
 use Rattle.c_accepted.proofs.Functions.{is_block, is_typed, has_points, is_numbered, are_ends, are_declared}
 
 -- ---- the sources of expressions

@@ -1,13 +1,10 @@
 -- What the declarations and statements of a function leave as it was: names that are declared keep their numbers, and each local has the next number.
-use Rattle.std.proofs.Common.{◌≡◌, ◌≤◌, refl, sym, ap, ◌∙◌, subst, arith, ℕ, suc, ◌+◌, Bool, List, [], ◌∷◌, ◌++◌, length, length-append, append_assoc, Option, Some, None}
+use Rattle.std.proofs.Common.{◌≡◌, refl, ap, ◌∙◌, arith, ℕ, suc, ◌+◌, Bool, List, [], ◌∷◌, ◌++◌, length, length-append, append_assoc, Some}
 use Rattle.std.specs.List.{AllByRecursion}
 use Rattle.c_expr.specs.declared.tree.Spec.{Spec}
 use Rattle.c_declaration.specs.declared.tree.Declared.{Declared}
 use Rattle.c_declaration.specs.declared.tree.Local.{Local}
 use Rattle.c_statement.specs.Tree.{StatementTree, Empty, Evaluate, Begun, Declares, Also, Closed, If, IfElse, Headed, Do, Break, Continue, Return}
-use Rattle.c_statement.specs.declared.tree.Head.{Head}
-use Rattle.c_statement.specs.declared.tree.Head.TheVariants as head
-use Rattle.c_tree.specs.declared.types.StructDef.{StructDef}
 use Rattle.c_tree.specs.declared.typed.Stmt.{Stmt, None', Some'}
 use Rattle.c_tree.specs.declared.typed.Stmt.TheVariants as typed
 use Rattle.c_typing.specs.Plain.{Plain}
@@ -16,7 +13,7 @@ use Rattle.c_judge.specs.Answers.{Answer, Known, Unknown, Broken}
 use Rattle.c_scope.specs.Environment.{Environment, Row, declare_local, enter, leave, innermost}
 use Rattle.c_body.specs.Locals.{local_type, with_local, after_local, after_names, after_declaration}
 use Rattle.c_body.specs.Bodies.{after}
-use Rattle.c_body.specs.Becoming.{Before, IsHeaded, Becomes, behind, behind_head, behind_expression}
+use Rattle.c_body.specs.Becoming.{Before, Becomes, behind, behind_head, behind_expression}
 use Rattle.c_accepted.proofs.Runs.{all_both}
 
 -- a name of a function

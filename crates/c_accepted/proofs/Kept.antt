@@ -12,7 +12,6 @@ use Rattle.c_tree.specs.declared.rows.SymbolRow.{SymbolRow}
 use Rattle.c_tree.specs.declared.rows.Referent.{Referent}
 use Rattle.c_tree.specs.declared.rows.Referent.TheVariants as refers
 use Rattle.c_tree.specs.declared.types.CType.TheVariants as ctype
-use Rattle.c_tree.specs.declared.types.StructDef.{StructDef}
 use Rattle.c_typing.specs.Plain.{Plain, plain}
 use Rattle.c_typing.specs.Written.{IsWritten}
 use Rattle.c_typing.specs.Expressions.{Denoted, Object, Function, Hidden}
@@ -20,12 +19,11 @@ use Rattle.c_typing.specs.Declared.{denoted, denoted_by, scope_at}
 use Rattle.c_typing.specs.Statements.{local_on, locals_from}
 use Rattle.c_typing.specs.Accepted.{AllFrom, IsFunction}
 use Rattle.c_mentions.specs.Literals.{in_statement, texts}
-use Rattle.c_scope.specs.Environment.{Environment, Row, Visible, innermost, number_of}
-use Rattle.c_body.specs.Bodies.{after}
+use Rattle.c_scope.specs.Environment.{Row, Visible, innermost, number_of}
 use Rattle.c_body.specs.Stops.{stops_of, inside_block}
 use Rattle.c_body.specs.Calls.{calls_in}
 use Rattle.c_file.specs.Names.{is_built_in}
-use Rattle.c_file.specs.Files.{State, Bodied, Called, called_all, with_parameters}
+use Rattle.c_file.specs.Files.{State, Bodied, called_all}
 use Rattle.c_file.specs.Programs.{Well, AllFiles, tags_of, at_first, any, many, many_in_spec, many_below, takes_many}
 use Rattle.c_file.specs.Made.{Each, HasRows, IsFunctionOf, IsSymbolOf, all_points, points_from, behind_block, referent_of, type_of_name}
 use Rattle.c_file.specs.Made as made
@@ -35,13 +33,12 @@ use Rattle.c_accepted.specs.Asked.{AreTexts, BodiesHaveWords, StructsAreWritten,
 use Rattle.c_accepted.proofs.Runs.{IsAt}
 use Rattle.c_accepted.proofs.Keeps.{Keeps, keeps_on, after_keeps}
 use Rattle.c_accepted.proofs.Scopes.{first_there, some_same}
-use Rattle.c_accepted.proofs.Listed.{Listed, Good, stop_row}
+use Rattle.c_accepted.proofs.Listed.{Good}
 use Rattle.c_accepted.proofs.AllTold.{all_told}
-use Rattle.c_accepted.proofs.Bodied.{Stood, ends, each_there, parameters_keep}
+use Rattle.c_accepted.proofs.Bodied.{Stood, each_there, parameters_keep}
 use Rattle.c_accepted.proofs.Keeping.{Heading, is_function}
 use Rattle.c_accepted.proofs.AllTags.{tags_there}
-use Rattle.c_accepted.proofs.Walked.{Stands}
-use Rattle.c_accepted.proofs.Entries.{Entry, Inv, AreShown, IsOuter, IsPlain, shown_more, number_below, points_all, stop_at}
+use Rattle.c_accepted.proofs.Entries.{Entry, AreShown, IsOuter, shown_more, number_below, points_all, stop_at}
 use Rattle.c_accepted.proofs.Steps.{IsSourced}
 use Rattle.c_accepted.proofs.Bodies.{bodies_behind}
 

@@ -1,24 +1,22 @@
 -- The labels of a `switch` as it is typed are those that were found to differ.
-use Rattle.std.proofs.Common.{◌≡◌, ◌≤◌, ◌<◌, refl, sym, ap, ◌∙◌, subst, arith, ℕ, zero, suc, ◌+◌, Bool, true, false, not, ◌||◌, true≢false, List, [], ◌∷◌, ◌++◌, length, map, append_assoc, Option, Some, None}
-use Rattle.std.specs.Prelude.{slice_get, if◌then◌else◌, ◌==◌}
+use Rattle.std.proofs.Common.{◌≡◌, ◌≤◌, refl, sym, ap, ◌∙◌, arith, ℕ, suc, ◌+◌, Bool, true, false, not, ◌||◌, true≢false, List, [], ◌∷◌, ◌++◌, append_assoc, Option, Some, None}
+use Rattle.std.specs.Prelude.{if◌then◌else◌, ◌==◌}
 use Rattle.c_expr.specs.Tree.{Tree}
-use Rattle.c_declaration.specs.declared.tree.Local.{Local}
 use Rattle.c_statement.specs.Tree.{StatementTree, Empty, Evaluate, Begun, Declares, Also, Closed, If, IfElse, Headed, Do, Break, Continue, Return}
 use Rattle.c_statement.specs.declared.tree.Head.{Head}
 use Rattle.c_statement.specs.declared.tree.Head.TheVariants as head
 use Rattle.c_tree.specs.declared.typed.Site.{Site}
 use Rattle.c_tree.specs.declared.typed.DeclaredLocal.{DeclaredLocal}
-use Rattle.c_tree.specs.declared.typed.Stmt.{Stmt, Row_of-Stmt, end_of-Stmt, more_of-Stmt, Held-Stmt-If-3, None', Some'}
+use Rattle.c_tree.specs.declared.typed.Stmt.{Stmt, Row_of-Stmt, end_of-Stmt, more_of-Stmt, None', Some'}
 use Rattle.c_tree.specs.declared.typed.Stmt.TheVariants as typed
 use Rattle.c_typing.specs.Declared.{has}
 use Rattle.c_typing.specs.Statements.{constants_before, defaults_before, constants_in, defaults_in, AreDifferent}
 use Rattle.c_judge.specs.Answers.{Known}
-use Rattle.c_judge.specs.Judgement.{judged}
-use Rattle.c_scope.specs.Environment.{Environment, denoted_by, number_of, scope_of}
-use Rattle.c_scope.specs.Findings.{Fine, fine, holds, ◌beside◌}
+use Rattle.c_scope.specs.Environment.{Environment}
+use Rattle.c_scope.specs.Findings.{Fine, fine, holds}
 use Rattle.c_scope.specs.Declarators.{constant}
 use Rattle.c_body.specs.Bodies.{Label, value_in, judged_in, case_label, labels_before, labels_in, same_value, is_used, differ, after, is_plain_block}
-use Rattle.c_body.specs.Becoming.{Before, IsLabel, IsHeaded, Becomes, Holds, row_list, behind, behind_head}
+use Rattle.c_body.specs.Becoming.{Before, IsHeaded, Becomes, Holds, row_list, behind, behind_head}
 use Rattle.c_accepted.proofs.Known.{if_known, two_known}
 use Rattle.c_accepted.proofs.Keeps.{after_visible}
 

@@ -1,5 +1,5 @@
 -- What stands in a part of a function, by its numbers in the program: its points and its strings, and that what it calls is there.
-use Rattle.std.proofs.Common.{◌≡◌, refl, sym, ap, ◌∙◌, subst, arith, ℕ, suc, ◌+◌, List, [], ◌∷◌, ◌++◌, length, map, length-append, Option, Some, None}
+use Rattle.std.proofs.Common.{◌≡◌, refl, ap, subst, arith, ℕ, suc, ◌+◌, List, [], ◌∷◌, ◌++◌, length, map, Option, Some, None}
 use Rattle.std.specs.Prelude.{slice_get}
 use Rattle.std.specs.List.{AllByRecursion}
 use Rattle.std.proofs.lemmas.List.{map-append}
@@ -9,9 +9,9 @@ use Rattle.c_tree.specs.declared.rows.Point.{Point}
 use Rattle.c_typing.specs.Plain.{Plain}
 use Rattle.c_typing.specs.Expressions.{Function}
 use Rattle.c_typing.specs.Declared.{scope_at}
-use Rattle.c_scope.specs.Environment.{Environment, Row, Visible, number_of}
+use Rattle.c_scope.specs.Environment.{Row, Visible, number_of}
 use Rattle.c_mentions.specs.Literals.{Literal, texts, in_part, in_tree}
-use Rattle.c_body.specs.Stops.{Stop, at_part}
+use Rattle.c_body.specs.Stops.{Stop}
 use Rattle.c_body.specs.Becoming.{Before, past, past_part}
 use Rattle.c_accepted.proofs.Runs.{IsAt, at_first, at_second, all_first, all_second}
 

@@ -1,6 +1,5 @@
 -- The locals of a function's body have their numbers one after another, in the order of the source.
-use Rattle.std.proofs.Common.{◌≡◌, refl, sym, ap, ◌∙◌, subst, ℕ, suc, Bool, List, [], ◌∷◌, ◌++◌, append_assoc, Option, Some, None}
-use Rattle.c_expr.specs.Tree.{Tree}
+use Rattle.std.proofs.Common.{◌≡◌, refl, sym, ap, ◌∙◌, subst, ℕ, suc, List, [], ◌∷◌, ◌++◌, append_assoc, Some, None}
 use Rattle.c_declaration.specs.Tree.{begins}
 use Rattle.c_declaration.specs.declared.tree.Declared.{Declared}
 use Rattle.c_declaration.specs.declared.tree.Local.{Local}
@@ -9,19 +8,18 @@ use Rattle.c_statement.specs.declared.tree.Head.{Head}
 use Rattle.c_statement.specs.declared.tree.Head.TheVariants as head
 use Rattle.c_tree.specs.declared.typed.Site.{Site}
 use Rattle.c_tree.specs.declared.typed.DeclaredLocal.{DeclaredLocal}
-use Rattle.c_tree.specs.declared.typed.Stmt.{Stmt, Row_of-Stmt, end_of-Stmt, more_of-Stmt, Held-Stmt-If-3, None', Some'}
+use Rattle.c_tree.specs.declared.typed.Stmt.{Stmt, Row_of-Stmt, end_of-Stmt, more_of-Stmt, None', Some'}
 use Rattle.c_tree.specs.declared.typed.Stmt.TheVariants as typed
 use Rattle.c_typing.specs.Plain.{Plain}
-use Rattle.c_typing.specs.Declared.{is_named}
 use Rattle.c_typing.specs.Statements.{local_numbers, locals_of, locals_of_row}
 use Rattle.c_judge.specs.Answers.{Known}
 use Rattle.c_scope.specs.Environment.{Environment, enter}
 use Rattle.c_scope.specs.Findings.{Fine, ◌beside◌, holds}
-use Rattle.c_body.specs.Locals.{local_type, local_name, with_local, after_local, after_names, names_found, local_found, initial_found}
+use Rattle.c_body.specs.Locals.{local_type, with_local, after_local, after_names, names_found, local_found, initial_found}
 use Rattle.c_body.specs.Bodies.{Around, inside, in_loop, in_block, around_of, tested, head_found, found, after}
 use Rattle.c_body.specs.Becoming.{Before, past, of_initial, AreLocals, row_list, behind, behind_head, behind_expression, IsHeaded, Becomes, Holds}
 use Rattle.c_mentions.specs.Literals as literals
-use Rattle.c_accepted.specs.Sources.{IsOpened, IsInOrder}
+use Rattle.c_accepted.specs.Sources.{IsInOrder}
 use Rattle.c_accepted.proofs.Runs.{Runs, runs_on}
 use Rattle.c_accepted.proofs.Points.{opened_holds, opened_order}
 use Rattle.c_accepted.proofs.Statements.{beside_known, numbers_both}

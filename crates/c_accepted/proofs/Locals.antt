@@ -1,12 +1,10 @@
 -- Each local of a function is declared as locals may be.
-use Rattle.std.proofs.Common.{◌≡◌, ◌≤◌, ◌<◌, refl, sym, ap, ◌∙◌, subst, arith, ℕ, zero, suc, ◌+◌, Bool, true, false, not, ◌&&◌, ◌||◌, true≢false, List, [], ◌∷◌, ◌++◌, length, map, drop, length-append, append_assoc, Option, Some, None}
+use Rattle.std.proofs.Common.{◌≡◌, ◌<◌, refl, sym, ap, ◌∙◌, subst, ℕ, Bool, true, false, not, ◌||◌, true≢false, List, [], ◌∷◌, ◌++◌, length, append_assoc}
 use Rattle.std.specs.Prelude.{if◌then◌else◌}
 use Rattle.std.specs.List.{AllByRecursion}
 use Rattle.c_expr.specs.declared.tree.Spec.{Spec}
-use Rattle.c_expr.specs.declared.tree.Spec.TheVariants as spec
 use Rattle.c_declaration.specs.Tree.{begins}
 use Rattle.c_declaration.specs.declared.tree.Declared.{Declared}
-use Rattle.c_declaration.specs.declared.tree.Local.{Local}
 use Rattle.c_statement.specs.Tree.{StatementTree, Empty, Evaluate, Begun, Declares, Also, Closed, If, IfElse, Headed, Do, Break, Continue, Return}
 use Rattle.c_tree.specs.declared.types.StructDef.{StructDef}
 use Rattle.c_tree.specs.declared.types.CType.TheVariants as ctype
@@ -20,16 +18,16 @@ use Rattle.c_judge.specs.Judgement.{spec_type}
 use Rattle.c_mentions.specs.Tags as tags
 use Rattle.c_scope.specs.Environment.{Environment, Row, declare_local, enter, leave, scope_of, struct_of}
 use Rattle.c_scope.specs.Declarators.{Shape, Object, Function, Parameter, shape}
-use Rattle.c_body.specs.Locals.{kept, local_type, local_name, with_local, after_local, after_names, after_declaration}
+use Rattle.c_body.specs.Locals.{kept, local_type, local_name, with_local, after_local, after_names}
 use Rattle.c_body.specs.Bodies.{after}
 use Rattle.c_file.specs.Files.{State, with_parameters, are_named}
 use Rattle.c_file.specs.Made.{Each, IsLocalOf}
 use Rattle.c_accepted.specs.Grown.{Grows}
-use Rattle.c_accepted.proofs.Known.{never, one_known, then_known, if_known}
+use Rattle.c_accepted.proofs.Known.{never, then_known, if_known}
 use Rattle.c_accepted.proofs.Growth.{complete_grows}
 use Rattle.c_accepted.proofs.Runs.{all_first, all_second, all_both}
 use Rattle.c_accepted.proofs.Written.{IsNamed, written, unless_known}
-use Rattle.c_accepted.proofs.Declarators.{IsTaken, IsShaped, AreTags, shape_named, spec_named}
+use Rattle.c_accepted.proofs.Declarators.{IsShaped, AreTags, shape_named, spec_named}
 use Rattle.c_accepted.proofs.Bodied.{named_one, named_step}
 
 nil : {A : Type 0} (xs : List A) → xs ≡ xs ++ []

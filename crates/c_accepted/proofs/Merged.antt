@@ -1,5 +1,5 @@
 -- The structs of a program are those of its files: two files that complete one tag lay it out in one way.
-use Rattle.std.proofs.Common.{◌≡◌, ◌≤◌, ◌<◌, refl, sym, ap, ◌∙◌, subst, arith, ℕ, zero, suc, ◌+◌, ◌*◌, max, Bool, true, false, not, ◌&&◌, true≢false, List, [], ◌∷◌, length, map, Option, Some, None}
+use Rattle.std.proofs.Common.{◌≡◌, ◌<◌, refl, sym, ap, ◌∙◌, subst, arith, ℕ, zero, suc, ◌+◌, ◌*◌, max, Bool, true, false, true≢false, List, [], ◌∷◌, length, map, Option, Some, None}
 use Rattle.std.specs.Prelude.{slice_get, nat_le, if◌then◌else◌}
 use Rattle.std.specs.Int.{next_multiple_of}
 use Rattle.std.specs.List.{AllByRecursion}
@@ -8,7 +8,7 @@ use Rattle.c_tree.specs.declared.types.StructDef.{StructDef}
 use Rattle.c_tree.specs.declared.types.Member.{Member}
 use Rattle.c_tree.specs.Layout as layout
 use Rattle.c_tree.specs.Layout.{members_of, members_in, size_in, struct_size_of, alignment_of, alignment_of_members, AreLaid, IsLaidOut}
-use Rattle.c_typing.specs.Plain.{Plain, Char, Int, Unsigned, Void, Pointer, Array, Struct, plain, is_empty, is_complete}
+use Rattle.c_typing.specs.Plain.{Plain, Char, Int, Unsigned, Void, Pointer, Array, Struct, is_empty, is_complete}
 use Rattle.c_defs.specs.Depths.{is_within, are_within}
 use Rattle.c_judge.specs.Values.{size_of}
 use Rattle.c_judge.proofs.Sizes.{size_of_plain}
@@ -70,7 +70,7 @@ module _ (some others : List StructDef) (a : AreSound some) (b : AreSound others
   same_alignment (suc n) (Array t k) g h = same_alignment n t (both_parts (nat_le 1 k) (is_complete some t) g).1 (both_parts (nat_le 1 k) (is_complete others t) h).1
   same_alignment (suc n) (Struct s) g h =
       pairs_aligned (aligned some n) (aligned others n) (λ t x y. same_alignment n t x y) (members_of some s) (members_of others s) (held_in some a s) (held_in others b s)
-        (same_types s (not_empty (is_empty (members_of some s)) g) (not_empty (is_empty (members_of others s)) h))
+      (same_types s (not_empty (is_empty (members_of some s)) g) (not_empty (is_empty (members_of others s)) h))
 
   module _ (n : ℕ) (sizes : (t : Plain) → is_within some n t ≡ true → is_complete some t ≡ true → is_complete others t ≡ true → size_of some t ≡ size_of others t) where
     one_size : (m k : Member) → ctype_of m ≡ ctype_of k → IsHeld some m → IsHeld others k → is_within some n (ctype_of m) ≡ true → layout.size_of some m.ctype ≡ layout.size_of others k.ctype
@@ -98,9 +98,9 @@ module _ (some others : List StructDef) (a : AreSound some) (b : AreSound others
         let (end, x, p) = g.laid in
         let (stop, y, q) = h.laid in
         let alignment : alignment_of_members (alignment_of some) d.members ≡ alignment_of_members (alignment_of others) k.members =
-            members_aligned (alignment_of some) (aligned some 64) (λ u. as_aligned some 64 u) d.members ∙
-            pairs_aligned (aligned some 64) (aligned others 64) (λ t c f. same_alignment 64 t c f) d.members k.members g.held h.held e ∙
-            sym (members_aligned (alignment_of others) (aligned others 64) (λ u. as_aligned others 64 u) k.members) in
+        members_aligned (alignment_of some) (aligned some 64) (λ u. as_aligned some 64 u) d.members ∙
+        pairs_aligned (aligned some 64) (aligned others 64) (λ t c f. same_alignment 64 t c f) d.members k.members g.held h.held e ∙
+        sym (members_aligned (alignment_of others) (aligned others 64) (λ u. as_aligned others 64 u) k.members) in
         p ∙ ap (next_multiple_of end) alignment ∙ ap (λ z. next_multiple_of z (alignment_of_members (alignment_of others) k.members)) (ends 0 0 d.members k.members end stop refl e g.held h.held w x y) ∙ sym q
 
     rows_size : (s : ℕ) → is_empty (members_of some s) ≡ false → is_empty (members_of others s) ≡ false → are_within (is_within some n) (members_of some s) ≡ true
@@ -234,7 +234,7 @@ module _ (others here : List StructDef) (l : length others ≡ length here) (a :
       by (Some x) (Some y) f g h =
           let k : completed_one x y ≡ d = (let q : Some (completed_one x y) ≡ Some d = h in cc) in
           subst (IsSound (completed_by others here)) k
-            (one x y (is_empty x.members) refl (sound_grows others (completed_by others here) grows_others x (b s x f)) (sound_grows here (completed_by others here) grows_here y (a s y g)))
+          (one x y (is_empty x.members) refl (sound_grows others (completed_by others here) grows_others x (b s x f)) (sound_grows here (completed_by others here) grows_here y (a s y g)))
       by None p f g h = absurd (let q : None ≡ Some d = h in cc)
       by (Some x) None f g h = absurd (let q : None ≡ Some d = h in cc)
 

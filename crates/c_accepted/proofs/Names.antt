@@ -1,5 +1,5 @@
 -- The names and the definitions of a program fit each other.
-use Rattle.std.proofs.Common.{◌≡◌, refl, sym, ap, ◌∙◌, subst, arith, ◌≤◌, ◌<◌, ℕ, zero, suc, Bool, true, false, List, [], ◌∷◌, ◌++◌, length, Option, Some, None, not, ◌&&◌, if◌then◌else◌}
+use Rattle.std.proofs.Common.{◌≡◌, refl, sym, ap, ◌∙◌, subst, arith, ◌≤◌, ◌<◌, ℕ, suc, Bool, true, false, List, [], ◌∷◌, ◌++◌, Option, Some, None, not, ◌&&◌, if◌then◌else◌}
 use Rattle.std.specs.Prelude.{slice_get}
 use Rattle.std.specs.List.{AllByRecursion}
 use Rattle.c_declaration.specs.Tree.{DeclaratorTree, begins}
@@ -14,22 +14,20 @@ use Rattle.c_typing.specs.Plain.{Plain}
 use Rattle.c_typing.specs.Expressions as typing
 use Rattle.c_typing.specs.Expressions.{Denoted}
 use Rattle.c_judge.specs.Answers.{Answer, Known, Unknown, Broken, ◌then◌}
-use Rattle.c_scope.specs.Declarators.{Shape, Object, Function, Parameter, shape, name_in}
+use Rattle.c_scope.specs.Declarators.{Shape, Object, Function, shape, name_in}
 use Rattle.c_scope.specs.Environment.{Environment}
-use Rattle.c_scope.specs.Findings.{Finding, Fine, fine, nothing, ◌beside◌, holds}
-use Rattle.c_body.specs.Bodies.{found, in_function, is_block}
-use Rattle.c_body.specs.Stops.{inside_block}
+use Rattle.c_scope.specs.Findings.{nothing, ◌beside◌, holds}
+use Rattle.c_body.specs.Bodies.{is_block}
 use Rattle.c_file.specs.declared.definitions.Manner.{Manner}
-use Rattle.c_file.specs.declared.definitions.Manner.TheVariants.{Body, Initialized, Tentative}
+use Rattle.c_file.specs.declared.definitions.Manner.TheVariants.{Body}
 use Rattle.c_file.specs.Names.{FileName, Defining, as_built_in, as_main, one_linkage, one_type, name_found, is_built_in}
-use Rattle.c_file.specs.FileNames.{AreConsistent}
-use Rattle.c_file.specs.Files.{State, Bodied, standing, object_standing, object_type, in_limits, may_stand, is_extern, manner_of, defining, with_name, with_head, with_strings, with_definition, row_of, function_row, after_all, after_name, after_what, after_function, behind_body, bodied, what, declared_found, found_as, all_found, initial_or_none, function_found, body_environment, are_named, behind_known, with_spec, Externals}
+use Rattle.c_file.specs.Files.{State, Bodied, standing, object_type, in_limits, may_stand, is_extern, manner_of, defining, with_name, with_head, with_strings, with_definition, row_of, function_row, after_all, after_name, after_what, after_function, bodied, what, declared_found, found_as, all_found, initial_or_none, function_found, are_named, with_spec, Externals}
 use Rattle.c_file.specs.Programs.{at_first, next_file}
 use Rattle.c_file.specs.Made.{Each, bodies_of, is_body}
 use Rattle.c_file.proofs.Telling.{unbroken}
 use Rattle.c_accepted.specs.Declarations.{Fits, IsDeclaredBy, KeepsNames, IsBodyFor, AreDeclared}
 use Rattle.c_accepted.proofs.Known.{never, one_known, then_known}
-use Rattle.c_accepted.proofs.Walked.{Stands, Goes, two_parts, all_keep, function_keeps, first_known, behind_one, unbroken as is_known}
+use Rattle.c_accepted.proofs.Walked.{Goes, two_parts, all_keep, function_keeps, behind_one, unbroken as is_known}
 
 -- ---- more of each
 

@@ -1,20 +1,18 @@
 -- Objects have complete types within the limits, and each stands in a file.
-use Rattle.std.proofs.Common.{◌≡◌, ◌≤◌, ◌<◌, refl, sym, ap, ◌∙◌, subst, arith, ℕ, zero, suc, Bool, true, false, ◌&&◌, true≢false, List, [], ◌∷◌, length, Option, Some, None}
-use Rattle.std.specs.Prelude.{slice_get, nat_le}
+use Rattle.std.proofs.Common.{◌≡◌, ◌<◌, refl, sym, ap, ◌∙◌, subst, arith, zero, suc, true, false, true≢false, List, [], ◌∷◌, length}
+use Rattle.std.specs.Prelude.{nat_le}
 use Rattle.std.specs.List.{AllByRecursion}
 use Rattle.c_tree.specs.declared.types.StructDef.{StructDef}
 use Rattle.c_tree.specs.declared.rows.Program.{Program}
 use Rattle.c_tree.specs.declared.rows.ObjectRow.{ObjectRow}
 use Rattle.c_tree.specs.Layout.{leaves_of}
 use Rattle.c_typing.specs.Plain.{Plain, Char, Int, Unsigned, Void, Pointer, Array, Struct, plain, is_complete}
-use Rattle.c_typing.specs.Written.{IsDeclared}
 use Rattle.c_typing.specs.Starts.{AreStarts, IsObject}
-use Rattle.c_typing.specs.Expressions as typing
 use Rattle.c_file.specs.Names.{FileName, Defining}
 use Rattle.c_file.specs.FileNames.{AreConsistent}
 use Rattle.c_file.specs.Telling.{is_unbounded}
 use Rattle.c_file.specs.Files.{State}
-use Rattle.c_file.specs.Made.{Each, IsObjectOf, object_type, objects_from, is_body}
+use Rattle.c_file.specs.Made.{Each, IsObjectOf, object_type, objects_from}
 use Rattle.c_accepted.specs.Completed.{AreSound}
 use Rattle.c_accepted.specs.Declarations.{IsWhole, IsWholeIn}
 use Rattle.c_accepted.proofs.Growth.{both_parts}

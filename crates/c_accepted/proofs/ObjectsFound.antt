@@ -1,5 +1,5 @@
 -- A declared object of a program has a row with the type that its declarations tell.
-use Rattle.std.proofs.Common.{◌≡◌, refl, sym, ap, ◌∙◌, subst, arith, ℕ, zero, suc, ◌+◌, Bool, true, false, not, ◌&&◌, ◌||◌, true≢false, List, [], ◌∷◌, Option, Some, None, bytes_eq, codes, if◌then◌else◌}
+use Rattle.std.proofs.Common.{◌≡◌, refl, sym, ap, ◌∙◌, subst, arith, ℕ, zero, suc, ◌+◌, Bool, true, false, not, ◌&&◌, ◌||◌, true≢false, List, [], ◌∷◌, Some, None, bytes_eq, codes, if◌then◌else◌}
 use Rattle.std.specs.Prelude.{slice_get}
 use Rattle.std.specs.List.{AllByRecursion}
 use Rattle.c_tree.specs.declared.rows.Program.{Program}
@@ -8,17 +8,17 @@ use Rattle.c_typing.specs.Plain.{Plain, Int, Void, plain}
 use Rattle.c_typing.specs.Declared.{built_in}
 use Rattle.c_typing.specs.Expressions as typing
 use Rattle.c_typing.specs.Expressions.{Denoted}
-use Rattle.c_file.specs.Names.{FileName, Defining, agree_as, is_built_in, as_built_in, defines, is_same}
+use Rattle.c_file.specs.Names.{FileName, Defining, agree_as, is_built_in, as_built_in, defines}
 use Rattle.c_file.specs.Files.{State}
 use Rattle.c_file.specs.Programs.{uncalled}
-use Rattle.c_file.specs.Made.{Each, IsObjectOf, object_type, object_number, objects_from, number_from, or_zero}
+use Rattle.c_file.specs.Made.{Each, IsObjectOf, object_number, objects_from, number_from, or_zero}
 use Rattle.c_accepted.specs.Declarations.{AreDeclared, KeepsNames, IsWhole, IsWholeIn}
 use Rattle.c_accepted.specs.Wanted.{AreSought, IsSoughtIn}
 use Rattle.c_accepted.proofs.Composite.{IsOf, IsToldOf, object_type_is, all_told, is_same_turned}
 use Rattle.c_accepted.proofs.Differing.{all_at, IsAnObject, all_objects, unseen}
 use Rattle.c_accepted.proofs.Objects.{complete_bounded}
 use Rattle.c_accepted.proofs.Wanted.{static_as, object_defined}
-use Rattle.c_accepted.proofs.Found.{IsNumbered, object_found, said, same_entity}
+use Rattle.c_accepted.proofs.Found.{object_found, said, same_entity}
 
 pub each_at : {A B : Type 0} (P : A → B → Type 0) (xs : List A) (ys : List B) (n : ℕ) (x : A) → Each P xs ys → slice_get xs n ≡ Some x → (y : B) × (slice_get ys n ≡ Some y) × P x y
 each_at P [] ys n x h e = absurd (let q : None ≡ Some x = e in cc)
@@ -36,7 +36,7 @@ no_built_in s name t r h = by (bytes_eq name (codes "getchar")) (bytes_eq name (
 
     by : (a b c : Bool)
         → (not (elim (if a then typing.Function Int [] else (if b then typing.Function Int (Int ∷ []) else (if c then typing.Function Void (Int ∷ []) else typing.Hidden))) as (λ _. Bool) [ typing.Object t r ↦ true | typing.Function r ps ↦ true | typing.Hidden ↦ false ])
-          || (not s && agree_as (typing.Object t r) (if a then typing.Function Int [] else (if b then typing.Function Int (Int ∷ []) else (if c then typing.Function Void (Int ∷ []) else typing.Hidden))))) ≡ true
+        || (not s && agree_as (typing.Object t r) (if a then typing.Function Int [] else (if b then typing.Function Int (Int ∷ []) else (if c then typing.Function Void (Int ∷ []) else typing.Hidden))))) ≡ true
         → elim (if a then typing.Function Int [] else (if b then typing.Function Int (Int ∷ []) else (if c then typing.Function Void (Int ∷ []) else typing.Hidden))) as (λ _. Bool) [ typing.Object t r ↦ true | typing.Function r ps ↦ true | typing.Hidden ↦ false ] ≡ false
     by true b c h = absurd (none s h)
     by false true c h = absurd (none s h)

@@ -1,19 +1,16 @@
 -- The types of a function's named parameters are within the limits of types (C90 6.7.1).
-use Rattle.std.proofs.Common.{◌≡◌, refl, sym, ap, ◌∙◌, subst, ℕ, Bool, true, false, ◌&&◌, ◌||◌, true≢false, List, [], ◌∷◌, ◌++◌, length, Option, Some, None, if◌then◌else◌}
+use Rattle.std.proofs.Common.{◌≡◌, refl, sym, subst, ℕ, Bool, true, false, ◌&&◌, ◌||◌, true≢false, List, [], ◌∷◌, ◌++◌, length, Option, Some, None, if◌then◌else◌}
 use Rattle.std.specs.List.{AllByRecursion}
-use Rattle.c_expr.specs.declared.tree.Spec.{Spec}
-use Rattle.c_expr.specs.Tree.{Tree}
 use Rattle.c_declaration.specs.Tree.{DeclaratorTree, Name, Parens, Pointers, Array as Bounds, Function as Applied, Taking, Named, Unnamed, begins}
 use Rattle.c_tree.specs.declared.types.StructDef.{StructDef}
 use Rattle.c_typing.specs.Plain.{Plain, Char, Int, Unsigned, Void, Pointer, Array, Struct, is_void, is_complete, is_scalar, value_type}
 use Rattle.c_typing.specs.Declared.{is_result}
 use Rattle.c_defs.specs.Depths.{deepest}
-use Rattle.c_judge.specs.Answers.{Answer, Known, Unknown, Broken, ◌then◌}
+use Rattle.c_judge.specs.Answers.{Answer, Known, Broken, ◌then◌}
 use Rattle.c_judge.specs.Judgement.{spec_type, pointers}
 use Rattle.c_scope.specs.Environment.{Environment, scope_of}
 use Rattle.c_scope.specs.Declarators.{Shape, Object, Function, Parameter, is_name, is_function, unbounded, bounded, function, unsized, shape, parameters, taken, parameter, unnamed, is_taken, with_one, name_in}
 use Rattle.c_mentions.specs.Tags.{in_spec, in_declarator, in_part, in_tree}
-use Rattle.c_accepted.specs.Grown.{IsMade}
 use Rattle.c_accepted.proofs.Known.{never, one_known, then_known, if_known}
 use Rattle.c_accepted.proofs.Written.{IsNamed}
 use Rattle.c_accepted.proofs.Shapes.{AreTags, both_tags, spec_named, IsShaped, shape_named}

@@ -10,7 +10,7 @@ use Rattle.c_statement.specs.declared.tree.Head.TheVariants as head
 use Rattle.c_tree.specs.declared.typed.Site.{Site}
 use Rattle.c_tree.specs.declared.typed.Pointed.{Pointed}
 use Rattle.c_tree.specs.declared.typed.DeclaredLocal.{DeclaredLocal}
-use Rattle.c_tree.specs.declared.typed.Stmt.{Stmt, Row_of-Stmt, end_of-Stmt, more_of-Stmt, Held-Stmt-If-3, None', Some'}
+use Rattle.c_tree.specs.declared.typed.Stmt.{Stmt, Row_of-Stmt, end_of-Stmt, more_of-Stmt, None', Some'}
 use Rattle.c_tree.specs.declared.typed.Stmt.TheVariants as typed
 use Rattle.c_tree.specs.Points.{points_in, points_in_row}
 use Rattle.c_scope.specs.Environment.{Environment, enter}

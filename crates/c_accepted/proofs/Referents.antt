@@ -1,5 +1,5 @@
 -- What each name of a program stands for has the type of the name, and what is called is a function of the program.
-use Rattle.std.proofs.Common.{◌≡◌, refl, sym, ap, ◌∙◌, subst, arith, ℕ, zero, suc, ◌+◌, Bool, true, false, not, ◌&&◌, ◌||◌, ◌==◌, true≢false, List, [], ◌∷◌, ◌++◌, length, map, Option, Some, None, bytes_eq, codes, if◌then◌else◌}
+use Rattle.std.proofs.Common.{◌≡◌, refl, sym, ap, ◌∙◌, subst, arith, ℕ, zero, suc, ◌+◌, Bool, true, false, ◌&&◌, ◌||◌, ◌==◌, true≢false, List, [], ◌∷◌, ◌++◌, length, map, Option, Some, None, bytes_eq, if◌then◌else◌}
 use Rattle.std.specs.Prelude.{slice_get, option_map}
 use Rattle.std.specs.List.{AllByRecursion}
 use Rattle.std.proofs.lemmas.Bool.{eqb-true}
@@ -13,28 +13,29 @@ use Rattle.c_tree.specs.declared.rows.Referent.{Referent}
 use Rattle.c_tree.specs.declared.rows.Referent.TheVariants as refers
 use Rattle.c_tree.specs.declared.types.StructDef.{StructDef}
 use Rattle.c_typing.specs.Plain.{Plain, Char, Int, Unsigned, Void, Pointer, Array, Struct, plain, same}
-use Rattle.c_typing.specs.Declared.{built_in, is_result, parameters, function_in, denoted, denoted_by, scope_at}
+use Rattle.c_typing.specs.Declared.{built_in, is_result, parameters, function_in, denoted, denoted_by}
 use Rattle.c_typing.specs.Expressions.{Denoted, Object, Function, Hidden}
 use Rattle.c_typing.specs.Accepted.{AllFrom, IsReferent, agrees}
 use Rattle.c_scope.specs.Environment.{Row}
 use Rattle.c_scope.specs.Declarators.{parameter_type}
-use Rattle.c_file.specs.Names.{FileName, Defining, agree_as, composite, is_here, is_same, is_built_in, one_type, told_before, defines, is_defined}
+use Rattle.c_file.specs.Names.{FileName, Defining, composite, is_here, is_same, is_built_in, one_type, told_before, defines, is_defined}
 use Rattle.c_file.specs.FileNames.{AreConsistent}
 use Rattle.c_file.specs.Files.{State, Bodied, Called}
 use Rattle.c_file.specs.Programs.{uncalled, is_static_in}
-use Rattle.c_file.specs.Made.{Each, HasRows, IsObjectOf, IsFunctionOf, IsSymbolOf, is_body, bodies_of, objects_from, number_from, object_number, function_number, or_zero, function_or_none, referent_of, referent, type_of_name}
+use Rattle.c_file.specs.Made.{HasRows, IsFunctionOf, IsSymbolOf, is_body, bodies_of, number_from, object_number, function_number, or_zero, function_or_none, referent_of, type_of_name}
 use Rattle.c_accepted.specs.Declarations.{IsDeclaredBy, IsBodyFor, AreDeclared, IsWholeIn}
 use Rattle.c_accepted.specs.Wanted.{AreSought}
-use Rattle.c_accepted.specs.Asked.{IsReferentOf, CallsAreThere}
+use Rattle.c_accepted.specs.Asked.{CallsAreThere}
 use Rattle.c_accepted.proofs.Growth.{both_parts}
 use Rattle.c_accepted.proofs.Scopes.{some_same}
 use Rattle.c_accepted.proofs.Types.{IsDenotedIn}
 use Rattle.c_accepted.proofs.Scoping.{IsRowIn}
-use Rattle.c_accepted.proofs.Differing.{all_at, is_function, body_is, kinds_agree, here_is, same_kind}
+use Rattle.c_accepted.proofs.Differing.{all_at, is_function, body_is, same_kind}
 use Rattle.c_accepted.proofs.Composite.{IsTold, IsToldOf, composite_told, same_self, is_same_turned, one_agrees}
 use Rattle.c_accepted.proofs.Wanted.{static_as}
 use Rattle.c_accepted.proofs.Found.{found_first, numbered_first, same_kind_of, said, same_entity}
 use Rattle.c_accepted.proofs.ObjectsFound.{HasRow, has_row, each_at}
+use Rattle.c_accepted.proofs.Symbols.{IsReferentOf}
 use Rattle.c_accepted.proofs.Bodied.{parameter_types}
 use Rattle.c_accepted.proofs.Entries.{Entry}
 use Rattle.c_accepted.proofs.Denotes.{IsMeant, IsTelling, IsRowOf, IsOuterRow, IsBodyTold, AreTold, agree_same, built_function, told_function}
@@ -191,7 +192,7 @@ passes_at q (x ∷ cs) i c h e = by (x.declared && (is_built_in x.name || is_def
     by false f k i e w = absurd (let y : Some x.name ≡ None = k in cc)
     by true f k zero e w =
         subst (λ (y : Called). (is_built_in y.name || is_defined q.definitions y.unit (is_static_in q.names y.unit y.name) y.name) ≡ true) (some_same x c e)
-          (both_parts x.declared (is_built_in x.name || is_defined q.definitions x.unit (is_static_in q.names x.unit x.name) x.name) f).1
+        (both_parts x.declared (is_built_in x.name || is_defined q.definitions x.unit (is_static_in q.names x.unit x.name) x.name) f).1
     by true f k (suc i) e w = w i k e
 
 undefined_plain : (d : Denoted) (t : Plain) → (elim d as (λ _. Bool) [ Object t r ↦ true | Function r ps ↦ true | Hidden ↦ false ]) ≡ false → is_result t ≡ true → IsUndefinedAs t d
@@ -204,7 +205,6 @@ result_of defs t ps d e h = (subst (IsDenotedIn defs) e h).1
 
 module _ (names : List (List ℕ)) (p : Program) (q : State) (rows : HasRows q names p) (declared : AreDeclared q) (sought : AreSought q) (called : uncalled q q.calls ≡ None) (wholes : AllByRecursion (IsWholeIn p.defs q.names) q.definitions)
     (told : AreTold q) (units : ℕ) (entries : (i : ℕ) (b : Bodied) → slice_get q.bodies i ≡ Some b → Entry units q.others q i b) where
-
   -- ---- functions
 
   record IsBodyAt (u : ℕ) (s : Bool) (name : List ℕ) (g : ℕ) : Type 0 where
@@ -229,7 +229,11 @@ module _ (names : List (List ℕ)) (p : Program) (q : State) (rows : HasRows q n
       let (fn, on, is) = each_at (IsFunctionOf q) q.bodies p.functions g b rows.functions at in
       let is_def = said u s name d k.defining in
       record {
-        body = b; row = fn; at = at; on = on; is = is;
+        body = b;
+        row = fn;
+        at = at;
+        on = on;
+        is = is;
         told_by = all_at (IsBodyTold q.names) q.bodies g b told.bodies at;
         same_name = of.0 ∙ is_def.0;
         inside = λ e. (of.2 ∙ (is_def.1 e).0, of.1 ∙ (is_def.1 e).1);
@@ -358,7 +362,7 @@ module _ (names : List (List ℕ)) (p : Program) (q : State) (rows : HasRows q n
       let (s, there, k) = each_at (IsSymbolOf q) q.here.names p.symbols n r rows.symbols on in
       let w : IsRowOf q.names r = all_at (IsOuterRow q.names) q.here.names n r told.rows on local in
       let refers_to : s.refers ≡ function_or_none q (function_number q r.unit r.name) =
-          k.2 ∙ ap (λ o. elim o as (λ _. Referent) [ Some x ↦ refers.Local x | None ↦ referent_of q r.denoted r.unit r.name ]) local ∙ ap (λ x. referent_of q x r.unit r.name) d in
+      k.2 ∙ ap (λ o. elim o as (λ _. Referent) [ Some x ↦ refers.Local x | None ↦ referent_of q r.denoted r.unit r.name ]) local ∙ ap (λ x. referent_of q x r.unit r.name) d in
       slice_get-map (denoted p f []) p.symbols n ∙ ap (option_map (denoted p f [])) there ∙ ap Some (ap (denoted_by p f [] (plain s.ctype) s.name) refers_to ∙ by s k.0 w (is_built_in r.name) refl)
     where
       by : (s : SymbolRow) → s.name ≡ r.name → IsRowOf q.names r → (b : Bool) → is_built_in r.name ≡ b → denoted_by p f [] (plain s.ctype) s.name (function_or_none q (function_number q r.unit r.name)) ≡ Function t ts
@@ -372,7 +376,7 @@ module _ (names : List (List ℕ)) (p : Program) (q : State) (rows : HasRows q n
           let file : c.unit ≡ g.unit = sym (unit b) ∙ z.unit in
           let own : is_built_in g.name ≡ false = sym (ap is_built_in z.name) ∙ b in
           let passed : (is_built_in g.name || is_defined q.definitions g.unit (is_static_in q.names g.unit g.name) g.name) ≡ true =
-              sym (λ i. is_built_in (text i) || is_defined q.definitions (file i) (is_static_in q.names (file i) (text i)) (text i)) ∙ passes_at q q.calls i c called at in
+          sym (λ i. is_built_in (text i) || is_defined q.definitions (file i) (is_static_in q.names (file i) (text i)) (text i)) ∙ passes_at q q.calls i c called at in
           let defined : is_defined q.definitions g.unit (is_static_in q.names g.unit g.name) g.name ≡ true = sym (ap (λ x. x || is_defined q.definitions g.unit (is_static_in q.names g.unit g.name) g.name) own) ∙ passed in
           let (m, number) = function_numbered (length z.front) g here function defined in
           let (fn, on_row, all, same) = function_there (length z.front) g t ts here (sym (told_function z.before g function) ∙ sym z.denoted ∙ d) m number in

@@ -1,7 +1,7 @@
 -- At each place of a function the names in scope denote in the program what they denote in its file.
-use Rattle.std.proofs.Common.{◌≡◌, ◌≤◌, ◌<◌, refl, sym, ap, ◌∙◌, subst, arith, ℕ, zero, suc, ◌+◌, Bool, true, false, true≢false, List, [], ◌∷◌, ◌++◌, length, map, length-append, append_assoc, Option, Some, None}
+use Rattle.std.proofs.Common.{◌≡◌, ◌≤◌, ◌<◌, refl, sym, ap, ◌∙◌, subst, arith, ℕ, zero, suc, ◌+◌, Bool, true, false, true≢false, List, [], ◌∷◌, ◌++◌, length, map, length-append, Option, Some, None}
 use Rattle.std.specs.Prelude.{slice_get, option_map, if◌then◌else◌, reverse, bytes_eq, ◌==◌, ◌&&◌}
-use Rattle.std.proofs.lemmas.Option.{slice_get-map, slice_get_within}
+use Rattle.std.proofs.lemmas.Option.{slice_get-map}
 use Rattle.std.proofs.lemmas.List.{reverse-append}
 use Rattle.c_tree.specs.declared.types.StructDef.{StructDef}
 use Rattle.c_tree.specs.declared.rows.Program.{Program}
@@ -15,11 +15,10 @@ use Rattle.c_tree.specs.declared.types.CType.TheVariants as ctype
 use Rattle.c_typing.specs.Plain.{Plain, Char, Int, Unsigned, Void, Pointer, Array, Struct, plain, same}
 use Rattle.c_typing.specs.Written.{IsWritten}
 use Rattle.c_typing.specs.Expressions.{Denoted, Object, Function, Hidden}
-use Rattle.c_typing.specs.Declared.{has, local_in, locals_in, denoted_by, denoted, scope_at, function_in, built_in}
-use Rattle.c_typing.specs.Statements.{local_on, locals_from, locals_at, function_at, IsPointWith}
+use Rattle.c_typing.specs.Declared.{has, local_in, locals_in, denoted_by, denoted, scope_at}
+use Rattle.c_typing.specs.Statements.{local_on, locals_from, IsPointWith}
 use Rattle.c_scope.specs.Environment as environment
 use Rattle.c_scope.specs.Environment.{Environment, Row, Visible, declare_local, enter, innermost, number_of, scope}
-use Rattle.c_body.specs.Stops.{Stop}
 use Rattle.c_accepted.specs.Grown.{Grows}
 use Rattle.c_accepted.specs.Reads.{Reads}
 use Rattle.c_accepted.proofs.Keeps.{Keeps, Within}

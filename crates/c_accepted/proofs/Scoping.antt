@@ -1,10 +1,10 @@
 -- The rows of names that are declared in bodies of functions, and the stopping points there.
-use Rattle.std.proofs.Common.{◌≡◌, ◌≤◌, ◌<◌, refl, sym, ap, ◌∙◌, subst, arith, ℕ, zero, suc, ◌+◌, Bool, true, false, not, ◌||◌, true≢false, List, [], ◌∷◌, ◌++◌, length, length-append, Option, Some, None, if◌then◌else◌}
+use Rattle.std.proofs.Common.{◌≡◌, ◌≤◌, ◌<◌, refl, sym, ap, ◌∙◌, subst, arith, ℕ, suc, ◌+◌, Bool, true, false, not, ◌||◌, List, [], ◌∷◌, ◌++◌, length, length-append, Option, Some, None, if◌then◌else◌}
 use Rattle.std.specs.List.{AllByRecursion}
 use Rattle.c_lex.specs.declared.token.Place.{Place}
 use Rattle.c_expr.specs.declared.tree.Spec.{Spec}
 use Rattle.c_expr.specs.Tree.{Tree}
-use Rattle.c_declaration.specs.Tree.{DeclaratorTree, begins}
+use Rattle.c_declaration.specs.Tree.{begins}
 use Rattle.c_declaration.specs.InitialTree.{InitialTree}
 use Rattle.c_declaration.specs.declared.tree.Declared.{Declared}
 use Rattle.c_declaration.specs.declared.tree.Local.{Local}
@@ -19,7 +19,7 @@ use Rattle.c_typing.specs.Accepted.{AllFrom}
 use Rattle.c_judge.specs.Answers.{Answer, Known, Unknown, Broken, ◌then◌}
 use Rattle.c_judge.specs.Judgement.{spec_type}
 use Rattle.c_judge.specs.Places.{place_of}
-use Rattle.c_scope.specs.Environment.{Environment, Row, Visible, innermost, declare, declare_local, enter, leave, scope_of}
+use Rattle.c_scope.specs.Environment.{Environment, Row, Visible, innermost, declare, enter, leave, scope_of}
 use Rattle.c_scope.specs.Declarators.{Shape, Object, Function, shape}
 use Rattle.c_body.specs.Locals.{kept, with_local, local_type, local_name, after_local, after_names, after_declaration}
 use Rattle.c_body.specs.Bodies.{after}
@@ -30,7 +30,7 @@ use Rattle.c_accepted.proofs.Written.{IsNamed}
 use Rattle.c_accepted.proofs.Shapes.{AreTags, both_tags, spec_named, IsShaped, shape_named}
 use Rattle.c_accepted.proofs.Counted.{IsNamedStop}
 use Rattle.c_accepted.proofs.Types.{IsDenotedIn}
-use Rattle.c_accepted.proofs.Walked.{Same, same, same_on, local_same, after_same}
+use Rattle.c_accepted.proofs.Walked.{Same, local_same, after_same}
 
 abbrev pub IsUnder : ℕ → Option ℕ → Type 0
 IsUnder n None = Unit {0}
@@ -249,8 +249,7 @@ module _ (here : List StructDef) (tags : List (List ℕ)) (defs : List StructDef
     pub in_function : (v : Environment) (x : StatementTree) → At v → AreTags tags (in_statement (inside_block x)) → length (after v (inside_block x)).names ≤ n → AllByRecursion (IsNamedStop n) (stops_of v x)
     in_function v x p g l =
         let one = behind v (inside_block x) p g in
-        let first = one.longer in
-        (
+        let first = one.longer in (
           one_stop v (opening x) p.scope (omega (arith, l, first)),
           both_stops (stops v (inside_block x)) (stop (after v (inside_block x)) (closing x) ∷ []) (in_stops v (inside_block x) p g l) (one_stop (after v (inside_block x)) (closing x) one.scope l, tt),
         )

@@ -1,5 +1,5 @@
 -- What a declarator declares is written within the limits of types (C90 6.5.4).
-use Rattle.std.proofs.Common.{◌≡◌, ◌≤◌, ◌<◌, refl, sym, ap, ◌∙◌, subst, arith, ℕ, zero, suc, ◌+◌, Bool, true, false, ◌&&◌, ◌||◌, true≢false, List, [], ◌∷◌, ◌++◌, length, Option, Some, None, bytes_eq, if◌then◌else◌}
+use Rattle.std.proofs.Common.{◌≡◌, ◌≤◌, ◌<◌, refl, sym, subst, arith, ℕ, suc, ◌+◌, Bool, true, false, ◌&&◌, ◌||◌, true≢false, List, [], ◌∷◌, ◌++◌, length, Some, None, bytes_eq, if◌then◌else◌}
 use Rattle.std.specs.Prelude.{nat_le}
 use Rattle.std.specs.List.{AllByRecursion}
 use Rattle.c_expr.specs.declared.tree.Spec.{Spec}
@@ -7,20 +7,19 @@ use Rattle.c_expr.specs.declared.tree.Spec.TheVariants as spec
 use Rattle.c_expr.specs.Tree.{Tree}
 use Rattle.c_declaration.specs.Tree.{DeclaratorTree, Name, Parens, Pointers, Array as Bounds, Function as Applied, Taking, Named, Unnamed, begins}
 use Rattle.c_tree.specs.declared.types.StructDef.{StructDef}
-use Rattle.c_typing.specs.Plain.{Plain, Array, is_complete}
+use Rattle.c_typing.specs.Plain.{Plain}
 use Rattle.c_typing.specs.Declared.{is_named, is_result}
 use Rattle.c_defs.specs.Depths.{deepest}
-use Rattle.c_defs.specs.Numbers.{number_from, first_number}
+use Rattle.c_defs.specs.Numbers.{number_from}
 use Rattle.c_judge.specs.declared.part.Constant.{Constant}
 use Rattle.c_judge.specs.declared.part.Constant.TheVariants.{Variable, Undefined, Number}
 use Rattle.c_judge.specs.Scope.{or_else_number}
-use Rattle.c_judge.specs.Answers.{Answer, Known, Unknown, Broken, ◌then◌}
+use Rattle.c_judge.specs.Answers.{Known, Broken, ◌then◌}
 use Rattle.c_judge.specs.Places.{place_of}
 use Rattle.c_judge.specs.Judgement.{judged, spec_type, pointers, array, bound}
 use Rattle.c_scope.specs.Environment.{Environment, scope_of, struct_of}
 use Rattle.c_scope.specs.Declarators.{Shape, Object, Function, Parameter, is_name, is_function, unbounded, constant, bounded, function, unsized, shape, parameters, taken, with_one}
 use Rattle.c_mentions.specs.Tags.{in_spec}
-use Rattle.c_accepted.specs.Grown.{IsMade}
 use Rattle.c_accepted.proofs.Growth.{both_parts}
 use Rattle.c_accepted.proofs.Known.{never, one_known, then_known, if_known}
 use Rattle.c_accepted.proofs.Written.{IsNamed, pointers_named, array_named}

@@ -1,38 +1,32 @@
 -- The structs that are declared behind the type that a declaration begins with (C90 6.5.2).
-use Rattle.std.proofs.Common.{◌≡◌, ◌≤◌, ◌<◌, refl, sym, ap, ◌∙◌, subst, arith, ℕ, zero, suc, ◌+◌, Bool, true, false, not, ◌&&◌, ◌||◌, ◌==◌, true≢false, List, [], ◌∷◌, ◌++◌, length, map, Option, Some, None, bytes_eq, if◌then◌else◌}
+use Rattle.std.proofs.Common.{◌≡◌, ◌≤◌, ◌<◌, refl, sym, ap, ◌∙◌, subst, arith, ℕ, Bool, true, false, not, ◌&&◌, ◌||◌, ◌==◌, true≢false, List, [], ◌∷◌, ◌++◌, length, map, Option, Some, None, bytes_eq, if◌then◌else◌}
 use Rattle.std.specs.Prelude.{nat_le, slice_get}
 use Rattle.std.specs.List.{AllByRecursion}
 use Rattle.std.proofs.lemmas.Bool.{eqb-true}
 use Rattle.std.proofs.lemmas.Option.{slice_get_within}
 use Rattle.std.proofs.lemmas.Slice.Eq.{bytes_eq-Decides}
 use Rattle.c_declaration.specs.Tree.{DeclaratorTree, begins}
-use Rattle.c_declaration.specs.declared.tree.FileSpec.{FileSpec}
-use Rattle.c_declaration.specs.declared.tree.FileSpec.TheVariants as file
-use Rattle.c_declaration.specs.declared.tree.MemberPart.{MemberPart}
-use Rattle.c_declaration.specs.declared.tree.MemberPart.TheVariants.{Opens, Row, Closes}
 use Rattle.c_tree.specs.declared.types.StructDef.{StructDef}
 use Rattle.c_tree.specs.declared.types.Member.{Member}
-use Rattle.c_tree.specs.Layout.{members_of, members_in, size_in, IsLaidOut}
+use Rattle.c_tree.specs.Layout.{members_of, members_in, size_in}
 use Rattle.c_typing.specs.Plain.{Plain, Struct, is_empty, is_complete, same}
 use Rattle.c_typing.specs.Declared.{Differ, is_named, member_name}
 use Rattle.c_defs.specs.Depths.{deepest, is_within, are_within}
 use Rattle.c_judge.specs.Values.{size_of}
-use Rattle.c_judge.specs.Answers.{Answer, Known, Unknown, Broken, ◌then◌}
-use Rattle.c_judge.specs.Judgement.{limited, spec_type}
-use Rattle.c_scope.specs.Environment.{Environment, scope_of, struct_of}
-use Rattle.c_scope.specs.Findings.{Finding, Fine, fine, nothing, ◌beside◌, holds}
+use Rattle.c_judge.specs.Answers.{Known, Unknown, Broken, ◌then◌}
+use Rattle.c_judge.specs.Judgement.{limited}
+use Rattle.c_scope.specs.Environment.{Environment, struct_of}
+use Rattle.c_scope.specs.Findings.{Finding, fine, nothing, ◌beside◌, holds}
 use Rattle.c_scope.specs.Declarators.{Shape, Object, Function, shape, name_in}
-use Rattle.c_mentions.specs.Tags.{in_spec, in_all, in_member, in_file_spec, in_declarator}
 use Rattle.c_struct.specs.Structs.{Written, written, Open, written_names, object_member, member, members, IsRow, IsRowOf, Completes, same_members, agrees, completed_found}
-use Rattle.c_struct.specs.Specifies.{Goes, Ends, Inside, Specifies}
 use Rattle.c_file.proofs.Telling.{same_plain}
-use Rattle.c_accepted.specs.Grown.{ctype_of, IsMade, IsHeld, Grows}
+use Rattle.c_accepted.specs.Grown.{IsMade, IsHeld, Grows}
 use Rattle.c_accepted.specs.Completed.{IsSound, AreSound, Extends, Agree}
-use Rattle.c_accepted.proofs.Growth.{both_parts, not_empty, complete_grows}
+use Rattle.c_accepted.proofs.Growth.{both_parts}
 use Rattle.c_accepted.proofs.Known.{never, one_known, then_known, if_known}
 use Rattle.c_accepted.proofs.Written.{IsNamed}
-use Rattle.c_accepted.proofs.Completing.{all_of, made_grows, held_all, laid_out_grows, sound_grows, extended}
-use Rattle.c_accepted.proofs.Shapes.{AreTags, both_tags, spec_named, IsShaped, shape_named}
+use Rattle.c_accepted.proofs.Completing.{held_all, laid_out_grows, sound_grows, extended}
+use Rattle.c_accepted.proofs.Shapes.{IsShaped, shape_named}
 
 -- ---- names
 
@@ -199,7 +193,7 @@ module _ (others : List StructDef) where
       unfolding deepest
       within_now =
           both_parts (is_within u.defs 64 (Struct (struct_of v.tags o.tag))) (nat_le (size_of u.defs (Struct (struct_of v.tags o.tag))) 1048576)
-            (if_known (is_within u.defs 64 (Struct (struct_of v.tags o.tag)) && nat_le (size_of u.defs (Struct (struct_of v.tags o.tag))) 1048576) (Struct (struct_of v.tags o.tag)) x 1 at limits).0
+          (if_known (is_within u.defs 64 (Struct (struct_of v.tags o.tag)) && nat_le (size_of u.defs (Struct (struct_of v.tags o.tag))) 1048576) (Struct (struct_of v.tags o.tag)) x 1 at limits).0
 
       at_most : (n k : ℕ) → nat_le n k ≡ true → n ≤ k
       at_most n k h = grind arith
@@ -231,7 +225,7 @@ module _ (others : List StructDef) where
           let (d, r, i) = row in
           ap (λ q. map written (members_in q)) r ∙ i.0 ∙
           sym (same_written (map written (members_of others (struct_of v.tags o.tag))) o.members
-            (or_written (is_empty (members_of others (struct_of v.tags o.tag))) (same_members (map written (members_of others (struct_of v.tags o.tag))) o.members) agree_now e))
+          (or_written (is_empty (members_of others (struct_of v.tags o.tag))) (same_members (map written (members_of others (struct_of v.tags o.tag))) o.members) agree_now e))
 
       all_agree : (s : ℕ) (b : Bool) → (s == struct_of v.tags o.tag) ≡ b → is_empty (members_of u.defs s) ≡ false → is_empty (members_of others s) ≡ false → map written (members_of u.defs s) ≡ map written (members_of others s)
       all_agree s true k e f =

@@ -1,5 +1,5 @@
 -- What is known of an expression stays as more names are declared that are not in scope.
-use Rattle.std.proofs.Common.{◌≡◌, ◌<◌, ℕ, suc, true, List, [], ◌++◌, length, refl, sym, ap, ◌∙◌, subst, Option, Some, None}
+use Rattle.std.proofs.Common.{◌≡◌, ℕ, suc, true, List, [], refl, ap, ◌∙◌, Option, Some, None}
 use Rattle.std.specs.Prelude.{slice_get, map, option_and_then}
 use Rattle.c_symbol.specs.declared.symbol.LeafKind.{LeafKind}
 use Rattle.c_symbol.specs.declared.symbol.LeafKind.TheVariants as leaf
@@ -13,7 +13,7 @@ use Rattle.c_judge.specs.Scope.{Scope}
 use Rattle.c_judge.specs.Places.{place_of}
 use Rattle.c_judge.specs.Answers.{Answer, Known, Broken, ◌then◌, two, joint, both_known}
 use Rattle.c_judge.specs.Judgement.{Verdict, judged, calling, within, starred, named, by_rule, variable, register_of, function_of, leaf_of, callee_by, callee_named, name_alone, called, called_name, counted, arguments_in, argument, passed, parameter_at, function_numbered, function_named, with_argument, indexed, member_of, stepped, prefixed, sized, cast_to, joined, chosen_of, bounded, pointers, stars_of, spec_type}
-use Rattle.c_scope.specs.Environment.{Environment, Row, Visible, number_of, struct_of, denoted_by, scope}
+use Rattle.c_scope.specs.Environment.{Environment, Visible, number_of, struct_of, denoted_by, scope}
 
 both : {A B C : Type 0} (f : A → B → Answer C) {a c : Answer A} {b d : Answer B} → a ≡ c → b ≡ d → two f a b ≡ two f c d
 both f p q = λ i. two f (p i) (q i)

@@ -1,5 +1,5 @@
 -- At each place of a program, what its objects with initializers hold at first is told by their initializers.
-use Rattle.std.proofs.Common.{◌≡◌, ◌≤◌, refl, sym, ap, ◌∙◌, subst, arith, ℕ, zero, suc, ◌+◌, Bool, true, false, true≢false, List, [], ◌∷◌, ◌++◌, length, length-append, map, Option, Some, None}
+use Rattle.std.proofs.Common.{◌≡◌, ◌≤◌, refl, sym, ap, ◌∙◌, subst, arith, ℕ, suc, ◌+◌, Bool, true, false, List, [], ◌∷◌, ◌++◌, length, length-append, Option, Some, None}
 use Rattle.std.specs.Prelude.{slice_get}
 use Rattle.std.specs.List.{AllByRecursion}
 use Rattle.c_declaration.specs.Tree.{DeclaratorTree, begins}
@@ -18,27 +18,26 @@ use Rattle.c_defs.specs.Depths.{deepest, is_within, are_within}
 use Rattle.c_judge.specs.Answers.{Answer, Known, Unknown, Broken, ◌then◌}
 use Rattle.c_scope.specs.Environment.{Environment}
 use Rattle.c_scope.specs.Declarators.{Shape, Object, Function, shape}
-use Rattle.c_scope.specs.Findings.{Finding, nothing}
+use Rattle.c_scope.specs.Findings.{nothing}
 use Rattle.c_initial.specs.Initials.{initial_found}
 use Rattle.c_initial.specs.Begins.{strings_of, begins_of}
 use Rattle.c_file.specs.Names.{FileName, name_found}
-use Rattle.c_file.specs.Files.{State, Started, type_or, standing, manner_of, with_name, with_head, with_strings, with_definition, row_of, function_row, after_all, after_name, after_what, after_function, what, declared_found, found_as, all_found, initial_or_none, behind_known, with_spec, Externals}
-use Rattle.c_file.specs.Programs.{next_file}
-use Rattle.c_accepted.specs.Grown.{ctype_of, Grows}
+use Rattle.c_file.specs.Files.{State, Started, type_or, standing, manner_of, with_name, with_head, with_strings, with_definition, row_of, function_row, after_all, after_name, after_what, after_function, what, declared_found, found_as, all_found, initial_or_none, with_spec, Externals}
+use Rattle.c_accepted.specs.Grown.{Grows}
 use Rattle.c_accepted.specs.Completed.{AreSound}
-use Rattle.c_accepted.specs.Declarations.{HasItems, HasItem, HaveItems}
+use Rattle.c_accepted.specs.Declarations.{HasItem, HaveItems}
 use Rattle.c_accepted.specs.Begun.{IsBegun, IsFormedOf, IsFormed, AreFormed}
-use Rattle.c_accepted.proofs.Known.{never, one_known, then_known}
+use Rattle.c_accepted.proofs.Known.{then_known}
 use Rattle.c_accepted.proofs.Written.{IsLimited, IsNamed}
 use Rattle.c_accepted.proofs.Merged.{as_empty, grows_others}
-use Rattle.c_accepted.proofs.Shapes.{IsShaped, shape_named, AreTags, both_tags}
-use Rattle.c_accepted.proofs.Inside.{Behind, specified}
+use Rattle.c_accepted.proofs.Shapes.{shape_named, AreTags, both_tags}
+use Rattle.c_accepted.proofs.Inside.{specified}
 use Rattle.c_accepted.proofs.Types.{IsDenotedIn}
 use Rattle.c_accepted.proofs.Bounds.{standing_named}
 use Rattle.c_accepted.proofs.Wholes.{AsksFor, standing_whole}
 use Rattle.c_accepted.proofs.Typed.{whole, grows_to, grows_more}
-use Rattle.c_accepted.proofs.Walked.{Stands, Goes, all_keep, what_keeps, function_keeps, two_parts, unbroken, first_known, behind_one}
-use Rattle.c_mentions.specs.Tags.{in_all, in_external, in_file_spec, in_declared, in_declarator, in_statement}
+use Rattle.c_accepted.proofs.Walked.{Stands, Goes, all_keep, what_keeps, two_parts, unbroken, behind_one}
+use Rattle.c_mentions.specs.Tags.{in_all, in_external, in_file_spec, in_declared}
 
 -- ---- growth
 
@@ -65,9 +64,24 @@ begun_more : (before behind : List StructDef) (fs gs : List FileName) (m n : ℕ
 begun_more before behind fs gs m n s g w l h =
     let j = w h.number h.declaration h.there in
     record {
-      declaration = h.declaration; number = j.0; there = j.1; name = h.name; unit = h.unit; ctype = h.ctype; register = h.register; denotes = h.denotes;
-      place = h.place; grows = grows_on h.place.defs before behind h.grows g; sound = h.sound; complete = h.complete; limited = h.limited;
-      initial = h.initial; formed = h.formed; string = h.string; begins = h.begins; well = h.well;
+      declaration = h.declaration;
+      number = j.0;
+      there = j.1;
+      name = h.name;
+      unit = h.unit;
+      ctype = h.ctype;
+      register = h.register;
+      denotes = h.denotes;
+      place = h.place;
+      grows = grows_on h.place.defs before behind h.grows g;
+      sound = h.sound;
+      complete = h.complete;
+      limited = h.limited;
+      initial = h.initial;
+      formed = h.formed;
+      string = h.string;
+      begins = h.begins;
+      well = h.well;
       strings = (let k = h.strings in omega (arith, k, l));
     }
 
@@ -131,9 +145,24 @@ module _ (defs : List StructDef) (same : Grows defs defs) (s : Storage) where
       let many : length all ≡ length p.strings + length (strings_of p.here t i) = length-append p.strings (strings_of p.here t i) in
       let old = all_as (IsBegun defs p.names (length p.strings)) (IsBegun defs p.names (length all)) (λ x k. begun_more defs defs p.names p.names (length p.strings) (length all) x same (keeping p.names) (more_strings p.strings (strings_of p.here t i)) k) p.starts h in
       all_last (IsBegun defs p.names (length all)) p.starts (record { name = f.name; unit = f.unit; begins = begins_of p.here (length p.strings) t i }) old (record {
-        declaration = f; number = first.0; there = first.1; name = refl; unit = refl; ctype = r.ctype; register = r.register; denotes = r.denotes;
-        place = p.here; grows = g; sound = a; complete = r.complete; limited = r.limited;
-        initial = i; formed = r.formed; string = length p.strings; begins = ap (λ x. begins_of p.here (length p.strings) x i) of; well = r.well;
+        declaration = f;
+        number = first.0;
+        there = first.1;
+        name = refl;
+        unit = refl;
+        ctype = r.ctype;
+        register = r.register;
+        denotes = r.denotes;
+        place = p.here;
+        grows = g;
+        sound = a;
+        complete = r.complete;
+        limited = r.limited;
+        initial = i;
+        formed = r.formed;
+        string = length p.strings;
+        begins = ap (λ x. begins_of p.here (length p.strings) x i) of;
+        well = r.well;
         strings = (let e : length (strings_of p.here t i) ≡ length (strings_of p.here r.ctype i) = ap (λ x. length (strings_of p.here x i)) of in omega (arith, many, e));
       })
 
@@ -152,23 +181,28 @@ module _ (defs : List StructDef) (same : Grows defs defs) (s : Storage) where
         let q = two_parts (name_found p.names f (begins d.declarator).at) (initial_or_none s (after_what s p d (Known x)) d.initial x) h in
         let stays : (after_what s p d (Known x)).here ≡ r.here = here_stays r f d.initial in
         let found : (z : InitialTree) → d.initial ≡ Some z → initial_found r.here (type_or x) z ≡ nothing =
-            λ z o. ap (λ u. initial_found u (type_or x) z) (sym stays) ∙ sym (ap (λ v. initial_or_none s (after_what s p d (Known x)) v x) o) ∙ q.1 in
+        λ z o. ap (λ u. initial_found u (type_or x) z) (sym stays) ∙ sym (ap (λ v. initial_or_none s (after_what s p d (Known x)) v x) o) ∙ q.1 in
         let sound_here : AreSound p.here.defs = subst AreSound (sym j) sound in
         let shaped = shape_named p.here d.declarator t y (subst (λ ds. IsNamed ds t) (sym j) m) k in
         let named : IsDenotedIn p.here.defs x = standing_named p.here sound_here s d.initial (begins d.declarator).at y x shaped l in
         let asks = standing_whole p.here r.here s d.initial (begins d.declarator).at y x l n found in
         let old = same_structs defs same p r (keeping_one p.names f) (more_strings p.strings _) refl w in
         definition_begun r f d.initial sound_here (subst (λ ds. Grows ds defs) (sym j) g) (0, refl)
-          (λ z o.
-            let a : AsksFor p.here.defs (manner_of s (Some z) x) x = subst (λ v. AsksFor p.here.defs (manner_of s v x) x) o asks in
-            let is = a.2 in
-            let type : type_or x ≡ a.0 = ap type_or is in
-            let limits : IsDenotedIn p.here.defs (typing.Object a.0 a.1) = subst (IsDenotedIn p.here.defs) is named in
-            record {
-              ctype = a.0; register = a.1; denotes = is; complete = a.3; limited = within_of p.here.defs sound_here a.0 limits.1;
-              formed = subst IsFormedOf o i; well = ap (λ u. initial_found r.here u z) (sym type) ∙ found z o;
-            })
-          old
+        (λ z o.
+        let a : AsksFor p.here.defs (manner_of s (Some z) x) x = subst (λ v. AsksFor p.here.defs (manner_of s v x) x) o asks in
+        let is = a.2 in
+        let type : type_or x ≡ a.0 = ap type_or is in
+        let limits : IsDenotedIn p.here.defs (typing.Object a.0 a.1) = subst (IsDenotedIn p.here.defs) is named in
+        record {
+          ctype = a.0;
+          register = a.1;
+          denotes = is;
+          complete = a.3;
+          limited = within_of p.here.defs sound_here a.0 limits.1;
+          formed = subst IsFormedOf o i;
+          well = ap (λ u. initial_found r.here u z) (sym type) ∙ found z o;
+        })
+        old
 
     all_begun : (p : State) (ds : List Declared) → all_found s t p ds ≡ nothing → AllByRecursion HasItem ds → AllByRecursion IsFormed ds → p.here.defs ≡ here → AreBegun defs p → AreBegun defs (after_all s t p ds)
     all_begun p [] h n i j w = w
@@ -191,7 +225,7 @@ module _ (tags : List (List ℕ)) where
       let g = grows_more tags p q s go in
       let there : Keeping p.names m.names = subst (Keeping p.names) (sym e) (keeping p.names) in
       subst (AllByRecursion (IsBegun (whole q) m.names (length m.strings))) (sym f)
-        (all_as (IsBegun (whole p) p.names (length p.strings)) (IsBegun (whole q) m.names (length m.strings)) (λ x k. begun_more (whole p) (whole q) p.names m.names (length p.strings) (length m.strings) x g there l k) p.starts w)
+      (all_as (IsBegun (whole p) p.names (length p.strings)) (IsBegun (whole q) m.names (length m.strings)) (λ x k. begun_more (whole p) (whole q) p.names m.names (length p.strings) (length m.strings) x g there l k) p.starts w)
 
   -- the structs of the program stay as they are
   pub external_begun : ((q : State) → Stands tags q → Grows (whole q) (whole q)) → (p : State) (e : External) (q : State) → Stands tags p → AreTags tags (in_external e) → HaveItems e × AreFormed e → Externals p e nothing q → Goes tags p q → AreBegun (whole p) p → AreBegun (whole q) q

@@ -5,18 +5,17 @@ use Rattle.std.specs.List.{AllByRecursion}
 use Rattle.c_expr.specs.Tree.{Tree}
 use Rattle.c_expr.specs.declared.tree.Spec.{Spec}
 use Rattle.c_declaration.specs.Tree.{begins}
-use Rattle.c_declaration.specs.InitialTree.{InitialTree, Value, Braces, Item}
+use Rattle.c_declaration.specs.InitialTree.{InitialTree, Value}
 use Rattle.c_declaration.specs.declared.tree.Declared.{Declared}
 use Rattle.c_declaration.specs.declared.tree.Local.{Local}
 use Rattle.c_statement.specs.Tree.{StatementTree, Empty, Evaluate, Begun, Declares, Also, Closed, If, IfElse, Headed, Do, Break, Continue, Return}
-use Rattle.c_statement.specs.declared.tree.Head.{Head}
 use Rattle.c_statement.specs.declared.tree.Head.TheVariants as head
 use Rattle.c_tree.specs.declared.types.StructDef.{StructDef}
 use Rattle.c_tree.specs.declared.typed.Site.{Site}
 use Rattle.c_tree.specs.declared.typed.Typed.{Typed}
 use Rattle.c_tree.specs.declared.typed.Pointed.{Pointed}
 use Rattle.c_tree.specs.declared.typed.DeclaredLocal.{DeclaredLocal}
-use Rattle.c_tree.specs.declared.typed.Stmt.{Stmt, Row_of-Stmt, end_of-Stmt, more_of-Stmt, Held-Stmt-If-3, None', Some'}
+use Rattle.c_tree.specs.declared.typed.Stmt.{Stmt, Row_of-Stmt, end_of-Stmt, more_of-Stmt, None', Some'}
 use Rattle.c_tree.specs.declared.typed.Stmt.TheVariants as typed
 use Rattle.c_tree.specs.declared.rows.Program.{Program}
 use Rattle.c_tree.specs.declared.rows.Function.{Function as FunctionRow}
@@ -28,17 +27,16 @@ use Rattle.c_typing.specs.Declared.{scope_at, locals_in, is_named}
 use Rattle.c_typing.specs.Statements as rules
 use Rattle.c_typing.specs.Statements.{IsPointWith, IsTest, IsTestOrNone, IsSelector, IsDropped, IsInitializer, IsReturned, AreInitialized, IsStatement, AreStatements, IsElse, IsSwitched, local_numbers, type_in, type_of_local}
 use Rattle.c_judge.specs.Answers.{Answer, Known, Unknown, Broken, ◌then◌}
-use Rattle.c_judge.specs.Judgement.{Judged, Verdict, judged}
+use Rattle.c_judge.specs.Judgement.{Judged, judged}
 use Rattle.c_judge.specs.Elaboration.{Elaborates}
 use Rattle.c_judge.specs.Places.{place_of}
 use Rattle.c_judge.specs.Scope.{Scope}
 use Rattle.c_mentions.specs.Literals as literals
 use Rattle.c_mentions.specs.Literals.{Literal, in_tree, in_part, in_statement, number_at}
 use Rattle.c_mentions.specs.Tags as tags
-use Rattle.c_scope.specs.Environment.{Environment, Row, Visible, declare_local, enter, denoted_by, number_of, struct_of, scope, no_literal}
-use Rattle.c_scope.specs.Findings.{Finding, Fine, fine, nothing, ◌beside◌, holds, asked, asked_of}
-use Rattle.c_scope.specs.Declarators.{constant}
-use Rattle.c_body.specs.Locals.{local_type, local_name, with_local, after_local, after_names, names_found, local_found, initialized, initialized_or_not, initial_found}
+use Rattle.c_scope.specs.Environment.{Environment, Row, Visible, declare_local, enter, denoted_by, struct_of, scope, no_literal}
+use Rattle.c_scope.specs.Findings.{Fine, nothing, ◌beside◌, holds, asked_of}
+use Rattle.c_body.specs.Locals.{local_type, local_name, with_local, after_local, after_names, names_found, local_found, initialized_or_not, initial_found}
 use Rattle.c_body.specs.Bodies as bodies
 use Rattle.c_body.specs.Bodies.{judged_in, tested, selected, dropped, returned, part, found, head_found, placed as placed_label, label_found, is_block, after, in_block, around_of, is_plain_block, statement_at, labels_in, differ}
 use Rattle.c_body.specs.Calls.{called, called_part, calls_in, called_locals, called_local, called_declarator, called_initial, called_head}
@@ -47,16 +45,16 @@ use Rattle.c_body.specs.Becoming as becoming
 use Rattle.c_body.specs.Becoming.{Before, past, past_part, of_initial, IsExpression, IsStop, IsStopOrNone, IsInitial, AreLocals, row_list, behind, behind_head, behind_expression, IsHeaded, Becomes, Holds}
 use Rattle.c_accepted.specs.Words.{HasWords}
 use Rattle.c_accepted.specs.Reads.{Reads, IsRead}
-use Rattle.c_accepted.specs.Sources.{IsOpened, IsInOrder, AreApart, AllIn, AllInPart, AllInInitial, AllInNames, AllInHead, HasWordsPart, HaveWordsInits, HasWordsValue, HasWordsIn, HaveWordsRow, HasWordsElse}
-use Rattle.c_accepted.proofs.Known.{never, two_known, then_known, if_known, one_known}
+use Rattle.c_accepted.specs.Sources.{IsInOrder, AreApart, AllIn, AllInPart, AllInInitial, AllInNames, HasWordsPart, HaveWordsInits, HasWordsValue, HasWordsIn, HaveWordsRow}
+use Rattle.c_accepted.proofs.Known.{never, two_known}
 use Rattle.c_accepted.proofs.Runs.{all_first, all_second, all_both}
 use Rattle.c_accepted.proofs.Points.{opened_holds, opened_order, part_points}
-use Rattle.c_accepted.proofs.Keeps.{Keeps, keeps_enter, names_keep, declaration_keeps, after_keeps, after_visible, Within, within_before}
+use Rattle.c_accepted.proofs.Keeps.{keeps_enter, names_keep, declaration_keeps, after_keeps, after_visible, Within, within_before}
 use Rattle.c_accepted.proofs.Stable.{stable_in}
 use Rattle.c_accepted.proofs.Scopes.{Ground, Fits, fits_same, fits_local, reads, placed, functions_more, mapped_there, first_there, last_there}
-use Rattle.c_accepted.proofs.Read.{IsCalledThere, IsTagThere, IsLiteralThere, read, literals_there}
-use Rattle.c_accepted.proofs.Listed.{Listed, Good, stop_row, listed_first, listed_second, listed_moved, part_strings}
-use Rattle.c_accepted.proofs.Labels.{holds_known, are_different, block_labels, row_constants, row_defaults, constants_of_all, defaults_of_all, constants_of, defaults_of, JudgesAs}
+use Rattle.c_accepted.proofs.Read.{IsCalledThere, IsTagThere, read, literals_there}
+use Rattle.c_accepted.proofs.Listed.{Listed, Good, listed_first, listed_second, listed_moved, part_strings}
+use Rattle.c_accepted.proofs.Labels.{holds_known, are_different, block_labels, row_constants, row_defaults, JudgesAs}
 
 -- what is known of an expression at its place holds of its typed tree in the program
 abbrev pub AllTold : Type 0

@@ -1,7 +1,6 @@
 -- Each external declaration keeps what is known of the bodies so far, and a function with a body brings one more.
-use Rattle.std.proofs.Common.{◌≡◌, ◌≤◌, ◌<◌, refl, sym, ap, ◌∙◌, subst, arith, ℕ, zero, suc, ◌+◌, Bool, true, false, not, ◌&&◌, ◌||◌, true≢false, List, [], ◌∷◌, ◌++◌, length, map, length-append, append_assoc, Option, Some, None}
-use Rattle.std.specs.Prelude.{slice_get, if◌then◌else◌, bytes_eq, codes}
-use Rattle.std.specs.List.{AllByRecursion}
+use Rattle.std.proofs.Common.{◌≡◌, ◌≤◌, ◌<◌, refl, sym, ap, ◌∙◌, subst, arith, ℕ, zero, suc, ◌+◌, true, false, List, [], ◌∷◌, ◌++◌, length, map, length-append, append_assoc, Option, Some, None}
+use Rattle.std.specs.Prelude.{slice_get, if◌then◌else◌}
 use Rattle.std.proofs.lemmas.List.{length-map}
 use Rattle.c_declaration.specs.Tree.{DeclaratorTree, begins}
 use Rattle.c_declaration.specs.InitialTree.{InitialTree}
@@ -18,35 +17,32 @@ use Rattle.c_typing.specs.Expressions.{Denoted}
 use Rattle.c_judge.specs.Answers.{Answer, Known, Unknown, Broken, ◌then◌}
 use Rattle.c_mentions.specs.Literals.{in_statement, texts}
 use Rattle.c_mentions.specs.Tags as tags
-use Rattle.c_scope.specs.Environment.{Environment, Row, Visible, declare_global, enter, leave, struct_of}
-use Rattle.c_scope.specs.Findings.{Finding, Fine, fine, nothing, ◌beside◌, holds}
-use Rattle.c_scope.specs.Declarators.{Shape, Object, Function, Parameter, shape, denoted, name_in, parameter_type}
-use Rattle.c_body.specs.Bodies.{after, found, in_function, is_block}
+use Rattle.c_scope.specs.Environment.{Environment, enter, struct_of}
+use Rattle.c_scope.specs.Findings.{Fine}
+use Rattle.c_scope.specs.Declarators.{Shape, Object, Function, Parameter, shape, parameter_type}
+use Rattle.c_body.specs.Bodies.{after, found, in_function}
 use Rattle.c_body.specs.Stops.{stops_of, inside_block}
 use Rattle.c_body.specs.Calls.{calls_in}
 use Rattle.c_file.specs.declared.definitions.Manner.{Manner}
-use Rattle.c_file.specs.Names.{FileName, told_before, name_found, as_built_in, as_main, one_linkage, one_type, is_built_in, declared_as_main}
-use Rattle.c_file.specs.Files.{State, Bodied, Called, called_all, with_parameters, are_named, with_name, with_declarator, with_strings, with_initial, with_definition, with_head, with_spec, row_of, after_what, after_name, after_all, what, standing, object_standing, object_type, in_limits, may_stand, is_extern, manner_of, defining, wanting, function_row, body_environment, function_found, bodied, behind_body, after_function, behind_known, Externals, all_found}
-use Rattle.c_file.specs.Programs.{built_in_rows, completed_by, next_file, takes_many}
+use Rattle.c_file.specs.Names.{FileName, told_before, as_main, declared_as_main}
+use Rattle.c_file.specs.Files.{State, Bodied, Called, called_all, are_named, with_name, with_declarator, with_initial, with_definition, with_spec, row_of, after_what, after_name, after_all, what, standing, object_type, in_limits, may_stand, is_extern, manner_of, defining, wanting, body_environment, bodied, behind_body}
+use Rattle.c_file.specs.Programs.{built_in_rows, completed_by, takes_many}
 use Rattle.c_accepted.specs.Grown.{Grows}
 use Rattle.c_accepted.specs.Completed.{Extends}
 use Rattle.c_accepted.specs.Sources.{IsInOrder, AllIn}
 use Rattle.c_accepted.proofs.Known.{never, one_known, then_known}
 use Rattle.c_accepted.proofs.Runs.{IsAt, at_append}
-use Rattle.c_accepted.proofs.Keeps.{Keeps, keeps_on, after_keeps}
+use Rattle.c_accepted.proofs.Keeps.{keeps_on, after_keeps}
 use Rattle.c_accepted.proofs.Bodied.{parameters_keep}
-use Rattle.c_accepted.proofs.Statements.{beside_known}
-use Rattle.c_accepted.proofs.Labels.{holds_known}
 use Rattle.c_accepted.proofs.Declarators as declarators
 use Rattle.c_accepted.proofs.Declarators.{few_parameters}
 use Rattle.c_accepted.proofs.Locals.{AreTagged}
 use Rattle.c_accepted.proofs.Keeping.{IsApart}
 use Rattle.c_accepted.proofs.Shapes.{AreTags, tag_within}
-use Rattle.c_accepted.proofs.Inside.{Behind, specified}
 use Rattle.c_accepted.proofs.Completing.{extended}
-use Rattle.c_accepted.proofs.Merged.{merged_extends, merged_sound, grows_here, grows_others}
-use Rattle.c_accepted.proofs.Walked.{Stands, Goes, unbroken, first_known, behind_one}
-use Rattle.c_accepted.proofs.Entries.{Entry, Inv, Later, later_self, later_on, entry_later, inv_later, FileScope, AreShown, shown_more, scope_declared, IsPlain, ArePlain, told_plain, function_plain, object_plain, points_all, points_both, stop_at}
+use Rattle.c_accepted.proofs.Merged.{merged_extends, merged_sound, grows_here}
+use Rattle.c_accepted.proofs.Walked.{Stands, Goes}
+use Rattle.c_accepted.proofs.Entries.{Entry, Inv, Later, later_self, later_on, entry_later, FileScope, AreShown, shown_more, scope_declared, IsPlain, ArePlain, told_plain, function_plain, object_plain, points_all, points_both, stop_at}
 
 nothing_more : {A : Type 0} (xs : List A) → xs ≡ xs ++ []
 nothing_more [] = refl

@@ -1,8 +1,8 @@
 -- The structs of a program keep the rules on structs (C90 6.5.2.1).
-use Rattle.std.proofs.Common.{◌≡◌, ◌≤◌, ◌<◌, refl, sym, ap, ◌∙◌, subst, arith, ℕ, zero, suc, ◌+◌, Bool, true, false, ◌&&◌, ◌||◌, true≢false, List, [], ◌∷◌, ◌++◌, length, map, Option, Some, None}
+use Rattle.std.proofs.Common.{◌≡◌, ◌≤◌, ◌<◌, refl, sym, ap, ◌∙◌, subst, arith, ℕ, zero, suc, ◌+◌, Bool, true, false, ◌||◌, true≢false, List, [], ◌∷◌, length, Some}
 use Rattle.std.specs.Prelude.{slice_get}
 use Rattle.std.specs.List.{AllByRecursion}
-use Rattle.std.proofs.lemmas.Option.{slice_get_within, slice_get-get_or}
+use Rattle.std.proofs.lemmas.Option.{slice_get_within}
 use Rattle.c_tree.specs.declared.types.CType.{CType}
 use Rattle.c_tree.specs.declared.types.CType.TheVariants as ctype
 use Rattle.c_tree.specs.declared.types.StructDef.{StructDef}
@@ -13,8 +13,8 @@ use Rattle.c_typing.specs.Written.{IsWritten, IsDeclared}
 use Rattle.c_typing.specs.Declared.{IsStruct}
 use Rattle.c_typing.specs.Accepted.{AllFrom}
 use Rattle.c_defs.specs.Depths.{deepest, is_within, are_within}
-use Rattle.c_accepted.specs.Grown.{ctype_of, IsMade, IsHeld, Grows}
-use Rattle.c_accepted.specs.Completed.{IsSound, AreSound}
+use Rattle.c_accepted.specs.Grown.{IsMade, IsHeld}
+use Rattle.c_accepted.specs.Completed.{AreSound}
 use Rattle.c_accepted.proofs.Growth.{both_parts}
 use Rattle.c_accepted.proofs.Written.{within_is, IsLimited, written}
 use Rattle.c_accepted.proofs.Completing.{and_true, extended, no_more}
@@ -76,8 +76,7 @@ module _ (defs : List StructDef) (a : AreSound defs) where
 
   struct_written : (s : ℕ) (d : StructDef) → slice_get defs s ≡ Some d → IsWritten defs (ctype.Struct s)
   struct_written s d e =
-      let i = a s d e in
-      (
+      let i = a s d e in (
         within_is defs 64 (ctype.Struct s) (ap (λ r. are_within (is_within defs 63) (members_in r)) e ∙ i.deep),
         (slice_get_within defs s d e, subst (λ r. size_in r ≤ 1048576) (sym e) i.small),
       )

@@ -1,6 +1,5 @@
 -- At each place of a program the types of names are within the limits, and names and stopping points have names that stand before them.
-use Rattle.std.proofs.Common.{◌≡◌, ◌≤◌, ◌<◌, refl, sym, ap, ◌∙◌, subst, arith, ℕ, zero, suc, ◌+◌, Bool, true, false, not, ◌&&◌, ◌||◌, true≢false, List, [], ◌∷◌, ◌++◌, length, map, Option, Some, None, bytes_eq, codes, if◌then◌else◌}
-use Rattle.std.specs.Prelude.{slice_get}
+use Rattle.std.proofs.Common.{◌≡◌, ◌≤◌, ◌<◌, refl, sym, ap, ◌∙◌, subst, arith, ℕ, suc, Bool, true, false, List, [], ◌∷◌, ◌++◌, length, map, Option, Some, None, bytes_eq, codes, if◌then◌else◌}
 use Rattle.std.specs.List.{AllByRecursion}
 use Rattle.c_declaration.specs.Tree.{DeclaratorTree, begins}
 use Rattle.c_declaration.specs.InitialTree.{InitialTree}
@@ -10,37 +9,35 @@ use Rattle.c_statement.specs.Tree.{StatementTree, Empty, Evaluate, Begun, Declar
 use Rattle.c_statement.specs.declared.unit.External.{External}
 use Rattle.c_statement.specs.declared.unit.External.TheVariants.{Declaration, Definition}
 use Rattle.c_tree.specs.declared.types.StructDef.{StructDef}
-use Rattle.c_tree.specs.Layout.{members_of, members_in}
-use Rattle.c_typing.specs.Plain.{Plain, Int, Void, is_empty}
+use Rattle.c_typing.specs.Plain.{Plain, Int, Void}
 use Rattle.c_typing.specs.Declared.{built_in}
 use Rattle.c_defs.specs.Depths.{deepest}
 use Rattle.c_typing.specs.Expressions as typing
 use Rattle.c_typing.specs.Expressions.{Denoted}
 use Rattle.c_judge.specs.Answers.{Answer, Known, Unknown, Broken, ◌then◌}
-use Rattle.c_scope.specs.Environment.{Environment, Row, declare, declare_global, declare_local, enter, leave}
-use Rattle.c_scope.specs.Declarators.{Shape, Object, Function, Parameter, shape, denoted, name_in}
-use Rattle.c_scope.specs.Findings.{Finding, nothing}
+use Rattle.c_scope.specs.Environment.{Environment, Row, declare_local, enter}
+use Rattle.c_scope.specs.Declarators.{Shape, Object, Function, Parameter, shape, denoted}
+use Rattle.c_scope.specs.Findings.{nothing}
 use Rattle.c_body.specs.Bodies.{after}
-use Rattle.c_body.specs.Stops.{Stop, stops_of, inside_block}
-use Rattle.c_mentions.specs.Tags.{in_all, in_external, in_file_spec, in_declared, in_declarator, in_statement, in_part, in_initial}
+use Rattle.c_body.specs.Stops.{stops_of, inside_block}
+use Rattle.c_mentions.specs.Tags.{in_all, in_external, in_file_spec, in_declared, in_declarator, in_statement}
 use Rattle.c_file.specs.Names.{FileName, composite, is_here, told_before}
-use Rattle.c_file.specs.Files.{State, Bodied, standing, with_name, with_head, with_strings, with_definition, row_of, function_row, after_all, after_name, after_what, after_function, bodied, what, with_parameters, body_environment, behind_known, with_spec, Externals}
+use Rattle.c_file.specs.Files.{State, Bodied, standing, with_name, with_head, with_strings, with_definition, row_of, function_row, after_all, after_name, after_what, after_function, bodied, what, with_parameters, body_environment, with_spec, Externals}
 use Rattle.c_file.specs.Programs.{completed_by, incomplete, at_first, next_file}
 use Rattle.c_accepted.specs.Grown.{Grows}
 use Rattle.c_accepted.specs.Completed.{AreSound, Extends}
-use Rattle.c_accepted.proofs.Known.{never, one_known, then_known}
+use Rattle.c_accepted.proofs.Known.{then_known}
 use Rattle.c_accepted.proofs.Written.{IsNamed}
 use Rattle.c_accepted.proofs.Completing.{extended}
 use Rattle.c_accepted.proofs.Merged.{grows_here, grows_others, merged_sound, merged_extends}
 use Rattle.c_accepted.proofs.Shapes.{AreTags, both_tags, IsShaped, shape_named}
-use Rattle.c_accepted.proofs.Specified.{Holds, Passes}
-use Rattle.c_accepted.proofs.Inside.{Behind, specified}
+use Rattle.c_accepted.proofs.Inside.{specified}
 use Rattle.c_accepted.proofs.Types.{IsDenotedIn, named_grows, denoted_grows, composite_named}
 use Rattle.c_accepted.proofs.Bounds.{standing_named}
 use Rattle.c_accepted.proofs.Parameters.{IsTyped, IsParameter, AreParameters, parameters_named}
 use Rattle.c_accepted.proofs.Counted.{IsNamedStop}
-use Rattle.c_accepted.proofs.Scoping.{IsRowIn, IsUnder, IsScope, Deeper, one_name, one_longer, no_deeper, deeper_on, left_behind, At, behind, in_function}
-use Rattle.c_accepted.proofs.Walked.{Stands, Goes, Keeps, all_keep, what_keeps, function_keeps, Same, parameters_same, unbroken, first_known, behind_one}
+use Rattle.c_accepted.proofs.Scoping.{IsRowIn, IsScope, Deeper, one_name, one_longer, no_deeper, deeper_on, left_behind, At, behind, in_function}
+use Rattle.c_accepted.proofs.Walked.{Stands, Goes, all_keep, what_keeps, function_keeps, parameters_same, unbroken, first_known, behind_one}
 use Rattle.c_typing.specs.Accepted.{AllFrom}
 
 -- the structs of the program so far
@@ -185,8 +182,8 @@ module _ (tags : List (List ℕ)) (here defs : List StructDef) (count : length h
           names = o.names;
           scope = left.scope;
           stops = all_last (AreStops (length end.names)) p.bodies (bodied s d x q f t ps)
-            (stops_more (length q.here.names) (length end.names) long p.bodies o.stops)
-            (in_function here tags defs count (λ u h. named_grows here defs g u h) (length end.names) v x there inside (let r : length end.names ≤ length end.names = omega arith in r));
+              (stops_more (length q.here.names) (length end.names) long p.bodies o.stops)
+              (in_function here tags defs count (λ u h. named_grows here defs g u h) (length end.names) v x there inside (let r : length end.names ≤ length end.names = omega arith in r));
           many = (let a = o.many in omega (arith, a, long));
         }
 
@@ -251,7 +248,7 @@ module _ (tags : List (List ℕ)) where
       let shaped : shape v h.declarator u ≡ Known y = ap (λ (z : Answer Plain). z then shape v h.declarator) (sym first) ∙ sym c ∙ known in
       let there : AreTags v.tags (in_declarator h.declarator) = subst (λ ts. AreTags ts (in_declarator h.declarator)) (sym tagged) two.1 in
       subst (TypedIn (whole q)) (sym last)
-        (function_declared tags v.defs (whole q) many j.passes.behind.sound g1 h.storage h.declarator x parts.1 m y refl tagged (shape_named v h.declarator u y j.named shaped) (parameters_named v j.passes.behind.count h.declarator u y there shaped) t1)
+      (function_declared tags v.defs (whole q) many j.passes.behind.sound g1 h.storage h.declarator x parts.1 m y refl tagged (shape_named v h.declarator u y j.named shaped) (parameters_named v j.passes.behind.count h.declarator u y there shaped) t1)
 
   pub begins_typed : (p : State) → Stands tags p → TypedIn p.others p → TypedIn (whole p) p
   begins_typed p s t = typed_grows p.others (whole p) (grows_others p.others p.here.defs s.here.pairs s.here.sound s.others s.here.agree) p t

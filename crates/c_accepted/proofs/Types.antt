@@ -1,11 +1,10 @@
 -- What names denote stays within the limits of types as structs are completed.
-use Rattle.std.proofs.Common.{◌≡◌, ◌≤◌, ◌<◌, refl, sym, ap, ◌∙◌, subst, arith, ℕ, zero, suc, ◌+◌, ◌*◌, Bool, true, false, ◌&&◌, true≢false, List, [], ◌∷◌, ◌++◌, length, Option, Some, None}
-use Rattle.std.specs.List.{AllByRecursion}
+use Rattle.std.proofs.Common.{◌≡◌, sym, zero, suc, true, true≢false, List}
 use Rattle.c_tree.specs.declared.types.StructDef.{StructDef}
-use Rattle.c_typing.specs.Plain.{Plain, Char, Int, Unsigned, Void, Pointer, Array, Struct, is_struct, is_complete}
+use Rattle.c_typing.specs.Plain.{Plain, Char, Int, Unsigned, Void, Pointer, Array, Struct}
 use Rattle.c_typing.specs.Declared.{is_result}
 use Rattle.c_typing.specs.Expressions.{Denoted, Object, Function, Hidden}
-use Rattle.c_defs.specs.Depths.{deepest, is_within}
+use Rattle.c_defs.specs.Depths.{deepest}
 use Rattle.c_file.specs.Names.{bounded_one, composite}
 use Rattle.c_accepted.specs.Grown.{IsMade, Grows}
 use Rattle.c_accepted.proofs.Written.{IsLimited, IsNamed, within_grows}

@@ -1,43 +1,35 @@
 -- An expression that begins an object of a scalar type, or a string that begins an array, gives what the leaves may hold.
-use Rattle.std.proofs.Common.{◌≡◌, ◌≤◌, ◌<◌, refl, sym, ap, ◌∙◌, subst, arith, ℕ, zero, suc, ◌+◌, ◌-◌, ◌*◌, ◌%◌, ◌^◌, Bool, true, false, ◌&&◌, ◌||◌, ◌==◌, true≢false, List, [], ◌∷◌, ◌++◌, length, map, replicate, slice_get, Option, Some, None}
+use Rattle.std.proofs.Common.{◌≡◌, ◌≤◌, ◌<◌, refl, sym, ap, subst, arith, ℕ, zero, suc, ◌+◌, ◌-◌, ◌%◌, ◌^◌, Bool, true, false, ◌||◌, true≢false, List, [], ◌∷◌, ◌++◌, length, map, replicate, Option, Some, None}
 use Rattle.std.specs.Prelude.{ℤ, nat_le}
-use Rattle.std.proofs.Common.{pos, negsuc, w8, w32}
+use Rattle.std.proofs.Common.{pos, negsuc, w8}
 use Rattle.std.specs.Int.RustNames.{unsigned_abs}
 use Rattle.std.specs.Int.{cast_signed, cast_unsigned}
 use Rattle.std.proofs.lemmas.Int.{of_z-to_z}
 use Rattle.ldb_words.specs.Word.{word_of_signed}
-use Rattle.ldb_words.specs.declared.kinds.Kind.{Kind}
 use Rattle.ldb_words.specs.declared.kinds.Kind.TheVariants.{Byte, Word, Address}
 use Rattle.c_symbol.specs.declared.symbol.LeafKind.TheVariants as leaf
 use Rattle.c_expr.specs.Tree.{Tree, Leaf}
-use Rattle.c_tree.specs.declared.types.StructDef.{StructDef}
 use Rattle.c_tree.specs.declared.rows.Program.{Program}
-use Rattle.c_tree.specs.declared.rows.ObjectRow.{ObjectRow}
-use Rattle.c_tree.specs.declared.rows.Start.{Start}
-use Rattle.c_tree.specs.declared.rows.Start.TheVariants as start
-use Rattle.c_tree.specs.Layout as layout
 use Rattle.c_operators.specs.Bits.{low_byte}
-use Rattle.c_typing.specs.Plain.{Plain, Char, Int, Unsigned, Void, Pointer, Array, Struct, same, is_complete}
-use Rattle.c_typing.specs.Starts.{Starts}
-use Rattle.c_defs.specs.Depths.{deepest, is_within}
+use Rattle.c_typing.specs.Plain.{Plain, Char, Int, Unsigned, Void, Pointer, Array, Struct, same}
+use Rattle.c_defs.specs.Depths.{deepest}
 use Rattle.c_judge.specs.declared.part.Constant.{Constant}
 use Rattle.c_judge.specs.declared.part.Constant.TheVariants.{Number, Variable, Undefined}
 use Rattle.c_judge.specs.Answers.{Answer, Known, Unknown, Broken, ◌then◌}
 use Rattle.c_judge.specs.Judgement.{judged}
 use Rattle.c_judge.specs.Places.{place_of}
-use Rattle.c_judge.specs.Values.{size_of}
 use Rattle.c_mentions.specs.Literals.{in_tree, texts}
 use Rattle.c_scope.specs.Environment.{Environment, scope_of}
 use Rattle.c_scope.specs.Declarators.{constant}
-use Rattle.c_scope.specs.Findings.{Finding, Fine, fine, nothing, holds}
-use Rattle.c_initial.specs.Initials.{Spot, spot, text_of, number, number_in, fits, is_spot, is_characters, is_address, address_found, value_found}
-use Rattle.c_initial.specs.Begins.{Begin, Bits, Within, Text, kept_as, bits_of, character, characters, spot_begin, address_begin, value_begins, strings_of_value}
+use Rattle.c_scope.specs.Findings.{nothing, holds}
+use Rattle.c_initial.specs.Initials.{Spot, spot, text_of, number, number_in, fits, is_spot, is_characters, is_address, address_found}
+use Rattle.c_initial.specs.Begins.{Begin, Bits, Text, bits_of, character, characters, spot_begin, address_begin}
 use Rattle.c_file.specs.Files.{State}
-use Rattle.c_file.specs.Made.{started, or_zero, object_number}
+use Rattle.c_file.specs.Made.{started}
 use Rattle.c_file.proofs.Telling.{same_plain}
 use Rattle.c_accepted.proofs.Growth.{both_parts}
 use Rattle.c_accepted.proofs.KindsOfLeaves.{times_of, kinds_of, Hold}
-use Rattle.c_accepted.proofs.Filled.{ValueGives, Gives}
+use Rattle.c_accepted.proofs.Filled.{ValueGives}
 
 -- ---- bytes
 

@@ -1,7 +1,6 @@
 -- The structs at each place of a program are sound, and stay so.
-use Rattle.std.proofs.Common.{◌≡◌, ◌≤◌, ◌<◌, refl, sym, ap, ◌∙◌, subst, arith, ℕ, zero, suc, Bool, true, false, ◌||◌, true≢false, List, [], ◌∷◌, ◌++◌, length, map, Option, Some, None}
+use Rattle.std.proofs.Common.{◌≡◌, refl, sym, ap, ◌∙◌, subst, arith, ℕ, zero, suc, Bool, true, true≢false, List, [], ◌∷◌, ◌++◌, length, map, Option, Some, None}
 use Rattle.std.specs.Prelude.{slice_get}
-use Rattle.std.specs.List.{AllByRecursion}
 use Rattle.c_declaration.specs.Tree.{DeclaratorTree}
 use Rattle.c_declaration.specs.InitialTree.{InitialTree}
 use Rattle.c_declaration.specs.declared.tree.Declared.{Declared}
@@ -16,22 +15,21 @@ use Rattle.c_typing.specs.Plain.{Plain, is_empty}
 use Rattle.c_typing.specs.Expressions as typing
 use Rattle.c_typing.specs.Expressions.{Denoted}
 use Rattle.c_judge.specs.Answers.{Answer, Known, Unknown, Broken, ◌then◌}
-use Rattle.c_scope.specs.Environment.{Environment, declare_local, enter, leave}
+use Rattle.c_scope.specs.Environment.{Environment, declare_local, enter}
 use Rattle.c_scope.specs.Declarators.{Shape, Object, Function, Parameter}
-use Rattle.c_scope.specs.Findings.{Finding, Fine, fine, nothing, ◌beside◌}
-use Rattle.c_body.specs.Locals.{with_local, local_type, local_name, after_local, after_names, after_declaration}
+use Rattle.c_scope.specs.Findings.{Finding, fine, nothing, ◌beside◌}
+use Rattle.c_body.specs.Locals.{with_local, local_type, after_local, after_names, after_declaration}
 use Rattle.c_body.specs.Bodies.{after}
 use Rattle.c_body.specs.Stops.{inside_block}
-use Rattle.c_mentions.specs.Tags.{in_all, in_external, in_file_spec, in_declared, in_declarator, in_statement, each_once}
+use Rattle.c_mentions.specs.Tags.{in_all, in_external, in_file_spec, in_declared, in_declarator, in_statement}
 use Rattle.c_file.specs.Files.{State, with_name, with_head, with_strings, with_definition, row_of, function_row, after_all, after_name, after_what, after_function, what, with_parameters, body_environment, behind_known, with_spec, Externals, AllExternals, Onward}
 use Rattle.c_file.specs.Names.{FileName}
 use Rattle.c_file.specs.Programs.{Told, Well, Lacks, Breaks, in_file, ◌before◌, incomplete, completed_by, at_first, next_file}
-use Rattle.c_accepted.specs.Grown.{Grows}
 use Rattle.c_accepted.specs.Completed.{IsSound, AreSound, Extends, Agree}
-use Rattle.c_accepted.proofs.Known.{never, one_known}
+use Rattle.c_accepted.proofs.Known.{never}
 use Rattle.c_accepted.proofs.Merged.{merged_sound, merged_count}
 use Rattle.c_accepted.proofs.Shapes.{AreTags, both_tags}
-use Rattle.c_accepted.proofs.Specified.{Holds, Passes}
+use Rattle.c_accepted.proofs.Specified.{Holds}
 use Rattle.c_accepted.proofs.Inside.{Behind, specified}
 
 -- ---- what no declaration in a body changes

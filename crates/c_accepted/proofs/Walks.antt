@@ -1,12 +1,12 @@
 -- What each external declaration keeps holds behind the last file.
-use Rattle.std.proofs.Common.{◌≡◌, refl, sym, ap, ◌∙◌, subst, arith, ℕ, suc, ◌+◌, List, [], ◌∷◌, ◌++◌, length}
+use Rattle.std.proofs.Common.{◌≡◌, refl, sym, ap, ◌∙◌, subst, arith, ℕ, suc, ◌+◌, List, [], ◌∷◌, length}
 use Rattle.std.specs.List.{AllByRecursion}
 use Rattle.c_statement.specs.declared.unit.External.{External}
 use Rattle.c_judge.specs.Answers.{Known, Unknown, Broken}
-use Rattle.c_scope.specs.Findings.{Finding, Fine, fine, nothing, ◌beside◌}
+use Rattle.c_scope.specs.Findings.{Finding, nothing, ◌beside◌}
 use Rattle.c_mentions.specs.Tags.{in_all, in_external}
 use Rattle.c_file.specs.Files.{State, Externals, AllExternals, Onward}
-use Rattle.c_file.specs.Programs.{Told, Well, Lacks, Breaks, in_file, ◌before◌, next_file, AllFiles}
+use Rattle.c_file.specs.Programs.{Told, Well, Breaks, in_file, ◌before◌, next_file, AllFiles}
 use Rattle.c_accepted.proofs.Shapes.{AreTags, both_tags}
 use Rattle.c_accepted.proofs.Walked.{Stands, Goes, external, externals, next_stands, two_parts, well_one, well_both}
 

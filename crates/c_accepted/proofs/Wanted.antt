@@ -8,7 +8,6 @@ use Rattle.c_declaration.specs.Tree.{DeclaratorTree}
 use Rattle.c_declaration.specs.InitialTree.{InitialTree}
 use Rattle.c_declaration.specs.declared.tree.Declared.{Declared}
 use Rattle.c_declaration.specs.declared.tree.Storage.{Storage}
-use Rattle.c_declaration.specs.declared.tree.Storage.TheVariants as storage
 use Rattle.c_statement.specs.Tree.{StatementTree}
 use Rattle.c_statement.specs.declared.unit.External.{External}
 use Rattle.c_statement.specs.declared.unit.External.TheVariants.{Declaration, Definition}
@@ -17,14 +16,14 @@ use Rattle.c_typing.specs.Expressions as typing
 use Rattle.c_typing.specs.Expressions.{Denoted}
 use Rattle.c_judge.specs.Answers.{Answer, Known, Unknown, Broken, ◌then◌}
 use Rattle.c_scope.specs.Declarators.{Shape, Object, Function}
-use Rattle.c_scope.specs.Findings.{Finding, nothing}
+use Rattle.c_scope.specs.Findings.{nothing}
 use Rattle.c_file.specs.declared.definitions.Manner.{Manner}
 use Rattle.c_file.specs.declared.definitions.Manner.TheVariants.{Body}
 use Rattle.c_file.specs.Names.{FileName, Defining, defines, is_defined, is_built_in, is_here}
 use Rattle.c_file.specs.FileNames.{AreConsistent}
 use Rattle.c_body.specs.Calls.{called_items}
-use Rattle.c_file.specs.Files.{State, Called, called_all, wanting, manner_of, defining, with_name, with_head, with_strings, with_definition, row_of, function_row, after_all, after_name, after_what, after_function, what, behind_known, with_spec, Externals}
-use Rattle.c_file.specs.Programs.{is_static_in, uncalled, next_file}
+use Rattle.c_file.specs.Files.{State, Called, called_all, wanting, manner_of, defining, with_name, with_head, with_strings, with_definition, row_of, function_row, after_all, after_name, after_what, after_function, what, with_spec, Externals}
+use Rattle.c_file.specs.Programs.{is_static_in, uncalled}
 use Rattle.c_accepted.specs.Wanted.{is_wanted, IsSought, IsSoughtIn, AreSought}
 use Rattle.c_accepted.proofs.Growth.{both_parts}
 use Rattle.c_accepted.proofs.Walked.{unbroken, behind_one}
@@ -167,7 +166,7 @@ module _ (s : Storage) where
       let ds = p.definitions ++ defining f m in
       let cs = wanting p.calls f m f.denoted in
       subst (AllByRecursion (IsSoughtIn ds cs)) (sym e)
-        (now_sought p.definitions p.calls f m f.denoted, all_sought p.definitions ds p.calls cs (λ u t n k. defined_more p.definitions (defining f m) u t n k) (wanting_more p.calls f m f.denoted) fs h)
+      (now_sought p.definitions p.calls f m f.denoted, all_sought p.definitions ds p.calls cs (λ u t n k. defined_more p.definitions (defining f m) u t n k) (wanting_more p.calls f m f.denoted) fs h)
   definition_sought p f fs (Some i) e h =
       let m = manner_of s (Some i) f.denoted in
       let ds = p.definitions ++ defining f m in
@@ -175,7 +174,7 @@ module _ (s : Storage) where
       let cs = p.calls ++ more in
       let bs = wanting cs f m f.denoted in
       subst (AllByRecursion (IsSoughtIn ds bs)) (sym e)
-        (now_sought p.definitions cs f m f.denoted, all_sought p.definitions ds p.calls bs (λ u t n k. defined_more p.definitions (defining f m) u t n k) (λ u n k. wanting_more cs f m f.denoted u n (wanted_more p.calls more u n k)) fs h)
+      (now_sought p.definitions cs f m f.denoted, all_sought p.definitions ds p.calls bs (λ u t n k. defined_more p.definitions (defining f m) u t n k) (λ u n k. wanting_more cs f m f.denoted u n (wanted_more p.calls more u n k)) fs h)
 
   module _ (t : Plain) where
     one_sought : (p : State) (d : Declared) (a : Answer Denoted) → AreSought p → AreSought (after_what s p d a)

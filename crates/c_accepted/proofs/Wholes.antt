@@ -1,8 +1,6 @@
 -- Objects are defined with complete types.
-use Rattle.std.proofs.Common.{◌≡◌, refl, sym, ap, ◌∙◌, subst, ℕ, zero, suc, Bool, true, false, ◌&&◌, true≢false, List, [], ◌∷◌, ◌++◌, length, Option, Some, None, if◌then◌else◌}
-use Rattle.std.specs.Prelude.{slice_get, nat_le}
+use Rattle.std.proofs.Common.{◌≡◌, refl, sym, ap, ◌∙◌, subst, ℕ, zero, suc, Bool, true, false, true≢false, List, [], ◌∷◌, ◌++◌, length, Option, Some, None, if◌then◌else◌}
 use Rattle.std.specs.List.{AllByRecursion}
-use Rattle.c_expr.specs.Tree.{Tree}
 use Rattle.c_declaration.specs.Tree.{DeclaratorTree, begins}
 use Rattle.c_declaration.specs.InitialTree.{InitialTree, Value, Braces, Item}
 use Rattle.c_declaration.specs.declared.tree.Declared.{Declared}
@@ -19,24 +17,20 @@ use Rattle.c_judge.specs.Answers.{Answer, Known, Unknown, Broken, ◌then◌}
 use Rattle.c_judge.specs.Places.{place_of}
 use Rattle.c_scope.specs.Environment.{Environment}
 use Rattle.c_scope.specs.Declarators.{Shape, Object, Function, denoted, shape}
-use Rattle.c_scope.specs.Findings.{Finding, Fine, fine, nothing, ◌beside◌, holds}
-use Rattle.c_initial.specs.Initials.{text_of, fits, count_of, initial_found, bound_set, with_bound}
+use Rattle.c_scope.specs.Findings.{Fine, fine, nothing, holds}
+use Rattle.c_initial.specs.Initials.{text_of, fits, initial_found, with_bound}
 use Rattle.c_file.specs.declared.definitions.Manner.{Manner}
-use Rattle.c_file.specs.declared.definitions.Manner.TheVariants.{Body, Initialized, Tentative}
+use Rattle.c_file.specs.declared.definitions.Manner.TheVariants.{Body}
 use Rattle.c_file.specs.Names.{FileName, Defining, name_found}
 use Rattle.c_file.specs.Telling.{is_unbounded}
-use Rattle.c_file.specs.Files.{State, type_or, object_type, in_limits, may_stand, is_extern, standing, manner_of, defining, with_name, with_head, with_strings, with_definition, row_of, function_row, after_all, after_name, after_what, after_function, what, declared_found, found_as, all_found, initial_or_none, behind_known, with_spec, Externals}
-use Rattle.c_file.specs.Programs.{at_first, next_file}
-use Rattle.c_file.specs.Made.{is_body}
+use Rattle.c_file.specs.Files.{State, type_or, object_type, in_limits, may_stand, is_extern, standing, manner_of, defining, with_name, with_strings, with_definition, row_of, function_row, after_all, after_name, after_what, after_function, what, declared_found, found_as, all_found, initial_or_none, with_spec, Externals}
 use Rattle.c_accepted.specs.Grown.{Grows}
-use Rattle.c_accepted.specs.Completed.{AreSound}
-use Rattle.c_accepted.specs.Declarations.{IsWhole, IsWholeIn, HasItems, HasItem, HaveItems}
-use Rattle.c_accepted.proofs.Growth.{both_parts, complete_grows}
+use Rattle.c_accepted.specs.Declarations.{IsWholeIn, HasItems, HasItem, HaveItems}
+use Rattle.c_accepted.proofs.Growth.{complete_grows}
 use Rattle.c_accepted.proofs.Known.{never, one_known, then_known}
 use Rattle.c_accepted.proofs.Merged.{grows_others}
-use Rattle.c_accepted.proofs.Shapes.{AreTags}
 use Rattle.c_accepted.proofs.Typed.{whole, grows_to, grows_more}
-use Rattle.c_accepted.proofs.Walked.{Stands, Goes, all_keep, what_keeps, function_keeps, two_parts, unbroken, first_known, behind_one}
+use Rattle.c_accepted.proofs.Walked.{Stands, Goes, all_keep, what_keeps, two_parts, unbroken, behind_one}
 
 all_last : {A : Type 0} (P : A → Type 0) (xs ys : List A) → AllByRecursion P xs → AllByRecursion P ys → AllByRecursion P (xs ++ ys)
 all_last P [] ys h k = k

@@ -1,5 +1,5 @@
 -- What is asked of a program, and of the files that it comes from, so that its functions keep to the rules.
-use Rattle.std.specs.Prelude.{◌≡◌, ◌<◌, ℕ, false, List, [], length, Option, Some, None, slice_get}
+use Rattle.std.specs.Prelude.{◌≡◌, ◌<◌, ℕ, false, List, [], length, Some, None, slice_get}
 use Rattle.std.specs.List.{AllByRecursion}
 use Rattle.c_statement.specs.declared.unit.External.{External}
 use Rattle.c_tree.specs.declared.types.CType.TheVariants.{Struct}
@@ -9,11 +9,9 @@ use Rattle.c_typing.specs.Plain.{Plain}
 use Rattle.c_typing.specs.Written.{IsWritten}
 use Rattle.c_typing.specs.Expressions.{Function}
 use Rattle.c_typing.specs.Declared.{scope_at}
-use Rattle.c_typing.specs.Accepted.{IsReferent}
 use Rattle.c_scope.specs.Environment.{Row}
 use Rattle.c_file.specs.Names.{is_built_in}
 use Rattle.c_file.specs.Files.{State, Called}
-use Rattle.c_file.specs.Made.{referent, type_of_name}
 use Rattle.c_accepted.specs.Begun.{IsOfGrammar}
 use Rattle.c_accepted.specs.Sources.{IsText, HasWordsIn}
 
@@ -39,7 +37,3 @@ CallsAreThere p q = (i : ℕ) (c : Called) → slice_get q.calls i ≡ Some c �
 -- the initializers of each file are those of the grammar
 abbrev pub HaveInitials : List (List External) → Type 0
 HaveInitials us = AllByRecursion (AllByRecursion IsOfGrammar) us
-
--- what a name stands for in the program has the type of the name
-abbrev pub IsReferentOf : Program → State → Row → Type 0
-IsReferentOf p q r = IsReferent p (type_of_name q r.denoted) r.name (referent q r)

@@ -1,11 +1,10 @@
 -- What holds of the statements that a text is read to, and of typed statements as memory holds them.
-use Rattle.std.specs.Prelude.{◌≡◌, ◌<◌, ◌^◌, ℕ, Bool, false, ◌==◌, List, [], ◌∷◌, length, Option, Some, None}
+use Rattle.std.specs.Prelude.{◌≡◌, ◌<◌, ◌^◌, false, ◌==◌, List, [], ◌∷◌, Option, Some, None}
 use Rattle.std.specs.List.{AllByRecursion}
 use Rattle.c_expr.specs.Tree.{Tree}
 use Rattle.c_declaration.specs.InitialTree.{InitialTree, Value}
 use Rattle.c_declaration.specs.declared.tree.Declared.{Declared}
-use Rattle.c_declaration.specs.declared.tree.Local.{Local}
-use Rattle.c_statement.specs.Tree.{StatementTree, Empty, Evaluate, Begun, Declares, Also, Closed, If, IfElse, Headed, Do, Break, Continue, Return}
+use Rattle.c_statement.specs.Tree.{StatementTree, Evaluate, Begun, Declares, Also, Closed, If, IfElse, Headed, Do, Return}
 use Rattle.c_statement.specs.declared.tree.Head.{Head}
 use Rattle.c_statement.specs.declared.tree.Head.TheVariants as head
 use Rattle.c_tree.specs.declared.typed.Typed.{Typed}

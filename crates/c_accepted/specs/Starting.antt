@@ -4,7 +4,7 @@ use Rattle.std.specs.List.{AllByRecursion}
 use Rattle.c_tree.specs.declared.rows.Program.{Program}
 use Rattle.c_tree.specs.declared.rows.ObjectRow.{ObjectRow}
 use Rattle.c_tree.specs.declared.rows.Start.{Start}
-use Rattle.c_tree.specs.declared.rows.Start.TheVariants.{Number, Object, Str}
+use Rattle.c_tree.specs.declared.rows.Start.TheVariants.{Number, Object}
 use Rattle.c_tree.specs.Layout.{size_of}
 
 -- a number is a word

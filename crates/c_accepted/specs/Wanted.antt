@@ -1,8 +1,7 @@
 -- Each object that is declared is defined, or has to be (C90 6.7).
 use Rattle.std.specs.Prelude.{◌≡◌, ℕ, Bool, true, false, ◌&&◌, ◌||◌, ◌==◌, List, [], ◌∷◌, bytes_eq}
 use Rattle.std.specs.List.{AllByRecursion}
-use Rattle.c_typing.specs.Plain.{Plain}
-use Rattle.c_typing.specs.Expressions.{Denoted, Object, Function, Hidden}
+use Rattle.c_typing.specs.Expressions.{Denoted, Object}
 use Rattle.c_file.specs.Names.{FileName, Defining, is_defined}
 use Rattle.c_file.specs.Files.{State, Called}
 
