@@ -1,8 +1,62 @@
-pub mod Known
-pub mod Growth
-pub mod Written
-pub mod Told
-pub mod Forms
-pub mod Calls
-pub mod Expressions
+mod Known
+mod Growth
+mod Written
+mod Told
+mod Forms
+mod Calls
+mod Expressions
 mod Example
+mod Completing
+mod Merged
+mod Shapes
+mod Specified
+mod Inside
+mod Structs
+mod Walked
+mod Walks
+mod AllTags
+mod Runs
+mod Points
+mod Keeps
+mod Stable
+mod Scopes
+mod Read
+mod Listed
+mod Labels
+mod Statements
+mod LocalNumbers
+mod Bodied
+mod Functions
+mod Declarators
+mod Locals
+mod Keeping
+mod Entries
+mod Steps
+mod Bodies
+mod Kept
+mod AllTold
+mod Counted
+mod Names
+mod Differing
+mod Types
+mod Scoping
+mod Bounds
+mod Parameters
+mod Typed
+mod Symbols
+mod Composite
+mod Wholes
+mod Objects
+mod KindsOfLeaves
+mod Begun
+mod Filled
+mod Values
+mod Started
+mod Given
+mod Wanted
+mod Found
+mod ObjectsFound
+mod Denotes
+mod Referents
+mod Assembly
+mod Joined
