@@ -175,9 +175,9 @@ module _ {M : Type 0} (leads : M → Option (List ℕ) → M → Type 0) (a b : 
   told_led A (lack.Unforced u) h = h
   told_led A lack.Outside h = h
 
-  pub added_led : {A : Type 0} (k : ℕ) (w : Walked PointRow) (old new : List ℕ) (f : ListFault) → leads a None b → AddsLine k w old (Err f) new → LedList {A = A} leads a (Err f) b
-  added_led {A = A} k w old new (Walk x) h e = subst (λ (y : WalkFault). LedWalk {A = A} leads a (Err y) b) (sym e.2) (told_led A e.0 h)
-  added_led k w old new NoMemory h e = h
+  pub added_led : (A : Type 0) (k : ℕ) (w : Walked PointRow) (old new : List ℕ) (f : ListFault) → leads a None b → AddsLine k w old (Err f) new → LedList {A = A} leads a (Err f) b
+  added_led A k w old new (Walk x) h e = subst (λ (y : WalkFault). LedWalk {A = A} leads a (Err y) b) (sym e.2) (told_led A e.0 h)
+  added_led A k w old new NoMemory h e = h
 
   pub reply_led : (all : Listed) (r : Result (List ℕ) ListFault) → leads a None b → HasReply all r → LedList leads a r b
   reply_led all (Ok text) h k = h
