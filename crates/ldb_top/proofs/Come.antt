@@ -19,22 +19,22 @@ use Rattle.ldb_top.specs.Late.{LateAs}
 use Rattle.ldb_top.specs.Names.{Names, names_of, names_in_debug, names_in_go}
 use Rattle.ldb_top.specs.Said.{IsNamed}
 use Rattle.ldb_top.specs.Stops.{ending_of}
-use Rattle.ldb_top.specs.Why.{IsWhy, Begins, line_of, late_line}
+use Rattle.ldb_top.specs.Why.{IsWhy, Tells, Begins, line_of, late_line}
 use Rattle.ldb_top.specs.Words.{Form, Debug, Go, Make, Own, form_of, form_in}
 
 -- ---- before the session
 
-early : (form : Form) (n : Names) (old new : Outside) (s : Stop) (status : Status) (r : Result Status Fault) → r ≡ Ok status → ending_of s ≡ Ok status → ((known : FileMap) → old.held ≡ Some known → IsWhy form n known s) → OnOk r (new.taken ≡ known_and old.taken (line_of s)) → new.held ≡ old.held → new.left ≡ old.left → EndsEarly form n old new status
-early form n old new s status r e st why said h u = record { stop = s; status_is = st; why = why; told = subst (λ x. OnOk x (new.taken ≡ known_and old.taken (line_of s))) e said; held_is = h; unread = u }
+early : (form : Form) (n : Names) (old new : Outside) (s : Stop) (status : Status) (r : Result Status Fault) → r ≡ Ok status → ending_of s ≡ Ok status → Tells form n s → ((known : FileMap) → old.held ≡ Some known → IsWhy form n known s) → OnOk r (new.taken ≡ known_and old.taken (line_of s)) → new.held ≡ old.held → new.left ≡ old.left → EndsEarly form n old new status
+early form n old new s status r e st tells why said h u = record { stop = s; status_is = st; tells = tells; why = why; told = subst (λ x. OnOk x (new.taken ≡ known_and old.taken (line_of s))) e said; held_is = h; unread = u }
 
-pub told_comes : (form : Form) (n : Names) (old new : Outside) (s : Stop) (r : Result Status Fault) → (r ≡ ending_of s) ⊎ (r ≡ Err fault.Write) → ((known : FileMap) → old.held ≡ Some known → IsWhy form n known s) → OnOk r (new.taken ≡ known_and old.taken (line_of s)) → new.held ≡ old.held → new.left ≡ old.left → ComesTo form n old new r
-told_comes form n old new s r (inr e) why said h u = subst (ComesTo form n old new) (sym e) tt
-told_comes form n old new stop.Read r (inl e) why said h u = subst (ComesTo form n old new) (sym e) tt
-told_comes form n old new stop.NoMemory r (inl e) why said h u = subst (ComesTo form n old new) (sym e) tt
-told_comes form n old new (stop.Missing line) r (inl e) why said h u = subst (ComesTo form n old new) (sym e) (early form n old new (stop.Missing line) NoFile r e refl why said h u)
-told_comes form n old new (stop.TooLong line) r (inl e) why said h u = subst (ComesTo form n old new) (sym e) (inl (early form n old new (stop.TooLong line) TooLong r e refl why said h u))
-told_comes form n old new (stop.Refused line) r (inl e) why said h u = subst (ComesTo form n old new) (sym e) (early form n old new (stop.Refused line) Refused r e refl why said h u)
-told_comes form n old new (stop.Bad line) r (inl e) why said h u = subst (ComesTo form n old new) (sym e) (early form n old new (stop.Bad line) BadFile r e refl why said h u)
+pub told_comes : (form : Form) (n : Names) (old new : Outside) (s : Stop) (r : Result Status Fault) → (r ≡ ending_of s) ⊎ (r ≡ Err fault.Write) → Tells form n s → ((known : FileMap) → old.held ≡ Some known → IsWhy form n known s) → OnOk r (new.taken ≡ known_and old.taken (line_of s)) → new.held ≡ old.held → new.left ≡ old.left → ComesTo form n old new r
+told_comes form n old new s r (inr e) tells why said h u = subst (ComesTo form n old new) (sym e) tt
+told_comes form n old new stop.Read r (inl e) tells why said h u = subst (ComesTo form n old new) (sym e) tt
+told_comes form n old new stop.NoMemory r (inl e) tells why said h u = subst (ComesTo form n old new) (sym e) tt
+told_comes form n old new (stop.Missing line) r (inl e) tells why said h u = subst (ComesTo form n old new) (sym e) (early form n old new (stop.Missing line) NoFile r e refl tells why said h u)
+told_comes form n old new (stop.TooLong line) r (inl e) tells why said h u = subst (ComesTo form n old new) (sym e) (inl (early form n old new (stop.TooLong line) TooLong r e refl tells why said h u))
+told_comes form n old new (stop.Refused line) r (inl e) tells why said h u = subst (ComesTo form n old new) (sym e) (early form n old new (stop.Refused line) Refused r e refl tells why said h u)
+told_comes form n old new (stop.Bad line) r (inl e) tells why said h u = subst (ComesTo form n old new) (sym e) (early form n old new (stop.Bad line) BadFile r e refl tells why said h u)
 
 -- ---- a session
 

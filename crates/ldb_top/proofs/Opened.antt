@@ -1,5 +1,5 @@
 -- Sessions that are begun, and why others aren't.
-use Rattle.std.proofs.Common.{◌≡◌, ◌⊎◌, ℕ, true, false, List, [], ◌∷◌, ◌++◌, codes, Option, None, Some, Ok, Err, inl, inr, refl, sym, ap, ◌∙◌, subst}
+use Rattle.std.proofs.Common.{◌≡◌, ◌⊎◌, ◌<◌, ◌+◌, ℕ, zero, suc, length, length-append, arith, true, false, List, [], ◌∷◌, ◌++◌, codes, Option, None, Some, Ok, Err, inl, inr, refl, sym, ap, ◌∙◌, subst}
 use Rattle.std.specs.declared.result.Result.{Result}
 use Rattle.std.specs.Prelude.{IfErr}
 use Rattle.std.specs.FinMap as files
@@ -9,14 +9,15 @@ use Rattle.obj_file.specs.declared.image.ImageFault.{ImageFault}
 use Rattle.obj_file.specs.declared.image.ImageFault.TheVariants as fault
 use Rattle.ldb_cc.specs.declared.aim.Aim.{Aim}
 use Rattle.ldb_cc.specs.Built.{IsBuilt}
-use Rattle.cc_call.specs.Lines.{end}
+use Rattle.cc_call.specs.Lines.{end, name_in, missing_line}
 use Rattle.cc_call.specs.Found.{AreRead}
 use Rattle.ldb_top.specs.Files.{first_missing, is_long, IsRead}
-use Rattle.ldb_top.specs.Names.{Names, read_names}
+use Rattle.ldb_top.specs.declared.words.DebugRequest.{DebugRequest}
+use Rattle.ldb_top.specs.Names.{Names, read_names, names_in_debug}
 use Rattle.ldb_top.specs.Words.{Form, Debug, Go}
 use Rattle.ldb_top.specs.declared.status.Stop.{Stop}
 use Rattle.ldb_top.specs.declared.status.Stop.TheVariants.{Read, NoMemory, Missing, TooLong, Refused, Bad}
-use Rattle.ldb_top.specs.Why.{IsTableLine, IsTableStop, IsImageTold, IsBuildWhy, IsLoadWhy, BuildsFrom, LoadsFrom, AreProgram, IsFileStop, IsInputStop, AreRight, Opens, IsWhy}
+use Rattle.ldb_top.specs.Why.{IsTableLine, IsTableStop, IsImageTold, IsBuildWhy, IsLoadWhy, BuildsFrom, LoadsFrom, AreProgram, IsFileStop, IsInputStop, AreRight, Opens, IsWhy, Tells, TellsFile, TellsInput, TellsOne, TellsSources}
 use Rattle.ldb_top.proofs.Fronted.{all_on, missing_on}
 
 -- ---- sources, and an image
@@ -107,3 +108,81 @@ debug_opens image table input output known text (Err Read) a t i s b = absurd b
 debug_opens image table input output known text (Err (Missing line)) a t i s b = absurd b
 debug_opens image table input output known text (Err (TooLong line)) a t i s b = absurd b
 debug_opens image table input output known text (Err (Refused line)) a t i s b = absurd b
+
+-- ---- what is told
+
+-- a name among several
+name_first : (names more : List (List ℕ)) (number : ℕ) → number < length names → name_in (names ++ more) number ≡ name_in names number
+name_first [] more number l = absurd (omega arith)
+name_first (n ∷ names) more zero l = refl
+name_first (n ∷ names) more (suc number) l = name_first names more number (omega arith)
+
+name_last : (names : List (List ℕ)) (name : List ℕ) → name_in (names ++ name ∷ []) (length names) ≡ name
+name_last [] name = refl
+name_last (n ∷ names) name = name_last names name
+
+longer : (names : List (List ℕ)) (name : List ℕ) → length (names ++ name ∷ []) ≡ length names + 1
+longer names name = length-append names (name ∷ [])
+
+one_first : (n : Names) (line : List ℕ) → TellsOne n.about line → TellsOne (read_names n) line
+one_first n line t = (t.0, omega (arith, t.1, longer n.about n.input), t.2 ∙ ap missing_line (sym (name_first n.about (n.input ∷ []) t.0 t.1)))
+
+one_last : (n : Names) (line : List ℕ) → line ≡ missing_line n.input → TellsOne (read_names n) line
+one_last n line e = (length n.about, omega (arith, longer n.about n.input), e ∙ ap missing_line (sym (name_last n.about n.input)))
+
+pub sources_told : (n : Names) (stop : Stop) → TellsSources n.about stop → Tells Go n stop
+sources_told n Read t = tt
+sources_told n NoMemory t = ([], tt)
+sources_told n (Missing line) t = one_first n line t
+sources_told n (TooLong line) t = absurd t
+sources_told n (Refused line) t = absurd t
+sources_told n (Bad line) t = absurd t
+
+pub input_told_go : (n : Names) (stop : Stop) → TellsInput n.input stop → Tells Go n stop
+input_told_go n Read t = tt
+input_told_go n NoMemory t = ([], tt)
+input_told_go n (Missing line) t = one_last n line t
+input_told_go n (TooLong line) t = t
+input_told_go n (Refused line) t = absurd t
+input_told_go n (Bad line) t = absurd t
+
+pub input_told : (n : Names) (stop : Stop) → TellsInput n.input stop → Tells Debug n stop
+input_told n Read t = tt
+input_told n NoMemory t = ([], tt)
+input_told n (Missing line) t = one_last n line t
+input_told n (TooLong line) t = t
+input_told n (Refused line) t = absurd t
+input_told n (Bad line) t = absurd t
+
+-- the image, or the table
+file_told : (n : Names) (number : ℕ) (name : List ℕ) (stop : Stop) → number < length n.about → name_in n.about number ≡ name → TellsFile name stop → Tells Debug n stop
+file_told n number name Read l e t = tt
+file_told n number name NoMemory l e t = ([], tt)
+file_told n number name (Missing line) l e t = one_first n line (number, l, t ∙ ap missing_line (sym e))
+file_told n number name (TooLong line) l e t = absurd t
+file_told n number name (Refused line) l e t = absurd t
+file_told n number name (Bad line) l e t = absurd t
+
+pub built_told : {A : Type 0} (n : Names) (texts : List (List ℕ)) (r : Result A Stop) → BuildsFrom n.about texts r → IfErr r (Tells Go n)
+built_told n texts (Ok x) b = tt
+built_told n texts (Err NoMemory) b = ([], tt)
+built_told n texts (Err (Refused line)) b = (texts, b)
+built_told n texts (Err (Bad line)) b = (texts, b)
+built_told n texts (Err Read) b = absurd b
+built_told n texts (Err (Missing line)) b = absurd b
+built_told n texts (Err (TooLong line)) b = absurd b
+
+pub image_told : (r : DebugRequest) (stop : Stop) → TellsFile r.image.now stop → Tells Debug (names_in_debug r) stop
+image_told r stop t = file_told (names_in_debug r) 0 r.image.now stop (omega arith) refl t
+
+pub table_told : (r : DebugRequest) (stop : Stop) → TellsFile r.table.now stop → Tells Debug (names_in_debug r) stop
+table_told r stop t = file_told (names_in_debug r) 1 r.table.now stop (omega arith) refl t
+
+pub loaded_told : {A : Type 0} (n : Names) (text : List ℕ) (r : Result A Stop) → LoadsFrom text r → IfErr r (Tells Debug n)
+loaded_told n text (Ok x) b = tt
+loaded_told n text (Err NoMemory) b = ([], tt)
+loaded_told n text (Err (Bad line)) b = (text, b)
+loaded_told n text (Err Read) b = absurd b
+loaded_told n text (Err (Missing line)) b = absurd b
+loaded_told n text (Err (TooLong line)) b = absurd b
+loaded_told n text (Err (Refused line)) b = absurd b

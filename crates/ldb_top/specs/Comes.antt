@@ -9,7 +9,7 @@ use Rattle.ldb_top.specs.Ahead.{Lines, lines_of}
 use Rattle.ldb_top.specs.Late.{LateAs}
 use Rattle.ldb_top.specs.Names.{Names, names_of}
 use Rattle.ldb_top.specs.Stops.{ending_of}
-use Rattle.ldb_top.specs.Why.{IsWhy, Begins, line_of, late_line}
+use Rattle.ldb_top.specs.Why.{IsWhy, Tells, Begins, line_of, late_line}
 use Rattle.ldb_top.specs.Words.{Form, Debug, Go}
 
 -- what the files hold, the commands have left and the transcript took
@@ -25,6 +25,7 @@ outside held left taken = record { held = held; left = left; taken = taken }
 pub record EndsEarly (form : Form) (n : Names) (old new : Outside) (status : Status) : Type 0 where
   pub stop : Stop
   pub status_is : ending_of stop ≡ Ok status
+  pub tells : Tells form n stop
   pub why : (known : FileMap) → old.held ≡ Some known → IsWhy form n known stop
   pub told : new.taken ≡ known_and old.taken (line_of stop)
   pub held_is : new.held ≡ old.held

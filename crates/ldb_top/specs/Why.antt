@@ -1,5 +1,5 @@
 -- Why a call ends before its session, by the files that it is to read.
-use Rattle.std.specs.Prelude.{◌≡◌, ◌⊎◌, ℕ, true, false, List, [], ◌∷◌, ◌++◌, map, codes, decimal, Option, None, Some, Result, Ok, Err}
+use Rattle.std.specs.Prelude.{◌≡◌, ◌⊎◌, ◌<◌, ℕ, true, false, List, [], ◌∷◌, ◌++◌, length, map, codes, decimal, Option, None, Some, Result, Ok, Err}
 use Rattle.std.specs.Global.{Vec}
 use Rattle.std.specs.FinMap as files
 use Rattle.c_tree.specs.declared.rows.Program.{Program}
@@ -124,6 +124,47 @@ IsInputStop known name stop = IsFileStop known (name ∷ []) stop
 abbrev pub FindsInput : FileMap → List ℕ → Result (Vec ℕ) Stop → Type 0
 FindsInput known name (Ok input) = (first_missing known (name ∷ []) ≡ None) × (is_long (files.get known name) ≡ false)
 FindsInput known name (Err stop) = IsInputStop known name stop
+
+-- ---- what is told of them, whatever the files tell
+
+abbrev pub TellsFile : List ℕ → Stop → Type 0
+TellsFile name Read = Unit {0}
+TellsFile name NoMemory = Unit {0}
+TellsFile name (Missing line) = line ≡ missing_line name
+TellsFile name _ = ⊥
+
+abbrev pub TellsInput : List ℕ → Stop → Type 0
+TellsInput name (TooLong line) = line ≡ long_line name
+TellsInput name stop = TellsFile name stop
+
+-- one of these names
+abbrev pub TellsOne : List (List ℕ) → List ℕ → Type 0
+TellsOne names line = (number : ℕ) × (number < length names) × (line ≡ missing_line (name_in names number))
+
+abbrev pub TellsSources : List (List ℕ) → Stop → Type 0
+TellsSources names Read = Unit {0}
+TellsSources names NoMemory = Unit {0}
+TellsSources names (Missing line) = TellsOne names line
+TellsSources names _ = ⊥
+
+-- a file of the call by its name, or why some texts that were read are refused
+abbrev pub TellsGo : Names → Stop → Type 0
+TellsGo n Read = Unit {0}
+TellsGo n (Missing line) = TellsOne (read_names n) line
+TellsGo n (TooLong line) = line ≡ long_line n.input
+TellsGo n stop = (texts : List (List ℕ)) × IsBuildWhy n.about texts stop
+
+-- or why an image that was read, or its table, can't be used
+abbrev pub TellsDebug : Names → Stop → Type 0
+TellsDebug n Read = Unit {0}
+TellsDebug n (Missing line) = TellsOne (read_names n) line
+TellsDebug n (TooLong line) = line ≡ long_line n.input
+TellsDebug n stop = (text : List ℕ) × IsLoadWhy text stop
+
+abbrev pub Tells : Form → Names → Stop → Type 0
+Tells Go n stop = TellsGo n stop
+Tells Debug n stop = TellsDebug n stop
+Tells _ n stop = ⊥
 
 -- ---- all of it
 

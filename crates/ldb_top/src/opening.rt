@@ -5,7 +5,7 @@ ghost use Rattle.ldb_cc.specs.Scanning.{items_of};
 ghost use Rattle.ldb_cc.specs.Sources.{IsCause};
 ghost use Rattle.ldb_top.specs.Names.{names_in_debug, names_in_go};
 ghost use Rattle.ldb_top.specs.Stops.{IsBuildStop, IsLoadStop, IsOpenStop};
-ghost use Rattle.ldb_top.specs.Why.{IsTableStop, IsImageTold, IsBuildWhy, BuildsFrom, LoadsFrom, Opens};
+ghost use Rattle.ldb_top.specs.Why.{IsTableStop, IsImageTold, IsBuildWhy, BuildsFrom, LoadsFrom, Tells, Opens};
 ghost use Rattle.ldb_top.specs.Words.{Debug, Go};
 
 use crate::reading::{line_with, read_file, read_input, read_sources};
@@ -208,6 +208,7 @@ pub fn open_go<F: Files>(
     files: &mut F,
 ) -> Result<Session<NearLink>, Stop>
     ensures opens { (known : FileMap) → F.held files.old ≡ Some known → Opens Go (names_in_go request.now) known result }
+    ensures tells { IfErr result (Tells Go (names_in_go request.now)) }
     ensures same { F.held files.new ≡ F.held files.old }
     ensures write_faults { F.write_faults files.new ≡ F.write_faults files.old }
     ensures cause { MatchResult result (λ _. F.read_faults files.new ≡ F.read_faults files.old)
@@ -251,6 +252,7 @@ pub fn open_debug<F: Files>(
     files: &mut F,
 ) -> Result<Session<NearLink>, Stop>
     ensures opens { (known : FileMap) → F.held files.old ≡ Some known → Opens Debug (names_in_debug request.now) known result }
+    ensures tells { IfErr result (Tells Debug (names_in_debug request.now)) }
     ensures same { F.held files.new ≡ F.held files.old }
     ensures write_faults { F.write_faults files.new ≡ F.write_faults files.old }
     ensures cause { MatchResult result (λ _. F.read_faults files.new ≡ F.read_faults files.old)

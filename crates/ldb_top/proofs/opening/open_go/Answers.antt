@@ -4,7 +4,7 @@ use Rattle.ldb_cc.specs.Scanning.{items_of}
 use Rattle.cc_call.specs.Found.{AreRead}
 use Rattle.ldb_top.specs.Names.{names_in_go}
 use Rattle.ldb_top.specs.Words.{Go}
-use Rattle.ldb_top.proofs.Opened.{file_why, input_why, go_opens}
+use Rattle.ldb_top.proofs.Opened.{file_why, input_why, go_opens, sources_told, built_told, input_told_go}
 use Rattle.ldb_top.proofs.opening.open_go.Goals as goal
 
 pub returns-in-Err-clause-opens : goal.returns-in-Err-clause-opens
@@ -23,3 +23,12 @@ pub returns-clause-opens : goal.returns-clause-opens
 returns-clause-opens g c = λ known h.
     let sources = c.in-Ok.ensures.finds known h in
     input_why Go (names_in_go c.args.request.now) known c.in-Err-read_input.stop sources.0 (c.in-Err-read_input.ensures.finds known (c.in-Ok.ensures.same ∙ h))
+
+pub returns-in-Err-clause-tells : goal.returns-in-Err-clause-tells
+returns-in-Err-clause-tells g c = sources_told (names_in_go c.args.request.now) c.in-Err.stop c.in-Err.ensures.tells
+
+pub returns-in-Ok-read_input-clause-tells : goal.returns-in-Ok-read_input-clause-tells
+returns-in-Ok-read_input-clause-tells g c = built_told (names_in_go c.args.request.now) (map items_of c.deref.result.now) c.open_texts.result c.open_texts.ensures.builds
+
+pub returns-clause-tells : goal.returns-clause-tells
+returns-clause-tells g c = input_told_go (names_in_go c.args.request.now) c.in-Err-read_input.stop c.in-Err-read_input.ensures.tells

@@ -1,6 +1,7 @@
-use Rattle.std.proofs.Common.{◌∙◌, length, map, string_bytes, sym, subst}
+use Rattle.std.proofs.Common.{◌<◌, ◌∙◌, length, map, string_bytes, sym, subst}
+use Rattle.std.proofs.lemmas.List.{length-map}
 use Rattle.cc_call.specs.Found.{AreFound, IsFoundOf, IsMissedOf}
-use Rattle.ldb_top.proofs.Fronted.{all_there, source_stop}
+use Rattle.ldb_top.proofs.Fronted.{all_there, source_stop, source_told}
 use Rattle.ldb_top.proofs.Stopped.{missing_stops, name_read}
 use Rattle.ldb_top.proofs.reading.read_sources.Goals as goal
 
@@ -26,3 +27,10 @@ returns-in-Ok-Missing-clause-finds g c = λ known h.
     let name = c.as_str.ensures.value ∙ name_read names c.in-Ok-Missing.number c.index-names-number.result below c.index-names-number.is in
     source_stop known (map string_bytes names) c.in-Ok-Missing.number c.as_str.result.now c.missing.result name c.missing.ensures
     (subst (AreFound known (map string_bytes names)) c.in-Ok-Missing.field-0-is (c.in-Ok-Missing.ensures.found known h))
+
+pub returns-in-Ok-Missing-clause-tells : goal.returns-in-Ok-Missing-clause-tells
+returns-in-Ok-Missing-clause-tells g c =
+    let names = c.args.names.now in
+    let below = subst (IsFoundOf (length names)) c.in-Ok-Missing.field-0-is c.in-Ok-Missing.ensures.count in
+    let name = c.as_str.ensures.value ∙ name_read names c.in-Ok-Missing.number c.index-names-number.result below c.index-names-number.is in
+    source_told (map string_bytes names) c.in-Ok-Missing.number c.as_str.result.now c.missing.result (subst (λ n. c.in-Ok-Missing.number < n) (sym (length-map names string_bytes)) below) name c.missing.ensures
