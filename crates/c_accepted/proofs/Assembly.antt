@@ -8,10 +8,10 @@ use Rattle.c_tree.specs.declared.rows.Program.{Program}
 use Rattle.c_tree.specs.declared.rows.UnitRow.{UnitRow}
 use Rattle.c_tree.specs.declared.rows.Function.{Function as FunctionRow}
 use Rattle.c_tree.specs.declared.rows.ObjectRow.{ObjectRow}
-use Rattle.c_typing.specs.Declared.{IsStruct, Differ}
+use Rattle.c_typing.specs.Declarations.{IsStruct, Differ}
 use Rattle.c_tree.specs.Layout.{leaves_of}
 use Rattle.c_typing.specs.Starts.{AreStarts, IsObject}
-use Rattle.c_typing.specs.Accepted.{AllFrom, IsFunction, IsAccepted, has_main, names_of_unit}
+use Rattle.c_typing.specs.Programs.{AllFrom, IsFunction, KeepsRules, has_main, names_of_unit}
 use Rattle.c_file.specs.Names.{twice}
 use Rattle.c_file.specs.Files.{State, Bodied}
 use Rattle.c_file.specs.Programs as programs
@@ -230,7 +230,7 @@ module _ (names : List (List ℕ)) (us : List (List External)) (p : Program) (a 
     referents = referents_there names p a.behind a.rows stands.1.declared (sought_behind us a.behind a.files) no_fault.called wholes told units entries 0 a.behind.here.names typed.scope.rows told.rows
 
     -- the program is accepted where its functions are, and the numbers and places that objects begin with
-    pub assembled : ObjectsHaveWords p → PlacesAreThere p → AllFrom (IsFunction p) 0 p.functions → IsAccepted p
+    pub assembled : ObjectsHaveWords p → PlacesAreThere p → AllFrom (IsFunction p) 0 p.functions → KeepsRules p
     assembled words places functions = record {
       structs = structs;
       objects = objects (all_begun p a.behind a.rows.defs (objects_from [] a.behind.definitions) p.objects given a.rows.objects words places);

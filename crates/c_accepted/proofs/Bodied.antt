@@ -11,9 +11,9 @@ use Rattle.c_tree.specs.declared.types.CType.TheVariants as ctype
 use Rattle.c_typing.specs.Plain.{Plain, plain}
 use Rattle.c_typing.specs.Written.{IsWritten}
 use Rattle.c_typing.specs.Expressions.{Object}
-use Rattle.c_typing.specs.Declared.{scope_at, local_type, parameters}
+use Rattle.c_typing.specs.Declarations.{scope_at, local_type, parameters}
 use Rattle.c_typing.specs.Statements.{locals_from}
-use Rattle.c_typing.specs.Accepted.{numbers}
+use Rattle.c_typing.specs.Programs.{numbers}
 use Rattle.c_judge.specs.Answers.{Known}
 use Rattle.c_mentions.specs.Literals.{in_statement}
 use Rattle.c_scope.specs.Environment.{Environment, Row, declare_local, innermost, number_of}

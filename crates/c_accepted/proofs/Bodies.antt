@@ -10,7 +10,7 @@ use Rattle.c_statement.specs.declared.unit.External.{External}
 use Rattle.c_statement.specs.declared.unit.External.TheVariants.{Declaration, Definition}
 use Rattle.c_tree.specs.declared.types.StructDef.{StructDef}
 use Rattle.c_typing.specs.Plain.{Plain, Int, Void}
-use Rattle.c_typing.specs.Declared.{built_in}
+use Rattle.c_typing.specs.Declarations.{built_in}
 use Rattle.c_judge.specs.Answers.{Answer, Known, Unknown, Broken, ◌then◌}
 use Rattle.c_mentions.specs.Tags.{in_all, in_external, in_file_spec, in_declared, in_declarator, in_statement}
 use Rattle.c_scope.specs.Environment.{Environment, enter}

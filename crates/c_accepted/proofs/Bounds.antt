@@ -13,7 +13,7 @@ use Rattle.c_typing.specs.Plain.{Plain, Char, Int, Unsigned, Void, Pointer, Arra
 use Rattle.c_typing.specs.Expressions as typing
 use Rattle.c_typing.specs.Expressions.{Denoted}
 use Rattle.c_defs.specs.Depths.{deepest, is_within, are_within}
-use Rattle.c_judge.specs.Values.{size_of}
+use Rattle.c_typing.specs.Values.{size_of}
 use Rattle.c_judge.specs.Answers.{Known, Broken, ◌then◌}
 use Rattle.c_judge.specs.Judgement.{limited}
 use Rattle.c_judge.proofs.Sizes.{size_of_plain}

@@ -10,9 +10,9 @@ use Rattle.c_tree.specs.declared.rows.UnitRow.{UnitRow}
 use Rattle.c_tree.specs.declared.rows.Function.{Function as FunctionRow}
 use Rattle.c_tree.specs.declared.rows.Point.{Point}
 use Rattle.c_tree.specs.Layout as layout
-use Rattle.c_typing.specs.Accepted.{AllFrom, IsOfUnit, IsUnit, IsPoint, IsBelow}
+use Rattle.c_typing.specs.Programs.{AllFrom, IsOfUnit, IsUnit, IsPoint, IsBelow}
 use Rattle.c_typing.specs.Starts.{static_room}
-use Rattle.c_judge.specs.Values.{size_of}
+use Rattle.c_typing.specs.Values.{size_of}
 use Rattle.c_judge.proofs.Sizes.{size_of_plain}
 use Rattle.c_body.specs.Stops.{Stop}
 use Rattle.c_file.specs.Names.{Defining}

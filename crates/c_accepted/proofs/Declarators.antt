@@ -9,7 +9,7 @@ use Rattle.c_expr.specs.declared.tree.Spec.TheVariants as spec
 use Rattle.c_declaration.specs.Tree.{DeclaratorTree, Name, Parens, Pointers, Array, Function as Applied, Taking, Named, Unnamed, begins}
 use Rattle.c_typing.specs.Plain as plain
 use Rattle.c_typing.specs.Plain.{Plain, is_scalar, is_void, is_struct, is_complete, value_type}
-use Rattle.c_typing.specs.Declared.{is_result}
+use Rattle.c_typing.specs.Declarations.{is_result}
 use Rattle.c_judge.specs.Answers.{Known, Broken, ◌then◌}
 use Rattle.c_judge.specs.Places.{place_of}
 use Rattle.c_judge.specs.Judgement.{judged, spec_type, pointers, starred, array, bound}

@@ -10,7 +10,7 @@ use Rattle.c_statement.specs.Tree.{StatementTree}
 use Rattle.c_statement.specs.declared.unit.External.{External}
 use Rattle.c_statement.specs.declared.unit.External.TheVariants.{Declaration, Definition}
 use Rattle.c_typing.specs.Plain.{Plain, Int, Void, same}
-use Rattle.c_typing.specs.Declared.{built_in}
+use Rattle.c_typing.specs.Declarations.{built_in}
 use Rattle.c_typing.specs.Expressions as typing
 use Rattle.c_typing.specs.Expressions.{Denoted}
 use Rattle.c_judge.specs.Answers.{Answer, Known, Unknown, Broken, ◌then◌}

@@ -8,8 +8,8 @@ use Rattle.c_tree.specs.declared.rows.Function.{Function as FunctionRow}
 use Rattle.c_tree.specs.declared.rows.ObjectRow.{ObjectRow}
 use Rattle.c_typing.specs.Plain.{Int}
 use Rattle.c_typing.specs.Expressions.{Denoted, Object, Function, Hidden}
-use Rattle.c_typing.specs.Declared.{is_named, Differ}
-use Rattle.c_typing.specs.Accepted.{is_main, has_main}
+use Rattle.c_typing.specs.Declarations.{is_named, Differ}
+use Rattle.c_typing.specs.Programs.{is_main, has_main}
 use Rattle.c_file.specs.declared.definitions.Manner.{Manner}
 use Rattle.c_file.specs.declared.definitions.Manner.TheVariants.{Body, Initialized, Tentative}
 use Rattle.c_file.specs.Names.{FileName, Defining, agree_as, is_here, is_same, one_type, defines, is_defined, same_manner, is_second, is_defined_before, twice}

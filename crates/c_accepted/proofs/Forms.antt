@@ -27,10 +27,10 @@ use Rattle.c_typing.specs.Expressions as typing
 use Rattle.c_typing.specs.Expressions.{Denoted, Object, Function, Hidden, object_type, name_type, operand, value, is_constant_type, string_type}
 use Rattle.c_typing.specs.Constants.{is_built, evaluated}
 use Rattle.c_defs.specs.Members.{member_number}
-use Rattle.c_judge.specs.declared.part.Constant.TheVariants as folds
+use Rattle.c_typing.specs.declared.constant.Constant.TheVariants as folds
 use Rattle.c_judge.specs.Scope.{Scope, pointed_number}
 use Rattle.c_judge.specs.Answers.{Known, Broken}
-use Rattle.c_judge.specs.Values as values
+use Rattle.c_typing.specs.Values as values
 use Rattle.c_judge.specs.Judgement.{Judged, value_type_of, object, variable, string_of, folded, unary, sized, stepped, step_of, cast_to, indexed, prefixed, joined, operation, compound_of, compound_rule, assigned, member_of, chosen_of, named, leaf_of, register_of, integer_type, rule_of}
 use Rattle.c_judge.specs.Elaboration.{IsUnary, IsPrefixed, IsAssigned, IsOperation, IsJoined, IsParen, IsIndex, IsMember, IsAfter, IsChoice, IsCast, IsSizeOfType, IsConstant, IsLeaf}
 use Rattle.c_reading.proofs.Constants.{IsVal, size_is, unary_val, cast_val, binary_val, or_val, and_val, choice_val}

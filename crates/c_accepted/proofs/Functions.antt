@@ -14,7 +14,7 @@ use Rattle.c_tree.specs.Rows.{declared_in}
 use Rattle.c_typing.specs.Plain.{Plain, plain}
 use Rattle.c_typing.specs.Statements as rules
 use Rattle.c_typing.specs.Statements.{IsPointWith, IsStatement, local_numbers, locals_of}
-use Rattle.c_typing.specs.Accepted.{numbers, IsBlock, AreEnds}
+use Rattle.c_typing.specs.Programs.{numbers, IsBlock, AreEnds}
 use Rattle.c_judge.specs.Answers.{Known}
 use Rattle.c_mentions.specs.Literals.{in_statement}
 use Rattle.c_scope.specs.Environment.{Environment, Row}

@@ -10,7 +10,7 @@ use Rattle.c_tree.specs.declared.typed.StepOp.{StepOp}
 use Rattle.c_tree.specs.Layout.{members_of}
 use Rattle.c_typing.specs.Plain.{Plain, Char, Int, Unsigned, Void, Pointer, Array, Struct, same, is_integer, is_empty, is_complete}
 use Rattle.c_typing.specs.Rules.{Operand, value_of, followed, member_type, dot_type, arrow_type, is_movable, sum_type, difference_type, index_type, binary_type, is_compound, is_move, compound_type, step_type, stepping, size_type}
-use Rattle.c_judge.specs.Values.{size_of}
+use Rattle.c_typing.specs.Values.{size_of}
 use Rattle.c_accepted.specs.Grown.{ctype_of, Grows}
 
 -- ---- tests

@@ -3,7 +3,7 @@ use Rattle.std.proofs.Common.{◌≡◌, ℕ, ◌+◌, List, length}
 use Rattle.std.specs.Prelude.{Ok}
 use Rattle.c_statement.specs.declared.unit.External.{External}
 use Rattle.c_tree.specs.declared.rows.Program.{Program}
-use Rattle.c_typing.specs.Accepted.{IsAccepted}
+use Rattle.c_typing.specs.Programs.{KeepsRules}
 use Rattle.c_file.specs.Programs.{tags_of}
 use Rattle.c_check.specs.Faulty.{Checks}
 use Rattle.c_accepted.specs.Asked.{AreTexts, BodiesHaveWords, HaveInitials}
@@ -14,7 +14,7 @@ use Rattle.c_accepted.proofs.Structs.{structs_written}
 use Rattle.c_accepted.proofs.Kept.{all_sourced, functions_kept}
 use Rattle.c_accepted.proofs.Assembly.{sound, calls, assembled}
 
-pub accepted : (names : List (List ℕ)) (us : List (List External)) (p : Program) → Checks names us (Ok p) → length names ≡ length us → AreTexts us → HaveInitials us → BodiesHaveWords p → ObjectsHaveWords p → PlacesAreThere p → IsAccepted p
+pub accepted : (names : List (List ℕ)) (us : List (List External)) (p : Program) → Checks names us (Ok p) → length names ≡ length us → AreTexts us → HaveInitials us → BodiesHaveWords p → ObjectsHaveWords p → PlacesAreThere p → KeepsRules p
 accepted names us p c count texts items words starts places =
     let a = c.1 in
     let (stands, (unit, inv)) = bodies_behind (tags_of us) us a.behind (tags_there us) (all_sourced (tags_of us) us c.0 texts) a.files in

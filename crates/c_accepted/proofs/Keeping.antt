@@ -14,8 +14,8 @@ use Rattle.c_tree.specs.declared.rows.Function.{Function as FunctionRow}
 use Rattle.c_typing.specs.Plain.{Plain, Int, plain, same}
 use Rattle.c_typing.specs.Written.{IsWritten}
 use Rattle.c_typing.specs.Expressions.{Function}
-use Rattle.c_typing.specs.Declared.{has, is_result}
-use Rattle.c_typing.specs.Accepted.{IsFunction, AreScalars, IsLocal}
+use Rattle.c_typing.specs.Declarations.{has, is_result}
+use Rattle.c_typing.specs.Programs.{IsFunction, AreScalars, IsLocal}
 use Rattle.c_mentions.specs.Literals.{in_tree}
 use Rattle.c_mentions.specs.Tags as tags
 use Rattle.c_scope.specs.Environment.{Environment, struct_of}

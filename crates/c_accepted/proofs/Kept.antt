@@ -15,9 +15,9 @@ use Rattle.c_tree.specs.declared.types.CType.TheVariants as ctype
 use Rattle.c_typing.specs.Plain.{Plain, plain}
 use Rattle.c_typing.specs.Written.{IsWritten}
 use Rattle.c_typing.specs.Expressions.{Denoted, Object, Function, Hidden}
-use Rattle.c_typing.specs.Declared.{denoted, denoted_by, scope_at}
+use Rattle.c_typing.specs.Declarations.{denoted, denoted_by, scope_at}
 use Rattle.c_typing.specs.Statements.{local_on, locals_from}
-use Rattle.c_typing.specs.Accepted.{AllFrom, IsFunction}
+use Rattle.c_typing.specs.Programs.{AllFrom, IsFunction}
 use Rattle.c_mentions.specs.Literals.{in_statement, texts}
 use Rattle.c_scope.specs.Environment.{Row, Visible, innermost, number_of}
 use Rattle.c_body.specs.Stops.{stops_of, inside_block}

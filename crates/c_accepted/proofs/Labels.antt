@@ -9,7 +9,7 @@ use Rattle.c_tree.specs.declared.typed.Site.{Site}
 use Rattle.c_tree.specs.declared.typed.DeclaredLocal.{DeclaredLocal}
 use Rattle.c_tree.specs.declared.typed.Stmt.{Stmt, Row_of-Stmt, end_of-Stmt, more_of-Stmt, None', Some'}
 use Rattle.c_tree.specs.declared.typed.Stmt.TheVariants as typed
-use Rattle.c_typing.specs.Declared.{has}
+use Rattle.c_typing.specs.Declarations.{has}
 use Rattle.c_typing.specs.Statements.{constants_before, defaults_before, constants_in, defaults_in, AreDifferent}
 use Rattle.c_judge.specs.Answers.{Known}
 use Rattle.c_scope.specs.Environment.{Environment}

@@ -8,7 +8,7 @@ use Rattle.c_tree.specs.declared.rows.Program.{Program}
 use Rattle.c_tree.specs.declared.rows.Point.{Point}
 use Rattle.c_typing.specs.Plain.{Plain}
 use Rattle.c_typing.specs.Expressions.{Function}
-use Rattle.c_typing.specs.Declared.{scope_at}
+use Rattle.c_typing.specs.Declarations.{scope_at}
 use Rattle.c_scope.specs.Environment.{Row, Visible, number_of}
 use Rattle.c_mentions.specs.Literals.{Literal, texts, in_part, in_tree}
 use Rattle.c_body.specs.Stops.{Stop}

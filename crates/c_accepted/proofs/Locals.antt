@@ -12,7 +12,7 @@ use Rattle.c_tree.specs.declared.rows.Local.{Local as LocalRow}
 use Rattle.c_typing.specs.Plain.{Plain, Char, Int, Unsigned, Void, Pointer, Array, Struct, plain, is_scalar, is_complete}
 use Rattle.c_typing.specs.Written.{IsWritten}
 use Rattle.c_typing.specs.Expressions as typing
-use Rattle.c_typing.specs.Accepted.{IsLocal}
+use Rattle.c_typing.specs.Programs.{IsLocal}
 use Rattle.c_judge.specs.Answers.{Answer, Known, Unknown, Broken, ◌then◌}
 use Rattle.c_judge.specs.Judgement.{spec_type}
 use Rattle.c_mentions.specs.Tags as tags

@@ -10,7 +10,7 @@ use Rattle.c_tree.specs.Layout as layout
 use Rattle.c_tree.specs.Layout.{members_of, members_in, size_in, struct_size_of, alignment_of, alignment_of_members, AreLaid, IsLaidOut}
 use Rattle.c_typing.specs.Plain.{Plain, Char, Int, Unsigned, Void, Pointer, Array, Struct, is_empty, is_complete}
 use Rattle.c_defs.specs.Depths.{is_within, are_within}
-use Rattle.c_judge.specs.Values.{size_of}
+use Rattle.c_typing.specs.Values.{size_of}
 use Rattle.c_judge.proofs.Sizes.{size_of_plain}
 use Rattle.c_struct.specs.Structs.{Written, written}
 use Rattle.c_file.specs.Programs.{completed_one, completed_by}

@@ -5,7 +5,7 @@ use Rattle.std.specs.List.{AllByRecursion}
 use Rattle.c_tree.specs.declared.rows.Program.{Program}
 use Rattle.c_tree.specs.declared.rows.ObjectRow.{ObjectRow}
 use Rattle.c_typing.specs.Plain.{Plain, Int, Void, plain}
-use Rattle.c_typing.specs.Declared.{built_in}
+use Rattle.c_typing.specs.Declarations.{built_in}
 use Rattle.c_typing.specs.Expressions as typing
 use Rattle.c_typing.specs.Expressions.{Denoted}
 use Rattle.c_file.specs.Names.{FileName, Defining, agree_as, is_built_in, as_built_in, defines}

@@ -4,7 +4,7 @@ use Rattle.std.specs.List.{AllByRecursion}
 use Rattle.c_declaration.specs.Tree.{DeclaratorTree, Name, Parens, Pointers, Array as Bounds, Function as Applied, Taking, Named, Unnamed, begins}
 use Rattle.c_tree.specs.declared.types.StructDef.{StructDef}
 use Rattle.c_typing.specs.Plain.{Plain, Char, Int, Unsigned, Void, Pointer, Array, Struct, is_void, is_complete, is_scalar, value_type}
-use Rattle.c_typing.specs.Declared.{is_result}
+use Rattle.c_typing.specs.Declarations.{is_result}
 use Rattle.c_defs.specs.Depths.{deepest}
 use Rattle.c_judge.specs.Answers.{Answer, Known, Broken, ◌then◌}
 use Rattle.c_judge.specs.Judgement.{spec_type, pointers}

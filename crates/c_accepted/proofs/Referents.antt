@@ -13,9 +13,9 @@ use Rattle.c_tree.specs.declared.rows.Referent.{Referent}
 use Rattle.c_tree.specs.declared.rows.Referent.TheVariants as refers
 use Rattle.c_tree.specs.declared.types.StructDef.{StructDef}
 use Rattle.c_typing.specs.Plain.{Plain, Char, Int, Unsigned, Void, Pointer, Array, Struct, plain, same}
-use Rattle.c_typing.specs.Declared.{built_in, is_result, parameters, function_in, denoted, denoted_by}
+use Rattle.c_typing.specs.Declarations.{built_in, is_result, parameters, function_in, denoted, denoted_by}
 use Rattle.c_typing.specs.Expressions.{Denoted, Object, Function, Hidden}
-use Rattle.c_typing.specs.Accepted.{AllFrom, IsReferent, agrees}
+use Rattle.c_typing.specs.Programs.{AllFrom, IsReferent, agrees}
 use Rattle.c_scope.specs.Environment.{Row}
 use Rattle.c_scope.specs.Declarators.{parameter_type}
 use Rattle.c_file.specs.Names.{FileName, Defining, composite, is_here, is_same, is_built_in, one_type, told_before, defines, is_defined}

@@ -15,7 +15,7 @@ use Rattle.c_tree.specs.declared.types.CType.TheVariants as ctype
 use Rattle.c_typing.specs.Plain.{Plain, Char, Int, Unsigned, Void, Pointer, Array, Struct, plain, same}
 use Rattle.c_typing.specs.Written.{IsWritten}
 use Rattle.c_typing.specs.Expressions.{Denoted, Object, Function, Hidden}
-use Rattle.c_typing.specs.Declared.{has, local_in, locals_in, denoted_by, denoted, scope_at}
+use Rattle.c_typing.specs.Declarations.{has, local_in, locals_in, denoted_by, denoted, scope_at}
 use Rattle.c_typing.specs.Statements.{local_on, locals_from, IsPointWith}
 use Rattle.c_scope.specs.Environment as environment
 use Rattle.c_scope.specs.Environment.{Environment, Row, Visible, declare_local, enter, innermost, number_of, scope}

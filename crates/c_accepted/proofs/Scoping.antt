@@ -15,7 +15,7 @@ use Rattle.c_tree.specs.declared.types.StructDef.{StructDef}
 use Rattle.c_typing.specs.Plain.{Plain, is_complete, is_scalar}
 use Rattle.c_typing.specs.Expressions as typing
 use Rattle.c_typing.specs.Expressions.{Denoted}
-use Rattle.c_typing.specs.Accepted.{AllFrom}
+use Rattle.c_typing.specs.Programs.{AllFrom}
 use Rattle.c_judge.specs.Answers.{Answer, Known, Unknown, Broken, ◌then◌}
 use Rattle.c_judge.specs.Judgement.{spec_type}
 use Rattle.c_judge.specs.Places.{place_of}

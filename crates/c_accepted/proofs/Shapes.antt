@@ -8,11 +8,11 @@ use Rattle.c_expr.specs.Tree.{Tree}
 use Rattle.c_declaration.specs.Tree.{DeclaratorTree, Name, Parens, Pointers, Array as Bounds, Function as Applied, Taking, Named, Unnamed, begins}
 use Rattle.c_tree.specs.declared.types.StructDef.{StructDef}
 use Rattle.c_typing.specs.Plain.{Plain}
-use Rattle.c_typing.specs.Declared.{is_named, is_result}
+use Rattle.c_typing.specs.Declarations.{is_named, is_result}
 use Rattle.c_defs.specs.Depths.{deepest}
 use Rattle.c_defs.specs.Numbers.{number_from}
-use Rattle.c_judge.specs.declared.part.Constant.{Constant}
-use Rattle.c_judge.specs.declared.part.Constant.TheVariants.{Variable, Undefined, Number}
+use Rattle.c_typing.specs.declared.constant.Constant.{Constant}
+use Rattle.c_typing.specs.declared.constant.Constant.TheVariants.{Variable, Undefined, Number}
 use Rattle.c_judge.specs.Scope.{or_else_number}
 use Rattle.c_judge.specs.Answers.{Known, Broken, ◌then◌}
 use Rattle.c_judge.specs.Places.{place_of}

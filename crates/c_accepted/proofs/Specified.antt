@@ -10,9 +10,9 @@ use Rattle.c_tree.specs.declared.types.StructDef.{StructDef}
 use Rattle.c_tree.specs.declared.types.Member.{Member}
 use Rattle.c_tree.specs.Layout.{members_of, members_in, size_in}
 use Rattle.c_typing.specs.Plain.{Plain, Struct, is_empty, is_complete, same}
-use Rattle.c_typing.specs.Declared.{Differ, is_named, member_name}
+use Rattle.c_typing.specs.Declarations.{Differ, is_named, member_name}
 use Rattle.c_defs.specs.Depths.{deepest, is_within, are_within}
-use Rattle.c_judge.specs.Values.{size_of}
+use Rattle.c_typing.specs.Values.{size_of}
 use Rattle.c_judge.specs.Answers.{Known, Unknown, Broken, ◌then◌}
 use Rattle.c_judge.specs.Judgement.{limited}
 use Rattle.c_scope.specs.Environment.{Environment, struct_of}

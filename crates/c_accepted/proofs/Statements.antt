@@ -23,7 +23,7 @@ use Rattle.c_typing.specs.Plain.{Plain, is_scalar, is_integer, is_void, plain}
 use Rattle.c_typing.specs.Rules.{Operand, may_drop, converts, value_of}
 use Rattle.c_typing.specs.Expressions as typing
 use Rattle.c_typing.specs.Expressions.{IsTyped, operand, Object, Function}
-use Rattle.c_typing.specs.Declared.{scope_at, locals_in, is_named}
+use Rattle.c_typing.specs.Declarations.{scope_at, locals_in, is_named}
 use Rattle.c_typing.specs.Statements as rules
 use Rattle.c_typing.specs.Statements.{IsPointWith, IsTest, IsTestOrNone, IsSelector, IsDropped, IsInitializer, IsReturned, AreInitialized, IsStatement, AreStatements, IsElse, IsSwitched, local_numbers, type_in, type_of_local}
 use Rattle.c_judge.specs.Answers.{Answer, Known, Unknown, Broken, ◌then◌}

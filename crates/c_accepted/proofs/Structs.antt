@@ -10,8 +10,8 @@ use Rattle.c_tree.specs.declared.types.Member.{Member}
 use Rattle.c_tree.specs.Layout.{members_of, members_in, size_in}
 use Rattle.c_typing.specs.Plain.{Plain, Char, Int, Unsigned, Void, Pointer, Array, Struct, plain, is_struct, is_complete}
 use Rattle.c_typing.specs.Written.{IsWritten, IsDeclared}
-use Rattle.c_typing.specs.Declared.{IsStruct}
-use Rattle.c_typing.specs.Accepted.{AllFrom}
+use Rattle.c_typing.specs.Declarations.{IsStruct}
+use Rattle.c_typing.specs.Programs.{AllFrom}
 use Rattle.c_defs.specs.Depths.{deepest, is_within, are_within}
 use Rattle.c_accepted.specs.Grown.{IsMade, IsHeld}
 use Rattle.c_accepted.specs.Completed.{AreSound}

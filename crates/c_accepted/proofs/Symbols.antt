@@ -6,7 +6,7 @@ use Rattle.c_tree.specs.declared.rows.Program.{Program}
 use Rattle.c_tree.specs.declared.rows.SymbolRow.{SymbolRow}
 use Rattle.c_typing.specs.Plain.{plain}
 use Rattle.c_typing.specs.Expressions.{Denoted, Object, Function, Hidden}
-use Rattle.c_typing.specs.Accepted.{AllFrom, IsReferent, IsBelow, IsSymbol}
+use Rattle.c_typing.specs.Programs.{AllFrom, IsReferent, IsBelow, IsSymbol}
 use Rattle.c_defs.specs.Depths.{deepest}
 use Rattle.c_scope.specs.Environment.{Row}
 use Rattle.c_file.specs.Files.{State}

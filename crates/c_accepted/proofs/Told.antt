@@ -10,10 +10,10 @@ use Rattle.c_typing.specs.Expressions as typing
 use Rattle.c_typing.specs.Expressions.{Denoted, Object, Function, Hidden, operand, value, is_lvalue, is_string, is_register, IsTyped}
 use Rattle.c_typing.specs.Constants.{is_built, evaluated, constant_of}
 use Rattle.c_typing.specs.Constants as constants
-use Rattle.c_judge.specs.declared.part.Constant.{Constant}
-use Rattle.c_judge.specs.declared.part.Constant.TheVariants.{Variable, Undefined, Number}
+use Rattle.c_typing.specs.declared.constant.Constant.{Constant}
+use Rattle.c_typing.specs.declared.constant.Constant.TheVariants.{Variable, Undefined, Number}
 use Rattle.c_judge.specs.Answers.{Known, Broken}
-use Rattle.c_judge.specs.Values as values
+use Rattle.c_typing.specs.Values as values
 use Rattle.c_judge.specs.Judgement.{Judged, value_type_of, folded, by_rule, sized, register_of}
 use Rattle.c_reading.proofs.Constants.{IsVal, null_is}
 use Rattle.c_accepted.specs.Words.{HasWords}

@@ -10,7 +10,7 @@ use Rattle.c_statement.specs.declared.unit.External.{External}
 use Rattle.c_statement.specs.declared.unit.External.TheVariants.{Declaration, Definition}
 use Rattle.c_tree.specs.declared.types.StructDef.{StructDef}
 use Rattle.c_typing.specs.Plain.{Plain, Int, Void}
-use Rattle.c_typing.specs.Declared.{built_in}
+use Rattle.c_typing.specs.Declarations.{built_in}
 use Rattle.c_defs.specs.Depths.{deepest}
 use Rattle.c_typing.specs.Expressions as typing
 use Rattle.c_typing.specs.Expressions.{Denoted}
@@ -38,7 +38,7 @@ use Rattle.c_accepted.proofs.Parameters.{IsTyped, IsParameter, AreParameters, pa
 use Rattle.c_accepted.proofs.Counted.{IsNamedStop}
 use Rattle.c_accepted.proofs.Scoping.{IsRowIn, IsScope, Deeper, one_name, one_longer, no_deeper, deeper_on, left_behind, At, behind, in_function}
 use Rattle.c_accepted.proofs.Walked.{Stands, Goes, all_keep, what_keeps, function_keeps, parameters_same, unbroken, first_known, behind_one}
-use Rattle.c_typing.specs.Accepted.{AllFrom}
+use Rattle.c_typing.specs.Programs.{AllFrom}
 
 -- the structs of the program so far
 abbrev pub whole : State → List StructDef

@@ -2,7 +2,7 @@
 use Rattle.std.proofs.Common.{◌≡◌, sym, zero, suc, true, true≢false, List}
 use Rattle.c_tree.specs.declared.types.StructDef.{StructDef}
 use Rattle.c_typing.specs.Plain.{Plain, Char, Int, Unsigned, Void, Pointer, Array, Struct}
-use Rattle.c_typing.specs.Declared.{is_result}
+use Rattle.c_typing.specs.Declarations.{is_result}
 use Rattle.c_typing.specs.Expressions.{Denoted, Object, Function, Hidden}
 use Rattle.c_defs.specs.Depths.{deepest}
 use Rattle.c_file.specs.Names.{bounded_one, composite}

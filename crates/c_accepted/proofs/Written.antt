@@ -15,10 +15,10 @@ use Rattle.c_typing.specs.Plain.{Plain, Char, Int, Unsigned, Void, Pointer, Arra
 use Rattle.c_typing.specs.Written.{IsFormed, IsWritten}
 use Rattle.c_typing.specs.Expressions as typing
 use Rattle.c_defs.specs.Depths.{deepest, is_within, are_within}
-use Rattle.c_judge.specs.declared.part.Constant.{Constant}
-use Rattle.c_judge.specs.declared.part.Constant.TheVariants.{Variable, Undefined, Number}
+use Rattle.c_typing.specs.declared.constant.Constant.{Constant}
+use Rattle.c_typing.specs.declared.constant.Constant.TheVariants.{Variable, Undefined, Number}
 use Rattle.c_judge.specs.Scope.{Scope, defs_of}
-use Rattle.c_judge.specs.Values.{size_of}
+use Rattle.c_typing.specs.Values.{size_of}
 use Rattle.c_judge.specs.Answers.{Answer, Known, Broken, ◌then◌, two}
 use Rattle.c_judge.specs.Places.{place_of}
 use Rattle.c_judge.specs.Judgement.{Judged, limited, pointer, pointers, array, bound, bounded, spec_type, stars_of, starred, judged, within, declared}

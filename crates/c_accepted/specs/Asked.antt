@@ -8,7 +8,7 @@ use Rattle.c_tree.specs.declared.rows.Function.{Function as FunctionRow}
 use Rattle.c_typing.specs.Plain.{Plain}
 use Rattle.c_typing.specs.Written.{IsWritten}
 use Rattle.c_typing.specs.Expressions.{Function}
-use Rattle.c_typing.specs.Declared.{scope_at}
+use Rattle.c_typing.specs.Declarations.{scope_at}
 use Rattle.c_scope.specs.Environment.{Row}
 use Rattle.c_file.specs.Names.{is_built_in}
 use Rattle.c_file.specs.Files.{State, Called}

@@ -4,7 +4,7 @@ use Rattle.std.specs.List.{AllByRecursion}
 use Rattle.c_tree.specs.declared.types.StructDef.{StructDef}
 use Rattle.c_tree.specs.Layout.{members_of, IsLaidOut}
 use Rattle.c_typing.specs.Plain.{is_empty}
-use Rattle.c_typing.specs.Declared.{Differ, member_name}
+use Rattle.c_typing.specs.Declarations.{Differ, member_name}
 use Rattle.c_defs.specs.Depths.{is_within, are_within}
 use Rattle.c_struct.specs.Structs.{written}
 use Rattle.c_accepted.specs.Grown.{IsHeld}

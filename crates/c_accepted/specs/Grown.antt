@@ -5,7 +5,7 @@ use Rattle.c_tree.specs.declared.types.StructDef.{StructDef}
 use Rattle.c_tree.specs.declared.types.Member.{Member}
 use Rattle.c_tree.specs.Layout.{members_of, struct_size_of}
 use Rattle.c_typing.specs.Plain.{Plain, Pointer, Array, Struct, plain, is_empty, is_void, is_complete}
-use Rattle.c_judge.specs.Values.{size_of}
+use Rattle.c_typing.specs.Values.{size_of}
 
 abbrev pub ctype_of : Member → Plain
 ctype_of m = plain m.ctype

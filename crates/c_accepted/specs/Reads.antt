@@ -11,8 +11,8 @@ use Rattle.c_typing.specs.Plain.{Plain}
 use Rattle.c_typing.specs.Written.{IsWritten}
 use Rattle.c_typing.specs.Expressions as typing
 use Rattle.c_typing.specs.Expressions.{Object, Function}
-use Rattle.c_judge.specs.declared.part.Constant.{Constant}
-use Rattle.c_judge.specs.declared.part.Constant.TheVariants.{Variable, Undefined, Number}
+use Rattle.c_typing.specs.declared.constant.Constant.{Constant}
+use Rattle.c_typing.specs.declared.constant.Constant.TheVariants.{Variable, Undefined, Number}
 use Rattle.c_judge.specs.Scope.{Scope, defs_of}
 use Rattle.c_judge.specs.Judgement.{name_alone}
 use Rattle.c_accepted.specs.Grown.{Grows}

@@ -2,7 +2,7 @@
 ghost use Rattle.std.specs.Prelude.{◌≡◌, ℕ, false, List, length};
 ghost use Rattle.c_statement.specs.declared.unit.External.{External};
 ghost use Rattle.c_tree.specs.declared.rows.Program.{Program};
-ghost use Rattle.c_typing.specs.Accepted.{AllFrom, IsFunction};
+ghost use Rattle.c_typing.specs.Programs.{AllFrom, IsFunction};
 ghost use Rattle.c_file.specs.Files.{State};
 ghost use Rattle.c_file.specs.Programs.{Well, AllFiles, tags_of, at_first, any, many};
 ghost use Rattle.c_file.specs.Made.{HasRows};

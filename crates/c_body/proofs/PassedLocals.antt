@@ -12,7 +12,7 @@ use Rattle.c_tree.specs.declared.typed.Pointed.{Pointed}
 use Rattle.std.specs.declared.vec.Vec.{Vec}
 use Rattle.std.specs.declared.alloc.Global.{Global}
 use Rattle.c_typing.specs.Plain.{Plain}
-use Rattle.c_typing.specs.Declared.{is_named}
+use Rattle.c_typing.specs.Declarations.{is_named}
 use Rattle.c_judge.specs.declared.fault.Fault.{Fault}
 use Rattle.c_judge.specs.declared.fault.Fault.TheVariants as fault
 use Rattle.c_judge.specs.Answers.{Answer, Known, Unknown, Broken, ◌then◌}

@@ -7,9 +7,9 @@ use Rattle.c_statement.specs.declared.tree.Head.{Head}
 use Rattle.c_statement.specs.declared.tree.Head.TheVariants as head
 use Rattle.c_typing.specs.Plain.{Plain, is_integer, is_scalar, is_void}
 use Rattle.c_typing.specs.Rules.{may_drop, converts, value_of}
-use Rattle.c_typing.specs.Declared.{has}
-use Rattle.c_judge.specs.declared.part.Constant.{Constant}
-use Rattle.c_judge.specs.declared.part.Constant.TheVariants.{Number}
+use Rattle.c_typing.specs.Declarations.{has}
+use Rattle.c_typing.specs.declared.constant.Constant.{Constant}
+use Rattle.c_typing.specs.declared.constant.Constant.TheVariants.{Number}
 use Rattle.c_judge.specs.Answers.{Answer, Known, Unknown, Broken, ◌then◌}
 use Rattle.c_judge.specs.Judgement.{Verdict, Judged, judged}
 use Rattle.c_judge.specs.Places.{place_of}

@@ -8,7 +8,7 @@ use Rattle.c_declaration.specs.declared.tree.Declared.{Declared}
 use Rattle.c_declaration.specs.declared.tree.Local.{Local}
 use Rattle.c_typing.specs.Plain.{Plain, is_complete, is_scalar}
 use Rattle.c_typing.specs.Rules.{converts}
-use Rattle.c_typing.specs.Declared.{is_named}
+use Rattle.c_typing.specs.Declarations.{is_named}
 use Rattle.c_judge.specs.Answers.{Answer, Known, Unknown, Broken, ◌then◌}
 use Rattle.c_judge.specs.Judgement.{Verdict, Judged, judged, spec_type}
 use Rattle.c_judge.specs.Places.{place_of}

@@ -6,7 +6,7 @@ use Rattle.c_declaration.specs.declared.tree.Local.{Local}
 use Rattle.c_tree.specs.declared.typed.DeclaredLocal.{DeclaredLocal}
 use Rattle.c_tree.specs.declared.types.CType.{CType}
 use Rattle.c_typing.specs.Plain.{plain}
-use Rattle.c_typing.specs.Declared.{is_named}
+use Rattle.c_typing.specs.Declarations.{is_named}
 use Rattle.c_typing.specs.Expressions.{Denoted}
 use Rattle.c_judge.specs.Answers.{Known, Broken}
 use Rattle.c_judge.specs.declared.fault.Fault.{Fault}

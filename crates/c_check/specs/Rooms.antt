@@ -3,7 +3,7 @@ use Rattle.std.specs.Prelude.{ℕ, suc, ◌+◌, List, length}
 use Rattle.std.specs.Int.{next_multiple_of}
 use Rattle.c_tree.specs.declared.types.StructDef.{StructDef}
 use Rattle.c_typing.specs.Plain.{Plain}
-use Rattle.c_judge.specs.Values.{size_of}
+use Rattle.c_typing.specs.Values.{size_of}
 
 abbrev pub room_for : ℕ → ℕ
 room_for size = next_multiple_of size 4 + 4

@@ -3,7 +3,7 @@ ghost use Rattle.std.specs.Prelude.{◌≡◌, ◌+◌, ◌≤◌, sum, map};
 ghost use Rattle.std.specs.Int.{next_multiple_of};
 ghost use Rattle.c_typing.specs.Plain.{plain};
 ghost use Rattle.c_judge.specs.Parts.{IsWithinSize};
-ghost use Rattle.c_judge.specs.Values.{size_of as bytes_of};
+ghost use Rattle.c_typing.specs.Values.{size_of as bytes_of};
 ghost use Rattle.c_mentions.specs.Tags.{now};
 ghost use Rattle.c_check.specs.Rooms.{room_for, room_of, text_room};
 

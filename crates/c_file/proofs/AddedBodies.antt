@@ -7,7 +7,7 @@ use Rattle.c_statement.specs.Tree.{StatementTree}
 use Rattle.c_tree.specs.declared.rows.Function.{Function as Row}
 use Rattle.c_tree.specs.declared.rows.Point.{Point}
 use Rattle.c_tree.specs.declared.typed.Stmt.{Stmt}
-use Rattle.c_typing.specs.Accepted.{numbers}
+use Rattle.c_typing.specs.Programs.{numbers}
 use Rattle.c_typing.specs.Plain.{Plain, plain}
 use Rattle.c_judge.specs.declared.fault.Fault.{Fault}
 use Rattle.c_judge.specs.declared.fault.Fault.TheVariants as fault

@@ -13,8 +13,8 @@ use Rattle.c_tree.specs.declared.types.StructDef.{StructDef}
 use Rattle.c_typing.specs.Plain as plain
 use Rattle.c_typing.specs.Plain.{Plain, is_complete, is_void, is_scalar, value_type}
 use Rattle.c_typing.specs.Expressions as typing
-use Rattle.c_judge.specs.declared.part.Constant.{Constant}
-use Rattle.c_judge.specs.declared.part.Constant.TheVariants.{Variable, Undefined, Number}
+use Rattle.c_typing.specs.declared.constant.Constant.{Constant}
+use Rattle.c_typing.specs.declared.constant.Constant.TheVariants.{Variable, Undefined, Number}
 use Rattle.c_judge.specs.declared.fault.Fault.{Fault}
 use Rattle.c_judge.specs.declared.fault.Fault.TheVariants as fault
 use Rattle.c_judge.specs.Answers.{Answer, Known, Unknown, Broken, ◌then◌}
@@ -26,7 +26,7 @@ use Rattle.c_scope.specs.Findings.{Finding, Fine, fine, nothing, holds, asked, �
 use Rattle.c_scope.specs.Environment.{Environment, scope_of, struct_of}
 use Rattle.c_scope.specs.Declarators.{Shape, Object, Function, Parameter, denoted, constant, bounded, unbounded, unnamed_within, unnamed, parameter, with_one, is_taken, function, unsized, shape, parameters, taken}
 use Rattle.c_scope.specs.Spelling.{initial_at}
-use Rattle.c_typing.specs.Declared.{is_named}
+use Rattle.c_typing.specs.Declarations.{is_named}
 use Rattle.c_struct.specs.Structs.{written_names, Open, Written, members, member, object_member, completed_found, Completes}
 use Rattle.c_initial.specs.Initials.{initial_found, value_found, address_found, is_address, part_of, count_of, rule_of, is_aggregate}
 use Rattle.c_file.specs.Names.{FileName, name_found}

@@ -14,9 +14,9 @@ use Rattle.c_tree.specs.declared.rows.Start.{Start}
 use Rattle.c_tree.specs.declared.rows.Start.TheVariants as start
 use Rattle.std.specs.Int.{next_multiple_of}
 use Rattle.c_typing.specs.Plain.{Plain, Void, plain}
-use Rattle.c_judge.specs.Values.{size_of}
+use Rattle.c_typing.specs.Values.{size_of}
 use Rattle.c_typing.specs.Expressions.{Denoted, Object, Function, Hidden}
-use Rattle.c_typing.specs.Accepted.{numbers}
+use Rattle.c_typing.specs.Programs.{numbers}
 use Rattle.c_scope.specs.Environment.{Environment, Row, enter}
 use Rattle.c_body.specs.Bodies.{after}
 use Rattle.c_body.specs.Stops.{Stop, stops_of, inside_block}

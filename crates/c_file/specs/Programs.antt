@@ -15,7 +15,7 @@ use Rattle.c_tree.specs.declared.types.StructDef.{StructDef}
 use Rattle.c_typing.specs.Plain.{Plain, Array, is_empty}
 use Rattle.c_typing.specs.Expressions as typing
 use Rattle.c_typing.specs.Expressions.{Denoted}
-use Rattle.c_typing.specs.Declared.{built_in}
+use Rattle.c_typing.specs.Declarations.{built_in}
 use Rattle.c_judge.specs.Answers.{Answer, Known, Unknown, Broken, ◌then◌}
 use Rattle.c_scope.specs.Findings.{Finding, holds}
 use Rattle.c_scope.specs.Environment.{Environment, Row as NameRow, Visible}

@@ -1,6 +1,6 @@
 // Rows of a function: its locals, its points, and the names in it that have to be defined.
 ghost use Rattle.std.specs.Prelude.{◌≡◌, ◌++◌, map, length, IfOk, OnOk};
-ghost use Rattle.c_typing.specs.Accepted.{numbers};
+ghost use Rattle.c_typing.specs.Programs.{numbers};
 ghost use Rattle.c_file.specs.Files.{is_visible, called_all};
 ghost use Rattle.c_file.specs.Made.{Each};
 ghost use Rattle.c_file.specs.Progress.{IsLocalOf, points_of};

@@ -2,7 +2,7 @@
 ghost use Rattle.std.specs.Prelude.{◌≡◌, [], ◌∷◌, map, not, ◌||◌, ◌&&◌, bytes_eq, codes, IfOk, Bool};
 ghost use Rattle.c_typing.specs.Plain.{Plain, plain, Int, Void};
 ghost use Rattle.c_typing.specs.Expressions.{Function};
-ghost use Rattle.c_typing.specs.Declared.{built_in};
+ghost use Rattle.c_typing.specs.Declarations.{built_in};
 ghost use Rattle.c_scope.specs.Here.{meaning_of};
 ghost use Rattle.c_file.specs.Names.{same_all, agree, agree_as, bounded_one, composite, is_built_in, declared_as_built_in, declared_as_main};
 ghost use Rattle.c_file.specs.Telling.{is_open, is_unbounded};

@@ -7,7 +7,7 @@ use Rattle.c_tree.specs.declared.types.Member.{Member as MemberRow}
 use Rattle.c_tree.specs.Layout.{members_of}
 use Rattle.c_operators.specs.Bits.{low_byte}
 use Rattle.c_typing.specs.Plain.{Plain, Char, Pointer, Array, Struct, plain}
-use Rattle.c_judge.specs.Values.{size_of}
+use Rattle.c_typing.specs.Values.{size_of}
 use Rattle.c_defs.specs.Depths.{deepest}
 use Rattle.c_defs.specs.Leaves.{leaf_count}
 use Rattle.c_scope.specs.Environment.{Environment}

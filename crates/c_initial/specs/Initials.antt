@@ -8,8 +8,8 @@ use Rattle.c_declaration.specs.InitialTree.{InitialTree, Value, Braces, Item}
 use Rattle.c_tree.specs.Layout.{members_of}
 use Rattle.c_typing.specs.Plain.{Plain, Char, Pointer, Array, Struct, plain, same}
 use Rattle.c_typing.specs.Expressions.{Denoted, Object}
-use Rattle.c_judge.specs.declared.part.Constant.{Constant}
-use Rattle.c_judge.specs.declared.part.Constant.TheVariants.{Number}
+use Rattle.c_typing.specs.declared.constant.Constant.{Constant}
+use Rattle.c_typing.specs.declared.constant.Constant.TheVariants.{Number}
 use Rattle.c_judge.specs.Answers.{Answer, Known, Broken, ◌then◌}
 use Rattle.c_judge.specs.Judgement.{judged}
 use Rattle.c_judge.specs.Places.{place_of}

@@ -3,8 +3,8 @@ use Rattle.std.specs.Prelude.{◌≡◌, ℕ, Bool, false, ◌==◌, List, [], �
 use Rattle.c_expr.specs.Tree.{Tree}
 use Rattle.c_typing.specs.Plain.{Plain}
 use Rattle.c_judge.specs.Places.{place_of}
-use Rattle.c_judge.specs.declared.part.Constant.{Constant}
-use Rattle.c_judge.specs.declared.part.Constant.TheVariants.{Number}
+use Rattle.c_typing.specs.declared.constant.Constant.{Constant}
+use Rattle.c_typing.specs.declared.constant.Constant.TheVariants.{Number}
 use Rattle.c_scope.specs.declared.refusal.Refusal.{Refusal}
 use Rattle.c_scope.specs.Refused.{IsRefused}
 use Rattle.c_scope.specs.Findings.{nothing, holds}

@@ -8,7 +8,7 @@ use Rattle.c_tree.specs.declared.typed.Typed.{Typed, Row_of-Typed, end_of-Typed,
 use Rattle.c_tree.specs.declared.typed.Typed.TheVariants.{Call, Call'}
 use Rattle.c_tree.specs.Rows.{exprs}
 use Rattle.c_typing.specs.Plain.{plain}
-use Rattle.c_judge.specs.declared.part.Constant.TheVariants.{Variable}
+use Rattle.c_typing.specs.declared.constant.Constant.TheVariants.{Variable}
 use Rattle.c_judge.specs.Answers.{Known}
 use Rattle.c_judge.specs.Judgement.{Callee, result_of, called, value}
 use Rattle.c_judge.specs.Elaboration.{IsCall, site_of}

@@ -12,7 +12,7 @@ use Rattle.c_defs.specs.Numbers.{number_in}
 use Rattle.c_judge.specs.Scope.{Scope}
 use Rattle.c_judge.specs.Judgement.{named, folded, integer_type, leaf_of}
 use Rattle.c_judge.specs.Answers.{Known}
-use Rattle.c_judge.specs.declared.part.Constant.TheVariants.{Number}
+use Rattle.c_typing.specs.declared.constant.Constant.TheVariants.{Number}
 use Rattle.c_typing.specs.Plain.{Int}
 use Rattle.ldb_words.specs.Word.{word_of_signed}
 use Rattle.c_lex.specs.declared.number.Integer.{Integer}

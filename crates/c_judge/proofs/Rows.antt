@@ -11,7 +11,7 @@ use Rattle.c_judge.specs.Calls.{parameters_by}
 use Rattle.c_judge.specs.Judges.{known, denoted, denoted_all, scope_of}
 use Rattle.c_judge.specs.Parts.{judged_as}
 use Rattle.c_lex.specs.declared.token.Place.{Place}
-use Rattle.c_judge.specs.declared.part.Constant.TheVariants.{Variable}
+use Rattle.c_typing.specs.declared.constant.Constant.TheVariants.{Variable}
 
 abbrev row_in : Option Symbol → Option (List CType) → Option Denoted
 row_in None ps = None

@@ -3,9 +3,9 @@ use Rattle.std.proofs.Common.{◌≡◌, ◌≤◌, ℕ, Bool, true, false, List
 use Rattle.std.proofs.lemmas.Bool.{le-leb}
 use Rattle.c_tree.specs.declared.types.StructDef.{StructDef}
 use Rattle.c_typing.specs.Plain.{Plain, Unsigned, is_complete}
-use Rattle.c_judge.specs.declared.part.Constant.TheVariants.{Number}
+use Rattle.c_typing.specs.declared.constant.Constant.TheVariants.{Number}
 use Rattle.c_judge.specs.Answers.{Known}
-use Rattle.c_judge.specs.Values.{size_of}
+use Rattle.c_typing.specs.Values.{size_of}
 use Rattle.c_judge.specs.Judgement.{sized, folded}
 
 pub sized_known : (defs : List StructDef) (at : ℕ) (b : Bool) (u t : Plain) (m : ℕ) → u ≡ t → b ≡ is_complete defs u → b ≡ true → (m ≡ size_of defs u) × (size_of defs u ≤ 1048576) → sized defs at t ≡ Known (folded (Number m) Unsigned)

@@ -14,13 +14,13 @@ use Rattle.c_tree.specs.declared.types.StructDef.{StructDef}
 use Rattle.c_expr.specs.Tree.{Tree, Leaf, Paren, Index, Call, With, Member, After, Prefix, SizeofType, Cast, Binary, Choice, Stars, Around, Bounded, Unbounded}
 use Rattle.c_typing.specs.Plain.{Plain, Pointer, Array, is_void, is_complete}
 use Rattle.c_typing.specs.Rules.{size_type}
-use Rattle.c_judge.specs.declared.part.Constant.{Constant}
-use Rattle.c_judge.specs.declared.part.Constant.TheVariants.{Variable, Undefined, Number}
+use Rattle.c_typing.specs.declared.constant.Constant.{Constant}
+use Rattle.c_typing.specs.declared.constant.Constant.TheVariants.{Variable, Undefined, Number}
 use Rattle.c_judge.specs.Scope.{Scope, defs_of}
 use Rattle.c_judge.specs.Answers.{Answer, Known, Unknown, Broken, ◌then◌, two, both_known, alone, unless_broken, joint}
 use Rattle.c_judge.specs.Judgement.{Judged, Verdict, Callee, by_rule, judged, calling, within, callee, callee_by, callee_named, name_alone, called, called_name, counted, has_parameters, arguments_in, argument, parameter_at, goes_to, function_named, with_argument, named, leaf_of, indexed, stepped, sized, prefixed, assigned, compound_of, joined, member_of, chosen_of, cast_to, pointer, pointers, limited, array, bound, bounded, starred, stars_of, spec_type, folded, string_of}
 use Rattle.c_defs.specs.Depths.{deepest, is_within}
-use Rattle.c_judge.specs.Values.{size_of}
+use Rattle.c_typing.specs.Values.{size_of}
 use Rattle.c_judge.specs.Places.{place_of}
 use Rattle.c_judge.specs.Forms.{first_of, unknown, unknown_leaf, unless_numbered}
 

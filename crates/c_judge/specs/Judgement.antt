@@ -27,14 +27,14 @@ use Rattle.c_tree.specs.declared.typed.StepOp.TheVariants.{Up, Down}
 use Rattle.c_typing.specs.Plain.{Plain, Char, Int, Unsigned, Void, Pointer, Array, Struct, is_integer, is_pointer, is_scalar, is_struct, is_void, is_complete}
 use Rattle.c_typing.specs.Rules.{Operand, value_of, may_drop, unary_type, followed, address_type, dot_type, arrow_type, index_type, binary_type, equality_type, assignment_type, converts, is_move, is_movable, compound_type, step_type, logical_type, choice_type, comma_type, cast_type, size_type}
 use Rattle.c_typing.specs.Expressions.{Denoted, Object, Function, name_type}
-use Rattle.c_judge.specs.declared.part.Constant.{Constant}
-use Rattle.c_judge.specs.declared.part.Constant.TheVariants.{Variable, Number}
+use Rattle.c_typing.specs.declared.constant.Constant.{Constant}
+use Rattle.c_typing.specs.declared.constant.Constant.TheVariants.{Variable, Number}
 use Rattle.c_judge.specs.Scope.{Scope, defs_of, pointed_number}
 use Rattle.c_defs.specs.Depths.{deepest, is_within}
 use Rattle.c_defs.specs.Members.{member_number}
 use Rattle.c_judge.specs.Places.{place_of}
 use Rattle.c_judge.specs.Answers.{Answer, Known, Unknown, Broken, ◌then◌, two, both_known, joint, unless}
-use Rattle.c_judge.specs.Values.{is_unsigned, size_of, with_one, combined, turned, converted, chosen, both, either, is_null}
+use Rattle.c_typing.specs.Values.{is_unsigned, size_of, with_one, combined, turned, converted, chosen, both, either, is_null}
 
 -- what is known of an expression: what the rules ask of it as an operand, and what it is as a constant expression
 pub record Judged : Type 0 where

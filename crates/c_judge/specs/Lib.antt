@@ -1,5 +1,4 @@
 pub mod Scope
-pub mod Values
 pub mod Targets
 pub mod Answers
 pub mod Places

@@ -7,8 +7,8 @@ use Rattle.c_typing.specs.Plain.{Plain, plain, value_type}
 use Rattle.c_typing.specs.Rules.{Operand}
 use Rattle.c_judge.specs.declared.part.Part.{Part}
 use Rattle.c_judge.specs.declared.part.Facts.{Facts}
-use Rattle.c_judge.specs.Values.{is_null}
-use Rattle.c_judge.specs.declared.part.Constant.{Constant}
+use Rattle.c_typing.specs.Values.{is_null}
+use Rattle.c_typing.specs.declared.constant.Constant.{Constant}
 use Rattle.c_judge.specs.Answers.{Known, Broken}
 use Rattle.c_judge.specs.Judgement.{Judged, bound}
 

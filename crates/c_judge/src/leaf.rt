@@ -4,7 +4,7 @@ ghost use Rattle.c_expr.specs.Tree as tree;
 ghost use Rattle.c_typing.specs.Plain.{plain};
 ghost use Rattle.c_symbol.specs.declared.symbol.LeafKind.TheVariants as kind;
 ghost use Rattle.c_judge.specs.Judgement.{spec_type, folded, integer_type, leaf_of, named};
-ghost use Rattle.c_judge.specs.declared.part.Constant.TheVariants.{Number};
+ghost use Rattle.c_typing.specs.declared.constant.Constant.TheVariants.{Number};
 ghost use Rattle.c_judge.specs.Elaboration.{IsConstant, IsLiteral, IsNamed};
 ghost use Rattle.c_judge.specs.Answers.{Known};
 ghost use Rattle.c_judge.specs.Judges.{Judges, Makes, Tells, scope_of};
@@ -12,7 +12,8 @@ ghost use Rattle.c_defs.specs.Numbers.{number_in};
 
 use crate::fault::Fault;
 use crate::operators::{head, part_of};
-use crate::part::{Constant, Facts, Part};
+use crate::part::{Facts, Part};
+use c_typing::Constant;
 use crate::scope::Scope;
 use crate::types::{array_of, copied};
 use c_expr::Spec;

@@ -23,6 +23,7 @@ mod symbol;
 mod types;
 mod values;
 
+pub use c_typing::Constant;
 pub use check::{Mode, check_expr, check_in};
 pub use expr::{judge, written_type};
 pub use fault::{ExprFault, Fault};
@@ -30,7 +31,7 @@ pub use leaf::spec_type;
 pub use limits::{array, bounded, limited, pointer, pointers};
 pub use names::unknown;
 pub use pairs::pair;
-pub use part::{Constant, Facts, Part};
+pub use part::{Facts, Part};
 pub use place::place_of;
 pub use rules::{
     address_type, arrow_type, assignment_type, binary_type, cast_type, choice_type, comma_type,

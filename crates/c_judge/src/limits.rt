@@ -1,13 +1,14 @@
 // How deep and how large types may be, and types that are made of others within these limits.
 ghost use Rattle.std.specs.Prelude.{◌≡◌, Some, None};
 ghost use Rattle.c_typing.specs.Plain.{plain};
-ghost use Rattle.c_judge.specs.Values.{size_of as bytes_of};
+ghost use Rattle.c_typing.specs.Values.{size_of as bytes_of};
 ghost use Rattle.c_judge.specs.Judgement.{limited, pointer, pointers, array, bounded};
 ghost use Rattle.c_judge.specs.Parts.{IsWithinSize, IsBound, judged_of};
 ghost use Rattle.c_judge.specs.Judges.{Denotes};
 
 use crate::fault::Fault;
-use crate::part::{Constant, Part};
+use crate::part::Part;
+use c_typing::Constant;
 use crate::types::{array_of, is_complete, is_void, pointer_to};
 use c_defs::StructsView;
 use c_tree::{CType, StructDef, size_of};

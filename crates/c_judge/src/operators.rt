@@ -6,13 +6,14 @@ ghost use Rattle.c_judge.specs.Judgement.{prefixed, joined, step_of, compound_of
 ghost use Rattle.c_judge.specs.Elaboration.{site_of, IsUnary, IsPrefixed, IsAssigned, IsOperation, IsJoined};
 ghost use Rattle.c_symbol.specs.declared.symbol.PrefixOp.TheVariants as prefix;
 ghost use Rattle.c_judge.specs.Parts.{judged_of, value_of};
-ghost use Rattle.c_judge.specs.Values as value;
+ghost use Rattle.c_typing.specs.Values as value;
 ghost use Rattle.c_judge.specs.Judges.{IsPart, Makes};
 
 use crate::beside::is_stored_by;
 use crate::fault::Fault;
 use crate::limits::size_within;
-use crate::part::{Constant, Facts, Part};
+use crate::part::{Facts, Part};
+use c_typing::Constant;
 use crate::rules::{
     address_type, assignment_type, binary_type, comma_type, compound_type, followed, logical_type,
     may_drop, step_type, type_of, unary_type,

@@ -1,17 +1,7 @@
 // Parts of an expression: what the rules ask of them.
 
 use c_tree::Typed;
-
-/// What an expression is as a constant expression (C90 6.4).
-#[derive(Clone, Copy, Debug, PartialEq, Eq)]
-pub enum Constant {
-    /// No constant expression: it is not built of constants alone.
-    Variable,
-    /// One without a value, since an operator in it is undefined.
-    Undefined,
-    /// The bits of its value.
-    Number(u32),
-}
+use c_typing::Constant;
 
 /// What an expression is beside its type: whether it is an lvalue, a `register` variable or a string, and what it is as a constant expression.
 #[derive(Clone, Copy, Debug, PartialEq, Eq)]

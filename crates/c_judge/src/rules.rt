@@ -6,10 +6,11 @@ ghost use Rattle.c_judge.specs.Judgement.{object};
 ghost use Rattle.c_typing.specs.Rules as rule;
 ghost use Rattle.c_judge.specs.Scope.{pointed_number};
 ghost use Rattle.c_defs.specs.Members.{member_number};
-ghost use Rattle.c_judge.specs.Values.{is_null};
+ghost use Rattle.c_typing.specs.Values.{is_null};
 ghost use Rattle.c_judge.specs.Parts.{operand_of, value_of, Gives};
 
-use crate::part::{Constant, Part};
+use crate::part::Part;
+use c_typing::Constant;
 use crate::types::{
     common, copied, is_complete, is_integer, is_movable, is_pointer, is_scalar, is_struct, is_void,
     members, point_alike, pointer_to, promoted, same, target, value_type,

@@ -4,7 +4,7 @@ ghost use Rattle.c_tree.specs.Layout.{members_of};
 ghost use Rattle.c_typing.specs.Plain.{plain, same, is_integer, is_pointer, is_scalar, is_struct, is_void, is_complete, value_type, promoted, common, Pointer, Array};
 ghost use Rattle.c_judge.specs.Targets.{target_of};
 ghost use Rattle.c_typing.specs.Rules.{is_movable};
-ghost use Rattle.c_judge.specs.Values.{is_unsigned};
+ghost use Rattle.c_typing.specs.Values.{is_unsigned};
 
 use c_tree::{CType, Member, StructDef};
 use std::alloc::{AllocError, Global};

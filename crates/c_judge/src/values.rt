@@ -4,9 +4,9 @@ ghost use Rattle.ldb_words.specs.Word.{signed, word_of_signed};
 ghost use Rattle.c_operators.specs.Bits.{low_byte, patterned};
 ghost use Rattle.c_operators.specs.Arithmetic.{on_ints as ints, on_unsigned as unsigned};
 ghost use Rattle.c_typing.specs.Plain.{plain, value_type};
-ghost use Rattle.c_judge.specs.Values as value;
+ghost use Rattle.c_typing.specs.Values as value;
 
-use crate::part::Constant;
+use c_typing::Constant;
 use crate::types::is_unsigned;
 use c_tree::{BinaryOp, CType, UnaryOp};
 use ldb_words::{

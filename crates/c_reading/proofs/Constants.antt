@@ -14,10 +14,10 @@ use Rattle.c_tree.specs.Layout.{size_of}
 use Rattle.c_operators.specs.Arithmetic.{on_ints, on_unsigned, operating_type, truth}
 use Rattle.c_typing.specs.Plain.{plain, value_type, promoted, common}
 use Rattle.c_typing.specs.Constants.{defined, operated, operated_on, cast_to, chosen, truth_of, is_zero}
-use Rattle.c_judge.specs.declared.part.Constant.{Constant}
-use Rattle.c_judge.specs.declared.part.Constant.TheVariants.{Variable, Undefined, Number}
-use Rattle.c_judge.specs.Values as values
-use Rattle.c_judge.specs.Values.{with_one, with_two, truth_in}
+use Rattle.c_typing.specs.declared.constant.Constant.{Constant}
+use Rattle.c_typing.specs.declared.constant.Constant.TheVariants.{Variable, Undefined, Number}
+use Rattle.c_typing.specs.Values as values
+use Rattle.c_typing.specs.Values.{with_one, with_two, truth_in}
 
 -- whether something is built of constants, and its value where it has one
 abbrev pub IsVal : Bool → Option ℕ → Constant → Type 0

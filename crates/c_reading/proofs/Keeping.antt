@@ -28,10 +28,10 @@ use Rattle.c_typing.specs.Expressions.{Denoted, Object, Function, Hidden, name_t
 use Rattle.c_typing.specs.Constants.{is_built, evaluated}
 use Rattle.c_typing.specs.Constants as constants
 use Rattle.c_defs.specs.Members.{member_number}
-use Rattle.c_judge.specs.declared.part.Constant.TheVariants as folds
+use Rattle.c_typing.specs.declared.constant.Constant.TheVariants as folds
 use Rattle.c_judge.specs.Scope.{Scope, pointed_number}
 use Rattle.c_judge.specs.Answers.{Answer, Known, Unknown, Broken, ◌then◌, two, both_known, alone, unless_broken, joint}
-use Rattle.c_judge.specs.Values as values
+use Rattle.c_typing.specs.Values as values
 use Rattle.c_judge.specs.Judgement.{Judged, value_type_of, object, variable, folded, by_rule, judged, declared, spec_type, unary, sized, cast_to, indexed, prefixed, joined, operation, assigned, member_of, chosen_of, named, leaf_of, register_of, integer_type, rule_of, index_alone, cast_alone, cast_operand_alone, left_alone, right_alone, scalar_alone, branches_alone}
 use Rattle.c_judge.specs.Forms.{first_of, forbidden_leaf, forbidden_prefix, forbidden_binary, forbidden, forbidden_beside, forbidden_as}
 use Rattle.c_judge.specs.Checks.{IsKnown}

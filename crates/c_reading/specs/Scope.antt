@@ -8,7 +8,7 @@ use Rattle.c_tree.specs.declared.rows.Referent.{Referent}
 use Rattle.c_tree.specs.declared.rows.Referent.TheVariants.{Object}
 use Rattle.c_typing.specs.Plain.{Plain, plain}
 use Rattle.c_typing.specs.Expressions as typing
-use Rattle.c_typing.specs.Declared.{denoted_by}
+use Rattle.c_typing.specs.Declarations.{denoted_by}
 use Rattle.c_typing.specs.Statements.{locals_at, function_at}
 use Rattle.c_judge.specs.Scope.{Scope, tagged}
 

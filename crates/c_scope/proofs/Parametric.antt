@@ -2,7 +2,7 @@
 use Rattle.std.proofs.Common.{◌≡◌, ℕ, Bool, true, false, ◌||◌, if◌then◌else◌, List, [], ◌∷◌, ◌++◌, map, option_map, bytes_eq, refl, sym, ap, ◌∙◌, subst, Result, Ok, Err, Option, Some, None}
 use Rattle.std.proofs.lemmas.List.{map-append}
 use denote.Ref.{Bor}
-use Rattle.c_typing.specs.Declared.{is_named}
+use Rattle.c_typing.specs.Declarations.{is_named}
 use Rattle.c_judge.specs.Answers.{Answer, Known, Broken}
 use Rattle.c_scope.specs.declared.shapes.Parameter.{Parameter}
 use Rattle.c_scope.specs.Declarators as spec

@@ -5,7 +5,7 @@ use Rattle.c_tree.specs.declared.types.CType.TheVariants as ctype
 use Rattle.c_tree.specs.declared.types.StructDef.{StructDef}
 use Rattle.c_tree.specs.Layout as layout
 use Rattle.c_typing.specs.Plain.{plain}
-use Rattle.c_judge.specs.Values.{size_of}
+use Rattle.c_typing.specs.Values.{size_of}
 
 pub size_of_plain : (defs : List StructDef) (t : CType) → layout.size_of defs t ≡ size_of defs (plain t)
 size_of_plain defs ctype.Char = refl

@@ -5,11 +5,11 @@ use Rattle.c_expr.specs.Tree.{Tree}
 use Rattle.c_declaration.specs.Tree.{DeclaratorTree, Name, Parens, Pointers, Array, Function as Applied, Taking, Named, Unnamed, begins}
 use Rattle.c_typing.specs.Plain as plain
 use Rattle.c_typing.specs.Plain.{Plain, is_complete, is_scalar, is_void, value_type, same}
-use Rattle.c_typing.specs.Declared.{is_result, is_named}
+use Rattle.c_typing.specs.Declarations.{is_result, is_named}
 use Rattle.c_typing.specs.Expressions as typing
 use Rattle.c_typing.specs.Expressions.{Denoted}
-use Rattle.c_judge.specs.declared.part.Constant.{Constant}
-use Rattle.c_judge.specs.declared.part.Constant.TheVariants.{Undefined}
+use Rattle.c_typing.specs.declared.constant.Constant.{Constant}
+use Rattle.c_typing.specs.declared.constant.Constant.TheVariants.{Undefined}
 use Rattle.c_judge.specs.Answers.{Answer, Known, Unknown, Broken, ◌then◌}
 use Rattle.c_judge.specs.Judgement.{Verdict, judged, spec_type, pointers, starred, array, limited, bound}
 use Rattle.c_judge.specs.Places.{place_of}

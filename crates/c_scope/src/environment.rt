@@ -4,7 +4,7 @@ ghost use Rattle.std.specs.BTreeMap.{get};
 ghost use Rattle.std.specs.Ordering.{nat_cmp};
 ghost use Rattle.c_typing.specs.Plain.{plain};
 ghost use Rattle.c_typing.specs.Expressions as typing;
-ghost use Rattle.c_typing.specs.Declared.{is_named};
+ghost use Rattle.c_typing.specs.Declarations.{is_named};
 ghost use Rattle.c_judge.specs.Scope.{or_else_number};
 ghost use Rattle.c_judge.specs.Judges.{scope_of, denoted};
 ghost use Rattle.c_scope.specs.Environment.{declare, declare_local, declare_global, enter, leave, scope};

@@ -1,7 +1,7 @@
 // Parameters of functions, and what declares a function.
 ghost use Rattle.std.specs.Prelude.{◌≡◌, map, option_map};
 ghost use Rattle.c_typing.specs.Plain.{plain};
-ghost use Rattle.c_typing.specs.Declared.{is_result};
+ghost use Rattle.c_typing.specs.Declarations.{is_result};
 ghost use Rattle.c_judge.specs.Judges.{Gives};
 ghost use Rattle.c_scope.specs.Declarators.{parameter, with_one, function};
 ghost use Rattle.c_scope.specs.Shapes.{parameter_of, shape_of, is_called, any_called, Adds};

@@ -3,7 +3,7 @@ ghost use Rattle.std.specs.Prelude.{◌≡◌, ◌≤◌, ◌<◌, ℕ, List, []
 ghost use Rattle.std.specs.Map.{update};
 ghost use Rattle.std.specs.Vec.{vec_len, vec_capacity};
 ghost use Rattle.c_defs.specs.Numbers.{number_in};
-ghost use Rattle.c_typing.specs.Declared.{is_named};
+ghost use Rattle.c_typing.specs.Declarations.{is_named};
 ghost use Rattle.c_scope.specs.Environment.{number_of, innermost};
 ghost use Rattle.c_scope.specs.Table.{names_from, outermost, with_name, AreAligned};
 ghost use Rattle.c_scope.specs.Tabled.{visible_from, Hide};

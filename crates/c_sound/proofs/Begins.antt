@@ -20,7 +20,7 @@ use Rattle.c_source.specs.Control.{Item, body_of}
 use Rattle.c_source.specs.Begin.{world_at_first, begin}
 use Rattle.c_typing.specs.Plain.{plain, same, Int as an_int}
 use Rattle.c_typing.specs.Starts.{Starts, AreStarts, IsObject}
-use Rattle.c_typing.specs.Accepted.{numbers, is_called_main, is_main, has_main}
+use Rattle.c_typing.specs.Programs.{numbers, is_called_main, is_main, has_main}
 use Rattle.c_sound.specs.Shapes.{Fits}
 use Rattle.c_sound.proofs.World.{CellFits, ObjectFits, WorldFits, each_append}
 use Rattle.c_sound.proofs.Operators.{addr}

@@ -19,9 +19,9 @@ use Rattle.c_source.specs.Control.{Item, Open, runs_of, inits_of}
 use Rattle.c_typing.specs.Plain.{Plain, Char, Int, Unsigned, Void, Pointer, Array, Struct, plain, is_void}
 use Rattle.c_typing.specs.Rules.{converts}
 use Rattle.c_typing.specs.Expressions.{operand, value, IsTyped}
-use Rattle.c_typing.specs.Declared.{has, scope_at, is_result, locals_in}
+use Rattle.c_typing.specs.Declarations.{has, scope_at, is_result, locals_in}
 use Rattle.c_typing.specs.Statements.{Around, in_function, local_numbers as numbers_of, type_of_local, IsTestOrNone, IsDropped, IsInitializer, AreInitialized, IsReturned, IsStatement, AreStatements, IsElse, IsSwitched, locals_of, locals_of_row, locals_of_else}
-use Rattle.c_typing.specs.Accepted.{IsBlock}
+use Rattle.c_typing.specs.Programs.{IsBlock}
 use Rattle.c_sound.proofs.Operators.{addr, conv}
 use Rattle.c_sound.proofs.Shaped.{shape, local_numbers, Fresh, ShapedE, ShapedPart, ShapedInit, ShapedInits, ShapedReturn, ShapedS, ShapedRows, ShapedElse, ShapedBody}
 use Rattle.c_sound.proofs.Ready.{Ready}

@@ -12,7 +12,7 @@ use Rattle.c_store.specs.Frames.{Here, made, left, is_free}
 use Rattle.c_source.specs.Blocks.{cells_of, converted, local_type, result_type, opened, can_open, given_one, given}
 use Rattle.c_source.specs.Control.{Item, State, Activation}
 use Rattle.c_source.specs.Source.{on_ok, on_some, on_test}
-use Rattle.c_typing.specs.Accepted.{numbers}
+use Rattle.c_typing.specs.Programs.{numbers}
 use Rattle.c_sound.specs.Shapes.{is_place}
 use Rattle.c_sound.proofs.World.{Gives, used_gives, CellFits, WorldFits, made_fits, left_fits}
 use Rattle.c_sound.proofs.Operators.{addr, converted_gives}

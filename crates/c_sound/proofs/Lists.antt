@@ -4,7 +4,7 @@ use Rattle.std.specs.Prelude.{◌==◌, if◌then◌else◌}
 use Rattle.std.proofs.lemmas.List.{reverse-append, reverse-reverse, length-reverse}
 use Rattle.c_store.specs.Store.{Value}
 use Rattle.c_store.specs.Frames.{Binding, is_free, bound}
-use Rattle.c_typing.specs.Declared.{has}
+use Rattle.c_typing.specs.Declarations.{has}
 use Rattle.c_sound.proofs.Ready.{locals_of}
 
 -- ---- locals

@@ -11,9 +11,9 @@ use Rattle.c_tree.specs.Rows.{stmts}
 use Rattle.c_tree.specs.Rows.{declared_in, statements_in}
 use Rattle.c_source.specs.Control.{Item, runs_of, inits_of}
 use Rattle.c_typing.specs.Plain.{Plain}
-use Rattle.c_typing.specs.Declared.{has}
+use Rattle.c_typing.specs.Declarations.{has}
 use Rattle.c_typing.specs.Statements.{Around, in_function, IsPointWith, IsTestOrNone, IsDropped, IsInitializer, AreInitialized, IsStatement, AreStatements, IsElse, IsSwitched}
-use Rattle.c_typing.specs.Accepted.{IsBlock}
+use Rattle.c_typing.specs.Programs.{IsBlock}
 use Rattle.c_sound.proofs.Shaped.{local_numbers}
 use Rattle.c_sound.proofs.Lists.{has_more}
 use Rattle.c_sound.proofs.Bodies.{same_numbers, has_or}

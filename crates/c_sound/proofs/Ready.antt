@@ -10,7 +10,7 @@ use Rattle.c_store.specs.Frames.{Binding}
 use Rattle.c_source.specs.Blocks.{result_type}
 use Rattle.c_tree.specs.Rows.{statements_in}
 use Rattle.c_source.specs.Control.{Item, Eval, Locate, Push, Bound, Load, Convert, Store, Copy, Update, Change, Combine, Offset, Use, Discard, Truth, AndThen, OrElse, Pick, Joined, Enter, Run, Stop, Choose, Open, Close, Turn, Again, Select, Seek, Switched, GiveBack, Leave, Label, State, Activation}
-use Rattle.c_typing.specs.Declared.{has}
+use Rattle.c_typing.specs.Declarations.{has}
 use Rattle.c_sound.specs.Shapes.{is_place}
 use Rattle.c_sound.proofs.World.{WorldFits}
 use Rattle.c_sound.proofs.Operators.{addr, conv, takes, gives, takes_one}

@@ -11,7 +11,7 @@ use Rattle.c_store.specs.Frames.{ActivationRecord}
 use Rattle.c_tree.specs.Rows.{statements_in}
 use Rattle.c_source.specs.Control.{Item, Eval, Locate, Push, Bound, Load, Convert, Store, Copy, Update, Change, Combine, Offset, Use, Discard, Truth, AndThen, OrElse, Pick, Joined, Enter, Run, Stop, Choose, Open, Close, Turn, Again, Select, Seek, Switched, GiveBack, Leave, Label, State, Activation, outermost_of}
 use Rattle.c_tree.specs.Points.{last_of}
-use Rattle.c_typing.specs.Declared.{has}
+use Rattle.c_typing.specs.Declarations.{has}
 use Rattle.c_typing.specs.Statements.{locals_at, function_at}
 use Rattle.c_sound.proofs.Shaped.{local_numbers}
 use Rattle.c_sound.proofs.Ready.{locals_of}

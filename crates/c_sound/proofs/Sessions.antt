@@ -17,10 +17,10 @@ use Rattle.c_source.specs.Source.{step}
 use Rattle.c_source.specs.Begin.{begin}
 use Rattle.c_source.specs.Meaning.{Given, values_meant, assigned}
 use Rattle.c_source.specs.Names.{named, place_text}
-use Rattle.c_typing.specs.Declared.{has}
+use Rattle.c_typing.specs.Declarations.{has}
 use Rattle.c_reading.specs.Scope.{as_completed, scope_with}
 use Rattle.c_typing.specs.Statements.{local_on, locals_from, locals_at}
-use Rattle.c_typing.specs.Accepted.{IsAccepted}
+use Rattle.c_typing.specs.Programs.{KeepsRules}
 use Rattle.c_session.specs.declared.command.Command.{Command}
 use Rattle.c_session.specs.declared.command.Command.TheVariants as command
 use Rattle.c_reading.specs.Readings.{is_identifier, Use, AsValue, AsAssignment, Reading, Read, Unread, BadSyntax}
@@ -107,7 +107,7 @@ symbol_in (Some q) = q.symbol
 name_live : (p : Program) (name : List ℕ) (q : ℕ) → LiveName (locals_at p q) (named p name q)
 name_live p name q = named_live p.symbols name (length p.symbols) (symbol_in (slice_get p.points q))
 
-module _ (p : Program) (accepted : IsAccepted p) where
+module _ (p : Program) (accepted : KeepsRules p) where
   abbrev pub Stands : State → Type 0
   Stands s = Good p s × InScope p s
 

@@ -19,7 +19,7 @@ use Rattle.c_tree.specs.declared.rows.Referent.TheVariants.{Object, Local, Funct
 use Rattle.c_tree.specs.Types.{type_of, is_struct}
 use Rattle.c_source.specs.Blocks.{local_type, result_type}
 use Rattle.c_typing.specs.Rules.{stepping}
-use Rattle.c_typing.specs.Declared.{has}
+use Rattle.c_typing.specs.Declarations.{has}
 use Rattle.c_sound.proofs.Operators.{addr, conv, takes, gives, takes_one}
 
 -- whether an expression's value is an address

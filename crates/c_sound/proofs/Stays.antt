@@ -25,7 +25,7 @@ use Rattle.c_source.specs.Operators.{bits_in, is_zero, combined, changed}
 use Rattle.c_source.specs.Control.{Item, Eval, Locate, Push, Bound, Load, Convert, Store, Copy, Update, Change, Combine, Offset, Use, Discard, Truth, AndThen, OrElse, Pick, Joined, Enter, Run, Stop, Choose, Open, Close, Turn, Again, Select, Seek, Switched, GiveBack, Leave, Label, Round, State, Activation, outermost_of, runs_of, inits_of, broken, continued, body_of, seeks, labels_in, default_in}
 use Rattle.c_tree.specs.Points.{last_of}
 use Rattle.c_source.specs.Source.{on_ok, on_one, on_two, on_some, step, go, evaluate, locate, read, copy, update, on_test, built_in, call, end_with, execute, seek, act, on_control, no_value, place_in}
-use Rattle.c_typing.specs.Accepted.{numbers}
+use Rattle.c_typing.specs.Programs.{numbers}
 use Rattle.c_sound.specs.Shapes.{is_place}
 use Rattle.c_sound.proofs.Shaped.{local_numbers, is_getchar}
 use Rattle.c_sound.proofs.Ready.{locals_of, EntersFunction, EntersBy, Enters, Ready, Good}

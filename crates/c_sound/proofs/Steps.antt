@@ -28,7 +28,7 @@ use Rattle.c_source.specs.Operators.{bits_in, combined, changed}
 use Rattle.c_source.specs.Control.{Item, Eval, Locate, Push, Bound, Load, Convert, Store, Copy, Update, Change, Combine, Offset, Use, Discard, Truth, AndThen, OrElse, Pick, Joined, Enter, Run, Stop, Choose, Open, Close, Turn, Again, Select, Seek, Switched, GiveBack, Leave, Label, Round, State, Activation, outermost_of, runs_of, inits_of, broken, continued, body_of, seeks, labels_in, default_in}
 use Rattle.c_tree.specs.Points.{last_of}
 use Rattle.c_source.specs.Source.{on_ok, on_some, step, go, evaluate, locate, read, write, copy, update, built_in, call, end_with, execute, seek, act, on_control, no_value, place_in}
-use Rattle.c_typing.specs.Accepted.{numbers}
+use Rattle.c_typing.specs.Programs.{numbers}
 use Rattle.c_sound.specs.Shapes.{is_place, Fits}
 use Rattle.c_sound.proofs.World.{used_gives, load_gives, store_gives, moved_gives, load_struct_gives, store_struct_gives, FitEach, WorldFits, left_fits, Gives, gives_then}
 use Rattle.c_sound.proofs.Operators.{addr, conv, conv_own, converted_gives, takes, gives, combined_gives, changed_gives, bits_give}

@@ -15,7 +15,7 @@ use Rattle.c_source.specs.Source.{step}
 use Rattle.c_source.specs.Begin.{begin, acted, records, outer_records}
 use Rattle.c_typing.specs.Plain.{plain}
 use Rattle.c_typing.specs.Statements.{local_numbers as numbers_of, IsPointWith}
-use Rattle.c_typing.specs.Accepted.{numbers, IsAccepted}
+use Rattle.c_typing.specs.Programs.{numbers, KeepsRules}
 use Rattle.c_sound.specs.Shapes.{IsFitting, HasItsLocals}
 use Rattle.c_sound.proofs.Shaped.{local_numbers}
 use Rattle.c_sound.proofs.Ready.{locals_of, Good}
@@ -68,7 +68,7 @@ locals_length : (ds : List DeclaredLocal) → length (local_numbers ds) ≡ leng
 locals_length [] = refl
 locals_length (d ∷ ds) = ap suc (locals_length ds)
 
-module _ (p : Program) (accepted : IsAccepted p) where
+module _ (p : Program) (accepted : KeepsRules p) where
   -- where a scope begins with the locals of the outermost block
   ends_there : (g : ℕ) (fn : Function) (ls : List ℕ) → IsPointWith p g (numbers 0 fn.params ++ numbers_of (declared_in fn.body)) (last_of fn.points)
       → take (length (numbers 0 fn.params ++ local_numbers (declared_in fn.body))) ls ≡ numbers 0 fn.params ++ local_numbers (declared_in fn.body) → EndsIn p g (Some fn) ls

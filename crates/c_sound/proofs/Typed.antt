@@ -21,7 +21,7 @@ use Rattle.c_source.specs.Blocks.{local_type}
 use Rattle.c_typing.specs.Plain.{Plain, Char, Int, Unsigned, Void, Pointer, Array, Struct, plain, same, value_type, is_integer, is_scalar, is_complete}
 use Rattle.c_typing.specs.Rules.{Operand, may_drop, converts, is_copied, compound_type, arrow_type, takes as takes_arguments, binary_type, stepping}
 use Rattle.c_typing.specs.Expressions.{Denoted, Object as AnObject, Function as AFunction, Hidden, Scope, object_type, result_type as called_type, is_lvalue, is_string, is_register, is_constant_type, operand, value, operands, IsTyped, AreTyped}
-use Rattle.c_typing.specs.Declared.{has, parameters, local_type as type_of_a_local, function_in, local_in, locals_in, denoted_by}
+use Rattle.c_typing.specs.Declarations.{has, parameters, local_type as type_of_a_local, function_in, local_in, locals_in, denoted_by}
 use Rattle.c_reading.specs.Scope.{scope_with}
 use Rattle.c_reading.specs.Kept.{KeepsRules, EachKeeps}
 use Rattle.c_sound.proofs.Operators.{addr, conv, takes, gives, takes_one}

@@ -11,9 +11,9 @@ use Rattle.c_store.specs.Assigned.{Assignment, History, all_assigned}
 use Rattle.c_source.specs.Control.{State}
 use Rattle.c_source.specs.Source.{step}
 use Rattle.c_source.specs.Begin.{begin, acted}
-use Rattle.c_typing.specs.Declared.{has}
+use Rattle.c_typing.specs.Declarations.{has}
 use Rattle.c_typing.specs.Statements.{locals_at}
-use Rattle.c_typing.specs.Accepted.{IsAccepted}
+use Rattle.c_typing.specs.Programs.{KeepsRules}
 
 -- the null pointer, or a pointer into an object, and no number
 abbrev pub is_place : Value → Bool
@@ -46,7 +46,7 @@ KeepsShapes (Breaks IllTyped) = ⊥
 
 -- a moment before the end that the run of an accepted program comes to, on this input and with assignments of a debugger that fit
 abbrev pub IsMoment : Program → List ℕ → History → Moment State → Type 0
-IsMoment p input h m = IsAccepted p × IsFitting h × ((n : ℕ) × (after State (step p) (acted h) n 0 (begin p input) ≡ Reached m)) × (m.exit ≡ None)
+IsMoment p input h m = KeepsRules p × IsFitting h × ((n : ℕ) × (after State (step p) (acted h) n 0 (begin p input) ≡ Reached m)) × (m.exit ≡ None)
 
 -- a run to an event: again no value has the wrong shape
 abbrev pub CourseKeepsShapes : Course State → Type 0

@@ -7,7 +7,7 @@ use Rattle.c_typing.specs.Plain.{Plain, Struct}
 use Rattle.c_judge.specs.Answers.{Answer, Known, Unknown, Broken}
 use Rattle.c_judge.specs.Judgement.{limited}
 use Rattle.c_defs.specs.Depths.{deepest, is_within}
-use Rattle.c_judge.specs.Values.{size_of}
+use Rattle.c_typing.specs.Values.{size_of}
 use Rattle.c_scope.specs.Findings.{nothing, fine}
 use Rattle.c_scope.specs.Environment.{Environment, struct_of}
 use Rattle.c_struct.specs.Structs.{Open, IsRow, IsWith, IsRowOf, Completes, completed_found}

@@ -9,7 +9,7 @@ use Rattle.c_tree.specs.declared.types.Member.{Member}
 use Rattle.c_tree.specs.Layout as layout
 use Rattle.c_tree.specs.Layout.{alignment_within, alignment_of_members, alignment_of, members_of, AreLaid}
 use Rattle.c_typing.specs.Plain.{Plain, Char, Int, Unsigned, Void, Pointer, Array, Struct, plain}
-use Rattle.c_judge.specs.Values.{size_of}
+use Rattle.c_typing.specs.Values.{size_of}
 use Rattle.c_struct.specs.declared.members.WrittenMember.{WrittenMember}
 use Rattle.c_struct.specs.Structs.{Open, written, IsRow}
 use Rattle.c_struct.specs.Opened.{written_member}

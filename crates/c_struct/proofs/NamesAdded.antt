@@ -7,7 +7,7 @@ use Rattle.c_tree.specs.declared.types.StructDef.{StructDef}
 use Rattle.c_tree.specs.declared.types.Member.{Member}
 use Rattle.c_tree.specs.Layout.{members_of}
 use Rattle.c_typing.specs.Plain.{is_empty}
-use Rattle.c_typing.specs.Declared.{is_named}
+use Rattle.c_typing.specs.Declarations.{is_named}
 use Rattle.c_defs.specs.declared.numbers.Numbers.{Numbers}
 use Rattle.c_defs.specs.Numbers.{number_from, first_number, number_in, Finds}
 use Rattle.c_defs.specs.Members.{name_of}

@@ -4,7 +4,7 @@ use Rattle.c_tree.specs.declared.types.Member.{Member}
 use Rattle.c_tree.specs.declared.types.StructDef.{StructDef}
 use Rattle.c_typing.specs.Plain.{plain, same, is_complete}
 use Rattle.c_judge.specs.Answers.{Known, Broken}
-use Rattle.c_typing.specs.Declared.{is_named}
+use Rattle.c_typing.specs.Declarations.{is_named}
 use Rattle.c_struct.specs.declared.members.WrittenMember.{WrittenMember}
 use Rattle.c_struct.specs.Structs.{written, written_names, same_members, object_member}
 use Rattle.c_struct.specs.Opened.{written_member}

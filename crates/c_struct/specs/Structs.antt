@@ -5,7 +5,7 @@ use Rattle.c_tree.specs.declared.types.StructDef.{StructDef}
 use Rattle.c_tree.specs.declared.types.Member.{Member as MemberRow}
 use Rattle.c_tree.specs.Layout.{IsLaidOut, members_of}
 use Rattle.c_typing.specs.Plain.{Plain, plain, is_complete, is_empty, same}
-use Rattle.c_typing.specs.Declared.{is_named}
+use Rattle.c_typing.specs.Declarations.{is_named}
 use Rattle.c_judge.specs.Answers.{Answer, Known, Broken, ◌then◌}
 use Rattle.c_scope.specs.Findings.{Finding, ◌beside◌, holds}
 use Rattle.c_scope.specs.Environment.{Environment, struct_of}

@@ -1,7 +1,7 @@
 // Members of structs (C90 6.5.2.1).
 ghost use Rattle.std.specs.Prelude.{◌≡◌, ◌∷◌, ◌++◌, [], map, IfOk, OnOk, not, ◌&&◌};
 ghost use Rattle.c_typing.specs.Plain.{plain};
-ghost use Rattle.c_typing.specs.Declared.{is_named};
+ghost use Rattle.c_typing.specs.Declarations.{is_named};
 ghost use Rattle.c_struct.specs.Structs.{written, written_names, object_member, same_members, agrees};
 ghost use Rattle.c_struct.specs.Opened.{written_member, members_in, HasNames, Adds};
 

@@ -35,7 +35,7 @@ use Rattle.c_tree.specs.declared.rows.Referent.TheVariants as refers
 use Rattle.c_typing.specs.Plain.{plain}
 use Rattle.c_typing.specs.Written.{IsFormed, IsWritten}
 use Rattle.c_typing.specs.Statements.{in_function, IsStatement}
-use Rattle.c_typing.specs.Accepted.{IsAccepted, IsFunction}
+use Rattle.c_typing.specs.Programs.{KeepsRules, IsFunction}
 use Rattle.c_typing.proofs.Trees.{somewhere, of_type, at, shape_of}
 
 module _ (b : Box (Unit {0}) Global) (rc : Rc (Unit {0}) Global) where
@@ -195,8 +195,8 @@ module _ (b : Box (Unit {0}) Global) (rc : Rc (Unit {0}) Global) where
     main = refl;
   }
 
-  it_is_accepted : IsAccepted program
-  it_is_accepted = record {
+  it_keeps_the_rules : KeepsRules program
+  it_keeps_the_rules = record {
     structs = ((is_written, (refl, (refl, tt)), (((tt, tt), refl), (((tt, (is_formed, refl)), refl), tt)), (8, (refl, (refl, refl)), refl)), tt);
     objects = (((is_written, refl), (lit< tt, (refl, tt)), lit< tt), (Prim.search (lit<, lit≤), (Prim.search (lit<, lit≤), (Prim.search (lit<, lit≤), tt))));
     functions = (add_is_a_function, (main_is_a_function, tt));

@@ -10,7 +10,7 @@ use Rattle.c_tree.specs.declared.typed.Stmt.TheVariants.{Value, Block', While', 
 use Rattle.c_tree.specs.declared.rows.Program.{Program}
 use Rattle.c_tree.specs.declared.rows.Start.TheVariants as starts
 use Rattle.c_tree.specs.declared.rows.Referent.TheVariants as refers
-use Rattle.c_typing.specs.Accepted.{IsAccepted}
+use Rattle.c_typing.specs.Programs.{KeepsRules}
 use Rattle.c_typing.proofs.Trees.{somewhere, of_type, at, shape_of}
 
 module _ (b : Box (Unit {0}) Global) where
@@ -34,8 +34,8 @@ module _ (b : Box (Unit {0}) Global) where
     symbols = (record { name = codes "getchar"; ctype = Int; refers = refers.Declared; up = None } ∷ record { name = codes "putchar"; ctype = Int; refers = refers.Declared; up = Some 0 } ∷ record { name = codes "exit"; ctype = Void; refers = refers.Declared; up = Some 1 } ∷ record { name = codes "i"; ctype = Int; refers = refers.Object 0; up = Some 2 } ∷ record { name = codes "main"; ctype = Int; refers = refers.Function 0; up = Some 3 } ∷ []);
   }
 
-  it_is_accepted : IsAccepted program
-  it_is_accepted = record {
+  it_keeps_the_rules : KeepsRules program
+  it_keeps_the_rules = record {
     structs = tt;
     objects = Prim.search (lit<, lit≤);
     functions = (

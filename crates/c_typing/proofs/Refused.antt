@@ -16,7 +16,7 @@ use Rattle.c_typing.specs.Constants.{constant_of, is_null}
 use Rattle.c_typing.specs.Rules.{binary_type}
 use Rattle.c_typing.specs.Expressions.{Scope, Object, Function, operand, IsTyped}
 use Rattle.c_typing.specs.Statements.{in_function, in_loop, IsStatement}
-use Rattle.c_typing.specs.Accepted.{IsAccepted}
+use Rattle.c_typing.specs.Programs.{KeepsRules}
 use Rattle.c_typing.proofs.Trees.{somewhere, of_type, at, shape_of}
 
 abbrev Refuted : Type 0 → Type 0
@@ -183,5 +183,5 @@ module _ (b : Box (Unit {0}) Global) (rc : Rc (Unit {0}) Global) where
   two_labels = Prim.search (lit<, lit≤)
 
   -- a program has to have a `main`
-  no_main : Refuted (IsAccepted nothing)
+  no_main : Refuted (KeepsRules nothing)
   no_main h = true≢false (sym h.main)

@@ -1,9 +1,10 @@
 pub mod Plain
 pub mod Written
+pub mod Values
 pub mod Constants
 pub mod Rules
 pub mod Expressions
 pub mod Statements
-pub mod Declared
+pub mod Declarations
 pub mod Starts
-pub mod Accepted
+pub mod Programs

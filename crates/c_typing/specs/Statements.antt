@@ -14,7 +14,7 @@ use Rattle.c_tree.specs.declared.rows.Referent.TheVariants as refers
 use Rattle.c_typing.specs.Plain.{Plain, Void, plain, is_integer, is_scalar, is_void}
 use Rattle.c_typing.specs.Rules.{may_drop, converts}
 use Rattle.c_typing.specs.Expressions.{Scope, operand, value, IsTyped}
-use Rattle.c_typing.specs.Declared.{has, scope_at, locals_in}
+use Rattle.c_typing.specs.Declarations.{has, scope_at, locals_in}
 
 -- what stands round a statement: a loop, a loop or `switch`, and whether labels may stand before it
 pub record Around : Type 0 where

@@ -9,8 +9,8 @@ use Rattle.c_tree.specs.declared.types.StructDef.{StructDef}
 use Rattle.c_tree.specs.declared.types.Member.{Member}
 use Rattle.c_tree.specs.Layout.{size_of, size_in, members_in, IsWithin, alignment_of, alignment_within, alignment_of_members}
 use Rattle.c_typing.specs.Written.{IsDeclared}
-use Rattle.c_typing.specs.Declared.{IsStruct}
-use Rattle.c_typing.specs.Accepted.{AllFrom}
+use Rattle.c_typing.specs.Declarations.{IsStruct}
+use Rattle.c_typing.specs.Programs.{AllFrom}
 use Rattle.slot_formed.proofs.Sizes.{struct_there}
 
 abbrev IsOneOrFour : ℕ → Type 0

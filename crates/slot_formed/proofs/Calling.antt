@@ -23,8 +23,8 @@ use Rattle.c_typing.specs.Plain.{Plain, Char, Int, Unsigned, Void, Pointer, Arra
 use Rattle.c_typing.specs.Constants.{is_built}
 use Rattle.c_typing.specs.Rules.{Operand, takes as takes_all, may_drop, followed, sum_type, converts, stepping as stepped, member_type}
 use Rattle.c_typing.specs.Expressions.{Object as AnObject, Function as AFunction, Hidden, Scope, is_lvalue, is_register, is_string, operand, operands, value, call_type, result_type, IsTyped, AreTyped}
-use Rattle.c_typing.specs.Declared.{has, parameters, local_type, function_in, local_in, locals_in, built_in, is_result, denoted_by, scope_at}
-use Rattle.c_typing.specs.Accepted.{IsAccepted}
+use Rattle.c_typing.specs.Declarations.{has, parameters, local_type, function_in, local_in, locals_in, built_in, is_result, denoted_by, scope_at}
+use Rattle.c_typing.specs.Programs.{KeepsRules}
 use Rattle.c_store.specs.Store.{Value}
 use Rattle.slot_ir.specs.declared.code.SlotCode.{SlotCode}
 use Rattle.slot_ir.specs.declared.code.SlotOp.{SlotOp}
@@ -86,7 +86,7 @@ module _ (c : SlotCode) (g d : ℕ) (t : Temps) where
       by None e = refl
       by (Some vs) e = let q = last_serve n vs e h in ap (serve_from c g 0) (sym (append-nil (reverse vs))) ∙ served c g n vs [] q.0 q.1 refl
 
-module _ (p : Program) (accepted : IsAccepted p) (c : SlotCode) (is : IsProgramCode p c) (f : ℕ) (v : List ℕ) (r : ℕ) (frames : List Frame) (K : ℕ) (enters : Enters p c K) where
+module _ (p : Program) (accepted : KeepsRules p) (c : SlotCode) (is : IsProgramCode p c) (f : ℕ) (v : List ℕ) (r : ℕ) (frames : List Frame) (K : ℕ) (enters : Enters p c K) where
   abbrev S : Scope
   S = scope_at p f v
 

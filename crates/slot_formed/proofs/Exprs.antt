@@ -18,8 +18,8 @@ use Rattle.c_source.specs.Source.{stepping, struct_number}
 use Rattle.c_typing.specs.Plain.{Plain, Char, Int, Pointer, Array, Struct, plain, same, is_integer, is_array as an_array, is_struct as is_a_struct, is_complete}
 use Rattle.c_typing.specs.Rules.{Operand, converts, is_copied, member_type, is_movable, is_compound, is_move, stepping as stepped}
 use Rattle.c_typing.specs.Expressions.{Scope, is_lvalue, is_register, is_string, operand, value, IsTyped, AreTyped}
-use Rattle.c_typing.specs.Declared.{scope_at}
-use Rattle.c_typing.specs.Accepted.{IsAccepted}
+use Rattle.c_typing.specs.Declarations.{scope_at}
+use Rattle.c_typing.specs.Programs.{KeepsRules}
 use Rattle.slot_ir.specs.declared.code.SlotOp.{SlotOp}
 use Rattle.slot_ir.specs.declared.code.SlotOp.TheVariants as op
 use Rattle.slot_gen.specs.Expressions.{is_scalar, access_of, cast_code, load_code, combine_op, choice_code, and_code, or_code, unless_register, name_code, write_at, update_at, register_in, register_inside, expr_code, place_code, row_code}
@@ -101,7 +101,7 @@ not_false : (b : Bool) → not b ≡ true → b ≡ false
 not_false true h = absurd (true≢false (sym h))
 not_false false h = refl
 
-module _ (p : Program) (accepted : IsAccepted p) (ascend : (t : CType) → LieIn 0 (leaves_of p.defs t) (size_of p.defs t)) (f : ℕ) (fn : Function) (here : slice_get p.functions f ≡ Some fn) (n : ℕ) (v : List ℕ) where
+module _ (p : Program) (accepted : KeepsRules p) (ascend : (t : CType) → LieIn 0 (leaves_of p.defs t) (size_of p.defs t)) (f : ℕ) (fn : Function) (here : slice_get p.functions f ≡ Some fn) (n : ℕ) (v : List ℕ) where
   abbrev s : Scope
   s = scope_at p f v
 

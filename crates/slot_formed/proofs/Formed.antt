@@ -21,9 +21,9 @@ use Rattle.c_source.specs.Control.{outermost_of}
 use Rattle.c_tree.specs.Points.{first_of, last_of}
 use Rattle.c_source.specs.Begin.{main_from}
 use Rattle.c_typing.specs.Plain.{plain, same, Int, is_scalar}
-use Rattle.c_typing.specs.Declared.{local_type}
+use Rattle.c_typing.specs.Declarations.{local_type}
 use Rattle.c_typing.specs.Statements.{in_function, local_numbers, locals_of, locals_of_row}
-use Rattle.c_typing.specs.Accepted.{numbers, is_called_main, IsBlock, IsFunction as IsItsFunction, IsAccepted}
+use Rattle.c_typing.specs.Programs.{numbers, is_called_main, IsBlock, IsFunction as IsItsFunction, KeepsRules}
 use Rattle.slot_ir.specs.declared.code.Home.TheVariants.{Block, Register}
 use Rattle.slot_ir.specs.declared.code.SlotCode.{SlotCode}
 use Rattle.slot_ir.specs.declared.code.SlotFunction.{SlotFunction}
@@ -136,7 +136,7 @@ function_row_at p i h gs e are =
 
 -- ---- a function's code
 
-module _ (p : Program) (accepted : IsAccepted p) (ascend : (t : CType) → LieIn 0 (leaves_of p.defs t) (size_of p.defs t)) (f : ℕ) (fn : Function) (here : slice_get p.functions f ≡ Some fn) (n : ℕ) (size : n ≡ length (function_code p f fn)) where
+module _ (p : Program) (accepted : KeepsRules p) (ascend : (t : CType) → LieIn 0 (leaves_of p.defs t) (size_of p.defs t)) (f : ℕ) (fn : Function) (here : slice_get p.functions f ≡ Some fn) (n : ℕ) (size : n ≡ length (function_code p f fn)) where
   mine : IsItsFunction p f fn
   mine = function_there p accepted f fn here
 
@@ -245,7 +245,7 @@ module _ (p : Program) (accepted : IsAccepted p) (ascend : (t : CType) → LieIn
 
 -- ---- a function's row
 
-module _ (p : Program) (accepted : IsAccepted p) (ascend : (t : CType) → LieIn 0 (leaves_of p.defs t) (size_of p.defs t)) (f : ℕ) (fn : Function) (here : slice_get p.functions f ≡ Some fn) (n : ℕ) (size : n ≡ length (function_code p f fn)) (gs : List SlotFunction) (are : AreFunctionRows p 0 p.functions gs) (name : List ℕ) (temps : ℕ) (placed : List ℕ) where
+module _ (p : Program) (accepted : KeepsRules p) (ascend : (t : CType) → LieIn 0 (leaves_of p.defs t) (size_of p.defs t)) (f : ℕ) (fn : Function) (here : slice_get p.functions f ≡ Some fn) (n : ℕ) (size : n ≡ length (function_code p f fn)) (gs : List SlotFunction) (are : AreFunctionRows p 0 p.functions gs) (name : List ℕ) (temps : ℕ) (placed : List ℕ) where
   abbrev c : SlotCode
   c = code_with p gs
 
@@ -351,12 +351,12 @@ module _ (p : Program) (accepted : IsAccepted p) (ascend : (t : CType) → LieIn
     points_differ fn.points (mine p accepted ascend f fn here n size).numbered,
   )
 
-points_stand : (p : Program) → IsAccepted p → ((t : CType) → LieIn 0 (leaves_of p.defs t) (size_of p.defs t)) → (f : ℕ) (fn : Function) → slice_get p.functions f ≡ Some fn → (first last : ℕ) → fn.points ≡ first ∷ (points_in fn.body ++ last ∷ []) → HasAll (function_code p f fn) fn.points
+points_stand : (p : Program) → KeepsRules p → ((t : CType) → LieIn 0 (leaves_of p.defs t) (size_of p.defs t)) → (f : ℕ) (fn : Function) → slice_get p.functions f ≡ Some fn → (first last : ℕ) → fn.points ≡ first ∷ (points_in fn.body ++ last ∷ []) → HasAll (function_code p f fn) fn.points
 points_stand p accepted ascend f fn e first last points = points_has p accepted ascend f fn e (length (function_code p f fn)) refl first last points
 
 -- ---- the program
 
-module _ (p : Program) (accepted : IsAccepted p) (ascend : (t : CType) → LieIn 0 (leaves_of p.defs t) (size_of p.defs t)) where
+module _ (p : Program) (accepted : KeepsRules p) (ascend : (t : CType) → LieIn 0 (leaves_of p.defs t) (size_of p.defs t)) where
   -- what holds of the row with the program's parts holds of each row of the function
   of_row : (P : SlotFunction → Type 0) (f : ℕ) (fn : Function) (g : SlotFunction) → IsFunctionRow p f fn g
       → (AreBelow g.temporaries (function_code p f fn) → ArePlaces (function_code p f fn) fn.points g.places → P (row_with p f fn g.name g.temporaries g.places)) → P g

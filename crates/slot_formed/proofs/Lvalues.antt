@@ -16,9 +16,9 @@ use Rattle.c_tree.specs.Layout.{members_of}
 use Rattle.c_typing.specs.Plain.{Plain, Char, Int, Void, Pointer, Array, Struct, plain, same, is_struct, is_complete}
 use Rattle.c_typing.specs.Rules.{only, followed, member_type, arrow_type, sum_type}
 use Rattle.c_typing.specs.Expressions.{Function as AFunction, Hidden, Scope, object_type, is_lvalue, operand, value, IsTyped}
-use Rattle.c_typing.specs.Declared.{IsStruct, locals_in, function_in, denoted, denoted_by, scope_at}
+use Rattle.c_typing.specs.Declarations.{IsStruct, locals_in, function_in, denoted, denoted_by, scope_at}
 use Rattle.c_typing.specs.Starts.{IsObject}
-use Rattle.c_typing.specs.Accepted.{AllFrom, IsLocal, IsReferent, IsOfObject, agrees, IsAccepted}
+use Rattle.c_typing.specs.Programs.{AllFrom, IsLocal, IsReferent, IsOfObject, agrees, KeepsRules}
 use Rattle.slot_formed.proofs.Lists.{each_of, no_none, some_same, map_some, then_some}
 use Rattle.slot_formed.proofs.Sizes.{members_declared}
 use Rattle.slot_formed.proofs.Types.{function_there, symbol_there, name_there, local_object}
@@ -58,7 +58,7 @@ module _ (defs : List StructDef) where
     arrow_complete (Pointer t) m r e = member_complete t m r e
     arrow_complete _ m r e = no_none r e
 
-module _ (p : Program) (accepted : IsAccepted p) (f : ℕ) (fn : Function) (here : slice_get p.functions f ≡ Some fn) (v : List ℕ) where
+module _ (p : Program) (accepted : KeepsRules p) (f : ℕ) (fn : Function) (here : slice_get p.functions f ≡ Some fn) (v : List ℕ) where
   abbrev s : Scope
   s = scope_at p f v
 

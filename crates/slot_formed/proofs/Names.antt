@@ -28,9 +28,9 @@ use Rattle.c_source.specs.Source.{dot_offset, arrow_offset, struct_number}
 use Rattle.c_typing.specs.Plain.{Plain, Char, Int, Unsigned, Void, Pointer, Array, Struct, plain, same, is_integer, is_complete, value_type}
 use Rattle.c_typing.specs.Rules.{Operand, converts, takes, member_type, difference_type, binary_type}
 use Rattle.c_typing.specs.Expressions.{Object as AnObject, Hidden, Scope, object_type, register_in as flagged, result_type, is_register, operand, operands, name_type, call_type, IsTyped}
-use Rattle.c_typing.specs.Declared.{has, parameters, local_type, function_in, local_in, locals_in, denoted_by, denoted, scope_at}
+use Rattle.c_typing.specs.Declarations.{has, parameters, local_type, function_in, local_in, locals_in, denoted_by, denoted, scope_at}
 use Rattle.c_typing.specs.Statements.{locals_of}
-use Rattle.c_typing.specs.Accepted.{numbers, IsOfObject, IsReferent, IsAccepted}
+use Rattle.c_typing.specs.Programs.{numbers, IsOfObject, IsReferent, KeepsRules}
 use Rattle.slot_ir.specs.declared.code.SlotOp.TheVariants as op
 use Rattle.slot_gen.specs.Expressions.{is_scalar, wants_register, register_of, if_register, referent_code, referent_register, register_named, register_inside, register_in, name_code, call_code, built_in_code, enter_code}
 use Rattle.slot_formed.proofs.Lists.{no_none, some_same, and_parts, below_length}
@@ -120,7 +120,7 @@ small_type p f fn n (ctype.Pointer' b t) h = subst (λ m. m ≤ 1048576) (sym (s
 small_type p f fn n (ctype.Array' b t m) h = subst (λ m. m ≤ 1048576) (sym (size_plain p.defs t)) (formed_size p.defs (plain t) h.0)
 small_type p f fn n (ctype.Struct s) h = tt
 
-module _ (p : Program) (accepted : IsAccepted p) (ascend : (t : CType) → LieIn 0 (leaves_of p.defs t) (size_of p.defs t)) (f : ℕ) (fn : Function) (here : slice_get p.functions f ≡ Some fn) (n : ℕ) where
+module _ (p : Program) (accepted : KeepsRules p) (ascend : (t : CType) → LieIn 0 (leaves_of p.defs t) (size_of p.defs t)) (f : ℕ) (fn : Function) (here : slice_get p.functions f ≡ Some fn) (n : ℕ) where
   -- two pointers of which the first points to a complete type
   pointers_apart : (u t : CType) (r : Plain) → difference_type p.defs (Pointer (plain u)) (value_type (plain t)) ≡ Some r → 1 ≤ size_of p.defs u
   pointers_apart u t r e = by (is_complete p.defs (plain u)) refl e

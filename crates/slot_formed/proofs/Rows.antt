@@ -22,9 +22,9 @@ use Rattle.c_tree.specs.Ordered.{width_of, LieIn, IsAligned}
 use Rattle.c_operators.specs.Bits.{low_byte}
 use Rattle.c_source.specs.Begin.{main_from}
 use Rattle.c_typing.specs.Plain.{plain, is_scalar}
-use Rattle.c_typing.specs.Declared.{local_type}
+use Rattle.c_typing.specs.Declarations.{local_type}
 use Rattle.c_typing.specs.Starts.{Starts, AreStarts, IsObject as IsItsObject}
-use Rattle.c_typing.specs.Accepted.{is_called_main, is_main, has_main, IsLocal as IsItsLocal, IsAccepted}
+use Rattle.c_typing.specs.Programs.{is_called_main, is_main, has_main, IsLocal as IsItsLocal, KeepsRules}
 use Rattle.slot_ir.specs.declared.code.SlotCode.{SlotCode}
 use Rattle.slot_ir.specs.declared.code.SlotLocal.{SlotLocal}
 use Rattle.slot_ir.specs.declared.code.SlotObject.{SlotObject}
@@ -63,7 +63,7 @@ Laid defs = (t : CType) → IsWithin defs 64 t → AreLeavesOf (size_of defs t) 
 abbrev pub AreRegisters : List Local → List (Option ℕ) → Type 0
 AreRegisters ls rs = (x r : ℕ) → register_at rs x ≡ Some r → InRegister ls x r
 
-module _ (p : Program) (accepted : IsAccepted p) (ascend : (t : CType) → LieIn 0 (leaves_of p.defs t) (size_of p.defs t)) where
+module _ (p : Program) (accepted : KeepsRules p) (ascend : (t : CType) → LieIn 0 (leaves_of p.defs t) (size_of p.defs t)) where
   register_scalar : (a b c : Bool) → a && b ≡ true → not a || c ≡ true → c ≡ true
   register_scalar true b c h k = k
   register_scalar false b c h k = absurd (true≢false (sym h))

@@ -18,8 +18,8 @@ use Rattle.std.proofs.Math.Nat.{one-le-mul, le-mul_of_pos_right}
 use Rattle.std.specs.Prelude.{nat_le, not, ◌==◌}
 use Rattle.c_typing.specs.Plain.{Struct as AStruct, plain, is_complete, is_empty}
 use Rattle.c_typing.specs.Written.{IsDeclared}
-use Rattle.c_typing.specs.Declared.{IsStruct as IsItsStruct}
-use Rattle.c_typing.specs.Accepted.{AllFrom}
+use Rattle.c_typing.specs.Declarations.{IsStruct as IsItsStruct}
+use Rattle.c_typing.specs.Programs.{AllFrom}
 use Rattle.slot_ir.specs.declared.code.SlotCode.{SlotCode}
 use Rattle.slot_ir.specs.declared.code.SlotItem.{SlotItem}
 use Rattle.slot_ir.specs.declared.code.SlotItem.TheVariants as an_item

@@ -15,8 +15,8 @@ use Rattle.c_tree.specs.Layout.{size_of, struct_size_of, members_of, members_in,
 use Rattle.c_tree.specs.Ordered.{width_of, LieIn, AllLaidOut}
 use Rattle.c_typing.specs.Plain.{Plain, Char, Int, Unsigned, Void, Pointer, Array, Struct, plain, is_complete, is_empty}
 use Rattle.c_typing.specs.Written.{IsFormed, IsDeclared}
-use Rattle.c_typing.specs.Declared.{IsStruct}
-use Rattle.c_typing.specs.Accepted.{AllFrom}
+use Rattle.c_typing.specs.Declarations.{IsStruct}
+use Rattle.c_typing.specs.Programs.{AllFrom}
 use Rattle.slot_formed.proofs.Lists.{each_at_zero, and_parts, no_none, some_same}
 
 -- ---- plain types

@@ -18,7 +18,7 @@ use Rattle.c_source.specs.Blocks.{local_type, result_type}
 use Rattle.c_tree.specs.Rows.{declared_in, statements_in}
 use Rattle.c_typing.specs.Plain.{Plain, plain}
 use Rattle.c_typing.specs.Statements.{Around as Stands, in_function, in_loop as looped, in_switch as switched, inside, local_numbers, IsTestOrNone, IsDropped, IsInitializer, AreInitialized, IsStatement, AreStatements, IsElse, IsSwitched, locals_of, locals_of_row, locals_of_else}
-use Rattle.c_typing.specs.Accepted.{numbers, IsBlock, IsAccepted}
+use Rattle.c_typing.specs.Programs.{numbers, IsBlock, KeepsRules}
 use Rattle.slot_ir.specs.declared.code.SlotOp.{SlotOp}
 use Rattle.slot_ir.specs.declared.code.SlotOp.TheVariants as op
 use Rattle.slot_gen.specs.Expressions.{access_of, cast_code, expr_code, unless_register, register_of, if_register, write_at, choice_code}
@@ -52,7 +52,7 @@ registers_none : (x : ℕ) (o : Option ℕ) → if_register x o ≡ None → o �
 registers_none x None e = refl
 registers_none x (Some r) e = no_none x (sym e)
 
-module _ (p : Program) (accepted : IsAccepted p) (ascend : (t : CType) → LieIn 0 (leaves_of p.defs t) (size_of p.defs t)) (f : ℕ) (fn : Function) (here : slice_get p.functions f ≡ Some fn) (n : ℕ) (ends : end_place < n) where
+module _ (p : Program) (accepted : KeepsRules p) (ascend : (t : CType) → LieIn 0 (leaves_of p.defs t) (size_of p.defs t)) (f : ℕ) (fn : Function) (here : slice_get p.functions f ≡ Some fn) (n : ℕ) (ends : end_place < n) where
   abbrev R : Plain
   R = plain fn.result
 

@@ -12,7 +12,7 @@ use Rattle.c_tree.specs.Points.{points_in, points_in_row, points_in_else}
 use Rattle.c_tree.specs.Rows.{declared_in, statements_in}
 use Rattle.c_typing.specs.Plain.{Plain}
 use Rattle.c_typing.specs.Statements.{Around as Stands, in_loop as looped, in_switch as switched, inside, local_numbers, IsStatement, AreStatements, IsElse, IsSwitched}
-use Rattle.c_typing.specs.Accepted.{IsBlock}
+use Rattle.c_typing.specs.Programs.{IsBlock}
 use Rattle.slot_ir.specs.declared.code.SlotOp.{SlotOp}
 use Rattle.slot_ir.specs.declared.code.SlotOp.TheVariants as op
 use Rattle.slot_gen.specs.Expressions.{expr_code, choice_code}

@@ -23,8 +23,8 @@ use Rattle.c_typing.specs.Plain.{Plain, Int, Unsigned, Void, plain, same, is_int
 use Rattle.c_typing.specs.Constants.{is_built, evaluated, operated, truth_of}
 use Rattle.c_typing.specs.Rules.{only, is_movable, binary_type, converts, is_copied, is_compound, is_move, compound_type}
 use Rattle.c_typing.specs.Expressions.{Function as AFunction, Hidden, Scope, object_type, is_lvalue, operand, value, name_type, IsTyped}
-use Rattle.c_typing.specs.Declared.{function_in, built_in, denoted_by, scope_at}
-use Rattle.c_typing.specs.Accepted.{IsAccepted}
+use Rattle.c_typing.specs.Declarations.{function_in, built_in, denoted_by, scope_at}
+use Rattle.c_typing.specs.Programs.{KeepsRules}
 use Rattle.c_store.specs.Store.{Value, Number, World}
 use Rattle.slot_ir.specs.declared.code.Access.{Access}
 use Rattle.slot_ir.specs.declared.code.Access.TheVariants as access
@@ -97,7 +97,7 @@ swap_compares Equal t x y h = let q = and_parts (holds points (t x)) (holds poin
 swap_compares Unequal t x y h = let q = and_parts (holds points (t x)) (holds points (t y)) h in ap (λ b. b && holds points (t x)) q.1 ∙ q.0
 swap_compares _ t x y h = tt
 
-module _ (p : Program) (accepted : IsAccepted p) (c : SlotCode) (f : ℕ) (v : List ℕ) (r : ℕ) (frames : List Frame) (K : ℕ) where
+module _ (p : Program) (accepted : KeepsRules p) (c : SlotCode) (f : ℕ) (v : List ℕ) (r : ℕ) (frames : List Frame) (K : ℕ) where
   abbrev s : Scope
   s = scope_at p f v
 

@@ -19,9 +19,9 @@ use Rattle.c_tree.specs.Points.{first_of, last_of}
 use Rattle.c_typing.specs.Plain.{Plain, plain, is_pointer}
 use Rattle.c_typing.specs.Rules.{converts}
 use Rattle.c_typing.specs.Expressions.{Scope, operand, IsTyped}
-use Rattle.c_typing.specs.Declared.{scope_at, locals_in}
+use Rattle.c_typing.specs.Declarations.{scope_at, locals_in}
 use Rattle.c_typing.specs.Statements.{Around as Stands, in_function, in_loop as looped, in_switch as switched, inside, local_numbers, type_in, type_of_local, IsTestOrNone, IsDropped, IsInitializer, AreInitialized, IsStatement, AreStatements, IsElse, IsSwitched}
-use Rattle.c_typing.specs.Accepted.{numbers, IsBlock, IsAccepted}
+use Rattle.c_typing.specs.Programs.{numbers, IsBlock, KeepsRules}
 use Rattle.c_store.specs.Store.{Value, Number}
 use Rattle.c_store.specs.Frames.{Here, is_free, left}
 use Rattle.runs.specs.Runs.{Next, Goes, Passes, Exits, Undefined, IllTyped, Outcome, Reached, Breaks, after, after_count, past, then_on}
@@ -52,7 +52,7 @@ use Rattle.slot_formed.proofs.Triples.{Gives, Returning, Enters, Runs, Any, Belo
 use Rattle.slot_formed.proofs.Taking.{Result, Kept, Fits, any, unless_runs, write_runs, set_place}
 use Rattle.slot_formed.proofs.Calling.{expr_runs}
 
-module _ (p : Program) (accepted : IsAccepted p) (c : SlotCode) (is : IsProgramCode p c) (f : ℕ) (fn : Function) (here : slice_get p.functions f ≡ Some fn) (r : ℕ) (frames : List Frame) (K : ℕ) (enters : Enters p c K) where
+module _ (p : Program) (accepted : KeepsRules p) (c : SlotCode) (is : IsProgramCode p c) (f : ℕ) (fn : Function) (here : slice_get p.functions f ≡ Some fn) (r : ℕ) (frames : List Frame) (K : ℕ) (enters : Enters p c K) where
   abbrev T : ℕ → (Temps → Type 0) → List SlotOp → (Temps → Temps → Type 0) → Type 0
   T at P l Q = Runs c f r frames K at P l Q
 
@@ -550,7 +550,7 @@ module _ (p : Program) (accepted : IsAccepted p) (c : SlotCode) (is : IsProgramC
 
 -- ---- programs
 
-module _ (p : Program) (accepted : IsAccepted p) (c : SlotCode) (is : IsProgramCode p c) where
+module _ (p : Program) (accepted : KeepsRules p) (c : SlotCode) (is : IsProgramCode p c) where
   enters : (k : ℕ) → Enters p c k
   enters zero j lt g fn there at frames ret h e temps = absurd (omega (arith, lt))
   enters (suc k) j lt g fn there at frames ret h e temps =

@@ -22,8 +22,8 @@ use Rattle.c_tree.specs.Layout.{members_of}
 use Rattle.c_typing.specs.Plain.{Plain, Char, Int, Unsigned, Void, Pointer, Array, Struct, plain, same, is_integer, is_pointer, is_scalar, value_type, is_complete, promoted, common}
 use Rattle.c_typing.specs.Rules.{Operand, value_of, only, may_drop, unary_type, followed, member_type, arrow_type, is_movable, arithmetic_type, sum_type, difference_type, shift_type, order_type, is_nulled, equality_type, binary_type, branches_type, choice_type, cast_type}
 use Rattle.c_typing.specs.Expressions.{Denoted, Object as AnObject, Function as AFunction, Hidden, Scope, object_type, result_type, operand, value, operands, name_type, call_type, is_constant_type, IsTyped}
-use Rattle.c_typing.specs.Declared.{has, function_in, local_in, locals_in, built_in, denoted_by, denoted, scope_at}
-use Rattle.c_typing.specs.Accepted.{IsFunction, IsSymbol, IsAccepted}
+use Rattle.c_typing.specs.Declarations.{has, function_in, local_in, locals_in, built_in, denoted_by, denoted, scope_at}
+use Rattle.c_typing.specs.Programs.{IsFunction, IsSymbol, KeepsRules}
 use Rattle.slot_formed.proofs.Lists.{sum_more, no_none, some_same, each_at_zero, each_of, and_parts, then_some, map_some}
 use Rattle.slot_formed.proofs.Sizes.{Formed, formed, members_declared}
 
@@ -158,7 +158,7 @@ string_room s = next_multiple_of (suc (length s)) 4 + 4
 room_holds : (n : ℕ) → n ≤ next_multiple_of n 4 + 4
 room_holds n = omega arith
 
-module _ (p : Program) (accepted : IsAccepted p) where
+module _ (p : Program) (accepted : KeepsRules p) where
   pub function_there : (g : ℕ) (h : Function) → slice_get p.functions g ≡ Some h → IsFunction p g h
   function_there g h e = each_at_zero (IsFunction p) p.functions g h accepted.functions e
 

@@ -1,7 +1,7 @@
 // What holds of the slot code of accepted programs.
 ghost use Rattle.std.specs.Prelude.{◌≤◌, ◌*◌};
 ghost use Rattle.c_tree.specs.declared.rows.Program.{Program};
-ghost use Rattle.c_typing.specs.Accepted.{IsAccepted};
+ghost use Rattle.c_typing.specs.Programs.{KeepsRules};
 ghost use Rattle.slot_ir.specs.declared.code.SlotCode.{SlotCode};
 ghost use Rattle.slot_ir.specs.WellFormed.{operators_of_a_token, weight_in, IsWellFormed};
 ghost use Rattle.slot_gen.specs.Correct.{IsCodeOf, Lowers};
@@ -26,7 +26,7 @@ pub fn code_of_a_program_is_short()
 
 /// A slot code of an accepted program that is written with at most 40,000 tokens is well formed.
 pub fn code_is_well_formed()
-    ensures { (p : Program) (c : SlotCode) → IsAccepted p → IsProgramCode p c → program_tokens p ≤ 40000 → IsWellFormed c }
+    ensures { (p : Program) (c : SlotCode) → KeepsRules p → IsProgramCode p c → program_tokens p ≤ 40000 → IsWellFormed c }
 {
     code_of_a_program_is_short();
     leaves_ascend();
@@ -36,9 +36,9 @@ pub fn code_is_well_formed()
 
 /// An accepted program has a slot code, and each of them passes the program's stopping points in order, with the same objects, activations, output and exit number, for every input and all assignments made at the stops, up to the program's first undefined step; and it shows nothing else.
 pub fn accepted_code_keeps_the_run()
-    ensures there { (p : Program) → IsAccepted p → IsProgramCode p (program_code p) }
-    ensures rows { (p : Program) (c : SlotCode) → IsAccepted p → IsProgramCode p c → IsCodeOf p c }
-    ensures run { (p : Program) (c : SlotCode) → IsAccepted p → IsProgramCode p c → Lowers p c }
+    ensures there { (p : Program) → KeepsRules p → IsProgramCode p (program_code p) }
+    ensures rows { (p : Program) (c : SlotCode) → KeepsRules p → IsProgramCode p c → IsCodeOf p c }
+    ensures run { (p : Program) (c : SlotCode) → KeepsRules p → IsProgramCode p c → Lowers p c }
 {
     leaves_ascend();
     code_takes_few_temporaries();
@@ -47,7 +47,7 @@ pub fn accepted_code_keeps_the_run()
 
 /// No step of a run of an accepted program's slot code takes a number but 0 as a pointer, for every input and all assignments made at the stops. An integer stands for a pointer only in a null constant, whose code comes to 0; what is read, moved or converted as a pointer is one.
 pub fn numbers_taken_are_zero()
-    ensures { (p : Program) (c : SlotCode) → IsAccepted p → IsProgramCode p c → TakesPointers c }
+    ensures { (p : Program) (c : SlotCode) → KeepsRules p → IsProgramCode p c → TakesPointers c }
 {
     leaves_ascend();
 }
@@ -59,7 +59,7 @@ pub fn calls_stand_behind_their_points()
 
 /// An accepted program can be lowered: its structs stand as the layout has them, its objects hold what their types say, and it has a `main` without parameters.
 pub fn accepted_programs_are_lowerable()
-    ensures { (p : Program) → IsAccepted p → IsLowerable p }
+    ensures { (p : Program) → KeepsRules p → IsLowerable p }
 {
     leaves_ascend();
 }

@@ -1,7 +1,7 @@
 // The slot code of an accepted program.
 ghost use Rattle.std.specs.Prelude.{◌≡◌, ◌≤◌, true, IfOk};
 ghost use Rattle.std.specs.List.{AllByRecursion};
-ghost use Rattle.c_typing.specs.Accepted.{IsAccepted};
+ghost use Rattle.c_typing.specs.Programs.{KeepsRules};
 ghost use Rattle.slot_ir.specs.WellFormed.{IsWellFormed};
 ghost use Rattle.slot_gen.specs.Correct.{Lowers};
 ghost use Rattle.slot_gen.specs.Rows.{HasRowsOf};
@@ -22,7 +22,7 @@ use std::alloc::{AllocError, Global};
 
 /// The slot code of an accepted program that is written with at most 40,000 tokens. It has the program's rows, is well formed, keeps the program's run and takes no number but 0 as a pointer; an activation that waits for a call stands behind the point that it passed last.
 pub fn lower_accepted(alloc: Global, program: &Program) -> Result<SlotCode, AllocError>
-    requires accepted { IsAccepted program.now }
+    requires accepted { KeepsRules program.now }
     requires few { program_tokens program.now ≤ 40000 }
     ensures rows { IfOk result (λ code. HasRowsOf program.now code) }
     ensures formed { IfOk result (λ code. IsWellFormed code) }

@@ -1,6 +1,6 @@
 use Rattle.std.proofs.Common.{◌≡◌, Some, None, Ok, sym, ap, map, subst, ◌∙◌}
 use Rattle.c_typing.specs.Plain.{plain}
-use Rattle.c_typing.specs.Declared.{is_named}
+use Rattle.c_typing.specs.Declarations.{is_named}
 use Rattle.c_scope.specs.Here.{environment_of}
 use Rattle.c_mentions.specs.Tags.{now}
 use Rattle.c_body.specs.Walks.{Walked}

@@ -1,5 +1,5 @@
 use Rattle.std.proofs.Common.{◌≡◌, ◌++◌, ◌∷◌, ◌+◌, ◌-◌, [], suc, sym, ap, ◌∙◌, arith}
-use Rattle.c_typing.specs.Accepted.{numbers}
+use Rattle.c_typing.specs.Programs.{numbers}
 use Rattle.c_file.proofs.RowNumbers.{one_numbered}
 use Rattle.c_file.proofs.function_rows.numbers_from.Goals as goal
 

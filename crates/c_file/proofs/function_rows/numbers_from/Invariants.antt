@@ -1,5 +1,5 @@
 use Rattle.std.proofs.Common.{◌≡◌, ◌++◌}
-use Rattle.c_typing.specs.Accepted.{numbers}
+use Rattle.c_typing.specs.Programs.{numbers}
 use Rattle.c_file.proofs.function_rows.numbers_from.Given as goal
 
 abbrev pub invariant-numbering : goal.invariant-numbering

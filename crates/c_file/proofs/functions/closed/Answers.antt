@@ -1,7 +1,7 @@
 use Rattle.std.proofs.Common.{◌≡◌, ◌++◌, ◌∷◌, ◌+◌, [], map, length, refl, sym, ap, ◌∙◌, arith}
 use Rattle.std.proofs.lemmas.Grind.{common_steps}
 use Rattle.std.proofs.lemmas.List.{length-map}
-use Rattle.c_typing.specs.Accepted.{numbers}
+use Rattle.c_typing.specs.Programs.{numbers}
 use Rattle.c_file.specs.Files.{called_all}
 use Rattle.c_scope.specs.Here.{environment_of}
 use Rattle.c_file.specs.Names.{defining}

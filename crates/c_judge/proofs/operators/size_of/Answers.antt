@@ -2,7 +2,7 @@ use Rattle.std.proofs.Common.{◌∙◌, ap, sym, refl}
 use Rattle.c_symbol.specs.declared.symbol.PrefixOp.TheVariants as prefix
 use Rattle.c_tree.specs.Types.{type_of}
 use Rattle.c_typing.specs.Plain.{plain}
-use Rattle.c_judge.specs.declared.part.Constant.TheVariants.{Number}
+use Rattle.c_typing.specs.declared.constant.Constant.TheVariants.{Number}
 use Rattle.c_judge.specs.Answers.{Known}
 use Rattle.c_judge.specs.Judgement.{sized, folded}
 use Rattle.c_judge.specs.Elaboration.{IsPrefixed}

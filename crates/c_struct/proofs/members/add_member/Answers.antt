@@ -2,7 +2,7 @@ use Rattle.std.proofs.Common.{◌≡◌, ◌∙◌, ap, length, bytes_eq, Some, 
 use Rattle.std.proofs.lemmas.Grind.{common_steps}
 use Rattle.std.specs.Map.{update}
 use Rattle.c_typing.specs.Plain.{plain, is_complete}
-use Rattle.c_typing.specs.Declared.{is_named}
+use Rattle.c_typing.specs.Declarations.{is_named}
 use Rattle.c_defs.specs.Numbers.{number_in}
 use Rattle.c_struct.specs.declared.members.WrittenMember.{WrittenMember}
 use Rattle.c_struct.specs.Structs.{written_names}

@@ -1,7 +1,7 @@
 use Rattle.std.proofs.Common.{[], sym, ap, ◌∙◌}
 use Rattle.c_scope.specs.Table.{names_from}
 use Rattle.c_scope.specs.Tabled.{visible_from}
-use Rattle.c_typing.specs.Declared.{is_named}
+use Rattle.c_typing.specs.Declarations.{is_named}
 use Rattle.c_scope.proofs.Hiding.{here_none, here_some}
 use Rattle.c_scope.proofs.table.Table.is_here.Goals as goal
 

@@ -1,4 +1,4 @@
--- Which checked programs are accepted: every rule holds, and every number names something.
+-- Which checked programs keep the typing rules: every rule holds, and every number names something.
 use Rattle.std.specs.Prelude.{◌≡◌, ℕ, suc, zero, ◌≤◌, ◌<◌, Bool, true, false, not, ◌&&◌, ◌||◌, List, [], ◌∷◌, ◌++◌, length, map, filter, Option, Some, None, slice_get, bytes_eq, codes, ◌==◌}
 use Rattle.std.specs.List.{AllByRecursion}
 use Rattle.c_tree.specs.declared.types.StructDef.{StructDef}
@@ -19,7 +19,7 @@ use Rattle.c_tree.specs.Points.{first_of, last_of}
 use Rattle.c_typing.specs.Plain.{Plain, Int, Array, plain, same, is_scalar}
 use Rattle.c_typing.specs.Expressions.{Denoted, Function as AFunction}
 use Rattle.c_typing.specs.Written.{IsWritten, IsDeclared}
-use Rattle.c_typing.specs.Declared.{has, Differ, IsStruct, built_in, is_result, parameters}
+use Rattle.c_typing.specs.Declarations.{has, Differ, IsStruct, built_in, is_result, parameters}
 use Rattle.c_typing.specs.Statements.{in_function, local_numbers, IsPointWith, IsStatement, locals_of}
 use Rattle.c_typing.specs.Starts.{IsObject, static_room}
 
@@ -144,7 +144,7 @@ module _ (p : Program) where
   names_of_unit u = map function_name (filter (λ f. f.unit == u) p.functions) ++ map object_name (filter (λ o. o.unit == u) p.objects)
 
 -- the checked programs that are accepted
-pub record IsAccepted (p : Program) : Type 0 where
+pub record KeepsRules (p : Program) : Type 0 where
   pub structs : AllFrom (IsStruct p.defs) 0 p.defs
   pub objects : AllByRecursion (IsObject p) p.objects
   pub functions : AllFrom (IsFunction p) 0 p.functions

@@ -10,8 +10,8 @@ use Rattle.c_tree.specs.Layout.{struct_size_of}
 use Rattle.c_operators.specs.Bits.{low_byte, minus_one}
 use Rattle.c_operators.specs.Arithmetic.{on_ints, on_unsigned, truth}
 use Rattle.c_typing.specs.Plain.{Plain, Char, Int, Unsigned, Void, Pointer, Array, Struct, common}
-use Rattle.c_judge.specs.declared.part.Constant.{Constant}
-use Rattle.c_judge.specs.declared.part.Constant.TheVariants.{Variable, Undefined, Number}
+use Rattle.c_typing.specs.declared.constant.Constant.{Constant}
+use Rattle.c_typing.specs.declared.constant.Constant.TheVariants.{Variable, Undefined, Number}
 
 abbrev pub is_unsigned : Plain → Bool
 is_unsigned Unsigned = true
