@@ -60,3 +60,5 @@ mod Denotes
 mod Referents
 mod Assembly
 mod Joined
+mod Places
+mod PlacesKept
