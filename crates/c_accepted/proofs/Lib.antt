@@ -62,3 +62,4 @@ mod Assembly
 mod Joined
 mod Places
 mod PlacesKept
+mod PlacesFound
