@@ -51,8 +51,8 @@ IsWordBegin _ = Unit {0}
 abbrev pub HaveWordBegins : List Begin → Type 0
 HaveWordBegins bs = AllByRecursion IsWordBegin bs
 
-both_words : (as bs : List Begin) → HaveWordBegins as → HaveWordBegins bs → HaveWordBegins (as ++ bs)
-both_words as bs h k = all_both IsWordBegin as bs h k
+both_words : (bs cs : List Begin) → HaveWordBegins bs → HaveWordBegins cs → HaveWordBegins (bs ++ cs)
+both_words bs cs h k = all_both IsWordBegin bs cs h k
 
 zeros_words : (n : ℕ) → HaveWordBegins (replicate n (Bits 0))
 zeros_words zero = tt

@@ -47,7 +47,7 @@ pub record IsBegun (defs : List StructDef) (fs : List FileName) (n : ℕ) (s : S
   pub unit : declaration.unit ≡ s.unit
   pub ctype : Plain
   pub register : Bool
-  pub denotes : declaration.denoted ≡ Object ctype register
+  pub denotes : declaration.denoted ≡ typing.Object ctype register
   pub place : Environment
   pub grows : Grows place.defs defs
   pub sound : AreSound place.defs
