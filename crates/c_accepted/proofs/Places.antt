@@ -1,5 +1,5 @@
 -- The places that an initializer tells are in objects that are declared in its file (C90 6.4, 6.5.7).
-use Rattle.std.proofs.Common.{◌≡◌, ◌⊎◌, inl, inr, refl, sym, ap, ◌∙◌, subst, arith, ℕ, zero, suc, ◌+◌, ◌-◌, ◌*◌, ◌==◌, Bool, true, false, ◌||◌, true≢false, List, [], ◌∷◌, ◌++◌, length, map, drop, replicate, Option, Some, None, bytes_eq, if◌then◌else◌}
+use Rattle.std.proofs.Common.{◌≡◌, ◌⊎◌, inl, inr, refl, sym, ap, ◌∙◌, subst, arith, ℕ, zero, suc, ◌-◌, ◌*◌, ◌==◌, Bool, true, false, ◌||◌, List, [], ◌∷◌, ◌++◌, length, map, drop, replicate, Option, Some, None, bytes_eq, if◌then◌else◌}
 use Rattle.std.specs.Prelude.{nat_le, slice_get, option_map, option_and_then}
 use Rattle.std.specs.List.{AllByRecursion}
 use Rattle.std.proofs.lemmas.Slice.Eq.{bytes_eq-Decides}
@@ -30,7 +30,7 @@ use Rattle.c_file.specs.Files.{Awaited}
 use Rattle.c_accepted.specs.Grown.{IsMade, Grows}
 use Rattle.c_accepted.proofs.Growth.{both_parts, complete_grows, size_grows}
 use Rattle.c_accepted.proofs.Walked.{two_parts}
-use Rattle.c_accepted.proofs.Names.{all_last, all_as}
+use Rattle.c_accepted.proofs.Names.{all_last}
 use Rattle.c_accepted.proofs.Values.{spotted, or_right}
 
 -- ---- lists

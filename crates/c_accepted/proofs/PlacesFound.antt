@@ -1,12 +1,11 @@
 -- Each place that an object of a program begins with is in an object of the program, or its end.
-use Rattle.std.proofs.Common.{◌≡◌, ◌≤◌, ◌⊎◌, inl, inr, refl, sym, ap, ◌∙◌, subst, arith, ℕ, zero, suc, ◌*◌, ◌==◌, Bool, true, false, not, ◌&&◌, ◌||◌, true≢false, List, [], ◌∷◌, map, replicate, Option, Some, None, bytes_eq, ⊎_elim, if◌then◌else◌}
+use Rattle.std.proofs.Common.{◌≡◌, ◌≤◌, ◌⊎◌, inl, inr, refl, sym, ap, ◌∙◌, subst, arith, ℕ, zero, suc, ◌*◌, ◌==◌, Bool, true, false, not, ◌&&◌, ◌||◌, true≢false, List, [], ◌∷◌, map, replicate, Some, None, bytes_eq, ⊎_elim, if◌then◌else◌}
 use Rattle.std.specs.Prelude.{nat_le, nat_lt, slice_get}
 use Rattle.std.specs.List.{AllByRecursion}
 use Rattle.std.proofs.lemmas.Bool.{or_cases, eqb-true}
 use Rattle.std.proofs.lemmas.Slice.Eq.{bytes_eq-Decides}
 use Rattle.c_tree.specs.declared.rows.Program.{Program}
 use Rattle.c_tree.specs.declared.rows.ObjectRow.{ObjectRow}
-use Rattle.c_tree.specs.Layout as layout
 use Rattle.c_typing.specs.Plain.{Plain, Char, Int, Unsigned, Void, Pointer, Array, Struct, plain}
 use Rattle.c_typing.specs.Values.{size_of}
 use Rattle.c_typing.specs.Expressions.{Denoted, Object, Function, Hidden}
@@ -14,10 +13,10 @@ use Rattle.c_judge.specs.Answers.{Broken}
 use Rattle.c_judge.proofs.Sizes.{size_of_plain}
 use Rattle.c_scope.specs.Findings.{nothing, holds}
 use Rattle.c_initial.specs.Begins.{Begin, Bits, Within, Text}
-use Rattle.c_file.specs.Names.{FileName, Defining, is_here, is_external, is_same}
+use Rattle.c_file.specs.Names.{FileName, Defining, is_here, is_external}
 use Rattle.c_file.specs.Telling.{is_unbounded, is_open}
 use Rattle.c_file.specs.Files.{State, Started, Awaited}
-use Rattle.c_file.specs.Programs.{Well, in_file, ◌before◌, bound_in, greatest_bound, late_found, uncalled}
+use Rattle.c_file.specs.Programs.{Well, in_file, bound_in, greatest_bound, late_found, uncalled}
 use Rattle.c_file.specs.Made.{Each, IsObjectOf, started, begins_in, object_number, objects_from, or_zero}
 use Rattle.c_accepted.specs.Declarations.{AreDeclared, IsWholeIn}
 use Rattle.c_accepted.specs.Wanted.{AreSought}

@@ -1,5 +1,5 @@
 -- Each external declaration keeps what is known of the places that the objects of a program begin with.
-use Rattle.std.proofs.Common.{◌≡◌, ◌≤◌, ◌⊎◌, inl, inr, refl, sym, ap, ◌∙◌, subst, arith, ℕ, zero, suc, ◌==◌, Bool, true, false, ◌&&◌, true≢false, List, [], ◌∷◌, ◌++◌, length, map, append_assoc, Option, Some, None, bytes_eq, codes, if◌then◌else◌}
+use Rattle.std.proofs.Common.{◌≡◌, ◌≤◌, ◌⊎◌, inl, inr, refl, sym, ap, ◌∙◌, subst, arith, ℕ, zero, suc, ◌==◌, Bool, true, false, true≢false, List, [], ◌∷◌, ◌++◌, length, map, append_assoc, Option, Some, None, bytes_eq, codes, if◌then◌else◌}
 use Rattle.std.specs.Prelude.{slice_get}
 use Rattle.std.specs.List.{AllByRecursion}
 use Rattle.std.proofs.lemmas.Bool.{eqb-true}
@@ -23,7 +23,7 @@ use Rattle.c_scope.specs.Environment.{Environment, Row, Visible, enter, innermos
 use Rattle.c_scope.specs.Declarators.{Shape, Object, Function, parameter_type, shape}
 use Rattle.c_scope.specs.Findings.{Fine, nothing}
 use Rattle.c_initial.specs.Initials.{Late, initial_found, late_in}
-use Rattle.c_initial.specs.Begins.{Begin, begins_of}
+use Rattle.c_initial.specs.Begins.{begins_of}
 use Rattle.c_body.specs.Bodies.{after}
 use Rattle.c_body.specs.Stops.{inside_block}
 use Rattle.c_file.specs.Names.{FileName, bounded_one, composite, is_here, name_found, told_before}
@@ -43,14 +43,14 @@ use Rattle.c_accepted.proofs.Types.{IsDenotedIn}
 use Rattle.c_accepted.proofs.Bounds.{standing_named}
 use Rattle.c_accepted.proofs.Wholes.{plain_complete}
 use Rattle.c_accepted.proofs.Typed.{whole, grows_to, grows_more}
-use Rattle.c_accepted.proofs.Walked.{Stands, Goes, all_keep, function_keeps, what_keeps, two_parts, first_known, unbroken, behind_one}
+use Rattle.c_accepted.proofs.Walked.{Stands, Goes, all_keep, what_keeps, two_parts, first_known, unbroken, behind_one}
 use Rattle.c_accepted.proofs.Keeps.{Keeps, keeps_on, after_keeps}
 use Rattle.c_accepted.proofs.Bodied.{parameters_keep}
 use Rattle.c_accepted.proofs.Names.{all_last, all_as}
 use Rattle.c_accepted.proofs.Scopes.{first_there}
 use Rattle.c_accepted.proofs.Differing.{all_at}
 use Rattle.c_accepted.proofs.Objects.{complete_bounded}
-use Rattle.c_accepted.proofs.Places.{AreAmong, IsDeclaredAs, IsAwaited, AreAwaited, IsSet, IsShown, declared_more, set_more, initial_set}
+use Rattle.c_accepted.proofs.Places.{AreAmong, IsDeclaredAs, AreAwaited, IsSet, IsShown, declared_more, set_more, initial_set}
 
 -- ---- lists
 
@@ -142,6 +142,10 @@ starts_more : (before behind : List StructDef) → Grows before behind → (fs g
 starts_more before behind g fs gs names ls ms places ss h =
     all_as (AreSet before fs ls) (AreSet behind gs ms) (λ s k. all_as (IsSet before fs ls s.unit) (IsSet behind gs ms s.unit) (set_more before behind g fs gs names ls ms places s.unit) s.begins k) ss h
 
+-- the built-ins stay the first names
+still_first : (rows others more rest : List Row) → others ≡ rows ++ more → rows ≡ built_in_rows ++ rest → others ≡ built_in_rows ++ (rest ++ more)
+still_first rows others more rest e h = e ∙ ap (λ xs. xs ++ more) h ∙ append_assoc built_in_rows rest more
+
 -- ---- one name more
 
 module _ (defs : List StructDef) (same : Grows defs defs) where
@@ -154,7 +158,7 @@ module _ (defs : List StructDef) (same : Grows defs defs) where
         names = (k, n.names);
         shown = (new, shown_more p.names (f ∷ p.names) p.here.unit p.here.names (row ∷ []) p.here.visible (one_among p.names f) n.shown);
         rest = n.rest ++ row ∷ [];
-        first = ap (λ xs. xs ++ row ∷ []) n.first ∙ append_assoc built_in_rows n.rest (row ∷ []);
+        first = still_first p.here.names (p.here.names ++ row ∷ []) (row ∷ []) n.rest refl n.first;
         starts = starts_more defs defs same p.names (f ∷ p.names) (one_among p.names f) p.late p.late (all_among p.late) p.starts n.starts;
       }
 
@@ -255,7 +259,7 @@ module _ (defs : List StructDef) (same : Grows defs defs) where
           shown = subst (λ rows. AllByRecursion (IsShown q.names q.here.unit rows) c.here.visible) (sym k.names)
               (subst (λ u. AllByRecursion (IsShown q.names u (c.here.names ++ k.more)) c.here.visible) (sym k.unit) (shown_more q.names q.names c.here.unit c.here.names k.more c.here.visible (all_among q.names) o.shown));
           rest = o.rest ++ k.more;
-          first = k.names ∙ ap (λ xs. xs ++ k.more) o.first ∙ append_assoc built_in_rows o.rest k.more;
+          first = still_first c.here.names q.here.names k.more o.rest k.names o.first;
           starts = o.starts;
         }
 
