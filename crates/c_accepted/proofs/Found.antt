@@ -120,7 +120,7 @@ number_self n = grind arith
 text_self : (s : List ℕ) → bytes_eq s s ≡ true
 text_self s = (bytes_eq-Decides s s).1 refl
 
-not_true : (b : Bool) → not b ≡ true → b ≡ false
+pub not_true : (b : Bool) → not b ≡ true → b ≡ false
 not_true false h = refl
 not_true true h = absurd (true≢false (sym h))
 

@@ -50,7 +50,7 @@ behind_all : {A : Type 0} (P : A → Type 0) (xs ys : List A) → AllByRecursion
 behind_all P [] ys h = h
 behind_all P (x ∷ xs) ys h = behind_all P xs ys h.1
 
-there_in : {A : Type 0} (xs : List A) (y : A) (ys : List A) → slice_get (xs ++ y ∷ ys) (length xs) ≡ Some y
+pub there_in : {A : Type 0} (xs : List A) (y : A) (ys : List A) → slice_get (xs ++ y ∷ ys) (length xs) ≡ Some y
 there_in [] y ys = refl
 there_in (x ∷ xs) y ys = there_in xs y ys
 
