@@ -16,7 +16,6 @@ use Rattle.c_typing.specs.Written.{IsWritten}
 use Rattle.c_typing.specs.Expressions.{Function}
 use Rattle.c_typing.specs.Declarations.{has, is_result}
 use Rattle.c_typing.specs.Programs.{IsFunction, AreScalars, IsLocal}
-use Rattle.c_mentions.specs.Literals.{in_tree}
 use Rattle.c_mentions.specs.Tags as tags
 use Rattle.c_scope.specs.Environment.{Environment, struct_of}
 use Rattle.c_scope.specs.Declarators.{Parameter, parameter_type}
