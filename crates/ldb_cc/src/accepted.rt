@@ -5,7 +5,7 @@ ghost use Rattle.c_typing.specs.Programs.{KeepsRules};
 ghost use Rattle.slot_formed.specs.Tokens.{program_tokens};
 ghost use Rattle.ldb_cc.specs.Sources.{IsProgram};
 
-use c_accepted::{checked_programs_keep_the_rules, files_are_texts};
+use c_accepted::{checked_programs_are_accepted, files_are_texts};
 use c_lex::one_reading;
 use c_tokens::programs_have_few_tokens;
 
@@ -14,7 +14,7 @@ pub fn programs_of_sources()
     ensures rules { (names texts : List (List ℕ)) (p : Program) → length names ≡ length texts → IsProgram names texts p → KeepsRules p }
     ensures few { (names texts : List (List ℕ)) (p : Program) → IsProgram names texts p → program_tokens p ≤ 40000 }
 {
-    checked_programs_keep_the_rules();
+    checked_programs_are_accepted();
     files_are_texts();
     programs_have_few_tokens();
     one_reading();
