@@ -19,7 +19,6 @@ use Rattle.c_tree.specs.declared.typed.UnaryOp.TheVariants.{Plus, Minus, Complem
 use Rattle.c_tree.specs.declared.typed.Typed.{Typed}
 use Rattle.c_tree.specs.declared.typed.Typed.TheVariants.{Comma', Assign', Choice', Or', And', Binary', Cast', Before', Address', Follow', Unary', SizeOf', SizeOfType, Index', Dot', Arrow', After', Name, Constant, Literal, Parens'}
 use Rattle.c_tree.specs.declared.types.StructDef.{StructDef}
-use Rattle.c_tree.specs.Types.{type_of}
 use Rattle.c_typing.specs.Plain.{Plain, Char, Array, Int, Unsigned, plain, value_type, is_integer}
 use Rattle.c_typing.specs.Written.{IsWritten}
 use Rattle.c_typing.specs.Rules.{unary_type, followed, address_type, dot_type, arrow_type, index_type, binary_type, assignment_type, compound_type, step_type, logical_type, choice_type, comma_type, cast_type, size_type, may_drop}
