@@ -24,7 +24,7 @@ use Rattle.c_accepted.specs.Grown.{Grows}
 use Rattle.c_check.specs.Faulty.{Accepts}
 use Rattle.c_accepted.specs.Asked.{CallsAreThere}
 use Rattle.c_accepted.specs.Wanted.{AreSought}
-use Rattle.c_accepted.specs.Starting.{ObjectsHaveWords, PlacesAreThere}
+use Rattle.c_accepted.specs.Starting.{ObjectsHaveWords}
 use Rattle.c_accepted.proofs.AllTags.{tags_there}
 use Rattle.c_accepted.proofs.Structs.{structs_keep}
 use Rattle.c_accepted.proofs.Walked.{Stands, first_stands}
@@ -42,6 +42,8 @@ use Rattle.c_accepted.proofs.Given.{all_give}
 use Rattle.c_accepted.proofs.Symbols.{IsReferentOf, all_symbols}
 use Rattle.c_accepted.proofs.Wanted.{external_sought}
 use Rattle.c_accepted.proofs.Entries.{Entry}
+use Rattle.c_accepted.proofs.PlacesKept.{ArePlaced, external_placed, begins_placed, first_placed, next_placed}
+use Rattle.c_accepted.proofs.PlacesFound.{places_there}
 use Rattle.c_accepted.proofs.Denotes.{AreTold, external_told, first_told, next_told}
 use Rattle.c_accepted.proofs.Referents.{calls_there, referents_there}
 use Rattle.c_accepted.proofs.Differing.{Chooses, mains, rows_for, IsRowFor, main_there, all_differ, function_names, object_names}
@@ -137,6 +139,17 @@ sought_behind us q h =
     (walk_files (tags_of us) NoMore AreSought AreSought (λ p e q s t w i g n. external_sought p e q i n) (λ p s n. n) (λ p s n. n)
     us (at_first (tags_of us)) Well q (first_stands (tags_of us), tt) (tags_there us) (none_more us) h refl).1
 
+abbrev PlacedNow : State → Type 0
+PlacedNow p = ArePlaced (whole p) p
+
+abbrev PlacedBefore : State → Type 0
+PlacedBefore p = ArePlaced p.others p
+
+pub placed_behind : (us : List (List External)) (q : State) → AllFiles (tags_of us) (at_first (tags_of us)) us Well q → ArePlaced q.others q
+placed_behind us q h =
+    (walk_files (tags_of us) NoMore PlacedNow PlacedBefore (λ p e q s t w i g n. external_placed (tags_of us) p e q s t i g n) (λ p s n. begins_placed (tags_of us) p s n) (λ p s n. next_placed (tags_of us) p n)
+    us (at_first (tags_of us)) Well q (first_stands (tags_of us), first_placed (tags_of us)) (tags_there us) (none_more us) h refl).1
+
 pub told_behind : (us : List (List External)) (q : State) → AllFiles (tags_of us) (at_first (tags_of us)) us Well q → AreTold q
 told_behind us q h =
     (walk_files (tags_of us) NoMore AreTold AreTold (λ p e q s t w i g n. external_told (tags_of us) p e q s t i n) (λ p s n. n) (λ p s n. next_told (tags_of us) p n)
@@ -219,6 +232,9 @@ module _ (names : List (List ℕ)) (us : List (List External)) (p : Program) (a 
   given =
       all_give p a.behind stands.1.declared.consistent (ap length (sym a.rows.strings)) begun a.behind.definitions wholes
 
+  known_places : ArePlaced p.defs a.behind
+  known_places = subst (λ ds. ArePlaced ds a.behind) (sym a.rows.defs) (placed_behind us a.behind a.files)
+
   module _ (units : ℕ) (entries : (i : ℕ) (b : Bodied) → slice_get a.behind.bodies i ≡ Some b → Entry units a.behind.others a.behind i b) where
     told : AreTold a.behind
     told = told_behind us a.behind a.files
@@ -229,11 +245,12 @@ module _ (names : List (List ℕ)) (us : List (List External)) (p : Program) (a 
     referents : AllByRecursion (IsReferentOf p a.behind) a.behind.here.names
     referents = referents_there names p a.behind a.rows stands.1.declared (sought_behind us a.behind a.files) no_fault.called wholes told units entries 0 a.behind.here.names typed.scope.rows told.rows
 
-    -- the program is accepted where its functions are, and the numbers and places that objects begin with
-    pub assembled : ObjectsHaveWords p → PlacesAreThere p → AllFrom (IsFunction p) 0 p.functions → KeepsRules p
-    assembled words places functions = record {
+    -- the program is accepted where its functions are, and the numbers that objects begin with
+    pub assembled : ObjectsHaveWords p → AllFrom (IsFunction p) 0 p.functions → KeepsRules p
+    assembled words functions = record {
       structs = structs;
-      objects = objects (all_begun p a.behind a.rows.defs (objects_from [] a.behind.definitions) p.objects given a.rows.objects words places);
+      objects = objects (all_begun p a.behind a.rows.defs (objects_from [] a.behind.definitions) p.objects given a.rows.objects words
+          (places_there p a.behind stands.1.declared (sought_behind us a.behind a.files) no_fault.called wholes a.rows.objects known_places no_fault.well));
       functions = functions;
       symbols = all_symbols p a.behind sound 0 a.behind.here.names p.symbols typed.scope.rows referents a.rows.symbols;
       points = points_kept a.behind names p a.rows typed.stops;

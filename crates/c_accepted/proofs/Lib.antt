@@ -60,3 +60,6 @@ mod Denotes
 mod Referents
 mod Assembly
 mod Joined
+mod Places
+mod PlacesKept
+mod PlacesFound

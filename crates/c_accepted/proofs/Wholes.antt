@@ -74,7 +74,7 @@ bounded_complete v b Void at z h k = holds_known false 1 at z h
 bounded_complete v b (Pointer t) at z h k = refl
 bounded_complete v b (Struct s) at z h k = holds_known (is_complete v.defs (Struct s)) 1 at z h
 
-plain_complete : (v : Environment) (u : Plain) (at : ℕ) (z : Fine) → may_stand v false u at ≡ Known z → is_complete v.defs u ≡ true
+pub plain_complete : (v : Environment) (u : Plain) (at : ℕ) (z : Fine) → may_stand v false u at ≡ Known z → is_complete v.defs u ≡ true
 plain_complete v (Array t zero) at z h = absurd (true≢false (sym (holds_known false 2 at z h)))
 plain_complete v (Array t (suc n)) at z h = bounded_complete v false (Array t (suc n)) at z h refl
 plain_complete v Char at z h = refl
