@@ -21,7 +21,7 @@ use Rattle.c_operators.specs.Bits.{low_byte}
 use Rattle.c_defs.specs.Depths.{deepest}
 use Rattle.c_defs.specs.Leaves.{leaf_count, leaves_of_members}
 use Rattle.c_accepted.specs.Grown.{ctype_of, IsHeld, Grows}
-use Rattle.c_accepted.specs.Starting.{IsWordStart}
+use Rattle.c_accepted.proofs.Starting.{IsWordStart}
 use Rattle.c_accepted.proofs.Growth.{both_parts, not_empty}
 
 -- ---- kinds

@@ -13,7 +13,7 @@ use Rattle.c_typing.specs.declared.constant.Constant.TheVariants.{Number}
 use Rattle.c_judge.specs.Answers.{Known, Broken}
 use Rattle.c_typing.specs.Values as values
 use Rattle.c_judge.specs.Judgement.{Judged, value_type_of, folded, by_rule, sized, register_of}
-use Rattle.c_accepted.specs.Words.{HasWords}
+use Rattle.c_accepted.proofs.Words.{HasWords}
 use Rattle.c_accepted.proofs.Known.{never, one_known, then_known, ruled, only_this}
 
 pub register_same : (o : Option Denoted) → typing.register_in o ≡ register_of o
