@@ -19,12 +19,11 @@ use Rattle.c_file.specs.Programs.{Told, Well, Lacks, Breaks, Fault, Rule, Twice,
 use Rattle.c_file.specs.Made.{Each, bodies_of, objects_from}
 use Rattle.c_accepted.specs.Completed.{AreSound}
 use Rattle.c_accepted.specs.Declarations.{AreDeclared, IsWholeIn}
-use Rattle.c_accepted.specs.Begun.{IsOfGrammar}
+use Rattle.c_accepted.specs.Sources.{IsText, AreTexts}
 use Rattle.c_accepted.specs.Grown.{Grows}
 use Rattle.c_check.specs.Faulty.{Accepts}
 use Rattle.c_accepted.specs.Asked.{CallsAreThere}
 use Rattle.c_accepted.specs.Wanted.{AreSought}
-use Rattle.c_accepted.specs.Starting.{ObjectsHaveWords, PlacesAreThere}
 use Rattle.c_accepted.proofs.AllTags.{tags_there}
 use Rattle.c_accepted.proofs.Structs.{structs_keep}
 use Rattle.c_accepted.proofs.Walked.{Stands, first_stands}
@@ -38,10 +37,12 @@ use Rattle.c_accepted.proofs.Completing.{extended, no_more}
 use Rattle.c_accepted.proofs.Merged.{merged_sound}
 use Rattle.c_accepted.proofs.Started.{AreBegun, external_begun, begins_begun}
 use Rattle.c_accepted.proofs.Begun.{AllGive, all_begun}
-use Rattle.c_accepted.proofs.Given.{all_give}
+use Rattle.c_accepted.proofs.Given.{all_give, words_given}
 use Rattle.c_accepted.proofs.Symbols.{IsReferentOf, all_symbols}
 use Rattle.c_accepted.proofs.Wanted.{external_sought}
 use Rattle.c_accepted.proofs.Entries.{Entry}
+use Rattle.c_accepted.proofs.PlacesKept.{ArePlaced, external_placed, begins_placed, first_placed, next_placed}
+use Rattle.c_accepted.proofs.PlacesFound.{places_there}
 use Rattle.c_accepted.proofs.Denotes.{AreTold, external_told, first_told, next_told}
 use Rattle.c_accepted.proofs.Referents.{calls_there, referents_there}
 use Rattle.c_accepted.proofs.Differing.{Chooses, mains, rows_for, IsRowFor, main_there, all_differ, function_names, object_names}
@@ -113,9 +114,9 @@ WholeNow p = AreWhole (whole p) p
 abbrev WholeBefore : State → Type 0
 WholeBefore p = AreWhole p.others p
 
-pub whole_behind : (us : List (List External)) (q : State) → AllByRecursion (AllByRecursion IsOfGrammar) us → AllFiles (tags_of us) (at_first (tags_of us)) us Well q → AreWhole q.others q
+pub whole_behind : (us : List (List External)) (q : State) → AreTexts us → AllFiles (tags_of us) (at_first (tags_of us)) us Well q → AreWhole q.others q
 whole_behind us q w h =
-    (walk_files (tags_of us) IsOfGrammar WholeNow WholeBefore (λ p e q s t w i g n. external_whole (tags_of us) p e q s w.0 i g n) (λ p s n. begins_whole (tags_of us) p s n) (λ p s n. n)
+    (walk_files (tags_of us) IsText WholeNow WholeBefore (λ p e q s t w i g n. external_whole (tags_of us) p e q s w i g n) (λ p s n. begins_whole (tags_of us) p s n) (λ p s n. n)
     us (at_first (tags_of us)) Well q (first_stands (tags_of us), tt) (tags_there us) w h refl).1
 
 abbrev BegunNow : State → Type 0
@@ -127,15 +128,26 @@ BegunBefore p = AreBegun p.others p
 same_whole : (tags : List (List ℕ)) (q : State) → Stands tags q → Grows (whole q) (whole q)
 same_whole tags q s = extended (whole q) (whole q) (merged_sound q.others q.here.defs s.here.pairs s.here.sound s.others s.here.agree) (no_more (whole q))
 
-pub begun_behind : (us : List (List External)) (q : State) → AllByRecursion (AllByRecursion IsOfGrammar) us → AllFiles (tags_of us) (at_first (tags_of us)) us Well q → AreBegun q.others q
+pub begun_behind : (us : List (List External)) (q : State) → AreTexts us → AllFiles (tags_of us) (at_first (tags_of us)) us Well q → AreBegun q.others q
 begun_behind us q w h =
-    (walk_files (tags_of us) IsOfGrammar BegunNow BegunBefore (λ p e q s t w i g n. external_begun (tags_of us) (same_whole (tags_of us)) p e q s t w i g n) (λ p s n. begins_begun (tags_of us) p s n) (λ p s n. n)
+    (walk_files (tags_of us) IsText BegunNow BegunBefore (λ p e q s t w i g n. external_begun (tags_of us) (same_whole (tags_of us)) p e q s t w i g n) (λ p s n. begins_begun (tags_of us) p s n) (λ p s n. n)
     us (at_first (tags_of us)) Well q (first_stands (tags_of us), tt) (tags_there us) w h refl).1
 
 pub sought_behind : (us : List (List External)) (q : State) → AllFiles (tags_of us) (at_first (tags_of us)) us Well q → AreSought q
 sought_behind us q h =
     (walk_files (tags_of us) NoMore AreSought AreSought (λ p e q s t w i g n. external_sought p e q i n) (λ p s n. n) (λ p s n. n)
     us (at_first (tags_of us)) Well q (first_stands (tags_of us), tt) (tags_there us) (none_more us) h refl).1
+
+abbrev PlacedNow : State → Type 0
+PlacedNow p = ArePlaced (whole p) p
+
+abbrev PlacedBefore : State → Type 0
+PlacedBefore p = ArePlaced p.others p
+
+pub placed_behind : (us : List (List External)) (q : State) → AllFiles (tags_of us) (at_first (tags_of us)) us Well q → ArePlaced q.others q
+placed_behind us q h =
+    (walk_files (tags_of us) NoMore PlacedNow PlacedBefore (λ p e q s t w i g n. external_placed (tags_of us) p e q s t i g n) (λ p s n. begins_placed (tags_of us) p s n) (λ p s n. next_placed (tags_of us) p n)
+    us (at_first (tags_of us)) Well q (first_stands (tags_of us), first_placed (tags_of us)) (tags_there us) (none_more us) h refl).1
 
 pub told_behind : (us : List (List External)) (q : State) → AllFiles (tags_of us) (at_first (tags_of us)) us Well q → AreTold q
 told_behind us q h =
@@ -163,7 +175,7 @@ chooses_file n u v s t x y w =
     let e : u ≡ v = eqb-true u n x ∙ sym (eqb-true v n y) in
     absurd (true≢false (sym (same_number v) ∙ ap (λ m. m == v) (sym e) ∙ w))
 
-module _ (names : List (List ℕ)) (us : List (List External)) (p : Program) (a : Accepts names us p) (many : length names ≡ length us) (items : AllByRecursion (AllByRecursion IsOfGrammar) us) where
+module _ (names : List (List ℕ)) (us : List (List External)) (p : Program) (a : Accepts names us p) (many : length names ≡ length us) (texts : AreTexts us) where
   stands : Stands (tags_of us) a.behind × AreOfFiles (tags_of us) a.behind
   stands = declared_behind us a.behind a.files
 
@@ -203,7 +215,7 @@ module _ (names : List (List ℕ)) (us : List (List External)) (p : Program) (a 
       omega (arith, e, f, many)
 
   wholes : AllByRecursion (IsWholeIn p.defs a.behind.names) a.behind.definitions
-  wholes = subst (λ ds. AllByRecursion (IsWholeIn ds a.behind.names) a.behind.definitions) (sym a.rows.defs) (whole_behind us a.behind items a.files)
+  wholes = subst (λ ds. AllByRecursion (IsWholeIn ds a.behind.names) a.behind.definitions) (sym a.rows.defs) (whole_behind us a.behind texts a.files)
 
   placed : AllByRecursion (IsPlaced p a.behind) (objects_from [] a.behind.definitions)
   placed =
@@ -213,11 +225,14 @@ module _ (names : List (List ℕ)) (us : List (List External)) (p : Program) (a 
   objects starts = objects_kept p a.behind stands.1.declared.consistent typed stands.1.before sound files (objects_from [] a.behind.definitions) p.objects placed a.rows.objects starts
 
   pub begun : AreBegun p.defs a.behind
-  begun = subst (λ ds. AreBegun ds a.behind) (sym a.rows.defs) (begun_behind us a.behind items a.files)
+  begun = subst (λ ds. AreBegun ds a.behind) (sym a.rows.defs) (begun_behind us a.behind texts a.files)
 
   given : AllByRecursion (AllGive p a.behind) (objects_from [] a.behind.definitions)
   given =
       all_give p a.behind stands.1.declared.consistent (ap length (sym a.rows.strings)) begun a.behind.definitions wholes
+
+  known_places : ArePlaced p.defs a.behind
+  known_places = subst (λ ds. ArePlaced ds a.behind) (sym a.rows.defs) (placed_behind us a.behind a.files)
 
   module _ (units : ℕ) (entries : (i : ℕ) (b : Bodied) → slice_get a.behind.bodies i ≡ Some b → Entry units a.behind.others a.behind i b) where
     told : AreTold a.behind
@@ -229,11 +244,12 @@ module _ (names : List (List ℕ)) (us : List (List External)) (p : Program) (a 
     referents : AllByRecursion (IsReferentOf p a.behind) a.behind.here.names
     referents = referents_there names p a.behind a.rows stands.1.declared (sought_behind us a.behind a.files) no_fault.called wholes told units entries 0 a.behind.here.names typed.scope.rows told.rows
 
-    -- the program is accepted where its functions are, and the numbers and places that objects begin with
-    pub assembled : ObjectsHaveWords p → PlacesAreThere p → AllFrom (IsFunction p) 0 p.functions → KeepsRules p
-    assembled words places functions = record {
+    -- the program is accepted where its functions are
+    pub assembled : AllFrom (IsFunction p) 0 p.functions → KeepsRules p
+    assembled functions = record {
       structs = structs;
-      objects = objects (all_begun p a.behind a.rows.defs (objects_from [] a.behind.definitions) p.objects given a.rows.objects words places);
+      objects = objects (all_begun p a.behind a.rows.defs (objects_from [] a.behind.definitions) p.objects given a.rows.objects (words_given p.defs a.behind begun (objects_from [] a.behind.definitions) p.objects a.rows.objects)
+          (places_there p a.behind stands.1.declared (sought_behind us a.behind a.files) no_fault.called wholes a.rows.objects known_places no_fault.well));
       functions = functions;
       symbols = all_symbols p a.behind sound 0 a.behind.here.names p.symbols typed.scope.rows referents a.rows.symbols;
       points = points_kept a.behind names p a.rows typed.stops;

@@ -13,8 +13,8 @@ use Rattle.c_initial.specs.Begins.{Bits, zeros}
 use Rattle.c_file.specs.Names.{Defining}
 use Rattle.c_file.specs.Files.{State, Started}
 use Rattle.c_file.specs.Made.{Each, IsObjectOf, object_type, started, begins_in}
-use Rattle.c_accepted.specs.Starting.{IsWordStart, IsPlaceStart}
-use Rattle.c_accepted.proofs.KindsOfLeaves.{kinds_of, Hold, starts_of, zeros_hold}
+use Rattle.c_accepted.proofs.Starting.{IsWordStart}
+use Rattle.c_accepted.proofs.KindsOfLeaves.{kinds_of, Hold, IsPlaceStart, starts_of, zeros_hold}
 
 -- an initializer gives the object of its name what its leaves hold
 abbrev pub GivesLeaves : Program → State → Defining → Started → Type 0

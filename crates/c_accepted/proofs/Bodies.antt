@@ -22,7 +22,7 @@ use Rattle.c_file.specs.Names.{name_found, as_built_in, as_main, one_linkage, on
 use Rattle.c_file.specs.Files.{State, with_name, with_head, with_spec, after_all, function_row, body_environment, function_found, behind_body, after_function, are_named, Externals, AllExternals, Onward}
 use Rattle.c_file.specs.Programs.{Told, Well, Breaks, in_file, ◌before◌, built_ins, built_in_rows, next_file, at_first, AllFiles, takes_many}
 use Rattle.c_accepted.specs.Grown.{Grows}
-use Rattle.c_accepted.specs.Sources.{IsInOrder, AllIn}
+use Rattle.c_accepted.specs.Sources.{IsBody}
 use Rattle.c_accepted.proofs.Known.{never}
 use Rattle.c_accepted.proofs.Keeps.{keeps_on, after_keeps}
 use Rattle.c_accepted.proofs.Bodied.{parameters_keep}
@@ -30,7 +30,6 @@ use Rattle.c_accepted.proofs.Statements.{beside_known}
 use Rattle.c_accepted.proofs.Labels.{holds_known}
 use Rattle.c_accepted.proofs.Declarators as declarators
 use Rattle.c_accepted.proofs.Declarators.{few_parameters}
-use Rattle.c_accepted.proofs.Keeping.{IsApart}
 use Rattle.c_accepted.proofs.Shapes.{AreTags, both_tags}
 use Rattle.c_accepted.proofs.Inside.{Behind, specified}
 use Rattle.c_accepted.proofs.Completing.{extended, no_more}
@@ -84,10 +83,10 @@ module _ (tags : List (List ℕ)) where
   Between n p = (p.here.unit ≡ n) × Inv n p.others p
 
   define : (n : ℕ) (p q : State) (s : Storage) (h : FileSpec) (d : DeclaratorTree) (x : StatementTree) (v : Environment) (u : Plain) (y : Shape) → Stands tags p → Goes tags p q → v ≡ record p.here { defs = v.defs } → Behind p.others p.here v u
-      → function_found s d x (with_spec p h v) y ≡ nothing → q ≡ after_function s d x (with_spec p h v) y → shape v d u ≡ Known y → AreTags tags (in_declarator d) → AreTags tags (in_statement x) → IsInOrder x → AllIn IsApart x → takes_many d ≡ false
+      → function_found s d x (with_spec p h v) y ≡ nothing → q ≡ after_function s d x (with_spec p h v) y → shape v d u ≡ Known y → AreTags tags (in_declarator d) → AreTags tags (in_statement x) → IsBody x → takes_many d ≡ false
       → Now n p → Now n q
-  define n p q s h d x v u (Object t) st go only b f last sh td tx order apart few now = never (Broken 9 (begins d).at) fine (λ k. k) f
-  define n p q s h d x v u (Function t ps) st go only b f last sh td tx order apart few (un, inv) =
+  define n p q s h d x v u (Object t) st go only b f last sh td tx source few now = never (Broken 9 (begins d).at) fine (λ k. k) f
+  define n p q s h d x v u (Function t ps) st go only b f last sh td tx source few (un, inv) =
       let m = with_spec p h v in
       let row = function_row s d m (Function t ps) in
       let at = (begins d).at in
@@ -112,7 +111,7 @@ module _ (tags : List (List ℕ)) where
       let here : q.here.defs ≡ v.defs = ap (λ (r : State). r.here.defs) last ∙ keeps.defs in
       let grows : Grows v.defs (whole q) = subst (λ ds. Grows ds (whole q)) here (grows_to tags q go.stands) in
       let result = body_inv tags (suc n) (whole p) (whole q) p m1 s d x t ps row inv step (grows_more tags p q st go) grows (let k = step.unit in omega (arith, k, un)) refl y known named.0 shaped
-      (few_parameters v d u t ps sh few) (holds_known (as_main row) 10 at j2 g2) refl (same_tags tags v (in_statement x) tagged many tx) order apart in
+      (few_parameters v d u t ps sh few) (holds_known (as_main row) 10 at j2 g2) refl (same_tags tags v (in_statement x) tagged many tx) source in
       let unit : z.here.unit ≡ n = keeps.unit ∙ step.unit ∙ un in
       subst (λ r. (r.here.unit ≡ n) × Inv (suc n) (whole q) r) (sym last) (unit, subst (λ k. Inv (suc k) (whole q) z) unit result)
 
@@ -138,7 +137,7 @@ module _ (tags : List (List ℕ)) where
       let j = specified p.others h.spec p.here v b u st.here used i first in
       let shaped : shape v h.declarator u ≡ Known y = ap (λ (z : Answer Plain). z then shape v h.declarator) (sym first) ∙ sym c ∙ known in
       let fine_here : function_found h.storage h.declarator x m y ≡ nothing = ap (λ (z : Answer Shape). z then function_found h.storage h.declarator x m) (sym known) ∙ sym e in
-      define n p q h.storage h.spec h.declarator x v u y st go j.passes.only j fine_here (k ∙ behind_one m a _ y known) shaped two.1 parts.1 w.0 w.1 w.2 now
+      define n p q h.storage h.spec h.declarator x v u y st go j.passes.only j fine_here (k ∙ behind_one m a _ y known) shaped two.1 parts.1 w.0 w.1 now
 
   begins_now : (n : ℕ) (p : State) → Stands tags p → Between n p → Now n p
   begins_now n p s (un, inv) =

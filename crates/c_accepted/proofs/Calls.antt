@@ -18,7 +18,7 @@ use Rattle.c_judge.specs.Scope.{Scope}
 use Rattle.c_judge.specs.Answers.{Known, Unknown, ◌then◌}
 use Rattle.c_judge.specs.Judgement.{Judged, Callee, value, function_of, name_alone, callee_named, callee_by, callee, has_parameters, counted, called_name, arguments_in, function_numbered, function_named, parameter_at, goes_to, argument, called, judged}
 use Rattle.c_judge.specs.Elaboration.{IsCall, IsCallee, IsNumberOf, AreArguments, callee_of}
-use Rattle.c_accepted.specs.Words.{HasWords, AllHaveWords}
+use Rattle.c_accepted.proofs.Words.{HasWords, AllHaveWords}
 use Rattle.c_accepted.specs.Reads.{Reads, IsCalleeRead}
 use Rattle.c_accepted.proofs.Growth.{both_parts}
 use Rattle.c_accepted.proofs.Known.{never, one_known, then_known, if_known}

@@ -22,13 +22,12 @@ use Rattle.c_file.specs.Names.{FileName, is_built_in, is_here, composite, declar
 use Rattle.c_file.specs.Files.{State, Bodied, Called, called_all, with_parameters, are_named}
 use Rattle.c_file.specs.Programs.{built_in_rows}
 use Rattle.c_accepted.specs.Grown.{Grows}
-use Rattle.c_accepted.specs.Sources.{IsInOrder, AllIn}
+use Rattle.c_accepted.specs.Sources.{IsBody}
 use Rattle.c_accepted.proofs.Runs.{IsAt}
 use Rattle.c_accepted.proofs.Merged.{as_empty}
 use Rattle.c_accepted.proofs.Scopes.{first_there, some_same}
 use Rattle.c_accepted.proofs.Declarators as declarators
 use Rattle.c_accepted.proofs.Locals.{AreTagged}
-use Rattle.c_accepted.proofs.Keeping.{IsApart}
 
 -- ---- structs
 
@@ -158,8 +157,7 @@ pub record Entry (units : ℕ) (defs : List StructDef) (p : State) (i : ℕ) (b 
   pub few : length b.parameters ≤ 16
   pub main : declared_as_main b.name (typing.Function b.result (map parameter_type b.parameters)) ≡ true
   pub tagged : AreTagged outer.defs outer.tags (tags.in_statement b.block)
-  pub order : IsInOrder b.block
-  pub apart : AllIn IsApart b.block
+  pub source : IsBody b.block
 
 -- what a program has so far it still has later
 pub record Later (p q : State) : Type 0 where
@@ -214,8 +212,7 @@ entry_later m n d e p q i b l g h s =
       few = s.few;
       main = s.main;
       tagged = s.tagged;
-      order = s.order;
-      apart = s.apart;
+      source = s.source;
     }
 
 -- ---- a program so far

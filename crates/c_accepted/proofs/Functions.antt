@@ -26,7 +26,8 @@ use Rattle.c_body.specs.Calls.{calls_in}
 use Rattle.c_body.specs.Becoming.{Before, IsBodyOf, row_list}
 use Rattle.c_file.specs.Files.{State, Bodied}
 use Rattle.c_file.specs.Made.{behind_block}
-use Rattle.c_accepted.specs.Sources.{IsInOrder, AllIn, HasWordsIn}
+use Rattle.c_accepted.specs.Sources.{IsInOrder, AllIn}
+use Rattle.c_accepted.proofs.StatementWords.{HasWordsIn}
 use Rattle.c_accepted.proofs.Runs.{Runs, runs_on, runs_to, runs_same, numbers_run, numbers_length, IsAt, at_first, at_second}
 use Rattle.c_accepted.proofs.Points.{holds_run, row_points, block_points, points_of_inits}
 use Rattle.c_accepted.proofs.Keeps.{after_keeps, Within, within_before}

@@ -8,6 +8,7 @@ use Rattle.c_declaration.specs.InitialTree.{InitialTree, Value, Braces, Item}
 use Rattle.c_tree.specs.declared.types.StructDef.{StructDef}
 use Rattle.c_tree.specs.declared.types.Member.{Member}
 use Rattle.c_tree.specs.declared.rows.Program.{Program}
+use Rattle.c_tree.specs.declared.rows.ObjectRow.{ObjectRow}
 use Rattle.c_tree.specs.Layout.{members_of}
 use Rattle.c_defs.specs.Depths.{deepest}
 use Rattle.c_scope.specs.Environment.{Environment}
@@ -16,12 +17,11 @@ use Rattle.c_initial.specs.Filled.{AreComplete}
 use Rattle.c_file.specs.Names.{FileName, Defining, is_here, one_linkage}
 use Rattle.c_file.specs.FileNames.{AreConsistent}
 use Rattle.c_file.specs.Files.{State, Started}
-use Rattle.c_file.specs.Made.{started, object_type, objects_from}
+use Rattle.c_file.specs.Made.{Each, IsObjectOf, started, object_type, objects_from}
 use Rattle.c_file.proofs.Telling.{same_linkage}
 use Rattle.c_accepted.specs.Grown.{IsHeld}
 use Rattle.c_accepted.specs.Completed.{AreSound}
 use Rattle.c_accepted.specs.Declarations.{IsWhole, IsWholeIn}
-use Rattle.c_accepted.specs.Begun.{IsBegun}
 use Rattle.c_accepted.proofs.Growth.{both_parts}
 use Rattle.c_accepted.proofs.Completing.{held_in}
 use Rattle.c_accepted.proofs.Composite.{IsOf, object_type_is}
@@ -30,7 +30,9 @@ use Rattle.c_accepted.proofs.Objects.{complete_bounded}
 use Rattle.c_accepted.proofs.KindsOfLeaves.{kinds_of, kinds_grow, Hold}
 use Rattle.c_accepted.proofs.Begun.{GivesLeaves, AllGive}
 use Rattle.c_accepted.proofs.Filled.{ValuesGive, fills}
-use Rattle.c_accepted.proofs.Started.{AreBegun}
+use Rattle.c_accepted.proofs.Starting.{IsWordStart}
+use Rattle.c_accepted.proofs.Started.{IsBegun, AreBegun}
+use Rattle.c_accepted.proofs.Initializers.{HaveWordBegins, initializer_formed, begins_words, objects_words}
 use Rattle.c_accepted.proofs.Values.{value_gives}
 
 -- ---- declarations of a name in a file have one linkage
@@ -89,7 +91,7 @@ gives_leaves p q d s c many h b e =
     let type : object_type q d ≡ b.ctype = object_type_is q d b.number b.declaration b.ctype c (complete_bounded b.place.defs b.ctype complete) b.there name unit linkage of in
     let whole = whole_structs b.place.defs b.sound in
     let strings = b.strings in
-    let leaves = fills p q d.unit b.place whole b.initial b.formed (values p q d.unit b.place whole b.initial) b.string b.ctype b.limited complete b.well (omega (arith, strings, many)) in
+    let leaves = fills p q d.unit b.place whole b.initial (initializer_formed b.initial b.formed) (values p q d.unit b.place whole b.initial) b.string b.ctype b.limited complete b.well (omega (arith, strings, many)) in
     let kinds : kinds_of p.defs deepest (object_type q d) ≡ kinds_of b.place.defs deepest b.ctype = ap (kinds_of p.defs deepest) type ∙ kinds_grow b.place.defs p.defs b.grows deepest b.ctype complete in
     subst (λ ks. Hold p ks (map (started q d.unit) s.begins)) (sym kinds) (subst (λ bs. Hold p (kinds_of b.place.defs deepest b.ctype) (map (started q d.unit) bs)) (sym b.begins) leaves)
 
@@ -105,3 +107,16 @@ module _ (p : Program) (q : State) (consistent : AreConsistent q.names) (many : 
   -- what the initializers of each object give
   pub all_give : (ds : List Defining) → AllByRecursion (IsWholeIn p.defs q.names) ds → AllByRecursion (AllGive p q) (objects_from [] ds)
   all_give ds w = each (objects_from [] ds) (unseen IsAnObject [] ds (λ e x y. x)) (all_objects (IsWholeIn p.defs q.names) [] ds w)
+
+-- ---- words
+
+all_word_begins : (defs : List StructDef) (fs : List FileName) (n : ℕ) (ss : List Started) → AllByRecursion (IsBegun defs fs n) ss → AllByRecursion (λ (s : Started). HaveWordBegins s.begins) ss
+all_word_begins defs fs n [] h = tt
+all_word_begins defs fs n (s ∷ ss) h = (
+  subst HaveWordBegins (sym h.0.begins) (begins_words h.0.place h.0.string h.0.ctype h.0.initial h.0.formed),
+  all_word_begins defs fs n ss h.1,
+)
+
+-- the numbers that objects begin with
+pub words_given : (defs : List StructDef) (q : State) → AreBegun defs q → (ds : List Defining) (os : List ObjectRow) → Each (IsObjectOf q) ds os → AllByRecursion (λ (o : ObjectRow). AllByRecursion IsWordStart o.start) os
+words_given defs q h ds os e = objects_words q ds os (all_word_begins defs q.names (length q.strings) q.starts h) e

@@ -6,18 +6,17 @@ use Rattle.c_tree.specs.declared.rows.Program.{Program}
 use Rattle.c_typing.specs.Programs.{KeepsRules}
 use Rattle.c_file.specs.Programs.{tags_of}
 use Rattle.c_check.specs.Faulty.{Checks}
-use Rattle.c_accepted.specs.Asked.{AreTexts, BodiesHaveWords, HaveInitials}
-use Rattle.c_accepted.specs.Starting.{ObjectsHaveWords, PlacesAreThere}
+use Rattle.c_accepted.specs.Sources.{AreTexts}
 use Rattle.c_accepted.proofs.AllTags.{tags_there}
 use Rattle.c_accepted.proofs.Bodies.{bodies_behind}
 use Rattle.c_accepted.proofs.Structs.{structs_written}
 use Rattle.c_accepted.proofs.Kept.{all_sourced, functions_kept}
 use Rattle.c_accepted.proofs.Assembly.{sound, calls, assembled}
 
-pub accepted : (names : List (List ℕ)) (us : List (List External)) (p : Program) → Checks names us (Ok p) → length names ≡ length us → AreTexts us → HaveInitials us → BodiesHaveWords p → ObjectsHaveWords p → PlacesAreThere p → KeepsRules p
-accepted names us p c count texts items words starts places =
+pub accepted : (names : List (List ℕ)) (us : List (List External)) (p : Program) → Checks names us (Ok p) → length names ≡ length us → AreTexts us → KeepsRules p
+accepted names us p c count texts =
     let a = c.1 in
     let (stands, (unit, inv)) = bodies_behind (tags_of us) us a.behind (tags_there us) (all_sourced (tags_of us) us c.0 texts) a.files in
-    let there = calls names us p a count items (0 + length us) inv.entries in
-    let functions = functions_kept names us p a.behind a.rows count a.files c.0 texts words (structs_written p.defs (sound names us p a count items)) there in
-    assembled names us p a count items (0 + length us) inv.entries starts places functions
+    let there = calls names us p a count texts (0 + length us) inv.entries in
+    let functions = functions_kept names us p a.behind a.rows count a.files c.0 texts (structs_written p.defs (sound names us p a count texts)) there in
+    assembled names us p a count texts (0 + length us) inv.entries functions

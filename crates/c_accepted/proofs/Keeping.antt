@@ -25,7 +25,8 @@ use Rattle.c_body.specs.Stops.{inside_block}
 use Rattle.c_file.specs.Names.{declared_as_main, agree_as}
 use Rattle.c_file.specs.Files.{State, Bodied}
 use Rattle.c_file.specs.Made.{HasRows, AreUnits, functions_of, behind_block}
-use Rattle.c_accepted.specs.Sources.{IsInOrder, AreApart, AllIn, AllInPart, AllInInitial, AllInNames, AllInHead, HasWordsIn}
+use Rattle.c_accepted.specs.Sources.{IsApart, IsInOrder, AllIn, AllInPart, AllInInitial, AllInNames, AllInHead}
+use Rattle.c_accepted.proofs.StatementWords.{HasWordsIn}
 use Rattle.c_accepted.proofs.Runs.{all_first, all_second}
 use Rattle.c_accepted.proofs.Written.{IsNamed, written}
 use Rattle.c_accepted.proofs.Statements.{AllTold, IsSource}
@@ -35,9 +36,6 @@ use Rattle.c_accepted.proofs.Bodied.{ends, Stood, ground, keeps_ends, each_local
 use Rattle.c_accepted.proofs.Functions.{is_block, is_typed, has_points, is_numbered, are_ends, are_declared}
 
 -- ---- the sources of expressions
-
-abbrev pub IsApart : Tree → Type 0
-IsApart e = AreApart (in_tree e)
 
 module _ (P : List ℕ → Type 0) where
   abbrev pub IsSourced : Tree → Type 0
@@ -68,7 +66,7 @@ module _ (P : List ℕ → Type 0) where
     part_sourced k a.2 (all_second P (tags.in_part tags.in_tree i ++ tags.in_part tags.in_tree e) (tags.in_part tags.in_tree k) h),
   )
   head_sourced (head.Switch at e) a h = (a, h)
-  head_sourced (head.Case at e) a h = tt
+  head_sourced (head.Case at e) a h = (a, h)
   head_sourced (head.Default at) a h = tt
 
   pub all_sourced : (s : StatementTree) → AllIn IsApart s → AllByRecursion P (tags.in_statement s) → AllIn IsSourced s

@@ -28,14 +28,15 @@ use Rattle.c_file.specs.Programs.{Well, AllFiles, tags_of, at_first, any, many, 
 use Rattle.c_file.specs.Made.{Each, HasRows, IsFunctionOf, IsSymbolOf, all_points, points_from, behind_block, referent_of, type_of_name}
 use Rattle.c_file.specs.Made as made
 use Rattle.c_accepted.specs.Grown.{Grows}
-use Rattle.c_accepted.specs.Sources.{IsText, HasWordsIn}
-use Rattle.c_accepted.specs.Asked.{AreTexts, BodiesHaveWords, StructsAreWritten, CallsAreThere}
+use Rattle.c_accepted.specs.Sources.{IsText, AreTexts}
+use Rattle.c_accepted.specs.Asked.{StructsAreWritten, CallsAreThere}
 use Rattle.c_accepted.proofs.Runs.{IsAt}
 use Rattle.c_accepted.proofs.Keeps.{Keeps, keeps_on, after_keeps}
 use Rattle.c_accepted.proofs.Scopes.{first_there, some_same}
 use Rattle.c_accepted.proofs.Listed.{Good}
 use Rattle.c_accepted.proofs.AllTold.{all_told}
 use Rattle.c_accepted.proofs.Bodied.{Stood, each_there, parameters_keep}
+use Rattle.c_accepted.proofs.BodyWords.{body_words}
 use Rattle.c_accepted.proofs.Keeping.{Heading, is_function}
 use Rattle.c_accepted.proofs.AllTags.{tags_there}
 use Rattle.c_accepted.proofs.Entries.{Entry, AreShown, IsOuter, shown_more, number_below, points_all, stop_at}
@@ -56,11 +57,6 @@ each_back P [] [] n y h e = absurd (let k : None ≡ Some y = e in cc)
 each_back P (x ∷ xs) (z ∷ ys) zero y h e = (x, refl, subst (P x) (some_same z y e) h.0)
 each_back P (x ∷ xs) (z ∷ ys) (suc n) y h e = each_back P xs ys n y h.1 e
 each_back P _ _ n y h e = absurd h
-
-all_at : {A : Type 0} (P : A → Type 0) (xs : List A) (n : ℕ) (x : A) → AllByRecursion P xs → slice_get xs n ≡ Some x → P x
-all_at P [] n x h e = absurd (let k : None ≡ Some x = e in cc)
-all_at P (y ∷ xs) zero x h e = subst P (some_same y x e) h.0
-all_at P (y ∷ xs) (suc n) x h e = all_at P xs n x h.1 e
 
 module _ (q : State) where
   from_stops : (f : ℕ) (ss : List _) → map (stop_at f) ss ≡ points_from q f ss
@@ -177,7 +173,7 @@ or_false true b h = absurd (true≢false h)
 module _ (tags : List (List ℕ)) where
   one_sourced : (e : External) → many e ≡ false → IsText e → IsSourced tags e
   one_sourced (Declaration h) m w = tt
-  one_sourced (Definition h x) m w = (w.0, w.1, (or_false (many_in_spec h.spec) (takes_many h.declarator) (or_false (many_in_spec h.spec || takes_many h.declarator) (many_below x) m).0).1)
+  one_sourced (Definition h x) m w = (w, (or_false (many_in_spec h.spec) (takes_many h.declarator) (or_false (many_in_spec h.spec || takes_many h.declarator) (many_below x) m).0).1)
 
   file_sourced : (es : List External) → any many es ≡ false → AllByRecursion IsText es → AllByRecursion (IsSourced tags) es
   file_sourced [] m w = tt
@@ -187,15 +183,16 @@ module _ (tags : List (List ℕ)) where
   all_sourced [] m w = tt
   all_sourced (u ∷ us) m w = let q = or_false (any many u) (any (any many) us) m in (file_sourced u q.0 w.0, all_sourced us q.1 w.1)
 
--- Each function of the program keeps to the rules, where its sources are those of a text, its constants are words, its structs are within their limits and what it calls is there.
+-- Each function of the program keeps to the rules, where its sources are those of a text, its structs are within their limits and what it calls is there.
 pub functions_kept : (names : List (List ℕ)) (us : List (List External)) (p : Program) (q : State) (rows : HasRows q names p) → length names ≡ length us → AllFiles (tags_of us) (at_first (tags_of us)) us Well q
-    → any (any many) us ≡ false → AreTexts us → BodiesHaveWords p → StructsAreWritten p → CallsAreThere p q
+    → any (any many) us ≡ false → AreTexts us → StructsAreWritten p → CallsAreThere p q
     → AllFrom (IsFunction p) 0 p.functions
-functions_kept names us p q rows count files few sources words structs calls =
+functions_kept names us p q rows count files few sources structs calls =
     let (stands, (unit, inv)) = bodies_behind (tags_of us) us q (tags_there us) (all_sourced (tags_of us) us few sources) files in
     all_from (IsFunction p) 0 p.functions λ f fn at. (
     let (b, there, row) = each_back (IsFunctionOf q) q.bodies p.functions f fn rows.functions at in
     let e = inv.entries f b there in
     let s = stood names p q rows f fn b (0 + length us) e row at structs calls in
+    let words = body_words b.here (record { points = suc b.before.points; strings = b.before.strings }) b.block fn.body e.source.2 row.7 in
     let h : Heading names b e.outer = record { shaped = e.shaped; few = e.few; main = e.main; tagged = e.tagged; unit = (let k = e.unit in omega (arith, k, count)) } in
-    subst (λ n. IsFunction p n fn) (let k : f ≡ 0 + f = omega arith in k) (is_function names p q rows all_told f fn b e.outer there s h e.order e.apart (all_at (λ (fn : FunctionRow). HasWordsIn fn.body) p.functions f fn words at)))
+    subst (λ n. IsFunction p n fn) (let k : f ≡ 0 + f = omega arith in k) (is_function names p q rows all_told f fn b e.outer there s h e.source.0 e.source.1 words))

@@ -1,6 +1,6 @@
 -- The kinds of an object's leaves, and objects that begin with zeros.
 use Rattle.std.proofs.Common.{◌≡◌, ◌<◌, refl, sym, ap, ◌∙◌, subst, arith, ℕ, zero, suc, ◌+◌, ◌*◌, true, List, [], ◌∷◌, ◌++◌, length, map, replicate}
-use Rattle.std.specs.Prelude.{nat_le}
+use Rattle.std.specs.Prelude.{◌≤◌, nat_le, Option, Some, None, slice_get}
 use Rattle.std.specs.List.{AllByRecursion}
 use Rattle.ldb_words.specs.declared.kinds.Kind.{Kind}
 use Rattle.ldb_words.specs.declared.kinds.Kind.TheVariants.{Byte, Word, Address}
@@ -10,6 +10,7 @@ use Rattle.c_tree.specs.declared.types.StructDef.{StructDef}
 use Rattle.c_tree.specs.declared.types.Member.{Member}
 use Rattle.c_tree.specs.declared.types.Leaf.{Leaf}
 use Rattle.c_tree.specs.declared.rows.Program.{Program}
+use Rattle.c_tree.specs.declared.rows.ObjectRow.{ObjectRow}
 use Rattle.c_tree.specs.declared.rows.Start.{Start}
 use Rattle.c_tree.specs.declared.rows.Start.TheVariants.{Number, Object, Str}
 use Rattle.c_tree.specs.Layout as layout
@@ -20,7 +21,7 @@ use Rattle.c_operators.specs.Bits.{low_byte}
 use Rattle.c_defs.specs.Depths.{deepest}
 use Rattle.c_defs.specs.Leaves.{leaf_count, leaves_of_members}
 use Rattle.c_accepted.specs.Grown.{ctype_of, IsHeld, Grows}
-use Rattle.c_accepted.specs.Starting.{IsWordStart, IsPlaceStart}
+use Rattle.c_accepted.proofs.Starting.{IsWordStart}
 use Rattle.c_accepted.proofs.Growth.{both_parts, not_empty}
 
 -- ---- kinds
@@ -139,7 +140,16 @@ module _ (p : Program) where
   Hold (k ∷ ks) (x ∷ xs) = Suits k x × Hold ks xs
   Hold _ _ = ⊥
 
-  one_start : (k : Kind) (x : Start) → Suits k x → IsWordStart x → IsPlaceStart p x → Starts p k x
+  abbrev pub IsInObject : ℕ → Option ObjectRow → Type 0
+  IsInObject offset None = ⊥
+  IsInObject offset (Some row) = offset ≤ layout.size_of p.defs row.ctype
+
+  -- a place is in an object of the program, or its end
+  abbrev pub IsPlaceStart : Start → Type 0
+  IsPlaceStart (Object o i) = IsInObject i (slice_get p.objects o)
+  IsPlaceStart _ = Unit {0}
+
+  one_start : (k : Kind) (x : Start) → Suits k x → IsWordStart x → IsPlaceStart x → Starts p k x
   one_start Byte (Number n) h w i = h
   one_start Word (Number n) h w i = w
   one_start Address (Number n) h w i = h
@@ -150,13 +160,13 @@ module _ (p : Program) where
   one_start Word (Object o j) h w i = absurd h
   one_start Word (Str k) h w i = absurd h
 
-  starts_as : (ls : List Leaf) (xs : List Start) → Hold (map kind_of ls) xs → AllByRecursion IsWordStart xs → AllByRecursion (IsPlaceStart p) xs → AreStarts p ls xs
+  starts_as : (ls : List Leaf) (xs : List Start) → Hold (map kind_of ls) xs → AllByRecursion IsWordStart xs → AllByRecursion IsPlaceStart xs → AreStarts p ls xs
   starts_as [] [] h w i = tt
   starts_as (l ∷ ls) (x ∷ xs) h w i = (one_start l.kind x h.0 w.0 i.0, starts_as ls xs h.1 w.1 i.1)
   starts_as [] (x ∷ xs) h w i = absurd h
   starts_as (l ∷ ls) [] h w i = absurd h
 
-  pub starts_of : (u : CType) (xs : List Start) → Hold (kinds_of p.defs deepest (plain u)) xs → AllByRecursion IsWordStart xs → AllByRecursion (IsPlaceStart p) xs → AreStarts p (leaves_of p.defs u) xs
+  pub starts_of : (u : CType) (xs : List Start) → Hold (kinds_of p.defs deepest (plain u)) xs → AllByRecursion IsWordStart xs → AllByRecursion IsPlaceStart xs → AreStarts p (leaves_of p.defs u) xs
   unfolding deepest
   starts_of u xs h = starts_as (leaves_within p.defs 64 u) xs (subst (λ ks. Hold ks xs) (sym (leaf_kinds p.defs 64 u)) h)
 

@@ -1,3 +1,6 @@
+mod Words
+mod StatementWords
+mod Starting
 mod Known
 mod Growth
 mod Written
@@ -60,3 +63,16 @@ mod Denotes
 mod Referents
 mod Assembly
 mod Joined
+mod Places
+mod PlacesKept
+mod PlacesFound
+mod SpelledLiterals
+mod SpelledWords
+mod SpelledTrees
+mod TokenPlaces
+mod Texts
+mod OperatorWords
+mod JudgedWords
+mod ElaboratedWords
+mod BodyWords
+mod Initializers

@@ -8,7 +8,8 @@ use Rattle.c_typing.specs.Plain.{Plain, Int, Void, plain}
 use Rattle.c_typing.specs.Declarations.{built_in}
 use Rattle.c_typing.specs.Expressions as typing
 use Rattle.c_typing.specs.Expressions.{Denoted}
-use Rattle.c_file.specs.Names.{FileName, Defining, agree_as, is_built_in, as_built_in, defines}
+use Rattle.c_file.specs.Names.{FileName, Defining, agree_as, is_same, is_built_in, as_built_in, defines}
+use Rattle.c_file.specs.Telling.{is_unbounded}
 use Rattle.c_file.specs.Files.{State}
 use Rattle.c_file.specs.Programs.{uncalled}
 use Rattle.c_file.specs.Made.{Each, IsObjectOf, object_number, objects_from, number_from, or_zero}
@@ -43,23 +44,33 @@ no_built_in s name t r h = by (bytes_eq name (codes "getchar")) (bytes_eq name (
     by false false true h = absurd (none s h)
     by false false false h = refl
 
+-- a declaration of the object of a row that tells its type whole
+pub record IsToldWhole (q : State) (f : FileName) (row : ObjectRow) : Type 0 where
+  pub declaration : FileName
+  pub number : ℕ
+  pub there : slice_get q.names number ≡ Some declaration
+  pub denotes : IsOf declaration.denoted (plain row.ctype)
+  pub bounded : is_unbounded (plain row.ctype) ≡ false
+  pub same : is_same f declaration ≡ true
+
 -- the row of a declared object
 pub record HasRow (p : Program) (q : State) (f : FileName) : Type 0 where
   pub row : ObjectRow
   pub there : slice_get p.objects (or_zero q (object_number q f.unit f.name)) ≡ Some row
+  pub whole : IsToldWhole q f row
   pub tells : IsToldOf f.denoted (plain row.ctype)
 
 module _ (p : Program) (q : State) (declared : AreDeclared q) (sought : AreSought q) (called : uncalled q q.calls ≡ None) (wholes : AllByRecursion (IsWholeIn p.defs q.names) q.definitions) (rows : Each (IsObjectOf q) (objects_from [] q.definitions) p.objects) where
-  with_whole : (n : ℕ) (f : FileName) → slice_get q.names n ≡ Some f → (d : Defining) (o : ObjectRow) → defines f.unit f.is_static f.name d ≡ true → IsWhole p.defs q.names d → IsObjectOf q d o → IsToldOf f.denoted (plain o.ctype)
-  with_whole n f e d o h w i =
+  with_whole : (f : FileName) (d : Defining) (o : ObjectRow) → defines f.unit f.is_static f.name d ≡ true → IsWhole p.defs q.names d → IsObjectOf q d o → IsToldWhole q f o
+  with_whole f d o h w i =
       let is = said f.unit f.is_static f.name d h in
       let g = w.declaration in
       let of : IsOf g.denoted w.ctype = subst (λ x. IsOf x w.ctype) (sym w.denotes) refl in
       let bound = complete_bounded p.defs w.ctype w.complete in
       let type = object_type_is q d w.number g w.ctype declared.consistent bound w.there w.name w.unit w.linkage of in
       let same = same_entity q.names declared.consistent q.definitions declared.defined f g f.is_static refl (w.name ∙ is.0) (λ s. w.unit ∙ (is.1 s).1) (λ s. w.linkage ∙ is.2 s) in
-      let told = all_told q.names n w.number g f w.ctype bound declared.consistent w.there of e (is_same_turned f g same) in
-      subst (IsToldOf f.denoted) (sym (i.3 ∙ type)) told
+      let is_type : plain o.ctype ≡ w.ctype = i.3 ∙ type in
+      record { declaration = g; number = w.number; there = w.there; denotes = subst (IsOf g.denoted) (sym is_type) of; bounded = ap is_unbounded is_type ∙ bound; same = same }
 
   pub has_row : (n : ℕ) (f : FileName) (t : Plain) (r : Bool) → slice_get q.names n ≡ Some f → f.denoted ≡ typing.Object t r → HasRow p q f
   has_row n f t r e o =
@@ -73,4 +84,6 @@ module _ (p : Program) (q : State) (declared : AreDeclared q) (sought : AreSough
       let all : AllByRecursion (IsWholeIn p.defs q.names) (objects_from [] q.definitions) = all_objects (IsWholeIn p.defs q.names) [] q.definitions wholes in
       let whole = all_at (IsWholeIn p.defs q.names) (objects_from [] q.definitions) m.place m.definition all m.there (all_at IsAnObject (objects_from [] q.definitions) m.place m.definition objects m.there) in
       let place : or_zero q (object_number q f.unit f.name) ≡ m.place = ap (or_zero q) number ∙ (let z : 0 + m.place ≡ m.place = omega arith in z) in
-      record { row = row; there = ap (slice_get p.objects) place ∙ there; tells = with_whole n f e m.definition row m.defining whole is }
+      let w = with_whole f m.definition row m.defining whole is in
+      let tells = all_told q.names n w.number w.declaration f (plain row.ctype) w.bounded declared.consistent w.there w.denotes e (is_same_turned f w.declaration w.same) in
+      record { row = row; there = ap (slice_get p.objects) place ∙ there; whole = w; tells = tells }

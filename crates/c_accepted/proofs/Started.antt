@@ -25,8 +25,7 @@ use Rattle.c_file.specs.Names.{FileName, name_found}
 use Rattle.c_file.specs.Files.{State, Started, type_or, standing, manner_of, with_name, with_head, with_strings, with_definition, row_of, function_row, after_all, after_name, after_what, after_function, what, declared_found, found_as, all_found, initial_or_none, with_spec, Externals}
 use Rattle.c_accepted.specs.Grown.{Grows}
 use Rattle.c_accepted.specs.Completed.{AreSound}
-use Rattle.c_accepted.specs.Declarations.{HasItem, HaveItems}
-use Rattle.c_accepted.specs.Begun.{IsBegun, IsFormedOf, IsFormed, AreFormed}
+use Rattle.c_accepted.specs.Sources.{IsInitializer, IsInitialized, IsDeclared, IsText}
 use Rattle.c_accepted.proofs.Known.{then_known}
 use Rattle.c_accepted.proofs.Written.{IsLimited, IsNamed}
 use Rattle.c_accepted.proofs.Merged.{as_empty, grows_others}
@@ -38,6 +37,28 @@ use Rattle.c_accepted.proofs.Wholes.{AsksFor, standing_whole}
 use Rattle.c_accepted.proofs.Typed.{whole, grows_to, grows_more}
 use Rattle.c_accepted.proofs.Walked.{Stands, Goes, all_keep, what_keeps, two_parts, unbroken, behind_one}
 use Rattle.c_mentions.specs.Tags.{in_all, in_external, in_file_spec, in_declared}
+
+-- an object of a complete type, what is declared where its initializer stands, and that nothing is wrong with it there
+pub record IsBegun (defs : List StructDef) (fs : List FileName) (n : ℕ) (s : Started) : Type 0 where
+  pub declaration : FileName
+  pub number : ℕ
+  pub there : slice_get fs number ≡ Some declaration
+  pub name : declaration.name ≡ s.name
+  pub unit : declaration.unit ≡ s.unit
+  pub ctype : Plain
+  pub register : Bool
+  pub denotes : declaration.denoted ≡ typing.Object ctype register
+  pub place : Environment
+  pub grows : Grows place.defs defs
+  pub sound : AreSound place.defs
+  pub complete : is_complete place.defs ctype ≡ true
+  pub limited : is_within place.defs deepest ctype ≡ true
+  pub initial : InitialTree
+  pub formed : IsInitializer initial
+  pub string : ℕ
+  pub begins : s.begins ≡ begins_of place string ctype initial
+  pub well : initial_found place ctype initial ≡ nothing
+  pub strings : string + length (strings_of place ctype initial) ≤ n
 
 -- ---- growth
 
@@ -131,7 +152,7 @@ record IsReady (here : Environment) (f : FileName) (i : InitialTree) : Type 0 wh
   denotes : f.denoted ≡ typing.Object ctype register
   complete : is_complete here.defs ctype ≡ true
   limited : is_within here.defs deepest ctype ≡ true
-  formed : IsFormedOf (Some i)
+  formed : IsInitialized (Some i)
   well : initial_found here ctype i ≡ nothing
 
 module _ (defs : List StructDef) (same : Grows defs defs) (s : Storage) where
@@ -171,10 +192,10 @@ module _ (defs : List StructDef) (same : Grows defs defs) (s : Storage) where
   here_stays p f (Some i) = refl
 
   module _ (here : List StructDef) (sound : AreSound here) (g : Grows here defs) (t : Plain) (m : IsNamed here t) where
-    one_begun : (p : State) (d : Declared) (a : Answer Denoted) → what s t p d ≡ a → found_as s p d a ≡ nothing → HasItem d → IsFormed d → p.here.defs ≡ here → AreBegun defs p → AreBegun defs (after_what s p d a)
-    one_begun p d (Unknown name) e h n i j w = w
-    one_begun p d (Broken r at) e h n i j w = w
-    one_begun p d (Known x) e h n i j w =
+    one_begun : (p : State) (d : Declared) (a : Answer Denoted) → what s t p d ≡ a → found_as s p d a ≡ nothing → IsDeclared d → p.here.defs ≡ here → AreBegun defs p → AreBegun defs (after_what s p d a)
+    one_begun p d (Unknown name) e h n j w = w
+    one_begun p d (Broken r at) e h n j w = w
+    one_begun p d (Known x) e h n j w =
         let f = row_of s p d x in
         let r = with_strings s (with_name p f) d.declarator in
         let (y, k, l) = then_known (shape p.here d.declarator t) (λ y. standing p.here s d.initial (begins d.declarator).at y) x e in
@@ -199,16 +220,16 @@ module _ (defs : List StructDef) (same : Grows defs defs) (s : Storage) where
           denotes = is;
           complete = a.3;
           limited = within_of p.here.defs sound_here a.0 limits.1;
-          formed = subst IsFormedOf o i;
+          formed = subst IsInitialized o n;
           well = ap (λ u. initial_found r.here u z) (sym type) ∙ found z o;
         })
         old
 
-    all_begun : (p : State) (ds : List Declared) → all_found s t p ds ≡ nothing → AllByRecursion HasItem ds → AllByRecursion IsFormed ds → p.here.defs ≡ here → AreBegun defs p → AreBegun defs (after_all s t p ds)
-    all_begun p [] h n i j w = w
-    all_begun p (d ∷ ds) h n i j w =
+    all_begun : (p : State) (ds : List Declared) → all_found s t p ds ≡ nothing → AllByRecursion IsDeclared ds → p.here.defs ≡ here → AreBegun defs p → AreBegun defs (after_all s t p ds)
+    all_begun p [] h n j w = w
+    all_begun p (d ∷ ds) h n j w =
         let q = two_parts (declared_found s t p d) (all_found s t (after_name s t p d) ds) h in
-        all_begun (after_name s t p d) ds q.1 n.1 i.1 ((what_keeps s p d (what s t p d)).here.defs ∙ j) (one_begun p d (what s t p d) refl q.0 n.0 i.0 j w)
+        all_begun (after_name s t p d) ds q.1 n.1 ((what_keeps s p d (what s t p d)).here.defs ∙ j) (one_begun p d (what s t p d) refl q.0 n.0 j w)
 
 function_begun : (defs : List StructDef) → Grows defs defs → (s : Storage) (d : DeclaratorTree) (x : StatementTree) (p : State) (y : Shape) → AreBegun defs p → AreBegun defs (after_function s d x p y)
 function_begun defs g s d x p (Object t) w = w
@@ -228,7 +249,7 @@ module _ (tags : List (List ℕ)) where
       (all_as (IsBegun (whole p) p.names (length p.strings)) (IsBegun (whole q) m.names (length m.strings)) (λ x k. begun_more (whole p) (whole q) p.names m.names (length p.strings) (length m.strings) x g there l k) p.starts w)
 
   -- the structs of the program stay as they are
-  pub external_begun : ((q : State) → Stands tags q → Grows (whole q) (whole q)) → (p : State) (e : External) (q : State) → Stands tags p → AreTags tags (in_external e) → HaveItems e × AreFormed e → Externals p e nothing q → Goes tags p q → AreBegun (whole p) p → AreBegun (whole q) q
+  pub external_begun : ((q : State) → Stands tags q → Grows (whole q) (whole q)) → (p : State) (e : External) (q : State) → Stands tags p → AreTags tags (in_external e) → IsText e → Externals p e nothing q → Goes tags p q → AreBegun (whole p) p → AreBegun (whole q) q
   external_begun same p (Declaration h) q s g n (a, v, i, e, k) go w =
       let (u, known) = unbroken a _ (sym e) in
       let m = with_spec p h.spec v in
@@ -239,7 +260,7 @@ module _ (tags : List (List ℕ)) where
       let kept : q.here.defs ≡ v.defs = ap (λ (r : State). r.here.defs) last ∙ (all_keep h.storage u m h.names).here.defs in
       let g1 : Grows v.defs (whole q) = subst (λ ds. Grows ds (whole q)) kept (grows_to tags q go.stands) in
       let now = begun_external p q m s go refl refl (more_strings p.strings _) w in
-      subst (AreBegun (whole q)) (sym last) (all_begun (whole q) (same q go.stands) h.storage v.defs b.passes.behind.sound g1 u b.named m h.names found n.0 n.1 refl now)
+      subst (AreBegun (whole q)) (sym last) (all_begun (whole q) (same q go.stands) h.storage v.defs b.passes.behind.sound g1 u b.named m h.names found n refl now)
   external_begun same p (Definition h x) q s g n (a, b, v, i, c, e, k) go w =
       let (y, known) = unbroken a _ (sym e) in
       let m = with_spec p h.spec v in

@@ -43,9 +43,10 @@ use Rattle.c_body.specs.Calls.{called, called_part, calls_in, called_locals, cal
 use Rattle.c_body.specs.Stops.{Stop, stop, stops, at_expression, at_part, at_initial, at_locals, at_head}
 use Rattle.c_body.specs.Becoming as becoming
 use Rattle.c_body.specs.Becoming.{Before, past, past_part, of_initial, IsExpression, IsStop, IsStopOrNone, IsInitial, AreLocals, row_list, behind, behind_head, behind_expression, IsHeaded, Becomes, Holds}
-use Rattle.c_accepted.specs.Words.{HasWords}
+use Rattle.c_accepted.proofs.Words.{HasWords}
 use Rattle.c_accepted.specs.Reads.{Reads, IsRead}
-use Rattle.c_accepted.specs.Sources.{IsInOrder, AreApart, AllIn, AllInPart, AllInInitial, AllInNames, HasWordsPart, HaveWordsInits, HasWordsValue, HasWordsIn, HaveWordsRow}
+use Rattle.c_accepted.specs.Sources.{IsInOrder, AreApart, AllIn, AllInPart, AllInInitial, AllInNames}
+use Rattle.c_accepted.proofs.StatementWords.{HasWordsPart, HaveWordsInits, HasWordsValue, HasWordsIn, HaveWordsRow}
 use Rattle.c_accepted.proofs.Known.{never, two_known}
 use Rattle.c_accepted.proofs.Runs.{all_first, all_second, all_both}
 use Rattle.c_accepted.proofs.Points.{opened_holds, opened_order, part_points}

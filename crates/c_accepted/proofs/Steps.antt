@@ -29,7 +29,7 @@ use Rattle.c_file.specs.Files.{State, Bodied, Called, called_all, are_named, wit
 use Rattle.c_file.specs.Programs.{built_in_rows, completed_by, takes_many}
 use Rattle.c_accepted.specs.Grown.{Grows}
 use Rattle.c_accepted.specs.Completed.{Extends}
-use Rattle.c_accepted.specs.Sources.{IsInOrder, AllIn}
+use Rattle.c_accepted.specs.Sources.{IsBody}
 use Rattle.c_accepted.proofs.Known.{never, one_known, then_known}
 use Rattle.c_accepted.proofs.Runs.{IsAt, at_append}
 use Rattle.c_accepted.proofs.Keeps.{keeps_on, after_keeps}
@@ -37,7 +37,6 @@ use Rattle.c_accepted.proofs.Bodied.{parameters_keep}
 use Rattle.c_accepted.proofs.Declarators as declarators
 use Rattle.c_accepted.proofs.Declarators.{few_parameters}
 use Rattle.c_accepted.proofs.Locals.{AreTagged}
-use Rattle.c_accepted.proofs.Keeping.{IsApart}
 use Rattle.c_accepted.proofs.Shapes.{AreTags, tag_within}
 use Rattle.c_accepted.proofs.Completing.{extended}
 use Rattle.c_accepted.proofs.Merged.{merged_extends, merged_sound, grows_here}
@@ -173,10 +172,10 @@ module _ (all_tags : List (List ℕ)) where
       let x : Extends (whole p) (completed_by p.others q.here.defs) = merged_extends p.others p.here.defs q.here.defs s.here.pairs (s.here.pairs ∙ h.extends.count) h.extends in
       extended (whole p) (whole q) (merged_sound p.others p.here.defs s.here.pairs s.here.sound s.others s.here.agree) (subst (λ o. Extends (whole p) (completed_by o q.here.defs)) (sym h.others) x)
 
-  -- what is asked of the sources: declarations before statements, literals at their own places, at most 16 parameters
+  -- what is asked of the sources: bodies of a text, and at most 16 parameters
   abbrev pub IsSourced : External → Type 0
   IsSourced (Declaration h) = Unit {0}
-  IsSourced (Definition h x) = IsInOrder x × AllIn IsApart x × (takes_many h.declarator ≡ false)
+  IsSourced (Definition h x) = IsBody x × (takes_many h.declarator ≡ false)
 
   pub same_tags : (v : Environment) (ts : List (List ℕ)) → v.tags ≡ all_tags → length v.defs ≡ length all_tags → AreTags all_tags ts → declarators.AreTags v ts
   same_tags v [] e c h = tt
@@ -185,9 +184,9 @@ module _ (all_tags : List (List ℕ)) where
   -- the bodies behind a function's body
   pub body_inv : (n : ℕ) (dp dq : List StructDef) (p m : State) (s : Storage) (d : DeclaratorTree) (x : StatementTree) (t : Plain) (ps : List Parameter) (row : FileName)
       → Inv n dp p → Step p m → Grows dp dq → Grows m.here.defs dq → n ≤ suc m.here.unit → row.unit ≡ m.here.unit → (y : Fine) → found t (body_environment s d x m ps) in_function (inside_block x) ≡ Known y → are_named ps ≡ true
-      → declarators.IsShaped m.here (Function t ps) → length ps ≤ 16 → as_main row ≡ true → row.denoted ≡ typing.Function t (map parameter_type ps) → AreTagged m.here.defs m.here.tags (tags.in_statement x) → IsInOrder x → AllIn IsApart x
+      → declarators.IsShaped m.here (Function t ps) → length ps ≤ 16 → as_main row ≡ true → row.denoted ≡ typing.Function t (map parameter_type ps) → AreTagged m.here.defs m.here.tags (tags.in_statement x) → IsBody x
       → Inv (suc (behind_body s d x m row t ps).here.unit) dq (behind_body s d x m row t ps)
-  body_inv n dp dq p m s d x t ps row inv step g here l unit y known named shaped few main denotes tagged order apart =
+  body_inv n dp dq p m s d x t ps row inv step g here l unit y known named shaped few main denotes tagged source =
       let q = behind_body s d x m row t ps in
       let b = bodied s d x m row t ps in
       let outer : Environment = record (enter m.here) { locals = 0 } in
@@ -228,8 +227,7 @@ module _ (all_tags : List (List ℕ)) where
         few = few;
         main = subst (λ z. declared_as_main row.name z ≡ true) denotes main;
         tagged = tagged;
-        order = order;
-        apart = apart;
+        source = source;
       } in record {
         scope = record {
           size = (let k = file.0.size in omega (arith, k, names));

@@ -55,12 +55,24 @@ holds_true : (b : Bool) (r at : ℕ) → holds b r at ≡ nothing → b ≡ true
 holds_true true r at h = refl
 holds_true false r at h = absurd (let x : Broken r at ≡ nothing = h in cc)
 
-or_right : (a b : Bool) → a ≡ false → (a || b) ≡ true → b ≡ true
+pub or_right : (a b : Bool) → a ≡ false → (a || b) ≡ true → b ≡ true
 or_right false b e h = h
 or_right true b e h = absurd (true≢false e)
 
-at_most : (n k : ℕ) → nat_le n k ≡ true → n ≤ k
+pub at_most : (n k : ℕ) → nat_le n k ≡ true → n ≤ k
 at_most n k h = grind arith
+
+-- what begins a pointer and is no number is a string or a place
+module _ (v : Environment) where
+  not_number : (t : Plain) (e : Tree) (c : Constant) → number_in (Known c) ≡ None → is_address v t e (Known c) ≡ true → (is_characters v t (text_of e) || is_spot v t (spot v e)) ≡ true
+  not_number t e (Number n) h k = absurd (let x : Some n ≡ None = h in cc)
+  not_number t e Variable h k = k
+  not_number t e Undefined h k = k
+
+  pub spotted : (t : Plain) (e : Tree) (a : Answer Constant) → number_in a ≡ None → (a then λ c. holds (is_address v t e (Known c)) 12 (place_of e).at) ≡ nothing → (is_characters v t (text_of e) || is_spot v t (spot v e)) ≡ true
+  spotted t e (Known c) h k = not_number t e c h (holds_true (is_address v t e (Known c)) 12 (place_of e).at k)
+  spotted t e (Unknown n) h k = absurd (let x : Unknown n ≡ nothing = k in cc)
+  spotted t e (Broken r at) h k = absurd (let x : Broken r at ≡ nothing = k in cc)
 
 module _ (p : Program) (q : State) (unit : ℕ) (v : Environment) where
   bytes_give : (text : List ℕ) (n : ℕ) → length text ≤ n → Hold p (times_of n (Byte ∷ [])) (map (started q unit) (map character text ++ replicate (n - length text) (Bits 0)))
@@ -96,16 +108,6 @@ module _ (p : Program) (q : State) (unit : ℕ) (v : Environment) where
 
   -- ---- addresses
 
-  not_number : (t : Plain) (e : Tree) (c : Constant) → number_in (Known c) ≡ None → is_address v t e (Known c) ≡ true → (is_characters v t (text_of e) || is_spot v t (spot v e)) ≡ true
-  not_number t e (Number n) h k = absurd (let x : Some n ≡ None = h in cc)
-  not_number t e Variable h k = k
-  not_number t e Undefined h k = k
-
-  spotted : (t : Plain) (e : Tree) (a : Answer Constant) → number_in a ≡ None → (a then λ c. holds (is_address v t e (Known c)) 12 (place_of e).at) ≡ nothing → (is_characters v t (text_of e) || is_spot v t (spot v e)) ≡ true
-  spotted t e (Known c) h k = not_number t e c h (holds_true (is_address v t e (Known c)) 12 (place_of e).at k)
-  spotted t e (Unknown n) h k = absurd (let x : Unknown n ≡ nothing = k in cc)
-  spotted t e (Broken r at) h k = absurd (let x : Broken r at ≡ nothing = k in cc)
-
   place_gives : (t : Plain) (s : Option Spot) → is_spot v t s ≡ true → Hold p (Address ∷ []) (map (started q unit) (spot_begin v s))
   place_gives t None h = absurd (true≢false (sym h))
   place_gives t (Some s) h = (tt, tt)
@@ -124,7 +126,7 @@ module _ (p : Program) (q : State) (unit : ℕ) (v : Environment) where
       by (Some n) f x g = (refl, tt)
       by None f (Some text) g = let one = text_strings e text g in let j : k < length p.strings = omega (arith, l, one) in (j, tt)
       by None f None g =
-          let z = spotted t e (constant (judged (scope_of v) e)) f h in
+          let z = spotted v t e (constant (judged (scope_of v) e)) f h in
           place_gives t (spot v e) (or_right (is_characters v t (text_of e)) (is_spot v t (spot v e)) (ap (is_characters v t) g) z)
 
   -- what an expression gives

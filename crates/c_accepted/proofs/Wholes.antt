@@ -25,7 +25,8 @@ use Rattle.c_file.specs.Names.{FileName, Defining, name_found}
 use Rattle.c_file.specs.Telling.{is_unbounded}
 use Rattle.c_file.specs.Files.{State, type_or, object_type, in_limits, may_stand, is_extern, standing, manner_of, defining, with_name, with_strings, with_definition, row_of, function_row, after_all, after_name, after_what, after_function, what, declared_found, found_as, all_found, initial_or_none, with_spec, Externals}
 use Rattle.c_accepted.specs.Grown.{Grows}
-use Rattle.c_accepted.specs.Declarations.{IsWholeIn, HasItems, HasItem, HaveItems}
+use Rattle.c_accepted.specs.Sources.{IsInitialized, IsDeclared, IsText}
+use Rattle.c_accepted.specs.Declarations.{IsWholeIn}
 use Rattle.c_accepted.proofs.Growth.{complete_grows}
 use Rattle.c_accepted.proofs.Known.{never, one_known, then_known}
 use Rattle.c_accepted.proofs.Merged.{grows_others}
@@ -47,7 +48,7 @@ holds_known true r at z h = refl
 holds_known false r at z h = never (Broken r at) z (λ k. k) h
 
 -- an initializer sets a bound
-bound_there : (v : Environment) (t : Plain) (i : InitialTree) → HasItems (Some i) → initial_found v (with_bound t i) i ≡ nothing → is_unbounded (with_bound t i) ≡ false
+bound_there : (v : Environment) (t : Plain) (i : InitialTree) → IsInitialized (Some i) → initial_found v (with_bound t i) i ≡ nothing → is_unbounded (with_bound t i) ≡ false
 bound_there v (Array t zero) (Value e) n h = by (text_of e) h
   where
     by : (o : Option (List ℕ)) → holds (fits t (elim o as (λ _. ℕ) [ None ↦ 0 | Some text ↦ suc (length text) ]) o) 13 (place_of e).at ≡ nothing
@@ -74,7 +75,7 @@ bounded_complete v b Void at z h k = holds_known false 1 at z h
 bounded_complete v b (Pointer t) at z h k = refl
 bounded_complete v b (Struct s) at z h k = holds_known (is_complete v.defs (Struct s)) 1 at z h
 
-plain_complete : (v : Environment) (u : Plain) (at : ℕ) (z : Fine) → may_stand v false u at ≡ Known z → is_complete v.defs u ≡ true
+pub plain_complete : (v : Environment) (u : Plain) (at : ℕ) (z : Fine) → may_stand v false u at ≡ Known z → is_complete v.defs u ≡ true
 plain_complete v (Array t zero) at z h = absurd (true≢false (sym (holds_known false 2 at z h)))
 plain_complete v (Array t (suc n)) at z h = bounded_complete v false (Array t (suc n)) at z h refl
 plain_complete v Char at z h = refl
@@ -106,7 +107,7 @@ function_whole defs storage.Static t ps = tt
 function_whole defs storage.Plain t ps = tt
 
 module _ (v o : Environment) where
-  pub standing_whole : (s : Storage) (i : Option InitialTree) (at : ℕ) (y : Shape) (x : Denoted) → standing v s i at y ≡ Known x → HasItems i → ((j : InitialTree) → i ≡ Some j → initial_found o (type_or x) j ≡ nothing) → AsksFor v.defs (manner_of s i x) x
+  pub standing_whole : (s : Storage) (i : Option InitialTree) (at : ℕ) (y : Shape) (x : Denoted) → standing v s i at y ≡ Known x → IsInitialized i → ((j : InitialTree) → i ≡ Some j → initial_found o (type_or x) j ≡ nothing) → AsksFor v.defs (manner_of s i x) x
   standing_whole s i at (Object t) x h n f =
       let u = object_type t i in
       let (w, e, k) = then_known (in_limits v u at) (λ z. may_stand v (is_extern s) u at then λ y. Known (typing.Object u false)) x h in
@@ -114,7 +115,7 @@ module _ (v o : Environment) where
       let is : typing.Object u false ≡ x = one_known (typing.Object u false) x l in
       subst (λ d. AsksFor v.defs (manner_of s i d) d) is (object_whole v s i u at z g (bound i n (λ j p. ap (λ d. initial_found o (type_or d) j) is ∙ f j p)))
     where
-      bound : (i : Option InitialTree) → HasItems i → ((j : InitialTree) → i ≡ Some j → initial_found o (object_type t i) j ≡ nothing) → IsBoundBy i (object_type t i)
+      bound : (i : Option InitialTree) → IsInitialized i → ((j : InitialTree) → i ≡ Some j → initial_found o (object_type t i) j ≡ nothing) → IsBoundBy i (object_type t i)
       bound None n w = tt
       bound (Some j) n w = bound_there o t j n (w j refl)
   standing_whole s None at (Function t ps) x h n f =
@@ -159,7 +160,7 @@ module _ (here defs : List StructDef) (g : Grows here defs) (s : Storage) where
   definition_whole p f (Some i) h k = all_last (IsWholeIn defs p.names) p.definitions (defining f (manner_of s (Some i) f.denoted)) h k
 
   module _ (t : Plain) where
-    one_whole : (p : State) (d : Declared) (a : Answer Denoted) → what s t p d ≡ a → found_as s p d a ≡ nothing → HasItem d → p.here.defs ≡ here → AreWhole defs p → AreWhole defs (after_what s p d a)
+    one_whole : (p : State) (d : Declared) (a : Answer Denoted) → what s t p d ≡ a → found_as s p d a ≡ nothing → IsDeclared d → p.here.defs ≡ here → AreWhole defs p → AreWhole defs (after_what s p d a)
     one_whole p d (Unknown name) e h n j w = w
     one_whole p d (Broken r at) e h n j w = w
     one_whole p d (Known x) e h n j w =
@@ -173,7 +174,7 @@ module _ (here defs : List StructDef) (g : Grows here defs) (s : Storage) where
         let asks_now : AsksFor defs m x = asks_grow here defs g m x (subst (λ ds. AsksFor ds m x) j asks) in
         definition_whole (with_strings s (with_name p f) d.declarator) f d.initial (wholes_on defs f p.names p.definitions w) (defined_whole defs f p.names m asks_now)
 
-    all_whole : (p : State) (ds : List Declared) → all_found s t p ds ≡ nothing → AllByRecursion HasItem ds → p.here.defs ≡ here → AreWhole defs p → AreWhole defs (after_all s t p ds)
+    all_whole : (p : State) (ds : List Declared) → all_found s t p ds ≡ nothing → AllByRecursion IsDeclared ds → p.here.defs ≡ here → AreWhole defs p → AreWhole defs (after_all s t p ds)
     all_whole p [] h n j w = w
     all_whole p (d ∷ ds) h n j w =
         let q = two_parts (declared_found s t p d) (all_found s t (after_name s t p d) ds) h in
@@ -186,7 +187,7 @@ function_whole_on defs s d x p (Function t ps) w =
     all_last (IsWholeIn defs (f ∷ p.names)) p.definitions (defining f (Some Body)) (wholes_on defs f p.names p.definitions w) ((λ o. absurd (true≢false o)), tt)
 
 module _ (tags : List (List ℕ)) where
-  pub external_whole : (p : State) (e : External) (q : State) → Stands tags p → HaveItems e → Externals p e nothing q → Goes tags p q → AreWhole (whole p) p → AreWhole (whole q) q
+  pub external_whole : (p : State) (e : External) (q : State) → Stands tags p → IsText e → Externals p e nothing q → Goes tags p q → AreWhole (whole p) p → AreWhole (whole q) q
   external_whole p (Declaration h) q s n (a, v, i, e, k) go w =
       let (u, known) = unbroken a _ (sym e) in
       let m = with_spec p h.spec v in

@@ -1,4 +1,4 @@
--- What is asked of a program, and of the files that it comes from, so that its functions keep to the rules.
+-- What is asked of a program so that its functions keep to the rules.
 use Rattle.std.specs.Prelude.{◌≡◌, ◌<◌, ℕ, false, List, [], length, Some, None, slice_get}
 use Rattle.std.specs.List.{AllByRecursion}
 use Rattle.c_statement.specs.declared.unit.External.{External}
@@ -12,16 +12,6 @@ use Rattle.c_typing.specs.Declarations.{scope_at}
 use Rattle.c_scope.specs.Environment.{Row}
 use Rattle.c_file.specs.Names.{is_built_in}
 use Rattle.c_file.specs.Files.{State, Called}
-use Rattle.c_accepted.specs.Begun.{IsOfGrammar}
-use Rattle.c_accepted.specs.Sources.{IsText, HasWordsIn}
-
--- each file is that of a text
-abbrev pub AreTexts : List (List External) → Type 0
-AreTexts us = AllByRecursion (AllByRecursion IsText) us
-
--- each constant in a body is a word
-abbrev pub BodiesHaveWords : Program → Type 0
-BodiesHaveWords p = AllByRecursion (λ (fn : FunctionRow). HasWordsIn fn.body) p.functions
 
 -- each struct is within its limits
 abbrev pub StructsAreWritten : Program → Type 0
@@ -31,9 +21,3 @@ StructsAreWritten p = (n : ℕ) → n < length p.defs → IsWritten p.defs (Stru
 abbrev pub CallsAreThere : Program → State → Type 0
 CallsAreThere p q = (i : ℕ) (c : Called) → slice_get q.calls i ≡ Some c → (n : ℕ) (r : Row) (t : Plain) (ts : List Plain) → slice_get q.here.names n ≡ Some r → r.local ≡ None → r.name ≡ c.name → (is_built_in r.name ≡ false → r.unit ≡ c.unit)
     → r.denoted ≡ Function t ts → (f : ℕ) → slice_get (scope_at p f []).names n ≡ Some (Function t ts)
-
--- ---- of the whole program
-
--- the initializers of each file are those of the grammar
-abbrev pub HaveInitials : List (List External) → Type 0
-HaveInitials us = AllByRecursion (AllByRecursion IsOfGrammar) us

@@ -1,10 +1,6 @@
 -- What the names and the definitions of a program are to each other (C90 6.5, 6.7).
-use Rattle.std.specs.Prelude.{◌≡◌, ◌≤◌, ℕ, Bool, true, false, List, Option, Some, None, slice_get}
+use Rattle.std.specs.Prelude.{◌≡◌, ◌≤◌, ℕ, Bool, true, false, List, Some, slice_get}
 use Rattle.std.specs.List.{AllByRecursion}
-use Rattle.c_declaration.specs.InitialTree.{InitialTree, Braces}
-use Rattle.c_declaration.specs.declared.tree.Declared.{Declared}
-use Rattle.c_statement.specs.declared.unit.External.{External}
-use Rattle.c_statement.specs.declared.unit.External.TheVariants.{Declaration, Definition}
 use Rattle.c_tree.specs.declared.types.StructDef.{StructDef}
 use Rattle.c_typing.specs.Plain.{Plain, is_complete}
 use Rattle.c_typing.specs.Expressions.{Denoted, Object, Function}
@@ -63,16 +59,3 @@ pub record IsWhole (defs : List StructDef) (fs : List FileName) (d : Defining) :
 
 abbrev pub IsWholeIn : List StructDef → List FileName → Defining → Type 0
 IsWholeIn defs fs d = is_body d.manner ≡ false → IsWhole defs fs d
-
--- a list in braces has an item, as each has in the grammar (C90 6.5.7)
-abbrev pub HasItems : Option InitialTree → Type 0
-HasItems None = Unit {0}
-HasItems (Some (Braces at)) = ⊥
-HasItems (Some i) = Unit {0}
-
-abbrev pub HasItem : Declared → Type 0
-HasItem d = HasItems d.initial
-
-abbrev pub HaveItems : External → Type 0
-HaveItems (Declaration h) = AllByRecursion HasItem h.names
-HaveItems (Definition h x) = Unit {0}

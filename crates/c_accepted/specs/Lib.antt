@@ -1,10 +1,7 @@
+pub mod Sources
 pub mod Grown
-pub mod Words
 pub mod Reads
 pub mod Completed
 pub mod Declarations
-pub mod Begun
-pub mod Starting
 pub mod Wanted
-pub mod Sources
 pub mod Asked

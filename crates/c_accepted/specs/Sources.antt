@@ -1,23 +1,54 @@
--- What holds of the statements that a text is read to, and of typed statements as memory holds them.
-use Rattle.std.specs.Prelude.{◌≡◌, ◌<◌, ◌^◌, false, ◌==◌, List, [], ◌∷◌, Option, Some, None}
+-- What holds of the trees that a text is read to.
+use Rattle.std.specs.Prelude.{◌≡◌, ◌<◌, ◌^◌, ℕ, false, ◌==◌, List, [], ◌∷◌, Option, Some, None}
 use Rattle.std.specs.List.{AllByRecursion}
-use Rattle.c_expr.specs.Tree.{Tree}
-use Rattle.c_declaration.specs.InitialTree.{InitialTree, Value}
+use Rattle.ldb_words.specs.Word.{word_of_signed}
+use Rattle.c_symbol.specs.declared.symbol.LeafKind.{LeafKind}
+use Rattle.c_symbol.specs.declared.symbol.LeafKind.TheVariants as leaf
+use Rattle.c_expr.specs.Tree.{Tree, Leaf, Paren, Index, Call, With, Member, After, Prefix, SizeofType, Cast, Binary, Choice, Stars, Around, Bounded, Unbounded}
+use Rattle.c_declaration.specs.InitialTree.{InitialTree, Value, Braces, Item}
 use Rattle.c_declaration.specs.declared.tree.Declared.{Declared}
 use Rattle.c_statement.specs.Tree.{StatementTree, Evaluate, Begun, Declares, Also, Closed, If, IfElse, Headed, Do, Return}
 use Rattle.c_statement.specs.declared.tree.Head.{Head}
 use Rattle.c_statement.specs.declared.tree.Head.TheVariants as head
-use Rattle.c_tree.specs.declared.typed.Typed.{Typed}
-use Rattle.c_tree.specs.declared.typed.Pointed.{Pointed}
-use Rattle.c_tree.specs.declared.typed.DeclaredLocal.{DeclaredLocal}
-use Rattle.c_tree.specs.declared.typed.Stmt.{Stmt, Row_of-Stmt, end_of-Stmt, more_of-Stmt, Held-Stmt-If-3, None', Some'}
-use Rattle.c_tree.specs.declared.typed.Stmt.TheVariants as typed
 use Rattle.c_statement.specs.declared.unit.External.{External}
 use Rattle.c_statement.specs.declared.unit.External.TheVariants.{Declaration, Definition}
 use Rattle.c_mentions.specs.Literals.{Literal, in_tree}
-use Rattle.c_accepted.specs.Words.{HasWords}
 
--- ---- statements of a text
+-- ---- expressions
+
+-- literals begin at different places
+abbrev pub AreApart : List Literal → Type 0
+AreApart [] = Unit {0}
+AreApart (l ∷ ls) = AllByRecursion (λ m. (l.at == m.at) ≡ false) ls × AreApart ls
+
+abbrev pub IsApart : Tree → Type 0
+IsApart e = AreApart (in_tree e)
+
+abbrev pub IsWord : LeafKind → Type 0
+IsWord (leaf.Constant i) = i.value < 2 ^ 32
+IsWord (leaf.Character c) = word_of_signed c < 2 ^ 32
+IsWord _ = Unit {0}
+
+-- each constant is a word
+abbrev pub AreWords : Tree → Type 0
+AreWords (Leaf at kind text) = IsWord kind
+AreWords (Paren at a) = AreWords a
+AreWords (Index at a b) = AreWords a × AreWords b
+AreWords (Call at f) = AreWords f
+AreWords (With c a) = AreWords c × AreWords a
+AreWords (Member at a w q name) = AreWords a
+AreWords (After at a step) = AreWords a
+AreWords (Prefix at w a) = AreWords a
+AreWords (SizeofType at s d) = AreWords d
+AreWords (Cast at s d a) = AreWords d × AreWords a
+AreWords (Binary at w a b) = AreWords a × AreWords b
+AreWords (Choice at c a b) = AreWords c × AreWords a × AreWords b
+AreWords (Stars n) = Unit {0}
+AreWords (Around n d) = AreWords d
+AreWords (Bounded d e) = AreWords d × AreWords e
+AreWords (Unbounded d) = AreWords d
+
+-- ---- statements
 
 -- a block with only its declarations so far
 abbrev pub IsOpened : StatementTree → Type 0
@@ -36,11 +67,6 @@ IsInOrder (Headed _ s) = IsInOrder s
 IsInOrder (Do _ s _) = IsInOrder s
 IsInOrder _ = Unit {0}
 
--- literals begin at different places
-abbrev pub AreApart : List Literal → Type 0
-AreApart [] = Unit {0}
-AreApart (l ∷ ls) = AllByRecursion (λ m. (l.at == m.at) ≡ false) ls × AreApart ls
-
 module _ (P : Tree → Type 0) where
   abbrev pub AllInPart : Option Tree → Type 0
   AllInPart None = Unit {0}
@@ -58,10 +84,10 @@ module _ (P : Tree → Type 0) where
   AllInHead (head.While _ e) = P e
   AllInHead (head.For _ i e k) = AllInPart i × AllInPart e × AllInPart k
   AllInHead (head.Switch _ e) = P e
-  AllInHead (head.Case _ e) = Unit {0}
+  AllInHead (head.Case _ e) = P e
   AllInHead (head.Default _) = Unit {0}
 
-  -- a property of each expression that is evaluated
+  -- a property of each expression in a statement, but for the bounds of declarators
   abbrev pub AllIn : StatementTree → Type 0
   AllIn (Evaluate e) = P e
   AllIn (Declares b l) = AllIn b × AllInNames l.names
@@ -74,45 +100,38 @@ module _ (P : Tree → Type 0) where
   AllIn (Return _ e) = AllInPart e
   AllIn _ = Unit {0}
 
--- What holds of each external declaration of a text: in a body declarations stand before statements, and the literals of an expression begin at different places.
-abbrev pub IsText : External → Type 0
-IsText (Declaration h) = Unit {0}
-IsText (Definition h x) = IsInOrder x × AllIn (λ e. AreApart (in_tree e)) x
+-- ---- initializers at file scope
 
--- ---- statements in memory
-
-abbrev pub HasWordsPart : Option Pointed → Type 0
-HasWordsPart None = Unit {0}
-HasWordsPart (Some q) = HasWords q.e
-
-abbrev pub HaveWordsInits : List DeclaredLocal → Type 0
-HaveWordsInits [] = Unit {0}
-HaveWordsInits (d ∷ ds) = HasWordsPart d.init × HaveWordsInits ds
-
-abbrev pub HasWordsValue : Option Typed → Type 0
-HasWordsValue None = Unit {0}
-HasWordsValue (Some e) = HasWords e
-
+-- expressions whose constants are words, and lists in braces with an item, as each has in the grammar (C90 6.5.7)
 abbrev mutual
-  -- each constant of a statement is a word
-  pub HasWordsIn : Stmt → Type 0
-  HasWordsIn (typed.Value _ e) = HasWordsPart e
-  HasWordsIn (typed.Block' _ ds _ row l c) = HaveWordsInits ds × HaveWordsRow row
-  HasWordsIn (typed.If' _ q _ s t) = HasWords q.e × HasWordsIn s × HasWordsElse t
-  HasWordsIn (typed.While' _ q _ s) = HasWords q.e × HasWordsIn s
-  HasWordsIn (typed.Do' _ _ s q) = HasWordsIn s × HasWords q.e
-  HasWordsIn (typed.For' _ i q t _ s) = HasWordsPart i × HasWordsPart q × HasWordsPart t × HasWordsIn s
-  HasWordsIn (typed.Switch' _ q _ s) = HasWords q.e × HasWordsIn s
-  HasWordsIn (typed.Case' _ c _ s) = (c < 2 ^ 32) × HasWordsIn s
-  HasWordsIn (typed.Default' _ _ s) = HasWordsIn s
-  HasWordsIn (typed.Break _) = Unit {0}
-  HasWordsIn (typed.Continue _) = Unit {0}
-  HasWordsIn (typed.Return _ q e) = HasWordsValue e
+  pub IsInitializer : InitialTree → Type 0
+  IsInitializer (Value e) = AreWords e
+  IsInitializer (Braces at) = ⊥
+  IsInitializer (Item i j) = AreItems i × IsInitializer j
 
-  pub HaveWordsRow : {m : _} → Row_of-Stmt m → Type 0
-  HaveWordsRow end_of-Stmt = Unit {0}
-  HaveWordsRow (more_of-Stmt s rest) = HasWordsIn s × HaveWordsRow rest
+  pub AreItems : InitialTree → Type 0
+  AreItems (Value e) = ⊥
+  AreItems (Braces at) = Unit {0}
+  AreItems (Item i j) = AreItems i × IsInitializer j
 
-  pub HasWordsElse : Held-Stmt-If-3 → Type 0
-  HasWordsElse None' = Unit {0}
-  HasWordsElse (Some' _ s) = HasWordsIn s
+abbrev pub IsInitialized : Option InitialTree → Type 0
+IsInitialized None = Unit {0}
+IsInitialized (Some i) = IsInitializer i
+
+abbrev pub IsDeclared : Declared → Type 0
+IsDeclared d = IsInitialized d.initial
+
+-- ---- files
+
+-- In a body declarations stand before statements, the literals of an expression begin at different places, and constants are words.
+abbrev pub IsBody : StatementTree → Type 0
+IsBody x = IsInOrder x × AllIn IsApart x × AllIn AreWords x
+
+-- what holds of each external declaration of a text
+abbrev pub IsText : External → Type 0
+IsText (Declaration h) = AllByRecursion IsDeclared h.names
+IsText (Definition h x) = IsBody x
+
+-- each file is that of a text
+abbrev pub AreTexts : List (List External) → Type 0
+AreTexts us = AllByRecursion (AllByRecursion IsText) us

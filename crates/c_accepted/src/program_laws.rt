@@ -4,10 +4,9 @@ ghost use Rattle.c_statement.specs.declared.unit.External.{External};
 ghost use Rattle.c_tree.specs.declared.rows.Program.{Program};
 ghost use Rattle.c_typing.specs.Programs.{KeepsRules};
 ghost use Rattle.c_check.specs.Faulty.{Checks};
-ghost use Rattle.c_accepted.specs.Asked.{AreTexts, HaveInitials, BodiesHaveWords};
-ghost use Rattle.c_accepted.specs.Starting.{ObjectsHaveWords, PlacesAreThere};
+ghost use Rattle.c_accepted.specs.Sources.{AreTexts};
 
-/// The program that the checker gives of some files is accepted, where the files are those of texts, its numbers are words, and the places that its objects begin with are in its objects.
+/// The program that the checker gives of some files keeps to the rules, where the files are those of texts.
 pub fn checked_programs_are_accepted()
-    ensures { (names : List (List ℕ)) (us : List (List External)) (p : Program) → Checks names us (Ok p) → length names ≡ length us → AreTexts us → HaveInitials us → BodiesHaveWords p → ObjectsHaveWords p → PlacesAreThere p → KeepsRules p }
+    ensures { (names : List (List ℕ)) (us : List (List External)) (p : Program) → Checks names us (Ok p) → length names ≡ length us → AreTexts us → KeepsRules p }
 {}
