@@ -17,13 +17,12 @@ use Rattle.c_file.specs.Files.{State, Bodied}
 use Rattle.c_file.specs.Programs as programs
 use Rattle.c_file.specs.Programs.{Told, Well, Lacks, Breaks, Fault, Rule, Twice, Undefined, NoMain, uncalled, or_name, missing, behind_rules, first_fault, late_found, AllFiles, tags_of, at_first, next_file}
 use Rattle.c_file.specs.Made.{Each, bodies_of, objects_from}
-use Rattle.c_accepted.specs.Completed.{AreSound}
-use Rattle.c_accepted.specs.Declarations.{AreDeclared, IsWholeIn}
+use Rattle.c_accepted.proofs.Completed.{AreSound}
+use Rattle.c_accepted.proofs.Declarations.{AreDeclared, IsWholeIn}
 use Rattle.c_accepted.specs.Sources.{IsText, AreTexts}
-use Rattle.c_accepted.specs.Grown.{Grows}
 use Rattle.c_check.specs.Faulty.{Accepts}
-use Rattle.c_accepted.specs.Asked.{CallsAreThere}
-use Rattle.c_accepted.specs.Wanted.{AreSought}
+use Rattle.c_accepted.proofs.Asked.{CallsAreThere}
+use Rattle.c_accepted.proofs.Sought.{AreSought}
 use Rattle.c_accepted.proofs.AllTags.{tags_there}
 use Rattle.c_accepted.proofs.Structs.{structs_keep}
 use Rattle.c_accepted.proofs.Walked.{Stands, first_stands}
@@ -33,15 +32,13 @@ use Rattle.c_accepted.proofs.Counted.{room_kept, units_kept, units_counted, poin
 use Rattle.c_accepted.proofs.Typed.{TypedIn, whole, external_typed, begins_typed, next_typed, first_typed}
 use Rattle.c_accepted.proofs.Wholes.{AreWhole, external_whole, begins_whole}
 use Rattle.c_accepted.proofs.Objects.{IsPlaced, objects_placed, objects_kept}
-use Rattle.c_accepted.proofs.Completing.{extended, no_more}
-use Rattle.c_accepted.proofs.Merged.{merged_sound}
 use Rattle.c_accepted.proofs.Started.{AreBegun, external_begun, begins_begun}
 use Rattle.c_accepted.proofs.Begun.{AllGive, all_begun}
 use Rattle.c_accepted.proofs.Given.{all_give, words_given}
 use Rattle.c_accepted.proofs.Symbols.{IsReferentOf, all_symbols}
 use Rattle.c_accepted.proofs.Wanted.{external_sought}
 use Rattle.c_accepted.proofs.Entries.{Entry}
-use Rattle.c_accepted.proofs.PlacesKept.{ArePlaced, external_placed, begins_placed, first_placed, next_placed}
+use Rattle.c_accepted.proofs.PlacesKept.{ArePlaced, same_whole, external_placed, begins_placed, first_placed, next_placed}
 use Rattle.c_accepted.proofs.PlacesFound.{places_there}
 use Rattle.c_accepted.proofs.Denotes.{AreTold, external_told, first_told, next_told}
 use Rattle.c_accepted.proofs.Referents.{calls_there, referents_there}
@@ -124,9 +121,6 @@ BegunNow p = AreBegun (whole p) p
 
 abbrev BegunBefore : State → Type 0
 BegunBefore p = AreBegun p.others p
-
-same_whole : (tags : List (List ℕ)) (q : State) → Stands tags q → Grows (whole q) (whole q)
-same_whole tags q s = extended (whole q) (whole q) (merged_sound q.others q.here.defs s.here.pairs s.here.sound s.others s.here.agree) (no_more (whole q))
 
 pub begun_behind : (us : List (List External)) (q : State) → AreTexts us → AllFiles (tags_of us) (at_first (tags_of us)) us Well q → AreBegun q.others q
 begun_behind us q w h =

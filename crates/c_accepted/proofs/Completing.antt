@@ -13,7 +13,7 @@ use Rattle.c_typing.specs.Plain.{Plain, Char, Int, Unsigned, Void, Pointer, Arra
 use Rattle.c_defs.specs.Depths.{is_within, are_within}
 use Rattle.c_judge.proofs.Sizes.{size_of_plain}
 use Rattle.c_accepted.specs.Grown.{ctype_of, IsMade, IsHeld, Grows}
-use Rattle.c_accepted.specs.Completed.{IsSound, AreSound, Extends}
+use Rattle.c_accepted.proofs.Completed.{IsSound, AreSound, Extends}
 use Rattle.c_accepted.proofs.Growth.{both_parts, not_empty, complete_grows, size_grows}
 use Rattle.c_accepted.proofs.Written.{within_grows}
 

@@ -72,7 +72,7 @@ drop_last true b c e h = refl
 drop_last false true c e h = refl
 drop_last false false c e h = absurd (true≢false (sym h ∙ e))
 
-not_zero : (n : ℕ) → (suc n == 0) ≡ false
+pub not_zero : (n : ℕ) → (suc n == 0) ≡ false
 not_zero n = grind arith
 
 pub agrees_told : (s t : Plain) → is_unbounded t ≡ false → agree s t ≡ true → IsTold s t

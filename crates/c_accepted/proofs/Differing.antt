@@ -16,7 +16,7 @@ use Rattle.c_file.specs.Names.{FileName, Defining, agree_as, is_here, is_same, o
 use Rattle.c_file.specs.FileNames.{AreConsistent}
 use Rattle.c_file.specs.Files.{State, Bodied}
 use Rattle.c_file.specs.Made.{Each, IsFunctionOf, IsObjectOf, bodies_of, is_body, is_on, objects_from}
-use Rattle.c_accepted.specs.Declarations.{Fits, IsDeclaredBy, KeepsNames, IsBodyFor}
+use Rattle.c_accepted.proofs.Declarations.{Fits, IsDeclaredBy, KeepsNames, IsBodyFor}
 use Rattle.c_accepted.proofs.Growth.{both_parts}
 
 pub all_at : {A : Type 0} (P : A → Type 0) (xs : List A) (n : ℕ) (x : A) → AllByRecursion P xs → slice_get xs n ≡ Some x → P x

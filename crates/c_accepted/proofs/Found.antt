@@ -9,7 +9,7 @@ use Rattle.c_typing.specs.Expressions.{Object}
 use Rattle.c_file.specs.Names.{FileName, Defining, is_here, is_external, is_same, one_type, defines, is_defined}
 use Rattle.c_file.specs.FileNames.{AreConsistent}
 use Rattle.c_file.specs.Made.{is_body, is_on, objects_from, number_from}
-use Rattle.c_accepted.specs.Declarations.{IsDeclaredBy}
+use Rattle.c_accepted.proofs.Declarations.{IsDeclaredBy}
 use Rattle.c_accepted.proofs.Growth.{both_parts}
 use Rattle.c_accepted.proofs.Differing.{all_at, is_function, body_is, kinds_agree}
 use Rattle.c_accepted.proofs.Composite.{is_same_turned, one_agrees}
@@ -120,7 +120,7 @@ number_self n = grind arith
 text_self : (s : List ℕ) → bytes_eq s s ≡ true
 text_self s = (bytes_eq-Decides s s).1 refl
 
-not_true : (b : Bool) → not b ≡ true → b ≡ false
+pub not_true : (b : Bool) → not b ≡ true → b ≡ false
 not_true false h = refl
 not_true true h = absurd (true≢false (sym h))
 

@@ -20,8 +20,8 @@ use Rattle.c_file.specs.Files.{State, Started}
 use Rattle.c_file.specs.Made.{Each, IsObjectOf, started, object_type, objects_from}
 use Rattle.c_file.proofs.Telling.{same_linkage}
 use Rattle.c_accepted.specs.Grown.{IsHeld}
-use Rattle.c_accepted.specs.Completed.{AreSound}
-use Rattle.c_accepted.specs.Declarations.{IsWhole, IsWholeIn}
+use Rattle.c_accepted.proofs.Completed.{AreSound}
+use Rattle.c_accepted.proofs.Declarations.{IsWhole, IsWholeIn}
 use Rattle.c_accepted.proofs.Growth.{both_parts}
 use Rattle.c_accepted.proofs.Completing.{held_in}
 use Rattle.c_accepted.proofs.Composite.{IsOf, object_type_is}

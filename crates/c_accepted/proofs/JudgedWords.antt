@@ -239,7 +239,7 @@ module _ (v : Scope) where
   judged_word (Paren at a) w = judged_word a w
   judged_word (Index at a b) w =
       joint_holds Anything Anything IsWordJudged at.at (index_alone (defs_of v)) (index_alone (defs_of v)) (indexed (defs_of v) at.at) (λ x y h k. object_word 28 at.at (index_type (defs_of v) (value_type_of x) (value_type_of y)))
-          (judged v a) (judged v b) (anything (judged v a)) (anything (judged v b))
+      (judged v a) (judged v b) (anything (judged v a)) (anything (judged v b))
   judged_word (Call at f) w = let c = callee v f (judged v f) then counted v.asks at.at 0 in then_holds Anything IsWordJudged called (λ x h. tt) c (anything c)
   judged_word (With c a) w =
       let f = calling v (suc (arguments_in c)) c in
@@ -253,15 +253,15 @@ module _ (v : Scope) where
   judged_word (Cast at s d a) w =
       let t = declared v at.at d (Known (spec_type v s)) in
       joint_holds Anything IsWordJudged IsWordJudged at.at cast_alone cast_operand_alone (cast_to at.at)
-          (λ t x h k. folded_word 40 at.at (with_one (converted t) x.constant) (cast_type t (value_type_of x)) (one_word (converted t) (converted_word t) x.constant k)) t (judged v a) (anything t) (judged_word a w.1)
+      (λ t x h k. folded_word 40 at.at (with_one (converted t) x.constant) (cast_type t (value_type_of x)) (one_word (converted t) (converted_word t) x.constant k)) t (judged v a) (anything t) (judged_word a w.1)
   judged_word (Binary at o a b) w =
       joint_holds IsWordJudged IsWordJudged IsWordJudged at.at (left_alone (defs_of v) o) (right_alone (defs_of v) o) (joined (defs_of v) at.at o) (joined_word (defs_of v) at.at o) (judged v a) (judged v b) (judged_word a w.0) (judged_word b w.1)
   judged_word (Choice at c a b) w =
       let two = joint at.at scalar_alone scalar_alone both_known (judged v a) (judged v b) in
       let words = joint_holds IsWordJudged IsWordJudged Both at.at scalar_alone scalar_alone both_known (λ x y h k. (h, k)) (judged v a) (judged v b) (judged_word a w.1) (judged_word b w.2) in
       joint_holds Anything Both IsWordJudged at.at scalar_alone branches_alone (λ z p. chosen_of at.at z p.0 p.1)
-          (λ z p h k. folded_word 38 at.at (chosen z.constant p.0.constant p.1.constant) (choice_type (value_type_of z) p.0.operand p.1.operand) (chosen_word z.constant p.0.constant p.1.constant k.0 k.1))
-          (judged v c) two (anything (judged v c)) words
+      (λ z p h k. folded_word 38 at.at (chosen z.constant p.0.constant p.1.constant) (choice_type (value_type_of z) p.0.operand p.1.operand) (chosen_word z.constant p.0.constant p.1.constant k.0 k.1))
+      (judged v c) two (anything (judged v c)) words
   judged_word (Stars n) w = tt
   judged_word (Around n d) w = tt
   judged_word (Bounded d e) w = tt

@@ -29,7 +29,7 @@ use Rattle.c_file.specs.Made.{Each, HasRows, IsFunctionOf, IsSymbolOf, all_point
 use Rattle.c_file.specs.Made as made
 use Rattle.c_accepted.specs.Grown.{Grows}
 use Rattle.c_accepted.specs.Sources.{IsText, AreTexts}
-use Rattle.c_accepted.specs.Asked.{StructsAreWritten, CallsAreThere}
+use Rattle.c_accepted.proofs.Asked.{StructsAreWritten, CallsAreThere}
 use Rattle.c_accepted.proofs.Runs.{IsAt}
 use Rattle.c_accepted.proofs.Keeps.{Keeps, keeps_on, after_keeps}
 use Rattle.c_accepted.proofs.Scopes.{first_there, some_same}

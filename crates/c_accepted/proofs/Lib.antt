@@ -1,3 +1,7 @@
+mod Completed
+mod Declarations
+mod Sought
+mod Asked
 mod Words
 mod StatementWords
 mod Starting

@@ -15,7 +15,7 @@ use Rattle.c_judge.proofs.Sizes.{size_of_plain}
 use Rattle.c_struct.specs.Structs.{Written, written}
 use Rattle.c_file.specs.Programs.{completed_one, completed_by}
 use Rattle.c_accepted.specs.Grown.{ctype_of, IsHeld, Grows}
-use Rattle.c_accepted.specs.Completed.{IsSound, AreSound, Extends, Agree}
+use Rattle.c_accepted.proofs.Completed.{IsSound, AreSound, Extends, Agree}
 use Rattle.c_accepted.proofs.Growth.{both_parts, not_empty}
 use Rattle.c_accepted.proofs.Completing.{all_aligned, aligned, members_aligned, as_aligned, held_in, extended, sound_grows}
 

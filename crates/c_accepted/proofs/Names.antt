@@ -25,7 +25,7 @@ use Rattle.c_file.specs.Files.{State, Bodied, standing, object_type, in_limits, 
 use Rattle.c_file.specs.Programs.{at_first, next_file}
 use Rattle.c_file.specs.Made.{Each, bodies_of, is_body}
 use Rattle.c_file.proofs.Telling.{unbroken}
-use Rattle.c_accepted.specs.Declarations.{Fits, IsDeclaredBy, KeepsNames, IsBodyFor, AreDeclared}
+use Rattle.c_accepted.proofs.Declarations.{Fits, IsDeclaredBy, KeepsNames, IsBodyFor, AreDeclared}
 use Rattle.c_accepted.proofs.Known.{never, one_known, then_known}
 use Rattle.c_accepted.proofs.Walked.{Goes, two_parts, all_keep, function_keeps, behind_one, unbroken as is_known}
 

@@ -13,8 +13,8 @@ use Rattle.c_file.specs.FileNames.{AreConsistent}
 use Rattle.c_file.specs.Telling.{is_unbounded}
 use Rattle.c_file.specs.Files.{State}
 use Rattle.c_file.specs.Made.{Each, IsObjectOf, object_type, objects_from}
-use Rattle.c_accepted.specs.Completed.{AreSound}
-use Rattle.c_accepted.specs.Declarations.{IsWhole, IsWholeIn}
+use Rattle.c_accepted.proofs.Completed.{AreSound}
+use Rattle.c_accepted.proofs.Declarations.{IsWhole, IsWholeIn}
 use Rattle.c_accepted.proofs.Growth.{both_parts}
 use Rattle.c_accepted.proofs.Written.{IsNamed}
 use Rattle.c_accepted.proofs.Structs.{declared_in}

@@ -13,8 +13,8 @@ use Rattle.c_file.specs.Telling.{is_unbounded}
 use Rattle.c_file.specs.Files.{State}
 use Rattle.c_file.specs.Programs.{uncalled}
 use Rattle.c_file.specs.Made.{Each, IsObjectOf, object_number, objects_from, number_from, or_zero}
-use Rattle.c_accepted.specs.Declarations.{AreDeclared, KeepsNames, IsWhole, IsWholeIn}
-use Rattle.c_accepted.specs.Wanted.{AreSought, IsSoughtIn}
+use Rattle.c_accepted.proofs.Declarations.{AreDeclared, KeepsNames, IsWhole, IsWholeIn}
+use Rattle.c_accepted.proofs.Sought.{AreSought, IsSoughtIn}
 use Rattle.c_accepted.proofs.Composite.{IsOf, IsToldOf, object_type_is, all_told, is_same_turned}
 use Rattle.c_accepted.proofs.Differing.{all_at, IsAnObject, all_objects, unseen}
 use Rattle.c_accepted.proofs.Objects.{complete_bounded}

@@ -9,25 +9,24 @@ use Rattle.c_tree.specs.declared.rows.ObjectRow.{ObjectRow}
 use Rattle.c_typing.specs.Plain.{Plain, Char, Int, Unsigned, Void, Pointer, Array, Struct, plain}
 use Rattle.c_typing.specs.Values.{size_of}
 use Rattle.c_typing.specs.Expressions.{Denoted, Object, Function, Hidden}
-use Rattle.c_judge.specs.Answers.{Broken}
 use Rattle.c_judge.proofs.Sizes.{size_of_plain}
-use Rattle.c_scope.specs.Findings.{nothing, holds}
+use Rattle.c_scope.specs.Findings.{holds}
 use Rattle.c_initial.specs.Begins.{Begin, Bits, Within, Text}
 use Rattle.c_file.specs.Names.{FileName, Defining, is_here, is_external}
 use Rattle.c_file.specs.Telling.{is_unbounded, is_open}
 use Rattle.c_file.specs.Files.{State, Started, Awaited}
 use Rattle.c_file.specs.Programs.{Well, in_file, bound_in, greatest_bound, late_found, uncalled}
 use Rattle.c_file.specs.Made.{Each, IsObjectOf, started, begins_in, object_number, objects_from, or_zero}
-use Rattle.c_accepted.specs.Declarations.{AreDeclared, IsWholeIn}
-use Rattle.c_accepted.specs.Wanted.{AreSought}
+use Rattle.c_accepted.proofs.Declarations.{AreDeclared, IsWholeIn}
+use Rattle.c_accepted.proofs.Sought.{AreSought}
 use Rattle.c_accepted.proofs.Growth.{both_parts}
 use Rattle.c_accepted.proofs.Walked.{well_one, well_both}
 use Rattle.c_accepted.proofs.Differing.{all_at}
-use Rattle.c_accepted.proofs.Composite.{IsTold, IsToldOf, IsOf, all_told}
+use Rattle.c_accepted.proofs.Composite.{not_zero, IsTold, IsToldOf, IsOf, all_told}
 use Rattle.c_accepted.proofs.Given.{one_linkage_in}
-use Rattle.c_accepted.proofs.Found.{same_entity}
+use Rattle.c_accepted.proofs.Found.{not_true, same_entity}
 use Rattle.c_accepted.proofs.KindsOfLeaves.{IsInObject, IsPlaceStart}
-use Rattle.c_accepted.proofs.Values.{or_right, at_most}
+use Rattle.c_accepted.proofs.Values.{holds_true, or_right, at_most}
 use Rattle.c_accepted.proofs.ObjectsFound.{HasRow, has_row}
 use Rattle.c_accepted.proofs.Places.{IsAwaited, IsItem, IsPlace, IsSet}
 use Rattle.c_accepted.proofs.PlacesKept.{IsKnownName, AreSet, ArePlaced}
@@ -72,10 +71,6 @@ bound_reached (g ∷ fs) l n f e t = by (tells_of l.unit l.place.name g) refl (n
     by true x true y (suc n) e w = let k = w n e in let j = less (greatest_bound fs l) (bound_in g.denoted) y in omega (arith, k, j)
     by true x false y (suc n) e w = w n e
     by false x c y (suc n) e w = w n e
-
-holds_true : (b : Bool) (r at : ℕ) → holds b r at ≡ nothing → b ≡ true
-holds_true true r at h = refl
-holds_true false r at h = absurd (let x : Broken r at ≡ nothing = h in cc)
 
 -- where no bound is told the place is let be
 abbrev is_under : List FileName → Awaited → Bool
@@ -122,15 +117,8 @@ open_told s Void h b = absurd (true≢false (ap is_unbounded h ∙ b))
 open_told s (Pointer t) h b = absurd (true≢false (ap is_unbounded h ∙ b))
 open_told s (Struct t) h b = absurd (true≢false (ap is_unbounded h ∙ b))
 
-not_zero : (n : ℕ) → (suc n == 0) ≡ false
-not_zero n = grind arith
-
 times_most : (a b c : ℕ) → a ≤ b → a * c ≤ b * c
 times_most a b c h = grind arith
-
-is_false : (b : Bool) → not b ≡ true → b ≡ false
-is_false false h = refl
-is_false true h = absurd (true≢false (sym h))
 
 -- ---- places
 
@@ -144,7 +132,7 @@ module _ (p : Program) (q : State) (declared : AreDeclared q) (sought : AreSough
       let k = both_parts (g.unit == f.unit) (bytes_eq g.name f.name) h in
       let name : g.name ≡ f.name = (bytes_eq-Decides g.name f.name).0 k.1 in
       (name, one_linkage_in q.names m n g f declared.consistent e d (eqb-true g.unit f.unit k.0) name ∙ s)))
-      (λ h. (let k = both_parts (not g.is_static) (bytes_eq g.name f.name) h in ((bytes_eq-Decides g.name f.name).0 k.1, is_false g.is_static k.0)))
+      (λ h. (let k = both_parts (not g.is_static) (bytes_eq g.name f.name) h in ((bytes_eq-Decides g.name f.name).0 k.1, not_true g.is_static k.0)))
       (or_cases (is_here f.unit f.name g) (is_external f.name g) t)
 
   module _ (n : ℕ) (f : FileName) (there : slice_get q.names n ≡ Some f) (outside : f.is_static ≡ false) (r : HasRow p q f) (t : Plain) (m : ℕ) (type : plain r.row.ctype ≡ Array t (suc m)) (l : Awaited) (unit : l.unit ≡ f.unit) (name : l.place.name ≡ f.name) where

@@ -1,6 +1,5 @@
 -- Each external declaration keeps what is known of the places that the objects of a program begin with.
 use Rattle.std.proofs.Common.{◌≡◌, ◌≤◌, ◌⊎◌, inl, inr, refl, sym, ap, ◌∙◌, subst, arith, ℕ, zero, suc, ◌==◌, Bool, true, false, true≢false, List, [], ◌∷◌, ◌++◌, length, map, append_assoc, Option, Some, None, bytes_eq, codes, if◌then◌else◌}
-use Rattle.std.specs.Prelude.{slice_get}
 use Rattle.std.specs.List.{AllByRecursion}
 use Rattle.std.proofs.lemmas.Bool.{eqb-true}
 use Rattle.std.proofs.lemmas.Slice.Eq.{bytes_eq-Decides}
@@ -31,7 +30,7 @@ use Rattle.c_file.specs.Telling.{is_unbounded, is_open}
 use Rattle.c_file.specs.Files.{State, Started, Awaited, awaited, type_or, standing, object_type, in_limits, may_stand, is_static, is_extern, with_name, with_head, with_strings, with_definition, row_of, function_row, body_environment, after_all, after_name, after_what, after_function, what, declared_found, found_as, all_found, initial_or_none, with_spec, Externals}
 use Rattle.c_file.specs.Programs.{built_ins, built_in_rows, at_first, next_file}
 use Rattle.c_accepted.specs.Grown.{IsMade, Grows}
-use Rattle.c_accepted.specs.Completed.{AreSound}
+use Rattle.c_accepted.proofs.Completed.{AreSound}
 use Rattle.c_accepted.proofs.Growth.{both_parts}
 use Rattle.c_accepted.proofs.Known.{never, one_known, then_known}
 use Rattle.c_accepted.proofs.Completing.{extended, no_more, made_grows}
@@ -50,6 +49,7 @@ use Rattle.c_accepted.proofs.Names.{all_last, all_as}
 use Rattle.c_accepted.proofs.Scopes.{first_there}
 use Rattle.c_accepted.proofs.Differing.{all_at}
 use Rattle.c_accepted.proofs.Objects.{complete_bounded}
+use Rattle.c_accepted.proofs.Referents.{there_in}
 use Rattle.c_accepted.proofs.Places.{AreAmong, IsDeclaredAs, AreAwaited, IsSet, IsShown, declared_more, set_more, initial_set}
 
 -- ---- lists
@@ -62,10 +62,6 @@ one_among xs y n x e = (suc n, e)
 
 first_among : {A : Type 0} (xs ys : List A) → AreAmong xs (xs ++ ys)
 first_among xs ys n x e = (n, first_there xs ys n x e)
-
-at_length : {A : Type 0} (xs : List A) (y : A) (ys : List A) → slice_get (xs ++ y ∷ ys) (length xs) ≡ Some y
-at_length [] y ys = refl
-at_length (x ∷ xs) y ys = at_length xs y ys
 
 -- ---- what the declarations of a name tell, one of them does
 
@@ -153,7 +149,7 @@ module _ (defs : List StructDef) (same : Grows defs defs) where
   named p f u k n =
       let row : Row = record { name = f.name; denoted = told_before p.names f; up = innermost p.here.visible; unit = p.here.unit; local = None } in
       let new : IsShown (f ∷ p.names) p.here.unit (p.here.names ++ row ∷ []) (record { name = f.name; number = length p.here.names }) =
-      (row, at_length p.here.names row [], λ t g e. subst (λ m. IsDeclaredAs (f ∷ p.names) m f.name t) u (told_from p.names f t g e)) in
+      (row, there_in p.here.names row [], λ t g e. subst (λ m. IsDeclaredAs (f ∷ p.names) m f.name t) u (told_from p.names f t g e)) in
       record {
         names = (k, n.names);
         shown = (new, shown_more p.names (f ∷ p.names) p.here.unit p.here.names (row ∷ []) p.here.visible (one_among p.names f) n.shown);
@@ -168,7 +164,7 @@ module _ (defs : List StructDef) (same : Grows defs defs) where
   awaited_all before unit [] = tt
   awaited_all before unit (l ∷ ls) =
       let x : Awaited = record { unit = unit; place = l } in (
-        record { awaited = x; number = length before; there = at_length before x (awaited unit ls); file = refl; name = refl; items = refl },
+        record { awaited = x; number = length before; there = there_in before x (awaited unit ls); file = refl; name = refl; items = refl },
         subst (λ xs. AreAwaited xs unit ls) (append_assoc before (x ∷ []) (awaited unit ls)) (awaited_all (before ++ x ∷ []) unit ls),
       )
 
@@ -266,7 +262,7 @@ module _ (defs : List StructDef) (same : Grows defs defs) where
 -- ---- external declarations
 
 module _ (tags : List (List ℕ)) where
-  same_whole : (q : State) → Stands tags q → Grows (whole q) (whole q)
+  pub same_whole : (q : State) → Stands tags q → Grows (whole q) (whole q)
   same_whole q s = extended (whole q) (whole q) (merged_sound q.others q.here.defs s.here.pairs s.here.sound s.others s.here.agree) (no_more (whole q))
 
   spec_placed : (p q m : State) (v : Environment) (t : Plain) → Stands tags p → Goes tags p q → Behind p.others p.here v t → m.here ≡ v → m.names ≡ p.names → m.late ≡ p.late → m.starts ≡ p.starts → ArePlaced (whole p) p → ArePlaced (whole q) m

@@ -23,9 +23,9 @@ use Rattle.c_file.specs.FileNames.{AreConsistent}
 use Rattle.c_file.specs.Files.{State, Bodied, Called}
 use Rattle.c_file.specs.Programs.{uncalled, is_static_in}
 use Rattle.c_file.specs.Made.{HasRows, IsFunctionOf, IsSymbolOf, is_body, bodies_of, number_from, object_number, function_number, or_zero, function_or_none, referent_of, type_of_name}
-use Rattle.c_accepted.specs.Declarations.{IsDeclaredBy, IsBodyFor, AreDeclared, IsWholeIn}
-use Rattle.c_accepted.specs.Wanted.{AreSought}
-use Rattle.c_accepted.specs.Asked.{CallsAreThere}
+use Rattle.c_accepted.proofs.Declarations.{IsDeclaredBy, IsBodyFor, AreDeclared, IsWholeIn}
+use Rattle.c_accepted.proofs.Sought.{AreSought}
+use Rattle.c_accepted.proofs.Asked.{CallsAreThere}
 use Rattle.c_accepted.proofs.Growth.{both_parts}
 use Rattle.c_accepted.proofs.Scopes.{some_same}
 use Rattle.c_accepted.proofs.Types.{IsDenotedIn}
@@ -50,7 +50,7 @@ behind_all : {A : Type 0} (P : A → Type 0) (xs ys : List A) → AllByRecursion
 behind_all P [] ys h = h
 behind_all P (x ∷ xs) ys h = behind_all P xs ys h.1
 
-there_in : {A : Type 0} (xs : List A) (y : A) (ys : List A) → slice_get (xs ++ y ∷ ys) (length xs) ≡ Some y
+pub there_in : {A : Type 0} (xs : List A) (y : A) (ys : List A) → slice_get (xs ++ y ∷ ys) (length xs) ≡ Some y
 there_in [] y ys = refl
 there_in (x ∷ xs) y ys = there_in xs y ys
 

@@ -28,7 +28,7 @@ use Rattle.c_file.specs.Names.{FileName, told_before, as_main, declared_as_main}
 use Rattle.c_file.specs.Files.{State, Bodied, Called, called_all, are_named, with_name, with_declarator, with_initial, with_definition, with_spec, row_of, after_what, after_name, after_all, what, standing, object_type, in_limits, may_stand, is_extern, manner_of, defining, wanting, body_environment, bodied, behind_body}
 use Rattle.c_file.specs.Programs.{built_in_rows, completed_by, takes_many}
 use Rattle.c_accepted.specs.Grown.{Grows}
-use Rattle.c_accepted.specs.Completed.{Extends}
+use Rattle.c_accepted.proofs.Completed.{Extends}
 use Rattle.c_accepted.specs.Sources.{IsBody}
 use Rattle.c_accepted.proofs.Known.{never, one_known, then_known}
 use Rattle.c_accepted.proofs.Runs.{IsAt, at_append}

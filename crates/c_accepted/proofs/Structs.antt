@@ -14,7 +14,7 @@ use Rattle.c_typing.specs.Declarations.{IsStruct}
 use Rattle.c_typing.specs.Programs.{AllFrom}
 use Rattle.c_defs.specs.Depths.{deepest, is_within, are_within}
 use Rattle.c_accepted.specs.Grown.{IsMade, IsHeld}
-use Rattle.c_accepted.specs.Completed.{AreSound}
+use Rattle.c_accepted.proofs.Completed.{AreSound}
 use Rattle.c_accepted.proofs.Growth.{both_parts}
 use Rattle.c_accepted.proofs.Written.{within_is, IsLimited, written}
 use Rattle.c_accepted.proofs.Completing.{and_true, extended, no_more}

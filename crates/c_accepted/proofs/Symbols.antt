@@ -11,7 +11,7 @@ use Rattle.c_defs.specs.Depths.{deepest}
 use Rattle.c_scope.specs.Environment.{Row}
 use Rattle.c_file.specs.Files.{State}
 use Rattle.c_file.specs.Made.{Each, IsSymbolOf, referent, type_of_name}
-use Rattle.c_accepted.specs.Completed.{AreSound}
+use Rattle.c_accepted.proofs.Completed.{AreSound}
 use Rattle.c_accepted.proofs.Written.{IsNamed, written}
 use Rattle.c_accepted.proofs.Completing.{extended, no_more}
 use Rattle.c_accepted.proofs.Structs.{structs_written}

@@ -25,7 +25,7 @@ use Rattle.c_file.specs.Names.{FileName, composite, is_here, told_before}
 use Rattle.c_file.specs.Files.{State, Bodied, standing, with_name, with_head, with_strings, with_definition, row_of, function_row, after_all, after_name, after_what, after_function, bodied, what, with_parameters, body_environment, with_spec, Externals}
 use Rattle.c_file.specs.Programs.{completed_by, incomplete, at_first, next_file}
 use Rattle.c_accepted.specs.Grown.{Grows}
-use Rattle.c_accepted.specs.Completed.{AreSound, Extends}
+use Rattle.c_accepted.proofs.Completed.{AreSound, Extends}
 use Rattle.c_accepted.proofs.Known.{then_known}
 use Rattle.c_accepted.proofs.Written.{IsNamed}
 use Rattle.c_accepted.proofs.Completing.{extended}

@@ -51,7 +51,7 @@ byte_again n = ap (λ k. word_of_signed (cast_signed w8 k)) (low_bits n)
 
 -- ---- expressions
 
-holds_true : (b : Bool) (r at : ℕ) → holds b r at ≡ nothing → b ≡ true
+pub holds_true : (b : Bool) (r at : ℕ) → holds b r at ≡ nothing → b ≡ true
 holds_true true r at h = refl
 holds_true false r at h = absurd (let x : Broken r at ≡ nothing = h in cc)
 

@@ -24,7 +24,7 @@ use Rattle.c_file.specs.FileNames.{AreConsistent}
 use Rattle.c_body.specs.Calls.{called_items}
 use Rattle.c_file.specs.Files.{State, Called, called_all, wanting, manner_of, defining, with_name, with_head, with_strings, with_definition, row_of, function_row, after_all, after_name, after_what, after_function, what, with_spec, Externals}
 use Rattle.c_file.specs.Programs.{is_static_in, uncalled}
-use Rattle.c_accepted.specs.Wanted.{is_wanted, IsSought, IsSoughtIn, AreSought}
+use Rattle.c_accepted.proofs.Sought.{is_wanted, IsSought, IsSoughtIn, AreSought}
 use Rattle.c_accepted.proofs.Growth.{both_parts}
 use Rattle.c_accepted.proofs.Walked.{unbroken, behind_one}
 use Rattle.c_accepted.proofs.Given.{one_linkage_in}

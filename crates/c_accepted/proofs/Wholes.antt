@@ -26,7 +26,7 @@ use Rattle.c_file.specs.Telling.{is_unbounded}
 use Rattle.c_file.specs.Files.{State, type_or, object_type, in_limits, may_stand, is_extern, standing, manner_of, defining, with_name, with_strings, with_definition, row_of, function_row, after_all, after_name, after_what, after_function, what, declared_found, found_as, all_found, initial_or_none, with_spec, Externals}
 use Rattle.c_accepted.specs.Grown.{Grows}
 use Rattle.c_accepted.specs.Sources.{IsInitialized, IsDeclared, IsText}
-use Rattle.c_accepted.specs.Declarations.{IsWholeIn}
+use Rattle.c_accepted.proofs.Declarations.{IsWholeIn}
 use Rattle.c_accepted.proofs.Growth.{complete_grows}
 use Rattle.c_accepted.proofs.Known.{never, one_known, then_known}
 use Rattle.c_accepted.proofs.Merged.{grows_others}

@@ -1,12 +1,10 @@
 //! What the checker of C takes keeps to the typing rules of checked trees.
 #![tactic(auto)]
 
-mod function_laws;
 mod laws;
 mod program_laws;
 mod text_laws;
 
-pub use function_laws::functions_keep_to_the_rules;
 pub use laws::judged_expressions_are_typed;
 pub use program_laws::checked_programs_are_accepted;
 pub use text_laws::files_are_texts;
