@@ -1,7 +1,7 @@
 use Rattle.std.proofs.Common.{◌∙◌, arith}
 use Rattle.c_lex.specs.Grammar.{start}
 use Rattle.ldb_cc.specs.Sources.{IsTree}
-use Rattle.ldb_cc.proofs.Accepted.{as_many, of_texts, spelled_shortly}
+use Rattle.ldb_cc.proofs.Lengths.{as_many, of_texts, spelled_shortly}
 use Rattle.ldb_cc.proofs.accepted.programs_of_sources.Goals as goal
 
 pub returns : goal.returns

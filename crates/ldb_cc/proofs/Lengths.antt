@@ -1,4 +1,4 @@
--- The files that sources are: their lengths, that each is that of a text, and how many terminals they have.
+-- The files that sources are: how many there are, what each has of its text, and how many terminals they have.
 use Rattle.std.proofs.Common.{◌≡◌, refl, sym, ap, ◌∙◌, subst, ℕ, suc, ◌+◌, ◌≤◌, List, [], ◌∷◌, length, arith}
 use Rattle.std.specs.List.{AllByRecursion}
 use Rattle.c_lex.specs.declared.token.Token.{Token}
@@ -27,7 +27,7 @@ module _ (Q : List External → Type 0) (holds : (text : List ℕ) (ts : List To
   of_texts (t ∷ ts) (u ∷ us) e = (holds t e.0.2.tokens u e.0.0 e.0.2.lexes e.0.2.unit, of_texts ts us e.1)
 
 -- the terminals of each file
-spelling : (texts : List (List ℕ)) (us : List (List External)) → Each IsTree texts us → List (List Terminal)
+abbrev spelling : (texts : List (List ℕ)) (us : List (List External)) → Each IsTree texts us → List (List Terminal)
 spelling [] [] e = []
 spelling [] (u ∷ us) e = absurd e
 spelling (t ∷ ts) [] e = absurd e
