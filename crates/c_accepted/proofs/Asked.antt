@@ -1,10 +1,7 @@
 -- What is asked of a program so that its functions keep to the rules.
 use Rattle.std.specs.Prelude.{◌≡◌, ◌<◌, ℕ, false, List, [], length, Some, None, slice_get}
-use Rattle.std.specs.List.{AllByRecursion}
-use Rattle.c_statement.specs.declared.unit.External.{External}
 use Rattle.c_tree.specs.declared.types.CType.TheVariants.{Struct}
 use Rattle.c_tree.specs.declared.rows.Program.{Program}
-use Rattle.c_tree.specs.declared.rows.Function.{Function as FunctionRow}
 use Rattle.c_typing.specs.Plain.{Plain}
 use Rattle.c_typing.specs.Written.{IsWritten}
 use Rattle.c_typing.specs.Expressions.{Function}

@@ -1,7 +1,6 @@
 -- The constants of a typed body are words where those of the statement that it stands for are.
 use Rattle.std.proofs.Common.{◌≡◌, sym, subst, ℕ, ◌<◌, ◌^◌, List, [], ◌∷◌, ◌++◌, Option, Some, None}
 use Rattle.std.specs.List.{AllByRecursion}
-use Rattle.c_lex.specs.declared.token.Place.{Place}
 use Rattle.c_expr.specs.Tree.{Tree}
 use Rattle.c_declaration.specs.InitialTree.{InitialTree, Value, Braces, Item}
 use Rattle.c_declaration.specs.declared.tree.Declared.{Declared}
@@ -13,7 +12,7 @@ use Rattle.c_tree.specs.declared.typed.Typed.{Typed}
 use Rattle.c_tree.specs.declared.typed.Site.{Site}
 use Rattle.c_tree.specs.declared.typed.Pointed.{Pointed}
 use Rattle.c_tree.specs.declared.typed.DeclaredLocal.{DeclaredLocal}
-use Rattle.c_tree.specs.declared.typed.Stmt.{Stmt, Row_of-Stmt, end_of-Stmt, more_of-Stmt, Held-Stmt-If-3, None', Some'}
+use Rattle.c_tree.specs.declared.typed.Stmt.{Stmt, Row_of-Stmt, end_of-Stmt, more_of-Stmt, None', Some'}
 use Rattle.c_tree.specs.declared.typed.Stmt.TheVariants as typed
 use Rattle.c_typing.specs.declared.constant.Constant.TheVariants.{Variable, Undefined, Number}
 use Rattle.c_judge.specs.Answers.{Known, Unknown, Broken}
@@ -24,7 +23,7 @@ use Rattle.c_mentions.specs.Literals as literals
 use Rattle.c_mentions.specs.Literals.{number_at}
 use Rattle.c_body.specs.Locals.{after_local}
 use Rattle.c_body.specs.Bodies.{after, judged_in, value_in}
-use Rattle.c_body.specs.Becoming.{Before, past, past_part, IsStop, IsStopOrNone, IsInitial, of_initial, AreLocals, row_list, behind, behind_head, behind_expression, IsLabel, IsReturned, IsHeaded, Becomes, Holds, IsBlockOf, IsBodyOf}
+use Rattle.c_body.specs.Becoming.{Before, past, past_part, IsStop, IsStopOrNone, IsInitial, of_initial, AreLocals, row_list, behind, behind_head, behind_expression, IsLabel, IsReturned, IsHeaded, Becomes, Holds, IsBodyOf}
 use Rattle.c_accepted.specs.Sources.{AreWords, AllInPart, AllInInitial, AllInNames, AllInHead, AllIn}
 use Rattle.c_accepted.proofs.Words.{HasWords}
 use Rattle.c_accepted.proofs.StatementWords.{HasWordsPart, HaveWordsInits, HasWordsValue, HasWordsIn, HaveWordsRow}

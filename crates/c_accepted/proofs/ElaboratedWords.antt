@@ -1,5 +1,5 @@
 -- The constants of a typed tree are words where those of the expression that it stands for are.
-use Rattle.std.proofs.Common.{◌≡◌, sym, subst, ℕ, ◌<◌, ◌^◌, List, [], ◌∷◌, ◌++◌, Option, Some, None}
+use Rattle.std.proofs.Common.{sym, subst, ℕ, ◌<◌, ◌^◌, List, [], ◌∷◌, Option}
 use Rattle.std.specs.List.{AllByRecursion}
 use Rattle.c_lex.specs.declared.token.Place.{Place}
 use Rattle.c_symbol.specs.declared.symbol.LeafKind.{LeafKind}

@@ -1,5 +1,5 @@
 -- What initializers of a text give: lists in braces, and numbers that are words.
-use Rattle.std.proofs.Common.{◌≡◌, refl, subst, sym, ℕ, zero, suc, ◌+◌, ◌-◌, ◌*◌, ◌<◌, ◌^◌, Bool, true, false, ◌&&◌, ◌==◌, List, [], ◌∷◌, ◌++◌, length, map, replicate, drop, bytes_eq, Option, Some, None, lit<}
+use Rattle.std.proofs.Common.{subst, sym, ℕ, zero, suc, ◌+◌, ◌-◌, ◌*◌, ◌<◌, ◌^◌, Bool, true, false, ◌&&◌, ◌==◌, List, [], ◌∷◌, ◌++◌, length, map, replicate, drop, bytes_eq, Option, Some, None, lit<}
 use Rattle.std.specs.Prelude.{if◌then◌else◌}
 use Rattle.std.specs.List.{AllByRecursion}
 use Rattle.c_expr.specs.Tree.{Tree}
@@ -14,11 +14,11 @@ use Rattle.c_typing.specs.declared.constant.Constant.TheVariants.{Variable, Unde
 use Rattle.c_defs.specs.Depths.{deepest}
 use Rattle.c_defs.specs.Leaves.{leaf_count}
 use Rattle.c_judge.specs.Answers.{Known, Unknown, Broken}
-use Rattle.c_judge.specs.Judgement.{Judged, Verdict, judged}
+use Rattle.c_judge.specs.Judgement.{Verdict, judged}
 use Rattle.c_scope.specs.Environment.{Environment, scope_of}
 use Rattle.c_scope.specs.Declarators.{constant}
 use Rattle.c_initial.specs.Initials.{Spot, spot, text_of, number, number_in, count_of, part_of}
-use Rattle.c_initial.specs.Begins.{Begin, Bits, Within, Text, zeros, zeros_of_members, rest, behind_items, kept_as, bits_of, character, characters, spot_begin, address_begin, value_begins, strings_of, items_begin, begins_of}
+use Rattle.c_initial.specs.Begins.{Begin, Bits, Within, Text, zeros, zeros_of_members, rest, behind_items, bits_of, character, characters, spot_begin, address_begin, value_begins, strings_of, items_begin, begins_of}
 use Rattle.c_initial.specs.Filled as filled
 use Rattle.c_file.specs.Names.{Defining}
 use Rattle.c_file.specs.Files.{State, Started}
@@ -27,7 +27,7 @@ use Rattle.c_accepted.specs.Sources.{AreWords, IsInitializer, AreItems}
 use Rattle.c_accepted.proofs.Starting.{IsWordStart}
 use Rattle.c_accepted.proofs.Runs.{all_both}
 use Rattle.c_accepted.proofs.OperatorWords.{byte_small}
-use Rattle.c_accepted.proofs.JudgedWords.{IsWordJudged, IsWordVerdict, judged_word}
+use Rattle.c_accepted.proofs.JudgedWords.{IsWordVerdict, judged_word}
 
 -- ---- their form
 

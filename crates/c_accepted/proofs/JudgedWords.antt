@@ -1,6 +1,6 @@
 -- The value of a constant expression is a word where its constants are.
 use Rattle.std.proofs.Common.{◌≡◌, refl, arith, ℕ, zero, suc, ◌≤◌, ◌<◌, ◌^◌, Bool, true, false, ◌==◌, List, Option, Some, None, lit<}
-use Rattle.std.specs.Prelude.{Result, Ok, Err, nat_le, nat_lt, length, bit_xor, if◌then◌else◌, option_and_then, slice_get}
+use Rattle.std.specs.Prelude.{Result, Ok, Err, nat_le, nat_lt, length, if◌then◌else◌, option_and_then, slice_get}
 use Rattle.std.proofs.lemmas.Nat.{xor_lt}
 use Rattle.ldb_words.specs.declared.kinds.Undef.{Undef}
 use Rattle.c_symbol.specs.declared.symbol.LeafKind.{LeafKind}
@@ -18,11 +18,11 @@ use Rattle.c_tree.specs.declared.typed.BinaryOp.TheVariants as op
 use Rattle.c_tree.specs.declared.typed.UnaryOp.{UnaryOp}
 use Rattle.c_tree.specs.declared.typed.UnaryOp.TheVariants as sign
 use Rattle.c_operators.specs.Bits.{minus_one}
-use Rattle.c_operators.specs.Arithmetic.{truth, on_ints, on_unsigned}
-use Rattle.c_typing.specs.Plain.{Plain, Char, Int, Unsigned, Void, Pointer, Array, Struct}
+use Rattle.c_operators.specs.Arithmetic.{on_ints, on_unsigned}
+use Rattle.c_typing.specs.Plain.{Plain, Char}
 use Rattle.c_typing.specs.Expressions.{name_type}
 use Rattle.c_typing.specs.Rules.{may_drop, unary_type, followed, address_type, dot_type, arrow_type, index_type, binary_type, assignment_type, compound_type, step_type, logical_type, choice_type, comma_type, cast_type, size_type}
-use Rattle.c_typing.specs.Values.{is_unsigned, size_of, defined, operated, with_two, with_one, turned, converted, chosen, truth_in, both, either, combined, works_unsigned}
+use Rattle.c_typing.specs.Values.{is_unsigned, size_of, defined, operated, with_one, turned, converted, chosen, truth_in, both, either, combined, works_unsigned}
 use Rattle.c_typing.specs.declared.constant.Constant.{Constant}
 use Rattle.c_typing.specs.declared.constant.Constant.TheVariants.{Variable, Undefined, Number}
 use Rattle.c_judge.specs.Scope.{Scope, defs_of, pointed_number}

@@ -2,8 +2,6 @@
 use Rattle.std.proofs.Common.{◌≡◌, refl, sym, ap, ◌∙◌, ℕ, List, [], ◌∷◌, ◌++◌, append_assoc}
 use Rattle.c_lex.specs.declared.token.Place.{Place}
 use Rattle.c_symbol.specs.declared.terminal.Terminal.{Terminal}
-use Rattle.c_symbol.specs.declared.symbol.LeafKind.{LeafKind}
-use Rattle.c_symbol.specs.declared.symbol.LeafKind.TheVariants as leaf
 use Rattle.c_symbol.specs.declared.symbol.PrefixOp.{PrefixOp}
 use Rattle.c_symbol.specs.declared.symbol.PrefixOp.TheVariants as prefix
 use Rattle.c_symbol.specs.declared.symbol.Symbol.{Symbol}

@@ -1,15 +1,14 @@
 -- What holds of each expression that terminals spell holds of the expressions in statements and initializers. Declarations stand before statements.
-use Rattle.std.proofs.Common.{◌≡◌, ℕ, Bool, List, [], ◌∷◌, ◌++◌, Option, Some, None}
-use Rattle.std.specs.List.{AllByRecursion}
+use Rattle.std.proofs.Common.{ℕ, Bool, List, [], ◌∷◌, ◌++◌, Option, Some}
 use Rattle.c_lex.specs.declared.token.Place.{Place}
 use Rattle.c_symbol.specs.declared.terminal.Terminal.{Terminal}
 use Rattle.c_expr.specs.Tree.{Tree}
 use Rattle.c_expr.specs.Grammar.{IsExpr}
-use Rattle.c_declaration.specs.InitialTree.{InitialTree, Value, Braces, Item}
+use Rattle.c_declaration.specs.InitialTree.{InitialTree}
 use Rattle.c_declaration.specs.declared.tree.Declared.{Declared}
 use Rattle.c_declaration.specs.declared.tree.Local.{Local}
 use Rattle.c_declaration.specs.Grammar as grammar
-use Rattle.c_declaration.specs.Grammar.{value, braces, braces_comma, first_item, next_item, IsDeclared, plain, with_initial, AreDeclared, one_name, more_names, IsLocal, local, IsFileDeclared, bare, with_value, AreFileDeclared, one_file_name, more_file_names, only_spec, with_names}
+use Rattle.c_declaration.specs.Grammar.{value, braces, braces_comma, first_item, next_item, IsDeclared, plain, with_initial, AreDeclared, one_name, more_names, IsLocal, local}
 use Rattle.c_statement.specs.Tree.{StatementTree}
 use Rattle.c_statement.specs.declared.tree.Head.{Head}
 use Rattle.c_statement.specs.declared.state.Control.{Control}

@@ -1,5 +1,5 @@
 -- The terminals of a text begin at different places, and its integer constants are words.
-use Rattle.std.proofs.Common.{◌≡◌, ◌≤◌, ◌<◌, refl, sym, ap, ◌∙◌, subst, arith, ℕ, zero, suc, ◌+◌, ◌-◌, ◌^◌, ℤ, pos, negsuc, Bool, true, false, true≢false, ◌&&◌, ◌==◌, List, [], ◌∷◌, ◌++◌, length, length-append, map, take, drop, Option, Some, None}
+use Rattle.std.proofs.Common.{◌≡◌, ◌≤◌, ◌<◌, refl, sym, arith, ℕ, suc, ◌+◌, ◌-◌, ◌^◌, ℤ, pos, negsuc, Bool, true, false, true≢false, ◌&&◌, ◌==◌, List, [], ◌∷◌, ◌++◌, length, map, take, drop, Option, Some, None}
 use Rattle.std.specs.Prelude.{if◌then◌else◌, nat_le, nat_lt, ◌||◌}
 use Rattle.std.specs.List.{AllByRecursion}
 use Rattle.ldb_words.specs.Word.{word_of_signed}
@@ -15,8 +15,7 @@ use Rattle.c_lex.specs.Keywords.{keyword_of}
 use Rattle.c_lex.specs.Punctuators.{punctuator_of}
 use Rattle.c_lex.specs.Numbers.{IsNumber, decimal, octal, hexadecimal, value_of, integer_of, has_suffix}
 use Rattle.c_lex.specs.Literals.{item_of, signed_char, character_of}
-use Rattle.c_lex.specs.Grammar.{IsToken, Longest, past, after, Lexes, ended, gap, token}
-use Rattle.c_symbol.specs.declared.symbol.LeafKind.{LeafKind}
+use Rattle.c_lex.specs.Grammar.{IsToken, past, after, Lexes, ended, gap, token}
 use Rattle.c_symbol.specs.declared.symbol.LeafKind.TheVariants as leaf
 use Rattle.c_symbol.specs.declared.symbol.Symbol.{Symbol}
 use Rattle.c_symbol.specs.declared.symbol.Symbol.TheVariants as symbol
@@ -26,7 +25,7 @@ use Rattle.c_symbol.specs.Terminals.{spelling, terminal_of, is_text, merged, joi
 use Rattle.c_mentions.specs.Literals.{Literal}
 use Rattle.c_accepted.specs.Sources.{AreApart}
 use Rattle.c_accepted.proofs.SpelledLiterals.{literal_by, literals_of}
-use Rattle.c_accepted.proofs.SpelledWords.{IsWordSymbol, IsWordTerminal, HaveWords}
+use Rattle.c_accepted.proofs.SpelledWords.{IsWordSymbol, HaveWords}
 
 -- ---- tokens
 
