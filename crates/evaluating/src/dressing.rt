@@ -146,7 +146,17 @@ fn dress_struct(
     Ok(d)
 }
 
-/// The dictionary of a member's type. One behind the items that are shown is never asked.
+/// Whether a type is a struct or an array of structs.
+fn holds_structs(t: &CType) -> bool {
+    match t {
+        CType::Array(item, _) => holds_structs(item),
+        CType::Struct(_) => true,
+        CType::Char | CType::Int | CType::Unsigned | CType::Void | CType::Pointer(_) => false,
+    }
+}
+
+/// The dictionary of a member's type. One behind the items that are shown is never asked: a member without structs is shown as one item or more, and one
+/// with structs as those of its struct's members.
 #[cycle(dressing)]
 fn dress_member(
     dresser: &mut Dresser<'_>,
@@ -159,9 +169,8 @@ fn dress_member(
     if dresser.room == 0 {
         return Ok(dresser.plain);
     }
-    match &member.ctype {
-        CType::Struct(_) => {}
-        _ => dresser.room -= 1,
+    if !holds_structs(&member.ctype) {
+        dresser.room -= 1;
     }
     dress(dresser, store, deep, &member.ctype)
 }

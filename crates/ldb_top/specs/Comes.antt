@@ -30,7 +30,7 @@ pub record EndsEarly (form : Form) (n : Names) (old new : Outside) (status : Sta
   pub held_is : new.held ≡ old.held
   pub unread : new.left ≡ old.left
 
--- a session was begun, and its commands were read to their end or to `quit`
+-- a session was begun, whose commands are not too long, or have a line `quit` before they are
 pub record EndsRead (form : Form) (n : Names) (old : Outside) : Type 0 where
   pub begun : (known : FileMap) → old.held ≡ Some known → Begins form n known
   pub read : LateAs false (lines_of old.left)

@@ -74,7 +74,7 @@ module _ {D : Type 0} (Op : Operates D) (needs : D → PsCore → ℕ → Bool) 
           let same = looked_same now j looked in
           subst (λ q. Runs Op q d' (core s ds o under) r m d₂ c₂) (let none = same.1 in omega (arith, sum))
           (subst (λ q. Runs Op k d' (core q ds o under) r m d₂ c₂) same.0 rest)
-      by_fare _ _ _ _ (fails r m d₂ c₂ d₁ c₁ op k j f looked some met given) = absurd (true≢false (sym some ∙ none_needs d₁ c₁ op j looked))
+      by_fare _ _ _ _ (fails r m d₂ c₂ d₁ c₁ op k j f looked enough some met given) = absurd (true≢false (sym some ∙ none_needs d₁ c₁ op j looked))
       by_fare _ _ _ _ (starves m d₂ c₂ now j looked less) = let none = (looked_same now j looked).1 in absurd (omega arith)
 
 -- a value is printed at once

@@ -11,7 +11,7 @@ use Rattle.c_tree.specs.Layout.{members_of}
 use Rattle.c_show.specs.Printed.{Showing, byte_of, string_text}
 use Rattle.ps_terms.specs.Printing.{Printing}
 use Rattle.ps_print.specs.Items.{Thing, items_left, items_steps, behind_member, members_steps}
-use Rattle.ps_print.specs.Things.{Tail, Bare, Dangling, Strung, tail_steps, char_thing, pointer_thing, string_thing, struct_thing, last, one, many, digits_steps, minus_steps, below_zero, signed_steps, int_thing, unsigned_thing, array_thing, print_steps}
+use Rattle.ps_print.specs.Things.{Tail, Bare, Dangling, Strung, tail_steps, char_thing, pointer_thing, string_thing, struct_thing, last, one, many, digits_steps, minus_steps, below_zero, signed_steps, int_thing, unsigned_thing, array_thing, print_steps, steps_within}
 use Rattle.ps_print.specs.Laid.{Laid, an_int, an_unsigned, a_char, a_pointer, a_string, an_array, a_struct, EachLaid, none, more, MembersLaid, no_member, a_member}
 
 -- 16 for each digit
@@ -34,6 +34,10 @@ signed_at_most v left = by_sign (nat_lt v 2147483648)
 abbrev pub item_cost : ℕ → ℕ
 item_cost zero = 202
 item_cost (suc k) = item_cost k + 123
+
+cost_is : (k : ℕ) → item_cost k ≡ 202 + 123 * k
+cost_is zero = refl
+cost_is (suc k) = let e = cost_is k in omega arith
 
 pub record AtMost (c : ℕ) (i : Thing) : Type 0 where
   pub steps : (r left : ℕ) → i.steps (suc r) left + c * i.room (suc r) ≤ left + c * suc r
@@ -171,6 +175,10 @@ module _ {D : Type 0} (Op : Operates D) (prints : Printing Op) (s first : StoreS
         let b = members_at_most k ms members (suc i) place ys is ls in
         (more_members_at_most (item_cost k) thing is a b.0, λ h. nonempty_members_take (item_cost k) thing is a b.0)
 
-  -- a whole value takes at most 7,951 steps for each of at most 1,000 items
+  -- a whole value takes at most so many steps for each of at most 1,000 items
+  pub print_within : (k : ℕ) (t : CType) (type : DictId) (place : ℕ) (xs : List Showing) (i : Thing) (left : ℕ) → Laid Op prints s first d space defs k t type place xs i → print_steps i left ≤ left + steps_within k
+  print_within k t type place xs i left l = let a = laid_at_most k t type place xs i l in let e = a.steps 999 (suc left) in let f = cost_is k in omega arith
+
+  -- at most 7,951 of the deepest type
   pub print_at_most : (t : CType) (type : DictId) (place : ℕ) (xs : List Showing) (i : Thing) (left : ℕ) → Laid Op prints s first d space defs 63 t type place xs i → print_steps i left ≤ left + 7951006
-  print_at_most t type place xs i left l = let a = laid_at_most 63 t type place xs i l in let e = a.steps 999 (suc left) in omega arith
+  print_at_most = print_within 63

@@ -1,5 +1,5 @@
 -- Integers and arrays as things, and the steps that showing them takes.
-use Rattle.std.specs.Prelude.{ℕ, zero, suc, ◌+◌, ◌-◌, ◌/◌, ◌%◌, ◌^◌, nat_lt, if◌then◌else◌, List, [], ◌++◌, codes, decimal}
+use Rattle.std.specs.Prelude.{ℕ, zero, suc, ◌+◌, ◌*◌, ◌-◌, ◌/◌, ◌%◌, ◌^◌, nat_lt, if◌then◌else◌, List, [], ◌++◌, codes, decimal}
 use Rattle.std.specs.Fmt.{signed_decimal}
 use Rattle.ps_terms.specs.Printing.{word}
 use Rattle.ps_terms.specs.Printing.{further}
@@ -98,3 +98,7 @@ struct_thing is = record {
 -- a whole value
 abbrev pub print_steps : Thing → ℕ → ℕ
 print_steps i left = further 5 (i.steps 1000 (further 1 left))
+
+-- the most steps for a value of a type that is at most k arrays and structs deep: 1,000 items are shown
+abbrev pub steps_within : ℕ → ℕ
+steps_within k = 1000 * (202 + 123 * k) + 6

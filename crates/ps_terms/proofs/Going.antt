@@ -126,7 +126,7 @@ module _ {D : Type 0} (Op : Operates D) (prints : Printing Op) (s : StoreState) 
           let met : Met Op d c op m r k d₂ c₂ = behind_step Op m d (core now ds operands items) (Asks op c) r k d₂ c₂ asks run in
           answer_ends n d d' op left items' c m j looked (omega arith) refl (λ now. refl) p r k d₂ c₂ other met.asked.given met.dialect met.asked.core met.left met.asked.operates
           (seeks m met.asked.given met.dialect met.asked.core met.left met.asked.operates) met.answer met.core met.asked.settles met.follows
-          (λ f is needs. fails r k d₂ c₂ d c op m j f looked needs met is)
+          (λ f is needs. fails r k d₂ c₂ d c op m j f looked (let less = enough n d' left items' p in omega arith) needs met is)
 
 module _ {D : Type 0} (Op : Operates D) (prints : Printing Op) (s : StoreState) (ds : List DictId) (words : Words) (knows : Knows s ds words) (aim : Aim Op prints s ds)
     (o : List PsObj) (under : List Item) where

@@ -1,5 +1,5 @@
 -- How a run fares whose operators may run functions of units.
-use Rattle.std.specs.Prelude.{◌≡◌, ◌≢◌, ℕ, ◌+◌, ◌<◌, true, Bool, Err, List, [], ◌∷◌}
+use Rattle.std.specs.Prelude.{◌≡◌, ◌≢◌, ℕ, ◌+◌, ◌<◌, ◌≤◌, true, Bool, Err, List, [], ◌∷◌}
 use Rattle.ps_store.specs.declared.object.PsObj.{PsObj}
 use Rattle.ps_store.specs.declared.object.DictId.{DictId}
 use Rattle.ps_store.specs.StoreState.{StoreState}
@@ -37,12 +37,13 @@ pub record Aim {D : Type 0} (Op : Operates D) (prints : Printing Op) (s : StoreS
   pub items : List Item
 
 module _ {D : Type 0} (Op : Operates D) (needs : D → PsCore → ℕ → Bool) (first : StoreState) where
-  -- A run goes on as one from there, where look-ups made something of the store and took steps; or a look-up failed that needed
-  -- functions of units, and the rest of the run followed; or the steps were spent, where look-ups took more than were to be left.
+  -- A run goes on as one from there, where look-ups made something of the store and took steps; or a look-up failed that needed functions of units, with
+  -- as many steps as were to be left but for those that look-ups took, and the rest of the run followed; or the steps were spent, where look-ups took more
+  -- than were to be left.
   pub data Fares (ds : List DictId) (left : ℕ) (dialect : D) (operands : List PsObj) (items : List Item) : Answer → ℕ → D → PsCore → Type 0 where
     arrives : (r : Answer) (m : ℕ) (d : D) (c : PsCore) (now : StoreState) (n j : ℕ) → Looked Op needs first now j → n + j ≡ left
         → Runs Op n dialect (core now ds operands items) r m d c → Fares ds left dialect operands items r m d c
-    fails : (r : Answer) (m : ℕ) (d : D) (c : PsCore) (d₁ : D) (c₁ : PsCore) (op n j : ℕ) (f : PsFault) → Looked Op needs first c₁.store j → needs d₁ c₁ op ≡ true
+    fails : (r : Answer) (m : ℕ) (d : D) (c : PsCore) (d₁ : D) (c₁ : PsCore) (op n j : ℕ) (f : PsFault) → Looked Op needs first c₁.store j → left ≤ n + j → needs d₁ c₁ op ≡ true
         → (met : Met Op d₁ c₁ op n r m d c) → met.asked.given ≡ Err f → Fares ds left dialect operands items r m d c
     starves : (m : ℕ) (d : D) (c : PsCore) (now : StoreState) (j : ℕ) → Looked Op needs first now j → left < j → Fares ds left dialect operands items (Err Spent) m d c
 

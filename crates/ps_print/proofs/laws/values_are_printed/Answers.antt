@@ -1,5 +1,5 @@
 use Rattle.ps_print.proofs.Printed.{printed, printed_at_once}
-use Rattle.ps_print.proofs.Steps.{print_at_most}
+use Rattle.ps_print.proofs.Steps.{print_at_most, print_within}
 use Rattle.ps_terms.proofs.Kept.{looked_settled, closed_stays}
 use Rattle.ps_print.proofs.laws.values_are_printed.Goals as goal
 
@@ -8,6 +8,7 @@ returns g c = record {
   run = printed g.D.Dialect.operates;
   at_once = printed_at_once g.D.Dialect.operates;
   steps = print_at_most g.D.Dialect.operates;
+  deep = print_within g.D.Dialect.operates;
   settles = λ prints first now j looked. looked_settled g.D.Dialect.operates prints.needs first now j looked;
   stays = closed_stays g.D.Dialect.operates;
 }
