@@ -1,7 +1,6 @@
 -- The prelude runs on a new store, by computing.
 use Rattle.std.proofs.Common.{◌≡◌, ℕ, zero, suc, ◌+◌, Bool, true, false, ◌&&◌, nat_lt, bytes_eq, ltb-true, ap, subst, ◌<◌, arith, slice_get, is_some, if◌then◌else◌, Option, Some, None, List, [], ◌∷◌, length, codes, refl}
 use Rattle.std.specs.Fmt.{digits}
-use Rattle.std.specs.List.{AllByRecursion}
 use Rattle.std.specs.Ordering.{int_eq}
 use Rattle.std.specs.Cmp.{signed_Decides}
 use Rattle.std.specs.Cmp.Lexicographic.{bytes_decides}
@@ -28,7 +27,7 @@ use Rattle.ps_print.specs.Leads.{Leads}
 use Rattle.ps_run.specs.Runs.{Operates, Runs}
 use Rattle.ps_terms.specs.Printing.{further}
 use Rattle.ps_run.proofs.Apart.{behind}
-use Rattle.ps_print.specs.Prelude.{digits_body, signed_body, showint_body, showunsigned_body, showchar_body, showpointer_body, items_body, showarray_body, members_body, showstruct_body, show_body, print_body, printers}
+use Rattle.ps_print.specs.Prelude.{digits_body, signed_body, showint_body, showunsigned_body, showchar_body, showpointer_body, items_body, showarray_body, members_body, showstruct_body, show_body, print_body}
 
 -- ---- what the objects are, as a test
 
@@ -83,30 +82,13 @@ abbrev there : List ℕ → Code → Type 0
 there name body = is_body (named loaded.store loaded.dictionaries name) body ≡ true
 
 bodies_there : there (codes "Digits") digits_body × there (codes "Signed") signed_body × there (codes "ShowInt") showint_body × there (codes "Items") items_body
-    × there (codes "ShowArray") showarray_body × there (codes "Show") show_body × there (codes "ShowUnsigned") showunsigned_body
+    × there (codes "ShowArray") showarray_body × there (codes "Show") show_body × there (codes "PrintInt") print_body × there (codes "PrintArray") print_body × there (codes "ShowUnsigned") showunsigned_body
     × there (codes "ShowChar") showchar_body × there (codes "ShowPointer") showpointer_body × there (codes "ShowStruct") showstruct_body × there (codes "Members") members_body
 unfolding digits is_white is_special is_regular is_hexadecimal operator_number
-bodies_there = (refl, refl, refl, refl, refl, refl, refl, refl, refl, refl, refl)
+bodies_there = (refl, refl, refl, refl, refl, refl, refl, refl, refl, refl, refl, refl, refl)
 
 does : (name : List ℕ) (body : Code) → there name body → Means loaded.store loaded.dictionaries name (Does body)
 does name body h = body_means (named loaded.store loaded.dictionaries name) name body refl h
-
-printers_there : there (codes "PrintInt") print_body × there (codes "PrintUnsigned") print_body × there (codes "PrintChar") print_body × there (codes "PrintPointer") print_body
-    × there (codes "PrintArray") print_body × there (codes "PrintStruct") print_body
-unfolding digits is_white is_special is_regular is_hexadecimal operator_number
-printers_there = (refl, refl, refl, refl, refl, refl)
-
--- the six printers are one body
-pub loaded_printers : AllByRecursion (λ (name : List ℕ). Means loaded.store loaded.dictionaries name (Does print_body)) printers
-loaded_printers = (
-  does (codes "PrintInt") print_body printers_there.0,
-  does (codes "PrintUnsigned") print_body printers_there.1,
-  does (codes "PrintChar") print_body printers_there.2,
-  does (codes "PrintPointer") print_body printers_there.3,
-  does (codes "PrintArray") print_body printers_there.4,
-  does (codes "PrintStruct") print_body printers_there.5,
-  tt,
-)
 
 abbrev EachMeans : Words → Type 0
 EachMeans [] = Unit {0}
@@ -172,14 +154,14 @@ loaded_holds = record {
                               (
                                 does (codes "ShowInt") showint_body bodies_there.2,
                                 (
-                                  does (codes "ShowUnsigned") showunsigned_body bodies_there.6,
+                                  does (codes "ShowUnsigned") showunsigned_body bodies_there.8,
                                   (
                                     does (codes "Items") items_body bodies_there.3,
                                     (
                                       does (codes "ShowArray") showarray_body bodies_there.4,
                                       (
                                         does (codes "Show") show_body bodies_there.5,
-                                        (does (codes "ShowChar") showchar_body bodies_there.7, (does (codes "ShowPointer") showpointer_body bodies_there.8, (does (codes "ShowStruct") showstruct_body bodies_there.9, (does (codes "Members") members_body bodies_there.10, tt)))),
+                                        (does (codes "ShowChar") showchar_body bodies_there.9, (does (codes "ShowPointer") showpointer_body bodies_there.10, (does (codes "ShowStruct") showstruct_body bodies_there.11, (does (codes "Members") members_body bodies_there.12, tt)))),
                                       ),
                                     ),
                                   ),

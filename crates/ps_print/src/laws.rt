@@ -1,7 +1,6 @@
 // What holds of the prelude.
 
 ghost use Rattle.std.specs.Prelude.{◌≡◌, false, ℕ, ◌+◌, ◌≤◌, ◌++◌, ◌∷◌, [], List};
-ghost use Rattle.std.specs.List.{AllByRecursion};
 ghost use Rattle.ps_store.specs.declared.object.PsObj.{PsObj};
 ghost use Rattle.ps_store.specs.declared.object.PsObj.TheVariants.{Int, Dict};
 ghost use Rattle.ps_store.specs.declared.object.ArrayId.{ArrayId};
@@ -11,14 +10,14 @@ ghost use Rattle.ps_step.specs.declared.item.Item.{Item};
 ghost use Rattle.c_tree.specs.declared.types.CType.{CType};
 ghost use Rattle.c_tree.specs.declared.types.StructDef.{StructDef};
 ghost use Rattle.c_show.specs.Printed.{Showing, shown};
-ghost use Rattle.ps_terms.specs.Machine.{Obj, Key, Does};
-ghost use Rattle.ps_terms.specs.Stands.{Are, Frames, Means, core};
+ghost use Rattle.ps_terms.specs.Machine.{Obj, Key};
+ghost use Rattle.ps_terms.specs.Stands.{Are, Frames, core};
 ghost use Rattle.ps_terms.specs.Printing.{word, Printing, Looked};
 ghost use Rattle.ps_terms.specs.Faring.{shut, HoldsDicts, Stays, Comes};
 ghost use Rattle.ps_store.specs.Settled.{Settled};
 ghost use Rattle.ps_store.specs.Store.{closed_part};
 ghost use Rattle.ps_step.specs.declared.machine.PsCore.{PsCore};
-ghost use Rattle.ps_print.specs.Prelude.{print_body, printers};
+ghost use Rattle.ps_print.specs.Prelude.{print_body};
 ghost use Rattle.ps_print.specs.Words.{Holds, RoomFor};
 ghost use Rattle.ps_print.specs.Items.{Thing};
 ghost use Rattle.ps_print.specs.Things.{print_steps, steps_within};
@@ -31,8 +30,9 @@ use ps_run::Dialect;
 
 /// A run of a type's printer on a place appends the text of the value that lies there, and takes the place and the type. Functions
 /// of units that an operator needs are run first. So the run goes on with the store that such operators made, and with exactly so
-/// many steps less, at most 202 for each of 1,000 items and 123 more for each level of arrays and structs, but for those that these operators took; or an operator failed that
-/// needed functions of units; or they took more steps than would be left. Where no operator needs any the store is as it was.
+/// many steps less, but for those that these operators took; or an operator failed that needed functions of units; or they took
+/// more steps than would be left. These steps are at most 202 for each of 1,000 items, and 123 more for each level of arrays and
+/// structs, which is 7,951 for the deepest type. Where no operator needs any function of a unit the store is as it was.
 /// Of what is closed, such operators settle deferred entries at most, so that what is closed stays known.
 pub fn values_are_printed<D: Dialect>()
     ensures run { (prints : Printing D.operates) (s first : StoreState) (ds : List DictId) (digits : ArrayId) (d : D) (space : List ℕ) (defs : List StructDef) (t : CType) (type : DictId) (place : ℕ) (xs : List Showing) (i : Thing) (left : ℕ) (operands o : List PsObj) (items under : List Item) → Holds s ds digits → Stays D.operates prints s ds first → Laid D.operates prints s first d space defs 63 t type place xs i → RoomFor 400 o under → Are s operands (Obj (Dict type) ∷ Obj (Int (word place)) ∷ Key space ∷ []) → Frames s under items (print_body ∷ []) → Comes D.operates prints.needs first (print_steps i left) d (core first ds (operands ++ o) items) ds left (prints.append d (shown defs t xs)) o under }
@@ -44,9 +44,8 @@ pub fn values_are_printed<D: Dialect>()
 {}
 
 /// A run of the prelude's text in a new state comes to its end in 75 steps, whatever the dialect, and where it is loaded its
-/// words mean what its terms say; the six printers are one body.
+/// words mean what its terms say.
 pub fn prelude_is_loaded<D: Dialect>()
     ensures run { (left : ℕ) (d : D) → Leads D.operates (further 75 left) d start left d executed }
     ensures holds { Holds loaded.store loaded.dictionaries digits_id }
-    ensures alike { AllByRecursion (λ name. Means loaded.store loaded.dictionaries name (Does print_body)) printers }
 {}
