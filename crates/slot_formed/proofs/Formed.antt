@@ -351,7 +351,7 @@ module _ (p : Program) (accepted : KeepsRules p) (ascend : (t : CType) → LieIn
     points_differ fn.points (mine p accepted ascend f fn here n size).numbered,
   )
 
-points_stand : (p : Program) → KeepsRules p → ((t : CType) → LieIn 0 (leaves_of p.defs t) (size_of p.defs t)) → (f : ℕ) (fn : Function) → slice_get p.functions f ≡ Some fn → (first last : ℕ) → fn.points ≡ first ∷ (points_in fn.body ++ last ∷ []) → HasAll (function_code p f fn) fn.points
+pub points_stand : (p : Program) → KeepsRules p → ((t : CType) → LieIn 0 (leaves_of p.defs t) (size_of p.defs t)) → (f : ℕ) (fn : Function) → slice_get p.functions f ≡ Some fn → (first last : ℕ) → fn.points ≡ first ∷ (points_in fn.body ++ last ∷ []) → HasAll (function_code p f fn) fn.points
 points_stand p accepted ascend f fn e first last points = points_has p accepted ascend f fn e (length (function_code p f fn)) refl first last points
 
 -- ---- the program

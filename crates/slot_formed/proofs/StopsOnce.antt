@@ -29,7 +29,8 @@ use Rattle.slot_gen.specs.Expressions.{access_of, converting, cast_code, load_co
 use Rattle.slot_gen.specs.Statements.{Around, Target, nowhere, stmt_code, stmts_code, block_code, else_code, body_code, body_targets, body_defaults, zeros_code, part_code, init_code, inits_code, test_code, loop_test, loop_body, loop_code, in_loop, in_switch, switch_code, seek_code, first_target, zero_code}
 use Rattle.c_typing.specs.Programs.{numbers}
 use Rattle.slot_ir.specs.WellFormed.{IsListed}
-use Rattle.slot_formed.specs.Code.{is_stop, ArePlaces}
+use Rattle.slot_gen.specs.Rows.{is_stop}
+use Rattle.slot_formed.specs.Code.{ArePlaces}
 use Rattle.slot_formed.proofs.Lists.{no_none, some_same}
 use Rattle.slot_formed.proofs.Good.{Among}
 use Rattle.slot_formed.proofs.Stmts.{block_stmts}

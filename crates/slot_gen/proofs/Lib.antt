@@ -23,4 +23,5 @@ mod Codes
 mod Starting
 mod Above
 mod Few
+pub mod Placed
 pub mod NodesOfStatements

@@ -1,5 +1,6 @@
 -- The rows of a program's slot code, each for one of the program.
-use Rattle.std.specs.Prelude.{◌≡◌, ◌≤◌, ℕ, suc, ◌*◌, List, [], ◌∷◌, Option, Some, None, length, map}
+use Rattle.std.specs.Prelude.{◌≡◌, ◌≤◌, ℕ, suc, ◌*◌, List, [], ◌∷◌, Bool, false, ◌==◌, Option, Some, None, length, map, slice_get}
+use Rattle.std.specs.List.{AllZip, Contains, range_with_len}
 use Rattle.ldb_words.specs.declared.kinds.Kind.{Kind}
 use Rattle.ldb_words.specs.declared.kinds.Kind.TheVariants.{Byte, Word, Address}
 use Rattle.c_tree.specs.declared.types.CType.{CType}
@@ -15,6 +16,7 @@ use Rattle.c_tree.specs.declared.rows.Start.{Start}
 use Rattle.c_tree.specs.declared.rows.Start.TheVariants as start
 use Rattle.c_tree.specs.Layout.{size_of, leaves_of}
 use Rattle.c_tree.specs.Ordered.{AllLaidOut}
+use Rattle.c_tree.specs.Points.{first_of}
 use Rattle.c_source.specs.Begin.{main_from}
 use Rattle.slot_ir.specs.declared.code.SlotCode.{SlotCode}
 use Rattle.slot_ir.specs.declared.code.SlotFunction.{SlotFunction}
@@ -27,6 +29,8 @@ use Rattle.slot_ir.specs.declared.code.SlotStruct.{SlotStruct}
 use Rattle.slot_ir.specs.declared.code.SlotStart.{SlotStart}
 use Rattle.slot_ir.specs.declared.code.SlotValue.{SlotValue}
 use Rattle.slot_ir.specs.declared.code.SlotValue.TheVariants as slot
+use Rattle.slot_ir.specs.declared.code.SlotOp.{SlotOp}
+use Rattle.slot_ir.specs.declared.code.SlotOp.TheVariants.{Stop}
 use Rattle.slot_ir.specs.declared.code.Home.{Home}
 use Rattle.slot_ir.specs.declared.code.Home.TheVariants.{Block, Register}
 use Rattle.slot_gen.specs.Expressions.{access_of, registers_from, register_at}
@@ -65,6 +69,22 @@ items_of t = 1
 abbrev pub member_of : Member → SlotMember
 member_of m = record { at = m.at; items = items_of m.ctype; item = item_of m.ctype }
 
+-- ---- the places of stops
+
+abbrev pub is_stop : ℕ → SlotOp → Bool
+is_stop q (Stop r) = q == r
+is_stop q op = false
+
+-- numbers that follow one another
+abbrev pub AreConsecutive : List ℕ → Type 0
+AreConsecutive qs = qs ≡ range_with_len (first_of qs) (length qs)
+
+-- a point's stop stands at a place, if it stands in the code
+abbrev pub StandsAt : List SlotOp → ℕ → ℕ → Type 0
+StandsAt code q i = Contains code (Stop q) → slice_get code i ≡ Some (Stop q)
+
+-- ---- functions
+
 module _ (p : Program) where
   -- a local, where these are in registers
   pub record IsLocalOf (registers : List (Option ℕ)) (x : ℕ) (l : Local) (s : SlotLocal) : Type 0 where
@@ -82,6 +102,8 @@ module _ (p : Program) where
     -- it has the temporaries that its code names, and at most those that its expressions are said to take
     pub below : AreBelow g.temporaries g.code
     pub few : g.temporaries ≤ function_temps fn
+    -- where its points are consecutive, each has a place at which its stop stands
+    pub places : AreConsecutive g.points → AllZip (StandsAt g.code) g.points g.places
 
   pub record IsStructOf (s : ℕ) (d : StructDef) (row : SlotStruct) : Type 0 where
     pub size : row.size ≡ d.size

@@ -41,7 +41,7 @@ fn statements(body: &Stmt) -> &[Stmt]
 }
 
 /// The first point of a function.
-fn first_point(points: &[u32]) -> u32
+pub fn first_point(points: &[u32]) -> u32
     ensures { result ≡ first_of points.now }
 {
     match points.first() {

@@ -1,31 +1,40 @@
 // Where the stopping points of a function stand, and how many temporaries its code takes.
-ghost use Rattle.std.specs.Prelude.{◌≡◌, ◌≤◌, ℕ, max, IfOk};
+ghost use Rattle.std.specs.Prelude.{◌≡◌, ◌≤◌, ◌+◌, ℕ, max, IfOk, if◌then◌else◌, length, option_map, slice_get};
+ghost use Rattle.std.specs.List.{AllZip};
 ghost use Rattle.slot_gen.specs.Bounds.{IsBelow, AreBelow};
+ghost use Rattle.slot_gen.specs.Rows.{AreConsecutive, StandsAt, is_stop};
 
 use crate::emit::next;
+use crate::functions::first_point;
 use slot_ir::SlotOp;
 use std::alloc::{AllocError, Global};
 
-/// The place of each of a function's points, which are numbered one after another.
-pub fn places(alloc: Global, points: &[u32], code: &[SlotOp]) -> Result<Vec<u32>, AllocError> {
-    let mut places = Vec::new(alloc);
-    let mut first = None;
-    for point in points {
-        if first.is_none() {
-            first = Some(*point);
-        }
-        places.push(0)?;
+/// The place of each of a function's points, which are numbered one after another, in one pass over its code. It has a meaning where the point's stop stands in the code.
+pub fn places(alloc: Global, points: &[u32], code: &[SlotOp]) -> Result<Vec<u32>, AllocError>
+    ensures { IfOk result (λ places. AreConsecutive points.now → AllZip (StandsAt code.now) points.now places.items) }
+{
+    let first = first_point(points);
+    let mut places = vec![in alloc; 0; points.len()]?;
+    let mut at = 0;
+    for op in code {
+        note(&mut places, first, *op, at);
+        at = next(at)?;
     }
-    let first = first.unwrap_or(0);
-    for (i, op) in code.iter().enumerate() {
-        if let SlotOp::Stop { point } = op {
-            let at = u32::try_from(i).map_err(|_| AllocError)?;
-            if let Some(place) = places.get_mut(point.wrapping_sub(first) as usize) {
+    Ok(places)
+}
+
+/// The place of an operator, noted for the point that it stops at, where that is one of these points from the first one on.
+fn note(places: &mut Vec<u32>, first: u32, op: SlotOp, at: u32)
+    ensures many { length places.new.items ≡ length places.old.items }
+    ensures each { (i : ℕ) → slice_get places.new.items i ≡ if is_stop (first + i) op then option_map (λ _. at) (slice_get places.old.items i) else slice_get places.old.items i }
+{
+    if let SlotOp::Stop { point } = op {
+        if let Some(number) = point.checked_sub(first) {
+            if let Some(place) = places.get_mut(number as usize) {
                 *place = at;
             }
         }
     }
-    Ok(places)
 }
 
 /// One more than the highest temporary that a function's code names.

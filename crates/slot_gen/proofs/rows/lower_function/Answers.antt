@@ -11,5 +11,6 @@ returns c = record {
   points = search rules;
   code = c.from_vec-3.ensures ∙ c.in_ok-code.ensures;
   below = subst (λ l. AreBelow c.in_ok-temporaries.field-0 l) (c.deref-2.ensures.value ∙ sym c.from_vec-3.ensures) c.in_ok-temporaries.ensures.below;
+  places = ?;
   few = few_of c.args.program.now c.args.number c.args.function.now c.deref-2.result.now c.in_ok-temporaries.field-0 (λ m. c.in_ok-temporaries.ensures.least m) (c.deref-2.ensures.value ∙ c.in_ok-code.ensures);
 }
