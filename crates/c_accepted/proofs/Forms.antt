@@ -19,13 +19,12 @@ use Rattle.c_tree.specs.declared.typed.UnaryOp.TheVariants.{Plus, Minus, Complem
 use Rattle.c_tree.specs.declared.typed.Typed.{Typed}
 use Rattle.c_tree.specs.declared.typed.Typed.TheVariants.{Comma', Assign', Choice', Or', And', Binary', Cast', Before', Address', Follow', Unary', SizeOf', SizeOfType, Index', Dot', Arrow', After', Name, Constant, Literal, Parens'}
 use Rattle.c_tree.specs.declared.types.StructDef.{StructDef}
-use Rattle.c_tree.specs.Types.{type_of}
 use Rattle.c_typing.specs.Plain.{Plain, Char, Array, Int, Unsigned, plain, value_type, is_integer}
 use Rattle.c_typing.specs.Written.{IsWritten}
 use Rattle.c_typing.specs.Rules.{unary_type, followed, address_type, dot_type, arrow_type, index_type, binary_type, assignment_type, compound_type, step_type, logical_type, choice_type, comma_type, cast_type, size_type, may_drop}
 use Rattle.c_typing.specs.Expressions as typing
 use Rattle.c_typing.specs.Expressions.{Denoted, Object, Function, Hidden, object_type, name_type, operand, value, is_constant_type, string_type}
-use Rattle.c_typing.specs.Constants.{is_built, evaluated}
+use Rattle.c_typing.specs.Constants as constants
 use Rattle.c_defs.specs.Members.{member_number}
 use Rattle.c_typing.specs.declared.constant.Constant.TheVariants as folds
 use Rattle.c_judge.specs.Scope.{Scope, pointed_number}
@@ -33,7 +32,6 @@ use Rattle.c_judge.specs.Answers.{Known, Broken}
 use Rattle.c_typing.specs.Values as values
 use Rattle.c_judge.specs.Judgement.{Judged, value_type_of, object, variable, string_of, folded, unary, sized, stepped, step_of, cast_to, indexed, prefixed, joined, operation, compound_of, compound_rule, assigned, member_of, chosen_of, named, leaf_of, register_of, integer_type, rule_of}
 use Rattle.c_judge.specs.Elaboration.{IsUnary, IsPrefixed, IsAssigned, IsOperation, IsJoined, IsParen, IsIndex, IsMember, IsAfter, IsChoice, IsCast, IsSizeOfType, IsConstant, IsLeaf}
-use Rattle.c_reading.proofs.Constants.{IsVal, size_is, unary_val, cast_val, binary_val, or_val, and_val, choice_val}
 use Rattle.c_accepted.specs.Grown.{Grows}
 use Rattle.c_accepted.specs.Reads.{Reads, IsLeafRead}
 use Rattle.c_accepted.proofs.Known.{never, one_known, ruled, only_this}
@@ -101,7 +99,7 @@ module _ (d : List StructDef) (s : typing.Scope) (g : Grows d s.defs) where
       let (t, y, f) = ruled 23 at (folded n) (unary_type w (value_type_of k)) j r' in
       let here : t ≡ plain h.ctype = typed_as s (Unary' h w i a) (folded n t) j t f refl c in
       made s (Unary' h w i a) (folded n t) j f (λ words. (pa.typed words, ap (unary_type w) (value_is s a k pa) ∙ y ∙ ap Some here)) c refl refl refl refl
-      (subst (λ u. IsVal (is_built a) (evaluated s.defs (Unary' h w i a)) (values.with_one (values.turned w (values.is_unsigned u)) k.constant)) (value_is s a k pa) (unary_val w (type_of a) (is_built a) (evaluated s.defs a) k.constant pa.constant))
+      (ap (λ u. values.with_one (values.turned w (values.is_unsigned u)) (constants.constant s.defs a)) (value_is s a k pa) ∙ ap (values.with_one (values.turned w (values.is_unsigned (value_type_of k)))) pa.constant)
   unary_told o z x k j at e c r p = absurd e
 
   before_told : (step : Step) (z x : Typed) (k j : Judged) (at : ℕ) → IsPrefixed (prefix.Step step) x z → Has s z j → stepped d at step k ≡ Known j → Told s x k → Told s z j
@@ -139,7 +137,7 @@ module _ (d : List StructDef) (s : typing.Scope) (g : Grows d s.defs) where
       let v = folded (folds.Number (values.size_of d k.operand.ctype)) Unsigned in
       let here : Unsigned ≡ plain h.ctype = typed_as s (SizeOf' h i a) v j Unsigned f refl c in
       made s (SizeOf' h i a) v j f (λ words. (pa.typed words, ap (size_type s.defs) pa.ctype ∙ size_type_grows d s.defs g k.operand.ctype (plain h.ctype) (o ∙ ap Some here))) c refl refl refl refl
-      (refl, ap Some (size_is s.defs (type_of a) ∙ ap (values.size_of s.defs) pa.ctype ∙ size_grows d s.defs g k.operand.ctype n))
+      (ap folds.Number (ap (values.size_of s.defs) pa.ctype ∙ size_grows d s.defs g k.operand.ctype n))
   prefix_told prefix.Plus z x k j at e c r p = unary_told Plus z x k j at e c r p
   prefix_told prefix.Minus z x k j at e c r p = unary_told Minus z x k j at e c r p
   prefix_told prefix.Complement z x k j at e c r p = unary_told Complement z x k j at e c r p
@@ -157,7 +155,7 @@ module _ (d : List StructDef) (s : typing.Scope) (g : Grows d s.defs) where
       let v = folded (folds.Number (values.size_of d t)) Unsigned in
       let here : Unsigned ≡ plain h.ctype = typed_as s (SizeOfType h u) v j Unsigned f refl c in
       made s (SizeOfType h u) v j f (λ words. (w u e, ap (size_type s.defs) e ∙ size_type_grows d s.defs g t (plain h.ctype) (o ∙ ap Some here))) c refl refl refl refl
-      (refl, ap Some (size_is s.defs u ∙ ap (values.size_of s.defs) e ∙ size_grows d s.defs g t n))
+      (ap folds.Number (ap (values.size_of s.defs) e ∙ size_grows d s.defs g t n))
   size_type_told t z j at e w c r = absurd e
 
   pub cast_told : (z x : Typed) (t : Plain) (k j : Judged) (at : ℕ) → IsCast x z → Has s z j → cast_to at t k ≡ Known j → Told s x k → Told s z j
@@ -170,7 +168,7 @@ module _ (d : List StructDef) (s : typing.Scope) (g : Grows d s.defs) where
       let whole : t ≡ plain h.ctype = same ∙ here in
       made s (Cast' h i a) (folded n u) j f
       (λ words. (pa.typed words, ap (cast_type (plain h.ctype)) (value_is s a k pa) ∙ ap (λ w. cast_type w (value_type_of k)) (sym whole) ∙ o ∙ ap Some here)) c refl refl refl refl
-      (subst (λ w. IsVal (is_built a) (evaluated s.defs (Cast' h i a)) (values.with_one (values.converted w) k.constant)) (sym whole) (cast_val h.ctype (is_built a) (evaluated s.defs a) k.constant pa.constant))
+      (ap (λ w. values.with_one (values.converted w) (constants.constant s.defs a)) (sym whole) ∙ ap (values.with_one (values.converted t)) pa.constant)
   cast_told z x t k j at e c r p = absurd e
 
   -- ---- operators between two operands
@@ -190,9 +188,10 @@ module _ (d : List StructDef) (s : typing.Scope) (g : Grows d s.defs) where
         ap (λ g. binary_type s.defs w g (operand s b)) (operand_is s a k pa) ∙ ap (binary_type s.defs w k.operand) (operand_is s b l pb) ∙
             binary_grows d s.defs g w k.operand l.operand (plain h.ctype) (u ∙ ap Some here),
       )) c refl refl refl refl
-      (subst (λ g. IsVal (is_built (Binary' h i a w m b)) (evaluated s.defs (Binary' h i a w m b)) (values.combined w g (value_type_of l) k.constant l.constant)) (value_is s a k pa)
-      (subst (λ g. IsVal (is_built (Binary' h i a w m b)) (evaluated s.defs (Binary' h i a w m b)) (values.combined w (value s a) g k.constant l.constant)) (value_is s b l pb)
-      (binary_val w (type_of a) (type_of b) (is_built a) (is_built b) (evaluated s.defs a) (evaluated s.defs b) k.constant l.constant pa.constant pb.constant)))
+      (ap (λ g. values.combined w g (value s b) (constants.constant s.defs a) (constants.constant s.defs b)) (value_is s a k pa)
+      ∙ ap (λ g. values.combined w (value_type_of k) g (constants.constant s.defs a) (constants.constant s.defs b)) (value_is s b l pb)
+      ∙ ap (λ g. values.combined w (value_type_of k) (value_type_of l) g (constants.constant s.defs b)) pa.constant
+      ∙ ap (values.combined w (value_type_of k) (value_type_of l) k.constant) pb.constant)
   operation_told o z x y k l j at e c r p q = absurd e
 
   assigned_told : (o : Option BinaryOp) (z x y : Typed) (k l j : Judged) (at : ℕ) → IsAssigned o x y z → Has s z j → assigned d at o k l ≡ Known j → Told s x k → Told s y l → Told s z j
@@ -236,7 +235,7 @@ module _ (d : List StructDef) (s : typing.Scope) (g : Grows d s.defs) where
       let here : t ≡ plain h.ctype = typed_as s (Or' h i a m b) (folded n t) j t f refl c in
       made s (Or' h i a m b) (folded n t) j f
       (λ words. (pa.typed words.0, pb.typed words.1, ap (λ g. logical_type g (value s b)) (value_is s a k pa) ∙ ap (logical_type (value_type_of k)) (value_is s b l pb) ∙ o ∙ ap Some here)) c refl refl refl refl
-      (or_val (is_built a) (is_built b) (evaluated s.defs a) (evaluated s.defs b) k.constant l.constant pa.constant pb.constant)
+      (ap (λ g. values.either g (constants.constant s.defs b)) pa.constant ∙ ap (values.either k.constant) pb.constant)
   joined_told written.LogicalAnd (And' h i a m b) x y k l j at e c r p q =
       let n = values.both k.constant l.constant in
       let (t, o, f) = ruled 38 at (folded n) (logical_type (value_type_of k) (value_type_of l)) j r in
@@ -245,7 +244,7 @@ module _ (d : List StructDef) (s : typing.Scope) (g : Grows d s.defs) where
       let here : t ≡ plain h.ctype = typed_as s (And' h i a m b) (folded n t) j t f refl c in
       made s (And' h i a m b) (folded n t) j f
       (λ words. (pa.typed words.0, pb.typed words.1, ap (λ g. logical_type g (value s b)) (value_is s a k pa) ∙ ap (logical_type (value_type_of k)) (value_is s b l pb) ∙ o ∙ ap Some here)) c refl refl refl refl
-      (and_val (is_built a) (is_built b) (evaluated s.defs a) (evaluated s.defs b) k.constant l.constant pa.constant pb.constant)
+      (ap (λ g. values.both g (constants.constant s.defs b)) pa.constant ∙ ap (values.both k.constant) pb.constant)
   joined_told (written.Assign o) z x y k l j at e c r p q = assigned_told (compound_of o) z x y k l j at e c r p q
   joined_told written.BitOr z x y k l j at e c r p q = operation_told op.BitOr z x y k l j at e c r p q
   joined_told written.BitXor z x y k l j at e c r p q = operation_told op.BitXor z x y k l j at e c r p q
@@ -281,7 +280,9 @@ module _ (d : List StructDef) (s : typing.Scope) (g : Grows d s.defs) where
         pb.typed words.2,
         ap (λ g. choice_type g (operand s a) (operand s b)) (value_is s q i pq) ∙ ap (λ g. choice_type (value_type_of i) g (operand s b)) (operand_is s a k pa) ∙ ap (choice_type (value_type_of i) k.operand) (operand_is s b l pb) ∙ u ∙ ap Some here,
       )) c refl refl refl refl
-      (choice_val (is_built q) (is_built a) (is_built b) (evaluated s.defs q) (evaluated s.defs a) (evaluated s.defs b) i.constant k.constant l.constant pq.constant pa.constant pb.constant)
+      (ap (λ g. values.chosen g (constants.constant s.defs a) (constants.constant s.defs b)) pq.constant
+      ∙ ap (λ g. values.chosen i.constant g (constants.constant s.defs b)) pa.constant
+      ∙ ap (values.chosen i.constant k.constant) pb.constant)
   choice_told z w x y i k l j at e c r o p m = absurd e
 
 -- ---- leaves
@@ -291,7 +292,7 @@ module _ (s : typing.Scope) where
   constant_told m t (Constant h n) j i e c r =
       let f = one_known (folded (folds.Number m) t) j r in
       let here : t ≡ plain h.ctype = typed_as s (Constant h n) (folded (folds.Number m) t) j t f refl c in
-      made s (Constant h n) (folded (folds.Number m) t) j f (λ words. (subst (λ u. is_constant_type u ≡ true) here i, words)) c refl refl refl refl (refl, ap Some e)
+      made s (Constant h n) (folded (folds.Number m) t) j f (λ words. (subst (λ u. is_constant_type u ≡ true) here i, words)) c refl refl refl refl (ap folds.Number e)
   constant_told m t z j i e c r = absurd e
 
   module _ (v : Scope) (reads : Reads v s) where

@@ -8,16 +8,12 @@ use Rattle.c_typing.specs.Plain.{Plain, Unsigned, plain, value_type, is_complete
 use Rattle.c_typing.specs.Rules.{size_type}
 use Rattle.c_typing.specs.Expressions as typing
 use Rattle.c_typing.specs.Expressions.{Denoted, Object, Function, Hidden, operand, value, is_lvalue, is_string, is_register, IsTyped}
-use Rattle.c_typing.specs.Constants.{is_built, evaluated, constant_of}
 use Rattle.c_typing.specs.Constants as constants
-use Rattle.c_typing.specs.declared.constant.Constant.{Constant}
-use Rattle.c_typing.specs.declared.constant.Constant.TheVariants.{Variable, Undefined, Number}
+use Rattle.c_typing.specs.declared.constant.Constant.TheVariants.{Number}
 use Rattle.c_judge.specs.Answers.{Known, Broken}
 use Rattle.c_typing.specs.Values as values
 use Rattle.c_judge.specs.Judgement.{Judged, value_type_of, folded, by_rule, sized, register_of}
-use Rattle.c_reading.proofs.Constants.{IsVal, null_is}
 use Rattle.c_accepted.specs.Words.{HasWords}
-use Rattle.c_accepted.specs.Reads.{value_in}
 use Rattle.c_accepted.proofs.Known.{never, one_known, then_known, ruled, only_this}
 
 pub register_same : (o : Option Denoted) → typing.register_in o ≡ register_of o
@@ -25,12 +21,6 @@ register_same None = refl
 register_same (Some (Object t r)) = refl
 register_same (Some (Function r ts)) = refl
 register_same (Some Hidden) = refl
-
--- the value that a constant expression has
-pub value_is_in : (b : Bool) (e : Option ℕ) (c : Constant) → IsVal b e c → (if b then e else None) ≡ value_in c
-value_is_in b e Variable h = ap (λ x. if x then e else None) h
-value_is_in b e Undefined h = ap (λ x. if x then e else None) h.0 ∙ h.1
-value_is_in b e (Number n) h = ap (λ x. if x then e else None) h.0 ∙ h.1
 
 -- `sizeof` is of a complete type
 pub sized_known : (defs : List StructDef) (at : ℕ) (t : Plain) (j : Judged) → sized defs at t ≡ Known j
@@ -55,7 +45,7 @@ module _ (s : typing.Scope) where
     pub register : is_register s z ≡ j.operand.register
     pub string : is_string z ≡ j.operand.string
     pub null : values.is_null j.constant ≡ j.operand.null
-    pub constant : IsVal (is_built z) (evaluated s.defs z) j.constant
+    pub constant : constants.constant s.defs z ≡ j.constant
 
   pub value_is : (z : Typed) (j : Judged) → Told z j → value s z ≡ value_type_of j
   value_is z j k = ap value_type k.ctype
@@ -63,21 +53,18 @@ module _ (s : typing.Scope) where
   pub operand_is : (z : Typed) (j : Judged) → Told z j → operand s z ≡ j.operand
   operand_is z j k =
       let o = j.operand in
-      let n : constants.is_null s.defs z ≡ o.null = null_is (is_built z) (evaluated s.defs z) j.constant k.constant ∙ k.null in
+      let n : constants.is_null s.defs z ≡ o.null = ap values.is_null k.constant ∙ k.null in
       ap (λ t. record { ctype = t; lvalue = is_lvalue z; register = is_register s z; string = is_string z; null = constants.is_null s.defs z }) k.ctype
       ∙ ap (λ b. record { ctype = o.ctype; lvalue = b; register = is_register s z; string = is_string z; null = constants.is_null s.defs z }) k.lvalue
       ∙ ap (λ b. record { ctype = o.ctype; lvalue = o.lvalue; register = b; string = is_string z; null = constants.is_null s.defs z }) k.register
       ∙ ap (λ b. record { ctype = o.ctype; lvalue = o.lvalue; register = o.register; string = b; null = constants.is_null s.defs z }) k.string
       ∙ ap (λ b. record { ctype = o.ctype; lvalue = o.lvalue; register = o.register; string = o.string; null = b }) n
 
-  pub constant_is : (z : Typed) (j : Judged) → Told z j → constant_of s.defs z ≡ value_in j.constant
-  constant_is z j k = value_is_in (is_built z) (evaluated s.defs z) j.constant k.constant
-
   abbrev pub Has : Typed → Judged → Type 0
   Has z j = plain (type_of z) ≡ j.operand.ctype
 
   pub made : (z : Typed) (k j : Judged) → k ≡ j → (HasWords z → IsTyped s z) → Has z j → is_lvalue z ≡ k.operand.lvalue → is_register s z ≡ k.operand.register → is_string z ≡ k.operand.string
-      → values.is_null k.constant ≡ k.operand.null → IsVal (is_built z) (evaluated s.defs z) k.constant → Told z j
+      → values.is_null k.constant ≡ k.operand.null → constants.constant s.defs z ≡ k.constant → Told z j
   made z k j e ke c l r st n co = record {
     typed = ke;
     ctype = c;
@@ -85,7 +72,7 @@ module _ (s : typing.Scope) where
     register = r ∙ ap (λ (x : Judged). x.operand.register) e;
     string = st ∙ ap (λ (x : Judged). x.operand.string) e;
     null = subst (λ (x : Judged). values.is_null x.constant ≡ x.operand.null) e n;
-    constant = subst (λ (x : Judged). IsVal (is_built z) (evaluated s.defs z) x.constant) e co;
+    constant = co ∙ ap (λ (x : Judged). x.constant) e;
   }
 
   -- the type that a rule gives is that of the node

@@ -11,8 +11,6 @@ use Rattle.c_typing.specs.Plain.{Plain}
 use Rattle.c_typing.specs.Written.{IsWritten}
 use Rattle.c_typing.specs.Expressions as typing
 use Rattle.c_typing.specs.Expressions.{Object, Function}
-use Rattle.c_typing.specs.declared.constant.Constant.{Constant}
-use Rattle.c_typing.specs.declared.constant.Constant.TheVariants.{Variable, Undefined, Number}
 use Rattle.c_judge.specs.Scope.{Scope, defs_of}
 use Rattle.c_judge.specs.Judgement.{name_alone}
 use Rattle.c_accepted.specs.Grown.{Grows}
@@ -56,9 +54,3 @@ module _ (v : Scope) (s : typing.Scope) where
   IsRead (Binary at w a b) = IsRead a × IsRead b
   IsRead (Choice at c a b) = IsRead c × IsRead a × IsRead b
   IsRead _ = Unit {0}
-
--- the value that a constant expression has
-abbrev pub value_in : Constant → Option ℕ
-value_in Variable = None
-value_in Undefined = None
-value_in (Number n) = Some n

@@ -1,8 +1,8 @@
 // What holds of expressions that the checker takes.
-ghost use Rattle.std.specs.Prelude.{◌≡◌, Option};
+ghost use Rattle.std.specs.Prelude.{◌≡◌};
 ghost use Rattle.c_expr.specs.Tree.{Tree};
 ghost use Rattle.c_tree.specs.declared.typed.Typed.{Typed};
-ghost use Rattle.c_typing.specs.Constants.{constant_of};
+ghost use Rattle.c_typing.specs.Constants as constants;
 ghost use Rattle.c_typing.specs.Expressions as typing;
 ghost use Rattle.c_typing.specs.Expressions.{IsTyped, operand};
 ghost use Rattle.c_judge.specs.Scope.{Scope};
@@ -10,11 +10,11 @@ ghost use Rattle.c_judge.specs.Answers.{Known};
 ghost use Rattle.c_judge.specs.Judgement.{Judged, judged};
 ghost use Rattle.c_judge.specs.Elaboration.{Elaborates};
 ghost use Rattle.c_accepted.specs.Words.{HasWords};
-ghost use Rattle.c_accepted.specs.Reads.{Reads, IsRead, value_in};
+ghost use Rattle.c_accepted.specs.Reads.{Reads, IsRead};
 
 /// The typed tree of an expression that the checker judges at its place in a file is well typed in the whole program: it is there the operand, and the constant expression, that it was judged to be.
 pub fn judged_expressions_are_typed()
     ensures typed { (v : Scope) (s : typing.Scope) (e : Tree) (z : Typed) (j : Judged) → Reads v s → IsRead v s e → HasWords z → judged v e ≡ Known j → Elaborates v e z → IsTyped s z }
     ensures operand { (v : Scope) (s : typing.Scope) (e : Tree) (z : Typed) (j : Judged) → Reads v s → IsRead v s e → judged v e ≡ Known j → Elaborates v e z → operand s z ≡ j.operand }
-    ensures constant { (v : Scope) (s : typing.Scope) (e : Tree) (z : Typed) (j : Judged) → Reads v s → IsRead v s e → judged v e ≡ Known j → Elaborates v e z → constant_of s.defs z ≡ value_in j.constant }
+    ensures constant { (v : Scope) (s : typing.Scope) (e : Tree) (z : Typed) (j : Judged) → Reads v s → IsRead v s e → judged v e ≡ Known j → Elaborates v e z → constants.constant s.defs z ≡ j.constant }
 {}

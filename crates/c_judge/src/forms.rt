@@ -14,7 +14,6 @@ use crate::fault::Fault;
 use crate::limits::size_within;
 use crate::operators::{OBJECT, VALUE, head, part_of, step_of};
 use crate::part::{Facts, Part};
-use c_typing::Constant;
 use crate::rules::{arrow_type, cast_type, choice_type, dot_type, index_type, step_type, type_of};
 use crate::types::{copied, is_complete, target};
 use crate::values::{chosen, converted};
@@ -22,6 +21,7 @@ use c_defs::StructsView;
 use c_lex::Place;
 use c_symbol::{Access, Step};
 use c_tree::{CType, StructDef, Typed};
+use c_typing::Constant;
 use std::alloc::Global;
 
 /// `(a)`

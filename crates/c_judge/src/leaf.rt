@@ -13,13 +13,13 @@ ghost use Rattle.c_defs.specs.Numbers.{number_in};
 use crate::fault::Fault;
 use crate::operators::{head, part_of};
 use crate::part::{Facts, Part};
-use c_typing::Constant;
 use crate::scope::Scope;
 use crate::types::{array_of, copied};
 use c_expr::Spec;
 use c_lex::{Integer, Place};
 use c_symbol::LeafKind;
 use c_tree::{CType, Typed};
+use c_typing::Constant;
 use ldb_words::Text;
 use std::alloc::Global;
 

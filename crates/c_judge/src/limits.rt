@@ -8,10 +8,10 @@ ghost use Rattle.c_judge.specs.Judges.{Denotes};
 
 use crate::fault::Fault;
 use crate::part::Part;
-use c_typing::Constant;
 use crate::types::{array_of, is_complete, is_void, pointer_to};
 use c_defs::StructsView;
 use c_tree::{CType, StructDef, size_of};
+use c_typing::Constant;
 use std::alloc::Global;
 
 /// The size of a type, where it is at most 1,048,576 bytes.

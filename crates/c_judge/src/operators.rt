@@ -13,7 +13,6 @@ use crate::beside::is_stored_by;
 use crate::fault::Fault;
 use crate::limits::size_within;
 use crate::part::{Facts, Part};
-use c_typing::Constant;
 use crate::rules::{
     address_type, assignment_type, binary_type, comma_type, compound_type, followed, logical_type,
     may_drop, step_type, type_of, unary_type,
@@ -23,6 +22,7 @@ use crate::values::{both, combined, either, turned};
 use c_lex::Place;
 use c_symbol::{AssignOp, BinaryOp as Written, PrefixOp, Step};
 use c_tree::{BinaryOp, CType, Head, Site, StepOp, StructDef, Typed, UnaryOp};
+use c_typing::Constant;
 use std::alloc::{AllocError, Global};
 
 /// What is known of an expression that designates an object.

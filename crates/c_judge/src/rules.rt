@@ -10,12 +10,12 @@ ghost use Rattle.c_typing.specs.Values.{is_null};
 ghost use Rattle.c_judge.specs.Parts.{operand_of, value_of, Gives};
 
 use crate::part::Part;
-use c_typing::Constant;
 use crate::types::{
     common, copied, is_complete, is_integer, is_movable, is_pointer, is_scalar, is_struct, is_void,
     members, point_alike, pointer_to, promoted, same, target, value_type,
 };
 use c_tree::{BinaryOp, CType, Head, Member, StepOp, StructDef, Typed, UnaryOp};
+use c_typing::Constant;
 use std::alloc::{AllocError, Global};
 
 /// What an expression keeps beside its parts.

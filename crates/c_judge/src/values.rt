@@ -6,9 +6,9 @@ ghost use Rattle.c_operators.specs.Arithmetic.{on_ints as ints, on_unsigned as u
 ghost use Rattle.c_typing.specs.Plain.{plain, value_type};
 ghost use Rattle.c_typing.specs.Values as value;
 
-use c_typing::Constant;
 use crate::types::is_unsigned;
 use c_tree::{BinaryOp, CType, UnaryOp};
+use c_typing::Constant;
 use ldb_words::{
     Undef, Way, add_checked, div_checked, mul_checked, rem_checked, shift_checked, sub_checked,
 };

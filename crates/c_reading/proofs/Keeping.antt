@@ -25,7 +25,6 @@ use Rattle.c_typing.specs.Plain.{Plain, Int, Unsigned, plain, value_type, is_int
 use Rattle.c_typing.specs.Rules.{only, unary_type, followed, address_type, dot_type, arrow_type, index_type, binary_type, assignment_type, logical_type, choice_type, comma_type, cast_type, size_type, may_drop}
 use Rattle.c_typing.specs.Expressions as typing
 use Rattle.c_typing.specs.Expressions.{Denoted, Object, Function, Hidden, name_type, operand, value, is_lvalue, is_string, is_register, is_constant_type}
-use Rattle.c_typing.specs.Constants.{is_built, evaluated}
 use Rattle.c_typing.specs.Constants as constants
 use Rattle.c_defs.specs.Members.{member_number}
 use Rattle.c_typing.specs.declared.constant.Constant.TheVariants as folds
@@ -38,7 +37,6 @@ use Rattle.c_judge.specs.Checks.{IsKnown}
 use Rattle.c_judge.specs.Elaboration.{HasHead, Elaborates, IsUnary, IsPrefixed, IsAssigned, IsOperation, IsJoined, IsParen, IsIndex, IsMember, IsChoice, IsCast, IsSizeOfType, IsConstant, IsLeaf, AreArguments, type_in}
 use Rattle.c_reading.specs.Kept.{KeepsRules}
 use Rattle.c_reading.proofs.Meanings.{one_some, one_known, no_some}
-use Rattle.c_reading.proofs.Constants.{IsVal, null_is, size_is, unary_val, cast_val, binary_val, or_val, and_val, choice_val}
 
 -- ---- answers
 
@@ -103,7 +101,7 @@ module _ (v : Scope) where
     pub register : is_register s z ≡ j.operand.register
     pub string : is_string z ≡ j.operand.string
     pub null : values.is_null j.constant ≡ j.operand.null
-    pub constant : IsVal (is_built z) (evaluated s.defs z) j.constant
+    pub constant : constants.constant s.defs z ≡ j.constant
 
   value_is : (z : Typed) (j : Judged) → Told z j → value s z ≡ value_type_of j
   value_is z j k = ap value_type k.ctype
@@ -111,7 +109,7 @@ module _ (v : Scope) where
   operand_is : (z : Typed) (j : Judged) → Told z j → operand s z ≡ j.operand
   operand_is z j k =
       let o = j.operand in
-      let n : constants.is_null s.defs z ≡ o.null = null_is (is_built z) (evaluated s.defs z) j.constant k.constant ∙ k.null in
+      let n : constants.is_null s.defs z ≡ o.null = ap values.is_null k.constant ∙ k.null in
       ap (λ t. record { ctype = t; lvalue = is_lvalue z; register = is_register s z; string = is_string z; null = constants.is_null s.defs z }) k.ctype
       ∙ ap (λ b. record { ctype = o.ctype; lvalue = b; register = is_register s z; string = is_string z; null = constants.is_null s.defs z }) k.lvalue
       ∙ ap (λ b. record { ctype = o.ctype; lvalue = o.lvalue; register = b; string = is_string z; null = constants.is_null s.defs z }) k.register
@@ -119,7 +117,7 @@ module _ (v : Scope) where
       ∙ ap (λ b. record { ctype = o.ctype; lvalue = o.lvalue; register = o.register; string = o.string; null = b }) n
 
   made : (z : Typed) (k j : Judged) → k ≡ j → IsPlain z → KeepsRules s z → plain (type_of z) ≡ j.operand.ctype → is_lvalue z ≡ k.operand.lvalue → is_register s z ≡ k.operand.register → is_string z ≡ k.operand.string
-      → values.is_null k.constant ≡ k.operand.null → IsVal (is_built z) (evaluated s.defs z) k.constant → Told z j
+      → values.is_null k.constant ≡ k.operand.null → constants.constant s.defs z ≡ k.constant → Told z j
   made z k j e pl ke c l r st n co = record {
     plainly = pl;
     keeps = ke;
@@ -128,7 +126,7 @@ module _ (v : Scope) where
     register = r ∙ ap (λ (x : Judged). x.operand.register) e;
     string = st ∙ ap (λ (x : Judged). x.operand.string) e;
     null = subst (λ (x : Judged). values.is_null x.constant ≡ x.operand.null) e n;
-    constant = subst (λ (x : Judged). IsVal (is_built z) (evaluated s.defs z) x.constant) e co;
+    constant = co ∙ ap (λ (x : Judged). x.constant) e;
   }
 
   -- the type that a rule gives is that of the node
@@ -180,7 +178,7 @@ module _ (v : Scope) where
       let n = values.with_one (values.turned w (values.is_unsigned (value_type_of k))) k.constant in
       let (t, y, f) = ruled 23 at (folded n) (unary_type w (value_type_of k)) j r' in
       made (Unary' h w i a) (folded n t) j f pa.plainly (pa.keeps, ap (unary_type w) (value_is a k pa) ∙ y ∙ typed_as (folded n t) j t (plain h.ctype) f refl c) c refl refl refl refl
-      (subst (λ u. IsVal (is_built a) (evaluated s.defs (Unary' h w i a)) (values.with_one (values.turned w (values.is_unsigned u)) k.constant)) (value_is a k pa) (unary_val w (type_of a) (is_built a) (evaluated s.defs a) k.constant pa.constant))
+      (ap (λ u. values.with_one (values.turned w (values.is_unsigned u)) (constants.constant s.defs a)) (value_is a k pa) ∙ ap (values.with_one (values.turned w (values.is_unsigned (value_type_of k)))) pa.constant)
   unary_told o z x k j at e c r p = absurd e
 
   sized_known : (at : ℕ) (t : Plain) (j : Judged) → sized s.defs at t ≡ Known j → (u : Plain) × (size_type s.defs t ≡ Some u) × (folded (folds.Number (values.size_of s.defs t)) u ≡ j)
@@ -206,7 +204,7 @@ module _ (v : Scope) where
       let (u, o, f) = sized_known at k.operand.ctype j r in
       let pa = moved_told a x k e p in
       let g = folded (folds.Number (values.size_of s.defs k.operand.ctype)) u in
-      made (SizeOf' h i a) g j f tt (pa.keeps, ap (size_type s.defs) pa.ctype ∙ o ∙ typed_as g j u (plain h.ctype) f refl c) c refl refl refl refl (refl, ap Some (size_is s.defs (type_of a) ∙ ap (values.size_of s.defs) pa.ctype))
+      made (SizeOf' h i a) g j f tt (pa.keeps, ap (size_type s.defs) pa.ctype ∙ o ∙ typed_as g j u (plain h.ctype) f refl c) c refl refl refl refl (ap (λ t. folds.Number (values.size_of s.defs t)) pa.ctype)
   prefix_told prefix.Plus z x k j at e c r p place n = unary_told Plus z x k j at e c r p
   prefix_told prefix.Minus z x k j at e c r p place n = unary_told Minus z x k j at e c r p
   prefix_told prefix.Complement z x k j at e c r p place n = unary_told Complement z x k j at e c r p
@@ -220,7 +218,7 @@ module _ (v : Scope) where
   size_type_told t (SizeOfType h u) j at e c r =
       let (w, o, f) = sized_known at t j r in
       made (SizeOfType h u) (folded (folds.Number (values.size_of s.defs t)) w) j f tt (ap (size_type s.defs) e ∙ o ∙ typed_as (folded (folds.Number (values.size_of s.defs t)) w) j w (plain h.ctype) f refl c) c refl refl refl refl
-      (refl, ap Some (size_is s.defs u ∙ ap (values.size_of s.defs) e))
+      (ap (λ t. folds.Number (values.size_of s.defs t)) e)
   size_type_told t z j at e c r = absurd e
 
   cast_told : (z x : Typed) (t : Plain) (k j : Judged) (at : ℕ) → IsCast x z → Has z j → cast_to at t k ≡ Known j → Told x k → Told z j
@@ -233,7 +231,7 @@ module _ (v : Scope) where
       let whole : t ≡ plain h.ctype = same ∙ here in
       made (Cast' h i a) (folded n u) j f pa.plainly
       (pa.keeps, ap (cast_type (plain h.ctype)) (value_is a k pa) ∙ ap (λ w. cast_type w (value_type_of k)) (sym whole) ∙ o ∙ ap Some here) c refl refl refl refl
-      (subst (λ w. IsVal (is_built a) (evaluated s.defs (Cast' h i a)) (values.with_one (values.converted w) k.constant)) (sym whole) (cast_val h.ctype (is_built a) (evaluated s.defs a) k.constant pa.constant))
+      (ap (λ w. values.with_one (values.converted w) (constants.constant s.defs a)) (sym whole) ∙ ap (values.with_one (values.converted t)) pa.constant)
   cast_told z x t k j at e c r p = absurd e
 
   operation_told : (o : BinaryOp) (z x y : Typed) (k l j : Judged) (at : ℕ) → IsOperation o x y z → Has z j → operation s.defs at o k l ≡ Known j → Told x k → Told y l → Told z j
@@ -245,9 +243,10 @@ module _ (v : Scope) where
       let (t, u, f) = ruled (rule_of w) at (folded n) (binary_type s.defs w k.operand l.operand) j r' in
       made (Binary' h i a w m b) (folded n t) j f (pa.plainly, pb.plainly)
       (pa.keeps, pb.keeps, ap (λ g. binary_type s.defs w g (operand s b)) (operand_is a k pa) ∙ ap (binary_type s.defs w k.operand) (operand_is b l pb) ∙ u ∙ typed_as (folded n t) j t (plain h.ctype) f refl c) c refl refl refl refl
-      (subst (λ g. IsVal (is_built (Binary' h i a w m b)) (evaluated s.defs (Binary' h i a w m b)) (values.combined w g (value_type_of l) k.constant l.constant)) (value_is a k pa)
-      (subst (λ g. IsVal (is_built (Binary' h i a w m b)) (evaluated s.defs (Binary' h i a w m b)) (values.combined w (value s a) g k.constant l.constant)) (value_is b l pb)
-      (binary_val w (type_of a) (type_of b) (is_built a) (is_built b) (evaluated s.defs a) (evaluated s.defs b) k.constant l.constant pa.constant pb.constant)))
+      (ap (λ g. values.combined w g (value s b) (constants.constant s.defs a) (constants.constant s.defs b)) (value_is a k pa)
+      ∙ ap (λ g. values.combined w (value_type_of k) g (constants.constant s.defs a) (constants.constant s.defs b)) (value_is b l pb)
+      ∙ ap (λ g. values.combined w (value_type_of k) (value_type_of l) g (constants.constant s.defs b)) pa.constant
+      ∙ ap (values.combined w (value_type_of k) (value_type_of l) k.constant) pb.constant)
   operation_told o z x y k l j at e c r p q = absurd e
 
   joined_told : (w : Written) (z x y : Typed) (k l j : Judged) (at : ℕ) → IsJoined w x y z → Has z j → joined s.defs at w k l ≡ Known j → Told x k → Told y l → (place : Place) → forbidden_binary place w ≡ None → Told z j
@@ -264,7 +263,7 @@ module _ (v : Scope) where
       let pb = moved_told b y l e.1 q in
       made (Or' h i a m b) (folded d t) j f (pa.plainly, pb.plainly)
       (pa.keeps, pb.keeps, ap (λ g. logical_type g (value s b)) (value_is a k pa) ∙ ap (logical_type (value_type_of k)) (value_is b l pb) ∙ o ∙ typed_as (folded d t) j t (plain h.ctype) f refl c) c refl refl refl refl
-      (or_val (is_built a) (is_built b) (evaluated s.defs a) (evaluated s.defs b) k.constant l.constant pa.constant pb.constant)
+      (ap (λ g. values.either g (constants.constant s.defs b)) pa.constant ∙ ap (values.either k.constant) pb.constant)
   joined_told written.LogicalAnd (And' h i a m b) x y k l j at e c r p q place n =
       let d = values.both k.constant l.constant in
       let (t, o, f) = ruled 38 at (folded d) (logical_type (value_type_of k) (value_type_of l)) j r in
@@ -272,7 +271,7 @@ module _ (v : Scope) where
       let pb = moved_told b y l e.1 q in
       made (And' h i a m b) (folded d t) j f (pa.plainly, pb.plainly)
       (pa.keeps, pb.keeps, ap (λ g. logical_type g (value s b)) (value_is a k pa) ∙ ap (logical_type (value_type_of k)) (value_is b l pb) ∙ o ∙ typed_as (folded d t) j t (plain h.ctype) f refl c) c refl refl refl refl
-      (and_val (is_built a) (is_built b) (evaluated s.defs a) (evaluated s.defs b) k.constant l.constant pa.constant pb.constant)
+      (ap (λ g. values.both g (constants.constant s.defs b)) pa.constant ∙ ap (values.both k.constant) pb.constant)
   joined_told (written.Assign o) z x y k l j at e c r p q place n = no_some place.at (sym n)
   joined_told written.BitOr z x y k l j at e c r p q place n = operation_told op.BitOr z x y k l j at e c r p q
   joined_told written.BitXor z x y k l j at e c r p q place n = operation_told op.BitXor z x y k l j at e c r p q
@@ -307,7 +306,9 @@ module _ (v : Scope) where
         pb.keeps,
         ap (λ g. choice_type g (operand s a) (operand s b)) (value_is d i pd) ∙ ap (λ g. choice_type (value_type_of i) g (operand s b)) (operand_is a k pa) ∙ ap (choice_type (value_type_of i) k.operand) (operand_is b l pb) ∙ u ∙ typed_as (folded n t) j t (plain h.ctype) f refl c,
       ) c refl refl refl refl
-      (choice_val (is_built d) (is_built a) (is_built b) (evaluated s.defs d) (evaluated s.defs a) (evaluated s.defs b) i.constant k.constant l.constant pd.constant pa.constant pb.constant)
+      (ap (λ g. values.chosen g (constants.constant s.defs a) (constants.constant s.defs b)) pd.constant
+      ∙ ap (λ g. values.chosen i.constant g (constants.constant s.defs b)) pa.constant
+      ∙ ap (values.chosen i.constant k.constant) pb.constant)
   choice_told z w x y i k l j at e c r o p q = absurd e
 
   -- ---- leaves
@@ -316,7 +317,7 @@ module _ (v : Scope) where
   constant_told m t (Constant h n) j i e c r =
       let f = one_known (folded (folds.Number m) t) j r in
       let here : t ≡ plain h.ctype = ap (λ (x : Judged). x.operand.ctype) f ∙ sym c in
-      made (Constant h n) (folded (folds.Number m) t) j f tt (subst (λ u. is_constant_type u ≡ true) here i) c refl refl refl refl (refl, ap Some e)
+      made (Constant h n) (folded (folds.Number m) t) j f tt (subst (λ u. is_constant_type u ≡ true) here i) c refl refl refl refl (ap folds.Number e)
   constant_told m t z j i e c r = absurd e
 
   integer_is : (b : Bool) → is_constant_type (if b then Unsigned else Int) ≡ true

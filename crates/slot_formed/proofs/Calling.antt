@@ -20,7 +20,8 @@ use Rattle.c_tree.specs.Types.{type_of}
 use Rattle.c_tree.specs.Layout.{size_of}
 use Rattle.c_source.specs.Source.{dot_offset, arrow_offset}
 use Rattle.c_typing.specs.Plain.{Plain, Char, Int, Unsigned, Void, Pointer, Array, Struct, plain, same, is_pointer, is_scalar, is_void, value_type}
-use Rattle.c_typing.specs.Constants.{is_built}
+use Rattle.c_typing.specs.declared.constant.Constant.TheVariants as folds
+use Rattle.c_typing.specs.Constants.{constant}
 use Rattle.c_typing.specs.Rules.{Operand, takes as takes_all, may_drop, followed, sum_type, converts, stepping as stepped, member_type}
 use Rattle.c_typing.specs.Expressions.{Object as AnObject, Function as AFunction, Hidden, Scope, is_lvalue, is_register, is_string, operand, operands, value, call_type, result_type, IsTyped, AreTyped}
 use Rattle.c_typing.specs.Declarations.{has, parameters, local_type, function_in, local_in, locals_in, built_in, is_result, denoted_by, scope_at}
@@ -36,7 +37,9 @@ use Rattle.slot_pointers.specs.Taken.{is_pointer as points, serves_in, serve_fro
 use Rattle.slot_gen.specs.Expressions.{combine_op, name_code, register_in, register_inside, call_code, built_in_code, enter_code, registers_from, expr_code, place_code, row_code}
 use Rattle.slot_formed.specs.Code.{local_rows, IsProgramCode}
 use Rattle.slot_formed.proofs.Lists.{no_none, some_same, and_parts, then_some}
-use Rattle.slot_formed.proofs.Sizes.{formed}
+use Rattle.slot_formed.proofs.Sizes.{formed, size_plain}
+use Rattle.slot_formed.proofs.Constants.{no_variable}
+use Rattle.slot_formed.proofs.Evaluated.{variable_is}
 use Rattle.slot_formed.proofs.Types.{type_formed, function_there, callee_there}
 use Rattle.slot_formed.proofs.Safe.{Safe, at_op, ok_after, temps_after}
 use Rattle.slot_formed.proofs.Objects.{IsAs, GivesAs, given_as}
@@ -166,12 +169,12 @@ module _ (p : Program) (accepted : KeepsRules p) (c : SlotCode) (is : IsProgramC
       first false e = second (bytes_eq name (codes "putchar")) e
 
   -- a call of this type, which is no constant
-  module _ (E : Typed) (ct : CType) (is_value : value S E ≡ value_type (plain ct)) (is_call : is_built E ≡ false) {m : _} (row : Row_of-Typed m) (d : ℕ) where
+  module _ (E : Typed) (ct : CType) (is_value : value S E ≡ value_type (plain ct)) (is_call : constant p.defs E ≡ folds.Variable) {m : _} (row : Row_of-Typed m) (d : ℕ) where
     abbrev Before : Temps → Temps → Type 0
     Before t u = Below d t u × HeldRow row d u
 
     claimed : (C : Value → Type 0) (t u w : Temps) → ((z : Value) → C z → is_pointer (value_type (plain ct)) ≡ true → points z ≡ true) → Below d t u → Sets d C u w → Result p accepted c f v r frames K E d t w
-    claimed C t u w k b q = (below_then d t u w b (sets_below d C u w q), λ z e. (λ i. k z (sets_held d C u w q z e) (subst (λ a. is_pointer a ≡ true) is_value i), λ i. absurd (true≢false (sym i ∙ is_call))))
+    claimed C t u w k b q = (below_then d t u w b (sets_below d C u w q), λ z e. (λ i. k z (sets_held d C u w q z e) (subst (λ a. is_pointer a ≡ true) is_value i), variable_is z (constant p.defs E) is_call))
 
     function_runs : (at gi : ℕ) (o : Option Function) (t : Temps) → slice_get p.functions gi ≡ o → result_type (function_in o) (operands S row) ≡ Some (plain ct) → T at (Before t) (op.Call d gi (length (exprs row)) ∷ []) (λ u w. Result p accepted c f v r frames K E d t w)
     function_runs at gi None t e k = no_none (plain ct) k
@@ -203,7 +206,7 @@ module _ (p : Program) (accepted : KeepsRules p) (c : SlotCode) (is : IsProgramC
 
         get : (b : Bool) → T at (Before t) (if b then op.GetChar d ∷ [] else []) (λ u w. Result p accepted c f v r frames K E d t w)
         get true = post c f r frames K at (Before t) (op.GetChar d ∷ []) (Sets d (λ z. Unit {0})) (λ u w. Result p accepted c f v r frames K E d t w) free (triples.get_runs c f r frames K at (Before t) d)
-        get false = nothing c f r frames K at (Before t) (λ u w. Result p accepted c f v r frames K E d t w) (λ u b. (b.0, λ z q. (λ i. absurd (built_no name (operands S row) (plain ct) e (subst (λ a. is_pointer a ≡ true) is_value i)), λ i. absurd (true≢false (sym i ∙ is_call)))))
+        get false = nothing c f r frames K at (Before t) (λ u w. Result p accepted c f v r frames K E d t w) (λ u b. (b.0, λ z q. (λ i. absurd (built_no name (operands S row) (plain ct) e (subst (λ a. is_pointer a ≡ true) is_value i)), variable_is z (constant p.defs E) is_call)))
 
         put : (b : Bool) → T at (Before t) (if b then op.PutChar d ∷ [] else op.Exit d ∷ []) (λ u w. Result p accepted c f v r frames K E d t w)
         put true = post c f r frames K at (Before t) (op.PutChar d ∷ []) (Sets d (λ z. Unit {0})) (λ u w. Result p accepted c f v r frames K E d t w) free (triples.put_runs c f r frames K at (Before t) d)
@@ -257,7 +260,7 @@ module _ (p : Program) (accepted : KeepsRules p) (c : SlotCode) (is : IsProgramC
   binary_runs : (h : Head) (x y : _) (a b : Typed) (o : BinaryOp) → IsTyped S (Binary' h x a o y b) → ExprRuns a → ExprRuns b → ExprRuns (Binary' h x a o y b)
   binary_runs h x y a b o t ga gb at d =
       post c f r frames K at Any (expr_code p f at d a ++ (expr_code p f (at + length (expr_code p f at d a)) (suc d) b ++ combine_op p d d (suc d) o (type_of a) (type_of b) ∷ [])) (Kept p accepted c f v r frames K d (Combined p accepted c f v r frames K a b o (plain h.ctype))) (Result p accepted c f v r frames K (Binary' h x a o y b) d)
-      (λ u w pre m. (m.0, λ z g. let q = m.1 z g in (λ k. q.0 (subst (λ i. is_pointer i ≡ true) (binary_value p.defs o S a b (plain h.ctype) t.2) k), λ k. let i = and_parts (is_built a) (is_built b) k in q.1 i.0 i.1)))
+      (λ u w pre m. (m.0, λ z g. let q = m.1 z g in (λ k. q.0 (subst (λ i. is_pointer i ≡ true) (binary_value p.defs o S a b (plain h.ctype) t.2) k), q.1)))
       (both_runs p accepted c f v r frames K a b o (plain h.ctype) t.0 t.1 t.2 ga gb at d)
 
   mutual
@@ -269,7 +272,7 @@ module _ (p : Program) (accepted : KeepsRules p) (c : SlotCode) (is : IsProgramC
         let same_value : value_type (plain h.ctype) ≡ value S b = ap value_type (sym q.1) ∙ value_twice (plain (type_of b)) in
         seq c f r frames K at Any ca cb (Below d) (Result p accepted c f v r frames K (Comma' h x a y b) d) (result_any p accepted c f v r frames K a at d ca (expr_runs a t.0 at d)) λ t0 pre.
         post c f r frames K (at + length ca) (Below d t0) cb (Result p accepted c f v r frames K b d) (λ u w. Result p accepted c f v r frames K (Comma' h x a y b) d t0 w)
-        (λ u w q m. (below_then d t0 u w q m.0, λ z g. (λ k. (m.1 z g).0 (subst (λ i. is_pointer i ≡ true) same_value k), λ k. absurd (true≢false (sym k)))))
+        (λ u w q m. (below_then d t0 u w q m.0, λ z g. (λ k. (m.1 z g).0 (subst (λ i. is_pointer i ≡ true) same_value k), λ n k. no_variable n k)))
         (any p accepted c f v r frames K (at + length ca) (Below d t0) cb (Result p accepted c f v r frames K b d) (expr_runs b t.1 (at + length ca) d))
     expr_runs (Assign' h x a None y b) t at d = assign_runs p accepted c f v r frames K h x y a b t (λ i m n. spot_runs a t.0 i m n) (λ i m n. spot_runs b t.1 i m n) (λ m n. expr_runs b t.1 m n) at d
     expr_runs (Assign' h x a (Some o) y b) t at d = compound_assign p accepted c f v r frames K h x y a b o t (λ i m n. spot_runs a t.0 i m n) (λ m n. expr_runs b t.1 m n) at d
@@ -282,10 +285,10 @@ module _ (p : Program) (accepted : KeepsRules p) (c : SlotCode) (is : IsProgramC
     expr_runs (Address' h x a) t at d =
         let q = only_is (is_lvalue a && not (is_register S a) && not (is_string a)) (Pointer (plain (type_of a))) (plain h.ctype) t.1 in
         let i = and_parts (is_lvalue a) (not (is_register S a)) (and_parts (is_lvalue a && not (is_register S a)) (not (is_string a)) q.0).0 in
-        post c f r frames K at Any (place_code p f at d a) (Place p accepted c f v r frames K d) (Result p accepted c f v r frames K (Address' h x a) d) (λ u w pre m. (m.0, λ z g. (λ k. m.1 z g, λ k. absurd (true≢false (sym k))))) (spot_runs a t.0 i.0 at d)
+        post c f r frames K at Any (place_code p f at d a) (Place p accepted c f v r frames K d) (Result p accepted c f v r frames K (Address' h x a) d) (λ u w pre m. (m.0, λ z g. (λ k. m.1 z g, λ n k. no_variable n k))) (spot_runs a t.0 i.0 at d)
     expr_runs (Unary' h o x a) t at d = unary_value p accepted c f v r frames K h o x a t (λ m n. expr_runs a t.0 m n) at d
-    expr_runs (SizeOf' h x a) t at d = constant_value p accepted c f v r frames K (SizeOf' h x a) (size_of p.defs (type_of a)) (unsigned_is p accepted c f v r frames K _ (plain h.ctype) t.1) (size_small p accepted c f v r frames K (type_of a) (type_formed p accepted f v a t.0)) refl at d
-    expr_runs (SizeOfType h u) t at d = constant_value p accepted c f v r frames K (SizeOfType h u) (size_of p.defs u) (unsigned_is p accepted c f v r frames K _ (plain h.ctype) t.1) (size_small p accepted c f v r frames K u (formed p.defs u t.0.1)) refl at d
+    expr_runs (SizeOf' h x a) t at d = constant_value p accepted c f v r frames K (SizeOf' h x a) (size_of p.defs (type_of a)) (unsigned_is p accepted c f v r frames K _ (plain h.ctype) t.1) (size_small p accepted c f v r frames K (type_of a) (type_formed p accepted f v a t.0)) (ap folds.Number (sym (size_plain p.defs (type_of a)))) at d
+    expr_runs (SizeOfType h u) t at d = constant_value p accepted c f v r frames K (SizeOfType h u) (size_of p.defs u) (unsigned_is p accepted c f v r frames K _ (plain h.ctype) t.1) (size_small p accepted c f v r frames K u (formed p.defs u t.0.1)) (ap folds.Number (sym (size_plain p.defs u))) at d
     expr_runs (Call' h g x row) t at d =
         let cr = row_code p f at d row in
         seq c f r frames K at Any cr (enter_code d (slice_get p.symbols g) (length (exprs row))) (λ t u. Below d t u × HeldRow row d u) (Result p accepted c f v r frames K (Call' h g x row) d) (row_runs row t.0 at d) λ t0 pre. enter_runs (Call' h g x row) h.ctype refl refl row d (at + length cr) g t0 t.1
@@ -293,7 +296,7 @@ module _ (p : Program) (accepted : KeepsRules p) (c : SlotCode) (is : IsProgramC
     expr_runs (Constant h n) t at d = constant_value p accepted c f v r frames K (Constant h n) n (integer_constant S (plain h.ctype) t.0) t.1 refl at d
     expr_runs (Parens' h x a) t at d =
         post c f r frames K at Any (expr_code p f at d a) (Result p accepted c f v r frames K a d) (Result p accepted c f v r frames K (Parens' h x a) d)
-        (λ u w pre m. (m.0, λ z g. (λ k. (m.1 z g).0 (subst (λ i. is_pointer (value_type i) ≡ true) (sym t.1) k), λ k. (m.1 z g).1 k))) (expr_runs a t.0 at d)
+        (λ u w pre m. (m.0, λ z g. (λ k. (m.1 z g).0 (subst (λ i. is_pointer (value_type i) ≡ true) (sym t.1) k), (m.1 z g).1))) (expr_runs a t.0 at d)
     expr_runs (Name h n) t at d =
         value_runs p accepted c f v r frames K (Name h n) h.ctype at d (expr_code p f at d (Name h n)) refl refl
         (read_runs p accepted c f v r frames K at d (register_in p f (Name h n)) h.ctype (name_code p f d (slice_get p.symbols n)) (λ x e. register_value h.ctype (register_inside p f (Name h n)) x e) (λ e. name_runs p accepted c f v r frames K at d n (plain h.ctype) t))

@@ -12,13 +12,18 @@ use Rattle.c_tree.specs.declared.typed.Typed.{Typed}
 use Rattle.c_tree.specs.declared.typed.Typed.TheVariants.{Choice', Or', And', Binary', Cast', Unary', SizeOf', SizeOfType, Constant, Parens'}
 use Rattle.c_tree.specs.Types.{type_of, target_of}
 use Rattle.c_typing.specs.Plain.{Plain, Char, Int, Unsigned, Void, Pointer, Array, Struct, plain, same, is_integer, is_pointer, is_scalar, value_type, promoted, common}
-use Rattle.c_typing.specs.Constants.{is_built, evaluated, is_null, is_zero}
+use Rattle.c_typing.specs.declared.constant.Constant.{Constant as Folded}
+use Rattle.c_typing.specs.declared.constant.Constant.TheVariants as folds
+use Rattle.c_typing.specs.Constants.{constant, operand_type, is_null}
+use Rattle.c_typing.specs.Values as values
+use Rattle.c_typing.specs.Values.{operated, works_unsigned}
 use Rattle.c_typing.specs.Rules.{Operand, only, is_movable, arithmetic_type, sum_type, difference_type, shift_type, order_type, is_nulled, equality_type, binary_type, converts, branches_type, choice_type, unary_type}
 use Rattle.c_typing.specs.Expressions.{Scope, operand, value, is_constant_type, IsTyped}
 use Rattle.c_store.specs.Store.{Value}
 use Rattle.slot_pointers.specs.Taken.{is_pointer as points, serves, holds}
 use Rattle.slot_gen.specs.Expressions.{access_of}
 use Rattle.slot_formed.proofs.Lists.{no_none, some_same, and_parts, or_parts}
+use Rattle.slot_formed.proofs.Constants.{is_constant, two_constants, chosen_constants}
 use Rattle.slot_formed.proofs.Evaluated.{Is, suc_is}
 
 -- ---- types
@@ -256,28 +261,21 @@ module _ (defs : List StructDef) where
 
 module _ (s : Scope) where
   abbrev pub Claim : Typed → Value → Type 0
-  Claim e v = (is_pointer (value s e) ≡ true → points v ≡ true) × (is_built e ≡ true → Is v (evaluated s.defs e))
+  Claim e v = (is_pointer (value s e) ≡ true → points v ≡ true) × Is v (constant s.defs e)
 
   zero_is : (n : ℕ) → n == 0 ≡ true → n ≡ 0
   zero_is zero h = refl
   zero_is (suc n) h = absurd (true≢false (sym h ∙ suc_is n))
 
-  null_is : (e : Typed) → is_null s.defs e ≡ true → (is_built e ≡ true) × (evaluated s.defs e ≡ Some 0)
-  null_is e h = by (is_built e) refl h
-    where
-      zero_there : (o : Option ℕ) → is_zero o ≡ true → o ≡ Some 0
-      zero_there None h = absurd (true≢false (sym h))
-      zero_there (Some n) h = ap Some (zero_is n h)
-
-      by : (b : Bool) → is_built e ≡ b → is_zero (if b then evaluated s.defs e else None) ≡ true → (is_built e ≡ true) × (evaluated s.defs e ≡ Some 0)
-      by true k h = (k, zero_there (evaluated s.defs e) h)
-      by false k h = absurd (true≢false (sym h))
+  null_is : (c : Folded) → values.is_null c ≡ true → c ≡ folds.Number 0
+  null_is folds.Variable h = absurd (true≢false (sym h))
+  null_is folds.Undefined h = absurd (true≢false (sym h))
+  null_is (folds.Number n) h = ap folds.Number (zero_is n h)
 
   pub nulled_points : (t : Plain) (e : Typed) (v : Value) → is_nulled t (operand s e) ≡ true → Claim e v → points v ≡ true
   nulled_points t e v h k =
       let q = and_parts (is_integer (value s e)) (is_null s.defs e) (and_parts (is_pointer t) _ h).1 in
-      let n = null_is e q.1 in
-      ap points (k.1 n.0 0 n.1).0
+      ap points (k.1 0 (null_is (constant s.defs e) q.1)).0
 
   pub converted_points : (t : Plain) (e : Typed) (v : Value) → converts t (operand s e) ≡ true → Claim e v → is_pointer t ≡ true → points v ≡ true
   converted_points t e v h k i = last (or_parts ((is_integer t && is_integer (value s e)) || (is_pointer t && same t (value s e))) (is_nulled t (operand s e)) h)
@@ -464,23 +462,22 @@ module _ (s : Scope) where
   integer_choice : (c : Plain) (a b : Typed) (r : Plain) → is_integer (value s a) ≡ true → is_integer (value s b) ≡ true → choice_type c (operand s a) (operand s b) ≡ Some r → is_integer r ≡ true
   integer_choice c a b r h k e = subst (λ z. is_integer z ≡ true) (choice_common a b None None c r h k e) (common_integer (value s a) (value s b))
 
-  pub built_integer : (e : Typed) → IsTyped s e → is_built e ≡ true → is_integer (plain (type_of e)) ≡ true
-  built_integer (Constant h n) t b = integer_constant (plain h.ctype) t.0
-  built_integer (SizeOf' h x a) t b = integer_or Unsigned (plain h.ctype) _ t.1 refl
-  built_integer (SizeOfType h u) t b = integer_or Unsigned (plain h.ctype) _ t.1 refl
-  built_integer (Cast' h x a) t b = (and_parts (is_integer (plain h.ctype)) (is_integer (value s a)) (only_is (is_integer (plain h.ctype) && is_integer (value s a)) (plain h.ctype) (plain h.ctype) t.1).0).0
-  built_integer (Unary' h op x a) t b = integer_unary op (value s a) (plain h.ctype) t.1
-  built_integer (Binary' h x a op y c) t b =
-      let q = and_parts (is_built a) (is_built c) b in
-      integer_binary op a c (plain h.ctype) (integer_value (plain (type_of a)) (built_integer a t.0 q.0)) (integer_value (plain (type_of c)) (built_integer c t.1 q.1)) t.2
-  built_integer (And' h x a y c) t b = integer_or Int (plain h.ctype) _ t.2 refl
-  built_integer (Or' h x a y c) t b = integer_or Int (plain h.ctype) _ t.2 refl
-  built_integer (Choice' h x c y a z d) t b =
-      let q = and_parts (is_built c && is_built a) (is_built d) b in
-      let i = and_parts (is_built c) (is_built a) q.0 in
-      integer_choice (value s c) a d (plain h.ctype) (integer_value (plain (type_of a)) (built_integer a t.1 i.1)) (integer_value (plain (type_of d)) (built_integer d t.2 q.1)) t.3
-  built_integer (Parens' h x a) t b = subst (λ z. is_integer z ≡ true) t.1 (built_integer a t.0 b)
-  built_integer _ t b = absurd (true≢false (sym b))
+  pub constant_integer : (e : Typed) → IsTyped s e → is_constant (constant s.defs e) ≡ true → is_integer (plain (type_of e)) ≡ true
+  constant_integer (Constant h n) t b = integer_constant (plain h.ctype) t.0
+  constant_integer (SizeOf' h x a) t b = integer_or Unsigned (plain h.ctype) _ t.1 refl
+  constant_integer (SizeOfType h u) t b = integer_or Unsigned (plain h.ctype) _ t.1 refl
+  constant_integer (Cast' h x a) t b = (and_parts (is_integer (plain h.ctype)) (is_integer (value s a)) (only_is (is_integer (plain h.ctype) && is_integer (value s a)) (plain h.ctype) (plain h.ctype) t.1).0).0
+  constant_integer (Unary' h op x a) t b = integer_unary op (value s a) (plain h.ctype) t.1
+  constant_integer (Binary' h x a op y c) t b =
+      let q = two_constants (operated op (works_unsigned op (operand_type a) (operand_type c))) (constant s.defs a) (constant s.defs c) b in
+      integer_binary op a c (plain h.ctype) (integer_value (plain (type_of a)) (constant_integer a t.0 q.0)) (integer_value (plain (type_of c)) (constant_integer c t.1 q.1)) t.2
+  constant_integer (And' h x a y c) t b = integer_or Int (plain h.ctype) _ t.2 refl
+  constant_integer (Or' h x a y c) t b = integer_or Int (plain h.ctype) _ t.2 refl
+  constant_integer (Choice' h x c y a z d) t b =
+      let q = chosen_constants (constant s.defs c) (constant s.defs a) (constant s.defs d) b in
+      integer_choice (value s c) a d (plain h.ctype) (integer_value (plain (type_of a)) (constant_integer a t.1 q.0)) (integer_value (plain (type_of d)) (constant_integer d t.2 q.1)) t.3
+  constant_integer (Parens' h x a) t b = subst (λ z. is_integer z ≡ true) t.1 (constant_integer a t.0 b)
+  constant_integer _ t b = absurd (true≢false (sym b))
 
-  pub built_none : (e : Typed) → IsTyped s e → is_built e ≡ true → target_of (type_of e) ≡ None
-  built_none e t b = integer_none (type_of e) (built_integer e t b)
+  pub constant_none : (e : Typed) (n : ℕ) → IsTyped s e → constant s.defs e ≡ folds.Number n → target_of (type_of e) ≡ None
+  constant_none e n t b = integer_none (type_of e) (constant_integer e t (ap is_constant b))

@@ -1,6 +1,6 @@
 -- What the operators of slot code give on the numbers of a constant expression, which are words.
-use Rattle.std.proofs.Common.{◌≡◌, refl, sym, ap, subst, ◌∙◌, ℕ, zero, suc, ◌-◌, ◌/◌, ◌%◌, ◌^◌, ◌<◌, ◌≤◌, nat_lt, Bool, true, false, Option, Some, ℤ, pos, negsuc, neg_ℤ, nat_abs, to_z, w8, w32, lit<, arith}
-use Rattle.std.specs.Prelude.{Result, Ok, Err, ◌==◌, not, ◌+ℤ◌, ◌-ℤ◌, ◌*ℤ◌, bit_xor, int_div, int_rem, int_lt, int_le, nat_le, option_and_then, option_map, if◌then◌else◌}
+use Rattle.std.proofs.Common.{◌≡◌, refl, sym, ap, subst, ◌∙◌, ℕ, zero, suc, ◌-◌, ◌/◌, ◌%◌, ◌^◌, ◌<◌, ◌≤◌, nat_lt, Bool, true, false, true≢false, ℤ, pos, negsuc, neg_ℤ, nat_abs, to_z, w8, w32, lit<, arith}
+use Rattle.std.specs.Prelude.{Result, Ok, Err, ◌==◌, not, ◌+ℤ◌, ◌-ℤ◌, ◌*ℤ◌, bit_xor, int_div, int_rem, int_lt, int_le, nat_le, if◌then◌else◌}
 use Rattle.std.specs.Int.{int_shr}
 use Rattle.std.specs.Int.RustNames.{unsigned_abs}
 use Rattle.std.specs.Int.Bits.{and_lt, xor_add_and}
@@ -21,12 +21,16 @@ use Rattle.c_tree.specs.declared.typed.UnaryOp.TheVariants as sign
 use Rattle.c_tree.specs.Types.{is_unsigned}
 use Rattle.c_operators.specs.Bits.{minus_one, low_byte, patterned, subtract, signed_negate}
 use Rattle.c_operators.specs.Arithmetic.{truth, on_ints, on_unsigned, operating_type}
-use Rattle.c_typing.specs.Constants.{defined, operated, operated_on, cast_to}
+use Rattle.c_typing.specs.Plain.{plain, value_type, is_integer}
+use Rattle.c_typing.specs.declared.constant.Constant.{Constant}
+use Rattle.c_typing.specs.declared.constant.Constant.TheVariants as folds
+use Rattle.c_typing.specs.Values as values
+use Rattle.c_typing.specs.Values.{defined, operated, with_one, turned, converted, combined, works_unsigned}
 use Rattle.runs.specs.Runs.{Why}
 use Rattle.c_store.specs.Store.{Value, Number, World, is_stale}
 use Rattle.slot_ir.specs.Operators.{on_words, binary, unary, because, extended}
 use Rattle.slot_gen.specs.Expressions.{word_op, unary_op, access_of}
-use Rattle.slot_formed.proofs.Lists.{no_none, some_same, then_some, map_some}
+use Rattle.slot_formed.proofs.Constants.{no_variable, same_number, defined_ok, one_number, two_numbers, works_same}
 
 -- ---- words
 
@@ -176,30 +180,28 @@ words_same Divide false m n = refl
 words_same Remainder true m n = refl
 words_same Remainder false m n = refl
 
-pub defined_ok : (r : Result ℕ Undef) (n : ℕ) → defined r ≡ Some n → r ≡ Ok n
-defined_ok (Ok m) n e = ap Ok (some_same m n e)
-defined_ok (Err w) n e = no_none n e
-
 ok_same : {A : Type 0} (x y : A) → ◌≡◌ {A = Result A Why} (Ok x) (Ok y) → x ≡ y
 ok_same x y e = cc
 
--- a value is this number, where there is one
-abbrev pub Is : Value → Option ℕ → Type 0
-Is v o = (n : ℕ) → o ≡ Some n → (v ≡ Number n) × (n < 2 ^ 32)
+-- a value is the number of this constant, where it has one
+abbrev pub Is : Value → Constant → Type 0
+Is v c = (n : ℕ) → c ≡ folds.Number n → (v ≡ Number n) × (n < 2 ^ 32)
 
-pub binary_is : (op : BinaryOp) (s t : CType) (x y v : Value) (o q : Option ℕ) → Is x o → Is y q → binary (word_op op (is_unsigned (operating_type op s t))) x y ≡ Ok v
-    → Is v (option_and_then (λ m. option_and_then (operated op s t m) q) o)
+pub variable_is : (v : Value) (c : Constant) → c ≡ folds.Variable → Is v c
+variable_is v c h n e = no_variable n (sym h ∙ e)
+
+pub binary_is : (op : BinaryOp) (s t : CType) (x y v : Value) (o q : Constant) → Is x o → Is y q → binary (word_op op (is_unsigned (operating_type op s t))) x y ≡ Ok v
+    → Is v (combined op (value_type (plain s)) (value_type (plain t)) o q)
 unfolding binary
 binary_is op s t x y v o q h k e n w =
-    let a = then_some (λ m. option_and_then (operated op s t m) q) o n w in
-    let b = then_some (operated op s t a.0) q n a.2 in
+    let a = two_numbers (operated op (works_unsigned op (value_type (plain s)) (value_type (plain t)))) o q n w in
     let u = is_unsigned (operating_type op s t) in
-    let done = defined_ok (if u then on_unsigned op a.0 b.0 else on_ints op a.0 b.0) n b.2 in
-    let x_is = h a.0 a.1 in
-    let y_is = k b.0 b.1 in
-    let value : binary (word_op op u) (Number a.0) (Number b.0) ≡ Ok (Number n) = ap because (sym (words_same op u a.0 b.0) ∙ done) in
-    let moved : binary (word_op op u) (Number a.0) (Number b.0) ≡ Ok v = subst (λ z. binary (word_op op u) z (Number b.0) ≡ Ok v) x_is.0 (subst (λ z. binary (word_op op u) x z ≡ Ok v) y_is.0 e) in
-    (ok_same v (Number n) (sym moved ∙ value), subst Small done (words_small op u a.0 b.0 x_is.1 y_is.1))
+    let done = defined_ok (if u then on_unsigned op a.0 a.1 else on_ints op a.0 a.1) n (ap (λ z. operated op z a.0 a.1) (sym (works_same op s t)) ∙ a.4) in
+    let x_is = h a.0 a.2 in
+    let y_is = k a.1 a.3 in
+    let value : binary (word_op op u) (Number a.0) (Number a.1) ≡ Ok (Number n) = ap because (sym (words_same op u a.0 a.1) ∙ done) in
+    let moved : binary (word_op op u) (Number a.0) (Number a.1) ≡ Ok v = subst (λ z. binary (word_op op u) z (Number a.1) ≡ Ok v) x_is.0 (subst (λ z. binary (word_op op u) x z ≡ Ok v) y_is.0 e) in
+    (ok_same v (Number n) (sym moved ∙ value), subst Small done (words_small op u a.0 a.1 x_is.1 y_is.1))
 
 -- ---- one operand
 
@@ -209,53 +211,51 @@ complement n h = omega (arith, xor_add_and (2 ^ 32 - 1) n, and_comm (2 ^ 32 - 1)
 minus_zero : (z : ℤ) → pos 0 -ℤ z ≡ neg_ℤ z
 minus_zero z = +ℤ_idl (neg_ℤ z)
 
-negated : (n r : ℕ) → defined (on_ints Subtract 0 n) ≡ Some r → because (signed_negate n) ≡ Ok (Number r)
+negated : (n r : ℕ) → operated Subtract false 0 n ≡ folds.Number r → because (signed_negate n) ≡ Ok (Number r)
 negated n r e = ap (λ z. because (patterned (checked z))) (sym (minus_zero (signed n))) ∙ ap because (defined_ok (on_ints Subtract 0 n) r e)
 
-unary_gives : (w : World) (op : UnaryOp) (t : CType) (n r : ℕ) → n < 2 ^ 32 → operated_on op t n ≡ Some r → (unary w (unary_op op t) (Number n) ≡ Ok (Number r)) × (r < 2 ^ 32)
-unfolding unary is_stale
-unary_gives w sign.Plus t n r h e = let s : n ≡ r = some_same n r e in (ap (λ z. Ok (Number z)) s, subst (λ z. z < 2 ^ 32) s h)
-unary_gives w sign.Complement t n r h e =
-    let s : minus_one - n ≡ r = complement n h ∙ some_same (bit_xor minus_one n) r e in
-    (ap (λ z. Ok (Number z)) s, omega (arith, s))
-unary_gives w sign.Not t n r h e = let s : truth (n == 0) ≡ r = some_same (truth (n == 0)) r (sym (either (is_unsigned (operating_type Equal t t))) ∙ e) in (zero_of n r s, subst (λ z. z < 2 ^ 32) s (truth_small (n == 0)))
-  where
-    either : (u : Bool) → defined (if u then on_unsigned Equal n 0 else on_ints Equal n 0) ≡ Some (truth (n == 0))
-    either true = refl
-    either false = refl
+negated_small : (n r : ℕ) → n < 2 ^ 32 → operated Subtract false 0 n ≡ folds.Number r → r < 2 ^ 32
+negated_small n r h e = subst Small (defined_ok (on_ints Subtract 0 n) r e) (words_small Subtract false 0 n (lit< tt) h)
 
+unary_gives : (w : World) (op : UnaryOp) (t : CType) (n r : ℕ) → n < 2 ^ 32 → turned op (values.is_unsigned (value_type (plain t))) n ≡ folds.Number r → (unary w (unary_op op t) (Number n) ≡ Ok (Number r)) × (r < 2 ^ 32)
+unfolding unary is_stale
+unary_gives w sign.Plus t n r h e = let s : n ≡ r = same_number n r e in (ap (λ z. Ok (Number z)) s, subst (λ z. z < 2 ^ 32) s h)
+unary_gives w sign.Complement t n r h e =
+    let s : minus_one - n ≡ r = complement n h ∙ same_number (bit_xor minus_one n) r e in
+    (ap (λ z. Ok (Number z)) s, omega (arith, s))
+unary_gives w sign.Not t n r h e = let s : truth (n == 0) ≡ r = same_number (truth (n == 0)) r e in (zero_of n r s, subst (λ z. z < 2 ^ 32) s (truth_small (n == 0)))
+  where
     zero_of : (n r : ℕ) → truth (n == 0) ≡ r → unary w (unary_op sign.Not t) (Number n) ≡ Ok (Number r)
     zero_of zero r s = ap (λ z. Ok (Number z)) s
     zero_of (suc n) r s = ap (λ z. Ok (Number z)) (sym (ap truth (suc_is n)) ∙ s)
-unary_gives w sign.Minus ctype.Unsigned n r h e = let s = some_same (subtract 0 n) r e in (ap (λ z. Ok (Number z)) s, subst (λ z. z < 2 ^ 32) s (words_small Subtract true 0 n (lit< tt) h))
-unary_gives w sign.Minus ctype.Char n r h e = (negated n r e, subst Small (defined_ok (on_ints Subtract 0 n) r e) (words_small Subtract false 0 n (lit< tt) h))
-unary_gives w sign.Minus ctype.Int n r h e = (negated n r e, subst Small (defined_ok (on_ints Subtract 0 n) r e) (words_small Subtract false 0 n (lit< tt) h))
-unary_gives w sign.Minus ctype.Void n r h e = (negated n r e, subst Small (defined_ok (on_ints Subtract 0 n) r e) (words_small Subtract false 0 n (lit< tt) h))
-unary_gives w sign.Minus (ctype.Pointer' b u) n r h e = (negated n r e, subst Small (defined_ok (on_ints Subtract 0 n) r e) (words_small Subtract false 0 n (lit< tt) h))
-unary_gives w sign.Minus (ctype.Array' b u m) n r h e = (negated n r e, subst Small (defined_ok (on_ints Subtract 0 n) r e) (words_small Subtract false 0 n (lit< tt) h))
-unary_gives w sign.Minus (ctype.Struct s) n r h e = (negated n r e, subst Small (defined_ok (on_ints Subtract 0 n) r e) (words_small Subtract false 0 n (lit< tt) h))
+unary_gives w sign.Minus ctype.Unsigned n r h e = let s = same_number (subtract 0 n) r e in (ap (λ z. Ok (Number z)) s, subst (λ z. z < 2 ^ 32) s (words_small Subtract true 0 n (lit< tt) h))
+unary_gives w sign.Minus ctype.Char n r h e = (negated n r e, negated_small n r h e)
+unary_gives w sign.Minus ctype.Int n r h e = (negated n r e, negated_small n r h e)
+unary_gives w sign.Minus ctype.Void n r h e = (negated n r e, negated_small n r h e)
+unary_gives w sign.Minus (ctype.Pointer' b u) n r h e = (negated n r e, negated_small n r h e)
+unary_gives w sign.Minus (ctype.Array' b u m) n r h e = (negated n r e, negated_small n r h e)
+unary_gives w sign.Minus (ctype.Struct s) n r h e = (negated n r e, negated_small n r h e)
 
-pub unary_is : (w : World) (op : UnaryOp) (t : CType) (x v : Value) (o : Option ℕ) → Is x o → unary w (unary_op op t) x ≡ Ok v → Is v (option_and_then (operated_on op t) o)
+pub unary_is : (w : World) (op : UnaryOp) (t : CType) (x v : Value) (o : Constant) → Is x o → unary w (unary_op op t) x ≡ Ok v → Is v (with_one (turned op (values.is_unsigned (value_type (plain t)))) o)
 unary_is w op t x v o h e n k =
-    let a = then_some (operated_on op t) o n k in
+    let a = one_number (turned op (values.is_unsigned (value_type (plain t)))) o n k in
     let x_is = h a.0 a.1 in
     let g = unary_gives w op t a.0 n x_is.1 a.2 in
     (ok_same v (Number n) (sym (subst (λ z. unary w (unary_op op t) z ≡ Ok v) x_is.0 e) ∙ g.0), g.1)
 
 -- a conversion to an integer type
-pub cast_is : (t : CType) (x v : Value) (o : Option ℕ) → Is x o → extended (access_of t) x ≡ Ok v → ((n : ℕ) → cast_to t n < 2 ^ 32 → extended (access_of t) (Number n) ≡ Ok (Number (cast_to t n))) → Is v (option_map (cast_to t) o)
-cast_is t x v o h e g n k =
-    let a = map_some (cast_to t) o n k in
+cast_gives : (t : CType) (n r : ℕ) → is_integer (plain t) ≡ true → n < 2 ^ 32 → converted (plain t) n ≡ folds.Number r → (extended (access_of t) (Number n) ≡ Ok (Number r)) × (r < 2 ^ 32)
+cast_gives ctype.Char n r i h e = let s = same_number (low_byte n) r e in (ap (λ z. Ok (Number z)) s, subst (λ z. z < 2 ^ 32) s (byte_small n))
+cast_gives ctype.Int n r i h e = let s = same_number n r e in (ap (λ z. Ok (Number z)) s, subst (λ z. z < 2 ^ 32) s h)
+cast_gives ctype.Unsigned n r i h e = let s = same_number n r e in (ap (λ z. Ok (Number z)) s, subst (λ z. z < 2 ^ 32) s h)
+cast_gives ctype.Void n r i h e = absurd (true≢false (sym i))
+cast_gives (ctype.Pointer' b t) n r i h e = absurd (true≢false (sym i))
+cast_gives (ctype.Array' b t m) n r i h e = absurd (true≢false (sym i))
+cast_gives (ctype.Struct s) n r i h e = absurd (true≢false (sym i))
+
+pub cast_is : (t : CType) (x v : Value) (o : Constant) → is_integer (plain t) ≡ true → Is x o → extended (access_of t) x ≡ Ok v → Is v (with_one (converted (plain t)) o)
+cast_is t x v o i h e n k =
+    let a = one_number (converted (plain t)) o n k in
     let x_is = h a.0 a.1 in
-    let small : cast_to t a.0 < 2 ^ 32 = cast_small t a.0 x_is.1 in
-    let gives : extended (access_of t) (Number a.0) ≡ Ok v = subst (λ z. extended (access_of t) z ≡ Ok v) x_is.0 e in
-    (ok_same v (Number (cast_to t a.0)) (sym gives ∙ g a.0 small) ∙ ap Number a.2, subst (λ z. z < 2 ^ 32) a.2 small)
-  where
-    cast_small : (t : CType) (n : ℕ) → n < 2 ^ 32 → cast_to t n < 2 ^ 32
-    cast_small ctype.Char n h = byte_small n
-    cast_small ctype.Int n h = h
-    cast_small ctype.Unsigned n h = h
-    cast_small ctype.Void n h = h
-    cast_small (ctype.Pointer' b t) n h = h
-    cast_small (ctype.Array' b t m) n h = h
-    cast_small (ctype.Struct s) n h = h
+    let g = cast_gives t a.0 n i x_is.1 a.2 in
+    (ok_same v (Number n) (sym (subst (λ z. extended (access_of t) z ≡ Ok v) x_is.0 e) ∙ g.0), g.1)

@@ -22,6 +22,7 @@ mod Quiet
 mod Lands
 mod Passing
 mod Objects
+mod Constants
 mod Evaluated
 mod Safe
 mod Claims

@@ -1,6 +1,6 @@
 -- Types, truths and numbers in the claims of expressions.
 use Rattle.std.proofs.Common.{◌≡◌, refl, sym, ap, subst, ◌∙◌, arith, ℕ, zero, suc, ◌<◌, ◌^◌, Bool, true, false, not, ◌&&◌, ◌||◌, Option, Some, None, true≢false}
-use Rattle.std.specs.Prelude.{Ok, option_and_then, if◌then◌else◌}
+use Rattle.std.specs.Prelude.{◌==◌, if◌then◌else◌}
 use Rattle.ldb_words.specs.Word.{bit_of}
 use Rattle.c_tree.specs.declared.types.CType.{CType}
 use Rattle.c_tree.specs.declared.types.CType.TheVariants as ctype
@@ -8,13 +8,16 @@ use Rattle.c_tree.specs.declared.rows.Program.{Program}
 use Rattle.c_tree.specs.Types.{is_struct, is_array}
 use Rattle.c_operators.specs.Arithmetic.{truth}
 use Rattle.c_typing.specs.Plain.{Plain, Char, Int, Unsigned, Void, Pointer, Array, Struct, plain, is_integer, is_pointer, is_struct as is_a_struct, value_type, promoted, common}
-use Rattle.c_typing.specs.Constants.{cast_to, chosen, truth_of, is_true}
+use Rattle.c_typing.specs.declared.constant.Constant.{Constant}
+use Rattle.c_typing.specs.declared.constant.Constant.TheVariants as folds
+use Rattle.c_typing.specs.Values.{with_one, chosen, truth_in}
 use Rattle.c_typing.specs.Rules.{Operand, followed, is_movable, converts}
 use Rattle.c_store.specs.Store.{Value, Number}
 use Rattle.slot_ir.specs.declared.code.Access.TheVariants as access
-use Rattle.slot_ir.specs.Operators.{extended, is_zero}
+use Rattle.slot_ir.specs.Operators.{is_zero}
 use Rattle.slot_gen.specs.Expressions.{access_of, is_scalar as is_scalar_type}
-use Rattle.slot_formed.proofs.Lists.{no_none, some_same, then_some, map_some}
+use Rattle.slot_formed.proofs.Lists.{no_none}
+use Rattle.slot_formed.proofs.Constants.{same_number, one_number, part_by, chosen_number}
 use Rattle.slot_formed.proofs.Evaluated.{Is, suc_is}
 use Rattle.slot_formed.proofs.Claims.{no_both, integer_same}
 
@@ -81,15 +84,6 @@ pub pointer_value : (t : Plain) → is_pointer t ≡ true → is_pointer (value_
 pointer_value (Pointer t) h = refl
 pointer_value _ h = absurd (true≢false (sym h))
 
-pub integer_extended : (t : CType) → is_integer (plain t) ≡ true → (n : ℕ) → extended (access_of t) (Number n) ≡ Ok (Number (cast_to t n))
-integer_extended ctype.Char h n = refl
-integer_extended ctype.Int h n = refl
-integer_extended ctype.Unsigned h n = refl
-integer_extended ctype.Void h n = absurd (true≢false (sym h))
-integer_extended (ctype.Pointer' b t) h n = absurd (true≢false (sym h))
-integer_extended (ctype.Array' b t m) h n = absurd (true≢false (sym h))
-integer_extended (ctype.Struct s) h n = absurd (true≢false (sym h))
-
 abbrev pub is_wide : Plain → Bool
 is_wide Int = true
 is_wide Unsigned = true
@@ -119,15 +113,7 @@ wide_access (ctype.Struct s) h = absurd (true≢false (sym h))
 
 -- ---- truths
 
-pub chosen_first : (m : ℕ) (o q : Option ℕ) → is_zero (Number m) ≡ false → chosen m o q ≡ o
-chosen_first zero o q h = absurd (true≢false h)
-chosen_first (suc m) o q h = ap (λ b. if (if b then false else true) then o else q) (suc_is m)
-
-pub chosen_second : (m : ℕ) (o q : Option ℕ) → is_zero (Number m) ≡ true → chosen m o q ≡ q
-chosen_second zero o q h = refl
-chosen_second (suc m) o q h = absurd (true≢false (sym h))
-
-pub truth_same : (m : ℕ) → bit_of (not (is_zero (Number m))) ≡ truth (is_true m)
+pub truth_same : (m : ℕ) → bit_of (not (is_zero (Number m))) ≡ truth (if m == 0 then false else true)
 truth_same zero = refl
 truth_same (suc m) = ap (λ b. truth (if b then false else true)) (sym (suc_is m))
 
@@ -135,26 +121,24 @@ pub bit_small : (b : Bool) → bit_of b < 2 ^ 32
 bit_small true = omega arith
 bit_small false = omega arith
 
-pub is_true_of : (y v : Value) (o : Option ℕ) → Is y o → v ≡ Number (bit_of (not (is_zero y))) → Is v (truth_of o)
+pub is_true_of : (y v : Value) (o : Constant) → Is y o → v ≡ Number (bit_of (not (is_zero y))) → Is v (with_one truth_in o)
 is_true_of y v o h e n w =
-    let q = map_some (λ m. truth (is_true m)) o n w in
+    let q = one_number truth_in o n w in
     let i = h q.0 q.1 in
-    let same : bit_of (not (is_zero y)) ≡ n = ap (λ z. bit_of (not (is_zero z))) i.0 ∙ truth_same q.0 ∙ q.2 in
+    let same : bit_of (not (is_zero y)) ≡ n = ap (λ z. bit_of (not (is_zero z))) i.0 ∙ truth_same q.0 ∙ same_number (truth (if q.0 == 0 then false else true)) n q.2 in
     (e ∙ ap Number same, subst (λ z. z < 2 ^ 32) same (bit_small (not (is_zero y))))
 
 -- a number that was tested
-pub chosen_is : (x v : Value) (z : Bool) (o a b : Option ℕ) → Is x o → is_zero x ≡ z → Is v (if z then b else a) → Is v (option_and_then (λ m. chosen m a b) o)
+pub chosen_is : (x v : Value) (z : Bool) (o a b : Constant) → Is x o → is_zero x ≡ z → Is v (if z then b else a) → Is v (chosen o a b)
 chosen_is x v z o a b h k i n e =
-    let q = then_some (λ m. chosen m a b) o n e in
-    let t : is_zero (Number q.0) ≡ z = ap is_zero (sym (h q.0 q.1).0) ∙ k in
-    by z q.0 t i q.2
+    let q = chosen_number o a b n e in
+    by z q.0 (ap is_zero (sym (h q.0 q.1).0) ∙ k) i q.2
   where
-    by : (z : Bool) (m : ℕ) → is_zero (Number m) ≡ z → Is v (if z then b else a) → chosen m a b ≡ Some n → (v ≡ Number n) × (n < 2 ^ 32)
-    by true m t i e = i n (sym (chosen_second m a b t) ∙ e)
-    by false m t i e = i n (sym (chosen_first m a b t) ∙ e)
+    by : (z : Bool) (m : ℕ) → is_zero (Number m) ≡ z → Is v (if z then b else a) → part_by m a b ≡ folds.Number n → (v ≡ Number n) × (n < 2 ^ 32)
+    by true zero t i e = i n e
+    by true (suc m) t i e = absurd (true≢false (sym t))
+    by false zero t i e = absurd (true≢false t)
+    by false (suc m) t i e = i n e
 
-pub number_is : (v : Value) (m : ℕ) → v ≡ Number m → m < 2 ^ 32 → Is v (Some m)
-number_is v m e h n w = let s = some_same m n w in (e ∙ ap Number s, subst (λ z. z < 2 ^ 32) s h)
-
-pub none_is : (v : Value) → Is v None
-none_is v n e = no_none n e
+pub number_is : (v : Value) (m : ℕ) → v ≡ Number m → m < 2 ^ 32 → Is v (folds.Number m)
+number_is v m e h n w = let s = same_number m n w in (e ∙ ap Number s, subst (λ z. z < 2 ^ 32) s h)

@@ -14,6 +14,7 @@ use Rattle.c_tree.specs.declared.types.Leaf.{Leaf}
 use Rattle.c_tree.specs.Layout.{size_of, struct_size_of, members_of, members_in, size_in, IsWithin, leaves_within, leaves_of, leaves_at, leaves_of_members, repeated, AreLaid, alignment_of, alignment_of_members}
 use Rattle.c_tree.specs.Ordered.{width_of, LieIn, AllLaidOut}
 use Rattle.c_typing.specs.Plain.{Plain, Char, Int, Unsigned, Void, Pointer, Array, Struct, plain, is_complete, is_empty}
+use Rattle.c_typing.specs.Values as values
 use Rattle.c_typing.specs.Written.{IsFormed, IsDeclared}
 use Rattle.c_typing.specs.Declarations.{IsStruct}
 use Rattle.c_typing.specs.Programs.{AllFrom}
@@ -21,16 +22,7 @@ use Rattle.slot_formed.proofs.Lists.{each_at_zero, and_parts, no_none, some_same
 
 -- ---- plain types
 
-abbrev pub plain_size : List StructDef → Plain → ℕ
-plain_size defs Char = 1
-plain_size defs Int = 4
-plain_size defs Unsigned = 4
-plain_size defs Void = 0
-plain_size defs (Pointer t) = 4
-plain_size defs (Array t n) = n * plain_size defs t
-plain_size defs (Struct s) = struct_size_of defs s
-
-pub size_plain : (defs : List StructDef) (t : CType) → size_of defs t ≡ plain_size defs (plain t)
+pub size_plain : (defs : List StructDef) (t : CType) → size_of defs t ≡ values.size_of defs (plain t)
 size_plain defs ctype.Char = refl
 size_plain defs ctype.Int = refl
 size_plain defs ctype.Unsigned = refl
@@ -46,7 +38,7 @@ Formed defs Int = Unit {0}
 Formed defs Unsigned = Unit {0}
 Formed defs Void = Unit {0}
 Formed defs (Pointer t) = Formed defs t
-Formed defs (Array t n) = Formed defs t × (n * plain_size defs t ≤ 1048576)
+Formed defs (Array t n) = Formed defs t × (n * values.size_of defs t ≤ 1048576)
 Formed defs (Struct s) = (s < length defs) × (struct_size_of defs s ≤ 1048576)
 
 pub formed : (defs : List StructDef) (t : CType) → IsFormed defs t → Formed defs (plain t)
@@ -58,7 +50,7 @@ formed defs (ctype.Pointer' b t) h = formed defs t h.0
 formed defs (ctype.Array' b t n) h = (formed defs t h.0, subst (λ m. n * m ≤ 1048576) (size_plain defs t) h.3)
 formed defs (ctype.Struct s) h = h
 
-pub formed_size : (defs : List StructDef) (t : Plain) → Formed defs t → plain_size defs t ≤ 1048576
+pub formed_size : (defs : List StructDef) (t : Plain) → Formed defs t → values.size_of defs t ≤ 1048576
 formed_size defs Char h = omega arith
 formed_size defs Int h = omega arith
 formed_size defs Unsigned h = omega arith
@@ -141,7 +133,7 @@ module _ (defs : List StructDef) (structs : AllFrom (IsStruct defs) 0 defs) wher
         by None e = absurd (true≢false (sym (subst (λ o. not (is_empty (members_in o)) ≡ true) e c)))
         by (Some d) e = some_size (leaves_of defs (ctype.Struct s)) (struct_size_of defs s) (ascend (ctype.Struct s)) (has_leaf 64 (ctype.Struct s) (struct_there s d e).0.0 c)
 
-    pub positive : (t : Plain) → is_complete defs t ≡ true → 1 ≤ plain_size defs t
+    pub positive : (t : Plain) → is_complete defs t ≡ true → 1 ≤ values.size_of defs t
     positive Char c = omega arith
     positive Int c = omega arith
     positive Unsigned c = omega arith

@@ -1,6 +1,6 @@
 -- The code of each form of a well-typed expression but a call takes no number but 0 as a pointer.
 use Rattle.std.proofs.Common.{◌≡◌, refl, sym, ap, subst, ◌∙◌, arith, ℕ, suc, ◌+◌, ◌<◌, ◌^◌, List, [], ◌∷◌, ◌++◌, length, Bool, true, false, not, ◌&&◌, ◌||◌, Option, Some, None, true≢false, slice_get, ◌⊎◌, inl, inr}
-use Rattle.std.specs.Prelude.{Ok, bytes_eq, codes, option_and_then, if◌then◌else◌}
+use Rattle.std.specs.Prelude.{Ok, bytes_eq, codes, if◌then◌else◌}
 use Rattle.ldb_words.specs.Word.{bit_of}
 use Rattle.c_tree.specs.declared.types.CType.{CType}
 use Rattle.c_tree.specs.declared.types.CType.TheVariants as ctype
@@ -20,7 +20,10 @@ use Rattle.c_tree.specs.Layout.{size_of}
 use Rattle.c_operators.specs.Arithmetic.{operating_type}
 use Rattle.c_source.specs.Source.{struct_number}
 use Rattle.c_typing.specs.Plain.{Plain, Int, Unsigned, Void, plain, same, is_integer, is_pointer, is_struct as is_a_struct, is_scalar, value_type}
-use Rattle.c_typing.specs.Constants.{is_built, evaluated, operated, truth_of}
+use Rattle.c_typing.specs.declared.constant.Constant.{Constant}
+use Rattle.c_typing.specs.declared.constant.Constant.TheVariants as folds
+use Rattle.c_typing.specs.Constants.{constant, operand_type}
+use Rattle.c_typing.specs.Values.{operated, works_unsigned, with_one, truth_in, combined, chosen}
 use Rattle.c_typing.specs.Rules.{only, is_movable, binary_type, converts, is_copied, is_compound, is_move, compound_type}
 use Rattle.c_typing.specs.Expressions.{Function as AFunction, Hidden, Scope, object_type, is_lvalue, operand, value, name_type, IsTyped}
 use Rattle.c_typing.specs.Declarations.{function_in, built_in, denoted_by, scope_at}
@@ -39,12 +42,13 @@ use Rattle.slot_gen.specs.Expressions.{access_of, cast_code, load_code, word_op,
 use Rattle.slot_formed.proofs.Lists.{no_none, and_parts, or_parts}
 use Rattle.slot_formed.proofs.Sizes.{Formed, formed_size, size_plain}
 use Rattle.slot_formed.proofs.Types.{name_there}
-use Rattle.slot_formed.proofs.Evaluated.{Is, binary_is, unary_is, cast_is}
+use Rattle.slot_formed.proofs.Constants.{is_constant, two_numbers, chosen_constants}
+use Rattle.slot_formed.proofs.Evaluated.{Is, variable_is, binary_is, unary_is, cast_is}
 use Rattle.slot_formed.proofs.Safe.{extended_serves}
-use Rattle.slot_formed.proofs.Claims.{Held, Moves, Claim, no_both, only_is, target_none, target_some, integer_none, serves_type, binary_moves, converted_points, equal_points, branch_points, choice_value, choice_common, integer_unary, built_integer, built_none, integer_same}
+use Rattle.slot_formed.proofs.Claims.{Held, Moves, Claim, no_both, only_is, target_none, target_some, integer_none, serves_type, binary_moves, converted_points, equal_points, branch_points, choice_value, choice_common, integer_unary, constant_integer, constant_none, integer_same}
 use Rattle.slot_formed.proofs.Triples as triples
 use Rattle.slot_formed.proofs.Triples.{Enters, Gives, Runs, Any, Below, Sets, Casts, Zero, sets_below, sets_above, sets_held, held_same, below_less, below_then, seq, post, nothing, weaker}
-use Rattle.slot_formed.proofs.Scalars.{integer_no, no_array_value, assigned_pointer, struct_no, struct_pointer, movable_pointer, pointer_value, integer_extended, is_wide, common_wide, wide_access, is_true_of, chosen_is, number_is}
+use Rattle.slot_formed.proofs.Scalars.{integer_no, no_array_value, assigned_pointer, struct_no, struct_pointer, movable_pointer, pointer_value, is_wide, common_wide, wide_access, is_true_of, chosen_is, number_is}
 
 -- ---- operators on two temporaries
 
@@ -116,7 +120,7 @@ module _ (p : Program) (accepted : KeepsRules p) (c : SlotCode) (f : ℕ) (v : L
   abbrev pub Combined : Typed → Typed → BinaryOp → Plain → Value → Type 0
   Combined a b o rt v =
       (is_pointer rt ≡ true → points v ≡ true)
-      × (is_built a ≡ true → is_built b ≡ true → Is v (option_and_then (λ m. option_and_then (operated o (type_of a) (type_of b) m) (evaluated p.defs b)) (evaluated p.defs a)))
+      × Is v (combined o (operand_type a) (operand_type b) (constant p.defs a) (constant p.defs b))
 
   module _ (a b : Typed) (ta : IsTyped s a) (tb : IsTyped s b) (o : BinaryOp) (rt : Plain) (e : binary_type p.defs o (operand s a) (operand s b) ≡ Some rt) (at to x y : ℕ) (P : Temps → Type 0)
       (ha : (t : Temps) → P t → Held (Claim s a) (t x)) (hb : (t : Temps) → P t → Held (Claim s b) (t y)) where
@@ -135,8 +139,14 @@ module _ (p : Program) (accepted : KeepsRules p) (c : SlotCode) (f : ℕ) (v : L
         by Unequal e = both (equal_points s a b (t x) (t y) rt e (ha t pre) (hb t pre))
         by _ e = tt
 
-    not_none : (A : Option CType) (u : CType) → target_of (type_of a) ≡ Some u → is_built a ≡ true → ⊥
-    not_none A u i k = no_none u (sym (built_none s a ta k) ∙ i)
+    abbrev F : ℕ → ℕ → Constant
+    F = operated o (works_unsigned o (operand_type a) (operand_type b))
+
+    first_pointer : (u : CType) (v : Value) → target_of (type_of a) ≡ Some u → Is v (combined o (operand_type a) (operand_type b) (constant p.defs a) (constant p.defs b))
+    first_pointer u v i n k = let q = two_numbers F (constant p.defs a) (constant p.defs b) n k in no_none u (sym (constant_none s a q.0 ta q.2) ∙ i)
+
+    second_pointer : (u : CType) (v : Value) → target_of (type_of b) ≡ Some u → Is v (combined o (operand_type a) (operand_type b) (constant p.defs a) (constant p.defs b))
+    second_pointer u v j n k = let q = two_numbers F (constant p.defs a) (constant p.defs b) n k in no_none u (sym (constant_none s b q.1 tb q.3) ∙ j)
 
     by_targets : (A B : Option CType) → target_of (type_of a) ≡ A → target_of (type_of b) ≡ B → RR at P (targets_op p to x y o (type_of a) (type_of b) A B ∷ []) (Sets to C)
     by_targets None None i j =
@@ -146,7 +156,7 @@ module _ (p : Program) (accepted : KeepsRules p) (c : SlotCode) (f : ℕ) (v : L
           q.0,
           (
             λ k. absurd (subst (λ A. Moves A None o) i (subst (λ B. Moves (target_of (type_of a)) B o) j (binary_moves p.defs o s a b rt e k))),
-            λ k l. binary_is o (type_of a) (type_of b) q.1.0 q.1.1 q.0 (evaluated p.defs a) (evaluated p.defs b) ((ha t pre q.1.0 q.1.2).1 k) ((hb t pre q.1.1 q.1.3).1 l) q.1.4,
+            binary_is o (type_of a) (type_of b) q.1.0 q.1.1 q.0 (constant p.defs a) (constant p.defs b) (ha t pre q.1.0 q.1.2).1 (hb t pre q.1.1 q.1.3).1 q.1.4,
           ),
           q.2,
         )) (triples.binary_runs c f r frames K at P to x y w)
@@ -156,7 +166,7 @@ module _ (p : Program) (accepted : KeepsRules p) (c : SlotCode) (f : ℕ) (v : L
           q.0,
           (
             λ k. moved_first o u q.0 (subst (λ A. Moves A None o) i (subst (λ B. Moves (target_of (type_of a)) B o) j (binary_moves p.defs o s a b rt e k))) q.1,
-            λ k l. no_none u (sym (built_none s a ta k) ∙ i),
+            first_pointer u q.0 i,
           ),
           q.2,
         )) (mixed_runs c f r frames K at P to x y (size_of p.defs u) o (type_of b) (compared (Some u) None i j (λ z. no_none u (sym z.0)) o e))
@@ -166,7 +176,7 @@ module _ (p : Program) (accepted : KeepsRules p) (c : SlotCode) (f : ℕ) (v : L
           q.0,
           (
             λ k. moved_second o u q.0 (subst (λ A. Moves A (Some u) o) i (subst (λ B. Moves (target_of (type_of a)) B o) j (binary_moves p.defs o s a b rt e k))) q.1,
-            λ k l. no_none u (sym (built_none s b tb l) ∙ j),
+            second_pointer u q.0 j,
           ),
           q.2,
         )) (mixed_runs c f r frames K at P to y x (size_of p.defs u) o (type_of a) (λ t pre. swap_compares o t x y (compared None (Some u) i j (λ z. no_none u (sym z.1)) o e t pre)))
@@ -176,7 +186,7 @@ module _ (p : Program) (accepted : KeepsRules p) (c : SlotCode) (f : ℕ) (v : L
           q.0,
           (
             λ k. absurd (subst (λ A. Moves A (Some w) o) i (subst (λ B. Moves (target_of (type_of a)) B o) j (binary_moves p.defs o s a b rt e k))),
-            λ k l. no_none u (sym (built_none s a ta k) ∙ i),
+            first_pointer u q.0 i,
           ),
           q.2,
         )) (pointers_runs c f r frames K at P to x y (size_of p.defs u) o (compared (Some u) (Some w) i j (λ z. no_none u (sym z.0)) o e))
@@ -385,15 +395,15 @@ module _ (p : Program) (accepted : KeepsRules p) (c : SlotCode) (f : ℕ) (v : L
       (λ u w q k. (below_then d t0 u w q (sets_below d (λ z. points z ≡ true) u w k), sets_held d (λ z. points z ≡ true) u w k)) (triples.offset_runs c f r frames K (at + length l) (Below d t0) d n)
 
   -- a value that is no constant, of a type
-  typed_claim : (e : Typed) (t : CType) → value s e ≡ value_type (plain t) → is_built e ≡ false → (z : Value) → Loaded t z → Claim s e z
-  typed_claim e t w b z h = (λ k. h (subst (λ y. is_pointer y ≡ true) w k), λ k. absurd (true≢false (sym k ∙ b)))
+  typed_claim : (e : Typed) (t : CType) → value s e ≡ value_type (plain t) → constant p.defs e ≡ folds.Variable → (z : Value) → Loaded t z → Claim s e z
+  typed_claim e t w b z h = (λ k. h (subst (λ y. is_pointer y ≡ true) w k), variable_is z (constant p.defs e) b)
 
-  pub value_runs : (e : Typed) (t : CType) (at d : ℕ) (l : List SlotOp) → value s e ≡ value_type (plain t) → is_built e ≡ false → RR at Any l (Kept d (Loaded t)) → RR at Any l (Result e d)
+  pub value_runs : (e : Typed) (t : CType) (at d : ℕ) (l : List SlotOp) → value s e ≡ value_type (plain t) → constant p.defs e ≡ folds.Variable → RR at Any l (Kept d (Loaded t)) → RR at Any l (Result e d)
   value_runs e t at d l w b x = post c f r frames K at Any l (Kept d (Loaded t)) (Result e d) (λ u z pre q. (q.0, λ y g. typed_claim e t w b y (q.1 y g))) x
 
   -- an integer, where it is no constant expression
-  no_claim : (e : Typed) → is_integer (value s e) ≡ true → is_built e ≡ false → (z : Value) → Claim s e z
-  no_claim e i b z = (λ k. absurd (no_both (value s e) i k), λ k. absurd (true≢false (sym k ∙ b)))
+  no_claim : (e : Typed) → is_integer (value s e) ≡ true → constant p.defs e ≡ folds.Variable → (z : Value) → Claim s e z
+  no_claim e i b z = (λ k. absurd (no_both (value s e) i k), variable_is z (constant p.defs e) b)
 
   pub place_any : (at d : ℕ) (l : List SlotOp) → RR at Any l (Place d) → RR at Any l (Below d)
   place_any at d l x = post c f r frames K at Any l (Place d) (Below d) (λ u w pre q. q.0) x
@@ -404,10 +414,10 @@ module _ (p : Program) (accepted : KeepsRules p) (c : SlotCode) (f : ℕ) (v : L
   -- ---- assignments
 
   -- the value behind an assignment
-  fits_claim : (e : Typed) (t : CType) → plain t ≡ plain (type_of e) → is_built e ≡ false → (is_pointer (value_type (plain t)) ≡ true → is_pointer (plain t) ≡ true) → (z : Value) → Fits 0 t z → Claim s e z
-  fits_claim e t w b g z h = (λ k. h (g (subst (λ y. is_pointer (value_type y) ≡ true) (sym w) k)), λ k. absurd (true≢false (sym k ∙ b)))
+  fits_claim : (e : Typed) (t : CType) → plain t ≡ plain (type_of e) → constant p.defs e ≡ folds.Variable → (is_pointer (value_type (plain t)) ≡ true → is_pointer (plain t) ≡ true) → (z : Value) → Fits 0 t z → Claim s e z
+  fits_claim e t w b g z h = (λ k. h (g (subst (λ y. is_pointer (value_type y) ≡ true) (sym w) k)), variable_is z (constant p.defs e) b)
 
-  fits_runs : (e : Typed) (t : CType) (at d : ℕ) (l : List SlotOp) → plain t ≡ plain (type_of e) → is_built e ≡ false → (is_pointer (value_type (plain t)) ≡ true → is_pointer (plain t) ≡ true) → RR at Any l (Kept d (Fits 0 t)) → RR at Any l (Result e d)
+  fits_runs : (e : Typed) (t : CType) (at d : ℕ) (l : List SlotOp) → plain t ≡ plain (type_of e) → constant p.defs e ≡ folds.Variable → (is_pointer (value_type (plain t)) ≡ true → is_pointer (plain t) ≡ true) → RR at Any l (Kept d (Fits 0 t)) → RR at Any l (Result e d)
   fits_runs e t at d l w b g x = post c f r frames K at Any l (Kept d (Fits 0 t)) (Result e d) (λ u z pre q. (q.0, λ y k. fits_claim e t w b g y (q.1 y k))) x
 
   lvalue_of_only : (b : Bool) (x y : Bool) (t q : Plain) → only (b && (x || y)) t ≡ Some q → (b ≡ true) × (x || y ≡ true) × (t ≡ q)
@@ -430,7 +440,7 @@ module _ (p : Program) (accepted : KeepsRules p) (c : SlotCode) (f : ℕ) (v : L
       by (inr q) = (and_parts (is_a_struct (plain (type_of a)) && same (plain (type_of a)) (plain (type_of b))) (is_lvalue b) q).1
 
   -- a struct is copied
-  copy_runs : (e : Typed) (n : ℕ) (a b : List SlotOp) (at d : ℕ) → is_built e ≡ false → RR at Any a (Place d) → RR (at + length a) Any b (Place (suc d)) → RR at Any (a ++ (b ++ op.Move d (suc d) n ∷ op.Const d 0 ∷ [])) (Result e d)
+  copy_runs : (e : Typed) (n : ℕ) (a b : List SlotOp) (at d : ℕ) → constant p.defs e ≡ folds.Variable → RR at Any a (Place d) → RR (at + length a) Any b (Place (suc d)) → RR at Any (a ++ (b ++ op.Move d (suc d) n ∷ op.Const d 0 ∷ [])) (Result e d)
   copy_runs e n a b at d k x y =
       let move : SlotOp = op.Move d (suc d) n in
       let zero_op : SlotOp = op.Const d 0 in
@@ -442,7 +452,7 @@ module _ (p : Program) (accepted : KeepsRules p) (c : SlotCode) (f : ℕ) (v : L
       post c f r frames K (at + length a + length b + length (move ∷ [])) (Below d t0) (zero_op ∷ []) (Sets d (λ z. z ≡ Number 0)) (λ z y. Result e d t0 y)
       (λ z y g h. (
         below_then d t0 z y g (sets_below d (λ z. z ≡ Number 0) z y h),
-        λ i j. (λ m. ap points (sets_held d (λ z. z ≡ Number 0) z y h i j), λ m. absurd (true≢false (sym m ∙ k))),
+        λ i j. (λ m. ap points (sets_held d (λ z. z ≡ Number 0) z y h i j), variable_is i (constant p.defs e) k),
       )) (triples.const_runs c f r frames K (at + length a + length b + length (move ∷ [])) (Below d t0) d 0)
 
   -- a value is written
@@ -507,7 +517,7 @@ module _ (p : Program) (accepted : KeepsRules p) (c : SlotCode) (f : ℕ) (v : L
       post c f r frames K (at + length ca + length cb) (Below d t0) cu (Kept d F) (λ w z. Kept d F t0 z) (λ w z g k. (below_then d t0 w z g k.0, k.1))
       (update_runs d (type_of a) (at + length ca + length cb) (register_in p f a) (type_of b) o true (Below d t0) (q.2, q.3)))
 
-  pub step_runs : (e a : Typed) (o : BinaryOp) (new : Bool) → compound_type p.defs o (operand s a) Int ≡ Some (plain (type_of e)) → is_built e ≡ false → (is_lvalue a ≡ true → Spot a) → (at d : ℕ)
+  pub step_runs : (e a : Typed) (o : BinaryOp) (new : Bool) → compound_type p.defs o (operand s a) Int ≡ Some (plain (type_of e)) → constant p.defs e ≡ folds.Variable → (is_lvalue a ≡ true → Spot a) → (at d : ℕ)
       → RR at Any (unless_register (register_in p f a) (place_code p f at d a) ++ op.Const (suc d) 1 ∷ update_at p f d (register_in p f a) (type_of a) o ctype.Int new) (Result e d)
   step_runs e a o new t b pa at d =
       let q = compound_is o a Int (plain (type_of e)) (plain (type_of e)) t in
@@ -534,20 +544,17 @@ module _ (p : Program) (accepted : KeepsRules p) (c : SlotCode) (f : ℕ) (v : L
       let cb = expr_code p f (at + length cc + 1 + length ca + 1) d b ++ cast_code d h.ctype in
       seq c f r frames K at Any cc (choice_code (at + length cc) d ca cb) (Result e d) (Result (Choice' h x e y a z b) d) (ge at d) λ t0 pre.
       triples.choice_runs c f r frames K (at + length cc) d (Result e d t0) ca cb (λ u w. Result (Choice' h x e y a z b) d t0 w)
-      (branch t0 false a (at + length cc + 1) d (ga (at + length cc + 1) d) (λ o i w. (branch_points s a b o None (value s e) (plain h.ctype) t.3 i).0 w) (λ k. (built_parts k).1) (λ z m. m))
-      (branch t0 true b (at + length cc + 1 + length ca + 1) d (gb (at + length cc + 1 + length ca + 1) d) (λ o i w. (branch_points s a b None o (value s e) (plain h.ctype) t.3 i).1 w) (λ k. (built_parts k).2) (λ z m. m))
+      (branch t0 false a (at + length cc + 1) d (ga (at + length cc + 1) d) (λ o i w. (branch_points s a b o None (value s e) (plain h.ctype) t.3 i).0 w) (λ z m. m))
+      (branch t0 true b (at + length cc + 1 + length ca + 1) d (gb (at + length cc + 1 + length ca + 1) d) (λ o i w. (branch_points s a b None o (value s e) (plain h.ctype) t.3 i).1 w) (λ z m. m))
     where
-      built_parts : is_built e && is_built a && is_built b ≡ true → (is_built e ≡ true) × (is_built a ≡ true) × (is_built b ≡ true)
-      built_parts k = let q = and_parts (is_built e && is_built a) (is_built b) k in let i = and_parts (is_built e) (is_built a) q.0 in (i.0, i.1, q.1)
-
       plain_value : value_type (plain h.ctype) ≡ plain h.ctype
       plain_value = choice_value s a b None None (value s e) (plain h.ctype) t.3
 
-      word : is_built e && is_built a && is_built b ≡ true → access_of h.ctype ≡ access.Word
+      word : is_constant (chosen (constant p.defs e) (constant p.defs a) (constant p.defs b)) ≡ true → access_of h.ctype ≡ access.Word
       word k =
-          let q = built_parts k in
-          let i = built_integer s a t.1 q.1 in
-          let j = built_integer s b t.2 q.2 in
+          let q = chosen_constants (constant p.defs e) (constant p.defs a) (constant p.defs b) k in
+          let i = constant_integer s a t.1 q.0 in
+          let j = constant_integer s b t.2 q.1 in
           let g = choice_common s a b None None (value s e) (plain h.ctype) (subst (λ m. is_integer m ≡ true) (sym (integer_same (plain (type_of a)) i)) i) (subst (λ m. is_integer m ≡ true) (sym (integer_same (plain (type_of b)) j)) j) t.3 in
           wide_access h.ctype (subst (λ m. is_wide m ≡ true) g (common_wide (value s a) (value s b)))
 
@@ -555,10 +562,9 @@ module _ (p : Program) (accepted : KeepsRules p) (c : SlotCode) (f : ℕ) (v : L
       same_word acc y z g i = let m : extended access.Word y ≡ Ok z = subst (λ k. extended k y ≡ Ok z) g i in cc
 
       branch : (t0 : Temps) (zero_side : Bool) (q : Typed) (at d : ℕ) → RR at Any (expr_code p f at d q) (Result q d) → ((o : Option Value) → is_pointer (plain h.ctype) ≡ true → Held (Claim s q) o → Held (λ v. points v ≡ true) o)
-          → (is_built e && is_built a && is_built b ≡ true → is_built q ≡ true)
-          → ((z : Value) → Is z (evaluated p.defs q) → Is z (if zero_side then evaluated p.defs b else evaluated p.defs a))
+          → ((z : Value) → Is z (constant p.defs q) → Is z (if zero_side then constant p.defs b else constant p.defs a))
           → RR at (λ u. Result e d t0 u × Zero c f r frames K d zero_side u) (expr_code p f at d q ++ cast_code d h.ctype) (λ u w. Result (Choice' h x e y a z b) d t0 w)
-      branch t0 side q at d gq points_there built_q is_q =
+      branch t0 side q at d gq points_there is_q =
           let cq = expr_code p f at d q in
           let P : Temps → Type 0 = λ u. Result e d t0 u × Zero c f r frames K d side u in
           seq c f r frames K at P cq (cast_code d h.ctype) (Result q d) (λ u w. Result (Choice' h x e y a z b) d t0 w) (any at P cq (Result q d) gq) λ u pre.
@@ -567,8 +573,8 @@ module _ (p : Program) (accepted : KeepsRules p) (c : SlotCode) (f : ℕ) (v : L
             below_then d t0 w g (below_then d t0 u w pre.0.0 qw.0) k.0,
             λ m j. let n = k.2 m j in (
               λ i. serves_type h.ctype m (extended_serves (access_of h.ctype) n.0 m n.2) (subst (λ o. is_pointer o ≡ true) plain_value i),
-              λ i. subst (λ o. Is o (evaluated p.defs (Choice' h x e y a z b))) (sym (same_word (access_of h.ctype) n.0 m (word i) n.2))
-                  (chosen_is pre.1.0 n.0 side (evaluated p.defs e) (evaluated p.defs a) (evaluated p.defs b) ((pre.0.1 pre.1.0 pre.1.1).1 (built_parts i).0) pre.1.2 (is_q n.0 ((qw.1 n.0 n.1).1 (built_q i)))),
+              λ r i. subst (λ o. Is o (constant p.defs (Choice' h x e y a z b))) (sym (same_word (access_of h.ctype) n.0 m (word (ap is_constant i)) n.2))
+                  (chosen_is pre.1.0 n.0 side (constant p.defs e) (constant p.defs a) (constant p.defs b) (pre.0.1 pre.1.0 pre.1.1).1 pre.1.2 (is_q n.0 (qw.1 n.0 n.1).1)) r i,
             ),
           ))
           (triples.cast_runs c f r frames K (at + length cq) (Result q d u) d h.ctype (λ w qw o j i. points_there (w d) i qw.1 o j))
@@ -585,15 +591,14 @@ module _ (p : Program) (accepted : KeepsRules p) (c : SlotCode) (f : ℕ) (v : L
         below_then d t0 w g (below_then d t0 u w q.0.0 k.0) (sets_below d (Truths d w) w g m),
         λ i j. let n = sets_held d (Truths d w) w g m i j in (
           λ o. absurd (integer_no (plain h.ctype) int o),
-          λ o. let l = and_parts (is_built a) (is_built b) o in
-              chosen_is q.1.0 i false (evaluated p.defs a) (truth_of (evaluated p.defs b)) (Some 0) ((q.0.1 q.1.0 q.1.1).1 l.0) q.1.2 (is_true_of n.0 i (evaluated p.defs b) ((k.1 n.0 n.1).1 l.1) n.2),
+          chosen_is q.1.0 i false (constant p.defs a) (with_one truth_in (constant p.defs b)) (folds.Number 0) (q.0.1 q.1.0 q.1.1).1 q.1.2 (is_true_of n.0 i (constant p.defs b) (k.1 n.0 n.1).1 n.2),
         ),
       ))
       (λ u w q m. (
         below_then d t0 u w q.0.0 (sets_below d (λ z. z ≡ Number 0) u w m),
         λ i j. let n = sets_held d (λ z. z ≡ Number 0) u w m i j in (
           λ o. absurd (integer_no (plain h.ctype) int o),
-          λ o. chosen_is q.1.0 i true (evaluated p.defs a) (truth_of (evaluated p.defs b)) (Some 0) ((q.0.1 q.1.0 q.1.1).1 (and_parts (is_built a) (is_built b) o).0) q.1.2 (number_is i 0 n (omega arith)),
+          chosen_is q.1.0 i true (constant p.defs a) (with_one truth_in (constant p.defs b)) (folds.Number 0) (q.0.1 q.1.0 q.1.1).1 q.1.2 (number_is i 0 n (omega arith)),
         ),
       ))
     where
@@ -611,15 +616,14 @@ module _ (p : Program) (accepted : KeepsRules p) (c : SlotCode) (f : ℕ) (v : L
         below_then d t0 w g (below_then d t0 u w q.0.0 k.0) (sets_below d (Truths d w) w g m),
         λ i j. let n = sets_held d (Truths d w) w g m i j in (
           λ o. absurd (integer_no (plain h.ctype) int o),
-          λ o. let l = and_parts (is_built a) (is_built b) o in
-              chosen_is q.1.0 i true (evaluated p.defs a) (Some 1) (truth_of (evaluated p.defs b)) ((q.0.1 q.1.0 q.1.1).1 l.0) q.1.2 (is_true_of n.0 i (evaluated p.defs b) ((k.1 n.0 n.1).1 l.1) n.2),
+          chosen_is q.1.0 i true (constant p.defs a) (folds.Number 1) (with_one truth_in (constant p.defs b)) (q.0.1 q.1.0 q.1.1).1 q.1.2 (is_true_of n.0 i (constant p.defs b) (k.1 n.0 n.1).1 n.2),
         ),
       ))
       (λ u w q m. (
         below_then d t0 u w q.0.0 (sets_below d (λ z. z ≡ Number 1) u w m),
         λ i j. let n = sets_held d (λ z. z ≡ Number 1) u w m i j in (
           λ o. absurd (integer_no (plain h.ctype) int o),
-          λ o. chosen_is q.1.0 i false (evaluated p.defs a) (Some 1) (truth_of (evaluated p.defs b)) ((q.0.1 q.1.0 q.1.1).1 (and_parts (is_built a) (is_built b) o).0) q.1.2 (number_is i 1 n (omega arith)),
+          chosen_is q.1.0 i false (constant p.defs a) (folds.Number 1) (with_one truth_in (constant p.defs b)) (q.0.1 q.1.0 q.1.1).1 q.1.2 (number_is i 1 n (omega arith)),
         ),
       ))
     where
@@ -641,7 +645,7 @@ module _ (p : Program) (accepted : KeepsRules p) (c : SlotCode) (f : ℕ) (v : L
         below_then d t0 u w q.0 (sets_below d (Applied o a d u) u w m),
         λ i j. let n = sets_held d (Applied o a d u) u w m i j in (
           λ k. absurd (integer_no (plain h.ctype) (integer_unary s o (value s a) (plain h.ctype) t.1) k),
-          λ k. unary_is n.0 o (type_of a) n.1 i (evaluated p.defs a) ((q.1 n.1 n.2).1 k) n.3,
+          unary_is n.0 o (type_of a) n.1 i (constant p.defs a) (q.1 n.1 n.2).1 n.3,
         ),
       )) (triples.unary_runs c f r frames K (at + length ca) (Result a d t0) d (unary_op o (type_of a)))
 
@@ -654,7 +658,7 @@ module _ (p : Program) (accepted : KeepsRules p) (c : SlotCode) (f : ℕ) (v : L
         below_then d t0 u w q.0 m.0,
         λ i j. let n = m.2 i j in (
           λ k. absurd (integer_no (plain h.ctype) int k),
-          λ k. cast_is h.ctype n.0 i (evaluated p.defs a) ((q.1 n.0 n.1).1 k) n.2 (λ m lt. integer_extended h.ctype int m),
+          cast_is h.ctype n.0 i (constant p.defs a) int (q.1 n.0 n.1).1 n.2,
         ),
       )) (triples.cast_runs c f r frames K (at + length ca) (Result a d t0) d h.ctype (λ u q i j k. absurd (no_both (plain h.ctype) int k)))
     where
@@ -662,12 +666,12 @@ module _ (p : Program) (accepted : KeepsRules p) (c : SlotCode) (f : ℕ) (v : L
       int = (and_parts (is_integer (plain h.ctype)) (is_integer (value s a)) (only_is (is_integer (plain h.ctype) && is_integer (value s a)) (plain h.ctype) (plain h.ctype) t.1).0).0
 
   -- a constant
-  pub constant_value : (e : Typed) (n : ℕ) → is_integer (plain (type_of e)) ≡ true → n < 2 ^ 32 → evaluated p.defs e ≡ Some n → (at d : ℕ) → RR at Any (op.Const d n ∷ []) (Result e d)
+  pub constant_value : (e : Typed) (n : ℕ) → is_integer (plain (type_of e)) ≡ true → n < 2 ^ 32 → constant p.defs e ≡ folds.Number n → (at d : ℕ) → RR at Any (op.Const d n ∷ []) (Result e d)
   constant_value e n i lt g at d =
       post c f r frames K at Any (op.Const d n ∷ []) (Sets d (λ z. z ≡ Number n)) (Result e d)
       (λ u w pre m. (
         sets_below d (λ z. z ≡ Number n) u w m,
-        λ y j. (λ k. absurd (integer_no (plain (type_of e)) i k), λ k. subst (Is y) (sym g) (number_is y n (sets_held d (λ z. z ≡ Number n) u w m y j) lt)),
+        λ y j. (λ k. absurd (integer_no (plain (type_of e)) i k), subst (Is y) (sym g) (number_is y n (sets_held d (λ z. z ≡ Number n) u w m y j) lt)),
       )) (triples.const_runs c f r frames K at Any d n)
 
   pub size_small : (t : CType) → Formed p.defs (plain t) → size_of p.defs t < 2 ^ 32
