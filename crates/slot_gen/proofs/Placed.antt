@@ -77,3 +77,10 @@ pub all_placed : (code : List SlotOp) (points places : List ℕ) (first n : ℕ)
 all_placed code points places first n is many whole noted consecutive =
     placed code first points places many (consecutive ∙ ap (λ a. range_with_len a (length points)) (sym is)) λ i j g c.
     noted i j c.0 (omega (arith, c.1, whole)) (slice_get-get_or code c.0 (Stop (first + i)) c.1 ∙ ap Some c.2) g
+
+-- and of the same code, points and places
+pub placed_row : (code code' : List SlotOp) (points points' places places' : List ℕ) → code ≡ code' → points ≡ points' → places ≡ places' → (AreConsecutive points → AllZip (StandsAt code) points places) → AreConsecutive points' → AllZip (StandsAt code') points' places'
+placed_row code code' points points' places places' c q i h consecutive =
+    subst (λ l. AllZip (StandsAt l) points' places') c
+    (subst (λ qs. AllZip (StandsAt code) qs places') q
+    (subst (λ is. AllZip (StandsAt code) points is) i (h (subst AreConsecutive (sym q) consecutive))))
