@@ -21,7 +21,7 @@ use Rattle.c_typing.specs.Plain.{Plain}
 use Rattle.c_tree.specs.declared.rows.SymbolRow.{SymbolRow}
 use Rattle.c_reading.specs.Scope.{scope_with}
 use Rattle.c_typing.specs.Statements.{locals_of as locals_in}
-use Rattle.c_typing.specs.Programs.{AllFrom, numbers, IsFunction, KeepsRules}
+use Rattle.c_typing.specs.Programs.{AllFrom, numbers, IsFunction, KeepsRules as ProgramKeepsRules}
 use Rattle.c_sound.specs.Shapes.{IsFitting, KeepsShapes, CourseKeepsShapes, HasMeaning, IsAssigned, AreLive}
 use Rattle.c_sound.proofs.World.{Gives, WorldFits}
 use Rattle.c_sound.proofs.Ready.{locals_of, Good}
@@ -72,7 +72,7 @@ abbrev result_in : Option Function → CType
 result_in None = ctype.Void
 result_in (Some f) = f.result
 
-module _ (p : Program) (accepted : KeepsRules p) where
+module _ (p : Program) (accepted : ProgramKeepsRules p) where
   pub function_there : (g : ℕ) (fn : Function) → slice_get p.functions g ≡ Some fn → IsFunction p g fn
   function_there g fn e = let z : g + 0 ≡ g = omega arith in subst (λ n. IsFunction p n fn) z (each_from (IsFunction p) 0 p.functions g fn accepted.functions e)
 

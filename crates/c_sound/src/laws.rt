@@ -15,7 +15,7 @@ ghost use Rattle.c_typing.specs.Plain.{Plain};
 ghost use Rattle.c_tree.specs.declared.rows.SymbolRow.{SymbolRow};
 ghost use Rattle.c_reading.specs.Scope.{scope_with};
 ghost use Rattle.c_reading.specs.Readings.{Reading};
-ghost use Rattle.c_typing.specs.Programs.{KeepsRules};
+ghost use Rattle.c_typing.specs.Programs.{KeepsRules as ProgramKeepsRules};
 ghost use Rattle.c_session.specs.declared.command.Command.{Command};
 ghost use Rattle.c_session.specs.Commands.{Sides, answer, ReadsLine};
 ghost use Rattle.c_session.specs.Allowed.{Standing, at_first};
@@ -25,7 +25,7 @@ ghost use Rattle.c_sound.specs.Shapes.{IsFitting, IsMoment, KeepsShapes, CourseK
 
 /// However many steps of an accepted program are looked at, on any input and with any assignments of a debugger at its stops that give leaves values of their kind: it goes on, has ended, or was undefined for one of C's reasons. Never has a value the wrong shape, and never is a step without an answer. The same holds of each run to an event from a moment before the end.
 pub fn accepted_programs_keep_shapes()
-    ensures whole { (p : Program) (input : List ℕ) (h : History) (n : ℕ) → KeepsRules p → IsFitting h → KeepsShapes (after State (step p) (acted h) n 0 (begin p input)) }
+    ensures whole { (p : Program) (input : List ℕ) (h : History) (n : ℕ) → ProgramKeepsRules p → IsFitting h → KeepsShapes (after State (step p) (acted h) n 0 (begin p input)) }
     ensures resumed { (p : Program) (input : List ℕ) (h : History) (m : Moment State) (stops : ℕ → Bool) (k : ℕ) → IsMoment p input h m → CourseKeepsShapes (until State (step p) stops k m.state) }
 {}
 
@@ -43,12 +43,12 @@ pub fn stops_have_their_locals()
 
 /// A session over an accepted program has an answer to each command, however it has gone on so far: no command comes to a value of the wrong shape.
 pub fn sessions_have_answers()
-    ensures { (p : Program) (sides : Sides) (input : List ℕ) (cs : List (Option Command)) (st : Standing) (x : Reading) (c : Option Command) → KeepsRules p → AreAnswered p sides (at_first p input) cs st → ReadsLine p sides st.session c x → HasAnswer (answer p sides st.session x c) }
+    ensures { (p : Program) (sides : Sides) (input : List ℕ) (cs : List (Option Command)) (st : Standing) (x : Reading) (c : Option Command) → ProgramKeepsRules p → AreAnswered p sides (at_first p input) cs st → ReadsLine p sides st.session c x → HasAnswer (answer p sides st.session x c) }
 {}
 
 /// A session over an accepted program goes through a run of it with a history of assignments that give leaves values of their kind, which is a run of `accepted_programs_keep_shapes`.
 pub fn sessions_follow_fitting_runs()
-    ensures { (p : Program) (sides : Sides) (input : List ℕ) (cs : List (Option Command)) (st : Standing) → KeepsRules p → AreAnswered p sides (at_first p input) cs st → (h : History) × IsModeReached p input h st.session.mode × IsFitting h }
+    ensures { (p : Program) (sides : Sides) (input : List ℕ) (cs : List (Option Command)) (st : Standing) → ProgramKeepsRules p → AreAnswered p sides (at_first p input) cs st → (h : History) × IsModeReached p input h st.session.mode × IsFitting h }
 {}
 
 /// A well-typed expression keeps to the typing rules.

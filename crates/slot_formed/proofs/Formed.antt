@@ -1,17 +1,13 @@
 -- The code of an accepted program is well formed.
-use Rattle.std.proofs.Common.{◌≡◌, refl, sym, ap, subst, ◌∙◌, arith, ℕ, suc, zero, ◌+◌, ◌*◌, ◌<◌, ◌≤◌, List, [], ◌∷◌, ◌++◌, length, length-append, append_assoc, map, Bool, true, false, not, ◌&&◌, ◌||◌, Option, Some, None, true≢false, slice_get, inl, inr, take, drop}
+use Rattle.std.proofs.Common.{◌≡◌, refl, sym, ap, subst, ◌∙◌, arith, ℕ, suc, zero, ◌+◌, ◌*◌, ◌<◌, ◌≤◌, List, [], ◌∷◌, ◌++◌, length, length-append, append_assoc, map, Bool, true, false, not, ◌&&◌, ◌||◌, Option, Some, None, true≢false, slice_get, inl, inr}
 use Rattle.std.specs.Prelude.{◌==◌, sum}
 use Rattle.std.specs.List.{AllByRecursion}
 use Rattle.std.proofs.lemmas.List.{length-map}
-use Rattle.ldb_words.specs.declared.kinds.Kind.TheVariants.{Byte, Word, Address}
 use Rattle.c_tree.specs.declared.types.CType.{CType}
-use Rattle.c_tree.specs.declared.types.CType.TheVariants as ctype
-use Rattle.c_tree.specs.declared.types.StructDef.{StructDef}
 use Rattle.c_tree.specs.declared.typed.Stmt.{Stmt}
 use Rattle.c_tree.specs.declared.typed.Stmt.TheVariants.{Block'}
 use Rattle.c_tree.specs.declared.rows.Program.{Program}
 use Rattle.c_tree.specs.declared.rows.Function.{Function}
-use Rattle.c_tree.specs.declared.rows.Local.{Local}
 use Rattle.c_tree.specs.Layout.{size_of, leaves_of}
 use Rattle.c_tree.specs.Ordered.{LieIn}
 use Rattle.c_tree.specs.Points.{points_in}
@@ -20,8 +16,7 @@ use Rattle.c_tree.specs.Rows.{declared_in, statements_in}
 use Rattle.c_source.specs.Control.{outermost_of}
 use Rattle.c_tree.specs.Points.{first_of, last_of}
 use Rattle.c_source.specs.Begin.{main_from}
-use Rattle.c_typing.specs.Plain.{plain, same, Int, is_scalar}
-use Rattle.c_typing.specs.Declarations.{local_type}
+use Rattle.c_typing.specs.Plain.{plain, same, Int}
 use Rattle.c_typing.specs.Statements.{in_function, local_numbers, locals_of, locals_of_row}
 use Rattle.c_typing.specs.Programs.{numbers, is_called_main, IsBlock, IsFunction as IsItsFunction, KeepsRules}
 use Rattle.slot_ir.specs.declared.code.Home.TheVariants.{Block, Register}
@@ -33,11 +28,11 @@ use Rattle.slot_ir.specs.declared.code.SlotStruct.{SlotStruct}
 use Rattle.slot_ir.specs.declared.code.SlotOp.{SlotOp}
 use Rattle.slot_ir.specs.declared.code.SlotOp.TheVariants as op
 use Rattle.slot_ir.specs.WellFormed.{struct_weight, weight_in, IsAmong, Differ, IsFunction, IsListed, IsWellFormed, NamesWhatIsThere, PlacesOf, EndsBehind, IsClosed}
-use Rattle.slot_gen.specs.Expressions.{access_of, registers_from, register_at, register_of}
+use Rattle.slot_gen.specs.Expressions.{registers_from, register_at, register_of}
 use Rattle.slot_gen.specs.Statements.{nowhere, zeros_code, inits_code, stmts_code, zero_code, body_place, end_place, function_code}
 use Rattle.slot_gen.specs.Correct.{HasMain}
 use Rattle.slot_gen.specs.Bounds.{function_temps, IsBelow, AreBelow}
-use Rattle.slot_formed.specs.Code.{ArePlaces, IsFunctionRow, AreFunctionRows, IsProgramCode, struct_rows, home_of, local_rows, local_row, object_row, function_row, function_rows, stop_place, program_code}
+use Rattle.slot_formed.specs.Code.{ArePlaces, IsFunctionRow, AreFunctionRows, IsProgramCode, struct_rows, local_rows, local_row, object_row, function_row, function_rows, stop_place, program_code}
 use Rattle.slot_formed.specs.Tokens.{program_tokens}
 use Rattle.slot_formed.proofs.Lists.{each_of, no_none, some_same, all_append, all_left, all_right, and_parts}
 use Rattle.slot_formed.proofs.Types.{function_there}
@@ -351,7 +346,7 @@ module _ (p : Program) (accepted : KeepsRules p) (ascend : (t : CType) → LieIn
     points_differ fn.points (mine p accepted ascend f fn here n size).numbered,
   )
 
-points_stand : (p : Program) → KeepsRules p → ((t : CType) → LieIn 0 (leaves_of p.defs t) (size_of p.defs t)) → (f : ℕ) (fn : Function) → slice_get p.functions f ≡ Some fn → (first last : ℕ) → fn.points ≡ first ∷ (points_in fn.body ++ last ∷ []) → HasAll (function_code p f fn) fn.points
+pub points_stand : (p : Program) → KeepsRules p → ((t : CType) → LieIn 0 (leaves_of p.defs t) (size_of p.defs t)) → (f : ℕ) (fn : Function) → slice_get p.functions f ≡ Some fn → (first last : ℕ) → fn.points ≡ first ∷ (points_in fn.body ++ last ∷ []) → HasAll (function_code p f fn) fn.points
 points_stand p accepted ascend f fn e first last points = points_has p accepted ascend f fn e (length (function_code p f fn)) refl first last points
 
 -- ---- the program

@@ -1,7 +1,8 @@
--- Rows that are made one by one are those of a program's code.
-use Rattle.std.proofs.Common.{◌≡◌, refl, sym, ap, ◌∙◌, ℕ, suc, zero, List, [], ◌∷◌, map, drop, Option}
-use Rattle.std.specs.List.{AllByRecursion}
+-- Rows that are made one by one are those of an accepted program's code.
+use Rattle.std.proofs.Common.{◌≡◌, refl, sym, ap, subst, ◌∙◌, arith, ℕ, suc, zero, ◌+◌, List, [], ◌∷◌, length, map, drop, Option, Some, slice_get}
+use Rattle.std.specs.List.{AllByRecursion, range_with_len}
 use Rattle.c_tree.specs.declared.types.Leaf.{Leaf}
+use Rattle.c_tree.specs.declared.types.CType.{CType}
 use Rattle.c_tree.specs.declared.types.CType.TheVariants.{Struct}
 use Rattle.c_tree.specs.declared.types.StructDef.{StructDef}
 use Rattle.c_tree.specs.declared.rows.Program.{Program}
@@ -13,7 +14,9 @@ use Rattle.c_tree.specs.declared.rows.Start.TheVariants as start
 use Rattle.ldb_words.specs.declared.kinds.Kind.{Kind}
 use Rattle.ldb_words.specs.declared.kinds.Kind.TheVariants.{Byte, Word, Address}
 use Rattle.c_typing.specs.Starts.{Starts, AreStarts, IsObject}
+use Rattle.c_typing.specs.Programs.{KeepsRules, numbers}
 use Rattle.c_tree.specs.Layout.{size_of, leaves_of}
+use Rattle.c_tree.specs.Ordered.{LieIn}
 use Rattle.slot_ir.specs.declared.code.Home.{Home}
 use Rattle.slot_ir.specs.declared.code.Access.{Access}
 use Rattle.slot_ir.specs.declared.code.SlotCode.{SlotCode}
@@ -24,8 +27,12 @@ use Rattle.slot_ir.specs.declared.code.SlotStart.{SlotStart}
 use Rattle.slot_ir.specs.declared.code.SlotMember.{SlotMember}
 use Rattle.slot_ir.specs.declared.code.SlotStruct.{SlotStruct}
 use Rattle.slot_gen.specs.Expressions.{access_of, registers_from, register_at}
-use Rattle.slot_gen.specs.Rows.{EachFrom, IsLocalOf, IsFunctionOf, IsStructOf, IsObjectOf, HasRowsOf, start_of, starts_of, member_of, Fits, AreFitting, AllFitting}
-use Rattle.slot_formed.specs.Code.{home_of, local_row, local_rows, start_row, start_rows, object_row, struct_row, struct_rows, AreFunctionRows, IsProgramCode, IsComplete}
+use Rattle.slot_gen.specs.Statements.{function_code}
+use Rattle.slot_gen.specs.Rows.{EachFrom, IsLocalOf, IsFunctionOf, IsStructOf, IsObjectOf, HasRowsOf, AreConsecutive, start_of, starts_of, member_of, Fits, AreFitting, AllFitting}
+use Rattle.slot_formed.specs.Code.{home_of, local_row, local_rows, start_row, start_rows, object_row, struct_row, struct_rows, IsFunctionRow, AreFunctionRows, IsProgramCode}
+use Rattle.slot_formed.proofs.Types.{function_there}
+use Rattle.slot_formed.proofs.Stops.{HasAll, are_places}
+use Rattle.slot_formed.proofs.Formed.{points_stand}
 
 -- ---- registers from a local on
 
@@ -79,6 +86,16 @@ pub all_fit : (p : Program) (rows : List ObjectRow) → AllByRecursion (IsObject
 all_fit p [] h = tt
 all_fit p (row ∷ rows) h = (starts_fit p (leaves_of p.defs row.ctype) row.start h.0.1, all_fit p rows h.1)
 
+-- ---- numbers from one on follow one another
+
+numbers_range : (a n : ℕ) → numbers a n ≡ range_with_len a n
+numbers_range a zero = refl
+numbers_range a (suc n) = let next : suc a ≡ a + 1 = omega arith in ap (λ l. a ∷ l) (numbers_range (suc a) n ∙ ap (λ b. range_with_len b n) next)
+
+are_consecutive : (qs : List ℕ) (a : ℕ) → qs ≡ numbers a (length qs) → AreConsecutive qs
+are_consecutive [] a e = refl
+are_consecutive (q ∷ qs) a e = let first : a ≡ q = cc e in e ∙ numbers_range a (suc (length qs)) ∙ ap (λ b. range_with_len b (suc (length qs))) first
+
 -- ---- rows by their parts
 
 same_local : (s : SlotLocal) (h : Home) (a : Access) (n : ℕ) (ls : List Leaf) → s.home ≡ h → s.access ≡ a → s.size ≡ n → s.leaves ≡ ls → s ≡ record { home = h; access = a; size = n; leaves = ls }
@@ -125,28 +142,38 @@ module _ (p : Program) where
       ap (λ (r : SlotStruct). r ∷ ss) (same_struct s d.size (map member_of d.members) (leaves_of p.defs (Struct n)) h.0.size h.0.members h.0.leaves)
       ∙ ap (λ (rest : List SlotStruct). struct_row p.defs n d ∷ rest) (structs_same (suc n) ds ss h.1)
 
-  functions_same : (n : ℕ) (fns : List Function) (gs : List SlotFunction) → EachFrom (IsFunctionOf p) n fns gs → AllByRecursion IsComplete gs → AreFunctionRows p n fns gs
-  functions_same n [] [] h k = tt
-  functions_same n [] (g ∷ gs) h k = absurd h
-  functions_same n (fn ∷ fns) [] h k = absurd h
-  functions_same n (fn ∷ fns) (g ∷ gs) h k = (
-    record {
-      name = h.0.name;
-      params = h.0.params;
-      locals = locals_same (registers_from fn.locals 0) 0 fn.locals g.locals h.0.locals;
-      temporaries = k.0.0;
-      points = h.0.points;
-      places = k.0.1;
-      code = h.0.code;
-    },
-    functions_same (suc n) fns gs h.1 k.1,
-  )
+  module _ (accepted : KeepsRules p) (ascend : (t : CType) → LieIn 0 (leaves_of p.defs t) (size_of p.defs t)) where
+    function_same : (f : ℕ) (fn : Function) (g : SlotFunction) → slice_get p.functions f ≡ Some fn → IsFunctionOf p f fn g → IsFunctionRow p f fn g
+    function_same f fn g e h =
+        let mine = function_there p accepted f fn e in
+        let q = mine.points in
+        let consecutive = subst AreConsecutive (sym h.points) (are_consecutive fn.points mine.numbered.0 mine.numbered.1) in
+        let stand = subst (λ l. HasAll l g.points) (sym h.code) (subst (HasAll (function_code p f fn)) (sym h.points) (points_stand p accepted ascend f fn e q.0 q.1 q.2)) in
+        record {
+          name = h.name;
+          params = h.params;
+          locals = locals_same (registers_from fn.locals 0) 0 fn.locals g.locals h.locals;
+          temporaries = h.below;
+          points = h.points;
+          places = are_places g.code g.points g.places stand (h.places consecutive);
+          code = h.code;
+        }
 
-  pub given : (c : SlotCode) → HasRowsOf p c → AllByRecursion IsComplete c.functions → IsProgramCode p c
-  given c h k = record {
-    functions = functions_same 0 p.functions c.functions h.functions k;
-    main = h.main;
-    objects = objects_same 0 p.objects c.objects h.objects;
-    strings = h.strings;
-    structs = structs_same 0 p.defs c.structs h.structs;
-  }
+    functions_same : (n : ℕ) (fns : List Function) (gs : List SlotFunction) → ((i : ℕ) (fn : Function) → slice_get fns i ≡ Some fn → slice_get p.functions (i + n) ≡ Some fn) → EachFrom (IsFunctionOf p) n fns gs → AreFunctionRows p n fns gs
+    functions_same n [] [] at h = tt
+    functions_same n [] (g ∷ gs) at h = absurd h
+    functions_same n (fn ∷ fns) [] at h = absurd h
+    functions_same n (fn ∷ fns) (g ∷ gs) at h =
+        let z : 0 + n ≡ n = omega arith in (
+          function_same n fn g (ap (slice_get p.functions) (sym z) ∙ at 0 fn refl) h.0,
+          functions_same (suc n) fns gs (λ i k e. let w : i + suc n ≡ suc i + n = omega arith in ap (slice_get p.functions) w ∙ at (suc i) k e) h.1,
+        )
+
+    pub given : (c : SlotCode) → HasRowsOf p c → IsProgramCode p c
+    given c h = record {
+      functions = functions_same 0 p.functions c.functions (λ i fn e. let z : i + 0 ≡ i = omega arith in ap (slice_get p.functions) z ∙ e) h.functions;
+      main = h.main;
+      objects = objects_same 0 p.objects c.objects h.objects;
+      strings = h.strings;
+      structs = structs_same 0 p.defs c.structs h.structs;
+    }

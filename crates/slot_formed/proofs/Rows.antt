@@ -26,7 +26,6 @@ use Rattle.c_typing.specs.Declarations.{local_type}
 use Rattle.c_typing.specs.Starts.{Starts, AreStarts, IsObject as IsItsObject}
 use Rattle.c_typing.specs.Programs.{is_called_main, is_main, has_main, IsLocal as IsItsLocal, KeepsRules}
 use Rattle.slot_ir.specs.declared.code.SlotCode.{SlotCode}
-use Rattle.slot_ir.specs.declared.code.SlotLocal.{SlotLocal}
 use Rattle.slot_ir.specs.declared.code.SlotObject.{SlotObject}
 use Rattle.slot_gen.specs.Expressions.{access_of, wants_register, register_at}
 use Rattle.slot_gen.specs.Expressions.{is_scalar as scalar_here}

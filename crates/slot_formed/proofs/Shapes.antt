@@ -1,5 +1,5 @@
 -- The rows of structs: their leaves are those of their members, which stand in order, and they nest at most 63 levels deep.
-use Rattle.std.proofs.Common.{◌≡◌, refl, sym, ap, subst, ◌∙◌, arith, ℕ, suc, zero, ◌+◌, ◌*◌, ◌<◌, ◌≤◌, List, [], ◌∷◌, ◌++◌, map, length, Bool, true, false, true≢false, Option, Some, None, slice_get, append_assoc}
+use Rattle.std.proofs.Common.{◌≡◌, refl, sym, ap, subst, ◌∙◌, arith, ℕ, suc, zero, ◌+◌, ◌*◌, ◌≤◌, List, [], ◌∷◌, ◌++◌, map, length, Bool, true, false, true≢false, Option, Some, None, slice_get, append_assoc}
 use Rattle.std.proofs.lemmas.List.{append-nil}
 use Rattle.std.specs.List.{AllByRecursion}
 use Rattle.ldb_words.specs.declared.kinds.Kind.{Kind}
@@ -9,10 +9,9 @@ use Rattle.c_tree.specs.declared.types.CType.TheVariants.{Char, Int, Unsigned, V
 use Rattle.c_tree.specs.declared.types.StructDef.{StructDef}
 use Rattle.c_tree.specs.declared.types.Member.{Member}
 use Rattle.c_tree.specs.declared.types.Leaf.{Leaf}
-use Rattle.c_tree.specs.declared.rows.Program.{Program}
 use Rattle.c_tree.specs.Layout.{size_of, size_in, members_in, members_of, IsWithin, leaves_within, leaves_of, leaves_at, leaves_of_members, repeated, AreLaid, alignment_of, alignment_of_members}
 use Rattle.std.specs.Int.{next_multiple_of}
-use Rattle.c_tree.specs.Ordered.{LieIn, IsAligned}
+use Rattle.c_tree.specs.Ordered.{LieIn}
 use Rattle.c_tree.proofs.Aligned.{same_leaves}
 use Rattle.std.proofs.Math.Nat.{one-le-mul, le-mul_of_pos_right}
 use Rattle.std.specs.Prelude.{nat_le, not, ◌==◌}

@@ -1,7 +1,8 @@
 -- Each stopping point of a function stands in its code.
-use Rattle.std.proofs.Common.{◌≡◌, refl, sym, ap, subst, ◌∙◌, arith, ℕ, suc, ◌+◌, List, [], ◌∷◌, ◌++◌, length, Bool, true, false, Option, Some, None, true≢false, slice_get, ◌⊎◌, inl, inr}
-use Rattle.std.specs.Prelude.{if◌then◌else◌, ◌==◌}
-use Rattle.std.specs.List.{AllByRecursion}
+use Rattle.std.proofs.Common.{◌≡◌, refl, sym, ap, subst, ◌∙◌, ℕ, suc, ◌+◌, List, [], ◌∷◌, ◌++◌, length, Bool, true, false, Option, Some, None, true≢false, slice_get, ◌⊎◌, inl, inr}
+use Rattle.std.specs.Prelude.{if◌then◌else◌}
+use Rattle.std.specs.List.{AllByRecursion, AllZip, Contains}
+use Rattle.std.proofs.lemmas.Option.{slice_get_within, get_or_from_slice_get}
 use Rattle.c_tree.specs.declared.typed.Pointed.{Pointed}
 use Rattle.c_tree.specs.declared.typed.DeclaredLocal.{DeclaredLocal}
 use Rattle.c_tree.specs.declared.typed.Stmt.{Stmt, Row_of-Stmt, end_of-Stmt, more_of-Stmt, Held-Stmt-If-3, None', Some'}
@@ -17,7 +18,9 @@ use Rattle.slot_ir.specs.declared.code.SlotOp.{SlotOp}
 use Rattle.slot_ir.specs.declared.code.SlotOp.TheVariants as op
 use Rattle.slot_gen.specs.Expressions.{expr_code, choice_code}
 use Rattle.slot_gen.specs.Statements.{Around, nowhere, stmt_code, stmts_code, block_code, else_code, body_code, body_targets, body_defaults, zeros_code, part_code, init_code, inits_code, test_code, loop_test, loop_body, loop_code, in_loop, in_switch, switch_code, seek_code, first_target}
-use Rattle.slot_formed.specs.Code.{is_stop, stop_place}
+use Rattle.slot_gen.specs.Rows.{StandsAt, is_stop}
+use Rattle.slot_gen.proofs.Placed.{stop_there, stop_seen}
+use Rattle.slot_formed.specs.Code.{stop_place, ArePlaces}
 use Rattle.slot_formed.proofs.Lists.{all_append, all_map}
 use Rattle.slot_formed.proofs.Stmts.{block_stmts}
 
@@ -49,18 +52,8 @@ later o a qs h = all_map (Has a) (Has (o ∷ a)) qs (λ q k. inr k) h
 
 -- ---- where it stands
 
-same_number : (x y : ℕ) → (x == y) ≡ true → x ≡ y
-same_number x y h = grind (arith, h)
-
-self_number : (x : ℕ) → (x == x) ≡ true
-self_number x = grind arith
-
-stop_there : (q : ℕ) (o : SlotOp) → is_stop q o ≡ true → o ≡ op.Stop q
-stop_there q (op.Stop r) h = ap op.Stop (sym (same_number q r h))
-stop_there q _ h = absurd (true≢false (sym h))
-
 behind : (q : ℕ) (o : SlotOp) (rest : List SlotOp) → is_stop q o ≡ false → (o ≡ op.Stop q) ⊎ Has rest q → Has rest q
-behind q o rest e (inl k) = absurd (true≢false (sym (ap (is_stop q) k ∙ self_number q) ∙ e))
+behind q o rest e (inl k) = absurd (true≢false (sym (stop_seen q o k) ∙ e))
 behind q o rest e (inr k) = k
 
 found_by : (q : ℕ) (o : SlotOp) (rest : List SlotOp) (b : Bool) → is_stop q o ≡ b → (is_stop q o ≡ false → slice_get rest (stop_place q rest) ≡ Some (op.Stop q)) → slice_get (o ∷ rest) (if b then 0 else suc (stop_place q rest)) ≡ Some (op.Stop q)
@@ -70,6 +63,18 @@ found_by q o rest false e go = go e
 pub stop_found : (q : ℕ) (l : List SlotOp) → Has l q → slice_get l (stop_place q l) ≡ Some (op.Stop q)
 stop_found q [] h = absurd h
 stop_found q (o ∷ rest) h = found_by q o rest (is_stop q o) refl (λ e. stop_found q rest (behind q o rest e h))
+
+contains : (q : ℕ) (l : List SlotOp) → Has l q → Contains l (op.Stop q)
+contains q l h =
+    let found = stop_found q l h in
+    (stop_place q l, slice_get_within l (stop_place q l) (op.Stop q) found, get_or_from_slice_get l (stop_place q l) (op.Stop q) (op.Stop q) found)
+
+-- places of points that all stand in a code
+pub are_places : (l : List SlotOp) (qs is : List ℕ) → HasAll l qs → AllZip (StandsAt l) qs is → ArePlaces l qs is
+are_places l [] [] h k = tt
+are_places l [] (i ∷ is) h k = absurd k
+are_places l (q ∷ qs) [] h k = absurd k
+are_places l (q ∷ qs) (i ∷ is) h k = (k.0 (contains q l h.0), are_places l qs is h.1 k.1)
 
 -- ---- points of statements
 

@@ -1,5 +1,5 @@
 -- A stopping point of a function stands once in its code.
-use Rattle.std.proofs.Common.{◌≡◌, refl, sym, ap, subst, ◌∙◌, arith, ℕ, suc, zero, ◌+◌, ◌≤◌, ◌<◌, List, [], ◌∷◌, ◌++◌, length, Bool, true, false, Option, Some, None, slice_get, inl, inr}
+use Rattle.std.proofs.Common.{◌≡◌, refl, sym, ap, ◌∙◌, arith, ℕ, suc, zero, ◌+◌, ◌≤◌, ◌<◌, List, [], ◌∷◌, ◌++◌, length, Bool, true, false, Option, Some, None, slice_get, inl, inr}
 use Rattle.std.specs.Prelude.{if◌then◌else◌, ◌==◌, bytes_eq, codes}
 use Rattle.c_tree.specs.declared.types.CType.{CType}
 use Rattle.c_tree.specs.declared.types.CType.TheVariants as ctype
@@ -25,11 +25,12 @@ use Rattle.slot_ir.specs.declared.code.Access.{Access}
 use Rattle.slot_ir.specs.declared.code.Access.TheVariants as access
 use Rattle.slot_ir.specs.declared.code.SlotOp.{SlotOp}
 use Rattle.slot_ir.specs.declared.code.SlotOp.TheVariants as op
-use Rattle.slot_gen.specs.Expressions.{access_of, converting, cast_code, load_code, mixed_op, pointers_op, targets_op, combine_op, unless_register, read_at, write_at, update_at, register_in, if_register, register_of, referent_code, name_code, built_in_code, call_code, enter_code, choice_code, and_code, or_code, expr_code, place_code, row_code}
+use Rattle.slot_gen.specs.Expressions.{access_of, converting, cast_code, load_code, mixed_op, pointers_op, targets_op, combine_op, unless_register, read_at, write_at, update_at, register_in, if_register, register_of, referent_code, name_code, built_in_code, call_code, enter_code, choice_code, expr_code, place_code, row_code}
 use Rattle.slot_gen.specs.Statements.{Around, Target, nowhere, stmt_code, stmts_code, block_code, else_code, body_code, body_targets, body_defaults, zeros_code, part_code, init_code, inits_code, test_code, loop_test, loop_body, loop_code, in_loop, in_switch, switch_code, seek_code, first_target, zero_code}
 use Rattle.c_typing.specs.Programs.{numbers}
 use Rattle.slot_ir.specs.WellFormed.{IsListed}
-use Rattle.slot_formed.specs.Code.{is_stop, ArePlaces}
+use Rattle.slot_gen.specs.Rows.{is_stop}
+use Rattle.slot_formed.specs.Code.{ArePlaces}
 use Rattle.slot_formed.proofs.Lists.{no_none, some_same}
 use Rattle.slot_formed.proofs.Good.{Among}
 use Rattle.slot_formed.proofs.Stmts.{block_stmts}

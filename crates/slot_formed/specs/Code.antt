@@ -1,5 +1,6 @@
 -- The slot code of a whole program, row by row.
-use Rattle.std.specs.Prelude.{◌≡◌, slice_get, ℕ, suc, List, [], ◌∷◌, Bool, false, ◌==◌, Option, Some, None, map, drop, if◌then◌else◌}
+use Rattle.std.specs.Prelude.{◌≡◌, slice_get, ℕ, suc, List, [], ◌∷◌, Option, Some, None, map, drop, if◌then◌else◌}
+use Rattle.std.specs.List.{AllZip}
 use Rattle.ldb_words.specs.declared.kinds.Kind.{Kind}
 use Rattle.ldb_words.specs.declared.kinds.Kind.TheVariants.{Address}
 use Rattle.c_tree.specs.declared.types.CType.TheVariants.{Struct}
@@ -29,7 +30,7 @@ use Rattle.slot_ir.specs.declared.code.SlotValue.TheVariants as slot
 use Rattle.slot_gen.specs.Expressions.{access_of, registers_from, register_at}
 use Rattle.slot_gen.specs.Statements.{function_code}
 use Rattle.slot_gen.specs.Bounds.{function_temps, AreBelow}
-use Rattle.slot_gen.specs.Rows.{member_of}
+use Rattle.slot_gen.specs.Rows.{member_of, is_stop}
 
 -- ---- functions
 
@@ -44,10 +45,6 @@ local_row defs l r = record { home = home_of r; access = access_of l.ctype; size
 abbrev pub local_rows : List StructDef → List Local → List (Option ℕ) → List SlotLocal
 local_rows defs [] rs = []
 local_rows defs (l ∷ ls) rs = local_row defs l (register_at rs 0) ∷ local_rows defs ls (drop 1 rs)
-
-abbrev pub is_stop : ℕ → SlotOp → Bool
-is_stop q (Stop r) = q == r
-is_stop q op = false
 
 -- where a stopping point stands first in a code
 abbrev pub stop_place : ℕ → List SlotOp → ℕ
@@ -104,9 +101,7 @@ struct_rows defs s (d ∷ rest) = struct_row defs s d ∷ struct_rows defs (suc 
 
 -- each point has a place at which its stop stands
 abbrev pub ArePlaces : List SlotOp → List ℕ → List ℕ → Type 0
-ArePlaces code [] [] = Unit {0}
-ArePlaces code (q ∷ qs) (i ∷ is) = (slice_get code i ≡ Some (Stop q)) × ArePlaces code qs is
-ArePlaces code _ _ = ⊥
+ArePlaces code qs is = AllZip (λ q i. slice_get code i ≡ Some (Stop q)) qs is
 
 -- The row of function number f. It may have more temporaries than its code names.
 pub record IsFunctionRow (p : Program) (f : ℕ) (fn : Function) (g : SlotFunction) : Type 0 where
@@ -140,9 +135,3 @@ program_code p = record {
   strings = p.strings;
   structs = struct_rows p.defs 0 p.defs;
 }
-
--- ---- rows that are made one by one
-
--- a function has the temporaries that its code names, and the place of each point
-abbrev pub IsComplete : SlotFunction → Type 0
-IsComplete g = AreBelow g.temporaries g.code × ArePlaces g.code g.points g.places

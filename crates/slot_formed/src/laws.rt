@@ -5,10 +5,9 @@ ghost use Rattle.c_typing.specs.Programs.{KeepsRules};
 ghost use Rattle.slot_ir.specs.declared.code.SlotCode.{SlotCode};
 ghost use Rattle.slot_ir.specs.WellFormed.{operators_of_a_token, weight_in, IsWellFormed};
 ghost use Rattle.slot_gen.specs.Correct.{IsCodeOf, Lowers};
-ghost use Rattle.std.specs.List.{AllByRecursion};
 ghost use Rattle.slot_gen.specs.Rows.{HasRowsOf, IsLowerable};
 ghost use Rattle.slot_pointers.specs.Taken.{TakesPointers};
-ghost use Rattle.slot_formed.specs.Code.{IsComplete, IsProgramCode, program_code};
+ghost use Rattle.slot_formed.specs.Code.{IsProgramCode, program_code};
 ghost use Rattle.slot_formed.specs.Passed.{CallsStandBehindTheirPoints};
 ghost use Rattle.slot_formed.specs.Tokens.{program_tokens};
 
@@ -64,7 +63,9 @@ pub fn accepted_programs_are_lowerable()
     leaves_ascend();
 }
 
-/// A code that has a program's rows, each function with the temporaries that it names and the places of its points, is a code of the program.
-pub fn complete_rows_are_the_code()
-    ensures { (p : Program) (c : SlotCode) → HasRowsOf p c → AllByRecursion IsComplete c.functions → IsProgramCode p c }
-{}
+/// A code that has an accepted program's rows is a code of the program: its points are numbered one after another, and the stop of each stands in its function's code.
+pub fn accepted_rows_are_the_code()
+    ensures { (p : Program) (c : SlotCode) → KeepsRules p → HasRowsOf p c → IsProgramCode p c }
+{
+    leaves_ascend();
+}

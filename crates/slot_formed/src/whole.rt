@@ -1,23 +1,20 @@
 // The slot code of an accepted program.
-ghost use Rattle.std.specs.Prelude.{◌≡◌, ◌≤◌, true, IfOk};
-ghost use Rattle.std.specs.List.{AllByRecursion};
+ghost use Rattle.std.specs.Prelude.{◌≤◌, IfOk};
 ghost use Rattle.c_typing.specs.Programs.{KeepsRules};
 ghost use Rattle.slot_ir.specs.WellFormed.{IsWellFormed};
 ghost use Rattle.slot_gen.specs.Correct.{Lowers};
 ghost use Rattle.slot_gen.specs.Rows.{HasRowsOf};
 ghost use Rattle.slot_pointers.specs.Taken.{TakesPointers};
-ghost use Rattle.slot_formed.specs.Code.{IsComplete};
 ghost use Rattle.slot_formed.specs.Passed.{CallsStandBehindTheirPoints};
 ghost use Rattle.slot_formed.specs.Tokens.{program_tokens};
 
-use crate::complete::is_complete;
 use crate::laws::{
-    accepted_programs_are_lowerable, calls_stand_behind_their_points, code_is_well_formed,
-    complete_rows_are_the_code, numbers_taken_are_zero,
+    accepted_programs_are_lowerable, accepted_rows_are_the_code, calls_stand_behind_their_points,
+    code_is_well_formed, numbers_taken_are_zero,
 };
 use c_tree::Program;
 use slot_gen::lower;
-use slot_ir::{SlotCode, SlotFunction};
+use slot_ir::SlotCode;
 use std::alloc::{AllocError, Global};
 
 /// The slot code of an accepted program that is written with at most 40,000 tokens. It has the program's rows, is well formed, keeps the program's run and takes no number but 0 as a pointer; an activation that waits for a call stands behind the point that it passed last.
@@ -31,26 +28,9 @@ pub fn lower_accepted(alloc: Global, program: &Program) -> Result<SlotCode, Allo
     ensures behind { IfOk result (λ code. CallsStandBehindTheirPoints code) }
 {
     accepted_programs_are_lowerable();
-    complete_rows_are_the_code();
+    accepted_rows_are_the_code();
     code_is_well_formed();
     numbers_taken_are_zero();
     calls_stand_behind_their_points();
-    let code = lower(alloc, program)?;
-    if are_complete(code.functions.as_slice()) {
-        Ok(code)
-    } else {
-        Err(AllocError)
-    }
-}
-
-/// Whether each function has its temporaries and the places of its points.
-fn are_complete(functions: &[SlotFunction]) -> bool
-    ensures { result ≡ true → AllByRecursion IsComplete functions.now }
-{
-    for function in functions {
-        if !is_complete(function) {
-            return false;
-        }
-    }
-    true
+    lower(alloc, program)
 }
