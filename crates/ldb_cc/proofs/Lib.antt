@@ -3,3 +3,4 @@ pub mod Counted
 pub mod Parsed
 pub mod Refused
 pub mod Made
+pub mod Lengths

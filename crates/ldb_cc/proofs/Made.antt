@@ -8,6 +8,8 @@ use Rattle.slot_ir.specs.declared.code.SlotCode.{SlotCode}
 use Rattle.slot_ir.specs.declared.code.SlotObject.{SlotObject}
 use Rattle.slot_gen.specs.Rows.{EachFrom, HasRowsOf, IsObjectOf}
 use Rattle.slot_gen.specs.Correct.{Lowers}
+use Rattle.slot_ir.specs.WellFormed.{IsWellFormed}
+use Rattle.slot_pointers.specs.Taken.{TakesPointers}
 use Rattle.obj_file.specs.Image.{ImageFields}
 use Rattle.obj_file.specs.declared.object.Object.{Object}
 use Rattle.obj_file.specs.declared.object.StaticDef.{StaticDef}
@@ -64,11 +66,13 @@ anchored aim p c o image rows r e l =
     ∙ (emitted_count aim c o e
     ∙ ap₂ (λ a b. a + b) (each_count (IsObjectOf p) 0 p.objects c.objects r.objects) (ap (λ (ts : List (List ℕ)). length ts) r.strings))))
 
-pub made : (aim : Aim) (p : Program) (c : SlotCode) (o : Object) (image : ImageFields) (rows : LoaderRows) → HasRowsOf p c → Lowers p c → IsEmitted aim c o → IsLinked (o ∷ []) image rows → IsImageOf aim p image rows
-made aim p c o image rows r k e l = record {
+pub made : (aim : Aim) (p : Program) (c : SlotCode) (o : Object) (image : ImageFields) (rows : LoaderRows) → HasRowsOf p c → IsWellFormed c → Lowers p c → TakesPointers c → IsEmitted aim c o → IsLinked (o ∷ []) image rows → IsImageOf aim p image rows
+made aim p c o image rows r f k t e l = record {
   code = c;
   has_rows = r;
+  formed = f;
   lowers = k;
+  pointers = t;
   object = o;
   emitted = e;
   linked = l;

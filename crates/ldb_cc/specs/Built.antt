@@ -5,6 +5,8 @@ use Rattle.c_tree.specs.declared.rows.Program.{Program}
 use Rattle.slot_ir.specs.declared.code.SlotCode.{SlotCode}
 use Rattle.slot_gen.specs.Rows.{HasRowsOf}
 use Rattle.slot_gen.specs.Correct.{Lowers}
+use Rattle.slot_ir.specs.WellFormed.{IsWellFormed}
+use Rattle.slot_pointers.specs.Taken.{TakesPointers}
 use Rattle.obj_file.specs.Image.{ImageFields}
 use Rattle.obj_file.specs.declared.object.Object.{Object}
 use Rattle.obj_file.specs.declared.object.LoaderRows.{LoaderRows}
@@ -35,12 +37,14 @@ abbrev pub IsEmitted : Aim → SlotCode → Object → Type 0
 IsEmitted Mips code o = IsObjectOf mips code (flat_code 100 code) o
 IsEmitted Sparc code o = IsObjectOf sparc code (flat_code 132 code) o
 
--- The image of a program, and its rows: slot code of the program, the object of the slot code, and what a linker makes of this one object. So
+-- The image of a program, and its rows: slot code of the program, which is well formed, keeps its run and takes no number but 0 as a pointer; the object of the slot code, and what a linker makes of this one object. So
 -- the anchors are the program's static objects and then its strings, in its order, each with the address at which it is placed.
 pub record IsImageOf (aim : Aim) (program : Program) (image : ImageFields) (rows : LoaderRows) : Type 0 where
   pub code : SlotCode
   pub has_rows : HasRowsOf program code
+  pub formed : IsWellFormed code
   pub lowers : Lowers program code
+  pub pointers : TakesPointers code
   pub object : Object
   pub emitted : IsEmitted aim code object
   pub linked : IsLinked (object ∷ []) image rows

@@ -1,15 +1,16 @@
 // The image of a checked program.
-ghost use Rattle.std.specs.Prelude.{IfOk};
+ghost use Rattle.std.specs.Prelude.{◌≤◌, IfOk};
+ghost use Rattle.c_typing.specs.Programs.{KeepsRules};
 ghost use Rattle.link_image.specs.Links.{IsLinked};
+ghost use Rattle.slot_formed.specs.Tokens.{program_tokens};
 ghost use Rattle.ldb_cc.specs.Built.{IsEmitted, IsImageOf};
 
 use crate::aim::Aim;
 use c_tree::Program;
 use link_image::link;
 use obj_file::{Image, LoaderRows, Object};
-use slot_gen::lower;
+use slot_formed::lower_accepted;
 use slot_ir::SlotCode;
-use slot_run::is_lowerable;
 use std::alloc::{AllocError, Global};
 
 /// The object of a slot code.
@@ -38,16 +39,14 @@ fn linked(alloc: Global, objects: &[Object]) -> Result<(Image, LoaderRows), Allo
     }
 }
 
-/// The image of a program, and the places of its static objects, strings and functions.
-/// That a checked program can be lowered, and that the object of its slot code keeps what the linker asks, is asked until it is proved; what isn't
-/// so is answered as want of memory.
+/// The image of a program that keeps the rules of checked trees, and the places of its static objects, strings and functions. That the object of its
+/// slot code keeps what the linker asks is asked by the linker; what doesn't is answered as want of memory.
 pub fn build(alloc: Global, aim: Aim, program: &Program) -> Result<(Image, LoaderRows), AllocError>
+    requires rules { KeepsRules program.now }
+    requires few { program_tokens program.now ≤ 40000 }
     ensures { IfOk result (λ built. IsImageOf aim program.now built.0 built.1) }
 {
-    if !is_lowerable(alloc, program)? {
-        return Err(AllocError);
-    }
-    let code = lower(alloc, program)?;
+    let code = lower_accepted(alloc, program)?;
     let object = object_of(alloc, aim, &code)?;
     let (image, rows) = linked(alloc, &[object])?;
     Ok((image, rows))

@@ -3,6 +3,7 @@ ghost use Rattle.std.specs.Prelude.{◌≡◌, length, map};
 ghost use Rattle.ldb_cc.specs.Built.{Builds};
 ghost use Rattle.ldb_cc.specs.Scanning.{items_of};
 
+use crate::accepted::programs_of_sources;
 use crate::aim::Aim;
 use crate::building::build;
 use crate::fault::BuildFault;
@@ -29,6 +30,7 @@ pub fn compile(
     requires { length names.now ≡ length texts.now }
     ensures { Builds aim names.now (map items_of texts.now) result }
 {
+    programs_of_sources();
     let program = program_of(alloc, names, texts)?;
     let (image, rows) = build(alloc, aim, &program)?;
     let table = table_of(alloc, aim, &program, rows)?;

@@ -5,6 +5,7 @@
 //! anything but want of memory is never answered as such.
 #![tactic(auto)]
 
+mod accepted;
 mod aim;
 mod building;
 mod compiling;

@@ -16,12 +16,13 @@ use Rattle.frame_bytes.specs.declared.frame.Frame.{Frame}
 use Rattle.table_model.specs.declared.lack.Lack.{Lack}
 use Rattle.table_model.specs.declared.lack.Lack.TheVariants.{Missing, WrongType, Outside, NoPoint, TooDeep, Unforced}
 use Rattle.table_model.specs.declared.row.FunctionRow.{FunctionRow}
+use Rattle.table_model.specs.declared.row.SavingRow.{SavingRow}
 use Rattle.table_model.specs.declared.row.TargetRow.{TargetRow}
 use Rattle.table_model.specs.declared.row.TargetRow.TheVariants.{Saving, Windows}
 use Rattle.table_model.specs.declared.found.Found.{Found}
 use Rattle.table_model.specs.Reading.{Walked, or_missing, entry, dict_in, items_in, procedure_in, string_in, number_in, dict_or_null, dict_at, items_at, procedure_at, string_at, number_at, top_of, or_outside, fetch_at, first_from, first_in, all_from, all_in}
 use Rattle.table_model.specs.Rows.{units_of, functions_in, functions_of, covers, covering, covering_in, function_at, points_of, point_address, standing_at, point_at, nearest, point_below_from, point_below, or_no_point}
-use Rattle.table_model.specs.Frames.{Saved, saved_pair, saved_of, saving_frame, window_frame, framed, context_word, frame_in, first_frame, caller_saving, next_saving, next_window, next_frame, outward, outward_by, frame_at, point_in, point_of_row, point_of, words_from, preserved_places, window_places, kept_at, MOST_FRAMES}
+use Rattle.table_model.specs.Frames.{Saved, saved_pair, saved_of, saving_frame, window_frame, framed, context_word, frame_in, first_frame, caller_saving, next_saving, next_window, next_frame, outward, outward_by, frame_at, point_in, point_of_row, point_of, words_from, outer_places, window_places, kept_at, MOST_FRAMES}
 use Rattle.table_model.specs.Symbols.{MOST_SYMBOLS, scope_of_point, scope_of, uplink_of, Form, FromBase, Absolute, FromAnchor, Other, is_local}
 use Rattle.table_model.specs.Objects.{form_of, anchor_of, address_of, belongs, object_at, object_or_none, found_symbol, as_static, static_object, statics_in, static_at, local_here, local_among, local_at, with_activation, found_outward, found_at}
 use Rattle.dialect_model.specs.Forcing.{deferred, deferred_in}
@@ -234,7 +235,7 @@ module _ (s : StoreState) where
     framed_lacks (Some row) go h = on (go row.function) _ (h row.function) (λ f. tt)
 
     frame_in_lacks : (row : TargetRow) (context pc : ℕ) (f : DictId) → Lacks s (frame_in row s b context pc f)
-    frame_in_lacks (Saving r distance) context pc f = on (context_word b context 29) _ (fetch_lacks b _ _) (λ sp. saving_frame_lacks pc sp (words_from 32 context) f)
+    frame_in_lacks (Saving target) context pc f = on (context_word b context target.stack_pointer) _ (fetch_lacks b _ _) (λ sp. saving_frame_lacks pc sp (words_from 32 context) f)
     frame_in_lacks Windows context pc f = window_frame_lacks pc (words_from 32 context)
 
     pub first_frame_lacks : (row : TargetRow) (context : ℕ) → Lacks s (first_frame row s b context)
@@ -243,18 +244,18 @@ module _ (s : StoreState) where
         on (context_word b context 34) _ (fetch_lacks b _ _)
         (λ pc. on (function_at s pc) _ (function_at_lacks pc) (λ f. framed_lacks f (frame_in row s b context pc) (frame_in_lacks row context pc)))
 
-    caller_saving_lacks : (f : Frame) (distance : ℕ) (saved : List Saved) (o : Option ℕ) → Lacks s (caller_saving s b f distance saved o)
-    caller_saving_lacks f distance saved None = tt
-    caller_saving_lacks f distance saved (Some at) =
-        on (fetch_at b at _) _ (fetch_lacks b at _) (λ return. on (function_at s _) _ (function_at_lacks _) (λ row. framed_lacks row _ (saving_frame_lacks _ f.base (preserved_places f.base saved f.places))))
+    caller_saving_lacks : (target : SavingRow) (f : Frame) (saved : List Saved) (o : Option ℕ) → Lacks s (caller_saving target s b f saved o)
+    caller_saving_lacks target f saved None = tt
+    caller_saving_lacks target f saved (Some at) =
+        on (fetch_at b at _) _ (fetch_lacks b at _) (λ return. on (function_at s _) _ (function_at_lacks _) (λ row. framed_lacks row _ (saving_frame_lacks _ f.base (outer_places target.preserved 0 f.base f.places saved))))
 
-    next_saving_lacks : (f : Frame) (r distance : ℕ) (o : Option FunctionRow) → Lacks s (next_saving s b f r distance o)
-    next_saving_lacks f r distance None = tt
-    next_saving_lacks f r distance (Some row) = on (saved_of s row.function) _ (saved_lacks row.function) (λ saved. caller_saving_lacks f distance saved (kept_at f.base saved r))
+    next_saving_lacks : (target : SavingRow) (f : Frame) (o : Option FunctionRow) → Lacks s (next_saving target s b f o)
+    next_saving_lacks target f None = tt
+    next_saving_lacks target f (Some row) = on (saved_of s row.function) _ (saved_lacks row.function) (λ saved. caller_saving_lacks target f saved (kept_at f.base saved target.return_register))
 
     pub next_frame_lacks : (row : TargetRow) (f : Frame) → Lacks s (next_frame row s b f)
     unfolding next_frame
-    next_frame_lacks (Saving r distance) f = on (function_at s f.pc) _ (function_at_lacks f.pc) (next_saving_lacks f r distance)
+    next_frame_lacks (Saving target) f = on (function_at s f.pc) _ (function_at_lacks f.pc) (next_saving_lacks target f)
     next_frame_lacks Windows f =
         on (or_outside (word_address f.places 31)) _ (or_outside_lacks (word_address f.places 31))
         (λ at. on (fetch_at b at _) _ (fetch_lacks b at _) (λ pc. on (function_at s pc) _ (function_at_lacks pc) (λ row. framed_lacks row _ (λ g. window_frame_lacks pc (window_places f.base f.places)))))

@@ -1,8 +1,8 @@
 // The places of a frame's registers.
 
-ghost use Rattle.std.specs.Prelude.{◌≡◌, ◌≤◌, ◌-◌, ◌++◌, take};
-ghost use Rattle.table_model.specs.Frames.{words_from, preserved_places, window_places};
-ghost use Rattle.stack_walk.specs.Callers.{saved_in, by_saved, outer_place};
+ghost use Rattle.std.specs.Prelude.{◌≡◌, ◌≤◌, ◌-◌, ◌++◌, take, true, is_ok};
+ghost use Rattle.table_model.specs.Frames.{words_from, outer_place, outer_places, window_places};
+ghost use Rattle.stack_walk.specs.Callers.{saved_in, by_saved};
 
 use ps_store::{PsObj, PsStore};
 use table_model::Lack;
@@ -44,35 +44,43 @@ pub fn window_places(at: u32, inner: &Places) -> Places
     places
 }
 
-/// The place of a register outward of a frame with a base and places.
+/// The place of a register outward of a frame with a base and places, if it is preserved.
 fn outer_place(
     table: &PsStore,
     saved: &[PsObj],
+    is_preserved: bool,
     base: u32,
     inner: &Places,
     register: usize,
 ) -> Result<Option<u32>, Lack>
-    requires { register ≤ 31 }
-    ensures { result ≡ by_saved (saved_in table.now saved.now) (outer_place base inner.now register) }
+    requires number { register ≤ 31 }
+    requires read { is_ok (saved_in table.now saved.now) ≡ true }
+    ensures { result ≡ by_saved (saved_in table.now saved.now) (outer_place is_preserved base inner.now register) }
 {
+    if !is_preserved {
+        return Ok(None);
+    }
     match kept_at(table, saved, base, register as u32)? {
         Some(at) => Ok(Some(at)),
         None => Ok(inner[register]),
     }
 }
 
-/// The places outward of a frame with a base and places: those of the registers 16 to 23 alone.
-pub fn preserved_places(
+/// The places outward of a frame with a base and places: those of the preserved registers alone. All entries of `/saved` are
+/// read first.
+pub fn outer_places(
     table: &PsStore,
     saved: &[PsObj],
+    preserved: &[bool; 32],
     base: u32,
     inner: &Places,
 ) -> Result<Places, Lack>
-    ensures { result ≡ by_saved (saved_in table.now saved.now) (λ s. preserved_places base s inner.now) }
+    ensures { result ≡ by_saved (saved_in table.now saved.now) (outer_places preserved.now 0 base inner.now) }
 {
+    let _ = kept_at(table, saved, 0, 0)?;
     let mut places = [None; 32];
-    for register in 16..24 {
-        places[register] = outer_place(table, saved, base, inner, register)?;
+    for register in 0..32 {
+        places[register] = outer_place(table, saved, preserved[register], base, inner, register)?;
     }
     Ok(places)
 }

@@ -8,22 +8,12 @@ ghost use Rattle.abs_mem.specs.Walking.{Walks, LedWalk, told_of};
 ghost use Rattle.stack_walk.specs.Callers.{saved_in, outer_frame, caller_at, returned_to};
 
 use crate::fetching::{fetch_word, frame_told, function_told, kept_told, outer_told};
-use crate::places::{Places, preserved_places, words_from};
+use crate::places::{Places, outer_places, words_from};
 use abs_mem::{AbsMem, WalkFault, told};
 use frame_bytes::Frame;
 use ps_store::{DictId, PsObj, PsStore};
-use table_model::Lack;
+use table_model::{Lack, SavingRow};
 use table_read::{function_at, items_at, kept_at, number_at};
-
-/// The stack pointer's number in the context block.
-const STACK_POINTER: u32 = 29;
-
-/// The register of the return address, and how far behind the call that address is.
-#[derive(Clone, Copy)]
-pub struct ReturnRow {
-    pub register: u32,
-    pub distance: u32,
-}
 
 /// The frame of a function at a pc, above a stack pointer.
 #[tactic(auto, using(crate::proofs::Entries::frame_is))]
@@ -48,16 +38,17 @@ fn saving_frame(
 
 /// Frame 0 of a function at a pc.
 pub fn first_saving<M: AbsMem>(
+    target: &SavingRow,
     context: u32,
     table: &PsStore,
     m: &mut M,
     pc: u32,
     function: DictId,
 ) -> Result<Frame, WalkFault>
-    ensures meaning { Walks (λ b. frame_in (Saving 0 0) table.now b context pc function) (M.seen m.old) result (M.seen m.new) }
+    ensures meaning { Walks (λ b. frame_in (Saving target.now) table.now b context pc function) (M.seen m.old) result (M.seen m.new) }
     ensures calls { LedWalk M.leads m.old result m.new }
 {
-    let sp = fetch_word(m, context.wrapping_add(4 * STACK_POINTER))?;
+    let sp = fetch_word(m, context.wrapping_add(4 * target.stack_pointer as u32))?;
     let places = words_from(context);
     frame_told(saving_frame(table, pc, sp, places, function))
 }
@@ -65,31 +56,33 @@ pub fn first_saving<M: AbsMem>(
 /// The frame of a function at a pc, whose callee's function has these entries of `/saved`.
 #[tactic(auto, using(crate::proofs::Entries::caller_is))]
 fn outer_frame(
+    target: &SavingRow,
     table: &PsStore,
     saved: &[PsObj],
     frame: &Frame,
     pc: u32,
     function: DictId,
 ) -> Result<Frame, Lack>
-    ensures { result ≡ outer_frame table.now (saved_in table.now saved.now) frame.now.base frame.now.places pc function }
+    ensures { result ≡ outer_frame target.now.preserved table.now (saved_in table.now saved.now) frame.now.base frame.now.places pc function }
 {
-    let places = preserved_places(table, saved, frame.base, &frame.places)?;
+    let places = outer_places(table, saved, &target.preserved, frame.base, &frame.places)?;
     saving_frame(table, pc, frame.base, places, function)
 }
 
 /// The frame of a caller at a pc, whose callee's function has these entries of `/saved`.
 fn caller_at(
+    target: &SavingRow,
     table: &PsStore,
     saved: &[PsObj],
     frame: &Frame,
     pc: u32,
 ) -> Result<Option<Frame>, Lack>
-    ensures { result ≡ caller_at table.now (saved_in table.now saved.now) frame.now.base frame.now.places pc }
+    ensures { result ≡ caller_at target.now.preserved table.now (saved_in table.now saved.now) frame.now.base frame.now.places pc }
 {
     match function_at(table, pc)? {
         None => Ok(None),
         Some(row) => {
-            let outer = outer_frame(table, saved, frame, pc, row.function)?;
+            let outer = outer_frame(target, table, saved, frame, pc, row.function)?;
             Ok(Some(outer))
         }
     }
@@ -97,34 +90,34 @@ fn caller_at(
 
 /// The caller of a frame whose function has these entries of `/saved`.
 fn returned_to<M: AbsMem>(
-    target: ReturnRow,
+    target: &SavingRow,
     frame: &Frame,
     saved: &[PsObj],
     table: &PsStore,
     m: &mut M,
 ) -> Result<Option<Frame>, WalkFault>
-    ensures meaning { Walks (returned_to target.register target.distance frame.now table.now (saved_in table.now saved.now)) (M.seen m.old) result (M.seen m.new) }
+    ensures meaning { Walks (returned_to target.now frame.now table.now (saved_in table.now saved.now)) (M.seen m.old) result (M.seen m.new) }
     ensures calls { LedWalk M.leads m.old result m.new }
 {
-    match kept_told(table, saved, frame.base, target.register)? {
+    match kept_told(table, saved, frame.base, target.return_register as u32)? {
         None => Ok(None),
         Some(at) => {
             let back = fetch_word(m, at)?;
             let pc = back.wrapping_sub(target.distance);
-            outer_told(caller_at(table, saved, frame, pc))
+            outer_told(caller_at(target, table, saved, frame, pc))
         }
     }
 }
 
 /// The caller of a frame of a function.
 fn caller_of<M: AbsMem>(
-    target: ReturnRow,
+    target: &SavingRow,
     frame: &Frame,
     function: DictId,
     table: &PsStore,
     m: &mut M,
 ) -> Result<Option<Frame>, WalkFault>
-    ensures meaning { Walks (returned_to target.register target.distance frame.now table.now (saved_of table.now function)) (M.seen m.old) result (M.seen m.new) }
+    ensures meaning { Walks (returned_to target.now frame.now table.now (saved_of table.now function)) (M.seen m.old) result (M.seen m.new) }
     ensures calls { LedWalk M.leads m.old result m.new }
 {
     match items_at(table, function, b"saved") {
@@ -136,12 +129,12 @@ fn caller_of<M: AbsMem>(
 /// The frame outward of one.
 #[tactic(auto, unfolding(table_model::specs::Frames::next_frame))]
 pub fn up_saving<M: AbsMem>(
-    target: ReturnRow,
+    target: &SavingRow,
     frame: &Frame,
     table: &PsStore,
     m: &mut M,
 ) -> Result<Option<Frame>, WalkFault>
-    ensures meaning { Walks (λ b. next_frame (Saving target.register target.distance) table.now b frame.now) (M.seen m.old) result (M.seen m.new) }
+    ensures meaning { Walks (λ b. next_frame (Saving target.now) table.now b frame.now) (M.seen m.old) result (M.seen m.new) }
     ensures calls { LedWalk M.leads m.old result m.new }
 {
     match function_told(table, frame.pc)? {

@@ -2,34 +2,50 @@
 
 ghost use Rattle.std.specs.Prelude.{◌≡◌};
 ghost use Rattle.frame_bytes.specs.Bytes.{Bytes};
-ghost use Rattle.table_model.specs.Frames.{row_of_target, frame_in, first_frame, next_frame};
+ghost use Rattle.table_model.specs.Frames.{mips_row, row_of_target, frame_in, first_frame, next_frame};
 ghost use Rattle.abs_mem.specs.Walking.{Walks, LedWalk};
 
 use crate::fetching::{fetch_word, function_told};
 use crate::places::words_from;
-use crate::saving::{ReturnRow, first_saving, up_saving};
+use crate::saving::{first_saving, up_saving};
 use crate::windows::{up_window, window_frame};
 use abs_mem::{AbsMem, WalkFault};
 use frame_bytes::Frame;
 use machine_state::SPARC;
 use ps_store::{DictId, PsStore};
-use table_model::TargetRow;
+use table_model::{SavingRow, TargetRow};
 
 /// The pc's number in the context block.
 const CONTEXT_PC: u32 = 34;
 
-/// How the frames of a target are found: on the SPARC by windows; on the MIPS the return address is in register 31, and is 8
-/// behind the call.
+/// Which registers a function of the MIPS leaves as they were.
+const PRESERVED: [bool; 32] = [
+    false, false, false, false, false, false, false, false, //
+    false, false, false, false, false, false, false, false, //
+    true, true, true, true, true, true, true, true, //
+    false, false, false, false, false, false, false, false,
+];
+
+/// The MIPS: `$29` is the stack pointer and `$31` has the return address, 8 behind the call; `$16` to `$23` are preserved.
+fn mips_row() -> SavingRow
+    ensures { result ≡ mips_row }
+{
+    SavingRow {
+        stack_pointer: 29,
+        return_register: 31,
+        distance: 8,
+        preserved: PRESERVED,
+    }
+}
+
+/// How the frames of a target are found: on the SPARC by windows, and on the MIPS by the registers that functions save.
 pub fn row_of_target(target: u8) -> TargetRow
     ensures { result ≡ row_of_target target }
 {
     if target == SPARC {
         TargetRow::Windows
     } else {
-        TargetRow::Saving {
-            return_register: 31,
-            distance: 8,
-        }
+        TargetRow::Saving(mips_row())
     }
 }
 
@@ -46,7 +62,7 @@ fn frame_in<M: AbsMem>(
     ensures calls { LedWalk M.leads m.old result m.new }
 {
     match row {
-        TargetRow::Saving { .. } => first_saving(context, table, m, pc, function),
+        TargetRow::Saving(target) => first_saving(&target, context, table, m, pc, function),
         TargetRow::Windows => window_frame(m, pc, words_from(context)),
     }
 }
@@ -85,16 +101,7 @@ pub fn up<M: AbsMem>(
     ensures calls { LedWalk M.leads m.old result m.new }
 {
     match row {
-        TargetRow::Saving {
-            return_register,
-            distance,
-        } => {
-            let target = ReturnRow {
-                register: return_register,
-                distance,
-            };
-            up_saving(target, frame, table, m)
-        }
+        TargetRow::Saving(target) => up_saving(&target, frame, table, m),
         TargetRow::Windows => up_window(frame, table, m),
     }
 }

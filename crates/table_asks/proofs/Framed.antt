@@ -11,11 +11,12 @@ use Rattle.frame_bytes.specs.declared.frame.Frame.{Frame}
 use Rattle.frame_bytes.specs.declared.frame.Space.TheVariants.{Memory}
 use Rattle.table_model.specs.declared.lack.Lack.TheVariants as lack
 use Rattle.table_model.specs.declared.row.FunctionRow.{FunctionRow}
+use Rattle.table_model.specs.declared.row.SavingRow.{SavingRow}
 use Rattle.table_model.specs.declared.row.TargetRow.{TargetRow}
 use Rattle.table_model.specs.declared.row.TargetRow.TheVariants.{Saving, Windows}
 use Rattle.table_model.specs.Reading.{Walked, or_outside, fetch_at, dict_in, items_in, items_at, number_in, number_at, text_at, first_in, all_in}
 use Rattle.table_model.specs.Rows.{PointRow, functions_of, covers, covering, covering_in, function_at, points_of, point_address, standing_at, nearest, point_below_from, or_no_point}
-use Rattle.table_model.specs.Frames.{Saved, saved_pair, saved_of, kept_at, words_from, preserved_places, saving_frame, window_places, window_frame, framed, context_word, frame_in, first_frame, caller_saving, next_saving, next_window, next_frame, MOST_FRAMES, outward_by, frame_at, point_in, point_of_row, point_of, told_row, told_frame, told_outward, told_frames, told_frame_at}
+use Rattle.table_model.specs.Frames.{Saved, saved_pair, saved_of, kept_at, words_from, outer_places, saving_frame, window_places, window_frame, framed, context_word, frame_in, first_frame, caller_saving, next_saving, next_window, next_frame, MOST_FRAMES, outward_by, frame_at, point_in, point_of_row, point_of, told_row, told_frame, told_outward, told_frames, told_frame_at}
 use Rattle.table_model.specs.Symbols.{scope_of_point, scope_of}
 use Rattle.table_asks.proofs.Fair.{Fair, IsUnit, gives, lacking, wrong, behind, reads, items_fair, text_fair, number_fair, link_fair, first_in_fair, all_in_fair, units_first, functions_fair}
 
@@ -140,8 +141,8 @@ framed_fair s None go h = gives s None
 framed_fair s (Some row) go h = behind s (go row.function) (λ f. Ok (Some f)) (h row.function) (λ f e. gives s (Some f))
 
 frame_in_fair : (row : TargetRow) (s : StoreState) (b : Bytes) (context pc : ℕ) (f : DictId) → Fair s (frame_in row s b context pc f)
-frame_in_fair (Saving r distance) s b context pc f =
-    behind s (context_word b context 29) (λ sp. saving_frame s pc sp (words_from 32 context) f) (fetch_fair s b (sum_of context (4 * 29))) (λ sp e. saving_fair s pc sp (words_from 32 context) f)
+frame_in_fair (Saving target) s b context pc f =
+    behind s (context_word b context target.stack_pointer) (λ sp. saving_frame s pc sp (words_from 32 context) f) (fetch_fair s b (sum_of context (4 * target.stack_pointer))) (λ sp e. saving_fair s pc sp (words_from 32 context) f)
 frame_in_fair Windows s b context pc f = window_fair s b pc (words_from 32 context)
 
 pub first_frame_fair : (row : TargetRow) (s : StoreState) (b : Bytes) (context : ℕ) → Fair s (first_frame row s b context)
@@ -150,18 +151,20 @@ first_frame_fair row s b context =
     behind s (context_word b context 34) (λ pc. function_at s pc >>= λ f. framed f (frame_in row s b context pc)) (fetch_fair s b (sum_of context (4 * 34))) (λ pc e.
     behind s (function_at s pc) (λ f. framed f (frame_in row s b context pc)) (function_fair s pc) (λ o i. framed_fair s o (frame_in row s b context pc) (frame_in_fair row s b context pc)))
 
-caller_fair : (s : StoreState) (b : Bytes) (f : Frame) (distance : ℕ) (saved : List Saved) (o : Option ℕ) → Fair s (caller_saving s b f distance saved o)
-caller_fair s b f distance saved None = gives s None
-caller_fair s b f distance saved (Some at) =
-    let outer : (return : ℕ) → DictId → Walked Frame = λ return. saving_frame s (difference_of return distance) f.base (preserved_places f.base saved f.places) in
-    behind s (fetch_at b at Word) (λ return. function_at s (difference_of return distance) >>= λ row. framed row (outer return)) (fetch_fair s b at) (λ return e.
-    behind s (function_at s (difference_of return distance)) (λ row. framed row (outer return)) (function_fair s (difference_of return distance)) (λ row i.
-    framed_fair s row (outer return) (saving_fair s (difference_of return distance) f.base (preserved_places f.base saved f.places))))
+caller_fair : (target : SavingRow) (s : StoreState) (b : Bytes) (f : Frame) (saved : List Saved) (o : Option ℕ) → Fair s (caller_saving target s b f saved o)
+caller_fair target s b f saved None = gives s None
+caller_fair target s b f saved (Some at) =
+    let pc : (return : ℕ) → ℕ = λ return. difference_of return target.distance in
+    let places = outer_places target.preserved 0 f.base f.places saved in
+    let outer : (return : ℕ) → DictId → Walked Frame = λ return. saving_frame s (pc return) f.base places in
+    behind s (fetch_at b at Word) (λ return. function_at s (pc return) >>= λ row. framed row (outer return)) (fetch_fair s b at) (λ return e.
+    behind s (function_at s (pc return)) (λ row. framed row (outer return)) (function_fair s (pc return)) (λ row i. framed_fair s row (outer return) (saving_fair s (pc return) f.base places)))
 
-next_saving_fair : (s : StoreState) (b : Bytes) (f : Frame) (r distance : ℕ) (o : Option FunctionRow) → Fair s (next_saving s b f r distance o)
-next_saving_fair s b f r distance None = gives s None
-next_saving_fair s b f r distance (Some row) =
-    behind s (saved_of s row.function) (λ saved. caller_saving s b f distance saved (kept_at f.base saved r)) (saved_fair s row.function) (λ saved e. caller_fair s b f distance saved (kept_at f.base saved r))
+next_saving_fair : (target : SavingRow) (s : StoreState) (b : Bytes) (f : Frame) (o : Option FunctionRow) → Fair s (next_saving target s b f o)
+next_saving_fair target s b f None = gives s None
+next_saving_fair target s b f (Some row) =
+    let kept : List Saved → Option ℕ = λ saved. kept_at f.base saved target.return_register in
+    behind s (saved_of s row.function) (λ saved. caller_saving target s b f saved (kept saved)) (saved_fair s row.function) (λ saved e. caller_fair target s b f saved (kept saved))
 
 next_window_fair : (s : StoreState) (b : Bytes) (f : Frame) → Fair s (next_window s b f)
 next_window_fair s b f =
@@ -172,7 +175,7 @@ next_window_fair s b f =
 
 pub next_frame_fair : (row : TargetRow) (s : StoreState) (b : Bytes) (f : Frame) → Fair s (next_frame row s b f)
 unfolding next_frame
-next_frame_fair (Saving r distance) s b f = behind s (function_at s f.pc) (next_saving s b f r distance) (function_fair s f.pc) (λ row e. next_saving_fair s b f r distance row)
+next_frame_fair (Saving target) s b f = behind s (function_at s f.pc) (next_saving target s b f) (function_fair s f.pc) (λ row e. next_saving_fair target s b f row)
 next_frame_fair Windows s b f = next_window_fair s b f
 
 -- ---- by number, and all

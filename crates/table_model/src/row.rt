@@ -9,10 +9,19 @@ pub struct FunctionRow {
     pub function: DictId,
 }
 
-/// How a target's frames are found: by each function's saved registers, with the register of the return address and how far
-/// behind the call that address is; or by the windows of registers.
-#[derive(Clone, Copy, PartialEq, Eq)]
+/// A target whose functions save registers: the stack pointer's number, the number of the register with the return address,
+/// how far behind the call that address is, and for each register whether a function leaves it as it was.
+#[derive(Clone, Copy)]
+pub struct SavingRow {
+    pub stack_pointer: u8,
+    pub return_register: u8,
+    pub distance: u32,
+    pub preserved: [bool; 32],
+}
+
+/// How a target's frames are found: by each function's saved registers, or by the windows of registers.
+#[derive(Clone, Copy)]
 pub enum TargetRow {
-    Saving { return_register: u32, distance: u32 },
+    Saving(SavingRow),
     Windows,
 }
