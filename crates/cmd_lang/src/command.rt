@@ -1,9 +1,10 @@
 // Command lines.
-ghost use Rattle.std.specs.Prelude.{◌≡◌, ◌≢◌, IfOk, OnErr, IsErrOf, None, Some, true};
+ghost use Rattle.std.specs.Prelude.{◌≡◌, ◌≢◌, IfOk, OnErr, IsErrOf, Err, None, Some, true};
 ghost use Rattle.std.specs.Str.{bytes_eq};
 ghost use Rattle.c_session.specs.declared.command.Command.TheVariants.{Quit};
 ghost use Rattle.cmd_lang.specs.declared.command.CmdFault.TheVariants.{NoMemory};
 ghost use Rattle.cmd_lang.specs.Commands.{alone, with_word, with_text, read_words, read_of};
+ghost use Rattle.cmd_lang.specs.Words.{is_empty};
 
 use crate::number::{limit_of, number_of};
 use crate::place::spot_of;
@@ -22,16 +23,21 @@ pub enum CmdFault {
 /// The most bytes of a command line.
 const LINE_BYTES: usize = 1000;
 
-/// The command of a line. Where `raw` is true, `ps` is a command too. `quit` takes no memory.
+/// The command of a line. Where `raw` is true, `ps` is a command too. `quit` takes no memory, nor does a line of blanks.
 pub fn read_command(alloc: Global, line: &[u8], raw: bool) -> Result<Command, CmdFault>
     ensures ok { IfOk result (λ command. read_of raw line.now ≡ Some command) }
     ensures line { IsErrOf result CmdFault.Line → read_of raw line.now ≡ None }
     ensures no_memory { IsErrOf result CmdFault.NoMemory → read_of raw line.now ≢ Some Quit }
+    ensures blank { is_empty line.now ≡ true → result ≡ Err CmdFault.Line }
 {
     if line.len() > LINE_BYTES {
         return Err(CmdFault::Line);
     }
-    match read_words(alloc, raw, without_blanks(line)) {
+    let words = without_blanks(line);
+    if words.is_empty() {
+        return Err(CmdFault::Line);
+    }
+    match read_words(alloc, raw, words) {
         Ok(Some(command)) => Ok(command),
         Ok(None) => Err(CmdFault::Line),
         Err(_) => Err(CmdFault::NoMemory),

@@ -1,14 +1,15 @@
 // A session.
 
-ghost use Rattle.std.specs.Prelude.{◌≡◌, ◌⊎◌, ℕ, IfOk, OnErr, Ok, Err, Some, None};
+ghost use Rattle.std.specs.Prelude.{◌≡◌, ◌≢◌, ◌⊎◌, ℕ, true, [], IfOk, OnErr, Ok, Err, Some, None};
 ghost use Rattle.c_session.specs.declared.command.Command.{Command};
-ghost use Rattle.c_session.specs.declared.command.Command.TheVariants.{Quit, Turns};
+ghost use Rattle.c_session.specs.declared.command.Command.TheVariants.{Continue, Step, Quit, Turns};
 ghost use Rattle.cmd_lang.specs.Commands.{read_of};
+ghost use Rattle.cmd_lang.specs.Words.{is_empty};
 ghost use Rattle.c_session.specs.Commands.{Refusal};
 ghost use Rattle.claims.specs.Outcome.{refused_by_state};
 ghost use Rattle.session.specs.Answered.{state_of, refusal_reply, line_reply, limit_reply, Replies, Answers};
 ghost use Rattle.session.specs.Counted.{CountsOutput, CountsEnd, IsNoQuit};
-ghost use Rattle.session.specs.Kept.{IsKept, IsUndone};
+ghost use Rattle.session.specs.Kept.{IsKept, KeepsMode, IsUndone};
 
 use crate::answers::{Answer, End, StartFault};
 use crate::asked::{asked, registers_of};
@@ -66,7 +67,8 @@ fn answer(said: Result<Text, AllocError>) -> Answer
 
 /// The answer to a line that is no command.
 fn malformed(alloc: Global, line: &[u8]) -> Answer
-    ensures { Replies (line_reply line.now) result }
+    ensures reply { Replies (line_reply line.now) result }
+    ensures blank { is_empty line.now ≡ true → result ≡ Answer.Lines [] }
 {
     if is_empty(line) {
         return Answer::Lines(Text::new(alloc));
@@ -138,14 +140,16 @@ fn operators<L: Link + Drop>(alloc: Global, link: L, first: &SideRecord) -> Oper
 impl<L: Link + Drop> Session<L> {
     /// A session over a link to the nubs of one target or two, which have had no message yet: greets each, and gives it the input.
     /// There is a table for each target, which was run and is closed; a third one is left alone. Where `raw` is true, `ps` is a
-    /// command too.
+    /// command too. The session is fresh, and a resume takes at most 10,000,000 instructions on each side.
     pub fn start(
         alloc: Global,
         mut link: L,
         tables: Vec<PsStore>,
         input: &[u8],
         raw: bool,
-    ) -> Result<Session<L>, StartFault> {
+    ) -> Result<Session<L>, StartFault>
+        ensures { IfOk result (λ s. (s.mode ≡ Mode.Fresh) × (s.limit ≡ 10000000) × (s.raw ≡ raw)) }
+    {
         let Ok(broken) = Text::from_slice(alloc, b"target\n") else {
             return Err(StartFault::NoMemory);
         };
@@ -171,18 +175,21 @@ impl<L: Link + Drop> Session<L> {
     }
 
     /// The answer to a line; program output goes to `out` before it. A line that is no command, and a command that the session's state
-    /// refuses, changes nothing; once the session has ended that is every one but `quit`. Without memory the session is as before;
-    /// units of tables that were run stay so, and what a text of PostScript stored in the target stays.
+    /// refuses, changes nothing; once the session has ended that is every one but `quit`. A command that doesn't resume puts nothing into the output, and leaves the session's state as it
+    /// was or ends the session. Without memory the session is as before, and nothing was put into the output; units of tables that were run stay so, and what
+    /// a text of PostScript stored in the target stays.
     pub fn command<O: Sink>(&mut self, line: &[u8], out: &mut O) -> Result<Answer, End>
         ensures quit { read_of self.old.raw line.now ≡ Some Quit → result ≡ Err End.Quit }
         ensures quits { result ≡ Err End.Quit → read_of self.old.raw line.now ≡ Some Quit }
         ensures output { CountsEnd (O.faults out.old) (O.faults out.new) result }
         ensures turns { (n : ℕ) → read_of self.old.raw line.now ≡ Some (Turns n) → refused_by_state (state_of self.old.mode) (Turns n) ≡ None → ((result ≡ Ok (Answer.Lines (limit_reply n))) × (self.new ≡ record self.old { limit = n })) ⊎ ((result ≡ Ok Answer.NoMemory) × (self.new ≡ self.old)) }
-        ensures line { read_of self.old.raw line.now ≡ None → Answers (line_reply line.now) result × (self.new ≡ self.old) }
-        ensures refused { (c : Command) (u : Refusal) → read_of self.old.raw line.now ≡ Some c → refused_by_state (state_of self.old.mode) c ≡ Some u → Answers (refusal_reply u) result × (self.new ≡ self.old) }
-        ensures no_memory { result ≡ Ok Answer.NoMemory → (self.new.mode ≡ self.old.mode) × (self.new.limit ≡ self.old.limit) × IsKept self.old.first self.new.first }
+        ensures line { read_of self.old.raw line.now ≡ None → Answers (line_reply line.now) result × (self.new ≡ self.old) × (out.new ≡ out.old) }
+        ensures blank { is_empty line.now ≡ true → result ≡ Ok (Answer.Lines []) }
+        ensures refused { (c : Command) (u : Refusal) → read_of self.old.raw line.now ≡ Some c → refused_by_state (state_of self.old.mode) c ≡ Some u → Answers (refusal_reply u) result × (self.new ≡ self.old) × (out.new ≡ out.old) }
+        ensures no_memory { result ≡ Ok Answer.NoMemory → (self.new.mode ≡ self.old.mode) × (self.new.limit ≡ self.old.limit) × IsKept self.old.first self.new.first × (out.new ≡ out.old) }
         ensures out_fault { result ≡ Err End.OutFault → self.new.mode ≡ Mode.Ended }
         ensures limit { (self.new.limit ≡ self.old.limit) ⊎ (read_of self.old.raw line.now ≡ Some (Turns self.new.limit)) }
+        ensures asked { (c : Command) → read_of self.old.raw line.now ≡ Some c → c ≢ Continue → c ≢ Step → (out.new ≡ out.old) × KeepsMode self.old.mode self.new.mode }
         ensures raw { self.new.raw ≡ self.old.raw }
     {
         match read_command(self.alloc, line, self.raw) {
@@ -198,10 +205,11 @@ impl<L: Link + Drop> Session<L> {
         ensures no_quit { IsNoQuit result }
         ensures output { CountsEnd (O.faults out.old) (O.faults out.new) result }
         ensures turns { (n : ℕ) → command.now ≡ Turns n → refused_by_state (state_of self.old.mode) command.now ≡ None → ((result ≡ Ok (Answer.Lines (limit_reply n))) × (self.new ≡ record self.old { limit = n })) ⊎ ((result ≡ Ok Answer.NoMemory) × (self.new ≡ self.old)) }
-        ensures refused { (u : Refusal) → refused_by_state (state_of self.old.mode) command.now ≡ Some u → Answers (refusal_reply u) result × (self.new ≡ self.old) }
-        ensures no_memory { result ≡ Ok Answer.NoMemory → (self.new.mode ≡ self.old.mode) × (self.new.limit ≡ self.old.limit) × IsKept self.old.first self.new.first }
+        ensures refused { (u : Refusal) → refused_by_state (state_of self.old.mode) command.now ≡ Some u → Answers (refusal_reply u) result × (self.new ≡ self.old) × (out.new ≡ out.old) }
+        ensures no_memory { result ≡ Ok Answer.NoMemory → (self.new.mode ≡ self.old.mode) × (self.new.limit ≡ self.old.limit) × IsKept self.old.first self.new.first × (out.new ≡ out.old) }
         ensures out_fault { OnErr result (self.new.mode ≡ Mode.Ended) }
         ensures limit { (self.new.limit ≡ self.old.limit) ⊎ (command.now ≡ Turns self.new.limit) }
+        ensures asked { command.now ≢ Continue → command.now ≢ Step → (out.new ≡ out.old) × KeepsMode self.old.mode self.new.mode }
         ensures raw { self.new.raw ≡ self.old.raw }
     {
         if let Some(why) = refused_in(self.mode, command) {
@@ -235,6 +243,7 @@ impl<L: Link + Drop> Session<L> {
         ensures limit { self.new.limit ≡ self.old.limit }
         ensures first { self.new.first ≡ self.old.first }
         ensures no_memory { result ≡ Answer.NoMemory → IsUndone said × (self.new.mode ≡ self.old.mode) }
+        ensures mode { KeepsMode self.old.mode self.new.mode }
         ensures raw { self.new.raw ≡ self.old.raw }
     {
         match said {
@@ -393,7 +402,7 @@ impl<L: Link + Drop> Session<L> {
     fn resume<O: Sink>(&mut self, how: How, out: &mut O) -> Result<Answer, End>
         ensures no_quit { IsNoQuit result }
         ensures output { CountsEnd (O.faults out.old) (O.faults out.new) result }
-        ensures no_memory { result ≡ Ok Answer.NoMemory → (self.new.mode ≡ self.old.mode) × (self.new.limit ≡ self.old.limit) × IsKept self.old.first self.new.first }
+        ensures no_memory { result ≡ Ok Answer.NoMemory → (self.new.mode ≡ self.old.mode) × (self.new.limit ≡ self.old.limit) × IsKept self.old.first self.new.first × (out.new ≡ out.old) }
         ensures out_fault { OnErr result (self.new.mode ≡ Mode.Ended) }
         ensures limit { self.new.limit ≡ self.old.limit }
         ensures raw { self.new.raw ≡ self.old.raw }
