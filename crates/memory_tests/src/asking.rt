@@ -256,4 +256,25 @@ impl<'a> Asking<'a> {
             None => append(out, "none"),
         }
     }
+
+    /// Appends the answer of a row of this kind with these numbers.
+    pub fn append_asked(
+        &mut self,
+        kind: &str,
+        given: &[u32],
+        out: &mut Vec<u8>,
+    ) -> Result<(), AllocError> {
+        let first = given.first().copied().unwrap_or(0);
+        match kind {
+            "frames" => self.append_frames(out),
+            "frame" => self.append_chosen(first, out),
+            "fetch" => self.append_fetched(given, out),
+            "store" => self.append_stored(given, out),
+            "find" => self.append_found(first, out),
+            "plant" => self.append_planted(true, first, out),
+            "unplant" => self.append_planted(false, first, out),
+            "stops" => self.append_stops(first, given.get(1).copied().unwrap_or(1), out),
+            _ => append(out, "no such row"),
+        }
+    }
 }

@@ -123,13 +123,24 @@ impl Targets {
         }
     }
 
-    /// Appends how the frames of the made stack are told where one call of the link goes wrong, for each of so many calls: how
-    /// many were told as they are, failed, and had a bad reply.
-    fn append_mishaps(&self, how: Mishap, calls: u32, out: &mut Vec<u8>) -> Result<(), AllocError> {
+    /// Appends how a row is answered where one call of the link goes wrong, for each of so many calls: how often as it is, with a
+    /// failure, with a bad reply, or otherwise. The row is the second and third of the parts, and without these `frames`.
+    fn append_mishaps(&self, parts: &[Vec<u8>], out: &mut Vec<u8>) -> Result<(), AllocError> {
+        let given = numbers(self.alloc, part(parts, 0))?;
+        let how = match given.first() {
+            Some(0) => Mishap::Fail,
+            Some(1) => Mishap::Silent,
+            _ => Mishap::Done,
+        };
+        let kind = match std::str::from_utf8(part(parts, 1)) {
+            Ok("") | Err(_) => "frames",
+            Ok(kind) => kind,
+        };
+        let asked = numbers(self.alloc, part(parts, 2))?;
         let mut counts = [0u32; 4];
-        let right = self.frames_text(u64::MAX, how)?;
-        for call in 0..calls {
-            let text = self.frames_text(u64::from(call), how)?;
+        let right = self.answer_over(u64::MAX, how, kind, asked.as_slice())?;
+        for call in 0..given.get(1).copied().unwrap_or(0) {
+            let text = self.answer_over(u64::from(call), how, kind, asked.as_slice())?;
             let which = if text.as_slice() == right.as_slice() {
                 0
             } else if text.as_slice().ends_with(b"failed") {
@@ -150,8 +161,14 @@ impl Targets {
         )
     }
 
-    /// The frames of the made stack over a link of which the call with a number goes wrong.
-    fn frames_text(&self, call: u64, how: Mishap) -> Result<Vec<u8>, AllocError> {
+    /// The answer of a row over a link of which the call with a number goes wrong, counted behind the words that were set.
+    fn answer_over(
+        &self,
+        call: u64,
+        how: Mishap,
+        kind: &str,
+        given: &[u32],
+    ) -> Result<Vec<u8>, AllocError> {
         let mut out = Vec::new(self.alloc);
         // a store takes two calls of the link, a send and a receive
         let before = u64::try_from(self.made.len()).unwrap_or(0);
@@ -163,7 +180,7 @@ impl Targets {
                 table: &self.table,
                 memory: &mut memory,
             };
-            asking.append_frames(&mut out)?;
+            asking.append_asked(kind, given, &mut out)?;
         }
         Ok(out)
     }
@@ -187,21 +204,12 @@ impl Targets {
                 self.table = table_of(self.alloc, text, out)?;
                 Ok(())
             }
-            "set" => {
+            _ => {
                 self.made.extend_from_slice(given)?;
                 if let Some(memory) = &mut self.memory {
                     Targets::set_all(given, memory);
                 }
                 Ok(())
-            }
-            _ => {
-                let how = match given.first() {
-                    Some(0) => Mishap::Fail,
-                    Some(1) => Mishap::Silent,
-                    _ => Mishap::Done,
-                };
-                let calls = given.get(1).copied().unwrap_or(0);
-                self.append_mishaps(how, calls, out)
             }
         }
     }
@@ -217,7 +225,8 @@ impl Subject for Targets {
         let text = part(parts, 0);
         match kind {
             "table" => return self.make(kind, text, &[], out),
-            "target" | "set" | "mishaps" => {
+            "mishaps" => return self.append_mishaps(parts, out),
+            "target" | "set" => {
                 let given = numbers(self.alloc, text)?;
                 return self.make(kind, text, given.as_slice(), out);
             }
@@ -234,17 +243,6 @@ impl Subject for Targets {
             table: &self.table,
             memory,
         };
-        let first = given.first().copied().unwrap_or(0);
-        match kind {
-            "frames" => asking.append_frames(out),
-            "frame" => asking.append_chosen(first, out),
-            "fetch" => asking.append_fetched(given.as_slice(), out),
-            "store" => asking.append_stored(given.as_slice(), out),
-            "find" => asking.append_found(first, out),
-            "plant" => asking.append_planted(true, first, out),
-            "unplant" => asking.append_planted(false, first, out),
-            "stops" => asking.append_stops(first, given.get(1).copied().unwrap_or(1), out),
-            _ => append(out, "no such row"),
-        }
+        asking.append_asked(kind, given.as_slice(), out)
     }
 }

@@ -2,17 +2,17 @@
 
 ghost use Rattle.std.specs.Prelude.{◌≤◌};
 
-use crate::operators::Operators;
+use crate::targets::Talk;
 use ldb_words::Text;
-use ps_run::{NoDialect, PsCore, PsFault, Steps, run};
-use ps_store::{PsObj, PsStore, StringId};
+use ps_run::{Dialect, PsCore, PsFault, Steps, run};
+use ps_store::{Part, PsObj, PsStore};
 use std::alloc::{AllocError, Global};
 use test_rows::append;
 
 /// The most steps of a text.
 const MOST_STEPS: u32 = 10_000_000;
 
-fn steps() -> Steps
+pub fn steps() -> Steps
     ensures { result.taken ≤ result.limit }
 {
     Steps {
@@ -22,7 +22,7 @@ fn steps() -> Steps
 }
 
 /// Says how a run ended, if not well.
-fn append_end(out: &mut Vec<u8>, ended: Result<(), PsFault>) -> Result<(), AllocError> {
+pub fn append_end(out: &mut Vec<u8>, ended: Result<(), PsFault>) -> Result<(), AllocError> {
     match ended {
         Ok(()) => Ok(()),
         Err(PsFault::Error(error)) => append(out, error.name()),
@@ -30,39 +30,7 @@ fn append_end(out: &mut Vec<u8>, ended: Result<(), PsFault>) -> Result<(), Alloc
     }
 }
 
-/// A new store with the names of the spaces, and a text in it.
-fn store_of(alloc: Global, text: &[u8]) -> Result<(PsStore, Option<StringId>), AllocError> {
-    let mut store = PsStore::new(alloc)?;
-    for name in [b"d", b"r", b"i"] {
-        if store.make_name(name.as_slice()).is_err() {
-            return Ok((store, None));
-        }
-    }
-    let text = store.make_string(text).ok();
-    Ok((store, text))
-}
-
-/// Runs the text of a table in a new store, whose top is then the dictionary that it leaves. Without a target its operators answer
-/// undefined.
-pub fn table_of(alloc: Global, text: &[u8], out: &mut Vec<u8>) -> Result<PsStore, AllocError> {
-    let (store, text) = store_of(alloc, text)?;
-    let Some(t) = text else {
-        append(out, "no text")?;
-        return Ok(store);
-    };
-    let mut core = PsCore::new(alloc, store)?;
-    let ended = run(&mut core, &mut NoDialect, PsObj::Str(t, true), &mut steps());
-    append_end(out, ended)?;
-    let top = core.operands.get(0);
-    let mut store = core.into_store();
-    if let Some(PsObj::Dict(d)) = top {
-        store.set_top(d);
-    }
-    store.close_all();
-    Ok(store)
-}
-
-fn append_object(
+pub fn append_object(
     alloc: Global,
     store: &PsStore,
     object: PsObj,
@@ -81,34 +49,34 @@ fn append_object(
             out.extend_from_slice(store.string_get(t))?;
             append(out, ")")
         }
+        PsObj::Array(a, _) => {
+            let n = store.array_get(a).len();
+            append(out, format!(in alloc; "array of {n}")?.as_str())
+        }
         PsObj::Dict(d) => {
-            append(out, "dict of ")?;
             let n = store.dict_len(d);
-            append(out, format!(in alloc; "{n}")?.as_str())
+            append(out, format!(in alloc; "dict of {n}")?.as_str())
         }
         _ => append(out, "-"),
     }
 }
 
-/// Runs a text over a table's store, with a target or without one. Appends the operands from the bottom, then the name of the error,
-/// if one came, and then the text that was appended, in bars.
-pub fn append_run(
+/// Runs a text over a table's store with a dialect. Appends the operands from the bottom, and then the name of the error, if one
+/// came.
+pub fn append_run<D: Dialect>(
     alloc: Global,
     store: PsStore,
-    has_target: bool,
+    dialect: &mut D,
     text: &[u8],
     out: &mut Vec<u8>,
 ) -> Result<(), AllocError> {
     let mut store = store;
+    store.use_part(Part::Command);
     let Ok(t) = store.make_string(text) else {
         return append(out, "no text");
     };
     let mut core = PsCore::new(alloc, store)?;
-    let mut operators = Operators {
-        has_target,
-        out: Text::new(alloc),
-    };
-    let ended = run(&mut core, &mut operators, PsObj::Str(t, true), &mut steps());
+    let ended = run(&mut core, dialect, PsObj::Str(t, true), &mut steps());
     let count = core.operands.len();
     for above in 0..count {
         if let Some(object) = core.operands.get(count - 1 - above) {
@@ -116,8 +84,21 @@ pub fn append_run(
             append(out, " ")?;
         }
     }
-    append_end(out, ended)?;
+    append_end(out, ended)
+}
+
+/// Runs a text over a table's store and a target. Behind what is left and the error stands the text that was appended, in bars.
+pub fn append_run_on(
+    alloc: Global,
+    store: PsStore,
+    talk: &mut Talk,
+    text: &[u8],
+    out: &mut Vec<u8>,
+) -> Result<(), AllocError> {
+    talk.out = Text::new(alloc);
+    talk.memory.below.cell = 0;
+    append_run(alloc, store, talk, text, out)?;
     append(out, "|")?;
-    out.extend_from_slice(operators.out.as_bytes())?;
+    out.extend_from_slice(talk.out.as_bytes())?;
     append(out, "|")
 }

@@ -57,8 +57,26 @@ fn memory_of(
     Ok(memory)
 }
 
-/// The dialect for a row: `show` has the numbers of the leaves, `null` a pointer to nothing, and `at` a pointer into an object
-/// with a label, so far in it, perhaps with the characters that stand there.
+/// The numbers of the value's leaves, and how far in the object a pointer leads.
+fn held_by(alloc: Global, kind: &str, parts: &[Vec<u8>]) -> Result<(Vec<u32>, u32), AllocError> {
+    let mut held = Vec::new(alloc);
+    match kind {
+        "null" => {
+            held.push(0)?;
+            Ok((held, 0))
+        }
+        "at" => {
+            let given = numbers(alloc, part(parts, 2))?;
+            let offset = given.first().copied().unwrap_or(0);
+            held.push(OBJECT.wrapping_add(offset))?;
+            Ok((held, offset))
+        }
+        _ => Ok((numbers(alloc, part(parts, 1))?, 0)),
+    }
+}
+
+/// The dialect for a row: `show` and `steps` have the numbers of the leaves, `null` a pointer to nothing, and `at` a pointer into an
+/// object with a label, so far in it. A fourth part has the characters that stand there.
 fn printer_of(
     alloc: Global,
     layout: &Layout,
@@ -66,23 +84,9 @@ fn printer_of(
     parts: &[Vec<u8>],
     is_big: bool,
 ) -> Result<Printer, AllocError> {
-    let mut held = Vec::new(alloc);
-    let mut offset: u32 = 0;
-    let mut characters: u32 = 0;
-    match kind {
-        "null" => held.push(0)?,
-        "at" => {
-            let given = numbers(alloc, part(parts, 2))?;
-            offset = given.first().copied().unwrap_or(0);
-            held.push(OBJECT.wrapping_add(offset))?;
-        }
-        _ => {
-            for number in numbers(alloc, part(parts, 1))? {
-                held.push(number)?;
-            }
-        }
-    }
+    let (held, offset) = held_by(alloc, kind, parts)?;
     let mut memory = memory_of(alloc, layout, &held, is_big)?;
+    let mut characters: u32 = 0;
     if let Some(string) = parts.get(3) {
         let mut at = OBJECT.wrapping_add(offset);
         characters = offset;
@@ -92,11 +96,12 @@ fn printer_of(
             characters = characters.wrapping_add(1);
         }
     }
+    let label = if kind == "at" { part(parts, 1) } else { b"o" };
     Ok(Printer {
         alloc,
         memory,
         is_big,
-        label: Vec::from_slice(alloc, part(parts, 1))?,
+        label: Vec::from_slice(alloc, label)?,
         object: OBJECT,
         characters,
         out: Vec::new(alloc),
