@@ -1,0 +1,14 @@
+pub mod Kept
+pub mod Going
+pub mod Putting
+pub mod Words
+pub mod Copies
+pub mod Shared
+pub mod Called
+pub mod Told
+pub mod Texts
+pub mod Stores
+pub mod Makers
+pub mod Tokens
+pub mod Values
+pub mod Pieces

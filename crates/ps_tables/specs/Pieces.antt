@@ -1,0 +1,177 @@
+-- What the text of a table is made of: objects, words that make dictionaries of what stands before them, and arrays.
+use Rattle.std.specs.Prelude.{◌≡◌, ℕ, ℤ, pos, suc, ◌+◌, ◌<◌, ◌≤◌, true, false, Some, List, [], ◌∷◌, ◌++◌, length, reverse, slice_get, codes}
+use Rattle.ps_store.specs.declared.object.PsObj.{PsObj}
+use Rattle.ps_store.specs.declared.object.PsObj.TheVariants.{Int, Bool as Truth, Name, Str, Array, Dict, Op, Mark, Null}
+use Rattle.ps_store.specs.declared.object.ArrayId.{ArrayId}
+use Rattle.ps_store.specs.declared.object.DictId.{DictId}
+use Rattle.ps_store.specs.declared.object.StringId.{StringId}
+use Rattle.ps_store.specs.StoreState.{StoreState}
+use Rattle.ps_store.specs.Store.{elements_of, text_units}
+use Rattle.ps_step.specs.Keys.{named}
+use Rattle.ps_step.specs.declared.item.Item.{Item}
+use Rattle.ps_step.specs.declared.item.Item.TheVariants.{Text as TextItem}
+use Rattle.ps_text.specs.Code.{Code, Stop, Num, Word, Lit, Text, Proc, render}
+use Rattle.ps_text.specs.Grown.{HasArray, IsArray, IsString}
+use Rattle.ps_text.specs.Spells.{Spells, Fine, units}
+use Rattle.ps_terms.specs.Machine.{Does}
+use Rattle.ps_terms.specs.Stands.{Means, core}
+use Rattle.ps_terms.specs.Printing.{further}
+use Rattle.ps_tables.specs.Taken.{Takes}
+use Rattle.ps_tables.specs.Dictionaries.{Fields}
+use Rattle.ps_tables.specs.Making.{HasFields}
+use Rattle.ps_tables.specs.Later.{Later, StandsAt}
+use Rattle.ps_tables.specs.Makers.{Maker, body, making_steps, taken_by, most, calls, Ready, MadeBy}
+
+-- ---- pieces
+
+-- A piece, and what stands behind it: an integer, a literal name, a string, a procedure; a word that stands for a value; an object of an array that a
+-- word stands for; a word that makes a dictionary of the values of parts; an array of items.
+pub data Piece : Type 0 where
+  End : Piece
+  Number : (n : ℤ) (rest : Piece) → Piece
+  Literal : (name : List ℕ) (rest : Piece) → Piece
+  Chars : (text : List ℕ) (rest : Piece) → Piece
+  Quote : (body : Code) (rest : Piece) → Piece
+  Value : (word : List ℕ) (x : PsObj) (rest : Piece) → Piece
+  Element : (word : List ℕ) (place : ℕ) (x : PsObj) (rest : Piece) → Piece
+  Make : (word : List ℕ) (m : Maker) (parts rest : Piece) → Piece
+  Row : (items rest : Piece) → Piece
+
+-- its term, and what stands behind it
+abbrev pub code : Piece → Code → Code
+code End k = k
+code (Number n rest) k = Num n (code rest k)
+code (Literal name rest) k = Lit name (code rest k)
+code (Chars text rest) k = Text text (code rest k)
+code (Quote body rest) k = Proc body (code rest k)
+code (Value word x rest) k = Word word (code rest k)
+code (Element word place x rest) k = Word word (Num (pos place) (Word (codes "get") (code rest k)))
+code (Make word m parts rest) k = code parts (Word word (code rest k))
+code (Row items rest) k = Word (codes "[") (code items (Word (codes "]") (code rest k)))
+
+-- the steps that it takes
+abbrev pub steps : Piece → ℕ
+steps End = 0
+steps (Number n rest) = suc (steps rest)
+steps (Literal name rest) = suc (steps rest)
+steps (Chars text rest) = suc (steps rest)
+steps (Quote body rest) = suc (steps rest)
+steps (Value word x rest) = suc (steps rest)
+steps (Element word place x rest) = suc (suc (suc (steps rest)))
+steps (Make word m parts rest) = further (steps parts) (suc (further (making_steps m) (steps rest)))
+steps (Row items rest) = suc (further (steps items) (suc (steps rest)))
+
+-- how many values it leaves
+abbrev pub left_by : Piece → ℕ
+left_by End = 0
+left_by (Number n rest) = suc (left_by rest)
+left_by (Literal name rest) = suc (left_by rest)
+left_by (Chars text rest) = suc (left_by rest)
+left_by (Quote body rest) = suc (left_by rest)
+left_by (Value word x rest) = suc (left_by rest)
+left_by (Element word place x rest) = suc (left_by rest)
+left_by (Make word m parts rest) = suc (left_by rest)
+left_by (Row items rest) = suc (left_by rest)
+
+-- the units that it makes at most: those of its texts, one for each dictionary and array, and one for each pair and item
+abbrev pub cost : Piece → ℕ
+cost End = 0
+cost (Number n rest) = cost rest
+cost (Literal name rest) = text_units name + cost rest
+cost (Chars text rest) = text_units text + cost rest
+cost (Quote body rest) = units (Proc body Stop) + cost rest
+cost (Value word x rest) = text_units word + cost rest
+cost (Element word place x rest) = text_units word + text_units (codes "get") + cost rest
+cost (Make word m parts rest) = cost parts + (text_units word + (1 + most m) + cost rest)
+cost (Row items rest) = text_units (codes "[") + cost items + (text_units (codes "]") + (1 + left_by items) + cost rest)
+
+-- ---- what is known of the words
+
+-- an object that is pushed where it is executed, and is no mark
+abbrev pub IsValue : PsObj → Type 0
+IsValue (Array a true) = ⊥
+IsValue (Name t true) = ⊥
+IsValue (Str t true) = ⊥
+IsValue (Op n) = ⊥
+IsValue Mark = ⊥
+IsValue other = Unit {0}
+
+-- what a word stands for leaves this value: it is the value, or one of three operators
+pub data Gives : PsObj → PsObj → Type 0 where
+  itself : (x : PsObj) → IsValue x → Gives x x
+  truth : Gives (Op 58) (Truth true)
+  falsehood : Gives (Op 59) (Truth false)
+  nothing : Gives (Op 60) Null
+
+-- each object may be read, and the words have their meanings
+abbrev pub Knows : StoreState → List DictId → Piece → Type 0
+Knows s ds End = Unit {0}
+Knows s ds (Number n rest) = Fine (Num n Stop) × Knows s ds rest
+Knows s ds (Literal name rest) = Fine (Lit name Stop) × Knows s ds rest
+Knows s ds (Chars text rest) = Fine (Text text Stop) × Knows s ds rest
+Knows s ds (Quote body rest) = Fine (Proc body Stop) × Knows s ds rest
+Knows s ds (Value word x rest) = Fine (Word word Stop) × (y : PsObj) × (named s ds word ≡ Some y) × Gives y x × Knows s ds rest
+Knows s ds (Element word place x rest) =
+    Fine (Word word Stop) × Fine (Num (pos place) Stop) × (a : ArrayId) × (xs : List PsObj) × (named s ds word ≡ Some (Array a false)) × IsArray s a xs × (slice_get xs place ≡ Some x) × IsValue x
+    × Knows s ds rest
+Knows s ds (Make word m parts rest) =
+    Fine (Word word Stop) × Means s ds word (Does (body m)) × Ready s ds m × (left_by parts ≡ taken_by m) × (calls m ≤ 80) × Knows s ds parts × Knows s ds rest
+Knows s ds (Row items rest) = (left_by items ≤ 1000000) × Knows s ds items × Knows s ds rest
+
+-- from so many operands on there are never more than 100,000, with 110 to spare
+abbrev pub HasRoom : ℕ → Piece → Type 0
+HasRoom n End = n + 110 ≤ 100000
+HasRoom n (Make word m parts rest) = HasRoom n parts × HasRoom (suc n) rest
+HasRoom n (Row items rest) = HasRoom (suc n) items × HasRoom (suc n) rest
+HasRoom n (Number i rest) = HasRoom (suc n) rest
+HasRoom n (Literal name rest) = HasRoom (suc n) rest
+HasRoom n (Chars text rest) = HasRoom (suc n) rest
+HasRoom n (Quote body rest) = HasRoom (suc n) rest
+HasRoom n (Value word x rest) = HasRoom (suc n) rest
+HasRoom n (Element word place x rest) = HasRoom (suc n) rest
+
+-- ---- the values
+
+-- What is known of operands, the topmost first: this object; the literal name or string of these characters; a procedure of this term; an array of items,
+-- of which the last one stands first; the dictionary that a word makes of these values, of which the last one stands first.
+pub data Values : Type 0 where
+  Bottom : Values
+  This : (x : PsObj) (below : Values) → Values
+  Named : (name : List ℕ) (below : Values) → Values
+  Written : (text : List ℕ) (below : Values) → Values
+  Quoted : (body : Code) (below : Values) → Values
+  Listed : (items below : Values) → Values
+  Entry : (m : Maker) (parts below : Values) → Values
+
+-- what a piece leaves on top of others
+abbrev pub after : Piece → Values → Values
+after End vs = vs
+after (Number n rest) vs = after rest (This (Int n) vs)
+after (Literal name rest) vs = after rest (Named name vs)
+after (Chars text rest) vs = after rest (Written text vs)
+after (Quote body rest) vs = after rest (Quoted body vs)
+after (Value word x rest) vs = after rest (This x vs)
+after (Element word place x rest) vs = after rest (This x vs)
+after (Make word m parts rest) vs = after rest (Entry m (after parts Bottom) vs)
+after (Row items rest) vs = after rest (Listed (after items Bottom) vs)
+
+-- operands are such values
+abbrev pub Show : StoreState → List PsObj → Values → Type 0
+Show s xs Bottom = xs ≡ []
+Show s xs (This x below) = (ys : List PsObj) × (xs ≡ x ∷ ys) × IsValue x × Show s ys below
+Show s xs (Named name below) = (t : StringId) × (ys : List PsObj) × (xs ≡ Name t false ∷ ys) × IsString s t name × Show s ys below
+Show s xs (Written text below) = (t : StringId) × (ys : List PsObj) × (xs ≡ Str t false ∷ ys) × IsString s t text × Show s ys below
+Show s xs (Quoted body below) = (a : ArrayId) × (ys : List PsObj) × (xs ≡ Array a true ∷ ys) × HasArray s a × Spells s (elements_of s a) body × Show s ys below
+Show s xs (Listed items below) = (a : ArrayId) × (zs ys : List PsObj) × (xs ≡ Array a false ∷ ys) × IsArray s a (reverse zs) × Show s zs items × Show s ys below
+Show s xs (Entry m parts below) =
+    (d : DictId) × (zs ys : List PsObj) × (fields : Fields) × (xs ≡ Dict d ∷ ys) × HasFields s d fields × MadeBy s m zs fields × Show s zs parts × Show s ys below
+
+-- A part of a text is executed: in so many steps, with at most so many units made, these values come on top of operands, and the text goes on behind it.
+pub record Performs (cost steps : ℕ) (vs : Values) (s : StoreState) (ds : List DictId) (from o : List PsObj) (t : StringId) (at : ℕ) (rest : List ℕ) (under : List Item) : Type 0 where
+  pub store : StoreState
+  pub operands : List PsObj
+  pub to : ℕ
+  pub later : Later cost s store
+  pub shows : Show store operands vs
+  pub stands : StandsAt store t to rest
+  pub takes : Takes steps (core s ds from (TextItem t at ∷ under)) (core store ds (operands ++ o) (TextItem t to ∷ under))
