@@ -147,6 +147,7 @@ module _ (s : StoreState) (i : ℕ) (unclosed : s.closed.dicts ≤ i) (there : i
         closed = refl;
         counted = omega arith;
       }
+
   module _ (short : length name ≤ 127) (is : bytes_of s t ≡ name) (few : length es < 1000000) (room : s.table.units + s.command.units + 1 ≤ 8000000) where
     added : adding_pair s D (NameKey name) (pair_of t v) ≡ Ok (tt, changed (es ++ (NameKey name, pair_of t v) ∷ []) (s.table.units + 1))
     added =
