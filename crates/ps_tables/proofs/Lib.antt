@@ -6,9 +6,14 @@ pub mod Copies
 pub mod Shared
 pub mod Called
 pub mod Told
+pub mod Arrays
 pub mod Texts
 pub mod Stores
 pub mod Makers
 pub mod Tokens
 pub mod Values
+pub mod Pairs
 pub mod Pieces
+pub mod TablePieces
+pub mod Defining
+pub mod Definitions

@@ -23,7 +23,7 @@ use Rattle.ps_tables.proofs.Told.{MakesTold, makes_told}
 abbrev Short : Fields → Type 0
 Short fields = AreShort (map (λ f. f.0) fields)
 
-short_updated : (fs : Fields) (name : List ℕ) (v : PsObj) → Short fs → length name ≤ 127 → Short (updated fs name v)
+pub short_updated : (fs : Fields) (name : List ℕ) (v : PsObj) → Short fs → length name ≤ 127 → Short (updated fs name v)
 short_updated [] name v h short = (short, tt)
 short_updated (f ∷ fs) name v h short = by (bytes_eq name f.0) (short_updated fs name v h.1 short)
   where
@@ -83,7 +83,7 @@ split zero k vs h = ([], vs, refl, refl, omega arith)
 split (suc n) k [] h = absurd (omega arith)
 split (suc n) k (v ∷ vs) h = let r = split n k vs (omega arith) in (v ∷ r.0, r.1, ap (λ (l : List PsObj). v ∷ l) r.2, ap suc r.3, r.4)
 
-only : (ws : List PsObj) → length ws ≡ 1 → (w : PsObj) × (ws ≡ w ∷ [])
+pub only : (ws : List PsObj) → length ws ≡ 1 → (w : PsObj) × (ws ≡ w ∷ [])
 only [] h = absurd (omega arith)
 only (w ∷ []) h = (w, refl)
 only (w ∷ x ∷ ws) h = absurd (omega arith)

@@ -1,5 +1,5 @@
 -- Each piece of a text leaves its values.
-use Rattle.std.proofs.Common.{◌≡◌, ℕ, ℤ, pos, suc, ◌+◌, ◌<◌, ◌≤◌, true, false, Option, Some, None, Result, Ok, Err, List, [], ◌∷◌, ◌++◌, length, reverse, take, drop, slice_get, codes, refl, sym, ap, ◌∙◌, subst, arith, length-append, take_at, drop_at, append_assoc}
+use Rattle.std.proofs.Common.{◌≡◌, ℕ, ℤ, pos, suc, ◌+◌, ◌*◌, ◌<◌, ◌≤◌, true, false, Option, Some, None, Result, Ok, Err, List, [], ◌∷◌, ◌++◌, length, reverse, take, drop, slice_get, codes, refl, sym, ap, ◌∙◌, subst, arith, length-append, take_at, drop_at, append_assoc}
 use Rattle.std.proofs.lemmas.List.{length-reverse}
 use Rattle.ps_scan.specs.Bytes.{is_regular, is_white, is_special}
 use Rattle.ps_store.specs.declared.object.Part.TheVariants.{Table}
@@ -10,6 +10,7 @@ use Rattle.ps_store.specs.declared.object.DictId.{DictId}
 use Rattle.ps_store.specs.declared.object.StringId.{StringId}
 use Rattle.ps_store.specs.declared.object.Pair.{Pair}
 use Rattle.ps_store.specs.declared.key.Key.{Key}
+use Rattle.ps_store.specs.declared.key.Key.TheVariants.{Int as IntKey}
 use Rattle.ps_store.specs.Operators.{operator_number}
 use Rattle.ps_store.specs.StoreState.{StoreState}
 use Rattle.ps_store.specs.Store.{Given, elements_of, entries_of, making_array, text_units}
@@ -19,9 +20,10 @@ use Rattle.ps_step.specs.declared.item.Item.{Item}
 use Rattle.ps_step.specs.declared.item.Item.TheVariants.{Text as TextItem}
 use Rattle.ps_step.specs.declared.machine.PsCore.{PsCore}
 use Rattle.ps_step.specs.Results.{◌>>=◌, stored, at as at_state}
-use Rattle.ps_step.specs.State.{Made}
+use Rattle.ps_step.specs.State.{Made, pushing}
 use Rattle.ps_step.specs.Values.{within}
-use Rattle.ps_step.specs.Executing.{alone, numbered}
+use Rattle.ps_step.specs.Keys.{found_in, under as under_key}
+use Rattle.ps_step.specs.Executing.{alone, acting}
 use Rattle.ps_run.specs.Step.{Next, settled, step}
 use Rattle.ps_text.specs.Code.{Code, Stop, Num, Word, Lit, Text, Proc, render}
 use Rattle.ps_text.specs.Grown.{HasArray, IsArray, IsString}
@@ -38,15 +40,40 @@ use Rattle.ps_tables.specs.Dictionaries.{Fields, AreFields, with_dict, next_dict
 use Rattle.ps_tables.specs.Making.{IsMaking, HasFields}
 use Rattle.ps_tables.specs.Later.{Later, StandsAt}
 use Rattle.ps_tables.specs.Makers.{Maker, body, making_steps, taken_by, most, calls, Ready, Leaves, MadeBy}
-use Rattle.ps_tables.specs.Pieces.{Piece, End, Number, Literal, Chars, Quote, Value, Element, Make, Row, code, steps, left_by, cost, IsValue, Gives, itself, Knows, HasRoom, Values, Bottom, This, Named, Written, Quoted, Listed, Entry, after, Show, Performs}
+use Rattle.ps_tables.specs.Pieces.{Piece, End, Number, Literal, Chars, Quote, Value, Element, Make, Row, Loaded, Deferred, Field, Pairs, fields_in, code, steps, left_by, cost, IsValue, Gives, itself, Knows, HasRoom, Values, Bottom, This, Named, Written, Quoted, Listed, Entry, Runs, Under, Paired, after, Show, Performs}
 use Rattle.ps_tables.proofs.Going.{takes_then, takes_one}
 use Rattle.ps_tables.proofs.Putting.{entries_there}
 use Rattle.ps_tables.proofs.Copies.{fields_length}
 use Rattle.ps_tables.proofs.Words.{count_is}
-use Rattle.ps_tables.proofs.Stores.{later_none, later_then, later_within, later_grown, later_made, making_later, fields_later, has_array_later, body_later, means_later, ready_later, stands_later, made_later, fields_are_later}
-use Rattle.ps_tables.proofs.Makers.{short_made, most_made, leaves, body_frames}
+use Rattle.ps_tables.proofs.Stores.{found_later, later_none, later_then, later_within, later_grown, later_made, making_later, fields_later, has_array_later, body_later, means_later, ready_later, stands_later, made_later, fields_are_later}
+use Rattle.ps_tables.proofs.Makers.{only, short_made, most_made, leaves, body_frames}
+use Rattle.ps_tables.proofs.Pairs.{ClosesPairs, closes_pairs}
 use Rattle.ps_tables.proofs.Tokens.{head_is, gives_value, Met, meets, Stays, met_step, Pushed, Acted, word_acts, word_pushes, number_pushes}
-use Rattle.ps_tables.proofs.Values.{left_length, mark_shown, show_later, knows_later, room_now, room_behind}
+use Rattle.ps_tables.proofs.Values.{only_pairs, fields_left, left_length, mark_shown, show_later, knows_later, room_now, room_behind}
+
+load_fine : Fine (Word (codes "load") Stop)
+unfolding is_white is_special is_regular
+load_fine = fine (Word (codes "load") Stop) refl
+
+load_number : operator_number (codes "load") ≡ Some 29
+unfolding operator_number
+load_number = refl
+
+cvx_fine : Fine (Word (codes "cvx") Stop)
+unfolding is_white is_special is_regular
+cvx_fine = fine (Word (codes "cvx") Stop) refl
+
+cvx_number : operator_number (codes "cvx") ≡ Some 37
+unfolding operator_number
+cvx_number = refl
+
+pairs_fine : Fine (Word (codes "<<") Stop)
+unfolding is_white is_special is_regular
+pairs_fine = fine (Word (codes "<<") Stop) refl
+
+pairs_number : operator_number (codes "<<") ≡ Some 11
+unfolding operator_number
+pairs_number = refl
 
 open_fine : Fine (Word (codes "[") Stop)
 unfolding is_white is_special is_regular
@@ -215,14 +242,14 @@ module _ (ds : List DictId) (t : StringId) (under : List Item) (items_fit : leng
   abbrev Done : Piece → Code → Values → StoreState → List PsObj → List PsObj → ℕ → Type 0
   Done p k vs s xs o at = Performs (cost p) (steps p) (after p vs) s ds (xs ++ o) o t at (render k ++ post) under
 
-  -- `[`: a mark is pushed
-  opens : (s : StoreState) (k : Code) (xs : List PsObj) (at : ℕ) → IsMaking s ds → StandsAt s t at (render (Word (codes "[") k) ++ post) → s.table.units + s.command.units + units (Word (codes "[") Stop) ≤ 8000000
-      → length xs + 110 ≤ 100000 → Pushed s ds xs t at under Mark (units (Word (codes "[") Stop)) (render k ++ post)
-  opens s k xs at is h room stack =
-      let u : ℕ = units (Word (codes "[") Stop) in
-      let a : Acted s ds xs t at under (Op 9) u (render k ++ post) =
-      word_acts s ds xs t at under (codes "[") k post (Op 9) open_fine (is.operators (codes "[") 9 open_number) is.there h room in
-      record { store = a.store; to = a.to; later = a.later; stands = a.stands; steps = a.steps ∙ push_next Mark (core a.store ds xs (TextItem t a.to ∷ under)) (omega arith) }
+  -- `[` and `<<`: a mark is pushed
+  opens : (s : StoreState) (word : List ℕ) (n : ℕ) → Fine (Word word Stop) → operator_number word ≡ Some n → ((c : PsCore) → acting (Op n) c ≡ alone (at_state c (pushing Mark c))) → (k : Code) (xs : List PsObj) (at : ℕ)
+      → IsMaking s ds → StandsAt s t at (render (Word word k) ++ post) → s.table.units + s.command.units + units (Word word Stop) ≤ 8000000 → length xs + 110 ≤ 100000
+      → Pushed s ds xs t at under Mark (units (Word word Stop)) (render k ++ post)
+  opens s word n fine number marks k xs at is h room stack =
+      let a : Acted s ds xs t at under (Op n) (units (Word word Stop)) (render k ++ post) = word_acts s ds xs t at under word k post (Op n) fine (is.operators word n number) is.there h room in
+      let c : PsCore = core a.store ds xs (TextItem t a.to ∷ under) in
+      record { store = a.store; to = a.to; later = a.later; stands = a.stands; steps = a.steps ∙ ap settled (marks c) ∙ push_next Mark c (omega arith) }
 
   -- `get`: the object of an array
   record Gets (s : StoreState) (k : Code) (x : PsObj) (xs : List PsObj) (a : ArrayId) (place at : ℕ) : Type 0 where
@@ -252,36 +279,90 @@ module _ (ds : List DictId) (t : StringId) (under : List Item) (items_fit : leng
             ∙ ap (λ (found : Option PsObj). settled (alone (at_state c (within found >>= λ y. Ok (core w.store ds (y ∷ xs) (TextItem t w.to ∷ under)))))) found;
       }
 
-  pub performs : (p : Piece) (k : Code) (vs : Values) (s : StoreState) (xs o : List PsObj) (at : ℕ) → IsMaking s ds → Knows s ds p → HasRoom (length (xs ++ o)) p → s.table.units + s.command.units + cost p ≤ 8000000
+  -- `load`: what the dictionaries have under an integer
+  record Loads (s : StoreState) (k : Code) (x : PsObj) (xs : List PsObj) (key : ℤ) (at : ℕ) : Type 0 where
+    pub store : StoreState
+    pub to : ℕ
+    pub later : Later (units (Word (codes "load") Stop)) s store
+    pub stands : StandsAt store t to (render k ++ post)
+    pub steps : step (core s ds (Int key ∷ xs) (TextItem t at ∷ under)) ≡ Next (core store ds (x ∷ xs) (TextItem t to ∷ under))
+
+  loads : (s : StoreState) (k : Code) (x : PsObj) (xs : List PsObj) (key : ℤ) (at : ℕ) → IsMaking s ds → found_in s ds (IntKey key) ≡ Some x
+      → StandsAt s t at (render (Word (codes "load") k) ++ post) → s.table.units + s.command.units + units (Word (codes "load") Stop) ≤ 8000000 → Loads s k x xs key at
+  loads s k x xs key at is found h room =
+      let u : ℕ = units (Word (codes "load") Stop) in
+      let w : Acted s ds (Int key ∷ xs) t at under (Op 29) u (render k ++ post) =
+      word_acts s ds (Int key ∷ xs) t at under (codes "load") k post (Op 29) load_fine (is.operators (codes "load") 29 load_number) is.there h room in
+      let c : PsCore = core w.store ds (Int key ∷ xs) (TextItem t w.to ∷ under) in
+      record {
+        store = w.store;
+        to = w.to;
+        later = w.later;
+        stands = w.stands;
+        steps = w.steps
+            ∙ ap (λ (found : Option PsObj). settled (alone (at_state c (under_key found >>= λ y. Ok (core w.store ds (y ∷ xs) (TextItem t w.to ∷ under))))))
+            (found_later u s w.store w.later ds (IntKey key) is.there ∙ found);
+      }
+
+  -- `cvx`: a string becomes executable
+  record Turns (s : StoreState) (k : Code) (xs : List PsObj) (text : StringId) (at : ℕ) : Type 0 where
+    pub store : StoreState
+    pub to : ℕ
+    pub later : Later (units (Word (codes "cvx") Stop)) s store
+    pub stands : StandsAt store t to (render k ++ post)
+    pub steps : step (core s ds (Str text false ∷ xs) (TextItem t at ∷ under)) ≡ Next (core store ds (Str text true ∷ xs) (TextItem t to ∷ under))
+
+  turns : (s : StoreState) (k : Code) (xs : List PsObj) (text : StringId) (at : ℕ) → IsMaking s ds → StandsAt s t at (render (Word (codes "cvx") k) ++ post)
+      → s.table.units + s.command.units + units (Word (codes "cvx") Stop) ≤ 8000000 → Turns s k xs text at
+  turns s k xs text at is h room =
+      let u : ℕ = units (Word (codes "cvx") Stop) in
+      let w : Acted s ds (Str text false ∷ xs) t at under (Op 37) u (render k ++ post) =
+      word_acts s ds (Str text false ∷ xs) t at under (codes "cvx") k post (Op 37) cvx_fine (is.operators (codes "cvx") 37 cvx_number) is.there h room in
+      record { store = w.store; to = w.to; later = w.later; stands = w.stands; steps = w.steps }
+
+  -- what is to be shown of a piece
+  abbrev Performing : Piece → Type 0
+  Performing p =
+      (k : Code) (vs : Values) (s : StoreState) (xs o : List PsObj) (at : ℕ) → IsMaking s ds → Knows s ds p → HasRoom (length (xs ++ o)) p → s.table.units + s.command.units + cost p ≤ 8000000
       → Show s xs vs → StandsAt s t at (render (code p k) ++ post) → Done p k vs s xs o at
-  performs End k vs s xs o at is knows room units_fit shows h =
+
+  end_performs : Performing End
+  end_performs k vs s xs o at is knows room units_fit shows h =
       record { store = s; operands = xs; to = at; later = later_none s; shows = shows; stands = h; takes = refl }
-  performs (Number n rest) k vs s xs o at is knows room units_fit shows h =
+
+  number_performs : (n : ℤ) (rest : Piece) → Performing rest → Performing (Number n rest)
+  number_performs n rest of_rest k vs s xs o at is knows room units_fit shows h =
       let p : Pushed s ds (xs ++ o) t at under (Int n) 0 (render (code rest k) ++ post) =
       number_pushes s ds (xs ++ o) t at under n (code rest k) post knows.0 h (omega arith) (omega (arith, room_now rest (suc (length (xs ++ o))) room)) in
       let counted : p.store.table.units + p.store.command.units ≤ s.table.units + s.command.units + 0 = p.later.counted in
       push_on ds o t under (render k ++ post) 0 (cost rest) (cost rest) (steps rest) (after rest (This (Int n) vs)) s (xs ++ o) at (Int n) (render (code rest k) ++ post) (omega arith) p
-      (performs rest k (This (Int n) vs) p.store (Int n ∷ xs) o p.to (making_later 0 s p.store p.later ds is) (knows_later 0 s p.store p.later ds is.there rest knows.1) room (omega arith)
+      (of_rest k (This (Int n) vs) p.store (Int n ∷ xs) o p.to (making_later 0 s p.store p.later ds is) (knows_later 0 s p.store p.later ds is.there rest knows.1) room (omega arith)
       (xs, refl, tt, show_later 0 s p.store p.later vs xs shows) p.stands)
-  performs (Literal name rest) k vs s xs o at is knows room units_fit shows h =
+
+  literal_performs : (name : List ℕ) (rest : Piece) → Performing rest → Performing (Literal name rest)
+  literal_performs name rest of_rest k vs s xs o at is knows room units_fit shows h =
       let u : ℕ = units (Lit name Stop) in
       let m : Met s ds (xs ++ o) t at under (Lit name (code rest k)) post = meets s ds (xs ++ o) t at under (Lit name (code rest k)) post tt knows.0 h (omega arith) in
       let sp = m.spells in
       let x : PsObj = Name sp.0 false in
       let counted : m.store.table.units + m.store.command.units ≤ s.table.units + s.command.units + u = m.later.counted in
       met_on ds o t under (render k ++ post) (Lit name (code rest k)) post (cost rest) (text_units name + cost rest) (steps rest) (after rest (Named name vs)) s (xs ++ o) at m x (omega arith) (head_is m.object x sp.1 sp.2) (omega (arith, room_now rest (suc (length (xs ++ o))) room)) (λ c. refl)
-      (performs rest k (Named name vs) m.store (x ∷ xs) o m.to (making_later u s m.store m.later ds is) (knows_later u s m.store m.later ds is.there rest knows.1) room (omega arith)
+      (of_rest k (Named name vs) m.store (x ∷ xs) o m.to (making_later u s m.store m.later ds is) (knows_later u s m.store m.later ds is.there rest knows.1) room (omega arith)
       (sp.0, xs, refl, sp.3, show_later u s m.store m.later vs xs shows) m.stands)
-  performs (Chars text rest) k vs s xs o at is knows room units_fit shows h =
+
+  chars_performs : (text : List ℕ) (rest : Piece) → Performing rest → Performing (Chars text rest)
+  chars_performs text rest of_rest k vs s xs o at is knows room units_fit shows h =
       let u : ℕ = units (Text text Stop) in
       let m : Met s ds (xs ++ o) t at under (Text text (code rest k)) post = meets s ds (xs ++ o) t at under (Text text (code rest k)) post tt knows.0 h (omega arith) in
       let sp = m.spells in
       let x : PsObj = Str sp.0 false in
       let counted : m.store.table.units + m.store.command.units ≤ s.table.units + s.command.units + u = m.later.counted in
       met_on ds o t under (render k ++ post) (Text text (code rest k)) post (cost rest) (text_units text + cost rest) (steps rest) (after rest (Written text vs)) s (xs ++ o) at m x (omega arith) (head_is m.object x sp.1 sp.2) (omega (arith, room_now rest (suc (length (xs ++ o))) room)) (λ c. refl)
-      (performs rest k (Written text vs) m.store (x ∷ xs) o m.to (making_later u s m.store m.later ds is) (knows_later u s m.store m.later ds is.there rest knows.1) room (omega arith)
+      (of_rest k (Written text vs) m.store (x ∷ xs) o m.to (making_later u s m.store m.later ds is) (knows_later u s m.store m.later ds is.there rest knows.1) room (omega arith)
       (sp.0, xs, refl, sp.3, show_later u s m.store m.later vs xs shows) m.stands)
-  performs (Quote term rest) k vs s xs o at is knows room units_fit shows h =
+
+  quote_performs : (term : Code) (rest : Piece) → Performing rest → Performing (Quote term rest)
+  quote_performs term rest of_rest k vs s xs o at is knows room units_fit shows h =
       let u : ℕ = units (Proc term Stop) in
       let m : Met s ds (xs ++ o) t at under (Proc term (code rest k)) post = meets s ds (xs ++ o) t at under (Proc term (code rest k)) post tt knows.0 h (omega arith) in
       let sp = m.spells in
@@ -289,17 +370,21 @@ module _ (ds : List DictId) (t : StringId) (under : List Item) (items_fit : leng
       let counted : m.store.table.units + m.store.command.units ≤ s.table.units + s.command.units + u = m.later.counted in
       let spells : Spells m.store (elements_of m.store sp.0) term = subst (λ (l : List PsObj). Spells m.store l term) (sym sp.4.items) sp.5 in
       met_on ds o t under (render k ++ post) (Proc term (code rest k)) post (cost rest) (u + cost rest) (steps rest) (after rest (Quoted term vs)) s (xs ++ o) at m x (omega arith) (head_is m.object x sp.2 sp.3) (omega (arith, room_now rest (suc (length (xs ++ o))) room)) (λ c. refl)
-      (performs rest k (Quoted term vs) m.store (x ∷ xs) o m.to (making_later u s m.store m.later ds is) (knows_later u s m.store m.later ds is.there rest knows.1) room (omega arith)
+      (of_rest k (Quoted term vs) m.store (x ∷ xs) o m.to (making_later u s m.store m.later ds is) (knows_later u s m.store m.later ds is.there rest knows.1) room (omega arith)
       (sp.0, xs, refl, sp.4.has, spells, show_later u s m.store m.later vs xs shows) m.stands)
-  performs (Value word x rest) k vs s xs o at is knows room units_fit shows h =
+
+  value_performs : (word : List ℕ) (x : PsObj) (rest : Piece) → Performing rest → Performing (Value word x rest)
+  value_performs word x rest of_rest k vs s xs o at is knows room units_fit shows h =
       let u : ℕ = units (Word word Stop) in
       let p : Pushed s ds (xs ++ o) t at under x u (render (code rest k) ++ post) =
       word_pushes s ds (xs ++ o) t at under word (code rest k) post knows.1 x knows.0 knows.2 knows.3 is.there h (omega arith) (omega (arith, room_now rest (suc (length (xs ++ o))) room)) in
       let counted : p.store.table.units + p.store.command.units ≤ s.table.units + s.command.units + u = p.later.counted in
       push_on ds o t under (render k ++ post) u (cost rest) (text_units word + cost rest) (steps rest) (after rest (This x vs)) s (xs ++ o) at x (render (code rest k) ++ post) (omega arith) p
-      (performs rest k (This x vs) p.store (x ∷ xs) o p.to (making_later u s p.store p.later ds is) (knows_later u s p.store p.later ds is.there rest knows.4) room (omega arith)
+      (of_rest k (This x vs) p.store (x ∷ xs) o p.to (making_later u s p.store p.later ds is) (knows_later u s p.store p.later ds is.there rest knows.4) room (omega arith)
       (xs, refl, gives_value knows.1 x knows.3, show_later u s p.store p.later vs xs shows) p.stands)
-  performs (Element word place x rest) k vs s xs o at is knows room units_fit shows h =
+
+  element_performs : (word : List ℕ) (place : ℕ) (x : PsObj) (rest : Piece) → Performing rest → Performing (Element word place x rest)
+  element_performs word place x rest of_rest k vs s xs o at is knows room units_fit shows h =
       let u : ℕ = units (Word word Stop) in
       let g : ℕ = units (Word (codes "get") Stop) in
       let fits : length (xs ++ o) + 1 + 110 ≤ 100000 = omega (arith, room_now rest (suc (length (xs ++ o))) room) in
@@ -327,12 +412,14 @@ module _ (ds : List DictId) (t : StringId) (under : List Item) (items_fit : leng
       let c₃ : PsCore = core s₃ ds (x ∷ (xs ++ o)) (TextItem t w.to ∷ under) in
       steps_on ds o t under (render k ++ post) (u + 0 + g) (cost rest) (cost (Element word place x rest)) 3 (steps rest) (after rest (This x vs)) s s₃ (xs ++ o) (x ∷ (xs ++ o)) at w.to (omega arith) all
       (takes_then 1 2 c₀ c₁ c₃ (takes_one c₀ c₁ p.steps) (takes_then 1 1 c₁ c₂ c₃ (takes_one c₁ c₂ q.steps) (takes_one c₂ c₃ w.steps)))
-      (performs rest k (This x vs) s₃ (x ∷ xs) o w.to (making_later (u + 0 + g) s s₃ all ds is) (knows_later (u + 0 + g) s s₃ all ds is.there rest knows.8) room (omega arith)
+      (of_rest k (This x vs) s₃ (x ∷ xs) o w.to (making_later (u + 0 + g) s s₃ all ds is) (knows_later (u + 0 + g) s s₃ all ds is.there rest knows.8) room (omega arith)
       (xs, refl, knows.7, show_later (u + 0 + g) s s₃ all vs xs shows) w.stands)
-  performs (Make word m parts rest) k vs s xs o at is knows room units_fit shows h =
+
+  make_performs : (word : List ℕ) (m : Maker) (parts : Piece) (rest : Piece) → Performing parts → Performing rest → Performing (Make word m parts rest)
+  make_performs word m parts rest of_parts of_rest k vs s xs o at is knows room units_fit shows h =
       let u : ℕ = units (Word word Stop) + (1 + most m) in
       let a : Performs (cost parts) (steps parts) (after parts Bottom) s ds (xs ++ o) (xs ++ o) t at (render (Word word (code rest k)) ++ post) under =
-      performs parts (Word word (code rest k)) Bottom s [] (xs ++ o) at is knows.5 room.0 (omega arith) refl h in
+      of_parts (Word word (code rest k)) Bottom s [] (xs ++ o) at is knows.5 room.0 (omega arith) refl h in
       let s₁ : StoreState = a.store in
       let counted : s₁.table.units + s₁.command.units ≤ s.table.units + s.command.units + cost parts = a.later.counted in
       let is₁ : IsMaking s₁ ds = making_later (cost parts) s s₁ a.later ds is in
@@ -348,23 +435,25 @@ module _ (ds : List DictId) (t : StringId) (under : List Item) (items_fit : leng
       let counted₂ : s₂.table.units + s₂.command.units ≤ s₁.table.units + s₁.command.units + u = w.later.counted in
       let all : Later (cost parts + u) s s₂ = later_then (cost parts) u s s₁ s₂ a.later w.later in
       let p : Performs (cost rest) (steps rest) (after rest (Entry m (after parts Bottom) vs)) s₂ ds (Dict w.dict ∷ (xs ++ o)) o t w.to (render k ++ post) under =
-      performs rest k (Entry m (after parts Bottom) vs) s₂ (Dict w.dict ∷ xs) o w.to (making_later (cost parts + u) s s₂ all ds is) (knows_later (cost parts + u) s s₂ all ds is.there rest knows.6) room.1 (omega arith)
+      of_rest k (Entry m (after parts Bottom) vs) s₂ (Dict w.dict ∷ xs) o w.to (making_later (cost parts + u) s s₂ all ds is) (knows_later (cost parts + u) s s₂ all ds is.there rest knows.6) room.1 (omega arith)
       (w.dict, zs, xs, w.fields, refl, w.has, w.are, show_later u s₁ s₂ w.later (after parts Bottom) zs a.shows, show_later (cost parts + u) s s₂ all vs xs shows) w.stands in
       steps_on ds o t under (render k ++ post) (cost parts) (u + cost rest) (cost (Make word m parts rest)) (steps parts) (suc (further (making_steps m) (steps rest))) (after rest (Entry m (after parts Bottom) vs)) s s₁
       (xs ++ o) (zs ++ (xs ++ o)) at a.to (omega arith) a.later a.takes
       (steps_on ds o t under (render k ++ post) u (cost rest) (u + cost rest) (suc (making_steps m)) (steps rest) (after rest (Entry m (after parts Bottom) vs)) s₁ s₂
       (zs ++ (xs ++ o)) (Dict w.dict ∷ (xs ++ o)) a.to w.to (omega arith) w.later w.takes p)
-  performs (Row items rest) k vs s xs o at is knows room units_fit shows h =
+
+  row_performs : (items : Piece) (rest : Piece) → Performing items → Performing rest → Performing (Row items rest)
+  row_performs items rest of_items of_rest k vs s xs o at is knows room units_fit shows h =
       let u : ℕ = units (Word (codes "[") Stop) in
       let v : ℕ = units (Word (codes "]") Stop) in
       let last : Code = Word (codes "]") (code rest k) in
       let begun : Pushed s ds (xs ++ o) t at under Mark u (render (code items last) ++ post) =
-      opens s (code items last) (xs ++ o) at is h (omega arith) (omega (arith, room_now rest (suc (length (xs ++ o))) room.1)) in
+      opens s (codes "[") 9 open_fine open_number (λ c. refl) (code items last) (xs ++ o) at is h (omega arith) (omega (arith, room_now rest (suc (length (xs ++ o))) room.1)) in
       let s₁ : StoreState = begun.store in
       let counted : s₁.table.units + s₁.command.units ≤ s.table.units + s.command.units + u = begun.later.counted in
       let is₁ : IsMaking s₁ ds = making_later u s s₁ begun.later ds is in
       let a : Performs (cost items) (steps items) (after items Bottom) s₁ ds (Mark ∷ (xs ++ o)) (Mark ∷ (xs ++ o)) t begun.to (render last ++ post) under =
-      performs items last Bottom s₁ [] (Mark ∷ (xs ++ o)) begun.to is₁ (knows_later u s s₁ begun.later ds is.there items knows.1) room.0 (omega arith) refl begun.stands in
+      of_items last Bottom s₁ [] (Mark ∷ (xs ++ o)) begun.to is₁ (knows_later u s s₁ begun.later ds is.there items knows.1) room.0 (omega arith) refl begun.stands in
       let s₂ : StoreState = a.store in
       let counted₂ : s₂.table.units + s₂.command.units ≤ s₁.table.units + s₁.command.units + cost items = a.later.counted in
       let is₂ : IsMaking s₂ ds = making_later (cost items) s₁ s₂ a.later ds is₁ in
@@ -378,7 +467,7 @@ module _ (ds : List DictId) (t : StringId) (under : List Item) (items_fit : leng
       let all : Later (u + cost items + (v + (1 + length zs))) s s₃ = later_then (u + cost items) (v + (1 + length zs)) s s₂ s₃ one w.later in
       let n : ℕ = u + cost items + (v + (1 + length zs)) in
       let p : Performs (cost rest) (steps rest) (after rest (Listed (after items Bottom) vs)) s₃ ds (Array w.array false ∷ (xs ++ o)) o t w.to (render k ++ post) under =
-      performs rest k (Listed (after items Bottom) vs) s₃ (Array w.array false ∷ xs) o w.to (making_later n s s₃ all ds is) (knows_later n s s₃ all ds is.there rest knows.2) room.1 (omega arith)
+      of_rest k (Listed (after items Bottom) vs) s₃ (Array w.array false ∷ xs) o w.to (making_later n s s₃ all ds is) (knows_later n s s₃ all ds is.there rest knows.2) room.1 (omega arith)
       (w.array, zs, xs, refl, w.is_array, show_later (v + (1 + length zs)) s₂ s₃ w.later (after items Bottom) zs a.shows, show_later n s s₃ all vs xs shows) w.stands in
       let c₀ : PsCore = core s ds (xs ++ o) (TextItem t at ∷ under) in
       let c₁ : PsCore = core s₁ ds (Mark ∷ (xs ++ o)) (TextItem t begun.to ∷ under) in
@@ -390,3 +479,135 @@ module _ (ds : List DictId) (t : StringId) (under : List Item) (items_fit : leng
       (Mark ∷ (xs ++ o)) (zs ++ Mark ∷ (xs ++ o)) begun.to a.to (omega arith) a.later a.takes
       (steps_on ds o t under (render k ++ post) (v + (1 + length zs)) (cost rest) (v + (1 + length zs) + cost rest) 1 (steps rest) (after rest (Listed (after items Bottom) vs)) s₂ s₃
       (zs ++ Mark ∷ (xs ++ o)) (Array w.array false ∷ (xs ++ o)) a.to w.to (omega arith) w.later (takes_one c₂ c₃ w.steps) p))
+
+  loaded_performs : (key : ℤ) (x : PsObj) (rest : Piece) → Performing rest → Performing (Loaded key x rest)
+  loaded_performs key x rest of_rest k vs s xs o at is knows room units_fit shows h =
+      let u : ℕ = units (Word (codes "load") Stop) in
+      let fits : length (xs ++ o) + 1 + 110 ≤ 100000 = omega (arith, room_now rest (suc (length (xs ++ o))) room) in
+      let last : Code = Word (codes "load") (code rest k) in
+      let p : Pushed s ds (xs ++ o) t at under (Int key) 0 (render last ++ post) = number_pushes s ds (xs ++ o) t at under key last post knows.0 h (omega arith) (omega arith) in
+      let s₁ : StoreState = p.store in
+      let counted : s₁.table.units + s₁.command.units ≤ s.table.units + s.command.units + 0 = p.later.counted in
+      let w : Loads s₁ (code rest k) x (xs ++ o) key p.to =
+      loads s₁ (code rest k) x (xs ++ o) key p.to (making_later 0 s s₁ p.later ds is) (found_later 0 s s₁ p.later ds (IntKey key) is.there ∙ knows.1) p.stands (omega arith) in
+      let s₂ : StoreState = w.store in
+      let counted₂ : s₂.table.units + s₂.command.units ≤ s₁.table.units + s₁.command.units + u = w.later.counted in
+      let all : Later (0 + u) s s₂ = later_then 0 u s s₁ s₂ p.later w.later in
+      let c₀ : PsCore = core s ds (xs ++ o) (TextItem t at ∷ under) in
+      let c₁ : PsCore = core s₁ ds (Int key ∷ (xs ++ o)) (TextItem t p.to ∷ under) in
+      let c₂ : PsCore = core s₂ ds (x ∷ (xs ++ o)) (TextItem t w.to ∷ under) in
+      steps_on ds o t under (render k ++ post) (0 + u) (cost rest) (cost (Loaded key x rest)) 2 (steps rest) (after rest (This x vs)) s s₂ (xs ++ o) (x ∷ (xs ++ o)) at w.to (omega arith) all
+      (takes_then 1 1 c₀ c₁ c₂ (takes_one c₀ c₁ p.steps) (takes_one c₁ c₂ w.steps))
+      (of_rest k (This x vs) s₂ (x ∷ xs) o w.to (making_later (0 + u) s s₂ all ds is) (knows_later (0 + u) s s₂ all ds is.there rest knows.3) room (omega arith)
+      (xs, refl, knows.2, show_later (0 + u) s s₂ all vs xs shows) w.stands)
+
+  deferred_performs : (text : List ℕ) (rest : Piece) → Performing rest → Performing (Deferred text rest)
+  deferred_performs text rest of_rest k vs s xs o at is knows room units_fit shows h =
+      let u : ℕ = units (Text text Stop) in
+      let v : ℕ = units (Word (codes "cvx") Stop) in
+      let last : Code = Word (codes "cvx") (code rest k) in
+      let m : Met s ds (xs ++ o) t at under (Text text last) post = meets s ds (xs ++ o) t at under (Text text last) post tt knows.0 h (omega arith) in
+      let sp = m.spells in
+      let x : PsObj = Str sp.0 false in
+      let met : step (core s ds (xs ++ o) (TextItem t at ∷ under)) ≡ Next (core m.store ds (x ∷ (xs ++ o)) (TextItem t m.to ∷ under)) =
+      met_step s ds (xs ++ o) t at under (Text text last) post m x (head_is m.object x sp.1 sp.2) (omega (arith, room_now rest (suc (length (xs ++ o))) room)) (λ c. refl) in
+      let s₁ : StoreState = m.store in
+      let counted : s₁.table.units + s₁.command.units ≤ s.table.units + s.command.units + u = m.later.counted in
+      let w : Turns s₁ (code rest k) (xs ++ o) sp.0 m.to = turns s₁ (code rest k) (xs ++ o) sp.0 m.to (making_later u s s₁ m.later ds is) m.stands (omega arith) in
+      let s₂ : StoreState = w.store in
+      let counted₂ : s₂.table.units + s₂.command.units ≤ s₁.table.units + s₁.command.units + v = w.later.counted in
+      let all : Later (u + v) s s₂ = later_then u v s s₁ s₂ m.later w.later in
+      let c₀ : PsCore = core s ds (xs ++ o) (TextItem t at ∷ under) in
+      let c₁ : PsCore = core s₁ ds (x ∷ (xs ++ o)) (TextItem t m.to ∷ under) in
+      let c₂ : PsCore = core s₂ ds (Str sp.0 true ∷ (xs ++ o)) (TextItem t w.to ∷ under) in
+      steps_on ds o t under (render k ++ post) (u + v) (cost rest) (cost (Deferred text rest)) 2 (steps rest) (after rest (Runs text vs)) s s₂ (xs ++ o) (Str sp.0 true ∷ (xs ++ o)) at w.to (omega arith) all
+      (takes_then 1 1 c₀ c₁ c₂ (takes_one c₀ c₁ met) (takes_one c₁ c₂ w.steps))
+      (of_rest k (Runs text vs) s₂ (Str sp.0 true ∷ xs) o w.to (making_later (u + v) s s₂ all ds is) (knows_later (u + v) s s₂ all ds is.there rest knows.1) room (omega arith)
+      (sp.0, xs, refl, w.later.strings sp.0 text sp.3, show_later (u + v) s s₂ all vs xs shows) w.stands)
+
+  field_performs : (name : List ℕ) (value : Piece) (rest : Piece) → Performing value → Performing rest → Performing (Field name value rest)
+  field_performs name value rest of_value of_rest k vs s xs o at is knows room units_fit shows h =
+      let u : ℕ = units (Lit name Stop) in
+      let next : Code = code value (code rest k) in
+      let m : Met s ds (xs ++ o) t at under (Lit name next) post = meets s ds (xs ++ o) t at under (Lit name next) post tt knows.0 h (omega arith) in
+      let sp = m.spells in
+      let x : PsObj = Name sp.0 false in
+      let met : step (core s ds (xs ++ o) (TextItem t at ∷ under)) ≡ Next (core m.store ds (x ∷ (xs ++ o)) (TextItem t m.to ∷ under)) =
+      met_step s ds (xs ++ o) t at under (Lit name next) post m x (head_is m.object x sp.1 sp.2) (omega (arith, room_now value (suc (length (xs ++ o))) room.0)) (λ c. refl) in
+      let s₁ : StoreState = m.store in
+      let counted : s₁.table.units + s₁.command.units ≤ s.table.units + s.command.units + u = m.later.counted in
+      let is₁ : IsMaking s₁ ds = making_later u s s₁ m.later ds is in
+      let a : Performs (cost value) (steps value) (after value Bottom) s₁ ds (x ∷ (xs ++ o)) (x ∷ (xs ++ o)) t m.to (render (code rest k) ++ post) under =
+      of_value (code rest k) Bottom s₁ [] (x ∷ (xs ++ o)) m.to is₁ (knows_later u s s₁ m.later ds is.there value knows.2) room.0 (omega arith) refl m.stands in
+      let s₂ : StoreState = a.store in
+      let counted₂ : s₂.table.units + s₂.command.units ≤ s₁.table.units + s₁.command.units + cost value = a.later.counted in
+      let one : (v : PsObj) × (a.operands ≡ v ∷ []) = only a.operands (left_length s₂ value a.operands a.shows ∙ knows.1) in
+      let v : PsObj = one.0 in
+      let all : Later (u + cost value) s s₂ = later_then u (cost value) s s₁ s₂ m.later a.later in
+      let shown : Show s₂ (v ∷ []) (after value Bottom) = subst (λ (l : List PsObj). Show s₂ l (after value Bottom)) one.1 a.shows in
+      let named : IsString s₂ sp.0 name = a.later.strings sp.0 name sp.3 in
+      let c₀ : PsCore = core s ds (xs ++ o) (TextItem t at ∷ under) in
+      let c₁ : PsCore = core s₁ ds (x ∷ (xs ++ o)) (TextItem t m.to ∷ under) in
+      let c₂ : PsCore = core s₂ ds (v ∷ x ∷ (xs ++ o)) (TextItem t a.to ∷ under) in
+      let takes : Takes (steps value) c₁ c₂ = subst (λ (l : List PsObj). Takes (steps value) c₁ (core s₂ ds (l ++ x ∷ (xs ++ o)) (TextItem t a.to ∷ under))) one.1 a.takes in
+      steps_on ds o t under (render k ++ post) (u + cost value) (cost rest) (cost (Field name value rest)) (suc (steps value)) (steps rest) (after rest (Under name (after value Bottom) vs)) s s₂
+      (xs ++ o) (v ∷ x ∷ (xs ++ o)) at a.to (omega arith) all (takes_then 1 (steps value) c₀ c₁ c₂ (takes_one c₀ c₁ met) takes)
+      (of_rest k (Under name (after value Bottom) vs) s₂ (v ∷ x ∷ xs) o a.to (making_later (u + cost value) s s₂ all ds is) (knows_later (u + cost value) s s₂ all ds is.there rest knows.3) room.1 (omega arith)
+      (v, sp.0, xs, refl, named, knows.0.1, shown, show_later (u + cost value) s s₂ all vs xs shows) a.stands)
+
+  pairs_performs : (fields : Piece) (rest : Piece) → Performing fields → Performing rest → Performing (Pairs fields rest)
+  pairs_performs fields rest of_fields of_rest k vs s xs o at is knows room units_fit shows h =
+      let u : ℕ = units (Word (codes "<<") Stop) in
+      let v : ℕ = units (Word (codes ">>") Stop) in
+      let n : ℕ = fields_in fields in
+      let last : Code = Word (codes ">>") (code rest k) in
+      let begun : Pushed s ds (xs ++ o) t at under Mark u (render (code fields last) ++ post) =
+      opens s (codes "<<") 11 pairs_fine pairs_number (λ c. refl) (code fields last) (xs ++ o) at is h (omega arith) (omega (arith, room_now rest (suc (length (xs ++ o))) room.1)) in
+      let s₁ : StoreState = begun.store in
+      let counted : s₁.table.units + s₁.command.units ≤ s.table.units + s.command.units + u = begun.later.counted in
+      let is₁ : IsMaking s₁ ds = making_later u s s₁ begun.later ds is in
+      let items : Values = after fields Bottom in
+      let a : Performs (cost fields) (steps fields) items s₁ ds (Mark ∷ (xs ++ o)) (Mark ∷ (xs ++ o)) t begun.to (render last ++ post) under =
+      of_fields last Bottom s₁ [] (Mark ∷ (xs ++ o)) begun.to is₁ (knows_later u s s₁ begun.later ds is.there fields knows.2) room.0 (omega arith) refl begun.stands in
+      let s₂ : StoreState = a.store in
+      let counted₂ : s₂.table.units + s₂.command.units ≤ s₁.table.units + s₁.command.units + cost fields = a.later.counted in
+      let is₂ : IsMaking s₂ ds = making_later (cost fields) s₁ s₂ a.later ds is₁ in
+      let zs : List PsObj = a.operands in
+      let long : length zs ≡ left_by fields = left_length s₂ fields zs a.shows in
+      let double : left_by fields ≡ 2 * n = fields_left fields knows.0 in
+      let w : ClosesPairs s₂ ds is₂ t under items zs (xs ++ o) a.to (render (code rest k) ++ post) (v + (1 + n)) =
+      closes_pairs s₂ ds is₂ t under items (code rest k) post zs (xs ++ o) a.to n (only_pairs fields knows.0) a.shows (omega arith) (omega arith) (omega arith) a.stands
+      (λ s' later. (making_later v s₂ s' later ds is₂, show_later v s₂ s' later items zs a.shows)) in
+      let s₃ : StoreState = w.store in
+      let counted₃ : s₃.table.units + s₃.command.units ≤ s₂.table.units + s₂.command.units + (v + (1 + n)) = w.later.counted in
+      let one : Later (u + cost fields) s s₂ = later_then u (cost fields) s s₁ s₂ begun.later a.later in
+      let all : Later (u + cost fields + (v + (1 + n))) s s₃ = later_then (u + cost fields) (v + (1 + n)) s s₂ s₃ one w.later in
+      let j : ℕ = u + cost fields + (v + (1 + n)) in
+      let p : Performs (cost rest) (steps rest) (after rest (Paired items vs)) s₃ ds (Dict w.dict ∷ (xs ++ o)) o t w.to (render k ++ post) under =
+      of_rest k (Paired items vs) s₃ (Dict w.dict ∷ xs) o w.to (making_later j s s₃ all ds is) (knows_later j s s₃ all ds is.there rest knows.3) room.1 (omega arith)
+      (w.dict, zs, xs, refl, w.has, show_later (v + (1 + n)) s₂ s₃ w.later items zs a.shows, show_later j s s₃ all vs xs shows) w.stands in
+      let c₀ : PsCore = core s ds (xs ++ o) (TextItem t at ∷ under) in
+      let c₁ : PsCore = core s₁ ds (Mark ∷ (xs ++ o)) (TextItem t begun.to ∷ under) in
+      let c₂ : PsCore = core s₂ ds (zs ++ Mark ∷ (xs ++ o)) (TextItem t a.to ∷ under) in
+      let c₃ : PsCore = core s₃ ds (Dict w.dict ∷ (xs ++ o)) (TextItem t w.to ∷ under) in
+      steps_on ds o t under (render k ++ post) u (cost fields + (v + (1 + n) + cost rest)) (cost (Pairs fields rest)) 1 (further (steps fields) (suc (steps rest))) (after rest (Paired items vs)) s s₁
+      (xs ++ o) (Mark ∷ (xs ++ o)) at begun.to (omega arith) begun.later (takes_one c₀ c₁ begun.steps)
+      (steps_on ds o t under (render k ++ post) (cost fields) (v + (1 + n) + cost rest) (cost fields + (v + (1 + n) + cost rest)) (steps fields) (suc (steps rest)) (after rest (Paired items vs)) s₁ s₂
+      (Mark ∷ (xs ++ o)) (zs ++ Mark ∷ (xs ++ o)) begun.to a.to (omega arith) a.later a.takes
+      (steps_on ds o t under (render k ++ post) (v + (1 + n)) (cost rest) (v + (1 + n) + cost rest) 1 (steps rest) (after rest (Paired items vs)) s₂ s₃
+      (zs ++ Mark ∷ (xs ++ o)) (Dict w.dict ∷ (xs ++ o)) a.to w.to (omega arith) w.later (takes_one c₂ c₃ w.steps) p))
+
+  pub performs : (p : Piece) → Performing p
+  performs End = end_performs
+  performs (Number n rest) = number_performs n rest (performs rest)
+  performs (Literal name rest) = literal_performs name rest (performs rest)
+  performs (Chars text rest) = chars_performs text rest (performs rest)
+  performs (Quote term rest) = quote_performs term rest (performs rest)
+  performs (Value word x rest) = value_performs word x rest (performs rest)
+  performs (Element word place x rest) = element_performs word place x rest (performs rest)
+  performs (Make word m parts rest) = make_performs word m parts rest (performs parts) (performs rest)
+  performs (Row items rest) = row_performs items rest (performs items) (performs rest)
+  performs (Loaded key x rest) = loaded_performs key x rest (performs rest)
+  performs (Deferred text rest) = deferred_performs text rest (performs rest)
+  performs (Field name value rest) = field_performs name value rest (performs value) (performs rest)
+  performs (Pairs fields rest) = pairs_performs fields rest (performs fields) (performs rest)

@@ -22,7 +22,7 @@ use Rattle.ps_tables.specs.Dictionaries.{Fields, updated, AreFields, none, field
 abbrev pub pair_of : StringId → PsObj → Pair
 pair_of t v = record { key = Name t false; value = v }
 
-abbrev put_if : Bool → List (Key × Pair) → List ℕ → StringId → PsObj → List (Key × Pair)
+abbrev pub put_if : Bool → List (Key × Pair) → List ℕ → StringId → PsObj → List (Key × Pair)
 put_if b es name t v = if b then replaced es (NameKey name) v else es ++ (NameKey name, pair_of t v) ∷ []
 
 -- the pairs once a value is put

@@ -117,7 +117,7 @@ module _ (u : ℕ) (s s' : StoreState) (later : Later u s s') where
   all_there [] h = tt
   all_there (d ∷ ds) h = ((later.dicts d h.0).0, all_there ds h.1)
 
-  found_later : (ds : List DictId) (key : Key) → AreThere s ds → found_in s' ds key ≡ found_in s ds key
+  pub found_later : (ds : List DictId) (key : Key) → AreThere s ds → found_in s' ds key ≡ found_in s ds key
   found_later [] key h = refl
   found_later (d ∷ ds) key h =
       ap (λ (xs : List (Key × Pair)). or_else (value_at xs key) (found_in s' ds key)) (later.dicts d h.0).1

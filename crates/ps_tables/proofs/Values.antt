@@ -1,16 +1,17 @@
 -- What is known of operands.
-use Rattle.std.proofs.Common.{◌≡◌, ℕ, suc, ◌+◌, ◌≤◌, Option, Some, List, [], ◌∷◌, ◌++◌, length, refl, sym, ap, ◌∙◌, subst, arith}
+use Rattle.std.proofs.Common.{◌≡◌, ℕ, suc, ◌+◌, ◌*◌, ◌≤◌, false, Option, Some, List, [], ◌∷◌, ◌++◌, length, refl, sym, ap, ◌∙◌, subst, arith}
 use Rattle.ps_store.specs.declared.object.PsObj.{PsObj}
 use Rattle.ps_store.specs.declared.object.PsObj.TheVariants.{Int, Bool as Truth, Name, Str, Array, Dict, Op, Mark, Null}
 use Rattle.ps_store.specs.declared.object.DictId.{DictId}
+use Rattle.ps_store.specs.declared.key.Key.TheVariants.{Int as IntKey}
 use Rattle.ps_store.specs.StoreState.{StoreState}
 use Rattle.ps_store.specs.Store.{elements_of}
 use Rattle.ps_step.specs.Marks.{mark_from}
 use Rattle.ps_tables.specs.Later.{Later}
 use Rattle.ps_tables.specs.Making.{AreThere}
 use Rattle.ps_tables.specs.Makers.{body}
-use Rattle.ps_tables.specs.Pieces.{Piece, End, Number, Literal, Chars, Quote, Value, Element, Make, Row, left_by, IsValue, Knows, HasRoom, Values, Bottom, This, Named, Written, Quoted, Listed, Entry, after, Show}
-use Rattle.ps_tables.proofs.Stores.{named_later, fields_later, has_array_later, body_later, means_later, ready_later, made_later}
+use Rattle.ps_tables.specs.Pieces.{Piece, End, Number, Literal, Chars, Quote, Value, Element, Make, Row, Loaded, Deferred, Field, Pairs, left_by, FieldsAlone, fields_in, IsValue, Knows, HasRoom, Values, Bottom, This, Named, Written, Quoted, Listed, Entry, Runs, Under, Paired, after, OnlyPairs, pairs, Show}
+use Rattle.ps_tables.proofs.Stores.{found_later, named_later, fields_later, has_array_later, body_later, means_later, ready_later, made_later}
 
 -- ---- how many there are
 
@@ -22,6 +23,9 @@ count (Written text below) = suc (count below)
 count (Quoted body below) = suc (count below)
 count (Listed items below) = suc (count below)
 count (Entry m parts below) = suc (count below)
+count (Runs text below) = suc (count below)
+count (Under name value below) = suc (suc (count below))
+count (Paired items below) = suc (count below)
 
 count_after : (p : Piece) (vs : Values) → count (after p vs) ≡ left_by p + count vs
 count_after End vs = omega arith
@@ -33,6 +37,10 @@ count_after (Value word x rest) vs = let e = count_after rest (This x vs) in ome
 count_after (Element word place x rest) vs = let e = count_after rest (This x vs) in omega arith
 count_after (Make word m parts rest) vs = let e = count_after rest (Entry m (after parts Bottom) vs) in omega arith
 count_after (Row items rest) vs = let e = count_after rest (Listed (after items Bottom) vs) in omega arith
+count_after (Loaded key x rest) vs = let e = count_after rest (This x vs) in omega arith
+count_after (Deferred text rest) vs = let e = count_after rest (Runs text vs) in omega arith
+count_after (Field name value rest) vs = let e = count_after rest (Under name (after value Bottom) vs) in omega arith
+count_after (Pairs fields rest) vs = let e = count_after rest (Paired (after fields Bottom) vs) in omega arith
 
 count_shown : (s : StoreState) (vs : Values) (xs : List PsObj) → Show s xs vs → length xs ≡ count vs
 count_shown s Bottom xs h = ap length h
@@ -42,6 +50,9 @@ count_shown s (Written text below) xs h = ap length h.2 ∙ ap suc (count_shown 
 count_shown s (Quoted body below) xs h = ap length h.2 ∙ ap suc (count_shown s below h.1 h.5)
 count_shown s (Listed items below) xs h = ap length h.3 ∙ ap suc (count_shown s below h.2 h.6)
 count_shown s (Entry m parts below) xs h = ap length h.4 ∙ ap suc (count_shown s below h.2 h.8)
+count_shown s (Runs text below) xs h = ap length h.2 ∙ ap suc (count_shown s below h.1 h.4)
+count_shown s (Under name value below) xs h = ap length h.3 ∙ ap (λ n. suc (suc n)) (count_shown s below h.2 h.7)
+count_shown s (Paired items below) xs h = ap length h.3 ∙ ap suc (count_shown s below h.2 h.6)
 
 -- a piece leaves so many
 pub left_length : (s : StoreState) (p : Piece) (xs : List PsObj) → Show s xs (after p Bottom) → length xs ≡ left_by p
@@ -80,6 +91,13 @@ mark_shown s (Listed items below) xs zs n h =
     subst (λ (l : List PsObj). MarkAt zs l n) (sym h.3) (mark_shown s below h.2 zs (n + 1) h.6 ∙ ap (λ k. mark_from k zs) (omega arith))
 mark_shown s (Entry m parts below) xs zs n h =
     subst (λ (l : List PsObj). MarkAt zs l n) (sym h.4) (mark_shown s below h.2 zs (n + 1) h.8 ∙ ap (λ k. mark_from k zs) (omega arith))
+mark_shown s (Runs text below) xs zs n h =
+    subst (λ (l : List PsObj). MarkAt zs l n) (sym h.2) (mark_shown s below h.1 zs (n + 1) h.4 ∙ ap (λ k. mark_from k zs) (omega arith))
+mark_shown s (Under name value below) xs zs n h =
+    subst (λ (l : List PsObj). MarkAt zs l n) (sym h.3)
+    (mark_shown s value (h.0 ∷ []) (Name h.1 false ∷ (h.2 ++ zs)) n h.6 ∙ mark_shown s below h.2 zs (n + 1 + 1) h.7 ∙ ap (λ k. mark_from k zs) (omega arith))
+mark_shown s (Paired items below) xs zs n h =
+    subst (λ (l : List PsObj). MarkAt zs l n) (sym h.3) (mark_shown s below h.2 zs (n + 1) h.6 ∙ ap (λ k. mark_from k zs) (omega arith))
 
 -- ---- in a later store
 
@@ -93,6 +111,9 @@ module _ (u : ℕ) (s s' : StoreState) (later : Later u s s') where
   show_later (Listed items below) xs h = (h.0, h.1, h.2, h.3, later.arrays h.0 _ h.4, show_later items h.1 h.5, show_later below h.2 h.6)
   show_later (Entry m parts below) xs h =
       (h.0, h.1, h.2, h.3, h.4, fields_later u s s' later h.0 h.3 h.5, made_later u s s' later m h.1 h.3 h.6, show_later parts h.1 h.7, show_later below h.2 h.8)
+  show_later (Runs text below) xs h = (h.0, h.1, h.2, later.strings h.0 text h.3, show_later below h.1 h.4)
+  show_later (Under name value below) xs h = (h.0, h.1, h.2, h.3, later.strings h.1 name h.4, h.5, show_later value (h.0 ∷ []) h.6, show_later below h.2 h.7)
+  show_later (Paired items below) xs h = (h.0, h.1, h.2, h.3, fields_later u s s' later h.0 (pairs items h.1) h.4, show_later items h.1 h.5, show_later below h.2 h.6)
 
   pub knows_later : (ds : List DictId) → AreThere s ds → (p : Piece) → Knows s ds p → Knows s' ds p
   knows_later ds there End h = h
@@ -105,6 +126,10 @@ module _ (u : ℕ) (s s' : StoreState) (later : Later u s s') where
   knows_later ds there (Make word m parts rest) h =
       (h.0, means_later u s s' later ds word (body m) there h.1, ready_later u s s' later ds there m h.2, h.3, h.4, knows_later ds there parts h.5, knows_later ds there rest h.6)
   knows_later ds there (Row items rest) h = (h.0, knows_later ds there items h.1, knows_later ds there rest h.2)
+  knows_later ds there (Loaded key x rest) h = (h.0, found_later u s s' later ds (IntKey key) there ∙ h.1, h.2, knows_later ds there rest h.3)
+  knows_later ds there (Deferred text rest) h = (h.0, knows_later ds there rest h.1)
+  knows_later ds there (Field name value rest) h = (h.0, h.1, knows_later ds there value h.2, knows_later ds there rest h.3)
+  knows_later ds there (Pairs fields rest) h = (h.0, h.1, knows_later ds there fields h.2, knows_later ds there rest h.3)
 
 -- ---- room
 
@@ -118,6 +143,10 @@ room_now (Value word x rest) n h = let e = room_now rest (suc n) h in omega arit
 room_now (Element word place x rest) n h = let e = room_now rest (suc n) h in omega arith
 room_now (Make word m parts rest) n h = let e = room_now rest (suc n) h.1 in omega arith
 room_now (Row items rest) n h = let e = room_now rest (suc n) h.1 in omega arith
+room_now (Loaded key x rest) n h = let e = room_now rest (suc n) h in omega arith
+room_now (Deferred text rest) n h = let e = room_now rest (suc n) h in omega arith
+room_now (Field name value rest) n h = let e = room_now rest (suc (suc n)) h.1 in omega arith
+room_now (Pairs fields rest) n h = let e = room_now rest (suc n) h.1 in omega arith
 
 -- what a piece leaves has room
 pub room_behind : (p : Piece) (n : ℕ) → HasRoom n p → n + left_by p + 110 ≤ 100000
@@ -130,3 +159,42 @@ room_behind (Value word x rest) n h = let e = room_behind rest (suc n) h in omeg
 room_behind (Element word place x rest) n h = let e = room_behind rest (suc n) h in omega arith
 room_behind (Make word m parts rest) n h = let e = room_behind rest (suc n) h.1 in omega arith
 room_behind (Row items rest) n h = let e = room_behind rest (suc n) h.1 in omega arith
+room_behind (Loaded key x rest) n h = let e = room_behind rest (suc n) h in omega arith
+room_behind (Deferred text rest) n h = let e = room_behind rest (suc n) h in omega arith
+room_behind (Field name value rest) n h = let e = room_behind rest (suc (suc n)) h.1 in omega arith
+room_behind (Pairs fields rest) n h = let e = room_behind rest (suc n) h.1 in omega arith
+
+-- ---- pairs
+
+only_after : (p : Piece) (vs : Values) → FieldsAlone p → OnlyPairs vs → OnlyPairs (after p vs)
+only_after End vs h k = k
+only_after (Field name value rest) vs h k = only_after rest (Under name (after value Bottom) vs) h k
+only_after (Number n rest) vs h k = absurd h
+only_after (Literal name rest) vs h k = absurd h
+only_after (Chars text rest) vs h k = absurd h
+only_after (Quote body rest) vs h k = absurd h
+only_after (Value word x rest) vs h k = absurd h
+only_after (Element word place x rest) vs h k = absurd h
+only_after (Make word m parts rest) vs h k = absurd h
+only_after (Row items rest) vs h k = absurd h
+only_after (Loaded key x rest) vs h k = absurd h
+only_after (Deferred text rest) vs h k = absurd h
+only_after (Pairs fields rest) vs h k = absurd h
+
+pub only_pairs : (p : Piece) → FieldsAlone p → OnlyPairs (after p Bottom)
+only_pairs p h = only_after p Bottom h tt
+
+pub fields_left : (p : Piece) → FieldsAlone p → left_by p ≡ 2 * fields_in p
+fields_left End h = refl
+fields_left (Field name value rest) h = let e = fields_left rest h in omega arith
+fields_left (Number n rest) h = absurd h
+fields_left (Literal name rest) h = absurd h
+fields_left (Chars text rest) h = absurd h
+fields_left (Quote body rest) h = absurd h
+fields_left (Value word x rest) h = absurd h
+fields_left (Element word place x rest) h = absurd h
+fields_left (Make word m parts rest) h = absurd h
+fields_left (Row items rest) h = absurd h
+fields_left (Loaded key x rest) h = absurd h
+fields_left (Deferred text rest) h = absurd h
+fields_left (Pairs fields rest) h = absurd h

@@ -162,7 +162,7 @@ module _ (s : StoreState) (ds : List DictId) (is : IsMaking s ds) where
 
   -- ---- a new dictionary
 
-  dict_made : s.table.units + s.command.units + 1 ≤ 8000000 → making_dict s ≡ Ok (D, with_dict s [])
+  pub dict_made : s.table.units + s.command.units + 1 ≤ 8000000 → making_dict s ≡ Ok (D, with_dict s [])
   dict_made room =
       let fits : has_room s 1 ≡ true = le-leb _ _ room in
       ap (λ (p : Part). if has_room s 1

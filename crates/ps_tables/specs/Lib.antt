@@ -6,3 +6,5 @@ pub mod Later
 pub mod Makers
 pub mod Pieces
 pub mod TableWords
+pub mod TablePieces
+pub mod Defined

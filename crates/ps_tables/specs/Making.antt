@@ -50,6 +50,10 @@ begun_as word room keys rest = Word word (copying room keys rest)
 abbrev pub sharing : List ℕ → Code → Code
 sharing key rest = Word (codes "dup") (Lit key (Num (pos 3) (Word (codes "index") (Word (codes "put") rest))))
 
+-- in front of what makes a type of arrays: the size of the type that is the operand below the count, as often as the count says
+abbrev pub array_making : Code → Code
+array_making rest = Num (pos 2) (Word (codes "copy") (Word (codes "exch") (Lit (codes "size") (Word (codes "get") (Word (codes "mul") rest)))))
+
 -- the steps for these names
 abbrev pub taking_steps : List (List ℕ) → ℕ → ℕ
 taking_steps [] left = left

@@ -5,9 +5,10 @@ use Rattle.ps_store.specs.declared.object.PsObj.TheVariants.{Int, Bool as Truth,
 use Rattle.ps_store.specs.declared.object.ArrayId.{ArrayId}
 use Rattle.ps_store.specs.declared.object.DictId.{DictId}
 use Rattle.ps_store.specs.declared.object.StringId.{StringId}
+use Rattle.ps_store.specs.declared.key.Key.TheVariants.{Int as IntKey}
 use Rattle.ps_store.specs.StoreState.{StoreState}
 use Rattle.ps_store.specs.Store.{elements_of, text_units}
-use Rattle.ps_step.specs.Keys.{named}
+use Rattle.ps_step.specs.Keys.{found_in, named}
 use Rattle.ps_step.specs.declared.item.Item.{Item}
 use Rattle.ps_step.specs.declared.item.Item.TheVariants.{Text as TextItem}
 use Rattle.ps_text.specs.Code.{Code, Stop, Num, Word, Lit, Text, Proc, render}
@@ -17,7 +18,7 @@ use Rattle.ps_terms.specs.Machine.{Does}
 use Rattle.ps_terms.specs.Stands.{Means, core}
 use Rattle.ps_terms.specs.Printing.{further}
 use Rattle.ps_tables.specs.Taken.{Takes}
-use Rattle.ps_tables.specs.Dictionaries.{Fields}
+use Rattle.ps_tables.specs.Dictionaries.{Fields, updated}
 use Rattle.ps_tables.specs.Making.{HasFields}
 use Rattle.ps_tables.specs.Later.{Later, StandsAt}
 use Rattle.ps_tables.specs.Makers.{Maker, body, making_steps, taken_by, most, calls, Ready, MadeBy}
@@ -25,7 +26,8 @@ use Rattle.ps_tables.specs.Makers.{Maker, body, making_steps, taken_by, most, ca
 -- ---- pieces
 
 -- A piece, and what stands behind it: an integer, a literal name, a string, a procedure; a word that stands for a value; an object of an array that a
--- word stands for; a word that makes a dictionary of the values of parts; an array of items.
+-- word stands for; a word that makes a dictionary of the values of parts; an array of items; what the dictionaries of the stack have under an integer;
+-- a string that is to be executed later; a name and its value; a dictionary of names and values.
 pub data Piece : Type 0 where
   End : Piece
   Number : (n : ℤ) (rest : Piece) → Piece
@@ -36,6 +38,10 @@ pub data Piece : Type 0 where
   Element : (word : List ℕ) (place : ℕ) (x : PsObj) (rest : Piece) → Piece
   Make : (word : List ℕ) (m : Maker) (parts rest : Piece) → Piece
   Row : (items rest : Piece) → Piece
+  Loaded : (key : ℤ) (x : PsObj) (rest : Piece) → Piece
+  Deferred : (text : List ℕ) (rest : Piece) → Piece
+  Field : (name : List ℕ) (value rest : Piece) → Piece
+  Pairs : (fields rest : Piece) → Piece
 
 -- its term, and what stands behind it
 abbrev pub code : Piece → Code → Code
@@ -48,6 +54,10 @@ code (Value word x rest) k = Word word (code rest k)
 code (Element word place x rest) k = Word word (Num (pos place) (Word (codes "get") (code rest k)))
 code (Make word m parts rest) k = code parts (Word word (code rest k))
 code (Row items rest) k = Word (codes "[") (code items (Word (codes "]") (code rest k)))
+code (Loaded key x rest) k = Num key (Word (codes "load") (code rest k))
+code (Deferred text rest) k = Text text (Word (codes "cvx") (code rest k))
+code (Field name value rest) k = Lit name (code value (code rest k))
+code (Pairs fields rest) k = Word (codes "<<") (code fields (Word (codes ">>") (code rest k)))
 
 -- the steps that it takes
 abbrev pub steps : Piece → ℕ
@@ -60,6 +70,10 @@ steps (Value word x rest) = suc (steps rest)
 steps (Element word place x rest) = suc (suc (suc (steps rest)))
 steps (Make word m parts rest) = further (steps parts) (suc (further (making_steps m) (steps rest)))
 steps (Row items rest) = suc (further (steps items) (suc (steps rest)))
+steps (Loaded key x rest) = suc (suc (steps rest))
+steps (Deferred text rest) = suc (suc (steps rest))
+steps (Field name value rest) = suc (further (steps value) (steps rest))
+steps (Pairs fields rest) = suc (further (steps fields) (suc (steps rest)))
 
 -- how many values it leaves
 abbrev pub left_by : Piece → ℕ
@@ -72,6 +86,20 @@ left_by (Value word x rest) = suc (left_by rest)
 left_by (Element word place x rest) = suc (left_by rest)
 left_by (Make word m parts rest) = suc (left_by rest)
 left_by (Row items rest) = suc (left_by rest)
+left_by (Loaded key x rest) = suc (left_by rest)
+left_by (Deferred text rest) = suc (left_by rest)
+left_by (Field name value rest) = suc (suc (left_by rest))
+left_by (Pairs fields rest) = suc (left_by rest)
+
+-- names with values, how many they are
+abbrev pub FieldsAlone : Piece → Type 0
+FieldsAlone End = Unit {0}
+FieldsAlone (Field name value rest) = FieldsAlone rest
+FieldsAlone other = ⊥
+
+abbrev pub fields_in : Piece → ℕ
+fields_in (Field name value rest) = suc (fields_in rest)
+fields_in other = 0
 
 -- the units that it makes at most: those of its texts, one for each dictionary and array, and one for each pair and item
 abbrev pub cost : Piece → ℕ
@@ -84,6 +112,10 @@ cost (Value word x rest) = text_units word + cost rest
 cost (Element word place x rest) = text_units word + text_units (codes "get") + cost rest
 cost (Make word m parts rest) = cost parts + (text_units word + (1 + most m) + cost rest)
 cost (Row items rest) = text_units (codes "[") + cost items + (text_units (codes "]") + (1 + left_by items) + cost rest)
+cost (Loaded key x rest) = text_units (codes "load") + cost rest
+cost (Deferred text rest) = text_units text + text_units (codes "cvx") + cost rest
+cost (Field name value rest) = text_units name + (cost value + cost rest)
+cost (Pairs fields rest) = text_units (codes "<<") + cost fields + (text_units (codes ">>") + (1 + fields_in fields) + cost rest)
 
 -- ---- what is known of the words
 
@@ -117,6 +149,10 @@ Knows s ds (Element word place x rest) =
 Knows s ds (Make word m parts rest) =
     Fine (Word word Stop) × Means s ds word (Does (body m)) × Ready s ds m × (left_by parts ≡ taken_by m) × (calls m ≤ 80) × Knows s ds parts × Knows s ds rest
 Knows s ds (Row items rest) = (left_by items ≤ 1000000) × Knows s ds items × Knows s ds rest
+Knows s ds (Loaded key x rest) = Fine (Num key Stop) × (found_in s ds (IntKey key) ≡ Some x) × IsValue x × Knows s ds rest
+Knows s ds (Deferred text rest) = Fine (Text text Stop) × Knows s ds rest
+Knows s ds (Field name value rest) = Fine (Lit name Stop) × (left_by value ≡ 1) × Knows s ds value × Knows s ds rest
+Knows s ds (Pairs fields rest) = FieldsAlone fields × (fields_in fields ≤ 500000) × Knows s ds fields × Knows s ds rest
 
 -- from so many operands on there are never more than 100,000, with 110 to spare
 abbrev pub HasRoom : ℕ → Piece → Type 0
@@ -129,11 +165,16 @@ HasRoom n (Chars text rest) = HasRoom (suc n) rest
 HasRoom n (Quote body rest) = HasRoom (suc n) rest
 HasRoom n (Value word x rest) = HasRoom (suc n) rest
 HasRoom n (Element word place x rest) = HasRoom (suc n) rest
+HasRoom n (Loaded key x rest) = HasRoom (suc n) rest
+HasRoom n (Deferred text rest) = HasRoom (suc n) rest
+HasRoom n (Field name value rest) = HasRoom (suc n) value × HasRoom (suc (suc n)) rest
+HasRoom n (Pairs fields rest) = HasRoom (suc n) fields × HasRoom (suc n) rest
 
 -- ---- the values
 
 -- What is known of operands, the topmost first: this object; the literal name or string of these characters; a procedure of this term; an array of items,
--- of which the last one stands first; the dictionary that a word makes of these values, of which the last one stands first.
+-- of which the last one stands first; the dictionary that a word makes of these values, of which the last one stands first; a string to be executed; a
+-- value on top of a literal name; a dictionary of such pairs.
 pub data Values : Type 0 where
   Bottom : Values
   This : (x : PsObj) (below : Values) → Values
@@ -142,6 +183,9 @@ pub data Values : Type 0 where
   Quoted : (body : Code) (below : Values) → Values
   Listed : (items below : Values) → Values
   Entry : (m : Maker) (parts below : Values) → Values
+  Runs : (text : List ℕ) (below : Values) → Values
+  Under : (name : List ℕ) (value below : Values) → Values
+  Paired : (items below : Values) → Values
 
 -- what a piece leaves on top of others
 abbrev pub after : Piece → Values → Values
@@ -154,6 +198,21 @@ after (Value word x rest) vs = after rest (This x vs)
 after (Element word place x rest) vs = after rest (This x vs)
 after (Make word m parts rest) vs = after rest (Entry m (after parts Bottom) vs)
 after (Row items rest) vs = after rest (Listed (after items Bottom) vs)
+after (Loaded key x rest) vs = after rest (This x vs)
+after (Deferred text rest) vs = after rest (Runs text vs)
+after (Field name value rest) vs = after rest (Under name (after value Bottom) vs)
+after (Pairs fields rest) vs = after rest (Paired (after fields Bottom) vs)
+
+-- pairs alone
+abbrev pub OnlyPairs : Values → Type 0
+OnlyPairs Bottom = Unit {0}
+OnlyPairs (Under name value below) = OnlyPairs below
+OnlyPairs other = ⊥
+
+-- the fields that they are, the last one first
+abbrev pub pairs : Values → List PsObj → Fields
+pairs (Under name value below) (v ∷ key ∷ xs) = updated (pairs below xs) name v
+pairs vs xs = []
 
 -- operands are such values
 abbrev pub Show : StoreState → List PsObj → Values → Type 0
@@ -165,6 +224,10 @@ Show s xs (Quoted body below) = (a : ArrayId) × (ys : List PsObj) × (xs ≡ Ar
 Show s xs (Listed items below) = (a : ArrayId) × (zs ys : List PsObj) × (xs ≡ Array a false ∷ ys) × IsArray s a (reverse zs) × Show s zs items × Show s ys below
 Show s xs (Entry m parts below) =
     (d : DictId) × (zs ys : List PsObj) × (fields : Fields) × (xs ≡ Dict d ∷ ys) × HasFields s d fields × MadeBy s m zs fields × Show s zs parts × Show s ys below
+Show s xs (Runs text below) = (t : StringId) × (ys : List PsObj) × (xs ≡ Str t true ∷ ys) × IsString s t text × Show s ys below
+Show s xs (Under name value below) =
+    (v : PsObj) × (t : StringId) × (ys : List PsObj) × (xs ≡ v ∷ Name t false ∷ ys) × IsString s t name × (length name ≤ 127) × Show s (v ∷ []) value × Show s ys below
+Show s xs (Paired items below) = (d : DictId) × (zs ys : List PsObj) × (xs ≡ Dict d ∷ ys) × HasFields s d (pairs items zs) × Show s zs items × Show s ys below
 
 -- A part of a text is executed: in so many steps, with at most so many units made, these values come on top of operands, and the text goes on behind it.
 pub record Performs (cost steps : ℕ) (vs : Values) (s : StoreState) (ds : List DictId) (from o : List PsObj) (t : StringId) (at : ℕ) (rest : List ℕ) (under : List Item) : Type 0 where

@@ -1,30 +1,45 @@
 //! What holds of runs of tables.
 
-ghost use Rattle.std.specs.Prelude.{◌≡◌, ℕ, ◌+◌, ◌≤◌, ◌∷◌, [], ◌++◌, List, length, codes, drop};
+ghost use Rattle.std.specs.Prelude.{◌≡◌, ℕ, ℤ, ◌+◌, ◌<◌, ◌≤◌, ◌^◌, ◌∷◌, [], ◌++◌, List, length, codes, drop, suc, Some, Ok};
 ghost use Rattle.ps_store.specs.declared.object.PsObj.{PsObj};
-ghost use Rattle.ps_store.specs.declared.object.PsObj.TheVariants.{Dict};
+ghost use Rattle.ps_store.specs.declared.object.PsObj.TheVariants.{Int, Dict};
+ghost use Rattle.ps_store.specs.declared.key.Key.TheVariants.{Name as NameKey};
+ghost use Rattle.ps_store.specs.Entries.{value_at};
+ghost use Rattle.ps_store.specs.Store.{entries_of};
 ghost use Rattle.ps_store.specs.declared.object.DictId.{DictId};
 ghost use Rattle.ps_store.specs.declared.object.StringId.{StringId};
+ghost use Rattle.ps_store.specs.declared.object.ArrayId.{ArrayId};
+ghost use Rattle.c_tree.specs.declared.rows.Program.{Program};
+ghost use Rattle.c_tree.specs.declared.rows.Point.{Point};
 ghost use Rattle.ps_store.specs.StoreState.{StoreState};
 ghost use Rattle.ps_step.specs.declared.item.Item.{Item};
 ghost use Rattle.ps_step.specs.declared.item.Item.TheVariants.{Text};
 ghost use Rattle.ps_step.specs.declared.machine.PsCore.{PsCore};
+ghost use Rattle.ps_step.specs.Arithmetic.{product};
+ghost use Rattle.ps_step.specs.Keys.{named};
 ghost use Rattle.ps_run.specs.Runs.{Answer, Runs};
-ghost use Rattle.ps_text.specs.Code.{Code, Stop, render};
+ghost use Rattle.ps_text.specs.Code.{Code, Stop, Word, Lit, render};
 ghost use Rattle.ps_text.specs.Grown.{IsString};
 ghost use Rattle.ps_text.specs.Spells.{Fine, units};
 ghost use Rattle.ps_text.specs.Reading.{first, IsMore, Lead};
 ghost use Rattle.ps_terms.specs.Stands.{Frames};
 ghost use Rattle.ps_terms.specs.Printing.{further};
 ghost use Rattle.ps_emit.specs.Words.{words};
+ghost use Rattle.ps_emit.specs.Terms.{◌⋯◌};
+ghost use Rattle.ps_emit.specs.Functions.{saved_register, point_code};
+ghost use Rattle.ps_emit.specs.Bounds.{per_saved, per_point};
+ghost use Rattle.ps_emit.specs.Table.{top_code};
+ghost use Rattle.ps_emit.specs.declared.placement.Placement.{Placement};
+ghost use Rattle.ps_tables.specs.TablePieces.{saved, point, top};
 ghost use Rattle.ps_tables.specs.Taken.{Takes};
 ghost use Rattle.ps_tables.specs.Dictionaries.{Fields, filled, joined};
-ghost use Rattle.ps_tables.specs.Making.{procedure_under, copying, taking_steps, IsMaking, Fits, AreShort, HasFields, Makes};
+ghost use Rattle.ps_tables.specs.Making.{procedure_under, copying, begun_as, array_making, taking_steps, IsMaking, Fits, AreShort, HasFields, Makes};
 ghost use Rattle.ps_tables.specs.Executed.{Executes};
 ghost use Rattle.ps_tables.specs.Later.{StandsAt};
+ghost use Rattle.ps_tables.specs.Defined.{in_table, Defines};
 ghost use Rattle.ps_tables.specs.Makers.{Maker, body, taken_by, most, calls, Ready, Leaves};
 ghost use Rattle.ps_tables.specs.TableWords.{new_point, new_function, new_unit, pointer_to, new_struct, new_string, new_object, new_symbol, function_symbol};
-ghost use Rattle.ps_tables.specs.Pieces.{Piece, Values, code, cost, steps, after, Knows, HasRoom, Show, Performs};
+ghost use Rattle.ps_tables.specs.Pieces.{Piece, End, Field, Values, Bottom, left_by, code, cost, steps, after, Knows, HasRoom, Show, Performs};
 
 use ps_run::Dialect;
 
@@ -42,6 +57,8 @@ pub fn texts_are_executed()
 pub fn dictionaries_are_made()
     ensures made { (s : StoreState) (ds : List DictId) (m : Maker) (vs o : List PsObj) (items under : List Item) → IsMaking s ds → Ready s ds m → length vs ≡ taken_by m → s.table.units + s.command.units + (1 + most m) ≤ 8000000 → length (vs ++ o) + 105 ≤ 100000 → length under + 12 + calls m ≤ 1000 → Frames s under items (body m ∷ []) → Leaves s ds m vs o items under }
     ensures again { (s : StoreState) (ds : List DictId) (room : ℕ) (fields : Fields) (keys : List (List ℕ)) (vs : List PsObj) (d : DictId) (o : List PsObj) (items under : List Item) → IsMaking s ds → HasFields s d fields → AreShort keys → length vs ≡ length keys → length fields + length keys ≤ 90 → Fits (1 + (length fields + length keys)) s (Dict d ∷ (vs ++ o)) under → Frames s under items (copying room keys Stop ∷ []) → Makes (further 3 (taking_steps keys 0)) s ds (filled (joined [] fields) keys vs) (Dict d ∷ (vs ++ o)) items o under }
+    ensures array { (s : StoreState) (ds : List DictId) (word : List ℕ) (dict t : DictId) (fields : Fields) (count size total : ℤ) (o : List PsObj) (items under : List Item) → IsMaking s ds → named s ds word ≡ Some (Dict dict) → HasFields s dict fields → length fields ≤ 80 → value_at (entries_of s t) (NameKey (codes "size")) ≡ Some (Int size) → product count size ≡ Ok total → s.table.units + s.command.units + (4 + length fields) ≤ 8000000 → length o + 110 ≤ 100000 → length under + 10 ≤ 1000 → Frames s under items (array_making (begun_as word 5 (codes "size" ∷ codes "count" ∷ codes "to" ∷ []) Stop) ∷ []) → Makes 28 s ds (filled (joined [] fields) (codes "size" ∷ codes "count" ∷ codes "to" ∷ []) (Int total ∷ Int count ∷ Dict t ∷ [])) (Int count ∷ Dict t ∷ o) items o under }
+    ensures array_of { procedure_under (codes "ArrayOf") words ≡ array_making (begun_as (codes "ArrayType") 5 (codes "size" ∷ codes "count" ∷ codes "to" ∷ []) Stop) }
     ensures pointer { (dict : DictId) (fields : Fields) → procedure_under (codes "PointerTo") words ≡ body (pointer_to dict fields) }
     ensures structure { (dict : DictId) (fields : Fields) → procedure_under (codes "NewStruct") words ≡ body (new_struct dict fields) }
     ensures text { (dict : DictId) (fields : Fields) → procedure_under (codes "NewString") words ≡ body (new_string dict fields) }
@@ -57,4 +74,23 @@ pub fn dictionaries_are_made()
 /// A piece of a table's text is executed without an error: it leaves its values on top of the operands, in known steps and with at most so many units made.
 pub fn pieces_are_performed()
     ensures { (post : List ℕ) (s : StoreState) (ds : List DictId) (p : Piece) (k : Code) (vs : Values) (xs o : List PsObj) (t : StringId) (at : ℕ) (under : List Item) → IsMaking s ds → Knows s ds p → HasRoom (length (xs ++ o)) p → s.table.units + s.command.units + cost p ≤ 8000000 → length under + 100 ≤ 1000 → Show s xs vs → StandsAt s t at (render (code p k) ++ post) → Performs (cost p) (steps p) (after p vs) s ds (xs ++ o) o t at (render k ++ post) under }
+{}
+
+/// What stands behind the definitions of a table is the text of a piece. It is executed without an error and leaves one dictionary, with the keys of a table.
+pub fn tops_are_left()
+    ensures text { (p : Program) (place : Placement) (objects : ArrayId) (structs : List PsObj) (k : Code) → length structs ≡ length p.defs → length p.defs < 2 ^ 31 → code (top p place objects structs) k ≡ (top_code p place ⋯ k) }
+    ensures left { (p : Program) (place : Placement) (objects : ArrayId) (structs : List PsObj) (k : Code) (post : List ℕ) (s : StoreState) (ds : List DictId) (o : List PsObj) (t : StringId) (at : ℕ) (under : List Item) → length structs ≡ length p.defs → length p.defs < 2 ^ 31 → IsMaking s ds → Knows s ds (top p place objects structs) → HasRoom (length o) (top p place objects structs) → s.table.units + s.command.units + cost (top p place objects structs) ≤ 8000000 → length under + 100 ≤ 1000 → StandsAt s t at (render (top_code p place ⋯ k) ++ post) → Performs (cost (top p place objects structs)) (steps (top p place objects structs)) (after (top p place objects structs) Bottom) s ds o o t at (render k ++ post) under }
+{}
+
+/// A saved register and a stopping point are the texts of pieces, which take no more steps and units than are counted for each.
+pub fn items_are_pieces()
+    ensures saved { (register : ℕ) (offset : ℤ) (rest : Piece) (k : Code) → code (saved register offset rest) k ≡ (saved_register register offset ⋯ code rest k) }
+    ensures point { (address : ℕ) (q : Point) (x : PsObj) (rest : Piece) (k : Code) → code (point address q x rest) k ≡ (point_code address q ⋯ code rest k) }
+    ensures saved_cost { (register : ℕ) (offset : ℤ) → (steps (saved register offset End) ≡ per_saved.steps) × (cost (saved register offset End) + 1 ≤ per_saved.made) }
+    ensures point_cost { (address : ℕ) (q : Point) (x : PsObj) → (steps (point address q x End) ≤ per_point.steps) × (cost (point address q x End) + 1 ≤ per_point.made) }
+{}
+
+/// A definition in a text is executed without an error: the value of a piece is put under a name of the topmost dictionary, which is one of the table's part and not closed.
+pub fn definitions_are_made()
+    ensures { (index : ℕ) (ds : List DictId) (t : StringId) (under : List Item) (post name : List ℕ) (value : Piece) (k : Code) (s : StoreState) (o : List PsObj) (at : ℕ) → length under + 100 ≤ 1000 → IsMaking s (in_table index ∷ ds) → s.closed.dicts ≤ index → length (entries_of s (in_table index)) < 1000000 → Fine (Lit name Stop) → left_by value ≡ 1 → Knows s (in_table index ∷ ds) value → HasRoom (suc (length o)) value → length o + 112 ≤ 100000 → s.table.units + s.command.units + (cost (Field name value End) + units (Word (codes "def") Stop) + 1) ≤ 8000000 → StandsAt s t at (render (Lit name (code value (Word (codes "def") k))) ++ post) → Defines (cost (Field name value End) + units (Word (codes "def") Stop)) (further (steps (Field name value End)) 1) name (after value Bottom) s (in_table index) ds o t at (render k ++ post) under }
 {}

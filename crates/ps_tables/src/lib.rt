@@ -3,4 +3,7 @@
 
 mod laws;
 
-pub use laws::{dictionaries_are_made, pieces_are_performed, steps_are_taken, texts_are_executed};
+pub use laws::{
+    definitions_are_made, dictionaries_are_made, items_are_pieces, pieces_are_performed,
+    steps_are_taken, texts_are_executed, tops_are_left,
+};
