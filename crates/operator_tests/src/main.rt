@@ -5,7 +5,7 @@
 
 mod forcing;
 mod running;
-mod targets;
+mod talks;
 
 use forcing::{append_forced, append_unit};
 use machine_state::{MIPS, SPARC};
@@ -15,7 +15,7 @@ use std::alloc::{AllocError, Global};
 use std::io;
 use std::process::ExitCode;
 use table_run::run_table;
-use targets::{Talk, put_bytes, put_words, talk_to};
+use talks::{Talk, put_bytes, put_words, talk_to};
 use test_rows::{Subject, append, part, run_tables};
 
 /// The text of the last table, and the operators over both targets.

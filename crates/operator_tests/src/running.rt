@@ -2,7 +2,7 @@
 
 ghost use Rattle.std.specs.Prelude.{◌≤◌};
 
-use crate::targets::Talk;
+use crate::talks::Talk;
 use ldb_words::Text;
 use ps_run::{Dialect, PsCore, PsFault, Steps, run};
 use ps_store::{Part, PsObj, PsStore};
