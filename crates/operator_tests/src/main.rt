@@ -48,10 +48,11 @@ impl Texts {
         text: &[u8],
         out: &mut Vec<u8>,
     ) -> Result<(), AllocError> {
+        let alloc = self.alloc;
         let table = self.table_for(target)?;
-        let store = match run_table(self.alloc, &table, target) {
+        let store = match run_table(alloc, &table, target) {
             Ok(store) => store,
-            Err(fault) => return append(out, format!(in self.alloc; "{fault:?}")?.as_str()),
+            Err(fault) => return append(out, format!(in alloc; "{fault:?}")?.as_str()),
         };
         let talk = if target == MIPS {
             &mut self.mips
@@ -63,15 +64,15 @@ impl Texts {
         };
         match kind {
             "table" => append(out, "read"),
-            "words" => put_words(self.alloc, talk, text, out),
-            "bytes" => put_bytes(self.alloc, talk, text, out),
-            "run" => append_run_on(self.alloc, store, talk, text, out),
+            "words" => put_words(alloc, talk, text, out),
+            "bytes" => put_bytes(alloc, talk, text, out),
+            "run" => append_run_on(alloc, store, talk, text, out),
             "without" => {
-                append_run(self.alloc, store, &mut NoTarget { cell: 0 }, text, out)?;
+                append_run(alloc, store, &mut NoTarget { cell: 0 }, text, out)?;
                 append(out, "||")
             }
-            "forced" => append_forced(self.alloc, store, text, out),
-            "unit" => append_unit(self.alloc, store, text, out),
+            "forced" => append_forced(alloc, store, text, out),
+            "unit" => append_unit(alloc, store, text, out),
             _ => append(out, "no such row"),
         }
     }
