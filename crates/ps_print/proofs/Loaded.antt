@@ -98,15 +98,8 @@ printers_there = (refl, refl, refl, refl, refl, refl)
 
 -- the six printers are one body
 pub loaded_printers : AllByRecursion (λ (name : List ℕ). Means loaded.store loaded.dictionaries name (Does print_body)) printers
-loaded_printers = (
-  does (codes "PrintInt") print_body printers_there.0,
-  does (codes "PrintUnsigned") print_body printers_there.1,
-  does (codes "PrintChar") print_body printers_there.2,
-  does (codes "PrintPointer") print_body printers_there.3,
-  does (codes "PrintArray") print_body printers_there.4,
-  does (codes "PrintStruct") print_body printers_there.5,
-  tt,
-)
+loaded_printers =
+    (does (codes "PrintInt") print_body printers_there.0, (does (codes "PrintUnsigned") print_body printers_there.1, (does (codes "PrintChar") print_body printers_there.2, (does (codes "PrintPointer") print_body printers_there.3, (does (codes "PrintArray") print_body printers_there.4, (does (codes "PrintStruct") print_body printers_there.5, tt))))))
 
 abbrev EachMeans : Words → Type 0
 EachMeans [] = Unit {0}
