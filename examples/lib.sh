@@ -105,6 +105,8 @@ build_proved() {
   local -a left=() waiting
   local crate below ready pid took total=0 finished=0 count=0 spent=0 proved=0
   mkdir -p "$logs"
+  # What rt ci proved on this machine is taken from there.
+  "$root/tools/take-kept" "$root" >"$logs/take-kept.log" 2>&1 || true
   for crate in $(crates_below ldb); do
     weight[$crate]=$(weight_of "$crate")
     total=$((total + weight[$crate]))
