@@ -1,8 +1,9 @@
 // A resume of a side up to its event.
 
-ghost use Rattle.std.specs.Prelude.{◌≡◌, ◌⊎◌};
+ghost use Rattle.std.specs.Prelude.{◌≡◌, ◌⊎◌, IfOk};
 ghost use Rattle.machine_state.specs.declared.layout.TheConstants.{MIPS, SPARC};
 ghost use Rattle.resuming.specs.Runs.{CountsRun};
+ghost use Rattle.debug_side.specs.Meant.{Met, stood, words_left};
 ghost use Rattle.debug_side.specs.Ran.{SideCalled};
 
 use crate::event::{Event, event_by, keeps_words, stop_address};
@@ -23,6 +24,12 @@ fn meet<L: Link + Drop, S: Sink>(
 ) -> Result<Event, RunFault>
     ensures calls { SideCalled L.took L.gave wire.old.side wire.old.link result wire.new.side wire.new.link }
     ensures cause { CountsRun (L.faults wire.old.link) (L.faults wire.new.link) (S.faults out.old) (S.faults out.new) result }
+    ensures event { IfOk result (λ event. Met row.old event) }
+    ensures stands { IfOk result (λ event. row.new.stands_at ≡ stood row.old.kept row.old.stands_at event) }
+    ensures kept { row.new.kept ≡ row.old.kept }
+    ensures breaks { row.new.breaks ≡ row.old.breaks }
+    ensures words { row.new.step_words ≡ row.old.step_words }
+    ensures stay { row.new.words_stay ≡ row.old.words_stay }
 {
     match row.kept {
         Some(event) => Ok(event),
@@ -53,6 +60,12 @@ pub fn resume_side<L: Link + Drop, S: Sink>(
     requires known { (kind.target ≡ MIPS) ⊎ (kind.target ≡ SPARC) }
     ensures calls { SideCalled L.took L.gave wire.old.side wire.old.link result wire.new.side wire.new.link }
     ensures cause { CountsRun (L.faults wire.old.link) (L.faults wire.new.link) (S.faults out.old) (S.faults out.new) result }
+    ensures event { IfOk result (λ event. Met row.old event) }
+    ensures stands { IfOk result (λ event. row.new.stands_at ≡ stood row.old.kept row.old.stands_at event) }
+    ensures kept { row.new.kept ≡ row.old.kept }
+    ensures breaks { row.new.breaks ≡ row.old.breaks }
+    ensures words { IfOk result (λ event. row.new.step_words.items ≡ words_left row.old event) }
+    ensures stay { row.new.words_stay ≡ row.old.words_stay }
 {
     let kept = row.kept;
     let event = match meet(kind, wire, row, limit, out) {

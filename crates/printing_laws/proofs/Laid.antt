@@ -25,7 +25,7 @@ use Rattle.ps_print.specs.Things.{Tail}
 use Rattle.dialect_model.specs.Dial.{Dial}
 use Rattle.dialect_model.specs.Operating.{Operates}
 use Rattle.printing_laws.specs.Lookups.{Always, number_there, integer_of, string_there, pointer_there, run_there}
-use Rattle.printing_laws.specs.Lies.{PointerLies, bare, dangling, strung, Lies, an_int, an_unsigned, a_char, a_pointer, a_string, an_array, a_struct, EachLies, none, more, MembersLie, no_member, a_member}
+use Rattle.printing_laws.specs.Lies.{PointerLies, bare, dangling, strung, Lies, an_int, an_unsigned, a_char, a_pointer, a_string, an_array, a_struct, EachLies, none, unseen, more, MembersLie, no_member, unseen_members, a_member}
 use Rattle.printing_laws.specs.Stays.{Above}
 use Rattle.printing_laws.proofs.Printer.{printing}
 use Rattle.printing_laws.proofs.Units.{RunsLeave}
@@ -64,27 +64,30 @@ module _ (leaves : RunsLeave) (keeps : ActsLeave) (first : StoreState) (above : 
       laid.strung text (string_text bs) count test (pointed p text small told) (counted p (suc count) small run) (chars_there p (suc count) bs small there)
 
   mutual
-    pub lies_laid : (k : ℕ) (t : CType) (type : DictId) (place : ℕ) (xs : List Showing) (i : Thing) → Lies s first d sp defs k t type place xs i → Laid Operates printing s first d space defs k t type place xs i
-    lies_laid _ _ _ _ _ _ (an_int k type place v low small kind always) = laid.an_int k type place v small kind (fetched (codes "w") Word place v refl low always)
-    lies_laid _ _ _ _ _ _ (an_unsigned k type place v low small kind always) = laid.an_unsigned k type place v small kind (fetched (codes "w") Word place v refl low always)
-    lies_laid _ _ _ _ _ _ (a_char k type place b x low kind always told) = laid.a_char k type place (integer_of Byte b) x kind (fetched (codes "c") Byte place b refl low always) told
-    lies_laid _ _ _ _ _ _ (a_pointer k b t type target kind place p x text tail low small its to its_kind always shows told) =
-        laid.a_pointer k b t type target kind place (word p) x text tail its to its_kind (fetched (codes "p") Address place p refl low always) (pointer_text kind p text tail small shows) told
-    lies_laid _ _ _ _ _ _ (a_string k b n type item kind place bs xs low e len a to count ik always same) =
-        laid.a_string k b n type item kind place xs e len a to count ik (subst (λ text. PutsChars Operates printing s first d space (word place) n text) same (chars place n bs low always))
-    lies_laid _ _ _ _ _ _ (an_array k b t n type item kind size place xs is c e a to count ik sized l1 l2 l3 l4 ls) =
-        laid.an_array k b t n type item kind size place xs is c e a to count ik sized l1 l2 l3 l4 (each_laid k t item size n place xs is ls)
-    lies_laid _ _ _ _ _ _ (a_struct k number type members e place xs is its has many l2 l3 l4 ms) =
-        laid.a_struct k number type members e place xs is its has many l2 l3 l4 (members_laid k (members_of defs number) members 0 place xs is ms)
+    pub lies_laid : (k r : ℕ) (t : CType) (type : DictId) (place : ℕ) (xs : List Showing) (i : Thing) → Lies s first d sp defs k r t type place xs i → Laid Operates printing s first d space defs k r t type place xs i
+    lies_laid _ _ _ _ _ _ _ (an_int k r type place v low small kind always) = laid.an_int k r type place v small kind (fetched (codes "w") Word place v refl low always)
+    lies_laid _ _ _ _ _ _ _ (an_unsigned k r type place v low small kind always) = laid.an_unsigned k r type place v small kind (fetched (codes "w") Word place v refl low always)
+    lies_laid _ _ _ _ _ _ _ (a_char k r type place b x low kind always told) = laid.a_char k r type place (integer_of Byte b) x kind (fetched (codes "c") Byte place b refl low always) told
+    lies_laid _ _ _ _ _ _ _ (a_pointer k r b t type target kind place p x text tail low small its to its_kind always shows told) =
+        laid.a_pointer k r b t type target kind place (word p) x text tail its to its_kind (fetched (codes "p") Address place p refl low always) (pointer_text kind p text tail small shows) told
+    lies_laid _ _ _ _ _ _ _ (a_string k r b n type item kind place bs xs low e len a to count ik always same) =
+        laid.a_string k r b n type item kind place xs e len a to count ik (subst (λ text. PutsChars Operates printing s first d space (word place) n text) same (chars place n bs low always))
+    lies_laid _ _ _ _ _ _ _ (an_array k r b t n type item kind size place xs is c e a to count ik sized l1 l2 l3 l4 ls) =
+        laid.an_array k r b t n type item kind size place xs is c e a to count ik sized l1 l2 l3 l4 (each_laid k (suc r) t item size n place xs is ls)
+    lies_laid _ _ _ _ _ _ _ (a_struct k r number type members e place xs is its has many l2 l3 l4 ms) =
+        laid.a_struct k r number type members e place xs is its has many l2 l3 l4 (members_laid k (suc r) (members_of defs number) members 0 place xs is ms)
 
-    each_laid : (k : ℕ) (t : CType) (item : DictId) (size n place : ℕ) (xs : List Showing) (is : List Thing) → EachLies s first d sp defs k t item size n place xs is
-        → EachLaid Operates printing s first d space defs k t item size n place xs is
-    each_laid _ _ _ _ _ _ _ _ (none k t item size place) = laid.none k t item size place
-    each_laid _ _ _ _ _ _ _ _ (more k t item size n place xs ys i is l ls) =
-        laid.more k t item size n place xs ys i is (lies_laid k t item place xs i l) (each_laid k t item size n ((size + place) % 2 ^ 32) ys is ls)
+    each_laid : (k room : ℕ) (t : CType) (item : DictId) (size n place : ℕ) (xs : List Showing) (is : List Thing) → EachLies s first d sp defs k room t item size n place xs is
+        → EachLaid Operates printing s first d space defs k room t item size n place xs is
+    each_laid _ _ _ _ _ _ _ _ _ (none k room t item size place) = laid.none k room t item size place
+    each_laid _ _ _ _ _ _ _ _ _ (unseen k t item size n place xs is many) = laid.unseen k t item size n place xs is many
+    each_laid _ _ _ _ _ _ _ _ _ (more k r t item size n place xs ys i is l ls) =
+        laid.more k r t item size n place xs ys i is (lies_laid k r t item place xs i l) (each_laid k (i.room (suc r)) t item size n ((size + place) % 2 ^ 32) ys is ls)
 
-    members_laid : (k : ℕ) (ms : List Member) (members : ArrayId) (i place : ℕ) (xs : List Showing) (is : List Thing) → MembersLie s first d sp defs k ms members i place xs is
-        → MembersLaid Operates printing s first d space defs k ms members i place xs is
-    members_laid _ _ _ _ _ _ _ (no_member k members i place) = laid.no_member k members i place
-    members_laid _ _ _ _ _ _ _ (a_member k m ms members i place offset type xs ys thing is at l ls) =
-        laid.a_member k m ms members i place offset type xs ys thing is at (lies_laid k m.ctype type ((place + offset) % 2 ^ 32) xs thing l) (members_laid k ms members (suc i) place ys is ls)
+    members_laid : (k room : ℕ) (ms : List Member) (members : ArrayId) (i place : ℕ) (xs : List Showing) (is : List Thing) → MembersLie s first d sp defs k room ms members i place xs is
+        → MembersLaid Operates printing s first d space defs k room ms members i place xs is
+    members_laid _ _ _ _ _ _ _ _ (no_member k room members i place) = laid.no_member k room members i place
+    members_laid _ _ _ _ _ _ _ _ (unseen_members k m ms members i place xs is many) = laid.unseen_members k m ms members i place xs is many
+    members_laid _ _ _ _ _ _ _ _ (a_member k r m ms members i place offset type xs ys thing is at l ls) =
+        laid.a_member k r m ms members i place offset type xs ys thing is at (lies_laid k r m.ctype type ((place + offset) % 2 ^ 32) xs thing l)
+        (members_laid k (thing.room (suc r)) ms members (suc i) place ys is ls)

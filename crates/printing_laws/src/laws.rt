@@ -1,6 +1,6 @@
 // What holds of values that are printed.
 
-ghost use Rattle.std.specs.Prelude.{◌≡◌, ◌≤◌, ◌+◌, ℕ, ◌++◌, ◌∷◌, [], List, Ok, Some, None, Option, min, codes};
+ghost use Rattle.std.specs.Prelude.{◌≡◌, ◌≤◌, ◌+◌, ℕ, ◌++◌, ◌∷◌, [], List, Ok, Some, None, Option, min, codes, suc};
 ghost use Rattle.ps_store.specs.declared.object.PsObj.{PsObj};
 ghost use Rattle.ps_store.specs.declared.object.PsObj.TheVariants.{Int, Dict};
 ghost use Rattle.ps_store.specs.declared.object.ArrayId.{ArrayId};
@@ -10,6 +10,7 @@ ghost use Rattle.ps_store.specs.StoreState.{StoreState};
 ghost use Rattle.ps_store.specs.Store.{closed_part};
 ghost use Rattle.ps_store.specs.Settled.{Settled};
 ghost use Rattle.ps_step.specs.declared.item.Item.{Item};
+ghost use Rattle.ps_step.specs.declared.item.Item.TheVariants.{Object};
 ghost use Rattle.c_tree.specs.declared.types.CType.{CType};
 ghost use Rattle.c_tree.specs.declared.types.StructDef.{StructDef};
 ghost use Rattle.c_show.specs.Printed.{Showing, shown};
@@ -25,9 +26,9 @@ ghost use Rattle.ps_terms.specs.Stands.{Are, Frames, core};
 ghost use Rattle.ps_terms.specs.Printing.{word, Printing, Looked};
 ghost use Rattle.ps_terms.specs.Faring.{shut, HoldsDicts, Comes};
 ghost use Rattle.ps_print.specs.Prelude.{print_body};
-ghost use Rattle.ps_print.specs.Words.{Holds, RoomFor};
+ghost use Rattle.ps_print.specs.Words.{Holds, IsPrinter, RoomFor};
 ghost use Rattle.ps_print.specs.Items.{Thing};
-ghost use Rattle.ps_print.specs.Things.{print_steps};
+ghost use Rattle.ps_print.specs.Things.{print_steps, steps_within};
 ghost use Rattle.dialect_model.specs.Dial.{Dial, InFrame, bytes_in};
 ghost use Rattle.dialect_model.specs.Operating.{Operates};
 ghost use Rattle.printing_laws.specs.Dialect.{append, needs};
@@ -38,12 +39,14 @@ ghost use Rattle.printing_laws.specs.Stays.{Above, Remains, StaysEmpty};
 /// Under the debugger's dialect a run of a type's printer appends the text of the value that lies at a place, whichever functions of
 /// units its operators have run on the way, and takes the place and the type.
 ///
-/// The text is that of the leaves, as they are looked up. The run goes on with the store that such operators made, and with exactly so
-/// many steps less, but for those that these operators took; or an operator failed that needed functions of units; or these took
-/// more steps than would be left.
+/// The text is that of the leaves, as they are looked up: at most 1,000, and nothing is asked of what follows them. The run goes on
+/// with the store that such operators made, and with exactly so many steps less, but for those that these operators took; or an
+/// operator failed that needed functions of units; or these took more steps than would be left. Where a printer itself is executed,
+/// as one that stands in the type, it is entered in one step more.
 pub fn values_are_printed()
-    ensures run { (s first : StoreState) (ds : List DictId) (digits : ArrayId) (d : Dial) (space : List ℕ) (sp : Space) (defs : List StructDef) (t : CType) (type : DictId) (place : ℕ) (xs : List Showing) (i : Thing) (left : ℕ) (operands o : List PsObj) (items under : List Item) → Above first → Holds s ds digits → Remains s ds first → space_named space ≡ Ok sp → Lies s first d sp defs 63 t type place xs i → RoomFor 400 o under → Are s operands (Obj (Dict type) ∷ Obj (Int (word place)) ∷ Key space ∷ []) → Frames s under items (print_body ∷ []) → Comes Operates needs first (print_steps i left) d (core first ds (operands ++ o) items) ds left (append d (shown defs t xs)) o under }
-    ensures steps { (s first : StoreState) (ds : List DictId) (d : Dial) (space : List ℕ) (sp : Space) (defs : List StructDef) (t : CType) (type : DictId) (place : ℕ) (xs : List Showing) (i : Thing) (left : ℕ) → Above first → Remains s ds first → space_named space ≡ Ok sp → Lies s first d sp defs 63 t type place xs i → print_steps i left ≤ left + 7951006 }
+    ensures run { (s first : StoreState) (ds : List DictId) (digits : ArrayId) (d : Dial) (space : List ℕ) (sp : Space) (defs : List StructDef) (t : CType) (type : DictId) (place : ℕ) (xs : List Showing) (i : Thing) (left : ℕ) (operands o : List PsObj) (items under : List Item) → Above first → Holds s ds digits → Remains s ds first → space_named space ≡ Ok sp → Lies s first d sp defs 63 999 t type place xs i → RoomFor 400 o under → Are s operands (Obj (Dict type) ∷ Obj (Int (word place)) ∷ Key space ∷ []) → Frames s under items (print_body ∷ []) → Comes Operates needs first (print_steps i left) d (core first ds (operands ++ o) items) ds left (append d (shown defs t xs)) o under }
+    ensures printer { (s first : StoreState) (ds : List DictId) (digits : ArrayId) (d : Dial) (space : List ℕ) (sp : Space) (defs : List StructDef) (t : CType) (type : DictId) (place : ℕ) (xs : List Showing) (i : Thing) (left : ℕ) (operands o : List PsObj) (x : PsObj) (under : List Item) → Above first → Holds s ds digits → Remains s ds first → space_named space ≡ Ok sp → Lies s first d sp defs 63 999 t type place xs i → RoomFor 400 o under → Are s operands (Obj (Dict type) ∷ Obj (Int (word place)) ∷ Key space ∷ []) → IsPrinter s x → Comes Operates needs first (suc (print_steps i left)) d (core first ds (operands ++ o) (Object x ∷ under)) ds left (append d (shown defs t xs)) o under }
+    ensures steps { (s first : StoreState) (ds : List DictId) (d : Dial) (space : List ℕ) (sp : Space) (defs : List StructDef) (k : ℕ) (t : CType) (type : DictId) (place : ℕ) (xs : List Showing) (i : Thing) (left : ℕ) → Above first → Remains s ds first → space_named space ≡ Ok sp → Lies s first d sp defs k 999 t type place xs i → print_steps i left ≤ left + steps_within k }
 {}
 
 /// Functions of units that are run settle deferred entries of what is closed, and no more. So what is known of a closed store remains;

@@ -2,6 +2,7 @@
 
 ghost use Rattle.ps_store.specs.Store.{closed_part};
 ghost use Rattle.std.specs.Prelude.{◌≡◌, ◌≤◌, OnOk, length};
+ghost use Rattle.ps_places.specs.Accesses.{LedAct};
 ghost use Rattle.ps_append.specs.Characters.{bytes_from, string_place, ReadsBytes, AppendsChars};
 
 use crate::append::append_string;
@@ -24,7 +25,8 @@ fn read_bytes<M: AbsMem>(
     most: u32,
     bytes: &mut Text,
 ) -> Result<(), Trouble>
-    ensures { ReadsBytes (λ b. bytes_from most b place) bytes.old (M.seen memory.old) result bytes.new (M.seen memory.new) }
+    ensures reads { ReadsBytes (λ b. bytes_from most b place) bytes.old (M.seen memory.old) result bytes.new (M.seen memory.new) }
+    ensures calls { LedAct M.leads memory.old result memory.new }
 {
     if most == 0 {
         return Ok(());
@@ -69,6 +71,7 @@ pub fn put_chars<M: AbsMem>(
     out: &mut Text,
 ) -> Result<(), Trouble>
     ensures does { AppendsChars out.old (M.seen memory.old) core.old result out.new (M.seen memory.new) core.new }
+    ensures calls { LedAct M.leads memory.old result memory.new }
     ensures closed { closed_part core.new.store ≡ closed_part core.old.store }
 {
     let mut bytes = Text::new(core.operands.allocator());

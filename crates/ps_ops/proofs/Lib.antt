@@ -6,5 +6,6 @@ pub mod Equations
 pub mod Overs
 pub mod Pointing
 pub mod Placing
+pub mod Calls
 pub mod States
 pub mod Retries

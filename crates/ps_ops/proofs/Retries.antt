@@ -2,6 +2,7 @@
 use Rattle.std.proofs.Common.{◌≡◌, ◌≢◌, ◌≤◌, ℕ, Option, Some, IsSome, Result, Ok, Err, refl, sym, ap, subst, ◌∙◌}
 use Rattle.ldb_edge.specs.Count.{Rose}
 use Rattle.machine_state.specs.Regions.{Regions}
+use Rattle.ps_store.specs.Store.{closed_part}
 use Rattle.ps_step.specs.declared.fault.PsError.{PsError}
 use Rattle.ps_step.specs.declared.fault.PsFault.{PsFault}
 use Rattle.ps_step.specs.declared.fault.PsFault.TheVariants.{Error, Spent, Link, NoMemory}
@@ -17,7 +18,7 @@ use Rattle.dialect_model.specs.Forcing.{ForcesUnit}
 use Rattle.ps_bare.specs.Deferred.{IsDeferred}
 use Rattle.ps_ops.specs.declared.halt.Halt.TheVariants.{Raised, Wanting, Broken, Needs}
 use Rattle.ps_ops.specs.Desk.{Desk, dial_of, memory_of}
-use Rattle.ps_ops.specs.Acting.{ActsOn, NeverTold, KeepsMemory, KeepsFault, OperatesTold, OperatesOn, Prepares, begun, further}
+use Rattle.ps_ops.specs.Acting.{ActsOn, NeverTold, KeepsMemory, KeepsFault, OperatesTold, OperatesOn, Prepares, begun, further, RunsShort, acting, running}
 
 -- what it does once units were run is what it does
 pub prepared : (d : Dial) (op : ℕ) (c : PsCore) (left : ℕ) (c₁ : PsCore) (m : ℕ) → Prepares d op c left c₁ m → (answer : Answer) (d' : Dial) (c' : PsCore) (left' : ℕ) → model.Operates d c₁ op m answer d' c' left'
@@ -91,6 +92,15 @@ module _ {R : Type 0} (op : ℕ) (k : Desk) (s : Seen R) (c : PsCore) (n : ℕ) 
       pub force_lacks : KeepsMemory k s k' s'
       force_lacks = record { faults = acts.0 ∙ far.faults; keeps = λ rg r t. let before = far.told rg r t in let after = acts.2 rg r before.0 in after.0 }
 
+      -- which units were run by then
+      pub force_short : j ≤ m → closed_part c''.store ≡ closed_part c'.store → (rg : Regions) (r : R) → s.tells (memory_of k rg) r → RunsShort (dial_of k rg) op c n (dial_of k' rg) c'' j
+      force_short b closed rg r t =
+          let before = far.told rg r t in
+          let after = acts.2 rg r before.0 in
+          let needs : act op (dial_of k rg) c₁ ≡ Err (Wants u) = ap (λ d. act op d c₁) (sym before.1) ∙ after.2 in
+          let same : dial_of k' rg ≡ dial_of k rg = after.1 ∙ before.1 in
+          subst (λ d. RunsShort (dial_of k rg) op c n d c'' j) (sym same) (running before.2 needs after.3 (closed ∙ ap (λ (x : PsCore). closed_part x.store) acts.1) b)
+
       -- its run failed
       pub force_fails : (f : PsFault) → (IsDeferred c'.store u → ForcesUnit u c' m (Err f) j c'') → (s'.faults ≡ s.faults)
           × ((rg : Regions) (r : R) → s.tells (memory_of k rg) r → (rg' : Regions) × s'.tells (memory_of k' rg') r × model.Operates (dial_of k rg) c op n (Err f) (dial_of k' rg') c'' j)
@@ -126,8 +136,9 @@ module _ {R : Type 0} (op : ℕ) (k : Desk) (s : Seen R) (c : PsCore) (n : ℕ) 
   pub raised_on : (e : PsError) → m ≤ n → ActsOn op k₁ s₁ c₁ (Err (Raised e)) k' s' c' → OperatesOn k s c op n (Err (Error e)) k' s' c' m fault
   raised_on e b h = (b, λ e. absurd (let a = e in cc), raised_acts op k s c n k₁ s₁ c₁ m far k' s' c' e h)
 
-  pub wanting_on : m ≤ n → ActsOn op k₁ s₁ c₁ (Err Wanting) k' s' c' → OperatesOn k s c op n (Err NoMemory) k' s' c' m fault
-  wanting_on b h = (b, λ e. absurd (let a = e in cc), keeps_acts op k s c n k₁ s₁ c₁ m far k' s' c' h)
+  pub wanting_on : m ≤ n → closed_part c'.store ≡ closed_part c₁.store → ActsOn op k₁ s₁ c₁ (Err Wanting) k' s' c' → OperatesOn k s c op n (Err NoMemory) k' s' c' m fault
+  wanting_on b closed h =
+      (b, λ e. absurd (let a = e in cc), (keeps_acts op k s c n k₁ s₁ c₁ m far k' s' c' h, λ rg r t. let before = far.told rg r t in acting before.2 closed))
 
   broken_by : (why : MemFault) → ActsOn op k₁ s₁ c₁ (Err (Broken why)) k' s' c' → KeepsFault (Some why) k s s'
   broken_by LinkFault h = rose_acts op k s c n k₁ s₁ c₁ m far k' s' c' h
@@ -143,9 +154,10 @@ module _ {R : Type 0} (op : ℕ) (k : Desk) (s : Seen R) (c : PsCore) (n : ℕ) 
     forced_again res e h = forced_on op k s c n k₁ s₁ c₁ m far k' s' c' u acts c'' j (λ d. subst (λ r. ForcesUnit u c' m r j c'') e (h d (λ a. let x = a in let y = e in cc)))
 
     -- its run failed
-    pub stopped_on : (f : PsFault) → j ≤ n → is_fault f ≢ Err Link → (IsDeferred c'.store u → is_fault f ≢ Err NoMemory → ForcesUnit u c' m (Err f) j c'') → OperatesOn k s c op n (Err f) k' s' c'' j fault
-    stopped_on (Error e) b not_link h =
+    pub stopped_on : (f : PsFault) → j ≤ n → j ≤ m → closed_part c''.store ≡ closed_part c'.store → is_fault f ≢ Err Link → (IsDeferred c'.store u → is_fault f ≢ Err NoMemory → ForcesUnit u c' m (Err f) j c'') → OperatesOn k s c op n (Err f) k' s' c'' j fault
+    stopped_on (Error e) b b' closed not_link h =
         (b, λ a. absurd (let x = a in cc), force_fails op k s c n k₁ s₁ c₁ m far k' s' c' u acts c'' j (Error e) (λ d. h d (λ a. let x = a in cc)))
-    stopped_on Spent b not_link h = (b, λ a. absurd (let x = a in cc), force_fails op k s c n k₁ s₁ c₁ m far k' s' c' u acts c'' j Spent (λ d. h d (λ a. let x = a in cc)))
-    stopped_on Link b not_link h = absurd (not_link refl)
-    stopped_on NoMemory b not_link h = (b, λ a. absurd (let x = a in cc), force_lacks op k s c n k₁ s₁ c₁ m far k' s' c' u acts c'' j)
+    stopped_on Spent b b' closed not_link h = (b, λ a. absurd (let x = a in cc), force_fails op k s c n k₁ s₁ c₁ m far k' s' c' u acts c'' j Spent (λ d. h d (λ a. let x = a in cc)))
+    stopped_on Link b b' closed not_link h = absurd (not_link refl)
+    stopped_on NoMemory b b' closed not_link h =
+        (b, λ a. absurd (let x = a in cc), (force_lacks op k s c n k₁ s₁ c₁ m far k' s' c' u acts c'' j, force_short op k s c n k₁ s₁ c₁ m far k' s' c' u acts c'' j b' closed))

@@ -1,8 +1,9 @@
 -- What an operator did, by the memory that is told.
-use Rattle.std.specs.Prelude.{◌≡◌, ◌≤◌, ℕ, Option, IsSome, Some, None, Result, Ok, Err}
+use Rattle.std.specs.Prelude.{◌≡◌, ◌≤◌, ℕ, List, Option, IsSome, Some, None, Result, Ok, Err}
 use Rattle.ldb_edge.specs.Count.{Rose}
 use Rattle.machine_state.specs.Regions.{Regions}
-use Rattle.abs_mem.specs.Meaning.{Seen}
+use Rattle.ps_store.specs.Store.{closed_part}
+use Rattle.abs_mem.specs.Meaning.{Seen, Led}
 use Rattle.abs_mem.specs.declared.memory.MemFault.{MemFault}
 use Rattle.abs_mem.specs.declared.memory.MemFault.TheVariants.{Outside, LinkFault, BadReply}
 use Rattle.ps_step.specs.declared.fault.PsFault.TheVariants.{Error, Spent, Link, NoMemory}
@@ -16,6 +17,17 @@ use Rattle.ps_bare.specs.Deferred.{IsDeferred}
 use Rattle.ps_ops.specs.declared.halt.Halt.{Halt}
 use Rattle.ps_ops.specs.declared.halt.Halt.TheVariants.{Raised, Wanting, Broken, Needs}
 use Rattle.ps_ops.specs.Desk.{Desk, dial_of, memory_of}
+
+-- units that an operator needed were run, one after another, since so many steps were left
+pub data Prepares (d : Dial) (op : ℕ) (c : PsCore) (left : ℕ) : PsCore → ℕ → Type 0 where
+  begun : Prepares d op c left c left
+  further : {c₁ c₂ : PsCore} {u m n : ℕ} → Prepares d op c left c₁ m → act op d c₁ ≡ Err (Wants u) → ForcesUnit u c₁ m (Ok tt) n c₂ → Prepares d op c left c₂ n
+
+-- Memory ran out once such units were run: under the operator itself, and the steps are those that were left then; or in the run
+-- of one more unit that it needed, and the dial is as it was. What is closed is as the units that were run left it.
+pub data RunsShort (d : Dial) (op : ℕ) (c : PsCore) (left : ℕ) : Dial → PsCore → ℕ → Type 0 where
+  acting : {d' : Dial} {c₁ c' : PsCore} {m : ℕ} → Prepares d op c left c₁ m → closed_part c'.store ≡ closed_part c₁.store → RunsShort d op c left d' c' m
+  running : {c₁ c' : PsCore} {u m n : ℕ} → Prepares d op c left c₁ m → act op d c₁ ≡ Err (Wants u) → IsDeferred c₁.store u → closed_part c'.store ≡ closed_part c₁.store → n ≤ m → RunsShort d op c left d c' n
 
 module _ {R : Type 0} where
   -- a bad reply came, and no fault: so no bytes were told
@@ -64,13 +76,19 @@ module _ {R : Type 0} where
   OperatesBy k s c op left (Err (Error e)) k' s' c' left' fault = OperatesTold k s c op left (Err (Error e)) k' s' c' left'
   OperatesBy k s c op left (Err Spent) k' s' c' left' fault = OperatesTold k s c op left (Err Spent) k' s' c' left'
   OperatesBy k s c op left (Err Link) k' s' c' left' fault = KeepsFault fault k s s'
-  OperatesBy k s c op left (Err NoMemory) k' s' c' left' fault = KeepsMemory k s k' s'
+  OperatesBy k s c op left (Err NoMemory) k' s' c' left' fault =
+      KeepsMemory k s k' s' × ((rg : Regions) (r : R) → s.tells (memory_of k rg) r → RunsShort (dial_of k rg) op c left (dial_of k' rg) c' left')
 
-  -- It gives no steps back. Where the memory gave no answer it is kept why.
+  -- It gives no steps back. Where the memory gave no answer it is kept why. Where memory ran out some of the units that it needs
+  -- were run, and the target's bytes are as before.
   abbrev pub OperatesOn : Desk → Seen R → PsCore → (op left : ℕ) → Answer → Desk → Seen R → PsCore → (left' : ℕ) → (fault : Option MemFault) → Type 0
   OperatesOn k s c op left answer k' s' c' left' fault = (left' ≤ left) × (answer ≡ Err Link → IsSome fault) × OperatesBy k s c op left answer k' s' c' left' fault
 
--- units that an operator needed were run, one after another, since so many steps were left
-pub data Prepares (d : Dial) (op : ℕ) (c : PsCore) (left : ℕ) : PsCore → ℕ → Type 0 where
-  begun : Prepares d op c left c left
-  further : {c₁ c₂ : PsCore} {u m n : ℕ} → Prepares d op c left c₁ m → act op d c₁ ≡ Err (Wants u) → ForcesUnit u c₁ m (Ok tt) n c₂ → Prepares d op c left c₂ n
+-- Its calls led from a memory to another. Where a bad reply is kept, the last of them brought it.
+abbrev pub LedKept : {M : Type 0} → (M → Option (List ℕ) → M → Type 0) → M → Answer → M → (fault : Option MemFault) → Type 0
+LedKept leads m (Ok x) m' fault = leads m None m'
+LedKept leads m (Err (Error e)) m' fault = leads m None m'
+LedKept leads m (Err Spent) m' fault = leads m None m'
+LedKept leads m (Err NoMemory) m' fault = leads m None m'
+LedKept leads m (Err Link) m' (Some f) = Led {A = Unit {0}} leads m (Err f) m'
+LedKept leads m (Err Link) m' None = ⊥

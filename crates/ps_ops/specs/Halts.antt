@@ -1,9 +1,10 @@
 -- Why an operator has no result, by what a walk, a leaf operator or a memory answered.
-use Rattle.std.specs.Prelude.{true, false, Result, Ok, Err}
+use Rattle.std.specs.Prelude.{ℕ, true, false, List, Option, None, Result, Ok, Err}
 use Rattle.ps_step.specs.declared.fault.PsError.TheVariants.{Undefined, TypeCheck, RangeCheck}
 use Rattle.ps_step.specs.declared.fault.PsFault.TheVariants.{Error, Spent, Link, NoMemory}
 use Rattle.ps_run.specs.Runs.{Answer}
 use Rattle.abs_mem.specs.declared.memory.MemFault.TheVariants.{Outside, LinkFault, BadReply}
+use Rattle.abs_mem.specs.Meaning.{Led}
 use Rattle.abs_mem.specs.declared.walk.WalkFault.{WalkFault}
 use Rattle.abs_mem.specs.declared.walk.WalkFault.TheVariants as fault
 use Rattle.ps_places.specs.declared.access.Trouble.{Trouble}
@@ -35,3 +36,16 @@ abbrev pub left_over : Result (Unit {0}) Trouble → Result (Unit {0}) Halt
 left_over (Ok x) = Ok x
 left_over (Err (trouble.Ps f)) = left (Err f)
 left_over (Err (trouble.Broken f)) = Err (Broken f)
+
+-- ---- calls of a memory
+
+-- Calls led from a memory to another, where an operator has no result. Where a bad reply is told, the last of them brought it.
+abbrev pub LedStop : {M : Type 0} → (M → Option (List ℕ) → M → Type 0) → M → Halt → M → Type 0
+LedStop leads m (Broken f) m' = Led {A = Unit {0}} leads m (Err f) m'
+LedStop leads m (Raised e) m' = leads m None m'
+LedStop leads m Wanting m' = leads m None m'
+LedStop leads m (Needs u) m' = leads m None m'
+
+abbrev pub LedHalt : {M A : Type 0} → (M → Option (List ℕ) → M → Type 0) → M → Result A Halt → M → Type 0
+LedHalt leads m (Ok x) m' = leads m None m'
+LedHalt leads m (Err h) m' = LedStop leads m h m'

@@ -5,6 +5,7 @@ ghost use Rattle.frame_bytes.specs.Bytes.{Bytes};
 ghost use Rattle.table_model.specs.Frames.{frame_at, outward_by, row_of_target};
 ghost use Rattle.abs_mem.specs.Walking.{Walks, LedWalk};
 ghost use Rattle.ps_ops.specs.Asking.{LooksUp, frame_by, scope_by, found_by, found_two};
+ghost use Rattle.ps_ops.specs.Halts.{LedHalt};
 
 use crate::halt::{Halt, halted};
 use crate::view::{Standing, View};
@@ -66,7 +67,8 @@ pub fn frame_numbered<M: AbsMem>(
 /// The frame in which operators work, if there is one.
 #[tactic(auto, using(crate::proofs::Looking::no_frame, crate::proofs::Looking::known_frame, crate::proofs::Looking::numbered_told, crate::proofs::Looking::numbered_halts))]
 pub fn frame_of<M: AbsMem>(view: &View, table: &PsStore, m: &mut M) -> Result<Option<Frame>, Halt>
-    ensures { LooksUp table.now (λ b. frame_by view.now table.now b) (M.seen m.old) result (M.seen m.new) }
+    ensures looks { LooksUp table.now (λ b. frame_by view.now table.now b) (M.seen m.old) result (M.seen m.new) }
+    ensures calls { LedHalt M.leads m.old result m.new }
 {
     match view.standing {
         Standing::NoFrame => Ok(None),
@@ -83,7 +85,8 @@ pub fn frame_of<M: AbsMem>(view: &View, table: &PsStore, m: &mut M) -> Result<Op
 /// The innermost symbol in scope in that frame, which has to be there.
 #[tactic(auto, using(crate::proofs::Looking::no_scope, crate::proofs::Looking::known_scope, crate::proofs::Looking::scope_unframed, crate::proofs::Looking::scope_no_frame, crate::proofs::Looking::scope_told, crate::proofs::Looking::scope_unforced, crate::proofs::Looking::scope_lacks))]
 pub fn scope_in<M: AbsMem>(view: &View, table: &PsStore, m: &mut M) -> Result<Option<DictId>, Halt>
-    ensures { LooksUp table.now (λ b. scope_by view.now table.now b) (M.seen m.old) result (M.seen m.new) }
+    ensures looks { LooksUp table.now (λ b. scope_by view.now table.now b) (M.seen m.old) result (M.seen m.new) }
+    ensures calls { LedHalt M.leads m.old result m.new }
 {
     match view.standing {
         Standing::NoFrame => Err(Halt::Raised(PsError::RangeCheck)),
@@ -108,7 +111,8 @@ pub fn found<M: AbsMem>(
     m: &mut M,
     address: u32,
 ) -> Result<Option<Found>, Halt>
-    ensures { LooksUp table.now (λ b. found_by view.now table.now b address) (M.seen m.old) result (M.seen m.new) }
+    ensures looks { LooksUp table.now (λ b. found_by view.now table.now b address) (M.seen m.old) result (M.seen m.new) }
+    ensures calls { LedHalt M.leads m.old result m.new }
 {
     if address == 0 {
         return Ok(None);
@@ -132,7 +136,8 @@ pub fn found_two<M: AbsMem>(
     p: u32,
     q: u32,
 ) -> Result<(Option<Found>, Option<Found>), Halt>
-    ensures { LooksUp table.now (λ b. found_two view.now table.now b p q) (M.seen m.old) result (M.seen m.new) }
+    ensures looks { LooksUp table.now (λ b. found_two view.now table.now b p q) (M.seen m.old) result (M.seen m.new) }
+    ensures calls { LedHalt M.leads m.old result m.new }
 {
     match found(view, table, m, p) {
         Err(halt) => Err(halt),

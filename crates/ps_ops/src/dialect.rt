@@ -4,8 +4,9 @@ ghost use Rattle.std.specs.Prelude.{◌≡◌, ◌≤◌, ◌-◌, Err};
 ghost use Rattle.ps_store.specs.Store.{closed_part};
 ghost use Rattle.ps_store.specs.Settled.{Settled};
 ghost use Rattle.ps_step.specs.declared.fault.PsFault.TheVariants.{Spent as OutOfSteps};
-ghost use Rattle.ps_ops.specs.Acting.{ActsOn, OperatesOn};
+ghost use Rattle.ps_ops.specs.Acting.{ActsOn, OperatesOn, LedKept};
 ghost use Rattle.ps_ops.specs.Desk.{desk_of};
+ghost use Rattle.ps_ops.specs.Halts.{LedHalt};
 
 use crate::halt::{Halt, left};
 use crate::objects::{add, compare, find_where, measure_run, subtract, take_leaf};
@@ -29,6 +30,7 @@ fn act<W: AbsMem + Drop>(
     op: u16,
 ) -> Result<(), Halt>
     ensures acts { ActsOn op (desk_of view.now memory.old.below.below.order memory.old.below.cell out.old) (W.seen memory.old.below.below.below) core.old result (desk_of view.now memory.new.below.below.order memory.new.below.cell out.new) (W.seen memory.new.below.below.below) core.new }
+    ensures calls { LedHalt W.leads memory.old.below.below.below result memory.new.below.below.below }
     ensures closed { closed_part core.new.store ≡ closed_part core.old.store }
 {
     match op {
@@ -65,6 +67,7 @@ fn run_operator<W: AbsMem + Drop>(
 ) -> Result<(), PsFault>
     requires { steps.old.taken ≤ steps.old.limit }
     ensures operates { OperatesOn (desk_of view.now memory.old.below.below.order memory.old.below.cell out.old) (W.seen memory.old.below.below.below) core.old op (steps.old.limit - steps.old.taken) result (desk_of view.now memory.new.below.below.order memory.new.below.cell out.new) (W.seen memory.new.below.below.below) core.new (steps.new.limit - steps.new.taken) fault.new }
+    ensures calls { LedKept W.leads memory.old.below.below.below result memory.new.below.below.below fault.new }
     ensures limit { steps.new.limit ≡ steps.old.limit }
     ensures within { steps.new.taken ≤ steps.new.limit }
     ensures spent { result ≡ Err OutOfSteps → steps.new.taken ≡ steps.new.limit }
@@ -103,7 +106,7 @@ impl<W: AbsMem + Drop> Dialect for Operators<W> {
     ghost use Rattle.std.specs.Prelude.{◌≡◌};
     ghost use Rattle.ps_store.proofs.Settling.{settled_same, settled_on};
 
-    ghost operates = { λ o c op left answer o' c' left'. (o'.view ≡ o.view) × OperatesOn (desk_of o.view o.memory.below.below.order o.memory.below.cell o.out) (W.seen o.memory.below.below.below) c op left answer (desk_of o'.view o'.memory.below.below.order o'.memory.below.cell o'.out) (W.seen o'.memory.below.below.below) c' left' o'.fault };
+    ghost operates = { λ o c op left answer o' c' left'. (o'.view ≡ o.view) × OperatesOn (desk_of o.view o.memory.below.below.order o.memory.below.cell o.out) (W.seen o.memory.below.below.below) c op left answer (desk_of o'.view o'.memory.below.below.order o'.memory.below.cell o'.out) (W.seen o'.memory.below.below.below) c' left' o'.fault × LedKept W.leads o.memory.below.below.below answer o'.memory.below.below.below o'.fault };
 
     ghost remains = { Settled };
 

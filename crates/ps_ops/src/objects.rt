@@ -4,6 +4,7 @@ ghost use Rattle.std.specs.Prelude.{◌≡◌, ℕ, List};
 ghost use Rattle.ps_store.specs.Store.{closed_part};
 ghost use Rattle.ps_ops.specs.Acting.{ActsOn};
 ghost use Rattle.ps_ops.specs.Desk.{desk_of};
+ghost use Rattle.ps_ops.specs.Halts.{LedHalt};
 
 use crate::asking::{found, found_two, scope_in};
 use crate::halt::{Halt, left};
@@ -25,6 +26,7 @@ pub fn find_where<W: AbsMem + Drop>(
     core: &mut PsCore,
 ) -> Result<(), Halt>
     ensures acts { (out : List ℕ) → ActsOn 5 (desk_of view.now memory.old.below.below.order memory.old.below.cell out) (W.seen memory.old.below.below.below) core.old result (desk_of view.now memory.new.below.below.order memory.new.below.cell out) (W.seen memory.new.below.below.below) core.new }
+    ensures calls { LedHalt W.leads memory.old.below.below.below result memory.new.below.below.below }
     ensures closed { closed_part core.new.store ≡ closed_part core.old.store }
 {
     match top_name(core) {
@@ -43,6 +45,7 @@ pub fn add<W: AbsMem + Drop>(
     core: &mut PsCore,
 ) -> Result<(), Halt>
     ensures acts { (out : List ℕ) → ActsOn 23 (desk_of view.now memory.old.below.below.order memory.old.below.cell out) (W.seen memory.old.below.below.below) core.old result (desk_of view.now memory.new.below.below.order memory.new.below.cell out) (W.seen memory.new.below.below.below) core.new }
+    ensures calls { LedHalt W.leads memory.old.below.below.below result memory.new.below.below.below }
     ensures closed { closed_part core.new.store ≡ closed_part core.old.store }
 {
     match sum_operands(core) {
@@ -66,6 +69,7 @@ pub fn subtract<W: AbsMem + Drop>(
     core: &mut PsCore,
 ) -> Result<(), Halt>
     ensures acts { (out : List ℕ) → ActsOn 24 (desk_of view.now memory.old.below.below.order memory.old.below.cell out) (W.seen memory.old.below.below.below) core.old result (desk_of view.now memory.new.below.below.order memory.new.below.cell out) (W.seen memory.new.below.below.below) core.new }
+    ensures calls { LedHalt W.leads memory.old.below.below.below result memory.new.below.below.below }
     ensures closed { closed_part core.new.store ≡ closed_part core.old.store }
 {
     match difference_operands(core) {
@@ -90,6 +94,7 @@ pub fn compare<W: AbsMem + Drop>(
     core: &mut PsCore,
 ) -> Result<(), Halt>
     ensures acts { (out : List ℕ) → ActsOn 25 (desk_of view.now memory.old.below.below.order memory.old.below.cell out) (W.seen memory.old.below.below.below) core.old result (desk_of view.now memory.new.below.below.order memory.new.below.cell out) (W.seen memory.new.below.below.below) core.new }
+    ensures calls { LedHalt W.leads memory.old.below.below.below result memory.new.below.below.below }
     ensures closed { closed_part core.new.store ≡ closed_part core.old.store }
 {
     match comparison_operands(core) {
@@ -108,6 +113,7 @@ pub fn take_leaf<W: AbsMem + Drop>(
     core: &mut PsCore,
 ) -> Result<(), Halt>
     ensures acts { (out : List ℕ) → ActsOn 26 (desk_of view.now memory.old.below.below.order memory.old.below.cell out) (W.seen memory.old.below.below.below) core.old result (desk_of view.now memory.new.below.below.order memory.new.below.cell out) (W.seen memory.new.below.below.below) core.new }
+    ensures calls { LedHalt W.leads memory.old.below.below.below result memory.new.below.below.below }
     ensures closed { closed_part core.new.store ≡ closed_part core.old.store }
 {
     match leaf_operands(core) {
@@ -126,6 +132,7 @@ pub fn measure_run<W: AbsMem + Drop>(
     core: &mut PsCore,
 ) -> Result<(), Halt>
     ensures acts { (out : List ℕ) → ActsOn 32 (desk_of view.now memory.old.below.below.order memory.old.below.cell out) (W.seen memory.old.below.below.below) core.old result (desk_of view.now memory.new.below.below.order memory.new.below.cell out) (W.seen memory.new.below.below.below) core.new }
+    ensures calls { LedHalt W.leads memory.old.below.below.below result memory.new.below.below.below }
     ensures closed { closed_part core.new.store ≡ closed_part core.old.store }
 {
     match top_word(core) {

@@ -5,6 +5,7 @@ ghost use Rattle.ps_store.specs.Store.{closed_part};
 ghost use Rattle.ps_ops.specs.Acting.{ActsOn};
 ghost use Rattle.ps_ops.specs.Desk.{desk_of};
 ghost use Rattle.ps_ops.specs.Asking.{LooksUp, frame_for};
+ghost use Rattle.ps_ops.specs.Halts.{LedHalt};
 
 use crate::asking::frame_of;
 use crate::halt::{Halt, left, left_over};
@@ -32,7 +33,8 @@ pub fn frame_for<M: AbsMem>(
     m: &mut M,
     space: Space,
 ) -> Result<Option<Frame>, Halt>
-    ensures { LooksUp table.now (λ b. frame_for view.now table.now b space) (M.seen m.old) result (M.seen m.new) }
+    ensures looks { LooksUp table.now (λ b. frame_for view.now table.now b space) (M.seen m.old) result (M.seen m.new) }
+    ensures calls { LedHalt M.leads m.old result m.new }
 {
     match space {
         Space::Registers => frame_of(view, table, m),
@@ -47,6 +49,7 @@ pub fn local_in<W: AbsMem + Drop>(
     core: &mut PsCore,
 ) -> Result<(), Halt>
     ensures acts { (out : List ℕ) → ActsOn 2 (desk_of view.now memory.old.below.below.order memory.old.below.cell out) (W.seen memory.old.below.below.below) core.old result (desk_of view.now memory.new.below.below.order memory.new.below.cell out) (W.seen memory.new.below.below.below) core.new }
+    ensures calls { LedHalt W.leads memory.old.below.below.below result memory.new.below.below.below }
     ensures closed { closed_part core.new.store ≡ closed_part core.old.store }
 {
     match top_word(core) {
@@ -65,6 +68,7 @@ pub fn place_value<W: AbsMem + Drop>(
     core: &mut PsCore,
 ) -> Result<(), Halt>
     ensures acts { (out : List ℕ) → ActsOn 4 (desk_of view.now memory.old.below.below.order memory.old.below.cell out) (W.seen memory.old.below.below.below) core.old result (desk_of view.now memory.new.below.below.order memory.new.below.cell out) (W.seen memory.new.below.below.below) core.new }
+    ensures calls { LedHalt W.leads memory.old.below.below.below result memory.new.below.below.below }
     ensures closed { closed_part core.new.store ≡ closed_part core.old.store }
 {
     memory.set_frame(None);
@@ -78,6 +82,7 @@ pub fn fetch_at<W: AbsMem + Drop>(
     core: &mut PsCore,
 ) -> Result<(), Halt>
     ensures acts { (out : List ℕ) → ActsOn 6 (desk_of view.now memory.old.below.below.order memory.old.below.cell out) (W.seen memory.old.below.below.below) core.old result (desk_of view.now memory.new.below.below.order memory.new.below.cell out) (W.seen memory.new.below.below.below) core.new }
+    ensures calls { LedHalt W.leads memory.old.below.below.below result memory.new.below.below.below }
     ensures closed { closed_part core.new.store ≡ closed_part core.old.store }
 {
     match fetch_of(core) {
@@ -104,6 +109,7 @@ pub fn store_at<W: AbsMem + Drop>(
     core: &mut PsCore,
 ) -> Result<(), Halt>
     ensures acts { (out : List ℕ) → ActsOn 7 (desk_of view.now memory.old.below.below.order memory.old.below.cell out) (W.seen memory.old.below.below.below) core.old result (desk_of view.now memory.new.below.below.order memory.new.below.cell out) (W.seen memory.new.below.below.below) core.new }
+    ensures calls { LedHalt W.leads memory.old.below.below.below result memory.new.below.below.below }
     ensures closed { closed_part core.new.store ≡ closed_part core.old.store }
 {
     match store_of(core, view.raw) {

@@ -4,6 +4,7 @@ ghost use Rattle.std.specs.Prelude.{◌≡◌, ◌≤◌, ℕ, List};
 ghost use Rattle.ps_store.specs.Store.{closed_part};
 ghost use Rattle.ps_ops.specs.Acting.{ActsOn};
 ghost use Rattle.ps_ops.specs.Desk.{desk_of};
+ghost use Rattle.ps_ops.specs.Halts.{LedHalt};
 
 use crate::asking::found;
 use crate::halt::{Halt, left, left_over};
@@ -24,6 +25,7 @@ fn put_address<W: AbsMem + Drop>(
     out: &mut Text,
 ) -> Result<(), Halt>
     ensures acts { ActsOn 30 (desk_of view.now memory.old.below.below.order memory.old.below.cell out.old) (W.seen memory.old.below.below.below) core.old result (desk_of view.now memory.new.below.below.order memory.new.below.cell out.new) (W.seen memory.new.below.below.below) core.new }
+    ensures calls { LedHalt W.leads memory.old.below.below.below result memory.new.below.below.below }
     ensures closed { closed_part core.new.store ≡ closed_part core.old.store }
 {
     match top_word(core) {
@@ -43,6 +45,7 @@ fn put_characters<W: AbsMem + Drop>(
     out: &mut Text,
 ) -> Result<(), Halt>
     ensures acts { ActsOn 31 (desk_of view.now memory.old.below.below.order memory.old.below.cell out.old) (W.seen memory.old.below.below.below) core.old result (desk_of view.now memory.new.below.below.order memory.new.below.cell out.new) (W.seen memory.new.below.below.below) core.new }
+    ensures calls { LedHalt W.leads memory.old.below.below.below result memory.new.below.below.below }
     ensures closed { closed_part core.new.store ≡ closed_part core.old.store }
 {
     match string_place(core) {
@@ -75,6 +78,7 @@ pub fn append<W: AbsMem + Drop>(
     requires from { 28 ≤ op }
     requires to { op ≤ 31 }
     ensures acts { ActsOn op (desk_of view.now memory.old.below.below.order memory.old.below.cell out.old) (W.seen memory.old.below.below.below) core.old result (desk_of view.now memory.new.below.below.order memory.new.below.cell out.new) (W.seen memory.new.below.below.below) core.new }
+    ensures calls { LedHalt W.leads memory.old.below.below.below result memory.new.below.below.below }
     ensures closed { closed_part core.new.store ≡ closed_part core.old.store }
 {
     match op {

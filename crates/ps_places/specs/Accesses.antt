@@ -1,5 +1,5 @@
 -- Accesses of the memory of a target, by the bytes that it tells.
-use Rattle.std.specs.Prelude.{◌≡◌, ℕ, ◌%◌, ◌^◌, Bool, true, false, nat_lt, length, pos, ◌∷◌, drop, if◌then◌else◌, Option, Some, None, Result, Ok, Err}
+use Rattle.std.specs.Prelude.{◌≡◌, ℕ, ◌%◌, ◌^◌, Bool, true, false, nat_lt, length, pos, List, ◌∷◌, drop, if◌then◌else◌, Option, Some, None, Result, Ok, Err}
 use Rattle.std.specs.Int.{w8, cast_signed}
 use Rattle.ldb_edge.specs.Count.{Rose}
 use Rattle.ldb_words.specs.declared.kinds.Kind.{Kind}
@@ -103,3 +103,11 @@ Over act s c (Err (Ps Link)) s' c' = ⊥
 Over act s c (Err (Broken LinkFault)) s' c' = Rose s.faults s'.faults
 Over act s c (Err (Broken (BadReply frame))) s' c' = Untold s s'
 Over act s c (Err (Broken (Outside p))) s' c' = ⊥
+
+-- its calls led from a memory to another; where a bad reply is answered, the last of them brought it
+abbrev pub LedAct : {M : Type 0} → (M → Option (List ℕ) → M → Type 0) → M → Result (Unit {0}) Trouble → M → Type 0
+LedAct leads m (Err (Broken (BadReply frame))) m' = leads m (Some frame.items) m'
+LedAct leads m (Err (Broken LinkFault)) m' = Unit {0}
+LedAct leads m (Err (Broken (Outside p))) m' = leads m None m'
+LedAct leads m (Err (Ps f)) m' = leads m None m'
+LedAct leads m (Ok x) m' = leads m None m'

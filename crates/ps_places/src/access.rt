@@ -2,7 +2,7 @@
 
 ghost use Rattle.ps_store.specs.Store.{closed_part};
 ghost use Rattle.std.specs.Prelude.{◌≡◌, ◌≤◌, OnOk, length};
-ghost use Rattle.ps_places.specs.Accesses.{value_of, may_store, fetch_of, fetching, store_of, storing, immediate_value, placing_value, Over, troubled};
+ghost use Rattle.ps_places.specs.Accesses.{value_of, may_store, fetch_of, fetching, store_of, storing, immediate_value, placing_value, Over, LedAct, troubled};
 
 use crate::place::{kind_named, space_name, space_named, text_of, top_word};
 use abs_mem::{AbsMem, MemFault};
@@ -69,6 +69,7 @@ pub fn fetch_of(core: &PsCore) -> Result<(Place, Kind), PsError>
 /// `fetch`: the value of a kind at a place. rangecheck comes where the place is outside. An error leaves all as it was.
 pub fn fetch<M: AbsMem>(core: &mut PsCore, memory: &mut M) -> Result<(), Trouble>
     ensures does { Over fetching (M.seen memory.old) core.old result (M.seen memory.new) core.new }
+    ensures calls { LedAct M.leads memory.old result memory.new }
     ensures closed { closed_part core.new.store ≡ closed_part core.old.store }
 {
     match fetch_of(core) {
@@ -106,6 +107,7 @@ pub fn store_of(core: &PsCore, raw: bool) -> Result<(Place, Kind, u32), PsError>
 /// where they may not be, rangecheck where the place is outside. An error leaves all as it was.
 pub fn store<M: AbsMem>(core: &mut PsCore, memory: &mut M, raw: bool) -> Result<(), Trouble>
     ensures does { Over (storing raw) (M.seen memory.old) core.old result (M.seen memory.new) core.new }
+    ensures calls { LedAct M.leads memory.old result memory.new }
     ensures closed { closed_part core.new.store ≡ closed_part core.old.store }
 {
     match store_of(core, raw) {
@@ -136,6 +138,7 @@ fn immediate_value(core: &PsCore) -> Result<u32, PsError>
 /// value.
 pub fn immediate<M: AbsMem>(core: &mut PsCore, memory: &mut M) -> Result<(), Trouble>
     ensures does { Over placing_value (M.seen memory.old) core.old result (M.seen memory.new) core.new }
+    ensures calls { LedAct M.leads memory.old result memory.new }
     ensures closed { closed_part core.new.store ≡ closed_part core.old.store }
 {
     let cell = Place {

@@ -48,17 +48,23 @@ comma_printable = (omega arith, omega arith, (omega arith, omega arith, tt))
 module _ {D : Type 0} (Op : Operates D) (prints : Printing Op) (s : StoreState) (ds : List DictId) (digits : ArrayId) (holds : Holds s ds digits) (aim : Aim Op prints s ds)
     (k : ℕ) (d : D) (type : DictId) (space : List ℕ) (size : ℕ) where
   -- a run of `Show` at a place shows the thing, whatever was appended before
-  abbrev pub Shows : ℕ → Thing → Type 0
-  Shows place i = (t : List ℕ) (r left : ℕ) (o : List PsObj) (under : List Item) → RoomFor k o under → r < 1000
+  abbrev pub Shows : ℕ → ℕ → Thing → Type 0
+  Shows r place i = (t : List ℕ) (left : ℕ) (o : List PsObj) (under : List Item) → RoomFor k o under → r < 1000
       → Ends Op prints s ds aim left (prints.append d (t ++ i.text (suc r))) (Int (pos (i.room (suc r))) ∷ o) under
       → On Op prints s ds digits holds aim o under (i.steps (suc r) left) (prints.append d t) (state (show_body ∷ []) (Obj (Dict type) ∷ Obj (Int (word place)) ∷ Key space ∷ Obj (Int (pos (suc r))) ∷ []))
 
   abbrev pub after_item : ℕ → ℕ
   after_item place = (size + place) % 2 ^ 32
 
-  abbrev pub EachShows : ℕ → List Thing → Type 0
-  EachShows place [] = Unit {0}
-  EachShows place (i ∷ is) = Shows place i × ((r : ℕ) → i.room r ≤ r) × EachShows (after_item place) is
+  -- so does one after another, as far as there is room
+  abbrev pub EachShows : ℕ → ℕ → List Thing → Type 0
+  EachShows room place [] = Unit {0}
+  EachShows zero place (i ∷ is) = Unit {0}
+  EachShows (suc r) place (i ∷ is) = Shows r place i × (i.room (suc r) ≤ suc r) × EachShows (i.room (suc r)) (after_item place) is
+
+  pub unseen_shows : (place : ℕ) (is : List Thing) → EachShows 0 place is
+  unseen_shows place [] = tt
+  unseen_shows place (i ∷ is) = tt
 
   abbrev at_items : ℕ → List Thing → List ℕ → ℕ → State
   at_items place is before r = state (items_body ∷ []) (Obj (Dict type) ∷ Obj (Int (word place)) ∷ Key space ∷ Obj (Int (pos (length is))) ∷ Bytes before ∷ Obj (Int (pos r)) ∷ [])
@@ -136,7 +142,7 @@ module _ {D : Type 0} (Op : Operates D) (prints : Printing Op) (s : StoreState) 
           (state (items_body ∷ []) (own (after_item place) count (codes ", ") r)) refl g))))))
 
       -- an item is shown
-      shown_goes : (i : Thing) (place count : ℕ) (before : List ℕ) (r left : ℕ) (t : List ℕ) → r < 1000 → Shows place i
+      shown_goes : (i : Thing) (place count : ℕ) (before : List ℕ) (r left : ℕ) (t : List ℕ) → r < 1000 → Shows r place i
           → Here left (t ++ i.text (suc r)) (state (items_turn ∷ []) (Obj (Int (pos (i.room (suc r)))) ∷ below place (suc count) before))
           → Here (further 13 (i.steps (suc r) left)) t (state (items_room ∷ []) (Obj (Truth (int_eq (pos (suc r)) (pos 0))) ∷ own place (suc count) before (suc r)))
       shown_goes i place count before r left t within shows g =
@@ -146,11 +152,11 @@ module _ {D : Type 0} (Op : Operates D) (prints : Printing Op) (s : StoreState) 
           (state (show_body ∷ items_turn ∷ []) (vs ++ below place (suc count) before)) refl
           (goes_through Op prints s ds (words digits) holds.knows aim o under show_body (items_turn ∷ []) vs (below place (suc count) before) (Int (pos (i.room (suc r)))) (i.steps (suc r) left) left
           (prints.append d t) (prints.append d (t ++ i.text (suc r)))
-          (λ o' under' lo lu g'. shows t r left o' under' (let a = room.operands in let b = room.items in record { operands = omega arith; items = omega arith }) within g') g))
+          (λ o' under' lo lu g'. shows t left o' under' (let a = room.operands in let b = room.items in record { operands = omega arith; items = omega arith }) within g') g))
 
     -- The run of `Items` appends the items' texts with their separators, up to the room that there is, and leaves the room that is left.
     pub items_run : (is : List Thing) (before : List ℕ) (place r left : ℕ) (t : List ℕ) (o : List PsObj) (under : List Item) → RoomFor (5 + k) o under → AllPrintable before
-        → place < 2 ^ 32 → length is < 2 ^ 31 → r ≤ 1000 → EachShows place is
+        → place < 2 ^ 32 → length is < 2 ^ 31 → r ≤ 1000 → EachShows r place is
         → Ends Op prints s ds aim left (prints.append d (t ++ items_text before is r)) (Int (pos (items_left is r)) ∷ o) under
         → On Op prints s ds digits holds aim o under (items_steps is r left) (prints.append d t) (at_items place is before r)
     items_run [] before place r left t o under room printable within few enough each g =
@@ -164,7 +170,7 @@ module _ {D : Type 0} (Op : Operates D) (prints : Printing Op) (s : StoreState) 
         (leaves Op prints s ds digits holds aim (Int (pos 0)) left (prints.append d (t ++ (before ++ codes "..."))) o under g)))
     items_run (i ∷ is) before place (suc r) left t o under room printable within few enough each g =
         let r' : ℕ = i.room (suc r) in
-        let fewer : r' ≤ suc r = each.1 (suc r) in
+        let fewer : r' ≤ suc r = each.1 in
         let t' : List ℕ = (t ++ before) ++ i.text (suc r) in
         let whole : t ++ (before ++ i.text (suc r) ++ items_text (codes ", ") is r') ≡ t' ++ items_text (codes ", ") is r' =
         sym (append_assoc t (before ++ i.text (suc r)) (items_text (codes ", ") is r')) ∙ ap (λ x. x ++ items_text (codes ", ") is r') (sym (append_assoc t before (i.text (suc r)))) in

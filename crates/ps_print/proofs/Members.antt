@@ -55,12 +55,17 @@ add_one i h =
 
 module _ {D : Type 0} (Op : Operates D) (prints : Printing Op) (s : StoreState) (ds : List DictId) (digits : ArrayId) (holds : Holds s ds digits) (aim : Aim Op prints s ds)
     (k : ℕ) (d : D) (space : List ℕ) (a : ArrayId) (e : Bool) (count place : ℕ) where
-  -- members from one on are shown, each at its offset
-  abbrev pub EachMember : ℕ → List Thing → Type 0
-  EachMember i [] = Unit {0}
-  EachMember i (thing ∷ is) =
-      ((offset : ℕ) × (type : DictId) × IsMember s a i offset type × Shows Op prints s ds digits holds aim k d type space 0 ((place + offset) % 2 ^ 32) thing)
-      × ((r : ℕ) → thing.room r ≤ r) × EachMember (suc i) is
+  -- members from one on are shown, each at its offset, as far as there is room
+  abbrev pub EachMember : ℕ → ℕ → List Thing → Type 0
+  EachMember room i [] = Unit {0}
+  EachMember zero i (thing ∷ is) = Unit {0}
+  EachMember (suc r) i (thing ∷ is) =
+      ((offset : ℕ) × (type : DictId) × IsMember s a i offset type × Shows Op prints s ds digits holds aim k d type space 0 r ((place + offset) % 2 ^ 32) thing)
+      × (thing.room (suc r) ≤ suc r) × EachMember (thing.room (suc r)) (suc i) is
+
+  pub unseen_member : (i : ℕ) (is : List Thing) → EachMember 0 i is
+  unseen_member i [] = tt
+  unseen_member i (thing ∷ is) = tt
 
   abbrev own : ℕ → List ℕ → ℕ → List Val
   own i before r = Obj (Int (word place)) ∷ Key space ∷ Obj (Int (pos i)) ∷ Obj (Array a e) ∷ Bytes before ∷ Obj (Int (pos r)) ∷ []
@@ -125,7 +130,7 @@ module _ {D : Type 0} (Op : Operates D) (prints : Printing Op) (s : StoreState) 
 
       -- a member is shown
       shown_goes : (thing : Thing) (i offset : ℕ) (type : DictId) (before : List ℕ) (r left : ℕ) (t : List ℕ) → r < 1000 → IsMember s a i offset type
-          → Shows Op prints s ds digits holds aim k d type space 0 ((place + offset) % 2 ^ 32) thing
+          → Shows Op prints s ds digits holds aim k d type space 0 r ((place + offset) % 2 ^ 32) thing
           → Here left (t ++ thing.text (suc r)) (state (members_turn ∷ []) (Obj (Int (pos (thing.room (suc r)))) ∷ below i before))
           → Here (before_member (thing.steps (suc r) left)) t (state (members_room ∷ []) (Obj (Truth (int_eq (pos (suc r)) (pos 0))) ∷ own i before (suc r)))
       shown_goes thing i offset type before r left t enough its shows g =
@@ -149,11 +154,11 @@ module _ {D : Type 0} (Op : Operates D) (prints : Printing Op) (s : StoreState) 
           (on 1 m₄ t (state (members_show ∷ []) (Obj (Dict type) ∷ Obj (Int (word at)) ∷ Key space ∷ rest)) (state (show_body ∷ members_turn ∷ []) (vs ++ below i before)) refl
           (goes_through Op prints s ds (words digits) holds.knows aim o under show_body (members_turn ∷ []) vs (below i before) (Int (pos (thing.room (suc r)))) m₄ left
           (prints.append d t) (prints.append d (t ++ thing.text (suc r)))
-          (λ o' under' lo lu g'. shows t r left o' under' (let x = room.operands in let y = room.items in record { operands = omega arith; items = omega arith }) enough g') g)))))))))
+          (λ o' under' lo lu g'. shows t left o' under' (let x = room.operands in let y = room.items in record { operands = omega arith; items = omega arith }) enough g') g)))))))))
 
     -- The run of `Members` appends the members' texts with their separators, up to the room that there is, and leaves the room that is left.
     pub members_run : (is : List Thing) (i : ℕ) (before : List ℕ) (r left : ℕ) (t : List ℕ) (o : List PsObj) (under : List Item) → RoomFor (5 + k) o under → AllPrintable before
-        → i + length is ≡ count → r ≤ 1000 → EachMember i is
+        → i + length is ≡ count → r ≤ 1000 → EachMember r i is
         → Ends Op prints s ds aim left (prints.append d (t ++ items_text before is r)) (Int (pos (items_left is r)) ∷ o) under
         → On Op prints s ds digits holds aim o under (members_steps is r left) (prints.append d t) (state (members_body ∷ []) (own i before r))
     members_run [] i before r left t o under room printable all enough each g =
@@ -167,7 +172,7 @@ module _ {D : Type 0} (Op : Operates D) (prints : Printing Op) (s : StoreState) 
         (leaves Op prints s ds digits holds aim (Int (pos 0)) left (prints.append d (t ++ (before ++ codes "..."))) o under g)))
     members_run (thing ∷ is) i before (suc r) left t o under room printable all enough each g =
         let r' : ℕ = thing.room (suc r) in
-        let fewer : r' ≤ suc r = each.1 (suc r) in
+        let fewer : r' ≤ suc r = each.1 in
         let its = each.0 in
         let t' : List ℕ = (t ++ before) ++ thing.text (suc r) in
         let whole : t ++ (before ++ thing.text (suc r) ++ items_text (codes ", ") is r') ≡ t' ++ items_text (codes ", ") is r' =
@@ -181,12 +186,12 @@ module _ {D : Type 0} (Op : Operates D) (prints : Printing Op) (s : StoreState) 
 
 module _ {D : Type 0} (Op : Operates D) (prints : Printing Op) (s : StoreState) (ds : List DictId) (digits : ArrayId) (holds : Holds s ds digits) (aim : Aim Op prints s ds) (d : D) (space : List ℕ) where
   module _ (k : ℕ) (type : DictId) (a : ArrayId) (e : Bool) (place : ℕ) (is : List Thing) (within : place < 2 ^ 32) (has : HasKey s type (codes "members") (Obj (Array a e)))
-      (there : HasArray s a) (many : length (elements_of s a) ≡ length is) (few : length is < 2 ^ 31) (each : EachMember Op prints s ds digits holds aim k d space a e (length is) place 0 is) where
+      (there : HasArray s a) (many : length (elements_of s a) ≡ length is) (few : length is < 2 ^ 31) where
     -- the run of `ShowStruct` appends the members' texts in braces
-    struct_run : (r left : ℕ) (t : List ℕ) (o : List PsObj) (under : List Item) → RoomFor (6 + k) o under → r < 1000
+    struct_run : (r left : ℕ) (t : List ℕ) (o : List PsObj) (under : List Item) → RoomFor (6 + k) o under → r < 1000 → EachMember Op prints s ds digits holds aim k d space a e (length is) place (suc r) 0 is
         → Ends Op prints s ds aim left (prints.append d (t ++ (codes "{" ++ items_text [] is (suc r) ++ codes "}"))) (Int (pos (items_left is (suc r))) ∷ o) under
         → On Op prints s ds digits holds aim o under (struct_steps is (suc r) left) (prints.append d t) (state (showstruct_body ∷ []) (Obj (Dict type) ∷ Obj (Int (word place)) ∷ Key space ∷ Obj (Int (pos (suc r))) ∷ []))
-    struct_run r left t o under room enough g =
+    struct_run r left t o under room enough each g =
         let t₁ : List ℕ = t ++ codes "{" in
         let t₂ : List ℕ = t₁ ++ items_text [] is (suc r) in
         let whole : t ++ (codes "{" ++ items_text [] is (suc r) ++ codes "}") ≡ t₂ ++ codes "}" =
@@ -214,7 +219,8 @@ module _ {D : Type 0} (Op : Operates D) (prints : Printing Op) (s : StoreState) 
         on m n₀ t st st' e g = goes_on Op prints s ds (words digits) holds.knows aim o under (room_here Op prints s ds digits holds aim (6 + k) o under room) m n₀ (prints.append d t) st st' e g
 
     -- a struct is shown
-    pub struct_shows : HasKey s type (codes "kind") (Key (codes "struct")) → Shows Op prints s ds digits holds aim (6 + k) d type space 0 place (struct_thing is)
-    struct_shows its t r left o under room enough g =
+    pub struct_shows : (r : ℕ) → EachMember Op prints s ds digits holds aim k d space a e (length is) place (suc r) 0 is → HasKey s type (codes "kind") (Key (codes "struct"))
+        → Shows Op prints s ds digits holds aim (6 + k) d type space 0 r place (struct_thing is)
+    struct_shows r each its t left o under room enough g =
         shows_by Op prints s ds digits holds aim d space (6 + k) type place (codes "struct") (struct_steps is (suc r) left) left t r o under showstruct_body 14 room its refl
-        (struct_run r left t o under room enough g)
+        (struct_run r left t o under room enough each g)

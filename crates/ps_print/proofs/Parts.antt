@@ -35,7 +35,7 @@ row_there [] k i x h = absurd cc
 row_there (a ∷ arrays) zero i x h = omega arith
 row_there (a ∷ arrays) (suc k) i x h = let e = row_there arrays k i x h in omega arith
 
-array_there : (s : StoreState) (a : ArrayId) (i : ℕ) (x : PsObj) → slice_get (elements_of s a) i ≡ Some x → HasArray s a
+pub array_there : (s : StoreState) (a : ArrayId) (i : ℕ) (x : PsObj) → slice_get (elements_of s a) i ≡ Some x → HasArray s a
 array_there s a i x h = row_there (held s a.part).arrays a.index i x h
 
 long_there : (arrays : List (List PsObj)) (k : ℕ) → 1 ≤ length (slice_index_or arrays k []) → k < length arrays

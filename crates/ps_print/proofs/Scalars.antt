@@ -165,23 +165,23 @@ module _ {D : Type 0} (Op : Operates D) (prints : Printing Op) (s : StoreState) 
 
   -- a character is shown
   pub char_shows : (k : ℕ) (type : DictId) (place : ℕ) (n : ℤ) → HasKey s type (codes "kind") (Key (codes "char")) → Fetches Op prints s aim.first d space (word place) (codes "c") n
-      → Shows Op prints s ds digits holds aim k d type space 0 place (char_thing (prints.char_text n))
-  char_shows k type place n kind known t r left o under room within g =
+      → (r : ℕ) → Shows Op prints s ds digits holds aim k d type space 0 r place (char_thing (prints.char_text n))
+  char_shows k type place n kind known r t left o under room within g =
       shows_by k type place (codes "char") (showchar_steps left) left t r o under showchar_body 30 room kind refl
       (char_run o under (room_here Op prints s ds digits holds aim k o under room) r left (omega arith) n (word place) (Obj (Dict type)) t known g)
 
   -- a pointer is shown
   pub pointer_shows : (k : ℕ) (type target : DictId) (kind text : List ℕ) (place : ℕ) (n : ℤ) (tail : Tail) → HasKey s type (codes "kind") (Key (codes "pointer"))
       → HasKey s type (codes "to") (Obj (Dict target)) → HasKey s target (codes "kind") (Key kind) → Fetches Op prints s aim.first d space (word place) (codes "p") n → PointerText prints s aim.first d kind n text tail
-      → Shows Op prints s ds digits holds aim k d type space 0 place (pointer_thing tail text)
-  pointer_shows k type target kind text place n tail its to target_kind known shown t r left o under room within g =
+      → (r : ℕ) → Shows Op prints s ds digits holds aim k d type space 0 r place (pointer_thing tail text)
+  pointer_shows k type target kind text place n tail its to target_kind known shown r t left o under room within g =
       shows_by k type place (codes "pointer") (showpointer_steps tail left) left t r o under showpointer_body 30 room its refl
       (pointer_goes o under (room_here Op prints s ds digits holds aim k o under room) r left (omega arith) type target kind text (word place) n t tail to target_kind known shown g)
 
   -- an array of characters is shown
   pub string_shows : (k : ℕ) (type item : DictId) (kind text : List ℕ) (place count : ℕ) → bytes_eq kind (codes "char") ≡ true → HasKey s type (codes "kind") (Key (codes "array"))
       → HasKey s type (codes "to") (Obj (Dict item)) → HasKey s type (codes "count") (Obj (Int (pos count))) → HasKey s item (codes "kind") (Key kind) → PutsChars Op prints s aim.first d space (word place) count text
-      → Shows Op prints s ds digits holds aim k d type space 0 place (string_thing text)
-  string_shows k type item kind text place count test its to counts item_kind lies t r left o under room within g =
+      → (r : ℕ) → Shows Op prints s ds digits holds aim k d type space 0 r place (string_thing text)
+  string_shows k type item kind text place count test its to counts item_kind lies r t left o under room within g =
       shows_by k type place (codes "array") (string_steps left) left t r o under showarray_body 8 room its refl
       (string_run o under (room_here Op prints s ds digits holds aim k o under room) r left (omega arith) type item kind text (word place) count t test to counts item_kind lies g)

@@ -32,8 +32,8 @@ less_fewer (suc r) = omega arith
 module _ {D : Type 0} (Op : Operates D) (prints : Printing Op) (s : StoreState) (ds : List DictId) (digits : ArrayId) (holds : Holds s ds digits) (aim : Aim Op prints s ds) (d : D) (space : List ℕ) where
   -- an integer is shown
   pub int_shows : (k : ℕ) (type : DictId) (place v : ℕ) → 13 ≤ k → v < 2 ^ 32 → HasKey s type (codes "kind") (Key (codes "int"))
-      → Fetches Op prints s aim.first d space (word place) (codes "w") (word v) → Shows Op prints s ds digits holds aim k d type space 0 place (int_thing v)
-  int_shows k type place v deep h kind known t r left o under room within g =
+      → Fetches Op prints s aim.first d space (word place) (codes "w") (word v) → (r : ℕ) → Shows Op prints s ds digits holds aim k d type space 0 r place (int_thing v)
+  int_shows k type place v deep h kind known r t left o under room within g =
       let room' : Room o under = room_here Op prints s ds digits holds aim k o under room in
       let own : List Val = Obj (Int (word place)) ∷ Key space ∷ Obj (Int (pos (suc r))) ∷ [] in
       goes_on Op prints s ds (words digits) holds.knows aim o under room' 2 (suc (further 20 (showint_steps v left))) (prints.append d t)
@@ -48,8 +48,8 @@ module _ {D : Type 0} (Op : Operates D) (prints : Printing Op) (s : StoreState) 
 
   -- an unsigned number is shown
   pub unsigned_shows : (k : ℕ) (type : DictId) (place v : ℕ) → 13 ≤ k → v < 2 ^ 32 → HasKey s type (codes "kind") (Key (codes "unsigned"))
-      → Fetches Op prints s aim.first d space (word place) (codes "w") (word v) → Shows Op prints s ds digits holds aim k d type space 0 place (unsigned_thing v)
-  unsigned_shows k type place v deep h kind known t r left o under room within g =
+      → Fetches Op prints s aim.first d space (word place) (codes "w") (word v) → (r : ℕ) → Shows Op prints s ds digits holds aim k d type space 0 r place (unsigned_thing v)
+  unsigned_shows k type place v deep h kind known r t left o under room within g =
       let room' : Room o under = room_here Op prints s ds digits holds aim k o under room in
       let own : List Val = Obj (Int (word place)) ∷ Key space ∷ Obj (Int (pos (suc r))) ∷ [] in
       goes_on Op prints s ds (words digits) holds.knows aim o under room' 2 (suc (further 26 (showunsigned_steps v left))) (prints.append d t)
@@ -66,7 +66,7 @@ module _ {D : Type 0} (Op : Operates D) (prints : Printing Op) (s : StoreState) 
       (no_char : bytes_eq kind (codes "char") ≡ false) (sized : HasKey s item (codes "size") (Obj (Int (word size)))) (small : size < 2 ^ 32) where
     -- the run of `ShowArray` appends the items' texts in braces
     pub list_run : (k : ℕ) (is : List Thing) (place r left : ℕ) (t : List ℕ) (o : List PsObj) (under : List Item) → RoomFor (6 + k) o under → place < 2 ^ 32 → length is < 2 ^ 31 → r < 1000
-        → HasKey s type (codes "count") (Obj (Int (pos (length is)))) → EachShows Op prints s ds digits holds aim k d item space size place is
+        → HasKey s type (codes "count") (Obj (Int (pos (length is)))) → EachShows Op prints s ds digits holds aim k d item space size (suc r) place is
         → Ends Op prints s ds aim left (prints.append d (t ++ (codes "{" ++ items_text [] is (suc r) ++ codes "}"))) (Int (pos (items_left is (suc r))) ∷ o) under
         → On Op prints s ds digits holds aim o under (list_steps is (suc r) left) (prints.append d t) (state (showarray_body ∷ []) (Obj (Dict type) ∷ Obj (Int (word place)) ∷ Key space ∷ Obj (Int (pos (suc r))) ∷ []))
     list_run k is place r left t o under room within few enough count each g =
@@ -107,9 +107,9 @@ module _ {D : Type 0} (Op : Operates D) (prints : Printing Op) (s : StoreState) 
 
     -- an array is shown
     pub list_shows : (k : ℕ) (is : List Thing) (place : ℕ) → place < 2 ^ 32 → length is < 2 ^ 31 → HasKey s type (codes "kind") (Key (codes "array"))
-        → HasKey s type (codes "count") (Obj (Int (pos (length is)))) → EachShows Op prints s ds digits holds aim k d item space size place is
-        → Shows Op prints s ds digits holds aim (6 + k) d type space 0 place (array_thing is)
-    list_shows k is place within few its count each t r left o under room enough g =
+        → HasKey s type (codes "count") (Obj (Int (pos (length is)))) → (r : ℕ) → EachShows Op prints s ds digits holds aim k d item space size (suc r) place is
+        → Shows Op prints s ds digits holds aim (6 + k) d type space 0 r place (array_thing is)
+    list_shows k is place within few its count r each t left o under room enough g =
         let own : List Val = Obj (Int (word place)) ∷ Key space ∷ Obj (Int (pos (suc r))) ∷ [] in
         goes_on Op prints s ds (words digits) holds.knows aim o under room' 2 (suc (further 8 (list_steps is (suc r) left))) (prints.append d t)
         (state (show_body ∷ []) (Obj (Dict type) ∷ own)) (state (w "get" show_kind ∷ []) (Key (codes "kind") ∷ Obj (Dict type) ∷ Obj (Dict type) ∷ own)) refl

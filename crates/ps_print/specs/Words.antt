@@ -1,5 +1,6 @@
 -- What is known of a store that holds the prelude.
-use Rattle.std.specs.Prelude.{◌≡◌, ℕ, ◌+◌, ◌<◌, ◌≤◌, ◌*◌, zero, suc, false, Some, List, [], ◌∷◌, length, slice_get, codes}
+use Rattle.std.specs.Prelude.{◌≡◌, ℕ, ◌+◌, ◌<◌, ◌≤◌, ◌*◌, zero, suc, true, false, Some, None, List, [], ◌∷◌, ◌++◌, length, map, slice_get, codes}
+use Rattle.std.specs.List.{AllByRecursion}
 use Rattle.ps_store.specs.declared.object.PsObj.{PsObj}
 use Rattle.ps_store.specs.declared.object.PsObj.TheVariants.{Array, Str, Op}
 use Rattle.ps_store.specs.declared.object.ArrayId.{ArrayId}
@@ -8,11 +9,13 @@ use Rattle.ps_store.specs.declared.object.StringId.{StringId}
 use Rattle.ps_store.specs.StoreState.{StoreState}
 use Rattle.ps_store.specs.Store.{elements_of}
 use Rattle.ps_step.specs.declared.item.Item.{Item}
-use Rattle.ps_step.specs.Keys.{named}
-use Rattle.ps_text.specs.Grown.{IsString}
+use Rattle.ps_store.specs.declared.key.Key.TheVariants.{Name as NameKey}
+use Rattle.ps_step.specs.Keys.{found_in, named}
+use Rattle.ps_text.specs.Grown.{HasArray, IsString}
+use Rattle.ps_text.specs.Spells.{Spells}
 use Rattle.ps_terms.specs.Machine.{Obj, Dup, Pop, Exch, Index, Roll, Add, Sub, Eq, Lt', Acts, Branch, Branches, Does, Gives, Words}
 use Rattle.ps_terms.specs.Stands.{Knows}
-use Rattle.ps_print.specs.Prelude.{digits_body, signed_body, showint_body, showunsigned_body, showchar_body, showpointer_body, showarray_body, showstruct_body, show_body, items_body, members_body}
+use Rattle.ps_print.specs.Prelude.{digits_body, signed_body, showint_body, showunsigned_body, showchar_body, showpointer_body, showarray_body, showstruct_body, show_body, items_body, members_body, print_body, printers}
 
 abbrev pub words : ArrayId → Words
 words digits =
@@ -39,6 +42,26 @@ pub record Holds (s : StoreState) (ds : List DictId) (digits : ArrayId) : Type 0
   pub charrun : named s ds (codes "charrun") ≡ Some (Op 93)
   pub put : named s ds (codes "Put") ≡ Some (Op 89)
   pub digit : (r : ℕ) → r < 10 → (t : StringId) × (slice_get (elements_of s digits) r ≡ Some (Str t false)) × IsString s t ((48 + r) ∷ [])
+
+-- the names that the printers' procedures execute
+abbrev pub operators : List (List ℕ)
+operators =
+    codes "get" ∷ codes "length" ∷ codes "fetch" ∷ codes "udivs" ∷ codes "urem" ∷ codes "usub" ∷ codes "uadd" ∷ codes "PutChars" ∷ codes "PutChar" ∷ codes "PutPointer" ∷ codes "charrun" ∷ codes "Put" ∷ []
+
+abbrev pub executed_names : ArrayId → List (List ℕ)
+executed_names digits = map (λ word. word.0) (words digits) ++ operators
+
+-- none of these dictionaries has one of the names
+abbrev pub Lacks : StoreState → List DictId → List (List ℕ) → Type 0
+Lacks s ds names = AllByRecursion (λ name. found_in s ds (NameKey name) ≡ None) names
+
+-- a printer is a procedure of the one body
+abbrev pub IsPrinter : StoreState → PsObj → Type 0
+IsPrinter s x = (a : ArrayId) × (x ≡ Array a true) × HasArray s a × Spells s (elements_of s a) print_body
+
+-- each of the printers' names means one
+abbrev pub HasPrinters : StoreState → List DictId → Type 0
+HasPrinters s ds = AllByRecursion (λ name. (x : PsObj) × (named s ds name ≡ Some x) × IsPrinter s x) printers
 
 -- room for so many calls within one another
 pub record RoomFor (k : ℕ) (o : List PsObj) (under : List Item) : Type 0 where

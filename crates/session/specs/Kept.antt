@@ -1,7 +1,11 @@
 -- What a command leaves of a side and of the session's state.
-use Rattle.std.specs.Prelude.{◌≡◌, ◌⊎◌, Result, Ok, Err}
+use Rattle.std.specs.Prelude.{◌≡◌, ◌⊎◌, ℕ, List, [], Option, Some, None, is_some, Result, Ok, Err}
+use Rattle.table_points.specs.declared.row.Point.{Point}
 use Rattle.table_asks.specs.declared.fault.AskFault.{AskFault}
 use Rattle.table_asks.specs.declared.fault.AskFault.TheVariants.{Refused, Raised, Spent, NoMemory, Broken}
+use Rattle.session.specs.declared.answers.Answer.{Answer}
+use Rattle.session.specs.declared.answers.Answer.TheVariants.{Lines}
+use Rattle.session.specs.declared.answers.End.{End}
 use Rattle.session.specs.declared.modes.Mode.{Mode}
 use Rattle.session.specs.declared.modes.Mode.TheVariants.{Ended}
 use Rattle.session.specs.declared.sides.SideRecord.{SideRecord}
@@ -10,9 +14,26 @@ use Rattle.session.specs.declared.sides.SideRecord.{SideRecord}
 abbrev pub IsKept : (old new : SideRecord) → Type 0
 IsKept old new = (new.row.breaks.items ≡ old.row.breaks.items) × (new.frame ≡ old.frame)
 
--- the session's state stays, or the session has ended
-abbrev pub KeepsMode : (old new : Mode) → Type 0
-KeepsMode old new = (new ≡ old) ⊎ (new ≡ Ended)
+-- those of a second side, where there is one
+abbrev pub breaks_of : Option SideRecord → List Point
+breaks_of None = []
+breaks_of (Some side) = side.row.breaks.items
+
+abbrev pub frame_of : Option SideRecord → ℕ
+frame_of None = 0
+frame_of (Some side) = side.frame
+
+-- there is one still where there was one, with the same of both
+abbrev pub AreKept : (old new : Option SideRecord) → Type 0
+AreKept old new = (is_some new ≡ is_some old) × (breaks_of new ≡ breaks_of old) × (frame_of new ≡ frame_of old)
+
+-- the session's state stays, or the session has ended and its reply says that the target is broken
+abbrev pub KeepsMode : (old new : Mode) → (broken : List ℕ) → Result Answer End → Type 0
+KeepsMode old new broken answer = (new ≡ old) ⊎ ((new ≡ Ended) × (answer ≡ Ok (Lines broken)))
+
+-- that reply is given once, at the session's end
+abbrev pub KeepsReply : (old new : List ℕ) → Mode → Type 0
+KeepsReply old new mode = (new ≡ old) ⊎ (mode ≡ Ended)
 
 -- A command isn't done, and its link goes on. (Behind a fault of the link the session has ended.)
 abbrev pub IsUndone : {A : Type 0} → Result A AskFault → Type 0

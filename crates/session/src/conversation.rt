@@ -1,6 +1,6 @@
 // A session.
 
-ghost use Rattle.std.specs.Prelude.{◌≡◌, ◌≢◌, ◌⊎◌, ℕ, true, [], IfOk, OnErr, Ok, Err, Some, None};
+ghost use Rattle.std.specs.Prelude.{◌≡◌, ◌≢◌, ◌⊎◌, ℕ, true, [], codes, IfOk, OnErr, Ok, Err, Some, None};
 ghost use Rattle.c_session.specs.declared.command.Command.{Command};
 ghost use Rattle.c_session.specs.declared.command.Command.TheVariants.{Continue, Step, Quit, Turns};
 ghost use Rattle.cmd_lang.specs.Commands.{read_of};
@@ -9,7 +9,7 @@ ghost use Rattle.c_session.specs.Commands.{Refusal};
 ghost use Rattle.claims.specs.Outcome.{refused_by_state};
 ghost use Rattle.session.specs.Answered.{state_of, refusal_reply, line_reply, limit_reply, Replies, Answers};
 ghost use Rattle.session.specs.Counted.{CountsOutput, CountsEnd, IsNoQuit};
-ghost use Rattle.session.specs.Kept.{IsKept, KeepsMode, IsUndone};
+ghost use Rattle.session.specs.Kept.{IsKept, AreKept, KeepsMode, KeepsReply, IsUndone};
 
 use crate::answers::{Answer, End, StartFault};
 use crate::asked::{asked, registers_of};
@@ -148,7 +148,7 @@ impl<L: Link + Drop> Session<L> {
         input: &[u8],
         raw: bool,
     ) -> Result<Session<L>, StartFault>
-        ensures { IfOk result (λ s. (s.mode ≡ Mode.Fresh) × (s.limit ≡ 10000000) × (s.raw ≡ raw)) }
+        ensures { IfOk result (λ s. (s.mode ≡ Mode.Fresh) × (s.limit ≡ 10000000) × (s.raw ≡ raw) × (s.broken ≡ codes "target\n")) }
     {
         let Ok(broken) = Text::from_slice(alloc, b"target\n") else {
             return Err(StartFault::NoMemory);
@@ -186,11 +186,12 @@ impl<L: Link + Drop> Session<L> {
         ensures line { read_of self.old.raw line.now ≡ None → Answers (line_reply line.now) result × (self.new ≡ self.old) × (out.new ≡ out.old) }
         ensures blank { is_empty line.now ≡ true → result ≡ Ok (Answer.Lines []) }
         ensures refused { (c : Command) (u : Refusal) → read_of self.old.raw line.now ≡ Some c → refused_by_state (state_of self.old.mode) c ≡ Some u → Answers (refusal_reply u) result × (self.new ≡ self.old) × (out.new ≡ out.old) }
-        ensures no_memory { result ≡ Ok Answer.NoMemory → (self.new.mode ≡ self.old.mode) × (self.new.limit ≡ self.old.limit) × IsKept self.old.first self.new.first × (out.new ≡ out.old) }
+        ensures no_memory { result ≡ Ok Answer.NoMemory → (self.new.mode ≡ self.old.mode) × (self.new.limit ≡ self.old.limit) × IsKept self.old.first self.new.first × AreKept self.old.second self.new.second × (out.new ≡ out.old) }
         ensures out_fault { result ≡ Err End.OutFault → self.new.mode ≡ Mode.Ended }
         ensures limit { (self.new.limit ≡ self.old.limit) ⊎ (read_of self.old.raw line.now ≡ Some (Turns self.new.limit)) }
-        ensures asked { (c : Command) → read_of self.old.raw line.now ≡ Some c → c ≢ Continue → c ≢ Step → (out.new ≡ out.old) × KeepsMode self.old.mode self.new.mode }
+        ensures asked { (c : Command) → read_of self.old.raw line.now ≡ Some c → c ≢ Continue → c ≢ Step → (out.new ≡ out.old) × KeepsMode self.old.mode self.new.mode self.old.broken result }
         ensures raw { self.new.raw ≡ self.old.raw }
+        ensures broken { KeepsReply self.old.broken self.new.broken self.new.mode }
     {
         match read_command(self.alloc, line, self.raw) {
             Err(CmdFault::Line) => Ok(malformed(self.alloc, line)),
@@ -206,11 +207,12 @@ impl<L: Link + Drop> Session<L> {
         ensures output { CountsEnd (O.faults out.old) (O.faults out.new) result }
         ensures turns { (n : ℕ) → command.now ≡ Turns n → refused_by_state (state_of self.old.mode) command.now ≡ None → ((result ≡ Ok (Answer.Lines (limit_reply n))) × (self.new ≡ record self.old { limit = n })) ⊎ ((result ≡ Ok Answer.NoMemory) × (self.new ≡ self.old)) }
         ensures refused { (u : Refusal) → refused_by_state (state_of self.old.mode) command.now ≡ Some u → Answers (refusal_reply u) result × (self.new ≡ self.old) × (out.new ≡ out.old) }
-        ensures no_memory { result ≡ Ok Answer.NoMemory → (self.new.mode ≡ self.old.mode) × (self.new.limit ≡ self.old.limit) × IsKept self.old.first self.new.first × (out.new ≡ out.old) }
+        ensures no_memory { result ≡ Ok Answer.NoMemory → (self.new.mode ≡ self.old.mode) × (self.new.limit ≡ self.old.limit) × IsKept self.old.first self.new.first × AreKept self.old.second self.new.second × (out.new ≡ out.old) }
         ensures out_fault { OnErr result (self.new.mode ≡ Mode.Ended) }
         ensures limit { (self.new.limit ≡ self.old.limit) ⊎ (command.now ≡ Turns self.new.limit) }
-        ensures asked { command.now ≢ Continue → command.now ≢ Step → (out.new ≡ out.old) × KeepsMode self.old.mode self.new.mode }
+        ensures asked { command.now ≢ Continue → command.now ≢ Step → (out.new ≡ out.old) × KeepsMode self.old.mode self.new.mode self.old.broken result }
         ensures raw { self.new.raw ≡ self.old.raw }
+        ensures broken { KeepsReply self.old.broken self.new.broken self.new.mode }
     {
         if let Some(why) = refused_in(self.mode, command) {
             return Ok(answer(mode_reply(self.alloc, why)));
@@ -233,6 +235,7 @@ impl<L: Link + Drop> Session<L> {
         ensures first { self.new.first ≡ self.old.first }
         ensures some { result ≡ Answer.Lines self.old.broken }
         ensures raw { self.new.raw ≡ self.old.raw }
+        ensures second { self.new.second ≡ self.old.second }
     {
         self.mode = Mode::Ended;
         Answer::Lines(mem::replace(&mut self.broken, Text::new(self.alloc)))
@@ -243,8 +246,10 @@ impl<L: Link + Drop> Session<L> {
         ensures limit { self.new.limit ≡ self.old.limit }
         ensures first { self.new.first ≡ self.old.first }
         ensures no_memory { result ≡ Answer.NoMemory → IsUndone said × (self.new.mode ≡ self.old.mode) }
-        ensures mode { KeepsMode self.old.mode self.new.mode }
+        ensures mode { KeepsMode self.old.mode self.new.mode self.old.broken (Ok result) }
         ensures raw { self.new.raw ≡ self.old.raw }
+        ensures second { self.new.second ≡ self.old.second }
+        ensures broken { KeepsReply self.old.broken self.new.broken self.new.mode }
     {
         match said {
             Ok(text) => Answer::Lines(text),
@@ -275,6 +280,8 @@ impl<L: Link + Drop> Session<L> {
         ensures limit { self.new.limit ≡ self.old.limit }
         ensures first { self.new.first ≡ self.old.first }
         ensures raw { self.new.raw ≡ self.old.raw }
+        ensures second { self.new.second ≡ self.old.second }
+        ensures broken { self.new.broken ≡ self.old.broken }
     {
         match &self.second {
             None => registers_of(&mut self.talk, &self.first),
@@ -286,8 +293,9 @@ impl<L: Link + Drop> Session<L> {
     fn ask(&mut self, command: &Command) -> Result<Text, AskFault>
         ensures mode { self.new.mode ≡ self.old.mode }
         ensures limit { self.new.limit ≡ self.old.limit }
-        ensures kept { IsUndone result → IsKept self.old.first self.new.first }
+        ensures kept { IsUndone result → IsKept self.old.first self.new.first × AreKept self.old.second self.new.second }
         ensures raw { self.new.raw ≡ self.old.raw }
+        ensures broken { self.new.broken ≡ self.old.broken }
     {
         match &mut self.second {
             None => asked(&mut self.talk, &mut self.first, command),
@@ -299,8 +307,9 @@ impl<L: Link + Drop> Session<L> {
     fn assign(&mut self, text: &[u8]) -> Result<Text, AskFault>
         ensures mode { self.new.mode ≡ self.old.mode }
         ensures limit { self.new.limit ≡ self.old.limit }
-        ensures kept { IsKept self.old.first self.new.first }
+        ensures kept { IsKept self.old.first self.new.first × AreKept self.old.second self.new.second }
         ensures raw { self.new.raw ≡ self.old.raw }
+        ensures broken { self.new.broken ≡ self.old.broken }
     {
         match &mut self.second {
             None => assign_one(&mut self.talk, &mut self.first, text),
@@ -312,8 +321,9 @@ impl<L: Link + Drop> Session<L> {
     fn inquire(&mut self, command: &Command) -> Result<Text, AskFault>
         ensures mode { self.new.mode ≡ self.old.mode }
         ensures limit { self.new.limit ≡ self.old.limit }
-        ensures kept { IsUndone result → IsKept self.old.first self.new.first }
+        ensures kept { IsUndone result → IsKept self.old.first self.new.first × AreKept self.old.second self.new.second }
         ensures raw { self.new.raw ≡ self.old.raw }
+        ensures broken { self.new.broken ≡ self.old.broken }
     {
         match self.settle() {
             Ok(()) => {}
@@ -330,8 +340,9 @@ impl<L: Link + Drop> Session<L> {
     fn prepare(&mut self) -> Result<(), AskFault>
         ensures mode { self.new.mode ≡ self.old.mode }
         ensures limit { self.new.limit ≡ self.old.limit }
-        ensures kept { IsKept self.old.first self.new.first }
+        ensures kept { IsKept self.old.first self.new.first × AreKept self.old.second self.new.second }
         ensures raw { self.new.raw ≡ self.old.raw }
+        ensures broken { self.new.broken ≡ self.old.broken }
     {
         match prepared(&mut self.talk, &mut self.first) {
             Ok(()) => {}
@@ -350,8 +361,9 @@ impl<L: Link + Drop> Session<L> {
     fn settle(&mut self) -> Result<(), AskFault>
         ensures mode { self.new.mode ≡ self.old.mode }
         ensures limit { self.new.limit ≡ self.old.limit }
-        ensures kept { IsKept self.old.first self.new.first }
+        ensures kept { IsKept self.old.first self.new.first × AreKept self.old.second self.new.second }
         ensures raw { self.new.raw ≡ self.old.raw }
+        ensures broken { self.new.broken ≡ self.old.broken }
     {
         if let Mode::Running(_) = self.mode {
             return Ok(());
@@ -370,8 +382,9 @@ impl<L: Link + Drop> Session<L> {
     fn ready(&mut self, how: How) -> Result<Line, AskFault>
         ensures mode { self.new.mode ≡ self.old.mode }
         ensures limit { self.new.limit ≡ self.old.limit }
-        ensures kept { IsKept self.old.first self.new.first }
+        ensures kept { IsKept self.old.first self.new.first × AreKept self.old.second self.new.second }
         ensures raw { self.new.raw ≡ self.old.raw }
+        ensures broken { self.new.broken ≡ self.old.broken }
     {
         match (self.mode, how) {
             (Mode::Running(_), _) => {}
@@ -389,6 +402,7 @@ impl<L: Link + Drop> Session<L> {
         ensures output { CountsOutput (O.faults out.old) (O.faults out.new) result }
         ensures limit { self.new.limit ≡ self.old.limit }
         ensures raw { self.new.raw ≡ self.old.raw }
+        ensures broken { self.new.broken ≡ self.old.broken }
     {
         match &mut self.second {
             None => resumed_one(&mut self.talk, &mut self.first, self.limit, out),
@@ -402,10 +416,11 @@ impl<L: Link + Drop> Session<L> {
     fn resume<O: Sink>(&mut self, how: How, out: &mut O) -> Result<Answer, End>
         ensures no_quit { IsNoQuit result }
         ensures output { CountsEnd (O.faults out.old) (O.faults out.new) result }
-        ensures no_memory { result ≡ Ok Answer.NoMemory → (self.new.mode ≡ self.old.mode) × (self.new.limit ≡ self.old.limit) × IsKept self.old.first self.new.first × (out.new ≡ out.old) }
+        ensures no_memory { result ≡ Ok Answer.NoMemory → (self.new.mode ≡ self.old.mode) × (self.new.limit ≡ self.old.limit) × IsKept self.old.first self.new.first × AreKept self.old.second self.new.second × (out.new ≡ out.old) }
         ensures out_fault { OnErr result (self.new.mode ≡ Mode.Ended) }
         ensures limit { self.new.limit ≡ self.old.limit }
         ensures raw { self.new.raw ≡ self.old.raw }
+        ensures broken { KeepsReply self.old.broken self.new.broken self.new.mode }
     {
         let line = match self.ready(how) {
             Ok(line) => line,

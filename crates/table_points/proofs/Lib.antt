@@ -1,1 +1,3 @@
 pub mod Looks
+mod Gathering
+mod Naming

@@ -1,7 +1,11 @@
 // The first point of a function by its name.
 
-ghost use Rattle.std.specs.Prelude.{◌≡◌};
-ghost use Rattle.table_model.specs.Reading.{truth_at};
+ghost use Rattle.std.specs.Prelude.{◌≡◌, option_map};
+ghost use Rattle.table_read.specs.Reads.{in_ok};
+ghost use Rattle.table_model.specs.Reading.{truth_at, all_from, all_in};
+ghost use Rattle.table_model.specs.Places.{called, called_in, function_point};
+ghost use Rattle.table_points.specs.Rows.{row_in};
+ghost use Rattle.table_points.specs.Naming.{named_of, choice_of, nothing_read, with_external, with_static, with_one, with_all, chosen_by, named_point, point_among};
 
 use crate::row::Point;
 use ps_store::{DictId, PsObj, PsStore};
@@ -28,23 +32,43 @@ pub struct Meant {
     pub several: bool,
 }
 
-/// One function more.
-fn add(meant: Meant, more: NamedFunction) -> Meant {
-    if !more.is_static {
-        return Meant {
-            external: meant.external.or(Some(more)),
+/// One external function more: the first one is meant.
+fn add_external(meant: Meant, more: NamedFunction) -> Meant
+    ensures { choice_of result ≡ with_external (choice_of meant) (named_of more) (option_map named_of meant.external) }
+{
+    match meant.external {
+        None => Meant {
+            external: Some(more),
             ..meant
-        };
+        },
+        Some(_) => meant,
     }
+}
+
+/// One static function more.
+fn add_static(meant: Meant, more: NamedFunction) -> Meant
+    ensures { choice_of result ≡ with_static (choice_of meant) (named_of more) (option_map named_of meant.inner) }
+{
     match meant.inner {
         None => Meant {
             inner: Some(more),
             ..meant
         },
         Some(first) => Meant {
-            several: meant.several || first.number != more.number,
+            several: meant.several || more.number != first.number,
             ..meant
         },
+    }
+}
+
+/// One function more.
+fn add(meant: Meant, more: NamedFunction) -> Meant
+    ensures { choice_of result ≡ with_one (choice_of meant) (named_of more) }
+{
+    if more.is_static {
+        add_static(meant, more)
+    } else {
+        add_external(meant, more)
     }
 }
 
@@ -66,7 +90,9 @@ fn add_called(
     unit: DictId,
     object: PsObj,
     meant: Meant,
-) -> Result<Meant, Lack> {
+) -> Result<Meant, Lack>
+    ensures { in_ok choice_of result ≡ in_ok (with_all (choice_of meant)) (called store.now name.now number unit object) }
+{
     let function = dict_in(object)?;
     let text = string_at(store, function, b"name")?;
     let is_static = truth_at(store, function, b"static")?;
@@ -93,10 +119,15 @@ fn add_functions(
     unit: DictId,
     functions: &[PsObj],
     before: Meant,
-) -> Result<Meant, Lack> {
+) -> Result<Meant, Lack>
+    ensures { in_ok choice_of result ≡ in_ok (with_all (choice_of before)) (all_in (called store.now name.now number unit) functions.now) }
+{
     let mut meant = before;
     for function in functions {
-        meant = add_called(store, name, number, unit, *function, meant)?;
+        match add_called(store, name, number, unit, *function, meant) {
+            Ok(more) => meant = more,
+            Err(lack) => return Err(lack),
+        }
     }
     Ok(meant)
 }
@@ -108,27 +139,36 @@ fn add_unit(
     number: usize,
     object: PsObj,
     before: Meant,
-) -> Result<Meant, Lack> {
+) -> Result<Meant, Lack>
+    ensures { in_ok choice_of result ≡ in_ok (with_all (choice_of before)) (called_in store.now name.now number object) }
+{
     let unit = dict_in(object)?;
     let functions = functions_of(store, number, unit)?;
     add_functions(store, name, number, unit, functions, before)
 }
 
 /// Which functions of the table have the name: all units are read.
-fn functions_named(store: &PsStore, name: &[u8], units: &[PsObj]) -> Result<Meant, Lack> {
+fn functions_named(store: &PsStore, name: &[u8], units: &[PsObj]) -> Result<Meant, Lack>
+    ensures { in_ok choice_of result ≡ in_ok (with_all nothing_read) (all_from (called_in store.now name.now) 0 units.now) }
+{
     let mut meant = Meant {
         external: None,
         inner: None,
         several: false,
     };
     for (number, unit) in units.iter().enumerate() {
-        meant = add_unit(store, name, number, *unit, meant)?;
+        match add_unit(store, name, number, *unit, meant) {
+            Ok(more) => meant = more,
+            Err(lack) => return Err(lack),
+        }
     }
     Ok(meant)
 }
 
 /// The function that is meant: the external one, or else the first static one where one unit alone has any.
-fn chosen(meant: Meant) -> Option<NamedFunction> {
+fn chosen(meant: Meant) -> Option<NamedFunction>
+    ensures { option_map named_of result ≡ chosen_by (choice_of meant) }
+{
     match meant.external {
         Some(external) => Some(external),
         None => { if meant.several { None } else { meant.inner } }
@@ -136,7 +176,9 @@ fn chosen(meant: Meant) -> Option<NamedFunction> {
 }
 
 /// The first point of a function; none where it has none.
-fn first_point(store: &PsStore, function: NamedFunction) -> Result<Option<Point>, Lack> {
+fn first_point(store: &PsStore, function: NamedFunction) -> Result<Option<Point>, Lack>
+    ensures { in_ok (option_map (row_in store.now)) result ≡ named_point store.now (named_of function) }
+{
     let points = points_of(store, function.function)?;
     let Some(first) = points.first() else {
         return Ok(None);
@@ -156,12 +198,26 @@ fn first_point(store: &PsStore, function: NamedFunction) -> Result<Option<Point>
     }))
 }
 
+/// The point at which the body of the function with a name begins, among the functions of some units.
+fn point_among(store: &PsStore, name: &[u8], units: &[PsObj]) -> Result<Option<Point>, Lack>
+    ensures { in_ok (option_map (row_in store.now)) result ≡ point_among store.now name.now units.now }
+{
+    match functions_named(store, name, units) {
+        Err(lack) => Err(lack),
+        Ok(meant) => match chosen(meant) {
+            None => Ok(None),
+            Some(function) => first_point(store, function),
+        },
+    }
+}
+
 /// The point at which the body of the function with a name begins.
-pub fn function_point(store: &PsStore, name: &[u8]) -> Result<Option<Point>, Lack> {
-    let units = units_of(store)?;
-    let meant = functions_named(store, name, units)?;
-    match chosen(meant) {
-        None => Ok(None),
-        Some(function) => first_point(store, function),
+#[tactic(auto, unfolding(table_model::specs::Places::function_point))]
+pub fn function_point(store: &PsStore, name: &[u8]) -> Result<Option<Point>, Lack>
+    ensures { in_ok (option_map (row_in store.now)) result ≡ function_point store.now name.now }
+{
+    match units_of(store) {
+        Err(lack) => Err(lack),
+        Ok(units) => point_among(store, name, units),
     }
 }

@@ -1,5 +1,6 @@
 use Rattle.std.proofs.Common.{arith}
 use Rattle.ps_ops.proofs.States.{anchor_acts, absolute_acts, register_acts, struct_acts, past_acts}
+use Rattle.ps_ops.proofs.Calls.{led_left}
 use Rattle.ps_ops.proofs.dialect.act.Goals as goal
 
 pub returns-in-0-clause-acts : goal.returns-in-0-clause-acts
@@ -71,3 +72,23 @@ returns-in_default-clause-acts g c =
     let m = c.args.memory.now in
     let seen = g.W.AbsMem.seen in
     past_acts v m.below.below.order m.below.cell c.args.out.now (seen m.below.below.below) core c.args.op (omega arith)
+
+pub returns-in-0-clause-calls : goal.returns-in-0-clause-calls
+returns-in-0-clause-calls g c =
+    let m = c.args.memory.now.below.below.below in
+    rw c.left.ensures (led_left g.W.AbsMem.leads m m c.anchor.result (g.met.W.AbsMem.stays m))
+
+pub returns-in-1-clause-calls : goal.returns-in-1-clause-calls
+returns-in-1-clause-calls g c =
+    let m = c.args.memory.now.below.below.below in
+    rw c.left-in-1.ensures (led_left g.W.AbsMem.leads m m c.absolute.result (g.met.W.AbsMem.stays m))
+
+pub returns-in-3-clause-calls : goal.returns-in-3-clause-calls
+returns-in-3-clause-calls g c =
+    let m = c.args.memory.now.below.below.below in
+    rw c.left-in-3.ensures (led_left g.W.AbsMem.leads m m c.register.result (g.met.W.AbsMem.stays m))
+
+pub returns-in-27-clause-calls : goal.returns-in-27-clause-calls
+returns-in-27-clause-calls g c =
+    let m = c.args.memory.now.below.below.below in
+    rw c.left-in-27.ensures (led_left g.W.AbsMem.leads m m c.find_struct.result (g.met.W.AbsMem.stays m))

@@ -1,5 +1,6 @@
 use Rattle.std.proofs.Common.{◌≡◌, arith}
 use Rattle.ps_ops.proofs.Placing.{put_acts, put_char_acts}
+use Rattle.ps_ops.proofs.Calls.{led_left}
 use Rattle.ps_ops.proofs.texts.append.Goals as goal
 
 pub returns-in-28-clause-acts : goal.returns-in-28-clause-acts
@@ -27,3 +28,13 @@ pub returns-in_default-clause-acts : goal.returns-in_default-clause-acts
 returns-in_default-clause-acts g c =
     let last : c.args.op ≡ 31 = omega arith in
     rw last c.put_characters.ensures.acts
+
+pub returns-in-28-clause-calls : goal.returns-in-28-clause-calls
+returns-in-28-clause-calls g c =
+    let m = c.args.memory.now.below.below.below in
+    rw c.left.ensures (led_left g.W.AbsMem.leads m m c.put.result (g.met.W.AbsMem.stays m))
+
+pub returns-in-29-clause-calls : goal.returns-in-29-clause-calls
+returns-in-29-clause-calls g c =
+    let m = c.args.memory.now.below.below.below in
+    rw c.left-in-29.ensures (led_left g.W.AbsMem.leads m m c.put_char.result (g.met.W.AbsMem.stays m))

@@ -1,5 +1,6 @@
 use Rattle.std.proofs.Common.{sym, ◌∙◌}
 use Rattle.ps_ops.proofs.Placing.{pointer_unasked, pointer_halts, pointer_put}
+use Rattle.ps_ops.proofs.Calls.{led_left}
 use Rattle.ps_ops.proofs.texts.put_address.Goals as goal
 
 pub returns-in-Err-clause-acts : goal.returns-in-Err-clause-acts
@@ -16,7 +17,7 @@ returns-in-Err-found-clause-acts g c =
     let core = c.args.core.now in
     let m = c.args.memory.now in
     let seen = g.W.AbsMem.seen in
-    pointer_halts v m.below.below.order m.below.cell c.args.out.now (seen m.below.below.below) core (seen c.found.new.m) c.in-Ok.pointer (sym c.top_word.ensures.word ∙ c.in-Ok.is) c.in-Err-found.halt c.in-Err-found.ensures
+    pointer_halts v m.below.below.order m.below.cell c.args.out.now (seen m.below.below.below) core (seen c.found.new.m) c.in-Ok.pointer (sym c.top_word.ensures.word ∙ c.in-Ok.is) c.in-Err-found.halt c.in-Err-found.ensures.looks
 
 pub returns-in-Ok-found-clause-acts : goal.returns-in-Ok-found-clause-acts
 returns-in-Ok-found-clause-acts g c =
@@ -25,4 +26,8 @@ returns-in-Ok-found-clause-acts g c =
     let m = c.args.memory.now in
     let seen = g.W.AbsMem.seen in
     rw c.left.ensures
-    (pointer_put v m.below.below.order m.below.cell c.args.out.now (seen m.below.below.below) core (seen c.found.new.m) c.in-Ok.pointer (sym c.top_word.ensures.word ∙ c.in-Ok.is) c.in-Ok-found.object c.put_pointer.result c.put_pointer.new.out c.put_pointer.new.core c.in-Ok-found.ensures c.put_pointer.ensures.does)
+    (pointer_put v m.below.below.order m.below.cell c.args.out.now (seen m.below.below.below) core (seen c.found.new.m) c.in-Ok.pointer (sym c.top_word.ensures.word ∙ c.in-Ok.is) c.in-Ok-found.object c.put_pointer.result c.put_pointer.new.out c.put_pointer.new.core c.in-Ok-found.ensures.looks c.put_pointer.ensures.does)
+
+pub returns-in-Ok-found-clause-calls : goal.returns-in-Ok-found-clause-calls
+returns-in-Ok-found-clause-calls g c =
+    rw c.left.ensures (led_left g.W.AbsMem.leads c.args.memory.now.below.below.below c.found.new.m c.put_pointer.result c.in-Ok-found.ensures.calls)

@@ -1,4 +1,4 @@
-use Rattle.ps_print.proofs.Printed.{printed, printed_at_once}
+use Rattle.ps_print.proofs.Printed.{printed, printed_by, printed_at_once}
 use Rattle.ps_print.proofs.Steps.{print_at_most, print_within}
 use Rattle.ps_terms.proofs.Kept.{looked_settled, closed_stays}
 use Rattle.ps_print.proofs.laws.values_are_printed.Goals as goal
@@ -6,6 +6,7 @@ use Rattle.ps_print.proofs.laws.values_are_printed.Goals as goal
 pub returns : goal.returns
 returns g c = record {
   run = printed g.D.Dialect.operates;
+  printer = printed_by g.D.Dialect.operates;
   at_once = printed_at_once g.D.Dialect.operates;
   steps = print_at_most g.D.Dialect.operates;
   deep = print_within g.D.Dialect.operates;

@@ -1,0 +1,30 @@
+// What runs over a memory are.
+
+ghost use Rattle.std.specs.Prelude.{◌≡◌, ◌≢◌, ℕ, Bool, List, Err};
+ghost use Rattle.machine_state.specs.Regions.{Regions};
+ghost use Rattle.ps_store.specs.declared.object.DictId.{DictId};
+ghost use Rattle.ps_store.specs.declared.object.PsObj.{PsObj};
+ghost use Rattle.ps_store.specs.StoreState.{StoreState};
+ghost use Rattle.ps_step.specs.declared.fault.PsFault.TheVariants.{Link, NoMemory};
+ghost use Rattle.ps_step.specs.declared.item.Item.{Item};
+ghost use Rattle.ps_step.specs.declared.machine.PsCore.{PsCore};
+ghost use Rattle.ps_run.specs.Runs.{Answer, Runs};
+ghost use Rattle.ps_terms.specs.Faring.{Comes};
+ghost use Rattle.dialect_model.specs.Dial.{Dial};
+ghost use Rattle.dialect_model.specs.Operating.{Operates};
+ghost use Rattle.ps_ops.specs.Desk.{dial_of};
+ghost use Rattle.ps_ops.specs.declared.dialect.Operators.{Operators};
+ghost use Rattle.told_runs.specs.Told.{desk, Does, Tells, IsTold, FaresTold};
+
+use abs_mem::AbsMem;
+
+/// A run under a command's operators over any memory that tells its bytes, which ends by itself, with an error or with the steps
+/// spent, is a run of the dialect over these bytes, in as many steps; and the memory tells the bytes that this run leaves.
+pub fn runs_are_told<W: AbsMem + Drop>()
+    ensures { (left left' : ℕ) (o o' : Operators W) (c c' : PsCore) (answer : Answer) (regions : Regions) (rest : W.Rest) → answer ≢ Err Link → answer ≢ Err NoMemory → Runs (Does W.seen W.leads) left o c answer left' o' c' → Tells W.seen o regions rest → IsTold W.seen rest regions left o c answer left' o' c' }
+{}
+
+/// So each such run fares as the dialect's runs are proved to: a printer's run appends the text of the value that lies in the memory.
+pub fn runs_fare_as_the_dialects<W: AbsMem + Drop>()
+    ensures { (needs : Dial → PsCore → ℕ → Bool) (first : StoreState) (steps left left' : ℕ) (o o' : Operators W) (c c' : PsCore) (ds : List DictId) (dial : Dial) (operands : List PsObj) (items : List Item) (answer : Answer) (regions : Regions) (rest : W.Rest) → answer ≢ Err Link → answer ≢ Err NoMemory → Runs (Does W.seen W.leads) steps o c answer left' o' c' → Tells W.seen o regions rest → Comes Operates needs first steps (dial_of (desk o) regions) c ds left dial operands items → FaresTold W.seen needs first rest ds left dial operands items answer left' o' c' }
+{}
