@@ -2,7 +2,7 @@
 #![tactic(auto)]
 
 mod laws;
-mod runs;
+mod running;
 
 pub use laws::{runs_are_told, runs_fare_as_the_dialects};
-pub use runs::run_over;
+pub use running::run_over;
