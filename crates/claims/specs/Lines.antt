@@ -5,8 +5,7 @@ use Rattle.ldb_words.specs.Word.{signed}
 use Rattle.ldb_words.specs.declared.event.FaultKind.{FaultKind}
 use Rattle.ldb_words.specs.declared.event.FaultKind.TheVariants as kind
 use Rattle.machine_state.specs.declared.layout.TheConstants.{SPARC}
-use Rattle.ps_step.specs.declared.fault.PsError.{PsError}
-use Rattle.ps_step.specs.declared.fault.PsError.TheVariants as ps
+use Rattle.ps_step.specs.Errors.{error_text}
 use Rattle.table_model.specs.Rows.{PointRow}
 use Rattle.ps_leaves.specs.Forms.{hex_text}
 use Rattle.dialect_model.specs.TableUse.{Refused, Kind, Spent, Wanting}
@@ -50,26 +49,6 @@ event_text OutOfTurns = codes "turns"
 event_text OutOfStack = codes "stack"
 
 -- ---- commands that aren't done
-
-abbrev pub error_text : PsError → List ℕ
-error_text ps.StackUnderflow = codes "stackunderflow"
-error_text ps.StackOverflow = codes "stackoverflow"
-error_text ps.DictStackUnderflow = codes "dictstackunderflow"
-error_text ps.DictStackOverflow = codes "dictstackoverflow"
-error_text ps.ExecStackOverflow = codes "execstackoverflow"
-error_text ps.TypeCheck = codes "typecheck"
-error_text ps.Undefined = codes "undefined"
-error_text ps.RangeCheck = codes "rangecheck"
-error_text ps.UndefinedResult = codes "undefinedresult"
-error_text ps.UnmatchedMark = codes "unmatchedmark"
-error_text ps.InvalidExit = codes "invalidexit"
-error_text ps.InvalidAccess = codes "invalidaccess"
-error_text ps.SyntaxError = codes "syntaxerror"
-error_text ps.LimitCheck = codes "limitcheck"
-error_text ps.Overflow = codes "overflow"
-error_text ps.Division = codes "division"
-error_text ps.Shift = codes "shift"
-error_text ps.Pointer = codes "pointer"
 
 abbrev pub trouble_text : Troubled → List ℕ
 trouble_text (Refused u) = refusal_text u

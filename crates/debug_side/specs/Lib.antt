@@ -1,4 +1,5 @@
 pub mod Meant
 pub mod Planting
 pub mod Ran
+pub mod Told
 pub mod Wrote

@@ -1,10 +1,14 @@
 // A resume of a side up to its event.
 
-ghost use Rattle.std.specs.Prelude.{◌≡◌, ◌⊎◌, IfOk};
+ghost use Rattle.std.specs.Prelude.{◌≡◌, ◌⊎◌, IfOk, Option};
 ghost use Rattle.machine_state.specs.declared.layout.TheConstants.{MIPS, SPARC};
+ghost use Rattle.machine_state.specs.State.{Behaviour, order_of};
+ghost use Rattle.nub_wire.specs.Nub.{Host};
+ghost use Rattle.resuming.specs.Standing.{Stands};
 ghost use Rattle.resuming.specs.Runs.{CountsRun};
 ghost use Rattle.debug_side.specs.Meant.{Met, stood, words_left};
 ghost use Rattle.debug_side.specs.Ran.{SideCalled};
+ghost use Rattle.debug_side.specs.Told.{KeepsOrder, MayRun, CameTold, its_event, its_output, host_at_event, host_behind};
 
 use crate::event::{Event, event_by, keeps_words, stop_address};
 use crate::point::{MachineKind, SideRow};
@@ -22,6 +26,8 @@ fn meet<L: Link + Drop, S: Sink>(
     limit: u32,
     out: &mut S,
 ) -> Result<Event, RunFault>
+    ensures told { (b : Behaviour) (h : Host) (beside : Option Host) → Stands b L.conduct wire.old.side (L.world wire.old.link) h beside → wire.old.order ≡ order_of h.machine → KeepsOrder b h.machine → MayRun row.old.kept h
+        → CameTold b L.conduct wire.old.side (its_event b kind row.old limit h) (its_output b kind row.old limit h) (host_at_event b kind row.old limit h) beside result (L.world wire.new.link) wire.new.order (S.taken out.old) (S.taken out.new) }
     ensures calls { SideCalled L.took L.gave wire.old.side wire.old.link result wire.new.side wire.new.link }
     ensures cause { CountsRun (L.faults wire.old.link) (L.faults wire.new.link) (S.faults out.old) (S.faults out.new) result }
     ensures event { IfOk result (λ event. Met row.old event) }
@@ -58,6 +64,8 @@ pub fn resume_side<L: Link + Drop, S: Sink>(
     out: &mut S,
 ) -> Result<Event, RunFault>
     requires known { (kind.target ≡ MIPS) ⊎ (kind.target ≡ SPARC) }
+    ensures told { (b : Behaviour) (h : Host) (beside : Option Host) → Stands b L.conduct wire.old.side (L.world wire.old.link) h beside → wire.old.order ≡ order_of h.machine → KeepsOrder b h.machine → MayRun row.old.kept h
+        → CameTold b L.conduct wire.old.side (its_event b kind row.old limit h) (its_output b kind row.old limit h) (host_behind b kind row.old limit h) beside result (L.world wire.new.link) wire.new.order (S.taken out.old) (S.taken out.new) }
     ensures calls { SideCalled L.took L.gave wire.old.side wire.old.link result wire.new.side wire.new.link }
     ensures cause { CountsRun (L.faults wire.old.link) (L.faults wire.new.link) (S.faults out.old) (S.faults out.new) result }
     ensures event { IfOk result (λ event. Met row.old event) }

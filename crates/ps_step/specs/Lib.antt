@@ -19,3 +19,4 @@ pub mod CopyOperators
 pub mod Operator
 pub mod Executing
 pub mod Effects
+pub mod Errors

@@ -3,6 +3,7 @@
 ghost use Rattle.std.specs.Prelude.{◌≡◌};
 ghost use Rattle.ps_step.specs.declared.fault.PsFault.TheVariants.{Error as Raised, NoMemory as OutOfMemory};
 ghost use Rattle.ps_step.specs.declared.fault.PsError.TheVariants.{InvalidAccess as Closed};
+ghost use Rattle.ps_step.specs.Errors.{error_text};
 ghost use Rattle.ps_step.specs.Results.{fault_of};
 
 use ps_store::{ReadOnly, StoreFault};
@@ -33,7 +34,9 @@ pub enum PsError {
 
 impl PsError {
     /// The error's name in the manual.
-    pub fn name(self) -> &'static str {
+    pub fn name(self) -> &'static str
+        ensures { result.now ≡ error_text self }
+    {
         match self {
             PsError::StackUnderflow => "stackunderflow",
             PsError::StackOverflow => "stackoverflow",
