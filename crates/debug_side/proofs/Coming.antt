@@ -37,11 +37,11 @@ module _ (b : Behaviour) (c : Conduct) (side : Side) (beside : Option Host) wher
   kept_told None e row w h m o order taken is x same = cc
 
   -- a fault before the run, of which nothing was put
-  pub not_moved : (k : Option Event) (event : Event) (output : List ℕ) (there h : Host) (x : TalkFault) (o o' : Option World) (f f' : ℕ) (side' : Side) (order order' : Order) (P : Bytes → Regions → Type 0) (taken : Option (List ℕ))
+  pub not_moved : (event : Event) (output : List ℕ) (there h : Host) (x : TalkFault) (o o' : Option World) (f f' : ℕ) (side' : Side) (order order' : Order) (P : Bytes → Regions → Type 0) (taken : Option (List ℕ))
       → Stands b c side o h beside → order ≡ order_of h.machine → Puts (wire_seen c o f side order) (Err x) P (wire_seen c o' f' side' order')
       → CameTold b c side event output there beside (Err (fault.Talk x)) o' order' taken taken
-  not_moved k event output there h talk.LinkFault o o' f f' side' order order' P taken x same puts = none_taken taken output
-  not_moved k event output there h (talk.BadReply frame) o o' f f' side' order order' P taken x same puts = never_bad b c o side order h beside x same f f' side' order' o' P frame puts
+  not_moved event output there h talk.LinkFault o o' f f' side' order order' P taken x same puts = none_taken taken output
+  not_moved event output there h (talk.BadReply frame) o o' f f' side' order order' P taken x same puts = never_bad b c o side order h beside x same f f' side' order' o' P frame puts
 
   -- a fault says nothing of where the side would stand
   pub came_err : (event : Event) (output : List ℕ) (there there' : Host) (x : RunFault) (o o' : Option World) (order order' : Order) (taken taken' : Option (List ℕ))

@@ -1,6 +1,9 @@
 // A table's text is run.
-ghost use Rattle.std.specs.Prelude.{◌≡◌, IfOk};
+ghost use Rattle.std.specs.Prelude.{◌≡◌, ◌≢◌, IfOk, IfErr, Err};
+ghost use Rattle.ps_step.specs.declared.fault.PsFault.TheVariants.{NoMemory as WantsMemory};
+ghost use Rattle.ps_print.specs.Loaded.{loaded};
 ghost use Rattle.table_run.specs.Shape.{HasShape};
+ghost use Rattle.table_run.specs.Tables.{RunsText, why, left_by, IsTableOf};
 ghost use Rattle.table_run.specs.declared.run.TableFault.TheVariants.{NoMemory as OutOfMemory};
 
 use crate::shape::has_entries;
@@ -31,7 +34,9 @@ impl From<AllocError> for TableFault {
 }
 
 /// What a fault of a run is for the table. No link is asked while a table runs.
-fn fault_of(fault: PsFault) -> TableFault {
+fn fault_of(fault: PsFault) -> TableFault
+    ensures { result ≡ why fault }
+{
     match fault {
         PsFault::Error(error) => TableFault::Raised(error),
         PsFault::Spent => TableFault::Spent,
@@ -51,7 +56,10 @@ fn no_steps() -> Steps
 }
 
 /// A new state behind the prelude.
-fn loaded(alloc: Global) -> Result<PsCore, TableFault> {
+fn loaded(alloc: Global) -> Result<PsCore, TableFault>
+    ensures ok { IfOk result (λ core. core ≡ loaded) }
+    ensures err { IfErr result (λ fault. fault ≡ OutOfMemory) }
+{
     let store = PsStore::new(alloc)?;
     let mut core = PsCore::new(alloc, store)?;
     let mut steps = no_steps();
@@ -62,7 +70,10 @@ fn loaded(alloc: Global) -> Result<PsCore, TableFault> {
 }
 
 /// Runs a text with no target.
-fn run_text(core: &mut PsCore, text: &[u8]) -> Result<(), PsFault> {
+fn run_text(core: &mut PsCore, text: &[u8]) -> Result<(), PsFault>
+    requires { core.old ≡ loaded }
+    ensures { result ≢ Err WantsMemory → RunsText text.now result core.new }
+{
     let text = core.store.make_string(text)?;
     let mut steps = no_steps();
     run(
@@ -74,7 +85,9 @@ fn run_text(core: &mut PsCore, text: &[u8]) -> Result<(), PsFault> {
 }
 
 /// The dictionary that was left, where nothing else was.
-fn left_by(core: &PsCore) -> Option<DictId> {
+fn left_by(core: &PsCore) -> Option<DictId>
+    ensures { result ≡ left_by core.now }
+{
     if core.operands.len() != 1 || core.dictionaries.len() != core.store.base().len() {
         return None;
     }
@@ -88,7 +101,8 @@ fn left_by(core: &PsCore) -> Option<DictId> {
 ///
 /// A text of more than 16,777,216 bytes raises limitcheck, and Spent comes where 10,000,000 steps are taken.
 pub fn run_table(alloc: Global, text: &[u8], target: u8) -> Result<PsStore, TableFault>
-    ensures { IfOk result (λ store. HasShape store target) }
+    ensures comes { IsTableOf text.now target result }
+    ensures shape { IfOk result (λ store. HasShape store target) }
 {
     let mut core = loaded(alloc)?;
     if let Err(fault) = run_text(&mut core, text) {

@@ -1,5 +1,10 @@
-use Rattle.std.proofs.Common.{◌∙◌, Err}
+use Rattle.std.proofs.Common.{◌∙◌, sym, ap, Bool, true, false, Option, Ok, Err}
+use Rattle.machine_state.specs.State.{Behaviour}
+use Rattle.nub_wire.specs.Nub.{Host}
 use Rattle.debug_side.specs.declared.event.Event.{Event}
+use Rattle.debug_side.specs.Meant.{keeps_words}
+use Rattle.debug_side.specs.Told.{its_event, its_output, host_at_event, host_behind}
+use Rattle.debug_side.proofs.Coming.{came_err, came_left, came_cleared, not_cleared}
 use Rattle.debug_side.proofs.Resuming.{counts_then, called_then, called_then_badly, puts_count}
 use Rattle.debug_side.proofs.resume.resume_side.Goals as goal
 
@@ -18,3 +23,9 @@ returns-in-Ok-unplant_all-clause-calls g c =
 
 pub returns-in-Ok-unplant_all-clause-cause : goal.returns-in-Ok-unplant_all-clause-cause
 returns-in-Ok-unplant_all-clause-cause g c = (c.in-Ok-unplant_all.ensures.meaning.faults ∙ c.in-Ok.ensures.cause.0, c.in-Ok.ensures.cause.1)
+
+pub returns-in-Err-clause-told : goal.returns-in-Err-clause-told
+returns-in-Err-clause-told g c = λ (b : Behaviour) (h : Host) (beside : Option Host) x same keeps may.
+    came_err b g.L.Link.conduct c.args.wire.now.side beside (its_event b c.args.kind c.args.row.now c.args.limit h) (its_output b c.args.kind c.args.row.now c.args.limit h) (host_at_event b c.args.kind c.args.row.now c.args.limit h)
+    (host_behind b c.args.kind c.args.row.now c.args.limit h) c.in-Err.fault (g.L.Link.world c.meet.new.wire.link) (g.L.Link.world c.meet.new.wire.link) c.meet.new.wire.order c.meet.new.wire.order (g.S.Sink.taken c.args.out.now) (g.S.Sink.taken c.meet.new.out)
+    (c.in-Err.ensures.told b h beside x same keeps may)
