@@ -1,5 +1,5 @@
 -- What a resume of a side comes to over nubs that meet their definition, part by part.
-use Rattle.std.proofs.Common.{◌≡◌, ◌∙◌, refl, sym, ap, subst, ℕ, Bool, true, false, List, [], ◌++◌, map, Option, Some, None, Result, Ok, Err, append-nil, absurd}
+use Rattle.std.proofs.Common.{◌≡◌, ◌∙◌, refl, sym, ap, subst, ℕ, Bool, true, false, List, [], ◌++◌, map, Option, Some, None, Result, Ok, Err, append-nil}
 use Rattle.ldb_words.specs.declared.kinds.Order.{Order}
 use Rattle.ldb_edge.specs.Known.{known_and}
 use Rattle.machine_state.specs.Regions.{Regions}
@@ -25,7 +25,7 @@ use Rattle.debug_side.specs.declared.event.Event.{Event}
 use Rattle.debug_side.specs.declared.point.MachineKind.{MachineKind}
 use Rattle.debug_side.specs.declared.point.SideRow.{SideRow}
 use Rattle.debug_side.specs.Meant.{address_of, event_of, keeps_words}
-use Rattle.debug_side.specs.Wrote.{words_put, passed, Puts}
+use Rattle.debug_side.specs.Wrote.{Wrote, words_put, passed, Puts}
 use Rattle.debug_side.specs.Told.{KeepsOrder, MayRun, with_regions, moved, behind, put_by, came, at_event, CameTold, moved_there, its_run, its_event, its_output, host_at_event, host_behind}
 use Rattle.debug_side.proofs.Told.{StandsWith, put_stands, never_bad, run_reached, reached_from}
 
@@ -114,16 +114,21 @@ module _ (b : Behaviour) (c : Conduct) (side : Side) (beside : Option Host) wher
         let y = left_there (keeps_words stay k event) target words there o order (ap (keeps_words stay k) (sym h.0) ∙ left) h.2 h.3 in
         (h.0, h.1, y.0, y.1)
 
-    pub came_cleared : (e : Event) (o o' : Option World) (f f' : ℕ) (side' : Side) (order order' : Order) (taken taken' : Option (List ℕ)) → keeps_words stay k e ≡ false → CameTold b c side event output there beside (Ok e) o order taken taken'
-        → Puts (wire_seen c o f side order) (Ok tt) (λ (z : Bytes) r. r ≡ words_put z.order (noop_of target) (map address_of words) z.regions) (wire_seen c o' f' side' order')
+    pub came_cleared : (e : Event) (o o' : Option World) (f f' : ℕ) (now side' : Side) (order order' : Order) (taken taken' : Option (List ℕ)) (points : List Point) → now ≡ side → points ≡ words → keeps_words stay k e ≡ false
+        → CameTold b c side event output there beside (Ok e) o order taken taken'
+        → Puts (wire_seen c o f now order) (Ok tt) (λ (z : Bytes) r. r ≡ words_put z.order (noop_of target) (map address_of points) z.regions) (wire_seen c o' f' side' order')
         → CameTold b c side event output there_behind beside (Ok e) o' order' taken taken'
-    came_cleared e o o' f f' side' order order' taken taken' gone h puts =
-        let w = put_stands b c o side order there beside h.2 h.3 f f' side' order' o' (λ (z : Bytes) r. r ≡ words_put z.order (noop_of target) (map address_of words) z.regions) puts in
-        let y = cleared_there (keeps_words stay k event) target words there o' order' w.regions (ap (keeps_words stay k) (sym h.0) ∙ gone) w.put w.stands (w.order_is ∙ h.3) in
+    came_cleared e o o' f f' now side' order order' taken taken' points here all gone h puts =
+        let P : Bytes → Regions → Type 0 = λ (z : Bytes) r. r ≡ words_put z.order (noop_of target) (map address_of points) z.regions in
+        let w = put_stands b c o side order there beside h.2 h.3 f f' side' order' o' P (subst (λ (s : Side). Wrote (wire_seen c o f s order) (wire_seen c o' f' side' order') P) here puts) in
+        let put : w.regions ≡ words_put (order_of there.machine) (noop_of target) (map address_of words) there.machine.memory =
+        w.put ∙ ap (λ (ps : List Point). words_put (order_of there.machine) (noop_of target) (map address_of ps) there.machine.memory) all in
+        let y = cleared_there (keeps_words stay k event) target words there o' order' w.regions (ap (keeps_words stay k) (sym h.0) ∙ gone) put w.stands (w.order_is ∙ h.3) in
         (h.0, h.1, y.0, y.1)
 
-    pub not_cleared : (e : Event) (x : TalkFault) (o o' : Option World) (f f' : ℕ) (side' : Side) (order order' : Order) (P : Bytes → Regions → Type 0) (taken taken' : Option (List ℕ)) → CameTold b c side event output there beside (Ok e) o order taken taken'
-        → Puts (wire_seen c o f side order) (Err x) P (wire_seen c o' f' side' order')
+    pub not_cleared : (e : Event) (x : TalkFault) (o o' : Option World) (f f' : ℕ) (now side' : Side) (order order' : Order) (P : Bytes → Regions → Type 0) (taken taken' : Option (List ℕ)) → now ≡ side
+        → CameTold b c side event output there beside (Ok e) o order taken taken' → Puts (wire_seen c o f now order) (Err x) P (wire_seen c o' f' side' order')
         → CameTold b c side event output there_behind beside (Err (fault.Talk x)) o' order' taken taken'
-    not_cleared e talk.LinkFault o o' f f' side' order order' P taken taken' h puts = record { front = output; back = []; whole = append-nil output; taken = h.1 }
-    not_cleared e (talk.BadReply frame) o o' f f' side' order order' P taken taken' h puts = never_bad b c o side order there beside h.2 h.3 f f' side' order' o' P frame puts
+    not_cleared e talk.LinkFault o o' f f' now side' order order' P taken taken' here h puts = record { front = output; back = []; whole = append-nil output; taken = h.1 }
+    not_cleared e (talk.BadReply frame) o o' f f' now side' order order' P taken taken' here h puts =
+        never_bad b c o side order there beside h.2 h.3 f f' side' order' o' P frame (subst (λ (s : Side). Puts (wire_seen c o f s order) (Err (talk.BadReply frame)) P (wire_seen c o' f' side' order')) here puts)

@@ -1,5 +1,5 @@
 -- A side over nubs that meet their definition: its memory, its words and its run.
-use Rattle.std.proofs.Common.{◌≡◌, ◌∙◌, refl, sym, ap, subst, ℕ, zero, suc, nat_eq, Bool, true, false, List, [], ◌++◌, map, option_to_list, Option, Some, None, Result, Ok, Err, absurd}
+use Rattle.std.proofs.Common.{◌≡◌, ◌∙◌, refl, sym, ap, subst, ℕ, zero, suc, nat_eq, Bool, true, false, if◌then◌else◌, List, [], Option, Some, None, Result, Ok, Err, inr}
 use Rattle.ldb_words.specs.declared.kinds.Order.{Order}
 use Rattle.ldb_words.specs.declared.event.Event.{Event}
 use Rattle.ldb_words.specs.declared.event.Event.TheVariants as event
@@ -8,7 +8,7 @@ use Rattle.ldb_edge.specs.Known.{known_and}
 use Rattle.machine_state.specs.Regions.{Regions, write_of}
 use Rattle.machine_state.specs.Sound.{IsMemory}
 use Rattle.machine_state.specs.State.{MachineState, Behaviour, order_of, with_memory}
-use Rattle.machine_state.specs.Runs.{Turn, Goes, Ends, requested, answered, turn_by, met, run_of}
+use Rattle.machine_state.specs.Runs.{Ran, Turn, Goes, Ends, requested, answered, turn_by, met, run_of}
 use Rattle.machine_state.specs.declared.target.Cause.TheVariants as cause
 use Rattle.nub_wire.specs.declared.link.Side.{Side}
 use Rattle.nub_wire.specs.Nub.{NubState, Host, host}
@@ -41,7 +41,7 @@ reached_from r (given bytes each x) = given bytes each (reached_from r x)
 pub written : (b : Behaviour) (m : MachineState) (r r' : Regions) → Writes (order_of m) r r' → r ≡ m.memory → Reached b m (record m { memory = r' })
 written b m r r' none_written e = subst (λ (x : Regions). Reached b m (record m { memory = x })) (sym e) begins
 written b m r r' (writes {s = s} at word before wrote) e =
-    subst (λ (x : Result Regions Outside). Reached b m (with_memory x (record m { memory = s })).1) wrote (stored at 4 word refl (written b m r s before e))
+    subst (λ (x : Result Regions Outside). Reached b m (with_memory x (record m { memory = s })).1) wrote (stored at 4 word (inr (inr refl)) (written b m r s before e))
 
 module _ (b : Behaviour) (m : MachineState) where
   abbrev TurnReached : Turn → Type 0
@@ -62,19 +62,18 @@ module _ (b : Behaviour) (m : MachineState) where
   answer_reached (event.Request k, n) r = request_reached k n r
   answer_reached (event.Fault kind, n) r = r
 
-  mutual
-    ran_reached : (turns : ℕ) (n : MachineState) → Reached b m n → Reached b m (run_of b turns n).machine
-    unfolding run_of
-    ran_reached zero n r = r
-    ran_reached (suc k) n r = met_reached k (turn_by b n) (turn_reached n r)
-
-    met_reached : (k : ℕ) (t : Turn) → TurnReached t → Reached b m (met (run_of b k) t).machine
-    met_reached k (Goes byte n) r = ran_reached k n r
-    met_reached k (Ends c n) r = r
-
   turn_reached : (n : MachineState) → Reached b m n → TurnReached (turn_by b n)
   unfolding turn_by
   turn_reached n r = answer_reached (b.next n) (stepped r)
+
+  met_reached : (more : MachineState → Ran) → ((n : MachineState) → Reached b m n → Reached b m (more n).machine) → (t : Turn) → TurnReached t → Reached b m (met more t).machine
+  met_reached more all (Goes byte n) r = all n r
+  met_reached more all (Ends c n) r = r
+
+  ran_reached : (turns : ℕ) (n : MachineState) → Reached b m n → Reached b m (run_of b turns n).machine
+  unfolding run_of
+  ran_reached zero n r = r
+  ran_reached (suc k) n r = met_reached (run_of b k) (λ (x : MachineState) y. ran_reached k x y) (turn_by b n) (turn_reached n r)
 
   pub run_reached : (turns : ℕ) (n : MachineState) → Reached b m n → Reached b m (run_from b turns n).machine
   run_reached turns n r = saved (ran_reached turns (b.restored n) (restored r))

@@ -55,9 +55,9 @@ returns-in-Err-run_to_event-clause-told g c = λ (b : Behaviour) (h : Host) (bes
     let there : Host = moved_there b c.args.kind c.args.row.now c.args.limit h in
     let led = c.in-Ok.ensures.calls.side_is in
     let p = passed_on b g.L.Link.conduct c.args.wire.now.side beside c.args.kind.context c.args.row.now.stands_at h (g.L.Link.world c.args.wire.now.link) (g.L.Link.world c.pass_no_op.new.m.link) (g.L.Link.faults c.args.wire.now.link)
-        (g.L.Link.faults c.pass_no_op.new.m.link) c.pass_no_op.new.m.side c.args.wire.now.order c.pass_no_op.new.m.order x same keeps c.in-Ok.ensures.meaning in
+    (g.L.Link.faults c.pass_no_op.new.m.link) c.pass_no_op.new.m.side c.args.wire.now.order c.pass_no_op.new.m.order x same keeps c.in-Ok.ensures.meaning in
     let told = c.in-Err-run_to_event.ensures.told b there beside (subst (λ (s : Side). Stands b g.L.Link.conduct s (g.L.Link.world c.pass_no_op.new.m.link) there beside) (sym led) p.stands)
-        (may_run b g.L.Link.conduct c.args.wire.now.side beside c.args.row.now.kept h c.in-None.is may) in
+    (may_run b g.L.Link.conduct c.args.wire.now.side beside c.args.row.now.kept h c.in-None.is may) in
     run_failed b g.L.Link.conduct c.args.wire.now.side beside c.args.row.now.kept (its_event b c.args.kind c.args.row.now c.args.limit h) c.args.limit there (host_at_event b c.args.kind c.args.row.now c.args.limit h)
     c.in-Err-run_to_event.fault (g.L.Link.world c.run_to_event.new.link) c.pass_no_op.new.m.order (g.S.Sink.taken c.args.out.now) (g.S.Sink.taken c.run_to_event.new.out) c.in-None.is
     (subst (λ (s : Side). RunTold b g.L.Link.conduct s c.args.limit there beside (Err c.in-Err-run_to_event.fault) (g.L.Link.world c.run_to_event.new.link) (g.S.Sink.taken c.args.out.now) (g.S.Sink.taken c.run_to_event.new.out)) led told)
@@ -67,9 +67,9 @@ returns-in-Ok-run_to_event-clause-told g c = λ (b : Behaviour) (h : Host) (besi
     let there : Host = moved_there b c.args.kind c.args.row.now c.args.limit h in
     let led = c.in-Ok.ensures.calls.side_is in
     let p = passed_on b g.L.Link.conduct c.args.wire.now.side beside c.args.kind.context c.args.row.now.stands_at h (g.L.Link.world c.args.wire.now.link) (g.L.Link.world c.pass_no_op.new.m.link) (g.L.Link.faults c.args.wire.now.link)
-        (g.L.Link.faults c.pass_no_op.new.m.link) c.pass_no_op.new.m.side c.args.wire.now.order c.pass_no_op.new.m.order x same keeps c.in-Ok.ensures.meaning in
+    (g.L.Link.faults c.pass_no_op.new.m.link) c.pass_no_op.new.m.side c.args.wire.now.order c.pass_no_op.new.m.order x same keeps c.in-Ok.ensures.meaning in
     let told = c.in-Ok-run_to_event.ensures.told b there beside (subst (λ (s : Side). Stands b g.L.Link.conduct s (g.L.Link.world c.pass_no_op.new.m.link) there beside) (sym led) p.stands)
-        (may_run b g.L.Link.conduct c.args.wire.now.side beside c.args.row.now.kept h c.in-None.is may) in
+    (may_run b g.L.Link.conduct c.args.wire.now.side beside c.args.row.now.kept h c.in-None.is may) in
     run_came b g.L.Link.conduct c.args.wire.now.side beside c.args.row.now.kept c.args.row.now c.args.limit h there c.event_by-event.result c.in-Ok-run_to_event.ending
     (g.L.Link.world c.run_to_event.new.link) c.pass_no_op.new.m.order (g.S.Sink.taken c.args.out.now) (g.S.Sink.taken c.run_to_event.new.out) c.in-None.is c.event_by-event.ensures p.order_is p.keeps
     (subst (λ (s : Side). RunTold b g.L.Link.conduct s c.args.limit there beside (Ok c.in-Ok-run_to_event.ending) (g.L.Link.world c.run_to_event.new.link) (g.S.Sink.taken c.args.out.now) (g.S.Sink.taken c.run_to_event.new.out)) led told)

@@ -1,4 +1,6 @@
-use Rattle.std.proofs.Common.{◌∙◌, sym, ap, Bool, true, false, Option, Ok, Err}
+use Rattle.std.proofs.Common.{◌∙◌, sym, ap, Bool, Option, Err}
+use Rattle.std.specs.Global.{Vec}
+use Rattle.table_points.specs.declared.row.Point.{Point}
 use Rattle.machine_state.specs.State.{Behaviour}
 use Rattle.nub_wire.specs.Nub.{Host}
 use Rattle.debug_side.specs.declared.event.Event.{Event}
@@ -29,3 +31,28 @@ returns-in-Err-clause-told g c = λ (b : Behaviour) (h : Host) (beside : Option 
     came_err b g.L.Link.conduct c.args.wire.now.side beside (its_event b c.args.kind c.args.row.now c.args.limit h) (its_output b c.args.kind c.args.row.now c.args.limit h) (host_at_event b c.args.kind c.args.row.now c.args.limit h)
     (host_behind b c.args.kind c.args.row.now c.args.limit h) c.in-Err.fault (g.L.Link.world c.meet.new.wire.link) (g.L.Link.world c.meet.new.wire.link) c.meet.new.wire.order c.meet.new.wire.order (g.S.Sink.taken c.args.out.now) (g.S.Sink.taken c.meet.new.out)
     (c.in-Err.ensures.told b h beside x same keeps may)
+
+pub returns-then-keeps_words-clause-told : goal.returns-then-keeps_words-clause-told
+returns-then-keeps_words-clause-told g c = λ (b : Behaviour) (h : Host) (beside : Option Host) x same keeps may.
+    let row = c.args.row.now in
+    came_left b g.L.Link.conduct c.args.wire.now.side beside (its_event b c.args.kind row c.args.limit h) (its_output b c.args.kind row c.args.limit h) (host_at_event b c.args.kind row c.args.limit h)
+    row.words_stay row.kept c.args.kind.target row.step_words.items c.in-Ok.event (g.L.Link.world c.meet.new.wire.link) c.meet.new.wire.order (g.S.Sink.taken c.args.out.now) (g.S.Sink.taken c.meet.new.out)
+    (ap (λ (t : Bool). keeps_words t row.kept c.in-Ok.event) (sym c.in-Ok.ensures.stay) ∙ (sym c.keeps_words.ensures ∙ c.if-keeps_words.true)) (c.in-Ok.ensures.told b h beside x same keeps may)
+
+pub returns-in-Err-unplant_all-clause-told : goal.returns-in-Err-unplant_all-clause-told
+returns-in-Err-unplant_all-clause-told g c = λ (b : Behaviour) (h : Host) (beside : Option Host) x same keeps may.
+    let row = c.args.row.now in
+    not_cleared b g.L.Link.conduct c.args.wire.now.side beside (its_event b c.args.kind row c.args.limit h) (its_output b c.args.kind row c.args.limit h) (host_at_event b c.args.kind row c.args.limit h)
+    row.words_stay row.kept c.args.kind.target row.step_words.items c.in-Ok.event c.in-Err-unplant_all.fault (g.L.Link.world c.meet.new.wire.link) (g.L.Link.world c.unplant_all.new.m.link) (g.L.Link.faults c.meet.new.wire.link)
+    (g.L.Link.faults c.unplant_all.new.m.link) c.meet.new.wire.side c.unplant_all.new.m.side c.meet.new.wire.order c.unplant_all.new.m.order _ (g.S.Sink.taken c.args.out.now) (g.S.Sink.taken c.meet.new.out) c.in-Ok.ensures.calls.0
+    (c.in-Ok.ensures.told b h beside x same keeps may) c.in-Err-unplant_all.ensures.meaning
+
+pub returns-in-Ok-unplant_all-clause-told : goal.returns-in-Ok-unplant_all-clause-told
+returns-in-Ok-unplant_all-clause-told g c = λ (b : Behaviour) (h : Host) (beside : Option Host) x same keeps may.
+    let row = c.args.row.now in
+    came_cleared b g.L.Link.conduct c.args.wire.now.side beside (its_event b c.args.kind row c.args.limit h) (its_output b c.args.kind row c.args.limit h) (host_at_event b c.args.kind row c.args.limit h)
+    row.words_stay row.kept c.args.kind.target row.step_words.items c.in-Ok.event (g.L.Link.world c.meet.new.wire.link) (g.L.Link.world c.unplant_all.new.m.link) (g.L.Link.faults c.meet.new.wire.link)
+    (g.L.Link.faults c.unplant_all.new.m.link) c.meet.new.wire.side c.unplant_all.new.m.side c.meet.new.wire.order c.unplant_all.new.m.order (g.S.Sink.taken c.args.out.now) (g.S.Sink.taken c.meet.new.out) c.as_slice.result.now
+    c.in-Ok.ensures.calls.0 (c.as_slice.ensures.value ∙ ap (λ (v : Vec Point). v.items) c.in-Ok.ensures.words)
+    (ap (λ (t : Bool). keeps_words t row.kept c.in-Ok.event) (sym c.in-Ok.ensures.stay) ∙ (sym c.keeps_words.ensures ∙ c.if-keeps_words.false)) (c.in-Ok.ensures.told b h beside x same keeps may)
+    c.in-Ok-unplant_all.ensures.meaning
