@@ -1,5 +1,5 @@
 -- What the text of a table comes to, which is run behind the prelude and where there is no target.
-use Rattle.std.specs.Prelude.{◌≡◌, ◌×◌, ℕ, true, nat_eq, ◌&&◌, if◌then◌else◌, List, length, slice_get, Option, Some, None, Result, Ok, Err}
+use Rattle.std.specs.Prelude.{◌≡◌, ℕ, true, nat_eq, ◌&&◌, if◌then◌else◌, List, length, slice_get, Option, Some, None, Result, Ok, Err}
 use Rattle.ps_store.specs.declared.object.DictId.{DictId}
 use Rattle.ps_store.specs.declared.object.StringId.{StringId}
 use Rattle.ps_store.specs.declared.object.PsObj.{PsObj}
@@ -23,19 +23,25 @@ use Rattle.table_run.specs.Shape.{has_entries}
 
 -- ---- its run
 
--- an executable string was run behind the prelude to this end
-pub record RunsString (made : StringId × StoreState) (answer : Answer) (c : PsCore) : Type 0 where
+-- an executable string was run from a state to this end
+pub record RunsString (start : PsCore) (made : StringId × StoreState) (answer : Answer) (c : PsCore) : Type 0 where
   pub left : ℕ
   pub dial : Dial
-  pub runs : RunsObject NoTarget MOST_STEPS (Str made.0 true) (bare 0) (record loaded { store = made.1 }) answer left dial c
+  pub runs : RunsObject NoTarget MOST_STEPS (Str made.0 true) (bare 0) (record start { store = made.1 }) answer left dial c
 
 -- a text for which the store has no room isn't run
-abbrev runs_made : Given StringId → Answer → PsCore → Type 0
-runs_made (Ok made) answer c = RunsString made answer c
-runs_made (Err fault) answer c = answer ≡ Err (fault_of fault)
+abbrev pub runs_made : PsCore → Given StringId → Answer → PsCore → Type 0
+runs_made start (Ok made) answer c = RunsString start made answer c
+runs_made start (Err fault) answer c = answer ≡ Err (fault_of fault)
 
-abbrev pub RunsText : List ℕ → Answer → PsCore → Type 0
-RunsText text answer c = runs_made (making_string loaded.store text) answer c
+abbrev pub RunsText : PsCore → List ℕ → Answer → PsCore → Type 0
+RunsText start text answer c = runs_made start (making_string start.store text) answer c
+
+-- a text was run behind the prelude
+pub record RunsBehind (text : List ℕ) (answer : Answer) (c : PsCore) : Type 0 where
+  pub start : PsCore
+  pub is_loaded : start ≡ loaded
+  pub runs : RunsText start text answer c
 
 -- why there is no table, by what ended its run: no link is asked
 abbrev pub why : PsFault → TableFault
@@ -58,7 +64,7 @@ left_by c = if nat_eq (length c.operands) 1 && nat_eq (length c.dictionaries) (l
 abbrev pub closed_with : PsCore → DictId → StoreState
 closed_with c top = record c.store { closed = mark_of c.store.table; top = Some top }
 
-abbrev table_with : (target : ℕ) → PsCore → Option DictId → Result StoreState TableFault
+abbrev pub table_with : (target : ℕ) → PsCore → Option DictId → Result StoreState TableFault
 table_with target c None = Err Shape
 table_with target c (Some top) = if has_entries (closed_with c top) target top then Ok (closed_with c top) else Err Shape
 
@@ -69,8 +75,8 @@ table_in target c = table_with target c (left_by c)
 
 -- The store that a table for a target leaves, or why there is none: an error that it doesn't catch, its steps, or its shape.
 abbrev pub IsTableOf : (text : List ℕ) → (target : ℕ) → Result StoreState TableFault → Type 0
-IsTableOf text target (Ok s) = (c : PsCore) × RunsText text (Ok tt) c × (table_in target c ≡ Ok s)
-IsTableOf text target (Err Shape) = (c : PsCore) × RunsText text (Ok tt) c × (table_in target c ≡ Err Shape)
-IsTableOf text target (Err (Raised e)) = (c : PsCore) × RunsText text (Err (ps.Error e)) c
-IsTableOf text target (Err Spent) = (c : PsCore) × RunsText text (Err ps.Spent) c
+IsTableOf text target (Ok s) = (c : PsCore) × RunsBehind text (Ok tt) c × (table_in target c ≡ Ok s)
+IsTableOf text target (Err Shape) = (c : PsCore) × RunsBehind text (Ok tt) c × (table_in target c ≡ Err Shape)
+IsTableOf text target (Err (Raised e)) = (c : PsCore) × RunsBehind text (Err (ps.Error e)) c
+IsTableOf text target (Err Spent) = (c : PsCore) × RunsBehind text (Err ps.Spent) c
 IsTableOf text target (Err NoMemory) = Unit {0}

@@ -71,8 +71,7 @@ fn loaded(alloc: Global) -> Result<PsCore, TableFault>
 
 /// Runs a text with no target.
 fn run_text(core: &mut PsCore, text: &[u8]) -> Result<(), PsFault>
-    requires { core.old ≡ loaded }
-    ensures { result ≢ Err WantsMemory → RunsText text.now result core.new }
+    ensures { result ≢ Err WantsMemory → RunsText core.old text.now result core.new }
 {
     let text = core.store.make_string(text)?;
     let mut steps = no_steps();
