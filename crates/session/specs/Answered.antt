@@ -14,7 +14,7 @@ use Rattle.session.specs.declared.modes.Mode.TheVariants as mode
 use Rattle.session.specs.declared.modes.ModeRefusal.{ModeRefusal}
 use Rattle.session.specs.declared.modes.ModeRefusal.TheVariants as because
 
-abbrev resume_of : How → Resume
+abbrev pub resume_of : How → Resume
 resume_of how.ByStep = ByStep
 resume_of how.ByContinue = ByContinue
 

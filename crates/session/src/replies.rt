@@ -1,7 +1,12 @@
 // The texts of replies.
 
-ghost use Rattle.std.specs.Prelude.{◌≡◌, IfOk};
+ghost use Rattle.std.specs.Prelude.{◌≡◌, ◌≤◌, All, IfOk};
+ghost use Rattle.claims.specs.Lines.{event_text, fault_text};
+ghost use Rattle.claims.specs.Side.{Stops};
+ghost use Rattle.table_points.specs.Rows.{row_in};
 ghost use Rattle.session.specs.Answered.{reason_of, refusal_reply, limit_reply};
+ghost use Rattle.session.specs.Events.{event_in, events_in, event_line};
+ghost use Rattle.session.specs.Rooms.{Adds, IsEmptyFor, IsWithin, event_room, held_room, RoomForKept};
 
 use crate::line::Line;
 use crate::modes::ModeRefusal;
@@ -16,14 +21,20 @@ use table_asks::{Cause, Point};
 const EVENT_ROOM: usize = 64;
 
 /// The bytes that the reply to a stop at a point may have.
-fn point_room(table: &PsStore, point: &Point) -> usize {
+fn point_room(table: &PsStore, point: &Point) -> usize
+    ensures { result ≡ held_room (event_room (Stops (row_in table.now point.now))) }
+{
     let file = table.string_get(point.file).len();
     let function = table.string_get(point.function).len();
     EVENT_ROOM.saturating_add(file).saturating_add(function)
 }
 
 /// The most bytes that the reply to a stop at one of some points may have, and at least so many.
-pub fn room_for(table: &PsStore, points: &[Point], least: usize) -> usize {
+pub fn room_for(table: &PsStore, points: &[Point], least: usize) -> usize
+    ensures least { least ≤ result }
+    ensures other { EVENT_ROOM ≤ result }
+    ensures each { All (λ p. held_room (event_room (Stops (row_in table.now p))) ≤ result) points.now }
+{
     let mut most = least.max(EVENT_ROOM);
     for point in points {
         most = most.max(point_room(table, point));
@@ -32,14 +43,19 @@ pub fn room_for(table: &PsStore, points: &[Point], least: usize) -> usize {
 }
 
 /// The same for an event that is kept.
-pub fn room_for_kept(table: &PsStore, kept: Option<Event>, least: usize) -> usize {
+pub fn room_for_kept(table: &PsStore, kept: Option<Event>, least: usize) -> usize
+    ensures least { least ≤ result }
+    ensures kept { EVENT_ROOM ≤ least → RoomForKept result (events_in table.now kept) }
+{
     match kept {
         Some(Event::Stops(point)) => least.max(point_room(table, &point)),
         _ => least,
     }
 }
 
-fn fault_text(kind: FaultKind) -> &'static str {
+fn fault_text(kind: FaultKind) -> &'static str
+    ensures { result.now ≡ fault_text kind }
+{
     match kind {
         FaultKind::Hazard => "hazard",
         FaultKind::Illegal => "illegal",
@@ -53,7 +69,10 @@ fn fault_text(kind: FaultKind) -> &'static str {
 }
 
 /// Adds `stop F:L.C FUNC`.
-fn add_stop(line: &mut Line, table: &PsStore, point: &Point) {
+fn add_stop(line: &mut Line, table: &PsStore, point: &Point)
+    ensures adds { Adds line.old line.new (event_text (Stops (row_in table.now point.now))) }
+    ensures short { IsWithin (Stops (row_in table.now point.now)) }
+{
     line.add(b"stop ");
     line.add(table.string_get(point.file));
     line.add(b":");
@@ -64,10 +83,13 @@ fn add_stop(line: &mut Line, table: &PsStore, point: &Point) {
     line.add(table.string_get(point.function));
 }
 
-/// The reply of an event, in a line that has room for it.
-pub fn event_reply(mut line: Line, table: &PsStore, event: Event) -> Text {
+/// Adds an event's text.
+fn add_event(line: &mut Line, table: &PsStore, event: Event)
+    ensures adds { Adds line.old line.new (event_text (event_in table.now event)) }
+    ensures short { IsWithin (event_in table.now event) }
+{
     match event {
-        Event::Stops(point) => add_stop(&mut line, table, &point),
+        Event::Stops(point) => add_stop(line, table, &point),
         Event::Pauses { pc } => {
             line.add(b"pause at ");
             line.add_word(pc);
@@ -85,6 +107,13 @@ pub fn event_reply(mut line: Line, table: &PsStore, event: Event) -> Text {
         Event::OutOfTurns => line.add(b"turns"),
         Event::OutOfStack => line.add(b"stack"),
     }
+}
+
+/// The reply of an event, in a line that has room for it.
+pub fn event_reply(mut line: Line, table: &PsStore, event: Event) -> Text
+    ensures { IsEmptyFor (event_room (event_in table.now event)) line → result ≡ event_line (event_in table.now event) }
+{
+    add_event(&mut line, table, event);
     line.add(b"\n");
     line.into_text()
 }

@@ -2,7 +2,7 @@
 
 ghost use Rattle.session.specs.Counted.{CountsOutput};
 
-use crate::merging::{kept_of, merged, stands};
+use crate::merging::{frame_after, kept_of, merged};
 use crate::sides::{SideRecord, turn};
 use abs_mem::Wire;
 use debug_side::{Event, resume_side};
@@ -34,9 +34,7 @@ fn resumed<L: Link + Drop, O: Sink>(
 /// What a side keeps behind a resume.
 fn settle_side(side: &mut SideRecord, all: Event, event: Event) {
     side.row.kept = kept_of(all, event);
-    if stands(all) {
-        side.frame = 0;
-    }
+    side.frame = frame_after(side.frame, all);
 }
 
 /// Resumes one side, and says its event.
