@@ -49,3 +49,8 @@ Replies text NoMemory = Unit {0}
 abbrev pub Answers : List ℕ → Result Answer End → Type 0
 Answers text (Ok a) = Replies text a
 Answers text (Err e) = ⊥
+
+-- the reply to a command that isn't done: no memory, a refusal, or an error of PostScript
+abbrev pub IsTrouble : Answer → Type 0
+IsTrouble NoMemory = Unit {0}
+IsTrouble (Lines text) = ((u : Refusal) × (text ≡ refusal_reply u)) ⊎ ((error : List ℕ) × (text ≡ codes "psfault " ++ (error ++ codes "\n")))
