@@ -1,8 +1,11 @@
 -- What a session answers before it asks anything: to a line that is no command, and to a command that its state refuses.
 use Rattle.std.specs.Prelude.{◌≡◌, ◌⊎◌, ℕ, List, [], ◌++◌, codes, decimal, Result, Ok, Err, if◌then◌else◌}
 use Rattle.c_session.specs.declared.command.Command.{Command}
-use Rattle.c_session.specs.Commands.{Refusal, BadLine, HasEnded, IsRunning, refusal_text, Resume, ByStep, ByContinue}
+use Rattle.c_session.specs.Commands.{Refusal, BadLine, HasEnded, IsRunning, NoPlace, NoFrame, BadText, IsUndefined, refusal_text, Resume, ByStep, ByContinue}
+use Rattle.c_reading.specs.Readings.{BadSyntax, NoScope, BadType}
 use Rattle.cmd_lang.specs.Words.{is_empty}
+use Rattle.table_asks.specs.declared.fault.Cause.{Cause}
+use Rattle.table_asks.specs.declared.fault.Cause.TheVariants as cause
 use Rattle.claims.specs.Side.{State, Fresh, Stopped, Running, Ended}
 use Rattle.session.specs.declared.answers.Answer.{Answer}
 use Rattle.session.specs.declared.answers.Answer.TheVariants.{Lines, NoMemory}
@@ -50,7 +53,25 @@ abbrev pub Answers : List ℕ → Result Answer End → Type 0
 Answers text (Ok a) = Replies text a
 Answers text (Err e) = ⊥
 
+-- ---- commands that aren't done
+
+-- the reason of a refusal, in the words of the machine session
+abbrev pub refusal_of : Cause → Refusal
+refusal_of cause.NoPlace = NoPlace
+refusal_of cause.NoFrame = NoFrame
+refusal_of cause.BadSyntax = BadText BadSyntax
+refusal_of cause.NoScope = BadText NoScope
+refusal_of cause.BadType = BadText BadType
+refusal_of (cause.Undefined reason) = IsUndefined reason
+
+abbrev pub spent_reply : List ℕ
+spent_reply = codes "psfault spent\n"
+
 -- the reply to a command that isn't done: no memory, a refusal, or an error of PostScript
 abbrev pub IsTrouble : Answer → Type 0
 IsTrouble NoMemory = Unit {0}
 IsTrouble (Lines text) = ((u : Refusal) × (text ≡ refusal_reply u)) ⊎ ((error : List ℕ) × (text ≡ codes "psfault " ++ (error ++ codes "\n")))
+
+abbrev pub IsNoMemory : Answer → Type 0
+IsNoMemory NoMemory = Unit {0}
+IsNoMemory (Lines text) = ⊥

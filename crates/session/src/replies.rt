@@ -1,10 +1,11 @@
 // The texts of replies.
 
-ghost use Rattle.std.specs.Prelude.{◌≡◌, ◌≤◌, All, IfOk};
+ghost use Rattle.std.specs.Prelude.{◌≡◌, ◌≤◌, ◌++◌, ℕ, List, All, IfOk, codes};
 ghost use Rattle.claims.specs.Lines.{event_text, fault_text};
 ghost use Rattle.claims.specs.Side.{Stops};
 ghost use Rattle.table_points.specs.Rows.{row_in};
-ghost use Rattle.session.specs.Answered.{reason_of, refusal_reply, limit_reply};
+ghost use Rattle.c_session.specs.Commands.{IsUndefined, refusal_text};
+ghost use Rattle.session.specs.Answered.{reason_of, refusal_of, refusal_reply, limit_reply, spent_reply};
 ghost use Rattle.session.specs.Events.{event_in, events_in, event_line};
 ghost use Rattle.session.specs.Rooms.{Adds, IsEmptyFor, IsWithin, event_room, held_room, RoomForKept};
 
@@ -128,7 +129,9 @@ pub fn mode_reply(alloc: Global, why: ModeRefusal) -> Result<Text, AllocError>
     }
 }
 
-fn undefined_text(reason: Undef) -> &'static str {
+fn undefined_text(reason: Undef) -> &'static str
+    ensures { codes "refused " ++ result.now ≡ refusal_text (IsUndefined reason) }
+{
     match reason {
         Undef::Overflow => "undefined overflow",
         Undef::Division => "undefined division",
@@ -137,7 +140,9 @@ fn undefined_text(reason: Undef) -> &'static str {
     }
 }
 
-fn cause_text(cause: Cause) -> &'static str {
+fn cause_text(cause: Cause) -> &'static str
+    ensures { codes "refused " ++ result.now ≡ refusal_text (refusal_of cause) }
+{
     match cause {
         Cause::NoPlace => "place",
         Cause::NoFrame => "frame",
@@ -149,7 +154,9 @@ fn cause_text(cause: Cause) -> &'static str {
 }
 
 /// A line of two words.
-fn two_words(alloc: Global, first: &str, second: &str) -> Result<Text, AllocError> {
+fn two_words(alloc: Global, first: &str, second: &str) -> Result<Text, AllocError>
+    ensures { IfOk result (λ t. t ≡ first.now ++ (codes " " ++ (second.now ++ codes "\n"))) }
+{
     let mut text = Text::from_slice(alloc, first.as_bytes())?;
     text.append(b" ")?;
     text.append(second.as_bytes())?;
@@ -158,17 +165,23 @@ fn two_words(alloc: Global, first: &str, second: &str) -> Result<Text, AllocErro
 }
 
 /// The reply to a command that is refused by what it asks.
-pub fn refusal(alloc: Global, cause: Cause) -> Result<Text, AllocError> {
+pub fn refusal(alloc: Global, cause: Cause) -> Result<Text, AllocError>
+    ensures { IfOk result (λ t. t ≡ refusal_reply (refusal_of cause)) }
+{
     two_words(alloc, "refused", cause_text(cause))
 }
 
 /// The reply to a command in which an error of PostScript came.
-pub fn error_reply(alloc: Global, error: PsError) -> Result<Text, AllocError> {
+pub fn error_reply(alloc: Global, error: PsError) -> Result<Text, AllocError>
+    ensures { IfOk result (λ t. (name : List ℕ) × (t ≡ codes "psfault " ++ (name ++ codes "\n"))) }
+{
     two_words(alloc, "psfault", error.name())
 }
 
 /// The reply to a command whose steps were taken.
-pub fn spent_reply(alloc: Global) -> Result<Text, AllocError> {
+pub fn spent_reply(alloc: Global) -> Result<Text, AllocError>
+    ensures { IfOk result (λ t. t ≡ spent_reply) }
+{
     two_words(alloc, "psfault", "spent")
 }
 
