@@ -13,7 +13,7 @@ use Rattle.session.specs.declared.line.Line.{Line}
 use Rattle.session.specs.declared.modes.Mode.{Mode}
 use Rattle.session.specs.declared.modes.Mode.TheVariants.{Ended}
 use Rattle.session.specs.declared.sides.SideRecord.{SideRecord}
-use Rattle.session.specs.Answered.{IsTrouble}
+use Rattle.session.specs.Answered.{state_of, IsTrouble}
 use Rattle.session.specs.Kept.{IsKept, AreKept}
 use Rattle.session.specs.Events.{event_in, events_in, event_line}
 use Rattle.session.specs.Rooms.{text_of, room_of, event_room}
@@ -120,3 +120,9 @@ pub record IsUnbegun (old new : Mode) (a a' : SideRecord) (b b' : Option SideRec
 -- one whose link failed, or whose output couldn't be written
 abbrev pub EndsSession : (broken : List ℕ) (new : Mode) → Result Answer End → Type 0
 EndsSession broken new answer = (new ≡ Ended) × ((answer ≡ Ok (Lines broken)) ⊎ (answer ≡ Err OutFault))
+
+-- How `continue` and `step` are answered, where their state doesn't refuse them. `silent` says that nothing was put into the output.
+abbrev pub Resumes : (silent : Type 0) (how : Resume) (old new : Mode) (a a' : SideRecord) (b b' : Option SideRecord) (broken : List ℕ) → Result Answer End → Type 0
+Resumes silent how old new a a' b b' broken answer =
+    Tells how (state_of old) (state_of new) a a' b b' answer
+  ⊎ ((IsUnbegun old new a a' b b' answer × silent) ⊎ EndsSession broken new answer)

@@ -5,12 +5,12 @@ ghost use Rattle.c_session.specs.declared.command.Command.{Command};
 ghost use Rattle.c_session.specs.declared.command.Command.TheVariants.{Continue, Step, Quit, Turns};
 ghost use Rattle.cmd_lang.specs.Commands.{read_of};
 ghost use Rattle.cmd_lang.specs.Words.{is_empty};
-ghost use Rattle.c_session.specs.Commands.{Refusal, ByContinue};
+ghost use Rattle.c_session.specs.Commands.{Refusal, ByContinue, ByStep};
 ghost use Rattle.claims.specs.Outcome.{refused_by_state};
 ghost use Rattle.session.specs.Answered.{state_of, resume_of, refusal_reply, line_reply, limit_reply, Replies, Answers};
 ghost use Rattle.session.specs.Counted.{CountsOutput, CountsEnd, IsNoQuit};
 ghost use Rattle.session.specs.Kept.{IsKept, AreKept, KeepsMode, KeepsReply, IsUndone, AnswersFault};
-ghost use Rattle.session.specs.Resuming.{StandsStill, OnSecond, ReadyFor, HasRoomFor, AllBehind, Tells, IsUnbegun, EndsSession, event_on, goes_on};
+ghost use Rattle.session.specs.Resuming.{StandsStill, OnSecond, ReadyFor, HasRoomFor, AllBehind, Resumes, event_on, goes_on};
 
 use crate::answers::{Answer, End, StartFault};
 use crate::asked::{asked, registers_of};
@@ -195,6 +195,8 @@ impl<L: Link + Drop> Session<L> {
         ensures out_fault { result ≡ Err End.OutFault → self.new.mode ≡ Mode.Ended }
         ensures limit { (self.new.limit ≡ self.old.limit) ⊎ (read_of self.old.raw line.now ≡ Some (Turns self.new.limit)) }
         ensures asked { (c : Command) → read_of self.old.raw line.now ≡ Some c → c ≢ Continue → c ≢ Step → (out.new ≡ out.old) × KeepsMode self.old.mode self.new.mode self.old.broken result }
+        ensures continues { read_of self.old.raw line.now ≡ Some Continue → refused_by_state (state_of self.old.mode) Continue ≡ None → Resumes (out.new ≡ out.old) ByContinue self.old.mode self.new.mode self.old.first self.new.first self.old.second self.new.second self.old.broken result }
+        ensures steps { read_of self.old.raw line.now ≡ Some Step → refused_by_state (state_of self.old.mode) Step ≡ None → Resumes (out.new ≡ out.old) ByStep self.old.mode self.new.mode self.old.first self.new.first self.old.second self.new.second self.old.broken result }
         ensures raw { self.new.raw ≡ self.old.raw }
         ensures broken { KeepsReply self.old.broken self.new.broken self.new.mode }
     {
@@ -216,6 +218,8 @@ impl<L: Link + Drop> Session<L> {
         ensures out_fault { OnErr result (self.new.mode ≡ Mode.Ended) }
         ensures limit { (self.new.limit ≡ self.old.limit) ⊎ (command.now ≡ Turns self.new.limit) }
         ensures asked { command.now ≢ Continue → command.now ≢ Step → (out.new ≡ out.old) × KeepsMode self.old.mode self.new.mode self.old.broken result }
+        ensures continues { command.now ≡ Continue → refused_by_state (state_of self.old.mode) command.now ≡ None → Resumes (out.new ≡ out.old) ByContinue self.old.mode self.new.mode self.old.first self.new.first self.old.second self.new.second self.old.broken result }
+        ensures steps { command.now ≡ Step → refused_by_state (state_of self.old.mode) command.now ≡ None → Resumes (out.new ≡ out.old) ByStep self.old.mode self.new.mode self.old.first self.new.first self.old.second self.new.second self.old.broken result }
         ensures raw { self.new.raw ≡ self.old.raw }
         ensures broken { KeepsReply self.old.broken self.new.broken self.new.mode }
     {
@@ -429,7 +433,7 @@ impl<L: Link + Drop> Session<L> {
     /// `continue` and `step`; an interrupted resume goes on, whichever command began it.
     fn resume<O: Sink>(&mut self, how: How, out: &mut O) -> Result<Answer, End>
         ensures no_quit { IsNoQuit result }
-        ensures resumes { Tells (resume_of how) (state_of self.old.mode) (state_of self.new.mode) self.old.first self.new.first self.old.second self.new.second result ⊎ (IsUnbegun self.old.mode self.new.mode self.old.first self.new.first self.old.second self.new.second result × (out.new ≡ out.old)) ⊎ EndsSession self.old.broken self.new.mode result }
+        ensures resumes { Resumes (out.new ≡ out.old) (resume_of how) self.old.mode self.new.mode self.old.first self.new.first self.old.second self.new.second self.old.broken result }
         ensures output { CountsEnd (O.faults out.old) (O.faults out.new) result }
         ensures no_memory { result ≡ Ok Answer.NoMemory → (self.new.mode ≡ self.old.mode) × (self.new.limit ≡ self.old.limit) × IsKept self.old.first self.new.first × AreKept self.old.second self.new.second × (out.new ≡ out.old) }
         ensures out_fault { OnErr result (self.new.mode ≡ Mode.Ended) }
