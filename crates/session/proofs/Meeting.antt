@@ -31,8 +31,8 @@ stop_fits : (s : StoreState) (room : ℕ) (ps : List Point) (pc : ℕ) (e : Even
 stop_fits s room [] pc e f h = h
 stop_fits s room (p ∷ ps) pc e f h =
     elim (nat_eq p.at pc) as (λ b. Fits s room (stop_or (if b then Some p else point_at ps pc) e)) [
-    | true ↦ f 0 p (omega arith)
-    | false ↦ stop_fits s room ps pc e (λ k d l. f (suc k) d (omega (arith, l))) h
+      | true ↦ f 0 p (omega arith)
+      | false ↦ stop_fits s room ps pc e (λ k d l. f (suc k) d (omega (arith, l))) h
     ]
 
 event_fits : (s : StoreState) (room : ℕ) (breaks words : List Point) → EVENT_ROOM ≤ room → AllFit s room breaks → AllFit s room words → (e : Ending) → Fits s room (event_of breaks words e)
@@ -44,7 +44,7 @@ event_fits s room breaks words m f g ending.Turns = m
 event_fits s room breaks words m f g ending.Stack = m
 
 pub met_fits : (s : StoreState) (room : ℕ) (breaks words : List Point) (kept : Option Event) → EVENT_ROOM ≤ room → AllFit s room breaks → AllFit s room words
-             → RoomForKept room (events_in s kept) → (e : Event) → met kept breaks words e → Fits s room e
+    → RoomForKept room (events_in s kept) → (e : Event) → met kept breaks words e → Fits s room e
 met_fits s room breaks words (Some k) m f g r e h = subst (λ x. Fits s room x) (sym h) r
 met_fits s room breaks words None m f g r e h = subst (λ x. Fits s room x) (sym h.1) (event_fits s room breaks words m f g h.0)
 
@@ -52,6 +52,6 @@ not_held : (n room : ℕ) → room < 2 ^ 63 → held_room n ≤ room → n ≤ r
 not_held n room l h = omega (arith, l, h)
 
 pub line_fits : (side : SideRecord) (room : ℕ) (r : Result Line AllocError) → ((e : Event) → Met side.row e → Fits side.inquiry.core.store room e)
-              → IfOk r (λ line. text_of line ≡ []) → IfOk r (λ line. room_of line ≡ room) → IfOk r (λ line. HasRoomFor side line)
+    → IfOk r (λ line. text_of line ≡ []) → IfOk r (λ line. room_of line ≡ room) → IfOk r (λ line. HasRoomFor side line)
 line_fits side room (Ok line) f empty same = (empty, λ e m. not_held _ (room_of line) line.bytes.small (subst (λ n. Fits side.inquiry.core.store n e) (sym same) (f e m)))
 line_fits side room (Err why) f empty same = tt

@@ -8,9 +8,9 @@ pub adds_both : {a b c : Line} {p q : List ℕ} → Adds a b p → Adds b c q �
 adds_both {a} {b} {c} {p} {q} f g = record {
   room = omega (arith, f.room, g.room);
   text = λ h. (let n = length-append p q in
-               let e : text_of b ≡ text_of a ++ p = f.text (omega (arith, n, h)) in
-               let m : length (text_of b) ≡ length (text_of a) + length p = ap length e ∙ length-append (text_of a) p in
-               g.text (omega (arith, n, h, m, f.room)) ∙ (ap (λ x. x ++ q) e ∙ append_assoc (text_of a) p q));
+      let e : text_of b ≡ text_of a ++ p = f.text (omega (arith, n, h)) in
+      let m : length (text_of b) ≡ length (text_of a) + length p = ap length e ∙ length-append (text_of a) p in
+      g.text (omega (arith, n, h, m, f.room)) ∙ (ap (λ x. x ++ q) e ∙ append_assoc (text_of a) p q));
 }
 
 pub adds_same : {a b : Line} {p q : List ℕ} → Adds a b p → p ≡ q → Adds a b q

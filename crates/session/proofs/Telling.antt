@@ -1,5 +1,6 @@
 -- A resume's answer: the line that has room for the event of all, and a fault.
-use Rattle.std.proofs.Common.{◌≡◌, ◌⊎◌, ℕ, ◌≤◌, List, codes, Option, Some, None, inl, inr, ap, subst, sym, ◌∙◌, arith}
+use Rattle.std.proofs.Common.{◌≡◌, ◌⊎◌, ℕ, ◌≤◌, List, ◌++◌, codes, Option, Some, None, Result, Ok, Err, IfOk, inl, inr, ap, subst, sym, ◌∙◌, arith}
+use Rattle.std.specs.declared.alloc.AllocError.{AllocError}
 use Rattle.debug_side.specs.declared.event.Event.{Event}
 use Rattle.claims.specs.Side.{SideEvent, Stops, Pauses, Exits, Faults, OutOfTurns, OutOfStack}
 use Rattle.claims.specs.Resumes.{merged}
@@ -54,7 +55,7 @@ same_table all a a' b b' h = (first_of_all all a a' b b' h).behind.table
 
 -- a fault leaves the session's state, or it ends the session
 pub faulted : (fault : AskFault) (broken : List ℕ) (old new : Mode) (a : Answer) → AnswersFault broken old new fault a
-            → ((new ≡ old) × IsTrouble a) ⊎ ((new ≡ Ended) × (a ≡ answer.Lines broken))
+    → ((new ≡ old) × IsTrouble a) ⊎ ((new ≡ Ended) × (a ≡ answer.Lines broken))
 faulted (Broken f) broken old new a h = inr h
 faulted (Refused c) broken old new (answer.Lines text) h = inl (h.0, inl (refusal_of c, h.1))
 faulted (Refused c) broken old new answer.NoMemory h = inl (h.0, tt)
@@ -63,3 +64,9 @@ faulted Spent broken old new (answer.Lines text) h = inl (h.0, inr (codes "spent
 faulted Spent broken old new answer.NoMemory h = inl (h.0, tt)
 faulted NoMemory broken old new (answer.Lines text) h = absurd h.1
 faulted NoMemory broken old new answer.NoMemory h = inl (h.0, tt)
+
+-- the reply that names an error
+pub named : (r : Result (List ℕ) AllocError) (name : List ℕ) → IfOk r (λ t. t ≡ codes "psfault " ++ (name ++ codes "\n"))
+    → IfOk r (λ t. (n : List ℕ) × (t ≡ codes "psfault " ++ (n ++ codes "\n")))
+named (Ok t) name h = (name, h)
+named (Err e) name h = tt

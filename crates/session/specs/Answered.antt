@@ -75,3 +75,7 @@ IsTrouble (Lines text) = ((u : Refusal) × (text ≡ refusal_reply u)) ⊎ ((err
 abbrev pub IsNoMemory : Answer → Type 0
 IsNoMemory NoMemory = Unit {0}
 IsNoMemory (Lines text) = ⊥
+
+abbrev pub AnswersTrouble : Result Answer End → Type 0
+AnswersTrouble (Ok a) = IsTrouble a
+AnswersTrouble (Err e) = ⊥

@@ -1,5 +1,5 @@
 -- What `continue` and `step` tell, and what they leave of the sides and of the session's state.
-use Rattle.std.specs.Prelude.{◌≡◌, ◌⊎◌, ◌≤◌, ℕ, List, [], Option, Some, None, Result, Ok, Err, IfOk}
+use Rattle.std.specs.Prelude.{◌≡◌, ◌⊎◌, ◌≤◌, ℕ, List, [], Option, Some, None, Result, Ok, Err}
 use Rattle.c_session.specs.Commands.{Resume, ByStep, ByContinue}
 use Rattle.debug_side.specs.declared.event.Event.{Event}
 use Rattle.debug_side.specs.Meant.{Met, stood, words_left}
@@ -13,7 +13,7 @@ use Rattle.session.specs.declared.line.Line.{Line}
 use Rattle.session.specs.declared.modes.Mode.{Mode}
 use Rattle.session.specs.declared.modes.Mode.TheVariants.{Ended}
 use Rattle.session.specs.declared.sides.SideRecord.{SideRecord}
-use Rattle.session.specs.Answered.{state_of, IsTrouble}
+use Rattle.session.specs.Answered.{state_of, AnswersTrouble}
 use Rattle.session.specs.Kept.{IsKept, AreKept}
 use Rattle.session.specs.Events.{event_in, events_in, event_line}
 use Rattle.session.specs.Rooms.{text_of, room_of, event_room}
@@ -115,7 +115,7 @@ pub record IsUnbegun (old new : Mode) (a a' : SideRecord) (b b' : Option SideRec
   pub mode : new ≡ old
   pub kept : IsKept a a' × AreKept b b'
   pub still : StandsStill a a' × OnSecond StandsStill b b'
-  pub trouble : IfOk answer IsTrouble
+  pub trouble : AnswersTrouble answer
 
 -- one whose link failed, or whose output couldn't be written
 abbrev pub EndsSession : (broken : List ℕ) (new : Mode) → Result Answer End → Type 0
@@ -125,4 +125,4 @@ EndsSession broken new answer = (new ≡ Ended) × ((answer ≡ Ok (Lines broken
 abbrev pub Resumes : (silent : Type 0) (how : Resume) (old new : Mode) (a a' : SideRecord) (b b' : Option SideRecord) (broken : List ℕ) → Result Answer End → Type 0
 Resumes silent how old new a a' b b' broken answer =
     Tells how (state_of old) (state_of new) a a' b b' answer
-  ⊎ ((IsUnbegun old new a a' b b' answer × silent) ⊎ EndsSession broken new answer)
+    ⊎ ((IsUnbegun old new a a' b b' answer × silent) ⊎ EndsSession broken new answer)

@@ -11,8 +11,8 @@ use Rattle.session.proofs.conversation.Session.resume.Goals as goal
 pub returns-in-Err-clause-resumes : goal.returns-in-Err-clause-resumes
 returns-in-Err-clause-resumes g c =
     inr (elim (faulted c.in-Err.fault _ _ _ _ c.reply.ensures.fault) [
-    | inl h ↦ inl (record { mode = h.0 ∙ c.in-Err.ensures.mode; kept = search rules; still = search rules; trouble = h.1 }, refl)
-    | inr h ↦ inr (h.0, inl (ap (λ a. Ok a) h.1 ∙ ap (λ t. Ok (Lines t)) c.in-Err.ensures.broken))
+      | inl h ↦ inl (record { mode = h.0 ∙ c.in-Err.ensures.mode; kept = search rules; still = search rules; trouble = h.1 }, refl)
+      | inr h ↦ inr (h.0, inl (ap (λ a. Ok a) h.1 ∙ ap (λ t. Ok (Lines t)) c.in-Err.ensures.broken))
     ])
 
 pub returns-in-Ok-run-clause-resumes : goal.returns-in-Ok-run-clause-resumes
