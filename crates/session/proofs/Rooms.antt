@@ -1,8 +1,8 @@
 -- What is added to a line, and its length.
-use Rattle.std.proofs.Common.{◌≡◌, ◌≢◌, ℕ, zero, suc, ◌+◌, ◌-◌, ◌/◌, ◌%◌, ◌≤◌, List, [], ◌∷◌, ◌++◌, length, sym, ◌∙◌, ap, subst, refl, append_assoc, length-append, arith}
+use Rattle.std.proofs.Common.{◌≡◌, ◌≢◌, ℕ, zero, suc, ◌+◌, ◌-◌, ◌/◌, ◌%◌, ◌≤◌, List, [], ◌∷◌, ◌++◌, length, ◌∙◌, ap, subst, refl, append_assoc, length-append, arith}
 use Rattle.ps_leaves.specs.Forms.{hex_digit, hex_text}
 use Rattle.session.specs.declared.line.Line.{Line}
-use Rattle.session.specs.Rooms.{text_of, room_of, Adds, IsEmptyFor}
+use Rattle.session.specs.Rooms.{text_of, Adds, IsEmptyFor}
 
 pub adds_both : {a b c : Line} {p q : List ℕ} → Adds a b p → Adds b c q → Adds a c (p ++ q)
 adds_both {a} {b} {c} {p} {q} f g = record {

@@ -1,6 +1,5 @@
 -- What a session answers before it asks anything: to a line that is no command, and to a command that its state refuses.
 use Rattle.std.specs.Prelude.{◌≡◌, ◌⊎◌, ℕ, List, [], ◌++◌, codes, decimal, Result, Ok, Err, if◌then◌else◌}
-use Rattle.c_session.specs.declared.command.Command.{Command}
 use Rattle.c_session.specs.Commands.{Refusal, BadLine, HasEnded, IsRunning, NoPlace, NoFrame, BadText, IsUndefined, refusal_text, Resume, ByStep, ByContinue}
 use Rattle.c_reading.specs.Readings.{BadSyntax, NoScope, BadType}
 use Rattle.cmd_lang.specs.Words.{is_empty}

@@ -1,5 +1,5 @@
 use Rattle.std.proofs.Common.{◌∙◌}
-use Rattle.session.proofs.Rooms.{adds_both, adds_same, length-hex_text}
+use Rattle.session.proofs.Rooms.{adds_both, adds_same}
 use Rattle.session.proofs.replies.add_event.Goals as goal
 
 pub returns-in-Pauses-clause-adds : goal.returns-in-Pauses-clause-adds

@@ -1,4 +1,3 @@
-use Rattle.std.proofs.Common.{codes, length, decimal, length-append, arith}
 use Rattle.session.proofs.Rooms.{adds_both, adds_same}
 use Rattle.session.proofs.replies.add_stop.Goals as goal
 

@@ -1,5 +1,4 @@
 use Rattle.std.proofs.Common.{rules, ◌≡◌, ◌∙◌, ap, sym}
-use Rattle.c_session.specs.declared.command.Command.{Command}
 use Rattle.c_session.specs.declared.command.Command.TheVariants.{Continue, Step}
 use Rattle.claims.specs.Outcome.{refused_by_state}
 use Rattle.session.specs.Answered.{state_of}
