@@ -1,6 +1,5 @@
 -- A resume's answer: the line that has room for the event of all, and a fault.
-use Rattle.std.proofs.Common.{◌≡◌, ◌⊎◌, ℕ, ◌≤◌, List, ◌++◌, codes, Option, Some, None, Result, Ok, Err, IfOk, inl, inr, subst, sym, arith}
-use Rattle.std.specs.declared.alloc.AllocError.{AllocError}
+use Rattle.std.proofs.Common.{◌≡◌, ◌⊎◌, ℕ, ◌≤◌, List, Option, Some, None, inl, inr, subst, sym, arith}
 use Rattle.debug_side.specs.declared.event.Event.{Event}
 use Rattle.claims.specs.Side.{SideEvent, Stops, Pauses, Exits, Faults, OutOfTurns, OutOfStack}
 use Rattle.claims.specs.Resumes.{merged}
@@ -59,14 +58,9 @@ pub faulted : (fault : AskFault) (broken : List ℕ) (old new : Mode) (a : Answe
 faulted (Broken f) broken old new a h = inr h
 faulted (Refused c) broken old new (answer.Lines text) h = inl (h.0, inl (refusal_of c, h.1))
 faulted (Refused c) broken old new answer.NoMemory h = inl (h.0, tt)
-faulted (Raised e) broken old new a h = inl h
-faulted Spent broken old new (answer.Lines text) h = inl (h.0, inr (codes "spent", h.1))
+faulted (Raised e) broken old new (answer.Lines text) h = inl (h.0, inr (inl (e, h.1)))
+faulted (Raised e) broken old new answer.NoMemory h = inl (h.0, tt)
+faulted Spent broken old new (answer.Lines text) h = inl (h.0, inr (inr h.1))
 faulted Spent broken old new answer.NoMemory h = inl (h.0, tt)
 faulted NoMemory broken old new (answer.Lines text) h = absurd h.1
 faulted NoMemory broken old new answer.NoMemory h = inl (h.0, tt)
-
--- the reply that names an error
-pub named : (r : Result (List ℕ) AllocError) (name : List ℕ) → IfOk r (λ t. t ≡ codes "psfault " ++ (name ++ codes "\n"))
-    → IfOk r (λ t. (n : List ℕ) × (t ≡ codes "psfault " ++ (n ++ codes "\n")))
-named (Ok t) name h = (name, h)
-named (Err e) name h = tt

@@ -3,6 +3,8 @@ use Rattle.std.specs.Prelude.{◌≡◌, ◌⊎◌, ℕ, List, [], ◌++◌, cod
 use Rattle.c_session.specs.Commands.{Refusal, BadLine, HasEnded, IsRunning, NoPlace, NoFrame, BadText, IsUndefined, refusal_text, Resume, ByStep, ByContinue}
 use Rattle.c_reading.specs.Readings.{BadSyntax, NoScope, BadType}
 use Rattle.cmd_lang.specs.Words.{is_empty}
+use Rattle.ps_step.specs.declared.fault.PsError.{PsError}
+use Rattle.ps_step.specs.Errors.{error_text}
 use Rattle.table_asks.specs.declared.fault.Cause.{Cause}
 use Rattle.table_asks.specs.declared.fault.Cause.TheVariants as cause
 use Rattle.claims.specs.Side.{State, Fresh, Stopped, Running, Ended}
@@ -63,13 +65,17 @@ refusal_of cause.NoScope = BadText NoScope
 refusal_of cause.BadType = BadText BadType
 refusal_of (cause.Undefined reason) = IsUndefined reason
 
+-- the reply that names an error of PostScript
+abbrev pub error_reply : PsError → List ℕ
+error_reply e = codes "psfault " ++ (error_text e ++ codes "\n")
+
 abbrev pub spent_reply : List ℕ
 spent_reply = codes "psfault spent\n"
 
 -- the reply to a command that isn't done: no memory, a refusal, or an error of PostScript
 abbrev pub IsTrouble : Answer → Type 0
 IsTrouble NoMemory = Unit {0}
-IsTrouble (Lines text) = ((u : Refusal) × (text ≡ refusal_reply u)) ⊎ ((error : List ℕ) × (text ≡ codes "psfault " ++ (error ++ codes "\n")))
+IsTrouble (Lines text) = ((u : Refusal) × (text ≡ refusal_reply u)) ⊎ (((e : PsError) × (text ≡ error_reply e)) ⊎ (text ≡ spent_reply))
 
 abbrev pub IsNoMemory : Answer → Type 0
 IsNoMemory NoMemory = Unit {0}

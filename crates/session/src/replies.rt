@@ -1,11 +1,11 @@
 // The texts of replies.
 
-ghost use Rattle.std.specs.Prelude.{◌≡◌, ◌≤◌, ◌++◌, ℕ, List, All, IfOk, codes};
+ghost use Rattle.std.specs.Prelude.{◌≡◌, ◌≤◌, ◌++◌, All, IfOk, codes};
 ghost use Rattle.claims.specs.Lines.{event_text, fault_text};
 ghost use Rattle.claims.specs.Side.{Stops};
 ghost use Rattle.table_points.specs.Rows.{row_in};
 ghost use Rattle.c_session.specs.Commands.{IsUndefined, refusal_text};
-ghost use Rattle.session.specs.Answered.{reason_of, refusal_of, refusal_reply, limit_reply, spent_reply};
+ghost use Rattle.session.specs.Answered.{reason_of, refusal_of, refusal_reply, limit_reply, error_reply, spent_reply};
 ghost use Rattle.session.specs.Events.{event_in, events_in, event_line};
 ghost use Rattle.session.specs.Rooms.{Adds, IsEmptyFor, IsWithin, event_room, held_room, RoomForKept};
 
@@ -173,7 +173,7 @@ pub fn refusal(alloc: Global, cause: Cause) -> Result<Text, AllocError>
 
 /// The reply to a command in which an error of PostScript came.
 pub fn error_reply(alloc: Global, error: PsError) -> Result<Text, AllocError>
-    ensures { IfOk result (λ t. (name : List ℕ) × (t ≡ codes "psfault " ++ (name ++ codes "\n"))) }
+    ensures { IfOk result (λ t. t ≡ error_reply error) }
 {
     two_words(alloc, "psfault", error.name())
 }
