@@ -1,8 +1,12 @@
 -- What a session answers before it asks anything: to a line that is no command, and to a command that its state refuses.
 use Rattle.std.specs.Prelude.{◌≡◌, ◌⊎◌, ℕ, List, [], ◌++◌, codes, decimal, Result, Ok, Err, if◌then◌else◌}
-use Rattle.c_session.specs.declared.command.Command.{Command}
-use Rattle.c_session.specs.Commands.{Refusal, BadLine, HasEnded, IsRunning, refusal_text, Resume, ByStep, ByContinue}
+use Rattle.c_session.specs.Commands.{Refusal, BadLine, HasEnded, IsRunning, NoPlace, NoFrame, BadText, IsUndefined, refusal_text, Resume, ByStep, ByContinue}
+use Rattle.c_reading.specs.Readings.{BadSyntax, NoScope, BadType}
 use Rattle.cmd_lang.specs.Words.{is_empty}
+use Rattle.ps_step.specs.declared.fault.PsError.{PsError}
+use Rattle.ps_step.specs.Errors.{error_text}
+use Rattle.table_asks.specs.declared.fault.Cause.{Cause}
+use Rattle.table_asks.specs.declared.fault.Cause.TheVariants as cause
 use Rattle.claims.specs.Side.{State, Fresh, Stopped, Running, Ended}
 use Rattle.session.specs.declared.answers.Answer.{Answer}
 use Rattle.session.specs.declared.answers.Answer.TheVariants.{Lines, NoMemory}
@@ -14,7 +18,7 @@ use Rattle.session.specs.declared.modes.Mode.TheVariants as mode
 use Rattle.session.specs.declared.modes.ModeRefusal.{ModeRefusal}
 use Rattle.session.specs.declared.modes.ModeRefusal.TheVariants as because
 
-abbrev resume_of : How → Resume
+abbrev pub resume_of : How → Resume
 resume_of how.ByStep = ByStep
 resume_of how.ByContinue = ByContinue
 
@@ -49,3 +53,34 @@ Replies text NoMemory = Unit {0}
 abbrev pub Answers : List ℕ → Result Answer End → Type 0
 Answers text (Ok a) = Replies text a
 Answers text (Err e) = ⊥
+
+-- ---- commands that aren't done
+
+-- the reason of a refusal, in the words of the machine session
+abbrev pub refusal_of : Cause → Refusal
+refusal_of cause.NoPlace = NoPlace
+refusal_of cause.NoFrame = NoFrame
+refusal_of cause.BadSyntax = BadText BadSyntax
+refusal_of cause.NoScope = BadText NoScope
+refusal_of cause.BadType = BadText BadType
+refusal_of (cause.Undefined reason) = IsUndefined reason
+
+-- the reply that names an error of PostScript
+abbrev pub error_reply : PsError → List ℕ
+error_reply e = codes "psfault " ++ (error_text e ++ codes "\n")
+
+abbrev pub spent_reply : List ℕ
+spent_reply = codes "psfault spent\n"
+
+-- the reply to a command that isn't done: no memory, a refusal, or an error of PostScript
+abbrev pub IsTrouble : Answer → Type 0
+IsTrouble NoMemory = Unit {0}
+IsTrouble (Lines text) = ((u : Refusal) × (text ≡ refusal_reply u)) ⊎ (((e : PsError) × (text ≡ error_reply e)) ⊎ (text ≡ spent_reply))
+
+abbrev pub IsNoMemory : Answer → Type 0
+IsNoMemory NoMemory = Unit {0}
+IsNoMemory (Lines text) = ⊥
+
+abbrev pub AnswersTrouble : Result Answer End → Type 0
+AnswersTrouble (Ok a) = IsTrouble a
+AnswersTrouble (Err e) = ⊥

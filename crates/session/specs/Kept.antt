@@ -8,6 +8,7 @@ use Rattle.session.specs.declared.answers.Answer.TheVariants.{Lines}
 use Rattle.session.specs.declared.answers.End.{End}
 use Rattle.session.specs.declared.modes.Mode.{Mode}
 use Rattle.session.specs.declared.modes.Mode.TheVariants.{Ended}
+use Rattle.session.specs.Answered.{Replies, refusal_reply, refusal_of, error_reply, spent_reply, IsNoMemory}
 use Rattle.session.specs.declared.sides.SideRecord.{SideRecord}
 
 -- its breakpoints and its chosen frame
@@ -43,3 +44,11 @@ IsUndone (Err (Refused c)) = Unit {0}
 IsUndone (Err (Raised e)) = Unit {0}
 IsUndone (Err Spent) = Unit {0}
 IsUndone (Err NoMemory) = Unit {0}
+
+-- how a fault is answered: the session ends where its link failed, and else its state stays
+abbrev pub AnswersFault : (broken : List ℕ) (old new : Mode) → AskFault → Answer → Type 0
+AnswersFault broken old new (Broken f) answer = (new ≡ Ended) × (answer ≡ Lines broken)
+AnswersFault broken old new (Refused c) answer = (new ≡ old) × Replies (refusal_reply (refusal_of c)) answer
+AnswersFault broken old new (Raised e) answer = (new ≡ old) × Replies (error_reply e) answer
+AnswersFault broken old new Spent answer = (new ≡ old) × Replies spent_reply answer
+AnswersFault broken old new NoMemory answer = (new ≡ old) × IsNoMemory answer

@@ -1,3 +1,6 @@
 pub mod Answered
 pub mod Counted
+pub mod Events
 pub mod Kept
+pub mod Resuming
+pub mod Rooms

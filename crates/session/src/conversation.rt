@@ -1,15 +1,16 @@
 // A session.
 
-ghost use Rattle.std.specs.Prelude.{◌≡◌, ◌≢◌, ◌⊎◌, ℕ, true, [], codes, IfOk, OnErr, Ok, Err, Some, None};
+ghost use Rattle.std.specs.Prelude.{◌≡◌, ◌≢◌, ◌⊎◌, ℕ, true, [], codes, IfOk, IfErr, OnOk, OnErr, Ok, Err, Some, None};
 ghost use Rattle.c_session.specs.declared.command.Command.{Command};
 ghost use Rattle.c_session.specs.declared.command.Command.TheVariants.{Continue, Step, Quit, Turns};
 ghost use Rattle.cmd_lang.specs.Commands.{read_of};
 ghost use Rattle.cmd_lang.specs.Words.{is_empty};
-ghost use Rattle.c_session.specs.Commands.{Refusal};
+ghost use Rattle.c_session.specs.Commands.{Refusal, ByContinue, ByStep};
 ghost use Rattle.claims.specs.Outcome.{refused_by_state};
-ghost use Rattle.session.specs.Answered.{state_of, refusal_reply, line_reply, limit_reply, Replies, Answers};
+ghost use Rattle.session.specs.Answered.{state_of, resume_of, refusal_reply, line_reply, limit_reply, Replies, Answers};
 ghost use Rattle.session.specs.Counted.{CountsOutput, CountsEnd, IsNoQuit};
-ghost use Rattle.session.specs.Kept.{IsKept, AreKept, KeepsMode, KeepsReply, IsUndone};
+ghost use Rattle.session.specs.Kept.{IsKept, AreKept, KeepsMode, KeepsReply, IsUndone, AnswersFault};
+ghost use Rattle.session.specs.Resuming.{StandsStill, OnSecond, ReadyFor, HasRoomFor, AllBehind, Resumes, event_on, goes_on};
 
 use crate::answers::{Answer, End, StartFault};
 use crate::asked::{asked, registers_of};
@@ -80,7 +81,9 @@ fn malformed(alloc: Global, line: &[u8]) -> Answer
 }
 
 /// The command that began a resume, where the session may stand in an interrupted one.
-fn began(mode: Mode, how: How) -> How {
+fn began(mode: Mode, how: How) -> How
+    ensures { resume_of result ≡ goes_on (state_of mode) (resume_of how) }
+{
     match mode {
         Mode::Running(before) => before,
         _ => how,
@@ -108,7 +111,9 @@ fn taken_away<L: Link + Drop>(
     talk: &mut Operators<Wire<L>>,
     side: &mut SideRecord,
 ) -> Result<(), AskFault>
-    ensures { IsKept side.old side.new }
+    ensures kept { IsKept side.old side.new }
+    ensures still { StandsStill side.old side.new }
+    ensures words { OnOk result (side.new.row.step_words.items ≡ []) }
 {
     match unprepared(talk, side) {
         Ok(()) => Ok(()),
@@ -175,9 +180,10 @@ impl<L: Link + Drop> Session<L> {
     }
 
     /// The answer to a line; program output goes to `out` before it. A line that is no command, and a command that the session's state
-    /// refuses, changes nothing; once the session has ended that is every one but `quit`. A command that doesn't resume puts nothing into the output, and leaves the session's state as it
-    /// was or ends the session. Without memory the session is as before, and nothing was put into the output; units of tables that were run stay so, and what
-    /// a text of PostScript stored in the target stays.
+    /// refuses, changes nothing; once the session has ended that is every one but `quit`. A command that doesn't resume puts nothing
+    /// into the output, and leaves the session's state as it was or ends the session. `continue` and `step` tell the event of all
+    /// sides, or aren't begun, or end the session. Without memory the session is as before, and nothing was put into the output; units
+    /// of tables that were run stay so, and what a text of PostScript stored in the target stays.
     pub fn command<O: Sink>(&mut self, line: &[u8], out: &mut O) -> Result<Answer, End>
         ensures quit { read_of self.old.raw line.now ≡ Some Quit → result ≡ Err End.Quit }
         ensures quits { result ≡ Err End.Quit → read_of self.old.raw line.now ≡ Some Quit }
@@ -190,6 +196,8 @@ impl<L: Link + Drop> Session<L> {
         ensures out_fault { result ≡ Err End.OutFault → self.new.mode ≡ Mode.Ended }
         ensures limit { (self.new.limit ≡ self.old.limit) ⊎ (read_of self.old.raw line.now ≡ Some (Turns self.new.limit)) }
         ensures asked { (c : Command) → read_of self.old.raw line.now ≡ Some c → c ≢ Continue → c ≢ Step → (out.new ≡ out.old) × KeepsMode self.old.mode self.new.mode self.old.broken result }
+        ensures continues { read_of self.old.raw line.now ≡ Some Continue → refused_by_state (state_of self.old.mode) Continue ≡ None → Resumes (out.new ≡ out.old) ByContinue self.old.mode self.new.mode self.old.first self.new.first self.old.second self.new.second self.old.broken result }
+        ensures steps { read_of self.old.raw line.now ≡ Some Step → refused_by_state (state_of self.old.mode) Step ≡ None → Resumes (out.new ≡ out.old) ByStep self.old.mode self.new.mode self.old.first self.new.first self.old.second self.new.second self.old.broken result }
         ensures raw { self.new.raw ≡ self.old.raw }
         ensures broken { KeepsReply self.old.broken self.new.broken self.new.mode }
     {
@@ -211,6 +219,8 @@ impl<L: Link + Drop> Session<L> {
         ensures out_fault { OnErr result (self.new.mode ≡ Mode.Ended) }
         ensures limit { (self.new.limit ≡ self.old.limit) ⊎ (command.now ≡ Turns self.new.limit) }
         ensures asked { command.now ≢ Continue → command.now ≢ Step → (out.new ≡ out.old) × KeepsMode self.old.mode self.new.mode self.old.broken result }
+        ensures continues { command.now ≡ Continue → refused_by_state (state_of self.old.mode) command.now ≡ None → Resumes (out.new ≡ out.old) ByContinue self.old.mode self.new.mode self.old.first self.new.first self.old.second self.new.second self.old.broken result }
+        ensures steps { command.now ≡ Step → refused_by_state (state_of self.old.mode) command.now ≡ None → Resumes (out.new ≡ out.old) ByStep self.old.mode self.new.mode self.old.first self.new.first self.old.second self.new.second self.old.broken result }
         ensures raw { self.new.raw ≡ self.old.raw }
         ensures broken { KeepsReply self.old.broken self.new.broken self.new.mode }
     {
@@ -243,6 +253,7 @@ impl<L: Link + Drop> Session<L> {
 
     /// The answer to a command, by what was said or why nothing was.
     fn reply(&mut self, said: Result<Text, AskFault>) -> Answer
+        ensures fault { IfErr said (λ fault. AnswersFault self.old.broken self.old.mode self.new.mode fault result) }
         ensures limit { self.new.limit ≡ self.old.limit }
         ensures first { self.new.first ≡ self.old.first }
         ensures no_memory { result ≡ Answer.NoMemory → IsUndone said × (self.new.mode ≡ self.old.mode) }
@@ -341,6 +352,7 @@ impl<L: Link + Drop> Session<L> {
         ensures mode { self.new.mode ≡ self.old.mode }
         ensures limit { self.new.limit ≡ self.old.limit }
         ensures kept { IsKept self.old.first self.new.first × AreKept self.old.second self.new.second }
+        ensures still { StandsStill self.old.first self.new.first × OnSecond StandsStill self.old.second self.new.second }
         ensures raw { self.new.raw ≡ self.old.raw }
         ensures broken { self.new.broken ≡ self.old.broken }
     {
@@ -362,6 +374,8 @@ impl<L: Link + Drop> Session<L> {
         ensures mode { self.new.mode ≡ self.old.mode }
         ensures limit { self.new.limit ≡ self.old.limit }
         ensures kept { IsKept self.old.first self.new.first × AreKept self.old.second self.new.second }
+        ensures still { StandsStill self.old.first self.new.first × OnSecond StandsStill self.old.second self.new.second }
+        ensures ready { OnOk result (ReadyFor (state_of self.old.mode) ByContinue self.old.first self.new.first × OnSecond (ReadyFor (state_of self.old.mode) ByContinue) self.old.second self.new.second) }
         ensures raw { self.new.raw ≡ self.old.raw }
         ensures broken { self.new.broken ≡ self.old.broken }
     {
@@ -383,6 +397,9 @@ impl<L: Link + Drop> Session<L> {
         ensures mode { self.new.mode ≡ self.old.mode }
         ensures limit { self.new.limit ≡ self.old.limit }
         ensures kept { IsKept self.old.first self.new.first × AreKept self.old.second self.new.second }
+        ensures still { StandsStill self.old.first self.new.first × OnSecond StandsStill self.old.second self.new.second }
+        ensures ready { OnOk result (ReadyFor (state_of self.old.mode) (resume_of how) self.old.first self.new.first × OnSecond (ReadyFor (state_of self.old.mode) (resume_of how)) self.old.second self.new.second) }
+        ensures room { IfOk result (λ line. HasRoomFor self.new.first line) }
         ensures raw { self.new.raw ≡ self.old.raw }
         ensures broken { self.new.broken ≡ self.old.broken }
     {
@@ -400,6 +417,8 @@ impl<L: Link + Drop> Session<L> {
     /// Resumes all sides up to their event.
     fn run<O: Sink>(&mut self, out: &mut O) -> Result<Event, RunFault>
         ensures output { CountsOutput (O.faults out.old) (O.faults out.new) result }
+        ensures mode { self.new.mode ≡ self.old.mode }
+        ensures behind { IfOk result (λ all. AllBehind (event_on self.old.first all) self.old.first self.new.first self.old.second self.new.second) }
         ensures limit { self.new.limit ≡ self.old.limit }
         ensures raw { self.new.raw ≡ self.old.raw }
         ensures broken { self.new.broken ≡ self.old.broken }
@@ -415,6 +434,7 @@ impl<L: Link + Drop> Session<L> {
     /// `continue` and `step`; an interrupted resume goes on, whichever command began it.
     fn resume<O: Sink>(&mut self, how: How, out: &mut O) -> Result<Answer, End>
         ensures no_quit { IsNoQuit result }
+        ensures resumes { Resumes (out.new ≡ out.old) (resume_of how) self.old.mode self.new.mode self.old.first self.new.first self.old.second self.new.second self.old.broken result }
         ensures output { CountsEnd (O.faults out.old) (O.faults out.new) result }
         ensures no_memory { result ≡ Ok Answer.NoMemory → (self.new.mode ≡ self.old.mode) × (self.new.limit ≡ self.old.limit) × IsKept self.old.first self.new.first × AreKept self.old.second self.new.second × (out.new ≡ out.old) }
         ensures out_fault { OnErr result (self.new.mode ≡ Mode.Ended) }

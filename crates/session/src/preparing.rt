@@ -1,6 +1,8 @@
 // What is done before a step.
 
+ghost use Rattle.std.specs.Prelude.{◌≡◌, [], IfOk, OnOk};
 ghost use Rattle.session.specs.Kept.{IsKept};
+ghost use Rattle.session.specs.Resuming.{HasRoomFor, StandsStill};
 
 use crate::line::Line;
 use crate::replies::{room_for, room_for_kept};
@@ -15,7 +17,7 @@ use wire_talk::TalkFault;
 
 /// All points of a side's table.
 fn points_of(side: &mut SideRecord) -> Result<Vec<Point>, AskFault>
-    ensures { IsKept side.old side.new }
+    ensures { side.new.row ≡ side.old.row × (side.new.frame ≡ side.old.frame) }
 {
     let mark = match begin_command(&mut side.inquiry) {
         Ok(mark) => mark,
@@ -32,7 +34,8 @@ pub fn prepared<L: Link + Drop>(
     talk: &mut Operators<Wire<L>>,
     side: &mut SideRecord,
 ) -> Result<(), AskFault>
-    ensures { IsKept side.old side.new }
+    ensures kept { IsKept side.old side.new }
+    ensures still { StandsStill side.old side.new }
 {
     if !side.row.step_words.is_empty() {
         return Ok(());
@@ -56,7 +59,9 @@ pub fn unprepared<L: Link + Drop>(
     talk: &mut Operators<Wire<L>>,
     side: &mut SideRecord,
 ) -> Result<(), TalkFault>
-    ensures { IsKept side.old side.new }
+    ensures kept { IsKept side.old side.new }
+    ensures still { StandsStill side.old side.new }
+    ensures words { OnOk result (side.new.row.step_words.items ≡ []) }
 {
     turn(talk, side);
     let target = side.machine.byte();
@@ -70,7 +75,9 @@ pub fn unprepared<L: Link + Drop>(
 }
 
 /// A line with room for the reply to a resume of a side.
-pub fn line_for(alloc: Global, side: &SideRecord) -> Result<Line, AllocError> {
+pub fn line_for(alloc: Global, side: &SideRecord) -> Result<Line, AllocError>
+    ensures { IfOk result (λ line. HasRoomFor side.now line) }
+{
     let table = &side.inquiry.core.store;
     let breaks = room_for(table, side.row.breaks.as_slice(), 0);
     let steps = room_for(table, side.row.step_words.as_slice(), breaks);

@@ -1,7 +1,13 @@
 // The texts of replies.
 
-ghost use Rattle.std.specs.Prelude.{◌≡◌, IfOk};
-ghost use Rattle.session.specs.Answered.{reason_of, refusal_reply, limit_reply};
+ghost use Rattle.std.specs.Prelude.{◌≡◌, ◌≤◌, ◌++◌, All, IfOk, codes};
+ghost use Rattle.claims.specs.Lines.{event_text, fault_text};
+ghost use Rattle.claims.specs.Side.{Stops};
+ghost use Rattle.table_points.specs.Rows.{row_in};
+ghost use Rattle.c_session.specs.Commands.{IsUndefined, refusal_text};
+ghost use Rattle.session.specs.Answered.{reason_of, refusal_of, refusal_reply, limit_reply, error_reply, spent_reply};
+ghost use Rattle.session.specs.Events.{event_in, events_in, event_line};
+ghost use Rattle.session.specs.Rooms.{Adds, IsEmptyFor, IsWithin, event_room, held_room, RoomForKept};
 
 use crate::line::Line;
 use crate::modes::ModeRefusal;
@@ -16,14 +22,20 @@ use table_asks::{Cause, Point};
 const EVENT_ROOM: usize = 64;
 
 /// The bytes that the reply to a stop at a point may have.
-fn point_room(table: &PsStore, point: &Point) -> usize {
+fn point_room(table: &PsStore, point: &Point) -> usize
+    ensures { result ≡ held_room (event_room (Stops (row_in table.now point.now))) }
+{
     let file = table.string_get(point.file).len();
     let function = table.string_get(point.function).len();
     EVENT_ROOM.saturating_add(file).saturating_add(function)
 }
 
 /// The most bytes that the reply to a stop at one of some points may have, and at least so many.
-pub fn room_for(table: &PsStore, points: &[Point], least: usize) -> usize {
+pub fn room_for(table: &PsStore, points: &[Point], least: usize) -> usize
+    ensures least { least ≤ result }
+    ensures other { EVENT_ROOM ≤ result }
+    ensures each { All (λ p. held_room (event_room (Stops (row_in table.now p))) ≤ result) points.now }
+{
     let mut most = least.max(EVENT_ROOM);
     for point in points {
         most = most.max(point_room(table, point));
@@ -32,14 +44,19 @@ pub fn room_for(table: &PsStore, points: &[Point], least: usize) -> usize {
 }
 
 /// The same for an event that is kept.
-pub fn room_for_kept(table: &PsStore, kept: Option<Event>, least: usize) -> usize {
+pub fn room_for_kept(table: &PsStore, kept: Option<Event>, least: usize) -> usize
+    ensures least { least ≤ result }
+    ensures kept { EVENT_ROOM ≤ least → RoomForKept result (events_in table.now kept) }
+{
     match kept {
         Some(Event::Stops(point)) => least.max(point_room(table, &point)),
         _ => least,
     }
 }
 
-fn fault_text(kind: FaultKind) -> &'static str {
+fn fault_text(kind: FaultKind) -> &'static str
+    ensures { result.now ≡ fault_text kind }
+{
     match kind {
         FaultKind::Hazard => "hazard",
         FaultKind::Illegal => "illegal",
@@ -53,7 +70,10 @@ fn fault_text(kind: FaultKind) -> &'static str {
 }
 
 /// Adds `stop F:L.C FUNC`.
-fn add_stop(line: &mut Line, table: &PsStore, point: &Point) {
+fn add_stop(line: &mut Line, table: &PsStore, point: &Point)
+    ensures adds { Adds line.old line.new (event_text (Stops (row_in table.now point.now))) }
+    ensures short { IsWithin (Stops (row_in table.now point.now)) }
+{
     line.add(b"stop ");
     line.add(table.string_get(point.file));
     line.add(b":");
@@ -64,10 +84,13 @@ fn add_stop(line: &mut Line, table: &PsStore, point: &Point) {
     line.add(table.string_get(point.function));
 }
 
-/// The reply of an event, in a line that has room for it.
-pub fn event_reply(mut line: Line, table: &PsStore, event: Event) -> Text {
+/// Adds an event's text.
+fn add_event(line: &mut Line, table: &PsStore, event: Event)
+    ensures adds { Adds line.old line.new (event_text (event_in table.now event)) }
+    ensures short { IsWithin (event_in table.now event) }
+{
     match event {
-        Event::Stops(point) => add_stop(&mut line, table, &point),
+        Event::Stops(point) => add_stop(line, table, &point),
         Event::Pauses { pc } => {
             line.add(b"pause at ");
             line.add_word(pc);
@@ -85,6 +108,13 @@ pub fn event_reply(mut line: Line, table: &PsStore, event: Event) -> Text {
         Event::OutOfTurns => line.add(b"turns"),
         Event::OutOfStack => line.add(b"stack"),
     }
+}
+
+/// The reply of an event, in a line that has room for it.
+pub fn event_reply(mut line: Line, table: &PsStore, event: Event) -> Text
+    ensures { IsEmptyFor (event_room (event_in table.now event)) line → result ≡ event_line (event_in table.now event) }
+{
+    add_event(&mut line, table, event);
     line.add(b"\n");
     line.into_text()
 }
@@ -99,7 +129,9 @@ pub fn mode_reply(alloc: Global, why: ModeRefusal) -> Result<Text, AllocError>
     }
 }
 
-fn undefined_text(reason: Undef) -> &'static str {
+fn undefined_text(reason: Undef) -> &'static str
+    ensures { codes "refused " ++ result.now ≡ refusal_text (IsUndefined reason) }
+{
     match reason {
         Undef::Overflow => "undefined overflow",
         Undef::Division => "undefined division",
@@ -108,7 +140,9 @@ fn undefined_text(reason: Undef) -> &'static str {
     }
 }
 
-fn cause_text(cause: Cause) -> &'static str {
+fn cause_text(cause: Cause) -> &'static str
+    ensures { codes "refused " ++ result.now ≡ refusal_text (refusal_of cause) }
+{
     match cause {
         Cause::NoPlace => "place",
         Cause::NoFrame => "frame",
@@ -120,7 +154,9 @@ fn cause_text(cause: Cause) -> &'static str {
 }
 
 /// A line of two words.
-fn two_words(alloc: Global, first: &str, second: &str) -> Result<Text, AllocError> {
+fn two_words(alloc: Global, first: &str, second: &str) -> Result<Text, AllocError>
+    ensures { IfOk result (λ t. t ≡ first.now ++ (codes " " ++ (second.now ++ codes "\n"))) }
+{
     let mut text = Text::from_slice(alloc, first.as_bytes())?;
     text.append(b" ")?;
     text.append(second.as_bytes())?;
@@ -129,17 +165,23 @@ fn two_words(alloc: Global, first: &str, second: &str) -> Result<Text, AllocErro
 }
 
 /// The reply to a command that is refused by what it asks.
-pub fn refusal(alloc: Global, cause: Cause) -> Result<Text, AllocError> {
+pub fn refusal(alloc: Global, cause: Cause) -> Result<Text, AllocError>
+    ensures { IfOk result (λ t. t ≡ refusal_reply (refusal_of cause)) }
+{
     two_words(alloc, "refused", cause_text(cause))
 }
 
 /// The reply to a command in which an error of PostScript came.
-pub fn error_reply(alloc: Global, error: PsError) -> Result<Text, AllocError> {
+pub fn error_reply(alloc: Global, error: PsError) -> Result<Text, AllocError>
+    ensures { IfOk result (λ t. t ≡ error_reply error) }
+{
     two_words(alloc, "psfault", error.name())
 }
 
 /// The reply to a command whose steps were taken.
-pub fn spent_reply(alloc: Global) -> Result<Text, AllocError> {
+pub fn spent_reply(alloc: Global) -> Result<Text, AllocError>
+    ensures { IfOk result (λ t. t ≡ spent_reply) }
+{
     two_words(alloc, "psfault", "spent")
 }
 

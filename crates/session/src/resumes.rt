@@ -1,8 +1,13 @@
 // A resume of both sides.
 
+ghost use Rattle.std.specs.Prelude.{◌≡◌, IfOk};
+ghost use Rattle.ps_store.specs.StoreState.{StoreState};
+ghost use Rattle.claims.specs.Resumes.{keeps, frame_after};
 ghost use Rattle.session.specs.Counted.{CountsOutput};
+ghost use Rattle.session.specs.Events.{event_in, events_in};
+ghost use Rattle.session.specs.Resuming.{Came, IsNoneOr, OneBehind, BothBehind, event_on};
 
-use crate::merging::{kept_of, merged, stands};
+use crate::merging::{frame_after, kept_of, merged};
 use crate::sides::{SideRecord, turn};
 use abs_mem::Wire;
 use debug_side::{Event, resume_side};
@@ -18,7 +23,8 @@ fn resumed<L: Link + Drop, O: Sink>(
     limit: u32,
     out: &mut O,
 ) -> Result<Event, RunFault>
-    ensures { CountsOutput (O.faults out.old) (O.faults out.new) result }
+    ensures output { CountsOutput (O.faults out.old) (O.faults out.new) result }
+    ensures came { IfOk result (λ event. Came event side.old side.new) }
 {
     turn(talk, side);
     let kind = side.kind();
@@ -32,11 +38,14 @@ fn resumed<L: Link + Drop, O: Sink>(
 }
 
 /// What a side keeps behind a resume.
-fn settle_side(side: &mut SideRecord, all: Event, event: Event) {
+fn settle_side(side: &mut SideRecord, all: Event, event: Event)
+    ensures kept { (s t : StoreState) → events_in t side.new.row.kept ≡ keeps (event_in s all) (event_in t event) }
+    ensures own { IsNoneOr event side.new.row.kept }
+    ensures frame { (s : StoreState) → side.new.frame ≡ frame_after side.old.frame (event_in s all) }
+    ensures other { side.new ≡ record side.old { row = record side.old.row { kept = side.new.row.kept }; frame = side.new.frame } }
+{
     side.row.kept = kept_of(all, event);
-    if stands(all) {
-        side.frame = 0;
-    }
+    side.frame = frame_after(side.frame, all);
 }
 
 /// Resumes one side, and says its event.
@@ -46,7 +55,8 @@ pub fn resumed_one<L: Link + Drop, O: Sink>(
     limit: u32,
     out: &mut O,
 ) -> Result<Event, RunFault>
-    ensures { CountsOutput (O.faults out.old) (O.faults out.new) result }
+    ensures output { CountsOutput (O.faults out.old) (O.faults out.new) result }
+    ensures behind { IfOk result (λ all. OneBehind (event_on first.old all) first.old first.new) }
 {
     match resumed(talk, first, limit, out) {
         Err(fault) => Err(fault),
@@ -65,7 +75,8 @@ pub fn resumed_both<L: Link + Drop, O: Sink>(
     limit: u32,
     out: &mut O,
 ) -> Result<Event, RunFault>
-    ensures { CountsOutput (O.faults out.old) (O.faults out.new) result }
+    ensures output { CountsOutput (O.faults out.old) (O.faults out.new) result }
+    ensures behind { IfOk result (λ all. BothBehind (event_on first.old all) first.old first.new second.old second.new) }
 {
     let event = match resumed(talk, first, limit, out) {
         Ok(event) => event,
