@@ -1,6 +1,8 @@
 // Lines of replies.
 
 ghost use Rattle.std.specs.Prelude.{◌≡◌, ◌∷◌, ◌++◌, [], OnOk, IfOk, codes, decimal};
+ghost use Rattle.table_points.specs.Rows.{row_in};
+ghost use Rattle.asking.specs.Lines.{line, place_text, frame_text};
 
 use ldb_words::Text;
 use ps_store::PsStore;
@@ -21,7 +23,9 @@ fn append_place(
     out: &mut Text,
     table: &PsStore,
     place: Point,
-) -> Result<(), AllocError> {
+) -> Result<(), AllocError>
+    ensures { OnOk result (out.new ≡ out.old ++ place_text (row_in table.now place)) }
+{
     out.append(table.string_get(place.file))?;
     out.append(b":")?;
     append_decimal(alloc, out, place.line)?;
@@ -36,7 +40,9 @@ pub fn append_frame(
     table: &PsStore,
     number: u32,
     place: Point,
-) -> Result<(), AllocError> {
+) -> Result<(), AllocError>
+    ensures { OnOk result (out.new ≡ out.old ++ line (frame_text number (row_in table.now place))) }
+{
     out.append(b"frame ")?;
     append_decimal(alloc, out, number)?;
     out.append(b" ")?;
@@ -64,7 +70,9 @@ pub fn point_text(
     word: &[u8],
     table: &PsStore,
     place: Point,
-) -> Result<Text, AllocError> {
+) -> Result<Text, AllocError>
+    ensures { IfOk result (λ t. t ≡ line (word.now ++ place_text (row_in table.now place))) }
+{
     let mut out = Text::new(alloc);
     out.append(word)?;
     append_place(alloc, &mut out, table, place)?;

@@ -1,0 +1,15 @@
+-- The lines of replies.
+use Rattle.std.specs.Prelude.{ℕ, List, [], ◌∷◌, ◌++◌, codes, decimal}
+use Rattle.table_model.specs.Rows.{PointRow}
+
+-- a text and its LF
+abbrev pub line : List ℕ → List ℕ
+line text = text ++ 10 ∷ []
+
+-- `F:L.C`
+abbrev pub place_text : PointRow → List ℕ
+place_text p = p.file ++ (codes ":" ++ (decimal p.line ++ (codes "." ++ decimal p.column)))
+
+-- `frame K FUNC F:L.C`
+abbrev pub frame_text : ℕ → PointRow → List ℕ
+frame_text k p = codes "frame " ++ (decimal k ++ (codes " " ++ (p.function ++ (codes " " ++ place_text p))))
