@@ -6,3 +6,4 @@ mod Spots
 pub mod Looking
 mod Named
 pub mod Binding
+pub mod Ran

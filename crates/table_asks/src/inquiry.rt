@@ -7,6 +7,7 @@ ghost use Rattle.ps_store.specs.Cut.{IsMark};
 ghost use Rattle.ps_store.specs.declared.object.Part.TheVariants.{Command as CommandPart};
 ghost use Rattle.table_asks.specs.Faults.{IsOwn, IsUnrefused};
 ghost use Rattle.table_asks.specs.Asking.{SettlesLack, SettlesWalk};
+ghost use Rattle.table_asks.specs.Running.{RanOver};
 
 use crate::fault::{AskFault, fault_of_run};
 use abs_mem::{AbsMem, MemFault, WalkFault};
@@ -105,6 +106,7 @@ pub fn run_object<W: AbsMem + Drop>(
     ensures more { inquiry.old.steps.taken ≤ inquiry.new.steps.taken }
     ensures closed { Settles (closed_part inquiry.old.core.store) (closed_part inquiry.new.core.store) }
     ensures unrefused { IfErr result (λ fault. IsUnrefused fault) }
+    ensures calls { RanOver W.seen W.leads talk.old.memory.below.below.below result talk.new.memory.below.below.below }
 {
     match run(&mut inquiry.core, talk, what, &mut inquiry.steps) {
         Ok(()) => Ok(()),

@@ -3,7 +3,7 @@
 ghost use Rattle.std.specs.Prelude.{◌≡◌, ◌≤◌, IfErr, option_map};
 ghost use Rattle.ps_store.specs.Store.{closed_part};
 ghost use Rattle.table_asks.specs.Closing.{Settles};
-ghost use Rattle.table_model.specs.Places.{spot_point};
+ghost use Rattle.table_model.specs.Places.{spot_point, function_point};
 ghost use Rattle.table_points.specs.Rows.{row_in};
 ghost use Rattle.table_read.specs.Reads.{in_ok};
 ghost use Rattle.dialect_model.specs.TableUse.{Looks};
@@ -50,6 +50,7 @@ pub fn body_told(inquiry: &mut Inquiry, name: &[u8]) -> Result<Option<Point>, As
     ensures limit { inquiry.new.steps.limit ≡ inquiry.old.steps.limit }
     ensures more { inquiry.old.steps.taken ≤ inquiry.new.steps.taken }
     ensures closed { Settles (closed_part inquiry.old.core.store) (closed_part inquiry.new.core.store) }
+    ensures meaning { Comes (Looks (λ s. function_point s name.now)) inquiry.old (in_ok (option_map (row_in inquiry.new.core.store)) result) inquiry.new }
 {
     'again: loop {
         match function_point(&inquiry.core.store, name) {

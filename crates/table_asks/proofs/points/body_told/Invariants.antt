@@ -1,6 +1,8 @@
 use Rattle.std.proofs.Common.{◌≡◌, ◌≤◌, ◌-◌}
 use Rattle.ps_store.specs.Store.{closed_part}
+use Rattle.table_model.specs.Places.{function_point}
 use Rattle.table_asks.specs.Closing.{Settles}
+use Rattle.table_asks.proofs.Looking.{Onward}
 use Rattle.table_asks.proofs.points.body_told.Given as goal
 
 -- units were run so far
@@ -10,6 +12,7 @@ invariant-again l = record {
   within : l.inquiry.steps.taken ≤ l.inquiry.steps.limit;
   more : l.initial.inquiry.steps.taken ≤ l.inquiry.steps.taken;
   closed : Settles (closed_part l.initial.inquiry.core.store) (closed_part l.inquiry.core.store);
+  far : Onward (λ s. function_point s l.name) l.initial.inquiry l.inquiry;
 }
 
 abbrev pub decreases-again : goal.decreases-again

@@ -1,0 +1,5 @@
+mod Asked
+mod Changed
+mod Choosing
+mod Listed
+mod Listing
