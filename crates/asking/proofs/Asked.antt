@@ -82,10 +82,14 @@ module _ {M : Type 0} (leads : M → Option (List ℕ) → M → Type 0) (a : M)
 
 -- ---- the words of a context block
 
+abbrev some_of : {A : Type 0} → A → Option A
+some_of x = Some x
+
+some_is : {A : Type 0} (x y : A) → some_of x ≡ some_of y → x ≡ y
+some_is x y h = cc
+
 pub mapped_some : {A B C : Type 0} (f : A → B) (g : A → C) (o : Option A) (x : B) (y : C) → ((a : A) → f a ≡ x → g a ≡ y) → option_map f o ≡ Some x → option_map g o ≡ Some y
-mapped_some {B = B} f g (Some a) x y on e =
-    let inside : (p q : B) → (h : Some p ≡ Some q) → p ≡ q = λ p q h. cc in
-    ap (λ z. Some z) (on a (inside (f a) x e))
+mapped_some {C = C} f g (Some a) x y on e = ap (λ (z : C). some_of z) (on a (some_is (f a) x e))
 mapped_some f g None x y on e = absurd (let i = e in cc)
 
 pub mapped_none : {A B C : Type 0} (f : A → B) (g : A → C) (o : Option A) → option_map f o ≡ None → option_map g o ≡ None

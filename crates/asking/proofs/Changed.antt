@@ -52,10 +52,10 @@ added_row s (q ∷ ps) p = ap (λ (l : List PointRow). row_in s q ∷ l) (added_
 -- ---- a word of a target
 
 gave : {A : Type 0} (o : Option A) (x : A) (u : TableUse) → o ≡ Some x → or_range o u (Ok x) u
-gave o x u e = subst (λ (p : Option _). or_range p u (Ok x) u) (sym e) (refl, refl)
+gave {A = A} o x u e = subst (λ (p : Option A). or_range p u (Ok x) u) (sym e) (refl, refl)
 
 ranged : {A : Type 0} (o : Option A) (u : TableUse) → o ≡ None → or_range o u (Err (Kind RangeCheck)) u
-ranged o u e = subst (λ (p : Option _). or_range p u (Err (Kind RangeCheck)) u) (sym e) (refl, refl)
+ranged {A = A} o u e = subst (λ (p : Option A). or_range p u (Err (Kind RangeCheck)) u) (sym e) (refl, refl)
 
 differs : (w v : ℕ) (b : Bool) → nat_eq w v ≡ b → w ≢ v → b ≡ false
 differs w v true e n = absurd (n (eqb-true w v e))

@@ -1,5 +1,5 @@
 mod Asked
 mod Changed
-mod Choosing
+mod Chosen
 mod Listed
-mod Listing
+mod Rows

@@ -2,6 +2,7 @@
 use Rattle.std.proofs.Common.{◌≡◌, ◌≢◌, ◌∙◌, refl, sym, ap, subst, ℕ, zero, suc, List, Option, Some, None, Result, Ok, Err}
 use Rattle.ldb_edge.specs.Count.{Rose}
 use Rattle.ps_store.specs.declared.object.PsObj.{PsObj}
+use Rattle.ps_step.specs.declared.fault.PsError.{PsError}
 use Rattle.ps_step.specs.declared.fault.PsFault.{PsFault}
 use Rattle.ps_step.specs.declared.fault.PsFault.TheVariants as ps
 use Rattle.ps_step.specs.declared.machine.PsCore.{PsCore}
@@ -132,7 +133,7 @@ module _ {W R : Type 0} (seen : W → Seen R) (leads : W → Option (List ℕ) �
   went_on o o' (Err ps.NoMemory) c c' s h = absurd (let k = s.0 in cc)
   went_on o o' (Err ps.Link) c c' s h = absurd (let k = s.0 in cc)
 
-  raised_as : (o o' : Operators W) (e : _) (g : PsFault) (c c' : PsCore) → Settles (Err (ps.Error e)) c (Err g) c' → IsLed seen leads (target o) None (target o') → Ended o (Err g) o'
+  raised_as : (o o' : Operators W) (e : PsError) (g : PsFault) (c c' : PsCore) → Settles (Err (ps.Error e)) c (Err g) c' → IsLed seen leads (target o) None (target o') → Ended o (Err g) o'
   raised_as o o' e (ps.Error x) c c' s h = h
   raised_as o o' e ps.Spent c c' s h = absurd s
   raised_as o o' e ps.Link c c' s h = absurd s
