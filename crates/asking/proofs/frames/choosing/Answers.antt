@@ -1,4 +1,4 @@
-use Rattle.std.proofs.Common.{◌≡◌, sym, subst, ℕ, List, Option, Some, None, Ok, Err, option_map}
+use Rattle.std.proofs.Common.{◌≡◌, ◌∙◌, sym, ap, subst, ℕ, List, ◌++◌, Option, Some, None, Ok, Err, option_map}
 use Rattle.table_model.specs.Frames.{row_of_target, told_frame_at}
 use Rattle.table_points.specs.declared.row.Point.{Point}
 use Rattle.table_points.specs.Rows.{row_in}
@@ -32,7 +32,7 @@ returns-in-Ok-clause-meaning g c =
     let store = c.frame_told.new.inquiry.core.store in
     let is : c.in-Ok-Some.field-0 ≡ Some c.in-Ok-Some.place = cc in
     let comes = subst (λ (o : Option Point). ComesOver (λ b. Looks (λ s. told_frame_at row s b context c.args.number)) c.args.inquiry.now (seen c.args.talk.now.memory.below.below.below) (Ok (option_map (row_in store) o)) c.frame_told.new.inquiry (seen c.frame_told.new.talk.memory.below.below.below)) is c.in-Ok-Some.ensures.meaning in
-    let text : c.append_frame.new.out ≡ line (frame_text c.args.number (row_in store c.in-Ok-Some.place)) = cc in
+    let text : c.append_frame.new.out ≡ line (frame_text c.args.number (row_in store c.in-Ok-Some.place)) = c.in-Ok.ensures ∙ ap (λ (xs : List ℕ). xs ++ line (frame_text c.args.number (row_in store c.in-Ok-Some.place))) c.new-line.ensures in
     subst (λ (t : List ℕ). ComesOver (choosing row context c.args.number) c.args.inquiry.now (seen c.args.talk.now.memory.below.below.below) (Ok t) c.frame_told.new.inquiry (seen c.frame_told.new.talk.memory.below.below.below)) (sym text)
     (choose_line row context c.args.number c.args.inquiry.now c.frame_told.new.inquiry (seen c.args.talk.now.memory.below.below.below) (seen c.frame_told.new.talk.memory.below.below.below) (row_in store c.in-Ok-Some.place) comes)
 
