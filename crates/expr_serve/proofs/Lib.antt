@@ -1,1 +1,4 @@
 pub mod Texts
+mod Growing
+mod Arms
+mod Examples

@@ -1,12 +1,18 @@
 // Pieces of a text of PostScript.
+ghost use Rattle.std.specs.Prelude.{◌≡◌, ◌≤◌, ◌^◌, pos, OnOk, slice_get, option_map};
+ghost use Rattle.ldb_words.specs.Word.{signed};
+ghost use Rattle.c_tree.specs.Types.{target_of as target};
+ghost use Rattle.ps_text.specs.Code.{Stop, Num, Lit, Word, render};
+ghost use Rattle.ps_emit.specs.Grown.{Grows};
+ghost use Rattle.expr_serve.specs.declared.emit.Standing.TheVariants.{Named, Pointed};
+ghost use Rattle.expr_serve.specs.Codes.{address_of, value_at, as_spot, live_scalar, by_items, further as further_code, place_further, place_of_name, bytes_of as bytes, offset_of as offset, offset_behind as behind, near, far, half, tagged_leaves, large_first, unsigned_steps, all_leaves, on_pointer, on_two_pointers, on_two};
 
-use crate::operators::{
-    conversion, is_unsigned, kind_of, on_ints, on_pointers, on_unsigned, works_on_unsigned,
-};
+use crate::operators::{is_unsigned, on_integers, on_ints, on_pointers};
 use c_judge::Symbol;
 use c_tree::{BinaryOp, CType, StructDef, members, size_of};
+use itoa::Buffer;
 use ldb_words::Text;
-use std::alloc::{AllocError, Global};
+use std::alloc::AllocError;
 
 /// How the place of an lvalue stands among the operands: as a space and an offset, which a name has, or as a pointer alone.
 #[derive(Clone, Copy, PartialEq, Eq, Debug)]
@@ -15,184 +21,341 @@ pub enum Standing {
     Pointed,
 }
 
-/// A text that grows, and the names and structs of its expression.
-#[derive(Drop)]
-pub struct Emitter<'a> {
-    pub alloc: Global,
-    pub out: Text,
-    pub names: &'a [Symbol],
-    pub defs: &'a [StructDef],
+/// Adds a word.
+pub fn add_word(text: &mut Text, word: &[u8]) -> Result<(), AllocError>
+    ensures { OnOk result (Grows (Word word.now Stop) text.old text.new) }
+{
+    text.append(word)?;
+    text.push(b' ')
 }
 
-impl<'a> Emitter<'a> {
-    /// Adds words, each with a space behind it.
-    pub fn put(&mut self, words: &[u8]) -> Result<(), AllocError> {
-        self.out.append(words)
-    }
+/// Adds a literal name.
+fn add_literal(text: &mut Text, name: &[u8]) -> Result<(), AllocError>
+    ensures { OnOk result (Grows (Lit name.now Stop) text.old text.new) }
+{
+    text.push(b'/')?;
+    text.append(name)?;
+    text.push(b' ')
+}
 
-    /// Adds an integer.
-    pub fn put_number(&mut self, n: i32) -> Result<(), AllocError> {
-        let digits = format!(in self.alloc; "{n} ")?;
-        self.out.append(digits.as_bytes())
-    }
+/// Adds an integer.
+pub fn add_integer(text: &mut Text, n: i32) -> Result<(), AllocError>
+    ensures { OnOk result (Grows (Num n Stop) text.old text.new) }
+{
+    let mut digits = Buffer::new();
+    text.append(digits.format(n).as_bytes())?;
+    text.push(b' ')
+}
 
-    /// Adds a literal name.
-    fn put_literal(&mut self, name: &[u8]) -> Result<(), AllocError> {
-        self.out.push(b'/')?;
-        self.out.append(name)?;
-        self.out.push(b' ')
-    }
+/// Adds a word of 32 bits as an integer.
+pub fn add_number(text: &mut Text, n: u32) -> Result<(), AllocError>
+    ensures { OnOk result (Grows (Num (signed n) Stop) text.old text.new) }
+{
+    add_integer(text, n.cast_signed())
+}
 
-    /// The place of a name, by its number.
-    pub fn put_name(&mut self, n: u32) -> Result<(), AllocError> {
-        if let Some(symbol) = self.names.get(n as usize) {
-            self.put_literal(symbol.name.as_bytes())?;
-        }
-        self.put(b"Where ")
-    }
+// ---- places
 
-    /// The size of a type of an expression, which has at most 1,048,576 bytes.
-    fn bytes_of(&self, t: &CType) -> i32 {
-        match size_of(t, self.defs) {
-            Ok(n) => i32::try_from(n).unwrap_or(0),
-            Err(_) => 0,
-        }
-    }
-
-    /// The size of a type, as a number.
-    pub fn put_size(&mut self, t: &CType) -> Result<(), AllocError> {
-        let size = self.bytes_of(t);
-        self.put_number(size)
-    }
-
-    /// The value at a place: an array is its place.
-    pub fn put_load(&mut self, standing: Standing, t: &CType) -> Result<(), AllocError> {
-        match t {
-            CType::Array(_, _) => self.put_address(standing),
-            _ => {
-                if standing == Standing::Pointed {
-                    self.put(kind_of(t))?;
-                    self.put(b"Leaf ")?;
-                }
-                self.put(kind_of(t))?;
-                self.put(b"fetch ")
-            }
+/// Adds the place of a name, by its number.
+pub fn add_place(text: &mut Text, names: &[Symbol], n: u32) -> Result<(), AllocError>
+    ensures { OnOk result (Grows (place_of_name (slice_get names.now n)) text.old text.new) }
+{
+    match names.get(n as usize) {
+        None => add_word(text, b"Where"),
+        Some(symbol) => {
+            add_literal(text, symbol.name.as_bytes())?;
+            add_word(text, b"Where")
         }
     }
+}
 
-    /// The pointer to a place.
-    pub fn put_address(&mut self, standing: Standing) -> Result<(), AllocError> {
-        match standing {
-            Standing::Named => self.put(b"exch pop "),
-            Standing::Pointed => Ok(()),
+/// The pointer to a place.
+pub fn address(standing: Standing) -> &'static [u8]
+    ensures { result.now ≡ render (address_of standing) }
+{
+    match standing {
+        Standing::Named => b"exch pop ",
+        Standing::Pointed => b"",
+    }
+}
+
+/// The value at a place that a name has: an array is its place.
+fn named_value(t: &CType) -> &'static [u8]
+    ensures { result.now ≡ render (value_at Named t.now) }
+{
+    match t {
+        CType::Char => b"/c fetch ",
+        CType::Pointer(_) => b"/p fetch ",
+        CType::Array(_, _) => b"exch pop ",
+        CType::Int | CType::Unsigned | CType::Void | CType::Struct(_) => b"/w fetch ",
+    }
+}
+
+/// The value where a pointer leads: an array is its place.
+fn pointed_value(t: &CType) -> &'static [u8]
+    ensures { result.now ≡ render (value_at Pointed t.now) }
+{
+    match t {
+        CType::Char => b"/c Leaf /c fetch ",
+        CType::Pointer(_) => b"/p Leaf /p fetch ",
+        CType::Array(_, _) => b"",
+        CType::Int | CType::Unsigned | CType::Void | CType::Struct(_) => b"/w Leaf /w fetch ",
+    }
+}
+
+/// The value at a place.
+pub fn value(standing: Standing, t: &CType) -> &'static [u8]
+    ensures { result.now ≡ render (value_at standing t.now) }
+{
+    match standing {
+        Standing::Named => named_value(t),
+        Standing::Pointed => pointed_value(t),
+    }
+}
+
+/// A place as a space and an offset, whether or not its leaves are live.
+pub fn spot(standing: Standing) -> &'static [u8]
+    ensures { result.now ≡ render (as_spot standing) }
+{
+    match standing {
+        Standing::Named => b"",
+        Standing::Pointed => b"/d exch ",
+    }
+}
+
+/// The scalar's leaf where a pointer led, below the value that it is to have, is live.
+fn pointed_leaf(t: &CType) -> &'static [u8]
+    ensures { result.now ≡ render (live_scalar Pointed t.now) }
+{
+    match t {
+        CType::Char => b"1 index /c Leaf pop pop ",
+        CType::Pointer(_) | CType::Array(_, _) => b"1 index /p Leaf pop pop ",
+        CType::Int | CType::Unsigned | CType::Void | CType::Struct(_) => {
+            b"1 index /w Leaf pop pop "
         }
     }
+}
 
-    /// The place of a struct all of whose leaves are live, where it stands as a pointer.
-    pub fn put_leaves(&mut self, t: &CType) -> Result<(), AllocError> {
-        if let CType::Struct(s) = t {
-            if let Some(def) = self.defs.get(*s as usize) {
-                self.put_literal(def.tag.as_bytes())?;
-                self.put(b"Struct Leaf ")?;
-            }
+/// The scalar's leaf below the value that it is to have is live.
+pub fn live_leaf(standing: Standing, t: &CType) -> &'static [u8]
+    ensures { result.now ≡ render (live_scalar standing t.now) }
+{
+    match standing {
+        Standing::Named => b"",
+        Standing::Pointed => pointed_leaf(t),
+    }
+}
+
+// ---- structs
+
+/// The size of a type of an expression, which has at most 1,048,576 bytes.
+fn bytes_of(t: &CType, defs: &[StructDef]) -> u32
+    ensures bytes { result ≡ bytes defs.now t.now }
+    ensures few { result ≤ 1048576 }
+{
+    match size_of(t, defs) {
+        Ok(n) => n,
+        Err(_) => 0,
+    }
+}
+
+/// Adds the size of a type.
+pub fn add_size(text: &mut Text, t: &CType, defs: &[StructDef]) -> Result<(), AllocError>
+    ensures { OnOk result (Grows (Num (pos (bytes defs.now t.now)) Stop) text.old text.new) }
+{
+    add_integer(text, bytes_of(t, defs) as i32)
+}
+
+/// The offset of a member of a struct.
+pub fn offset_of(t: &CType, m: u32, defs: &[StructDef]) -> u32
+    ensures { result ≡ offset defs.now t.now m }
+{
+    match t {
+        CType::Struct(s) => match members(defs, *s).get(m as usize) {
+            Some(member) => member.at,
+            None => 0,
+        },
+        _ => 0,
+    }
+}
+
+/// The offset of a member of the struct to which a pointer leads.
+pub fn offset_behind(t: &CType, m: u32, defs: &[StructDef]) -> u32
+    ensures { result ≡ behind defs.now (target t.now) m }
+{
+    match target_of(t) {
+        Some(t) => offset_of(t, m, defs),
+        None => 0,
+    }
+}
+
+/// Adds that all leaves of the struct with a tag are live.
+fn add_tagged(text: &mut Text, tag: &[u8]) -> Result<(), AllocError>
+    ensures { OnOk result (Grows (tagged_leaves tag.now) text.old text.new) }
+{
+    add_literal(text, tag)?;
+    add_word(text, b"Struct")?;
+    add_word(text, b"Leaf")
+}
+
+/// Adds that all leaves of the struct at a pointer are live.
+pub fn add_leaves(text: &mut Text, t: &CType, defs: &[StructDef]) -> Result<(), AllocError>
+    ensures { OnOk result (Grows (all_leaves defs.now t.now) text.old text.new) }
+{
+    match t {
+        CType::Struct(s) => match defs.get(*s as usize) {
+            Some(def) => add_tagged(text, def.tag.as_bytes()),
+            None => Ok(()),
+        },
+        _ => Ok(()),
+    }
+}
+
+// ---- pointers
+
+/// Adds a pointer so many bytes further, fewer than 2^31.
+fn add_moved(text: &mut Text, bytes: u32) -> Result<(), AllocError>
+    ensures { OnOk result (Grows (near bytes) text.old text.new) }
+{
+    add_number(text, bytes)?;
+    add_integer(text, 1)?;
+    add_word(text, b"ptradd")
+}
+
+/// Adds a pointer 2^31 bytes further.
+fn add_half(text: &mut Text) -> Result<(), AllocError>
+    ensures { OnOk result (Grows half text.old text.new) }
+{
+    text.append(b"2147483647 1 ptradd 1 1 ptradd ")
+}
+
+/// Adds a pointer so many bytes further, 2^31 or more.
+fn add_far(text: &mut Text, bytes: u32) -> Result<(), AllocError>
+    requires { 2 ^ 31 ≤ bytes }
+    ensures { OnOk result (Grows (far bytes) text.old text.new) }
+{
+    add_half(text)?;
+    add_moved(text, bytes - 0x8000_0000)
+}
+
+/// Adds a pointer so many bytes further.
+pub fn add_further(text: &mut Text, bytes: u32) -> Result<(), AllocError>
+    ensures { OnOk result (Grows (further_code bytes) text.old text.new) }
+{
+    if bytes < 0x8000_0000 {
+        add_moved(text, bytes)
+    } else {
+        add_far(text, bytes)
+    }
+}
+
+/// Adds a place so many bytes further.
+pub fn add_member(text: &mut Text, standing: Standing, at: u32) -> Result<(), AllocError>
+    ensures { OnOk result (Grows (place_further standing at) text.old text.new) }
+{
+    match standing {
+        Standing::Named => {
+            add_number(text, at)?;
+            add_word(text, b"uadd")
         }
+        Standing::Pointed => add_further(text, at),
+    }
+}
+
+/// Adds the steps for an `unsigned` number of 2^31 or more, with which a pointer is moved by so many items of a size.
+fn add_steps(text: &mut Text, size: i32) -> Result<(), AllocError>
+    ensures { OnOk result (Grows (large_first size) text.old text.new) }
+{
+    text.append(b"dup 0 lt { exch 2147483647 ")?;
+    add_integer(text, size)?;
+    text.append(b"ptradd 1 ")?;
+    add_integer(text, size)?;
+    text.append(b"ptradd exch 2147483647 and } if ")
+}
+
+/// Adds those steps where the number is `unsigned`.
+fn add_unsigned_steps(text: &mut Text, size: i32, t: &CType) -> Result<(), AllocError>
+    ensures { OnOk result (Grows (unsigned_steps size t.now) text.old text.new) }
+{
+    if is_unsigned(t) {
+        add_steps(text, size)
+    } else {
         Ok(())
     }
+}
 
-    /// A conversion to a type.
-    pub fn put_conversion(&mut self, t: &CType) -> Result<(), AllocError> {
-        self.put(conversion(t))
+/// Adds a pointer moved by so many items of a size. The operator takes the number as one with a sign, so an `unsigned` one of
+/// 2^31 or more is taken in steps.
+fn add_items(text: &mut Text, size: i32, t: &CType) -> Result<(), AllocError>
+    ensures { OnOk result (Grows (by_items size t.now) text.old text.new) }
+{
+    add_unsigned_steps(text, size, t)?;
+    add_integer(text, size)?;
+    add_word(text, b"ptradd")
+}
+
+// ---- two operands
+
+/// Adds an operator on a pointer to an item and an integer of a type: one is compared with the other, or is moved by it.
+fn add_on_pointer(
+    text: &mut Text,
+    op: BinaryOp,
+    item: &CType,
+    t: &CType,
+    defs: &[StructDef],
+) -> Result<(), AllocError>
+    ensures { OnOk result (Grows (on_pointer defs.now op item.now t.now) text.old text.new) }
+{
+    match op {
+        BinaryOp::Add => add_items(text, bytes_of(item, defs) as i32, t),
+        BinaryOp::Subtract => add_items(text, -(bytes_of(item, defs) as i32), t),
+        _ => text.append(on_ints(op)),
     }
+}
 
-    /// A pointer so many bytes further.
-    fn put_further(&mut self, bytes: u32) -> Result<(), AllocError> {
-        if bytes >= 0x8000_0000 {
-            self.put(b"2147483647 1 ptradd 1 1 ptradd ")?;
+/// Adds an operator on two pointers to items.
+fn add_on_pointers(
+    text: &mut Text,
+    op: BinaryOp,
+    item: &CType,
+    defs: &[StructDef],
+) -> Result<(), AllocError>
+    ensures { OnOk result (Grows (on_two_pointers defs.now op item.now) text.old text.new) }
+{
+    match op {
+        BinaryOp::Subtract => {
+            add_size(text, item, defs)?;
+            add_word(text, b"ptrsub")
         }
-        self.put_number((bytes & 0x7fff_ffff).cast_signed())?;
-        self.put(b"1 ptradd ")
+        _ => text.append(on_pointers(op)),
     }
+}
 
-    /// A member of a struct of a type, by its number, from the struct's place.
-    pub fn put_member(
-        &mut self,
-        standing: Standing,
-        t: Option<&CType>,
-        m: u32,
-    ) -> Result<(), AllocError> {
-        let at = self.offset_of(t, m);
-        match standing {
-            Standing::Named => {
-                self.put_number(at.cast_signed())?;
-                self.put(b"uadd ")
-            }
-            Standing::Pointed => self.put_further(at),
+/// Adds a binary operator on two operands of these types.
+pub fn add_operator(
+    text: &mut Text,
+    op: BinaryOp,
+    s: &CType,
+    t: &CType,
+    defs: &[StructDef],
+) -> Result<(), AllocError>
+    ensures { OnOk result (Grows (on_two defs.now op s.now t.now) text.old text.new) }
+{
+    match (target_of(s), target_of(t)) {
+        (None, None) => text.append(on_integers(op, s, t)),
+        (Some(item), None) => add_on_pointer(text, op, item, t, defs),
+        (None, Some(item)) => {
+            add_word(text, b"exch")?;
+            add_on_pointer(text, op, item, s, defs)
         }
-    }
-
-    /// The offset of a member of a struct of a type.
-    fn offset_of(&self, t: Option<&CType>, m: u32) -> u32 {
-        match t {
-            Some(CType::Struct(s)) => match members(self.defs, *s).get(m as usize) {
-                Some(member) => member.at,
-                None => 0,
-            },
-            _ => 0,
-        }
-    }
-
-    /// A binary operator on two operands of these types.
-    pub fn put_operator(&mut self, op: BinaryOp, s: &CType, t: &CType) -> Result<(), AllocError> {
-        match (target_of(s), target_of(t)) {
-            (None, None) => {
-                if works_on_unsigned(op, s, t) {
-                    self.put(on_unsigned(op))
-                } else {
-                    self.put(on_ints(op))
-                }
-            }
-            (Some(item), None) => self.put_moved(op, item, t),
-            (None, Some(item)) => {
-                self.put(b"exch ")?;
-                self.put_moved(op, item, s)
-            }
-            (Some(item), Some(_)) => {
-                if op == BinaryOp::Subtract {
-                    self.put_size(item)?;
-                    return self.put(b"ptrsub ");
-                }
-                self.put(on_pointers(op))
-            }
-        }
-    }
-
-    /// A pointer to an item and an integer of a type: one is compared with the other, or is moved by it.
-    fn put_moved(&mut self, op: BinaryOp, item: &CType, t: &CType) -> Result<(), AllocError> {
-        let size = self.bytes_of(item);
-        match op {
-            BinaryOp::Add => self.put_items(size, t),
-            BinaryOp::Subtract => self.put_items(size.wrapping_neg(), t),
-            _ => self.put(on_ints(op)),
-        }
-    }
-
-    /// A pointer moved by so many items of a size. The operator takes the number as one with a sign, so an `unsigned` one of
-    /// 2^31 or more is taken in steps.
-    fn put_items(&mut self, size: i32, t: &CType) -> Result<(), AllocError> {
-        if is_unsigned(t) {
-            self.put(b"dup 0 lt { exch 2147483647 ")?;
-            self.put_number(size)?;
-            self.put(b"ptradd 1 ")?;
-            self.put_number(size)?;
-            self.put(b"ptradd exch 2147483647 and } if ")?;
-        }
-        self.put_number(size)?;
-        self.put(b"ptradd ")
+        (Some(item), Some(_)) => add_on_pointers(text, op, item, defs),
     }
 }
 
 /// What a pointer points to; an array is a pointer to its first item (C90 6.2.2.1).
-pub fn target_of(t: &CType) -> Option<&CType> {
+pub fn target_of(t: &CType) -> Option<&CType>
+    ensures { option_map (λ to. to.now) result ≡ target t.now }
+{
     match t {
         CType::Pointer(target) => Some(target),
         CType::Array(item, _) => Some(item),

@@ -1,9 +1,17 @@
 // What operators of C are in PostScript.
+ghost use Rattle.std.specs.Prelude.{◌≡◌};
+ghost use Rattle.c_tree.specs.declared.typed.UnaryOp.TheVariants.{Minus};
+ghost use Rattle.c_tree.specs.Types.{is_unsigned as unsigned};
+ghost use Rattle.c_operators.specs.Arithmetic.{operating_type};
+ghost use Rattle.ps_text.specs.Code.{render};
+ghost use Rattle.expr_serve.specs.Operators.{on_ints as ints_code, on_unsigned as unsigned_code, on_integers as integers_code, on_pointers as pointers_code, on_one as one_code, conversion as conversion_code};
 
 use c_tree::{BinaryOp, CType, UnaryOp};
 
 /// Whether a type is `unsigned`.
-pub fn is_unsigned(t: &CType) -> bool {
+pub fn is_unsigned(t: &CType) -> bool
+    ensures { result ≡ unsigned t.now }
+{
     match t {
         CType::Unsigned => true,
         _ => false,
@@ -11,7 +19,9 @@ pub fn is_unsigned(t: &CType) -> bool {
 }
 
 /// Whether an operator on integers of two types works on `unsigned`: a shift has the type of its left operand (C90 6.3.7).
-pub fn works_on_unsigned(op: BinaryOp, s: &CType, t: &CType) -> bool {
+fn works_on_unsigned(op: BinaryOp, s: &CType, t: &CType) -> bool
+    ensures { result ≡ unsigned (operating_type op s.now t.now) }
+{
     match op {
         BinaryOp::ShiftLeft | BinaryOp::ShiftRight => is_unsigned(s),
         _ => is_unsigned(s) || is_unsigned(t),
@@ -19,7 +29,9 @@ pub fn works_on_unsigned(op: BinaryOp, s: &CType, t: &CType) -> bool {
 }
 
 /// An operator on two numbers of type `int`.
-pub fn on_ints(op: BinaryOp) -> &'static [u8] {
+pub fn on_ints(op: BinaryOp) -> &'static [u8]
+    ensures { result.now ≡ render (ints_code op) }
+{
     match op {
         BinaryOp::BitOr => b"or ",
         BinaryOp::BitXor => b"xor ",
@@ -41,29 +53,44 @@ pub fn on_ints(op: BinaryOp) -> &'static [u8] {
 }
 
 /// An operator on two numbers of type `unsigned`.
-pub fn on_unsigned(op: BinaryOp) -> &'static [u8] {
+fn on_unsigned(op: BinaryOp) -> &'static [u8]
+    ensures { result.now ≡ render (unsigned_code op) }
+{
     match op {
+        BinaryOp::BitOr => b"or ",
+        BinaryOp::BitXor => b"xor ",
+        BinaryOp::BitAnd => b"and ",
+        BinaryOp::Equal => b"eq { 1 } { 0 } ifelse ",
+        BinaryOp::Unequal => b"ne { 1 } { 0 } ifelse ",
         BinaryOp::Less => b"ult { 1 } { 0 } ifelse ",
         BinaryOp::Greater => b"exch ult { 1 } { 0 } ifelse ",
         BinaryOp::LessEqual => b"exch ult { 0 } { 1 } ifelse ",
         BinaryOp::GreaterEqual => b"ult { 0 } { 1 } ifelse ",
+        BinaryOp::ShiftLeft => b"ishl ",
         BinaryOp::ShiftRight => b"ushr ",
         BinaryOp::Add => b"uadd ",
         BinaryOp::Subtract => b"usub ",
         BinaryOp::Multiply => b"umul ",
         BinaryOp::Divide => b"udivs ",
         BinaryOp::Remainder => b"urem ",
-        BinaryOp::BitOr
-        | BinaryOp::BitXor
-        | BinaryOp::BitAnd
-        | BinaryOp::Equal
-        | BinaryOp::Unequal
-        | BinaryOp::ShiftLeft => on_ints(op),
+    }
+}
+
+/// An operator on two integers of these types.
+pub fn on_integers(op: BinaryOp, s: &CType, t: &CType) -> &'static [u8]
+    ensures { result.now ≡ render (integers_code op s.now t.now) }
+{
+    if works_on_unsigned(op, s, t) {
+        on_unsigned(op)
+    } else {
+        on_ints(op)
     }
 }
 
 /// An operator on two pointers, but for their difference.
-pub fn on_pointers(op: BinaryOp) -> &'static [u8] {
+pub fn on_pointers(op: BinaryOp) -> &'static [u8]
+    ensures { result.now ≡ render (pointers_code op) }
+{
     match op {
         BinaryOp::Less => b"ptrcmp 0 lt { 1 } { 0 } ifelse ",
         BinaryOp::Greater => b"ptrcmp 0 gt { 1 } { 0 } ifelse ",
@@ -73,35 +100,35 @@ pub fn on_pointers(op: BinaryOp) -> &'static [u8] {
     }
 }
 
+/// The operator `-` on one number of a type.
+fn negation(t: &CType) -> &'static [u8]
+    ensures { result.now ≡ render (one_code Minus t.now) }
+{
+    if is_unsigned(t) {
+        b"0 exch usub "
+    } else {
+        b"ineg "
+    }
+}
+
 /// An operator on one number of a type, or for `!` on a pointer.
-pub fn on_one(op: UnaryOp, t: &CType) -> &'static [u8] {
+pub fn on_one(op: UnaryOp, t: &CType) -> &'static [u8]
+    ensures { result.now ≡ render (one_code op t.now) }
+{
     match op {
         UnaryOp::Plus => b"",
-        UnaryOp::Minus => {
-            if is_unsigned(t) {
-                b"0 exch usub "
-            } else {
-                b"ineg "
-            }
-        }
+        UnaryOp::Minus => negation(t),
         UnaryOp::Complement => b"not ",
         UnaryOp::Not => b"0 eq { 1 } { 0 } ifelse ",
     }
 }
 
 /// A conversion to a type.
-pub fn conversion(t: &CType) -> &'static [u8] {
+pub fn conversion(t: &CType) -> &'static [u8]
+    ensures { result.now ≡ render (conversion_code t.now) }
+{
     match t {
         CType::Char => b"24 ishl 24 ishr ",
         _ => b"",
-    }
-}
-
-/// The kind of a scalar's leaf.
-pub fn kind_of(t: &CType) -> &'static [u8] {
-    match t {
-        CType::Char => b"/c ",
-        CType::Pointer(_) | CType::Array(_, _) => b"/p ",
-        CType::Int | CType::Unsigned | CType::Void | CType::Struct(_) => b"/w ",
     }
 }

@@ -1,0 +1,70 @@
+-- Texts that grow by the pieces of an expression.
+use Rattle.std.proofs.Common.{◌≡◌, refl, sym, ap, ◌∙◌, ℕ, ℤ, List, ◌++◌, codes, pos, append_assoc}
+use Rattle.std.specs.Fmt.{digits, signed_decimal}
+use Rattle.ps_text.specs.Code.{Code, Stop, Num, Word, Proc, render}
+use Rattle.ps_emit.specs.Terms.{◌⋯◌, integer}
+use Rattle.ps_emit.specs.Grown.{Grows}
+use Rattle.ps_emit.proofs.Followed.{render_followed}
+use Rattle.expr_serve.specs.Operators.{by_zero}
+use Rattle.expr_serve.specs.Codes.{large_first}
+
+-- a piece whose text was appended
+pub grown : (k : Code) {a b ts : List ℕ} → b ≡ a ++ ts → ts ≡ render k → Grows k a b
+grown k {a} e h = record { text = e ∙ ap (λ (x : List ℕ). a ++ x) h }
+
+pub appended : {k : Code} {a b ts : List ℕ} → b ≡ a ++ ts → ts ≡ render k → Grows k a b
+appended {k} e h = grown k e h
+
+three : (a x k w : List ℕ) → ((a ++ x) ++ k) ++ w ≡ a ++ (x ++ (k ++ w))
+three a x k w = simp append_assoc
+
+five : (a x z y o w : List ℕ) → ((((a ++ x) ++ z) ++ y) ++ o) ++ w ≡ a ++ (x ++ (z ++ (y ++ (o ++ w))))
+five a x z y o w = simp append_assoc
+
+-- one of two pieces, by whether a number is 0
+pub chosen : {a b c d e f : List ℕ} {zero other : Code} → b ≡ a ++ codes "0 eq { " → Grows zero b c → d ≡ c ++ codes "} { " → Grows other d e → f ≡ e ++ codes "} ifelse " → Grows (by_zero zero other) a f
+unfolding digits
+chosen {a} {b} {c} {d} {e} {f} {zero} {other} p q r s t =
+    record { text = rw (t, s.text, r, q.text, p) (five a (codes "0 eq { ") (render zero) (codes "} { ") (render other) (codes "} ifelse ")) }
+
+abbrev is_nonzero : Code
+is_nonzero = by_zero (integer (pos 0)) (integer (pos 1))
+
+-- the second operand of `||` and of `&&` is in one of the two procedures
+pub second_of_or : {a b c d : List ℕ} {k : Code} → b ≡ a ++ codes "0 eq { " → Grows k b c → d ≡ c ++ codes "0 eq { 0 } { 1 } ifelse } { 1 } ifelse " → Grows (by_zero (k ⋯ is_nonzero) (integer (pos 1))) a d
+unfolding digits
+second_of_or {a} {b} {c} {d} {k} p q r = record {
+  text =
+      rw (r, q.text, p)
+      (three a (codes "0 eq { ") (render k) (codes "0 eq { 0 } { 1 } ifelse } { 1 } ifelse ")
+      ∙ ap (λ (x : List ℕ). a ++ (codes "0 eq { " ++ x)) (sym (append_assoc (render k) (codes "0 eq { 0 } { 1 } ifelse ") (codes "} { 1 } ifelse ")))
+      ∙ ap (λ (x : List ℕ). a ++ (codes "0 eq { " ++ (x ++ codes "} { 1 } ifelse "))) (sym (render_followed k is_nonzero)));
+}
+
+pub second_of_and : {a b c d : List ℕ} {k : Code} → b ≡ a ++ codes "0 eq { 0 } { " → Grows k b c → d ≡ c ++ codes "0 eq { 0 } { 1 } ifelse } ifelse " → Grows (by_zero (integer (pos 0)) (k ⋯ is_nonzero)) a d
+unfolding digits
+second_of_and {a} {b} {c} {d} {k} p q r = record {
+  text =
+      rw (r, q.text, p)
+      (three a (codes "0 eq { 0 } { ") (render k) (codes "0 eq { 0 } { 1 } ifelse } ifelse ")
+      ∙ ap (λ (x : List ℕ). a ++ (codes "0 eq { 0 } { " ++ x)) (sym (append_assoc (render k) (codes "0 eq { 0 } { 1 } ifelse ") (codes "} ifelse ")))
+      ∙ ap (λ (x : List ℕ). a ++ (codes "0 eq { 0 } { " ++ (x ++ codes "} ifelse "))) (sym (render_followed k is_nonzero)));
+}
+
+-- the steps for a large number
+pub in_steps : {a b c d e f : List ℕ} (size : ℤ) → b ≡ a ++ codes "dup 0 lt { exch 2147483647 " → Grows (integer size) b c → d ≡ c ++ codes "ptradd 1 " → Grows (integer size) d e → f ≡ e ++ codes "ptradd exch 2147483647 and } if "
+    → Grows (large_first size) a f
+unfolding digits
+in_steps {a} {b} {c} {d} {e} {f} size p q r s t = record {
+  text =
+      rw (t, s.text, r, q.text, p)
+      (five a (codes "dup 0 lt { exch 2147483647 ") (render (integer size)) (codes "ptradd 1 ") (render (integer size)) (codes "ptradd exch 2147483647 and } if ")
+      ∙ spaced (codes "ptradd exch 2147483647 and } if "));
+}
+  where
+    digits_of : List ℕ
+    digits_of = signed_decimal size
+
+    spaced : (w : List ℕ) → a ++ (codes "dup 0 lt { exch 2147483647 " ++ ((digits_of ++ codes " ") ++ (codes "ptradd 1 " ++ ((digits_of ++ codes " ") ++ w))))
+        ≡ a ++ (codes "dup 0 lt { exch 2147483647 " ++ (digits_of ++ (codes " ptradd 1 " ++ (digits_of ++ (codes " " ++ w)))))
+    spaced w = simp append_assoc

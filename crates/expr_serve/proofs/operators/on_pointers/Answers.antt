@@ -1,0 +1,19 @@
+use Rattle.std.proofs.Common.{refl}
+use Rattle.std.specs.Fmt.{digits}
+use Rattle.expr_serve.proofs.operators.on_pointers.Goals as goal
+
+pub returns-in-Less : goal.returns-in-Less
+unfolding digits
+returns-in-Less c = rw c.in-Less.is refl
+
+pub returns-in-Greater : goal.returns-in-Greater
+unfolding digits
+returns-in-Greater c = rw c.in-Greater.is refl
+
+pub returns-in-LessEqual : goal.returns-in-LessEqual
+unfolding digits
+returns-in-LessEqual c = rw c.in-LessEqual.is refl
+
+pub returns-in-GreaterEqual : goal.returns-in-GreaterEqual
+unfolding digits
+returns-in-GreaterEqual c = rw c.in-GreaterEqual.is refl

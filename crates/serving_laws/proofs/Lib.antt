@@ -1,0 +1,6 @@
+mod Small
+mod Numbers
+mod Names
+mod Stepping
+mod Operating
+mod Values
