@@ -1,5 +1,5 @@
 -- The text of an expression's form, by those of its parts.
-use Rattle.std.proofs.Common.{◌≡◌, refl, sym, ap, subst, ◌∙◌, ℕ, List, ◌++◌, codes, pos}
+use Rattle.std.proofs.Common.{◌≡◌, sym, ap, subst, ◌∙◌, ℕ, List, ◌++◌, codes}
 use Rattle.c_tree.specs.declared.types.CType.{CType}
 use Rattle.c_tree.specs.declared.types.StructDef.{StructDef}
 use Rattle.c_tree.specs.declared.typed.Head.{Head}
@@ -7,16 +7,17 @@ use Rattle.c_tree.specs.declared.typed.BinaryOp.{BinaryOp}
 use Rattle.c_tree.specs.declared.typed.BinaryOp.TheVariants.{Add}
 use Rattle.c_tree.specs.declared.typed.UnaryOp.{UnaryOp}
 use Rattle.c_tree.specs.declared.typed.Typed.{Typed}
-use Rattle.c_tree.specs.declared.typed.Typed.TheVariants.{Comma', Choice', Or', And', Binary', Cast', Address', Follow', Unary', SizeOf', Index', Dot', Arrow', Name, Parens'}
+use Rattle.c_tree.specs.declared.typed.Typed.TheVariants.{Comma', Choice', Or', And', Binary', Cast', Address', Follow', Unary', Index', Dot', Arrow', Name}
 use Rattle.c_tree.specs.Types.{type_of, target_of}
 use Rattle.c_judge.specs.declared.symbol.Symbol.{Symbol}
-use Rattle.ps_text.specs.Code.{Code, Stop, Word, render}
-use Rattle.ps_emit.specs.Terms.{◌⋯◌, integer}
+use Rattle.ps_text.specs.Code.{Stop, Word, render}
+use Rattle.ps_emit.specs.Terms.{◌⋯◌}
 use Rattle.ps_emit.specs.Grown.{Grows}
-use Rattle.ps_emit.proofs.Followed.{◌and◌}
+use Rattle.ps_emit.proofs.Followed.{◌and◌, nothing}
 use Rattle.expr_serve.specs.declared.emit.Standing.{Standing}
+use Rattle.expr_serve.specs.declared.emit.Standing.TheVariants.{Named, Pointed}
 use Rattle.expr_serve.specs.Operators.{conversion, on_one}
-use Rattle.expr_serve.specs.Codes.{standing_of, address_of, value_at, place_further, further, offset_of, offset_behind, bytes_of, on_two, value_code, place_code}
+use Rattle.expr_serve.specs.Codes.{standing_of, address_of, value_at, place_further, further, offset_of, offset_behind, on_two, by_standing, as_spot, all_leaves, value_code, place_code, spot_code, struct_code}
 use Rattle.expr_serve.proofs.Growing.{grown, chosen, second_of_or, second_of_and}
 
 module _ (names : List Symbol) (defs : List StructDef) where
@@ -25,9 +26,6 @@ module _ (names : List Symbol) (defs : List StructDef) where
 
   abbrev Places : Typed → List ℕ → List ℕ → Type 0
   Places e a b = Grows (place_code names defs e) a b
-
-  abbrev Whole : Typed → Typed → List ℕ → List ℕ → Type 0
-  Whole e f a b = e ≡ f → Values f a b → Values e a b
 
   value_is : (e f : Typed) {a b : List ℕ} → e ≡ f → Values f a b → Values e a b
   value_is e f {a} {b} is g = subst (λ z. Values z a b) (sym is) g
@@ -123,3 +121,15 @@ module _ (names : List Symbol) (defs : List StructDef) where
       → Values el a b → Grows (further at) b c → Places e a c
   arrow_place h x l m e el t at {a} {b} {c} is il et ea g k =
       place_is e (Arrow' h x l m) is (part el l il g and subst (λ z. Grows (further z) b c) (ea ∙ ap (λ z. offset_behind defs (target_of z) m) et) k)
+
+  -- ---- what stands round them
+
+  pub spot_at : (e : Typed) (s : Standing) (ts : List ℕ) {a b c : List ℕ} → s ≡ standing_of e → ts ≡ render (as_spot s) → Places e a b → c ≡ b ++ ts → Grows (spot_code names defs e) a c
+  spot_at e s ts es ets g p = g and grown (as_spot (standing_of e)) p (ets ∙ ap (λ z. render (as_spot z)) es)
+
+  pub struct_named : (e : Typed) (s : Standing) {a b : List ℕ} → s ≡ standing_of e → s ≡ Named → Places e a b → Grows (struct_code names defs e) a b
+  struct_named e s {a} {b} es is g = subst (λ z. Grows (place_code names defs e ⋯ by_standing z Stop (all_leaves defs (type_of e))) a b) (sym is ∙ es) (g and nothing)
+
+  pub struct_pointed : (e : Typed) (s : Standing) (t : CType) {a b c : List ℕ} → s ≡ standing_of e → s ≡ Pointed → t ≡ type_of e → Places e a b → Grows (all_leaves defs t) b c → Grows (struct_code names defs e) a c
+  struct_pointed e s t {a} {b} {c} es is et g k =
+      subst (λ z. Grows (place_code names defs e ⋯ by_standing z Stop (all_leaves defs (type_of e))) a c) (sym is ∙ es) (g and subst (λ z. Grows (all_leaves defs z) b c) et k)

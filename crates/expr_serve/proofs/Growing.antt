@@ -51,6 +51,9 @@ second_of_and {a} {b} {c} {d} {k} p q r = record {
       ∙ ap (λ (x : List ℕ). a ++ (codes "0 eq { 0 } { " ++ (x ++ codes "} ifelse "))) (sym (render_followed k is_nonzero)));
 }
 
+spaced : (a x d sp y w v : List ℕ) → a ++ (x ++ ((d ++ sp) ++ (y ++ ((d ++ sp) ++ (w ++ v))))) ≡ a ++ (x ++ ((d ++ ((sp ++ y) ++ (d ++ (sp ++ w)))) ++ v))
+spaced a x d sp y w v = simp append_assoc
+
 -- the steps for a large number
 pub in_steps : {a b c d e f : List ℕ} (size : ℤ) → b ≡ a ++ codes "dup 0 lt { exch 2147483647 " → Grows (integer size) b c → d ≡ c ++ codes "ptradd 1 " → Grows (integer size) d e → f ≡ e ++ codes "ptradd exch 2147483647 and } if "
     → Grows (large_first size) a f
@@ -59,12 +62,5 @@ in_steps {a} {b} {c} {d} {e} {f} size p q r s t = record {
   text =
       rw (t, s.text, r, q.text, p)
       (five a (codes "dup 0 lt { exch 2147483647 ") (render (integer size)) (codes "ptradd 1 ") (render (integer size)) (codes "ptradd exch 2147483647 and } if ")
-      ∙ spaced (codes "ptradd exch 2147483647 and } if "));
+      ∙ spaced a (codes "dup 0 lt { exch 2147483647 ") (signed_decimal size) (codes " ") (codes "ptradd 1 ") (codes "ptradd exch 2147483647 and ") (codes "} if "));
 }
-  where
-    digits_of : List ℕ
-    digits_of = signed_decimal size
-
-    spaced : (w : List ℕ) → a ++ (codes "dup 0 lt { exch 2147483647 " ++ ((digits_of ++ codes " ") ++ (codes "ptradd 1 " ++ ((digits_of ++ codes " ") ++ w))))
-        ≡ a ++ (codes "dup 0 lt { exch 2147483647 " ++ (digits_of ++ (codes " ptradd 1 " ++ (digits_of ++ (codes " " ++ w)))))
-    spaced w = simp append_assoc

@@ -58,11 +58,15 @@ steps size =
 abbrev pub large_first : ℤ → Code
 large_first size = word "dup" ⋯ integer (pos 0) ⋯ word "lt" ⋯ Proc (steps size) Stop ⋯ word "if"
 
-abbrev pub unsigned_steps : ℤ → CType → Code
-unsigned_steps size t = if is_unsigned t then large_first size else Stop
+-- so many bytes further, or back
+abbrev pub bytes_by : (is_back : Bool) → ℕ → ℤ
+bytes_by is_back n = if is_back then neg_ℤ (pos n) else pos n
 
-abbrev pub by_items : ℤ → CType → Code
-by_items size t = unsigned_steps size t ⋯ integer size ⋯ word "ptradd"
+abbrev pub unsigned_steps : (is_back : Bool) → (size : ℕ) → CType → Code
+unsigned_steps is_back size t = if is_unsigned t then large_first (bytes_by is_back size) else Stop
+
+abbrev pub by_items : (is_back : Bool) → (size : ℕ) → CType → Code
+by_items is_back size t = unsigned_steps is_back size t ⋯ integer (bytes_by is_back size) ⋯ word "ptradd"
 
 -- ---- places
 
@@ -141,8 +145,8 @@ module _ (defs : List StructDef) where
 
   -- a pointer to an item, and an integer
   abbrev pub on_pointer : BinaryOp → (item t : CType) → Code
-  on_pointer Add item t = by_items (pos (bytes_of item)) t
-  on_pointer Subtract item t = by_items (neg_ℤ (pos (bytes_of item))) t
+  on_pointer Add item t = by_items false (bytes_of item) t
+  on_pointer Subtract item t = by_items true (bytes_of item) t
   on_pointer op item t = on_ints op
 
   abbrev pub on_two_pointers : BinaryOp → (item : CType) → Code

@@ -5,7 +5,7 @@ ghost use Rattle.c_tree.specs.Types.{target_of as target};
 ghost use Rattle.ps_text.specs.Code.{Stop, Num, Lit, Word, render};
 ghost use Rattle.ps_emit.specs.Grown.{Grows};
 ghost use Rattle.expr_serve.specs.declared.emit.Standing.TheVariants.{Named, Pointed};
-ghost use Rattle.expr_serve.specs.Codes.{address_of, value_at, as_spot, live_scalar, by_items, further as further_code, place_further, place_of_name, bytes_of as bytes, offset_of as offset, offset_behind as behind, near, far, half, tagged_leaves, large_first, unsigned_steps, all_leaves, on_pointer, on_two_pointers, on_two};
+ghost use Rattle.expr_serve.specs.Codes.{address_of, value_at, as_spot, live_scalar, by_items, further as further_code, place_further, place_of_name, bytes_of as bytes, offset_of as offset, offset_behind as behind, near, far, half, tagged_leaves, large_first, bytes_by, unsigned_steps, all_leaves, on_pointer, on_two_pointers, on_two};
 
 use crate::operators::{is_unsigned, on_integers, on_ints, on_pointers};
 use c_judge::Symbol;
@@ -129,10 +129,12 @@ fn pointed_leaf(t: &CType) -> &'static [u8]
 {
     match t {
         CType::Char => b"1 index /c Leaf pop pop ",
-        CType::Pointer(_) | CType::Array(_, _) => b"1 index /p Leaf pop pop ",
-        CType::Int | CType::Unsigned | CType::Void | CType::Struct(_) => {
-            b"1 index /w Leaf pop pop "
-        }
+        CType::Pointer(_) => b"1 index /p Leaf pop pop ",
+        CType::Array(_, _) => b"1 index /p Leaf pop pop ",
+        CType::Int => b"1 index /w Leaf pop pop ",
+        CType::Unsigned => b"1 index /w Leaf pop pop ",
+        CType::Void => b"1 index /w Leaf pop pop ",
+        CType::Struct(_) => b"1 index /w Leaf pop pop ",
     }
 }
 
@@ -262,23 +264,50 @@ pub fn add_member(text: &mut Text, standing: Standing, at: u32) -> Result<(), Al
     }
 }
 
+/// So many bytes further, or back.
+fn counted(is_back: bool, bytes: u32) -> i32
+    requires { bytes ≤ 1048576 }
+    ensures { result ≡ bytes_by is_back bytes }
+{
+    if is_back {
+        -(bytes as i32)
+    } else {
+        bytes as i32
+    }
+}
+
+/// Adds so many bytes further, or back, as an integer.
+fn add_counted(text: &mut Text, is_back: bool, bytes: u32) -> Result<(), AllocError>
+    requires { bytes ≤ 1048576 }
+    ensures { OnOk result (Grows (Num (bytes_by is_back bytes) Stop) text.old text.new) }
+{
+    add_integer(text, counted(is_back, bytes))
+}
+
 /// Adds the steps for an `unsigned` number of 2^31 or more, with which a pointer is moved by so many items of a size.
-fn add_steps(text: &mut Text, size: i32) -> Result<(), AllocError>
-    ensures { OnOk result (Grows (large_first size) text.old text.new) }
+fn add_steps(text: &mut Text, is_back: bool, size: u32) -> Result<(), AllocError>
+    requires { size ≤ 1048576 }
+    ensures { OnOk result (Grows (large_first (bytes_by is_back size)) text.old text.new) }
 {
     text.append(b"dup 0 lt { exch 2147483647 ")?;
-    add_integer(text, size)?;
+    add_counted(text, is_back, size)?;
     text.append(b"ptradd 1 ")?;
-    add_integer(text, size)?;
+    add_counted(text, is_back, size)?;
     text.append(b"ptradd exch 2147483647 and } if ")
 }
 
 /// Adds those steps where the number is `unsigned`.
-fn add_unsigned_steps(text: &mut Text, size: i32, t: &CType) -> Result<(), AllocError>
-    ensures { OnOk result (Grows (unsigned_steps size t.now) text.old text.new) }
+fn add_unsigned_steps(
+    text: &mut Text,
+    is_back: bool,
+    size: u32,
+    t: &CType,
+) -> Result<(), AllocError>
+    requires { size ≤ 1048576 }
+    ensures { OnOk result (Grows (unsigned_steps is_back size t.now) text.old text.new) }
 {
     if is_unsigned(t) {
-        add_steps(text, size)
+        add_steps(text, is_back, size)
     } else {
         Ok(())
     }
@@ -286,11 +315,12 @@ fn add_unsigned_steps(text: &mut Text, size: i32, t: &CType) -> Result<(), Alloc
 
 /// Adds a pointer moved by so many items of a size. The operator takes the number as one with a sign, so an `unsigned` one of
 /// 2^31 or more is taken in steps.
-fn add_items(text: &mut Text, size: i32, t: &CType) -> Result<(), AllocError>
-    ensures { OnOk result (Grows (by_items size t.now) text.old text.new) }
+fn add_items(text: &mut Text, is_back: bool, size: u32, t: &CType) -> Result<(), AllocError>
+    requires { size ≤ 1048576 }
+    ensures { OnOk result (Grows (by_items is_back size t.now) text.old text.new) }
 {
-    add_unsigned_steps(text, size, t)?;
-    add_integer(text, size)?;
+    add_unsigned_steps(text, is_back, size, t)?;
+    add_counted(text, is_back, size)?;
     add_word(text, b"ptradd")
 }
 
@@ -307,8 +337,8 @@ fn add_on_pointer(
     ensures { OnOk result (Grows (on_pointer defs.now op item.now t.now) text.old text.new) }
 {
     match op {
-        BinaryOp::Add => add_items(text, bytes_of(item, defs) as i32, t),
-        BinaryOp::Subtract => add_items(text, -(bytes_of(item, defs) as i32), t),
+        BinaryOp::Add => add_items(text, false, bytes_of(item, defs), t),
+        BinaryOp::Subtract => add_items(text, true, bytes_of(item, defs), t),
         _ => text.append(on_ints(op)),
     }
 }

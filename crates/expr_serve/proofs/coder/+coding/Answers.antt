@@ -8,8 +8,8 @@ use Rattle.expr_serve.proofs.coder.+coding.Goals as goal
 pub add_location-returns-in_ok-add_value-in-Index-2 : goal.add_location-returns-in_ok-add_value-in-Index-2
 add_location-returns-in_ok-add_value-in-Index-2 t c =
     on_ok_weaker _
-    (λ q. index_place c.args.names.now c.args.defs.now _ _ _ _ _ _ _ _ _ _ c.in-Index.is c.deref-in-Index.ensures c.deref-in-Index-2.ensures (c.type_of-in-Index.ensures ∙ ap type_of c.deref-in-Index-3.ensures)
-    (c.type_of-in-Index-2.ensures ∙ ap type_of c.deref-in-Index-4.ensures) c.in_ok-add_value-in-Index.ensures c.in_ok-add_value-in-Index-2.ensures q)
+    (λ q. index_place c.args.names.now c.args.defs.now _ _ _ _ _ _ _ _ _ _ c.in-Index.is c.deref-in-Index.ensures c.deref-in-Index-2.ensures (c.type_of.ensures ∙ ap type_of c.deref-in-Index-3.ensures)
+    (c.type_of-in-Index.ensures ∙ ap type_of c.deref-in-Index-4.ensures) c.in_ok-add_value-in-Index.ensures c.in_ok-add_value-in-Index-2.ensures q)
     c.add_operator.ensures
 
 pub add_location-returns-in_ok-add_location-in-Dot : goal.add_location-returns-in_ok-add_location-in-Dot
@@ -29,16 +29,16 @@ add_location-returns-in_ok-add_value-in-Arrow t c =
 pub add_value-returns-in_ok-add_word-in-Comma : goal.add_value-returns-in_ok-add_word-in-Comma
 add_value-returns-in_ok-add_word-in-Comma t c =
     on_ok_weaker _
-    (λ q. comma_arm c.args.names.now c.args.defs.now _ _ _ _ _ _ _ _ c.in-Comma.is c.deref-in-Comma.ensures c.deref-in-Comma-2.ensures c.in_ok-add_value-in-Comma.ensures c.in_ok-add_word-in-Comma.ensures q)
-    c.add_value-in-Comma-2.ensures
+    (λ q. comma_arm c.args.names.now c.args.defs.now _ _ _ _ _ _ _ _ c.in-Comma.is c.deref.ensures c.deref-in-Comma.ensures c.in_ok-add_value-in-Comma.ensures c.in_ok-add_word-in-Comma.ensures q)
+    c.add_value-in-Comma.ensures
 
 pub add_value-returns-in_ok-append-in-Choice-4 : goal.add_value-returns-in_ok-append-in-Choice-4
 add_value-returns-in_ok-append-in-Choice-4 t c =
     on_ok_weaker _
-    (λ q. choice_arm c.args.names.now c.args.defs.now _ _ _ _ _ _ _ _ _ _ _ _ _ c.in-Choice.is c.deref-in-Choice.ensures c.deref-in-Choice-3.ensures c.deref-in-Choice-2.ensures c.conversion-in-Choice.ensures c.conversion-in-Choice-2.ensures
+    (λ q. choice_arm c.args.names.now c.args.defs.now _ _ _ _ _ _ _ _ _ _ _ _ _ c.in-Choice.is c.deref-in-Choice.ensures c.deref-in-Choice-3.ensures c.deref-in-Choice-2.ensures c.conversion.ensures c.conversion-in-Choice.ensures
     c.in_ok-add_value-in-Choice.ensures c.in_ok-append-in-Choice.ensures.ok c.in_ok-add_value-in-Choice-2.ensures c.in_ok-append-in-Choice-2.ensures.ok c.in_ok-append-in-Choice-3.ensures.ok c.in_ok-add_value-in-Choice-3.ensures
     c.in_ok-append-in-Choice-4.ensures.ok q)
-    c.append-in-Choice-5.ensures.ok
+    c.append-in-Choice-4.ensures.ok
 
 pub add_value-returns-in_ok-add_value-in-Or-2 : goal.add_value-returns-in_ok-add_value-in-Or-2
 add_value-returns-in_ok-add_value-in-Or-2 t c =
@@ -55,8 +55,8 @@ add_value-returns-in_ok-add_value-in-And-2 t c =
 pub add_value-returns-in_ok-add_value-in-Binary-2 : goal.add_value-returns-in_ok-add_value-in-Binary-2
 add_value-returns-in_ok-add_value-in-Binary-2 t c =
     on_ok_weaker _
-    (λ q. binary_arm c.args.names.now c.args.defs.now _ _ _ _ _ _ _ _ _ _ _ c.in-Binary.is c.deref-in-Binary.ensures c.deref-in-Binary-2.ensures (c.type_of-in-Binary.ensures ∙ ap type_of c.deref-in-Binary-3.ensures)
-    (c.type_of-in-Binary-2.ensures ∙ ap type_of c.deref-in-Binary-4.ensures) c.in_ok-add_value-in-Binary.ensures c.in_ok-add_value-in-Binary-2.ensures q)
+    (λ q. binary_arm c.args.names.now c.args.defs.now _ _ _ _ _ _ _ _ _ _ _ c.in-Binary.is c.deref-in-Binary.ensures c.deref-in-Binary-2.ensures (c.type_of.ensures ∙ ap type_of c.deref-in-Binary-3.ensures)
+    (c.type_of-in-Binary.ensures ∙ ap type_of c.deref-in-Binary-4.ensures) c.in_ok-add_value-in-Binary.ensures c.in_ok-add_value-in-Binary-2.ensures q)
     c.add_operator.ensures
 
 pub add_value-returns-in_ok-add_value-in-Cast : goal.add_value-returns-in_ok-add_value-in-Cast
@@ -66,7 +66,7 @@ add_value-returns-in_ok-add_value-in-Cast t c =
 pub add_value-returns-in_ok-add_location-in-Address : goal.add_value-returns-in_ok-add_location-in-Address
 add_value-returns-in_ok-add_location-in-Address t c =
     on_ok_weaker _
-    (λ q. address_arm c.args.names.now c.args.defs.now _ _ _ _ _ _ _ c.in-Address.is c.deref-in-Address.ensures (c.standing_of.ensures ∙ ap standing_of c.deref-in-Address-2.ensures) c.address.ensures c.in_ok-add_location.ensures q)
+    (λ q. address_arm c.args.names.now c.args.defs.now _ _ _ _ _ _ _ c.in-Address.is c.deref-in-Address.ensures (c.standing_of.ensures ∙ ap standing_of c.deref-in-Address-2.ensures) c.address.ensures c.in_ok-add_location-in-Address.ensures q)
     c.append-in-Address.ensures.ok
 
 pub add_value-returns-in_ok-add_value-in-Unary : goal.add_value-returns-in_ok-add_value-in-Unary
@@ -77,10 +77,10 @@ add_value-returns-in_ok-add_value-in-Unary t c =
 
 pub add_at_place-returns : goal.add_at_place-returns
 add_at_place-returns t c =
-    on_ok_weaker _ (λ q. at_place c.args.names.now c.args.defs.now _ _ _ _ c.standing_of.ensures c.type_of.ensures c.value.ensures c.in_ok-add_location.ensures q) c.append.ensures.ok
+    on_ok_weaker c.append.result (λ q. at_place c.args.names.now c.args.defs.now c.args.e.now _ _ _ {c = c.append.new.self} c.standing_of.ensures c.type_of.ensures c.value.ensures c.in_ok-add_location.ensures q) c.append.ensures.ok
 
 pub add_value-returns-in-Name : goal.add_value-returns-in-Name
-add_value-returns-in-Name t c = on_ok_weaker _ (λ q. name_arm c.args.names.now c.args.defs.now _ _ _ c.in-Name.is q) c.add_at_place-in-Name.ensures
+add_value-returns-in-Name t c = on_ok_weaker _ (λ q. name_arm c.args.names.now c.args.defs.now _ _ _ c.in-Name.is q) c.add_at_place.ensures
 
 pub add_value-returns-in-Follow : goal.add_value-returns-in-Follow
 add_value-returns-in-Follow t c = on_ok_weaker _ (λ q. follow_arm c.args.names.now c.args.defs.now _ _ _ _ c.in-Follow.is q) c.add_at_place-in-Follow.ensures

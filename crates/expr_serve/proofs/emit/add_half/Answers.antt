@@ -7,4 +7,4 @@ use Rattle.expr_serve.proofs.emit.add_half.Goals as goal
 
 pub returns : goal.returns
 unfolding digits
-returns c = on_ok_weaker _ (λ e. grown half e refl) c.append.ensures.ok
+returns c = on_ok_weaker c.append.result (λ e. grown half {a = c.args.text.now} {b = c.append.new.self} e refl) c.append.ensures.ok
