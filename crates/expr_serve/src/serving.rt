@@ -1,11 +1,19 @@
 // Serving an expression: its names and tags are asked for, and then its text is made.
 
-ghost use Rattle.std.specs.Prelude.{◌≡◌, ◌≤◌, length, List, IfOk, OnOk, Err};
+ghost use Rattle.std.specs.Prelude.{◌≡◌, ◌≤◌, ℕ, length, List, IfOk, OnOk, Ok, Err};
 ghost use Rattle.c_lex.specs.declared.token.Token.{Token as Piece};
 ghost use Rattle.c_lex.specs.Grammar.{HasTokens};
 ghost use Rattle.c_symbol.specs.Terminals.{terminals};
+ghost use Rattle.c_expr.specs.Tree.{Tree};
+ghost use Rattle.c_expr.specs.Grammar.{Spells};
+ghost use Rattle.c_tree.specs.Types.{type_of};
+ghost use Rattle.c_typing.specs.Plain.{plain};
+ghost use Rattle.c_judge.specs.Session.{session};
+ghost use Rattle.c_judge.specs.Checks.{Checks};
 ghost use Rattle.expr_serve.specs.declared.fault.Refuse.TheVariants.{Syntax as NoExpression};
 ghost use Rattle.expr_serve.specs.Texts.{AreExpression, IsExpression};
+ghost use Rattle.expr_serve.specs.Codes.{text_of as text_in};
+ghost use Rattle.expr_serve.specs.Serving.{HasTree, IsServed, IsTurn, given_type as type_given};
 
 use crate::coder::text_of;
 use crate::fault::Refuse;
@@ -65,6 +73,7 @@ fn tokens_of(alloc: Global, text: &[u8]) -> Result<Vec<Token>, Refuse>
 
 /// The tree of a text with these tokens.
 fn tree_of(alloc: Global, text: &[u8], tokens: &[Token]) -> Result<Expr, Refuse>
+    ensures read { IfOk result (λ e. (h : ℕ) × (h ≤ 64) × Spells (terminals text.now tokens.now) e h) }
     ensures tree { OnOk result (AreExpression (terminals text.now tokens.now)) }
     ensures none { result ≡ Err NoExpression → AreExpression (terminals text.now tokens.now) → ⊥ }
 {
@@ -112,7 +121,9 @@ fn checked(
     mode: Mode,
     symbols: &[Symbol],
     defs: &[StructDef],
-) -> Result<Typed, Refuse> {
+) -> Result<Typed, Refuse>
+    ensures { IfOk result (λ typed. (tree : Tree) × HasTree text.now tree × Checks (session symbols.now defs.now) mode tree (Ok typed)) }
+{
     if symbols.len() > MOST_ROWS || defs.len() > MOST_ROWS {
         return Err(Refuse::NoMemory);
     }
@@ -131,7 +142,9 @@ fn checked(
 }
 
 /// The type of the value of a checked expression: an array is a pointer.
-fn given_type(typed: &Typed, mode: Mode) -> Result<CType, AllocError> {
+fn given_type(typed: &Typed, mode: Mode) -> Result<CType, AllocError>
+    ensures { IfOk result (λ t. plain t ≡ type_given mode (type_of typed.now)) }
+{
     let t = &head_of(typed).ctype;
     match mode {
         Mode::Value => value_type(t),
@@ -146,7 +159,10 @@ fn told(
     mode: Mode,
     symbols: &[Symbol],
     defs: &[StructDef],
-) -> Result<(Text, CType), AllocError> {
+) -> Result<(Text, CType), AllocError>
+    ensures text { IfOk result (λ told. told.0 ≡ text_in symbols.now defs.now mode typed.now) }
+    ensures ctype { IfOk result (λ told. plain told.1 ≡ type_given mode (type_of typed.now)) }
+{
     let ctype = given_type(typed, mode)?;
     let postscript = text_of(alloc, typed, mode, symbols, defs)?;
     Ok((postscript, ctype))
@@ -211,6 +227,7 @@ impl Server {
     pub fn start(alloc: Global, text: &[u8], mode: Mode) -> Result<Server, Refuse>
         ensures text { OnOk result (IsExpression text.now) }
         ensures none { result ≡ Err NoExpression → length text.now ≤ 1000 → IsExpression text.now → ⊥ }
+        ensures begun { IfOk result (λ server. (server.text ≡ text.now) × (server.mode ≡ mode)) }
     {
         let mentions = match mentions_of(alloc, text) {
             Ok(mentions) => mentions,
@@ -252,7 +269,9 @@ impl Server {
     }
 
     /// The text of the expression, once all names and tags were answered, and its type.
-    fn finished(&self) -> Result<(Text, CType), Refuse> {
+    fn finished(&self) -> Result<(Text, CType), Refuse>
+        ensures { IfOk result (λ told. IsServed self.now.text self.now.mode self.now.symbols.items self.now.defs.items told.0 told.1) }
+    {
         let symbols = self.symbols.as_slice();
         let defs = self.defs.as_slice();
         match checked(self.alloc, self.text.as_bytes(), self.mode, symbols, defs) {
@@ -267,7 +286,9 @@ impl Server {
 
     /// Asks for the next name or tag, each once and in the order of the text, or gives the text of PostScript. Scope comes only
     /// where a name was answered to be none, Rule where a typing rule is broken or a form stands in the text that is forbidden.
-    pub fn advance(self) -> Result<Turn, Refuse> {
+    pub fn advance(self) -> Result<Turn, Refuse>
+        ensures { IsTurn self result }
+    {
         if self.is_unknown {
             return Err(Refuse::Scope);
         }
@@ -283,7 +304,9 @@ impl Server {
     }
 
     /// Answers the name that was asked for, with all structs so far; those of the answer before come first.
-    pub fn answer(&mut self, symbol: Option<Symbol>, defs: &[StructDef]) -> Result<(), Refuse> {
+    pub fn answer(&mut self, symbol: Option<Symbol>, defs: &[StructDef]) -> Result<(), Refuse>
+        ensures { (self.new.text ≡ self.old.text) × (self.new.mode ≡ self.old.mode) }
+    {
         match symbol {
             None => {
                 self.is_unknown = true;
@@ -298,7 +321,9 @@ impl Server {
     }
 
     /// Answers the tag that was asked for, with all structs so far; those of the answer before come first.
-    pub fn answer_tag(&mut self, defs: &[StructDef]) -> Result<(), Refuse> {
+    pub fn answer_tag(&mut self, defs: &[StructDef]) -> Result<(), Refuse>
+        ensures { (self.new.text ≡ self.old.text) × (self.new.mode ≡ self.old.mode) }
+    {
         add_defs(self.alloc, &mut self.defs, defs)?;
         Ok(())
     }
