@@ -17,6 +17,7 @@ use Rattle.ldb_top.specs.Ahead.{Lines, lines_of}
 use Rattle.ldb_top.specs.Comes.{Outside, EndsEarly, Comes, ComesTo, Served, SessionComes, SessionComesTo}
 use Rattle.ldb_top.specs.Late.{LateAs}
 use Rattle.ldb_top.specs.Names.{Names, names_of, names_in_debug, names_in_go}
+use Rattle.ldb_top.specs.Output.{is_there}
 use Rattle.ldb_top.specs.Said.{IsNamed}
 use Rattle.ldb_top.specs.Stops.{ending_of}
 use Rattle.ldb_top.specs.Why.{IsWhy, Begins, line_of, late_line}
@@ -38,17 +39,23 @@ told_comes form n old new (stop.Bad line) r (inl e) why said h u = subst (ComesT
 
 -- ---- a session
 
-pub served_comes : (form : Form) (n : Names) (old new : Outside) (r : Result Status Fault) → ((known : FileMap) → old.held ≡ Some known → Begins form n known) → Served (lines_of old.left) new.taken r → ComesTo form n old new r
-served_comes form n old new (Ok Done) b s = record { begun = b; read = s }
-served_comes form n old new (Ok TooLong) b s = inr (record { begun = b; late = s.0; before = s.1.0; told = s.1.1 })
-served_comes form n old new (Ok Refused) b s = absurd s
-served_comes form n old new (Ok Words) b s = absurd s
-served_comes form n old new (Ok ReadFault) b s = absurd s
-served_comes form n old new (Ok WriteFault) b s = absurd s
-served_comes form n old new (Ok NoMemory) b s = absurd s
-served_comes form n old new (Ok NoFile) b s = absurd s
-served_comes form n old new (Ok BadFile) b s = absurd s
-served_comes form n old new (Err f) b s = tt
+pub served_comes : (form : Form) (n : Names) (old new : Outside) (r : Result Status Fault) → ((known : FileMap) → old.held ≡ Some known → Begins form n known) → Served (lines_of old.left) new.taken r → OnOk r (is_there n.output new.held ≡ true)
+    → ComesTo form n old new r
+served_comes form n old new (Ok Done) b s t = record { begun = b; read = s; there = t }
+served_comes form n old new (Ok TooLong) b s t = inr (record { begun = b; late = s.0; before = s.1.0; told = s.1.1; there = t })
+served_comes form n old new (Ok Refused) b s t = absurd s
+served_comes form n old new (Ok Words) b s t = absurd s
+served_comes form n old new (Ok ReadFault) b s t = absurd s
+served_comes form n old new (Ok WriteFault) b s t = absurd s
+served_comes form n old new (Ok NoMemory) b s t = absurd s
+served_comes form n old new (Ok NoFile) b s t = absurd s
+served_comes form n old new (Ok BadFile) b s t = absurd s
+served_comes form n old new (Err f) b s t = tt
+
+-- what holds whatever is answered
+pub on_ok : {A E : Type 0} (r : Result A E) (P : Type 0) → P → OnOk r P
+on_ok (Ok x) P p = p
+on_ok (Err e) P p = tt
 
 -- the last line of one whose commands were too many
 pub served_late : (lines : Option Lines) (before taken : Option (List ℕ)) (r : Result Status Fault) → LateAs true lines → (r ≡ Ok TooLong) ⊎ (r ≡ Err fault.Write) → OnOk r (taken ≡ known_and before late_line) → Served lines taken r

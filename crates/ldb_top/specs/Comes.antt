@@ -8,6 +8,7 @@ use Rattle.ldb_top.specs.declared.status.Stop.{Stop}
 use Rattle.ldb_top.specs.Ahead.{Lines, lines_of}
 use Rattle.ldb_top.specs.Late.{LateAs}
 use Rattle.ldb_top.specs.Names.{Names, names_of}
+use Rattle.ldb_top.specs.Output.{is_there}
 use Rattle.ldb_top.specs.Stops.{ending_of}
 use Rattle.ldb_top.specs.Why.{IsWhy, Begins, line_of, late_line}
 use Rattle.ldb_top.specs.Words.{Form, Debug, Go}
@@ -30,10 +31,11 @@ pub record EndsEarly (form : Form) (n : Names) (old new : Outside) (status : Sta
   pub held_is : new.held ≡ old.held
   pub unread : new.left ≡ old.left
 
--- a session was begun, whose commands are not too long, or have a line `quit` before they are
-pub record EndsRead (form : Form) (n : Names) (old : Outside) : Type 0 where
+-- a session was begun, whose commands are not too long, or have a line `quit` before they are; its output file is there
+pub record EndsRead (form : Form) (n : Names) (old new : Outside) : Type 0 where
   pub begun : (known : FileMap) → old.held ≡ Some known → Begins form n known
   pub read : LateAs false (lines_of old.left)
+  pub there : is_there n.output new.held ≡ true
 
 -- a session was begun, and there were too many; this is said at last
 pub record EndsLate (form : Form) (n : Names) (old new : Outside) : Type 0 where
@@ -41,10 +43,11 @@ pub record EndsLate (form : Form) (n : Names) (old new : Outside) : Type 0 where
   pub late : LateAs true (lines_of old.left)
   pub before : Option (List ℕ)
   pub told : new.taken ≡ known_and before late_line
+  pub there : is_there n.output new.held ≡ true
 
 -- what each status says; those of faults say nothing here
 abbrev pub Comes : Form → Names → (old new : Outside) → Status → Type 0
-Comes form n old new Done = EndsRead form n old
+Comes form n old new Done = EndsRead form n old new
 Comes form n old new TooLong = EndsEarly form n old new TooLong ⊎ EndsLate form n old new
 Comes form n old new Refused = EndsEarly form n old new Refused
 Comes form n old new NoFile = EndsEarly form n old new NoFile

@@ -12,4 +12,4 @@ returns-in-Err-clause-missed g c = told_missed IsBuildStop (g.F.Files.missed c.o
 pub returns-in-Ok-clause-comes : goal.returns-in-Ok-clause-comes
 returns-in-Ok-clause-comes g c =
     served_comes Go (names_in_go c.args.request.now) (outside (g.F.Files.held c.args.files.now) (g.C.Source.left c.args.commands.now) (g.S.Sink.taken c.args.transcript.now))
-    (outside (g.F.Files.held c.run.new.files) (g.C.Source.left c.run.new.commands) (g.S.Sink.taken c.run.new.transcript)) c.run.result c.in-Ok.ensures.opens c.run.ensures.served
+    (outside (g.F.Files.held c.run.new.files) (g.C.Source.left c.run.new.commands) (g.S.Sink.taken c.run.new.transcript)) c.run.result c.in-Ok.ensures.opens c.run.ensures.served c.run.ensures.made
