@@ -1,33 +1,31 @@
 -- What a resume of a side comes to over nubs that meet their definition, part by part.
-use Rattle.std.proofs.Common.{◌≡◌, ◌∙◌, refl, sym, ap, subst, ℕ, Bool, true, false, List, [], ◌++◌, map, Option, Some, None, Result, Ok, Err, append-nil}
+use Rattle.std.proofs.Common.{◌≡◌, ◌∙◌, sym, ap, subst, ℕ, Bool, true, false, List, [], map, Option, Some, None, Ok, Err, append-nil}
 use Rattle.ldb_words.specs.declared.kinds.Order.{Order}
-use Rattle.ldb_edge.specs.Known.{known_and}
 use Rattle.machine_state.specs.Regions.{Regions}
 use Rattle.machine_state.specs.State.{MachineState, Behaviour, order_of}
 use Rattle.nub_wire.specs.declared.message.Ending.{Ending}
 use Rattle.nub_wire.specs.declared.link.Side.{Side}
 use Rattle.nub_wire.specs.Nub.{Host}
 use Rattle.nub_wire.specs.Delivery.{Conduct, World}
-use Rattle.nub_wire.specs.Fits.{Reached, begins}
-use Rattle.nub_wire.specs.Resumes.{Whole, run_from, after_run}
+use Rattle.nub_wire.specs.Fits.{begins}
+use Rattle.nub_wire.specs.Resumes.{Whole, run_from}
 use Rattle.frame_bytes.specs.Bytes.{Bytes}
-use Rattle.abs_mem.specs.WireMeaning.{wire_seen, memory_of}
+use Rattle.abs_mem.specs.WireMeaning.{wire_seen}
 use Rattle.wire_talk.specs.declared.fault.TalkFault.{TalkFault}
 use Rattle.wire_talk.specs.declared.fault.TalkFault.TheVariants as talk
 use Rattle.resuming.specs.declared.fault.RunFault.{RunFault}
 use Rattle.resuming.specs.declared.fault.RunFault.TheVariants as fault
-use Rattle.resuming.specs.Runs.{TakesFront, RunTold}
+use Rattle.resuming.specs.Runs.{RunTold}
 use Rattle.resuming.specs.Standing.{Stands}
 use Rattle.resuming.proofs.Taken.{known_none, none_taken}
 use Rattle.break_plant.specs.Planted.{noop_of}
 use Rattle.table_points.specs.declared.row.Point.{Point}
 use Rattle.debug_side.specs.declared.event.Event.{Event}
-use Rattle.debug_side.specs.declared.point.MachineKind.{MachineKind}
 use Rattle.debug_side.specs.declared.point.SideRow.{SideRow}
 use Rattle.debug_side.specs.Meant.{address_of, event_of, keeps_words}
 use Rattle.debug_side.specs.Wrote.{Wrote, words_put, passed, Puts}
-use Rattle.debug_side.specs.Told.{KeepsOrder, MayRun, with_regions, moved, behind, put_by, came, at_event, CameTold, moved_there, its_run, its_event, its_output, host_at_event, host_behind}
-use Rattle.debug_side.proofs.Told.{StandsWith, put_stands, never_bad, run_reached, reached_from}
+use Rattle.debug_side.specs.Told.{KeepsOrder, MayRun, with_regions, moved, behind, put_by, came, at_event, CameTold}
+use Rattle.debug_side.proofs.Told.{put_stands, never_bad, run_reached, reached_from}
 
 module _ (b : Behaviour) (c : Conduct) (side : Side) (beside : Option Host) where
   -- a side that keeps its event

@@ -1,4 +1,9 @@
 pub mod Planted
+pub mod Undone
+pub mod Stepped
+pub mod Places
+pub mod Undoing
+pub mod Replanted
 pub mod Putting
 pub mod Resuming
 pub mod Told

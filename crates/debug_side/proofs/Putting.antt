@@ -21,7 +21,7 @@ use Rattle.debug_side.specs.Wrote.{Writes, none_written, writes, Wrote, or_same,
 
 -- ---- one word
 
-stored_word : (b : Bytes) (at w : ℕ) → stored b Memory at Word w ≡ put_back b (or_none (write_of b.order b.regions at 4 w))
+pub stored_word : (b : Bytes) (at w : ℕ) → stored b Memory at Word w ≡ put_back b (or_none (write_of b.order b.regions at 4 w))
 unfolding stored
 stored_word b at w = refl
 

@@ -1,26 +1,22 @@
 -- A side over nubs that meet their definition: its memory, its words and its run.
-use Rattle.std.proofs.Common.{◌≡◌, ◌∙◌, refl, sym, ap, subst, ℕ, zero, suc, nat_eq, Bool, true, false, if◌then◌else◌, List, [], Option, Some, None, Result, Ok, Err, inr}
+use Rattle.std.proofs.Common.{◌≡◌, ◌∙◌, refl, sym, ap, subst, ℕ, zero, suc, nat_eq, Bool, true, false, if◌then◌else◌, Option, Some, Result, Err, inr}
 use Rattle.ldb_words.specs.declared.kinds.Order.{Order}
 use Rattle.ldb_words.specs.declared.event.Event.{Event}
 use Rattle.ldb_words.specs.declared.event.Event.TheVariants as event
 use Rattle.ldb_words.specs.declared.event.Outside.{Outside}
-use Rattle.ldb_edge.specs.Known.{known_and}
-use Rattle.machine_state.specs.Regions.{Regions, write_of}
+use Rattle.machine_state.specs.Regions.{Regions}
 use Rattle.machine_state.specs.Sound.{IsMemory}
 use Rattle.machine_state.specs.State.{MachineState, Behaviour, order_of, with_memory}
 use Rattle.machine_state.specs.Runs.{Ran, Turn, Goes, Ends, requested, answered, turn_by, met, run_of}
-use Rattle.machine_state.specs.declared.target.Cause.TheVariants as cause
 use Rattle.nub_wire.specs.declared.link.Side.{Side}
 use Rattle.nub_wire.specs.Nub.{NubState, Host, host}
-use Rattle.nub_wire.specs.Delivery.{Conduct, nubs_over, World, side_of}
+use Rattle.nub_wire.specs.Delivery.{Conduct, World, side_of}
 use Rattle.nub_wire.specs.Rest.{other}
 use Rattle.nub_wire.specs.AtOnce.{MeetsMemory}
-use Rattle.nub_wire.specs.Fits.{Reached, begins, stepped, saved, restored, taken, stored, given, AlwaysTellsWords, TellsFitting}
+use Rattle.nub_wire.specs.Fits.{Reached, begins, stepped, saved, restored, taken, stored, given, TellsFitting}
 use Rattle.nub_wire.specs.Resumes.{run_from}
 use Rattle.frame_bytes.specs.Bytes.{Bytes}
-use Rattle.abs_mem.specs.Meaning.{Seen}
 use Rattle.abs_mem.specs.WireMeaning.{WireRest, IsBeside, memory_of, rest_of, WireTells, wire_seen}
-use Rattle.wire_talk.specs.declared.fault.TalkFault.{TalkFault}
 use Rattle.wire_talk.specs.declared.fault.TalkFault.TheVariants as talk
 use Rattle.resuming.specs.Standing.{Stands}
 use Rattle.debug_side.specs.Wrote.{Writes, none_written, writes, Wrote, Puts}

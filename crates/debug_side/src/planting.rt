@@ -4,7 +4,7 @@ ghost use Rattle.std.specs.Prelude.{◌≡◌, ◌⊎◌, ◌+◌, ◌<◌, ◌�
 ghost use Rattle.table_points.specs.declared.row.Point.{Point};
 ghost use Rattle.machine_state.specs.declared.layout.TheConstants.{MIPS, SPARC};
 ghost use Rattle.abs_mem.specs.Meaning.{Led};
-ghost use Rattle.debug_side.specs.Planting.{PlantsOne, GivesUp, LedOn, mem_fault, kept_with};
+ghost use Rattle.debug_side.specs.Planting.{PlantsOne, PlantsAll, GivesUp, LedOn, mem_fault, kept_with};
 
 use crate::words::unplant_back;
 use abs_mem::{AbsMem, MemFault};
@@ -83,6 +83,7 @@ pub fn plant_for_step<M: AbsMem>(
     points: &mut Vec<Point>,
 ) -> Result<(), MemFault>
     requires known { (target ≡ MIPS) ⊎ (target ≡ SPARC) }
+    ensures meaning { PlantsAll target points.old.items (M.seen m.old) result points.new.items (M.seen m.new) }
     ensures calls { Led M.leads m.old result m.new }
 {
     let mut kept = 0;

@@ -6,7 +6,7 @@ use Rattle.nub_wire.specs.Nub.{Host}
 use Rattle.resuming.specs.Runs.{RunTold}
 use Rattle.resuming.specs.Standing.{Stands}
 use Rattle.debug_side.specs.declared.event.Event.{Event}
-use Rattle.debug_side.specs.Told.{MayRun, moved_there, its_run, its_event, its_output, host_at_event}
+use Rattle.debug_side.specs.Told.{moved_there, its_run, its_event, its_output, host_at_event}
 use Rattle.debug_side.proofs.Coming.{kept_told, not_moved, passed_on, may_run, run_failed, run_came}
 use Rattle.debug_side.proofs.Resuming.{counts_talk, counts_after, counts_other, called_none, called_badly, called_run, called_fault, puts_count}
 use Rattle.debug_side.proofs.resume.meet.Goals as goal

@@ -1,0 +1,4 @@
+pub mod Steps
+pub mod Mips
+pub mod Sparc
+pub mod Runs
