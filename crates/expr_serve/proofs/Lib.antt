@@ -2,3 +2,4 @@ pub mod Texts
 mod Growing
 mod Arms
 mod Examples
+mod Refusing

@@ -1,3 +1,4 @@
 pub mod Texts
 pub mod Operators
 pub mod Codes
+pub mod Serving

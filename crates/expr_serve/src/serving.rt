@@ -1,11 +1,17 @@
 // Serving an expression: its names and tags are asked for, and then its text is made.
 
-ghost use Rattle.std.specs.Prelude.{◌≡◌, ◌≤◌, length, List, IfOk, OnOk, Err};
+ghost use Rattle.std.specs.Prelude.{◌≡◌, ◌≤◌, ◌++◌, ◌∷◌, [], ℕ, length, List, map, option_map, IfOk, OnOk, Ok, Err};
+ghost use Rattle.std.specs.List.{list_any};
 ghost use Rattle.c_lex.specs.declared.token.Token.{Token as Piece};
 ghost use Rattle.c_lex.specs.Grammar.{HasTokens};
 ghost use Rattle.c_symbol.specs.Terminals.{terminals};
+ghost use Rattle.c_expr.specs.Grammar.{Spells};
+ghost use Rattle.c_tree.specs.Types.{type_of};
+ghost use Rattle.c_typing.specs.Plain.{plain};
 ghost use Rattle.expr_serve.specs.declared.fault.Refuse.TheVariants.{Syntax as NoExpression};
 ghost use Rattle.expr_serve.specs.Texts.{AreExpression, IsExpression};
+ghost use Rattle.expr_serve.specs.Codes.{text_of as text_in};
+ghost use Rattle.expr_serve.specs.Serving.{IsByGrammar, IsParsed, IsChecked, refusal_of, IsTold, IsTurn, is_tagged, is_named, is_known as known, asked as asks, IsMention, member_as, struct_as, IsLonger, Stays, TakesName, TakesTag, given_type as type_given};
 
 use crate::coder::text_of;
 use crate::fault::Refuse;
@@ -51,6 +57,7 @@ pub enum Turn {
 fn tokens_of(alloc: Global, text: &[u8]) -> Result<Vec<Token>, Refuse>
     ensures tokens { IfOk result (λ found. HasTokens text.now found.items) }
     ensures none { result ≡ Err NoExpression → length text.now ≤ 1000 → (ts : List Piece) → HasTokens text.now ts → ⊥ }
+    ensures reasons { IsByGrammar result }
 {
     if text.len() > MOST_BYTES {
         return Err(Refuse::Syntax);
@@ -65,8 +72,10 @@ fn tokens_of(alloc: Global, text: &[u8]) -> Result<Vec<Token>, Refuse>
 
 /// The tree of a text with these tokens.
 fn tree_of(alloc: Global, text: &[u8], tokens: &[Token]) -> Result<Expr, Refuse>
+    ensures read { IfOk result (λ e. (h : ℕ) × (h ≤ 64) × Spells (terminals text.now tokens.now) e h) }
     ensures tree { OnOk result (AreExpression (terminals text.now tokens.now)) }
     ensures none { result ≡ Err NoExpression → AreExpression (terminals text.now tokens.now) → ⊥ }
+    ensures reasons { IsByGrammar result }
 {
     match parse_expr(alloc, text, tokens) {
         Ok(expr) => Ok(expr),
@@ -96,8 +105,20 @@ fn mentions_of(alloc: Global, text: &[u8]) -> Result<Vec<Mention>, Refuse>
     }
 }
 
+/// The tree of a text.
+fn parsed(alloc: Global, text: &[u8]) -> Result<Expr, Refuse>
+    ensures { IsParsed text.now result }
+{
+    match tokens_of(alloc, text) {
+        Err(refused) => Err(refused),
+        Ok(found) => tree_of(alloc, text, found.as_slice()),
+    }
+}
+
 /// Why the checker refused.
-fn refused_by(fault: &ExprFault) -> Refuse {
+fn refused_by(fault: &ExprFault) -> Refuse
+    ensures { result ≡ refusal_of fault.now }
+{
     match fault {
         ExprFault::Scope { .. } => Refuse::Scope,
         ExprFault::Rule { .. } | ExprFault::Forbidden { .. } => Refuse::Rule,
@@ -112,12 +133,13 @@ fn checked(
     mode: Mode,
     symbols: &[Symbol],
     defs: &[StructDef],
-) -> Result<Typed, Refuse> {
+) -> Result<Typed, Refuse>
+    ensures { IsChecked text.now mode symbols.now defs.now result }
+{
     if symbols.len() > MOST_ROWS || defs.len() > MOST_ROWS {
         return Err(Refuse::NoMemory);
     }
-    let found = tokens_of(alloc, text)?;
-    match tree_of(alloc, text, found.as_slice()) {
+    match parsed(alloc, text) {
         Err(refused) => Err(refused),
         Ok(expr) => {
             let result = check_expr(alloc, &expr, symbols, defs, mode);
@@ -131,7 +153,9 @@ fn checked(
 }
 
 /// The type of the value of a checked expression: an array is a pointer.
-fn given_type(typed: &Typed, mode: Mode) -> Result<CType, AllocError> {
+fn given_type(typed: &Typed, mode: Mode) -> Result<CType, AllocError>
+    ensures { IfOk result (λ t. plain t ≡ type_given mode (type_of typed.now)) }
+{
     let t = &head_of(typed).ctype;
     match mode {
         Mode::Value => value_type(t),
@@ -146,14 +170,19 @@ fn told(
     mode: Mode,
     symbols: &[Symbol],
     defs: &[StructDef],
-) -> Result<(Text, CType), AllocError> {
+) -> Result<(Text, CType), AllocError>
+    ensures text { IfOk result (λ told. told.0 ≡ text_in symbols.now defs.now mode typed.now) }
+    ensures ctype { IfOk result (λ told. plain told.1 ≡ type_given mode (type_of typed.now)) }
+{
     let ctype = given_type(typed, mode)?;
     let postscript = text_of(alloc, typed, mode, symbols, defs)?;
     Ok((postscript, ctype))
 }
 
 /// A copy of a struct's members.
-fn copied_members(alloc: Global, members: &[Member]) -> Result<Many<Member>, AllocError> {
+fn copied_members(alloc: Global, members: &[Member]) -> Result<Many<Member>, AllocError>
+    ensures { IfOk result (λ r. map member_as r ≡ map member_as members.now) }
+{
     let mut copies = Many::new(alloc);
     for member in members {
         let name = Text::from_slice(alloc, member.name.as_bytes())?;
@@ -168,7 +197,9 @@ fn copied_members(alloc: Global, members: &[Member]) -> Result<Many<Member>, All
 }
 
 /// A copy of a struct.
-fn copied_def(alloc: Global, def: &StructDef) -> Result<StructDef, AllocError> {
+fn copied_def(alloc: Global, def: &StructDef) -> Result<StructDef, AllocError>
+    ensures { IfOk result (λ r. struct_as r ≡ struct_as def.now) }
+{
     let tag = Text::from_slice(alloc, def.tag.as_bytes())?;
     let members = copied_members(alloc, def.members.as_slice())?;
     Ok(StructDef {
@@ -178,31 +209,73 @@ fn copied_def(alloc: Global, def: &StructDef) -> Result<StructDef, AllocError> {
     })
 }
 
-/// Adds copies of the structs behind those that are there.
-fn add_defs(alloc: Global, defs: &mut Vec<StructDef>, all: &[StructDef]) -> Result<(), AllocError> {
-    let known = defs.len();
-    if let Some(more) = all.get(known..) {
-        for def in more {
-            let copy = copied_def(alloc, def)?;
-            defs.push(copy)?;
-        }
+/// Adds copies of structs.
+fn add_copies(
+    alloc: Global,
+    defs: &mut Vec<StructDef>,
+    more: &[StructDef],
+) -> Result<(), AllocError>
+    ensures { OnOk result (map struct_as defs.new.items ≡ map struct_as (defs.old.items ++ more.now)) }
+{
+    for def in more {
+        let copy = copied_def(alloc, def)?;
+        defs.push(copy)?;
     }
     Ok(())
 }
 
+/// Adds copies of the structs behind those that are there.
+fn add_defs(alloc: Global, defs: &mut Vec<StructDef>, all: &[StructDef]) -> Result<(), AllocError>
+    ensures { OnOk result (IsLonger defs.old.items all.now defs.new.items) }
+{
+    let known = defs.len();
+    match all.get(known..) {
+        Some(more) => add_copies(alloc, defs, more),
+        None => Ok(()),
+    }
+}
+
 /// Adds a name.
-fn add_symbol(symbols: &mut Vec<Symbol>, symbol: Symbol) -> Result<(), AllocError> {
+fn add_symbol(symbols: &mut Vec<Symbol>, symbol: Symbol) -> Result<(), AllocError>
+    ensures { OnOk result (symbols.new.items ≡ symbols.old.items ++ symbol ∷ []) }
+{
     symbols.push(symbol)?;
     Ok(())
 }
 
+/// Whether a struct has this tag.
+fn has_tag(defs: &[StructDef], tag: &[u8]) -> bool
+    ensures { result ≡ list_any (is_tagged tag.now) defs.now }
+{
+    for def in defs {
+        if def.tag.as_bytes() == tag {
+            return true;
+        }
+    }
+    false
+}
+
+/// Whether a symbol has this name.
+fn has_name(symbols: &[Symbol], name: &[u8]) -> bool
+    ensures { result ≡ list_any (is_named name.now) symbols.now }
+{
+    for symbol in symbols {
+        if symbol.name.as_bytes() == name {
+            return true;
+        }
+    }
+    false
+}
+
 /// Whether a name or a tag was answered already.
-fn is_known(mention: &Mention, symbols: &[Symbol], defs: &[StructDef]) -> bool {
+fn is_known(mention: &Mention, symbols: &[Symbol], defs: &[StructDef]) -> bool
+    ensures { result ≡ known mention.now symbols.now defs.now }
+{
     let text = mention.text.as_bytes();
     if mention.is_tag {
-        defs.iter().any(|def| def.tag.as_bytes() == text)
+        has_tag(defs, text)
     } else {
-        symbols.iter().any(|symbol| symbol.name.as_bytes() == text)
+        has_name(symbols, text)
     }
 }
 
@@ -211,6 +284,7 @@ impl Server {
     pub fn start(alloc: Global, text: &[u8], mode: Mode) -> Result<Server, Refuse>
         ensures text { OnOk result (IsExpression text.now) }
         ensures none { result ≡ Err NoExpression → length text.now ≤ 1000 → IsExpression text.now → ⊥ }
+        ensures begun { IfOk result (λ server. (server.text ≡ text.now) × (server.mode ≡ mode)) }
     {
         let mentions = match mentions_of(alloc, text) {
             Ok(mentions) => mentions,
@@ -231,7 +305,9 @@ impl Server {
     }
 
     /// The next name or tag that was not answered, if there is one.
-    fn next_open(&self) -> Option<&Mention> {
+    fn next_open(&self) -> Option<&Mention>
+        ensures { option_map (λ m. m.now) result ≡ asks self.now }
+    {
         for mention in self.mentions.as_slice() {
             if !is_known(mention, self.symbols.as_slice(), self.defs.as_slice()) {
                 return Some(mention);
@@ -241,7 +317,9 @@ impl Server {
     }
 
     /// What is asked for next: a text, and whether it is a tag.
-    fn asked(&self) -> Result<Option<(Text, bool)>, AllocError> {
+    fn asked(&self) -> Result<Option<(Text, bool)>, AllocError>
+        ensures { IfOk result (λ found. IsMention found (asks self.now)) }
+    {
         match self.next_open() {
             None => Ok(None),
             Some(mention) => {
@@ -252,7 +330,9 @@ impl Server {
     }
 
     /// The text of the expression, once all names and tags were answered, and its type.
-    fn finished(&self) -> Result<(Text, CType), Refuse> {
+    fn finished(&self) -> Result<(Text, CType), Refuse>
+        ensures { IsTold self.now result }
+    {
         let symbols = self.symbols.as_slice();
         let defs = self.defs.as_slice();
         match checked(self.alloc, self.text.as_bytes(), self.mode, symbols, defs) {
@@ -260,30 +340,40 @@ impl Server {
             Ok(typed) => {
                 let result = told(self.alloc, &typed, self.mode, symbols, defs);
                 drop(typed);
-                Ok(result?)
+                match result {
+                    Ok(told) => Ok(told),
+                    Err(_) => Err(Refuse::NoMemory),
+                }
             }
         }
     }
 
     /// Asks for the next name or tag, each once and in the order of the text, or gives the text of PostScript. Scope comes only
     /// where a name was answered to be none, Rule where a typing rule is broken or a form stands in the text that is forbidden.
-    pub fn advance(self) -> Result<Turn, Refuse> {
+    #[tactic(auto, using(crate::proofs::Refusing::out_of_scope, crate::proofs::Refusing::refused_turn, crate::proofs::Refusing::wanting_turn))]
+    pub fn advance(self) -> Result<Turn, Refuse>
+        ensures { IsTurn self result }
+    {
         if self.is_unknown {
             return Err(Refuse::Scope);
         }
         let server = self;
-        match server.asked()? {
-            Some((text, true)) => Ok(Turn::AskTag { tag: text, server }),
-            Some((text, false)) => Ok(Turn::Ask { name: text, server }),
-            None => {
-                let (postscript, ctype) = server.finished()?;
-                Ok(Turn::Done { postscript, ctype })
-            }
+        match server.asked() {
+            Err(_) => Err(Refuse::NoMemory),
+            Ok(Some((text, true))) => Ok(Turn::AskTag { tag: text, server }),
+            Ok(Some((text, false))) => Ok(Turn::Ask { name: text, server }),
+            Ok(None) => match server.finished() {
+                Err(refused) => Err(refused),
+                Ok((postscript, ctype)) => Ok(Turn::Done { postscript, ctype }),
+            },
         }
     }
 
     /// Answers the name that was asked for, with all structs so far; those of the answer before come first.
-    pub fn answer(&mut self, symbol: Option<Symbol>, defs: &[StructDef]) -> Result<(), Refuse> {
+    pub fn answer(&mut self, symbol: Option<Symbol>, defs: &[StructDef]) -> Result<(), Refuse>
+        ensures text { Stays self.old self.new }
+        ensures answered { TakesName self.old symbol defs.now self.new result }
+    {
         match symbol {
             None => {
                 self.is_unknown = true;
@@ -298,7 +388,10 @@ impl Server {
     }
 
     /// Answers the tag that was asked for, with all structs so far; those of the answer before come first.
-    pub fn answer_tag(&mut self, defs: &[StructDef]) -> Result<(), Refuse> {
+    pub fn answer_tag(&mut self, defs: &[StructDef]) -> Result<(), Refuse>
+        ensures text { Stays self.old self.new }
+        ensures answered { TakesTag self.old defs.now self.new result }
+    {
         add_defs(self.alloc, &mut self.defs, defs)?;
         Ok(())
     }

@@ -1,0 +1,7 @@
+mod Small
+mod Numbers
+mod Names
+mod Stepping
+mod Operating
+mod Values
+mod Texts

@@ -1,0 +1,39 @@
+// What holds of texts that have the value of an expression.
+
+ghost use Rattle.std.specs.Prelude.{◌≡◌, ◌≤◌, ◌+◌, suc, true, false, List, ◌∷◌, None, length, codes};
+ghost use Rattle.c_tree.specs.declared.typed.Typed.{Typed};
+ghost use Rattle.c_tree.specs.Types.{type_of, is_struct};
+ghost use Rattle.c_judge.specs.declared.symbol.Symbol.{Symbol};
+ghost use Rattle.c_judge.specs.declared.check.Mode.TheVariants.{Value};
+ghost use Rattle.ps_store.specs.declared.object.PsObj.{PsObj};
+ghost use Rattle.ps_store.specs.declared.object.PsObj.TheVariants.{Array};
+ghost use Rattle.ps_store.specs.declared.object.ArrayId.{ArrayId};
+ghost use Rattle.ps_store.specs.declared.object.DictId.{DictId};
+ghost use Rattle.ps_store.specs.declared.object.StringId.{StringId};
+ghost use Rattle.ps_store.specs.StoreState.{StoreState};
+ghost use Rattle.ps_store.specs.Store.{elements_of};
+ghost use Rattle.ps_step.specs.declared.item.Item.{Item};
+ghost use Rattle.ps_step.specs.declared.item.Item.TheVariants.{Object};
+ghost use Rattle.ps_step.specs.Item.{under_stopped};
+ghost use Rattle.ps_text.specs.Code.{Stop, Word, Proc};
+ghost use Rattle.ps_text.specs.Grown.{IsString, HasArray};
+ghost use Rattle.ps_text.specs.Spells.{Spells, Fine, size, units};
+ghost use Rattle.ps_terms.specs.Stands.{core};
+ghost use Rattle.dialect_model.specs.Dial.{Dial};
+ghost use Rattle.dialect_model.specs.TableUse.{TableUse};
+ghost use Rattle.c_bytes.specs.Lvalues.{Scene};
+ghost use Rattle.expr_serve.specs.Codes.{value_code, text_of};
+ghost use Rattle.serving_laws.specs.Plain.{IsPlain, RoomFor};
+ghost use Rattle.serving_laws.specs.Left.{AreOperators, AreLeft, AreServed};
+
+/// A text of a scalar expression that needs no memory, once it is executed as a string, is read as one procedure, which is run: it leaves the expression's value, or the run
+/// ends by the error of what is undefined in it. The text's words and numbers are tokens, and the store has room for its objects.
+pub fn texts_are_served()
+    ensures { (sc : Scene) (t : TableUse) (names : List Symbol) (e : Typed) (s : StoreState) (ds : List DictId) (o : List PsObj) (items : List Item) (i : StringId) (d : Dial) → AreOperators s ds → IsPlain sc.defs e → is_struct (type_of e) ≡ false → RoomFor e (length o) (suc (length items)) → under_stopped items ≡ None → IsString s i (text_of names sc.defs Value e) → Fine (value_code names sc.defs e) → size (value_code names sc.defs e) ≤ 1000000 → s.table.units + s.command.units + units (Proc (value_code names sc.defs e) (Word (codes "exec") Stop)) ≤ 8000000 → AreServed names sc e t s ds o items i d }
+{}
+
+/// A procedure with the pieces of an expression that needs no memory, once it is executed, leaves the value that the expression has over the target's bytes, whatever these
+/// are; or the run ends by the error of what is undefined in it. No `stopped` is open, and the stacks have room.
+pub fn values_are_left()
+    ensures { (sc : Scene) (t : TableUse) (names : List Symbol) (e : Typed) (s : StoreState) (ds : List DictId) (o : List PsObj) (items : List Item) (a : ArrayId) (d : Dial) → AreOperators s ds → IsPlain sc.defs e → RoomFor e (length o) (length items) → under_stopped items ≡ None → HasArray s a → Spells s (elements_of s a) (value_code names sc.defs e) → AreLeft sc e t s ds o items d (core s ds o (Object (Array a true) ∷ items)) }
+{}

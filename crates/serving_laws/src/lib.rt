@@ -1,0 +1,6 @@
+//! What runs of the expression server's texts come to.
+#![tactic(auto)]
+
+mod laws;
+
+pub use laws::{texts_are_served, values_are_left};
