@@ -1,1 +1,4 @@
 pub mod Lines
+pub mod Doing
+pub mod Frames
+pub mod Breaks

@@ -4,6 +4,10 @@ ghost use Rattle.std.specs.Prelude.{◌≡◌, ◌≤◌, IfErr};
 ghost use Rattle.ps_store.specs.Store.{closed_part};
 ghost use Rattle.table_asks.specs.Closing.{Settles};
 ghost use Rattle.table_asks.specs.Faults.{IsUnrefused};
+ghost use Rattle.table_asks.specs.Asking.{ComesOver, LedAsk};
+ghost use Rattle.table_asks.specs.Talking.{with_target};
+ghost use Rattle.table_model.specs.Frames.{row_of_target};
+ghost use Rattle.asking.specs.Frames.{choosing};
 
 use crate::lines::{append_frame, frames_text};
 use abs_mem::{AbsMem, WalkFault, told};
@@ -130,6 +134,9 @@ pub fn choosing<W: AbsMem + Drop>(
     ensures limit { inquiry.new.steps.limit ≡ inquiry.old.steps.limit }
     ensures more { inquiry.old.steps.taken ≤ inquiry.new.steps.taken }
     ensures closed { Settles (closed_part inquiry.old.core.store) (closed_part inquiry.new.core.store) }
+    ensures meaning { ComesOver (choosing (row_of_target talk.old.view.target) talk.old.view.context number) inquiry.old (W.seen talk.old.memory.below.below.below) result inquiry.new (W.seen talk.new.memory.below.below.below) }
+    ensures calls { LedAsk W.leads talk.old.memory.below.below.below result talk.new.memory.below.below.below }
+    ensures kept { talk.new ≡ with_target talk.old talk.new.memory.below.below.below }
 {
     match frame_told(inquiry, talk, number) {
         Err(fault) => Err(fault),

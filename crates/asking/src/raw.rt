@@ -1,10 +1,13 @@
 // `regs` and `ps`: commands about the target itself.
 
-ghost use Rattle.std.specs.Prelude.{◌≡◌, ◌≤◌, IfErr};
+ghost use Rattle.std.specs.Prelude.{◌≡◌, ◌++◌, ◌≤◌, OnOk, IfOk, IfErr, codes};
+ghost use Rattle.ps_leaves.specs.Forms.{hex_text};
+ghost use Rattle.asking.specs.Lines.{target_text};
 ghost use Rattle.ps_store.specs.Store.{closed_part};
 ghost use Rattle.table_asks.specs.Closing.{Settles};
 ghost use Rattle.table_asks.specs.Faults.{IsUnrefused};
 
+use crate::lines::append_hex;
 use crate::shown::begin_talk;
 use abs_mem::AbsMem;
 use frame_bytes::{Place, Space};
@@ -21,13 +24,17 @@ use table_asks::{AskFault, Inquiry, begin_run, memory_fault, run_object};
 const CONTEXT_WORDS: u32 = 36;
 
 /// Adds a word in eight hexadecimal digits behind a space.
-fn append_word(alloc: Global, out: &mut Text, word: u32) -> Result<(), AllocError> {
-    let digits = format!(in alloc; " {word:08x}")?;
-    out.append(digits.as_bytes())
+fn append_word(out: &mut Text, word: u32) -> Result<(), AllocError>
+    ensures { OnOk result (out.new ≡ out.old ++ (codes " " ++ hex_text 8 word)) }
+{
+    out.append(b" ")?;
+    append_hex(out, 8, word)
 }
 
 /// The word of a line of registers, and its target.
-fn head_of(alloc: Global, target: u8) -> Result<Text, AllocError> {
+fn head_of(alloc: Global, target: u8) -> Result<Text, AllocError>
+    ensures { IfOk result (λ t. t ≡ codes "regs " ++ target_text target) }
+{
     if target == SPARC {
         Text::from_slice(alloc, b"regs sparc")
     } else {
@@ -50,7 +57,7 @@ pub fn registers<W: AbsMem + Drop>(alloc: Global, talk: &mut Operators<W>) -> Re
         match m.fetch(Place { space, at }, Kind::Word) {
             Err(fault) => return Err(memory_fault(fault)),
             Ok(word) => {
-                if append_word(alloc, &mut out, word).is_err() {
+                if append_word(&mut out, word).is_err() {
                     return Err(AskFault::NoMemory);
                 }
             }

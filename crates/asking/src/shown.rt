@@ -3,6 +3,7 @@
 ghost use Rattle.std.specs.Prelude.{◌≡◌, ◌≤◌};
 ghost use Rattle.ps_store.specs.Store.{closed_part};
 ghost use Rattle.table_asks.specs.Closing.{Settles};
+ghost use Rattle.asking.specs.Doing.{talk_in};
 
 use crate::lines::value_text;
 use crate::parts::parts_left;
@@ -37,7 +38,9 @@ pub fn begin_talk<W: AbsMem + Drop>(
     talk: &mut Operators<W>,
     standing: Standing,
     raw: bool,
-) {
+)
+    ensures { talk.new ≡ talk_in talk.old standing raw }
+{
     talk.view.standing = standing;
     talk.view.raw = raw;
     talk.memory.below.cell = 0;
