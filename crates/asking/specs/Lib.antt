@@ -1,1 +1,5 @@
 pub mod Lines
+pub mod Doing
+pub mod Frames
+pub mod Raw
+pub mod Breaks

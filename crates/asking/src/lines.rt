@@ -1,6 +1,7 @@
 // Lines of replies.
 
-ghost use Rattle.std.specs.Prelude.{◌≡◌, ◌∷◌, ◌++◌, [], OnOk, IfOk, codes, decimal};
+ghost use Rattle.std.specs.Prelude.{◌≡◌, ◌<◌, ◌∷◌, ◌++◌, [], OnOk, IfOk, codes, decimal};
+ghost use Rattle.ps_leaves.specs.Forms.{hex_digit, hex_text};
 ghost use Rattle.table_points.specs.Rows.{row_in};
 ghost use Rattle.asking.specs.Lines.{line, place_text, frame_text};
 
@@ -15,6 +16,25 @@ fn append_decimal(alloc: Global, out: &mut Text, n: u32) -> Result<(), AllocErro
 {
     let digits = format!(in alloc; "{n}")?;
     out.append(digits.as_bytes())
+}
+
+/// A hexadecimal digit of a number below 16, in lower case.
+fn hex_digit(n: u8) -> u8
+    requires { n < 16 }
+    ensures { result ≡ hex_digit n }
+{
+    if n < 10 { 48 + n } else { 87 + n }
+}
+
+/// Adds so many hexadecimal digits. It is as deep as it adds digits.
+pub fn append_hex(out: &mut Text, digits: u32, n: u32) -> Result<(), AllocError>
+    ensures { OnOk result (out.new ≡ out.old ++ hex_text digits n) }
+{
+    if digits == 0 {
+        return Ok(());
+    }
+    append_hex(out, digits - 1, n / 16)?;
+    out.push(hex_digit((n % 16) as u8))
 }
 
 /// Adds a point's place, `F:L.C`.

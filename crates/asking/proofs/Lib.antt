@@ -1,0 +1,7 @@
+mod Asked
+mod Changed
+mod Chosen
+mod Listed
+mod Rows
+mod Ps
+mod Operands
