@@ -1,5 +1,7 @@
 -- The names of the files of a session, among its words.
-use Rattle.std.specs.Prelude.{ℕ, List, [], ◌∷◌, ◌++◌, map, string_bytes}
+use Rattle.std.specs.Prelude.{ℕ, Bool, List, [], ◌∷◌, ◌++◌, map, string_bytes}
+use Rattle.std.specs.List.{list_any}
+use Rattle.std.specs.Str.{bytes_eq}
 use Rattle.cc_call.specs.Lines.{name_in}
 use Rattle.ldb_top.specs.declared.words.DebugRequest.{DebugRequest}
 use Rattle.ldb_top.specs.declared.words.GoRequest.{GoRequest}
@@ -10,6 +12,10 @@ pub record Names : Type 0 where
   pub about : List (List ℕ)
   pub input : List ℕ
   pub output : List ℕ
+
+-- a name is one of some
+abbrev pub is_among : List ℕ → List (List ℕ) → Bool
+is_among name names = list_any (bytes_eq name) names
 
 -- those that are read, in their order
 abbrev pub read_names : Names → List (List ℕ)

@@ -1,7 +1,9 @@
-use Rattle.std.proofs.Common.{◌∙◌, length, map, string_bytes, sym, subst}
+use Rattle.std.proofs.Common.{◌<◌, ◌∙◌, length, map, string_bytes, sym, ap, subst}
+use Rattle.std.proofs.lemmas.List.{length-map}
 use Rattle.cc_call.specs.Found.{AreFound, IsFoundOf, IsMissedOf}
 use Rattle.ldb_top.proofs.Fronted.{all_there, source_stop}
-use Rattle.ldb_top.proofs.Stopped.{missing_stops, name_read}
+use Rattle.ldb_top.specs.Names.{is_among}
+use Rattle.ldb_top.proofs.Stopped.{missing_stops, name_read, among_at}
 use Rattle.ldb_top.proofs.reading.read_sources.Goals as goal
 
 pub returns-in-Ok-Missing-clause-cause : goal.returns-in-Ok-Missing-clause-cause
@@ -11,7 +13,8 @@ returns-in-Ok-Missing-clause-cause g c =
     let below = subst (IsFoundOf (length names)) c.in-Ok-Missing.field-0-is c.in-Ok-Missing.ensures.count in
     let told = subst (IsMissedOf missed (map string_bytes names)) c.in-Ok-Missing.field-0-is c.in-Ok-Missing.ensures.missed in
     let name = c.as_str.ensures.value ∙ name_read names c.in-Ok-Missing.number c.index-names-number.result below c.index-names-number.is in
-    missing_stops missed _ _ c.as_str.result.now c.missing.result c.missing.ensures (subst missed (sym name) told) c.in-Ok-Missing.ensures.cause
+    let among = ap (λ n. is_among n (map string_bytes names)) name ∙ among_at (map string_bytes names) c.in-Ok-Missing.number (subst (λ n. c.in-Ok-Missing.number < n) (sym (length-map names string_bytes)) below) in
+    λ input. missing_stops (map string_bytes names) missed input _ _ c.as_str.result.now c.missing.result c.missing.ensures among (subst missed (sym name) told) c.in-Ok-Missing.ensures.cause
 
 pub returns-in-Ok-All-clause-finds : goal.returns-in-Ok-All-clause-finds
 returns-in-Ok-All-clause-finds g c = λ known h.
