@@ -81,7 +81,7 @@ module _ (r : Regions) (at : ℕ) where
   offset_of : Region → ℕ → Option ℕ
   offset_of g n = offset_in (base_of g) (length (bytes_in g r)) at n
 
-  overlaid_is : (ys : List ℕ) → length ys ≡ 4 → overlaid r at ys ≡ option_map (λ p. with_word (Some p) ys r) (place_of r at)
+  pub overlaid_is : (ys : List ℕ) → length ys ≡ 4 → overlaid r at ys ≡ option_map (λ p. with_word (Some p) ys r) (place_of r at)
   unfolding overlaid place_of
   overlaid_is ys e =
       ap (λ (n : ℕ). laid ys (offset_in TEXT (length r.text_bytes) at n) (offset_in DATA (length r.data_bytes) at n) (offset_in STACK (length r.stack_bytes) at n) (offset_in CONTEXT (length r.context_bytes) at n)) e

@@ -5,19 +5,19 @@ use Rattle.std.proofs.lemmas.Bool.Decides.{nat_tests}
 use Rattle.ldb_words.specs.declared.kinds.Order.{Order}
 use Rattle.ldb_words.specs.declared.kinds.Kind.TheVariants.{Word}
 use Rattle.machine_state.specs.declared.layout.TheConstants.{TEXT, DATA, STACK, CONTEXT}
-use Rattle.machine_state.specs.Regions.{Regions, read_of, overwritten, or_outside, bytes_from, offset_in, number_of, bytes_of}
+use Rattle.machine_state.specs.Regions.{Regions, read_of, write_of, overwritten, or_outside, bytes_from, offset_in, number_of, bytes_of}
 use Rattle.machine_state.specs.Sound.{IsMemory}
 use Rattle.frame_bytes.specs.declared.frame.Space.TheVariants.{Memory}
 use Rattle.frame_bytes.specs.Bytes.{Bytes, stored, or_none}
 use Rattle.break_plant.specs.Planted.{noop_of, break_of, word_at}
-use Rattle.break_plant.proofs.Holding.{word_none}
 use Rattle.table_points.specs.declared.row.Point.{Point}
 use Rattle.debug_side.specs.Meant.{address_of, stands_in_text}
 use Rattle.debug_side.specs.Wrote.{word_put, words_put}
 use Rattle.debug_side.specs.Planting.{PutsWords, at_none, is_put, is_passed}
-use Rattle.debug_side.proofs.Putting.{left_of}
-use Rattle.debug_side.proofs.Places.{Text, Statics, Stack, Context, Place, place_of, first_of, there, with_word, bytes_at, put_is, read_is}
-use Rattle.debug_side.proofs.Undoing.{read_word, Wrote, wrote_of, not_some, all_undone}
+use Rattle.abs_mem.proofs.Wires.{put_back}
+use Rattle.debug_side.proofs.Putting.{stored_word, left_of}
+use Rattle.debug_side.proofs.Places.{Text, Statics, Stack, Context, Place, place_of, first_of, there, with_word, bytes_at, put_is, read_is, overlaid_is, four_long}
+use Rattle.debug_side.proofs.Undoing.{read_word, Wrote, wrote_of, not_some, all_undone, read_some}
 
 -- ---- a word of the text
 
@@ -119,9 +119,23 @@ same_read x y at h o t =
 data Stores (b : Bytes) (at w : ℕ) : Type 0 where
   stores_to : (c : Bytes) → stored b Memory at Word w ≡ Some c → Stores b at w
 
-stores_by : (b : Bytes) (at w v : ℕ) (o : Option Bytes) → stored b Memory at Word w ≡ o → word_at b at ≡ Some v → Stores b at w
-stores_by b at w v None e h = absurd (not_some (sym (word_none b at w e) ∙ h))
-stores_by b at w v (Some c) e h = stores_to c e
+test_some : {A : Type 0} (at : ℕ) (y : A) → nat_eq (at % 4) 0 ≡ true → or_none (or_outside at 4 (Some y)) ≡ Some y
+test_some at y e = rw e refl
+
+can_by : (o : Order) (w at x : ℕ) (r : Regions) → nat_eq (at % 4) 0 ≡ true → (p : Option Place) → place_of r at ≡ p → option_map (number_of o 4) (bytes_at p r) ≡ Some x → (r' : Regions) × (or_none (write_of o r at 4 w) ≡ Some r')
+unfolding write_of
+can_by o w at x r e None g h = absurd (not_some h)
+can_by o w at x r e (Some p) g h = (
+  with_word (Some p) (bytes_of o 4 w) r,
+  ap (λ (z : Option Regions). or_none (or_outside at 4 z)) (overlaid_is r at (bytes_of o 4 w) (four_long o w) ∙ ap (option_map (λ (q : Place). with_word (Some q) (bytes_of o 4 w) r)) g)
+      ∙ test_some at (with_word (Some p) (bytes_of o 4 w) r) e,
+)
+
+stores_by : (b : Bytes) (at w v : ℕ) → word_at b at ≡ Some v → Stores b at w
+stores_by b at w v h =
+    let k = read_some b.order at v b.regions (sym (read_word b at) ∙ h) in
+    let c = can_by b.order w at v b.regions k.0 (place_of b.regions at) refl k.1 in
+    stores_to (record b { regions = c.0 }) (stored_word b at w ∙ ap (put_back b) c.1)
 
 text_after : (b c : Bytes) (at w : ℕ) → nat_eq (at % 4) 0 ≡ true → at < DATA → Wrote b at w c → c.regions ≡ record b.regions { text_bytes = text_over b.order w at b.regions.text_bytes }
 text_after b c at w e h k = k.regions ∙ text_put b.order w at b.regions e h
@@ -167,7 +181,7 @@ again target x d y ps kept h o t (is_passed {ps = qs} p w there differs rest) =
     record { after = a.after; puts = is_passed p w (same_read x y p.at h.1 o t ∙ there) differs a.puts; is = a.is }
 again target x d y ps kept h o t (is_put {c = c} {ps = qs} {kept = ks} p was put rest) =
     let read : word_at y p.at ≡ Some (noop_of target) = same_read x y p.at h.1 o t ∙ was in
-    again_by target x c y p qs ks d.regions.text_bytes h o t put (λ (c' : Bytes) o' t'. again target c d c' qs ks h.2 o' t' rest) read (stores_by y p.at (break_of target) (noop_of target) (stored y Memory p.at Word (break_of target)) refl read)
+    again_by target x c y p qs ks d.regions.text_bytes h o t put (λ (c' : Bytes) o' t'. again target c d c' qs ks h.2 o' t' rest) read (stores_by y p.at (break_of target) (noop_of target) read)
 
 -- Words of a step in the text that are put back after a run, which leaves the text, are put again at the same points, and the memory is as it was.
 pub replanted : (target : ℕ) (b d : Bytes) (ps kept : List Point) (r : Regions) → IsMemory b.regions → list_all stands_in_text ps ≡ true → PutsWords target b ps kept d → r.text_bytes ≡ d.regions.text_bytes
