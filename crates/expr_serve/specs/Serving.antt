@@ -146,12 +146,20 @@ IsLonger before given after = map struct_as after ≡ map struct_as (before ++ d
 abbrev pub Stays : Server → Server → Type 0
 Stays s s' = (s'.text ≡ s.text) × (s'.mode ≡ s.mode) × (s'.mentions.items ≡ s.mentions.items)
 
+-- nothing was answered: without memory all is as before
+abbrev pub IsAsBefore : Server → Server → Type 0
+IsAsBefore s s' = (s'.is_unknown ≡ s.is_unknown) × (s'.symbols.items ≡ s.symbols.items) × (map struct_as s'.defs.items ≡ map struct_as s.defs.items)
+
+-- Nothing is answered yet. (That what it asks for are the names and tags of the text's tree, in their order, is still to be said here.)
+abbrev pub Begins : List ℕ → Mode → Server → Type 0
+Begins text m s = (s.text ≡ text) × (s.mode ≡ m) × (s.symbols.items ≡ []) × (s.defs.items ≡ []) × (s.is_unknown ≡ false)
+
 -- A name that is answered is known from then on, and so are the structs; one that is answered to be none is not in scope.
 abbrev pub TakesName : Server → Option Symbol → List StructDef → Server → Result (Unit {0}) Refuse → Type 0
 TakesName s None given s' r = (r ≡ Err refuse.Scope) × (s'.is_unknown ≡ true)
 TakesName s (Some x) given s' (Ok u) = (s'.is_unknown ≡ s.is_unknown) × (s'.symbols.items ≡ s.symbols.items ++ (x ∷ [])) × IsLonger s.defs.items given s'.defs.items
-TakesName s (Some x) given s' (Err r) = r ≡ refuse.NoMemory
+TakesName s (Some x) given s' (Err r) = (r ≡ refuse.NoMemory) × IsAsBefore s s'
 
 abbrev pub TakesTag : Server → List StructDef → Server → Result (Unit {0}) Refuse → Type 0
 TakesTag s given s' (Ok u) = (s'.is_unknown ≡ s.is_unknown) × (s'.symbols.items ≡ s.symbols.items) × IsLonger s.defs.items given s'.defs.items
-TakesTag s given s' (Err r) = r ≡ refuse.NoMemory
+TakesTag s given s' (Err r) = (r ≡ refuse.NoMemory) × IsAsBefore s s'

@@ -224,14 +224,21 @@ fn add_copies(
     Ok(())
 }
 
-/// Adds copies of the structs behind those that are there.
+/// Adds copies of the structs behind those that are there. Without memory they are as before.
 fn add_defs(alloc: Global, defs: &mut Vec<StructDef>, all: &[StructDef]) -> Result<(), AllocError>
-    ensures { OnOk result (IsLonger defs.old.items all.now defs.new.items) }
+    ensures longer { OnOk result (IsLonger defs.old.items all.now defs.new.items) }
+    ensures same { OnErr result (map struct_as defs.new.items ≡ map struct_as defs.old.items) }
 {
     let known = defs.len();
-    match all.get(known..) {
-        Some(more) => add_copies(alloc, defs, more),
-        None => Ok(()),
+    let Some(more) = all.get(known..) else {
+        return Ok(());
+    };
+    match add_copies(alloc, defs, more) {
+        Ok(()) => Ok(()),
+        Err(fault) => {
+            defs.truncate(known);
+            Err(fault)
+        }
     }
 }
 
@@ -284,7 +291,7 @@ impl Server {
     pub fn start(alloc: Global, text: &[u8], mode: Mode) -> Result<Server, Refuse>
         ensures text { OnOk result (IsExpression text.now) }
         ensures none { result ≡ Err NoExpression → length text.now ≤ 1000 → IsExpression text.now → ⊥ }
-        ensures begun { IfOk result (λ server. (server.text ≡ text.now) × (server.mode ≡ mode)) }
+        ensures begun { IfOk result (λ server. Begins text.now mode server) }
     {
         let mentions = match mentions_of(alloc, text) {
             Ok(mentions) => mentions,
@@ -380,9 +387,15 @@ impl Server {
                 Err(Refuse::Scope)
             }
             Some(symbol) => {
-                add_symbol(&mut self.symbols, symbol)?;
+                let known = self.defs.len();
                 add_defs(self.alloc, &mut self.defs, defs)?;
-                Ok(())
+                match add_symbol(&mut self.symbols, symbol) {
+                    Ok(()) => Ok(()),
+                    Err(_) => {
+                        self.defs.truncate(known);
+                        Err(Refuse::NoMemory)
+                    }
+                }
             }
         }
     }
