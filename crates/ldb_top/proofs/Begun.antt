@@ -2,7 +2,7 @@
 use Rattle.std.proofs.Common.{◌≡◌, ℕ, List, ◌++◌, take, Option, None, Some, sym, ap, ◌∙◌, subst, append_assoc}
 use Rattle.ldb_edge.specs.Known.{known_and}
 use Rattle.cc_call.specs.Faults.{TakesFront}
-use Rattle.ldb_top.specs.Said.{IsFront, BeginsWith}
+use Rattle.ldb_top.specs.Said.{BeginsWith}
 
 more_known : (front more : List ℕ) (taken : Option (List ℕ)) → BeginsWith front taken → BeginsWith front (known_and taken more)
 more_known front more None b = tt

@@ -13,47 +13,56 @@ use Rattle.ldb_top.specs.declared.words.DebugRequest.{DebugRequest}
 use Rattle.ldb_top.specs.declared.words.GoRequest.{GoRequest}
 use Rattle.ldb_top.specs.declared.words.Request.{Request}
 use Rattle.ldb_top.specs.declared.words.Request.TheVariants as request
-use Rattle.ldb_top.specs.Ahead.{Lines, lines_of}
+use Rattle.ldb_top.specs.Ahead.{lines_of}
 use Rattle.ldb_top.specs.Comes.{Outside, EndsEarly, Comes, ComesTo, Served, SessionComes, SessionComesTo}
 use Rattle.ldb_top.specs.Late.{LateAs}
 use Rattle.ldb_top.specs.Names.{Names, names_of, names_in_debug, names_in_go}
-use Rattle.ldb_top.specs.Said.{IsNamed}
+use Rattle.ldb_top.specs.Output.{is_there}
+use Rattle.ldb_top.specs.Said.{BeginsWith, IsNamed}
 use Rattle.ldb_top.specs.Stops.{ending_of}
-use Rattle.ldb_top.specs.Why.{IsWhy, Begins, line_of, late_line}
+use Rattle.ldb_top.specs.Lines.{line_of, late_line, IsLine}
+use Rattle.ldb_top.specs.Why.{IsWhy, Begins}
 use Rattle.ldb_top.specs.Words.{Form, Debug, Go, Make, Own, form_of, form_in}
 
 -- ---- before the session
 
-early : (form : Form) (n : Names) (old new : Outside) (s : Stop) (status : Status) (r : Result Status Fault) → r ≡ Ok status → ending_of s ≡ Ok status → ((known : FileMap) → old.held ≡ Some known → IsWhy form n known s) → OnOk r (new.taken ≡ known_and old.taken (line_of s)) → new.held ≡ old.held → new.left ≡ old.left → EndsEarly form n old new status
-early form n old new s status r e st why said h u = record { stop = s; status_is = st; why = why; told = subst (λ x. OnOk x (new.taken ≡ known_and old.taken (line_of s))) e said; held_is = h; unread = u }
+early : (form : Form) (n : Names) (old new : Outside) (s : Stop) (status : Status) (r : Result Status Fault) → r ≡ Ok status → ending_of s ≡ Ok status → ((known : FileMap) → old.held ≡ Some known → IsWhy form n known s) → IsLine n s → OnOk r (new.taken ≡ known_and old.taken (line_of s)) → new.held ≡ old.held → new.left ≡ old.left → EndsEarly form n old new status
+early form n old new s status r e st why line said h u = record { stop = s; status_is = st; why = why; line = line; told = subst (λ x. OnOk x (new.taken ≡ known_and old.taken (line_of s))) e said; held_is = h; unread = u }
 
-pub told_comes : (form : Form) (n : Names) (old new : Outside) (s : Stop) (r : Result Status Fault) → (r ≡ ending_of s) ⊎ (r ≡ Err fault.Write) → ((known : FileMap) → old.held ≡ Some known → IsWhy form n known s) → OnOk r (new.taken ≡ known_and old.taken (line_of s)) → new.held ≡ old.held → new.left ≡ old.left → ComesTo form n old new r
-told_comes form n old new s r (inr e) why said h u = subst (ComesTo form n old new) (sym e) tt
-told_comes form n old new stop.Read r (inl e) why said h u = subst (ComesTo form n old new) (sym e) tt
-told_comes form n old new stop.NoMemory r (inl e) why said h u = subst (ComesTo form n old new) (sym e) tt
-told_comes form n old new (stop.Missing line) r (inl e) why said h u = subst (ComesTo form n old new) (sym e) (early form n old new (stop.Missing line) NoFile r e refl why said h u)
-told_comes form n old new (stop.TooLong line) r (inl e) why said h u = subst (ComesTo form n old new) (sym e) (inl (early form n old new (stop.TooLong line) TooLong r e refl why said h u))
-told_comes form n old new (stop.Refused line) r (inl e) why said h u = subst (ComesTo form n old new) (sym e) (early form n old new (stop.Refused line) Refused r e refl why said h u)
-told_comes form n old new (stop.Bad line) r (inl e) why said h u = subst (ComesTo form n old new) (sym e) (early form n old new (stop.Bad line) BadFile r e refl why said h u)
+pub told_comes : (form : Form) (n : Names) (old new : Outside) (s : Stop) (r : Result Status Fault) → (r ≡ ending_of s) ⊎ (r ≡ Err fault.Write) → ((known : FileMap) → old.held ≡ Some known → IsWhy form n known s) → IsLine n s → OnOk r (new.taken ≡ known_and old.taken (line_of s)) → new.held ≡ old.held → new.left ≡ old.left → ComesTo form n old new r
+told_comes form n old new s r (inr e) why is said h u = subst (ComesTo form n old new) (sym e) tt
+told_comes form n old new stop.Read r (inl e) why is said h u = subst (ComesTo form n old new) (sym e) tt
+told_comes form n old new stop.NoMemory r (inl e) why is said h u = subst (ComesTo form n old new) (sym e) tt
+told_comes form n old new (stop.Missing line) r (inl e) why is said h u = subst (ComesTo form n old new) (sym e) (early form n old new (stop.Missing line) NoFile r e refl why is said h u)
+told_comes form n old new (stop.TooLong line) r (inl e) why is said h u = subst (ComesTo form n old new) (sym e) (inl (early form n old new (stop.TooLong line) TooLong r e refl why is said h u))
+told_comes form n old new (stop.Refused line) r (inl e) why is said h u = subst (ComesTo form n old new) (sym e) (early form n old new (stop.Refused line) Refused r e refl why is said h u)
+told_comes form n old new (stop.Bad line) r (inl e) why is said h u = subst (ComesTo form n old new) (sym e) (early form n old new (stop.Bad line) BadFile r e refl why is said h u)
 
 -- ---- a session
 
-pub served_comes : (form : Form) (n : Names) (old new : Outside) (r : Result Status Fault) → ((known : FileMap) → old.held ≡ Some known → Begins form n known) → Served (lines_of old.left) new.taken r → ComesTo form n old new r
-served_comes form n old new (Ok Done) b s = record { begun = b; read = s }
-served_comes form n old new (Ok TooLong) b s = inr (record { begun = b; late = s.0; before = s.1.0; told = s.1.1 })
-served_comes form n old new (Ok Refused) b s = absurd s
-served_comes form n old new (Ok Words) b s = absurd s
-served_comes form n old new (Ok ReadFault) b s = absurd s
-served_comes form n old new (Ok WriteFault) b s = absurd s
-served_comes form n old new (Ok NoMemory) b s = absurd s
-served_comes form n old new (Ok NoFile) b s = absurd s
-served_comes form n old new (Ok BadFile) b s = absurd s
-served_comes form n old new (Err f) b s = tt
+pub served_comes : (form : Form) (n : Names) (old new : Outside) (r : Result Status Fault) → ((known : FileMap) → old.held ≡ Some known → Begins form n known) → Served old new r → OnOk r (is_there n.output new.held ≡ true)
+    → ComesTo form n old new r
+served_comes form n old new (Ok Done) b s t = record { begun = b; read = s; there = t }
+served_comes form n old new (Ok TooLong) b s t = inr (record { begun = b; late = s; there = t })
+served_comes form n old new (Ok Refused) b s t = absurd s
+served_comes form n old new (Ok Words) b s t = absurd s
+served_comes form n old new (Ok ReadFault) b s t = absurd s
+served_comes form n old new (Ok WriteFault) b s t = absurd s
+served_comes form n old new (Ok NoMemory) b s t = absurd s
+served_comes form n old new (Ok NoFile) b s t = absurd s
+served_comes form n old new (Ok BadFile) b s t = absurd s
+served_comes form n old new (Err f) b s t = tt
+
+-- what holds whatever is answered
+pub on_ok : {A E : Type 0} (r : Result A E) (P : Type 0) → P → OnOk r P
+on_ok (Ok x) P p = p
+on_ok (Err e) P p = tt
 
 -- the last line of one whose commands were too many
-pub served_late : (lines : Option Lines) (before taken : Option (List ℕ)) (r : Result Status Fault) → LateAs true lines → (r ≡ Ok TooLong) ⊎ (r ≡ Err fault.Write) → OnOk r (taken ≡ known_and before late_line) → Served lines taken r
-served_late lines before taken r l (inr e) said = subst (Served lines taken) (sym e) tt
-served_late lines before taken r l (inl e) said = subst (Served lines taken) (sym e) (l, (before, subst (λ x. OnOk x (taken ≡ known_and before late_line)) e said))
+pub served_late : (old new : Outside) (before : Option (List ℕ)) (r : Result Status Fault) → LateAs true (lines_of old.left) → ((front : List ℕ) → BeginsWith front old.taken → BeginsWith front before) → (r ≡ Ok TooLong) ⊎ (r ≡ Err fault.Write)
+    → OnOk r (new.taken ≡ known_and before late_line) → Served old new r
+served_late old new before r l m (inr e) said = subst (Served old new) (sym e) tt
+served_late old new before r l m (inl e) said = subst (Served old new) (sym e) (record { long = l; before = before; more = m; told = subst (λ x. OnOk x (new.taken ≡ known_and before late_line)) e said })
 
 -- ---- words of a form
 

@@ -1,5 +1,5 @@
 -- Files of which one is written.
-use Rattle.std.proofs.Common.{◌≡◌, ◌≢◌, ℕ, Bool, true, false, List, [], ◌++◌, cond, take, Option, None, Some, Ok, Err, refl, sym, ap, ◌∙◌, subst, is_some}
+use Rattle.std.proofs.Common.{◌≡◌, ◌≢◌, ℕ, Bool, true, false, List, [], ◌++◌, cond, take, Option, None, Some, Ok, Err, refl, ap, ◌∙◌, subst, is_some}
 use Rattle.std.specs.Prelude.{unwrap_or, IfOk, OnErr}
 use Rattle.std.specs.declared.result.Result.{Result}
 use Rattle.std.specs.Option.{option_map}
@@ -9,24 +9,32 @@ use Rattle.ldb_edge.specs.Count.{Rose, CountsFault}
 use Rattle.ldb_edge.specs.Known.{FileMap, appended}
 use Rattle.ldb_edge.specs.declared.outside.FileErr.{FileErr}
 use Rattle.ldb_edge.specs.declared.outside.FileErr.TheVariants.{Absent, Failed}
-use Rattle.ldb_edge.proofs.Maps.{get-insert, equal_bytes}
-use Rattle.ldb_top.specs.Output.{held_under, OthersKept}
+use Rattle.ldb_edge.proofs.Maps.{get-insert, equal_bytes, same_bytes}
+use Rattle.ldb_top.specs.Output.{held_under, is_there, OthersKept}
 
 apart : (name other : List ℕ) (b : Bool) (x y : Option (List ℕ)) → bytes_eq other name ≡ b → other ≢ name → cond b x y ≡ y
 apart name other true x y e n = absurd (n (equal_bytes other name e))
 apart name other false x y e n = refl
 
 pub others_same : (name : List ℕ) (held held' : Option FileMap) → held' ≡ held → OthersKept name held held'
-others_same name held held' e = (ap is_some e, λ other n. ap (λ h. held_under h other) e)
+others_same name held held' e = (ap is_some e, (λ other n. ap (λ h. held_under h other) e, λ t. ap (is_there name) e ∙ t))
+
+set_there : (m : FileMap) (name bytes : List ℕ) → is_some (map.get (map.insert m name bytes) name) ≡ true
+set_there m name bytes = ap is_some (get-insert m name bytes name) ∙ ap (λ b. is_some (cond b (Some bytes) (map.get m name))) (same_bytes name)
 
 -- one name was set
 pub others_kept : (name : List ℕ) (bytes : FileMap → List ℕ) (held held' : Option FileMap) → held' ≡ option_map (λ files. map.insert files name (bytes files)) held → OthersKept name held held'
 others_kept name bytes None held' e = others_same name None held' e
-others_kept name bytes (Some m) held' e =
-    (ap is_some e, λ other n. ap (λ h. held_under h other) e ∙ get-insert m name (bytes m) other ∙ apart name other (bytes_eq other name) (Some (bytes m)) (map.get m other) refl n)
+others_kept name bytes (Some m) held' e = (
+  ap is_some e,
+  (
+    λ other n. ap (λ h. held_under h other) e ∙ get-insert m name (bytes m) other ∙ apart name other (bytes_eq other name) (Some (bytes m)) (map.get m other) refl n,
+    λ t. ap (is_there name) e ∙ set_there m name (bytes m),
+  ),
+)
 
 pub others_on : (name : List ℕ) (a b c : Option FileMap) → OthersKept name a b → OthersKept name b c → OthersKept name a c
-others_on name a b c p q = (q.0 ∙ p.0, λ other n. q.1 other n ∙ p.1 other n)
+others_on name a b c p q = (q.0 ∙ p.0, (λ other n. q.1.0 other n ∙ p.1.0 other n, λ t. q.1.1 (p.1.1 t)))
 
 -- an append to it
 pub others_appended : (name name' piece : List ℕ) (a b c : Option FileMap) (r : Result ℕ FileErr) → name' ≡ name → OthersKept name a b
@@ -42,3 +50,7 @@ rose_at before now Failed n c = c
 -- a file that was made
 pub others_made : (name : List ℕ) (start held held' : Option FileMap) → held' ≡ option_map (λ files. map.insert files name []) held → OthersKept name start held → OthersKept name start held'
 others_made name start held held' e k = others_on name start held held' k (others_kept name (λ files. []) held held' e)
+
+pub made_there : (name : List ℕ) (held held' : Option FileMap) → held' ≡ option_map (λ files. map.insert files name []) held → is_there name held' ≡ true
+made_there name None held' e = ap (is_there name) e
+made_there name (Some m) held' e = ap (is_there name) e ∙ set_there m name []

@@ -17,7 +17,7 @@ use Rattle.cmd_lang.specs.Places.{spot_of}
 use Rattle.cmd_lang.specs.Words.{is_nothing, without_blanks, first_word, behind_word, lone_word}
 use Rattle.cmd_lang.specs.Commands.{with_word, with_lone, with_text, command_of, read_of, alone}
 use Rattle.ldb_top.specs.Ahead.{Lines, line_and, lines_if}
-use Rattle.ldb_top.specs.Late.{asks_quit, is_quit, is_late, LateAs, Follows}
+use Rattle.ldb_top.specs.Late.{asks_quit, is_quit, LateAs, Follows}
 use Rattle.ldb_top.specs.declared.serving.Next.{Next}
 use Rattle.ldb_top.specs.declared.serving.Next.TheVariants as next
 

@@ -1,33 +1,36 @@
 -- Sessions that are begun, and why others aren't.
-use Rattle.std.proofs.Common.{◌≡◌, ◌⊎◌, ℕ, true, false, List, [], ◌∷◌, ◌++◌, codes, Option, None, Some, Ok, Err, inl, inr, refl, sym, ap, ◌∙◌, subst}
+use Rattle.std.proofs.Common.{◌≡◌, ℕ, false, List, [], ◌∷◌, ◌++◌, None, Some, Ok, Err, inl, inr, sym, ap, ◌∙◌, subst}
 use Rattle.std.specs.declared.result.Result.{Result}
 use Rattle.std.specs.Prelude.{IfErr}
 use Rattle.std.specs.FinMap as files
 use Rattle.ldb_edge.specs.Known.{FileMap}
-use Rattle.obj_file.specs.Image.{ImageFields, first_wrong, Reads}
+use Rattle.obj_file.specs.Image.{ImageFields, Reads}
 use Rattle.obj_file.specs.declared.image.ImageFault.{ImageFault}
 use Rattle.obj_file.specs.declared.image.ImageFault.TheVariants as fault
+use Rattle.ps_store.specs.StoreState.{StoreState}
+use Rattle.table_run.specs.declared.run.TableFault.{TableFault}
+use Rattle.table_run.specs.Tables.{IsTableOf}
 use Rattle.ldb_cc.specs.declared.aim.Aim.{Aim}
 use Rattle.ldb_cc.specs.Built.{IsBuilt}
-use Rattle.cc_call.specs.Lines.{end}
 use Rattle.cc_call.specs.Found.{AreRead}
 use Rattle.ldb_top.specs.Files.{first_missing, is_long, IsRead}
+use Rattle.ldb_top.specs.Lines.{table_word, bad_table_line}
 use Rattle.ldb_top.specs.Names.{Names, read_names}
 use Rattle.ldb_top.specs.Words.{Form, Debug, Go}
 use Rattle.ldb_top.specs.declared.status.Stop.{Stop}
 use Rattle.ldb_top.specs.declared.status.Stop.TheVariants.{Read, NoMemory, Missing, TooLong, Refused, Bad}
-use Rattle.ldb_top.specs.Why.{IsTableLine, IsTableStop, IsImageTold, IsBuildWhy, IsLoadWhy, BuildsFrom, LoadsFrom, AreProgram, IsFileStop, IsInputStop, AreRight, Opens, IsWhy}
+use Rattle.ldb_top.specs.Why.{IsTableWhy, IsTableStop, IsImageTold, IsBuildWhy, IsLoadWhy, BuildsFrom, LoadsFrom, AreProgram, IsFileStop, IsInputStop, AreRight, Opens, IsWhy}
 use Rattle.ldb_top.proofs.Fronted.{all_on, missing_on}
 
 -- ---- sources, and an image
 
-pub table_line : (what line : List ℕ) → line ≡ codes "badfile table " ++ (what ++ end) → IsTableLine line
-table_line what line e = record { what = what; line_is = e }
+pub table_why : (target : ℕ) (text line word : List ℕ) (f : TableFault) → IsTableOf text target (Err f) → table_word f ≡ Some word → line ≡ bad_table_line word → IsTableWhy target text line
+table_why target text line word f c w e = record { fault = f; comes = c; tells = record { word = word; word_is = w; line_is = e } }
 
-pub built_then : {A : Type 0} (aim : Aim) (names texts : List (List ℕ)) (image : ImageFields) (table : List ℕ) (r : Result A Stop) → IsBuilt aim names texts image table → IfErr r IsTableStop → BuildsFrom names texts r
+pub built_then : {A : Type 0} (aim : Aim) (names texts : List (List ℕ)) (image : ImageFields) (table : List ℕ) (r : Result A Stop) → IsBuilt aim names texts image table → IfErr r (IsTableStop image.target table) → BuildsFrom names texts r
 built_then aim names texts image table (Ok x) b t = (b.program, b.is_program)
 built_then aim names texts image table (Err NoMemory) b t = tt
-built_then aim names texts image table (Err (Bad line)) b t = ((b.program, b.is_program), t)
+built_then aim names texts image table (Err (Bad line)) b t = record { aim = aim; image = image; text = table; built = b; told = t }
 built_then aim names texts image table (Err Read) b t = absurd t
 built_then aim names texts image table (Err (Missing line)) b t = absurd t
 built_then aim names texts image table (Err (TooLong line)) b t = absurd t
@@ -37,30 +40,30 @@ pub started_then : {A : Type 0} (names texts : List (List ℕ)) (r : Result A St
 started_then names texts (Ok x) p e = p
 started_then names texts (Err stop) p e = subst (IsBuildWhy names texts) (sym e) tt
 
-pub wrong_image : (text : List ℕ) (f : ImageFault) (stop : Stop) → Reads text (Err f) → IsImageTold f stop → IsLoadWhy text stop
-wrong_image text f NoMemory r t = tt
-wrong_image text (fault.BadImage at) (Bad line) r t = inl (at, r, t)
-wrong_image text fault.NoMemory (Bad line) r t = absurd t
-wrong_image text (fault.BadImage at) Read r t = absurd t
-wrong_image text (fault.BadImage at) (Missing line) r t = absurd t
-wrong_image text (fault.BadImage at) (TooLong line) r t = absurd t
-wrong_image text (fault.BadImage at) (Refused line) r t = absurd t
-wrong_image text fault.NoMemory Read r t = absurd t
-wrong_image text fault.NoMemory (Missing line) r t = absurd t
-wrong_image text fault.NoMemory (TooLong line) r t = absurd t
-wrong_image text fault.NoMemory (Refused line) r t = absurd t
+pub wrong_image : (text table : List ℕ) (f : ImageFault) (stop : Stop) → Reads text (Err f) → IsImageTold f stop → IsLoadWhy text table stop
+wrong_image text table f NoMemory r t = tt
+wrong_image text table (fault.BadImage at) (Bad line) r t = inl (at, r, t)
+wrong_image text table fault.NoMemory (Bad line) r t = absurd t
+wrong_image text table (fault.BadImage at) Read r t = absurd t
+wrong_image text table (fault.BadImage at) (Missing line) r t = absurd t
+wrong_image text table (fault.BadImage at) (TooLong line) r t = absurd t
+wrong_image text table (fault.BadImage at) (Refused line) r t = absurd t
+wrong_image text table fault.NoMemory Read r t = absurd t
+wrong_image text table fault.NoMemory (Missing line) r t = absurd t
+wrong_image text table fault.NoMemory (TooLong line) r t = absurd t
+wrong_image text table fault.NoMemory (Refused line) r t = absurd t
 
-pub wrong_table : (text : List ℕ) (stop : Stop) → first_wrong text ≡ None → IsTableStop stop → IsLoadWhy text stop
-wrong_table text NoMemory w t = tt
-wrong_table text (Bad line) w t = inr (w, t)
-wrong_table text Read w t = absurd t
-wrong_table text (Missing line) w t = absurd t
-wrong_table text (TooLong line) w t = absurd t
-wrong_table text (Refused line) w t = absurd t
+pub wrong_table : (text table : List ℕ) (image : ImageFields) (stop : Stop) → Reads text (Ok image) → IsTableStop image.target table stop → IsLoadWhy text table stop
+wrong_table text table image NoMemory w t = tt
+wrong_table text table image (Bad line) w t = inr (record { image = image; reads = w; told = t })
+wrong_table text table image Read w t = absurd t
+wrong_table text table image (Missing line) w t = absurd t
+wrong_table text table image (TooLong line) w t = absurd t
+wrong_table text table image (Refused line) w t = absurd t
 
-pub loaded_then : {A : Type 0} (text : List ℕ) (r : Result A Stop) → first_wrong text ≡ None → IfErr r (λ stop. stop ≡ NoMemory) → LoadsFrom text r
-loaded_then text (Ok x) p e = p
-loaded_then text (Err stop) p e = subst (IsLoadWhy text) (sym e) tt
+pub loaded_then : {A : Type 0} (text table : List ℕ) (image : ImageFields) (r : Result A Stop) → Reads text (Ok image) → (store : StoreState) × IsTableOf table image.target (Ok store) → IfErr r (λ stop. stop ≡ NoMemory) → LoadsFrom text table r
+loaded_then text table image (Ok x) p t e = record { image = image; reads = p; store = t.0; comes = t.1 }
+loaded_then text table image (Err stop) p t e = subst (IsLoadWhy text table) (sym e) tt
 
 -- ---- why there is no session
 
@@ -93,17 +96,18 @@ pub go_opens : {A : Type 0} (n : Names) (known : FileMap) (texts : List (List �
 go_opens n known texts (Ok x) a t i s b = (right n known a i s, (texts, t, b))
 go_opens n known texts (Err NoMemory) a t i s b = tt
 go_opens n known texts (Err (Refused line)) a t i s b = (right n known a i s, (texts, t, b))
-go_opens n known texts (Err (Bad line)) a t i s b = (right n known a i s, (texts, t, b.0), b.1)
+go_opens n known texts (Err (Bad line)) a t i s b = (right n known a i s, (texts, t, b))
 go_opens n known texts (Err Read) a t i s b = absurd b
 go_opens n known texts (Err (Missing line)) a t i s b = absurd b
 go_opens n known texts (Err (TooLong line)) a t i s b = absurd b
 
-pub debug_opens : {A : Type 0} (image table input output : List ℕ) (known : FileMap) (text : List ℕ) (r : Result A Stop) → first_missing known (image ∷ table ∷ []) ≡ None → IsRead 17825812 (files.get known image) text → first_missing known (input ∷ []) ≡ None → is_long (files.get known input) ≡ false → LoadsFrom text r
+pub debug_opens : {A : Type 0} (image table input output : List ℕ) (known : FileMap) (text table_text : List ℕ) (r : Result A Stop) → first_missing known (image ∷ table ∷ []) ≡ None → IsRead 17825812 (files.get known image) text → IsRead 16777216 (files.get known table) table_text
+    → first_missing known (input ∷ []) ≡ None → is_long (files.get known input) ≡ false → LoadsFrom text table_text r
     → Opens Debug (record { about = image ∷ table ∷ []; input = input; output = output }) known r
-debug_opens image table input output known text (Ok x) a t i s b = (right (record { about = image ∷ table ∷ []; input = input; output = output }) known a i s, (text, t, b))
-debug_opens image table input output known text (Err NoMemory) a t i s b = tt
-debug_opens image table input output known text (Err (Bad line)) a t i s b = (right (record { about = image ∷ table ∷ []; input = input; output = output }) known a i s, (text, t, b))
-debug_opens image table input output known text (Err Read) a t i s b = absurd b
-debug_opens image table input output known text (Err (Missing line)) a t i s b = absurd b
-debug_opens image table input output known text (Err (TooLong line)) a t i s b = absurd b
-debug_opens image table input output known text (Err (Refused line)) a t i s b = absurd b
+debug_opens image table input output known text table_text (Ok x) a t u i s b = (right (record { about = image ∷ table ∷ []; input = input; output = output }) known a i s, (text, table_text, t, u, b))
+debug_opens image table input output known text table_text (Err NoMemory) a t u i s b = tt
+debug_opens image table input output known text table_text (Err (Bad line)) a t u i s b = (right (record { about = image ∷ table ∷ []; input = input; output = output }) known a i s, (text, table_text, t, u, b))
+debug_opens image table input output known text table_text (Err Read) a t u i s b = absurd b
+debug_opens image table input output known text table_text (Err (Missing line)) a t u i s b = absurd b
+debug_opens image table input output known text table_text (Err (TooLong line)) a t u i s b = absurd b
+debug_opens image table input output known text table_text (Err (Refused line)) a t u i s b = absurd b

@@ -5,11 +5,15 @@ use Rattle.cc_call.specs.declared.ended.Fault.{Fault}
 use Rattle.ldb_top.specs.declared.status.Status.{Status}
 use Rattle.ldb_top.specs.declared.status.Status.TheVariants.{Done, Refused, NoFile, BadFile, TooLong}
 use Rattle.ldb_top.specs.declared.status.Stop.{Stop}
-use Rattle.ldb_top.specs.Ahead.{Lines, lines_of}
+use Rattle.ldb_top.specs.Ahead.{lines_of}
+use Rattle.ldb_top.specs.Behind.{left_behind}
 use Rattle.ldb_top.specs.Late.{LateAs}
+use Rattle.ldb_top.specs.Lines.{line_of, late_line, IsLine}
 use Rattle.ldb_top.specs.Names.{Names, names_of}
+use Rattle.ldb_top.specs.Output.{is_there}
+use Rattle.ldb_top.specs.Said.{BeginsWith}
 use Rattle.ldb_top.specs.Stops.{ending_of}
-use Rattle.ldb_top.specs.Why.{IsWhy, Begins, line_of, late_line}
+use Rattle.ldb_top.specs.Why.{IsWhy, Begins}
 use Rattle.ldb_top.specs.Words.{Form, Debug, Go}
 
 -- what the files hold, the commands have left and the transcript took
@@ -26,25 +30,38 @@ pub record EndsEarly (form : Form) (n : Names) (old new : Outside) (status : Sta
   pub stop : Stop
   pub status_is : ending_of stop ≡ Ok status
   pub why : (known : FileMap) → old.held ≡ Some known → IsWhy form n known stop
+  pub line : IsLine n stop
   pub told : new.taken ≡ known_and old.taken (line_of stop)
   pub held_is : new.held ≡ old.held
   pub unread : new.left ≡ old.left
 
--- a session was begun, whose commands are not too long, or have a line `quit` before they are
-pub record EndsRead (form : Form) (n : Names) (old : Outside) : Type 0 where
-  pub begun : (known : FileMap) → old.held ≡ Some known → Begins form n known
-  pub read : LateAs false (lines_of old.left)
+-- the commands are not too long, or have a line `quit` before they are, and they were read to that line or to their end
+pub record AreRead (old new : Outside) : Type 0 where
+  pub short : LateAs false (lines_of old.left)
+  pub left : new.left ≡ left_behind [] old.left
 
--- a session was begun, and there were too many; this is said at last
+-- the commands are too long, and this was said behind all else
+pub record AreLate (old new : Outside) : Type 0 where
+  pub long : LateAs true (lines_of old.left)
+  pub before : Option (List ℕ)
+  pub more : (front : List ℕ) → BeginsWith front old.taken → BeginsWith front before
+  pub told : new.taken ≡ known_and before late_line
+
+-- a session was begun, and its commands were read; its output file is there
+pub record EndsRead (form : Form) (n : Names) (old new : Outside) : Type 0 where
+  pub begun : (known : FileMap) → old.held ≡ Some known → Begins form n known
+  pub read : AreRead old new
+  pub there : is_there n.output new.held ≡ true
+
+-- a session was begun, and its commands were too long; its output file is there
 pub record EndsLate (form : Form) (n : Names) (old new : Outside) : Type 0 where
   pub begun : (known : FileMap) → old.held ≡ Some known → Begins form n known
-  pub late : LateAs true (lines_of old.left)
-  pub before : Option (List ℕ)
-  pub told : new.taken ≡ known_and before late_line
+  pub late : AreLate old new
+  pub there : is_there n.output new.held ≡ true
 
 -- what each status says; those of faults say nothing here
 abbrev pub Comes : Form → Names → (old new : Outside) → Status → Type 0
-Comes form n old new Done = EndsRead form n old
+Comes form n old new Done = EndsRead form n old new
 Comes form n old new TooLong = EndsEarly form n old new TooLong ⊎ EndsLate form n old new
 Comes form n old new Refused = EndsEarly form n old new Refused
 Comes form n old new NoFile = EndsEarly form n old new NoFile
@@ -56,12 +73,12 @@ abbrev pub ComesTo : Form → Names → (old new : Outside) → Result Status Fa
 ComesTo form n old new (Ok status) = Comes form n old new status
 ComesTo form n old new (Err fault) = Unit {0}
 
--- what the lines ahead and the transcript tell of a session that was served
-abbrev pub Served : Option Lines → (taken : Option (List ℕ)) → Result Status Fault → Type 0
-Served lines taken (Ok Done) = LateAs false lines
-Served lines taken (Ok TooLong) = LateAs true lines × ((before : Option (List ℕ)) × (taken ≡ known_and before late_line))
-Served lines taken (Ok _) = ⊥
-Served lines taken (Err fault) = Unit {0}
+-- what the commands and the transcript tell of a session that was served
+abbrev pub Served : (old new : Outside) → Result Status Fault → Type 0
+Served old new (Ok Done) = AreRead old new
+Served old new (Ok TooLong) = AreLate old new
+Served old new (Ok _) = ⊥
+Served old new (Err fault) = Unit {0}
 
 -- so it is with words of these two forms
 abbrev pub SessionComes : Option Form → (words : List (List ℕ)) → (old new : Outside) → Status → Type 0

@@ -11,6 +11,7 @@ use Rattle.ldb_top.specs.declared.status.Status.TheVariants as status
 use Rattle.ldb_top.specs.declared.status.Stop.{Stop}
 use Rattle.ldb_top.specs.declared.status.Stop.TheVariants.{Read, NoMemory, Missing, TooLong, Refused, Bad}
 use Rattle.ldb_top.specs.Causes.{IsMissed}
+use Rattle.ldb_top.specs.Lines.{long_line, IsRefusedLine, IsTableLine, IsBadLine}
 
 -- how a call ends by such a stop, if its line can be written
 abbrev pub ending_of : Stop → Result Status Fault
@@ -27,14 +28,14 @@ IsMissing name (Missing line) = line ≡ missing_line name
 IsMissing name NoMemory = Unit {0}
 IsMissing name _ = ⊥
 
--- while files are read: a failed read raises the count, and nothing else moves it; a file that isn't there is named
-abbrev pub IsReadStop : (missed : List ℕ → Type 0) → (before now : ℕ) → Stop → Type 0
-IsReadStop missed before now Read = Rose before now
-IsReadStop missed before now NoMemory = Unit {0}
-IsReadStop missed before now (Missing line) = (now ≡ before) × IsMissed missed line
-IsReadStop missed before now (TooLong line) = now ≡ before
-IsReadStop missed before now (Refused line) = ⊥
-IsReadStop missed before now (Bad line) = ⊥
+-- while files are read: a failed read raises the count, and nothing else moves it; a file that isn't there is named, and so is an input that is too long
+abbrev pub IsReadStop : (missed : List ℕ → Type 0) → (input : List ℕ) → (before now : ℕ) → Stop → Type 0
+IsReadStop missed input before now Read = Rose before now
+IsReadStop missed input before now NoMemory = Unit {0}
+IsReadStop missed input before now (Missing line) = (now ≡ before) × IsMissed missed line
+IsReadStop missed input before now (TooLong line) = (now ≡ before) × (line ≡ long_line input)
+IsReadStop missed input before now (Refused line) = ⊥
+IsReadStop missed input before now (Bad line) = ⊥
 
 -- while sources are compiled and tables run
 abbrev pub IsBuildStop : Stop → Type 0
@@ -49,9 +50,22 @@ IsLoadStop NoMemory = Unit {0}
 IsLoadStop (Bad line) = Unit {0}
 IsLoadStop _ = ⊥
 
--- the one, with no count moved, or the other
-abbrev pub IsOpenStop : (Stop → Type 0) → (missed : List ℕ → Type 0) → (before now : ℕ) → Stop → Type 0
-IsOpenStop P missed before now stop = (P stop × (now ≡ before)) ⊎ IsReadStop missed before now stop
+-- while sources with these names are made a session: the line tells of a fault of theirs, or of a table's
+abbrev pub IsGoStop : (names : List (List ℕ)) → Stop → Type 0
+IsGoStop names NoMemory = Unit {0}
+IsGoStop names (Refused line) = IsRefusedLine names line
+IsGoStop names (Bad line) = IsTableLine line
+IsGoStop names _ = ⊥
+
+-- while an image and a table are: the line tells of a fault of one
+abbrev pub IsDebugStop : Stop → Type 0
+IsDebugStop NoMemory = Unit {0}
+IsDebugStop (Bad line) = IsBadLine line
+IsDebugStop _ = ⊥
+
+-- the one, with no count moved, or what stops the reading
+abbrev pub IsOpenStop : (Stop → Type 0) → (missed : List ℕ → Type 0) → (input : List ℕ) → (before now : ℕ) → Stop → Type 0
+IsOpenStop P missed input before now stop = (P stop × (now ≡ before)) ⊎ IsReadStop missed input before now stop
 
 -- how the count of failed writes moves where a stop is told
 abbrev pub CountsTold : ℕ → ℕ → Fault → Type 0

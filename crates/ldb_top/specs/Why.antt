@@ -1,42 +1,28 @@
 -- Why a call ends before its session, by the files that it is to read.
-use Rattle.std.specs.Prelude.{◌≡◌, ◌⊎◌, ℕ, true, false, List, [], ◌∷◌, ◌++◌, map, codes, decimal, Option, None, Some, Result, Ok, Err}
+use Rattle.std.specs.Prelude.{◌≡◌, ◌⊎◌, ℕ, true, false, List, [], ◌∷◌, map, None, Some, Result, Ok, Err}
 use Rattle.std.specs.Global.{Vec}
 use Rattle.std.specs.FinMap as files
 use Rattle.c_tree.specs.declared.rows.Program.{Program}
 use Rattle.ldb_edge.specs.Known.{FileMap}
-use Rattle.obj_file.specs.Image.{first_wrong}
+use Rattle.obj_file.specs.Image.{ImageFields, first_wrong, Reads}
 use Rattle.obj_file.specs.declared.image.ImageFault.{ImageFault}
 use Rattle.obj_file.specs.declared.image.ImageFault.TheVariants.{BadImage}
+use Rattle.ps_store.specs.StoreState.{StoreState}
+use Rattle.table_run.specs.declared.run.TableFault.{TableFault}
+use Rattle.table_run.specs.Tables.{IsTableOf}
+use Rattle.ldb_cc.specs.declared.aim.Aim.{Aim}
 use Rattle.ldb_cc.specs.declared.fault.BuildFault.{BuildFault}
+use Rattle.ldb_cc.specs.Built.{IsBuilt}
 use Rattle.ldb_cc.specs.Scanning.{items_of}
 use Rattle.ldb_cc.specs.Sources.{IsCause, IsProgram}
-use Rattle.cc_call.specs.Lines.{name_in, end, missing_line, is_refusal, refused_line}
+use Rattle.cc_call.specs.Lines.{name_in, missing_line}
 use Rattle.cc_call.specs.Found.{AreRead}
 use Rattle.ldb_top.specs.declared.status.Stop.{Stop}
 use Rattle.ldb_top.specs.declared.status.Stop.TheVariants.{Read, NoMemory, Missing, TooLong, Refused, Bad}
+use Rattle.ldb_top.specs.Lines.{long_line, bad_image_line, TellsRefusal, TellsTable}
 use Rattle.ldb_top.specs.Words.{Form, Debug, Go}
 use Rattle.ldb_top.specs.Names.{Names, read_names}
 use Rattle.ldb_top.specs.Files.{first_missing, is_long, IsRead}
-
--- ---- lines
-
-abbrev pub long_line : List ℕ → List ℕ
-long_line name = codes "toolong " ++ (name ++ end)
-
-abbrev pub late_line : List ℕ
-late_line = codes "toolong commands\n"
-
-abbrev pub bad_image_line : ℕ → List ℕ
-bad_image_line at = codes "badfile image at " ++ (decimal at ++ end)
-
--- the line that a stop tells
-abbrev pub line_of : Stop → List ℕ
-line_of Read = []
-line_of NoMemory = []
-line_of (Missing line) = line
-line_of (TooLong line) = line
-line_of (Refused line) = line
-line_of (Bad line) = line
 
 -- ---- sources that are compiled
 
@@ -48,25 +34,33 @@ AreProgram names texts = (p : Program) × IsProgram names texts p
 pub record IsRefusal (names texts : List (List ℕ)) (line : List ℕ) : Type 0 where
   pub fault : BuildFault
   pub is_cause : IsCause texts fault
-  pub is_told : is_refusal fault ≡ true
-  pub line_is : line ≡ refused_line names fault
+  pub tells : TellsRefusal names fault line
 
--- the line says what became of a table that was run
-pub record IsTableLine (line : List ℕ) : Type 0 where
-  pub what : List ℕ
-  pub line_is : line ≡ codes "badfile table " ++ (what ++ end)
+-- the line says why the text of a table gives none for a target
+pub record IsTableWhy (target : ℕ) (text line : List ℕ) : Type 0 where
+  pub fault : TableFault
+  pub comes : IsTableOf text target (Err fault)
+  pub tells : TellsTable fault line
 
 -- a table can't be used, or there was no memory
-abbrev pub IsTableStop : Stop → Type 0
-IsTableStop NoMemory = Unit {0}
-IsTableStop (Bad line) = IsTableLine line
-IsTableStop _ = ⊥
+abbrev pub IsTableStop : (target : ℕ) → (text : List ℕ) → Stop → Type 0
+IsTableStop target text NoMemory = Unit {0}
+IsTableStop target text (Bad line) = IsTableWhy target text line
+IsTableStop target text _ = ⊥
+
+-- the table that was compiled of them can't be used, as the line says
+pub record IsBadBuilt (names texts : List (List ℕ)) (line : List ℕ) : Type 0 where
+  pub aim : Aim
+  pub image : ImageFields
+  pub text : List ℕ
+  pub built : IsBuilt aim names texts image text
+  pub told : IsTableWhy image.target text line
 
 -- why none of them is begun with: the table of a program may be found wanting
 abbrev pub IsBuildWhy : (names texts : List (List ℕ)) → Stop → Type 0
 IsBuildWhy names texts NoMemory = Unit {0}
 IsBuildWhy names texts (Refused line) = IsRefusal names texts line
-IsBuildWhy names texts (Bad line) = AreProgram names texts × IsTableLine line
+IsBuildWhy names texts (Bad line) = IsBadBuilt names texts line
 IsBuildWhy names texts _ = ⊥
 
 -- they are a program, or it is said why not
@@ -76,9 +70,22 @@ BuildsFrom names texts (Err stop) = IsBuildWhy names texts stop
 
 -- ---- an image and a table
 
+-- the bytes of an image, and of a table for its target
+pub record AreGood (text table_text : List ℕ) : Type 0 where
+  pub image : ImageFields
+  pub reads : Reads text (Ok image)
+  pub store : StoreState
+  pub comes : IsTableOf table_text image.target (Ok store)
+
+-- the bytes of an image, with a table that can't be used, as the line says
+pub record IsBadTable (text table_text line : List ℕ) : Type 0 where
+  pub image : ImageFields
+  pub reads : Reads text (Ok image)
+  pub told : IsTableWhy image.target table_text line
+
 -- the image has a wrong field, or the table can't be used
-abbrev pub IsBadImage : (text line : List ℕ) → Type 0
-IsBadImage text line = ((at : ℕ) × (first_wrong text ≡ Some at) × (line ≡ bad_image_line at)) ⊎ ((first_wrong text ≡ None) × IsTableLine line)
+abbrev pub IsBadImage : (text table_text line : List ℕ) → Type 0
+IsBadImage text table_text line = ((at : ℕ) × (first_wrong text ≡ Some at) × (line ≡ bad_image_line at)) ⊎ IsBadTable text table_text line
 
 -- what is told of bytes that are no image
 abbrev pub IsImageTold : ImageFault → Stop → Type 0
@@ -86,15 +93,15 @@ IsImageTold fault NoMemory = Unit {0}
 IsImageTold (BadImage at) (Bad line) = line ≡ bad_image_line at
 IsImageTold fault _ = ⊥
 
-abbrev pub IsLoadWhy : (text : List ℕ) → Stop → Type 0
-IsLoadWhy text NoMemory = Unit {0}
-IsLoadWhy text (Bad line) = IsBadImage text line
-IsLoadWhy text _ = ⊥
+abbrev pub IsLoadWhy : (text table_text : List ℕ) → Stop → Type 0
+IsLoadWhy text table_text NoMemory = Unit {0}
+IsLoadWhy text table_text (Bad line) = IsBadImage text table_text line
+IsLoadWhy text table_text _ = ⊥
 
--- the image has no wrong field, or it is said what is wrong
-abbrev pub LoadsFrom : {A : Type 0} → (text : List ℕ) → Result A Stop → Type 0
-LoadsFrom text (Ok begun) = first_wrong text ≡ None
-LoadsFrom text (Err stop) = IsLoadWhy text stop
+-- both are good, or it is said what is wrong
+abbrev pub LoadsFrom : {A : Type 0} → (text table_text : List ℕ) → Result A Stop → Type 0
+LoadsFrom text table_text (Ok begun) = AreGood text table_text
+LoadsFrom text table_text (Err stop) = IsLoadWhy text table_text stop
 
 -- ---- files that are read
 
@@ -132,17 +139,18 @@ pub record AreRight (n : Names) (known : FileMap) : Type 0 where
   pub there : first_missing known (read_names n) ≡ None
   pub short : is_long (files.get known n.input) ≡ false
 
--- the texts that were read of the sources, or what was read of the image: 17,825,812 bytes are the most of one
+-- the texts that were read of the sources, or what was read of the image and the table: 17,825,812 bytes are the most of an image,
+-- and 16,777,216 of a table
 abbrev pub OfTexts : (List (List ℕ) → Type 0) → Names → FileMap → Type 0
 OfTexts P n known = (texts : List (List ℕ)) × AreRead known n.about texts × P texts
 
-abbrev pub OfImage : (List ℕ → Type 0) → Names → FileMap → Type 0
-OfImage P n known = (text : List ℕ) × IsRead 17825812 (files.get known (name_in n.about 0)) text × P text
+abbrev pub OfImage : (List ℕ → List ℕ → Type 0) → Names → FileMap → Type 0
+OfImage P n known = (text table_text : List ℕ) × IsRead 17825812 (files.get known (name_in n.about 0)) text × IsRead 16777216 (files.get known (name_in n.about 1)) table_text × P text table_text
 
 -- a session is begun
 abbrev pub Begins : Form → Names → FileMap → Type 0
 Begins Go n known = AreRight n known × OfTexts (AreProgram n.about) n known
-Begins Debug n known = AreRight n known × OfImage (λ text. first_wrong text ≡ None) n known
+Begins Debug n known = AreRight n known × OfImage AreGood n known
 Begins _ n known = ⊥
 
 -- the sources are refused
@@ -150,10 +158,10 @@ abbrev pub IsRefusedFor : Form → Names → FileMap → List ℕ → Type 0
 IsRefusedFor Go n known line = AreRight n known × OfTexts (λ texts. IsRefusal n.about texts line) n known
 IsRefusedFor _ n known line = ⊥
 
--- an image or a table can't be used; the second of a program, in a call that compiles
+-- an image or a table can't be used; the table of a program, in a call that compiles
 abbrev pub IsBadFor : Form → Names → FileMap → List ℕ → Type 0
-IsBadFor Go n known line = AreRight n known × OfTexts (AreProgram n.about) n known × IsTableLine line
-IsBadFor Debug n known line = AreRight n known × OfImage (λ text. IsBadImage text line) n known
+IsBadFor Go n known line = AreRight n known × OfTexts (λ texts. IsBadBuilt n.about texts line) n known
+IsBadFor Debug n known line = AreRight n known × OfImage (λ text table_text. IsBadImage text table_text line) n known
 IsBadFor _ n known line = ⊥
 
 -- why there is no session, as the line tells it

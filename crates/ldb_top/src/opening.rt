@@ -1,10 +1,13 @@
 // Machines and their tables: what a session stands on.
-ghost use Rattle.std.specs.Prelude.{◌≡◌, ◌+◌, ◌⊎◌, ℕ, List, [], length, map, string_bytes, IfErr, IfOk, OnOk, MatchResult, Some};
+ghost use Rattle.std.specs.Prelude.{◌≡◌, ◌+◌, ◌⊎◌, ℕ, List, [], length, map, string_bytes, IfErr, IfOk, OnOk, MatchResult, Some, Ok, Err, option_map};
 ghost use Rattle.ldb_edge.specs.Known.{FileMap};
+ghost use Rattle.ps_store.specs.StoreState.{StoreState};
+ghost use Rattle.table_run.specs.Tables.{IsTableOf};
 ghost use Rattle.ldb_cc.specs.Scanning.{items_of};
 ghost use Rattle.ldb_cc.specs.Sources.{IsCause};
+ghost use Rattle.ldb_top.specs.Lines.{table_word};
 ghost use Rattle.ldb_top.specs.Names.{names_in_debug, names_in_go};
-ghost use Rattle.ldb_top.specs.Stops.{IsBuildStop, IsLoadStop, IsOpenStop};
+ghost use Rattle.ldb_top.specs.Stops.{IsBuildStop, IsLoadStop, IsGoStop, IsDebugStop, IsOpenStop};
 ghost use Rattle.ldb_top.specs.Why.{IsTableStop, IsImageTold, IsBuildWhy, BuildsFrom, LoadsFrom, Opens};
 ghost use Rattle.ldb_top.specs.Words.{Debug, Go};
 
@@ -35,21 +38,29 @@ struct Sides {
     tables: Vec<PsStore>,
 }
 
+/// The word that tells why a table gives nothing to begin with; none where memory was wanting.
+fn table_word(fault: TableFault) -> Option<&'static str>
+    ensures { option_map (λ word. word.now) result ≡ table_word fault }
+{
+    match fault {
+        TableFault::Raised(error) => Some(error.name()),
+        TableFault::Spent => Some("spent"),
+        TableFault::Shape => Some("shape"),
+        TableFault::NoMemory => None,
+    }
+}
+
 /// What is told of a table that can't be used.
-#[tactic(auto, using(crate::proofs::Opened::table_line))]
 fn bad_table(alloc: Global, fault: TableFault) -> Stop
     ensures stop { IsLoadStop result }
-    ensures told { IsTableStop result }
+    ensures told { (text : List ℕ) (target : ℕ) → IsTableOf text target (Err fault) → IsTableStop target text result }
 {
-    let why = match fault {
-        TableFault::Raised(error) => error.name(),
-        TableFault::Spent => "spent",
-        TableFault::Shape => "shape",
-        TableFault::NoMemory => return Stop::NoMemory,
-    };
-    match line_with(alloc, "badfile table ", why) {
-        Ok(line) => Stop::Bad(line),
-        Err(_) => Stop::NoMemory,
+    match table_word(fault) {
+        None => Stop::NoMemory,
+        Some(why) => match line_with(alloc, "badfile table ", why) {
+            Ok(line) => Stop::Bad(line),
+            Err(_) => Stop::NoMemory,
+        },
     }
 }
 
@@ -95,7 +106,8 @@ impl Sides {
     fn add(&mut self, alloc: Global, image: Image, table: &[u8]) -> Result<(), Stop>
         ensures count { OnOk result (length self.new.images.items ≡ length self.old.images.items + 1) }
         ensures stop { IfErr result IsLoadStop }
-        ensures told { IfErr result IsTableStop }
+        ensures told { IfErr result (IsTableStop image.target table.now) }
+        ensures good { OnOk result ((store : StoreState) × IsTableOf table.now image.target (Ok store)) }
     {
         let store = match run_table(alloc, table, image.target()) {
             Ok(store) => store,
@@ -194,7 +206,6 @@ fn open_texts(
     input: &[u8],
 ) -> Result<Session<NearLink>, Stop>
     requires { length texts.now ≡ length request.now.sources.now }
-    ensures stop { IfErr result IsBuildStop }
     ensures builds { BuildsFrom (map string_bytes request.now.sources.now) (map items_of texts.now) result }
 {
     let names = names_of(alloc, request.sources)?;
@@ -211,7 +222,7 @@ pub fn open_go<F: Files>(
     ensures same { F.held files.new ≡ F.held files.old }
     ensures write_faults { F.write_faults files.new ≡ F.write_faults files.old }
     ensures cause { MatchResult result (λ _. F.read_faults files.new ≡ F.read_faults files.old)
-        (IsOpenStop IsBuildStop (F.missed files.new) (F.read_faults files.old) (F.read_faults files.new)) }
+        (IsOpenStop (IsGoStop (names_in_go request.now).about) (F.missed files.new) request.now.input.now (F.read_faults files.old) (F.read_faults files.new)) }
 {
     let texts = match read_sources(alloc, files, request.sources) {
         Ok(texts) => texts,
@@ -230,8 +241,7 @@ fn open_image(
     table: &[u8],
     input: &[u8],
 ) -> Result<Session<NearLink>, Stop>
-    ensures stop { IfErr result IsLoadStop }
-    ensures loads { LoadsFrom image.now result }
+    ensures loads { LoadsFrom image.now table.now result }
 {
     let image = match read_image(alloc, image) {
         Ok(image) => image,
@@ -254,7 +264,7 @@ pub fn open_debug<F: Files>(
     ensures same { F.held files.new ≡ F.held files.old }
     ensures write_faults { F.write_faults files.new ≡ F.write_faults files.old }
     ensures cause { MatchResult result (λ _. F.read_faults files.new ≡ F.read_faults files.old)
-        (IsOpenStop IsLoadStop (F.missed files.new) (F.read_faults files.old) (F.read_faults files.new)) }
+        (IsOpenStop IsDebugStop (F.missed files.new) request.now.input.now (F.read_faults files.old) (F.read_faults files.new)) }
 {
     let image = match read_file(alloc, files, request.image, MOST_IMAGE) {
         Ok(image) => image,

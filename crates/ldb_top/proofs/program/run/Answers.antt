@@ -1,10 +1,23 @@
-use Rattle.std.proofs.Common.{subst}
+use Rattle.std.proofs.Common.{◌≡◌, true, subst}
 use Rattle.ldb_top.specs.Ahead.{lines_of}
+use Rattle.ldb_top.specs.Behind.{LeftByAll}
+use Rattle.ldb_top.specs.Comes.{outside}
 use Rattle.ldb_top.specs.Late.{EndsAs}
-use Rattle.ldb_top.proofs.Come.{served_late}
+use Rattle.ldb_top.specs.Output.{is_there}
+use Rattle.ldb_top.proofs.Come.{served_late, on_ok}
 use Rattle.ldb_top.proofs.program.run.Goals as goal
 
 pub returns-in-Ok-Late-clause-served : goal.returns-in-Ok-Late-clause-served
 returns-in-Ok-Late-clause-served g c =
-    let lines = lines_of (g.C.Source.left c.args.commands.now) in
-    served_late lines (g.S.Sink.taken c.serve.new.transcript) (g.S.Sink.taken c.say.new.transcript) c.say.result (subst (EndsAs lines) c.in-Ok-Late.field-0-is c.in-Ok-Late.ensures.ends) c.say.ensures.outcome c.say.ensures.said
+    served_late (outside (g.F.Files.held c.args.files.now) (g.C.Source.left c.args.commands.now) (g.S.Sink.taken c.args.transcript.now))
+    (outside (g.F.Files.held c.serve.new.files) (g.C.Source.left c.serve.new.commands) (g.S.Sink.taken c.say.new.transcript)) (g.S.Sink.taken c.serve.new.transcript) c.say.result
+    (subst (EndsAs (lines_of (g.C.Source.left c.args.commands.now))) c.in-Ok-Late.field-0-is c.in-Ok-Late.ensures.ends) c.serve.ensures.grows c.say.ensures.outcome c.say.ensures.said
+
+pub returns-in-Ok-Read-clause-served : goal.returns-in-Ok-Read-clause-served
+returns-in-Ok-Read-clause-served g c = record {
+  short = subst (EndsAs (lines_of (g.C.Source.left c.args.commands.now))) c.in-Ok-Read.field-0-is c.in-Ok-Read.ensures.ends;
+  left = subst (LeftByAll (g.C.Source.left c.args.commands.now) (g.C.Source.left c.serve.new.commands)) c.in-Ok-Read.field-0-is c.in-Ok-Read.ensures.left;
+}
+
+pub returns-in-Ok-Late-clause-made : goal.returns-in-Ok-Late-clause-made
+returns-in-Ok-Late-clause-made g c = on_ok c.say.result (is_there c.args.output.now (g.F.Files.held c.serve.new.files) ≡ true) c.in-Ok-Late.ensures.made

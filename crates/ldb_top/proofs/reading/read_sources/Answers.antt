@@ -11,7 +11,7 @@ returns-in-Ok-Missing-clause-cause g c =
     let below = subst (IsFoundOf (length names)) c.in-Ok-Missing.field-0-is c.in-Ok-Missing.ensures.count in
     let told = subst (IsMissedOf missed (map string_bytes names)) c.in-Ok-Missing.field-0-is c.in-Ok-Missing.ensures.missed in
     let name = c.as_str.ensures.value ∙ name_read names c.in-Ok-Missing.number c.index-names-number.result below c.index-names-number.is in
-    missing_stops missed _ _ c.as_str.result.now c.missing.result c.missing.ensures (subst missed (sym name) told) c.in-Ok-Missing.ensures.cause
+    λ input. missing_stops missed input _ _ c.as_str.result.now c.missing.result c.missing.ensures (subst missed (sym name) told) c.in-Ok-Missing.ensures.cause
 
 pub returns-in-Ok-All-clause-finds : goal.returns-in-Ok-All-clause-finds
 returns-in-Ok-All-clause-finds g c = λ known h.
