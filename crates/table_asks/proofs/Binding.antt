@@ -50,7 +50,7 @@ module _ {R A B : Type 0} (m : Bytes → Eval Cause A) (k : Bytes → A → Eval
 abbrev answers : {A : Type 0} → A → Result A (Trouble Cause)
 answers x = Ok x
 
-looks_wants : {A : Type 0} (q : StoreState → Walked A) (t t' : TableUse) (r : Result A (Trouble Cause)) (x : A) → Looks q t r t' → r ≡ answers x → Looks {R = Cause} {A = A} q t (Err Wanting) t'
+pub looks_wants : {A : Type 0} (q : StoreState → Walked A) (t t' : TableUse) (r : Result A (Trouble Cause)) (x : A) → Looks q t r t' → r ≡ answers x → Looks {R = Cause} {A = A} q t (Err Wanting) t'
 looks_wants q _ _ _ x (told e) h = wanting
 looks_wants q _ _ _ x (lacks e k) h = absurd (let i = h in cc)
 looks_wants q _ _ _ x (forced e f l) h = forced e f (looks_wants q _ _ _ x l h)

@@ -6,3 +6,5 @@ mod Spots
 pub mod Looking
 mod Named
 pub mod Binding
+pub mod Ran
+pub mod Telling

@@ -6,8 +6,8 @@ use Rattle.ps_store.specs.StoreState.{StoreState}
 use Rattle.ps_step.specs.Results.{◌>>=◌}
 use Rattle.table_model.specs.Reading.{Walked, dict_in, text_at, number_at, truth_at, first_from, first_in, all_from, all_in}
 use Rattle.table_model.specs.Rows.{PointRow, units_of, functions_of, points_of, point_address}
-use Rattle.table_model.specs.Places.{is_column, on_line, in_function, in_unit, inner, spot_point, Named, called, called_in, chosen_of, first_point, point_of_named, function_point}
-use Rattle.table_asks.proofs.Fair.{Fair, IsUnit, gives, behind, either, reads, items_fair, text_fair, number_fair, truth_fair, first_fair, first_in_fair, all_in_fair, units_fair, unit_there, functions_fair, all_fair}
+use Rattle.table_model.specs.Places.{is_column, on_line, in_function, in_unit, inner, spot_point, Named, called, called_in, chosen_of, first_point, point_of_named, function_point, row_of, rows_of, rows_in, all_points}
+use Rattle.table_asks.proofs.Fair.{Fair, IsUnit, gives, behind, either, reads, items_fair, text_fair, number_fair, truth_fair, first_fair, first_in_fair, all_in_fair, units_fair, unit_there, functions_fair, all_fair, units_all}
 
 module _ (s : StoreState) (file : List ℕ) (l : ℕ) (c : Option ℕ) where
   abbrev placed : DictId → (line column : ℕ) → DictId → Walked (Option PointRow)
@@ -93,3 +93,31 @@ module _ (s : StoreState) (text : List ℕ) where
   named_fair =
       behind s (units_of s) (λ us. all_from (called_in s text) 0 us >>= λ fs. point_of_named s text (chosen_of fs)) (units_fair s) (λ us e.
       behind s (all_from (called_in s text) 0 us) (λ fs. point_of_named s text (chosen_of fs)) (all_fair s (called_in s text) 0 us (λ k x i. called_in_fair (0 + k) x (unit_there s us e k x i))) (λ fs i. named_point_fair (chosen_of fs)))
+
+-- ---- all points
+
+module _ (s : StoreState) where
+  row_fair : (file name : List ℕ) (x : PsObj) → Fair s (row_of s file name x)
+  row_fair file name x =
+      let row : (line column at : ℕ) → Walked (List PointRow) = λ line column at. Ok (record { file = file; function = name; line = line; column = column; at = at } ∷ []) in
+      behind s (dict_in x) (λ p. number_at s p (codes "line") >>= λ line. number_at s p (codes "column") >>= λ column. point_address s p >>= row line column) (reads s x).dict (λ p e.
+      behind s (number_at s p (codes "line")) (λ line. number_at s p (codes "column") >>= λ column. point_address s p >>= row line column) (number_fair s p (codes "line")) (λ line e.
+      behind s (number_at s p (codes "column")) (λ column. point_address s p >>= row line column) (number_fair s p (codes "column")) (λ column e.
+      behind s (point_address s p) (row line column) (number_fair s p (codes "address")) (λ at e.
+      gives s (record { file = file; function = name; line = line; column = column; at = at } ∷ [])))))
+
+  rows_fair : (file : List ℕ) (x : PsObj) → Fair s (rows_of s file x)
+  rows_fair file x =
+      behind s (dict_in x) (λ f. text_at s f (codes "name") >>= λ name. points_of s f >>= all_in (row_of s file name)) (reads s x).dict (λ f e.
+      behind s (text_at s f (codes "name")) (λ name. points_of s f >>= all_in (row_of s file name)) (text_fair s f (codes "name")) (λ name e.
+      behind s (points_of s f) (all_in (row_of s file name)) (items_fair s f (codes "points")) (λ ps e. all_in_fair s (row_of s file name) ps (row_fair file name))))
+
+  unit_rows_fair : (u : ℕ) (x : PsObj) → IsUnit s u x → Fair s (rows_in s u x)
+  unit_rows_fair u x there =
+      behind s (dict_in x) (λ unit. text_at s unit (codes "file") >>= λ file. functions_of s u unit >>= all_in (rows_of s file)) (reads s x).dict (λ unit e.
+      behind s (text_at s unit (codes "file")) (λ file. functions_of s u unit >>= all_in (rows_of s file)) (text_fair s unit (codes "file")) (λ file i.
+      behind s (functions_of s u unit) (all_in (rows_of s file)) (functions_fair s u x unit there e) (λ fs j. all_in_fair s (rows_of s file) fs (rows_fair file))))
+
+  pub points_fair : Fair s (all_points s)
+  unfolding all_points
+  points_fair = units_all s (rows_in s) unit_rows_fair

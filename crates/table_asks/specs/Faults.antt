@@ -39,3 +39,8 @@ IsOwn x = Unit {0}
 abbrev pub IsUnrefused : AskFault → Type 0
 IsUnrefused (Refused c) = ⊥
 IsUnrefused x = Unit {0}
+
+-- no fault of a memory
+abbrev pub IsUnbroken : AskFault → Type 0
+IsUnbroken (Broken f) = ⊥
+IsUnbroken x = Unit {0}

@@ -3,10 +3,12 @@
 ghost use Rattle.std.specs.Prelude.{◌≡◌, ◌≤◌, ◌<◌, IfOk, IfErr, OnOk, OnErr};
 ghost use Rattle.ps_store.specs.Store.{closed_part};
 ghost use Rattle.table_asks.specs.Closing.{Settles};
-ghost use Rattle.ps_store.specs.Cut.{IsMark};
+ghost use Rattle.ps_store.specs.Cut.{IsMark, cut, mark_of};
 ghost use Rattle.ps_store.specs.declared.object.Part.TheVariants.{Command as CommandPart};
 ghost use Rattle.table_asks.specs.Faults.{IsOwn, IsUnrefused};
 ghost use Rattle.table_asks.specs.Asking.{SettlesLack, SettlesWalk};
+ghost use Rattle.dialect_model.specs.Running.{core_in};
+ghost use Rattle.table_asks.specs.Running.{Begins, RanOver, RunsOver};
 
 use crate::fault::{AskFault, fault_of_run};
 use abs_mem::{AbsMem, MemFault, WalkFault};
@@ -36,6 +38,9 @@ pub fn begin_command(inquiry: &mut Inquiry) -> Result<Mark, AllocError>
     ensures within { OnOk result (inquiry.new.steps.taken ≤ inquiry.new.steps.limit) }
     ensures kept { OnErr result (inquiry.new ≡ inquiry.old) }
     ensures closed { OnOk result (closed_part inquiry.new.core.store ≡ record (closed_part inquiry.old.core.store) { part = CommandPart }) }
+    ensures steps { OnOk result (inquiry.new.steps ≡ record { taken = 0; limit = 10000000 }) }
+    ensures store { OnOk result (inquiry.new.core.store ≡ record inquiry.old.core.store { part = CommandPart }) }
+    ensures there { IfOk result (λ mark. mark ≡ mark_of inquiry.old.core.store.command) }
 {
     let alloc = inquiry.core.operands.allocator();
     let dictionaries = Stack::copy_of(alloc, inquiry.core.store.base())?;
@@ -54,6 +59,7 @@ pub fn begin_command(inquiry: &mut Inquiry) -> Result<Mark, AllocError>
 pub fn end_command(inquiry: &mut Inquiry, mark: Mark)
     requires { IsMark mark }
     ensures closed { closed_part inquiry.new.core.store ≡ record (closed_part inquiry.old.core.store) { part = CommandPart } }
+    ensures store { inquiry.new.core.store ≡ record inquiry.old.core.store { part = CommandPart; command = cut inquiry.old.core.store.command mark } }
 {
     inquiry.core.operands.clear();
     inquiry.core.dictionaries.clear();
@@ -66,6 +72,7 @@ pub fn end_command(inquiry: &mut Inquiry, mark: Mark)
 fn stand_on(inquiry: &mut Inquiry, own: DictId) -> Result<(), AllocError>
     ensures store { inquiry.new.core.store ≡ inquiry.old.core.store }
     ensures steps { inquiry.new.steps ≡ inquiry.old.steps }
+    ensures stands { OnOk result (inquiry.new.core ≡ core_in inquiry.old.core.store own) }
 {
     let alloc = inquiry.core.operands.allocator();
     let mut dictionaries = Stack::copy_of(alloc, inquiry.core.store.base())?;
@@ -82,6 +89,7 @@ pub fn begin_run(inquiry: &mut Inquiry) -> Result<(), AskFault>
     ensures steps { inquiry.new.steps ≡ inquiry.old.steps }
     ensures closed { closed_part inquiry.new.core.store ≡ closed_part inquiry.old.core.store }
     ensures own { IfErr result (λ fault. IsOwn fault) }
+    ensures begins { Begins inquiry.old result inquiry.new }
 {
     match inquiry.core.store.make_dict() {
         Ok(own) => match stand_on(inquiry, own) {
@@ -105,6 +113,8 @@ pub fn run_object<W: AbsMem + Drop>(
     ensures more { inquiry.old.steps.taken ≤ inquiry.new.steps.taken }
     ensures closed { Settles (closed_part inquiry.old.core.store) (closed_part inquiry.new.core.store) }
     ensures unrefused { IfErr result (λ fault. IsUnrefused fault) }
+    ensures calls { RanOver W.seen W.leads talk.old.memory.below.below.below result talk.new.memory.below.below.below }
+    ensures meaning { RunsOver W.seen what inquiry.old talk.old result inquiry.new talk.new }
 {
     match run(&mut inquiry.core, talk, what, &mut inquiry.steps) {
         Ok(()) => Ok(()),

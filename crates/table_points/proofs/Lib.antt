@@ -1,3 +1,4 @@
 pub mod Looks
 mod Gathering
 mod Naming
+mod Adding

@@ -6,7 +6,7 @@ mod named;
 mod row;
 mod spots;
 
-pub use every::{PointsFault, add_unit};
+pub use every::{PointsFault, all_points};
 pub use named::function_point;
 pub use row::{Point, told_frame};
 pub use spots::spot_point;
