@@ -4,7 +4,6 @@ pub mod Breaks
 pub mod Frames
 pub mod Printing
 pub mod Names
-pub mod Mentions
 pub mod Reading
 pub mod Evaluating
 pub mod Raw

@@ -1,10 +1,14 @@
 -- How the text of `eval`, `assign` and `code` is read: its grammar, its names and tags by the table, and the typing rules.
-use Rattle.std.specs.Prelude.{◌≡◌, ◌⊎◌, ℕ, List, [], ◌∷◌, map, Option, Ok, Err}
+use Rattle.std.specs.Prelude.{◌≡◌, ◌⊎◌, ℕ, Bool, true, false, bytes_eq, List, [], ◌∷◌, map, Option, Ok, Err}
+use Rattle.std.specs.List.{list_any}
 use Rattle.c_tree.specs.declared.types.StructDef.{StructDef}
 use Rattle.c_tree.specs.declared.types.Member.{Member}
 use Rattle.c_tree.specs.declared.typed.Typed.{Typed}
 use Rattle.c_typing.specs.Plain.{plain}
 use Rattle.c_expr.specs.Tree.{Tree}
+use Rattle.c_names.specs.declared.mention.Mention.{Mention}
+use Rattle.c_names.specs.declared.mention.Mention.TheVariants as mention
+use Rattle.c_names.specs.Mentions.{mentions}
 use Rattle.c_judge.specs.declared.symbol.Symbol.{Symbol}
 use Rattle.c_judge.specs.declared.fault.ExprFault.TheVariants as fault
 use Rattle.c_judge.specs.Session.{session}
@@ -19,7 +23,6 @@ use Rattle.c_bytes.specs.Lvalues.{Scene}
 use Rattle.claims.specs.Side.{SideState, OnSide, target_of}
 use Rattle.claims.specs.Frames.{chosen}
 use Rattle.claims.specs.Printing.{or_no_scope}
-use Rattle.claims.specs.Mentions.{Mention, AName, ATag, mentions}
 use Rattle.claims.specs.Names.{Known, NameRow, StructRow, MemberOf, with_name, with_tag}
 
 -- ---- the grammar
@@ -32,16 +35,25 @@ parsing text t r t' = (t' ≡ t) × (((e : Tree) × IsExpression text e × (r �
 
 -- ---- names and tags, in the order of the text
 
+abbrev pub is_known : Mention → Known → Bool
+is_known (mention.Name text) k = list_any (λ (row : NameRow). bytes_eq row.name text) k.names
+is_known (mention.Tag text) k = list_any (λ (row : StructRow). bytes_eq row.tag text) k.structs
+
 abbrev pub telling : (scope : Option DictId) → Mention → Known → OnSide Known
-telling scope (AName text) k = do
+telling scope (mention.Name text) k = do
   found ← Looks (λ s. symbol_named s scope text)
   x ← or_no_scope found
   Looks (λ s. with_name s k text x)
-telling scope (ATag text) k = Looks (λ s. with_tag s k text)
+telling scope (mention.Tag text) k = Looks (λ s. with_tag s k text)
+
+-- one that is known is not looked up again
+abbrev telling_once : (known : Bool) → (scope : Option DictId) → Mention → Known → OnSide Known
+telling_once true scope m k = gives k
+telling_once false scope m k = telling scope m k
 
 abbrev pub telling_all : (scope : Option DictId) → List Mention → Known → OnSide Known
 telling_all scope [] k = gives k
-telling_all scope (m ∷ ms) k = telling scope m k >>= telling_all scope ms
+telling_all scope (m ∷ ms) k = telling_once (is_known m k) scope m k >>= telling_all scope ms
 
 -- ---- types: those of the table as the checker takes them
 

@@ -6,11 +6,11 @@ use Rattle.machine_state.specs.declared.layout.TheConstants.{CONTEXT}
 use Rattle.machine_state.specs.State.{MachineState, Behaviour, order_of, given_input}
 use Rattle.machine_state.specs.Regions.{Regions}
 use Rattle.ps_store.specs.StoreState.{StoreState}
-use Rattle.frame_bytes.specs.Bytes.{Bytes, bytes_of}
+use Rattle.frame_bytes.specs.Bytes.{Bytes}
 use Rattle.table_model.specs.Rows.{PointRow}
 use Rattle.table_model.specs.declared.row.TargetRow.{TargetRow}
 use Rattle.table_model.specs.Frames.{row_of_target}
-use Rattle.dialect_model.specs.Dial.{Target, Standing, Dial}
+use Rattle.dialect_model.specs.Dial.{Target, Standing, Dial, memory_bytes}
 use Rattle.dialect_model.specs.TableUse.{TableUse, Trouble, Eval}
 use Rattle.c_session.specs.Commands.{Refusal, Resume}
 
@@ -96,15 +96,16 @@ first_session a b = record { first = a; second = b; state = Fresh; limit = FIRST
 abbrev pub row_of : SideState → TargetRow
 row_of a = row_of_target a.machine.target
 
-abbrev pub memory_of : SideState → Bytes
-memory_of a = bytes_of a.machine
-
 -- the side with other bytes in the memory of its target
 abbrev pub with_memory : Regions → SideState → SideState
 with_memory r a = record a { machine = record a.machine { memory = r } }
 
 abbrev pub target_of : SideState → Target
 target_of a = record { row = row_of a; context = CONTEXT; order = order_of a.machine; regions = a.machine.memory }
+
+-- the memory of its target, which is all that a search for a frame or for a point's word sees
+abbrev pub memory_of : SideState → Bytes
+memory_of a = memory_bytes (target_of a)
 
 -- what stands beside the interpreter where a command begins to run it
 abbrev pub dial_of : SideState → Standing → (raw : Bool) → Dial

@@ -1,5 +1,5 @@
 -- Texts of small trees, written out: x is an `int` and p a pointer to `unsigned`, and none of them is made by the definitions.
-use Rattle.std.proofs.Common.{◌≡◌, refl, ℕ, List, [], ◌∷◌, codes, false}
+use Rattle.std.proofs.Common.{◌≡◌, refl, [], ◌∷◌, codes, false}
 use Rattle.std.specs.Fmt.{digits}
 use Rattle.c_tree.specs.declared.types.CType.{CType}
 use Rattle.c_tree.specs.declared.types.CType.TheVariants.{Char, Int, Pointer'}

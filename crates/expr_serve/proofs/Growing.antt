@@ -1,10 +1,11 @@
 -- Texts that grow by the pieces of an expression.
-use Rattle.std.proofs.Common.{◌≡◌, refl, sym, ap, ◌∙◌, ℕ, ℤ, List, ◌++◌, codes, pos, append_assoc}
+use Rattle.std.proofs.Common.{◌≡◌, sym, ap, ◌∙◌, ℕ, ℤ, List, [], ◌∷◌, ◌++◌, codes, pos, append_assoc}
 use Rattle.std.specs.Fmt.{digits, signed_decimal}
-use Rattle.ps_text.specs.Code.{Code, Stop, Num, Word, Proc, render}
-use Rattle.ps_emit.specs.Terms.{◌⋯◌, integer}
+use Rattle.ps_text.specs.Code.{Code, Word, render}
+use Rattle.ps_emit.specs.Terms.{◌⋯◌, word, integer}
 use Rattle.ps_emit.specs.Grown.{Grows}
 use Rattle.ps_emit.proofs.Followed.{render_followed}
+use Rattle.expr_serve.specs.Literals.{in_digits}
 use Rattle.expr_serve.specs.Operators.{by_zero}
 use Rattle.expr_serve.specs.Codes.{large_first}
 
@@ -63,4 +64,13 @@ in_steps {a} {b} {c} {d} {e} {f} size p q r s t = record {
       rw (t, s.text, r, q.text, p)
       (five a (codes "dup 0 lt { exch 2147483647 ") (render (integer size)) (codes "ptradd 1 ") (render (integer size)) (codes "ptradd exch 2147483647 and } if ")
       ∙ spaced a (codes "dup 0 lt { exch 2147483647 ") (signed_decimal size) (codes " ") (codes "ptradd 1 ") (codes "ptradd exch 2147483647 and ") (codes "} if "));
+}
+
+-- a name that is made of a string of hexadecimal digits
+pub named_by_digits : {a b c d : List ℕ} (name : List ℕ) → b ≡ a ++ codes "<" → c ≡ b ++ in_digits name → d ≡ c ++ codes "> cvn " → Grows (Word (60 ∷ (in_digits name ++ 62 ∷ [])) (word "cvn")) a d
+named_by_digits {a} {b} {c} {d} name p q r = record {
+  text =
+      rw (r, q, p)
+      (append_assoc (a ++ codes "<") (in_digits name) (codes "> cvn ") ∙ append_assoc a (codes "<") (in_digits name ++ codes "> cvn ")
+      ∙ ap (λ (x : List ℕ). a ++ (codes "<" ++ x)) (sym (append_assoc (in_digits name) (codes ">") (codes " cvn "))));
 }

@@ -3,3 +3,6 @@ mod Growing
 mod Arms
 mod Examples
 mod Refusing
+mod Keeping
+mod Lines
+mod Asked

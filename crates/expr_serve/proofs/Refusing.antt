@@ -1,5 +1,5 @@
 -- Why a text is not served.
-use Rattle.std.proofs.Common.{◌≡◌, ◌≢◌, inl, inr, refl, subst, ℕ, ◌≤◌, true, false, List, None, Result, Ok, Err}
+use Rattle.std.proofs.Common.{◌≡◌, ◌≢◌, inl, inr, refl, sym, subst, ℕ, ◌≤◌, true, false, List, None, Result, Ok, Err}
 use Rattle.std.specs.Prelude.{IfOk}
 use Rattle.c_lex.specs.declared.token.Token.{Token}
 use Rattle.c_lex.specs.Grammar.{HasTokens}
@@ -20,8 +20,9 @@ use Rattle.c_judge.specs.Checks.{Checks}
 use Rattle.expr_serve.specs.declared.fault.Refuse.{Refuse}
 use Rattle.expr_serve.specs.declared.fault.Refuse.TheVariants.{Syntax as NoExpression, Scope as NotInScope, Rule as BrokenRule, NoMemory as Wanting}
 use Rattle.expr_serve.specs.declared.serving.Server.{Server}
-use Rattle.expr_serve.specs.Texts.{AreExpression}
+use Rattle.expr_serve.specs.Texts.{AreExpression, IsLine}
 use Rattle.expr_serve.specs.Codes.{text_of}
+use Rattle.expr_serve.proofs.Lines.{text_line}
 use Rattle.expr_serve.proofs.Texts.{none_by_tokens}
 use Rattle.expr_serve.specs.Serving.{HasTree, IsByGrammar, IsParsed, IsAnswered, IsRefused, refusal_of, given_type, IsServed, asked, IsTurn}
 
@@ -61,4 +62,4 @@ module _ (m : Mode) {text text' : List ℕ} {names names' : List Symbol} {defs d
       → IsServed text' m names' defs' postscript t
   held_served typed postscript t answered written ctype =
       subst (λ (x : List ℕ). IsServed x m names' defs' postscript t) e (subst (λ (x : List Symbol). IsServed text m x defs' postscript t) n
-      (subst (λ (x : List StructDef). IsServed text m names x postscript t) d (record { typed = typed; checks = answered; written = written; ctype = ctype })))
+      (subst (λ (x : List StructDef). IsServed text m names x postscript t) d (record { typed = typed; checks = answered; written = written; line = subst IsLine (sym written) (text_line names defs m typed); ctype = ctype })))

@@ -7,16 +7,17 @@ use Rattle.c_tree.specs.declared.types.Member.{Member}
 use Rattle.c_tree.specs.declared.typed.BinaryOp.{BinaryOp}
 use Rattle.c_tree.specs.declared.typed.BinaryOp.TheVariants.{Add, Subtract}
 use Rattle.c_tree.specs.declared.typed.Typed.{Typed}
-use Rattle.c_tree.specs.declared.typed.Typed.TheVariants.{Comma', Assign', Choice', Or', And', Binary', Cast', Before', Address', Follow', Unary', SizeOf', SizeOfType, Index', Call', Dot', Arrow', After', Name, Constant, Literal, Parens'}
+use Rattle.c_tree.specs.declared.typed.Typed.TheVariants.{Comma', Assign', Choice', Or', And', Binary', Cast', Address', Follow', Unary', SizeOf', SizeOfType, Index', Dot', Arrow', Name, Constant, Parens'}
 use Rattle.c_tree.specs.Types.{type_of, target_of, is_unsigned, is_array, is_struct}
 use Rattle.c_tree.specs.Layout.{members_of, size_of}
 use Rattle.c_judge.specs.declared.symbol.Symbol.{Symbol}
 use Rattle.c_judge.specs.declared.check.Mode.{Mode}
 use Rattle.c_judge.specs.declared.check.Mode.TheVariants.{Value, Assign}
-use Rattle.ps_text.specs.Code.{Code, Stop, Lit, Proc, render}
+use Rattle.ps_text.specs.Code.{Code, Stop, Proc, render}
 use Rattle.ps_emit.specs.Terms.{◌⋯◌, word, name, integer, number}
 use Rattle.expr_serve.specs.declared.emit.Standing.{Standing}
 use Rattle.expr_serve.specs.declared.emit.Standing.TheVariants.{Named, Pointed}
+use Rattle.expr_serve.specs.Literals.{literal}
 use Rattle.expr_serve.specs.Operators.{by_zero, on_ints, on_integers, on_pointers, on_one, conversion, kind}
 
 -- How the place of an lvalue stands among the operands: that of a name, and of its members, as a space and an offset; any other as a pointer.
@@ -73,7 +74,7 @@ by_items is_back size t = unsigned_steps is_back size t ⋯ integer (bytes_by is
 -- the place of a name, by its symbol
 abbrev pub place_of_name : Option Symbol → Code
 place_of_name None = word "Where"
-place_of_name (Some x) = Lit x.name Stop ⋯ word "Where"
+place_of_name (Some x) = literal x.name ⋯ word "Where"
 
 -- the pointer to a place
 abbrev pub address_of : Standing → Code
@@ -109,7 +110,7 @@ brought is_below = if is_below then integer (pos 2) ⋯ word "index" else word "
 
 -- the struct at a pointer, by its tag: all of its leaves have to be live
 abbrev pub tagged_leaves : List ℕ → Code
-tagged_leaves tag = Lit tag Stop ⋯ word "Struct" ⋯ word "Leaf"
+tagged_leaves tag = literal tag ⋯ word "Struct" ⋯ word "Leaf"
 
 module _ (defs : List StructDef) where
   -- the bytes of a type; one that has more than 1,048,576, as no expression's has, counts none
@@ -126,7 +127,7 @@ module _ (defs : List StructDef) where
   offset_behind (Some t) m = offset_of t m
 
   -- the struct at a pointer, by its type
-  abbrev tagged : Option StructDef → Code
+  abbrev pub tagged : Option StructDef → Code
   tagged None = Stop
   tagged (Some d) = tagged_leaves d.tag
 

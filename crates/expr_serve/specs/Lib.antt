@@ -1,4 +1,5 @@
 pub mod Texts
+pub mod Literals
 pub mod Operators
 pub mod Codes
 pub mod Serving

@@ -2,11 +2,12 @@
 ghost use Rattle.std.specs.Prelude.{◌≡◌, ◌≤◌, ◌^◌, pos, OnOk, slice_get, option_map};
 ghost use Rattle.ldb_words.specs.Word.{signed};
 ghost use Rattle.c_tree.specs.Types.{target_of as target};
-ghost use Rattle.ps_text.specs.Code.{Stop, Num, Lit, Word, render};
+ghost use Rattle.ps_text.specs.Code.{Stop, Num, Word, render};
 ghost use Rattle.ps_emit.specs.Grown.{Grows};
 ghost use Rattle.expr_serve.specs.declared.emit.Standing.TheVariants.{Named, Pointed};
 ghost use Rattle.expr_serve.specs.Codes.{address_of, value_at, as_spot, live_scalar, by_items, further as further_code, place_further, place_of_name, bytes_of as bytes, offset_of as offset, offset_behind as behind, near, far, half, tagged_leaves, large_first, bytes_by, unsigned_steps, all_leaves, on_pointer, on_two_pointers, on_two};
 
+use crate::literals::add_literal;
 use crate::operators::{is_unsigned, on_integers, on_ints, on_pointers};
 use c_judge::Symbol;
 use c_tree::{BinaryOp, CType, StructDef, members, size_of};
@@ -26,15 +27,6 @@ pub fn add_word(text: &mut Text, word: &[u8]) -> Result<(), AllocError>
     ensures { OnOk result (Grows (Word word.now Stop) text.old text.new) }
 {
     text.append(word)?;
-    text.push(b' ')
-}
-
-/// Adds a literal name.
-fn add_literal(text: &mut Text, name: &[u8]) -> Result<(), AllocError>
-    ensures { OnOk result (Grows (Lit name.now Stop) text.old text.new) }
-{
-    text.push(b'/')?;
-    text.append(name)?;
     text.push(b' ')
 }
 

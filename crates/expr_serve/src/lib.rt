@@ -5,9 +5,11 @@
 mod coder;
 mod emit;
 mod fault;
-mod mention;
+mod laws;
+mod literals;
 mod operators;
 mod serving;
 
 pub use fault::Refuse;
+pub use laws::scope_is_answered;
 pub use serving::{Server, Turn};

@@ -1,7 +1,8 @@
 // Serving an expression: its names and tags are asked for, and then its text is made.
 
-ghost use Rattle.std.specs.Prelude.{◌≡◌, ◌≤◌, ◌++◌, ◌∷◌, [], ℕ, length, List, map, option_map, IfOk, OnOk, Ok, Err};
+ghost use Rattle.std.specs.Prelude.{◌≡◌, ◌≤◌, ◌++◌, ◌∷◌, [], ℕ, length, List, map, take, option_map, IfOk, OnOk, OnErr, Ok, Err};
 ghost use Rattle.std.specs.List.{list_any};
+ghost use Rattle.std.specs.Result.{IfErr};
 ghost use Rattle.c_lex.specs.declared.token.Token.{Token as Piece};
 ghost use Rattle.c_lex.specs.Grammar.{HasTokens};
 ghost use Rattle.c_symbol.specs.Terminals.{terminals};
@@ -9,16 +10,16 @@ ghost use Rattle.c_expr.specs.Grammar.{Spells};
 ghost use Rattle.c_tree.specs.Types.{type_of};
 ghost use Rattle.c_typing.specs.Plain.{plain};
 ghost use Rattle.expr_serve.specs.declared.fault.Refuse.TheVariants.{Syntax as NoExpression};
-ghost use Rattle.expr_serve.specs.Texts.{AreExpression, IsExpression};
+ghost use Rattle.expr_serve.specs.Texts.{AreExpression};
 ghost use Rattle.expr_serve.specs.Codes.{text_of as text_in};
-ghost use Rattle.expr_serve.specs.Serving.{IsByGrammar, IsParsed, IsChecked, refusal_of, IsTold, IsTurn, is_tagged, is_named, is_known as known, asked as asks, IsMention, member_as, struct_as, IsLonger, Stays, TakesName, TakesTag, given_type as type_given};
+ghost use Rattle.expr_serve.specs.Serving.{IsByGrammar, IsParsed, IsChecked, refusal_of, IsTold, IsTurn, is_tagged, is_named, is_known as known, asked as asks, AreMentions, IsUnread, IsBegun, member_as, struct_as, IsLonger, Stays, TakesName, TakesTag, given_type as type_given};
 
 use crate::coder::text_of;
 use crate::fault::Refuse;
-use crate::mention::{Mention, mentions};
 use c_expr::{Expr, SynFault, parse_expr};
 use c_judge::{ExprFault, Mode, Symbol, check_expr, copied, head_of, value_type};
 use c_lex::{LexFault, Token, tokens};
+use c_names::{Mention, mentions};
 use c_tree::{CType, Member, StructDef, Typed};
 use ldb_words::{Many, Text};
 use std::alloc::{AllocError, Global};
@@ -85,26 +86,6 @@ fn tree_of(alloc: Global, text: &[u8], tokens: &[Token]) -> Result<Expr, Refuse>
     }
 }
 
-/// The names and tags of a text, which is an expression.
-#[tactic(auto, using(crate::proofs::Texts::none_by_tokens))]
-fn mentions_of(alloc: Global, text: &[u8]) -> Result<Vec<Mention>, Refuse>
-    ensures text { OnOk result (IsExpression text.now) }
-    ensures none { result ≡ Err NoExpression → length text.now ≤ 1000 → IsExpression text.now → ⊥ }
-{
-    let found = match tokens_of(alloc, text) {
-        Ok(found) => found,
-        Err(refused) => return Err(refused),
-    };
-    match tree_of(alloc, text, found.as_slice()) {
-        Ok(expr) => drop(expr),
-        Err(refused) => return Err(refused),
-    }
-    match mentions(alloc, text, found.as_slice()) {
-        Ok(mentions) => Ok(mentions),
-        Err(_) => Err(Refuse::NoMemory),
-    }
-}
-
 /// The tree of a text.
 fn parsed(alloc: Global, text: &[u8]) -> Result<Expr, Refuse>
     ensures { IsParsed text.now result }
@@ -112,6 +93,24 @@ fn parsed(alloc: Global, text: &[u8]) -> Result<Expr, Refuse>
     match tokens_of(alloc, text) {
         Err(refused) => Err(refused),
         Ok(found) => tree_of(alloc, text, found.as_slice()),
+    }
+}
+
+/// The names and tags that a text mentions.
+fn mentions_of(alloc: Global, text: &[u8]) -> Result<Vec<Mention>, Refuse>
+    ensures told { IfOk result (λ found. AreMentions text.now found.items) }
+    ensures unread { IfErr result (IsUnread text.now) }
+{
+    match parsed(alloc, text) {
+        Err(refused) => Err(refused),
+        Ok(expr) => {
+            let result = mentions(alloc, &expr);
+            drop(expr);
+            match result {
+                Ok(found) => Ok(found),
+                Err(_) => Err(Refuse::NoMemory),
+            }
+        }
     }
 }
 
@@ -209,13 +208,15 @@ fn copied_def(alloc: Global, def: &StructDef) -> Result<StructDef, AllocError>
     })
 }
 
-/// Adds copies of structs.
+/// Adds copies of structs. Those that were there stay, also where memory runs out.
+#[tactic(auto, using(crate::proofs::Keeping::front))]
 fn add_copies(
     alloc: Global,
     defs: &mut Vec<StructDef>,
     more: &[StructDef],
 ) -> Result<(), AllocError>
-    ensures { OnOk result (map struct_as defs.new.items ≡ map struct_as (defs.old.items ++ more.now)) }
+    ensures longer { OnOk result (map struct_as defs.new.items ≡ map struct_as (defs.old.items ++ more.now)) }
+    ensures front { map struct_as (take (length defs.old.items) defs.new.items) ≡ map struct_as defs.old.items }
 {
     for def in more {
         let copy = copied_def(alloc, def)?;
@@ -224,20 +225,28 @@ fn add_copies(
     Ok(())
 }
 
-/// Adds copies of the structs behind those that are there.
+/// Adds copies of the structs behind those that are there. Without memory they are as before.
 fn add_defs(alloc: Global, defs: &mut Vec<StructDef>, all: &[StructDef]) -> Result<(), AllocError>
-    ensures { OnOk result (IsLonger defs.old.items all.now defs.new.items) }
+    ensures longer { OnOk result (IsLonger defs.old.items all.now defs.new.items) }
+    ensures same { OnErr result (map struct_as defs.new.items ≡ map struct_as defs.old.items) }
 {
     let known = defs.len();
-    match all.get(known..) {
-        Some(more) => add_copies(alloc, defs, more),
-        None => Ok(()),
+    let Some(more) = all.get(known..) else {
+        return Ok(());
+    };
+    match add_copies(alloc, defs, more) {
+        Ok(()) => Ok(()),
+        Err(fault) => {
+            defs.truncate(known);
+            Err(fault)
+        }
     }
 }
 
-/// Adds a name.
+/// Adds a name. Without memory they are as before.
 fn add_symbol(symbols: &mut Vec<Symbol>, symbol: Symbol) -> Result<(), AllocError>
-    ensures { OnOk result (symbols.new.items ≡ symbols.old.items ++ symbol ∷ []) }
+    ensures longer { OnOk result (symbols.new.items ≡ symbols.old.items ++ symbol ∷ []) }
+    ensures same { OnErr result (symbols.new.items ≡ symbols.old.items) }
 {
     symbols.push(symbol)?;
     Ok(())
@@ -271,20 +280,26 @@ fn has_name(symbols: &[Symbol], name: &[u8]) -> bool
 fn is_known(mention: &Mention, symbols: &[Symbol], defs: &[StructDef]) -> bool
     ensures { result ≡ known mention.now symbols.now defs.now }
 {
-    let text = mention.text.as_bytes();
-    if mention.is_tag {
-        has_tag(defs, text)
-    } else {
-        has_name(symbols, text)
+    match mention {
+        Mention::Name(name) => has_name(symbols, name.as_bytes()),
+        Mention::Tag(tag) => has_tag(defs, tag.as_bytes()),
+    }
+}
+
+/// A copy of a name or a tag.
+fn copied_mention(alloc: Global, mention: &Mention) -> Result<Mention, AllocError>
+    ensures { IfOk result (λ copy. copy ≡ mention.now) }
+{
+    match mention {
+        Mention::Name(name) => Ok(Mention::Name(Text::from_slice(alloc, name.as_bytes())?)),
+        Mention::Tag(tag) => Ok(Mention::Tag(Text::from_slice(alloc, tag.as_bytes())?)),
     }
 }
 
 impl Server {
     /// Begins to serve a text. Syntax comes where it has more than 1,000 bytes or is no expression with a nesting of at most 64.
     pub fn start(alloc: Global, text: &[u8], mode: Mode) -> Result<Server, Refuse>
-        ensures text { OnOk result (IsExpression text.now) }
-        ensures none { result ≡ Err NoExpression → length text.now ≤ 1000 → IsExpression text.now → ⊥ }
-        ensures begun { IfOk result (λ server. (server.text ≡ text.now) × (server.mode ≡ mode)) }
+        ensures { IsBegun text.now mode result }
     {
         let mentions = match mentions_of(alloc, text) {
             Ok(mentions) => mentions,
@@ -316,16 +331,13 @@ impl Server {
         None
     }
 
-    /// What is asked for next: a text, and whether it is a tag.
-    fn asked(&self) -> Result<Option<(Text, bool)>, AllocError>
-        ensures { IfOk result (λ found. IsMention found (asks self.now)) }
+    /// What is asked for next.
+    fn asked(&self) -> Result<Option<Mention>, AllocError>
+        ensures { IfOk result (λ found. found ≡ asks self.now) }
     {
         match self.next_open() {
             None => Ok(None),
-            Some(mention) => {
-                let text = Text::from_slice(self.alloc, mention.text.as_bytes())?;
-                Ok(Some((text, mention.is_tag)))
-            }
+            Some(mention) => Ok(Some(copied_mention(self.alloc, mention)?)),
         }
     }
 
@@ -360,8 +372,8 @@ impl Server {
         let server = self;
         match server.asked() {
             Err(_) => Err(Refuse::NoMemory),
-            Ok(Some((text, true))) => Ok(Turn::AskTag { tag: text, server }),
-            Ok(Some((text, false))) => Ok(Turn::Ask { name: text, server }),
+            Ok(Some(Mention::Tag(tag))) => Ok(Turn::AskTag { tag, server }),
+            Ok(Some(Mention::Name(name))) => Ok(Turn::Ask { name, server }),
             Ok(None) => match server.finished() {
                 Err(refused) => Err(refused),
                 Ok((postscript, ctype)) => Ok(Turn::Done { postscript, ctype }),
@@ -369,7 +381,8 @@ impl Server {
         }
     }
 
-    /// Answers the name that was asked for, with all structs so far; those of the answer before come first.
+    /// Answers the name that was asked for, with all structs so far; those of the answer before come first. Without memory all is as before.
+    #[tactic(auto, using(crate::proofs::Keeping::front))]
     pub fn answer(&mut self, symbol: Option<Symbol>, defs: &[StructDef]) -> Result<(), Refuse>
         ensures text { Stays self.old self.new }
         ensures answered { TakesName self.old symbol defs.now self.new result }
@@ -380,14 +393,20 @@ impl Server {
                 Err(Refuse::Scope)
             }
             Some(symbol) => {
-                add_symbol(&mut self.symbols, symbol)?;
+                let known = self.defs.len();
                 add_defs(self.alloc, &mut self.defs, defs)?;
-                Ok(())
+                match add_symbol(&mut self.symbols, symbol) {
+                    Ok(()) => Ok(()),
+                    Err(_) => {
+                        self.defs.truncate(known);
+                        Err(Refuse::NoMemory)
+                    }
+                }
             }
         }
     }
 
-    /// Answers the tag that was asked for, with all structs so far; those of the answer before come first.
+    /// Answers the tag that was asked for, with all structs so far; those of the answer before come first. Without memory all is as before.
     pub fn answer_tag(&mut self, defs: &[StructDef]) -> Result<(), Refuse>
         ensures text { Stays self.old self.new }
         ensures answered { TakesTag self.old defs.now self.new result }

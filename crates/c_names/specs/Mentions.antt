@@ -1,21 +1,19 @@
--- The names and tags of an expression, in the order of its text.
-use Rattle.std.specs.Prelude.{ℕ, List, [], ◌∷◌, ◌++◌}
+-- The names and tags that an expression mentions, in the order of its text.
+use Rattle.std.specs.Prelude.{ℕ, List, [], ◌∷◌, ◌++◌, Option, Some, None}
 use Rattle.c_symbol.specs.declared.symbol.LeafKind.{LeafKind}
 use Rattle.c_symbol.specs.declared.symbol.LeafKind.TheVariants as leaf
 use Rattle.c_expr.specs.declared.tree.Spec.{Spec}
 use Rattle.c_expr.specs.declared.tree.Spec.TheVariants as spec
 use Rattle.c_expr.specs.Tree.{Tree, Leaf, Paren, Index, Call, With, Member, After, Prefix, SizeofType, Cast, Binary, Choice, Stars, Around, Bounded, Unbounded}
+use Rattle.c_names.specs.declared.mention.Mention.{Mention}
+use Rattle.c_names.specs.declared.mention.Mention.TheVariants as mention
 
-pub data Mention : Type 0 where
-  AName : (text : List ℕ) → Mention
-  ATag : (text : List ℕ) → Mention
-
-abbrev of_leaf : LeafKind → List ℕ → List Mention
-of_leaf leaf.Name text = AName text ∷ []
+abbrev pub of_leaf : LeafKind → List ℕ → List Mention
+of_leaf leaf.Name text = mention.Name text ∷ []
 of_leaf _ text = []
 
-abbrev of_spec : Spec → List Mention
-of_spec (spec.Struct tag) = ATag tag ∷ []
+abbrev pub of_spec : Spec → List Mention
+of_spec (spec.Struct tag) = mention.Tag tag ∷ []
 of_spec _ = []
 
 abbrev pub mentions : Tree → List Mention
@@ -35,3 +33,12 @@ mentions (Stars _) = []
 mentions (Around _ d) = mentions d
 mentions (Bounded d e) = mentions d ++ mentions e
 mentions (Unbounded d) = mentions d
+
+-- those of each part of a list, and of a part that may be absent
+abbrev pub in_all : {A : Type 0} → (A → List Mention) → List A → List Mention
+in_all f [] = []
+in_all f (x ∷ xs) = f x ++ in_all f xs
+
+abbrev pub in_part : {A : Type 0} → (A → List Mention) → Option A → List Mention
+in_part f None = []
+in_part f (Some e) = f e
