@@ -1,4 +1,6 @@
 pub mod Lines
+pub mod Refusals
 pub mod Doing
 pub mod Frames
+pub mod Raw
 pub mod Breaks

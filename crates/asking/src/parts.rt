@@ -40,6 +40,9 @@ pub fn parts_left(store: &PsStore, deep: u32, left: u32, t: DictId) -> Result<u3
 fn members_left(store: &PsStore, deep: u32, left: u32, members: &[PsObj]) -> Result<u32, Lack> {
     let mut rest = left;
     for object in members {
+        if rest == 0 {
+            return Ok(0);
+        }
         let member = member_in(store, *object)?;
         rest = parts_left(store, deep, rest, member.ctype)?;
     }

@@ -11,7 +11,8 @@ use Rattle.session.specs.declared.line.Line.{Line}
 use Rattle.session.specs.declared.modes.Mode.{Mode}
 use Rattle.session.specs.declared.modes.Mode.TheVariants.{Ended}
 use Rattle.session.specs.declared.sides.SideRecord.{SideRecord}
-use Rattle.session.specs.Answered.{IsTrouble, refusal_of}
+use Rattle.asking.specs.Refusals.{refusal_of}
+use Rattle.session.specs.Answered.{IsTrouble}
 use Rattle.session.specs.Kept.{AnswersFault}
 use Rattle.session.specs.Rooms.{IsEmptyFor, event_room, room_of}
 use Rattle.session.specs.Resuming.{AllBehind, HasRoomFor, Behind, event_on}

@@ -1,12 +1,9 @@
 -- What a session answers before it asks anything: to a line that is no command, and to a command that its state refuses.
 use Rattle.std.specs.Prelude.{◌≡◌, ◌⊎◌, ℕ, List, [], ◌++◌, codes, decimal, Result, Ok, Err, if◌then◌else◌}
-use Rattle.c_session.specs.Commands.{Refusal, BadLine, HasEnded, IsRunning, NoPlace, NoFrame, BadText, IsUndefined, refusal_text, Resume, ByStep, ByContinue}
-use Rattle.c_reading.specs.Readings.{BadSyntax, NoScope, BadType}
+use Rattle.c_session.specs.Commands.{Refusal, BadLine, HasEnded, IsRunning, refusal_text, Resume, ByStep, ByContinue}
 use Rattle.cmd_lang.specs.Words.{is_empty}
 use Rattle.ps_step.specs.declared.fault.PsError.{PsError}
 use Rattle.ps_step.specs.Errors.{error_text}
-use Rattle.table_asks.specs.declared.fault.Cause.{Cause}
-use Rattle.table_asks.specs.declared.fault.Cause.TheVariants as cause
 use Rattle.claims.specs.Side.{State, Fresh, Stopped, Running, Ended}
 use Rattle.session.specs.declared.answers.Answer.{Answer}
 use Rattle.session.specs.declared.answers.Answer.TheVariants.{Lines, NoMemory}
@@ -55,15 +52,6 @@ Answers text (Ok a) = Replies text a
 Answers text (Err e) = ⊥
 
 -- ---- commands that aren't done
-
--- the reason of a refusal, in the words of the machine session
-abbrev pub refusal_of : Cause → Refusal
-refusal_of cause.NoPlace = NoPlace
-refusal_of cause.NoFrame = NoFrame
-refusal_of cause.BadSyntax = BadText BadSyntax
-refusal_of cause.NoScope = BadText NoScope
-refusal_of cause.BadType = BadText BadType
-refusal_of (cause.Undefined reason) = IsUndefined reason
 
 -- the reply that names an error of PostScript
 abbrev pub error_reply : PsError → List ℕ

@@ -8,7 +8,8 @@ use Rattle.session.specs.declared.answers.Answer.TheVariants.{Lines}
 use Rattle.session.specs.declared.answers.End.{End}
 use Rattle.session.specs.declared.modes.Mode.{Mode}
 use Rattle.session.specs.declared.modes.Mode.TheVariants.{Ended}
-use Rattle.session.specs.Answered.{Replies, refusal_reply, refusal_of, error_reply, spent_reply, IsNoMemory}
+use Rattle.asking.specs.Refusals.{refusal_of}
+use Rattle.session.specs.Answered.{Replies, refusal_reply, error_reply, spent_reply, IsNoMemory}
 use Rattle.session.specs.declared.sides.SideRecord.{SideRecord}
 
 -- its breakpoints and its chosen frame

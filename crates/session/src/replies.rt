@@ -5,7 +5,8 @@ ghost use Rattle.claims.specs.Lines.{event_text, fault_text};
 ghost use Rattle.claims.specs.Side.{Stops};
 ghost use Rattle.table_points.specs.Rows.{row_in};
 ghost use Rattle.c_session.specs.Commands.{IsUndefined, refusal_text};
-ghost use Rattle.session.specs.Answered.{reason_of, refusal_of, refusal_reply, limit_reply, error_reply, spent_reply};
+ghost use Rattle.asking.specs.Refusals.{refusal_of};
+ghost use Rattle.session.specs.Answered.{reason_of, refusal_reply, limit_reply, error_reply, spent_reply};
 ghost use Rattle.session.specs.Events.{event_in, events_in, event_line};
 ghost use Rattle.session.specs.Rooms.{Adds, IsEmptyFor, IsWithin, event_room, held_room, RoomForKept};
 

@@ -1,0 +1,66 @@
+-- `regs` and `ps`.
+use Rattle.std.specs.Prelude.{◌≡◌, ℕ, zero, suc, ◌*◌, true, List, [], ◌∷◌, ◌++◌, reverse, codes, Option, Some, None, option_map, Result, Ok, Err}
+use Rattle.ldb_words.specs.Word.{sum_of}
+use Rattle.machine_state.specs.declared.layout.TheConstants.{CONTEXT_WORDS}
+use Rattle.ps_store.specs.declared.object.PsObj.{PsObj}
+use Rattle.ps_store.specs.declared.object.PsObj.TheVariants.{Str}
+use Rattle.ps_store.specs.declared.object.StringId.{StringId}
+use Rattle.ps_store.specs.StoreState.{StoreState}
+use Rattle.ps_store.specs.Store.{Given, making_string}
+use Rattle.ps_step.specs.declared.fault.PsError.TheVariants.{LimitCheck}
+use Rattle.ps_step.specs.declared.machine.PsCore.{PsCore}
+use Rattle.ps_step.specs.Text.{text_of}
+use Rattle.ps_run.specs.Runs.{Answer, Runs}
+use Rattle.frame_bytes.specs.Bytes.{Bytes}
+use Rattle.break_plant.specs.Planted.{word_at}
+use Rattle.dialect_model.specs.Dial.{Dial}
+use Rattle.dialect_model.specs.Operating.{Operates}
+use Rattle.dialect_model.specs.TableUse.{TableUse, Trouble, Kind, Eval, trouble_of, ◌>>=◌}
+use Rattle.dialect_model.specs.Running.{Run, beginning, ready}
+use Rattle.table_asks.specs.declared.fault.Cause.{Cause}
+use Rattle.asking.specs.Lines.{line, target_text, words_text}
+
+abbrev pub with_word : Option ℕ → Option (List ℕ) → Option (List ℕ)
+with_word None ws = None
+with_word (Some w) ws = option_map (λ ws. w ∷ ws) ws
+
+-- so many words of a context block, from the one with a number on
+abbrev pub context_words : Bytes → (context number count : ℕ) → Option (List ℕ)
+context_words b context k zero = Some []
+context_words b context k (suc n) = with_word (word_at b (sum_of context (4 * k))) (context_words b context (suc k) n)
+
+-- the line of the words of the context block at an address
+abbrev pub regs_line : (target context : ℕ) → Bytes → Option (List ℕ)
+regs_line target context b = option_map (λ ws. line (codes "regs " ++ (target_text target ++ words_text ws))) (context_words b context 0 CONTEXT_WORDS)
+
+-- ---- `ps`
+
+-- the text as an executable string of the command's
+abbrev pub texted_by : TableUse → Dial → PsCore → Given StringId → Result Run (Trouble Cause) → TableUse → Type 0
+texted_by t d c (Ok (text, s)) r t' = (r ≡ Ok (record { dial = d; core = ready (Str text true) c (record t { store = s }) })) × (t' ≡ record t { store = s })
+texted_by t d c (Err f) r t' = (r ≡ Err (Kind LimitCheck)) × (t' ≡ t)
+
+abbrev pub texted : List ℕ → Dial → PsCore → Eval Cause Run
+texted text d c t r t' = texted_by t d c (making_string t.store text) r t'
+
+-- what is to run
+abbrev pub ps_ready : Dial → List ℕ → Eval Cause Run
+ps_ready d text = beginning >>= texted text d
+
+-- the operands that are left, from the bottom
+abbrev pub operand_texts : StoreState → List PsObj → List ℕ
+operand_texts s [] = []
+operand_texts s (x ∷ xs) = codes " " ++ (text_of s x ++ operand_texts s xs)
+
+abbrev pub ps_line : PsCore → List ℕ
+ps_line c = line (codes "ps" ++ operand_texts c.store (reverse c.operands))
+
+abbrev pub ps_result : Answer → PsCore → Result (List ℕ) (Trouble Cause)
+ps_result (Ok u) c = Ok (ps_line c)
+ps_result (Err f) c = Err (trouble_of f)
+
+-- `ps` over a dial: it doesn't come to run, or it runs to an end. With the dial, the table's store and the steps that it leaves.
+pub data RunsPs (d : Dial) (text : List ℕ) (t : TableUse) : Result (List ℕ) (Trouble Cause) → Dial → StoreState → ℕ → Type 0 where
+  not_begun : {e : Trouble Cause} {t' : TableUse} → ps_ready d text t (Err e) t' → RunsPs d text t (Err e) d t'.store t'.left
+  ended : {run : Run} {t' : TableUse} {answer : Answer} {left : ℕ} {d' : Dial} {c : PsCore} → ps_ready d text t (Ok run) t'
+      → Runs Operates t'.left run.dial run.core answer left d' c → RunsPs d text t (ps_result answer c) d' c.store left

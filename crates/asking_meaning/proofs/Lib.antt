@@ -1,0 +1,6 @@
+pub mod Covering
+pub mod Commands
+pub mod Wholes
+pub mod Texts
+pub mod Registers
+pub mod Telling
