@@ -1,5 +1,5 @@
 -- The commands of one side, by what they ask.
-use Rattle.std.proofs.Common.{◌≡◌, ℕ, suc, Bool, true, false, nat_eq, List, [], ◌∷◌, ◌++◌, append-nil, codes, decimal, length, Option, Some, None, Ok, Err, refl, sym, ap, ◌∙◌, subst}
+use Rattle.std.proofs.Common.{◌≡◌, ℕ, suc, Bool, true, false, nat_eq, List, [], ◌∷◌, ◌++◌, append-nil, codes, decimal, length, Option, Some, None, refl, sym, ap, subst}
 use Rattle.ldb_words.specs.declared.kinds.Kind.TheVariants.{Word}
 use Rattle.machine_state.specs.Regions.{Regions, write_of}
 use Rattle.machine_state.specs.declared.layout.TheConstants.{CONTEXT}
@@ -9,7 +9,7 @@ use Rattle.frame_bytes.specs.declared.frame.Space.TheVariants.{Memory}
 use Rattle.frame_bytes.specs.Bytes.{Bytes, stored, or_none}
 use Rattle.table_model.specs.Rows.{PointRow}
 use Rattle.table_model.specs.Frames.{told_frames, told_frame_at}
-use Rattle.dialect_model.specs.TableUse.{Kind, Refused, Eval, Looks, gives, fails, refuses, ◌>>=◌}
+use Rattle.dialect_model.specs.TableUse.{Kind, Refused, Eval, Looks, gives, refuses, ◌>>=◌}
 use Rattle.break_plant.specs.Planted as planted
 use Rattle.break_plant.specs.Planted.{noop_of, break_of}
 use Rattle.c_session.specs.declared.command.Spot.{Spot}
@@ -43,9 +43,9 @@ listing_covers a =
     let f = λ (ps : List PointRow). gives (line (codes "frames " ++ decimal (length ps)) ++ frame_lines 0 ps) in
     let g = λ (ps : List PointRow). gives (record { lines = (codes "frames " ++ decimal (length ps)) ∷ frame_texts 0 ps; side = a }) in
     bind_covers {P = Same (List PointRow)} (Looks q) (Looks q) f g (looks_cover q q (λ s. refl)) (λ ps ps' e.
-        subst (λ ps'. Covers (Says a) (f ps) (g ps')) e
-        (gives_covers (line (codes "frames " ++ decimal (length ps)) ++ frame_lines 0 ps) (record { lines = (codes "frames " ++ decimal (length ps)) ∷ frame_texts 0 ps; side = a })
-            (ap (λ text. line (codes "frames " ++ decimal (length ps)) ++ text) (joined_frames 0 ps), refl)))
+    subst (λ ps'. Covers (Says a) (f ps) (g ps')) e
+    (gives_covers (line (codes "frames " ++ decimal (length ps)) ++ frame_lines 0 ps) (record { lines = (codes "frames " ++ decimal (length ps)) ∷ frame_texts 0 ps; side = a })
+    (ap (λ text. line (codes "frames " ++ decimal (length ps)) ++ text) (joined_frames 0 ps), refl)))
 
 or_frame_covers : (p : Option PointRow) → Covers (Same PointRow) (asked_frames.or_no_frame p) (side_frames.or_no_frame p)
 or_frame_covers None = fails_covers (Refused cause.NoFrame)
@@ -57,10 +57,10 @@ choosing_covers a n =
     let f = λ (p : PointRow). gives (line (frame_text n p)) in
     let g = λ (p : PointRow). gives (record { lines = frame_text n p ∷ []; side = record a { frame = n } }) in
     let says = λ (p p' : PointRow) (e : p ≡ p'). subst (λ p'. Covers (Says (record a { frame = n })) (f p) (g p')) e
-        (gives_covers (line (frame_text n p)) (record { lines = frame_text n p ∷ []; side = record a { frame = n } }) (sym (append-nil (line (frame_text n p))), refl)) in
+    (gives_covers (line (frame_text n p)) (record { lines = frame_text n p ∷ []; side = record a { frame = n } }) (sym (append-nil (line (frame_text n p))), refl)) in
     bind_covers {P = Same (Option PointRow)} (Looks q) (Looks q) (λ told. asked_frames.or_no_frame told >>= f) (λ told. side_frames.or_no_frame told >>= g) (looks_cover q q (λ s. refl)) (λ o o' e.
-        subst (λ o'. Covers (Says (record a { frame = n })) (asked_frames.or_no_frame o >>= f) (side_frames.or_no_frame o' >>= g)) e
-        (bind_covers (asked_frames.or_no_frame o) (side_frames.or_no_frame o) f g (or_frame_covers o) says))
+    subst (λ o'. Covers (Says (record a { frame = n })) (asked_frames.or_no_frame o >>= f) (side_frames.or_no_frame o' >>= g)) e
+    (bind_covers (asked_frames.or_no_frame o) (side_frames.or_no_frame o) f g (or_frame_covers o) says))
 
 -- ---- breakpoints
 
@@ -115,7 +115,7 @@ planting_covers a p =
     let f = λ (w : ℕ). puts a.machine.target (memory_of a) p (nat_eq w (noop_of a.machine.target)) in
     let g = λ (w : ℕ). side_breaks.planted_if a p (nat_eq w (noop_of a.machine.target)) in
     bind_covers {P = Same ℕ} (doing.or_range (planted.word_at (memory_of a) p.at)) (side_breaks.or_range (side_breaks.word_at a p.at)) f g (or_range_covers (planted.word_at (memory_of a) p.at)) (λ w w' e.
-        subst (λ w'. Covers (Holds a) (f w) (g w')) e (puts_cover a p (nat_eq w (noop_of a.machine.target))))
+    subst (λ w'. Covers (Holds a) (f w) (g w')) e (puts_cover a p (nat_eq w (noop_of a.machine.target))))
 
 -- what is said behind a breakpoint's change of the side
 abbrev said : (word : List ℕ) → PointRow → SideState → OnSide Change
@@ -138,8 +138,8 @@ broken_covers a p false =
     let set = λ (a' : SideState). gives (record a' { breaks = a'.breaks ++ p ∷ [] }) in
     regrouped_covers (asked_breaks.planting a.machine.target a.breaks (memory_of a) p >>= f) (side_breaks.planting a p) set (said (codes "break ") p)
     (bind_covers {P = Holds a} (asked_breaks.planting a.machine.target a.breaks (memory_of a) p) (side_breaks.planting a p) f (λ a'. set a' >>= said (codes "break ") p) (planting_covers a p) (λ b a' h.
-        after_gives (f b) (record a' { breaks = a'.breaks ++ p ∷ [] }) (said (codes "break ") p)
-        (stores_cover a (record a' { breaks = a'.breaks ++ p ∷ [] }) (codes "break ") p b breaks (ap (λ (z : SideState). record z { breaks = z.breaks ++ p ∷ [] }) h.side) h.bytes)))
+    after_gives (f b) (record a' { breaks = a'.breaks ++ p ∷ [] }) (said (codes "break ") p)
+    (stores_cover a (record a' { breaks = a'.breaks ++ p ∷ [] }) (codes "break ") p b breaks (ap (λ (z : SideState). record z { breaks = z.breaks ++ p ∷ [] }) h.side) h.bytes)))
 
 cleared_covers : (a : SideState) (p : PointRow) (is : Bool) → Covers (Stores a) (asked_breaks.cleared_at a.machine.target a.breaks (memory_of a) p is) (side_breaks.cleared_at a p is >>= said (codes "clear ") p)
 cleared_covers a p true =
@@ -150,8 +150,8 @@ cleared_covers a p true =
     let n = side_breaks.or_range (side_breaks.with_word a p.at (noop_of a.machine.target)) in
     regrouped_covers (m >>= f) n set (said (codes "clear ") p)
     (bind_covers {P = Holds a} m n f (λ a'. set a' >>= said (codes "clear ") p) (stored_covers a p.at (noop_of a.machine.target)) (λ b a' h.
-        after_gives (f b) (record a' { breaks = without p a'.breaks }) (said (codes "clear ") p)
-        (stores_cover a (record a' { breaks = without p a'.breaks }) (codes "clear ") p b breaks (ap (λ (z : SideState). record z { breaks = without p z.breaks }) h.side) h.bytes)))
+    after_gives (f b) (record a' { breaks = without p a'.breaks }) (said (codes "clear ") p)
+    (stores_cover a (record a' { breaks = without p a'.breaks }) (codes "clear ") p b breaks (ap (λ (z : SideState). record z { breaks = without p z.breaks }) h.side) h.bytes)))
 cleared_covers a p false = refused_behind (said (codes "clear ") p)
 
 -- ---- a spot's point, and what is done there
@@ -161,8 +161,8 @@ module _ (a : SideState) (spot : Spot) (f : PointRow → Eval Cause Stored) (g :
   at_spot =
       bind_covers {P = Same (Option PointRow)} (Looks (asked_breaks.point_of_spot spot)) (Looks (side_breaks.point_of_spot spot)) (λ found. asked_breaks.or_no_place found >>= f) (λ found. side_breaks.or_no_place found >>= g)
       (looks_cover (asked_breaks.point_of_spot spot) (side_breaks.point_of_spot spot) (same_query spot)) (λ o o' e.
-          subst (λ o'. Covers (Stores a) (asked_breaks.or_no_place o >>= f) (side_breaks.or_no_place o' >>= g)) e
-          (bind_covers (asked_breaks.or_no_place o) (side_breaks.or_no_place o) f g (or_place_covers o) (λ p p' s. subst (λ p'. Covers (Stores a) (f p) (g p')) s (covers p))))
+      subst (λ o'. Covers (Stores a) (asked_breaks.or_no_place o >>= f) (side_breaks.or_no_place o' >>= g)) e
+      (bind_covers (asked_breaks.or_no_place o) (side_breaks.or_no_place o) f g (or_place_covers o) (λ p p' s. subst (λ p'. Covers (Stores a) (f p) (g p')) s (covers p))))
 
 pub breaking_covers : (a : SideState) (spot : Spot) → Covers (Stores a) (asked_breaks.breaking a.machine.target a.breaks (memory_of a) spot) (side_breaks.breaking a spot)
 breaking_covers a spot =

@@ -1,11 +1,10 @@
 -- Parts of commands that cover each other.
-use Rattle.std.proofs.Common.{◌≡◌, ℕ, Option, Some, None, Result, Ok, Err, refl, sym, ap, ◌∙◌, subst}
+use Rattle.std.proofs.Common.{◌≡◌, Result, Ok, Err, refl, sym, ◌∙◌, subst}
 use Rattle.ps_store.specs.StoreState.{StoreState}
 use Rattle.ps_step.specs.declared.fault.PsFault.{PsFault}
 use Rattle.ps_step.specs.declared.fault.PsFault.TheVariants.{Error, Spent as SpentFault, Link, NoMemory}
 use Rattle.table_model.specs.Reading.{Walked}
-use Rattle.dialect_model.specs.TableUse.{TableUse, Trouble, Kind, Spent, Wanting, Refused, Eval, onward, ◌>>=◌, gives, fails, trouble_of, with_store, Looks, told, lacks, forced, broken, wanting}
-use Rattle.c_session.specs.Commands.{Refusal}
+use Rattle.dialect_model.specs.TableUse.{TableUse, Trouble, Kind, Wanting, Refused, Eval, onward, ◌>>=◌, gives, fails, trouble_of, with_store, Looks, told, lacks, forced, broken, wanting}
 use Rattle.table_asks.specs.declared.fault.Cause.{Cause}
 use Rattle.asking.specs.Refusals.{refusal_of}
 use Rattle.claims.specs.Side.{OnSide, Troubled}

@@ -1,10 +1,8 @@
 -- `regs`: the words of the context block, one by one.
-use Rattle.std.proofs.Common.{◌≡◌, ◌∙◌, refl, sym, ap, ℕ, zero, suc, ◌+◌, ◌-◌, ◌*◌, ◌%◌, ◌^◌, ◌≤◌, ◌<◌, ◌&&◌, nat_eq, nat_le, Bool, true, false, if◌then◌else◌, List, [], ◌∷◌, ◌++◌, codes, length, drop, Option, Some, None, option_map, Ok, Err, drop-drop, arith}
+use Rattle.std.proofs.Common.{◌≡◌, ◌∙◌, refl, sym, ap, ℕ, zero, suc, ◌+◌, ◌-◌, ◌*◌, ◌%◌, ◌≤◌, ◌<◌, nat_eq, Bool, true, if◌then◌else◌, List, [], ◌∷◌, ◌++◌, codes, length, drop, Option, Some, None, option_map, Ok, Err, drop-drop, arith}
 use Rattle.std.proofs.lemmas.Bool.Decides.{nat_tests}
 use Rattle.ldb_words.specs.Word.{sum_of}
-use Rattle.ldb_words.specs.declared.kinds.Kind.TheVariants.{Word}
-use Rattle.ldb_words.specs.declared.kinds.Order.{Order}
-use Rattle.machine_state.specs.declared.layout.TheConstants.{TEXT, DATA, DATA_SIZE, STACK, STACK_SIZE, CONTEXT, CONTEXT_SIZE, CONTEXT_WORDS}
+use Rattle.machine_state.specs.declared.layout.TheConstants.{TEXT, DATA, STACK, CONTEXT, CONTEXT_WORDS}
 use Rattle.machine_state.specs.Regions.{Regions, read_of, held, readable, or_else, or_outside, bytes_from, offset_in, number_of, words_in}
 use Rattle.machine_state.specs.Sound.{IsMemory}
 use Rattle.frame_bytes.specs.Bytes.{Bytes, fetched, or_none}
@@ -13,9 +11,8 @@ use Rattle.ps_leaves.specs.Forms.{hex_text}
 use Rattle.asking.specs.Lines.{line}
 use Rattle.asking.specs.Lines as asked_lines
 use Rattle.asking.specs.Raw as asked_raw
-use Rattle.claims.specs.Side.{SideState, memory_of}
+use Rattle.claims.specs.Side.{memory_of}
 use Rattle.claims.specs.Lines as side_lines
-use Rattle.claims.specs.Raw as side_raw
 use Rattle.asking_meaning.specs.Meant.{RegsAreMeant}
 
 -- ---- a word of the context block

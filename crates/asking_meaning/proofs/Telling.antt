@@ -2,21 +2,20 @@
 use Rattle.std.proofs.Common.{◌≡◌, ℕ, List, Option, Some, None, Result, Ok, Err, refl, sym, ap, ◌∙◌, subst}
 use Rattle.machine_state.specs.State.{MachineState, order_of}
 use Rattle.frame_bytes.specs.Bytes.{Bytes, no_places}
-use Rattle.abs_mem.specs.Meaning.{Seen, Same, OnTold}
+use Rattle.abs_mem.specs.Meaning.{Seen}
 use Rattle.table_model.specs.Rows.{PointRow}
 use Rattle.dialect_model.specs.TableUse.{TableUse, Trouble, Kind, Eval}
 use Rattle.dialect_model.specs.TableUse.{Refused as RefusedFor, Spent as StepsSpent}
-use Rattle.ps_store.specs.StoreState.{StoreState}
 use Rattle.table_asks.specs.declared.fault.Cause.{Cause}
 use Rattle.table_asks.specs.declared.fault.AskFault.{AskFault}
 use Rattle.table_asks.specs.declared.fault.AskFault.TheVariants.{Refused, Raised, Spent, NoMemory, Broken}
 use Rattle.table_asks.specs.declared.inquiry.Inquiry.{Inquiry}
 use Rattle.table_asks.specs.Asking.{Comes, ComesOver}
-use Rattle.asking.specs.Doing.{Change as Stored, ChangesOver}
-use Rattle.claims.specs.Side.{SideState, Change, OnSide, Troubled, memory_of, with_memory, with_table_of, side_after}
+use Rattle.asking.specs.Doing.{Change as Stored}
+use Rattle.claims.specs.Side.{SideState, Change, OnSide, Troubled, memory_of, with_memory, side_after}
 use Rattle.claims.specs.Outcome as outcome
-use Rattle.asking_meaning.specs.Meant.{Matches, Covers, joined, Says, Stores, answer_of, Stands, Begun, IsEnded, Meant}
-use Rattle.asking_meaning.specs.Told.{SaysText, if_done, MeantOver, AsksAreMeant, StoresAreMeant}
+use Rattle.asking_meaning.specs.Meant.{Matches, Covers, Says, Stores, answer_of, Stands, Begun, IsEnded, Meant}
+use Rattle.asking_meaning.specs.Told.{if_done, MeantOver, AsksAreMeant, StoresAreMeant}
 use Rattle.asking_meaning.proofs.Wholes.{some_is, meant}
 
 abbrev bytes_of : MachineState → Bytes

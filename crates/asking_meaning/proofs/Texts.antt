@@ -8,7 +8,6 @@ use Rattle.ps_store.specs.declared.object.StringId.{StringId}
 use Rattle.ps_store.specs.StoreState.{StoreState}
 use Rattle.ps_store.specs.Store.{Given, making_dict, making_string}
 use Rattle.ps_step.specs.declared.fault.PsError.TheVariants.{LimitCheck}
-use Rattle.ps_step.specs.declared.fault.PsFault.{PsFault}
 use Rattle.ps_step.specs.declared.machine.PsCore.{PsCore}
 use Rattle.ps_step.specs.Text.{text_of}
 use Rattle.ps_run.specs.Runs.{Answer, Runs}
@@ -21,9 +20,9 @@ use Rattle.table_asks.specs.declared.inquiry.Inquiry.{Inquiry}
 use Rattle.table_asks.specs.Asking.{left_of}
 use Rattle.asking.specs.Lines.{line}
 use Rattle.asking.specs.Raw as asked_raw
-use Rattle.claims.specs.Side.{SideState, Change, OnSide, Troubled, MOST_STEPS, dial_of, with_memory, with_table_of}
+use Rattle.claims.specs.Side.{SideState, Change, OnSide, Troubled, MOST_STEPS, dial_of, with_table_of}
 use Rattle.claims.specs.Raw as side_raw
-use Rattle.asking_meaning.specs.Meant.{Matches, Matched, Covers, Says, Stands, Begun, IsEnded, with_bytes_of, PsIsMeant}
+use Rattle.asking_meaning.specs.Meant.{Matches, Covers, Says, Stands, IsEnded, with_bytes_of, PsIsMeant}
 use Rattle.asking_meaning.proofs.Covering.{bind_covers, same_trouble}
 use Rattle.asking_meaning.proofs.Wholes.{begun_at, same_table, left_nothing}
 
@@ -72,7 +71,7 @@ ready_covers : (a : SideState) (text : List ℕ) → Covers (Same Run) (asked_ra
 ready_covers a text =
     let d = dial_of a (Numbered a.frame) true in
     bind_covers {P = Same PsCore} beginning beginning (asked_raw.texted text d) (texts text d) beginning_covers (λ c c' e.
-        subst (λ c'. Covers (Same Run) (asked_raw.texted text d c) (texts text d c')) e (texted_covers text d c))
+    subst (λ c'. Covers (Same Run) (asked_raw.texted text d c) (texts text d c')) e (texted_covers text d c))
 
 -- ---- what is said
 
@@ -133,8 +132,8 @@ module _ (a : SideState) (text : List ℕ) where
 pub ps_meant : PsIsMeant
 ps_meant a text i j k l r d d' stands begun e runs ended =
     let from : asked_raw.RunsPs (dial_of a (Numbered a.frame) true) text (use_of a.table MOST_STEPS) r d' k.core.store (left_of k) =
-        subst (λ (t : TableUse). asked_raw.RunsPs (dial_of a (Numbered a.frame) true) text t r d' k.core.store (left_of k)) (begun_at a i j stands begun)
-        (subst (λ (x : Dial). asked_raw.RunsPs x text (use_of j.core.store (left_of j)) r d' k.core.store (left_of k)) e runs) in
+    subst (λ (t : TableUse). asked_raw.RunsPs (dial_of a (Numbered a.frame) true) text t r d' k.core.store (left_of k)) (begun_at a i j stands begun)
+    (subst (λ (x : Dial). asked_raw.RunsPs x text (use_of j.core.store (left_of j)) r d' k.core.store (left_of k)) e runs) in
     let w = ps_comes a text r d' k.core.store (left_of k) from in
     record {
       result = w.result;

@@ -1,5 +1,5 @@
 -- Whole commands, between their begin and their end.
-use Rattle.std.proofs.Common.{◌≡◌, ℕ, min, ◌-◌, Option, Some, None, Result, Ok, Err, inl, refl, sym, ap, ◌∙◌, subst, arith}
+use Rattle.std.proofs.Common.{◌≡◌, ℕ, min, ◌-◌, Option, Some, Result, Ok, Err, inl, refl, sym, ap, ◌∙◌, subst, arith}
 use Rattle.ps_store.specs.declared.object.Part.TheVariants.{Command}
 use Rattle.ps_store.specs.StoreState.{StoreState}
 use Rattle.ps_store.specs.Held.{Held}
@@ -13,7 +13,7 @@ use Rattle.table_asks.specs.declared.inquiry.Inquiry.{Inquiry}
 use Rattle.table_asks.specs.Asking.{Comes, left_of, used_by}
 use Rattle.claims.specs.Side.{SideState, Change, OnSide, Troubled, MOST_STEPS, table_after, side_after}
 use Rattle.claims.specs.Outcome as outcome
-use Rattle.asking_meaning.specs.Meant.{Covers, Matched, answer_of, NOTHING, Stands, Begun, IsEnded, Meant, AreMeant}
+use Rattle.asking_meaning.specs.Meant.{Covers, Matched, answer_of, NOTHING, Stands, Begun, IsEnded, AreMeant}
 
 abbrev pub some_of : {A : Type 0} → A → Option A
 some_of x = Some x

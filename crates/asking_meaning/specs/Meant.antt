@@ -8,7 +8,6 @@ use Rattle.ps_store.specs.Cut.{mark_of, cut}
 use Rattle.dialect_model.specs.Dial.{Dial, Target, Numbered}
 use Rattle.dialect_model.specs.TableUse.{TableUse, use_of, Trouble, Kind, Wanting, Eval}
 use Rattle.dialect_model.specs.TableUse.{Refused as RefusedFor, Spent as StepsSpent}
-use Rattle.c_session.specs.Commands.{Refusal}
 use Rattle.c_session.specs.declared.command.Spot.{Spot}
 use Rattle.table_asks.specs.declared.fault.Cause.{Cause}
 use Rattle.table_asks.specs.declared.fault.AskFault.{AskFault}
