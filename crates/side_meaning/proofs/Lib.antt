@@ -1,2 +1,9 @@
 pub mod Resuming
 pub mod Stepping
+pub mod Memories
+pub mod Behind
+pub mod Beginning
+pub mod Asking
+pub mod Sessions
+pub mod Starting
+pub mod Telling

@@ -24,14 +24,14 @@ use Rattle.debug_side.specs.declared.event.Event.{Event}
 use Rattle.debug_side.specs.declared.event.Event.TheVariants as event
 use Rattle.debug_side.specs.declared.point.MachineKind.{MachineKind}
 use Rattle.debug_side.specs.declared.point.SideRow.{SideRow}
-use Rattle.debug_side.specs.Meant.{address_of, point_at, stop_or, stop_of, event_of, stop_address, stood, is_turns, keeps_words}
+use Rattle.debug_side.specs.Meant.{address_of, point_at, stop_or, stop_of, event_of, stop_address, stood, is_turns, keeps_words, words_left}
 use Rattle.debug_side.specs.Wrote.{or_same, word_put, words_put, passed}
 use Rattle.debug_side.specs.Told.{moved, behind, put_by, came, at_event, moved_there, its_run, its_event, its_output, host_at_event, host_behind}
 use Rattle.claims.specs.Side.{SideEvent, SideState, memory_of, with_memory, context_place, PC_WORD, NEXT_PC_WORD}
 use Rattle.claims.specs.Breaks.{with_word, words_removed, remove_step_words, at_address, stop_at}
 use Rattle.claims.specs.Resumes.{SideRun, with_context_word, past_no_op, stop_or_fault, event_by, after_event, resume_side}
 use Rattle.claims.specs.Resumes as claimed
-use Rattle.side_meaning.specs.Standing.{event_in, events_in, IsPlanted, IsLeft, StandsFor, MayResume, Leaves, Resumed, ResumesAreMeant}
+use Rattle.side_meaning.specs.Standing.{event_in, events_in, IsPlanted, IsLeft, IsAlike}
 
 -- ---- past the no-op
 
@@ -108,7 +108,7 @@ abbrev pub bytes_in : SideState → Option Bytes → Option SideState
 bytes_in a None = None
 bytes_in a (Some b) = Some (with_memory b.regions a)
 
-abbrev or_side : SideState → Option SideState → SideState
+abbrev pub or_side : SideState → Option SideState → SideState
 or_side a None = a
 or_side a (Some a') = a'
 
@@ -120,7 +120,7 @@ by_regions : (a : SideState) (o : Option Regions) → or_side a (bytes_in a (put
 by_regions a None = refl
 by_regions a (Some r) = refl
 
-one_removed : (a : SideState) (at w : ℕ) → or_side a (with_word a at w) ≡ with_memory (word_put (order_of a.machine) w at a.machine.memory) a
+pub one_removed : (a : SideState) (at w : ℕ) → or_side a (with_word a at w) ≡ with_memory (word_put (order_of a.machine) w at a.machine.memory) a
 one_removed a at w = ap (λ (b : Option Bytes). or_side a (bytes_in a b)) (stored_is (memory_of a) at w) ∙ by_regions a (or_none (write_of (order_of a.machine) a.machine.memory at 4 w))
 
 abbrev cleaned : List Point → SideState → SideState
@@ -175,19 +175,33 @@ to_words s row h a stay ps st e (inr l) = inr (record { stay = st ∙ l.0; words
 
 -- ---- a resume
 
-abbrev side_by : SideState → SideEvent → SideState
+-- what it leaves of what is kept of a side
+pub record Leaves (row row' : SideRow) (e : Event) : Type 0 where
+  pub stands_at : row'.stands_at ≡ stood row.kept row.stands_at e
+  pub words : row'.step_words.items ≡ words_left row e
+  pub kept : row'.kept ≡ row.kept
+  pub breaks : row'.breaks ≡ row.breaks
+  pub stay : row'.words_stay ≡ row.words_stay
+
+-- the machine session's resume has this event and output, and the side after it is alike; its words are known where the turns were used up
+pub record Resumed (s : StoreState) (event : Event) (output : List ℕ) (row : SideRow) (h : Host) (w : SideRun) : Type 0 where
+  pub event_is : event_in s event ≡ w.event
+  pub output_is : output ≡ w.output
+  pub alike : IsAlike s row h w.side
+
+abbrev pub side_by : SideState → SideEvent → SideState
 side_by a v = record (after_event v a) { stands_at = claimed.stop_address v }
 
-abbrev ran_by : SideState → Whole → SideRun
+abbrev pub ran_by : SideState → Whole → SideRun
 ran_by a w = record { event = event_by a w.ending; output = w.output; side = side_by (record a { machine = w.machine }) (event_by a w.ending) }
 
-run_side : (b : Behaviour) (limit : ℕ) (a : SideState) → a.kept ≡ None → resume_side b limit a ≡ ran_by a (run_from b limit (past_no_op a.stands_at a.machine))
+pub run_side : (b : Behaviour) (limit : ℕ) (a : SideState) → a.kept ≡ None → resume_side b limit a ≡ ran_by a (run_from b limit (past_no_op a.stands_at a.machine))
 run_side b limit a e = rw e refl
 
-abbrev kept_by : SideState → SideEvent → SideRun
+abbrev pub kept_by : SideState → SideEvent → SideRun
 kept_by a v = record { event = v; output = []; side = remove_step_words a }
 
-kept_side : (b : Behaviour) (limit : ℕ) (a : SideState) (v : SideEvent) → a.kept ≡ Some v → resume_side b limit a ≡ kept_by a v
+pub kept_side : (b : Behaviour) (limit : ℕ) (a : SideState) (v : SideEvent) → a.kept ≡ Some v → resume_side b limit a ≡ kept_by a v
 kept_side b limit a v e = rw e refl
 
 -- the side behind its event
@@ -210,7 +224,7 @@ placed_final s stay qs ps h true at a p = p
 placed_final s stay qs ps h false at a p = p
 
 stands_final : (s : StoreState) (row : SideRow) (h : Host) (ps : List Point) (turns : Bool) (at : Option ℕ) (a : SideState) → a.breaks ≡ map (row_in s) row.breaks.items → at ≡ row.stands_at → a.kept ≡ events_in s row.kept
-    → IsPlanted s row h (final_by ps turns at a) ⊎ IsLeft row h (final_by ps turns at a) → StandsFor s row h (final_by ps turns at a)
+    → IsPlanted s row h (final_by ps turns at a) ⊎ IsLeft row h (final_by ps turns at a) → IsAlike s row h (final_by ps turns at a)
 stands_final s row h ps true at a x y z w = record { breaks = x; stands_at = y; kept = z; words = w }
 stands_final s row h ps false at a x y z w = record { breaks = x; stands_at = y; kept = z; words = w }
 
@@ -222,7 +236,12 @@ keep_some : (stay : Bool) (k e : Event) → (if stay then true else false) ≡ k
 keep_some true k e = refl
 keep_some false k e = refl
 
-module _ (b : Behaviour) (kind : MachineKind) (s : StoreState) (limit : ℕ) (row row' : SideRow) (h : Host) (a : SideState) (steady : RunsAreSteady b) (context : kind.context ≡ CONTEXT) (target : kind.target ≡ h.machine.target) (for : StandsFor s row h a)
+keeps_turns : (stay : Bool) (kept : Option Event) (e : Event) → kept ≡ None → e ≡ event.OutOfTurns → keeps_words stay kept e ≡ true
+keeps_turns true kept e k t = refl
+keeps_turns false None e k t = ap is_turns t
+keeps_turns false (Some x) e k t = cc
+
+module _ (b : Behaviour) (kind : MachineKind) (s : StoreState) (limit : ℕ) (row row' : SideRow) (h : Host) (a : SideState) (steady : RunsAreSteady b) (context : kind.context ≡ CONTEXT) (target : kind.target ≡ h.machine.target) (for : IsAlike s row h a)
     (l : Leaves row row' (its_event b kind row limit h)) where
   abbrev Goal : SideRun → Type 0
   Goal w = Resumed s (its_event b kind row limit h) (its_output b kind row limit h) row' (host_behind b kind row limit h) w
@@ -243,20 +262,37 @@ module _ (b : Behaviour) (kind : MachineKind) (s : StoreState) (limit : ℕ) (ro
       ap (λ (g : Host). behind keep kind.target row.step_words.items g) (sym e) ∙ ap (λ (z : Bool). behind z kind.target row.step_words.items (host_at_event b kind row limit h)) k in
       to_words s row' (host_behind b kind row limit h) x row.words_stay (if keep then row.step_words.items else []) l.stay qs (subst (λ (g : Host). Placed s row.words_stay (if keep then row.step_words.items else []) g x) hs p)
 
+  -- a side that has no event yet is run
+  module _ (k : row.kept ≡ None) (p : IsPlanted s row h a) where
+    abbrev its_whole : Whole
+    its_whole = its_run b kind row limit h
+
+    abbrev at_its_end : SideState
+    at_its_end = record a { machine = its_whole.machine }
+
+    its_event_meets : event_in s (its_event b kind row limit h) ≡ event_by a its_whole.ending
+    its_event_meets =
+        ap (λ (z : Option Event). event_in s (came z row its_whole)) k ∙ events_meet s row.breaks.items row.step_words.items a for.breaks p.words its_whole.ending
+
+    is_run : resume_side b limit a ≡ ran_by a its_whole
+    is_run =
+        let begins : (moved_there b kind row limit h).machine ≡ past_no_op a.stands_at a.machine =
+        moved_machine kind.context row.stands_at h context
+        ∙ (ap (λ (at : Option ℕ). past_no_op at h.machine) (sym for.stands_at) ∙ ap (past_no_op a.stands_at) (sym p.machine)) in
+        run_side b limit a (for.kept ∙ ap (events_in s) k) ∙ ap (λ (m : MachineState). ran_by a (run_from b limit m)) (sym begins)
+
+    is_final_side : side_by at_its_end (event_by a its_whole.ending) ≡ final_by row.step_words.items (is_turns (its_event b kind row limit h)) (stop_address (its_event b kind row limit h)) at_its_end
+    is_final_side = side_is s row.step_words.items at_its_end (event_by a its_whole.ending) (its_event b kind row limit h) p.words its_event_meets
+
   runs : row.kept ≡ None → IsPlanted s row h a → Goal (resume_side b limit a)
   runs k p =
       let w : Whole = its_run b kind row limit h in
       let e : Event = its_event b kind row limit h in
       let x : SideState = record a { machine = w.machine } in
       let ps : List Point = row.step_words.items in
-      let comes : e ≡ event_of row.breaks.items ps w.ending = ap (λ (z : Option Event). came z row w) k in
-      let meets : event_in s e ≡ event_by a w.ending = ap (event_in s) comes ∙ events_meet s row.breaks.items ps a for.breaks p.words w.ending in
-      let begins : (moved_there b kind row limit h).machine ≡ past_no_op a.stands_at a.machine =
-      moved_machine kind.context row.stands_at h context
-      ∙ (ap (λ (at : Option ℕ). past_no_op at h.machine) (sym for.stands_at) ∙ ap (past_no_op a.stands_at) (sym p.machine)) in
-      let is : resume_side b limit a ≡ ran_by a w =
-      run_side b limit a (for.kept ∙ ap (events_in s) k) ∙ ap (λ (m : MachineState). ran_by a (run_from b limit m)) (sym begins) in
-      let side : side_by x (event_by a w.ending) ≡ final_by ps (is_turns e) (stop_address e) x = side_is s ps x (event_by a w.ending) e p.words meets in
+      let meets : event_in s e ≡ event_by a w.ending = its_event_meets k p in
+      let is : resume_side b limit a ≡ ran_by a w = is_run k p in
+      let side : side_by x (event_by a w.ending) ≡ final_by ps (is_turns e) (stop_address e) x = is_final_side k p in
       let same : kind.target ≡ w.machine.target = target ∙ sym (steady limit (moved_there b kind row limit h).machine).target in
       let keep : (if row.words_stay then true else is_turns e) ≡ keeps_words row.words_stay row.kept e = keep_none row.words_stay e ∙ ap (λ (z : Option Event). keeps_words row.words_stay z e) (sym k) in
       let there : host_at_event b kind row limit h ≡ after_run w (moved_there b kind row limit h) = ap (λ (z : Option Event). at_event z w h (moved_there b kind row limit h)) k in
@@ -264,14 +300,36 @@ module _ (b : Behaviour) (kind : MachineKind) (s : StoreState) (limit : ℕ) (ro
       let words = words_by (if row.words_stay then true else is_turns e) (after_run w (moved_there b kind row limit h)) (final_by ps (is_turns e) (stop_address e) x) keep there
       (placed_final s row.words_stay (if (if row.words_stay then true else is_turns e) then ps else []) ps (behind (if row.words_stay then true else is_turns e) kind.target ps (after_run w (moved_there b kind row limit h))) (is_turns e) (stop_address e) x
       (placed s ps (after_run w (moved_there b kind row limit h)) kind.target x p.words refl same row.words_stay (is_turns e))) in
-      let stands : StandsFor s row' (host_behind b kind row limit h) (final_by ps (is_turns e) (stop_address e) x) =
+      let stands : IsAlike s row' (host_behind b kind row limit h) (final_by ps (is_turns e) (stop_address e) x) =
       stands_final s row' (host_behind b kind row limit h) ps (is_turns e) (stop_address e) x breaks_still at kept_still words in
       subst Goal (sym is)
       (record {
         event_is = meets;
         output_is = ap (λ (z : Option Event). put_by z w) k;
-        stands = subst (StandsFor s row' (host_behind b kind row limit h)) (sym side) stands;
+        alike = subst (IsAlike s row' (host_behind b kind row limit h)) (sym side) stands;
       })
+
+  left_where : (turns : Bool) → turns ≡ true → (at : Option ℕ) (x : SideState) → (final_by row.step_words.items turns at x).step_words ≡ x.step_words × ((final_by row.step_words.items turns at x).machine ≡ x.machine)
+  left_where true t at x = (refl, refl)
+  left_where false t at x = cc
+
+  -- where the turns were used up the words stay known
+  pub planted_after : row.kept ≡ None → IsPlanted s row h a → its_event b kind row limit h ≡ event.OutOfTurns → IsPlanted s row' (host_behind b kind row limit h) (resume_side b limit a).side
+  planted_after k p turns =
+      let w : Whole = its_run b kind row limit h in
+      let e : Event = its_event b kind row limit h in
+      let x : SideState = record a { machine = w.machine } in
+      let stays = left_where (is_turns e) (ap is_turns turns) (stop_address e) x in
+      let side : (resume_side b limit a).side ≡ final_by row.step_words.items (is_turns e) (stop_address e) x = ap (λ (r : SideRun). r.side) (is_run k p) ∙ is_final_side k p in
+      let keep : keeps_words row.words_stay row.kept e ≡ true = keeps_turns row.words_stay row.kept e k turns in
+      let there : host_behind b kind row limit h ≡ after_run w (moved_there b kind row limit h) =
+      ap (λ (z : Bool). behind z kind.target row.step_words.items (host_at_event b kind row limit h)) keep
+      ∙ ap (λ (z : Option Event). at_event z w h (moved_there b kind row limit h)) k in
+      record {
+        words = ap (λ (y : SideState). y.step_words) side
+            ∙ (stays.0 ∙ (p.words ∙ ap (map (row_in s)) (sym (l.words ∙ ap (λ (z : Bool). if z then row.step_words.items else []) keep))));
+        machine = ap (λ (y : SideState). y.machine) side ∙ (stays.1 ∙ ap (λ (g : Host). g.machine) (sym there));
+      }
 
   there_kept : (k : Event) → row.kept ≡ Some k → host_at_event b kind row limit h ≡ h
   there_kept k e = ap (λ (z : Option Event). at_event z (its_run b kind row limit h) h (moved_there b kind row limit h)) e
@@ -280,11 +338,11 @@ module _ (b : Behaviour) (kind : MachineKind) (s : StoreState) (limit : ℕ) (ro
   keep_kept k e = keep_some row.words_stay k (its_event b kind row limit h) ∙ ap (λ (z : Option Event). keeps_words row.words_stay z (its_event b kind row limit h)) (sym e)
 
   stands_kept : (ps : List Point) → a.step_words ≡ map (row_in s) ps → a.stands_at ≡ row'.stands_at
-      → IsPlanted s row' (host_behind b kind row limit h) (unworded ps a) ⊎ IsLeft row' (host_behind b kind row limit h) (unworded ps a) → StandsFor s row' (host_behind b kind row limit h) (remove_step_words a)
+      → IsPlanted s row' (host_behind b kind row limit h) (unworded ps a) ⊎ IsLeft row' (host_behind b kind row limit h) (unworded ps a) → IsAlike s row' (host_behind b kind row limit h) (remove_step_words a)
   stands_kept ps e at w =
-      subst (StandsFor s row' (host_behind b kind row limit h)) (sym (all_removed s ps a e)) (record { breaks = breaks_still; stands_at = at; kept = kept_still; words = w })
+      subst (IsAlike s row' (host_behind b kind row limit h)) (sym (all_removed s ps a e)) (record { breaks = breaks_still; stands_at = at; kept = kept_still; words = w })
 
-  keeps_words_by : (k : Event) → row.kept ≡ Some k → a.stands_at ≡ row'.stands_at → IsPlanted s row h a ⊎ IsLeft row h a → StandsFor s row' (host_behind b kind row limit h) (remove_step_words a)
+  keeps_words_by : (k : Event) → row.kept ≡ Some k → a.stands_at ≡ row'.stands_at → IsPlanted s row h a ⊎ IsLeft row h a → IsAlike s row' (host_behind b kind row limit h) (remove_step_words a)
   keeps_words_by k e at (inl p) =
       stands_kept row.step_words.items p.words at
       (words_by (if row.words_stay then true else false) h (unworded row.step_words.items a) (keep_kept k e) (there_kept k e) (placed s row.step_words.items h kind.target a p.words p.machine target row.words_stay false))
@@ -300,12 +358,12 @@ module _ (b : Behaviour) (kind : MachineKind) (s : StoreState) (limit : ℕ) (ro
       (record {
         event_is = ap (λ (z : Option Event). event_in s (came z row (its_run b kind row limit h))) e;
         output_is = ap (λ (z : Option Event). put_by z (its_run b kind row limit h)) e;
-        stands = keeps_words_by k e at for.words;
+        alike = keeps_words_by k e at for.words;
       })
 
-  by_kept : MayResume s row h a → (k : Option Event) → row.kept ≡ k → Goal (resume_side b limit a)
+  by_kept : (row.kept ≡ None → IsPlanted s row h a) → (k : Option Event) → row.kept ≡ k → Goal (resume_side b limit a)
   by_kept may None e = runs e (may e)
   by_kept may (Some k) e = keeps k e
 
-pub resumes : ResumesAreMeant
-resumes b kind s limit row row' h a steady context target for may l = by_kept b kind s limit row row' h a steady context target for l may row.kept refl
+  pub alike_after : (row.kept ≡ None → IsPlanted s row h a) → Goal (resume_side b limit a)
+  alike_after may = by_kept may row.kept refl

@@ -18,7 +18,7 @@ use Rattle.debug_side.specs.Planting.{at_none, is_put, is_passed, is_outside, be
 use Rattle.dialect_model.specs.TableUse.{TableUse, Kind}
 use Rattle.claims.specs.Side.{SideState, Troubled, memory_of, with_memory}
 use Rattle.claims.specs.Breaks.{or_range, word_at, with_word, step_word_at, step_words_at}
-use Rattle.side_meaning.specs.Standing.{StepsAreMeant, NoStepIsMeant}
+use Rattle.side_meaning.specs.Stepping.{StepsAreMeant, NoStepIsMeant}
 use Rattle.side_meaning.proofs.Resuming.{put_back, bytes_in, stored_is}
 
 -- ---- a word
@@ -26,7 +26,7 @@ use Rattle.side_meaning.proofs.Resuming.{put_back, bytes_in, stored_is}
 some_is : {T : Type 0} {x y : T} → Some x ≡ Some y → x ≡ y
 some_is e = cc
 
-read_is : (b : Bytes) (at : ℕ) → planted.word_at b at ≡ or_none (read_of b.order b.regions at 4)
+pub read_is : (b : Bytes) (at : ℕ) → planted.word_at b at ≡ or_none (read_of b.order b.regions at 4)
 unfolding fetched
 read_is b at = refl
 

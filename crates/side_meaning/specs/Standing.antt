@@ -1,30 +1,28 @@
--- How a side stands for a side of the machine session, where its table, its nub and its machine are these.
-use Rattle.std.specs.Prelude.{◌≡◌, ◌⊎◌, ℕ, true, false, List, [], ◌++◌, map, option_map, Option, Some, None, Ok, Err}
+-- How a side, as a debugger has it, stands for a side of the machine session.
+use Rattle.std.specs.Prelude.{◌≡◌, ◌≢◌, ◌⊎◌, ℕ, true, false, List, [], map, option_map, Option, Some, None, Ok}
 use Rattle.std.specs.List.{list_all}
-use Rattle.machine_state.specs.declared.layout.TheConstants.{CONTEXT}
-use Rattle.machine_state.specs.Regions.{Regions}
-use Rattle.machine_state.specs.State.{Behaviour, order_of}
-use Rattle.machine_state.specs.Sound.{IsMemory}
+use Rattle.nub_wire.specs.declared.message.Ending.{Ending}
 use Rattle.nub_wire.specs.Nub.{Host}
-use Rattle.frame_bytes.specs.Bytes.{Bytes}
-use Rattle.ps_step.specs.declared.fault.PsError.TheVariants.{RangeCheck}
+use Rattle.frame_bytes.specs.Bytes.{bytes_of}
+use Rattle.ps_store.specs.Held.{Held}
 use Rattle.ps_store.specs.StoreState.{StoreState}
+use Rattle.table_model.specs.Places.{all_points}
 use Rattle.table_points.specs.declared.row.Point.{Point}
 use Rattle.table_points.specs.Rows.{row_in}
 use Rattle.debug_side.specs.declared.event.Event.{Event}
 use Rattle.debug_side.specs.declared.event.Event.TheVariants as event
-use Rattle.debug_side.specs.declared.point.MachineKind.{MachineKind}
 use Rattle.debug_side.specs.declared.point.SideRow.{SideRow}
-use Rattle.break_plant.specs.Planted.{noop_of}
-use Rattle.debug_side.specs.Meant.{address_of, stood, words_left, stands_in_text}
-use Rattle.debug_side.specs.Wrote.{words_put}
-use Rattle.steady_machines.specs.Steady.{RunsAreSteady}
-use Rattle.debug_side.specs.Told.{behind, its_event, its_output, host_behind}
-use Rattle.debug_side.specs.Planting.{PutsWords, MeetsNone}
-use Rattle.dialect_model.specs.TableUse.{TableUse, Kind}
-use Rattle.claims.specs.Side.{SideEvent, Stops, Pauses, Exits, Faults, OutOfTurns, OutOfStack, SideState, with_memory}
-use Rattle.claims.specs.Breaks.{step_words_at}
-use Rattle.claims.specs.Resumes.{SideRun, resume_side}
+use Rattle.debug_side.specs.Meant.{stands_in_text}
+use Rattle.debug_side.specs.Told.{behind}
+use Rattle.debug_side.specs.Planting.{PutsWords}
+use Rattle.claims.specs.Side.{SideEvent, Stops, Pauses, Exits, Faults, OutOfTurns, OutOfStack, is_final, SideState}
+
+-- its table and its chosen frame, what is kept of it, and its nub with its machine
+pub record Debugged : Type 0 where
+  pub table : StoreState
+  pub frame : ℕ
+  pub row : SideRow
+  pub host : Host
 
 -- ---- events
 
@@ -39,7 +37,26 @@ event_in s event.OutOfStack = OutOfStack
 abbrev pub events_in : StoreState → Option Event → Option SideEvent
 events_in s e = option_map (event_in s) e
 
--- ---- a side
+-- where the nub's run ended for good the side keeps an event after which nothing runs
+abbrev pub EndsWith : (kept : Option SideEvent) → (ended : Option Ending) → Type 0
+EndsWith None ended = ended ≡ None
+EndsWith (Some k) ended = (ended ≡ None) ⊎ (is_final k ≡ true)
+
+-- ---- tables
+
+abbrev pub no_objects : Held
+no_objects = record { arrays = []; dicts = []; strings = []; units = 0 }
+
+-- the same table, whichever part objects are made in, and no objects of a command beside it
+pub record IsTable (s t : StoreState) : Type 0 where
+  pub same : t ≡ record s { part = t.part }
+  pub command : s.command ≡ no_objects
+
+-- ---- words of a step
+
+-- the nub and machine with the no-ops back at the words of a step
+abbrev pub cleared : SideRow → Host → Host
+cleared row h = behind false h.machine.target row.step_words.items h
 
 -- the words of a step are known to the other side too, or none are there
 pub record IsPlanted (s : StoreState) (row : SideRow) (h : Host) (a : SideState) : Type 0 where
@@ -50,63 +67,38 @@ pub record IsPlanted (s : StoreState) (row : SideRow) (h : Host) (a : SideState)
 pub record IsLeft (row : SideRow) (h : Host) (a : SideState) : Type 0 where
   pub stay : row.words_stay ≡ true
   pub words : a.step_words ≡ []
-  pub machine : a.machine ≡ (behind false h.machine.target row.step_words.items h).machine
+  pub machine : a.machine ≡ (cleared row h).machine
+
+-- What the words of a step were put at: all points of the table. They stand in the text, and a step from where the no-ops are back would
+-- put the very words that stand.
+pub record IsAgain (d : Debugged) (t : StoreState) : Type 0 where
+  pub points : List Point
+  pub all : all_points t ≡ Ok (map (row_in d.table) points)
+  pub in_text : list_all stands_in_text points ≡ true
+  pub puts : PutsWords d.host.machine.target (bytes_of (cleared d.row d.host).machine) points d.row.step_words.items (bytes_of d.host.machine)
+
+-- so it is where such words may stay, if there are any
+abbrev pub StaysAgain : Debugged → StoreState → Type 0
+StaysAgain d t = d.row.words_stay ≡ true → (d.row.step_words.items ≡ []) ⊎ IsAgain d t
+
+-- ---- a side
 
 -- the same breakpoints, kept event, and place of the stop; and the machine, but for words that are left
-pub record StandsFor (s : StoreState) (row : SideRow) (h : Host) (a : SideState) : Type 0 where
+pub record IsAlike (s : StoreState) (row : SideRow) (h : Host) (a : SideState) : Type 0 where
   pub breaks : a.breaks ≡ map (row_in s) row.breaks.items
   pub stands_at : a.stands_at ≡ row.stands_at
   pub kept : a.kept ≡ events_in s row.kept
   pub words : IsPlanted s row h a ⊎ IsLeft row h a
 
--- ---- a resume of it
+-- That its turns were used up is no event that a side keeps.
+pub record StandsFor (d : Debugged) (a : SideState) : Type 0 where
+  pub table : IsTable d.table a.table
+  pub frame : a.frame ≡ d.frame
+  pub alike : IsAlike d.table d.row d.host a
+  pub ended : EndsWith a.kept d.host.nub.ended
+  pub unended : a.kept ≢ Some OutOfTurns
+  pub again : StaysAgain d a.table
 
--- one that has no event yet runs with the words that are known
-abbrev pub MayResume : StoreState → SideRow → Host → SideState → Type 0
-MayResume s row h a = row.kept ≡ None → IsPlanted s row h a
-
--- what a resume to an event leaves of what is kept of a side
-pub record Leaves (row row' : SideRow) (e : Event) : Type 0 where
-  pub stands_at : row'.stands_at ≡ stood row.kept row.stands_at e
-  pub words : row'.step_words.items ≡ words_left row e
-  pub kept : row'.kept ≡ row.kept
-  pub breaks : row'.breaks ≡ row.breaks
-  pub stay : row'.words_stay ≡ row.words_stay
-
--- the machine session's resume has this event and output, and the side after it stands for that one's
-pub record Resumed (s : StoreState) (event : Event) (output : List ℕ) (row : SideRow) (h : Host) (w : SideRun) : Type 0 where
-  pub event_is : event_in s event ≡ w.event
-  pub output_is : output ≡ w.output
-  pub stands : StandsFor s row h w.side
-
--- Over machines whose runs keep their target and their text, a resume of a side is that of the machine session.
-abbrev pub ResumesAreMeant : Type 0
-ResumesAreMeant =
-    (b : Behaviour) (kind : MachineKind) (s : StoreState) (limit : ℕ) (row row' : SideRow) (h : Host) (a : SideState) → RunsAreSteady b → kind.context ≡ CONTEXT → kind.target ≡ h.machine.target
-    → StandsFor s row h a → MayResume s row h a → Leaves row row' (its_event b kind row limit h)
-    → Resumed s (its_event b kind row limit h) (its_output b kind row limit h) row' (host_behind b kind row limit h) (resume_side b limit a)
-
--- ---- before a step
-
--- Words of a step that are put at some points of a table are those that the machine session puts.
-abbrev pub StepsAreMeant : Type 0
-StepsAreMeant =
-    (s : StoreState) (target : ℕ) (ps kept : List Point) (b d : Bytes) (a : SideState) (u : TableUse) → b.order ≡ order_of a.machine → b.regions ≡ a.machine.memory → target ≡ a.machine.target → PutsWords target b ps kept d
-    → step_words_at (map (row_in s) ps) a u (Ok (record (with_memory d.regions a) { step_words = a.step_words ++ map (row_in s) kept })) u
-
--- Where an address is outside, it isn't done there either.
-abbrev pub NoStepIsMeant : Type 0
-NoStepIsMeant =
-    (s : StoreState) (target : ℕ) (ps : List Point) (b : Bytes) (a : SideState) (u : TableUse) → b.order ≡ order_of a.machine → b.regions ≡ a.machine.memory → target ≡ a.machine.target → MeetsNone target b ps
-    → step_words_at (map (row_in s) ps) a u (Err (Kind RangeCheck)) u
-
--- Where the words of a step are put back at the points that were kept, the memory is as before.
-abbrev pub StepsAreUndone : Type 0
-StepsAreUndone =
-    (target : ℕ) (ps kept : List Point) (b d : Bytes) → IsMemory b.regions → PutsWords target b ps kept d → words_put b.order (noop_of target) (map address_of kept) d.regions ≡ b.regions
-
--- Where they stand in the text alone, and are put back behind a run, which leaves the text, the next step puts them at the same points, and the memory is as it was behind the run.
-abbrev pub StepsAreAgain : Type 0
-StepsAreAgain =
-    (target : ℕ) (ps kept : List Point) (b d : Bytes) (r : Regions) → IsMemory b.regions → list_all stands_in_text ps ≡ true → PutsWords target b ps kept d → r.text_bytes ≡ d.regions.text_bytes
-    → PutsWords target (record b { regions = words_put b.order (noop_of target) (map address_of kept) r }) ps kept (record b { regions = r })
+-- a side that has no event yet runs with the words that are known
+abbrev pub MayResume : Debugged → SideState → Type 0
+MayResume d a = d.row.kept ≡ None → IsPlanted d.table d.row d.host a

@@ -1,8 +1,8 @@
 -- What machines keep.
 use Rattle.std.specs.Prelude.{◌≡◌, ℕ}
-use Rattle.machine_state.specs.State.{MachineState, Behaviour, order_of}
-use Rattle.nub_wire.specs.Fits.{Reached}
+use Rattle.machine_state.specs.State.{MachineState, Behaviour}
 use Rattle.nub_wire.specs.Resumes.{run_from}
+use Rattle.debug_side.specs.Told.{KeepsOrder}
 
 -- a machine of the same target with the same text
 pub record Steady (m n : MachineState) : Type 0 where
@@ -17,7 +17,7 @@ pub record Steadies (b : Behaviour) : Type 0 where
 
 -- machines keep the order of their bytes, whatever is done to them
 abbrev pub KeepsOrders : Behaviour → Type 0
-KeepsOrders b = (m n : MachineState) → Reached b m n → order_of n ≡ order_of m
+KeepsOrders b = (m : MachineState) → KeepsOrder b m
 
 -- the run of a resume leaves the target and the text
 abbrev pub RunsAreSteady : Behaviour → Type 0
