@@ -1,5 +1,5 @@
 -- `frame N`: what comes of what the frame with the number tells.
-use Rattle.std.proofs.Common.{◌≡◌, refl, ℕ, List, Option, Some, None, Ok, Err}
+use Rattle.std.proofs.Common.{refl, ℕ, List, Option, Some, None, Ok, Err}
 use Rattle.ps_store.specs.StoreState.{StoreState}
 use Rattle.frame_bytes.specs.Bytes.{Bytes}
 use Rattle.abs_mem.specs.Meaning.{Seen}
@@ -7,7 +7,7 @@ use Rattle.table_model.specs.declared.row.TargetRow.{TargetRow}
 use Rattle.table_model.specs.Reading.{Walked}
 use Rattle.table_model.specs.Rows.{PointRow}
 use Rattle.table_model.specs.Frames.{told_frame_at}
-use Rattle.dialect_model.specs.TableUse.{TableUse, Eval, Looks, gives, Refused as RefusedFor, ◌>>=◌}
+use Rattle.dialect_model.specs.TableUse.{Eval, Looks, gives, Refused as RefusedFor, ◌>>=◌}
 use Rattle.table_asks.specs.declared.fault.Cause.{Cause}
 use Rattle.table_asks.specs.declared.fault.Cause.TheVariants.{NoFrame}
 use Rattle.table_asks.specs.declared.fault.AskFault.{AskFault}

@@ -1,2 +1,8 @@
-mod Points
+mod Asked
+mod Changed
 mod Chosen
+mod Listed
+mod Rows
+mod Ps
+mod Ran
+mod Operands

@@ -60,7 +60,7 @@ module _ (target : ℕ) (breaks : List PointRow) (b : Bytes) where
   with_word at w = or_range (stored b Memory at Word w)
 
   -- the break word goes where a no-op stands
-  abbrev planted_if : PointRow → (is_no_op : Bool) → Eval Cause Bytes
+  abbrev pub planted_if : PointRow → (is_no_op : Bool) → Eval Cause Bytes
   planted_if p true = with_word p.at (break_of target)
   planted_if p false = refuses NoPlace
 

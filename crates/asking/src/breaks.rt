@@ -1,16 +1,18 @@
 // `break` and `clear`.
 
-ghost use Rattle.std.specs.Prelude.{◌≡◌, ◌⊎◌, ◌≤◌, OnErr, IfErr, option_map};
+ghost use Rattle.std.specs.Prelude.{◌≡◌, ◌⊎◌, ◌≤◌, OnErr, IfErr, map, option_map};
 ghost use Rattle.machine_state.specs.declared.layout.TheConstants.{MIPS, SPARC};
 ghost use Rattle.ps_store.specs.Store.{closed_part};
 ghost use Rattle.break_plant.specs.Planted.{noop_of, break_of};
 ghost use Rattle.table_read.specs.Reads.{in_ok};
 ghost use Rattle.table_points.specs.Rows.{row_in};
 ghost use Rattle.dialect_model.specs.TableUse.{Looks};
-ghost use Rattle.table_asks.specs.Asking.{Comes};
+ghost use Rattle.table_asks.specs.Asking.{Comes, LedAsk};
 ghost use Rattle.table_asks.specs.Closing.{Settles};
 ghost use Rattle.table_asks.specs.Faults.{IsOwn};
-ghost use Rattle.asking.specs.Breaks.{same_point, has, rows_in, point_of_spot, planting_fault};
+ghost use Rattle.table_asks.specs.Talking.{with_target};
+ghost use Rattle.asking.specs.Doing.{Changes, ChangesOver};
+ghost use Rattle.asking.specs.Breaks.{same_point, has, rows_in, point_of_spot, planting_fault, broken_at, cleared_at, breaking, clearing};
 
 use crate::lines::point_text;
 use abs_mem::AbsMem;
@@ -68,6 +70,9 @@ fn set<W: AbsMem + Drop>(
     place: Point,
 ) -> Result<Text, AskFault>
     ensures kept { OnErr result (breaks.new.items ≡ breaks.old.items) }
+    ensures meaning { Changes (λ b. broken_at talk.old.view.target (rows_in inquiry.now.core.store breaks.old.items) b (row_in inquiry.now.core.store place) (has (rows_in inquiry.now.core.store breaks.old.items) (row_in inquiry.now.core.store place))) (W.seen talk.old.memory.below.below.below) result (rows_in inquiry.now.core.store breaks.new.items) (W.seen talk.new.memory.below.below.below) }
+    ensures calls { LedAsk W.leads talk.old.memory.below.below.below result talk.new.memory.below.below.below }
+    ensures target { talk.new ≡ with_target talk.old talk.new.memory.below.below.below }
 {
     let table = &inquiry.core.store;
     let alloc = inquiry.core.operands.allocator();
@@ -108,7 +113,7 @@ fn spot_told(inquiry: &mut Inquiry, spot: &Spot) -> Result<Option<Point>, AskFau
 }
 
 /// `break`: a breakpoint is set at the point. One that is set already is answered again and changes nothing. Where it isn't done the
-/// breakpoints are as before.
+/// breakpoints are as before. The names of points are those that the table tells after it.
 pub fn breaking<W: AbsMem + Drop>(
     inquiry: &mut Inquiry,
     talk: &mut Operators<W>,
@@ -121,6 +126,9 @@ pub fn breaking<W: AbsMem + Drop>(
     ensures limit { inquiry.new.steps.limit ≡ inquiry.old.steps.limit }
     ensures more { inquiry.old.steps.taken ≤ inquiry.new.steps.taken }
     ensures closed { Settles (closed_part inquiry.old.core.store) (closed_part inquiry.new.core.store) }
+    ensures meaning { ChangesOver (λ b. breaking talk.old.view.target (rows_in inquiry.new.core.store breaks.old.items) b spot.now) inquiry.old (W.seen talk.old.memory.below.below.below) result (rows_in inquiry.new.core.store breaks.new.items) inquiry.new (W.seen talk.new.memory.below.below.below) }
+    ensures calls { LedAsk W.leads talk.old.memory.below.below.below result talk.new.memory.below.below.below }
+    ensures target { talk.new ≡ with_target talk.old talk.new.memory.below.below.below }
 {
     match spot_told(inquiry, spot) {
         Err(fault) => Err(fault),
@@ -137,6 +145,9 @@ fn unset<W: AbsMem + Drop>(
     place: Point,
 ) -> Result<Text, AskFault>
     ensures kept { OnErr result (breaks.new.items ≡ breaks.old.items) }
+    ensures meaning { Changes (λ b. cleared_at talk.old.view.target (rows_in inquiry.now.core.store breaks.old.items) b (row_in inquiry.now.core.store place) (has (rows_in inquiry.now.core.store breaks.old.items) (row_in inquiry.now.core.store place))) (W.seen talk.old.memory.below.below.below) result (rows_in inquiry.now.core.store breaks.new.items) (W.seen talk.new.memory.below.below.below) }
+    ensures calls { LedAsk W.leads talk.old.memory.below.below.below result talk.new.memory.below.below.below }
+    ensures target { talk.new ≡ with_target talk.old talk.new.memory.below.below.below }
 {
     let table = &inquiry.core.store;
     if !is_set(table, breaks.as_slice(), place) {
@@ -156,7 +167,8 @@ fn unset<W: AbsMem + Drop>(
     }
 }
 
-/// `clear`: the breakpoint at the point is taken away. Where it isn't done the breakpoints are as before.
+/// `clear`: the breakpoint at the point is taken away. Where it isn't done the breakpoints are as before. The names of points are those
+/// that the table tells after it.
 pub fn clearing<W: AbsMem + Drop>(
     inquiry: &mut Inquiry,
     talk: &mut Operators<W>,
@@ -169,6 +181,9 @@ pub fn clearing<W: AbsMem + Drop>(
     ensures limit { inquiry.new.steps.limit ≡ inquiry.old.steps.limit }
     ensures more { inquiry.old.steps.taken ≤ inquiry.new.steps.taken }
     ensures closed { Settles (closed_part inquiry.old.core.store) (closed_part inquiry.new.core.store) }
+    ensures meaning { ChangesOver (λ b. clearing talk.old.view.target (rows_in inquiry.new.core.store breaks.old.items) b spot.now) inquiry.old (W.seen talk.old.memory.below.below.below) result (rows_in inquiry.new.core.store breaks.new.items) inquiry.new (W.seen talk.new.memory.below.below.below) }
+    ensures calls { LedAsk W.leads talk.old.memory.below.below.below result talk.new.memory.below.below.below }
+    ensures target { talk.new ≡ with_target talk.old talk.new.memory.below.below.below }
 {
     match spot_told(inquiry, spot) {
         Err(fault) => Err(fault),

@@ -6,8 +6,9 @@ ghost use Rattle.table_asks.specs.Closing.{Settles};
 ghost use Rattle.table_asks.specs.Faults.{IsUnrefused};
 ghost use Rattle.table_asks.specs.Asking.{ComesOver, LedAsk};
 ghost use Rattle.table_asks.specs.Talking.{with_target};
-ghost use Rattle.table_model.specs.Frames.{row_of_target};
-ghost use Rattle.asking.specs.Frames.{choosing};
+ghost use Rattle.table_read.specs.Reads.{in_ok};
+ghost use Rattle.table_model.specs.Frames.{row_of_target, told_frames};
+ghost use Rattle.asking.specs.Frames.{listing, choosing, listed, listed_outward, Lists, LedList};
 
 use crate::lines::{append_frame, frames_text};
 use abs_mem::{AbsMem, WalkFault, told};
@@ -46,7 +47,10 @@ fn list_outward<M: AbsMem>(
     table: &PsStore,
     m: &mut M,
     innermost: Frame,
-) -> Result<Listed, ListFault> {
+) -> Result<Listed, ListFault>
+    ensures meaning { Lists (λ b. listed_outward row table.now b innermost) (M.seen m.old) result (M.seen m.new) }
+    ensures calls { LedList M.leads m.old result m.new }
+{
     let mut lines = Text::new(alloc);
     let mut frame = innermost;
     for number in 0..MOST_FRAMES {
@@ -81,7 +85,10 @@ fn list_frames<M: AbsMem>(
     context: u32,
     table: &PsStore,
     m: &mut M,
-) -> Result<Listed, ListFault> {
+) -> Result<Listed, ListFault>
+    ensures meaning { Lists (λ b. in_ok listed (told_frames row table.now b context)) (M.seen m.old) result (M.seen m.new) }
+    ensures calls { LedList M.leads m.old result m.new }
+{
     match first(row, context, table, m) {
         Err(fault) => Err(ListFault::Walk(fault)),
         Ok(None) => Ok(Listed {
@@ -103,6 +110,9 @@ pub fn listing<W: AbsMem + Drop>(
     ensures more { inquiry.old.steps.taken ≤ inquiry.new.steps.taken }
     ensures closed { Settles (closed_part inquiry.old.core.store) (closed_part inquiry.new.core.store) }
     ensures unrefused { IfErr result (λ fault. IsUnrefused fault) }
+    ensures meaning { ComesOver (listing (row_of_target talk.old.view.target) talk.old.view.context) inquiry.old (W.seen talk.old.memory.below.below.below) result inquiry.new (W.seen talk.new.memory.below.below.below) }
+    ensures calls { LedAsk W.leads talk.old.memory.below.below.below result talk.new.memory.below.below.below }
+    ensures kept { talk.new ≡ with_target talk.old talk.new.memory.below.below.below }
 {
     let row = row_of_target(talk.view.target);
     let context = talk.view.context;

@@ -1,8 +1,10 @@
 // `print`.
 
-ghost use Rattle.std.specs.Prelude.{◌≡◌, ◌≤◌};
+ghost use Rattle.std.specs.Prelude.{◌≡◌, ◌≤◌, IfErr};
 ghost use Rattle.ps_store.specs.Store.{closed_part};
 ghost use Rattle.table_asks.specs.Closing.{Settles};
+ghost use Rattle.table_asks.specs.Faults.{IsUnbroken};
+ghost use Rattle.table_asks.specs.Running.{RanOver};
 ghost use Rattle.asking.specs.Doing.{talk_in};
 
 use crate::lines::value_text;
@@ -80,7 +82,9 @@ fn is_function(store: &PsStore, symbol: DictId) -> Result<bool, Lack> {
 
 /// The type of a symbol, unless it is too deep or has more inside than there is memory for. What else a type lacks is met by its
 /// printer, where that asks for it.
-fn printed_type(store: &PsStore, symbol: DictId) -> Result<DictId, AskFault> {
+fn printed_type(store: &PsStore, symbol: DictId) -> Result<DictId, AskFault>
+    ensures unbroken { IfErr result (λ fault. IsUnbroken fault) }
+{
     let ctype = match dict_at(store, symbol, b"type") {
         Ok(ctype) => ctype,
         Err(lack) => return Err(raised(lack)),
@@ -101,7 +105,9 @@ pub fn procedure_of(store: &PsStore, symbol: DictId) -> Result<PsObj, Lack> {
 }
 
 /// The type of the variable that a symbol is; a function is none.
-fn variable_type(inquiry: &Inquiry, symbol: DictId) -> Result<DictId, AskFault> {
+fn variable_type(inquiry: &Inquiry, symbol: DictId) -> Result<DictId, AskFault>
+    ensures unbroken { IfErr result (λ fault. IsUnbroken fault) }
+{
     let store = &inquiry.core.store;
     match is_function(store, symbol) {
         Err(lack) => Err(raised(lack)),
@@ -121,6 +127,7 @@ fn place<W: AbsMem + Drop>(
     ensures limit { inquiry.new.steps.limit ≡ inquiry.old.steps.limit }
     ensures more { inquiry.old.steps.taken ≤ inquiry.new.steps.taken }
     ensures closed { Settles (closed_part inquiry.old.core.store) (closed_part inquiry.new.core.store) }
+    ensures calls { RanOver W.seen W.leads talk.old.memory.below.below.below result talk.new.memory.below.below.below }
 {
     let where_is = match procedure_of(&inquiry.core.store, symbol) {
         Ok(procedure) => procedure,
@@ -143,6 +150,7 @@ fn show<W: AbsMem + Drop>(
     ensures limit { inquiry.new.steps.limit ≡ inquiry.old.steps.limit }
     ensures more { inquiry.old.steps.taken ≤ inquiry.new.steps.taken }
     ensures closed { Settles (closed_part inquiry.old.core.store) (closed_part inquiry.new.core.store) }
+    ensures calls { RanOver W.seen W.leads talk.old.memory.below.below.below result talk.new.memory.below.below.below }
 {
     match inquiry.core.push(PsObj::Dict(ctype)) {
         Ok(()) => {}
@@ -165,6 +173,7 @@ fn print_symbol<W: AbsMem + Drop>(
     ensures limit { inquiry.new.steps.limit ≡ inquiry.old.steps.limit }
     ensures more { inquiry.old.steps.taken ≤ inquiry.new.steps.taken }
     ensures closed { Settles (closed_part inquiry.old.core.store) (closed_part inquiry.new.core.store) }
+    ensures calls { RanOver W.seen W.leads talk.old.memory.below.below.below result talk.new.memory.below.below.below }
 {
     let ctype = match variable_type(inquiry, symbol) {
         Ok(ctype) => ctype,
@@ -196,6 +205,7 @@ fn print_in<W: AbsMem + Drop>(
     ensures limit { inquiry.new.steps.limit ≡ inquiry.old.steps.limit }
     ensures more { inquiry.old.steps.taken ≤ inquiry.new.steps.taken }
     ensures closed { Settles (closed_part inquiry.old.core.store) (closed_part inquiry.new.core.store) }
+    ensures calls { RanOver W.seen W.leads talk.old.memory.below.below.below result talk.new.memory.below.below.below }
 {
     if !is_identifier(name) {
         return Err(AskFault::Refused(Cause::BadSyntax));
@@ -227,6 +237,7 @@ pub fn printing<W: AbsMem + Drop>(
     ensures limit { inquiry.new.steps.limit ≡ inquiry.old.steps.limit }
     ensures more { inquiry.old.steps.taken ≤ inquiry.new.steps.taken }
     ensures closed { Settles (closed_part inquiry.old.core.store) (closed_part inquiry.new.core.store) }
+    ensures calls { RanOver W.seen W.leads talk.old.memory.below.below.below result talk.new.memory.below.below.below }
 {
     match frame_found(inquiry, talk, number) {
         Err(fault) => Err(fault),

@@ -1,10 +1,10 @@
-use Rattle.std.proofs.Common.{◌≡◌, ◌∙◌, rules, tests}
+use Rattle.std.proofs.Common.{◌∙◌, rules, tests}
 use Rattle.std.proofs.lemmas.Iterator.{YieldsList-from_slice}
 use Rattle.std.proofs.lemmas.Iterator.Search.{any_from_yields_List}
 use Rattle.table_points.specs.declared.row.Point.{Point}
 use Rattle.table_points.specs.Rows.{row_in}
 use Rattle.asking.specs.Breaks.{same_point}
-use Rattle.asking.proofs.Points.{any_row}
+use Rattle.asking.proofs.Changed.{any_row}
 use Rattle.asking.proofs.breaks.is_set.Goals as goal
 
 pub returns : goal.returns

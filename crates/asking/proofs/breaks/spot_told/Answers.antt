@@ -1,4 +1,4 @@
-use Rattle.std.proofs.Common.{◌≡◌, sym, subst, ℕ, List, option_map}
+use Rattle.std.proofs.Common.{sym, subst, ℕ, List, option_map}
 use Rattle.c_session.specs.declared.command.Spot.{Spot}
 use Rattle.table_read.specs.Reads.{in_ok}
 use Rattle.table_model.specs.Places.{spot_point, function_point}
