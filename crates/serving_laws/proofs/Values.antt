@@ -9,9 +9,10 @@ use Rattle.c_tree.specs.declared.types.StructDef.{StructDef}
 use Rattle.c_tree.specs.declared.typed.BinaryOp.{BinaryOp}
 use Rattle.c_tree.specs.declared.typed.BinaryOp.TheVariants.{Equal, Unequal}
 use Rattle.c_tree.specs.declared.typed.UnaryOp.{UnaryOp}
+use Rattle.c_tree.specs.declared.typed.Head.{Head}
 use Rattle.c_tree.specs.declared.typed.Typed.{Typed}
 use Rattle.c_tree.specs.declared.typed.Typed.TheVariants.{Comma', Assign', Choice', Or', And', Binary', Cast', Before', Address', Follow', Unary', SizeOf', SizeOfType, Index', Call', Dot', Arrow', After', Name, Constant, Literal, Parens'}
-use Rattle.c_tree.specs.Types.{type_of, target_of, is_unsigned}
+use Rattle.c_tree.specs.Types.{type_of, target_of, kind_of, is_unsigned, is_array}
 use Rattle.c_tree.specs.Layout.{size_of}
 use Rattle.c_judge.specs.declared.symbol.Symbol.{Symbol}
 use Rattle.c_operators.specs.Arithmetic.{on_integer, operating_type}
@@ -43,12 +44,14 @@ use Rattle.ps_emit.specs.Terms.{◌⋯◌}
 use Rattle.dialect_model.specs.Dial.{Dial}
 use Rattle.dialect_model.specs.Operating.{Operates}
 use Rattle.dialect_model.specs.TableUse.{TableUse, Trouble, Refused, gives, ◌>>=◌}
-use Rattle.c_bytes.specs.Lvalues.{Scene, Cause, Reason, Means}
+use Rattle.c_bytes.specs.Lvalues.{Scene, Cause, Reason, Means, load, Pointed as Led}
 use Rattle.c_bytes.specs.Operators.{converted, defined, by_targets}
-use Rattle.c_bytes.specs.Evaluation.{value_of}
+use Rattle.c_bytes.specs.Evaluation.{value_of, place_of}
 use Rattle.expr_serve.specs.Operators as pieces
-use Rattle.expr_serve.specs.Codes.{value_code, bytes_of, on_two, by_targets as two_by}
-use Rattle.serving_laws.specs.Plain.{AreTaken, IsPlain, RoomFor}
+use Rattle.expr_serve.specs.declared.emit.Standing.{Standing}
+use Rattle.expr_serve.specs.declared.emit.Standing.TheVariants.{Pointed}
+use Rattle.expr_serve.specs.Codes.{value_code, place_code, standing_of, address_of, fetched, value_at, bytes_of, on_two, by_targets as two_by}
+use Rattle.serving_laws.specs.Plain.{AreTaken, IsPlain, IsLed, RoomFor}
 use Rattle.serving_laws.specs.Left.{AreOperators, AreLeft, Leaves, leaves, fails, spends}
 use Rattle.serving_laws.proofs.Small.{Small, words_small, one_small, byte_small}
 use Rattle.serving_laws.proofs.Names.{pop_is}
@@ -71,30 +74,80 @@ follows_stop (Lit name rest) = ap (Lit name) (follows_stop rest)
 follows_stop (Text bytes rest) = ap (Text bytes) (follows_stop rest)
 follows_stop (Proc body rest) = ap (Proc body) (follows_stop rest)
 
--- what is left where any plain expression has room
-pub base_room : (defs : List StructDef) (e : Typed) (o i : ℕ) → IsPlain defs e → RoomFor e o i → (o + 5 ≤ 100000) × (i + 3 ≤ 1000)
-base_room defs (Comma' _ _ a _ b) o i p r = base_room defs a o i p.0 r.0
-base_room defs (Choice' _ _ c _ a _ b) o i p r = base_room defs c o i p.0 r.0
-base_room defs (Or' _ _ a _ b) o i p r = base_room defs a o i p.0 r.0
-base_room defs (And' _ _ a _ b) o i p r = base_room defs a o i p.0 r.0
-base_room defs (Binary' _ _ a op _ b) o i p r = base_room defs a o i p.1 r.0
-base_room defs (Cast' _ _ a) o i p r = base_room defs a o i p r
-base_room defs (Unary' _ op _ a) o i p r = base_room defs a o i p r
-base_room defs (SizeOf' _ _ a) o i p r = r
-base_room defs (SizeOfType _ t) o i p r = r
-base_room defs (Constant _ n) o i p r = r
-base_room defs (Parens' _ _ a) o i p r = base_room defs a o i p r
-base_room defs (Assign' _ _ _ _ _ _) o i p r = absurd p
-base_room defs (Before' _ _ _ _) o i p r = absurd p
-base_room defs (Address' _ _ _) o i p r = absurd p
-base_room defs (Follow' _ _ _) o i p r = absurd p
-base_room defs (Index' _ _ _ _ _) o i p r = absurd p
-base_room defs (Call' _ _ _ _) o i p r = absurd p
-base_room defs (Dot' _ _ _ _) o i p r = absurd p
-base_room defs (Arrow' _ _ _ _) o i p r = absurd p
-base_room defs (After' _ _ _ _) o i p r = absurd p
-base_room defs (Name _ _) o i p r = absurd p
-base_room defs (Literal _ _) o i p r = absurd p
+mutual
+  -- what is left where any plain expression has room
+  pub base_room : (defs : List StructDef) (e : Typed) (o i : ℕ) → IsPlain defs e → RoomFor e o i → (o + 5 ≤ 100000) × (i + 3 ≤ 1000)
+  base_room defs (Comma' _ _ a _ b) o i p r = base_room defs a o i p.0 r.0
+  base_room defs (Choice' _ _ c _ a _ b) o i p r = base_room defs c o i p.0 r.0
+  base_room defs (Or' _ _ a _ b) o i p r = base_room defs a o i p.0 r.0
+  base_room defs (And' _ _ a _ b) o i p r = base_room defs a o i p.0 r.0
+  base_room defs (Binary' _ _ a op _ b) o i p r = base_room defs a o i p.1 r.0
+  base_room defs (Cast' _ _ a) o i p r = base_room defs a o i p r
+  base_room defs (Address' _ _ a) o i p r = led_room defs a o i p r
+  base_room defs (Follow' _ _ a) o i p r = base_room defs a o i p.1 r
+  base_room defs (Unary' _ op _ a) o i p r = base_room defs a o i p r
+  base_room defs (SizeOf' _ _ a) o i p r = r
+  base_room defs (SizeOfType _ t) o i p r = r
+  base_room defs (Constant _ n) o i p r = r
+  base_room defs (Parens' _ _ a) o i p r = base_room defs a o i p r
+  base_room defs (Assign' _ _ _ _ _ _) o i p r = absurd p
+  base_room defs (Before' _ _ _ _) o i p r = absurd p
+  base_room defs (Index' _ _ _ _ _) o i p r = absurd p
+  base_room defs (Call' _ _ _ _) o i p r = absurd p
+  base_room defs (Dot' _ _ _ _) o i p r = absurd p
+  base_room defs (Arrow' _ _ _ _) o i p r = absurd p
+  base_room defs (After' _ _ _ _) o i p r = absurd p
+  base_room defs (Name _ _) o i p r = absurd p
+  base_room defs (Literal _ _) o i p r = absurd p
+
+  led_room : (defs : List StructDef) (e : Typed) (o i : ℕ) → IsLed defs e → RoomFor e o i → (o + 5 ≤ 100000) × (i + 3 ≤ 1000)
+  led_room defs (Follow' _ _ a) o i p r = base_room defs a o i p r
+  led_room defs (Parens' _ _ a) o i p r = led_room defs a o i p r
+  led_room defs (Comma' _ _ _ _ _) o i p r = absurd p
+  led_room defs (Assign' _ _ _ _ _ _) o i p r = absurd p
+  led_room defs (Choice' _ _ _ _ _ _ _) o i p r = absurd p
+  led_room defs (Or' _ _ _ _ _) o i p r = absurd p
+  led_room defs (And' _ _ _ _ _) o i p r = absurd p
+  led_room defs (Binary' _ _ _ _ _ _) o i p r = absurd p
+  led_room defs (Cast' _ _ _) o i p r = absurd p
+  led_room defs (Before' _ _ _ _) o i p r = absurd p
+  led_room defs (Address' _ _ _) o i p r = absurd p
+  led_room defs (Unary' _ _ _ _) o i p r = absurd p
+  led_room defs (SizeOf' _ _ _) o i p r = absurd p
+  led_room defs (SizeOfType _ _) o i p r = absurd p
+  led_room defs (Index' _ _ _ _ _) o i p r = absurd p
+  led_room defs (Call' _ _ _ _) o i p r = absurd p
+  led_room defs (Dot' _ _ _ _) o i p r = absurd p
+  led_room defs (Arrow' _ _ _ _) o i p r = absurd p
+  led_room defs (After' _ _ _ _) o i p r = absurd p
+  led_room defs (Name _ _) o i p r = absurd p
+  led_room defs (Constant _ _) o i p r = absurd p
+  led_room defs (Literal _ _) o i p r = absurd p
+
+-- such a place stands as a pointer
+led_stands : (defs : List StructDef) (e : Typed) → IsLed defs e → standing_of e ≡ Pointed
+led_stands defs (Follow' _ _ a) p = refl
+led_stands defs (Parens' _ _ a) p = led_stands defs a p
+led_stands defs (Comma' _ _ _ _ _) p = absurd p
+led_stands defs (Assign' _ _ _ _ _ _) p = absurd p
+led_stands defs (Choice' _ _ _ _ _ _ _) p = absurd p
+led_stands defs (Or' _ _ _ _ _) p = absurd p
+led_stands defs (And' _ _ _ _ _) p = absurd p
+led_stands defs (Binary' _ _ _ _ _ _) p = absurd p
+led_stands defs (Cast' _ _ _) p = absurd p
+led_stands defs (Before' _ _ _ _) p = absurd p
+led_stands defs (Address' _ _ _) p = absurd p
+led_stands defs (Unary' _ _ _ _) p = absurd p
+led_stands defs (SizeOf' _ _ _) p = absurd p
+led_stands defs (SizeOfType _ _) p = absurd p
+led_stands defs (Index' _ _ _ _ _) p = absurd p
+led_stands defs (Call' _ _ _ _) p = absurd p
+led_stands defs (Dot' _ _ _ _) p = absurd p
+led_stands defs (Arrow' _ _ _ _) p = absurd p
+led_stands defs (After' _ _ _ _) p = absurd p
+led_stands defs (Name _ _) p = absurd p
+led_stands defs (Constant _ _) p = absurd p
+led_stands defs (Literal _ _) p = absurd p
 
 -- what a conversion makes of a word is one
 converted_small : (t : CType) (v : ℕ) → v < 2 ^ 32 → converted t v < 2 ^ 32
@@ -380,34 +433,98 @@ module _ (s : StoreState) (ds : List DictId) (are : AreOperators s ds) (d : Dial
       number_reaches s ds are d Good spent under (pos (bytes_of sc.defs k)) rest o items few (subst (λ c. At under (c ⋯ rest) items) code f)
       (subst (λ x. Behind under rest (x ∷ o)) (sym (size_is k small)) (go (size_of sc.defs k) (omega (arith, small)) g))
 
+  -- ---- places behind pointers
+
+  -- the place has an address, or is undefined
+  abbrev LeadsTo : Typed → ℕ → Type 0
+  LeadsTo e v = place_of sc e t (Ok (Led v)) t
+
+  abbrev LacksPlace : Typed → Undef → Type 0
+  LacksPlace e u = place_of sc e t (Err (Refused (Reason u))) t
+
+  -- what is claimed of such a place
+  abbrev Leads : Typed → Type 0
+  Leads e = (rest : Code) (under : List Item) (o : List PsObj) (items : List Item) (i : ℕ) → under_stopped under ≡ None → length under ≤ i → RoomFor e (length o) i
+      → At under (place_code names sc.defs e ⋯ rest) items
+      → ((v : ℕ) → v < 2 ^ 32 → LeadsTo e v → Behind under rest (integer v ∷ o)) → ((u : Undef) → LacksPlace e u → Failed u) → Reached o items
+
+  address_comes : (h : _) (p : _) (a : Typed) → IsLed sc.defs a → Leads a → Comes (Address' h p a)
+  address_comes h p a led la rest under o items i none low room f go bad =
+      la rest under o items i none low room (here items f) (λ v hv gv. go v hv (Ok (Led v), t, gv, (refl, refl))) (λ u lu. bad u (Err (Refused (Reason u)), t, lu, (refl, refl)))
+    where
+      here : (items : List Item) → At under ((place_code names sc.defs a ⋯ address_of (standing_of a)) ⋯ rest) items → At under (place_code names sc.defs a ⋯ rest) items
+      here items f =
+          subst (λ (k : Code). At under (k ⋯ rest) items) (follows_stop (place_code names sc.defs a))
+          (subst (λ (z : Standing). At under ((place_code names sc.defs a ⋯ address_of z) ⋯ rest) items) (led_stands sc.defs a led) f)
+
+  -- an array
+  array_comes : (h : Head) (p : _) (a : Typed) → is_array h.ctype ≡ true → Comes a → Comes (Follow' h p a)
+  array_comes h p a array ca rest under o items i none low room f go bad =
+      ca rest under o items i none low room (here items f) (λ v hv gv. go v hv (Ok (Led v), t, (Ok v, t, gv, (refl, refl)), found v))
+      (λ u lu. bad u (Err (Refused (Reason u)), t, (Err (Refused (Reason u)), t, lu, (refl, refl)), (refl, refl)))
+    where
+      here : (items : List Item) → At under ((value_code names sc.defs a ⋯ value_at Pointed h.ctype) ⋯ rest) items → At under (value_code names sc.defs a ⋯ rest) items
+      here items f =
+          subst (λ (k : Code). At under (k ⋯ rest) items) (follows_stop (value_code names sc.defs a))
+          (subst (λ (b : Bool). At under ((value_code names sc.defs a ⋯ (if b then Stop else fetched Pointed h.ctype)) ⋯ rest) items) array f)
+
+      found : (v : ℕ) → cond (is_array h.ctype) (gives v) (load sc (kind_of h.ctype) (Led v) >>= λ n. gives (converted h.ctype n)) t (Ok v) t
+      found v = subst (λ (b : Bool). cond b (gives v) (load sc (kind_of h.ctype) (Led v) >>= λ n. gives (converted h.ctype n)) t (Ok v) t) (sym array) (refl, refl)
+
   -- ---- all
 
-  pub comes : (e : Typed) → IsPlain sc.defs e → Comes e
-  comes (Comma' h p a q b) plain = comma_comes h p q a b (comes a plain.0) (comes b plain.1)
-  comes (Choice' h p c q a r b) plain = choice_comes h p q r c a b plain.0 plain.1 plain.2 (comes c plain.0) (comes a plain.1) (comes b plain.2)
-  comes (Or' h p a q b) plain = or_comes h p q a b plain.0 plain.1 (comes a plain.0) (comes b plain.1)
-  comes (And' h p a q b) plain = and_comes h p q a b plain.0 plain.1 (comes a plain.0) (comes b plain.1)
-  comes (Binary' h p a op q b) plain = binary_comes h p q op a b plain.0 plain.1 (comes a plain.1) (comes b plain.2)
-  comes (Cast' h p a) plain = cast_comes h p a plain (comes a plain)
-  comes (Unary' h op p a) plain = unary_comes h p op a plain (comes a plain)
-  comes (SizeOf' h p a) plain = λ rest under o items i none low room f go bad.
-      size_comes (SizeOf' h p a) (type_of a) plain refl (refl, refl) rest under o items (omega (arith, room.0)) f go
-  comes (SizeOfType h k) plain = λ rest under o items i none low room f go bad.
-      size_comes (SizeOfType h k) k plain refl (refl, refl) rest under o items (omega (arith, room.0)) f go
-  comes (Constant h n) plain = λ rest under o items i none low room f go bad.
-      number_reaches s ds are d Good spent under (signed n) rest o items (omega (arith, room.0)) f (go n plain (refl, refl))
-  comes (Parens' h p a) plain = λ rest under o items i none low room f go bad. comes a plain rest under o items i none low room f go bad
-  comes (Assign' _ _ _ _ _ _) plain = absurd plain
-  comes (Before' _ _ _ _) plain = absurd plain
-  comes (Address' _ _ _) plain = absurd plain
-  comes (Follow' _ _ _) plain = absurd plain
-  comes (Index' _ _ _ _ _) plain = absurd plain
-  comes (Call' _ _ _ _) plain = absurd plain
-  comes (Dot' _ _ _ _) plain = absurd plain
-  comes (Arrow' _ _ _ _) plain = absurd plain
-  comes (After' _ _ _ _) plain = absurd plain
-  comes (Name _ _) plain = absurd plain
-  comes (Literal _ _) plain = absurd plain
+  mutual
+    pub comes : (e : Typed) → IsPlain sc.defs e → Comes e
+    comes (Comma' h p a q b) plain = comma_comes h p q a b (comes a plain.0) (comes b plain.1)
+    comes (Choice' h p c q a r b) plain = choice_comes h p q r c a b plain.0 plain.1 plain.2 (comes c plain.0) (comes a plain.1) (comes b plain.2)
+    comes (Or' h p a q b) plain = or_comes h p q a b plain.0 plain.1 (comes a plain.0) (comes b plain.1)
+    comes (And' h p a q b) plain = and_comes h p q a b plain.0 plain.1 (comes a plain.0) (comes b plain.1)
+    comes (Binary' h p a op q b) plain = binary_comes h p q op a b plain.0 plain.1 (comes a plain.1) (comes b plain.2)
+    comes (Cast' h p a) plain = cast_comes h p a plain (comes a plain)
+    comes (Address' h p a) plain = address_comes h p a plain (leads a plain)
+    comes (Follow' h p a) plain = array_comes h p a plain.0 (comes a plain.1)
+    comes (Unary' h op p a) plain = unary_comes h p op a plain (comes a plain)
+    comes (SizeOf' h p a) plain = λ rest under o items i none low room f go bad.
+        size_comes (SizeOf' h p a) (type_of a) plain refl (refl, refl) rest under o items (omega (arith, room.0)) f go
+    comes (SizeOfType h k) plain = λ rest under o items i none low room f go bad.
+        size_comes (SizeOfType h k) k plain refl (refl, refl) rest under o items (omega (arith, room.0)) f go
+    comes (Constant h n) plain = λ rest under o items i none low room f go bad.
+        number_reaches s ds are d Good spent under (signed n) rest o items (omega (arith, room.0)) f (go n plain (refl, refl))
+    comes (Parens' h p a) plain = λ rest under o items i none low room f go bad. comes a plain rest under o items i none low room f go bad
+    comes (Assign' _ _ _ _ _ _) plain = absurd plain
+    comes (Before' _ _ _ _) plain = absurd plain
+    comes (Index' _ _ _ _ _) plain = absurd plain
+    comes (Call' _ _ _ _) plain = absurd plain
+    comes (Dot' _ _ _ _) plain = absurd plain
+    comes (Arrow' _ _ _ _) plain = absurd plain
+    comes (After' _ _ _ _) plain = absurd plain
+    comes (Name _ _) plain = absurd plain
+    comes (Literal _ _) plain = absurd plain
+
+    leads : (e : Typed) → IsLed sc.defs e → Leads e
+    leads (Follow' h p a) led = λ rest under o items i none low room f go bad. comes a led rest under o items i none low room f
+        (λ v hv gv. go v hv (Ok v, t, gv, (refl, refl))) (λ u lu. bad u (Err (Refused (Reason u)), t, lu, (refl, refl)))
+    leads (Parens' h p a) led = λ rest under o items i none low room f go bad. leads a led rest under o items i none low room f go bad
+    leads (Comma' _ _ _ _ _) led = absurd led
+    leads (Assign' _ _ _ _ _ _) led = absurd led
+    leads (Choice' _ _ _ _ _ _ _) led = absurd led
+    leads (Or' _ _ _ _ _) led = absurd led
+    leads (And' _ _ _ _ _) led = absurd led
+    leads (Binary' _ _ _ _ _ _) led = absurd led
+    leads (Cast' _ _ _) led = absurd led
+    leads (Before' _ _ _ _) led = absurd led
+    leads (Address' _ _ _) led = absurd led
+    leads (Unary' _ _ _ _) led = absurd led
+    leads (SizeOf' _ _ _) led = absurd led
+    leads (SizeOfType _ _) led = absurd led
+    leads (Index' _ _ _ _ _) led = absurd led
+    leads (Call' _ _ _ _) led = absurd led
+    leads (Dot' _ _ _ _) led = absurd led
+    leads (Arrow' _ _ _ _) led = absurd led
+    leads (After' _ _ _ _) led = absurd led
+    leads (Name _ _) led = absurd led
+    leads (Constant _ _) led = absurd led
+    leads (Literal _ _) led = absurd led
 
 -- the pieces alone, in a procedure that is executed
 pub values_left : (sc : Scene) (t : TableUse) (names : List Symbol) (e : Typed) (s : StoreState) (ds : List DictId) (o : List PsObj) (items : List Item) (a : ArrayId) (d : Dial)
