@@ -4,6 +4,7 @@ use Rattle.ps_store.specs.declared.object.PsObj.{PsObj}
 use Rattle.ps_store.specs.declared.object.PsObj.TheVariants.{Int, Bool as Truth, Name, Array, Op}
 use Rattle.ps_store.specs.declared.object.ArrayId.{ArrayId}
 use Rattle.ps_store.specs.declared.object.DictId.{DictId}
+use Rattle.ps_store.specs.declared.object.StringId.{StringId}
 use Rattle.ps_store.specs.StoreState.{StoreState}
 use Rattle.ps_store.specs.Store.{elements_of}
 use Rattle.ps_store.specs.Operators.{operator_number}
@@ -23,7 +24,7 @@ use Rattle.ps_run.specs.Passes.{Closes, Follows, Met}
 use Rattle.ps_run.proofs.Apart.{apart, behind}
 use Rattle.ps_run.proofs.Going.{no_memory}
 use Rattle.ps_text.specs.Code.{Code, Stop, Num, Word, Lit, Text, Proc}
-use Rattle.ps_text.specs.Grown.{HasArray}
+use Rattle.ps_text.specs.Grown.{HasArray, IsString}
 use Rattle.ps_text.specs.Spells.{Spells}
 use Rattle.ps_terms.specs.Machine.{entered}
 use Rattle.ps_terms.specs.Stands.{Frames, bottom, frame, core}
@@ -98,6 +99,23 @@ module _ (s : StoreState) (ds : List DictId) (are : AreOperators s ds) where
     after = going_on (n + 1) (length (elements_of s a)) (Procedure a (n + 1)) items;
     steps = λ o. step_is s under a n items (Int i) sp.0 [] sp.1 has below s refl ds o;
     frames = then_is s under a n items (Int i) sp.0 [] sp.1 has below rest sp.2;
+  }
+
+  -- a name that is left as it is, by its characters
+  pub record MeetsLiteral (under items : List Item) (name : List ℕ) (rest : Code) : Type 0 where
+    pub id : StringId
+    pub is : IsString s id name
+    pub meets : Meets under items (Name id false) rest
+
+  pub meets_literal : (under items : List Item) (name : List ℕ) (rest : Code) → Frames s under items (Lit name rest ∷ []) → MeetsLiteral under items name rest
+  meets_literal under _ name rest (frame a n items k ks has sp below) = record {
+    id = sp.0;
+    is = sp.3;
+    meets = record {
+      after = going_on (n + 1) (length (elements_of s a)) (Procedure a (n + 1)) items;
+      steps = λ o. step_is s under a n items (Name sp.0 false) sp.1 [] sp.2 has below s refl ds o;
+      frames = then_is s under a n items (Name sp.0 false) sp.1 [] sp.2 has below rest sp.4;
+    };
   }
 
   -- a procedure that is met, and its term
@@ -243,6 +261,13 @@ module _ (s : StoreState) (ds : List DictId) (are : AreOperators s ds) where
       number_reaches i rest o items few f p =
           let m = meets_number under items i rest f in
           next_reaches o (Int i ∷ o) items m.after (m.steps o ∙ push_next (Int i) (core s ds o m.after) few) (p m.after m.frames)
+
+      pub literal_reaches : (name : List ℕ) (rest : Code) (o : List PsObj) (items : List Item) → length o < 100000 → Frames s under items (Lit name rest ∷ [])
+          → ((id : StringId) → IsString s id name → Then rest (Name id false ∷ o)) → Reaches o items
+      literal_reaches name rest o items few f p =
+          let m = meets_literal under items name rest f in
+          next_reaches o (Name m.id false ∷ o) items m.meets.after (m.meets.steps o ∙ push_next (Name m.id false) (core s ds o m.meets.after) few)
+          (p m.id m.is m.meets.after m.meets.frames)
 
       pub body_reaches : (body rest : Code) (o : List PsObj) (items : List Item) → length o < 100000 → Frames s under items (Proc body rest ∷ [])
           → ((a : ArrayId) → HasArray s a → Spells s (elements_of s a) body → Then rest (Array a true ∷ o)) → Reaches o items

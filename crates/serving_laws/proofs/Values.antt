@@ -22,6 +22,7 @@ use Rattle.ps_store.specs.declared.object.ArrayId.{ArrayId}
 use Rattle.ps_store.specs.declared.object.DictId.{DictId}
 use Rattle.ps_store.specs.StoreState.{StoreState}
 use Rattle.ps_store.specs.Store.{elements_of}
+use Rattle.ps_step.specs.declared.fault.PsError.{PsError}
 use Rattle.ps_step.specs.declared.fault.PsFault.TheVariants.{Spent}
 use Rattle.ps_step.specs.declared.item.Item.{Item}
 use Rattle.ps_step.specs.declared.item.Item.TheVariants.{Object}
@@ -52,7 +53,7 @@ use Rattle.expr_serve.specs.declared.emit.Standing.{Standing}
 use Rattle.expr_serve.specs.declared.emit.Standing.TheVariants.{Pointed}
 use Rattle.expr_serve.specs.Codes.{value_code, place_code, standing_of, address_of, fetched, value_at, bytes_of, on_two, by_targets as two_by}
 use Rattle.serving_laws.specs.Plain.{AreTaken, IsPlain, IsLed, RoomFor}
-use Rattle.serving_laws.specs.Left.{AreOperators, AreLeft, Leaves, leaves, fails, spends}
+use Rattle.serving_laws.specs.Left.{AreOperators, AreLeft, error_by, Leaves, leaves, fails, spends}
 use Rattle.serving_laws.proofs.Small.{Small, words_small, one_small, byte_small}
 use Rattle.serving_laws.proofs.Names.{pop_is}
 use Rattle.serving_laws.proofs.Stepping.{Reaches, Fails, Then, at_bottom, not_stopped, next_reaches, number_reaches, manual_reaches}
@@ -165,8 +166,8 @@ module _ (s : StoreState) (ds : List DictId) (are : AreOperators s ds) (d : Dial
   abbrev pub Gives : Typed → ℕ → Type 0
   Gives e v = value_of sc e t (Ok v) t
 
-  abbrev pub Lacks : Typed → Undef → Type 0
-  Lacks e u = value_of sc e t (Err (Refused (Reason u))) t
+  abbrev pub Lacks : Typed → Trouble Cause → Type 0
+  Lacks e u = value_of sc e t (Err u) t
 
   abbrev At : List Item → Code → List Item → Type 0
   At under k items = Frames s under items (entered k [])
@@ -177,14 +178,14 @@ module _ (s : StoreState) (ds : List DictId) (are : AreOperators s ds) (d : Dial
   abbrev Behind : List Item → Code → List PsObj → Type 0
   Behind under rest o = Then s ds are d Good spent under rest o
 
-  abbrev Failed : Undef → Type 0
-  Failed u = Fails s ds are d Good spent (error_of u)
+  abbrev Failed : Trouble Cause → Type 0
+  Failed u = (e : PsError) → error_by u ≡ Some e → Fails s ds are d Good spent e
 
   -- what is claimed of an expression at any place
   abbrev Comes : Typed → Type 0
   Comes e = (rest : Code) (under : List Item) (o : List PsObj) (items : List Item) (i : ℕ) → under_stopped under ≡ None → length under ≤ i → RoomFor e (length o) i
       → At under (value_code names sc.defs e ⋯ rest) items
-      → ((v : ℕ) → v < 2 ^ 32 → Gives e v → Behind under rest (integer v ∷ o)) → ((u : Undef) → Lacks e u → Failed u) → Reached o items
+      → ((v : ℕ) → v < 2 ^ 32 → Gives e v → Behind under rest (integer v ∷ o)) → ((u : Trouble Cause) → Lacks e u → Failed u) → Reached o items
 
   moved : (under : List Item) (a b c : Code) (items : List Item) → At under ((a ⋯ b) ⋯ c) items → At under (a ⋯ (b ⋯ c)) items
   moved under a b c items f = subst (λ k. At under k items) (follows_assoc a b c) f
@@ -206,8 +207,8 @@ module _ (s : StoreState) (ds : List DictId) (are : AreOperators s ds) (d : Dial
       (λ v hv gv after at. manual_reaches s ds are d Good spent under (codes "pop") 2 (value_code names sc.defs b ⋯ rest) (integer v ∷ o) o after pop_is (λ after. refl) at
       (λ after at. cb rest under o after i none low room.1 at
       (λ w hw gw. go w hw (Ok v, t, gv, (Ok v, t, (refl, refl), (Ok w, t, gw, (refl, refl)))))
-      (λ u lu. bad u (Ok v, t, gv, (Ok v, t, (refl, refl), (Err (Refused (Reason u)), t, lu, (refl, refl)))))))
-      (λ u lu. bad u (Err (Refused (Reason u)), t, lu, (refl, refl)))
+      (λ u lu. bad u (Ok v, t, gv, (Ok v, t, (refl, refl), (Err u, t, lu, (refl, refl)))))))
+      (λ u lu. bad u (Err u, t, lu, (refl, refl)))
 
   cast_comes : (h : _) (p : _) (a : Typed) → IsPlain sc.defs a → Comes a → Comes (Cast' h p a)
   cast_comes h p a plain ca rest under o items i none low room f go bad =
@@ -215,7 +216,7 @@ module _ (s : StoreState) (ds : List DictId) (are : AreOperators s ds) (d : Dial
       ca (pieces.conversion h.ctype ⋯ rest) under o items i none low room (moved under (value_code names sc.defs a) (pieces.conversion h.ctype) rest items f)
       (λ v hv gv after at. conversion_reaches s ds are d Good spent under none h.ctype v rest o after hv (omega (arith, base.0)) at
       (go (converted h.ctype v) (converted_small h.ctype v hv) (Ok v, t, gv, (refl, refl))))
-      (λ u lu. bad u (Err (Refused (Reason u)), t, lu, (refl, refl)))
+      (λ u lu. bad u (Err u, t, lu, (refl, refl)))
 
   unary_comes : (h : _) (p : _) (op : UnaryOp) (a : Typed) → IsPlain sc.defs a → Comes a → Comes (Unary' h op p a)
   unary_comes h p op a plain ca rest under o items i none low room f go bad =
@@ -223,23 +224,23 @@ module _ (s : StoreState) (ds : List DictId) (are : AreOperators s ds) (d : Dial
       ca (pieces.on_one op (type_of a) ⋯ rest) under o items i none low room (moved under (value_code names sc.defs a) (pieces.on_one op (type_of a)) rest items f)
       (λ v hv gv after at. one_reaches s ds are d Good spent under none (omega (arith, base.1, low)) op (type_of a) v rest o after hv (omega (arith, base.0)) at
       (λ w e. go w (small_ok (on_integer op (type_of a) v) w (one_small op (type_of a) v hv) e) (Ok v, t, gv, given (on_integer op (type_of a) v) w e))
-      (λ u e. bad u (Ok v, t, gv, lacking (on_integer op (type_of a) v) u e)))
-      (λ u lu. bad u (Err (Refused (Reason u)), t, lu, (refl, refl)))
+      (λ u e. bad (Refused (Reason u)) (Ok v, t, gv, lacking (on_integer op (type_of a) v) u e) (error_of u) refl))
+      (λ u lu. bad u (Err u, t, lu, (refl, refl)))
 
   -- what is claimed of the pieces of a binary operator on two words
   abbrev Two : BinaryOp → CType → CType → Option CType → Option CType → Type 0
   Two op k l a b = (x y : ℕ) (rest : Code) (under : List Item) (o : List PsObj) (items : List Item) → x < 2 ^ 32 → y < 2 ^ 32 → under_stopped under ≡ None → length under + 3 ≤ 1000
       → length o + 3 ≤ 100000 → At under (two_by sc.defs op k l a b ⋯ rest) items
       → ((v : ℕ) → v < 2 ^ 32 → by_targets sc op k l a b x y t (Ok v) t → Behind under rest (integer v ∷ o))
-      → ((w : Undef) → by_targets sc op k l a b x y t (Err (Refused (Reason w))) t → Failed w) → Reached (integer y ∷ integer x ∷ o) items
+      → ((w : Trouble Cause) → by_targets sc op k l a b x y t (Err w) t → Failed w) → Reached (integer y ∷ integer x ∷ o) items
 
   numbers_come : (u : Bool) (op : BinaryOp) (x y : ℕ) (rest : Code) (under : List Item) (o : List PsObj) (items : List Item) → x < 2 ^ 32 → y < 2 ^ 32 → under_stopped under ≡ None
       → length under + 3 ≤ 1000 → length o + 3 ≤ 100000 → At under ((if u then pieces.on_unsigned op else pieces.on_ints op) ⋯ rest) items
       → ((v : ℕ) → v < 2 ^ 32 → defined (result_by u op x y) t (Ok v) t → Behind under rest (integer v ∷ o))
-      → ((w : Undef) → defined (result_by u op x y) t (Err (Refused (Reason w))) t → Failed w) → Reached (integer y ∷ integer x ∷ o) items
+      → ((w : Trouble Cause) → defined (result_by u op x y) t (Err w) t → Failed w) → Reached (integer y ∷ integer x ∷ o) items
   numbers_come u op x y rest under o items hx hy none room few f go bad =
       integers_reach s ds are d Good spent under none room u op x y rest o items hx hy few f
-      (λ v e. go v (small_ok (result_by u op x y) v (words_small op u x y hx hy) e) (given (result_by u op x y) v e)) (λ w e. bad w (lacking (result_by u op x y) w e))
+      (λ v e. go v (small_ok (result_by u op x y) v (words_small op u x y hx hy) e) (given (result_by u op x y) v e)) (λ w e. bad (Refused (Reason w)) (lacking (result_by u op x y) w e) (error_of w) refl)
 
   equals_come : (k l : CType) (a b : Option CType) → Two Equal k l a b
   equals_come k l None None = numbers_come (is_unsigned (operating_type Equal k l)) Equal
@@ -270,8 +271,8 @@ module _ (s : StoreState) (ds : List DictId) (are : AreOperators s ds) (d : Dial
       (λ x hx gx after at. cb (on_two sc.defs op (type_of a) (type_of b) ⋯ rest) under (integer x ∷ o) after i none low room.1 at
       (λ y hy gy after at. two_come op (type_of a) (type_of b) taken x y rest under o after hx hy none (omega (arith, base.1, low)) (omega (arith, base.0)) at
       (λ v hv gv. go v hv (Ok x, t, gx, (Ok y, t, gy, gv))) (λ w gw. bad w (Ok x, t, gx, (Ok y, t, gy, gw))))
-      (λ w lw. bad w (Ok x, t, gx, (Err (Refused (Reason w)), t, lw, (refl, refl)))))
-      (λ w lw. bad w (Err (Refused (Reason w)), t, lw, (refl, refl)))
+      (λ w lw. bad w (Ok x, t, gx, (Err w, t, lw, (refl, refl)))))
+      (λ w lw. bad w (Err w, t, lw, (refl, refl)))
     where
       here : (items : List Item) → At under ((value_code names sc.defs a ⋯ (value_code names sc.defs b ⋯ on_two sc.defs op (type_of a) (type_of b))) ⋯ rest) items
           → At under (value_code names sc.defs a ⋯ (value_code names sc.defs b ⋯ (on_two sc.defs op (type_of a) (type_of b) ⋯ rest))) items
@@ -282,7 +283,7 @@ module _ (s : StoreState) (ds : List DictId) (are : AreOperators s ds) (d : Dial
   -- a part of a choice, in a procedure of its own: its conversion follows, and then the procedure has ended
   part_comes : (e : Typed) (k : CType) (rest : Code) (under below : List Item) (o : List PsObj) (items : List Item) (i : ℕ) → IsPlain sc.defs e → Comes e
       → under_stopped under ≡ None → length below ≤ suc i → RoomFor e (length o) (suc i) → At under rest below → At below (value_code names sc.defs e ⋯ pieces.conversion k) items
-      → ((v : ℕ) → v < 2 ^ 32 → Gives e v → Behind under rest (integer (converted k v) ∷ o)) → ((u : Undef) → Lacks e u → Failed u) → Reached o items
+      → ((v : ℕ) → v < 2 ^ 32 → Gives e v → Behind under rest (integer (converted k v) ∷ o)) → ((u : Trouble Cause) → Lacks e u → Failed u) → Reached o items
   part_comes e k rest under below o items i plain ce none low room there f go bad =
       let none' : under_stopped below ≡ None = not_stopped s under below (entered rest []) there none in
       let base = base_room sc.defs e (length o) (suc i) plain room in
@@ -304,7 +305,7 @@ module _ (s : StoreState) (ds : List DictId) (are : AreOperators s ds) (d : Dial
       cc' (pieces.by_zero (part_code b h.ctype) (part_code a h.ctype) ⋯ rest) under o items i none low room.0 (moved under (value_code names sc.defs c) (pieces.by_zero (part_code b h.ctype) (part_code a h.ctype)) rest items f)
       (λ v hv gv after at. zero_reaches s ds are d Good spent under none (omega (arith, base.1, low)) v (part_code b h.ctype) (part_code a h.ctype) rest o after hv (omega (arith, base.0)) at
       (λ below inner l there at'. by v hv gv (v == 0) refl below inner (omega (arith, l, low)) there at'))
-      (λ u lu. bad u (Err (Refused (Reason u)), t, lu, (refl, refl)))
+      (λ u lu. bad u (Err u, t, lu, (refl, refl)))
     where
       tested : (v : ℕ) (result : Result ℕ (Trouble Cause)) (b' : Bool) → (v == 0) ≡ b' → Gives c v → cond b' (chosen_as h.ctype b) (chosen_as h.ctype a) t result t → value_of sc (Choice' h p c q a r b) t result t
       tested v result b' e gv m = (Ok v, t, gv, (Ok v, t, (refl, refl), subst (λ x. cond x (chosen_as h.ctype b) (chosen_as h.ctype a) t result t) (sym e) m))
@@ -314,11 +315,11 @@ module _ (s : StoreState) (ds : List DictId) (are : AreOperators s ds) (d : Dial
       by v hv gv true e below inner l there at =
           part_comes b h.ctype rest under below o inner i pb cb none l room.2 there at
           (λ w hw gw. go (converted h.ctype w) (converted_small h.ctype w hw) (tested v (Ok (converted h.ctype w)) true e gv (Ok w, t, gw, (Ok w, t, (refl, refl), (refl, refl)))))
-          (λ u lu. bad u (tested v (Err (Refused (Reason u))) true e gv (Err (Refused (Reason u)), t, lu, (refl, refl))))
+          (λ u lu. bad u (tested v (Err u) true e gv (Err u, t, lu, (refl, refl))))
       by v hv gv false e below inner l there at =
           part_comes a h.ctype rest under below o inner i pa ca none l room.1 there at
           (λ w hw gw. go (converted h.ctype w) (converted_small h.ctype w hw) (tested v (Ok (converted h.ctype w)) false e gv (Ok w, t, gw, (Ok w, t, (refl, refl), (refl, refl)))))
-          (λ u lu. bad u (tested v (Err (Refused (Reason u))) false e gv (Err (Refused (Reason u)), t, lu, (refl, refl))))
+          (λ u lu. bad u (tested v (Err u) false e gv (Err u, t, lu, (refl, refl))))
 
   -- ---- `||` and `&&`
 
@@ -352,7 +353,7 @@ module _ (s : StoreState) (ds : List DictId) (are : AreOperators s ds) (d : Dial
   -- the second operand, in a procedure of its own
   second_comes : (e : Typed) (rest : Code) (under below : List Item) (o : List PsObj) (items : List Item) (i : ℕ) → IsPlain sc.defs e → Comes e
       → under_stopped under ≡ None → length below ≤ suc i → RoomFor e (length o) (suc i) → At under rest below → At below (value_code names sc.defs e ⋯ truth_code) items
-      → ((v : ℕ) → v < 2 ^ 32 → Gives e v → Behind under rest (integer (if v == 0 then 0 else 1) ∷ o)) → ((u : Undef) → Lacks e u → Failed u) → Reached o items
+      → ((v : ℕ) → v < 2 ^ 32 → Gives e v → Behind under rest (integer (if v == 0 then 0 else 1) ∷ o)) → ((u : Trouble Cause) → Lacks e u → Failed u) → Reached o items
   second_comes e rest under below o items i plain ce none low room there f go bad =
       let none' : under_stopped below ≡ None = not_stopped s under below (entered rest []) there none in
       let base = base_room sc.defs e (length o) (suc i) plain room in
@@ -377,7 +378,7 @@ module _ (s : StoreState) (ds : List DictId) (are : AreOperators s ds) (d : Dial
       (moved under (value_code names sc.defs a) (pieces.by_zero (value_code names sc.defs b ⋯ truth_code) (Num (pos 1) Stop)) rest items f)
       (λ v hv gv after at. zero_reaches s ds are d Good spent under none (omega (arith, base.1, low)) v (value_code names sc.defs b ⋯ truth_code) (Num (pos 1) Stop) rest o after hv (omega (arith, base.0)) at
       (λ below inner l there at'. by v hv gv (v == 0) refl below inner (omega (arith, l, low)) there at'))
-      (λ u lu. bad u (Err (Refused (Reason u)), t, lu, (refl, refl)))
+      (λ u lu. bad u (Err u, t, lu, (refl, refl)))
     where
       tested : (v : ℕ) (result : Result ℕ (Trouble Cause)) (b' : Bool) → (v == 0) ≡ b' → Gives a v → cond b' (truth_of b) (number_means 1) t result t → value_of sc (Or' h p a q b) t result t
       tested v result b' e gv m = (Ok v, t, gv, (Ok v, t, (refl, refl), subst (λ x. cond x (truth_of b) (number_means 1) t result t) (sym e) m))
@@ -390,7 +391,7 @@ module _ (s : StoreState) (ds : List DictId) (are : AreOperators s ds) (d : Dial
       by v hv gv true e below inner l there at =
           second_comes b rest under below o inner i pb cb none l room.1 there at
           (λ w hw gw. go (if w == 0 then 0 else 1) (bit_small (w == 0)) (tested v (Ok (if w == 0 then 0 else 1)) true e gv (truth_given b w gw)))
-          (λ u lu. bad u (tested v (Err (Refused (Reason u))) true e gv (Err (Refused (Reason u)), t, lu, (refl, refl))))
+          (λ u lu. bad u (tested v (Err u) true e gv (Err u, t, lu, (refl, refl))))
       by v hv gv false e below inner l there at =
           number_comes 1 rest under below o inner refl few there at (go 1 (lit< tt) (tested v (Ok 1) false e gv (refl, refl)))
 
@@ -401,7 +402,7 @@ module _ (s : StoreState) (ds : List DictId) (are : AreOperators s ds) (d : Dial
       (moved under (value_code names sc.defs a) (pieces.by_zero (Num (pos 0) Stop) (value_code names sc.defs b ⋯ truth_code)) rest items f)
       (λ v hv gv after at. zero_reaches s ds are d Good spent under none (omega (arith, base.1, low)) v (Num (pos 0) Stop) (value_code names sc.defs b ⋯ truth_code) rest o after hv (omega (arith, base.0)) at
       (λ below inner l there at'. by v hv gv (v == 0) refl below inner (omega (arith, l, low)) there at'))
-      (λ u lu. bad u (Err (Refused (Reason u)), t, lu, (refl, refl)))
+      (λ u lu. bad u (Err u, t, lu, (refl, refl)))
     where
       tested : (v : ℕ) (result : Result ℕ (Trouble Cause)) (b' : Bool) → (v == 0) ≡ b' → Gives a v → cond b' (number_means 0) (truth_of b) t result t → value_of sc (And' h p a q b) t result t
       tested v result b' e gv m = (Ok v, t, gv, (Ok v, t, (refl, refl), subst (λ x. cond x (number_means 0) (truth_of b) t result t) (sym e) m))
@@ -416,7 +417,7 @@ module _ (s : StoreState) (ds : List DictId) (are : AreOperators s ds) (d : Dial
       by v hv gv false e below inner l there at =
           second_comes b rest under below o inner i pb cb none l room.1 there at
           (λ w hw gw. go (if w == 0 then 0 else 1) (bit_small (w == 0)) (tested v (Ok (if w == 0 then 0 else 1)) false e gv (truth_given b w gw)))
-          (λ u lu. bad u (tested v (Err (Refused (Reason u))) false e gv (Err (Refused (Reason u)), t, lu, (refl, refl))))
+          (λ u lu. bad u (tested v (Err u) false e gv (Err u, t, lu, (refl, refl))))
 
   -- ---- numbers
 
@@ -439,18 +440,18 @@ module _ (s : StoreState) (ds : List DictId) (are : AreOperators s ds) (d : Dial
   abbrev LeadsTo : Typed → ℕ → Type 0
   LeadsTo e v = place_of sc e t (Ok (Led v)) t
 
-  abbrev LacksPlace : Typed → Undef → Type 0
-  LacksPlace e u = place_of sc e t (Err (Refused (Reason u))) t
+  abbrev LacksPlace : Typed → Trouble Cause → Type 0
+  LacksPlace e u = place_of sc e t (Err u) t
 
   -- what is claimed of such a place
   abbrev Leads : Typed → Type 0
   Leads e = (rest : Code) (under : List Item) (o : List PsObj) (items : List Item) (i : ℕ) → under_stopped under ≡ None → length under ≤ i → RoomFor e (length o) i
       → At under (place_code names sc.defs e ⋯ rest) items
-      → ((v : ℕ) → v < 2 ^ 32 → LeadsTo e v → Behind under rest (integer v ∷ o)) → ((u : Undef) → LacksPlace e u → Failed u) → Reached o items
+      → ((v : ℕ) → v < 2 ^ 32 → LeadsTo e v → Behind under rest (integer v ∷ o)) → ((u : Trouble Cause) → LacksPlace e u → Failed u) → Reached o items
 
   address_comes : (h : _) (p : _) (a : Typed) → IsLed sc.defs a → Leads a → Comes (Address' h p a)
   address_comes h p a led la rest under o items i none low room f go bad =
-      la rest under o items i none low room (here items f) (λ v hv gv. go v hv (Ok (Led v), t, gv, (refl, refl))) (λ u lu. bad u (Err (Refused (Reason u)), t, lu, (refl, refl)))
+      la rest under o items i none low room (here items f) (λ v hv gv. go v hv (Ok (Led v), t, gv, (refl, refl))) (λ u lu. bad u (Err u, t, lu, (refl, refl)))
     where
       here : (items : List Item) → At under ((place_code names sc.defs a ⋯ address_of (standing_of a)) ⋯ rest) items → At under (place_code names sc.defs a ⋯ rest) items
       here items f =
@@ -461,7 +462,7 @@ module _ (s : StoreState) (ds : List DictId) (are : AreOperators s ds) (d : Dial
   array_comes : (h : Head) (p : _) (a : Typed) → is_array h.ctype ≡ true → Comes a → Comes (Follow' h p a)
   array_comes h p a array ca rest under o items i none low room f go bad =
       ca rest under o items i none low room (here items f) (λ v hv gv. go v hv (Ok (Led v), t, (Ok v, t, gv, (refl, refl)), found v))
-      (λ u lu. bad u (Err (Refused (Reason u)), t, (Err (Refused (Reason u)), t, lu, (refl, refl)), (refl, refl)))
+      (λ u lu. bad u (Err u, t, (Err u, t, lu, (refl, refl)), (refl, refl)))
     where
       here : (items : List Item) → At under ((value_code names sc.defs a ⋯ value_at Pointed h.ctype) ⋯ rest) items → At under (value_code names sc.defs a ⋯ rest) items
       here items f =
@@ -503,7 +504,7 @@ module _ (s : StoreState) (ds : List DictId) (are : AreOperators s ds) (d : Dial
 
     leads : (e : Typed) → IsLed sc.defs e → Leads e
     leads (Follow' h p a) led = λ rest under o items i none low room f go bad. comes a led rest under o items i none low room f
-        (λ v hv gv. go v hv (Ok v, t, gv, (refl, refl))) (λ u lu. bad u (Err (Refused (Reason u)), t, lu, (refl, refl)))
+        (λ v hv gv. go v hv (Ok v, t, gv, (refl, refl))) (λ u lu. bad u (Err u, t, lu, (refl, refl)))
     leads (Parens' h p a) led = λ rest under o items i none low room f go bad. leads a led rest under o items i none low room f go bad
     leads (Comma' _ _ _ _ _) led = absurd led
     leads (Assign' _ _ _ _ _ _) led = absurd led
@@ -539,4 +540,4 @@ values_left sc t names e s ds o items a d are plain room none has spells =
     (subst (λ k. Frames s items inside.after (entered k [])) (sym (follows_stop (value_code names sc.defs e))) inside.frames)
     (λ v small gives after at' n r m d' c' other run.
     leaves v n r m d' c' small gives (subst (λ x. Runs Operates n d (core s ds (integer v ∷ o) x) r m d' c') (at_bottom s items after at') run))
-    (λ u lacks m operands. fails u m operands lacks))
+    (λ u lacks f is m operands. fails u f m operands is lacks))

@@ -1,6 +1,5 @@
 -- What a run comes to whose next pieces have the value of an expression.
-use Rattle.std.specs.Prelude.{◌≡◌, ◌≢◌, ℕ, ◌+◌, ◌<◌, ◌^◌, List, [], ◌∷◌, length, codes, Some, Ok, Err}
-use Rattle.ldb_words.specs.declared.kinds.Undef.{Undef}
+use Rattle.std.specs.Prelude.{◌≡◌, ◌≢◌, ℕ, ◌+◌, ◌<◌, ◌^◌, List, [], ◌∷◌, length, codes, Option, Some, None, Ok, Err}
 use Rattle.c_tree.specs.declared.typed.Typed.{Typed}
 use Rattle.ps_store.specs.declared.object.PsObj.{PsObj}
 use Rattle.ps_store.specs.declared.object.PsObj.TheVariants.{Op}
@@ -9,6 +8,7 @@ use Rattle.ps_store.specs.declared.object.StringId.{StringId}
 use Rattle.ps_store.specs.StoreState.{StoreState}
 use Rattle.ps_store.specs.Store.{text_units}
 use Rattle.ps_store.specs.Operators.{operator_number}
+use Rattle.ps_step.specs.declared.fault.PsError.{PsError}
 use Rattle.ps_step.specs.declared.fault.PsFault.TheVariants.{Error, Spent, NoMemory}
 use Rattle.ps_step.specs.declared.item.Item.{Item}
 use Rattle.ps_step.specs.declared.item.Item.TheVariants.{Text as Reading}
@@ -23,8 +23,8 @@ use Rattle.ps_words.specs.Words.{error_of}
 use Rattle.ps_words.specs.Operators.{integer}
 use Rattle.dialect_model.specs.Dial.{Dial}
 use Rattle.dialect_model.specs.Operating.{Operates}
-use Rattle.dialect_model.specs.TableUse.{TableUse, Refused}
-use Rattle.c_bytes.specs.Lvalues.{Scene, Reason}
+use Rattle.dialect_model.specs.TableUse.{TableUse, Trouble, Refused, Kind}
+use Rattle.c_bytes.specs.Lvalues.{Scene, Cause, Reason}
 use Rattle.c_bytes.specs.Evaluation.{value_of}
 use Rattle.c_judge.specs.declared.symbol.Symbol.{Symbol}
 use Rattle.c_judge.specs.declared.check.Mode.TheVariants.{Value}
@@ -34,13 +34,19 @@ use Rattle.expr_serve.specs.Codes.{value_code, text_of}
 abbrev pub AreOperators : StoreState → List DictId → Type 0
 AreOperators s ds = (name : List ℕ) (n : ℕ) → operator_number name ≡ Some n → named s ds name ≡ Some (Op n)
 
--- The run goes on with the expression's value on the operands that were there, and the items below on the execution stack; or it ended by the error of
--- what is undefined in the expression; or its steps were spent. Store, dictionaries and dial are as they were.
+-- the error of PostScript by which it is told that there is no value
+abbrev pub error_by : Trouble Cause → Option PsError
+error_by (Refused (Reason u)) = Some (error_of u)
+error_by (Kind e) = Some e
+error_by x = None
+
+-- The run goes on with the expression's value on the operands that were there, and the items below on the execution stack; or it ended by the error
+-- by which the expression has none; or its steps were spent. Store, dictionaries and dial are as they were.
 pub data Leaves (sc : Scene) (e : Typed) (t : TableUse) (s : StoreState) (ds : List DictId) (o : List PsObj) (items : List Item) (d : Dial) : Answer → ℕ → Dial → PsCore → Type 0 where
   leaves : (v left : ℕ) (r : Answer) (m : ℕ) (d' : Dial) (c' : PsCore) → v < 2 ^ 32 → value_of sc e t (Ok v) t
       → Runs Operates left d (core s ds (integer v ∷ o) items) r m d' c' → Leaves sc e t s ds o items d r m d' c'
-  fails : (u : Undef) (m : ℕ) (operands : List PsObj) → value_of sc e t (Err (Refused (Reason u))) t
-      → Leaves sc e t s ds o items d (Err (Error (error_of u))) m d (core s ds operands [])
+  fails : (x : Trouble Cause) (f : PsError) (m : ℕ) (operands : List PsObj) → error_by x ≡ Some f → value_of sc e t (Err x) t
+      → Leaves sc e t s ds o items d (Err (Error f)) m d (core s ds operands [])
   spends : (m : ℕ) (d' : Dial) (c' : PsCore) → Leaves sc e t s ds o items d (Err Spent) m d' c'
 
 -- each run from here, of which memory does not run out, comes to that
