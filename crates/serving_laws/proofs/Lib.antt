@@ -3,5 +3,6 @@ mod Numbers
 mod Names
 mod Stepping
 mod Operating
+mod Loading
 mod Values
 mod Texts

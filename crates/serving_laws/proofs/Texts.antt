@@ -57,7 +57,7 @@ use Rattle.dialect_model.specs.TableUse.{TableUse}
 use Rattle.c_bytes.specs.Lvalues.{Scene}
 use Rattle.expr_serve.specs.Codes.{value_code, struct_code, text_of}
 use Rattle.serving_laws.specs.Plain.{IsPlain, RoomFor}
-use Rattle.serving_laws.specs.Left.{AreOperators, Leaves, spends, AreServed}
+use Rattle.serving_laws.specs.Left.{AreOperators, ComesTo, spends, AreServed}
 use Rattle.serving_laws.proofs.Values.{base_room, values_left}
 
 -- ---- names, where objects were added
@@ -181,12 +181,12 @@ texts_served sc t names e s ds o items i d are plain scalar room none is good fe
     record {
       store = made.store;
       grown = grown_on (units (Proc (value_code names sc.defs e) Stop)) (text_units (codes "exec")) s first.store made.store grown₁ made.grown;
-      leaves = subst (λ (n : ℕ). Comes d (Leaves sc e t made.store ds o (Reading i n ∷ items) d) (core s ds o (Reading i 0 ∷ items))) ends
-          (next_comes d (Leaves sc e t made.store ds o (Reading i to ∷ items) d) (λ m d' c'. spends m d' c') (core s ds o (Reading i 0 ∷ items)) (core first.store ds (Array a true ∷ o) (Reading i first.to ∷ items))
+      leaves = subst (λ (n : ℕ). Comes d (ComesTo sc e t made.store ds o (Reading i n ∷ items) d) (core s ds o (Reading i 0 ∷ items))) ends
+          (next_comes d (ComesTo sc e t made.store ds o (Reading i to ∷ items) d) (λ m d' c'. spends m d' c') (core s ds o (Reading i 0 ∷ items)) (core first.store ds (Array a true ∷ o) (Reading i first.to ∷ items))
           (met_in_text s first.store ds o items i 0 first.to first.object first.reads
           ∙ ap (λ (x : PsObj). settled (meeting x (core first.store ds o (Reading i first.to ∷ items)))) (object_is first.object sp.2 a sp.3)
           ∙ push_next (Array a true) (core first.store ds o (Reading i first.to ∷ items)) (omega (arith, base.0)))
-          (next_comes d (Leaves sc e t made.store ds o (Reading i to ∷ items) d) (λ m d' c'. spends m d' c') (core first.store ds (Array a true ∷ o) (Reading i first.to ∷ items))
+          (next_comes d (ComesTo sc e t made.store ds o (Reading i to ∷ items) d) (λ m d' c'. spends m d' c') (core first.store ds (Array a true ∷ o) (Reading i first.to ∷ items))
           (core made.store ds o (Object (Array a true) ∷ Reading i to ∷ items))
           (met_in_text first.store made.store ds (Array a true ∷ o) items i first.to to (Name made.id true) last
           ∙ ap settled (name_acts made.store ds (Array a true ∷ o) (Reading i to ∷ items) made.id (codes "exec") (Op 23) made.is.bytes (are₂ (codes "exec") 23 exec_is))

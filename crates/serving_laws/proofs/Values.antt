@@ -53,7 +53,7 @@ use Rattle.expr_serve.specs.declared.emit.Standing.{Standing}
 use Rattle.expr_serve.specs.declared.emit.Standing.TheVariants.{Pointed}
 use Rattle.expr_serve.specs.Codes.{value_code, place_code, standing_of, address_of, fetched, value_at, bytes_of, on_two, by_targets as two_by}
 use Rattle.serving_laws.specs.Plain.{AreTaken, IsPlain, IsLed, RoomFor}
-use Rattle.serving_laws.specs.Left.{AreOperators, AreLeft, error_by, Leaves, leaves, fails, spends}
+use Rattle.serving_laws.specs.Left.{AreOperators, AreLeft, error_by, ComesTo, leaves, fails, spends}
 use Rattle.serving_laws.proofs.Small.{Small, words_small, one_small, byte_small}
 use Rattle.serving_laws.proofs.Names.{pop_is}
 use Rattle.serving_laws.proofs.Stepping.{Reaches, Fails, Then, at_bottom, not_stopped, next_reaches, number_reaches, manual_reaches}
@@ -534,9 +534,9 @@ pub values_left : (sc : Scene) (t : TableUse) (names : List Symbol) (e : Typed) 
 values_left sc t names e s ds o items a d are plain room none has spells =
     let base = base_room sc.defs e (length o) (length items) plain room in
     let inside : Enters s s ds items items a (entered (value_code names sc.defs e) []) = enters s s ds items items a [] bottom (omega (arith, base.1)) has refl (value_code names sc.defs e) spells in
-    next_reaches s ds are d (Leaves sc e t s ds o items d) (λ m d' c'. spends m d' c') o o (Object (Array a true) ∷ items) inside.after
+    next_reaches s ds are d (ComesTo sc e t s ds o items d) (λ m d' c'. spends m d' c') o o (Object (Array a true) ∷ items) inside.after
     (ap (λ (r : Made). settled (alone (at (core s ds o items) r))) (inside.calls o))
-    (comes s ds are d (Leaves sc e t s ds o items d) (λ m d' c'. spends m d' c') sc names t e plain Stop items o inside.after (length items) none (omega arith) room
+    (comes s ds are d (ComesTo sc e t s ds o items d) (λ m d' c'. spends m d' c') sc names t e plain Stop items o inside.after (length items) none (omega arith) room
     (subst (λ k. Frames s items inside.after (entered k [])) (sym (follows_stop (value_code names sc.defs e))) inside.frames)
     (λ v small gives after at' n r m d' c' other run.
     leaves v n r m d' c' small gives (subst (λ x. Runs Operates n d (core s ds (integer v ∷ o) x) r m d' c') (at_bottom s items after at') run))

@@ -42,17 +42,17 @@ error_by x = None
 
 -- The run goes on with the expression's value on the operands that were there, and the items below on the execution stack; or it ended by the error
 -- by which the expression has none; or its steps were spent. Store, dictionaries and dial are as they were.
-pub data Leaves (sc : Scene) (e : Typed) (t : TableUse) (s : StoreState) (ds : List DictId) (o : List PsObj) (items : List Item) (d : Dial) : Answer → ℕ → Dial → PsCore → Type 0 where
+pub data ComesTo (sc : Scene) (e : Typed) (t : TableUse) (s : StoreState) (ds : List DictId) (o : List PsObj) (items : List Item) (d : Dial) : Answer → ℕ → Dial → PsCore → Type 0 where
   leaves : (v left : ℕ) (r : Answer) (m : ℕ) (d' : Dial) (c' : PsCore) → v < 2 ^ 32 → value_of sc e t (Ok v) t
-      → Runs Operates left d (core s ds (integer v ∷ o) items) r m d' c' → Leaves sc e t s ds o items d r m d' c'
+      → Runs Operates left d (core s ds (integer v ∷ o) items) r m d' c' → ComesTo sc e t s ds o items d r m d' c'
   fails : (x : Trouble Cause) (f : PsError) (m : ℕ) (operands : List PsObj) → error_by x ≡ Some f → value_of sc e t (Err x) t
-      → Leaves sc e t s ds o items d (Err (Error f)) m d (core s ds operands [])
-  spends : (m : ℕ) (d' : Dial) (c' : PsCore) → Leaves sc e t s ds o items d (Err Spent) m d' c'
+      → ComesTo sc e t s ds o items d (Err (Error f)) m d (core s ds operands [])
+  spends : (m : ℕ) (d' : Dial) (c' : PsCore) → ComesTo sc e t s ds o items d (Err Spent) m d' c'
 
 -- each run from here, of which memory does not run out, comes to that
 abbrev pub AreLeft : Scene → Typed → TableUse → StoreState → List DictId → List PsObj → List Item → Dial → PsCore → Type 0
 AreLeft sc e t s ds o items d c =
-    (n : ℕ) (r : Answer) (m : ℕ) (d' : Dial) (c' : PsCore) → r ≢ Err NoMemory → Runs Operates n d c r m d' c' → Leaves sc e t s ds o items d r m d' c'
+    (n : ℕ) (r : Answer) (m : ℕ) (d' : Dial) (c' : PsCore) → r ≢ Err NoMemory → Runs Operates n d c r m d' c' → ComesTo sc e t s ds o items d r m d' c'
 
 -- So does each run of a text with the expression's pieces, once it was read: the objects of the text were added to the store, and nothing of the text is left.
 pub record AreServed (names : List Symbol) (sc : Scene) (e : Typed) (t : TableUse) (s : StoreState) (ds : List DictId) (o : List PsObj) (items : List Item) (text : StringId) (d : Dial) : Type 0 where
