@@ -1,10 +1,13 @@
 // A command that doesn't resume, on one side.
 
 ghost use Rattle.std.specs.Prelude.{◌≡◌, ◌≤◌, OnErr};
+ghost use Rattle.abs_mem.specs.WireMeaning.{wire_seen};
+ghost use Rattle.session.specs.Asked.{Does, IsAsked};
 ghost use Rattle.session.specs.Kept.{IsKept};
+ghost use Rattle.session.specs.Turned.{turned};
 
 use crate::sides::{SideRecord, turn};
-use abs_mem::{MemFault, Wire};
+use abs_mem::{AbsMem, MemFault, Wire};
 use asking::{breaking, choosing, clearing, listing, printing, registers, running_text};
 use c_session::Command;
 use evaluating::{coding, evaluating};
@@ -14,14 +17,15 @@ use ps_ops::Operators;
 use table_asks::{AskFault, begin_command, end_command};
 
 /// What a command says on a side, whose steps are begun. Those that are asked of no side say nothing.
-fn told<L: Link + Drop>(
-    talk: &mut Operators<Wire<L>>,
+fn told<W: AbsMem + Drop>(
+    talk: &mut Operators<W>,
     side: &mut SideRecord,
     command: &Command,
 ) -> Result<Text, AskFault>
     requires within { side.old.inquiry.steps.taken ≤ side.old.inquiry.steps.limit }
     ensures kept { OnErr result (side.new.row.breaks.items ≡ side.old.row.breaks.items) }
     ensures frame { side.new.frame ≡ side.old.frame }
+    ensures does { Does W.seen command.now side.old.frame side.old.row.breaks.items side.old.inquiry talk.old result side.new.row.breaks.items side.new.inquiry talk.new }
 {
     let inquiry = &mut side.inquiry;
     let frame = side.frame;
@@ -53,6 +57,7 @@ pub fn asked<L: Link + Drop>(
     command: &Command,
 ) -> Result<Text, AskFault>
     ensures kept { OnErr result (IsKept side.old side.new) }
+    ensures asked { IsAsked (λ w. wire_seen L.conduct (L.world w.link) (L.faults w.link) w.side w.order) command.now side.old (turned side.old talk.old) result side.new talk.new }
 {
     turn(talk, side);
     let mark = match begin_command(&mut side.inquiry) {
