@@ -5,6 +5,8 @@ ghost use Rattle.machine_state.specs.declared.layout.TheConstants.{MIPS, SPARC};
 ghost use Rattle.ps_store.specs.Store.{closed_part};
 ghost use Rattle.break_plant.specs.Planted.{noop_of, break_of};
 ghost use Rattle.table_read.specs.Reads.{in_ok};
+ghost use Rattle.std.specs.List.{AllByRecursion};
+ghost use Rattle.table_points.specs.Named.{IsNamed};
 ghost use Rattle.table_points.specs.Rows.{row_in};
 ghost use Rattle.dialect_model.specs.TableUse.{Looks};
 ghost use Rattle.table_asks.specs.Asking.{Comes, LedAsk};
@@ -23,7 +25,7 @@ use machine_state::{MIPS, SPARC};
 use ps_ops::Operators;
 use ps_store::PsStore;
 use table_asks::{AskFault, Cause, Inquiry, body_told, line_told, memory_fault};
-use table_points::Point;
+use table_points::{Point, is_named};
 
 /// The target with a number: SPARC or else MIPS.
 fn known(target: u8) -> u8
@@ -62,7 +64,8 @@ fn planting_fault(fault: PlantFault) -> AskFault
     }
 }
 
-/// Sets a breakpoint at a point, unless one is set there. Memory is taken before anything is stored.
+/// Sets a breakpoint at a point, unless one is set there. Memory is taken before anything is stored; there is none for names that
+/// don't last.
 fn set<W: AbsMem + Drop>(
     inquiry: &Inquiry,
     talk: &mut Operators<W>,
@@ -70,6 +73,7 @@ fn set<W: AbsMem + Drop>(
     place: Point,
 ) -> Result<Text, AskFault>
     ensures kept { OnErr result (breaks.new.items ≡ breaks.old.items) }
+    ensures named { AllByRecursion (IsNamed inquiry.now.core.store) breaks.old.items → AllByRecursion (IsNamed inquiry.now.core.store) breaks.new.items }
     ensures meaning { Changes (λ b. broken_at talk.old.view.target (rows_in inquiry.now.core.store breaks.old.items) b (row_in inquiry.now.core.store place) (has (rows_in inquiry.now.core.store breaks.old.items) (row_in inquiry.now.core.store place))) (W.seen talk.old.memory.below.below.below) result (rows_in inquiry.now.core.store breaks.new.items) (W.seen talk.new.memory.below.below.below) }
     ensures calls { LedAsk W.leads talk.old.memory.below.below.below result talk.new.memory.below.below.below }
     ensures target { talk.new ≡ with_target talk.old talk.new.memory.below.below.below }
@@ -81,6 +85,9 @@ fn set<W: AbsMem + Drop>(
     };
     if is_set(table, breaks.as_slice(), place) {
         return Ok(text);
+    }
+    if !is_named(table, &place) {
+        return Err(AskFault::NoMemory);
     }
     match breaks.push(place) {
         Ok(()) => {}
@@ -122,6 +129,7 @@ pub fn breaking<W: AbsMem + Drop>(
 ) -> Result<Text, AskFault>
     requires within { inquiry.old.steps.taken ≤ inquiry.old.steps.limit }
     ensures kept { OnErr result (breaks.new.items ≡ breaks.old.items) }
+    ensures named { AllByRecursion (IsNamed inquiry.new.core.store) breaks.old.items → AllByRecursion (IsNamed inquiry.new.core.store) breaks.new.items }
     ensures within { inquiry.new.steps.taken ≤ inquiry.new.steps.limit }
     ensures limit { inquiry.new.steps.limit ≡ inquiry.old.steps.limit }
     ensures more { inquiry.old.steps.taken ≤ inquiry.new.steps.taken }
@@ -145,6 +153,7 @@ fn unset<W: AbsMem + Drop>(
     place: Point,
 ) -> Result<Text, AskFault>
     ensures kept { OnErr result (breaks.new.items ≡ breaks.old.items) }
+    ensures named { AllByRecursion (IsNamed inquiry.now.core.store) breaks.old.items → AllByRecursion (IsNamed inquiry.now.core.store) breaks.new.items }
     ensures meaning { Changes (λ b. cleared_at talk.old.view.target (rows_in inquiry.now.core.store breaks.old.items) b (row_in inquiry.now.core.store place) (has (rows_in inquiry.now.core.store breaks.old.items) (row_in inquiry.now.core.store place))) (W.seen talk.old.memory.below.below.below) result (rows_in inquiry.now.core.store breaks.new.items) (W.seen talk.new.memory.below.below.below) }
     ensures calls { LedAsk W.leads talk.old.memory.below.below.below result talk.new.memory.below.below.below }
     ensures target { talk.new ≡ with_target talk.old talk.new.memory.below.below.below }
@@ -177,6 +186,7 @@ pub fn clearing<W: AbsMem + Drop>(
 ) -> Result<Text, AskFault>
     requires within { inquiry.old.steps.taken ≤ inquiry.old.steps.limit }
     ensures kept { OnErr result (breaks.new.items ≡ breaks.old.items) }
+    ensures named { AllByRecursion (IsNamed inquiry.new.core.store) breaks.old.items → AllByRecursion (IsNamed inquiry.new.core.store) breaks.new.items }
     ensures within { inquiry.new.steps.taken ≤ inquiry.new.steps.limit }
     ensures limit { inquiry.new.steps.limit ≡ inquiry.old.steps.limit }
     ensures more { inquiry.old.steps.taken ≤ inquiry.new.steps.taken }

@@ -70,7 +70,7 @@ abbrev paused : Resumed
 paused = resumed machine_behaviour ByContinue start
 
 abbrev now : TableUse
-now = use_of table MOST_STEPS
+now = use_of (record table { part = Command }) MOST_STEPS
 
 -- ---- the registers, and the first event
 

@@ -157,7 +157,7 @@ abbrev pub Resumes : Behaviour → Resume → SessionState → State → Reply �
 Resumes b how st (Running began) reply st' = Says st (resumed b began st).lines (resumed b began st).session reply st'
 Resumes b how st state reply st' = Begins b how st reply st'
 
-abbrev all_regs : SessionState → Reply
+abbrev pub all_regs : SessionState → Reply
 all_regs st = regs_text st.first ∷ elim st.second [ None ↦ [] | Some a ↦ regs_text a ∷ [] ]
 
 module _ (b : Behaviour) (st : SessionState) where

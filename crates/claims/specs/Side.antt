@@ -5,6 +5,7 @@ use Rattle.ldb_words.specs.declared.event.FaultKind.{FaultKind}
 use Rattle.machine_state.specs.declared.layout.TheConstants.{CONTEXT}
 use Rattle.machine_state.specs.State.{MachineState, Behaviour, order_of, given_input}
 use Rattle.machine_state.specs.Regions.{Regions}
+use Rattle.ps_store.specs.declared.object.Part.TheVariants.{Command}
 use Rattle.ps_store.specs.StoreState.{StoreState}
 use Rattle.frame_bytes.specs.Bytes.{Bytes}
 use Rattle.table_model.specs.Rows.{PointRow}
@@ -76,11 +77,11 @@ pub record SessionState : Type 0 where
 abbrev pub FIRST_LIMIT : ℕ
 FIRST_LIMIT = 10000000
 
--- the context block is saved before any message, and the input is then given
+-- The context block is saved before any message, and the input is then given. What is made from here on is a command's.
 abbrev pub first_side : Behaviour → (input : List ℕ) → StoreState → MachineState → SideState
 first_side b input table m = record {
   machine = (given_input input (b.saved m).1).1;
-  table = table;
+  table = record table { part = Command };
   breaks = [];
   step_words = [];
   stands_at = None;

@@ -67,6 +67,7 @@ impl PsStore {
     ghost use Rattle.ps_store.specs.Cut.{mark_of, cut, IsMark};
     ghost use Rattle.ps_store.specs.Store.{KeepsClosed, is_deferred, held, with_held, with_entries, elements_of, entries_of, bytes_of, has_room, making_array, making_nulls, writing_elements, putting_element, making_dict, making_text, making_string, making_zeros, making_name, text_units, writing_bytes, key_object, adding_pair, adding, putting_value, putting_under_name, new_store, Does, Changes, closed_part};
     ghost use Rattle.ps_store.specs.Settled.{Settled};
+    ghost use Rattle.ps_store.specs.Extends.{HoldsString};
 
     /// A store with the table's part in use and one base dictionary, which is empty.
     pub fn new(alloc: Global) -> Result<PsStore, AllocError>
@@ -134,6 +135,14 @@ impl PsStore {
         ensures { result.query.text.now ≡ bytes_of self.now s }
     {
         self.held(s.part).text(s.index)
+    }
+
+    /// Whether a string, or a name, is one of the table's closed ones.
+    pub fn is_closed_string(&self, s: StringId) -> bool
+        ensures value { result ≡ is_closed s.part s.index self.now.closed.strings }
+        ensures held { result ≡ true → HoldsString self.now s }
+    {
+        is_closed(s.part, s.index, self.closed.strings)
     }
 
     /// Whether two strings have the same bytes.

@@ -1,3 +1,4 @@
 pub mod Meeting
 pub mod Rooms
 pub mod Telling
+pub mod Asking

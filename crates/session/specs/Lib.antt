@@ -4,3 +4,6 @@ pub mod Events
 pub mod Kept
 pub mod Resuming
 pub mod Rooms
+pub mod Turned
+pub mod Asked
+pub mod Meant

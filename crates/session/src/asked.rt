@@ -1,10 +1,21 @@
 // A command that doesn't resume, on one side.
 
-ghost use Rattle.std.specs.Prelude.{◌≡◌, ◌≤◌, OnErr};
+ghost use Rattle.std.specs.Prelude.{◌≡◌, ◌≤◌, OnErr, Option, []};
+ghost use Rattle.abs_mem.specs.WireMeaning.{wire_seen};
+ghost use Rattle.session.specs.Asked.{Does, IsAsked};
 ghost use Rattle.session.specs.Kept.{IsKept};
+ghost use Rattle.session.specs.Turned.{turned};
+ghost use Rattle.machine_state.specs.State.{Behaviour};
+ghost use Rattle.nub_wire.specs.Nub.{Host};
+ghost use Rattle.claims.specs.Side.{SideState};
+ghost use Rattle.session.specs.Meant.{IsThere, debugged, SaidOne, NotOne, IsPlain, ComesTo};
+ghost use Rattle.side_meaning.specs.Standing.{StandsFor};
+ghost use Rattle.side_meaning.specs.Stepping.{IsReady};
+ghost use Rattle.asking.specs.Lines.{line};
+ghost use Rattle.claims.specs.Raw.{regs_text};
 
 use crate::sides::{SideRecord, turn};
-use abs_mem::{MemFault, Wire};
+use abs_mem::{AbsMem, MemFault, Wire};
 use asking::{breaking, choosing, clearing, listing, printing, registers, running_text};
 use c_session::Command;
 use evaluating::{coding, evaluating};
@@ -14,14 +25,15 @@ use ps_ops::Operators;
 use table_asks::{AskFault, begin_command, end_command};
 
 /// What a command says on a side, whose steps are begun. Those that are asked of no side say nothing.
-fn told<L: Link + Drop>(
-    talk: &mut Operators<Wire<L>>,
+fn told<W: AbsMem + Drop>(
+    talk: &mut Operators<W>,
     side: &mut SideRecord,
     command: &Command,
 ) -> Result<Text, AskFault>
     requires within { side.old.inquiry.steps.taken ≤ side.old.inquiry.steps.limit }
     ensures kept { OnErr result (side.new.row.breaks.items ≡ side.old.row.breaks.items) }
     ensures frame { side.new.frame ≡ side.old.frame }
+    ensures does { Does W.seen command.now side.old.frame side.old.row.breaks.items side.old.inquiry talk.old result side.new.row.breaks.items side.new.inquiry talk.new }
 {
     let inquiry = &mut side.inquiry;
     let frame = side.frame;
@@ -53,6 +65,8 @@ pub fn asked<L: Link + Drop>(
     command: &Command,
 ) -> Result<Text, AskFault>
     ensures kept { OnErr result (IsKept side.old side.new) }
+    ensures meant { (b : Behaviour) (h : Host) (beside : Option Host) (a : SideState) → IsThere b L.conduct (L.world talk.old.memory.below.below.below.link) side.old h beside → IsReady (debugged side.old h) a → a.step_words ≡ [] → IsPlain command.now
+        → ComesTo (L.faults talk.old.memory.below.below.below.link) (L.faults talk.new.memory.below.below.below.link) (λ text. SaidOne b L.conduct (L.world talk.new.memory.below.below.below.link) side.old side.new h beside command.now a text.now) (NotOne b L.conduct (L.world talk.new.memory.below.below.below.link) side.old side.new h beside command.now a) result }
 {
     turn(talk, side);
     let mark = match begin_command(&mut side.inquiry) {
@@ -104,7 +118,10 @@ pub fn ran<L: Link + Drop>(
 pub fn registers_of<L: Link + Drop>(
     talk: &mut Operators<Wire<L>>,
     side: &SideRecord,
-) -> Result<Text, AskFault> {
+) -> Result<Text, AskFault>
+    ensures { (b : Behaviour) (h : Host) (beside : Option Host) (a : SideState) → IsThere b L.conduct (L.world talk.old.memory.below.below.below.link) side.now h beside → StandsFor (debugged side.now h) a
+        → ComesTo (L.faults talk.old.memory.below.below.below.link) (L.faults talk.new.memory.below.below.below.link) (λ text. IsThere b L.conduct (L.world talk.new.memory.below.below.below.link) side.now h beside × (text.now ≡ line (regs_text a))) (λ e. ⊥) result }
+{
     turn(talk, side);
     registers(side.inquiry.core.operands.allocator(), talk)
 }

@@ -1,16 +1,23 @@
 // A session.
 
-ghost use Rattle.std.specs.Prelude.{◌≡◌, ◌≢◌, ◌⊎◌, ℕ, true, [], codes, IfOk, IfErr, OnOk, OnErr, Ok, Err, Some, None};
+ghost use Rattle.std.specs.Prelude.{◌≡◌, ◌≢◌, ◌⊎◌, ℕ, true, [], codes, IfOk, IfErr, OnOk, OnErr, Ok, Err, Some, None, Option, false};
 ghost use Rattle.c_session.specs.declared.command.Command.{Command};
 ghost use Rattle.c_session.specs.declared.command.Command.TheVariants.{Continue, Step, Quit, Turns};
 ghost use Rattle.cmd_lang.specs.Commands.{read_of};
 ghost use Rattle.cmd_lang.specs.Words.{is_empty};
 ghost use Rattle.c_session.specs.Commands.{Refusal, ByContinue, ByStep};
-ghost use Rattle.claims.specs.Outcome.{refused_by_state};
+ghost use Rattle.claims.specs.Outcome.{refused_by_state, all_regs, DoneOnBoth, AnswersCommand, Begins};
 ghost use Rattle.session.specs.Answered.{state_of, resume_of, refusal_reply, line_reply, limit_reply, Replies, Answers};
 ghost use Rattle.session.specs.Counted.{CountsOutput, CountsEnd, IsNoQuit};
 ghost use Rattle.session.specs.Kept.{IsKept, AreKept, KeepsMode, KeepsReply, IsUndone, AnswersFault};
 ghost use Rattle.session.specs.Resuming.{StandsStill, OnSecond, ReadyFor, HasRoomFor, AllBehind, Resumes, event_on, goes_on};
+ghost use Rattle.machine_state.specs.State.{Behaviour};
+ghost use Rattle.nub_wire.specs.Nub.{Host};
+ghost use Rattle.claims.specs.Side.{SessionState};
+ghost use Rattle.session.specs.Meant.{IsThere, ComesTo, Settled, Hosts, AreSteady, AreThere, ResumesAll, SaidAll, NotAll, IsPlain, IsAskable, IsSaid, IsSaidIfAny, AreReadyFor, Represents, AllPrepared, AllSettled, AnswersAs, MeantAnswers, ResumesAs, IsResumable, MayAlsoRun, sides_of};
+ghost use Rattle.side_meaning.specs.Sessions.{SidesStand, IsStill};
+ghost use Rattle.debug_side.specs.Told.{MayRun};
+ghost use Rattle.asking_meaning.specs.Meant.{joined};
 
 use crate::answers::{Answer, End, StartFault};
 use crate::asked::{asked, registers_of};
@@ -114,6 +121,8 @@ fn taken_away<L: Link + Drop>(
     ensures kept { IsKept side.old side.new }
     ensures still { StandsStill side.old side.new }
     ensures words { OnOk result (side.new.row.step_words.items ≡ []) }
+    ensures meant { (b : Behaviour) (h : Host) (beside : Option Host) → IsThere b L.conduct (L.world talk.old.memory.below.below.below.link) side.old h beside
+        → ComesTo (L.faults talk.old.memory.below.below.below.link) (L.faults talk.new.memory.below.below.below.link) (λ u. Settled b L.conduct (L.world talk.new.memory.below.below.below.link) side.old side.new h beside) (λ e. ⊥) result }
 {
     match unprepared(talk, side) {
         Ok(()) => Ok(()),
@@ -198,6 +207,8 @@ impl<L: Link + Drop> Session<L> {
         ensures asked { (c : Command) → read_of self.old.raw line.now ≡ Some c → c ≢ Continue → c ≢ Step → (out.new ≡ out.old) × KeepsMode self.old.mode self.new.mode self.old.broken result }
         ensures continues { read_of self.old.raw line.now ≡ Some Continue → refused_by_state (state_of self.old.mode) Continue ≡ None → Resumes (out.new ≡ out.old) ByContinue self.old.mode self.new.mode self.old.first self.new.first self.old.second self.new.second self.old.broken result }
         ensures steps { read_of self.old.raw line.now ≡ Some Step → refused_by_state (state_of self.old.mode) Step ≡ None → Resumes (out.new ≡ out.old) ByStep self.old.mode self.new.mode self.old.first self.new.first self.old.second self.new.second self.old.broken result }
+        ensures meant { (b : Behaviour) (hs : Hosts) (st : SessionState) → AreSteady b → Represents b L.conduct (L.world self.old.talk.memory.below.below.below.link) self.old.first self.old.second self.old.mode self.old.limit hs st → is_empty line.now ≡ false → IsSaidIfAny (read_of self.old.raw line.now)
+            → AnswersAs b L.conduct (L.world self.new.talk.memory.below.below.below.link) self.new.first self.new.second self.new.mode self.new.limit st (O.taken out.old) (O.taken out.new) (MeantAnswers b st (read_of self.old.raw line.now)) (L.faults self.old.talk.memory.below.below.below.link) (L.faults self.new.talk.memory.below.below.below.link) result }
         ensures raw { self.new.raw ≡ self.old.raw }
         ensures broken { KeepsReply self.old.broken self.new.broken self.new.mode }
     {
@@ -221,6 +232,8 @@ impl<L: Link + Drop> Session<L> {
         ensures asked { command.now ≢ Continue → command.now ≢ Step → (out.new ≡ out.old) × KeepsMode self.old.mode self.new.mode self.old.broken result }
         ensures continues { command.now ≡ Continue → refused_by_state (state_of self.old.mode) command.now ≡ None → Resumes (out.new ≡ out.old) ByContinue self.old.mode self.new.mode self.old.first self.new.first self.old.second self.new.second self.old.broken result }
         ensures steps { command.now ≡ Step → refused_by_state (state_of self.old.mode) command.now ≡ None → Resumes (out.new ≡ out.old) ByStep self.old.mode self.new.mode self.old.first self.new.first self.old.second self.new.second self.old.broken result }
+        ensures meant { (b : Behaviour) (hs : Hosts) (st : SessionState) → AreSteady b → Represents b L.conduct (L.world self.old.talk.memory.below.below.below.link) self.old.first self.old.second self.old.mode self.old.limit hs st → IsSaid command.now
+            → AnswersAs b L.conduct (L.world self.new.talk.memory.below.below.below.link) self.new.first self.new.second self.new.mode self.new.limit st (O.taken out.old) (O.taken out.new) (MeantAnswers b st (Some command.now)) (L.faults self.old.talk.memory.below.below.below.link) (L.faults self.new.talk.memory.below.below.below.link) result }
         ensures raw { self.new.raw ≡ self.old.raw }
         ensures broken { KeepsReply self.old.broken self.new.broken self.new.mode }
     {
@@ -290,6 +303,8 @@ impl<L: Link + Drop> Session<L> {
         ensures mode { self.new.mode ≡ self.old.mode }
         ensures limit { self.new.limit ≡ self.old.limit }
         ensures first { self.new.first ≡ self.old.first }
+        ensures meant { (b : Behaviour) (hs : Hosts) (st : SessionState) → AreThere b L.conduct (L.world self.old.talk.memory.below.below.below.link) self.old.first self.old.second hs → SidesStand (sides_of self.old.first self.old.second hs) st
+            → ComesTo (L.faults self.old.talk.memory.below.below.below.link) (L.faults self.new.talk.memory.below.below.below.link) (λ text. AreThere b L.conduct (L.world self.new.talk.memory.below.below.below.link) self.new.first self.new.second hs × (text.now ≡ joined (all_regs st))) (λ e. ⊥) result }
         ensures raw { self.new.raw ≡ self.old.raw }
         ensures second { self.new.second ≡ self.old.second }
         ensures broken { self.new.broken ≡ self.old.broken }
@@ -305,6 +320,8 @@ impl<L: Link + Drop> Session<L> {
         ensures mode { self.new.mode ≡ self.old.mode }
         ensures limit { self.new.limit ≡ self.old.limit }
         ensures kept { IsUndone result → IsKept self.old.first self.new.first × AreKept self.old.second self.new.second }
+        ensures meant { (b : Behaviour) (hs : Hosts) (st : SessionState) → AreThere b L.conduct (L.world self.old.talk.memory.below.below.below.link) self.old.first self.old.second hs → AreReadyFor self.old.first self.old.second hs st → IsPlain command.now
+            → ComesTo (L.faults self.old.talk.memory.below.below.below.link) (L.faults self.new.talk.memory.below.below.below.link) (λ text. SaidAll b L.conduct (L.world self.new.talk.memory.below.below.below.link) self.new.first self.new.second st (DoneOnBoth st command.now) text.now) (NotAll b L.conduct (L.world self.new.talk.memory.below.below.below.link) self.new.first self.new.second st (DoneOnBoth st command.now)) result }
         ensures raw { self.new.raw ≡ self.old.raw }
         ensures broken { self.new.broken ≡ self.old.broken }
     {
@@ -333,6 +350,8 @@ impl<L: Link + Drop> Session<L> {
         ensures mode { self.new.mode ≡ self.old.mode }
         ensures limit { self.new.limit ≡ self.old.limit }
         ensures kept { IsUndone result → IsKept self.old.first self.new.first × AreKept self.old.second self.new.second }
+        ensures meant { (b : Behaviour) (hs : Hosts) (st : SessionState) → Represents b L.conduct (L.world self.old.talk.memory.below.below.below.link) self.old.first self.old.second self.old.mode self.old.limit hs st → refused_by_state st.state command.now ≡ None → IsAskable command.now
+            → ComesTo (L.faults self.old.talk.memory.below.below.below.link) (L.faults self.new.talk.memory.below.below.below.link) (λ text. SaidAll b L.conduct (L.world self.new.talk.memory.below.below.below.link) self.new.first self.new.second st (AnswersCommand b st command.now) text.now) (NotAll b L.conduct (L.world self.new.talk.memory.below.below.below.link) self.new.first self.new.second st (AnswersCommand b st command.now)) result }
         ensures raw { self.new.raw ≡ self.old.raw }
         ensures broken { self.new.broken ≡ self.old.broken }
     {
@@ -353,6 +372,8 @@ impl<L: Link + Drop> Session<L> {
         ensures limit { self.new.limit ≡ self.old.limit }
         ensures kept { IsKept self.old.first self.new.first × AreKept self.old.second self.new.second }
         ensures still { StandsStill self.old.first self.new.first × OnSecond StandsStill self.old.second self.new.second }
+        ensures meant { (b : Behaviour) (hs : Hosts) (st : SessionState) → Represents b L.conduct (L.world self.old.talk.memory.below.below.below.link) self.old.first self.old.second self.old.mode self.old.limit hs st → IsStill st.state
+            → ComesTo (L.faults self.old.talk.memory.below.below.below.link) (L.faults self.new.talk.memory.below.below.below.link) (λ u. AllPrepared b L.conduct (L.world self.new.talk.memory.below.below.below.link) self.old.first self.new.first self.old.second self.new.second hs st ByStep) (NotAll b L.conduct (L.world self.new.talk.memory.below.below.below.link) self.new.first self.new.second st (Begins b ByStep st)) result }
         ensures raw { self.new.raw ≡ self.old.raw }
         ensures broken { self.new.broken ≡ self.old.broken }
     {
@@ -376,6 +397,9 @@ impl<L: Link + Drop> Session<L> {
         ensures kept { IsKept self.old.first self.new.first × AreKept self.old.second self.new.second }
         ensures still { StandsStill self.old.first self.new.first × OnSecond StandsStill self.old.second self.new.second }
         ensures ready { OnOk result (ReadyFor (state_of self.old.mode) ByContinue self.old.first self.new.first × OnSecond (ReadyFor (state_of self.old.mode) ByContinue) self.old.second self.new.second) }
+        ensures running { (how : How) → self.old.mode ≡ Mode.Running how → self.new ≡ self.old }
+        ensures meant { (b : Behaviour) (hs : Hosts) (st : SessionState) → Represents b L.conduct (L.world self.old.talk.memory.below.below.below.link) self.old.first self.old.second self.old.mode self.old.limit hs st → IsStill st.state
+            → ComesTo (L.faults self.old.talk.memory.below.below.below.link) (L.faults self.new.talk.memory.below.below.below.link) (λ u. AllSettled b L.conduct (L.world self.new.talk.memory.below.below.below.link) self.old.first self.new.first self.old.second self.new.second hs st) (λ e. ⊥) result }
         ensures raw { self.new.raw ≡ self.old.raw }
         ensures broken { self.new.broken ≡ self.old.broken }
     {
@@ -400,6 +424,8 @@ impl<L: Link + Drop> Session<L> {
         ensures still { StandsStill self.old.first self.new.first × OnSecond StandsStill self.old.second self.new.second }
         ensures ready { OnOk result (ReadyFor (state_of self.old.mode) (resume_of how) self.old.first self.new.first × OnSecond (ReadyFor (state_of self.old.mode) (resume_of how)) self.old.second self.new.second) }
         ensures room { IfOk result (λ line. HasRoomFor self.new.first line) }
+        ensures meant { (b : Behaviour) (hs : Hosts) (st : SessionState) → Represents b L.conduct (L.world self.old.talk.memory.below.below.below.link) self.old.first self.old.second self.old.mode self.old.limit hs st → IsResumable st.state
+            → ComesTo (L.faults self.old.talk.memory.below.below.below.link) (L.faults self.new.talk.memory.below.below.below.link) (λ line. AllPrepared b L.conduct (L.world self.new.talk.memory.below.below.below.link) self.old.first self.new.first self.old.second self.new.second hs st (resume_of how)) (NotAll b L.conduct (L.world self.new.talk.memory.below.below.below.link) self.new.first self.new.second st (ResumesAs b (resume_of how) st)) result }
         ensures raw { self.new.raw ≡ self.old.raw }
         ensures broken { self.new.broken ≡ self.old.broken }
     {
@@ -420,6 +446,8 @@ impl<L: Link + Drop> Session<L> {
         ensures mode { self.new.mode ≡ self.old.mode }
         ensures behind { IfOk result (λ all. AllBehind (event_on self.old.first all) self.old.first self.new.first self.old.second self.new.second) }
         ensures limit { self.new.limit ≡ self.old.limit }
+        ensures meant { (b : Behaviour) (hs : Hosts) → AreSteady b → AreThere b L.conduct (L.world self.old.talk.memory.below.below.below.link) self.old.first self.old.second hs → MayRun self.old.first.row.kept hs.first → MayAlsoRun self.old.second hs.second
+            → ResumesAll b L.conduct (L.world self.new.talk.memory.below.below.below.link) self.old.first self.new.first self.old.second self.new.second hs self.old.limit (L.faults self.old.talk.memory.below.below.below.link) (L.faults self.new.talk.memory.below.below.below.link) (O.taken out.old) (O.taken out.new) result }
         ensures raw { self.new.raw ≡ self.old.raw }
         ensures broken { self.new.broken ≡ self.old.broken }
     {
@@ -439,6 +467,8 @@ impl<L: Link + Drop> Session<L> {
         ensures no_memory { result ≡ Ok Answer.NoMemory → (self.new.mode ≡ self.old.mode) × (self.new.limit ≡ self.old.limit) × IsKept self.old.first self.new.first × AreKept self.old.second self.new.second × (out.new ≡ out.old) }
         ensures out_fault { OnErr result (self.new.mode ≡ Mode.Ended) }
         ensures limit { self.new.limit ≡ self.old.limit }
+        ensures meant { (b : Behaviour) (hs : Hosts) (st : SessionState) → AreSteady b → Represents b L.conduct (L.world self.old.talk.memory.below.below.below.link) self.old.first self.old.second self.old.mode self.old.limit hs st → IsResumable st.state
+            → AnswersAs b L.conduct (L.world self.new.talk.memory.below.below.below.link) self.new.first self.new.second self.new.mode self.new.limit st (O.taken out.old) (O.taken out.new) (ResumesAs b (resume_of how) st) (L.faults self.old.talk.memory.below.below.below.link) (L.faults self.new.talk.memory.below.below.below.link) result }
         ensures raw { self.new.raw ≡ self.old.raw }
         ensures broken { KeepsReply self.old.broken self.new.broken self.new.mode }
     {

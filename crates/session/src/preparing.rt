@@ -1,8 +1,13 @@
 // What is done before a step.
 
-ghost use Rattle.std.specs.Prelude.{◌≡◌, [], IfOk, OnOk};
+ghost use Rattle.std.specs.Prelude.{◌≡◌, [], IfOk, OnOk, Option};
 ghost use Rattle.session.specs.Kept.{IsKept};
 ghost use Rattle.session.specs.Resuming.{HasRoomFor, StandsStill};
+ghost use Rattle.machine_state.specs.State.{Behaviour};
+ghost use Rattle.nub_wire.specs.Nub.{Host};
+ghost use Rattle.claims.specs.Side.{SideState};
+ghost use Rattle.session.specs.Meant.{IsThere, debugged, ComesTo, Stepped, Unstepped, Settled, TalksTo};
+ghost use Rattle.side_meaning.specs.Standing.{StandsFor};
 
 use crate::line::Line;
 use crate::replies::{room_for, room_for_kept};
@@ -36,6 +41,8 @@ pub fn prepared<L: Link + Drop>(
 ) -> Result<(), AskFault>
     ensures kept { IsKept side.old side.new }
     ensures still { StandsStill side.old side.new }
+    ensures meant { (b : Behaviour) (h : Host) (beside : Option Host) (a : SideState) → IsThere b L.conduct (L.world talk.old.memory.below.below.below.link) side.old h beside → StandsFor (debugged side.old h) a → a.step_words ≡ []
+        → ComesTo (L.faults talk.old.memory.below.below.below.link) (L.faults talk.new.memory.below.below.below.link) (λ u. Stepped b L.conduct (L.world talk.new.memory.below.below.below.link) side.old side.new h beside a) (Unstepped b L.conduct (L.world talk.new.memory.below.below.below.link) side.old side.new h beside a) result }
 {
     if !side.row.step_words.is_empty() {
         return Ok(());
@@ -62,6 +69,8 @@ pub fn unprepared<L: Link + Drop>(
     ensures kept { IsKept side.old side.new }
     ensures still { StandsStill side.old side.new }
     ensures words { OnOk result (side.new.row.step_words.items ≡ []) }
+    ensures meant { (b : Behaviour) (h : Host) (beside : Option Host) → IsThere b L.conduct (L.world talk.old.memory.below.below.below.link) side.old h beside
+        → TalksTo (L.faults talk.old.memory.below.below.below.link) (L.faults talk.new.memory.below.below.below.link) (Settled b L.conduct (L.world talk.new.memory.below.below.below.link) side.old side.new h beside) result }
 {
     turn(talk, side);
     let target = side.machine.byte();

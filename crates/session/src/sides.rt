@@ -2,6 +2,7 @@
 
 ghost use Rattle.std.specs.Prelude.{◌≡◌, ◌⊎◌};
 ghost use Rattle.machine_state.specs.declared.layout.TheConstants.{MIPS, SPARC};
+ghost use Rattle.session.specs.Turned.{byte_of, order_of, turned};
 
 use abs_mem::Wire;
 use debug_side::{MachineKind, SideRow};
@@ -21,7 +22,8 @@ pub enum Machine {
 impl Machine {
     /// Its target byte.
     pub fn byte(self) -> u8
-        ensures { (result ≡ MIPS) ⊎ (result ≡ SPARC) }
+        ensures kind { (result ≡ MIPS) ⊎ (result ≡ SPARC) }
+        ensures value { result ≡ byte_of self }
     {
         match self {
             Machine::Mips => MIPS,
@@ -30,7 +32,9 @@ impl Machine {
     }
 
     /// The order of its bytes.
-    pub fn order(self) -> Order {
+    pub fn order(self) -> Order
+        ensures { result ≡ order_of self }
+    {
         match self {
             Machine::Mips => Order::Little,
             Machine::Sparc => Order::Big,
@@ -63,7 +67,9 @@ impl SideRecord {
 }
 
 /// The memory that operators see is that of this side.
-pub fn turn<L>(talk: &mut Operators<Wire<L>>, side: &SideRecord) {
+pub fn turn<L>(talk: &mut Operators<Wire<L>>, side: &SideRecord)
+    ensures { talk.new ≡ turned side.now talk.old }
+{
     let order = side.machine.order();
     talk.memory.below.below.below.side = side.which;
     talk.memory.below.below.below.order = order;

@@ -37,7 +37,8 @@ use Rattle.claims.specs.Side.{Stops, SideState}
 use Rattle.claims.specs.Raw.{regs_text}
 use Rattle.side_meaning.specs.Standing.{Debugged, events_in, EndsWith, cleared, IsPlanted, IsLeft, IsAgain, StandsFor}
 use Rattle.side_meaning.specs.Stepping.{IsReady}
-use Rattle.side_meaning.specs.Asking.{IsClosedString, IsNamed, IsNamedEvent, RowsStay, NamesStay, WordsAreNamed, NamesGoOn, AsksAreMeant, RegsAreMeant}
+use Rattle.table_points.specs.Named.{IsClosedString, IsNamed}
+use Rattle.side_meaning.specs.Asking.{IsNamedEvent, RowsStay, NamesStay, WordsAreNamed, NamesGoOn, AsksAreMeant, RegsAreMeant}
 use Rattle.side_meaning.proofs.Memories.{word_before}
 
 -- ---- names

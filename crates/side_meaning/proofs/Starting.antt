@@ -1,5 +1,7 @@
 -- The sides of a session at its start, and behind commands that don't resume.
 use Rattle.std.proofs.Common.{◌≡◌, ◌∙◌, refl, sym, ap, subst, inl, [], map, Option, Some, None}
+use Rattle.ps_store.specs.declared.object.Part.TheVariants.{Command}
+use Rattle.ps_store.specs.StoreState.{StoreState}
 use Rattle.table_points.specs.Rows.{row_in}
 use Rattle.claims.specs.Side.{SideState, State, Fresh, Stopped, Running, Ended, first_side}
 use Rattle.side_meaning.specs.Standing.{Debugged, events_in, IsPlanted, StandsFor}
@@ -15,7 +17,7 @@ begin b input d table m g =
     let planted : IsPlanted d.table d.row d.host a = record { words = sym (ap (map (row_in d.table)) g.words); machine = sym g.machine } in
     record {
       stands = record {
-        table = g.table_is;
+        table = record { same = ap (λ (t : StoreState). record t { part = Command }) (sym g.table_is); command = g.nothing };
         frame = sym g.frame;
         alike = record { breaks = sym (ap (map (row_in d.table)) g.breaks); stands_at = sym g.stands_at; kept = sym (ap (events_in d.table) g.kept); words = inl planted };
         ended = g.ended;

@@ -1,15 +1,14 @@
 -- A command that doesn't resume leaves a side that stands for the machine session's, where it changes both alike.
-use Rattle.std.specs.Prelude.{◌≡◌, ℕ, true, List, [], map, Option, Some, None}
+use Rattle.std.specs.Prelude.{◌≡◌, ℕ, List, [], map, Option, Some, None}
 use Rattle.std.specs.List.{AllByRecursion}
 use Rattle.machine_state.specs.State.{Behaviour}
 use Rattle.frame_bytes.specs.Bytes.{Bytes}
-use Rattle.ps_store.specs.declared.object.StringId.{StringId}
 use Rattle.ps_store.specs.StoreState.{StoreState}
-use Rattle.ps_store.specs.Store.{closed_part, is_closed}
+use Rattle.ps_store.specs.Store.{closed_part}
 use Rattle.ps_store.specs.Settled.{Settled}
-use Rattle.ps_store.specs.Extends.{HoldsString}
 use Rattle.table_points.specs.declared.row.Point.{Point}
 use Rattle.table_points.specs.Rows.{row_in}
+use Rattle.table_points.specs.Named.{IsNamed}
 use Rattle.debug_side.specs.declared.event.Event.{Event}
 use Rattle.debug_side.specs.declared.event.Event.TheVariants as event
 use Rattle.debug_side.specs.declared.point.MachineKind.{MachineKind}
@@ -22,14 +21,6 @@ use Rattle.side_meaning.specs.Resuming.{IsResumed}
 use Rattle.side_meaning.specs.Stepping.{IsStill, IsReady}
 
 -- ---- the names of points
-
--- a string of what is closed
-abbrev pub IsClosedString : StoreState → StringId → Type 0
-IsClosedString s t = HoldsString s t × (is_closed t.part t.index s.closed.strings ≡ true)
-
--- the names of a point's file and function are
-abbrev pub IsNamed : StoreState → Point → Type 0
-IsNamed s p = IsClosedString s p.file × IsClosedString s p.function
 
 abbrev pub IsNamedEvent : StoreState → Option Event → Type 0
 IsNamedEvent s (Some (event.Stops p)) = IsNamed s p

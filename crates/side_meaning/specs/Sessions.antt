@@ -11,7 +11,7 @@ use Rattle.claims.specs.Side.{SideEvent, SideState, SessionState, State, Fresh, 
 use Rattle.claims.specs.Lines.{event_text}
 use Rattle.claims.specs.Resumes.{merged}
 use Rattle.claims.specs.Outcome as session
-use Rattle.side_meaning.specs.Standing.{Debugged, event_in, IsTable, StandsFor, MayResume}
+use Rattle.side_meaning.specs.Standing.{Debugged, event_in, no_objects, StandsFor, MayResume}
 use Rattle.side_meaning.specs.Resuming.{event_of_it, IsResumed, IsFit}
 use Rattle.side_meaning.specs.Stepping.{IsSettled, IsStepped, FindsWords, IsReady}
 use Rattle.side_meaning.specs.Asking.{IsAsked}
@@ -100,7 +100,8 @@ ResumesAreAnswered =
 
 -- a side for which nothing was done yet but that its nub was given the input
 pub record IsNew (d : Debugged) (table : StoreState) (m : MachineState) : Type 0 where
-  pub table_is : IsTable d.table table
+  pub table_is : d.table ≡ table
+  pub nothing : d.table.command ≡ no_objects
   pub frame : d.frame ≡ 0
   pub breaks : d.row.breaks.items ≡ []
   pub words : d.row.step_words.items ≡ []

@@ -5,6 +5,7 @@ use Rattle.nub_wire.specs.declared.message.Ending.{Ending}
 use Rattle.nub_wire.specs.Nub.{Host}
 use Rattle.frame_bytes.specs.Bytes.{bytes_of}
 use Rattle.ps_store.specs.Held.{Held}
+use Rattle.ps_store.specs.declared.object.Part.TheVariants.{Command}
 use Rattle.ps_store.specs.StoreState.{StoreState}
 use Rattle.table_model.specs.Places.{all_points}
 use Rattle.table_points.specs.declared.row.Point.{Point}
@@ -47,9 +48,9 @@ EndsWith (Some k) ended = (ended ≡ None) ⊎ (is_final k ≡ true)
 abbrev pub no_objects : Held
 no_objects = record { arrays = []; dicts = []; strings = []; units = 0 }
 
--- the same table, whichever part objects are made in, and no objects of a command beside it
+-- the same table, where what is made is a command's, and no objects of a command beside it
 pub record IsTable (s t : StoreState) : Type 0 where
-  pub same : t ≡ record s { part = t.part }
+  pub same : t ≡ record s { part = Command }
   pub command : s.command ≡ no_objects
 
 -- ---- words of a step

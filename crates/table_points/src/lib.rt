@@ -8,5 +8,5 @@ mod spots;
 
 pub use every::{PointsFault, all_points};
 pub use named::function_point;
-pub use row::{Point, told_frame};
+pub use row::{Point, are_named, is_named, told_frame};
 pub use spots::spot_point;

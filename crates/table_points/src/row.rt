@@ -1,9 +1,11 @@
 // Points and what is told of them.
 
-ghost use Rattle.std.specs.Prelude.{◌≡◌};
+ghost use Rattle.std.specs.Prelude.{◌≡◌, true};
 ghost use Rattle.table_read.specs.Reads.{in_ok};
 ghost use Rattle.table_model.specs.Frames.{told_row, told_frame};
 ghost use Rattle.ps_store.specs.Store.{bytes_of};
+ghost use Rattle.std.specs.List.{AllByRecursion};
+ghost use Rattle.table_points.specs.Named.{IsNamed};
 ghost use Rattle.table_points.specs.Rows.{row_in, told_at};
 
 use frame_bytes::Frame;
@@ -20,6 +22,20 @@ pub struct Point {
     pub line: u32,
     pub column: u32,
     pub at: u32,
+}
+
+/// Whether a point's names are strings of the table's closed ones, so that they last.
+pub fn is_named(store: &PsStore, point: &Point) -> bool
+    ensures { result ≡ true → IsNamed store.now point.now }
+{
+    store.is_closed_string(point.file) && store.is_closed_string(point.function)
+}
+
+/// Whether those of all these points are.
+pub fn are_named(store: &PsStore, points: &[Point]) -> bool
+    ensures { result ≡ true → AllByRecursion (IsNamed store.now) points.now }
+{
+    points.iter().all(|point| is_named(store, point))
 }
 
 /// What a frame at a pc tells in a function, of which the names are known.
