@@ -6,3 +6,4 @@ mod Rows
 mod Ps
 mod Ran
 mod Operands
+pub mod Named

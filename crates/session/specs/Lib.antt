@@ -7,3 +7,4 @@ pub mod Rooms
 pub mod Turned
 pub mod Asked
 pub mod Meant
+pub mod Starting

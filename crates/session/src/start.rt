@@ -1,13 +1,20 @@
 // The start of a session.
 
-ghost use Rattle.std.specs.Prelude.{◌≤◌, length};
+ghost use Rattle.std.specs.Prelude.{◌≡◌, ◌≤◌, ◌+◌, ℕ, length, IfOk, OnOk, Ok, Option};
+ghost use Rattle.machine_state.specs.declared.layout.TheConstants.{CONTEXT};
+ghost use Rattle.machine_state.specs.State.{MachineState, Behaviour};
+ghost use Rattle.nub_wire.specs.Nub.{Host};
+ghost use Rattle.nub_wire.specs.declared.message.Msg.TheVariants.{Word};
+ghost use Rattle.resuming.specs.Standing.{Stands};
+ghost use Rattle.session.specs.Starting.{target_in, given_to, IsFirst, IsBegun, StartsAs};
+ghost use Rattle.session.specs.Turned.{byte_of};
 
 use crate::answers::StartFault;
 use crate::sides::{Machine, SideRecord};
 use debug_side::SideRow;
 use nub_wire::{Chunk, Link, Msg, Side};
 use ps_run::{PsCore, Steps};
-use ps_store::PsStore;
+use ps_store::{Part, PsStore};
 use std::alloc::Global;
 use table_asks::Inquiry;
 use table_model::Lack;
@@ -25,18 +32,33 @@ fn names_sparc(table: &PsStore) -> Result<bool, Lack> {
 }
 
 /// The machine of a table.
-fn machine_of(table: &PsStore) -> Machine {
+fn machine_of(table: &PsStore) -> Machine
+    ensures { byte_of result ≡ target_in table.now }
+{
     match names_sparc(table) {
         Ok(true) => Machine::Sparc,
         _ => Machine::Mips,
     }
 }
 
-/// The address of the context block, which a nub tells.
-fn context_of<L: Link>(link: &mut L, side: Side) -> Result<u32, StartFault> {
-    match ask(link, side, &Msg::Hello) {
-        Ok(Msg::Word { value }) => Ok(value),
+/// The word that a reply tells.
+fn word_of(reply: Msg) -> Result<u32, StartFault>
+    ensures { (value : ℕ) → reply ≡ Word value → result ≡ Ok value }
+{
+    match reply {
+        Msg::Word { value } => Ok(value),
         _ => Err(StartFault::Target),
+    }
+}
+
+/// The address of the context block, which a nub tells.
+fn context_of<L: Link>(link: &mut L, side: Side) -> Result<u32, StartFault>
+    ensures calm { OnOk result (L.faults link.new ≡ L.faults link.old) }
+    ensures meant { (b : Behaviour) (h : Host) (beside : Option Host) → Stands b L.conduct side (L.world link.old) h beside → StartsAs (L.faults link.old) (L.faults link.new) (λ at. (at ≡ CONTEXT) × Stands b L.conduct side (L.world link.new) h beside) result }
+{
+    match ask(link, side, &Msg::Hello) {
+        Ok(reply) => word_of(reply),
+        Err(_) => Err(StartFault::Target),
     }
 }
 
@@ -44,6 +66,8 @@ fn context_of<L: Link>(link: &mut L, side: Side) -> Result<u32, StartFault> {
 fn give<L: Link>(link: &mut L, side: Side, piece: &[u8]) -> Result<(), StartFault>
     requires some { 1 ≤ length piece.now }
     requires fits { length piece.now ≤ 1024 }
+    ensures calm { OnOk result (L.faults link.new ≡ L.faults link.old) }
+    ensures meant { (b : Behaviour) (h : Host) (beside : Option Host) → Stands b L.conduct side (L.world link.old) h beside → h.machine.given + length piece.now ≤ 16777216 → StartsAs (L.faults link.old) (L.faults link.new) (λ u. Stands b L.conduct side (L.world link.new) (given_to piece.now h) beside) result }
 {
     let bytes = Chunk::copied(piece);
     match ask(link, side, &Msg::Input { bytes }) {
@@ -53,7 +77,10 @@ fn give<L: Link>(link: &mut L, side: Side, piece: &[u8]) -> Result<(), StartFaul
 }
 
 /// Gives a nub the whole input.
-fn give_all<L: Link>(link: &mut L, side: Side, input: &[u8]) -> Result<(), StartFault> {
+fn give_all<L: Link>(link: &mut L, side: Side, input: &[u8]) -> Result<(), StartFault>
+    ensures calm { OnOk result (L.faults link.new ≡ L.faults link.old) }
+    ensures meant { (b : Behaviour) (h : Host) (beside : Option Host) → Stands b L.conduct side (L.world link.old) h beside → h.machine.given + length input.now ≤ 16777216 → StartsAs (L.faults link.old) (L.faults link.new) (λ u. Stands b L.conduct side (L.world link.new) (given_to input.now h) beside) result }
+{
     let mut done = 0;
     while done < input.len() {
         let count = (input.len() - done).min(PIECE);
@@ -70,11 +97,16 @@ pub fn begun<L: Link>(
     side: Side,
     table: PsStore,
     input: &[u8],
-) -> Result<SideRecord, StartFault> {
+) -> Result<SideRecord, StartFault>
+    ensures side { IfOk result (λ r. r.which ≡ side) }
+    ensures meant { (b : Behaviour) (m : MachineState) (beside : Option Host) → IsFirst b L.conduct (L.world link.old) side m beside table.now → length input.now ≤ 16777216
+        → StartsAs (L.faults link.old) (L.faults link.new) (λ r. IsBegun b L.conduct (L.world link.new) r input.now m beside table.now) result }
+{
     let machine = machine_of(&table);
-    let Ok(core) = PsCore::new(alloc, table) else {
+    let Ok(mut core) = PsCore::new(alloc, table) else {
         return Err(StartFault::NoMemory);
     };
+    core.store.use_part(Part::Command);
     let context = context_of(link, side)?;
     give_all(link, side, input)?;
     Ok(SideRecord {

@@ -5,6 +5,7 @@ use ldb_edge::MemSink;
 use ldb_words::Text;
 use near_link::{FaultyLink, Mishap, NearLink};
 use obj_file::Image;
+use ps_store::PsStore;
 use session::{Answer, End, Session, StartFault};
 use std::alloc::{AllocError, Global};
 use table_run::run_table;
@@ -127,7 +128,12 @@ impl Wrong<'_> {
             return Ok(Came::Otherwise);
         }
         let near = NearLink::new(alloc, images, Vec::new(alloc))?;
-        let link = FaultyLink::new(near, at, how);
+        self.came_over(FaultyLink::new(near, at, how), stores)
+    }
+
+    /// What the session over a link comes to, with these tables.
+    fn came_over(&self, link: FaultyLink, stores: Vec<PsStore>) -> Result<Came, AllocError> {
+        let alloc = self.alloc;
         let mut session = match Session::start(alloc, link, stores, &[], false) {
             Ok(session) => session,
             Err(StartFault::Target) => return Ok(Came::NotBegun),

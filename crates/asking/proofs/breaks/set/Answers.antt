@@ -9,6 +9,9 @@ use Rattle.asking.specs.Lines.{line, place_text}
 use Rattle.asking.specs.Doing.{Changes}
 use Rattle.asking.specs.Breaks.{has, rows_in, planting_fault, broken_at}
 use Rattle.asking.proofs.Changed.{added_row, planted, planting_fails, broken_again, broken_new, led_planting}
+use Rattle.std.specs.List.{AllByRecursion}
+use Rattle.table_points.specs.Named.{IsNamed}
+use Rattle.asking.proofs.Named.{added}
 use Rattle.asking.proofs.breaks.set.Goals as goal
 
 pub returns-in_default-clause-meaning : goal.returns-in_default-clause-meaning
@@ -88,3 +91,9 @@ returns-in-Err-plant-clause-calls g c =
 
 pub returns-in-Err-plant-clause-target : goal.returns-in-Err-plant-clause-target
 returns-in-Err-plant-clause-target g c = refl
+
+pub returns-in-Ok-plant-clause-named : goal.returns-in-Ok-plant-clause-named
+returns-in-Ok-plant-clause-named g c = λ all.
+    let store = c.args.inquiry.now.core.store in
+    let is : c.is_named.result ≡ true = cc in
+    subst (AllByRecursion (IsNamed store)) (sym c.in-Ok-push.ensures.items) (added (IsNamed store) c.args.breaks.now.items c.args.place all (c.is_named.ensures is))

@@ -12,6 +12,9 @@ use Rattle.asking.specs.Doing.{Changes}
 use Rattle.asking.specs.Breaks.{same_point, has, without, rows_in, cleared_at}
 use Rattle.asking.proofs.Changed.{kept_rows, cleared, clear_fails, nothing_cleared, cleared_there}
 use Rattle.asking.proofs.Asked.{led_fault}
+use Rattle.std.specs.List.{AllByRecursion}
+use Rattle.table_points.specs.Named.{IsNamed}
+use Rattle.asking.proofs.Named.{left}
 use Rattle.asking.proofs.breaks.unset.Goals as goal
 
 pub returns-then-not-is_set-clause-meaning : goal.returns-then-not-is_set-clause-meaning
@@ -82,3 +85,10 @@ returns-in-Err-clause-calls g c =
 
 pub returns-in-Err-clause-target : goal.returns-in-Err-clause-target
 returns-in-Err-clause-target g c = refl
+
+pub returns-in-Ok-unplant-clause-named : goal.returns-in-Ok-unplant-clause-named
+returns-in-Ok-unplant-clause-named g c = λ all.
+    let store = c.args.inquiry.now.core.store in
+    let p = row_in store c.args.place in
+    let kept = filter_same _ (λ (q : Point). not (same_point (row_in store q) p)) _ (λ x b f' k. search (rules, tests)) _ _ c.retain.ensures.filtered in
+    subst (AllByRecursion (IsNamed store)) (sym kept) (left (IsNamed store) (λ (q : Point). not (same_point (row_in store q) p)) c.args.breaks.now.items all)
