@@ -1,5 +1,6 @@
 -- What the messages before a session leave of a nub.
-use Rattle.std.proofs.Common.{◌≡◌, ◌∙◌, refl, sym, ap, subst, absurd, ℕ, zero, suc, ◌+◌, ◌≤◌, ◌^◌, false, List, [], ◌∷◌, ◌++◌, length, take, drop, Option, Some, None, Result, Ok, Err, length-append, append-nil, append-assoc, add-zero, add-assoc}
+use Rattle.std.proofs.Common.{◌≡◌, ◌∙◌, refl, sym, ap, subst, ℕ, zero, suc, ◌+◌, ◌≤◌, ◌^◌, nat_le, Bool, true, false, if◌then◌else◌, List, [], ◌∷◌, ◌++◌, length, take, drop, Option, Some, None, Result, Ok, Err, arith, length-append, append-nil, add-zero}
+use Rattle.std.proofs.lemmas.List.{append_assoc}
 use Rattle.ldb_edge.specs.Count.{Rose}
 use Rattle.machine_state.specs.declared.layout.TheConstants.{CONTEXT}
 use Rattle.machine_state.specs.State.{MachineState, Behaviour, with_input}
@@ -21,7 +22,23 @@ use Rattle.wire_talk.specs.declared.fault.TalkFault.TheVariants as talk
 use Rattle.wire_talk.specs.Talk.{Came, TellsReply, CountsTalk}
 use Rattle.abs_mem.specs.WireMeaning.{IsBeside}
 use Rattle.resuming.specs.Standing.{Stands}
-use Rattle.session.specs.Starting.{given_to}
+use Rattle.std.specs.List.{AllByRecursion}
+use Rattle.std.proofs.lemmas.Bool.Decides.{nat_tests}
+use Rattle.ldb_words.specs.declared.kinds.Order.TheVariants.{Little, Big}
+use Rattle.machine_state.specs.State.{order_of_target}
+use Rattle.ps_store.specs.declared.object.Part.TheVariants.{Command}
+use Rattle.ps_store.specs.StoreState.{StoreState}
+use Rattle.table_points.specs.Named.{IsNamed}
+use Rattle.side_meaning.specs.Standing.{Debugged}
+use Rattle.side_meaning.specs.Asking.{IsNamedEvent}
+use Rattle.session.specs.declared.answers.StartFault.{StartFault}
+use Rattle.session.specs.declared.answers.StartFault.TheVariants.{Target, NoMemory}
+use Rattle.session.specs.declared.sides.Machine.{Machine}
+use Rattle.session.specs.declared.sides.Machine.TheVariants as machine
+use Rattle.session.specs.declared.sides.SideRecord.{SideRecord}
+use Rattle.session.specs.Turned.{byte_of, order_of}
+use Rattle.session.specs.Meant.{debugged}
+use Rattle.session.specs.Starting.{target_in, given_to, begun_host, IsFirst, IsBegun, StartsAs}
 
 beside_kept : (side : Side) (w w' : World) (x : Option Host) (o : Option LinkSide) → o ≡ side_of (other side) w → KeepsOther side w w' → IsBeside o x → IsBeside (side_of (other side) w') x
 beside_kept side w w' None o e k h = tt
@@ -89,19 +106,80 @@ counted b c side r h beside talk.LinkFault o old new said rose = rose
 counted b c side r h beside (talk.BadReply frame) o old new said rose = absurd said
 
 -- the start of a list and the piece behind it
-pub taken_more : (n m : ℕ) (xs : List ℕ) → take (n + m) xs ≡ take n xs ++ take m (drop n xs)
-taken_more zero m xs = refl
-taken_more (suc n) m [] = sym (take-nil m)
+pub taken_more : (n m : ℕ) (xs : List ℕ) → take n xs ++ take m (drop n xs) ≡ take (n + m) xs
+taken_more zero m xs = let e : m ≡ 0 + m = omega arith in ap (λ (k : ℕ). take k xs) e
+taken_more (suc n) m [] = nothing m
   where
-    take-nil : (k : ℕ) → take k [] ≡ []
-    take-nil zero = refl
-    take-nil (suc k) = refl
+    nothing : (k : ℕ) → take k [] ≡ []
+    nothing zero = refl
+    nothing (suc k) = refl
 taken_more (suc n) m (x ∷ xs) = ap (λ (l : List ℕ). x ∷ l) (taken_more n m xs)
 
 -- input given in two pieces is given as one
+given_with : (h : Host) (l l' : List ℕ) (g g' : ℕ) → l ≡ l' → g ≡ g' → host h.nub (record h.machine { left = l; given = g }) ≡ host h.nub (record h.machine { left = l'; given = g' })
+given_with h l l' g g' e f = rw (e, f) refl
+
 pub given_twice : (xs ys : List ℕ) (h : Host) → given_to ys (given_to xs h) ≡ given_to (xs ++ ys) h
-given_twice xs ys h =
-    rw (append-assoc h.machine.left xs ys, length-append xs ys, add-assoc h.machine.given (length xs) (length ys)) refl
+given_twice xs ys h = given_with h _ _ _ _ (append_assoc h.machine.left xs ys) (omega (arith, length-append xs ys))
 
 pub given_none : (h : Host) → given_to [] h ≡ h
-given_none h = rw (append-nil h.machine.left, add-zero h.machine.given) refl
+given_none h = given_with h _ _ _ _ (append-nil h.machine.left) (omega arith)
+
+taken_short : (n : ℕ) (xs : List ℕ) → length (take n xs) ≤ length xs
+taken_short zero xs = omega arith
+taken_short (suc n) [] = omega arith
+taken_short (suc n) (x ∷ xs) = omega (arith, taken_short n xs)
+
+-- the room for the whole is room for each piece
+pub piece_room : (given n m : ℕ) (xs : List ℕ) → given + length xs ≤ 16777216 → given + length (take n xs) + length (take m (drop n xs)) ≤ 16777216
+piece_room given n m xs room =
+    omega (arith, room, taken_short (n + m) xs, ap length (taken_more n m xs), length-append (take n xs) (take m (drop n xs)))
+
+-- ---- a side
+
+pub not_begun : {A B : Type 0} (P : A → Type 0) (Q : B → Type 0) (old now new : ℕ) (fault : StartFault) → now ≡ old → StartsAs now new P (Err fault) → StartsAs old new Q (Err fault)
+not_begun P Q old now new NoMemory e s = tt
+not_begun P Q old now new Target e s = subst (λ (n : ℕ). Rose n new) e s
+
+order_known : (k : Machine) (target : ℕ) → byte_of k ≡ target → order_of k ≡ order_of_target target
+order_known machine.Mips target e = subst (λ (t : ℕ). Little ≡ order_of_target t) e refl
+order_known machine.Sparc target e = subst (λ (t : ℕ). Big ≡ order_of_target t) e refl
+
+given_whole : (input : List ℕ) (m : MachineState) (fits : Bool) → fits ≡ true → (if fits then (true, with_input input m) else (false, m)).1 ≡ with_input input m
+given_whole input m true e = refl
+given_whole input m false e = cc
+
+pub side_begun : (b : Behaviour) (c : Conduct) (o o' : Option World) (r : SideRecord) (input : List ℕ) (m : MachineState) (beside : Option Host) (table : StoreState) → IsFirst b c o r.which m beside table → length input ≤ 16777216
+    → Stands b c r.which o' (begun_host b input m) beside → r.context ≡ CONTEXT → byte_of r.machine ≡ target_in table → r.inquiry.core.store ≡ record table { part = Command } → r.frame ≡ 0 → r.row.breaks.items ≡ [] → r.row.step_words.items ≡ []
+    → r.row.stands_at ≡ None → r.row.kept ≡ None → IsBegun b c o' r input m beside table
+side_begun b c o o' r input m beside table f room x context known store frame breaks words at kept =
+    let target : byte_of r.machine ≡ (b.saved m).1.target = known ∙ f.target in
+    let fits : nat_le ((b.saved m).1.given + length input) (2 ^ 24) ≡ true = given_fits (b.saved m).1.given (length input) f.none_given room in
+    let d : Debugged = debugged r (begun_host b input m) in
+    record {
+      there = record {
+        stands = x;
+        context = context;
+        target = target;
+        order = order_known r.machine (b.saved m).1.target target;
+        names = record {
+          breaks = subst (AllByRecursion (IsNamed d.table)) (sym breaks) tt;
+          words = subst (AllByRecursion (IsNamed d.table)) (sym words) tt;
+          kept = subst (IsNamedEvent d.table) (sym kept) tt;
+        };
+      };
+      new = record {
+        table_is = store;
+        nothing = ap (λ (s : StoreState). s.command) store ∙ f.nothing;
+        frame = frame;
+        breaks = breaks;
+        words = words;
+        stands_at = at;
+        kept = kept;
+        machine = sym (given_whole input (b.saved m).1 (nat_le ((b.saved m).1.given + length input) (2 ^ 24)) fits);
+        ended = refl;
+      };
+    }
+  where
+    given_fits : (g n : ℕ) → g ≡ 0 → n ≤ 16777216 → nat_le (g + n) (2 ^ 24) ≡ true
+    given_fits g n e h = grind (arith, nat_tests)

@@ -27,8 +27,11 @@ abbrev pub target_by : StoreState → Walked StringId → ℕ
 target_by s (Ok name) = if bytes_eq (bytes_of s name) (codes "sparc") then SPARC else MIPS
 target_by s (Err lack) = MIPS
 
+abbrev pub named_target : StoreState → Walked StringId
+named_target s = top_of s >>= λ top. string_at s top (codes "target")
+
 abbrev pub target_in : StoreState → ℕ
-target_in s = target_by s (top_of s >>= λ top. string_at s top (codes "target"))
+target_in s = target_by s (named_target s)
 
 -- A nub that had no message is there with the saved machine of its image, to which no input was given. The machine is of the table's
 -- target, and nothing of a command is in the table.

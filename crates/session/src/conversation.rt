@@ -162,7 +162,7 @@ impl<L: Link + Drop> Session<L> {
         input: &[u8],
         raw: bool,
     ) -> Result<Session<L>, StartFault>
-        ensures { IfOk result (λ s. (s.mode ≡ Mode.Fresh) × (s.limit ≡ 10000000) × (s.raw ≡ raw) × (s.broken ≡ codes "target\n")) }
+        ensures fresh { IfOk result (λ s. (s.mode ≡ Mode.Fresh) × (s.limit ≡ 10000000) × (s.raw ≡ raw) × (s.broken ≡ codes "target\n")) }
         ensures one { (b : Behaviour) (m : MachineState) (table : StoreState) → tables.items ≡ table ∷ [] → OneFirst b L.conduct (L.world link) m table → length input.now ≤ 16777216
             → IfOk result (λ s. (hs : Hosts) × Represents b L.conduct (L.world s.talk.memory.below.below.below.link) s.first s.second s.mode s.limit hs (one_session b input.now m table)) }
         ensures both { (b : Behaviour) (m n : MachineState) (table other : StoreState) → tables.items ≡ table ∷ (other ∷ []) → BothFirst b L.conduct (L.world link) m n table other → length input.now ≤ 16777216

@@ -6,7 +6,7 @@ ghost use Rattle.machine_state.specs.State.{MachineState, Behaviour};
 ghost use Rattle.nub_wire.specs.Nub.{Host};
 ghost use Rattle.nub_wire.specs.declared.message.Msg.TheVariants.{Word};
 ghost use Rattle.resuming.specs.Standing.{Stands};
-ghost use Rattle.session.specs.Starting.{target_in, given_to, IsFirst, IsBegun, StartsAs};
+ghost use Rattle.session.specs.Starting.{named_target, target_in, given_to, IsFirst, IsBegun, StartsAs};
 ghost use Rattle.session.specs.Turned.{byte_of};
 
 use crate::answers::StartFault;
@@ -14,7 +14,7 @@ use crate::sides::{Machine, SideRecord};
 use debug_side::SideRow;
 use nub_wire::{Chunk, Link, Msg, Side};
 use ps_run::{PsCore, Steps};
-use ps_store::{Part, PsStore};
+use ps_store::{Part, PsStore, StringId};
 use std::alloc::Global;
 use table_asks::Inquiry;
 use table_model::Lack;
@@ -24,20 +24,27 @@ use wire_talk::ask;
 /// The most bytes of input in a message.
 const PIECE: usize = 1024;
 
-/// Whether a table names the SPARC as its target.
-fn names_sparc(table: &PsStore) -> Result<bool, Lack> {
+/// The string by which a table names its target.
+fn named_target(table: &PsStore) -> Result<StringId, Lack>
+    ensures { result ≡ named_target table.now }
+{
     let top = top_of(table)?;
-    let name = string_at(table, top, b"target")?;
-    Ok(table.string_get(name) == b"sparc".as_slice())
+    string_at(table, top, b"target")
 }
 
 /// The machine of a table.
 fn machine_of(table: &PsStore) -> Machine
     ensures { byte_of result ≡ target_in table.now }
 {
-    match names_sparc(table) {
-        Ok(true) => Machine::Sparc,
-        _ => Machine::Mips,
+    match named_target(table) {
+        Ok(name) => {
+            if table.string_get(name) == b"sparc".as_slice() {
+                Machine::Sparc
+            } else {
+                Machine::Mips
+            }
+        }
+        Err(_) => Machine::Mips,
     }
 }
 
@@ -99,16 +106,22 @@ pub fn begun<L: Link>(
     input: &[u8],
 ) -> Result<SideRecord, StartFault>
     ensures side { IfOk result (λ r. r.which ≡ side) }
-    ensures meant { (b : Behaviour) (m : MachineState) (beside : Option Host) → IsFirst b L.conduct (L.world link.old) side m beside table.now → length input.now ≤ 16777216
-        → StartsAs (L.faults link.old) (L.faults link.new) (λ r. IsBegun b L.conduct (L.world link.new) r input.now m beside table.now) result }
+    ensures meant { (b : Behaviour) (m : MachineState) (beside : Option Host) → IsFirst b L.conduct (L.world link.old) side m beside table → length input.now ≤ 16777216
+        → StartsAs (L.faults link.old) (L.faults link.new) (λ r. IsBegun b L.conduct (L.world link.new) r input.now m beside table) result }
 {
     let machine = machine_of(&table);
     let Ok(mut core) = PsCore::new(alloc, table) else {
         return Err(StartFault::NoMemory);
     };
     core.store.use_part(Part::Command);
-    let context = context_of(link, side)?;
-    give_all(link, side, input)?;
+    let context = match context_of(link, side) {
+        Ok(context) => context,
+        Err(fault) => return Err(fault),
+    };
+    match give_all(link, side, input) {
+        Ok(()) => {}
+        Err(fault) => return Err(fault),
+    }
     Ok(SideRecord {
         which: side,
         machine,
