@@ -2,4 +2,8 @@ pub mod Meeting
 pub mod Rooms
 pub mod Telling
 pub mod Asking
+pub mod Beside
+pub mod Pointing
+pub mod Words
+pub mod Readying
 pub mod Starting

@@ -7,4 +7,5 @@ pub mod Rooms
 pub mod Turned
 pub mod Asked
 pub mod Meant
+pub mod Pointed
 pub mod Starting

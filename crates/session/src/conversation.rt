@@ -1,6 +1,6 @@
 // A session.
 
-ghost use Rattle.std.specs.Prelude.{◌≡◌, ◌≢◌, ◌⊎◌, ℕ, true, [], codes, IfOk, IfErr, OnOk, OnErr, Ok, Err, Some, None, Option, false};
+ghost use Rattle.std.specs.Prelude.{◌≡◌, ◌≢◌, ◌≤◌, ◌⊎◌, ℕ, true, [], codes, IfOk, IfErr, OnOk, OnErr, Ok, Err, Some, None, Option, false};
 ghost use Rattle.c_session.specs.declared.command.Command.{Command};
 ghost use Rattle.c_session.specs.declared.command.Command.TheVariants.{Continue, Step, Quit, Turns};
 ghost use Rattle.cmd_lang.specs.Commands.{read_of};
@@ -17,6 +17,9 @@ ghost use Rattle.claims.specs.Side.{SessionState};
 ghost use Rattle.session.specs.Meant.{IsThere, ComesTo, Settled, Hosts, AreSteady, AreThere, ResumesAll, SaidAll, NotAll, IsPlain, IsAskable, IsSaid, IsSaidIfAny, AreReadyFor, Represents, AllPrepared, AllSettled, AnswersAs, MeantAnswers, ResumesAs, IsResumable, MayAlsoRun, sides_of};
 ghost use Rattle.side_meaning.specs.Sessions.{SidesStand, IsStill};
 ghost use Rattle.debug_side.specs.Told.{MayRun};
+ghost use Rattle.debug_side.specs.Planting.{mem_fault};
+ghost use Rattle.table_asks.specs.Faults.{IsUnbroken};
+ghost use Rattle.abs_mem.specs.declared.memory.MemFault.{MemFault as AbsFault};
 ghost use Rattle.asking_meaning.specs.Meant.{joined};
 
 use crate::answers::{Answer, End, StartFault};
@@ -98,15 +101,34 @@ fn began(mode: Mode, how: How) -> How
 }
 
 /// A fault of a link as one of a command.
-fn broken(fault: TalkFault) -> AskFault {
+fn broken(fault: TalkFault) -> AskFault
+    ensures { result ≡ AskFault.Broken (mem_fault fault) }
+{
     match fault {
         TalkFault::LinkFault => AskFault::Broken(MemFault::LinkFault),
         TalkFault::BadReply { frame } => AskFault::Broken(MemFault::BadReply { frame }),
     }
 }
 
+/// Whether a command ended since the link of its target failed.
+fn is_broken(fault: &AskFault) -> bool
+    ensures broken { result ≡ true → (why : AbsFault) × (fault.now ≡ AskFault.Broken why) }
+    ensures whole { result ≡ false → IsUnbroken fault.now }
+{
+    match fault {
+        AskFault::Broken(_) => true,
+        AskFault::Refused(_) => false,
+        AskFault::Raised(_) => false,
+        AskFault::Spent => false,
+        AskFault::NoMemory => false,
+    }
+}
+
 /// Why a resume isn't begun, once what was put before it was taken away.
-fn left(taken: Result<(), AskFault>, fault: AskFault) -> AskFault {
+fn left(taken: Result<(), AskFault>, fault: AskFault) -> AskFault
+    ensures ok { OnOk taken (result ≡ fault) }
+    ensures err { IfErr taken (λ why. result ≡ why) }
+{
     match taken {
         Ok(()) => fault,
         Err(why) => why,
@@ -121,6 +143,8 @@ fn taken_away<L: Link + Drop>(
     ensures kept { IsKept side.old side.new }
     ensures still { StandsStill side.old side.new }
     ensures words { OnOk result (side.new.row.step_words.items ≡ []) }
+    ensures which { side.new.which ≡ side.old.which }
+    ensures faults { L.faults talk.old.memory.below.below.below.link ≤ L.faults talk.new.memory.below.below.below.link }
     ensures meant { (b : Behaviour) (h : Host) (beside : Option Host) → IsThere b L.conduct (L.world talk.old.memory.below.below.below.link) side.old h beside
         → ComesTo (L.faults talk.old.memory.below.below.below.link) (L.faults talk.new.memory.below.below.below.link) (λ u. Settled b L.conduct (L.world talk.new.memory.below.below.below.link) side.old side.new h beside) (λ e. ⊥) result }
 {
@@ -376,6 +400,7 @@ impl<L: Link + Drop> Session<L> {
         ensures limit { self.new.limit ≡ self.old.limit }
         ensures kept { IsKept self.old.first self.new.first × AreKept self.old.second self.new.second }
         ensures still { StandsStill self.old.first self.new.first × OnSecond StandsStill self.old.second self.new.second }
+        ensures faults { L.faults self.old.talk.memory.below.below.below.link ≤ L.faults self.new.talk.memory.below.below.below.link }
         ensures meant { (b : Behaviour) (hs : Hosts) (st : SessionState) → Represents b L.conduct (L.world self.old.talk.memory.below.below.below.link) self.old.first self.old.second self.old.mode self.old.limit hs st → IsStill st.state
             → ComesTo (L.faults self.old.talk.memory.below.below.below.link) (L.faults self.new.talk.memory.below.below.below.link) (λ u. AllPrepared b L.conduct (L.world self.new.talk.memory.below.below.below.link) self.old.first self.new.first self.old.second self.new.second hs st ByStep) (NotAll b L.conduct (L.world self.new.talk.memory.below.below.below.link) self.new.first self.new.second st (Begins b ByStep st)) result }
         ensures raw { self.new.raw ≡ self.old.raw }
@@ -389,7 +414,12 @@ impl<L: Link + Drop> Session<L> {
             None => Ok(()),
             Some(second) => match prepared(&mut self.talk, second) {
                 Ok(()) => Ok(()),
-                Err(fault) => Err(left(taken_away(&mut self.talk, &mut self.first), fault)),
+                Err(fault) => {
+                    if is_broken(&fault) {
+                        return Err(fault);
+                    }
+                    Err(left(taken_away(&mut self.talk, &mut self.first), fault))
+                }
             },
         }
     }
@@ -402,6 +432,8 @@ impl<L: Link + Drop> Session<L> {
         ensures still { StandsStill self.old.first self.new.first × OnSecond StandsStill self.old.second self.new.second }
         ensures ready { OnOk result (ReadyFor (state_of self.old.mode) ByContinue self.old.first self.new.first × OnSecond (ReadyFor (state_of self.old.mode) ByContinue) self.old.second self.new.second) }
         ensures running { (how : How) → self.old.mode ≡ Mode.Running how → self.new ≡ self.old }
+        ensures faults { L.faults self.old.talk.memory.below.below.below.link ≤ L.faults self.new.talk.memory.below.below.below.link }
+        ensures talks { (b : Behaviour) (hs : Hosts) → AreThere b L.conduct (L.world self.old.talk.memory.below.below.below.link) self.old.first self.old.second hs → ComesTo (L.faults self.old.talk.memory.below.below.below.link) (L.faults self.new.talk.memory.below.below.below.link) (λ u. Unit {0}) (λ e. ⊥) result }
         ensures meant { (b : Behaviour) (hs : Hosts) (st : SessionState) → Represents b L.conduct (L.world self.old.talk.memory.below.below.below.link) self.old.first self.old.second self.old.mode self.old.limit hs st → IsStill st.state
             → ComesTo (L.faults self.old.talk.memory.below.below.below.link) (L.faults self.new.talk.memory.below.below.below.link) (λ u. AllSettled b L.conduct (L.world self.new.talk.memory.below.below.below.link) self.old.first self.new.first self.old.second self.new.second hs st) (λ e. ⊥) result }
         ensures raw { self.new.raw ≡ self.old.raw }
@@ -428,6 +460,7 @@ impl<L: Link + Drop> Session<L> {
         ensures still { StandsStill self.old.first self.new.first × OnSecond StandsStill self.old.second self.new.second }
         ensures ready { OnOk result (ReadyFor (state_of self.old.mode) (resume_of how) self.old.first self.new.first × OnSecond (ReadyFor (state_of self.old.mode) (resume_of how)) self.old.second self.new.second) }
         ensures room { IfOk result (λ line. HasRoomFor self.new.first line) }
+        ensures faults { L.faults self.old.talk.memory.below.below.below.link ≤ L.faults self.new.talk.memory.below.below.below.link }
         ensures meant { (b : Behaviour) (hs : Hosts) (st : SessionState) → Represents b L.conduct (L.world self.old.talk.memory.below.below.below.link) self.old.first self.old.second self.old.mode self.old.limit hs st → IsResumable st.state
             → ComesTo (L.faults self.old.talk.memory.below.below.below.link) (L.faults self.new.talk.memory.below.below.below.link) (λ line. AllPrepared b L.conduct (L.world self.new.talk.memory.below.below.below.link) self.old.first self.new.first self.old.second self.new.second hs st (resume_of how)) (NotAll b L.conduct (L.world self.new.talk.memory.below.below.below.link) self.new.first self.new.second st (ResumesAs b (resume_of how) st)) result }
         ensures raw { self.new.raw ≡ self.old.raw }
@@ -435,8 +468,14 @@ impl<L: Link + Drop> Session<L> {
     {
         match (self.mode, how) {
             (Mode::Running(_), _) => {}
-            (_, How::ByContinue) => self.settle()?,
-            (_, How::ByStep) => self.prepare()?,
+            (_, How::ByContinue) => match self.settle() {
+                Ok(()) => {}
+                Err(fault) => return Err(fault),
+            },
+            (_, How::ByStep) => match self.prepare() {
+                Ok(()) => {}
+                Err(fault) => return Err(fault),
+            },
         }
         match line_for(self.alloc, &self.first) {
             Ok(line) => Ok(line),

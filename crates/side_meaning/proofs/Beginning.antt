@@ -25,7 +25,7 @@ use Rattle.claims.specs.Breaks.{step_words_at}
 use Rattle.claims.specs.Outcome.{Prepares}
 use Rattle.side_meaning.specs.Standing.{Debugged, EndsWith, IsTable, cleared, IsPlanted, IsLeft, IsAgain, StandsFor}
 use Rattle.side_meaning.specs.Resuming.{IsFit}
-use Rattle.side_meaning.specs.Stepping.{StepsAreUndone, StepsAreAgain, IsSettled, IsStepped, FindsWords, IsReady, ContinuesAreMeant, StepsBegin, PointsFail, WordsFail, ContinuesAreWhole, StepsAreWhole}
+use Rattle.side_meaning.specs.Stepping.{StepsAreUndone, StepsAreAgain, IsStill, IsSettled, IsStepped, FindsWords, IsReady, ContinuesAreMeant, StepsBegin, PointsFail, WordsFail, ContinuesAreWhole, StepsAreWhole}
 use Rattle.side_meaning.proofs.Stepping.{puts, fails}
 use Rattle.side_meaning.proofs.Memories.{words_memory, puts_memory}
 use Rattle.side_meaning.proofs.Behind.{resumes}
@@ -212,6 +212,73 @@ steps_begin undone d d' a u memory for none (inl g) = step_begins undone d d' a 
 steps_begin undone d d' a u memory for none (inr f) = found_same d d' a f.same (found_begins d a for none (found_again d a for none f.some))
 
 -- ---- a step that isn't begun
+
+-- the words that were put before it, or stood still, were taken away: the side is as it was, but for its table
+pub record Undone (d : Debugged) (a : SideState) : Type 0 where
+  pub result : SideState
+  pub side : SideState
+  pub prepares : Prepares ByStep a (Ok result) side
+  pub stands : StandsFor d (record a { table = side.table })
+
+module _ (undone : StepsAreUndone) (d d' : Debugged) (a : SideState) (u : TableUse) (memory : IsMemory d.host.machine.memory) (for : StandsFor d a) (none : a.step_words ≡ []) where
+  back_there : IsStepped d d' a.table u ⊎ FindsWords d d' → a.machine ≡ (cleared d'.row d'.host).machine
+  back_there (inl g) = same_machine undone d d' a u memory for none g ∙ sym (cleared_there undone d d' a u memory for none g)
+  back_there (inr f) = is_cleared d a for none ∙ ap (λ (z : Debugged). (cleared z.row z.host).machine) (sym f.same)
+
+  still_there : IsStepped d d' a.table u ⊎ FindsWords d d' → IsStill d d'
+  still_there (inl g) = g.still
+  still_there (inr f) = subst (IsStill d) (sym f.same) (record { breaks = refl; stands_at = refl; kept = refl })
+
+  frame_there : IsStepped d d' a.table u ⊎ FindsWords d d' → d'.frame ≡ d.frame
+  frame_there (inl g) = g.frame
+  frame_there (inr f) = ap (λ (z : Debugged). z.frame) f.same
+
+  ended_there : IsStepped d d' a.table u ⊎ FindsWords d d' → d'.host.nub.ended ≡ d.host.nub.ended
+  ended_there (inl g) = ap (λ (h : Host). h.nub.ended) g.host
+  ended_there (inr f) = ap (λ (z : Debugged). z.host.nub.ended) f.same
+
+  pub step_undone : (d'' : Debugged) → IsStepped d d' a.table u ⊎ FindsWords d d' → IsSettled d' d'' → Undone d'' a
+  step_undone d'' g s =
+      let c = steps_begin undone d d' a u memory for none g in
+      let still : IsStill d d' = still_there g in
+      record {
+        result = c.0;
+        side = c.1;
+        prepares = c.2;
+        stands = record {
+          table = subst (λ (t : StoreState). IsTable t c.1.table) (sym s.table) c.3.stands.table;
+          frame = for.frame ∙ sym (s.frame ∙ frame_there g);
+          alike = record {
+            breaks = for.alike.breaks ∙ sym (s.still.breaks ∙ still.breaks);
+            stands_at = for.alike.stands_at ∙ sym (s.still.stands_at ∙ still.stands_at);
+            kept = for.alike.kept ∙ sym (s.still.kept ∙ still.kept);
+            words = inl (record { words = none ∙ sym (ap (map (row_in d''.table)) s.words); machine = back_there g ∙ ap (λ (h : Host). h.machine) (sym s.host) });
+          };
+          ended = subst (EndsWith a.kept) (sym (ap (λ (h : Host). h.nub.ended) s.host ∙ ended_there g)) for.ended;
+          unended = for.unended;
+          again = λ stay. inl s.words;
+        };
+      }
+
+-- where no word of a step is there, and its table alone has changed, it stands with that
+pub stands_with : (d d' : Debugged) (a : SideState) (t : StoreState) → StandsFor d a → a.step_words ≡ [] → d.row.step_words.items ≡ [] → IsTable d'.table t → d'.frame ≡ d.frame → d'.row.step_words.items ≡ [] → IsStill d d' → d'.host ≡ d.host
+    → StandsFor d' (record a { table = t })
+stands_with d d' a t for none free table frame left still host = record {
+  table = table;
+  frame = for.frame ∙ sym frame;
+  alike = record {
+    breaks = for.alike.breaks ∙ sym still.breaks;
+    stands_at = for.alike.stands_at ∙ sym still.stands_at;
+    kept = for.alike.kept ∙ sym still.kept;
+    words = inl (record {
+      words = none ∙ sym (ap (map (row_in d'.table)) left);
+      machine = is_cleared d a for none ∙ (cleared_of_none d.row d.host free ∙ ap (λ (h : Host). h.machine) (sym host));
+    });
+  };
+  ended = subst (EndsWith a.kept) (sym (ap (λ (h : Host). h.nub.ended) host)) for.ended;
+  unended = for.unended;
+  again = λ stay. inl left;
+}
 
 pub points_fail : PointsFail
 points_fail a e u looks =

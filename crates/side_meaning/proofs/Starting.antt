@@ -29,13 +29,13 @@ begin b input d table m g =
 
 -- ---- where the session stands
 
-no_words : (state : State) (d : Debugged) (a : SideState) → IsStill state → StandsIn state d a → a.step_words ≡ []
+pub no_words : (state : State) (d : Debugged) (a : SideState) → IsStill state → StandsIn state d a → a.step_words ≡ []
 no_words Fresh d a still h = h.words
 no_words Stopped d a still h = h.words
 no_words (Running began) d a still h = absurd still
 no_words Ended d a still h = absurd still
 
-in_state : (state : State) (d : Debugged) (a : SideState) → IsStill state → StandsFor d a → a.step_words ≡ [] → StandsIn state d a
+pub in_state : (state : State) (d : Debugged) (a : SideState) → IsStill state → StandsFor d a → a.step_words ≡ [] → StandsIn state d a
 in_state Fresh d a still h none = record { stands = h; words = none }
 in_state Stopped d a still h none = record { stands = h; words = none }
 in_state (Running began) d a still h none = absurd still

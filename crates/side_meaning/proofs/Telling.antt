@@ -4,12 +4,18 @@ use Rattle.ldb_words.specs.declared.kinds.Order.{Order}
 use Rattle.ldb_words.specs.declared.kinds.Kind.TheVariants.{Word}
 use Rattle.ldb_words.specs.declared.event.Outside.{Outside}
 use Rattle.machine_state.specs.Regions.{Regions, write_of}
-use Rattle.machine_state.specs.State.{MachineState}
+use Rattle.machine_state.specs.State.{MachineState, Behaviour, order_of}
+use Rattle.machine_state.specs.Sound.{IsMemory}
+use Rattle.nub_wire.specs.declared.link.Side.{Side}
+use Rattle.nub_wire.specs.Delivery.{Conduct, World}
+use Rattle.nub_wire.specs.Nub.{Host}
 use Rattle.nub_wire.specs.Fits.{begins}
+use Rattle.frame_bytes.specs.declared.frame.Place.{Place}
 use Rattle.frame_bytes.specs.declared.frame.Space.TheVariants.{Memory}
-use Rattle.frame_bytes.specs.Bytes.{Bytes, stored, or_none, no_places}
+use Rattle.frame_bytes.specs.Bytes.{Bytes, bytes_of, stored, or_none, no_places}
 use Rattle.abs_mem.specs.Meaning.{Seen}
-use Rattle.abs_mem.specs.WireMeaning.{memory_of, wire_seen}
+use Rattle.abs_mem.specs.declared.memory.MemFault.TheVariants as mem
+use Rattle.abs_mem.specs.WireMeaning.{WireRest, memory_of, WireTells, wire_seen}
 use Rattle.resuming.specs.Standing.{Stands}
 use Rattle.table_points.specs.declared.row.Point.{Point}
 use Rattle.break_plant.specs.Planted.{noop_of, break_of, word_at}
@@ -17,7 +23,7 @@ use Rattle.debug_side.specs.declared.event.Event.{Event}
 use Rattle.debug_side.specs.Meant.{address_of}
 use Rattle.debug_side.specs.Wrote.{Writes, none_written, writes, Wrote, words_put}
 use Rattle.debug_side.specs.Told.{with_regions, its_event}
-use Rattle.debug_side.specs.Planting.{PutsWords, at_none, is_put, is_passed, PlantsAll}
+use Rattle.debug_side.specs.Planting.{PutsWords, at_none, is_put, is_passed, MeetsNone, is_outside, behind_put, behind_passed, PlantsAll}
 use Rattle.debug_side.proofs.Told.{put_stands}
 use Rattle.side_meaning.specs.Telling.{MemoriesAreTold, PlantsAreTold, ClearsAreTold, Keeps, ResumesAreTold}
 use Rattle.side_meaning.proofs.Resuming.{put_back, stored_is}
@@ -108,6 +114,40 @@ plants b c side side' o o' f f' order order' h other target points kept x same p
     let y = put_stands b c o side order h other x same f f' side' order' o' P (plants_wrote target points kept (wire_seen c o f side order) (wire_seen c o' f' side' order') p) in
     let m : MachineState = h.machine in
     (y.regions, puts_beside no_places (Some 0) target (memory_of m) (record (memory_of m) { regions = y.regions }) points kept y.put, y.stands, y.order_is)
+
+-- ---- where an address is outside
+
+meets_beside : (x : List (Option ℕ)) (y : Option ℕ) (target : ℕ) (b : Bytes) (ps : List Point) → MeetsNone target b ps → MeetsNone target (beside x y b) ps
+meets_beside x y target b ps (is_outside p none) = is_outside p (same_word x y b p.at ∙ none)
+meets_beside x y target b ps (behind_put {c = c} {ps = qs} p was put rest) = behind_put p (same_word x y b p.at ∙ was) (is_beside b c p.at (break_of target) put x y) (meets_beside x y target c qs rest)
+meets_beside x y target b ps (behind_passed {ps = qs} p w there differs rest) = behind_passed p w (same_word x y b p.at ∙ there) differs (meets_beside x y target b qs rest)
+
+told_memory : (c : Conduct) (o : Option World) (side : Side) (order : Order) (z : Bytes) (r : WireRest) → WireTells c o side order z r → IsMemory z.regions
+told_memory c o side order z r t = subst (λ (y : Bytes). IsMemory y.regions) (sym t.bytes_are) t.holds
+
+abbrev Unplanted : ℕ → (points : List Point) → Bytes → Regions → Type 0
+Unplanted target points z r = MeetsNone target z points × (r ≡ z.regions)
+
+module _ (b : Behaviour) (c : Conduct) (side side' : Side) (o o' : Option World) (f f' : ℕ) (order order' : Order) (h : Host) (other : Option Host) (target : ℕ) (points left : List Point) (place : Place) where
+  none_wrote : PlantsAll target points (wire_seen c o f side order) (Err (mem.Outside place)) left (wire_seen c o' f' side' order') → Wrote (wire_seen c o f side order) (wire_seen c o' f' side' order') (Unplanted target points)
+  none_wrote p = record {
+    faults = p.0;
+    after = λ (z : Bytes) (r : WireRest) t.
+        let y = p.1 z r t in
+        (z.regions, none_written, (y.0, refl), y.1 (told_memory c o side order z r t));
+  }
+
+  -- no word of a step is put, and the side stands as it stood
+  pub outsides : Stands b c side o h other → order ≡ order_of h.machine → PlantsAll target points (wire_seen c o f side order) (Err (mem.Outside place)) left (wire_seen c o' f' side' order')
+      → MeetsNone target (bytes_of h.machine) points × Stands b c side o' h other × (order' ≡ order)
+  outsides x same p =
+      let y = put_stands b c o side order h other x same f f' side' order' o' (Unplanted target points) (none_wrote p) in (
+        meets_beside no_places (Some 0) target (memory_of h.machine) points y.put.0,
+        subst (λ (r : Regions). Stands b c side o' (with_regions h r) other) y.put.1 y.stands,
+        y.order_is,
+      )
+
+-- ---- where words are taken away
 
 pub clears : ClearsAreTold
 clears b c side side' o o' f f' order order' h other target words x same p =
