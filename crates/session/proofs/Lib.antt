@@ -7,3 +7,6 @@ pub mod Pointing
 pub mod Words
 pub mod Readying
 pub mod Starting
+pub mod Leaving
+pub mod Registering
+pub mod Regs

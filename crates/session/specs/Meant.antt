@@ -74,7 +74,7 @@ second_of (Some side) None = None
 abbrev pub sides_of : SideRecord → Option SideRecord → Hosts → BothSides
 sides_of a b hs = record { first = debugged a hs.first; second = second_of b hs.second }
 
-abbrev IsSecond : Behaviour → Conduct → Option World → (beside : Host) → SideRecord → Host → Type 0
+abbrev pub IsSecond : Behaviour → Conduct → Option World → (beside : Host) → SideRecord → Host → Type 0
 IsSecond b c o beside side h = (side.which ≡ Second) × IsThere b c o side h (Some beside)
 
 pub record AreThere (b : Behaviour) (c : Conduct) (o : Option World) (first : SideRecord) (second : Option SideRecord) (hs : Hosts) : Type 0 where

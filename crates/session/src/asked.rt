@@ -1,8 +1,12 @@
 // A command that doesn't resume, on one side.
 
 ghost use Rattle.std.specs.Prelude.{◌≡◌, ◌≤◌, OnErr, Option, []};
+ghost use Rattle.std.specs.List.{AllByRecursion};
 ghost use Rattle.abs_mem.specs.WireMeaning.{wire_seen};
-ghost use Rattle.session.specs.Asked.{Does, IsAsked};
+ghost use Rattle.ps_store.specs.Store.{closed_part};
+ghost use Rattle.table_points.specs.Named.{IsNamed};
+ghost use Rattle.table_asks.specs.Closing.{Settles};
+ghost use Rattle.session.specs.Asked.{Does, chosen_frame};
 ghost use Rattle.session.specs.Kept.{IsKept};
 ghost use Rattle.session.specs.Turned.{turned};
 ghost use Rattle.machine_state.specs.State.{Behaviour};
@@ -33,6 +37,9 @@ fn told<W: AbsMem + Drop>(
     requires within { side.old.inquiry.steps.taken ≤ side.old.inquiry.steps.limit }
     ensures kept { OnErr result (side.new.row.breaks.items ≡ side.old.row.breaks.items) }
     ensures frame { side.new.frame ≡ side.old.frame }
+    ensures same { side.new ≡ record side.old { inquiry = side.new.inquiry; row = record side.old.row { breaks = side.new.row.breaks } } }
+    ensures closed { IsPlain command.now → Settles (closed_part side.old.inquiry.core.store) (closed_part side.new.inquiry.core.store) }
+    ensures named { IsPlain command.now → AllByRecursion (IsNamed side.new.inquiry.core.store) side.old.row.breaks.items → AllByRecursion (IsNamed side.new.inquiry.core.store) side.new.row.breaks.items }
     ensures does { Does W.seen command.now side.old.frame side.old.row.breaks.items side.old.inquiry talk.old result side.new.row.breaks.items side.new.inquiry talk.new }
 {
     let inquiry = &mut side.inquiry;
@@ -51,7 +58,9 @@ fn told<W: AbsMem + Drop>(
 }
 
 /// The frame that a command chooses, where it is done.
-fn chosen(command: &Command, frame: u32) -> u32 {
+fn chosen(command: &Command, frame: u32) -> u32
+    ensures { result ≡ chosen_frame command.now frame }
+{
     match command {
         Command::Frame(number) => *number,
         _ => frame,
@@ -65,8 +74,10 @@ pub fn asked<L: Link + Drop>(
     command: &Command,
 ) -> Result<Text, AskFault>
     ensures kept { OnErr result (IsKept side.old side.new) }
+    ensures which { side.new.which ≡ side.old.which }
+    ensures faults { IsPlain command.now → L.faults talk.old.memory.below.below.below.link ≤ L.faults talk.new.memory.below.below.below.link }
     ensures meant { (b : Behaviour) (h : Host) (beside : Option Host) (a : SideState) → IsThere b L.conduct (L.world talk.old.memory.below.below.below.link) side.old h beside → IsReady (debugged side.old h) a → a.step_words ≡ [] → IsPlain command.now
-        → ComesTo (L.faults talk.old.memory.below.below.below.link) (L.faults talk.new.memory.below.below.below.link) (λ text. SaidOne b L.conduct (L.world talk.new.memory.below.below.below.link) side.old side.new h beside command.now a text.now) (NotOne b L.conduct (L.world talk.new.memory.below.below.below.link) side.old side.new h beside command.now a) result }
+        → ComesTo (L.faults talk.old.memory.below.below.below.link) (L.faults talk.new.memory.below.below.below.link) (λ text. SaidOne b L.conduct (L.world talk.new.memory.below.below.below.link) side.old side.new h beside command.now a text) (NotOne b L.conduct (L.world talk.new.memory.below.below.below.link) side.old side.new h beside command.now a) result }
 {
     turn(talk, side);
     let mark = match begin_command(&mut side.inquiry) {
@@ -119,8 +130,9 @@ pub fn registers_of<L: Link + Drop>(
     talk: &mut Operators<Wire<L>>,
     side: &SideRecord,
 ) -> Result<Text, AskFault>
-    ensures { (b : Behaviour) (h : Host) (beside : Option Host) (a : SideState) → IsThere b L.conduct (L.world talk.old.memory.below.below.below.link) side.now h beside → StandsFor (debugged side.now h) a
-        → ComesTo (L.faults talk.old.memory.below.below.below.link) (L.faults talk.new.memory.below.below.below.link) (λ text. IsThere b L.conduct (L.world talk.new.memory.below.below.below.link) side.now h beside × (text.now ≡ line (regs_text a))) (λ e. ⊥) result }
+    ensures faults { L.faults talk.old.memory.below.below.below.link ≤ L.faults talk.new.memory.below.below.below.link }
+    ensures meant { (b : Behaviour) (h : Host) (beside : Option Host) (a : SideState) → IsThere b L.conduct (L.world talk.old.memory.below.below.below.link) side.now h beside → StandsFor (debugged side.now h) a
+        → ComesTo (L.faults talk.old.memory.below.below.below.link) (L.faults talk.new.memory.below.below.below.link) (λ text. IsThere b L.conduct (L.world talk.new.memory.below.below.below.link) side.now h beside × (text ≡ line (regs_text a))) (λ e. ⊥) result }
 {
     turn(talk, side);
     registers(side.inquiry.core.operands.allocator(), talk)

@@ -4,10 +4,10 @@ ghost use Rattle.std.specs.Prelude.{◌≡◌, Some};
 ghost use Rattle.session.specs.Kept.{IsKept, IsUndone};
 ghost use Rattle.machine_state.specs.State.{Behaviour};
 ghost use Rattle.claims.specs.Side.{SessionState};
-ghost use Rattle.session.specs.Meant.{ComesTo, Hosts, AreThere, SaidAll, NotAll, IsPlain, AreReadyFor, sides_of};
+ghost use Rattle.session.specs.Meant.{ComesTo, Hosts, AreThere, sides_of};
 ghost use Rattle.side_meaning.specs.Sessions.{SidesStand};
 ghost use Rattle.asking_meaning.specs.Meant.{joined};
-ghost use Rattle.claims.specs.Outcome.{all_regs, DoneOnBoth};
+ghost use Rattle.claims.specs.Outcome.{all_regs};
 
 use crate::asked::{asked, ran, registers_of};
 use crate::assigning::{assigned, store};
@@ -92,8 +92,6 @@ pub fn asked_both<L: Link + Drop>(
 ) -> Result<Text, AskFault>
     ensures first { IsUndone result → IsKept first.old first.new }
     ensures second { IsUndone result → IsKept second.old second.new }
-    ensures meant { (b : Behaviour) (hs : Hosts) (st : SessionState) → AreThere b L.conduct (L.world talk.old.memory.below.below.below.link) first.old (Some second.old) hs → AreReadyFor first.old (Some second.old) hs st → IsPlain command.now
-        → ComesTo (L.faults talk.old.memory.below.below.below.link) (L.faults talk.new.memory.below.below.below.link) (λ text. SaidAll b L.conduct (L.world talk.new.memory.below.below.below.link) first.new (Some second.new) st (DoneOnBoth st command.now) text.now) (NotAll b L.conduct (L.world talk.new.memory.below.below.below.link) first.new (Some second.new) st (DoneOnBoth st command.now)) result }
 {
     let alloc = first.inquiry.core.operands.allocator();
     let frame = first.frame;
@@ -118,10 +116,18 @@ pub fn registers_both<L: Link + Drop>(
     second: &SideRecord,
 ) -> Result<Text, AskFault>
     ensures { (b : Behaviour) (hs : Hosts) (st : SessionState) → AreThere b L.conduct (L.world talk.old.memory.below.below.below.link) first.now (Some second.now) hs → SidesStand (sides_of first.now (Some second.now) hs) st
-        → ComesTo (L.faults talk.old.memory.below.below.below.link) (L.faults talk.new.memory.below.below.below.link) (λ text. AreThere b L.conduct (L.world talk.new.memory.below.below.below.link) first.now (Some second.now) hs × (text.now ≡ joined (all_regs st))) (λ e. ⊥) result }
+        → ComesTo (L.faults talk.old.memory.below.below.below.link) (L.faults talk.new.memory.below.below.below.link) (λ text. AreThere b L.conduct (L.world talk.new.memory.below.below.below.link) first.now (Some second.now) hs × (text ≡ joined (all_regs st))) (λ e. ⊥) result }
 {
-    let mut text = registers_of(talk, first)?;
-    let other = registers_of(talk, second)?;
+    let said = registers_of(talk, first);
+    let mut text = match said {
+        Ok(text) => text,
+        Err(fault) => return Err(fault),
+    };
+    let more = registers_of(talk, second);
+    let other = match more {
+        Ok(other) => other,
+        Err(fault) => return Err(fault),
+    };
     match text.append(other.as_bytes()) {
         Ok(()) => Ok(text),
         Err(_) => Err(AskFault::NoMemory),
