@@ -105,14 +105,14 @@ pub counted : (b : Behaviour) (c : Conduct) (side : Side) (r : Msg) (h : Host) (
 counted b c side r h beside talk.LinkFault o old new said rose = rose
 counted b c side r h beside (talk.BadReply frame) o old new said rose = absurd said
 
+nothing_taken : (k : ℕ) → take {A = ℕ} k [] ≡ []
+nothing_taken zero = refl
+nothing_taken (suc k) = refl
+
 -- the start of a list and the piece behind it
 pub taken_more : (n m : ℕ) (xs : List ℕ) → take n xs ++ take m (drop n xs) ≡ take (n + m) xs
 taken_more zero m xs = let e : m ≡ 0 + m = omega arith in ap (λ (k : ℕ). take k xs) e
-taken_more (suc n) m [] = nothing m
-  where
-    nothing : (k : ℕ) → take k [] ≡ []
-    nothing zero = refl
-    nothing (suc k) = refl
+taken_more (suc n) m [] = nothing_taken m
 taken_more (suc n) m (x ∷ xs) = ap (λ (l : List ℕ). x ∷ l) (taken_more n m xs)
 
 -- input given in two pieces is given as one
@@ -145,7 +145,10 @@ order_known : (k : Machine) (target : ℕ) → byte_of k ≡ target → order_of
 order_known machine.Mips target e = subst (λ (t : ℕ). Little ≡ order_of_target t) e refl
 order_known machine.Sparc target e = subst (λ (t : ℕ). Big ≡ order_of_target t) e refl
 
-given_whole : (input : List ℕ) (m : MachineState) (fits : Bool) → fits ≡ true → (if fits then (true, with_input input m) else (false, m)).1 ≡ with_input input m
+abbrev given_if : List ℕ → MachineState → Bool → Bool × MachineState
+given_if input m fits = if fits then (true, with_input input m) else (false, m)
+
+given_whole : (input : List ℕ) (m : MachineState) (fits : Bool) → fits ≡ true → (given_if input m fits).1 ≡ with_input input m
 given_whole input m true e = refl
 given_whole input m false e = cc
 
