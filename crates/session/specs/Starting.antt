@@ -1,10 +1,9 @@
 -- How a session begins: what is known of the nubs and the tables before it, and what it has then.
-use Rattle.std.specs.Prelude.{◌≡◌, ℕ, List, [], ◌∷◌, codes, bytes_eq, if◌then◌else◌, Option, Some, None, Result, Ok, Err}
+use Rattle.std.specs.Prelude.{◌≡◌, ℕ, List, codes, bytes_eq, if◌then◌else◌, Option, None, Result, Ok, Err}
 use Rattle.ldb_edge.specs.Count.{Rose}
 use Rattle.machine_state.specs.declared.layout.TheConstants.{MIPS, SPARC}
 use Rattle.machine_state.specs.State.{MachineState, Behaviour, given_input, with_input}
 use Rattle.nub_wire.specs.declared.link.Side.{Side}
-use Rattle.nub_wire.specs.declared.link.Side.TheVariants.{First, Second}
 use Rattle.nub_wire.specs.Nub.{Host, host, first_host}
 use Rattle.nub_wire.specs.Delivery.{Conduct, World}
 use Rattle.resuming.specs.Standing.{Stands}
@@ -14,7 +13,7 @@ use Rattle.ps_store.specs.StoreState.{StoreState}
 use Rattle.ps_store.specs.Store.{bytes_of}
 use Rattle.ps_step.specs.Results.{◌>>=◌}
 use Rattle.table_model.specs.Reading.{Walked, top_of, string_at}
-use Rattle.claims.specs.Side.{SideState, SessionState, first_side, first_session}
+use Rattle.claims.specs.Side.{SessionState, first_side, first_session}
 use Rattle.side_meaning.specs.Standing.{no_objects}
 use Rattle.side_meaning.specs.Sessions.{IsNew}
 use Rattle.session.specs.declared.answers.StartFault.{StartFault}
@@ -59,20 +58,8 @@ StartsAs faults faults' Done (Ok x) = Done x
 StartsAs faults faults' Done (Err NoMemory) = Unit {0}
 StartsAs faults faults' Done (Err Target) = Rose faults faults'
 
--- ---- one side or two
+-- ---- one side
 
--- the nubs and tables of one side
-pub record OneFirst (b : Behaviour) (c : Conduct) (o : Option World) (m : MachineState) (table : StoreState) : Type 0 where
-  pub first : IsFirst b c o First m None table
-
--- and of two
-pub record BothFirst (b : Behaviour) (c : Conduct) (o : Option World) (m n : MachineState) (table other : StoreState) : Type 0 where
-  pub first : IsFirst b c o First m (Some (first_host b n)) table
-  pub second : IsFirst b c o Second n (Some (first_host b m)) other
-
--- the machine session of one side or two at its start
+-- the machine session of one side at its start
 abbrev pub one_session : Behaviour → (input : List ℕ) → MachineState → StoreState → SessionState
 one_session b input m table = first_session (first_side b input table m) None
-
-abbrev pub both_session : Behaviour → (input : List ℕ) → (m n : MachineState) → (table other : StoreState) → SessionState
-both_session b input m n table other = first_session (first_side b input table m) (Some (first_side b input other n))

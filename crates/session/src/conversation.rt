@@ -1,6 +1,6 @@
 // A session.
 
-ghost use Rattle.std.specs.Prelude.{◌≡◌, ◌≢◌, ◌≤◌, ◌⊎◌, ℕ, true, [], codes, IfOk, IfErr, OnOk, OnErr, Ok, Err, Some, None, Option, false};
+ghost use Rattle.std.specs.Prelude.{◌≡◌, ◌≢◌, ◌≤◌, ◌⊎◌, ℕ, true, [], ◌∷◌, length, codes, IfOk, IfErr, OnOk, OnErr, Ok, Err, Some, None, Option, false};
 ghost use Rattle.c_session.specs.declared.command.Command.{Command};
 ghost use Rattle.c_session.specs.declared.command.Command.TheVariants.{Continue, Step, Quit, Turns};
 ghost use Rattle.cmd_lang.specs.Commands.{read_of};
@@ -8,10 +8,13 @@ ghost use Rattle.cmd_lang.specs.Words.{is_empty};
 ghost use Rattle.c_session.specs.Commands.{Refusal, ByContinue, ByStep};
 ghost use Rattle.claims.specs.Outcome.{refused_by_state, all_regs, Begins};
 ghost use Rattle.session.specs.Answered.{state_of, resume_of, refusal_reply, line_reply, limit_reply, Replies, Answers};
+ghost use Rattle.ps_store.specs.StoreState.{StoreState};
+ghost use Rattle.session.specs.Starting.{IsFirst, one_session};
+ghost use Rattle.nub_wire.specs.declared.link.Side.TheVariants.{First};
 ghost use Rattle.session.specs.Counted.{CountsOutput, CountsEnd, IsNoQuit};
 ghost use Rattle.session.specs.Kept.{IsKept, AreKept, KeepsMode, KeepsReply, IsUndone, AnswersFault};
 ghost use Rattle.session.specs.Resuming.{StandsStill, OnSecond, ReadyFor, HasRoomFor, AllBehind, Resumes, event_on, goes_on};
-ghost use Rattle.machine_state.specs.State.{Behaviour};
+ghost use Rattle.machine_state.specs.State.{Behaviour, MachineState};
 ghost use Rattle.nub_wire.specs.Nub.{Host};
 ghost use Rattle.claims.specs.Side.{SessionState};
 ghost use Rattle.session.specs.Meant.{IsThere, ComesTo, Settled, Hosts, AreSteady, AreThere, ResumesAll, NotAll, IsSaid, IsSaidIfAny, Represents, AllPrepared, AllSettled, AnswersAs, MeantAnswers, ResumesAs, IsResumable, MayAlsoRun, sides_of};
@@ -155,7 +158,9 @@ fn taken_away<L: Link + Drop>(
 }
 
 /// The operators over a link, before a side is turned to.
-fn operators<L: Link + Drop>(alloc: Global, link: L, first: &SideRecord) -> Operators<Wire<L>> {
+fn operators<L: Link + Drop>(alloc: Global, link: L, first: &SideRecord) -> Operators<Wire<L>>
+    ensures { result.memory.below.below.below.link ≡ link }
+{
     let order = first.machine.order();
     let wire = Wire {
         link,
@@ -187,10 +192,8 @@ impl<L: Link + Drop> Session<L> {
         raw: bool,
     ) -> Result<Session<L>, StartFault>
         ensures fresh { IfOk result (λ s. (s.mode ≡ Mode.Fresh) × (s.limit ≡ 10000000) × (s.raw ≡ raw) × (s.broken ≡ codes "target\n")) }
-        ensures one { (b : Behaviour) (m : MachineState) (table : StoreState) → tables.items ≡ table ∷ [] → OneFirst b L.conduct (L.world link) m table → length input.now ≤ 16777216
+        ensures one { (b : Behaviour) (m : MachineState) (table : StoreState) → tables.items ≡ table ∷ [] → IsFirst b L.conduct (L.world link) First m None table → length input.now ≤ 16777216
             → IfOk result (λ s. (hs : Hosts) × Represents b L.conduct (L.world s.talk.memory.below.below.below.link) s.first s.second s.mode s.limit hs (one_session b input.now m table)) }
-        ensures both { (b : Behaviour) (m n : MachineState) (table other : StoreState) → tables.items ≡ table ∷ (other ∷ []) → BothFirst b L.conduct (L.world link) m n table other → length input.now ≤ 16777216
-            → IfOk result (λ s. (hs : Hosts) × Represents b L.conduct (L.world s.talk.memory.below.below.below.link) s.first s.second s.mode s.limit hs (both_session b input.now m n table other)) }
     {
         let Ok(broken) = Text::from_slice(alloc, b"target\n") else {
             return Err(StartFault::NoMemory);
@@ -199,7 +202,10 @@ impl<L: Link + Drop> Session<L> {
         let Some(table) = tables.next() else {
             return Err(StartFault::Target);
         };
-        let first = begun(alloc, &mut link, Side::First, table, input)?;
+        let first = match begun(alloc, &mut link, Side::First, table, input) {
+            Ok(first) => first,
+            Err(fault) => return Err(fault),
+        };
         let second = match tables.next() {
             None => None,
             Some(table) => Some(begun(alloc, &mut link, Side::Second, table, input)?),

@@ -21,9 +21,7 @@ use nub_wire::Link;
 use ps_ops::Operators;
 use ps_store::{Mark, PsStore};
 use std::alloc::{AllocError, Global};
-use table_asks::{
-    AskFault, Inquiry, Point, begin_command, end_command, every_point, memory_fault,
-};
+use table_asks::{AskFault, Inquiry, Point, begin_command, end_command, every_point, memory_fault};
 use table_points::are_named;
 use wire_talk::TalkFault;
 
