@@ -6,7 +6,6 @@ use Rattle.nub_wire.specs.declared.link.Side.TheVariants.{First, Second}
 use Rattle.nub_wire.specs.Nub.{Host}
 use Rattle.nub_wire.specs.Delivery.{Conduct, LinkSide, World, side_of}
 use Rattle.nub_wire.specs.Rest.{IsIdle, IsAtRest, other}
-use Rattle.nub_wire.specs.Fits.{TellsFitting}
 use Rattle.abs_mem.specs.WireMeaning.{IsBeside}
 use Rattle.resuming.specs.Standing.{Stands}
 use Rattle.session.specs.declared.sides.SideRecord.{SideRecord}

@@ -1,12 +1,12 @@
 -- All points of a side's table, from the begin of their command to its end.
-use Rattle.std.proofs.Common.{◌≡◌, ◌⊎◌, ◌∙◌, refl, sym, ap, subst, inl, inr, ℕ, zero, suc, ◌-◌, min, List, [], ◌∷◌, length, take, map, Result, Ok, Err, IfOk, IfErr, arith}
+use Rattle.std.proofs.Common.{◌≡◌, ◌⊎◌, ◌∙◌, refl, sym, ap, subst, inl, inr, ℕ, ◌-◌, min, List, [], ◌∷◌, length, map, Result, Ok, Err, IfOk, IfErr, arith}
 use Rattle.std.specs.Global.{Vec}
 use Rattle.std.specs.List.{AllByRecursion}
 use Rattle.ps_store.specs.declared.object.Mark.{Mark}
 use Rattle.ps_store.specs.declared.object.Part.{Part}
 use Rattle.ps_store.specs.declared.object.Part.TheVariants.{Command}
 use Rattle.ps_store.specs.Held.{Held}
-use Rattle.ps_store.specs.StoreState.{StoreState, Closed}
+use Rattle.ps_store.specs.StoreState.{StoreState}
 use Rattle.ps_store.specs.Store.{closed_part, held}
 use Rattle.ps_store.specs.Cut.{mark_of, cut}
 use Rattle.ps_store.specs.Settled.{Settled}
@@ -20,7 +20,7 @@ use Rattle.table_points.specs.declared.row.Point.{Point}
 use Rattle.table_points.specs.Rows.{row_in}
 use Rattle.table_points.specs.Named.{IsNamed}
 use Rattle.dialect_model.specs.TableUse.{TableUse, use_of, Trouble, Kind, with_store, Looks, told, lacks, forced, broken, wanting}
-use Rattle.dialect_model.specs.TableUse.{Refused as RefusedFor, Spent as StepsSpent}
+use Rattle.dialect_model.specs.TableUse.{Spent as StepsSpent}
 use Rattle.table_asks.specs.declared.fault.Cause.{Cause}
 use Rattle.table_asks.specs.declared.fault.AskFault.{AskFault}
 use Rattle.table_asks.specs.declared.fault.AskFault.TheVariants.{Refused, Raised, Spent, NoMemory, Broken}

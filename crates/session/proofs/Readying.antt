@@ -1,9 +1,7 @@
 -- All sides before a resume, and before a command that doesn't resume.
-use Rattle.std.proofs.Common.{◌≡◌, ◌≢◌, ◌∙◌, refl, sym, ap, subst, inl, inr, ℕ, ◌+◌, ◌≤◌, min, [], Option, Some, None, Result, Ok, Err, OnOk, IfErr, arith}
+use Rattle.std.proofs.Common.{◌≡◌, ◌≢◌, ◌∙◌, refl, sym, subst, ℕ, ◌≤◌, [], Option, Some, None, Result, Ok, Err, OnOk, IfErr, arith}
 use Rattle.ldb_edge.specs.Count.{Rose}
 use Rattle.machine_state.specs.State.{Behaviour}
-use Rattle.machine_state.specs.Sound.{IsMemory}
-use Rattle.nub_wire.specs.declared.link.Side.{Side}
 use Rattle.nub_wire.specs.declared.link.Side.TheVariants.{First, Second}
 use Rattle.nub_wire.specs.Nub.{Host}
 use Rattle.nub_wire.specs.Delivery.{Conduct, World}
@@ -17,10 +15,8 @@ use Rattle.c_session.specs.Commands.{Resume, ByStep, ByContinue}
 use Rattle.claims.specs.Side.{SideState, SessionState, Troubled, State, Fresh, Stopped, Running, Ended}
 use Rattle.claims.specs.Lines.{Reply, trouble_reply}
 use Rattle.claims.specs.Outcome as outcome
-use Rattle.asking_meaning.specs.Meant.{joined}
 use Rattle.side_meaning.specs.Standing.{Debugged, StandsFor}
-use Rattle.side_meaning.specs.Stepping.{StepsAreUndone}
-use Rattle.side_meaning.specs.Sessions.{BothSides, OnSecond, StandsIn, SidesStand, Prepared, PreparedIn, SecondPrepared, ArePrepared, IsStill}
+use Rattle.side_meaning.specs.Sessions.{OnSecond, StandsIn, SidesStand, Prepared, PreparedIn, SecondPrepared, IsStill}
 use Rattle.side_meaning.proofs.Starting.{no_words, in_state, settle}
 use Rattle.side_meaning.proofs.Beginning.{Undone, step_undone}
 use Rattle.side_meaning.proofs.Telling.{memories}
@@ -30,7 +26,7 @@ use Rattle.session.specs.declared.sides.SideRecord.{SideRecord}
 use Rattle.session.specs.declared.modes.How.{How}
 use Rattle.session.specs.declared.modes.How.TheVariants as hows
 use Rattle.session.specs.Answered.{state_of, resume_of}
-use Rattle.session.specs.Meant.{debugged, IsThere, Hosts, second_of, sides_of, AreThere, AreReadyFor, ComesTo, Settled, Stepped, Unstepped, AllPrepared, AllSettled, SaidAll, NotAll, ResumesAs, IsResumable}
+use Rattle.session.specs.Meant.{debugged, IsThere, Hosts, second_of, sides_of, AreThere, ComesTo, Settled, Stepped, Unstepped, AllPrepared, AllSettled, NotAll, ResumesAs, IsResumable}
 use Rattle.session.proofs.Beside.{second_beside, first_beside}
 
 -- ---- faults

@@ -1,8 +1,7 @@
 -- The words of a step, taken away or put on a side over a link whose nubs meet their definition.
-use Rattle.std.proofs.Common.{◌≡◌, Bool, false, ◌∙◌, refl, sym, ap, subst, inl, inr, ◌≢◌, ℕ, ◌≤◌, ◌<◌, List, [], ◌∷◌, length, map, Option, Some, None, Result, Ok, Err, arith}
+use Rattle.std.proofs.Common.{◌≡◌, Bool, false, ◌∙◌, refl, sym, ap, subst, inl, inr, ◌≢◌, ℕ, ◌≤◌, ◌<◌, List, [], ◌∷◌, length, map, Option, Result, Ok, Err, arith}
 use Rattle.std.specs.Global.{Vec}
 use Rattle.std.specs.List.{AllByRecursion, list_all}
-use Rattle.ldb_edge.specs.Count.{Rose}
 use Rattle.ldb_words.specs.declared.kinds.Order.{Order}
 use Rattle.machine_state.specs.Regions.{Regions}
 use Rattle.machine_state.specs.State.{Behaviour}

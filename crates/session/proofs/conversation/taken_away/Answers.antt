@@ -1,4 +1,4 @@
-use Rattle.std.proofs.Common.{◌≡◌, Option}
+use Rattle.std.proofs.Common.{Option}
 use Rattle.machine_state.specs.State.{Behaviour}
 use Rattle.nub_wire.specs.Nub.{Host}
 use Rattle.session.proofs.Words.{wire_of, talked}

@@ -1,4 +1,3 @@
-use Rattle.std.proofs.Common.{◌≡◌}
 use Rattle.ps_store.specs.StoreState.{StoreState}
 use Rattle.session.proofs.Pointing.{answered}
 use Rattle.session.proofs.preparing.points_of.Goals as goal

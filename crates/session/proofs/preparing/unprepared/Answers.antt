@@ -1,4 +1,4 @@
-use Rattle.std.proofs.Common.{◌≡◌, refl, Option, Ok, Err}
+use Rattle.std.proofs.Common.{refl, Option, Ok, Err}
 use Rattle.machine_state.specs.State.{Behaviour}
 use Rattle.nub_wire.specs.Nub.{Host}
 use Rattle.abs_mem.specs.WireMeaning.{wire_seen}

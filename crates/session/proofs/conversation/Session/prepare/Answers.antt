@@ -1,4 +1,4 @@
-use Rattle.std.proofs.Common.{rules, ◌≡◌, ◌≢◌, refl, sym, ap, subst, Option, Some, None, Result, Ok, Err, arith}
+use Rattle.std.proofs.Common.{ap, Some, Err}
 use Rattle.machine_state.specs.State.{Behaviour}
 use Rattle.claims.specs.Side.{SessionState}
 use Rattle.c_session.specs.Commands.{ByStep}

@@ -1,11 +1,9 @@
-use Rattle.std.proofs.Common.{rules, ◌≡◌, refl, sym, subst, Option, Some, None, Result, Ok, Err, arith}
+use Rattle.std.proofs.Common.{rules, refl, arith}
 use Rattle.machine_state.specs.State.{Behaviour}
 use Rattle.claims.specs.Side.{SessionState}
-use Rattle.side_meaning.specs.Sessions.{SidesStand}
-use Rattle.session.specs.declared.sides.SideRecord.{SideRecord}
-use Rattle.session.specs.Meant.{Hosts, AreThere, AllSettled, ComesTo, sides_of}
+use Rattle.session.specs.Meant.{Hosts}
 use Rattle.session.proofs.Words.{wire_of}
-use Rattle.session.proofs.Readying.{settle_none, settle_some, talks_one, talks_some, first_failed}
+use Rattle.session.proofs.Readying.{settle_none, settle_some, talks_some, first_failed}
 use Rattle.session.proofs.conversation.Session.settle.Goals as goal
 
 pub returns-in-Err : goal.returns-in-Err
