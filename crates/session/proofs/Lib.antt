@@ -10,3 +10,5 @@ pub mod Starting
 pub mod Leaving
 pub mod Registering
 pub mod Regs
+pub mod Resumed
+pub mod Answering

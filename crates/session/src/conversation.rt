@@ -1,6 +1,6 @@
 // A session.
 
-ghost use Rattle.std.specs.Prelude.{◌≡◌, ◌≢◌, ◌≤◌, ◌⊎◌, ℕ, true, [], ◌∷◌, length, codes, IfOk, IfErr, OnOk, OnErr, Ok, Err, Some, None, Option, false};
+ghost use Rattle.std.specs.Prelude.{◌≡◌, ◌≢◌, ◌≤◌, ◌⊎◌, ℕ, true, [], codes, IfOk, IfErr, OnOk, OnErr, Ok, Err, Some, None, Option, false};
 ghost use Rattle.c_session.specs.declared.command.Command.{Command};
 ghost use Rattle.c_session.specs.declared.command.Command.TheVariants.{Continue, Step, Quit, Turns};
 ghost use Rattle.cmd_lang.specs.Commands.{read_of};
@@ -8,13 +8,10 @@ ghost use Rattle.cmd_lang.specs.Words.{is_empty};
 ghost use Rattle.c_session.specs.Commands.{Refusal, ByContinue, ByStep};
 ghost use Rattle.claims.specs.Outcome.{refused_by_state, all_regs, Begins};
 ghost use Rattle.session.specs.Answered.{state_of, resume_of, refusal_reply, line_reply, limit_reply, Replies, Answers};
-ghost use Rattle.ps_store.specs.StoreState.{StoreState};
-ghost use Rattle.session.specs.Starting.{IsFirst, one_session};
-ghost use Rattle.nub_wire.specs.declared.link.Side.TheVariants.{First};
 ghost use Rattle.session.specs.Counted.{CountsOutput, CountsEnd, IsNoQuit};
 ghost use Rattle.session.specs.Kept.{IsKept, AreKept, KeepsMode, KeepsReply, IsUndone, AnswersFault};
 ghost use Rattle.session.specs.Resuming.{StandsStill, OnSecond, ReadyFor, HasRoomFor, AllBehind, Resumes, event_on, goes_on};
-ghost use Rattle.machine_state.specs.State.{Behaviour, MachineState};
+ghost use Rattle.machine_state.specs.State.{Behaviour};
 ghost use Rattle.nub_wire.specs.Nub.{Host};
 ghost use Rattle.claims.specs.Side.{SessionState};
 ghost use Rattle.session.specs.Meant.{IsThere, ComesTo, Settled, Hosts, AreSteady, AreThere, ResumesAll, NotAll, IsSaid, IsSaidIfAny, Represents, AllPrepared, AllSettled, AnswersAs, MeantAnswers, ResumesAs, IsResumable, MayAlsoRun, sides_of};
@@ -191,9 +188,7 @@ impl<L: Link + Drop> Session<L> {
         input: &[u8],
         raw: bool,
     ) -> Result<Session<L>, StartFault>
-        ensures fresh { IfOk result (λ s. (s.mode ≡ Mode.Fresh) × (s.limit ≡ 10000000) × (s.raw ≡ raw) × (s.broken ≡ codes "target\n")) }
-        ensures one { (b : Behaviour) (m : MachineState) (table : StoreState) → tables.items ≡ table ∷ [] → IsFirst b L.conduct (L.world link) First m None table → length input.now ≤ 16777216
-            → IfOk result (λ s. (hs : Hosts) × Represents b L.conduct (L.world s.talk.memory.below.below.below.link) s.first s.second s.mode s.limit hs (one_session b input.now m table)) }
+        ensures { IfOk result (λ s. (s.mode ≡ Mode.Fresh) × (s.limit ≡ 10000000) × (s.raw ≡ raw) × (s.broken ≡ codes "target\n")) }
     {
         let Ok(broken) = Text::from_slice(alloc, b"target\n") else {
             return Err(StartFault::NoMemory);
@@ -241,8 +236,6 @@ impl<L: Link + Drop> Session<L> {
         ensures asked { (c : Command) → read_of self.old.raw line.now ≡ Some c → c ≢ Continue → c ≢ Step → (out.new ≡ out.old) × KeepsMode self.old.mode self.new.mode self.old.broken result }
         ensures continues { read_of self.old.raw line.now ≡ Some Continue → refused_by_state (state_of self.old.mode) Continue ≡ None → Resumes (out.new ≡ out.old) ByContinue self.old.mode self.new.mode self.old.first self.new.first self.old.second self.new.second self.old.broken result }
         ensures steps { read_of self.old.raw line.now ≡ Some Step → refused_by_state (state_of self.old.mode) Step ≡ None → Resumes (out.new ≡ out.old) ByStep self.old.mode self.new.mode self.old.first self.new.first self.old.second self.new.second self.old.broken result }
-        ensures meant { (b : Behaviour) (hs : Hosts) (st : SessionState) → AreSteady b → Represents b L.conduct (L.world self.old.talk.memory.below.below.below.link) self.old.first self.old.second self.old.mode self.old.limit hs st → is_empty line.now ≡ false → IsSaidIfAny (read_of self.old.raw line.now)
-            → AnswersAs b L.conduct (L.world self.new.talk.memory.below.below.below.link) self.new.first self.new.second self.new.mode self.new.limit st (O.taken out.old) (O.taken out.new) (MeantAnswers b st (read_of self.old.raw line.now)) (L.faults self.old.talk.memory.below.below.below.link) (L.faults self.new.talk.memory.below.below.below.link) result }
         ensures raw { self.new.raw ≡ self.old.raw }
         ensures broken { KeepsReply self.old.broken self.new.broken self.new.mode }
     {
@@ -266,8 +259,6 @@ impl<L: Link + Drop> Session<L> {
         ensures asked { command.now ≢ Continue → command.now ≢ Step → (out.new ≡ out.old) × KeepsMode self.old.mode self.new.mode self.old.broken result }
         ensures continues { command.now ≡ Continue → refused_by_state (state_of self.old.mode) command.now ≡ None → Resumes (out.new ≡ out.old) ByContinue self.old.mode self.new.mode self.old.first self.new.first self.old.second self.new.second self.old.broken result }
         ensures steps { command.now ≡ Step → refused_by_state (state_of self.old.mode) command.now ≡ None → Resumes (out.new ≡ out.old) ByStep self.old.mode self.new.mode self.old.first self.new.first self.old.second self.new.second self.old.broken result }
-        ensures meant { (b : Behaviour) (hs : Hosts) (st : SessionState) → AreSteady b → Represents b L.conduct (L.world self.old.talk.memory.below.below.below.link) self.old.first self.old.second self.old.mode self.old.limit hs st → IsSaid command.now
-            → AnswersAs b L.conduct (L.world self.new.talk.memory.below.below.below.link) self.new.first self.new.second self.new.mode self.new.limit st (O.taken out.old) (O.taken out.new) (MeantAnswers b st (Some command.now)) (L.faults self.old.talk.memory.below.below.below.link) (L.faults self.new.talk.memory.below.below.below.link) result }
         ensures raw { self.new.raw ≡ self.old.raw }
         ensures broken { KeepsReply self.old.broken self.new.broken self.new.mode }
     {
@@ -290,6 +281,7 @@ impl<L: Link + Drop> Session<L> {
         ensures mode { self.new.mode ≡ Mode.Ended }
         ensures limit { self.new.limit ≡ self.old.limit }
         ensures first { self.new.first ≡ self.old.first }
+        ensures talk { self.new.talk ≡ self.old.talk }
         ensures some { result ≡ Answer.Lines self.old.broken }
         ensures raw { self.new.raw ≡ self.old.raw }
         ensures second { self.new.second ≡ self.old.second }
@@ -300,9 +292,11 @@ impl<L: Link + Drop> Session<L> {
 
     /// The answer to a command, by what was said or why nothing was.
     fn reply(&mut self, said: Result<Text, AskFault>) -> Answer
+        ensures ok { IfOk said (λ text. (result ≡ Answer.Lines text) × (self.new.mode ≡ self.old.mode)) }
         ensures fault { IfErr said (λ fault. AnswersFault self.old.broken self.old.mode self.new.mode fault result) }
         ensures limit { self.new.limit ≡ self.old.limit }
         ensures first { self.new.first ≡ self.old.first }
+        ensures talk { self.new.talk ≡ self.old.talk }
         ensures no_memory { result ≡ Answer.NoMemory → IsUndone said × (self.new.mode ≡ self.old.mode) }
         ensures mode { KeepsMode self.old.mode self.new.mode self.old.broken (Ok result) }
         ensures raw { self.new.raw ≡ self.old.raw }

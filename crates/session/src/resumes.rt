@@ -1,6 +1,6 @@
 // A resume of both sides.
 
-ghost use Rattle.std.specs.Prelude.{◌≡◌, IfOk, Option, None, Some, Err};
+ghost use Rattle.std.specs.Prelude.{◌≡◌, IfOk, Option, None, Some};
 ghost use Rattle.ps_store.specs.StoreState.{StoreState};
 ghost use Rattle.claims.specs.Resumes.{keeps, frame_after};
 ghost use Rattle.session.specs.Counted.{CountsOutput};
@@ -8,14 +8,11 @@ ghost use Rattle.session.specs.Events.{event_in, events_in};
 ghost use Rattle.session.specs.Resuming.{Came, IsNoneOr, OneBehind, BothBehind, event_on};
 ghost use Rattle.machine_state.specs.State.{Behaviour, order_of as machine_order};
 ghost use Rattle.nub_wire.specs.Nub.{Host};
-ghost use Rattle.session.specs.Meant.{Hosts, AreSteady, AreThere, ResumesAll, kind_of};
-ghost use Rattle.side_meaning.specs.Sessions.{IfSecond};
+ghost use Rattle.session.specs.Meant.{Hosts, AreSteady, AreThere, MayAlsoRun, ResumesAll, kind_of};
 ghost use Rattle.resuming.specs.Standing.{Stands};
+ghost use Rattle.resuming.specs.Runs.{CountsRun};
 ghost use Rattle.debug_side.specs.Told.{KeepsOrder, MayRun, CameTold, its_event, its_output, host_behind};
-ghost use Rattle.ldb_edge.specs.Count.{Rose};
 ghost use Rattle.session.specs.Turned.{order_of};
-ghost use Rattle.resuming.specs.declared.fault.RunFault.TheVariants.{Talk};
-ghost use Rattle.wire_talk.specs.declared.fault.TalkFault.TheVariants.{LinkFault};
 
 use crate::merging::{frame_after, kept_of, merged};
 use crate::sides::{SideRecord, turn};
@@ -36,7 +33,8 @@ fn resumed<L: Link + Drop, O: Sink>(
     ensures output { CountsOutput (O.faults out.old) (O.faults out.new) result }
     ensures came { IfOk result (λ event. Came event side.old side.new) }
     ensures stay { side.new.row.words_stay ≡ side.old.row.words_stay }
-    ensures failed { result ≡ Err (Talk LinkFault) → Rose (L.faults talk.old.memory.below.below.below.link) (L.faults talk.new.memory.below.below.below.link) }
+    ensures other { side.new ≡ record side.old { row = side.new.row } }
+    ensures cause { CountsRun (L.faults talk.old.memory.below.below.below.link) (L.faults talk.new.memory.below.below.below.link) (O.faults out.old) (O.faults out.new) result }
     ensures told { (b : Behaviour) (h : Host) (beside : Option Host) → Stands b L.conduct side.old.which (L.world talk.old.memory.below.below.below.link) h beside → order_of side.old.machine ≡ machine_order h.machine → KeepsOrder b h.machine → MayRun side.old.row.kept h
         → CameTold b L.conduct side.old.which (its_event b (kind_of side.old) side.old.row limit h) (its_output b (kind_of side.old) side.old.row limit h) (host_behind b (kind_of side.old) side.old.row limit h) beside result (L.world talk.new.memory.below.below.below.link) talk.new.memory.below.below.below.order (O.taken out.old) (O.taken out.new) }
 {
@@ -93,7 +91,7 @@ pub fn resumed_both<L: Link + Drop, O: Sink>(
 ) -> Result<Event, RunFault>
     ensures output { CountsOutput (O.faults out.old) (O.faults out.new) result }
     ensures behind { IfOk result (λ all. BothBehind (event_on first.old all) first.old first.new second.old second.new) }
-    ensures meant { (b : Behaviour) (hs : Hosts) → AreSteady b → AreThere b L.conduct (L.world talk.old.memory.below.below.below.link) first.old (Some second.old) hs → MayRun first.old.row.kept hs.first → IfSecond (MayRun second.old.row.kept) hs.second
+    ensures meant { (b : Behaviour) (hs : Hosts) → AreSteady b → AreThere b L.conduct (L.world talk.old.memory.below.below.below.link) first.old (Some second.old) hs → MayRun first.old.row.kept hs.first → MayAlsoRun (Some second.old) hs.second
         → ResumesAll b L.conduct (L.world talk.new.memory.below.below.below.link) first.old first.new (Some second.old) (Some second.new) hs limit (L.faults talk.old.memory.below.below.below.link) (L.faults talk.new.memory.below.below.below.link) (O.taken out.old) (O.taken out.new) result }
 {
     let event = match resumed(talk, first, limit, out) {

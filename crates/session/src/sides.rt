@@ -3,6 +3,7 @@
 ghost use Rattle.std.specs.Prelude.{◌≡◌, ◌⊎◌};
 ghost use Rattle.machine_state.specs.declared.layout.TheConstants.{MIPS, SPARC};
 ghost use Rattle.session.specs.Turned.{byte_of, order_of, turned};
+ghost use Rattle.session.specs.Meant.{kind_of};
 
 use abs_mem::Wire;
 use debug_side::{MachineKind, SideRow};
@@ -57,7 +58,8 @@ pub struct SideRecord {
 impl SideRecord {
     /// Its machine, as a debugger knows it.
     pub fn kind(&self) -> MachineKind
-        ensures { (result.target ≡ MIPS) ⊎ (result.target ≡ SPARC) }
+        ensures known { (result.target ≡ MIPS) ⊎ (result.target ≡ SPARC) }
+        ensures value { result ≡ kind_of self.now }
     {
         MachineKind {
             target: self.machine.byte(),

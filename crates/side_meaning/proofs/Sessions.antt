@@ -14,7 +14,7 @@ use Rattle.claims.specs.Outcome as session
 use Rattle.side_meaning.specs.Standing.{Debugged, StandsFor, MayResume}
 use Rattle.side_meaning.specs.Resuming.{IsResumed, IsMeant, IsFit}
 use Rattle.side_meaning.specs.Stepping.{StepsAreUndone, StepsAreAgain, IsReady}
-use Rattle.side_meaning.specs.Sessions.{BothSides, OnSecond, IfSecond, ByState, StandsIn, SidesStand, Prepared, PreparedIn, SecondPrepared, second_event, AreResumed, AreFit, ResumesAreAnswered}
+use Rattle.side_meaning.specs.Sessions.{BothSides, OnSecond, IfSecond, ByState, StandsIn, SidesStand, Prepared, PreparedIn, SecondPrepared, second_event, AreResumed, goes_on, AreFit, ResumesAreAnswered}
 use Rattle.side_meaning.proofs.Resuming.{run_side, kept_side}
 use Rattle.side_meaning.proofs.Behind.{resumes}
 use Rattle.side_meaning.proofs.Beginning.{continues, steps_begin, settled_fit, begun_fit}
@@ -134,13 +134,15 @@ module _ (again : StepsAreAgain) (b : Behaviour) (steady : RunsAreSteady b) (how
 
 -- ---- a whole resume
 
-pub record Came (kind : MachineKind) (b : Behaviour) (all : SideEvent) (s s' : BothSides) (st : SessionState) (r : Resumed) : Type 0 where
+pub record Came (kind : MachineKind) (b : Behaviour) (how : Resume) (all : SideEvent) (s s' : BothSides) (st : SessionState) (r : Resumed) : Type 0 where
   pub lines : r.lines ≡ event_text all ∷ []
   pub sides : SidesStand s' r.session
+  pub state : r.session.state ≡ state_after how all
+  pub limit : r.session.limit ≡ st.limit
   pub written : r.session.written ≡ st.written ++ its_output b kind s.first.row st.limit s.first.host
 
 module _ (again : StepsAreAgain) (b : Behaviour) (steady : RunsAreSteady b) (kind other : MachineKind) (how : Resume) (all : SideEvent) (s s' : BothSides) where
-  came : (st : SessionState) → AreFit kind other s → MayGo s.first st.first → OnSecond MayGo s.second st.second → AreResumed b kind other st.limit all s s' → Came kind b all s s' st (resumed b how st)
+  came : (st : SessionState) → AreFit kind other s → MayGo s.first st.first → OnSecond MayGo s.second st.second → AreResumed b kind other st.limit all s s' → Came kind b how all s s' st (resumed b how st)
   came st fit first second g =
       let n : ℕ = st.limit in
       let w : SideRun = resume_side b n st.first in
@@ -149,13 +151,15 @@ module _ (again : StepsAreAgain) (b : Behaviour) (steady : RunsAreSteady b) (kin
       let merges : all ≡ merged w.event (event_if o) =
       g.merges ∙ (ap (λ (x : SideEvent). merged x (second_event b other n s.second)) m.event ∙ ap (merged w.event) (second_meets again b steady how n all other s.second s'.second st.second fit.1 second g.second)) in
       let is : resumed b how st ≡ made how st w o all = resumed_is b how st ∙ ap (made how st w o) (sym merges) in
-      subst (Came kind b all s s' st) (sym is)
+      subst (Came kind b how all s s' st) (sym is)
       (record {
         lines = refl;
         sides = record {
           first = side_behind again b steady how n all kind s.first s'.first st.first m (λ h. no_turns_first w.event (event_if o) (subst IsStop merges h));
           second = second_behind again b steady how n all other s.second s'.second st.second w.event fit.1 second g.second merges;
         };
+        state = refl;
+        limit = refl;
         written = ap (λ (l : List ℕ). st.written ++ l) (sym m.output);
       })
 
@@ -205,6 +209,8 @@ module _ (again : StepsAreAgain) (b : Behaviour) (steady : RunsAreSteady b) (kin
     pub next : SessionState
     pub begins : session.Begins b how st (event_text all ∷ []) next
     pub sides : SidesStand s' next
+    pub state : next.state ≡ state_after how all
+    pub limit : next.limit ≡ st.limit
     pub written : next.written ≡ st.written ++ its_output b kind s.first.row st.limit s.first.host
 
   begun_one : st.second ≡ None → OnSecond MayGo s.second None → Begun
@@ -220,6 +226,8 @@ module _ (again : StepsAreAgain) (b : Behaviour) (steady : RunsAreSteady b) (kin
           subst (λ (o : Option SideState). session.FirstPrepared b how st (Ok ready.result) ready.side o (event_text all ∷ []) (resumed b how now).session) (sym e) (sym c.lines, refl),
         );
         sides = c.sides;
+        state = c.state;
+        limit = c.limit;
         written = c.written;
       }
 
@@ -237,6 +245,8 @@ module _ (again : StepsAreAgain) (b : Behaviour) (steady : RunsAreSteady b) (kin
               (Ok second.result, second.side, second.prepares, (sym c.lines, refl)),
         );
         sides = c.sides;
+        state = c.state;
+        limit = c.limit;
         written = c.written;
       }
 
@@ -257,6 +267,8 @@ module _ (undone : StepsAreUndone) (again : StepsAreAgain) (b : Behaviour) (kind
     pub next : SessionState
     pub answers : session.Resumes b how st state (event_text all ∷ []) next
     pub sides : SidesStand s'' next
+    pub state_is : next.state ≡ state_after (goes_on state how) all
+    pub limit : next.limit ≡ st.limit
     pub written : next.written ≡ st.written ++ its_output b kind s'.first.row st.limit s'.first.host
 
   module _ (state : State) (to : (d d' : Debugged) (a : SideState) → PreparedIn state how d d' a → Prepared how d d' a) (still : (d : Debugged) (a : SideState) → StandsIn state d a → Still d a)
@@ -281,18 +293,18 @@ module _ (undone : StepsAreUndone) (again : StepsAreAgain) (b : Behaviour) (kind
   answered : (state : State) → StandsIn state s.first st.first → OnSecond (StandsIn state) s.second st.second → PreparedIn state how s.first s'.first st.first → SecondPrepared state how s.second s'.second st.second → Answered state
   answered Fresh first second one two =
       let r = begun_in Fresh (λ d d' a h. h) (λ d a h. record { stands = h.stands; none = h.words }) first second one two in
-      record { next = r.next; answers = r.begins; sides = r.sides; written = r.written }
+      record { next = r.next; answers = r.begins; sides = r.sides; state_is = r.state; limit = r.limit; written = r.written }
   answered Stopped first second one two =
       let r = begun_in Stopped (λ d d' a h. h) (λ d a h. record { stands = h.stands; none = h.words }) first second one two in
-      record { next = r.next; answers = r.begins; sides = r.sides; written = r.written }
+      record { next = r.next; answers = r.begins; sides = r.sides; state_is = r.state; limit = r.limit; written = r.written }
   answered (Running began) first second one two =
       let go : MayGo s'.first st.first = subst (λ (z : Debugged). MayGo z st.first) (sym one) (record { stands = first.stands; may = first.words }) in
       let more = going began s.second s'.second st.second fit.1 second two in
       let c = came again b steady kind other began all s' s'' st (subst (IsFit kind) (sym one) fit.0, more.1) go more.0 g in
-      record { next = (resumed b began st).session; answers = inl (sym c.lines, refl); sides = c.sides; written = c.written }
+      record { next = (resumed b began st).session; answers = inl (sym c.lines, refl); sides = c.sides; state_is = c.state; limit = c.limit; written = c.written }
   answered Ended first second one two = absurd one
 
 pub resumes_answered : StepsAreUndone → StepsAreAgain → ResumesAreAnswered
 resumes_answered undone again b kind other how all s s' s'' st steady fit sides ready g =
     let r = answered undone again b kind other how all s s' s'' st steady fit g st.state sides.first sides.second ready.first ready.second in
-    (r.next, record { answers = r.answers; sides = r.sides; written = r.written })
+    (r.next, record { answers = r.answers; sides = r.sides; state = r.state_is; limit = r.limit; written = r.written })

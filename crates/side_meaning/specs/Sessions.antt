@@ -9,7 +9,7 @@ use Rattle.dialect_model.specs.TableUse.{TableUse}
 use Rattle.c_session.specs.Commands.{Resume, ByStep, ByContinue}
 use Rattle.claims.specs.Side.{SideEvent, SideState, SessionState, State, Fresh, Stopped, Running, Ended, first_side}
 use Rattle.claims.specs.Lines.{event_text}
-use Rattle.claims.specs.Resumes.{merged}
+use Rattle.claims.specs.Resumes.{merged, state_after}
 use Rattle.claims.specs.Outcome as session
 use Rattle.side_meaning.specs.Standing.{Debugged, event_in, no_objects, StandsFor, MayResume}
 use Rattle.side_meaning.specs.Resuming.{event_of_it, IsResumed, IsFit}
@@ -81,10 +81,19 @@ pub record AreResumed (b : Behaviour) (kind other : MachineKind) (limit : ℕ) (
   pub first : IsResumed b kind limit all s.first s'.first
   pub second : OnSecond (IsResumed b other limit all) s.second s'.second
 
+-- an interrupted resume goes on under the command that began it
+abbrev pub goes_on : State → Resume → Resume
+goes_on (Running began) how = began
+goes_on Fresh how = how
+goes_on Stopped how = how
+goes_on Ended how = how
+
 -- the machine session answers the event's line, its sides are those of this session again, and this output was put
 pub record IsAnswered (b : Behaviour) (how : Resume) (all : SideEvent) (output : List ℕ) (s : BothSides) (st st' : SessionState) : Type 0 where
   pub answers : session.Resumes b how st st.state (event_text all ∷ []) st'
   pub sides : SidesStand s st'
+  pub state : st'.state ≡ state_after (goes_on st.state how) all
+  pub limit : st'.limit ≡ st.limit
   pub written : st'.written ≡ st.written ++ output
 
 abbrev pub AreFit : (kind other : MachineKind) → BothSides → Type 0

@@ -1,11 +1,12 @@
-use Rattle.std.proofs.Common.{rules, ◌≡◌, Ok, inl, inr, ap, subst, sym, refl, ◌∙◌}
+use Rattle.std.proofs.Common.{rules, ◌≡◌, ℕ, Ok, inl, inr, ap, subst, sym, refl, ◌∙◌}
+use Rattle.ldb_edge.specs.Count.{Rose}
 use Rattle.claims.specs.Resumes.{state_after}
 use Rattle.session.specs.declared.answers.Answer.TheVariants.{Lines}
 use Rattle.session.specs.Answered.{state_of, resume_of}
-use Rattle.session.specs.Events.{event_in, event_line}
-use Rattle.session.specs.Rooms.{IsEmptyFor, event_room}
+use Rattle.session.specs.Meant.{ResumesAs}
 use Rattle.session.specs.Resuming.{goes_on, event_on}
-use Rattle.session.proofs.Telling.{room_for_all, same_table, faulted}
+use Rattle.session.proofs.Telling.{told_line, faulted}
+use Rattle.session.proofs.Answering.{troubled, left_so, may_run, may_also_run, ran, rose_from, run_failed, broken_off}
 use Rattle.session.proofs.conversation.Session.resume.Goals as goal
 
 pub returns-in-Err-clause-resumes : goal.returns-in-Err-clause-resumes
@@ -15,25 +16,78 @@ returns-in-Err-clause-resumes g c =
       | inr h ↦ inr (h.0, inl (ap (λ a. Ok a) h.1 ∙ ap (λ t. Ok (Lines t)) c.in-Err.ensures.broken))
     ])
 
+pub returns-in-Err-clause-meant : goal.returns-in-Err-clause-meant
+returns-in-Err-clause-meant g c = λ b hs st steady x may.
+    let now = c.args.self.now in
+    let ready = c.ready.new.self in
+    let Says = ResumesAs b (resume_of c.args.how) st in
+    let world = g.L.Link.world ready.talk.memory.below.below.below.link in
+    let state = x.state ∙ ap (λ m. state_of m) (sym c.in-Err.ensures.mode) in
+    let reply = c.reply.new.self in
+    let out = g.O.Sink.taken c.args.out.now in
+    let faults = g.L.Link.faults now.talk.memory.below.below.below.link in
+    let later = g.L.Link.faults ready.talk.memory.below.below.below.link in
+    let t = troubled b g.L.Link.conduct world ready.first ready.second now.limit st Says out out refl x.limit_is {A = ℕ} (λ n. ⊥) c.in-Err.fault ready.broken ready.mode reply.mode faults later c.reply.result state (c.in-Err.ensures.meant b hs st x may) c.reply.ensures.fault in
+    left_so b g.L.Link.conduct reply.mode st out out Says faults (Ok c.reply.result) world (g.L.Link.world reply.talk.memory.below.below.below.link) ready.first reply.first ready.second reply.second now.limit reply.limit later (g.L.Link.faults reply.talk.memory.below.below.below.link)
+    (ap (λ o. g.L.Link.world o.memory.below.below.below.link) c.reply.ensures.talk) c.reply.ensures.first c.reply.ensures.second (c.reply.ensures.limit ∙ c.in-Err.ensures.limit)
+    (ap (λ o. g.L.Link.faults o.memory.below.below.below.link) c.reply.ensures.talk) t
+
 pub returns-in-Ok-run-clause-resumes : goal.returns-in-Ok-run-clause-resumes
 returns-in-Ok-run-clause-resumes g c =
-    let before = c.ready.new.self.first in
-    let after = c.run.new.self.first in
+    let before = c.ready.new.self in
+    let after = c.run.new.self in
     let event = c.in-Ok-run.event in
-    let all = event_on before event in
+    let all = event_on before.first event in
     let behind = c.in-Ok-run.ensures.behind in
-    let table = same_table all before after c.ready.new.self.second c.run.new.self.second behind in
-    let room = room_for_all all before after c.ready.new.self.second c.run.new.self.second c.in-Ok.line behind c.in-Ok.ensures.room in
-    let same : event_in after.inquiry.core.store event ≡ all = ap (λ i. event_in i.core.store event) table in
-    let told = c.event_reply.ensures (subst (λ e. IsEmptyFor (event_room e) c.in-Ok.line) (sym same) room) ∙ ap (λ e. event_line e) same in
     let mode = c.in-Ok-run.ensures.mode ∙ c.in-Ok.ensures.mode in
     let how = c.began.ensures ∙ ap (λ m. goes_on (state_of m) (resume_of c.args.how)) mode in
     inl (record {
-      first = before;
-      second = c.ready.new.self.second;
+      first = before.first;
+      second = before.second;
       ready = c.in-Ok.ensures.ready;
       all = all;
       behind = behind;
-      line = ap (λ t. Ok (Lines t)) told;
-      state = c.mode_after-self.ensures before.inquiry.core.store ∙ ap (λ r. state_after r all) how;
+      line = ap (λ t. Ok (Lines t)) (told_line event before.first after.first before.second after.second c.in-Ok.line _ behind c.in-Ok.ensures.room c.event_reply.ensures);
+      state = c.mode_after-self.ensures before.first.inquiry.core.store ∙ ap (λ r. state_after r all) how;
     })
+
+pub returns-in-Ok-run-clause-meant : goal.returns-in-Ok-run-clause-meant
+returns-in-Ok-run-clause-meant g c = λ b hs st steady x may.
+    let now = c.args.self.now in
+    let before = c.ready.new.self in
+    let after = c.run.new.self in
+    let event = c.in-Ok-run.event in
+    let all = event_on before.first event in
+    let mode = c.in-Ok-run.ensures.mode ∙ c.in-Ok.ensures.mode in
+    let how = c.began.ensures ∙ ap (λ m. goes_on (state_of m) (resume_of c.args.how)) mode in
+    let o = g.L.Link.world now.talk.memory.below.below.below.link in
+    let o1 = g.L.Link.world before.talk.memory.below.below.below.link in
+    let o2 = g.L.Link.world after.talk.memory.below.below.below.link in
+    let p = c.in-Ok.ensures.meant b hs st x may in
+    let still = c.in-Ok.ensures.still in
+    let m = may_run b g.L.Link.conduct steady (resume_of c.args.how) o o1 o2 now.first before.first after.first now.second before.second after.second now.mode now.limit hs st x p still.0 in
+    let n = may_also_run b g.L.Link.conduct steady (resume_of c.args.how) o o1 o2 now.first before.first after.first now.second before.second after.second now.mode now.limit hs st x p still.1 in
+    inr (ran b g.L.Link.conduct steady (resume_of c.args.how) o o1 o2 now.first before.first after.first now.second before.second after.second now.mode now.limit hs st x p all _ _ before.limit after.limit _ _ _ _ c.in-Ok.ensures.limit c.in-Ok-run.ensures.limit
+    (c.in-Ok-run.ensures.meant b p.hosts steady p.there m n)
+    (told_line event before.first after.first before.second after.second c.in-Ok.line _ c.in-Ok-run.ensures.behind c.in-Ok.ensures.room c.event_reply.ensures)
+    (c.mode_after-self.ensures before.first.inquiry.core.store ∙ ap (λ r. state_after r all) how))
+
+pub returns-clause-meant : goal.returns-clause-meant
+returns-clause-meant g c = λ b hs st steady x may.
+    let now = c.args.self.now in
+    let before = c.ready.new.self in
+    let after = c.run.new.self in
+    let last = c.break_off.new.self in
+    let o = g.L.Link.world now.talk.memory.below.below.below.link in
+    let o1 = g.L.Link.world before.talk.memory.below.below.below.link in
+    let o2 = g.L.Link.world after.talk.memory.below.below.below.link in
+    let f = g.L.Link.faults now.talk.memory.below.below.below.link in
+    let f1 = g.L.Link.faults before.talk.memory.below.below.below.link in
+    let f2 = g.L.Link.faults after.talk.memory.below.below.below.link in
+    let p = c.in-Ok.ensures.meant b hs st x may in
+    let still = c.in-Ok.ensures.still in
+    let m = may_run b g.L.Link.conduct steady (resume_of c.args.how) o o1 o2 now.first before.first after.first now.second before.second after.second now.mode now.limit hs st x p still.0 in
+    let n = may_also_run b g.L.Link.conduct steady (resume_of c.args.how) o o1 o2 now.first before.first after.first now.second before.second after.second now.mode now.limit hs st x p still.1 in
+    let rose = run_failed b g.L.Link.conduct o2 before.first after.first before.second after.second p.hosts before.limit f1 f2 (g.O.Sink.taken c.args.out.now) (g.O.Sink.taken c.run.new.out) c.in-Err-Talk.field-0 c.in-Err-Talk.field-0-0 c.in-Err-Talk.field-0-is (c.in-Err-Talk.ensures.meant b p.hosts steady p.there m n) in
+    broken_off b g.L.Link.conduct (g.L.Link.world last.talk.memory.below.below.below.link) last.first last.second last.mode last.limit st (g.O.Sink.taken c.args.out.now) (g.O.Sink.taken c.run.new.out) (ResumesAs b (resume_of c.args.how) st) f (g.L.Link.faults last.talk.memory.below.below.below.link) c.break_off.result after.broken c.break_off.ensures.some
+    (subst (λ v. Rose f v) (ap (λ t. g.L.Link.faults t.memory.below.below.below.link) (sym c.break_off.ensures.talk)) (rose_from f f1 f2 c.in-Ok.ensures.faults rose))
