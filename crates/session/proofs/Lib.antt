@@ -12,3 +12,4 @@ pub mod Registering
 pub mod Regs
 pub mod Resumed
 pub mod Answering
+pub mod AskingOne

@@ -37,8 +37,11 @@ use Rattle.session.specs.declared.sides.Machine.{Machine}
 use Rattle.session.specs.declared.sides.Machine.TheVariants as machine
 use Rattle.session.specs.declared.sides.SideRecord.{SideRecord}
 use Rattle.session.specs.Turned.{byte_of, order_of}
-use Rattle.session.specs.Meant.{debugged}
-use Rattle.session.specs.Starting.{target_in, given_to, begun_host, IsFirst, IsBegun, StartsAs}
+use Rattle.side_meaning.proofs.Starting.{begin}
+use Rattle.nub_wire.specs.declared.link.Side.TheVariants.{First}
+use Rattle.session.specs.declared.modes.Mode.TheVariants.{Fresh}
+use Rattle.session.specs.Meant.{debugged, Represents}
+use Rattle.session.specs.Starting.{target_in, given_to, begun_host, IsFirst, IsBegun, StartsAs, one_session}
 
 beside_kept : (side : Side) (w w' : World) (x : Option Host) (o : Option LinkSide) → o ≡ side_of (other side) w → KeepsOther side w w' → IsBeside o x → IsBeside (side_of (other side) w') x
 beside_kept side w w' None o e k h = tt
@@ -186,3 +189,14 @@ side_begun b c o o' r input m beside table f room x context known store frame br
   where
     given_fits : (g n : ℕ) → g ≡ 0 → n ≤ 16777216 → nat_le (g + n) (2 ^ 24) ≡ true
     given_fits g n e h = grind (arith, nat_tests)
+
+-- one side that is begun represents the machine session of it
+pub one_begun : (b : Behaviour) (c : Conduct) (o : Option World) (r : SideRecord) (second : Option SideRecord) (input : List ℕ) (m : MachineState) (table : StoreState) → r.which ≡ First → second ≡ None → IsBegun b c o r input m None table
+    → Represents b c o r second Fresh 10000000 (record { first = begun_host b input m; second = None }) (one_session b input m table)
+one_begun b c o r None input m table which none g = record {
+  there = record { first_is = which; first_there = g.there; second_there = tt };
+  sides = record { first = begin b input (debugged r (begun_host b input m)) (record table { part = Command }) m g.new; second = tt };
+  state = refl;
+  limit_is = refl;
+}
+one_begun b c o r (Some other) input m table which none g = cc

@@ -193,22 +193,31 @@ IsPlain command.Frames = Unit {0}
 IsPlain (command.Frame n) = Unit {0}
 IsPlain c = ⊥
 
+-- of a command that is asked of two sides nothing is said
+abbrev pub IsPlainFor : Option SideRecord → Command → Type 0
+IsPlainFor None c = IsPlain c
+IsPlainFor (Some side) c = ⊥
+
 -- one that is asked, `regs` too
-abbrev pub IsAskable : Command → Type 0
-IsAskable command.Regs = Unit {0}
-IsAskable c = IsPlain c
+abbrev pub IsAskable : Command → Option SideRecord → Type 0
+IsAskable command.Regs second = Unit {0}
+IsAskable (command.Break spot) second = IsPlainFor second (command.Break spot)
+IsAskable (command.Clear spot) second = IsPlainFor second (command.Clear spot)
+IsAskable command.Frames second = IsPlainFor second command.Frames
+IsAskable (command.Frame n) second = IsPlainFor second (command.Frame n)
+IsAskable c second = ⊥
 
 -- one of which is said what it means: not `print`, `eval`, `assign`, `code` and `ps`
-abbrev pub IsSaid : Command → Type 0
-IsSaid command.Continue = Unit {0}
-IsSaid command.Step = Unit {0}
-IsSaid (command.Turns n) = Unit {0}
-IsSaid command.Quit = Unit {0}
-IsSaid c = IsAskable c
+abbrev pub IsSaid : Command → Option SideRecord → Type 0
+IsSaid command.Continue second = Unit {0}
+IsSaid command.Step second = Unit {0}
+IsSaid (command.Turns n) second = Unit {0}
+IsSaid command.Quit second = Unit {0}
+IsSaid c second = IsAskable c second
 
-abbrev pub IsSaidIfAny : Option Command → Type 0
-IsSaidIfAny None = Unit {0}
-IsSaidIfAny (Some c) = IsSaid c
+abbrev pub IsSaidIfAny : Option Command → Option SideRecord → Type 0
+IsSaidIfAny None second = Unit {0}
+IsSaidIfAny (Some c) second = IsSaid c second
 
 module _ (b : Behaviour) (c : Conduct) (o : Option World) (side side' : SideRecord) (h : Host) (beside : Option Host) (now : Command) (a : SideState) where
   -- it came to a result, and changed both sides alike

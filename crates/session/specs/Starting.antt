@@ -1,5 +1,5 @@
 -- How a session begins: what is known of the nubs and the tables before it, and what it has then.
-use Rattle.std.specs.Prelude.{◌≡◌, ℕ, List, codes, bytes_eq, if◌then◌else◌, Option, Result, Ok, Err}
+use Rattle.std.specs.Prelude.{◌≡◌, ℕ, List, codes, bytes_eq, if◌then◌else◌, Option, None, Result, Ok, Err}
 use Rattle.ldb_edge.specs.Count.{Rose}
 use Rattle.machine_state.specs.declared.layout.TheConstants.{MIPS, SPARC}
 use Rattle.machine_state.specs.State.{MachineState, Behaviour, given_input, with_input}
@@ -13,6 +13,7 @@ use Rattle.ps_store.specs.StoreState.{StoreState}
 use Rattle.ps_store.specs.Store.{bytes_of}
 use Rattle.ps_step.specs.Results.{◌>>=◌}
 use Rattle.table_model.specs.Reading.{Walked, top_of, string_at}
+use Rattle.claims.specs.Side.{SessionState, first_side, first_session}
 use Rattle.side_meaning.specs.Standing.{no_objects}
 use Rattle.side_meaning.specs.Sessions.{IsNew}
 use Rattle.session.specs.declared.answers.StartFault.{StartFault}
@@ -56,3 +57,7 @@ abbrev pub StartsAs : {A : Type 0} → (faults faults' : ℕ) → (A → Type 0)
 StartsAs faults faults' Done (Ok x) = Done x
 StartsAs faults faults' Done (Err NoMemory) = Unit {0}
 StartsAs faults faults' Done (Err Target) = Rose faults faults'
+
+-- the machine session of one side at its start
+abbrev pub one_session : Behaviour → (input : List ℕ) → MachineState → StoreState → SessionState
+one_session b input m table = first_session (first_side b input table m) None

@@ -1,20 +1,23 @@
 // A session.
 
-ghost use Rattle.std.specs.Prelude.{◌≡◌, ◌≢◌, ◌≤◌, ◌⊎◌, ℕ, true, [], codes, IfOk, IfErr, OnOk, OnErr, Ok, Err, Some, None, Option, false};
+ghost use Rattle.std.specs.Prelude.{◌≡◌, ◌≢◌, ◌≤◌, ◌⊎◌, ℕ, true, [], ◌∷◌, length, codes, IfOk, IfErr, OnOk, OnErr, Ok, Err, Some, None, Option, false};
 ghost use Rattle.c_session.specs.declared.command.Command.{Command};
 ghost use Rattle.c_session.specs.declared.command.Command.TheVariants.{Continue, Step, Quit, Turns};
 ghost use Rattle.cmd_lang.specs.Commands.{read_of};
 ghost use Rattle.cmd_lang.specs.Words.{is_empty};
 ghost use Rattle.c_session.specs.Commands.{Refusal, ByContinue, ByStep};
-ghost use Rattle.claims.specs.Outcome.{refused_by_state, all_regs, Begins};
+ghost use Rattle.claims.specs.Outcome.{refused_by_state, all_regs, Begins, DoneOnBoth, AnswersCommand};
 ghost use Rattle.session.specs.Answered.{state_of, resume_of, refusal_reply, line_reply, limit_reply, Replies, Answers};
 ghost use Rattle.session.specs.Counted.{CountsOutput, CountsEnd, IsNoQuit};
 ghost use Rattle.session.specs.Kept.{IsKept, AreKept, KeepsMode, KeepsReply, IsUndone, AnswersFault};
 ghost use Rattle.session.specs.Resuming.{StandsStill, OnSecond, ReadyFor, HasRoomFor, AllBehind, Resumes, event_on, goes_on};
-ghost use Rattle.machine_state.specs.State.{Behaviour};
+ghost use Rattle.machine_state.specs.State.{Behaviour, MachineState};
+ghost use Rattle.nub_wire.specs.declared.link.Side.TheVariants.{First};
+ghost use Rattle.ps_store.specs.StoreState.{StoreState};
+ghost use Rattle.session.specs.Starting.{IsFirst, one_session};
 ghost use Rattle.nub_wire.specs.Nub.{Host};
 ghost use Rattle.claims.specs.Side.{SessionState};
-ghost use Rattle.session.specs.Meant.{IsThere, ComesTo, Settled, Hosts, AreSteady, AreThere, ResumesAll, NotAll, IsSaid, IsSaidIfAny, Represents, AllPrepared, AllSettled, AnswersAs, MeantAnswers, ResumesAs, IsResumable, MayAlsoRun, sides_of};
+ghost use Rattle.session.specs.Meant.{IsThere, ComesTo, Settled, Hosts, AreSteady, AreThere, ResumesAll, SaidAll, NotAll, IsPlainFor, IsAskable, IsSaid, IsSaidIfAny, AreReadyFor, Represents, AllPrepared, AllSettled, AnswersAs, MeantAnswers, ResumesAs, IsResumable, MayAlsoRun, sides_of};
 ghost use Rattle.side_meaning.specs.Sessions.{SidesStand, IsStill};
 ghost use Rattle.debug_side.specs.Told.{MayRun};
 ghost use Rattle.debug_side.specs.Planting.{mem_fault};
@@ -188,7 +191,9 @@ impl<L: Link + Drop> Session<L> {
         input: &[u8],
         raw: bool,
     ) -> Result<Session<L>, StartFault>
-        ensures { IfOk result (λ s. (s.mode ≡ Mode.Fresh) × (s.limit ≡ 10000000) × (s.raw ≡ raw) × (s.broken ≡ codes "target\n")) }
+        ensures fresh { IfOk result (λ s. (s.mode ≡ Mode.Fresh) × (s.limit ≡ 10000000) × (s.raw ≡ raw) × (s.broken ≡ codes "target\n")) }
+        ensures one { (b : Behaviour) (m : MachineState) (table : StoreState) → tables.items ≡ table ∷ [] → IsFirst b L.conduct (L.world link) First m None table → length input.now ≤ 16777216
+            → IfOk result (λ s. (hs : Hosts) × Represents b L.conduct (L.world s.talk.memory.below.below.below.link) s.first s.second s.mode s.limit hs (one_session b input.now m table)) }
     {
         let Ok(broken) = Text::from_slice(alloc, b"target\n") else {
             return Err(StartFault::NoMemory);
@@ -236,6 +241,8 @@ impl<L: Link + Drop> Session<L> {
         ensures asked { (c : Command) → read_of self.old.raw line.now ≡ Some c → c ≢ Continue → c ≢ Step → (out.new ≡ out.old) × KeepsMode self.old.mode self.new.mode self.old.broken result }
         ensures continues { read_of self.old.raw line.now ≡ Some Continue → refused_by_state (state_of self.old.mode) Continue ≡ None → Resumes (out.new ≡ out.old) ByContinue self.old.mode self.new.mode self.old.first self.new.first self.old.second self.new.second self.old.broken result }
         ensures steps { read_of self.old.raw line.now ≡ Some Step → refused_by_state (state_of self.old.mode) Step ≡ None → Resumes (out.new ≡ out.old) ByStep self.old.mode self.new.mode self.old.first self.new.first self.old.second self.new.second self.old.broken result }
+        ensures meant { (b : Behaviour) (hs : Hosts) (st : SessionState) → AreSteady b → Represents b L.conduct (L.world self.old.talk.memory.below.below.below.link) self.old.first self.old.second self.old.mode self.old.limit hs st → is_empty line.now ≡ false → IsSaidIfAny (read_of self.old.raw line.now) self.old.second
+            → AnswersAs b L.conduct (L.world self.new.talk.memory.below.below.below.link) self.new.first self.new.second self.new.mode self.new.limit st (O.taken out.old) (O.taken out.new) (MeantAnswers b st (read_of self.old.raw line.now)) (L.faults self.old.talk.memory.below.below.below.link) (L.faults self.new.talk.memory.below.below.below.link) result }
         ensures raw { self.new.raw ≡ self.old.raw }
         ensures broken { KeepsReply self.old.broken self.new.broken self.new.mode }
     {
@@ -259,6 +266,8 @@ impl<L: Link + Drop> Session<L> {
         ensures asked { command.now ≢ Continue → command.now ≢ Step → (out.new ≡ out.old) × KeepsMode self.old.mode self.new.mode self.old.broken result }
         ensures continues { command.now ≡ Continue → refused_by_state (state_of self.old.mode) command.now ≡ None → Resumes (out.new ≡ out.old) ByContinue self.old.mode self.new.mode self.old.first self.new.first self.old.second self.new.second self.old.broken result }
         ensures steps { command.now ≡ Step → refused_by_state (state_of self.old.mode) command.now ≡ None → Resumes (out.new ≡ out.old) ByStep self.old.mode self.new.mode self.old.first self.new.first self.old.second self.new.second self.old.broken result }
+        ensures meant { (b : Behaviour) (hs : Hosts) (st : SessionState) → AreSteady b → Represents b L.conduct (L.world self.old.talk.memory.below.below.below.link) self.old.first self.old.second self.old.mode self.old.limit hs st → IsSaid command.now self.old.second → command.now ≢ Quit
+            → AnswersAs b L.conduct (L.world self.new.talk.memory.below.below.below.link) self.new.first self.new.second self.new.mode self.new.limit st (O.taken out.old) (O.taken out.new) (MeantAnswers b st (Some command.now)) (L.faults self.old.talk.memory.below.below.below.link) (L.faults self.new.talk.memory.below.below.below.link) result }
         ensures raw { self.new.raw ≡ self.old.raw }
         ensures broken { KeepsReply self.old.broken self.new.broken self.new.mode }
     {
@@ -348,6 +357,8 @@ impl<L: Link + Drop> Session<L> {
         ensures mode { self.new.mode ≡ self.old.mode }
         ensures limit { self.new.limit ≡ self.old.limit }
         ensures kept { IsUndone result → IsKept self.old.first self.new.first × AreKept self.old.second self.new.second }
+        ensures meant { (b : Behaviour) (hs : Hosts) (st : SessionState) → AreThere b L.conduct (L.world self.old.talk.memory.below.below.below.link) self.old.first self.old.second hs → AreReadyFor self.old.first self.old.second hs st → IsPlainFor self.old.second command.now
+            → ComesTo (L.faults self.old.talk.memory.below.below.below.link) (L.faults self.new.talk.memory.below.below.below.link) (λ text. SaidAll b L.conduct (L.world self.new.talk.memory.below.below.below.link) self.new.first self.new.second st (DoneOnBoth st command.now) text) (NotAll b L.conduct (L.world self.new.talk.memory.below.below.below.link) self.new.first self.new.second st (DoneOnBoth st command.now)) result }
         ensures raw { self.new.raw ≡ self.old.raw }
         ensures broken { self.new.broken ≡ self.old.broken }
     {
@@ -376,6 +387,8 @@ impl<L: Link + Drop> Session<L> {
         ensures mode { self.new.mode ≡ self.old.mode }
         ensures limit { self.new.limit ≡ self.old.limit }
         ensures kept { IsUndone result → IsKept self.old.first self.new.first × AreKept self.old.second self.new.second }
+        ensures meant { (b : Behaviour) (hs : Hosts) (st : SessionState) → Represents b L.conduct (L.world self.old.talk.memory.below.below.below.link) self.old.first self.old.second self.old.mode self.old.limit hs st → refused_by_state st.state command.now ≡ None → IsAskable command.now self.old.second
+            → ComesTo (L.faults self.old.talk.memory.below.below.below.link) (L.faults self.new.talk.memory.below.below.below.link) (λ text. SaidAll b L.conduct (L.world self.new.talk.memory.below.below.below.link) self.new.first self.new.second st (AnswersCommand b st command.now) text) (NotAll b L.conduct (L.world self.new.talk.memory.below.below.below.link) self.new.first self.new.second st (AnswersCommand b st command.now)) result }
         ensures raw { self.new.raw ≡ self.old.raw }
         ensures broken { self.new.broken ≡ self.old.broken }
     {

@@ -1,7 +1,14 @@
-use Rattle.std.proofs.Common.{rules, ◌≡◌, ◌∙◌, ap, sym}
-use Rattle.c_session.specs.declared.command.Command.TheVariants.{Continue, Step}
+use Rattle.std.proofs.Common.{rules, ◌≡◌, ◌≢◌, ◌∙◌, ap, sym, subst, refl, inl, [], ◌∷◌, Bool, if◌then◌else◌, Option, Some, None, Ok}
+use Rattle.machine_state.specs.State.{Behaviour}
+use Rattle.c_session.specs.declared.command.Command.{Command}
+use Rattle.c_session.specs.Commands.{BadLine, refusal_text}
+use Rattle.cmd_lang.specs.Commands.{read_of}
+use Rattle.claims.specs.Side.{SessionState}
+use Rattle.c_session.specs.declared.command.Command.TheVariants.{Continue, Step, Quit}
 use Rattle.claims.specs.Outcome.{refused_by_state}
-use Rattle.session.specs.Answered.{state_of}
+use Rattle.session.specs.Answered.{state_of, refusal_reply, Replies}
+use Rattle.session.specs.Meant.{Hosts, AnswersAs, MeantAnswers, IsSaidIfAny}
+use Rattle.session.proofs.Answering.{refuses}
 use Rattle.session.proofs.conversation.Session.command.Goals as goal
 
 pub returns-in-Ok : goal.returns-in-Ok
@@ -19,6 +26,24 @@ returns-in-Ok g c = record {
   asked = λ d h n m. (let same : c.in-Ok.command ≡ d = cc (c.in-Ok.ensures.ok, h) in c.obey.ensures.asked (λ e. n (sym same ∙ e)) (λ e. m (sym same ∙ e)));
   continues = λ h n. (let same : c.in-Ok.command ≡ Continue = cc (c.in-Ok.ensures.ok, h) in c.obey.ensures.continues same (ap (λ d. refused_by_state (state_of c.args.self.now.mode) d) same ∙ n));
   steps = λ h n. (let same : c.in-Ok.command ≡ Step = cc (c.in-Ok.ensures.ok, h) in c.obey.ensures.steps same (ap (λ d. refused_by_state (state_of c.args.self.now.mode) d) same ∙ n));
+  meant = λ (b : Behaviour) (hs : Hosts) (st : SessionState) steady x blank said.
+      let now = c.args.self.now in
+      let new = c.obey.new.self in
+      let ok : read_of now.raw c.args.line.now ≡ Some c.in-Ok.command = c.in-Ok.ensures.ok in
+      let no : c.in-Ok.command ≢ Quit = search rules in
+      subst (λ (r : Option Command). AnswersAs b g.L.Link.conduct (g.L.Link.world new.talk.memory.below.below.below.link) new.first new.second new.mode new.limit st (g.O.Sink.taken c.args.out.now) (g.O.Sink.taken c.obey.new.out) (MeantAnswers b st r)
+      (g.L.Link.faults now.talk.memory.below.below.below.link) (g.L.Link.faults new.talk.memory.below.below.below.link) c.obey.result) (sym ok)
+      (c.obey.ensures.meant b hs st steady x (subst (λ (r : Option Command). IsSaidIfAny r now.second) ok said) no);
   broken = c.obey.ensures.broken;
   raw = c.obey.ensures.raw;
 }
+
+pub returns-in-Err-Line-clause-meant : goal.returns-in-Err-Line-clause-meant
+returns-in-Err-Line-clause-meant g c = λ (b : Behaviour) (hs : Hosts) (st : SessionState) steady x blank said.
+    let now = c.args.self.now in
+    let out = g.O.Sink.taken c.args.out.now in
+    let f = g.L.Link.faults now.talk.memory.below.below.below.link in
+    let none : read_of now.raw c.args.line.now ≡ None = search rules in
+    refuses b g.L.Link.conduct (g.L.Link.world now.talk.memory.below.below.below.link) now.first now.second now.mode now.limit hs st out out refl (MeantAnswers b st (read_of now.raw c.args.line.now)) BadLine f f (Ok c.malformed.result) x
+    (subst (λ (r : Option Command). MeantAnswers b st r (refusal_text BadLine ∷ []) st) (sym none) (inl (refl, refl)))
+    (subst (λ (e : Bool). Replies (if e then [] else refusal_reply BadLine) c.malformed.result) blank c.malformed.ensures.reply)

@@ -1,0 +1,52 @@
+use Rattle.std.proofs.Common.{rules, ◌≡◌, refl, sym, ap, subst, List, None}
+use Rattle.machine_state.specs.State.{Behaviour}
+use Rattle.nub_wire.specs.Nub.{Host}
+use Rattle.c_session.specs.declared.command.Command.{Command}
+use Rattle.c_session.specs.declared.command.Command.TheVariants as command
+use Rattle.claims.specs.Side.{SessionState}
+use Rattle.claims.specs.Outcome.{DoneOnBoth, AnswersCommand, refused_by_state}
+use Rattle.side_meaning.specs.Sessions.{SidesStand}
+use Rattle.session.specs.Meant.{Hosts, AreThere, sides_of, IsAskable, IsPlain, ComesTo, SaidAll, NotAll}
+use Rattle.session.proofs.AskingOne.{plain_answers, plain_of, plain_kept, plain_for, plain_still, regs_by, said_since, regs_since}
+use Rattle.session.proofs.conversation.Session.inquire.Goals as goal
+
+pub returns-in-Regs-clause-meant : goal.returns-in-Regs-clause-meant
+returns-in-Regs-clause-meant g c = λ (b : Behaviour) (hs : Hosts) (st : SessionState) x e askable.
+    let now = c.args.self.now in
+    let mid = c.settle.new.self in
+    let new = c.registers.new.self in
+    let is : c.args.command.now ≡ command.Regs = c.in-Regs.is in
+    let Stand = λ (s : _). (hs' : Hosts) × AreThere b g.L.Link.conduct (g.L.Link.world s.talk.memory.below.below.below.link) s.first s.second hs' × SidesStand (sides_of s.first s.second hs') st in
+    let here : Stand mid = regs_by now.mode st.state x.state (subst (λ (d : Command). refused_by_state st.state d ≡ None) is e)
+    (λ still. let y = c.in-Ok.ensures.meant b hs st x still in (y.hosts, y.there, y.ready.sides))
+    (λ how same. subst Stand (sym (c.in-Ok.ensures.running how same)) (hs, x.there, x.sides)) in
+    let f = g.L.Link.faults now.talk.memory.below.below.below.link in
+    let f1 = g.L.Link.faults mid.talk.memory.below.below.below.link in
+    let f2 = g.L.Link.faults new.talk.memory.below.below.below.link in
+    let o = g.L.Link.world new.talk.memory.below.below.below.link in
+    subst (λ (d : Command). ComesTo f f2 (λ text. SaidAll b g.L.Link.conduct o new.first new.second st (AnswersCommand b st d) text) (NotAll b g.L.Link.conduct o new.first new.second st (AnswersCommand b st d)) c.registers.result) (sym is)
+    (regs_since b g.L.Link.conduct o new.first new.second st f f1 f2 here.0
+    (subst (λ (z : _). SidesStand (sides_of z new.second here.0) st) (sym c.registers.ensures.first) (subst (λ (z : _). SidesStand (sides_of mid.first z here.0) st) (sym c.registers.ensures.second) here.2))
+    c.in-Ok.ensures.faults c.registers.result (c.registers.ensures.meant b here.0 st here.1 here.2))
+
+pub returns-in_default : goal.returns-in_default
+returns-in_default g c = record {
+  mode = search rules;
+  limit = search rules;
+  kept = search rules;
+  meant = λ (b : Behaviour) (hs : Hosts) (st : SessionState) x e askable.
+      let now = c.args.self.now in
+      let mid = c.settle.new.self in
+      let new = c.ask.new.self in
+      let cmd = c.args.command.now in
+      let plain = plain_for cmd now.second askable c.in_default.not-Regs in
+      let y = c.in-Ok.ensures.meant b hs st x (plain_still st.state cmd now.second plain e) in
+      let f = g.L.Link.faults now.talk.memory.below.below.below.link in
+      let f1 = g.L.Link.faults mid.talk.memory.below.below.below.link in
+      let f2 = g.L.Link.faults new.talk.memory.below.below.below.link in
+      said_since b g.L.Link.conduct (g.L.Link.world new.talk.memory.below.below.below.link) new.first new.second st f f1 f2 (DoneOnBoth st cmd) (AnswersCommand b st cmd)
+      (plain_answers b st cmd (plain_of now.second cmd plain)) c.in-Ok.ensures.faults c.ask.result
+      (c.ask.ensures.meant b y.hosts st y.there y.ready (plain_kept now.second mid.second cmd c.in-Ok.ensures.kept.1.0 plain));
+  raw = search rules;
+  broken = search rules;
+}
