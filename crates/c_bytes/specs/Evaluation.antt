@@ -114,11 +114,6 @@ module _ (sc : Scene) where
     vs ← fetch_all from ls
     put_in to ls vs
 
-  -- the place that an assignment is to
-  abbrev pub target_place : Typed → Means Lvalue
-  target_place (Assign' t _ a op _ b) = place_of a
-  target_place _ = refuses IllTyped
-
   -- the bytes after an assignment
   abbrev pub assignment : Typed → Means Bytes
   assignment (Assign' t _ a None _ b) = cond (is_struct (type_of a)) (copying a b (leaves_of sc.defs (type_of a))) (setting a b (leaf_of (kind_of (type_of a)) ∷ []))

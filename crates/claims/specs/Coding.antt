@@ -1,8 +1,9 @@
 -- `code`: a text of PostScript that has the value of an expression.
-use Rattle.std.specs.Prelude.{◌≡◌, ◌≢◌, ◌⊎◌, ℕ, true, false, List, [], ◌∷◌, ◌++◌, codes, Some, Ok, Err}
+use Rattle.std.specs.Prelude.{◌≡◌, ◌≢◌, ◌⊎◌, ◌≤◌, ℕ, true, false, List, [], ◌∷◌, ◌++◌, length, codes, Some, Ok, Err}
 use Rattle.std.specs.List.{AllByRecursion}
 use Rattle.ldb_words.specs.Word.{signed}
 use Rattle.machine_state.specs.declared.layout.TheConstants.{CONTEXT}
+use Rattle.machine_state.specs.Sound.{IsMemory}
 use Rattle.c_tree.specs.Types.{type_of, is_struct}
 use Rattle.c_tree.specs.Layout.{leaves_of}
 use Rattle.ps_store.specs.declared.object.PsObj.{PsObj}
@@ -17,7 +18,6 @@ use Rattle.table_model.specs.Frames.{frame_at, point_of}
 use Rattle.ps_words.specs.Words.{error_of}
 use Rattle.dialect_model.specs.Dial.{Dial}
 use Rattle.dialect_model.specs.Operating.{Operates}
-use Rattle.dialect_model.specs.Forcing.{ForcesUnit, idle}
 use Rattle.dialect_model.specs.TableUse.{TableUse, use_of, Trouble, Refused, Kind, Spent, Wanting, Eval, trouble_of, gives, ◌>>=◌}
 use Rattle.dialect_model.specs.Running.{Run}
 use Rattle.dialect_model.specs.Near.{slackened}
@@ -27,7 +27,7 @@ use Rattle.c_bytes.specs.Evaluation.{values_of, fetch_all}
 use Rattle.claims.specs.Side.{SideState, Change, OnSide, MOST_STEPS, row_of, memory_of, target_of}
 use Rattle.claims.specs.Raw.{text_ready}
 use Rattle.claims.specs.Reading.{ReadText, reading}
-use Rattle.claims.specs.Evaluating.{is_disturbed}
+use Rattle.claims.specs.Evaluating.{HasRun, is_disturbed}
 
 -- ---- what a text leaves
 
@@ -69,15 +69,11 @@ Serves sc x t answer d c = ((d.target ≡ Some sc.target) × ServesBy sc x t ans
 
 -- ---- where it is run
 
--- a table in which the functions of some more units were run
-pub data HasRun : StoreState → StoreState → Type 0 where
-  no_more : {s : StoreState} → HasRun s s
-  one_more : {s s' : StoreState} {u n m : ℕ} {c : PsCore} → ForcesUnit u (idle s) n (Ok tt) m c → HasRun c.store s' → HasRun s s'
-
--- A frame of any machine of the side's target that stands at the point at which the chosen frame stands, where a session chose it.
--- The functions of more units may have been run there.
+-- A frame of any machine of the side's target, whose memory holds bytes, that stands at the point at which the chosen frame stands,
+-- where a session chose it. The functions of more units may have been run there.
 pub record StandsAlike (a : SideState) (s : StoreState) (x : ReadText) (b : SideState) (f : Frame) : Type 0 where
   pub target : b.machine.target ≡ a.machine.target
+  pub memory : IsMemory b.machine.memory
   pub table : HasRun s b.table
   pub point : DictId
   pub here : point_of s a.frame x.frame ≡ Ok point
@@ -87,10 +83,10 @@ pub record StandsAlike (a : SideState) (s : StoreState) (x : ReadText) (b : Side
 abbrev scene_in : SideState → Frame → Scene → Scene
 scene_in b f sc = record sc { target = target_of b; frame = f }
 
--- The text has no LF. It serves wherever it is run as a text of `ps` that may not store in the target, as no evaluation may; but
+-- The text has no LF, and no more characters than a string may have. It serves wherever it is run as a text of `ps` that may not store in the target, as no evaluation may; but
 -- under a disturbed table no text does.
 abbrev pub IsCode : SideState → ReadText → StoreState → List ℕ → Type 0
-IsCode a x s text = AllByRecursion (λ c. c ≢ 10) text
+IsCode a x s text = AllByRecursion (λ c. c ≢ 10) text × (length text ≤ 16777216)
     × (is_disturbed s ≡ false → (b : SideState) (f : Frame) (run : Run) (t : TableUse) (answer : Answer) (left : ℕ) (d : Dial) (c : PsCore)
     → StandsAlike a s x b f → text_ready false b text (use_of b.table MOST_STEPS) (Ok run) t → Runs Operates t.left run.dial run.core answer left d c
     → Serves (scene_in b f x.scene) x (use_of b.table MOST_STEPS) answer d c)

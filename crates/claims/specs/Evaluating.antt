@@ -1,5 +1,5 @@
 -- `eval` and `assign` on one side.
-use Rattle.std.specs.Prelude.{◌≡◌, ◌≢◌, ◌⊎◌, is_some, ℕ, Bool, true, false, List, [], ◌∷◌, ◌++◌, codes, Some, Result, Ok, Err}
+use Rattle.std.specs.Prelude.{◌≡◌, ◌≢◌, is_some, ℕ, Bool, true, false, List, [], ◌∷◌, ◌++◌, codes, Some, Result, Ok, Err}
 use Rattle.std.specs.List.{list_any, AllByRecursion}
 use Rattle.ldb_words.specs.declared.kinds.Undef.TheVariants as undef
 use Rattle.c_tree.specs.declared.typed.Typed.{Typed}
@@ -12,13 +12,15 @@ use Rattle.ps_store.specs.Store.{entries_of}
 use Rattle.ps_store.specs.Operators.{operator_number}
 use Rattle.ps_step.specs.declared.fault.PsError.{PsError}
 use Rattle.ps_step.specs.declared.fault.PsError.TheVariants as ps
+use Rattle.ps_step.specs.declared.machine.PsCore.{PsCore}
 use Rattle.frame_bytes.specs.Bytes.{Bytes}
-use Rattle.dialect_model.specs.TableUse.{TableUse, Trouble, Refused, Kind, Spent, Wanting, gives, ◌>>=◌}
+use Rattle.dialect_model.specs.Forcing.{ForcesUnit, idle}
+use Rattle.dialect_model.specs.TableUse.{TableUse, with_store, Trouble, Refused, Kind, Spent, Wanting, gives, ◌>>=◌}
 use Rattle.dialect_model.specs.Near.{slackened}
 use Rattle.c_reading.specs.Readings.{AsValue, AsAssignment}
 use Rattle.c_session.specs.Commands.{IsUndefined}
 use Rattle.c_bytes.specs.Lvalues.{Cause, Reason, Disturbed, IllTyped, Means, Scene, Lvalue, bytes_with}
-use Rattle.c_bytes.specs.Evaluation.{target_place, assignment, leavings, stored_all}
+use Rattle.c_bytes.specs.Evaluation.{assignment, leavings, stored_all}
 use Rattle.c_bytes.specs.Shown.{text_of}
 use Rattle.claims.specs.Side.{SideState, Change, OnSide, Troubled, with_memory}
 use Rattle.claims.specs.Reading.{reading}
@@ -68,19 +70,31 @@ abbrev TellsIn : {A : Type 0} → Bool → (A → Type 0) → Result A (Trouble 
 TellsIn true free result r = Freely free r
 TellsIn false free result r = Tells free result r
 
-abbrev pub told_by : {A : Type 0} → (free : TableUse → A → Type 0) → Means A → OnSide A
-told_by free m t r t' = (result : _) × m t result t' × TellsIn (is_disturbed t.store) (free t) result r
+-- a table in which the functions of some more units were run
+pub data HasRun : StoreState → StoreState → Type 0 where
+  no_more : {s : StoreState} → HasRun s s
+  one_more : {s s' : StoreState} {u n m : ℕ} {c : PsCore} → ForcesUnit u (idle s) n (Ok tt) m c → HasRun c.store s' → HasRun s s'
+
+-- where no text can mean the tree, the functions of any units may have been run, and any steps be left
+abbrev UsesFreely : TableUse → TableUse → Type 0
+UsesFreely t t' = (s : StoreState) × (left : ℕ) × HasRun t.store s × (t' ≡ with_store t s left)
+
+-- the use of the table behind an evaluation, by that behind the tree's
+abbrev Uses : {A : Type 0} → Bool → Result A (Trouble Cause) → (t tree_after t' : TableUse) → Type 0
+Uses true result t u t' = UsesFreely t t'
+Uses false (Err (Refused Disturbed)) t u t' = UsesFreely t t'
+Uses false result t u t' = t' ≡ u
+
+abbrev pub told_by : {A : Type 0} → (free : A → Type 0) → Means A → OnSide A
+told_by free m t r t' = (result : _) × (u : TableUse) × m t result u × TellsIn (is_disturbed t.store) free result r × Uses (is_disturbed t.store) result t u t'
 
 -- any text of one line
-abbrev pub AnyText : TableUse → List ℕ → Type 0
-AnyText t text = AllByRecursion (λ c. c ≢ 10) text
+abbrev pub AnyText : List ℕ → Type 0
+AnyText text = AllByRecursion (λ c. c ≢ 10) text
 
--- any numbers in the leaves of the place on the left; where this comes to no place, in those of some one
-abbrev IsTarget : Scene → Typed → TableUse → Lvalue → Type 0
-IsTarget sc e t to = ((t' : TableUse) × target_place sc e t (Ok to) t') ⊎ ((p : Lvalue) (t' : TableUse) → target_place sc e t (Ok p) t' → ⊥)
-
-abbrev pub AnyLeaves : Scene → Typed → TableUse → Bytes → Type 0
-AnyLeaves sc e t b = (to : Lvalue) × (vs : List ℕ) × IsTarget sc e t to × (stored_all sc (leavings sc to (leaves_of sc.defs (type_of e)) vs) (bytes_with sc 0) ≡ Some b)
+-- any numbers in the leaves of one place: the one that the text leaves on the left
+abbrev pub AnyLeaves : Scene → Typed → Bytes → Type 0
+AnyLeaves sc e b = (to : Lvalue) × (vs : List ℕ) × (stored_all sc (leavings sc to (leaves_of sc.defs (type_of e)) vs) (bytes_with sc 0) ≡ Some b)
 
 -- ---- the commands
 

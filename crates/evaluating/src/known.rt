@@ -8,7 +8,6 @@ use c_judge::{Symbol, array_of, pointer_to};
 use c_tree::{CType, Member, StructDef};
 use ldb_words::{Many, Text};
 use ps_places::error_of;
-use ps_run::PsError;
 use ps_store::{ArrayId, DictId, PsObj, PsStore, StoreFault, StringId};
 use std::alloc::{AllocError, Global};
 use table_asks::AskFault;
@@ -26,8 +25,6 @@ const MOST_STRUCTS: usize = 8_000_000;
 #[derive(Clone, Copy)]
 pub enum Want {
     Lacks(Lack),
-    /// The store has no room.
-    Full,
     NoMemory,
 }
 
@@ -52,12 +49,10 @@ impl From<Beyond> for Want {
     }
 }
 
+/// What a command keeps for itself in the store is none of its table's: where there is no room for it, there is no memory.
 impl From<StoreFault> for Want {
-    fn from(fault: StoreFault) -> Self {
-        match fault {
-            StoreFault::NoMemory => Want::NoMemory,
-            StoreFault::Limit | StoreFault::ReadOnly => Want::Full,
-        }
+    fn from(_: StoreFault) -> Self {
+        Want::NoMemory
     }
 }
 
@@ -65,7 +60,6 @@ impl From<StoreFault> for Want {
 pub fn wanted(want: Want) -> AskFault {
     match want {
         Want::Lacks(lack) => AskFault::Raised(error_of(lack)),
-        Want::Full => AskFault::Raised(PsError::LimitCheck),
         Want::NoMemory => AskFault::NoMemory,
     }
 }
