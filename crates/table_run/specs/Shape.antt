@@ -1,11 +1,12 @@
 -- The shape of a table: what is asked of it before a session. The rest is checked when it is used.
-use Rattle.std.specs.Prelude.{◌≡◌, ℕ, ℤ, pos, Bool, true, false, nat_eq, if◌then◌else◌, ◌&&◌, List, codes, Option, Some}
+use Rattle.std.specs.Prelude.{◌≡◌, ℕ, ℤ, pos, Bool, true, false, nat_eq, if◌then◌else◌, ◌&&◌, List, [], length, codes, Option, Some}
 use Rattle.std.specs.Str.{bytes_eq}
 use Rattle.std.specs.Ordering.{int_eq}
 use Rattle.ps_store.specs.declared.object.PsObj.{PsObj}
 use Rattle.ps_store.specs.declared.object.PsObj.TheVariants.{Int, Str, Array, Dict}
 use Rattle.ps_store.specs.declared.object.DictId.{DictId}
 use Rattle.ps_store.specs.declared.key.Key.TheVariants.{Name as NameKey}
+use Rattle.ps_store.specs.Held.{Held}
 use Rattle.ps_store.specs.StoreState.{StoreState}
 use Rattle.ps_store.specs.Store.{entries_of, bytes_of}
 use Rattle.ps_store.specs.Entries.{value_at}
@@ -39,8 +40,20 @@ has_entries s target d =
     is_number (pos 1) (value_in s d (codes "ldb")) && (is_text s (target_text target) (value_in s d (codes "target"))
     && (is_dict (value_in s d (codes "anchors")) && (is_dict (value_in s d (codes "structs")) && is_array (value_in s d (codes "units")))))
 
--- the top of the table is set, and has these entries
+-- nothing is in a part of a store
+abbrev pub is_unused : Held → Bool
+is_unused h = nat_eq (length h.arrays) 0 && (nat_eq (length h.dicts) 0 && (nat_eq (length h.strings) 0 && nat_eq h.units 0))
+
+-- the dictionary is the top of a table for the target, and nothing is in the part of commands
+abbrev pub is_table : StoreState → (target : ℕ) → DictId → Bool
+is_table s target d = has_entries s target d && is_unused s.command
+
+abbrev pub no_objects : Held
+no_objects = record { arrays = []; dicts = []; strings = []; units = 0 }
+
+-- the top of the table is set, and has these entries; the part of commands has nothing
 pub record HasShape (s : StoreState) (target : ℕ) : Type 0 where
   pub top : DictId
   pub top_is : s.top ≡ Some top
   pub entries : has_entries s target top ≡ true
+  pub nothing : s.command ≡ no_objects

@@ -19,7 +19,7 @@ use Rattle.ps_bare.specs.Bare.{bare}
 use Rattle.table_run.specs.declared.run.TableFault.{TableFault}
 use Rattle.table_run.specs.declared.run.TableFault.TheVariants.{Raised, Spent, Shape, NoMemory}
 use Rattle.table_run.specs.declared.run.TheConstants.{MOST_STEPS}
-use Rattle.table_run.specs.Shape.{has_entries}
+use Rattle.table_run.specs.Shape.{is_table}
 
 -- ---- its run
 
@@ -66,7 +66,7 @@ closed_with c top = record c.store { closed = mark_of c.store.table; top = Some 
 
 abbrev pub table_with : (target : ℕ) → PsCore → Option DictId → Result StoreState TableFault
 table_with target c None = Err Shape
-table_with target c (Some top) = if has_entries (closed_with c top) target top then Ok (closed_with c top) else Err Shape
+table_with target c (Some top) = if is_table (closed_with c top) target top then Ok (closed_with c top) else Err Shape
 
 abbrev pub table_in : (target : ℕ) → PsCore → Result StoreState TableFault
 table_in target c = table_with target c (left_by c)

@@ -6,7 +6,7 @@ ghost use Rattle.table_run.specs.Shape.{HasShape};
 ghost use Rattle.table_run.specs.Tables.{RunsText, why, left_by, IsTableOf};
 ghost use Rattle.table_run.specs.declared.run.TableFault.TheVariants.{NoMemory as OutOfMemory};
 
-use crate::shape::has_entries;
+use crate::shape::is_table;
 use ps_bare::NoTarget;
 use ps_print::load_prelude;
 use ps_run::{PsCore, PsError, PsFault, Steps, run};
@@ -113,7 +113,7 @@ pub fn run_table(alloc: Global, text: &[u8], target: u8) -> Result<PsStore, Tabl
     let mut store = core.into_store();
     store.close_all();
     store.set_top(top);
-    if has_entries(&store, target, top) {
+    if is_table(&mut store, target, top) {
         Ok(store)
     } else {
         Err(TableFault::Shape)
