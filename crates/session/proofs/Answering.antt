@@ -292,21 +292,21 @@ step_resumes Stopped e = tt
 step_resumes (Running how) e = tt
 step_resumes Ended e = cc
 
-pub askable : (c : Command) (second : Option SideRecord) → IsSaid c second → c ≢ command.Continue → c ≢ command.Step → ((n : ℕ) → c ≢ command.Turns n) → c ≢ command.Quit → IsAskable c second
-askable command.Continue second h n s t q = absurd (n refl)
-askable command.Step second h n s t q = absurd (s refl)
-askable (command.Turns k) second h n s t q = absurd (t k refl)
-askable command.Quit second h n s t q = absurd (q refl)
-askable command.Regs second h n s t q = h
-askable (command.Break spot) second h n s t q = h
-askable (command.Clear spot) second h n s t q = h
-askable command.Frames second h n s t q = h
-askable (command.Frame k) second h n s t q = h
-askable (command.Print name) second h n s t q = absurd h
-askable (command.Eval text) second h n s t q = absurd h
-askable (command.Assign text) second h n s t q = absurd h
-askable (command.Code text) second h n s t q = absurd h
-askable (command.Ps text) second h n s t q = absurd h
+pub askable : (c : Command) → IsSaid c → c ≢ command.Continue → c ≢ command.Step → ((n : ℕ) → c ≢ command.Turns n) → c ≢ command.Quit → IsAskable c
+askable command.Continue h n s t q = absurd (n refl)
+askable command.Step h n s t q = absurd (s refl)
+askable (command.Turns k) h n s t q = absurd (t k refl)
+askable command.Quit h n s t q = absurd (q refl)
+askable command.Regs h n s t q = h
+askable (command.Break spot) h n s t q = h
+askable (command.Clear spot) h n s t q = h
+askable command.Frames h n s t q = h
+askable (command.Frame k) h n s t q = h
+askable (command.Print name) h n s t q = absurd h
+askable (command.Eval text) h n s t q = absurd h
+askable (command.Assign text) h n s t q = absurd h
+askable (command.Code text) h n s t q = absurd h
+askable (command.Ps text) h n s t q = absurd h
 
 pub limit_line : (n : ℕ) → limit_reply n ≡ joined ((codes "limit " ++ decimal n) ∷ [])
 limit_line n = sym (append_assoc (codes "limit ") (decimal n) (codes "\n")) ∙ sym (append-nil ((codes "limit " ++ decimal n) ++ codes "\n"))

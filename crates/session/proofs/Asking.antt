@@ -17,7 +17,7 @@ use Rattle.ps_store.proofs.Settling.{settled_same}
 use Rattle.ps_run.specs.declared.dialect.Steps.{Steps}
 use Rattle.abs_mem.specs.declared.wire.Wire.{Wire}
 use Rattle.abs_mem.specs.declared.memory.MemFault.TheVariants.{Outside, LinkFault, BadReply}
-use Rattle.abs_mem.specs.Meaning.{Seen, Untold}
+use Rattle.abs_mem.specs.Meaning.{Seen, Same, Untold}
 use Rattle.ldb_edge.specs.Count.{Rose}
 use Rattle.ldb_words.specs.declared.kinds.Order.{Order}
 use Rattle.nub_wire.specs.declared.link.Side.{Side}
@@ -30,7 +30,7 @@ use Rattle.table_points.specs.Rows.{row_in}
 use Rattle.table_points.specs.Named.{IsNamed}
 use Rattle.ps_ops.specs.declared.dialect.Operators.{Operators}
 use Rattle.resuming.specs.Standing.{Stands}
-use Rattle.debug_side.specs.Wrote.{Writes, Wrote}
+use Rattle.debug_side.specs.Wrote.{Writes, none_written, Wrote}
 use Rattle.debug_side.specs.Told.{with_regions}
 use Rattle.debug_side.proofs.Told.{put_stands, never_bad}
 use Rattle.dialect_model.specs.TableUse.{Trouble, Kind, Eval}
@@ -66,7 +66,7 @@ use Rattle.side_meaning.proofs.Asking.{names_stay}
 use Rattle.session.specs.declared.sides.SideRecord.{SideRecord}
 use Rattle.session.specs.Turned.{byte_of, order_of, turned}
 use Rattle.session.specs.Asked.{Does, chosen_frame}
-use Rattle.session.specs.Meant.{debugged, IsThere, IsPlain, AskedOne, SaidOne, NotOne, ComesTo}
+use Rattle.session.specs.Meant.{debugged, IsThere, IsPlain, AskedOne, SaidOne, NotOne, ComesTo, Rests}
 use Rattle.session.proofs.Leaving.{Leaves, one_leaves}
 
 -- ---- a part of a command over the bytes that are told
@@ -205,6 +205,14 @@ module _ {W R : Type 0} (seen : W → Seen R) (frame : ℕ) (ps ps' : List Point
   never_outside (command.Frame n) p plain d = d.0
   never_outside c p plain d = absurd plain
 
+  -- without memory the target is as it was
+  wants_by : (now : Command) → IsPlain now → Does seen now frame ps j o (Err NoMemory) ps' k o' → Same before behind
+  wants_by (command.Break spot) plain d = d.0
+  wants_by (command.Clear spot) plain d = d.0
+  wants_by command.Frames plain d = d.0.0
+  wants_by (command.Frame n) plain d = d.0.0
+  wants_by c plain d = absurd plain
+
   -- the count of faults never falls
   same_count : before.faults ≡ behind.faults → before.faults ≤ behind.faults
   same_count e = subst (λ n. before.faults ≤ n) e (omega arith)
@@ -232,7 +240,11 @@ module _ {W R : Type 0} (seen : W → Seen R) (frame : ℕ) (ps ps' : List Point
 
 -- ---- a command over a link whose nubs meet their definition
 
-none_mapped : {A B : Type 0} (f : A → B) (xs : List A) → map f xs ≡ [] → xs ≡ []
+-- what is told stays
+pub same_wrote : {R : Type 0} (s t : Seen R) → Same s t → Wrote s t (λ b r. Unit {0})
+same_wrote s t same = record { faults = same.faults; after = λ b r w. (b.regions, none_written, tt, same.keeps b r w) }
+
+pub none_mapped : {A B : Type 0} (f : A → B) (xs : List A) → map f xs ≡ [] → xs ≡ []
 none_mapped f [] e = refl
 none_mapped f (x ∷ xs) e = cc
 
@@ -270,6 +282,22 @@ module _ {L : Type 0} (c : Conduct) (world : L → Option World) (faults : L →
       → faults old.memory.below.below.below.link ≤ faults new.memory.below.below.below.link
   count_of side old t new now result frame ps ps' j k e plain d =
       subst (λ (x : Operators (Wire L)). faults x.memory.below.below.below.link ≤ faults new.memory.below.below.below.link) e (does_count seen_by frame ps ps' j k t new now result plain d)
+
+  -- where memory is wanting the side is at rest still
+  pub rests_unbegun : (b : Behaviour) (side : SideRecord) (old t : Operators (Wire L)) (h : Host) (beside : Option Host) → t ≡ turned side old → IsThere b c (world old.memory.below.below.below.link) side h beside
+      → Rests b c (world t.memory.below.below.below.link) side.which (order_of side.machine) beside
+  rests_unbegun b side old t h beside e x =
+      subst (λ (z : Operators (Wire L)). Rests b c (world z.memory.below.below.below.link) side.which (order_of side.machine) beside) (sym e) (record { host = h; stands = x.stands; order_is = x.order })
+
+  pub rests_wanting : (b : Behaviour) (side : SideRecord) (old t new : Operators (Wire L)) (now : Command) (frame : ℕ) (ps ps' : List Point) (j k : Inquiry) (h : Host) (beside : Option Host) (fault : AskFault) → t ≡ turned side old → fault ≡ NoMemory → IsPlain now
+      → Does seen_by now frame ps j t (Err fault) ps' k new → IsThere b c (world old.memory.below.below.below.link) side h beside → Rests b c (world new.memory.below.below.below.link) side.which (order_of side.machine) beside
+  rests_wanting b side old t new now frame ps ps' j k h beside fault e is plain d x =
+      let wire = new.memory.below.below.below in
+      let f = faults old.memory.below.below.below.link in
+      let same = wants_by seen_by frame ps ps' j k (turned side old) new now plain (subst (λ (z : Operators (Wire L)). Does seen_by now frame ps j z (Err NoMemory) ps' k new) e (subst (λ (y : AskFault). Does seen_by now frame ps j t (Err y) ps' k new) is d)) in
+      let y = put_stands b c (world old.memory.below.below.below.link) side.which (order_of side.machine) h beside x.stands x.order f (faults wire.link) wire.side wire.order (world wire.link) (λ z r. Unit {0})
+      (same_wrote (seen_by (turned side old).memory.below.below.below) (seen_by wire) same) in
+      record { host = with_regions h y.regions; stands = y.stands; order_is = x.order }
 
   module _ (b : Behaviour) (side : SideRecord) (old : Operators (Wire L)) (now : Command) (plain : IsPlain now) (result : Result (List ℕ) AskFault) (begun ended : Inquiry) (after : SideRecord) (new : Operators (Wire L))
       (h : Host) (other : Option Host) (a : SideState) (there : IsThere b c (world old.memory.below.below.below.link) side h other) (ready : IsReady (debugged side h) a) (none : a.step_words ≡ [])

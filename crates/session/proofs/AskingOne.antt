@@ -26,7 +26,13 @@ use Rattle.session.specs.declared.modes.Mode.TheVariants as mode
 use Rattle.session.specs.declared.sides.SideRecord.{SideRecord}
 use Rattle.session.specs.Answered.{state_of}
 use Rattle.session.proofs.Regs.{rose_since}
-use Rattle.session.specs.Meant.{debugged, sides_of, Hosts, IsSecond, IsThere, AreThere, AreReadyFor, ComesTo, IsPlain, IsPlainFor, IsAskable, AskedOne, SaidOne, NotOne, SaidAll, NotAll}
+use Rattle.session.specs.Meant.{debugged, sides_of, Hosts, IsSecond, IsThere, AreThere, AreReadyFor, ComesTo, IsPlain, IsAskable, AskedOne, SaidOne, NotOne, SaidAll, NotAll}
+
+-- what a command comes to on a side
+abbrev pub AsksSide : Behaviour → Conduct → (o o' : Option World) → (faults faults' : ℕ) → (side side' : SideRecord) → Command → Result (List ℕ) AskFault → Type 0
+AsksSide b c o o' f f' side side' now result =
+    (h : Host) (beside : Option Host) (a : SideState) → IsThere b c o side h beside → IsReady (debugged side h) a → a.step_words ≡ [] → IsPlain now
+    → ComesTo f f' (λ (text : List ℕ). SaidOne b c o' side side' h beside now a text) (NotOne b c o' side side' h beside now a) result
 
 -- where there is no second side, there is none on the other side either
 none_beside : {A B : Type 0} (P : A → B → Type 0) (y : Option B) → OnSecond P None y → y ≡ None
@@ -142,45 +148,34 @@ module _ (b : Behaviour) (c : Conduct) (o o' : Option World) (side side' : SideR
   asked_one f f' (Err (Broken (Outside p))) y = y
 
 -- so it is of a session that has no second side
-pub asked_alone : (b : Behaviour) (c : Conduct) (o o' : Option World) (side side' : SideRecord) (second : Option SideRecord) (hs : Hosts) (st : SessionState) (now : Command) → AreThere b c o side second hs → AreReadyFor side second hs st → IsPlainFor second now
-    → side'.which ≡ side.which → (f f' : ℕ) (result : Result (List ℕ) AskFault)
-    → (IsThere b c o side hs.first hs.second → IsReady (debugged side hs.first) st.first → st.first.step_words ≡ [] → IsPlain now
-    → ComesTo f f' (λ text. SaidOne b c o' side side' hs.first hs.second now st.first text) (NotOne b c o' side side' hs.first hs.second now st.first) result)
+pub asked_alone : (b : Behaviour) (c : Conduct) (o o' : Option World) (side side' : SideRecord) (second : Option SideRecord) (hs : Hosts) (st : SessionState) (now : Command) → second ≡ None → AreThere b c o side second hs → AreReadyFor side second hs st → IsPlain now
+    → side'.which ≡ side.which → (f f' : ℕ) (result : Result (List ℕ) AskFault) → AsksSide b c o o' f f' side side' now result
     → ComesTo f f' (λ text. SaidAll b c o' side' second st (DoneOnBoth st now) text) (NotAll b c o' side' second st (DoneOnBoth st now)) result
-asked_alone b c o o' side side' None hs st now there ready plain which f f' result tells =
+asked_alone b c o o' side side' None hs st now e there ready plain which f f' result tells =
     asked_one b c o o' side side' hs st now plain there ready which f f' result
-    (tells there.first_there ready.ready.0 (no_words st.state (debugged side hs.first) st.first ready.still ready.sides.first) plain)
-asked_alone b c o o' side side' (Some x) hs st now there ready plain which f f' result tells = absurd plain
+    (tells hs.first hs.second st.first there.first_there ready.ready.0 (no_words st.state (debugged side hs.first) st.first ready.still ready.sides.first) plain)
+asked_alone b c o o' side side' (Some x) hs st now e there ready plain which f f' result tells = cc
 
 -- ---- behind words of a step that were taken away
 
-pub plain_of : (second : Option SideRecord) (c : Command) → IsPlainFor second c → IsPlain c
-plain_of None c p = p
-plain_of (Some side) c p = absurd p
-
-pub plain_kept : (old new : Option SideRecord) (c : Command) → is_some new ≡ is_some old → IsPlainFor old c → IsPlainFor new c
-plain_kept None None c e p = p
-plain_kept None (Some side) c e p = cc
-plain_kept (Some side) new c e p = absurd p
-
-pub plain_for : (c : Command) (second : Option SideRecord) → IsAskable c second → c ≢ command.Regs → IsPlainFor second c
-plain_for command.Regs second h n = absurd (n refl)
-plain_for (command.Break spot) second h n = h
-plain_for (command.Clear spot) second h n = h
-plain_for command.Frames second h n = h
-plain_for (command.Frame k) second h n = h
-plain_for command.Continue second h n = absurd h
-plain_for command.Step second h n = absurd h
-plain_for (command.Turns k) second h n = absurd h
-plain_for command.Quit second h n = absurd h
-plain_for (command.Print name) second h n = absurd h
-plain_for (command.Eval text) second h n = absurd h
-plain_for (command.Assign text) second h n = absurd h
-plain_for (command.Code text) second h n = absurd h
-plain_for (command.Ps text) second h n = absurd h
+pub plain_for : (c : Command) → IsAskable c → c ≢ command.Regs → IsPlain c
+plain_for command.Regs h n = absurd (n refl)
+plain_for (command.Break spot) h n = h
+plain_for (command.Clear spot) h n = h
+plain_for command.Frames h n = h
+plain_for (command.Frame k) h n = h
+plain_for command.Continue h n = absurd h
+plain_for command.Step h n = absurd h
+plain_for (command.Turns k) h n = absurd h
+plain_for command.Quit h n = absurd h
+plain_for (command.Print name) h n = absurd h
+plain_for (command.Eval text) h n = absurd h
+plain_for (command.Assign text) h n = absurd h
+plain_for (command.Code text) h n = absurd h
+plain_for (command.Ps text) h n = absurd h
 
 -- it comes where the session stands, or was never resumed
-asked_still : (s : State) (c : Command) → IsPlain c → refused_by_state s c ≡ None → IsStill s
+pub asked_still : (s : State) (c : Command) → IsPlain c → refused_by_state s c ≡ None → IsStill s
 asked_still Fresh c p e = tt
 asked_still Stopped c p e = tt
 asked_still (Running how) (command.Break spot) p e = cc
@@ -211,9 +206,6 @@ asked_still Ended (command.Eval text) p e = absurd p
 asked_still Ended (command.Assign text) p e = absurd p
 asked_still Ended (command.Code text) p e = absurd p
 asked_still Ended (command.Ps text) p e = absurd p
-
-pub plain_still : (s : State) (c : Command) (second : Option SideRecord) → IsPlainFor second c → refused_by_state s c ≡ None → IsStill s
-plain_still s c second p e = asked_still s c (plain_of second c p) e
 
 -- `regs` comes there too, and while a resume is interrupted
 pub regs_by : {P : Type 0} (m : Mode) (s : State) → s ≡ state_of m → refused_by_state s command.Regs ≡ None → (IsStill s → P) → ((how : How) → m ≡ mode.Running how → P) → P

@@ -13,3 +13,5 @@ pub mod Regs
 pub mod Resumed
 pub mod Answering
 pub mod AskingOne
+pub mod AskingBoth
+pub mod PuttingBack

@@ -10,7 +10,7 @@ use Rattle.nub_wire.specs.declared.message.Msg.TheVariants as msg
 use Rattle.nub_wire.specs.declared.reply.Heard.TheVariants.{Ends}
 use Rattle.nub_wire.specs.Replies.{heard}
 use Rattle.nub_wire.specs.Spelling.{IsChunk}
-use Rattle.nub_wire.specs.Nub.{Host, host}
+use Rattle.nub_wire.specs.Nub.{Host, host, first_host}
 use Rattle.nub_wire.specs.Delivery.{Conduct, nubs_over, LinkSide, World, side_of}
 use Rattle.nub_wire.specs.Rest.{other, KeepsOther}
 use Rattle.nub_wire.specs.Exchange.{RepliesAtOnce, Exchanged, at_once}
@@ -38,10 +38,11 @@ use Rattle.session.specs.declared.sides.Machine.TheVariants as machine
 use Rattle.session.specs.declared.sides.SideRecord.{SideRecord}
 use Rattle.session.specs.Turned.{byte_of, order_of}
 use Rattle.side_meaning.proofs.Starting.{begin}
-use Rattle.nub_wire.specs.declared.link.Side.TheVariants.{First}
+use Rattle.nub_wire.specs.declared.link.Side.TheVariants.{First, Second}
 use Rattle.session.specs.declared.modes.Mode.TheVariants.{Fresh}
 use Rattle.session.specs.Meant.{debugged, Represents}
-use Rattle.session.specs.Starting.{target_in, given_to, begun_host, IsFirst, IsBegun, StartsAs, one_session}
+use Rattle.session.specs.Starting.{target_in, given_to, begun_host, IsFirst, AreFirst, IsBegun, StartsAs, one_session, two_session}
+use Rattle.session.proofs.Beside.{stands_beside, first_beside}
 
 beside_kept : (side : Side) (w w' : World) (x : Option Host) (o : Option LinkSide) → o ≡ side_of (other side) w → KeepsOther side w w' → IsBeside o x → IsBeside (side_of (other side) w') x
 beside_kept side w w' None o e k h = tt
@@ -200,3 +201,34 @@ one_begun b c o r None input m table which none g = record {
   limit_is = refl;
 }
 one_begun b c o r (Some other) input m table which none g = cc
+
+-- ---- two sides
+
+-- once the first side is begun, the second one is as it was
+pub second_first : (b : Behaviour) (c : Conduct) (o o' : Option World) (side : SideRecord) (input : List ℕ) (m n : MachineState) (table other : StoreState) → AreFirst b c o m n table other → side.which ≡ First
+    → IsBegun b c o' side input m (Some (first_host b n)) table → IsFirst b c o' Second n (Some (begun_host b input m)) other
+second_first b c o o' side input m n table other x which g = record {
+  stands = stands_beside b c o o' (first_host b n) (begun_host b input m) (Some (first_host b m)) Second x.second.stands
+      (subst (λ (w : Side). Stands b c w o' (begun_host b input m) (Some (first_host b n))) which g.there.stands);
+  none_given = x.second.none_given;
+  target = x.second.target;
+  nothing = x.second.nothing;
+}
+
+-- both that are begun represent the machine session of them
+pub two_begun : (b : Behaviour) (c : Conduct) (o1 o2 : Option World) (r : SideRecord) (q : SideRecord) (input : List ℕ) (m n : MachineState) (table other : StoreState) → r.which ≡ First → q.which ≡ Second
+    → IsBegun b c o1 r input m (Some (first_host b n)) table → IsBegun b c o2 q input n (Some (begun_host b input m)) other
+    → Represents b c o2 r (Some q) Fresh 10000000 (record { first = begun_host b input m; second = Some (begun_host b input n) }) (two_session b input m n table other)
+two_begun b c o1 o2 r q input m n table other which second x y = record {
+  there = record {
+    first_is = which;
+    first_there = first_beside b c o1 o2 r q (begun_host b input m) (begun_host b input n) (Some (first_host b n)) which x.there second y.there;
+    second_there = (second, y.there);
+  };
+  sides = record {
+    first = begin b input (debugged r (begun_host b input m)) (record table { part = Command }) m x.new;
+    second = begin b input (debugged q (begun_host b input n)) (record other { part = Command }) n y.new;
+  };
+  state = refl;
+  limit_is = refl;
+}

@@ -2,8 +2,10 @@
 use Rattle.std.specs.Prelude.{◌≡◌, ◌⊎◌, ℕ, List, [], ◌++◌, Option, Some, None, Result, Ok, Err}
 use Rattle.ldb_edge.specs.Count.{Rose}
 use Rattle.ldb_edge.specs.Known.{known_and}
+use Rattle.ldb_words.specs.declared.kinds.Order.{Order}
 use Rattle.machine_state.specs.declared.layout.TheConstants.{CONTEXT}
 use Rattle.machine_state.specs.State.{Behaviour, order_of as machine_order}
+use Rattle.nub_wire.specs.declared.link.Side.{Side}
 use Rattle.nub_wire.specs.declared.link.Side.TheVariants.{First, Second}
 use Rattle.nub_wire.specs.Nub.{Host}
 use Rattle.nub_wire.specs.Delivery.{Conduct, World}
@@ -14,6 +16,7 @@ use Rattle.resuming.specs.declared.fault.RunFault.TheVariants.{Talk, Output}
 use Rattle.wire_talk.specs.declared.fault.TalkFault.{TalkFault}
 use Rattle.wire_talk.specs.declared.fault.TalkFault.TheVariants as talk
 use Rattle.steady_machines.specs.Steady.{KeepsOrders, RunsAreSteady}
+use Rattle.abs_mem.specs.declared.memory.MemFault.{MemFault}
 use Rattle.abs_mem.specs.declared.memory.MemFault.TheVariants.{Outside, LinkFault, BadReply}
 use Rattle.debug_side.specs.declared.event.Event.{Event}
 use Rattle.debug_side.specs.declared.point.MachineKind.{MachineKind}
@@ -114,6 +117,25 @@ TalksTo faults faults' Done (Ok x) = Done
 TalksTo faults faults' Done (Err talk.LinkFault) = Rose faults faults'
 TalksTo faults faults' Done (Err (talk.BadReply frame)) = ⊥
 
+-- a side at rest, at some nub and machine with this order of its bytes
+pub record Rests (b : Behaviour) (c : Conduct) (o : Option World) (which : Side) (order : Order) (beside : Option Host) : Type 0 where
+  pub host : Host
+  pub stands : Stands b c which o host beside
+  pub order_is : order ≡ machine_order host.machine
+
+-- Words of breakpoints are put back. A link that failed has counted it, and brought no bad reply; nothing is said where an address is outside.
+abbrev pub PutsBack : (faults faults' : ℕ) → (Done : Type 0) → Result (Unit {0}) MemFault → Type 0
+PutsBack faults faults' Done (Ok x) = (faults' ≡ faults) × Done
+PutsBack faults faults' Done (Err LinkFault) = Rose faults faults'
+PutsBack faults faults' Done (Err (BadReply frame)) = ⊥
+PutsBack faults faults' Done (Err (Outside p)) = Unit {0}
+
+-- why a command isn't done on either side that the second one has no memory for
+abbrev pub IsGivenUp : (faults faults' : ℕ) → AskFault → Type 0
+IsGivenUp faults faults' NoMemory = Unit {0}
+IsGivenUp faults faults' (Broken LinkFault) = Rose faults faults'
+IsGivenUp faults faults' fault = ⊥
+
 -- what is done to a machine keeps its order of bytes, and the run of a resume its target and its text
 pub record AreSteady (b : Behaviour) : Type 0 where
   pub orders : KeepsOrders b
@@ -185,7 +207,7 @@ module _ (b : Behaviour) (c : Conduct) (o : Option World) (first first' : SideRe
 
 -- ---- a command that asks one side
 
--- a command of one side that tells points and frames, or sets breakpoints
+-- a command that tells points and frames, or sets breakpoints
 abbrev pub IsPlain : Command → Type 0
 IsPlain (command.Break spot) = Unit {0}
 IsPlain (command.Clear spot) = Unit {0}
@@ -193,31 +215,22 @@ IsPlain command.Frames = Unit {0}
 IsPlain (command.Frame n) = Unit {0}
 IsPlain c = ⊥
 
--- of a command that is asked of two sides nothing is said
-abbrev pub IsPlainFor : Option SideRecord → Command → Type 0
-IsPlainFor None c = IsPlain c
-IsPlainFor (Some side) c = ⊥
-
 -- one that is asked, `regs` too
-abbrev pub IsAskable : Command → Option SideRecord → Type 0
-IsAskable command.Regs second = Unit {0}
-IsAskable (command.Break spot) second = IsPlainFor second (command.Break spot)
-IsAskable (command.Clear spot) second = IsPlainFor second (command.Clear spot)
-IsAskable command.Frames second = IsPlainFor second command.Frames
-IsAskable (command.Frame n) second = IsPlainFor second (command.Frame n)
-IsAskable c second = ⊥
+abbrev pub IsAskable : Command → Type 0
+IsAskable command.Regs = Unit {0}
+IsAskable c = IsPlain c
 
 -- one of which is said what it means: not `print`, `eval`, `assign`, `code` and `ps`
-abbrev pub IsSaid : Command → Option SideRecord → Type 0
-IsSaid command.Continue second = Unit {0}
-IsSaid command.Step second = Unit {0}
-IsSaid (command.Turns n) second = Unit {0}
-IsSaid command.Quit second = Unit {0}
-IsSaid c second = IsAskable c second
+abbrev pub IsSaid : Command → Type 0
+IsSaid command.Continue = Unit {0}
+IsSaid command.Step = Unit {0}
+IsSaid (command.Turns n) = Unit {0}
+IsSaid command.Quit = Unit {0}
+IsSaid c = IsAskable c
 
-abbrev pub IsSaidIfAny : Option Command → Option SideRecord → Type 0
-IsSaidIfAny None second = Unit {0}
-IsSaidIfAny (Some c) second = IsSaid c second
+abbrev pub IsSaidIfAny : Option Command → Type 0
+IsSaidIfAny None = Unit {0}
+IsSaidIfAny (Some c) = IsSaid c
 
 module _ (b : Behaviour) (c : Conduct) (o : Option World) (side side' : SideRecord) (h : Host) (beside : Option Host) (now : Command) (a : SideState) where
   -- it came to a result, and changed both sides alike

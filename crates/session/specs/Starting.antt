@@ -1,9 +1,10 @@
 -- How a session begins: what is known of the nubs and the tables before it, and what it has then.
-use Rattle.std.specs.Prelude.{◌≡◌, ℕ, List, codes, bytes_eq, if◌then◌else◌, Option, None, Result, Ok, Err}
+use Rattle.std.specs.Prelude.{◌≡◌, ℕ, List, codes, bytes_eq, if◌then◌else◌, Option, Some, None, Result, Ok, Err}
 use Rattle.ldb_edge.specs.Count.{Rose}
 use Rattle.machine_state.specs.declared.layout.TheConstants.{MIPS, SPARC}
 use Rattle.machine_state.specs.State.{MachineState, Behaviour, given_input, with_input}
 use Rattle.nub_wire.specs.declared.link.Side.{Side}
+use Rattle.nub_wire.specs.declared.link.Side.TheVariants.{First, Second}
 use Rattle.nub_wire.specs.Nub.{Host, host, first_host}
 use Rattle.nub_wire.specs.Delivery.{Conduct, World}
 use Rattle.resuming.specs.Standing.{Stands}
@@ -40,6 +41,11 @@ pub record IsFirst (b : Behaviour) (c : Conduct) (o : Option World) (side : Side
   pub target : target_in table ≡ (b.saved m).1.target
   pub nothing : table.command ≡ no_objects
 
+-- two of them on one link, each beside the other
+pub record AreFirst (b : Behaviour) (c : Conduct) (o : Option World) (m n : MachineState) (table other : StoreState) : Type 0 where
+  pub first : IsFirst b c o First m (Some (first_host b n)) table
+  pub second : IsFirst b c o Second n (Some (first_host b m)) other
+
 -- the nub and machine once this input was given
 abbrev pub given_to : List ℕ → Host → Host
 given_to input h = host h.nub (with_input input h.machine)
@@ -61,3 +67,7 @@ StartsAs faults faults' Done (Err Target) = Rose faults faults'
 -- the machine session of one side at its start
 abbrev pub one_session : Behaviour → (input : List ℕ) → MachineState → StoreState → SessionState
 one_session b input m table = first_session (first_side b input table m) None
+
+-- and of two, which get the same input
+abbrev pub two_session : Behaviour → (input : List ℕ) → (m n : MachineState) → (table other : StoreState) → SessionState
+two_session b input m n table other = first_session (first_side b input table m) (Some (first_side b input other n))

@@ -1,6 +1,6 @@
 // A command that doesn't resume, on one side.
 
-ghost use Rattle.std.specs.Prelude.{◌≡◌, ◌≤◌, OnErr, Option, []};
+ghost use Rattle.std.specs.Prelude.{◌≡◌, ◌≤◌, OnErr, Option, [], Err};
 ghost use Rattle.std.specs.List.{AllByRecursion};
 ghost use Rattle.abs_mem.specs.WireMeaning.{wire_seen};
 ghost use Rattle.ps_store.specs.Store.{closed_part};
@@ -8,11 +8,11 @@ ghost use Rattle.table_points.specs.Named.{IsNamed};
 ghost use Rattle.table_asks.specs.Closing.{Settles};
 ghost use Rattle.session.specs.Asked.{Does, chosen_frame};
 ghost use Rattle.session.specs.Kept.{IsKept};
-ghost use Rattle.session.specs.Turned.{turned};
+ghost use Rattle.session.specs.Turned.{order_of, turned};
 ghost use Rattle.machine_state.specs.State.{Behaviour};
 ghost use Rattle.nub_wire.specs.Nub.{Host};
 ghost use Rattle.claims.specs.Side.{SideState};
-ghost use Rattle.session.specs.Meant.{IsThere, debugged, SaidOne, NotOne, IsPlain, ComesTo};
+ghost use Rattle.session.specs.Meant.{IsThere, debugged, SaidOne, NotOne, IsPlain, ComesTo, Rests};
 ghost use Rattle.side_meaning.specs.Standing.{StandsFor};
 ghost use Rattle.side_meaning.specs.Stepping.{IsReady};
 ghost use Rattle.asking.specs.Lines.{line};
@@ -76,6 +76,8 @@ pub fn asked<L: Link + Drop>(
     ensures kept { OnErr result (IsKept side.old side.new) }
     ensures which { side.new.which ≡ side.old.which }
     ensures faults { IsPlain command.now → L.faults talk.old.memory.below.below.below.link ≤ L.faults talk.new.memory.below.below.below.link }
+    ensures wanting { (b : Behaviour) (h : Host) (beside : Option Host) → IsThere b L.conduct (L.world talk.old.memory.below.below.below.link) side.old h beside → IsPlain command.now → result ≡ Err AskFault.NoMemory
+        → Rests b L.conduct (L.world talk.new.memory.below.below.below.link) side.old.which (order_of side.old.machine) beside }
     ensures meant { (b : Behaviour) (h : Host) (beside : Option Host) (a : SideState) → IsThere b L.conduct (L.world talk.old.memory.below.below.below.link) side.old h beside → IsReady (debugged side.old h) a → a.step_words ≡ [] → IsPlain command.now
         → ComesTo (L.faults talk.old.memory.below.below.below.link) (L.faults talk.new.memory.below.below.below.link) (λ text. SaidOne b L.conduct (L.world talk.new.memory.below.below.below.link) side.old side.new h beside command.now a text) (NotOne b L.conduct (L.world talk.new.memory.below.below.below.link) side.old side.new h beside command.now a) result }
 {

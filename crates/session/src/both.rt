@@ -1,13 +1,18 @@
 // A command that doesn't resume, on both sides.
 
-ghost use Rattle.std.specs.Prelude.{◌≡◌, Some};
+ghost use Rattle.std.specs.Prelude.{◌≡◌, ◌≢◌, ◌⊎◌, ℕ, List, Option, Some};
 ghost use Rattle.session.specs.Kept.{IsKept, IsUndone};
-ghost use Rattle.machine_state.specs.State.{Behaviour};
+ghost use Rattle.machine_state.specs.declared.layout.TheConstants.{MIPS, SPARC};
+ghost use Rattle.machine_state.specs.State.{Behaviour, order_of as machine_order};
+ghost use Rattle.nub_wire.specs.Nub.{Host};
+ghost use Rattle.resuming.specs.Standing.{Stands};
+ghost use Rattle.c_session.specs.declared.command.Command.TheVariants.{Ps};
+ghost use Rattle.session.specs.Turned.{order_of};
 ghost use Rattle.claims.specs.Side.{SessionState};
-ghost use Rattle.session.specs.Meant.{ComesTo, Hosts, AreThere, sides_of};
+ghost use Rattle.session.specs.Meant.{ComesTo, Hosts, AreThere, AreReadyFor, IsPlain, Rests, PutsBack, IsGivenUp, SaidAll, NotAll, sides_of};
 ghost use Rattle.side_meaning.specs.Sessions.{SidesStand};
 ghost use Rattle.asking_meaning.specs.Meant.{joined};
-ghost use Rattle.claims.specs.Outcome.{all_regs};
+ghost use Rattle.claims.specs.Outcome.{DoneOnBoth, all_regs};
 
 use crate::asked::{asked, ran, registers_of};
 use crate::assigning::{assigned, store};
@@ -29,7 +34,8 @@ fn undone<L: Link + Drop>(
     command: &Command,
     fault: AskFault,
 ) -> AskFault
-    ensures { IsKept second.old second.new }
+    ensures kept { IsKept second.old second.new }
+    ensures other { ((text : List ℕ) → command.now ≢ Ps text) → (result ≡ fault) × (second.new ≡ second.old) × (talk.new ≡ talk.old) }
 {
     match command {
         Command::Ps(text) => match ran(talk, second, text.as_bytes()) {
@@ -40,30 +46,89 @@ fn undone<L: Link + Drop>(
     }
 }
 
-/// Puts back the words of the breakpoints that a side had.
-fn put_back<L: Link + Drop>(
-    talk: &mut Operators<Wire<L>>,
-    side: &SideRecord,
-    before: &[Point],
-) -> Result<(), MemFault> {
-    turn(talk, side);
-    let target = side.machine.byte();
-    let wire = &mut talk.memory.below.below.below;
-    for point in &side.row.breaks {
-        if point_at(before, point.at).is_none() {
-            clear_break(target, wire, *point)?;
+/// Sets a breakpoint at a point, or takes it away.
+fn put_back_one<L: Link + Drop>(
+    target: u8,
+    wire: &mut Wire<L>,
+    point: Point,
+    is_set: bool,
+) -> Result<(), MemFault>
+    requires known { (target ≡ MIPS) ⊎ (target ≡ SPARC) }
+    ensures { (b : Behaviour) (h : Host) (beside : Option Host) → Stands b L.conduct wire.old.side (L.world wire.old.link) h beside → wire.old.order ≡ machine_order h.machine
+        → PutsBack (L.faults wire.old.link) (L.faults wire.new.link) (Rests b L.conduct (L.world wire.new.link) wire.new.side wire.new.order beside) result }
+{
+    if is_set {
+        match set_break(target, wire, point) {
+            Ok(_) => Ok(()),
+            Err(fault) => Err(fault),
+        }
+    } else {
+        match clear_break(target, wire, point) {
+            Ok(()) => Ok(()),
+            Err(fault) => Err(fault),
         }
     }
-    for point in before {
-        if point_at(side.row.breaks.as_slice(), point.at).is_none() {
-            set_break(target, wire, *point)?;
+}
+
+/// Sets a breakpoint at each of some points at whose address none of others is, or takes it away.
+fn put_back_others<L: Link + Drop>(
+    target: u8,
+    wire: &mut Wire<L>,
+    points: &[Point],
+    others: &[Point],
+    is_set: bool,
+) -> Result<(), MemFault>
+    requires known { (target ≡ MIPS) ⊎ (target ≡ SPARC) }
+    ensures { (b : Behaviour) (h : Host) (beside : Option Host) → Stands b L.conduct wire.old.side (L.world wire.old.link) h beside → wire.old.order ≡ machine_order h.machine
+        → PutsBack (L.faults wire.old.link) (L.faults wire.new.link) (Rests b L.conduct (L.world wire.new.link) wire.new.side wire.new.order beside) result }
+{
+    for point in points {
+        if point_at(others, point.at).is_none() {
+            match put_back_one(target, wire, *point, is_set) {
+                Ok(()) => {}
+                Err(fault) => return Err(fault),
+            }
         }
     }
     Ok(())
 }
 
-/// Why a command isn't done that the first side had done: breakpoints and the chosen frame are put back there. Words that are put
-/// back were there, so none of them is outside.
+/// Puts back the words of the breakpoints that a side had.
+fn put_back<L: Link + Drop>(
+    talk: &mut Operators<Wire<L>>,
+    side: &SideRecord,
+    before: &[Point],
+) -> Result<(), MemFault>
+    ensures { (b : Behaviour) (h : Host) (beside : Option Host) → Stands b L.conduct side.now.which (L.world talk.old.memory.below.below.below.link) h beside → order_of side.now.machine ≡ machine_order h.machine
+        → PutsBack (L.faults talk.old.memory.below.below.below.link) (L.faults talk.new.memory.below.below.below.link) (Unit {0}) result }
+{
+    turn(talk, side);
+    let target = side.machine.byte();
+    let wire = &mut talk.memory.below.below.below;
+    let now = side.row.breaks.as_slice();
+    match put_back_others(target, wire, now, before, false) {
+        Ok(()) => {}
+        Err(fault) => return Err(fault),
+    }
+    match put_back_others(target, wire, before, now, true) {
+        Ok(()) => Ok(()),
+        Err(fault) => Err(fault),
+    }
+}
+
+/// Why a command isn't done that was put back. Words that are put back were there, so none of them is outside.
+fn wanting(back: Result<(), MemFault>) -> AskFault
+    ensures { (f g : ℕ) → PutsBack f g (Unit {0}) back → IsGivenUp f g result }
+{
+    match back {
+        Ok(()) => AskFault::NoMemory,
+        Err(MemFault::Outside { .. }) => AskFault::NoMemory,
+        Err(MemFault::LinkFault) => AskFault::Broken(MemFault::LinkFault),
+        Err(MemFault::BadReply { frame }) => AskFault::Broken(MemFault::BadReply { frame }),
+    }
+}
+
+/// Why a command isn't done that the first side had done: breakpoints and the chosen frame are put back there.
 fn given_up<L: Link + Drop>(
     talk: &mut Operators<Wire<L>>,
     first: &mut SideRecord,
@@ -72,14 +137,13 @@ fn given_up<L: Link + Drop>(
 ) -> AskFault
     ensures breaks { first.new.row.breaks.items ≡ before.items }
     ensures frame { first.new.frame ≡ frame }
+    ensures meant { (b : Behaviour) (h : Host) (beside : Option Host) → Stands b L.conduct first.old.which (L.world talk.old.memory.below.below.below.link) h beside → order_of first.old.machine ≡ machine_order h.machine
+        → IsGivenUp (L.faults talk.old.memory.below.below.below.link) (L.faults talk.new.memory.below.below.below.link) result }
 {
     first.frame = frame;
     let back = put_back(talk, first, before.as_slice());
     first.row.breaks = before;
-    match back {
-        Ok(()) | Err(MemFault::Outside { .. }) => AskFault::NoMemory,
-        Err(why) => AskFault::Broken(why),
-    }
+    wanting(back)
 }
 
 /// What a command says on both sides: the reply is the first side's. Where that side doesn't do it, or the second side alone has
@@ -92,6 +156,8 @@ pub fn asked_both<L: Link + Drop>(
 ) -> Result<Text, AskFault>
     ensures first { IsUndone result → IsKept first.old first.new }
     ensures second { IsUndone result → IsKept second.old second.new }
+    ensures meant { (b : Behaviour) (hs : Hosts) (st : SessionState) → AreThere b L.conduct (L.world talk.old.memory.below.below.below.link) first.old (Some second.old) hs → AreReadyFor first.old (Some second.old) hs st → IsPlain command.now
+        → ComesTo (L.faults talk.old.memory.below.below.below.link) (L.faults talk.new.memory.below.below.below.link) (λ text. SaidAll b L.conduct (L.world talk.new.memory.below.below.below.link) first.new (Some second.new) st (DoneOnBoth st command.now) text) (NotAll b L.conduct (L.world talk.new.memory.below.below.below.link) first.new (Some second.new) st (DoneOnBoth st command.now)) result }
 {
     let alloc = first.inquiry.core.operands.allocator();
     let frame = first.frame;
@@ -99,13 +165,22 @@ pub fn asked_both<L: Link + Drop>(
         Ok(before) => before,
         Err(_) => return Err(AskFault::NoMemory),
     };
-    match asked(talk, first, command) {
-        Err(fault) => Err(undone(talk, second, command, fault)),
-        Ok(text) => match asked(talk, second, command) {
-            Err(AskFault::Broken(why)) => Err(AskFault::Broken(why)),
-            Err(AskFault::NoMemory) => Err(given_up(talk, first, before, frame)),
-            _ => Ok(text),
-        },
+    let said = asked(talk, first, command);
+    let text = match said {
+        Ok(text) => text,
+        Err(fault) => return Err(undone(talk, second, command, fault)),
+    };
+    let more = asked(talk, second, command);
+    let fault = match more {
+        Ok(_) => return Ok(text),
+        Err(fault) => fault,
+    };
+    match fault {
+        AskFault::Broken(why) => Err(AskFault::Broken(why)),
+        AskFault::NoMemory => Err(given_up(talk, first, before, frame)),
+        AskFault::Refused(_) => Ok(text),
+        AskFault::Raised(_) => Ok(text),
+        AskFault::Spent => Ok(text),
     }
 }
 

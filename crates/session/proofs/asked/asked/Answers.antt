@@ -1,5 +1,6 @@
-use Rattle.std.proofs.Common.{Ok, Err, refl}
-use Rattle.session.proofs.Asking.{undone_meant, done_meant, count_of}
+use Rattle.std.proofs.Common.{◌≡◌, Ok, Err, refl}
+use Rattle.table_asks.specs.declared.fault.AskFault.TheVariants.{NoMemory}
+use Rattle.session.proofs.Asking.{undone_meant, done_meant, count_of, rests_wanting}
 use Rattle.session.proofs.asked.asked.Goals as goal
 
 pub returns-in-Err-said-clause-meant : goal.returns-in-Err-said-clause-meant
@@ -49,3 +50,9 @@ pub returns-in-Ok-said-clause-faults : goal.returns-in-Ok-said-clause-faults
 returns-in-Ok-said-clause-faults g c = λ plain.
     count_of g.L.Link.conduct g.L.Link.world g.L.Link.faults c.args.side.now c.args.talk.now c.turn.new.talk c.told-said.new.talk c.args.command.now (Ok c.in-Ok-said.text) c.args.side.now.frame c.args.side.now.row.breaks.items
     c.told-said.new.side.row.breaks.items c.begin_command.new.inquiry c.told-said.new.side.inquiry c.turn.ensures plain c.in-Ok-said.ensures.does
+
+pub returns-in-Err-said-clause-wanting : goal.returns-in-Err-said-clause-wanting
+returns-in-Err-said-clause-wanting g c = λ b h beside x plain e.
+    let is : c.in-Err-said.fault ≡ NoMemory = cc in
+    rests_wanting g.L.Link.conduct g.L.Link.world g.L.Link.faults b c.args.side.now c.args.talk.now c.turn.new.talk c.told-said.new.talk c.args.command.now c.args.side.now.frame c.args.side.now.row.breaks.items c.told-said.new.side.row.breaks.items
+    c.begin_command.new.inquiry c.told-said.new.side.inquiry h beside c.in-Err-said.fault c.turn.ensures is plain c.in-Err-said.ensures.does x

@@ -33,7 +33,7 @@ returns-in-Ok g c = record {
       let no : c.in-Ok.command ≢ Quit = search rules in
       subst (λ (r : Option Command). AnswersAs b g.L.Link.conduct (g.L.Link.world new.talk.memory.below.below.below.link) new.first new.second new.mode new.limit st (g.O.Sink.taken c.args.out.now) (g.O.Sink.taken c.obey.new.out) (MeantAnswers b st r)
       (g.L.Link.faults now.talk.memory.below.below.below.link) (g.L.Link.faults new.talk.memory.below.below.below.link) c.obey.result) (sym ok)
-      (c.obey.ensures.meant b hs st steady x (subst (λ (r : Option Command). IsSaidIfAny r now.second) ok said) no);
+      (c.obey.ensures.meant b hs st steady x (subst (λ (r : Option Command). IsSaidIfAny r) ok said) no);
   broken = c.obey.ensures.broken;
   raw = c.obey.ensures.raw;
 }

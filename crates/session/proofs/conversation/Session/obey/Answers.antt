@@ -77,7 +77,7 @@ returns-in_default-command-clause-meant g c = λ b hs st steady x said some.
     let f = g.L.Link.faults now.talk.memory.below.below.below.link in
     let f1 = g.L.Link.faults mid.talk.memory.below.below.below.link in
     let f2 = g.L.Link.faults new.talk.memory.below.below.below.link in
-    let came = c.inquire-said.ensures.meant b hs st x e (askable cmd now.second said d.not-Continue d.not-Step d.not-Turns some) in
+    let came = c.inquire-said.ensures.meant b hs st x e (askable cmd said d.not-Continue d.not-Step d.not-Turns some) in
     let t = replied b g.L.Link.conduct o mid.first mid.second mid.limit st (AnswersCommand b st cmd) out out refl (x.limit_is ∙ sym c.inquire-said.ensures.limit) (λ t. t) c.inquire-said.result mid.broken mid.mode new.mode f f1 c.reply.result (x.state ∙ ap (λ m. state_of m) (sym c.inquire-said.ensures.mode)) came c.reply.ensures.ok c.reply.ensures.fault in
     let u = left_so b g.L.Link.conduct new.mode st out out (AnswersCommand b st cmd) f (Ok c.reply.result) o o1 mid.first new.first mid.second new.second mid.limit new.limit f1 f2 (ap (λ o. g.L.Link.world o.memory.below.below.below.link) c.reply.ensures.talk) c.reply.ensures.first c.reply.ensures.second c.reply.ensures.limit
     (ap (λ o. g.L.Link.faults o.memory.below.below.below.link) c.reply.ensures.talk) t in

@@ -1,0 +1,259 @@
+-- A command that is asked of both sides.
+use Rattle.std.proofs.Common.{◌≡◌, ◌≢◌, ◌∙◌, inl, refl, sym, ap, subst, ℕ, ◌≤◌, List, [], map, Option, Some, None, Result, Ok, Err, arith}
+use Rattle.machine_state.specs.State.{MachineState, Behaviour, order_of as machine_order}
+use Rattle.nub_wire.specs.declared.link.Side.{Side}
+use Rattle.nub_wire.specs.Rest.{other}
+use Rattle.resuming.specs.Standing.{Stands}
+use Rattle.nub_wire.specs.Nub.{Host}
+use Rattle.nub_wire.specs.Delivery.{Conduct, World}
+use Rattle.abs_mem.specs.declared.memory.MemFault.{MemFault}
+use Rattle.abs_mem.specs.declared.memory.MemFault.TheVariants.{Outside, LinkFault, BadReply}
+use Rattle.table_points.specs.Rows.{row_in}
+use Rattle.debug_side.specs.Told.{with_regions}
+use Rattle.table_asks.specs.declared.fault.AskFault.{AskFault}
+use Rattle.table_asks.specs.declared.fault.AskFault.TheVariants.{Refused, Raised, Spent, NoMemory, Broken}
+use Rattle.dialect_model.specs.TableUse.{Kind}
+use Rattle.dialect_model.specs.TableUse.{Refused as RefusedFor, Spent as StepsSpent}
+use Rattle.c_session.specs.declared.command.Command.{Command}
+use Rattle.c_session.specs.declared.command.Command.TheVariants as command
+use Rattle.asking.specs.Refusals.{refusal_of}
+use Rattle.asking_meaning.specs.Meant.{joined}
+use Rattle.claims.specs.Side.{SideState, SessionState, Change, OnSide, Troubled}
+use Rattle.claims.specs.Lines.{Reply, trouble_reply}
+use Rattle.claims.specs.Breaks as side_breaks
+use Rattle.claims.specs.Frames as side_frames
+use Rattle.claims.specs.Outcome.{Comes, OneSide, DoneOnBoth, SecondDone, SecondUndone, undone_by}
+use Rattle.side_meaning.specs.Standing.{Debugged}
+use Rattle.side_meaning.specs.Stepping.{IsReady}
+use Rattle.side_meaning.specs.Asking.{IsAsked}
+use Rattle.side_meaning.proofs.Starting.{asks_stand, no_words}
+use Rattle.session.specs.declared.sides.SideRecord.{SideRecord}
+use Rattle.session.specs.Meant.{debugged, sides_of, Hosts, IsThere, AreThere, AreReadyFor, ComesTo, IsPlain, AskedOne, SaidOne, NotOne, SaidAll, NotAll, Rests, IsGivenUp}
+use Rattle.session.specs.Turned.{order_of}
+use Rattle.session.proofs.Regs.{rose_since}
+use Rattle.session.proofs.Asking.{none_mapped}
+use Rattle.session.proofs.AskingOne.{AsksSide}
+use Rattle.session.proofs.Beside.{stands_beside, second_beside, first_beside}
+use Rattle.session.proofs.Readying.{hosts}
+
+-- ---- a side of which nothing is asked
+
+asked_none : (d : Debugged) (a : SideState) → IsReady d a → a.step_words ≡ [] → IsAsked d d a a
+asked_none d a r none = record {
+  words = none_mapped (row_in d.table) d.row.step_words.items (sym r.planted.words ∙ none);
+  table = r.stands.table;
+  frame = r.stands.frame;
+  breaks = r.stands.alike.breaks;
+  stands_at = refl;
+  kept = refl;
+  host = ap (λ (m : MachineState). with_regions d.host m.memory) (sym r.planted.machine);
+  side = refl;
+}
+
+-- no text of PostScript
+abbrev pub IsNoText : Command → Type 0
+IsNoText c = (text : List ℕ) → c ≢ command.Ps text
+
+pub plain_no_text : (c : Command) → IsPlain c → IsNoText c
+plain_no_text c p text e = subst IsPlain e p
+
+second_left : (c : Command) → IsPlain c → IsNoText c → (b : SideState) → SecondUndone c (Some b) (Some b)
+second_left (command.Break spot) p apart b = inl refl
+second_left (command.Clear spot) p apart b = inl refl
+second_left command.Frames p apart b = inl refl
+second_left (command.Frame n) p apart b = inl refl
+second_left (command.Ps text) p apart b = absurd (apart text refl)
+second_left command.Continue p apart b = absurd p
+second_left command.Step p apart b = absurd p
+second_left (command.Turns n) p apart b = absurd p
+second_left command.Quit p apart b = absurd p
+second_left command.Regs p apart b = absurd p
+second_left (command.Print name) p apart b = absurd p
+second_left (command.Eval text) p apart b = absurd p
+second_left (command.Assign text) p apart b = absurd p
+second_left (command.Code text) p apart b = absurd p
+
+-- ---- a side that doesn't do it
+
+units_run : (m : OnSide Change) (a x : SideState) (e : Troubled) → Comes m a (Err e) x → record a { table = x.table } ≡ x
+units_run m a x e c = ap (λ (z : SideState). record a { table = z.table }) c.leaves ∙ sym c.leaves
+
+undone_is : (c : Command) → IsPlain c → (a x : SideState) (e : Troubled) → OneSide c a (Err e) x → undone_by c a x ≡ x
+undone_is (command.Break spot) p a x e w = units_run (side_breaks.breaking a spot) a x e w
+undone_is (command.Clear spot) p a x e w = units_run (side_breaks.clearing a spot) a x e w
+undone_is command.Frames p a x e w = units_run (side_frames.listing a) a x e w
+undone_is (command.Frame n) p a x e w = units_run (side_frames.choosing a n) a x e w
+undone_is (command.Ps text) p a x e w = absurd p
+undone_is command.Continue p a x e w = absurd p
+undone_is command.Step p a x e w = absurd p
+undone_is (command.Turns n) p a x e w = absurd p
+undone_is command.Quit p a x e w = absurd p
+undone_is command.Regs p a x e w = absurd p
+undone_is (command.Print name) p a x e w = absurd p
+undone_is (command.Eval text) p a x e w = absurd p
+undone_is (command.Assign text) p a x e w = absurd p
+undone_is (command.Code text) p a x e w = absurd p
+
+-- ---- both
+
+-- neither the link failed nor was memory wanting
+abbrev pub IsAnswer : Result (List ℕ) AskFault → Type 0
+IsAnswer (Ok text) = Unit {0}
+IsAnswer (Err (Refused cause)) = Unit {0}
+IsAnswer (Err (Raised e)) = Unit {0}
+IsAnswer (Err Spent) = Unit {0}
+IsAnswer (Err NoMemory) = ⊥
+IsAnswer (Err (Broken f)) = ⊥
+
+-- a link that fails later has not failed before
+broken_since : (f f1 f2 : ℕ) (D D' : List ℕ → Type 0) (N N' : Troubled → Type 0) (fault : MemFault) → f ≤ f1 → ComesTo f1 f2 D N (Err (Broken fault)) → ComesTo f f2 D' N' (Err (Broken fault))
+broken_since f f1 f2 D D' N N' LinkFault le w = rose_since f f1 f2 le w
+broken_since f f1 f2 D D' N N' (BadReply frame) le w = w
+broken_since f f1 f2 D D' N N' (Outside p) le w = w
+
+gives_up : (f f2 f3 : ℕ) (D : List ℕ → Type 0) (N : Troubled → Type 0) (fault : AskFault) → f ≤ f2 → IsGivenUp f2 f3 fault → ComesTo f f3 D N (Err fault)
+gives_up f f2 f3 D N NoMemory le w = tt
+gives_up f f2 f3 D N (Broken LinkFault) le w = rose_since f f2 f3 le w
+gives_up f f2 f3 D N (Broken (BadReply frame)) le w = absurd w
+gives_up f f2 f3 D N (Broken (Outside p)) le w = absurd w
+gives_up f f2 f3 D N (Refused cause) le w = absurd w
+gives_up f f2 f3 D N (Raised e) le w = absurd w
+gives_up f f2 f3 D N Spent le w = absurd w
+
+module _ (b : Behaviour) (c : Conduct) (o o1 : Option World) (first first' second : SideRecord) (which : first'.which ≡ first.which) (now : Command) (plain : IsPlain now) where
+  module _ (g h : Host) (st : SessionState) (s : SideState) (there : AreThere b c o first (Some second) (hosts g (Some h))) (ready : AreReadyFor first (Some second) (hosts g (Some h)) (record st { second = Some s })) where
+    abbrev two : SessionState
+    two = record st { second = Some s }
+
+    none : st.first.step_words ≡ []
+    none = no_words st.state (debugged first g) st.first ready.still ready.sides.first
+
+    second_none : s.step_words ≡ []
+    second_none = no_words st.state (debugged second h) s ready.still ready.sides.second
+
+    -- the first side was asked
+    module _ (r : Result Change Troubled) (x : AskedOne b c o1 first first' g (Some h) now st.first r) where
+      waits : IsThere b c o1 second h (Some x.host)
+      waits = second_beside b c o o1 first' second h x.host (Some g) there.second_there.0 there.second_there.1 (which ∙ there.first_is) x.there
+
+      abbrev after : SideState → SessionState
+      after y = record st { first = x.after; second = Some y }
+
+      said : (o2 : Option World) (second' : SideRecord) (k : Host) (y : SideState) (reply : Reply) (text : List ℕ) → second'.which ≡ second.which → IsThere b c o2 second' k (Some x.host) → IsThere b c o2 first' x.host (Some k)
+          → IsAsked (debugged second h) (debugged second' k) s y → DoneOnBoth two now reply (after y) → text ≡ joined reply → SaidAll b c o2 first' (Some second') two (DoneOnBoth two now) text
+      said o2 second' k y reply text e w v alike says is = record {
+        reply = reply;
+        after = after y;
+        hosts = hosts x.host (Some k);
+        says = says;
+        text_is = is;
+        there = record { first_is = which ∙ there.first_is; first_there = v; second_there = (e ∙ there.second_there.0, w) };
+        sides = (asks_stand (sides_of first (Some second) (hosts g (Some h))) (sides_of first' (Some second') (hosts x.host (Some k))) two (after y) ready.still ready.sides ready.ready refl x.alike alike).0;
+        state = refl;
+        limit = refl;
+        written = refl;
+      }
+
+    -- it isn't done there, and nothing is asked of the second side
+    first_not : IsNoText now → (e : Troubled) → NotOne b c o1 first first' g (Some h) now st.first e → NotAll b c o1 first' (Some second) two (DoneOnBoth two now) e
+    first_not apart e x =
+        said (Err e) x o1 second h s (trouble_reply e) (joined (trouble_reply e)) refl (waits (Err e) x) x.there (asked_none (debugged second h) s ready.ready.1 second_none)
+        (Err e, x.after, x.one, (Some s, second_left now plain apart s, refl, refl)) refl
+
+    first_undone_by : IsNoText now → (f f1 : ℕ) (fault : AskFault) → ComesTo f f1 (λ (text : List ℕ). SaidOne b c o1 first first' g (Some h) now st.first text) (NotOne b c o1 first first' g (Some h) now st.first) (Err fault)
+        → ComesTo f f1 (λ (text : List ℕ). SaidAll b c o1 first' (Some second) two (DoneOnBoth two now) text) (NotAll b c o1 first' (Some second) two (DoneOnBoth two now)) (Err fault)
+    first_undone_by apart f f1 (Refused cause) w = first_not apart (RefusedFor (refusal_of cause)) w
+    first_undone_by apart f f1 (Raised e) w = first_not apart (Kind e) w
+    first_undone_by apart f f1 Spent w = first_not apart StepsSpent w
+    first_undone_by apart f f1 NoMemory w = w
+    first_undone_by apart f f1 (Broken LinkFault) w = w
+    first_undone_by apart f f1 (Broken (BadReply frame)) w = w
+    first_undone_by apart f f1 (Broken (Outside p)) w = w
+
+    -- it is done there
+    module _ (o2 : Option World) (second' : SideRecord) (second_which : second'.which ≡ second.which) (text : List ℕ) (x : SaidOne b c o1 first first' g (Some h) now st.first text) where
+      abbrev host1 : Host
+      host1 = x.asked.host
+
+      module _ (r : Result Change Troubled) (y : AskedOne b c o2 second second' h (Some host1) now s r) where
+        first_stays : IsThere b c o2 first' host1 (Some y.host)
+        first_stays = first_beside b c o1 o2 first' second' host1 y.host (Some h) (which ∙ there.first_is) x.asked.there (second_which ∙ there.second_there.0) y.there
+
+        both : SecondDone two now x.change x.asked.after s r y.after x.change.lines (after (Ok x.change) x.asked y.after) → SaidAll b c o2 first' (Some second') two (DoneOnBoth two now) text
+        both says =
+            said (Ok x.change) x.asked o2 second' y.host y.after x.change.lines text second_which y.there first_stays y.alike
+            (Ok x.change, x.asked.after, x.asked.one, (r, y.after, y.one, says)) x.text_is
+
+      second_not : (e : Troubled) (y : AskedOne b c o2 second second' h (Some host1) now s (Err e)) → record two { first = x.asked.after; second = Some y.after } ≡ record two { first = x.asked.after; second = Some (undone_by now s y.after) }
+      second_not e y = ap (λ (z : SideState). record two { first = x.asked.after; second = Some z }) (sym (undone_is now plain s y.after e y.one))
+
+      second_told_by : (f f1 : ℕ) (r : Result (List ℕ) AskFault) → IsAnswer r → ComesTo f f1 (λ (t : List ℕ). SaidOne b c o2 second second' h (Some host1) now s t) (NotOne b c o2 second second' h (Some host1) now s) r
+          → SaidAll b c o2 first' (Some second') two (DoneOnBoth two now) text
+      second_told_by f f1 (Ok other) is y = both (Ok y.change) y.asked (refl, refl)
+      second_told_by f f1 (Err (Refused cause)) is y = both (Err (RefusedFor (refusal_of cause))) y (refl, second_not (RefusedFor (refusal_of cause)) y)
+      second_told_by f f1 (Err (Raised e)) is y = both (Err (Kind e)) y (refl, second_not (Kind e) y)
+      second_told_by f f1 (Err Spent) is y = both (Err StepsSpent) y (refl, second_not StepsSpent y)
+      second_told_by f f1 (Err NoMemory) is y = absurd is
+      second_told_by f f1 (Err (Broken fault)) is y = absurd is
+
+  -- what holds of two sides that are there holds of the session
+  two_sides : (P : SessionState → Type 0) (hs : Hosts) (st : SessionState) → AreThere b c o first (Some second) hs → AreReadyFor first (Some second) hs st
+      → ((h : Host) (s : SideState) → AreThere b c o first (Some second) (hosts hs.first (Some h)) → AreReadyFor first (Some second) (hosts hs.first (Some h)) (record st { second = Some s }) → P (record st { second = Some s })) → P st
+  two_sides P hs st there ready holds = by hs.second st.second there ready
+    where
+      by : (x : Option Host) (y : Option SideState) → AreThere b c o first (Some second) (hosts hs.first x) → AreReadyFor first (Some second) (hosts hs.first x) (record st { second = y }) → P (record st { second = y })
+      by (Some h) (Some s) t r = holds h s t r
+      by (Some h) None t r = absurd r.ready.1
+      by None y t r = absurd t.second_there
+
+  -- the first side doesn't do it
+  pub first_undone : IsNoText now → (hs : Hosts) (st : SessionState) (f f1 : ℕ) (fault : AskFault) → AreThere b c o first (Some second) hs → AreReadyFor first (Some second) hs st → AsksSide b c o o1 f f1 first first' now (Err fault)
+      → ComesTo f f1 (λ (text : List ℕ). SaidAll b c o1 first' (Some second) st (DoneOnBoth st now) text) (NotAll b c o1 first' (Some second) st (DoneOnBoth st now)) (Err fault)
+  first_undone apart hs st f f1 fault there ready asks =
+      two_sides (λ (z : SessionState). ComesTo f f1 (λ (text : List ℕ). SaidAll b c o1 first' (Some second) z (DoneOnBoth z now) text) (NotAll b c o1 first' (Some second) z (DoneOnBoth z now)) (Err fault)) hs st there ready
+      (λ h s t r. first_undone_by hs.first h st s t r apart f f1 fault (asks hs.first (Some h) st.first t.first_there r.ready.0 (none hs.first h st s t r) plain))
+
+  -- where nothing is asked of the second side
+  pub left_undone : (hs : Hosts) (st : SessionState) (f f1 g : ℕ) (p : Option World) (other : SideRecord) (fault answer : AskFault) → AreThere b c o first (Some second) hs → AreReadyFor first (Some second) hs st → AsksSide b c o o1 f f1 first first' now (Err fault)
+      → IsNoText now → answer ≡ fault → other ≡ second → p ≡ o1 → g ≡ f1 → ComesTo f g (λ (text : List ℕ). SaidAll b c p first' (Some other) st (DoneOnBoth st now) text) (NotAll b c p first' (Some other) st (DoneOnBoth st now)) (Err answer)
+  left_undone hs st f f1 g p other fault answer there ready asks apart e1 e2 e3 e4 =
+      subst (λ (z : AskFault). ComesTo f g (λ (text : List ℕ). SaidAll b c p first' (Some other) st (DoneOnBoth st now) text) (NotAll b c p first' (Some other) st (DoneOnBoth st now)) (Err z)) (sym e1)
+      (subst (λ (z : SideRecord). ComesTo f g (λ (text : List ℕ). SaidAll b c p first' (Some z) st (DoneOnBoth st now) text) (NotAll b c p first' (Some z) st (DoneOnBoth st now)) (Err fault)) (sym e2)
+      (subst (λ (z : Option World). ComesTo f g (λ (text : List ℕ). SaidAll b c z first' (Some second) st (DoneOnBoth st now) text) (NotAll b c z first' (Some second) st (DoneOnBoth st now)) (Err fault)) (sym e3)
+      (subst (λ (z : ℕ). ComesTo f z (λ (text : List ℕ). SaidAll b c o1 first' (Some second) st (DoneOnBoth st now) text) (NotAll b c o1 first' (Some second) st (DoneOnBoth st now)) (Err fault)) (sym e4)
+      (first_undone apart hs st f f1 fault there ready asks))))
+
+  -- the first side does it
+  module _ (hs : Hosts) (st : SessionState) (there : AreThere b c o first (Some second) hs) (ready : AreReadyFor first (Some second) hs st) (f f1 : ℕ) (text : List ℕ) (asks : AsksSide b c o o1 f f1 first first' now (Ok text)) where
+    -- and the second one answers
+    pub second_told : (o2 : Option World) (f2 : ℕ) (second' : SideRecord) (r : Result (List ℕ) AskFault) → second'.which ≡ second.which → IsAnswer r → AsksSide b c o1 o2 f1 f2 second second' now r
+        → SaidAll b c o2 first' (Some second') st (DoneOnBoth st now) text
+    second_told o2 f2 second' r second_which is more =
+        two_sides (λ (z : SessionState). SaidAll b c o2 first' (Some second') z (DoneOnBoth z now) text) hs st there ready
+        (λ h s t r'.
+        let x = asks hs.first (Some h) st.first t.first_there r'.ready.0 (none hs.first h st s t r') plain in
+        second_told_by hs.first h st s t r' o2 second' second_which text x f1 f2 r is (more h (Some x.asked.host) s (waits hs.first h st s t r' (Ok x.change) x.asked) r'.ready.1 (second_none hs.first h st s t r') plain))
+
+    -- or its link fails
+    pub second_failed : (o2 : Option World) (f2 : ℕ) (second' : SideRecord) (y : AskFault) (fault : MemFault) (D : List ℕ → Type 0) (N : Troubled → Type 0) → y ≡ Broken fault → f ≤ f1 → AsksSide b c o1 o2 f1 f2 second second' now (Err y) → ComesTo f f2 D N (Err (Broken fault))
+    second_failed o2 f2 second' y fault D N e le more =
+        two_sides (λ (z : SessionState). ComesTo f f2 D N (Err (Broken fault))) hs st there ready
+        (λ h s t r'.
+        let x = asks hs.first (Some h) st.first t.first_there r'.ready.0 (none hs.first h st s t r') plain in
+        let g : Host = x.asked.host in
+        broken_since f f1 f2 (λ (u : List ℕ). SaidOne b c o2 second second' h (Some g) now s u) D (NotOne b c o2 second second' h (Some g) now s) N fault le
+        (subst (λ (z : AskFault). ComesTo f1 f2 (λ (u : List ℕ). SaidOne b c o2 second second' h (Some g) now s u) (NotOne b c o2 second second' h (Some g) now s) (Err z)) e
+        (more h (Some g) s (waits hs.first h st s t r' (Ok x.change) x.asked) r'.ready.1 (second_none hs.first h st s t r') plain)))
+
+    -- or it has no memory for it, and the first one is as before
+    pub second_wants : (o2 : Option World) (f2 f3 : ℕ) (fault : AskFault) (D : List ℕ → Type 0) (N : Troubled → Type 0) → f ≤ f2
+        → ((h : Host) (beside : Option Host) → IsThere b c o1 second h beside → Rests b c o2 second.which (order_of second.machine) beside)
+        → ((h : Host) (beside : Option Host) → Stands b c first'.which o2 h beside → order_of first'.machine ≡ machine_order h.machine → IsGivenUp f2 f3 fault) → ComesTo f f3 D N (Err fault)
+    second_wants o2 f2 f3 fault D N le rests gives =
+        two_sides (λ (z : SessionState). ComesTo f f3 D N (Err fault)) hs st there ready
+        (λ h s t r'.
+        let x = asks hs.first (Some h) st.first t.first_there r'.ready.0 (none hs.first h st s t r') plain in
+        let y = rests h (Some x.asked.host) (waits hs.first h st s t r' (Ok x.change) x.asked) in
+        let other_is : second.which ≡ other first'.which = t.second_there.0 ∙ ap other (sym (which ∙ t.first_is)) in
+        gives_up f f2 f3 D N fault le
+        (gives x.asked.host (Some y.host) (stands_beside b c o1 o2 x.asked.host y.host (Some h) first'.which x.asked.there.stands (subst (λ (w : Side). Stands b c w o2 y.host (Some x.asked.host)) other_is y.stands)) x.asked.there.order))
