@@ -6,4 +6,13 @@ mod Rows
 mod Ps
 mod Ran
 mod Operands
+mod Unstored
+mod Lacking
+mod Typing
+mod Ending
+mod Placing
+mod Showing
+mod Printed
+mod Scoped
+mod Framed
 pub mod Named

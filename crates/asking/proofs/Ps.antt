@@ -51,12 +51,12 @@ module _ (s : StoreState) (n : ℕ) (part : s.part ≡ Command) where
   abbrev after : DictId → StoreState → TableUse
   after d s' = record before { store = s'; own = Some d }
 
-  begins : (d : DictId) (s' : StoreState) → making_dict s ≡ Ok (d, s') → beginning {R = Cause} before (Ok (core_in s' d)) (after d s')
+  pub begins : (d : DictId) (s' : StoreState) → making_dict s ≡ Ok (d, s') → beginning {R = Cause} before (Ok (core_in s' d)) (after d s')
   begins d s' e =
       let is : making_dict (record s { part = Command }) ≡ Ok (d, s') = ap making_dict in_part ∙ e in
       subst (λ (g : Given DictId). begun_by before g (Ok (core_in s' d)) (after d s')) (sym is) (refl, refl)
 
-  not_made : (f : StoreFault) → making_dict s ≡ Err f → beginning {R = Cause} before (Err (Kind LimitCheck)) before
+  pub not_made : (f : StoreFault) → making_dict s ≡ Err f → beginning {R = Cause} before (Err (Kind LimitCheck)) before
   not_made f e =
       let is : making_dict (record s { part = Command }) ≡ Err f = ap making_dict in_part ∙ e in
       subst (λ (g : Given DictId). begun_by before g (Err (Kind LimitCheck)) before) (sym is) (refl, refl)

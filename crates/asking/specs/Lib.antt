@@ -4,3 +4,4 @@ pub mod Doing
 pub mod Frames
 pub mod Raw
 pub mod Breaks
+pub mod Printing

@@ -1,5 +1,8 @@
 // How much there is inside a type.
 
+ghost use Rattle.table_model.specs.Types.{is_within, each_part};
+ghost use Rattle.asking.specs.Printing.{FoundWithin};
+
 use ps_store::{DictId, PsObj, PsStore};
 use table_model::Lack;
 use table_read::{dict_at, items_at};
@@ -8,7 +11,9 @@ use table_types::{TypeKind, member_in, type_kind};
 /// How many parts may still be walked behind a type that is at most so deep: it and those of its item, its target or its members, a
 /// struct counting anew wherever it stands. None is walked behind the last.
 #[cycle(parts)]
-pub fn parts_left(store: &PsStore, deep: u32, left: u32, t: DictId) -> Result<u32, Lack> {
+pub fn parts_left(store: &PsStore, deep: u32, left: u32, t: DictId) -> Result<u32, Lack>
+    ensures { FoundWithin result (is_within store.now deep t) }
+{
     if left == 0 {
         return Ok(0);
     }
@@ -37,14 +42,22 @@ pub fn parts_left(store: &PsStore, deep: u32, left: u32, t: DictId) -> Result<u3
 
 /// The same behind the types of some members.
 #[cycle(parts)]
-fn members_left(store: &PsStore, deep: u32, left: u32, members: &[PsObj]) -> Result<u32, Lack> {
+fn members_left(store: &PsStore, deep: u32, left: u32, members: &[PsObj]) -> Result<u32, Lack>
+    ensures { FoundWithin result (each_part store.now (λ m. is_within store.now deep m) members.now) }
+{
     let mut rest = left;
     for object in members {
         if rest == 0 {
             return Ok(0);
         }
-        let member = member_in(store, *object)?;
-        rest = parts_left(store, deep, rest, member.ctype)?;
+        let member = match member_in(store, *object) {
+            Ok(member) => member,
+            Err(lack) => return Err(lack),
+        };
+        rest = match parts_left(store, deep, rest, member.ctype) {
+            Ok(more) => more,
+            Err(lack) => return Err(lack),
+        };
     }
     Ok(rest)
 }
