@@ -92,7 +92,7 @@ told_by free m t r t' = (result : _) × (u : TableUse) × m t result u × TellsI
 abbrev pub AnyText : List ℕ → Type 0
 AnyText text = AllByRecursion (λ c. c ≢ 10) text
 
--- any numbers in the leaves of one place: the one that the text leaves on the left
+-- any numbers in the leaves of some one place of the type of the left side
 abbrev pub AnyLeaves : Scene → Typed → Bytes → Type 0
 AnyLeaves sc e b = (to : Lvalue) × (vs : List ℕ) × (stored_all sc (leavings sc to (leaves_of sc.defs (type_of e)) vs) (bytes_with sc 0) ≡ Some b)
 
