@@ -1,5 +1,5 @@
 -- A command that runs PostScript and stores nothing, between its begin and its end.
-use Rattle.std.proofs.Common.{◌≡◌, ℕ, List, Some, Option, Result, Ok, Err, refl, sym, ap, ◌∙◌, subst}
+use Rattle.std.proofs.Common.{◌≡◌, ℕ, List, Some, Result, Ok, Err, refl, sym, ap, ◌∙◌, subst}
 use Rattle.machine_state.specs.Regions.{Regions}
 use Rattle.ps_store.specs.declared.object.Part.TheVariants.{Command}
 use Rattle.ps_store.specs.StoreState.{StoreState}
@@ -14,7 +14,7 @@ use Rattle.table_asks.specs.declared.inquiry.Inquiry.{Inquiry}
 use Rattle.table_asks.specs.Asking.{left_of}
 use Rattle.asking.specs.Printing.{Ends, EndsOnTold, EndsOver}
 use Rattle.claims.specs.Side.{SideState, Change, OnSide, MOST_STEPS, target_of, memory_of, table_after, side_after}
-use Rattle.asking_meaning.specs.Meant.{Matched, Covers, Says, answer_of, Stands, Begun, IsEnded}
+use Rattle.asking_meaning.specs.Meant.{Matched, Covers, Says, answer_of, Stands, IsEnded}
 use Rattle.asking_meaning.specs.Told.{if_done, MeantOver, RunsAreMeant}
 use Rattle.asking_meaning.proofs.Wholes.{some_is, begun_at, ample, table_is, same_table, left_nothing}
 use Rattle.asking_meaning.proofs.Telling.{asked_side}

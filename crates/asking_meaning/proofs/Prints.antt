@@ -1,12 +1,10 @@
 -- `print`.
-use Rattle.std.proofs.Common.{◌≡◌, ℕ, Bool, true, false, List, [], ◌∷◌, ◌++◌, append-nil, codes, Option, Some, None, Result, Ok, Err, refl, sym, ap, ◌∙◌, subst}
-use Rattle.machine_state.specs.Regions.{Regions}
+use Rattle.std.proofs.Common.{◌≡◌, ℕ, Bool, true, false, List, [], ◌∷◌, ◌++◌, append-nil, codes, Option, Some, None, Ok, Err, refl, sym}
 use Rattle.machine_state.specs.declared.layout.TheConstants.{CONTEXT}
 use Rattle.ps_store.specs.declared.object.DictId.{DictId}
 use Rattle.ps_store.specs.declared.object.PsObj.{PsObj}
 use Rattle.ps_store.specs.declared.object.PsObj.TheVariants.{Dict}
 use Rattle.ps_store.specs.StoreState.{StoreState}
-use Rattle.ps_step.specs.declared.machine.PsCore.{PsCore}
 use Rattle.ps_step.specs.State.{pushing}
 use Rattle.ps_step.specs.Results as results
 use Rattle.frame_bytes.specs.declared.frame.Frame.{Frame}

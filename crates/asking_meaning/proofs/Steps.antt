@@ -1,5 +1,5 @@
 -- Parts of commands that cover each other, step by step, however they are grouped.
-use Rattle.std.proofs.Common.{◌≡◌, Result, Ok, Err, inl, inr, refl, sym, ap, subst}
+use Rattle.std.proofs.Common.{◌≡◌, Result, Ok, Err, inl, inr, refl, sym, subst}
 use Rattle.ps_store.specs.declared.object.PsObj.{PsObj}
 use Rattle.ps_step.specs.declared.fault.PsError.{PsError}
 use Rattle.ps_step.specs.declared.machine.PsCore.{PsCore}
@@ -9,7 +9,7 @@ use Rattle.dialect_model.specs.TableUse.{TableUse, Trouble, Kind, Wanting, Eval,
 use Rattle.dialect_model.specs.Running.{Run, run_result, or_error, running}
 use Rattle.table_asks.specs.declared.fault.Cause.{Cause}
 use Rattle.claims.specs.Side.{OnSide, Troubled}
-use Rattle.asking_meaning.specs.Meant.{Matches, Matched, Covers}
+use Rattle.asking_meaning.specs.Meant.{Matches, Covers}
 use Rattle.asking_meaning.proofs.Covering.{gives_covers, fails_covers, bind_covers, regrouped_covers, same_trouble}
 
 abbrev pub Same : (A : Type 0) → A → A → Type 0
