@@ -4,6 +4,6 @@ pub mod Wholes
 pub mod Texts
 pub mod Registers
 pub mod Telling
-mod Steps
-mod Prints
-mod Printings
+pub mod Steps
+pub mod Prints
+pub mod Printings
