@@ -3,7 +3,7 @@ use Rattle.std.proofs.Common.{◌≡◌, refl, Bool, true, false, bytes_eq, if�
 use Rattle.ps_store.specs.declared.key.Key.TheVariants.{Name as NameKey}
 use Rattle.ps_store.specs.declared.object.DictId.{DictId}
 use Rattle.ps_store.specs.declared.object.PsObj.{PsObj}
-use Rattle.ps_store.specs.declared.object.PsObj.TheVariants.{Int, Bool as Truth, Name, Str, Array, Dict, Op, Mark as MarkObject, Null}
+use Rattle.ps_store.specs.declared.object.PsObj.TheVariants.{Name, Array}
 use Rattle.ps_store.specs.StoreState.{StoreState}
 use Rattle.ps_store.specs.Store.{entries_of, bytes_of}
 use Rattle.ps_store.specs.Entries.{value_at}

@@ -1,5 +1,5 @@
 -- Runs of the dialect whose operators may not store to the target leave it as it was.
-use Rattle.std.proofs.Common.{◌≡◌, ◌∙◌, refl, sym, ap, subst, ℕ, zero, suc, nat_eq, Bool, true, false, if◌then◌else◌, is_some, option_map, Option, Some, None, Result, Ok, Err, List, [], ◌∷◌, slice_get}
+use Rattle.std.proofs.Common.{◌≡◌, ◌∙◌, refl, sym, ap, subst, ℕ, zero, suc, Bool, false, is_some, option_map, Option, Some, None, Result, Ok, Err, List, [], ◌∷◌, slice_get}
 use Rattle.ldb_words.specs.declared.kinds.Kind.{Kind}
 use Rattle.ldb_words.specs.declared.kinds.Kind.TheVariants.{Word}
 use Rattle.ps_step.specs.declared.fault.PsError.{PsError}
@@ -13,7 +13,6 @@ use Rattle.frame_bytes.specs.declared.frame.Space.TheVariants.{Memory, Registers
 use Rattle.frame_bytes.specs.declared.frame.Place.{Place}
 use Rattle.frame_bytes.specs.declared.frame.Frame.{Frame}
 use Rattle.frame_bytes.specs.Bytes.{Bytes, fetched, stored, with_cell_part, cell_at}
-use Rattle.ps_words.specs.declared.words.WordOperator.{WordOperator}
 use Rattle.ps_words.specs.declared.words.WordOperator.TheVariants.{SignedAdd, SignedSubtract, SignedMultiply, SignedDivide, SignedRemainder, Divide, Remainder, Add, Subtract, Multiply, ShiftLeft, SignedShiftRight, ShiftRight}
 use Rattle.ps_words.specs.Operators.{word_in, on_two, negating, below}
 use Rattle.ps_places.specs.Places.{placing_at}
@@ -25,8 +24,8 @@ use Rattle.ps_pointers.specs.Pointers as pointers
 use Rattle.ps_leaves.specs.Leaves as leaves
 use Rattle.ps_leaves.specs.Forms as forms
 use Rattle.ps_symbols.specs.Naming as names
-use Rattle.dialect_model.specs.Dial.{Dial, Target, Acted, Act, raised, bytes_in, with_bytes, frame_of, scope_of}
-use Rattle.dialect_model.specs.Acting.{with_state, with_told, with_text, space_bytes, found, found_behind, anchoring, placing_local, placing_value, locating, fetching, storing, adding, subtracting, comparing, taking_leaf, giving_struct, putting, putting_char, putting_pointer, putting_chars, measuring_run}
+use Rattle.dialect_model.specs.Dial.{Dial, Target, Act, raised, bytes_in, frame_of, scope_of}
+use Rattle.dialect_model.specs.Acting.{with_state, with_told, with_text, space_bytes, found, found_behind, placing_local, placing_value, locating, fetching, storing, adding, subtracting, comparing, taking_leaf, putting, putting_char, putting_pointer, putting_chars, measuring_run}
 use Rattle.dialect_model.specs.Operators.{Operator, operators, act_of, act}
 use Rattle.dialect_model.specs.Operating.{Operates}
 use Rattle.dialect_model.specs.Operating as operating

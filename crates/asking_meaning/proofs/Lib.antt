@@ -4,3 +4,6 @@ pub mod Wholes
 pub mod Texts
 pub mod Registers
 pub mod Telling
+pub mod Steps
+pub mod Prints
+pub mod Printings

@@ -49,7 +49,7 @@ module _ {R : Type 0} (s s' : Seen R) (a : SideState) (rest : R) where
   over m j k (Err (Broken f)) r told h e = absurd (let w = e in cc)
 
   -- the side after a command that only chooses a frame
-  asked_side : (frame : ℕ) (m : OnSide Change) (l : Inquiry) (r : Result (List ℕ) (Trouble Cause)) (result : Result Change Troubled) (side : SideState) (use_after : TableUse)
+  pub asked_side : (frame : ℕ) (m : OnSide Change) (l : Inquiry) (r : Result (List ℕ) (Trouble Cause)) (result : Result Change Troubled) (side : SideState) (use_after : TableUse)
       → Matches (Says (record a { frame = frame })) r result → outcome.Comes m a result side → side ≡ side_after a result use_after → Stands l side → s'.tells (memory_of a) rest
       → MeantOver m a r (if_done r frame a.frame) a.breaks l s' rest
   asked_side frame m l (Ok text) (Ok change) side u w c e st told =

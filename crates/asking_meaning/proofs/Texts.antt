@@ -47,7 +47,7 @@ again_covers : (own : Option DictId) → Covers (Same PsCore) (begins_or_again o
 again_covers None t r t' h = let w = begins_covers t (making_dict (record t.store { part = Command })) r t' h in record { result = w.0; matches = w.1; comes = w.2 }
 again_covers (Some d) t r t' h = record { result = Ok (core_in t.store d); matches = subst (λ r. Matches (Same PsCore) r (Ok (core_in t.store d))) (sym h.0) refl; comes = (refl, h.1) }
 
-beginning_covers : Covers (Same PsCore) beginning beginning
+pub beginning_covers : Covers (Same PsCore) beginning beginning
 beginning_covers t r t' h = let w = again_covers t.own t r t' h in record { result = w.result; matches = w.matches; comes = w.comes }
 
 abbrev texts_by : TableUse → Dial → PsCore → Given StringId → Result Run Troubled → TableUse → Type 0

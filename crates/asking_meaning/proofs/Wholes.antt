@@ -34,7 +34,7 @@ module _ {A : Type 0} (m : Eval Cause A) (j k : Inquiry) (t : TableUse) where
   answers (Err (Broken f)) r h e = absurd (let w = e in cc)
 
 -- memory was there before and behind a command
-ample : (n : OnSide Change) (t : TableUse) (r : Result Change Troubled) (t' : TableUse) → n t r t' → outcome.with_memory_wanting n t r t'
+pub ample : (n : OnSide Change) (t : TableUse) (r : Result Change Troubled) (t' : TableUse) → n t r t' → outcome.with_memory_wanting n t r t'
 ample n t (Ok x) t' h = (Ok tt, t, (refl, inl refl), (Ok x, t', h, (Ok tt, t', (refl, inl refl), (refl, refl))))
 ample n t (Err e) t' h = (Ok tt, t, (refl, inl refl), (Err e, t', h, (refl, refl)))
 
@@ -57,7 +57,7 @@ cut_back : (h old : Held) → old ≡ NOTHING → cut h (mark_of old) ≡ NOTHIN
 cut_back h old e = ap (λ o. cut h (mark_of o)) e ∙ cut_to_nothing h
 
 -- the side after a command has the table that is left
-table_is : (a : SideState) (r : Result Change Troubled) (t : TableUse) → (side_after a r t).table ≡ table_after a t.store
+pub table_is : (a : SideState) (r : Result Change Troubled) (t : TableUse) → (side_after a r t).table ≡ table_after a t.store
 table_is a (Ok change) t = refl
 table_is a (Err e) t = refl
 

@@ -1,9 +1,11 @@
 -- What the commands of one side are to the machine session, where the memory of the target tells the bytes of the side's machine.
 use Rattle.std.specs.Prelude.{◌≡◌, ℕ, List, Some, Result, Ok, Err}
+use Rattle.machine_state.specs.Regions.{Regions}
 use Rattle.machine_state.specs.declared.layout.TheConstants.{CONTEXT}
 use Rattle.frame_bytes.specs.Bytes.{Bytes}
 use Rattle.abs_mem.specs.Meaning.{Seen}
 use Rattle.table_model.specs.Rows.{PointRow}
+use Rattle.dialect_model.specs.Dial.{Target}
 use Rattle.dialect_model.specs.TableUse.{Trouble, Eval}
 use Rattle.c_session.specs.declared.command.Spot.{Spot}
 use Rattle.table_asks.specs.declared.fault.Cause.{Cause}
@@ -13,10 +15,13 @@ use Rattle.table_asks.specs.Asking.{ComesOver}
 use Rattle.asking.specs.Doing.{Change as Stored, ChangesOver}
 use Rattle.asking.specs.Frames as asked_frames
 use Rattle.asking.specs.Breaks as asked_breaks
-use Rattle.claims.specs.Side.{SideState, Change, OnSide, Troubled, row_of, memory_of}
+use Rattle.asking.specs.Printing.{EndsOver}
+use Rattle.asking.specs.Printing as asked_printing
+use Rattle.claims.specs.Side.{SideState, Change, OnSide, Troubled, row_of, target_of, memory_of}
 use Rattle.claims.specs.Outcome as outcome
 use Rattle.claims.specs.Frames as side_frames
 use Rattle.claims.specs.Breaks as side_breaks
+use Rattle.claims.specs.Printing as side_printing
 use Rattle.asking_meaning.specs.Meant.{Matches, joined, answer_of, Stands, Begun, IsEnded}
 
 abbrev pub SaysText : List ℕ → Change → Type 0
@@ -51,6 +56,12 @@ module _ {R : Type 0} (s s' : Seen R) where
       (rest : R) (i j k l : Inquiry) (result : Result (List ℕ) AskFault) (r : Result (List ℕ) (Trouble Cause)) (breaks : List PointRow) → s.tells (memory_of a) rest → Stands i a → Begun i j
       → ChangesOver asked j s result breaks k s' → answer_of result ≡ Some r → IsEnded i k l → MeantOver m a r a.frame (if_done r breaks a.breaks) l s' rest
 
+  -- a command that runs PostScript and stores nothing, where its operators see the target of the side
+  abbrev pub RunsAreMeant : (Target → Eval Cause (List ℕ)) → OnSide Change → SideState → Type 0
+  RunsAreMeant asked m a =
+      (rest : R) (i j k l : Inquiry) (result : Result (List ℕ) AskFault) (r : Result (List ℕ) (Trouble Cause)) (at : Regions → Target) → s.tells (memory_of a) rest → Stands i a → Begun i j
+      → at a.machine.memory ≡ target_of a → EndsOver asked at j s result k s' → answer_of result ≡ Some r → IsEnded i k l → MeantOver m a r a.frame a.breaks l s' rest
+
   abbrev pub FramesAreTold : Type 0
   FramesAreTold = (a : SideState) → AsksAreMeant (asked_frames.listing (row_of a) CONTEXT) (side_frames.listing a) a a.frame
 
@@ -62,3 +73,6 @@ module _ {R : Type 0} (s s' : Seen R) where
 
   abbrev pub ClearIsTold : Type 0
   ClearIsTold = (a : SideState) (spot : Spot) → StoresAreMeant (λ b. asked_breaks.clearing a.machine.target a.breaks b spot) (side_breaks.clearing a spot) a
+
+  abbrev pub PrintIsTold : Type 0
+  PrintIsTold = (a : SideState) (name : List ℕ) → RunsAreMeant (asked_printing.printing a.frame name) (side_printing.printing a name) a

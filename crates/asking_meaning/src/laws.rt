@@ -1,6 +1,6 @@
 // What the commands of one side mean.
 
-ghost use Rattle.asking_meaning.specs.Told.{FramesAreTold, FrameIsTold, BreakIsTold, ClearIsTold};
+ghost use Rattle.asking_meaning.specs.Told.{FramesAreTold, FrameIsTold, BreakIsTold, ClearIsTold, PrintIsTold};
 ghost use Rattle.asking_meaning.specs.Meant.{FramesAreMeant, FrameIsMeant, BreakIsMeant, ClearIsMeant, RegsAreMeant, PsIsMeant};
 
 use abs_mem::AbsMem;
@@ -37,4 +37,9 @@ pub fn frames_are_told<M: AbsMem>()
 pub fn breakpoints_are_told<M: AbsMem>()
     ensures set { (m m' : M) → BreakIsTold (M.seen m) (M.seen m') }
     ensures cleared { (m m' : M) → ClearIsTold (M.seen m) (M.seen m') }
+{}
+
+/// So it is of `print` in the side's frame, where its operators see the side's target: the memory goes on to tell its bytes.
+pub fn print_is_told<M: AbsMem>()
+    ensures { (m m' : M) → PrintIsTold (M.seen m) (M.seen m') }
 {}

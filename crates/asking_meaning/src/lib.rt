@@ -4,6 +4,6 @@
 mod laws;
 
 pub use laws::{
-    breakpoints_are_meant, breakpoints_are_told, frames_are_meant, frames_are_told,
+    breakpoints_are_meant, breakpoints_are_told, frames_are_meant, frames_are_told, print_is_told,
     registers_are_meant, texts_are_meant,
 };

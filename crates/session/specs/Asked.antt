@@ -13,6 +13,7 @@ use Rattle.table_asks.specs.Asking.{ComesOver}
 use Rattle.asking.specs.Doing.{ChangesOver, talk_in}
 use Rattle.asking.specs.Breaks.{rows_in, breaking, clearing}
 use Rattle.asking.specs.Frames.{listing, choosing}
+use Rattle.asking.specs.Printing.{EndsOver, printing, target_with}
 use Rattle.asking.specs.Raw.{PsOver}
 
 module _ {W R : Type 0} (seen : W → Seen R) where
@@ -26,6 +27,7 @@ module _ {W R : Type 0} (seen : W → Seen R) where
   Does (command.Clear spot) frame ps i o r ps' i' o' = ChangesOver (λ b. clearing o.view.target (rows_in i'.core.store ps) b spot) i (target o) r (rows_in i'.core.store ps') i' (target o')
   Does command.Frames frame ps i o r ps' i' o' = ComesOver (listing (row_of_target o.view.target) o.view.context) i (target o) r i' (target o') × (ps' ≡ ps)
   Does (command.Frame n) frame ps i o r ps' i' o' = ComesOver (choosing (row_of_target o.view.target) o.view.context n) i (target o) r i' (target o') × (ps' ≡ ps)
+  Does (command.Print name) frame ps i o r ps' i' o' = EndsOver (printing frame name) (target_with o) i (target o) r i' (target o') × (ps' ≡ ps)
   Does (command.Ps text) frame ps i o r ps' i' o' = PsOver seen text i (talk_in o (Numbered frame) true) r i' o' × (ps' ≡ ps)
   Does c frame ps i o r ps' i' o' = Unit {0}
 

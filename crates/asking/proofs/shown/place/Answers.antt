@@ -1,6 +1,4 @@
-use Rattle.std.proofs.Common.{◌≡◌, ◌∙◌, sym, subst, Ok, Err}
-use Rattle.ps_store.specs.declared.object.PsObj.{PsObj}
-use Rattle.table_model.specs.Reading.{Walked}
+use Rattle.std.proofs.Common.{◌≡◌, sym, subst, Ok, Err}
 use Rattle.ps_ops.specs.declared.dialect.Operators.{Operators}
 use Rattle.table_asks.specs.declared.fault.AskFault.{AskFault}
 use Rattle.table_asks.specs.Asking.{left_of}

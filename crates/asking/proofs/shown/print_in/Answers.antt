@@ -1,4 +1,4 @@
-use Rattle.std.proofs.Common.{◌≡◌, refl, ℕ, List, Bool, true, false, Some, None}
+use Rattle.std.proofs.Common.{◌≡◌, refl, ℕ, List, true, false, Some, None}
 use Rattle.c_reading.specs.Readings.{is_identifier}
 use Rattle.asking.proofs.Ran.{ran_own}
 use Rattle.asking.specs.Printing.{target_with}

@@ -1,7 +1,5 @@
-use Rattle.std.proofs.Common.{◌≡◌, sym, subst, codes, arith, Ok, Err}
-use Rattle.table_model.specs.declared.lack.Lack.{Lack}
+use Rattle.std.proofs.Common.{◌≡◌, sym, subst, codes, Ok, Err}
 use Rattle.table_model.specs.Reading.{dict_at}
-use Rattle.table_model.specs.Types.{is_within}
 use Rattle.table_asks.specs.declared.fault.AskFault.{AskFault}
 use Rattle.table_asks.specs.Asking.{Comes}
 use Rattle.asking.specs.Printing.{type_of}

@@ -1,4 +1,4 @@
-use Rattle.std.proofs.Common.{◌≡◌, ℕ, List, Some, None, subst, sym}
+use Rattle.std.proofs.Common.{◌≡◌, ℕ, List, Some, None, subst}
 use Rattle.table_model.specs.Frames.{row_of_target, frame_at}
 use Rattle.dialect_model.specs.TableUse.{Looks}
 use Rattle.asking.proofs.Ran.{asked_led, asked_ran, ran_then}

@@ -3,7 +3,6 @@ use Rattle.ps_step.specs.State.{pushing}
 use Rattle.ps_store.specs.declared.object.PsObj.TheVariants.{Dict}
 use Rattle.table_model.specs.Reading.{entry}
 use Rattle.table_asks.specs.declared.fault.AskFault.{AskFault}
-use Rattle.table_asks.specs.Asking.{left_of}
 use Rattle.table_asks.specs.Running.{RanOver}
 use Rattle.asking.specs.Printing.{ShownOver}
 use Rattle.asking.proofs.Ran.{ran_own, ran_pushed}

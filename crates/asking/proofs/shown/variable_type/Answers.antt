@@ -1,4 +1,4 @@
-use Rattle.std.proofs.Common.{◌≡◌, ◌∙◌, sym, subst, true, false, Ok, Err}
+use Rattle.std.proofs.Common.{◌≡◌, sym, subst, true, false, Ok, Err}
 use Rattle.table_model.specs.Symbols.{is_function}
 use Rattle.table_asks.specs.declared.fault.AskFault.{AskFault}
 use Rattle.table_asks.specs.Asking.{Comes}
