@@ -81,12 +81,12 @@ stays_alone b st c reply st' e h =
 
 -- ---- the sides that stand for it
 
-none_beside : {A : Debugged → SideState → Type 0} {B : SideRecord → Host → Type 0} (second : Option SideRecord) (o : Option Host) (x : Option SideState) → OnSecond B second o → OnSecond A (second_of second o) x → x ≡ None → second ≡ None
-none_beside None o x there stands e = refl
-none_beside (Some side) None x there stands e = absurd there
-none_beside (Some side) (Some h) None there stands e = absurd stands
-none_beside (Some side) (Some h) (Some y) there stands e = absurd cc
+none_beside : (A : Debugged → SideState → Type 0) (B : SideRecord → Host → Type 0) (second : Option SideRecord) (o : Option Host) (x : Option SideState) → OnSecond B second o → OnSecond A (second_of second o) x → x ≡ None → second ≡ None
+none_beside A B None o x there stands e = refl
+none_beside A B (Some side) None x there stands e = absurd there
+none_beside A B (Some side) (Some h) None there stands e = absurd stands
+none_beside A B (Some side) (Some h) (Some y) there stands e = absurd cc
 
 pub one_side : (b : Behaviour) (c : Conduct) (o : Option World) (first : SideRecord) (second : Option SideRecord) (mode : Mode) (limit : _) (hs : Hosts) (st : SessionState) → Represents b c o first second mode limit hs st → st.second ≡ None → second ≡ None
 one_side b c o first second mode limit hs st r e =
-    none_beside {A = StandsIn st.state} {B = IsSecond b c o hs.first} second hs.second st.second r.there.second_there r.sides.second e
+    none_beside (StandsIn st.state) (IsSecond b c o hs.first) second hs.second st.second r.there.second_there r.sides.second e

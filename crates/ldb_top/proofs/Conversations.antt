@@ -175,22 +175,22 @@ module _ (raw : Bool) (st : SessionState) (s s' : Session World) (line : List �
   said_so text c e (inr unsaid) full is raws none holds meant told put =
       open_so raw st s' line lines taken taken' out out' text bytes full told put (λ more. inl (subst (λ x. ¬ IsSaidIfAny x None) (e ∙ ap (λ x. read_of x line) over.raw_is) unsaid))
 
-  lines_either : (text : List ℕ) (b : Bool) → is_empty line ≡ b → r ≡ Ok (answer.Lines text) → (is_empty line ≡ true → r ≡ Ok (answer.Lines [])) → (read_of s.raw line ≡ None → (s' ≡ s) × (kept' ≡ kept)) → s'.raw ≡ s.raw → kept ≡ Some [] → kept' ≡ Some bytes
+  lines_either : (text : List ℕ) (b : Bool) → is_empty line ≡ b → r ≡ Ok (answer.Lines text) → (is_empty line ≡ true → r ≡ Ok (answer.Lines [])) → (read_of s.raw line ≡ None → (s' ≡ s) × (bytes ≡ [])) → s'.raw ≡ s.raw → kept ≡ Some [] → kept' ≡ Some bytes
       → AnswersLine s s' line st kept kept' r → taken' ≡ known_and taken text → out' ≡ Some (st.written ++ bytes) → GoesSo raw st (here (line_and line lines) taken out) s' (here lines taken' out')
   lines_either text true e is blank same raws none holds meant told put =
       let stays = same (blank_none s.raw line e) in
       let empty : text ≡ [] = cc (is, blank e) in
-      let nothing : bytes ≡ [] = cc (stays.1, none, holds) in
+      let nothing : bytes ≡ [] = stays.1 in
       blank_so raw st s s' line lines taken taken' out out' e over stays.0 (told ∙ ap (λ x. known_and taken x) empty) (put ∙ ap (λ x. Some (st.written ++ x)) nothing ∙ ap Some (append-nil st.written))
   lines_either text false e is blank same raws none holds meant told put = said_so text (read_of s.raw line) refl (said_or_not (read_of s.raw line)) e is raws none holds meant told put
 
-  pub lines_so : (text : List ℕ) → r ≡ Ok (answer.Lines text) → (is_empty line ≡ true → r ≡ Ok (answer.Lines [])) → (read_of s.raw line ≡ None → (s' ≡ s) × (kept' ≡ kept)) → s'.raw ≡ s.raw → kept ≡ Some [] → kept' ≡ Some bytes
+  pub lines_so : (text : List ℕ) → r ≡ Ok (answer.Lines text) → (is_empty line ≡ true → r ≡ Ok (answer.Lines [])) → (read_of s.raw line ≡ None → (s' ≡ s) × (bytes ≡ [])) → s'.raw ≡ s.raw → kept ≡ Some [] → kept' ≡ Some bytes
       → AnswersLine s s' line st kept kept' r → taken' ≡ known_and taken text → out' ≡ Some (st.written ++ bytes) → GoesSo raw st (here (line_and line lines) taken out) s' (here lines taken' out')
   lines_so text is blank same raws none holds meant told put = lines_either text (is_empty line) refl is blank same raws none holds meant told put
 
   not_blank : (b : Bool) → is_empty line ≡ b → (is_empty line ≡ true → r ≡ Ok (answer.Lines [])) → (r ≡ Ok (answer.Lines []) → ⊥) → is_empty line ≡ false
-  not_blank true e blank no = absurd (no (blank e))
-  not_blank false e blank no = e
+  not_blank true e blank unblank = absurd (unblank (blank e))
+  not_blank false e blank unblank = e
 
   -- for want of memory
   pub wanting_so : r ≡ Ok answer.NoMemory → (is_empty line ≡ true → r ≡ Ok (answer.Lines [])) → (read_of s.raw line ≡ Some Quit → r ≡ Err end.Quit) → taken' ≡ known_and taken wanting_line → out' ≡ Some (st.written ++ bytes)
@@ -201,10 +201,9 @@ module _ (raw : Bool) (st : SessionState) (s s' : Session World) (line : List �
       open_so raw st s' line lines taken taken' out out' wanting_line bytes full told put (λ more. inr (unquit, record { rest = more; is = refl }))
 
   -- for `quit`
-  pub ended_so : r ≡ Err end.Quit → (is_empty line ≡ true → r ≡ Ok (answer.Lines [])) → read_of s.raw line ≡ Some Quit → kept' ≡ kept → kept ≡ Some [] → kept' ≡ Some bytes → out' ≡ Some (st.written ++ bytes) → IsSo raw st (here (line_and line lines) taken out) taken out'
-  ended_so is blank quit same none holds put =
+  pub ended_so : r ≡ Err end.Quit → (is_empty line ≡ true → r ≡ Ok (answer.Lines [])) → read_of s.raw line ≡ Some Quit → bytes ≡ [] → out' ≡ Some (st.written ++ bytes) → IsSo raw st (here (line_and line lines) taken out) taken out'
+  ended_so is blank quit nothing put =
       let full : is_empty line ≡ false = not_blank (is_empty line) refl blank (λ e. cc) in
-      let nothing : bytes ≡ [] = cc (same, none, holds) in
       quit_so raw st line lines taken out out' full (ap (λ x. asks_quit (read_of x line)) (sym over.raw_is) ∙ ap asks_quit quit) (put ∙ ap (λ x. Some (st.written ++ x)) nothing ∙ ap Some (append-nil st.written))
 
 -- where a reply was written
@@ -223,21 +222,35 @@ none_so raw st (Some bytes) cut taken out out' put ls before e known =
     subst (λ (x : Lines). Told before taken out' (Converses st (commands_in raw x.0))) same (record { transcript = []; output = st.written; taken_is = known ∙ ap Some (sym (append-nil before)); out_is = put; so = (refl, refl) })
 
 -- behind the last line
-pub last_so : (raw : Bool) (st : SessionState) (start : Here) (s : Session World) (left taken out : Option (List ℕ)) (n : Next) → NextIsSo raw st start s (here (lines_if left ([], false)) taken out) n → IsSo raw st start taken out
+last_so : (raw : Bool) (st : SessionState) (start : Here) (s : Session World) (left taken out : Option (List ℕ)) (n : Next) → NextIsSo raw st start s (here (lines_if left ([], false)) taken out) n → IsSo raw st start taken out
 last_so raw st start s left taken out next.Line (inl g) = g.on taken out (none_so raw g.session left false taken out out g.put)
 last_so raw st start s left taken out next.Line (inr g) = g taken out (grows_same taken) (grows_same out)
 last_so raw st start s left taken out next.End g = g
 last_so raw st start s left taken out next.Late g = g
 
+-- where the line in front was read from the source
+pub whole_so : (raw : Bool) (st : SessionState) (s : Session World) (line line' : List ℕ) (before after : Option Lines) (taken out : Option (List ℕ)) (now : Here) (r : Result Next Fault) → IfOk r (NextIsSo raw st (here (line_and line' after) taken out) s now) → before ≡ line_and line after
+    → line' ≡ line → IfOk r (NextIsSo raw st (here before taken out) s now)
+whole_so raw st s line line' before after taken out now r so is same = subst (λ x. IfOk r (NextIsSo raw st (here x taken out) s now)) (ap (λ l. line_and l after) same ∙ sym is) so
+
+line_alone : (line : List ℕ) (left : Option (List ℕ)) → line_and line (lines_if left ([], false)) ≡ lines_if left (line ∷ [], false)
+line_alone line None = refl
+line_alone line (Some bytes) = refl
+
+pub ended_last : (raw : Bool) (st : SessionState) (s : Session World) (line line' : List ℕ) (before : Option Lines) (left taken out taken' out' : Option (List ℕ)) (n : Next)
+    → NextIsSo raw st (here (line_and line' (lines_if left ([], false))) taken out) s (here (lines_if left ([], false)) taken' out') n → before ≡ lines_if left (line ∷ [], false) → line' ≡ line → IsSo raw st (here before taken out) taken' out'
+ended_last raw st s line line' before left taken out taken' out' n so is same =
+    subst (λ x. IsSo raw st (here x taken out) taken' out') (ap (λ l. line_and l (lines_if left ([], false))) same ∙ line_alone line left ∙ sym is) (last_so raw st _ s left taken' out' n so)
+
 -- the next one
-pub next_so : (raw : Bool) (st : SessionState) (start : Here) (s s' : Session World) (now then : Here) (n : Next) → GoesSo raw st start s now → Grows now.taken then.taken → Grows now.out then.out
-    → ((between : SessionState) → IsOver raw s between → now.out ≡ Some between.written → NextIsSo raw between now s' then n) → NextIsSo raw st start s' then n
-next_so raw st start s s' now then next.Line (inl g) took put step = elim (step g.session g.over g.put) [
+pub next_so : (raw : Bool) (st : SessionState) (start : Here) (s s' : Session World) (now behind : Here) (n : Next) → GoesSo raw st start s now → Grows now.taken behind.taken → Grows now.out behind.out
+    → ((between : SessionState) → IsOver raw s between → now.out ≡ Some between.written → NextIsSo raw between now s' behind n) → NextIsSo raw st start s' behind n
+next_so raw st start s s' now behind next.Line (inl g) took put step = elim (step g.session g.over g.put) [
   | inl h ↦ inl (record { session = h.session; over = h.over; put = h.put; on = λ t o so. g.on t o (h.on t o so) })
   | inr h ↦ inr (λ t o a b. g.on t o (h t o a b))
 ]
-next_so raw st start s s' now then next.Line (inr g) took put step = inr (λ t o a b. g t o (grows_on now.taken then.taken t took a) (grows_on now.out then.out o put b))
-next_so raw st start s s' now then next.End (inl g) took put step = g.on then.taken then.out (step g.session g.over g.put)
-next_so raw st start s s' now then next.End (inr g) took put step = g then.taken then.out took put
-next_so raw st start s s' now then next.Late (inl g) took put step = g.on then.taken then.out (step g.session g.over g.put)
-next_so raw st start s s' now then next.Late (inr g) took put step = g then.taken then.out took put
+next_so raw st start s s' now behind next.Line (inr g) took put step = inr (λ t o a b. g t o (grows_on now.taken behind.taken t took a) (grows_on now.out behind.out o put b))
+next_so raw st start s s' now behind next.End (inl g) took put step = g.on behind.taken behind.out (step g.session g.over g.put)
+next_so raw st start s s' now behind next.End (inr g) took put step = g behind.taken behind.out took put
+next_so raw st start s s' now behind next.Late (inl g) took put step = g.on behind.taken behind.out (step g.session g.over g.put)
+next_so raw st start s s' now behind next.Late (inr g) took put step = g behind.taken behind.out took put

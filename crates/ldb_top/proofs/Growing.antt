@@ -9,8 +9,8 @@ use Rattle.ldb_top.proofs.Begun.{begins_more}
 pub grows_on : (a b c : Option (List ℕ)) → Grows a b → Grows b c → Grows a c
 grows_on None b c g h = tt
 grows_on (Some xs) b c g h =
-    let then : Grows (Some (xs ++ g.more)) c = subst (λ o. Grows o c) g.is h in
-    record { more = g.more ++ then.more; is = then.is ∙ ap Some (append_assoc xs g.more then.more) }
+    let behind : Grows (Some (xs ++ g.more)) c = subst (λ o. Grows o c) g.is h in
+    record { more = g.more ++ behind.more; is = behind.is ∙ ap Some (append_assoc xs g.more behind.more) }
 
 pub grows_same : (a : Option (List ℕ)) → Grows a a
 grows_same None = tt

@@ -1,5 +1,5 @@
 -- What a session tells and puts, by the machine session over the same lines.
-use Rattle.std.specs.Prelude.{◌≡◌, ◌⊎◌, ℕ, Bool, true, false, if◌then◌else◌, List, [], ◌∷◌, ◌++◌, codes, Option, Some}
+use Rattle.std.specs.Prelude.{◌≡◌, ◌⊎◌, ℕ, Bool, true, false, if◌then◌else◌, List, [], ◌∷◌, ◌++◌, codes, Option, None, Some}
 use Rattle.machine_state.specs.State.{Behaviour}
 use Rattle.targets.specs.Targets.{machine_behaviour}
 use Rattle.c_session.specs.declared.command.Command.{Command}
