@@ -23,7 +23,7 @@ use Rattle.ldb_top.specs.Names.{Names, read_names}
 use Rattle.ldb_top.specs.Words.{Form, Debug, Go}
 use Rattle.ldb_top.specs.declared.status.Stop.{Stop}
 use Rattle.ldb_top.specs.declared.status.Stop.TheVariants.{Read, NoMemory, Missing, TooLong, Refused, Bad}
-use Rattle.ldb_top.specs.Why.{IsTableWhy, IsTableStop, IsImageTold, IsBuildWhy, IsLoadWhy, BuildsFrom, LoadsFrom, AreProgram, IsFileStop, IsInputStop, AreRight, Opens, IsWhy, AddsSide, IsCompiledFor, OfAim, starting}
+use Rattle.ldb_top.specs.Why.{IsTableWhy, IsTableStop, IsImageTold, IsBuildWhy, IsLoadWhy, BuildsFrom, LoadsFrom, AreProgram, IsFileStop, IsInputStop, AreRight, Opens, IsWhy, AddsSide, AddsCompiled, IsCompiledFor, OfAim, starting}
 use Rattle.ldb_top.proofs.Fronted.{all_on, missing_on}
 
 -- ---- sources, and an image
@@ -69,6 +69,11 @@ pub loaded_then : (text table input : List ℕ) (image : ImageFields) (images : 
     → IfOk r (λ (session : Session World). IsOver true session (starting input image one.store)) → LoadsFrom text table input r
 loaded_then text table input image images tables (Ok session) reads one e over = (record { image = image; reads = reads; store = one.store; comes = one.comes }, over)
 loaded_then text table input image images tables (Err stop) reads one e over = subst (IsLoadWhy text table) (sym e) tt
+
+pub compiled_then : (aim : Aim) (names texts : List (List ℕ)) (input : List ℕ) (images : List ImageFields) (tables : List StoreState) (r : Result (Session World) Stop) → (one : AddsCompiled aim names texts [] images [] tables)
+    → IfOk r (λ (session : Session World). IsOver false session (starting input one.image one.adds.store)) → IfOk r (IsCompiledFor aim names texts input)
+compiled_then aim names texts input images tables (Ok session) one over = (record { image = one.image; text = one.text; built = one.built; store = one.adds.store; comes = one.adds.comes }, over)
+compiled_then aim names texts input images tables (Err stop) one over = tt
 
 -- ---- why there is no session
 

@@ -1,4 +1,5 @@
-use Rattle.std.proofs.Common.{◌≡◌, ◌∙◌, ap, [], Some, Ok, Err}
+use Rattle.std.proofs.Common.{◌≡◌, ◌∙◌, ap, [], Some, Ok, Err, arith, rules}
+use Rattle.std.proofs.lemmas.Grind.{common_steps}
 use Rattle.c_session.specs.declared.command.Command.TheVariants.{Quit}
 use Rattle.targets.specs.Targets.{machine_behaviour}
 use Rattle.session.specs.declared.answers.Answer.TheVariants as answer
@@ -61,7 +62,7 @@ returns-in-Err-Quit-clause-so g c = λ raw st lines over put.
     let taken = g.S.Sink.taken c.args.transcript.now in
     let out = held_under (g.F.Files.held c.args.files.now) c.args.output.now in
     let out' = held_under (g.F.Files.held c.append_all.new.files) c.args.output.now in
-    let is : c.command-answer.result ≡ Err end.Quit = cc in
+    let is : c.command-answer.result ≡ Err end.Quit = first_of (search rules, grind (arith, common_steps)) in
     let asked = c.command-answer.ensures.asked Quit (c.command-answer.ensures.quits is) (λ e. cc) (λ e. cc) in
     ended_so raw st c.args.session.now c.command-answer.new.self c.args.line.now lines taken taken out out' out out c.bytes.result.now c.command-answer.result over is c.command-answer.ensures.blank (c.command-answer.ensures.quits is)
     (cc (asked.0, c.bytes.ensures, c.new-written.ensures.taken, c.new.ensures.items)) (c.in-Ok.ensures.added st.written put)
