@@ -23,6 +23,6 @@ returns-in-Ok-read_input-clause-opens g c = λ known h.
     let image = c.in-Ok.ensures.finds known h in
     let table = c.in-Ok-read_file.ensures.finds known (c.in-Ok.ensures.same ∙ h) in
     let input = c.in-Ok-read_input.ensures.finds known (c.in-Ok-read_file.ensures.same ∙ (c.in-Ok.ensures.same ∙ h)) in
-    debug_opens request.image.now request.table.now request.input.now request.output.now known c.deref.result.now c.deref-2.result.now c.deref-3.result.now c.open_image.result
+    debug_opens request.image.now request.table.now request.input.now request.output.now known c.deref.result.now c.deref-in-Ok-read_input.result.now c.deref-in-Ok-read_input-2.result.now c.open_image.result
     (all_on known (request.image.now ∷ []) (request.table.now ∷ []) image.0 ∙ table.0) (subst (λ (xs : List ℕ). IsRead 17825812 (files.get known request.image.now) xs) (sym c.deref.ensures.value) image.1)
-    (subst (λ (xs : List ℕ). IsRead 16777216 (files.get known request.table.now) xs) (sym c.deref-2.ensures.value) table.1) input.0 input.1 (input.2 ∙ ap Some (sym c.deref-3.ensures.value)) c.open_image.ensures
+    (subst (λ (xs : List ℕ). IsRead 16777216 (files.get known request.table.now) xs) (sym c.deref-in-Ok-read_input.ensures.value) table.1) input.0 input.1 (input.2 ∙ ap Some (sym c.deref-in-Ok-read_input-2.ensures.value)) c.open_image.ensures
