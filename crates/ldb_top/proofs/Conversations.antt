@@ -76,29 +76,29 @@ front_told : (raw : Bool) (st after : SessionState) (line : List ℕ) (lines : O
     → IsSo raw after (here lines taken' out') t o → IsSo raw st (here (line_and line lines) taken out) t o
 front_told raw st after line lines taken taken' out out' t o text told step so =
     front_so raw st line lines taken out t o (λ ls before e known.
-      let behind : Told (before ++ text) t o (Converses after (commands_in raw ls.0)) = so ls (before ++ text) e (told ∙ ap (λ k. known_and k text) known) in
-      record {
-        transcript = text ++ behind.transcript;
-        output = behind.output;
-        taken_is = behind.taken_is ∙ ap Some (append_assoc before text behind.transcript);
-        out_is = behind.out_is;
-        so = step ls.0 behind.transcript behind.output behind.so;
-      })
+    let behind : Told (before ++ text) t o (Converses after (commands_in raw ls.0)) = so ls (before ++ text) e (told ∙ ap (λ k. known_and k text) known) in
+    record {
+      transcript = text ++ behind.transcript;
+      output = behind.output;
+      taken_is = behind.taken_is ∙ ap Some (append_assoc before text behind.transcript);
+      out_is = behind.out_is;
+      so = step ls.0 behind.transcript behind.output behind.so;
+    })
 
 -- a line that is open
 open_so : (raw : Bool) (st : SessionState) (s' : Session World) (line : List ℕ) (lines : Option Lines) (taken taken' out out' : Option (List ℕ)) (text bytes : List ℕ) → is_empty line ≡ false → taken' ≡ known_and taken text
     → out' ≡ Some (st.written ++ bytes) → ((more : List ℕ) → IsOpen (read_of raw line) (text ++ more)) → GoesSo raw st (here (line_and line lines) taken out) s' (here lines taken' out')
 open_so raw st s' line lines taken taken' out out' text bytes full told put is_open =
     inr (λ t o g h. front_so raw st line lines taken out t o (λ ls before e known.
-      let took : Grows (Some (before ++ text)) t = subst (λ x. Grows x t) (told ∙ ap (λ k. known_and k text) known) g in
-      let held : Grows (Some (st.written ++ bytes)) o = subst (λ x. Grows x o) put h in
-      record {
-        transcript = text ++ took.more;
-        output = st.written ++ (bytes ++ held.more);
-        taken_is = took.is ∙ ap Some (append_assoc before text took.more);
-        out_is = held.is ∙ ap Some (append_assoc st.written bytes held.more);
-        so = subst (λ (cs : List (Option Command)). Converses st cs (text ++ took.more) (st.written ++ (bytes ++ held.more))) (sym (read_line raw line ls.0 full)) (inr (inl (is_open took.more, record { rest = bytes ++ held.more; is = refl })));
-      }))
+    let took : Grows (Some (before ++ text)) t = subst (λ x. Grows x t) (told ∙ ap (λ k. known_and k text) known) g in
+    let held : Grows (Some (st.written ++ bytes)) o = subst (λ x. Grows x o) put h in
+    record {
+      transcript = text ++ took.more;
+      output = st.written ++ (bytes ++ held.more);
+      taken_is = took.is ∙ ap Some (append_assoc before text took.more);
+      out_is = held.is ∙ ap Some (append_assoc st.written bytes held.more);
+      so = subst (λ (cs : List (Option Command)). Converses st cs (text ++ took.more) (st.written ++ (bytes ++ held.more))) (sym (read_line raw line ls.0 full)) (inr (inl (is_open took.more, record { rest = bytes ++ held.more; is = refl })));
+    }))
 
 -- a line of blanks
 blank_so : (raw : Bool) (st : SessionState) (s s' : Session World) (line : List ℕ) (lines : Option Lines) (taken taken' out out' : Option (List ℕ)) → is_empty line ≡ true → IsOver raw s st → s' ≡ s → taken' ≡ known_and taken []
@@ -123,7 +123,7 @@ answered_so raw st s s' line lines taken taken' out out' kept text bytes full ov
       over = record { hosts = a.hosts; represents = a.represents; alone = stays_alone machine_behaviour st (read_of raw line) a.reply a.after over.alone says; raw_is = raws ∙ over.raw_is };
       put = put ∙ ap Some (sym (a.written ∙ ap (λ x. st.written ++ x) added));
       on = λ t o so. front_told raw st a.after line lines taken taken' out out' t o text told (λ ls rest output c.
-        subst (λ (cs : List (Option Command)). Converses st cs (text ++ rest) output) (sym (read_line raw line ls full)) (inr (inr (a.reply, rest, a.after, says, ap (λ x. x ++ rest) a.text_is, c)))) so;
+          subst (λ (cs : List (Option Command)). Converses st cs (text ++ rest) output) (sym (read_line raw line ls full)) (inr (inr (a.reply, rest, a.after, says, ap (λ x. x ++ rest) a.text_is, c)))) so;
     })
 
 -- `quit`

@@ -9,7 +9,7 @@ loop-done-preserved g c = record {
   within = search rules;
   kept = search rules;
   added = λ before h. added_more before c.args.bytes.now _ c.loop-done.done c.in-Ok.count _ _ _ c.loop-done.invariant.added c.in-Ok.ensures.added h
-    (take_all (length c.args.bytes.now - c.loop-done.done) (drop c.loop-done.done c.args.bytes.now) (omega (arith, length-drop c.loop-done.done c.args.bytes.now)));
+      (take_all (length c.args.bytes.now - c.loop-done.done) (drop c.loop-done.done c.args.bytes.now) (omega (arith, length-drop c.loop-done.done c.args.bytes.now)));
   read = search rules;
   write = search rules;
 }

@@ -43,9 +43,9 @@ returns-in-Ok-Lines-clause-so g c = λ raw st lines over put.
     let bytes = c.bytes.result.now in
     let is : c.command-answer.result ≡ Ok (answer.Lines c.as_bytes.result.now) = cc in
     if_line raw st (here (line_and c.args.line.now lines) taken out) c.command-answer.new.self (here lines taken' out') c.as_bytes.result.now taken taken' c.reply.result c.reply.ensures.next c.reply.ensures.told (λ told.
-      lines_so raw st c.args.session.now c.command-answer.new.self c.args.line.now lines taken taken' out out' _ _ bytes c.command-answer.result over c.as_bytes.result.now is c.command-answer.ensures.blank
-      (λ none. (let h = c.command-answer.ensures.line none in (h.1, cc (h.2, c.bytes.ensures, c.new-written.ensures.taken, c.new.ensures.items)))) c.command-answer.ensures.raw
-      (c.new-written.ensures.taken ∙ ap Some c.new.ensures.items) c.bytes.ensures (λ hs represents full said. c.command-answer.ensures.meant machine_behaviour hs st steady represents full said) told (c.in-Ok.ensures.added st.written put))
+    lines_so raw st c.args.session.now c.command-answer.new.self c.args.line.now lines taken taken' out out' _ _ bytes c.command-answer.result over c.as_bytes.result.now is c.command-answer.ensures.blank
+    (λ none. (let h = c.command-answer.ensures.line none in (h.1, cc (h.2, c.bytes.ensures, c.new-written.ensures.taken, c.new.ensures.items)))) c.command-answer.ensures.raw
+    (c.new-written.ensures.taken ∙ ap Some c.new.ensures.items) c.bytes.ensures (λ hs represents full said. c.command-answer.ensures.meant machine_behaviour hs st steady represents full said) told (c.in-Ok.ensures.added st.written put))
 
 pub returns-in-Ok-NoMemory-clause-so : goal.returns-in-Ok-NoMemory-clause-so
 returns-in-Ok-NoMemory-clause-so g c = λ raw st lines over put.
@@ -55,7 +55,7 @@ returns-in-Ok-NoMemory-clause-so g c = λ raw st lines over put.
     let out' = held_under (g.F.Files.held c.append_all.new.files) c.args.output.now in
     let is : c.command-answer.result ≡ Ok answer.NoMemory = c.in-Ok-NoMemory.is ∙ ap Ok c.in-Ok-NoMemory.field-0-is in
     if_line raw st (here (line_and c.args.line.now lines) taken out) c.command-answer.new.self (here lines taken' out') wanting_line taken taken' c.reply-in-Ok-NoMemory.result c.reply-in-Ok-NoMemory.ensures.next c.reply-in-Ok-NoMemory.ensures.told (λ told.
-      wanting_so raw st c.args.session.now c.command-answer.new.self c.args.line.now lines taken taken' out out' out out c.bytes.result.now c.command-answer.result over is c.command-answer.ensures.blank c.command-answer.ensures.quit told (c.in-Ok.ensures.added st.written put))
+    wanting_so raw st c.args.session.now c.command-answer.new.self c.args.line.now lines taken taken' out out' out out c.bytes.result.now c.command-answer.result over is c.command-answer.ensures.blank c.command-answer.ensures.quit told (c.in-Ok.ensures.added st.written put))
 
 pub returns-in-Err-Quit-clause-so : goal.returns-in-Err-Quit-clause-so
 returns-in-Err-Quit-clause-so g c = λ raw st lines over put.
