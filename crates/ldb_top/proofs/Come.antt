@@ -1,8 +1,12 @@
 -- What a call comes to whose words ask for a session.
-use Rattle.std.proofs.Common.{◌≡◌, ◌⊎◌, ℕ, true, List, drop, Option, None, Some, Ok, Err, inl, inr, refl, sym, ap, ◌∙◌, subst}
+use Rattle.std.proofs.Common.{◌≡◌, ◌⊎◌, ℕ, Bool, true, false, List, [], drop, Option, None, Some, Ok, Err, inl, inr, refl, sym, ap, ◌∙◌, subst}
 use Rattle.std.specs.declared.result.Result.{Result}
 use Rattle.std.specs.Prelude.{OnOk}
+use Rattle.nub_wire.specs.Delivery.{World}
 use Rattle.ldb_edge.specs.Known.{FileMap, known_and}
+use Rattle.claims.specs.Side.{SessionState}
+use Rattle.ldb_cc.specs.declared.aim.Aim.{Aim}
+use Rattle.session.specs.declared.conversation.Session.{Session}
 use Rattle.cc_call.specs.declared.ended.Fault.{Fault}
 use Rattle.cc_call.specs.declared.ended.Fault.TheVariants as fault
 use Rattle.ldb_top.specs.declared.status.Status.{Status}
@@ -14,14 +18,16 @@ use Rattle.ldb_top.specs.declared.words.GoRequest.{GoRequest}
 use Rattle.ldb_top.specs.declared.words.Request.{Request}
 use Rattle.ldb_top.specs.declared.words.Request.TheVariants as request
 use Rattle.ldb_top.specs.Ahead.{lines_of}
-use Rattle.ldb_top.specs.Comes.{Outside, EndsEarly, Comes, ComesTo, Served, SessionComes, SessionComesTo}
+use Rattle.ldb_top.specs.Comes.{Outside, EndsEarly, Comes, ComesTo, Served, ServedSo, HasConversedOver, HasConversedLateOver, SessionComes, SessionComesTo}
+use Rattle.ldb_top.specs.Conversed.{HasConversed}
+use Rattle.ldb_top.specs.Conversing.{IsOver}
 use Rattle.ldb_top.specs.Late.{LateAs}
 use Rattle.ldb_top.specs.Names.{Names, names_of, names_in_debug, names_in_go}
-use Rattle.ldb_top.specs.Output.{is_there}
+use Rattle.ldb_top.specs.Output.{held_under, is_there}
 use Rattle.ldb_top.specs.Said.{BeginsWith, IsNamed}
 use Rattle.ldb_top.specs.Stops.{ending_of}
 use Rattle.ldb_top.specs.Lines.{line_of, late_line, IsLine}
-use Rattle.ldb_top.specs.Why.{IsWhy, Begins}
+use Rattle.ldb_top.specs.Why.{IsWhy, OfAim, BeginsAs, Opens}
 use Rattle.ldb_top.specs.Words.{Form, Debug, Go, Make, Own, form_of, form_in}
 
 -- ---- before the session
@@ -40,18 +46,44 @@ told_comes form n old new (stop.Bad line) r (inl e) why is said h u = subst (Com
 
 -- ---- a session
 
-pub served_comes : (form : Form) (n : Names) (old new : Outside) (r : Result Status Fault) → ((known : FileMap) → old.held ≡ Some known → Begins form n known) → Served old new r → OnOk r (is_there n.output new.held ≡ true)
-    → ComesTo form n old new r
-served_comes form n old new (Ok Done) b s t = record { begun = b; read = s; there = t }
-served_comes form n old new (Ok TooLong) b s t = inr (record { begun = b; late = s; there = t })
-served_comes form n old new (Ok Refused) b s t = absurd s
-served_comes form n old new (Ok Words) b s t = absurd s
-served_comes form n old new (Ok ReadFault) b s t = absurd s
-served_comes form n old new (Ok WriteFault) b s t = absurd s
-served_comes form n old new (Ok NoMemory) b s t = absurd s
-served_comes form n old new (Ok NoFile) b s t = absurd s
-served_comes form n old new (Ok BadFile) b s t = absurd s
-served_comes form n old new (Err f) b s t = tt
+-- what holds of the machine session that is begun
+module _ (P Q : (raw : Bool) → SessionState → Type 0) (to : (raw : Bool) (st : SessionState) → st.written ≡ [] → P raw st → Q raw st) where
+  aim_as : (aim : Option Aim) (n : Names) (known : FileMap) → OfAim P aim n known → OfAim Q aim n known
+  aim_as None n known p = tt
+  aim_as (Some one) n known p = (p.0, p.1, (p.2.0, p.2.1, (p.2.2.0, to false _ refl p.2.2.1)))
+
+  begins_as : (form : Form) (n : Names) (known : FileMap) → BeginsAs P form n known → BeginsAs Q form n known
+  begins_as Go n known p = aim_as n.aim n known p
+  begins_as Debug n known p = (p.0, p.1, (p.2.0, p.2.1, p.2.2, p.2.3, (p.2.4.0, to true _ refl p.2.4.1)))
+  begins_as Make n known p = absurd p
+  begins_as Own n known p = absurd p
+
+-- what is said of a session from each machine session on for which it stands
+abbrev pub SaysSo : (name : List ℕ) → Session World → (old new : Outside) → Result Status Fault → Type 0
+SaysSo name session old new r = (raw : Bool) (st : SessionState) (known : FileMap) → IsOver raw session st → st.written ≡ [] → old.held ≡ Some known → ServedSo name raw st old new r
+
+pub served_comes : (form : Form) (n : Names) (old new : Outside) (session : Session World) (r : Result Status Fault) → ((known : FileMap) → old.held ≡ Some known → Opens form n known (Ok session)) → Served old new r → OnOk r (is_there n.output new.held ≡ true)
+    → SaysSo n.output session old new r → ComesTo form n old new r
+served_comes form n old new session (Ok Done) b s t so = record {
+  begun = λ known h. (b known h).0;
+  read = s;
+  there = t;
+  conversed = λ known h. begins_as (λ (raw : Bool) (st : SessionState). IsOver raw session st) (HasConversedOver n old new) (λ raw st w over. so raw st known over w h) form n known (b known h).1;
+}
+served_comes form n old new session (Ok TooLong) b s t so = inr (record {
+  begun = λ known h. (b known h).0;
+  late = s;
+  there = t;
+  conversed = λ known h. begins_as (λ (raw : Bool) (st : SessionState). IsOver raw session st) (HasConversedLateOver n old new) (λ raw st w over. so raw st known over w h) form n known (b known h).1;
+})
+served_comes form n old new session (Ok Refused) b s t so = absurd s
+served_comes form n old new session (Ok Words) b s t so = absurd s
+served_comes form n old new session (Ok ReadFault) b s t so = absurd s
+served_comes form n old new session (Ok WriteFault) b s t so = absurd s
+served_comes form n old new session (Ok NoMemory) b s t so = absurd s
+served_comes form n old new session (Ok NoFile) b s t so = absurd s
+served_comes form n old new session (Ok BadFile) b s t so = absurd s
+served_comes form n old new session (Err f) b s t so = tt
 
 -- what holds whatever is answered
 pub on_ok : {A E : Type 0} (r : Result A E) (P : Type 0) → P → OnOk r P
@@ -63,6 +95,12 @@ pub served_late : (old new : Outside) (before : Option (List ℕ)) (r : Result S
     → OnOk r (new.taken ≡ known_and before late_line) → Served old new r
 served_late old new before r l m (inr e) said = subst (Served old new) (sym e) tt
 served_late old new before r l m (inl e) said = subst (Served old new) (sym e) (record { long = l; before = before; more = m; told = subst (λ x. OnOk x (new.taken ≡ known_and before late_line)) e said })
+
+-- what came before it
+pub late_so : (name : List ℕ) (raw : Bool) (st : SessionState) (old new : Outside) (between : Option (List ℕ)) (r : Result Status Fault) → HasConversed raw st (lines_of old.left) old.taken between (held_under new.held name) → (r ≡ Ok TooLong) ⊎ (r ≡ Err fault.Write)
+    → OnOk r (new.taken ≡ known_and between late_line) → ServedSo name raw st old new r
+late_so name raw st old new between r so (inr e) said = subst (ServedSo name raw st old new) (sym e) tt
+late_so name raw st old new between r so (inl e) said = subst (ServedSo name raw st old new) (sym e) (between, subst (λ x. OnOk x (new.taken ≡ known_and between late_line)) e said, so)
 
 -- ---- words of a form
 

@@ -1,5 +1,6 @@
 -- Files of which one is written.
-use Rattle.std.proofs.Common.{◌≡◌, ◌≢◌, ℕ, Bool, true, false, List, [], ◌++◌, cond, take, Option, None, Some, Ok, Err, refl, ap, ◌∙◌, subst, is_some}
+use Rattle.std.proofs.Common.{◌≡◌, ◌≢◌, ℕ, Bool, true, false, List, [], ◌++◌, cond, take, drop, ◌+◌, sym, append_assoc, Option, None, Some, Ok, Err, refl, ap, ◌∙◌, subst, is_some}
+use Rattle.std.proofs.Math.Seq.{take-add}
 use Rattle.std.specs.Prelude.{unwrap_or, IfOk, OnErr}
 use Rattle.std.specs.declared.result.Result.{Result}
 use Rattle.std.specs.Option.{option_map}
@@ -54,3 +55,21 @@ others_made name start held held' e k = others_on name start held held' k (other
 pub made_there : (name : List ℕ) (held held' : Option FileMap) → held' ≡ option_map (λ files. map.insert files name []) held → is_there name held' ≡ true
 made_there name None held' e = ap (is_there name) e
 made_there name (Some m) held' e = ap (is_there name) e ∙ set_there m name []
+
+-- what a file holds behind an append
+pub held_appended : (name piece before : List ℕ) (a c : Option FileMap) → held_under a name ≡ Some before → c ≡ option_map (λ files. appended files name piece) a → held_under c name ≡ Some (before ++ piece)
+held_appended name piece before None c h e = absurd cc
+held_appended name piece before (Some m) c h e =
+    ap (λ o. held_under o name) e ∙ get-insert m name (unwrap_or (map.get m name) [] ++ piece) name
+    ∙ ap (λ b. cond b (Some (unwrap_or (map.get m name) [] ++ piece)) (map.get m name)) (same_bytes name) ∙ ap (λ o. Some (unwrap_or o [] ++ piece)) h
+
+-- more of a text behind its front
+pub added_more : (before bytes piece : List ℕ) (done count : ℕ) (a b c : Option (List ℕ)) → ((before : List ℕ) → a ≡ Some before → b ≡ Some (before ++ take done bytes)) → ((front : List ℕ) → b ≡ Some front → c ≡ Some (front ++ take count piece)) → a ≡ Some before
+    → piece ≡ drop done bytes → c ≡ Some (before ++ take (done + count) bytes)
+added_more before bytes piece done count a b c first more h is =
+    more (before ++ take done bytes) (first before h) ∙ ap Some (append_assoc before (take done bytes) (take count piece) ∙ ap (λ x. before ++ x) (ap (λ p. take done bytes ++ take count p) is ∙ sym (take-add done count bytes)))
+
+-- a file that was made holds nothing
+pub made_empty : (name : List ℕ) (known : FileMap) (held held' : Option FileMap) → held' ≡ option_map (λ files. map.insert files name []) held → held ≡ Some known → held_under held' name ≡ Some []
+made_empty name known None held' e h = absurd cc
+made_empty name known (Some m) held' e h = ap (λ o. held_under o name) e ∙ get-insert m name [] name ∙ ap (λ b. cond b (Some []) (map.get m name)) (same_bytes name)

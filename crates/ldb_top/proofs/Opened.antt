@@ -1,7 +1,7 @@
 -- Sessions that are begun, and why others aren't.
-use Rattle.std.proofs.Common.{◌≡◌, ℕ, false, List, [], ◌∷◌, ◌++◌, None, Some, Ok, Err, inl, inr, sym, ap, ◌∙◌, subst}
+use Rattle.std.proofs.Common.{◌≡◌, ℕ, Bool, true, false, List, [], ◌∷◌, ◌++◌, Option, None, Some, Ok, Err, inl, inr, refl, sym, ap, ◌∙◌, subst}
 use Rattle.std.specs.declared.result.Result.{Result}
-use Rattle.std.specs.Prelude.{IfErr}
+use Rattle.std.specs.Prelude.{IfErr, IfOk}
 use Rattle.std.specs.FinMap as files
 use Rattle.ldb_edge.specs.Known.{FileMap}
 use Rattle.obj_file.specs.Image.{ImageFields, Reads}
@@ -13,13 +13,17 @@ use Rattle.table_run.specs.Tables.{IsTableOf}
 use Rattle.ldb_cc.specs.declared.aim.Aim.{Aim}
 use Rattle.ldb_cc.specs.Built.{IsBuilt}
 use Rattle.cc_call.specs.Found.{AreRead}
+use Rattle.nub_wire.specs.Delivery.{World}
+use Rattle.claims.specs.Side.{SessionState}
+use Rattle.session.specs.declared.conversation.Session.{Session}
+use Rattle.ldb_top.specs.Conversing.{IsOver}
 use Rattle.ldb_top.specs.Files.{first_missing, is_long, IsRead}
 use Rattle.ldb_top.specs.Lines.{table_word, bad_table_line}
 use Rattle.ldb_top.specs.Names.{Names, read_names}
 use Rattle.ldb_top.specs.Words.{Form, Debug, Go}
 use Rattle.ldb_top.specs.declared.status.Stop.{Stop}
 use Rattle.ldb_top.specs.declared.status.Stop.TheVariants.{Read, NoMemory, Missing, TooLong, Refused, Bad}
-use Rattle.ldb_top.specs.Why.{IsTableWhy, IsTableStop, IsImageTold, IsBuildWhy, IsLoadWhy, BuildsFrom, LoadsFrom, AreProgram, IsFileStop, IsInputStop, AreRight, Opens, IsWhy}
+use Rattle.ldb_top.specs.Why.{IsTableWhy, IsTableStop, IsImageTold, IsBuildWhy, IsLoadWhy, BuildsFrom, LoadsFrom, AreProgram, IsFileStop, IsInputStop, AreRight, Opens, IsWhy, AddsSide, AddsCompiled, IsCompiledFor, OfAim, starting}
 use Rattle.ldb_top.proofs.Fronted.{all_on, missing_on}
 
 -- ---- sources, and an image
@@ -61,9 +65,15 @@ wrong_table text table image (Missing line) w t = absurd t
 wrong_table text table image (TooLong line) w t = absurd t
 wrong_table text table image (Refused line) w t = absurd t
 
-pub loaded_then : {A : Type 0} (text table : List ℕ) (image : ImageFields) (r : Result A Stop) → Reads text (Ok image) → (store : StoreState) × IsTableOf table image.target (Ok store) → IfErr r (λ stop. stop ≡ NoMemory) → LoadsFrom text table r
-loaded_then text table image (Ok x) p t e = record { image = image; reads = p; store = t.0; comes = t.1 }
-loaded_then text table image (Err stop) p t e = subst (IsLoadWhy text table) (sym e) tt
+pub loaded_then : (text table input : List ℕ) (image : ImageFields) (images : List ImageFields) (tables : List StoreState) (r : Result (Session World) Stop) → Reads text (Ok image) → (one : AddsSide image table [] images [] tables) → IfErr r (λ stop. stop ≡ NoMemory)
+    → IfOk r (λ (session : Session World). IsOver true session (starting input image one.store)) → LoadsFrom text table input r
+loaded_then text table input image images tables (Ok session) reads one e over = (record { image = image; reads = reads; store = one.store; comes = one.comes }, over)
+loaded_then text table input image images tables (Err stop) reads one e over = subst (IsLoadWhy text table) (sym e) tt
+
+pub compiled_then : (aim : Aim) (names texts : List (List ℕ)) (input : List ℕ) (images : List ImageFields) (tables : List StoreState) (r : Result (Session World) Stop) → (one : AddsCompiled aim names texts [] images [] tables)
+    → IfOk r (λ (session : Session World). IsOver false session (starting input one.image one.adds.store)) → IfOk r (IsCompiledFor aim names texts input)
+compiled_then aim names texts input images tables (Ok session) one over = (record { image = one.image; text = one.text; built = one.built; store = one.adds.store; comes = one.adds.comes }, over)
+compiled_then aim names texts input images tables (Err stop) one over = tt
 
 -- ---- why there is no session
 
@@ -92,22 +102,30 @@ right n known a i s = record { there = there known n a i; short = s }
 
 -- ---- all of it
 
-pub go_opens : {A : Type 0} (n : Names) (known : FileMap) (texts : List (List ℕ)) (r : Result A Stop) → first_missing known n.about ≡ None → AreRead known n.about texts → first_missing known (n.input ∷ []) ≡ None → is_long (files.get known n.input) ≡ false → BuildsFrom n.about texts r → Opens Go n known r
-go_opens n known texts (Ok x) a t i s b = (right n known a i s, (texts, t, b))
-go_opens n known texts (Err NoMemory) a t i s b = tt
-go_opens n known texts (Err (Refused line)) a t i s b = (right n known a i s, (texts, t, b))
-go_opens n known texts (Err (Bad line)) a t i s b = (right n known a i s, (texts, t, b))
-go_opens n known texts (Err Read) a t i s b = absurd b
-go_opens n known texts (Err (Missing line)) a t i s b = absurd b
-go_opens n known texts (Err (TooLong line)) a t i s b = absurd b
+-- with one target the session stands for the machine session over what was compiled for it
+of_aim : (n : Names) (known : FileMap) (input : List ℕ) (texts : List (List ℕ)) (session : Session World) (aim : Option Aim) → files.get known n.input ≡ Some input → AreRead known n.about texts
+    → ((one : Aim) → aim ≡ Some one → IsCompiledFor one n.about texts input session) → OfAim (λ (raw : Bool) (st : SessionState). IsOver raw session st) aim n known
+of_aim n known input texts session None got t over = tt
+of_aim n known input texts session (Some one) got t over = (input, got, (texts, t, over one refl))
 
-pub debug_opens : {A : Type 0} (image table input output : List ℕ) (known : FileMap) (text table_text : List ℕ) (r : Result A Stop) → first_missing known (image ∷ table ∷ []) ≡ None → IsRead 17825812 (files.get known image) text → IsRead 16777216 (files.get known table) table_text
-    → first_missing known (input ∷ []) ≡ None → is_long (files.get known input) ≡ false → LoadsFrom text table_text r
-    → Opens Debug (record { about = image ∷ table ∷ []; input = input; output = output }) known r
-debug_opens image table input output known text table_text (Ok x) a t u i s b = (right (record { about = image ∷ table ∷ []; input = input; output = output }) known a i s, (text, table_text, t, u, b))
-debug_opens image table input output known text table_text (Err NoMemory) a t u i s b = tt
-debug_opens image table input output known text table_text (Err (Bad line)) a t u i s b = (right (record { about = image ∷ table ∷ []; input = input; output = output }) known a i s, (text, table_text, t, u, b))
-debug_opens image table input output known text table_text (Err Read) a t u i s b = absurd b
-debug_opens image table input output known text table_text (Err (Missing line)) a t u i s b = absurd b
-debug_opens image table input output known text table_text (Err (TooLong line)) a t u i s b = absurd b
-debug_opens image table input output known text table_text (Err (Refused line)) a t u i s b = absurd b
+pub go_opens : (n : Names) (known : FileMap) (input : List ℕ) (texts : List (List ℕ)) (r : Result (Session World) Stop) → first_missing known n.about ≡ None → AreRead known n.about texts → first_missing known (n.input ∷ []) ≡ None → is_long (files.get known n.input) ≡ false
+    → files.get known n.input ≡ Some input → BuildsFrom n.about texts r → ((one : Aim) → n.aim ≡ Some one → IfOk r (IsCompiledFor one n.about texts input)) → Opens Go n known r
+go_opens n known input texts (Ok x) a t i s got b over = ((right n known a i s, (texts, t, b)), of_aim n known input texts x n.aim got t over)
+go_opens n known input texts (Err NoMemory) a t i s got b over = tt
+go_opens n known input texts (Err (Refused line)) a t i s got b over = (right n known a i s, (texts, t, b))
+go_opens n known input texts (Err (Bad line)) a t i s got b over = (right n known a i s, (texts, t, b))
+go_opens n known input texts (Err Read) a t i s got b over = absurd b
+go_opens n known input texts (Err (Missing line)) a t i s got b over = absurd b
+go_opens n known input texts (Err (TooLong line)) a t i s got b over = absurd b
+
+pub debug_opens : (image table input output : List ℕ) (known : FileMap) (text table_text bytes : List ℕ) (r : Result (Session World) Stop) → first_missing known (image ∷ table ∷ []) ≡ None → IsRead 17825812 (files.get known image) text → IsRead 16777216 (files.get known table) table_text
+    → first_missing known (input ∷ []) ≡ None → is_long (files.get known input) ≡ false → files.get known input ≡ Some bytes → LoadsFrom text table_text bytes r
+    → Opens Debug (record { aim = None; about = image ∷ table ∷ []; input = input; output = output }) known r
+debug_opens image table input output known text table_text bytes (Ok x) a t u i s got b =
+    ((right (record { aim = None; about = image ∷ table ∷ []; input = input; output = output }) known a i s, (text, table_text, t, u, b.0)), (bytes, got, (text, table_text, t, u, b)))
+debug_opens image table input output known text table_text bytes (Err NoMemory) a t u i s got b = tt
+debug_opens image table input output known text table_text bytes (Err (Bad line)) a t u i s got b = (right (record { aim = None; about = image ∷ table ∷ []; input = input; output = output }) known a i s, (text, table_text, t, u, b))
+debug_opens image table input output known text table_text bytes (Err Read) a t u i s got b = absurd b
+debug_opens image table input output known text table_text bytes (Err (Missing line)) a t u i s got b = absurd b
+debug_opens image table input output known text table_text bytes (Err (TooLong line)) a t u i s got b = absurd b
+debug_opens image table input output known text table_text bytes (Err (Refused line)) a t u i s got b = absurd b

@@ -7,6 +7,8 @@ use Rattle.ldb_edge.specs.Known.{known_and}
 use Rattle.cc_call.specs.Lines.{name_in}
 use Rattle.cc_call.specs.declared.ended.Fault.{Fault}
 use Rattle.cc_call.specs.declared.ended.Fault.TheVariants as fault
+use Rattle.nub_wire.specs.Delivery.{World}
+use Rattle.session.specs.declared.conversation.Session.{Session}
 use Rattle.ldb_top.specs.declared.status.Status.{Status}
 use Rattle.ldb_top.specs.declared.status.Status.TheVariants as status
 use Rattle.ldb_top.specs.declared.status.Stop.{Stop}
@@ -61,10 +63,10 @@ pub go_ends : {A : Type 0} (missed : List ℕ → Type 0) (input : List ℕ) (be
 go_ends missed input before now names texts (Ok x) b e = e
 go_ends missed input before now names texts (Err stop) b e = inl (go_stops names texts stop b, e)
 
-pub debug_ends : {A : Type 0} (missed : List ℕ → Type 0) (input : List ℕ) (before now : ℕ) (text table : List ℕ) (r : Result A Stop) → LoadsFrom text table r → now ≡ before
+pub debug_ends : (missed : List ℕ → Type 0) (input : List ℕ) (before now : ℕ) (text table bytes : List ℕ) (r : Result (Session World) Stop) → LoadsFrom text table bytes r → now ≡ before
     → MatchResult r (λ _. now ≡ before) (IsOpenStop IsDebugStop missed input before now)
-debug_ends missed input before now text table (Ok x) b e = e
-debug_ends missed input before now text table (Err stop) b e = inl (debug_stops text table stop b, e)
+debug_ends missed input before now text table bytes (Ok x) b e = e
+debug_ends missed input before now text table bytes (Err stop) b e = inl (debug_stops text table stop b, e)
 
 -- ---- the line
 

@@ -1,5 +1,6 @@
 -- What a call comes to whose words ask for a session.
-use Rattle.std.specs.Prelude.{◌≡◌, ◌⊎◌, ℕ, true, false, List, [], drop, Option, Some, Result, Ok, Err}
+use Rattle.std.specs.Prelude.{◌≡◌, ◌⊎◌, ℕ, Bool, true, false, List, [], drop, Option, Some, Result, Ok, Err}
+use Rattle.claims.specs.Side.{SessionState}
 use Rattle.ldb_edge.specs.Known.{FileMap, known_and}
 use Rattle.cc_call.specs.declared.ended.Fault.{Fault}
 use Rattle.ldb_top.specs.declared.status.Status.{Status}
@@ -7,13 +8,14 @@ use Rattle.ldb_top.specs.declared.status.Status.TheVariants.{Done, Refused, NoFi
 use Rattle.ldb_top.specs.declared.status.Stop.{Stop}
 use Rattle.ldb_top.specs.Ahead.{lines_of}
 use Rattle.ldb_top.specs.Behind.{left_behind}
+use Rattle.ldb_top.specs.Conversed.{HasConversed, HasConversedLate}
 use Rattle.ldb_top.specs.Late.{LateAs}
 use Rattle.ldb_top.specs.Lines.{line_of, late_line, IsLine}
 use Rattle.ldb_top.specs.Names.{Names, names_of}
-use Rattle.ldb_top.specs.Output.{is_there}
+use Rattle.ldb_top.specs.Output.{held_under, is_there}
 use Rattle.ldb_top.specs.Said.{BeginsWith}
 use Rattle.ldb_top.specs.Stops.{ending_of}
-use Rattle.ldb_top.specs.Why.{IsWhy, Begins}
+use Rattle.ldb_top.specs.Why.{IsWhy, Begins, BeginsAs}
 use Rattle.ldb_top.specs.Words.{Form, Debug, Go}
 
 -- what the files hold, the commands have left and the transcript took
@@ -47,17 +49,26 @@ pub record AreLate (old new : Outside) : Type 0 where
   pub more : (front : List ℕ) → BeginsWith front old.taken → BeginsWith front before
   pub told : new.taken ≡ known_and before late_line
 
--- a session was begun, and its commands were read; its output file is there
+-- what was told and put from a machine session on
+abbrev pub HasConversedOver : Names → (old new : Outside) → (raw : Bool) → SessionState → Type 0
+HasConversedOver n old new raw st = HasConversed raw st (lines_of old.left) old.taken new.taken (held_under new.held n.output)
+
+abbrev pub HasConversedLateOver : Names → (old new : Outside) → (raw : Bool) → SessionState → Type 0
+HasConversedLateOver n old new raw st = HasConversedLate raw st (lines_of old.left) old.taken new.taken (held_under new.held n.output)
+
+-- a session was begun, and its commands were read; its output file is there. With one target it was the conversation of the machine session.
 pub record EndsRead (form : Form) (n : Names) (old new : Outside) : Type 0 where
   pub begun : (known : FileMap) → old.held ≡ Some known → Begins form n known
   pub read : AreRead old new
   pub there : is_there n.output new.held ≡ true
+  pub conversed : (known : FileMap) → old.held ≡ Some known → BeginsAs (HasConversedOver n old new) form n known
 
--- a session was begun, and its commands were too long; its output file is there
+-- a session was begun, and its commands were too long; its output file is there. The same holds of what came before this was said.
 pub record EndsLate (form : Form) (n : Names) (old new : Outside) : Type 0 where
   pub begun : (known : FileMap) → old.held ≡ Some known → Begins form n known
   pub late : AreLate old new
   pub there : is_there n.output new.held ≡ true
+  pub conversed : (known : FileMap) → old.held ≡ Some known → BeginsAs (HasConversedLateOver n old new) form n known
 
 -- what each status says; those of faults say nothing here
 abbrev pub Comes : Form → Names → (old new : Outside) → Status → Type 0
@@ -79,6 +90,12 @@ Served old new (Ok Done) = AreRead old new
 Served old new (Ok TooLong) = AreLate old new
 Served old new (Ok _) = ⊥
 Served old new (Err fault) = Unit {0}
+
+-- what a session told and put that was served from a machine session on
+abbrev pub ServedSo : (name : List ℕ) → (raw : Bool) → SessionState → (old new : Outside) → Result Status Fault → Type 0
+ServedSo name raw st old new (Ok Done) = HasConversed raw st (lines_of old.left) old.taken new.taken (held_under new.held name)
+ServedSo name raw st old new (Ok TooLong) = HasConversedLate raw st (lines_of old.left) old.taken new.taken (held_under new.held name)
+ServedSo name raw st old new _ = Unit {0}
 
 -- so it is with words of these two forms
 abbrev pub SessionComes : Option Form → (words : List (List ℕ)) → (old new : Outside) → Status → Type 0

@@ -1,14 +1,21 @@
 -- Why a call ends before its session, by the files that it is to read.
-use Rattle.std.specs.Prelude.{◌≡◌, ◌⊎◌, ℕ, true, false, List, [], ◌∷◌, map, None, Some, Result, Ok, Err}
+use Rattle.std.specs.Prelude.{◌≡◌, ◌⊎◌, ◌≤◌, ℕ, Bool, true, false, List, [], ◌∷◌, ◌++◌, length, map, Option, None, Some, Result, Ok, Err}
 use Rattle.std.specs.Global.{Vec}
 use Rattle.std.specs.FinMap as files
 use Rattle.c_tree.specs.declared.rows.Program.{Program}
 use Rattle.ldb_edge.specs.Known.{FileMap}
+use Rattle.machine_state.specs.declared.layout.TheConstants.{MIPS, SPARC}
+use Rattle.nub_wire.specs.Delivery.{World}
+use Rattle.targets.specs.Targets.{machine_behaviour, loaded}
+use Rattle.claims.specs.Side.{SessionState}
+use Rattle.session.specs.declared.conversation.Session.{Session}
+use Rattle.session.specs.Starting.{one_session}
 use Rattle.obj_file.specs.Image.{ImageFields, first_wrong, Reads}
 use Rattle.obj_file.specs.declared.image.ImageFault.{ImageFault}
 use Rattle.obj_file.specs.declared.image.ImageFault.TheVariants.{BadImage}
 use Rattle.ps_store.specs.StoreState.{StoreState}
 use Rattle.table_run.specs.declared.run.TableFault.{TableFault}
+use Rattle.table_run.specs.Shape.{HasShape}
 use Rattle.table_run.specs.Tables.{IsTableOf}
 use Rattle.ldb_cc.specs.declared.aim.Aim.{Aim}
 use Rattle.ldb_cc.specs.declared.fault.BuildFault.{BuildFault}
@@ -22,6 +29,7 @@ use Rattle.ldb_top.specs.declared.status.Stop.TheVariants.{Read, NoMemory, Missi
 use Rattle.ldb_top.specs.Lines.{long_line, bad_image_line, TellsRefusal, TellsTable}
 use Rattle.ldb_top.specs.Words.{Form, Debug, Go}
 use Rattle.ldb_top.specs.Names.{Names, read_names}
+use Rattle.ldb_top.specs.Conversing.{IsOver}
 use Rattle.ldb_top.specs.Files.{first_missing, is_long, IsRead}
 
 -- ---- sources that are compiled
@@ -68,6 +76,14 @@ abbrev pub BuildsFrom : {A : Type 0} → (names texts : List (List ℕ)) → Res
 BuildsFrom names texts (Ok begun) = AreProgram names texts
 BuildsFrom names texts (Err stop) = IsBuildWhy names texts stop
 
+-- The image that one of the targets has of them, and the text of its table, with a store to which this comes.
+pub record AreCompiled (aim : Aim) (names texts : List (List ℕ)) : Type 0 where
+  pub image : ImageFields
+  pub text : List ℕ
+  pub built : IsBuilt aim names texts image text
+  pub store : StoreState
+  pub comes : IsTableOf text image.target (Ok store)
+
 -- ---- an image and a table
 
 -- the bytes of an image, and of a table for its target
@@ -98,10 +114,40 @@ IsLoadWhy text table_text NoMemory = Unit {0}
 IsLoadWhy text table_text (Bad line) = IsBadImage text table_text line
 IsLoadWhy text table_text _ = ⊥
 
--- both are good, or it is said what is wrong
-abbrev pub LoadsFrom : {A : Type 0} → (text table_text : List ℕ) → Result A Stop → Type 0
-LoadsFrom text table_text (Ok begun) = AreGood text table_text
-LoadsFrom text table_text (Err stop) = IsLoadWhy text table_text stop
+-- one more image, and the store of its table, behind others
+pub record AddsSide (image : ImageFields) (text : List ℕ) (images images' : List ImageFields) (tables tables' : List StoreState) : Type 0 where
+  pub store : StoreState
+  pub comes : IsTableOf text image.target (Ok store)
+  pub shape : HasShape store image.target
+  pub known : (image.target ≡ MIPS) ⊎ (image.target ≡ SPARC)
+  pub images_are : images' ≡ images ++ image ∷ []
+  pub tables_are : tables' ≡ tables ++ store ∷ []
+
+-- the same, compiled of sources
+pub record AddsCompiled (aim : Aim) (names texts : List (List ℕ)) (images images' : List ImageFields) (tables tables' : List StoreState) : Type 0 where
+  pub image : ImageFields
+  pub text : List ℕ
+  pub built : IsBuilt aim names texts image text
+  pub adds : AddsSide image text images images' tables tables'
+
+-- ---- machine sessions
+
+-- the machine session over an image with a table's store, with this input
+abbrev pub starting : (input : List ℕ) → ImageFields → StoreState → SessionState
+starting input image store = one_session machine_behaviour input (loaded image) store
+
+-- a session over an image and a table takes `ps`
+abbrev pub IsLoaded : (text table_text input : List ℕ) → Session World → Type 0
+IsLoaded text table_text input session = (good : AreGood text table_text) × IsOver true session (starting input good.image good.store)
+
+-- one over sources takes none
+abbrev pub IsCompiledFor : (aim : Aim) → (names texts : List (List ℕ)) → (input : List ℕ) → Session World → Type 0
+IsCompiledFor aim names texts input session = (built : AreCompiled aim names texts) × IsOver false session (starting input built.image built.store)
+
+-- both are good, and the session stands for the machine session over them, or it is said what is wrong
+abbrev pub LoadsFrom : (text table_text input : List ℕ) → Result (Session World) Stop → Type 0
+LoadsFrom text table_text input (Ok session) = IsLoaded text table_text input session
+LoadsFrom text table_text input (Err stop) = IsLoadWhy text table_text stop
 
 -- ---- files that are read
 
@@ -129,7 +175,7 @@ IsInputStop known name stop = IsFileStop known (name ∷ []) stop
 
 -- the input, which is not too long, or a stop
 abbrev pub FindsInput : FileMap → List ℕ → Result (Vec ℕ) Stop → Type 0
-FindsInput known name (Ok input) = (first_missing known (name ∷ []) ≡ None) × (is_long (files.get known name) ≡ false)
+FindsInput known name (Ok input) = (first_missing known (name ∷ []) ≡ None) × (is_long (files.get known name) ≡ false) × (files.get known name ≡ Some input.items)
 FindsInput known name (Err stop) = IsInputStop known name stop
 
 -- ---- all of it
@@ -153,6 +199,22 @@ Begins Go n known = AreRight n known × OfTexts (AreProgram n.about) n known
 Begins Debug n known = AreRight n known × OfImage AreGood n known
 Begins _ n known = ⊥
 
+-- the whole input
+abbrev pub OfInput : (List ℕ → Type 0) → Names → FileMap → Type 0
+OfInput P n known = (input : List ℕ) × (files.get known n.input ≡ Some input) × P input
+
+module _ (P : (raw : Bool) → SessionState → Type 0) where
+  -- so it is with a machine session of one target, over sources that are compiled; of both at once nothing is said
+  abbrev pub OfAim : Option Aim → Names → FileMap → Type 0
+  OfAim None n known = Unit {0}
+  OfAim (Some aim) n known = OfInput (λ input. OfTexts (λ texts. (built : AreCompiled aim n.about texts) × P false (starting input built.image built.store)) n known) n known
+
+  -- so it is with the machine session that is begun, in which `ps` is a command where this is true
+  abbrev pub BeginsAs : Form → Names → FileMap → Type 0
+  BeginsAs Go n known = OfAim n.aim n known
+  BeginsAs Debug n known = OfInput (λ input. OfImage (λ text table_text. (good : AreGood text table_text) × P true (starting input good.image good.store)) n known) n known
+  BeginsAs _ n known = ⊥
+
 -- the sources are refused
 abbrev pub IsRefusedFor : Form → Names → FileMap → List ℕ → Type 0
 IsRefusedFor Go n known line = AreRight n known × OfTexts (λ texts. IsRefusal n.about texts line) n known
@@ -173,6 +235,7 @@ IsWhy form n known (TooLong line) = (first_missing known (read_names n) ≡ None
 IsWhy form n known (Refused line) = IsRefusedFor form n known line
 IsWhy form n known (Bad line) = IsBadFor form n known line
 
-abbrev pub Opens : {A : Type 0} → Form → Names → FileMap → Result A Stop → Type 0
-Opens form n known (Ok session) = Begins form n known
+-- a session is begun, which stands for the machine session, or it is said why not
+abbrev pub Opens : Form → Names → FileMap → Result (Session World) Stop → Type 0
+Opens form n known (Ok session) = Begins form n known × BeginsAs (λ (raw : Bool) (st : SessionState). IsOver raw session st) form n known
 Opens form n known (Err stop) = IsWhy form n known stop

@@ -1,14 +1,16 @@
 // Machines and their tables: what a session stands on.
-ghost use Rattle.std.specs.Prelude.{◌≡◌, ◌+◌, ◌⊎◌, ℕ, List, [], length, map, string_bytes, IfErr, IfOk, OnOk, MatchResult, Some, Ok, Err, option_map};
+ghost use Rattle.std.specs.Prelude.{◌≡◌, ◌≤◌, ◌+◌, ◌⊎◌, ℕ, List, [], length, map, string_bytes, IfErr, IfOk, OnOk, MatchResult, Some, Ok, Err, option_map};
 ghost use Rattle.ldb_edge.specs.Known.{FileMap};
-ghost use Rattle.ps_store.specs.StoreState.{StoreState};
+ghost use Rattle.obj_file.specs.Image.{ImageFields};
+ghost use Rattle.ldb_cc.specs.declared.aim.Aim.{Aim as OneAim};
 ghost use Rattle.table_run.specs.Tables.{IsTableOf};
 ghost use Rattle.ldb_cc.specs.Scanning.{items_of};
 ghost use Rattle.ldb_cc.specs.Sources.{IsCause};
 ghost use Rattle.ldb_top.specs.Lines.{table_word};
-ghost use Rattle.ldb_top.specs.Names.{names_in_debug, names_in_go};
+ghost use Rattle.ldb_top.specs.Conversing.{IsOver};
+ghost use Rattle.ldb_top.specs.Names.{aim_in, names_in_debug, names_in_go};
 ghost use Rattle.ldb_top.specs.Stops.{IsBuildStop, IsLoadStop, IsGoStop, IsDebugStop, IsOpenStop};
-ghost use Rattle.ldb_top.specs.Why.{IsTableStop, IsImageTold, IsBuildWhy, BuildsFrom, LoadsFrom, Opens};
+ghost use Rattle.ldb_top.specs.Why.{IsTableStop, IsImageTold, IsBuildWhy, BuildsFrom, AddsSide, AddsCompiled, IsCompiledFor, LoadsFrom, Opens, starting};
 ghost use Rattle.ldb_top.specs.Words.{Debug, Go};
 
 use crate::reading::{line_with, read_file, read_input, read_sources};
@@ -18,7 +20,7 @@ use cc_call::{is_refusal, names_of, refused_line};
 use ldb_cc::{Aim, BuildFault, Built, compile};
 use ldb_edge::Files;
 use ldb_words::Text;
-use near_link::{Entry, NearLink, schedule_of};
+use near_link::{Entry, NearLink, near_nubs_fit, schedule_of};
 use obj_file::{Image, ImageFault, read_image};
 use ps_store::PsStore;
 use session::Session;
@@ -94,7 +96,8 @@ fn refusal(alloc: Global, names: &[Text], fault: &BuildFault) -> Stop
 
 impl Sides {
     fn new(alloc: Global) -> Sides
-        ensures { result.images.items ≡ [] }
+        ensures images { result.images.items ≡ [] }
+        ensures tables { result.tables.items ≡ [] }
     {
         Sides {
             images: Vec::new(alloc),
@@ -107,7 +110,7 @@ impl Sides {
         ensures count { OnOk result (length self.new.images.items ≡ length self.old.images.items + 1) }
         ensures stop { IfErr result IsLoadStop }
         ensures told { IfErr result (IsTableStop image.target table.now) }
-        ensures good { OnOk result ((store : StoreState) × IsTableOf table.now image.target (Ok store)) }
+        ensures adds { OnOk result (AddsSide image table.now self.old.images.items self.new.images.items self.old.tables.items self.new.tables.items) }
     {
         let store = match run_table(alloc, table, image.target()) {
             Ok(store) => store,
@@ -130,6 +133,7 @@ impl Sides {
         ensures count { OnOk result (length self.new.images.items ≡ length self.old.images.items + 1) }
         ensures stop { IfErr result IsBuildStop }
         ensures builds { BuildsFrom names.now (map items_of texts.now) result }
+        ensures adds { OnOk result (AddsCompiled aim names.now (map items_of texts.now) self.old.images.items self.new.images.items self.old.tables.items self.new.tables.items) }
     {
         match compile(alloc, aim, names, texts) {
             Ok(built) => {
@@ -149,8 +153,11 @@ impl Sides {
         raw: bool,
     ) -> Result<Session<NearLink>, Stop>
         requires { (length self.images.items ≡ 1) ⊎ (length self.images.items ≡ 2) }
-        ensures { IfErr result (λ stop. stop ≡ Stop.NoMemory) }
+        ensures stop { IfErr result (λ stop. stop ≡ Stop.NoMemory) }
+        ensures over { (image : ImageFields) (text : List ℕ) (one : AddsSide image text [] self.images.items [] self.tables.items) → length input.now ≤ 16777216
+            → IfOk result (λ session. IsOver raw session (starting input.now image one.store)) }
     {
+        near_nubs_fit();
         let link = NearLink::new(alloc, &self.images, schedule)?;
         match Session::start(alloc, link, self.tables, input, raw) {
             Ok(session) => Ok(session),
@@ -165,6 +172,7 @@ fn sides_of(alloc: Global, aims: Aims, names: &[Text], texts: &[Vec<u8>]) -> Res
     ensures count { IfOk result (λ sides. (length sides.images.items ≡ 1) ⊎ (length sides.images.items ≡ 2)) }
     ensures stop { IfErr result IsBuildStop }
     ensures builds { BuildsFrom names.now (map items_of texts.now) result }
+    ensures one { (aim : OneAim) → aim_in aims ≡ Some aim → IfOk result (λ sides. AddsCompiled aim names.now (map items_of texts.now) [] sides.images.items [] sides.tables.items) }
 {
     let mut sides = Sides::new(alloc);
     match aims {
@@ -189,6 +197,7 @@ pub fn begin(
     requires { length names.now ≡ length texts.now }
     ensures stop { IfErr result IsBuildStop }
     ensures builds { BuildsFrom names.now (map items_of texts.now) result }
+    ensures over { (aim : OneAim) → aim_in aims ≡ Some aim → length input.now ≤ 16777216 → IfOk result (IsCompiledFor aim names.now (map items_of texts.now) input.now) }
 {
     let sides = sides_of(alloc, aims, names, texts)?;
     let entries = match schedule {
@@ -207,6 +216,8 @@ fn open_texts(
 ) -> Result<Session<NearLink>, Stop>
     requires { length texts.now ≡ length request.now.sources.now }
     ensures builds { BuildsFrom (map string_bytes request.now.sources.now) (map items_of texts.now) result }
+    ensures over { (aim : OneAim) → aim_in request.now.aims ≡ Some aim → length input.now ≤ 16777216
+        → IfOk result (IsCompiledFor aim (map string_bytes request.now.sources.now) (map items_of texts.now) input.now) }
 {
     let names = names_of(alloc, request.sources)?;
     begin(alloc, request.aims, request.schedule, &names, texts, input)
@@ -241,7 +252,8 @@ fn open_image(
     table: &[u8],
     input: &[u8],
 ) -> Result<Session<NearLink>, Stop>
-    ensures loads { LoadsFrom image.now table.now result }
+    requires { length input.now ≤ 16777216 }
+    ensures { LoadsFrom image.now table.now input.now result }
 {
     let image = match read_image(alloc, image) {
         Ok(image) => image,

@@ -1,4 +1,4 @@
-use Rattle.std.proofs.Common.{ℕ, List, [], ◌∷◌, ◌∙◌, inr, map, string_bytes, refl, sym, subst}
+use Rattle.std.proofs.Common.{ℕ, ◌≤◌, List, [], ◌∷◌, ◌∙◌, Some, inr, length, map, string_bytes, refl, sym, ap, subst}
 use Rattle.std.specs.Global.{Vec}
 use Rattle.ldb_cc.specs.Scanning.{items_of}
 use Rattle.cc_call.specs.Found.{AreRead}
@@ -18,7 +18,9 @@ returns-in-Ok-read_input-clause-opens g c = λ known h.
     let sources = c.in-Ok.ensures.finds known h in
     let input = c.in-Ok-read_input.ensures.finds known (c.in-Ok.ensures.same ∙ h) in
     let read = subst (λ (texts : List (Vec ℕ)). AreRead known (map string_bytes c.args.request.now.sources.now) (map items_of texts)) (sym c.deref.ensures.value) sources.1 in
-    go_opens (names_in_go c.args.request.now) known (map items_of c.deref.result.now) c.open_texts.result sources.0 read input.0 input.1 c.open_texts.ensures.builds
+    let same = c.deref-in-Ok-read_input.ensures.value in
+    go_opens (names_in_go c.args.request.now) known c.deref-in-Ok-read_input.result.now (map items_of c.deref.result.now) c.open_texts.result sources.0 read input.0 input.1 (input.2 ∙ ap Some (sym same)) c.open_texts.ensures.builds
+    (λ one e. c.open_texts.ensures.over one e (subst (λ (xs : List ℕ). length xs ≤ 16777216) (sym same) c.in-Ok-read_input.ensures.short))
 
 pub returns-clause-opens : goal.returns-clause-opens
 returns-clause-opens g c = λ known h.

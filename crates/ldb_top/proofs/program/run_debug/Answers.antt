@@ -1,8 +1,8 @@
-use Rattle.std.proofs.Common.{refl, sym, subst}
+use Rattle.std.proofs.Common.{◌∙◌, refl, sym, subst}
 use Rattle.ldb_top.specs.Output.{OthersKept}
 use Rattle.ldb_top.specs.Stops.{IsDebugStop}
 use Rattle.ldb_top.proofs.Stopped.{debug_told, told_missed, debug_no_missing}
-use Rattle.ldb_top.specs.Comes.{outside, Served}
+use Rattle.ldb_top.specs.Comes.{outside, Served, ServedSo}
 use Rattle.ldb_top.specs.Names.{names_in_debug}
 use Rattle.ldb_top.specs.Words.{Debug}
 use Rattle.ldb_top.proofs.Come.{told_comes, served_comes}
@@ -23,8 +23,9 @@ pub returns-in-Ok-clause-comes : goal.returns-in-Ok-clause-comes
 returns-in-Ok-clause-comes g c =
     let new = outside (g.F.Files.held c.run.new.files) (g.C.Source.left c.run.new.commands) (g.S.Sink.taken c.run.new.transcript) in
     let served = subst (λ h. Served (outside h (g.C.Source.left c.args.commands.now) (g.S.Sink.taken c.args.transcript.now)) new c.run.result) c.in-Ok.ensures.same c.run.ensures.served in
-    served_comes Debug (names_in_debug c.args.request.now) (outside (g.F.Files.held c.args.files.now) (g.C.Source.left c.args.commands.now) (g.S.Sink.taken c.args.transcript.now)) new c.run.result
+    served_comes Debug (names_in_debug c.args.request.now) (outside (g.F.Files.held c.args.files.now) (g.C.Source.left c.args.commands.now) (g.S.Sink.taken c.args.transcript.now)) new c.in-Ok.session c.run.result
     c.in-Ok.ensures.opens served c.run.ensures.made
+    (λ raw st known over w h. subst (λ held. ServedSo c.args.request.now.output.now raw st (outside held (g.C.Source.left c.args.commands.now) (g.S.Sink.taken c.args.transcript.now)) new c.run.result) c.in-Ok.ensures.same (c.run.ensures.so raw st known over w (c.in-Ok.ensures.same ∙ h)))
 
 pub returns-in-Ok-clause-kept : goal.returns-in-Ok-clause-kept
 returns-in-Ok-clause-kept g c = λ start k. c.run.ensures.kept start (subst (λ h. OthersKept c.args.request.now.output.now start h) (sym c.in-Ok.ensures.same) k)

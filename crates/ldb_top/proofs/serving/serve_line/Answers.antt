@@ -1,8 +1,68 @@
+use Rattle.std.proofs.Common.{◌≡◌, ◌∙◌, ap, [], Some, Ok, Err, arith, rules}
+use Rattle.std.proofs.lemmas.Grind.{common_steps}
+use Rattle.c_session.specs.declared.command.Command.TheVariants.{Quit}
+use Rattle.targets.specs.Targets.{machine_behaviour}
+use Rattle.session.specs.declared.answers.Answer.TheVariants as answer
+use Rattle.session.specs.declared.answers.End.TheVariants as end
+use Rattle.session.specs.Meant.{AreSteady}
+use Rattle.steady_machines.proofs.Runs.{order_kept, runs_steady}
+use Rattle.ldb_top.specs.Ahead.{line_and}
+use Rattle.ldb_top.specs.Conversed.{wanting_line}
+use Rattle.ldb_top.specs.Conversing.{here}
+use Rattle.ldb_top.specs.Output.{held_under}
+use Rattle.ldb_top.proofs.Come.{on_ok}
+use Rattle.ldb_top.proofs.Conversations.{lines_so, wanting_so, ended_so, if_line}
+use Rattle.ldb_top.proofs.Growing.{grows_added}
 use Rattle.ldb_top.proofs.Lates.{follows_answer}
 use Rattle.ldb_top.proofs.serving.serve_line.Goals as goal
+
+steady : AreSteady machine_behaviour
+steady = record { orders = order_kept; runs = runs_steady }
 
 pub returns-in-Ok-Lines-clause-follows : goal.returns-in-Ok-Lines-clause-follows
 returns-in-Ok-Lines-clause-follows g c = follows_answer c.args.session.now.raw c.args.line.now c.command-answer.result c.in-Ok-Lines.field-0 c.reply.result c.in-Ok-Lines.is c.command-answer.ensures.quit c.reply.ensures.next
 
 pub returns-in-Ok-NoMemory-clause-follows : goal.returns-in-Ok-NoMemory-clause-follows
 returns-in-Ok-NoMemory-clause-follows g c = follows_answer c.args.session.now.raw c.args.line.now c.command-answer.result c.in-Ok-NoMemory.field-0 c.reply-in-Ok-NoMemory.result c.in-Ok-NoMemory.is c.command-answer.ensures.quit c.reply-in-Ok-NoMemory.ensures.next
+
+pub returns-in-Ok-Lines-clause-longer : goal.returns-in-Ok-Lines-clause-longer
+returns-in-Ok-Lines-clause-longer g c = on_ok c.reply.result _ (grows_added _ _ c.bytes.result.now c.in-Ok.ensures.added)
+
+pub returns-in-Ok-NoMemory-clause-longer : goal.returns-in-Ok-NoMemory-clause-longer
+returns-in-Ok-NoMemory-clause-longer g c = on_ok c.reply-in-Ok-NoMemory.result _ (grows_added _ _ c.bytes.result.now c.in-Ok.ensures.added)
+
+pub returns-in-Err-Quit-clause-longer : goal.returns-in-Err-Quit-clause-longer
+returns-in-Err-Quit-clause-longer g c = grows_added _ _ c.bytes.result.now c.in-Ok.ensures.added
+
+pub returns-in-Ok-Lines-clause-so : goal.returns-in-Ok-Lines-clause-so
+returns-in-Ok-Lines-clause-so g c = λ raw st lines over put.
+    let taken = g.S.Sink.taken c.args.transcript.now in
+    let taken' = g.S.Sink.taken c.reply.new.transcript in
+    let out = held_under (g.F.Files.held c.args.files.now) c.args.output.now in
+    let out' = held_under (g.F.Files.held c.append_all.new.files) c.args.output.now in
+    let bytes = c.bytes.result.now in
+    let is : c.command-answer.result ≡ Ok (answer.Lines c.as_bytes.result.now) = cc in
+    if_line raw st (here (line_and c.args.line.now lines) taken out) c.command-answer.new.self (here lines taken' out') c.as_bytes.result.now taken taken' c.reply.result c.reply.ensures.next c.reply.ensures.told (λ told.
+    lines_so raw st c.args.session.now c.command-answer.new.self c.args.line.now lines taken taken' out out' _ _ bytes c.command-answer.result over c.as_bytes.result.now is c.command-answer.ensures.blank
+    (λ none. (let h = c.command-answer.ensures.line none in (h.1, cc (h.2, c.bytes.ensures, c.new-written.ensures.taken, c.new.ensures.items)))) c.command-answer.ensures.raw
+    (c.new-written.ensures.taken ∙ ap Some c.new.ensures.items) c.bytes.ensures (λ hs represents full said. c.command-answer.ensures.meant machine_behaviour hs st steady represents full said) told (c.in-Ok.ensures.added st.written put))
+
+pub returns-in-Ok-NoMemory-clause-so : goal.returns-in-Ok-NoMemory-clause-so
+returns-in-Ok-NoMemory-clause-so g c = λ raw st lines over put.
+    let taken = g.S.Sink.taken c.args.transcript.now in
+    let taken' = g.S.Sink.taken c.reply-in-Ok-NoMemory.new.transcript in
+    let out = held_under (g.F.Files.held c.args.files.now) c.args.output.now in
+    let out' = held_under (g.F.Files.held c.append_all.new.files) c.args.output.now in
+    let is : c.command-answer.result ≡ Ok answer.NoMemory = c.in-Ok-NoMemory.is ∙ ap Ok c.in-Ok-NoMemory.field-0-is in
+    if_line raw st (here (line_and c.args.line.now lines) taken out) c.command-answer.new.self (here lines taken' out') wanting_line taken taken' c.reply-in-Ok-NoMemory.result c.reply-in-Ok-NoMemory.ensures.next c.reply-in-Ok-NoMemory.ensures.told (λ told.
+    wanting_so raw st c.args.session.now c.command-answer.new.self c.args.line.now lines taken taken' out out' out out c.bytes.result.now c.command-answer.result over is c.command-answer.ensures.blank c.command-answer.ensures.quit told (c.in-Ok.ensures.added st.written put))
+
+pub returns-in-Err-Quit-clause-so : goal.returns-in-Err-Quit-clause-so
+returns-in-Err-Quit-clause-so g c = λ raw st lines over put.
+    let taken = g.S.Sink.taken c.args.transcript.now in
+    let out = held_under (g.F.Files.held c.args.files.now) c.args.output.now in
+    let out' = held_under (g.F.Files.held c.append_all.new.files) c.args.output.now in
+    let is : c.command-answer.result ≡ Err end.Quit = first_of (search rules, grind (arith, common_steps)) in
+    let asked = c.command-answer.ensures.asked Quit (c.command-answer.ensures.quits is) (λ e. cc) (λ e. cc) in
+    ended_so raw st c.args.session.now c.command-answer.new.self c.args.line.now lines taken taken out out' out out c.bytes.result.now c.command-answer.result over is c.command-answer.ensures.blank (c.command-answer.ensures.quits is)
+    (cc (asked.0, c.bytes.ensures, c.new-written.ensures.taken, c.new.ensures.items)) (c.in-Ok.ensures.added st.written put)

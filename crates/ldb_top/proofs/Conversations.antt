@@ -1,0 +1,256 @@
+-- Sessions, line by line.
+use Rattle.std.proofs.Common.{◌≡◌, ◌⊎◌, ℕ, Bool, true, false, if◌then◌else◌, List, [], ◌∷◌, ◌++◌, length, nat_le, Option, None, Some, Ok, Err, inl, inr, refl, sym, ap, ◌∙◌, subst, append_assoc, append-nil, arith}
+use Rattle.std.specs.declared.result.Result.{Result}
+use Rattle.std.specs.Prelude.{IfOk, OnOk}
+use Rattle.machine_state.specs.State.{Behaviour}
+use Rattle.c_session.specs.declared.command.Command.{Command}
+use Rattle.c_session.specs.declared.command.Command.TheVariants.{Break, Clear, Continue, Step, Turns, Frames, Frame, Print, Eval, Assign, Quit, Regs, Code, Ps}
+use Rattle.cmd_lang.specs.Words.{is_empty, is_nothing, without_blanks}
+use Rattle.cmd_lang.specs.Commands.{read_of, read_words}
+use Rattle.ldb_edge.specs.Count.{Rose}
+use Rattle.ldb_edge.specs.Known.{known_and}
+use Rattle.cc_call.specs.declared.ended.Fault.{Fault}
+use Rattle.nub_wire.specs.Delivery.{World}
+use Rattle.near_link.specs.Near.{near_conduct}
+use Rattle.targets.specs.Targets.{machine_behaviour}
+use Rattle.asking_meaning.specs.Meant.{joined}
+use Rattle.claims.specs.Side.{SessionState}
+use Rattle.claims.specs.Outcome.{Answers}
+use Rattle.session.specs.declared.answers.Answer.{Answer}
+use Rattle.session.specs.declared.answers.Answer.TheVariants as answer
+use Rattle.session.specs.declared.answers.End.{End}
+use Rattle.session.specs.declared.answers.End.TheVariants as end
+use Rattle.session.specs.declared.conversation.Session.{Session}
+use Rattle.session.specs.declared.sides.SideRecord.{SideRecord}
+use Rattle.session.specs.Meant.{Hosts, Represents, Answered, AnswersAs, MeantAnswers, IsSaidIfAny}
+use Rattle.ldb_top.specs.declared.serving.Next.{Next}
+use Rattle.ldb_top.specs.declared.serving.Next.TheVariants as next
+use Rattle.ldb_top.specs.Ahead.{Lines, line_and, lines_if}
+use Rattle.ldb_top.specs.Conversed.{commands_in, wanting_line, IsOpen, Converses, Told, HasConversed}
+use Rattle.ldb_top.specs.Conversing.{IsMore, Grows, TakesMore, IsOver, Here, here, IsSo, IsSoAlways, IsSoFar, GoesSo, NextIsSo}
+use Rattle.ldb_top.specs.Late.{asks_quit}
+use Rattle.ldb_top.specs.Said.{IsFront}
+use Rattle.ldb_top.proofs.Alone.{stays_alone, one_side}
+use Rattle.ldb_top.proofs.Growing.{grows_on, grows_same}
+use Rattle.ldb_top.proofs.Lates.{same_quit, quits_not}
+
+-- ---- which lines have a reply
+
+-- whether the session's contract tells what a line means
+pub said_or_not : (c : Option Command) → IsSaidIfAny c None ⊎ (¬ IsSaidIfAny c None)
+said_or_not None = inl tt
+said_or_not (Some (Break x)) = inl tt
+said_or_not (Some (Clear x)) = inl tt
+said_or_not (Some Continue) = inl tt
+said_or_not (Some Step) = inl tt
+said_or_not (Some (Turns x)) = inl tt
+said_or_not (Some Frames) = inl tt
+said_or_not (Some (Frame x)) = inl tt
+said_or_not (Some (Print x)) = inr (λ h. h)
+said_or_not (Some (Eval x)) = inr (λ h. h)
+said_or_not (Some (Assign x)) = inr (λ h. h)
+said_or_not (Some Quit) = inl tt
+said_or_not (Some Regs) = inl tt
+said_or_not (Some (Code x)) = inr (λ h. h)
+said_or_not (Some (Ps x)) = inr (λ h. h)
+
+blank_line : (raw : Bool) (line : List ℕ) (ls : List (List ℕ)) → is_empty line ≡ true → commands_in raw (line ∷ ls) ≡ commands_in raw ls
+blank_line raw line ls e = ap (λ b. if b then commands_in raw ls else read_of raw line ∷ commands_in raw ls) e
+
+read_line : (raw : Bool) (line : List ℕ) (ls : List (List ℕ)) → is_empty line ≡ false → commands_in raw (line ∷ ls) ≡ read_of raw line ∷ commands_in raw ls
+read_line raw line ls e = ap (λ b. if b then commands_in raw ls else read_of raw line ∷ commands_in raw ls) e
+
+-- ---- one line
+
+-- Behind a line there is a conversation, if there is one with the line in front whenever it is told what was said so far.
+front_so : (raw : Bool) (st : SessionState) (line : List ℕ) (lines : Option Lines) (taken out t o : Option (List ℕ))
+    → ((ls : Lines) (before : List ℕ) → lines ≡ Some ls → taken ≡ Some before → Told before t o (Converses st (commands_in raw (line ∷ ls.0)))) → IsSo raw st (here (line_and line lines) taken out) t o
+front_so raw st line None taken out t o f ls before e told = absurd cc
+front_so raw st line (Some (rest, cut)) taken out t o f ls before e told =
+    let same : (line ∷ rest, cut) ≡ ls = cc in
+    subst (λ (x : Lines). Told before t o (Converses st (commands_in raw x.0))) same (f (rest, cut) before refl told)
+
+-- what was told in front of the rest
+front_told : (raw : Bool) (st after : SessionState) (line : List ℕ) (lines : Option Lines) (taken taken' out out' t o : Option (List ℕ)) (text : List ℕ) → taken' ≡ known_and taken text
+    → ((ls : List (List ℕ)) (rest output : List ℕ) → Converses after (commands_in raw ls) rest output → Converses st (commands_in raw (line ∷ ls)) (text ++ rest) output)
+    → IsSo raw after (here lines taken' out') t o → IsSo raw st (here (line_and line lines) taken out) t o
+front_told raw st after line lines taken taken' out out' t o text told step so =
+    front_so raw st line lines taken out t o (λ ls before e known.
+    let behind : Told (before ++ text) t o (Converses after (commands_in raw ls.0)) = so ls (before ++ text) e (told ∙ ap (λ k. known_and k text) known) in
+    record {
+      transcript = text ++ behind.transcript;
+      output = behind.output;
+      taken_is = behind.taken_is ∙ ap Some (append_assoc before text behind.transcript);
+      out_is = behind.out_is;
+      so = step ls.0 behind.transcript behind.output behind.so;
+    })
+
+-- a line that is open
+open_so : (raw : Bool) (st : SessionState) (s' : Session World) (line : List ℕ) (lines : Option Lines) (taken taken' out out' : Option (List ℕ)) (text bytes : List ℕ) → is_empty line ≡ false → taken' ≡ known_and taken text
+    → out' ≡ Some (st.written ++ bytes) → ((more : List ℕ) → IsOpen (read_of raw line) (text ++ more)) → GoesSo raw st (here (line_and line lines) taken out) s' (here lines taken' out')
+open_so raw st s' line lines taken taken' out out' text bytes full told put is_open =
+    inr (λ t o g h. front_so raw st line lines taken out t o (λ ls before e known.
+    let took : Grows (Some (before ++ text)) t = subst (λ x. Grows x t) (told ∙ ap (λ k. known_and k text) known) g in
+    let held : Grows (Some (st.written ++ bytes)) o = subst (λ x. Grows x o) put h in
+    record {
+      transcript = text ++ took.more;
+      output = st.written ++ (bytes ++ held.more);
+      taken_is = took.is ∙ ap Some (append_assoc before text took.more);
+      out_is = held.is ∙ ap Some (append_assoc st.written bytes held.more);
+      so = subst (λ (cs : List (Option Command)). Converses st cs (text ++ took.more) (st.written ++ (bytes ++ held.more))) (sym (read_line raw line ls.0 full)) (inr (inl (is_open took.more, record { rest = bytes ++ held.more; is = refl })));
+    }))
+
+-- a line of blanks
+blank_so : (raw : Bool) (st : SessionState) (s s' : Session World) (line : List ℕ) (lines : Option Lines) (taken taken' out out' : Option (List ℕ)) → is_empty line ≡ true → IsOver raw s st → s' ≡ s → taken' ≡ known_and taken []
+    → out' ≡ Some st.written → GoesSo raw st (here (line_and line lines) taken out) s' (here lines taken' out')
+blank_so raw st s s' line lines taken taken' out out' blank over same told put =
+    inl (record {
+      session = st;
+      over = subst (λ (x : Session World). IsOver raw x st) (sym same) over;
+      put = put;
+      on = λ t o so. front_told raw st st line lines taken taken' out out' t o [] told (λ ls rest output c. subst (λ (cs : List (Option Command)). Converses st cs rest output) (sym (blank_line raw line ls blank)) c) so;
+    })
+
+-- a line that was answered
+answered_so : (raw : Bool) (st : SessionState) (s s' : Session World) (line : List ℕ) (lines : Option Lines) (taken taken' out out' kept : Option (List ℕ)) (text bytes : List ℕ) → is_empty line ≡ false → IsOver raw s st → s'.raw ≡ s.raw
+    → Answered machine_behaviour near_conduct (Some s'.talk.memory.below.below.below.link) s'.first s'.second s'.mode s'.limit st (Some []) kept (MeantAnswers machine_behaviour st (read_of s.raw line)) text → kept ≡ Some bytes
+    → taken' ≡ known_and taken text → out' ≡ Some (st.written ++ bytes) → GoesSo raw st (here (line_and line lines) taken out) s' (here lines taken' out')
+answered_so raw st s s' line lines taken taken' out out' kept text bytes full over raws a holds told put =
+    let says : Answers machine_behaviour st (read_of raw line) a.reply a.after = subst (λ r. Answers machine_behaviour st (read_of r line) a.reply a.after) over.raw_is a.says in
+    let added : a.output ≡ bytes = cc (a.put, holds) in
+    inl (record {
+      session = a.after;
+      over = record { hosts = a.hosts; represents = a.represents; alone = stays_alone machine_behaviour st (read_of raw line) a.reply a.after over.alone says; raw_is = raws ∙ over.raw_is };
+      put = put ∙ ap Some (sym (a.written ∙ ap (λ x. st.written ++ x) added));
+      on = λ t o so. front_told raw st a.after line lines taken taken' out out' t o text told (λ ls rest output c.
+          subst (λ (cs : List (Option Command)). Converses st cs (text ++ rest) output) (sym (read_line raw line ls full)) (inr (inr (a.reply, rest, a.after, says, ap (λ x. x ++ rest) a.text_is, c)))) so;
+    })
+
+-- `quit`
+quit_so : (raw : Bool) (st : SessionState) (line : List ℕ) (lines : Option Lines) (taken out out' : Option (List ℕ)) → is_empty line ≡ false → asks_quit (read_of raw line) ≡ true → out' ≡ Some st.written
+    → IsSo raw st (here (line_and line lines) taken out) taken out'
+quit_so raw st line lines taken out out' full quit put =
+    front_so raw st line lines taken out taken out' (λ ls before e known. record {
+      transcript = [];
+      output = st.written;
+      taken_is = known ∙ ap Some (sym (append-nil before));
+      out_is = put;
+      so = subst (λ (cs : List (Option Command)). Converses st cs [] st.written) (sym (read_line raw line ls.0 full)) (inl (quit, refl, refl));
+    })
+
+-- ---- one line, by what the session says of it
+
+-- of a line of blanks nothing is read
+nothing_read : (raw : Bool) (bytes : List ℕ) → is_nothing bytes ≡ true → read_words raw bytes ≡ None
+nothing_read raw [] e = refl
+nothing_read raw (b ∷ bytes) e = absurd cc
+
+either_none : (b : Bool) (o : Option Command) → o ≡ None → (if b then o else None) ≡ None
+either_none true o e = e
+either_none false o e = refl
+
+blank_none : (raw : Bool) (line : List ℕ) → is_empty line ≡ true → read_of raw line ≡ None
+blank_none raw line e = either_none (nat_le (length line) 1000) _ (nothing_read raw (without_blanks line) e)
+
+none_rose : Rose 0 0 → ⊥
+none_rose r = omega (arith, r.higher)
+
+-- what a session over one nub answers to a line
+abbrev AnswersLine : (s s' : Session World) → (line : List ℕ) → SessionState → (kept kept' : Option (List ℕ)) → Result Answer End → Type 0
+AnswersLine s s' line st kept kept' r =
+    (hs : Hosts) → Represents machine_behaviour near_conduct (Some s.talk.memory.below.below.below.link) s.first s.second s.mode s.limit hs st → is_empty line ≡ false → IsSaidIfAny (read_of s.raw line) s.second
+    → AnswersAs machine_behaviour near_conduct (Some s'.talk.memory.below.below.below.link) s'.first s'.second s'.mode s'.limit st kept kept' (MeantAnswers machine_behaviour st (read_of s.raw line)) 0 0 r
+
+module _ (raw : Bool) (st : SessionState) (s s' : Session World) (line : List ℕ) (lines : Option Lines) (taken taken' out out' kept kept' : Option (List ℕ)) (bytes : List ℕ) (r : Result Answer End) (over : IsOver raw s st) where
+  -- with this text
+  said_so : (text : List ℕ) → (c : Option Command) → c ≡ read_of s.raw line → IsSaidIfAny c None ⊎ (¬ IsSaidIfAny c None) → is_empty line ≡ false → r ≡ Ok (answer.Lines text) → s'.raw ≡ s.raw → kept ≡ Some [] → kept' ≡ Some bytes → AnswersLine s s' line st kept kept' r
+      → taken' ≡ known_and taken text → out' ≡ Some (st.written ++ bytes) → GoesSo raw st (here (line_and line lines) taken out) s' (here lines taken' out')
+  said_so text c e (inl said) full is raws none holds meant told put =
+      let one : s.second ≡ None = one_side machine_behaviour near_conduct _ s.first s.second s.mode s.limit over.hosts st over.represents over.alone in
+      let asked : IsSaidIfAny (read_of s.raw line) s.second = subst (λ (x : Option SideRecord). IsSaidIfAny (read_of s.raw line) x) (sym one) (subst (λ x. IsSaidIfAny x None) e said) in
+      elim (subst (λ x. AnswersAs machine_behaviour near_conduct (Some s'.talk.memory.below.below.below.link) s'.first s'.second s'.mode s'.limit st kept kept' (MeantAnswers machine_behaviour st (read_of s.raw line)) 0 0 x) is (meant over.hosts over.represents full asked)) [
+        | inl rose ↦ absurd (none_rose rose)
+        | inr a ↦ answered_so raw st s s' line lines taken taken' out out' kept' text bytes full over raws (subst (λ k. Answered machine_behaviour near_conduct (Some s'.talk.memory.below.below.below.link) s'.first s'.second s'.mode s'.limit st k kept' (MeantAnswers machine_behaviour st (read_of s.raw line)) text) none a) holds told put
+      ]
+  said_so text c e (inr unsaid) full is raws none holds meant told put =
+      open_so raw st s' line lines taken taken' out out' text bytes full told put (λ more. inl (subst (λ x. ¬ IsSaidIfAny x None) (e ∙ ap (λ x. read_of x line) over.raw_is) unsaid))
+
+  lines_either : (text : List ℕ) (b : Bool) → is_empty line ≡ b → r ≡ Ok (answer.Lines text) → (is_empty line ≡ true → r ≡ Ok (answer.Lines [])) → (read_of s.raw line ≡ None → (s' ≡ s) × (bytes ≡ [])) → s'.raw ≡ s.raw → kept ≡ Some [] → kept' ≡ Some bytes
+      → AnswersLine s s' line st kept kept' r → taken' ≡ known_and taken text → out' ≡ Some (st.written ++ bytes) → GoesSo raw st (here (line_and line lines) taken out) s' (here lines taken' out')
+  lines_either text true e is blank same raws none holds meant told put =
+      let stays = same (blank_none s.raw line e) in
+      let empty : text ≡ [] = cc (is, blank e) in
+      let nothing : bytes ≡ [] = stays.1 in
+      blank_so raw st s s' line lines taken taken' out out' e over stays.0 (told ∙ ap (λ x. known_and taken x) empty) (put ∙ ap (λ x. Some (st.written ++ x)) nothing ∙ ap Some (append-nil st.written))
+  lines_either text false e is blank same raws none holds meant told put = said_so text (read_of s.raw line) refl (said_or_not (read_of s.raw line)) e is raws none holds meant told put
+
+  pub lines_so : (text : List ℕ) → r ≡ Ok (answer.Lines text) → (is_empty line ≡ true → r ≡ Ok (answer.Lines [])) → (read_of s.raw line ≡ None → (s' ≡ s) × (bytes ≡ [])) → s'.raw ≡ s.raw → kept ≡ Some [] → kept' ≡ Some bytes
+      → AnswersLine s s' line st kept kept' r → taken' ≡ known_and taken text → out' ≡ Some (st.written ++ bytes) → GoesSo raw st (here (line_and line lines) taken out) s' (here lines taken' out')
+  lines_so text is blank same raws none holds meant told put = lines_either text (is_empty line) refl is blank same raws none holds meant told put
+
+  not_blank : (b : Bool) → is_empty line ≡ b → (is_empty line ≡ true → r ≡ Ok (answer.Lines [])) → (r ≡ Ok (answer.Lines []) → ⊥) → is_empty line ≡ false
+  not_blank true e blank unblank = absurd (unblank (blank e))
+  not_blank false e blank unblank = e
+
+  -- for want of memory
+  pub wanting_so : r ≡ Ok answer.NoMemory → (is_empty line ≡ true → r ≡ Ok (answer.Lines [])) → (read_of s.raw line ≡ Some Quit → r ≡ Err end.Quit) → taken' ≡ known_and taken wanting_line → out' ≡ Some (st.written ++ bytes)
+      → GoesSo raw st (here (line_and line lines) taken out) s' (here lines taken' out')
+  wanting_so is blank quit told put =
+      let full : is_empty line ≡ false = not_blank (is_empty line) refl blank (λ e. cc) in
+      let unquit : asks_quit (read_of raw line) ≡ false = same_quit raw line ∙ quits_not s.raw line (λ q. (let e : r ≡ Err end.Quit = quit q in cc)) in
+      open_so raw st s' line lines taken taken' out out' wanting_line bytes full told put (λ more. inr (unquit, record { rest = more; is = refl }))
+
+  -- for `quit`
+  pub ended_so : r ≡ Err end.Quit → (is_empty line ≡ true → r ≡ Ok (answer.Lines [])) → read_of s.raw line ≡ Some Quit → bytes ≡ [] → out' ≡ Some (st.written ++ bytes) → IsSo raw st (here (line_and line lines) taken out) taken out'
+  ended_so is blank quit nothing put =
+      let full : is_empty line ≡ false = not_blank (is_empty line) refl blank (λ e. cc) in
+      quit_so raw st line lines taken out out' full (ap (λ x. asks_quit (read_of x line)) (sym over.raw_is) ∙ ap asks_quit quit) (put ∙ ap (λ x. Some (st.written ++ x)) nothing ∙ ap Some (append-nil st.written))
+
+-- where a reply was written
+pub if_line : (raw : Bool) (st : SessionState) (start : Here) (s : Session World) (now : Here) (text : List ℕ) (taken taken' : Option (List ℕ)) (r : Result Next Fault) → IfOk r (λ n. n ≡ next.Line) → OnOk r (taken' ≡ known_and taken text)
+    → (taken' ≡ known_and taken text → GoesSo raw st start s now) → IfOk r (NextIsSo raw st start s now)
+if_line raw st start s now text taken taken' (Ok n) e told g = subst (NextIsSo raw st start s now) (sym e) (g told)
+if_line raw st start s now text taken taken' (Err f) e told g = tt
+
+-- ---- one line after another
+
+-- no line is left
+pub none_so : (raw : Bool) (st : SessionState) (left : Option (List ℕ)) (cut : Bool) (taken out out' : Option (List ℕ)) → out' ≡ Some st.written → IsSo raw st (here (lines_if left ([], cut)) taken out) taken out'
+none_so raw st None cut taken out out' put ls before e known = absurd cc
+none_so raw st (Some bytes) cut taken out out' put ls before e known =
+    let same : ([], cut) ≡ ls = cc in
+    subst (λ (x : Lines). Told before taken out' (Converses st (commands_in raw x.0))) same (record { transcript = []; output = st.written; taken_is = known ∙ ap Some (sym (append-nil before)); out_is = put; so = (refl, refl) })
+
+-- behind the last line
+last_so : (raw : Bool) (st : SessionState) (start : Here) (s : Session World) (left taken out : Option (List ℕ)) (n : Next) → NextIsSo raw st start s (here (lines_if left ([], false)) taken out) n → IsSo raw st start taken out
+last_so raw st start s left taken out next.Line (inl g) = g.on taken out (none_so raw g.session left false taken out out g.put)
+last_so raw st start s left taken out next.Line (inr g) = g taken out (grows_same taken) (grows_same out)
+last_so raw st start s left taken out next.End g = g
+last_so raw st start s left taken out next.Late g = g
+
+-- where the line in front was read from the source
+pub whole_so : (raw : Bool) (st : SessionState) (s : Session World) (line line' : List ℕ) (before after : Option Lines) (taken out : Option (List ℕ)) (now : Here) (r : Result Next Fault) → IfOk r (NextIsSo raw st (here (line_and line' after) taken out) s now) → before ≡ line_and line after
+    → line' ≡ line → IfOk r (NextIsSo raw st (here before taken out) s now)
+whole_so raw st s line line' before after taken out now r so is same = subst (λ x. IfOk r (NextIsSo raw st (here x taken out) s now)) (ap (λ l. line_and l after) same ∙ sym is) so
+
+line_alone : (line : List ℕ) (left : Option (List ℕ)) → line_and line (lines_if left ([], false)) ≡ lines_if left (line ∷ [], false)
+line_alone line None = refl
+line_alone line (Some bytes) = refl
+
+pub ended_last : (raw : Bool) (st : SessionState) (s : Session World) (line line' : List ℕ) (before : Option Lines) (left taken out taken' out' : Option (List ℕ)) (n : Next)
+    → NextIsSo raw st (here (line_and line' (lines_if left ([], false))) taken out) s (here (lines_if left ([], false)) taken' out') n → before ≡ lines_if left (line ∷ [], false) → line' ≡ line → IsSo raw st (here before taken out) taken' out'
+ended_last raw st s line line' before left taken out taken' out' n so is same =
+    subst (λ x. IsSo raw st (here x taken out) taken' out') (ap (λ l. line_and l (lines_if left ([], false))) same ∙ line_alone line left ∙ sym is) (last_so raw st _ s left taken' out' n so)
+
+-- the next one
+pub next_so : (raw : Bool) (st : SessionState) (start : Here) (s s' : Session World) (now behind : Here) (n : Next) → GoesSo raw st start s now → Grows now.taken behind.taken → Grows now.out behind.out
+    → ((between : SessionState) → IsOver raw s between → now.out ≡ Some between.written → NextIsSo raw between now s' behind n) → NextIsSo raw st start s' behind n
+next_so raw st start s s' now behind next.Line (inl g) took put step = elim (step g.session g.over g.put) [
+  | inl h ↦ inl (record { session = h.session; over = h.over; put = h.put; on = λ t o so. g.on t o (h.on t o so) })
+  | inr h ↦ inr (λ t o a b. g.on t o (h t o a b))
+]
+next_so raw st start s s' now behind next.Line (inr g) took put step = inr (λ t o a b. g t o (grows_on now.taken behind.taken t took a) (grows_on now.out behind.out o put b))
+next_so raw st start s s' now behind next.End (inl g) took put step = g.on behind.taken behind.out (step g.session g.over g.put)
+next_so raw st start s s' now behind next.End (inr g) took put step = g behind.taken behind.out took put
+next_so raw st start s s' now behind next.Late (inl g) took put step = g.on behind.taken behind.out (step g.session g.over g.put)
+next_so raw st start s s' now behind next.Late (inr g) took put step = g behind.taken behind.out took put

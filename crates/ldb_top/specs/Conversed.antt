@@ -1,0 +1,74 @@
+-- What a session tells and puts, by the machine session over the same lines.
+use Rattle.std.specs.Prelude.{◌≡◌, ◌⊎◌, ℕ, Bool, true, false, if◌then◌else◌, List, [], ◌∷◌, ◌++◌, codes, Option, None, Some}
+use Rattle.machine_state.specs.State.{Behaviour}
+use Rattle.targets.specs.Targets.{machine_behaviour}
+use Rattle.c_session.specs.declared.command.Command.{Command}
+use Rattle.cmd_lang.specs.Words.{is_empty}
+use Rattle.cmd_lang.specs.Commands.{read_of}
+use Rattle.ldb_edge.specs.Known.{known_and}
+use Rattle.asking_meaning.specs.Meant.{joined}
+use Rattle.claims.specs.Side.{SessionState}
+use Rattle.claims.specs.Lines.{Reply}
+use Rattle.claims.specs.Outcome.{Answers}
+use Rattle.session.specs.Meant.{IsSaidIfAny}
+use Rattle.ldb_top.specs.Ahead.{Lines}
+use Rattle.ldb_top.specs.Late.{asks_quit}
+use Rattle.ldb_top.specs.Lines.{late_line}
+use Rattle.ldb_top.specs.Said.{IsFront}
+
+-- ---- lines
+
+-- The lines that have a reply, each as it is read: a line of blanks has none. Where `raw` is true, `ps` is a command too.
+abbrev pub commands_in : (raw : Bool) → List (List ℕ) → List (Option Command)
+commands_in raw [] = []
+commands_in raw (line ∷ lines) = if is_empty line then commands_in raw lines else read_of raw line ∷ commands_in raw lines
+
+-- the reply to a command for which there was no memory
+abbrev pub wanting_line : List ℕ
+wanting_line = codes "no memory\n"
+
+-- From such a line on nothing is said of the transcript: a command whose meaning the session's contract doesn't tell, or one for
+-- which there was no memory.
+abbrev pub IsOpen : Option Command → (transcript : List ℕ) → Type 0
+IsOpen c transcript = ¬ IsSaidIfAny c None ⊎ ((asks_quit c ≡ false) × IsFront wanting_line transcript)
+
+-- ---- a conversation
+
+module _ (Open : Option Command → (transcript : List ℕ) → Type 0) where
+  -- The lines from a session on: the bytes of the transcript, and what the first side's machine put in all. `quit` and the end of
+  -- the lines end it. An open line leaves what follows it open, but that what was put before it stays.
+  abbrev pub ConversesBut : Behaviour → SessionState → List (Option Command) → (transcript output : List ℕ) → Type 0
+  ConversesBut b st [] transcript output = (transcript ≡ []) × (output ≡ st.written)
+  ConversesBut b st (c ∷ cs) transcript output =
+      ((asks_quit c ≡ true) × (transcript ≡ []) × (output ≡ st.written))
+      ⊎ ((Open c transcript × IsFront st.written output)
+      ⊎ ((reply : Reply) × (rest : List ℕ) × (next : SessionState) × Answers b st c reply next × (transcript ≡ joined reply ++ rest) × ConversesBut b next cs rest output))
+
+-- What the machine session answers, up to the first line that is open. Without open lines this is the conversation of the machine
+-- session, whose lines are joined to bytes.
+abbrev pub Converses : SessionState → List (Option Command) → (transcript output : List ℕ) → Type 0
+Converses st cs transcript output = ConversesBut IsOpen machine_behaviour st cs transcript output
+
+-- no line is open
+abbrev pub NoneOpen : Option Command → (transcript : List ℕ) → Type 0
+NoneOpen c transcript = ⊥
+
+-- ---- a session
+
+-- a transcript and an output file, as they are told
+pub record Told (before : List ℕ) (taken out : Option (List ℕ)) (Is : (transcript output : List ℕ) → Type 0) : Type 0 where
+  pub transcript : List ℕ
+  pub output : List ℕ
+  pub taken_is : taken ≡ Some (before ++ transcript)
+  pub out_is : out ≡ Some output
+  pub so : Is transcript output
+
+-- From a machine session on, where the lines ahead and what the transcript had taken are told: what it took behind this, and what
+-- the output file holds at last, is the conversation.
+abbrev pub HasConversed : (raw : Bool) → SessionState → Option Lines → (taken taken' out : Option (List ℕ)) → Type 0
+HasConversed raw st lines taken taken' out =
+    (ls : Lines) (before : List ℕ) → lines ≡ Some ls → taken ≡ Some before → Told before taken' out (Converses st (commands_in raw ls.0))
+
+-- the same, and behind it that the commands are too long
+abbrev pub HasConversedLate : (raw : Bool) → SessionState → Option Lines → (taken taken' out : Option (List ℕ)) → Type 0
+HasConversedLate raw st lines taken taken' out = (between : Option (List ℕ)) × (taken' ≡ known_and between late_line) × HasConversed raw st lines taken between out
