@@ -19,6 +19,7 @@ use Rattle.ps_step.specs.declared.machine.PsCore.{PsCore}
 use Rattle.ps_step.specs.State.{with_execution}
 use Rattle.ps_run.specs.Runs.{Answer, Runs}
 use Rattle.abs_mem.specs.Meaning.{Seen}
+use Rattle.abs_mem.specs.declared.memory.MemFault.TheVariants.{Outside, LinkFault, BadReply}
 use Rattle.dialect_model.specs.Dial.{Dial}
 use Rattle.dialect_model.specs.Operating.{Operates}
 use Rattle.dialect_model.specs.TableUse.{TableUse, use_of, Trouble, Kind}
@@ -143,7 +144,9 @@ module _ {W R : Type 0} (seen : W → Seen R) (text : List ℕ) (i i' : Inquiry)
       ps_fails (Raised e) h = ran_over (Err (ps.Error e)) h
       ps_fails Spent h = ran_over (Err ps.Spent) h
       ps_fails NoMemory h = tt
-      ps_fails (Broken f) h = tt
+      ps_fails (Broken (BadReply frame)) h = h
+      ps_fails (Broken LinkFault) h = tt
+      ps_fails (Broken (Outside p)) h = tt
       ps_fails (Refused cause) h = absurd h
 
   -- ---- by the answers of its parts

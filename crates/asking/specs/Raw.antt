@@ -17,6 +17,7 @@ use Rattle.ps_step.specs.Text.{text_of}
 use Rattle.ps_run.specs.Runs.{Answer, Runs}
 use Rattle.frame_bytes.specs.Bytes.{Bytes}
 use Rattle.abs_mem.specs.Meaning.{Seen}
+use Rattle.abs_mem.specs.declared.memory.MemFault.TheVariants.{BadReply}
 use Rattle.break_plant.specs.Planted.{word_at}
 use Rattle.dialect_model.specs.Dial.{Dial}
 use Rattle.dialect_model.specs.Operating.{Operates}
@@ -96,11 +97,12 @@ module _ {W R : Type 0} (seen : W → Seen R) (text : List ℕ) where
       → (regions' : Regions) × Tells seen o' regions' rest
       × RunsPs (dial_of (desk o) regions) text (use_of i.core.store (left_of i)) r (dial_of (desk o') regions') i'.core.store (left_of i')
 
-  -- Where memory ran out, or the memory of the target gave no answer, nothing is said of the run.
+  -- Where memory ran out, or the memory of the target gave no answer, nothing is said of the run; a bad reply came only where no bytes were told.
   abbrev pub PsOver : Inquiry → Operators W → Result (List ℕ) AskFault → Inquiry → Operators W → Type 0
   PsOver i o (Ok x) i' o' = PsAs i o (Ok x) i' o'
   PsOver i o (Err (Raised e)) i' o' = PsAs i o (Err (Kind e)) i' o'
   PsOver i o (Err Spent) i' o' = PsAs i o (Err StepsSpent) i' o'
   PsOver i o (Err NoMemory) i' o' = Unit {0}
+  PsOver i o (Err (Broken (BadReply frame))) i' o' = (regions : Regions) (rest : R) → Tells seen o regions rest → ⊥
   PsOver i o (Err (Broken f)) i' o' = Unit {0}
   PsOver i o (Err (Refused cause)) i' o' = ⊥

@@ -15,3 +15,4 @@ pub mod Answering
 pub mod AskingOne
 pub mod AskingBoth
 pub mod PuttingBack
+pub mod AskingText

@@ -15,6 +15,7 @@ ghost use Rattle.claims.specs.Side.{SideState};
 ghost use Rattle.session.specs.Meant.{IsThere, debugged, SaidOne, NotOne, IsPlain, ComesTo, Rests};
 ghost use Rattle.side_meaning.specs.Standing.{StandsFor};
 ghost use Rattle.side_meaning.specs.Stepping.{IsReady};
+ghost use Rattle.c_session.specs.declared.command.Command.TheVariants.{Ps};
 ghost use Rattle.asking.specs.Lines.{line};
 ghost use Rattle.claims.specs.Raw.{regs_text};
 
@@ -52,7 +53,6 @@ fn told<W: AbsMem + Drop>(
         Command::Print(name) => printing(inquiry, talk, frame, name.as_bytes()),
         Command::Eval(text) => evaluating(inquiry, talk, frame, text.as_bytes()),
         Command::Code(text) => coding(inquiry, talk, frame, text.as_bytes()),
-        Command::Ps(text) => running_text(inquiry, talk, frame, text.as_bytes()),
         _ => Ok(Text::new(inquiry.core.operands.allocator())),
     }
 }
@@ -65,6 +65,27 @@ fn chosen(command: &Command, frame: u32) -> u32
         Command::Frame(number) => *number,
         _ => frame,
     }
+}
+
+/// What a text of PostScript says on a side. Breakpoints and the chosen frame stay.
+pub fn asked_text<L: Link + Drop>(
+    talk: &mut Operators<Wire<L>>,
+    side: &mut SideRecord,
+    text: &[u8],
+) -> Result<Text, AskFault>
+    ensures kept { IsKept side.old side.new }
+    ensures which { side.new.which ≡ side.old.which }
+    ensures meant { (b : Behaviour) (h : Host) (beside : Option Host) (a : SideState) → IsThere b L.conduct (L.world talk.old.memory.below.below.below.link) side.old h beside → IsReady (debugged side.old h) a → a.step_words ≡ []
+        → ComesTo (L.faults talk.old.memory.below.below.below.link) (L.faults talk.new.memory.below.below.below.link) (λ said. SaidOne b L.conduct (L.world talk.new.memory.below.below.below.link) side.old side.new h beside (Ps text.now) a said) (NotOne b L.conduct (L.world talk.new.memory.below.below.below.link) side.old side.new h beside (Ps text.now) a) result }
+{
+    turn(talk, side);
+    let mark = match begin_command(&mut side.inquiry) {
+        Ok(mark) => mark,
+        Err(_) => return Err(AskFault::NoMemory),
+    };
+    let said = running_text(&mut side.inquiry, talk, side.frame, text);
+    end_command(&mut side.inquiry, mark);
+    said
 }
 
 /// What a command says on a side. One that isn't done leaves the breakpoints and the chosen frame.
@@ -81,6 +102,9 @@ pub fn asked<L: Link + Drop>(
     ensures meant { (b : Behaviour) (h : Host) (beside : Option Host) (a : SideState) → IsThere b L.conduct (L.world talk.old.memory.below.below.below.link) side.old h beside → IsReady (debugged side.old h) a → a.step_words ≡ [] → IsPlain command.now
         → ComesTo (L.faults talk.old.memory.below.below.below.link) (L.faults talk.new.memory.below.below.below.link) (λ text. SaidOne b L.conduct (L.world talk.new.memory.below.below.below.link) side.old side.new h beside command.now a text) (NotOne b L.conduct (L.world talk.new.memory.below.below.below.link) side.old side.new h beside command.now a) result }
 {
+    if let Command::Ps(text) = command {
+        return asked_text(talk, side, text.as_bytes());
+    }
     turn(talk, side);
     let mark = match begin_command(&mut side.inquiry) {
         Ok(mark) => mark,
@@ -114,14 +138,7 @@ pub fn ran<L: Link + Drop>(
 ) -> Result<(), MemFault>
     ensures { IsKept side.old side.new }
 {
-    turn(talk, side);
-    let mark = match begin_command(&mut side.inquiry) {
-        Ok(mark) => mark,
-        Err(_) => return Ok(()),
-    };
-    let said = running_text(&mut side.inquiry, talk, side.frame, text);
-    end_command(&mut side.inquiry, mark);
-    match said {
+    match asked_text(talk, side, text) {
         Ok(_said) => Ok(()),
         Err(fault) => unbroken(fault),
     }

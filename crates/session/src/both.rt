@@ -27,7 +27,7 @@ use std::alloc::Global;
 use table_asks::{AskFault, Point};
 
 /// Why a command isn't done on the first side, once a text of PostScript, which may store in the target, has run on the second
-/// side too.
+/// side too. Over a link that failed nothing more is asked.
 fn undone<L: Link + Drop>(
     talk: &mut Operators<Wire<L>>,
     second: &mut SideRecord,
@@ -37,6 +37,9 @@ fn undone<L: Link + Drop>(
     ensures kept { IsKept second.old second.new }
     ensures other { ((text : List ℕ) → command.now ≢ Ps text) → (result ≡ fault) × (second.new ≡ second.old) × (talk.new ≡ talk.old) }
 {
+    if let AskFault::Broken(_) = &fault {
+        return fault;
+    }
     match command {
         Command::Ps(text) => match ran(talk, second, text.as_bytes()) {
             Ok(()) => fault,

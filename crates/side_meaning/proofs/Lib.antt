@@ -7,3 +7,4 @@ pub mod Asking
 pub mod Sessions
 pub mod Starting
 pub mod Telling
+pub mod Storing

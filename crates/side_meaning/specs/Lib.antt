@@ -4,3 +4,4 @@ pub mod Stepping
 pub mod Asking
 pub mod Sessions
 pub mod Telling
+pub mod Storing

@@ -4,6 +4,7 @@ ghost use Rattle.side_meaning.specs.Asking.{RowsStay, NamesStay, WordsAreNamed, 
 ghost use Rattle.side_meaning.specs.Resuming.{ResumesAreMeant, TheyMayRun};
 ghost use Rattle.side_meaning.specs.Sessions.{ResumesAreAnswered, SidesBegin, SidesSettle, AsksStand, LimitsStand};
 ghost use Rattle.side_meaning.specs.Stepping.{StepsAreMeant, NoStepIsMeant, StepsAreUndone, StepsAreAgain, ContinuesAreMeant, StepsBegin, PointsFail, WordsFail, ContinuesAreWhole, StepsAreWhole};
+ghost use Rattle.side_meaning.specs.Storing.{RunsStoreNumbers, NumbersAreReached};
 ghost use Rattle.side_meaning.specs.Telling.{MemoriesAreTold, PlantsAreTold, ClearsAreTold, ResumesAreTold};
 
 /// A resume of a side that stands for one of the machine session comes to that one's event and puts its output, and the side stands
@@ -73,4 +74,11 @@ pub fn calls_are_told()
     ensures plants { PlantsAreTold }
     ensures clears { ClearsAreTold }
     ensures resumes { ResumesAreTold }
+{}
+
+/// Whatever PostScript is run under a command's operators, it stores numbers to its target and changes nothing else of that; so a
+/// machine with what it leaves is one that can be reached from the one before.
+pub fn texts_store_numbers()
+    ensures runs { RunsStoreNumbers }
+    ensures machines { NumbersAreReached }
 {}

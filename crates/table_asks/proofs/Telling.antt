@@ -1,5 +1,5 @@
 -- A run over the memory of a target, by the bytes that are told.
-use Rattle.std.proofs.Common.{◌≡◌, ◌≢◌, ℕ, List, [], ◌∷◌, Option, Some, None, Result, Ok, Err}
+use Rattle.std.proofs.Common.{◌≡◌, ◌≢◌, refl, sym, subst, ℕ, List, [], ◌∷◌, Option, Some, None, Result, Ok, Err}
 use Rattle.machine_state.specs.Regions.{Regions}
 use Rattle.ps_store.specs.declared.object.PsObj.{PsObj}
 use Rattle.ps_step.specs.declared.fault.PsFault.{PsFault}
@@ -11,9 +11,10 @@ use Rattle.ps_step.specs.State.{with_execution}
 use Rattle.ps_run.specs.Runs.{Answer, RunsObject}
 use Rattle.abs_mem.specs.Meaning.{Seen}
 use Rattle.abs_mem.specs.declared.memory.MemFault.{MemFault}
+use Rattle.abs_mem.specs.declared.memory.MemFault.TheVariants.{Outside, LinkFault, BadReply}
 use Rattle.ps_ops.specs.declared.dialect.Operators.{Operators}
-use Rattle.told_runs.specs.Told.{Does, Tells, IsTold}
-use Rattle.told_runs.proofs.Told.{told}
+use Rattle.told_runs.specs.Told.{Does, Tells, IsTold, IsNoBadReply}
+use Rattle.told_runs.proofs.Told.{told, never}
 use Rattle.table_asks.specs.declared.inquiry.Inquiry.{Inquiry}
 use Rattle.table_asks.specs.Asking.{left_of}
 use Rattle.table_asks.specs.Faults.{fault_of_run}
@@ -40,12 +41,18 @@ module _ {W R : Type 0} (seen : W → Seen R) (leads : W → Option (List ℕ) �
       let run = h (λ k. cc) in
       (run.0, told seen leads rest regions (left_of i) o (with_execution i.core (Object what ∷ [])) (Ok tt) (left_of i') o' (with_execution i'.core run.0) (λ k. cc) (λ k. cc) run.1 t)
 
-  told_link : (kept : Option MemFault) → RunsOver seen what i o (Err (fault_of_run ps.Link kept)) i' taken
-  told_link (Some f) = tt
-  told_link None = tt
+  -- that fault was kept by the run
+  told_link : (kept : Option MemFault) → ((regions : Regions) (rest : R) → Tells seen o regions rest → IsNoBadReply kept) → RunsOver seen what i o (Err (fault_of_run ps.Link kept)) i' taken
+  told_link (Some LinkFault) h = tt
+  told_link (Some (BadReply frame)) h = h
+  told_link (Some (Outside p)) h = tt
+  told_link None h = tt
 
-  pub told_stopped : (f : PsFault) (kept : Option MemFault) → Ran (Err f) → RunsOver seen what i o (Err (fault_of_run f kept)) i' taken
-  told_stopped (ps.Error e) kept h = over (Err (ps.Error e)) (λ k. cc) (λ k. cc) h
-  told_stopped ps.Spent kept h = over (Err ps.Spent) (λ k. cc) (λ k. cc) h
-  told_stopped ps.NoMemory kept h = tt
-  told_stopped ps.Link kept h = told_link kept
+  pub told_stopped : (f : PsFault) (kept : Option MemFault) → kept ≡ o'.fault → Ran (Err f) → RunsOver seen what i o (Err (fault_of_run f kept)) i' taken
+  told_stopped (ps.Error e) kept same h = over (Err (ps.Error e)) (λ k. cc) (λ k. cc) h
+  told_stopped ps.Spent kept same h = over (Err ps.Spent) (λ k. cc) (λ k. cc) h
+  told_stopped ps.NoMemory kept same h = tt
+  told_stopped ps.Link kept same h =
+      told_link kept (λ regions rest t.
+      let run = h (λ k. cc) in
+      subst IsNoBadReply (sym same) (never seen leads rest regions (left_of i) o (with_execution i.core (Object what ∷ [])) (Err ps.Link) (left_of i') o' (with_execution i'.core run.0) refl run.1 t))

@@ -54,11 +54,12 @@ module _ {W R : Type 0} (seen : W → Seen R) where
       (regions : Regions) (rest : R) → Tells seen o regions rest
       → (execution : List Item) × IsTold seen rest regions (left_of i) o (with_execution i.core (Object what ∷ [])) answer (left_of i') o' (with_execution i'.core execution)
 
-  -- An object was run. Where memory ran out, or the memory of the target gave no answer, nothing is said of the run.
+  -- An object was run. Where memory ran out, or the memory of the target gave no answer, nothing is said of the run; a bad reply came only where no bytes were told.
   abbrev pub RunsOver : PsObj → Inquiry → Operators W → Result (Unit {0}) AskFault → Inquiry → Operators W → Type 0
   RunsOver what i o (Ok x) i' o' = RunsAs what i o (Ok tt) i' o'
   RunsOver what i o (Err (Raised e)) i' o' = RunsAs what i o (Err (Error e)) i' o'
   RunsOver what i o (Err Spent) i' o' = RunsAs what i o (Err OutOfSteps) i' o'
   RunsOver what i o (Err NoMemory) i' o' = Unit {0}
+  RunsOver what i o (Err (Broken (BadReply frame))) i' o' = (regions : Regions) (rest : R) → Tells seen o regions rest → ⊥
   RunsOver what i o (Err (Broken f)) i' o' = Unit {0}
   RunsOver what i o (Err (Refused cause)) i' o' = ⊥

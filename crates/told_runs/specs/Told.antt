@@ -1,7 +1,9 @@
 -- Runs over a memory, and the bytes that it tells.
-use Rattle.std.specs.Prelude.{◌≡◌, ℕ, Bool, List, Option}
+use Rattle.std.specs.Prelude.{◌≡◌, ℕ, Bool, List, Option, Some, None}
 use Rattle.machine_state.specs.Regions.{Regions}
 use Rattle.abs_mem.specs.Meaning.{Seen}
+use Rattle.abs_mem.specs.declared.memory.MemFault.{MemFault}
+use Rattle.abs_mem.specs.declared.memory.MemFault.TheVariants.{Outside, LinkFault, BadReply}
 use Rattle.ps_store.specs.declared.object.DictId.{DictId}
 use Rattle.ps_store.specs.declared.object.PsObj.{PsObj}
 use Rattle.ps_store.specs.StoreState.{StoreState}
@@ -18,6 +20,13 @@ use Rattle.ps_ops.specs.declared.dialect.Operators.{Operators}
 -- what operators have beside the memory of the target
 abbrev pub desk : {W : Type 0} → Operators W → Desk
 desk o = desk_of o.view o.memory.below.below.order o.memory.below.cell o.out
+
+-- no bad reply is kept
+abbrev pub IsNoBadReply : Option MemFault → Type 0
+IsNoBadReply (Some (BadReply frame)) = ⊥
+IsNoBadReply (Some LinkFault) = Unit {0}
+IsNoBadReply (Some (Outside p)) = Unit {0}
+IsNoBadReply None = Unit {0}
 
 module _ {W R : Type 0} (seen : W → Seen R) where
   -- the memory of the target, as they see it

@@ -14,14 +14,16 @@ ghost use Rattle.dialect_model.specs.Dial.{Dial};
 ghost use Rattle.dialect_model.specs.Operating.{Operates};
 ghost use Rattle.ps_ops.specs.Desk.{dial_of};
 ghost use Rattle.ps_ops.specs.declared.dialect.Operators.{Operators};
-ghost use Rattle.told_runs.specs.Told.{desk, Does, Tells, IsTold, FaresTold};
+ghost use Rattle.told_runs.specs.Told.{desk, Does, Tells, IsTold, IsNoBadReply, FaresTold};
 
 use abs_mem::AbsMem;
 
 /// A run under a command's operators over any memory that tells its bytes, which ends by itself, with an error or with the steps
-/// spent, is a run of the dialect over these bytes, in as many steps; and the memory tells the bytes that this run leaves.
+/// spent, is a run of the dialect over these bytes, in as many steps; and the memory tells the bytes that this run leaves. One that the
+/// memory ended had no bad reply.
 pub fn runs_are_told<W: AbsMem + Drop>()
-    ensures { (left left' : ℕ) (o o' : Operators W) (c c' : PsCore) (answer : Answer) (regions : Regions) (rest : W.Rest) → answer ≢ Err Link → answer ≢ Err NoMemory → Runs (Does W.seen W.leads) left o c answer left' o' c' → Tells W.seen o regions rest → IsTold W.seen rest regions left o c answer left' o' c' }
+    ensures told { (left left' : ℕ) (o o' : Operators W) (c c' : PsCore) (answer : Answer) (regions : Regions) (rest : W.Rest) → answer ≢ Err Link → answer ≢ Err NoMemory → Runs (Does W.seen W.leads) left o c answer left' o' c' → Tells W.seen o regions rest → IsTold W.seen rest regions left o c answer left' o' c' }
+    ensures never { (left left' : ℕ) (o o' : Operators W) (c c' : PsCore) (regions : Regions) (rest : W.Rest) → Runs (Does W.seen W.leads) left o c (Err Link) left' o' c' → Tells W.seen o regions rest → IsNoBadReply o'.fault }
 {}
 
 /// So each such run fares as the dialect's runs are proved to: a printer's run appends the text of the value that lies in the memory.

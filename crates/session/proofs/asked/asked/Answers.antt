@@ -1,5 +1,6 @@
-use Rattle.std.proofs.Common.{◌≡◌, Ok, Err, refl}
+use Rattle.std.proofs.Common.{◌≡◌, subst, Ok, Err, refl}
 use Rattle.table_asks.specs.declared.fault.AskFault.TheVariants.{NoMemory}
+use Rattle.session.specs.Meant.{IsPlain}
 use Rattle.session.proofs.Asking.{undone_meant, done_meant, count_of, rests_wanting}
 use Rattle.session.proofs.asked.asked.Goals as goal
 
@@ -56,3 +57,12 @@ returns-in-Err-said-clause-wanting g c = λ b h beside x plain e.
     let is : c.in-Err-said.fault ≡ NoMemory = cc in
     rests_wanting g.L.Link.conduct g.L.Link.world g.L.Link.faults b c.args.side.now c.args.talk.now c.turn.new.talk c.told-said.new.talk c.args.command.now c.args.side.now.frame c.args.side.now.row.breaks.items c.told-said.new.side.row.breaks.items
     c.begin_command.new.inquiry c.told-said.new.side.inquiry h beside c.in-Err-said.fault c.turn.ensures is plain c.in-Err-said.ensures.does x
+
+pub returns-in-Ps-clause-faults : goal.returns-in-Ps-clause-faults
+returns-in-Ps-clause-faults g c = λ plain. absurd (subst IsPlain c.in-Ps.is plain)
+
+pub returns-in-Ps-clause-wanting : goal.returns-in-Ps-clause-wanting
+returns-in-Ps-clause-wanting g c = λ b h beside x plain e. absurd (subst IsPlain c.in-Ps.is plain)
+
+pub returns-in-Ps-clause-meant : goal.returns-in-Ps-clause-meant
+returns-in-Ps-clause-meant g c = λ b h beside a there ready none plain. absurd (subst IsPlain c.in-Ps.is plain)

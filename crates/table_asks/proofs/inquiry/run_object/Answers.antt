@@ -40,4 +40,4 @@ returns-in-Err-clause-meaning g c =
     let new : Inquiry = record { core = c.run.new.core; steps = c.run.new.steps } in
     subst (λ (kept : Option MemFault). RunsOver g.W.AbsMem.seen c.args.what inquiry c.args.talk.now (Err c.fault_of_run.result) new (record dialect { fault = kept })) (sym c.take.ensures.after)
     (subst (λ (f : AskFault). RunsOver g.W.AbsMem.seen c.args.what inquiry c.args.talk.now (Err f) new (record dialect { fault = None })) (sym c.fault_of_run.ensures.value)
-    (told_stopped g.W.AbsMem.seen g.W.AbsMem.leads c.args.what inquiry new c.args.talk.now dialect c.in-Err.fault c.take.result c.in-Err.ensures.runs))
+    (told_stopped g.W.AbsMem.seen g.W.AbsMem.leads c.args.what inquiry new c.args.talk.now dialect c.in-Err.fault c.take.result c.take.ensures.value c.in-Err.ensures.runs))
