@@ -1,5 +1,5 @@
 -- Conversations without open lines.
-use Rattle.std.proofs.Common.{◌≡◌, true, List, [], ◌∷◌, ◌++◌, ℕ, Option, None, Some, inl, inr, refl, sym, ap, ◌∙◌, append_assoc}
+use Rattle.std.proofs.Common.{◌≡◌, List, [], ◌∷◌, ◌++◌, ℕ, Option, None, Some, inl, inr, refl, sym, ap, ◌∙◌, append_assoc}
 use Rattle.std.proofs.lemmas.Bool.{false≢true}
 use Rattle.machine_state.specs.State.{Behaviour}
 use Rattle.c_session.specs.declared.command.Command.{Command}
@@ -9,7 +9,6 @@ use Rattle.asking.specs.Lines.{line}
 use Rattle.claims.specs.Side.{SessionState}
 use Rattle.claims.specs.Lines.{Reply}
 use Rattle.claims.specs.Carries.{Converses as MachineConverses}
-use Rattle.ldb_top.specs.Late.{asks_quit}
 use Rattle.ldb_top.specs.Conversed.{ConversesBut, NoneOpen, IsJoined, ConversationsAreJoined}
 
 joined_both : (a b : Reply) → joined (a ++ b) ≡ joined a ++ joined b
