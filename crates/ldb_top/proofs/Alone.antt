@@ -1,5 +1,5 @@
 -- A machine session of one side has one side behind each line.
-use Rattle.std.proofs.Common.{◌≡◌, ◌⊎◌, [], ◌∷◌, Option, None, Some, Ok, Err, inl, inr, refl, ap, ◌∙◌, subst}
+use Rattle.std.proofs.Common.{◌≡◌, [], ◌∷◌, Option, None, Some, Ok, Err, inl, inr, refl, ap, ◌∙◌, subst}
 use Rattle.machine_state.specs.State.{Behaviour}
 use Rattle.side_meaning.specs.Sessions.{OnSecond, StandsIn}
 use Rattle.c_session.specs.declared.command.Command.{Command}
@@ -7,13 +7,13 @@ use Rattle.c_session.specs.declared.command.Command.TheVariants.{Break, Clear, C
 use Rattle.c_session.specs.Commands.{Refusal, refusal_text, Resume}
 use Rattle.nub_wire.specs.Nub.{Host}
 use Rattle.nub_wire.specs.Delivery.{Conduct, World}
-use Rattle.claims.specs.Side.{SideState, SessionState, State, Fresh, Stopped, Running, Ended, Troubled}
+use Rattle.claims.specs.Side.{SideState, SessionState, State, Fresh, Stopped, Running, Ended}
 use Rattle.claims.specs.Lines.{Reply}
-use Rattle.claims.specs.Outcome.{Answers, AnswersCommand, Says, Resumes, Begins, FirstPrepared, DoneOnBoth, FirstCame, SecondUndone, refused_by_state}
+use Rattle.claims.specs.Outcome.{Answers, AnswersCommand, Says, Resumes, FirstPrepared, DoneOnBoth, FirstCame, refused_by_state}
 use Rattle.claims.specs.Resumes.{resumed}
 use Rattle.session.specs.declared.modes.Mode.{Mode}
 use Rattle.session.specs.declared.sides.SideRecord.{SideRecord}
-use Rattle.session.specs.Meant.{Hosts, Represents, IsSecond, second_of, AreThere}
+use Rattle.session.specs.Meant.{Hosts, Represents, IsSecond, second_of}
 use Rattle.side_meaning.specs.Standing.{Debugged}
 
 -- ---- the session

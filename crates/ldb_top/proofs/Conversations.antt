@@ -2,7 +2,6 @@
 use Rattle.std.proofs.Common.{◌≡◌, ◌⊎◌, ℕ, Bool, true, false, if◌then◌else◌, List, [], ◌∷◌, ◌++◌, length, nat_le, Option, None, Some, Ok, Err, inl, inr, refl, sym, ap, ◌∙◌, subst, append_assoc, append-nil, arith}
 use Rattle.std.specs.declared.result.Result.{Result}
 use Rattle.std.specs.Prelude.{IfOk, OnOk}
-use Rattle.machine_state.specs.State.{Behaviour}
 use Rattle.c_session.specs.declared.command.Command.{Command}
 use Rattle.c_session.specs.declared.command.Command.TheVariants.{Break, Clear, Continue, Step, Turns, Frames, Frame, Print, Eval, Assign, Quit, Regs, Code, Ps}
 use Rattle.cmd_lang.specs.Words.{is_empty, is_nothing, without_blanks}
@@ -13,7 +12,6 @@ use Rattle.cc_call.specs.declared.ended.Fault.{Fault}
 use Rattle.nub_wire.specs.Delivery.{World}
 use Rattle.near_link.specs.Near.{near_conduct}
 use Rattle.targets.specs.Targets.{machine_behaviour}
-use Rattle.asking_meaning.specs.Meant.{joined}
 use Rattle.claims.specs.Side.{SessionState}
 use Rattle.claims.specs.Outcome.{Answers}
 use Rattle.session.specs.declared.answers.Answer.{Answer}
@@ -26,10 +24,9 @@ use Rattle.session.specs.Meant.{Hosts, Represents, Answered, AnswersAs, MeantAns
 use Rattle.ldb_top.specs.declared.serving.Next.{Next}
 use Rattle.ldb_top.specs.declared.serving.Next.TheVariants as next
 use Rattle.ldb_top.specs.Ahead.{Lines, line_and, lines_if}
-use Rattle.ldb_top.specs.Conversed.{commands_in, wanting_line, IsOpen, Converses, Told, HasConversed}
-use Rattle.ldb_top.specs.Conversing.{IsMore, Grows, TakesMore, IsOver, Here, here, IsSo, IsSoAlways, IsSoFar, GoesSo, NextIsSo}
+use Rattle.ldb_top.specs.Conversed.{commands_in, wanting_line, IsOpen, Converses, Told}
+use Rattle.ldb_top.specs.Conversing.{Grows, IsOver, Here, here, IsSo, GoesSo, NextIsSo}
 use Rattle.ldb_top.specs.Late.{asks_quit}
-use Rattle.ldb_top.specs.Said.{IsFront}
 use Rattle.ldb_top.proofs.Alone.{stays_alone, one_side}
 use Rattle.ldb_top.proofs.Growing.{grows_on, grows_same}
 use Rattle.ldb_top.proofs.Lates.{same_quit, quits_not}

@@ -1,5 +1,5 @@
 -- A session that starts over one image and its table.
-use Rattle.std.proofs.Common.{◌≡◌, ◌⊎◌, ◌≤◌, ℕ, nat_eq, Bool, true, false, if◌then◌else◌, ◌&&◌, List, [], ◌∷◌, length, codes, Option, None, Some, Result, Ok, Err, inl, inr, refl, sym, ap, ◌∙◌, subst}
+use Rattle.std.proofs.Common.{◌≡◌, ◌⊎◌, ℕ, nat_eq, Bool, true, false, if◌then◌else◌, ◌&&◌, List, [], ◌∷◌, codes, Option, None, Some, Result, Ok, Err, inl, inr, refl, sym, ap, ◌∙◌, subst}
 use Rattle.std.proofs.lemmas.Bool.{eqb-true, false≢true}
 use Rattle.std.specs.Prelude.{bytes_eq, pos}
 use Rattle.ldb_edge.proofs.Maps.{equal_bytes}
@@ -16,8 +16,8 @@ use Rattle.obj_file.specs.Image.{ImageFields}
 use Rattle.targets.specs.Targets.{machine_behaviour, loaded}
 use Rattle.nub_wire.specs.declared.link.Entry.{Entry}
 use Rattle.nub_wire.specs.declared.link.Side.TheVariants.{First}
-use Rattle.nub_wire.specs.Nub.{Host, first_host}
-use Rattle.nub_wire.specs.Delivery.{LinkSide, World, first_side}
+use Rattle.nub_wire.specs.Nub.{first_host}
+use Rattle.nub_wire.specs.Delivery.{LinkSide, World}
 use Rattle.nub_wire.specs.Fits.{TellsFitting}
 use Rattle.near_link.specs.Fitting.{IsReady, FreshSidesAreReady}
 use Rattle.near_link.specs.Near.{near_conduct, Begins}
@@ -29,7 +29,7 @@ use Rattle.ps_store.specs.Store.{bytes_of}
 use Rattle.ps_step.specs.Results.{◌>>=◌}
 use Rattle.table_model.specs.Reading.{or_missing, string_in, string_at}
 use Rattle.table_run.specs.Shape.{HasShape, is_number, is_text, target_text, value_in}
-use Rattle.session.specs.Starting.{target_by, target_in, named_target, IsFirst}
+use Rattle.session.specs.Starting.{target_by, target_in, IsFirst}
 
 -- ---- the machine
 

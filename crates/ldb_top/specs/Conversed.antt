@@ -9,6 +9,7 @@ use Rattle.ldb_edge.specs.Known.{known_and}
 use Rattle.asking_meaning.specs.Meant.{joined}
 use Rattle.claims.specs.Side.{SessionState}
 use Rattle.claims.specs.Lines.{Reply}
+use Rattle.claims.specs.Carries.{Converses as MachineConverses}
 use Rattle.claims.specs.Outcome.{Answers}
 use Rattle.session.specs.Meant.{IsSaidIfAny}
 use Rattle.ldb_top.specs.Ahead.{Lines}
@@ -45,7 +46,7 @@ module _ (Open : Option Command → (transcript : List ℕ) → Type 0) where
       ⊎ ((reply : Reply) × (rest : List ℕ) × (next : SessionState) × Answers b st c reply next × (transcript ≡ joined reply ++ rest) × ConversesBut b next cs rest output))
 
 -- What the machine session answers, up to the first line that is open. Without open lines this is the conversation of the machine
--- session, whose lines are joined to bytes.
+-- session, whose lines are joined to bytes (`conversations_are_joined`).
 abbrev pub Converses : SessionState → List (Option Command) → (transcript output : List ℕ) → Type 0
 Converses st cs transcript output = ConversesBut IsOpen machine_behaviour st cs transcript output
 
@@ -72,3 +73,15 @@ HasConversed raw st lines taken taken' out =
 -- the same, and behind it that the commands are too long
 abbrev pub HasConversedLate : (raw : Bool) → SessionState → Option Lines → (taken taken' out : Option (List ℕ)) → Type 0
 HasConversedLate raw st lines taken taken' out = (between : Option (List ℕ)) × (taken' ≡ known_and between late_line) × HasConversed raw st lines taken between out
+
+-- ---- the law of conversations
+
+-- some replies of the machine session, joined
+abbrev pub IsJoined : Behaviour → SessionState → List (Option Command) → (transcript output : List ℕ) → Type 0
+IsJoined b st cs transcript output = (reply : Reply) × (transcript ≡ joined reply) × MachineConverses b st cs reply output
+
+-- without open lines both are the same
+abbrev pub ConversationsAreJoined : Type 0
+ConversationsAreJoined =
+    (b : Behaviour) (st : SessionState) (cs : List (Option Command)) (transcript output : List ℕ)
+    → (ConversesBut NoneOpen b st cs transcript output → IsJoined b st cs transcript output) × (IsJoined b st cs transcript output → ConversesBut NoneOpen b st cs transcript output)

@@ -1,4 +1,4 @@
-use Rattle.std.proofs.Common.{◌≡◌, ◌∙◌, ap, [], Some, Ok, Err, arith, rules}
+use Rattle.std.proofs.Common.{◌≡◌, ◌∙◌, ap, Some, Ok, Err, arith, rules}
 use Rattle.std.proofs.lemmas.Grind.{common_steps}
 use Rattle.c_session.specs.declared.command.Command.TheVariants.{Quit}
 use Rattle.targets.specs.Targets.{machine_behaviour}

@@ -1,4 +1,4 @@
-use Rattle.std.proofs.Common.{◌≡◌, ◌∙◌, false, [], ◌∷◌, subst, rules}
+use Rattle.std.proofs.Common.{◌≡◌, false, [], subst, rules}
 use Rattle.ldb_top.specs.declared.lines.LineEnd.{LineEnd}
 use Rattle.ldb_top.specs.Ahead.{ahead, lines_if, before_line}
 use Rattle.ldb_top.proofs.Conversations.{whole_so, ended_last}
