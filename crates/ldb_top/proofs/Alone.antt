@@ -1,20 +1,13 @@
 -- A machine session of one side has one side behind each line.
 use Rattle.std.proofs.Common.{◌≡◌, [], ◌∷◌, Option, None, Some, Ok, Err, inl, inr, refl, ap, ◌∙◌, subst}
 use Rattle.machine_state.specs.State.{Behaviour}
-use Rattle.side_meaning.specs.Sessions.{OnSecond, StandsIn}
 use Rattle.c_session.specs.declared.command.Command.{Command}
 use Rattle.c_session.specs.declared.command.Command.TheVariants.{Break, Clear, Continue, Step, Turns, Frames, Frame, Print, Eval, Assign, Quit, Regs, Code, Ps}
 use Rattle.c_session.specs.Commands.{Refusal, refusal_text, Resume}
-use Rattle.nub_wire.specs.Nub.{Host}
-use Rattle.nub_wire.specs.Delivery.{Conduct, World}
 use Rattle.claims.specs.Side.{SideState, SessionState, State, Fresh, Stopped, Running, Ended}
 use Rattle.claims.specs.Lines.{Reply}
 use Rattle.claims.specs.Outcome.{Answers, AnswersCommand, Says, Resumes, FirstPrepared, DoneOnBoth, FirstCame, refused_by_state}
 use Rattle.claims.specs.Resumes.{resumed}
-use Rattle.session.specs.declared.modes.Mode.{Mode}
-use Rattle.session.specs.declared.sides.SideRecord.{SideRecord}
-use Rattle.session.specs.Meant.{Hosts, Represents, IsSecond, second_of}
-use Rattle.side_meaning.specs.Standing.{Debugged}
 
 -- ---- the session
 
@@ -78,15 +71,3 @@ line_alone b st (Some c) reply st' h = refused_alone b st c (refused_by_state st
 pub stays_alone : (b : Behaviour) (st : SessionState) (c : Option Command) (reply : Reply) (st' : SessionState) → st.second ≡ None → Answers b st c reply st' → st'.second ≡ None
 stays_alone b st c reply st' e h =
     line_alone b st c reply st' (subst (λ (x : SessionState). Answers b x c reply st') (ap (λ (o : Option SideState). record st { second = o }) e) h)
-
--- ---- the sides that stand for it
-
-none_beside : (A : Debugged → SideState → Type 0) (B : SideRecord → Host → Type 0) (second : Option SideRecord) (o : Option Host) (x : Option SideState) → OnSecond B second o → OnSecond A (second_of second o) x → x ≡ None → second ≡ None
-none_beside A B None o x there stands e = refl
-none_beside A B (Some side) None x there stands e = absurd there
-none_beside A B (Some side) (Some h) None there stands e = absurd stands
-none_beside A B (Some side) (Some h) (Some y) there stands e = absurd cc
-
-pub one_side : (b : Behaviour) (c : Conduct) (o : Option World) (first : SideRecord) (second : Option SideRecord) (mode : Mode) (limit : _) (hs : Hosts) (st : SessionState) → Represents b c o first second mode limit hs st → st.second ≡ None → second ≡ None
-one_side b c o first second mode limit hs st r e =
-    none_beside (StandsIn st.state) (IsSecond b c o hs.first) second hs.second st.second r.there.second_there r.sides.second e

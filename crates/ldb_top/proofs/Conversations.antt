@@ -4,6 +4,7 @@ use Rattle.std.specs.declared.result.Result.{Result}
 use Rattle.std.specs.Prelude.{IfOk, OnOk}
 use Rattle.c_session.specs.declared.command.Command.{Command}
 use Rattle.c_session.specs.declared.command.Command.TheVariants.{Break, Clear, Continue, Step, Turns, Frames, Frame, Print, Eval, Assign, Quit, Regs, Code, Ps}
+use Rattle.c_session.specs.Commands.{Refusal, refusal_text}
 use Rattle.cmd_lang.specs.Words.{is_empty, is_nothing, without_blanks}
 use Rattle.cmd_lang.specs.Commands.{read_of, read_words}
 use Rattle.ldb_edge.specs.Count.{Rose}
@@ -13,28 +14,29 @@ use Rattle.nub_wire.specs.Delivery.{World}
 use Rattle.near_link.specs.Near.{near_conduct}
 use Rattle.targets.specs.Targets.{machine_behaviour}
 use Rattle.claims.specs.Side.{SessionState}
-use Rattle.claims.specs.Outcome.{Answers}
+use Rattle.claims.specs.Outcome.{Answers, refused_by_state}
 use Rattle.session.specs.declared.answers.Answer.{Answer}
 use Rattle.session.specs.declared.answers.Answer.TheVariants as answer
 use Rattle.session.specs.declared.answers.End.{End}
 use Rattle.session.specs.declared.answers.End.TheVariants as end
 use Rattle.session.specs.declared.conversation.Session.{Session}
-use Rattle.session.specs.declared.sides.SideRecord.{SideRecord}
+use Rattle.session.specs.Answered.{state_of, refusal_reply}
+use Rattle.session.specs.Answered.{Answers as Replied}
 use Rattle.session.specs.Meant.{Hosts, Represents, Answered, AnswersAs, MeantAnswers, IsSaidIfAny}
 use Rattle.ldb_top.specs.declared.serving.Next.{Next}
 use Rattle.ldb_top.specs.declared.serving.Next.TheVariants as next
 use Rattle.ldb_top.specs.Ahead.{Lines, line_and, lines_if}
-use Rattle.ldb_top.specs.Conversed.{commands_in, wanting_line, IsOpen, Converses, Told}
+use Rattle.ldb_top.specs.Conversed.{commands_in, wanting_line, refused_in, IsOpen, Converses, Told}
 use Rattle.ldb_top.specs.Conversing.{Grows, IsOver, Here, here, IsSo, GoesSo, NextIsSo}
 use Rattle.ldb_top.specs.Late.{asks_quit}
-use Rattle.ldb_top.proofs.Alone.{stays_alone, one_side}
+use Rattle.ldb_top.proofs.Alone.{stays_alone}
 use Rattle.ldb_top.proofs.Growing.{grows_on, grows_same}
 use Rattle.ldb_top.proofs.Lates.{same_quit, quits_not}
 
 -- ---- which lines have a reply
 
 -- whether the session's contract tells what a line means
-pub said_or_not : (c : Option Command) → IsSaidIfAny c None ⊎ (¬ IsSaidIfAny c None)
+pub said_or_not : (c : Option Command) → IsSaidIfAny c ⊎ (¬ IsSaidIfAny c)
 said_or_not None = inl tt
 said_or_not (Some (Break x)) = inl tt
 said_or_not (Some (Clear x)) = inl tt
@@ -84,7 +86,7 @@ front_told raw st after line lines taken taken' out out' t o text told step so =
 
 -- a line that is open
 open_so : (raw : Bool) (st : SessionState) (s' : Session World) (line : List ℕ) (lines : Option Lines) (taken taken' out out' : Option (List ℕ)) (text bytes : List ℕ) → is_empty line ≡ false → taken' ≡ known_and taken text
-    → out' ≡ Some (st.written ++ bytes) → ((more : List ℕ) → IsOpen (read_of raw line) (text ++ more)) → GoesSo raw st (here (line_and line lines) taken out) s' (here lines taken' out')
+    → out' ≡ Some (st.written ++ bytes) → ((more : List ℕ) → IsOpen st (read_of raw line) (text ++ more)) → GoesSo raw st (here (line_and line lines) taken out) s' (here lines taken' out')
 open_so raw st s' line lines taken taken' out out' text bytes full told put is_open =
     inr (λ t o g h. front_so raw st line lines taken out t o (λ ls before e known.
     let took : Grows (Some (before ++ text)) t = subst (λ x. Grows x t) (told ∙ ap (λ k. known_and k text) known) g in
@@ -123,6 +125,23 @@ answered_so raw st s s' line lines taken taken' out out' kept text bytes full ov
           subst (λ (cs : List (Option Command)). Converses st cs (text ++ rest) output) (sym (read_line raw line ls full)) (inr (inr (a.reply, rest, a.after, says, ap (λ x. x ++ rest) a.text_is, c)))) so;
     })
 
+-- the machine session's answer to a line that the state refuses
+refused_answers : (st : SessionState) (c : Option Command) (u : Refusal) → refused_in st.state c ≡ Some u → Answers machine_behaviour st c (refusal_text u ∷ []) st
+refused_answers st None u e = absurd (let w = e in cc)
+refused_answers st (Some k) u e = rw e (inl (refl, refl))
+
+-- a line that the state refuses
+refused_so : (raw : Bool) (st : SessionState) (s s' : Session World) (line : List ℕ) (lines : Option Lines) (taken taken' out out' : Option (List ℕ)) (u : Refusal) → is_empty line ≡ false → IsOver raw s st → s' ≡ s → refused_in st.state (read_of raw line) ≡ Some u
+    → taken' ≡ known_and taken (refusal_reply u) → out' ≡ Some st.written → GoesSo raw st (here (line_and line lines) taken out) s' (here lines taken' out')
+refused_so raw st s s' line lines taken taken' out out' u full over same why told put =
+    inl (record {
+      session = st;
+      over = subst (λ (x : Session World). IsOver raw x st) (sym same) over;
+      put = put;
+      on = λ t o so. front_told raw st st line lines taken taken' out out' t o (refusal_reply u) told (λ ls rest output c.
+          subst (λ (cs : List (Option Command)). Converses st cs (refusal_reply u ++ rest) output) (sym (read_line raw line ls full)) (inr (inr (refusal_text u ∷ [], rest, st, refused_answers st (read_of raw line) u why, ap (λ x. x ++ rest) (sym (append-nil (refusal_reply u))), c)))) so;
+    })
+
 -- `quit`
 quit_so : (raw : Bool) (st : SessionState) (line : List ℕ) (lines : Option Lines) (taken out out' : Option (List ℕ)) → is_empty line ≡ false → asks_quit (read_of raw line) ≡ true → out' ≡ Some st.written
     → IsSo raw st (here (line_and line lines) taken out) taken out'
@@ -155,35 +174,51 @@ none_rose r = omega (arith, r.higher)
 -- what a session over one nub answers to a line
 abbrev AnswersLine : (s s' : Session World) → (line : List ℕ) → SessionState → (kept kept' : Option (List ℕ)) → Result Answer End → Type 0
 AnswersLine s s' line st kept kept' r =
-    (hs : Hosts) → Represents machine_behaviour near_conduct (Some s.talk.memory.below.below.below.link) s.first s.second s.mode s.limit hs st → is_empty line ≡ false → IsSaidIfAny (read_of s.raw line) s.second
+    (hs : Hosts) → Represents machine_behaviour near_conduct (Some s.talk.memory.below.below.below.link) s.first s.second s.mode s.limit hs st → is_empty line ≡ false → IsSaidIfAny (read_of s.raw line)
     → AnswersAs machine_behaviour near_conduct (Some s'.talk.memory.below.below.below.link) s'.first s'.second s'.mode s'.limit st kept kept' (MeantAnswers machine_behaviour st (read_of s.raw line)) 0 0 r
 
+-- what it answers to a command that its state refuses
+abbrev RefusesLine : (s s' : Session World) → (line bytes : List ℕ) → Result Answer End → Type 0
+RefusesLine s s' line bytes r = (k : Command) (u : Refusal) → read_of s.raw line ≡ Some k → refused_by_state (state_of s.mode) k ≡ Some u → Replied (refusal_reply u) r × (s' ≡ s) × (bytes ≡ [])
+
 module _ (raw : Bool) (st : SessionState) (s s' : Session World) (line : List ℕ) (lines : Option Lines) (taken taken' out out' kept kept' : Option (List ℕ)) (bytes : List ℕ) (r : Result Answer End) (over : IsOver raw s st) where
-  -- with this text
-  said_so : (text : List ℕ) → (c : Option Command) → c ≡ read_of s.raw line → IsSaidIfAny c None ⊎ (¬ IsSaidIfAny c None) → is_empty line ≡ false → r ≡ Ok (answer.Lines text) → s'.raw ≡ s.raw → kept ≡ Some [] → kept' ≡ Some bytes → AnswersLine s s' line st kept kept' r
+  -- the reply to a line that the state refuses, by what the line is
+  refused_why : (c : Option Command) (u : Refusal) → read_of s.raw line ≡ c → refused_in st.state c ≡ Some u → RefusesLine s s' line bytes r → Replied (refusal_reply u) r × (s' ≡ s) × (bytes ≡ [])
+  refused_why None u e why f = absurd (let w = why in cc)
+  refused_why (Some k) u e why f = f k u e (subst (λ x. refused_by_state x k ≡ Some u) over.represents.state why)
+
+  -- a command of which nothing else is said, by whether the state refuses it
+  unsaid_so : (text : List ℕ) (why : Option Refusal) → refused_in st.state (read_of raw line) ≡ why → ¬ IsSaidIfAny (read_of raw line) → is_empty line ≡ false → r ≡ Ok (answer.Lines text) → RefusesLine s s' line bytes r
       → taken' ≡ known_and taken text → out' ≡ Some (st.written ++ bytes) → GoesSo raw st (here (line_and line lines) taken out) s' (here lines taken' out')
-  said_so text c e (inl said) full is raws none holds meant told put =
-      let one : s.second ≡ None = one_side machine_behaviour near_conduct _ s.first s.second s.mode s.limit over.hosts st over.represents over.alone in
-      let asked : IsSaidIfAny (read_of s.raw line) s.second = subst (λ (x : Option SideRecord). IsSaidIfAny (read_of s.raw line) x) (sym one) (subst (λ x. IsSaidIfAny x None) e said) in
-      elim (subst (λ x. AnswersAs machine_behaviour near_conduct (Some s'.talk.memory.below.below.below.link) s'.first s'.second s'.mode s'.limit st kept kept' (MeantAnswers machine_behaviour st (read_of s.raw line)) 0 0 x) is (meant over.hosts over.represents full asked)) [
+  unsaid_so text None e unsaid full is refuses told put = open_so raw st s' line lines taken taken' out out' text bytes full told put (λ more. inl (unsaid, e))
+  unsaid_so text (Some u) e unsaid full is refuses told put =
+      let said = refused_why (read_of s.raw line) u refl (subst (λ x. refused_in st.state (read_of x line) ≡ Some u) (sym over.raw_is) e) refuses in
+      let reply : text ≡ refusal_reply u = subst (Replied (refusal_reply u)) is said.0 in
+      refused_so raw st s s' line lines taken taken' out out' u full over said.1 e (told ∙ ap (λ x. known_and taken x) reply) (put ∙ ap (λ x. Some (st.written ++ x)) said.2 ∙ ap Some (append-nil st.written))
+
+  -- with this text
+  said_so : (text : List ℕ) → (c : Option Command) → c ≡ read_of s.raw line → IsSaidIfAny c ⊎ (¬ IsSaidIfAny c) → is_empty line ≡ false → r ≡ Ok (answer.Lines text) → s'.raw ≡ s.raw → kept ≡ Some [] → kept' ≡ Some bytes → AnswersLine s s' line st kept kept' r → RefusesLine s s' line bytes r
+      → taken' ≡ known_and taken text → out' ≡ Some (st.written ++ bytes) → GoesSo raw st (here (line_and line lines) taken out) s' (here lines taken' out')
+  said_so text c e (inl said) full is raws none holds meant refuses told put =
+      elim (subst (λ x. AnswersAs machine_behaviour near_conduct (Some s'.talk.memory.below.below.below.link) s'.first s'.second s'.mode s'.limit st kept kept' (MeantAnswers machine_behaviour st (read_of s.raw line)) 0 0 x) is (meant over.hosts over.represents full (subst (λ x. IsSaidIfAny x) e said))) [
         | inl rose ↦ absurd (none_rose rose)
         | inr a ↦ answered_so raw st s s' line lines taken taken' out out' kept' text bytes full over raws (subst (λ k. Answered machine_behaviour near_conduct (Some s'.talk.memory.below.below.below.link) s'.first s'.second s'.mode s'.limit st k kept' (MeantAnswers machine_behaviour st (read_of s.raw line)) text) none a) holds told put
       ]
-  said_so text c e (inr unsaid) full is raws none holds meant told put =
-      open_so raw st s' line lines taken taken' out out' text bytes full told put (λ more. inl (subst (λ x. ¬ IsSaidIfAny x None) (e ∙ ap (λ x. read_of x line) over.raw_is) unsaid))
+  said_so text c e (inr unsaid) full is raws none holds meant refuses told put =
+      unsaid_so text (refused_in st.state (read_of raw line)) refl (subst (λ x. ¬ IsSaidIfAny x) (e ∙ ap (λ x. read_of x line) over.raw_is) unsaid) full is refuses told put
 
   lines_either : (text : List ℕ) (b : Bool) → is_empty line ≡ b → r ≡ Ok (answer.Lines text) → (is_empty line ≡ true → r ≡ Ok (answer.Lines [])) → (read_of s.raw line ≡ None → (s' ≡ s) × (bytes ≡ [])) → s'.raw ≡ s.raw → kept ≡ Some [] → kept' ≡ Some bytes
-      → AnswersLine s s' line st kept kept' r → taken' ≡ known_and taken text → out' ≡ Some (st.written ++ bytes) → GoesSo raw st (here (line_and line lines) taken out) s' (here lines taken' out')
-  lines_either text true e is blank same raws none holds meant told put =
+      → AnswersLine s s' line st kept kept' r → RefusesLine s s' line bytes r → taken' ≡ known_and taken text → out' ≡ Some (st.written ++ bytes) → GoesSo raw st (here (line_and line lines) taken out) s' (here lines taken' out')
+  lines_either text true e is blank same raws none holds meant refuses told put =
       let stays = same (blank_none s.raw line e) in
       let empty : text ≡ [] = cc (is, blank e) in
       let nothing : bytes ≡ [] = stays.1 in
       blank_so raw st s s' line lines taken taken' out out' e over stays.0 (told ∙ ap (λ x. known_and taken x) empty) (put ∙ ap (λ x. Some (st.written ++ x)) nothing ∙ ap Some (append-nil st.written))
-  lines_either text false e is blank same raws none holds meant told put = said_so text (read_of s.raw line) refl (said_or_not (read_of s.raw line)) e is raws none holds meant told put
+  lines_either text false e is blank same raws none holds meant refuses told put = said_so text (read_of s.raw line) refl (said_or_not (read_of s.raw line)) e is raws none holds meant refuses told put
 
   pub lines_so : (text : List ℕ) → r ≡ Ok (answer.Lines text) → (is_empty line ≡ true → r ≡ Ok (answer.Lines [])) → (read_of s.raw line ≡ None → (s' ≡ s) × (bytes ≡ [])) → s'.raw ≡ s.raw → kept ≡ Some [] → kept' ≡ Some bytes
-      → AnswersLine s s' line st kept kept' r → taken' ≡ known_and taken text → out' ≡ Some (st.written ++ bytes) → GoesSo raw st (here (line_and line lines) taken out) s' (here lines taken' out')
-  lines_so text is blank same raws none holds meant told put = lines_either text (is_empty line) refl is blank same raws none holds meant told put
+      → AnswersLine s s' line st kept kept' r → RefusesLine s s' line bytes r → taken' ≡ known_and taken text → out' ≡ Some (st.written ++ bytes) → GoesSo raw st (here (line_and line lines) taken out) s' (here lines taken' out')
+  lines_so text is blank same raws none holds meant refuses told put = lines_either text (is_empty line) refl is blank same raws none holds meant refuses told put
 
   not_blank : (b : Bool) → is_empty line ≡ b → (is_empty line ≡ true → r ≡ Ok (answer.Lines [])) → (r ≡ Ok (answer.Lines []) → ⊥) → is_empty line ≡ false
   not_blank true e blank unblank = absurd (unblank (blank e))

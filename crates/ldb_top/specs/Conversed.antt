@@ -3,14 +3,15 @@ use Rattle.std.specs.Prelude.{◌≡◌, ◌⊎◌, ℕ, Bool, true, false, if�
 use Rattle.machine_state.specs.State.{Behaviour}
 use Rattle.targets.specs.Targets.{machine_behaviour}
 use Rattle.c_session.specs.declared.command.Command.{Command}
+use Rattle.c_session.specs.Commands.{Refusal}
 use Rattle.cmd_lang.specs.Words.{is_empty}
 use Rattle.cmd_lang.specs.Commands.{read_of}
 use Rattle.ldb_edge.specs.Known.{known_and}
 use Rattle.asking_meaning.specs.Meant.{joined}
-use Rattle.claims.specs.Side.{SessionState}
+use Rattle.claims.specs.Side.{SessionState, State}
 use Rattle.claims.specs.Lines.{Reply}
 use Rattle.claims.specs.Carries.{Converses as MachineConverses}
-use Rattle.claims.specs.Outcome.{Answers}
+use Rattle.claims.specs.Outcome.{Answers, refused_by_state}
 use Rattle.session.specs.Meant.{IsSaidIfAny}
 use Rattle.ldb_top.specs.Ahead.{Lines}
 use Rattle.ldb_top.specs.Late.{asks_quit}
@@ -28,21 +29,26 @@ commands_in raw (line ∷ lines) = if is_empty line then commands_in raw lines e
 abbrev pub wanting_line : List ℕ
 wanting_line = codes "no memory\n"
 
--- From such a line on nothing is said of the transcript: a command whose meaning the session's contract doesn't tell, or one for
--- which there was no memory.
-abbrev pub IsOpen : Option Command → (transcript : List ℕ) → Type 0
-IsOpen c transcript = ¬ IsSaidIfAny c None ⊎ ((asks_quit c ≡ false) × IsFront wanting_line transcript)
+-- why the session's state refuses a line, if it does
+abbrev pub refused_in : State → Option Command → Option Refusal
+refused_in state None = None
+refused_in state (Some c) = refused_by_state state c
+
+-- From such a line on nothing is said of the transcript: a command whose meaning the session's contract doesn't tell, in a state that
+-- doesn't refuse it, or one for which there was no memory.
+abbrev pub IsOpen : SessionState → Option Command → (transcript : List ℕ) → Type 0
+IsOpen st c transcript = ((¬ IsSaidIfAny c) × (refused_in st.state c ≡ None)) ⊎ ((asks_quit c ≡ false) × IsFront wanting_line transcript)
 
 -- ---- a conversation
 
-module _ (Open : Option Command → (transcript : List ℕ) → Type 0) where
+module _ (Open : SessionState → Option Command → (transcript : List ℕ) → Type 0) where
   -- The lines from a session on: the bytes of the transcript, and what the first side's machine put in all. `quit` and the end of
   -- the lines end it. An open line leaves what follows it open, but that what was put before it stays.
   abbrev pub ConversesBut : Behaviour → SessionState → List (Option Command) → (transcript output : List ℕ) → Type 0
   ConversesBut b st [] transcript output = (transcript ≡ []) × (output ≡ st.written)
   ConversesBut b st (c ∷ cs) transcript output =
       ((asks_quit c ≡ true) × (transcript ≡ []) × (output ≡ st.written))
-      ⊎ ((Open c transcript × IsFront st.written output)
+      ⊎ ((Open st c transcript × IsFront st.written output)
       ⊎ ((reply : Reply) × (rest : List ℕ) × (next : SessionState) × Answers b st c reply next × (transcript ≡ joined reply ++ rest) × ConversesBut b next cs rest output))
 
 -- What the machine session answers, up to the first line that is open. Without open lines this is the conversation of the machine
@@ -51,8 +57,8 @@ abbrev pub Converses : SessionState → List (Option Command) → (transcript ou
 Converses st cs transcript output = ConversesBut IsOpen machine_behaviour st cs transcript output
 
 -- no line is open
-abbrev pub NoneOpen : Option Command → (transcript : List ℕ) → Type 0
-NoneOpen c transcript = ⊥
+abbrev pub NoneOpen : SessionState → Option Command → (transcript : List ℕ) → Type 0
+NoneOpen st c transcript = ⊥
 
 -- ---- a session
 

@@ -45,7 +45,8 @@ returns-in-Ok-Lines-clause-so g c = λ raw st lines over put.
     if_line raw st (here (line_and c.args.line.now lines) taken out) c.command-answer.new.self (here lines taken' out') c.as_bytes.result.now taken taken' c.reply.result c.reply.ensures.next c.reply.ensures.told (λ told.
     lines_so raw st c.args.session.now c.command-answer.new.self c.args.line.now lines taken taken' out out' _ _ bytes c.command-answer.result over c.as_bytes.result.now is c.command-answer.ensures.blank
     (λ none. (let h = c.command-answer.ensures.line none in (h.1, cc (h.2, c.bytes.ensures, c.new-written.ensures.taken, c.new.ensures.items)))) c.command-answer.ensures.raw
-    (c.new-written.ensures.taken ∙ ap Some c.new.ensures.items) c.bytes.ensures (λ hs represents full said. c.command-answer.ensures.meant machine_behaviour hs st steady represents full said) told (c.in-Ok.ensures.added st.written put))
+    (c.new-written.ensures.taken ∙ ap Some c.new.ensures.items) c.bytes.ensures (λ hs represents full said. c.command-answer.ensures.meant machine_behaviour hs st steady represents full said)
+    (λ k u e why. (let h = c.command-answer.ensures.refused k u e why in (h.0, h.1, cc (h.2, c.bytes.ensures, c.new-written.ensures.taken, c.new.ensures.items)))) told (c.in-Ok.ensures.added st.written put))
 
 pub returns-in-Ok-NoMemory-clause-so : goal.returns-in-Ok-NoMemory-clause-so
 returns-in-Ok-NoMemory-clause-so g c = λ raw st lines over put.
