@@ -32,8 +32,8 @@ use table_read::{dict_at, entry};
 /// The most that a type is deep.
 const MOST_DEEP: u32 = 64;
 
-/// The most parts of a type that are walked, as many as a type of C has bytes. A table by hand may tell more, each struct holding
-/// others twice: for a walk of such a type there is no memory, and no time.
+/// The most parts of a type that are walked. A table by hand may tell more, each struct holding others twice, and so may structs
+/// of C that are nested deep, each counted at its level: for a walk of such a type there is no memory, and no time.
 const MOST_PARTS: u32 = 1_048_576;
 
 /// The most bytes of an identifier.
