@@ -15,6 +15,7 @@ use Rattle.ps_step.specs.declared.machine.PsCore.{PsCore}
 use Rattle.ps_step.specs.State.{with_execution}
 use Rattle.ps_run.specs.Runs.{Answer, Runs}
 use Rattle.abs_mem.specs.Meaning.{Seen}
+use Rattle.abs_mem.specs.declared.memory.MemFault.TheVariants.{Outside, LinkFault, BadReply}
 use Rattle.dialect_model.specs.Dial.{Target, memory_bytes}
 use Rattle.dialect_model.specs.Operating.{Operates}
 use Rattle.dialect_model.specs.TableUse.{TableUse, use_of, Trouble, Kind, Eval, trouble_of, ◌>>=◌}
@@ -56,7 +57,9 @@ module _ {R A B : Type 0} (m : Regions → Eval Cause A) (k : Regions → A → 
   fails_from (Raised e) h = λ regions rest t. let w = h regions rest t in (w.0, fails_then (m regions) (k regions) start new (Kind e) w.1)
   fails_from Spent h = λ regions rest t. let w = h regions rest t in (w.0, fails_then (m regions) (k regions) start new StepsSpent w.1)
   fails_from NoMemory h = tt
-  fails_from (Broken f) h = tt
+  fails_from (Broken LinkFault) h = tt
+  fails_from (Broken (BadReply frame)) h = h
+  fails_from (Broken (Outside p)) h = tt
 
   -- what comes behind a result
   module _ (u : Seen R) (x : A) (mid : TableUse) (first : (regions : Regions) (rest : R) → s.tells (memory_bytes (at regions)) rest → u.tells (memory_bytes (at regions)) rest × m regions start (Ok x) mid) where
@@ -72,7 +75,9 @@ module _ {R A B : Type 0} (m : Regions → Eval Cause A) (k : Regions → A → 
     then_from (Err (Raised e)) h = on_told (Err (Kind e)) h
     then_from (Err Spent) h = on_told (Err StepsSpent) h
     then_from (Err NoMemory) h = tt
-    then_from (Err (Broken f)) h = tt
+    then_from (Err (Broken LinkFault)) h = tt
+    then_from (Err (Broken (BadReply frame))) h = λ regions rest t. h regions rest (first regions rest t).0
+    then_from (Err (Broken (Outside p))) h = tt
 
 -- ---- parts that ask the table alone
 
@@ -88,7 +93,7 @@ module _ {R A : Type 0} (m : Eval Cause A) (at : Regions → Target) (old new : 
   asked_fails (Raised e) h = asked_ends (Err (Kind e)) (h began)
   asked_fails Spent h = asked_ends (Err StepsSpent) (h began)
   asked_fails NoMemory h = tt
-  asked_fails (Broken f) h = tt
+  asked_fails (Broken f) h = absurd (h began)
 
 abbrev some_target : Target → Option Target
 some_target t = Some t
@@ -160,5 +165,7 @@ module _ {W R : Type 0} (seen : W → Seen R) (what : PsObj) (j i' : Inquiry) (o
     run_fails (Raised e) h = stopped (ps.Error e) h
     run_fails Spent h = stopped ps.Spent h
     run_fails NoMemory h = tt
-    run_fails (Broken f) h = tt
+    run_fails (Broken LinkFault) h = tt
+    run_fails (Broken (BadReply frame)) h = h
+    run_fails (Broken (Outside p)) h = tt
     run_fails (Refused cause) h = absurd h

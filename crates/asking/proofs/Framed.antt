@@ -4,6 +4,7 @@ use Rattle.machine_state.specs.Regions.{Regions}
 use Rattle.ps_store.specs.Store.{closed_part}
 use Rattle.frame_bytes.specs.declared.frame.Frame.{Frame}
 use Rattle.abs_mem.specs.Meaning.{Seen, Same, OnTold}
+use Rattle.abs_mem.specs.declared.memory.MemFault.TheVariants.{Outside, LinkFault, BadReply}
 use Rattle.dialect_model.specs.Dial.{Target, memory_bytes}
 use Rattle.dialect_model.specs.TableUse.{TableUse, use_of, Trouble, Kind, Eval, Looks, ◌>>=◌, Refused as RefusedFor, Spent as StepsSpent}
 use Rattle.ps_ops.specs.Desk.{target_of}
@@ -56,7 +57,9 @@ module _ {R : Type 0} (v : View) (order : Order) (n : ℕ) (name : List ℕ) (i 
   look_fails (Raised e) h = looked_ends (Err (Kind e)) h.0 h.1
   look_fails Spent h = looked_ends (Err StepsSpent) h.0 h.1
   look_fails NoMemory h = tt
-  look_fails (Broken b) h = tt
+  look_fails (Broken LinkFault) h = tt
+  look_fails (Broken (BadReply frame)) h = λ regions rest t. h.never (memory_bytes (at regions)) rest t
+  look_fails (Broken (Outside p)) h = tt
 
   pub frame_fails : (f : AskFault) → ComesOver framed i s (Err f) j u → EndsOver (printing n name) at i s (Err f) j u
   frame_fails f h part = fails_from found_in behind_frame at start s u j f (look_fails f h)

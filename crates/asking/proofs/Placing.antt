@@ -68,7 +68,7 @@ module _ {W R : Type 0} (seen : W → Seen R) (x : DictId) (f : Frame) (scope : 
     begin_fails NoMemory i' h left part = tt
     begin_fails Spent i' h left part = absurd h
     begin_fails (Refused cause) i' h left part = absurd h
-    begin_fails (Broken b) i' h left part = tt
+    begin_fails (Broken b) i' h left part = absurd h
 
     module _ (j i' : Inquiry) (o' : Operators W) (begun : Begins i (Ok tt) j) (left : left_of j ≡ left_of i) where
       abbrev own : DictId

@@ -6,6 +6,7 @@ use Rattle.ps_store.specs.declared.object.DictId.{DictId}
 use Rattle.ps_step.specs.declared.item.Item.{Item}
 use Rattle.frame_bytes.specs.declared.frame.Frame.{Frame}
 use Rattle.abs_mem.specs.Meaning.{Seen}
+use Rattle.abs_mem.specs.declared.memory.MemFault.TheVariants.{Outside, LinkFault, BadReply}
 use Rattle.dialect_model.specs.Dial.{Target, memory_bytes}
 use Rattle.dialect_model.specs.TableUse.{TableUse, use_of, Trouble, Kind, Eval, gives, ◌>>=◌, Refused as RefusedFor, Spent as StepsSpent}
 use Rattle.dialect_model.specs.Running.{Run}
@@ -76,7 +77,10 @@ module _ {W R : Type 0} (seen : W → Seen R) (x : DictId) (f : Frame) (scope : 
       unshown (Raised e) h part = with_type (Err (Raised e)) i' (target seen t') (unshown_on (Kind e) h part)
       unshown Spent h part = with_type (Err Spent) i' (target seen t') (unshown_on StepsSpent h part)
       unshown NoMemory h part = tt
-      unshown (Broken b) h part = tt
+      unshown (Broken LinkFault) h part = tt
+      unshown (Broken (BadReply frame)) h part =
+          with_type (Err (Broken (BadReply frame))) i' (target seen t') (λ regions rest told_here. (let r = place part regions rest told_here in h r.raw r.own r.execution r.regions' rest r.tells))
+      unshown (Broken (Outside p)) h part = tt
 
       pub shown_done : ShownOver seen type j u (Ok tt) i' t' → (text : List ℕ) → text ≡ codes "value " ++ (t'.out ++ 10 ∷ []) → EndsOver whole at i s (Ok text) i' (target seen t')
       shown_done h text says part =
