@@ -302,11 +302,11 @@ askable (command.Break spot) h n s t q = h
 askable (command.Clear spot) h n s t q = h
 askable command.Frames h n s t q = h
 askable (command.Frame k) h n s t q = h
-askable (command.Print name) h n s t q = absurd h
+askable (command.Print name) h n s t q = h
 askable (command.Eval text) h n s t q = absurd h
 askable (command.Assign text) h n s t q = absurd h
 askable (command.Code text) h n s t q = absurd h
-askable (command.Ps text) h n s t q = absurd h
+askable (command.Ps text) h n s t q = h
 
 pub limit_line : (n : ℕ) → limit_reply n ≡ joined ((codes "limit " ++ decimal n) ∷ [])
 limit_line n = sym (append_assoc (codes "limit ") (decimal n) (codes "\n")) ∙ sym (append-nil ((codes "limit " ++ decimal n) ++ codes "\n"))

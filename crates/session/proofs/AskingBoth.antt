@@ -1,5 +1,5 @@
 -- A command that is asked of both sides.
-use Rattle.std.proofs.Common.{◌≡◌, ◌≢◌, ◌∙◌, inl, refl, sym, ap, subst, ℕ, ◌≤◌, List, [], map, Option, Some, None, Result, Ok, Err, arith}
+use Rattle.std.proofs.Common.{◌≡◌, ◌≢◌, ◌⊎◌, ◌∙◌, inl, inr, refl, sym, ap, subst, ℕ, ◌≤◌, List, [], map, Option, Some, None, Result, Ok, Err, arith}
 use Rattle.machine_state.specs.State.{MachineState, Behaviour, order_of as machine_order}
 use Rattle.nub_wire.specs.declared.link.Side.{Side}
 use Rattle.nub_wire.specs.Rest.{other}
@@ -12,8 +12,11 @@ use Rattle.table_points.specs.Rows.{row_in}
 use Rattle.debug_side.specs.Told.{with_regions}
 use Rattle.table_asks.specs.declared.fault.AskFault.{AskFault}
 use Rattle.table_asks.specs.declared.fault.AskFault.TheVariants.{Refused, Raised, Spent, NoMemory, Broken}
+use Rattle.ps_step.specs.declared.machine.PsCore.{PsCore}
+use Rattle.dialect_model.specs.Dial.{Dial, Target}
 use Rattle.dialect_model.specs.TableUse.{Kind}
 use Rattle.dialect_model.specs.TableUse.{Refused as RefusedFor, Spent as StepsSpent}
+use Rattle.c_session.specs.declared.command.Spot.{Spot}
 use Rattle.c_session.specs.declared.command.Command.{Command}
 use Rattle.c_session.specs.declared.command.Command.TheVariants as command
 use Rattle.asking.specs.Refusals.{refusal_of}
@@ -22,13 +25,16 @@ use Rattle.claims.specs.Side.{SideState, SessionState, Change, OnSide, Troubled}
 use Rattle.claims.specs.Lines.{Reply, trouble_reply}
 use Rattle.claims.specs.Breaks as side_breaks
 use Rattle.claims.specs.Frames as side_frames
+use Rattle.claims.specs.Printing as side_printing
+use Rattle.claims.specs.Raw.{RunsPs, wants, not_begun, ended, wanting, wanting_at_end, with_run}
 use Rattle.claims.specs.Outcome.{Comes, OneSide, DoneOnBoth, SecondDone, SecondUndone, undone_by}
 use Rattle.side_meaning.specs.Standing.{Debugged}
 use Rattle.side_meaning.specs.Stepping.{IsReady}
 use Rattle.side_meaning.specs.Asking.{IsAsked}
 use Rattle.side_meaning.proofs.Starting.{asks_stand, no_words}
 use Rattle.session.specs.declared.sides.SideRecord.{SideRecord}
-use Rattle.session.specs.Meant.{debugged, sides_of, Hosts, IsThere, AreThere, AreReadyFor, ComesTo, IsPlain, AskedOne, SaidOne, NotOne, SaidAll, NotAll, Rests, IsGivenUp}
+use Rattle.session.specs.Kept.{IsFailure}
+use Rattle.session.specs.Meant.{debugged, sides_of, Hosts, IsThere, AreThere, AreReadyFor, ComesTo, SetsBreaks, IsBare, IsPlain, IsInquiry, AskedOne, SaidOne, NotOne, RanOne, SaidAll, NotAll, Rests, IsGivenUp}
 use Rattle.session.specs.Turned.{order_of}
 use Rattle.session.proofs.Regs.{rose_since}
 use Rattle.session.proofs.Asking.{none_mapped}
@@ -54,10 +60,46 @@ asked_none d a r none = record {
 abbrev pub IsNoText : Command → Type 0
 IsNoText c = (text : List ℕ) → c ≢ command.Ps text
 
-pub plain_no_text : (c : Command) → IsPlain c → IsNoText c
+plain_no_text : (c : Command) → IsPlain c → IsNoText c
 plain_no_text c p text e = subst IsPlain e p
 
-second_left : (c : Command) → IsPlain c → IsNoText c → (b : SideState) → SecondUndone c (Some b) (Some b)
+-- a command is a text, or none
+text_or : {P : Type 0} (c : Command) → IsInquiry c → ((text : List ℕ) → c ≡ command.Ps text → P) → (IsNoText c → P) → P
+text_or (command.Ps text) i is_so isnt = is_so text refl
+text_or c i is_so isnt = isnt (plain_no_text c i)
+
+breaks_or : {P : Type 0} (c : Command) → (SetsBreaks c → P) → ((SetsBreaks c → ⊥) → P) → P
+breaks_or (command.Break spot) is_so isnt = is_so tt
+breaks_or (command.Clear spot) is_so isnt = is_so tt
+breaks_or c is_so isnt = isnt (λ h. h)
+
+pub sets_bare : (c : Command) → SetsBreaks c → IsBare c
+sets_bare (command.Break spot) s = tt
+sets_bare (command.Clear spot) s = tt
+sets_bare c s = absurd s
+
+abbrev unsaid : AskFault → Result (List ℕ) AskFault
+unsaid f = Err f
+
+pub unwanted : (f : AskFault) → unsaid f ≡ Err NoMemory → IsFailure f
+unwanted f e = let is : f ≡ NoMemory = cc in subst IsFailure (sym is) tt
+
+failure_or : {P : Type 0} (f : AskFault) → (IsFailure f → P) → ((IsFailure f → ⊥) → P) → P
+failure_or (Refused cause) is_so isnt = isnt (λ h. h)
+failure_or (Raised e) is_so isnt = isnt (λ h. h)
+failure_or Spent is_so isnt = isnt (λ h. h)
+failure_or NoMemory is_so isnt = is_so tt
+failure_or (Broken f) is_so isnt = is_so tt
+
+pub not_sets : (c : Command) → ((spot : Spot) → c ≢ command.Break spot) → ((spot : Spot) → c ≢ command.Clear spot) → SetsBreaks c → ⊥
+not_sets (command.Break spot) n m s = n spot refl
+not_sets (command.Clear spot) n m s = m spot refl
+not_sets c n m s = s
+
+abbrev some_side : SideState → Option SideState
+some_side x = Some x
+
+second_left : (c : Command) → IsInquiry c → IsNoText c → (b : SideState) → SecondUndone c (Some b) (Some b)
 second_left (command.Break spot) p apart b = inl refl
 second_left (command.Clear spot) p apart b = inl refl
 second_left command.Frames p apart b = inl refl
@@ -68,7 +110,7 @@ second_left command.Step p apart b = absurd p
 second_left (command.Turns n) p apart b = absurd p
 second_left command.Quit p apart b = absurd p
 second_left command.Regs p apart b = absurd p
-second_left (command.Print name) p apart b = absurd p
+second_left (command.Print name) p apart b = inl refl
 second_left (command.Eval text) p apart b = absurd p
 second_left (command.Assign text) p apart b = absurd p
 second_left (command.Code text) p apart b = absurd p
@@ -78,18 +120,30 @@ second_left (command.Code text) p apart b = absurd p
 units_run : (m : OnSide Change) (a x : SideState) (e : Troubled) → Comes m a (Err e) x → record a { table = x.table } ≡ x
 units_run m a x e c = ap (λ (z : SideState). record a { table = z.table }) c.leaves ∙ sym c.leaves
 
-undone_is : (c : Command) → IsPlain c → (a x : SideState) (e : Troubled) → OneSide c a (Err e) x → undone_by c a x ≡ x
+-- a text that was run, and what it stored
+run_same : (text : List ℕ) (a : SideState) (d : Dial) (c : PsCore) (o : Option Target) → undone_by (command.Ps text) a (with_run a (record d { target = o }) c) ≡ with_run a (record d { target = o }) c
+run_same text a d c None = refl
+run_same text a d c (Some t) = refl
+
+text_same : (text : List ℕ) (a x : SideState) (r : Result Change Troubled) → RunsPs a text r x → undone_by (command.Ps text) a x ≡ x
+text_same text a _ _ wants = refl
+text_same text a _ _ (not_begun w) = refl
+text_same text a _ _ (ended {d = d} {c = c} w runs) = run_same text a d c d.target
+text_same text a _ _ (wanting {d = d} {c = c} w less runs) = run_same text a d c d.target
+text_same text a _ _ (wanting_at_end {d = d} {c = c} w runs) = run_same text a d c d.target
+
+undone_is : (c : Command) → IsInquiry c → (a x : SideState) (e : Troubled) → OneSide c a (Err e) x → undone_by c a x ≡ x
 undone_is (command.Break spot) p a x e w = units_run (side_breaks.breaking a spot) a x e w
 undone_is (command.Clear spot) p a x e w = units_run (side_breaks.clearing a spot) a x e w
 undone_is command.Frames p a x e w = units_run (side_frames.listing a) a x e w
 undone_is (command.Frame n) p a x e w = units_run (side_frames.choosing a n) a x e w
-undone_is (command.Ps text) p a x e w = absurd p
+undone_is (command.Ps text) p a x e w = text_same text a x (Err e) w
 undone_is command.Continue p a x e w = absurd p
 undone_is command.Step p a x e w = absurd p
 undone_is (command.Turns n) p a x e w = absurd p
 undone_is command.Quit p a x e w = absurd p
 undone_is command.Regs p a x e w = absurd p
-undone_is (command.Print name) p a x e w = absurd p
+undone_is (command.Print name) p a x e w = units_run (side_printing.printing a name) a x e w
 undone_is (command.Eval text) p a x e w = absurd p
 undone_is (command.Assign text) p a x e w = absurd p
 undone_is (command.Code text) p a x e w = absurd p
@@ -120,7 +174,7 @@ gives_up f f2 f3 D N (Refused cause) le w = absurd w
 gives_up f f2 f3 D N (Raised e) le w = absurd w
 gives_up f f2 f3 D N Spent le w = absurd w
 
-module _ (b : Behaviour) (c : Conduct) (o o1 : Option World) (first first' second : SideRecord) (which : first'.which ≡ first.which) (now : Command) (plain : IsPlain now) where
+module _ (b : Behaviour) (c : Conduct) (o o1 : Option World) (first first' second : SideRecord) (which : first'.which ≡ first.which) (now : Command) (inquiry : IsInquiry now) where
   module _ (g h : Host) (st : SessionState) (s : SideState) (there : AreThere b c o first (Some second) (hosts g (Some h))) (ready : AreReadyFor first (Some second) (hosts g (Some h)) (record st { second = Some s })) where
     abbrev two : SessionState
     two = record st { second = Some s }
@@ -158,7 +212,7 @@ module _ (b : Behaviour) (c : Conduct) (o o1 : Option World) (first first' secon
     first_not : IsNoText now → (e : Troubled) → NotOne b c o1 first first' g (Some h) now st.first e → NotAll b c o1 first' (Some second) two (DoneOnBoth two now) e
     first_not apart e x =
         said (Err e) x o1 second h s (trouble_reply e) (joined (trouble_reply e)) refl (waits (Err e) x) x.there (asked_none (debugged second h) s ready.ready.1 second_none)
-        (Err e, x.after, x.one, (Some s, second_left now plain apart s, refl, refl)) refl
+        (Err e, x.after, x.one, (Some s, second_left now inquiry apart s, refl, refl)) refl
 
     first_undone_by : IsNoText now → (f f1 : ℕ) (fault : AskFault) → ComesTo f f1 (λ (text : List ℕ). SaidOne b c o1 first first' g (Some h) now st.first text) (NotOne b c o1 first first' g (Some h) now st.first) (Err fault)
         → ComesTo f f1 (λ (text : List ℕ). SaidAll b c o1 first' (Some second) two (DoneOnBoth two now) text) (NotAll b c o1 first' (Some second) two (DoneOnBoth two now)) (Err fault)
@@ -169,6 +223,48 @@ module _ (b : Behaviour) (c : Conduct) (o o1 : Option World) (first first' secon
     first_undone_by apart f f1 (Broken LinkFault) w = w
     first_undone_by apart f f1 (Broken (BadReply frame)) w = w
     first_undone_by apart f f1 (Broken (Outside p)) w = w
+
+    -- why it isn't done is a failure: nothing is said of the sides
+    failed_by : (f f1 : ℕ) (D : List ℕ → Type 0) (N : Troubled → Type 0) (fault : AskFault) → IsFailure fault → ComesTo f f1 (λ (text : List ℕ). SaidOne b c o1 first first' g (Some h) now st.first text) (NotOne b c o1 first first' g (Some h) now st.first) (Err fault)
+        → ComesTo f f1 D N (Err fault)
+    failed_by f f1 D N (Refused cause) is w = absurd is
+    failed_by f f1 D N (Raised e) is w = absurd is
+    failed_by f f1 D N Spent is w = absurd is
+    failed_by f f1 D N NoMemory is w = tt
+    failed_by f f1 D N (Broken LinkFault) is w = w
+    failed_by f f1 D N (Broken (BadReply frame)) is w = w
+    failed_by f f1 D N (Broken (Outside p)) is w = w
+
+    -- a text that ended in a trouble there ran on the second side too
+    module _ (o2 : Option World) (second' : SideRecord) (second_which : second'.which ≡ second.which) (text : List ℕ) (is : now ≡ command.Ps text) (f f1 f2 : ℕ) (le : f ≤ f1) where
+      abbrev Undone : SideState → Type 0
+      Undone y = SecondUndone (command.Ps text) (Some s) (Some y)
+
+      text_not : (e : Troubled) (x : NotOne b c o1 first first' g (Some h) now st.first e) → RanOne b c o2 second second' h (Some x.host) (command.Ps text) s → NotAll b c o2 first' (Some second') two (DoneOnBoth two now) e
+      text_not e x y =
+          let stays : IsThere b c o2 first' x.host (Some y.asked.host) = first_beside b c o1 o2 first' second' x.host y.asked.host (Some h) (which ∙ there.first_is) x.there (second_which ∙ there.second_there.0) y.asked.there in
+          let undone : Undone y.asked.after = (y.result, y.asked.after, y.asked.one, ap some_side (sym (text_same text s y.asked.after y.result y.asked.one))) in
+          said (Err e) x o2 second' y.asked.host y.asked.after (trouble_reply e) (joined (trouble_reply e)) second_which y.asked.there stays y.asked.alike
+          (Err e, x.after, x.one, (Some y.asked.after, subst (λ (z : Command). SecondUndone z (Some s) (Some y.asked.after)) (sym is) undone, refl, refl)) refl
+
+      abbrev RanBehind : (fault answer : AskFault) → Type 0
+      RanBehind fault answer = (beside : Option Host) → IsThere b c o1 second h beside → ((answer ≡ fault) × RanOne b c o2 second second' h beside (command.Ps text) s) ⊎ IsGivenUp f1 f2 answer
+
+      abbrev Outcome : AskFault → Type 0
+      Outcome answer = ComesTo f f2 (λ (u : List ℕ). SaidAll b c o2 first' (Some second') two (DoneOnBoth two now) u) (NotAll b c o2 first' (Some second') two (DoneOnBoth two now)) (Err answer)
+
+      text_by : (e : Troubled) (x : NotOne b c o1 first first' g (Some h) now st.first e) (fault answer : AskFault) → (NotAll b c o2 first' (Some second') two (DoneOnBoth two now) e → Outcome fault)
+          → ((answer ≡ fault) × RanOne b c o2 second second' h (Some x.host) (command.Ps text) s) ⊎ IsGivenUp f1 f2 answer → Outcome answer
+      text_by e x fault answer to (inl y) = subst Outcome (sym y.0) (to (text_not e x y.1))
+      text_by e x fault answer to (inr y) = gives_up f f1 f2 (λ (u : List ℕ). SaidAll b c o2 first' (Some second') two (DoneOnBoth two now) u) (NotAll b c o2 first' (Some second') two (DoneOnBoth two now)) answer le y
+
+      text_undone_by : (fault answer : AskFault) → (IsFailure fault → ⊥)
+          → ComesTo f f1 (λ (text : List ℕ). SaidOne b c o1 first first' g (Some h) now st.first text) (NotOne b c o1 first first' g (Some h) now st.first) (Err fault) → RanBehind fault answer → Outcome answer
+      text_undone_by (Refused cause) answer n w ran = let e = RefusedFor (refusal_of cause) in text_by e w (Refused cause) answer (λ z. z) (ran (Some w.host) (waits (Err e) w))
+      text_undone_by (Raised x) answer n w ran = text_by (Kind x) w (Raised x) answer (λ z. z) (ran (Some w.host) (waits (Err (Kind x)) w))
+      text_undone_by Spent answer n w ran = text_by StepsSpent w Spent answer (λ z. z) (ran (Some w.host) (waits (Err StepsSpent) w))
+      text_undone_by NoMemory answer n w ran = absurd (n tt)
+      text_undone_by (Broken x) answer n w ran = absurd (n tt)
 
     -- it is done there
     module _ (o2 : Option World) (second' : SideRecord) (second_which : second'.which ≡ second.which) (text : List ℕ) (x : SaidOne b c o1 first first' g (Some h) now st.first text) where
@@ -185,7 +281,7 @@ module _ (b : Behaviour) (c : Conduct) (o o1 : Option World) (first first' secon
             (Ok x.change, x.asked.after, x.asked.one, (r, y.after, y.one, says)) x.text_is
 
       second_not : (e : Troubled) (y : AskedOne b c o2 second second' h (Some host1) now s (Err e)) → record two { first = x.asked.after; second = Some y.after } ≡ record two { first = x.asked.after; second = Some (undone_by now s y.after) }
-      second_not e y = ap (λ (z : SideState). record two { first = x.asked.after; second = Some z }) (sym (undone_is now plain s y.after e y.one))
+      second_not e y = ap (λ (z : SideState). record two { first = x.asked.after; second = Some z }) (sym (undone_is now inquiry s y.after e y.one))
 
       second_told_by : (f f1 : ℕ) (r : Result (List ℕ) AskFault) → IsAnswer r → ComesTo f f1 (λ (t : List ℕ). SaidOne b c o2 second second' h (Some host1) now s t) (NotOne b c o2 second second' h (Some host1) now s) r
           → SaidAll b c o2 first' (Some second') two (DoneOnBoth two now) text
@@ -207,14 +303,14 @@ module _ (b : Behaviour) (c : Conduct) (o o1 : Option World) (first first' secon
       by None y t r = absurd t.second_there
 
   -- the first side doesn't do it
-  pub first_undone : IsNoText now → (hs : Hosts) (st : SessionState) (f f1 : ℕ) (fault : AskFault) → AreThere b c o first (Some second) hs → AreReadyFor first (Some second) hs st → AsksSide b c o o1 f f1 first first' now (Err fault)
+  first_undone : IsNoText now → (hs : Hosts) (st : SessionState) (f f1 : ℕ) (fault : AskFault) → AreThere b c o first (Some second) hs → AreReadyFor first (Some second) hs st → AsksSide b c o o1 f f1 first first' now (Err fault)
       → ComesTo f f1 (λ (text : List ℕ). SaidAll b c o1 first' (Some second) st (DoneOnBoth st now) text) (NotAll b c o1 first' (Some second) st (DoneOnBoth st now)) (Err fault)
   first_undone apart hs st f f1 fault there ready asks =
       two_sides (λ (z : SessionState). ComesTo f f1 (λ (text : List ℕ). SaidAll b c o1 first' (Some second) z (DoneOnBoth z now) text) (NotAll b c o1 first' (Some second) z (DoneOnBoth z now)) (Err fault)) hs st there ready
-      (λ h s t r. first_undone_by hs.first h st s t r apart f f1 fault (asks hs.first (Some h) st.first t.first_there r.ready.0 (none hs.first h st s t r) plain))
+      (λ h s t r. first_undone_by hs.first h st s t r apart f f1 fault (asks hs.first (Some h) st.first t.first_there r.ready.0 (none hs.first h st s t r) inquiry))
 
   -- where nothing is asked of the second side
-  pub left_undone : (hs : Hosts) (st : SessionState) (f f1 g : ℕ) (p : Option World) (other : SideRecord) (fault answer : AskFault) → AreThere b c o first (Some second) hs → AreReadyFor first (Some second) hs st → AsksSide b c o o1 f f1 first first' now (Err fault)
+  left_undone : (hs : Hosts) (st : SessionState) (f f1 g : ℕ) (p : Option World) (other : SideRecord) (fault answer : AskFault) → AreThere b c o first (Some second) hs → AreReadyFor first (Some second) hs st → AsksSide b c o o1 f f1 first first' now (Err fault)
       → IsNoText now → answer ≡ fault → other ≡ second → p ≡ o1 → g ≡ f1 → ComesTo f g (λ (text : List ℕ). SaidAll b c p first' (Some other) st (DoneOnBoth st now) text) (NotAll b c p first' (Some other) st (DoneOnBoth st now)) (Err answer)
   left_undone hs st f f1 g p other fault answer there ready asks apart e1 e2 e3 e4 =
       subst (λ (z : AskFault). ComesTo f g (λ (text : List ℕ). SaidAll b c p first' (Some other) st (DoneOnBoth st now) text) (NotAll b c p first' (Some other) st (DoneOnBoth st now)) (Err z)) (sym e1)
@@ -222,6 +318,33 @@ module _ (b : Behaviour) (c : Conduct) (o o1 : Option World) (first first' secon
       (subst (λ (z : Option World). ComesTo f g (λ (text : List ℕ). SaidAll b c z first' (Some second) st (DoneOnBoth st now) text) (NotAll b c z first' (Some second) st (DoneOnBoth st now)) (Err fault)) (sym e3)
       (subst (λ (z : ℕ). ComesTo f z (λ (text : List ℕ). SaidAll b c o1 first' (Some second) st (DoneOnBoth st now) text) (NotAll b c o1 first' (Some second) st (DoneOnBoth st now)) (Err fault)) (sym e4)
       (first_undone apart hs st f f1 fault there ready asks))))
+
+  -- the link failed, or memory was wanting
+  left_failed : (hs : Hosts) (st : SessionState) (f f1 g : ℕ) (D : List ℕ → Type 0) (N : Troubled → Type 0) (fault answer : AskFault) → AreThere b c o first (Some second) hs → AreReadyFor first (Some second) hs st → AsksSide b c o o1 f f1 first first' now (Err fault)
+      → IsFailure fault → answer ≡ fault → g ≡ f1 → ComesTo f g D N (Err answer)
+  left_failed hs st f f1 g D N fault answer there ready asks failed e1 e2 =
+      subst (λ (z : AskFault). ComesTo f g D N (Err z)) (sym e1)
+      (subst (λ (z : ℕ). ComesTo f z D N (Err fault)) (sym e2)
+      (two_sides (λ (z : SessionState). ComesTo f f1 D N (Err fault)) hs st there ready
+      (λ h s t r. failed_by hs.first h st s t r f f1 D N fault failed (asks hs.first (Some h) st.first t.first_there r.ready.0 (none hs.first h st s t r) inquiry))))
+
+  -- so it is where a text ran on the second side, or nothing is asked of that one
+  pub undone_both : (hs : Hosts) (st : SessionState) (f f1 f2 : ℕ) (o2 : Option World) (second' : SideRecord) (fault answer : AskFault) → AreThere b c o first (Some second) hs → AreReadyFor first (Some second) hs st → AsksSide b c o o1 f f1 first first' now (Err fault)
+      → ((IsFailure fault → ⊥) → f ≤ f1) → second'.which ≡ second.which → (IsNoText now → (answer ≡ fault) × (second' ≡ second) × (o2 ≡ o1) × (f2 ≡ f1)) → (IsFailure fault → (answer ≡ fault) × (f2 ≡ f1))
+      → ((text : List ℕ) (h : Host) (beside : Option Host) (a : SideState) → now ≡ command.Ps text → (IsFailure fault → ⊥) → IsThere b c o1 second h beside → IsReady (debugged second h) a → a.step_words ≡ []
+      → ((answer ≡ fault) × RanOne b c o2 second second' h beside (command.Ps text) a) ⊎ IsGivenUp f1 f2 answer)
+      → ComesTo f f2 (λ (u : List ℕ). SaidAll b c o2 first' (Some second') st (DoneOnBoth st now) u) (NotAll b c o2 first' (Some second') st (DoneOnBoth st now)) (Err answer)
+  undone_both hs st f f1 f2 o2 second' fault answer there ready asks le e2 left failed ran =
+      failure_or fault
+      (λ is. left_failed hs st f f1 f2 (λ (u : List ℕ). SaidAll b c o2 first' (Some second') st (DoneOnBoth st now) u) (NotAll b c o2 first' (Some second') st (DoneOnBoth st now)) fault answer there ready asks is (failed is).0 (failed is).1)
+      (λ n.
+      text_or now inquiry
+      (λ text is.
+      two_sides (λ (z : SessionState). ComesTo f f2 (λ (u : List ℕ). SaidAll b c o2 first' (Some second') z (DoneOnBoth z now) u) (NotAll b c o2 first' (Some second') z (DoneOnBoth z now)) (Err answer)) hs st there ready
+      (λ h s t r.
+      text_undone_by hs.first h st s t r o2 second' e2 text is f f1 f2 (le n) fault answer n (asks hs.first (Some h) st.first t.first_there r.ready.0 (none hs.first h st s t r) inquiry)
+      (λ beside x. ran text h beside s is n x r.ready.1 (second_none hs.first h st s t r))))
+      (λ apart. let w = left apart in left_undone hs st f f1 f2 o2 second' fault answer there ready asks apart w.0 w.1 w.2 w.3))
 
   -- the first side does it
   module _ (hs : Hosts) (st : SessionState) (there : AreThere b c o first (Some second) hs) (ready : AreReadyFor first (Some second) hs st) (f f1 : ℕ) (text : List ℕ) (asks : AsksSide b c o o1 f f1 first first' now (Ok text)) where
@@ -231,29 +354,39 @@ module _ (b : Behaviour) (c : Conduct) (o o1 : Option World) (first first' secon
     second_told o2 f2 second' r second_which is more =
         two_sides (λ (z : SessionState). SaidAll b c o2 first' (Some second') z (DoneOnBoth z now) text) hs st there ready
         (λ h s t r'.
-        let x = asks hs.first (Some h) st.first t.first_there r'.ready.0 (none hs.first h st s t r') plain in
-        second_told_by hs.first h st s t r' o2 second' second_which text x f1 f2 r is (more h (Some x.asked.host) s (waits hs.first h st s t r' (Ok x.change) x.asked) r'.ready.1 (second_none hs.first h st s t r') plain))
+        let x = asks hs.first (Some h) st.first t.first_there r'.ready.0 (none hs.first h st s t r') inquiry in
+        second_told_by hs.first h st s t r' o2 second' second_which text x f1 f2 r is (more h (Some x.asked.host) s (waits hs.first h st s t r' (Ok x.change) x.asked) r'.ready.1 (second_none hs.first h st s t r') inquiry))
 
     -- or its link fails
     pub second_failed : (o2 : Option World) (f2 : ℕ) (second' : SideRecord) (y : AskFault) (fault : MemFault) (D : List ℕ → Type 0) (N : Troubled → Type 0) → y ≡ Broken fault → f ≤ f1 → AsksSide b c o1 o2 f1 f2 second second' now (Err y) → ComesTo f f2 D N (Err (Broken fault))
     second_failed o2 f2 second' y fault D N e le more =
         two_sides (λ (z : SessionState). ComesTo f f2 D N (Err (Broken fault))) hs st there ready
         (λ h s t r'.
-        let x = asks hs.first (Some h) st.first t.first_there r'.ready.0 (none hs.first h st s t r') plain in
+        let x = asks hs.first (Some h) st.first t.first_there r'.ready.0 (none hs.first h st s t r') inquiry in
         let g : Host = x.asked.host in
         broken_since f f1 f2 (λ (u : List ℕ). SaidOne b c o2 second second' h (Some g) now s u) D (NotOne b c o2 second second' h (Some g) now s) N fault le
         (subst (λ (z : AskFault). ComesTo f1 f2 (λ (u : List ℕ). SaidOne b c o2 second second' h (Some g) now s u) (NotOne b c o2 second second' h (Some g) now s) (Err z)) e
-        (more h (Some g) s (waits hs.first h st s t r' (Ok x.change) x.asked) r'.ready.1 (second_none hs.first h st s t r') plain)))
+        (more h (Some g) s (waits hs.first h st s t r' (Ok x.change) x.asked) r'.ready.1 (second_none hs.first h st s t r') inquiry)))
 
     -- or it has no memory for it, and the first one is as before
-    pub second_wants : (o2 : Option World) (f2 f3 : ℕ) (fault : AskFault) (D : List ℕ → Type 0) (N : Troubled → Type 0) → f ≤ f2
+    second_wants : (o2 : Option World) (f2 f3 : ℕ) (fault : AskFault) (D : List ℕ → Type 0) (N : Troubled → Type 0) → f ≤ f2
         → ((h : Host) (beside : Option Host) → IsThere b c o1 second h beside → Rests b c o2 second.which (order_of second.machine) beside)
         → ((h : Host) (beside : Option Host) → Stands b c first'.which o2 h beside → order_of first'.machine ≡ machine_order h.machine → IsGivenUp f2 f3 fault) → ComesTo f f3 D N (Err fault)
     second_wants o2 f2 f3 fault D N le rests gives =
         two_sides (λ (z : SessionState). ComesTo f f3 D N (Err fault)) hs st there ready
         (λ h s t r'.
-        let x = asks hs.first (Some h) st.first t.first_there r'.ready.0 (none hs.first h st s t r') plain in
+        let x = asks hs.first (Some h) st.first t.first_there r'.ready.0 (none hs.first h st s t r') inquiry in
         let y = rests h (Some x.asked.host) (waits hs.first h st s t r' (Ok x.change) x.asked) in
         let other_is : second.which ≡ other first'.which = t.second_there.0 ∙ ap other (sym (which ∙ t.first_is)) in
         gives_up f f2 f3 D N fault le
         (gives x.asked.host (Some y.host) (stands_beside b c o1 o2 x.asked.host y.host (Some h) first'.which x.asked.there.stands (subst (λ (w : Side). Stands b c w o2 y.host (Some x.asked.host)) other_is y.stands)) x.asked.there.order))
+
+    -- words of breakpoints are put back where the command may have changed them
+    pub second_wanted : (o2 : Option World) (f2 f3 : ℕ) (fault : AskFault) (D : List ℕ → Type 0) (N : Troubled → Type 0) → (SetsBreaks now → f ≤ f2)
+        → ((h : Host) (beside : Option Host) → IsThere b c o1 second h beside → SetsBreaks now → Rests b c o2 second.which (order_of second.machine) beside)
+        → ((h : Host) (beside : Option Host) → SetsBreaks now → Stands b c first'.which o2 h beside → order_of first'.machine ≡ machine_order h.machine → IsGivenUp f2 f3 fault)
+        → ((SetsBreaks now → ⊥) → fault ≡ NoMemory) → ComesTo f f3 D N (Err fault)
+    second_wanted o2 f2 f3 fault D N le rests gives otherwise =
+        breaks_or now
+        (λ sets. second_wants o2 f2 f3 fault D N (le sets) (λ h beside x. rests h beside x sets) (λ h beside x same. gives h beside sets x same))
+        (λ n. subst (λ (z : AskFault). ComesTo f f3 D N (Err z)) (sym (otherwise n)) tt)

@@ -26,12 +26,12 @@ use Rattle.session.specs.declared.modes.Mode.TheVariants as mode
 use Rattle.session.specs.declared.sides.SideRecord.{SideRecord}
 use Rattle.session.specs.Answered.{state_of}
 use Rattle.session.proofs.Regs.{rose_since}
-use Rattle.session.specs.Meant.{debugged, sides_of, Hosts, IsSecond, IsThere, AreThere, AreReadyFor, ComesTo, IsPlain, IsAskable, AskedOne, SaidOne, NotOne, SaidAll, NotAll}
+use Rattle.session.specs.Meant.{debugged, sides_of, Hosts, IsSecond, IsThere, AreThere, AreReadyFor, ComesTo, IsInquiry, IsAskable, AskedOne, SaidOne, NotOne, SaidAll, NotAll}
 
 -- what a command comes to on a side
 abbrev pub AsksSide : Behaviour → Conduct → (o o' : Option World) → (faults faults' : ℕ) → (side side' : SideRecord) → Command → Result (List ℕ) AskFault → Type 0
 AsksSide b c o o' f f' side side' now result =
-    (h : Host) (beside : Option Host) (a : SideState) → IsThere b c o side h beside → IsReady (debugged side h) a → a.step_words ≡ [] → IsPlain now
+    (h : Host) (beside : Option Host) (a : SideState) → IsThere b c o side h beside → IsReady (debugged side h) a → a.step_words ≡ [] → IsInquiry now
     → ComesTo f f' (λ (text : List ℕ). SaidOne b c o' side side' h beside now a text) (NotOne b c o' side side' h beside now a) result
 
 -- where there is no second side, there is none on the other side either
@@ -48,7 +48,7 @@ on_none : {A B : Type 0} (P Q : A → B → Type 0) (y : Option B) → OnSecond 
 on_none P Q None h = tt
 on_none P Q (Some y) h = h
 
-nothing_undone : (c : Command) → IsPlain c → SecondUndone c None None
+nothing_undone : (c : Command) → IsInquiry c → SecondUndone c None None
 nothing_undone (command.Break spot) p = refl
 nothing_undone (command.Clear spot) p = refl
 nothing_undone command.Frames p = refl
@@ -58,30 +58,30 @@ nothing_undone command.Step p = absurd p
 nothing_undone (command.Turns n) p = absurd p
 nothing_undone command.Quit p = absurd p
 nothing_undone command.Regs p = absurd p
-nothing_undone (command.Print name) p = absurd p
+nothing_undone (command.Print name) p = refl
 nothing_undone (command.Eval text) p = absurd p
 nothing_undone (command.Assign text) p = absurd p
 nothing_undone (command.Code text) p = absurd p
-nothing_undone (command.Ps text) p = absurd p
+nothing_undone (command.Ps text) p = refl
 
 -- such a command is answered by what is done on the sides
-pub plain_answers : (b : Behaviour) (st : SessionState) (c : Command) → IsPlain c → (reply : Reply) (st' : SessionState) → DoneOnBoth st c reply st' → AnswersCommand b st c reply st'
-plain_answers b st (command.Break spot) p reply st' h = h
-plain_answers b st (command.Clear spot) p reply st' h = h
-plain_answers b st command.Frames p reply st' h = h
-plain_answers b st (command.Frame n) p reply st' h = h
-plain_answers b st command.Continue p reply st' h = absurd p
-plain_answers b st command.Step p reply st' h = absurd p
-plain_answers b st (command.Turns n) p reply st' h = absurd p
-plain_answers b st command.Quit p reply st' h = absurd p
-plain_answers b st command.Regs p reply st' h = absurd p
-plain_answers b st (command.Print name) p reply st' h = absurd p
-plain_answers b st (command.Eval text) p reply st' h = absurd p
-plain_answers b st (command.Assign text) p reply st' h = absurd p
-plain_answers b st (command.Code text) p reply st' h = absurd p
-plain_answers b st (command.Ps text) p reply st' h = absurd p
+pub inquiry_answers : (b : Behaviour) (st : SessionState) (c : Command) → IsInquiry c → (reply : Reply) (st' : SessionState) → DoneOnBoth st c reply st' → AnswersCommand b st c reply st'
+inquiry_answers b st (command.Break spot) p reply st' h = h
+inquiry_answers b st (command.Clear spot) p reply st' h = h
+inquiry_answers b st command.Frames p reply st' h = h
+inquiry_answers b st (command.Frame n) p reply st' h = h
+inquiry_answers b st command.Continue p reply st' h = absurd p
+inquiry_answers b st command.Step p reply st' h = absurd p
+inquiry_answers b st (command.Turns n) p reply st' h = absurd p
+inquiry_answers b st command.Quit p reply st' h = absurd p
+inquiry_answers b st command.Regs p reply st' h = absurd p
+inquiry_answers b st (command.Print name) p reply st' h = h
+inquiry_answers b st (command.Eval text) p reply st' h = absurd p
+inquiry_answers b st (command.Assign text) p reply st' h = absurd p
+inquiry_answers b st (command.Code text) p reply st' h = absurd p
+inquiry_answers b st (command.Ps text) p reply st' h = h
 
-module _ (b : Behaviour) (c : Conduct) (o o' : Option World) (side side' : SideRecord) (hs : Hosts) (st : SessionState) (now : Command) (plain : IsPlain now) (there : AreThere b c o side None hs) (ready : AreReadyFor side None hs st) (which : side'.which ≡ side.which) where
+module _ (b : Behaviour) (c : Conduct) (o o' : Option World) (side side' : SideRecord) (hs : Hosts) (st : SessionState) (now : Command) (inquiry : IsInquiry now) (there : AreThere b c o side None hs) (ready : AreReadyFor side None hs st) (which : side'.which ≡ side.which) where
   alone : st.second ≡ None
   alone = none_beside (StandsIn st.state) st.second ready.sides.second
 
@@ -106,7 +106,7 @@ module _ (b : Behaviour) (c : Conduct) (o o' : Option World) (side side' : SideR
   done_then change x = (Ok change, x.after, x.one, subst (λ (y : Option SideState). FirstDone st now change x.after y change.lines (left_by (Ok change) x)) (sym alone) (refl, refl))
 
   undone_then : (e : Troubled) (x : AskedOne b c o' side side' hs.first hs.second now st.first (Err e)) → DoneOnBoth st now (trouble_reply e) (left_by (Err e) x)
-  undone_then e x = (Err e, x.after, x.one, (None, subst (λ (y : Option SideState). SecondUndone now y None) (sym alone) (nothing_undone now plain), refl, refl))
+  undone_then e x = (Err e, x.after, x.one, (None, subst (λ (y : Option SideState). SecondUndone now y None) (sym alone) (nothing_undone now inquiry), refl, refl))
 
   said : (text : List ℕ) → SaidOne b c o' side side' hs.first hs.second now st.first text → SaidAll b c o' side' None st (DoneOnBoth st now) text
   said text y = record {
@@ -148,34 +148,34 @@ module _ (b : Behaviour) (c : Conduct) (o o' : Option World) (side side' : SideR
   asked_one f f' (Err (Broken (Outside p))) y = y
 
 -- so it is of a session that has no second side
-pub asked_alone : (b : Behaviour) (c : Conduct) (o o' : Option World) (side side' : SideRecord) (second : Option SideRecord) (hs : Hosts) (st : SessionState) (now : Command) → second ≡ None → AreThere b c o side second hs → AreReadyFor side second hs st → IsPlain now
+pub asked_alone : (b : Behaviour) (c : Conduct) (o o' : Option World) (side side' : SideRecord) (second : Option SideRecord) (hs : Hosts) (st : SessionState) (now : Command) → second ≡ None → AreThere b c o side second hs → AreReadyFor side second hs st → IsInquiry now
     → side'.which ≡ side.which → (f f' : ℕ) (result : Result (List ℕ) AskFault) → AsksSide b c o o' f f' side side' now result
     → ComesTo f f' (λ text. SaidAll b c o' side' second st (DoneOnBoth st now) text) (NotAll b c o' side' second st (DoneOnBoth st now)) result
-asked_alone b c o o' side side' None hs st now e there ready plain which f f' result tells =
-    asked_one b c o o' side side' hs st now plain there ready which f f' result
-    (tells hs.first hs.second st.first there.first_there ready.ready.0 (no_words st.state (debugged side hs.first) st.first ready.still ready.sides.first) plain)
-asked_alone b c o o' side side' (Some x) hs st now e there ready plain which f f' result tells = cc
+asked_alone b c o o' side side' None hs st now e there ready inquiry which f f' result tells =
+    asked_one b c o o' side side' hs st now inquiry there ready which f f' result
+    (tells hs.first hs.second st.first there.first_there ready.ready.0 (no_words st.state (debugged side hs.first) st.first ready.still ready.sides.first) inquiry)
+asked_alone b c o o' side side' (Some x) hs st now e there ready inquiry which f f' result tells = cc
 
 -- ---- behind words of a step that were taken away
 
-pub plain_for : (c : Command) → IsAskable c → c ≢ command.Regs → IsPlain c
-plain_for command.Regs h n = absurd (n refl)
-plain_for (command.Break spot) h n = h
-plain_for (command.Clear spot) h n = h
-plain_for command.Frames h n = h
-plain_for (command.Frame k) h n = h
-plain_for command.Continue h n = absurd h
-plain_for command.Step h n = absurd h
-plain_for (command.Turns k) h n = absurd h
-plain_for command.Quit h n = absurd h
-plain_for (command.Print name) h n = absurd h
-plain_for (command.Eval text) h n = absurd h
-plain_for (command.Assign text) h n = absurd h
-plain_for (command.Code text) h n = absurd h
-plain_for (command.Ps text) h n = absurd h
+pub inquiry_for : (c : Command) → IsAskable c → c ≢ command.Regs → IsInquiry c
+inquiry_for command.Regs h n = absurd (n refl)
+inquiry_for (command.Break spot) h n = h
+inquiry_for (command.Clear spot) h n = h
+inquiry_for command.Frames h n = h
+inquiry_for (command.Frame k) h n = h
+inquiry_for command.Continue h n = absurd h
+inquiry_for command.Step h n = absurd h
+inquiry_for (command.Turns k) h n = absurd h
+inquiry_for command.Quit h n = absurd h
+inquiry_for (command.Print name) h n = h
+inquiry_for (command.Eval text) h n = absurd h
+inquiry_for (command.Assign text) h n = absurd h
+inquiry_for (command.Code text) h n = absurd h
+inquiry_for (command.Ps text) h n = h
 
 -- it comes where the session stands, or was never resumed
-pub asked_still : (s : State) (c : Command) → IsPlain c → refused_by_state s c ≡ None → IsStill s
+pub asked_still : (s : State) (c : Command) → IsInquiry c → refused_by_state s c ≡ None → IsStill s
 asked_still Fresh c p e = tt
 asked_still Stopped c p e = tt
 asked_still (Running how) (command.Break spot) p e = cc
@@ -187,11 +187,11 @@ asked_still (Running how) command.Continue p e = absurd p
 asked_still (Running how) command.Step p e = absurd p
 asked_still (Running how) (command.Turns k) p e = absurd p
 asked_still (Running how) command.Quit p e = absurd p
-asked_still (Running how) (command.Print name) p e = absurd p
+asked_still (Running how) (command.Print name) p e = cc
 asked_still (Running how) (command.Eval text) p e = absurd p
 asked_still (Running how) (command.Assign text) p e = absurd p
 asked_still (Running how) (command.Code text) p e = absurd p
-asked_still (Running how) (command.Ps text) p e = absurd p
+asked_still (Running how) (command.Ps text) p e = cc
 asked_still Ended (command.Break spot) p e = cc
 asked_still Ended (command.Clear spot) p e = cc
 asked_still Ended command.Frames p e = cc
@@ -201,11 +201,11 @@ asked_still Ended command.Continue p e = absurd p
 asked_still Ended command.Step p e = absurd p
 asked_still Ended (command.Turns k) p e = absurd p
 asked_still Ended command.Quit p e = absurd p
-asked_still Ended (command.Print name) p e = absurd p
+asked_still Ended (command.Print name) p e = cc
 asked_still Ended (command.Eval text) p e = absurd p
 asked_still Ended (command.Assign text) p e = absurd p
 asked_still Ended (command.Code text) p e = absurd p
-asked_still Ended (command.Ps text) p e = absurd p
+asked_still Ended (command.Ps text) p e = cc
 
 -- `regs` comes there too, and while a resume is interrupted
 pub regs_by : {P : Type 0} (m : Mode) (s : State) → s ≡ state_of m → refused_by_state s command.Regs ≡ None → (IsStill s → P) → ((how : How) → m ≡ mode.Running how → P) → P

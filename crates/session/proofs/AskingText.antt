@@ -1,15 +1,13 @@
 -- `ps` on a side, from its begin to its end, and what it is to the machine session.
-use Rattle.std.proofs.Common.{◌≡◌, ◌∙◌, refl, sym, ap, subst, ℕ, true, List, [], ◌∷◌, map, Option, Some, None, Result, Ok, Err}
+use Rattle.std.proofs.Common.{◌≡◌, ◌≢◌, ◌≤◌, ◌∙◌, refl, sym, ap, subst, ℕ, true, List, [], ◌∷◌, map, Option, Some, None, Result, Ok, Err}
 use Rattle.std.specs.List.{AllByRecursion}
 use Rattle.ldb_edge.specs.Count.{Rose}
 use Rattle.ldb_words.specs.declared.kinds.Order.{Order}
 use Rattle.machine_state.specs.declared.layout.TheConstants.{CONTEXT}
 use Rattle.machine_state.specs.Regions.{Regions}
-use Rattle.machine_state.specs.Sound.{IsMemory}
 use Rattle.machine_state.specs.State.{MachineState, Behaviour, order_of as machine_order}
 use Rattle.nub_wire.specs.declared.link.Side.{Side}
-use Rattle.nub_wire.specs.AtOnce.{MeetsMemory}
-use Rattle.nub_wire.specs.Fits.{Reached, begins, TellsFitting}
+use Rattle.nub_wire.specs.Fits.{Reached, TellsFitting}
 use Rattle.nub_wire.specs.Nub.{NubState, Host, host}
 use Rattle.nub_wire.specs.Delivery.{Conduct, World, side_of}
 use Rattle.nub_wire.specs.Rest.{other}
@@ -67,8 +65,9 @@ use Rattle.side_meaning.proofs.Asking.{names_stay}
 use Rattle.side_meaning.proofs.Storing.{reached, same_target, runs_kept}
 use Rattle.session.specs.declared.sides.SideRecord.{SideRecord}
 use Rattle.session.specs.Turned.{byte_of, order_of, turned}
-use Rattle.session.specs.Meant.{debugged, IsThere, AskedOne, SaidOne, NotOne, ComesTo}
-use Rattle.session.proofs.Asking.{none_mapped, seen_by}
+use Rattle.session.specs.Kept.{IsFailure}
+use Rattle.session.specs.Meant.{debugged, IsThere, AskedOne, SaidOne, NotOne, RanOne, ComesTo, IsGivenUp}
+use Rattle.session.proofs.Asking.{none_mapped, target_told, seen_by, ran_count}
 
 -- ---- a side whose machine's memory has other numbers
 
@@ -79,24 +78,6 @@ host_same : (g : Host) (nub : NubState) (m : MachineState) → g.nub ≡ nub →
 host_same g nub m e f = ap (λ (x : NubState). host x g.machine) e ∙ ap (host nub) f
 
 module _ (b : Behaviour) (c : Conduct) (o : Option World) (side : Side) (order : Order) (h : Host) (beside : Option Host) (x : Stands b c side o h beside) (same : order ≡ machine_order h.machine) where
-  meets : MeetsMemory c
-  meets = subst MeetsMemory (sym x.conduct) (record { fetches = λ at s g. refl; stores = λ at s v g. refl })
-
-  tells : WireTells c o side order (memory_of h.machine) (rest_of side order h beside)
-  tells = record {
-    meets = meets;
-    world = x.world;
-    told = x.told;
-    now = x.now;
-    there = x.there;
-    rest = x.rest;
-    holds = subst (λ (g : Host). IsMemory g.machine.memory) (sym x.host_is) (x.fits.machine h.machine begins).memory;
-    order_is = same ∙ ap (λ (g : Host). machine_order g.machine) (sym x.host_is);
-    bytes_are = ap (λ (g : Host). memory_of g.machine) (sym x.host_is);
-    rest_is = ap (λ (g : Host). rest_of side order g beside) (sym x.host_is);
-    beside = x.beside_is;
-  }
-
   fits_stored : (m : Regions) → StoresNumbers (machine_order h.machine) h.machine.memory m → TellsFitting b (with_regions h m)
   fits_stored m w = record { machine = λ (k : MachineState) y. x.fits.machine k (reached_from (reached b h.machine m w) y); ended = x.fits.ended }
 
@@ -194,8 +175,7 @@ module _ {L : Type 0} (c : Conduct) (world : L → Option World) (faults : L →
   regions = h.machine.memory
 
   told : WireTells c (world old.memory.below.below.below.link) side.which (order_of side.machine) (record { order = order_of side.machine; regions = regions; registers = no_places; cell = None }) (rest_of side.which (order_of side.machine) h beside)
-  told = subst (λ (o : Order). WireTells c (world old.memory.below.below.below.link) side.which (order_of side.machine) (record { order = o; regions = regions; registers = no_places; cell = None }) (rest_of side.which (order_of side.machine) h beside)) (sym there.order)
-      (tells b c (world old.memory.below.below.below.link) side.which (order_of side.machine) h beside there.stands there.order)
+  told = target_told b c (world old.memory.below.below.below.link) side.which (order_of side.machine) h beside there.stands there.order
 
   dial_is : dial_of (desk start) regions ≡ side_dial a (Numbered a.frame) true
   dial_is =
@@ -296,3 +276,40 @@ text_meant c world faults leads b side old talk new text begun mid ended mark h 
     text_meant_by c world faults leads b side old talk new text begun mid ended mark h beside a there ready none e steps store mark_is closed ends result
     (subst (λ (z : _). PsOver (seen_by c world faults) text begun (talk_in z (standing.Numbered side.frame) true) result mid new) e over)
     (subst (λ (z : _). RanOver (seen_by c world faults) leads z.memory.below.below.below result new.memory.below.below.below) e ran)
+
+-- the count of faults doesn't fall
+pub text_count : {L : Type 0} (c : Conduct) (world : L → Option World) (faults : L → ℕ) (leads : Wire L → Option (List ℕ) → Wire L → Type 0) (side : SideRecord) (old talk new : Operators (Wire L)) → talk ≡ turned side old
+    → (result : Result (List ℕ) AskFault) → RanOver (seen_by c world faults) leads talk.memory.below.below.below result new.memory.below.below.below → result ≢ Err NoMemory → faults old.memory.below.below.below.link ≤ faults new.memory.below.below.below.link
+text_count c world faults leads side old talk new e result ran some =
+    subst (λ (x : _). faults x.memory.below.below.below.link ≤ faults new.memory.below.below.below.link) e (ran_count (seen_by c world faults) leads talk.memory.below.below.below new.memory.below.below.below result some ran)
+
+-- it ran, however it ended
+pub text_ran : (b : Behaviour) (c : Conduct) (o : Option World) (side side' : SideRecord) (h : Host) (beside : Option Host) (text said : List ℕ) (a : SideState) → SaidOne b c o side side' h beside (command.Ps text) a said → RanOne b c o side side' h beside (command.Ps text) a
+text_ran b c o side side' h beside text said a x = record { result = Ok x.change; asked = x.asked }
+
+pub text_unsaid : (b : Behaviour) (c : Conduct) (o : Option World) (side side' : SideRecord) (h : Host) (beside : Option Host) (text : List ℕ) (a : SideState) (f f' : ℕ) (fault : AskFault) → (IsFailure fault → ⊥)
+    → ComesTo f f' (λ (said : List ℕ). SaidOne b c o side side' h beside (command.Ps text) a said) (NotOne b c o side side' h beside (command.Ps text) a) (Err fault) → RanOne b c o side side' h beside (command.Ps text) a
+text_unsaid b c o side side' h beside text a f f' (Refused cause) n w = record { result = Err (RefusedFor (refusal_of cause)); asked = w }
+text_unsaid b c o side side' h beside text a f f' (Raised e) n w = record { result = Err (Kind e); asked = w }
+text_unsaid b c o side side' h beside text a f f' Spent n w = record { result = Err StepsSpent; asked = w }
+text_unsaid b c o side side' h beside text a f f' NoMemory n w = absurd (n tt)
+text_unsaid b c o side side' h beside text a f f' (Broken x) n w = absurd (n tt)
+
+-- or the link failed, or memory was wanting
+pub text_failed : (f f' : ℕ) (D : List ℕ → Type 0) (E : Unit {0} → Type 0) (N M : Troubled → Type 0) (fault : AskFault) → IsFailure fault → ComesTo f f' D N (Err fault) → ComesTo f f' E M (Err fault)
+text_failed f f' D E N M (Refused cause) is w = absurd is
+text_failed f f' D E N M (Raised e) is w = absurd is
+text_failed f f' D E N M Spent is w = absurd is
+text_failed f f' D E N M NoMemory is w = w
+text_failed f f' D E N M (Broken LinkFault) is w = w
+text_failed f f' D E N M (Broken (BadReply frame)) is w = w
+text_failed f f' D E N M (Broken (Outside p)) is w = w
+
+pub run_failed : (f f' : ℕ) (E : Unit {0} → Type 0) (fault : AskFault) → IsFailure fault → ComesTo f f' E (λ e. ⊥) (Err fault) → IsGivenUp f f' fault
+run_failed f f' E (Refused cause) is w = absurd is
+run_failed f f' E (Raised e) is w = absurd is
+run_failed f f' E Spent is w = absurd is
+run_failed f f' E NoMemory is w = tt
+run_failed f f' E (Broken LinkFault) is w = w
+run_failed f f' E (Broken (BadReply frame)) is w = absurd w
+run_failed f f' E (Broken (Outside p)) is w = absurd w

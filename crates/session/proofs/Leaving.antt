@@ -23,6 +23,7 @@ use Rattle.claims.specs.Outcome as outcome
 use Rattle.claims.specs.Outcome.{OneSide}
 use Rattle.claims.specs.Frames as frames
 use Rattle.claims.specs.Breaks as breaks
+use Rattle.claims.specs.Printing as printing
 use Rattle.side_meaning.proofs.Resuming.{put_back, stored_is}
 use Rattle.session.specs.Meant.{IsPlain}
 
@@ -158,6 +159,13 @@ choosing_left a n =
     (λ told. after_any (SideLeft a) (frames.or_no_frame told) one
     (λ p. gives_so (SideLeft a) (record { lines = frame_text n p ∷ []; side = record a { frame = n } }) (record { memory = a.machine.memory; wrote = none_written; side = refl })))
 
+-- ---- `print`
+
+printing_left : (a : SideState) (name : List ℕ) → Gives (SideLeft a) (printing.printing a name)
+printing_left a name =
+    after_any (SideLeft a) _ _ (λ f. after_any (SideLeft a) _ _ (λ u. after_any (SideLeft a) _ _ (λ scope. after_any (SideLeft a) _ _ (λ found. after_any (SideLeft a) _ _ (λ x. after_any (SideLeft a) _ _ (λ function. after_any (SideLeft a) _ _ (λ v.
+    after_any (SideLeft a) _ _ (λ type. after_any (SideLeft a) _ _ (λ text. gives_so (SideLeft a) (record { lines = (codes "value " ++ text) ∷ []; side = a }) (left_same a))))))))))
+
 -- ---- whole commands
 
 pub record Leaves (a x : SideState) : Type 0 where
@@ -182,4 +190,5 @@ one_leaves (command.Break spot) plain a r x c = comes_left (breaks.breaking a sp
 one_leaves (command.Clear spot) plain a r x c = comes_left (breaks.clearing a spot) a r x (clearing_left a spot) c
 one_leaves command.Frames plain a r x c = comes_left (frames.listing a) a r x (listing_left a) c
 one_leaves (command.Frame n) plain a r x c = comes_left (frames.choosing a n) a r x (choosing_left a n) c
+one_leaves (command.Print name) plain a r x c = comes_left (printing.printing a name) a r x (printing_left a name) c
 one_leaves c plain a r x w = absurd plain

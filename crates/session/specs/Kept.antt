@@ -46,6 +46,14 @@ IsUndone (Err (Raised e)) = Unit {0}
 IsUndone (Err Spent) = Unit {0}
 IsUndone (Err NoMemory) = Unit {0}
 
+-- the link failed, or memory was wanting
+abbrev pub IsFailure : AskFault → Type 0
+IsFailure (Broken f) = Unit {0}
+IsFailure NoMemory = Unit {0}
+IsFailure (Refused c) = ⊥
+IsFailure (Raised e) = ⊥
+IsFailure Spent = ⊥
+
 -- how a fault is answered: the session ends where its link failed, and else its state stays
 abbrev pub AnswersFault : (broken : List ℕ) (old new : Mode) → AskFault → Answer → Type 0
 AnswersFault broken old new (Broken f) answer = (new ≡ Ended) × (answer ≡ Lines broken)

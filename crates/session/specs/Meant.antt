@@ -207,20 +207,34 @@ module _ (b : Behaviour) (c : Conduct) (o : Option World) (first first' : SideRe
 
 -- ---- a command that asks one side
 
--- a command that tells points and frames, or sets breakpoints
+-- a command that sets breakpoints or takes them away
+abbrev pub SetsBreaks : Command → Type 0
+SetsBreaks (command.Break spot) = Unit {0}
+SetsBreaks (command.Clear spot) = Unit {0}
+SetsBreaks c = ⊥
+
+-- one that asks the table and the memory of the target, and runs no PostScript of its own
+abbrev pub IsBare : Command → Type 0
+IsBare command.Frames = Unit {0}
+IsBare (command.Frame n) = Unit {0}
+IsBare c = SetsBreaks c
+
+-- one that tells points, frames and values, or sets breakpoints
 abbrev pub IsPlain : Command → Type 0
-IsPlain (command.Break spot) = Unit {0}
-IsPlain (command.Clear spot) = Unit {0}
-IsPlain command.Frames = Unit {0}
-IsPlain (command.Frame n) = Unit {0}
-IsPlain c = ⊥
+IsPlain (command.Print name) = Unit {0}
+IsPlain c = IsBare c
+
+-- one that is asked of each side, `ps` too
+abbrev pub IsInquiry : Command → Type 0
+IsInquiry (command.Ps text) = Unit {0}
+IsInquiry c = IsPlain c
 
 -- one that is asked, `regs` too
 abbrev pub IsAskable : Command → Type 0
 IsAskable command.Regs = Unit {0}
-IsAskable c = IsPlain c
+IsAskable c = IsInquiry c
 
--- one of which is said what it means: not `print`, `eval`, `assign`, `code` and `ps`
+-- one of which is said what it means: not `eval`, `assign` and `code`
 abbrev pub IsSaid : Command → Type 0
 IsSaid command.Continue = Unit {0}
 IsSaid command.Step = Unit {0}
@@ -249,6 +263,11 @@ module _ (b : Behaviour) (c : Conduct) (o : Option World) (side side' : SideReco
 
   abbrev pub NotOne : Troubled → Type 0
   NotOne e = AskedOne (Err e)
+
+  -- it was done, or not done for a trouble
+  pub record RanOne : Type 0 where
+    pub result : Result Change Troubled
+    pub asked : AskedOne result
 
 -- ---- a command of all sides
 

@@ -1,18 +1,18 @@
 // A command that doesn't resume, on one side.
 
-ghost use Rattle.std.specs.Prelude.{◌≡◌, ◌≤◌, OnErr, Option, [], Err};
+ghost use Rattle.std.specs.Prelude.{◌≡◌, ◌≢◌, ◌≤◌, true, false, IfErr, OnErr, Option, [], Err};
 ghost use Rattle.std.specs.List.{AllByRecursion};
 ghost use Rattle.abs_mem.specs.WireMeaning.{wire_seen};
 ghost use Rattle.ps_store.specs.Store.{closed_part};
 ghost use Rattle.table_points.specs.Named.{IsNamed};
 ghost use Rattle.table_asks.specs.Closing.{Settles};
 ghost use Rattle.session.specs.Asked.{Does, chosen_frame};
-ghost use Rattle.session.specs.Kept.{IsKept};
+ghost use Rattle.session.specs.Kept.{IsFailure, IsKept};
 ghost use Rattle.session.specs.Turned.{order_of, turned};
 ghost use Rattle.machine_state.specs.State.{Behaviour};
 ghost use Rattle.nub_wire.specs.Nub.{Host};
 ghost use Rattle.claims.specs.Side.{SideState};
-ghost use Rattle.session.specs.Meant.{IsThere, debugged, SaidOne, NotOne, IsPlain, ComesTo, Rests};
+ghost use Rattle.session.specs.Meant.{IsThere, debugged, SaidOne, NotOne, RanOne, IsBare, IsPlain, IsInquiry, ComesTo, Rests};
 ghost use Rattle.side_meaning.specs.Standing.{StandsFor};
 ghost use Rattle.side_meaning.specs.Stepping.{IsReady};
 ghost use Rattle.c_session.specs.declared.command.Command.TheVariants.{Ps};
@@ -20,7 +20,7 @@ ghost use Rattle.asking.specs.Lines.{line};
 ghost use Rattle.claims.specs.Raw.{regs_text};
 
 use crate::sides::{SideRecord, turn};
-use abs_mem::{AbsMem, MemFault, Wire};
+use abs_mem::{AbsMem, Wire};
 use asking::{breaking, choosing, clearing, listing, printing, registers, running_text};
 use c_session::Command;
 use evaluating::{coding, evaluating};
@@ -41,7 +41,7 @@ fn told<W: AbsMem + Drop>(
     ensures same { side.new ≡ record side.old { inquiry = side.new.inquiry; row = record side.old.row { breaks = side.new.row.breaks } } }
     ensures closed { IsPlain command.now → Settles (closed_part side.old.inquiry.core.store) (closed_part side.new.inquiry.core.store) }
     ensures named { IsPlain command.now → AllByRecursion (IsNamed side.new.inquiry.core.store) side.old.row.breaks.items → AllByRecursion (IsNamed side.new.inquiry.core.store) side.new.row.breaks.items }
-    ensures does { Does W.seen command.now side.old.frame side.old.row.breaks.items side.old.inquiry talk.old result side.new.row.breaks.items side.new.inquiry talk.new }
+    ensures does { Does W.seen W.leads command.now side.old.frame side.old.row.breaks.items side.old.inquiry talk.old result side.new.row.breaks.items side.new.inquiry talk.new }
 {
     let inquiry = &mut side.inquiry;
     let frame = side.frame;
@@ -75,6 +75,7 @@ pub fn asked_text<L: Link + Drop>(
 ) -> Result<Text, AskFault>
     ensures kept { IsKept side.old side.new }
     ensures which { side.new.which ≡ side.old.which }
+    ensures faults { result ≢ Err AskFault.NoMemory → L.faults talk.old.memory.below.below.below.link ≤ L.faults talk.new.memory.below.below.below.link }
     ensures meant { (b : Behaviour) (h : Host) (beside : Option Host) (a : SideState) → IsThere b L.conduct (L.world talk.old.memory.below.below.below.link) side.old h beside → IsReady (debugged side.old h) a → a.step_words ≡ []
         → ComesTo (L.faults talk.old.memory.below.below.below.link) (L.faults talk.new.memory.below.below.below.link) (λ said. SaidOne b L.conduct (L.world talk.new.memory.below.below.below.link) side.old side.new h beside (Ps text.now) a said) (NotOne b L.conduct (L.world talk.new.memory.below.below.below.link) side.old side.new h beside (Ps text.now) a) result }
 {
@@ -96,10 +97,11 @@ pub fn asked<L: Link + Drop>(
 ) -> Result<Text, AskFault>
     ensures kept { OnErr result (IsKept side.old side.new) }
     ensures which { side.new.which ≡ side.old.which }
-    ensures faults { IsPlain command.now → L.faults talk.old.memory.below.below.below.link ≤ L.faults talk.new.memory.below.below.below.link }
-    ensures wanting { (b : Behaviour) (h : Host) (beside : Option Host) → IsThere b L.conduct (L.world talk.old.memory.below.below.below.link) side.old h beside → IsPlain command.now → result ≡ Err AskFault.NoMemory
+    ensures faults { IsInquiry command.now → result ≢ Err AskFault.NoMemory → L.faults talk.old.memory.below.below.below.link ≤ L.faults talk.new.memory.below.below.below.link }
+    ensures count { IsBare command.now → L.faults talk.old.memory.below.below.below.link ≤ L.faults talk.new.memory.below.below.below.link }
+    ensures wanting { (b : Behaviour) (h : Host) (beside : Option Host) → IsThere b L.conduct (L.world talk.old.memory.below.below.below.link) side.old h beside → IsBare command.now → result ≡ Err AskFault.NoMemory
         → Rests b L.conduct (L.world talk.new.memory.below.below.below.link) side.old.which (order_of side.old.machine) beside }
-    ensures meant { (b : Behaviour) (h : Host) (beside : Option Host) (a : SideState) → IsThere b L.conduct (L.world talk.old.memory.below.below.below.link) side.old h beside → IsReady (debugged side.old h) a → a.step_words ≡ [] → IsPlain command.now
+    ensures meant { (b : Behaviour) (h : Host) (beside : Option Host) (a : SideState) → IsThere b L.conduct (L.world talk.old.memory.below.below.below.link) side.old h beside → IsReady (debugged side.old h) a → a.step_words ≡ [] → IsInquiry command.now
         → ComesTo (L.faults talk.old.memory.below.below.below.link) (L.faults talk.new.memory.below.below.below.link) (λ text. SaidOne b L.conduct (L.world talk.new.memory.below.below.below.link) side.old side.new h beside command.now a text) (NotOne b L.conduct (L.world talk.new.memory.below.below.below.link) side.old side.new h beside command.now a) result }
 {
     if let Command::Ps(text) = command {
@@ -121,26 +123,41 @@ pub fn asked<L: Link + Drop>(
     }
 }
 
-/// Why a link failed, where it is why a command isn't done.
-fn unbroken(fault: AskFault) -> Result<(), MemFault> {
+/// Whether a command ended since its link failed or memory was wanting.
+pub fn is_failure(fault: &AskFault) -> bool
+    ensures yes { result ≡ true → IsFailure fault.now }
+    ensures no { result ≡ false → IsFailure fault.now → ⊥ }
+{
     match fault {
-        AskFault::Broken(why) => Err(why),
-        _ => Ok(()),
+        AskFault::Broken(_) => true,
+        AskFault::NoMemory => true,
+        AskFault::Refused(_) => false,
+        AskFault::Raised(_) => false,
+        AskFault::Spent => false,
     }
 }
 
-/// Runs a text of PostScript on a side, and says nothing; why it ended early, where the link failed. Breakpoints and the chosen
-/// frame stay.
+/// Runs a text of PostScript on a side, and says nothing; why it isn't known how it ended, where the link failed or memory was
+/// wanting. Breakpoints and the chosen frame stay.
 pub fn ran<L: Link + Drop>(
     talk: &mut Operators<Wire<L>>,
     side: &mut SideRecord,
     text: &[u8],
-) -> Result<(), MemFault>
-    ensures { IsKept side.old side.new }
+) -> Result<(), AskFault>
+    ensures kept { IsKept side.old side.new }
+    ensures which { side.new.which ≡ side.old.which }
+    ensures failure { IfErr result (λ fault. IsFailure fault) }
+    ensures meant { (b : Behaviour) (h : Host) (beside : Option Host) (a : SideState) → IsThere b L.conduct (L.world talk.old.memory.below.below.below.link) side.old h beside → IsReady (debugged side.old h) a → a.step_words ≡ []
+        → ComesTo (L.faults talk.old.memory.below.below.below.link) (L.faults talk.new.memory.below.below.below.link) (λ u. RanOne b L.conduct (L.world talk.new.memory.below.below.below.link) side.old side.new h beside (Ps text.now) a) (λ e. ⊥) result }
 {
     match asked_text(talk, side, text) {
         Ok(_said) => Ok(()),
-        Err(fault) => unbroken(fault),
+        Err(fault) => {
+            if is_failure(&fault) {
+                return Err(fault);
+            }
+            Ok(())
+        }
     }
 }
 

@@ -1,20 +1,21 @@
 // A command that doesn't resume, on both sides.
 
-ghost use Rattle.std.specs.Prelude.{◌≡◌, ◌≢◌, ◌⊎◌, ℕ, List, Option, Some};
-ghost use Rattle.session.specs.Kept.{IsKept, IsUndone};
+ghost use Rattle.std.specs.Prelude.{◌≡◌, ◌≢◌, ◌⊎◌, ℕ, List, [], OnOk, Ok, Option, Some};
+ghost use Rattle.session.specs.Kept.{IsFailure, IsKept, IsUndone};
 ghost use Rattle.machine_state.specs.declared.layout.TheConstants.{MIPS, SPARC};
 ghost use Rattle.machine_state.specs.State.{Behaviour, order_of as machine_order};
 ghost use Rattle.nub_wire.specs.Nub.{Host};
 ghost use Rattle.resuming.specs.Standing.{Stands};
 ghost use Rattle.c_session.specs.declared.command.Command.TheVariants.{Ps};
 ghost use Rattle.session.specs.Turned.{order_of};
-ghost use Rattle.claims.specs.Side.{SessionState};
-ghost use Rattle.session.specs.Meant.{ComesTo, Hosts, AreThere, AreReadyFor, IsPlain, Rests, PutsBack, IsGivenUp, SaidAll, NotAll, sides_of};
+ghost use Rattle.claims.specs.Side.{SessionState, SideState};
+ghost use Rattle.session.specs.Meant.{ComesTo, Hosts, IsThere, AreThere, AreReadyFor, SetsBreaks, IsInquiry, RanOne, Rests, PutsBack, IsGivenUp, SaidAll, NotAll, debugged, sides_of};
+ghost use Rattle.side_meaning.specs.Stepping.{IsReady};
 ghost use Rattle.side_meaning.specs.Sessions.{SidesStand};
 ghost use Rattle.asking_meaning.specs.Meant.{joined};
 ghost use Rattle.claims.specs.Outcome.{DoneOnBoth, all_regs};
 
-use crate::asked::{asked, ran, registers_of};
+use crate::asked::{asked, is_failure, ran, registers_of};
 use crate::assigning::{assigned, store};
 use crate::sides::{SideRecord, turn};
 use abs_mem::{MemFault, Wire};
@@ -27,7 +28,8 @@ use std::alloc::Global;
 use table_asks::{AskFault, Point};
 
 /// Why a command isn't done on the first side, once a text of PostScript, which may store in the target, has run on the second
-/// side too. Over a link that failed nothing more is asked.
+/// side too. Where the link failed or memory was wanting nothing more is asked, and where that comes of the text's run on the second
+/// side, that is why.
 fn undone<L: Link + Drop>(
     talk: &mut Operators<Wire<L>>,
     second: &mut SideRecord,
@@ -35,15 +37,19 @@ fn undone<L: Link + Drop>(
     fault: AskFault,
 ) -> AskFault
     ensures kept { IsKept second.old second.new }
+    ensures which { second.new.which ≡ second.old.which }
     ensures other { ((text : List ℕ) → command.now ≢ Ps text) → (result ≡ fault) × (second.new ≡ second.old) × (talk.new ≡ talk.old) }
+    ensures failed { IsFailure fault → (result ≡ fault) × (second.new ≡ second.old) × (talk.new ≡ talk.old) }
+    ensures meant { (text : List ℕ) (b : Behaviour) (h : Host) (beside : Option Host) (a : SideState) → command.now ≡ Ps text → (IsFailure fault → ⊥) → IsThere b L.conduct (L.world talk.old.memory.below.below.below.link) second.old h beside → IsReady (debugged second.old h) a → a.step_words ≡ []
+        → ((result ≡ fault) × RanOne b L.conduct (L.world talk.new.memory.below.below.below.link) second.old second.new h beside (Ps text) a) ⊎ IsGivenUp (L.faults talk.old.memory.below.below.below.link) (L.faults talk.new.memory.below.below.below.link) result }
 {
-    if let AskFault::Broken(_) = &fault {
+    if is_failure(&fault) {
         return fault;
     }
     match command {
         Command::Ps(text) => match ran(talk, second, text.as_bytes()) {
             Ok(()) => fault,
-            Err(why) => AskFault::Broken(why),
+            Err(why) => why,
         },
         _ => fault,
     }
@@ -119,9 +125,28 @@ fn put_back<L: Link + Drop>(
     }
 }
 
+/// Puts back the words of breakpoints where a command may have changed them.
+fn put_back_for<L: Link + Drop>(
+    talk: &mut Operators<Wire<L>>,
+    side: &SideRecord,
+    command: &Command,
+    before: &[Point],
+) -> Result<(), MemFault>
+    ensures other { (SetsBreaks command.now → ⊥) → (result ≡ Ok tt) × (talk.new ≡ talk.old) }
+    ensures meant { (b : Behaviour) (h : Host) (beside : Option Host) → SetsBreaks command.now → Stands b L.conduct side.now.which (L.world talk.old.memory.below.below.below.link) h beside → order_of side.now.machine ≡ machine_order h.machine
+        → PutsBack (L.faults talk.old.memory.below.below.below.link) (L.faults talk.new.memory.below.below.below.link) (Unit {0}) result }
+{
+    match command {
+        Command::Break(_) => put_back(talk, side, before),
+        Command::Clear(_) => put_back(talk, side, before),
+        _ => Ok(()),
+    }
+}
+
 /// Why a command isn't done that was put back. Words that are put back were there, so none of them is outside.
 fn wanting(back: Result<(), MemFault>) -> AskFault
-    ensures { (f g : ℕ) → PutsBack f g (Unit {0}) back → IsGivenUp f g result }
+    ensures ok { OnOk back (result ≡ AskFault.NoMemory) }
+    ensures given_up { (f g : ℕ) → PutsBack f g (Unit {0}) back → IsGivenUp f g result }
 {
     match back {
         Ok(()) => AskFault::NoMemory,
@@ -131,20 +156,23 @@ fn wanting(back: Result<(), MemFault>) -> AskFault
     }
 }
 
-/// Why a command isn't done that the first side had done: breakpoints and the chosen frame are put back there.
+/// Why a command isn't done that the first side had done: breakpoints and the chosen frame are put back there. Words of breakpoints
+/// are put back where the command may have changed them.
 fn given_up<L: Link + Drop>(
     talk: &mut Operators<Wire<L>>,
     first: &mut SideRecord,
+    command: &Command,
     before: Vec<Point>,
     frame: u32,
 ) -> AskFault
     ensures breaks { first.new.row.breaks.items ≡ before.items }
     ensures frame { first.new.frame ≡ frame }
-    ensures meant { (b : Behaviour) (h : Host) (beside : Option Host) → Stands b L.conduct first.old.which (L.world talk.old.memory.below.below.below.link) h beside → order_of first.old.machine ≡ machine_order h.machine
+    ensures other { (SetsBreaks command.now → ⊥) → (result ≡ AskFault.NoMemory) × (talk.new ≡ talk.old) }
+    ensures meant { (b : Behaviour) (h : Host) (beside : Option Host) → SetsBreaks command.now → Stands b L.conduct first.old.which (L.world talk.old.memory.below.below.below.link) h beside → order_of first.old.machine ≡ machine_order h.machine
         → IsGivenUp (L.faults talk.old.memory.below.below.below.link) (L.faults talk.new.memory.below.below.below.link) result }
 {
     first.frame = frame;
-    let back = put_back(talk, first, before.as_slice());
+    let back = put_back_for(talk, first, command, before.as_slice());
     first.row.breaks = before;
     wanting(back)
 }
@@ -159,7 +187,7 @@ pub fn asked_both<L: Link + Drop>(
 ) -> Result<Text, AskFault>
     ensures first { IsUndone result → IsKept first.old first.new }
     ensures second { IsUndone result → IsKept second.old second.new }
-    ensures meant { (b : Behaviour) (hs : Hosts) (st : SessionState) → AreThere b L.conduct (L.world talk.old.memory.below.below.below.link) first.old (Some second.old) hs → AreReadyFor first.old (Some second.old) hs st → IsPlain command.now
+    ensures meant { (b : Behaviour) (hs : Hosts) (st : SessionState) → AreThere b L.conduct (L.world talk.old.memory.below.below.below.link) first.old (Some second.old) hs → AreReadyFor first.old (Some second.old) hs st → IsInquiry command.now
         → ComesTo (L.faults talk.old.memory.below.below.below.link) (L.faults talk.new.memory.below.below.below.link) (λ text. SaidAll b L.conduct (L.world talk.new.memory.below.below.below.link) first.new (Some second.new) st (DoneOnBoth st command.now) text) (NotAll b L.conduct (L.world talk.new.memory.below.below.below.link) first.new (Some second.new) st (DoneOnBoth st command.now)) result }
 {
     let alloc = first.inquiry.core.operands.allocator();
@@ -180,7 +208,7 @@ pub fn asked_both<L: Link + Drop>(
     };
     match fault {
         AskFault::Broken(why) => Err(AskFault::Broken(why)),
-        AskFault::NoMemory => Err(given_up(talk, first, before, frame)),
+        AskFault::NoMemory => Err(given_up(talk, first, command, before, frame)),
         AskFault::Refused(_) => Ok(text),
         AskFault::Raised(_) => Ok(text),
         AskFault::Spent => Ok(text),

@@ -17,7 +17,7 @@ ghost use Rattle.ps_store.specs.StoreState.{StoreState};
 ghost use Rattle.session.specs.Starting.{IsFirst, AreFirst, one_session, two_session};
 ghost use Rattle.nub_wire.specs.Nub.{Host};
 ghost use Rattle.claims.specs.Side.{SessionState};
-ghost use Rattle.session.specs.Meant.{IsThere, ComesTo, Settled, Hosts, AreSteady, AreThere, ResumesAll, SaidAll, NotAll, IsPlain, IsAskable, IsSaid, IsSaidIfAny, AreReadyFor, Represents, AllPrepared, AllSettled, AnswersAs, MeantAnswers, ResumesAs, IsResumable, MayAlsoRun, sides_of};
+ghost use Rattle.session.specs.Meant.{IsThere, ComesTo, Settled, Hosts, AreSteady, AreThere, ResumesAll, SaidAll, NotAll, IsInquiry, IsAskable, IsSaid, IsSaidIfAny, AreReadyFor, Represents, AllPrepared, AllSettled, AnswersAs, MeantAnswers, ResumesAs, IsResumable, MayAlsoRun, sides_of};
 ghost use Rattle.side_meaning.specs.Sessions.{SidesStand, IsStill};
 ghost use Rattle.debug_side.specs.Told.{MayRun};
 ghost use Rattle.debug_side.specs.Planting.{mem_fault};
@@ -359,7 +359,7 @@ impl<L: Link + Drop> Session<L> {
         ensures mode { self.new.mode ≡ self.old.mode }
         ensures limit { self.new.limit ≡ self.old.limit }
         ensures kept { IsUndone result → IsKept self.old.first self.new.first × AreKept self.old.second self.new.second }
-        ensures meant { (b : Behaviour) (hs : Hosts) (st : SessionState) → AreThere b L.conduct (L.world self.old.talk.memory.below.below.below.link) self.old.first self.old.second hs → AreReadyFor self.old.first self.old.second hs st → IsPlain command.now
+        ensures meant { (b : Behaviour) (hs : Hosts) (st : SessionState) → AreThere b L.conduct (L.world self.old.talk.memory.below.below.below.link) self.old.first self.old.second hs → AreReadyFor self.old.first self.old.second hs st → IsInquiry command.now
             → ComesTo (L.faults self.old.talk.memory.below.below.below.link) (L.faults self.new.talk.memory.below.below.below.link) (λ text. SaidAll b L.conduct (L.world self.new.talk.memory.below.below.below.link) self.new.first self.new.second st (DoneOnBoth st command.now) text) (NotAll b L.conduct (L.world self.new.talk.memory.below.below.below.link) self.new.first self.new.second st (DoneOnBoth st command.now)) result }
         ensures raw { self.new.raw ≡ self.old.raw }
         ensures broken { self.new.broken ≡ self.old.broken }

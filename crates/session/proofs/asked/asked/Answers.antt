@@ -1,12 +1,16 @@
-use Rattle.std.proofs.Common.{◌≡◌, subst, Ok, Err, refl}
+use Rattle.std.proofs.Common.{◌≡◌, ◌∙◌, ap, subst, sym, Ok, Err, refl}
+use Rattle.abs_mem.specs.WireMeaning.{WireLeads}
+use Rattle.c_session.specs.declared.command.Command.{Command}
+use Rattle.c_session.specs.declared.command.Command.TheVariants.{Ps}
 use Rattle.table_asks.specs.declared.fault.AskFault.TheVariants.{NoMemory}
-use Rattle.session.specs.Meant.{IsPlain}
-use Rattle.session.proofs.Asking.{undone_meant, done_meant, count_of, rests_wanting}
+use Rattle.session.specs.Meant.{IsBare, SaidOne, NotOne, ComesTo}
+use Rattle.session.proofs.Asking.{undone_meant, done_meant, count_of, count_unless, rests_wanting, plain_of}
 use Rattle.session.proofs.asked.asked.Goals as goal
 
 pub returns-in-Err-said-clause-meant : goal.returns-in-Err-said-clause-meant
-returns-in-Err-said-clause-meant g c = λ b h beside a there ready none plain.
-    undone_meant g.L.Link.conduct g.L.Link.world g.L.Link.faults b c.args.side.now c.args.talk.now c.args.command.now plain (Err c.in-Err-said.fault) c.begin_command.new.inquiry c.end_command.new.inquiry c.told-said.new.side c.told-said.new.talk h beside a there ready none
+returns-in-Err-said-clause-meant g c = λ b h beside a there ready none inquiry.
+    let plain = plain_of c.args.command.now inquiry (λ text. c.in_default.not-Ps text) in
+    undone_meant g.L.Link.conduct g.L.Link.world g.L.Link.faults (λ m o n. WireLeads g.L.Link.took g.L.Link.gave m.link m.side o n.link n.side) b c.args.side.now c.args.talk.now c.args.command.now plain (Err c.in-Err-said.fault) c.begin_command.new.inquiry c.end_command.new.inquiry c.told-said.new.side c.told-said.new.talk h beside a there ready none
     (record {
       talk = c.turn.new.talk;
       mark = c.in-Ok.mark;
@@ -24,8 +28,9 @@ returns-in-Err-said-clause-meant g c = λ b h beside a there ready none plain.
     c.in-Err-said.fault refl
 
 pub returns-in-Ok-said-clause-meant : goal.returns-in-Ok-said-clause-meant
-returns-in-Ok-said-clause-meant g c = λ b h beside a there ready none plain.
-    done_meant g.L.Link.conduct g.L.Link.world g.L.Link.faults b c.args.side.now c.args.talk.now c.args.command.now plain (Ok c.in-Ok-said.text) c.begin_command.new.inquiry c.end_command.new.inquiry c.told-said.new.side c.told-said.new.talk h beside a there ready none
+returns-in-Ok-said-clause-meant g c = λ b h beside a there ready none inquiry.
+    let plain = plain_of c.args.command.now inquiry (λ text. c.in_default.not-Ps text) in
+    done_meant g.L.Link.conduct g.L.Link.world g.L.Link.faults (λ m o n. WireLeads g.L.Link.took g.L.Link.gave m.link m.side o n.link n.side) b c.args.side.now c.args.talk.now c.args.command.now plain (Ok c.in-Ok-said.text) c.begin_command.new.inquiry c.end_command.new.inquiry c.told-said.new.side c.told-said.new.talk h beside a there ready none
     (record {
       talk = c.turn.new.talk;
       mark = c.in-Ok.mark;
@@ -43,26 +48,42 @@ returns-in-Ok-said-clause-meant g c = λ b h beside a there ready none plain.
     c.in-Ok-said.text refl c.chosen-side.result c.chosen-side.ensures
 
 pub returns-in-Err-said-clause-faults : goal.returns-in-Err-said-clause-faults
-returns-in-Err-said-clause-faults g c = λ plain.
-    count_of g.L.Link.conduct g.L.Link.world g.L.Link.faults c.args.side.now c.args.talk.now c.turn.new.talk c.told-said.new.talk c.args.command.now (Err c.in-Err-said.fault) c.args.side.now.frame c.args.side.now.row.breaks.items
-    c.told-said.new.side.row.breaks.items c.begin_command.new.inquiry c.told-said.new.side.inquiry c.turn.ensures plain c.in-Err-said.ensures.does
+returns-in-Err-said-clause-faults g c = λ inquiry some.
+    count_unless g.L.Link.conduct g.L.Link.world g.L.Link.faults (λ m o n. WireLeads g.L.Link.took g.L.Link.gave m.link m.side o n.link n.side) c.args.side.now c.args.talk.now c.turn.new.talk c.told-said.new.talk c.args.command.now (Err c.in-Err-said.fault) c.args.side.now.frame c.args.side.now.row.breaks.items
+    c.told-said.new.side.row.breaks.items c.begin_command.new.inquiry c.told-said.new.side.inquiry c.turn.ensures c.in-Err-said.ensures.does (plain_of c.args.command.now inquiry (λ text. c.in_default.not-Ps text)) some
 
 pub returns-in-Ok-said-clause-faults : goal.returns-in-Ok-said-clause-faults
-returns-in-Ok-said-clause-faults g c = λ plain.
-    count_of g.L.Link.conduct g.L.Link.world g.L.Link.faults c.args.side.now c.args.talk.now c.turn.new.talk c.told-said.new.talk c.args.command.now (Ok c.in-Ok-said.text) c.args.side.now.frame c.args.side.now.row.breaks.items
-    c.told-said.new.side.row.breaks.items c.begin_command.new.inquiry c.told-said.new.side.inquiry c.turn.ensures plain c.in-Ok-said.ensures.does
+returns-in-Ok-said-clause-faults g c = λ inquiry some.
+    count_unless g.L.Link.conduct g.L.Link.world g.L.Link.faults (λ m o n. WireLeads g.L.Link.took g.L.Link.gave m.link m.side o n.link n.side) c.args.side.now c.args.talk.now c.turn.new.talk c.told-said.new.talk c.args.command.now (Ok c.in-Ok-said.text) c.args.side.now.frame c.args.side.now.row.breaks.items
+    c.told-said.new.side.row.breaks.items c.begin_command.new.inquiry c.told-said.new.side.inquiry c.turn.ensures c.in-Ok-said.ensures.does (plain_of c.args.command.now inquiry (λ text. c.in_default.not-Ps text)) (λ e. cc)
+
+pub returns-in-Err-said-clause-count : goal.returns-in-Err-said-clause-count
+returns-in-Err-said-clause-count g c = λ bare.
+    count_of g.L.Link.conduct g.L.Link.world g.L.Link.faults (λ m o n. WireLeads g.L.Link.took g.L.Link.gave m.link m.side o n.link n.side) c.args.side.now c.args.talk.now c.turn.new.talk c.told-said.new.talk c.args.command.now (Err c.in-Err-said.fault) c.args.side.now.frame c.args.side.now.row.breaks.items
+    c.told-said.new.side.row.breaks.items c.begin_command.new.inquiry c.told-said.new.side.inquiry c.turn.ensures c.in-Err-said.ensures.does bare
+
+pub returns-in-Ok-said-clause-count : goal.returns-in-Ok-said-clause-count
+returns-in-Ok-said-clause-count g c = λ bare.
+    count_of g.L.Link.conduct g.L.Link.world g.L.Link.faults (λ m o n. WireLeads g.L.Link.took g.L.Link.gave m.link m.side o n.link n.side) c.args.side.now c.args.talk.now c.turn.new.talk c.told-said.new.talk c.args.command.now (Ok c.in-Ok-said.text) c.args.side.now.frame c.args.side.now.row.breaks.items
+    c.told-said.new.side.row.breaks.items c.begin_command.new.inquiry c.told-said.new.side.inquiry c.turn.ensures c.in-Ok-said.ensures.does bare
 
 pub returns-in-Err-said-clause-wanting : goal.returns-in-Err-said-clause-wanting
-returns-in-Err-said-clause-wanting g c = λ b h beside x plain e.
+returns-in-Err-said-clause-wanting g c = λ b h beside x bare e.
     let is : c.in-Err-said.fault ≡ NoMemory = cc in
-    rests_wanting g.L.Link.conduct g.L.Link.world g.L.Link.faults b c.args.side.now c.args.talk.now c.turn.new.talk c.told-said.new.talk c.args.command.now c.args.side.now.frame c.args.side.now.row.breaks.items c.told-said.new.side.row.breaks.items
-    c.begin_command.new.inquiry c.told-said.new.side.inquiry h beside c.in-Err-said.fault c.turn.ensures is plain c.in-Err-said.ensures.does x
+    rests_wanting g.L.Link.conduct g.L.Link.world g.L.Link.faults (λ m o n. WireLeads g.L.Link.took g.L.Link.gave m.link m.side o n.link n.side) b c.args.side.now c.args.talk.now c.turn.new.talk c.told-said.new.talk c.args.command.now c.args.side.now.frame c.args.side.now.row.breaks.items c.told-said.new.side.row.breaks.items
+    c.begin_command.new.inquiry c.told-said.new.side.inquiry h beside c.in-Err-said.fault c.turn.ensures is bare c.in-Err-said.ensures.does x
 
 pub returns-in-Ps-clause-faults : goal.returns-in-Ps-clause-faults
-returns-in-Ps-clause-faults g c = λ plain. absurd (subst IsPlain c.in-Ps.is plain)
+returns-in-Ps-clause-faults g c = λ inquiry some. c.asked_text.ensures.faults some
+
+pub returns-in-Ps-clause-count : goal.returns-in-Ps-clause-count
+returns-in-Ps-clause-count g c = λ bare. absurd (subst IsBare c.in-Ps.is bare)
 
 pub returns-in-Ps-clause-wanting : goal.returns-in-Ps-clause-wanting
-returns-in-Ps-clause-wanting g c = λ b h beside x plain e. absurd (subst IsPlain c.in-Ps.is plain)
+returns-in-Ps-clause-wanting g c = λ b h beside x bare e. absurd (subst IsBare c.in-Ps.is bare)
 
 pub returns-in-Ps-clause-meant : goal.returns-in-Ps-clause-meant
-returns-in-Ps-clause-meant g c = λ b h beside a there ready none plain. absurd (subst IsPlain c.in-Ps.is plain)
+returns-in-Ps-clause-meant g c = λ b h beside a there ready none inquiry.
+    let o = g.L.Link.world c.asked_text.new.talk.memory.below.below.below.link in
+    subst (λ (now : Command). ComesTo (g.L.Link.faults c.args.talk.now.memory.below.below.below.link) (g.L.Link.faults c.asked_text.new.talk.memory.below.below.below.link) (λ text. SaidOne b g.L.Link.conduct o c.args.side.now c.asked_text.new.side h beside now a text)
+    (NotOne b g.L.Link.conduct o c.args.side.now c.asked_text.new.side h beside now a) c.asked_text.result) (sym (c.in-Ps.is ∙ ap Ps (sym c.as_bytes.ensures))) (c.asked_text.ensures.meant b h beside a there ready none)

@@ -2,58 +2,61 @@ use Rattle.std.proofs.Common.{ap, sym, subst, Some, Ok, Err, arith}
 use Rattle.claims.specs.Outcome.{DoneOnBoth}
 use Rattle.session.specs.Meant.{SaidAll, NotAll}
 use Rattle.table_asks.specs.declared.fault.AskFault.{AskFault}
-use Rattle.session.proofs.AskingBoth.{IsAnswer, plain_no_text, left_undone, second_told, second_failed, second_wants}
+use Rattle.session.proofs.AskingBoth.{IsAnswer, unwanted, sets_bare, undone_both, second_told, second_failed, second_wanted}
 use Rattle.session.proofs.both.asked_both.Goals as goal
 
 pub returns-in-Err-said-clause-meant : goal.returns-in-Err-said-clause-meant
-returns-in-Err-said-clause-meant g c = λ b hs st there ready plain.
-    let apart = plain_no_text c.args.command.now plain in
-    let left = c.undone.ensures.other apart in
+returns-in-Err-said-clause-meant g c = λ b hs st there ready inquiry.
     let wire = c.asked-said.new.talk.memory.below.below.below in
-    left_undone b g.L.Link.conduct (g.L.Link.world c.args.talk.now.memory.below.below.below.link) (g.L.Link.world wire.link) c.args.first.now c.asked-said.new.side c.args.second.now c.asked-said.ensures.which c.args.command.now plain hs st
-    (g.L.Link.faults c.args.talk.now.memory.below.below.below.link) (g.L.Link.faults wire.link) (g.L.Link.faults c.undone.new.talk.memory.below.below.below.link) (g.L.Link.world c.undone.new.talk.memory.below.below.below.link) c.undone.new.second c.in-Err-said.fault c.undone.result
-    there ready (c.in-Err-said.ensures.meant b) apart left.0 left.1 (ap (λ o. g.L.Link.world o.memory.below.below.below.link) left.2) (ap (λ o. g.L.Link.faults o.memory.below.below.below.link) left.2)
+    let new = c.undone.new.talk.memory.below.below.below in
+    undone_both b g.L.Link.conduct (g.L.Link.world c.args.talk.now.memory.below.below.below.link) (g.L.Link.world wire.link) c.args.first.now c.asked-said.new.side c.args.second.now c.asked-said.ensures.which c.args.command.now inquiry hs st
+    (g.L.Link.faults c.args.talk.now.memory.below.below.below.link) (g.L.Link.faults wire.link) (g.L.Link.faults new.link) (g.L.Link.world new.link) c.undone.new.second c.in-Err-said.fault c.undone.result there ready (c.in-Err-said.ensures.meant b)
+    (λ n. c.in-Err-said.ensures.faults inquiry (λ e. n (unwanted c.in-Err-said.fault e))) c.undone.ensures.which
+    (λ apart. let w = c.undone.ensures.other apart in (w.0, w.1, ap (λ o. g.L.Link.world o.memory.below.below.below.link) w.2, ap (λ o. g.L.Link.faults o.memory.below.below.below.link) w.2))
+    (λ is. let w = c.undone.ensures.failed is in (w.0, ap (λ o. g.L.Link.faults o.memory.below.below.below.link) w.2))
+    (λ text h beside a is n x steady none. c.undone.ensures.meant text b h beside a is n x steady none)
 
 pub returns-in-Ok-more-clause-meant : goal.returns-in-Ok-more-clause-meant
-returns-in-Ok-more-clause-meant g c = λ b hs st there ready plain.
-    second_told b g.L.Link.conduct (g.L.Link.world c.args.talk.now.memory.below.below.below.link) (g.L.Link.world c.asked-said.new.talk.memory.below.below.below.link) c.args.first.now c.asked-said.new.side c.args.second.now c.asked-said.ensures.which c.args.command.now plain
+returns-in-Ok-more-clause-meant g c = λ b hs st there ready inquiry.
+    second_told b g.L.Link.conduct (g.L.Link.world c.args.talk.now.memory.below.below.below.link) (g.L.Link.world c.asked-said.new.talk.memory.below.below.below.link) c.args.first.now c.asked-said.new.side c.args.second.now c.asked-said.ensures.which c.args.command.now inquiry
     hs st there ready (g.L.Link.faults c.args.talk.now.memory.below.below.below.link) (g.L.Link.faults c.asked-said.new.talk.memory.below.below.below.link) c.in-Ok-said.text (c.in-Ok-said.ensures.meant b)
     (g.L.Link.world c.asked-more.new.talk.memory.below.below.below.link) (g.L.Link.faults c.asked-more.new.talk.memory.below.below.below.link) c.asked-more.new.side (Ok c.in-Ok-more.field-0) c.asked-more.ensures.which tt (c.in-Ok-more.ensures.meant b)
 
 pub returns-in-Refused-clause-meant : goal.returns-in-Refused-clause-meant
-returns-in-Refused-clause-meant g c = λ b hs st there ready plain.
-    second_told b g.L.Link.conduct (g.L.Link.world c.args.talk.now.memory.below.below.below.link) (g.L.Link.world c.asked-said.new.talk.memory.below.below.below.link) c.args.first.now c.asked-said.new.side c.args.second.now c.asked-said.ensures.which c.args.command.now plain
+returns-in-Refused-clause-meant g c = λ b hs st there ready inquiry.
+    second_told b g.L.Link.conduct (g.L.Link.world c.args.talk.now.memory.below.below.below.link) (g.L.Link.world c.asked-said.new.talk.memory.below.below.below.link) c.args.first.now c.asked-said.new.side c.args.second.now c.asked-said.ensures.which c.args.command.now inquiry
     hs st there ready (g.L.Link.faults c.args.talk.now.memory.below.below.below.link) (g.L.Link.faults c.asked-said.new.talk.memory.below.below.below.link) c.in-Ok-said.text (c.in-Ok-said.ensures.meant b)
     (g.L.Link.world c.asked-more.new.talk.memory.below.below.below.link) (g.L.Link.faults c.asked-more.new.talk.memory.below.below.below.link) c.asked-more.new.side (Err c.in-Err-more.fault) c.asked-more.ensures.which
     (subst (λ (y : AskFault). IsAnswer (Err y)) (sym c.in-Refused.is) tt) (c.in-Err-more.ensures.meant b)
 
 pub returns-in-Raised-clause-meant : goal.returns-in-Raised-clause-meant
-returns-in-Raised-clause-meant g c = λ b hs st there ready plain.
-    second_told b g.L.Link.conduct (g.L.Link.world c.args.talk.now.memory.below.below.below.link) (g.L.Link.world c.asked-said.new.talk.memory.below.below.below.link) c.args.first.now c.asked-said.new.side c.args.second.now c.asked-said.ensures.which c.args.command.now plain
+returns-in-Raised-clause-meant g c = λ b hs st there ready inquiry.
+    second_told b g.L.Link.conduct (g.L.Link.world c.args.talk.now.memory.below.below.below.link) (g.L.Link.world c.asked-said.new.talk.memory.below.below.below.link) c.args.first.now c.asked-said.new.side c.args.second.now c.asked-said.ensures.which c.args.command.now inquiry
     hs st there ready (g.L.Link.faults c.args.talk.now.memory.below.below.below.link) (g.L.Link.faults c.asked-said.new.talk.memory.below.below.below.link) c.in-Ok-said.text (c.in-Ok-said.ensures.meant b)
     (g.L.Link.world c.asked-more.new.talk.memory.below.below.below.link) (g.L.Link.faults c.asked-more.new.talk.memory.below.below.below.link) c.asked-more.new.side (Err c.in-Err-more.fault) c.asked-more.ensures.which
     (subst (λ (y : AskFault). IsAnswer (Err y)) (sym c.in-Raised.is) tt) (c.in-Err-more.ensures.meant b)
 
 pub returns-in-Spent-clause-meant : goal.returns-in-Spent-clause-meant
-returns-in-Spent-clause-meant g c = λ b hs st there ready plain.
-    second_told b g.L.Link.conduct (g.L.Link.world c.args.talk.now.memory.below.below.below.link) (g.L.Link.world c.asked-said.new.talk.memory.below.below.below.link) c.args.first.now c.asked-said.new.side c.args.second.now c.asked-said.ensures.which c.args.command.now plain
+returns-in-Spent-clause-meant g c = λ b hs st there ready inquiry.
+    second_told b g.L.Link.conduct (g.L.Link.world c.args.talk.now.memory.below.below.below.link) (g.L.Link.world c.asked-said.new.talk.memory.below.below.below.link) c.args.first.now c.asked-said.new.side c.args.second.now c.asked-said.ensures.which c.args.command.now inquiry
     hs st there ready (g.L.Link.faults c.args.talk.now.memory.below.below.below.link) (g.L.Link.faults c.asked-said.new.talk.memory.below.below.below.link) c.in-Ok-said.text (c.in-Ok-said.ensures.meant b)
     (g.L.Link.world c.asked-more.new.talk.memory.below.below.below.link) (g.L.Link.faults c.asked-more.new.talk.memory.below.below.below.link) c.asked-more.new.side (Err c.in-Err-more.fault) c.asked-more.ensures.which
     (subst (λ (y : AskFault). IsAnswer (Err y)) (sym c.in-Spent.is) tt) (c.in-Err-more.ensures.meant b)
 
 pub returns-in-Broken-clause-meant : goal.returns-in-Broken-clause-meant
-returns-in-Broken-clause-meant g c = λ b hs st there ready plain.
-    second_failed b g.L.Link.conduct (g.L.Link.world c.args.talk.now.memory.below.below.below.link) (g.L.Link.world c.asked-said.new.talk.memory.below.below.below.link) c.args.first.now c.asked-said.new.side c.args.second.now c.asked-said.ensures.which c.args.command.now plain
+returns-in-Broken-clause-meant g c = λ b hs st there ready inquiry.
+    second_failed b g.L.Link.conduct (g.L.Link.world c.args.talk.now.memory.below.below.below.link) (g.L.Link.world c.asked-said.new.talk.memory.below.below.below.link) c.args.first.now c.asked-said.new.side c.args.second.now c.asked-said.ensures.which c.args.command.now inquiry
     hs st there ready (g.L.Link.faults c.args.talk.now.memory.below.below.below.link) (g.L.Link.faults c.asked-said.new.talk.memory.below.below.below.link) c.in-Ok-said.text (c.in-Ok-said.ensures.meant b)
     (g.L.Link.world c.asked-more.new.talk.memory.below.below.below.link) (g.L.Link.faults c.asked-more.new.talk.memory.below.below.below.link) c.asked-more.new.side c.in-Err-more.fault c.in-Broken.why
     (λ text. SaidAll b g.L.Link.conduct (g.L.Link.world c.asked-more.new.talk.memory.below.below.below.link) c.asked-said.new.side (Some c.asked-more.new.side) st (DoneOnBoth st c.args.command.now) text)
-    (NotAll b g.L.Link.conduct (g.L.Link.world c.asked-more.new.talk.memory.below.below.below.link) c.asked-said.new.side (Some c.asked-more.new.side) st (DoneOnBoth st c.args.command.now)) c.in-Broken.is (c.asked-said.ensures.faults plain) (c.in-Err-more.ensures.meant b)
+    (NotAll b g.L.Link.conduct (g.L.Link.world c.asked-more.new.talk.memory.below.below.below.link) c.asked-said.new.side (Some c.asked-more.new.side) st (DoneOnBoth st c.args.command.now)) c.in-Broken.is (c.in-Ok-said.ensures.faults inquiry (λ e. cc)) (c.in-Err-more.ensures.meant b)
 
 pub returns-in-NoMemory-clause-meant : goal.returns-in-NoMemory-clause-meant
-returns-in-NoMemory-clause-meant g c = λ b hs st there ready plain.
-    second_wants b g.L.Link.conduct (g.L.Link.world c.args.talk.now.memory.below.below.below.link) (g.L.Link.world c.asked-said.new.talk.memory.below.below.below.link) c.args.first.now c.asked-said.new.side c.args.second.now c.asked-said.ensures.which c.args.command.now plain
+returns-in-NoMemory-clause-meant g c = λ b hs st there ready inquiry.
+    second_wanted b g.L.Link.conduct (g.L.Link.world c.args.talk.now.memory.below.below.below.link) (g.L.Link.world c.asked-said.new.talk.memory.below.below.below.link) c.args.first.now c.asked-said.new.side c.args.second.now c.asked-said.ensures.which c.args.command.now inquiry
     hs st there ready (g.L.Link.faults c.args.talk.now.memory.below.below.below.link) (g.L.Link.faults c.asked-said.new.talk.memory.below.below.below.link) c.in-Ok-said.text (c.in-Ok-said.ensures.meant b)
     (g.L.Link.world c.asked-more.new.talk.memory.below.below.below.link) (g.L.Link.faults c.asked-more.new.talk.memory.below.below.below.link) (g.L.Link.faults c.given_up.new.talk.memory.below.below.below.link) c.given_up.result
     (λ text. SaidAll b g.L.Link.conduct (g.L.Link.world c.given_up.new.talk.memory.below.below.below.link) c.given_up.new.first (Some c.asked-more.new.side) st (DoneOnBoth st c.args.command.now) text)
     (NotAll b g.L.Link.conduct (g.L.Link.world c.given_up.new.talk.memory.below.below.below.link) c.given_up.new.first (Some c.asked-more.new.side) st (DoneOnBoth st c.args.command.now))
-    (omega (arith, c.asked-said.ensures.faults plain, c.asked-more.ensures.faults plain)) (λ h beside x. c.in-Err-more.ensures.wanting b h beside x plain (ap (λ y. Err y) c.in-NoMemory.is)) (λ h beside x same. c.given_up.ensures.meant b h beside x same)
+    (λ sets. omega (arith, c.asked-said.ensures.count (sets_bare c.args.command.now sets), c.asked-more.ensures.count (sets_bare c.args.command.now sets)))
+    (λ h beside x sets. c.in-Err-more.ensures.wanting b h beside x (sets_bare c.args.command.now sets) (ap (λ y. Err y) c.in-NoMemory.is)) (λ h beside sets x same. c.given_up.ensures.meant b h beside sets x same) (λ n. (c.given_up.ensures.other n).0)

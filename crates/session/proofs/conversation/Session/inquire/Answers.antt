@@ -6,8 +6,8 @@ use Rattle.c_session.specs.declared.command.Command.TheVariants as command
 use Rattle.claims.specs.Side.{SessionState}
 use Rattle.claims.specs.Outcome.{DoneOnBoth, AnswersCommand, refused_by_state}
 use Rattle.side_meaning.specs.Sessions.{SidesStand}
-use Rattle.session.specs.Meant.{Hosts, AreThere, sides_of, IsAskable, IsPlain, ComesTo, SaidAll, NotAll}
-use Rattle.session.proofs.AskingOne.{plain_answers, plain_for, asked_still, regs_by, said_since, regs_since}
+use Rattle.session.specs.Meant.{Hosts, AreThere, sides_of, ComesTo, SaidAll, NotAll}
+use Rattle.session.proofs.AskingOne.{inquiry_answers, inquiry_for, asked_still, regs_by, said_since, regs_since}
 use Rattle.session.proofs.conversation.Session.inquire.Goals as goal
 
 pub returns-in-Regs-clause-meant : goal.returns-in-Regs-clause-meant
@@ -39,14 +39,14 @@ returns-in_default g c = record {
       let mid = c.settle.new.self in
       let new = c.ask.new.self in
       let cmd = c.args.command.now in
-      let plain = plain_for cmd askable c.in_default.not-Regs in
-      let y = c.in-Ok.ensures.meant b hs st x (asked_still st.state cmd plain e) in
+      let inquiry = inquiry_for cmd askable c.in_default.not-Regs in
+      let y = c.in-Ok.ensures.meant b hs st x (asked_still st.state cmd inquiry e) in
       let f = g.L.Link.faults now.talk.memory.below.below.below.link in
       let f1 = g.L.Link.faults mid.talk.memory.below.below.below.link in
       let f2 = g.L.Link.faults new.talk.memory.below.below.below.link in
       said_since b g.L.Link.conduct (g.L.Link.world new.talk.memory.below.below.below.link) new.first new.second st f f1 f2 (DoneOnBoth st cmd) (AnswersCommand b st cmd)
-      (plain_answers b st cmd plain) c.in-Ok.ensures.faults c.ask.result
-      (c.ask.ensures.meant b y.hosts st y.there y.ready plain);
+      (inquiry_answers b st cmd inquiry) c.in-Ok.ensures.faults c.ask.result
+      (c.ask.ensures.meant b y.hosts st y.there y.ready inquiry);
   raw = search rules;
   broken = search rules;
 }
