@@ -10,9 +10,11 @@ returns-then-is_failure-clause-meant g c = λ text b h beside a is n x ready non
 
 pub returns-in-Ok-clause-meant : goal.returns-in-Ok-clause-meant
 returns-in-Ok-clause-meant g c = λ text b h beside a is n x ready none.
-    inl (refl,
-    subst (λ (d : Command). RanOne b g.L.Link.conduct (g.L.Link.world c.ran.new.talk.memory.below.below.below.link) c.args.second.now c.ran.new.side h beside d a) (sym (c.in-Ps.is ∙ ap Ps (sym c.as_bytes.ensures)) ∙ is)
-    (c.in-Ok.ensures.meant b h beside a x ready none))
+    inl (
+      refl,
+      subst (λ (d : Command). RanOne b g.L.Link.conduct (g.L.Link.world c.ran.new.talk.memory.below.below.below.link) c.args.second.now c.ran.new.side h beside d a) (sym (c.in-Ps.is ∙ ap Ps (sym c.as_bytes.ensures)) ∙ is)
+          (c.in-Ok.ensures.meant b h beside a x ready none),
+    )
 
 pub returns-in-Err-clause-meant : goal.returns-in-Err-clause-meant
 returns-in-Err-clause-meant g c = λ text b h beside a is n x ready none.
