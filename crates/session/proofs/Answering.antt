@@ -1,5 +1,5 @@
 -- What a session answers, by what the parts of a command come to.
-use Rattle.std.proofs.Common.{◌≡◌, ◌≢◌, ◌⊎◌, ◌∙◌, refl, sym, ap, subst, inl, inr, ℕ, ◌≤◌, List, [], ◌∷◌, ◌++◌, codes, decimal, Option, Some, None, Result, Ok, Err, IfOk, IfErr, append-nil, append_assoc, arith}
+use Rattle.std.proofs.Common.{◌≡◌, ◌≢◌, ◌∙◌, refl, sym, ap, subst, inl, inr, ℕ, ◌≤◌, List, [], ◌∷◌, ◌++◌, codes, decimal, Option, Some, None, Result, Ok, Err, IfOk, IfErr, append-nil, append_assoc, arith}
 use Rattle.ldb_edge.specs.Count.{Rose}
 use Rattle.ldb_edge.specs.Known.{known_and}
 use Rattle.machine_state.specs.State.{Behaviour}
@@ -30,10 +30,9 @@ use Rattle.claims.specs.Resumes.{state_after}
 use Rattle.claims.specs.Outcome as outcome
 use Rattle.claims.specs.Outcome.{refused_by_state, AnswersCommand}
 use Rattle.dialect_model.specs.TableUse.{Kind}
-use Rattle.dialect_model.specs.TableUse.{Refused as RefusedFor, Spent as StepsSpent}
+use Rattle.dialect_model.specs.TableUse.{Refused as RefusedFor}
 use Rattle.side_meaning.specs.Standing.{Debugged}
 use Rattle.side_meaning.specs.Resuming.{IsFit}
-use Rattle.side_meaning.specs.Stepping.{IsSettled, IsStepped, FindsWords}
 use Rattle.side_meaning.specs.Sessions as sides
 use Rattle.side_meaning.specs.Sessions.{BothSides, IfSecond, StandsIn, SidesStand, Prepared, PreparedIn, SecondPrepared, ArePrepared, AreResumed, AreFit, IsAnswered}
 use Rattle.side_meaning.proofs.Behind.{they_may_run}
@@ -50,7 +49,7 @@ use Rattle.session.specs.declared.answers.End.{End}
 use Rattle.session.specs.Events.{event_line}
 use Rattle.session.specs.Kept.{AnswersFault}
 use Rattle.session.specs.Resuming.{StandsStill, OnSecond, goes_on}
-use Rattle.session.specs.Meant.{debugged, kind_of, other_kind, second_of, sides_of, IsThere, IsSecond, Hosts, AreThere, AreSteady, Represents, ComesTo, AllPrepared, AllResumed, ResumesAll, MayAlsoRun, SaidAll, NotAll, Answered, AnswersAs, MeantAnswers, ResumesAs, IsSaid, IsAskable, IsResumable}
+use Rattle.session.specs.Meant.{debugged, kind_of, other_kind, second_of, sides_of, IsThere, IsSecond, Hosts, AreSteady, Represents, ComesTo, AllPrepared, AllResumed, ResumesAll, MayAlsoRun, SaidAll, NotAll, Answered, AnswersAs, MeantAnswers, ResumesAs, IsSaid, IsAskable, IsResumable}
 
 -- ---- replies
 

@@ -1,5 +1,5 @@
 -- A command that is asked of one side.
-use Rattle.std.proofs.Common.{◌≡◌, ◌≢◌, ◌≤◌, inl, refl, sym, subst, ℕ, List, [], Option, Some, None, is_some, Result, Ok, Err}
+use Rattle.std.proofs.Common.{◌≡◌, ◌≢◌, ◌≤◌, inl, refl, sym, subst, ℕ, List, [], Option, Some, None, Result, Ok, Err}
 use Rattle.machine_state.specs.State.{Behaviour}
 use Rattle.nub_wire.specs.declared.link.Side.TheVariants.{First}
 use Rattle.nub_wire.specs.Nub.{Host}
@@ -16,7 +16,7 @@ use Rattle.asking_meaning.specs.Meant.{joined}
 use Rattle.c_session.specs.Commands.{Refusal}
 use Rattle.claims.specs.Side.{SideState, SessionState, State, Fresh, Stopped, Running, Ended, Change, Troubled}
 use Rattle.claims.specs.Lines.{Reply, trouble_reply}
-use Rattle.claims.specs.Outcome.{DoneOnBoth, FirstDone, FirstCame, SecondUndone, AnswersCommand, refused_by_state, all_regs}
+use Rattle.claims.specs.Outcome.{DoneOnBoth, FirstDone, SecondUndone, AnswersCommand, refused_by_state, all_regs}
 use Rattle.side_meaning.specs.Sessions.{OnSecond, StandsIn, SidesStand, SecondAsked, IsStill}
 use Rattle.side_meaning.specs.Stepping.{IsReady}
 use Rattle.side_meaning.proofs.Starting.{asks_stand, no_words}

@@ -1,21 +1,18 @@
 -- `ps` on a side, from its begin to its end, and what it is to the machine session.
-use Rattle.std.proofs.Common.{◌≡◌, ◌≢◌, ◌≤◌, ◌∙◌, refl, sym, ap, subst, ℕ, true, List, [], ◌∷◌, map, Option, Some, None, Result, Ok, Err}
-use Rattle.std.specs.List.{AllByRecursion}
-use Rattle.ldb_edge.specs.Count.{Rose}
+use Rattle.std.proofs.Common.{◌≡◌, ◌≢◌, ◌≤◌, ◌∙◌, refl, sym, ap, subst, ℕ, true, List, [], map, Option, Some, None, Result, Ok, Err}
 use Rattle.ldb_words.specs.declared.kinds.Order.{Order}
 use Rattle.machine_state.specs.declared.layout.TheConstants.{CONTEXT}
 use Rattle.machine_state.specs.Regions.{Regions}
 use Rattle.machine_state.specs.State.{MachineState, Behaviour, order_of as machine_order}
 use Rattle.nub_wire.specs.declared.link.Side.{Side}
-use Rattle.nub_wire.specs.Fits.{Reached, TellsFitting}
+use Rattle.nub_wire.specs.Fits.{TellsFitting}
 use Rattle.nub_wire.specs.Nub.{NubState, Host, host}
 use Rattle.nub_wire.specs.Delivery.{Conduct, World, side_of}
 use Rattle.nub_wire.specs.Rest.{other}
 use Rattle.frame_bytes.specs.Bytes.{Bytes, no_places}
 use Rattle.abs_mem.specs.declared.wire.Wire.{Wire}
 use Rattle.abs_mem.specs.declared.memory.MemFault.TheVariants.{Outside, LinkFault, BadReply}
-use Rattle.abs_mem.specs.Meaning.{Seen}
-use Rattle.abs_mem.specs.WireMeaning.{WireRest, IsBeside, memory_of, rest_of, WireTells}
+use Rattle.abs_mem.specs.WireMeaning.{WireRest, IsBeside, rest_of, WireTells}
 use Rattle.resuming.specs.Standing.{Stands}
 use Rattle.ps_store.specs.declared.object.Part.{Part}
 use Rattle.ps_store.specs.declared.object.Part.TheVariants.{Command as CommandPart}
@@ -32,8 +29,8 @@ use Rattle.table_model.specs.Frames.{row_of_target}
 use Rattle.table_points.specs.Rows.{row_in}
 use Rattle.debug_side.specs.Told.{with_regions}
 use Rattle.debug_side.proofs.Told.{reached_from}
-use Rattle.dialect_model.specs.Dial.{Dial, Target, Numbered}
-use Rattle.dialect_model.specs.Running.{Run, beginning}
+use Rattle.dialect_model.specs.Dial.{Dial, Numbered}
+use Rattle.dialect_model.specs.Running.{Run}
 use Rattle.dialect_model.specs.TableUse.{TableUse, use_of, Trouble, Kind, onward}
 use Rattle.dialect_model.specs.TableUse.{Refused as RefusedFor, Spent as StepsSpent}
 use Rattle.c_session.specs.declared.command.Command.TheVariants as command
@@ -52,8 +49,7 @@ use Rattle.asking.specs.Doing.{talk_in}
 use Rattle.asking.specs.Raw as asked_raw
 use Rattle.asking.specs.Raw.{PsOver}
 use Rattle.asking.specs.Refusals.{refusal_of}
-use Rattle.asking_meaning.specs.Meant.{Matches, Says, trouble_in, Begun, IsEnded, PsMeant, with_bytes_of}
-use Rattle.asking_meaning.specs.Meant.{Stands as StandsBetween}
+use Rattle.asking_meaning.specs.Meant.{Matches, Says, trouble_in, PsMeant, with_bytes_of}
 use Rattle.asking_meaning.proofs.Texts.{ps_meant}
 use Rattle.claims.specs.Side.{SideState, Change, Troubled, with_table_of}
 use Rattle.claims.specs.Side.{dial_of as side_dial}

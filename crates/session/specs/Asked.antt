@@ -20,7 +20,7 @@ module _ {W R : Type 0} (seen : W → Seen R) (leads : W → Option (List ℕ) �
   abbrev pub target : Operators W → Seen R
   target o = seen o.memory.below.below.below
 
-  -- The command's own part, from its begin to its end, in the frame with a number and with these breakpoints; `print` says of its calls where they led. (Of expressions nothing is said, and a text of PostScript is run by itself.)
+  -- The command's own part, from its begin to its end, in the frame with a number and with these breakpoints; of `print` it is also said where its calls led. (Of expressions nothing is said, and a text of PostScript is run by itself.)
   abbrev pub Does : Command → (frame : ℕ) → List Point → Inquiry → Operators W → Result (List ℕ) AskFault → List Point → Inquiry → Operators W → Type 0
   Does (command.Break spot) frame ps i o r ps' i' o' = ChangesOver (λ b. breaking o.view.target (rows_in i'.core.store ps) b spot) i (target o) r (rows_in i'.core.store ps') i' (target o')
   Does (command.Clear spot) frame ps i o r ps' i' o' = ChangesOver (λ b. clearing o.view.target (rows_in i'.core.store ps) b spot) i (target o) r (rows_in i'.core.store ps') i' (target o')

@@ -130,7 +130,7 @@ PutsBack faults faults' Done (Err LinkFault) = Rose faults faults'
 PutsBack faults faults' Done (Err (BadReply frame)) = ⊥
 PutsBack faults faults' Done (Err (Outside p)) = Unit {0}
 
--- why a command isn't done on either side that the second one has no memory for
+-- why a command isn't done on either side once the second one was asked: memory was wanting there, or the link failed
 abbrev pub IsGivenUp : (faults faults' : ℕ) → AskFault → Type 0
 IsGivenUp faults faults' NoMemory = Unit {0}
 IsGivenUp faults faults' (Broken LinkFault) = Rose faults faults'

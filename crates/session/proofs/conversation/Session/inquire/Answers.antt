@@ -1,6 +1,5 @@
-use Rattle.std.proofs.Common.{rules, ◌≡◌, refl, sym, ap, subst, List, None}
+use Rattle.std.proofs.Common.{rules, ◌≡◌, sym, subst, None}
 use Rattle.machine_state.specs.State.{Behaviour}
-use Rattle.nub_wire.specs.Nub.{Host}
 use Rattle.c_session.specs.declared.command.Command.{Command}
 use Rattle.c_session.specs.declared.command.Command.TheVariants as command
 use Rattle.claims.specs.Side.{SessionState}
