@@ -17,7 +17,7 @@ returns-in-Err-clause-comes g c =
     let n = names_in_debug c.args.request.now in
     told_comes Debug n (outside (g.F.Files.held c.args.files.now) (g.C.Source.left c.args.commands.now) (g.S.Sink.taken c.args.transcript.now))
     (outside (g.F.Files.held c.open_debug.new.files) (g.C.Source.left c.args.commands.now) (g.S.Sink.taken c.tell.new.transcript)) c.in-Err.stop c.tell.result c.tell.ensures.outcome c.in-Err.ensures.opens
-    (debug_told n _ _ _ c.in-Err.stop c.in-Err.ensures.cause) c.tell.ensures.said c.in-Err.ensures.same refl
+    (debug_told n _ _ _ c.in-Err.stop c.in-Err.ensures.cause) c.tell.ensures.said c.tell.ensures.front c.in-Err.ensures.same refl
 
 pub returns-in-Ok-clause-comes : goal.returns-in-Ok-clause-comes
 returns-in-Ok-clause-comes g c =
