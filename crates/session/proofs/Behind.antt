@@ -1,10 +1,12 @@
 -- The sides as a resume would leave them.
-use Rattle.std.proofs.Common.{◌≡◌, ◌⊎◌, ◌∙◌, refl, sym, ap, inl, inr, ℕ, Option, Some, None}
+use Rattle.std.proofs.Common.{◌≡◌, ◌⊎◌, ◌∙◌, refl, sym, ap, inl, inr, ℕ, Bool, true, false, if◌then◌else◌, [], arith, Option, Some, None}
+use Rattle.std.specs.Global.{Vec}
+use Rattle.table_points.specs.declared.row.Point.{Point}
 use Rattle.machine_state.specs.State.{Behaviour}
 use Rattle.debug_side.specs.declared.event.Event.{Event}
 use Rattle.debug_side.specs.declared.point.MachineKind.{MachineKind}
 use Rattle.debug_side.specs.declared.point.SideRow.{SideRow}
-use Rattle.debug_side.specs.Meant.{stood, words_left}
+use Rattle.debug_side.specs.Meant.{stood, keeps_words}
 use Rattle.debug_side.specs.Told.{host_behind}
 use Rattle.claims.specs.Side.{SideEvent, Stops, Pauses, Exits, Faults, OutOfTurns, OutOfStack}
 use Rattle.claims.specs.Resumes.{merged, keeps, frame_after}
@@ -15,7 +17,7 @@ use Rattle.side_meaning.specs.Sessions.{BothSides, OnSecond, second_event, AreRe
 
 -- ---- the event that a side keeps
 
-kept_or : (all e : SideEvent) → (keeps all e ≡ None) ⊎ (keeps all e ≡ Some e)
+pub kept_or : (all e : SideEvent) → (keeps all e ≡ None) ⊎ (keeps all e ≡ Some e)
 kept_or all OutOfTurns = inl refl
 kept_or OutOfTurns (Stops p) = inr refl
 kept_or OutOfTurns (Pauses pc) = inr refl
@@ -48,37 +50,47 @@ kept_or OutOfStack (Exits status) = inr refl
 kept_or OutOfStack (Faults fault pc) = inr refl
 kept_or OutOfStack OutOfStack = inr refl
 
-record Kept (s : StoreState) (all : SideEvent) (e : Event) : Type 0 where
-  kept : Option Event
-  is : events_in s kept ≡ keeps all (event_in s e)
-  own : (kept ≡ None) ⊎ (kept ≡ Some e)
+pub record Kept (s : StoreState) (all : SideEvent) (e : Event) : Type 0 where
+  pub kept : Option Event
+  pub is : events_in s kept ≡ keeps all (event_in s e)
+  pub own : (kept ≡ None) ⊎ (kept ≡ Some e)
 
-abbrev kept_so : (s : StoreState) (all : SideEvent) (e : Event) → (keeps all (event_in s e) ≡ None) ⊎ (keeps all (event_in s e) ≡ Some (event_in s e)) → Kept s all e
+abbrev pub kept_so : (s : StoreState) (all : SideEvent) (e : Event) → (keeps all (event_in s e) ≡ None) ⊎ (keeps all (event_in s e) ≡ Some (event_in s e)) → Kept s all e
 kept_so s all e (inl h) = record { kept = None; is = sym h; own = inl refl }
 kept_so s all e (inr h) = record { kept = Some e; is = sym h; own = inr refl }
 
-abbrev kept_by : (s : StoreState) (all : SideEvent) (e : Event) → Kept s all e
+abbrev pub kept_by : (s : StoreState) (all : SideEvent) (e : Event) → Kept s all e
 kept_by s all e = kept_so s all e (kept_or all (event_in s e))
+
+-- ---- the words of a step
+
+abbrev pub all_or_none : Bool → Vec Point → Vec Point
+all_or_none true v = v
+all_or_none false v = record v { items = []; len = 0; ok = (refl, omega arith) }
+
+items_left : (b : Bool) (v : Vec Point) → (all_or_none b v).items ≡ (if b then v.items else [])
+items_left true v = refl
+items_left false v = refl
 
 -- ---- one side
 
 module _ (b : Behaviour) (kind : MachineKind) (limit : ℕ) (all : SideEvent) (d : Debugged) where
-  abbrev row_behind : SideRow
+  abbrev pub row_behind : SideRow
   row_behind =
       let e : Event = event_of_it b kind limit d in
-      record d.row { step_words = record d.row.step_words { items = words_left d.row e }; stands_at = stood d.row.kept d.row.stands_at e; kept = (kept_by d.table all e).kept }
+      record d.row { step_words = all_or_none (keeps_words d.row.words_stay d.row.kept e) d.row.step_words; stands_at = stood d.row.kept d.row.stands_at e; kept = (kept_by d.table all e).kept }
 
-  abbrev side_behind : Debugged
+  abbrev pub side_behind : Debugged
   side_behind = record { table = d.table; frame = frame_after d.frame all; row = row_behind; host = host_behind b kind d.row limit d.host }
 
-  is_resumed : IsResumed b kind limit all d side_behind
+  pub is_resumed : IsResumed b kind limit all d side_behind
   is_resumed = record {
     table = refl;
     frame = refl;
     host = refl;
     breaks = refl;
     stands_at = refl;
-    words = refl;
+    words = items_left (keeps_words d.row.words_stay d.row.kept (event_of_it b kind limit d)) d.row.step_words;
     stay = refl;
     kept = (kept_by d.table all (event_of_it b kind limit d)).is;
     own = (kept_by d.table all (event_of_it b kind limit d)).own;
@@ -90,7 +102,7 @@ module _ (b : Behaviour) (kind other : MachineKind) (limit : ℕ) (s : BothSides
   abbrev pub event_of_all : SideEvent
   event_of_all = merged (event_in s.first.table (event_of_it b kind limit s.first)) (second_event b other limit s.second)
 
-  abbrev second_behind : Option Debugged → Option Debugged
+  abbrev pub second_behind : Option Debugged → Option Debugged
   second_behind None = None
   second_behind (Some d) = Some (side_behind b other limit event_of_all d)
 
