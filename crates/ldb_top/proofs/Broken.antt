@@ -2,13 +2,12 @@
 use Rattle.std.proofs.Common.{◌≡◌, ◌⊎◌, ℕ, Bool, true, false, List, [], ◌∷◌, ◌++◌, take, drop, Option, None, Some, Ok, Err, inl, inr, refl, sym, ap, ◌∙◌, subst, append_assoc, append-nil}
 use Rattle.std.proofs.lemmas.List.{take-append-drop}
 use Rattle.std.specs.declared.result.Result.{Result}
-use Rattle.std.specs.Prelude.{IfErr, OnErr}
+use Rattle.std.specs.Prelude.{OnErr}
 use Rattle.c_session.specs.declared.command.Command.{Command}
 use Rattle.c_session.specs.declared.command.Command.TheVariants.{Quit}
 use Rattle.c_session.specs.Commands.{Refusal, refusal_text}
 use Rattle.cmd_lang.specs.Words.{is_empty}
 use Rattle.cmd_lang.specs.Commands.{read_of}
-use Rattle.ldb_edge.specs.Count.{Rose}
 use Rattle.ldb_edge.specs.Known.{known_and}
 use Rattle.cc_call.specs.declared.ended.Fault.{Fault}
 use Rattle.cc_call.specs.Faults.{TakesFront}
@@ -30,9 +29,9 @@ use Rattle.session.specs.Answered.{Answers as Replied}
 use Rattle.session.specs.Meant.{Answered, PutInPart, AnswersAs, MeantAnswers, IsSaidIfAny}
 use Rattle.ldb_top.specs.declared.serving.Next.{Next}
 use Rattle.ldb_top.specs.Ahead.{Lines, line_and, lines_if}
-use Rattle.ldb_top.specs.Conversed.{Converses, Told, IsOpen, commands_in, refused_in, wanting_line}
+use Rattle.ldb_top.specs.Conversed.{Converses, Told, commands_in, refused_in, wanting_line}
 use Rattle.ldb_top.specs.Conversing.{Grows, IsOver, Here, here, IsSo, IsPart, GoesSo}
-use Rattle.ldb_top.specs.Fronts.{IsAnsweredInPart, IsWanting, BreaksOff}
+use Rattle.ldb_top.specs.Fronts.{BreaksOff}
 use Rattle.ldb_top.specs.Late.{asks_quit}
 use Rattle.ldb_top.specs.Said.{IsFront}
 use Rattle.ldb_top.proofs.Conversations.{said_or_not, read_line, front_so, blank_none, none_rose, refused_answers, line_alone, AnswersLine, RefusesLine}

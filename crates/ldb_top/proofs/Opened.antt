@@ -1,5 +1,5 @@
 -- Sessions that are begun, and why others aren't.
-use Rattle.std.proofs.Common.{◌≡◌, ℕ, Bool, true, false, List, [], ◌∷◌, ◌++◌, Option, None, Some, Ok, Err, inl, inr, refl, sym, ap, ◌∙◌, subst}
+use Rattle.std.proofs.Common.{◌≡◌, ℕ, true, false, List, [], ◌∷◌, ◌++◌, Option, None, Some, Ok, Err, inl, inr, sym, ap, ◌∙◌, subst}
 use Rattle.std.specs.declared.result.Result.{Result}
 use Rattle.std.specs.Prelude.{IfErr, IfOk}
 use Rattle.std.specs.FinMap as files
@@ -15,9 +15,7 @@ use Rattle.ldb_cc.specs.declared.aim.Aim.TheVariants.{Mips, Sparc}
 use Rattle.ldb_cc.specs.Built.{IsBuilt}
 use Rattle.cc_call.specs.Found.{AreRead}
 use Rattle.nub_wire.specs.Delivery.{World}
-use Rattle.claims.specs.Side.{SessionState}
 use Rattle.session.specs.declared.conversation.Session.{Session}
-use Rattle.ldb_top.specs.Conversing.{IsOver}
 use Rattle.ldb_top.specs.Files.{first_missing, is_long, IsRead}
 use Rattle.ldb_top.specs.Lines.{table_word, bad_table_line}
 use Rattle.ldb_top.specs.Names.{Names, aim_in, read_names}
@@ -26,7 +24,7 @@ use Rattle.ldb_top.specs.declared.words.Aims.TheVariants.{One, Both}
 use Rattle.ldb_top.specs.Words.{Form, Debug, Go}
 use Rattle.ldb_top.specs.declared.status.Stop.{Stop}
 use Rattle.ldb_top.specs.declared.status.Stop.TheVariants.{Read, NoMemory, Missing, TooLong, Refused, Bad}
-use Rattle.ldb_top.specs.Why.{IsTableWhy, IsTableStop, IsImageTold, IsBuildWhy, IsLoadWhy, BuildsFrom, LoadsFrom, AreProgram, AreCompiled, IsFileStop, IsInputStop, AreRight, Opens, IsWhy, AddsSide, AddsCompiled, IsCompiledFor, AddsFor, OverOne, OverBoth, starting}
+use Rattle.ldb_top.specs.Why.{IsTableWhy, IsTableStop, IsImageTold, IsBuildWhy, IsLoadWhy, BuildsFrom, LoadsFrom, AreProgram, AreCompiled, IsFileStop, IsInputStop, AreRight, Opens, IsWhy, AddsSide, AddsCompiled, IsCompiledFor, AddsFor, OverOne, OverBoth}
 use Rattle.ldb_top.proofs.Fronted.{all_on, missing_on}
 
 -- ---- sources, and an image

@@ -1,5 +1,5 @@
 -- How a session that is served goes on, line by line.
-use Rattle.std.specs.Prelude.{◌≡◌, ◌⊎◌, ℕ, Bool, List, ◌++◌, Option, None, Some, IfSome}
+use Rattle.std.specs.Prelude.{◌≡◌, ◌⊎◌, ℕ, Bool, List, ◌++◌, Option, Some, IfSome}
 use Rattle.ldb_edge.specs.Known.{known_and}
 use Rattle.nub_wire.specs.Delivery.{World}
 use Rattle.targets.specs.Targets.{machine_behaviour}

@@ -1,5 +1,5 @@
 -- The sides as a resume would leave them.
-use Rattle.std.proofs.Common.{◌≡◌, ◌⊎◌, ◌∙◌, refl, sym, ap, inl, inr, ℕ, Bool, true, false, if◌then◌else◌, [], arith, Option, Some, None}
+use Rattle.std.proofs.Common.{◌≡◌, ◌⊎◌, refl, sym, inl, inr, ℕ, Bool, true, false, if◌then◌else◌, [], arith, Option, Some, None}
 use Rattle.std.specs.Global.{Vec}
 use Rattle.table_points.specs.declared.row.Point.{Point}
 use Rattle.machine_state.specs.State.{Behaviour}

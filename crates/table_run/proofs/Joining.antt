@@ -24,18 +24,17 @@ use Rattle.ps_step.specs.declared.item.Item.TheVariants.{Object}
 use Rattle.ps_step.specs.declared.machine.PsCore.{PsCore}
 use Rattle.ps_step.specs.Results.{fault_of}
 use Rattle.ps_step.specs.State.{with_execution}
-use Rattle.ps_run.specs.Runs.{Answer, Runs, RunsObject}
+use Rattle.ps_run.specs.Runs.{Answer, Runs}
 use Rattle.ps_print.specs.Loaded.{loaded}
 use Rattle.dialect_model.specs.Dial.{Dial, no_target}
 use Rattle.dialect_model.specs.Forcing.{NoTarget, forcing}
-use Rattle.ps_bare.specs.Bare.{bare}
 use Rattle.claims.specs.Tables.{RunsTable, RunFault, full, ran, finished, has_shape}
 use Rattle.claims.specs.Tables as claims
 use Rattle.table_run.specs.declared.run.TableFault.{TableFault}
 use Rattle.table_run.specs.declared.run.TableFault.TheVariants as fault
 use Rattle.table_run.specs.declared.run.TheConstants.{MOST_STEPS}
 use Rattle.table_run.specs.Shape.{has_entries, is_unused}
-use Rattle.table_run.specs.Tables.{RunsString, runs_made, RunsText, RunsBehind, dict_of, table_with, table_in, closed_with, IsTableOf}
+use Rattle.table_run.specs.Tables.{runs_made, dict_of, table_with, table_in, closed_with}
 use Rattle.table_run.specs.Joined.{RunsAs, TablesRun}
 
 -- ---- the state behind the prelude, by computing

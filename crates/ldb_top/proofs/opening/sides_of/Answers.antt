@@ -1,6 +1,4 @@
-use Rattle.std.proofs.Common.{[], map, sym, ap, subst, List}
-use Rattle.obj_file.specs.Image.{ImageFields}
-use Rattle.ps_store.specs.StoreState.{StoreState}
+use Rattle.std.proofs.Common.{[], map, sym, subst}
 use Rattle.ldb_cc.specs.Scanning.{items_of}
 use Rattle.ldb_top.specs.declared.opening.Sides.{Sides}
 use Rattle.ldb_top.specs.Names.{aim_in}
