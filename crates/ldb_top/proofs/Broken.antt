@@ -66,6 +66,11 @@ none_left (x ∷ xs) f = absurd (let e = f.is in cc)
 front_none : (xs ys : List ℕ) → ys ≡ [] → IsFront xs ys → xs ≡ []
 front_none xs ys e f = none_left xs (subst (IsFront xs) e f)
 
+-- of an answer's output and reply, behind what was put before
+ordered : (st next : SessionState) (told put output : List ℕ) → next.written ≡ st.written ++ output → (told ≡ []) ⊎ (put ≡ output) → (told ≡ []) ⊎ (st.written ++ put ≡ next.written)
+ordered st next told put output written (inl e) = inl e
+ordered st next told put output written (inr e) = inr (ap (λ p. st.written ++ p) e ∙ sym written)
+
 -- ---- conversations
 
 -- a whole one breaks off at its end
@@ -118,9 +123,9 @@ module _ (raw : Bool) (st : SessionState) (s s' : Session World) (line : List �
       here_part raw st (line_and line lines) taken out taken' out' (took ∙ ap (λ t. known_and taken t) none ∙ known_nothing taken) (added ∙ ap (λ p. Some (st.written ++ p)) nothing ∙ ap Some (append-nil st.written))
 
   -- the reply and the output of an answer, in part
-  answered_part : (told put text output : List ℕ) (reply : Reply) (next : SessionState) → is_empty line ≡ false → Answers machine_behaviour st (read_of raw line) reply next → text ≡ joined reply → next.written ≡ st.written ++ output → IsFront told text → IsFront put output
+  answered_part : (told put text output : List ℕ) (reply : Reply) (next : SessionState) → is_empty line ≡ false → Answers machine_behaviour st (read_of raw line) reply next → text ≡ joined reply → next.written ≡ st.written ++ output → IsFront told text → IsFront put output → (told ≡ []) ⊎ (put ≡ output)
       → taken' ≡ known_and taken told → out' ≡ Some (st.written ++ put) → Part
-  answered_part told put text output reply next full answers is written front put_front took added =
+  answered_part told put text output reply next full answers is written front put_front order took added =
       line_part raw st line lines taken out taken' out' told (st.written ++ put) full took added (λ cs. inr (inl (record {
         reply = reply;
         next = next;
@@ -128,6 +133,7 @@ module _ (raw : Bool) (st : SessionState) (s s' : Session World) (line : List �
         told_front = subst (IsFront told) is front;
         put_front = subst (IsFront (st.written ++ put)) (sym written) (behind_front st.written put output put_front);
         behind = record { rest = put; is = refl };
+        output_first = ordered st next told put output written order;
       })))
 
   -- a line that is open
@@ -150,33 +156,33 @@ module _ (raw : Bool) (st : SessionState) (s s' : Session World) (line : List �
   unsaid_part text told put (Some u) e unsaid full is refuses front put_front took added =
       let said = refused_raw u e refuses in
       let reply : text ≡ refusal_reply u = subst (Replied (refusal_reply u)) is said.0 in
-      answered_part told put text [] (refusal_text u ∷ []) st full (refused_answers st (read_of raw line) u e) (reply ∙ sym (append-nil (refusal_reply u))) (sym (append-nil st.written)) front (subst (IsFront put) said.1 put_front) took added
+      answered_part told put text [] (refusal_text u ∷ []) st full (refused_answers st (read_of raw line) u e) (reply ∙ sym (append-nil (refusal_reply u))) (sym (append-nil st.written)) front (subst (IsFront put) said.1 put_front) (inr (front_none put bytes said.1 put_front)) took added
 
   said_part : (text told put : List ℕ) → (c : Option Command) → c ≡ read_of s.raw line → IsSaidIfAny c ⊎ (¬ IsSaidIfAny c) → is_empty line ≡ false → r ≡ Ok (answer.Lines text) → kept ≡ Some [] → kept' ≡ Some bytes → AnswersLine s s' line st kept kept' r
-      → RefusesLine s s' line bytes r → IsFront told text → IsFront put bytes → taken' ≡ known_and taken told → out' ≡ Some (st.written ++ put) → Part
-  said_part text told put c e (inl said) full is none holds meant refuses front put_front took added =
+      → RefusesLine s s' line bytes r → IsFront told text → IsFront put bytes → (told ≡ []) ⊎ (put ≡ bytes) → taken' ≡ known_and taken told → out' ≡ Some (st.written ++ put) → Part
+  said_part text told put c e (inl said) full is none holds meant refuses front put_front order took added =
       elim (subst (λ x. AnswersAs machine_behaviour near_conduct (Some s'.talk.memory.below.below.below.link) s'.first s'.second s'.mode s'.limit st kept kept' (MeantAnswers machine_behaviour st (read_of s.raw line)) 0 0 x) is (meant over.hosts over.represents full (subst (λ x. IsSaidIfAny x) e said))) [
         | inl rose ↦ absurd (none_rose rose)
         | inr a ↦
             let b = subst (λ k. Answered machine_behaviour near_conduct (Some s'.talk.memory.below.below.below.link) s'.first s'.second s'.mode s'.limit st k kept' (MeantAnswers machine_behaviour st (read_of s.raw line)) text) none a in
             let all : b.output ≡ bytes = cc (b.put, holds) in
-            answered_part told put text b.output b.reply b.after full (subst (λ x. Answers machine_behaviour st (read_of x line) b.reply b.after) over.raw_is b.says) b.text_is b.written front (subst (IsFront put) (sym all) put_front) took added
+            answered_part told put text b.output b.reply b.after full (subst (λ x. Answers machine_behaviour st (read_of x line) b.reply b.after) over.raw_is b.says) b.text_is b.written front (subst (IsFront put) (sym all) put_front) (subst (λ (z : List ℕ). (told ≡ []) ⊎ (put ≡ z)) (sym all) order) took added
       ]
-  said_part text told put c e (inr unsaid) full is none holds meant refuses front put_front took added =
+  said_part text told put c e (inr unsaid) full is none holds meant refuses front put_front order took added =
       unsaid_part text told put (refused_in st.state (read_of raw line)) refl (subst (λ x. ¬ IsSaidIfAny x) (e ∙ ap (λ x. read_of x line) over.raw_is) unsaid) full is refuses front put_front took added
 
   lines_either : (text told put : List ℕ) (b : Bool) → is_empty line ≡ b → r ≡ Ok (answer.Lines text) → (is_empty line ≡ true → r ≡ Ok (answer.Lines [])) → (read_of s.raw line ≡ None → bytes ≡ []) → kept ≡ Some [] → kept' ≡ Some bytes
-      → AnswersLine s s' line st kept kept' r → RefusesLine s s' line bytes r → IsFront told text → IsFront put bytes → taken' ≡ known_and taken told → out' ≡ Some (st.written ++ put) → Part
-  lines_either text told put true e is blank same none holds meant refuses front put_front took added =
+      → AnswersLine s s' line st kept kept' r → RefusesLine s s' line bytes r → IsFront told text → IsFront put bytes → (told ≡ []) ⊎ (put ≡ bytes) → taken' ≡ known_and taken told → out' ≡ Some (st.written ++ put) → Part
+  lines_either text told put true e is blank same none holds meant refuses front put_front order took added =
       let empty : text ≡ [] = cc (is, blank e) in
       nothing_part told put (front_none told text empty front) (front_none put bytes (same (blank_none s.raw line e)) put_front) took added
-  lines_either text told put false e is blank same none holds meant refuses front put_front took added =
-      said_part text told put (read_of s.raw line) refl (said_or_not (read_of s.raw line)) e is none holds meant refuses front put_front took added
+  lines_either text told put false e is blank same none holds meant refuses front put_front order took added =
+      said_part text told put (read_of s.raw line) refl (said_or_not (read_of s.raw line)) e is none holds meant refuses front put_front order took added
 
   -- a reply of lines, told in part
   pub lines_part : (text told put : List ℕ) → r ≡ Ok (answer.Lines text) → (is_empty line ≡ true → r ≡ Ok (answer.Lines [])) → (read_of s.raw line ≡ None → bytes ≡ []) → kept ≡ Some [] → kept' ≡ Some bytes → AnswersLine s s' line st kept kept' r → RefusesLine s s' line bytes r
-      → IsFront told text → IsFront put bytes → taken' ≡ known_and taken told → out' ≡ Some (st.written ++ put) → Part
-  lines_part text told put is blank same none holds meant refuses front put_front took added = lines_either text told put (is_empty line) refl is blank same none holds meant refuses front put_front took added
+      → IsFront told text → IsFront put bytes → (told ≡ []) ⊎ (put ≡ bytes) → taken' ≡ known_and taken told → out' ≡ Some (st.written ++ put) → Part
+  lines_part text told put is blank same none holds meant refuses front put_front order took added = lines_either text told put (is_empty line) refl is blank same none holds meant refuses front put_front order took added
 
   full_line : (b : Bool) → is_empty line ≡ b → (is_empty line ≡ true → r ≡ Ok (answer.Lines [])) → (r ≡ Ok (answer.Lines []) → ⊥) → is_empty line ≡ false
   full_line true e blank unblank = absurd (unblank (blank e))
@@ -205,7 +211,7 @@ module _ (raw : Bool) (st : SessionState) (s s' : Session World) (line : List �
       let f : sink.TakesFront (Some []) kept' a.output = subst (λ k. sink.TakesFront k kept' a.output) none a.front in
       let all : f.front ≡ bytes = cc (f.taken, holds) in
       answered_part [] put (joined a.reply) a.output a.reply a.after full (subst (λ x. Answers machine_behaviour st (read_of x line) a.reply a.after) over.raw_is a.says) refl a.written (nothing_front (joined a.reply))
-      (front_on put bytes a.output put_front (record { rest = f.back; is = sym (ap (λ z. z ++ f.back) (sym all) ∙ f.whole) })) (took ∙ sym (known_nothing taken)) added
+      (front_on put bytes a.output put_front (record { rest = f.back; is = sym (ap (λ z. z ++ f.back) (sym all) ∙ f.whole) })) (inl refl) (took ∙ sym (known_nothing taken)) added
   put_part put c e (inr unsaid) full is none holds meant refuses put_front took added =
       failed_part put (refused_in st.state (read_of raw line)) refl (subst (λ x. ¬ IsSaidIfAny x) (e ∙ ap (λ x. read_of x line) over.raw_is) unsaid) full is refuses took added
 
@@ -218,7 +224,7 @@ module _ (raw : Bool) (st : SessionState) (s s' : Session World) (line : List �
   pub cut_part : (put : List ℕ) (v : Result Answer End) → r ≡ v → (is_empty line ≡ true → r ≡ Ok (answer.Lines [])) → (read_of s.raw line ≡ None → bytes ≡ []) → (read_of s.raw line ≡ Some Quit → r ≡ Err end.Quit) → (r ≡ Ok answer.NoMemory → bytes ≡ [])
       → (r ≡ Err end.Quit → bytes ≡ []) → kept ≡ Some [] → kept' ≡ Some bytes → AnswersLine s s' line st kept kept' r → RefusesLine s s' line bytes r → IsFront put bytes → taken' ≡ taken → out' ≡ Some (st.written ++ put) → Part
   cut_part put (Ok (answer.Lines text)) is blank same quit wanting ended none holds meant refuses put_front took added =
-      lines_part text [] put is blank same none holds meant refuses (nothing_front text) put_front (took ∙ sym (known_nothing taken)) added
+      lines_part text [] put is blank same none holds meant refuses (nothing_front text) put_front (inl refl) (took ∙ sym (known_nothing taken)) added
   cut_part put (Ok answer.NoMemory) is blank same quit wanting ended none holds meant refuses put_front took added =
       wanting_part [] put is blank quit (wanting is) (nothing_front wanting_line) put_front (took ∙ sym (known_nothing taken)) added
   cut_part put (Err end.Quit) is blank same quit wanting ended none holds meant refuses put_front took added =

@@ -15,7 +15,8 @@ use Rattle.ldb_top.specs.Said.{IsFront}
 
 -- ---- the line that was in progress
 
--- A front of the reply of the machine session was told, and a front of its output put, behind what was put before.
+-- A front of the output of the machine session's answer was put, behind what was put before; once it was put whole, a front of the reply
+-- was told.
 pub record IsAnsweredInPart (st : SessionState) (c : Option Command) (told put : List ℕ) : Type 0 where
   pub reply : Reply
   pub next : SessionState
@@ -23,6 +24,7 @@ pub record IsAnsweredInPart (st : SessionState) (c : Option Command) (told put :
   pub told_front : IsFront told (joined reply)
   pub put_front : IsFront put next.written
   pub behind : IsFront st.written put
+  pub output_first : (told ≡ []) ⊎ (put ≡ next.written)
 
 -- that there was no memory for it was told in part, and nothing was put
 pub record IsWanting (st : SessionState) (c : Option Command) (told put : List ℕ) : Type 0 where

@@ -1,4 +1,4 @@
-use Rattle.std.proofs.Common.{◌≡◌, ◌∙◌, ap, refl, take, Some, Ok, Err, arith, rules}
+use Rattle.std.proofs.Common.{◌≡◌, ◌∙◌, ap, refl, inr, take, Some, Ok, Err, arith, rules}
 use Rattle.std.proofs.lemmas.Grind.{common_steps}
 use Rattle.c_session.specs.declared.command.Command.TheVariants.{Quit}
 use Rattle.targets.specs.Targets.{machine_behaviour}
@@ -101,7 +101,7 @@ returns-in-Ok-Lines-clause-part g c = λ raw st lines over put.
     lines_part raw st c.args.session.now c.command-answer.new.self c.args.line.now lines taken taken' out out' _ _ bytes c.command-answer.result over text (take n text) bytes is c.command-answer.ensures.blank
     (λ none. (let h = c.command-answer.ensures.line none in cc (h.2, c.bytes.ensures, c.new-written.ensures.taken, c.new.ensures.items)))
     (c.new-written.ensures.taken ∙ ap Some c.new.ensures.items) c.bytes.ensures (λ hs represents full said. c.command-answer.ensures.meant machine_behaviour hs st steady represents full said)
-    (λ k u e why. (let h = c.command-answer.ensures.refused k u e why in (h.0, h.1, cc (h.2, c.bytes.ensures, c.new-written.ensures.taken, c.new.ensures.items)))) (take_front n text) (whole_front bytes) told (c.in-Ok.ensures.added st.written put))
+    (λ k u e why. (let h = c.command-answer.ensures.refused k u e why in (h.0, h.1, cc (h.2, c.bytes.ensures, c.new-written.ensures.taken, c.new.ensures.items)))) (take_front n text) (whole_front bytes) (inr refl) told (c.in-Ok.ensures.added st.written put))
 
 pub returns-in-Ok-NoMemory-clause-part : goal.returns-in-Ok-NoMemory-clause-part
 returns-in-Ok-NoMemory-clause-part g c = λ raw st lines over put.
