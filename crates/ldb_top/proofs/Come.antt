@@ -19,6 +19,7 @@ use Rattle.ldb_top.specs.declared.words.GoRequest.{GoRequest}
 use Rattle.ldb_top.specs.declared.words.Request.{Request}
 use Rattle.ldb_top.specs.declared.words.Request.TheVariants as request
 use Rattle.ldb_top.specs.Ahead.{lines_of}
+use Rattle.ldb_top.specs.Bytes.{IsBehind}
 use Rattle.ldb_top.specs.Comes.{Outside, EndsEarly, Comes, ComesTo, Served, ServedSo, HasConversedOver, HasConversedLateOver, HasFaultedOver, Faults, SessionComes, SessionComesTo}
 use Rattle.ldb_top.specs.Conversed.{HasConversed}
 use Rattle.ldb_top.specs.Conversing.{IsOver}
@@ -69,27 +70,28 @@ abbrev pub SaysSo : (name : List ℕ) → Session World → (old new : Outside) 
 SaysSo name session old new r = (raw : Bool) (st : SessionState) (known : FileMap) → IsOver raw session st → st.written ≡ [] → old.held ≡ Some known → ServedSo name raw st old new r
 
 pub served_comes : (form : Form) (n : Names) (old new : Outside) (session : Session World) (r : Result Status Fault) → ((known : FileMap) → old.held ≡ Some known → Opens form n known (Ok session)) → Served old new r → OnOk r (is_there n.output new.held ≡ true)
-    → SaysSo n.output session old new r → ComesTo form n old new r
-served_comes form n old new session (Ok Done) b s t so = record {
+    → SaysSo n.output session old new r → IsBehind old.left new.left → ComesTo form n old new r
+served_comes form n old new session (Ok Done) b s t so l = record {
   begun = λ known h. (b known h).0;
   read = s;
   there = t;
   conversed = λ known h. begins_as (λ (raw : Bool) (st : SessionState). IsOver raw session st) (HasConversedOver n old new) (λ raw st w over. so raw st known over w h) form n known (b known h).1;
 }
-served_comes form n old new session (Ok TooLong) b s t so = inr (record {
+served_comes form n old new session (Ok TooLong) b s t so l = inr (record {
   begun = λ known h. (b known h).0;
   late = s;
   there = t;
   conversed = λ known h. begins_as (λ (raw : Bool) (st : SessionState). IsOver raw session st) (HasConversedLateOver n old new) (λ raw st w over. so raw st known over w h) form n known (b known h).1;
 })
-served_comes form n old new session (Ok Refused) b s t so = absurd s
-served_comes form n old new session (Ok Words) b s t so = absurd s
-served_comes form n old new session (Ok ReadFault) b s t so = absurd s
-served_comes form n old new session (Ok WriteFault) b s t so = absurd s
-served_comes form n old new session (Ok NoMemory) b s t so = absurd s
-served_comes form n old new session (Ok NoFile) b s t so = absurd s
-served_comes form n old new session (Ok BadFile) b s t so = absurd s
-served_comes form n old new session (Err f) b s t so = inr (record {
+served_comes form n old new session (Ok Refused) b s t so l = absurd s
+served_comes form n old new session (Ok Words) b s t so l = absurd s
+served_comes form n old new session (Ok ReadFault) b s t so l = absurd s
+served_comes form n old new session (Ok WriteFault) b s t so l = absurd s
+served_comes form n old new session (Ok NoMemory) b s t so l = absurd s
+served_comes form n old new session (Ok NoFile) b s t so l = absurd s
+served_comes form n old new session (Ok BadFile) b s t so l = absurd s
+served_comes form n old new session (Err f) b s t so l = inr (record {
+  left = l;
   begun = λ known h. (b known h).0;
   conversed = λ known h. begins_as (λ (raw : Bool) (st : SessionState). IsOver raw session st) (HasFaultedOver n old new) (λ raw st w over. so raw st known over w h) form n known (b known h).1;
 })

@@ -9,6 +9,7 @@ use Rattle.ldb_top.specs.declared.status.Status.TheVariants.{Done, Refused, Word
 use Rattle.ldb_top.specs.declared.status.Stop.{Stop}
 use Rattle.ldb_top.specs.Ahead.{lines_of}
 use Rattle.ldb_top.specs.Behind.{left_behind}
+use Rattle.ldb_top.specs.Bytes.{IsBehind}
 use Rattle.ldb_top.specs.Conversed.{HasConversed, HasConversedLate}
 use Rattle.ldb_top.specs.Fronts.{HasFaulted}
 use Rattle.ldb_top.specs.Late.{LateAs}
@@ -92,8 +93,9 @@ pub record FaultsEarly (form : Form) (n : Names) (old new : Outside) : Type 0 wh
 abbrev pub HasFaultedOver : Names → (old new : Outside) → (raw : Bool) → SessionState → Type 0
 HasFaultedOver n old new raw st = NothingDone old new ⊎ HasFaulted raw st (lines_of old.left) old.taken new.taken (held_under new.held n.output)
 
--- A fault once a session was begun.
+-- A fault once a session was begun. Of the commands what stands behind those bytes that were read is left.
 pub record FaultsLater (form : Form) (n : Names) (old new : Outside) : Type 0 where
+  pub left : IsBehind old.left new.left
   pub begun : (known : FileMap) → old.held ≡ Some known → Begins form n known
   pub conversed : (known : FileMap) → old.held ≡ Some known → BeginsAs (HasFaultedOver n old new) form n known
 
