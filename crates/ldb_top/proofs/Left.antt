@@ -1,5 +1,5 @@
 -- What words of each form leave and print.
-use Rattle.std.proofs.Common.{◌≡◌, ℕ, List, drop, codes, Option, None, Some, Ok, Err, refl, sym, ap, subst, ◌∙◌}
+use Rattle.std.proofs.Common.{◌≡◌, ℕ, List, drop, Option, None, Some, Ok, Err, refl, sym, ap, subst, ◌∙◌}
 use Rattle.std.specs.Prelude.{OnOk, OnErr, IfSome, unwrap_or}
 use Rattle.std.specs.declared.result.Result.{Result}
 use Rattle.ldb_edge.specs.Known.{FileMap, known_and}
@@ -60,8 +60,3 @@ made_front form asked q n taken taken' (Err x) e f m h =
     let form_is : Some Make ≡ form = ap (λ (r : Request). Some (form_in r)) (sym e) ∙ f in
     let number : number_in asked ≡ n = ap (λ o. unwrap_or o 0) (subst (IsNamed (drop 1 asked)) e m) in
     subst (λ (o : Option Form). IfSome (printed o asked) (TakesFront taken taken')) form_is (subst (λ k. TakesFront taken taken' (generated k)) (sym number) h)
-
--- and of the line of words without a form
-pub none_front : (form : Option Form) (asked : List (List ℕ)) (taken taken' : Option (List ℕ)) (result : Result Status Fault) → form ≡ None → OnErr result (TakesFront taken taken' (codes "words\n")) → OnErr result (IfSome (printed form asked) (TakesFront taken taken'))
-none_front form asked taken taken' (Ok status) e h = tt
-none_front form asked taken taken' (Err x) e h = subst (λ (o : Option Form). IfSome (printed o asked) (TakesFront taken taken')) (sym e) h

@@ -1,7 +1,7 @@
 use Rattle.std.proofs.Common.{map, string_bytes, refl, sym, ap, ◌∙◌, Some}
 use Rattle.ldb_top.specs.declared.words.Request.{Request}
 use Rattle.ldb_top.specs.Words.{Debug, Go, Own, form_of, form_in}
-use Rattle.ldb_top.proofs.Left.{left_debug, left_go, made_in, unprinted, made_front, none_front}
+use Rattle.ldb_top.proofs.Left.{left_debug, left_go, made_in, unprinted, made_front}
 use Rattle.ldb_top.proofs.program.with_words.Goals as goal
 
 pub returns-in-Some-Debug-clause-files : goal.returns-in-Some-Debug-clause-files
