@@ -1,11 +1,12 @@
 -- What is left behind a line, byte by byte and line by line.
-use Rattle.std.proofs.Common.{◌≡◌, ℕ, Bool, true, false, if◌then◌else◌, ◌==◌, List, [], ◌∷◌, ◌++◌, Option, None, Some, Ok, Err, refl, sym, ap, ◌∙◌}
+use Rattle.std.proofs.Common.{◌≡◌, ℕ, Bool, true, false, if◌then◌else◌, ◌==◌, List, [], ◌∷◌, ◌++◌, Option, None, Some, Ok, Err, refl, sym, ap, ◌∙◌, subst, append_assoc}
 use Rattle.std.specs.declared.result.Result.{Result}
 use Rattle.std.specs.Prelude.{IfOk, IfSome}
 use Rattle.cc_call.specs.declared.ended.Fault.{Fault}
 use Rattle.ldb_top.specs.Ahead.{without_return}
 use Rattle.ldb_top.specs.Behind.{behind_quit, left_behind, LeftByNext}
-use Rattle.ldb_top.specs.Bytes.{with_byte}
+use Rattle.ldb_edge.specs.Known.{before_known}
+use Rattle.ldb_top.specs.Bytes.{with_byte, IsBehind}
 use Rattle.ldb_top.specs.Late.{is_quit, Follows}
 use Rattle.ldb_top.specs.declared.serving.Next.{Next}
 use Rattle.ldb_top.specs.declared.serving.Next.TheVariants as next
@@ -54,3 +55,21 @@ next_left line before after next.Late e f = absurd f
 pub line_left : (line : List ℕ) (before after : Option (List ℕ)) (r : Result Next Fault) → left_behind [] before ≡ (if is_quit line then after else left_behind [] after) → IfOk r (Follows line) → IfOk r (LeftByNext before after)
 line_left line before after (Ok n) e f = next_left line before after n e f
 line_left line before after (Err x) e f = tt
+
+-- ---- what was read
+
+known_behind : (a : Option (List ℕ)) → a ≡ before_known [] a
+known_behind None = refl
+known_behind (Some xs) = refl
+
+pub behind_same : (a b : Option (List ℕ)) → b ≡ a → IsBehind a b
+behind_same a b e = record { read = []; is = subst (λ x. x ≡ before_known [] b) e (known_behind b) }
+
+pub behind_on : (a b c : Option (List ℕ)) → IsBehind a b → IsBehind b c → IsBehind a c
+behind_on a b None f g = record { read = []; is = f.is ∙ ap (before_known f.read) g.is }
+behind_on a b (Some xs) f g = record { read = f.read ++ g.read; is = f.is ∙ ap (before_known f.read) g.is ∙ ap Some (sym (append_assoc f.read g.read xs)) }
+
+pub behind_one : (b : Option ℕ) (old new : Option (List ℕ)) → old ≡ with_byte b new → IsBehind old new
+behind_one None old new e = behind_same old new (sym e)
+behind_one (Some x) old None e = record { read = []; is = e }
+behind_one (Some x) old (Some xs) e = record { read = x ∷ []; is = e }

@@ -27,9 +27,9 @@ use Rattle.ldb_top.specs.declared.serving.Next.{Next}
 use Rattle.ldb_top.specs.declared.serving.Next.TheVariants as next
 use Rattle.ldb_top.specs.Ahead.{Lines, line_and, lines_if}
 use Rattle.ldb_top.specs.Conversed.{commands_in, wanting_line, refused_in, IsOpen, Converses, Told}
+use Rattle.ldb_top.specs.Fronts.{BreaksOff}
 use Rattle.ldb_top.specs.Conversing.{Grows, IsOver, Here, here, IsSo, GoesSo, NextIsSo}
 use Rattle.ldb_top.specs.Late.{asks_quit}
-use Rattle.ldb_top.proofs.Alone.{stays_alone}
 use Rattle.ldb_top.proofs.Growing.{grows_on, grows_same}
 use Rattle.ldb_top.proofs.Lates.{same_quit, quits_not}
 
@@ -56,39 +56,44 @@ said_or_not (Some (Ps x)) = inr (λ h. h)
 blank_line : (raw : Bool) (line : List ℕ) (ls : List (List ℕ)) → is_empty line ≡ true → commands_in raw (line ∷ ls) ≡ commands_in raw ls
 blank_line raw line ls e = ap (λ b. if b then commands_in raw ls else read_of raw line ∷ commands_in raw ls) e
 
-read_line : (raw : Bool) (line : List ℕ) (ls : List (List ℕ)) → is_empty line ≡ false → commands_in raw (line ∷ ls) ≡ read_of raw line ∷ commands_in raw ls
+pub read_line : (raw : Bool) (line : List ℕ) (ls : List (List ℕ)) → is_empty line ≡ false → commands_in raw (line ∷ ls) ≡ read_of raw line ∷ commands_in raw ls
 read_line raw line ls e = ap (λ b. if b then commands_in raw ls else read_of raw line ∷ commands_in raw ls) e
 
 -- ---- one line
 
--- Behind a line there is a conversation, if there is one with the line in front whenever it is told what was said so far.
-front_so : (raw : Bool) (st : SessionState) (line : List ℕ) (lines : Option Lines) (taken out t o : Option (List ℕ))
-    → ((ls : Lines) (before : List ℕ) → lines ≡ Some ls → taken ≡ Some before → Told before t o (Converses st (commands_in raw (line ∷ ls.0)))) → IsSo raw st (here (line_and line lines) taken out) t o
-front_so raw st line None taken out t o f ls before e told = absurd cc
-front_so raw st line (Some (rest, cut)) taken out t o f ls before e told =
-    let same : (line ∷ rest, cut) ≡ ls = cc in
-    subst (λ (x : Lines). Told before t o (Converses st (commands_in raw x.0))) same (f (rest, cut) before refl told)
+module _ (R : SessionState → List (Option Command) → (transcript output : List ℕ) → Type 0) where
+  -- from there on it is so, as a conversation or as one that was broken off
+  abbrev pub IsSoBy : (raw : Bool) → SessionState → Here → (taken out : Option (List ℕ)) → Type 0
+  IsSoBy raw st at taken out = (ls : Lines) (before : List ℕ) → at.lines ≡ Some ls → at.taken ≡ Some before → Told before taken out (R st (commands_in raw ls.0))
 
--- what was told in front of the rest
-front_told : (raw : Bool) (st after : SessionState) (line : List ℕ) (lines : Option Lines) (taken taken' out out' t o : Option (List ℕ)) (text : List ℕ) → taken' ≡ known_and taken text
-    → ((ls : List (List ℕ)) (rest output : List ℕ) → Converses after (commands_in raw ls) rest output → Converses st (commands_in raw (line ∷ ls)) (text ++ rest) output)
-    → IsSo raw after (here lines taken' out') t o → IsSo raw st (here (line_and line lines) taken out) t o
-front_told raw st after line lines taken taken' out out' t o text told step so =
-    front_so raw st line lines taken out t o (λ ls before e known.
-    let behind : Told (before ++ text) t o (Converses after (commands_in raw ls.0)) = so ls (before ++ text) e (told ∙ ap (λ k. known_and k text) known) in
-    record {
-      transcript = text ++ behind.transcript;
-      output = behind.output;
-      taken_is = behind.taken_is ∙ ap Some (append_assoc before text behind.transcript);
-      out_is = behind.out_is;
-      so = step ls.0 behind.transcript behind.output behind.so;
-    })
+  -- Behind a line it is so, if it is with the line in front whenever it is told what was said so far.
+  pub front_so : (raw : Bool) (st : SessionState) (line : List ℕ) (lines : Option Lines) (taken out t o : Option (List ℕ))
+      → ((ls : Lines) (before : List ℕ) → lines ≡ Some ls → taken ≡ Some before → Told before t o (R st (commands_in raw (line ∷ ls.0)))) → IsSoBy raw st (here (line_and line lines) taken out) t o
+  front_so raw st line None taken out t o f ls before e told = absurd cc
+  front_so raw st line (Some (rest, cut)) taken out t o f ls before e told =
+      let same : (line ∷ rest, cut) ≡ ls = cc in
+      subst (λ (x : Lines). Told before t o (R st (commands_in raw x.0))) same (f (rest, cut) before refl told)
+
+  -- what was told in front of the rest
+  front_told : (raw : Bool) (st after : SessionState) (line : List ℕ) (lines : Option Lines) (taken taken' out out' t o : Option (List ℕ)) (text : List ℕ) → taken' ≡ known_and taken text
+      → ((ls : List (List ℕ)) (rest output : List ℕ) → R after (commands_in raw ls) rest output → R st (commands_in raw (line ∷ ls)) (text ++ rest) output)
+      → IsSoBy raw after (here lines taken' out') t o → IsSoBy raw st (here (line_and line lines) taken out) t o
+  front_told raw st after line lines taken taken' out out' t o text told step so =
+      front_so raw st line lines taken out t o (λ ls before e known.
+      let behind : Told (before ++ text) t o (R after (commands_in raw ls.0)) = so ls (before ++ text) e (told ∙ ap (λ k. known_and k text) known) in
+      record {
+        transcript = text ++ behind.transcript;
+        output = behind.output;
+        taken_is = behind.taken_is ∙ ap Some (append_assoc before text behind.transcript);
+        out_is = behind.out_is;
+        so = step ls.0 behind.transcript behind.output behind.so;
+      })
 
 -- a line that is open
 open_so : (raw : Bool) (st : SessionState) (s' : Session World) (line : List ℕ) (lines : Option Lines) (taken taken' out out' : Option (List ℕ)) (text bytes : List ℕ) → is_empty line ≡ false → taken' ≡ known_and taken text
     → out' ≡ Some (st.written ++ bytes) → ((more : List ℕ) → IsOpen st (read_of raw line) (text ++ more)) → GoesSo raw st (here (line_and line lines) taken out) s' (here lines taken' out')
 open_so raw st s' line lines taken taken' out out' text bytes full told put is_open =
-    inr (λ t o g h. front_so raw st line lines taken out t o (λ ls before e known.
+    inr (λ t o g h. front_so Converses raw st line lines taken out t o (λ ls before e known.
     let took : Grows (Some (before ++ text)) t = subst (λ x. Grows x t) (told ∙ ap (λ k. known_and k text) known) g in
     let held : Grows (Some (st.written ++ bytes)) o = subst (λ x. Grows x o) put h in
     record {
@@ -107,7 +112,8 @@ blank_so raw st s s' line lines taken taken' out out' blank over same told put =
       session = st;
       over = subst (λ (x : Session World). IsOver raw x st) (sym same) over;
       put = put;
-      on = λ t o so. front_told raw st st line lines taken taken' out out' t o [] told (λ ls rest output c. subst (λ (cs : List (Option Command)). Converses st cs rest output) (sym (blank_line raw line ls blank)) c) so;
+      on = λ t o so. front_told Converses raw st st line lines taken taken' out out' t o [] told (λ ls rest output c. subst (λ (cs : List (Option Command)). Converses st cs rest output) (sym (blank_line raw line ls blank)) c) so;
+      part = λ t o so. front_told BreaksOff raw st st line lines taken taken' out out' t o [] told (λ ls rest output c. subst (λ (cs : List (Option Command)). BreaksOff st cs rest output) (sym (blank_line raw line ls blank)) c) so;
     })
 
 -- a line that was answered
@@ -119,14 +125,16 @@ answered_so raw st s s' line lines taken taken' out out' kept text bytes full ov
     let added : a.output ≡ bytes = cc (a.put, holds) in
     inl (record {
       session = a.after;
-      over = record { hosts = a.hosts; represents = a.represents; alone = stays_alone machine_behaviour st (read_of raw line) a.reply a.after over.alone says; raw_is = raws ∙ over.raw_is };
+      over = record { hosts = a.hosts; represents = a.represents; raw_is = raws ∙ over.raw_is };
       put = put ∙ ap Some (sym (a.written ∙ ap (λ x. st.written ++ x) added));
-      on = λ t o so. front_told raw st a.after line lines taken taken' out out' t o text told (λ ls rest output c.
+      on = λ t o so. front_told Converses raw st a.after line lines taken taken' out out' t o text told (λ ls rest output c.
           subst (λ (cs : List (Option Command)). Converses st cs (text ++ rest) output) (sym (read_line raw line ls full)) (inr (inr (a.reply, rest, a.after, says, ap (λ x. x ++ rest) a.text_is, c)))) so;
+      part = λ t o so. front_told BreaksOff raw st a.after line lines taken taken' out out' t o text told (λ ls rest output c.
+          subst (λ (cs : List (Option Command)). BreaksOff st cs (text ++ rest) output) (sym (read_line raw line ls full)) (inr (inr (inr (inr (a.reply, rest, a.after, says, ap (λ x. x ++ rest) a.text_is, c)))))) so;
     })
 
 -- the machine session's answer to a line that the state refuses
-refused_answers : (st : SessionState) (c : Option Command) (u : Refusal) → refused_in st.state c ≡ Some u → Answers machine_behaviour st c (refusal_text u ∷ []) st
+pub refused_answers : (st : SessionState) (c : Option Command) (u : Refusal) → refused_in st.state c ≡ Some u → Answers machine_behaviour st c (refusal_text u ∷ []) st
 refused_answers st None u e = absurd (let w = e in cc)
 refused_answers st (Some k) u e = rw e (inl (refl, refl))
 
@@ -138,15 +146,18 @@ refused_so raw st s s' line lines taken taken' out out' u full over same why tol
       session = st;
       over = subst (λ (x : Session World). IsOver raw x st) (sym same) over;
       put = put;
-      on = λ t o so. front_told raw st st line lines taken taken' out out' t o (refusal_reply u) told (λ ls rest output c.
+      on = λ t o so. front_told Converses raw st st line lines taken taken' out out' t o (refusal_reply u) told (λ ls rest output c.
           subst (λ (cs : List (Option Command)). Converses st cs (refusal_reply u ++ rest) output) (sym (read_line raw line ls full)) (inr (inr (refusal_text u ∷ [], rest, st, refused_answers st (read_of raw line) u why, ap (λ x. x ++ rest) (sym (append-nil (refusal_reply u))), c)))) so;
+      part = λ t o so. front_told BreaksOff raw st st line lines taken taken' out out' t o (refusal_reply u) told (λ ls rest output c.
+          subst (λ (cs : List (Option Command)). BreaksOff st cs (refusal_reply u ++ rest) output) (sym (read_line raw line ls full))
+          (inr (inr (inr (inr (refusal_text u ∷ [], rest, st, refused_answers st (read_of raw line) u why, ap (λ x. x ++ rest) (sym (append-nil (refusal_reply u))), c)))))) so;
     })
 
 -- `quit`
 quit_so : (raw : Bool) (st : SessionState) (line : List ℕ) (lines : Option Lines) (taken out out' : Option (List ℕ)) → is_empty line ≡ false → asks_quit (read_of raw line) ≡ true → out' ≡ Some st.written
     → IsSo raw st (here (line_and line lines) taken out) taken out'
 quit_so raw st line lines taken out out' full quit put =
-    front_so raw st line lines taken out taken out' (λ ls before e known. record {
+    front_so Converses raw st line lines taken out taken out' (λ ls before e known. record {
       transcript = [];
       output = st.written;
       taken_is = known ∙ ap Some (sym (append-nil before));
@@ -165,20 +176,20 @@ either_none : (b : Bool) (o : Option Command) → o ≡ None → (if b then o el
 either_none true o e = e
 either_none false o e = refl
 
-blank_none : (raw : Bool) (line : List ℕ) → is_empty line ≡ true → read_of raw line ≡ None
+pub blank_none : (raw : Bool) (line : List ℕ) → is_empty line ≡ true → read_of raw line ≡ None
 blank_none raw line e = either_none (nat_le (length line) 1000) _ (nothing_read raw (without_blanks line) e)
 
-none_rose : Rose 0 0 → ⊥
+pub none_rose : Rose 0 0 → ⊥
 none_rose r = omega (arith, r.higher)
 
--- what a session over one nub answers to a line
-abbrev AnswersLine : (s s' : Session World) → (line : List ℕ) → SessionState → (kept kept' : Option (List ℕ)) → Result Answer End → Type 0
+-- what a session answers to a line
+abbrev pub AnswersLine : (s s' : Session World) → (line : List ℕ) → SessionState → (kept kept' : Option (List ℕ)) → Result Answer End → Type 0
 AnswersLine s s' line st kept kept' r =
     (hs : Hosts) → Represents machine_behaviour near_conduct (Some s.talk.memory.below.below.below.link) s.first s.second s.mode s.limit hs st → is_empty line ≡ false → IsSaidIfAny (read_of s.raw line)
     → AnswersAs machine_behaviour near_conduct (Some s'.talk.memory.below.below.below.link) s'.first s'.second s'.mode s'.limit st kept kept' (MeantAnswers machine_behaviour st (read_of s.raw line)) 0 0 r
 
 -- what it answers to a command that its state refuses
-abbrev RefusesLine : (s s' : Session World) → (line bytes : List ℕ) → Result Answer End → Type 0
+abbrev pub RefusesLine : (s s' : Session World) → (line bytes : List ℕ) → Result Answer End → Type 0
 RefusesLine s s' line bytes r = (k : Command) (u : Refusal) → read_of s.raw line ≡ Some k → refused_by_state (state_of s.mode) k ≡ Some u → Replied (refusal_reply u) r × (s' ≡ s) × (bytes ≡ [])
 
 module _ (raw : Bool) (st : SessionState) (s s' : Session World) (line : List ℕ) (lines : Option Lines) (taken taken' out out' kept kept' : Option (List ℕ)) (bytes : List ℕ) (r : Result Answer End) (over : IsOver raw s st) where
@@ -265,7 +276,7 @@ pub whole_so : (raw : Bool) (st : SessionState) (s : Session World) (line line' 
     → line' ≡ line → IfOk r (NextIsSo raw st (here before taken out) s now)
 whole_so raw st s line line' before after taken out now r so is same = subst (λ x. IfOk r (NextIsSo raw st (here x taken out) s now)) (ap (λ l. line_and l after) same ∙ sym is) so
 
-line_alone : (line : List ℕ) (left : Option (List ℕ)) → line_and line (lines_if left ([], false)) ≡ lines_if left (line ∷ [], false)
+pub line_alone : (line : List ℕ) (left : Option (List ℕ)) → line_and line (lines_if left ([], false)) ≡ lines_if left (line ∷ [], false)
 line_alone line None = refl
 line_alone line (Some bytes) = refl
 
@@ -278,7 +289,7 @@ ended_last raw st s line line' before left taken out taken' out' n so is same =
 pub next_so : (raw : Bool) (st : SessionState) (start : Here) (s s' : Session World) (now behind : Here) (n : Next) → GoesSo raw st start s now → Grows now.taken behind.taken → Grows now.out behind.out
     → ((between : SessionState) → IsOver raw s between → now.out ≡ Some between.written → NextIsSo raw between now s' behind n) → NextIsSo raw st start s' behind n
 next_so raw st start s s' now behind next.Line (inl g) took put step = elim (step g.session g.over g.put) [
-  | inl h ↦ inl (record { session = h.session; over = h.over; put = h.put; on = λ t o so. g.on t o (h.on t o so) })
+  | inl h ↦ inl (record { session = h.session; over = h.over; put = h.put; on = λ t o so. g.on t o (h.on t o so); part = λ t o so. g.part t o (h.part t o so) })
   | inr h ↦ inr (λ t o a b. g.on t o (h t o a b))
 ]
 next_so raw st start s s' now behind next.Line (inr g) took put step = inr (λ t o a b. g t o (grows_on now.taken behind.taken t took a) (grows_on now.out behind.out o put b))

@@ -3,6 +3,7 @@ use Rattle.std.proofs.Common.{◌≡◌, ℕ, List, [], ◌++◌, take, Option, 
 use Rattle.ldb_edge.specs.Known.{known_and}
 use Rattle.cc_call.specs.Faults.{TakesFront}
 use Rattle.ldb_top.specs.Conversing.{Grows, TakesMore}
+use Rattle.ldb_top.specs.Fronts.{IsAdded}
 use Rattle.ldb_top.specs.Said.{BeginsWith}
 use Rattle.ldb_top.proofs.Begun.{begins_more}
 
@@ -20,6 +21,11 @@ grows_same (Some xs) = record { more = []; is = ap Some (sym (append-nil xs)) }
 pub grows_added : (a b : Option (List ℕ)) (bytes : List ℕ) → ((before : List ℕ) → a ≡ Some before → b ≡ Some (before ++ bytes)) → Grows a b
 grows_added None b bytes e = tt
 grows_added (Some xs) b bytes e = record { more = bytes; is = e xs refl }
+
+-- once a front of them was
+pub grows_front : (a b : Option (List ℕ)) (bytes : List ℕ) → ((before : List ℕ) → a ≡ Some before → IsAdded before bytes b) → Grows a b
+grows_front None b bytes e = tt
+grows_front (Some xs) b bytes e = (let f = e xs refl in record { more = take f.count bytes; is = f.is })
 
 pub takes_grows : (a b : Option (List ℕ)) → TakesMore a b → Grows a b
 takes_grows None b t = tt

@@ -1,5 +1,5 @@
 -- Sessions that are begun, and why others aren't.
-use Rattle.std.proofs.Common.{◌≡◌, ℕ, Bool, true, false, List, [], ◌∷◌, ◌++◌, Option, None, Some, Ok, Err, inl, inr, refl, sym, ap, ◌∙◌, subst}
+use Rattle.std.proofs.Common.{◌≡◌, ℕ, true, false, List, [], ◌∷◌, ◌++◌, Option, None, Some, Ok, Err, inl, inr, sym, ap, ◌∙◌, subst}
 use Rattle.std.specs.declared.result.Result.{Result}
 use Rattle.std.specs.Prelude.{IfErr, IfOk}
 use Rattle.std.specs.FinMap as files
@@ -11,19 +11,20 @@ use Rattle.ps_store.specs.StoreState.{StoreState}
 use Rattle.table_run.specs.declared.run.TableFault.{TableFault}
 use Rattle.table_run.specs.Tables.{IsTableOf}
 use Rattle.ldb_cc.specs.declared.aim.Aim.{Aim}
+use Rattle.ldb_cc.specs.declared.aim.Aim.TheVariants.{Mips, Sparc}
 use Rattle.ldb_cc.specs.Built.{IsBuilt}
 use Rattle.cc_call.specs.Found.{AreRead}
 use Rattle.nub_wire.specs.Delivery.{World}
-use Rattle.claims.specs.Side.{SessionState}
 use Rattle.session.specs.declared.conversation.Session.{Session}
-use Rattle.ldb_top.specs.Conversing.{IsOver}
 use Rattle.ldb_top.specs.Files.{first_missing, is_long, IsRead}
 use Rattle.ldb_top.specs.Lines.{table_word, bad_table_line}
-use Rattle.ldb_top.specs.Names.{Names, read_names}
+use Rattle.ldb_top.specs.Names.{Names, aim_in, read_names}
+use Rattle.ldb_top.specs.declared.words.Aims.{Aims}
+use Rattle.ldb_top.specs.declared.words.Aims.TheVariants.{One, Both}
 use Rattle.ldb_top.specs.Words.{Form, Debug, Go}
 use Rattle.ldb_top.specs.declared.status.Stop.{Stop}
 use Rattle.ldb_top.specs.declared.status.Stop.TheVariants.{Read, NoMemory, Missing, TooLong, Refused, Bad}
-use Rattle.ldb_top.specs.Why.{IsTableWhy, IsTableStop, IsImageTold, IsBuildWhy, IsLoadWhy, BuildsFrom, LoadsFrom, AreProgram, IsFileStop, IsInputStop, AreRight, Opens, IsWhy, AddsSide, AddsCompiled, IsCompiledFor, OfAim, starting}
+use Rattle.ldb_top.specs.Why.{IsTableWhy, IsTableStop, IsImageTold, IsBuildWhy, IsLoadWhy, BuildsFrom, LoadsFrom, AreProgram, AreCompiled, IsFileStop, IsInputStop, AreRight, Opens, IsWhy, AddsSide, AddsCompiled, IsCompiledFor, AddsFor, OverOne, OverBoth}
 use Rattle.ldb_top.proofs.Fronted.{all_on, missing_on}
 
 -- ---- sources, and an image
@@ -66,14 +67,41 @@ wrong_table text table image (TooLong line) w t = absurd t
 wrong_table text table image (Refused line) w t = absurd t
 
 pub loaded_then : (text table input : List ℕ) (image : ImageFields) (images : List ImageFields) (tables : List StoreState) (r : Result (Session World) Stop) → Reads text (Ok image) → (one : AddsSide image table [] images [] tables) → IfErr r (λ stop. stop ≡ NoMemory)
-    → IfOk r (λ (session : Session World). IsOver true session (starting input image one.store)) → LoadsFrom text table input r
-loaded_then text table input image images tables (Ok session) reads one e over = (record { image = image; reads = reads; store = one.store; comes = one.comes }, over)
+    → IfOk r (OverOne true input images tables) → LoadsFrom text table input r
+loaded_then text table input image images tables (Ok session) reads one e over = (record { image = image; reads = reads; store = one.store; comes = one.comes }, over image table one)
 loaded_then text table input image images tables (Err stop) reads one e over = subst (IsLoadWhy text table) (sym e) tt
 
-pub compiled_then : (aim : Aim) (names texts : List (List ℕ)) (input : List ℕ) (images : List ImageFields) (tables : List StoreState) (r : Result (Session World) Stop) → (one : AddsCompiled aim names texts [] images [] tables)
-    → IfOk r (λ (session : Session World). IsOver false session (starting input one.image one.adds.store)) → IfOk r (IsCompiledFor aim names texts input)
-compiled_then aim names texts input images tables (Ok session) one over = (record { image = one.image; text = one.text; built = one.built; store = one.adds.store; comes = one.adds.comes }, over)
-compiled_then aim names texts input images tables (Err stop) one over = tt
+abbrev compiled : (aim : Aim) (names texts : List (List ℕ)) (images images' : List ImageFields) (tables tables' : List StoreState) → AddsCompiled aim names texts images images' tables tables' → AreCompiled aim names texts
+compiled aim names texts images images' tables tables' one = record { image = one.image; text = one.text; built = one.built; store = one.adds.store; comes = one.adds.comes }
+
+compiled_so : (aim : Option Aim) (names texts : List (List ℕ)) (input : List ℕ) (images : List ImageFields) (tables : List StoreState) (session : Session World) → AddsFor aim names texts [] images [] tables → OverOne false input images tables session → OverBoth false input images tables session
+    → IsCompiledFor aim names texts input session
+compiled_so (Some aim) names texts input images tables session adds one both = (compiled aim names texts [] images [] tables adds, one adds.image adds.text adds.adds)
+compiled_so None names texts input images tables session adds one both = (
+  compiled Mips names texts [] adds.images_between [] adds.tables_between adds.first,
+  compiled Sparc names texts adds.images_between images adds.tables_between tables adds.second,
+  both adds.first.image adds.second.image adds.first.text adds.second.text adds.images_between adds.tables_between adds.first.adds adds.second.adds,
+)
+
+-- the images and tables of one target, or of both, where none were there before
+pub adds_one : (aims : Aims) (aim : Aim) (names texts : List (List ℕ)) (before images : List ImageFields) (among tables : List StoreState) → aims ≡ One aim → before ≡ [] → among ≡ [] → AddsCompiled aim names texts before images among tables → AddsFor (aim_in aims) names texts [] images [] tables
+adds_one aims aim names texts before images among tables e f g h =
+    subst (λ (x : Aims). AddsFor (aim_in x) names texts [] images [] tables) (sym e) (subst (λ (xs : List ImageFields). AddsCompiled aim names texts xs images [] tables) f (subst (λ (ys : List StoreState). AddsCompiled aim names texts before images ys tables) g h))
+
+pub adds_both : (aims : Aims) (names texts : List (List ℕ)) (before between images : List ImageFields) (among amid tables : List StoreState) → aims ≡ Both → before ≡ [] → among ≡ [] → AddsCompiled Mips names texts before between among amid → AddsCompiled Sparc names texts between images amid tables
+    → AddsFor (aim_in aims) names texts [] images [] tables
+adds_both aims names texts before between images among amid tables e f g h k =
+    subst (λ (x : Aims). AddsFor (aim_in x) names texts [] images [] tables) (sym e) (record {
+      images_between = between;
+      tables_between = amid;
+      first = subst (λ (xs : List ImageFields). AddsCompiled Mips names texts xs between [] amid) f (subst (λ (ys : List StoreState). AddsCompiled Mips names texts before between ys amid) g h);
+      second = k;
+    })
+
+pub compiled_then : (aim : Option Aim) (names texts : List (List ℕ)) (input : List ℕ) (images : List ImageFields) (tables : List StoreState) (r : Result (Session World) Stop) → AddsFor aim names texts [] images [] tables
+    → IfOk r (OverOne false input images tables) → IfOk r (OverBoth false input images tables) → IfOk r (IsCompiledFor aim names texts input)
+compiled_then aim names texts input images tables (Ok session) adds one both = compiled_so aim names texts input images tables session adds one both
+compiled_then aim names texts input images tables (Err stop) adds one both = tt
 
 -- ---- why there is no session
 
@@ -102,15 +130,9 @@ right n known a i s = record { there = there known n a i; short = s }
 
 -- ---- all of it
 
--- with one target the session stands for the machine session over what was compiled for it
-of_aim : (n : Names) (known : FileMap) (input : List ℕ) (texts : List (List ℕ)) (session : Session World) (aim : Option Aim) → files.get known n.input ≡ Some input → AreRead known n.about texts
-    → ((one : Aim) → aim ≡ Some one → IsCompiledFor one n.about texts input session) → OfAim (λ (raw : Bool) (st : SessionState). IsOver raw session st) aim n known
-of_aim n known input texts session None got t over = tt
-of_aim n known input texts session (Some one) got t over = (input, got, (texts, t, over one refl))
-
 pub go_opens : (n : Names) (known : FileMap) (input : List ℕ) (texts : List (List ℕ)) (r : Result (Session World) Stop) → first_missing known n.about ≡ None → AreRead known n.about texts → first_missing known (n.input ∷ []) ≡ None → is_long (files.get known n.input) ≡ false
-    → files.get known n.input ≡ Some input → BuildsFrom n.about texts r → ((one : Aim) → n.aim ≡ Some one → IfOk r (IsCompiledFor one n.about texts input)) → Opens Go n known r
-go_opens n known input texts (Ok x) a t i s got b over = ((right n known a i s, (texts, t, b)), of_aim n known input texts x n.aim got t over)
+    → files.get known n.input ≡ Some input → BuildsFrom n.about texts r → IfOk r (IsCompiledFor n.aim n.about texts input) → Opens Go n known r
+go_opens n known input texts (Ok x) a t i s got b over = ((right n known a i s, (texts, t, b)), (input, got, (texts, t, over)))
 go_opens n known input texts (Err NoMemory) a t i s got b over = tt
 go_opens n known input texts (Err (Refused line)) a t i s got b over = (right n known a i s, (texts, t, b))
 go_opens n known input texts (Err (Bad line)) a t i s got b over = (right n known a i s, (texts, t, b))

@@ -1,4 +1,4 @@
--- A session that starts over one image and its table.
+-- A session that starts over one image or two, and their tables.
 use Rattle.std.proofs.Common.{◌≡◌, ◌⊎◌, ℕ, nat_eq, Bool, true, false, if◌then◌else◌, ◌&&◌, List, [], ◌∷◌, codes, Option, None, Some, Result, Ok, Err, inl, inr, refl, sym, ap, ◌∙◌, subst}
 use Rattle.std.proofs.lemmas.Bool.{eqb-true, false≢true}
 use Rattle.std.specs.Prelude.{bytes_eq, pos}
@@ -15,12 +15,15 @@ use Rattle.sparc_isa.specs.Windows.{flushed, flush_of, with_invalid}
 use Rattle.obj_file.specs.Image.{ImageFields}
 use Rattle.targets.specs.Targets.{machine_behaviour, loaded}
 use Rattle.nub_wire.specs.declared.link.Entry.{Entry}
-use Rattle.nub_wire.specs.declared.link.Side.TheVariants.{First}
-use Rattle.nub_wire.specs.Nub.{first_host}
-use Rattle.nub_wire.specs.Delivery.{LinkSide, World}
+use Rattle.nub_wire.specs.declared.link.Side.{Side}
+use Rattle.nub_wire.specs.declared.link.Side.TheVariants.{First, Second}
+use Rattle.nub_wire.specs.Nub.{Host, first_host}
+use Rattle.nub_wire.specs.Delivery.{LinkSide, World, side_of}
+use Rattle.nub_wire.specs.Rest.{other}
+use Rattle.abs_mem.specs.WireMeaning.{IsBeside}
 use Rattle.nub_wire.specs.Fits.{TellsFitting}
 use Rattle.near_link.specs.Fitting.{IsReady, FreshSidesAreReady}
-use Rattle.near_link.specs.Near.{near_conduct, Begins}
+use Rattle.near_link.specs.Near.{near_conduct, Begins, BeginsSide}
 use Rattle.ps_store.specs.declared.object.DictId.{DictId}
 use Rattle.ps_store.specs.declared.object.PsObj.{PsObj}
 use Rattle.ps_store.specs.declared.object.PsObj.TheVariants as obj
@@ -29,7 +32,7 @@ use Rattle.ps_store.specs.Store.{bytes_of}
 use Rattle.ps_step.specs.Results.{◌>>=◌}
 use Rattle.table_model.specs.Reading.{or_missing, string_in, string_at}
 use Rattle.table_run.specs.Shape.{HasShape, is_number, is_text, target_text, value_in}
-use Rattle.session.specs.Starting.{target_by, target_in, IsFirst}
+use Rattle.session.specs.Starting.{target_by, target_in, IsFirst, AreFirst}
 
 -- ---- the machine
 
@@ -101,16 +104,35 @@ table_target s target known shape =
 
 -- ---- the start
 
-pub first_is : (i : ImageFields) (schedule : List Entry) (w : World) (table : StoreState) → FreshSidesAreReady → Begins (i ∷ []) schedule w → (i.target ≡ MIPS) ⊎ (i.target ≡ SPARC) → HasShape table i.target
-    → IsFirst machine_behaviour near_conduct (Some w) First (loaded i) None table
-first_is i schedule w table ready begins known shape =
-    let fresh = begins.0 in
-    let host : w.first.host ≡ first_host machine_behaviour (loaded i) = ap (λ (s : LinkSide). s.host) fresh.0.side_is in
-    let at_rest : IsReady w.first = ready i w.first fresh in
+host_of : (i : ImageFields) (s : LinkSide) → BeginsSide i s → s.host ≡ first_host machine_behaviour (loaded i)
+host_of i s fresh = ap (λ (x : LinkSide). x.host) fresh.0.side_is
+
+-- a side of a new link, beside this host if it is named
+fresh_is : (i : ImageFields) (w : World) (side : Side) (now : LinkSide) (beside : Option Host) (table : StoreState) → FreshSidesAreReady → BeginsSide i now → side_of side w ≡ Some now → IsBeside (side_of (other side) w) beside
+    → (i.target ≡ MIPS) ⊎ (i.target ≡ SPARC) → HasShape table i.target → IsFirst machine_behaviour near_conduct (Some w) side (loaded i) beside table
+fresh_is i w side now beside table ready fresh there idle known shape =
+    let at_rest : IsReady now = ready i now fresh in
     let saved : Stays (loaded i) (machine_behaviour.saved (loaded i)).1 = saved_stays (loaded i) in
     record {
-      stands = record { conduct = refl; world = w; told = refl; now = w.first; there = refl; rest = at_rest.rests; host_is = host; fits = subst (TellsFitting machine_behaviour) host at_rest.fitting; beside_is = tt };
+      stands = record { conduct = refl; world = w; told = refl; now = now; there = there; rest = at_rest.rests; host_is = host_of i now fresh; fits = subst (TellsFitting machine_behaviour) (host_of i now fresh) at_rest.fitting; beside_is = idle };
       none_given = saved.given ∙ fresh.0.none_given;
       target = table_target table i.target known shape ∙ sym (saved.target ∙ loaded_target i known);
       nothing = shape.nothing;
     }
+
+-- it is idle, as the one beside another
+fresh_beside : (i : ImageFields) (s : LinkSide) (o : Option LinkSide) → FreshSidesAreReady → BeginsSide i s → o ≡ Some s → IsBeside o (Some (first_host machine_behaviour (loaded i)))
+fresh_beside i s o ready fresh e =
+    let at_rest : IsReady s = ready i s fresh in
+    subst (λ (x : Option LinkSide). IsBeside x (Some (first_host machine_behaviour (loaded i)))) (sym e) (at_rest.rests.idle, host_of i s fresh)
+
+pub first_is : (i : ImageFields) (schedule : List Entry) (w : World) (table : StoreState) → FreshSidesAreReady → Begins (i ∷ []) schedule w → (i.target ≡ MIPS) ⊎ (i.target ≡ SPARC) → HasShape table i.target
+    → IsFirst machine_behaviour near_conduct (Some w) First (loaded i) None table
+first_is i schedule w table ready begins known shape = fresh_is i w First w.first None table ready begins.0 refl tt known shape
+
+pub both_are : (i j : ImageFields) (schedule : List Entry) (w : World) (table other : StoreState) → FreshSidesAreReady → Begins (i ∷ j ∷ []) schedule w → (i.target ≡ MIPS) ⊎ (i.target ≡ SPARC) → (j.target ≡ MIPS) ⊎ (j.target ≡ SPARC)
+    → HasShape table i.target → HasShape other j.target → AreFirst machine_behaviour near_conduct (Some w) (loaded i) (loaded j) table other
+both_are i j schedule w table other ready begins known also shape too = record {
+  first = fresh_is i w First w.first (Some (first_host machine_behaviour (loaded j))) table ready begins.0 refl (fresh_beside j begins.1.0 w.second ready begins.1.2 begins.1.1) known shape;
+  second = fresh_is j w Second begins.1.0 (Some (first_host machine_behaviour (loaded i))) other ready begins.1.2 begins.1.1 (fresh_beside i w.first (Some w.first) ready begins.0 refl) also too;
+}

@@ -3,12 +3,15 @@ use Rattle.std.specs.Prelude.{◌≡◌, ◌⊎◌, ℕ, Bool, true, false, List
 use Rattle.claims.specs.Side.{SessionState}
 use Rattle.ldb_edge.specs.Known.{FileMap, known_and}
 use Rattle.cc_call.specs.declared.ended.Fault.{Fault}
+use Rattle.cc_call.specs.Faults.{TakesFront}
 use Rattle.ldb_top.specs.declared.status.Status.{Status}
-use Rattle.ldb_top.specs.declared.status.Status.TheVariants.{Done, Refused, NoFile, BadFile, TooLong}
+use Rattle.ldb_top.specs.declared.status.Status.TheVariants.{Done, Refused, Words, ReadFault, WriteFault, NoMemory, NoFile, BadFile, TooLong}
 use Rattle.ldb_top.specs.declared.status.Stop.{Stop}
 use Rattle.ldb_top.specs.Ahead.{lines_of}
 use Rattle.ldb_top.specs.Behind.{left_behind}
+use Rattle.ldb_top.specs.Bytes.{IsBehind}
 use Rattle.ldb_top.specs.Conversed.{HasConversed, HasConversedLate}
+use Rattle.ldb_top.specs.Fronts.{HasFaulted}
 use Rattle.ldb_top.specs.Late.{LateAs}
 use Rattle.ldb_top.specs.Lines.{line_of, late_line, IsLine}
 use Rattle.ldb_top.specs.Names.{Names, names_of}
@@ -56,8 +59,8 @@ HasConversedOver n old new raw st = HasConversed raw st (lines_of old.left) old.
 abbrev pub HasConversedLateOver : Names → (old new : Outside) → (raw : Bool) → SessionState → Type 0
 HasConversedLateOver n old new raw st = HasConversedLate raw st (lines_of old.left) old.taken new.taken (held_under new.held n.output)
 
--- A session was begun, and its commands were read; its output file is there. Over one target, where commands and transcript tell, it was the
--- conversation of the machine session up to the first open line.
+-- A session was begun, and its commands were read; its output file is there. Where commands and transcript tell, it was the conversation of
+-- the machine session up to the first open line.
 pub record EndsRead (form : Form) (n : Names) (old new : Outside) : Type 0 where
   pub begun : (known : FileMap) → old.held ≡ Some known → Begins form n known
   pub read : AreRead old new
@@ -71,19 +74,51 @@ pub record EndsLate (form : Form) (n : Names) (old new : Outside) : Type 0 where
   pub there : is_there n.output new.held ≡ true
   pub conversed : (known : FileMap) → old.held ≡ Some known → BeginsAs (HasConversedLateOver n old new) form n known
 
--- what each status says; those of faults say nothing here
+-- nothing was done
+pub record NothingDone (old new : Outside) : Type 0 where
+  pub held_is : new.held ≡ old.held
+  pub unread : new.left ≡ old.left
+  pub untold : new.taken ≡ old.taken
+
+-- A fault before a session: the line that tells why there is none was printed in part, and nothing else was done.
+pub record FaultsEarly (form : Form) (n : Names) (old new : Outside) : Type 0 where
+  pub stop : Stop
+  pub why : (known : FileMap) → old.held ≡ Some known → IsWhy form n known stop
+  pub line : IsLine n stop
+  pub told : TakesFront old.taken new.taken (line_of stop)
+  pub held_is : new.held ≡ old.held
+  pub unread : new.left ≡ old.left
+
+-- from a machine session on: its output file couldn't be made and nothing was done, or it is there and a front of a conversation was told and put
+abbrev pub HasFaultedOver : Names → (old new : Outside) → (raw : Bool) → SessionState → Type 0
+HasFaultedOver n old new raw st = NothingDone old new ⊎ HasFaulted raw st (lines_of old.left) old.taken new.taken (held_under new.held n.output)
+
+-- A fault once a session was begun. Of the commands what stands behind those bytes that were read is left.
+pub record FaultsLater (form : Form) (n : Names) (old new : Outside) : Type 0 where
+  pub left : IsBehind old.left new.left
+  pub begun : (known : FileMap) → old.held ≡ Some known → Begins form n known
+  pub conversed : (known : FileMap) → old.held ≡ Some known → BeginsAs (HasFaultedOver n old new) form n known
+
+-- what a fault leaves
+abbrev pub Faults : Form → Names → (old new : Outside) → Type 0
+Faults form n old new = FaultsEarly form n old new ⊎ FaultsLater form n old new
+
+-- what each status says
 abbrev pub Comes : Form → Names → (old new : Outside) → Status → Type 0
 Comes form n old new Done = EndsRead form n old new
 Comes form n old new TooLong = EndsEarly form n old new TooLong ⊎ EndsLate form n old new
 Comes form n old new Refused = EndsEarly form n old new Refused
 Comes form n old new NoFile = EndsEarly form n old new NoFile
 Comes form n old new BadFile = EndsEarly form n old new BadFile
-Comes form n old new _ = Unit {0}
+Comes form n old new ReadFault = Faults form n old new
+Comes form n old new WriteFault = Faults form n old new
+Comes form n old new NoMemory = Faults form n old new
+Comes form n old new Words = Unit {0}
 
--- the same of a result whose fault is none of these statuses
+-- the same of a result
 abbrev pub ComesTo : Form → Names → (old new : Outside) → Result Status Fault → Type 0
 ComesTo form n old new (Ok status) = Comes form n old new status
-ComesTo form n old new (Err fault) = Unit {0}
+ComesTo form n old new (Err fault) = Faults form n old new
 
 -- what the commands and the transcript tell of a session that was served
 abbrev pub Served : (old new : Outside) → Result Status Fault → Type 0
@@ -96,6 +131,7 @@ Served old new (Err fault) = Unit {0}
 abbrev pub ServedSo : (name : List ℕ) → (raw : Bool) → SessionState → (old new : Outside) → Result Status Fault → Type 0
 ServedSo name raw st old new (Ok Done) = HasConversed raw st (lines_of old.left) old.taken new.taken (held_under new.held name)
 ServedSo name raw st old new (Ok TooLong) = HasConversedLate raw st (lines_of old.left) old.taken new.taken (held_under new.held name)
+ServedSo name raw st old new (Err fault) = NothingDone old new ⊎ HasFaulted raw st (lines_of old.left) old.taken new.taken (held_under new.held name)
 ServedSo name raw st old new _ = Unit {0}
 
 -- so it is with words of these two forms
@@ -105,5 +141,6 @@ SessionComes (Some Go) words old new status = Comes Go (names_of Go (drop 1 word
 SessionComes _ words old new status = Unit {0}
 
 abbrev pub SessionComesTo : Option Form → (words : List (List ℕ)) → (old new : Outside) → Result Status Fault → Type 0
-SessionComesTo form words old new (Ok status) = SessionComes form words old new status
-SessionComesTo form words old new (Err fault) = Unit {0}
+SessionComesTo (Some Debug) words old new r = ComesTo Debug (names_of Debug (drop 1 words)) old new r
+SessionComesTo (Some Go) words old new r = ComesTo Go (names_of Go (drop 1 words)) old new r
+SessionComesTo _ words old new r = Unit {0}

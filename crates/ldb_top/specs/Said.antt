@@ -1,12 +1,12 @@
 -- What a call writes to the transcript.
-use Rattle.std.specs.Prelude.{◌≡◌, ℕ, List, ◌++◌, drop, codes, Option, Some, unwrap_or, IfSome}
+use Rattle.std.specs.Prelude.{◌≡◌, ℕ, List, ◌++◌, drop, codes, Option, None, Some, unwrap_or, IfSome}
 use Rattle.cc_call.specs.Lines.{name_in}
 use Rattle.ldb_make.specs.Words.{words}
 use Rattle.ldb_make.specs.Program.{program_text}
 use Rattle.ldb_make.specs.Commands.{commands_text}
 use Rattle.ldb_top.specs.declared.words.Request.{Request}
 use Rattle.ldb_top.specs.declared.words.Request.TheVariants as request
-use Rattle.ldb_top.specs.Words.{number_of, Debug, Go}
+use Rattle.ldb_top.specs.Words.{Form, number_of, Debug, Go, Make}
 use Rattle.ldb_top.specs.Names.{names_of, names_in_debug, names_in_go}
 
 -- some bytes have these in front
@@ -25,6 +25,12 @@ generated number = (program_text (words number) ++ codes "----\n") ++ commands_t
 -- the number of the words `make N`
 abbrev pub number_in : List (List ℕ) → ℕ
 number_in asked = unwrap_or (number_of (name_in (drop 1 asked) 0)) 0
+
+-- what words of a form print that reads no file, and those without a form, where it is defined
+abbrev pub printed : Option Form → (asked : List (List ℕ)) → Option (List ℕ)
+printed None asked = Some (codes "words\n")
+printed (Some Make) asked = Some (generated (number_in asked))
+printed (Some form) asked = None
 
 -- the names and numbers of a request are those of the words behind the first
 abbrev pub IsNamed : List (List ℕ) → Request → Type 0

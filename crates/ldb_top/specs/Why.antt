@@ -9,7 +9,7 @@ use Rattle.nub_wire.specs.Delivery.{World}
 use Rattle.targets.specs.Targets.{machine_behaviour, loaded}
 use Rattle.claims.specs.Side.{SessionState}
 use Rattle.session.specs.declared.conversation.Session.{Session}
-use Rattle.session.specs.Starting.{one_session}
+use Rattle.session.specs.Starting.{one_session, two_session}
 use Rattle.obj_file.specs.Image.{ImageFields, first_wrong, Reads}
 use Rattle.obj_file.specs.declared.image.ImageFault.{ImageFault}
 use Rattle.obj_file.specs.declared.image.ImageFault.TheVariants.{BadImage}
@@ -18,6 +18,7 @@ use Rattle.table_run.specs.declared.run.TableFault.{TableFault}
 use Rattle.table_run.specs.Shape.{HasShape}
 use Rattle.table_run.specs.Tables.{IsTableOf}
 use Rattle.ldb_cc.specs.declared.aim.Aim.{Aim}
+use Rattle.ldb_cc.specs.declared.aim.Aim.TheVariants.{Mips, Sparc}
 use Rattle.ldb_cc.specs.declared.fault.BuildFault.{BuildFault}
 use Rattle.ldb_cc.specs.Built.{IsBuilt}
 use Rattle.ldb_cc.specs.Scanning.{items_of}
@@ -76,7 +77,8 @@ abbrev pub BuildsFrom : {A : Type 0} → (names texts : List (List ℕ)) → Res
 BuildsFrom names texts (Ok begun) = AreProgram names texts
 BuildsFrom names texts (Err stop) = IsBuildWhy names texts stop
 
--- The image that one of the targets has of them, and the text of its table, with a store to which this comes.
+-- The image that one of the targets has of them, and the text of its table, with a store to which this comes, as the claims on whole
+-- sessions have it too (`table_run::tables_are_run`).
 pub record AreCompiled (aim : Aim) (names texts : List (List ℕ)) : Type 0 where
   pub image : ImageFields
   pub text : List ℕ
@@ -123,12 +125,24 @@ pub record AddsSide (image : ImageFields) (text : List ℕ) (images images' : Li
   pub images_are : images' ≡ images ++ image ∷ []
   pub tables_are : tables' ≡ tables ++ store ∷ []
 
--- the same, compiled of sources
+-- the same, compiled of sources for a target
 pub record AddsCompiled (aim : Aim) (names texts : List (List ℕ)) (images images' : List ImageFields) (tables tables' : List StoreState) : Type 0 where
   pub image : ImageFields
   pub text : List ℕ
   pub built : IsBuilt aim names texts image text
   pub adds : AddsSide image text images images' tables tables'
+
+-- for two of them, one after the other
+pub record AddsBoth (aim other : Aim) (names texts : List (List ℕ)) (images images' : List ImageFields) (tables tables' : List StoreState) : Type 0 where
+  pub images_between : List ImageFields
+  pub tables_between : List StoreState
+  pub first : AddsCompiled aim names texts images images_between tables tables_between
+  pub second : AddsCompiled other names texts images_between images' tables_between tables'
+
+-- for this target, or for MIPS and then SPARC
+abbrev pub AddsFor : Option Aim → (names texts : List (List ℕ)) → (images images' : List ImageFields) → (tables tables' : List StoreState) → Type 0
+AddsFor (Some aim) names texts images images' tables tables' = AddsCompiled aim names texts images images' tables tables'
+AddsFor None names texts images images' tables tables' = AddsBoth Mips Sparc names texts images images' tables tables'
 
 -- ---- machine sessions
 
@@ -136,13 +150,33 @@ pub record AddsCompiled (aim : Aim) (names texts : List (List ℕ)) (images imag
 abbrev pub starting : (input : List ℕ) → ImageFields → StoreState → SessionState
 starting input image store = one_session machine_behaviour input (loaded image) store
 
+-- and over two of them, which get the same input
+abbrev pub starting_both : (input : List ℕ) → (image other : ImageFields) → (store other_store : StoreState) → SessionState
+starting_both input image other store other_store = two_session machine_behaviour input (loaded image) (loaded other) store other_store
+
 -- a session over an image and a table takes `ps`
 abbrev pub IsLoaded : (text table_text input : List ℕ) → Session World → Type 0
 IsLoaded text table_text input session = (good : AreGood text table_text) × IsOver true session (starting input good.image good.store)
 
--- one over sources takes none
-abbrev pub IsCompiledFor : (aim : Aim) → (names texts : List (List ℕ)) → (input : List ℕ) → Session World → Type 0
-IsCompiledFor aim names texts input session = (built : AreCompiled aim names texts) × IsOver false session (starting input built.image built.store)
+-- a session over these images and tables: one of each, or two
+abbrev pub OverOne : (raw : Bool) → (input : List ℕ) → (images : List ImageFields) → (tables : List StoreState) → Session World → Type 0
+OverOne raw input images tables session = (image : ImageFields) (text : List ℕ) (one : AddsSide image text [] images [] tables) → IsOver raw session (starting input image one.store)
+
+abbrev pub OverBoth : (raw : Bool) → (input : List ℕ) → (images : List ImageFields) → (tables : List StoreState) → Session World → Type 0
+OverBoth raw input images tables session =
+    (image other : ImageFields) (text other_text : List ℕ) (images_between : List ImageFields) (tables_between : List StoreState)
+    → (one : AddsSide image text [] images_between [] tables_between) (two : AddsSide other other_text images_between images tables_between tables) → IsOver raw session (starting_both input image other one.store two.store)
+
+module _ (P : (raw : Bool) → SessionState → Type 0) where
+  -- So it is with the machine session over what sources were compiled to, which takes no `ps`: for the one target, or for both,
+  -- of which MIPS is first.
+  abbrev pub CompiledFor : Option Aim → (names texts : List (List ℕ)) → (input : List ℕ) → Type 0
+  CompiledFor (Some aim) names texts input = (built : AreCompiled aim names texts) × P false (starting input built.image built.store)
+  CompiledFor None names texts input =
+      (mips : AreCompiled Mips names texts) × (sparc : AreCompiled Sparc names texts) × P false (starting_both input mips.image sparc.image mips.store sparc.store)
+
+abbrev pub IsCompiledFor : Option Aim → (names texts : List (List ℕ)) → (input : List ℕ) → Session World → Type 0
+IsCompiledFor aim names texts input session = CompiledFor (λ (raw : Bool) (st : SessionState). IsOver raw session st) aim names texts input
 
 -- both are good, and the session stands for the machine session over them, or it is said what is wrong
 abbrev pub LoadsFrom : (text table_text input : List ℕ) → Result (Session World) Stop → Type 0
@@ -204,14 +238,9 @@ abbrev pub OfInput : (List ℕ → Type 0) → Names → FileMap → Type 0
 OfInput P n known = (input : List ℕ) × (files.get known n.input ≡ Some input) × P input
 
 module _ (P : (raw : Bool) → SessionState → Type 0) where
-  -- so it is with a machine session of one target, over sources that are compiled; of both at once nothing is said
-  abbrev pub OfAim : Option Aim → Names → FileMap → Type 0
-  OfAim None n known = Unit {0}
-  OfAim (Some aim) n known = OfInput (λ input. OfTexts (λ texts. (built : AreCompiled aim n.about texts) × P false (starting input built.image built.store)) n known) n known
-
   -- so it is with the machine session that is begun, in which `ps` is a command where this is true
   abbrev pub BeginsAs : Form → Names → FileMap → Type 0
-  BeginsAs Go n known = OfAim n.aim n known
+  BeginsAs Go n known = OfInput (λ input. OfTexts (λ texts. CompiledFor P n.aim n.about texts input) n known) n known
   BeginsAs Debug n known = OfInput (λ input. OfImage (λ text table_text. (good : AreGood text table_text) × P true (starting input good.image good.store)) n known) n known
   BeginsAs _ n known = ⊥
 

@@ -1,16 +1,13 @@
 // Machines and their tables: what a session stands on.
 ghost use Rattle.std.specs.Prelude.{◌≡◌, ◌≤◌, ◌+◌, ◌⊎◌, ℕ, List, [], length, map, string_bytes, IfErr, IfOk, OnOk, MatchResult, Some, Ok, Err, option_map};
 ghost use Rattle.ldb_edge.specs.Known.{FileMap};
-ghost use Rattle.obj_file.specs.Image.{ImageFields};
-ghost use Rattle.ldb_cc.specs.declared.aim.Aim.{Aim as OneAim};
 ghost use Rattle.table_run.specs.Tables.{IsTableOf};
 ghost use Rattle.ldb_cc.specs.Scanning.{items_of};
 ghost use Rattle.ldb_cc.specs.Sources.{IsCause};
 ghost use Rattle.ldb_top.specs.Lines.{table_word};
-ghost use Rattle.ldb_top.specs.Conversing.{IsOver};
 ghost use Rattle.ldb_top.specs.Names.{aim_in, names_in_debug, names_in_go};
 ghost use Rattle.ldb_top.specs.Stops.{IsBuildStop, IsLoadStop, IsGoStop, IsDebugStop, IsOpenStop};
-ghost use Rattle.ldb_top.specs.Why.{IsTableStop, IsImageTold, IsBuildWhy, BuildsFrom, AddsSide, AddsCompiled, IsCompiledFor, LoadsFrom, Opens, starting};
+ghost use Rattle.ldb_top.specs.Why.{IsTableStop, IsImageTold, IsBuildWhy, BuildsFrom, AddsSide, AddsCompiled, AddsFor, IsCompiledFor, LoadsFrom, Opens, OverOne, OverBoth};
 ghost use Rattle.ldb_top.specs.Words.{Debug, Go};
 
 use crate::reading::{line_with, read_file, read_input, read_sources};
@@ -154,8 +151,8 @@ impl Sides {
     ) -> Result<Session<NearLink>, Stop>
         requires { (length self.images.items ≡ 1) ⊎ (length self.images.items ≡ 2) }
         ensures stop { IfErr result (λ stop. stop ≡ Stop.NoMemory) }
-        ensures over { (image : ImageFields) (text : List ℕ) (one : AddsSide image text [] self.images.items [] self.tables.items) → length input.now ≤ 16777216
-            → IfOk result (λ session. IsOver raw session (starting input.now image one.store)) }
+        ensures over { length input.now ≤ 16777216 → IfOk result (OverOne raw input.now self.images.items self.tables.items) }
+        ensures over_both { length input.now ≤ 16777216 → IfOk result (OverBoth raw input.now self.images.items self.tables.items) }
     {
         near_nubs_fit();
         let link = NearLink::new(alloc, &self.images, schedule)?;
@@ -172,7 +169,7 @@ fn sides_of(alloc: Global, aims: Aims, names: &[Text], texts: &[Vec<u8>]) -> Res
     ensures count { IfOk result (λ sides. (length sides.images.items ≡ 1) ⊎ (length sides.images.items ≡ 2)) }
     ensures stop { IfErr result IsBuildStop }
     ensures builds { BuildsFrom names.now (map items_of texts.now) result }
-    ensures one { (aim : OneAim) → aim_in aims ≡ Some aim → IfOk result (λ sides. AddsCompiled aim names.now (map items_of texts.now) [] sides.images.items [] sides.tables.items) }
+    ensures adds { IfOk result (λ sides. AddsFor (aim_in aims) names.now (map items_of texts.now) [] sides.images.items [] sides.tables.items) }
 {
     let mut sides = Sides::new(alloc);
     match aims {
@@ -197,7 +194,7 @@ pub fn begin(
     requires { length names.now ≡ length texts.now }
     ensures stop { IfErr result IsBuildStop }
     ensures builds { BuildsFrom names.now (map items_of texts.now) result }
-    ensures over { (aim : OneAim) → aim_in aims ≡ Some aim → length input.now ≤ 16777216 → IfOk result (IsCompiledFor aim names.now (map items_of texts.now) input.now) }
+    ensures over { length input.now ≤ 16777216 → IfOk result (IsCompiledFor (aim_in aims) names.now (map items_of texts.now) input.now) }
 {
     let sides = sides_of(alloc, aims, names, texts)?;
     let entries = match schedule {
@@ -216,8 +213,8 @@ fn open_texts(
 ) -> Result<Session<NearLink>, Stop>
     requires { length texts.now ≡ length request.now.sources.now }
     ensures builds { BuildsFrom (map string_bytes request.now.sources.now) (map items_of texts.now) result }
-    ensures over { (aim : OneAim) → aim_in request.now.aims ≡ Some aim → length input.now ≤ 16777216
-        → IfOk result (IsCompiledFor aim (map string_bytes request.now.sources.now) (map items_of texts.now) input.now) }
+    ensures over { length input.now ≤ 16777216
+        → IfOk result (IsCompiledFor (aim_in request.now.aims) (map string_bytes request.now.sources.now) (map items_of texts.now) input.now) }
 {
     let names = names_of(alloc, request.sources)?;
     begin(alloc, request.aims, request.schedule, &names, texts, input)

@@ -6,6 +6,7 @@ use Rattle.machine_state.specs.State.{Behaviour}
 use Rattle.nub_wire.specs.Nub.{Host}
 use Rattle.nub_wire.specs.Delivery.{Conduct, World}
 use Rattle.resuming.proofs.Taken.{known_none}
+use Rattle.resuming.specs.Runs.{TakesFront}
 use Rattle.resuming.specs.declared.fault.RunFault.{RunFault}
 use Rattle.resuming.specs.declared.fault.RunFault.TheVariants.{Talk}
 use Rattle.wire_talk.specs.declared.fault.TalkFault.{TalkFault}
@@ -46,10 +47,12 @@ use Rattle.session.specs.declared.sides.SideRecord.{SideRecord}
 use Rattle.session.specs.Answered as session
 use Rattle.session.specs.Answered.{state_of, refusal_reply, limit_reply, error_reply, spent_reply}
 use Rattle.session.specs.declared.answers.End.{End}
+use Rattle.session.specs.declared.answers.End.TheVariants as end
 use Rattle.session.specs.Events.{event_line}
 use Rattle.session.specs.Kept.{AnswersFault}
 use Rattle.session.specs.Resuming.{StandsStill, OnSecond, goes_on}
-use Rattle.session.specs.Meant.{debugged, kind_of, other_kind, second_of, sides_of, IsThere, IsSecond, Hosts, AreSteady, Represents, ComesTo, AllPrepared, AllResumed, ResumesAll, MayAlsoRun, SaidAll, NotAll, Answered, AnswersAs, MeantAnswers, ResumesAs, IsSaid, IsAskable, IsResumable}
+use Rattle.session.specs.Meant.{debugged, kind_of, other_kind, second_of, sides_of, IsThere, IsSecond, Hosts, AreThere, AreSteady, Represents, ComesTo, AllPrepared, AllResumed, ResumesAll, MayAlsoRun, SaidAll, NotAll, PutInPart, Answered, AnswersAs, MeantAnswers, ResumesAs, IsSaid, IsAskable, IsResumable}
+use Rattle.session.proofs.Behind.{event_of_all, sides_behind, are_resumed}
 
 -- ---- replies
 
@@ -216,6 +219,27 @@ module _ (b : Behaviour) (c : Conduct) (steady : AreSteady b) (how : Resume) (o 
         put = r.put ∙ ap (λ (n : ℕ). known_and taken (its_output b kind one.row n p.hosts.first)) e;
       }
 
+  -- where its output failed, the answer is that of the sides as the resume would leave them
+  pub cut : (most : ℕ) (taken taken' : Option (List ℕ)) → most ≡ limit → TakesFront taken taken' (its_output b (kind_of one) one.row most p.hosts.first) → PutInPart st taken taken' (ResumesAs b how st)
+  cut most taken taken' same f =
+      let e : most ≡ st.limit = same ∙ sym x.limit_is in
+      let kind : MachineKind = kind_of one in
+      let other : MachineKind = other_kind one two in
+      let s1 : BothSides = sides_of one two p.hosts in
+      let all : SideEvent = event_of_all b kind other st.limit s1 in
+      let output : List ℕ = its_output b kind one.row st.limit p.hosts.first in
+      let q : (st' : SessionState) × IsAnswered b how all output (sides_behind b kind other st.limit s1) st st' =
+      resumes_answered (λ (target : _) (ps kept : _) (b d : _) m h. all_undone target b d ps kept m h) (λ (target : _) (ps kept : _) (b d : _) (r : _) m e h t. replanted target b d ps kept r m e h t)
+      b kind other how all (sides_of first second hs) s1 (sides_behind b kind other st.limit s1) st steady.runs fits x.sides p.prepared (are_resumed b kind other st.limit s1) in
+      record {
+        reply = event_text all ∷ [];
+        after = q.0;
+        output = output;
+        says = q.1.answers;
+        written = q.1.written;
+        front = subst (λ (n : ℕ). TakesFront taken taken' (its_output b kind one.row n p.hosts.first)) e f;
+      }
+
 -- ---- a command
 
 module _ (b : Behaviour) (c : Conduct) (o : Option World) (first : SideRecord) (second : Option SideRecord) (mode : Mode) (limit : ℕ) (hs : Hosts) (st : SessionState) (taken taken' : Option (List ℕ)) (none : taken' ≡ taken) (Says : Reply → SessionState → Type 0) where
@@ -247,7 +271,7 @@ module _ (b : Behaviour) (c : Conduct) (o : Option World) (first : SideRecord) (
     put = none ∙ known_none taken;
   })
   refuses u f f' (Ok answer.NoMemory) x says h = tt
-  refuses u f f' (Err e) x says h = tt
+  refuses u f f' (Err e) x says h = absurd h
 
 module _ (b : Behaviour) (c : Conduct) (o : Option World) (first : SideRecord) (second : Option SideRecord) (mode : Mode) (limit : ℕ) (st : SessionState) (taken taken' : Option (List ℕ)) (Says Says' : Reply → SessionState → Type 0) (to : (reply : Reply) (st' : SessionState) → Says reply st' → Says' reply st') (f f' : ℕ) where
   -- the same answer, where it is said of more
@@ -265,7 +289,8 @@ module _ (b : Behaviour) (c : Conduct) (o : Option World) (first : SideRecord) (
     put = h.put;
   })
   answers_to (Ok answer.NoMemory) h = tt
-  answers_to (Err e) h = tt
+  answers_to (Err end.Quit) h = tt
+  answers_to (Err end.OutFault) h = record { reply = h.reply; after = h.after; output = h.output; says = to h.reply h.after h.says; written = h.written; front = h.front }
 
 -- the answer to a command, by its refusal
 abbrev CommandAnswers : Behaviour → SessionState → Command → Option Refusal → Reply → SessionState → Type 0

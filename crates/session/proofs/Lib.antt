@@ -11,6 +11,7 @@ pub mod Leaving
 pub mod Registering
 pub mod Regs
 pub mod Resumed
+pub mod Behind
 pub mod Answering
 pub mod AskingOne
 pub mod AskingBoth

@@ -40,6 +40,7 @@ use Rattle.side_meaning.specs.Sessions.{BothSides, OnSecond, SidesStand, IsStill
 use Rattle.session.specs.declared.answers.Answer.{Answer}
 use Rattle.session.specs.declared.answers.Answer.TheVariants as answer
 use Rattle.session.specs.declared.answers.End.{End}
+use Rattle.session.specs.declared.answers.End.TheVariants as end
 use Rattle.session.specs.declared.modes.Mode.{Mode}
 use Rattle.session.specs.declared.sides.SideRecord.{SideRecord}
 use Rattle.session.specs.Answered.{state_of}
@@ -291,6 +292,15 @@ module _ (b : Behaviour) (c : Conduct) (o : Option World) (first : SideRecord) (
 
 -- ---- a command
 
+-- The output of one of the machine session's answers was put in part.
+pub record PutInPart (st : SessionState) (taken taken' : Option (List ℕ)) (Says : Reply → SessionState → Type 0) : Type 0 where
+  pub reply : Reply
+  pub after : SessionState
+  pub output : List ℕ
+  pub says : Says reply after
+  pub written : after.written ≡ st.written ++ output
+  pub front : TakesFront taken taken' output
+
 module _ (b : Behaviour) (c : Conduct) (o : Option World) (first : SideRecord) (second : Option SideRecord) (mode : Mode) (limit : ℕ) (st : SessionState) (taken taken' : Option (List ℕ)) where
   -- The answer is one of the machine session's, for which the session stands then; what it put is what that one wrote.
   pub record Answered (Says : Reply → SessionState → Type 0) (text : List ℕ) : Type 0 where
@@ -304,11 +314,12 @@ module _ (b : Behaviour) (c : Conduct) (o : Option World) (first : SideRecord) (
     pub written : after.written ≡ st.written ++ output
     pub put : taken' ≡ known_and taken output
 
-  -- So it is unless the link failed. Without memory nothing is said, and nothing where the output failed.
+  -- So it is unless the link failed. Without memory nothing is said; where the output failed, a front of that of an answer was put.
   abbrev pub AnswersAs : (Reply → SessionState → Type 0) → (faults faults' : ℕ) → Result Answer End → Type 0
   AnswersAs Says faults faults' (Ok (answer.Lines text)) = Rose faults faults' ⊎ Answered Says text
   AnswersAs Says faults faults' (Ok answer.NoMemory) = Unit {0}
-  AnswersAs Says faults faults' (Err e) = Unit {0}
+  AnswersAs Says faults faults' (Err end.Quit) = Unit {0}
+  AnswersAs Says faults faults' (Err end.OutFault) = PutInPart st taken taken' Says
 
 -- what a line, and a resume, answer in the machine session
 abbrev pub MeantAnswers : Behaviour → SessionState → Option Command → Reply → SessionState → Type 0

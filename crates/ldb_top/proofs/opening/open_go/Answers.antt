@@ -20,7 +20,7 @@ returns-in-Ok-read_input-clause-opens g c = λ known h.
     let read = subst (λ (texts : List (Vec ℕ)). AreRead known (map string_bytes c.args.request.now.sources.now) (map items_of texts)) (sym c.deref.ensures.value) sources.1 in
     let same = c.deref-in-Ok-read_input.ensures.value in
     go_opens (names_in_go c.args.request.now) known c.deref-in-Ok-read_input.result.now (map items_of c.deref.result.now) c.open_texts.result sources.0 read input.0 input.1 (input.2 ∙ ap Some (sym same)) c.open_texts.ensures.builds
-    (λ one e. c.open_texts.ensures.over one e (subst (λ (xs : List ℕ). length xs ≤ 16777216) (sym same) c.in-Ok-read_input.ensures.short))
+    (c.open_texts.ensures.over (subst (λ (xs : List ℕ). length xs ≤ 16777216) (sym same) c.in-Ok-read_input.ensures.short))
 
 pub returns-clause-opens : goal.returns-clause-opens
 returns-clause-opens g c = λ known h.

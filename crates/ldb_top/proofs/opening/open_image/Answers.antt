@@ -13,4 +13,4 @@ returns-in-Ok-add c =
     let one : AddsSide image c.args.table.now [] images [] tables =
     subst (λ (xs : List ImageFields). AddsSide image c.args.table.now xs images [] tables) c.new-sides.ensures.images
     (subst (λ (ys : List StoreState). AddsSide image c.args.table.now c.new-sides.result.images.items images ys tables) c.new-sides.ensures.tables c.in-Ok-add.ensures.adds) in
-    loaded_then c.args.image.now c.args.table.now c.args.input.now image images tables c.start.result c.in-Ok.ensures one c.start.ensures.stop (c.start.ensures.over image c.args.table.now one c.requires)
+    loaded_then c.args.image.now c.args.table.now c.args.input.now image images tables c.start.result c.in-Ok.ensures one c.start.ensures.stop (c.start.ensures.over c.requires)

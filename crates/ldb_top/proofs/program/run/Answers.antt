@@ -1,4 +1,4 @@
-use Rattle.std.proofs.Common.{◌≡◌, true, subst}
+use Rattle.std.proofs.Common.{◌≡◌, true, subst, inl, inr}
 use Rattle.ldb_top.specs.Ahead.{lines_of}
 use Rattle.ldb_top.specs.Behind.{LeftByAll}
 use Rattle.ldb_top.specs.Comes.{outside}
@@ -29,7 +29,14 @@ returns-in-Ok-Read-clause-so g c = λ raw st known over w h. c.in-Ok-Read.ensure
 pub returns-in-Ok-Late-clause-so : goal.returns-in-Ok-Late-clause-so
 returns-in-Ok-Late-clause-so g c = λ raw st known over w h.
     late_so c.args.output.now raw st (outside (g.F.Files.held c.args.files.now) (g.C.Source.left c.args.commands.now) (g.S.Sink.taken c.args.transcript.now))
-    (outside (g.F.Files.held c.serve.new.files) (g.C.Source.left c.serve.new.commands) (g.S.Sink.taken c.say.new.transcript)) (g.S.Sink.taken c.serve.new.transcript) c.say.result (c.in-Ok-Late.ensures.so raw st known over w h) c.say.ensures.outcome c.say.ensures.said
+    (outside (g.F.Files.held c.serve.new.files) (g.C.Source.left c.serve.new.commands) (g.S.Sink.taken c.say.new.transcript)) (g.S.Sink.taken c.serve.new.transcript) c.say.result
+    (subst (EndsAs (lines_of (g.C.Source.left c.args.commands.now))) c.in-Ok-Late.field-0-is c.in-Ok-Late.ensures.ends) (c.in-Ok-Late.ensures.so raw st known over w h) c.say.ensures.outcome c.say.ensures.said c.say.ensures.front
+
+pub returns-in-Err-clause-so : goal.returns-in-Err-clause-so
+returns-in-Err-clause-so g c = λ raw st known over w h. elim (c.in-Err.ensures.stopped raw st known over w h) [
+  | inl none ↦ inl none
+  | inr part ↦ inr (inl part)
+]
 
 pub returns-in-Ok-Read-clause-grows : goal.returns-in-Ok-Read-clause-grows
 returns-in-Ok-Read-clause-grows g c = takes_begins _ _ c.serve.ensures.grows

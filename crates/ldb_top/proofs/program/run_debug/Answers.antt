@@ -17,7 +17,7 @@ returns-in-Err-clause-comes g c =
     let n = names_in_debug c.args.request.now in
     told_comes Debug n (outside (g.F.Files.held c.args.files.now) (g.C.Source.left c.args.commands.now) (g.S.Sink.taken c.args.transcript.now))
     (outside (g.F.Files.held c.open_debug.new.files) (g.C.Source.left c.args.commands.now) (g.S.Sink.taken c.tell.new.transcript)) c.in-Err.stop c.tell.result c.tell.ensures.outcome c.in-Err.ensures.opens
-    (debug_told n _ _ _ c.in-Err.stop c.in-Err.ensures.cause) c.tell.ensures.said c.in-Err.ensures.same refl
+    (debug_told n _ _ _ c.in-Err.stop c.in-Err.ensures.cause) c.tell.ensures.said c.tell.ensures.front c.in-Err.ensures.same refl
 
 pub returns-in-Ok-clause-comes : goal.returns-in-Ok-clause-comes
 returns-in-Ok-clause-comes g c =
@@ -25,7 +25,7 @@ returns-in-Ok-clause-comes g c =
     let served = subst (λ h. Served (outside h (g.C.Source.left c.args.commands.now) (g.S.Sink.taken c.args.transcript.now)) new c.run.result) c.in-Ok.ensures.same c.run.ensures.served in
     served_comes Debug (names_in_debug c.args.request.now) (outside (g.F.Files.held c.args.files.now) (g.C.Source.left c.args.commands.now) (g.S.Sink.taken c.args.transcript.now)) new c.in-Ok.session c.run.result
     c.in-Ok.ensures.opens served c.run.ensures.made
-    (λ raw st known over w h. subst (λ held. ServedSo c.args.request.now.output.now raw st (outside held (g.C.Source.left c.args.commands.now) (g.S.Sink.taken c.args.transcript.now)) new c.run.result) c.in-Ok.ensures.same (c.run.ensures.so raw st known over w (c.in-Ok.ensures.same ∙ h)))
+    (λ raw st known over w h. subst (λ held. ServedSo c.args.request.now.output.now raw st (outside held (g.C.Source.left c.args.commands.now) (g.S.Sink.taken c.args.transcript.now)) new c.run.result) c.in-Ok.ensures.same (c.run.ensures.so raw st known over w (c.in-Ok.ensures.same ∙ h))) c.run.ensures.behind
 
 pub returns-in-Ok-clause-kept : goal.returns-in-Ok-clause-kept
 returns-in-Ok-clause-kept g c = λ start k. c.run.ensures.kept start (subst (λ h. OthersKept c.args.request.now.output.now start h) (sym c.in-Ok.ensures.same) k)

@@ -1,12 +1,13 @@
-use Rattle.std.proofs.Common.{rules, ◌≡◌, ℕ, Ok, inl, inr, ap, subst, sym, refl, ◌∙◌}
+use Rattle.std.proofs.Common.{rules, ◌≡◌, ℕ, Ok, Err, inl, inr, ap, subst, sym, refl, ◌∙◌}
 use Rattle.ldb_edge.specs.Count.{Rose}
 use Rattle.claims.specs.Resumes.{state_after}
 use Rattle.session.specs.declared.answers.Answer.TheVariants.{Lines}
 use Rattle.session.specs.Answered.{state_of, resume_of}
-use Rattle.session.specs.Meant.{ResumesAs}
+use Rattle.resuming.specs.declared.fault.RunFault.{RunFault}
+use Rattle.session.specs.Meant.{ResumesAs, ResumesAll}
 use Rattle.session.specs.Resuming.{goes_on, event_on}
 use Rattle.session.proofs.Telling.{told_line, faulted}
-use Rattle.session.proofs.Answering.{troubled, left_so, may_run, may_also_run, ran, rose_from, run_failed, broken_off}
+use Rattle.session.proofs.Answering.{troubled, left_so, may_run, may_also_run, ran, rose_from, run_failed, broken_off, cut}
 use Rattle.session.proofs.conversation.Session.resume.Goals as goal
 
 pub returns-in-Err-clause-resumes : goal.returns-in-Err-clause-resumes
@@ -91,3 +92,21 @@ returns-clause-meant g c = λ b hs st steady x may.
     let rose = run_failed b g.L.Link.conduct o2 before.first after.first before.second after.second p.hosts before.limit f1 f2 (g.O.Sink.taken c.args.out.now) (g.O.Sink.taken c.run.new.out) c.in-Err-Talk.field-0 c.in-Err-Talk.field-0-0 c.in-Err-Talk.field-0-is (c.in-Err-Talk.ensures.meant b p.hosts steady p.there m n) in
     broken_off b g.L.Link.conduct (g.L.Link.world last.talk.memory.below.below.below.link) last.first last.second last.mode last.limit st (g.O.Sink.taken c.args.out.now) (g.O.Sink.taken c.run.new.out) (ResumesAs b (resume_of c.args.how) st) f (g.L.Link.faults last.talk.memory.below.below.below.link) c.break_off.result after.broken c.break_off.ensures.some
     (subst (λ v. Rose f v) (ap (λ t. g.L.Link.faults t.memory.below.below.below.link) (sym c.break_off.ensures.talk)) (rose_from f f1 f2 c.in-Ok.ensures.faults rose))
+
+pub returns-in-Err-Output-clause-meant : goal.returns-in-Err-Output-clause-meant
+returns-in-Err-Output-clause-meant g c = λ b hs st steady x may.
+    let now = c.args.self.now in
+    let before = c.ready.new.self in
+    let after = c.run.new.self in
+    let o = g.L.Link.world now.talk.memory.below.below.below.link in
+    let o1 = g.L.Link.world before.talk.memory.below.below.below.link in
+    let o2 = g.L.Link.world after.talk.memory.below.below.below.link in
+    let f1 = g.L.Link.faults before.talk.memory.below.below.below.link in
+    let f2 = g.L.Link.faults after.talk.memory.below.below.below.link in
+    let p = c.in-Ok.ensures.meant b hs st x may in
+    let still = c.in-Ok.ensures.still in
+    let m = may_run b g.L.Link.conduct steady (resume_of c.args.how) o o1 o2 now.first before.first after.first now.second before.second after.second now.mode now.limit hs st x p still.0 in
+    let n = may_also_run b g.L.Link.conduct steady (resume_of c.args.how) o o1 o2 now.first before.first after.first now.second before.second after.second now.mode now.limit hs st x p still.1 in
+    let front = subst (λ (y : RunFault). ResumesAll b g.L.Link.conduct o2 before.first after.first before.second after.second p.hosts before.limit f1 f2 (g.O.Sink.taken c.args.out.now) (g.O.Sink.taken c.run.new.out) (Err y)) c.in-Err-Output.field-0-is
+    (c.in-Err-Output.ensures.meant b p.hosts steady p.there m n) in
+    cut b g.L.Link.conduct steady (resume_of c.args.how) o o1 o2 now.first before.first after.first now.second before.second after.second now.mode now.limit hs st x p before.limit _ _ c.in-Ok.ensures.limit front
