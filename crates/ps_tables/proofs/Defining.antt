@@ -145,6 +145,8 @@ module _ (s : StoreState) (i : ℕ) (unclosed : s.closed.dicts ≤ i) (there : i
         arrays = kept_array s put_store same_rest;
         part = refl;
         closed = refl;
+        base = refl;
+        command = refl;
         counted = omega arith;
       }
 

@@ -34,6 +34,8 @@ pub record Puts (s s' : StoreState) (d : DictId) (name : List ℕ) (v : PsObj) :
   pub arrays : (a : ArrayId) (xs : List PsObj) → IsArray s a xs → IsArray s' a xs
   pub part : s'.part ≡ s.part
   pub closed : s'.closed ≡ s.closed
+  pub base : s'.base ≡ s.base
+  pub command : s'.command ≡ s.command
   pub counted : s'.table.units + s'.command.units ≤ s.table.units + s.command.units + 1
 
 -- A definition in a text is executed: these values are made, and the value is put under the name of the topmost dictionary. The operands are as before.

@@ -1,5 +1,6 @@
 -- Stores that come of others where nothing is changed.
 use Rattle.std.specs.Prelude.{◌≡◌, ℕ, ◌+◌, ◌<◌, ◌≤◌, List, ◌++◌, length, drop}
+use Rattle.ps_store.specs.declared.object.Part.TheVariants.{Table}
 use Rattle.ps_store.specs.declared.object.PsObj.{PsObj}
 use Rattle.ps_store.specs.declared.object.ArrayId.{ArrayId}
 use Rattle.ps_store.specs.declared.object.DictId.{DictId}
@@ -19,6 +20,8 @@ pub record Later (units : ℕ) (s s' : StoreState) : Type 0 where
   pub dicts : (d : DictId) → IsThere s d → IsThere s' d × (entries_of s' d ≡ entries_of s d)
   pub part : s'.part ≡ s.part
   pub closed : s'.closed ≡ s.closed
+  pub base : s'.base ≡ s.base
+  pub command : s.part ≡ Table → s'.command ≡ s.command
   pub more : length s.table.dicts ≤ length s'.table.dicts
   pub counted : s'.table.units + s'.command.units ≤ s.table.units + s.command.units + units
 
