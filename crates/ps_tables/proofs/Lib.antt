@@ -9,10 +9,13 @@ pub mod Told
 pub mod Arrays
 pub mod Texts
 pub mod Stores
+pub mod Types
 pub mod Makers
 pub mod Tokens
 pub mod Values
 pub mod Pairs
+pub mod PieceSteps
+pub mod TypeTexts
 pub mod Pieces
 pub mod TablePieces
 pub mod Defining

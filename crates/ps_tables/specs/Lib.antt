@@ -4,7 +4,8 @@ pub mod Making
 pub mod Executed
 pub mod Later
 pub mod Makers
-pub mod Pieces
 pub mod TableWords
+pub mod Types
+pub mod Pieces
 pub mod TablePieces
 pub mod Defined

@@ -22,12 +22,13 @@ use Rattle.ps_tables.specs.Dictionaries.{Fields, updated}
 use Rattle.ps_tables.specs.Making.{HasFields}
 use Rattle.ps_tables.specs.Later.{Later, StandsAt}
 use Rattle.ps_tables.specs.Makers.{Maker, body, making_steps, taken_by, most, calls, Ready, MadeBy}
+use Rattle.ps_tables.specs.Types.{Type', type_term, type_steps, type_cost, IsType, KnowsType}
 
 -- ---- pieces
 
 -- A piece, and what stands behind it: an integer, a literal name, a string, a procedure; a word that stands for a value; an object of an array that a
 -- word stands for; a word that makes a dictionary of the values of parts; an array of items; what the dictionaries of the stack have under an integer;
--- a string that is to be executed later; a name and its value; a dictionary of names and values.
+-- a string that is to be executed later; a name and its value; a dictionary of names and values; a type.
 pub data Piece : Type 0 where
   End : Piece
   Number : (n : ℤ) (rest : Piece) → Piece
@@ -42,6 +43,7 @@ pub data Piece : Type 0 where
   Deferred : (text : List ℕ) (rest : Piece) → Piece
   Field : (name : List ℕ) (value rest : Piece) → Piece
   Pairs : (fields rest : Piece) → Piece
+  Typed : (t : Type') (rest : Piece) → Piece
 
 -- its term, and what stands behind it
 abbrev pub code : Piece → Code → Code
@@ -58,6 +60,7 @@ code (Loaded key x rest) k = Num key (Word (codes "load") (code rest k))
 code (Deferred text rest) k = Text text (Word (codes "cvx") (code rest k))
 code (Field name value rest) k = Lit name (code value (code rest k))
 code (Pairs fields rest) k = Word (codes "<<") (code fields (Word (codes ">>") (code rest k)))
+code (Typed t rest) k = type_term t (code rest k)
 
 -- the steps that it takes
 abbrev pub steps : Piece → ℕ
@@ -74,6 +77,7 @@ steps (Loaded key x rest) = suc (suc (steps rest))
 steps (Deferred text rest) = suc (suc (steps rest))
 steps (Field name value rest) = suc (further (steps value) (steps rest))
 steps (Pairs fields rest) = suc (further (steps fields) (suc (steps rest)))
+steps (Typed t rest) = further (type_steps t) (steps rest)
 
 -- how many values it leaves
 abbrev pub left_by : Piece → ℕ
@@ -90,6 +94,7 @@ left_by (Loaded key x rest) = suc (left_by rest)
 left_by (Deferred text rest) = suc (left_by rest)
 left_by (Field name value rest) = suc (suc (left_by rest))
 left_by (Pairs fields rest) = suc (left_by rest)
+left_by (Typed t rest) = suc (left_by rest)
 
 -- names with values, how many they are
 abbrev pub FieldsAlone : Piece → Type 0
@@ -116,6 +121,7 @@ cost (Loaded key x rest) = text_units (codes "load") + cost rest
 cost (Deferred text rest) = text_units text + text_units (codes "cvx") + cost rest
 cost (Field name value rest) = text_units name + (cost value + cost rest)
 cost (Pairs fields rest) = text_units (codes "<<") + cost fields + (text_units (codes ">>") + (1 + fields_in fields) + cost rest)
+cost (Typed t rest) = type_cost t + cost rest
 
 -- ---- what is known of the words
 
@@ -153,6 +159,7 @@ Knows s ds (Loaded key x rest) = Fine (Num key Stop) × (found_in s ds (IntKey k
 Knows s ds (Deferred text rest) = Fine (Text text Stop) × Knows s ds rest
 Knows s ds (Field name value rest) = Fine (Lit name Stop) × (left_by value ≡ 1) × Knows s ds value × Knows s ds rest
 Knows s ds (Pairs fields rest) = FieldsAlone fields × (fields_in fields ≤ 500000) × Knows s ds fields × Knows s ds rest
+Knows s ds (Typed t rest) = KnowsType s ds t × Knows s ds rest
 
 -- from so many operands on there are never more than 100,000, with 110 to spare
 abbrev pub HasRoom : ℕ → Piece → Type 0
@@ -169,12 +176,13 @@ HasRoom n (Loaded key x rest) = HasRoom (suc n) rest
 HasRoom n (Deferred text rest) = HasRoom (suc n) rest
 HasRoom n (Field name value rest) = HasRoom (suc n) value × HasRoom (suc (suc n)) rest
 HasRoom n (Pairs fields rest) = HasRoom (suc n) fields × HasRoom (suc n) rest
+HasRoom n (Typed t rest) = HasRoom (suc n) rest
 
 -- ---- the values
 
 -- What is known of operands, the topmost first: this object; the literal name or string of these characters; a procedure of this term; an array of items,
 -- of which the last one stands first; the dictionary that a word makes of these values, of which the last one stands first; a string to be executed; a
--- value on top of a literal name; a dictionary of such pairs.
+-- value on top of a literal name; a dictionary of such pairs; the object of a type.
 pub data Values : Type 0 where
   Bottom : Values
   This : (x : PsObj) (below : Values) → Values
@@ -186,6 +194,7 @@ pub data Values : Type 0 where
   Runs : (text : List ℕ) (below : Values) → Values
   Under : (name : List ℕ) (value below : Values) → Values
   Paired : (items below : Values) → Values
+  OfType : (t : Type') (below : Values) → Values
 
 -- what a piece leaves on top of others
 abbrev pub after : Piece → Values → Values
@@ -202,6 +211,7 @@ after (Loaded key x rest) vs = after rest (This x vs)
 after (Deferred text rest) vs = after rest (Runs text vs)
 after (Field name value rest) vs = after rest (Under name (after value Bottom) vs)
 after (Pairs fields rest) vs = after rest (Paired (after fields Bottom) vs)
+after (Typed t rest) vs = after rest (OfType t vs)
 
 -- pairs alone
 abbrev pub OnlyPairs : Values → Type 0
@@ -227,6 +237,7 @@ Show s xs (Entry m parts below) =
 Show s xs (Runs text below) = (t : StringId) × (ys : List PsObj) × (xs ≡ Str t true ∷ ys) × IsString s t text × Show s ys below
 Show s xs (Under name value below) =
     (v : PsObj) × (t : StringId) × (ys : List PsObj) × (xs ≡ v ∷ Name t false ∷ ys) × IsString s t name × (length name ≤ 127) × Show s (v ∷ []) value × Show s ys below
+Show s xs (OfType t below) = (x : PsObj) × (ys : List PsObj) × (xs ≡ x ∷ ys) × IsType s x t × Show s ys below
 Show s xs (Paired items below) = (d : DictId) × (zs ys : List PsObj) × (xs ≡ Dict d ∷ ys) × HasFields s d (pairs items zs) × Show s zs items × Show s ys below
 
 -- A part of a text is executed: in so many steps, with at most so many units made, these values come on top of operands, and the text goes on behind it.
