@@ -130,6 +130,9 @@ module _ (s : StoreState) (i : ℕ) (unclosed : s.closed.dicts ≤ i) (there : i
   same_rest : Same s put_store
   same_rest = record { arrays = arrays_same; strings = strings_same }
 
+  pub entries_put : entries_of put_store D ≡ put_at es name t v
+  entries_put = get_or-set_same s.table.dicts i (put_at es name t v) [] there
+
   pub puts : Puts s put_store D name v
   puts =
       let fs : List (Key × Pair) = put_at es name t v in

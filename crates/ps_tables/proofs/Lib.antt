@@ -15,8 +15,9 @@ pub mod Tokens
 pub mod Values
 pub mod Pairs
 pub mod PieceSteps
+pub mod Defining
 pub mod TypeTexts
+pub mod News
 pub mod Pieces
 pub mod TablePieces
-pub mod Defining
 pub mod Definitions

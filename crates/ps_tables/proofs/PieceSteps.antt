@@ -55,7 +55,7 @@ pub load_fine : Fine (Word (codes "load") Stop)
 unfolding is_white is_special is_regular
 load_fine = fine (Word (codes "load") Stop) refl
 
-load_number : operator_number (codes "load") ≡ Some 29
+pub load_number : operator_number (codes "load") ≡ Some 29
 unfolding operator_number
 load_number = refl
 

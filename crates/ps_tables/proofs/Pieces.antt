@@ -40,7 +40,7 @@ use Rattle.ps_tables.specs.Dictionaries.{Fields, AreFields, with_dict, next_dict
 use Rattle.ps_tables.specs.Making.{IsMaking, HasFields}
 use Rattle.ps_tables.specs.Later.{Later, StandsAt}
 use Rattle.ps_tables.specs.Makers.{Maker, body, making_steps, taken_by, most, calls, Ready, Leaves, MadeBy}
-use Rattle.ps_tables.specs.Pieces.{Piece, End, Number, Literal, Chars, Quote, Value, Element, Make, Row, Loaded, Deferred, Field, Pairs, Typed, fields_in, code, steps, left_by, cost, IsValue, Gives, itself, Knows, HasRoom, Values, Bottom, This, Named, Written, Quoted, Listed, Entry, Runs, Under, Paired, OfType, after, Show, Performs}
+use Rattle.ps_tables.specs.Pieces.{Piece, End, Number, Literal, Chars, Quote, Value, Element, Make, Row, Loaded, Deferred, Field, Pairs, Typed, New, Entries, putting_steps, putting_cost, entry_values, fields_in, code, steps, left_by, cost, IsValue, Gives, itself, Knows, HasRoom, Values, Bottom, This, Named, Written, Quoted, Listed, Entry, Runs, Under, Paired, OfType, after, Show, Performs}
 use Rattle.ps_tables.specs.Types.{Type', type_steps, type_cost}
 use Rattle.ps_tables.proofs.Going.{takes_then, takes_one}
 use Rattle.ps_tables.proofs.Putting.{entries_there}
@@ -52,6 +52,7 @@ use Rattle.ps_tables.proofs.Pairs.{ClosesPairs, closes_pairs}
 use Rattle.ps_tables.proofs.Tokens.{head_is, gives_value, Met, meets, Stays, met_step, Pushed, Acted, word_acts, word_pushes, number_pushes}
 use Rattle.ps_tables.proofs.PieceSteps.{pairs_fine, pairs_number, open_fine, open_number, steps_on, push_on, met_on, MakesEntry, makes_entry, Closes, closes, opens, Gets, gets, Loads, loads, Turns, turns}
 use Rattle.ps_tables.proofs.TypeTexts.{TypeDone, type_done}
+use Rattle.ps_tables.proofs.News.{MakesNew, makes_new}
 use Rattle.ps_tables.proofs.Values.{only_pairs, fields_left, left_length, mark_shown, show_later, knows_later, room_now, room_behind}
 
 module _ (ds : List DictId) (t : StringId) (under : List Item) (items_fit : length under + 100 ≤ 1000) (post : List ℕ) where
@@ -345,6 +346,17 @@ module _ (ds : List DictId) (t : StringId) (under : List Item) (items_fit : leng
       (of_rest k (OfType t' vs) p.store (p.object ∷ xs) o p.to (making_later u s p.store p.later ds is) (knows_later u s p.store p.later ds is.there rest knows.1) room (omega arith)
       (p.object, xs, refl, p.is, show_later u s p.store p.later vs xs shows) p.stands)
 
+  new_performs : (room : ℕ) (entries : Entries) (rest : Piece) → Performing rest → Performing (New room entries rest)
+  new_performs size entries rest of_rest k vs s xs o at is knows room units_fit shows h =
+      let u : ℕ = text_units (codes "dict") + 1 + putting_cost entries in
+      let fits : length (xs ++ o) + 120 ≤ 100000 = room.0 in
+      let p : MakesNew ds t under post entries (code rest k) s (xs ++ o) size at = makes_new ds t under post entries (code rest k) s (xs ++ o) size at is knows.0 knows.1 knows.2 fits (omega arith) h in
+      let counted : p.store.table.units + p.store.command.units ≤ s.table.units + s.command.units + u = p.later.counted in
+      steps_on ds o t under (render k ++ post) u (cost rest) (cost (New size entries rest)) (further 2 (putting_steps entries)) (steps rest) (after rest (Paired (entry_values entries Bottom) vs)) s p.store
+      (xs ++ o) (Dict p.dict ∷ (xs ++ o)) at p.to (omega arith) p.later p.takes
+      (of_rest k (Paired (entry_values entries Bottom) vs) p.store (Dict p.dict ∷ xs) o p.to (making_later u s p.store p.later ds is) (knows_later u s p.store p.later ds is.there rest knows.3) room.1 (omega arith)
+      (p.dict, p.values, xs, refl, p.has, p.shows, show_later u s p.store p.later vs xs shows) p.stands)
+
   pub performs : (p : Piece) → Performing p
   performs End = end_performs
   performs (Number n rest) = number_performs n rest (performs rest)
@@ -360,3 +372,4 @@ module _ (ds : List DictId) (t : StringId) (under : List Item) (items_fit : leng
   performs (Field name value rest) = field_performs name value rest (performs value) (performs rest)
   performs (Pairs fields rest) = pairs_performs fields rest (performs fields) (performs rest)
   performs (Typed t' rest) = typed_performs t' rest (performs rest)
+  performs (New room entries rest) = new_performs room entries rest (performs rest)

@@ -10,7 +10,7 @@ use Rattle.ps_step.specs.Marks.{mark_from}
 use Rattle.ps_tables.specs.Later.{Later}
 use Rattle.ps_tables.specs.Making.{AreThere}
 use Rattle.ps_tables.specs.Makers.{body}
-use Rattle.ps_tables.specs.Pieces.{Piece, End, Number, Literal, Chars, Quote, Value, Element, Make, Row, Loaded, Deferred, Field, Pairs, Typed, left_by, FieldsAlone, fields_in, IsValue, Knows, HasRoom, Values, Bottom, This, Named, Written, Quoted, Listed, Entry, Runs, Under, Paired, OfType, after, OnlyPairs, pairs, Show}
+use Rattle.ps_tables.specs.Pieces.{Piece, End, Number, Literal, Chars, Quote, Value, Element, Make, Row, Loaded, Deferred, Field, Pairs, Typed, New, Given, Called, Counted, Meant, Loads, Entries, KnowsGiven, KnowsEntries, IsNoMark, entry_values, left_by, FieldsAlone, fields_in, IsValue, Knows, HasRoom, Values, Bottom, This, Named, Written, Quoted, Listed, Entry, Runs, Under, Paired, OfType, That, after, OnlyPairs, pairs, Show}
 use Rattle.ps_tables.specs.Types.{Type', Basic, Nothing, To, Many, Numbered, IsSized, IsType}
 use Rattle.ps_tables.proofs.Types.{type_later, knows_type_later}
 use Rattle.ps_tables.proofs.Stores.{found_later, named_later, fields_later, has_array_later, body_later, means_later, ready_later, made_later}
@@ -29,6 +29,7 @@ count (Runs text below) = suc (count below)
 count (Under name value below) = suc (suc (count below))
 count (Paired items below) = suc (count below)
 count (OfType t below) = suc (count below)
+count (That x below) = suc (count below)
 
 count_after : (p : Piece) (vs : Values) → count (after p vs) ≡ left_by p + count vs
 count_after End vs = omega arith
@@ -45,6 +46,7 @@ count_after (Deferred text rest) vs = let e = count_after rest (Runs text vs) in
 count_after (Field name value rest) vs = let e = count_after rest (Under name (after value Bottom) vs) in omega arith
 count_after (Pairs fields rest) vs = let e = count_after rest (Paired (after fields Bottom) vs) in omega arith
 count_after (Typed t rest) vs = let e = count_after rest (OfType t vs) in omega arith
+count_after (New room entries rest) vs = let e = count_after rest (Paired (entry_values entries Bottom) vs) in omega arith
 
 count_shown : (s : StoreState) (vs : Values) (xs : List PsObj) → Show s xs vs → length xs ≡ count vs
 count_shown s Bottom xs h = ap length h
@@ -58,6 +60,7 @@ count_shown s (Runs text below) xs h = ap length h.2 ∙ ap suc (count_shown s b
 count_shown s (Under name value below) xs h = ap length h.3 ∙ ap (λ n. suc (suc n)) (count_shown s below h.2 h.7)
 count_shown s (Paired items below) xs h = ap length h.3 ∙ ap suc (count_shown s below h.2 h.6)
 count_shown s (OfType t below) xs h = ap length h.2 ∙ ap suc (count_shown s below h.1 h.4)
+count_shown s (That x below) xs h = ap length h.1 ∙ ap suc (count_shown s below h.0 h.3)
 
 -- a piece leaves so many
 pub left_length : (s : StoreState) (p : Piece) (xs : List PsObj) → Show s xs (after p Bottom) → length xs ≡ left_by p
@@ -68,7 +71,18 @@ left_length s p xs h =
 
 -- ---- none is a mark
 
-mark_behind : (x : PsObj) (xs zs : List PsObj) (n : ℕ) → IsValue x → mark_from (n + 1) (xs ++ zs) ≡ mark_from (n + 1 + length xs) zs → mark_from n (x ∷ (xs ++ zs)) ≡ mark_from (n + suc (length xs)) zs
+value_no_mark : (x : PsObj) → IsValue x → IsNoMark x
+value_no_mark (Int i) h = tt
+value_no_mark (Truth b) h = tt
+value_no_mark (Name t x) h = tt
+value_no_mark (Str t x) h = tt
+value_no_mark (Array a x) h = tt
+value_no_mark (Dict d) h = tt
+value_no_mark (Op o) h = tt
+value_no_mark Mark h = absurd h
+value_no_mark Null h = tt
+
+mark_behind : (x : PsObj) (xs zs : List PsObj) (n : ℕ) → IsNoMark x → mark_from (n + 1) (xs ++ zs) ≡ mark_from (n + 1 + length xs) zs → mark_from n (x ∷ (xs ++ zs)) ≡ mark_from (n + suc (length xs)) zs
 mark_behind (Int i) xs zs n h e = e ∙ ap (λ k. mark_from k zs) (omega arith)
 mark_behind (Truth b) xs zs n h e = e ∙ ap (λ k. mark_from k zs) (omega arith)
 mark_behind (Name t x) xs zs n h e = e ∙ ap (λ k. mark_from k zs) (omega arith)
@@ -96,7 +110,8 @@ MarkAt zs xs n = mark_from n (xs ++ zs) ≡ mark_from (n + length xs) zs
 
 pub mark_shown : (s : StoreState) (vs : Values) (xs zs : List PsObj) (n : ℕ) → Show s xs vs → MarkAt zs xs n
 mark_shown s Bottom xs zs n h = subst (λ (l : List PsObj). MarkAt zs l n) (sym h) (ap (λ k. mark_from k zs) (omega arith))
-mark_shown s (This x below) xs zs n h = subst (λ (l : List PsObj). MarkAt zs l n) (sym h.1) (mark_behind x h.0 zs n h.2 (mark_shown s below h.0 zs (n + 1) h.3))
+mark_shown s (That x below) xs zs n h = subst (λ (l : List PsObj). MarkAt zs l n) (sym h.1) (mark_behind x h.0 zs n h.2 (mark_shown s below h.0 zs (n + 1) h.3))
+mark_shown s (This x below) xs zs n h = subst (λ (l : List PsObj). MarkAt zs l n) (sym h.1) (mark_behind x h.0 zs n (value_no_mark x h.2) (mark_shown s below h.0 zs (n + 1) h.3))
 mark_shown s (Named name below) xs zs n h =
     subst (λ (l : List PsObj). MarkAt zs l n) (sym h.2) (mark_shown s below h.1 zs (n + 1) h.4 ∙ ap (λ k. mark_from k zs) (omega arith))
 mark_shown s (Written text below) xs zs n h =
@@ -115,7 +130,7 @@ mark_shown s (Under name value below) xs zs n h =
 mark_shown s (Paired items below) xs zs n h =
     subst (λ (l : List PsObj). MarkAt zs l n) (sym h.3) (mark_shown s below h.2 zs (n + 1) h.6 ∙ ap (λ k. mark_from k zs) (omega arith))
 mark_shown s (OfType t below) xs zs n h =
-    subst (λ (l : List PsObj). MarkAt zs l n) (sym h.2) (mark_behind h.0 h.1 zs n (type_value s h.0 t h.3) (mark_shown s below h.1 zs (n + 1) h.4))
+    subst (λ (l : List PsObj). MarkAt zs l n) (sym h.2) (mark_behind h.0 h.1 zs n (value_no_mark h.0 (type_value s h.0 t h.3)) (mark_shown s below h.1 zs (n + 1) h.4))
 
 -- ---- in a later store
 
@@ -132,7 +147,18 @@ module _ (u : ℕ) (s s' : StoreState) (later : Later u s s') where
   show_later (Runs text below) xs h = (h.0, h.1, h.2, later.strings h.0 text h.3, show_later below h.1 h.4)
   show_later (Under name value below) xs h = (h.0, h.1, h.2, h.3, later.strings h.1 name h.4, h.5, show_later value (h.0 ∷ []) h.6, show_later below h.2 h.7)
   show_later (OfType t below) xs h = (h.0, h.1, h.2, type_later u s s' later h.0 t h.3, show_later below h.1 h.4)
+  show_later (That x below) xs h = (h.0, h.1, h.2, show_later below h.0 h.3)
   show_later (Paired items below) xs h = (h.0, h.1, h.2, h.3, fields_later u s s' later h.0 (pairs items h.1) h.4, show_later items h.1 h.5, show_later below h.2 h.6)
+
+  pub given_later : (ds : List DictId) → AreThere s ds → (g : Given) → KnowsGiven s ds g → KnowsGiven s' ds g
+  given_later ds there (Called name) h = h
+  given_later ds there (Counted n) h = h
+  given_later ds there (Meant word x) h = (h.0, h.1, named_later u s s' later ds word there ∙ h.2, h.3)
+  given_later ds there (Loads name x) h = (h.0, named_later u s s' later ds name there ∙ h.1, h.2)
+
+  pub entries_later : (ds : List DictId) → AreThere s ds → (es : Entries) → KnowsEntries s ds es → KnowsEntries s' ds es
+  entries_later ds there [] h = h
+  entries_later ds there (e ∷ es) h = (h.0, given_later ds there e.1 h.1, entries_later ds there es h.2)
 
   pub knows_later : (ds : List DictId) → AreThere s ds → (p : Piece) → Knows s ds p → Knows s' ds p
   knows_later ds there End h = h
@@ -150,6 +176,7 @@ module _ (u : ℕ) (s s' : StoreState) (later : Later u s s') where
   knows_later ds there (Field name value rest) h = (h.0, h.1, knows_later ds there value h.2, knows_later ds there rest h.3)
   knows_later ds there (Pairs fields rest) h = (h.0, h.1, knows_later ds there fields h.2, knows_later ds there rest h.3)
   knows_later ds there (Typed t rest) h = (knows_type_later u s s' later ds there t h.0, knows_later ds there rest h.1)
+  knows_later ds there (New room entries rest) h = (h.0, h.1, entries_later ds there entries h.2, knows_later ds there rest h.3)
 
 -- ---- room
 
@@ -168,6 +195,7 @@ room_now (Deferred text rest) n h = let e = room_now rest (suc n) h in omega ari
 room_now (Field name value rest) n h = let e = room_now rest (suc (suc n)) h.1 in omega arith
 room_now (Pairs fields rest) n h = let e = room_now rest (suc n) h.1 in omega arith
 room_now (Typed t rest) n h = let e = room_now rest (suc n) h in omega arith
+room_now (New room entries rest) n h = let e = h.0 in omega arith
 
 -- what a piece leaves has room
 pub room_behind : (p : Piece) (n : ℕ) → HasRoom n p → n + left_by p + 110 ≤ 100000
@@ -185,6 +213,7 @@ room_behind (Deferred text rest) n h = let e = room_behind rest (suc n) h in ome
 room_behind (Field name value rest) n h = let e = room_behind rest (suc (suc n)) h.1 in omega arith
 room_behind (Pairs fields rest) n h = let e = room_behind rest (suc n) h.1 in omega arith
 room_behind (Typed t rest) n h = let e = room_behind rest (suc n) h in omega arith
+room_behind (New room entries rest) n h = let e = room_behind rest (suc n) h.1 in omega arith
 
 -- ---- pairs
 
@@ -203,6 +232,7 @@ only_after (Loaded key x rest) vs h k = absurd h
 only_after (Deferred text rest) vs h k = absurd h
 only_after (Pairs fields rest) vs h k = absurd h
 only_after (Typed t rest) vs h k = absurd h
+only_after (New room entries rest) vs h k = absurd h
 
 pub only_pairs : (p : Piece) → FieldsAlone p → OnlyPairs (after p Bottom)
 only_pairs p h = only_after p Bottom h tt
@@ -222,3 +252,4 @@ fields_left (Loaded key x rest) h = absurd h
 fields_left (Deferred text rest) h = absurd h
 fields_left (Pairs fields rest) h = absurd h
 fields_left (Typed t rest) h = absurd h
+fields_left (New room entries rest) h = absurd h
