@@ -23,7 +23,7 @@ use Rattle.ps_step.specs.Composites.{same_dict}
 use Rattle.ps_tables.specs.Later.{IsThere}
 use Rattle.ps_tables.specs.Defined.{Puts}
 use Rattle.ps_tables.proofs.Kept.{Same, kept_string, kept_array}
-use Rattle.ps_tables.proofs.Putting.{pair_of, put_if, put_at, replaced_length}
+use Rattle.ps_tables.proofs.Putting.{pair_of, put_if, put_at, put_length, replaced_length}
 
 -- ---- pairs
 
@@ -142,6 +142,7 @@ module _ (s : StoreState) (i : ℕ) (unclosed : s.closed.dicts ≤ i) (there : i
       record {
         found = ap (λ (l : List (Key × Pair)). value_at l (NameKey name)) here ∙ put_found name v es t;
         others = λ key apart. ap (λ (l : List (Key × Pair)). value_at l key) here ∙ put_other name v key apart es t;
+        few = subst (λ (l : List (Key × Pair)). length l ≤ length es + 1) (sym here) (put_length es name t v);
         dicts = λ e apart. other_entries e apart fs u;
         there = λ e h. put_there e.part e.index fs u h;
         strings = kept_string s put_store same_rest;

@@ -38,7 +38,7 @@ use Rattle.ps_terms.proofs.Sound.{push_next, Enters, enters}
 use Rattle.ps_tables.specs.Taken.{Takes}
 use Rattle.ps_tables.specs.Dictionaries.{Fields, AreFields, with_dict, next_dict}
 use Rattle.ps_tables.specs.Making.{IsMaking, HasFields}
-use Rattle.ps_tables.specs.Later.{Later, StandsAt}
+use Rattle.ps_tables.specs.Later.{IsOpen, Later, StandsAt}
 use Rattle.ps_tables.specs.Makers.{Maker, body, making_steps, taken_by, most, calls, Ready, Leaves, MadeBy}
 use Rattle.ps_tables.specs.Pieces.{Piece, End, Number, Literal, Chars, Quote, Value, Element, Make, Row, Loaded, Deferred, Field, Pairs, fields_in, code, steps, left_by, cost, IsValue, Gives, itself, Knows, HasRoom, Values, Bottom, This, Named, Written, Quoted, Listed, Entry, Runs, Under, Paired, after, Show, Performs}
 use Rattle.ps_tables.proofs.Going.{takes_then, takes_one}
@@ -140,6 +140,7 @@ module _ (s : StoreState) (ds : List DictId) (is : IsMaking s ds) (t : StringId)
     pub later : Later cost s store
     pub has : HasFields store dict fields
     pub are : MadeBy store m zs fields
+    pub opened : IsOpen store dict
     pub stands : StandsAt store t to text
     pub takes : Takes (suc (making_steps m)) (core s ds (zs ++ o) (TextItem t at ∷ under)) (core store ds (Dict dict ∷ o) (TextItem t to ∷ under))
 
@@ -181,6 +182,7 @@ module _ (s : StoreState) (ds : List DictId) (is : IsMaking s ds) (t : StringId)
           short = short_made s₁ ds m zs l.fields (ready_later (units (Word word Stop)) s s₁ a.later ds is.there m ready) l.are;
         };
         are = made_later (1 + length es) s₁ s₂ made m zs l.fields l.are;
+        opened = (length s₁.table.dicts, refl, is₁.closed);
         stands = stands_later (1 + length es) s₁ s₂ made t a.to (render k ++ post) a.stands;
         takes = takes_then 1 (making_steps m) c₀ c₁ c₂ (takes_one c₀ c₁ entering) l.makes.takes;
       }

@@ -175,7 +175,7 @@ module _ (ds : List DictId) (t : StringId) (under : List Item) (items_fit : leng
       let all : Later (cost parts + u) s s₂ = later_then (cost parts) u s s₁ s₂ a.later w.later in
       let p : Performs (cost rest) (steps rest) (after rest (Entry m (after parts Bottom) vs)) s₂ ds (Dict w.dict ∷ (xs ++ o)) o t w.to (render k ++ post) under =
       of_rest k (Entry m (after parts Bottom) vs) s₂ (Dict w.dict ∷ xs) o w.to (making_later (cost parts + u) s s₂ all ds is) (knows_later (cost parts + u) s s₂ all ds is.there rest knows.6) room.1 (omega arith)
-      (w.dict, zs, xs, w.fields, refl, w.has, w.are, show_later u s₁ s₂ w.later (after parts Bottom) zs a.shows, show_later (cost parts + u) s s₂ all vs xs shows) w.stands in
+      (w.dict, zs, xs, w.fields, refl, w.has, w.are, w.opened, show_later u s₁ s₂ w.later (after parts Bottom) zs a.shows, show_later (cost parts + u) s s₂ all vs xs shows) w.stands in
       steps_on ds o t under (render k ++ post) (cost parts) (u + cost rest) (cost (Make word m parts rest)) (steps parts) (suc (further (making_steps m) (steps rest))) (after rest (Entry m (after parts Bottom) vs)) s s₁
       (xs ++ o) (zs ++ (xs ++ o)) at a.to (omega arith) a.later a.takes
       (steps_on ds o t under (render k ++ post) u (cost rest) (u + cost rest) (suc (making_steps m)) (steps rest) (after rest (Entry m (after parts Bottom) vs)) s₁ s₂

@@ -25,7 +25,7 @@ use Rattle.ps_terms.specs.Machine.{Does}
 use Rattle.ps_terms.specs.Stands.{Means}
 use Rattle.ps_tables.specs.Dictionaries.{Fields, AreFields, none as no_fields, field, with_dict}
 use Rattle.ps_tables.specs.Making.{AreThere, IsMaking, HasFields}
-use Rattle.ps_tables.specs.Later.{IsThere, Later, StandsAt}
+use Rattle.ps_tables.specs.Later.{IsThere, IsOpen, Later, StandsAt}
 use Rattle.ps_tables.specs.Makers.{Maker, Fresh, Begun, Twice, More, Told, body, Ready, MadeBy}
 use Rattle.ps_tables.proofs.Kept.{Same, made_same, kept_string, kept_array, dict_kept}
 
@@ -198,6 +198,9 @@ module _ (u : ℕ) (s s' : StoreState) (later : Later u s s') where
   made_later (Twice word dict begun room keys first second) vs fields h = h
   made_later (More word m keys) vs fields h = (h.0, h.1, h.2, h.3, made_later m h.0 h.2 h.4, h.5)
   made_later (Told word m key name) vs fields h = (h.0, h.1, later.strings h.1 name h.2, made_later m vs h.0 h.3, h.4)
+
+  pub open_later : (d : DictId) → IsOpen s d → IsOpen s' d
+  open_later d h = (h.0, h.1, subst (λ (m : Mark). m.dicts ≤ h.0) (sym later.closed) h.2)
 
   pub stands_later : (t : StringId) (at : ℕ) (rest : List ℕ) → StandsAt s t at rest → StandsAt s' t at rest
   stands_later t at rest h = record { text = h.text; lead = h.lead; is_lead = h.is_lead; is = later.strings t h.text h.is; here = h.here }

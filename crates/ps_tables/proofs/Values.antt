@@ -13,7 +13,7 @@ use Rattle.ps_tables.specs.Makers.{body}
 use Rattle.ps_tables.specs.Pieces.{Piece, End, Number, Literal, Chars, Quote, Value, Element, Make, Row, Loaded, Deferred, Field, Pairs, Typed, New, Given, Called, Counted, Meant, Loads, Entries, KnowsGiven, KnowsEntries, IsNoMark, entry_values, left_by, FieldsAlone, fields_in, IsValue, Knows, HasRoom, Values, Bottom, This, Named, Written, Quoted, Listed, Entry, Runs, Under, Paired, OfType, That, after, OnlyPairs, pairs, Show}
 use Rattle.ps_tables.specs.Types.{Type', Basic, Nothing, To, Many, Numbered, IsSized, IsType}
 use Rattle.ps_tables.proofs.Types.{type_later, knows_type_later}
-use Rattle.ps_tables.proofs.Stores.{found_later, named_later, fields_later, has_array_later, body_later, means_later, ready_later, made_later}
+use Rattle.ps_tables.proofs.Stores.{open_later, found_later, named_later, fields_later, has_array_later, body_later, means_later, ready_later, made_later}
 
 -- ---- how many there are
 
@@ -55,7 +55,7 @@ count_shown s (Named name below) xs h = ap length h.2 ∙ ap suc (count_shown s 
 count_shown s (Written text below) xs h = ap length h.2 ∙ ap suc (count_shown s below h.1 h.4)
 count_shown s (Quoted body below) xs h = ap length h.2 ∙ ap suc (count_shown s below h.1 h.5)
 count_shown s (Listed items below) xs h = ap length h.3 ∙ ap suc (count_shown s below h.2 h.6)
-count_shown s (Entry m parts below) xs h = ap length h.4 ∙ ap suc (count_shown s below h.2 h.8)
+count_shown s (Entry m parts below) xs h = ap length h.4 ∙ ap suc (count_shown s below h.2 h.9)
 count_shown s (Runs text below) xs h = ap length h.2 ∙ ap suc (count_shown s below h.1 h.4)
 count_shown s (Under name value below) xs h = ap length h.3 ∙ ap (λ n. suc (suc n)) (count_shown s below h.2 h.7)
 count_shown s (Paired items below) xs h = ap length h.3 ∙ ap suc (count_shown s below h.2 h.6)
@@ -121,7 +121,7 @@ mark_shown s (Quoted body below) xs zs n h =
 mark_shown s (Listed items below) xs zs n h =
     subst (λ (l : List PsObj). MarkAt zs l n) (sym h.3) (mark_shown s below h.2 zs (n + 1) h.6 ∙ ap (λ k. mark_from k zs) (omega arith))
 mark_shown s (Entry m parts below) xs zs n h =
-    subst (λ (l : List PsObj). MarkAt zs l n) (sym h.4) (mark_shown s below h.2 zs (n + 1) h.8 ∙ ap (λ k. mark_from k zs) (omega arith))
+    subst (λ (l : List PsObj). MarkAt zs l n) (sym h.4) (mark_shown s below h.2 zs (n + 1) h.9 ∙ ap (λ k. mark_from k zs) (omega arith))
 mark_shown s (Runs text below) xs zs n h =
     subst (λ (l : List PsObj). MarkAt zs l n) (sym h.2) (mark_shown s below h.1 zs (n + 1) h.4 ∙ ap (λ k. mark_from k zs) (omega arith))
 mark_shown s (Under name value below) xs zs n h =
@@ -143,7 +143,7 @@ module _ (u : ℕ) (s s' : StoreState) (later : Later u s s') where
   show_later (Quoted body below) xs h = (h.0, h.1, h.2, (has_array_later u s s' later h.0 h.3).has, body_later u s s' later body h.0 h.3 h.4, show_later below h.1 h.5)
   show_later (Listed items below) xs h = (h.0, h.1, h.2, h.3, later.arrays h.0 _ h.4, show_later items h.1 h.5, show_later below h.2 h.6)
   show_later (Entry m parts below) xs h =
-      (h.0, h.1, h.2, h.3, h.4, fields_later u s s' later h.0 h.3 h.5, made_later u s s' later m h.1 h.3 h.6, show_later parts h.1 h.7, show_later below h.2 h.8)
+      (h.0, h.1, h.2, h.3, h.4, fields_later u s s' later h.0 h.3 h.5, made_later u s s' later m h.1 h.3 h.6, open_later u s s' later h.0 h.7, show_later parts h.1 h.8, show_later below h.2 h.9)
   show_later (Runs text below) xs h = (h.0, h.1, h.2, later.strings h.0 text h.3, show_later below h.1 h.4)
   show_later (Under name value below) xs h = (h.0, h.1, h.2, h.3, later.strings h.1 name h.4, h.5, show_later value (h.0 ∷ []) h.6, show_later below h.2 h.7)
   show_later (OfType t below) xs h = (h.0, h.1, h.2, type_later u s s' later h.0 t h.3, show_later below h.1 h.4)

@@ -1,5 +1,5 @@
 -- What `def` does.
-use Rattle.std.specs.Prelude.{◌≡◌, ℕ, ◌+◌, ◌≤◌, false, suc, Some, List, [], ◌∷◌, ◌++◌}
+use Rattle.std.specs.Prelude.{◌≡◌, ℕ, ◌+◌, ◌≤◌, false, suc, Some, List, [], ◌∷◌, ◌++◌, length}
 use Rattle.ps_store.specs.declared.object.Part.TheVariants.{Table}
 use Rattle.ps_store.specs.declared.object.PsObj.{PsObj}
 use Rattle.ps_store.specs.declared.object.ArrayId.{ArrayId}
@@ -28,6 +28,7 @@ in_table index = record { part = Table; index = index }
 pub record Puts (s s' : StoreState) (d : DictId) (name : List ℕ) (v : PsObj) : Type 0 where
   pub found : value_at (entries_of s' d) (NameKey name) ≡ Some v
   pub others : (key : Key) → same_key key (NameKey name) ≡ false → value_at (entries_of s' d) key ≡ value_at (entries_of s d) key
+  pub few : length (entries_of s' d) ≤ length (entries_of s d) + 1
   pub dicts : (e : DictId) → same_dict e d ≡ false → entries_of s' e ≡ entries_of s e
   pub there : (e : DictId) → IsThere s e → IsThere s' e
   pub strings : (t : StringId) (text : List ℕ) → IsString s t text → IsString s' t text

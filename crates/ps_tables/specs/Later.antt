@@ -13,6 +13,10 @@ use Rattle.ps_text.specs.Reading.{Lead}
 abbrev pub IsThere : StoreState → DictId → Type 0
 IsThere s d = d.index < length (held s d.part).dicts
 
+-- a dictionary of the table's part that is not closed
+abbrev pub IsOpen : StoreState → DictId → Type 0
+IsOpen s d = (i : ℕ) × (d ≡ record { part = Table; index = i }) × (s.closed.dicts ≤ i)
+
 -- what was there is as it was, and at most so many units were made
 pub record Later (units : ℕ) (s s' : StoreState) : Type 0 where
   pub strings : (t : StringId) (text : List ℕ) → IsString s t text → IsString s' t text

@@ -20,7 +20,7 @@ use Rattle.ps_terms.specs.Printing.{further}
 use Rattle.ps_tables.specs.Taken.{Takes}
 use Rattle.ps_tables.specs.Dictionaries.{Fields, updated}
 use Rattle.ps_tables.specs.Making.{HasFields}
-use Rattle.ps_tables.specs.Later.{Later, StandsAt}
+use Rattle.ps_tables.specs.Later.{IsOpen, Later, StandsAt}
 use Rattle.ps_tables.specs.Makers.{Maker, body, making_steps, taken_by, most, calls, Ready, MadeBy}
 use Rattle.ps_tables.specs.Types.{Type', type_term, type_steps, type_cost, IsType, KnowsType}
 
@@ -310,7 +310,7 @@ Show s xs (Written text below) = (t : StringId) × (ys : List PsObj) × (xs ≡ 
 Show s xs (Quoted body below) = (a : ArrayId) × (ys : List PsObj) × (xs ≡ Array a true ∷ ys) × HasArray s a × Spells s (elements_of s a) body × Show s ys below
 Show s xs (Listed items below) = (a : ArrayId) × (zs ys : List PsObj) × (xs ≡ Array a false ∷ ys) × IsArray s a (reverse zs) × Show s zs items × Show s ys below
 Show s xs (Entry m parts below) =
-    (d : DictId) × (zs ys : List PsObj) × (fields : Fields) × (xs ≡ Dict d ∷ ys) × HasFields s d fields × MadeBy s m zs fields × Show s zs parts × Show s ys below
+    (d : DictId) × (zs ys : List PsObj) × (fields : Fields) × (xs ≡ Dict d ∷ ys) × HasFields s d fields × MadeBy s m zs fields × IsOpen s d × Show s zs parts × Show s ys below
 Show s xs (Runs text below) = (t : StringId) × (ys : List PsObj) × (xs ≡ Str t true ∷ ys) × IsString s t text × Show s ys below
 Show s xs (Under name value below) =
     (v : PsObj) × (t : StringId) × (ys : List PsObj) × (xs ≡ v ∷ Name t false ∷ ys) × IsString s t name × (length name ≤ 127) × Show s (v ∷ []) value × Show s ys below
