@@ -21,3 +21,5 @@ pub mod News
 pub mod Pieces
 pub mod TablePieces
 pub mod Definitions
+pub mod Known
+pub mod Sequence

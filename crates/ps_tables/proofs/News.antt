@@ -183,7 +183,7 @@ module _ (s s' : StoreState) (strings : (t : StringId) (text : List ℕ) → IsS
   simple_kept (Under name value below) xs simple h = (h.0, h.1, h.2, h.3, strings h.1 name h.4, h.5, simple_kept value (h.0 ∷ []) simple.0 h.6, simple_kept below h.2 simple.1 h.7)
   simple_kept _ xs simple h = absurd simple
 
-  fields_kept : (es : List (Key × Pair)) (fs : Fields) → AreFields s es fs → AreFields s' es fs
+  pub fields_kept : (es : List (Key × Pair)) (fs : Fields) → AreFields s es fs → AreFields s' es fs
   fields_kept _ _ no_fields = no_fields
   fields_kept _ _ (field name t v es fs is r) = field name t v es fs (strings t name is) (fields_kept es fs r)
 

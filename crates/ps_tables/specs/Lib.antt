@@ -9,3 +9,4 @@ pub mod Types
 pub mod Pieces
 pub mod TablePieces
 pub mod Defined
+pub mod Senses
