@@ -23,3 +23,4 @@ pub mod TablePieces
 pub mod Definitions
 pub mod Known
 pub mod Sequence
+pub mod WordsKnown

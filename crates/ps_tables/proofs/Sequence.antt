@@ -26,6 +26,7 @@ use Rattle.ps_tables.specs.Making.{IsMaking}
 use Rattle.ps_tables.specs.Later.{Later, StandsAt}
 use Rattle.ps_tables.specs.Pieces.{Piece, End, Field, code, cost, steps, left_by, Knows, HasRoom, Values, Bottom, after, Show}
 use Rattle.ps_tables.specs.Defined.{in_table, Puts, Defines}
+use Rattle.ps_tables.specs.Reached.{Owned, Reaches}
 use Rattle.ps_tables.specs.Senses.{Sense, IsOf, Senses, HaveSenses, AreOther, Knowing}
 use Rattle.ps_tables.proofs.Going.{takes_then}
 use Rattle.ps_tables.proofs.Stores.{making_later, named_later}
@@ -131,13 +132,6 @@ AreSound index ds (d ∷ rest) ws = IsSound index ds d ws × AreSound index ds r
 
 -- ---- a run of definitions
 
--- what a store keeps of another one: its base, and the part of commands
-pub record Owned (u : ℕ) (s s' : StoreState) : Type 0 where
-  pub base : s'.base ≡ s.base
-  pub command : s'.command ≡ s.command
-  pub closed : s'.closed ≡ s.closed
-  pub counted : s'.table.units + s'.command.units ≤ s.table.units + s.command.units + u
-
 pub owned_then : (u v : ℕ) (s s₁ s₂ : StoreState) → Owned u s s₁ → Owned v s₁ s₂ → Owned (u + v) s s₂
 owned_then u v s s₁ s₂ a b =
     let counted₁ = a.counted in
@@ -151,17 +145,9 @@ pub owned_later : (u : ℕ) (s s' : StoreState) (ds : List DictId) → IsMaking 
 owned_later u s s' ds is later = record { base = later.base; command = later.command is.part; closed = later.closed; counted = later.counted }
 
 module _ (index : ℕ) (ds : List DictId) (t : StringId) (under : List Item) (items_fit : length under + 100 ≤ 1000) (post : List ℕ) where
-  pub record Defined (steps u : ℕ) (n : ℕ) (ws : Senses) (s : StoreState) (at : ℕ) (rest : List ℕ) : Type 0 where
-    pub store : StoreState
-    pub to : ℕ
-    pub knowing : Knowing store index ds n ws
-    pub owned : Owned u s store
-    pub stands : StandsAt store t to rest
-    pub takes : Takes steps (core s (in_table index ∷ ds) [] (TextItem t at ∷ under)) (core store (in_table index ∷ ds) [] (TextItem t to ∷ under))
-
   pub defined_one : (d : Definition) (k : Code) (n : ℕ) (ws : Senses) (s : StoreState) (at : ℕ) → IsSound index ds d ws → Knowing s index ds n ws → n < 999999 → s.table.units + s.command.units + one_cost d ≤ 8000000
       → StandsAt s t at (render (Lit d.name (code d.value (Word (codes "def") k))) ++ post)
-      → Defined (further (steps (Field d.name d.value End)) 1) (one_cost d) (n + 1) ((d.name, d.sense) ∷ ws) s at (render k ++ post)
+      → Reaches index ds t under (further (steps (Field d.name d.value End)) 1) (one_cost d) (n + 1) ((d.name, d.sense) ∷ ws) s at (render k ++ post)
   defined_one d k n ws s at sound knowing few units_fit here =
       let all : List DictId = in_table index ∷ ds in
       let c : ℕ = cost (Field d.name d.value End) + units (Word (codes "def") Stop) in
@@ -182,7 +168,7 @@ module _ (index : ℕ) (ds : List DictId) (t : StringId) (under : List Item) (it
 
   pub defined_all : (defs : List Definition) (k : Code) (n : ℕ) (ws : Senses) (s : StoreState) (at : ℕ) → AreSound index ds defs ws → Knowing s index ds n ws → n + length defs < 999999
       → s.table.units + s.command.units + defining_cost defs ≤ 8000000 → StandsAt s t at (render (defining defs k) ++ post)
-      → Defined (defining_steps defs) (defining_cost defs) (n + length defs) (behind defs ws) s at (render k ++ post)
+      → Reaches index ds t under (defining_steps defs) (defining_cost defs) (n + length defs) (behind defs ws) s at (render k ++ post)
   defined_all [] k n ws s at sound knowing few units_fit here = record {
     store = s;
     to = at;
@@ -193,10 +179,10 @@ module _ (index : ℕ) (ds : List DictId) (t : StringId) (under : List Item) (it
   }
   defined_all (d ∷ defs) k n ws s at sound knowing few units_fit here =
       let all : List DictId = in_table index ∷ ds in
-      let f : Defined (further (steps (Field d.name d.value End)) 1) (one_cost d) (n + 1) ((d.name, d.sense) ∷ ws) s at (render (defining defs k) ++ post) =
+      let f : Reaches index ds t under (further (steps (Field d.name d.value End)) 1) (one_cost d) (n + 1) ((d.name, d.sense) ∷ ws) s at (render (defining defs k) ++ post) =
       defined_one d (defining defs k) n ws s at sound.0 knowing (omega arith) (omega arith) here in
       let counted = f.owned.counted in
-      let r : Defined (defining_steps defs) (defining_cost defs) (n + 1 + length defs) (behind defs ((d.name, d.sense) ∷ ws)) f.store f.to (render k ++ post) =
+      let r : Reaches index ds t under (defining_steps defs) (defining_cost defs) (n + 1 + length defs) (behind defs ((d.name, d.sense) ∷ ws)) f.store f.to (render k ++ post) =
       defined_all defs k (n + 1) ((d.name, d.sense) ∷ ws) f.store f.to sound.1 f.knowing (omega arith) (omega arith) f.stands in
       record {
         store = r.store;

@@ -10,3 +10,5 @@ pub mod Pieces
 pub mod TablePieces
 pub mod Defined
 pub mod Senses
+pub mod Reached
+pub mod WordsKnown
