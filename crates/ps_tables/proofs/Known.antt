@@ -32,7 +32,7 @@ use Rattle.ps_tables.specs.Making.{AreThere, HasFields}
 use Rattle.ps_tables.specs.Later.{IsThere, IsOpen, Later}
 use Rattle.ps_tables.specs.Defined.{Puts}
 use Rattle.ps_tables.specs.Types.{of_arrays}
-use Rattle.ps_tables.specs.Senses.{Sense, Stands, Sized, Kind, Variables, Called, Structs, basic_fields, variable_fields, IsStruct, AreStructs, IsOf, HasSense, Senses, HaveSenses, AreOther}
+use Rattle.ps_tables.specs.Senses.{Sense, Stands, Sized, Kind, Variables, Called, Structs, Listing, basic_fields, variable_fields, IsStruct, AreStructs, IsOf, HasSense, Senses, HaveSenses, AreOther}
 use Rattle.ps_tables.proofs.Stores.{named_later, fields_later, has_array_later, body_later, open_later}
 use Rattle.ps_tables.proofs.Types.{value_of, fields_value}
 use Rattle.ps_tables.proofs.News.{fields_kept}
@@ -155,6 +155,7 @@ module _ (s s' : StoreState) (e : DictId) (name : List ℕ) (v : PsObj) (puts : 
     is_of_puts x Variables h = (h.0, h.1, h.2, fields_puts h.0 (variable_fields h.1) (apart h.0 h.1 _ h.3 refl) h.3)
     is_of_puts x (Called body) h = let b = body_puts body h.0 h.2 h.3 in (h.0, h.1, b.0, b.1)
     is_of_puts x (Structs defs) h = (h.0, h.1, h.2, puts.arrays h.0 h.1 h.3, structs_put h.1 defs h.4)
+    is_of_puts x Listing h = h
 
     pub sense_puts : (word : List ℕ) (sense : Sense) → named s' ds word ≡ named s ds word → HasSense s ds word sense → HasSense s' ds word sense
     sense_puts word sense same h = (h.0, same ∙ h.1, is_of_puts h.0 sense h.2)
@@ -247,6 +248,7 @@ module _ (u : ℕ) (s s' : StoreState) (later : Later u s s') (ds : List DictId)
   is_of_later x Variables h = (h.0, h.1, h.2, fields_later u s s' later h.0 (variable_fields h.1) h.3)
   is_of_later x (Called body) h = (h.0, h.1, (has_array_later u s s' later h.0 h.2).has, body_later u s s' later body h.0 h.2 h.3)
   is_of_later x (Structs defs) h = (h.0, h.1, h.2, later.arrays h.0 h.1 h.3, structs_later h.1 defs h.4)
+  is_of_later x Listing h = h
 
   sense_later : (word : List ℕ) (sense : Sense) → HasSense s ds word sense → HasSense s' ds word sense
   sense_later word sense h = (h.0, named_later u s s' later ds word there ∙ h.1, is_of_later h.0 sense h.2)

@@ -145,26 +145,34 @@ pub owned_later : (u : ℕ) (s s' : StoreState) (ds : List DictId) → IsMaking 
 owned_later u s s' ds is later = record { base = later.base; command = later.command is.part; closed = later.closed; counted = later.counted }
 
 module _ (index : ℕ) (ds : List DictId) (t : StringId) (under : List Item) (items_fit : length under + 100 ≤ 1000) (post : List ℕ) where
-  pub defined_one : (d : Definition) (k : Code) (n : ℕ) (ws : Senses) (s : StoreState) (at : ℕ) → IsSound index ds d ws → Knowing s index ds n ws → n < 999999 → s.table.units + s.command.units + one_cost d ≤ 8000000
-      → StandsAt s t at (render (Lit d.name (code d.value (Word (codes "def") k))) ++ post)
-      → Reaches index ds t under (further (steps (Field d.name d.value End)) 1) (one_cost d) (n + 1) ((d.name, d.sense) ∷ ws) s at (render k ++ post)
-  defined_one d k n ws s at sound knowing few units_fit here =
-      let all : List DictId = in_table index ∷ ds in
-      let c : ℕ = cost (Field d.name d.value End) + units (Word (codes "def") Stop) in
+  -- one definition whose value is of a sense
+  pub defined_by : (name : List ℕ) (value : Piece) (sense : Sense) (k : Code) (n : ℕ) (ws : Senses) (s : StoreState) (at : ℕ) → Knowing s index ds n ws → n < 999999 → Fine (Lit name Stop) → left_by value ≡ 1 → HasRoom 1 value
+      → Knows s (in_table index ∷ ds) value → operator_number name ≡ None → bytes_eq (codes "kind") name ≡ false → bytes_eq (codes "tag") name ≡ false → AreFree name ws
+      → ((s' : StoreState) (x : PsObj) → Show s' (x ∷ []) (after value Bottom) → IsOf s' x sense)
+      → s.table.units + s.command.units + (cost (Field name value End) + units (Word (codes "def") Stop) + 1) ≤ 8000000
+      → StandsAt s t at (render (Lit name (code value (Word (codes "def") k))) ++ post)
+      → Reaches index ds t under (further (steps (Field name value End)) 1) (cost (Field name value End) + units (Word (codes "def") Stop) + 1) (n + 1) ((name, sense) ∷ ws) s at (render k ++ post)
+  defined_by name value sense k n ws s at knowing few fine one room knows operator kind tag free is_of units_fit here =
+      let c : ℕ = cost (Field name value End) + units (Word (codes "def") Stop) in
       let small = knowing.small in
-      let f : Defines c (further (steps (Field d.name d.value End)) 1) d.name (after d.value Bottom) s (in_table index) ds [] t at (render k ++ post) under =
-      defines index ds t under items_fit post d.name d.value k s [] at knowing.making knowing.unclosed (omega arith) sound.fine sound.one (sound.knows s n knowing) sound.room (omega arith) units_fit here in
+      let f : Defines c (further (steps (Field name value End)) 1) name (after value Bottom) s (in_table index) ds [] t at (render k ++ post) under =
+      defines index ds t under items_fit post name value k s [] at knowing.making knowing.unclosed (omega arith) fine one knows room (omega arith) units_fit here in
       let before : Knowing f.made index ds n ws = knowing_later c s f.made f.later index ds n ws knowing in
-      let made : IsOf f.made f.object d.sense = sound.is_of f.made f.object f.shows in
       record {
         store = f.store;
         to = f.to;
-        knowing = knowing_defined f.made f.store index ds d.name f.object f.puts n ws d.sense before sound.operator sound.kind sound.tag sound.free made;
+        knowing = knowing_defined f.made f.store index ds name f.object f.puts n ws sense before operator kind tag free (is_of f.made f.object f.shows);
         owned = let a = f.later.counted in let b = f.puts.counted in
             record { base = f.puts.base ∙ f.later.base; command = f.puts.command ∙ f.later.command knowing.making.part; closed = f.puts.closed ∙ f.later.closed; counted = omega arith };
         stands = f.stands;
         takes = f.takes;
       }
+
+  defined_one : (d : Definition) (k : Code) (n : ℕ) (ws : Senses) (s : StoreState) (at : ℕ) → IsSound index ds d ws → Knowing s index ds n ws → n < 999999 → s.table.units + s.command.units + one_cost d ≤ 8000000
+      → StandsAt s t at (render (Lit d.name (code d.value (Word (codes "def") k))) ++ post)
+      → Reaches index ds t under (further (steps (Field d.name d.value End)) 1) (one_cost d) (n + 1) ((d.name, d.sense) ∷ ws) s at (render k ++ post)
+  defined_one d k n ws s at sound knowing few units_fit here =
+      defined_by d.name d.value d.sense k n ws s at knowing few sound.fine sound.one sound.room (sound.knows s n knowing) sound.operator sound.kind sound.tag sound.free sound.is_of units_fit here
 
   pub defined_all : (defs : List Definition) (k : Code) (n : ℕ) (ws : Senses) (s : StoreState) (at : ℕ) → AreSound index ds defs ws → Knowing s index ds n ws → n + length defs < 999999
       → s.table.units + s.command.units + defining_cost defs ≤ 8000000 → StandsAt s t at (render (defining defs k) ++ post)

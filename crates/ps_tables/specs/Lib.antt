@@ -8,6 +8,7 @@ pub mod TableWords
 pub mod Types
 pub mod Pieces
 pub mod TablePieces
+pub mod Runnable
 pub mod Defined
 pub mod Senses
 pub mod Reached

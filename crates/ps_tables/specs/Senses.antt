@@ -22,7 +22,7 @@ use Rattle.ps_tables.specs.Later.{IsThere, IsOpen}
 use Rattle.ps_tables.specs.Types.{of_arrays}
 
 -- What a word stands for: this object; a type of so many bytes; what the types of a kind, and what the symbols of variables have in common; a
--- procedure of this term; an array of these structs.
+-- procedure of this term; an array of these structs; an array.
 pub data Sense : Type 0 where
   Stands : (x : PsObj) → Sense
   Sized : (size : ℕ) → Sense
@@ -30,6 +30,7 @@ pub data Sense : Type 0 where
   Variables : Sense
   Called : (body : Code) → Sense
   Structs : (defs : List StructDef) → Sense
+  Listing : Sense
 
 abbrev pub basic_fields : ℕ → (kind printer : PsObj) → Fields
 basic_fields size kind printer = (codes "kind", kind) ∷ (codes "size", Int (pos size)) ∷ (codes "printer", printer) ∷ []
@@ -60,6 +61,7 @@ IsOf s x Kind = (d : DictId) × (kind printer : PsObj) × (x ≡ Dict d) × HasF
 IsOf s x Variables = (d : DictId) × (kind : PsObj) × (x ≡ Dict d) × HasFields s d (variable_fields kind)
 IsOf s x (Called body) = (a : ArrayId) × (x ≡ Array a true) × HasArray s a × Spells s (elements_of s a) body
 IsOf s x (Structs defs) = (a : ArrayId) × (xs : List PsObj) × (x ≡ Array a false) × IsArray s a xs × AreStructs s xs defs
+IsOf s x Listing = (a : ArrayId) × (x ≡ Array a false)
 
 abbrev pub HasSense : StoreState → List DictId → List ℕ → Sense → Type 0
 HasSense s ds word sense = (x : PsObj) × (named s ds word ≡ Some x) × IsOf s x sense
