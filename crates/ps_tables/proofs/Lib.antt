@@ -24,3 +24,4 @@ pub mod Definitions
 pub mod Known
 pub mod Sequence
 pub mod WordsKnown
+pub mod TypesKnown

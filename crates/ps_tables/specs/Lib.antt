@@ -13,3 +13,4 @@ pub mod Defined
 pub mod Senses
 pub mod Reached
 pub mod WordsKnown
+pub mod PartsKnown

@@ -16,7 +16,7 @@ use Rattle.ps_emit.specs.declared.placement.Placement.{Placement}
 use Rattle.ps_emit.specs.Functions.{deferred}
 use Rattle.ps_emit.specs.Places.{object_label}
 
-abbrev IsItem : CType → Type 0
+abbrev pub IsItem : CType → Type 0
 IsItem Void = ⊥
 IsItem t = Unit {0}
 
