@@ -1,5 +1,5 @@
 -- What is known of words stays known.
-use Rattle.std.proofs.Common.{◌≡◌, ℕ, ℤ, pos, suc, ◌+◌, ◌<◌, ◌≤◌, Bool, true, false, ◌&&◌, ◌==◌, bytes_eq, if◌then◌else◌, Option, Some, None, List, [], ◌∷◌, ◌++◌, length, codes, refl, sym, ap, ◌∙◌, subst, eqb→eq}
+use Rattle.std.proofs.Common.{◌≡◌, ℕ, ℤ, pos, suc, ◌+◌, ◌<◌, ◌≤◌, Bool, true, false, ◌&&◌, ◌==◌, bytes_eq, if◌then◌else◌, Option, Some, None, List, [], ◌∷◌, ◌++◌, length, map, codes, refl, sym, ap, ◌∙◌, subst, arith, eqb→eq}
 use Rattle.std.specs.Prelude.{option_map}
 use Rattle.ldb_words.specs.Word.{signed}
 use Rattle.c_tree.specs.declared.types.StructDef.{StructDef}
@@ -32,7 +32,7 @@ use Rattle.ps_tables.specs.Making.{AreThere, HasFields}
 use Rattle.ps_tables.specs.Later.{IsThere, IsOpen, Later}
 use Rattle.ps_tables.specs.Defined.{Puts}
 use Rattle.ps_tables.specs.Types.{of_arrays}
-use Rattle.ps_tables.specs.Senses.{Sense, Stands, Sized, Kind, Variables, Called, Structs, Listing, basic_fields, variable_fields, IsStruct, AreStructs, IsOf, HasSense, Senses, HaveSenses, AreOther}
+use Rattle.ps_tables.specs.Senses.{Sense, Stands, Sized, Kind, Variables, Called, Structs, Listing, basic_fields, variable_fields, IsStruct, AreStructs, IsOf, HasSense, raised, Senses, HaveSenses, AreOther}
 use Rattle.ps_tables.proofs.Stores.{named_later, fields_later, has_array_later, body_later, open_later}
 use Rattle.ps_tables.proofs.Types.{value_of, fields_value}
 use Rattle.ps_tables.proofs.News.{fields_kept}
@@ -141,24 +141,33 @@ module _ (s s' : StoreState) (e : DictId) (name : List ℕ) (v : PsObj) (puts : 
 
   -- what is known of dictionaries, where the one that changes is none of them
   module _ (ds : List DictId) (apart : (d : DictId) (kind : PsObj) (fields : Fields) → HasFields s d ((codes "kind", kind) ∷ fields) → value_of fields (codes "tag") ≡ None → same_dict d e ≡ false)
-      (structs : (x : PsObj) (d : StructDef) → IsStruct s x d → IsStruct s' x d) where
-    structs_put : (xs : List PsObj) (defs : List StructDef) → AreStructs s xs defs → AreStructs s' xs defs
-    structs_put [] [] h = tt
-    structs_put (x ∷ xs) (d ∷ defs) h = (structs x d h.0, structs_put xs defs h.1)
-    structs_put [] (d ∷ defs) h = absurd h
-    structs_put (x ∷ xs) [] h = absurd h
+      (up : ℕ → ℕ) (structs : (few : ℕ) (x : PsObj) (d : StructDef) → IsStruct s few x d → IsStruct s' (up few) x d) where
+    structs_put : (few : ℕ) (xs : List PsObj) (defs : List StructDef) → AreStructs s few xs defs → AreStructs s' (up few) xs defs
+    structs_put few [] [] h = tt
+    structs_put few (x ∷ xs) (d ∷ defs) h = (structs few x d h.0, structs_put few xs defs h.1)
+    structs_put few [] (d ∷ defs) h = absurd h
+    structs_put few (x ∷ xs) [] h = absurd h
 
-    pub is_of_puts : (x : PsObj) (sense : Sense) → IsOf s x sense → IsOf s' x sense
+    pub is_of_puts : (x : PsObj) (sense : Sense) → IsOf s x sense → IsOf s' x (raised up sense)
     is_of_puts x (Stands y) h = h
     is_of_puts x (Sized size) h = (h.0, h.1, h.2, h.3, fields_puts h.0 (basic_fields size h.1 h.2) (apart h.0 h.1 ((codes "size", Int (pos size)) ∷ (codes "printer", h.2) ∷ []) h.4 refl) h.4)
     is_of_puts x Kind h = (h.0, h.1, h.2, h.3, fields_puts h.0 (of_arrays h.1 h.2) (apart h.0 h.1 ((codes "printer", h.2) ∷ []) h.4 refl) h.4)
     is_of_puts x Variables h = (h.0, h.1, h.2, fields_puts h.0 (variable_fields h.1) (apart h.0 h.1 _ h.3 refl) h.3)
     is_of_puts x (Called body) h = let b = body_puts body h.0 h.2 h.3 in (h.0, h.1, b.0, b.1)
-    is_of_puts x (Structs defs) h = (h.0, h.1, h.2, puts.arrays h.0 h.1 h.3, structs_put h.1 defs h.4)
+    is_of_puts x (Structs few defs) h = (h.0, h.1, h.2, puts.arrays h.0 h.1 h.3, structs_put few h.1 defs h.4)
     is_of_puts x Listing h = h
 
-    pub sense_puts : (word : List ℕ) (sense : Sense) → named s' ds word ≡ named s ds word → HasSense s ds word sense → HasSense s' ds word sense
+    pub sense_puts : (word : List ℕ) (sense : Sense) → named s' ds word ≡ named s ds word → HasSense s ds word sense → HasSense s' ds word (raised up sense)
     sense_puts word sense same h = (h.0, same ∙ h.1, is_of_puts h.0 sense h.2)
+
+raised_same : (sense : Sense) → raised (λ n. n) sense ≡ sense
+raised_same (Stands x) = refl
+raised_same (Sized size) = refl
+raised_same Kind = refl
+raised_same Variables = refl
+raised_same (Called body) = refl
+raised_same (Structs few defs) = refl
+raised_same Listing = refl
 
 -- a definition: the words but for this one
 abbrev pub AreFree : List ℕ → Senses → Type 0
@@ -170,8 +179,8 @@ module _ (s s' : StoreState) (e : DictId) (name : List ℕ) (v : PsObj) (puts : 
   apart_kind : (d : DictId) (kind : PsObj) (fields : Fields) → HasFields s d ((codes "kind", kind) ∷ fields) → value_of fields (codes "tag") ≡ None → same_dict d e ≡ false
   apart_kind d kind fields has none = apart_by s d e (NameKey (codes "kind")) kind (fields_value s (entries_of s d) ((codes "kind", kind) ∷ fields) (codes "kind") has.are) no_kind
 
-  struct_above : (x : PsObj) (d : StructDef) → IsStruct s x d → IsStruct s' x d
-  struct_above x d h =
+  struct_above : (few : ℕ) (x : PsObj) (d : StructDef) → IsStruct s few x d → IsStruct s' few x d
+  struct_above few x d h =
       let same : entries_of s' h.dict ≡ entries_of s h.dict = puts.dicts h.dict (apart_by s h.dict e (NameKey (codes "tag")) h.tag h.tagged no_tag) in
       record {
         dict = h.dict;
@@ -179,17 +188,18 @@ module _ (s s' : StoreState) (e : DictId) (name : List ℕ) (v : PsObj) (puts : 
         opened = open_puts s s' e name v puts h.dict h.opened;
         there = puts.there h.dict h.there;
         size = ap (λ (es : List (Key × Pair)). value_at es (NameKey (codes "size"))) same ∙ h.size;
+        small = subst (λ (es : List (Key × Pair)). length es ≤ few) (sym same) h.small;
         tag = h.tag;
         tagged = ap (λ (es : List (Key × Pair)). value_at es (NameKey (codes "tag"))) same ∙ h.tagged;
       }
 
   pub is_of_defined : (x : PsObj) (sense : Sense) → IsOf s x sense → IsOf s' x sense
-  is_of_defined x sense h = is_of_puts s s' e name v puts (e ∷ ds) apart_kind struct_above x sense h
+  is_of_defined x sense h = subst (λ (z : Sense). IsOf s' x z) (raised_same sense) (is_of_puts s s' e name v puts (e ∷ ds) apart_kind (λ n. n) struct_above x sense h)
 
   pub senses_defined : (ws : Senses) → AreFree name ws → HaveSenses s (e ∷ ds) ws → HaveSenses s' (e ∷ ds) ws
   senses_defined [] free h = tt
   senses_defined (w ∷ ws) free h =
-      (sense_puts s s' e name v puts (e ∷ ds) apart_kind struct_above w.0 w.1 (named_above s s' e name v puts ds w.0 others free.0) h.0, senses_defined ws free.1 h.1)
+      (subst (λ (z : Sense). HasSense s' (e ∷ ds) w.0 z) (raised_same w.1) (sense_puts s s' e name v puts (e ∷ ds) apart_kind (λ n. n) struct_above w.0 w.1 (named_above s s' e name v puts ds w.0 others free.0) h.0), senses_defined ws free.1 h.1)
 
 -- a value is put into the dictionary of a struct, which none of the stack is
 module _ (s s' : StoreState) (e : DictId) (v tag : PsObj) (puts : Puts s s' e (codes "members") v) (ds : List DictId) (others : AreOther ds e)
@@ -204,26 +214,34 @@ module _ (s s' : StoreState) (e : DictId) (v tag : PsObj) (puts : Puts s s' e (c
       by true h = let same : d ≡ e = dict_is d e h in subst (λ (x : DictId). value_at (entries_of s' x) (NameKey key) ≡ value_at (entries_of s x) (NameKey key)) (sym same) (puts.others (NameKey key) other)
       by false h = ap (λ (es : List (Key × Pair)). value_at es (NameKey key)) (puts.dicts d h)
 
-  struct_filled : (x : PsObj) (d : StructDef) → IsStruct s x d → IsStruct s' x d
-  struct_filled x d h = record {
+  length_kept : (d : DictId) → length (entries_of s' d) ≤ length (entries_of s d) + 1
+  length_kept d = by (same_dict d e) refl
+    where
+      by : (b : Bool) → same_dict d e ≡ b → length (entries_of s' d) ≤ length (entries_of s d) + 1
+      by true h = let same : d ≡ e = dict_is d e h in subst (λ (x : DictId). length (entries_of s' x) ≤ length (entries_of s x) + 1) (sym same) puts.few
+      by false h = subst (λ (es : List (Key × Pair)). length es ≤ length (entries_of s d) + 1) (sym (puts.dicts d h)) (omega arith)
+
+  struct_filled : (few : ℕ) (x : PsObj) (d : StructDef) → IsStruct s few x d → IsStruct s' (few + 1) x d
+  struct_filled few x d h = record {
     dict = h.dict;
     is = h.is;
     opened = open_puts s s' e (codes "members") v puts h.dict h.opened;
     there = puts.there h.dict h.there;
     size = value_kept h.dict (codes "size") refl ∙ h.size;
+    small = let a = length_kept h.dict in let b = h.small in omega arith;
     tag = h.tag;
     tagged = value_kept h.dict (codes "tag") refl ∙ h.tagged;
   }
 
-  pub senses_filled : (ws : Senses) → HaveSenses s ds ws → HaveSenses s' ds ws
+  pub senses_filled : (ws : Senses) → HaveSenses s ds ws → HaveSenses s' ds (map (λ w. (w.0, raised (λ n. n + 1) w.1)) ws)
   senses_filled [] h = tt
-  senses_filled (w ∷ ws) h = (sense_puts s s' e (codes "members") v puts ds apart_tag struct_filled w.0 w.1 (named_puts s s' e (codes "members") v puts ds w.0 others) h.0, senses_filled ws h.1)
+  senses_filled (w ∷ ws) h = (sense_puts s s' e (codes "members") v puts ds apart_tag (λ n. n + 1) struct_filled w.0 w.1 (named_puts s s' e (codes "members") v puts ds w.0 others) h.0, senses_filled ws h.1)
 
 -- ---- a later store
 
 module _ (u : ℕ) (s s' : StoreState) (later : Later u s s') (ds : List DictId) (there : AreThere s ds) where
-  struct_later : (x : PsObj) (d : StructDef) → IsStruct s x d → IsStruct s' x d
-  struct_later x d h =
+  pub struct_later : (few : ℕ) (x : PsObj) (d : StructDef) → IsStruct s few x d → IsStruct s' few x d
+  struct_later few x d h =
       let kept = later.dicts h.dict h.there in
       record {
         dict = h.dict;
@@ -231,15 +249,16 @@ module _ (u : ℕ) (s s' : StoreState) (later : Later u s s') (ds : List DictId)
         opened = open_later u s s' later h.dict h.opened;
         there = kept.0;
         size = ap (λ (es : List (Key × Pair)). value_at es (NameKey (codes "size"))) kept.1 ∙ h.size;
+        small = subst (λ (es : List (Key × Pair)). length es ≤ few) (sym kept.1) h.small;
         tag = h.tag;
         tagged = ap (λ (es : List (Key × Pair)). value_at es (NameKey (codes "tag"))) kept.1 ∙ h.tagged;
       }
 
-  pub structs_later : (xs : List PsObj) (defs : List StructDef) → AreStructs s xs defs → AreStructs s' xs defs
-  structs_later [] [] h = tt
-  structs_later (x ∷ xs) (d ∷ defs) h = (struct_later x d h.0, structs_later xs defs h.1)
-  structs_later [] (d ∷ defs) h = absurd h
-  structs_later (x ∷ xs) [] h = absurd h
+  pub structs_later : (few : ℕ) (xs : List PsObj) (defs : List StructDef) → AreStructs s few xs defs → AreStructs s' few xs defs
+  structs_later few [] [] h = tt
+  structs_later few (x ∷ xs) (d ∷ defs) h = (struct_later few x d h.0, structs_later few xs defs h.1)
+  structs_later few [] (d ∷ defs) h = absurd h
+  structs_later few (x ∷ xs) [] h = absurd h
 
   pub is_of_later : (x : PsObj) (sense : Sense) → IsOf s x sense → IsOf s' x sense
   is_of_later x (Stands y) h = h
@@ -247,7 +266,7 @@ module _ (u : ℕ) (s s' : StoreState) (later : Later u s s') (ds : List DictId)
   is_of_later x Kind h = (h.0, h.1, h.2, h.3, fields_later u s s' later h.0 (of_arrays h.1 h.2) h.4)
   is_of_later x Variables h = (h.0, h.1, h.2, fields_later u s s' later h.0 (variable_fields h.1) h.3)
   is_of_later x (Called body) h = (h.0, h.1, (has_array_later u s s' later h.0 h.2).has, body_later u s s' later body h.0 h.2 h.3)
-  is_of_later x (Structs defs) h = (h.0, h.1, h.2, later.arrays h.0 h.1 h.3, structs_later h.1 defs h.4)
+  is_of_later x (Structs few defs) h = (h.0, h.1, h.2, later.arrays h.0 h.1 h.3, structs_later few h.1 defs h.4)
   is_of_later x Listing h = h
 
   sense_later : (word : List ℕ) (sense : Sense) → HasSense s ds word sense → HasSense s' ds word sense

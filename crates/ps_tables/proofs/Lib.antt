@@ -25,3 +25,5 @@ pub mod Known
 pub mod Sequence
 pub mod WordsKnown
 pub mod TypesKnown
+pub mod MembersRun
+pub mod StructsRun

@@ -57,11 +57,11 @@ dup_number : operator_number (codes "dup") ≡ Some 1
 unfolding operator_number
 dup_number = refl
 
-put_fine : Fine (Word (codes "put") Stop)
+pub put_fine : Fine (Word (codes "put") Stop)
 unfolding is_white is_special is_regular
 put_fine = fine (Word (codes "put") Stop) refl
 
-put_number : operator_number (codes "put") ≡ Some 33
+pub put_number : operator_number (codes "put") ≡ Some 33
 unfolding operator_number
 put_number = refl
 

@@ -76,10 +76,10 @@ structs_fine = fine (Word (codes "structs") Stop) refl
 pub small_signed : (n : ℕ) → n < 2 ^ 31 → signed n ≡ pos n
 small_signed n h = to_z_pos w32 n h
 
-small_integer : (n : ℕ) → n < 2 ^ 31 → is_integer (pos n) ≡ true
+pub small_integer : (n : ℕ) → n < 2 ^ 31 → is_integer (pos n) ≡ true
 small_integer n h = lt-ltb _ _ h
 
-small_fine : (n : ℕ) → n < 2 ^ 31 → Fine (Num (signed n) Stop)
+pub small_fine : (n : ℕ) → n < 2 ^ 31 → Fine (Num (signed n) Stop)
 small_fine n h = (ap is_integer (small_signed n h) ∙ small_integer n h, tt)
 
 small_product : (n m : ℕ) → n * m < 2 ^ 31 → product (pos n) (pos m) ≡ Ok (pos (n * m))

@@ -69,22 +69,22 @@ record Nth (s : StoreState) (xs : List PsObj) (defs : List StructDef) (n : ℕ) 
   pub at : slice_get xs n ≡ Some object
   pub sized : IsSized s object (struct_size_of defs n)
 
-nth : (all : List StructDef) (s : StoreState) (xs : List PsObj) (defs : List StructDef) (n : ℕ) → AllByRecursion (RunsStruct all) defs → AreStructs s xs defs → n < length defs → Nth s xs defs n
-nth all s [] [] n small h few = absurd (omega arith)
-nth all s [] (d ∷ defs) n small h few = absurd h
-nth all s (x ∷ xs) [] n small h few = absurd h
-nth all s (x ∷ xs) (d ∷ defs) zero small h few = record {
+nth : (all : List StructDef) (s : StoreState) (b : ℕ) (xs : List PsObj) (defs : List StructDef) (n : ℕ) → AllByRecursion (RunsStruct all) defs → AreStructs s b xs defs → n < length defs → Nth s xs defs n
+nth all s b [] [] n small h few = absurd (omega arith)
+nth all s b [] (d ∷ defs) n small h few = absurd h
+nth all s b (x ∷ xs) [] n small h few = absurd h
+nth all s b (x ∷ xs) (d ∷ defs) zero small h few = record {
   object = x;
   at = refl;
   sized = record { dict = h.0.dict; is = h.0.is; there = h.0.there; has = h.0.size ∙ ap (λ z. Some (Int z)) (small_signed d.size small.0.size) };
 }
-nth all s (x ∷ xs) (d ∷ defs) (suc n) small h few =
-    let r : Nth s xs defs n = nth all s xs defs n small.1 h.1 (omega arith) in
+nth all s b (x ∷ xs) (d ∷ defs) (suc n) small h few =
+    let r : Nth s xs defs n = nth all s b xs defs n small.1 h.1 (omega arith) in
     record { object = r.object; at = r.at; sized = r.sized }
 
 -- ---- types
 
-module _ (s : StoreState) (index : ℕ) (ds : List DictId) (m : ℕ) (p : Printers) (defs : List StructDef) (knowing : Knowing s index ds m (with_structs p defs)) (small : AllByRecursion (RunsStruct defs) defs) (few : length defs ≤ 90000) where
+module _ (s : StoreState) (index : ℕ) (ds : List DictId) (m : ℕ) (p : Printers) (bound : ℕ) (defs : List StructDef) (knowing : Knowing s index ds m (with_structs p bound defs)) (small : AllByRecursion (RunsStruct defs) defs) (few : length defs ≤ 90000) where
   abbrev all : List DictId
   all = in_table index ∷ ds
 
@@ -102,27 +102,27 @@ module _ (s : StoreState) (index : ℕ) (ds : List DictId) (m : ℕ) (p : Printe
   some_item (Struct n) h = tt
 
   pub type_known : (t : CType) → RunsType defs t → KnowsType s all (written defs t)
-  type_known Char h = sized_by (codes "char") 1 char_fine (sense_is s all (with_structs p defs) (codes "char") (Sized 1) knowing.have refl)
-  type_known IntType h = sized_by (codes "int") 4 int_fine (sense_is s all (with_structs p defs) (codes "int") (Sized 4) knowing.have refl)
-  type_known Unsigned h = sized_by (codes "unsigned") 4 unsigned_fine (sense_is s all (with_structs p defs) (codes "unsigned") (Sized 4) knowing.have refl)
+  type_known Char h = sized_by (codes "char") 1 char_fine (sense_is s all (with_structs p bound defs) (codes "char") (Sized 1) knowing.have refl)
+  type_known IntType h = sized_by (codes "int") 4 int_fine (sense_is s all (with_structs p bound defs) (codes "int") (Sized 4) knowing.have refl)
+  type_known Unsigned h = sized_by (codes "unsigned") 4 unsigned_fine (sense_is s all (with_structs p bound defs) (codes "unsigned") (Sized 4) knowing.have refl)
   type_known Void h = tt
   type_known (Pointer' b t) h =
-      let w : HasSense s all (codes "PointerTo") (Called pointer_body) = sense_is s all (with_structs p defs) (codes "PointerTo") (Called pointer_body) knowing.have refl in
-      let f : HasSense s all (codes "PointerType") (Sized 4) = sense_is s all (with_structs p defs) (codes "PointerType") (Sized 4) knowing.have refl in
+      let w : HasSense s all (codes "PointerTo") (Called pointer_body) = sense_is s all (with_structs p bound defs) (codes "PointerTo") (Called pointer_body) knowing.have refl in
+      let f : HasSense s all (codes "PointerType") (Sized 4) = sense_is s all (with_structs p bound defs) (codes "PointerType") (Sized 4) knowing.have refl in
       (type_known t h, f.2.0, f.2.1, f.2.2, (w.2.0, w.1 ∙ ap Some w.2.1, w.2.2, w.2.3), (f.1 ∙ ap Some f.2.3, f.2.4, (omega arith, tt), omega arith))
   type_known (Array' b t n) h =
-      let w : HasSense s all (codes "ArrayOf") (Called array_body) = sense_is s all (with_structs p defs) (codes "ArrayOf") (Called array_body) knowing.have refl in
-      let f : HasSense s all (codes "ArrayType") Kind = sense_is s all (with_structs p defs) (codes "ArrayType") Kind knowing.have refl in
+      let w : HasSense s all (codes "ArrayOf") (Called array_body) = sense_is s all (with_structs p bound defs) (codes "ArrayOf") (Called array_body) knowing.have refl in
+      let f : HasSense s all (codes "ArrayType") Kind = sense_is s all (with_structs p bound defs) (codes "ArrayType") Kind knowing.have refl in
       let bytes : n * bytes_of_type (written defs t) < 2 ^ 31 = subst (λ (k : ℕ). n * k < 2 ^ 31) (sym (bytes_are defs t)) h.3 in
       (type_known t h.0, some_item t h.1, h.2, bytes, f.2.0, f.2.1, f.2.2, (w.2.0, w.1 ∙ ap Some w.2.1, w.2.2, w.2.3), f.1 ∙ ap Some f.2.3, f.2.4)
   type_known (Struct n) h =
-      let w : HasSense s all (codes "structs") (Structs defs) = sense_is s all (with_structs p defs) (codes "structs") (Structs defs) knowing.have refl in
-      let r : Nth s w.2.1 defs n = nth defs s w.2.1 defs n small w.2.4 h in
+      let w : HasSense s all (codes "structs") (Structs bound defs) = sense_is s all (with_structs p bound defs) (codes "structs") (Structs bound defs) knowing.have refl in
+      let r : Nth s w.2.1 defs n = nth defs s bound w.2.1 defs n small w.2.4 h in
       (omega arith, w.2.0, w.2.1, r.object, w.1 ∙ ap Some w.2.2, w.2.3, r.at, r.sized)
 
   -- the string's type
   pub char_known : (n : ℕ) → n < 2 ^ 30 → KnowsType s all (Many (Basic (codes "char") 1) (suc n))
   char_known n h =
-      let w : HasSense s all (codes "ArrayOf") (Called array_body) = sense_is s all (with_structs p defs) (codes "ArrayOf") (Called array_body) knowing.have refl in
-      let f : HasSense s all (codes "ArrayType") Kind = sense_is s all (with_structs p defs) (codes "ArrayType") Kind knowing.have refl in
+      let w : HasSense s all (codes "ArrayOf") (Called array_body) = sense_is s all (with_structs p bound defs) (codes "ArrayOf") (Called array_body) knowing.have refl in
+      let f : HasSense s all (codes "ArrayType") Kind = sense_is s all (with_structs p bound defs) (codes "ArrayType") Kind knowing.have refl in
       (type_known Char tt, tt, omega arith, omega arith, f.2.0, f.2.1, f.2.2, (w.2.0, w.1 ∙ ap Some w.2.1, w.2.2, w.2.3), f.1 ∙ ap Some f.2.3, f.2.4)

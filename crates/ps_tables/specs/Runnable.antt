@@ -29,6 +29,7 @@ RunsType defs t = Unit {0}
 
 pub record RunsMember (defs : List StructDef) (m : Member) : Type 0 where
   pub name : length m.name ≤ 16777216
+  pub at : m.at < 2 ^ 32
   pub ctype : RunsType defs m.ctype
 
 pub record RunsStruct (defs : List StructDef) (d : StructDef) : Type 0 where
@@ -52,6 +53,7 @@ pub record Runnable (p : Program) (at : Placement) : Type 0 where
   pub structs : AllByRecursion (RunsStruct p.defs) p.defs
   pub objects : AllByRecursion (RunsObject p.defs p.units) p.objects
   pub strings : AllByRecursion (λ t. length t < 2 ^ 30) p.strings
+  pub anchors : AllByRecursion (λ a. a.1 < 2 ^ 32) at.anchors
   pub units : AllByRecursion (RunsUnit p at.functions) p.units
   pub few_structs : length p.defs ≤ 90000
   pub few_objects : length p.objects + length p.strings ≤ 90000

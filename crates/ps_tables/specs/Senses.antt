@@ -22,14 +22,15 @@ use Rattle.ps_tables.specs.Later.{IsThere, IsOpen}
 use Rattle.ps_tables.specs.Types.{of_arrays}
 
 -- What a word stands for: this object; a type of so many bytes; what the types of a kind, and what the symbols of variables have in common; a
--- procedure of this term; an array of these structs; an array.
+-- procedure of this term; an array of these structs, with so many entries at
+-- most in each one's dictionary; an array.
 pub data Sense : Type 0 where
   Stands : (x : PsObj) → Sense
   Sized : (size : ℕ) → Sense
   Kind : Sense
   Variables : Sense
   Called : (body : Code) → Sense
-  Structs : (defs : List StructDef) → Sense
+  Structs : (few : ℕ) (defs : List StructDef) → Sense
   Listing : Sense
 
 abbrev pub basic_fields : ℕ → (kind printer : PsObj) → Fields
@@ -38,20 +39,21 @@ basic_fields size kind printer = (codes "kind", kind) ∷ (codes "size", Int (po
 abbrev pub variable_fields : (kind : PsObj) → Fields
 variable_fields kind = (codes "kind", kind) ∷ (codes "uplink", Null) ∷ []
 
--- the dictionary of a struct: it is not closed, and has its size and a tag
-pub record IsStruct (s : StoreState) (x : PsObj) (d : StructDef) : Type 0 where
+-- the dictionary of a struct: it is not closed, has so many entries at most, and has its size and a tag
+pub record IsStruct (s : StoreState) (few : ℕ) (x : PsObj) (d : StructDef) : Type 0 where
   pub dict : DictId
   pub is : x ≡ Dict dict
   pub opened : IsOpen s dict
   pub there : IsThere s dict
   pub size : value_at (entries_of s dict) (NameKey (codes "size")) ≡ Some (Int (signed d.size))
+  pub small : length (entries_of s dict) ≤ few
   pub tag : PsObj
   pub tagged : value_at (entries_of s dict) (NameKey (codes "tag")) ≡ Some tag
 
-abbrev pub AreStructs : StoreState → List PsObj → List StructDef → Type 0
-AreStructs s [] [] = Unit {0}
-AreStructs s (x ∷ xs) (d ∷ ds) = IsStruct s x d × AreStructs s xs ds
-AreStructs s xs ds = ⊥
+abbrev pub AreStructs : StoreState → ℕ → List PsObj → List StructDef → Type 0
+AreStructs s few [] [] = Unit {0}
+AreStructs s few (x ∷ xs) (d ∷ ds) = IsStruct s few x d × AreStructs s few xs ds
+AreStructs s few xs ds = ⊥
 
 -- an object is of such a sense
 abbrev pub IsOf : StoreState → PsObj → Sense → Type 0
@@ -60,11 +62,16 @@ IsOf s x (Sized size) = (d : DictId) × (kind printer : PsObj) × (x ≡ Dict d)
 IsOf s x Kind = (d : DictId) × (kind printer : PsObj) × (x ≡ Dict d) × HasFields s d (of_arrays kind printer)
 IsOf s x Variables = (d : DictId) × (kind : PsObj) × (x ≡ Dict d) × HasFields s d (variable_fields kind)
 IsOf s x (Called body) = (a : ArrayId) × (x ≡ Array a true) × HasArray s a × Spells s (elements_of s a) body
-IsOf s x (Structs defs) = (a : ArrayId) × (xs : List PsObj) × (x ≡ Array a false) × IsArray s a xs × AreStructs s xs defs
+IsOf s x (Structs few defs) = (a : ArrayId) × (xs : List PsObj) × (x ≡ Array a false) × IsArray s a xs × AreStructs s few xs defs
 IsOf s x Listing = (a : ArrayId) × (x ≡ Array a false)
 
 abbrev pub HasSense : StoreState → List DictId → List ℕ → Sense → Type 0
 HasSense s ds word sense = (x : PsObj) × (named s ds word ≡ Some x) × IsOf s x sense
+
+-- the sense when each struct's dictionary has so many entries
+abbrev pub raised : (ℕ → ℕ) → Sense → Sense
+raised up (Structs few defs) = Structs (up few) defs
+raised up other = other
 
 -- words with what they stand for
 abbrev pub Senses : Type 0
