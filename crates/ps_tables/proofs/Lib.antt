@@ -27,3 +27,4 @@ pub mod WordsKnown
 pub mod TypesKnown
 pub mod MembersRun
 pub mod StructsRun
+pub mod ObjectsRun

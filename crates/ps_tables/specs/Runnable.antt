@@ -55,7 +55,7 @@ pub record Runnable (p : Program) (at : Placement) : Type 0 where
   pub strings : AllByRecursion (λ t. length t < 2 ^ 30) p.strings
   pub anchors : AllByRecursion (λ a. a.1 < 2 ^ 32) at.anchors
   pub units : AllByRecursion (RunsUnit p at.functions) p.units
-  pub few_structs : length p.defs ≤ 90000
+  pub few_structs : length p.defs ≤ 40000
   pub few_objects : length p.objects + length p.strings ≤ 90000
   pub few_anchors : length at.anchors ≤ 40000
   pub few_units : length p.units ≤ 90000
