@@ -28,3 +28,5 @@ pub mod TypesKnown
 pub mod MembersRun
 pub mod StructsRun
 pub mod ObjectsRun
+pub mod TopRun
+pub mod TableRun

@@ -48,6 +48,7 @@ use Rattle.ps_tables.specs.Runnable.{RunsMember, RunsStruct}
 use Rattle.ps_tables.specs.Defined.{in_table, Puts}
 use Rattle.ps_tables.specs.Senses.{Structs, IsStruct, AreStructs, HasSense, AreOther, Knowing}
 use Rattle.ps_tables.specs.Reached.{Owned, Reaches}
+use Rattle.ps_tables.specs.Tabled.{members_made, members_steps, filling_made, filling_steps}
 use Rattle.ps_tables.specs.WordsKnown.{Printers}
 use Rattle.ps_tables.specs.PartsKnown.{with_structs}
 use Rattle.ps_tables.proofs.Going.{takes_then, takes_one}
@@ -105,24 +106,16 @@ module _ (defs : List StructDef) where
   members_room [] n h = omega arith
   members_room (m ∷ ms) n h = (omega arith, members_room ms (suc n) (omega arith))
 
-  abbrev pub members_made : List Member → ℕ
-  members_made [] = 0
-  members_made (m ∷ ms) = text_units m.name + type_cost (written defs m.ctype) + 8 + members_made ms
-
-  abbrev pub members_steps : List Member → ℕ
-  members_steps [] = 0
-  members_steps (m ∷ ms) = 4 + type_steps (written defs m.ctype) + members_steps ms
-
-  members_cost : (ms : List Member) → cost (members defs ms) ≡ members_made ms
+  members_cost : (ms : List Member) → cost (members defs ms) ≡ members_made defs ms
   members_cost [] = refl
   members_cost (m ∷ ms) = let e = members_cost ms in omega arith
 
-  members_takes : (ms : List Member) → steps (members defs ms) ≡ members_steps ms
+  members_takes : (ms : List Member) → steps (members defs ms) ≡ members_steps defs ms
   members_takes [] = refl
   members_takes (m ∷ ms) =
       let t : ℕ = type_steps (written defs m.ctype) in
       ap (λ n. suc (further (suc (suc (further t 0))) (suc n))) (members_takes ms)
-      ∙ ap suc (further_is (suc (suc (further t 0))) (suc (members_steps ms)) ∙ ap (λ n. suc (suc n) + suc (members_steps ms)) (further_is t 0)) ∙ omega arith
+      ∙ ap suc (further_is (suc (suc (further t 0))) (suc (members_steps defs ms)) ∙ ap (λ n. suc (suc n) + suc (members_steps defs ms)) (further_is t 0)) ∙ omega arith
 
 -- ---- a store in which a struct's members were put
 
@@ -256,23 +249,15 @@ module _ (index : ℕ) (ds : List DictId) (t : StringId) (under : List Item) (it
           closed = put.closed ∙ later.closed;
           counted = omega arith;
         };
-        stands = record { text = z.stands.text; lead = z.stands.lead; is_lead = z.stands.is_lead; is = put.strings t z.stands.text z.stands.is; here = z.stands.here };
+        stands = record { text = z.stands.text; lead = z.stands.lead; is_lead = z.stands.is_lead; is = put.strings t z.stands.text z.stands.is; here = z.stands.here; within = z.stands.within };
         takes = subst (λ m. Takes m c₀ c₂) number (takes_then (steps piece) 1 c₀ c₁ c₂ q.takes (takes_one c₁ c₂ done));
       }
 
   -- ---- all of them
 
-  abbrev pub filling_made : List StructDef → ℕ
-  filling_made [] = 0
-  filling_made (d ∷ rest) = 14 + members_made defs d.members + length d.members + filling_made rest
-
-  abbrev pub filling_steps : List StructDef → ℕ
-  filling_steps [] = 0
-  filling_steps (d ∷ rest) = 7 + members_steps defs d.members + filling_steps rest
-
   pub fill_all : (j : ℕ) (rest : List StructDef) (k : Code) (n b : ℕ) (s : StoreState) (at : ℕ) → Knowing s index ds n (with_structs p b defs) → j + length rest ≤ length defs → AllByRecursion (RunsStruct defs) rest → b + length rest < 999999
-      → s.table.units + s.command.units + filling_made rest ≤ 8000000 → StandsAt s t at (render (filled_structs j rest ⋯ k) ++ post)
-      → Reaches index ds t under (filling_steps rest) (filling_made rest) n (with_structs p (b + length rest) defs) s at (render k ++ post)
+      → s.table.units + s.command.units + filling_made defs rest ≤ 8000000 → StandsAt s t at (render (filled_structs j rest ⋯ k) ++ post)
+      → Reaches index ds t under (filling_steps defs rest) (filling_made defs rest) n (with_structs p (b + length rest) defs) s at (render k ++ post)
   fill_all j [] k n b s at knowing within typed few units_fit here = record {
     store = s;
     to = at;
@@ -290,7 +275,7 @@ module _ (index : ℕ) (ds : List DictId) (t : StringId) (under : List Item) (it
       fill_one j d.members behind n b s at knowing (omega arith) typed.0.members typed.0.few (omega arith) (omega arith)
       (subst (λ (c : Code). StandsAt s t at (render c ++ post)) (assoc (filled_struct j d.members) (filled_structs (suc j) rest) k) here) in
       let counted = f.owned.counted in
-      let r : Reaches index ds t under (filling_steps rest) (filling_made rest) n (with_structs p (b + 1 + length rest) defs) f.store f.to (render k ++ post) =
+      let r : Reaches index ds t under (filling_steps defs rest) (filling_made defs rest) n (with_structs p (b + 1 + length rest) defs) f.store f.to (render k ++ post) =
       fill_all (suc j) rest k n (b + 1) f.store f.to f.knowing (omega arith) typed.1 (omega arith) (omega arith) f.stands in
       let c₀ : PsCore = core s all [] (TextItem t at ∷ under) in
       let c₁ : PsCore = core f.store all [] (TextItem t f.to ∷ under) in
@@ -299,7 +284,7 @@ module _ (index : ℕ) (ds : List DictId) (t : StringId) (under : List Item) (it
         store = r.store;
         to = r.to;
         knowing = subst (λ (q : ℕ). Knowing r.store index ds n (with_structs p q defs)) (omega arith) r.knowing;
-        owned = owned_then u (filling_made rest) s f.store r.store f.owned r.owned;
+        owned = owned_then u (filling_made defs rest) s f.store r.store f.owned r.owned;
         stands = r.stands;
-        takes = subst (λ q. Takes q c₀ c₂) (further_is m (filling_steps rest)) (takes_then m (filling_steps rest) c₀ c₁ c₂ f.takes r.takes);
+        takes = subst (λ q. Takes q c₀ c₂) (further_is m (filling_steps defs rest)) (takes_then m (filling_steps defs rest) c₀ c₁ c₂ f.takes r.takes);
       }

@@ -337,7 +337,7 @@ module _ (s₀ : StoreState) (ds : List DictId) (is₀ : IsMaking s₀ ds) (t : 
         };
         few = longest;
         shows = (v, n, zs, refl, put.strings n name written, fine.1, simple_kept s₄ s₅ put.strings (given_value g) (v ∷ []) (simple_given g) shown, simple_kept s₄ s₅ put.strings items zs simple below);
-        stands = record { text = z.stands.text; lead = z.stands.lead; is_lead = z.stands.is_lead; is = put.strings t z.stands.text z.stands.is; here = z.stands.here };
+        stands = record { text = z.stands.text; lead = z.stands.lead; is_lead = z.stands.is_lead; is = put.strings t z.stands.text z.stands.is; here = z.stands.here; within = z.stands.within };
         takes = takes_then 1 (suc (further (given_steps g) 1)) c₀ c₁ c₅ (takes_one c₀ c₁ first)
             (takes_then 1 (further (given_steps g) 1) c₁ c₂ c₅ (takes_one c₁ c₂ second) (takes_then (given_steps g) 1 c₂ c₃ c₅ q.takes (takes_one c₃ c₅ last)));
       }

@@ -39,6 +39,7 @@ use Rattle.ps_tables.specs.Runnable.{RunsStruct, RunsObject, Runnable}
 use Rattle.ps_tables.specs.Defined.{in_table}
 use Rattle.ps_tables.specs.Senses.{Variables, Called, Listing, variable_fields, IsOf, HasSense, Knowing}
 use Rattle.ps_tables.specs.Reached.{Reaches}
+use Rattle.ps_tables.specs.Tabled.{strings_made, objects_made, objects_steps, object_units, object_steps}
 use Rattle.ps_tables.specs.WordsKnown.{Printers, string_body, object_body}
 use Rattle.ps_tables.specs.PartsKnown.{with_structs, with_objects}
 use Rattle.ps_tables.proofs.TypeTexts.{small_integer}
@@ -91,20 +92,7 @@ body_fine k h = let a = anchor_name_fine k h in ((refl, (a.0, a.1, anchor_fine))
 label_short : (k : ℕ) → k < 2 ^ 31 → length (string_label k) ≤ 16777216
 label_short k h = let l = short_decimal k h in let e : length (codes "str" ++ decimal k) ≡ 3 + length (decimal k) = length-append (codes "str") (decimal k) in omega arith
 
--- ---- units and steps
-
-abbrev pub strings_made : (k anchor : ℕ) → List (List ℕ) → ℕ
-strings_made k anchor [] = 0
-strings_made k anchor (t ∷ ts) = text_units (string_label k) + text_units (anchor_name anchor) + 27 + strings_made (suc k) (suc anchor) ts
-
-abbrev pub objects_made : List StructDef → List UnitRow → ℕ → List ObjectRow → ℕ
-objects_made defs us k [] = 0
-objects_made defs us k (o ∷ os) =
-    text_units o.name + text_units (object_label us o) + text_units (anchor_name k) + type_cost (written defs o.ctype) + 18 + objects_made defs us (suc k) os
-
-abbrev pub objects_steps : List StructDef → List ObjectRow → ℕ
-objects_steps defs [] = 0
-objects_steps defs (o ∷ os) = 33 + type_steps (written defs o.ctype) + objects_steps defs os
+-- ---- the pieces
 
 module _ (dict : DictId) (kind : PsObj) where
   abbrev ss : (k anchor : ℕ) → List (List ℕ) → Piece
@@ -197,13 +185,6 @@ module _ (index : ℕ) (ds : List DictId) (t : StringId) (under : List Item) (it
 
   listing_is : (s : StoreState) (items : Values) (x : PsObj) → Show s (x ∷ []) (Listed items Bottom) → IsOf s x Listing
   listing_is s items x h = (h.0, head_is x (Array h.0 false) h.2 h.3)
-
-  -- the units and steps of the definition
-  abbrev pub object_units : Program → ℕ
-  object_units q = 10 + (length q.objects + length q.strings) + objects_made q.defs q.units 0 q.objects + strings_made 0 (length q.objects) q.strings
-
-  abbrev pub object_steps : Program → ℕ
-  object_steps q = 4 + objects_steps q.defs q.objects + 56 * length q.strings
 
   pub objects_reached : (q : Program) (k : Code) (n b : ℕ) (s : StoreState) (at : ℕ) → AllByRecursion (RunsStruct q.defs) q.defs → length q.defs ≤ 90000 → AllByRecursion (RunsObject q.defs q.units) q.objects
       → AllByRecursion (λ x. length x < 2 ^ 30) q.strings → length q.objects + length q.strings ≤ 90000 → Knowing s index ds n (with_structs p b q.defs) → n < 900000

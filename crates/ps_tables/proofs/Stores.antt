@@ -203,4 +203,4 @@ module _ (u : ℕ) (s s' : StoreState) (later : Later u s s') where
   open_later d h = (h.0, h.1, subst (λ (m : Mark). m.dicts ≤ h.0) (sym later.closed) h.2)
 
   pub stands_later : (t : StringId) (at : ℕ) (rest : List ℕ) → StandsAt s t at rest → StandsAt s' t at rest
-  stands_later t at rest h = record { text = h.text; lead = h.lead; is_lead = h.is_lead; is = later.strings t h.text h.is; here = h.here }
+  stands_later t at rest h = record { text = h.text; lead = h.lead; is_lead = h.is_lead; is = later.strings t h.text h.is; here = h.here; within = h.within }

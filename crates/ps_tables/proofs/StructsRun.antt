@@ -38,6 +38,7 @@ use Rattle.ps_tables.specs.Runnable.{RunsStruct}
 use Rattle.ps_tables.specs.Defined.{in_table}
 use Rattle.ps_tables.specs.Senses.{Kind, Called, Structs, IsStruct, AreStructs, IsOf, HasSense, Knowing}
 use Rattle.ps_tables.specs.Reached.{Reaches}
+use Rattle.ps_tables.specs.Tabled.{structs_made}
 use Rattle.ps_tables.specs.WordsKnown.{Printers, printer_senses, word_senses, struct_body}
 use Rattle.ps_tables.specs.PartsKnown.{with_structs}
 use Rattle.ps_tables.proofs.Types.{value_of, fields_value}
@@ -145,15 +146,6 @@ module _ (dict : DictId) (kind printer : PsObj) where
       let r : Split s h.1 defs Bottom = split s defs h.1 Bottom h.5 in
       let whole : h.1 ≡ r.front = r.are ∙ ap (λ l. r.front ++ l) r.shows ∙ append-nil r.front in
       (h.0, reverse h.1, head_is x (Array h.0 false) h.2 h.3, h.4, subst (λ (l : List PsObj). AreStructs s 4 (reverse l) defs) (sym whole) r.structs)
-
-  -- the units and steps that they take
-  abbrev pub one_struct : StructDef → ℕ
-  one_struct d = text_units d.tag + 7
-
--- units and steps of the structs' array, by the structs
-abbrev pub structs_made : List StructDef → ℕ
-structs_made [] = 0
-structs_made (d ∷ defs) = text_units d.tag + 7 + structs_made defs
 
 each_cost : (dict : DictId) (kind printer : PsObj) (defs : List StructDef) → cost (each dict kind printer defs) ≡ structs_made defs
 each_cost dict kind printer [] = refl

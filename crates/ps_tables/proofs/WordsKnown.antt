@@ -67,14 +67,14 @@ variable_entries = (codes "kind", CalledName (codes "variable")) ∷ (codes "upl
 
 module _ (s : StoreState) where
   -- what a pair is, and those before it
-  record Last (below : Values) (name : List ℕ) (value : Values) (zs : List PsObj) : Type 0 where
+  pub record Last (below : Values) (name : List ℕ) (value : Values) (zs : List PsObj) : Type 0 where
     pub v : PsObj
     pub ys : List PsObj
     pub pairs_are : pairs (Under name value below) zs ≡ updated (pairs below ys) name v
     pub shows : Show s (v ∷ []) value
     pub rest : Show s ys below
 
-  last : (below : Values) (name : List ℕ) (value : Values) (zs : List PsObj) → Show s zs (Under name value below) → Last below name value zs
+  pub last : (below : Values) (name : List ℕ) (value : Values) (zs : List PsObj) → Show s zs (Under name value below) → Last below name value zs
   last below name value zs h = record { v = h.0; ys = h.2; pairs_are = ap (pairs (Under name value below)) h.3; shows = h.6; rest = h.7 }
 
   basic_is : (kind : List ℕ) (size : ℕ) (printer : List ℕ) (p x : PsObj) → Show s (x ∷ []) (Paired (entry_values (basic_entries kind size printer p) Bottom) Bottom) → IsOf s x (Sized size)

@@ -36,3 +36,4 @@ pub record StandsAt (s : StoreState) (t : StringId) (at : ℕ) (rest : List ℕ)
   pub is_lead : Lead lead
   pub is : IsString s t text
   pub here : drop at text ≡ lead ++ rest
+  pub within : at ≤ length text

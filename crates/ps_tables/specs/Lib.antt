@@ -14,3 +14,4 @@ pub mod Senses
 pub mod Reached
 pub mod WordsKnown
 pub mod PartsKnown
+pub mod Tabled
