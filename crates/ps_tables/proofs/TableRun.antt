@@ -1,17 +1,21 @@
 -- The text of a table runs to its end.
-use Rattle.std.proofs.Common.{◌≡◌, ℕ, suc, ◌+◌, ◌*◌, ◌<◌, ◌≤◌, ◌^◌, List, [], ◌∷◌, ◌++◌, length, drop, refl, sym, ap, ◌∙◌, subst, arith, append-nil}
+use Rattle.std.proofs.Common.{◌≡◌, ℕ, suc, ◌+◌, ◌*◌, ◌<◌, ◌≤◌, ◌^◌, true, List, [], ◌∷◌, ◌++◌, length, drop, refl, sym, ap, ◌∙◌, subst, arith, append-nil}
 use Rattle.c_tree.specs.declared.rows.Program.{Program}
 use Rattle.ps_store.specs.declared.object.PsObj.{PsObj}
-use Rattle.ps_store.specs.declared.object.PsObj.TheVariants.{Dict}
+use Rattle.ps_store.specs.declared.object.PsObj.TheVariants.{Str, Dict}
 use Rattle.ps_store.specs.declared.object.DictId.{DictId}
 use Rattle.ps_store.specs.declared.object.StringId.{StringId}
 use Rattle.ps_store.specs.StoreState.{StoreState}
 use Rattle.ps_step.specs.declared.item.Item.{Item}
-use Rattle.ps_step.specs.declared.item.Item.TheVariants.{Text as TextItem}
+use Rattle.ps_step.specs.declared.item.Item.TheVariants.{Object, Text as TextItem}
 use Rattle.ps_step.specs.declared.machine.PsCore.{PsCore}
 use Rattle.ps_run.specs.Scan.{Nothing, reading_object}
-use Rattle.ps_run.specs.Step.{Ended, step}
+use Rattle.ps_run.specs.Step.{Ended, Next, step}
+use Rattle.ps_run.specs.Runs.{Answer, Operates, Runs}
+use Rattle.ps_run.proofs.Apart.{finished}
 use Rattle.ps_text.specs.Code.{Code, Stop, Num, Word, Lit, Text, Proc, render}
+use Rattle.ps_text.specs.Grown.{IsString}
+use Rattle.ps_text.specs.Reading.{bare}
 use Rattle.ps_text.proofs.First.{reads_end}
 use Rattle.ps_terms.specs.Stands.{core}
 use Rattle.ps_terms.specs.Printing.{further}
@@ -19,7 +23,7 @@ use Rattle.ps_emit.specs.declared.placement.Placement.{Placement}
 use Rattle.ps_emit.specs.Terms.{◌⋯◌}
 use Rattle.ps_emit.specs.Types.{filled_structs}
 use Rattle.ps_emit.specs.Places.{objects_code}
-use Rattle.ps_emit.specs.Table.{top_code, parts_code, table_code}
+use Rattle.ps_emit.specs.Table.{top_code, parts_code, table_code, table_text}
 use Rattle.ps_tables.specs.Taken.{Takes}
 use Rattle.ps_tables.specs.Later.{StandsAt}
 use Rattle.ps_tables.specs.Pieces.{cost, steps, Bottom, after, Performs}
@@ -30,8 +34,8 @@ use Rattle.ps_tables.specs.Senses.{Knowing}
 use Rattle.ps_tables.specs.Reached.{Owned, Reaches}
 use Rattle.ps_tables.specs.WordsKnown.{Printers, AreNoMarks, printer_senses, word_senses}
 use Rattle.ps_tables.specs.PartsKnown.{with_structs, with_objects}
-use Rattle.ps_tables.specs.Tabled.{structs_made, filling_made, filling_steps, object_units, object_steps, top_made, top_steps, table_made, table_steps, IsTop, Leaves}
-use Rattle.ps_tables.proofs.Going.{takes_then}
+use Rattle.ps_tables.specs.Tabled.{structs_made, filling_made, filling_steps, object_units, object_steps, top_made, top_steps, table_made, table_steps, IsTop, LeavesTop, EndsAtTop}
+use Rattle.ps_tables.proofs.Going.{takes_then, taken}
 use Rattle.ps_tables.proofs.Texts.{step_reads}
 use Rattle.ps_tables.proofs.TablePieces.{top_performs}
 use Rattle.ps_tables.proofs.Sequence.{owned_then, owned_within, owned_later}
@@ -99,7 +103,7 @@ module _ (index : ℕ) (ds : List DictId) (t : StringId) (pr : Printers) where
       }
 
   pub table_leaves : (p : Program) (at : Placement) (n : ℕ) (s : StoreState) (from : ℕ) → Runnable p at → AreNoMarks pr → Knowing s index ds n (printer_senses pr) → n < 800000
-      → s.table.units + s.command.units + table_made p at ≤ 8000000 → StandsAt s t from (render (table_code p at)) → Leaves index ds t (table_steps p at) (table_made p at) at.target s from
+      → s.table.units + s.command.units + table_made p at ≤ 8000000 → StandsAt s t from (render (table_code p at)) → LeavesTop index ds t (table_steps p at) (table_made p at) at.target s from
   table_leaves p at n s from run marks knowing few units_fit here =
       let few_defs = run.few_structs in
       let x : ℕ = 139 + (4 + 19 * length p.defs) + filling_steps p.defs p.defs + object_steps p in
@@ -129,3 +133,20 @@ module _ (index : ℕ) (ds : List DictId) (t : StringId) (pr : Printers) where
         takes = subst (λ m. Takes m c₀ c₂) (further_is x (top_steps p at)) (takes_then x (top_steps p at) c₀ c₁ c₂ r.takes last);
         ends = text_ends q.store (Dict q.shows.0 ∷ []) q.to q.stands;
       }
+
+  pub text_leaves : (p : Program) (at : Placement) (n : ℕ) (s : StoreState) → Runnable p at → AreNoMarks pr → Knowing s index ds n (printer_senses pr) → n < 800000 → s.table.units + s.command.units + table_made p at ≤ 8000000 → IsString s t (table_text p at)
+      → LeavesTop index ds t (table_steps p at) (table_made p at) at.target s 0
+  unfolding table_text
+  text_leaves p at n s run marks knowing few units_fit is =
+      table_leaves p at n s 0 run marks knowing few units_fit (record { text = table_text p at; lead = []; is_lead = bare; is = is; here = refl; within = omega arith })
+
+  -- a run of the text as an object
+  pub runs_to_top : {D : Type 0} (Op : Operates D) (steps made target left : ℕ) (s : StoreState) (d d' : D) (m : ℕ) (c' : PsCore) (r : Answer) → LeavesTop index ds t steps made target s 0
+      → Runs Op (further (suc steps) (suc left)) d (core s all [] (Object (Str t true) ∷ [])) r m d' c' → EndsAtTop index ds t steps made target s (suc left) d r m d' c'
+  runs_to_top Op steps made target left s d d' m c' r leaves run =
+      let c₀ : PsCore = core s all [] (Object (Str t true) ∷ []) in
+      let c₁ : PsCore = core s all [] (TextItem t 0 ∷ []) in
+      let c₂ : PsCore = core leaves.store all (Dict leaves.top ∷ []) (TextItem t leaves.to ∷ []) in
+      let c₃ : PsCore = core leaves.store all (Dict leaves.top ∷ []) [] in
+      let f = finished Op left d c₂ c₃ r m d' c' leaves.ends (taken Op (suc steps) (suc left) m d d' c₀ c₂ c' r (c₁, refl, leaves.takes) run) in
+      record { leaves = leaves; answer = f.answered; remains = f.left; dialect = f.dialect; state = f.core }

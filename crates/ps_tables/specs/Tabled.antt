@@ -1,5 +1,5 @@
 -- What the text of a table leaves.
-use Rattle.std.specs.Prelude.{◌≡◌, ℕ, pos, suc, ◌+◌, ◌*◌, ◌≤◌, false, Some, List, [], ◌∷◌, length, codes}
+use Rattle.std.specs.Prelude.{◌≡◌, ℕ, pos, suc, ◌+◌, ◌*◌, false, Some, Ok, List, [], ◌∷◌, length, codes}
 use Rattle.obj_file.specs.declared.object.FunctionRow.{FunctionRow}
 use Rattle.c_tree.specs.declared.types.StructDef.{StructDef}
 use Rattle.c_tree.specs.declared.types.Member.{Member}
@@ -17,7 +17,9 @@ use Rattle.ps_store.specs.StoreState.{StoreState}
 use Rattle.ps_store.specs.Store.{entries_of, text_units}
 use Rattle.ps_step.specs.declared.item.Item.{Item}
 use Rattle.ps_step.specs.declared.item.Item.TheVariants.{Text}
+use Rattle.ps_step.specs.declared.machine.PsCore.{PsCore}
 use Rattle.ps_run.specs.Step.{Ended, step}
+use Rattle.ps_run.specs.Runs.{Answer}
 use Rattle.ps_text.specs.Code.{render}
 use Rattle.ps_text.specs.Grown.{IsString}
 use Rattle.ps_terms.specs.Stands.{core}
@@ -119,7 +121,7 @@ pub record IsTop (s : StoreState) (d : DictId) (target : ℕ) : Type 0 where
 
 -- In so many steps, which ask nothing of a dialect and raise no error, the text leads to its end, and leaves one dictionary, which is the top of a table,
 -- and nothing else; so many units are made at most.
-pub record Leaves (index : ℕ) (ds : List DictId) (t : StringId) (steps made target : ℕ) (s : StoreState) (at : ℕ) : Type 0 where
+pub record LeavesTop (index : ℕ) (ds : List DictId) (t : StringId) (steps made target : ℕ) (s : StoreState) (at : ℕ) : Type 0 where
   pub store : StoreState
   pub top : DictId
   pub to : ℕ
@@ -127,3 +129,11 @@ pub record Leaves (index : ℕ) (ds : List DictId) (t : StringId) (steps made ta
   pub owned : Owned made s store
   pub takes : Takes steps (core s (in_table index ∷ ds) [] (Text t at ∷ [])) (core store (in_table index ∷ ds) (Dict top ∷ []) (Text t to ∷ []))
   pub ends : step (core store (in_table index ∷ ds) (Dict top ∷ []) (Text t to ∷ [])) ≡ Ended (core store (in_table index ∷ ds) (Dict top ∷ []) [])
+
+-- A run ended without an error, with so many steps left, where the text of a table ends that leaves its top; the dialect is as before.
+pub record EndsAtTop {D : Type 0} (index : ℕ) (ds : List DictId) (t : StringId) (steps made target : ℕ) (s : StoreState) (left : ℕ) (d : D) (r : Answer) (m : ℕ) (d' : D) (c' : PsCore) : Type 0 where
+  pub leaves : LeavesTop index ds t steps made target s 0
+  pub answer : r ≡ Ok tt
+  pub remains : m ≡ left
+  pub dialect : d' ≡ d
+  pub state : c' ≡ core leaves.store (in_table index ∷ ds) (Dict leaves.top ∷ []) []
