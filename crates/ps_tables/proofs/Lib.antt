@@ -30,3 +30,4 @@ pub mod StructsRun
 pub mod ObjectsRun
 pub mod TopRun
 pub mod TableRun
+pub mod Bounded

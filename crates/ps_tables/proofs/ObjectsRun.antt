@@ -80,7 +80,7 @@ word_regular : (ds : List ℕ) → IsWord ds → AllRegular ds
 word_regular [] h = absurd h
 word_regular (b ∷ bs) h = h
 
-short_decimal : (k : ℕ) → k < 2 ^ 31 → length (decimal k) ≤ 10
+pub short_decimal : (k : ℕ) → k < 2 ^ 31 → length (decimal k) ≤ 10
 short_decimal k h = length-decimal-le 10 k (omega arith) (omega arith) (omega arith)
 
 pub anchor_name_fine : (k : ℕ) → k < 2 ^ 31 → Fine (Lit (anchor_name k) Stop)

@@ -15,3 +15,4 @@ pub mod Reached
 pub mod WordsKnown
 pub mod PartsKnown
 pub mod Tabled
+pub mod Bounded

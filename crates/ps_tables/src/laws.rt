@@ -27,7 +27,7 @@ ghost use Rattle.ps_terms.specs.Printing.{further};
 ghost use Rattle.ps_emit.specs.Words.{words};
 ghost use Rattle.ps_emit.specs.Terms.{◌⋯◌};
 ghost use Rattle.ps_emit.specs.Functions.{saved_register, point_code};
-ghost use Rattle.ps_emit.specs.Bounds.{per_saved, per_point};
+ghost use Rattle.ps_emit.specs.Bounds.{per_saved, per_point, cost_of};
 ghost use Rattle.ps_emit.specs.Table.{top_code};
 ghost use Rattle.ps_emit.specs.declared.placement.Placement.{Placement};
 ghost use Rattle.ps_tables.specs.TablePieces.{saved, point, top};
@@ -43,6 +43,7 @@ ghost use Rattle.ps_tables.specs.Pieces.{Piece, End, Field, Values, Bottom, left
 
 ghost use Rattle.ps_emit.specs.Table.{table_text};
 ghost use Rattle.ps_tables.specs.Runnable.{Runnable};
+ghost use Rattle.ps_tables.specs.Bounded.{IsShort, deferred_units};
 ghost use Rattle.ps_tables.specs.Senses.{Knowing};
 ghost use Rattle.ps_tables.specs.Reached.{Reaches};
 ghost use Rattle.ps_tables.specs.WordsKnown.{Printers, AreNoMarks, printer_senses, word_senses};
@@ -115,4 +116,10 @@ pub fn tables_are_left()
 /// So a run of the text as an executable string, with steps to spare, ends without an error at the table's top, whatever the dialect.
 pub fn tables_run<D: Dialect>()
     ensures { (p : Program) (at : Placement) (printers : Printers) (s : StoreState) (index n left m : ℕ) (ds : List DictId) (t : StringId) (d d' : D) (c' : PsCore) (r : Answer) → Runnable p at → AreNoMarks printers → Knowing s index ds n (printer_senses printers) → n < 800000 → IsString s t (table_text p at) → s.table.units + s.command.units + table_made p at ≤ 8000000 → Runs D.operates (further (suc (table_steps p at)) (suc left)) d (core s (in_table index ∷ ds) [] (Object (Str t true) ∷ [])) r m d' c' → EndsAtTop index ds t (table_steps p at) (table_made p at) at.target s (suc left) d r m d' c' }
+{}
+
+/// A table takes no more steps than are counted for the items of its program, and makes no more units than are counted, beside those of its deferred texts.
+pub fn tables_are_bounded()
+    ensures steps { (p : Program) (at : Placement) → IsShort p at → table_steps p at ≤ (cost_of p).steps }
+    ensures made { (p : Program) (at : Placement) → IsShort p at → table_made p at ≤ (cost_of p).made + deferred_units p at.functions p.units }
 {}
