@@ -192,9 +192,17 @@ module _ (index : ℕ) (ds : List DictId) (t : StringId) (under : List Item) (it
       ∙ ap (λ z. Word (codes "structs") (Num z (Word (codes "get") (Lit (codes "members") (Word (codes "[") (each_member ms ⋯ Word (codes "]") last)))))) (sym same_number)
       ∙ ap (λ c. Word (codes "structs") (Num (signed j) (Word (codes "get") (Lit (codes "members") (Word (codes "[") c)))))
       (sym (assoc (each_member ms ⋯ Word (codes "]") Stop) (Word (codes "put") Stop) k ∙ assoc (each_member ms) (Word (codes "]") Stop) last)) in
-      let knows : Knows s all piece =
-      (structs_fine, (small_integer j (omega arith), tt), w.2.0, w.2.1, w.1 ∙ ap Some w.2.2, w.2.3, r.at, value,
-       (lit_members, (let l = members_left defs ms in omega arith, members_known s n b knowing ms typed, tt))) in
+      let knows : Knows s all piece = (
+        structs_fine,
+        (small_integer j (omega arith), tt),
+        w.2.0,
+        w.2.1,
+        w.1 ∙ ap Some w.2.2,
+        w.2.3,
+        r.at,
+        value,
+        (lit_members, (let l = members_left defs ms in omega arith, members_known s n b knowing ms typed, tt)),
+      ) in
       let size : cost (members defs ms) ≡ members_made defs ms = members_cost defs ms in
       let left : left_by (members defs ms) ≡ length ms = members_left defs ms in
       let v : ℕ = units (Word (codes "put") Stop) in

@@ -169,19 +169,30 @@ module _ (index : ℕ) (ds : List DictId) (t : StringId) (under : List Item) (it
       → Means s (in_table index ∷ ds) (codes "NewString") (Does string_body) → Ready s (in_table index ∷ ds) (new_string dict (variable_fields kind))
       → (k anchor : ℕ) (ts : List (List ℕ)) → k + length ts < 2 ^ 31 → anchor + length ts < 2 ^ 31 → AllByRecursion (λ x. length x < 2 ^ 30) ts → Knows s (in_table index ∷ ds) (strings dict (variable_fields kind) k anchor ts)
   strings_known s dict kind n b defs knowing small few means ready k anchor [] h j short = tt
-  strings_known s dict kind n b defs knowing small few means ready k anchor (x ∷ xs) h j short =
-      (new_string_fine, means, ready, refl, omega arith, ((label_short k (omega arith), tt), (body_fine anchor (omega arith), (char_known s index ds n p b defs knowing small few (length x) short.0, tt))),
-       strings_known s dict kind n b defs knowing small few means ready (suc k) (suc anchor) xs (omega arith) (omega arith) short.1)
+  strings_known s dict kind n b defs knowing small few means ready k anchor (x ∷ xs) h j short = (
+    new_string_fine,
+    means,
+    ready,
+    refl,
+    omega arith,
+    ((label_short k (omega arith), tt), (body_fine anchor (omega arith), (char_known s index ds n p b defs knowing small few (length x) short.0, tt))),
+    strings_known s dict kind n b defs knowing small few means ready (suc k) (suc anchor) xs (omega arith) (omega arith) short.1,
+  )
 
   objects_known : (s : StoreState) (dict : DictId) (kind : PsObj) (n b : ℕ) (defs : List StructDef) (us : List UnitRow) → Knowing s index ds n (with_structs p b defs) → AllByRecursion (RunsStruct defs) defs → length defs ≤ 90000
       → Means s (in_table index ∷ ds) (codes "NewObject") (Does object_body) → Ready s (in_table index ∷ ds) (new_object dict (variable_fields kind))
       → (k : ℕ) (os : List ObjectRow) (rest : Piece) → k + length os < 2 ^ 31 → AllByRecursion (RunsObject defs us) os → Knows s (in_table index ∷ ds) rest
       → Knows s (in_table index ∷ ds) (objects_then dict (variable_fields kind) defs us k os rest)
   objects_known s dict kind n b defs us knowing small few means ready k [] rest h typed known = known
-  objects_known s dict kind n b defs us knowing small few means ready k (o ∷ os) rest h typed known =
-      (new_object_fine, means, ready, refl, omega arith,
-       ((typed.0.name, tt), ((typed.0.label, tt), (body_fine k (omega arith), (type_known s index ds n p b defs knowing small few o.ctype typed.0.ctype, tt)))),
-       objects_known s dict kind n b defs us knowing small few means ready (suc k) os rest (omega arith) typed.1 known)
+  objects_known s dict kind n b defs us knowing small few means ready k (o ∷ os) rest h typed known = (
+    new_object_fine,
+    means,
+    ready,
+    refl,
+    omega arith,
+    ((typed.0.name, tt), ((typed.0.label, tt), (body_fine k (omega arith), (type_known s index ds n p b defs knowing small few o.ctype typed.0.ctype, tt)))),
+    objects_known s dict kind n b defs us knowing small few means ready (suc k) os rest (omega arith) typed.1 known,
+  )
 
   listing_is : (s : StoreState) (items : Values) (x : PsObj) → Show s (x ∷ []) (Listed items Bottom) → IsOf s x Listing
   listing_is s items x h = (h.0, head_is x (Array h.0 false) h.2 h.3)

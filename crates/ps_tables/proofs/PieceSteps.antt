@@ -318,4 +318,3 @@ module _ (ds : List DictId) (t : StringId) (under : List Item) (post : List ℕ)
       let w : Acted s ds (Str text false ∷ xs) t at under (Op 37) u (render k ++ post) =
       word_acts s ds (Str text false ∷ xs) t at under (codes "cvx") k post (Op 37) cvx_fine (is.operators (codes "cvx") 37 cvx_number) is.there h room in
       record { store = w.store; to = w.to; later = w.later; stands = w.stands; steps = w.steps }
-

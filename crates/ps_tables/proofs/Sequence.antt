@@ -83,7 +83,7 @@ module _ (s s' : StoreState) (index : ℕ) (ds : List DictId) (name : List ℕ) 
         no_tag = named_above s s' (in_table index) name v puts ds (codes "tag") k.others tag ∙ k.no_tag;
         have = (
           (v, named_new s s' (in_table index) name v puts ds, is_of_defined s s' (in_table index) name v puts ds k.others no_kind no_tag v sense is),
-          senses_defined s s' (in_table index) name v puts ds k.others no_kind no_tag ws words k.have
+          senses_defined s s' (in_table index) name v puts ds k.others no_kind no_tag ws words k.have,
         );
       }
 

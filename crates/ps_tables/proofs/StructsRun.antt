@@ -113,17 +113,22 @@ module _ (dict : DictId) (kind printer : PsObj) where
       let made : Fields = filled (joined [] (of_arrays kind printer)) (codes "size" ∷ codes "tag" ∷ []) (Int (signed d.size) ∷ Name name false ∷ []) in
       let same : h.3 ≡ made = h.6 ∙ ap (filled (joined [] (of_arrays kind printer)) (codes "size" ∷ codes "tag" ∷ [])) two in
       let are : AreFields s (entries_of s e) made = subst (λ (fs : Fields). AreFields s (entries_of s e) fs) same h.5.are in
-      let long : length (entries_of s e) ≡ length made = fields_length s (entries_of s e) made are in
-      (Dict e, h.2, h.4, record {
-        dict = e;
-        is = refl;
-        opened = h.7;
-        there = h.5.is_there;
-        size = fields_value s (entries_of s e) made (codes "size") are;
-        small = omega arith;
-        tag = Name name false;
-        tagged = fields_value s (entries_of s e) made (codes "tag") are;
-      }, h.9)
+      let long : length (entries_of s e) ≡ length made = fields_length s (entries_of s e) made are in (
+        Dict e,
+        h.2,
+        h.4,
+        record {
+          dict = e;
+          is = refl;
+          opened = h.7;
+          there = h.5.is_there;
+          size = fields_value s (entries_of s e) made (codes "size") are;
+          small = omega arith;
+          tag = Name name false;
+          tagged = fields_value s (entries_of s e) made (codes "tag") are;
+        },
+        h.9,
+      )
 
   split : (s : StoreState) (defs : List StructDef) (zs : List PsObj) (vs : Values) → Show s zs (after (each defs) vs) → Split s zs defs vs
   split s [] zs vs h = record { front = []; back = zs; are = refl; shows = h; structs = tt }

@@ -193,9 +193,12 @@ module _ (s : StoreState) (few : ℕ) where
   tags_known ds a whole means is all n (d ∷ defs) [] small same h runs = absurd h
   tags_known ds a whole means is all n (d ∷ defs) (x ∷ xs) small same h runs =
       let value : IsValue x = subst IsValue (sym h.0.is) tt in
-      let here : slice_get whole n ≡ Some x = ap (slice_get whole) (let e : n ≡ n + 0 = omega arith in e) ∙ same 0 in
-      ((runs.0.regular, runs.0.short, tt), refl, (structs_fine, (small_integer n (omega arith), tt), a, whole, means, is, here, value, tt),
-       tags_known ds a whole means is all (suc n) defs xs (omega arith) (λ j. ap (slice_get whole) (let e : suc n + j ≡ n + suc j = omega arith in e) ∙ same (suc j)) h.1 runs.1)
+      let here : slice_get whole n ≡ Some x = ap (slice_get whole) (let e : n ≡ n + 0 = omega arith in e) ∙ same 0 in (
+        (runs.0.regular, runs.0.short, tt),
+        refl,
+        (structs_fine, (small_integer n (omega arith), tt), a, whole, means, is, here, value, tt),
+        tags_known ds a whole means is all (suc n) defs xs (omega arith) (λ j. ap (slice_get whole) (let e : suc n + j ≡ n + suc j = omega arith in e) ∙ same (suc j)) h.1 runs.1,
+      )
 
 -- ---- units
 
@@ -334,12 +337,32 @@ module _ (index : ℕ) (ds : List DictId) (pr : Printers) where
         knows = (
           tt,
           omega arith,
-          (lit_ldb, refl, ((refl, tt), tt),
-          (lit_target, refl, (((target_short at.target).0, tt), tt),
-          (lit_anchors, refl, (anchors_alone 0 at.anchors, few_in, known_anchors, tt),
-          (lit_structs, refl, (tags_alone 0 p.defs xs, few_tags, known_tags, tt),
-          (lit_objects, refl, (objects_fine, Array a false, o.1 ∙ ap Some o.2.1, itself (Array a false) tt, tt),
-          (lit_units, refl, (few_left, units_known p at.functions s all means p.units runs, tt), tt)))))),
-          tt
+          (
+            lit_ldb,
+            refl,
+            ((refl, tt), tt),
+            (
+              lit_target,
+              refl,
+              (((target_short at.target).0, tt), tt),
+              (
+                lit_anchors,
+                refl,
+                (anchors_alone 0 at.anchors, few_in, known_anchors, tt),
+                (
+                  lit_structs,
+                  refl,
+                  (tags_alone 0 p.defs xs, few_tags, known_tags, tt),
+                  (
+                    lit_objects,
+                    refl,
+                    (objects_fine, Array a false, o.1 ∙ ap Some o.2.1, itself (Array a false) tt, tt),
+                    (lit_units, refl, (few_left, units_known p at.functions s all means p.units runs, tt), tt),
+                  ),
+                ),
+              ),
+            ),
+          ),
+          tt,
         );
       }

@@ -413,7 +413,7 @@ module _ (index : ℕ) (ds : List DictId) where
       (refl, tt),
       omega arith,
       (lit_kind, kinded, (lit_size, sized, (lit_printer, (printed, (let h = sense_is s (in_table index ∷ ds) ws printer (Stands x) k.have found in h.1 ∙ ap Some h.2), no_mark), tt))),
-      tt
+      tt,
     );
     operator = free;
     kind = kind_apart;
@@ -432,7 +432,7 @@ module _ (index : ℕ) (ds : List DictId) where
       (refl, tt),
       omega arith,
       (lit_kind, of_kind, (lit_printer, (printed, (let h = sense_is s (in_table index ∷ ds) ws printer (Stands x) k.have found in h.1 ∙ ap Some h.2), no_mark), tt)),
-      tt
+      tt,
     );
     operator = free;
     kind = kind_apart;
@@ -470,24 +470,60 @@ module _ (index : ℕ) (ds : List DictId) where
 
   pub words_sound : (p : Printers) → AreNoMarks p → AreSound index ds (definitions p) (printer_senses p)
   words_sound p h = (
-    basic_sound (codes "int") (codes "int") (codes "PrintInt") 4 p.int _ lit_int lit_int lit_PrintInt (refl, tt) h.0 free_int refl refl refl refl, (
-    basic_sound (codes "unsigned") (codes "unsigned") (codes "PrintUnsigned") 4 p.unsigned _ lit_unsigned lit_unsigned lit_PrintUnsigned (refl, tt) h.1 free_unsigned refl refl refl refl, (
-    basic_sound (codes "char") (codes "char") (codes "PrintChar") 1 p.char _ lit_char lit_char lit_PrintChar (refl, tt) h.2 free_char refl refl refl refl, (
-    basic_sound (codes "PointerType") (codes "pointer") (codes "PrintPointer") 4 p.pointer _ lit_PointerType lit_pointer lit_PrintPointer (refl, tt) h.3 free_PointerType refl refl refl refl, (
-    kind_sound (codes "ArrayType") (codes "array") (codes "PrintArray") p.array _ lit_ArrayType lit_array lit_PrintArray h.4 free_ArrayType refl refl refl refl, (
-    kind_sound (codes "StructType") (codes "struct") (codes "PrintStruct") p.struct _ lit_StructType lit_struct lit_PrintStruct h.5 free_StructType refl refl refl refl, (
-    procedure_sound (codes "PointerTo") pointer_body _ lit_PointerTo fine_pointer_body free_PointerTo refl refl refl, (
-    procedure_sound (codes "ArrayOf") array_body _ lit_ArrayOf fine_array_body free_ArrayOf refl refl refl, (
-    procedure_sound (codes "NewStruct") struct_body _ lit_NewStruct fine_struct_body free_NewStruct refl refl refl, (
-    variables_sound _ refl, (
-    procedure_sound (codes "NewString") string_body _ lit_NewString fine_string_body free_NewString refl refl refl, (
-    procedure_sound (codes "NewObject") object_body _ lit_NewObject fine_object_body free_NewObject refl refl refl, (
-    procedure_sound (codes "ObjectSymbol") object_symbol_body _ lit_ObjectSymbol fine_object_symbol_body free_ObjectSymbol refl refl refl, (
-    procedure_sound (codes "NewSymbol") symbol_body _ lit_NewSymbol fine_symbol_body free_NewSymbol refl refl refl, (
-    procedure_sound (codes "FunctionSymbol") function_symbol_body _ lit_FunctionSymbol fine_function_symbol_body free_FunctionSymbol refl refl refl, (
-    procedure_sound (codes "NewPoint") point_body _ lit_NewPoint fine_point_body free_NewPoint refl refl refl, (
-    procedure_sound (codes "NewFunction") function_body _ lit_NewFunction fine_function_body free_NewFunction refl refl refl, (
-    procedure_sound (codes "NewUnit") unit_body _ lit_NewUnit fine_unit_body free_NewUnit refl refl refl, tt))))))))))))))))))
+    basic_sound (codes "int") (codes "int") (codes "PrintInt") 4 p.int _ lit_int lit_int lit_PrintInt (refl, tt) h.0 free_int refl refl refl refl,
+    (
+      basic_sound (codes "unsigned") (codes "unsigned") (codes "PrintUnsigned") 4 p.unsigned _ lit_unsigned lit_unsigned lit_PrintUnsigned (refl, tt) h.1 free_unsigned refl refl refl refl,
+      (
+        basic_sound (codes "char") (codes "char") (codes "PrintChar") 1 p.char _ lit_char lit_char lit_PrintChar (refl, tt) h.2 free_char refl refl refl refl,
+        (
+          basic_sound (codes "PointerType") (codes "pointer") (codes "PrintPointer") 4 p.pointer _ lit_PointerType lit_pointer lit_PrintPointer (refl, tt) h.3 free_PointerType refl refl refl refl,
+          (
+            kind_sound (codes "ArrayType") (codes "array") (codes "PrintArray") p.array _ lit_ArrayType lit_array lit_PrintArray h.4 free_ArrayType refl refl refl refl,
+            (
+              kind_sound (codes "StructType") (codes "struct") (codes "PrintStruct") p.struct _ lit_StructType lit_struct lit_PrintStruct h.5 free_StructType refl refl refl refl,
+              (
+                procedure_sound (codes "PointerTo") pointer_body _ lit_PointerTo fine_pointer_body free_PointerTo refl refl refl,
+                (
+                  procedure_sound (codes "ArrayOf") array_body _ lit_ArrayOf fine_array_body free_ArrayOf refl refl refl,
+                  (
+                    procedure_sound (codes "NewStruct") struct_body _ lit_NewStruct fine_struct_body free_NewStruct refl refl refl,
+                    (
+                      variables_sound _ refl,
+                      (
+                        procedure_sound (codes "NewString") string_body _ lit_NewString fine_string_body free_NewString refl refl refl,
+                        (
+                          procedure_sound (codes "NewObject") object_body _ lit_NewObject fine_object_body free_NewObject refl refl refl,
+                          (
+                            procedure_sound (codes "ObjectSymbol") object_symbol_body _ lit_ObjectSymbol fine_object_symbol_body free_ObjectSymbol refl refl refl,
+                            (
+                              procedure_sound (codes "NewSymbol") symbol_body _ lit_NewSymbol fine_symbol_body free_NewSymbol refl refl refl,
+                              (
+                                procedure_sound (codes "FunctionSymbol") function_symbol_body _ lit_FunctionSymbol fine_function_symbol_body free_FunctionSymbol refl refl refl,
+                                (
+                                  procedure_sound (codes "NewPoint") point_body _ lit_NewPoint fine_point_body free_NewPoint refl refl refl,
+                                  (
+                                    procedure_sound (codes "NewFunction") function_body _ lit_NewFunction fine_function_body free_NewFunction refl refl refl,
+                                    (
+                                      procedure_sound (codes "NewUnit") unit_body _ lit_NewUnit fine_unit_body free_NewUnit refl refl refl,
+                                      tt,
+                                    ),
+                                  ),
+                                ),
+                              ),
+                            ),
+                          ),
+                        ),
+                      ),
+                    ),
+                  ),
+                ),
+              ),
+            ),
+          ),
+        ),
+      ),
+    ),
+  )
 
 -- ---- a run
 

@@ -40,7 +40,6 @@ ghost use Rattle.ps_tables.specs.Defined.{in_table, Defines};
 ghost use Rattle.ps_tables.specs.Makers.{Maker, body, taken_by, most, calls, Ready, Leaves};
 ghost use Rattle.ps_tables.specs.TableWords.{new_point, new_function, new_unit, pointer_to, new_struct, new_string, new_object, new_symbol, function_symbol};
 ghost use Rattle.ps_tables.specs.Pieces.{Piece, End, Field, Values, Bottom, left_by, code, cost, steps, after, Knows, HasRoom, Show, Performs};
-
 ghost use Rattle.ps_emit.specs.Table.{table_text};
 ghost use Rattle.ps_tables.specs.Runnable.{Runnable};
 ghost use Rattle.ps_tables.specs.Bounded.{IsShort, deferred_units};
