@@ -23,7 +23,7 @@ use Rattle.ps_step.specs.Composites.{same_dict}
 use Rattle.ps_tables.specs.Later.{IsThere}
 use Rattle.ps_tables.specs.Defined.{Puts}
 use Rattle.ps_tables.proofs.Kept.{Same, kept_string, kept_array}
-use Rattle.ps_tables.proofs.Putting.{pair_of, put_if, put_at, replaced_length}
+use Rattle.ps_tables.proofs.Putting.{pair_of, put_if, put_at, put_length, replaced_length}
 
 -- ---- pairs
 
@@ -130,6 +130,9 @@ module _ (s : StoreState) (i : ℕ) (unclosed : s.closed.dicts ≤ i) (there : i
   same_rest : Same s put_store
   same_rest = record { arrays = arrays_same; strings = strings_same }
 
+  pub entries_put : entries_of put_store D ≡ put_at es name t v
+  entries_put = get_or-set_same s.table.dicts i (put_at es name t v) [] there
+
   pub puts : Puts s put_store D name v
   puts =
       let fs : List (Key × Pair) = put_at es name t v in
@@ -139,12 +142,15 @@ module _ (s : StoreState) (i : ℕ) (unclosed : s.closed.dicts ≤ i) (there : i
       record {
         found = ap (λ (l : List (Key × Pair)). value_at l (NameKey name)) here ∙ put_found name v es t;
         others = λ key apart. ap (λ (l : List (Key × Pair)). value_at l key) here ∙ put_other name v key apart es t;
+        few = subst (λ (l : List (Key × Pair)). length l ≤ length es + 1) (sym here) (put_length es name t v);
         dicts = λ e apart. other_entries e apart fs u;
         there = λ e h. put_there e.part e.index fs u h;
         strings = kept_string s put_store same_rest;
         arrays = kept_array s put_store same_rest;
         part = refl;
         closed = refl;
+        base = refl;
+        command = refl;
         counted = omega arith;
       }
 

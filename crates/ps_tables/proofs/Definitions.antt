@@ -93,6 +93,6 @@ module _ (i : ℕ) (ds : List DictId) (t : StringId) (under : List Item) (items_
         store = s₃;
         puts = put;
         to = w.to;
-        stands = record { text = w.stands.text; lead = w.stands.lead; is_lead = w.stands.is_lead; is = put.strings t w.stands.text w.stands.is; here = w.stands.here };
+        stands = record { text = w.stands.text; lead = w.stands.lead; is_lead = w.stands.is_lead; is = put.strings t w.stands.text w.stands.is; here = w.stands.here; within = w.stands.within };
         takes = takes_then (steps f) 1 c₀ c₁ c₂ p.takes (takes_one c₁ c₂ last);
       }

@@ -30,7 +30,7 @@ use Rattle.ps_terms.specs.Stands.{core}
 use Rattle.ps_tables.specs.Dictionaries.{Fields, updated, AreFields, none as no_fields, with_dict, next_dict}
 use Rattle.ps_tables.specs.Making.{IsMaking, AreShort, HasFields}
 use Rattle.ps_tables.specs.Later.{Later, StandsAt}
-use Rattle.ps_tables.specs.Pieces.{Values, Bottom, This, Named, Written, Runs, Quoted, Listed, Entry, Under, Paired, Show, OnlyPairs, pairs}
+use Rattle.ps_tables.specs.Pieces.{Values, Bottom, This, Named, Written, Runs, Quoted, Listed, Entry, Under, Paired, OfType, That, Show, OnlyPairs, pairs}
 use Rattle.ps_tables.proofs.Kept.{made_same, kept_string}
 use Rattle.ps_tables.proofs.Putting.{put_at, put_made, put_length, fields_at, entries_there}
 use Rattle.ps_tables.proofs.Copies.{fields_length}
@@ -130,6 +130,8 @@ module _ (s : StoreState) (closed : s.closed.dicts ≤ length s.table.dicts) whe
   puts (Listed items below) zs only h few room = absurd only
   puts (Entry m parts below) zs only h few room = absurd only
   puts (Paired items below) zs only h few room = absurd only
+  puts (OfType t' below) zs only h few room = absurd only
+  puts (That x below) zs only h few room = absurd only
 
 -- ---- `>>`
 

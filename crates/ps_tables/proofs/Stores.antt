@@ -25,7 +25,7 @@ use Rattle.ps_terms.specs.Machine.{Does}
 use Rattle.ps_terms.specs.Stands.{Means}
 use Rattle.ps_tables.specs.Dictionaries.{Fields, AreFields, none as no_fields, field, with_dict}
 use Rattle.ps_tables.specs.Making.{AreThere, IsMaking, HasFields}
-use Rattle.ps_tables.specs.Later.{IsThere, Later, StandsAt}
+use Rattle.ps_tables.specs.Later.{IsThere, IsOpen, Later, StandsAt}
 use Rattle.ps_tables.specs.Makers.{Maker, Fresh, Begun, Twice, More, Told, body, Ready, MadeBy}
 use Rattle.ps_tables.proofs.Kept.{Same, made_same, kept_string, kept_array, dict_kept}
 
@@ -38,6 +38,8 @@ later_none s = record {
   dicts = λ d there. (there, refl);
   part = refl;
   closed = refl;
+  base = refl;
+  command = λ e. refl;
   more = omega arith;
   counted = omega arith;
 }
@@ -54,6 +56,8 @@ later_then u v s s₁ s₂ a b =
       dicts = λ d there. let one = a.dicts d there in let two = b.dicts d one.0 in (two.0, two.1 ∙ one.1);
       part = b.part ∙ a.part;
       closed = b.closed ∙ a.closed;
+      base = b.base ∙ a.base;
+      command = λ e. b.command (a.part ∙ e) ∙ a.command e;
       more = omega arith;
       counted = omega arith;
     }
@@ -61,7 +65,7 @@ later_then u v s s₁ s₂ a b =
 pub later_within : (u v : ℕ) (s s' : StoreState) → u ≤ v → Later u s s' → Later v s s'
 later_within u v s s' less a =
     let counted₁ = a.counted in
-    record { strings = a.strings; arrays = a.arrays; dicts = a.dicts; part = a.part; closed = a.closed; more = a.more; counted = omega arith }
+    record { strings = a.strings; arrays = a.arrays; dicts = a.dicts; part = a.part; closed = a.closed; base = a.base; command = a.command; more = a.more; counted = omega arith }
 
 abbrev grown_in : StoreState → Part → List (List PsObj) → List (List ℕ) → ℕ → StoreState
 grown_in s p arrays strings units = with_held s p (more_held (held s p) arrays strings units)
@@ -80,6 +84,14 @@ closed_in : (s : StoreState) (p : Part) (a : List (List PsObj)) (t : List (List 
 closed_in s Table a t u = refl
 closed_in s Command a t u = refl
 
+base_in : (s : StoreState) (p : Part) (a : List (List PsObj)) (t : List (List ℕ)) (u : ℕ) → (grown_in s p a t u).base ≡ s.base
+base_in s Table a t u = refl
+base_in s Command a t u = refl
+
+command_in : (s : StoreState) (p : Part) (a : List (List PsObj)) (t : List (List ℕ)) (u : ℕ) → p ≡ Table → (grown_in s p a t u).command ≡ s.command
+command_in s Table a t u e = refl
+command_in s Command a t u e = absurd cc
+
 pub later_grown : (u : ℕ) (s s' : StoreState) → Grown u s s' → Later u s s'
 later_grown u s s' g =
     let all : s'.table.units + s'.command.units ≡ s.table.units + s.command.units + u = total_grown u s s' g in
@@ -91,6 +103,8 @@ later_grown u s s' g =
       dicts = λ d there. (subst (λ (xs : List (List (Key × Pair))). d.index < length xs) (sym (same d.part)) there, ap (λ (xs : List (List (Key × Pair))). slice_index_or xs d.index []) (same d.part));
       part = ap (λ (x : StoreState). x.part) g.store ∙ part_in s s.part g.arrays g.strings u;
       closed = ap (λ (x : StoreState). x.closed) g.store ∙ closed_in s s.part g.arrays g.strings u;
+      base = ap (λ (x : StoreState). x.base) g.store ∙ base_in s s.part g.arrays g.strings u;
+      command = λ e. ap (λ (x : StoreState). x.command) g.store ∙ command_in s s.part g.arrays g.strings u e;
       more = omega arith;
       counted = omega arith;
     }
@@ -102,6 +116,8 @@ later_made s es table = record {
   dicts = λ d there. (there_in d.part d.index there, dict_kept s es d.part d.index there);
   part = sym table;
   closed = refl;
+  base = refl;
+  command = λ e. refl;
   more = let len : length (s.table.dicts ++ es ∷ []) ≡ length s.table.dicts + 1 = length-append s.table.dicts (es ∷ []) in omega arith;
   counted = omega arith;
 }
@@ -183,5 +199,8 @@ module _ (u : ℕ) (s s' : StoreState) (later : Later u s s') where
   made_later (More word m keys) vs fields h = (h.0, h.1, h.2, h.3, made_later m h.0 h.2 h.4, h.5)
   made_later (Told word m key name) vs fields h = (h.0, h.1, later.strings h.1 name h.2, made_later m vs h.0 h.3, h.4)
 
+  pub open_later : (d : DictId) → IsOpen s d → IsOpen s' d
+  open_later d h = (h.0, h.1, subst (λ (m : Mark). m.dicts ≤ h.0) (sym later.closed) h.2)
+
   pub stands_later : (t : StringId) (at : ℕ) (rest : List ℕ) → StandsAt s t at rest → StandsAt s' t at rest
-  stands_later t at rest h = record { text = h.text; lead = h.lead; is_lead = h.is_lead; is = later.strings t h.text h.is; here = h.here }
+  stands_later t at rest h = record { text = h.text; lead = h.lead; is_lead = h.is_lead; is = later.strings t h.text h.is; here = h.here; within = h.within }

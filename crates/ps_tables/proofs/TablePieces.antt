@@ -32,7 +32,7 @@ use Rattle.ps_tables.proofs.Pieces.{performs}
 small_signed : (n : ℕ) → n < 2 ^ 31 → signed n ≡ pos n
 small_signed n h = to_z_pos w32 n h
 
-assoc : (a b c : Code) → ((a ⋯ b) ⋯ c) ≡ (a ⋯ (b ⋯ c))
+pub assoc : (a b c : Code) → ((a ⋯ b) ⋯ c) ≡ (a ⋯ (b ⋯ c))
 assoc Stop b c = refl
 assoc (Num n rest) b c = ap (λ k. Num n k) (assoc rest b c)
 assoc (Word name rest) b c = ap (λ k. Word name k) (assoc rest b c)

@@ -22,7 +22,7 @@ module _ (c : PsCore) (t : StringId) (at : ℕ) (under : List Item) where
   reads (Bad e s) = raising e (record c { store = s; execution = under })
   reads (More s xs next) = Ended c
 
-  step_reads : c.execution ≡ Text t at ∷ under → (r : Read) → reading_object c.store t at ≡ r → step c ≡ reads r
+  pub step_reads : c.execution ≡ Text t at ∷ under → (r : Read) → reading_object c.store t at ≡ r → step c ≡ reads r
   step_reads e r f = ap (λ (items : List Item). stepping items c) e ∙ by (reading_object c.store t at) ∙ ap reads f
     where
       by : (q : Read) → (elim q [

@@ -1,5 +1,5 @@
 -- What the objects of a text do.
-use Rattle.std.proofs.Common.{◌≡◌, ℕ, ℤ, ◌+◌, ◌<◌, ◌≤◌, true, false, Some, List, [], ◌∷◌, ◌++◌, length, refl, sym, ap, ◌∙◌, subst, arith}
+use Rattle.std.proofs.Common.{◌≡◌, ℕ, ℤ, ◌+◌, ◌<◌, ◌≤◌, true, false, Some, List, [], ◌∷◌, ◌++◌, length, drop, zero, suc, refl, sym, ap, ◌∙◌, subst, arith}
 use Rattle.ps_store.specs.declared.object.PsObj.{PsObj}
 use Rattle.ps_store.specs.declared.object.PsObj.TheVariants.{Int, Bool as Truth, Name, Str, Array, Dict, Op, Mark, Null}
 use Rattle.ps_store.specs.declared.object.DictId.{DictId}
@@ -57,6 +57,11 @@ gives_value _ _ nothing = tt
 
 -- ---- the first object of a text
 
+drop_within : (n : ℕ) (xs : List ℕ) (y : ℕ) (ys : List ℕ) → drop n xs ≡ y ∷ ys → n ≤ length xs
+drop_within zero xs y ys h = omega arith
+drop_within (suc n) [] y ys h = absurd cc
+drop_within (suc n) (x ∷ xs) y ys h = let e = drop_within n xs y ys h in omega arith
+
 module _ (s : StoreState) (ds : List DictId) (xs : List PsObj) (t : StringId) (at : ℕ) (under : List Item) where
   -- it is met
   pub record Met (k : Code) (post : List ℕ) : Type 0 where
@@ -78,7 +83,7 @@ module _ (s : StoreState) (ds : List DictId) (xs : List PsObj) (t : StringId) (a
         to = e.to;
         later = later_grown (units (first k)) s e.store e.grown;
         spells = e.spells;
-        stands = record { text = h.text; lead = 32 ∷ []; is_lead = space; is = string_kept (units (first k)) s e.store t h.text e.grown h.is; here = e.rest };
+        stands = record { text = h.text; lead = 32 ∷ []; is_lead = space; is = string_kept (units (first k)) s e.store t h.text e.grown h.is; here = e.rest; within = drop_within e.to h.text 32 _ e.rest };
         steps = e.steps;
       }
 

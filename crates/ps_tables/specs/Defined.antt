@@ -1,5 +1,5 @@
 -- What `def` does.
-use Rattle.std.specs.Prelude.{◌≡◌, ℕ, ◌+◌, ◌≤◌, false, suc, Some, List, [], ◌∷◌, ◌++◌}
+use Rattle.std.specs.Prelude.{◌≡◌, ℕ, ◌+◌, ◌≤◌, false, suc, Some, List, [], ◌∷◌, ◌++◌, length}
 use Rattle.ps_store.specs.declared.object.Part.TheVariants.{Table}
 use Rattle.ps_store.specs.declared.object.PsObj.{PsObj}
 use Rattle.ps_store.specs.declared.object.ArrayId.{ArrayId}
@@ -28,12 +28,15 @@ in_table index = record { part = Table; index = index }
 pub record Puts (s s' : StoreState) (d : DictId) (name : List ℕ) (v : PsObj) : Type 0 where
   pub found : value_at (entries_of s' d) (NameKey name) ≡ Some v
   pub others : (key : Key) → same_key key (NameKey name) ≡ false → value_at (entries_of s' d) key ≡ value_at (entries_of s d) key
+  pub few : length (entries_of s' d) ≤ length (entries_of s d) + 1
   pub dicts : (e : DictId) → same_dict e d ≡ false → entries_of s' e ≡ entries_of s e
   pub there : (e : DictId) → IsThere s e → IsThere s' e
   pub strings : (t : StringId) (text : List ℕ) → IsString s t text → IsString s' t text
   pub arrays : (a : ArrayId) (xs : List PsObj) → IsArray s a xs → IsArray s' a xs
   pub part : s'.part ≡ s.part
   pub closed : s'.closed ≡ s.closed
+  pub base : s'.base ≡ s.base
+  pub command : s'.command ≡ s.command
   pub counted : s'.table.units + s'.command.units ≤ s.table.units + s.command.units + 1
 
 -- A definition in a text is executed: these values are made, and the value is put under the name of the topmost dictionary. The operands are as before.

@@ -4,7 +4,15 @@ pub mod Making
 pub mod Executed
 pub mod Later
 pub mod Makers
-pub mod Pieces
 pub mod TableWords
+pub mod Types
+pub mod Pieces
 pub mod TablePieces
+pub mod Runnable
 pub mod Defined
+pub mod Senses
+pub mod Reached
+pub mod WordsKnown
+pub mod PartsKnown
+pub mod Tabled
+pub mod Bounded

@@ -1,8 +1,8 @@
 //! What holds of runs of tables.
 
-ghost use Rattle.std.specs.Prelude.{◌≡◌, ℕ, ℤ, ◌+◌, ◌<◌, ◌≤◌, ◌^◌, ◌∷◌, [], ◌++◌, List, length, codes, drop, suc, Some, Ok};
+ghost use Rattle.std.specs.Prelude.{◌≡◌, ℕ, ℤ, ◌+◌, ◌<◌, ◌≤◌, ◌^◌, ◌∷◌, [], ◌++◌, List, length, codes, drop, suc, true, Some, Ok};
 ghost use Rattle.ps_store.specs.declared.object.PsObj.{PsObj};
-ghost use Rattle.ps_store.specs.declared.object.PsObj.TheVariants.{Int, Dict};
+ghost use Rattle.ps_store.specs.declared.object.PsObj.TheVariants.{Int, Str, Dict};
 ghost use Rattle.ps_store.specs.declared.key.Key.TheVariants.{Name as NameKey};
 ghost use Rattle.ps_store.specs.Entries.{value_at};
 ghost use Rattle.ps_store.specs.Store.{entries_of};
@@ -13,7 +13,7 @@ ghost use Rattle.c_tree.specs.declared.rows.Program.{Program};
 ghost use Rattle.c_tree.specs.declared.rows.Point.{Point};
 ghost use Rattle.ps_store.specs.StoreState.{StoreState};
 ghost use Rattle.ps_step.specs.declared.item.Item.{Item};
-ghost use Rattle.ps_step.specs.declared.item.Item.TheVariants.{Text};
+ghost use Rattle.ps_step.specs.declared.item.Item.TheVariants.{Object, Text};
 ghost use Rattle.ps_step.specs.declared.machine.PsCore.{PsCore};
 ghost use Rattle.ps_step.specs.Arithmetic.{product};
 ghost use Rattle.ps_step.specs.Keys.{named};
@@ -22,12 +22,12 @@ ghost use Rattle.ps_text.specs.Code.{Code, Stop, Word, Lit, render};
 ghost use Rattle.ps_text.specs.Grown.{IsString};
 ghost use Rattle.ps_text.specs.Spells.{Fine, units};
 ghost use Rattle.ps_text.specs.Reading.{first, IsMore, Lead};
-ghost use Rattle.ps_terms.specs.Stands.{Frames};
+ghost use Rattle.ps_terms.specs.Stands.{Frames, core};
 ghost use Rattle.ps_terms.specs.Printing.{further};
 ghost use Rattle.ps_emit.specs.Words.{words};
 ghost use Rattle.ps_emit.specs.Terms.{◌⋯◌};
 ghost use Rattle.ps_emit.specs.Functions.{saved_register, point_code};
-ghost use Rattle.ps_emit.specs.Bounds.{per_saved, per_point};
+ghost use Rattle.ps_emit.specs.Bounds.{per_saved, per_point, cost_of};
 ghost use Rattle.ps_emit.specs.Table.{top_code};
 ghost use Rattle.ps_emit.specs.declared.placement.Placement.{Placement};
 ghost use Rattle.ps_tables.specs.TablePieces.{saved, point, top};
@@ -40,6 +40,13 @@ ghost use Rattle.ps_tables.specs.Defined.{in_table, Defines};
 ghost use Rattle.ps_tables.specs.Makers.{Maker, body, taken_by, most, calls, Ready, Leaves};
 ghost use Rattle.ps_tables.specs.TableWords.{new_point, new_function, new_unit, pointer_to, new_struct, new_string, new_object, new_symbol, function_symbol};
 ghost use Rattle.ps_tables.specs.Pieces.{Piece, End, Field, Values, Bottom, left_by, code, cost, steps, after, Knows, HasRoom, Show, Performs};
+ghost use Rattle.ps_emit.specs.Table.{table_text};
+ghost use Rattle.ps_tables.specs.Runnable.{Runnable};
+ghost use Rattle.ps_tables.specs.Bounded.{IsShort, deferred_units};
+ghost use Rattle.ps_tables.specs.Senses.{Knowing};
+ghost use Rattle.ps_tables.specs.Reached.{Reaches};
+ghost use Rattle.ps_tables.specs.WordsKnown.{Printers, AreNoMarks, printer_senses, word_senses};
+ghost use Rattle.ps_tables.specs.Tabled.{table_made, table_steps, LeavesTop, EndsAtTop};
 
 use ps_run::Dialect;
 
@@ -93,4 +100,25 @@ pub fn items_are_pieces()
 /// A definition in a text is executed without an error: the value of a piece is put under a name of the topmost dictionary, which is one of the table's part and not closed.
 pub fn definitions_are_made()
     ensures { (index : ℕ) (ds : List DictId) (t : StringId) (under : List Item) (post name : List ℕ) (value : Piece) (k : Code) (s : StoreState) (o : List PsObj) (at : ℕ) → length under + 100 ≤ 1000 → IsMaking s (in_table index ∷ ds) → s.closed.dicts ≤ index → length (entries_of s (in_table index)) < 1000000 → Fine (Lit name Stop) → left_by value ≡ 1 → Knows s (in_table index ∷ ds) value → HasRoom (suc (length o)) value → length o + 112 ≤ 100000 → s.table.units + s.command.units + (cost (Field name value End) + units (Word (codes "def") Stop) + 1) ≤ 8000000 → StandsAt s t at (render (Lit name (code value (Word (codes "def") k))) ++ post) → Defines (cost (Field name value End) + units (Word (codes "def") Stop)) (further (steps (Field name value End)) 1) name (after value Bottom) s (in_table index) ds o t at (render k ++ post) under }
+{}
+
+/// The words that a table begins with are defined without an error, in 139 steps and with at most 796 units made: behind them each of the 18 has its sense, where the printers' names have theirs before.
+pub fn words_are_known()
+    ensures { (index n at : ℕ) (ds : List DictId) (t : StringId) (under : List Item) (post : List ℕ) (p : Printers) (k : Code) (s : StoreState) → length under + 100 ≤ 1000 → AreNoMarks p → Knowing s index ds n (printer_senses p) → n < 900000 → s.table.units + s.command.units + 796 ≤ 8000000 → StandsAt s t at (render (words ⋯ k) ++ post) → Reaches index ds t under 139 796 (n + 18) (word_senses ++ printer_senses p) s at (render k ++ post) }
+{}
+
+/// The text of a table is executed to its end without an error, where the names of the printers have their senses and nothing else is defined on top: it takes exactly so many steps, which ask nothing of a dialect, makes at most so many units, and leaves one dictionary and nothing else on the operands: the top of a table for the placement's target.
+pub fn tables_are_left()
+    ensures { (p : Program) (at : Placement) (printers : Printers) (s : StoreState) (index n : ℕ) (ds : List DictId) (t : StringId) → Runnable p at → AreNoMarks printers → Knowing s index ds n (printer_senses printers) → n < 800000 → IsString s t (table_text p at) → s.table.units + s.command.units + table_made p at ≤ 8000000 → LeavesTop index ds t (table_steps p at) (table_made p at) at.target s 0 }
+{}
+
+/// So a run of the text as an executable string, with steps to spare, ends without an error at the table's top, whatever the dialect.
+pub fn tables_run<D: Dialect>()
+    ensures { (p : Program) (at : Placement) (printers : Printers) (s : StoreState) (index n left m : ℕ) (ds : List DictId) (t : StringId) (d d' : D) (c' : PsCore) (r : Answer) → Runnable p at → AreNoMarks printers → Knowing s index ds n (printer_senses printers) → n < 800000 → IsString s t (table_text p at) → s.table.units + s.command.units + table_made p at ≤ 8000000 → Runs D.operates (further (suc (table_steps p at)) (suc left)) d (core s (in_table index ∷ ds) [] (Object (Str t true) ∷ [])) r m d' c' → EndsAtTop index ds t (table_steps p at) (table_made p at) at.target s (suc left) d r m d' c' }
+{}
+
+/// A table takes no more steps than are counted for the items of its program, and makes no more units than are counted, beside those of its deferred texts.
+pub fn tables_are_bounded()
+    ensures steps { (p : Program) (at : Placement) → IsShort p at → table_steps p at ≤ (cost_of p).steps }
+    ensures made { (p : Program) (at : Placement) → IsShort p at → table_made p at ≤ (cost_of p).made + deferred_units p at.functions p.units }
 {}
