@@ -1,7 +1,7 @@
 // Sessions with generated programs.
 
+use crate::sessions::called;
 use ldb_edge::{MemFiles, MemSink, MemSource};
-use ldb_top::ldb;
 use std::alloc::{AllocError, Global};
 use test_rows::{append, append_escaped, part};
 
@@ -28,7 +28,7 @@ fn printed(
     let commands = Vec::from_slice(alloc, commands)?;
     let mut source = MemSource::new(commands, Vec::new(alloc));
     let mut sink = MemSink::new(Vec::new(alloc), Vec::new(alloc));
-    let _status = ldb(alloc, &list, files, &mut source, &mut sink);
+    let _status = called(alloc, &list, files, &mut source, &mut sink);
     Vec::from_slice(alloc, sink.bytes())
 }
 

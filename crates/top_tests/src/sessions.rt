@@ -47,6 +47,17 @@ impl Source for SingleBytes {
     }
 }
 
+/// What a call of the program comes to. Nothing of it is said here, so whoever calls it proves nothing of sessions.
+pub fn called<C: Source>(
+    alloc: Global,
+    words: &[String],
+    files: &mut MemFiles,
+    commands: &mut C,
+    transcript: &mut MemSink,
+) -> Status {
+    ldb(alloc, words, files, commands, transcript)
+}
+
 /// Appends at most so many bytes of a file, or that it isn't there.
 fn append_file(
     alloc: Global,
@@ -116,9 +127,9 @@ impl Sessions {
         let mut sink = MemSink::new(Vec::new(alloc), calls_of(alloc, fails[2])?);
         let status = if by_bytes {
             let mut single = SingleBytes { below: source };
-            ldb(alloc, &list, &mut files, &mut single, &mut sink)
+            called(alloc, &list, &mut files, &mut single, &mut sink)
         } else {
-            ldb(alloc, &list, &mut files, &mut source, &mut sink)
+            called(alloc, &list, &mut files, &mut source, &mut sink)
         };
         let transcript = Vec::from_slice(alloc, sink.bytes())?;
         let output = match files.get("out") {
@@ -210,7 +221,7 @@ impl Sessions {
         let mut files = self.files(calls_of(alloc, fails[0])?)?;
         let mut source = MemSource::new(Vec::new(alloc), Vec::new(alloc));
         let mut sink = MemSink::new(Vec::new(alloc), calls_of(alloc, fails[1])?);
-        let status = ldb(alloc, &list, &mut files, &mut source, &mut sink);
+        let status = called(alloc, &list, &mut files, &mut source, &mut sink);
         append(out, format!(in alloc; "{status:?} ")?.as_str())?;
         append_escaped(alloc, out, sink.bytes())?;
         append_file(alloc, files.get("image"), 12, out)?;
@@ -294,13 +305,13 @@ impl Sessions {
         let built = list_of(alloc, ["cc", target, "image", "table", "a.c"])?;
         let mut none = MemSource::new(Vec::new(alloc), Vec::new(alloc));
         let mut sink = MemSink::new(Vec::new(alloc), Vec::new(alloc));
-        let _built = ldb(alloc, &built, &mut files, &mut none, &mut sink);
+        let _built = called(alloc, &built, &mut files, &mut none, &mut sink);
         append_escaped(alloc, out, sink.bytes())?;
         let debugged = list_of(alloc, ["debug", "image", "table", "in", "out"])?;
         let commands = Vec::from_slice(alloc, &self.commands)?;
         let mut source = MemSource::new(commands, Vec::new(alloc));
         let mut sink = MemSink::new(Vec::new(alloc), Vec::new(alloc));
-        let status = ldb(alloc, &debugged, &mut files, &mut source, &mut sink);
+        let status = called(alloc, &debugged, &mut files, &mut source, &mut sink);
         append(out, format!(in alloc; "{status:?} ")?.as_str())?;
         append_escaped(alloc, out, sink.bytes())
     }
