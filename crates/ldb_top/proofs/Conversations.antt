@@ -45,13 +45,13 @@ said_or_not (Some Step) = inl tt
 said_or_not (Some (Turns x)) = inl tt
 said_or_not (Some Frames) = inl tt
 said_or_not (Some (Frame x)) = inl tt
-said_or_not (Some (Print x)) = inr (λ h. h)
+said_or_not (Some (Print x)) = inl tt
 said_or_not (Some (Eval x)) = inr (λ h. h)
 said_or_not (Some (Assign x)) = inr (λ h. h)
 said_or_not (Some Quit) = inl tt
 said_or_not (Some Regs) = inl tt
 said_or_not (Some (Code x)) = inr (λ h. h)
-said_or_not (Some (Ps x)) = inr (λ h. h)
+said_or_not (Some (Ps x)) = inl tt
 
 blank_line : (raw : Bool) (line : List ℕ) (ls : List (List ℕ)) → is_empty line ≡ true → commands_in raw (line ∷ ls) ≡ commands_in raw ls
 blank_line raw line ls e = ap (λ b. if b then commands_in raw ls else read_of raw line ∷ commands_in raw ls) e
