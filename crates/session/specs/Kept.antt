@@ -11,6 +11,8 @@ use Rattle.session.specs.declared.modes.Mode.TheVariants.{Ended}
 use Rattle.asking.specs.Refusals.{refusal_of}
 use Rattle.session.specs.Answered.{Replies, refusal_reply, error_reply, spent_reply, IsNoMemory}
 use Rattle.session.specs.declared.sides.SideRecord.{SideRecord}
+use Rattle.c_session.specs.declared.command.Command.{Command}
+use Rattle.c_session.specs.declared.command.Command.TheVariants as command
 
 -- its breakpoints and its chosen frame
 abbrev pub IsKept : (old new : SideRecord) → Type 0
@@ -61,3 +63,15 @@ AnswersFault broken old new (Refused c) answer = (new ≡ old) × Replies (refus
 AnswersFault broken old new (Raised e) answer = (new ≡ old) × Replies (error_reply e) answer
 AnswersFault broken old new Spent answer = (new ≡ old) × Replies spent_reply answer
 AnswersFault broken old new NoMemory answer = (new ≡ old) × IsNoMemory answer
+
+-- a command that sets no breakpoint, chooses no frame and resumes nothing
+abbrev pub IsQuery : Command → Type 0
+IsQuery (command.Turns n) = Unit {0}
+IsQuery command.Frames = Unit {0}
+IsQuery (command.Print name) = Unit {0}
+IsQuery (command.Eval text) = Unit {0}
+IsQuery (command.Assign text) = Unit {0}
+IsQuery command.Regs = Unit {0}
+IsQuery (command.Code text) = Unit {0}
+IsQuery (command.Ps text) = Unit {0}
+IsQuery c = ⊥

@@ -64,6 +64,10 @@ StartsAs faults faults' Done (Ok x) = Done x
 StartsAs faults faults' Done (Err NoMemory) = Unit {0}
 StartsAs faults faults' Done (Err Target) = Rose faults faults'
 
+-- the count of a link's faults rose
+abbrev pub HasRisen : {A : Type 0} → (faults : A → ℕ) → (old : A) → Type 0
+HasRisen {A} faults old = (new : A) × Rose (faults old) (faults new)
+
 -- the machine session of one side at its start
 abbrev pub one_session : Behaviour → (input : List ℕ) → MachineState → StoreState → SessionState
 one_session b input m table = first_session (first_side b input table m) None

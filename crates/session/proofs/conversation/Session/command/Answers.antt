@@ -7,6 +7,7 @@ use Rattle.claims.specs.Side.{SessionState}
 use Rattle.c_session.specs.declared.command.Command.TheVariants.{Continue, Step, Quit}
 use Rattle.claims.specs.Outcome.{refused_by_state}
 use Rattle.session.specs.Answered.{state_of, refusal_reply, Replies}
+use Rattle.session.specs.Kept.{IsQuery}
 use Rattle.session.specs.Meant.{Hosts, AnswersAs, MeantAnswers, IsSaidIfAny}
 use Rattle.session.proofs.Answering.{refuses}
 use Rattle.session.proofs.conversation.Session.command.Goals as goal
@@ -21,6 +22,7 @@ returns-in-Ok g c = record {
   blank = search rules;
   refused = search rules;
   no_memory = c.obey.ensures.no_memory;
+  query = λ d h q. (let same : c.in-Ok.command ≡ d = cc (c.in-Ok.ensures.ok, h) in c.obey.ensures.query (subst (λ (x : Command). IsQuery x) (sym same) q));
   out_fault = search rules;
   limit = search rules;
   asked = λ d h n m. (let same : c.in-Ok.command ≡ d = cc (c.in-Ok.ensures.ok, h) in c.obey.ensures.asked (λ e. n (sym same ∙ e)) (λ e. m (sym same ∙ e)));

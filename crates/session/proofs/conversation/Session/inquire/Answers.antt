@@ -33,6 +33,7 @@ returns-in_default g c = record {
   mode = search rules;
   limit = search rules;
   kept = search rules;
+  query = search rules;
   meant = λ (b : Behaviour) (hs : Hosts) (st : SessionState) x e askable.
       let now = c.args.self.now in
       let mid = c.settle.new.self in
