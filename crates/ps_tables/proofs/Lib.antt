@@ -33,3 +33,4 @@ pub mod TableRun
 pub mod Bounded
 pub mod Behind
 pub mod BehindRun
+pub mod Accepted
