@@ -31,3 +31,6 @@ pub mod ObjectsRun
 pub mod TopRun
 pub mod TableRun
 pub mod Bounded
+pub mod Behind
+pub mod BehindRun
+pub mod Accepted

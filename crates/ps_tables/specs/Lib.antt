@@ -16,3 +16,4 @@ pub mod WordsKnown
 pub mod PartsKnown
 pub mod Tabled
 pub mod Bounded
+pub mod Behind

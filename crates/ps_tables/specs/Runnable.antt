@@ -27,6 +27,10 @@ RunsType defs (Array' b t n) = RunsType defs t × IsItem t × (n < 2 ^ 31) × (s
 RunsType defs (Struct s) = s < length defs
 RunsType defs t = Unit {0}
 
+-- a struct's size is an integer of the dialect, and the types of its members run
+abbrev pub RunsRow : List StructDef → StructDef → Type 0
+RunsRow defs d = (d.size < 2 ^ 31) × AllByRecursion (λ m. RunsType defs m.ctype) d.members
+
 pub record RunsMember (defs : List StructDef) (m : Member) : Type 0 where
   pub name : length m.name ≤ 16777216
   pub at : m.at < 2 ^ 32

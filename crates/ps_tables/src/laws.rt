@@ -5,7 +5,7 @@ ghost use Rattle.ps_store.specs.declared.object.PsObj.{PsObj};
 ghost use Rattle.ps_store.specs.declared.object.PsObj.TheVariants.{Int, Str, Dict};
 ghost use Rattle.ps_store.specs.declared.key.Key.TheVariants.{Name as NameKey};
 ghost use Rattle.ps_store.specs.Entries.{value_at};
-ghost use Rattle.ps_store.specs.Store.{entries_of};
+ghost use Rattle.ps_store.specs.Store.{entries_of, making_string, text_units};
 ghost use Rattle.ps_store.specs.declared.object.DictId.{DictId};
 ghost use Rattle.ps_store.specs.declared.object.StringId.{StringId};
 ghost use Rattle.ps_store.specs.declared.object.ArrayId.{ArrayId};
@@ -41,7 +41,14 @@ ghost use Rattle.ps_tables.specs.Makers.{Maker, body, taken_by, most, calls, Rea
 ghost use Rattle.ps_tables.specs.TableWords.{new_point, new_function, new_unit, pointer_to, new_struct, new_string, new_object, new_symbol, function_symbol};
 ghost use Rattle.ps_tables.specs.Pieces.{Piece, End, Field, Values, Bottom, left_by, code, cost, steps, after, Knows, HasRoom, Show, Performs};
 ghost use Rattle.ps_emit.specs.Table.{table_text};
-ghost use Rattle.ps_tables.specs.Runnable.{Runnable};
+ghost use Rattle.ps_print.specs.Loaded.{loaded};
+ghost use Rattle.std.specs.List.{AllByRecursion};
+ghost use Rattle.c_tree.specs.declared.types.CType.{CType};
+ghost use Rattle.c_tree.specs.declared.types.StructDef.{StructDef};
+ghost use Rattle.c_typing.specs.Written.{IsFormed};
+ghost use Rattle.c_typing.specs.Programs.{KeepsRules};
+ghost use Rattle.ps_tables.specs.Runnable.{Runnable, RunsType, RunsRow};
+ghost use Rattle.ps_tables.specs.Behind.{prelude_dict, loaded_printers};
 ghost use Rattle.ps_tables.specs.Bounded.{IsShort, deferred_units};
 ghost use Rattle.ps_tables.specs.Senses.{Knowing};
 ghost use Rattle.ps_tables.specs.Reached.{Reaches};
@@ -121,4 +128,17 @@ pub fn tables_run<D: Dialect>()
 pub fn tables_are_bounded()
     ensures steps { (p : Program) (at : Placement) → IsShort p at → table_steps p at ≤ (cost_of p).steps }
     ensures made { (p : Program) (at : Placement) → IsShort p at → table_made p at ≤ (cost_of p).made + deferred_units p at.functions p.units }
+{}
+
+/// What the prelude leaves is what a table begins with: behind it the printers' names have their senses, and the dictionary on top is empty. So a run of a table's text as an executable string that is made there, with steps to spare, ends without an error at the table's top, whatever the dialect.
+pub fn tables_run_behind<D: Dialect>()
+    ensures begins { AreNoMarks loaded_printers × Knowing loaded.store 1 prelude_dict 0 (printer_senses loaded_printers) }
+    ensures runs { (p : Program) (at : Placement) (t : StringId) (s : StoreState) (left m : ℕ) (d d' : D) (c' : PsCore) (r : Answer) → Runnable p at → length (table_text p at) ≤ 16777216 → loaded.store.table.units + loaded.store.command.units + text_units (table_text p at) + table_made p at ≤ 8000000 → making_string loaded.store (table_text p at) ≡ Ok (t, s) → Runs D.operates (further (suc (table_steps p at)) (suc left)) d (record loaded { store = s; execution = Object (Str t true) ∷ [] }) r m d' c' → EndsAtTop 1 prelude_dict t (table_steps p at) (table_made p at) at.target s (suc left) d r m d' c' }
+{}
+
+/// What a table asks of types holds of those that keep the typing rules: of each written type, and of the structs and static objects of an accepted program.
+pub fn accepted_types_run()
+    ensures types { (defs : List StructDef) (t : CType) → IsFormed defs t → RunsType defs t }
+    ensures structs { (p : Program) → KeepsRules p → AllByRecursion (RunsRow p.defs) p.defs }
+    ensures objects { (p : Program) → KeepsRules p → AllByRecursion (λ o. RunsType p.defs o.ctype) p.objects }
 {}

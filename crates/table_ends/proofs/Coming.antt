@@ -1,0 +1,129 @@
+-- The text of a table comes to a table.
+use Rattle.std.proofs.Common.{◌≡◌, ◌≢◌, ℕ, zero, suc, pos, ◌+◌, ◌-◌, ◌≤◌, Bool, true, false, ◌&&◌, ◌==◌, nat_eq, bytes_eq, if◌then◌else◌, Option, Some, None, Result, Ok, Err, List, [], ◌∷◌, length, codes, slice_get, refl, sym, ap, ◌∙◌, subst, arith}
+use Rattle.std.specs.Cmp.Lexicographic.{bytes_decides}
+use Rattle.std.specs.Fmt.{digits}
+use Rattle.ps_scan.specs.Bytes.{is_regular, is_white, is_special, is_hexadecimal}
+use Rattle.c_tree.specs.declared.rows.Program.{Program}
+use Rattle.machine_state.specs.declared.layout.TheConstants.{SPARC}
+use Rattle.ps_store.specs.declared.object.Part.TheVariants.{Table}
+use Rattle.ps_store.specs.declared.object.PsObj.{PsObj}
+use Rattle.ps_store.specs.declared.object.PsObj.TheVariants.{Str, Dict}
+use Rattle.ps_store.specs.declared.object.DictId.{DictId}
+use Rattle.ps_store.specs.declared.object.StringId.{StringId}
+use Rattle.ps_store.specs.Held.{Held}
+use Rattle.ps_store.specs.Operators.{operator_number}
+use Rattle.ps_store.specs.StoreState.{StoreState}
+use Rattle.ps_store.specs.Store.{Given, making_string, text_units, bytes_of}
+use Rattle.ps_step.specs.declared.item.Item.{Item}
+use Rattle.ps_step.specs.declared.item.Item.TheVariants.{Object}
+use Rattle.ps_step.specs.declared.machine.PsCore.{PsCore}
+use Rattle.ps_step.specs.declared.fault.PsFault.{PsFault}
+use Rattle.ps_step.specs.declared.fault.PsFault.TheVariants as ps
+use Rattle.ps_run.specs.Runs.{Answer, Runs}
+use Rattle.ps_text.proofs.Growing.{MadeText, text_made}
+use Rattle.ps_terms.specs.Stands.{core}
+use Rattle.ps_terms.specs.Printing.{further}
+use Rattle.ps_print.specs.Loaded.{loaded}
+use Rattle.ps_emit.specs.declared.placement.Placement.{Placement}
+use Rattle.ps_emit.specs.Table.{table_text, target_name}
+use Rattle.dialect_model.specs.Dial.{Dial}
+use Rattle.dialect_model.specs.Forcing.{NoTarget}
+use Rattle.ps_bare.specs.Bare.{bare}
+use Rattle.table_run.specs.declared.run.TableFault.{TableFault}
+use Rattle.table_run.specs.declared.run.TableFault.TheVariants.{Raised, Spent, Shape, NoMemory}
+use Rattle.table_run.specs.Shape.{target_text, has_entries, is_text, is_unused, is_table, no_objects}
+use Rattle.table_run.specs.Tables.{RunsString, runs_made, RunsBehind, left_by, closed_with, table_with, table_in, IsTableOf}
+use Rattle.ps_tables.specs.Later.{Later}
+use Rattle.ps_tables.specs.Runnable.{Runnable}
+use Rattle.ps_tables.specs.Defined.{in_table}
+use Rattle.ps_tables.specs.Behind.{prelude_dict}
+use Rattle.ps_tables.specs.Tabled.{table_made, table_steps, IsTop, EndsAtTop}
+use Rattle.ps_tables.proofs.Stores.{later_grown}
+use Rattle.ps_tables.proofs.MembersRun.{further_is}
+use Rattle.ps_tables.proofs.BehindRun.{behind_runs}
+
+abbrev all : List DictId
+all = in_table 1 ∷ prelude_dict
+
+two_bases : length loaded.store.base ≡ 2
+unfolding digits is_white is_special is_regular is_hexadecimal operator_number
+two_bases = refl
+
+no_commands : is_unused loaded.store.command ≡ true
+unfolding digits is_white is_special is_regular is_hexadecimal operator_number
+no_commands = refl
+
+made_in : loaded.store.part ≡ Table
+unfolding digits is_white is_special is_regular is_hexadecimal operator_number
+made_in = refl
+
+-- the target's two names
+same_name : (target : ℕ) → target ≤ 2 → 1 ≤ target → target_name target ≡ target_text target
+same_name zero h k = absurd (omega arith)
+same_name (suc zero) h k = refl
+same_name (suc (suc zero)) h k = refl
+same_name (suc (suc (suc n))) h k = absurd (omega arith)
+
+-- ---- the shape
+
+module _ (s : StoreState) (d : DictId) (target : ℕ) (top : IsTop s d target) (named : target_name target ≡ target_text target) (bases : length s.base ≡ 2) (unused : is_unused s.command ≡ true) where
+  text_is : is_text s (target_text target) (Some (Str top.name false)) ≡ true
+  text_is = (bytes_decides (bytes_of s top.name) (target_text target)).1 (top.told.bytes ∙ named)
+
+  entries_are : has_entries s target d ≡ true
+  entries_are = rw (top.version, top.is_target, top.has_anchors, top.has_structs, top.has_units, text_is) refl
+
+  comes_to : (e : List Item) → table_in target (core s all (Dict d ∷ []) e) ≡ Ok (closed_with (core s all (Dict d ∷ []) e) d)
+  comes_to e =
+      let c : PsCore = core s all (Dict d ∷ []) e in
+      ap (λ (n : ℕ). table_with target c (if nat_eq 2 n then Some d else None)) bases
+      ∙ ap (λ (b : Bool). if b && is_unused s.command then Ok (closed_with c d) else Err Shape) entries_are
+      ∙ ap (λ (b : Bool). if b then Ok (closed_with c d) else Err Shape) unused
+
+-- ---- the run
+
+module _ (p : Program) (at : Placement) (run : Runnable p at) (low : 1 ≤ at.target) (high : at.target ≤ 2) (short : length (table_text p at) ≤ 16777216)
+    (room : loaded.store.table.units + loaded.store.command.units + text_units (table_text p at) + table_made p at ≤ 8000000) (few : table_steps p at + 2 ≤ 10000000) where
+  record Came (r : Answer) (c : PsCore) : Type 0 where
+    pub answer : r ≡ Ok tt
+    pub store : StoreState
+    pub table : table_in at.target c ≡ Ok store
+
+  ran : (t : StringId) (s : StoreState) (r : Answer) (c : PsCore) → making_string loaded.store (table_text p at) ≡ Ok (t, s) → Later (text_units (table_text p at)) loaded.store s → r ≢ Err ps.NoMemory → RunsString loaded (t, s) r c → Came r c
+  ran t s r c made later other h =
+      let runs = h.runs other in
+      let left : ℕ = 10000000 - table_steps p at - 2 in
+      let e : 10000000 ≡ further (suc (table_steps p at)) (suc left) = omega (arith, further_is (suc (table_steps p at)) (suc left)) in
+      let c₀ : PsCore = record loaded { store = s; execution = Object (Str t true) ∷ [] } in
+      let c₁ : PsCore = record c { execution = runs.0 } in
+      let moved : Runs NoTarget (further (suc (table_steps p at)) (suc left)) (bare 0) c₀ r h.left h.dial c₁ = subst (λ n. Runs NoTarget n (bare 0) c₀ r h.left h.dial c₁) e runs.1 in
+      let a : EndsAtTop 1 prelude_dict t (table_steps p at) (table_made p at) at.target s (suc left) (bare 0) r h.left h.dial c₁ =
+      behind_runs NoTarget p at t s left h.left (bare 0) h.dial c₁ r run short room made moved in
+      let now : StoreState = a.leaves.store in
+      let whole : c ≡ core now all (Dict a.leaves.top ∷ []) c.execution = ap (λ (x : PsCore). record x { execution = c.execution }) a.state in
+      let bases : length now.base ≡ 2 = ap length (a.leaves.owned.base ∙ later.base) ∙ two_bases in
+      let unused : is_unused now.command ≡ true = ap is_unused (a.leaves.owned.command ∙ later.command made_in) ∙ no_commands in
+      record {
+        answer = a.answer;
+        store = closed_with (core now all (Dict a.leaves.top ∷ []) c.execution) a.leaves.top;
+        table = ap (table_in at.target) whole ∙ comes_to now a.leaves.top at.target a.leaves.is_top (same_name at.target high low) bases unused c.execution;
+      }
+
+  came : (r : Answer) (c : PsCore) → r ≢ Err ps.NoMemory → RunsBehind (table_text p at) r c → Came r c
+  came r c other h =
+      let text : List ℕ = table_text p at in
+      let g : MadeText 16777216 loaded.store text = text_made 16777216 loaded.store text short (omega arith) in
+      let runs : runs_made loaded (making_string loaded.store text) r c = subst (λ (x : PsCore). runs_made x (making_string x.store text) r c) h.is_loaded h.runs in
+      ran g.id g.store r c g.made (later_grown (text_units text) loaded.store g.store g.grown) other (subst (λ (x : Given StringId). runs_made loaded x r c) g.made runs)
+
+  result_is : (result : Result StoreState TableFault) → IsTableOf (table_text p at) at.target result → result ≢ Err NoMemory → (s : StoreState) × (result ≡ Ok s)
+  result_is (Ok s) h other = (s, refl)
+  result_is (Err Shape) h other = let a = came (Ok tt) h.0 (λ e. cc) h.1 in absurd (let f : Ok a.store ≡ Err Shape = sym a.table ∙ h.2 in cc)
+  result_is (Err (Raised e)) h other = let a = came (Err (ps.Error e)) h.0 (λ f. cc) h.1 in absurd (let f = a.answer in cc)
+  result_is (Err Spent) h other = let a = came (Err ps.Spent) h.0 (λ f. cc) h.1 in absurd (let f = a.answer in cc)
+  result_is (Err NoMemory) h other = absurd (other refl)
+
+pub comes : (p : Program) (at : Placement) (result : Result StoreState TableFault) → Runnable p at → 1 ≤ at.target → at.target ≤ 2 → length (table_text p at) ≤ 16777216
+    → loaded.store.table.units + loaded.store.command.units + text_units (table_text p at) + table_made p at ≤ 8000000 → table_steps p at + 2 ≤ 10000000 → IsTableOf (table_text p at) at.target result → result ≢ Err NoMemory
+    → (s : StoreState) × (result ≡ Ok s)
+comes p at result run low high short room few is other = result_is p at run low high short room few result is other

@@ -1,0 +1,6 @@
+//! What a table's text comes to.
+#![tactic(auto)]
+
+mod laws;
+
+pub use laws::tables_come;
