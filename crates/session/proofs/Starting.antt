@@ -232,3 +232,11 @@ two_begun b c o1 o2 r q input m n table other which second x y = record {
   state = refl;
   limit_is = refl;
 }
+
+-- a start that finds no target has counted a fault
+pub target_rose : {A B : Type 0} (D : B → Type 0) (f f' : ℕ) (fault : StartFault) (r : Result A StartFault) → r ≡ Err fault → r ≡ Err Target → StartsAs f f' D (Err fault) → Rose f f'
+target_rose D f f' Target r e e' x = x
+target_rose D f f' NoMemory r e e' x = let no : ⊥ = cc in absurd no
+
+pub no_target : {B : Type 0} (D : B → Type 0) (f f' : ℕ) (r : Result B StartFault) → r ≡ Err Target → StartsAs f f' D r → Rose f f'
+no_target D f f' r e x = subst (λ (z : Result _ StartFault). StartsAs f f' D z) e x

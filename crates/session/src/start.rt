@@ -106,6 +106,7 @@ pub fn begun<L: Link>(
     input: &[u8],
 ) -> Result<SideRecord, StartFault>
     ensures side { IfOk result (λ r. r.which ≡ side) }
+    ensures calm { OnOk result (L.faults link.new ≡ L.faults link.old) }
     ensures meant { (b : Behaviour) (m : MachineState) (beside : Option Host) → IsFirst b L.conduct (L.world link.old) side m beside table → length input.now ≤ 16777216
         → StartsAs (L.faults link.old) (L.faults link.new) (λ r. IsBegun b L.conduct (L.world link.new) r input.now m beside table) result }
 {
