@@ -64,7 +64,7 @@ StartsAs faults faults' Done (Ok x) = Done x
 StartsAs faults faults' Done (Err NoMemory) = Unit {0}
 StartsAs faults faults' Done (Err Target) = Rose faults faults'
 
--- the count of a link's faults rose
+-- There is a link of this kind whose count of faults is higher: there is none where the count can't rise.
 abbrev pub HasRisen : {A : Type 0} → (faults : A → ℕ) → (old : A) → Type 0
 HasRisen {A} faults old = (new : A) × Rose (faults old) (faults new)
 

@@ -232,8 +232,9 @@ impl<L: Link + Drop> Session<L> {
     /// refuses, changes nothing; once the session has ended that is every one but `quit`. A command that doesn't resume puts nothing
     /// into the output, and leaves the session's state as it was or ends the session; the breakpoints and the chosen frames stay, but where it is `break`, `clear` or
     /// `frame`. `continue` and `step` tell the event of all
-    /// sides, or aren't begun, or end the session. Without memory the session is as before, and nothing was put into the output; units
-    /// of tables that were run stay so, and what a text of PostScript stored in the target stays.
+    /// sides, or aren't begun, or end the session. Without memory the session's state, its limit, its breakpoints and its chosen
+    /// frames are as before, and nothing was put into the output; units of tables that were run stay so, and what a text of PostScript
+    /// stored in the target stays.
     pub fn command<O: Sink>(&mut self, line: &[u8], out: &mut O) -> Result<Answer, End>
         ensures quit { read_of self.old.raw line.now ≡ Some Quit → result ≡ Err End.Quit }
         ensures quits { result ≡ Err End.Quit → read_of self.old.raw line.now ≡ Some Quit }
