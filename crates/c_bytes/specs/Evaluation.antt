@@ -1,7 +1,6 @@
 -- What an expression means over the bytes of a target.
 use Rattle.std.specs.Prelude.{ℕ, pos, cond, List, [], ◌∷◌, ◌==◌, Option, Some, None}
 use Rattle.ldb_words.specs.declared.kinds.Kind.{Kind}
-use Rattle.c_tree.specs.declared.types.CType.{CType}
 use Rattle.c_tree.specs.declared.types.Leaf.{Leaf}
 use Rattle.c_tree.specs.declared.typed.BinaryOp.TheVariants.{Add}
 use Rattle.c_tree.specs.declared.typed.Typed.{Typed}
@@ -13,7 +12,7 @@ use Rattle.frame_bytes.specs.declared.frame.Space.TheVariants.{Memory}
 use Rattle.frame_bytes.specs.Bytes.{Bytes, stored}
 use Rattle.table_model.specs.declared.found.Found.{Found}
 use Rattle.dialect_model.specs.TableUse.{gives, refuses, ◌>>=◌}
-use Rattle.c_bytes.specs.Lvalues.{IllTyped, Means, Scene, Lvalue, Pointed, where_is, object_of, pointer, moved_items, or_range, load, live_at, struct_live_at, fetched_from, leaf_of, moved_lvalue, member_at, address_of, place_of_lvalue, bytes_with}
+use Rattle.c_bytes.specs.Lvalues.{IllTyped, Means, Scene, Lvalue, Pointed, where_is, object_of, pointer, moved, or_range, load, live_at, fetched_from, leaf_of, moved_lvalue, member_at, address_of, place_of_lvalue, bytes_with}
 use Rattle.c_bytes.specs.Operators.{converted, combined, changed}
 
 module _ (sc : Scene) where
@@ -23,8 +22,8 @@ module _ (sc : Scene) where
   fetch_all p (l ∷ ls) = fetched_from sc l.kind (moved_lvalue l.at p) >>= λ v. fetch_all p ls >>= λ vs. gives (v ∷ vs)
 
   -- a struct is read once all its leaves are live
-  abbrev pub load_all : CType → Lvalue → Means (List ℕ)
-  load_all t p = struct_live_at sc p t >>= λ u. fetch_all p (leaves_of sc.defs t)
+  abbrev pub load_all : Lvalue → List Leaf → Means (List ℕ)
+  load_all p ls = live_at sc p ls >>= λ u. fetch_all p ls
 
   -- Values are words, and places are by names or through pointers.
   abbrev pub over_bytes : Ground Means ℕ Lvalue
@@ -43,10 +42,10 @@ module _ (sc : Scene) where
     led_by = λ p. gives (Pointed p);
     item_at = λ s t x y. combined sc Add s t x y >>= λ p. gives (Pointed p);
     member = λ n s. member_at sc n s;
-    led_member = λ n p. moved_items sc p n (pos 1) >>= λ q. gives (Pointed q);
+    led_member = λ n p. moved sc p (pos n) >>= λ q. gives (Pointed q);
     address_of = address_of;
     load = λ t s. load sc (kind_of t) s >>= λ n. gives (converted t n);
-    load_struct = λ t s. load_all t s;
+    load_struct = λ t s. load_all s (leaves_of sc.defs t);
   }
 
   abbrev pub value_of : Typed → Means ℕ
@@ -100,7 +99,7 @@ module _ (sc : Scene) where
   setting a b ls = do
     to ← place_of a
     v ← value_of b
-    u ← live_at sc to (kind_of (type_of a))
+    u ← live_at sc to ls
     w ← may_write (memory_address to)
     put_in to ls (converted (type_of a) v ∷ [])
 
@@ -109,8 +108,8 @@ module _ (sc : Scene) where
   copying a b ls = do
     to ← place_of a
     from ← place_of b
-    u ← struct_live_at sc to (type_of a)
-    v ← struct_live_at sc from (type_of b)
+    u ← live_at sc to ls
+    v ← live_at sc from ls
     w ← may_write (memory_address to)
     vs ← fetch_all from ls
     put_in to ls vs

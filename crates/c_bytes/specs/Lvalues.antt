@@ -1,11 +1,9 @@
 -- Where an lvalue stands in a target, and how it is read.
-use Rattle.std.specs.Prelude.{cond, ◌≡◌, ◌≢◌, ◌⊎◌, ◌≤◌, ◌++◌, take, ℕ, ℤ, ◌-◌, ◌^◌, ◌+ℤ◌, ◌*ℤ◌, nat_lt, zero, suc, pos, Bool, true, false, List, [], ◌∷◌, length, codes, slice_get, Option, Some, None, Result, Ok, Err}
+use Rattle.std.specs.Prelude.{◌≡◌, ◌≢◌, ◌⊎◌, ◌≤◌, ◌++◌, take, ℕ, ℤ, ◌+◌, ◌+ℤ◌, zero, suc, pos, Bool, true, false, List, [], ◌∷◌, length, codes, slice_get, Option, Some, None, Result, Ok, Err}
 use Rattle.ldb_words.specs.Word.{sum_of}
 use Rattle.ldb_words.specs.declared.kinds.Kind.{Kind}
 use Rattle.ldb_words.specs.declared.kinds.Undef.{Undef}
 use Rattle.ldb_words.specs.declared.kinds.Undef.TheVariants.{Pointer}
-use Rattle.c_tree.specs.declared.types.CType.{CType}
-use Rattle.c_tree.specs.declared.types.CType.TheVariants.{Struct}
 use Rattle.c_tree.specs.declared.types.StructDef.{StructDef}
 use Rattle.c_tree.specs.declared.types.Leaf.{Leaf}
 use Rattle.ps_store.specs.declared.object.DictId.{DictId}
@@ -23,8 +21,7 @@ use Rattle.frame_bytes.specs.declared.frame.Frame.{Frame}
 use Rattle.frame_bytes.specs.Bytes.{Bytes, fetched_at}
 use Rattle.table_model.specs.declared.found.Found.{Found}
 use Rattle.table_model.specs.Reading.{Walked, entry}
-use Rattle.table_types.specs.Offsets.{offset_of, kind_live, type_live, checked, checked_found}
-use Rattle.ps_symbols.specs.Naming.{struct_named}
+use Rattle.table_types.specs.Offsets.{offset_of, kind_live, if_offset, checked_found}
 use Rattle.table_model.specs.Objects.{found_at}
 use Rattle.ps_words.specs.Operators.{word_in}
 use Rattle.ps_places.specs.Places.{text_of, space_named}
@@ -151,38 +148,26 @@ abbrev pub if_live : Bool → Means (Unit {0})
 if_live true = gives tt
 if_live false = pointer
 
--- An access through a pointer needs what it takes to be live, in the one object to which the pointer belongs. A named place is read by its bytes.
--- Of a scalar that is a leaf of its kind.
-abbrev pub live_at : Scene → Lvalue → Kind → Means (Unit {0})
-live_at sc (Named p cell) k = gives tt
-live_at sc (Pointed p) k = object_of sc p >>= λ found. looking (λ s. results.◌>>=◌ (checked_found s found) (λ u. kind_live s found k (offset_of found))) >>= if_live
+-- whether some leaves are live behind where a pointer leads; the first that is not decides
+abbrev leaf_live : StoreState → Option Found → Leaf → Walked Bool
+leaf_live s found l = if_offset (offset_of found + l.at) (kind_live s found l.kind (offset_of found + l.at))
 
--- of a struct they are the leaves of the type that its tag has in the table
-abbrev type_of_tag : StoreState → List ℕ → Walked DictId
-type_of_tag s tag = results.◌>>=◌ (struct_named s tag) (λ t. results.◌>>=◌ (checked s t) (λ u. Ok t))
+abbrev leaves_live : StoreState → Option Found → List Leaf → Walked Bool
+leaves_live s found [] = Ok true
+leaves_live s found (l ∷ ls) = results.◌>>=◌ (leaf_live s found l) (λ b. elim b [ false ↦ Ok false | true ↦ leaves_live s found ls ])
 
-abbrev leaves_live : Option Found → DictId → StoreState → Walked Bool
-leaves_live found t s = results.◌>>=◌ (checked_found s found) (λ u. type_live s found 64 t (offset_of found))
+abbrev all_live : List Leaf → Option Found → StoreState → Walked Bool
+all_live ls found s = results.◌>>=◌ (checked_found s found) (λ u. leaves_live s found ls)
 
-abbrev live_tagged : Scene → (address : ℕ) → Option StructDef → Means (Unit {0})
-live_tagged sc p None = refuses IllTyped
-live_tagged sc p (Some d) = looking (λ s. type_of_tag s d.tag) >>= λ t. object_of sc p >>= λ found. looking (leaves_live found t) >>= if_live
-
-abbrev pub struct_live_at : Scene → Lvalue → CType → Means (Unit {0})
-struct_live_at sc (Pointed p) (Struct n) = live_tagged sc p (slice_get sc.defs n)
-struct_live_at sc (Pointed p) t = refuses IllTyped
-struct_live_at sc (Named p cell) t = gives tt
+-- An access through a pointer needs live leaves: all of them in the one object to which the pointer belongs. A named place is
+-- read by its bytes.
+abbrev pub live_at : Scene → Lvalue → List Leaf → Means (Unit {0})
+live_at sc (Named p cell) ls = gives tt
+live_at sc (Pointed p) ls = object_of sc p >>= λ found. looking (all_live ls found) >>= if_live
 
 -- a pointer moved by some bytes; the sum is exact, and stays within the object
 abbrev pub moved : Scene → (address : ℕ) → ℤ → Means ℕ
 moved sc p by = live sc p >>= λ o. or_pointer (address_at o (pos o.at +ℤ by))
-
--- A pointer moved by so many items, whose size has the sign of the way. A count is added as a number with a sign: 2^31 and more are three sums, each
--- within the object to which its pointer belongs.
-abbrev pub moved_items : Scene → (address count : ℕ) → (size : ℤ) → Means ℕ
-moved_items sc p n size =
-    cond (nat_lt n (2 ^ 31)) (moved sc p (pos n *ℤ size))
-    (moved sc p (pos 2147483647 *ℤ size) >>= λ q. moved sc q size >>= λ r. moved sc r (pos (n - 2 ^ 31) *ℤ size))
 
 -- ---- accesses
 
@@ -208,7 +193,7 @@ abbrev pub leaf_of : Kind → Leaf
 leaf_of k = record { at = 0; kind = k }
 
 abbrev pub load : Scene → Kind → Lvalue → Means ℕ
-load sc k p = live_at sc p k >>= λ u. fetched_from sc k p
+load sc k p = live_at sc p (leaf_of k ∷ []) >>= λ u. fetched_from sc k p
 
 -- a place so far behind one
 abbrev pub moved_lvalue : ℕ → Lvalue → Lvalue
@@ -218,7 +203,7 @@ moved_lvalue n (Pointed p) = Pointed (sum_of p n)
 -- a member so far from the start of a struct: through a pointer this is arithmetic on it
 abbrev pub member_at : Scene → ℕ → Lvalue → Means Lvalue
 member_at sc n (Named p cell) = gives (moved_lvalue n (Named p cell))
-member_at sc n (Pointed p) = moved_items sc p n (pos 1) >>= λ q. gives (Pointed q)
+member_at sc n (Pointed p) = moved sc p (pos n) >>= λ q. gives (Pointed q)
 
 -- the address that an array becomes, and that `&` gives
 abbrev pub address_of : Lvalue → ℕ

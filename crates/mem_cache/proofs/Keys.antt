@@ -1,55 +1,60 @@
--- An access by its number.
-use Rattle.std.proofs.Common.{◌≡◌, ◌<◌, ◌≤◌, ℕ, ◌+◌, ◌*◌, ◌^◌, refl, sym, arith}
+-- Accesses by their numbers.
+use Rattle.std.proofs.Common.{◌≡◌, ◌∙◌, ℕ, Bool, true, false, ◌&&◌, nat_eq, refl, sym, ap, arith}
+use Rattle.std.proofs.lemmas.Bool.Decides.{nat_tests}
 use Rattle.ldb_words.specs.declared.kinds.Kind.{Kind}
 use Rattle.ldb_words.specs.declared.kinds.Kind.TheVariants.{Byte, Word, Address}
 use Rattle.frame_bytes.specs.declared.frame.Space.{Space}
 use Rattle.frame_bytes.specs.declared.frame.Space.TheVariants.{Memory, Registers, Immediate}
 use Rattle.frame_bytes.specs.declared.frame.Place.{Place}
-use Rattle.mem_cache.specs.Kept.{key_of, space_number, kind_number}
+use Rattle.mem_cache.specs.declared.cached.Access.{Access}
+use Rattle.mem_cache.specs.Kept.{access_of, space_number, kind_number}
 
-same_space : (s t : Space) → space_number s ≡ space_number t → s ≡ t
-same_space Memory Memory e = refl
-same_space Memory Registers e = cc
-same_space Memory Immediate e = cc
-same_space Registers Memory e = cc
-same_space Registers Registers e = refl
-same_space Registers Immediate e = cc
-same_space Immediate Memory e = cc
-same_space Immediate Registers e = cc
-same_space Immediate Immediate e = refl
+space_is : (s t : Space) → space_number s ≡ space_number t → s ≡ t
+space_is Memory Memory e = refl
+space_is Memory Registers e = cc
+space_is Memory Immediate e = cc
+space_is Registers Memory e = cc
+space_is Registers Registers e = refl
+space_is Registers Immediate e = cc
+space_is Immediate Memory e = cc
+space_is Immediate Registers e = cc
+space_is Immediate Immediate e = refl
 
-same_kind : (j k : Kind) → kind_number j ≡ kind_number k → j ≡ k
-same_kind Byte Byte e = refl
-same_kind Byte Word e = cc
-same_kind Byte Address e = cc
-same_kind Word Byte e = cc
-same_kind Word Word e = refl
-same_kind Word Address e = cc
-same_kind Address Byte e = cc
-same_kind Address Word e = cc
-same_kind Address Address e = refl
+kind_is : (j k : Kind) → kind_number j ≡ kind_number k → j ≡ k
+kind_is Byte Byte e = refl
+kind_is Byte Word e = cc
+kind_is Byte Address e = cc
+kind_is Word Byte e = cc
+kind_is Word Word e = refl
+kind_is Word Address e = cc
+kind_is Address Byte e = cc
+kind_is Address Word e = cc
+kind_is Address Address e = refl
 
-few_kinds : (k : Kind) → kind_number k ≤ 2
-few_kinds Byte = omega arith
-few_kinds Word = omega arith
-few_kinds Address = omega arith
+-- accesses of the same numbers are one
+pub same_access : (p q : Place) (j k : Kind) → access_of p j ≡ access_of q k → (q.space ≡ p.space) × (q.at ≡ p.at) × (k ≡ j)
+same_access p q j k e =
+    (sym (space_is p.space q.space (ap (λ (a : Access). a.space) e)), sym (ap (λ (a : Access). a.at) e), sym (kind_is j k (ap (λ (a : Access). a.kind) e)))
 
-offsets_same : (s t j k a b : ℕ) → j ≤ 2 → k ≤ 2 → a < 4294967296 → b < 4294967296 → (3 * s + j) * 4294967296 + a ≡ (3 * t + k) * 4294967296 + b → a ≡ b
-offsets_same s t j k a b hj hk ha hb e = omega arith
+-- the test of a cache
+abbrev pub equals : Access → Access → Bool
+equals a b = nat_eq a.space b.space && (nat_eq a.kind b.kind && nat_eq a.at b.at)
 
-kinds_same : (s t j k a b : ℕ) → j ≤ 2 → k ≤ 2 → a < 4294967296 → b < 4294967296 → (3 * s + j) * 4294967296 + a ≡ (3 * t + k) * 4294967296 + b → j ≡ k
-kinds_same s t j k a b hj hk ha hb e = omega arith
+same_number : (m n : ℕ) → nat_eq m n ≡ true → m ≡ n
+same_number m n h = grind (arith, nat_tests)
 
-spaces_same : (s t j k a b : ℕ) → j ≤ 2 → k ≤ 2 → a < 4294967296 → b < 4294967296 → (3 * s + j) * 4294967296 + a ≡ (3 * t + k) * 4294967296 + b → s ≡ t
-spaces_same s t j k a b hj hk ha hb e = omega arith
+first_of : (x y : Bool) → (x && y) ≡ true → x ≡ true
+first_of true y h = refl
+first_of false y h = h
 
--- accesses of one number are one
-pub same_access : (p q : Place) (j k : Kind) → p.at < 2 ^ 32 → q.at < 2 ^ 32 → key_of p j ≡ key_of q k → (q.space ≡ p.space) × (q.at ≡ p.at) × (k ≡ j)
-same_access p q j k hp hq e =
-    let s = space_number p.space in
-    let t = space_number q.space in
-    let a = few_kinds j in
-    let b = few_kinds k in
-    (sym (same_space p.space q.space (spaces_same s t (kind_number j) (kind_number k) p.at q.at a b hp hq e)),
-    sym (offsets_same s t (kind_number j) (kind_number k) p.at q.at a b hp hq e),
-    sym (same_kind j k (kinds_same s t (kind_number j) (kind_number k) p.at q.at a b hp hq e)))
+second_of : (x y : Bool) → (x && y) ≡ true → y ≡ true
+second_of true y h = h
+second_of false y h = cc
+
+pub same_numbers : (a b : Access) → equals a b ≡ true → a ≡ b
+same_numbers a b h =
+    let rest = second_of (nat_eq a.space b.space) (nat_eq a.kind b.kind && nat_eq a.at b.at) h in
+    let space = same_number a.space b.space (first_of (nat_eq a.space b.space) (nat_eq a.kind b.kind && nat_eq a.at b.at) h) in
+    let kind = same_number a.kind b.kind (first_of (nat_eq a.kind b.kind) (nat_eq a.at b.at) rest) in
+    let at = same_number a.at b.at (second_of (nat_eq a.kind b.kind) (nat_eq a.at b.at) rest) in
+    ap (λ (n : ℕ). record a { space = n }) space ∙ (ap (λ (n : ℕ). record a { space = b.space; kind = n }) kind ∙ ap (λ (n : ℕ). record b { at = n }) at)

@@ -1,2 +1,2 @@
-pub mod Keys
-pub mod Keeping
+mod Keys
+mod Keeping

@@ -1,7 +1,9 @@
 // A memory that keeps what it fetched.
 
-ghost use Rattle.std.specs.Prelude.{◌≡◌, ◌<◌, ◌^◌, [], IfOk};
-ghost use Rattle.mem_cache.specs.Kept.{key_of, space_number, kind_number};
+ghost use Rattle.std.specs.Prelude.{◌≡◌, [], IfOk};
+ghost use Rattle.std.specs.NonZero.{non_zero_usize_get};
+ghost use Rattle.lru.specs.LruCache.{lru_cache};
+ghost use Rattle.mem_cache.specs.Kept.{access_of};
 
 use abs_mem::{AbsMem, MemFault};
 use frame_bytes::{Place, Space};
@@ -10,34 +12,30 @@ use lru::LruCache;
 use std::alloc::{AllocError, Global};
 use std::num::NonZeroUsize;
 
-fn space_number(space: Space) -> u64
-    ensures value { result ≡ space_number space }
-    ensures least { result < 3 }
-{
-    match space {
-        Space::Memory => 0,
-        Space::Registers => 1,
-        Space::Immediate => 2,
-    }
+/// The place and the kind of an access: the number of its space, its kind and its place there.
+#[derive(Clone, Copy, PartialEq, Eq, Hash)]
+struct Access {
+    space: u8,
+    kind: u8,
+    at: u32,
 }
 
-fn kind_number(kind: Kind) -> u64
-    ensures value { result ≡ kind_number kind }
-    ensures least { result < 3 }
+fn access_of(place: Place, kind: Kind) -> Access
+    ensures { result ≡ access_of place kind }
 {
-    match kind {
-        Kind::Byte => 0,
-        Kind::Word => 1,
-        Kind::Address => 2,
+    Access {
+        space: match place.space {
+            Space::Memory => 0,
+            Space::Registers => 1,
+            Space::Immediate => 2,
+        },
+        kind: match kind {
+            Kind::Byte => 0,
+            Kind::Word => 1,
+            Kind::Address => 2,
+        },
+        at: place.at,
     }
-}
-
-/// The place and the kind of an access as one number.
-fn key_of(place: Place, kind: Kind) -> u64
-    ensures key { result ≡ key_of place kind }
-    ensures word { place.at < 2 ^ 32 }
-{
-    (3 * space_number(place.space) + kind_number(kind)) * 4_294_967_296 + place.at as u64
 }
 
 /// A memory over another that keeps the values that it fetched, those used last, until a store or `forget`. What is below may be
@@ -45,13 +43,13 @@ fn key_of(place: Place, kind: Kind) -> u64
 #[derive(Drop)]
 pub struct Cached<M> {
     pub below: M,
-    kept: LruCache<u64, u32>,
+    kept: LruCache<Access, u32>,
 }
 
 impl<M: AbsMem + Drop> Cached<M> {
     /// One over a memory that keeps at most so many values, and none yet.
     pub fn new(alloc: Global, below: M, room: NonZeroUsize) -> Result<Cached<M>, AllocError>
-        ensures { IfOk result (λ c. (c.below ≡ below) × (c.kept.entries ≡ [])) }
+        ensures { IfOk result (λ c. (c.below ≡ below) × (c.kept ≡ lru_cache [] (non_zero_usize_get room))) }
     {
         let kept = LruCache::new(alloc, room)?;
         Ok(Cached { below, kept })
@@ -60,7 +58,7 @@ impl<M: AbsMem + Drop> Cached<M> {
     /// Keeps nothing more of what was fetched. It takes no memory.
     pub fn forget(&mut self)
         ensures below { self.new.below ≡ self.old.below }
-        ensures kept { self.new.kept.entries ≡ [] }
+        ensures kept { self.new.kept ≡ lru_cache [] self.old.kept.cap }
     {
         self.kept.clear();
     }
@@ -76,15 +74,15 @@ impl<M: AbsMem + Drop> AbsMem for Cached<M> {
     ghost leads = { λ a o b. M.leads a.below o b.below };
 
     fn fetch(&mut self, place: Place, kind: Kind) -> Result<u32, MemFault> {
-        let key = key_of(place, kind);
-        self.kept.promote(&key);
-        if let Some(value) = self.kept.peek(&key) {
+        let access = access_of(place, kind);
+        self.kept.promote(&access);
+        if let Some(value) = self.kept.peek(&access) {
             return Ok(*value);
         }
         match self.below.fetch(place, kind) {
             Ok(value) => {
                 // Where there is no memory for it the value isn't kept.
-                let _ = self.kept.put(key, value);
+                let _ = self.kept.put(access, value);
                 Ok(value)
             }
             Err(fault) => Err(fault),
