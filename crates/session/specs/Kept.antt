@@ -1,5 +1,6 @@
 -- What a command leaves of a side and of the session's state.
 use Rattle.std.specs.Prelude.{◌≡◌, ◌⊎◌, ℕ, List, [], Option, Some, None, is_some, Result, Ok, Err}
+use Rattle.ldb_edge.specs.Count.{Rose}
 use Rattle.table_points.specs.declared.row.Point.{Point}
 use Rattle.table_asks.specs.declared.fault.AskFault.{AskFault}
 use Rattle.table_asks.specs.declared.fault.AskFault.TheVariants.{Refused, Raised, Spent, NoMemory, Broken}
@@ -63,6 +64,10 @@ AnswersFault broken old new (Refused c) answer = (new ≡ old) × Replies (refus
 AnswersFault broken old new (Raised e) answer = (new ≡ old) × Replies (error_reply e) answer
 AnswersFault broken old new Spent answer = (new ≡ old) × Replies spent_reply answer
 AnswersFault broken old new NoMemory answer = (new ≡ old) × IsNoMemory answer
+
+-- A link that failed has counted it, and ended its session, whose last reply says that the target is broken.
+abbrev pub IsBrokenOff : (faults faults' : ℕ) → (broken : List ℕ) → Mode → (text : List ℕ) → Type 0
+IsBrokenOff faults faults' broken mode text = Rose faults faults' × (mode ≡ Ended) × (text ≡ broken)
 
 -- a command that sets no breakpoint, chooses no frame and resumes nothing
 abbrev pub IsQuery : Command → Type 0

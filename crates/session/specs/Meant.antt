@@ -44,6 +44,7 @@ use Rattle.session.specs.declared.answers.End.TheVariants as end
 use Rattle.session.specs.declared.modes.Mode.{Mode}
 use Rattle.session.specs.declared.sides.SideRecord.{SideRecord}
 use Rattle.session.specs.Answered.{state_of}
+use Rattle.session.specs.Kept.{IsBrokenOff}
 use Rattle.session.specs.Resuming.{event_on}
 use Rattle.session.specs.Turned.{byte_of, order_of}
 
@@ -314,12 +315,12 @@ module _ (b : Behaviour) (c : Conduct) (o : Option World) (first : SideRecord) (
     pub written : after.written ≡ st.written ++ output
     pub put : taken' ≡ known_and taken output
 
-  -- So it is unless the link failed. Without memory nothing is said; where the output failed, a front of that of an answer was put.
-  abbrev pub AnswersAs : (Reply → SessionState → Type 0) → (faults faults' : ℕ) → Result Answer End → Type 0
-  AnswersAs Says faults faults' (Ok (answer.Lines text)) = Rose faults faults' ⊎ Answered Says text
-  AnswersAs Says faults faults' (Ok answer.NoMemory) = Unit {0}
-  AnswersAs Says faults faults' (Err end.Quit) = Unit {0}
-  AnswersAs Says faults faults' (Err end.OutFault) = PutInPart st taken taken' Says
+  -- So it is unless the link failed, which ends the session by its last reply. Without memory nothing is said; where the output failed, a front of that of an answer was put.
+  abbrev pub AnswersAs : (Reply → SessionState → Type 0) → (faults faults' : ℕ) → (broken : List ℕ) → Result Answer End → Type 0
+  AnswersAs Says faults faults' broken (Ok (answer.Lines text)) = IsBrokenOff faults faults' broken mode text ⊎ Answered Says text
+  AnswersAs Says faults faults' broken (Ok answer.NoMemory) = Unit {0}
+  AnswersAs Says faults faults' broken (Err end.Quit) = Unit {0}
+  AnswersAs Says faults faults' broken (Err end.OutFault) = PutInPart st taken taken' Says
 
 -- what a line, and a resume, answer in the machine session
 abbrev pub MeantAnswers : Behaviour → SessionState → Option Command → Reply → SessionState → Type 0

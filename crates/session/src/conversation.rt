@@ -251,7 +251,7 @@ impl<L: Link + Drop> Session<L> {
         ensures continues { read_of self.old.raw line.now ≡ Some Continue → refused_by_state (state_of self.old.mode) Continue ≡ None → Resumes (out.new ≡ out.old) ByContinue self.old.mode self.new.mode self.old.first self.new.first self.old.second self.new.second self.old.broken result }
         ensures steps { read_of self.old.raw line.now ≡ Some Step → refused_by_state (state_of self.old.mode) Step ≡ None → Resumes (out.new ≡ out.old) ByStep self.old.mode self.new.mode self.old.first self.new.first self.old.second self.new.second self.old.broken result }
         ensures meant { (b : Behaviour) (hs : Hosts) (st : SessionState) → AreSteady b → Represents b L.conduct (L.world self.old.talk.memory.below.below.below.link) self.old.first self.old.second self.old.mode self.old.limit hs st → is_empty line.now ≡ false → IsSaidIfAny (read_of self.old.raw line.now)
-            → AnswersAs b L.conduct (L.world self.new.talk.memory.below.below.below.link) self.new.first self.new.second self.new.mode self.new.limit st (O.taken out.old) (O.taken out.new) (MeantAnswers b st (read_of self.old.raw line.now)) (L.faults self.old.talk.memory.below.below.below.link) (L.faults self.new.talk.memory.below.below.below.link) result }
+            → AnswersAs b L.conduct (L.world self.new.talk.memory.below.below.below.link) self.new.first self.new.second self.new.mode self.new.limit st (O.taken out.old) (O.taken out.new) (MeantAnswers b st (read_of self.old.raw line.now)) (L.faults self.old.talk.memory.below.below.below.link) (L.faults self.new.talk.memory.below.below.below.link) self.old.broken result }
         ensures raw { self.new.raw ≡ self.old.raw }
         ensures broken { KeepsReply self.old.broken self.new.broken self.new.mode }
     {
@@ -277,7 +277,7 @@ impl<L: Link + Drop> Session<L> {
         ensures continues { command.now ≡ Continue → refused_by_state (state_of self.old.mode) command.now ≡ None → Resumes (out.new ≡ out.old) ByContinue self.old.mode self.new.mode self.old.first self.new.first self.old.second self.new.second self.old.broken result }
         ensures steps { command.now ≡ Step → refused_by_state (state_of self.old.mode) command.now ≡ None → Resumes (out.new ≡ out.old) ByStep self.old.mode self.new.mode self.old.first self.new.first self.old.second self.new.second self.old.broken result }
         ensures meant { (b : Behaviour) (hs : Hosts) (st : SessionState) → AreSteady b → Represents b L.conduct (L.world self.old.talk.memory.below.below.below.link) self.old.first self.old.second self.old.mode self.old.limit hs st → IsSaid command.now → command.now ≢ Quit
-            → AnswersAs b L.conduct (L.world self.new.talk.memory.below.below.below.link) self.new.first self.new.second self.new.mode self.new.limit st (O.taken out.old) (O.taken out.new) (MeantAnswers b st (Some command.now)) (L.faults self.old.talk.memory.below.below.below.link) (L.faults self.new.talk.memory.below.below.below.link) result }
+            → AnswersAs b L.conduct (L.world self.new.talk.memory.below.below.below.link) self.new.first self.new.second self.new.mode self.new.limit st (O.taken out.old) (O.taken out.new) (MeantAnswers b st (Some command.now)) (L.faults self.old.talk.memory.below.below.below.link) (L.faults self.new.talk.memory.below.below.below.link) self.old.broken result }
         ensures raw { self.new.raw ≡ self.old.raw }
         ensures broken { KeepsReply self.old.broken self.new.broken self.new.mode }
     {
@@ -532,7 +532,7 @@ impl<L: Link + Drop> Session<L> {
         ensures out_fault { OnErr result (self.new.mode ≡ Mode.Ended) }
         ensures limit { self.new.limit ≡ self.old.limit }
         ensures meant { (b : Behaviour) (hs : Hosts) (st : SessionState) → AreSteady b → Represents b L.conduct (L.world self.old.talk.memory.below.below.below.link) self.old.first self.old.second self.old.mode self.old.limit hs st → IsResumable st.state
-            → AnswersAs b L.conduct (L.world self.new.talk.memory.below.below.below.link) self.new.first self.new.second self.new.mode self.new.limit st (O.taken out.old) (O.taken out.new) (ResumesAs b (resume_of how) st) (L.faults self.old.talk.memory.below.below.below.link) (L.faults self.new.talk.memory.below.below.below.link) result }
+            → AnswersAs b L.conduct (L.world self.new.talk.memory.below.below.below.link) self.new.first self.new.second self.new.mode self.new.limit st (O.taken out.old) (O.taken out.new) (ResumesAs b (resume_of how) st) (L.faults self.old.talk.memory.below.below.below.link) (L.faults self.new.talk.memory.below.below.below.link) self.old.broken result }
         ensures raw { self.new.raw ≡ self.old.raw }
         ensures broken { KeepsReply self.old.broken self.new.broken self.new.mode }
     {
