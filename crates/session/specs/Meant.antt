@@ -1,5 +1,5 @@
 -- What a session's sides are to the machine session, over a link whose nubs meet their definition.
-use Rattle.std.specs.Prelude.{◌≡◌, ◌⊎◌, ℕ, List, [], ◌++◌, Option, Some, None, Result, Ok, Err}
+use Rattle.std.specs.Prelude.{◌≡◌, ◌≢◌, ◌⊎◌, ℕ, List, [], ◌++◌, Option, Some, None, Result, Ok, Err}
 use Rattle.ldb_edge.specs.Count.{Rose}
 use Rattle.ldb_edge.specs.Known.{known_and}
 use Rattle.ldb_words.specs.declared.kinds.Order.{Order}
@@ -21,7 +21,7 @@ use Rattle.abs_mem.specs.declared.memory.MemFault.TheVariants.{Outside, LinkFaul
 use Rattle.debug_side.specs.declared.event.Event.{Event}
 use Rattle.debug_side.specs.declared.point.MachineKind.{MachineKind}
 use Rattle.debug_side.specs.Told.{MayRun, its_output}
-use Rattle.dialect_model.specs.TableUse.{TableUse, Trouble, Kind}
+use Rattle.dialect_model.specs.TableUse.{TableUse, Trouble, Kind, Wanting}
 use Rattle.dialect_model.specs.TableUse.{Refused as RefusedFor, Spent as StepsSpent}
 use Rattle.c_session.specs.declared.command.Command.{Command}
 use Rattle.c_session.specs.declared.command.Command.TheVariants as command
@@ -266,9 +266,10 @@ module _ (b : Behaviour) (c : Conduct) (o : Option World) (side side' : SideReco
   abbrev pub NotOne : Troubled → Type 0
   NotOne e = AskedOne (Err e)
 
-  -- it was done, or not done for a trouble
+  -- it was done, or not done for a trouble that isn't want of memory
   pub record RanOne : Type 0 where
     pub result : Result Change Troubled
+    pub found_memory : result ≢ Err Wanting
     pub asked : AskedOne result
 
 -- ---- a command of all sides
