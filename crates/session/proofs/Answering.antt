@@ -24,6 +24,7 @@ use Rattle.c_session.specs.Commands.{Resume, ByStep, ByContinue, Refusal, refusa
 use Rattle.table_asks.specs.declared.fault.AskFault.{AskFault}
 use Rattle.table_asks.specs.declared.fault.AskFault.TheVariants.{Refused, Raised, Spent, NoMemory, Broken}
 use Rattle.asking.specs.Refusals.{refusal_of}
+use Rattle.asking.specs.Lines.{BeginsWith}
 use Rattle.asking_meaning.specs.Meant.{joined}
 use Rattle.claims.specs.Side.{SideEvent, SideState, SessionState, State, Fresh, Stopped, Running, Ended}
 use Rattle.claims.specs.Lines.{Reply, event_text, trouble_reply}
@@ -45,11 +46,11 @@ use Rattle.session.specs.declared.answers.Answer.TheVariants as answer
 use Rattle.session.specs.declared.modes.Mode.{Mode}
 use Rattle.session.specs.declared.sides.SideRecord.{SideRecord}
 use Rattle.session.specs.Answered as session
-use Rattle.session.specs.Answered.{state_of, refusal_reply, limit_reply, error_reply, spent_reply}
+use Rattle.session.specs.Answered.{state_of, refusal_reply, limit_reply, error_reply, spent_reply, IsTrouble}
 use Rattle.session.specs.declared.answers.End.{End}
 use Rattle.session.specs.declared.answers.End.TheVariants as end
 use Rattle.session.specs.Events.{event_line}
-use Rattle.session.specs.Kept.{AnswersFault, IsBrokenOff}
+use Rattle.session.specs.Kept.{AnswersFault, IsBrokenOff, IsUndone, IsQuery, TellsTrouble, SaysDone}
 use Rattle.session.specs.Resuming.{StandsStill, OnSecond, goes_on}
 use Rattle.session.specs.Meant.{debugged, kind_of, other_kind, second_of, sides_of, IsThere, IsSecond, Hosts, AreThere, AreSteady, Represents, ComesTo, AllPrepared, AllResumed, ResumesAll, MayAlsoRun, SaidAll, NotAll, PutInPart, Answered, AnswersAs, MeantAnswers, ResumesAs, IsSaid, IsAskable, IsResumable}
 use Rattle.session.proofs.Behind.{event_of_all, sides_behind, are_resumed}
@@ -334,6 +335,49 @@ askable (command.Eval text) h n s t q = absurd h
 askable (command.Assign text) h n s t q = absurd h
 askable (command.Code text) h n s t q = absurd h
 askable (command.Ps text) h n s t q = h
+
+-- ---- a command that isn't done
+
+first_byte : List ℕ → ℕ
+first_byte [] = 0
+first_byte (x ∷ xs) = x
+
+-- the reply of a trouble begins with `r` or `p`
+no_trouble : (text : List ℕ) → first_byte text ≢ 114 → first_byte text ≢ 112 → IsTrouble (answer.Lines text) → ⊥
+no_trouble text r p (inl w) = r (ap first_byte w.1)
+no_trouble text r p (inr (inl w)) = p (ap first_byte w.1)
+no_trouble text r p (inr (inr e)) = p (ap first_byte e)
+
+done_by : (n : ℕ) (text bytes : List ℕ) → BeginsWith bytes text → ((rest : List ℕ) → first_byte (bytes ++ rest) ≡ n) → n ≢ 114 → n ≢ 112 → IsTrouble (answer.Lines text) → ⊥
+done_by n text bytes w first r p = let e : first_byte text ≡ n = ap first_byte w.1 ∙ first w.0 in no_trouble text (λ h. r (sym e ∙ h)) (λ h. p (sym e ∙ h))
+
+module _ (P : Type 0) (text : List ℕ) (told : IsTrouble (answer.Lines text)) where
+  -- a command that says that it is done tells no trouble
+  done_or_query : (c : Command) → c ≢ command.Continue → c ≢ command.Step → c ≢ command.Quit → SaysDone c text → (IsQuery c → P) → P
+  done_or_query (command.Break spot) n s q w asks = absurd (done_by 98 text (codes "break ") w (λ rest. refl) (λ e. cc) (λ e. cc) told)
+  done_or_query (command.Clear spot) n s q w asks = absurd (done_by 99 text (codes "clear ") w (λ rest. refl) (λ e. cc) (λ e. cc) told)
+  done_or_query (command.Frame k) n s q w asks = absurd (done_by 102 text (codes "frame ") w (λ rest. refl) (λ e. cc) (λ e. cc) told)
+  done_or_query command.Continue n s q w asks = absurd (n refl)
+  done_or_query command.Step n s q w asks = absurd (s refl)
+  done_or_query command.Quit n s q w asks = absurd (q refl)
+  done_or_query (command.Turns k) n s q w asks = asks tt
+  done_or_query command.Frames n s q w asks = asks tt
+  done_or_query (command.Print name) n s q w asks = asks tt
+  done_or_query (command.Eval e) n s q w asks = asks tt
+  done_or_query (command.Assign e) n s q w asks = asks tt
+  done_or_query command.Regs n s q w asks = asks tt
+  done_or_query (command.Code e) n s q w asks = asks tt
+  done_or_query (command.Ps t) n s q w asks = asks tt
+
+module _ (P : Type 0) (c : Command) (broken : List ℕ) (old new : Mode) (a : Answer) (asks : IsQuery c → P) (tells : TellsTrouble broken (Ok a)) where
+  -- one that tells a trouble over a link that goes on leaves what an undone one leaves
+  pub undone_leaves : (said : Result (List ℕ) AskFault) → c ≢ command.Continue → c ≢ command.Step → c ≢ command.Quit → IfOk said (λ text. SaysDone c text) → IfOk said (λ text. (a ≡ answer.Lines text) × (new ≡ old)) → IfErr said (λ fault. AnswersFault broken old new fault a) → (IsUndone said → P) → P
+  undone_leaves (Ok text) n s q w ok err leaves = done_or_query P text (subst IsTrouble ok.0 tells.0) c n s q w asks
+  undone_leaves (Err (Refused cause)) n s q w ok err leaves = leaves tt
+  undone_leaves (Err (Raised e)) n s q w ok err leaves = leaves tt
+  undone_leaves (Err Spent) n s q w ok err leaves = leaves tt
+  undone_leaves (Err NoMemory) n s q w ok err leaves = leaves tt
+  undone_leaves (Err (Broken f)) n s q w ok err leaves = absurd (tells.1 (ap (λ (z : Answer). Ok z) err.1))
 
 pub limit_line : (n : ℕ) → limit_reply n ≡ joined ((codes "limit " ++ decimal n) ∷ [])
 limit_line n = sym (append_assoc (codes "limit ") (decimal n) (codes "\n")) ∙ sym (append-nil ((codes "limit " ++ decimal n) ++ codes "\n"))

@@ -23,6 +23,7 @@ returns-in-Ok g c = record {
   refused = search rules;
   no_memory = c.obey.ensures.no_memory;
   query = λ d h q. (let same : c.in-Ok.command ≡ d = cc (c.in-Ok.ensures.ok, h) in c.obey.ensures.query (subst (λ (x : Command). IsQuery x) (sym same) q));
+  undone = λ d h n m told. (let same : c.in-Ok.command ≡ d = cc (c.in-Ok.ensures.ok, h) in let no : c.in-Ok.command ≢ Quit = search rules in c.obey.ensures.undone (λ e. n (sym same ∙ e)) (λ e. m (sym same ∙ e)) no told);
   out_fault = search rules;
   limit = search rules;
   asked = λ d h n m. (let same : c.in-Ok.command ≡ d = cc (c.in-Ok.ensures.ok, h) in c.obey.ensures.asked (λ e. n (sym same ∙ e)) (λ e. m (sym same ∙ e)));

@@ -1,11 +1,13 @@
-use Rattle.std.proofs.Common.{rules, ◌≡◌, ◌∙◌, ap, sym, refl, subst, inl, inr, codes, decimal, ℕ, List, [], ◌∷◌, ◌++◌, None, Some, Ok}
+use Rattle.std.proofs.Common.{rules, ◌≡◌, ◌∙◌, ap, sym, refl, subst, inl, inr, codes, decimal, ℕ, List, [], ◌∷◌, ◌++◌, Option, None, Some, Ok}
 use Rattle.c_session.specs.declared.command.Command.{Command}
 use Rattle.c_session.specs.declared.command.Command.TheVariants as command
 use Rattle.c_session.specs.Commands.{ByStep, ByContinue}
 use Rattle.claims.specs.Outcome.{refused_by_state, AnswersCommand}
 use Rattle.session.specs.Answered.{state_of, reason_of, limit_reply}
 use Rattle.session.specs.Meant.{AnswersAs, MeantAnswers, ResumesAs}
-use Rattle.session.proofs.Answering.{refuses, refused, unrefused, answers_to, says_lines, new_limit, limit_line, replied, left_so, askable, continue_resumes, step_resumes}
+use Rattle.session.specs.declared.sides.SideRecord.{SideRecord}
+use Rattle.session.specs.Kept.{IsKept, AreKept, TellsTrouble}
+use Rattle.session.proofs.Answering.{undone_leaves, refuses, refused, unrefused, answers_to, says_lines, new_limit, limit_line, replied, left_so, askable, continue_resumes, step_resumes}
 use Rattle.session.proofs.conversation.Session.obey.Goals as goal
 
 pub returns-in-Some-clause-meant : goal.returns-in-Some-clause-meant
@@ -83,3 +85,13 @@ returns-in_default-command-clause-meant g c = λ b hs st steady x said some.
     (ap (λ o. g.L.Link.faults o.memory.below.below.below.link) c.reply.ensures.talk) t in
     answers_to b g.L.Link.conduct o1 new.first new.second new.mode new.limit st out out (AnswersCommand b st cmd) (MeantAnswers b st (Some cmd)) (unrefused b st cmd e) f f2 now.broken (Ok c.reply.result)
     (subst (λ (z : List ℕ). AnswersAs b g.L.Link.conduct o1 new.first new.second new.mode new.limit st out out (AnswersCommand b st cmd) f f2 z (Ok c.reply.result)) c.inquire-said.ensures.broken u)
+
+pub returns-in_default-command-clause-undone : goal.returns-in_default-command-clause-undone
+returns-in_default-command-clause-undone g c = λ n s q told.
+    let now = c.args.self.now in
+    let mid = c.inquire-said.new.self in
+    let new = c.reply.new.self in
+    let kept =
+    undone_leaves (IsKept now.first mid.first × AreKept now.second mid.second) c.args.command.now mid.broken mid.mode new.mode c.reply.result c.inquire-said.ensures.query (subst (λ (z : List ℕ). TellsTrouble z (Ok c.reply.result)) (sym c.inquire-said.ensures.broken) told)
+    c.inquire-said.result n s q c.inquire-said.ensures.word c.reply.ensures.ok c.reply.ensures.fault c.inquire-said.ensures.kept in
+    (subst (λ (z : SideRecord). IsKept now.first z) (sym c.reply.ensures.first) kept.0, subst (λ (z : Option SideRecord). AreKept now.second z) (sym c.reply.ensures.second) kept.1)
