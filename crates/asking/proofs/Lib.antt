@@ -1,4 +1,5 @@
 mod Asked
+mod Begun
 mod Changed
 mod Chosen
 mod Listed

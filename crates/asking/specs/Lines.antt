@@ -1,5 +1,5 @@
 -- The lines of replies.
-use Rattle.std.specs.Prelude.{ℕ, suc, List, [], ◌∷◌, ◌++◌, codes, decimal, nat_eq, if◌then◌else◌}
+use Rattle.std.specs.Prelude.{◌≡◌, ℕ, suc, List, [], ◌∷◌, ◌++◌, codes, decimal, nat_eq, if◌then◌else◌}
 use Rattle.machine_state.specs.declared.layout.TheConstants.{SPARC}
 use Rattle.table_model.specs.Rows.{PointRow}
 use Rattle.ps_leaves.specs.Forms.{hex_text}
@@ -7,6 +7,10 @@ use Rattle.ps_leaves.specs.Forms.{hex_text}
 -- a text and its LF
 abbrev pub line : List ℕ → List ℕ
 line text = text ++ 10 ∷ []
+
+-- a text that begins with these bytes
+abbrev pub BeginsWith : (bytes text : List ℕ) → Type 0
+BeginsWith bytes text = (rest : List ℕ) × (text ≡ bytes ++ rest)
 
 -- `F:L.C`
 abbrev pub place_text : PointRow → List ℕ

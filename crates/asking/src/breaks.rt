@@ -1,6 +1,6 @@
 // `break` and `clear`.
 
-ghost use Rattle.std.specs.Prelude.{◌≡◌, ◌⊎◌, ◌≤◌, OnErr, IfErr, map, option_map};
+ghost use Rattle.std.specs.Prelude.{◌≡◌, ◌⊎◌, ◌≤◌, OnErr, IfErr, IfOk, codes, map, option_map};
 ghost use Rattle.machine_state.specs.declared.layout.TheConstants.{MIPS, SPARC};
 ghost use Rattle.ps_store.specs.Store.{closed_part};
 ghost use Rattle.break_plant.specs.Planted.{noop_of, break_of};
@@ -14,6 +14,7 @@ ghost use Rattle.table_asks.specs.Closing.{Settles};
 ghost use Rattle.table_asks.specs.Faults.{IsOwn};
 ghost use Rattle.table_asks.specs.Talking.{with_target};
 ghost use Rattle.asking.specs.Doing.{Changes, ChangesOver};
+ghost use Rattle.asking.specs.Lines.{BeginsWith};
 ghost use Rattle.asking.specs.Breaks.{same_point, has, rows_in, point_of_spot, planting_fault, broken_at, cleared_at, breaking, clearing};
 
 use crate::lines::point_text;
@@ -73,6 +74,7 @@ fn set<W: AbsMem + Drop>(
     place: Point,
 ) -> Result<Text, AskFault>
     ensures kept { OnErr result (breaks.new.items ≡ breaks.old.items) }
+    ensures word { IfOk result (λ text. BeginsWith (codes "break ") text) }
     ensures named { AllByRecursion (IsNamed inquiry.now.core.store) breaks.old.items → AllByRecursion (IsNamed inquiry.now.core.store) breaks.new.items }
     ensures meaning { Changes (λ b. broken_at talk.old.view.target (rows_in inquiry.now.core.store breaks.old.items) b (row_in inquiry.now.core.store place) (has (rows_in inquiry.now.core.store breaks.old.items) (row_in inquiry.now.core.store place))) (W.seen talk.old.memory.below.below.below) result (rows_in inquiry.now.core.store breaks.new.items) (W.seen talk.new.memory.below.below.below) }
     ensures calls { LedAsk W.leads talk.old.memory.below.below.below result talk.new.memory.below.below.below }
@@ -129,6 +131,7 @@ pub fn breaking<W: AbsMem + Drop>(
 ) -> Result<Text, AskFault>
     requires within { inquiry.old.steps.taken ≤ inquiry.old.steps.limit }
     ensures kept { OnErr result (breaks.new.items ≡ breaks.old.items) }
+    ensures word { IfOk result (λ text. BeginsWith (codes "break ") text) }
     ensures named { AllByRecursion (IsNamed inquiry.new.core.store) breaks.old.items → AllByRecursion (IsNamed inquiry.new.core.store) breaks.new.items }
     ensures within { inquiry.new.steps.taken ≤ inquiry.new.steps.limit }
     ensures limit { inquiry.new.steps.limit ≡ inquiry.old.steps.limit }
@@ -153,6 +156,7 @@ fn unset<W: AbsMem + Drop>(
     place: Point,
 ) -> Result<Text, AskFault>
     ensures kept { OnErr result (breaks.new.items ≡ breaks.old.items) }
+    ensures word { IfOk result (λ text. BeginsWith (codes "clear ") text) }
     ensures named { AllByRecursion (IsNamed inquiry.now.core.store) breaks.old.items → AllByRecursion (IsNamed inquiry.now.core.store) breaks.new.items }
     ensures meaning { Changes (λ b. cleared_at talk.old.view.target (rows_in inquiry.now.core.store breaks.old.items) b (row_in inquiry.now.core.store place) (has (rows_in inquiry.now.core.store breaks.old.items) (row_in inquiry.now.core.store place))) (W.seen talk.old.memory.below.below.below) result (rows_in inquiry.now.core.store breaks.new.items) (W.seen talk.new.memory.below.below.below) }
     ensures calls { LedAsk W.leads talk.old.memory.below.below.below result talk.new.memory.below.below.below }
@@ -186,6 +190,7 @@ pub fn clearing<W: AbsMem + Drop>(
 ) -> Result<Text, AskFault>
     requires within { inquiry.old.steps.taken ≤ inquiry.old.steps.limit }
     ensures kept { OnErr result (breaks.new.items ≡ breaks.old.items) }
+    ensures word { IfOk result (λ text. BeginsWith (codes "clear ") text) }
     ensures named { AllByRecursion (IsNamed inquiry.new.core.store) breaks.old.items → AllByRecursion (IsNamed inquiry.new.core.store) breaks.new.items }
     ensures within { inquiry.new.steps.taken ≤ inquiry.new.steps.limit }
     ensures limit { inquiry.new.steps.limit ≡ inquiry.old.steps.limit }

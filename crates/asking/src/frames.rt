@@ -1,6 +1,6 @@
 // `frames` and `frame`.
 
-ghost use Rattle.std.specs.Prelude.{◌≡◌, ◌≤◌, IfErr};
+ghost use Rattle.std.specs.Prelude.{◌≡◌, ◌≤◌, IfErr, IfOk, codes};
 ghost use Rattle.ps_store.specs.Store.{closed_part};
 ghost use Rattle.table_asks.specs.Closing.{Settles};
 ghost use Rattle.table_asks.specs.Faults.{IsUnrefused};
@@ -8,6 +8,7 @@ ghost use Rattle.table_asks.specs.Asking.{ComesOver, LedAsk};
 ghost use Rattle.table_asks.specs.Talking.{with_target};
 ghost use Rattle.table_read.specs.Reads.{in_ok};
 ghost use Rattle.table_model.specs.Frames.{row_of_target, told_frames};
+ghost use Rattle.asking.specs.Lines.{BeginsWith};
 ghost use Rattle.asking.specs.Frames.{listing, choosing, listed, listed_outward, Lists, LedList};
 
 use crate::lines::{append_frame, frames_text};
@@ -144,6 +145,7 @@ pub fn choosing<W: AbsMem + Drop>(
     ensures limit { inquiry.new.steps.limit ≡ inquiry.old.steps.limit }
     ensures more { inquiry.old.steps.taken ≤ inquiry.new.steps.taken }
     ensures closed { Settles (closed_part inquiry.old.core.store) (closed_part inquiry.new.core.store) }
+    ensures word { IfOk result (λ text. BeginsWith (codes "frame ") text) }
     ensures meaning { ComesOver (choosing (row_of_target talk.old.view.target) talk.old.view.context number) inquiry.old (W.seen talk.old.memory.below.below.below) result inquiry.new (W.seen talk.new.memory.below.below.below) }
     ensures calls { LedAsk W.leads talk.old.memory.below.below.below result talk.new.memory.below.below.below }
     ensures kept { talk.new ≡ with_target talk.old talk.new.memory.below.below.below }

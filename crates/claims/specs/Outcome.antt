@@ -87,12 +87,17 @@ abbrev pub undone_by : Command → (before after : SideState) → SideState
 undone_by (command.Ps text) a a' = with_memory a'.machine.memory (record a { table = a'.table })
 undone_by c a a' = record a { table = a'.table }
 
--- What is on the second side where the first one's command isn't done: `ps` has run there all the same; of any other command
--- units may have been run or not.
-abbrev pub SecondUndone : Command → Option SideState → Option SideState → Type 0
-SecondUndone c None second = second ≡ None
-SecondUndone (command.Ps text) (Some b) second = (r : _) × (b' : SideState) × OneSide (command.Ps text) b r b' × (second ≡ Some (undone_by (command.Ps text) b b'))
-SecondUndone c (Some b) second = (second ≡ Some b) ⊎ ((r : _) × (b' : SideState) × OneSide c b r b' × (second ≡ Some (undone_by c b b')))
+-- why a text of `ps` isn't done on the first side, or that memory was wanting for it on the second one
+abbrev pub told_of : Troubled → Result Change Troubled → Troubled
+told_of e (Err Wanting) = Wanting
+told_of e r = e
+
+-- What is on the second side where the first one's command isn't done for this, and what is told: `ps` has run there all the same,
+-- and where memory was wanting for that, this is told; of any other command units may have been run or not.
+abbrev pub SecondUndone : Troubled → Command → Option SideState → (told : Troubled) → Option SideState → Type 0
+SecondUndone e c None told second = (told ≡ e) × (second ≡ None)
+SecondUndone e (command.Ps text) (Some b) told second = (r : _) × (b' : SideState) × OneSide (command.Ps text) b r b' × (told ≡ told_of e r) × (second ≡ Some (undone_by (command.Ps text) b b'))
+SecondUndone e c (Some b) told second = (told ≡ e) × ((second ≡ Some b) ⊎ ((r : _) × (b' : SideState) × OneSide c b r b' × (second ≡ Some (undone_by c b b'))))
 
 module _ (st : SessionState) (c : Command) where
   -- The first side's command is done. One that the second side alone is refused is done on the first alone; where memory is
@@ -108,7 +113,7 @@ module _ (st : SessionState) (c : Command) where
 
   abbrev pub FirstCame : Result Change Troubled → SideState → Reply → SessionState → Type 0
   FirstCame (Ok change) a reply st' = FirstDone change a st.second reply st'
-  FirstCame (Err e) a reply st' = (second : Option SideState) × SecondUndone c st.second second × (reply ≡ trouble_reply e) × (st' ≡ record st { first = a; second = second })
+  FirstCame (Err e) a reply st' = (told : Troubled) × (second : Option SideState) × SecondUndone e c st.second told second × (reply ≡ trouble_reply told) × (st' ≡ record st { first = a; second = second })
 
   abbrev pub DoneOnBoth : Reply → SessionState → Type 0
   DoneOnBoth reply st' = (r : Result Change Troubled) × (a : SideState) × OneSide c st.first r a × FirstCame r a reply st'

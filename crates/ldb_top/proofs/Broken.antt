@@ -161,8 +161,8 @@ module _ (raw : Bool) (st : SessionState) (s s' : Session World) (line : List �
   said_part : (text told put : List ℕ) → (c : Option Command) → c ≡ read_of s.raw line → IsSaidIfAny c ⊎ (¬ IsSaidIfAny c) → is_empty line ≡ false → r ≡ Ok (answer.Lines text) → kept ≡ Some [] → kept' ≡ Some bytes → AnswersLine s s' line st kept kept' r
       → RefusesLine s s' line bytes r → IsFront told text → IsFront put bytes → (told ≡ []) ⊎ (put ≡ bytes) → taken' ≡ known_and taken told → out' ≡ Some (st.written ++ put) → Part
   said_part text told put c e (inl said) full is none holds meant refuses front put_front order took added =
-      elim (subst (λ x. AnswersAs machine_behaviour near_conduct (Some s'.talk.memory.below.below.below.link) s'.first s'.second s'.mode s'.limit st kept kept' (MeantAnswers machine_behaviour st (read_of s.raw line)) 0 0 x) is (meant over.hosts over.represents full (subst (λ x. IsSaidIfAny x) e said))) [
-        | inl rose ↦ absurd (none_rose rose)
+      elim (subst (λ x. AnswersAs machine_behaviour near_conduct (Some s'.talk.memory.below.below.below.link) s'.first s'.second s'.mode s'.limit st kept kept' (MeantAnswers machine_behaviour st (read_of s.raw line)) 0 0 s.broken x) is (meant over.hosts over.represents full (subst (λ x. IsSaidIfAny x) e said))) [
+        | inl off ↦ absurd (none_rose off.0)
         | inr a ↦
             let b = subst (λ k. Answered machine_behaviour near_conduct (Some s'.talk.memory.below.below.below.link) s'.first s'.second s'.mode s'.limit st k kept' (MeantAnswers machine_behaviour st (read_of s.raw line)) text) none a in
             let all : b.output ≡ bytes = cc (b.put, holds) in
@@ -207,7 +207,7 @@ module _ (raw : Bool) (st : SessionState) (s s' : Session World) (line : List �
       → RefusesLine s s' line bytes r → IsFront put bytes → taken' ≡ taken → out' ≡ Some (st.written ++ put) → Part
   put_part put c e (inl said) full is none holds meant refuses put_front took added =
       let a : PutInPart st kept kept' (MeantAnswers machine_behaviour st (read_of s.raw line)) =
-      subst (λ x. AnswersAs machine_behaviour near_conduct (Some s'.talk.memory.below.below.below.link) s'.first s'.second s'.mode s'.limit st kept kept' (MeantAnswers machine_behaviour st (read_of s.raw line)) 0 0 x) is (meant over.hosts over.represents full (subst (λ x. IsSaidIfAny x) e said)) in
+      subst (λ x. AnswersAs machine_behaviour near_conduct (Some s'.talk.memory.below.below.below.link) s'.first s'.second s'.mode s'.limit st kept kept' (MeantAnswers machine_behaviour st (read_of s.raw line)) 0 0 s.broken x) is (meant over.hosts over.represents full (subst (λ x. IsSaidIfAny x) e said)) in
       let f : sink.TakesFront (Some []) kept' a.output = subst (λ k. sink.TakesFront k kept' a.output) none a.front in
       let all : f.front ≡ bytes = cc (f.taken, holds) in
       answered_part [] put (joined a.reply) a.output a.reply a.after full (subst (λ x. Answers machine_behaviour st (read_of x line) a.reply a.after) over.raw_is a.says) refl a.written (nothing_front (joined a.reply))

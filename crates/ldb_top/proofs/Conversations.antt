@@ -186,7 +186,7 @@ none_rose r = omega (arith, r.higher)
 abbrev pub AnswersLine : (s s' : Session World) → (line : List ℕ) → SessionState → (kept kept' : Option (List ℕ)) → Result Answer End → Type 0
 AnswersLine s s' line st kept kept' r =
     (hs : Hosts) → Represents machine_behaviour near_conduct (Some s.talk.memory.below.below.below.link) s.first s.second s.mode s.limit hs st → is_empty line ≡ false → IsSaidIfAny (read_of s.raw line)
-    → AnswersAs machine_behaviour near_conduct (Some s'.talk.memory.below.below.below.link) s'.first s'.second s'.mode s'.limit st kept kept' (MeantAnswers machine_behaviour st (read_of s.raw line)) 0 0 r
+    → AnswersAs machine_behaviour near_conduct (Some s'.talk.memory.below.below.below.link) s'.first s'.second s'.mode s'.limit st kept kept' (MeantAnswers machine_behaviour st (read_of s.raw line)) 0 0 s.broken r
 
 -- what it answers to a command that its state refuses
 abbrev pub RefusesLine : (s s' : Session World) → (line bytes : List ℕ) → Result Answer End → Type 0
@@ -211,8 +211,8 @@ module _ (raw : Bool) (st : SessionState) (s s' : Session World) (line : List �
   said_so : (text : List ℕ) → (c : Option Command) → c ≡ read_of s.raw line → IsSaidIfAny c ⊎ (¬ IsSaidIfAny c) → is_empty line ≡ false → r ≡ Ok (answer.Lines text) → s'.raw ≡ s.raw → kept ≡ Some [] → kept' ≡ Some bytes → AnswersLine s s' line st kept kept' r → RefusesLine s s' line bytes r
       → taken' ≡ known_and taken text → out' ≡ Some (st.written ++ bytes) → GoesSo raw st (here (line_and line lines) taken out) s' (here lines taken' out')
   said_so text c e (inl said) full is raws none holds meant refuses told put =
-      elim (subst (λ x. AnswersAs machine_behaviour near_conduct (Some s'.talk.memory.below.below.below.link) s'.first s'.second s'.mode s'.limit st kept kept' (MeantAnswers machine_behaviour st (read_of s.raw line)) 0 0 x) is (meant over.hosts over.represents full (subst (λ x. IsSaidIfAny x) e said))) [
-        | inl rose ↦ absurd (none_rose rose)
+      elim (subst (λ x. AnswersAs machine_behaviour near_conduct (Some s'.talk.memory.below.below.below.link) s'.first s'.second s'.mode s'.limit st kept kept' (MeantAnswers machine_behaviour st (read_of s.raw line)) 0 0 s.broken x) is (meant over.hosts over.represents full (subst (λ x. IsSaidIfAny x) e said))) [
+        | inl off ↦ absurd (none_rose off.0)
         | inr a ↦ answered_so raw st s s' line lines taken taken' out out' kept' text bytes full over raws (subst (λ k. Answered machine_behaviour near_conduct (Some s'.talk.memory.below.below.below.link) s'.first s'.second s'.mode s'.limit st k kept' (MeantAnswers machine_behaviour st (read_of s.raw line)) text) none a) holds told put
       ]
   said_so text c e (inr unsaid) full is raws none holds meant refuses told put =

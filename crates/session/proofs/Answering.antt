@@ -24,6 +24,7 @@ use Rattle.c_session.specs.Commands.{Resume, ByStep, ByContinue, Refusal, refusa
 use Rattle.table_asks.specs.declared.fault.AskFault.{AskFault}
 use Rattle.table_asks.specs.declared.fault.AskFault.TheVariants.{Refused, Raised, Spent, NoMemory, Broken}
 use Rattle.asking.specs.Refusals.{refusal_of}
+use Rattle.asking.specs.Lines.{BeginsWith}
 use Rattle.asking_meaning.specs.Meant.{joined}
 use Rattle.claims.specs.Side.{SideEvent, SideState, SessionState, State, Fresh, Stopped, Running, Ended}
 use Rattle.claims.specs.Lines.{Reply, event_text, trouble_reply}
@@ -45,11 +46,11 @@ use Rattle.session.specs.declared.answers.Answer.TheVariants as answer
 use Rattle.session.specs.declared.modes.Mode.{Mode}
 use Rattle.session.specs.declared.sides.SideRecord.{SideRecord}
 use Rattle.session.specs.Answered as session
-use Rattle.session.specs.Answered.{state_of, refusal_reply, limit_reply, error_reply, spent_reply}
+use Rattle.session.specs.Answered.{state_of, refusal_reply, limit_reply, error_reply, spent_reply, IsTrouble}
 use Rattle.session.specs.declared.answers.End.{End}
 use Rattle.session.specs.declared.answers.End.TheVariants as end
 use Rattle.session.specs.Events.{event_line}
-use Rattle.session.specs.Kept.{AnswersFault}
+use Rattle.session.specs.Kept.{AnswersFault, IsBrokenOff, IsUndone, IsQuery, TellsTrouble, SaysDone}
 use Rattle.session.specs.Resuming.{StandsStill, OnSecond, goes_on}
 use Rattle.session.specs.Meant.{debugged, kind_of, other_kind, second_of, sides_of, IsThere, IsSecond, Hosts, AreThere, AreSteady, Represents, ComesTo, AllPrepared, AllResumed, ResumesAll, MayAlsoRun, SaidAll, NotAll, PutInPart, Answered, AnswersAs, MeantAnswers, ResumesAs, IsSaid, IsAskable, IsResumable}
 use Rattle.session.proofs.Behind.{event_of_all, sides_behind, are_resumed}
@@ -83,14 +84,17 @@ module _ (b : Behaviour) (c : Conduct) (o : Option World) (first : SideRecord) (
   by_text : (mode : Mode) (text t : List ℕ) → st.state ≡ state_of mode → text ≡ t → SaidAll b c o first second st Says t → Answered b c o first second mode limit st taken taken' Says text
   by_text mode text t state e s = said mode text state (subst (SaidAll b c o first second st Says) (sym e) s)
 
+  text_same : (text t : List ℕ) → answer.Lines text ≡ answer.Lines t → text ≡ t
+  text_same text t e = cc
+
   -- so is the reply of a trouble
   pub troubled : {A : Type 0} (Done : A → Type 0) (fault : AskFault) (broken : List ℕ) (old new : Mode) (f f' : ℕ) (a : Answer) → st.state ≡ state_of old → ComesTo f f' Done (NotAll b c o first second st Says) (Err fault) → AnswersFault broken old new fault a
-      → AnswersAs b c o first second new limit st taken taken' Says f f' (Ok a)
+      → AnswersAs b c o first second new limit st taken taken' Says f f' broken (Ok a)
   troubled Done (Refused cause) broken old new f f' (answer.Lines text) state n h = inr (by_text new text _ (state ∙ ap state_of (sym h.0)) (h.1 ∙ refusal_line (refusal_of cause)) n)
   troubled Done (Raised e) broken old new f f' (answer.Lines text) state n h = inr (by_text new text _ (state ∙ ap state_of (sym h.0)) (h.1 ∙ error_line e) n)
   troubled Done Spent broken old new f f' (answer.Lines text) state n h = inr (by_text new text _ (state ∙ ap state_of (sym h.0)) h.1 n)
   troubled Done NoMemory broken old new f f' (answer.Lines text) state n h = absurd h.1
-  troubled Done (Broken LinkFault) broken old new f f' (answer.Lines text) state n h = inl n
+  troubled Done (Broken LinkFault) broken old new f f' (answer.Lines text) state n h = inl (n, h.0, text_same text broken h.1)
   troubled Done (Broken (BadReply frame)) broken old new f f' (answer.Lines text) state n h = absurd n
   troubled Done (Broken (Outside p)) broken old new f f' (answer.Lines text) state n h = absurd n
   troubled Done (Refused cause) broken old new f f' answer.NoMemory state n h = tt
@@ -101,9 +105,9 @@ module _ (b : Behaviour) (c : Conduct) (o : Option World) (first : SideRecord) (
 
   -- what was said, or a trouble
   pub replied : {T : Type 0} (of : T → List ℕ) (it : Result T AskFault) (broken : List ℕ) (old new : Mode) (f f' : ℕ) (a : Answer) → st.state ≡ state_of old → ComesTo f f' (λ t. SaidAll b c o first second st Says (of t)) (NotAll b c o first second st Says) it
-      → IfOk it (λ t. (a ≡ answer.Lines (of t)) × (new ≡ old)) → IfErr it (λ fault. AnswersFault broken old new fault a) → AnswersAs b c o first second new limit st taken taken' Says f f' (Ok a)
+      → IfOk it (λ t. (a ≡ answer.Lines (of t)) × (new ≡ old)) → IfErr it (λ fault. AnswersFault broken old new fault a) → AnswersAs b c o first second new limit st taken taken' Says f f' broken (Ok a)
   replied of (Ok t) broken old new f f' a state n h k =
-      subst (λ (z : Answer). AnswersAs b c o first second new limit st taken taken' Says f f' (Ok z)) (sym h.0) (inr (said new (of t) (state ∙ ap state_of (sym h.1)) n))
+      subst (λ (z : Answer). AnswersAs b c o first second new limit st taken taken' Says f f' broken (Ok z)) (sym h.0) (inr (said new (of t) (state ∙ ap state_of (sym h.1)) n))
   replied of (Err fault) broken old new f f' a state n h k = troubled (λ t. SaidAll b c o first second st Says (of t)) fault broken old new f f' a state n k
 
 -- ---- sides that are prepared
@@ -258,8 +262,8 @@ module _ (b : Behaviour) (c : Conduct) (o : Option World) (first : SideRecord) (
   }
 
   -- a refusal
-  pub refuses : (u : Refusal) (f f' : ℕ) (r : Result Answer End) → Represents b c o first second mode limit hs st → Says (refusal_text u ∷ []) st → session.Answers (refusal_reply u) r → AnswersAs b c o first second mode limit st taken taken' Says f f' r
-  refuses u f f' (Ok (answer.Lines text)) x says h = inr (record {
+  pub refuses : (u : Refusal) (f f' : ℕ) (broken : List ℕ) (r : Result Answer End) → Represents b c o first second mode limit hs st → Says (refusal_text u ∷ []) st → session.Answers (refusal_reply u) r → AnswersAs b c o first second mode limit st taken taken' Says f f' broken r
+  refuses u f f' broken (Ok (answer.Lines text)) x says h = inr (record {
     reply = refusal_text u ∷ [];
     after = st;
     hosts = hs;
@@ -270,12 +274,12 @@ module _ (b : Behaviour) (c : Conduct) (o : Option World) (first : SideRecord) (
     written = sym (append-nil st.written);
     put = none ∙ known_none taken;
   })
-  refuses u f f' (Ok answer.NoMemory) x says h = tt
-  refuses u f f' (Err e) x says h = absurd h
+  refuses u f f' broken (Ok answer.NoMemory) x says h = tt
+  refuses u f f' broken (Err e) x says h = absurd h
 
-module _ (b : Behaviour) (c : Conduct) (o : Option World) (first : SideRecord) (second : Option SideRecord) (mode : Mode) (limit : ℕ) (st : SessionState) (taken taken' : Option (List ℕ)) (Says Says' : Reply → SessionState → Type 0) (to : (reply : Reply) (st' : SessionState) → Says reply st' → Says' reply st') (f f' : ℕ) where
+module _ (b : Behaviour) (c : Conduct) (o : Option World) (first : SideRecord) (second : Option SideRecord) (mode : Mode) (limit : ℕ) (st : SessionState) (taken taken' : Option (List ℕ)) (Says Says' : Reply → SessionState → Type 0) (to : (reply : Reply) (st' : SessionState) → Says reply st' → Says' reply st') (f f' : ℕ) (broken : List ℕ) where
   -- the same answer, where it is said of more
-  pub answers_to : (r : Result Answer End) → AnswersAs b c o first second mode limit st taken taken' Says f f' r → AnswersAs b c o first second mode limit st taken taken' Says' f f' r
+  pub answers_to : (r : Result Answer End) → AnswersAs b c o first second mode limit st taken taken' Says f f' broken r → AnswersAs b c o first second mode limit st taken taken' Says' f f' broken r
   answers_to (Ok (answer.Lines text)) (inl h) = inl h
   answers_to (Ok (answer.Lines text)) (inr h) = inr (record {
     reply = h.reply;
@@ -332,6 +336,49 @@ askable (command.Assign text) h n s t q = absurd h
 askable (command.Code text) h n s t q = absurd h
 askable (command.Ps text) h n s t q = h
 
+-- ---- a command that isn't done
+
+abbrev first_byte : List ℕ → ℕ
+first_byte [] = 0
+first_byte (x ∷ xs) = x
+
+-- the reply of a trouble begins with `r` or `p`
+no_trouble : (text : List ℕ) → first_byte text ≢ 114 → first_byte text ≢ 112 → IsTrouble (answer.Lines text) → ⊥
+no_trouble text r p (inl w) = r (ap first_byte w.1)
+no_trouble text r p (inr (inl w)) = p (ap first_byte w.1)
+no_trouble text r p (inr (inr e)) = p (ap first_byte e)
+
+done_by : (n : ℕ) (text bytes : List ℕ) → BeginsWith bytes text → ((rest : List ℕ) → first_byte (bytes ++ rest) ≡ n) → n ≢ 114 → n ≢ 112 → IsTrouble (answer.Lines text) → ⊥
+done_by n text bytes w first r p = let e : first_byte text ≡ n = ap first_byte w.1 ∙ first w.0 in no_trouble text (λ h. r (sym e ∙ h)) (λ h. p (sym e ∙ h))
+
+module _ (P : Type 0) (text : List ℕ) (told : IsTrouble (answer.Lines text)) where
+  -- a command that says that it is done tells no trouble
+  done_or_query : (c : Command) → c ≢ command.Continue → c ≢ command.Step → c ≢ command.Quit → SaysDone c text → (IsQuery c → P) → P
+  done_or_query (command.Break spot) n s q w asks = absurd (done_by 98 text (codes "break ") w (λ rest. refl) (λ e. absurd (omega (arith, e))) (λ e. absurd (omega (arith, e))) told)
+  done_or_query (command.Clear spot) n s q w asks = absurd (done_by 99 text (codes "clear ") w (λ rest. refl) (λ e. absurd (omega (arith, e))) (λ e. absurd (omega (arith, e))) told)
+  done_or_query (command.Frame k) n s q w asks = absurd (done_by 102 text (codes "frame ") w (λ rest. refl) (λ e. absurd (omega (arith, e))) (λ e. absurd (omega (arith, e))) told)
+  done_or_query command.Continue n s q w asks = absurd (n refl)
+  done_or_query command.Step n s q w asks = absurd (s refl)
+  done_or_query command.Quit n s q w asks = absurd (q refl)
+  done_or_query (command.Turns k) n s q w asks = asks tt
+  done_or_query command.Frames n s q w asks = asks tt
+  done_or_query (command.Print name) n s q w asks = asks tt
+  done_or_query (command.Eval e) n s q w asks = asks tt
+  done_or_query (command.Assign e) n s q w asks = asks tt
+  done_or_query command.Regs n s q w asks = asks tt
+  done_or_query (command.Code e) n s q w asks = asks tt
+  done_or_query (command.Ps t) n s q w asks = asks tt
+
+module _ (P : Type 0) (c : Command) (broken : List ℕ) (old new : Mode) (a : Answer) (asks : IsQuery c → P) (tells : TellsTrouble broken (Ok a)) where
+  -- one that tells a trouble over a link that goes on leaves what an undone one leaves
+  pub undone_leaves : (said : Result (List ℕ) AskFault) → c ≢ command.Continue → c ≢ command.Step → c ≢ command.Quit → IfOk said (λ text. SaysDone c text) → IfOk said (λ text. (a ≡ answer.Lines text) × (new ≡ old)) → IfErr said (λ fault. AnswersFault broken old new fault a) → (IsUndone said → P) → P
+  undone_leaves (Ok text) n s q w ok err leaves = done_or_query P text (subst IsTrouble ok.0 tells.0) c n s q w asks
+  undone_leaves (Err (Refused cause)) n s q w ok err leaves = leaves tt
+  undone_leaves (Err (Raised e)) n s q w ok err leaves = leaves tt
+  undone_leaves (Err Spent) n s q w ok err leaves = leaves tt
+  undone_leaves (Err NoMemory) n s q w ok err leaves = leaves tt
+  undone_leaves (Err (Broken f)) n s q w ok err leaves = absurd (tells.1 (ap (λ (z : Answer). Ok z) err.1))
+
 pub limit_line : (n : ℕ) → limit_reply n ≡ joined ((codes "limit " ++ decimal n) ∷ [])
 limit_line n = sym (append_assoc (codes "limit ") (decimal n) (codes "\n")) ∙ sym (append-nil ((codes "limit " ++ decimal n) ++ codes "\n"))
 
@@ -341,15 +388,15 @@ new_limit b c o first second mode limit n hs st x = record { there = x.there; si
 
 -- ---- behind a call that leaves the sides
 
-module _ (b : Behaviour) (c : Conduct) (mode : Mode) (st : SessionState) (taken taken' : Option (List ℕ)) (Says : Reply → SessionState → Type 0) (f : ℕ) (r : Result Answer End) where
+module _ (b : Behaviour) (c : Conduct) (mode : Mode) (st : SessionState) (taken taken' : Option (List ℕ)) (Says : Reply → SessionState → Type 0) (f : ℕ) (broken : List ℕ) (r : Result Answer End) where
   pub left_so : (o o' : Option World) (first first' : SideRecord) (second second' : Option SideRecord) (limit limit' g g' : ℕ) → o' ≡ o → first' ≡ first → second' ≡ second → limit' ≡ limit → g' ≡ g
-      → AnswersAs b c o first second mode limit st taken taken' Says f g r → AnswersAs b c o' first' second' mode limit' st taken taken' Says f g' r
+      → AnswersAs b c o first second mode limit st taken taken' Says f g broken r → AnswersAs b c o' first' second' mode limit' st taken taken' Says f g' broken r
   left_so o o' first first' second second' limit limit' g g' e1 e2 e3 e4 e5 h =
-      subst (λ (z : Option World). AnswersAs b c z first' second' mode limit' st taken taken' Says f g' r) (sym e1)
-      (subst (λ (z : SideRecord). AnswersAs b c o z second' mode limit' st taken taken' Says f g' r) (sym e2)
-      (subst (λ (z : Option SideRecord). AnswersAs b c o first z mode limit' st taken taken' Says f g' r) (sym e3)
-      (subst (λ (z : ℕ). AnswersAs b c o first second mode z st taken taken' Says f g' r) (sym e4)
-      (subst (λ (z : ℕ). AnswersAs b c o first second mode limit st taken taken' Says f z r) (sym e5) h))))
+      subst (λ (z : Option World). AnswersAs b c z first' second' mode limit' st taken taken' Says f g' broken r) (sym e1)
+      (subst (λ (z : SideRecord). AnswersAs b c o z second' mode limit' st taken taken' Says f g' broken r) (sym e2)
+      (subst (λ (z : Option SideRecord). AnswersAs b c o first z mode limit' st taken taken' Says f g' broken r) (sym e3)
+      (subst (λ (z : ℕ). AnswersAs b c o first second mode z st taken taken' Says f g' broken r) (sym e4)
+      (subst (λ (z : ℕ). AnswersAs b c o first second mode limit st taken taken' Says f z broken r) (sym e5) h))))
 
 -- ---- a link that failed in a run
 
@@ -362,6 +409,6 @@ pub run_failed : (b : Behaviour) (c : Conduct) (o : Option World) (one one' : Si
 run_failed b c o one one' two two' hs limit f f' taken taken' y x is h =
     failed_by b c o one one' two two' hs limit f f' taken taken' x (subst (λ (v : RunFault). ResumesAll b c o one one' two two' hs limit f f' taken taken' (Err v)) is h)
 
-pub broken_off : (b : Behaviour) (c : Conduct) (o : Option World) (first : SideRecord) (second : Option SideRecord) (mode : Mode) (limit : ℕ) (st : SessionState) (taken taken' : Option (List ℕ)) (Says : Reply → SessionState → Type 0) (f g : ℕ) (a : Answer) (text : List ℕ)
-    → a ≡ answer.Lines text → Rose f g → AnswersAs b c o first second mode limit st taken taken' Says f g (Ok a)
-broken_off b c o first second mode limit st taken taken' Says f g a text e h = subst (λ (z : Answer). AnswersAs b c o first second mode limit st taken taken' Says f g (Ok z)) (sym e) (inl h)
+pub broken_off : (b : Behaviour) (c : Conduct) (o : Option World) (first : SideRecord) (second : Option SideRecord) (mode : Mode) (limit : ℕ) (st : SessionState) (taken taken' : Option (List ℕ)) (Says : Reply → SessionState → Type 0) (f g : ℕ) (a : Answer) (broken text : List ℕ)
+    → a ≡ answer.Lines text → IsBrokenOff f g broken mode text → AnswersAs b c o first second mode limit st taken taken' Says f g broken (Ok a)
+broken_off b c o first second mode limit st taken taken' Says f g a broken text e h = subst (λ (z : Answer). AnswersAs b c o first second mode limit st taken taken' Says f g broken (Ok z)) (sym e) (inl h)

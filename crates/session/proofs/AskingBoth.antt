@@ -14,7 +14,7 @@ use Rattle.table_asks.specs.declared.fault.AskFault.{AskFault}
 use Rattle.table_asks.specs.declared.fault.AskFault.TheVariants.{Refused, Raised, Spent, NoMemory, Broken}
 use Rattle.ps_step.specs.declared.machine.PsCore.{PsCore}
 use Rattle.dialect_model.specs.Dial.{Dial, Target}
-use Rattle.dialect_model.specs.TableUse.{Kind}
+use Rattle.dialect_model.specs.TableUse.{Kind, Wanting}
 use Rattle.dialect_model.specs.TableUse.{Refused as RefusedFor, Spent as StepsSpent}
 use Rattle.c_session.specs.declared.command.Spot.{Spot}
 use Rattle.c_session.specs.declared.command.Command.{Command}
@@ -27,7 +27,7 @@ use Rattle.claims.specs.Breaks as side_breaks
 use Rattle.claims.specs.Frames as side_frames
 use Rattle.claims.specs.Printing as side_printing
 use Rattle.claims.specs.Raw.{RunsPs, wants, not_begun, ended, wanting, wanting_at_end, with_run}
-use Rattle.claims.specs.Outcome.{Comes, OneSide, DoneOnBoth, SecondDone, SecondUndone, undone_by}
+use Rattle.claims.specs.Outcome.{Comes, OneSide, DoneOnBoth, SecondDone, SecondUndone, told_of, undone_by}
 use Rattle.side_meaning.specs.Standing.{Debugged}
 use Rattle.side_meaning.specs.Stepping.{IsReady}
 use Rattle.side_meaning.specs.Asking.{IsAsked}
@@ -99,21 +99,29 @@ not_sets c n m s = s
 abbrev some_side : SideState → Option SideState
 some_side x = Some x
 
-second_left : (c : Command) → IsInquiry c → IsNoText c → (b : SideState) → SecondUndone c (Some b) (Some b)
-second_left (command.Break spot) p apart b = inl refl
-second_left (command.Clear spot) p apart b = inl refl
-second_left command.Frames p apart b = inl refl
-second_left (command.Frame n) p apart b = inl refl
-second_left (command.Ps text) p apart b = absurd (apart text refl)
-second_left command.Continue p apart b = absurd p
-second_left command.Step p apart b = absurd p
-second_left (command.Turns n) p apart b = absurd p
-second_left command.Quit p apart b = absurd p
-second_left command.Regs p apart b = absurd p
-second_left (command.Print name) p apart b = inl refl
-second_left (command.Eval text) p apart b = absurd p
-second_left (command.Assign text) p apart b = absurd p
-second_left (command.Code text) p apart b = absurd p
+second_left : (e : Troubled) (c : Command) → IsInquiry c → IsNoText c → (b : SideState) → SecondUndone e c (Some b) e (Some b)
+second_left e (command.Break spot) p apart b = (refl, inl refl)
+second_left e (command.Clear spot) p apart b = (refl, inl refl)
+second_left e command.Frames p apart b = (refl, inl refl)
+second_left e (command.Frame n) p apart b = (refl, inl refl)
+second_left e (command.Ps text) p apart b = absurd (apart text refl)
+second_left e command.Continue p apart b = absurd p
+second_left e command.Step p apart b = absurd p
+second_left e (command.Turns n) p apart b = absurd p
+second_left e command.Quit p apart b = absurd p
+second_left e command.Regs p apart b = absurd p
+second_left e (command.Print name) p apart b = (refl, inl refl)
+second_left e (command.Eval text) p apart b = absurd p
+second_left e (command.Assign text) p apart b = absurd p
+second_left e (command.Code text) p apart b = absurd p
+
+-- where memory was found on the second side, the first one's trouble is told
+told_same : (e : Troubled) (r : Result Change Troubled) → r ≢ Err Wanting → told_of e r ≡ e
+told_same e (Ok x) n = refl
+told_same e (Err (RefusedFor u)) n = refl
+told_same e (Err (Kind x)) n = refl
+told_same e (Err StepsSpent) n = refl
+told_same e (Err Wanting) n = absurd (n refl)
 
 -- ---- a side that doesn't do it
 
@@ -212,7 +220,7 @@ module _ (b : Behaviour) (c : Conduct) (o o1 : Option World) (first first' secon
     first_not : IsNoText now → (e : Troubled) → NotOne b c o1 first first' g (Some h) now st.first e → NotAll b c o1 first' (Some second) two (DoneOnBoth two now) e
     first_not apart e x =
         said (Err e) x o1 second h s (trouble_reply e) (joined (trouble_reply e)) refl (waits (Err e) x) x.there (asked_none (debugged second h) s ready.ready.1 second_none)
-        (Err e, x.after, x.one, (Some s, second_left now inquiry apart s, refl, refl)) refl
+        (Err e, x.after, x.one, (e, Some s, second_left e now inquiry apart s, refl, refl)) refl
 
     first_undone_by : IsNoText now → (f f1 : ℕ) (fault : AskFault) → ComesTo f f1 (λ (text : List ℕ). SaidOne b c o1 first first' g (Some h) now st.first text) (NotOne b c o1 first first' g (Some h) now st.first) (Err fault)
         → ComesTo f f1 (λ (text : List ℕ). SaidAll b c o1 first' (Some second) two (DoneOnBoth two now) text) (NotAll b c o1 first' (Some second) two (DoneOnBoth two now)) (Err fault)
@@ -237,15 +245,15 @@ module _ (b : Behaviour) (c : Conduct) (o o1 : Option World) (first first' secon
 
     -- a text that ended in a trouble there ran on the second side too
     module _ (o2 : Option World) (second' : SideRecord) (second_which : second'.which ≡ second.which) (text : List ℕ) (is : now ≡ command.Ps text) (f f1 f2 : ℕ) (le : f ≤ f1) where
-      abbrev Undone : SideState → Type 0
-      Undone y = SecondUndone (command.Ps text) (Some s) (Some y)
+      abbrev Undone : Troubled → SideState → Type 0
+      Undone e y = SecondUndone e (command.Ps text) (Some s) e (Some y)
 
       text_not : (e : Troubled) (x : NotOne b c o1 first first' g (Some h) now st.first e) → RanOne b c o2 second second' h (Some x.host) (command.Ps text) s → NotAll b c o2 first' (Some second') two (DoneOnBoth two now) e
       text_not e x y =
           let stays : IsThere b c o2 first' x.host (Some y.asked.host) = first_beside b c o1 o2 first' second' x.host y.asked.host (Some h) (which ∙ there.first_is) x.there (second_which ∙ there.second_there.0) y.asked.there in
-          let undone : Undone y.asked.after = (y.result, y.asked.after, y.asked.one, ap some_side (sym (text_same text s y.asked.after y.result y.asked.one))) in
+          let undone : Undone e y.asked.after = (y.result, y.asked.after, y.asked.one, sym (told_same e y.result y.found_memory), ap some_side (sym (text_same text s y.asked.after y.result y.asked.one))) in
           said (Err e) x o2 second' y.asked.host y.asked.after (trouble_reply e) (joined (trouble_reply e)) second_which y.asked.there stays y.asked.alike
-          (Err e, x.after, x.one, (Some y.asked.after, subst (λ (z : Command). SecondUndone z (Some s) (Some y.asked.after)) (sym is) undone, refl, refl)) refl
+          (Err e, x.after, x.one, (e, Some y.asked.after, subst (λ (z : Command). SecondUndone e z (Some s) e (Some y.asked.after)) (sym is) undone, refl, refl)) refl
 
       abbrev RanBehind : (fault answer : AskFault) → Type 0
       RanBehind fault answer = (beside : Option Host) → IsThere b c o1 second h beside → ((answer ≡ fault) × RanOne b c o2 second second' h beside (command.Ps text) s) ⊎ IsGivenUp f1 f2 answer

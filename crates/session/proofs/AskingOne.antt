@@ -48,21 +48,21 @@ on_none : {A B : Type 0} (P Q : A → B → Type 0) (y : Option B) → OnSecond 
 on_none P Q None h = tt
 on_none P Q (Some y) h = h
 
-nothing_undone : (c : Command) → IsInquiry c → SecondUndone c None None
-nothing_undone (command.Break spot) p = refl
-nothing_undone (command.Clear spot) p = refl
-nothing_undone command.Frames p = refl
-nothing_undone (command.Frame n) p = refl
-nothing_undone command.Continue p = absurd p
-nothing_undone command.Step p = absurd p
-nothing_undone (command.Turns n) p = absurd p
-nothing_undone command.Quit p = absurd p
-nothing_undone command.Regs p = absurd p
-nothing_undone (command.Print name) p = refl
-nothing_undone (command.Eval text) p = absurd p
-nothing_undone (command.Assign text) p = absurd p
-nothing_undone (command.Code text) p = absurd p
-nothing_undone (command.Ps text) p = refl
+nothing_undone : (e : Troubled) (c : Command) → IsInquiry c → SecondUndone e c None e None
+nothing_undone e (command.Break spot) p = (refl, refl)
+nothing_undone e (command.Clear spot) p = (refl, refl)
+nothing_undone e command.Frames p = (refl, refl)
+nothing_undone e (command.Frame n) p = (refl, refl)
+nothing_undone e command.Continue p = absurd p
+nothing_undone e command.Step p = absurd p
+nothing_undone e (command.Turns n) p = absurd p
+nothing_undone e command.Quit p = absurd p
+nothing_undone e command.Regs p = absurd p
+nothing_undone e (command.Print name) p = (refl, refl)
+nothing_undone e (command.Eval text) p = absurd p
+nothing_undone e (command.Assign text) p = absurd p
+nothing_undone e (command.Code text) p = absurd p
+nothing_undone e (command.Ps text) p = (refl, refl)
 
 -- such a command is answered by what is done on the sides
 pub inquiry_answers : (b : Behaviour) (st : SessionState) (c : Command) → IsInquiry c → (reply : Reply) (st' : SessionState) → DoneOnBoth st c reply st' → AnswersCommand b st c reply st'
@@ -106,7 +106,7 @@ module _ (b : Behaviour) (c : Conduct) (o o' : Option World) (side side' : SideR
   done_then change x = (Ok change, x.after, x.one, subst (λ (y : Option SideState). FirstDone st now change x.after y change.lines (left_by (Ok change) x)) (sym alone) (refl, refl))
 
   undone_then : (e : Troubled) (x : AskedOne b c o' side side' hs.first hs.second now st.first (Err e)) → DoneOnBoth st now (trouble_reply e) (left_by (Err e) x)
-  undone_then e x = (Err e, x.after, x.one, (None, subst (λ (y : Option SideState). SecondUndone now y None) (sym alone) (nothing_undone now inquiry), refl, refl))
+  undone_then e x = (Err e, x.after, x.one, (e, None, subst (λ (y : Option SideState). SecondUndone e now y e None) (sym alone) (nothing_undone e now inquiry), refl, refl))
 
   said : (text : List ℕ) → SaidOne b c o' side side' hs.first hs.second now st.first text → SaidAll b c o' side' None st (DoneOnBoth st now) text
   said text y = record {

@@ -281,13 +281,13 @@ text_count c world faults leads side old talk new e result ran some =
 
 -- it ran, however it ended
 pub text_ran : (b : Behaviour) (c : Conduct) (o : Option World) (side side' : SideRecord) (h : Host) (beside : Option Host) (text said : List ℕ) (a : SideState) → SaidOne b c o side side' h beside (command.Ps text) a said → RanOne b c o side side' h beside (command.Ps text) a
-text_ran b c o side side' h beside text said a x = record { result = Ok x.change; asked = x.asked }
+text_ran b c o side side' h beside text said a x = record { result = Ok x.change; found_memory = λ e. cc; asked = x.asked }
 
 pub text_unsaid : (b : Behaviour) (c : Conduct) (o : Option World) (side side' : SideRecord) (h : Host) (beside : Option Host) (text : List ℕ) (a : SideState) (f f' : ℕ) (fault : AskFault) → (IsFailure fault → ⊥)
     → ComesTo f f' (λ (said : List ℕ). SaidOne b c o side side' h beside (command.Ps text) a said) (NotOne b c o side side' h beside (command.Ps text) a) (Err fault) → RanOne b c o side side' h beside (command.Ps text) a
-text_unsaid b c o side side' h beside text a f f' (Refused cause) n w = record { result = Err (RefusedFor (refusal_of cause)); asked = w }
-text_unsaid b c o side side' h beside text a f f' (Raised e) n w = record { result = Err (Kind e); asked = w }
-text_unsaid b c o side side' h beside text a f f' Spent n w = record { result = Err StepsSpent; asked = w }
+text_unsaid b c o side side' h beside text a f f' (Refused cause) n w = record { result = Err (RefusedFor (refusal_of cause)); found_memory = λ e. cc; asked = w }
+text_unsaid b c o side side' h beside text a f f' (Raised e) n w = record { result = Err (Kind e); found_memory = λ e. cc; asked = w }
+text_unsaid b c o side side' h beside text a f f' Spent n w = record { result = Err StepsSpent; found_memory = λ e. cc; asked = w }
 text_unsaid b c o side side' h beside text a f f' NoMemory n w = absurd (n tt)
 text_unsaid b c o side side' h beside text a f f' (Broken x) n w = absurd (n tt)
 

@@ -1,5 +1,6 @@
 -- What a command leaves of a side and of the session's state.
-use Rattle.std.specs.Prelude.{◌≡◌, ◌⊎◌, ℕ, List, [], Option, Some, None, is_some, Result, Ok, Err}
+use Rattle.std.specs.Prelude.{◌≡◌, ◌≢◌, ◌⊎◌, ℕ, List, [], codes, Option, Some, None, is_some, Result, Ok, Err}
+use Rattle.ldb_edge.specs.Count.{Rose}
 use Rattle.table_points.specs.declared.row.Point.{Point}
 use Rattle.table_asks.specs.declared.fault.AskFault.{AskFault}
 use Rattle.table_asks.specs.declared.fault.AskFault.TheVariants.{Refused, Raised, Spent, NoMemory, Broken}
@@ -9,7 +10,8 @@ use Rattle.session.specs.declared.answers.End.{End}
 use Rattle.session.specs.declared.modes.Mode.{Mode}
 use Rattle.session.specs.declared.modes.Mode.TheVariants.{Ended}
 use Rattle.asking.specs.Refusals.{refusal_of}
-use Rattle.session.specs.Answered.{Replies, refusal_reply, error_reply, spent_reply, IsNoMemory}
+use Rattle.asking.specs.Lines.{BeginsWith}
+use Rattle.session.specs.Answered.{Replies, refusal_reply, error_reply, spent_reply, IsNoMemory, AnswersTrouble}
 use Rattle.session.specs.declared.sides.SideRecord.{SideRecord}
 use Rattle.c_session.specs.declared.command.Command.{Command}
 use Rattle.c_session.specs.declared.command.Command.TheVariants as command
@@ -63,6 +65,21 @@ AnswersFault broken old new (Refused c) answer = (new ≡ old) × Replies (refus
 AnswersFault broken old new (Raised e) answer = (new ≡ old) × Replies (error_reply e) answer
 AnswersFault broken old new Spent answer = (new ≡ old) × Replies spent_reply answer
 AnswersFault broken old new NoMemory answer = (new ≡ old) × IsNoMemory answer
+
+-- A link that failed has counted it, and ended its session, whose last reply says that the target is broken.
+abbrev pub IsBrokenOff : (faults faults' : ℕ) → (broken : List ℕ) → Mode → (text : List ℕ) → Type 0
+IsBrokenOff faults faults' broken mode text = Rose faults faults' × (mode ≡ Ended) × (text ≡ broken)
+
+-- The answer is want of memory, a refusal or an error, and not the last reply of a link that failed.
+abbrev pub TellsTrouble : (broken : List ℕ) → Result Answer End → Type 0
+TellsTrouble broken answer = AnswersTrouble answer × (answer ≢ Ok (Lines broken))
+
+-- what a command says that sets a breakpoint, takes one away or chooses a frame begins with its word
+abbrev pub SaysDone : Command → (text : List ℕ) → Type 0
+SaysDone (command.Break spot) text = BeginsWith (codes "break ") text
+SaysDone (command.Clear spot) text = BeginsWith (codes "clear ") text
+SaysDone (command.Frame n) text = BeginsWith (codes "frame ") text
+SaysDone c text = Unit {0}
 
 -- a command that sets no breakpoint, chooses no frame and resumes nothing
 abbrev pub IsQuery : Command → Type 0

@@ -1,5 +1,5 @@
 -- What a session's sides are to the machine session, over a link whose nubs meet their definition.
-use Rattle.std.specs.Prelude.{◌≡◌, ◌⊎◌, ℕ, List, [], ◌++◌, Option, Some, None, Result, Ok, Err}
+use Rattle.std.specs.Prelude.{◌≡◌, ◌≢◌, ◌⊎◌, ℕ, List, [], ◌++◌, Option, Some, None, Result, Ok, Err}
 use Rattle.ldb_edge.specs.Count.{Rose}
 use Rattle.ldb_edge.specs.Known.{known_and}
 use Rattle.ldb_words.specs.declared.kinds.Order.{Order}
@@ -21,7 +21,7 @@ use Rattle.abs_mem.specs.declared.memory.MemFault.TheVariants.{Outside, LinkFaul
 use Rattle.debug_side.specs.declared.event.Event.{Event}
 use Rattle.debug_side.specs.declared.point.MachineKind.{MachineKind}
 use Rattle.debug_side.specs.Told.{MayRun, its_output}
-use Rattle.dialect_model.specs.TableUse.{TableUse, Trouble, Kind}
+use Rattle.dialect_model.specs.TableUse.{TableUse, Trouble, Kind, Wanting}
 use Rattle.dialect_model.specs.TableUse.{Refused as RefusedFor, Spent as StepsSpent}
 use Rattle.c_session.specs.declared.command.Command.{Command}
 use Rattle.c_session.specs.declared.command.Command.TheVariants as command
@@ -44,6 +44,7 @@ use Rattle.session.specs.declared.answers.End.TheVariants as end
 use Rattle.session.specs.declared.modes.Mode.{Mode}
 use Rattle.session.specs.declared.sides.SideRecord.{SideRecord}
 use Rattle.session.specs.Answered.{state_of}
+use Rattle.session.specs.Kept.{IsBrokenOff}
 use Rattle.session.specs.Resuming.{event_on}
 use Rattle.session.specs.Turned.{byte_of, order_of}
 
@@ -265,9 +266,10 @@ module _ (b : Behaviour) (c : Conduct) (o : Option World) (side side' : SideReco
   abbrev pub NotOne : Troubled → Type 0
   NotOne e = AskedOne (Err e)
 
-  -- it was done, or not done for a trouble
+  -- it was done, or not done for a trouble that isn't want of memory
   pub record RanOne : Type 0 where
     pub result : Result Change Troubled
+    pub found_memory : result ≢ Err Wanting
     pub asked : AskedOne result
 
 -- ---- a command of all sides
@@ -314,12 +316,12 @@ module _ (b : Behaviour) (c : Conduct) (o : Option World) (first : SideRecord) (
     pub written : after.written ≡ st.written ++ output
     pub put : taken' ≡ known_and taken output
 
-  -- So it is unless the link failed. Without memory nothing is said; where the output failed, a front of that of an answer was put.
-  abbrev pub AnswersAs : (Reply → SessionState → Type 0) → (faults faults' : ℕ) → Result Answer End → Type 0
-  AnswersAs Says faults faults' (Ok (answer.Lines text)) = Rose faults faults' ⊎ Answered Says text
-  AnswersAs Says faults faults' (Ok answer.NoMemory) = Unit {0}
-  AnswersAs Says faults faults' (Err end.Quit) = Unit {0}
-  AnswersAs Says faults faults' (Err end.OutFault) = PutInPart st taken taken' Says
+  -- So it is unless the link failed, which ends the session by its last reply. Without memory nothing is said; where the output failed, a front of that of an answer was put.
+  abbrev pub AnswersAs : (Reply → SessionState → Type 0) → (faults faults' : ℕ) → (broken : List ℕ) → Result Answer End → Type 0
+  AnswersAs Says faults faults' broken (Ok (answer.Lines text)) = IsBrokenOff faults faults' broken mode text ⊎ Answered Says text
+  AnswersAs Says faults faults' broken (Ok answer.NoMemory) = Unit {0}
+  AnswersAs Says faults faults' broken (Err end.Quit) = Unit {0}
+  AnswersAs Says faults faults' broken (Err end.OutFault) = PutInPart st taken taken' Says
 
 -- what a line, and a resume, answer in the machine session
 abbrev pub MeantAnswers : Behaviour → SessionState → Option Command → Reply → SessionState → Type 0

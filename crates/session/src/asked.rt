@@ -1,13 +1,13 @@
 // A command that doesn't resume, on one side.
 
-ghost use Rattle.std.specs.Prelude.{◌≡◌, ◌≢◌, ◌≤◌, true, false, IfErr, OnErr, Option, [], Err};
+ghost use Rattle.std.specs.Prelude.{◌≡◌, ◌≢◌, ◌≤◌, true, false, IfOk, IfErr, OnErr, Option, [], Err};
 ghost use Rattle.std.specs.List.{AllByRecursion};
 ghost use Rattle.abs_mem.specs.WireMeaning.{wire_seen};
 ghost use Rattle.ps_store.specs.Store.{closed_part};
 ghost use Rattle.table_points.specs.Named.{IsNamed};
 ghost use Rattle.table_asks.specs.Closing.{Settles};
 ghost use Rattle.session.specs.Asked.{Does, chosen_frame};
-ghost use Rattle.session.specs.Kept.{IsFailure, IsKept, IsQuery};
+ghost use Rattle.session.specs.Kept.{IsFailure, IsKept, IsQuery, SaysDone};
 ghost use Rattle.session.specs.Turned.{order_of, turned};
 ghost use Rattle.machine_state.specs.State.{Behaviour};
 ghost use Rattle.nub_wire.specs.Nub.{Host};
@@ -38,6 +38,7 @@ fn told<W: AbsMem + Drop>(
     requires within { side.old.inquiry.steps.taken ≤ side.old.inquiry.steps.limit }
     ensures kept { OnErr result (side.new.row.breaks.items ≡ side.old.row.breaks.items) }
     ensures query { IsQuery command.now → side.new.row.breaks.items ≡ side.old.row.breaks.items }
+    ensures word { IfOk result (λ text. SaysDone command.now text) }
     ensures frame { side.new.frame ≡ side.old.frame }
     ensures same { side.new ≡ record side.old { inquiry = side.new.inquiry; row = record side.old.row { breaks = side.new.row.breaks } } }
     ensures closed { IsPlain command.now → Settles (closed_part side.old.inquiry.core.store) (closed_part side.new.inquiry.core.store) }
@@ -97,6 +98,7 @@ pub fn asked<L: Link + Drop>(
     command: &Command,
 ) -> Result<Text, AskFault>
     ensures kept { OnErr result (IsKept side.old side.new) }
+    ensures word { IfOk result (λ text. SaysDone command.now text) }
     ensures query { IsQuery command.now → IsKept side.old side.new }
     ensures which { side.new.which ≡ side.old.which }
     ensures faults { IsInquiry command.now → result ≢ Err AskFault.NoMemory → L.faults talk.old.memory.below.below.below.link ≤ L.faults talk.new.memory.below.below.below.link }

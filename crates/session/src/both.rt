@@ -1,7 +1,7 @@
 // A command that doesn't resume, on both sides.
 
-ghost use Rattle.std.specs.Prelude.{◌≡◌, ◌≢◌, ◌⊎◌, ℕ, List, [], OnOk, Ok, Option, Some};
-ghost use Rattle.session.specs.Kept.{IsFailure, IsKept, IsUndone, IsQuery};
+ghost use Rattle.std.specs.Prelude.{◌≡◌, ◌≢◌, ◌⊎◌, ℕ, List, [], IfOk, OnOk, Ok, Option, Some};
+ghost use Rattle.session.specs.Kept.{IsFailure, IsKept, IsUndone, IsQuery, SaysDone};
 ghost use Rattle.machine_state.specs.declared.layout.TheConstants.{MIPS, SPARC};
 ghost use Rattle.machine_state.specs.State.{Behaviour, order_of as machine_order};
 ghost use Rattle.nub_wire.specs.Nub.{Host};
@@ -188,6 +188,7 @@ pub fn asked_both<L: Link + Drop>(
     ensures first { IsUndone result → IsKept first.old first.new }
     ensures second { IsUndone result → IsKept second.old second.new }
     ensures query { IsQuery command.now → IsKept first.old first.new × IsKept second.old second.new }
+    ensures word { IfOk result (λ text. SaysDone command.now text) }
     ensures meant { (b : Behaviour) (hs : Hosts) (st : SessionState) → AreThere b L.conduct (L.world talk.old.memory.below.below.below.link) first.old (Some second.old) hs → AreReadyFor first.old (Some second.old) hs st → IsInquiry command.now
         → ComesTo (L.faults talk.old.memory.below.below.below.link) (L.faults talk.new.memory.below.below.below.link) (λ text. SaidAll b L.conduct (L.world talk.new.memory.below.below.below.link) first.new (Some second.new) st (DoneOnBoth st command.now) text) (NotAll b L.conduct (L.world talk.new.memory.below.below.below.link) first.new (Some second.new) st (DoneOnBoth st command.now)) result }
 {

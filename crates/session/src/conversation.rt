@@ -9,7 +9,7 @@ ghost use Rattle.c_session.specs.Commands.{Refusal, ByContinue, ByStep};
 ghost use Rattle.claims.specs.Outcome.{refused_by_state, all_regs, Begins, DoneOnBoth, AnswersCommand};
 ghost use Rattle.session.specs.Answered.{state_of, resume_of, refusal_reply, line_reply, limit_reply, Replies, Answers};
 ghost use Rattle.session.specs.Counted.{CountsOutput, CountsEnd, IsNoQuit};
-ghost use Rattle.session.specs.Kept.{IsKept, AreKept, KeepsMode, KeepsReply, IsUndone, AnswersFault, IsQuery};
+ghost use Rattle.session.specs.Kept.{IsKept, AreKept, KeepsMode, KeepsReply, IsUndone, AnswersFault, IsQuery, TellsTrouble, SaysDone};
 ghost use Rattle.session.specs.Resuming.{StandsStill, OnSecond, ReadyFor, HasRoomFor, AllBehind, Resumes, event_on, goes_on};
 ghost use Rattle.machine_state.specs.State.{Behaviour, MachineState};
 ghost use Rattle.nub_wire.specs.declared.link.Side.TheVariants.{First};
@@ -230,8 +230,8 @@ impl<L: Link + Drop> Session<L> {
 
     /// The answer to a line; program output goes to `out` before it. A line that is no command, and a command that the session's state
     /// refuses, changes nothing; once the session has ended that is every one but `quit`. A command that doesn't resume puts nothing
-    /// into the output, and leaves the session's state as it was or ends the session; the breakpoints and the chosen frames stay, but where it is `break`, `clear` or
-    /// `frame`. `continue` and `step` tell the event of all
+    /// into the output, and leaves the session's state as it was or ends the session; the breakpoints and the chosen frames stay, but
+    /// where it is `break`, `clear` or `frame` and is done, or its link failed. `continue` and `step` tell the event of all
     /// sides, or aren't begun, or end the session. Without memory the session's state, its limit, its breakpoints and its chosen
     /// frames are as before, and nothing was put into the output; units of tables that were run stay so, and what a text of PostScript
     /// stored in the target stays.
@@ -245,13 +245,14 @@ impl<L: Link + Drop> Session<L> {
         ensures refused { (c : Command) (u : Refusal) → read_of self.old.raw line.now ≡ Some c → refused_by_state (state_of self.old.mode) c ≡ Some u → Answers (refusal_reply u) result × (self.new ≡ self.old) × (out.new ≡ out.old) }
         ensures no_memory { result ≡ Ok Answer.NoMemory → (self.new.mode ≡ self.old.mode) × (self.new.limit ≡ self.old.limit) × IsKept self.old.first self.new.first × AreKept self.old.second self.new.second × (out.new ≡ out.old) }
         ensures query { (c : Command) → read_of self.old.raw line.now ≡ Some c → IsQuery c → IsKept self.old.first self.new.first × AreKept self.old.second self.new.second }
+        ensures undone { (c : Command) → read_of self.old.raw line.now ≡ Some c → c ≢ Continue → c ≢ Step → TellsTrouble self.old.broken result → IsKept self.old.first self.new.first × AreKept self.old.second self.new.second }
         ensures out_fault { result ≡ Err End.OutFault → self.new.mode ≡ Mode.Ended }
         ensures limit { (self.new.limit ≡ self.old.limit) ⊎ (read_of self.old.raw line.now ≡ Some (Turns self.new.limit)) }
         ensures asked { (c : Command) → read_of self.old.raw line.now ≡ Some c → c ≢ Continue → c ≢ Step → (out.new ≡ out.old) × KeepsMode self.old.mode self.new.mode self.old.broken result }
         ensures continues { read_of self.old.raw line.now ≡ Some Continue → refused_by_state (state_of self.old.mode) Continue ≡ None → Resumes (out.new ≡ out.old) ByContinue self.old.mode self.new.mode self.old.first self.new.first self.old.second self.new.second self.old.broken result }
         ensures steps { read_of self.old.raw line.now ≡ Some Step → refused_by_state (state_of self.old.mode) Step ≡ None → Resumes (out.new ≡ out.old) ByStep self.old.mode self.new.mode self.old.first self.new.first self.old.second self.new.second self.old.broken result }
         ensures meant { (b : Behaviour) (hs : Hosts) (st : SessionState) → AreSteady b → Represents b L.conduct (L.world self.old.talk.memory.below.below.below.link) self.old.first self.old.second self.old.mode self.old.limit hs st → is_empty line.now ≡ false → IsSaidIfAny (read_of self.old.raw line.now)
-            → AnswersAs b L.conduct (L.world self.new.talk.memory.below.below.below.link) self.new.first self.new.second self.new.mode self.new.limit st (O.taken out.old) (O.taken out.new) (MeantAnswers b st (read_of self.old.raw line.now)) (L.faults self.old.talk.memory.below.below.below.link) (L.faults self.new.talk.memory.below.below.below.link) result }
+            → AnswersAs b L.conduct (L.world self.new.talk.memory.below.below.below.link) self.new.first self.new.second self.new.mode self.new.limit st (O.taken out.old) (O.taken out.new) (MeantAnswers b st (read_of self.old.raw line.now)) (L.faults self.old.talk.memory.below.below.below.link) (L.faults self.new.talk.memory.below.below.below.link) self.old.broken result }
         ensures raw { self.new.raw ≡ self.old.raw }
         ensures broken { KeepsReply self.old.broken self.new.broken self.new.mode }
     {
@@ -271,13 +272,14 @@ impl<L: Link + Drop> Session<L> {
         ensures refused { (u : Refusal) → refused_by_state (state_of self.old.mode) command.now ≡ Some u → Answers (refusal_reply u) result × (self.new ≡ self.old) × (out.new ≡ out.old) }
         ensures no_memory { result ≡ Ok Answer.NoMemory → (self.new.mode ≡ self.old.mode) × (self.new.limit ≡ self.old.limit) × IsKept self.old.first self.new.first × AreKept self.old.second self.new.second × (out.new ≡ out.old) }
         ensures query { IsQuery command.now → IsKept self.old.first self.new.first × AreKept self.old.second self.new.second }
+        ensures undone { command.now ≢ Continue → command.now ≢ Step → command.now ≢ Quit → TellsTrouble self.old.broken result → IsKept self.old.first self.new.first × AreKept self.old.second self.new.second }
         ensures out_fault { OnErr result (self.new.mode ≡ Mode.Ended) }
         ensures limit { (self.new.limit ≡ self.old.limit) ⊎ (command.now ≡ Turns self.new.limit) }
         ensures asked { command.now ≢ Continue → command.now ≢ Step → (out.new ≡ out.old) × KeepsMode self.old.mode self.new.mode self.old.broken result }
         ensures continues { command.now ≡ Continue → refused_by_state (state_of self.old.mode) command.now ≡ None → Resumes (out.new ≡ out.old) ByContinue self.old.mode self.new.mode self.old.first self.new.first self.old.second self.new.second self.old.broken result }
         ensures steps { command.now ≡ Step → refused_by_state (state_of self.old.mode) command.now ≡ None → Resumes (out.new ≡ out.old) ByStep self.old.mode self.new.mode self.old.first self.new.first self.old.second self.new.second self.old.broken result }
         ensures meant { (b : Behaviour) (hs : Hosts) (st : SessionState) → AreSteady b → Represents b L.conduct (L.world self.old.talk.memory.below.below.below.link) self.old.first self.old.second self.old.mode self.old.limit hs st → IsSaid command.now → command.now ≢ Quit
-            → AnswersAs b L.conduct (L.world self.new.talk.memory.below.below.below.link) self.new.first self.new.second self.new.mode self.new.limit st (O.taken out.old) (O.taken out.new) (MeantAnswers b st (Some command.now)) (L.faults self.old.talk.memory.below.below.below.link) (L.faults self.new.talk.memory.below.below.below.link) result }
+            → AnswersAs b L.conduct (L.world self.new.talk.memory.below.below.below.link) self.new.first self.new.second self.new.mode self.new.limit st (O.taken out.old) (O.taken out.new) (MeantAnswers b st (Some command.now)) (L.faults self.old.talk.memory.below.below.below.link) (L.faults self.new.talk.memory.below.below.below.link) self.old.broken result }
         ensures raw { self.new.raw ≡ self.old.raw }
         ensures broken { KeepsReply self.old.broken self.new.broken self.new.mode }
     {
@@ -368,6 +370,7 @@ impl<L: Link + Drop> Session<L> {
         ensures limit { self.new.limit ≡ self.old.limit }
         ensures kept { IsUndone result → IsKept self.old.first self.new.first × AreKept self.old.second self.new.second }
         ensures query { IsQuery command.now → IsKept self.old.first self.new.first × AreKept self.old.second self.new.second }
+        ensures word { IfOk result (λ text. SaysDone command.now text) }
         ensures meant { (b : Behaviour) (hs : Hosts) (st : SessionState) → AreThere b L.conduct (L.world self.old.talk.memory.below.below.below.link) self.old.first self.old.second hs → AreReadyFor self.old.first self.old.second hs st → IsInquiry command.now
             → ComesTo (L.faults self.old.talk.memory.below.below.below.link) (L.faults self.new.talk.memory.below.below.below.link) (λ text. SaidAll b L.conduct (L.world self.new.talk.memory.below.below.below.link) self.new.first self.new.second st (DoneOnBoth st command.now) text) (NotAll b L.conduct (L.world self.new.talk.memory.below.below.below.link) self.new.first self.new.second st (DoneOnBoth st command.now)) result }
         ensures raw { self.new.raw ≡ self.old.raw }
@@ -399,6 +402,7 @@ impl<L: Link + Drop> Session<L> {
         ensures limit { self.new.limit ≡ self.old.limit }
         ensures kept { IsUndone result → IsKept self.old.first self.new.first × AreKept self.old.second self.new.second }
         ensures query { IsQuery command.now → IsKept self.old.first self.new.first × AreKept self.old.second self.new.second }
+        ensures word { IfOk result (λ text. SaysDone command.now text) }
         ensures meant { (b : Behaviour) (hs : Hosts) (st : SessionState) → Represents b L.conduct (L.world self.old.talk.memory.below.below.below.link) self.old.first self.old.second self.old.mode self.old.limit hs st → refused_by_state st.state command.now ≡ None → IsAskable command.now
             → ComesTo (L.faults self.old.talk.memory.below.below.below.link) (L.faults self.new.talk.memory.below.below.below.link) (λ text. SaidAll b L.conduct (L.world self.new.talk.memory.below.below.below.link) self.new.first self.new.second st (AnswersCommand b st command.now) text) (NotAll b L.conduct (L.world self.new.talk.memory.below.below.below.link) self.new.first self.new.second st (AnswersCommand b st command.now)) result }
         ensures raw { self.new.raw ≡ self.old.raw }
@@ -532,7 +536,7 @@ impl<L: Link + Drop> Session<L> {
         ensures out_fault { OnErr result (self.new.mode ≡ Mode.Ended) }
         ensures limit { self.new.limit ≡ self.old.limit }
         ensures meant { (b : Behaviour) (hs : Hosts) (st : SessionState) → AreSteady b → Represents b L.conduct (L.world self.old.talk.memory.below.below.below.link) self.old.first self.old.second self.old.mode self.old.limit hs st → IsResumable st.state
-            → AnswersAs b L.conduct (L.world self.new.talk.memory.below.below.below.link) self.new.first self.new.second self.new.mode self.new.limit st (O.taken out.old) (O.taken out.new) (ResumesAs b (resume_of how) st) (L.faults self.old.talk.memory.below.below.below.link) (L.faults self.new.talk.memory.below.below.below.link) result }
+            → AnswersAs b L.conduct (L.world self.new.talk.memory.below.below.below.link) self.new.first self.new.second self.new.mode self.new.limit st (O.taken out.old) (O.taken out.new) (ResumesAs b (resume_of how) st) (L.faults self.old.talk.memory.below.below.below.link) (L.faults self.new.talk.memory.below.below.below.link) self.old.broken result }
         ensures raw { self.new.raw ≡ self.old.raw }
         ensures broken { KeepsReply self.old.broken self.new.broken self.new.mode }
     {

@@ -8,6 +8,7 @@ use Rattle.table_asks.specs.Asking.{LedAsk}
 use Rattle.asking.specs.Lines.{line, place_text}
 use Rattle.asking.specs.Doing.{Changes}
 use Rattle.asking.specs.Breaks.{has, rows_in, planting_fault, broken_at}
+use Rattle.asking.proofs.Begun.{line_begins}
 use Rattle.asking.proofs.Changed.{added_row, planted, planting_fails, broken_again, broken_new, led_planting}
 use Rattle.std.specs.List.{AllByRecursion}
 use Rattle.table_points.specs.Named.{IsNamed}
@@ -97,3 +98,9 @@ returns-in-Ok-plant-clause-named g c = λ all.
     let store = c.args.inquiry.now.core.store in
     let is : c.is_named.result ≡ true = cc in
     subst (AllByRecursion (IsNamed store)) (sym c.in-Ok-push.ensures.items) (added (IsNamed store) c.args.breaks.now.items c.args.place all (c.is_named.ensures is))
+
+pub returns-then-is_set-clause-word : goal.returns-then-is_set-clause-word
+returns-then-is_set-clause-word g c = line_begins (codes "break ") (place_text (row_in c.args.inquiry.now.core.store c.args.place)) _ c.in-Ok.ensures
+
+pub returns-in-Ok-plant-clause-word : goal.returns-in-Ok-plant-clause-word
+returns-in-Ok-plant-clause-word g c = line_begins (codes "break ") (place_text (row_in c.args.inquiry.now.core.store c.args.place)) _ c.in-Ok.ensures

@@ -10,6 +10,7 @@ use Rattle.table_asks.specs.Asking.{LedAsk}
 use Rattle.asking.specs.Lines.{line, place_text}
 use Rattle.asking.specs.Doing.{Changes}
 use Rattle.asking.specs.Breaks.{same_point, has, without, rows_in, cleared_at}
+use Rattle.asking.proofs.Begun.{line_begins}
 use Rattle.asking.proofs.Changed.{kept_rows, cleared, clear_fails, nothing_cleared, cleared_there}
 use Rattle.asking.proofs.Asked.{led_fault}
 use Rattle.std.specs.List.{AllByRecursion}
@@ -92,3 +93,6 @@ returns-in-Ok-unplant-clause-named g c = λ all.
     let p = row_in store c.args.place in
     let kept = filter_same _ (λ (q : Point). not (same_point (row_in store q) p)) _ (λ x b f' k. search (rules, tests)) _ _ c.retain.ensures.filtered in
     subst (AllByRecursion (IsNamed store)) (sym kept) (left (IsNamed store) (λ (q : Point). not (same_point (row_in store q) p)) c.args.breaks.now.items all)
+
+pub returns-in-Ok-unplant-clause-word : goal.returns-in-Ok-unplant-clause-word
+returns-in-Ok-unplant-clause-word g c = line_begins (codes "clear ") (place_text (row_in c.args.inquiry.now.core.store c.args.place)) _ c.in-Ok.ensures

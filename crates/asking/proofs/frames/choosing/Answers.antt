@@ -1,11 +1,12 @@
-use Rattle.std.proofs.Common.{◌≡◌, ◌∙◌, sym, ap, subst, ℕ, List, ◌++◌, Option, Some, None, Ok, option_map}
+use Rattle.std.proofs.Common.{◌≡◌, ◌∙◌, sym, ap, subst, ℕ, List, ◌++◌, codes, decimal, Option, Some, None, Ok, option_map}
 use Rattle.table_model.specs.Frames.{row_of_target, told_frame_at}
 use Rattle.table_points.specs.declared.row.Point.{Point}
 use Rattle.table_points.specs.Rows.{row_in}
 use Rattle.dialect_model.specs.TableUse.{Looks}
 use Rattle.table_asks.specs.Asking.{ComesOver}
-use Rattle.asking.specs.Lines.{line, frame_text}
+use Rattle.asking.specs.Lines.{line, frame_text, place_text}
 use Rattle.asking.specs.Frames.{choosing}
+use Rattle.asking.proofs.Begun.{line_begins}
 use Rattle.asking.proofs.Chosen.{choose_fails, choose_none, choose_line, choose_wants}
 use Rattle.asking.proofs.frames.choosing.Goals as goal
 
@@ -40,3 +41,8 @@ pub returns-in-Err-append_frame-clause-meaning : goal.returns-in-Err-append_fram
 returns-in-Err-append_frame-clause-meaning g c =
     let seen = g.W.AbsMem.seen in
     choose_wants (row_of_target c.args.talk.now.view.target) c.args.talk.now.view.context c.args.number c.args.inquiry.now c.frame_told.new.inquiry (seen c.args.talk.now.memory.below.below.below) (seen c.frame_told.new.talk.memory.below.below.below) (option_map (row_in c.frame_told.new.inquiry.core.store) c.in-Ok-Some.field-0) c.in-Ok-Some.ensures.meaning
+
+pub returns-in-Ok-clause-word : goal.returns-in-Ok-clause-word
+returns-in-Ok-clause-word g c =
+    let p = row_in c.frame_told.new.inquiry.core.store c.in-Ok-Some.place in
+    line_begins (codes "frame ") (decimal c.args.number ++ (codes " " ++ (p.function ++ (codes " " ++ place_text p)))) _ (c.in-Ok.ensures ∙ ap (λ (xs : List ℕ). xs ++ line (frame_text c.args.number p)) c.new-line.ensures)

@@ -23,6 +23,7 @@ returns-in-Ok g c = record {
   refused = search rules;
   no_memory = c.obey.ensures.no_memory;
   query = λ d h q. (let same : c.in-Ok.command ≡ d = cc (c.in-Ok.ensures.ok, h) in c.obey.ensures.query (subst (λ (x : Command). IsQuery x) (sym same) q));
+  undone = λ d h n m told. (let same : c.in-Ok.command ≡ d = cc (c.in-Ok.ensures.ok, h) in let no : c.in-Ok.command ≢ Quit = search rules in c.obey.ensures.undone (λ e. n (sym same ∙ e)) (λ e. m (sym same ∙ e)) no told);
   out_fault = search rules;
   limit = search rules;
   asked = λ d h n m. (let same : c.in-Ok.command ≡ d = cc (c.in-Ok.ensures.ok, h) in c.obey.ensures.asked (λ e. n (sym same ∙ e)) (λ e. m (sym same ∙ e)));
@@ -34,7 +35,7 @@ returns-in-Ok g c = record {
       let ok : read_of now.raw c.args.line.now ≡ Some c.in-Ok.command = c.in-Ok.ensures.ok in
       let no : c.in-Ok.command ≢ Quit = search rules in
       subst (λ (r : Option Command). AnswersAs b g.L.Link.conduct (g.L.Link.world new.talk.memory.below.below.below.link) new.first new.second new.mode new.limit st (g.O.Sink.taken c.args.out.now) (g.O.Sink.taken c.obey.new.out) (MeantAnswers b st r)
-      (g.L.Link.faults now.talk.memory.below.below.below.link) (g.L.Link.faults new.talk.memory.below.below.below.link) c.obey.result) (sym ok)
+      (g.L.Link.faults now.talk.memory.below.below.below.link) (g.L.Link.faults new.talk.memory.below.below.below.link) now.broken c.obey.result) (sym ok)
       (c.obey.ensures.meant b hs st steady x (subst (λ (r : Option Command). IsSaidIfAny r) ok said) no);
   broken = c.obey.ensures.broken;
   raw = c.obey.ensures.raw;
@@ -46,6 +47,6 @@ returns-in-Err-Line-clause-meant g c = λ (b : Behaviour) (hs : Hosts) (st : Ses
     let out = g.O.Sink.taken c.args.out.now in
     let f = g.L.Link.faults now.talk.memory.below.below.below.link in
     let none : read_of now.raw c.args.line.now ≡ None = search rules in
-    refuses b g.L.Link.conduct (g.L.Link.world now.talk.memory.below.below.below.link) now.first now.second now.mode now.limit hs st out out refl (MeantAnswers b st (read_of now.raw c.args.line.now)) BadLine f f (Ok c.malformed.result) x
+    refuses b g.L.Link.conduct (g.L.Link.world now.talk.memory.below.below.below.link) now.first now.second now.mode now.limit hs st out out refl (MeantAnswers b st (read_of now.raw c.args.line.now)) BadLine f f now.broken (Ok c.malformed.result) x
     (subst (λ (r : Option Command). MeantAnswers b st r (refusal_text BadLine ∷ []) st) (sym none) (inl (refl, refl)))
     (subst (λ (e : Bool). Replies (if e then [] else refusal_reply BadLine) c.malformed.result) blank c.malformed.ensures.reply)

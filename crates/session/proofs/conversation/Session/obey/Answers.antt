@@ -1,11 +1,13 @@
-use Rattle.std.proofs.Common.{rules, ◌≡◌, ◌∙◌, ap, sym, refl, subst, inl, inr, codes, decimal, List, [], ◌∷◌, ◌++◌, None, Some, Ok}
+use Rattle.std.proofs.Common.{rules, ◌≡◌, ◌∙◌, ap, sym, refl, subst, inl, inr, codes, decimal, ℕ, List, [], ◌∷◌, ◌++◌, Option, None, Some, Ok}
 use Rattle.c_session.specs.declared.command.Command.{Command}
 use Rattle.c_session.specs.declared.command.Command.TheVariants as command
 use Rattle.c_session.specs.Commands.{ByStep, ByContinue}
 use Rattle.claims.specs.Outcome.{refused_by_state, AnswersCommand}
 use Rattle.session.specs.Answered.{state_of, reason_of, limit_reply}
 use Rattle.session.specs.Meant.{AnswersAs, MeantAnswers, ResumesAs}
-use Rattle.session.proofs.Answering.{refuses, refused, unrefused, answers_to, says_lines, new_limit, limit_line, replied, left_so, askable, continue_resumes, step_resumes}
+use Rattle.session.specs.declared.sides.SideRecord.{SideRecord}
+use Rattle.session.specs.Kept.{IsKept, AreKept, TellsTrouble}
+use Rattle.session.proofs.Answering.{undone_leaves, refuses, refused, unrefused, answers_to, says_lines, new_limit, limit_line, replied, left_so, askable, continue_resumes, step_resumes}
 use Rattle.session.proofs.conversation.Session.obey.Goals as goal
 
 pub returns-in-Some-clause-meant : goal.returns-in-Some-clause-meant
@@ -15,7 +17,7 @@ returns-in-Some-clause-meant g c = λ b hs st steady x said some.
     let u = reason_of c.in-Some.why in
     let f = g.L.Link.faults now.talk.memory.below.below.below.link in
     let e = ap (λ s. refused_by_state s cmd) x.state ∙ sym c.in-Some.ensures in
-    refuses b g.L.Link.conduct (g.L.Link.world now.talk.memory.below.below.below.link) now.first now.second now.mode now.limit hs st (g.O.Sink.taken c.args.out.now) (g.O.Sink.taken c.args.out.now) refl (MeantAnswers b st (Some cmd)) u f f (Ok c.answer.result) x (refused b st cmd u e) (search rules)
+    refuses b g.L.Link.conduct (g.L.Link.world now.talk.memory.below.below.below.link) now.first now.second now.mode now.limit hs st (g.O.Sink.taken c.args.out.now) (g.O.Sink.taken c.args.out.now) refl (MeantAnswers b st (Some cmd)) u f f now.broken (Ok c.answer.result) x (refused b st cmd u e) (search rules)
 
 pub returns-in-Continue-clause-meant : goal.returns-in-Continue-clause-meant
 returns-in-Continue-clause-meant g c = λ b hs st steady x said some.
@@ -26,7 +28,7 @@ returns-in-Continue-clause-meant g c = λ b hs st steady x said some.
     let e = ap (λ s. refused_by_state s cmd) x.state ∙ sym c.in_default.ensures in
     let e1 = subst (λ d. refused_by_state st.state d ≡ None) is e in
     answers_to b g.L.Link.conduct (g.L.Link.world new.talk.memory.below.below.below.link) new.first new.second new.mode new.limit st (g.O.Sink.taken c.args.out.now) (g.O.Sink.taken c.resume.new.out) (ResumesAs b ByContinue st) (MeantAnswers b st (Some cmd))
-    (λ reply st' h. subst (λ d. MeantAnswers b st (Some d) reply st') (sym is) (unrefused b st command.Continue e1 reply st' h)) (g.L.Link.faults now.talk.memory.below.below.below.link) (g.L.Link.faults new.talk.memory.below.below.below.link) c.resume.result
+    (λ reply st' h. subst (λ d. MeantAnswers b st (Some d) reply st') (sym is) (unrefused b st command.Continue e1 reply st' h)) (g.L.Link.faults now.talk.memory.below.below.below.link) (g.L.Link.faults new.talk.memory.below.below.below.link) now.broken c.resume.result
     (c.resume.ensures.meant b hs st steady x (continue_resumes st.state e1))
 
 pub returns-in-Step-clause-meant : goal.returns-in-Step-clause-meant
@@ -38,7 +40,7 @@ returns-in-Step-clause-meant g c = λ b hs st steady x said some.
     let e = ap (λ s. refused_by_state s cmd) x.state ∙ sym c.in_default.ensures in
     let e1 = subst (λ d. refused_by_state st.state d ≡ None) is e in
     answers_to b g.L.Link.conduct (g.L.Link.world new.talk.memory.below.below.below.link) new.first new.second new.mode new.limit st (g.O.Sink.taken c.args.out.now) (g.O.Sink.taken c.resume-in-Step.new.out) (ResumesAs b ByStep st) (MeantAnswers b st (Some cmd))
-    (λ reply st' h. subst (λ d. MeantAnswers b st (Some d) reply st') (sym is) (unrefused b st command.Step e1 reply st' h)) (g.L.Link.faults now.talk.memory.below.below.below.link) (g.L.Link.faults new.talk.memory.below.below.below.link) c.resume-in-Step.result
+    (λ reply st' h. subst (λ d. MeantAnswers b st (Some d) reply st') (sym is) (unrefused b st command.Step e1 reply st' h)) (g.L.Link.faults now.talk.memory.below.below.below.link) (g.L.Link.faults new.talk.memory.below.below.below.link) now.broken c.resume-in-Step.result
     (c.resume-in-Step.ensures.meant b hs st steady x (step_resumes st.state e1))
 
 pub returns-in-Turns-clause-meant : goal.returns-in-Turns-clause-meant
@@ -57,10 +59,10 @@ returns-in-Turns-clause-meant g c = λ b hs st steady x said some.
     let f = g.L.Link.faults now.talk.memory.below.below.below.link in
     let M = MeantAnswers b st (Some cmd) in
     elim c.set_limit.ensures [
-      | inl h ↦ subst (λ s. AnswersAs b g.L.Link.conduct (g.L.Link.world s.talk.memory.below.below.below.link) s.first s.second s.mode s.limit st out out M f (g.L.Link.faults s.talk.memory.below.below.below.link) (Ok c.set_limit.result)) (sym h.1)
-          (subst (λ a. AnswersAs b g.L.Link.conduct o now.first now.second now.mode n st out out M f f (Ok a)) (sym h.0) (inr t))
-      | inr h ↦ subst (λ s. AnswersAs b g.L.Link.conduct (g.L.Link.world s.talk.memory.below.below.below.link) s.first s.second s.mode s.limit st out out M f (g.L.Link.faults s.talk.memory.below.below.below.link) (Ok c.set_limit.result)) (sym h.1)
-          (subst (λ a. AnswersAs b g.L.Link.conduct o now.first now.second now.mode now.limit st out out M f f (Ok a)) (sym h.0) tt)
+      | inl h ↦ subst (λ s. AnswersAs b g.L.Link.conduct (g.L.Link.world s.talk.memory.below.below.below.link) s.first s.second s.mode s.limit st out out M f (g.L.Link.faults s.talk.memory.below.below.below.link) now.broken (Ok c.set_limit.result)) (sym h.1)
+          (subst (λ a. AnswersAs b g.L.Link.conduct o now.first now.second now.mode n st out out M f f now.broken (Ok a)) (sym h.0) (inr t))
+      | inr h ↦ subst (λ s. AnswersAs b g.L.Link.conduct (g.L.Link.world s.talk.memory.below.below.below.link) s.first s.second s.mode s.limit st out out M f (g.L.Link.faults s.talk.memory.below.below.below.link) now.broken (Ok c.set_limit.result)) (sym h.1)
+          (subst (λ a. AnswersAs b g.L.Link.conduct o now.first now.second now.mode now.limit st out out M f f now.broken (Ok a)) (sym h.0) tt)
     ]
 
 pub returns-in_default-command-clause-meant : goal.returns-in_default-command-clause-meant
@@ -79,6 +81,17 @@ returns-in_default-command-clause-meant g c = λ b hs st steady x said some.
     let f2 = g.L.Link.faults new.talk.memory.below.below.below.link in
     let came = c.inquire-said.ensures.meant b hs st x e (askable cmd said d.not-Continue d.not-Step d.not-Turns some) in
     let t = replied b g.L.Link.conduct o mid.first mid.second mid.limit st (AnswersCommand b st cmd) out out refl (x.limit_is ∙ sym c.inquire-said.ensures.limit) (λ t. t) c.inquire-said.result mid.broken mid.mode new.mode f f1 c.reply.result (x.state ∙ ap (λ m. state_of m) (sym c.inquire-said.ensures.mode)) came c.reply.ensures.ok c.reply.ensures.fault in
-    let u = left_so b g.L.Link.conduct new.mode st out out (AnswersCommand b st cmd) f (Ok c.reply.result) o o1 mid.first new.first mid.second new.second mid.limit new.limit f1 f2 (ap (λ o. g.L.Link.world o.memory.below.below.below.link) c.reply.ensures.talk) c.reply.ensures.first c.reply.ensures.second c.reply.ensures.limit
+    let u = left_so b g.L.Link.conduct new.mode st out out (AnswersCommand b st cmd) f mid.broken (Ok c.reply.result) o o1 mid.first new.first mid.second new.second mid.limit new.limit f1 f2 (ap (λ o. g.L.Link.world o.memory.below.below.below.link) c.reply.ensures.talk) c.reply.ensures.first c.reply.ensures.second c.reply.ensures.limit
     (ap (λ o. g.L.Link.faults o.memory.below.below.below.link) c.reply.ensures.talk) t in
-    answers_to b g.L.Link.conduct o1 new.first new.second new.mode new.limit st out out (AnswersCommand b st cmd) (MeantAnswers b st (Some cmd)) (unrefused b st cmd e) f f2 (Ok c.reply.result) u
+    answers_to b g.L.Link.conduct o1 new.first new.second new.mode new.limit st out out (AnswersCommand b st cmd) (MeantAnswers b st (Some cmd)) (unrefused b st cmd e) f f2 now.broken (Ok c.reply.result)
+    (subst (λ (z : List ℕ). AnswersAs b g.L.Link.conduct o1 new.first new.second new.mode new.limit st out out (AnswersCommand b st cmd) f f2 z (Ok c.reply.result)) c.inquire-said.ensures.broken u)
+
+pub returns-in_default-command-clause-undone : goal.returns-in_default-command-clause-undone
+returns-in_default-command-clause-undone g c = λ n s q told.
+    let now = c.args.self.now in
+    let mid = c.inquire-said.new.self in
+    let new = c.reply.new.self in
+    let kept =
+    undone_leaves (IsKept now.first mid.first × AreKept now.second mid.second) c.args.command.now mid.broken mid.mode new.mode c.reply.result c.inquire-said.ensures.query (subst (λ (z : List ℕ). TellsTrouble z (Ok c.reply.result)) (sym c.inquire-said.ensures.broken) told)
+    c.inquire-said.result n s q c.inquire-said.ensures.word c.reply.ensures.ok c.reply.ensures.fault c.inquire-said.ensures.kept in
+    (subst (λ (z : SideRecord). IsKept now.first z) (sym c.reply.ensures.first) kept.0, subst (λ (z : Option SideRecord). AreKept now.second z) (sym c.reply.ensures.second) kept.1)

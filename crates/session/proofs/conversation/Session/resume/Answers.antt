@@ -1,10 +1,10 @@
-use Rattle.std.proofs.Common.{rules, ◌≡◌, ℕ, Ok, Err, inl, inr, ap, subst, sym, refl, ◌∙◌}
+use Rattle.std.proofs.Common.{rules, ◌≡◌, ℕ, List, Ok, Err, inl, inr, ap, subst, sym, refl, ◌∙◌}
 use Rattle.ldb_edge.specs.Count.{Rose}
 use Rattle.claims.specs.Resumes.{state_after}
 use Rattle.session.specs.declared.answers.Answer.TheVariants.{Lines}
 use Rattle.session.specs.Answered.{state_of, resume_of}
 use Rattle.resuming.specs.declared.fault.RunFault.{RunFault}
-use Rattle.session.specs.Meant.{ResumesAs, ResumesAll}
+use Rattle.session.specs.Meant.{AnswersAs, ResumesAs, ResumesAll}
 use Rattle.session.specs.Resuming.{goes_on, event_on}
 use Rattle.session.proofs.Telling.{told_line, faulted}
 use Rattle.session.proofs.Answering.{troubled, left_so, may_run, may_also_run, ran, rose_from, run_failed, broken_off, cut}
@@ -29,9 +29,10 @@ returns-in-Err-clause-meant g c = λ b hs st steady x may.
     let faults = g.L.Link.faults now.talk.memory.below.below.below.link in
     let later = g.L.Link.faults ready.talk.memory.below.below.below.link in
     let t = troubled b g.L.Link.conduct world ready.first ready.second now.limit st Says out out refl x.limit_is {A = ℕ} (λ n. ⊥) c.in-Err.fault ready.broken ready.mode reply.mode faults later c.reply.result state (c.in-Err.ensures.meant b hs st x may) c.reply.ensures.fault in
-    left_so b g.L.Link.conduct reply.mode st out out Says faults (Ok c.reply.result) world (g.L.Link.world reply.talk.memory.below.below.below.link) ready.first reply.first ready.second reply.second now.limit reply.limit later (g.L.Link.faults reply.talk.memory.below.below.below.link)
+    left_so b g.L.Link.conduct reply.mode st out out Says faults now.broken (Ok c.reply.result) world (g.L.Link.world reply.talk.memory.below.below.below.link) ready.first reply.first ready.second reply.second now.limit reply.limit later (g.L.Link.faults reply.talk.memory.below.below.below.link)
     (ap (λ o. g.L.Link.world o.memory.below.below.below.link) c.reply.ensures.talk) c.reply.ensures.first c.reply.ensures.second (c.reply.ensures.limit ∙ c.in-Err.ensures.limit)
-    (ap (λ o. g.L.Link.faults o.memory.below.below.below.link) c.reply.ensures.talk) t
+    (ap (λ o. g.L.Link.faults o.memory.below.below.below.link) c.reply.ensures.talk)
+    (subst (λ (z : List ℕ). AnswersAs b g.L.Link.conduct world ready.first ready.second reply.mode now.limit st out out Says faults later z (Ok c.reply.result)) c.in-Err.ensures.broken t)
 
 pub returns-in-Ok-run-clause-resumes : goal.returns-in-Ok-run-clause-resumes
 returns-in-Ok-run-clause-resumes g c =
@@ -90,8 +91,8 @@ returns-clause-meant g c = λ b hs st steady x may.
     let m = may_run b g.L.Link.conduct steady (resume_of c.args.how) o o1 o2 now.first before.first after.first now.second before.second after.second now.mode now.limit hs st x p still.0 in
     let n = may_also_run b g.L.Link.conduct steady (resume_of c.args.how) o o1 o2 now.first before.first after.first now.second before.second after.second now.mode now.limit hs st x p still.1 in
     let rose = run_failed b g.L.Link.conduct o2 before.first after.first before.second after.second p.hosts before.limit f1 f2 (g.O.Sink.taken c.args.out.now) (g.O.Sink.taken c.run.new.out) c.in-Err-Talk.field-0 c.in-Err-Talk.field-0-0 c.in-Err-Talk.field-0-is (c.in-Err-Talk.ensures.meant b p.hosts steady p.there m n) in
-    broken_off b g.L.Link.conduct (g.L.Link.world last.talk.memory.below.below.below.link) last.first last.second last.mode last.limit st (g.O.Sink.taken c.args.out.now) (g.O.Sink.taken c.run.new.out) (ResumesAs b (resume_of c.args.how) st) f (g.L.Link.faults last.talk.memory.below.below.below.link) c.break_off.result after.broken c.break_off.ensures.some
-    (subst (λ v. Rose f v) (ap (λ t. g.L.Link.faults t.memory.below.below.below.link) (sym c.break_off.ensures.talk)) (rose_from f f1 f2 c.in-Ok.ensures.faults rose))
+    broken_off b g.L.Link.conduct (g.L.Link.world last.talk.memory.below.below.below.link) last.first last.second last.mode last.limit st (g.O.Sink.taken c.args.out.now) (g.O.Sink.taken c.run.new.out) (ResumesAs b (resume_of c.args.how) st) f (g.L.Link.faults last.talk.memory.below.below.below.link) c.break_off.result now.broken after.broken c.break_off.ensures.some
+    (subst (λ v. Rose f v) (ap (λ t. g.L.Link.faults t.memory.below.below.below.link) (sym c.break_off.ensures.talk)) (rose_from f f1 f2 c.in-Ok.ensures.faults rose), c.break_off.ensures.mode, c.in-Err-Talk.ensures.broken ∙ c.in-Ok.ensures.broken)
 
 pub returns-in-Err-Output-clause-meant : goal.returns-in-Err-Output-clause-meant
 returns-in-Err-Output-clause-meant g c = λ b hs st steady x may.
