@@ -113,7 +113,7 @@ blank_so raw st s s' line lines taken taken' out out' blank over same told put =
       over = subst (λ (x : Session World). IsOver raw x st) (sym same) over;
       put = put;
       on = λ t o so. front_told Converses raw st st line lines taken taken' out out' t o [] told (λ ls rest output c. subst (λ (cs : List (Option Command)). Converses st cs rest output) (sym (blank_line raw line ls blank)) c) so;
-      part = λ t o so. front_told BreaksOff raw st st line lines taken taken' out out' t o [] told (λ ls rest output c. subst (λ (cs : List (Option Command)). BreaksOff st cs rest output) (sym (blank_line raw line ls blank)) c) so;
+      part = λ f t o so. front_told (BreaksOff f) raw st st line lines taken taken' out out' t o [] told (λ ls rest output c. subst (λ (cs : List (Option Command)). BreaksOff f st cs rest output) (sym (blank_line raw line ls blank)) c) so;
     })
 
 -- a line that was answered
@@ -129,8 +129,8 @@ answered_so raw st s s' line lines taken taken' out out' kept text bytes full ov
       put = put ∙ ap Some (sym (a.written ∙ ap (λ x. st.written ++ x) added));
       on = λ t o so. front_told Converses raw st a.after line lines taken taken' out out' t o text told (λ ls rest output c.
           subst (λ (cs : List (Option Command)). Converses st cs (text ++ rest) output) (sym (read_line raw line ls full)) (inr (inr (a.reply, rest, a.after, says, ap (λ x. x ++ rest) a.text_is, c)))) so;
-      part = λ t o so. front_told BreaksOff raw st a.after line lines taken taken' out out' t o text told (λ ls rest output c.
-          subst (λ (cs : List (Option Command)). BreaksOff st cs (text ++ rest) output) (sym (read_line raw line ls full)) (inr (inr (inr (inr (a.reply, rest, a.after, says, ap (λ x. x ++ rest) a.text_is, c)))))) so;
+      part = λ f t o so. front_told (BreaksOff f) raw st a.after line lines taken taken' out out' t o text told (λ ls rest output c.
+          subst (λ (cs : List (Option Command)). BreaksOff f st cs (text ++ rest) output) (sym (read_line raw line ls full)) (inr (inr (inr (inr (a.reply, rest, a.after, says, ap (λ x. x ++ rest) a.text_is, c)))))) so;
     })
 
 -- the machine session's answer to a line that the state refuses
@@ -148,8 +148,8 @@ refused_so raw st s s' line lines taken taken' out out' u full over same why tol
       put = put;
       on = λ t o so. front_told Converses raw st st line lines taken taken' out out' t o (refusal_reply u) told (λ ls rest output c.
           subst (λ (cs : List (Option Command)). Converses st cs (refusal_reply u ++ rest) output) (sym (read_line raw line ls full)) (inr (inr (refusal_text u ∷ [], rest, st, refused_answers st (read_of raw line) u why, ap (λ x. x ++ rest) (sym (append-nil (refusal_reply u))), c)))) so;
-      part = λ t o so. front_told BreaksOff raw st st line lines taken taken' out out' t o (refusal_reply u) told (λ ls rest output c.
-          subst (λ (cs : List (Option Command)). BreaksOff st cs (refusal_reply u ++ rest) output) (sym (read_line raw line ls full))
+      part = λ f t o so. front_told (BreaksOff f) raw st st line lines taken taken' out out' t o (refusal_reply u) told (λ ls rest output c.
+          subst (λ (cs : List (Option Command)). BreaksOff f st cs (refusal_reply u ++ rest) output) (sym (read_line raw line ls full))
           (inr (inr (inr (inr (refusal_text u ∷ [], rest, st, refused_answers st (read_of raw line) u why, ap (λ x. x ++ rest) (sym (append-nil (refusal_reply u))), c)))))) so;
     })
 
@@ -289,7 +289,7 @@ ended_last raw st s line line' before left taken out taken' out' n so is same =
 pub next_so : (raw : Bool) (st : SessionState) (start : Here) (s s' : Session World) (now behind : Here) (n : Next) → GoesSo raw st start s now → Grows now.taken behind.taken → Grows now.out behind.out
     → ((between : SessionState) → IsOver raw s between → now.out ≡ Some between.written → NextIsSo raw between now s' behind n) → NextIsSo raw st start s' behind n
 next_so raw st start s s' now behind next.Line (inl g) took put step = elim (step g.session g.over g.put) [
-  | inl h ↦ inl (record { session = h.session; over = h.over; put = h.put; on = λ t o so. g.on t o (h.on t o so); part = λ t o so. g.part t o (h.part t o so) })
+  | inl h ↦ inl (record { session = h.session; over = h.over; put = h.put; on = λ t o so. g.on t o (h.on t o so); part = λ f t o so. g.part f t o (h.part f t o so) })
   | inr h ↦ inr (λ t o a b. g.on t o (h t o a b))
 ]
 next_so raw st start s s' now behind next.Line (inr g) took put step = inr (λ t o a b. g t o (grows_on now.taken behind.taken t took a) (grows_on now.out behind.out o put b))

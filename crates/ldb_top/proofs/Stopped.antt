@@ -6,7 +6,6 @@ use Rattle.std.specs.Prelude.{OnOk, MatchResult}
 use Rattle.ldb_edge.specs.Known.{known_and}
 use Rattle.cc_call.specs.Lines.{name_in}
 use Rattle.cc_call.specs.declared.ended.Fault.{Fault}
-use Rattle.cc_call.specs.declared.ended.Fault.TheVariants as fault
 use Rattle.ldb_cc.specs.declared.aim.Aim.{Aim}
 use Rattle.nub_wire.specs.Delivery.{World}
 use Rattle.session.specs.declared.conversation.Session.{Session}
@@ -17,7 +16,7 @@ use Rattle.ldb_top.specs.declared.status.Stop.TheVariants.{Read, NoMemory, Missi
 use Rattle.ldb_top.specs.Causes.{IsMissed, TellsMissed}
 use Rattle.ldb_top.specs.Lines.{line_of, IsLine, IsTableLine}
 use Rattle.ldb_top.specs.Names.{Names}
-use Rattle.ldb_top.specs.Stops.{ending_of, IsMissing, IsReadStop, IsGoStop, IsDebugStop, IsOpenStop}
+use Rattle.ldb_top.specs.Stops.{ending_of, fault_of, IsMissing, IsReadStop, IsGoStop, IsDebugStop, IsOpenStop}
 use Rattle.ldb_top.specs.Why.{IsBadBuilt, IsBuildWhy, IsLoadWhy, BuildsFrom, LoadsFrom}
 
 -- the name at a place
@@ -29,7 +28,7 @@ name_read (n ∷ names) (suc i) v l e = name_read names i v (omega arith) e
 -- a file that isn't there ends the reading
 pub missing_stops : (missed : List ℕ → Type 0) (input : List ℕ) (before now : ℕ) (name : List ℕ) (stop : Stop) → IsMissing name stop → missed name → now ≡ before → IsReadStop missed input before now stop
 missing_stops missed input before now name (Missing line) m t e = (e, record { name = name; told = t; line_is = m })
-missing_stops missed input before now name NoMemory m t e = tt
+missing_stops missed input before now name NoMemory m t e = e
 missing_stops missed input before now name Read m t e = absurd m
 missing_stops missed input before now name (TooLong line) m t e = absurd m
 missing_stops missed input before now name (Refused line) m t e = absurd m
@@ -119,7 +118,7 @@ said_missed : (missed : List ℕ → Type 0) (line : List ℕ) (taken taken' : O
 said_missed missed line taken taken' m e = record { name = m.name; told = m.told; line_is = e ∙ ap (known_and taken) m.line_is }
 
 pub told_missed : (P : Stop → Type 0) (missed : List ℕ → Type 0) (input : List ℕ) (r r' : ℕ) (taken taken' : Option (List ℕ)) (stop : Stop) (result : Result Status Fault) → ((line : List ℕ) → P (Missing line) → ⊥) → IsOpenStop P missed input r r' stop
-    → (result ≡ ending_of stop) ⊎ (result ≡ Err fault.Write) → OnOk result (taken' ≡ known_and taken (line_of stop)) → result ≡ Ok status.NoFile → TellsMissed missed taken taken'
+    → (result ≡ ending_of stop) ⊎ (result ≡ Err (fault_of stop)) → OnOk result (taken' ≡ known_and taken (line_of stop)) → result ≡ Ok status.NoFile → TellsMissed missed taken taken'
 told_missed P missed input r r' taken taken' stop result never s (inr o) said n = absurd cc
 told_missed P missed input r r' taken taken' (Missing line) result never s (inl o) said n = said_missed missed line taken taken' (missed_in missed P input r r' line (never line) s) (subst (λ x. OnOk x (taken' ≡ known_and taken line)) n said)
 told_missed P missed input r r' taken taken' Read result never s (inl o) said n = absurd cc
