@@ -37,9 +37,9 @@ pub record NoFault (old new : Counts) : Type 0 where
   pub writing : new.writing ≡ old.writing
   pub transcript : new.transcript ≡ old.transcript
 
--- a fault has its cause, and otherwise there was none
+-- a failed read and a failed write have their cause, and otherwise, also where there was no memory, no count moved
 abbrev pub HasCauses : {A : Type 0} → Result A Fault → Counts → Counts → Type 0
 HasCauses (Ok answer) old new = NoFault old new
 HasCauses (Err Read) old new = Rose old.reading new.reading
 HasCauses (Err Write) old new = Rose old.writing new.writing ⊎ Rose old.transcript new.transcript
-HasCauses (Err NoMemory) old new = Unit {0}
+HasCauses (Err NoMemory) old new = NoFault old new

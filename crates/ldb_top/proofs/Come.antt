@@ -1,7 +1,7 @@
 -- What a call comes to whose words ask for a session.
-use Rattle.std.proofs.Common.{◌≡◌, ◌⊎◌, ℕ, Bool, true, false, List, [], drop, Option, None, Some, Ok, Err, inl, inr, refl, sym, ap, ◌∙◌, subst}
+use Rattle.std.proofs.Common.{◌≡◌, ◌⊎◌, ℕ, Bool, true, false, List, [], take, drop, Option, None, Some, Ok, Err, inl, inr, refl, sym, ap, ◌∙◌, subst}
 use Rattle.std.specs.declared.result.Result.{Result}
-use Rattle.std.specs.Prelude.{OnOk, OnErr}
+use Rattle.std.specs.Prelude.{◌≢◌, OnOk, OnErr}
 use Rattle.nub_wire.specs.Delivery.{World}
 use Rattle.ldb_edge.specs.Known.{FileMap, known_and}
 use Rattle.claims.specs.Side.{SessionState}
@@ -27,25 +27,36 @@ use Rattle.ldb_top.specs.Late.{LateAs}
 use Rattle.ldb_top.specs.Names.{Names, names_of, names_in_debug, names_in_go}
 use Rattle.ldb_top.specs.Output.{held_under, is_there}
 use Rattle.ldb_top.specs.Said.{BeginsWith, IsNamed}
-use Rattle.ldb_top.specs.Stops.{ending_of}
+use Rattle.ldb_top.specs.Stops.{ending_of, fault_of}
 use Rattle.ldb_top.specs.Lines.{line_of, late_line, IsLine}
 use Rattle.ldb_top.specs.Why.{IsWhy, CompiledFor, BeginsAs, Opens}
 use Rattle.ldb_top.specs.Words.{Form, Debug, Go, Make, Own, form_of, form_in}
+use Rattle.ldb_top.proofs.Broken.{front_none, take_front, known_nothing}
 
 -- ---- before the session
 
 early : (form : Form) (n : Names) (old new : Outside) (s : Stop) (status : Status) (r : Result Status Fault) → r ≡ Ok status → ending_of s ≡ Ok status → ((known : FileMap) → old.held ≡ Some known → IsWhy form n known s) → IsLine n s → OnOk r (new.taken ≡ known_and old.taken (line_of s)) → new.held ≡ old.held → new.left ≡ old.left → EndsEarly form n old new status
 early form n old new s status r e st why line said h u = record { stop = s; status_is = st; why = why; line = line; told = subst (λ x. OnOk x (new.taken ≡ known_and old.taken (line_of s))) e said; held_is = h; unread = u }
 
-faulted : (form : Form) (n : Names) (old new : Outside) (s : Stop) (r : Result Status Fault) (f : Fault) → r ≡ Err f → ((known : FileMap) → old.held ≡ Some known → IsWhy form n known s) → IsLine n s → OnErr r (TakesFront old.taken new.taken (line_of s)) → new.held ≡ old.held → new.left ≡ old.left → ComesTo form n old new r
-faulted form n old new s r f e why line front h u =
-    subst (ComesTo form n old new) (sym e) (inl (record { stop = s; why = why; line = line; told = subst (λ x. OnErr x (TakesFront old.taken new.taken (line_of s))) e front; held_is = h; unread = u }))
+-- of a stop that has no line nothing is printed
+silent_for : (s : Stop) (taken taken' : Option (List ℕ)) → TakesFront taken taken' (line_of s) → fault_of s ≢ fault.Write → taken' ≡ taken
+silent_for stop.Read taken taken' f w = f.front ∙ ap (known_and taken) (front_none (take f.count []) [] refl (take_front f.count [])) ∙ known_nothing taken
+silent_for stop.NoMemory taken taken' f w = f.front ∙ ap (known_and taken) (front_none (take f.count []) [] refl (take_front f.count [])) ∙ known_nothing taken
+silent_for (stop.Missing line) taken taken' f w = absurd (w refl)
+silent_for (stop.TooLong line) taken taken' f w = absurd (w refl)
+silent_for (stop.Refused line) taken taken' f w = absurd (w refl)
+silent_for (stop.Bad line) taken taken' f w = absurd (w refl)
 
-pub told_comes : (form : Form) (n : Names) (old new : Outside) (s : Stop) (r : Result Status Fault) → (r ≡ ending_of s) ⊎ (r ≡ Err fault.Write) → ((known : FileMap) → old.held ≡ Some known → IsWhy form n known s) → IsLine n s → OnOk r (new.taken ≡ known_and old.taken (line_of s))
+faulted : (form : Form) (n : Names) (old new : Outside) (s : Stop) (r : Result Status Fault) → r ≡ Err (fault_of s) → ((known : FileMap) → old.held ≡ Some known → IsWhy form n known s) → IsLine n s → OnErr r (TakesFront old.taken new.taken (line_of s)) → new.held ≡ old.held → new.left ≡ old.left → ComesTo form n old new r
+faulted form n old new s r e why line front h u =
+    let told : TakesFront old.taken new.taken (line_of s) = subst (λ x. OnErr x (TakesFront old.taken new.taken (line_of s))) e front in
+    subst (ComesTo form n old new) (sym e) (inl (record { stop = s; fault_is = refl; why = why; line = line; told = told; silent = silent_for s old.taken new.taken told; held_is = h; unread = u }))
+
+pub told_comes : (form : Form) (n : Names) (old new : Outside) (s : Stop) (r : Result Status Fault) → (r ≡ ending_of s) ⊎ (r ≡ Err (fault_of s)) → ((known : FileMap) → old.held ≡ Some known → IsWhy form n known s) → IsLine n s → OnOk r (new.taken ≡ known_and old.taken (line_of s))
     → OnErr r (TakesFront old.taken new.taken (line_of s)) → new.held ≡ old.held → new.left ≡ old.left → ComesTo form n old new r
-told_comes form n old new s r (inr e) why is said front h u = faulted form n old new s r fault.Write e why is front h u
-told_comes form n old new stop.Read r (inl e) why is said front h u = faulted form n old new stop.Read r fault.Read e why is front h u
-told_comes form n old new stop.NoMemory r (inl e) why is said front h u = faulted form n old new stop.NoMemory r fault.NoMemory e why is front h u
+told_comes form n old new s r (inr e) why is said front h u = faulted form n old new s r e why is front h u
+told_comes form n old new stop.Read r (inl e) why is said front h u = faulted form n old new stop.Read r e why is front h u
+told_comes form n old new stop.NoMemory r (inl e) why is said front h u = faulted form n old new stop.NoMemory r e why is front h u
 told_comes form n old new (stop.Missing line) r (inl e) why is said front h u = subst (ComesTo form n old new) (sym e) (early form n old new (stop.Missing line) NoFile r e refl why is said h u)
 told_comes form n old new (stop.TooLong line) r (inl e) why is said front h u = subst (ComesTo form n old new) (sym e) (inl (early form n old new (stop.TooLong line) TooLong r e refl why is said h u))
 told_comes form n old new (stop.Refused line) r (inl e) why is said front h u = subst (ComesTo form n old new) (sym e) (early form n old new (stop.Refused line) Refused r e refl why is said h u)
@@ -93,7 +104,7 @@ served_comes form n old new session (Ok BadFile) b s t so l = absurd s
 served_comes form n old new session (Err f) b s t so l = inr (record {
   left = l;
   begun = λ known h. (b known h).0;
-  conversed = λ known h. begins_as (λ (raw : Bool) (st : SessionState). IsOver raw session st) (HasFaultedOver n old new) (λ raw st w over. so raw st known over w h) form n known (b known h).1;
+  conversed = λ known h. begins_as (λ (raw : Bool) (st : SessionState). IsOver raw session st) (HasFaultedOver n old new f) (λ raw st w over. so raw st known over w h) form n known (b known h).1;
 })
 
 -- what holds whatever is answered
@@ -111,13 +122,13 @@ served_late old new before r l m (inl e) said = subst (Served old new) (sym e) (
 pub late_so : (name : List ℕ) (raw : Bool) (st : SessionState) (old new : Outside) (between : Option (List ℕ)) (r : Result Status Fault) → LateAs true (lines_of old.left) → HasConversed raw st (lines_of old.left) old.taken between (held_under new.held name)
     → (r ≡ Ok TooLong) ⊎ (r ≡ Err fault.Write) → OnOk r (new.taken ≡ known_and between late_line) → OnErr r (TakesFront between new.taken late_line) → ServedSo name raw st old new r
 late_so name raw st old new between r long so (inr e) said front =
-    subst (ServedSo name raw st old new) (sym e) (inr (inr (record { long = long; between = between; conversed = so; front = subst (λ x. OnErr x (TakesFront between new.taken late_line)) e front })))
+    subst (ServedSo name raw st old new) (sym e) (inr (inr (record { unwritten = refl; long = long; between = between; conversed = so; front = subst (λ x. OnErr x (TakesFront between new.taken late_line)) e front })))
 late_so name raw st old new between r long so (inl e) said front = subst (ServedSo name raw st old new) (sym e) (between, subst (λ x. OnOk x (new.taken ≡ known_and between late_line)) e said, so)
 
 -- ---- words of a form
 
 -- the status of a fault says what the fault does
-pub fault_comes : (form : Option Form) (asked : List (List ℕ)) (old new : Outside) (f : Fault) (status : Status) → ((g : Form) (n : Names) → Faults g n old new → Comes g n old new status) → SessionComesTo form asked old new (Err f) → SessionComes form asked old new status
+pub fault_comes : (form : Option Form) (asked : List (List ℕ)) (old new : Outside) (f : Fault) (status : Status) → ((g : Form) (n : Names) → Faults g n old new f → Comes g n old new status) → SessionComesTo form asked old new (Err f) → SessionComes form asked old new status
 fault_comes None asked old new f status to c = tt
 fault_comes (Some Debug) asked old new f status to c = to Debug (names_of Debug (drop 1 asked)) c
 fault_comes (Some Go) asked old new f status to c = to Go (names_of Go (drop 1 asked)) c

@@ -1,5 +1,5 @@
 -- Sessions, line by line.
-use Rattle.std.proofs.Common.{◌≡◌, ◌⊎◌, ℕ, Bool, true, false, if◌then◌else◌, List, [], ◌∷◌, ◌++◌, length, nat_le, Option, None, Some, Ok, Err, inl, inr, refl, sym, ap, ◌∙◌, subst, append_assoc, append-nil, arith}
+use Rattle.std.proofs.Common.{◌≡◌, ◌⊎◌, ℕ, Bool, true, false, if◌then◌else◌, List, [], ◌∷◌, ◌++◌, length, codes, nat_le, Option, None, Some, Ok, Err, inl, inr, refl, sym, ap, ◌∙◌, subst, append_assoc, append-nil, arith}
 use Rattle.std.specs.declared.result.Result.{Result}
 use Rattle.std.specs.Prelude.{IfOk, OnOk}
 use Rattle.c_session.specs.declared.command.Command.{Command}
@@ -14,6 +14,8 @@ use Rattle.nub_wire.specs.Delivery.{World}
 use Rattle.near_link.specs.Near.{near_conduct}
 use Rattle.targets.specs.Targets.{machine_behaviour}
 use Rattle.claims.specs.Side.{SessionState}
+use Rattle.asking_meaning.specs.Meant.{joined}
+use Rattle.claims.specs.Lines.{Reply}
 use Rattle.claims.specs.Outcome.{Answers, refused_by_state}
 use Rattle.session.specs.declared.answers.Answer.{Answer}
 use Rattle.session.specs.declared.answers.Answer.TheVariants as answer
@@ -26,12 +28,11 @@ use Rattle.session.specs.Meant.{Hosts, Represents, Answered, AnswersAs, MeantAns
 use Rattle.ldb_top.specs.declared.serving.Next.{Next}
 use Rattle.ldb_top.specs.declared.serving.Next.TheVariants as next
 use Rattle.ldb_top.specs.Ahead.{Lines, line_and, lines_if}
-use Rattle.ldb_top.specs.Conversed.{commands_in, wanting_line, refused_in, IsOpen, Converses, Told}
+use Rattle.ldb_top.specs.Conversed.{commands_in, wanting_line, asks_sides, refused_in, IsOpen, Converses, Told}
 use Rattle.ldb_top.specs.Fronts.{BreaksOff}
 use Rattle.ldb_top.specs.Conversing.{Grows, IsOver, Here, here, IsSo, GoesSo, NextIsSo}
 use Rattle.ldb_top.specs.Late.{asks_quit}
 use Rattle.ldb_top.proofs.Growing.{grows_on, grows_same}
-use Rattle.ldb_top.proofs.Lates.{same_quit, quits_not}
 
 -- ---- which lines have a reply
 
@@ -52,6 +53,45 @@ said_or_not (Some Quit) = inl tt
 said_or_not (Some Regs) = inl tt
 said_or_not (Some (Code x)) = inr (λ h. h)
 said_or_not (Some (Ps x)) = inl tt
+
+-- a command of which it isn't told asks the sides
+pub unsaid_asks : (c : Option Command) → ¬ IsSaidIfAny c → asks_sides c ≡ true
+unsaid_asks None n = absurd (n tt)
+unsaid_asks (Some (Break x)) n = refl
+unsaid_asks (Some (Clear x)) n = refl
+unsaid_asks (Some Continue) n = refl
+unsaid_asks (Some Step) n = refl
+unsaid_asks (Some (Turns x)) n = absurd (n tt)
+unsaid_asks (Some Frames) n = refl
+unsaid_asks (Some (Frame x)) n = refl
+unsaid_asks (Some (Print x)) n = refl
+unsaid_asks (Some (Eval x)) n = refl
+unsaid_asks (Some (Assign x)) n = refl
+unsaid_asks (Some Quit) n = absurd (n tt)
+unsaid_asks (Some Regs) n = refl
+unsaid_asks (Some (Code x)) n = refl
+unsaid_asks (Some (Ps x)) n = refl
+
+-- and of the others it does not
+AsksNone : Option Command → Type 0
+AsksNone c = (c ≡ None) ⊎ ((c ≡ Some Quit) ⊎ ((n : ℕ) × (c ≡ Some (Turns n))))
+
+asks_or_not : (c : Option Command) → (asks_sides c ≡ true) ⊎ AsksNone c
+asks_or_not None = inr (inl refl)
+asks_or_not (Some (Break x)) = inl refl
+asks_or_not (Some (Clear x)) = inl refl
+asks_or_not (Some Continue) = inl refl
+asks_or_not (Some Step) = inl refl
+asks_or_not (Some (Turns x)) = inr (inr (inr (x, refl)))
+asks_or_not (Some Frames) = inl refl
+asks_or_not (Some (Frame x)) = inl refl
+asks_or_not (Some (Print x)) = inl refl
+asks_or_not (Some (Eval x)) = inl refl
+asks_or_not (Some (Assign x)) = inl refl
+asks_or_not (Some Quit) = inr (inr (inl refl))
+asks_or_not (Some Regs) = inl refl
+asks_or_not (Some (Code x)) = inl refl
+asks_or_not (Some (Ps x)) = inl refl
 
 blank_line : (raw : Bool) (line : List ℕ) (ls : List (List ℕ)) → is_empty line ≡ true → commands_in raw (line ∷ ls) ≡ commands_in raw ls
 blank_line raw line ls e = ap (λ b. if b then commands_in raw ls else read_of raw line ∷ commands_in raw ls) e
@@ -113,7 +153,7 @@ blank_so raw st s s' line lines taken taken' out out' blank over same told put =
       over = subst (λ (x : Session World). IsOver raw x st) (sym same) over;
       put = put;
       on = λ t o so. front_told Converses raw st st line lines taken taken' out out' t o [] told (λ ls rest output c. subst (λ (cs : List (Option Command)). Converses st cs rest output) (sym (blank_line raw line ls blank)) c) so;
-      part = λ t o so. front_told BreaksOff raw st st line lines taken taken' out out' t o [] told (λ ls rest output c. subst (λ (cs : List (Option Command)). BreaksOff st cs rest output) (sym (blank_line raw line ls blank)) c) so;
+      part = λ f t o so. front_told (BreaksOff f) raw st st line lines taken taken' out out' t o [] told (λ ls rest output c. subst (λ (cs : List (Option Command)). BreaksOff f st cs rest output) (sym (blank_line raw line ls blank)) c) so;
     })
 
 -- a line that was answered
@@ -129,8 +169,22 @@ answered_so raw st s s' line lines taken taken' out out' kept text bytes full ov
       put = put ∙ ap Some (sym (a.written ∙ ap (λ x. st.written ++ x) added));
       on = λ t o so. front_told Converses raw st a.after line lines taken taken' out out' t o text told (λ ls rest output c.
           subst (λ (cs : List (Option Command)). Converses st cs (text ++ rest) output) (sym (read_line raw line ls full)) (inr (inr (a.reply, rest, a.after, says, ap (λ x. x ++ rest) a.text_is, c)))) so;
-      part = λ t o so. front_told BreaksOff raw st a.after line lines taken taken' out out' t o text told (λ ls rest output c.
-          subst (λ (cs : List (Option Command)). BreaksOff st cs (text ++ rest) output) (sym (read_line raw line ls full)) (inr (inr (inr (inr (a.reply, rest, a.after, says, ap (λ x. x ++ rest) a.text_is, c)))))) so;
+      part = λ f t o so. front_told (BreaksOff f) raw st a.after line lines taken taken' out out' t o text told (λ ls rest output c.
+          subst (λ (cs : List (Option Command)). BreaksOff f st cs (text ++ rest) output) (sym (read_line raw line ls full)) (inr (inr (inr (inr (a.reply, rest, a.after, says, ap (λ x. x ++ rest) a.text_is, c)))))) so;
+    })
+
+-- a line that was answered and left the session as it was
+stays_so : (raw : Bool) (st : SessionState) (s s' : Session World) (line : List ℕ) (lines : Option Lines) (taken taken' out out' : Option (List ℕ)) (reply : Reply) → is_empty line ≡ false → IsOver raw s st → s' ≡ s → Answers machine_behaviour st (read_of raw line) reply st
+    → taken' ≡ known_and taken (joined reply) → out' ≡ Some st.written → GoesSo raw st (here (line_and line lines) taken out) s' (here lines taken' out')
+stays_so raw st s s' line lines taken taken' out out' reply full over same says told put =
+    inl (record {
+      session = st;
+      over = subst (λ (x : Session World). IsOver raw x st) (sym same) over;
+      put = put;
+      on = λ t o so. front_told Converses raw st st line lines taken taken' out out' t o (joined reply) told (λ ls rest output c.
+          subst (λ (cs : List (Option Command)). Converses st cs (joined reply ++ rest) output) (sym (read_line raw line ls full)) (inr (inr (reply, rest, st, says, refl, c)))) so;
+      part = λ f t o so. front_told (BreaksOff f) raw st st line lines taken taken' out out' t o (joined reply) told (λ ls rest output c.
+          subst (λ (cs : List (Option Command)). BreaksOff f st cs (joined reply ++ rest) output) (sym (read_line raw line ls full)) (inr (inr (inr (inr (reply, rest, st, says, refl, c)))))) so;
     })
 
 -- the machine session's answer to a line that the state refuses
@@ -142,16 +196,18 @@ refused_answers st (Some k) u e = rw e (inl (refl, refl))
 refused_so : (raw : Bool) (st : SessionState) (s s' : Session World) (line : List ℕ) (lines : Option Lines) (taken taken' out out' : Option (List ℕ)) (u : Refusal) → is_empty line ≡ false → IsOver raw s st → s' ≡ s → refused_in st.state (read_of raw line) ≡ Some u
     → taken' ≡ known_and taken (refusal_reply u) → out' ≡ Some st.written → GoesSo raw st (here (line_and line lines) taken out) s' (here lines taken' out')
 refused_so raw st s s' line lines taken taken' out out' u full over same why told put =
-    inl (record {
-      session = st;
-      over = subst (λ (x : Session World). IsOver raw x st) (sym same) over;
-      put = put;
-      on = λ t o so. front_told Converses raw st st line lines taken taken' out out' t o (refusal_reply u) told (λ ls rest output c.
-          subst (λ (cs : List (Option Command)). Converses st cs (refusal_reply u ++ rest) output) (sym (read_line raw line ls full)) (inr (inr (refusal_text u ∷ [], rest, st, refused_answers st (read_of raw line) u why, ap (λ x. x ++ rest) (sym (append-nil (refusal_reply u))), c)))) so;
-      part = λ t o so. front_told BreaksOff raw st st line lines taken taken' out out' t o (refusal_reply u) told (λ ls rest output c.
-          subst (λ (cs : List (Option Command)). BreaksOff st cs (refusal_reply u ++ rest) output) (sym (read_line raw line ls full))
-          (inr (inr (inr (inr (refusal_text u ∷ [], rest, st, refused_answers st (read_of raw line) u why, ap (λ x. x ++ rest) (sym (append-nil (refusal_reply u))), c)))))) so;
-    })
+    stays_so raw st s s' line lines taken taken' out out' (refusal_text u ∷ []) full over same (refused_answers st (read_of raw line) u why) (told ∙ ap (λ x. known_and taken x) (sym (append-nil (refusal_reply u)))) put
+
+-- its answer where there is no memory to refuse a line, or to tell a new limit
+abbrev wanting_reply : Reply
+wanting_reply = codes "no memory" ∷ []
+
+wanting_refused : (st : SessionState) (c : Option Command) (u : Refusal) → refused_in st.state c ≡ Some u → Answers machine_behaviour st c wanting_reply st
+wanting_refused st None u e = absurd (let w = e in cc)
+wanting_refused st (Some k) u e = rw e (inr (refl, refl))
+
+wanting_turns : (st : SessionState) (n : ℕ) → refused_in st.state (Some (Turns n)) ≡ None → Answers machine_behaviour st (Some (Turns n)) wanting_reply st
+wanting_turns st n e = rw e (inr (refl, refl))
 
 -- `quit`
 quit_so : (raw : Bool) (st : SessionState) (line : List ℕ) (lines : Option Lines) (taken out out' : Option (List ℕ)) → is_empty line ≡ false → asks_quit (read_of raw line) ≡ true → out' ≡ Some st.written
@@ -192,6 +248,11 @@ AnswersLine s s' line st kept kept' r =
 abbrev pub RefusesLine : (s s' : Session World) → (line bytes : List ℕ) → Result Answer End → Type 0
 RefusesLine s s' line bytes r = (k : Command) (u : Refusal) → read_of s.raw line ≡ Some k → refused_by_state (state_of s.mode) k ≡ Some u → Replied (refusal_reply u) r × (s' ≡ s) × (bytes ≡ [])
 
+-- a line that is no command, and `turns`, where there was no memory for the reply
+record StaysWanting (s s' : Session World) (line : List ℕ) : Type 0 where
+  malformed : read_of s.raw line ≡ None → s' ≡ s
+  turned : (n : ℕ) → read_of s.raw line ≡ Some (Turns n) → refused_by_state (state_of s.mode) (Turns n) ≡ None → s' ≡ s
+
 module _ (raw : Bool) (st : SessionState) (s s' : Session World) (line : List ℕ) (lines : Option Lines) (taken taken' out out' kept kept' : Option (List ℕ)) (bytes : List ℕ) (r : Result Answer End) (over : IsOver raw s st) where
   -- the reply to a line that the state refuses, by what the line is
   refused_why : (c : Option Command) (u : Refusal) → read_of s.raw line ≡ c → refused_in st.state c ≡ Some u → RefusesLine s s' line bytes r → Replied (refusal_reply u) r × (s' ≡ s) × (bytes ≡ [])
@@ -201,7 +262,7 @@ module _ (raw : Bool) (st : SessionState) (s s' : Session World) (line : List �
   -- a command of which nothing else is said, by whether the state refuses it
   unsaid_so : (text : List ℕ) (why : Option Refusal) → refused_in st.state (read_of raw line) ≡ why → ¬ IsSaidIfAny (read_of raw line) → is_empty line ≡ false → r ≡ Ok (answer.Lines text) → RefusesLine s s' line bytes r
       → taken' ≡ known_and taken text → out' ≡ Some (st.written ++ bytes) → GoesSo raw st (here (line_and line lines) taken out) s' (here lines taken' out')
-  unsaid_so text None e unsaid full is refuses told put = open_so raw st s' line lines taken taken' out out' text bytes full told put (λ more. inl (unsaid, e))
+  unsaid_so text None e unsaid full is refuses told put = open_so raw st s' line lines taken taken' out out' text bytes full told put (λ more. (unsaid_asks (read_of raw line) unsaid, e, inl unsaid))
   unsaid_so text (Some u) e unsaid full is refuses told put =
       let said = refused_why (read_of s.raw line) u refl (subst (λ x. refused_in st.state (read_of x line) ≡ Some u) (sym over.raw_is) e) refuses in
       let reply : text ≡ refusal_reply u = subst (Replied (refusal_reply u)) is said.0 in
@@ -235,13 +296,36 @@ module _ (raw : Bool) (st : SessionState) (s s' : Session World) (line : List �
   not_blank true e blank unblank = absurd (unblank (blank e))
   not_blank false e blank unblank = e
 
-  -- for want of memory
-  pub wanting_so : r ≡ Ok answer.NoMemory → (is_empty line ≡ true → r ≡ Ok (answer.Lines [])) → (read_of s.raw line ≡ Some Quit → r ≡ Err end.Quit) → taken' ≡ known_and taken wanting_line → out' ≡ Some (st.written ++ bytes)
+  -- that there was no memory, and nothing was done
+  stays_wanting : s' ≡ s → bytes ≡ [] → is_empty line ≡ false → Answers machine_behaviour st (read_of raw line) wanting_reply st → taken' ≡ known_and taken wanting_line → out' ≡ Some (st.written ++ bytes)
       → GoesSo raw st (here (line_and line lines) taken out) s' (here lines taken' out')
-  wanting_so is blank quit told put =
+  stays_wanting same nothing full says told put =
+      stays_so raw st s s' line lines taken taken' out out' wanting_reply full over same says told (put ∙ ap (λ x. Some (st.written ++ x)) nothing ∙ ap Some (append-nil st.written))
+
+  -- by what the line is
+  wanting_settled : (c : Option Command) → read_of raw line ≡ c → AsksNone c → (c ≡ Some Quit → ⊥) → refused_in st.state c ≡ None → StaysWanting s s' line → (s' ≡ s) × Answers machine_behaviour st c wanting_reply st
+  wanting_settled c e (inl none) unquit why stays = (stays.malformed (ap (λ x. read_of x line) over.raw_is ∙ (e ∙ none)), subst (λ (k : Option Command). Answers machine_behaviour st k wanting_reply st) (sym none) (inr (refl, refl)))
+  wanting_settled c e (inr (inl quit)) unquit why stays = absurd (unquit quit)
+  wanting_settled c e (inr (inr turns)) unquit why stays =
+      let unrefused : refused_in st.state (Some (Turns turns.0)) ≡ None = subst (λ k. refused_in st.state k ≡ None) turns.1 why in
+      (stays.turned turns.0 (ap (λ x. read_of x line) over.raw_is ∙ (e ∙ turns.1)) (subst (λ x. refused_by_state x (Turns turns.0) ≡ None) over.represents.state unrefused), subst (λ (k : Option Command). Answers machine_behaviour st k wanting_reply st) (sym turns.1) (wanting_turns st turns.0 unrefused))
+
+  wanting_why : (why : Option Refusal) → refused_in st.state (read_of raw line) ≡ why → (asks_sides (read_of raw line) ≡ true) ⊎ AsksNone (read_of raw line) → (read_of raw line ≡ Some Quit → ⊥) → bytes ≡ [] → is_empty line ≡ false → StaysWanting s s' line → RefusesLine s s' line bytes r
+      → taken' ≡ known_and taken wanting_line → out' ≡ Some (st.written ++ bytes) → GoesSo raw st (here (line_and line lines) taken out) s' (here lines taken' out')
+  wanting_why (Some u) e asks unquit nothing full stays refuses told put =
+      let said = refused_why (read_of s.raw line) u refl (subst (λ x. refused_in st.state (read_of x line) ≡ Some u) (sym over.raw_is) e) refuses in
+      stays_wanting said.1 nothing full (wanting_refused st (read_of raw line) u e) told put
+  wanting_why None e (inl asks) unquit nothing full stays refuses told put = open_so raw st s' line lines taken taken' out out' wanting_line bytes full told put (λ more. (asks, e, inr (record { rest = more; is = refl })))
+  wanting_why None e (inr none) unquit nothing full stays refuses told put =
+      let settled = wanting_settled (read_of raw line) refl none unquit e stays in
+      stays_wanting settled.0 nothing full settled.1 told put
+
+  -- for want of memory
+  pub wanting_so : r ≡ Ok answer.NoMemory → (is_empty line ≡ true → r ≡ Ok (answer.Lines [])) → (read_of s.raw line ≡ Some Quit → r ≡ Err end.Quit) → bytes ≡ [] → StaysWanting s s' line → RefusesLine s s' line bytes r
+      → taken' ≡ known_and taken wanting_line → out' ≡ Some (st.written ++ bytes) → GoesSo raw st (here (line_and line lines) taken out) s' (here lines taken' out')
+  wanting_so is blank quit nothing stays refuses told put =
       let full : is_empty line ≡ false = not_blank (is_empty line) refl blank (λ e. cc) in
-      let unquit : asks_quit (read_of raw line) ≡ false = same_quit raw line ∙ quits_not s.raw line (λ q. (let e : r ≡ Err end.Quit = quit q in cc)) in
-      open_so raw st s' line lines taken taken' out out' wanting_line bytes full told put (λ more. inr (unquit, record { rest = more; is = refl }))
+      wanting_why (refused_in st.state (read_of raw line)) refl (asks_or_not (read_of raw line)) (λ q. (let e : r ≡ Err end.Quit = quit (ap (λ x. read_of x line) over.raw_is ∙ q) in cc)) nothing full stays refuses told put
 
   -- for `quit`
   pub ended_so : r ≡ Err end.Quit → (is_empty line ≡ true → r ≡ Ok (answer.Lines [])) → read_of s.raw line ≡ Some Quit → bytes ≡ [] → out' ≡ Some (st.written ++ bytes) → IsSo raw st (here (line_and line lines) taken out) taken out'
@@ -289,7 +373,7 @@ ended_last raw st s line line' before left taken out taken' out' n so is same =
 pub next_so : (raw : Bool) (st : SessionState) (start : Here) (s s' : Session World) (now behind : Here) (n : Next) → GoesSo raw st start s now → Grows now.taken behind.taken → Grows now.out behind.out
     → ((between : SessionState) → IsOver raw s between → now.out ≡ Some between.written → NextIsSo raw between now s' behind n) → NextIsSo raw st start s' behind n
 next_so raw st start s s' now behind next.Line (inl g) took put step = elim (step g.session g.over g.put) [
-  | inl h ↦ inl (record { session = h.session; over = h.over; put = h.put; on = λ t o so. g.on t o (h.on t o so); part = λ t o so. g.part t o (h.part t o so) })
+  | inl h ↦ inl (record { session = h.session; over = h.over; put = h.put; on = λ t o so. g.on t o (h.on t o so); part = λ f t o so. g.part f t o (h.part f t o so) })
   | inr h ↦ inr (λ t o a b. g.on t o (h t o a b))
 ]
 next_so raw st start s s' now behind next.Line (inr g) took put step = inr (λ t o a b. g t o (grows_on now.taken behind.taken t took a) (grows_on now.out behind.out o put b))

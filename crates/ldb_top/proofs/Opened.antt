@@ -32,18 +32,39 @@ use Rattle.ldb_top.proofs.Fronted.{all_on, missing_on}
 pub table_why : (target : ℕ) (text line word : List ℕ) (f : TableFault) → IsTableOf text target (Err f) → table_word f ≡ Some word → line ≡ bad_table_line word → IsTableWhy target text line
 table_why target text line word f c w e = record { fault = f; comes = c; tells = record { word = word; word_is = w; line_is = e } }
 
-pub built_then : {A : Type 0} (aim : Aim) (names texts : List (List ℕ)) (image : ImageFields) (table : List ℕ) (r : Result A Stop) → IsBuilt aim names texts image table → IfErr r (IsTableStop image.target table) → BuildsFrom names texts r
+pub built_then : {A : Type 0} (aim : Aim) (names texts : List (List ℕ)) (image : ImageFields) (table : List ℕ) (r : Result A Stop) → IsBuilt aim names texts image table → IfErr r (IsTableStop image.target table) → BuildsFrom (Some aim) names texts r
 built_then aim names texts image table (Ok x) b t = (b.program, b.is_program)
 built_then aim names texts image table (Err NoMemory) b t = tt
-built_then aim names texts image table (Err (Bad line)) b t = record { aim = aim; image = image; text = table; built = b; told = t }
+built_then aim names texts image table (Err (Bad line)) b t = record { image = image; text = table; built = b; told = t }
 built_then aim names texts image table (Err Read) b t = absurd t
 built_then aim names texts image table (Err (Missing line)) b t = absurd t
 built_then aim names texts image table (Err (TooLong line)) b t = absurd t
 built_then aim names texts image table (Err (Refused line)) b t = absurd t
 
-pub started_then : {A : Type 0} (names texts : List (List ℕ)) (r : Result A Stop) → AreProgram names texts → IfErr r (λ stop. stop ≡ NoMemory) → BuildsFrom names texts r
-started_then names texts (Ok x) p e = p
-started_then names texts (Err stop) p e = subst (IsBuildWhy names texts) (sym e) tt
+-- what stops the first of both targets, or the second behind the first
+pub first_why : (names texts : List (List ℕ)) (stop : Stop) → IsBuildWhy (Some Mips) names texts stop → IsBuildWhy None names texts stop
+first_why names texts NoMemory w = tt
+first_why names texts (Refused line) w = w
+first_why names texts (Bad line) w = inl w
+first_why names texts Read w = absurd w
+first_why names texts (Missing line) w = absurd w
+first_why names texts (TooLong line) w = absurd w
+
+pub second_why : (names texts : List (List ℕ)) (stop : Stop) → AreCompiled Mips names texts → IsBuildWhy (Some Sparc) names texts stop → IsBuildWhy None names texts stop
+second_why names texts NoMemory first w = tt
+second_why names texts (Refused line) first w = w
+second_why names texts (Bad line) first w = inr (first, w)
+second_why names texts Read first w = absurd w
+second_why names texts (Missing line) first w = absurd w
+second_why names texts (TooLong line) first w = absurd w
+
+-- by the targets that were asked for
+pub why_for : (aims : Aims) (aim : Option Aim) (names texts : List (List ℕ)) (stop : Stop) → aim_in aims ≡ aim → IsBuildWhy aim names texts stop → IsBuildWhy (aim_in aims) names texts stop
+why_for aims aim names texts stop e w = subst (λ (o : Option Aim). IsBuildWhy o names texts stop) (sym e) w
+
+pub started_then : {A : Type 0} (aim : Option Aim) (names texts : List (List ℕ)) (r : Result A Stop) → AreProgram names texts → IfErr r (λ stop. stop ≡ NoMemory) → BuildsFrom aim names texts r
+started_then aim names texts (Ok x) p e = p
+started_then aim names texts (Err stop) p e = subst (IsBuildWhy aim names texts) (sym e) tt
 
 pub wrong_image : (text table : List ℕ) (f : ImageFault) (stop : Stop) → Reads text (Err f) → IsImageTold f stop → IsLoadWhy text table stop
 wrong_image text table f NoMemory r t = tt
@@ -71,7 +92,7 @@ pub loaded_then : (text table input : List ℕ) (image : ImageFields) (images : 
 loaded_then text table input image images tables (Ok session) reads one e over = (record { image = image; reads = reads; store = one.store; comes = one.comes }, over image table one)
 loaded_then text table input image images tables (Err stop) reads one e over = subst (IsLoadWhy text table) (sym e) tt
 
-abbrev compiled : (aim : Aim) (names texts : List (List ℕ)) (images images' : List ImageFields) (tables tables' : List StoreState) → AddsCompiled aim names texts images images' tables tables' → AreCompiled aim names texts
+abbrev pub compiled : (aim : Aim) (names texts : List (List ℕ)) (images images' : List ImageFields) (tables tables' : List StoreState) → AddsCompiled aim names texts images images' tables tables' → AreCompiled aim names texts
 compiled aim names texts images images' tables tables' one = record { image = one.image; text = one.text; built = one.built; store = one.adds.store; comes = one.adds.comes }
 
 compiled_so : (aim : Option Aim) (names texts : List (List ℕ)) (input : List ℕ) (images : List ImageFields) (tables : List StoreState) (session : Session World) → AddsFor aim names texts [] images [] tables → OverOne false input images tables session → OverBoth false input images tables session
@@ -131,7 +152,7 @@ right n known a i s = record { there = there known n a i; short = s }
 -- ---- all of it
 
 pub go_opens : (n : Names) (known : FileMap) (input : List ℕ) (texts : List (List ℕ)) (r : Result (Session World) Stop) → first_missing known n.about ≡ None → AreRead known n.about texts → first_missing known (n.input ∷ []) ≡ None → is_long (files.get known n.input) ≡ false
-    → files.get known n.input ≡ Some input → BuildsFrom n.about texts r → IfOk r (IsCompiledFor n.aim n.about texts input) → Opens Go n known r
+    → files.get known n.input ≡ Some input → BuildsFrom n.aim n.about texts r → IfOk r (IsCompiledFor n.aim n.about texts input) → Opens Go n known r
 go_opens n known input texts (Ok x) a t i s got b over = ((right n known a i s, (texts, t, b)), (input, got, (texts, t, over)))
 go_opens n known input texts (Err NoMemory) a t i s got b over = tt
 go_opens n known input texts (Err (Refused line)) a t i s got b over = (right n known a i s, (texts, t, b))

@@ -1,12 +1,12 @@
 -- What ends a call before its session, told.
-use Rattle.std.proofs.Common.{◌≡◌, ◌⊎◌, ◌<◌, ℕ, zero, suc, List, [], ◌∷◌, length, map, get_or, String, string_bytes, Option, Ok, Err, inl, inr, ap, subst, ◌∙◌, arith}
+use Rattle.std.proofs.Common.{◌≡◌, ◌⊎◌, ◌<◌, ℕ, zero, suc, List, [], ◌∷◌, length, map, get_or, String, string_bytes, Option, Some, None, Ok, Err, inl, inr, ap, subst, ◌∙◌, arith}
 use Rattle.std.specs.Global.{Global}
 use Rattle.std.specs.declared.result.Result.{Result}
 use Rattle.std.specs.Prelude.{OnOk, MatchResult}
 use Rattle.ldb_edge.specs.Known.{known_and}
 use Rattle.cc_call.specs.Lines.{name_in}
 use Rattle.cc_call.specs.declared.ended.Fault.{Fault}
-use Rattle.cc_call.specs.declared.ended.Fault.TheVariants as fault
+use Rattle.ldb_cc.specs.declared.aim.Aim.{Aim}
 use Rattle.nub_wire.specs.Delivery.{World}
 use Rattle.session.specs.declared.conversation.Session.{Session}
 use Rattle.ldb_top.specs.declared.status.Status.{Status}
@@ -14,10 +14,10 @@ use Rattle.ldb_top.specs.declared.status.Status.TheVariants as status
 use Rattle.ldb_top.specs.declared.status.Stop.{Stop}
 use Rattle.ldb_top.specs.declared.status.Stop.TheVariants.{Read, NoMemory, Missing, TooLong, Refused, Bad}
 use Rattle.ldb_top.specs.Causes.{IsMissed, TellsMissed}
-use Rattle.ldb_top.specs.Lines.{line_of, IsLine}
+use Rattle.ldb_top.specs.Lines.{line_of, IsLine, IsTableLine}
 use Rattle.ldb_top.specs.Names.{Names}
-use Rattle.ldb_top.specs.Stops.{ending_of, IsMissing, IsReadStop, IsGoStop, IsDebugStop, IsOpenStop}
-use Rattle.ldb_top.specs.Why.{IsBuildWhy, IsLoadWhy, BuildsFrom, LoadsFrom}
+use Rattle.ldb_top.specs.Stops.{ending_of, fault_of, IsMissing, IsReadStop, IsGoStop, IsDebugStop, IsOpenStop}
+use Rattle.ldb_top.specs.Why.{IsBadBuilt, IsBuildWhy, IsLoadWhy, BuildsFrom, LoadsFrom}
 
 -- the name at a place
 pub name_read : (names : List (String Global)) (i : ℕ) (v : String Global) → i < length names → v ≡ get_or names i v → string_bytes v ≡ name_in (map string_bytes names) i
@@ -28,7 +28,7 @@ name_read (n ∷ names) (suc i) v l e = name_read names i v (omega arith) e
 -- a file that isn't there ends the reading
 pub missing_stops : (missed : List ℕ → Type 0) (input : List ℕ) (before now : ℕ) (name : List ℕ) (stop : Stop) → IsMissing name stop → missed name → now ≡ before → IsReadStop missed input before now stop
 missing_stops missed input before now name (Missing line) m t e = (e, record { name = name; told = t; line_is = m })
-missing_stops missed input before now name NoMemory m t e = tt
+missing_stops missed input before now name NoMemory m t e = e
 missing_stops missed input before now name Read m t e = absurd m
 missing_stops missed input before now name (TooLong line) m t e = absurd m
 missing_stops missed input before now name (Refused line) m t e = absurd m
@@ -40,13 +40,19 @@ read_on missed input before mid now stop e s = subst (λ n. IsReadStop missed in
 
 -- ---- what is told of sources, and of an image and a table
 
-go_stops : (names texts : List (List ℕ)) (stop : Stop) → IsBuildWhy names texts stop → IsGoStop names stop
-go_stops names texts NoMemory w = tt
-go_stops names texts (Refused line) w = (w.fault, w.tells)
-go_stops names texts (Bad line) w = (w.told.fault, w.told.tells)
-go_stops names texts Read w = absurd w
-go_stops names texts (Missing line) w = absurd w
-go_stops names texts (TooLong line) w = absurd w
+-- a table that can't be used, of one target or of both
+bad_told : (aim : Option Aim) (names texts : List (List ℕ)) (line : List ℕ) → IsBadBuilt aim names texts line → IsTableLine line
+bad_told (Some aim) names texts line w = (w.told.fault, w.told.tells)
+bad_told None names texts line (inl w) = (w.told.fault, w.told.tells)
+bad_told None names texts line (inr w) = (w.1.told.fault, w.1.told.tells)
+
+go_stops : (aim : Option Aim) (names texts : List (List ℕ)) (stop : Stop) → IsBuildWhy aim names texts stop → IsGoStop names stop
+go_stops aim names texts NoMemory w = tt
+go_stops aim names texts (Refused line) w = (w.fault, w.tells)
+go_stops aim names texts (Bad line) w = bad_told aim names texts line w
+go_stops aim names texts Read w = absurd w
+go_stops aim names texts (Missing line) w = absurd w
+go_stops aim names texts (TooLong line) w = absurd w
 
 debug_stops : (text table : List ℕ) (stop : Stop) → IsLoadWhy text table stop → IsDebugStop stop
 debug_stops text table NoMemory w = tt
@@ -58,10 +64,10 @@ debug_stops text table (TooLong line) w = absurd w
 debug_stops text table (Refused line) w = absurd w
 
 -- a session that isn't begun once all files were read
-pub go_ends : {A : Type 0} (missed : List ℕ → Type 0) (input : List ℕ) (before now : ℕ) (names texts : List (List ℕ)) (r : Result A Stop) → BuildsFrom names texts r → now ≡ before
+pub go_ends : {A : Type 0} (missed : List ℕ → Type 0) (input : List ℕ) (before now : ℕ) (aim : Option Aim) (names texts : List (List ℕ)) (r : Result A Stop) → BuildsFrom aim names texts r → now ≡ before
     → MatchResult r (λ _. now ≡ before) (IsOpenStop (IsGoStop names) missed input before now)
-go_ends missed input before now names texts (Ok x) b e = e
-go_ends missed input before now names texts (Err stop) b e = inl (go_stops names texts stop b, e)
+go_ends missed input before now aim names texts (Ok x) b e = e
+go_ends missed input before now aim names texts (Err stop) b e = inl (go_stops aim names texts stop b, e)
 
 pub debug_ends : (missed : List ℕ → Type 0) (input : List ℕ) (before now : ℕ) (text table bytes : List ℕ) (r : Result (Session World) Stop) → LoadsFrom text table bytes r → now ≡ before
     → MatchResult r (λ _. now ≡ before) (IsOpenStop IsDebugStop missed input before now)
@@ -112,7 +118,7 @@ said_missed : (missed : List ℕ → Type 0) (line : List ℕ) (taken taken' : O
 said_missed missed line taken taken' m e = record { name = m.name; told = m.told; line_is = e ∙ ap (known_and taken) m.line_is }
 
 pub told_missed : (P : Stop → Type 0) (missed : List ℕ → Type 0) (input : List ℕ) (r r' : ℕ) (taken taken' : Option (List ℕ)) (stop : Stop) (result : Result Status Fault) → ((line : List ℕ) → P (Missing line) → ⊥) → IsOpenStop P missed input r r' stop
-    → (result ≡ ending_of stop) ⊎ (result ≡ Err fault.Write) → OnOk result (taken' ≡ known_and taken (line_of stop)) → result ≡ Ok status.NoFile → TellsMissed missed taken taken'
+    → (result ≡ ending_of stop) ⊎ (result ≡ Err (fault_of stop)) → OnOk result (taken' ≡ known_and taken (line_of stop)) → result ≡ Ok status.NoFile → TellsMissed missed taken taken'
 told_missed P missed input r r' taken taken' stop result never s (inr o) said n = absurd cc
 told_missed P missed input r r' taken taken' (Missing line) result never s (inl o) said n = said_missed missed line taken taken' (missed_in missed P input r r' line (never line) s) (subst (λ x. OnOk x (taken' ≡ known_and taken line)) n said)
 told_missed P missed input r r' taken taken' Read result never s (inl o) said n = absurd cc

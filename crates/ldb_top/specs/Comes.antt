@@ -1,8 +1,9 @@
 -- What a call comes to whose words ask for a session.
-use Rattle.std.specs.Prelude.{◌≡◌, ◌⊎◌, ℕ, Bool, true, false, List, [], drop, Option, Some, Result, Ok, Err}
+use Rattle.std.specs.Prelude.{◌≡◌, ◌≢◌, ◌⊎◌, ℕ, Bool, true, false, List, [], drop, Option, Some, Result, Ok, Err}
 use Rattle.claims.specs.Side.{SessionState}
 use Rattle.ldb_edge.specs.Known.{FileMap, known_and}
 use Rattle.cc_call.specs.declared.ended.Fault.{Fault}
+use Rattle.cc_call.specs.declared.ended.Fault.TheVariants.{Read, Write, NoMemory as NoRoom}
 use Rattle.cc_call.specs.Faults.{TakesFront}
 use Rattle.ldb_top.specs.declared.status.Status.{Status}
 use Rattle.ldb_top.specs.declared.status.Status.TheVariants.{Done, Refused, Words, ReadFault, WriteFault, NoMemory, NoFile, BadFile, TooLong}
@@ -17,7 +18,7 @@ use Rattle.ldb_top.specs.Lines.{line_of, late_line, IsLine}
 use Rattle.ldb_top.specs.Names.{Names, names_of}
 use Rattle.ldb_top.specs.Output.{held_under, is_there}
 use Rattle.ldb_top.specs.Said.{BeginsWith}
-use Rattle.ldb_top.specs.Stops.{ending_of}
+use Rattle.ldb_top.specs.Stops.{ending_of, fault_of}
 use Rattle.ldb_top.specs.Why.{IsWhy, Begins, BeginsAs}
 use Rattle.ldb_top.specs.Words.{Form, Debug, Go}
 
@@ -80,28 +81,32 @@ pub record NothingDone (old new : Outside) : Type 0 where
   pub unread : new.left ≡ old.left
   pub untold : new.taken ≡ old.taken
 
--- A fault before a session: the line that tells why there is none was printed in part, and nothing else was done.
-pub record FaultsEarly (form : Form) (n : Names) (old new : Outside) : Type 0 where
+-- A fault before a session: a file can't be read, there is no memory, or the line that tells why there is none can't be written whole.
+-- Nothing was printed but a front of that line, and nothing else done.
+pub record FaultsEarly (form : Form) (n : Names) (old new : Outside) (fault : Fault) : Type 0 where
   pub stop : Stop
+  pub fault_is : fault ≡ fault_of stop
   pub why : (known : FileMap) → old.held ≡ Some known → IsWhy form n known stop
   pub line : IsLine n stop
   pub told : TakesFront old.taken new.taken (line_of stop)
+  pub silent : fault ≢ Write → new.taken ≡ old.taken
   pub held_is : new.held ≡ old.held
   pub unread : new.left ≡ old.left
 
 -- from a machine session on: its output file couldn't be made and nothing was done, or it is there and a front of a conversation was told and put
-abbrev pub HasFaultedOver : Names → (old new : Outside) → (raw : Bool) → SessionState → Type 0
-HasFaultedOver n old new raw st = NothingDone old new ⊎ HasFaulted raw st (lines_of old.left) old.taken new.taken (held_under new.held n.output)
+abbrev pub HasFaultedOver : Names → (old new : Outside) → Fault → (raw : Bool) → SessionState → Type 0
+HasFaultedOver n old new fault raw st =
+    ((fault ≡ Write) × NothingDone old new) ⊎ HasFaulted fault raw st (lines_of old.left) old.taken new.taken (held_under new.held n.output)
 
 -- A fault once a session was begun. Of the commands what stands behind those bytes that were read is left.
-pub record FaultsLater (form : Form) (n : Names) (old new : Outside) : Type 0 where
+pub record FaultsLater (form : Form) (n : Names) (old new : Outside) (fault : Fault) : Type 0 where
   pub left : IsBehind old.left new.left
   pub begun : (known : FileMap) → old.held ≡ Some known → Begins form n known
-  pub conversed : (known : FileMap) → old.held ≡ Some known → BeginsAs (HasFaultedOver n old new) form n known
+  pub conversed : (known : FileMap) → old.held ≡ Some known → BeginsAs (HasFaultedOver n old new fault) form n known
 
 -- what a fault leaves
-abbrev pub Faults : Form → Names → (old new : Outside) → Type 0
-Faults form n old new = FaultsEarly form n old new ⊎ FaultsLater form n old new
+abbrev pub Faults : Form → Names → (old new : Outside) → Fault → Type 0
+Faults form n old new fault = FaultsEarly form n old new fault ⊎ FaultsLater form n old new fault
 
 -- what each status says
 abbrev pub Comes : Form → Names → (old new : Outside) → Status → Type 0
@@ -110,15 +115,15 @@ Comes form n old new TooLong = EndsEarly form n old new TooLong ⊎ EndsLate for
 Comes form n old new Refused = EndsEarly form n old new Refused
 Comes form n old new NoFile = EndsEarly form n old new NoFile
 Comes form n old new BadFile = EndsEarly form n old new BadFile
-Comes form n old new ReadFault = Faults form n old new
-Comes form n old new WriteFault = Faults form n old new
-Comes form n old new NoMemory = Faults form n old new
+Comes form n old new ReadFault = Faults form n old new Read
+Comes form n old new WriteFault = Faults form n old new Write
+Comes form n old new NoMemory = Faults form n old new NoRoom
 Comes form n old new Words = Unit {0}
 
 -- the same of a result
 abbrev pub ComesTo : Form → Names → (old new : Outside) → Result Status Fault → Type 0
 ComesTo form n old new (Ok status) = Comes form n old new status
-ComesTo form n old new (Err fault) = Faults form n old new
+ComesTo form n old new (Err fault) = Faults form n old new fault
 
 -- what the commands and the transcript tell of a session that was served
 abbrev pub Served : (old new : Outside) → Result Status Fault → Type 0
@@ -131,7 +136,7 @@ Served old new (Err fault) = Unit {0}
 abbrev pub ServedSo : (name : List ℕ) → (raw : Bool) → SessionState → (old new : Outside) → Result Status Fault → Type 0
 ServedSo name raw st old new (Ok Done) = HasConversed raw st (lines_of old.left) old.taken new.taken (held_under new.held name)
 ServedSo name raw st old new (Ok TooLong) = HasConversedLate raw st (lines_of old.left) old.taken new.taken (held_under new.held name)
-ServedSo name raw st old new (Err fault) = NothingDone old new ⊎ HasFaulted raw st (lines_of old.left) old.taken new.taken (held_under new.held name)
+ServedSo name raw st old new (Err fault) = ((fault ≡ Write) × NothingDone old new) ⊎ HasFaulted fault raw st (lines_of old.left) old.taken new.taken (held_under new.held name)
 ServedSo name raw st old new _ = Unit {0}
 
 -- so it is with words of these two forms

@@ -3,6 +3,7 @@ use Rattle.std.specs.Prelude.{◌≡◌, ◌⊎◌, ℕ, Bool, true, false, if�
 use Rattle.machine_state.specs.State.{Behaviour}
 use Rattle.targets.specs.Targets.{machine_behaviour}
 use Rattle.c_session.specs.declared.command.Command.{Command}
+use Rattle.c_session.specs.declared.command.Command.TheVariants.{Turns, Quit}
 use Rattle.c_session.specs.Commands.{Refusal}
 use Rattle.cmd_lang.specs.Words.{is_empty}
 use Rattle.cmd_lang.specs.Commands.{read_of}
@@ -34,10 +35,17 @@ abbrev pub refused_in : State → Option Command → Option Refusal
 refused_in state None = None
 refused_in state (Some c) = refused_by_state state c
 
--- From such a line on nothing is said of the transcript: a command whose meaning the session's contract doesn't tell, in a state that
--- doesn't refuse it, or one for which there was no memory.
+-- whether a line asks the tables or the machines, and so may want memory once something was done: a command other than `turns` and `quit`
+abbrev pub asks_sides : Option Command → Bool
+asks_sides None = false
+asks_sides (Some (Turns n)) = false
+asks_sides (Some Quit) = false
+asks_sides (Some c) = true
+
+-- From such a line on nothing is said of the transcript: a command that asks the sides, in a state that doesn't refuse it, and whose
+-- meaning the session's contract doesn't tell, or for which there was no memory.
 abbrev pub IsOpen : SessionState → Option Command → (transcript : List ℕ) → Type 0
-IsOpen st c transcript = ((¬ IsSaidIfAny c) × (refused_in st.state c ≡ None)) ⊎ ((asks_quit c ≡ false) × IsFront wanting_line transcript)
+IsOpen st c transcript = (asks_sides c ≡ true) × (refused_in st.state c ≡ None) × ((¬ IsSaidIfAny c) ⊎ IsFront wanting_line transcript)
 
 -- ---- a conversation
 

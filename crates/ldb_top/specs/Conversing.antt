@@ -4,6 +4,7 @@ use Rattle.ldb_edge.specs.Known.{known_and}
 use Rattle.nub_wire.specs.Delivery.{World}
 use Rattle.targets.specs.Targets.{machine_behaviour}
 use Rattle.near_link.specs.Near.{near_conduct}
+use Rattle.cc_call.specs.declared.ended.Fault.{Fault}
 use Rattle.claims.specs.Side.{SessionState}
 use Rattle.session.specs.declared.conversation.Session.{Session}
 use Rattle.session.specs.Meant.{Hosts, Represents}
@@ -46,9 +47,9 @@ here lines taken out = record { lines = lines; taken = taken; out = out }
 abbrev pub IsSo : (raw : Bool) → SessionState → Here → (taken out : Option (List ℕ)) → Type 0
 IsSo raw st at taken out = HasConversed raw st at.lines at.taken taken out
 
--- from there on this is a conversation that was broken off
-abbrev pub IsPart : (raw : Bool) → SessionState → Here → (taken out : Option (List ℕ)) → Type 0
-IsPart raw st at taken out = HasBrokenOff raw st at.lines at.taken taken out
+-- from there on this is a conversation that was broken off by a fault
+abbrev pub IsPart : Fault → (raw : Bool) → SessionState → Here → (taken out : Option (List ℕ)) → Type 0
+IsPart fault raw st at taken out = HasBrokenOff fault raw st at.lines at.taken taken out
 
 -- whatever comes behind it
 abbrev pub IsSoAlways : (raw : Bool) → SessionState → (start now : Here) → Type 0
@@ -60,7 +61,7 @@ pub record IsSoFar (raw : Bool) (st : SessionState) (start : Here) (s : Session 
   pub over : IsOver raw s session
   pub put : now.out ≡ Some session.written
   pub on : (taken out : Option (List ℕ)) → IsSo raw session now taken out → IsSo raw st start taken out
-  pub part : (taken out : Option (List ℕ)) → IsPart raw session now taken out → IsPart raw st start taken out
+  pub part : (fault : Fault) (taken out : Option (List ℕ)) → IsPart fault raw session now taken out → IsPart fault raw st start taken out
 
 -- no line was open so far, or one was
 abbrev pub GoesSo : (raw : Bool) → SessionState → (start : Here) → Session World → (now : Here) → Type 0

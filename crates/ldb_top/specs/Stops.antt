@@ -22,16 +22,26 @@ ending_of (TooLong line) = Ok status.TooLong
 ending_of (Refused line) = Ok status.Refused
 ending_of (Bad line) = Ok status.BadFile
 
+-- the fault that ends it where its line, if it has one, can't be written
+abbrev pub fault_of : Stop → Fault
+fault_of Read = fault.Read
+fault_of NoMemory = fault.NoMemory
+fault_of (Missing line) = fault.Write
+fault_of (TooLong line) = fault.Write
+fault_of (Refused line) = fault.Write
+fault_of (Bad line) = fault.Write
+
 -- a file isn't there, or there was no memory to say so
 abbrev pub IsMissing : List ℕ → Stop → Type 0
 IsMissing name (Missing line) = line ≡ missing_line name
 IsMissing name NoMemory = Unit {0}
 IsMissing name _ = ⊥
 
--- while files are read: a failed read raises the count, and nothing else moves it; a file that isn't there is named, and so is an input that is too long
+-- while files are read: a failed read raises the count, and nothing else moves it, want of memory neither; a file that isn't there is named, and so is
+-- an input that is too long
 abbrev pub IsReadStop : (missed : List ℕ → Type 0) → (input : List ℕ) → (before now : ℕ) → Stop → Type 0
 IsReadStop missed input before now Read = Rose before now
-IsReadStop missed input before now NoMemory = Unit {0}
+IsReadStop missed input before now NoMemory = now ≡ before
 IsReadStop missed input before now (Missing line) = (now ≡ before) × IsMissed missed line
 IsReadStop missed input before now (TooLong line) = (now ≡ before) × (line ≡ long_line input)
 IsReadStop missed input before now (Refused line) = ⊥

@@ -27,6 +27,9 @@ pub fn with_request<F: Files, S: Sink>(
     ensures no_fault { IsAnswer result → NoFault
         (counts (F.read_faults files.old) (F.write_faults files.old) (S.faults transcript.old))
         (counts (F.read_faults files.new) (F.write_faults files.new) (S.faults transcript.new)) }
+    ensures no_memory { result ≡ Status.NoMemory → NoFault
+        (counts (F.read_faults files.old) (F.write_faults files.old) (S.faults transcript.old))
+        (counts (F.read_faults files.new) (F.write_faults files.new) (S.faults transcript.new)) }
 {
     match compile_files(alloc, request, files, transcript) {
         Ok(Answer::Built) => Status::Done,

@@ -1,5 +1,5 @@
 // Machines and their tables: what a session stands on.
-ghost use Rattle.std.specs.Prelude.{◌≡◌, ◌≤◌, ◌+◌, ◌⊎◌, ℕ, List, [], length, map, string_bytes, IfErr, IfOk, OnOk, MatchResult, Some, Ok, Err, option_map};
+ghost use Rattle.std.specs.Prelude.{◌≡◌, ◌≤◌, ◌+◌, ◌⊎◌, ℕ, List, [], length, map, string_bytes, IfErr, IfOk, OnOk, MatchResult, Option, Some, Ok, Err, option_map};
 ghost use Rattle.ldb_edge.specs.Known.{FileMap};
 ghost use Rattle.table_run.specs.Tables.{IsTableOf};
 ghost use Rattle.ldb_cc.specs.Scanning.{items_of};
@@ -80,7 +80,7 @@ fn bad_image(alloc: Global, fault: ImageFault) -> Stop
 /// What is told of sources that are refused.
 fn refusal(alloc: Global, names: &[Text], fault: &BuildFault) -> Stop
     ensures stop { IsBuildStop result }
-    ensures why { (texts : List (List ℕ)) → IsCause texts fault.now → IsBuildWhy names.now texts result }
+    ensures why { (aim : Option Aim) (texts : List (List ℕ)) → IsCause texts fault.now → IsBuildWhy aim names.now texts result }
 {
     if !is_refusal(fault) {
         return Stop::NoMemory;
@@ -129,7 +129,7 @@ impl Sides {
         requires { length names.now ≡ length texts.now }
         ensures count { OnOk result (length self.new.images.items ≡ length self.old.images.items + 1) }
         ensures stop { IfErr result IsBuildStop }
-        ensures builds { BuildsFrom names.now (map items_of texts.now) result }
+        ensures builds { BuildsFrom (Some aim) names.now (map items_of texts.now) result }
         ensures adds { OnOk result (AddsCompiled aim names.now (map items_of texts.now) self.old.images.items self.new.images.items self.old.tables.items self.new.tables.items) }
     {
         match compile(alloc, aim, names, texts) {
@@ -168,7 +168,7 @@ fn sides_of(alloc: Global, aims: Aims, names: &[Text], texts: &[Vec<u8>]) -> Res
     requires { length names.now ≡ length texts.now }
     ensures count { IfOk result (λ sides. (length sides.images.items ≡ 1) ⊎ (length sides.images.items ≡ 2)) }
     ensures stop { IfErr result IsBuildStop }
-    ensures builds { BuildsFrom names.now (map items_of texts.now) result }
+    ensures builds { BuildsFrom (aim_in aims) names.now (map items_of texts.now) result }
     ensures adds { IfOk result (λ sides. AddsFor (aim_in aims) names.now (map items_of texts.now) [] sides.images.items [] sides.tables.items) }
 {
     let mut sides = Sides::new(alloc);
@@ -193,7 +193,7 @@ pub fn begin(
 ) -> Result<Session<NearLink>, Stop>
     requires { length names.now ≡ length texts.now }
     ensures stop { IfErr result IsBuildStop }
-    ensures builds { BuildsFrom names.now (map items_of texts.now) result }
+    ensures builds { BuildsFrom (aim_in aims) names.now (map items_of texts.now) result }
     ensures over { length input.now ≤ 16777216 → IfOk result (IsCompiledFor (aim_in aims) names.now (map items_of texts.now) input.now) }
 {
     let sides = sides_of(alloc, aims, names, texts)?;
@@ -212,7 +212,7 @@ fn open_texts(
     input: &[u8],
 ) -> Result<Session<NearLink>, Stop>
     requires { length texts.now ≡ length request.now.sources.now }
-    ensures builds { BuildsFrom (map string_bytes request.now.sources.now) (map items_of texts.now) result }
+    ensures builds { BuildsFrom (aim_in request.now.aims) (map string_bytes request.now.sources.now) (map items_of texts.now) result }
     ensures over { length input.now ≤ 16777216
         → IfOk result (IsCompiledFor (aim_in request.now.aims) (map string_bytes request.now.sources.now) (map items_of texts.now) input.now) }
 {

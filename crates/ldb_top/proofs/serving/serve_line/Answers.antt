@@ -6,12 +6,13 @@ use Rattle.session.specs.declared.answers.Answer.TheVariants as answer
 use Rattle.session.specs.declared.answers.End.TheVariants as end
 use Rattle.session.specs.Meant.{AreSteady}
 use Rattle.steady_machines.proofs.Runs.{order_kept, runs_steady}
+use Rattle.cc_call.specs.declared.ended.Fault.TheVariants.{Write, NoMemory}
 use Rattle.ldb_top.specs.Ahead.{line_and}
 use Rattle.ldb_top.specs.Conversed.{wanting_line}
 use Rattle.ldb_top.specs.Conversing.{here, IsPart}
 use Rattle.ldb_top.specs.Output.{held_under}
 use Rattle.ldb_top.proofs.Conversations.{lines_so, wanting_so, ended_so, if_line}
-use Rattle.ldb_top.proofs.Broken.{whole_front, take_front, if_front, lines_part, wanting_part, fault_part, cut_part}
+use Rattle.ldb_top.proofs.Broken.{written_not_read, memory_not_read, whole_front, take_front, if_front, lines_part, wanting_part, fault_part, cut_part}
 use Rattle.ldb_top.proofs.Growing.{grows_front}
 use Rattle.ldb_top.proofs.Lates.{follows_answer}
 use Rattle.ldb_top.proofs.serving.serve_line.Goals as goal
@@ -62,7 +63,13 @@ returns-in-Ok-NoMemory-clause-so g c = λ raw st lines over put.
     let out' = held_under (g.F.Files.held c.append_all.new.files) c.args.output.now in
     let is : c.command-answer.result ≡ Ok answer.NoMemory = c.in-Ok-NoMemory.is ∙ ap Ok c.in-Ok-NoMemory.field-0-is in
     if_line raw st (here (line_and c.args.line.now lines) taken out) c.command-answer.new.self (here lines taken' out') wanting_line taken taken' c.reply-in-Ok-NoMemory.result c.reply-in-Ok-NoMemory.ensures.next c.reply-in-Ok-NoMemory.ensures.told (λ told.
-    wanting_so raw st c.args.session.now c.command-answer.new.self c.args.line.now lines taken taken' out out' out out c.bytes.result.now c.command-answer.result over is c.command-answer.ensures.blank c.command-answer.ensures.quit told (c.in-Ok.ensures.added st.written put))
+    wanting_so raw st c.args.session.now c.command-answer.new.self c.args.line.now lines taken taken' out out' out out c.bytes.result.now c.command-answer.result over is c.command-answer.ensures.blank c.command-answer.ensures.quit
+    (let h = c.command-answer.ensures.no_memory is in cc (h.4, c.bytes.ensures, c.new-written.ensures.taken, c.new.ensures.items))
+    (record { malformed = λ none. (c.command-answer.ensures.line none).1; turned = λ n e why. elim (c.command-answer.ensures.turns n e why) [
+      | inl said ↦ absurd (let t = said.0 in cc)
+      | inr stays ↦ stays.1
+    ] })
+    (λ k u e why. (let h = c.command-answer.ensures.refused k u e why in (h.0, h.1, cc (h.2, c.bytes.ensures, c.new-written.ensures.taken, c.new.ensures.items)))) told (c.in-Ok.ensures.added st.written put))
 
 pub returns-in-Err-Quit-clause-so : goal.returns-in-Err-Quit-clause-so
 returns-in-Err-Quit-clause-so g c = λ raw st lines over put.
@@ -81,7 +88,7 @@ returns-in-Err-clause-part g c = λ raw st lines over put.
     let out' = held_under (g.F.Files.held c.append_all.new.files) c.args.output.now in
     let bytes = c.bytes.result.now in
     let f = c.append_all.ensures.front st.written put in
-    cut_part raw st c.args.session.now c.command-answer.new.self c.args.line.now lines taken taken out out' _ _ bytes c.command-answer.result over (take f.count bytes) c.command-answer.result refl c.command-answer.ensures.blank
+    cut_part Write written_not_read raw st c.args.session.now c.command-answer.new.self c.args.line.now lines taken taken out out' _ _ bytes c.command-answer.result over (take f.count bytes) c.command-answer.result refl refl c.command-answer.ensures.blank
     (λ none. (let h = c.command-answer.ensures.line none in cc (h.2, c.bytes.ensures, c.new-written.ensures.taken, c.new.ensures.items))) c.command-answer.ensures.quit
     (λ e. (let h = c.command-answer.ensures.no_memory e in cc (h.4, c.bytes.ensures, c.new-written.ensures.taken, c.new.ensures.items)))
     (λ e. (let h = c.command-answer.ensures.asked Quit (c.command-answer.ensures.quits e) (λ q. cc) (λ q. cc) in cc (h.0, c.bytes.ensures, c.new-written.ensures.taken, c.new.ensures.items)))
@@ -97,11 +104,11 @@ returns-in-Ok-Lines-clause-part g c = λ raw st lines over put.
     let bytes = c.bytes.result.now in
     let text = c.as_bytes.result.now in
     let is : c.command-answer.result ≡ Ok (answer.Lines text) = cc in
-    if_front c.reply.result text taken taken' (IsPart raw st (here (line_and c.args.line.now lines) taken out) taken' out') c.reply.ensures.front (λ n told.
-    lines_part raw st c.args.session.now c.command-answer.new.self c.args.line.now lines taken taken' out out' _ _ bytes c.command-answer.result over text (take n text) bytes is c.command-answer.ensures.blank
+    if_front c.reply.result text taken taken' (λ fault. IsPart fault raw st (here (line_and c.args.line.now lines) taken out) taken' out') c.reply.ensures.fault c.reply.ensures.front (λ n told.
+    lines_part Write written_not_read raw st c.args.session.now c.command-answer.new.self c.args.line.now lines taken taken' out out' _ _ bytes c.command-answer.result over text (take n text) bytes is c.command-answer.ensures.blank
     (λ none. (let h = c.command-answer.ensures.line none in cc (h.2, c.bytes.ensures, c.new-written.ensures.taken, c.new.ensures.items)))
     (c.new-written.ensures.taken ∙ ap Some c.new.ensures.items) c.bytes.ensures (λ hs represents full said. c.command-answer.ensures.meant machine_behaviour hs st steady represents full said)
-    (λ k u e why. (let h = c.command-answer.ensures.refused k u e why in (h.0, h.1, cc (h.2, c.bytes.ensures, c.new-written.ensures.taken, c.new.ensures.items)))) (take_front n text) (whole_front bytes) (inr refl) told (c.in-Ok.ensures.added st.written put))
+    (λ k u e why. (let h = c.command-answer.ensures.refused k u e why in (h.0, h.1, cc (h.2, c.bytes.ensures, c.new-written.ensures.taken, c.new.ensures.items)))) (take_front n text) (whole_front bytes) (inr refl) (λ w. absurd (w refl)) told (c.in-Ok.ensures.added st.written put))
 
 pub returns-in-Ok-NoMemory-clause-part : goal.returns-in-Ok-NoMemory-clause-part
 returns-in-Ok-NoMemory-clause-part g c = λ raw st lines over put.
@@ -111,9 +118,9 @@ returns-in-Ok-NoMemory-clause-part g c = λ raw st lines over put.
     let out' = held_under (g.F.Files.held c.append_all.new.files) c.args.output.now in
     let bytes = c.bytes.result.now in
     let is : c.command-answer.result ≡ Ok answer.NoMemory = c.in-Ok-NoMemory.is ∙ ap Ok c.in-Ok-NoMemory.field-0-is in
-    if_front c.reply-in-Ok-NoMemory.result wanting_line taken taken' (IsPart raw st (here (line_and c.args.line.now lines) taken out) taken' out') c.reply-in-Ok-NoMemory.ensures.front (λ n told.
+    if_front c.reply-in-Ok-NoMemory.result wanting_line taken taken' (λ fault. IsPart fault raw st (here (line_and c.args.line.now lines) taken out) taken' out') c.reply-in-Ok-NoMemory.ensures.fault c.reply-in-Ok-NoMemory.ensures.front (λ n told.
     let h = c.command-answer.ensures.no_memory is in
-    wanting_part raw st c.args.session.now c.command-answer.new.self c.args.line.now lines taken taken' out out' out out bytes c.command-answer.result over (take n wanting_line) bytes is c.command-answer.ensures.blank c.command-answer.ensures.quit
+    wanting_part Write written_not_read raw st c.args.session.now c.command-answer.new.self c.args.line.now lines taken taken' out out' out out bytes c.command-answer.result over (take n wanting_line) bytes refl is c.command-answer.ensures.blank c.command-answer.ensures.quit
     (cc (h.4, c.bytes.ensures, c.new-written.ensures.taken, c.new.ensures.items)) (take_front n wanting_line) (whole_front bytes) told (c.in-Ok.ensures.added st.written put))
 
 pub returns-clause-part : goal.returns-clause-part
@@ -123,6 +130,6 @@ returns-clause-part g c = λ raw st lines over put.
     let out' = held_under (g.F.Files.held c.append_all.new.files) c.args.output.now in
     let bytes = c.bytes.result.now in
     let is : c.command-answer.result ≡ Err end.OutFault = first_of (search rules, grind (arith, common_steps)) in
-    fault_part raw st c.args.session.now c.command-answer.new.self c.args.line.now lines taken taken out out' _ _ bytes c.command-answer.result over bytes is c.command-answer.ensures.blank
+    fault_part NoMemory memory_not_read raw st c.args.session.now c.command-answer.new.self c.args.line.now lines taken taken out out' _ _ bytes c.command-answer.result over bytes is c.command-answer.ensures.blank
     (c.new-written.ensures.taken ∙ ap Some c.new.ensures.items) c.bytes.ensures (λ hs represents full said. c.command-answer.ensures.meant machine_behaviour hs st steady represents full said)
     (λ k u e why. (let h = c.command-answer.ensures.refused k u e why in (h.0, h.1, cc (h.2, c.bytes.ensures, c.new-written.ensures.taken, c.new.ensures.items)))) (whole_front bytes) refl (c.in-Ok.ensures.added st.written put)

@@ -28,7 +28,7 @@ pub returns-in-Err-clause-part : goal.returns-in-Err-clause-part
 returns-in-Err-clause-part g c = λ raw st over put.
     let taken = g.S.Sink.taken c.args.transcript.now in
     let out = held_under (g.F.Files.held c.args.files.now) c.args.output.now in
-    here_part raw st (ahead c.args.room.now [] (g.C.Source.left c.args.commands.now)) taken out taken out refl put
+    here_part c.in-Err.fault raw st (ahead c.args.room.now [] (g.C.Source.left c.args.commands.now)) taken out taken out refl put
 
 pub returns-in-Ok-Whole-clause-part : goal.returns-in-Ok-Whole-clause-part
 returns-in-Ok-Whole-clause-part g c = λ raw st over put.
@@ -48,5 +48,5 @@ returns-clause-part g c = λ raw st over put.
     let taken = g.S.Sink.taken c.args.transcript.now in
     let out = held_under (g.F.Files.held c.args.files.now) c.args.output.now in
     let line = c.next_line.new.line.items in
-    last_part raw st line c.deref-in-Ok-Last.result.now before left taken out (g.S.Sink.taken c.serve_line-in-Ok-Last.new.transcript) (held_under (g.F.Files.held c.serve_line-in-Ok-Last.new.files) c.args.output.now) (c.in-Err-serve_line.ensures.part raw st (lines_if left ([], false)) over put)
+    last_part c.in-Err-serve_line.fault raw st line c.deref-in-Ok-Last.result.now before left taken out (g.S.Sink.taken c.serve_line-in-Ok-Last.new.transcript) (held_under (g.F.Files.held c.serve_line-in-Ok-Last.new.files) c.args.output.now) (c.in-Err-serve_line.ensures.part raw st (lines_if left ([], false)) over put)
     (subst (λ (k : LineEnd). before ≡ before_line k line c.next_line.new.room left) c.in-Ok-Last.field-0-is c.in-Ok-Last.ensures.line) (search rules)
