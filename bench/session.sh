@@ -1,7 +1,9 @@
 #!/usr/bin/env bash
 # session.sh [TIMES]: times sessions of `ldb go` for both targets, and of gdb over what gcc (-g -O0) makes of the same text where both are installed,
 # TIMES times each by turns (5 if left out). A time is the user's and the system's time of a whole call, which compiles, reads the table, runs the
-# program and answers. `start` ends at its first stop, so what a command takes is the difference to it, divided by how many there are.
+# program and answers. `start` ends at its first stop, so what a command takes is the difference to it, divided by how many there are. Those whose
+# names begin with `ten` are sessions with a program of ten lines: up to its first stop, and with 1,000 commands of a kind behind that; `deep` ends
+# at a stop with 10,000 frames, which `deep_frames` lists once. `self` is the call `self 1`, which gdb has not.
 # The program is crates/ldb/out/ldb, which `rt run` in crates/ldb makes, or LDB=PROGRAM.
 set -eu
 times=${1:-5}
@@ -31,15 +33,61 @@ int main(void) {
 }
 END
 
+cat >ten.c <<'END'
+int calls;
+int fact(int n) {
+  calls = calls + 1;
+  if (n <= 1) return 1;
+  return n * fact(n - 1);
+}
+int main(void) {
+  int i;
+  for (i = 0; i < 1000; i = i + 1) fact(10);
+  return 0; }
+END
+
+cat >deep.c <<'END'
+int left = 9999;
+void down(void) {
+  if (left == 1)
+    left = 0;
+  else {
+    left = left - 1;
+    down();
+  }
+}
+int main(void) {
+  down();
+  return 0;
+}
+END
+
+# text_of NAME: the program of a session
+text_of() {
+    case $1 in
+    ten*) echo ten ;;
+    deep*) echo deep ;;
+    *) echo text ;;
+    esac
+}
+
 # repeated COUNT LINE: a line so many times
 repeated() { yes "$2" | head -n "$1" || true; }
 
 # session NAME: the commands of a session, for ldb
 session() {
-    echo 'break text.c:7'
+    case $1 in
+    ten*) echo 'break ten.c:3' ;;
+    deep*) echo 'break deep.c:4' ;;
+    *) echo 'break text.c:7' ;;
+    esac
     echo continue
     case $1 in
-    start) ;;
+    start | ten | deep) ;;
+    ten_steps) echo 'clear ten.c:3'; repeated 1000 step ;;
+    ten_prints) repeated 1000 'print calls' ;;
+    ten_evals) repeated 1000 'eval n * 3 + calls' ;;
+    deep_frames) echo frames ;;
     frames) repeated 10 frames ;;
     nodes) repeated 100 'print nodes' ;;
     print) repeated 2000 'print sum' ;;
@@ -53,7 +101,7 @@ session() {
 # the same for gdb, which is told `run` first
 for_gdb() {
     echo 'set pagination off'
-    session "$1" | sed -e '2s/continue/run/' -e 's/^eval /print /' -e 's/^frames$/backtrace/' -e 's/^clear text.c:7$/delete/'
+    session "$1" | sed -e '2s/continue/run/' -e 's/^eval /print /' -e 's/^frames$/backtrace/' -e 's/^clear .*:[37]$/delete/'
 }
 
 # timed FILE COMMAND..: adds the seconds of the user's and the system's time that a command takes to a file
@@ -66,14 +114,17 @@ timed() {
 # one_session WHO NAME
 one_session() {
     case $1 in
-    gdb) timed "times.$1.$2" gdb -nx -batch -x "$2.gdb" host ;;
-    *) timed "times.$1.$2" "$ldb" go "$1" in out text.c <"$2.ldb" ;;
+    gdb) timed "times.$1.$2" gdb -nx -batch -x "$2.gdb" "$(text_of "$2").host" ;;
+    *) timed "times.$1.$2" "$ldb" go "$1" in out "$(text_of "$2").c" <"$2.ldb" ;;
     esac
 }
 
-names="start frames nodes print eval stops steps"
+names="start frames nodes print eval stops steps ten ten_steps ten_prints ten_evals deep deep_frames"
 whom="mips sparc"
-if [ -n "$(type -P gdb)" ] && gcc -g -O0 -w -o host text.c; then whom="$whom gdb"; fi
+if [ -n "$(type -P gdb)" ] && [ -n "$(type -P gcc)" ]; then
+    whom="$whom gdb"
+    for text in text ten deep; do gcc -g -O0 -w -o $text.host $text.c; done
+fi
 for name in $names; do
     session $name >$name.ldb
     for_gdb $name >$name.gdb
@@ -82,9 +133,11 @@ for _ in $(seq "$times"); do
     for name in $names; do
         for who in $whom; do one_session $who $name; done
     done
+    timed times.both.self "$ldb" self 1
 done
-for name in $names; do
-    for who in $whom; do
+for name in $names self; do
+    for who in $whom both; do
+        [ -e times.$who.$name ] || continue
         sort -n times.$who.$name | awk -v n="$name $who" '{ t[NR] = $1; line = line " " $1 } END { printf "%s%s: median %.3f s\n", n, line, t[int((NR + 1) / 2)] }'
     done
 done

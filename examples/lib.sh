@@ -94,13 +94,20 @@ weight_of() {
     awk '{ sum += $1 } END { print int(sum / 1000) + 1 }'
 }
 
+# As many lanes as there are processors, and 4 at most.
+lanes_here() {
+  local count
+  count=$(nproc)
+  echo $((count < 4 ? count : 4))
+}
+
 minutes() { printf '%d:%02d' $(($1 / 60)) $(($1 % 60)); }
 
 # Proves and builds the libraries below ldb, LANES side by side, and then ldb. LDB=PROGRAM takes
 # that program and builds nothing.
 build_proved() {
   [ -z "${LDB:-}" ] || return 0
-  local lanes=${LANES:-2} logs=$root/out/examples begun=$SECONDS
+  local lanes=${LANES:-$(lanes_here)} logs=$root/out/examples begun=$SECONDS
   local -A weight=() built=() since=() crate_of=()
   local -a left=() waiting
   local crate below ready pid took total=0 finished=0 count=0 spent=0 proved=0
@@ -155,11 +162,12 @@ build_proved() {
 }
 
 # A library, or the program at the end, which `rt run` leaves in out/ and runs: for a call without a
-# form it prints `words`. So a program that an earlier run left isn't taken for this one.
+# form it prints `words`. So a program that an earlier run left isn't taken for this one. `quick` is
+# `rt`, which at the top of the chain would spend minutes before it proves anything.
 build_crate() {
   if [ "$1" = ldb ]; then
-    cd "$root/crates/ldb" && [ "$(rt run -- words)" = words ]
+    cd "$root/crates/ldb" && [ "$("$root/tools/quick" run -- words)" = words ]
   else
-    cd "$root/crates/$1" && rt lib
+    cd "$root/crates/$1" && "$root/tools/quick" lib
   fi
 }
