@@ -128,6 +128,7 @@ module _ (fault : Fault) (unread : fault ≢ Read) (raw : Bool) (st : SessionSta
       → taken' ≡ known_and taken told → out' ≡ Some (st.written ++ put) → Part
   answered_part told put text output reply next full answers is written front put_front order silent took added =
       line_part fault raw st line lines taken out taken' out' told (st.written ++ put) full took added (λ cs. inr (inl (record {
+        unread = unread;
         reply = reply;
         next = next;
         answers = answers;

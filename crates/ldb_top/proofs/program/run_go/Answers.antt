@@ -1,6 +1,7 @@
 use Rattle.std.proofs.Common.{◌∙◌, refl, sym, subst}
 use Rattle.ldb_top.specs.Output.{OthersKept}
 use Rattle.ldb_top.specs.Stops.{IsGoStop}
+use Rattle.ldb_top.proofs.Causing.{stop_causes}
 use Rattle.ldb_top.proofs.Stopped.{go_told, told_missed, go_no_missing}
 use Rattle.ldb_top.specs.Comes.{outside, Served, ServedSo}
 use Rattle.ldb_top.specs.Names.{names_in_go}
@@ -30,3 +31,8 @@ returns-in-Ok-clause-comes g c =
 
 pub returns-in-Ok-clause-kept : goal.returns-in-Ok-clause-kept
 returns-in-Ok-clause-kept g c = λ start k. c.run.ensures.kept start (subst (λ h. OthersKept c.args.request.now.output.now start h) (sym c.in-Ok.ensures.same) k)
+
+pub returns-in-Err-clause-causes : goal.returns-in-Err-clause-causes
+returns-in-Err-clause-causes g c =
+    let n = names_in_go c.args.request.now in
+    stop_causes _ _ _ _ _ _ _ c.in-Err.ensures.write_faults (IsGoStop n.about) (g.F.Files.missed c.open_go.new.files) n.input c.in-Err.stop c.tell.result (λ x. x) c.in-Err.ensures.cause c.tell.ensures.outcome c.tell.ensures.cause

@@ -1,4 +1,4 @@
-use Rattle.std.proofs.Common.{◌≡◌, ◌∙◌, ap, refl, inr, take, Some, Ok, Err, arith, rules}
+use Rattle.std.proofs.Common.{◌≡◌, ◌∙◌, ap, refl, inl, inr, take, Some, Ok, Err, arith, rules}
 use Rattle.std.proofs.lemmas.Grind.{common_steps}
 use Rattle.c_session.specs.declared.command.Command.TheVariants.{Quit}
 use Rattle.targets.specs.Targets.{machine_behaviour}
@@ -65,10 +65,13 @@ returns-in-Ok-NoMemory-clause-so g c = λ raw st lines over put.
     if_line raw st (here (line_and c.args.line.now lines) taken out) c.command-answer.new.self (here lines taken' out') wanting_line taken taken' c.reply-in-Ok-NoMemory.result c.reply-in-Ok-NoMemory.ensures.next c.reply-in-Ok-NoMemory.ensures.told (λ told.
     wanting_so raw st c.args.session.now c.command-answer.new.self c.args.line.now lines taken taken' out out' out out c.bytes.result.now c.command-answer.result over is c.command-answer.ensures.blank c.command-answer.ensures.quit
     (let h = c.command-answer.ensures.no_memory is in cc (h.4, c.bytes.ensures, c.new-written.ensures.taken, c.new.ensures.items))
-    (record { malformed = λ none. (c.command-answer.ensures.line none).1; turned = λ n e why. elim (c.command-answer.ensures.turns n e why) [
-      | inl said ↦ absurd (let t = said.0 in cc)
-      | inr stays ↦ stays.1
-    ] })
+    (record {
+      malformed = λ none. (c.command-answer.ensures.line none).1;
+      turned = λ n e why. elim (c.command-answer.ensures.turns n e why) [
+        | inl said ↦ absurd (let t = said.0 in cc)
+        | inr stays ↦ stays.1
+      ];
+    })
     (λ k u e why. (let h = c.command-answer.ensures.refused k u e why in (h.0, h.1, cc (h.2, c.bytes.ensures, c.new-written.ensures.taken, c.new.ensures.items)))) told (c.in-Ok.ensures.added st.written put))
 
 pub returns-in-Err-Quit-clause-so : goal.returns-in-Err-Quit-clause-so
