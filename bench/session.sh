@@ -2,8 +2,8 @@
 # session.sh [TIMES]: times sessions of `ldb go` for both targets, and of gdb over what gcc (-g -O0) makes of the same text where both are installed,
 # TIMES times each by turns (5 if left out). A time is the user's and the system's time of a whole call, which compiles, reads the table, runs the
 # program and answers. `start` ends at its first stop, so what a command takes is the difference to it, divided by how many there are. Those whose
-# names begin with `ten` are sessions with a program of ten lines: up to its first stop, and with 1,000 commands of a kind behind that; `deep` ends
-# at a stop with 10,000 frames, which `deep_frames` lists once. `self` is the call `self 1`, which gdb has not.
+# names begin with `ten` are sessions with a program of ten lines: up to its first stop, and with 1,000 commands of a kind behind that; `lists` lists
+# 5,000 frames twice, since a compiled program has no room for 10,000 (docs/code.md). `self` is the call `self 1`, which gdb has not.
 # The program is crates/ldb/out/ldb, which `rt run` in crates/ldb makes, or LDB=PROGRAM.
 set -eu
 times=${1:-5}
@@ -46,27 +46,10 @@ int main(void) {
   return 0; }
 END
 
-cat >deep.c <<'END'
-int left = 9999;
-void down(void) {
-  if (left == 1)
-    left = 0;
-  else {
-    left = left - 1;
-    down();
-  }
-}
-int main(void) {
-  down();
-  return 0;
-}
-END
-
 # text_of NAME: the program of a session
 text_of() {
     case $1 in
     ten*) echo ten ;;
-    deep*) echo deep ;;
     *) echo text ;;
     esac
 }
@@ -78,16 +61,15 @@ repeated() { yes "$2" | head -n "$1" || true; }
 session() {
     case $1 in
     ten*) echo 'break ten.c:3' ;;
-    deep*) echo 'break deep.c:4' ;;
     *) echo 'break text.c:7' ;;
     esac
     echo continue
     case $1 in
-    start | ten | deep) ;;
+    start | ten) ;;
     ten_steps) echo 'clear ten.c:3'; repeated 1000 step ;;
     ten_prints) repeated 1000 'print calls' ;;
     ten_evals) repeated 1000 'eval n * 3 + calls' ;;
-    deep_frames) echo frames ;;
+    lists) repeated 2 frames ;;
     frames) repeated 10 frames ;;
     nodes) repeated 100 'print nodes' ;;
     print) repeated 2000 'print sum' ;;
@@ -119,11 +101,11 @@ one_session() {
     esac
 }
 
-names="start frames nodes print eval stops steps ten ten_steps ten_prints ten_evals deep deep_frames"
+names="start lists frames nodes print eval stops steps ten ten_steps ten_prints ten_evals"
 whom="mips sparc"
 if [ -n "$(type -P gdb)" ] && [ -n "$(type -P gcc)" ]; then
     whom="$whom gdb"
-    for text in text ten deep; do gcc -g -O0 -w -o $text.host $text.c; done
+    for text in text ten; do gcc -g -O0 -w -o $text.host $text.c; done
 fi
 for name in $names; do
     session $name >$name.ldb
