@@ -17,3 +17,4 @@ pub mod PartsKnown
 pub mod Tabled
 pub mod Bounded
 pub mod Behind
+pub mod Rows
