@@ -38,3 +38,4 @@ pub mod Totals
 pub mod NamesShort
 pub mod UnitsShort
 pub mod TextShort
+pub mod Within

@@ -8,6 +8,7 @@ use Rattle.c_tree.specs.declared.types.Member.{Member}
 use Rattle.c_tree.specs.declared.rows.Program.{Program}
 use Rattle.c_tree.specs.declared.rows.UnitRow.{UnitRow}
 use Rattle.c_tree.specs.declared.rows.ObjectRow.{ObjectRow}
+use Rattle.ps_scan.specs.Escaping.{escaped}
 use Rattle.ps_text.specs.Code.{Code, Stop, Lit, render}
 use Rattle.ps_emit.specs.declared.placement.Placement.{Placement}
 use Rattle.ps_emit.specs.Terms.{◌⋯◌, word, name, string, integer, bracketed, item, defined}
@@ -68,19 +69,19 @@ structs_size s (d ∷ ds) h few =
 
 -- ---- objects
 
-strings_size : (k anchor : ℕ) (ts : List (List ℕ)) (places : List (List ℕ × ℕ)) → AllByRecursion (λ t. IsWord (suc (length t))) ts → AllByRecursion (λ a. IsWord a.1) places → length places ≡ length ts → anchor + length ts < 2 ^ 32 → k ≤ anchor
+strings_size : (k anchor : ℕ) (ts : List (List ℕ)) (places : List (List ℕ × ℕ)) → AllByRecursion (λ t. length t < 2 ^ 30) ts → AllByRecursion (λ a. IsWord a.1) places → length places ≡ length ts → anchor + length ts < 2 ^ 32 → k ≤ anchor
     → size (strings_from k anchor ts) + size (anchors_code anchor places) ≤ 123 * length ts
 strings_size k anchor [] [] h w e few l = omega arith
 strings_size k anchor [] (a ∷ places) h w e few l = absurd (omega arith)
 strings_size k anchor (t ∷ ts) [] h w e few l = absurd (omega arith)
 strings_size k anchor (t ∷ ts) (a ∷ places) h w e few l =
     let i = strings_size (suc k) (suc anchor) ts places h.1 w.1 (omega arith) (omega arith) (omega arith) in
-    let b = literals_short k anchor a.1 t (omega arith) (omega arith) w.0 h.0 in
+    let b = literals_short k anchor a.1 t (omega arith) (omega arith) w.0 (let l : length t < 2 ^ 30 = h.0 in omega arith) in
     let f = size_followed (string_code k anchor t) (strings_from (suc k) (suc anchor) ts) in
     let g = size_followed (anchor_code anchor a.1) (anchors_code (suc anchor) places) in
     omega arith
 
-module _ (us : List UnitRow) (n : ℕ) (ts : List (List ℕ)) (strings : AllByRecursion (λ t. IsWord (suc (length t))) ts) where
+module _ (us : List UnitRow) (n : ℕ) (ts : List (List ℕ)) (strings : AllByRecursion (λ t. length t < 2 ^ 30) ts) where
   objects_size : (k : ℕ) (os : List ObjectRow) (places : List (List ℕ × ℕ)) → AllByRecursion (IsObject us) os → AllByRecursion (λ a. IsWord a.1) places → k + length os ≡ n → length places ≡ length os + length ts → n + length ts < 2 ^ 32
       → size (objects_from us k os) + size (strings_from 0 n ts) + size (anchors_code k places) ≤ (all (map of_object os)).bytes + 123 * length ts
   objects_size k [] places h w s e few =
@@ -145,11 +146,33 @@ top_size p at =
     let k = front_size (at.target == SPARC) in
     omega arith
 
+-- the units are a part of it
+pub top_units : (p : Program) (at : Placement) → size (units_code p at.functions p.units) ≤ size (top_code p at)
+top_units p at =
+    let units : Code = bracketed (units_code p at.functions p.units) in
+    let tags : Code = paired (tags_code 0 p.defs) in
+    let anchors : Code = paired (anchors_code 0 at.anchors) in
+    let a = paired_size (top_front at.target ⋯ (anchors ⋯ (name "structs" ⋯ (tags ⋯ (top_middle ⋯ units))))) in
+    let b = size_followed (top_front at.target) (anchors ⋯ (name "structs" ⋯ (tags ⋯ (top_middle ⋯ units)))) in
+    let c = size_followed anchors (name "structs" ⋯ (tags ⋯ (top_middle ⋯ units))) in
+    let d = size_followed (name "structs") (tags ⋯ (top_middle ⋯ units)) in
+    let e = size_followed tags (top_middle ⋯ units) in
+    let f = size_followed top_middle units in
+    let g = bracketed_size (units_code p at.functions p.units) in
+    omega arith
+
+-- two strings and what stands behind them
+pub strings_apart : (a b : List ℕ) (k : Code) → size (string a ⋯ (string b ⋯ k)) ≡ length (escaped a) + length (escaped b) + 6 + size k
+strings_apart a b k =
+    let e = length-append (escaped b) (41 ∷ 32 ∷ render k) in
+    let f = length-append (escaped a) (41 ∷ 32 ∷ render (string b ⋯ k)) in
+    omega arith
+
 structs_bytes : (ds : List StructDef) → (all (map (λ d. per_struct and all (map of_member d.members)) ds)).bytes ≡ of_structs ds
 structs_bytes [] = refl
 structs_bytes (d ∷ ds) = ap (λ n. of_struct d + n) (structs_bytes ds)
 
-code_size : (p : Program) (at : Placement) → HasRows p at → IsParted p → size (table_code p at) ≤ (cost_of p).bytes
+pub code_size : (p : Program) (at : Placement) → HasRows p at → IsParted p → size (table_code p at) ≤ (cost_of p).bytes
 code_size p at rows parted =
     let last : Code = objects_code p ⋯ top_code p at in
     let e₁ = size_followed words (parts_code p at) in

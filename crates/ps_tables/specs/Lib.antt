@@ -18,3 +18,4 @@ pub mod Tabled
 pub mod Bounded
 pub mod Behind
 pub mod Rows
+pub mod Within

@@ -54,7 +54,7 @@ pub record IsPlaced (row : FunctionRow) : Type 0 where
 pub record HasRows (p : Program) (at : Placement) : Type 0 where
   pub structs : AllByRecursion IsStruct p.defs
   pub objects : AllByRecursion (IsObject p.units) p.objects
-  pub strings : AllByRecursion (λ t. IsWord (suc (length t))) p.strings
+  pub strings : AllByRecursion (λ t. length t < 2 ^ 30) p.strings
   pub functions : AllByRecursion (λ (f : Function). IsName f.name) p.functions
   pub points : AllByRecursion IsPointRow p.points
   pub symbols : AllByRecursion IsSymbol p.symbols

@@ -27,7 +27,7 @@ ghost use Rattle.ps_terms.specs.Printing.{further};
 ghost use Rattle.ps_emit.specs.Words.{words};
 ghost use Rattle.ps_emit.specs.Terms.{◌⋯◌};
 ghost use Rattle.ps_emit.specs.Functions.{saved_register, point_code};
-ghost use Rattle.ps_emit.specs.Bounds.{per_saved, per_point, cost_of};
+ghost use Rattle.ps_emit.specs.Bounds.{per_saved, per_point, cost_of, units_of};
 ghost use Rattle.ps_emit.specs.Table.{top_code};
 ghost use Rattle.ps_emit.specs.declared.placement.Placement.{Placement};
 ghost use Rattle.ps_tables.specs.TablePieces.{saved, point, top};
@@ -51,6 +51,7 @@ ghost use Rattle.ps_tables.specs.Runnable.{Runnable, RunsType, RunsRow};
 ghost use Rattle.ps_tables.specs.Behind.{prelude_dict, loaded_printers};
 ghost use Rattle.ps_tables.specs.Bounded.{IsShort, deferred_units};
 ghost use Rattle.ps_tables.specs.Rows.{HasRows, IsParted};
+ghost use Rattle.ps_tables.specs.Within.{IsWithin, HasTypes};
 ghost use Rattle.ps_tables.specs.Senses.{Knowing};
 ghost use Rattle.ps_tables.specs.Reached.{Reaches};
 ghost use Rattle.ps_tables.specs.WordsKnown.{Printers, AreNoMarks, printer_senses, word_senses};
@@ -134,6 +135,14 @@ pub fn tables_are_bounded()
 /// The text of a table, of a program and a placement whose rows keep to names and words, and whose units have their own functions, points and names, is no longer than is counted for the items of the program.
 pub fn tables_are_short()
     ensures { (p : Program) (at : Placement) → HasRows p at → IsParted p → length (table_text p at) ≤ (cost_of p).bytes }
+{}
+
+/// So a program whose rows are so, whose types run, and which costs not too much, keeps the conditions of runs, and its text, units and steps have room.
+pub fn counted_tables_run()
+    ensures runs { (p : Program) (at : Placement) → HasRows p at → IsParted p → HasTypes p → IsWithin p → Runnable p at }
+    ensures bytes { (p : Program) (at : Placement) → HasRows p at → IsParted p → IsWithin p → length (table_text p at) ≤ 16777216 }
+    ensures units { (p : Program) (at : Placement) → HasRows p at → IsParted p → IsWithin p → text_units (table_text p at) + table_made p at ≤ units_of p }
+    ensures steps { (p : Program) (at : Placement) → HasRows p at → IsParted p → IsWithin p → table_steps p at + 2 ≤ 10000000 }
 {}
 
 /// What the prelude leaves is what a table begins with: behind it the printers' names have their senses, and the dictionary on top is empty. So a run of a table's text as an executable string that is made there, with steps to spare, ends without an error at the table's top, whatever the dialect; and there is such a run.
