@@ -42,6 +42,9 @@ use Rattle.ps_tables.proofs.Stores.{later_grown}
 use Rattle.ps_tables.proofs.MembersRun.{further_is}
 use Rattle.claims.specs.Tables.{RunsTable}
 use Rattle.table_ends.proofs.Joining.{tables_run}
+use Rattle.ps_tables.specs.Rows.{HasRows, IsParted}
+use Rattle.ps_tables.specs.Within.{IsWithin, HasTypes}
+use Rattle.ps_tables.proofs.Within.{runnable, text_within, few_units, few_steps}
 use Rattle.ps_tables.proofs.BehindRun.{behind_runs, behind_there}
 
 abbrev all : List DictId
@@ -140,8 +143,8 @@ module _ (p : Program) (at : Placement) (run : Runnable p at) (low : 1 ≤ at.ta
       let unused : is_unused now.command ≡ true = ap is_unused (a.leaves.owned.command ∙ later.command made_in) ∙ no_commands in
       let moved : Runs NoTarget 10000000 (bare 0) c₀ (Ok tt) (suc left) (bare 0) c = subst (λ n. Runs NoTarget n (bare 0) c₀ (Ok tt) (suc left) (bare 0) c) e a.runs in
       let ended : RunsString loaded (t, s) (Ok tt) c = record { left = suc left; dial = bare 0; runs = λ other. ([], moved) } in
-      (closed_with c a.leaves.top, c, record { start = loaded; is_loaded = refl; runs = subst (λ (x : Given StringId). runs_made loaded x (Ok tt) c) (sym made) ended },
-      comes_to now a.leaves.top at.target a.leaves.is_top (same_name at.target high low) bases unused [])
+      (closed_with c a.leaves.top, (c, record { start = loaded; is_loaded = refl; runs = subst (λ (x : Given StringId). runs_made loaded x (Ok tt) c) (sym made) ended },
+      comes_to now a.leaves.top at.target a.leaves.is_top (same_name at.target high low) bases unused []))
 
   is_there : (x : StoreState) × IsTableOf (table_text p at) at.target (Ok x)
   is_there =
@@ -173,3 +176,10 @@ pub there : (p : Program) (at : Placement) → Runnable p at → 1 ≤ at.target
 there p at run low high short room few =
     let a = is_there p at run low high short room few in
     (a.0, a.1, claimed (table_text p at) at.target a.0 low high a.1)
+
+pub counted_come : (p : Program) (at : Placement) → HasRows p at → IsParted p → HasTypes p → IsWithin p → 1 ≤ at.target → at.target ≤ 2
+    → (s : StoreState) × IsTableOf (table_text p at) at.target (Ok s) × RunsTable loaded.store (table_text p at) at.target (Ok s)
+counted_come p at rows parted types within low high =
+    let a = few_units p at rows parted within in
+    let b = within.units in
+    there p at (runnable p at rows parted within types) low high (text_within p at rows parted within) (omega arith) (few_steps p at rows parted within)
