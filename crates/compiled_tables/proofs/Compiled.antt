@@ -29,7 +29,7 @@ use Rattle.ldb_cc.specs.declared.aim.Aim.TheVariants.{Mips, Sparc}
 use Rattle.ldb_cc.specs.Table.{target_byte}
 use Rattle.compiled_tables.specs.Conditions.{AreFileNames, IsIdentifier, HasIdentifiers, HasSpots, IsAffordable}
 use Rattle.compiled_tables.proofs.Identifiers.{regular, named}
-use Rattle.compiled_tables.proofs.Tokens.{few_structs, few_members}
+use Rattle.compiled_tables.proofs.Tokens.{sum_more, few_structs, few_members}
 use Rattle.compiled_tables.proofs.Types.{type_words, structs_are_rows, symbols_are_rows, points_are_rows}
 use Rattle.compiled_tables.proofs.Parts.{functions_parted, points_parted}
 
@@ -37,7 +37,7 @@ use Rattle.compiled_tables.proofs.Parts.{functions_parted, points_parted}
 
 strings_fit : (q : State) (n : ℕ) (ts : List (List ℕ)) → sum (map (made.string_room q) ts) ≤ n → n < 2 ^ 30 → AllByRecursion (λ t. length t < 2 ^ 30) ts
 strings_fit q n [] h l = tt
-strings_fit q n (t ∷ ts) h l = (omega arith, strings_fit q n ts (omega arith) l)
+strings_fit q n (t ∷ ts) h l = let s = sum_more (made.string_room q) t ts in (omega arith, strings_fit q n ts (omega arith) l)
 
 -- ---- files
 

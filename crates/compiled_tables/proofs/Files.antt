@@ -13,27 +13,28 @@ use Rattle.c_declaration.specs.declared.tree.Storage.{Storage}
 use Rattle.c_statement.specs.Tree.{StatementTree}
 use Rattle.c_statement.specs.declared.unit.External.{External}
 use Rattle.c_statement.specs.declared.unit.External.TheVariants.{Declaration, Definition}
-use Rattle.c_typing.specs.Plain.{Plain}
+use Rattle.c_typing.specs.Plain.{Plain, Struct}
 use Rattle.c_typing.specs.Expressions.{Denoted}
 use Rattle.c_judge.specs.Answers.{Answer, Known, Unknown, Broken}
-use Rattle.c_scope.specs.Environment.{Row, Visible, Environment}
-use Rattle.c_scope.specs.Findings.{Finding}
+use Rattle.c_scope.specs.Environment.{Row, Visible, Environment, scope_of, struct_of}
+use Rattle.c_scope.specs.Findings.{Finding, ◌beside◌}
 use Rattle.c_scope.specs.Declarators.{Shape, Object, Function, Parameter}
-use Rattle.c_struct.specs.Structs.{Open, Completes}
+use Rattle.c_judge.specs.Judgement.{spec_type, limited}
+use Rattle.c_struct.specs.Structs.{Open, members, Completes, completed_found}
 use Rattle.c_struct.specs.Specifies.{Goes as Followed, Ends, Inside, Specifies}
 use Rattle.c_body.specs.Stops.{Stop, stops_of, inside_block}
 use Rattle.c_body.specs.Bodies.{after}
 use Rattle.c_file.specs.Names.{FileName}
-use Rattle.c_file.specs.Files.{State, Bodied, with_name, with_initial, with_definition, with_strings, with_declarator, row_of, after_what, what, after_name, after_all, body_environment, function_row, with_head, behind_body, after_function, with_spec, behind_known, Externals, Onward, AllExternals}
+use Rattle.c_file.specs.Files.{State, Bodied, with_name, with_initial, with_definition, with_strings, with_declarator, row_of, after_what, what, after_name, after_all, body_environment, bodied, function_row, with_head, behind_body, after_function, with_spec, behind_known, Externals, Onward, AllExternals}
 use Rattle.ps_tables.specs.Rows.{IsAmong}
-use Rattle.compiled_tables.proofs.Owned.{all_append, Holds, Goes, goes_up, stays, goes_on, declares, along, AllStops, stops_wider, body_among, parameters_along}
+use Rattle.compiled_tables.proofs.Owned.{all_append, Holds, Goes, goes_up, stays, goes_on, declares, leaves, along, AllStops, stops_wider, body_among, parameters_along, units_along, parameters_unit}
 
 -- ---- a declaration's type changes no names
 
-record Same (v w : Environment) : Type 0 where
-  names : w.names ≡ v.names
-  visible : w.visible ≡ v.visible
-  unit : w.unit ≡ v.unit
+pub record Same (v w : Environment) : Type 0 where
+  pub names : w.names ≡ v.names
+  pub visible : w.visible ≡ v.visible
+  pub unit : w.unit ≡ v.unit
 
 same_self : (v w : Environment) → w ≡ v → Same v w
 same_self v w e = record { names = ap (λ (x : Environment). x.names) e; visible = ap (λ (x : Environment). x.visible) e; unit = ap (λ (x : Environment). x.unit) e }
@@ -46,27 +47,39 @@ completes_same v w o h = record { names = ap (λ (x : Environment). x.names) h.0
 
 -- what comes of a part keeps them, where what comes behind does
 followed : {A B : Type 0} (x : Answer A) (v u : Environment) (a : Answer B) (w : Environment) (P : A → Type 0) → Same v u → Followed x u a w P → ((y : A) → P y → Same v w) → Same v w
-followed (Known y) v u a w P s h then = then y h
-followed (Unknown n) v u a w P s h then = same_then v u w s (same_self u w h.1)
-followed (Broken r at) v u a w P s h then = same_then v u w s (same_self u w h.1)
+followed (Known y) v u a w P s h go = go y h
+followed (Unknown n) v u a w P s h go = same_then v u w s (same_self u w h.1)
+followed (Broken r at) v u a w P s h go = same_then v u w s (same_self u w h.1)
 
 module _ (others : List StructDef) where
+  -- a struct that is completed, within its limits
+  abbrev Ended : Environment → Open → Answer Plain → Environment → (Environment → Type 0) → Type 0
+  Ended v o a w P = (u : Environment) × Completes v o u × Followed (limited u.defs o.at (Struct (struct_of u.tags o.tag))) u a w (λ _. P u)
+
+  ended_same : (v : Environment) (o : Open) (a : Answer Plain) (w : Environment) (P : Environment → Type 0) → Ended v o a w P → ((u : Environment) → Same v u → P u → Same v w) → Same v w
+  ended_same v o a w P k go =
+      let s : Same v k.0 = completes_same v k.0 o k.1 in
+      followed (limited k.0.defs o.at (Struct (struct_of k.0.tags o.tag))) v k.0 a w (λ _. P k.0) s k.2 (λ _ p. go k.0 s p)
+
   ends_same : (v : Environment) (o : Open) (a : Answer Plain) (w : Environment) (P : Environment → Type 0) → Ends others v o a w P → ((u : Environment) → Same v u → P u → Same v w) → Same v w
-  ends_same v o a w P h then =
-      followed _ v v a w _ (same_self v v refl) h (λ _ k. let s = completes_same v k.0 o k.1 in followed _ v k.0 a w _ s k.2 (λ _ p. then k.0 s p))
+  ends_same v o a w P h go = followed (completed_found others v o) v v a w (λ _. Ended v o a w P) (same_self v v refl) h (λ _ k. ended_same v o a w P k go)
 
   inside_same : (v : Environment) (os : List Open) (ps : List MemberPart) (a : Answer Plain) (w : Environment) → Inside others v os ps a w → Same v w
   inside_same v [] ps a w h = same_self v w h.1
-  inside_same v (o ∷ []) [] a w h = ends_same v o a w _ h (λ u s k. same_then v u w s (same_self u w k.1))
+  inside_same v (o ∷ []) [] a w h = ends_same v o a w (λ u. (a ≡ Known (Struct (struct_of u.tags o.tag))) × (w ≡ u)) h (λ u s k. same_then v u w s (same_self u w k.1))
   inside_same v (o ∷ p ∷ os) [] a w h = same_self v w h.1
-  inside_same v (o ∷ os) (Opens at tag ∷ ps) a w h = inside_same v _ ps a w h
-  inside_same v (o ∷ os) (MemberRow at s ds ∷ ps) a w h = followed _ v v a w _ (same_self v v refl) h (λ ms k. inside_same v _ ps a w k)
+  inside_same v (o ∷ os) (Opens at tag ∷ ps) a w h = inside_same v (record { at = at.at; tag = tag; members = [] } ∷ o ∷ os) ps a w h
+  inside_same v (o ∷ os) (MemberRow at s ds ∷ ps) a w h =
+      followed (members v o.members (spec_type (scope_of v) s) ds) v v a w (λ ms. Inside others v (record o { members = ms } ∷ os) ps a w) (same_self v v refl) h (λ ms k. inside_same v (record o { members = ms } ∷ os) ps a w k)
   inside_same v (o ∷ []) (Closes ds ∷ ps) a w h = same_self v w h.1
-  inside_same v (o ∷ p ∷ os) (Closes ds ∷ ps) a w h = ends_same v o a w _ h (λ u s k. followed _ v u a w _ s k (λ ms i. same_then v u w s (inside_same u _ ps a w i)))
+  inside_same v (o ∷ p ∷ os) (Closes ds ∷ ps) a w h =
+      ends_same v o a w (λ u. Followed (members u p.members (Struct (struct_of u.tags o.tag)) ds) u a w (λ ms. Inside others u (record p { members = ms } ∷ os) ps a w)) h
+      (λ u s k. followed (members u p.members (Struct (struct_of u.tags o.tag)) ds) v u a w (λ ms. Inside others u (record p { members = ms } ∷ os) ps a w) s k
+      (λ ms i. same_then v u w s (inside_same u (record p { members = ms } ∷ os) ps a w i)))
 
   pub specifies_same : (v : Environment) (s : FileSpec) (a : Answer Plain) (w : Environment) → Specifies others v s a w → Same v w
   specifies_same v (spec.Named s) a w h = same_self v w h.1
-  specifies_same v (spec.Members (Opens at tag ∷ ps)) a w h = inside_same v _ ps a w h
+  specifies_same v (spec.Members (Opens at tag ∷ ps)) a w h = inside_same v (record { at = at.at; tag = tag; members = [] } ∷ []) ps a w h
   specifies_same v (spec.Members []) a w h = same_self v w h.1
   specifies_same v (spec.Members (MemberRow at s ds ∷ ps)) a w h = same_self v w h.1
   specifies_same v (spec.Members (Closes ds ∷ ps)) a w h = same_self v w h.1
@@ -86,7 +99,7 @@ Counted n [] = Unit {0}
 Counted n (b ∷ bs) = (b.before.points ≡ n) × Counted (n + length (stops_in b)) bs
 
 pub count_append : (xs ys : List Bodied) → stop_count (xs ++ ys) ≡ stop_count xs + stop_count ys
-count_append [] ys = refl
+count_append [] ys = omega arith
 count_append (x ∷ xs) ys = let e = count_append xs ys in omega arith
 
 pub counted_append : (n : ℕ) (xs ys : List Bodied) → Counted n xs → Counted (n + stop_count xs) ys → Counted n (xs ++ ys)
@@ -202,7 +215,7 @@ module _ (low : ℕ) where
       record {
         goes = leaves low p.here.names w.names p.here.visible w.visible h whole;
         unit = units_along v (inside_block x) ∙ parameters_unit _ ps;
-        new = _ ∷ [];
+        new = bodied s d x p f t ps ∷ [];
         bodies = refl;
         own = (record { unit_is = u; among = body_among low (length w.names) v x entered.holds (omega arith) }, tt);
         counted = (refl, tt);
@@ -212,8 +225,8 @@ module _ (low : ℕ) where
   function_onto : (s : Storage) (d : DeclaratorTree) (x : StatementTree) (p : State) (a : Shape) → Held p → Onto p (after_function s d x p a)
   function_onto s d x p (Object t) h = onto_self p h
   function_onto s d x p (Function t ps) h =
-      let f : FileName = function_row s d x p (Function t ps) in
-      let q : State = with_head s d x p d f in
+      let f : FileName = function_row s d p (Function t ps) in
+      let q : State = with_head p d f in
       let same : Alike (with_name p f) q = record { names = refl; visible = refl; unit = refl; bodies = refl; points = refl } in
       let a : Onto p q = onto_alike p (with_name p f) q (named_onto p f h) same in
       onto_then p q (behind_body s d x q f t ps) a (body_onto s d x q f t ps refl a.goes.holds)
@@ -250,5 +263,5 @@ module _ (low : ℕ) where
     where
       by : (g : Finding) → Onward g ((f ≡ g) × (q ≡ is.1)) ((k : Finding) × AllExternals is.1 es k q × (f ≡ (g beside k))) → ((k : Finding) → AllExternals is.1 es k q → Onto p q) → Onto p is.1 → Onto p q
       by (Broken r at) o then a = subst (Onto p) (sym o.1) a
-      by (Known x) o then a = then o.0 o.1
-      by (Unknown n) o then a = then o.0 o.1
+      by (Known x) o go a = go o.0 o.1
+      by (Unknown n) o go a = go o.0 o.1

@@ -24,7 +24,7 @@ plain_byte b h = rw (differs b 40 h refl, differs b 41 h refl, differs b 92 h re
 
 regular_all : (bs : List ℕ) → AllAre is_part bs → AllRegular bs
 regular_all [] h = tt
-regular_all (b ∷ bs) h = (rw (regular_byte b h.0) tt, regular_all bs h.1)
+regular_all (b ∷ bs) h = (regular_byte b h.0, regular_all bs h.1)
 
 plain_all : (bs : List ℕ) → AllAre is_part bs → escaped bs ≡ bs
 plain_all [] h = refl

@@ -3,4 +3,7 @@ pub mod Identifiers
 pub mod Types
 pub mod Parts
 pub mod Placed
+pub mod Owned
+pub mod Files
+pub mod Programs
 pub mod Compiled

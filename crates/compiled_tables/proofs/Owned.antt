@@ -96,7 +96,7 @@ module _ (low : ℕ) where
       }
 
   -- a block is left
-  leaves : (names names' : List Row) (outside inside : List Visible) → Holds names outside → Goes names names' inside → Goes names names' outside
+  pub leaves : (names names' : List Row) (outside inside : List Visible) → Holds names outside → Goes names names' inside → Goes names names' outside
   leaves names names' outside inside h g = record { holds = record { long = g.holds.long; seen = seen_wider (length names) (length names') outside (goes_up names names' inside g) h.seen; led = g.holds.led }; rest = g.rest; more = g.more }
 
   abbrev Along : Environment → Environment → Type 0
@@ -175,7 +175,7 @@ module _ (low : ℕ) where
 
     head_stops : (v : Environment) (k : Head) → Held v → length v.names ≤ high → AllStops high (at_head v k)
     head_stops v (head.While at e) h l = (here v h l, tt)
-    head_stops v (head.For at i e k) h l = joined high (at_part v i) (at_part v e ++ at_part v k) (part_stops v i h l) (joined high (at_part v e) (at_part v k) (part_stops v e h l) (part_stops v k h l))
+    head_stops v (head.For at i e k) h l = joined high (at_part v i ++ at_part v e) (at_part v k) (joined high (at_part v i) (at_part v e) (part_stops v i h l) (part_stops v e h l)) (part_stops v k h l)
     head_stops v (head.Switch at e) h l = (here v h l, tt)
     head_stops v (head.Case at e) h l = tt
     head_stops v (head.Default at) h l = tt
@@ -248,3 +248,38 @@ module _ (low : ℕ) where
           let z : Environment = with_parameters w ps in
           let a = declares v n (typing.Object p.ctype p.register) (Some v.locals) h in
           goes_on v.names w.names z.names w.visible z.visible a (named n a.holds)
+
+-- ---- the file stays the same
+
+local_unit : (r : Bool) (spec : Spec) (v : Environment) (d : Declared) (a : Answer Plain) → (with_local r spec v d a).unit ≡ v.unit
+local_unit r spec v d (Known t) = refl
+local_unit r spec v d (Unknown n) = refl
+local_unit r spec v d (Broken k at) = refl
+
+names_unit : (r : Bool) (spec : Spec) (v : Environment) (ds : List Declared) → (after_names r spec v ds).unit ≡ v.unit
+names_unit r spec v [] = refl
+names_unit r spec v (d ∷ ds) = names_unit r spec (after_local r spec v d) ds ∙ local_unit r spec v d (local_type r spec v d)
+
+pub units_along : (v : Environment) (x : StatementTree) → (after v x).unit ≡ v.unit
+units_along v (Empty at) = refl
+units_along v (Evaluate e) = refl
+units_along v (Begun at) = refl
+units_along v (Declares b l) = names_unit l.register l.spec (after v b) l.names ∙ units_along v b
+units_along v (Also b s) = units_along (after v b) s ∙ units_along v b
+units_along v (Closed b at) = units_along (enter v) b
+units_along v (If at e s) = units_along v s
+units_along v (IfElse at e s r) = units_along (after v s) r ∙ units_along v s
+units_along v (Headed k s) = units_along v s
+units_along v (Do at s e) = units_along v s
+units_along v (Break at) = refl
+units_along v (Continue at) = refl
+units_along v (Return at e) = refl
+
+pub parameters_unit : (v : Environment) (ps : List Parameter) → (with_parameters v ps).unit ≡ v.unit
+parameters_unit v [] = refl
+parameters_unit v (p ∷ ps) = by p.name (parameters_unit v ps) (λ n. parameters_unit (declare_local v n (typing.Object p.ctype p.register)) ps)
+  where
+    by : (o : Option (List ℕ)) → (with_parameters v ps).unit ≡ v.unit → ((n : List ℕ) → (with_parameters (declare_local v n (typing.Object p.ctype p.register)) ps).unit ≡ v.unit)
+        → (elim o as (λ _. Environment) [ None ↦ with_parameters v ps | Some n ↦ with_parameters (declare_local v n (typing.Object p.ctype p.register)) ps ]).unit ≡ v.unit
+    by None rest named = rest
+    by (Some n) rest named = named n

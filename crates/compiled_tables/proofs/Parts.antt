@@ -24,10 +24,8 @@ units_of w u zero n q bs = 0
 units_of w u (suc k) n q bs = weigh w (functions_of q u n bs) + units_of w (suc u) k n q bs
 
 module _ (w : ℕ → ℕ) (q : State) where
-  -- one more body is of one unit at most
-  one_more : (u k n : ℕ) (b : Bodied) (bs : List Bodied) → units_of w u k n q (b ∷ bs) ≤ w n + units_of w u k (suc n) q bs
+  -- a body of an earlier unit is of none of these
   later : (u k n : ℕ) (b : Bodied) (bs : List Bodied) → b.unit < u → units_of w u k n q (b ∷ bs) ≡ units_of w u k (suc n) q bs
-
   later u zero n b bs l = refl
   later u (suc k) n b bs l = by (b.unit == u) refl (later (suc u) k n b bs (omega arith))
     where
@@ -35,6 +33,8 @@ module _ (w : ℕ → ℕ) (q : State) where
       by true e h = let f = eqb-true b.unit u e in absurd (omega arith)
       by false e h = rw e (ap (λ (x : ℕ). weigh w (functions_of q u (suc n) bs) + x) h)
 
+  -- one more body is of one unit at most
+  one_more : (u k n : ℕ) (b : Bodied) (bs : List Bodied) → units_of w u k n q (b ∷ bs) ≤ w n + units_of w u k (suc n) q bs
   one_more u zero n b bs = omega arith
   one_more u (suc k) n b bs = by (b.unit == u) refl (one_more (suc u) k n b bs) (later (suc u) k n b bs)
     where
@@ -61,7 +61,7 @@ module _ (w : ℕ → ℕ) (q : State) where
       omega arith
 
   counts_total : (n : ℕ) (bs : List Bodied) → counts w n bs + total w n ≡ total w (n + length bs)
-  counts_total n [] = ap (total w) (let e : n ≡ n + 0 = omega arith in e)
+  counts_total n [] = let e : total w n ≡ total w (n + 0) = ap (total w) (let z : n ≡ n + 0 = omega arith in z) in omega arith
   counts_total n (b ∷ bs) =
       let a = counts_total (suc n) bs in
       let e : total w (suc n + length bs) ≡ total w (n + suc (length bs)) = ap (total w) (let x : suc n + length bs ≡ n + suc (length bs) = omega arith in x) in
@@ -115,7 +115,7 @@ module _ (q : State) (names : List (List ℕ)) (p : Program) (rows : HasRows q n
   functions_long (b ∷ bs) [] e = absurd e
   functions_long (b ∷ bs) (f ∷ fs) e =
       let a = functions_long bs fs e.1 in
-      let c : f.points ≡ numbers b.before.points (length (all_stops q b)) = e.0.2.2.2.2.2.2.0 in
+      let c : f.points ≡ numbers b.before.points (length (all_stops q b)) = e.0.6 in
       let d : length f.points ≡ length (all_stops q b) = ap (λ (xs : List ℕ). length xs) c ∙ numbered b.before.points (length (all_stops q b)) in
       omega arith
 

@@ -61,7 +61,7 @@ NamedStruct d = IsIdentifier d.tag × AllByRecursion NamedMember d.members
 struct_rows : (defs : List StructDef) (few : length defs ≤ 40000) (s : ℕ) (ds : List StructDef) → AllFrom (IsStruct defs) s ds → AllByRecursion (RunsRow defs) ds → AllByRecursion NamedStruct ds → AllByRecursion rows.IsStruct ds
 struct_rows defs few s [] h r n = tt
 struct_rows defs few s (d ∷ ds) h r n =
-    let laid : IsLaidOut defs d = h.0.2.1 in
+    let laid : IsLaidOut defs d = h.0.3 in
     let up = multiple_up laid.0 (alignment_of_members (alignment_of defs) d.members) in
     let size : d.size ≡ next_multiple_of laid.0 (alignment_of_members (alignment_of defs) d.members) = laid.2 in
     let small : d.size < 2 ^ 31 = r.0.0 in
