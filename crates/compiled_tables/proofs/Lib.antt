@@ -3,6 +3,7 @@ pub mod Identifiers
 pub mod Types
 pub mod Parts
 pub mod Placed
+pub mod Framed
 pub mod Owned
 pub mod Files
 pub mod Programs

@@ -10,7 +10,6 @@ use Rattle.c_tree.specs.declared.rows.SymbolRow.{SymbolRow}
 use Rattle.c_tree.specs.declared.rows.Function.{Function}
 use Rattle.c_tree.specs.declared.rows.Point.{Point}
 use Rattle.obj_file.specs.declared.object.FunctionRow.{FunctionRow}
-use Rattle.obj_file.specs.declared.object.LoaderRows.{LoaderRows}
 use Rattle.ps_print.specs.Loaded.{loaded}
 use Rattle.ps_emit.specs.Bounds.{cost_of, units_of}
 use Rattle.ps_emit.specs.Lengths.{IsWord, IsInteger, IsPlace}
@@ -41,9 +40,6 @@ pub record IsFramed (row : FunctionRow) : Type 0 where
   pub few_saved : length row.saved ≤ 9
   pub saved : AllByRecursion (λ s. IsWord s.0 × IsInteger s.1) row.saved
   pub locals : AllByRecursion (λ l. IsPlace (Some l)) row.locals
-
-abbrev pub AreFramed : LoaderRows → Type 0
-AreFramed rows = AllByRecursion IsFramed rows.functions
 
 -- What is counted for the items of a program is within the limits: 16,777,216 bytes of text, seven tenths of the store's units with those of the
 -- prelude, and fewer steps than a run may take. At most 40,000 static objects and strings stand on the stack of operands.

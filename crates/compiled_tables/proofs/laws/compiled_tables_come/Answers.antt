@@ -12,12 +12,13 @@ use Rattle.ps_emit.specs.Table.{table_text}
 use Rattle.slot_formed.specs.Tokens.{program_tokens}
 use Rattle.ldb_cc.proofs.Lengths.{as_many, of_texts, spelled_shortly}
 use Rattle.compiled_tables.proofs.Placed.{anchors_are_words, rows_are_placed}
+use Rattle.compiled_tables.proofs.Framed.{are_framed}
 use Rattle.compiled_tables.proofs.Programs.{names_are_own, built_ins_are}
 use Rattle.compiled_tables.proofs.Compiled.{within, types, parted, has_rows, low_byte, high_byte}
 use Rattle.compiled_tables.proofs.laws.compiled_tables_come.Goals as goal
 
 pub returns : goal.returns
-returns c aim names texts image table built long files identifiers spots framed affordable =
+returns c aim names texts image table built long files identifiers spots affordable =
     let p = built.program in
     let is = built.is_program in
     let q = is.2.1.behind in
@@ -32,7 +33,7 @@ returns c aim names texts image table built long files identifiers spots framed 
     let runs_objects = c.accepted_types_run.ensures.objects p keeps in
     let come = c.counted_tables_come.ensures p at
     (has_rows q names p at rows keeps tokens c.accepted_types_run.ensures.types runs_structs runs_objects files identifiers spots affordable
-    (anchors_are_words built.image_of.object image built.rows linked) (rows_are_placed built.image_of.object image built.rows linked c.placed_word_by_word.ensures.text framed) built.image_of.one_each)
+    (anchors_are_words built.image_of.object image built.rows linked) (rows_are_placed built.image_of.object image built.rows linked c.placed_word_by_word.ensures.text (are_framed aim p image built.rows built.image_of)) built.image_of.one_each)
     (parted q names p at rows keeps tokens c.accepted_types_run.ensures.types runs_structs runs_objects files identifiers spots affordable
         (built_ins_are q names p rows (tags_of is.0) is.0 is.2.1.files) (names_are_own q names p rows (tags_of is.0) is.0 is.2.1.files as_long))
     (types q names p at rows keeps tokens c.accepted_types_run.ensures.types runs_structs runs_objects files identifiers spots affordable)
