@@ -13,6 +13,10 @@ use Rattle.c_tree.specs.declared.rows.Referent.{Referent}
 use Rattle.c_tree.specs.declared.rows.Referent.TheVariants as refers
 use Rattle.c_typing.specs.Written.{IsFormed}
 use Rattle.c_typing.specs.Programs.{KeepsRules}
+use Rattle.c_symbol.specs.declared.terminal.Terminal.{Terminal}
+use Rattle.c_statement.specs.declared.unit.External.{External}
+use Rattle.c_tokens.specs.Units.{AreSpelled, terminals_in}
+use Rattle.c_file.specs.Programs.{Well, at_first, AllFiles}
 use Rattle.c_file.specs.Files.{State}
 use Rattle.c_file.specs.Made as made
 use Rattle.slot_formed.specs.Tokens.{program_tokens}
@@ -27,11 +31,12 @@ use Rattle.ps_tables.specs.Within.{IsWithin, HasTypes}
 use Rattle.ldb_cc.specs.declared.aim.Aim.{Aim}
 use Rattle.ldb_cc.specs.declared.aim.Aim.TheVariants.{Mips, Sparc}
 use Rattle.ldb_cc.specs.Table.{target_byte}
-use Rattle.compiled_tables.specs.Conditions.{AreFileNames, IsIdentifier, HasIdentifiers, HasSpots, IsAffordable}
+use Rattle.compiled_tables.specs.Conditions.{AreFileNames, IsIdentifier, HasIdentifiers, IsAffordable}
 use Rattle.compiled_tables.proofs.Identifiers.{regular, named}
 use Rattle.compiled_tables.proofs.Tokens.{sum_more, few_structs, few_members}
-use Rattle.compiled_tables.proofs.Types.{type_words, structs_are_rows, symbols_are_rows, points_are_rows}
-use Rattle.compiled_tables.proofs.Parts.{functions_parted, points_parted}
+use Rattle.compiled_tables.proofs.Types.{type_words, structs_are_rows, symbols_are_rows}
+use Rattle.compiled_tables.proofs.Parts.{as_many, functions_parted, points_parted}
+use Rattle.compiled_tables.proofs.Objects.{few_held, objects_few}
 
 -- ---- strings have room in the static data
 
@@ -83,10 +88,20 @@ symbols_cost (s ∷ ss) = let a = symbols_cost ss in let b = one s.refers s.ctyp
 few_symbols : (p : Program) → IsAffordable p → length p.symbols < 2 ^ 32
 few_symbols p h = let a = symbols_cost p.symbols in let b = h.bytes in omega arith
 
+-- static objects and strings are tokens
+pub few_statics : (q : State) (names : List (List ℕ)) (p : Program) (rows : made.HasRows q names p) (tags : List (List ℕ)) (us : List (List External)) (tss : List (List Terminal)) → AreSpelled us tss
+    → AllFiles tags (at_first tags) us Well q → length p.objects + length p.strings ≤ terminals_in tss
+few_statics q names p rows tags us tss s h =
+    let a = few_held tags us tss q s h in
+    let b = objects_few [] q.definitions in
+    let c = as_many (made.IsObjectOf q) (made.objects q) p.objects rows.objects in
+    let d : length p.strings ≡ length q.strings = ap (λ (l : List (List ℕ)). length l) rows.strings in
+    omega (arith, a, b, c, d)
+
 module _ (q : State) (names : List (List ℕ)) (p : Program) (at : Placement) (rows : made.HasRows q names p) (keeps : KeepsRules p) (tokens : program_tokens p ≤ 40000)
     (runs_types : (defs : List StructDef) (t : CType) → IsFormed defs t → RunsType defs t) (runs_structs : AllByRecursion (RunsRow p.defs) p.defs)
     (runs_objects : AllByRecursion (λ (o : ObjectRow). RunsType p.defs o.ctype) p.objects)
-    (files : AreFileNames names) (identifiers : HasIdentifiers p) (spots : HasSpots p) (affordable : IsAffordable p) where
+    (files : AreFileNames names) (identifiers : HasIdentifiers p) (affordable : IsAffordable p) (statics : length p.objects + length p.strings ≤ 40000) where
   abbrev few : length p.defs ≤ 40000
   few = few_structs p tokens
 
@@ -97,7 +112,7 @@ module _ (q : State) (names : List (List ℕ)) (p : Program) (at : Placement) (r
     steps = affordable.steps;
     structs = few;
     members = few_members p tokens;
-    objects = affordable.objects;
+    objects = statics;
   }
 
   pub types : HasTypes p
@@ -111,7 +126,7 @@ module _ (q : State) (names : List (List ℕ)) (p : Program) (at : Placement) (r
 
   pub has_rows : AllByRecursion (λ a. a.1 < 2 ^ 32) at.anchors → AllByRecursion IsPlaced at.functions → length at.anchors ≡ length p.objects + length p.strings → HasRows p at
   has_rows anchors placed one =
-      let o = affordable.objects in
+      let o = statics in
       let f = few in
       let many = few_symbols p affordable in
       let room = rows.room in
@@ -121,7 +136,6 @@ module _ (q : State) (names : List (List ℕ)) (p : Program) (at : Placement) (r
         objects = objects_are_rows p few units_short p.objects runs_objects identifiers.objects;
         strings = subst (AllByRecursion (λ t. length t < 2 ^ 30)) (sym rows.strings) strings;
         functions = functions_named p.functions identifiers.functions;
-        points = points_are_rows p few many (omega arith) (runs_types p.defs) keeps spots;
         symbols = symbols_are_rows p few many (omega arith) (runs_types p.defs) keeps identifiers;
         units = units_short;
         anchors = anchors;

@@ -7,4 +7,6 @@ pub mod Framed
 pub mod Owned
 pub mod Files
 pub mod Programs
+pub mod Literals
+pub mod Objects
 pub mod Compiled

@@ -67,7 +67,7 @@ module _ (w : ℕ → ℕ) (q : State) where
       let e : total w (suc n + length bs) ≡ total w (n + suc (length bs)) = ap (total w) (let x : suc n + length bs ≡ n + suc (length bs) = omega arith in x) in
       omega arith
 
-as_many : {A B : Type 0} (P : A → B → Type 0) (xs : List A) (ys : List B) → Each P xs ys → length xs ≡ length ys
+pub as_many : {A B : Type 0} (P : A → B → Type 0) (xs : List A) (ys : List B) → Each P xs ys → length xs ≡ length ys
 as_many P [] [] e = refl
 as_many P [] (y ∷ ys) e = absurd e
 as_many P (x ∷ xs) [] e = absurd e

@@ -10,18 +10,17 @@ use Rattle.c_tree.specs.declared.types.Member.{Member}
 use Rattle.c_tree.specs.declared.rows.Program.{Program}
 use Rattle.c_tree.specs.declared.rows.ObjectRow.{ObjectRow}
 use Rattle.c_tree.specs.declared.rows.SymbolRow.{SymbolRow}
-use Rattle.c_tree.specs.declared.rows.Point.{Point}
 use Rattle.c_tree.specs.declared.rows.Referent.{Referent}
 use Rattle.c_tree.specs.declared.rows.Referent.TheVariants as refers
 use Rattle.c_tree.specs.Layout.{alignment_of_members, alignment_of, size_of, AreLaid, IsLaidOut}
 use Rattle.c_typing.specs.Plain.{Plain, plain}
 use Rattle.c_typing.specs.Written.{IsFormed, IsWritten}
 use Rattle.c_typing.specs.Declarations.{IsStruct}
-use Rattle.c_typing.specs.Programs.{AllFrom, IsOfObject, IsReferent, IsBelow, IsSymbol, IsPoint, KeepsRules}
-use Rattle.ps_emit.specs.Lengths.{IsWord, HasWords, IsLink, IsMemberRow, IsPointRow}
+use Rattle.c_typing.specs.Programs.{AllFrom, IsOfObject, IsReferent, IsBelow, IsSymbol, KeepsRules}
+use Rattle.ps_emit.specs.Lengths.{IsWord, HasWords, IsLink, IsMemberRow}
 use Rattle.ps_tables.specs.Runnable.{RunsType, RunsRow}
 use Rattle.ps_tables.specs.Rows as rows
-use Rattle.compiled_tables.specs.Conditions.{IsIdentifier, HasIdentifiers, HasSpots}
+use Rattle.compiled_tables.specs.Conditions.{IsIdentifier, HasIdentifiers}
 use Rattle.compiled_tables.proofs.Identifiers.{named}
 
 pub type_words : (defs : List StructDef) (t : CType) → length defs ≤ 40000 → RunsType defs t → HasWords t
@@ -95,10 +94,3 @@ module _ (p : Program) (few : length p.defs ≤ 40000) (many : length p.symbols 
 
   pub symbols_are_rows : KeepsRules p → HasIdentifiers p → AllByRecursion rows.IsSymbol p.symbols
   symbols_are_rows k n = symbol_rows 0 p.symbols (omega arith) k.symbols n.symbols
-
-  point_rows : (qs : List Point) → AllByRecursion (IsPoint p) qs → AllByRecursion (λ (q : Point). IsWord q.line × IsWord q.column) qs → AllByRecursion IsPointRow qs
-  point_rows [] h s = tt
-  point_rows (q ∷ qs) h s = (record { line = s.0.0; column = s.0.1; symbol = link (length p.symbols) q.symbol (omega arith) h.0.1 }, point_rows qs h.1 s.1)
-
-  pub points_are_rows : KeepsRules p → HasSpots p → AllByRecursion IsPointRow p.points
-  points_are_rows k s = point_rows p.points k.points s

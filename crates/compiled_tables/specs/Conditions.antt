@@ -8,7 +8,6 @@ use Rattle.c_tree.specs.declared.rows.Program.{Program}
 use Rattle.c_tree.specs.declared.rows.ObjectRow.{ObjectRow}
 use Rattle.c_tree.specs.declared.rows.SymbolRow.{SymbolRow}
 use Rattle.c_tree.specs.declared.rows.Function.{Function}
-use Rattle.c_tree.specs.declared.rows.Point.{Point}
 use Rattle.obj_file.specs.declared.object.FunctionRow.{FunctionRow}
 use Rattle.ps_print.specs.Loaded.{loaded}
 use Rattle.ps_emit.specs.Bounds.{cost_of, units_of}
@@ -30,10 +29,6 @@ pub record HasIdentifiers (p : Program) : Type 0 where
   pub functions : AllByRecursion (λ (f : Function). IsIdentifier f.name) p.functions
   pub symbols : AllByRecursion (λ (s : SymbolRow). IsIdentifier s.name) p.symbols
 
--- the lines and columns of its points are words of 32 bits
-abbrev pub HasSpots : Program → Type 0
-HasSpots p = AllByRecursion (λ (q : Point). IsWord q.line × IsWord q.column) p.points
-
 -- The frame of a function is a word, it saves at most 9 registers, and each of these and of its locals has a register or an offset that is a word.
 pub record IsFramed (row : FunctionRow) : Type 0 where
   pub frame : IsWord row.frame
@@ -42,9 +37,8 @@ pub record IsFramed (row : FunctionRow) : Type 0 where
   pub locals : AllByRecursion (λ l. IsPlace (Some l)) row.locals
 
 -- What is counted for the items of a program is within the limits: 16,777,216 bytes of text, seven tenths of the store's units with those of the
--- prelude, and fewer steps than a run may take. At most 40,000 static objects and strings stand on the stack of operands.
+-- prelude, and fewer steps than a run may take.
 pub record IsAffordable (p : Program) : Type 0 where
   pub bytes : (cost_of p).bytes ≤ 16777216
   pub units : loaded.store.table.units + loaded.store.command.units + units_of p ≤ 5600000
   pub steps : (cost_of p).steps ≤ 9900000
-  pub objects : length p.objects + length p.strings ≤ 40000

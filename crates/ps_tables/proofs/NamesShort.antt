@@ -1,15 +1,13 @@
 -- How long the symbols are that a unit's deferred text has: each of its own names once, and the built-ins.
-use Rattle.std.proofs.Common.{◌≡◌, ◌⊎◌, inl, inr, ℕ, zero, suc, ◌+◌, ◌*◌, ◌<◌, ◌≤◌, ◌^◌, Bool, true, false, nat_lt, if◌then◌else◌, List, [], ◌∷◌, length, map, Option, Some, None, slice_get, refl, sym, ap, ◌∙◌, subst, arith}
+use Rattle.std.proofs.Common.{◌≡◌, inl, inr, ℕ, zero, suc, ◌+◌, ◌<◌, ◌≤◌, ◌^◌, Bool, true, false, nat_lt, if◌then◌else◌, List, [], ◌∷◌, length, Option, Some, None, slice_get, refl, ap, subst, arith}
 use Rattle.std.proofs.lemmas.Bool.{ltb-true, ltb-false}
 use Rattle.std.proofs.lemmas.Option.{slice_get_within}
 use Rattle.std.specs.List.{AllByRecursion}
 use Rattle.obj_file.specs.declared.object.FunctionRow.{FunctionRow}
 use Rattle.obj_file.specs.declared.object.LocalPlace.{LocalPlace}
-use Rattle.c_tree.specs.declared.rows.Program.{Program}
 use Rattle.c_tree.specs.declared.rows.SymbolRow.{SymbolRow}
 use Rattle.c_tree.specs.declared.rows.Referent.{Referent}
 use Rattle.c_tree.specs.declared.rows.Referent.TheVariants as refers
-use Rattle.ps_emit.specs.Terms.{◌⋯◌}
 use Rattle.ps_emit.specs.Places.{Homes}
 use Rattle.ps_emit.specs.Symbols.{entry_in, up_in, coming, symbol_of, symbols_code, made_with}
 use Rattle.ps_emit.specs.Lengths.{written, IsWord, IsPlace, IsFound, IsSymbolRow}

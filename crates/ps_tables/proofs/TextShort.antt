@@ -1,5 +1,5 @@
 -- How long the text of a table is.
-use Rattle.std.proofs.Common.{◌≡◌, ℕ, zero, suc, ◌+◌, ◌*◌, ◌<◌, ◌≤◌, ◌^◌, List, [], ◌∷◌, length, map, codes, pos, Bool, true, false, ◌==◌, if◌then◌else◌, ◌++◌, refl, sym, ap, ◌∙◌, subst, arith, length-append}
+use Rattle.std.proofs.Common.{◌≡◌, ℕ, suc, ◌+◌, ◌*◌, ◌<◌, ◌≤◌, ◌^◌, List, [], ◌∷◌, length, map, codes, pos, Bool, true, false, ◌==◌, if◌then◌else◌, ◌++◌, refl, ap, arith, length-append}
 use Rattle.std.specs.List.{AllByRecursion}
 use Rattle.std.specs.Fmt.{digits}
 use Rattle.machine_state.specs.declared.layout.TheConstants.{SPARC}
@@ -11,14 +11,14 @@ use Rattle.c_tree.specs.declared.rows.ObjectRow.{ObjectRow}
 use Rattle.ps_scan.specs.Escaping.{escaped}
 use Rattle.ps_text.specs.Code.{Code, Stop, Lit, render}
 use Rattle.ps_emit.specs.declared.placement.Placement.{Placement}
-use Rattle.ps_emit.specs.Terms.{◌⋯◌, word, name, string, integer, bracketed, item, defined}
+use Rattle.ps_emit.specs.Terms.{◌⋯◌, word, name, string, integer, bracketed, item}
 use Rattle.ps_emit.specs.Words.{words}
 use Rattle.ps_emit.specs.Types.{struct_code, each_struct, structs_code, member_code, each_member, filled_struct, filled_structs, tag_code, tags_code}
 use Rattle.ps_emit.specs.Places.{object_code, objects_from, string_code, strings_from, objects_code}
 use Rattle.ps_emit.specs.Functions.{units_code}
 use Rattle.ps_emit.specs.Table.{target_name, anchor_code, anchors_code, paired, top_code, parts_code, table_code, table_text}
 use Rattle.ps_emit.specs.Bounds.{all, of_member, of_object, per_struct, ◌and◌, cost_of}
-use Rattle.ps_emit.specs.Lengths.{size, written, IsWord, IsMemberRow, IsStructRow}
+use Rattle.ps_emit.specs.Lengths.{size, written, IsWord, IsMemberRow}
 use Rattle.ps_emit.proofs.Items.{members_short, structs_short, objects_short, literals_short}
 use Rattle.ps_emit.proofs.Lengths.{written_followed, size_written}
 use Rattle.ps_tables.specs.Rows.{IsStruct, IsObject, HasRows, IsParted}

@@ -1,27 +1,28 @@
 -- How long the deferred texts of a program's units are in its table.
-use Rattle.std.proofs.Common.{◌≡◌, ◌⊎◌, inl, inr, ℕ, zero, suc, ◌+◌, ◌*◌, ◌<◌, ◌≤◌, ◌^◌, Bool, true, false, nat_lt, if◌then◌else◌, List, [], ◌∷◌, length, map, Option, Some, None, slice_get, refl, sym, ap, ◌∙◌, subst, arith, length-append, ℤ}
+use Rattle.std.proofs.Common.{◌≡◌, ℕ, suc, ◌+◌, ◌*◌, ◌<◌, ◌≤◌, ◌^◌, Bool, true, false, nat_lt, List, [], ◌∷◌, length, map, Option, Some, None, slice_get, refl, sym, ap, ◌∙◌, subst, arith, length-append, ℤ, negsuc, ◌-◌}
+use Rattle.std.proofs.lemmas.Bool.{ltb-true, ltb-false, le-ltb}
 use Rattle.std.specs.List.{AllByRecursion}
+use Rattle.ldb_words.specs.Word.{signed}
 use Rattle.obj_file.specs.declared.object.FunctionRow.{FunctionRow}
-use Rattle.obj_file.specs.declared.object.LocalPlace.{LocalPlace}
 use Rattle.c_tree.specs.declared.rows.Program.{Program}
 use Rattle.c_tree.specs.declared.rows.UnitRow.{UnitRow}
 use Rattle.c_tree.specs.declared.rows.SymbolRow.{SymbolRow}
 use Rattle.c_tree.specs.declared.rows.Function.{Function}
 use Rattle.c_tree.specs.declared.rows.Point.{Point}
-use Rattle.ps_text.specs.Code.{Code, Stop, render}
+use Rattle.ps_text.specs.Code.{Code, render}
 use Rattle.ps_emit.specs.declared.placement.Placement.{Placement}
-use Rattle.ps_emit.specs.Terms.{◌⋯◌}
+use Rattle.ps_emit.specs.Terms.{◌⋯◌, word}
 use Rattle.ps_emit.specs.Places.{Homes, homes}
-use Rattle.ps_emit.specs.Symbols.{up_in, coming, made_with}
-use Rattle.ps_emit.specs.Functions.{saved_register, saved_code, symbol_at, opened, point_in, point_code, points_code, made_by, function_code, function_in, made_in, functions_code, unit_code, units_code}
+use Rattle.ps_emit.specs.Symbols.{linked, up_in, coming, made_with}
+use Rattle.ps_emit.specs.Functions.{saved_register, saved_code, symbol_at, opened, point_in, point_code, points_code, made_by, function_in, made_in, functions_code, unit_code, units_code}
 use Rattle.ps_emit.specs.Bounds.{all, of_symbol}
-use Rattle.ps_emit.specs.Lengths.{size, written, IsWord, IsInteger, IsName, IsPlace, IsPointRow, IsFunctionRow}
-use Rattle.ps_emit.proofs.Items.{saved_short, points_short, functions_short, units_short}
+use Rattle.ps_emit.specs.Lengths.{size, written, IsWord, IsInteger, IsName, IsPlace}
+use Rattle.ps_emit.proofs.Items.{saved_short, functions_short, units_short}
 use Rattle.ps_emit.proofs.Followed.{render_followed}
-use Rattle.ps_emit.proofs.Lengths.{written_followed}
-use Rattle.ps_tables.specs.Rows.{IsSymbol, IsPlaced, HasRows, weigh, total, weigh_units, points_in, points_of, IsAmong, AreAmong, OwnsNames, OwnNames, IsBelow, IsBuiltIn, IsParted}
+use Rattle.ps_emit.proofs.Lengths.{IsShort, short_word, weight, Neat, weight_followed, neat_followed, neat_written, written_followed}
+use Rattle.ps_tables.specs.Rows.{IsPlaced, HasRows, weigh, total, weigh_units, points_in, points_of, IsAmong, AreAmong, OwnNames, IsBelow, IsParted}
 use Rattle.ps_tables.proofs.Totals.{at_item, total_more, total_linear, row_bytes, symbol_bytes, symbols_total}
-use Rattle.ps_tables.proofs.NamesShort.{symbols_written, Spent, among_built_ins, among_names, spent_all, spends}
+use Rattle.ps_tables.proofs.NamesShort.{symbols_written, Spent, among_built_ins, spent_all, spends}
 
 -- a function without its symbols: 382 bytes with 9 saved registers, and 62 for each point
 abbrev pub function_bytes : Program → ℕ → ℕ
@@ -33,6 +34,37 @@ saved_written (s ∷ ss) h =
     let a = saved_written ss h.1 in
     let b = saved_short s.0 s.1 h.0.0 h.0.1 in
     let e = written_followed (saved_register s.0 s.1) (saved_code ss) in
+    omega arith
+
+-- ---- numbers, whose places are those of a word with its sign
+
+short_any : (n : ℕ) → IsShort (signed n)
+short_any n = by (nat_lt n (2 ^ 32)) refl
+  where
+    by : (b : Bool) → nat_lt n (2 ^ 32) ≡ b → IsShort (signed n)
+    by true e = short_word n (ltb-true n (2 ^ 32) e)
+    by false e =
+        let l = ltb-false n (2 ^ 32) e in
+        let high : nat_lt n (2 ^ 31) ≡ false = le-ltb n (2 ^ 31) (omega arith) in
+        let is : signed n ≡ negsuc (2 ^ 32 - suc n) = rw high refl in
+        let none : 2 ^ 32 - suc n ≡ 0 = omega arith in
+        let last : signed 4294967295 ≡ negsuc 0 = refl in
+        subst IsShort (sym (is ∙ (ap negsuc none ∙ sym last))) (short_word 4294967295 (omega arith))
+
+neat_link : (s : Option ℕ) → Neat (linked s)
+neat_link None = (record { same = refl }, tt)
+neat_link (Some s) = (short_any s, (record { same = refl }, tt))
+
+weight_link : (s : Option ℕ) → weight (linked s) ≤ 17
+weight_link None = omega arith
+weight_link (Some s) = omega arith
+
+point_short : (address : ℕ) (q : Point) → written (point_code address q) ≤ 62
+point_short address q =
+    let n = neat_written (point_code address q)
+    (short_any q.line, (short_any q.column, (short_any address, neat_followed (linked q.symbol) (word "NewPoint") (neat_link q.symbol) (record { same = refl }, tt)))) in
+    let e = weight_followed (linked q.symbol) (word "NewPoint") in
+    let l = weight_link q.symbol in
     omega arith
 
 module _ (p : Program) (at : Placement) (rows : HasRows p at) (built_ins : (s : ℕ) → s < 3 → IsBelow s (up_in (slice_get p.symbols s))) (low high : ℕ) (three : 3 ≤ low)
@@ -58,7 +90,7 @@ module _ (p : Program) (at : Placement) (rows : HasRows p at) (built_ins : (s : 
     one_point : (made address v : ℕ) (x : ℕ) (o : Option Point) → slice_get p.points x ≡ o → IsWord address → IsAmong low high (symbol_at o) → Used made v → Costs 62 (made_with made (symbol_at o)) v (point_in p fs h made address o)
     one_point made address v x None e a scope u = record { after = v; used = u; short = omega arith }
     one_point made address v x (Some q) e a scope u =
-        let b = points_short address q a (at_item IsPointRow p.points x q rows.points e) in
+        let b = point_short address q in
         let c = symbols_written fs ss rows.placed rows.symbols rows.few_symbols h homed (coming (length ss) ss made q.symbol) in
         let f = written_followed (opened p fs h made q) (point_code address q) in
         record { after = v + weigh (symbol_bytes ss) (coming (length ss) ss made q.symbol); used = spends ss built_ins low three (length ss) high made v q.symbol links scope u; short = omega arith }

@@ -1,5 +1,5 @@
 -- A program whose rows keep to names and words, and which costs not too much, has a table that runs.
-use Rattle.std.proofs.Common.{◌≡◌, ℕ, zero, suc, ◌+◌, ◌*◌, ◌/◌, ◌<◌, ◌≤◌, ◌^◌, List, [], ◌∷◌, length, refl, sym, ap, subst, arith}
+use Rattle.std.proofs.Common.{◌≡◌, ℕ, ◌+◌, ◌*◌, ◌≤◌, List, [], ◌∷◌, length, refl, arith}
 use Rattle.std.specs.List.{AllByRecursion}
 use Rattle.obj_file.specs.declared.object.FunctionRow.{FunctionRow}
 use Rattle.c_tree.specs.declared.types.StructDef.{StructDef}
@@ -7,24 +7,21 @@ use Rattle.c_tree.specs.declared.types.Member.{Member}
 use Rattle.c_tree.specs.declared.rows.Program.{Program}
 use Rattle.c_tree.specs.declared.rows.UnitRow.{UnitRow}
 use Rattle.c_tree.specs.declared.rows.ObjectRow.{ObjectRow}
-use Rattle.ps_scan.specs.Escaping.{escaped}
 use Rattle.ps_scan.specs.Grammar.{AllRegular}
 use Rattle.ps_store.specs.Store.{text_units}
-use Rattle.ps_print.specs.Loaded.{loaded}
 use Rattle.ps_text.specs.Code.{Code, render}
 use Rattle.ps_emit.specs.declared.placement.Placement.{Placement}
 use Rattle.ps_emit.specs.Terms.{word, ◌⋯◌}
 use Rattle.ps_emit.specs.Functions.{deferred, unit_code, units_code}
-use Rattle.ps_emit.specs.Places.{object_label}
 use Rattle.ps_emit.specs.Table.{top_code, parts_code, table_code, table_text}
 use Rattle.ps_emit.specs.Types.{structs_code, filled_structs}
 use Rattle.ps_emit.specs.Words.{words}
 use Rattle.ps_emit.specs.Places.{objects_code}
 use Rattle.ps_emit.specs.Bounds.{cost_of, units_of}
-use Rattle.ps_emit.specs.Lengths.{size, written, IsMemberRow}
+use Rattle.ps_emit.specs.Lengths.{size, IsMemberRow}
 use Rattle.ps_emit.proofs.Lengths.{escaped_longer}
 use Rattle.ps_tables.specs.Runnable.{RunsType, RunsRow, RunsMember, RunsStruct, RunsObject, RunsUnit, Runnable}
-use Rattle.ps_tables.specs.Bounded.{IsShortMember, IsShortStruct, IsShortObject, IsShortUnit, IsShort, deferred_units}
+use Rattle.ps_tables.specs.Bounded.{IsShortMember, IsShortStruct, IsShortObject, IsShort, deferred_units}
 use Rattle.ps_tables.specs.Rows.{IsStruct, IsObject, HasRows, IsParted}
 use Rattle.ps_tables.specs.Within.{IsWithin, HasTypes}
 use Rattle.ps_tables.specs.Tabled.{table_made, table_steps}

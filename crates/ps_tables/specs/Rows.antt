@@ -1,5 +1,5 @@
 -- The rows of a program that is placed: names are names of C, numbers are words of 32 bits, and what the units of a program have is theirs alone.
-use Rattle.std.specs.Prelude.{◌≡◌, ◌⊎◌, ℕ, ℤ, zero, suc, ◌+◌, ◌<◌, ◌≤◌, ◌^◌, List, [], ◌∷◌, length, Option, Some, None, slice_get}
+use Rattle.std.specs.Prelude.{◌≡◌, ◌⊎◌, ℕ, zero, suc, ◌+◌, ◌<◌, ◌≤◌, ◌^◌, List, [], ◌∷◌, length, Option, Some, None, slice_get}
 use Rattle.std.specs.List.{AllByRecursion}
 use Rattle.obj_file.specs.declared.object.FunctionRow.{FunctionRow}
 use Rattle.c_tree.specs.declared.types.StructDef.{StructDef}
@@ -8,7 +8,6 @@ use Rattle.c_tree.specs.declared.rows.UnitRow.{UnitRow}
 use Rattle.c_tree.specs.declared.rows.ObjectRow.{ObjectRow}
 use Rattle.c_tree.specs.declared.rows.SymbolRow.{SymbolRow}
 use Rattle.c_tree.specs.declared.rows.Function.{Function}
-use Rattle.c_tree.specs.declared.rows.Point.{Point}
 use Rattle.c_tree.specs.declared.rows.Referent.{Referent}
 use Rattle.c_tree.specs.declared.rows.Referent.TheVariants as refers
 use Rattle.ps_emit.specs.declared.placement.Placement.{Placement}
@@ -16,7 +15,7 @@ use Rattle.ps_emit.specs.Places.{file_in}
 use Rattle.ps_emit.specs.Symbols.{up_in}
 use Rattle.ps_emit.specs.Functions.{symbol_at}
 use Rattle.ps_emit.specs.Bounds.{of_symbol, per_symbol, per_constructor}
-use Rattle.ps_emit.specs.Lengths.{IsWord, IsInteger, IsName, HasWords, IsLink, IsPlace, IsPointRow, IsMemberRow}
+use Rattle.ps_emit.specs.Lengths.{IsWord, IsInteger, IsName, HasWords, IsLink, IsPlace, IsMemberRow}
 
 -- ---- one by one
 
@@ -56,7 +55,6 @@ pub record HasRows (p : Program) (at : Placement) : Type 0 where
   pub objects : AllByRecursion (IsObject p.units) p.objects
   pub strings : AllByRecursion (λ t. length t < 2 ^ 30) p.strings
   pub functions : AllByRecursion (λ (f : Function). IsName f.name) p.functions
-  pub points : AllByRecursion IsPointRow p.points
   pub symbols : AllByRecursion IsSymbol p.symbols
   pub units : AllByRecursion (λ (u : UnitRow). length u.file ≤ 255) p.units
   pub anchors : AllByRecursion (λ a. IsWord a.1) at.anchors
