@@ -1,7 +1,6 @@
 -- The table of an accepted program runs.
-use Rattle.std.proofs.Common.{◌≡◌, ℕ, zero, suc, ◌+◌, ◌*◌, ◌<◌, ◌≤◌, ◌^◌, List, [], ◌∷◌, length, map, sum, Option, Some, None, slice_get, refl, sym, ap, ◌∙◌, subst, arith}
+use Rattle.std.proofs.Common.{◌≡◌, ℕ, zero, suc, ◌+◌, ◌*◌, ◌<◌, ◌≤◌, ◌^◌, List, [], ◌∷◌, length, map, sum, Some, slice_get, sym, ap, subst, arith}
 use Rattle.std.specs.List.{AllByRecursion}
-use Rattle.std.specs.Int.{next_multiple_of}
 use Rattle.c_tree.specs.declared.types.CType.{CType}
 use Rattle.c_tree.specs.declared.types.StructDef.{StructDef}
 use Rattle.c_tree.specs.declared.rows.Program.{Program}
@@ -23,7 +22,7 @@ use Rattle.slot_formed.specs.Tokens.{program_tokens}
 use Rattle.ps_scan.specs.Grammar.{AllRegular}
 use Rattle.ps_emit.specs.declared.placement.Placement.{Placement}
 use Rattle.ps_emit.specs.Places.{file_in}
-use Rattle.ps_emit.specs.Bounds.{all, of_named, of_symbol, cost_of}
+use Rattle.ps_emit.specs.Bounds.{all, of_named, of_symbol}
 use Rattle.ps_emit.specs.Lengths.{IsName}
 use Rattle.ps_tables.specs.Runnable.{RunsType, RunsRow}
 use Rattle.ps_tables.specs.Rows.{IsObject, IsPlaced, HasRows, OwnNames, IsBuiltIn, IsParted}

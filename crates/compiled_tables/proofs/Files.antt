@@ -1,5 +1,5 @@
 -- How a program goes on through a file: its names and those at the points of its functions are of the file, and its bodies of its unit.
-use Rattle.std.proofs.Common.{◌≡◌, ◌⊎◌, inl, inr, ℕ, zero, suc, ◌+◌, ◌<◌, ◌≤◌, Bool, true, false, List, [], ◌∷◌, ◌++◌, length, Option, Some, None, refl, sym, ap, ◌∙◌, subst, arith, length-append, append-nil, append_assoc}
+use Rattle.std.proofs.Common.{◌≡◌, ℕ, ◌+◌, ◌≤◌, List, [], ◌∷◌, ◌++◌, length, Option, Some, None, refl, sym, ap, ◌∙◌, subst, arith, append-nil, append_assoc}
 use Rattle.std.specs.List.{AllByRecursion}
 use Rattle.c_tree.specs.declared.types.StructDef.{StructDef}
 use Rattle.c_declaration.specs.Tree.{DeclaratorTree}
@@ -25,8 +25,7 @@ use Rattle.c_struct.specs.Specifies.{Goes as Followed, Ends, Inside, Specifies}
 use Rattle.c_body.specs.Stops.{Stop, stops_of, inside_block}
 use Rattle.c_body.specs.Bodies.{after}
 use Rattle.c_file.specs.Names.{FileName}
-use Rattle.c_file.specs.Files.{State, Bodied, with_name, with_initial, with_definition, with_strings, with_declarator, row_of, after_what, what, after_name, after_all, body_environment, bodied, function_row, with_head, behind_body, after_function, with_spec, behind_known, Externals, Onward, AllExternals}
-use Rattle.ps_tables.specs.Rows.{IsAmong}
+use Rattle.c_file.specs.Files.{State, Bodied, with_name, with_initial, with_definition, with_strings, row_of, after_what, what, after_name, after_all, body_environment, bodied, function_row, with_head, behind_body, after_function, with_spec, behind_known, Externals, Onward, AllExternals}
 use Rattle.compiled_tables.proofs.Owned.{all_append, Holds, Goes, goes_up, stays, goes_on, declares, leaves, along, AllStops, stops_wider, body_among, parameters_along, units_along, parameters_unit}
 
 -- ---- a declaration's type changes no names

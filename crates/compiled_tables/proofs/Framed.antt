@@ -1,31 +1,28 @@
 -- The frames of compiled functions, and where their locals and saved registers lie, are words.
-use Rattle.std.proofs.Common.{◌≡◌, ℕ, ℤ, pos, negsuc, zero, suc, ◌+◌, ◌-◌, ◌*◌, ◌-ℤ◌, ◌<◌, ◌≤◌, ◌^◌, Bool, true, false, nat_lt, nat_le, if◌then◌else◌, List, [], ◌∷◌, ◌++◌, length, map, take, drop, Option, Some, None, slice_get, refl, sym, ap, ◌∙◌, subst, arith, append-nil, w32}
+use Rattle.std.proofs.Common.{◌≡◌, ℕ, pos, negsuc, zero, suc, ◌+◌, ◌-◌, ◌*◌, ◌-ℤ◌, ◌<◌, ◌≤◌, ◌^◌, Bool, true, false, nat_lt, nat_le, if◌then◌else◌, List, [], ◌∷◌, ◌++◌, length, map, take, drop, Option, Some, None, slice_get, refl, sym, ap, ◌∙◌, subst, arith, append-nil, w32}
 use Rattle.std.proofs.lemmas.Int.{ints}
 use Rattle.std.proofs.lemmas.Bool.{ltb-true, ltb-false, leb-true}
 use Rattle.std.proofs.Math.Facts.{to_z_pos, to_z-neg}
 use Rattle.std.specs.List.{AllByRecursion}
 use Rattle.std.specs.Int.{next_multiple_of}
-use Rattle.ldb_words.specs.Word.{signed}
 use Rattle.machine_state.specs.declared.layout.TheConstants.{TEXT}
 use Rattle.slot_ir.specs.declared.code.SlotCode.{SlotCode}
 use Rattle.slot_ir.specs.declared.code.SlotFunction.{SlotFunction}
 use Rattle.slot_ir.specs.declared.code.SlotLocal.{SlotLocal}
 use Rattle.slot_ir.specs.declared.code.Home.{Home}
 use Rattle.slot_ir.specs.declared.code.Home.TheVariants.{Block, Register}
-use Rattle.obj_file.specs.declared.object.LocalPlace.{LocalPlace}
-use Rattle.obj_file.specs.declared.object.LocalPlace.TheVariants.{Slot, Reg}
 use Rattle.obj_file.specs.declared.object.FunctionRow.{FunctionRow}
 use Rattle.flat_gen.specs.declared.layout.TheConstants.{GREATEST_FRAME}
 use Rattle.flat_gen.specs.Layout.{room, rooms, places_from, frame_size, temps_at, layout}
 use Rattle.flat_gen.specs.declared.layout.Layout.{Layout}
 use Rattle.flat_gen.specs.Layout as frames
-use Rattle.gen_parts.specs.Rows.{from_base, slot_by, place_by, local_places, saved_place}
+use Rattle.gen_parts.specs.Rows.{slot_by, place_by, local_places, saved_place}
 use Rattle.c_tree.specs.declared.rows.Program.{Program}
 use Rattle.slot_ir.specs.WellFormed.{IsScalar, IsLocal, IsFunction}
 use Rattle.obj_file.specs.Image.{ImageFields}
 use Rattle.obj_file.specs.declared.object.Object.{Object}
 use Rattle.obj_file.specs.declared.object.LoaderRows.{LoaderRows}
-use Rattle.obj_placed.specs.Placed.{moved_row, placed_rows}
+use Rattle.obj_placed.specs.Placed.{moved_row}
 use Rattle.flat_ir.specs.declared.code.FlatFunction.{FlatFunction}
 use Rattle.flat_gen.specs.Codes.{flat_by, flat_function, flat_code}
 use Rattle.gen_parts.specs.Coding.{Coding}
@@ -97,7 +94,7 @@ module _ (linkage : ℕ) (f : SlotFunction) where
   by_fitting false e = (omega arith, tt)
 
   as_chosen : (b : Bool) → ◌≡◌ {A = Layout} (if b then record { frame = frame_size linkage f; fits = true; temporaries = temps_at linkage f; locals = frames.local_places linkage f }
-          else record { frame = GREATEST_FRAME; fits = false; temporaries = 0; locals = [] }) (chosen b)
+      else record { frame = GREATEST_FRAME; fits = false; temporaries = 0; locals = [] }) (chosen b)
   as_chosen true = refl
   as_chosen false = refl
 

@@ -1,6 +1,5 @@
 -- Identifiers of C stand in a table as they are.
-use Rattle.std.proofs.Common.{◌≡◌, ◌≢◌, ℕ, Bool, true, false, ◌==◌, IsTrue, List, [], ◌∷◌, ◌++◌, refl, sym, ap, ◌∙◌, ne_eqb}
-use Rattle.std.specs.List.{AllByRecursion}
+use Rattle.std.proofs.Common.{◌≡◌, ℕ, true, false, ◌==◌, List, [], ◌∷◌, ◌++◌, refl, sym, ap, ◌∙◌, ne_eqb}
 use Rattle.c_lex.specs.Bytes.{is_part}
 use Rattle.c_lex.specs.Numbers.{AllAre}
 use Rattle.ps_scan.specs.Bytes.{is_white, is_special, is_regular}
@@ -16,8 +15,24 @@ differs b k h n = ne_eqb b k (λ e. let f : true ≡ false = sym h ∙ (ap is_pa
 regular_byte : (b : ℕ) → is_part b ≡ true → is_regular b ≡ true
 unfolding is_regular is_white is_special
 regular_byte b h =
-    rw (differs b 0 h refl, differs b 9 h refl, differs b 10 h refl, differs b 12 h refl, differs b 13 h refl, differs b 32 h refl, differs b 40 h refl, differs b 41 h refl,
-        differs b 60 h refl, differs b 62 h refl, differs b 91 h refl, differs b 93 h refl, differs b 123 h refl, differs b 125 h refl, differs b 47 h refl, differs b 37 h refl) refl
+    rw (
+      differs b 0 h refl,
+      differs b 9 h refl,
+      differs b 10 h refl,
+      differs b 12 h refl,
+      differs b 13 h refl,
+      differs b 32 h refl,
+      differs b 40 h refl,
+      differs b 41 h refl,
+      differs b 60 h refl,
+      differs b 62 h refl,
+      differs b 91 h refl,
+      differs b 93 h refl,
+      differs b 123 h refl,
+      differs b 125 h refl,
+      differs b 47 h refl,
+      differs b 37 h refl,
+    ) refl
 
 plain_byte : (b : ℕ) → is_part b ≡ true → escaped_byte b ≡ b ∷ []
 plain_byte b h = rw (differs b 40 h refl, differs b 41 h refl, differs b 92 h refl, differs b 13 h refl) refl

@@ -1,19 +1,18 @@
 -- The string literals of a text, and the names that it declares at file scope, are tokens of it.
-use Rattle.std.proofs.Common.{◌≡◌, ap, ℕ, ◌+◌, ◌≤◌, Bool, true, false, List, [], ◌∷◌, ◌++◌, length, length-append, Option, Some, None, arith}
+use Rattle.std.proofs.Common.{◌≡◌, ℕ, ◌+◌, ◌≤◌, Bool, List, [], ◌∷◌, ◌++◌, length, length-append, Option, Some, None, arith}
 use Rattle.c_lex.specs.declared.token.Place.{Place}
 use Rattle.c_symbol.specs.declared.terminal.Terminal.{Terminal}
 use Rattle.c_symbol.specs.declared.symbol.LeafKind.{LeafKind}
 use Rattle.c_symbol.specs.declared.symbol.LeafKind.TheVariants as leaf_kind
-use Rattle.c_expr.specs.declared.tree.Spec.{Spec}
-use Rattle.c_expr.specs.Tree.{Tree, Leaf, Paren, Index, Call, With, Member, After, Prefix, SizeofType, Cast, Binary, Choice, Stars, Around, Bounded, Unbounded}
-use Rattle.c_expr.specs.Grammar.{IsSpec, one_word, unsigned_int, tagged, IsAbstract, stars, around, bounded, unbounded, spec_of, IsExpr, leaf, paren, index, member, after, prefixed, sizeof_type, cast, binary, choice, call, call_with, IsCall, first_argument, next_argument}
+use Rattle.c_expr.specs.Tree.{Tree}
+use Rattle.c_expr.specs.Grammar.{IsAbstract, stars, around, bounded, unbounded, IsExpr, leaf, paren, index, member, after, prefixed, sizeof_type, cast, binary, choice, call, call_with, IsCall, first_argument, next_argument}
 use Rattle.c_declaration.specs.Tree.{DeclaratorTree}
 use Rattle.c_declaration.specs.InitialTree.{InitialTree, Value, Braces, Item}
 use Rattle.c_declaration.specs.declared.tree.Declared.{Declared}
 use Rattle.c_declaration.specs.declared.tree.Local.{Local}
 use Rattle.c_declaration.specs.declared.tree.FileSpec.{FileSpec}
 use Rattle.c_declaration.specs.declared.tree.MemberPart.{MemberPart}
-use Rattle.c_declaration.specs.declared.tree.MemberPart.TheVariants.{Opens, Row, Closes}
+use Rattle.c_declaration.specs.declared.tree.MemberPart.TheVariants.{Row, Closes}
 use Rattle.c_declaration.specs.declared.tree.Head.{Head as FileHead}
 use Rattle.c_declaration.specs.declared.tree.FunctionHead.{FunctionHead}
 use Rattle.c_declaration.specs.Grammar.{IsDirect, name, parens, array, open_array, no_parameters, void_parameters, parameters, IsDeclarator, direct, pointers, AreParameters, first_parameter, next_parameter, IsParameter, named, unnamed, IsInitial, value, braces, braces_comma, AreItems, first_item, next_item, IsDeclared, plain, with_initial, AreDeclared, one_name, more_names, IsLocal, local, AreDeclarators, one_declarator, more_declarators, AreMembers, no_members, named_row, struct_row, IsFileSpec, named_spec, struct_spec, IsFileDeclared, bare, with_value, AreFileDeclared, one_file_name, more_file_names, IsHead as IsFileHead, only_spec, with_names, IsFunctionHead, function_head}

@@ -1,5 +1,5 @@
 -- A program has no more static objects and strings than its files have tokens.
-use Rattle.std.proofs.Common.{◌≡◌, refl, sym, ap, ◌∙◌, ℕ, suc, ◌+◌, ◌≤◌, Bool, true, false, ◌||◌, if◌then◌else◌, List, [], ◌∷◌, ◌++◌, length, length-append, Option, Some, None, arith}
+use Rattle.std.proofs.Common.{◌≡◌, refl, ap, ℕ, suc, ◌+◌, ◌≤◌, Bool, true, false, ◌||◌, if◌then◌else◌, List, [], ◌∷◌, ◌++◌, length, length-append, Option, Some, None, arith}
 use Rattle.c_symbol.specs.declared.terminal.Terminal.{Terminal}
 use Rattle.c_declaration.specs.Tree.{DeclaratorTree}
 use Rattle.c_declaration.specs.InitialTree.{InitialTree, Value, Braces, Item}
@@ -23,7 +23,7 @@ use Rattle.c_initial.specs.Begins.{strings_of_value, strings_of}
 use Rattle.c_file.specs.declared.definitions.Manner.{Manner}
 use Rattle.c_file.specs.declared.definitions.Manner.TheVariants.{Body}
 use Rattle.c_file.specs.Names.{FileName, Defining}
-use Rattle.c_file.specs.Files.{State, with_name, with_initial, with_definition, with_strings, with_declarator, row_of, type_or, defining, manner_of, after_what, what, after_name, after_all, function_row, with_head, behind_body, after_function, with_spec, behind_known, Externals, Onward, AllExternals}
+use Rattle.c_file.specs.Files.{State, with_name, with_initial, with_definition, with_strings, row_of, type_or, defining, manner_of, after_what, what, after_name, after_all, function_row, with_head, behind_body, after_function, with_spec, behind_known, Externals, Onward, AllExternals}
 use Rattle.c_file.specs.Programs.{Told, Well, in_file, ◌before◌, next_file, at_first, AllFiles}
 use Rattle.c_file.specs.Made.{is_body, is_on, objects_from}
 use Rattle.c_tokens.specs.Units.{AreSpelled, terminals_in}

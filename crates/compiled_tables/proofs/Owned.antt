@@ -1,10 +1,8 @@
 -- The names that a file declares lead outward among themselves and to built-ins, and so are those in scope at its points.
-use Rattle.std.proofs.Common.{◌≡◌, ◌⊎◌, inl, inr, ℕ, zero, suc, ◌+◌, ◌<◌, ◌≤◌, Bool, true, false, List, [], ◌∷◌, ◌++◌, length, Option, Some, None, refl, sym, ap, ◌∙◌, subst, arith, length-append, append-nil, append_assoc}
+use Rattle.std.proofs.Common.{◌≡◌, inl, inr, ℕ, suc, ◌+◌, ◌≤◌, Bool, List, [], ◌∷◌, ◌++◌, length, Option, Some, None, refl, sym, ap, ◌∙◌, subst, arith, length-append, append-nil, append_assoc}
 use Rattle.std.specs.List.{AllByRecursion}
-use Rattle.c_lex.specs.declared.token.Place.{Place}
 use Rattle.c_expr.specs.Tree.{Tree}
 use Rattle.c_expr.specs.declared.tree.Spec.{Spec}
-use Rattle.c_declaration.specs.Tree.{begins}
 use Rattle.c_declaration.specs.InitialTree.{InitialTree}
 use Rattle.c_declaration.specs.declared.tree.Declared.{Declared}
 use Rattle.c_declaration.specs.declared.tree.Local.{Local}
@@ -16,12 +14,11 @@ use Rattle.c_typing.specs.Expressions.{Denoted}
 use Rattle.c_typing.specs.Expressions as typing
 use Rattle.c_typing.specs.Programs.{AllFrom}
 use Rattle.c_judge.specs.Answers.{Answer, Known, Unknown, Broken}
-use Rattle.c_judge.specs.Places.{place_of}
-use Rattle.c_scope.specs.Environment.{Row, Visible, Environment, innermost, declare, declare_local, enter, leave}
+use Rattle.c_scope.specs.Environment.{Row, Visible, Environment, innermost, declare, declare_local, enter}
 use Rattle.c_scope.specs.Declarators.{Parameter}
 use Rattle.c_body.specs.Locals.{local_type, with_local, after_local, after_names, after_declaration}
 use Rattle.c_body.specs.Bodies.{after}
-use Rattle.c_body.specs.Stops.{Stop, stop, at_expression, at_part, at_initial, at_locals, at_head, stops, opening, closing, inside_block, stops_of}
+use Rattle.c_body.specs.Stops.{Stop, stop, at_expression, at_part, at_initial, at_locals, at_head, stops, closing, inside_block, stops_of}
 use Rattle.c_file.specs.Files.{with_parameters}
 use Rattle.ps_tables.specs.Rows.{IsAmong}
 

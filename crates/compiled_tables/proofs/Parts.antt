@@ -1,7 +1,6 @@
 -- Each function of a program is one of one file, and each point of one function.
-use Rattle.std.proofs.Common.{◌≡◌, ℕ, zero, suc, ◌+◌, ◌<◌, ◌≤◌, Bool, true, false, ◌==◌, if◌then◌else◌, List, [], ◌∷◌, ◌++◌, length, Option, Some, None, slice_get, refl, sym, ap, ◌∙◌, subst, arith, length-append}
-use Rattle.std.proofs.lemmas.Bool.{eqb-true, eqb-false}
-use Rattle.std.specs.List.{AllByRecursion}
+use Rattle.std.proofs.Common.{◌≡◌, ℕ, zero, suc, ◌+◌, ◌<◌, ◌≤◌, Bool, true, false, ◌==◌, List, [], ◌∷◌, length, slice_get, refl, ap, ◌∙◌, arith, length-append}
+use Rattle.std.proofs.lemmas.Bool.{eqb-true}
 use Rattle.c_tree.specs.declared.rows.Program.{Program}
 use Rattle.c_tree.specs.declared.rows.UnitRow.{UnitRow}
 use Rattle.c_tree.specs.declared.rows.Function.{Function}

@@ -1,5 +1,5 @@
 -- The addresses in the rows of a linked image are words.
-use Rattle.std.proofs.Common.{◌≡◌, ℕ, suc, ◌+◌, ◌<◌, ◌≤◌, ◌^◌, Bool, true, false, ◌&&◌, nat_le, nat_lt, nat_eq, List, [], ◌∷◌, ◌++◌, length, map, Option, Some, slice_get, refl, sym, ap, ◌∙◌, subst, arith, append-nil, length-append}
+use Rattle.std.proofs.Common.{◌≡◌, ℕ, suc, ◌+◌, ◌≤◌, ◌^◌, Bool, true, false, ◌&&◌, nat_le, nat_lt, List, [], ◌∷◌, length, map, Option, Some, slice_get, refl, sym, ap, ◌∙◌, subst, arith, append-nil}
 use Rattle.std.proofs.lemmas.Bool.{leb-true, ltb-true}
 use Rattle.std.specs.List.{AllByRecursion, list_all}
 use Rattle.machine_state.specs.declared.layout.TheConstants.{TEXT, DATA, DATA_SIZE}
@@ -8,10 +8,10 @@ use Rattle.obj_file.specs.declared.object.Object.{Object}
 use Rattle.obj_file.specs.declared.object.StaticDef.{StaticDef}
 use Rattle.obj_file.specs.declared.object.FunctionRow.{FunctionRow}
 use Rattle.obj_file.specs.declared.object.LoaderRows.{LoaderRows}
-use Rattle.obj_placed.specs.Placed.{IsPlacing, IsFound, IsResolved, all_statics, anchors_at, placed_text, placed_texts, moved_point, moved_row, placed_rows}
+use Rattle.obj_placed.specs.Placed.{IsFound, IsResolved, all_statics, anchors_at, placed_text, moved_point, moved_row}
 use Rattle.obj_placed.specs.Words.{ArePatched}
-use Rattle.link_image.specs.Linked.{addresses_from, anchors_from, linked_addresses, linked_address, linked_text}
-use Rattle.link_image.specs.Conditions.{AreLinkable, is_sized, point_lies, row_lies, has_rows_inside}
+use Rattle.link_image.specs.Linked.{linked_addresses, linked_address, linked_text}
+use Rattle.link_image.specs.Conditions.{point_lies, row_lies, has_rows_inside}
 use Rattle.link_image.specs.Links.{IsLinked}
 use Rattle.ps_emit.specs.Lengths.{IsWord}
 use Rattle.ps_tables.specs.Rows.{IsPlaced}

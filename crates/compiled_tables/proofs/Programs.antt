@@ -1,8 +1,7 @@
 -- Each file of an accepted program has its own names.
-use Rattle.std.proofs.Common.{◌≡◌, ◌≢◌, ◌⊎◌, inl, inr, ℕ, zero, suc, ◌+◌, ◌<◌, ◌≤◌, Bool, true, false, ◌==◌, if◌then◌else◌, List, [], ◌∷◌, ◌++◌, length, map, Option, Some, None, slice_get, codes, refl, sym, ap, ◌∙◌, subst, arith, unwrap_or, length-append, append-nil, append_assoc}
+use Rattle.std.proofs.Common.{◌≡◌, inl, ℕ, zero, suc, ◌+◌, ◌<◌, ◌≤◌, Bool, true, false, ◌==◌, List, [], ◌∷◌, ◌++◌, length, Option, Some, None, slice_get, refl, sym, ap, ◌∙◌, subst, arith, unwrap_or, length-append, append-nil, append_assoc}
 use Rattle.std.specs.List.{AllByRecursion}
 use Rattle.std.proofs.lemmas.Bool.{eqb-true}
-use Rattle.std.proofs.lemmas.Option.{slice_get_within}
 use Rattle.c_statement.specs.declared.unit.External.{External}
 use Rattle.c_tree.specs.declared.rows.Program.{Program}
 use Rattle.c_tree.specs.declared.rows.UnitRow.{UnitRow}
@@ -19,14 +18,14 @@ use Rattle.c_judge.specs.Answers.{Known, Unknown, Broken}
 use Rattle.c_scope.specs.Environment.{Row, Visible}
 use Rattle.c_scope.specs.Findings.{Finding}
 use Rattle.c_body.specs.Stops.{Stop}
-use Rattle.c_file.specs.Files.{State, Bodied, AllExternals, Onward}
+use Rattle.c_file.specs.Files.{State, Bodied, Onward}
 use Rattle.c_file.specs.Programs.{Told, Well, Lacks, Breaks, built_ins, built_in_rows, next_file, at_first, in_file, ◌before◌, AllFiles}
 use Rattle.c_file.specs.Made.{Each, IsFunctionOf, IsSymbolOf, type_of_name, points_from, all_points, functions_of, AreUnits, HasRows}
 use Rattle.ps_emit.specs.Bounds.{constructors, of_named}
 use Rattle.ps_emit.specs.Symbols.{up_in}
 use Rattle.ps_emit.specs.Functions.{symbol_at}
 use Rattle.ps_tables.specs.Rows.{IsAmong, points_in, AreAmong, OwnsNames, OwnNames, IsBelow, IsBuiltIn}
-use Rattle.compiled_tables.proofs.Owned.{all_append, Holds, IsLed, AllStops, stops_wider}
+use Rattle.compiled_tables.proofs.Owned.{all_append, Holds, IsLed, AllStops}
 use Rattle.compiled_tables.proofs.Files.{stops_in, stop_count, Counted, count_append, counted_append, IsOwn, Onto, file_onto}
 
 -- ---- what a program has of each file, when it is read to its end
@@ -155,16 +154,20 @@ module _ (tags : List (List ℕ)) where
       let behind : AllByRecursion (λ (b : Bodied). suc u ≤ b.unit) l.new = subst (λ n. AllByRecursion (λ (b : Bodied). n ≤ b.unit) l.new) same l.behind in
       let bodies : q.bodies ≡ (p.bodies ++ o.new) ++ l.new = l.bodies ∙ ap (λ (bs : List Bodied). bs ++ l.new) o.bodies in
       let stops = all_append (λ (b : Bodied). b.unit ≡ u → AllStops low high (stops_in b)) (p.bodies ++ o.new) l.new
-          (all_append (λ (b : Bodied). b.unit ≡ u → AllStops low high (stops_in b)) p.bodies o.new (not_of low high u p.bodies s.below) (own_ones low high u o.new o.own)) (not_yet low high u l.new behind) in
+      (all_append (λ (b : Bodied). b.unit ≡ u → AllStops low high (stops_in b)) p.bodies o.new (not_of low high u p.bodies s.below) (own_ones low high u o.new o.own)) (not_yet low high u l.new behind) in
       record {
-        owns = (high, record {
-              ordered = o.goes.holds.long;
-              within = omega arith;
-              led = λ i x low_i i_high e.
-                  let z : 0 + i ≡ i = omega arith in
-                  subst (λ n. IsAmong low n x.up) z (names_led low 0 r.here.names i x o.goes.holds.led (sym (ap (λ (ns : List Row). slice_get ns i) names ∙ within_front r.here.names l.rest i i_high) ∙ e) (omega (arith, low_i)));
-              bodies = subst (AllByRecursion (λ (b : Bodied). b.unit ≡ u → AllStops low high (stops_in b))) (sym bodies) stops;
-            }, subst (λ n. OwnsAll q high n count) same rest.owns);
+        owns = (
+          high,
+          record {
+            ordered = o.goes.holds.long;
+            within = omega arith;
+            led = λ i x low_i i_high e.
+                let z : 0 + i ≡ i = omega arith in
+                subst (λ n. IsAmong low n x.up) z (names_led low 0 r.here.names i x o.goes.holds.led (sym (ap (λ (ns : List Row). slice_get ns i) names ∙ within_front r.here.names l.rest i i_high) ∙ e) (omega (arith, low_i)));
+            bodies = subst (AllByRecursion (λ (b : Bodied). b.unit ≡ u → AllStops low high (stops_in b))) (sym bodies) stops;
+          },
+          subst (λ n. OwnsAll q high n count) same rest.owns,
+        );
         later = record {
           rest = o.goes.rest ++ l.rest;
           names = names ∙ (ap (λ (ns : List Row). ns ++ l.rest) o.goes.more ∙ append_assoc p.here.names o.goes.rest l.rest);
@@ -230,10 +233,11 @@ module _ (q : State) (names : List (List ℕ)) (p : Program) (rows : HasRows q n
         let one : Point = record { function = f; line = s.line; column = s.column; symbol = s.symbol } in
         let rest : List Point = points_from q f ss ++ back in
         let whole : (front ++ one ∷ []) ++ rest ≡ front ++ one ∷ rest = append_assoc front (one ∷ []) rest in
-        let size : length (front ++ one ∷ []) ≡ suc (length front) = length-append front (one ∷ []) ∙ (let e : length front + 1 ≡ suc (length front) = omega arith in e) in
-        (subst (λ (o : Option Point). IsAmong low high (symbol_at o)) (sym (at_seam front one rest)) h.0,
+        let size : length (front ++ one ∷ []) ≡ suc (length front) = length-append front (one ∷ []) ∙ (let e : length front + 1 ≡ suc (length front) = omega arith in e) in (
+          subst (λ (o : Option Point). IsAmong low high (symbol_at o)) (sym (at_seam front one rest)) h.0,
           subst (λ (ps : List Point). AllByRecursion (Sees ps) (numbers (suc (length front)) (length ss))) whole
-          (subst (λ n. AllByRecursion (Sees ((front ++ one ∷ []) ++ rest)) (numbers n (length ss))) size (stops_seen (front ++ one ∷ []) f ss back h.1)))
+              (subst (λ n. AllByRecursion (Sees ((front ++ one ∷ []) ++ rest)) (numbers n (length ss))) size (stops_seen (front ++ one ∷ []) f ss back h.1)),
+        )
 
     points_size : (f : ℕ) (ss : List Stop) → length (points_from q f ss) ≡ length ss
     points_size f [] = refl
@@ -308,6 +312,7 @@ module _ (q : State) (names : List (List ℕ)) (p : Program) (rows : HasRows q n
       costs (refers.Local x) t k = (omega arith, omega arith, omega arith)
       costs (refers.Function f) t k = (omega arith, omega arith, omega arith)
       costs refers.Declared t k = (omega arith, omega arith, omega arith)
+
       int_type : (t : CType) → plain t ≡ Int → constructors t ≡ 1
       int_type ctype.Char g = refl
       int_type ctype.Int g = refl
@@ -316,6 +321,7 @@ module _ (q : State) (names : List (List ℕ)) (p : Program) (rows : HasRows q n
       int_type (ctype.Pointer' b t) g = absurd cc
       int_type (ctype.Array' b t n) g = absurd cc
       int_type (ctype.Struct n) g = refl
+
       void_type : (t : CType) → plain t ≡ Void → constructors t ≡ 1
       void_type ctype.Char g = refl
       void_type ctype.Int g = refl
@@ -324,8 +330,10 @@ module _ (q : State) (names : List (List ℕ)) (p : Program) (rows : HasRows q n
       void_type (ctype.Pointer' b t) g = absurd cc
       void_type (ctype.Array' b t n) g = absurd cc
       void_type (ctype.Struct n) g = refl
+
       cheap : (s : ℕ) (row : SymbolRow) → constructors row.ctype ≡ 1 → IsBelow s row.up → IsBuiltIn p s row
       cheap s row k u = let a = costs row.refers row.ctype k in record { bytes = a.0; made = a.1; steps = a.2; up = u }
+
       by : (s : ℕ) → s < 3 → (r : Row) (row : SymbolRow) → slice_get (built_in_rows ++ rest) s ≡ Some r → IsSymbolOf q r row → IsBuiltIn p s row
       by zero few r row g is =
           let same = ap (λ (o : Option Row). unwrap_or o r) (sym g) in

@@ -1,5 +1,5 @@
 -- The numbers in the types of an accepted program are words.
-use Rattle.std.proofs.Common.{◌≡◌, ℕ, suc, ◌+◌, ◌*◌, ◌<◌, ◌≤◌, ◌^◌, List, [], ◌∷◌, length, Option, Some, None, slice_get, refl, sym, ap, subst, arith}
+use Rattle.std.proofs.Common.{◌≡◌, ℕ, suc, ◌+◌, ◌<◌, ◌≤◌, ◌^◌, List, [], ◌∷◌, length, Option, Some, None, slice_get, refl, arith}
 use Rattle.std.proofs.lemmas.Option.{slice_get_within}
 use Rattle.std.specs.List.{AllByRecursion}
 use Rattle.std.specs.Int.{next_multiple_of}
@@ -14,7 +14,7 @@ use Rattle.c_tree.specs.declared.rows.Referent.{Referent}
 use Rattle.c_tree.specs.declared.rows.Referent.TheVariants as refers
 use Rattle.c_tree.specs.Layout.{alignment_of_members, alignment_of, size_of, AreLaid, IsLaidOut}
 use Rattle.c_typing.specs.Plain.{Plain, plain}
-use Rattle.c_typing.specs.Written.{IsFormed, IsWritten}
+use Rattle.c_typing.specs.Written.{IsFormed}
 use Rattle.c_typing.specs.Declarations.{IsStruct}
 use Rattle.c_typing.specs.Programs.{AllFrom, IsOfObject, IsReferent, IsBelow, IsSymbol, KeepsRules}
 use Rattle.ps_emit.specs.Lengths.{IsWord, HasWords, IsLink, IsMemberRow}
@@ -88,9 +88,10 @@ module _ (p : Program) (few : length p.defs ≤ 40000) (many : length p.symbols 
 
   symbol_rows : (n : ℕ) (ss : List SymbolRow) → n + length ss ≤ length p.symbols → AllFrom (IsSymbol p) n ss → AllByRecursion (λ (s : SymbolRow). IsIdentifier s.name) ss → AllByRecursion rows.IsSymbol ss
   symbol_rows n [] l h i = tt
-  symbol_rows n (s ∷ ss) l h i =
-      (record { name = named s.name i.0; ctype = type_words p.defs s.ctype few (formed s.ctype h.0.0.1); up = link n s.up (omega arith) h.0.2; refers = referent_word (plain s.ctype) s.name s.refers h.0.1 },
-        symbol_rows (suc n) ss (omega arith) h.1 i.1)
+  symbol_rows n (s ∷ ss) l h i = (
+    record { name = named s.name i.0; ctype = type_words p.defs s.ctype few (formed s.ctype h.0.0.1); up = link n s.up (omega arith) h.0.2; refers = referent_word (plain s.ctype) s.name s.refers h.0.1 },
+    symbol_rows (suc n) ss (omega arith) h.1 i.1,
+  )
 
   pub symbols_are_rows : KeepsRules p → HasIdentifiers p → AllByRecursion rows.IsSymbol p.symbols
   symbols_are_rows k n = symbol_rows 0 p.symbols (omega arith) k.symbols n.symbols

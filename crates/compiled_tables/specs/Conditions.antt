@@ -1,5 +1,5 @@
 -- What is asked of sources, of their program and of where it is placed, for a table that runs. Each is said of the program or of the linker's rows.
-use Rattle.std.specs.Prelude.{◌≡◌, ℕ, ◌+◌, ◌≤◌, ◌<◌, ◌^◌, List, length, Some}
+use Rattle.std.specs.Prelude.{ℕ, ◌+◌, ◌≤◌, List, length, Some}
 use Rattle.std.specs.List.{AllByRecursion}
 use Rattle.c_lex.specs.Grammar.{IsWord as IsWordOfC}
 use Rattle.c_tree.specs.declared.types.StructDef.{StructDef}

@@ -152,6 +152,7 @@ module _ (ss : List SymbolRow) where
               let a = first_chain n made s few k'.0 (λ t x y. links t x (omega (arith, k'.1))) in among_names (omega (arith, k'.0)) (omega (arith, k'.1)) (omega arith)
           new l (inr k') (among_names k m b) =
               let a = later_chain n made s k l (λ t x y. links t x (omega (arith, k'.1))) in among_names (omega (arith, k'.0)) (omega (arith, k'.1)) (omega arith)
+
           by : (b : Bool) → nat_lt s made ≡ b → Spent high (if b then made else suc s) (v + chain n made (Some s))
           by true e = rw (made_costs n made s (ltb-true s made e)) (subst (Spent high made) (omega arith) spent)
           by false e = new (ltb-false s made e) h spent

@@ -1,23 +1,20 @@
 -- The text of a table comes to a table.
-use Rattle.std.proofs.Common.{◌≡◌, ◌≢◌, ◌⊎◌, inl, inr, ℕ, zero, suc, pos, ◌+◌, ◌-◌, ◌≤◌, Bool, true, false, ◌&&◌, ◌==◌, nat_eq, bytes_eq, if◌then◌else◌, Option, Some, None, Result, Ok, Err, List, [], ◌∷◌, length, codes, slice_get, refl, sym, ap, ◌∙◌, subst, arith}
+use Rattle.std.proofs.Common.{◌≡◌, ◌≢◌, ◌⊎◌, inl, inr, ℕ, zero, suc, ◌+◌, ◌-◌, ◌≤◌, Bool, true, false, ◌&&◌, nat_eq, if◌then◌else◌, Some, None, Result, Ok, Err, List, [], ◌∷◌, length, refl, sym, ap, ◌∙◌, subst, arith}
 use Rattle.std.specs.Cmp.Lexicographic.{bytes_decides}
 use Rattle.std.specs.Fmt.{digits}
 use Rattle.ps_scan.specs.Bytes.{is_regular, is_white, is_special, is_hexadecimal}
 use Rattle.c_tree.specs.declared.rows.Program.{Program}
 use Rattle.machine_state.specs.declared.layout.TheConstants.{MIPS, SPARC}
 use Rattle.ps_store.specs.declared.object.Part.TheVariants.{Table}
-use Rattle.ps_store.specs.declared.object.PsObj.{PsObj}
 use Rattle.ps_store.specs.declared.object.PsObj.TheVariants.{Str, Dict}
 use Rattle.ps_store.specs.declared.object.DictId.{DictId}
 use Rattle.ps_store.specs.declared.object.StringId.{StringId}
-use Rattle.ps_store.specs.Held.{Held}
 use Rattle.ps_store.specs.Operators.{operator_number}
 use Rattle.ps_store.specs.StoreState.{StoreState}
 use Rattle.ps_store.specs.Store.{Given, making_string, text_units, bytes_of}
 use Rattle.ps_step.specs.declared.item.Item.{Item}
 use Rattle.ps_step.specs.declared.item.Item.TheVariants.{Object}
 use Rattle.ps_step.specs.declared.machine.PsCore.{PsCore}
-use Rattle.ps_step.specs.declared.fault.PsFault.{PsFault}
 use Rattle.ps_step.specs.declared.fault.PsFault.TheVariants as ps
 use Rattle.ps_run.specs.Runs.{Answer, Runs}
 use Rattle.ps_text.proofs.Growing.{MadeText, text_made}
@@ -26,13 +23,12 @@ use Rattle.ps_terms.specs.Printing.{further}
 use Rattle.ps_print.specs.Loaded.{loaded}
 use Rattle.ps_emit.specs.declared.placement.Placement.{Placement}
 use Rattle.ps_emit.specs.Table.{table_text, target_name}
-use Rattle.dialect_model.specs.Dial.{Dial}
 use Rattle.dialect_model.specs.Forcing.{NoTarget}
 use Rattle.ps_bare.specs.Bare.{bare}
 use Rattle.table_run.specs.declared.run.TableFault.{TableFault}
 use Rattle.table_run.specs.declared.run.TableFault.TheVariants.{Raised, Spent, Shape, NoMemory}
-use Rattle.table_run.specs.Shape.{target_text, has_entries, is_text, is_unused, is_table, no_objects}
-use Rattle.table_run.specs.Tables.{RunsString, runs_made, RunsBehind, left_by, closed_with, table_with, table_in, IsTableOf}
+use Rattle.table_run.specs.Shape.{target_text, has_entries, is_text, is_unused}
+use Rattle.table_run.specs.Tables.{RunsString, runs_made, RunsBehind, closed_with, table_with, table_in, IsTableOf}
 use Rattle.ps_tables.specs.Later.{Later}
 use Rattle.ps_tables.specs.Runnable.{Runnable}
 use Rattle.ps_tables.specs.Defined.{in_table}
@@ -142,9 +138,14 @@ module _ (p : Program) (at : Placement) (run : Runnable p at) (low : 1 ≤ at.ta
       let bases : length now.base ≡ 2 = ap length (a.leaves.owned.base ∙ later.base) ∙ two_bases in
       let unused : is_unused now.command ≡ true = ap is_unused (a.leaves.owned.command ∙ later.command made_in) ∙ no_commands in
       let moved : Runs NoTarget 10000000 (bare 0) c₀ (Ok tt) (suc left) (bare 0) c = subst (λ n. Runs NoTarget n (bare 0) c₀ (Ok tt) (suc left) (bare 0) c) e a.runs in
-      let ended : RunsString loaded (t, s) (Ok tt) c = record { left = suc left; dial = bare 0; runs = λ other. ([], moved) } in
-      (closed_with c a.leaves.top, (c, record { start = loaded; is_loaded = refl; runs = subst (λ (x : Given StringId). runs_made loaded x (Ok tt) c) (sym made) ended },
-      comes_to now a.leaves.top at.target a.leaves.is_top (same_name at.target high low) bases unused []))
+      let ended : RunsString loaded (t, s) (Ok tt) c = record { left = suc left; dial = bare 0; runs = λ other. ([], moved) } in (
+        closed_with c a.leaves.top,
+        (
+          c,
+          record { start = loaded; is_loaded = refl; runs = subst (λ (x : Given StringId). runs_made loaded x (Ok tt) c) (sym made) ended },
+          comes_to now a.leaves.top at.target a.leaves.is_top (same_name at.target high low) bases unused [],
+        ),
+      )
 
   is_there : (x : StoreState) × IsTableOf (table_text p at) at.target (Ok x)
   is_there =

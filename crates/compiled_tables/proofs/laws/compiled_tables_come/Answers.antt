@@ -1,13 +1,12 @@
-use Rattle.std.proofs.Common.{◌≡◌, ◌∙◌, refl, sym, ap, subst, ℕ, ◌+◌, ◌≤◌, List, length, Ok, arith}
+use Rattle.std.proofs.Common.{◌≡◌, ◌∙◌, sym, subst, ℕ, ◌+◌, ◌≤◌, List, length, Ok, arith}
 use Rattle.c_lex.specs.Grammar.{start}
 use Rattle.c_typing.specs.Programs.{KeepsRules}
-use Rattle.ps_store.specs.StoreState.{StoreState}
 use Rattle.ps_print.specs.Loaded.{loaded}
 use Rattle.claims.specs.Tables.{RunsTable}
 use Rattle.table_run.specs.Tables.{IsTableOf}
 use Rattle.c_file.specs.Programs.{tags_of}
 use Rattle.ldb_cc.specs.Sources.{IsTree}
-use Rattle.ldb_cc.specs.Table.{placement_of, target_byte}
+use Rattle.ldb_cc.specs.Table.{placement_of}
 use Rattle.ps_emit.specs.Table.{table_text}
 use Rattle.slot_formed.specs.Tokens.{program_tokens}
 use Rattle.ldb_cc.proofs.Lengths.{as_many, of_texts, spelled_shortly}
@@ -36,11 +35,12 @@ returns c aim names texts image table built long files identifiers affordable =
     (has_rows q names p at rows keeps tokens c.accepted_types_run.ensures.types runs_structs runs_objects files identifiers affordable statics
     (anchors_are_words built.image_of.object image built.rows linked) (rows_are_placed built.image_of.object image built.rows linked c.placed_word_by_word.ensures.text (are_framed aim p image built.rows built.image_of)) built.image_of.one_each)
     (parted q names p at rows keeps tokens c.accepted_types_run.ensures.types runs_structs runs_objects files identifiers affordable statics
-        (built_ins_are q names p rows (tags_of is.0) is.0 is.2.1.files) (names_are_own q names p rows (tags_of is.0) is.0 is.2.1.files as_long))
+    (built_ins_are q names p rows (tags_of is.0) is.0 is.2.1.files) (names_are_own q names p rows (tags_of is.0) is.0 is.2.1.files as_long))
     (types q names p at rows keeps tokens c.accepted_types_run.ensures.types runs_structs runs_objects files identifiers affordable statics)
     (within q names p at rows keeps tokens c.accepted_types_run.ensures.types runs_structs runs_objects files identifiers affordable statics)
     (low_byte aim) (high_byte aim) in
-    let target = built.image_of.is_for.target in
-    (come.0,
+    let target = built.image_of.is_for.target in (
+      come.0,
       subst (λ (text : List ℕ). IsTableOf text image.target (Ok come.0)) (sym built.table_is) (subst (λ (n : ℕ). IsTableOf (table_text p at) n (Ok come.0)) (sym target) come.1),
-      subst (λ (text : List ℕ). RunsTable loaded.store text image.target (Ok come.0)) (sym built.table_is) (subst (λ (n : ℕ). RunsTable loaded.store (table_text p at) n (Ok come.0)) (sym target) come.2))
+      subst (λ (text : List ℕ). RunsTable loaded.store text image.target (Ok come.0)) (sym built.table_is) (subst (λ (n : ℕ). RunsTable loaded.store (table_text p at) n (Ok come.0)) (sym target) come.2),
+    )
