@@ -58,7 +58,7 @@ IsTableStop target text (Bad line) = IsTableWhy target text line
 IsTableStop target text _ = ⊥
 
 -- The image that one of the targets has of them, and the text of its table, with a store to which this comes, as the claims on whole
--- sessions have it too (`table_run::tables_are_run`).
+-- sessions have it too (`table_ends::tables_are_run`).
 pub record AreCompiled (aim : Aim) (names texts : List (List ℕ)) : Type 0 where
   pub image : ImageFields
   pub text : List ℕ

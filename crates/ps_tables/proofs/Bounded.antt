@@ -76,7 +76,7 @@ module _ (defs : List StructDef) where
   objects_take [] = omega arith
   objects_take (o ∷ os) = let e = objects_take os in let f = type_takes defs o.ctype in omega arith
 
-  label_fits : (us : List UnitRow) (o : ObjectRow) → IsShortObject us o → length (object_label us o) ≤ 320
+  pub label_fits : (us : List UnitRow) (o : ObjectRow) → IsShortObject us o → length (object_label us o) ≤ 320
   label_fits us o h =
       let f : length (label_front us o) ≤ 256 = front o.is_static in
       let n : length o.name ≤ 63 = h.name in

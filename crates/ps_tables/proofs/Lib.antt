@@ -34,3 +34,8 @@ pub mod Bounded
 pub mod Behind
 pub mod BehindRun
 pub mod Accepted
+pub mod Totals
+pub mod NamesShort
+pub mod UnitsShort
+pub mod TextShort
+pub mod Within

@@ -17,3 +17,5 @@ pub mod PartsKnown
 pub mod Tabled
 pub mod Bounded
 pub mod Behind
+pub mod Rows
+pub mod Within

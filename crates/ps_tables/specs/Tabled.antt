@@ -19,10 +19,11 @@ use Rattle.ps_step.specs.declared.item.Item.{Item}
 use Rattle.ps_step.specs.declared.item.Item.TheVariants.{Text}
 use Rattle.ps_step.specs.declared.machine.PsCore.{PsCore}
 use Rattle.ps_run.specs.Step.{Ended, step}
-use Rattle.ps_run.specs.Runs.{Answer}
+use Rattle.ps_run.specs.Runs.{Answer, Operates, Runs}
 use Rattle.ps_text.specs.Code.{render}
 use Rattle.ps_text.specs.Grown.{IsString}
 use Rattle.ps_terms.specs.Stands.{core}
+use Rattle.ps_terms.specs.Printing.{further}
 use Rattle.ps_emit.specs.declared.placement.Placement.{Placement}
 use Rattle.ps_emit.specs.Terms.{anchor_name}
 use Rattle.ps_emit.specs.Places.{object_label, string_label}
@@ -137,3 +138,8 @@ pub record EndsAtTop {D : Type 0} (index : ℕ) (ds : List DictId) (t : StringId
   pub remains : m ≡ left
   pub dialect : d' ≡ d
   pub state : c' ≡ core leaves.store (in_table index ∷ ds) (Dict leaves.top ∷ []) []
+
+-- There is such a run.
+pub record RunsToTop {D : Type 0} (Op : Operates D) (index : ℕ) (ds : List DictId) (t : StringId) (steps made target : ℕ) (s : StoreState) (left : ℕ) (d : D) (c : PsCore) : Type 0 where
+  pub leaves : LeavesTop index ds t steps made target s 0
+  pub runs : Runs Op (further (suc steps) left) d c (Ok tt) left d (core leaves.store (in_table index ∷ ds) (Dict leaves.top ∷ []) [])

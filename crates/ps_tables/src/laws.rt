@@ -27,7 +27,7 @@ ghost use Rattle.ps_terms.specs.Printing.{further};
 ghost use Rattle.ps_emit.specs.Words.{words};
 ghost use Rattle.ps_emit.specs.Terms.{◌⋯◌};
 ghost use Rattle.ps_emit.specs.Functions.{saved_register, point_code};
-ghost use Rattle.ps_emit.specs.Bounds.{per_saved, per_point, cost_of};
+ghost use Rattle.ps_emit.specs.Bounds.{per_saved, per_point, cost_of, units_of};
 ghost use Rattle.ps_emit.specs.Table.{top_code};
 ghost use Rattle.ps_emit.specs.declared.placement.Placement.{Placement};
 ghost use Rattle.ps_tables.specs.TablePieces.{saved, point, top};
@@ -50,10 +50,12 @@ ghost use Rattle.c_typing.specs.Programs.{KeepsRules};
 ghost use Rattle.ps_tables.specs.Runnable.{Runnable, RunsType, RunsRow};
 ghost use Rattle.ps_tables.specs.Behind.{prelude_dict, loaded_printers};
 ghost use Rattle.ps_tables.specs.Bounded.{IsShort, deferred_units};
+ghost use Rattle.ps_tables.specs.Rows.{HasRows, IsParted};
+ghost use Rattle.ps_tables.specs.Within.{IsWithin, HasTypes};
 ghost use Rattle.ps_tables.specs.Senses.{Knowing};
 ghost use Rattle.ps_tables.specs.Reached.{Reaches};
 ghost use Rattle.ps_tables.specs.WordsKnown.{Printers, AreNoMarks, printer_senses, word_senses};
-ghost use Rattle.ps_tables.specs.Tabled.{table_made, table_steps, LeavesTop, EndsAtTop};
+ghost use Rattle.ps_tables.specs.Tabled.{table_made, table_steps, LeavesTop, EndsAtTop, RunsToTop};
 
 use ps_run::Dialect;
 
@@ -130,10 +132,24 @@ pub fn tables_are_bounded()
     ensures made { (p : Program) (at : Placement) → IsShort p at → table_made p at ≤ (cost_of p).made + deferred_units p at.functions p.units }
 {}
 
-/// What the prelude leaves is what a table begins with: behind it the printers' names have their senses, and the dictionary on top is empty. So a run of a table's text as an executable string that is made there, with steps to spare, ends without an error at the table's top, whatever the dialect.
+/// The text of a table, of a program and a placement whose rows keep to names and words, and whose units have their own functions, points and names, is no longer than is counted for the items of the program.
+pub fn tables_are_short()
+    ensures { (p : Program) (at : Placement) → HasRows p at → IsParted p → length (table_text p at) ≤ (cost_of p).bytes }
+{}
+
+/// So a program whose rows are so, whose types run, and which costs not too much, keeps the conditions of runs, and its text, units and steps have room.
+pub fn counted_tables_run()
+    ensures runs { (p : Program) (at : Placement) → HasRows p at → IsParted p → HasTypes p → IsWithin p → Runnable p at }
+    ensures bytes { (p : Program) (at : Placement) → HasRows p at → IsParted p → IsWithin p → length (table_text p at) ≤ 16777216 }
+    ensures units { (p : Program) (at : Placement) → HasRows p at → IsParted p → IsWithin p → text_units (table_text p at) + table_made p at ≤ units_of p }
+    ensures steps { (p : Program) (at : Placement) → HasRows p at → IsParted p → IsWithin p → table_steps p at + 2 ≤ 10000000 }
+{}
+
+/// What the prelude leaves is what a table begins with: behind it the printers' names have their senses, and the dictionary on top is empty. So a run of a table's text as an executable string that is made there, with steps to spare, ends without an error at the table's top, whatever the dialect; and there is such a run.
 pub fn tables_run_behind<D: Dialect>()
     ensures begins { AreNoMarks loaded_printers × Knowing loaded.store 1 prelude_dict 0 (printer_senses loaded_printers) }
     ensures runs { (p : Program) (at : Placement) (t : StringId) (s : StoreState) (left m : ℕ) (d d' : D) (c' : PsCore) (r : Answer) → Runnable p at → length (table_text p at) ≤ 16777216 → loaded.store.table.units + loaded.store.command.units + text_units (table_text p at) + table_made p at ≤ 8000000 → making_string loaded.store (table_text p at) ≡ Ok (t, s) → Runs D.operates (further (suc (table_steps p at)) (suc left)) d (record loaded { store = s; execution = Object (Str t true) ∷ [] }) r m d' c' → EndsAtTop 1 prelude_dict t (table_steps p at) (table_made p at) at.target s (suc left) d r m d' c' }
+    ensures there { (p : Program) (at : Placement) (t : StringId) (s : StoreState) (left : ℕ) (d : D) → Runnable p at → length (table_text p at) ≤ 16777216 → loaded.store.table.units + loaded.store.command.units + text_units (table_text p at) + table_made p at ≤ 8000000 → making_string loaded.store (table_text p at) ≡ Ok (t, s) → RunsToTop D.operates 1 prelude_dict t (table_steps p at) (table_made p at) at.target s (suc left) d (record loaded { store = s; execution = Object (Str t true) ∷ [] }) }
 {}
 
 /// What a table asks of types holds of those that keep the typing rules: of each written type, and of the structs and static objects of an accepted program.

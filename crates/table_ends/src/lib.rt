@@ -3,4 +3,4 @@
 
 mod laws;
 
-pub use laws::tables_come;
+pub use laws::{counted_tables_come, tables_are_run, tables_come};

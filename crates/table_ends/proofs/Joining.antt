@@ -32,10 +32,10 @@ use Rattle.claims.specs.Tables.{RunsTable, RunFault, full, ran, finished, has_sh
 use Rattle.claims.specs.Tables as claims
 use Rattle.table_run.specs.declared.run.TableFault.{TableFault}
 use Rattle.table_run.specs.declared.run.TableFault.TheVariants as fault
-use Rattle.table_run.specs.declared.run.TheConstants.{MOST_STEPS}
+use Rattle.claims.specs.Side.{MOST_STEPS}
 use Rattle.table_run.specs.Shape.{has_entries, is_unused}
 use Rattle.table_run.specs.Tables.{runs_made, dict_of, table_with, table_in, closed_with}
-use Rattle.table_run.specs.Joined.{RunsAs, TablesRun}
+use Rattle.table_ends.specs.Joined.{RunsAs, TablesRun}
 
 -- ---- the state behind the prelude, by computing
 

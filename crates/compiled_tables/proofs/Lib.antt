@@ -1,0 +1,12 @@
+pub mod Tokens
+pub mod Identifiers
+pub mod Types
+pub mod Parts
+pub mod Placed
+pub mod Framed
+pub mod Owned
+pub mod Files
+pub mod Programs
+pub mod Literals
+pub mod Objects
+pub mod Compiled

@@ -1,0 +1,6 @@
+//! What the tables of compiled programs come to.
+#![tactic(auto)]
+
+mod laws;
+
+pub use laws::compiled_tables_come;

@@ -1,5 +1,0 @@
-use Rattle.table_run.proofs.Joining.{tables_run}
-use Rattle.table_run.proofs.laws.tables_are_run.Goals as goal
-
-pub returns : goal.returns
-returns c = tables_run
