@@ -73,7 +73,7 @@ unsaid_asks (Some (Code x)) n = refl
 unsaid_asks (Some (Ps x)) n = refl
 
 -- and of the others it does not
-AsksNone : Option Command → Type 0
+abbrev AsksNone : Option Command → Type 0
 AsksNone c = (c ≡ None) ⊎ ((c ≡ Some Quit) ⊎ ((n : ℕ) × (c ≡ Some (Turns n))))
 
 asks_or_not : (c : Option Command) → (asks_sides c ≡ true) ⊎ AsksNone c
@@ -249,9 +249,9 @@ abbrev pub RefusesLine : (s s' : Session World) → (line bytes : List ℕ) → 
 RefusesLine s s' line bytes r = (k : Command) (u : Refusal) → read_of s.raw line ≡ Some k → refused_by_state (state_of s.mode) k ≡ Some u → Replied (refusal_reply u) r × (s' ≡ s) × (bytes ≡ [])
 
 -- a line that is no command, and `turns`, where there was no memory for the reply
-record StaysWanting (s s' : Session World) (line : List ℕ) : Type 0 where
-  malformed : read_of s.raw line ≡ None → s' ≡ s
-  turned : (n : ℕ) → read_of s.raw line ≡ Some (Turns n) → refused_by_state (state_of s.mode) (Turns n) ≡ None → s' ≡ s
+pub record StaysWanting (s s' : Session World) (line : List ℕ) : Type 0 where
+  pub malformed : read_of s.raw line ≡ None → s' ≡ s
+  pub turned : (n : ℕ) → read_of s.raw line ≡ Some (Turns n) → refused_by_state (state_of s.mode) (Turns n) ≡ None → s' ≡ s
 
 module _ (raw : Bool) (st : SessionState) (s s' : Session World) (line : List ℕ) (lines : Option Lines) (taken taken' out out' kept kept' : Option (List ℕ)) (bytes : List ℕ) (r : Result Answer End) (over : IsOver raw s st) where
   -- the reply to a line that the state refuses, by what the line is
