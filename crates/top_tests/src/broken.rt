@@ -1,10 +1,9 @@
 // Sessions over links of which one call goes wrong.
 
 use ldb_cc::{Aim, Built, compile};
-use ldb_edge::{Failed, MemSink};
+use ldb_edge::MemSink;
 use ldb_words::Text;
 use near_link::{FaultyLink, Mishap, NearLink};
-use nub_wire::{Link, Side};
 use obj_file::Image;
 use ps_store::PsStore;
 use session::{Answer, End, Session, StartFault};
@@ -18,9 +17,6 @@ const MOST_TOLD: u32 = 20;
 /// So many calls at most are tried.
 const MOST_CALLS: u64 = 5000;
 
-/// The tags of the messages of a session whose reply is Done: Store and Input.
-const ANSWERED_BY_DONE: [u8; 2] = [3, 6];
-
 /// A session with a program over a link of which one call goes wrong: the program in `a.c`, the commands, and the right transcript, of one line for each command.
 #[derive(Clone, Copy)]
 pub struct Wrong<'a> {
@@ -30,10 +26,9 @@ pub struct Wrong<'a> {
     pub told: &'a [u8],
 }
 
-/// What a session came to: it wasn't tried; it didn't begin; a reply was `target`, and it had ended from then on; all was as told; or something else.
+/// What a session came to: it didn't begin; a reply was `target`, and it had ended from then on; all was as told; or something else.
 #[derive(Clone, Copy, PartialEq, Eq)]
 enum Came {
-    Untried,
     NotBegun,
     Broken,
     AsTold,
@@ -43,67 +38,11 @@ enum Came {
 impl Came {
     fn name(self) -> &'static str {
         match self {
-            Came::Untried => "untried ",
             Came::NotBegun => "start ",
             Came::Broken => "target ",
             Came::AsTold => "told ",
             Came::Otherwise => "otherwise ",
         }
-    }
-}
-
-/// A link that is silent in one call, where this is to give the first byte of a reply other than Done. Each other call is that of the link below.
-#[derive(Drop)]
-struct Watched {
-    below: NearLink,
-    /// The calls before that one, where it isn't over.
-    calls: Option<u64>,
-    /// Whether a reply other than Done is owed, of which no byte has come.
-    is_owed: bool,
-}
-
-impl Watched {
-    /// Counts a call, and says whether it is the one that is watched.
-    fn is_watched(&mut self) -> bool {
-        let is_now = self.calls == Some(0);
-        self.calls = match self.calls {
-            Some(more) => more.checked_sub(1),
-            None => None,
-        };
-        is_now
-    }
-}
-
-impl Link for Watched {
-    ghost use Rattle.std.specs.Prelude.{None};
-    ghost use Rattle.near_link.specs.Near.{near_conduct};
-
-    ghost world = { λ _. None };
-
-    ghost conduct = { near_conduct };
-
-    ghost faults = { λ _. 0 };
-
-    ghost took = { λ _ _ _ _ _. Unit {0} };
-
-    ghost gave = { λ _ _ _ _ _. Unit {0} };
-
-    fn send(&mut self, side: Side, piece: &[u8]) -> Result<usize, Failed> {
-        let _is_watched = self.is_watched();
-        self.is_owed = match piece.get(2) {
-            Some(tag) => !ANSWERED_BY_DONE.contains(tag),
-            None => false,
-        };
-        self.below.send(side, piece)
-    }
-
-    fn receive(&mut self, side: Side, buf: &mut [u8]) -> Result<usize, Failed> {
-        let is_first = self.is_owed;
-        self.is_owed = false;
-        if self.is_watched() && is_first {
-            return Ok(0);
-        }
-        self.below.receive(side, buf)
     }
 }
 
@@ -133,9 +72,9 @@ fn judged(told: &str, said: &str) -> Came {
 }
 
 /// The transcript of commands, and whether `quit` ends the session behind them.
-fn transcript_of<L: Link + Drop>(
+fn transcript_of(
     alloc: Global,
-    session: &mut Session<L>,
+    session: &mut Session<FaultyLink>,
     commands: &[u8],
 ) -> Result<(Vec<u8>, bool), AllocError> {
     let mut output = MemSink::new(Vec::new(alloc), Vec::new(alloc));
@@ -170,7 +109,7 @@ impl Wrong<'_> {
         Ok((images, tables))
     }
 
-    /// What the session comes to over a link to these images of which call number `at` goes wrong. Done is tried only in the place of the first byte of another reply.
+    /// What the session comes to over a link to these images of which call number `at` goes wrong.
     fn came_to(
         &self,
         images: &[Image],
@@ -179,42 +118,21 @@ impl Wrong<'_> {
         how: Mishap,
     ) -> Result<Came, AllocError> {
         let alloc = self.alloc;
-        if images.len() != 1 && images.len() != 2 {
-            return Ok(Came::Otherwise);
-        }
-        if how == Mishap::Done {
-            let watched = Watched {
-                below: NearLink::new(alloc, images, Vec::new(alloc))?,
-                calls: Some(at),
-                is_owed: false,
-            };
-            if self.came_over(watched, images, tables)? == Came::AsTold {
-                return Ok(Came::Untried);
-            }
-        }
-        let near = NearLink::new(alloc, images, Vec::new(alloc))?;
-        self.came_over(FaultyLink::new(near, at, how), images, tables)
-    }
-
-    /// What the session over a link to these images comes to, with these tables.
-    fn came_over<L: Link + Drop>(
-        &self,
-        link: L,
-        images: &[Image],
-        tables: &[Text],
-    ) -> Result<Came, AllocError> {
-        let alloc = self.alloc;
         let mut stores = Vec::new(alloc);
         for (image, table) in images.iter().zip(tables) {
             if let Ok(store) = run_table(alloc, table.as_bytes(), image.target()) {
                 stores.push(store)?;
             }
         }
-        self.came_with(link, stores)
+        if images.len() != 1 && images.len() != 2 {
+            return Ok(Came::Otherwise);
+        }
+        let near = NearLink::new(alloc, images, Vec::new(alloc))?;
+        self.came_over(FaultyLink::new(near, at, how), stores)
     }
 
     /// What the session over a link comes to, with these tables.
-    fn came_with<L: Link + Drop>(&self, link: L, stores: Vec<PsStore>) -> Result<Came, AllocError> {
+    fn came_over(&self, link: FaultyLink, stores: Vec<PsStore>) -> Result<Came, AllocError> {
         let alloc = self.alloc;
         let mut session = match Session::start(alloc, link, stores, &[], false) {
             Ok(session) => session,
@@ -235,21 +153,18 @@ impl Wrong<'_> {
         let (images, tables) = self.built(aims)?;
         let mut before = Came::AsTold;
         let mut waiting: u32 = 0;
-        let mut quiet: u32 = 0;
         let mut unnoticed: u32 = 0;
         for at in 0..MOST_CALLS {
             let came = self.came_to(&images, &tables, at, how)?;
-            if came == Came::AsTold || came == Came::Untried {
+            if came == Came::AsTold {
                 waiting = waiting.saturating_add(1);
-                quiet = quiet.saturating_add(u32::from(came == Came::AsTold));
                 if waiting == MOST_TOLD {
-                    append(out, Came::AsTold.name())?;
+                    append(out, came.name())?;
                     break;
                 }
             } else {
-                unnoticed = unnoticed.saturating_add(quiet);
+                unnoticed = unnoticed.saturating_add(waiting);
                 waiting = 0;
-                quiet = 0;
                 if came != before {
                     append(out, came.name())?;
                     before = came;
@@ -275,8 +190,7 @@ impl Wrong<'_> {
     ) -> Result<(), AllocError> {
         let how = match how {
             b"fails" => Mishap::Fail,
-            b"silent" => Mishap::Silent,
-            _ => Mishap::Done,
+            _ => Mishap::Silent,
         };
         match target {
             b"mips" => self.append_for(&[Aim::Mips], how, out),
