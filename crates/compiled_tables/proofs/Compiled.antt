@@ -35,6 +35,7 @@ use Rattle.compiled_tables.proofs.Identifiers.{regular, named}
 use Rattle.compiled_tables.proofs.Tokens.{sum_more, few_structs, few_members}
 use Rattle.compiled_tables.proofs.Types.{type_words, structs_are_rows, symbols_are_rows}
 use Rattle.compiled_tables.proofs.Parts.{as_many, functions_parted, points_parted}
+use Rattle.compiled_tables.proofs.Units.{units_fit}
 use Rattle.compiled_tables.proofs.Objects.{few_held, objects_few}
 
 -- ---- strings have room in the static data
@@ -107,7 +108,7 @@ module _ (q : State) (names : List (List ℕ)) (p : Program) (at : Placement) (r
   pub within : IsWithin p
   within = record {
     bytes = affordable.bytes;
-    units = affordable.units;
+    units = units_fit p affordable.bytes;
     steps = affordable.steps;
     structs = few;
     members = few_members p tokens;

@@ -7,6 +7,7 @@ pub mod Framed
 pub mod Owned
 pub mod Files
 pub mod Programs
+pub mod Units
 pub mod Literals
 pub mod Objects
 pub mod Compiled

@@ -1,5 +1,5 @@
 -- What is asked of sources, of their program and of where it is placed, for a table that runs. Each is said of the program or of the linker's rows.
-use Rattle.std.specs.Prelude.{ℕ, ◌+◌, ◌≤◌, List, length, Some}
+use Rattle.std.specs.Prelude.{ℕ, ◌≤◌, List, length, Some}
 use Rattle.std.specs.List.{AllByRecursion}
 use Rattle.c_lex.specs.Grammar.{IsWord as IsWordOfC}
 use Rattle.c_tree.specs.declared.types.StructDef.{StructDef}
@@ -9,8 +9,7 @@ use Rattle.c_tree.specs.declared.rows.ObjectRow.{ObjectRow}
 use Rattle.c_tree.specs.declared.rows.SymbolRow.{SymbolRow}
 use Rattle.c_tree.specs.declared.rows.Function.{Function}
 use Rattle.obj_file.specs.declared.object.FunctionRow.{FunctionRow}
-use Rattle.ps_print.specs.Loaded.{loaded}
-use Rattle.ps_emit.specs.Bounds.{cost_of, units_of}
+use Rattle.ps_emit.specs.Bounds.{cost_of}
 use Rattle.ps_emit.specs.Lengths.{IsWord, IsInteger, IsPlace}
 
 -- the names of files have at most 255 bytes
@@ -36,9 +35,7 @@ pub record IsFramed (row : FunctionRow) : Type 0 where
   pub saved : AllByRecursion (λ s. IsWord s.0 × IsInteger s.1) row.saved
   pub locals : AllByRecursion (λ l. IsPlace (Some l)) row.locals
 
--- What is counted for the items of a program is within the limits: 16,777,216 bytes of text, seven tenths of the store's units with those of the
--- prelude, and fewer steps than a run may take.
+-- What is counted for the items of a program is within the limits: 16,777,216 bytes of text, and fewer steps than a run may take.
 pub record IsAffordable (p : Program) : Type 0 where
   pub bytes : (cost_of p).bytes ≤ 16777216
-  pub units : loaded.store.table.units + loaded.store.command.units + units_of p ≤ 5600000
   pub steps : (cost_of p).steps ≤ 9900000

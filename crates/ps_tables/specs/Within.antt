@@ -9,11 +9,10 @@ use Rattle.ps_print.specs.Loaded.{loaded}
 use Rattle.ps_emit.specs.Bounds.{cost_of, units_of}
 use Rattle.ps_tables.specs.Runnable.{RunsType, RunsRow}
 
--- The text has at most 16,777,216 bytes; the units, with those of the prelude, are at most seven tenths of the store's limit; and the steps are fewer
--- than a run's limit. There are not too many structs, members, static objects and strings for the stack of operands.
+-- The text has at most 16,777,216 bytes; the units, with those of the prelude, are within the store's limit; and the steps are fewer than a run's limit. There are not too many structs, members, static objects and strings for the stack of operands.
 pub record IsWithin (p : Program) : Type 0 where
   pub bytes : (cost_of p).bytes ≤ 16777216
-  pub units : loaded.store.table.units + loaded.store.command.units + units_of p ≤ 5600000
+  pub units : loaded.store.table.units + loaded.store.command.units + units_of p ≤ 8000000
   pub steps : (cost_of p).steps ≤ 9900000
   pub structs : length p.defs ≤ 40000
   pub members : AllByRecursion (λ (d : StructDef). length d.members ≤ 40000) p.defs
