@@ -68,20 +68,25 @@ module _ {R : Type 0} (s s' : Seen R) (kept kept' : List Entry) (p : Place) (k :
     ]
 
     pub fresh_fetch : Fetches s p k (Ok v) s' → Fetches (kept_seen kept s) p k (Ok v) (kept_seen kept' s')
-    fresh_fetch h =
-        (record {
-          faults = h.0.faults;
-          keeps = λ (b : Bytes) (r : R) (t : KeptTells s kept b r).
-              record { below = h.0.keeps b r t.below; right = right_or b (h.1.holds b r t.below) t.right };
-        }, record { holds = λ (b : Bytes) (r : R) (t : KeptTells s kept b r). h.1.holds b r t.below })
+    fresh_fetch h = (
+      record {
+        faults = h.0.faults;
+        keeps = λ (b : Bytes) (r : R) (t : KeptTells s kept b r).
+            record { below = h.0.keeps b r t.below; right = right_or b (h.1.holds b r t.below) t.right };
+      },
+      record { holds = λ (b : Bytes) (r : R) (t : KeptTells s kept b r). h.1.holds b r t.below },
+    )
 
   pub failed_fetch : (f : MemFault) → AreAmong kept' kept → Fetches s p k (Err f) s' → Fetches (kept_seen kept s) p k (Err f) (kept_seen kept' s')
-  failed_fetch (Outside q) a h =
-      (h.0, record {
-        faults = h.1.faults;
-        keeps = λ (b : Bytes) (r : R) (t : KeptTells s kept b r).
-            record { below = h.1.keeps b r t.below; right = right_among kept kept' b a t.right };
-      }, record { holds = λ (b : Bytes) (r : R) (t : KeptTells s kept b r). h.2.holds b r t.below })
+  failed_fetch (Outside q) a h = (
+    h.0,
+    record {
+      faults = h.1.faults;
+      keeps = λ (b : Bytes) (r : R) (t : KeptTells s kept b r).
+          record { below = h.1.keeps b r t.below; right = right_among kept kept' b a t.right };
+    },
+    record { holds = λ (b : Bytes) (r : R) (t : KeptTells s kept b r). h.2.holds b r t.below },
+  )
   failed_fetch LinkFault a h = h
   failed_fetch (BadReply frame) a h = record { faults = h.faults; never = λ (b : Bytes) (r : R) (t : KeptTells s kept b r). h.never b r t.below }
 

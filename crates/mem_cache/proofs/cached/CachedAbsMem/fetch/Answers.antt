@@ -10,7 +10,7 @@ returns-in-Some-clause-meaning g c =
     let after = c.promote.new.self in
     let access = c.access_of-access.result in
     kept_fetch (g.M.AbsMem.seen c.args.self.now.below) before.entries after.entries (promoted_are_among _ before after c.promote.ensures.entries)
-    c.args.place c.args.kind access c.in-Some.value.now c.access_of-access.ensures 
+    c.args.place c.args.kind access c.in-Some.value.now c.access_of-access.ensures
     (equals access) (sym c.peek.ensures ∙ ap option_copied c.in-Some.is) (same_numbers access)
 
 pub returns-in-Ok-clause-meaning : goal.returns-in-Ok-clause-meaning
