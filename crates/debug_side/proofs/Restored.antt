@@ -68,7 +68,7 @@ module _ (o : Order) (r : Regions) (h : IsMemory r) where
       ∙ same_bytes a.region (overwritten (overwritten xs a.offset (bytes_of o 4 v)) a.offset (bytes_of o 4 w)) r
       (twice xs (bytes_of o 4 v) (bytes_of o 4 w) a.offset u.inside (four_long o v) (four_long o w) (there_now o w a.offset xs (region_bytes a.region r h) u.inside (some_number e)))
 
-  back_word : (v w at : ℕ) → or_none (read_of o r at 4) ≡ Some w → word_put o w at (word_put o v at r) ≡ r
+  pub back_word : (v w at : ℕ) → or_none (read_of o r at 4) ≡ Some w → word_put o w at (word_put o v at r) ≡ r
   back_word v w at e =
       let s = read_some o at w r e in
       ap (word_put o w at) (put_is o v at r s.0)
