@@ -338,7 +338,7 @@ askable (command.Ps text) h n s t q = h
 
 -- ---- a command that isn't done
 
-first_byte : List ℕ → ℕ
+abbrev first_byte : List ℕ → ℕ
 first_byte [] = 0
 first_byte (x ∷ xs) = x
 
@@ -354,9 +354,9 @@ done_by n text bytes w first r p = let e : first_byte text ≡ n = ap first_byte
 module _ (P : Type 0) (text : List ℕ) (told : IsTrouble (answer.Lines text)) where
   -- a command that says that it is done tells no trouble
   done_or_query : (c : Command) → c ≢ command.Continue → c ≢ command.Step → c ≢ command.Quit → SaysDone c text → (IsQuery c → P) → P
-  done_or_query (command.Break spot) n s q w asks = absurd (done_by 98 text (codes "break ") w (λ rest. refl) (λ e. cc) (λ e. cc) told)
-  done_or_query (command.Clear spot) n s q w asks = absurd (done_by 99 text (codes "clear ") w (λ rest. refl) (λ e. cc) (λ e. cc) told)
-  done_or_query (command.Frame k) n s q w asks = absurd (done_by 102 text (codes "frame ") w (λ rest. refl) (λ e. cc) (λ e. cc) told)
+  done_or_query (command.Break spot) n s q w asks = absurd (done_by 98 text (codes "break ") w (λ rest. refl) (λ e. absurd (omega (arith, e))) (λ e. absurd (omega (arith, e))) told)
+  done_or_query (command.Clear spot) n s q w asks = absurd (done_by 99 text (codes "clear ") w (λ rest. refl) (λ e. absurd (omega (arith, e))) (λ e. absurd (omega (arith, e))) told)
+  done_or_query (command.Frame k) n s q w asks = absurd (done_by 102 text (codes "frame ") w (λ rest. refl) (λ e. absurd (omega (arith, e))) (λ e. absurd (omega (arith, e))) told)
   done_or_query command.Continue n s q w asks = absurd (n refl)
   done_or_query command.Step n s q w asks = absurd (s refl)
   done_or_query command.Quit n s q w asks = absurd (q refl)

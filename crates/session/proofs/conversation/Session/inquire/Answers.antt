@@ -34,6 +34,7 @@ returns-in_default g c = record {
   limit = search rules;
   kept = search rules;
   query = search rules;
+  word = c.ask.ensures.word;
   meant = λ (b : Behaviour) (hs : Hosts) (st : SessionState) x e askable.
       let now = c.args.self.now in
       let mid = c.settle.new.self in
