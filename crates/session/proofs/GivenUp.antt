@@ -161,8 +161,8 @@ among_if s p q false c e h = absurd (false_not h)
 
 -- either test holds
 either : {P : Type 0} (x y : Bool) → (x || y) ≡ true → (x ≡ true → P) → (y ≡ true → P) → P
-either true y e yes no = yes refl
-either false y e yes no = no e
+either true y e first second = first refl
+either false y e first second = second e
 
 -- a row that is set is that of a point with its address
 among : (s : StoreState) (p : PointRow) (ps : List Point) → has (map (row_in s) ps) p ≡ true → IsAmong p.at ps
@@ -171,7 +171,7 @@ among s p (q ∷ ps) e = either (same_point (row_in s q) p) (has (map (row_in s)
 
 mapped_length : {A B : Type 0} (f : A → B) (xs : List A) → length (map f xs) ≡ length xs
 mapped_length f [] = refl
-mapped_length f (x ∷ xs) = ap (λ n. n + 1) (mapped_length f xs)
+mapped_length f (x ∷ xs) = ap (λ (n : ℕ). suc n) (mapped_length f xs)
 
 -- the addresses of the points behind some rows
 abbrev row_address : PointRow → ℕ

@@ -1,5 +1,5 @@
 -- What stands at breakpoints of a side at rest is read, and put back.
-use Rattle.std.proofs.Common.{◌≡◌, ◌∙◌, refl, sym, subst, ℕ, List, Option, Result, Ok, Err}
+use Rattle.std.proofs.Common.{◌≡◌, ◌≢◌, ◌∙◌, refl, sym, subst, ℕ, List, [], map, Option, Result, Ok, Err}
 use Rattle.ldb_words.specs.declared.kinds.Order.{Order}
 use Rattle.machine_state.specs.Regions.{Regions}
 use Rattle.machine_state.specs.State.{Behaviour, order_of as machine_order}
@@ -14,8 +14,10 @@ use Rattle.ps_ops.specs.declared.dialect.Operators.{Operators}
 use Rattle.wire_talk.specs.declared.fault.TalkFault.{TalkFault}
 use Rattle.wire_talk.specs.declared.fault.TalkFault.TheVariants as talk
 use Rattle.table_points.specs.declared.row.Point.{Point}
-use Rattle.debug_side.specs.Wrote.{none_written, Wrote, Puts}
-use Rattle.debug_side.specs.There.{words_at, AreRead, FailsToRead}
+use Rattle.break_plant.specs.Planted.{noop_of}
+use Rattle.debug_side.specs.Meant.{address_of}
+use Rattle.debug_side.specs.Wrote.{none_written, Wrote, Puts, words_put}
+use Rattle.debug_side.specs.There.{words_at, all_there, AreRead, FailsToRead}
 use Rattle.debug_side.specs.Told.{with_regions}
 use Rattle.debug_side.specs.declared.there.WordThere.{WordThere}
 use Rattle.debug_side.specs.declared.there.ReadFault.{ReadFault}
@@ -24,7 +26,10 @@ use Rattle.debug_side.proofs.Told.{put_stands, never_bad}
 use Rattle.resuming.specs.Standing.{Stands}
 use Rattle.session.specs.declared.sides.SideRecord.{SideRecord}
 use Rattle.session.specs.Turned.{order_of, turned}
-use Rattle.session.specs.Undoing.{unread, ReadsBefore, PutsBack, IsGivenUp, wanting}
+use Rattle.c_session.specs.declared.command.Spot.{Spot}
+use Rattle.c_session.specs.declared.command.Command.{Command}
+use Rattle.c_session.specs.declared.command.Command.TheVariants as command
+use Rattle.session.specs.Undoing.{unread, words_before, undone_host, ReadsBefore, PutsBack, IsGivenUp, wanting}
 use Rattle.session.proofs.Asking.{seen_by}
 
 -- no word was written
@@ -90,3 +95,25 @@ pub gives : (f g : ℕ) (D : Type 0) (r : Result (Unit {0}) TalkFault) → PutsB
 gives f g D (Ok u) w = w.1
 gives f g D (Err talk.LinkFault) w = w
 gives f g D (Err (talk.BadReply frame)) w = absurd w
+
+-- nothing is read for another command
+pub nothing_before : {S : Type 0} (f : ℕ) (ws : List WordThere) (now : Command) → ((spot : Spot) → now ≢ command.Clear spot) → (b : Bytes) (ps : List Point) → ws ≡ [] → S → ReadsBefore f f S (words_before now b ps) (Ok ws)
+nothing_before f ws (command.Clear spot) n b ps e x = absurd (n spot refl)
+nothing_before f ws now n b ps e x = (refl, x, e)
+
+-- what is put back, as the code has it
+module _ {L : Type 0} (c : Conduct) (world : L → Option World) (faults : L → ℕ) (b : Behaviour) (side : SideRecord) (old t : Operators (Wire L)) (new : Wire L) (e : t ≡ turned side old)
+    (h : Host) (beside : Option Host) (x : Stands b c side.which (world old.memory.below.below.below.link) h beside) (same : order_of side.machine ≡ machine_order h.machine) (r : Result (Unit {0}) TalkFault) (target : ℕ) (added : List Point) (words : List WordThere) where
+  abbrev Undoes : Command → ℕ → List Point → Type 0
+  Undoes now n ps = PutsBack (faults old.memory.below.below.below.link) (faults new.link) (Stands b c side.which (world new.link) (undone_host now n ps words h) beside) r
+
+  pub break_back : (now : Command) (spot : Spot) → now ≡ command.Break spot → (n : ℕ) (ps : List Point) → n ≡ target → ps ≡ added
+      → Puts (seen_by c world faults t.memory.below.below.below) r (λ z m. m ≡ words_put z.order (noop_of n) (map address_of ps) z.regions) (seen_by c world faults new) → Undoes now target added
+  break_back now spot is n ps e1 e2 w =
+      subst (λ (k : Command). Undoes k target added) (sym is)
+      (subst (λ (m : ℕ). Undoes (command.Break spot) m added) e1
+      (subst (λ (l : List Point). Undoes (command.Break spot) n l) e2 (puts_back c world faults b side old t new e h beside x same (λ z. words_put z.order (noop_of n) (map address_of ps) z.regions) r w)))
+
+  pub clear_back : (now : Command) (spot : Spot) → now ≡ command.Clear spot
+      → Puts (seen_by c world faults t.memory.below.below.below) r (λ z m. m ≡ all_there z.order words z.regions) (seen_by c world faults new) → Undoes now target added
+  clear_back now spot is w = subst (λ (k : Command). Undoes k target added) (sym is) (puts_back c world faults b side old t new e h beside x same (λ z. all_there z.order words z.regions) r w)

@@ -1,6 +1,6 @@
 // A command that doesn't resume, on both sides.
 
-ghost use Rattle.std.specs.Prelude.{◌≡◌, ◌≢◌, ◌⊎◌, List, [], IfOk, Ok, Err, Option, Some};
+ghost use Rattle.std.specs.Prelude.{◌≡◌, ◌≢◌, ◌⊎◌, ℕ, List, [], IfOk, Ok, Err, Option, Some};
 ghost use Rattle.session.specs.Kept.{IsFailure, IsKept, IsUndone, IsQuery, SaysDone};
 ghost use Rattle.machine_state.specs.State.{Behaviour};
 ghost use Rattle.nub_wire.specs.Nub.{Host};
