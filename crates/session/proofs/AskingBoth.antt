@@ -426,12 +426,13 @@ module _ (b : Behaviour) (c : Conduct) (o o1 : Option World) (first first' secon
         let stands = subst (λ (z : AskFault). IsGivenUp f2 f3 (Stands b c first'.which o3 (undone_host now (byte_of first'.machine) (drop (length before) first'.row.breaks.items) words x.asked.host) (Some h)) z) is (gives x.asked.host (Some h) y x.asked.there.order) in
         let back =
         undone_host_is (debugged first hs.first) (debugged first' x.asked.host) st.first x.asked.after r.planted.machine r.stands.alike.breaks x.asked.alike (memories b c first.which o hs.first hs.second there.first_there.stands) now sets x.change words x.asked.one
-        read in
-        (Some h,
-        subst (λ (w : Side). Stands b c w o3 hs.first (Some h)) which
-        (subst (λ (k : Host). Stands b c first'.which o3 k (Some h)) back
-        (subst (λ (n : ℕ). Stands b c first'.which o3 (undone_host now n (drop (length first.row.breaks.items) first'.row.breaks.items) words x.asked.host) (Some h)) target
-        (subst (λ (ps : List Point). Stands b c first'.which o3 (undone_host now (byte_of first'.machine) (drop (length ps) first'.row.breaks.items) words x.asked.host) (Some h)) same stands)))))
+        read in (
+          Some h,
+          subst (λ (w : Side). Stands b c w o3 hs.first (Some h)) which
+              (subst (λ (k : Host). Stands b c first'.which o3 k (Some h)) back
+              (subst (λ (n : ℕ). Stands b c first'.which o3 (undone_host now n (drop (length first.row.breaks.items) first'.row.breaks.items) words x.asked.host) (Some h)) target
+              (subst (λ (ps : List Point). Stands b c first'.which o3 (undone_host now (byte_of first'.machine) (drop (length ps) first'.row.breaks.items) words x.asked.host) (Some h)) same stands))),
+        ))
 
 -- ---- behind what was read of the first side
 

@@ -77,10 +77,11 @@ returns-in-NoMemory-clause-stays g c = λ b hs st there ready sets read is.
 pub returns-in-Err-said-clause-stays : goal.returns-in-Err-said-clause-stays
 returns-in-Err-said-clause-stays g c = λ b hs st there ready sets read is.
     let w = c.undone.ensures.other (sets_no_text c.args.command.now sets) in
-    let none : c.in-Err-said.fault ≡ NoMemory = sym w.0 ∙ unsaid_is c.undone.result NoMemory is in
-    (hs.second,
-    subst (λ o. Stands b g.L.Link.conduct c.args.first.now.which (g.L.Link.world o.memory.below.below.below.link) hs.first hs.second) (sym w.2)
-    (c.in-Err-said.ensures.wanting b hs.first hs.second there.first_there (sets_bare c.args.command.now sets) (ap (λ y. Err y) none)))
+    let none : c.in-Err-said.fault ≡ NoMemory = sym w.0 ∙ unsaid_is c.undone.result NoMemory is in (
+      hs.second,
+      subst (λ o. Stands b g.L.Link.conduct c.args.first.now.which (g.L.Link.world o.memory.below.below.below.link) hs.first hs.second) (sym w.2)
+          (c.in-Err-said.ensures.wanting b hs.first hs.second there.first_there (sets_bare c.args.command.now sets) (ap (λ y. Err y) none)),
+    )
 
 pub returns-in-Err-clause-stays : goal.returns-in-Err-clause-stays
 returns-in-Err-clause-stays g c = λ b hs st there ready sets read is. (hs.second, there.first_there.stands)

@@ -18,10 +18,11 @@ returns-in-Err-clause-meant g c = λ b hs st there ready inquiry.
 
 pub returns-in-Err-clause-stays : goal.returns-in-Err-clause-stays
 returns-in-Err-clause-stays g c = λ b hs st there ready sets is.
-    let first = c.args.first.now in
-    (hs.second,
-    read_stays (g.L.Link.faults c.args.talk.now.memory.below.below.below.link) (g.L.Link.faults c.words_before.new.talk.memory.below.below.below.link) (Stands b g.L.Link.conduct first.which (g.L.Link.world c.words_before.new.talk.memory.below.below.below.link) hs.first hs.second)
-    (words_before c.args.command.now (memory_of hs.first.machine) first.row.breaks.items) c.in-Err.fault (unsaid_is c.in-Err.fault NoMemory is) (c.in-Err.ensures.fails b hs.first hs.second there.first_there.stands there.first_there.order))
+    let first = c.args.first.now in (
+      hs.second,
+      read_stays (g.L.Link.faults c.args.talk.now.memory.below.below.below.link) (g.L.Link.faults c.words_before.new.talk.memory.below.below.below.link) (Stands b g.L.Link.conduct first.which (g.L.Link.world c.words_before.new.talk.memory.below.below.below.link) hs.first hs.second)
+          (words_before c.args.command.now (memory_of hs.first.machine) first.row.breaks.items) c.in-Err.fault (unsaid_is c.in-Err.fault NoMemory is) (c.in-Err.ensures.fails b hs.first hs.second there.first_there.stands there.first_there.order),
+    )
 
 pub returns-clause-meant : goal.returns-clause-meant
 returns-clause-meant g c = λ b hs st there ready inquiry.
