@@ -25,7 +25,7 @@ use Rattle.table_model.specs.Rows.{function_at}
 use Rattle.table_model.specs.Frames.{told_frames, first_frame}
 use Rattle.dialect_model.specs.Dial.{Dial, Numbered}
 use Rattle.dialect_model.specs.Operating.{Operates}
-use Rattle.dialect_model.specs.TableUse.{TableUse, use_of, told}
+use Rattle.dialect_model.specs.TableUse.{TableUse, use_of, told, Kind}
 use Rattle.c_session.specs.declared.command.Command.TheVariants as command
 use Rattle.c_session.specs.Commands.{ByContinue}
 use Rattle.claims.specs.Side.{SideState, SessionState, MOST_STEPS, first_side, first_session, row_of, memory_of, dial_of}
@@ -181,7 +181,7 @@ is_ready_too = (Ok begun_core, owned begun_core.store, (refl, refl), (refl, refl
 
 fails_to_divide : Answers machine_behaviour paused.session (Some (command.Ps (codes "1 0 idiv"))) (codes "psfault undefinedresult" ∷ []) paused.session
 unfolding computing interpreting
-fails_to_divide = (raw.ps_result here (Err (Error UndefinedResult)) dial (after broken), raw.with_run here dial (after broken), raw.ended is_ready_too divides, (None, refl, refl, refl))
+fails_to_divide = (raw.ps_result here (Err (Error UndefinedResult)) dial (after broken), raw.with_run here dial (after broken), raw.ended is_ready_too divides, (Kind UndefinedResult, None, (refl, refl), refl, refl))
 
 -- ---- the end
 

@@ -8,3 +8,5 @@ pub mod Putting
 pub mod Resuming
 pub mod Told
 pub mod Coming
+pub mod Stood
+pub mod Restored

@@ -81,7 +81,7 @@ number_apart o Context Statics n m ys r y f h apart = refl
 number_apart o Context Stack n m ys r y f h apart = refl
 number_apart o Context Context n m ys r y f h apart = number_there o r.context_bytes ys n m y f h (apart refl)
 
-abbrev number_at : Order → Option Place → Regions → Option ℕ
+abbrev pub number_at : Order → Option Place → Regions → Option ℕ
 number_at o p r = option_map (number_of o 4) (bytes_at p r)
 
 other_number : (o : Order) (p q : ℕ) (r : Regions) (ys : List ℕ) → length ys ≡ 4 → p ≢ q → nat_eq (p % 4) 0 ≡ true → nat_eq (q % 4) 0 ≡ true → (a b : Option Place) → place_of r p ≡ a → place_of r q ≡ b → number_at o b (with_word a ys r) ≡ number_at o b r
@@ -131,7 +131,7 @@ word_again o w p r ys e small (Some a) g x h =
 pub not_some : {T : Type 0} {x : T} → None ≡ Some x → ⊥
 not_some e = cc
 
-test_true : (at y : ℕ) → nat_eq (at % 4) 0 ≡ true → or_none (or_outside at 4 (Some y)) ≡ Some y
+pub test_true : (at y : ℕ) → nat_eq (at % 4) 0 ≡ true → or_none (or_outside at 4 (Some y)) ≡ Some y
 test_true at y e = rw e refl
 
 test_false : (at y : ℕ) → nat_eq (at % 4) 0 ≡ false → or_none (or_outside at 4 (Some y)) ≡ None

@@ -28,7 +28,7 @@ bytes_again Big a b c d rest p q r s =
     let x3 : (a * 16777216 + (b * 65536 + (c * 256 + (d * 1 + 0)))) % 256 ≡ d = omega (arith, p, q, r, s) in
     rw (x0, x1, x2, x3) refl
 
-four_again : (o : Order) (xs : List ℕ) → 4 ≤ length xs → AreBytes xs → bytes_of o 4 (number_of o 4 xs) ≡ take 4 xs
+pub four_again : (o : Order) (xs : List ℕ) → 4 ≤ length xs → AreBytes xs → bytes_of o 4 (number_of o 4 xs) ≡ take 4 xs
 four_again o [] n h = absurd (omega arith)
 four_again o (a ∷ []) n h = absurd (omega arith)
 four_again o (a ∷ b ∷ []) n h = absurd (omega arith)
@@ -41,7 +41,7 @@ four_long Big v = refl
 
 -- ---- bytes of a region
 
-below_drop : (n : ℕ) (xs : List ℕ) → AreBytes xs → AreBytes (drop n xs)
+pub below_drop : (n : ℕ) (xs : List ℕ) → AreBytes xs → AreBytes (drop n xs)
 below_drop zero xs h = h
 below_drop (suc n) [] h = tt
 below_drop (suc n) (x ∷ xs) h = below_drop n xs h.1
@@ -55,7 +55,7 @@ behind ps t n h = grind (arith, common_steps)
 back_of : (ps ys r : List ℕ) (n : ℕ) → length ps ≡ n → length ys ≡ 4 → drop (n + 4) (ps ++ (ys ++ r)) ≡ r
 back_of ps ys r n h k = sym (drop-drop 4 n (ps ++ (ys ++ r))) ∙ (ap (drop 4) (behind ps (ys ++ r) n h) ∙ behind ys r 4 k)
 
-all_of : (xs : List ℕ) (n : ℕ) → take n xs ++ (take 4 (drop n xs) ++ drop (n + 4) xs) ≡ xs
+pub all_of : (xs : List ℕ) (n : ℕ) → take n xs ++ (take 4 (drop n xs) ++ drop (n + 4) xs) ≡ xs
 all_of xs n =
     ap (λ (r : List ℕ). take n xs ++ (take 4 (drop n xs) ++ r)) (sym (drop-drop 4 n xs))
     ∙ (ap (λ (r : List ℕ). take n xs ++ r) (take-append-drop 4 (drop n xs)) ∙ take-append-drop n xs)
@@ -63,7 +63,7 @@ all_of xs n =
 length_front : (xs : List ℕ) (n : ℕ) → n ≤ length xs → length (take n xs) ≡ n
 length_front xs n h = grind (arith, common_steps)
 
-twice : (xs ys zs : List ℕ) (n : ℕ) → n + 4 ≤ length xs → length ys ≡ 4 → length zs ≡ 4 → zs ≡ take 4 (drop n xs) → overwritten (overwritten xs n ys) n zs ≡ xs
+pub twice : (xs ys zs : List ℕ) (n : ℕ) → n + 4 ≤ length xs → length ys ≡ 4 → length zs ≡ 4 → zs ≡ take 4 (drop n xs) → overwritten (overwritten xs n ys) n zs ≡ xs
 unfolding overwritten
 twice xs ys zs n fits y z e =
     let shorter : n ≤ length xs = omega (arith, fits) in

@@ -6,6 +6,7 @@ mod event;
 mod planting;
 mod point;
 mod resume;
+mod there;
 mod words;
 
 pub use breaks::{clear_break, set_break};
@@ -13,4 +14,5 @@ pub use event::Event;
 pub use planting::plant_for_step;
 pub use point::{MachineKind, SideRow, may_stay, point_at};
 pub use resume::resume_side;
+pub use there::{ReadFault, WordThere, put_words, words_there};
 pub use words::unplant_all;

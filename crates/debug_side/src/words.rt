@@ -32,7 +32,7 @@ fn where_it_can(stored: Result<(), MemFault>) -> Result<(), TalkFault>
 }
 
 /// Puts a word at an address, if it is in the memory.
-fn put_word<M: AbsMem>(m: &mut M, at: u32, word: u32) -> Result<(), TalkFault>
+pub fn put_word<M: AbsMem>(m: &mut M, at: u32, word: u32) -> Result<(), TalkFault>
     ensures meaning { Puts (M.seen m.old) result (λ b r. r ≡ word_put b.order word at b.regions) (M.seen m.new) }
     ensures calls { LedTalk M.leads m.old result m.new }
 {

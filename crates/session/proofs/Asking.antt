@@ -76,7 +76,7 @@ use Rattle.side_meaning.proofs.Asking.{names_stay}
 use Rattle.session.specs.declared.sides.SideRecord.{SideRecord}
 use Rattle.session.specs.Turned.{byte_of, order_of, turned}
 use Rattle.session.specs.Asked.{Does, chosen_frame}
-use Rattle.session.specs.Meant.{debugged, IsThere, IsBare, IsPlain, IsInquiry, AskedOne, SaidOne, NotOne, ComesTo, Rests}
+use Rattle.session.specs.Meant.{debugged, IsThere, IsBare, IsPlain, IsInquiry, AskedOne, SaidOne, NotOne, ComesTo}
 use Rattle.session.proofs.Leaving.{Leaves, one_leaves}
 
 -- ---- a part of a command over the bytes that are told
@@ -298,8 +298,8 @@ module _ {W R : Type 0} (seen : W → Seen R) (leads : W → Option (List ℕ) �
 -- ---- a command over a link whose nubs meet their definition
 
 -- what is told stays
-pub same_wrote : {R : Type 0} (s t : Seen R) → Same s t → Wrote s t (λ b r. Unit {0})
-same_wrote s t same = record { faults = same.faults; after = λ b r w. (b.regions, none_written, tt, same.keeps b r w) }
+stays_wrote : {R : Type 0} (s t : Seen R) → Same s t → Wrote s t (λ b r. r ≡ b.regions)
+stays_wrote s t same = record { faults = same.faults; after = λ b r w. (b.regions, none_written, refl, same.keeps b r w) }
 
 pub none_mapped : {A B : Type 0} (f : A → B) (xs : List A) → map f xs ≡ [] → xs ≡ []
 none_mapped f [] e = refl
@@ -343,11 +343,10 @@ module _ {L : Type 0} (c : Conduct) (world : L → Option World) (faults : L →
   abbrev pub seen_by : Wire L → Seen WireRest
   seen_by w = wire_seen c (world w.link) (faults w.link) w.side w.order
 
-  -- where memory is wanting the side is at rest still
+  -- where memory is wanting the side is at rest still, with the same nub and machine
   pub rests_unbegun : (b : Behaviour) (side : SideRecord) (old t : Operators (Wire L)) (h : Host) (beside : Option Host) → t ≡ turned side old → IsThere b c (world old.memory.below.below.below.link) side h beside
-      → Rests b c (world t.memory.below.below.below.link) side.which (order_of side.machine) beside
-  rests_unbegun b side old t h beside e x =
-      subst (λ (z : Operators (Wire L)). Rests b c (world z.memory.below.below.below.link) side.which (order_of side.machine) beside) (sym e) (record { host = h; stands = x.stands; order_is = x.order })
+      → Stands b c side.which (world t.memory.below.below.below.link) h beside
+  rests_unbegun b side old t h beside e x = subst (λ (z : Operators (Wire L)). Stands b c side.which (world z.memory.below.below.below.link) h beside) (sym e) x.stands
 
   module _ (leads : Wire L → Option (List ℕ) → Wire L → Type 0) where
     -- the command was begun on a side, done and ended
@@ -377,14 +376,14 @@ module _ {L : Type 0} (c : Conduct) (world : L → Option World) (faults : L →
 
     -- so the side is at rest still where memory is wanting
     pub rests_wanting : (b : Behaviour) (side : SideRecord) (old t new : Operators (Wire L)) (now : Command) (frame : ℕ) (ps ps' : List Point) (j k : Inquiry) (h : Host) (beside : Option Host) (fault : AskFault) → t ≡ turned side old → fault ≡ NoMemory → IsBare now
-        → Does seen_by leads now frame ps j t (Err fault) ps' k new → IsThere b c (world old.memory.below.below.below.link) side h beside → Rests b c (world new.memory.below.below.below.link) side.which (order_of side.machine) beside
+        → Does seen_by leads now frame ps j t (Err fault) ps' k new → IsThere b c (world old.memory.below.below.below.link) side h beside → Stands b c side.which (world new.memory.below.below.below.link) h beside
     rests_wanting b side old t new now frame ps ps' j k h beside fault e is bare d x =
         let wire = new.memory.below.below.below in
         let f = faults old.memory.below.below.below.link in
         let same = wants_by seen_by leads frame ps ps' j k (turned side old) new now bare (subst (λ (z : Operators (Wire L)). Does seen_by leads now frame ps j z (Err NoMemory) ps' k new) e (subst (λ (y : AskFault). Does seen_by leads now frame ps j t (Err y) ps' k new) is d)) in
-        let y = put_stands b c (world old.memory.below.below.below.link) side.which (order_of side.machine) h beside x.stands x.order f (faults wire.link) wire.side wire.order (world wire.link) (λ z r. Unit {0})
-        (same_wrote (seen_by (turned side old).memory.below.below.below) (seen_by wire) same) in
-        record { host = with_regions h y.regions; stands = y.stands; order_is = x.order }
+        let y = put_stands b c (world old.memory.below.below.below.link) side.which (order_of side.machine) h beside x.stands x.order f (faults wire.link) wire.side wire.order (world wire.link) (λ z r. r ≡ z.regions)
+        (stays_wrote (seen_by (turned side old).memory.below.below.below) (seen_by wire) same) in
+        subst (λ (r : Regions). Stands b c side.which (world wire.link) (with_regions h r) beside) y.put y.stands
 
     module _ (b : Behaviour) (side : SideRecord) (old : Operators (Wire L)) (now : Command) (plain : IsPlain now) (result : Result (List ℕ) AskFault) (begun ended : Inquiry) (after : SideRecord) (new : Operators (Wire L))
         (h : Host) (other : Option Host) (a : SideState) (there : IsThere b c (world old.memory.below.below.below.link) side h other) (ready : IsReady (debugged side h) a) (none : a.step_words ≡ [])

@@ -1,5 +1,5 @@
 -- A command that is asked of both sides.
-use Rattle.std.proofs.Common.{◌≡◌, ◌≢◌, ◌⊎◌, ◌∙◌, inl, inr, refl, sym, ap, subst, ℕ, ◌≤◌, List, [], Option, Some, None, Result, Ok, Err}
+use Rattle.std.proofs.Common.{◌≡◌, ◌≢◌, ◌⊎◌, ◌∙◌, inl, inr, refl, sym, ap, subst, ℕ, ◌≤◌, List, [], length, drop, Option, Some, None, Result, Ok, Err}
 use Rattle.machine_state.specs.State.{MachineState, Behaviour, order_of as machine_order}
 use Rattle.nub_wire.specs.declared.link.Side.{Side}
 use Rattle.nub_wire.specs.Rest.{other}
@@ -34,8 +34,14 @@ use Rattle.side_meaning.specs.Asking.{IsAsked}
 use Rattle.side_meaning.proofs.Starting.{asks_stand, no_words}
 use Rattle.session.specs.declared.sides.SideRecord.{SideRecord}
 use Rattle.session.specs.Kept.{IsFailure}
-use Rattle.session.specs.Meant.{debugged, sides_of, Hosts, IsThere, AreThere, AreReadyFor, ComesTo, SetsBreaks, IsBare, IsPlain, IsInquiry, AskedOne, SaidOne, NotOne, RanOne, SaidAll, NotAll, Rests, IsGivenUp}
-use Rattle.session.specs.Turned.{order_of}
+use Rattle.session.specs.Meant.{debugged, sides_of, Hosts, IsThere, AreThere, AreReadyFor, ComesTo, SetsBreaks, IsBare, IsPlain, IsInquiry, AskedOne, SaidOne, NotOne, RanOne, SaidAll, NotAll}
+use Rattle.session.specs.Undoing.{words_before, undone_host, StaysAt, IsGivenUp, ReadsBefore}
+use Rattle.session.proofs.GivenUp.{undone_is as undone_host_is}
+use Rattle.side_meaning.proofs.Telling.{memories}
+use Rattle.abs_mem.specs.WireMeaning.{memory_of}
+use Rattle.debug_side.specs.declared.there.WordThere.{WordThere}
+use Rattle.table_points.specs.declared.row.Point.{Point}
+use Rattle.session.specs.Turned.{byte_of, order_of}
 use Rattle.session.proofs.Regs.{rose_since}
 use Rattle.session.proofs.Asking.{none_mapped}
 use Rattle.session.proofs.AskingOne.{AsksSide}
@@ -78,8 +84,19 @@ sets_bare (command.Break spot) s = tt
 sets_bare (command.Clear spot) s = tt
 sets_bare c s = absurd s
 
+pub sets_no_text : (c : Command) → SetsBreaks c → IsNoText c
+sets_no_text c s text e = subst SetsBreaks e s
+
+pub sets_inquiry : (c : Command) → SetsBreaks c → IsInquiry c
+sets_inquiry (command.Break spot) s = tt
+sets_inquiry (command.Clear spot) s = tt
+sets_inquiry c s = absurd s
+
 abbrev unsaid : AskFault → Result (List ℕ) AskFault
 unsaid f = Err f
+
+pub unsaid_is : (f e : AskFault) → unsaid f ≡ Err e → f ≡ e
+unsaid_is f e h = cc
 
 pub unwanted : (f : AskFault) → unsaid f ≡ Err NoMemory → IsFailure f
 unwanted f e = let is : f ≡ NoMemory = cc in subst IsFailure (sym is) tt
@@ -173,14 +190,14 @@ broken_since f f1 f2 D D' N N' LinkFault le w = rose_since f f1 f2 le w
 broken_since f f1 f2 D D' N N' (BadReply frame) le w = w
 broken_since f f1 f2 D D' N N' (Outside p) le w = w
 
-gives_up : (f f2 f3 : ℕ) (D : List ℕ → Type 0) (N : Troubled → Type 0) (fault : AskFault) → f ≤ f2 → IsGivenUp f2 f3 fault → ComesTo f f3 D N (Err fault)
-gives_up f f2 f3 D N NoMemory le w = tt
-gives_up f f2 f3 D N (Broken LinkFault) le w = rose_since f f2 f3 le w
-gives_up f f2 f3 D N (Broken (BadReply frame)) le w = absurd w
-gives_up f f2 f3 D N (Broken (Outside p)) le w = absurd w
-gives_up f f2 f3 D N (Refused cause) le w = absurd w
-gives_up f f2 f3 D N (Raised e) le w = absurd w
-gives_up f f2 f3 D N Spent le w = absurd w
+gives_up : (f f2 f3 : ℕ) (D : List ℕ → Type 0) (N : Troubled → Type 0) (Done : Type 0) (fault : AskFault) → f ≤ f2 → IsGivenUp f2 f3 Done fault → ComesTo f f3 D N (Err fault)
+gives_up f f2 f3 D N Done NoMemory le w = tt
+gives_up f f2 f3 D N Done (Broken LinkFault) le w = rose_since f f2 f3 le w
+gives_up f f2 f3 D N Done (Broken (BadReply frame)) le w = absurd w
+gives_up f f2 f3 D N Done (Broken (Outside p)) le w = absurd w
+gives_up f f2 f3 D N Done (Refused cause) le w = absurd w
+gives_up f f2 f3 D N Done (Raised e) le w = absurd w
+gives_up f f2 f3 D N Done Spent le w = absurd w
 
 module _ (b : Behaviour) (c : Conduct) (o o1 : Option World) (first first' second : SideRecord) (which : first'.which ≡ first.which) (now : Command) (inquiry : IsInquiry now) where
   module _ (g h : Host) (st : SessionState) (s : SideState) (there : AreThere b c o first (Some second) (hosts g (Some h))) (ready : AreReadyFor first (Some second) (hosts g (Some h)) (record st { second = Some s })) where
@@ -256,15 +273,15 @@ module _ (b : Behaviour) (c : Conduct) (o o1 : Option World) (first first' secon
           (Err e, x.after, x.one, (e, Some y.asked.after, subst (λ (z : Command). SecondUndone e z (Some s) e (Some y.asked.after)) (sym is) undone, refl, refl)) refl
 
       abbrev RanBehind : (fault answer : AskFault) → Type 0
-      RanBehind fault answer = (beside : Option Host) → IsThere b c o1 second h beside → ((answer ≡ fault) × RanOne b c o2 second second' h beside (command.Ps text) s) ⊎ IsGivenUp f1 f2 answer
+      RanBehind fault answer = (beside : Option Host) → IsThere b c o1 second h beside → ((answer ≡ fault) × RanOne b c o2 second second' h beside (command.Ps text) s) ⊎ IsGivenUp f1 f2 (Unit {0}) answer
 
       abbrev Outcome : AskFault → Type 0
       Outcome answer = ComesTo f f2 (λ (u : List ℕ). SaidAll b c o2 first' (Some second') two (DoneOnBoth two now) u) (NotAll b c o2 first' (Some second') two (DoneOnBoth two now)) (Err answer)
 
       text_by : (e : Troubled) (x : NotOne b c o1 first first' g (Some h) now st.first e) (fault answer : AskFault) → (NotAll b c o2 first' (Some second') two (DoneOnBoth two now) e → Outcome fault)
-          → ((answer ≡ fault) × RanOne b c o2 second second' h (Some x.host) (command.Ps text) s) ⊎ IsGivenUp f1 f2 answer → Outcome answer
+          → ((answer ≡ fault) × RanOne b c o2 second second' h (Some x.host) (command.Ps text) s) ⊎ IsGivenUp f1 f2 (Unit {0}) answer → Outcome answer
       text_by e x fault answer to (inl y) = subst Outcome (sym y.0) (to (text_not e x y.1))
-      text_by e x fault answer to (inr y) = gives_up f f1 f2 (λ (u : List ℕ). SaidAll b c o2 first' (Some second') two (DoneOnBoth two now) u) (NotAll b c o2 first' (Some second') two (DoneOnBoth two now)) answer le y
+      text_by e x fault answer to (inr y) = gives_up f f1 f2 (λ (u : List ℕ). SaidAll b c o2 first' (Some second') two (DoneOnBoth two now) u) (NotAll b c o2 first' (Some second') two (DoneOnBoth two now)) (Unit {0}) answer le y
 
       text_undone_by : (fault answer : AskFault) → (IsFailure fault → ⊥)
           → ComesTo f f1 (λ (text : List ℕ). SaidOne b c o1 first first' g (Some h) now st.first text) (NotOne b c o1 first first' g (Some h) now st.first) (Err fault) → RanBehind fault answer → Outcome answer
@@ -340,7 +357,7 @@ module _ (b : Behaviour) (c : Conduct) (o o1 : Option World) (first first' secon
   pub undone_both : (hs : Hosts) (st : SessionState) (f f1 f2 : ℕ) (o2 : Option World) (second' : SideRecord) (fault answer : AskFault) → AreThere b c o first (Some second) hs → AreReadyFor first (Some second) hs st → AsksSide b c o o1 f f1 first first' now (Err fault)
       → ((IsFailure fault → ⊥) → f ≤ f1) → second'.which ≡ second.which → (IsNoText now → (answer ≡ fault) × (second' ≡ second) × (o2 ≡ o1) × (f2 ≡ f1)) → (IsFailure fault → (answer ≡ fault) × (f2 ≡ f1))
       → ((text : List ℕ) (h : Host) (beside : Option Host) (a : SideState) → now ≡ command.Ps text → (IsFailure fault → ⊥) → IsThere b c o1 second h beside → IsReady (debugged second h) a → a.step_words ≡ []
-      → ((answer ≡ fault) × RanOne b c o2 second second' h beside (command.Ps text) a) ⊎ IsGivenUp f1 f2 answer)
+      → ((answer ≡ fault) × RanOne b c o2 second second' h beside (command.Ps text) a) ⊎ IsGivenUp f1 f2 (Unit {0}) answer)
       → ComesTo f f2 (λ (u : List ℕ). SaidAll b c o2 first' (Some second') st (DoneOnBoth st now) u) (NotAll b c o2 first' (Some second') st (DoneOnBoth st now)) (Err answer)
   undone_both hs st f f1 f2 o2 second' fault answer there ready asks le e2 left failed ran =
       failure_or fault
@@ -376,25 +393,69 @@ module _ (b : Behaviour) (c : Conduct) (o o1 : Option World) (first first' secon
         (subst (λ (z : AskFault). ComesTo f1 f2 (λ (u : List ℕ). SaidOne b c o2 second second' h (Some g) now s u) (NotOne b c o2 second second' h (Some g) now s) (Err z)) e
         (more h (Some g) s (waits hs.first h st s t r' (Ok x.change) x.asked) r'.ready.1 (second_none hs.first h st s t r') inquiry)))
 
-    -- or it has no memory for it, and the first one is as before
-    second_wants : (o2 : Option World) (f2 f3 : ℕ) (fault : AskFault) (D : List ℕ → Type 0) (N : Troubled → Type 0) → f ≤ f2
-        → ((h : Host) (beside : Option Host) → IsThere b c o1 second h beside → Rests b c o2 second.which (order_of second.machine) beside)
-        → ((h : Host) (beside : Option Host) → Stands b c first'.which o2 h beside → order_of first'.machine ≡ machine_order h.machine → IsGivenUp f2 f3 fault) → ComesTo f f3 D N (Err fault)
-    second_wants o2 f2 f3 fault D N le rests gives =
-        two_sides (λ (z : SessionState). ComesTo f f3 D N (Err fault)) hs st there ready
+    -- or it has no memory for it: the first one is undone
+    second_wants : (P : Type 0) (o2 : Option World) → ((h : Host) (beside : Option Host) → IsThere b c o1 second h beside → Stands b c second.which o2 h beside)
+        → ((h : Host) (x : SaidOne b c o1 first first' hs.first (Some h) now st.first text) → IsReady (debugged first hs.first) st.first → Stands b c first'.which o2 x.asked.host (Some h) → P) → P
+    second_wants P o2 rests then =
+        two_sides (λ (z : SessionState). P) hs st there ready
         (λ h s t r'.
         let x = asks hs.first (Some h) st.first t.first_there r'.ready.0 (none hs.first h st s t r') inquiry in
         let y = rests h (Some x.asked.host) (waits hs.first h st s t r' (Ok x.change) x.asked) in
         let other_is : second.which ≡ other first'.which = t.second_there.0 ∙ ap other (sym (which ∙ t.first_is)) in
-        gives_up f f2 f3 D N fault le
-        (gives x.asked.host (Some y.host) (stands_beside b c o1 o2 x.asked.host y.host (Some h) first'.which x.asked.there.stands (subst (λ (w : Side). Stands b c w o2 y.host (Some x.asked.host)) other_is y.stands)) x.asked.there.order))
+        then h x r'.ready.0 (stands_beside b c o1 o2 x.asked.host h (Some h) first'.which x.asked.there.stands (subst (λ (w : Side). Stands b c w o2 h (Some x.asked.host)) other_is y)))
 
-    -- words of breakpoints are put back where the command may have changed them
-    pub second_wanted : (o2 : Option World) (f2 f3 : ℕ) (fault : AskFault) (D : List ℕ → Type 0) (N : Troubled → Type 0) → (SetsBreaks now → f ≤ f2)
-        → ((h : Host) (beside : Option Host) → IsThere b c o1 second h beside → SetsBreaks now → Rests b c o2 second.which (order_of second.machine) beside)
-        → ((h : Host) (beside : Option Host) → SetsBreaks now → Stands b c first'.which o2 h beside → order_of first'.machine ≡ machine_order h.machine → IsGivenUp f2 f3 fault)
+    -- a link that failed is told
+    pub second_wanted : (o2 : Option World) (f2 f3 : ℕ) (fault : AskFault) (D : List ℕ → Type 0) (N : Troubled → Type 0) (Done : Host → Option Host → Type 0) → (SetsBreaks now → f ≤ f2)
+        → ((h : Host) (beside : Option Host) → IsThere b c o1 second h beside → SetsBreaks now → Stands b c second.which o2 h beside)
+        → ((h : Host) (beside : Option Host) → Stands b c first'.which o2 h beside → order_of first'.machine ≡ machine_order h.machine → IsGivenUp f2 f3 (Done h beside) fault)
         → ((SetsBreaks now → ⊥) → fault ≡ NoMemory) → ComesTo f f3 D N (Err fault)
-    second_wanted o2 f2 f3 fault D N le rests gives otherwise =
+    second_wanted o2 f2 f3 fault D N Done le rests gives otherwise =
         breaks_or now
-        (λ sets. second_wants o2 f2 f3 fault D N (le sets) (λ h beside x. rests h beside x sets) (λ h beside x same. gives h beside sets x same))
+        (λ sets. second_wants (ComesTo f f3 D N (Err fault)) o2 (λ h beside x. rests h beside x sets) (λ h x r y. gives_up f f2 f3 D N (Done x.asked.host (Some h)) fault (le sets) (gives x.asked.host (Some h) y x.asked.there.order)))
         (λ n. subst (λ (z : AskFault). ComesTo f f3 D N (Err z)) (sym (otherwise n)) tt)
+
+    -- and the first side is as it was
+    pub second_stays : SetsBreaks now → (o2 o3 : Option World) (f2 f3 : ℕ) (fault : AskFault) (before : List Point) (words : List WordThere) → ((h : Host) (beside : Option Host) → IsThere b c o1 second h beside → SetsBreaks now → Stands b c second.which o2 h beside)
+        → ((h : Host) (beside : Option Host) → Stands b c first'.which o2 h beside → order_of first'.machine ≡ machine_order h.machine
+        → IsGivenUp f2 f3 (Stands b c first'.which o3 (undone_host now (byte_of first'.machine) (drop (length before) first'.row.breaks.items) words h) beside) fault)
+        → before ≡ first.row.breaks.items → words ≡ words_before now (memory_of hs.first.machine) first.row.breaks.items → fault ≡ NoMemory → StaysAt b c o3 first.which hs.first
+    second_stays sets o2 o3 f2 f3 fault before words rests gives same read is =
+        second_wants (StaysAt b c o3 first.which hs.first) o2 (λ h beside x. rests h beside x sets)
+        (λ h x r y.
+        let target : byte_of first'.machine ≡ hs.first.machine.target = x.asked.there.target ∙ ap (λ (k : Host). k.machine.target) x.asked.alike.host in
+        let stands = subst (λ (z : AskFault). IsGivenUp f2 f3 (Stands b c first'.which o3 (undone_host now (byte_of first'.machine) (drop (length before) first'.row.breaks.items) words x.asked.host) (Some h)) z) is (gives x.asked.host (Some h) y x.asked.there.order) in
+        let back =
+        undone_host_is (debugged first hs.first) (debugged first' x.asked.host) st.first x.asked.after r.planted.machine r.stands.alike.breaks x.asked.alike (memories b c first.which o hs.first hs.second there.first_there.stands) now sets x.change words x.asked.one
+        read in (
+          Some h,
+          subst (λ (w : Side). Stands b c w o3 hs.first (Some h)) which
+              (subst (λ (k : Host). Stands b c first'.which o3 k (Some h)) back
+              (subst (λ (n : ℕ). Stands b c first'.which o3 (undone_host now n (drop (length first.row.breaks.items) first'.row.breaks.items) words x.asked.host) (Some h)) target
+              (subst (λ (ps : List Point). Stands b c first'.which o3 (undone_host now (byte_of first'.machine) (drop (length ps) first'.row.breaks.items) words x.asked.host) (Some h)) same stands))),
+        ))
+
+-- ---- behind what was read of the first side
+
+-- both are there still
+pub still_there : (b : Behaviour) (c : Conduct) (o o' : Option World) (first second : SideRecord) (k : Host) (x : Option Host) → AreThere b c o first (Some second) (hosts k x) → Stands b c first.which o' k x → AreThere b c o' first (Some second) (hosts k x)
+still_there b c o o' first second k None there s = absurd there.second_there
+still_there b c o o' first second k (Some h) there s =
+    let y : IsThere b c o' first k (Some h) = record { stands = s; context = there.first_there.context; target = there.first_there.target; order = there.first_there.order; names = there.first_there.names } in
+    record {
+      first_is = there.first_is;
+      first_there = y;
+      second_there = (there.second_there.0, second_beside b c o o' first second h k (Some k) there.second_there.0 there.second_there.1 there.first_is y);
+    }
+
+-- what wasn't read
+pub read_failed : (f f1 : ℕ) (S : Type 0) (words : List WordThere) (D : List ℕ → Type 0) (N : Troubled → Type 0) (fault : AskFault) → ReadsBefore f f1 S words (Err fault) → ComesTo f f1 D N (Err fault)
+read_failed f f1 S words D N NoMemory w = tt
+read_failed f f1 S words D N (Broken LinkFault) w = w
+read_failed f f1 S words D N (Broken (BadReply frame)) w = absurd w
+read_failed f f1 S words D N (Broken (Outside p)) w = absurd w
+read_failed f f1 S words D N (Refused cause) w = absurd w
+read_failed f f1 S words D N (Raised e) w = absurd w
+read_failed f f1 S words D N Spent w = absurd w
+
+pub read_stays : (f f1 : ℕ) (S : Type 0) (words : List WordThere) (fault : AskFault) → fault ≡ NoMemory → ReadsBefore f f1 S words (Err fault) → S
+read_stays f f1 S words fault e w = (subst (λ (z : AskFault). ReadsBefore f f1 S words (Err z)) e w).1

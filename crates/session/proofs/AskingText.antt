@@ -62,7 +62,8 @@ use Rattle.side_meaning.proofs.Storing.{reached, same_target, runs_kept}
 use Rattle.session.specs.declared.sides.SideRecord.{SideRecord}
 use Rattle.session.specs.Turned.{byte_of, order_of, turned}
 use Rattle.session.specs.Kept.{IsFailure}
-use Rattle.session.specs.Meant.{debugged, IsThere, AskedOne, SaidOne, NotOne, RanOne, ComesTo, IsGivenUp}
+use Rattle.session.specs.Meant.{debugged, IsThere, AskedOne, SaidOne, NotOne, RanOne, ComesTo}
+use Rattle.session.specs.Undoing.{IsGivenUp}
 use Rattle.session.proofs.Asking.{none_mapped, target_told, seen_by, ran_count}
 
 -- ---- a side whose machine's memory has other numbers
@@ -301,7 +302,7 @@ text_failed f f' D E N M (Broken LinkFault) is w = w
 text_failed f f' D E N M (Broken (BadReply frame)) is w = w
 text_failed f f' D E N M (Broken (Outside p)) is w = w
 
-pub run_failed : (f f' : ℕ) (E : Unit {0} → Type 0) (fault : AskFault) → IsFailure fault → ComesTo f f' E (λ e. ⊥) (Err fault) → IsGivenUp f f' fault
+pub run_failed : (f f' : ℕ) (E : Unit {0} → Type 0) (fault : AskFault) → IsFailure fault → ComesTo f f' E (λ e. ⊥) (Err fault) → IsGivenUp f f' (Unit {0}) fault
 run_failed f f' E (Refused cause) is w = absurd is
 run_failed f f' E (Raised e) is w = absurd is
 run_failed f f' E Spent is w = absurd is

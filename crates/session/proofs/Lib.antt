@@ -16,4 +16,5 @@ pub mod Answering
 pub mod AskingOne
 pub mod AskingBoth
 pub mod PuttingBack
+mod GivenUp
 pub mod AskingText

@@ -1,6 +1,5 @@
--- Words of breakpoints that are put back on a side at rest.
-use Rattle.std.proofs.Common.{◌≡◌, ◌∙◌, refl, sym, subst, ℕ, Bool, true, false, Option, Result, Ok, Err}
-use Rattle.ldb_words.specs.declared.kinds.Kind.TheVariants.{Word}
+-- What stands at breakpoints of a side at rest is read, and put back.
+use Rattle.std.proofs.Common.{◌≡◌, ◌≢◌, ◌∙◌, refl, sym, subst, ℕ, List, [], map, Option, Result, Ok, Err}
 use Rattle.ldb_words.specs.declared.kinds.Order.{Order}
 use Rattle.machine_state.specs.Regions.{Regions}
 use Rattle.machine_state.specs.State.{Behaviour, order_of as machine_order}
@@ -8,86 +7,113 @@ use Rattle.nub_wire.specs.declared.link.Side.{Side}
 use Rattle.nub_wire.specs.Nub.{Host}
 use Rattle.nub_wire.specs.Delivery.{Conduct, World}
 use Rattle.frame_bytes.specs.Bytes.{Bytes}
-use Rattle.abs_mem.specs.Meaning.{Seen, Stores}
-use Rattle.abs_mem.specs.WireMeaning.{WireRest, wire_seen}
-use Rattle.abs_mem.specs.declared.memory.MemFault.{MemFault}
-use Rattle.abs_mem.specs.declared.memory.MemFault.TheVariants.{Outside, LinkFault, BadReply}
+use Rattle.abs_mem.specs.Meaning.{Seen, Same, OnTold}
+use Rattle.abs_mem.specs.WireMeaning.{WireRest, wire_seen, memory_of}
 use Rattle.abs_mem.specs.declared.wire.Wire.{Wire}
 use Rattle.ps_ops.specs.declared.dialect.Operators.{Operators}
-use Rattle.break_plant.specs.Planted.{in_memory}
-use Rattle.debug_side.specs.Wrote.{Wrote}
+use Rattle.wire_talk.specs.declared.fault.TalkFault.{TalkFault}
+use Rattle.wire_talk.specs.declared.fault.TalkFault.TheVariants as talk
+use Rattle.table_points.specs.declared.row.Point.{Point}
+use Rattle.break_plant.specs.Planted.{noop_of}
+use Rattle.debug_side.specs.Meant.{address_of}
+use Rattle.debug_side.specs.Wrote.{none_written, Wrote, Puts, words_put}
+use Rattle.debug_side.specs.There.{words_at, all_there, AreRead, FailsToRead}
 use Rattle.debug_side.specs.Told.{with_regions}
-use Rattle.debug_side.specs.Planting.{IsPut, PlantsOne}
+use Rattle.debug_side.specs.declared.there.WordThere.{WordThere}
+use Rattle.debug_side.specs.declared.there.ReadFault.{ReadFault}
+use Rattle.debug_side.specs.declared.there.ReadFault.TheVariants as read
 use Rattle.debug_side.proofs.Told.{put_stands, never_bad}
-use Rattle.debug_side.proofs.Putting.{IsPutAt, puts_of}
 use Rattle.resuming.specs.Standing.{Stands}
 use Rattle.session.specs.declared.sides.SideRecord.{SideRecord}
-use Rattle.session.specs.Meant.{Rests, PutsBack}
 use Rattle.session.specs.Turned.{order_of, turned}
-use Rattle.session.proofs.Asking.{same_wrote}
+use Rattle.c_session.specs.declared.command.Spot.{Spot}
+use Rattle.c_session.specs.declared.command.Command.{Command}
+use Rattle.c_session.specs.declared.command.Command.TheVariants as command
+use Rattle.session.specs.Undoing.{unread, words_before, undone_host, ReadsBefore, PutsBack, IsGivenUp, wanting}
+use Rattle.session.proofs.Asking.{seen_by}
 
-module _ (b : Behaviour) (c : Conduct) (o o' : Option World) (f f' : ℕ) (side side' : Side) (order order' : Order) (h : Host) (beside : Option Host) (x : Stands b c side o h beside) (same : order ≡ machine_order h.machine) where
-  abbrev old : Seen WireRest
-  old = wire_seen c o f side order
+-- no word was written
+still_wrote : {R : Type 0} (Q : Bytes → Type 0) (s s' : Seen R) → Same s s' → OnTold s Q → Wrote s s' (λ b r. (r ≡ b.regions) × Q b)
+still_wrote {R = R} Q s s' h k = record { faults = h.faults; after = λ (b : Bytes) (r : R) t. (b.regions, none_written, (refl, k.holds b r t), h.keeps b r t) }
 
-  abbrev new : Seen WireRest
-  new = wire_seen c o' f' side' order'
+nothing_told : {R : Type 0} (s : Seen R) → OnTold s (λ b. Unit {0})
+nothing_told {R = R} s = record { holds = λ (b : Bytes) (r : R) t. tt }
 
-  abbrev Back : Type 0
-  Back = Rests b c o' side' order' beside
+module _ {L : Type 0} (c : Conduct) (world : L → Option World) (faults : L → ℕ) (b : Behaviour) (side : SideRecord) (old t : Operators (Wire L)) (new : Wire L) (e : t ≡ turned side old)
+    (h : Host) (beside : Option Host) (x : Stands b c side.which (world old.memory.below.below.below.link) h beside) (same : order_of side.machine ≡ machine_order h.machine) where
+  abbrev f : ℕ
+  f = faults old.memory.below.below.below.link
 
-  rests : (P : Bytes → Regions → Type 0) → side' ≡ side → Wrote old new P → Back
-  rests P e wrote =
-      let y = put_stands b c o side order h beside x same f f' side' order' o' P wrote in
-      record { host = with_regions h y.regions; stands = subst (λ (s : Side). Stands b c s o' (with_regions h y.regions) beside) (sym e) y.stands; order_is = y.order_is ∙ same }
+  abbrev f1 : ℕ
+  f1 = faults new.link
 
-  -- a breakpoint that is set
-  pub set_done : (target at : ℕ) (is_put : Bool) → side' ≡ side → PlantsOne target at old (Ok is_put) new → PutsBack f f' Back (Ok tt)
-  set_done target at true e w = (w.faults, rests (IsPut target at) e w)
-  set_done target at false e w = (w.0.faults, rests (λ z r. Unit {0}) e (same_wrote old new w.0))
+  abbrev start : Seen WireRest
+  start = seen_by c world faults t.memory.below.below.below
 
-  pub set_failed : (target at : ℕ) (fault : MemFault) → PlantsOne target at old (Err fault) new → PutsBack f f' Back (Err fault)
-  set_failed target at LinkFault w = w
-  set_failed target at (BadReply frame) w = never_bad b c o side order h beside x same f f' side' order' o' (λ z r. Unit {0}) frame w
-  set_failed target at (Outside p) w = tt
+  abbrev end : Seen WireRest
+  end = seen_by c world faults new
 
-  -- one that is taken away
-  pub cleared : (at word : ℕ) → side' ≡ side → Stores old (in_memory at) Word word (Ok tt) new → PutsBack f f' Back (Ok tt)
-  cleared at word e w = let y = puts_of old new at word (Ok tt) w in (y.faults, rests (IsPutAt at word) e y)
+  abbrev StandsWith : Regions → Type 0
+  StandsWith r = Stands b c side.which (world new.link) (with_regions h r) beside
 
-  pub not_cleared : (at word : ℕ) (fault : MemFault) → Stores old (in_memory at) Word word (Err fault) new → PutsBack f f' Back (Err fault)
-  not_cleared at word LinkFault w = w
-  not_cleared at word (BadReply frame) w = never_bad b c o side order h beside x same f f' side' order' o' (λ z r. Unit {0}) frame w
-  not_cleared at word (Outside p) w = tt
+  wrote : (P : Bytes → Regions → Type 0) → Wrote start end P → (f1 ≡ f) × (r : Regions) × P (memory_of h.machine) r × StandsWith r
+  wrote P w =
+      let v = subst (λ (z : Operators (Wire L)). Wrote (seen_by c world faults z.memory.below.below.below) end P) e w in
+      let y = put_stands b c (world old.memory.below.below.below.link) side.which (order_of side.machine) h beside x same f f1 new.side new.order (world new.link) P v in
+      (v.faults, y.regions, y.put, y.stands)
 
--- ---- one after another
+  still : (Q : Bytes → Type 0) → Same start end → OnTold start Q → (f1 ≡ f) × Stands b c side.which (world new.link) h beside × Q (memory_of h.machine)
+  still Q s k =
+      let y = wrote (λ z r. (r ≡ z.regions) × Q z) (still_wrote Q start end s k) in
+      (y.0, subst StandsWith y.2.0 y.3, y.2.1)
 
-since_back : (f f1 f2 : ℕ) (D : Type 0) (r : Result (Unit {0}) MemFault) → f1 ≡ f → PutsBack f1 f2 D r → PutsBack f f2 D r
-since_back f f1 f2 D r e w = subst (λ (n : ℕ). PutsBack n f2 D r) e w
+  never : (P : Bytes → Regions → Type 0) (frame : _) → Puts start (Err (talk.BadReply frame)) P end → ⊥
+  never P frame w =
+      never_bad b c (world old.memory.below.below.below.link) side.which (order_of side.machine) h beside x same f f1 new.side new.order (world new.link) P frame
+      (subst (λ (z : Operators (Wire L)). Puts (seen_by c world faults z.memory.below.below.below) (Err (talk.BadReply frame)) P end) e w)
 
--- from a side at rest
-abbrev pub Backs : Behaviour → Conduct → (o o' : Option World) → (f f' : ℕ) → (side side' : Side) → (order order' : Order) → Result (Unit {0}) MemFault → Type 0
-Backs b c o o' f f' side side' order order' r = (h : Host) (beside : Option Host) → Stands b c side o h beside → order ≡ machine_order h.machine → PutsBack f f' (Rests b c o' side' order' beside) r
+  -- they are read
+  abbrev Stays : Type 0
+  Stays = Stands b c side.which (world new.link) h beside
 
-module _ (b : Behaviour) (c : Conduct) where
-  pub none_back : (o : Option World) (f : ℕ) (side : Side) (order : Order) → Backs b c o o f f side side order order (Ok tt)
-  none_back o f side order h beside x same = (refl, record { host = h; stands = x; order_is = same })
+  pub reads : (ps : List Point) (ws : List WordThere) → AreRead ps ws start end → ReadsBefore f f1 Stays (words_at (memory_of h.machine) ps) (Ok ws)
+  reads ps ws w = still (λ z. ws ≡ words_at z ps) w.0 w.1
 
-  pub backs_on : (o o1 o2 : Option World) (f f1 f2 : ℕ) (s s1 s2 : Side) (r r1 r2 : Order) (x : Result (Unit {0}) MemFault) → Backs b c o o1 f f1 s s1 r r1 (Ok tt) → Backs b c o1 o2 f1 f2 s1 s2 r1 r2 x → Backs b c o o2 f f2 s s2 r r2 x
-  backs_on o o1 o2 f f1 f2 s s1 s2 r r1 r2 x first more h beside stands same =
-      let y = first h beside stands same in
-      since_back f f1 f2 (Rests b c o2 s2 r2 beside) x y.0 (more y.1.host beside y.1.stands y.1.order_is)
+  pub not_read : (fault : ReadFault) (words : List WordThere) → FailsToRead fault start end → ReadsBefore f f1 Stays words (Err (unread fault))
+  not_read read.NoMemory words w = let y = still (λ z. Unit {0}) w (nothing_told start) in (y.0, y.1)
+  not_read (read.Talk talk.LinkFault) words w = subst (λ (z : Operators (Wire L)). FailsToRead (read.Talk talk.LinkFault) (seen_by c world faults z.memory.below.below.below) end) e w
+  not_read (read.Talk (talk.BadReply frame)) words w = never (λ z r. Unit {0}) frame w
 
--- of the side nothing more is said
-pub back_only : (f f' : ℕ) (D : Type 0) (r : Result (Unit {0}) MemFault) → PutsBack f f' D r → PutsBack f f' (Unit {0}) r
-back_only f f' D (Ok u) w = (w.0, tt)
-back_only f f' D (Err LinkFault) w = w
-back_only f f' D (Err (BadReply frame)) w = w
-back_only f f' D (Err (Outside p)) w = w
+  -- they are put back
+  pub puts_back : (G : Bytes → Regions) (r : Result (Unit {0}) TalkFault) → Puts start r (λ z m. m ≡ G z) end → PutsBack f f1 (StandsWith (G (memory_of h.machine))) r
+  puts_back G (Ok u) w = let y = wrote (λ z m. m ≡ G z) w in (y.0, subst StandsWith y.2 y.3)
+  puts_back G (Err talk.LinkFault) w = subst (λ (z : Operators (Wire L)). Puts (seen_by c world faults z.memory.below.below.below) (Err talk.LinkFault) (λ z m. m ≡ G z) end) e w
+  puts_back G (Err (talk.BadReply frame)) w = never (λ z m. m ≡ G z) frame w
 
--- on a wire that was turned to a side
-pub turned_back : {L : Type 0} (world : L → Option World) (faults : L → ℕ) (b : Behaviour) (c : Conduct) (side : SideRecord) (old t : Operators (Wire L)) (o' : Option World) (f' : ℕ) (s' : Side) (r' : Order) (x : Result (Unit {0}) MemFault) → t ≡ turned side old
-    → Backs b c (world t.memory.below.below.below.link) o' (faults t.memory.below.below.below.link) f' t.memory.below.below.below.side s' t.memory.below.below.below.order r' x
-    → Backs b c (world old.memory.below.below.below.link) o' (faults old.memory.below.below.below.link) f' side.which s' (order_of side.machine) r' x
-turned_back {L} world faults b c side old t o' f' s' r' x e w =
-    subst (λ (z : Operators (Wire L)). Backs b c (world z.memory.below.below.below.link) o' (faults z.memory.below.below.below.link) f' z.memory.below.below.below.side s' z.memory.below.below.below.order r' x) e w
+-- so it is given up
+pub gives : (f g : ℕ) (D : Type 0) (r : Result (Unit {0}) TalkFault) → PutsBack f g D r → IsGivenUp f g D (wanting r)
+gives f g D (Ok u) w = w.1
+gives f g D (Err talk.LinkFault) w = w
+gives f g D (Err (talk.BadReply frame)) w = absurd w
+
+-- nothing is read for another command
+pub nothing_before : {S : Type 0} (f : ℕ) (ws : List WordThere) (now : Command) → ((spot : Spot) → now ≢ command.Clear spot) → (b : Bytes) (ps : List Point) → ws ≡ [] → S → ReadsBefore f f S (words_before now b ps) (Ok ws)
+nothing_before f ws (command.Clear spot) n b ps e x = absurd (n spot refl)
+nothing_before f ws now n b ps e x = (refl, x, e)
+
+-- what is put back, as the code has it
+module _ {L : Type 0} (c : Conduct) (world : L → Option World) (faults : L → ℕ) (b : Behaviour) (side : SideRecord) (old t : Operators (Wire L)) (new : Wire L) (e : t ≡ turned side old)
+    (h : Host) (beside : Option Host) (x : Stands b c side.which (world old.memory.below.below.below.link) h beside) (same : order_of side.machine ≡ machine_order h.machine) (r : Result (Unit {0}) TalkFault) (target : ℕ) (added : List Point) (words : List WordThere) where
+  abbrev Undoes : Command → ℕ → List Point → Type 0
+  Undoes now n ps = PutsBack (faults old.memory.below.below.below.link) (faults new.link) (Stands b c side.which (world new.link) (undone_host now n ps words h) beside) r
+
+  pub break_back : (now : Command) (spot : Spot) → now ≡ command.Break spot → (n : ℕ) (ps : List Point) → n ≡ target → ps ≡ added
+      → Puts (seen_by c world faults t.memory.below.below.below) r (λ z m. m ≡ words_put z.order (noop_of n) (map address_of ps) z.regions) (seen_by c world faults new) → Undoes now target added
+  break_back now spot is n ps e1 e2 w =
+      subst (λ (k : Command). Undoes k target added) (sym is)
+      (subst (λ (m : ℕ). Undoes (command.Break spot) m added) e1
+      (subst (λ (l : List Point). Undoes (command.Break spot) n l) e2 (puts_back c world faults b side old t new e h beside x same (λ z. words_put z.order (noop_of n) (map address_of ps) z.regions) r w)))
+
+  pub clear_back : (now : Command) (spot : Spot) → now ≡ command.Clear spot
+      → Puts (seen_by c world faults t.memory.below.below.below) r (λ z m. m ≡ all_there z.order words z.regions) (seen_by c world faults new) → Undoes now target added
+  clear_back now spot is w = subst (λ (k : Command). Undoes k target added) (sym is) (puts_back c world faults b side old t new e h beside x same (λ z. all_there z.order words z.regions) r w)

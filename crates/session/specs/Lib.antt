@@ -5,6 +5,7 @@ pub mod Kept
 pub mod Resuming
 pub mod Rooms
 pub mod Turned
+pub mod Undoing
 pub mod Asked
 pub mod Meant
 pub mod Pointed

@@ -119,25 +119,6 @@ TalksTo faults faults' Done (Ok x) = Done
 TalksTo faults faults' Done (Err talk.LinkFault) = Rose faults faults'
 TalksTo faults faults' Done (Err (talk.BadReply frame)) = ⊥
 
--- a side at rest, at some nub and machine with this order of its bytes
-pub record Rests (b : Behaviour) (c : Conduct) (o : Option World) (which : Side) (order : Order) (beside : Option Host) : Type 0 where
-  pub host : Host
-  pub stands : Stands b c which o host beside
-  pub order_is : order ≡ machine_order host.machine
-
--- Words of breakpoints are put back. A link that failed has counted it, and brought no bad reply; nothing is said where an address is outside.
-abbrev pub PutsBack : (faults faults' : ℕ) → (Done : Type 0) → Result (Unit {0}) MemFault → Type 0
-PutsBack faults faults' Done (Ok x) = (faults' ≡ faults) × Done
-PutsBack faults faults' Done (Err LinkFault) = Rose faults faults'
-PutsBack faults faults' Done (Err (BadReply frame)) = ⊥
-PutsBack faults faults' Done (Err (Outside p)) = Unit {0}
-
--- why a command isn't done on either side once the second one was asked: memory was wanting there, or the link failed
-abbrev pub IsGivenUp : (faults faults' : ℕ) → AskFault → Type 0
-IsGivenUp faults faults' NoMemory = Unit {0}
-IsGivenUp faults faults' (Broken LinkFault) = Rose faults faults'
-IsGivenUp faults faults' fault = ⊥
-
 -- what is done to a machine keeps its order of bytes, and the run of a resume its target and its text
 pub record AreSteady (b : Behaviour) : Type 0 where
   pub orders : KeepsOrders b

@@ -8,11 +8,12 @@ ghost use Rattle.table_points.specs.Named.{IsNamed};
 ghost use Rattle.table_asks.specs.Closing.{Settles};
 ghost use Rattle.session.specs.Asked.{Does, chosen_frame};
 ghost use Rattle.session.specs.Kept.{IsFailure, IsKept, IsQuery, SaysDone};
-ghost use Rattle.session.specs.Turned.{order_of, turned};
+ghost use Rattle.session.specs.Turned.{turned};
+ghost use Rattle.resuming.specs.Standing.{Stands};
 ghost use Rattle.machine_state.specs.State.{Behaviour};
 ghost use Rattle.nub_wire.specs.Nub.{Host};
 ghost use Rattle.claims.specs.Side.{SideState};
-ghost use Rattle.session.specs.Meant.{IsThere, debugged, SaidOne, NotOne, RanOne, IsBare, IsPlain, IsInquiry, ComesTo, Rests};
+ghost use Rattle.session.specs.Meant.{IsThere, debugged, SaidOne, NotOne, RanOne, IsBare, IsPlain, IsInquiry, ComesTo};
 ghost use Rattle.side_meaning.specs.Standing.{StandsFor};
 ghost use Rattle.side_meaning.specs.Stepping.{IsReady};
 ghost use Rattle.c_session.specs.declared.command.Command.TheVariants.{Ps};
@@ -104,7 +105,7 @@ pub fn asked<L: Link + Drop>(
     ensures faults { IsInquiry command.now → result ≢ Err AskFault.NoMemory → L.faults talk.old.memory.below.below.below.link ≤ L.faults talk.new.memory.below.below.below.link }
     ensures count { IsBare command.now → L.faults talk.old.memory.below.below.below.link ≤ L.faults talk.new.memory.below.below.below.link }
     ensures wanting { (b : Behaviour) (h : Host) (beside : Option Host) → IsThere b L.conduct (L.world talk.old.memory.below.below.below.link) side.old h beside → IsBare command.now → result ≡ Err AskFault.NoMemory
-        → Rests b L.conduct (L.world talk.new.memory.below.below.below.link) side.old.which (order_of side.old.machine) beside }
+        → Stands b L.conduct side.old.which (L.world talk.new.memory.below.below.below.link) h beside }
     ensures meant { (b : Behaviour) (h : Host) (beside : Option Host) (a : SideState) → IsThere b L.conduct (L.world talk.old.memory.below.below.below.link) side.old h beside → IsReady (debugged side.old h) a → a.step_words ≡ [] → IsInquiry command.now
         → ComesTo (L.faults talk.old.memory.below.below.below.link) (L.faults talk.new.memory.below.below.below.link) (λ text. SaidOne b L.conduct (L.world talk.new.memory.below.below.below.link) side.old side.new h beside command.now a text) (NotOne b L.conduct (L.world talk.new.memory.below.below.below.link) side.old side.new h beside command.now a) result }
 {

@@ -1,15 +1,14 @@
 // A command that doesn't resume, on both sides.
 
-ghost use Rattle.std.specs.Prelude.{◌≡◌, ◌≢◌, ◌⊎◌, ℕ, List, [], IfOk, OnOk, Ok, Option, Some};
+ghost use Rattle.std.specs.Prelude.{◌≡◌, ◌≢◌, ◌⊎◌, ℕ, List, [], IfOk, Ok, Err, Option, Some};
 ghost use Rattle.session.specs.Kept.{IsFailure, IsKept, IsUndone, IsQuery, SaysDone};
-ghost use Rattle.machine_state.specs.declared.layout.TheConstants.{MIPS, SPARC};
-ghost use Rattle.machine_state.specs.State.{Behaviour, order_of as machine_order};
+ghost use Rattle.machine_state.specs.State.{Behaviour};
 ghost use Rattle.nub_wire.specs.Nub.{Host};
-ghost use Rattle.resuming.specs.Standing.{Stands};
 ghost use Rattle.c_session.specs.declared.command.Command.TheVariants.{Ps};
-ghost use Rattle.session.specs.Turned.{order_of};
 ghost use Rattle.claims.specs.Side.{SessionState, SideState};
-ghost use Rattle.session.specs.Meant.{ComesTo, Hosts, IsThere, AreThere, AreReadyFor, SetsBreaks, IsInquiry, RanOne, Rests, PutsBack, IsGivenUp, SaidAll, NotAll, debugged, sides_of};
+ghost use Rattle.session.specs.Meant.{ComesTo, Hosts, IsThere, AreThere, AreReadyFor, SetsBreaks, IsInquiry, RanOne, SaidAll, NotAll, debugged, sides_of};
+ghost use Rattle.abs_mem.specs.WireMeaning.{memory_of};
+ghost use Rattle.session.specs.Undoing.{words_before, IsGivenUp, StaysAt};
 ghost use Rattle.side_meaning.specs.Stepping.{IsReady};
 ghost use Rattle.side_meaning.specs.Sessions.{SidesStand};
 ghost use Rattle.asking_meaning.specs.Meant.{joined};
@@ -17,15 +16,16 @@ ghost use Rattle.claims.specs.Outcome.{DoneOnBoth, all_regs};
 
 use crate::asked::{asked, is_failure, ran, registers_of};
 use crate::assigning::{assigned, store};
-use crate::sides::{SideRecord, turn};
-use abs_mem::{MemFault, Wire};
+use crate::sides::SideRecord;
+use crate::undoing::{given_up, words_before};
+use abs_mem::Wire;
 use c_session::Command;
-use debug_side::{clear_break, point_at, set_break};
+use debug_side::WordThere;
 use ldb_words::Text;
 use nub_wire::Link;
 use ps_ops::Operators;
 use std::alloc::Global;
-use table_asks::{AskFault, Point};
+use table_asks::AskFault;
 
 /// Why a command isn't done on the first side, once a text of PostScript, which may store in the target, has run on the second
 /// side too. Where the link failed or memory was wanting nothing more is asked, and where that comes of the text's run on the second
@@ -41,7 +41,7 @@ fn undone<L: Link + Drop>(
     ensures other { ((text : List ℕ) → command.now ≢ Ps text) → (result ≡ fault) × (second.new ≡ second.old) × (talk.new ≡ talk.old) }
     ensures failed { IsFailure fault → (result ≡ fault) × (second.new ≡ second.old) × (talk.new ≡ talk.old) }
     ensures meant { (text : List ℕ) (b : Behaviour) (h : Host) (beside : Option Host) (a : SideState) → command.now ≡ Ps text → (IsFailure fault → ⊥) → IsThere b L.conduct (L.world talk.old.memory.below.below.below.link) second.old h beside → IsReady (debugged second.old h) a → a.step_words ≡ []
-        → ((result ≡ fault) × RanOne b L.conduct (L.world talk.new.memory.below.below.below.link) second.old second.new h beside (Ps text) a) ⊎ IsGivenUp (L.faults talk.old.memory.below.below.below.link) (L.faults talk.new.memory.below.below.below.link) result }
+        → ((result ≡ fault) × RanOne b L.conduct (L.world talk.new.memory.below.below.below.link) second.old second.new h beside (Ps text) a) ⊎ IsGivenUp (L.faults talk.old.memory.below.below.below.link) (L.faults talk.new.memory.below.below.below.link) (Unit {0}) result }
 {
     if is_failure(&fault) {
         return fault;
@@ -55,140 +55,20 @@ fn undone<L: Link + Drop>(
     }
 }
 
-/// Sets a breakpoint at a point, or takes it away.
-fn put_back_one<L: Link + Drop>(
-    target: u8,
-    wire: &mut Wire<L>,
-    point: Point,
-    is_set: bool,
-) -> Result<(), MemFault>
-    requires known { (target ≡ MIPS) ⊎ (target ≡ SPARC) }
-    ensures { (b : Behaviour) (h : Host) (beside : Option Host) → Stands b L.conduct wire.old.side (L.world wire.old.link) h beside → wire.old.order ≡ machine_order h.machine
-        → PutsBack (L.faults wire.old.link) (L.faults wire.new.link) (Rests b L.conduct (L.world wire.new.link) wire.new.side wire.new.order beside) result }
-{
-    if is_set {
-        match set_break(target, wire, point) {
-            Ok(_) => Ok(()),
-            Err(fault) => Err(fault),
-        }
-    } else {
-        match clear_break(target, wire, point) {
-            Ok(()) => Ok(()),
-            Err(fault) => Err(fault),
-        }
-    }
-}
-
-/// Sets a breakpoint at each of some points at whose address none of others is, or takes it away.
-fn put_back_others<L: Link + Drop>(
-    target: u8,
-    wire: &mut Wire<L>,
-    points: &[Point],
-    others: &[Point],
-    is_set: bool,
-) -> Result<(), MemFault>
-    requires known { (target ≡ MIPS) ⊎ (target ≡ SPARC) }
-    ensures { (b : Behaviour) (h : Host) (beside : Option Host) → Stands b L.conduct wire.old.side (L.world wire.old.link) h beside → wire.old.order ≡ machine_order h.machine
-        → PutsBack (L.faults wire.old.link) (L.faults wire.new.link) (Rests b L.conduct (L.world wire.new.link) wire.new.side wire.new.order beside) result }
-{
-    for point in points {
-        if point_at(others, point.at).is_none() {
-            match put_back_one(target, wire, *point, is_set) {
-                Ok(()) => {}
-                Err(fault) => return Err(fault),
-            }
-        }
-    }
-    Ok(())
-}
-
-/// Puts back the words of the breakpoints that a side had.
-fn put_back<L: Link + Drop>(
-    talk: &mut Operators<Wire<L>>,
-    side: &SideRecord,
-    before: &[Point],
-) -> Result<(), MemFault>
-    ensures { (b : Behaviour) (h : Host) (beside : Option Host) → Stands b L.conduct side.now.which (L.world talk.old.memory.below.below.below.link) h beside → order_of side.now.machine ≡ machine_order h.machine
-        → PutsBack (L.faults talk.old.memory.below.below.below.link) (L.faults talk.new.memory.below.below.below.link) (Unit {0}) result }
-{
-    turn(talk, side);
-    let target = side.machine.byte();
-    let wire = &mut talk.memory.below.below.below;
-    let now = side.row.breaks.as_slice();
-    match put_back_others(target, wire, now, before, false) {
-        Ok(()) => {}
-        Err(fault) => return Err(fault),
-    }
-    match put_back_others(target, wire, before, now, true) {
-        Ok(()) => Ok(()),
-        Err(fault) => Err(fault),
-    }
-}
-
-/// Puts back the words of breakpoints where a command may have changed them.
-fn put_back_for<L: Link + Drop>(
-    talk: &mut Operators<Wire<L>>,
-    side: &SideRecord,
-    command: &Command,
-    before: &[Point],
-) -> Result<(), MemFault>
-    ensures other { (SetsBreaks command.now → ⊥) → (result ≡ Ok tt) × (talk.new ≡ talk.old) }
-    ensures meant { (b : Behaviour) (h : Host) (beside : Option Host) → SetsBreaks command.now → Stands b L.conduct side.now.which (L.world talk.old.memory.below.below.below.link) h beside → order_of side.now.machine ≡ machine_order h.machine
-        → PutsBack (L.faults talk.old.memory.below.below.below.link) (L.faults talk.new.memory.below.below.below.link) (Unit {0}) result }
-{
-    match command {
-        Command::Break(_) => put_back(talk, side, before),
-        Command::Clear(_) => put_back(talk, side, before),
-        _ => Ok(()),
-    }
-}
-
-/// Why a command isn't done that was put back. Words that are put back were there, so none of them is outside.
-fn wanting(back: Result<(), MemFault>) -> AskFault
-    ensures ok { OnOk back (result ≡ AskFault.NoMemory) }
-    ensures given_up { (f g : ℕ) → PutsBack f g (Unit {0}) back → IsGivenUp f g result }
-{
-    match back {
-        Ok(()) => AskFault::NoMemory,
-        Err(MemFault::Outside { .. }) => AskFault::NoMemory,
-        Err(MemFault::LinkFault) => AskFault::Broken(MemFault::LinkFault),
-        Err(MemFault::BadReply { frame }) => AskFault::Broken(MemFault::BadReply { frame }),
-    }
-}
-
-/// Why a command isn't done that the first side had done: breakpoints and the chosen frame are put back there. Words of breakpoints
-/// are put back where the command may have changed them.
-fn given_up<L: Link + Drop>(
-    talk: &mut Operators<Wire<L>>,
-    first: &mut SideRecord,
-    command: &Command,
-    before: Vec<Point>,
-    frame: u32,
-) -> AskFault
-    ensures breaks { first.new.row.breaks.items ≡ before.items }
-    ensures frame { first.new.frame ≡ frame }
-    ensures other { (SetsBreaks command.now → ⊥) → (result ≡ AskFault.NoMemory) × (talk.new ≡ talk.old) }
-    ensures meant { (b : Behaviour) (h : Host) (beside : Option Host) → SetsBreaks command.now → Stands b L.conduct first.old.which (L.world talk.old.memory.below.below.below.link) h beside → order_of first.old.machine ≡ machine_order h.machine
-        → IsGivenUp (L.faults talk.old.memory.below.below.below.link) (L.faults talk.new.memory.below.below.below.link) result }
-{
-    first.frame = frame;
-    let back = put_back_for(talk, first, command, before.as_slice());
-    first.row.breaks = before;
-    wanting(back)
-}
-
-/// What a command says on both sides: the reply is the first side's. Where that side doesn't do it, or the second side alone has
-/// no memory for it, breakpoints and chosen frames stay on both; where the second side alone refuses it, they stay on that one.
-pub fn asked_both<L: Link + Drop>(
+/// What a command says on both sides, of which it was read what stands at the first side's breakpoints.
+fn asked_behind<L: Link + Drop>(
     talk: &mut Operators<Wire<L>>,
     first: &mut SideRecord,
     second: &mut SideRecord,
     command: &Command,
+    words: &[WordThere],
 ) -> Result<Text, AskFault>
     ensures first { IsUndone result → IsKept first.old first.new }
     ensures second { IsUndone result → IsKept second.old second.new }
     ensures query { IsQuery command.now → IsKept first.old first.new × IsKept second.old second.new }
     ensures word { IfOk result (λ text. SaysDone command.now text) }
+    ensures stays { (b : Behaviour) (hs : Hosts) (st : SessionState) → AreThere b L.conduct (L.world talk.old.memory.below.below.below.link) first.old (Some second.old) hs → AreReadyFor first.old (Some second.old) hs st → SetsBreaks command.now
+        → words.now ≡ words_before command.now (memory_of hs.first.machine) first.old.row.breaks.items → result ≡ Err AskFault.NoMemory → StaysAt b L.conduct (L.world talk.new.memory.below.below.below.link) first.old.which hs.first }
     ensures meant { (b : Behaviour) (hs : Hosts) (st : SessionState) → AreThere b L.conduct (L.world talk.old.memory.below.below.below.link) first.old (Some second.old) hs → AreReadyFor first.old (Some second.old) hs st → IsInquiry command.now
         → ComesTo (L.faults talk.old.memory.below.below.below.link) (L.faults talk.new.memory.below.below.below.link) (λ text. SaidAll b L.conduct (L.world talk.new.memory.below.below.below.link) first.new (Some second.new) st (DoneOnBoth st command.now) text) (NotAll b L.conduct (L.world talk.new.memory.below.below.below.link) first.new (Some second.new) st (DoneOnBoth st command.now)) result }
 {
@@ -210,11 +90,36 @@ pub fn asked_both<L: Link + Drop>(
     };
     match fault {
         AskFault::Broken(why) => Err(AskFault::Broken(why)),
-        AskFault::NoMemory => Err(given_up(talk, first, command, before, frame)),
+        AskFault::NoMemory => Err(given_up(talk, first, command, before, words, frame)),
         AskFault::Refused(_) => Ok(text),
         AskFault::Raised(_) => Ok(text),
         AskFault::Spent => Ok(text),
     }
+}
+
+/// What a command says on both sides: the reply is the first side's. Where that side doesn't do it, or the second side alone has
+/// no memory for it, breakpoints and chosen frames stay on both, and behind `break` and `clear` the first side's target is as it was;
+/// where the second side alone refuses it, they stay on that one.
+pub fn asked_both<L: Link + Drop>(
+    talk: &mut Operators<Wire<L>>,
+    first: &mut SideRecord,
+    second: &mut SideRecord,
+    command: &Command,
+) -> Result<Text, AskFault>
+    ensures first { IsUndone result → IsKept first.old first.new }
+    ensures second { IsUndone result → IsKept second.old second.new }
+    ensures query { IsQuery command.now → IsKept first.old first.new × IsKept second.old second.new }
+    ensures word { IfOk result (λ text. SaysDone command.now text) }
+    ensures stays { (b : Behaviour) (hs : Hosts) (st : SessionState) → AreThere b L.conduct (L.world talk.old.memory.below.below.below.link) first.old (Some second.old) hs → AreReadyFor first.old (Some second.old) hs st → SetsBreaks command.now → result ≡ Err AskFault.NoMemory
+        → StaysAt b L.conduct (L.world talk.new.memory.below.below.below.link) first.old.which hs.first }
+    ensures meant { (b : Behaviour) (hs : Hosts) (st : SessionState) → AreThere b L.conduct (L.world talk.old.memory.below.below.below.link) first.old (Some second.old) hs → AreReadyFor first.old (Some second.old) hs st → IsInquiry command.now
+        → ComesTo (L.faults talk.old.memory.below.below.below.link) (L.faults talk.new.memory.below.below.below.link) (λ text. SaidAll b L.conduct (L.world talk.new.memory.below.below.below.link) first.new (Some second.new) st (DoneOnBoth st command.now) text) (NotAll b L.conduct (L.world talk.new.memory.below.below.below.link) first.new (Some second.new) st (DoneOnBoth st command.now)) result }
+{
+    let words = match words_before(talk, first, command) {
+        Ok(words) => words,
+        Err(fault) => return Err(fault),
+    };
+    asked_behind(talk, first, second, command, words.as_slice())
 }
 
 /// What `regs` says of both sides, the first one first.

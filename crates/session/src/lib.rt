@@ -14,6 +14,7 @@ mod replies;
 mod resumes;
 mod sides;
 mod start;
+mod undoing;
 
 pub use answers::{Answer, End, StartFault};
 pub use conversation::Session;
