@@ -131,16 +131,7 @@ impl Sessions {
         } else {
             called(alloc, &list, &mut files, &mut source, &mut sink)
         };
-        let transcript = Vec::from_slice(alloc, sink.bytes())?;
-        let output = match files.get("out") {
-            Some(bytes) => Some(Vec::from_slice(alloc, bytes)?),
-            None => None,
-        };
-        Ok(Outcome {
-            status,
-            transcript,
-            output,
-        })
+        outcome_of(alloc, status, &files, &sink)
     }
 
     /// Whether a transcript is the right one or, of a session that did not end well, its front, or one of the others.
@@ -199,9 +190,10 @@ impl Sessions {
             "or" => {
                 self.told.push(held)?;
             }
-            "one" => return self.append_whole("mips", out),
-            "all" => return self.append_all(out),
-            "rebuilt" => return self.append_rebuilt(text, out),
+            "one" => return self.append_whole("mips", parts, out),
+            "all" => return self.append_all(parts, out),
+            "rebuilt" => return self.append_rebuilt(text, parts, out),
+            "coded" => return self.append_coded(text, out),
             "compiled" => return self.append_compiled([text, part(parts, 1)], out),
             "faulty" => return self.wrong().append_faulty(text, part(parts, 1), out),
             _ => return self.append_session(kind, text, out),
@@ -275,20 +267,25 @@ impl Sessions {
         }
     }
 
-    /// Appends the status of a session with the word of this target, its output file between quotes, and its transcript.
-    fn append_whole(&self, target: &str, out: &mut Vec<u8>) -> Result<(), AllocError> {
+    /// Appends the status of a session with the word of this target, its output file between quotes, and its transcript, of which each line that begins with one of these fronts is cut behind it.
+    fn append_whole(
+        &self,
+        target: &str,
+        fronts: &[Vec<u8>],
+        out: &mut Vec<u8>,
+    ) -> Result<(), AllocError> {
         let outcome = self.outcome(target, [&[], &[], &[]], false)?;
-        append_outcome(self.alloc, &outcome, out)
+        append_outcome(self.alloc, &outcome, fronts, out)
     }
 
     /// Appends what sessions for both targets and for both at once came to: once where they came to the same.
-    fn append_all(&self, out: &mut Vec<u8>) -> Result<(), AllocError> {
+    fn append_all(&self, fronts: &[Vec<u8>], out: &mut Vec<u8>) -> Result<(), AllocError> {
         let mut mips = Vec::new(self.alloc);
-        self.append_whole("mips", &mut mips)?;
+        self.append_whole("mips", fronts, &mut mips)?;
         out.extend_from_slice(&mips)?;
         for target in ["sparc", "both"] {
             let mut other = Vec::new(self.alloc);
-            self.append_whole(target, &mut other)?;
+            self.append_whole(target, fronts, &mut other)?;
             if mips != other {
                 append(out, " and ")?;
                 out.extend_from_slice(&other)?;
@@ -297,23 +294,83 @@ impl Sessions {
         Ok(())
     }
 
-    /// Appends what a session came to over the image and the table that `cc` wrote for this target.
-    fn append_rebuilt(&self, target: &[u8], out: &mut Vec<u8>) -> Result<(), AllocError> {
+    /// What a session with these commands came to over the image and the table that `cc` wrote for this target, behind what `cc` printed.
+    fn rebuilt(
+        &self,
+        target: &str,
+        commands: Vec<u8>,
+        printed: &mut Vec<u8>,
+    ) -> Result<Outcome, AllocError> {
         let alloc = self.alloc;
-        let target = std::str::from_utf8(target).unwrap_or("");
         let mut files = self.files(Vec::new(alloc))?;
         let built = list_of(alloc, ["cc", target, "image", "table", "a.c"])?;
         let mut none = MemSource::new(Vec::new(alloc), Vec::new(alloc));
         let mut sink = MemSink::new(Vec::new(alloc), Vec::new(alloc));
         let _built = called(alloc, &built, &mut files, &mut none, &mut sink);
-        append_escaped(alloc, out, sink.bytes())?;
+        printed.extend_from_slice(sink.bytes())?;
         let debugged = list_of(alloc, ["debug", "image", "table", "in", "out"])?;
-        let commands = Vec::from_slice(alloc, &self.commands)?;
         let mut source = MemSource::new(commands, Vec::new(alloc));
         let mut sink = MemSink::new(Vec::new(alloc), Vec::new(alloc));
         let status = called(alloc, &debugged, &mut files, &mut source, &mut sink);
-        append(out, format!(in alloc; "{status:?} ")?.as_str())?;
-        append_escaped(alloc, out, sink.bytes())
+        outcome_of(alloc, status, &files, &sink)
+    }
+
+    /// Appends what `cc` printed and what a session over what it wrote for this target came to, and whether `go` comes to the same.
+    fn append_rebuilt(
+        &self,
+        target: &[u8],
+        fronts: &[Vec<u8>],
+        out: &mut Vec<u8>,
+    ) -> Result<(), AllocError> {
+        let alloc = self.alloc;
+        let target = std::str::from_utf8(target).unwrap_or("");
+        let mut printed = Vec::new(alloc);
+        let commands = Vec::from_slice(alloc, &self.commands)?;
+        let debugged = self.rebuilt(target, commands, &mut printed)?;
+        append_escaped(alloc, out, &printed)?;
+        append_outcome(alloc, &debugged, fronts, out)?;
+        let mut whole = Vec::new(alloc);
+        append_outcome(alloc, &debugged, &[], &mut whole)?;
+        let mut wanted = Vec::new(alloc);
+        self.append_whole(target, &[], &mut wanted)?;
+        append(
+            out,
+            if whole == wanted {
+                " as go"
+            } else {
+                " otherwise than go"
+            },
+        )
+    }
+
+    /// The last line of a session over what `cc` wrote for this target, where a command with this text follows the others.
+    fn last_line(&self, target: &str, command: &str, text: &[u8]) -> Result<Vec<u8>, AllocError> {
+        let alloc = self.alloc;
+        let mut commands = Vec::from_slice(alloc, &self.commands)?;
+        for piece in [command.as_bytes(), text, b"\n"] {
+            commands.extend_from_slice(piece)?;
+        }
+        let outcome = self.rebuilt(target, commands, &mut Vec::new(alloc))?;
+        let transcript = std::str::from_utf8(&outcome.transcript).unwrap_or("");
+        let line = transcript.lines().last().unwrap_or("");
+        Vec::from_slice(alloc, line.as_bytes())
+    }
+
+    /// Appends what `eval` answers to an expression and what `ps` answers there to the text that `code` answers, for both targets: once where these are the same.
+    fn append_coded(&self, expression: &[u8], out: &mut Vec<u8>) -> Result<(), AllocError> {
+        let mut before = Vec::new(self.alloc);
+        for target in ["mips", "sparc"] {
+            let mut said = self.last_line(target, "eval ", expression)?;
+            let code = self.last_line(target, "code ", expression)?;
+            let left = self.last_line(target, "ps ", code.get(5..).unwrap_or(&[]))?;
+            append(&mut said, " and ")?;
+            said.extend_from_slice(&left)?;
+            if before != said {
+                append_escaped(self.alloc, out, &said)?;
+            }
+            before = said;
+        }
+        Ok(())
     }
 }
 
@@ -326,8 +383,42 @@ fn list_of(alloc: Global, words: [&str; 5]) -> Result<Vec<String>, AllocError> {
     Ok(list)
 }
 
-/// Appends the status of a session, its output file between quotes, and its transcript.
-fn append_outcome(alloc: Global, outcome: &Outcome, out: &mut Vec<u8>) -> Result<(), AllocError> {
+/// What a call came to, over these files and with this transcript.
+fn outcome_of(
+    alloc: Global,
+    status: Status,
+    files: &MemFiles,
+    sink: &MemSink,
+) -> Result<Outcome, AllocError> {
+    let transcript = Vec::from_slice(alloc, sink.bytes())?;
+    let output = match files.get("out") {
+        Some(bytes) => Some(Vec::from_slice(alloc, bytes)?),
+        None => None,
+    };
+    Ok(Outcome {
+        status,
+        transcript,
+        output,
+    })
+}
+
+/// A line, or the first of these fronts with which it begins, but for empty ones.
+fn front_of<'a>(line: &'a [u8], fronts: &[Vec<u8>]) -> &'a [u8] {
+    for front in fronts {
+        if !front.is_empty() && line.starts_with(front) {
+            return line.get(..front.len()).unwrap_or(line);
+        }
+    }
+    line
+}
+
+/// Appends the status of a session, its output file between quotes, and its transcript, of which each line that begins with one of these fronts is cut behind it.
+fn append_outcome(
+    alloc: Global,
+    outcome: &Outcome,
+    fronts: &[Vec<u8>],
+    out: &mut Vec<u8>,
+) -> Result<(), AllocError> {
     let status = outcome.status;
     append(out, format!(in alloc; "{status:?} ")?.as_str())?;
     match &outcome.output {
@@ -338,5 +429,12 @@ fn append_outcome(alloc: Global, outcome: &Outcome, out: &mut Vec<u8>) -> Result
         }
         None => append(out, "none ")?,
     }
-    append_escaped(alloc, out, &outcome.transcript)
+    let transcript = std::str::from_utf8(&outcome.transcript).unwrap_or("?");
+    for (number, line) in transcript.split('\n').enumerate() {
+        if number > 0 {
+            append(out, "\\n")?;
+        }
+        append_escaped(alloc, out, front_of(line.as_bytes(), fronts))?;
+    }
+    Ok(())
 }
