@@ -22,16 +22,15 @@ use Rattle.ps_step.specs.Keys.{or_else, found_in, named}
 use Rattle.ps_text.specs.Code.{Code, Stop, Num, Word, Lit, Text, Proc}
 use Rattle.ps_text.specs.Grown.{HasArray, IsArray}
 use Rattle.ps_text.specs.Spells.{Spells}
-use Rattle.ps_tables.specs.Dictionaries.{Fields, AreFields}
+use Rattle.ps_tables.specs.Dictionaries.{Fields}
 use Rattle.ps_tables.specs.Making.{AreThere, IsMaking, HasFields}
 use Rattle.ps_tables.specs.Later.{IsThere, IsOpen, Later, StandsAt}
 use Rattle.ps_tables.specs.Defined.{in_table}
-use Rattle.ps_tables.specs.Types.{Type', Basic, Nothing, To, Many, Numbered, IsSized, IsType, of_arrays}
 use Rattle.ps_tables.specs.Senses.{Sense, Stands, Sized, Kind, Variables, Called, Structs, Listing, basic_fields, variable_fields, IsStruct, AreStructs, IsOf, HasSense, Senses, HaveSenses, AreOther, Knowing}
-use Rattle.ps_tables.proofs.Types.{fields_value}
-use Rattle.ps_tables.proofs.News.{fields_kept}
 use Rattle.ps_tables.proofs.Known.{apart_by}
+use Rattle.unit_tables.specs.Kept.{Elsewhere, Lacks}
 use Rattle.unit_tables.specs.Amended.{PutsUnder, Amended, HasNoNames}
+use Rattle.unit_tables.proofs.Elsewhere.{found_kept, all_there, there_kept, body_kept, named_kept}
 
 -- ---- how a store comes of another one
 
@@ -113,49 +112,17 @@ module _ (u i : ℕ) (s s' : StoreState) (amended : Amended u (in_table i) s s')
   abbrev D : DictId
   D = in_table i
 
-  pub there_amended : (e : DictId) → same_dict e D ≡ false → IsThere s e → IsThere s' e
-  there_amended e apart there = (amended.dicts e apart there).0
-
-  others_there : (ds : List DictId) → AreOther ds D → AreThere s ds → AreThere s' ds
-  others_there [] other h = tt
-  others_there (d ∷ ds) other h = (there_amended d other.0 h.0, others_there ds other.1 h.1)
-
-  pub found_amended : (ds : List DictId) (key : Key) → AreOther ds D → AreThere s ds → found_in s' ds key ≡ found_in s ds key
-  found_amended [] key other h = refl
-  found_amended (d ∷ ds) key other h =
-      ap (λ (es : List (Key × Pair)). or_else (value_at es key) (found_in s' ds key)) (amended.dicts d other.0 h.0).1
-      ∙ ap (or_else (value_at (entries_of s d) key)) (found_amended ds key other.1 h.1)
+  pub elsewhere : Elsewhere D s s'
+  elsewhere = record { strings = amended.strings; arrays = amended.arrays; dicts = amended.dicts }
 
   pub named_amended : (ds : List DictId) (word : List ℕ) → AreOther ds D → AreThere s (D ∷ ds) → named s' (D ∷ ds) word ≡ named s (D ∷ ds) word
   named_amended ds word other h =
       ap (λ (o : Option PsObj). or_else o (option_map (λ n. Op n) (operator_number word)))
       (ap (λ (x : Option PsObj). or_else x (found_in s' ds (NameKey word))) (amended.names h.0 word)
-      ∙ ap (or_else (value_at (entries_of s D) (NameKey word))) (found_amended ds (NameKey word) other h.1))
+      ∙ ap (or_else (value_at (entries_of s D) (NameKey word))) (found_kept D s s' elsewhere ds (NameKey word) other h.1))
 
   pub no_names_amended : IsThere s D → HasNoNames s D → HasNoNames s' D
   no_names_amended there none name = amended.names there name ∙ none name
-
-  pub fields_amended : (d : DictId) (fields : Fields) → same_dict d D ≡ false → HasFields s d fields → HasFields s' d fields
-  fields_amended d fields apart has =
-      let kept = amended.dicts d apart has.is_there in
-      record {
-        is_there = kept.0;
-        are = subst (λ (es : List (Key × Pair)). AreFields s' es fields) (sym kept.1) (fields_kept s s' amended.strings (entries_of s d) fields has.are);
-        short = has.short;
-      }
-
-  pub spells_amended : (k : Code) (xs : List PsObj) → Spells s xs k → Spells s' xs k
-  spells_amended Stop xs h = h
-  spells_amended (Num n rest) xs h = (h.0, h.1, spells_amended rest h.0 h.2)
-  spells_amended (Word word rest) xs h = (h.0, h.1, h.2, amended.strings h.0 word h.3, spells_amended rest h.1 h.4)
-  spells_amended (Lit word rest) xs h = (h.0, h.1, h.2, amended.strings h.0 word h.3, spells_amended rest h.1 h.4)
-  spells_amended (Text bytes rest) xs h = (h.0, h.1, h.2, amended.strings h.0 bytes h.3, spells_amended rest h.1 h.4)
-  spells_amended (Proc body rest) xs h = (h.0, h.1, h.2, h.3, amended.arrays h.0 h.1 h.4, spells_amended body h.1 h.5, spells_amended rest h.2 h.6)
-
-  pub body_amended : (k : Code) (a : ArrayId) → HasArray s a → Spells s (elements_of s a) k → HasArray s' a × Spells s' (elements_of s' a) k
-  body_amended k a has h =
-      let kept : IsArray s' a (elements_of s a) = amended.arrays a (elements_of s a) (record { has = has; items = refl }) in
-      (kept.has, subst (λ (xs : List PsObj). Spells s' xs k) (sym kept.items) (spells_amended k (elements_of s a) h))
 
   pub stands_amended : (t : StringId) (at : ℕ) (rest : List ℕ) → StandsAt s t at rest → StandsAt s' t at rest
   stands_amended t at rest h = record { text = h.text; lead = h.lead; is_lead = h.is_lead; is = amended.strings t h.text h.is; here = h.here; within = h.within }
@@ -165,35 +132,21 @@ module _ (u i : ℕ) (s s' : StoreState) (amended : Amended u (in_table i) s s')
 
   -- a dictionary in which something stands under a name is another one
   module _ (none : HasNoNames s D) where
-    pub other_by : (d : DictId) (name : List ℕ) (v : PsObj) → value_at (entries_of s d) (NameKey name) ≡ Some v → same_dict d D ≡ false
-    other_by d name v has = apart_by s d D (NameKey name) v has (none name)
+    pub lacks_all : Lacks s D
+    lacks_all = record { kind = none (codes "kind"); line = none (codes "line"); name = none (codes "name"); size = none (codes "size") }
 
-    pub value_amended : (d : DictId) (name : List ℕ) (v : PsObj) → IsThere s d → value_at (entries_of s d) (NameKey name) ≡ Some v → value_at (entries_of s' d) (NameKey name) ≡ Some v
-    value_amended d name v there has = ap (λ (es : List (Key × Pair)). value_at es (NameKey name)) (amended.dicts d (other_by d name v has) there).1 ∙ has
-
-    pub sized_amended : (x : PsObj) (n : ℕ) → IsSized s x n → IsSized s' x n
-    sized_amended x n h = record { dict = h.dict; is = h.is; there = there_amended h.dict (other_by h.dict (codes "size") _ h.has) h.there; has = value_amended h.dict (codes "size") _ h.there h.has }
-
-    pub type_amended : (x : PsObj) (t : Type') → IsType s x t → IsType s' x t
-    type_amended x Nothing h = h
-    type_amended x (Basic word size) h = sized_amended x size h
-    type_amended x (To t) h = sized_amended x 4 h
-    type_amended x (Many t n) h = sized_amended x _ h
-    type_amended x (Numbered n size) h = sized_amended x size h
-
-    pub named_fields : (d : DictId) (kind : PsObj) (fields : Fields) → HasFields s d ((codes "kind", kind) ∷ fields) → HasFields s' d ((codes "kind", kind) ∷ fields)
-    named_fields d kind fields has =
-        fields_amended d ((codes "kind", kind) ∷ fields) (other_by d (codes "kind") kind (fields_value s (entries_of s d) ((codes "kind", kind) ∷ fields) (codes "kind") has.are)) has
+    named_fields : (d : DictId) (kind : PsObj) (fields : Fields) → HasFields s d ((codes "kind", kind) ∷ fields) → HasFields s' d ((codes "kind", kind) ∷ fields)
+    named_fields d kind fields has = named_kept D s s' elsewhere lacks_all d kind fields has
 
     struct_amended : (few : ℕ) (x : PsObj) (d : StructDef) → IsStruct s few x d → IsStruct s' few x d
     struct_amended few x d h =
-        let apart : same_dict h.dict D ≡ false = other_by h.dict (codes "tag") h.tag h.tagged in
+        let apart : same_dict h.dict D ≡ false = apart_by s h.dict D (NameKey (codes "tag")) h.tag h.tagged (none (codes "tag")) in
         let same : entries_of s' h.dict ≡ entries_of s h.dict = (amended.dicts h.dict apart h.there).1 in
         record {
           dict = h.dict;
           is = h.is;
           opened = open_amended h.dict h.opened;
-          there = there_amended h.dict apart h.there;
+          there = there_kept D s s' elsewhere h.dict apart h.there;
           size = ap (λ (es : List (Key × Pair)). value_at es (NameKey (codes "size"))) same ∙ h.size;
           small = subst (λ (es : List (Key × Pair)). length es ≤ few) (sym same) h.small;
           tag = h.tag;
@@ -211,7 +164,7 @@ module _ (u i : ℕ) (s s' : StoreState) (amended : Amended u (in_table i) s s')
     is_of_amended x (Sized size) h = (h.0, h.1, h.2, h.3, named_fields h.0 h.1 _ h.4)
     is_of_amended x Kind h = (h.0, h.1, h.2, h.3, named_fields h.0 h.1 _ h.4)
     is_of_amended x Variables h = (h.0, h.1, h.2, named_fields h.0 h.1 _ h.3)
-    is_of_amended x (Called body) h = let b = body_amended body h.0 h.2 h.3 in (h.0, h.1, b.0, b.1)
+    is_of_amended x (Called body) h = let b = body_kept D s s' elsewhere body h.0 h.2 h.3 in (h.0, h.1, b.0, b.1)
     is_of_amended x (Structs few defs) h = (h.0, h.1, h.2, amended.arrays h.0 h.1 h.3, structs_amended few h.1 defs h.4)
     is_of_amended x Listing h = h
 
@@ -227,7 +180,7 @@ module _ (u i : ℕ) (s s' : StoreState) (amended : Amended u (in_table i) s s')
         record {
           part = amended.part ∙ is.part;
           closed = subst (λ (m : Mark). m.dicts ≤ length s'.table.dicts) (sym amended.closed) few;
-          there = (amended.own is.there.0, others_there ds other is.there.1);
+          there = (amended.own is.there.0, all_there D s s' elsewhere ds other is.there.1);
           operators = λ name n e. named_amended ds name other is.there ∙ is.operators name n e;
         }
 

@@ -14,6 +14,8 @@ use Rattle.ps_store.specs.declared.object.PsObj.TheVariants.{Int, Bool as Truth,
 use Rattle.ps_store.specs.declared.object.ArrayId.{ArrayId}
 use Rattle.ps_store.specs.declared.object.DictId.{DictId}
 use Rattle.ps_store.specs.declared.object.StringId.{StringId}
+use Rattle.ps_store.specs.declared.key.Key.TheVariants.{Name as NameKey}
+use Rattle.ps_store.specs.Entries.{value_at}
 use Rattle.ps_store.specs.Operators.{operator_number}
 use Rattle.ps_store.specs.StoreState.{StoreState}
 use Rattle.ps_store.specs.Store.{entries_of, text_units}
@@ -33,18 +35,17 @@ use Rattle.ps_emit.specs.Functions.{truth, saved_register, saved_code, points_co
 use Rattle.ps_emit.specs.Lengths.{IsInteger}
 use Rattle.ps_tables.specs.Taken.{Takes}
 use Rattle.ps_tables.specs.Dictionaries.{Fields, filled}
-use Rattle.ps_tables.specs.Making.{IsMaking, HasFields}
+use Rattle.ps_tables.specs.Making.{IsMaking, HasFields, AreShort}
 use Rattle.ps_tables.specs.Later.{Later, StandsAt}
-use Rattle.ps_tables.specs.Makers.{body, MadeBy}
+use Rattle.ps_tables.specs.Makers.{body, calls, MadeBy}
 use Rattle.ps_tables.specs.TableWords.{new_function}
 use Rattle.ps_tables.specs.Pieces.{Piece, End, Number, Chars, Value, Row, code, cost, steps, left_by, IsValue, Gives, truth as gives_true, falsehood, Knows, HasRoom, Values, Bottom, This, Written, Listed, after, Show, Performs}
 use Rattle.ps_tables.specs.TablePieces.{saved}
 use Rattle.ps_tables.specs.Defined.{in_table}
 use Rattle.ps_tables.specs.Senses.{Called, HasSense}
-use Rattle.ps_tables.specs.WordsKnown.{Printers, function_body}
-use Rattle.ps_tables.specs.PartsKnown.{with_structs}
+use Rattle.ps_tables.specs.WordsKnown.{word_senses, function_body}
 use Rattle.ps_tables.proofs.Going.{takes_then, takes_one}
-use Rattle.ps_tables.proofs.Types.{fields_value}
+use Rattle.ps_tables.proofs.Types.{value_of, fields_value}
 use Rattle.ps_tables.proofs.TypeTexts.{small_integer}
 use Rattle.ps_tables.proofs.Tokens.{Pushed}
 use Rattle.ps_tables.proofs.PieceSteps.{open_fine, open_number, opens, Closes, closes}
@@ -196,9 +197,64 @@ functions_few program fs (x ∷ xs) = on (slice_get program.functions x) (slice_
     on (Some f) None h = omega arith
     on (Some f) (Some at) h = omega arith
 
+-- ---- room
+
+abbrev function_keys : List (List ℕ)
+function_keys = codes "points" ∷ codes "saved" ∷ codes "frame" ∷ codes "end" ∷ codes "entry" ∷ codes "static" ∷ codes "name" ∷ []
+
+keys_short : AreShort function_keys
+keys_short = (omega arith, (omega arith, (omega arith, (omega arith, (omega arith, (omega arith, (omega arith, tt)))))))
+
+few_keys : length function_keys ≤ 90
+few_keys = omega arith
+
+no_calls : calls new_function ≤ 80
+no_calls = omega arith
+
+seven : 7 ≤ 7
+seven = omega arith
+
+-- of an array of points: so many units for them, and what was made before
+module _ (before rows points : ℕ) (room : before + (5 + rows + points) ≤ 8000000) where
+  room_mark : before + 2 ≤ 8000000
+  room_mark = omega arith
+
+  room_points : (a : ℕ) → a ≤ before + 2 → a + points ≤ 8000000
+  room_points a made_a = omega arith
+
+  room_close : (a : ℕ) → a ≤ before + 2 → (b items : ℕ) → b ≤ a + points → items ≡ rows → b + (2 + (1 + items)) ≤ 8000000
+  room_close a made_a b items made_b same = omega arith
+
+fits_row : (rows points items : ℕ) → items ≡ rows → 2 + points + (2 + (1 + items)) ≤ 5 + rows + points
+fits_row rows points items same = omega arith
+
+row_steps : (n : ℕ) → further 1 (further n 1) ≡ 2 + n
+row_steps n = let f = further_is n 1 in omega arith
+
+-- of a function: its name, its saved registers, its points
+module _ (before name saved rows points : ℕ) (room : before + (name + 22 + 8 * saved + rows + points) ≤ 8000000) where
+  room_front : before + (name + 7 + 8 * saved) ≤ 8000000
+  room_front = omega arith
+
+  module _ (a : ℕ) (made_a : a ≤ before + (name + 7 + 8 * saved)) where
+    room_row : a + (5 + rows + points) ≤ 8000000
+    room_row = omega arith
+
+    room_word : (b : ℕ) → b ≤ a + (5 + rows + points) → b + 10 ≤ 8000000
+    room_word b made_b = omega arith
+
+fits_all : (name saved rows points : ℕ) → name + 7 + 8 * saved + (5 + rows + points + 10) ≤ name + 22 + 8 * saved + rows + points
+fits_all name saved rows points = omega arith
+
+few_items : (items rows points : ℕ) → items ≡ rows → rows ≤ points → points ≤ 40000 → items ≤ 1000000
+few_items items rows points same less few = omega arith
+
+all_steps : (saved points : ℕ) → further (7 + 4 * saved) (further (2 + points) 45) ≡ 54 + 4 * saved + points
+all_steps saved points = let e = further_is (7 + 4 * saved) (further (2 + points) 45) in let f = further_is (2 + points) 45 in omega arith
+
 -- ---- runs
 
-module _ (program : Program) (fs : List Placed) (is_unit : RunsUnits program fs) (pr : Printers) (few i : ℕ) (ds : List DictId) (t : StringId) (under : List Item) (items_fit : length under + 100 ≤ 1000) (post : List ℕ) where
+module _ (program : Program) (fs : List Placed) (is_unit : RunsUnits program fs) (i : ℕ) (ds : List DictId) (t : StringId) (under : List Item) (items_fit : length under + 100 ≤ 1000) (post : List ℕ) where
   abbrev D : DictId
   D = in_table i
 
@@ -206,7 +262,7 @@ module _ (program : Program) (fs : List Placed) (is_unit : RunsUnits program fs)
   all = D ∷ ds
 
   abbrev Done : StoreState → ℕ → Type 0
-  Done s made = Running pr few program.defs program.symbols (length program.objects) s i ds made (IsMade program.symbols made)
+  Done s made = Running program.defs program.symbols (length program.objects) s i ds made (IsMade program.symbols made)
 
   rows_few : (xs addresses : List ℕ) → length (point_rows program.defs program.symbols program.points xs addresses) ≤ length xs
   rows_few [] addresses = omega arith
@@ -306,115 +362,179 @@ module _ (program : Program) (fs : List Placed) (is_unit : RunsUnits program fs)
         takes = subst (λ (j : ℕ). Takes j c₀ (core s₁ all (Array a false ∷ Int (signed at.frame) ∷ Int (signed at.end) ∷ Int (signed at.entry) ∷ Truth f.is_static ∷ Str v₅.0 false ∷ o) (TextItem t p.to ∷ under))) number there;
       }
 
+  -- the array of its points
+  record PointsRow (f : Function) (at : Placed) (made : ℕ) (s : StoreState) (o : List PsObj) (from : ℕ) (rest : List ℕ) : Type 0 where
+    pub store : StoreState
+    pub array : ArrayId
+    pub items : List PsObj
+    pub to : ℕ
+    pub running : Done store (made_by program fs made f.points at.points)
+    pub holds : IsArray store array items
+    pub are : ArePoints store program.defs program.symbols items (rows_of program fs f at)
+    pub amended : Amended (5 + length (rows_of program fs f at) + points_made program.defs program.symbols program.points (homes at.locals f.locals) made f.points at.points) D s store
+    pub stands : StandsAt store t to rest
+    pub takes : Takes (2 + points_steps program.defs program.symbols program.points made f.points at.points) (core s all o (TextItem t from ∷ under)) (core store all (Array array false ∷ o) (TextItem t to ∷ under))
+
+  points_row : (made : ℕ) (f : Function) (at : Placed) (k : Code) (s : StoreState) (o : List PsObj) (from : ℕ) → RunsFunction f → RunsPlaced at → AreFollowed program.defs program.symbols program.points made f.points at.points → made ≤ length program.symbols
+      → Done s made → length o ≤ 50010 → s.table.units + s.command.units + (5 + length (rows_of program fs f at) + points_made program.defs program.symbols program.points (homes at.locals f.locals) made f.points at.points) ≤ 8000000
+      → StandsAt s t from (render (Word (codes "[") (points_code program fs (homes at.locals f.locals) made f.points at.points ⋯ Word (codes "]") k)) ++ post) → PointsRow f at made s o from (render k ++ post)
+  points_row made f at k s o from of_function placed followed bound run stack room stands =
+      let few_points = of_function.few_points in
+      let fits_mark : length o + 110 ≤ 100000 = omega arith in
+      let fits_points : suc (length o) + length f.points + 131 ≤ 100000 = omega arith in
+      let rows : List (Point × ℕ) = rows_of program fs f at in
+      let h : Homes = homes at.locals f.locals in
+      let m₁ : ℕ = made_by program fs made f.points at.points in
+      let c : ℕ = points_made program.defs program.symbols program.points h made f.points at.points in
+      let n : ℕ = points_steps program.defs program.symbols program.points made f.points at.points in
+      let before : ℕ = s.table.units + s.command.units in
+      let points : Code = points_code program fs h made f.points at.points in
+      let closing : Code = Word (codes "]") k in
+      let u : ℕ = units (Word (codes "[") Stop) in
+      let begun : Pushed s all o t from under Mark u (render (points ⋯ closing) ++ post) =
+      opens all t under post s (codes "[") 9 open_fine open_number (λ c. refl) (points ⋯ closing) o from run.knowing.making stands (room_mark before (length rows) c room) fits_mark in
+      let s₁ : StoreState = begun.store in
+      let counted₁ : s₁.table.units + s₁.command.units ≤ s.table.units + s.command.units + u = begun.later.counted in
+      let run₁ : Done s₁ made = running_later program.defs program.symbols (length program.objects) i ds u made (IsMade program.symbols made) s s₁ begun.later run in
+      let r : PointsDone program fs is_unit i ds t under items_fit post h (all_places f at placed) c n s₁ m₁ (Mark ∷ o) begun.to (render closing ++ post) rows =
+      points_done program fs is_unit i ds t under items_fit post h (all_places f at placed) f.points at.points closing made s₁ (Mark ∷ o) begun.to followed bound run₁ fits_points
+      (room_points before (length rows) c room (s₁.table.units + s₁.command.units) counted₁) begun.stands in
+      let s₂ : StoreState = r.store in
+      let counted₂ : s₂.table.units + s₂.command.units ≤ s₁.table.units + s₁.command.units + c = r.amended.counted in
+      let is₂ : IsMaking s₂ all = r.running.knowing.making in
+      let many : length r.items ≡ length rows = r.many in
+      let v : ℕ = units (Word (codes "]") Stop) + (1 + length r.items) in
+      let w : Closes s₂ all is₂ t under r.items o r.to (render k ++ post) v =
+      closes s₂ all is₂ t under (these r.items) k post r.items o r.to (show_these s₂ r.items r.values) (few_items (length r.items) (length rows) (length f.points) many (rows_few f.points at.points) few_points)
+      (room_close before (length rows) c room (s₁.table.units + s₁.command.units) counted₁ (s₂.table.units + s₂.command.units) (length r.items) counted₂ many) r.stands in
+      let s₃ : StoreState = w.store in
+      let a₁ : Amended u D s s₁ = later_amended u D s s₁ begun.later in
+      let a₂ : Amended v D s₂ s₃ = later_amended v D s₂ s₃ w.later in
+      let k₀ : PsCore = core s all o (TextItem t from ∷ under) in
+      let k₁ : PsCore = core s₁ all (Mark ∷ o) (TextItem t begun.to ∷ under) in
+      let k₂ : PsCore = core s₂ all (r.items ++ Mark ∷ o) (TextItem t r.to ∷ under) in
+      let k₃ : PsCore = core s₃ all (Array w.array false ∷ o) (TextItem t w.to ∷ under) in
+      let going : Takes (further 1 (further n 1)) k₀ k₃ = takes_then 1 (further n 1) k₀ k₁ k₃ (takes_one k₀ k₁ begun.steps) (takes_then n 1 k₁ k₂ k₃ r.takes (takes_one k₂ k₃ w.steps)) in
+      record {
+        store = s₃;
+        array = w.array;
+        items = reverse r.items;
+        to = w.to;
+        running = running_later program.defs program.symbols (length program.objects) i ds v m₁ (IsMade program.symbols m₁) s₂ s₃ w.later r.running;
+        holds = w.is_array;
+        are = points_amended v i s₂ s₃ a₂ r.running.nameless program.defs program.symbols (reverse r.items) rows r.are;
+        amended = amended_within (u + c + v) (5 + length rows + c) D s s₃ (fits_row (length rows) c (length r.items) many) (amended_then (u + c) v D s s₂ s₃ (amended_then u c D s s₁ s₂ a₁ r.amended) a₂);
+        stands = w.stands;
+        takes = subst (λ (j : ℕ). Takes j k₀ k₃) (row_steps n) going;
+      }
+
+  -- the word that makes its dictionary
+  record WordDone (zs : List PsObj) (s : StoreState) (o : List PsObj) (from : ℕ) (rest : List ℕ) : Type 0 where
+    pub store : StoreState
+    pub dict : DictId
+    pub to : ℕ
+    pub later : Later 10 s store
+    pub has : HasFields store dict (filled [] function_keys zs)
+    pub stands : StandsAt store t to rest
+    pub takes : Takes 45 (core s all (zs ++ o) (TextItem t from ∷ under)) (core store all (Dict dict ∷ o) (TextItem t to ∷ under))
+
+  word_done : (made : ℕ) (a b c d e f g : PsObj) (k : Code) (s : StoreState) (o : List PsObj) (from : ℕ) → Done s made → length o ≤ 50000 → s.table.units + s.command.units + 10 ≤ 8000000
+      → StandsAt s t from (render (Word (codes "NewFunction") k) ++ post) → WordDone (a ∷ b ∷ c ∷ d ∷ e ∷ f ∷ g ∷ []) s o from (render k ++ post)
+  word_done made a b c d e f g k s o from run stack room stands =
+      let fits_seven : suc (suc (suc (suc (suc (suc (suc (length o))))))) + 110 ≤ 100000 = omega arith in
+      let zs : List PsObj = a ∷ b ∷ c ∷ d ∷ e ∷ f ∷ g ∷ [] in
+      let word : List ℕ = codes "NewFunction" in
+      let is : IsMaking s all = run.knowing.making in
+      let sense : HasSense s all word (Called function_body) = sense_is s all word_senses word (Called function_body) run.knowing.have refl in
+      let means : Means s all word (Does (body new_function)) = (sense.2.0, sense.1 ∙ ap Some sense.2.1, sense.2.2, sense.2.3) in
+      let w = makes_exactly s all is t under word new_function k post zs o from 7 new_function_fine means (keys_short, few_keys) refl no_calls fits_seven room items_fit stands
+      (λ s' fields same. subst (λ (x : Fields). length x ≤ 7) (sym same) seven) in
+      let m : MakesDict s all is t under 45 w.0 (zs ++ o) o from (render k ++ post) 10 = w.1 in
+      record { store = m.store; dict = m.dict; to = m.to; later = m.later; has = subst (λ (x : Fields). HasFields m.store m.dict x) w.2.1 m.has; stands = m.stands; takes = m.takes }
+
+  -- what is known of the dictionary
+  function_is : (s₁ s₂ s₃ : StoreState) (f : Function) (at : Placed) (rows : List (Point × ℕ)) (u v : ℕ) → Amended u D s₁ s₃ → Amended v D s₂ s₃ → HasNoNames s₁ D → HasNoNames s₂ D → (dict : DictId) (name : StringId) (saved points : ArrayId)
+      (registers items : List PsObj) → IsString s₁ name f.name → IsArray s₁ saved registers → AreSaved s₁ registers at.saved → IsArray s₂ points items → ArePoints s₂ program.defs program.symbols items rows
+      → HasFields s₃ dict (filled [] function_keys (Array points false ∷ Array saved false ∷ Int (signed at.frame) ∷ Int (signed at.end) ∷ Int (signed at.entry) ∷ Truth f.is_static ∷ Str name false ∷ []))
+      → IsFunction s₃ program.defs program.symbols (Dict dict) f at rows
+  function_is s₁ s₂ s₃ f at rows u v a b none₁ none₂ dict name saved points registers items named holds are held points_are has =
+      let zs : List PsObj = Array points false ∷ Array saved false ∷ Int (signed at.frame) ∷ Int (signed at.end) ∷ Int (signed at.entry) ∷ Truth f.is_static ∷ Str name false ∷ [] in
+      let value : (key : List ℕ) → value_at (entries_of s₃ dict) (NameKey key) ≡ value_of (filled [] function_keys zs) key = λ key. fields_value s₃ (entries_of s₃ dict) (filled [] function_keys zs) key has.are in
+      record {
+        dict = dict;
+        is = refl;
+        there = has.is_there;
+        name = name;
+        has_name = value (codes "name");
+        named = a.strings name f.name named;
+        has_static = value (codes "static");
+        has_entry = value (codes "entry");
+        has_end = value (codes "end");
+        has_frame = value (codes "frame");
+        saved = saved;
+        has_saved = value (codes "saved");
+        registers = registers;
+        holds_saved = a.arrays saved registers holds;
+        are_saved = saved_amended u i s₁ s₃ a none₁ program.defs program.symbols registers at.saved are;
+        points = points;
+        has_points = value (codes "points");
+        items = items;
+        holds_points = b.arrays points items held;
+        are_points = points_amended v i s₂ s₃ b none₂ program.defs program.symbols items rows points_are;
+      }
+
   function_done : (made : ℕ) (f : Function) (at : Placed) (k : Code) (s : StoreState) (o : List PsObj) (from : ℕ) → RunsFunction f → RunsPlaced at → AreFollowed program.defs program.symbols program.points made f.points at.points → made ≤ length program.symbols
       → Done s made → length o ≤ 50000 → s.table.units + s.command.units + function_made program fs made f at ≤ 8000000 → StandsAt s t from (render (function_code program fs made f at ⋯ k) ++ post)
       → FunctionDone (function_made program fs made f at) (function_steps program fs made f at) s (made_by program fs made f.points at.points) o from (render k ++ post) f at
   function_done made f at k s o from of_function placed followed bound run stack room stands =
+      let few_saved = placed.few_saved in
+      let fits_saved : length o + length at.saved + 140 ≤ 100000 = omega arith in
+      let fits_six : suc (suc (suc (suc (suc (suc (length o)))))) ≤ 50010 = omega arith in
       let rows : List (Point × ℕ) = rows_of program fs f at in
       let h : Homes = homes at.locals f.locals in
       let m₁ : ℕ = made_by program fs made f.points at.points in
-      let few_saved = placed.few_saved in
-      let few_points = of_function.few_points in
+      let c : ℕ = points_made program.defs program.symbols program.points h made f.points at.points in
+      let n : ℕ = points_steps program.defs program.symbols program.points made f.points at.points in
+      let c₁ : ℕ = text_units f.name + 7 + 8 * length at.saved in
+      let c₂ : ℕ = 5 + length rows + c in
+      let before : ℕ = s.table.units + s.command.units in
       let points : Code = points_code program fs h made f.points at.points in
-      let fourth : Code = Word (codes "NewFunction") k in
-      let third : Code = Word (codes "]") fourth in
-      let second : Code = Word (codes "[") (points ⋯ third) in
+      let third : Code = Word (codes "NewFunction") k in
+      let second : Code = Word (codes "[") (points ⋯ Word (codes "]") third) in
       let g : Front f at s o from (render second ++ post) =
-      front_done f at second s o from of_function placed run.knowing.making (omega arith) (omega arith)
-      (subst (λ (c : Code). StandsAt s t from (render c ++ post))
+      front_done f at second s o from of_function placed run.knowing.making fits_saved (room_front before (text_units f.name) (length at.saved) (length rows) c room)
+      (subst (λ (x : Code). StandsAt s t from (render x ++ post))
       (whole_is f.is_static f.name (signed at.entry) (signed at.end) (signed at.frame) (saved_code at.saved) points k ∙ sym (front_is f at second)) stands) in
       let s₁ : StoreState = g.store in
-      let c₁ : ℕ = text_units f.name + 7 + 8 * length at.saved in
       let counted₁ : s₁.table.units + s₁.command.units ≤ s.table.units + s.command.units + c₁ = g.later.counted in
-      let run₁ : Done s₁ made = running_later pr few program.defs program.symbols (length program.objects) i ds c₁ made (IsMade program.symbols made) s s₁ g.later run in
-      let six : List PsObj = Array g.array false ∷ Int (signed at.frame) ∷ Int (signed at.end) ∷ Int (signed at.entry) ∷ Truth f.is_static ∷ Str g.name false ∷ [] in
-      let below : List PsObj = six ++ o in
-      let u : ℕ = units (Word (codes "[") Stop) in
-      let begun : Pushed s₁ all below t g.to under Mark u (render (points ⋯ third) ++ post) =
-      opens all t under post s₁ (codes "[") 9 open_fine open_number (λ c. refl) (points ⋯ third) below g.to run₁.knowing.making g.stands (omega arith) (omega arith) in
-      let s₂ : StoreState = begun.store in
-      let counted₂ : s₂.table.units + s₂.command.units ≤ s₁.table.units + s₁.command.units + u = begun.later.counted in
-      let run₂ : Done s₂ made = running_later pr few program.defs program.symbols (length program.objects) i ds u made (IsMade program.symbols made) s₁ s₂ begun.later run₁ in
-      let c₃ : ℕ = points_made program.defs program.symbols program.points h made f.points at.points in
-      let n₃ : ℕ = points_steps program.defs program.symbols program.points made f.points at.points in
-      let r : PointsDone program fs is_unit pr few i ds t under items_fit post h (all_places f at placed) c₃ n₃ s₂ m₁ (Mark ∷ below) begun.to (render third ++ post) rows =
-      points_done program fs is_unit pr few i ds t under items_fit post h (all_places f at placed) made f.points at.points third s₂ (Mark ∷ below) begun.to followed bound run₂ (omega arith) (omega arith) begun.stands in
-      let s₃ : StoreState = r.store in
-      let counted₃ : s₃.table.units + s₃.command.units ≤ s₂.table.units + s₂.command.units + c₃ = r.amended.counted in
-      let is₃ : IsMaking s₃ all = r.running.knowing.making in
-      let v : ℕ = units (Word (codes "]") Stop) in
-      let many : length r.items ≡ length rows = r.many in
-      let fewer : length rows ≤ length f.points = rows_few f.points at.points in
-      let w : Closes s₃ all is₃ t under r.items below r.to (render fourth ++ post) (v + (1 + length r.items)) =
-      closes s₃ all is₃ t under (these r.items) fourth post r.items below r.to (show_these s₃ r.items r.values) (omega arith) (omega arith) r.stands in
-      let s₄ : StoreState = w.store in
-      let c₄ : ℕ = v + (1 + length r.items) in
-      let counted₄ : s₄.table.units + s₄.command.units ≤ s₃.table.units + s₃.command.units + c₄ = w.later.counted in
-      let run₄ : Done s₄ m₁ = running_later pr few program.defs program.symbols (length program.objects) i ds c₄ m₁ (IsMade program.symbols m₁) s₃ s₄ w.later r.running in
-      let is₄ : IsMaking s₄ all = run₄.knowing.making in
-      let word : List ℕ = codes "NewFunction" in
-      let sense : HasSense s₄ all word (Called function_body) = sense_is s₄ all (with_structs pr few program.defs) word (Called function_body) run₄.knowing.have refl in
-      let means : Means s₄ all word (Does (body new_function)) = (sense.2.0, sense.1 ∙ ap Some sense.2.1, sense.2.2, sense.2.3) in
-      let zs : List PsObj = Array w.array false ∷ six in
-      let keys : List (List ℕ) = codes "points" ∷ codes "saved" ∷ codes "frame" ∷ codes "end" ∷ codes "entry" ∷ codes "static" ∷ codes "name" ∷ [] in
-      let fields : Fields = filled [] keys zs in
-      let made_by_word = makes_exactly s₄ all is₄ t under word new_function k post zs o w.to 7 new_function_fine means
-      ((omega arith, (omega arith, (omega arith, (omega arith, (omega arith, (omega arith, (omega arith, tt))))))), omega arith) refl (omega arith) (omega arith) (omega arith) items_fit w.stands
-      (λ s' fs' e. subst (λ (x : Fields). length x ≤ 7) (sym e) (omega arith)) in
-      let d : MakesDict s₄ all is₄ t under 45 made_by_word.0 (zs ++ o) o w.to (render k ++ post) 10 = made_by_word.1 in
-      let s₅ : StoreState = d.store in
-      let has : HasFields s₅ d.dict fields = subst (λ (x : Fields). HasFields s₅ d.dict x) made_by_word.2.1 d.has in
-      let value : (key : List ℕ) → _ = λ key. fields_value s₅ (entries_of s₅ d.dict) fields key has.are in
-      let run₅ : Done s₅ m₁ = running_later pr few program.defs program.symbols (length program.objects) i ds 10 m₁ (IsMade program.symbols m₁) s₄ s₅ d.later run₄ in
+      let run₁ : Done s₁ made = running_later program.defs program.symbols (length program.objects) i ds c₁ made (IsMade program.symbols made) s s₁ g.later run in
+      let below : List PsObj = Array g.array false ∷ Int (signed at.frame) ∷ Int (signed at.end) ∷ Int (signed at.entry) ∷ Truth f.is_static ∷ Str g.name false ∷ o in
+      let r : PointsRow f at made s₁ below g.to (render third ++ post) =
+      points_row made f at third s₁ below g.to of_function placed followed bound run₁ fits_six (room_row before (text_units f.name) (length at.saved) (length rows) c room (s₁.table.units + s₁.command.units) counted₁) g.stands in
+      let s₂ : StoreState = r.store in
+      let counted₂ : s₂.table.units + s₂.command.units ≤ s₁.table.units + s₁.command.units + c₂ = r.amended.counted in
+      let d : WordDone (Array r.array false ∷ Array g.array false ∷ Int (signed at.frame) ∷ Int (signed at.end) ∷ Int (signed at.entry) ∷ Truth f.is_static ∷ Str g.name false ∷ []) s₂ o r.to (render k ++ post) =
+      word_done m₁ (Array r.array false) (Array g.array false) (Int (signed at.frame)) (Int (signed at.end)) (Int (signed at.entry)) (Truth f.is_static) (Str g.name false) k s₂ o r.to r.running stack
+      (room_word before (text_units f.name) (length at.saved) (length rows) c room (s₁.table.units + s₁.command.units) counted₁ (s₂.table.units + s₂.command.units) counted₂) r.stands in
+      let s₃ : StoreState = d.store in
       let a₁ : Amended c₁ D s s₁ = later_amended c₁ D s s₁ g.later in
-      let a₂ : Amended u D s₁ s₂ = later_amended u D s₁ s₂ begun.later in
-      let a₄ : Amended c₄ D s₃ s₄ = later_amended c₄ D s₃ s₄ w.later in
-      let a₅ : Amended 10 D s₄ s₅ = later_amended 10 D s₄ s₅ d.later in
-      let a₂₅ : Amended (u + c₃ + c₄ + 10) D s₁ s₅ =
-      amended_then (u + c₃ + c₄) 10 D s₁ s₄ s₅ (amended_then (u + c₃) c₄ D s₁ s₃ s₄ (amended_then u c₃ D s₁ s₂ s₃ a₂ r.amended) a₄) a₅ in
+      let a₃ : Amended 10 D s₂ s₃ = later_amended 10 D s₂ s₃ d.later in
+      let a₁₃ : Amended (c₂ + 10) D s₁ s₃ = amended_then c₂ 10 D s₁ s₂ s₃ r.amended a₃ in
+      let n₁ : ℕ = 7 + 4 * length at.saved in
       let k₀ : PsCore = core s all o (TextItem t from ∷ under) in
       let k₁ : PsCore = core s₁ all below (TextItem t g.to ∷ under) in
-      let k₂ : PsCore = core s₂ all (Mark ∷ below) (TextItem t begun.to ∷ under) in
-      let k₃ : PsCore = core s₃ all (r.items ++ Mark ∷ below) (TextItem t r.to ∷ under) in
-      let k₄ : PsCore = core s₄ all (Array w.array false ∷ below) (TextItem t w.to ∷ under) in
-      let k₅ : PsCore = core s₅ all (Dict d.dict ∷ o) (TextItem t d.to ∷ under) in
-      let n₁ : ℕ = 7 + 4 * length at.saved in
-      let number : further n₁ (further 1 (further n₃ (further 1 45))) ≡ function_steps program fs made f at =
-      let e = further_is n₁ (further 1 (further n₃ (further 1 45))) in let f' = further_is n₃ (further 1 45) in omega arith in
-      let going : Takes (further n₁ (further 1 (further n₃ (further 1 45)))) k₀ k₅ =
-      takes_then n₁ (further 1 (further n₃ (further 1 45))) k₀ k₁ k₅ g.takes
-      (takes_then 1 (further n₃ (further 1 45)) k₁ k₂ k₅ (takes_one k₁ k₂ begun.steps)
-      (takes_then n₃ (further 1 45) k₂ k₃ k₅ r.takes (takes_then 1 45 k₃ k₄ k₅ (takes_one k₃ k₄ w.steps) d.takes))) in
+      let k₂ : PsCore = core s₂ all (Array r.array false ∷ below) (TextItem t r.to ∷ under) in
+      let k₃ : PsCore = core s₃ all (Dict d.dict ∷ o) (TextItem t d.to ∷ under) in
+      let going : Takes (further n₁ (further (2 + n) 45)) k₀ k₃ = takes_then n₁ (further (2 + n) 45) k₀ k₁ k₃ g.takes (takes_then (2 + n) 45 k₁ k₂ k₃ r.takes d.takes) in
       record {
-        store = s₅;
+        store = s₃;
         object = Dict d.dict;
         to = d.to;
-        running = run₅;
-        amended = amended_within (c₁ + (u + c₃ + c₄ + 10)) (function_made program fs made f at) D s s₅ (omega arith) (amended_then c₁ (u + c₃ + c₄ + 10) D s s₁ s₅ a₁ a₂₅);
-        is = record {
-          dict = d.dict;
-          is = refl;
-          there = has.is_there;
-          name = g.name;
-          has_name = value (codes "name");
-          named = a₂₅.strings g.name f.name g.named;
-          has_static = value (codes "static");
-          has_entry = value (codes "entry");
-          has_end = value (codes "end");
-          has_frame = value (codes "frame");
-          saved = g.array;
-          has_saved = value (codes "saved");
-          registers = g.registers;
-          holds_saved = a₂₅.arrays g.array g.registers g.holds;
-          are_saved = saved_amended (u + c₃ + c₄ + 10) i s₁ s₅ a₂₅ run₁.nameless program.defs program.symbols g.registers at.saved g.saved;
-          points = w.array;
-          has_points = value (codes "points");
-          items = reverse r.items;
-          holds_points = d.later.arrays w.array (reverse r.items) w.is_array;
-          are_points = points_amended (c₄ + 10) i s₃ s₅ (amended_then c₄ 10 D s₃ s₄ s₅ a₄ a₅) r.running.nameless program.defs program.symbols (reverse r.items) rows r.are;
-        };
+        running = running_later program.defs program.symbols (length program.objects) i ds 10 m₁ (IsMade program.symbols m₁) s₂ s₃ d.later r.running;
+        amended = amended_within (c₁ + (c₂ + 10)) (function_made program fs made f at) D s s₃ (fits_all (text_units f.name) (length at.saved) (length rows) c) (amended_then c₁ (c₂ + 10) D s s₁ s₃ a₁ a₁₃);
+        is = function_is s₁ s₂ s₃ f at rows (c₂ + 10) 10 a₁₃ a₃ run₁.nameless r.running.nameless d.dict g.name g.array r.array g.registers r.items g.named g.holds g.saved r.holds r.are d.has;
         stands = d.stands;
-        takes = subst (λ (j : ℕ). Takes j k₀ k₅) number going;
+        takes = subst (λ (j : ℕ). Takes j k₀ k₃) (all_steps (length at.saved) n) going;
       }
 
   -- ---- functions
@@ -448,18 +568,22 @@ module _ (program : Program) (fs : List Placed) (is_unit : RunsUnits program fs)
   at_in P (y ∷ ys) zero x h e = let same : y ≡ x = cc in subst P same h.0
   at_in P (y ∷ ys) (suc n) x h e = at_in P ys n x h.1 e
 
-  pub functions_done : (made : ℕ) (xs : List ℕ) (k : Code) (s : StoreState) (o : List PsObj) (from : ℕ) → FunctionsFollowed program fs made xs → made ≤ length program.symbols → Done s made → length o + length xs ≤ 50000
+  abbrev FunctionsRun : List ℕ → Code → Type 0
+  FunctionsRun xs k =
+      (made : ℕ) (s : StoreState) (o : List PsObj) (from : ℕ) → FunctionsFollowed program fs made xs → made ≤ length program.symbols → Done s made → length o + length xs ≤ 50000
       → s.table.units + s.command.units + functions_made program fs made xs ≤ 8000000 → StandsAt s t from (render (functions_code program fs made xs ⋯ k) ++ post)
       → FunctionsDone (functions_made program fs made xs) (functions_steps program fs made xs) s (made_after made xs) o from (render k ++ post) (function_rows program fs xs)
-  functions_done made [] k s o from followed bound run stack room stands =
+
+  pub functions_done : (xs : List ℕ) (k : Code) → FunctionsRun xs k
+  functions_done [] k made s o from followed bound run stack room stands =
       record { store = s; items = []; to = from; running = run; amended = amended_none D s; are = tt; values = tt; many = refl; stands = stands; takes = refl }
-  functions_done made (x ∷ xs) k s o from followed bound run stack room stands =
-      by (slice_get program.functions x) (slice_get fs x) followed.0 followed.1 (λ f e. at_in RunsFunction program.functions x f is_unit.functions e) (λ at e. at_in RunsPlaced fs x at is_unit.placed e) room stands
+  functions_done (x ∷ xs) k made s o from followed bound run stack room stands =
+      by (functions_done xs k) (slice_get program.functions x) (slice_get fs x) followed.0 followed.1 (λ f e. at_in RunsFunction program.functions x f is_unit.functions e) (λ at e. at_in RunsPlaced fs x at is_unit.placed e) room stands
     where
-      skipped : FunctionsFollowed program fs made xs → s.table.units + s.command.units + (0 + functions_made program fs made xs) ≤ 8000000 → StandsAt s t from (render (functions_code program fs made xs ⋯ k) ++ post)
+      skipped : FunctionsRun xs k → FunctionsFollowed program fs made xs → s.table.units + s.command.units + (0 + functions_made program fs made xs) ≤ 8000000 → StandsAt s t from (render (functions_code program fs made xs ⋯ k) ++ post)
           → FunctionsDone (0 + functions_made program fs made xs) (0 + functions_steps program fs made xs) s (made_after made xs) o from (render k ++ post) (function_rows program fs xs)
-      skipped others fits here =
-          let r = functions_done made xs k s o from others bound run (omega arith) (omega arith) here in
+      skipped next others fits here =
+          let r = next made s o from others bound run (omega arith) (omega arith) here in
           let none_more : functions_steps program fs made xs ≡ 0 + functions_steps program fs made xs = omega arith in
           record {
             store = r.store;
@@ -474,15 +598,15 @@ module _ (program : Program) (fs : List Placed) (is_unit : RunsUnits program fs)
             takes = subst (λ (j : ℕ). Takes j (core s all o (TextItem t from ∷ under)) (core r.store all (r.items ++ o) (TextItem t r.to ∷ under))) none_more r.takes;
           }
 
-      by : (g : Option Function) (l : Option Placed) → IsFollowedIn program made g l → FunctionsFollowed program fs (made_in program fs made g l) xs → ((f : Function) → g ≡ Some f → RunsFunction f) → ((at : Placed) → l ≡ Some at → RunsPlaced at)
+      by : FunctionsRun xs k → (g : Option Function) (l : Option Placed) → IsFollowedIn program made g l → FunctionsFollowed program fs (made_in program fs made g l) xs → ((f : Function) → g ≡ Some f → RunsFunction f) → ((at : Placed) → l ≡ Some at → RunsPlaced at)
           → s.table.units + s.command.units + (units_in program fs made g l + functions_made program fs (made_in program fs made g l) xs) ≤ 8000000
           → StandsAt s t from (render ((function_in program fs made g l ⋯ functions_code program fs (made_in program fs made g l) xs) ⋯ k) ++ post)
           → FunctionsDone (units_in program fs made g l + functions_made program fs (made_in program fs made g l) xs) (steps_in program fs made g l + functions_steps program fs (made_in program fs made g l) xs) s
           (made_after (made_in program fs made g l) xs) o from (render k ++ post) (with_function program fs g l (function_rows program fs xs))
-      by None None first others runs places fits here = skipped others fits here
-      by None (Some at) first others runs places fits here = skipped others fits here
-      by (Some f) None first others runs places fits here = skipped others fits here
-      by (Some f) (Some at) first others runs places fits here =
+      by next None None first others runs places fits here = skipped next others fits here
+      by next None (Some at) first others runs places fits here = skipped next others fits here
+      by next (Some f) None first others runs places fits here = skipped next others fits here
+      by next (Some f) (Some at) first others runs places fits here =
           let m₁ : ℕ = made_by program fs made f.points at.points in
           let c : ℕ = function_made program fs made f at in
           let c' : ℕ = functions_made program fs m₁ xs in
@@ -494,7 +618,7 @@ module _ (program : Program) (fs : List Placed) (is_unit : RunsUnits program fs)
           (subst (λ (y : Code). StandsAt s t from (render y ++ post)) (assoc (function_code program fs made f at) (functions_code program fs m₁ xs) k) here) in
           let counted : p.store.table.units + p.store.command.units ≤ s.table.units + s.command.units + c = p.amended.counted in
           let r : FunctionsDone c' n' p.store (made_after m₁ xs) (p.object ∷ o) p.to (render k ++ post) (function_rows program fs xs) =
-          functions_done m₁ xs k p.store (p.object ∷ o) p.to others (by_within program fs is_unit pr few i ds t under items_fit post made f.points at.points first bound) p.running (omega arith) (omega arith) p.stands in
+          next m₁ p.store (p.object ∷ o) p.to others (by_within program fs is_unit i ds t under items_fit post made f.points at.points first bound) p.running (omega arith) (omega arith) p.stands in
           let turned : reverse (r.items ++ p.object ∷ []) ≡ p.object ∷ reverse r.items = reverse-append r.items (p.object ∷ []) in
           let on : (r.items ++ p.object ∷ []) ++ o ≡ r.items ++ p.object ∷ o = append_assoc r.items (p.object ∷ []) o in
           let c₀ : PsCore = core s all o (TextItem t from ∷ under) in

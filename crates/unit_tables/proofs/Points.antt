@@ -37,10 +37,8 @@ use Rattle.ps_tables.specs.TableWords.{new_point}
 use Rattle.ps_tables.specs.Pieces.{Piece, End, Number, Make, code, cost, steps, left_by, Knows, HasRoom, IsValue, Values, Bottom, This, Entry, after, Show, Performs}
 use Rattle.ps_tables.specs.Defined.{in_table}
 use Rattle.ps_tables.specs.Rows.{weigh}
-use Rattle.ps_tables.specs.Runnable.{RunsStruct}
 use Rattle.ps_tables.specs.Senses.{Called, HasSense}
-use Rattle.ps_tables.specs.WordsKnown.{Printers, point_body}
-use Rattle.ps_tables.specs.PartsKnown.{with_structs}
+use Rattle.ps_tables.specs.WordsKnown.{word_senses, point_body}
 use Rattle.ps_tables.proofs.Going.{takes_then}
 use Rattle.ps_tables.proofs.Types.{fields_value}
 use Rattle.ps_tables.proofs.Pieces.{performs}
@@ -87,7 +85,7 @@ made_low made s l = ap (λ b. if b then made else suc s) (lt-ltb s made l)
 made_high : (made s : ℕ) → made ≤ s → made_with made (Some s) ≡ suc s
 made_high made s l = ap (λ b. if b then made else suc s) (le-ltb s made l)
 
-module _ (program : Program) (fs : List Placed) (is_unit : RunsUnits program fs) (pr : Printers) (few i : ℕ) (ds : List DictId) (t : StringId) (under : List Item) (items_fit : length under + 100 ≤ 1000) (post : List ℕ) where
+module _ (program : Program) (fs : List Placed) (is_unit : RunsUnits program fs) (i : ℕ) (ds : List DictId) (t : StringId) (under : List Item) (items_fit : length under + 100 ≤ 1000) (post : List ℕ) where
   abbrev defs : List StructDef
   defs = program.defs
 
@@ -96,9 +94,6 @@ module _ (program : Program) (fs : List Placed) (is_unit : RunsUnits program fs)
 
   abbrev objects : ℕ
   objects = length program.objects
-
-  abbrev small : AllByRecursion (RunsStruct defs) defs
-  small = is_unit.structs
 
   abbrev few_defs : length defs ≤ 90000
   few_defs = is_unit.few_structs
@@ -113,7 +108,7 @@ module _ (program : Program) (fs : List Placed) (is_unit : RunsUnits program fs)
   all = D ∷ ds
 
   abbrev Runs : StoreState → ℕ → (ℕ → Type 0) → Type 0
-  Runs s k made = Running pr few defs ss objects s i ds k made
+  Runs s k made = Running defs ss objects s i ds k made
 
   -- all that are made below a number
   abbrev Done : StoreState → ℕ → Type 0
@@ -132,8 +127,8 @@ module _ (program : Program) (fs : List Placed) (is_unit : RunsUnits program fs)
   -- ---- symbols that come into scope
 
   -- one run, and then another
-  defined_then : (c₁ c₂ c n₁ n₂ n e₁ e₂ : ℕ) (m₁ m₂ : ℕ → Type 0) (s : StoreState) (o : List PsObj) (at : ℕ) (rest₁ rest₂ : List ℕ) → (a : DefinesSymbol pr few defs ss objects c₁ n₁ s i ds e₁ m₁ o t at rest₁ under)
-      → DefinesSymbol pr few defs ss objects c₂ n₂ a.store i ds e₂ m₂ o t a.to rest₂ under → c₁ + c₂ ≤ c → n₁ + n₂ ≡ n → DefinesSymbol pr few defs ss objects c n s i ds e₂ m₂ o t at rest₂ under
+  defined_then : (c₁ c₂ c n₁ n₂ n e₁ e₂ : ℕ) (m₁ m₂ : ℕ → Type 0) (s : StoreState) (o : List PsObj) (at : ℕ) (rest₁ rest₂ : List ℕ) → (a : DefinesSymbol defs ss objects c₁ n₁ s i ds e₁ m₁ o t at rest₁ under)
+      → DefinesSymbol defs ss objects c₂ n₂ a.store i ds e₂ m₂ o t a.to rest₂ under → c₁ + c₂ ≤ c → n₁ + n₂ ≡ n → DefinesSymbol defs ss objects c n s i ds e₂ m₂ o t at rest₂ under
   defined_then c₁ c₂ c n₁ n₂ n e₁ e₂ m₁ m₂ s o at rest₁ rest₂ a b less same =
       let x : PsCore = core s all o (TextItem t at ∷ under) in
       let y : PsCore = core a.store all o (TextItem t a.to ∷ under) in
@@ -165,7 +160,7 @@ module _ (program : Program) (fs : List Placed) (is_unit : RunsUnits program fs)
 
   module _ (h : Homes) (places : ArePlaces h) where
     abbrev Opens : (cost steps : ℕ) → StoreState → (made : ℕ) → List PsObj → ℕ → List ℕ → Type 0
-    Opens cost steps s made o at rest = DefinesSymbol pr few defs ss objects cost steps s i ds made (IsMade ss made) o t at rest under
+    Opens cost steps s made o at rest = DefinesSymbol defs ss objects cost steps s i ds made (IsMade ss made) o t at rest under
 
     abbrev taken_in : (n made : ℕ) → Option ℕ → ℕ
     taken_in n made x = weigh (λ s. row_steps defs (slice_get ss s)) (coming n ss made x)
@@ -179,6 +174,14 @@ module _ (program : Program) (fs : List Placed) (is_unit : RunsUnits program fs)
         s.table.units + s.command.units + weigh (λ l. row_made defs h (slice_get ss l)) xs ≤ 8000000 → StandsAt s t at (render (symbols_code fs h ss xs ⋯ k) ++ post)
         → Opens (weigh (λ l. row_made defs h (slice_get ss l)) xs) (weigh (λ l. row_steps defs (slice_get ss l)) xs) s m o at (render k ++ post) × ((w : ℕ) → Some v ≡ Some w → IsMade ss m w)
 
+    -- the same of the name outward of one
+    abbrev OpensNext : (n made v : ℕ) → StoreState → List PsObj → ℕ → Type 0
+    OpensNext n made v s o at =
+        (last : Code) → ((u : ℕ) → up_in (slice_get ss v) ≡ Some u → (u < n) × (u < length ss)) → ((w : ℕ) → first_made n ss made (up_in (slice_get ss v)) ≡ Some w → IsMade ss made w)
+        → s.table.units + s.command.units + made_in n made (up_in (slice_get ss v)) ≤ 8000000 → StandsAt s t at (render (symbols_code fs h ss (coming n ss made (up_in (slice_get ss v))) ⋯ last) ++ post)
+        → Opens (made_in n made (up_in (slice_get ss v))) (taken_in n made (up_in (slice_get ss v))) s (made_with made (up_in (slice_get ss v))) o at (render last ++ post)
+        × ((w : ℕ) → up_in (slice_get ss v) ≡ Some w → IsMade ss (made_with made (up_in (slice_get ss v))) w)
+
     nothing_opened : (made : ℕ) (s : StoreState) (o : List PsObj) (at : ℕ) (rest : List ℕ) → Done s made → StandsAt s t at rest → Opens 0 0 s made o at rest
     nothing_opened made s o at rest run stands = record { store = s; to = at; running = run; amended = amended_none D s; stands = stands; takes = refl }
 
@@ -188,53 +191,54 @@ module _ (program : Program) (fs : List Placed) (is_unit : RunsUnits program fs)
     opens zero made None k s o at within stops run few_made stack room stands = (nothing_opened made s o at (render k ++ post) run stands, λ v e. absurd cc)
     opens zero made (Some v) k s o at within stops run few_made stack room stands = absurd (let l = (within v refl).0 in omega arith)
     opens (suc n) made None k s o at within stops run few_made stack room stands = (nothing_opened made s o at (render k ++ post) run stands, λ v e. absurd cc)
-    opens (suc n) made (Some v) k s o at within stops run few_made stack room stands = by (nat_lt v made) refl
+    opens (suc n) made (Some v) k s o at within stops run few_made stack room stands =
+        by (λ last within' stops' fits' here'. opens n made (up_in (slice_get ss v)) last s o at within' stops' run few_made stack fits' here') (nat_lt v made) refl
       where
         again : (m : ℕ) (P : IsMade ss m v) → (w : ℕ) → Some v ≡ Some w → IsMade ss m w
         again m P w e = let same : v ≡ w = cc in subst (IsMade ss m) same P
 
-        by : (b : Bool) → nat_lt v made ≡ b
+        by : OpensNext n made v s o at → (b : Bool) → nat_lt v made ≡ b
             → Opens (made_in (suc n) made (Some v)) (taken_in (suc n) made (Some v)) s (made_with made (Some v)) o at (render k ++ post) × ((w : ℕ) → Some v ≡ Some w → IsMade ss (made_with made (Some v)) w)
-        by true e =
+        by next true e =
             let none : coming (suc n) ss made (Some v) ≡ [] = ap (λ b. if b then [] else v ∷ coming n ss made (up_in (slice_get ss v))) e in
             let same : made_with made (Some v) ≡ made = ap (λ b. if b then made else suc v) e in
             let is : IsMade ss made v = stops v (ap (λ b. if b then Some v else first_made n ss made (up_in (slice_get ss v))) e) in
             let base : OpensBy v k s o at [] made = λ fits here. (nothing_opened made s o at (render k ++ post) run here, again made is) in
             subst (λ (xs : List ℕ). OpensBy v k s o at xs (made_with made (Some v))) (sym none) (subst (λ (m : ℕ). OpensBy v k s o at [] m) (sym same) base) room stands
-        by false e =
+        by next false e =
             let l : made ≤ v = ltb-false v made e in
             let more : coming (suc n) ss made (Some v) ≡ v ∷ coming n ss made (up_in (slice_get ss v)) = ap (λ b. if b then [] else v ∷ coming n ss made (up_in (slice_get ss v))) e in
             let same : made_with made (Some v) ≡ suc v = ap (λ b. if b then made else suc v) e in
-            subst (λ (xs : List ℕ). OpensBy v k s o at xs (made_with made (Some v))) (sym more) (subst (λ (m : ℕ). OpensBy v k s o at (v ∷ coming n ss made (up_in (slice_get ss v))) m) (sym same) (new l e)) room stands
+            subst (λ (xs : List ℕ). OpensBy v k s o at xs (made_with made (Some v))) (sym more) (subst (λ (m : ℕ). OpensBy v k s o at (v ∷ coming n ss made (up_in (slice_get ss v))) m) (sym same) (new next l e)) room stands
           where
-            new : made ≤ v → nat_lt v made ≡ false → OpensBy v k s o at (v ∷ coming n ss made (up_in (slice_get ss v))) (suc v)
-            new l e fits stands' =
+            new : OpensNext n made v s o at → made ≤ v → nat_lt v made ≡ false → OpensBy v k s o at (v ∷ coming n ss made (up_in (slice_get ss v))) (suc v)
+            new next l e fits stands' =
                 let m₁ : ℕ = made_with made (up_in (slice_get ss v)) in
                 let rest : List ℕ = coming n ss made (up_in (slice_get ss v)) in
                 let given = within v refl in
                 let few_symbols = is_unit.few_symbols in
                 let r : (row : SymbolRow) × (slice_get ss v ≡ Some row) = row_there ss v given.1 in
                 let row : SymbolRow = r.0 in
-                let ups : (up_in (slice_get ss v)) ≡ row.(up_in (slice_get ss v)) = ap up_in r.1 in
-                let low : (u : ℕ) → (up_in (slice_get ss v)) ≡ Some u → u < v = λ u f. lower v u f in
+                let ups : (up_in (slice_get ss v)) ≡ row.up = ap up_in r.1 in
+                let low : (u : ℕ) → (up_in (slice_get ss v)) ≡ Some u → u < v = λ u f. is_unit.lower v u f in
                 let last : Code = symbol_of fs h v (slice_get ss v) ⋯ k in
                 let made_row : row_made defs h (slice_get ss v) ≡ symbol_made defs h row = ap (row_made defs h) r.1 in
                 let taken_row : row_steps defs (slice_get ss v) ≡ symbol_steps defs row = ap (row_steps defs) r.1 in
                 let a : Opens (made_in n made (up_in (slice_get ss v))) (taken_in n made (up_in (slice_get ss v))) s m₁ o at (render last ++ post) × ((w : ℕ) → (up_in (slice_get ss v)) ≡ Some w → IsMade ss m₁ w) =
-                opens n made (up_in (slice_get ss v)) last s o at (λ u f. let j = low u f in (omega (arith, given), omega (arith, given))) (λ w f. stops w (ap (λ b. if b then Some v else first_made n ss made (up_in (slice_get ss v))) e ∙ f)) run few_made stack (omega arith)
+                next last (λ u f. let j = low u f in (omega (arith, given), omega (arith, given))) (λ w f. stops w (ap (λ b. if b then Some v else first_made n ss made (up_in (slice_get ss v))) e ∙ f)) (omega arith)
                 (subst (λ (c : Code). StandsAt s t at (render c ++ post)) (assoc (symbols_code fs h ss rest) (symbol_of fs h v (slice_get ss v)) k) stands') in
                 let counted : a.0.store.table.units + a.0.store.command.units ≤ s.table.units + s.command.units + made_in n made (up_in (slice_get ss v)) = a.0.amended.counted in
                 let below : m₁ ≤ v = made_below made v (up_in (slice_get ss v)) l low in
-                let b : DefinesSymbol pr few defs ss objects (symbol_made defs h row) (symbol_steps defs row) a.0.store i ds (m₁ + 1) (IsMade ss (suc v)) o t a.0.to (render k ++ post) under =
-                symbol_defined pr few defs ss objects i ds small few_defs few_objects t under items_fit post fs h v row k m₁ (IsMade ss m₁) (IsMade ss (suc v)) a.0.store o a.0.to a.0.running (omega (arith, given, few_symbols, below)) r.1
+                let b : DefinesSymbol defs ss objects (symbol_made defs h row) (symbol_steps defs row) a.0.store i ds (m₁ + 1) (IsMade ss (suc v)) o t a.0.to (render k ++ post) under =
+                symbol_defined defs ss objects i ds few_defs few_objects t under items_fit post fs h v row k m₁ (IsMade ss m₁) (IsMade ss (suc v)) a.0.store o a.0.to a.0.running (omega (arith, given, few_symbols, below)) r.1
                 (omega (arith, given, few_symbols)) (all_at (RunsSymbol defs objects) ss v row is_unit.symbols r.1) places (λ u f. a.1 u (ups ∙ f)) (made_next ss made v (up_in (slice_get ss v)) refl a.1) stack (omega arith)
                 (subst (λ (x : Option SymbolRow). StandsAt a.0.store t a.0.to (render (symbol_of fs h v x ⋯ k) ++ post)) r.1 a.0.stands) in
-                let both : DefinesSymbol pr few defs ss objects (weigh (λ l. row_made defs h (slice_get ss l)) (v ∷ rest)) (weigh (λ l. row_steps defs (slice_get ss l)) (v ∷ rest)) s i ds (m₁ + 1) (IsMade ss (suc v)) o t at (render k ++ post) under =
+                let both : DefinesSymbol defs ss objects (weigh (λ l. row_made defs h (slice_get ss l)) (v ∷ rest)) (weigh (λ l. row_steps defs (slice_get ss l)) (v ∷ rest)) s i ds (m₁ + 1) (IsMade ss (suc v)) o t at (render k ++ post) under =
                 defined_then (made_in n made (up_in (slice_get ss v))) (symbol_made defs h row) _ (taken_in n made (up_in (slice_get ss v))) (symbol_steps defs row) _ m₁ (m₁ + 1) (IsMade ss m₁) (IsMade ss (suc v)) s o at (render last ++ post) (render k ++ post) a.0 b (omega arith) (omega arith) in (
                   record {
                     store = both.store;
                     to = both.to;
-                    running = running_less pr few defs ss objects i ds (m₁ + 1) (suc v) (IsMade ss (suc v)) (IsMade ss (suc v)) both.store (omega arith) (λ m j. j) both.running;
+                    running = running_less defs ss objects i ds (m₁ + 1) (suc v) (IsMade ss (suc v)) (IsMade ss (suc v)) both.store (omega arith) (λ m j. j) both.running;
                     amended = both.amended;
                     stands = both.stands;
                     takes = both.takes;
@@ -277,13 +281,13 @@ module _ (program : Program) (fs : List Placed) (is_unit : RunsUnits program fs)
         let counted : s₁.table.units + s₁.command.units ≤ s.table.units + s.command.units + u = a.0.amended.counted in
         let run₁ : Done s₁ m₁ = a.0.running in
         let is₁ : IsMaking s₁ all = run₁.knowing.making in
-        let link = link_of pr few defs ss objects i ds small few_defs few_objects t under items_fit post s₁ m₁ (IsMade ss m₁) run₁ q.symbol a.1 in
+        let link = link_of defs ss objects i ds few_defs few_objects t under items_fit post s₁ m₁ (IsMade ss m₁) run₁ q.symbol a.1 in
         let x : PsObj = link.object in
         let end : Piece = linked_then q.symbol x End in
         let parts : Piece = Number (signed q.line) (Number (signed q.column) (Number (signed address) end)) in
         let piece : Piece = point_parts address q x in
         let word : List ℕ = codes "NewPoint" in
-        let w : HasSense s₁ all word (Called point_body) = sense_is s₁ all (with_structs pr few defs) word (Called point_body) run₁.knowing.have refl in
+        let w : HasSense s₁ all word (Called point_body) = sense_is s₁ all word_senses word (Called point_body) run₁.knowing.have refl in
         let means : Means s₁ all word (Does (body new_point)) = (w.2.0, w.1 ∙ ap Some w.2.1, w.2.2, w.2.3) in
         let size : cost end ≡ link_made q.symbol + 0 = link_makes defs x q.symbol End in
         let taken : steps end ≡ link_steps q.symbol + 0 = link_takes defs x q.symbol End in
@@ -320,7 +324,7 @@ module _ (program : Program) (fs : List Placed) (is_unit : RunsUnits program fs)
           store = s₂;
           object = Dict d;
           to = p.to;
-          running = running_later pr few defs ss objects i ds (cost piece) m₁ (IsMade ss m₁) s₁ s₂ p.later run₁;
+          running = running_later defs ss objects i ds (cost piece) m₁ (IsMade ss m₁) s₁ s₂ p.later run₁;
           amended = amended_within (u + cost piece) (point_made defs ss h made q) D s s₂ (omega arith) (amended_then u (cost piece) D s s₁ s₂ a.0.amended later);
           is = record {
             dict = d;
@@ -354,21 +358,25 @@ module _ (program : Program) (fs : List Placed) (is_unit : RunsUnits program fs)
     points_none : (made : ℕ) (s : StoreState) (o : List PsObj) (at : ℕ) (rest : List ℕ) → Done s made → StandsAt s t at rest → PointsDone 0 0 s made o at rest []
     points_none made s o at rest run stands = record { store = s; items = []; to = at; running = run; amended = amended_none D s; are = tt; values = tt; many = refl; stands = stands; takes = refl }
 
-    pub points_done : (made : ℕ) (xs addresses : List ℕ) (k : Code) (s : StoreState) (o : List PsObj) (at : ℕ) → AreFollowed defs ss program.points made xs addresses → made ≤ length ss → Done s made → length o + length xs + 131 ≤ 100000
+    abbrev PointsRun : List ℕ → List ℕ → Code → Type 0
+    PointsRun xs addresses k =
+        (made : ℕ) (s : StoreState) (o : List PsObj) (at : ℕ) → AreFollowed defs ss program.points made xs addresses → made ≤ length ss → Done s made → length o + length xs + 131 ≤ 100000
         → s.table.units + s.command.units + points_made defs ss program.points h made xs addresses ≤ 8000000 → StandsAt s t at (render (points_code program fs h made xs addresses ⋯ k) ++ post)
         → PointsDone (points_made defs ss program.points h made xs addresses) (points_steps defs ss program.points made xs addresses) s (made_by program fs made xs addresses) o at (render k ++ post) (point_rows defs ss program.points xs addresses)
-    points_done made [] addresses k s o at followed bound run stack room stands = points_none made s o at (render k ++ post) run stands
-    points_done made (x ∷ xs) [] k s o at followed bound run stack room stands = points_none made s o at (render k ++ post) run stands
-    points_done made (x ∷ xs) (address ∷ rest) k s o at followed bound run stack room stands = by (slice_get program.points x) followed.0 followed.1 room stands
+
+    pub points_done : (xs addresses : List ℕ) (k : Code) → PointsRun xs addresses k
+    points_done [] addresses k made s o at followed bound run stack room stands = points_none made s o at (render k ++ post) run stands
+    points_done (x ∷ xs) [] k made s o at followed bound run stack room stands = points_none made s o at (render k ++ post) run stands
+    points_done (x ∷ xs) (address ∷ rest) k made s o at followed bound run stack room stands = by (points_done xs rest k) (slice_get program.points x) followed.0 followed.1 room stands
       where
-        by : (q : Option Point) → IsFollowed ss made (symbol_at q) → AreFollowed defs ss program.points (made_with made (symbol_at q)) xs rest
+        by : PointsRun xs rest k → (q : Option Point) → IsFollowed ss made (symbol_at q) → AreFollowed defs ss program.points (made_with made (symbol_at q)) xs rest
             → s.table.units + s.command.units + (made_at defs ss program.points h made q + points_made defs ss program.points h (made_with made (symbol_at q)) xs rest) ≤ 8000000
             → StandsAt s t at (render ((point_in program fs h made address q ⋯ points_code program fs h (made_with made (symbol_at q)) xs rest) ⋯ k) ++ post)
             → PointsDone (made_at defs ss program.points h made q + points_made defs ss program.points h (made_with made (symbol_at q)) xs rest)
             (steps_at defs ss program.points made q + points_steps defs ss program.points (made_with made (symbol_at q)) xs rest) s (made_by program fs (made_with made (symbol_at q)) xs rest) o at (render k ++ post)
             (with_point defs ss program.points q address (point_rows defs ss program.points xs rest))
-        by None first others fits here' =
-            let r = points_done made xs rest k s o at others bound run (omega arith) (omega arith) here' in
+        by next None first others fits here' =
+            let r = next made s o at others bound run (omega arith) (omega arith) here' in
             let none_more : points_steps defs ss program.points made xs rest ≡ 0 + points_steps defs ss program.points made xs rest = omega arith in
             record {
               store = r.store;
@@ -382,7 +390,7 @@ module _ (program : Program) (fs : List Placed) (is_unit : RunsUnits program fs)
               stands = r.stands;
               takes = subst (λ (j : ℕ). Takes j (core s all o (TextItem t at ∷ under)) (core r.store all (r.items ++ o) (TextItem t r.to ∷ under))) none_more r.takes;
             }
-        by (Some q) first others fits here' =
+        by next (Some q) first others fits here' =
             let m₁ : ℕ = made_with made q.symbol in
             let few_symbols = is_unit.few_symbols in
             let c : ℕ = point_made defs ss h made q in
@@ -396,7 +404,7 @@ module _ (program : Program) (fs : List Placed) (is_unit : RunsUnits program fs)
             (assoc (open_all ⋯ point_code address q) (points_code program fs h m₁ xs rest) k ∙ assoc open_all (point_code address q) (points_code program fs h m₁ xs rest ⋯ k)) here') in
             let counted : p.store.table.units + p.store.command.units ≤ s.table.units + s.command.units + c = p.amended.counted in
             let r : PointsDone c' n' p.store (made_by program fs m₁ xs rest) (p.object ∷ o) p.to (render k ++ post) (point_rows defs ss program.points xs rest) =
-            points_done m₁ xs rest k p.store (p.object ∷ o) p.to others (made_bound made (length ss) q.symbol bound first.there) p.running (omega arith) (omega arith) p.stands in
+            next m₁ p.store (p.object ∷ o) p.to others (made_bound made (length ss) q.symbol bound first.there) p.running (omega arith) (omega arith) p.stands in
             let turned : reverse (r.items ++ p.object ∷ []) ≡ p.object ∷ reverse r.items = reverse-append r.items (p.object ∷ []) in
             let on : (r.items ++ p.object ∷ []) ++ o ≡ r.items ++ p.object ∷ o = append_assoc r.items (p.object ∷ []) o in
             let c₀ : PsCore = core s all o (TextItem t at ∷ under) in

@@ -1,6 +1,5 @@
 -- A symbol is made, and stands under its number.
 use Rattle.std.proofs.Common.{◌≡◌, ◌⊎◌, ℕ, ℤ, pos, negsuc, zero, suc, ◌+◌, ◌-◌, ◌*◌, ◌<◌, ◌≤◌, ◌^◌, Bool, true, false, Option, Some, None, Result, Ok, Err, List, [], ◌∷◌, ◌++◌, length, codes, slice_get, nat_lt, refl, sym, ap, ◌∙◌, subst, arith, ltb-true, ltb-false, le-ltb}
-use Rattle.std.specs.List.{AllByRecursion}
 use Rattle.ldb_words.specs.Word.{signed}
 use Rattle.ps_scan.specs.Bytes.{is_regular, is_white, is_special}
 use Rattle.obj_file.specs.declared.object.FunctionRow.{FunctionRow as Placed}
@@ -54,10 +53,9 @@ use Rattle.ps_tables.specs.TableWords.{new_symbol, function_symbol}
 use Rattle.ps_tables.specs.Types.{written, type_steps, type_cost, IsType}
 use Rattle.ps_tables.specs.Pieces.{Piece, End, Chars, Quote, Typed, Element, code, cost, steps, Knows, HasRoom, IsValue, nothing, Values, Bottom, This, Written, Quoted, OfType, after, Show, Performs}
 use Rattle.ps_tables.specs.Defined.{in_table}
-use Rattle.ps_tables.specs.Runnable.{RunsType, RunsStruct}
+use Rattle.ps_tables.specs.Runnable.{RunsType}
 use Rattle.ps_tables.specs.Senses.{Variables, Called, variable_fields, HasSense, Knowing}
-use Rattle.ps_tables.specs.WordsKnown.{Printers, symbol_body, function_symbol_body, object_symbol_body}
-use Rattle.ps_tables.specs.PartsKnown.{with_structs}
+use Rattle.ps_tables.specs.WordsKnown.{word_senses, symbol_body, function_symbol_body, object_symbol_body}
 use Rattle.ps_tables.proofs.Going.{takes_then, takes_one}
 use Rattle.ps_tables.proofs.Stores.{later_then, later_within, making_later, means_later, ready_later, fields_later}
 use Rattle.ps_tables.proofs.Types.{fields_value, type_later}
@@ -67,7 +65,8 @@ use Rattle.ps_tables.proofs.Pieces.{performs}
 use Rattle.ps_tables.proofs.TablePieces.{assoc}
 use Rattle.ps_tables.proofs.MembersRun.{further_is, word_fine}
 use Rattle.ps_tables.proofs.WordsKnown.{sense_is}
-use Rattle.ps_tables.proofs.TypesKnown.{type_is, type_known}
+use Rattle.ps_tables.proofs.TypesKnown.{type_is}
+use Rattle.unit_tables.proofs.Types.{type_known}
 use Rattle.unit_tables.specs.Amended.{PutsUnder, Amended}
 use Rattle.unit_tables.specs.Shown.{IsOwn, IsSymbol, Chained, outermost, symbol}
 use Rattle.unit_tables.specs.Running.{object_fields, IsObject, BeginWith, HasObjects, IsDefined, Running}
@@ -249,7 +248,7 @@ nth s (suc n) (x ∷ xs) (suc o) h l = let r = nth s n xs o h.1 (omega arith) in
 
 -- ---- runs
 
-module _ (pr : Printers) (few : ℕ) (defs : List StructDef) (ss : List SymbolRow) (objects i : ℕ) (ds : List DictId) (small : AllByRecursion (RunsStruct defs) defs) (few_defs : length defs ≤ 90000) (few_objects : objects ≤ 90000)
+module _ (defs : List StructDef) (ss : List SymbolRow) (objects i : ℕ) (ds : List DictId) (few_defs : length defs ≤ 90000) (few_objects : objects ≤ 90000)
     (t : StringId) (under : List Item) (items_fit : length under + 100 ≤ 1000) (post : List ℕ) where
   abbrev D : DictId
   D = in_table i
@@ -258,7 +257,7 @@ module _ (pr : Printers) (few : ℕ) (defs : List StructDef) (ss : List SymbolRo
   all = D ∷ ds
 
   abbrev Runs : StoreState → ℕ → (ℕ → Type 0) → Type 0
-  Runs s k made = Running pr few defs ss objects s i ds k made
+  Runs s k made = Running defs ss objects s i ds k made
 
   -- the symbol outward
   pub record Link (s : StoreState) (up : Option ℕ) : Type 0 where
@@ -312,7 +311,7 @@ module _ (pr : Printers) (few : ℕ) (defs : List StructDef) (ss : List SymbolRo
       let few_place = placing.few in
       let p : Performs (cost parts) (steps parts) (after parts Bottom) s all o o t at (render (Word word k) ++ post) under =
       performs all t under items_fit post parts (Word word k) Bottom s [] o at is
-      ((short, tt), (type_known s i ds e pr few defs r.knowing small few_defs row.ctype runs, (placing.reads, link.knows End tt)))
+      ((short, tt), (type_known s all defs r.knowing.have r.structs few_defs row.ctype runs, (placing.reads, link.knows End tt)))
       (link_room defs x row.up End (suc (suc (suc (length o)))) (omega arith)) (omega arith) refl here in
       let s₁ : StoreState = p.store in
       let counted : s₁.table.units + s₁.command.units ≤ s.table.units + s.command.units + cost parts = p.later.counted in
@@ -395,7 +394,7 @@ module _ (pr : Printers) (few : ℕ) (defs : List StructDef) (ss : List SymbolRo
       let zs : List PsObj = Dict b ∷ x ∷ [] in
       let whole : p.operands ≡ zs = shows.1 ∙ ap (λ (l : List PsObj). y.object ∷ l) (shows.3.1 ∙ ap (λ (l : List PsObj). x ∷ l) shows.3.3) ∙ ap (λ (z : PsObj). z ∷ x ∷ []) y.is.is in
       let is₁ : IsMaking s₁ all = making_later (cost parts) s s₁ p.later all is in
-      let ws = with_structs pr few defs in
+      let ws = word_senses in
       let w : HasSense s all word (Called object_symbol_body) = sense_is s all ws word (Called object_symbol_body) r.knowing.have refl in
       let means : Means s all word (Does object_symbol_body) = (w.2.0, w.1 ∙ ap Some w.2.1, w.2.2, w.2.3) in
       let gs : Fields = object_fields y.is.kind Null y.is.ctype (Array y.is.place true) (Str y.is.label false) (Str y.is.name false) in
@@ -457,7 +456,7 @@ module _ (pr : Printers) (few : ℕ) (defs : List StructDef) (ss : List SymbolRo
       → StandsAt s t at (render (function_symbol_code row address ⋯ k) ++ post)
       → Comes n (text_units row.name + type_cost (written defs row.ctype) + link_made row.up + 14) (41 + type_steps (written defs row.ctype) + link_steps row.up) s o at (render k ++ post)
   function_comes h n row r address k e made s o at run row_is owned link runs short stack room here =
-      let ws = with_structs pr few defs in
+      let ws = word_senses in
       let f : HasSense s all (codes "Variable") Variables = sense_is s all ws (codes "Variable") Variables run.knowing.have refl in
       let w : HasSense s all (codes "FunctionSymbol") (Called function_symbol_body) = sense_is s all ws (codes "FunctionSymbol") (Called function_symbol_body) run.knowing.have refl in
       let v : HasSense s all (codes "NewSymbol") (Called symbol_body) = sense_is s all ws (codes "NewSymbol") (Called symbol_body) run.knowing.have refl in
@@ -487,7 +486,7 @@ module _ (pr : Printers) (few : ℕ) (defs : List StructDef) (ss : List SymbolRo
       → StandsAt s t at (render (local_symbol h row x ⋯ k) ++ post)
       → Comes n (text_units row.name + type_cost (written defs row.ctype) + units (Proc (home_words h x) Stop) + link_made row.up + 9) (36 + type_steps (written defs row.ctype) + link_steps row.up) s o at (render k ++ post)
   local_comes h n row x k e made s o at run row_is owned link place runs short stack room here =
-      let ws = with_structs pr few defs in
+      let ws = word_senses in
       let f : HasSense s all (codes "Variable") Variables = sense_is s all ws (codes "Variable") Variables run.knowing.have refl in
       let v : HasSense s all (codes "NewSymbol") (Called symbol_body) = sense_is s all ws (codes "NewSymbol") (Called symbol_body) run.knowing.have refl in
       let dict : DictId = f.2.0 in
@@ -548,7 +547,7 @@ module _ (pr : Printers) (few : ℕ) (defs : List StructDef) (ss : List SymbolRo
   pub symbol_defined : (fs : List Placed) (h : Homes) (n : ℕ) (row : SymbolRow) (k : Code) (e : ℕ) (made made' : ℕ → Type 0) (s : StoreState) (o : List PsObj) (at : ℕ) → Runs s e made → e < 999999 → slice_get ss n ≡ Some row
       → n < 2 ^ 32 → RunsSymbol defs objects row → ArePlaces h → ((u : ℕ) → row.up ≡ Some u → made u) → ((m : ℕ) → made' m → (m ≡ n) ⊎ made m) → length o + 131 ≤ 100000
       → s.table.units + s.command.units + symbol_made defs h row ≤ 8000000 → StandsAt s t at (render (symbol_code fs h n row ⋯ k) ++ post)
-      → DefinesSymbol pr few defs ss objects (symbol_made defs h row) (symbol_steps defs row) s i ds (e + 1) made' o t at (render k ++ post) under
+      → DefinesSymbol defs ss objects (symbol_made defs h row) (symbol_steps defs row) s i ds (e + 1) made' o t at (render k ++ post) under
   symbol_defined fs h n row k e made made' s o at run few_entries row_is number runs places up each stack room here =
       let value : Code = symbol_by fs h row row.refers in
       let last : Code = Word (codes "def") k in
@@ -558,20 +557,20 @@ module _ (pr : Printers) (few : ℕ) (defs : List StructDef) (ss : List SymbolRo
       (subst (λ (c : Code). StandsAt s t at (render c ++ post)) (ap (λ c. Num (signed n) c) (assoc value (Word (codes "def") Stop) k)) here) (omega arith) (omega arith) in
       let s₁ : StoreState = p.store in
       let counted₁ : s₁.table.units + s₁.command.units ≤ s.table.units + s.command.units + 0 = p.later.counted in
-      let run₁ : Runs s₁ e made = running_later pr few defs ss objects i ds 0 e made s s₁ p.later run in
+      let run₁ : Runs s₁ e made = running_later defs ss objects i ds 0 e made s s₁ p.later run in
       let v : Valued h n row row.refers s₁ (Int (signed n) ∷ o) p.to (render last ++ post) =
       valued fs h n row row.refers refl last e made s₁ (Int (signed n) ∷ o) p.to run₁ row_is (link_of s₁ e made run₁ row.up up) runs.referent places runs.name (omega arith) (omega arith) p.stands in
       let counts = v.counts in
       let c = v.comes in
       let s₂ : StoreState = c.store in
       let counted₂ : s₂.table.units + s₂.command.units ≤ s₁.table.units + s₁.command.units + v.cost = c.later.counted in
-      let run₂ : Runs s₂ e made = running_later pr few defs ss objects i ds v.cost e made s₁ s₂ c.later run₁ in
+      let run₂ : Runs s₂ e made = running_later defs ss objects i ds v.cost e made s₁ s₂ c.later run₁ in
       let is₂ : IsMaking s₂ all = run₂.knowing.making in
       let w : Acted s₂ all (c.object ∷ Int (signed n) ∷ o) t c.to under (Op 28) u (render k ++ post) =
       word_acts s₂ all (c.object ∷ Int (signed n) ∷ o) t c.to under (codes "def") k post (Op 28) def_fine (is₂.operators (codes "def") 28 def_number) is₂.there c.stands (omega arith) in
       let s₃ : StoreState = w.store in
       let counted₃ : s₃.table.units + s₃.command.units ≤ s₂.table.units + s₂.command.units + u = w.later.counted in
-      let run₃ : Runs s₃ e made = running_later pr few defs ss objects i ds u e made s₂ s₃ w.later run₂ in
+      let run₃ : Runs s₃ e made = running_later defs ss objects i ds u e made s₂ s₃ w.later run₂ in
       let small₃ : length (entries_of s₃ D) ≤ e = run₃.knowing.small in
       let there : IsThere s₃ D = run₃.knowing.making.there.0 in
       let s₄ : StoreState = put_store s₃ i run₃.knowing.unclosed there (signed n) c.object in
@@ -591,7 +590,7 @@ module _ (pr : Printers) (few : ℕ) (defs : List StructDef) (ss : List SymbolRo
       record {
         store = s₄;
         to = w.to;
-        running = running_puts pr few defs ss objects i ds e made made' n c.object s₃ s₄ number put chain each run₃;
+        running = running_puts defs ss objects i ds e made made' n c.object s₃ s₄ number put chain each run₃;
         amended = amended_within (0 + v.cost + u + 1) (symbol_made defs h row) D s s₄ (omega arith)
             (amended_then (0 + v.cost + u) 1 D s s₃ s₄ (later_amended (0 + v.cost + u) D s s₃ before) (puts_amended D s₃ s₄ (signed n) c.object put));
         stands = record { text = w.stands.text; lead = w.stands.lead; is_lead = w.stands.is_lead; is = put.strings t w.stands.text w.stands.is; here = w.stands.here; within = w.stands.within };

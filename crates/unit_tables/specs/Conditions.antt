@@ -8,7 +8,6 @@ use Rattle.c_tree.specs.declared.rows.Function.{Function}
 use Rattle.c_tree.specs.declared.rows.SymbolRow.{SymbolRow}
 use Rattle.ps_emit.specs.Lengths.{IsInteger}
 use Rattle.ps_emit.specs.Functions.{made_in}
-use Rattle.ps_tables.specs.Runnable.{RunsStruct}
 use Rattle.unit_tables.specs.Symbols.{RunsPlace, RunsSymbol}
 use Rattle.unit_tables.specs.Points.{LeadLower, AreFollowed}
 
@@ -24,7 +23,6 @@ pub record RunsFunction (f : Function) : Type 0 where
 
 -- The rows of a program and of its placement, and how many there are.
 pub record RunsUnits (p : Program) (fs : List Placed) : Type 0 where
-  pub structs : AllByRecursion (RunsStruct p.defs) p.defs
   pub symbols : AllByRecursion (RunsSymbol p.defs (length p.objects)) p.symbols
   pub lower : LeadLower p.symbols
   pub functions : AllByRecursion RunsFunction p.functions

@@ -1,3 +1,4 @@
+pub mod Kept
 pub mod Amended
 pub mod Shown
 pub mod Running
@@ -6,3 +7,5 @@ pub mod Points
 pub mod Conditions
 pub mod Functions
 pub mod Units
+pub mod Settled
+pub mod Bounded

@@ -1,8 +1,9 @@
 -- The state in which a unit's symbols are made.
-use Rattle.std.specs.Prelude.{◌≡◌, ◌<◌, ◌^◌, ℕ, zero, suc, nat_lt, if◌then◌else◌, false, true, codes, Option, Some, None, List, [], ◌∷◌, slice_get}
+use Rattle.std.specs.Prelude.{◌≡◌, ◌<◌, ◌^◌, ℕ, zero, suc, nat_lt, if◌then◌else◌, false, true, codes, Option, Some, None, List, [], ◌∷◌, length, slice_get}
 use Rattle.ldb_words.specs.Word.{signed}
 use Rattle.c_tree.specs.declared.types.StructDef.{StructDef}
 use Rattle.c_tree.specs.declared.rows.SymbolRow.{SymbolRow}
+use Rattle.c_tree.specs.Layout.{struct_size_of}
 use Rattle.ps_store.specs.declared.object.PsObj.{PsObj}
 use Rattle.ps_store.specs.declared.object.PsObj.TheVariants.{Str, Array, Dict, Null}
 use Rattle.ps_store.specs.declared.object.ArrayId.{ArrayId}
@@ -19,8 +20,8 @@ use Rattle.ps_tables.specs.Dictionaries.{Fields}
 use Rattle.ps_tables.specs.Making.{HasFields}
 use Rattle.ps_tables.specs.Defined.{in_table}
 use Rattle.ps_tables.specs.Senses.{Knowing}
-use Rattle.ps_tables.specs.WordsKnown.{Printers}
-use Rattle.ps_tables.specs.PartsKnown.{with_structs}
+use Rattle.ps_tables.specs.Types.{IsSized}
+use Rattle.ps_tables.specs.WordsKnown.{word_senses}
 use Rattle.unit_tables.specs.Amended.{HasNoNames}
 use Rattle.unit_tables.specs.Shown.{Chained}
 
@@ -73,6 +74,14 @@ pub record HasObjects (s : StoreState) (ds : List DictId) (count : ℕ) : Type 0
   pub holds : IsArray s array items
   pub are : BeginWith s count items
 
+-- `structs` is an array of the structs' types, each of its size
+pub record HasStructs (s : StoreState) (ds : List DictId) (defs : List StructDef) : Type 0 where
+  pub array : ArrayId
+  pub items : List PsObj
+  pub means : named s ds (codes "structs") ≡ Some (Array array false)
+  pub holds : IsArray s array items
+  pub sized : (n : ℕ) → n < length defs → (x : PsObj) × (slice_get items n ≡ Some x) × IsSized s x (struct_size_of defs n)
+
 -- ---- the state
 
 -- the symbol with a number stands under it in a dictionary
@@ -82,9 +91,10 @@ pub record IsDefined (s : StoreState) (d : DictId) (defs : List StructDef) (ss :
   pub found : value_at (entries_of s d) (IntKey (signed n)) ≡ Some object
   pub chain : Chained s defs ss object (Some n)
 
--- The words have their senses, a unit's dictionary is on top, which has so many entries at most and no names, and these symbols stand in it.
-pub record Running (pr : Printers) (few : ℕ) (defs : List StructDef) (ss : List SymbolRow) (objects : ℕ) (s : StoreState) (i : ℕ) (ds : List DictId) (entries : ℕ) (made : ℕ → Type 0) : Type 0 where
-  pub knowing : Knowing s i ds entries (with_structs pr few defs)
+-- The table's words have their senses, a unit's dictionary is on top, which has so many entries at most and no names, and these symbols stand in it.
+pub record Running (defs : List StructDef) (ss : List SymbolRow) (objects : ℕ) (s : StoreState) (i : ℕ) (ds : List DictId) (entries : ℕ) (made : ℕ → Type 0) : Type 0 where
+  pub knowing : Knowing s i ds entries word_senses
   pub nameless : HasNoNames s (in_table i)
+  pub structs : HasStructs s (in_table i ∷ ds) defs
   pub listed : HasObjects s (in_table i ∷ ds) objects
   pub defined : (n : ℕ) → made n → IsDefined s (in_table i) defs ss n

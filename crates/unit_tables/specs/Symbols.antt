@@ -26,7 +26,6 @@ use Rattle.ps_tables.specs.Defined.{in_table}
 use Rattle.ps_tables.specs.Types.{written, type_steps, type_cost}
 use Rattle.ps_tables.specs.Pieces.{Piece, End, Chars, Quote, Value, Element, Loaded, Typed}
 use Rattle.ps_tables.specs.Runnable.{RunsType}
-use Rattle.ps_tables.specs.WordsKnown.{Printers}
 use Rattle.unit_tables.specs.Amended.{Amended}
 use Rattle.unit_tables.specs.Running.{Running}
 
@@ -99,11 +98,11 @@ pub record RunsSymbol (defs : List StructDef) (objects : ℕ) (row : SymbolRow) 
 -- ---- what a run does
 
 -- A symbol is made and stands under its number: so many steps, so many units at most, and the operands are as before.
-pub record DefinesSymbol (pr : Printers) (few : ℕ) (defs : List StructDef) (ss : List SymbolRow) (objects cost steps : ℕ) (s : StoreState) (i : ℕ) (ds : List DictId) (entries : ℕ) (made : ℕ → Type 0)
+pub record DefinesSymbol (defs : List StructDef) (ss : List SymbolRow) (objects cost steps : ℕ) (s : StoreState) (i : ℕ) (ds : List DictId) (entries : ℕ) (made : ℕ → Type 0)
     (o : List PsObj) (t : StringId) (at : ℕ) (rest : List ℕ) (under : List Item) : Type 0 where
   pub store : StoreState
   pub to : ℕ
-  pub running : Running pr few defs ss objects store i ds entries made
+  pub running : Running defs ss objects store i ds entries made
   pub amended : Amended cost (in_table i) s store
   pub stands : StandsAt store t to rest
   pub takes : Takes steps (core s (in_table i ∷ ds) o (TextItem t at ∷ under)) (core store (in_table i ∷ ds) o (TextItem t to ∷ under))

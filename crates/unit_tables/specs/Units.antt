@@ -18,17 +18,17 @@ use Rattle.ps_tables.specs.Taken.{Takes}
 use Rattle.ps_tables.specs.Making.{IsMaking}
 use Rattle.ps_tables.specs.Later.{Later}
 use Rattle.ps_tables.specs.Senses.{HaveSenses}
-use Rattle.ps_tables.specs.WordsKnown.{Printers}
-use Rattle.ps_tables.specs.PartsKnown.{with_structs}
-use Rattle.unit_tables.specs.Running.{HasObjects}
+use Rattle.ps_tables.specs.WordsKnown.{word_senses}
+use Rattle.unit_tables.specs.Running.{HasObjects, HasStructs}
 use Rattle.unit_tables.specs.Functions.{function_rows, AreFunctions}
 
 -- The state in which a unit's text is run: in the table's part, with the words of the table and its static objects. There are not fewer dictionaries on the stack than the base has.
-pub record Furnished (pr : Printers) (few : ℕ) (p : Program) (s : StoreState) (ds : List DictId) : Type 0 where
+pub record Furnished (p : Program) (s : StoreState) (ds : List DictId) : Type 0 where
   pub making : IsMaking s ds
-  pub have : HaveSenses s ds (with_structs pr few p.defs)
+  pub have : HaveSenses s ds word_senses
   pub no_kind : named s ds (codes "kind") ≡ None
   pub no_tag : named s ds (codes "tag") ≡ None
+  pub structs : HasStructs s ds p.defs
   pub listed : HasObjects s ds (length p.objects)
   pub few_dicts : length ds < 64
   pub base : length s.base ≤ length ds

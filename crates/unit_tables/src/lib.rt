@@ -2,3 +2,7 @@
 #![tactic(auto)]
 
 mod laws;
+
+pub use laws::{
+    functions_are_forced, symbols_are_defined, units_are_bounded, units_are_run, units_follow,
+};
