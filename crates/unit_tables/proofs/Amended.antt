@@ -26,11 +26,11 @@ use Rattle.ps_tables.specs.Dictionaries.{Fields}
 use Rattle.ps_tables.specs.Making.{AreThere, IsMaking, HasFields}
 use Rattle.ps_tables.specs.Later.{IsThere, IsOpen, Later, StandsAt}
 use Rattle.ps_tables.specs.Defined.{in_table}
-use Rattle.ps_tables.specs.Senses.{Sense, Stands, Sized, Kind, Variables, Called, Structs, Listing, basic_fields, variable_fields, IsStruct, AreStructs, IsOf, HasSense, Senses, HaveSenses, AreOther, Knowing}
+use Rattle.ps_tables.specs.Senses.{Sense, Stands, Sized, Kind, Variables, Called, Structs, Objects, basic_fields, variable_fields, IsStruct, AreStructs, IsOf, HasSense, Senses, HaveSenses, AreOther, Knowing}
 use Rattle.ps_tables.proofs.Known.{apart_by}
 use Rattle.unit_tables.specs.Kept.{Elsewhere, Lacks}
 use Rattle.unit_tables.specs.Amended.{PutsUnder, Amended, HasNoNames}
-use Rattle.unit_tables.proofs.Elsewhere.{found_kept, all_there, there_kept, body_kept, named_kept}
+use Rattle.unit_tables.proofs.Elsewhere.{found_kept, all_there, there_kept, body_kept, named_kept, begin_kept}
 
 -- ---- how a store comes of another one
 
@@ -166,7 +166,7 @@ module _ (u i : ℕ) (s s' : StoreState) (amended : Amended u (in_table i) s s')
     is_of_amended x Variables h = (h.0, h.1, h.2, named_fields h.0 h.1 _ h.3)
     is_of_amended x (Called body) h = let b = body_kept D s s' elsewhere body h.0 h.2 h.3 in (h.0, h.1, b.0, b.1)
     is_of_amended x (Structs few defs) h = (h.0, h.1, h.2, amended.arrays h.0 h.1 h.3, structs_amended few h.1 defs h.4)
-    is_of_amended x Listing h = h
+    is_of_amended x (Objects count) h = (h.0, h.1, h.2, amended.arrays h.0 h.1 h.3, begin_kept D s s' elsewhere lacks_all count h.1 h.4)
 
     senses_amended : (ds : List DictId) → AreOther ds D → AreThere s (D ∷ ds) → (ws : Senses) → HaveSenses s (D ∷ ds) ws → HaveSenses s' (D ∷ ds) ws
     senses_amended ds other there [] h = tt

@@ -40,10 +40,11 @@ use Rattle.ps_emit.specs.Functions.{deferred}
 use Rattle.ps_force.specs.Forcing.{Forced, apart, closing, forced_by, placing, placing_left, Forces}
 use Rattle.ps_tables.specs.Dictionaries.{Fields, AreFields}
 use Rattle.ps_tables.specs.Making.{AreThere, HasFields}
-use Rattle.ps_tables.specs.Senses.{Sense, Stands, Sized, Kind, Variables, Called, Structs, Listing, Senses, IsOf, HaveSenses, AreOther}
+use Rattle.ps_tables.specs.Senses.{Sense, Stands, Sized, Kind, Variables, Called, Structs, Objects, Senses, IsOf, HaveSenses, AreOther}
 use Rattle.ps_tables.specs.WordsKnown.{word_senses}
 use Rattle.ps_tables.specs.Later.{IsThere, Later}
 use Rattle.ps_tables.specs.Defined.{in_table}
+use Rattle.ps_tables.specs.Left.{IsDeferred}
 use Rattle.ps_tables.proofs.Going.{taken}
 use Rattle.ps_tables.proofs.Kept.{Same, kept_string, kept_array}
 use Rattle.ps_tables.proofs.Types.{value_of, fields_value}
@@ -52,7 +53,7 @@ use Rattle.unit_tables.specs.Kept.{Elsewhere, Lacks}
 use Rattle.unit_tables.specs.Conditions.{RunsUnits, FunctionsFollowed}
 use Rattle.unit_tables.specs.Functions.{function_rows, AreFunctions, unit_steps, unit_made}
 use Rattle.unit_tables.specs.Units.{Furnished, LeavesFunctions}
-use Rattle.unit_tables.specs.Settled.{IsDeferred, HasFunctions, Gives}
+use Rattle.unit_tables.specs.Settled.{HasFunctions, Gives}
 use Rattle.unit_tables.proofs.Elsewhere.{found_kept, all_there, body_kept, sized_kept, named_kept, begin_kept, functions_kept}
 use Rattle.unit_tables.proofs.Units.{unit_leaves}
 
@@ -207,7 +208,7 @@ module _ (changed : DictId) (s s' : StoreState) (kept : Elsewhere changed s s') 
   is_of_kept x Variables still h = (h.0, h.1, h.2, named_kept changed s s' kept lacks h.0 h.1 _ h.3)
   is_of_kept x (Called body) still h = let b = body_kept changed s s' kept body h.0 h.2 h.3 in (h.0, h.1, b.0, b.1)
   is_of_kept x (Structs few defs) still h = absurd still
-  is_of_kept x Listing still h = h
+  is_of_kept x (Objects count) still h = (h.0, h.1, h.2, kept.arrays h.0 h.1 h.3, begin_kept changed s s' kept lacks count h.1 h.4)
 
   senses_kept : (ws : Senses) → AreStill ws → HaveSenses s ds ws → HaveSenses s' ds ws
   senses_kept [] still h = tt

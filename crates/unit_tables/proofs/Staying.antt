@@ -35,7 +35,7 @@ use Rattle.ps_tables.proofs.Sequence.{knowing_later}
 use Rattle.unit_tables.specs.Kept.{Elsewhere, Lacks}
 use Rattle.unit_tables.specs.Amended.{PutsUnder, Amended, HasNoNames}
 use Rattle.unit_tables.specs.Shown.{Chained, outermost, symbol, IsPoint, ArePoints, AreSaved, IsFunction}
-use Rattle.unit_tables.specs.Running.{object_fields, IsObject, BeginWith, HasObjects, HasStructs, IsDefined, Running}
+use Rattle.unit_tables.specs.Running.{HasObjects, HasStructs, IsDefined, Running}
 use Rattle.unit_tables.proofs.Elsewhere.{sized_kept, begin_kept, chain_kept, point_kept, points_kept, saved_kept, function_kept}
 use Rattle.unit_tables.proofs.Amended.{later_amended, puts_amended, named_amended, no_names_amended, elsewhere, lacks_all, knowing_amended}
 

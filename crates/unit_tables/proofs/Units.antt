@@ -63,9 +63,9 @@ use Rattle.ps_tables.proofs.Tokens.{Acted, word_acts, Pushed, number_pushes}
 use Rattle.ps_tables.proofs.PieceSteps.{open_fine, open_number, opens, Closes, closes}
 use Rattle.ps_tables.proofs.TablePieces.{assoc}
 use Rattle.ps_tables.proofs.MembersRun.{further_is}
-use Rattle.ps_tables.proofs.Known.{senses_later}
+use Rattle.ps_tables.proofs.Known.{begin_later, senses_later}
 use Rattle.unit_tables.specs.Amended.{Amended, HasNoNames}
-use Rattle.unit_tables.specs.Running.{IsObject, BeginWith, HasObjects, IsMade, Running}
+use Rattle.unit_tables.specs.Running.{HasObjects, IsMade, Running}
 use Rattle.unit_tables.specs.Conditions.{RunsUnits, FunctionsFollowed}
 use Rattle.unit_tables.specs.Functions.{functions_steps, functions_made, function_rows, AreFunctions, unit_steps, unit_made}
 use Rattle.unit_tables.specs.Units.{Furnished, LeavesFunctions}
@@ -105,14 +105,6 @@ end_number = refl
 -- ---- furnished states
 
 module _ (u : ℕ) (s s' : StoreState) (later : Later u s s') where
-  begin_later : (n : ℕ) (xs : List PsObj) → BeginWith s n xs → BeginWith s' n xs
-  begin_later zero xs h = tt
-  begin_later (suc n) [] h = absurd h
-  begin_later (suc n) (x ∷ xs) h = (
-    record { dict = h.0.dict; is = h.0.is; kind = h.0.kind; ctype = h.0.ctype; place = h.0.place; label = h.0.label; name = h.0.name; has = fields_later u s s' later h.0.dict _ h.0.has },
-    begin_later n xs h.1,
-  )
-
   pub furnished_later : (p : Program) (ds : List DictId) → Furnished p s ds → Furnished p s' ds
   furnished_later p ds f = record {
     making = making_later u s s' later ds f.making;
@@ -131,7 +123,7 @@ module _ (u : ℕ) (s s' : StoreState) (later : Later u s s') where
       items = f.listed.items;
       means = named_later u s s' later ds (codes "objects") f.making.there ∙ f.listed.means;
       holds = later.arrays f.listed.array f.listed.items f.listed.holds;
-      are = begin_later (length p.objects) f.listed.items f.listed.are;
+      are = begin_later u s s' later ds f.making.there (length p.objects) f.listed.items f.listed.are;
     };
     few_dicts = f.few_dicts;
     base = subst (λ (b : List DictId). length b ≤ length ds) (sym later.base) f.base;
