@@ -49,7 +49,7 @@ both : (a b : Bool) → (a && b) ≡ true → (a ≡ true) × (b ≡ true)
 both true b e = (refl, e)
 both false b e = absurd cc
 
-dict_is : (d e : DictId) → same_dict d e ≡ true → d ≡ e
+pub dict_is : (d e : DictId) → same_dict d e ≡ true → d ≡ e
 dict_is d e h =
     let two : (same_part d.part e.part ≡ true) × ((d.index == e.index) ≡ true) = both (same_part d.part e.part) (d.index == e.index) h in
     let p : d.part ≡ e.part = part_is d.part e.part two.0 in

@@ -178,7 +178,7 @@ whole_is b name entry end frame saved points k = on b
     on true = ap (λ c. Text name (Word (codes "true") (Num entry (Num end (Num frame (Word (codes "[") c)))))) inner
     on false = ap (λ c. Text name (Word (codes "false") (Num entry (Num end (Num frame (Word (codes "[") c)))))) inner
 
-all_places : (f : Function) (at : Placed) → RunsPlaced at → ArePlaces (homes at.locals f.locals)
+pub all_places : (f : Function) (at : Placed) → RunsPlaced at → ArePlaces (homes at.locals f.locals)
 all_places f at h x = on at.locals x h.locals
   where
     on : (ls : List LocalPlace) (n : ℕ) → AllByRecursion (λ (l : LocalPlace). RunsPlace (Some l)) ls → RunsPlace (slice_get ls n)

@@ -37,6 +37,7 @@ use Rattle.ps_tables.proofs.TypesKnown.{nth}
 use Rattle.unit_tables.specs.Kept.{Elsewhere, Lacks}
 use Rattle.unit_tables.specs.Running.{HasObjects, HasStructs}
 use Rattle.unit_tables.specs.Units.{closed_store, Furnished}
+use Rattle.unit_tables.proofs.Elsewhere.{found_kept, all_there}
 use Rattle.unit_tables.proofs.Forced.{furnished_kept}
 
 -- the first of senses
@@ -104,7 +105,7 @@ module _ (s : StoreState) (closed : Mark) (base : List DictId) (top : Option Dic
       by Command i l = refl
 
   pub furnished_closed : (p : Program) (ds : List DictId) → closed.dicts ≤ length s.table.dicts → length base ≤ length ds → Furnished p s ds → Furnished p S ds
-  furnished_closed p ds within bases f = furnished_kept beyond s S kept lacks ds (other ds f.making.there) f.making.there p refl within bases f
+  furnished_closed p ds within bases f = furnished_kept beyond s S kept lacks ds (λ word apart. found_kept beyond s S kept ds (NameKey word) (other ds f.making.there) f.making.there) (all_there beyond s S kept ds (other ds f.making.there) f.making.there) p refl within bases f
 
   pub deferred_closed : (p : Program) (fs : List Placed) (xs : List PsObj) (us : List UnitRow) → AreDeferred p fs s xs us → AreDeferred p fs S xs us
   deferred_closed p fs [] [] h = tt

@@ -29,7 +29,6 @@ ghost use Rattle.ps_emit.specs.Functions.{deferred};
 ghost use Rattle.ps_emit.specs.Bounds.{of_symbol, cost_of};
 ghost use Rattle.ps_tables.specs.Later.{StandsAt};
 ghost use Rattle.ps_tables.specs.Defined.{in_table};
-ghost use Rattle.ps_tables.specs.Senses.{AreOther};
 ghost use Rattle.ps_tables.specs.Bounded.{IsShort, deferred_units};
 ghost use Rattle.ps_tables.specs.Rows.{HasRows, IsParted};
 ghost use Rattle.ps_tables.specs.Tabled.{table_made, table_steps};
@@ -64,9 +63,9 @@ pub fn functions_are_forced<D: Dialect>()
     ensures { (p : Program) (fs : List FunctionRow) (u : UnitRow) (c c' : PsCore) (index left m : ℕ) (t : StringId) (d d' : D) (result : Result PsObj PsFault) → RunsUnits p fs → FunctionsFollowed p fs 0 u.functions → length u.functions ≤ 40000 → Furnished p (apart c).store (reverse c.store.base) → IsDeferred p fs u c.store index t → c.store.table.units + c.store.command.units + unit_made p fs u ≤ 8000000 → Forces D.operates (further (suc (unit_steps p fs u)) (suc left)) d c (in_table index) (NameKey (codes "functions")) (Str t true) result m d' c' → result ≢ Err NoMemory → Gives p fs u c index (suc left) d result m d' c' }
 {}
 
-/// Where the functions of a unit were given, what the run of a unit's text asks of a store holds again, where the unit's dictionary is none of the base; and the entry of each other unit is as it was. So the units can be used in any order.
+/// Where the functions of a unit were given, what the run of a unit's text asks of a store holds again; and the entry of each other unit is as it was. So the units can be used in any order.
 pub fn units_follow()
-    ensures furnished { (p : Program) (fs : List FunctionRow) (u : UnitRow) (c c' : PsCore) (index : ℕ) (x : PsObj) (t : StringId) → HasFunctions p fs u c.store c'.store index x → IsDeferred p fs u c.store index t → AreOther (reverse c.store.base) (in_table index) → Furnished p (apart c).store (reverse c.store.base) → Furnished p (apart c').store (reverse c'.store.base) }
+    ensures furnished { (p : Program) (fs : List FunctionRow) (u : UnitRow) (c c' : PsCore) (index : ℕ) (x : PsObj) (t : StringId) → HasFunctions p fs u c.store c'.store index x → IsDeferred p fs u c.store index t → Furnished p (apart c).store (reverse c.store.base) → Furnished p (apart c').store (reverse c'.store.base) }
     ensures deferred { (p : Program) (fs : List FunctionRow) (u v : UnitRow) (c c' : PsCore) (index other : ℕ) (x : PsObj) (t text : StringId) → HasFunctions p fs u c.store c'.store index x → IsDeferred p fs u c.store index t → other ≢ index → IsDeferred p fs v c.store other text → IsDeferred p fs v c'.store other text }
 {}
 
