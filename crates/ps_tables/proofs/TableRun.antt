@@ -132,14 +132,14 @@ module _ (index : ℕ) (ds : List DictId) (t : StringId) (pr : Printers) where
         holds = shown.holds;
         are = units_left_in p at.functions q.store p.units shown.units shown.shows;
         leaves = record {
-        store = q.store;
-        top = q.shows.0;
-        to = q.to;
-        is_top = shown.is_top;
-        owned = owned_within (u + cost (top p at k.objects k.structs)) (table_made p at) s q.store (omega arith)
-            (owned_then u (cost (top p at k.objects k.structs)) s r.store q.store r.owned (owned_later (cost (top p at k.objects k.structs)) r.store q.store all r.knowing.making q.later));
-        takes = subst (λ m. Takes m c₀ c₂) (further_is x (top_steps p at)) (takes_then x (top_steps p at) c₀ c₁ c₂ r.takes last);
-        ends = text_ends q.store (Dict q.shows.0 ∷ []) q.to q.stands;
+          store = q.store;
+          top = q.shows.0;
+          to = q.to;
+          is_top = shown.is_top;
+          owned = owned_within (u + cost (top p at k.objects k.structs)) (table_made p at) s q.store (omega arith)
+              (owned_then u (cost (top p at k.objects k.structs)) s r.store q.store r.owned (owned_later (cost (top p at k.objects k.structs)) r.store q.store all r.knowing.making q.later));
+          takes = subst (λ m. Takes m c₀ c₂) (further_is x (top_steps p at)) (takes_then x (top_steps p at) c₀ c₁ c₂ r.takes last);
+          ends = text_ends q.store (Dict q.shows.0 ∷ []) q.to q.stands;
         };
       }
 

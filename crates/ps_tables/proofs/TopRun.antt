@@ -303,16 +303,16 @@ module _ (s : StoreState) (target : ℕ) (anchored tagged made_units : Values) (
         holds = l₆.shows.4;
         shows = l₆.shows.5;
         is_top = record {
-        version = fields_value s (entries_of s d) made (codes "ldb") are ∙ ap Some (head_is l₁.v (Int (pos 1)) l₁.shows.0 l₁.shows.1);
-        name = l₂.shows.0;
-        is_target = fields_value s (entries_of s d) made (codes "target") are ∙ ap Some (head_is l₂.v (Str l₂.shows.0 false) l₂.shows.1 l₂.shows.2);
-        told = l₂.shows.3;
-        anchors = l₃.shows.0;
-        has_anchors = fields_value s (entries_of s d) made (codes "anchors") are ∙ ap Some (head_is l₃.v (Dict l₃.shows.0) l₃.shows.2 l₃.shows.3);
-        structs = l₄.shows.0;
-        has_structs = fields_value s (entries_of s d) made (codes "structs") are ∙ ap Some (head_is l₄.v (Dict l₄.shows.0) l₄.shows.2 l₄.shows.3);
-        units = l₆.shows.0;
-        has_units = fields_value s (entries_of s d) made (codes "units") are ∙ ap Some (head_is l₆.v (Array l₆.shows.0 false) l₆.shows.2 l₆.shows.3);
+          version = fields_value s (entries_of s d) made (codes "ldb") are ∙ ap Some (head_is l₁.v (Int (pos 1)) l₁.shows.0 l₁.shows.1);
+          name = l₂.shows.0;
+          is_target = fields_value s (entries_of s d) made (codes "target") are ∙ ap Some (head_is l₂.v (Str l₂.shows.0 false) l₂.shows.1 l₂.shows.2);
+          told = l₂.shows.3;
+          anchors = l₃.shows.0;
+          has_anchors = fields_value s (entries_of s d) made (codes "anchors") are ∙ ap Some (head_is l₃.v (Dict l₃.shows.0) l₃.shows.2 l₃.shows.3);
+          structs = l₄.shows.0;
+          has_structs = fields_value s (entries_of s d) made (codes "structs") are ∙ ap Some (head_is l₄.v (Dict l₄.shows.0) l₄.shows.2 l₄.shows.3);
+          units = l₆.shows.0;
+          has_units = fields_value s (entries_of s d) made (codes "units") are ∙ ap Some (head_is l₆.v (Array l₆.shows.0 false) l₆.shows.2 l₆.shows.3);
         };
       }
 

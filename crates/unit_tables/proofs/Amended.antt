@@ -1,12 +1,9 @@
 -- What stays known where one dictionary gets more under integers.
-use Rattle.std.proofs.Common.{◌≡◌, ℕ, ℤ, pos, suc, ◌+◌, ◌<◌, ◌≤◌, Bool, true, false, ◌&&◌, ◌==◌, Option, Some, None, List, [], ◌∷◌, ◌++◌, length, codes, refl, sym, ap, ◌∙◌, subst, arith, ne_eqb}
+use Rattle.std.proofs.Common.{◌≡◌, ℕ, ℤ, ◌+◌, ◌≤◌, false, Option, List, [], ◌∷◌, length, codes, refl, sym, ap, ◌∙◌, subst, arith}
 use Rattle.std.specs.Prelude.{option_map}
 use Rattle.c_tree.specs.declared.types.StructDef.{StructDef}
-use Rattle.ps_store.specs.declared.object.Part.{Part}
-use Rattle.ps_store.specs.declared.object.Part.TheVariants.{Table, Command}
 use Rattle.ps_store.specs.declared.object.PsObj.{PsObj}
 use Rattle.ps_store.specs.declared.object.PsObj.TheVariants.{Op}
-use Rattle.ps_store.specs.declared.object.ArrayId.{ArrayId}
 use Rattle.ps_store.specs.declared.object.DictId.{DictId}
 use Rattle.ps_store.specs.declared.object.StringId.{StringId}
 use Rattle.ps_store.specs.declared.object.Pair.{Pair}
@@ -16,17 +13,14 @@ use Rattle.ps_store.specs.declared.key.Key.TheVariants.{Name as NameKey, Int as 
 use Rattle.ps_store.specs.Entries.{value_at}
 use Rattle.ps_store.specs.Operators.{operator_number}
 use Rattle.ps_store.specs.StoreState.{StoreState}
-use Rattle.ps_store.specs.Store.{entries_of, elements_of}
+use Rattle.ps_store.specs.Store.{entries_of}
 use Rattle.ps_step.specs.Composites.{same_dict}
 use Rattle.ps_step.specs.Keys.{or_else, found_in, named}
-use Rattle.ps_text.specs.Code.{Code, Stop, Num, Word, Lit, Text, Proc}
-use Rattle.ps_text.specs.Grown.{HasArray, IsArray}
-use Rattle.ps_text.specs.Spells.{Spells}
 use Rattle.ps_tables.specs.Dictionaries.{Fields}
 use Rattle.ps_tables.specs.Making.{AreThere, IsMaking, HasFields}
 use Rattle.ps_tables.specs.Later.{IsThere, IsOpen, Later, StandsAt}
 use Rattle.ps_tables.specs.Defined.{in_table}
-use Rattle.ps_tables.specs.Senses.{Sense, Stands, Sized, Kind, Variables, Called, Structs, Objects, basic_fields, variable_fields, IsStruct, AreStructs, IsOf, HasSense, Senses, HaveSenses, AreOther, Knowing}
+use Rattle.ps_tables.specs.Senses.{Sense, Stands, Sized, Kind, Variables, Called, Structs, Objects, IsStruct, AreStructs, IsOf, Senses, HaveSenses, AreOther, Knowing}
 use Rattle.ps_tables.proofs.Known.{apart_by}
 use Rattle.unit_tables.specs.Kept.{Elsewhere, Lacks}
 use Rattle.unit_tables.specs.Amended.{PutsUnder, Amended, HasNoNames}

@@ -1,5 +1,5 @@
 -- What stays of symbols, points and functions where one dictionary is changed that is none of theirs.
-use Rattle.std.proofs.Common.{◌≡◌, ℕ, ℤ, zero, suc, ◌+◌, ◌<◌, ◌≤◌, false, Option, Some, None, List, [], ◌∷◌, codes, refl, sym, ap, ◌∙◌, subst}
+use Rattle.std.proofs.Common.{◌≡◌, ℕ, ℤ, zero, suc, false, Option, List, [], ◌∷◌, codes, refl, sym, ap, ◌∙◌, subst}
 use Rattle.c_tree.specs.declared.types.StructDef.{StructDef}
 use Rattle.c_tree.specs.declared.rows.Program.{Program}
 use Rattle.c_tree.specs.declared.rows.SymbolRow.{SymbolRow}

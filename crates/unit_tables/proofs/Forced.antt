@@ -25,25 +25,23 @@ use Rattle.ps_store.specs.Store.{held, entries_of}
 use Rattle.ps_store.specs.Cut.{mark_of}
 use Rattle.ps_step.specs.declared.fault.PsFault.{PsFault}
 use Rattle.ps_step.specs.declared.fault.PsFault.TheVariants.{NoMemory}
-use Rattle.ps_step.specs.declared.item.Item.{Item}
 use Rattle.ps_step.specs.declared.item.Item.TheVariants.{Object, Text as TextItem}
 use Rattle.ps_step.specs.declared.machine.PsCore.{PsCore}
 use Rattle.ps_step.specs.Compare.{same_part}
 use Rattle.ps_step.specs.Composites.{same_dict}
 use Rattle.ps_step.specs.Keys.{or_else, found_in, named}
-use Rattle.ps_run.specs.Runs.{Answer, Operates, Runs}
+use Rattle.ps_run.specs.Runs.{Answer, Operates}
 use Rattle.ps_run.proofs.Apart.{finished}
 use Rattle.ps_text.specs.Code.{render}
-use Rattle.ps_text.specs.Grown.{IsArray}
 use Rattle.ps_terms.specs.Stands.{core}
 use Rattle.ps_terms.specs.Printing.{further}
 use Rattle.ps_emit.specs.Functions.{deferred}
-use Rattle.ps_force.specs.Forcing.{Forced, apart, closing, forced_by, placing, placing_left, Forces}
+use Rattle.ps_force.specs.Forcing.{Forced, apart, closing, forced_by, placing, Forces}
 use Rattle.ps_tables.specs.Dictionaries.{Fields, AreFields}
-use Rattle.ps_tables.specs.Making.{AreThere, HasFields}
+use Rattle.ps_tables.specs.Making.{AreThere}
 use Rattle.ps_tables.specs.Senses.{Sense, Stands, Sized, Kind, Variables, Called, Structs, Objects, Senses, IsOf, HaveSenses}
 use Rattle.ps_tables.specs.WordsKnown.{word_senses}
-use Rattle.ps_tables.specs.Later.{IsThere, Later}
+use Rattle.ps_tables.specs.Later.{IsThere}
 use Rattle.ps_tables.specs.Defined.{in_table}
 use Rattle.ps_tables.specs.Left.{IsDeferred}
 use Rattle.ps_tables.proofs.Going.{taken}
@@ -53,7 +51,7 @@ use Rattle.ps_tables.proofs.Types.{value_of, fields_value}
 use Rattle.ps_tables.proofs.News.{fields_kept}
 use Rattle.unit_tables.specs.Kept.{Elsewhere, Lacks}
 use Rattle.unit_tables.specs.Conditions.{RunsUnits, FunctionsFollowed}
-use Rattle.unit_tables.specs.Functions.{function_rows, AreFunctions, unit_steps, unit_made}
+use Rattle.unit_tables.specs.Functions.{function_rows, unit_steps, unit_made}
 use Rattle.unit_tables.specs.Units.{Furnished, LeavesFunctions}
 use Rattle.unit_tables.specs.Settled.{HasFunctions, Gives}
 use Rattle.unit_tables.proofs.Elsewhere.{body_kept, sized_kept, named_kept, begin_kept, functions_kept}

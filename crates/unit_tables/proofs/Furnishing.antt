@@ -1,8 +1,6 @@
 -- What a table's text leaves is such as its units' functions are run with.
-use Rattle.std.proofs.Common.{◌≡◌, ℕ, zero, suc, ◌+◌, ◌<◌, ◌≤◌, Bool, true, false, ◌&&◌, ◌==◌, Option, Some, None, List, [], ◌∷◌, ◌++◌, length, codes, slice_get, slice_index_or, refl, sym, ap, ◌∙◌, subst, arith, ne_eqb}
+use Rattle.std.proofs.Common.{◌≡◌, ℕ, zero, suc, ◌+◌, ◌<◌, ◌≤◌, false, ◌&&◌, ◌==◌, Option, Some, None, List, [], ◌∷◌, ◌++◌, length, codes, slice_index_or, refl, sym, ap, ◌∙◌, subst, arith, ne_eqb}
 use Rattle.std.specs.List.{AllByRecursion}
-use Rattle.c_tree.specs.Layout.{struct_size_of}
-use Rattle.c_tree.specs.declared.types.StructDef.{StructDef}
 use Rattle.c_tree.specs.declared.rows.Program.{Program}
 use Rattle.c_tree.specs.declared.rows.UnitRow.{UnitRow}
 use Rattle.obj_file.specs.declared.object.FunctionRow.{FunctionRow as Placed}
@@ -10,7 +8,6 @@ use Rattle.ps_store.specs.declared.object.Part.{Part}
 use Rattle.ps_store.specs.declared.object.Part.TheVariants.{Table, Command}
 use Rattle.ps_store.specs.declared.object.Mark.{Mark}
 use Rattle.ps_store.specs.declared.object.PsObj.{PsObj}
-use Rattle.ps_store.specs.declared.object.PsObj.TheVariants.{Str}
 use Rattle.ps_store.specs.declared.object.DictId.{DictId}
 use Rattle.ps_store.specs.declared.object.StringId.{StringId}
 use Rattle.ps_store.specs.declared.object.Pair.{Pair}
@@ -20,22 +17,18 @@ use Rattle.ps_store.specs.Entries.{value_at}
 use Rattle.ps_store.specs.StoreState.{StoreState}
 use Rattle.ps_store.specs.Store.{held, entries_of}
 use Rattle.ps_step.specs.Compare.{same_part}
-use Rattle.ps_step.specs.Composites.{same_dict}
 use Rattle.ps_text.specs.Code.{render}
 use Rattle.ps_emit.specs.declared.placement.Placement.{Placement}
 use Rattle.ps_emit.specs.Functions.{deferred}
-use Rattle.ps_tables.specs.Dictionaries.{Fields}
-use Rattle.ps_tables.specs.Making.{AreThere, IsMaking}
+use Rattle.ps_tables.specs.Making.{AreThere}
 use Rattle.ps_tables.specs.Defined.{in_table}
 use Rattle.ps_tables.specs.Runnable.{RunsStruct}
-use Rattle.ps_tables.specs.Types.{IsSized}
-use Rattle.ps_tables.specs.Senses.{AreStructs, Structs, Objects, HasSense, Senses, HaveSenses, AreOther}
+use Rattle.ps_tables.specs.Senses.{Structs, Objects, HasSense, Senses, HaveSenses, AreOther}
 use Rattle.ps_tables.specs.WordsKnown.{Printers, printer_senses, word_senses}
 use Rattle.ps_tables.specs.Left.{IsDeferred, AreDeferred, LeavesTable}
 use Rattle.ps_tables.proofs.News.{fields_kept}
 use Rattle.ps_tables.proofs.TypesKnown.{nth}
 use Rattle.unit_tables.specs.Kept.{Elsewhere, Lacks}
-use Rattle.unit_tables.specs.Running.{HasObjects, HasStructs}
 use Rattle.unit_tables.specs.Units.{closed_store, Furnished}
 use Rattle.unit_tables.proofs.Elsewhere.{found_kept, all_there}
 use Rattle.unit_tables.proofs.Forced.{furnished_kept}

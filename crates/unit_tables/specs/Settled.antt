@@ -6,7 +6,6 @@ use Rattle.c_tree.specs.declared.rows.UnitRow.{UnitRow}
 use Rattle.ps_store.specs.declared.object.PsObj.{PsObj}
 use Rattle.ps_store.specs.declared.object.PsObj.TheVariants.{Array}
 use Rattle.ps_store.specs.declared.object.ArrayId.{ArrayId}
-use Rattle.ps_store.specs.declared.object.DictId.{DictId}
 use Rattle.ps_store.specs.StoreState.{StoreState}
 use Rattle.ps_store.specs.declared.key.Key.TheVariants.{Name as NameKey}
 use Rattle.ps_store.specs.Cut.{mark_of}
