@@ -1,7 +1,6 @@
 -- The names of the sources that words ask to make a session of.
-use Rattle.std.proofs.Common.{◌≡◌, ℕ, Bool, true, false, ◌&&◌, List, [], ◌∷◌, length, drop, map, string_bytes, if◌then◌else◌, codes, Option, None, Some, refl, sym, ap, subst, ◌∙◌, ◌≤◌, leb-true, arith}
+use Rattle.std.proofs.Common.{◌≡◌, ℕ, Bool, true, false, List, [], ◌∷◌, length, drop, map, string_bytes, if◌then◌else◌, None, Some, refl, sym, ap, subst, ◌∙◌, ◌≤◌, leb-true}
 use Rattle.std.proofs.lemmas.Bool.{and_parts}
-use Rattle.std.specs.Str.{bytes_eq}
 use Rattle.cc_call.specs.Words.{is_source, are_sources, is_count}
 use Rattle.compiled_tables.specs.Conditions.{AreFileNames}
 use Rattle.ldb_top.specs.declared.words.GoRequest.{GoRequest}
@@ -9,9 +8,7 @@ use Rattle.ldb_top.specs.declared.words.Request.{Request}
 use Rattle.ldb_top.specs.declared.words.Request.TheVariants as request
 use Rattle.ldb_top.specs.Names.{Names, AreSourceNames, sources_in}
 use Rattle.ldb_top.specs.Said.{IsNamed}
-use Rattle.ldb_top.specs.Words.{Form, Debug, Go, Make, Own, form_if, form_of, form_in, is_debug, is_go, is_plain_go, is_lone_number, unscheduled}
-
--- ---- the words of `go`
+use Rattle.ldb_top.specs.Words.{Debug, Go, Make, Own, form_if, form_of, form_in, is_debug, is_go, is_plain_go, is_lone_number, unscheduled}
 
 short : (names : List (List ℕ)) → are_sources names ≡ true → AreFileNames names
 short [] h = tt
@@ -54,8 +51,3 @@ source_names asked q r e f n =
     let named : map string_bytes r.sources.now ≡ sources_in (unscheduled (drop 1 asked)) = ap (λ (x : Names). x.about) (subst (IsNamed (drop 1 asked)) e n) in
     let form : form_of asked ≡ Some Go = sym (ap (λ (x : Request). Some (form_in x)) (sym e) ∙ f) in
     subst AreSourceNames (sym named) (are_few (unscheduled (drop 1 asked)) (are_words asked form))
-
--- ---- a single source
-
-pub own_name : (names : List (List ℕ)) (name : List ℕ) → names ≡ name ∷ [] → length name ≤ 255 → AreSourceNames names
-own_name names name e l = subst AreSourceNames (sym e) (record { few = omega arith; short = (l, tt) })
