@@ -3,16 +3,15 @@ use Rattle.std.proofs.Common.{◌≡◌, refl, sym, ap, ◌∙◌, ℕ, zero, su
 use Rattle.c_declaration.specs.Tree.{DeclaratorTree, Name, Parens, Pointers, Array, Function as Applied, Taking, Named, Unnamed, begins}
 use Rattle.c_expr.specs.Tree.{Tree}
 use Rattle.c_tree.specs.declared.types.StructDef.{StructDef}
-use Rattle.c_tree.specs.declared.types.CType.{CType}
-use Rattle.c_tree.specs.declared.types.CType.TheVariants as ctype
 use Rattle.c_typing.specs.Plain as types
-use Rattle.c_typing.specs.Plain.{Plain, plain, is_void, is_complete}
+use Rattle.c_typing.specs.Plain.{Plain, is_void, is_complete}
 use Rattle.c_typing.specs.declared.constant.Constant.{Constant}
 use Rattle.c_judge.specs.Answers.{Answer, Known, Unknown, Broken, ◌then◌}
 use Rattle.c_judge.specs.Judgement.{judged, pointer, pointers, limited, array, bound}
 use Rattle.c_judge.specs.Places.{place_of}
 use Rattle.c_scope.specs.Environment.{Environment, scope_of}
 use Rattle.c_scope.specs.Declarators.{Shape, Object, Function, Parameter, is_name, is_function, constant, bounded, unbounded, unsized, function, shape, parameters, taken, with_one}
+use Rattle.compiled_tables.specs.Weights.{constructors, derived}
 
 -- ---- answers
 
@@ -28,23 +27,7 @@ pub if_known : {A : Type 0} (b : Bool) (x y : A) (r at : ℕ) → (if b then Kno
 if_known true x y r at e = known_same x y e
 if_known false x y r at e = absurd cc
 
--- ---- constructors
-
-abbrev pub constructors : Plain → ℕ
-constructors (types.Pointer t) = suc (constructors t)
-constructors (types.Array t n) = suc (constructors t)
-constructors _ = 1
-
--- the pointers and bounds of a declarator itself
-abbrev pub marks : DeclaratorTree → ℕ
-marks (Name at text) = 0
-marks (Parens at d) = marks d
-marks (Pointers at n d) = n + marks d
-marks (Array at d e) = 1 + marks d
-marks (Applied at d) = marks d
-marks (Taking d p) = marks d
-marks (Named at r s d) = marks d
-marks (Unnamed at s d) = 0
+-- ---- types
 
 abbrev pub shape_type : Shape → Plain
 shape_type (Object t) = t
@@ -52,16 +35,16 @@ shape_type (Function t ps) = t
 
 pointer_more : (defs : List StructDef) (at : ℕ) (t u : Plain) (b : Bool) → (if b then Broken 9 at else limited defs at (types.Pointer t)) ≡ Known u → constructors u ≡ 1 + constructors t
 pointer_more defs at t u true e = absurd cc
-pointer_more defs at t u false e = ap constructors (sym (if_known _ (types.Pointer t) u 1 at e))
+pointer_more defs at t u false e = omega (arith, ap constructors (sym (if_known _ (types.Pointer t) u 1 at e)))
 
 pub pointers_more : (defs : List StructDef) (at n : ℕ) (t u : Plain) → pointers defs at n t ≡ Known u → constructors u ≡ n + constructors t
-pointers_more defs at zero t u e = ap constructors (sym (known_same t u e))
+pointers_more defs at zero t u e = omega (arith, ap constructors (sym (known_same t u e)))
 pointers_more defs at (suc n) t u e =
     let (w, f, g) = then_known (pointer defs at t) (pointers defs at n) u e in
     omega (arith, pointer_more defs at t w (is_void t) f, pointers_more defs at n w u g)
 
 array_more : (defs : List StructDef) (at n : ℕ) (t u : Plain) (b : Bool) → (if b then limited defs at (types.Array t n) else Broken 2 at) ≡ Known u → constructors u ≡ 1 + constructors t
-array_more defs at n t u true e = ap constructors (sym (if_known _ (types.Array t n) u 1 at e))
+array_more defs at n t u true e = omega (arith, ap constructors (sym (if_known _ (types.Array t n) u 1 at e)))
 array_more defs at n t u false e = absurd cc
 
 function_same : (b : Bool) (at : ℕ) (t : Plain) (ps : List Parameter) (s : Shape) → (if b then Known (Function t ps) else Broken 9 at) ≡ Known s → constructors (shape_type s) ≡ constructors t
@@ -70,8 +53,9 @@ function_same b at t ps s e = ap (λ (x : Shape). constructors (shape_type x)) (
 module _ (v : Environment) where
   pub bounded_more : (e : Tree) (t u : Plain) → bounded v e t ≡ Known u → constructors u ≡ 1 + constructors t
   bounded_more e t u h =
-      let (w, f, g) = then_known (constant (judged (scope_of v) e) then λ c. bound (place_of e).at c) (array v.defs (place_of e).at t) u h in
-      array_more v.defs (place_of e).at w t u (is_complete v.defs t) g
+      let (c, f, g) = then_known (constant (judged (scope_of v) e)) (λ c. bound (place_of e).at c then array v.defs (place_of e).at t) u h in
+      let (n, k, l) = then_known (bound (place_of e).at c) (array v.defs (place_of e).at t) u g in
+      array_more v.defs (place_of e).at n t u (is_complete v.defs t) l
 
   pub unbounded_more : (at : ℕ) (t u : Plain) → unbounded v at t ≡ Known u → constructors u ≡ 1 + constructors t
   unbounded_more at t u h = array_more v.defs at 0 t u (is_complete v.defs t) h
@@ -82,7 +66,7 @@ module _ (v : Environment) where
       omega (arith, unbounded_more at t u f, ap (λ (x : Shape). constructors (shape_type x)) (sym (known_same (Object u) s g)))
   unsized_more false at t s e = absurd cc
 
-  pub shape_more : (d : DeclaratorTree) (t : Plain) (s : Shape) → shape v d t ≡ Known s → constructors (shape_type s) ≤ constructors t + marks d
+  pub shape_more : (d : DeclaratorTree) (t : Plain) (s : Shape) → shape v d t ≡ Known s → constructors (shape_type s) ≤ constructors t + derived d
   shape_more (Name at text) t s e = omega (arith, ap (λ (x : Shape). constructors (shape_type x)) (sym (known_same (Object t) s e)))
   shape_more (Parens at d) t s e = shape_more d t s e
   shape_more (Pointers at n d) t s e =
