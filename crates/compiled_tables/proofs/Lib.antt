@@ -10,4 +10,7 @@ pub mod Programs
 pub mod Units
 pub mod Literals
 pub mod Objects
+pub mod BodyTypes
+pub mod BodyNames
+pub mod BodyAdds
 pub mod Compiled

@@ -34,7 +34,7 @@ use Rattle.compiled_tables.proofs.Literals.{initial_count, initial_or_none, name
 abbrev pub held : State → ℕ
 held p = length p.definitions + length p.strings
 
-texts_long : (ls : List Literal) → length (texts ls) ≡ length ls
+pub texts_long : (ls : List Literal) → length (texts ls) ≡ length ls
 texts_long [] = refl
 texts_long (l ∷ ls) = ap suc (texts_long ls)
 
