@@ -1,44 +1,33 @@
--- What is declared at file scope weighs no more than the declarations.
+-- What a name at file scope adds to a program weighs no more than its declaration.
 use Rattle.std.proofs.Common.{◌≡◌, refl, sym, ap, subst, ◌∙◌, ℕ, zero, suc, ◌+◌, ◌*◌, ◌≤◌, Bool, true, false, List, [], ◌∷◌, ◌++◌, length, length-append, Option, Some, None, arith}
 use Rattle.std.specs.Prelude.{slice_get, if◌then◌else◌}
 use Rattle.c_declaration.specs.Tree.{DeclaratorTree, begins}
 use Rattle.c_declaration.specs.InitialTree.{InitialTree, Value, Braces, Item}
 use Rattle.c_declaration.specs.declared.tree.Declared.{Declared}
-use Rattle.c_declaration.specs.declared.tree.FileSpec.{FileSpec}
 use Rattle.c_declaration.specs.declared.tree.Storage.{Storage}
 use Rattle.c_declaration.specs.declared.tree.Storage.TheVariants as storage
-use Rattle.c_expr.specs.Tree.{Tree}
-use Rattle.c_expr.specs.declared.tree.Spec.{Spec}
-use Rattle.c_statement.specs.Tree.{StatementTree, Empty, Evaluate, Begun, Also, Closed, If, IfElse, Headed, Do, Break, Continue, Return}
-use Rattle.c_statement.specs.Tree as statement
-use Rattle.c_statement.specs.declared.unit.External.{External}
-use Rattle.c_statement.specs.declared.unit.External.TheVariants.{Declaration, Definition}
-use Rattle.c_tree.specs.declared.types.StructDef.{StructDef}
 use Rattle.c_typing.specs.Plain.{Plain}
 use Rattle.c_typing.specs.Plain as types
 use Rattle.c_typing.specs.Expressions as typing
 use Rattle.c_typing.specs.Expressions.{Denoted}
 use Rattle.c_judge.specs.Answers.{Answer, Known, Unknown, Broken, ◌then◌}
-use Rattle.c_judge.specs.Judgement.{limited}
-use Rattle.c_scope.specs.Environment.{Row, Environment, innermost, enter, declare_local}
-use Rattle.c_scope.specs.Findings.{Finding, ◌beside◌}
-use Rattle.c_scope.specs.Declarators.{Shape, Object, Function, Parameter, shape, denoted, name_in}
-use Rattle.c_mentions.specs.Literals.{Literal, texts, in_tree, in_declarator, in_file_spec}
+use Rattle.c_scope.specs.Environment.{Row, Environment, innermost}
+use Rattle.c_scope.specs.Declarators.{Shape, Object, Function, shape, denoted, name_in}
+use Rattle.c_mentions.specs.Literals.{in_declarator}
 use Rattle.c_initial.specs.Initials.{count_of, part_of, with_bound}
-use Rattle.c_initial.specs.Begins.{strings_of_value, strings_of}
-use Rattle.c_struct.specs.Specifies.{Specifies}
-use Rattle.c_body.specs.Locals.{local_type, with_local, after_local, after_names}
-use Rattle.c_body.specs.Bodies.{after}
-use Rattle.c_body.specs.Stops.{inside_block, stops_of}
+use Rattle.c_initial.specs.Begins.{strings_of}
 use Rattle.c_file.specs.declared.definitions.Manner.{Manner}
 use Rattle.c_file.specs.declared.definitions.Manner.TheVariants.{Body, Initialized, Tentative}
 use Rattle.c_file.specs.Names.{FileName, Defining, composite, told_before, is_here}
-use Rattle.c_file.specs.Files.{State, with_name, with_initial, with_definition, with_strings, row_of, file_name, type_or, defining, manner_of, object_type, in_limits, may_stand, is_extern, standing, what, after_what, after_name, after_all, function_row, with_head, with_parameters, body_environment, bodied, behind_body, after_function, with_spec, behind_known, Externals, Onward, AllExternals}
-use Rattle.compiled_tables.specs.Weights.{Rates, AreCovered, total, constructors, derived, literals, literals_or_none, of_typed, of_global, of_row, of_type, of_name, of_head, of_body, of_spec, of_members, of_declared}
-use Rattle.compiled_tables.proofs.Files.{stop_count, stops_in, count_append, specifies_same}
+use Rattle.c_file.specs.Files.{State, with_name, with_initial, with_definition, with_strings, file_name, type_or, defining, manner_of, object_type, in_limits, may_stand, is_extern, standing, what, after_what, after_name, after_all}
+use Rattle.compiled_tables.specs.Weights.{Rates, AreCovered, total, constructors, derived, literals, literals_or_none, of_global, of_row, of_type, of_name}
+use Rattle.compiled_tables.proofs.Objects.{value_strings}
+use Rattle.compiled_tables.proofs.Files.{stop_count}
 use Rattle.compiled_tables.proofs.ShapeTypes.{then_known, known_same, shape_type, shape_more}
-use Rattle.compiled_tables.proofs.StructRows.{total-append, total_of_one, times_more, all_members, specifies_more, specified_one}
+use Rattle.compiled_tables.proofs.StructRows.{total_of_one, times_more, all_members}
 use Rattle.compiled_tables.proofs.Agreeing.{IsOf, IsDeclaredAs, declared_on}
+use Rattle.compiled_tables.proofs.BodyNames.{times_append}
+use Rattle.compiled_tables.proofs.BodyAdds.{made, strings_more}
 
 -- ---- declared types
 
@@ -78,19 +67,6 @@ what_declares s t p d x one e =
 
 -- ---- strings
 
-texts_long : (ls : List Literal) → length (texts ls) ≡ length ls
-texts_long [] = refl
-texts_long (l ∷ ls) = ap suc (texts_long ls)
-
-value_strings : (v : Environment) (t : Plain) (e : Tree) → length (strings_of_value v t e) ≤ length (in_tree e)
-value_strings v types.Char e = omega (arith, texts_long (in_tree e))
-value_strings v types.Int e = omega (arith, texts_long (in_tree e))
-value_strings v types.Unsigned e = omega (arith, texts_long (in_tree e))
-value_strings v types.Void e = omega (arith, texts_long (in_tree e))
-value_strings v (types.Pointer t) e = omega (arith, texts_long (in_tree e))
-value_strings v (types.Array t n) e = omega arith
-value_strings v (types.Struct s) e = omega (arith, texts_long (in_tree e))
-
 initial_strings : (v : Environment) (t : Plain) (i : InitialTree) → length (strings_of v t i) ≤ literals i
 initial_strings v t (Value e) = value_strings v t e
 initial_strings v t (Braces at) = omega arith
@@ -101,54 +77,15 @@ initial_strings v t (Item i j) = by (part_of v t (count_of i)) (initial_strings 
     by None h k = omega (arith, h, length-append (strings_of v t i) [])
     by (Some u) h k = omega (arith, h, k u, length-append (strings_of v t i) (strings_of v u j))
 
--- ---- structs that stay as they are
-
-with_local_stays : (b : Bool) (s : Spec) (v : Environment) (d : Declared) (a : Answer Plain) → (with_local b s v d a).defs ≡ v.defs
-with_local_stays b s v d (Known t) = refl
-with_local_stays b s v d (Unknown n) = refl
-with_local_stays b s v d (Broken n at) = refl
-
-names_stay : (b : Bool) (s : Spec) (v : Environment) (ds : List Declared) → (after_names b s v ds).defs ≡ v.defs
-names_stay b s v [] = refl
-names_stay b s v (d ∷ ds) = names_stay b s (after_local b s v d) ds ∙ with_local_stays b s v d (local_type b s v d)
-
-after_stays : (v : Environment) (x : StatementTree) → (after v x).defs ≡ v.defs
-after_stays v (Empty at) = refl
-after_stays v (Evaluate e) = refl
-after_stays v (Begun at) = refl
-after_stays v (statement.Declares b l) = names_stay l.register l.spec (after v b) l.names ∙ after_stays v b
-after_stays v (Also b s) = after_stays (after v b) s ∙ after_stays v b
-after_stays v (Closed b at) = after_stays (enter v) b
-after_stays v (If at e s) = after_stays v s
-after_stays v (IfElse at e s r) = after_stays (after v s) r ∙ after_stays v s
-after_stays v (Headed h s) = after_stays v s
-after_stays v (Do at s e) = after_stays v s
-after_stays v (Break at) = refl
-after_stays v (Continue at) = refl
-after_stays v (Return at e) = refl
-
-parameters_stay : (v : Environment) (ps : List Parameter) → (with_parameters v ps).defs ≡ v.defs
-parameters_stay v [] = refl
-parameters_stay v (p ∷ ps) = by p.name (parameters_stay v ps) (λ n. parameters_stay (declare_local v n (typing.Object p.ctype p.register)) ps)
-  where
-    by : (o : Option (List ℕ)) → (with_parameters v ps).defs ≡ v.defs → ((n : List ℕ) → (with_parameters (declare_local v n (typing.Object p.ctype p.register)) ps).defs ≡ v.defs)
-        → (elim o as (λ _. Environment) [ None ↦ with_parameters v ps | Some n ↦ with_parameters (declare_local v n (typing.Object p.ctype p.register)) ps ]).defs ≡ v.defs
-    by None e f = e
-    by (Some n) e f = f n
-
 module _ (r : Rates) where
   -- ---- what a program so far weighs
-
-  -- the names, points, strings and functions
-  abbrev pub made : State → ℕ
-  made p = total (of_row r) p.here.names + (r.point * p.points + (r.string * length p.strings + r.function * length p.bodies))
 
   -- the structs with their members
   abbrev pub of_structs : State → ℕ
   of_structs p = r.struct * length p.others + (all_members r p.others + all_members r p.here.defs)
 
   abbrev pub held : State → ℕ
-  held p = made p + of_structs p
+  held p = made r p + of_structs p
 
   -- a definition of an object weighs at most so much, with its type
   abbrev pub Weighs : Manner → List FileName → Defining → ℕ → Type 0
@@ -192,6 +129,7 @@ module _ (r : Rates) where
   composite_same (typing.Function s ps) e = refl
   composite_same typing.Hidden e = refl
 
+  -- what a name's declarations tell weighs as much as the last of them
   told_same : (fs : List FileName) (f : FileName) → of_global r (told_before fs f) ≡ of_global r f.denoted
   told_same [] f = refl
   told_same (g ∷ fs) f = by (is_here f.unit f.name g) (told_same fs f)
@@ -200,20 +138,15 @@ module _ (r : Rates) where
       by true e = composite_same (told_before fs f) g.denoted ∙ e
       by false e = e
 
-  pub named_held : (p : State) (f : FileName) → held (with_name p f) ≡ held p + of_global r f.denoted
-  named_held p f =
+  named_made : (p : State) (f : FileName) → made r (with_name p f) ≡ made r p + of_global r f.denoted
+  named_made p f =
       let row : Row = record { name = f.name; denoted = told_before p.names f; up = innermost p.here.visible; unit = p.here.unit; local = None } in
       omega (arith, total_of_one (of_row r) p.here.names row, told_same p.names f)
 
   -- ---- a name is defined
 
-  times_append : {A : Type 0} (n : ℕ) (xs ys : List A) → n * length (xs ++ ys) ≡ n * length xs + n * length ys
-  times_append n xs ys = let e = ap (λ m. n * m) (length-append xs ys) in omega (arith, e)
-
   strings_held : (s : Storage) (p : State) (d : DeclaratorTree) → held (with_strings s p d) ≡ held p + r.string * length (in_declarator d)
-  strings_held s p d =
-      let e = ap (λ m. r.string * m) (texts_long (in_declarator d)) in
-      omega (arith, e, times_append r.string p.strings (texts (in_declarator d)))
+  strings_held s p d = omega (arith, strings_more r p.strings (in_declarator d))
 
   initial_held : (s : Storage) (p : State) (f : FileName) (i : Option InitialTree) → held (with_initial s p f i) ≤ held p + r.string * literals_or_none i
   initial_held s p f None = omega arith
@@ -269,7 +202,7 @@ module _ (r : Rates) where
           objects = c.objects + (r.object + r.constructor * constructors t);
           weighed = subst (λ (fs : List FileName). AreWeighed fs (p.definitions ++ defining f (manner_of s i f.denoted)) (c.objects + (r.object + r.constructor * constructors t))) (sym a.names)
           (defined_more (f ∷ p.names) p.definitions c.objects f (manner_of s i f.denoted) (constructors t) refl refl (weighed_on f p.names p.definitions c.objects c.weighed));
-          within = omega (arith, w, l, initial_held s q f i, strings_held s (with_name p f) d, named_held p f);
+          within = omega (arith, w, l, initial_held s q f i, strings_held s (with_name p f) d, named_made p f);
           points = a.points ∙ (c.points ∙ ap stop_count (sym a.bodies));
         }
     name_costs p d None u name (typing.Function t ps) n h c =
@@ -282,7 +215,7 @@ module _ (r : Rates) where
           objects = c.objects;
           weighed = subst (λ (m : Option Manner). AreWeighed (f ∷ p.names) (p.definitions ++ defining f m) c.objects) (sym (undefined s t ps))
           (no_more (f ∷ p.names) p.definitions c.objects (weighed_on f p.names p.definitions c.objects c.weighed));
-          within = omega (arith, w, l, k, strings_held s (with_name p f) d, named_held p f);
+          within = omega (arith, w, l, k, strings_held s (with_name p f) d, named_made p f);
           points = c.points;
         }
     name_costs p d (Some i) u name (typing.Function t ps) n h c = absurd (let e : Some i ≡ None = h.1 in cc)
