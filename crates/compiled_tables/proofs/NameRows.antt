@@ -101,12 +101,12 @@ module _ (r : Rates) where
   weighs_on Initialized f fs d k h = (h.0, declared_on f fs d h.0 h.1, h.2)
   weighs_on Tentative f fs d k h = (h.0, declared_on f fs d h.0 h.1, h.2)
 
-  weighed_on : (f : FileName) (fs : List FileName) (ds : List Defining) (n : ℕ) → AreWeighed fs ds n → AreWeighed (f ∷ fs) ds n
+  pub weighed_on : (f : FileName) (fs : List FileName) (ds : List Defining) (n : ℕ) → AreWeighed fs ds n → AreWeighed (f ∷ fs) ds n
   weighed_on f fs [] n h = tt
   weighed_on f fs (d ∷ ds) n h = (h.0, h.1, weighs_on d.manner f fs d h.0 h.2, weighed_on f fs ds h.1 h.3, h.4)
 
   -- one more at the end
-  weighed_more : (fs : List FileName) (ds : List Defining) (n : ℕ) (d : Defining) (k : ℕ) → AreWeighed fs ds n → Weighs d.manner fs d k → AreWeighed fs (ds ++ d ∷ []) (n + k)
+  pub weighed_more : (fs : List FileName) (ds : List Defining) (n : ℕ) (d : Defining) (k : ℕ) → AreWeighed fs ds n → Weighs d.manner fs d k → AreWeighed fs (ds ++ d ∷ []) (n + k)
   weighed_more fs [] n d k h w = (k, 0, w, tt, omega arith)
   weighed_more fs (e ∷ ds) n d k h w = (h.0, h.1 + k, h.2, weighed_more fs ds h.1 d k h.3 w, (let l = h.4 in omega (arith, l)))
 
