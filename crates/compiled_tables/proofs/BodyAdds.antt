@@ -66,7 +66,7 @@ module _ (r : Rates) where
         omega (arith, block_weight r v x, entered, one, strings_more p.strings (in_statement x))
 
     -- what is declared has so few constructors, and parameters that weigh so little
-    function_made : (x : StatementTree) (p : State) (a : Shape) → constructors (shape_type a) ≤ suc (derived d) → shape_parameters r a ≤ of_parameters r d
+    pub function_made : (x : StatementTree) (p : State) (a : Shape) → constructors (shape_type a) ≤ suc (derived d) → shape_parameters r a ≤ of_parameters r d
         → made (after_function s d x p a) ≤ made p + (of_head r d + of_body r x)
     function_made x p (Object t) few taken = omega arith
     function_made x p (Function t ps) few taken =
