@@ -19,11 +19,8 @@ use Rattle.c_body.specs.Bodies.{after}
 use Rattle.c_body.specs.Stops.{Stop, stop, at_expression, at_part, at_initial, at_locals, at_head, stops, closing, inside_block, stops_of}
 use Rattle.c_file.specs.Files.{with_parameters}
 use Rattle.compiled_tables.specs.Weights.{Rates, total, constructors, derived, present, head_points, of_typed, of_row, of_local, of_declared_local, of_statement}
+use Rattle.compiled_tables.proofs.StructRows.{total_of_one}
 use Rattle.compiled_tables.proofs.BodyTypes.{counted, local_more, parameters_weight}
-
-pub total_append : {A : Type 0} (f : A → ℕ) (xs ys : List A) → total f (xs ++ ys) ≡ total f xs + total f ys
-total_append f [] ys = omega arith
-total_append f (x ∷ xs) ys = omega (arith, total_append f xs ys)
 
 pub times_append : {A : Type 0} (n : ℕ) (xs ys : List A) → n * length (xs ++ ys) ≡ n * length xs + n * length ys
 times_append n xs ys = let e = ap (λ m. n * m) (length-append xs ys) in omega (arith, e)
@@ -55,7 +52,7 @@ module _ (r : Rates) where
   local_declared : (v : Environment) (name : List ℕ) (t : Plain) (b : Bool) → names_weight (declare_local v name (typing.Object t b)) ≡ names_weight v + of_typed r t
   local_declared v name t b =
       let row : Row = record { name = name; denoted = typing.Object t b; up = innermost v.visible; unit = v.unit; local = Some v.locals } in
-      omega (arith, total_append (of_row r) v.names (row ∷ []))
+      omega (arith, total_of_one (of_row r) v.names row)
 
   -- ---- locals
 

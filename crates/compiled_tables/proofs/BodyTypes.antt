@@ -3,7 +3,6 @@ use Rattle.std.proofs.Common.{◌≡◌, refl, ap, ℕ, suc, ◌+◌, ◌*◌, �
 use Rattle.std.proofs.Math.Nat.{mul-le-mul_left}
 use Rattle.std.specs.Prelude.{not, ◌&&◌, ◌||◌}
 use Rattle.c_expr.specs.declared.tree.Spec.{Spec}
-use Rattle.c_expr.specs.declared.tree.Spec.TheVariants as spec
 use Rattle.c_declaration.specs.Tree.{DeclaratorTree, Name, Parens, Pointers, Array, Function as Applied, Taking, Named, Unnamed, begins}
 use Rattle.c_declaration.specs.declared.tree.Declared.{Declared}
 use Rattle.c_typing.specs.Plain as plain
@@ -11,12 +10,12 @@ use Rattle.c_typing.specs.Plain.{Plain, is_complete, is_scalar, value_type}
 use Rattle.c_typing.specs.Declarations.{is_result}
 use Rattle.c_judge.specs.Answers.{Answer, Known, Unknown, Broken, ◌then◌}
 use Rattle.c_judge.specs.Judgement.{spec_type, pointers}
-use Rattle.c_judge.specs.Scope.{Scope}
 use Rattle.c_scope.specs.Environment.{Environment, scope_of}
 use Rattle.c_scope.specs.Declarators.{Parameter, Shape, Object, Function, is_name, is_function, name_in, unbounded, bounded, unnamed, parameter, is_taken, with_one, function, unsized, shape, parameters, taken}
 use Rattle.c_body.specs.Locals.{kept, local_type}
 use Rattle.compiled_tables.specs.Weights.{Rates, total, constructors, derived, of_typed, of_parameter, of_parameters}
 use Rattle.compiled_tables.proofs.ShapeTypes.{shape_type, shape_more}
+use Rattle.compiled_tables.proofs.StructRows.{total-append, spec_one}
 
 -- ---- answers
 
@@ -48,14 +47,6 @@ unless false m f r at n h = h
 
 abbrev shape_constructors : Shape → ℕ
 shape_constructors s = constructors (shape_type s)
-
-pub spec_one : (v : Scope) (s : Spec) → constructors (spec_type v s) ≡ 1
-spec_one v spec.Char = refl
-spec_one v spec.Int = refl
-spec_one v spec.Unsigned = refl
-spec_one v spec.UnsignedInt = refl
-spec_one v spec.Void = refl
-spec_one v (spec.Struct tag) = refl
 
 -- what is declared of a type that a declaration begins with
 shape_counted : (m : Answer Shape) (n : ℕ) → ((s : Shape) → m ≡ Known s → shape_constructors s ≤ n) → counted shape_constructors m ≤ n
@@ -98,12 +89,8 @@ module _ (r : Rates) where
   abbrev pub parameters_weight : List Parameter → ℕ
   parameters_weight ps = total one_weight ps
 
-  parameters_append : (ps qs : List Parameter) → parameters_weight (ps ++ qs) ≡ parameters_weight ps + parameters_weight qs
-  parameters_append [] qs = omega arith
-  parameters_append (p ∷ ps) qs = omega (arith, parameters_append ps qs)
-
   with_one_weight : (ps : List Parameter) (at : ℕ) (p : Parameter) → counted parameters_weight (with_one ps at p) ≤ one_weight p + parameters_weight ps
-  with_one_weight ps at p = unless (is_taken ps p.name) (Known (ps ++ p ∷ [])) parameters_weight 5 at _ (omega (arith, parameters_append ps (p ∷ [])))
+  with_one_weight ps at p = unless (is_taken ps p.name) (Known (ps ++ p ∷ [])) parameters_weight 5 at _ (omega (arith, total-append one_weight ps (p ∷ [])))
 
   abbrev shape_weight : Shape → ℕ
   shape_weight s = of_typed r (shape_type s)
