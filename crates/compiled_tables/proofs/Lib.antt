@@ -10,4 +10,7 @@ pub mod Programs
 pub mod Units
 pub mod Literals
 pub mod Objects
+pub mod Mentions
+pub mod Spelled
+pub mod Covered
 pub mod Compiled
