@@ -38,7 +38,7 @@ pub record Rates : Type 0 where
   pub string : ℕ
   pub token : ℕ
 
-abbrev rates : (Cost → ℕ) → (token : ℕ) → Rates
+abbrev pub rates : (Cost → ℕ) → (token : ℕ) → Rates
 rates of token = record {
   constructor = of per_constructor;
   object = of per_object;
