@@ -21,6 +21,7 @@ use Rattle.ps_emit.specs.Bounds as bounds
 use Rattle.ps_emit.specs.Bounds.{Cost, none, ◌and◌, times, all, per_constructor, per_object_symbol, per_symbol, per_point, per_function, per_unit, per_struct, per_member, per_object, per_string, always, of_type, of_member, of_object, of_named, of_symbol, cost_of}
 use Rattle.compiled_tables.specs.Weights.{Rates, rates, total, constructors, of_typed, of_inner, of_global, of_row}
 use Rattle.compiled_tables.proofs.Stopped.{stop_count, points_long}
+use Rattle.compiled_tables.proofs.Parts.{as_many}
 
 -- ---- what the rows of a program weigh
 
@@ -47,12 +48,6 @@ units_long q u [] [] h = refl
 units_long q u [] (x ∷ us) h = absurd h
 units_long q u (n ∷ ns) [] h = absurd h
 units_long q u (n ∷ ns) (x ∷ us) h = ap suc (units_long q (suc u) ns us h.2)
-
-as_many : {A B : Type 0} (P : A → B → Type 0) (xs : List A) (ys : List B) → Each P xs ys → length ys ≡ length xs
-as_many P [] [] e = refl
-as_many P [] (y ∷ ys) e = absurd e
-as_many P (x ∷ xs) [] e = absurd e
-as_many P (x ∷ xs) (y ∷ ys) e = ap suc (as_many P xs ys e.1)
 
 same_total : {A B : Type 0} (P : A → B → Type 0) (f : A → ℕ) (g : B → ℕ) → ((x : A) (y : B) → P x y → g y ≡ f x) → (xs : List A) (ys : List B) → Each P xs ys → total g ys ≡ total f xs
 same_total P f g h [] [] e = refl
@@ -146,7 +141,7 @@ module _ (of : Cost → ℕ) (token : ℕ) (adds : (a b : Cost) → of (a and b)
         let texts : of (times (length p.strings) per_string) ≡ r.string * length q.strings =
             let e = ap (λ (xs : List (List ℕ)). length xs * of per_string) rows.strings in omega (arith, scales (length p.strings) per_string, e) in
         let functions : of (times (length p.functions) per_function) ≡ r.function * length q.bodies =
-            let e = ap (λ n. n * of per_function) (as_many (IsFunctionOf q) q.bodies p.functions rows.functions) in omega (arith, scales (length p.functions) per_function, e) in
+            let e = ap (λ n. n * of per_function) (sym (as_many (IsFunctionOf q) q.bodies p.functions rows.functions)) in omega (arith, scales (length p.functions) per_function, e) in
         let points : of (times (length p.points) per_point) ≡ r.point * q.points =
             let e = ap (λ n. n * of per_point) (ap (λ l. length l) rows.points ∙ (points_long q 0 q.bodies ∙ sym stopped)) in omega (arith, scales (length p.points) per_point, e) in
         let symbols : of (all (map of_symbol p.symbols)) ≡ total (of_row r) q.here.names =
