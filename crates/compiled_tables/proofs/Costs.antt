@@ -20,8 +20,8 @@ use Rattle.c_file.specs.Made.{Each, AreUnits, HasRows, IsObjectOf, IsSymbolOf, I
 use Rattle.ps_emit.specs.Bounds as bounds
 use Rattle.ps_emit.specs.Bounds.{Cost, none, ◌and◌, times, all, per_constructor, per_object_symbol, per_symbol, per_point, per_function, per_unit, per_struct, per_member, per_object, per_string, always, of_type, of_member, of_object, of_named, of_symbol, cost_of}
 use Rattle.compiled_tables.specs.Weights.{Rates, rates, total, constructors, of_typed, of_inner, of_global, of_row}
-use Rattle.compiled_tables.proofs.Stopped.{stop_count, points_long}
-use Rattle.compiled_tables.proofs.Parts.{as_many}
+use Rattle.compiled_tables.proofs.Files.{stop_count}
+use Rattle.compiled_tables.proofs.Parts.{as_many, points_long}
 
 -- ---- what the rows of a program weigh
 
@@ -134,18 +134,18 @@ module _ (of : Cost → ℕ) (token : ℕ) (adds : (a b : Cost) → of (a and b)
     pub costs : (names : List (List ℕ)) (p : Program) → HasRows q names p → q.points ≡ stop_count q.bodies → of (cost_of p) ≡ of always + of per_unit * length names + weight_of r q
     costs names p rows stopped =
         let units : of (times (length p.units) per_unit) ≡ of per_unit * length names =
-            let e = ap (λ n. n * of per_unit) (units_long q 0 names p.units rows.units) in omega (arith, scales (length p.units) per_unit, e) in
+        let e = ap (λ n. n * of per_unit) (units_long q 0 names p.units rows.units) in omega (arith, scales (length p.units) per_unit, e) in
         let defs : of (all (map struct_of p.defs)) ≡ total (of_row_struct r) q.others = all_cost struct_of (of_row_struct r) struct_cost p.defs ∙ ap (total (of_row_struct r)) rows.defs in
         let things : of (all (map of_object p.objects)) ≡ total (of_defined r q) (objects q) =
-            all_cost of_object (λ o. of (of_object o)) (λ o. refl) p.objects ∙ same_total (IsObjectOf q) (of_defined r q) (λ o. of (of_object o)) object_cost (objects q) p.objects rows.objects in
+        all_cost of_object (λ o. of (of_object o)) (λ o. refl) p.objects ∙ same_total (IsObjectOf q) (of_defined r q) (λ o. of (of_object o)) object_cost (objects q) p.objects rows.objects in
         let texts : of (times (length p.strings) per_string) ≡ r.string * length q.strings =
-            let e = ap (λ (xs : List (List ℕ)). length xs * of per_string) rows.strings in omega (arith, scales (length p.strings) per_string, e) in
+        let e = ap (λ (xs : List (List ℕ)). length xs * of per_string) rows.strings in omega (arith, scales (length p.strings) per_string, e) in
         let functions : of (times (length p.functions) per_function) ≡ r.function * length q.bodies =
-            let e = ap (λ n. n * of per_function) (sym (as_many (IsFunctionOf q) q.bodies p.functions rows.functions)) in omega (arith, scales (length p.functions) per_function, e) in
+        let e = ap (λ n. n * of per_function) (sym (as_many (IsFunctionOf q) q.bodies p.functions rows.functions)) in omega (arith, scales (length p.functions) per_function, e) in
         let points : of (times (length p.points) per_point) ≡ r.point * q.points =
-            let e = ap (λ n. n * of per_point) (ap (λ l. length l) rows.points ∙ (points_long q 0 q.bodies ∙ sym stopped)) in omega (arith, scales (length p.points) per_point, e) in
+        let e = ap (λ n. n * of per_point) (ap (λ l. length l) rows.points ∙ (points_long q 0 q.bodies ∙ sym stopped)) in omega (arith, scales (length p.points) per_point, e) in
         let symbols : of (all (map of_symbol p.symbols)) ≡ total (of_row r) q.here.names =
-            all_cost of_symbol (λ s. of (of_symbol s)) (λ s. refl) p.symbols ∙ same_total (IsSymbolOf q) (of_row r) (λ s. of (of_symbol s)) symbol_cost q.here.names p.symbols rows.symbols in
+        all_cost of_symbol (λ s. of (of_symbol s)) (λ s. refl) p.symbols ∙ same_total (IsSymbolOf q) (of_row r) (λ s. of (of_symbol s)) symbol_cost q.here.names p.symbols rows.symbols in
         eight always (times (length p.units) per_unit) (all (map struct_of p.defs)) (all (map of_object p.objects)) (times (length p.strings) per_string)
         (times (length p.functions) per_function) (times (length p.points) per_point) (all (map of_symbol p.symbols))
         ∙ omega (arith, units, defs, things, texts, functions, points, symbols)
