@@ -21,25 +21,19 @@ use Rattle.ps_emit.specs.Bounds as bounds
 use Rattle.ps_emit.specs.Bounds.{Cost, none, ◌and◌, times, all, per_constructor, per_object_symbol, per_symbol, per_point, per_function, per_unit, per_struct, per_member, per_object, per_string, always, of_type, of_member, of_object, of_named, of_symbol, cost_of}
 use Rattle.compiled_tables.specs.Weights.{Rates, rates, total, constructors, of_typed, of_inner, of_global, of_row}
 use Rattle.compiled_tables.proofs.Files.{stop_count}
+use Rattle.compiled_tables.proofs.StructRows.{of_row_member, of_row_members, all_members}
+use Rattle.compiled_tables.proofs.BodyAdds.{made}
 use Rattle.compiled_tables.proofs.Parts.{as_many, points_long}
 
 -- ---- what the rows of a program weigh
 
-module _ (r : Rates) where
-  abbrev pub of_row_member : Member → ℕ
-  of_row_member m = r.member + r.constructor * constructors (plain m.ctype)
+module _ (r : Rates) (q : State) where
+  -- an object with its type
+  abbrev pub of_defined : Defining → ℕ
+  of_defined d = r.object + r.constructor * constructors (object_type q d)
 
-  abbrev pub of_row_struct : StructDef → ℕ
-  of_row_struct d = r.struct + total of_row_member d.members
-
-  module _ (q : State) where
-    abbrev pub of_defined : Defining → ℕ
-    of_defined d = r.object + r.constructor * constructors (object_type q d)
-
-    abbrev pub weight_of : ℕ
-    weight_of =
-        total of_row_struct q.others + total of_defined (objects q) + r.string * length q.strings + r.function * length q.bodies + r.point * q.points +
-        total (of_row r) q.here.names
+  abbrev pub weight_of : ℕ
+  weight_of = total of_defined (objects q) + (made r q + (r.struct * length q.others + all_members r q.others))
 
 -- ---- lists
 
@@ -96,8 +90,12 @@ module _ (of : Cost → ℕ) (token : ℕ) (adds : (a b : Cost) → of (a and b)
   abbrev struct_of : StructDef → Cost
   struct_of d = per_struct and all (map of_member d.members)
 
-  struct_cost : (d : StructDef) → of (struct_of d) ≡ of_row_struct r d
+  struct_cost : (d : StructDef) → of (struct_of d) ≡ r.struct + of_row_members r d
   struct_cost d = omega (arith, adds per_struct (all (map of_member d.members)), all_cost of_member (of_row_member r) member_cost d.members)
+
+  structs_cost : (ds : List StructDef) → of (all (map struct_of ds)) ≡ r.struct * length ds + all_members r ds
+  structs_cost [] = omega (arith, nothing)
+  structs_cost (d ∷ ds) = omega (arith, adds (struct_of d) (all (map struct_of ds)), struct_cost d, structs_cost ds)
 
   typed_cost : (t : CType) → of (per_symbol and of_type t) ≡ of_typed r (plain t)
   typed_cost t = omega (arith, adds per_symbol (of_type t), type_cost t)
@@ -135,7 +133,7 @@ module _ (of : Cost → ℕ) (token : ℕ) (adds : (a b : Cost) → of (a and b)
     costs names p rows stopped =
         let units : of (times (length p.units) per_unit) ≡ of per_unit * length names =
         let e = ap (λ n. n * of per_unit) (units_long q 0 names p.units rows.units) in omega (arith, scales (length p.units) per_unit, e) in
-        let defs : of (all (map struct_of p.defs)) ≡ total (of_row_struct r) q.others = all_cost struct_of (of_row_struct r) struct_cost p.defs ∙ ap (total (of_row_struct r)) rows.defs in
+        let defs : of (all (map struct_of p.defs)) ≡ r.struct * length q.others + all_members r q.others = structs_cost p.defs ∙ ap (λ ds. r.struct * length ds + all_members r ds) rows.defs in
         let things : of (all (map of_object p.objects)) ≡ total (of_defined r q) (objects q) =
         all_cost of_object (λ o. of (of_object o)) (λ o. refl) p.objects ∙ same_total (IsObjectOf q) (of_defined r q) (λ o. of (of_object o)) object_cost (objects q) p.objects rows.objects in
         let texts : of (times (length p.strings) per_string) ≡ r.string * length q.strings =

@@ -13,4 +13,15 @@ pub mod Objects
 pub mod Mentions
 pub mod Spelled
 pub mod Covered
+pub mod Agreeing
+pub mod Agreed
+pub mod ShapeTypes
+pub mod StructRows
+pub mod BodyTypes
+pub mod BodyNames
+pub mod BodyAdds
+pub mod NameRows
+pub mod FileRows
+pub mod Costs
+pub mod Affordable
 pub mod Compiled

@@ -34,11 +34,11 @@ use Rattle.compiled_tables.proofs.Literals.{initial_count, initial_or_none, name
 abbrev pub held : State → ℕ
 held p = length p.definitions + length p.strings
 
-texts_long : (ls : List Literal) → length (texts ls) ≡ length ls
+pub texts_long : (ls : List Literal) → length (texts ls) ≡ length ls
 texts_long [] = refl
 texts_long (l ∷ ls) = ap suc (texts_long ls)
 
-value_strings : (v : Environment) (t : Plain) (e : Tree) → length (strings_of_value v t e) ≤ length (in_tree e)
+pub value_strings : (v : Environment) (t : Plain) (e : Tree) → length (strings_of_value v t e) ≤ length (in_tree e)
 value_strings v types.Char e = omega (arith, texts_long (in_tree e))
 value_strings v types.Int e = omega (arith, texts_long (in_tree e))
 value_strings v types.Unsigned e = omega (arith, texts_long (in_tree e))
