@@ -1,5 +1,5 @@
 -- What external declarations add to a program weighs no more than they do.
-use Rattle.std.proofs.Common.{◌≡◌, refl, sym, ap, subst, ◌∙◌, ℕ, suc, ◌+◌, ◌*◌, ◌≤◌, Bool, true, false, List, [], ◌∷◌, ◌++◌, length, length-append, map, Option, Some, None, arith}
+use Rattle.std.proofs.Common.{◌≡◌, refl, sym, ap, subst, ◌∙◌, ℕ, ◌+◌, ◌*◌, ◌≤◌, Bool, true, false, List, [], ◌∷◌, ◌++◌, length, length-append, map, Option, Some, None, arith}
 use Rattle.std.proofs.lemmas.List.{length-map}
 use Rattle.std.specs.Prelude.{if◌then◌else◌}
 use Rattle.c_declaration.specs.Tree.{DeclaratorTree}
@@ -28,12 +28,11 @@ use Rattle.c_file.specs.declared.definitions.Manner.TheVariants.{Body}
 use Rattle.c_file.specs.Names.{FileName}
 use Rattle.c_file.specs.Files.{State, Bodied, function_row, with_head, with_parameters, body_environment, bodied, after_all, after_function, with_spec, behind_known, Externals, Onward, AllExternals}
 use Rattle.c_file.specs.Programs.{Told, Well, in_file, ◌before◌, incomplete, at_first, next_file, tags_of, AllFiles}
-use Rattle.compiled_tables.specs.Weights.{Rates, AreCovered, total, constructors, derived, of_row, of_parameters, of_name, of_head, of_body, of_spec, of_declared, of_external, of_unit, of_units}
+use Rattle.compiled_tables.specs.Weights.{Rates, AreCovered, total, of_row, of_name, of_head, of_body, of_spec, of_declared, of_external, of_unit, of_units}
 use Rattle.compiled_tables.proofs.Files.{Same, specifies_same, stop_count, count_append}
-use Rattle.compiled_tables.proofs.ShapeTypes.{then_known, shape_type, shape_more}
+use Rattle.compiled_tables.proofs.ShapeTypes.{then_known}
 use Rattle.compiled_tables.proofs.StructRows.{times_more, of_row_members, all_members, completed_total, completed_long, incomplete_members, specifies_more, specified_one}
-use Rattle.compiled_tables.proofs.BodyTypes.{shape_parameters, parameters_taken}
-use Rattle.compiled_tables.proofs.BodyAdds.{strings_more, function_made}
+use Rattle.compiled_tables.proofs.BodyAdds.{made, strings_more, definition_made}
 use Rattle.compiled_tables.proofs.NameRows.{held, weighed_on, weighed_more, Costs, looser, names_cost}
 
 -- ---- structs that stay as they are
@@ -74,17 +73,15 @@ parameters_stay v (p ∷ ps) = by p.name (parameters_stay v ps) (λ n. parameter
 -- ---- external declarations
 
 module _ (r : Rates) (covered : AreCovered r) where
-  function_costs : (s : Storage) (d : DeclaratorTree) (x : StatementTree) (p : State) (y : Shape) (n : ℕ) → constructors (shape_type y) ≤ suc (derived d) → shape_parameters r y ≤ of_parameters r d → Costs r p n
-      → Costs r (after_function s d x p y) (n + (of_head r d + of_body r x))
-  function_costs s d x p (Object t) n few taken c = looser r p n (n + (of_head r d + of_body r x)) (omega arith) c
-  function_costs s d x p (Function t ps) n few taken c =
+  function_costs : (s : Storage) (d : DeclaratorTree) (x : StatementTree) (p : State) (y : Shape) (n : ℕ) → made r (after_function s d x p y) ≤ made r p + (of_head r d + of_body r x) → Costs r p n → Costs r (after_function s d x p y) (n + (of_head r d + of_body r x))
+  function_costs s d x p (Object t) n m c = looser r p n (n + (of_head r d + of_body r x)) (omega arith) c
+  function_costs s d x p (Function t ps) n m c =
       let f : FileName = function_row s d p (Function t ps) in
       let h : State = with_head p d f in
       let v : Environment = body_environment s d x h ps in
       let b : Bodied = bodied s d x h f t ps in
       let same = after_stays v (inside_block x) ∙ parameters_stay (record (enter h.here) { locals = 0 }) ps in
       let e = ap (all_members r) same in
-      let m = function_made r s d x p (Function t ps) few taken in
       let w = c.within in
       record {
         objects = c.objects + 0;
@@ -142,9 +139,9 @@ module _ (r : Rates) (covered : AreCovered r) where
       by (Known y) e =
           let (t, f, k) = then_known b (shape v h.declarator) y (sym e) in
           let one = specified_one p.others p.here v h.spec t (subst (λ (a : Answer Plain). Specifies p.others p.here h.spec a v) f is.3) in
-          let few : constructors (shape_type y) ≤ suc (derived h.declarator) = omega (arith, shape_more v h.declarator t y k, one) in
+          let m = definition_made r h.storage h.declarator x begun v t y k one in
           looser r (after_function h.storage h.declarator x begun y) (n + of_spec r h.spec + (of_head r h.declarator + of_body r x)) (n + (of_spec r h.spec + of_head r h.declarator + of_body r x)) (omega arith)
-          (function_costs h.storage h.declarator x begun y (n + of_spec r h.spec) few (parameters_taken r v h.declarator t y k) first)
+          (function_costs h.storage h.declarator x begun y (n + of_spec r h.spec) m first)
       by (Unknown name) e = looser r begun (n + of_spec r h.spec) (n + (of_spec r h.spec + of_head r h.declarator + of_body r x)) (omega arith) first
       by (Broken k at) e = looser r begun (n + of_spec r h.spec) (n + (of_spec r h.spec + of_head r h.declarator + of_body r x)) (omega arith) first
 

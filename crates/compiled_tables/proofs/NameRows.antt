@@ -1,6 +1,6 @@
 -- What a name at file scope adds to a program weighs no more than its declaration.
-use Rattle.std.proofs.Common.{◌≡◌, refl, sym, ap, subst, ◌∙◌, ℕ, zero, suc, ◌+◌, ◌*◌, ◌≤◌, Bool, true, false, List, [], ◌∷◌, ◌++◌, length, length-append, Option, Some, None, arith}
-use Rattle.std.specs.Prelude.{slice_get, if◌then◌else◌}
+use Rattle.std.proofs.Common.{◌≡◌, refl, sym, ap, subst, ◌∙◌, ℕ, zero, suc, ◌+◌, ◌*◌, ◌≤◌, false, List, [], ◌∷◌, ◌++◌, length, length-append, Option, Some, None, arith}
+use Rattle.std.specs.Prelude.{slice_get}
 use Rattle.c_declaration.specs.Tree.{DeclaratorTree, begins}
 use Rattle.c_declaration.specs.InitialTree.{InitialTree, Value, Braces, Item}
 use Rattle.c_declaration.specs.declared.tree.Declared.{Declared}
@@ -11,23 +11,23 @@ use Rattle.c_typing.specs.Plain as types
 use Rattle.c_typing.specs.Expressions as typing
 use Rattle.c_typing.specs.Expressions.{Denoted}
 use Rattle.c_judge.specs.Answers.{Answer, Known, Unknown, Broken, ◌then◌}
-use Rattle.c_scope.specs.Environment.{Row, Environment, innermost}
+use Rattle.c_scope.specs.Environment.{Environment}
 use Rattle.c_scope.specs.Declarators.{Shape, Object, Function, shape, denoted, name_in}
 use Rattle.c_mentions.specs.Literals.{in_declarator}
 use Rattle.c_initial.specs.Initials.{count_of, part_of, with_bound}
 use Rattle.c_initial.specs.Begins.{strings_of}
 use Rattle.c_file.specs.declared.definitions.Manner.{Manner}
 use Rattle.c_file.specs.declared.definitions.Manner.TheVariants.{Body, Initialized, Tentative}
-use Rattle.c_file.specs.Names.{FileName, Defining, composite, told_before, is_here}
+use Rattle.c_file.specs.Names.{FileName, Defining}
 use Rattle.c_file.specs.Files.{State, with_name, with_initial, with_definition, with_strings, file_name, type_or, defining, manner_of, object_type, in_limits, may_stand, is_extern, standing, what, after_what, after_name, after_all}
-use Rattle.compiled_tables.specs.Weights.{Rates, AreCovered, total, constructors, derived, literals, literals_or_none, of_global, of_row, of_type, of_name}
+use Rattle.compiled_tables.specs.Weights.{Rates, AreCovered, total, constructors, derived, literals, literals_or_none, of_type, of_name}
 use Rattle.compiled_tables.proofs.Objects.{value_strings}
 use Rattle.compiled_tables.proofs.Files.{stop_count}
 use Rattle.compiled_tables.proofs.ShapeTypes.{then_known, known_same, shape_type, shape_more}
-use Rattle.compiled_tables.proofs.StructRows.{total_of_one, times_more, all_members}
+use Rattle.compiled_tables.proofs.StructRows.{times_more, all_members}
 use Rattle.compiled_tables.proofs.Agreeing.{IsOf, IsDeclaredAs, declared_on}
 use Rattle.compiled_tables.proofs.BodyNames.{times_append}
-use Rattle.compiled_tables.proofs.BodyAdds.{made, strings_more}
+use Rattle.compiled_tables.proofs.BodyAdds.{made, strings_more, named_made}
 
 -- ---- declared types
 
@@ -120,29 +120,6 @@ module _ (r : Rates) where
   pub looser : (p : State) (m n : ℕ) → m ≤ n → Costs p m → Costs p n
   looser p m n l c = record { objects = c.objects; weighed = c.weighed; within = (let w = c.within in omega (arith, l, w)); points = c.points }
 
-  -- ---- a name is declared
-
-  composite_same : (d e : Denoted) → of_global r (composite d e) ≡ of_global r d
-  composite_same (typing.Object s b) (typing.Object t c) = refl
-  composite_same (typing.Object s b) (typing.Function t ps) = refl
-  composite_same (typing.Object s b) typing.Hidden = refl
-  composite_same (typing.Function s ps) e = refl
-  composite_same typing.Hidden e = refl
-
-  -- what a name's declarations tell weighs as much as the last of them
-  told_same : (fs : List FileName) (f : FileName) → of_global r (told_before fs f) ≡ of_global r f.denoted
-  told_same [] f = refl
-  told_same (g ∷ fs) f = by (is_here f.unit f.name g) (told_same fs f)
-    where
-      by : (b : Bool) → of_global r (told_before fs f) ≡ of_global r f.denoted → of_global r (if b then composite (told_before fs f) g.denoted else told_before fs f) ≡ of_global r f.denoted
-      by true e = composite_same (told_before fs f) g.denoted ∙ e
-      by false e = e
-
-  named_made : (p : State) (f : FileName) → made r (with_name p f) ≡ made r p + of_global r f.denoted
-  named_made p f =
-      let row : Row = record { name = f.name; denoted = told_before p.names f; up = innermost p.here.visible; unit = p.here.unit; local = None } in
-      omega (arith, total_of_one (of_row r) p.here.names row, told_same p.names f)
-
   -- ---- a name is defined
 
   strings_held : (s : Storage) (p : State) (d : DeclaratorTree) → held (with_strings s p d) ≡ held p + r.string * length (in_declarator d)
@@ -202,7 +179,7 @@ module _ (r : Rates) where
           objects = c.objects + (r.object + r.constructor * constructors t);
           weighed = subst (λ (fs : List FileName). AreWeighed fs (p.definitions ++ defining f (manner_of s i f.denoted)) (c.objects + (r.object + r.constructor * constructors t))) (sym a.names)
           (defined_more (f ∷ p.names) p.definitions c.objects f (manner_of s i f.denoted) (constructors t) refl refl (weighed_on f p.names p.definitions c.objects c.weighed));
-          within = omega (arith, w, l, initial_held s q f i, strings_held s (with_name p f) d, named_made p f);
+          within = omega (arith, w, l, initial_held s q f i, strings_held s (with_name p f) d, named_made r p f);
           points = a.points ∙ (c.points ∙ ap stop_count (sym a.bodies));
         }
     name_costs p d None u name (typing.Function t ps) n h c =
@@ -215,7 +192,7 @@ module _ (r : Rates) where
           objects = c.objects;
           weighed = subst (λ (m : Option Manner). AreWeighed (f ∷ p.names) (p.definitions ++ defining f m) c.objects) (sym (undefined s t ps))
           (no_more (f ∷ p.names) p.definitions c.objects (weighed_on f p.names p.definitions c.objects c.weighed));
-          within = omega (arith, w, l, k, strings_held s (with_name p f) d, named_made p f);
+          within = omega (arith, w, l, k, strings_held s (with_name p f) d, named_made r p f);
           points = c.points;
         }
     name_costs p d (Some i) u name (typing.Function t ps) n h c = absurd (let e : Some i ≡ None = h.1 in cc)
