@@ -1,7 +1,6 @@
 -- What the items weigh that a part of a program may become, at some rates: in bytes of the table's text, or in steps. Each literal, each mention of a
 -- struct, each declared name and each stopping point counts, also those that the program's table has only once.
 use Rattle.std.specs.Prelude.{ℕ, suc, ◌+◌, ◌*◌, ◌≤◌, List, [], ◌∷◌, length, Option, Some, None}
-use Rattle.c_expr.specs.Tree.{Tree}
 use Rattle.c_declaration.specs.Tree.{DeclaratorTree, Name, Parens, Pointers, Array, Function, Taking, Named, Unnamed}
 use Rattle.c_declaration.specs.InitialTree.{InitialTree, Value, Braces, Item}
 use Rattle.c_declaration.specs.declared.tree.Declared.{Declared}
@@ -39,7 +38,7 @@ pub record Rates : Type 0 where
   pub string : ℕ
   pub token : ℕ
 
-abbrev rates : (Cost → ℕ) → (token : ℕ) → Rates
+abbrev pub rates : (Cost → ℕ) → (token : ℕ) → Rates
 rates of token = record {
   constructor = of per_constructor;
   object = of per_object;
