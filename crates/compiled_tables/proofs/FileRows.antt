@@ -1,5 +1,5 @@
 -- What external declarations add to a program weighs no more than they do.
-use Rattle.std.proofs.Common.{◌≡◌, refl, sym, ap, subst, ◌∙◌, ℕ, ◌+◌, ◌*◌, ◌≤◌, Bool, true, false, List, [], ◌∷◌, ◌++◌, length, length-append, map, Option, Some, None, arith}
+use Rattle.std.proofs.Common.{◌≡◌, refl, sym, ap, subst, ◌∙◌, ℕ, ◌+◌, ◌*◌, ◌≤◌, Bool, true, false, List, [], ◌∷◌, ◌++◌, length, length-append, Option, Some, None, arith}
 use Rattle.std.proofs.lemmas.List.{length-map}
 use Rattle.std.specs.Prelude.{if◌then◌else◌}
 use Rattle.c_declaration.specs.Tree.{DeclaratorTree}
@@ -10,7 +10,6 @@ use Rattle.c_expr.specs.declared.tree.Spec.{Spec}
 use Rattle.c_statement.specs.Tree.{StatementTree, Empty, Evaluate, Begun, Declares, Also, Closed, If, IfElse, Headed, Do, Break, Continue, Return}
 use Rattle.c_statement.specs.declared.unit.External.{External}
 use Rattle.c_statement.specs.declared.unit.External.TheVariants.{Declaration, Definition}
-use Rattle.c_tree.specs.declared.types.StructDef.{StructDef}
 use Rattle.c_typing.specs.Plain.{Plain}
 use Rattle.c_typing.specs.Declarations.{is_named}
 use Rattle.c_typing.specs.Expressions as typing
@@ -28,12 +27,12 @@ use Rattle.c_file.specs.declared.definitions.Manner.TheVariants.{Body}
 use Rattle.c_file.specs.Names.{FileName}
 use Rattle.c_file.specs.Files.{State, Bodied, function_row, with_head, with_parameters, body_environment, bodied, after_all, after_function, with_spec, behind_known, Externals, Onward, AllExternals}
 use Rattle.c_file.specs.Programs.{Told, Well, in_file, ◌before◌, incomplete, at_first, next_file, tags_of, AllFiles}
-use Rattle.compiled_tables.specs.Weights.{Rates, AreCovered, total, of_row, of_name, of_head, of_body, of_spec, of_declared, of_external, of_unit, of_units}
-use Rattle.compiled_tables.proofs.Files.{Same, specifies_same, stop_count, count_append}
+use Rattle.compiled_tables.specs.Weights.{Rates, AreCovered, total, of_row, of_name, of_head, of_body, of_spec, of_declared, of_unit, of_units}
+use Rattle.compiled_tables.proofs.Files.{specifies_same, count_append}
 use Rattle.compiled_tables.proofs.ShapeTypes.{then_known}
 use Rattle.compiled_tables.proofs.StructRows.{times_more, of_row_members, all_members, completed_total, completed_long, incomplete_members, specifies_more, specified_one}
 use Rattle.compiled_tables.proofs.BodyAdds.{made, strings_more, definition_made}
-use Rattle.compiled_tables.proofs.NameRows.{held, weighed_on, weighed_more, Costs, looser, names_cost}
+use Rattle.compiled_tables.proofs.NameRows.{weighed_on, weighed_more, Costs, looser, names_cost}
 
 -- ---- structs that stay as they are
 
