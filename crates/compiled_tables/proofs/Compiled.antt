@@ -93,7 +93,7 @@ few_symbols p h = let a = symbols_cost p.symbols in let b = h.bytes in omega ari
 
 -- static objects and strings are tokens
 
-statics : Rates
+abbrev statics : Rates
 statics = record { constructor = 0; object = 1; object_symbol = 0; symbol = 0; point = 0; function = 0; struct = 0; member = 0; string = 1; token = 1 }
 
 statics_covered : AreCovered statics
