@@ -178,7 +178,7 @@ module _ (r : Rates) where
         record {
           objects = c.objects + (r.object + r.constructor * constructors t);
           weighed = subst (λ (fs : List FileName). AreWeighed fs (p.definitions ++ defining f (manner_of s i f.denoted)) (c.objects + (r.object + r.constructor * constructors t))) (sym a.names)
-          (defined_more (f ∷ p.names) p.definitions c.objects f (manner_of s i f.denoted) (constructors t) refl refl (weighed_on f p.names p.definitions c.objects c.weighed));
+              (defined_more (f ∷ p.names) p.definitions c.objects f (manner_of s i f.denoted) (constructors t) refl refl (weighed_on f p.names p.definitions c.objects c.weighed));
           within = omega (arith, w, l, initial_held s q f i, strings_held s (with_name p f) d, named_made r p f);
           points = a.points ∙ (c.points ∙ ap stop_count (sym a.bodies));
         }
@@ -191,7 +191,7 @@ module _ (r : Rates) where
         record {
           objects = c.objects;
           weighed = subst (λ (m : Option Manner). AreWeighed (f ∷ p.names) (p.definitions ++ defining f m) c.objects) (sym (undefined s t ps))
-          (no_more (f ∷ p.names) p.definitions c.objects (weighed_on f p.names p.definitions c.objects c.weighed));
+              (no_more (f ∷ p.names) p.definitions c.objects (weighed_on f p.names p.definitions c.objects c.weighed));
           within = omega (arith, w, l, k, strings_held s (with_name p f) d, named_made r p f);
           points = c.points;
         }

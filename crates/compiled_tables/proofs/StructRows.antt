@@ -33,7 +33,6 @@ total_of_one f xs y = omega (arith, total-append f xs (y ∷ []))
 
 -- ---- rows of structs, of which all but one are as before
 
-
 module _ (f : StructDef → ℕ) where
   abbrev at_most_one : Option StructDef → ℕ
   at_most_one None = 0
