@@ -11,3 +11,5 @@ pub mod Program
 pub mod Words
 pub mod Named
 pub mod NamedUnits
+pub mod Declaring
+pub mod NamedPrograms

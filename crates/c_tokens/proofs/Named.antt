@@ -1,5 +1,5 @@
 -- The tags in a tree, and the names that it declares, are identifiers where those of its terminals are.
-use Rattle.std.proofs.Common.{ℕ, Bool, List, [], ◌∷◌, ◌++◌, Option, Some, None}
+use Rattle.std.proofs.Common.{ℕ, List, [], ◌∷◌, ◌++◌}
 use Rattle.std.specs.List.{AllByRecursion}
 use Rattle.c_lex.specs.declared.token.Place.{Place}
 use Rattle.c_symbol.specs.declared.terminal.Terminal.{Terminal}
@@ -14,7 +14,7 @@ use Rattle.c_declaration.specs.InitialTree.{InitialTree}
 use Rattle.c_declaration.specs.declared.tree.Declared.{Declared}
 use Rattle.c_declaration.specs.declared.tree.Local.{Local}
 use Rattle.c_declaration.specs.Grammar.{IsDirect, name, parens, array, open_array, no_parameters, void_parameters, parameters, IsDeclarator, direct, pointers, AreParameters, first_parameter, next_parameter, IsParameter, named, unnamed, IsInitial, value, braces, braces_comma, AreItems, first_item, next_item, IsDeclared, plain, with_initial, AreDeclared, one_name, more_names, IsLocal, local}
-use Rattle.c_mentions.specs.Tags.{in_spec, in_tree, in_part, in_all, in_declarator, in_initial, in_declared, in_local}
+use Rattle.c_mentions.specs.Tags.{in_spec, in_tree, in_all, in_declarator, in_initial, in_declared, in_local}
 use Rattle.c_scope.specs.Declarators.{name_in}
 use Rattle.c_tokens.specs.Identifiers.{IsIdentifier}
 use Rattle.c_tokens.proofs.Words as words
