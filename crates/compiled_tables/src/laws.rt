@@ -13,11 +13,11 @@ ghost use Rattle.claims.specs.Tables.{RunsTable};
 ghost use Rattle.table_run.specs.Tables.{IsTableOf};
 ghost use Rattle.ldb_cc.specs.declared.aim.Aim.{Aim};
 ghost use Rattle.ldb_cc.specs.Built.{IsBuilt};
-ghost use Rattle.compiled_tables.specs.Conditions.{AreFileNames, HasIdentifiers, IsAffordable};
+ghost use Rattle.compiled_tables.specs.Conditions.{AreFileNames, IsAffordable};
 
 use c_accepted::{checked_programs_are_accepted, files_are_texts};
 use c_lex::one_reading;
-use c_tokens::programs_have_few_tokens;
+use c_tokens::{names_are_identifiers, programs_have_few_tokens};
 use obj_placed::placed_word_by_word;
 use ps_tables::accepted_types_run;
 use table_ends::counted_tables_come;
@@ -27,14 +27,15 @@ pub fn programs_are_affordable()
     ensures { (names : List (List ℕ)) (us : List (List External)) (tss : List (List Terminal)) (p : Program) → AreSpelled us tss → Checks names us (Ok p) → length names ≤ 16 → terminals_in tss ≤ 40000 → IsAffordable p }
 {}
 
-/// The table that is built of sources comes to a table for the image's target, behind the prelude and where there is no target, and so the claims on whole sessions have it: where there are at most 16 files, with names of at most 255 bytes, and the names of the program are identifiers of at most 63 bytes.
+/// The table that is built of sources comes to a table for the image's target, behind the prelude and where there is no target, and so the claims on whole sessions have it: where there are at most 16 files, with names of at most 255 bytes.
 pub fn compiled_tables_come()
-    ensures { (aim : Aim) (names texts : List (List ℕ)) (image : ImageFields) (table : List ℕ) (built : IsBuilt aim names texts image table) → length names ≡ length texts → length names ≤ 16 → AreFileNames names → HasIdentifiers built.program → (s : StoreState) × IsTableOf table image.target (Ok s) × RunsTable loaded.store table image.target (Ok s) }
+    ensures { (aim : Aim) (names texts : List (List ℕ)) (image : ImageFields) (table : List ℕ) (built : IsBuilt aim names texts image table) → length names ≡ length texts → length names ≤ 16 → AreFileNames names → (s : StoreState) × IsTableOf table image.target (Ok s) × RunsTable loaded.store table image.target (Ok s) }
 {
     checked_programs_are_accepted();
     files_are_texts();
     programs_have_few_tokens();
     programs_are_affordable();
+    names_are_identifiers();
     one_reading();
     placed_word_by_word();
     accepted_types_run();
