@@ -14,11 +14,14 @@ use Rattle.c_mentions.specs.Literals.{Literal, texts, in_declarator, in_statemen
 use Rattle.c_file.specs.Names.{FileName, composite, is_here, told_before}
 use Rattle.c_file.specs.Files.{State, with_name, with_head, function_row, body_environment, bodied, behind_body, after_function}
 use Rattle.compiled_tables.specs.Weights.{Rates, constructors, derived, of_typed, of_global, of_row, of_parameters, of_head, of_body}
-use Rattle.compiled_tables.proofs.Objects.{texts_long}
 use Rattle.compiled_tables.proofs.ShapeTypes.{shape_type, shape_more}
-use Rattle.compiled_tables.proofs.StructRows.{total_of_one}
+use Rattle.compiled_tables.proofs.Sums.{total_of_one}
 use Rattle.compiled_tables.proofs.BodyTypes.{parameters_weight, shape_parameters, parameters_taken}
 use Rattle.compiled_tables.proofs.BodyNames.{times_append, names_weight, block_weight, parameters_declared}
+
+pub texts_long : (ls : List Literal) → length (texts ls) ≡ length ls
+texts_long [] = refl
+texts_long (l ∷ ls) = ap suc (texts_long ls)
 
 module _ (r : Rates) where
   -- what the names, points, strings and functions of a program weigh

@@ -15,7 +15,8 @@ use Rattle.c_scope.specs.Declarators.{Parameter, Shape, Object, Function, is_nam
 use Rattle.c_body.specs.Locals.{kept, local_type}
 use Rattle.compiled_tables.specs.Weights.{Rates, total, constructors, derived, of_typed, of_parameter, of_parameters}
 use Rattle.compiled_tables.proofs.ShapeTypes.{shape_type, shape_more}
-use Rattle.compiled_tables.proofs.StructRows.{total-append, spec_one}
+use Rattle.compiled_tables.proofs.Sums.{total-append}
+use Rattle.compiled_tables.proofs.StructRows.{spec_one}
 
 -- ---- answers
 

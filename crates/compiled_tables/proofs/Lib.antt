@@ -8,8 +8,7 @@ pub mod Owned
 pub mod Files
 pub mod Programs
 pub mod Units
-pub mod Literals
-pub mod Objects
+pub mod Sums
 pub mod Mentions
 pub mod Spelled
 pub mod Covered

@@ -21,13 +21,12 @@ use Rattle.c_file.specs.declared.definitions.Manner.TheVariants.{Body, Initializ
 use Rattle.c_file.specs.Names.{FileName, Defining}
 use Rattle.c_file.specs.Files.{State, with_name, with_initial, with_definition, with_strings, file_name, type_or, defining, manner_of, object_type, in_limits, may_stand, is_extern, standing, what, after_what, after_name, after_all}
 use Rattle.compiled_tables.specs.Weights.{Rates, AreCovered, total, constructors, derived, literals, literals_or_none, of_type, of_name}
-use Rattle.compiled_tables.proofs.Objects.{value_strings}
 use Rattle.compiled_tables.proofs.Files.{stop_count}
 use Rattle.compiled_tables.proofs.ShapeTypes.{then_known, known_same, shape_type, shape_more}
 use Rattle.compiled_tables.proofs.StructRows.{times_more, all_members}
 use Rattle.compiled_tables.proofs.Agreeing.{IsOf, IsDeclaredAs, declared_on}
 use Rattle.compiled_tables.proofs.BodyNames.{times_append}
-use Rattle.compiled_tables.proofs.BodyAdds.{made, strings_more, named_made}
+use Rattle.compiled_tables.proofs.BodyAdds.{texts_long, made, strings_more, named_made}
 
 -- ---- declared types
 
@@ -66,6 +65,15 @@ what_declares s t p d x one e =
     stands p.here s d.initial (begins d.declarator).at y x (suc (derived d.declarator)) (omega (arith, shape_more p.here d.declarator t y f, one)) g
 
 -- ---- strings
+
+value_strings : (v : Environment) (t : Plain) (e : Tree) → length (strings_of_value v t e) ≤ length (in_tree e)
+value_strings v types.Char e = omega (arith, texts_long (in_tree e))
+value_strings v types.Int e = omega (arith, texts_long (in_tree e))
+value_strings v types.Unsigned e = omega (arith, texts_long (in_tree e))
+value_strings v types.Void e = omega (arith, texts_long (in_tree e))
+value_strings v (types.Pointer t) e = omega (arith, texts_long (in_tree e))
+value_strings v (types.Array t n) e = omega arith
+value_strings v (types.Struct s) e = omega (arith, texts_long (in_tree e))
 
 initial_strings : (v : Environment) (t : Plain) (i : InitialTree) → length (strings_of v t i) ≤ literals i
 initial_strings v t (Value e) = value_strings v t e

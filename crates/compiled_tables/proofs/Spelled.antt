@@ -24,13 +24,10 @@ use Rattle.c_mentions.specs.Literals.{Literal, in_tree, in_part, in_all, in_decl
 use Rattle.c_mentions.specs.Tags as tags
 use Rattle.c_tokens.specs.Units.{AreSpelled, terminals_in}
 use Rattle.compiled_tables.specs.Weights.{total, literals, present, head_points, of_member, of_part, of_declared_local, of_locals, of_statement, of_spec, of_name, of_head, of_external, of_unit, of_units}
+use Rattle.compiled_tables.proofs.Sums.{total-append}
 use Rattle.compiled_tables.proofs.Mentions.{pair, triple, round, last, ones, mentions, spec_tags, spelled, declarator_spelled, initial_spelled}
 
 -- ---- lists
-
-pub total-append : {A : Type 0} (f : A → ℕ) (xs ys : List A) → total f (xs ++ ys) ≡ total f xs + total f ys
-total-append f [] ys = omega arith
-total-append f (x ∷ xs) ys = omega (arith, total-append f xs ys)
 
 literals-append : {A : Type 0} (f : A → List Literal) (xs ys : List A) → length (in_all f (xs ++ ys)) ≡ length (in_all f xs) + length (in_all f ys)
 literals-append f [] ys = omega arith

@@ -20,16 +20,8 @@ use Rattle.c_struct.specs.Structs.{Open, Written, written, member, members, IsRo
 use Rattle.c_struct.specs.Specifies.{Goes, Ends, Inside, Specifies}
 use Rattle.c_file.specs.Programs.{completed_by, incomplete}
 use Rattle.compiled_tables.specs.Weights.{Rates, total, constructors, derived, of_member, of_part, of_members}
+use Rattle.compiled_tables.proofs.Sums.{total_of_one}
 use Rattle.compiled_tables.proofs.ShapeTypes.{then_known, known_same, shape_type, shape_more}
-
--- ---- sums
-
-pub total-append : {A : Type 0} (f : A → ℕ) (xs ys : List A) → total f (xs ++ ys) ≡ total f xs + total f ys
-total-append f [] ys = omega arith
-total-append f (x ∷ xs) ys = omega (arith, total-append f xs ys)
-
-pub total_of_one : {A : Type 0} (f : A → ℕ) (xs : List A) (y : A) → total f (xs ++ y ∷ []) ≡ total f xs + f y
-total_of_one f xs y = omega (arith, total-append f xs (y ∷ []))
 
 -- ---- rows of structs, of which all but one are as before
 
