@@ -6,6 +6,7 @@ use Rattle.c_declaration.specs.InitialTree.{InitialTree, Value, Braces, Item}
 use Rattle.c_declaration.specs.declared.tree.Declared.{Declared}
 use Rattle.c_declaration.specs.declared.tree.Storage.{Storage}
 use Rattle.c_declaration.specs.declared.tree.Storage.TheVariants as storage
+use Rattle.c_expr.specs.Tree.{Tree}
 use Rattle.c_typing.specs.Plain.{Plain}
 use Rattle.c_typing.specs.Plain as types
 use Rattle.c_typing.specs.Expressions as typing
@@ -13,9 +14,9 @@ use Rattle.c_typing.specs.Expressions.{Denoted}
 use Rattle.c_judge.specs.Answers.{Answer, Known, Unknown, Broken, ◌then◌}
 use Rattle.c_scope.specs.Environment.{Environment}
 use Rattle.c_scope.specs.Declarators.{Shape, Object, Function, shape, denoted, name_in}
-use Rattle.c_mentions.specs.Literals.{in_declarator}
+use Rattle.c_mentions.specs.Literals.{in_tree, in_declarator}
 use Rattle.c_initial.specs.Initials.{count_of, part_of, with_bound}
-use Rattle.c_initial.specs.Begins.{strings_of}
+use Rattle.c_initial.specs.Begins.{strings_of_value, strings_of}
 use Rattle.c_file.specs.declared.definitions.Manner.{Manner}
 use Rattle.c_file.specs.declared.definitions.Manner.TheVariants.{Body, Initialized, Tentative}
 use Rattle.c_file.specs.Names.{FileName, Defining}
