@@ -1,4 +1,4 @@
--- A session over that machine, with a table that has no units: `continue` meets the hazard, and all but `quit` is refused behind it.
+-- Sessions over that machine, whatever their table: `continue` meets the hazard, and all but `quit` is refused behind it.
 use Rattle.std.specs.Prelude.{◌≡◌, ◌↔◌, false, [], ◌∷◌, codes, Some, None}
 use Rattle.std.proofs.Common.{refl, sym, ap, subst, inl, inr}
 use Rattle.ldb_words.specs.declared.event.FaultKind.TheVariants.{Hazard}
@@ -18,46 +18,48 @@ use Rattle.session_examples.proofs.BareTable.{bare_table}
 use Rattle.session_examples.proofs.Continuing.{continues}
 use Rattle.session_examples.proofs.HazardMachine.{machine, first, last, is_saved, meets_the_hazard, tells_its_pc}
 
-abbrev table : StoreState
-table = bare_table (codes "mips")
-
-abbrev start : SessionState
-start = first_session (first_side machine_behaviour [] table machine) None
-
-abbrev side : SideState
-side = record { machine = first; table = record table { part = part.Command }; breaks = []; step_words = []; stands_at = None; kept = None; frame = 0 }
-
-abbrev opened : SessionState
-opened = first_session side None
-
-is_opened : opened ≡ start
-is_opened = sym (ap (λ (m : MachineState). first_session (record side { machine = (given_input [] m).1 }) None) is_saved)
-
--- ---- `continue`
-
 abbrev fault : Reply
 fault = codes "fault hazard at 00400008" ∷ []
 
-abbrev over : SessionState
-over = record (first_session (record side { machine = last; kept = Some (Faults Hazard 0x00400008) }) None) { state = Ended }
+module _ (table : StoreState) where
+  abbrev start : SessionState
+  start = first_session (first_side machine_behaviour [] table machine) None
 
-it_faults : resumed machine_behaviour ByContinue opened ≡ record { lines = fault; session = over }
-unfolding resumed
-it_faults = rw meets_the_hazard (rw tells_its_pc refl)
+  abbrev side : SideState
+  side = record { machine = first; table = record table { part = part.Command }; breaks = []; step_words = []; stands_at = None; kept = None; frame = 0 }
 
--- this is the answer, and no other is but for want of memory
-faults : (reply : Reply) (after : SessionState) → Answers machine_behaviour start (Some command.Continue) reply after ↔ Says start fault over reply after
-faults reply after =
-    subst (λ (st : SessionState). Answers machine_behaviour st (Some command.Continue) reply after ↔ Says st fault over reply after) is_opened
-    (subst (λ (r : Resumed). Answers machine_behaviour opened (Some command.Continue) reply after ↔ Says opened r.lines r.session reply after) it_faults
-    (continues machine_behaviour side reply after))
+  abbrev opened : SessionState
+  opened = first_session side None
 
--- ---- behind it
+  is_opened : opened ≡ start
+  is_opened = sym (ap (λ (m : MachineState). first_session (record side { machine = (given_input [] m).1 }) None) is_saved)
 
-is_over : (c : Command) → is_quit c ≡ false → (reply : Reply) (after : SessionState) → Answers machine_behaviour over (Some c) reply after ↔ Says over (codes "refused ended" ∷ []) over reply after
-is_over command.Quit e reply after = absurd cc
-is_over c e reply after = (λ says. says, λ says. says)
+  -- ---- `continue`
 
--- the whole session
-converses : Converses machine_behaviour start (Some command.Continue ∷ Some command.Quit ∷ []) fault []
-converses = inr (fault, [], over, (faults fault over).1 (inl (refl, refl)), refl, inl (tt, refl, refl))
+  abbrev over : SessionState
+  over = record (first_session (record side { machine = last; kept = Some (Faults Hazard 0x00400008) }) None) { state = Ended }
+
+  it_faults : resumed machine_behaviour ByContinue opened ≡ record { lines = fault; session = over }
+  unfolding resumed
+  it_faults = rw meets_the_hazard (rw tells_its_pc refl)
+
+  -- this is the answer, and no other is but for want of memory
+  faults : (reply : Reply) (after : SessionState) → Answers machine_behaviour start (Some command.Continue) reply after ↔ Says start fault over reply after
+  faults reply after =
+      subst (λ (st : SessionState). Answers machine_behaviour st (Some command.Continue) reply after ↔ Says st fault over reply after) is_opened
+      (subst (λ (r : Resumed). Answers machine_behaviour opened (Some command.Continue) reply after ↔ Says opened r.lines r.session reply after) it_faults
+      (continues machine_behaviour side reply after))
+
+  -- ---- behind it
+
+  is_over : (c : Command) → is_quit c ≡ false → (reply : Reply) (after : SessionState) → Answers machine_behaviour over (Some c) reply after ↔ Says over (codes "refused ended" ∷ []) over reply after
+  is_over command.Quit e reply after = absurd cc
+  is_over c e reply after = (λ says. says, λ says. says)
+
+  -- the whole session
+  converses : Converses machine_behaviour start (Some command.Continue ∷ Some command.Quit ∷ []) fault []
+  converses = inr (fault, [], over, (faults fault over).1 (inl (refl, refl)), refl, inl (tt, refl, refl))
+
+-- with a table that has no units
+bare : Converses machine_behaviour (start (bare_table (codes "mips"))) (Some command.Continue ∷ Some command.Quit ∷ []) fault []
+bare = converses (bare_table (codes "mips"))
