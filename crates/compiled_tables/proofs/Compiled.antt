@@ -14,6 +14,7 @@ use Rattle.c_typing.specs.Written.{IsFormed}
 use Rattle.c_typing.specs.Programs.{KeepsRules}
 use Rattle.c_symbol.specs.declared.terminal.Terminal.{Terminal}
 use Rattle.c_statement.specs.declared.unit.External.{External}
+use Rattle.c_tokens.specs.Identifiers.{IsIdentifier, HasIdentifiers}
 use Rattle.c_tokens.specs.Units.{AreSpelled, terminals_in}
 use Rattle.c_file.specs.Programs.{Well, at_first, AllFiles}
 use Rattle.c_file.specs.Files.{State}
@@ -30,7 +31,7 @@ use Rattle.ps_tables.specs.Within.{IsWithin, HasTypes}
 use Rattle.ldb_cc.specs.declared.aim.Aim.{Aim}
 use Rattle.ldb_cc.specs.declared.aim.Aim.TheVariants.{Mips, Sparc}
 use Rattle.ldb_cc.specs.Table.{target_byte}
-use Rattle.compiled_tables.specs.Conditions.{AreFileNames, IsIdentifier, HasIdentifiers, IsAffordable}
+use Rattle.compiled_tables.specs.Conditions.{AreFileNames, IsAffordable}
 use Rattle.compiled_tables.proofs.Identifiers.{regular, named}
 use Rattle.compiled_tables.proofs.Tokens.{sum_more, few_structs, few_members}
 use Rattle.compiled_tables.proofs.Types.{type_words, structs_are_rows, symbols_are_rows}

@@ -1,13 +1,7 @@
 -- What is asked of sources, of their program and of where it is placed, for a table that runs. Each is said of the program or of the linker's rows.
 use Rattle.std.specs.Prelude.{ℕ, ◌≤◌, List, length, Some}
 use Rattle.std.specs.List.{AllByRecursion}
-use Rattle.c_lex.specs.Grammar.{IsWord as IsWordOfC}
-use Rattle.c_tree.specs.declared.types.StructDef.{StructDef}
-use Rattle.c_tree.specs.declared.types.Member.{Member}
 use Rattle.c_tree.specs.declared.rows.Program.{Program}
-use Rattle.c_tree.specs.declared.rows.ObjectRow.{ObjectRow}
-use Rattle.c_tree.specs.declared.rows.SymbolRow.{SymbolRow}
-use Rattle.c_tree.specs.declared.rows.Function.{Function}
 use Rattle.obj_file.specs.declared.object.FunctionRow.{FunctionRow}
 use Rattle.ps_emit.specs.Bounds.{cost_of}
 use Rattle.ps_emit.specs.Lengths.{IsWord, IsInteger, IsPlace}
@@ -15,18 +9,6 @@ use Rattle.ps_emit.specs.Lengths.{IsWord, IsInteger, IsPlace}
 -- the names of files have at most 255 bytes
 abbrev pub AreFileNames : List (List ℕ) → Type 0
 AreFileNames names = AllByRecursion (λ n. length n ≤ 255) names
-
--- an identifier of at most 63 bytes (C90 6.1.2)
-pub record IsIdentifier (name : List ℕ) : Type 0 where
-  pub word : IsWordOfC name
-  pub short : length name ≤ 63
-
--- the names of a program are identifiers
-pub record HasIdentifiers (p : Program) : Type 0 where
-  pub tags : AllByRecursion (λ (d : StructDef). IsIdentifier d.tag × AllByRecursion (λ (m : Member). IsIdentifier m.name) d.members) p.defs
-  pub objects : AllByRecursion (λ (o : ObjectRow). IsIdentifier o.name) p.objects
-  pub functions : AllByRecursion (λ (f : Function). IsIdentifier f.name) p.functions
-  pub symbols : AllByRecursion (λ (s : SymbolRow). IsIdentifier s.name) p.symbols
 
 -- The frame of a function is a word, it saves at most 9 registers, and each of these and of its locals has a register or an offset that is a word.
 pub record IsFramed (row : FunctionRow) : Type 0 where
