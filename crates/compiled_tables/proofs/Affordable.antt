@@ -1,5 +1,5 @@
 -- An accepted program of at most 16 files and 40,000 tokens costs no more than a table may.
-use Rattle.std.proofs.Common.{◌≡◌, refl, ap, ℕ, ◌+◌, ◌*◌, ◌≤◌, Bool, true, false, ◌||◌, if◌then◌else◌, List, [], ◌∷◌, length, Ok, arith}
+use Rattle.std.proofs.Common.{refl, ap, ℕ, ◌+◌, ◌*◌, ◌≤◌, Bool, true, false, ◌||◌, if◌then◌else◌, List, [], ◌∷◌, length, Ok, arith}
 use Rattle.std.proofs.Math.Nat.{mul-le-mul_left}
 use Rattle.c_symbol.specs.declared.terminal.Terminal.{Terminal}
 use Rattle.c_statement.specs.declared.unit.External.{External}
@@ -9,12 +9,12 @@ use Rattle.c_file.specs.declared.definitions.Manner.TheVariants.{Body, Initializ
 use Rattle.c_file.specs.Names.{Defining}
 use Rattle.c_file.specs.Files.{State}
 use Rattle.c_file.specs.Programs.{Well, tags_of, at_first, AllFiles}
-use Rattle.c_file.specs.Made.{is_body, is_on, objects_from, objects, object_type, HasRows}
+use Rattle.c_file.specs.Made.{is_body, is_on, objects_from, HasRows}
 use Rattle.c_check.specs.Faulty.{Checks}
 use Rattle.c_tokens.specs.Units.{AreSpelled, terminals_in}
-use Rattle.ps_emit.specs.Bounds.{Cost, always, per_unit, cost_of}
+use Rattle.ps_emit.specs.Bounds.{cost_of}
 use Rattle.compiled_tables.specs.Conditions.{IsAffordable}
-use Rattle.compiled_tables.specs.Weights.{Rates, AreCovered, rates_of_bytes, rates_of_steps, rates_of_made, total, constructors, of_units}
+use Rattle.compiled_tables.specs.Weights.{Rates, AreCovered, rates_of_bytes, rates_of_steps, rates_of_made, total, of_units}
 use Rattle.compiled_tables.proofs.Covered.{bytes_covered, steps_covered, made_covered, units_weigh}
 use Rattle.compiled_tables.proofs.Agreeing.{Agreeing, IsDeclaredAs, object_constructors}
 use Rattle.compiled_tables.proofs.Agreed.{all_agree}

@@ -10,13 +10,13 @@ use Rattle.c_tree.specs.declared.rows.ObjectRow.{ObjectRow}
 use Rattle.c_tree.specs.declared.rows.SymbolRow.{SymbolRow}
 use Rattle.c_tree.specs.declared.rows.Referent.{Referent}
 use Rattle.c_tree.specs.declared.rows.Referent.TheVariants as refers
-use Rattle.c_typing.specs.Plain.{Plain, plain}
+use Rattle.c_typing.specs.Plain.{plain}
 use Rattle.c_typing.specs.Expressions as typing
 use Rattle.c_typing.specs.Expressions.{Denoted}
 use Rattle.c_scope.specs.Environment.{Row}
 use Rattle.c_file.specs.Names.{Defining}
 use Rattle.c_file.specs.Files.{State}
-use Rattle.c_file.specs.Made.{Each, AreUnits, HasRows, IsObjectOf, IsSymbolOf, IsFunctionOf, objects, object_type, object_number, function_number, or_zero, function_or_none, referent_of, referent, type_of_name}
+use Rattle.c_file.specs.Made.{Each, AreUnits, HasRows, IsObjectOf, IsSymbolOf, IsFunctionOf, objects, object_type, function_number, function_or_none, referent_of, type_of_name}
 use Rattle.ps_emit.specs.Bounds as bounds
 use Rattle.ps_emit.specs.Bounds.{Cost, none, ◌and◌, times, all, per_constructor, per_object_symbol, per_symbol, per_point, per_function, per_unit, per_struct, per_member, per_object, per_string, always, of_type, of_member, of_object, of_named, of_symbol, cost_of}
 use Rattle.compiled_tables.specs.Weights.{Rates, rates, total, constructors, of_typed, of_inner, of_global, of_row}
