@@ -14,17 +14,20 @@ use Rattle.c_symbol.specs.declared.terminal.Terminal.{Terminal}
 use Rattle.c_mentions.specs.Literals.{in_declarator, in_file_spec, in_statement}
 use Rattle.c_mentions.specs.Tags.{in_external}
 use Rattle.c_tokens.specs.Units.{AreSpelled, terminals_in}
-use Rattle.compiled_tables.specs.Weights.{Rates, AreCovered, rates_of_bytes, rates_of_steps, total, derived, present, literals_or_none, head_points, of_local, of_member, of_parameter, of_parameters, of_declared_local, of_statement, of_body, of_part, of_members, of_spec, of_name, of_head, of_external, of_unit, of_units}
+use Rattle.compiled_tables.specs.Weights.{Rates, AreCovered, rates_of_bytes, rates_of_steps, rates_of_made, total, derived, present, literals_or_none, head_points, of_local, of_member, of_parameter, of_parameters, of_declared_local, of_statement, of_body, of_part, of_members, of_spec, of_name, of_head, of_external, of_unit, of_units}
 use Rattle.compiled_tables.proofs.Mentions.{ones}
 use Rattle.compiled_tables.proofs.Spelled.{units_spelled}
 
--- ---- both rates
+-- ---- all rates
 
 pub bytes_covered : AreCovered rates_of_bytes
 bytes_covered = record { string = omega arith; struct = omega arith; constructor = omega arith; point = omega arith; local = omega arith; member = omega arith; object = omega arith; declared = omega arith; function = omega arith }
 
 pub steps_covered : AreCovered rates_of_steps
 steps_covered = record { string = omega arith; struct = omega arith; constructor = omega arith; point = omega arith; local = omega arith; member = omega arith; object = omega arith; declared = omega arith; function = omega arith }
+
+pub made_covered : AreCovered rates_of_made
+made_covered = record { string = omega arith; struct = omega arith; constructor = omega arith; point = omega arith; local = omega arith; member = omega arith; object = omega arith; declared = omega arith; function = omega arith }
 
 -- ---- parts, of which each item is paid for by a token or by two
 

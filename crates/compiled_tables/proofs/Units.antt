@@ -50,7 +50,7 @@ light_program p =
     let c = light_symbols p.symbols in
     omega arith
 
-few_files : (p : Program) → 1126 * length p.units ≤ (cost_of p).bytes
+pub few_files : (p : Program) → 1126 * length p.units ≤ (cost_of p).bytes
 few_files p = omega arith
 
 loaded_units : loaded.store.table.units + loaded.store.command.units ≤ 200000

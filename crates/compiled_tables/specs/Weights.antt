@@ -1,4 +1,4 @@
--- What the items weigh that a part of a program may become, at some rates: in bytes of the table's text, or in steps. Each literal, each mention of a
+-- What the items weigh that a part of a program may become, at some rates: in bytes of the table's text, in steps, or in units that are made. Each literal, each mention of a
 -- struct, each declared name and each stopping point counts, also those that the program's table has only once.
 use Rattle.std.specs.Prelude.{ℕ, suc, ◌+◌, ◌*◌, ◌≤◌, List, [], ◌∷◌, length, Option, Some, None}
 use Rattle.c_declaration.specs.Tree.{DeclaratorTree, Name, Parens, Pointers, Array, Function, Taking, Named, Unnamed}
@@ -58,6 +58,10 @@ rates_of_bytes = rates (λ c. c.bytes) per_token.bytes
 -- of steps there are more than enough, so each string may be paid for by its own token
 abbrev pub rates_of_steps : Rates
 rates_of_steps = rates (λ c. c.steps) 60
+
+-- and so it is with the units of what is made
+abbrev pub rates_of_made : Rates
+rates_of_made = rates (λ c. c.made) 42
 
 -- What tokens pay for: a literal, a `*` and the `[` of a bound each pay for one item, and so do the tag of a struct and the word, `=`, `;` or brace at a
 -- stopping point; a declared name pays together with the token behind it; a function has a type, a name and two braces at least.
