@@ -1,32 +1,14 @@
 -- What is asked of sources, of their program and of where it is placed, for a table that runs. Each is said of the program or of the linker's rows.
 use Rattle.std.specs.Prelude.{ℕ, ◌≤◌, List, length, Some}
 use Rattle.std.specs.List.{AllByRecursion}
-use Rattle.c_lex.specs.Grammar.{IsWord as IsWordOfC}
-use Rattle.c_tree.specs.declared.types.StructDef.{StructDef}
-use Rattle.c_tree.specs.declared.types.Member.{Member}
 use Rattle.c_tree.specs.declared.rows.Program.{Program}
-use Rattle.c_tree.specs.declared.rows.ObjectRow.{ObjectRow}
-use Rattle.c_tree.specs.declared.rows.SymbolRow.{SymbolRow}
-use Rattle.c_tree.specs.declared.rows.Function.{Function}
 use Rattle.obj_file.specs.declared.object.FunctionRow.{FunctionRow}
-use Rattle.ps_emit.specs.Bounds.{cost_of}
+use Rattle.ps_emit.specs.Bounds.{cost_of, units_of}
 use Rattle.ps_emit.specs.Lengths.{IsWord, IsInteger, IsPlace}
 
 -- the names of files have at most 255 bytes
 abbrev pub AreFileNames : List (List ℕ) → Type 0
 AreFileNames names = AllByRecursion (λ n. length n ≤ 255) names
-
--- an identifier of at most 63 bytes (C90 6.1.2)
-pub record IsIdentifier (name : List ℕ) : Type 0 where
-  pub word : IsWordOfC name
-  pub short : length name ≤ 63
-
--- the names of a program are identifiers
-pub record HasIdentifiers (p : Program) : Type 0 where
-  pub tags : AllByRecursion (λ (d : StructDef). IsIdentifier d.tag × AllByRecursion (λ (m : Member). IsIdentifier m.name) d.members) p.defs
-  pub objects : AllByRecursion (λ (o : ObjectRow). IsIdentifier o.name) p.objects
-  pub functions : AllByRecursion (λ (f : Function). IsIdentifier f.name) p.functions
-  pub symbols : AllByRecursion (λ (s : SymbolRow). IsIdentifier s.name) p.symbols
 
 -- The frame of a function is a word, it saves at most 9 registers, and each of these and of its locals has a register or an offset that is a word.
 pub record IsFramed (row : FunctionRow) : Type 0 where
@@ -35,7 +17,9 @@ pub record IsFramed (row : FunctionRow) : Type 0 where
   pub saved : AllByRecursion (λ s. IsWord s.0 × IsInteger s.1) row.saved
   pub locals : AllByRecursion (λ l. IsPlace (Some l)) row.locals
 
--- What is counted for the items of a program is within the limits: 16,777,216 bytes of text, and fewer steps than a run may take.
+-- What is counted for the items of a program is within the limits: 16,777,216 bytes of text, seven tenths of the units of a store, and fewer steps than a run may
+-- take.
 pub record IsAffordable (p : Program) : Type 0 where
   pub bytes : (cost_of p).bytes ≤ 16777216
+  pub units : units_of p ≤ 5600000
   pub steps : (cost_of p).steps ≤ 9900000

@@ -7,6 +7,7 @@ use Rattle.ldb_cc.specs.Sources.{IsTree}
 use Rattle.ldb_cc.specs.Table.{placement_of}
 use Rattle.ps_emit.specs.Table.{table_text}
 use Rattle.slot_formed.specs.Tokens.{program_tokens}
+use Rattle.c_tokens.specs.Identifiers.{IsOfText, HasIdentifiers}
 use Rattle.ldb_cc.proofs.Lengths.{as_many, of_texts, spelled_shortly}
 use Rattle.compiled_tables.proofs.Placed.{anchors_are_words, rows_are_placed}
 use Rattle.compiled_tables.proofs.Framed.{are_framed}
@@ -15,16 +16,18 @@ use Rattle.compiled_tables.proofs.Compiled.{few_statics, within, types, parted, 
 use Rattle.compiled_tables.proofs.laws.compiled_tables_come.Goals as goal
 
 pub returns : goal.returns
-returns c aim names texts image table built long files identifiers affordable =
+returns c aim names texts image table built long sixteen files =
     let p = built.program in
     let is = built.is_program in
     let q = is.2.1.behind in
     let rows = is.2.1.rows in
     let as_long : length names ≡ length is.0 = long ∙ as_many IsTree texts is.0 is.1.trees in
     let keeps : KeepsRules p = c.checked_programs_are_accepted.ensures names is.0 p is.2 as_long (of_texts _ (c.files_are_texts.ensures start) texts is.0 is.1.trees) in
+    let identifiers : HasIdentifiers p = c.names_are_identifiers.ensures names is.0 p (of_texts IsOfText (λ text ts u h lexes unit. (text, ts, h, lexes, unit)) texts is.0 is.1.trees) is.2 in
     let short = spelled_shortly c.programs_have_few_tokens.ensures.joined c.one_reading.ensures.tokens texts is.0 is.1.few.0 40000 is.1.trees is.1.few.1.tokens is.1.few.2 in
+    let affordable = c.programs_are_affordable.ensures names is.0 short.0 p short.1 is.2 sixteen short.2 in
     let tokens : program_tokens p ≤ 40000 = omega (arith, c.programs_have_few_tokens.ensures.fewest names is.0 short.0 p short.1 is.2, short.2) in
-    let statics : length p.objects + length p.strings ≤ 40000 = omega (arith, few_statics q names p rows (tags_of is.0) is.0 short.0 short.1 is.2.1.files, short.2) in
+    let statics : length p.objects + length p.strings ≤ 40000 = omega (arith, few_statics q names p rows is.0 short.0 short.1 is.2.1.files, short.2) in
     let at = placement_of aim built.rows in
     let linked = built.image_of.linked in
     let runs_structs = c.accepted_types_run.ensures.structs p keeps in
