@@ -1,12 +1,10 @@
 -- Sessions that are begun, and why others aren't.
-use Rattle.std.proofs.Common.{◌≡◌, ℕ, true, false, List, [], ◌∷◌, ◌++◌, Option, None, Some, Ok, Err, inl, inr, refl, sym, ap, ◌∙◌, subst}
+use Rattle.std.proofs.Common.{◌≡◌, ℕ, true, false, List, [], ◌∷◌, ◌++◌, Option, None, Some, Ok, Err, refl, sym, ap, ◌∙◌, subst}
 use Rattle.std.specs.declared.result.Result.{Result}
 use Rattle.std.specs.Prelude.{IfErr, IfOk}
 use Rattle.std.specs.FinMap as files
 use Rattle.ldb_edge.specs.Known.{FileMap}
 use Rattle.obj_file.specs.Image.{ImageFields, Reads}
-use Rattle.obj_file.specs.declared.image.ImageFault.{ImageFault}
-use Rattle.obj_file.specs.declared.image.ImageFault.TheVariants as fault
 use Rattle.ps_store.specs.StoreState.{StoreState}
 use Rattle.table_run.specs.declared.run.TableFault.{TableFault}
 use Rattle.table_run.specs.declared.run.TableFault.TheVariants as table
@@ -18,7 +16,7 @@ use Rattle.cc_call.specs.Found.{AreRead}
 use Rattle.nub_wire.specs.Delivery.{World}
 use Rattle.session.specs.declared.conversation.Session.{Session}
 use Rattle.ldb_top.specs.Files.{first_missing, is_long, IsRead}
-use Rattle.ldb_top.specs.Lines.{table_word, bad_table_line}
+use Rattle.ldb_top.specs.Lines.{table_word}
 use Rattle.ldb_top.specs.Names.{Names, aim_in, read_names}
 use Rattle.ldb_top.specs.declared.words.Aims.{Aims}
 use Rattle.ldb_top.specs.declared.words.Aims.TheVariants.{One, Both}
@@ -26,13 +24,10 @@ use Rattle.ldb_top.specs.Words.{Form, Debug, Go}
 use Rattle.ldb_top.specs.declared.status.Stop.{Stop}
 use Rattle.ldb_top.specs.declared.status.Stop.TheVariants.{Read, NoMemory, Missing, TooLong, Refused, Bad}
 use Rattle.ldb_top.specs.Stops.{IsBuildStop}
-use Rattle.ldb_top.specs.Why.{IsTableWhy, IsTableStop, IsImageTold, IsBuildWhy, IsLoadWhy, BuildsFrom, LoadsFrom, AreProgram, AreCompiled, IsFileStop, IsInputStop, AreRight, Opens, IsWhy, AddsSide, AddsCompiled, IsCompiledFor, AddsFor, OverOne, OverBoth}
+use Rattle.ldb_top.specs.Why.{IsTableStop, IsBuildWhy, IsLoadWhy, BuildsFrom, LoadsFrom, AreProgram, AreCompiled, IsFileStop, IsInputStop, AreRight, Opens, IsWhy, AddsSide, AddsCompiled, IsCompiledFor, AddsFor, OverOne, OverBoth}
 use Rattle.ldb_top.proofs.Fronted.{all_on, missing_on}
 
 -- ---- sources, and an image
-
-pub table_why : (target : ℕ) (text line word : List ℕ) (f : TableFault) → IsTableOf text target (Err f) → table_word f ≡ Some word → line ≡ bad_table_line word → IsTableWhy target text line
-table_why target text line word f c w e = record { fault = f; comes = c; tells = record { word = word; word_is = w; line_is = e } }
 
 -- a text that comes to no fault but want of memory is no bad table
 no_bad : (target : ℕ) (text : List ℕ) (stop : Stop) → ((f : TableFault) → IsTableOf text target (Err f) → f ≡ table.NoMemory) → IsTableStop target text stop → stop ≡ NoMemory
@@ -49,7 +44,7 @@ no_bad_table : {A : Type 0} (target : ℕ) (text : List ℕ) (r : Result A Stop)
 no_bad_table target text (Ok x) only t = tt
 no_bad_table target text (Err stop) only t = no_bad target text stop only t
 
-pub started_then : {A : Type 0} (names texts : List (List ℕ)) (r : Result A Stop) → AreProgram names texts → IfErr r (λ stop. stop ≡ NoMemory) → BuildsFrom names texts r
+started_then : {A : Type 0} (names texts : List (List ℕ)) (r : Result A Stop) → AreProgram names texts → IfErr r (λ stop. stop ≡ NoMemory) → BuildsFrom names texts r
 started_then names texts (Ok x) p e = p
 started_then names texts (Err stop) p e = subst (IsBuildWhy names texts) (sym e) tt
 
@@ -67,27 +62,6 @@ built_stops names texts (Err Read) b = absurd b
 built_stops names texts (Err (Missing line)) b = absurd b
 built_stops names texts (Err (TooLong line)) b = absurd b
 built_stops names texts (Err (Bad line)) b = absurd b
-
-pub wrong_image : (text table : List ℕ) (f : ImageFault) (stop : Stop) → Reads text (Err f) → IsImageTold f stop → IsLoadWhy text table stop
-wrong_image text table f NoMemory r t = tt
-wrong_image text table (fault.BadImage at) (Bad line) r t = inl (at, r, t)
-wrong_image text table fault.NoMemory (Bad line) r t = absurd t
-wrong_image text table (fault.BadImage at) Read r t = absurd t
-wrong_image text table (fault.BadImage at) (Missing line) r t = absurd t
-wrong_image text table (fault.BadImage at) (TooLong line) r t = absurd t
-wrong_image text table (fault.BadImage at) (Refused line) r t = absurd t
-wrong_image text table fault.NoMemory Read r t = absurd t
-wrong_image text table fault.NoMemory (Missing line) r t = absurd t
-wrong_image text table fault.NoMemory (TooLong line) r t = absurd t
-wrong_image text table fault.NoMemory (Refused line) r t = absurd t
-
-pub wrong_table : (text table : List ℕ) (image : ImageFields) (stop : Stop) → Reads text (Ok image) → IsTableStop image.target table stop → IsLoadWhy text table stop
-wrong_table text table image NoMemory w t = tt
-wrong_table text table image (Bad line) w t = inr (record { image = image; reads = w; told = t })
-wrong_table text table image Read w t = absurd t
-wrong_table text table image (Missing line) w t = absurd t
-wrong_table text table image (TooLong line) w t = absurd t
-wrong_table text table image (Refused line) w t = absurd t
 
 pub loaded_then : (text table input : List ℕ) (image : ImageFields) (images : List ImageFields) (tables : List StoreState) (r : Result (Session World) Stop) → Reads text (Ok image) → (one : AddsSide image table [] images [] tables) → IfErr r (λ stop. stop ≡ NoMemory)
     → IfOk r (OverOne true input images tables) → LoadsFrom text table input r
