@@ -1,5 +1,5 @@
 -- The symbols of each unit's points come one after another: those that stand before one that was made are made with it.
-use Rattle.std.proofs.Common.{◌≡◌, ℕ, zero, suc, ◌+◌, ◌<◌, ◌≤◌, Bool, true, false, ◌==◌, nat_lt, if◌then◌else◌, List, [], ◌∷◌, ◌++◌, length, Option, Some, None, slice_get, refl, sym, ap, ◌∙◌, subst, arith, length-append, append_assoc}
+use Rattle.std.proofs.Common.{◌≡◌, ℕ, zero, suc, ◌+◌, ◌<◌, Bool, true, false, ◌==◌, nat_lt, if◌then◌else◌, List, [], ◌∷◌, ◌++◌, length, Option, Some, None, slice_get, refl, sym, ap, ◌∙◌, subst, arith, length-append, append_assoc}
 use Rattle.std.proofs.lemmas.Bool.{ltb-true}
 use Rattle.std.proofs.lemmas.Option.{slice_get_within}
 use Rattle.std.specs.List.{AllByRecursion}
@@ -17,15 +17,14 @@ use Rattle.c_file.specs.Files.{State, Bodied}
 use Rattle.c_file.specs.Programs.{Well, at_first, AllFiles}
 use Rattle.c_file.specs.Made.{Each, IsFunctionOf, IsSymbolOf, points_from, all_points, functions_of, AreUnits, HasRows}
 use Rattle.ps_emit.specs.Symbols.{up_in, made_with}
-use Rattle.ps_emit.specs.Functions.{symbol_at, made_by, made_in}
+use Rattle.ps_emit.specs.Functions.{symbol_at, made_by}
 use Rattle.unit_tables.specs.Running.{first_made}
 use Rattle.unit_tables.specs.Points.{IsFollowed, LeadLower, AreFollowed}
 use Rattle.unit_tables.specs.Conditions.{FunctionsFollowed}
 use Rattle.compiled_tables.proofs.Scopes.{Agrees, Follows, Sorted}
 use Rattle.compiled_tables.proofs.Files.{stops_in, Counted}
 use Rattle.compiled_tables.proofs.UnitStops.{unit_stops, with_stops, without_stops}
-use Rattle.compiled_tables.proofs.Programs.{Nested, Owns, OwnsAll, all_read, each_at, each_long, at_seam, units_long}
-use Rattle.std.proofs.lemmas.Bool.{eqb-true}
+use Rattle.compiled_tables.proofs.Programs.{Nested, Owns, OwnsAll, all_read, each_long, at_seam, units_long}
 
 -- ---- names lead to lower numbers
 
@@ -145,9 +144,6 @@ module _ (p : Program) (fs : List Placed) where
           by (b.unit == unit) refl row seen
           (λ m t' o' f'. functions_follow m front' (suc n) bs fns whole (subst (λ k. Counted k bs) size c.1) each.1 (λ j. ap (slice_get p.functions) (let z : suc n + j ≡ n + suc j = omega arith in z) ∙ same (suc j)) t' o' f')
         where
-          rest : List Stop
-          rest = unit_stops unit bs
-
           by : (x : Bool) → (b.unit == unit) ≡ x → slice_get p.functions n ≡ Some fn → Seen fn.points (stops_in b)
               → ((m : ℕ) → AllByRecursion IsThere (unit_stops unit bs) → Sorted ss (unit_stops unit bs) → AllByRecursion (IsNext m) (unit_stops unit bs) → FunctionsFollowed p fs m (functions_of q unit (suc n) bs)) → FunctionsFollowed p fs made (functions_of q unit n (b ∷ bs))
           by true i row seen go =

@@ -246,7 +246,7 @@ module _ (tags : List (List ℕ)) where
 
 -- ---- rows
 
-pub each_at : {A B : Type 0} (P : A → B → Type 0) (xs : List A) (ys : List B) (i : ℕ) (y : B) → Each P xs ys → slice_get ys i ≡ Some y → (x : A) × (slice_get xs i ≡ Some x) × P x y
+each_at : {A B : Type 0} (P : A → B → Type 0) (xs : List A) (ys : List B) (i : ℕ) (y : B) → Each P xs ys → slice_get ys i ≡ Some y → (x : A) × (slice_get xs i ≡ Some x) × P x y
 each_at P [] [] i y e h = absurd cc
 each_at P [] (z ∷ ys) i y e h = absurd e
 each_at P (x ∷ xs) [] i y e h = absurd e

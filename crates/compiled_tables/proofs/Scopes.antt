@@ -1,5 +1,5 @@
 -- Scopes nest: of the names in scope at a point, those that stand before the innermost one of an earlier point were in scope there.
-use Rattle.std.proofs.Common.{◌≡◌, ◌⊎◌, inl, inr, ℕ, zero, suc, ◌+◌, ◌<◌, ◌≤◌, Bool, true, false, nat_lt, if◌then◌else◌, List, [], ◌∷◌, ◌++◌, length, Option, Some, None, slice_get, refl, sym, ap, ◌∙◌, subst, arith, length-append, append-nil, append_assoc}
+use Rattle.std.proofs.Common.{◌≡◌, ◌⊎◌, inl, inr, ℕ, zero, suc, ◌<◌, ◌≤◌, Bool, true, false, nat_lt, if◌then◌else◌, List, [], ◌∷◌, ◌++◌, length, Option, Some, None, slice_get, refl, sym, ap, ◌∙◌, subst, arith, length-append, append-nil, append_assoc}
 use Rattle.std.proofs.lemmas.Bool.{ltb-true}
 use Rattle.std.proofs.lemmas.Option.{slice_get_within}
 use Rattle.std.specs.List.{AllByRecursion}
@@ -21,9 +21,9 @@ use Rattle.c_judge.specs.Answers.{Answer, Known, Unknown, Broken}
 use Rattle.c_judge.specs.Places.{place_of}
 use Rattle.c_scope.specs.Environment.{Row, Visible, Environment, innermost, declare, declare_local, enter}
 use Rattle.c_scope.specs.Declarators.{Parameter}
-use Rattle.c_body.specs.Locals.{local_type, with_local, after_local, after_names, after_declaration}
+use Rattle.c_body.specs.Locals.{local_type, with_local, after_local, after_names}
 use Rattle.c_body.specs.Bodies.{after}
-use Rattle.c_body.specs.Stops.{Stop, stop, at_expression, at_part, at_initial, at_locals, at_head, stops, opening, closing, inside_block, stops_of}
+use Rattle.c_body.specs.Stops.{Stop, stop, at_part, at_initial, at_locals, at_head, stops, opening, closing, inside_block, stops_of}
 use Rattle.c_file.specs.Files.{with_parameters}
 use Rattle.ps_emit.specs.Symbols.{up_in}
 use Rattle.unit_tables.specs.Running.{IsOutward, here, further, first_made}

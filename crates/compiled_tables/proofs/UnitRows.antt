@@ -1,5 +1,5 @@
 -- The rows of an accepted program and of where it is placed are such as its units ask that run.
-use Rattle.std.proofs.Common.{◌≡◌, ℕ, zero, suc, ◌+◌, ◌<◌, ◌≤◌, Bool, true, false, ◌==◌, List, [], ◌∷◌, length, Option, Some, None, slice_get, refl, sym, ap, ◌∙◌, arith}
+use Rattle.std.proofs.Common.{◌≡◌, ℕ, suc, ◌+◌, ◌<◌, ◌≤◌, Bool, true, false, ◌==◌, List, [], ◌∷◌, length, Option, Some, None, slice_get, refl, ap, arith}
 use Rattle.std.proofs.lemmas.Option.{slice_get_within}
 use Rattle.std.specs.List.{AllByRecursion}
 use Rattle.obj_file.specs.declared.object.FunctionRow.{FunctionRow as Placed}
@@ -20,13 +20,11 @@ use Rattle.c_tokens.specs.Identifiers.{IsIdentifier, HasIdentifiers}
 use Rattle.c_file.specs.Files.{State, Bodied}
 use Rattle.c_file.specs.Made as made
 use Rattle.ps_emit.specs.declared.placement.Placement.{Placement}
-use Rattle.ps_emit.specs.Places.{file_in}
 use Rattle.ps_tables.specs.Runnable.{RunsType}
 use Rattle.ps_tables.specs.Bounded.{IsShortMember, IsShortStruct, IsShortObject, IsShort}
 use Rattle.unit_tables.specs.Symbols.{RunsSymbol, RunsReferent}
 use Rattle.unit_tables.specs.Conditions.{RunsPlaced, RunsFunction, RunsUnits}
 use Rattle.compiled_tables.specs.Conditions.{AreFileNames, IsFramed, IsAffordable}
-use Rattle.compiled_tables.proofs.Files.{stop_count}
 use Rattle.compiled_tables.proofs.Parts.{as_many, points_long, function_points, functions_long}
 use Rattle.compiled_tables.proofs.Followed.{lead_lower}
 use Rattle.compiled_tables.proofs.Compiled.{few_symbols, files_short, file_short}
