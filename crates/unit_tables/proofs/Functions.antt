@@ -320,8 +320,7 @@ module _ (program : Program) (fs : List Placed) (is_unit : RunsUnits program fs)
       let size : cost piece ≡ text_units f.name + 7 + 8 * length at.saved = omega arith in
       let number : steps piece ≡ 7 + 4 * length at.saved = let e = further_is (steps (saved_parts at.saved)) 1 in omega arith in
       let p : Performs (cost piece) (steps piece) (after piece Bottom) s all o o t from (render k ++ post) under =
-      performs all t under items_fit post piece k Bottom s [] o from is
-      (
+      performs all t under items_fit post piece k Bottom s [] o from is (
         (of_function.name, tt),
         truth_known s is f.is_static numbers (any_fine at.entry, (any_fine at.end, (any_fine at.frame, (omega arith, saved_known s all at.saved placed.saved, tt)))),
       )
