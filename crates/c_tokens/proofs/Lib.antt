@@ -8,3 +8,8 @@ pub mod Shapes
 pub mod Stays
 pub mod Joined
 pub mod Program
+pub mod Words
+pub mod Named
+pub mod NamedUnits
+pub mod Declaring
+pub mod NamedPrograms

@@ -10,7 +10,7 @@ use Rattle.c_tokens.proofs.Declared.{is_of_function}
 use Rattle.c_tokens.proofs.Structs.{then_known}
 
 module _ (v : Environment) where
-  never_unsized : (named : Bool) (at : ℕ) (t r : Plain) (ps : List Parameter) → unsized v named at t ≡ Known (Function r ps) → ⊥
+  pub never_unsized : (named : Bool) (at : ℕ) (t r : Plain) (ps : List Parameter) → unsized v named at t ≡ Known (Function r ps) → ⊥
   never_unsized true at t r ps e = let (u, f, g) = then_known (unbounded v at t) (λ u. Known (Object u)) (Function r ps) e in absurd cc
   never_unsized false at t r ps e = absurd cc
 

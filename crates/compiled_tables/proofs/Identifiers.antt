@@ -6,7 +6,7 @@ use Rattle.ps_scan.specs.Bytes.{is_white, is_special, is_regular}
 use Rattle.ps_scan.specs.Grammar.{AllRegular}
 use Rattle.ps_scan.specs.Escaping.{escaped, escaped_byte}
 use Rattle.ps_emit.specs.Lengths.{IsName}
-use Rattle.compiled_tables.specs.Conditions.{IsIdentifier}
+use Rattle.c_tokens.specs.Identifiers.{IsIdentifier}
 
 -- a byte of an identifier is none that is not of one
 differs : (b k : ℕ) → is_part b ≡ true → is_part k ≡ false → (b == k) ≡ false

@@ -20,7 +20,7 @@ use Rattle.c_typing.specs.Programs.{AllFrom, IsOfObject, IsReferent, IsBelow, Is
 use Rattle.ps_emit.specs.Lengths.{IsWord, HasWords, IsLink, IsMemberRow}
 use Rattle.ps_tables.specs.Runnable.{RunsType, RunsRow}
 use Rattle.ps_tables.specs.Rows as rows
-use Rattle.compiled_tables.specs.Conditions.{IsIdentifier, HasIdentifiers}
+use Rattle.c_tokens.specs.Identifiers.{IsIdentifier, HasIdentifiers}
 use Rattle.compiled_tables.proofs.Identifiers.{named}
 
 pub type_words : (defs : List StructDef) (t : CType) → length defs ≤ 40000 → RunsType defs t → HasWords t
