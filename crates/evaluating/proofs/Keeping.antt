@@ -7,6 +7,7 @@ use Rattle.machine_state.specs.Regions.{Regions}
 use Rattle.frame_bytes.specs.declared.frame.Place.{Place}
 use Rattle.frame_bytes.specs.Bytes.{Bytes, no_places}
 use Rattle.ps_store.specs.declared.object.PsObj.{PsObj}
+use Rattle.ps_step.specs.declared.fault.PsError.TheVariants as error
 use Rattle.abs_mem.specs.Meaning.{Seen, Same, Untold, Fetches, Stores}
 use Rattle.abs_mem.specs.Layers.{AliasRest, AliasTells, CellTells, alias_seen, cell_seen}
 use Rattle.abs_mem.specs.Walking.{Walks}
@@ -30,7 +31,7 @@ use Rattle.table_asks.specs.Running.{RanOver, RunsOver}
 use Rattle.ps_step.specs.State.{with_execution}
 use Rattle.ps_step.specs.declared.item.Item.TheVariants.{Object}
 use Rattle.asking.proofs.Unstored.{runs_stay}
-use Rattle.evaluating.specs.Told.{Keeps, Fails, StoresNone, StoresAll, Changed, StoresLeaves, none_stored, stores}
+use Rattle.evaluating.specs.Told.{reasoned, Keeps, Fails, StoresNone, StoresAll, Changed, StoresLeaves, none_stored, stores}
 
 module _ {W R : Type 0} (seen : W → Seen R) where
   -- ---- one part after another
@@ -70,6 +71,21 @@ module _ {W R : Type 0} (seen : W → Seen R) where
 
   pub runs_fail : (a b c : Operators W) → Keeps seen a b → (f : AskFault) → RunFails b f c → RunFails a f c
   runs_fail a b c h f k = fails_on (Unit {0}) (Unit {0}) a b c h (λ u. u) f k
+
+  -- what only reads stores nothing
+  pub reads_none : (a b c : Operators W) → Keeps seen a b → (f : AskFault) → ReadFails b f c → RunFails a f c
+  reads_none a b c h f k = fails_on (Keeps seen b c) (Unit {0}) a b c h (λ u. tt) f k
+
+  -- an error of the dialect, told as a refusal
+  reasoned_as : (a c : Operators W) (f : AskFault) → RunFails a f c → RunFails a (reasoned f) c
+  reasoned_as a c (Raised error.Overflow) k = k
+  reasoned_as a c (Raised error.Division) k = k
+  reasoned_as a c (Raised error.Shift) k = k
+  reasoned_as a c (Raised error.Pointer) k = k
+  reasoned_as a c other k = k
+
+  pub run_reasoned : (a c : Operators W) (f why : AskFault) → why ≡ reasoned f → RunFails a f c → RunFails a why c
+  run_reasoned a c f why is k = subst (λ (z : AskFault). RunFails a z c) (sym is) (reasoned_as a c f k)
 
   -- ---- the memory of the target alone
 
