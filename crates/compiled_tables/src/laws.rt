@@ -1,16 +1,13 @@
 // What holds of the tables of compiled programs.
 
-ghost use Rattle.std.specs.Prelude.{◌≡◌, ◌≤◌, ℕ, List, length, Ok};
+ghost use Rattle.std.specs.Prelude.{◌≡◌, ◌≤◌, ℕ, List, length};
 ghost use Rattle.c_symbol.specs.declared.terminal.Terminal.{Terminal};
 ghost use Rattle.c_statement.specs.declared.unit.External.{External};
 ghost use Rattle.c_tree.specs.declared.rows.Program.{Program};
 ghost use Rattle.c_check.specs.Faulty.{Checks};
 ghost use Rattle.c_tokens.specs.Units.{AreSpelled, terminals_in};
 ghost use Rattle.obj_file.specs.Image.{ImageFields};
-ghost use Rattle.ps_store.specs.StoreState.{StoreState};
-ghost use Rattle.ps_print.specs.Loaded.{loaded};
-ghost use Rattle.claims.specs.Tables.{RunsTable};
-ghost use Rattle.table_run.specs.Tables.{IsTableOf};
+ghost use Rattle.table_ends.specs.Joined.{MakesTable};
 ghost use Rattle.ldb_cc.specs.declared.aim.Aim.{Aim};
 ghost use Rattle.ldb_cc.specs.Built.{IsBuilt};
 ghost use Rattle.ldb_cc.specs.Table.{placement_of};
@@ -29,9 +26,9 @@ pub fn programs_are_affordable()
     ensures { (names : List (List ℕ)) (us : List (List External)) (tss : List (List Terminal)) (p : Program) → AreSpelled us tss → Checks names us (Ok p) → length names ≤ 16 → terminals_in tss ≤ 40000 → IsAffordable p }
 {}
 
-/// The table that is built of sources comes to a table for the image's target, behind the prelude and where there is no target, and so the claims on whole sessions have it: where there are at most 16 files, with names of at most 255 bytes.
+/// The table that is built of sources comes to a table for the image's target, behind the prelude and where there is no target, and to no fault but want of memory, and the claims on whole sessions have it: where there are at most 16 files, with names of at most 255 bytes.
 pub fn compiled_tables_come()
-    ensures { (aim : Aim) (names texts : List (List ℕ)) (image : ImageFields) (table : List ℕ) (built : IsBuilt aim names texts image table) → length names ≡ length texts → length names ≤ 16 → AreFileNames names → (s : StoreState) × IsTableOf table image.target (Ok s) × RunsTable loaded.store table image.target (Ok s) }
+    ensures { (aim : Aim) (names texts : List (List ℕ)) (image : ImageFields) (table : List ℕ) (built : IsBuilt aim names texts image table) → length names ≡ length texts → length names ≤ 16 → AreFileNames names → MakesTable table image.target }
 {
     checked_programs_are_accepted();
     files_are_texts();
@@ -44,7 +41,7 @@ pub fn compiled_tables_come()
     counted_tables_come();
 }
 
-/// The units of the table that is built of sources run: each asks for symbols one after another, so that those which it takes as made are made, and each leads outward to such. With the table itself they take no more steps and units than are counted for the program, beside the units of the deferred texts.
+/// The rows of the program that sources become, and of where it is placed, keep the conditions under which the functions of its units are run: types of symbols run, names lead outward to lower numbers, and scopes nest, so that a name in scope at a point that stands before one that was made is on that one's chain. The table and its units, each used once, take no more steps and units of the store than are counted for the program, beside those of the deferred texts.
 pub fn compiled_units_run()
     ensures { (aim : Aim) (names texts : List (List ℕ)) (image : ImageFields) (table : List ℕ) (built : IsBuilt aim names texts image table) → length names ≡ length texts → length names ≤ 16 → AreFileNames names → HasRunningUnits built.program (placement_of aim built.rows) }
 {

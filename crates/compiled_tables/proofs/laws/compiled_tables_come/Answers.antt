@@ -1,9 +1,7 @@
-use Rattle.std.proofs.Common.{◌≡◌, ◌∙◌, sym, subst, ℕ, ◌+◌, ◌≤◌, List, length, Ok, arith}
+use Rattle.std.proofs.Common.{◌≡◌, ◌∙◌, sym, subst, ℕ, ◌+◌, ◌≤◌, List, length, arith}
 use Rattle.c_lex.specs.Grammar.{start}
 use Rattle.c_typing.specs.Programs.{KeepsRules}
-use Rattle.ps_print.specs.Loaded.{loaded}
-use Rattle.claims.specs.Tables.{RunsTable}
-use Rattle.table_run.specs.Tables.{IsTableOf}
+use Rattle.table_ends.specs.Joined.{MakesTable}
 use Rattle.c_file.specs.Programs.{tags_of}
 use Rattle.ldb_cc.specs.Sources.{IsTree}
 use Rattle.ldb_cc.specs.Table.{placement_of}
@@ -42,8 +40,5 @@ returns c aim names texts image table built long sixteen files =
     (types q names p at rows keeps tokens c.accepted_types_run.ensures.types runs_structs runs_objects files identifiers affordable statics)
     (within q names p at rows keeps tokens c.accepted_types_run.ensures.types runs_structs runs_objects files identifiers affordable statics)
     (low_byte aim) (high_byte aim) in
-    let target = built.image_of.is_for.target in (
-      come.0,
-      subst (λ (text : List ℕ). IsTableOf text image.target (Ok come.0)) (sym built.table_is) (subst (λ (n : ℕ). IsTableOf (table_text p at) n (Ok come.0)) (sym target) come.1),
-      subst (λ (text : List ℕ). RunsTable loaded.store text image.target (Ok come.0)) (sym built.table_is) (subst (λ (n : ℕ). RunsTable loaded.store (table_text p at) n (Ok come.0)) (sym target) come.2),
-    )
+    let target = built.image_of.is_for.target in
+    subst (λ (text : List ℕ). MakesTable text image.target) (sym built.table_is) (subst (MakesTable (table_text p at)) (sym target) come)
