@@ -1,5 +1,5 @@
 -- What an expression means over the bytes of a target.
-use Rattle.std.specs.Prelude.{ℕ, pos, cond, List, [], ◌∷◌, ◌==◌, Option, Some, None}
+use Rattle.std.specs.Prelude.{ℕ, cond, List, [], ◌∷◌, ◌==◌, Option, Some, None}
 use Rattle.ldb_words.specs.declared.kinds.Kind.{Kind}
 use Rattle.c_tree.specs.declared.types.Leaf.{Leaf}
 use Rattle.c_tree.specs.declared.typed.BinaryOp.TheVariants.{Add}
@@ -12,7 +12,7 @@ use Rattle.frame_bytes.specs.declared.frame.Space.TheVariants.{Memory}
 use Rattle.frame_bytes.specs.Bytes.{Bytes, stored}
 use Rattle.table_model.specs.declared.found.Found.{Found}
 use Rattle.dialect_model.specs.TableUse.{gives, refuses, ◌>>=◌}
-use Rattle.c_bytes.specs.Lvalues.{IllTyped, Means, Scene, Lvalue, Pointed, where_is, object_of, pointer, moved, or_range, load, live_at, fetched_from, leaf_of, moved_lvalue, member_at, address_of, place_of_lvalue, bytes_with}
+use Rattle.c_bytes.specs.Lvalues.{IllTyped, Means, Scene, Lvalue, Pointed, where_is, object_of, pointer, further, moved, or_range, load, live_at, fetched_from, leaf_of, moved_lvalue, member_at, address_of, place_of_lvalue, bytes_with}
 use Rattle.c_bytes.specs.Operators.{converted, combined, changed}
 
 module _ (sc : Scene) where
@@ -42,7 +42,7 @@ module _ (sc : Scene) where
     led_by = λ p. gives (Pointed p);
     item_at = λ s t x y. combined sc Add s t x y >>= λ p. gives (Pointed p);
     member = λ n s. member_at sc n s;
-    led_member = λ n p. moved sc p (pos n) >>= λ q. gives (Pointed q);
+    led_member = λ n p. moved sc p (further n) >>= λ q. gives (Pointed q);
     address_of = address_of;
     load = λ t s. load sc (kind_of t) s >>= λ n. gives (converted t n);
     load_struct = λ t s. load_all s (leaves_of sc.defs t);

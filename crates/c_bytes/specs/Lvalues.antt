@@ -1,5 +1,5 @@
 -- Where an lvalue stands in a target, and how it is read.
-use Rattle.std.specs.Prelude.{◌≡◌, ◌≢◌, ◌⊎◌, ◌≤◌, ◌++◌, take, ℕ, ℤ, ◌+◌, ◌+ℤ◌, zero, suc, pos, Bool, true, false, List, [], ◌∷◌, length, codes, slice_get, Option, Some, None, Result, Ok, Err}
+use Rattle.std.specs.Prelude.{◌≡◌, ◌≢◌, ◌⊎◌, ◌≤◌, ◌++◌, take, ℕ, ℤ, ◌+◌, ◌^◌, nat_lt, ◌+ℤ◌, ◌*ℤ◌, zero, suc, pos, Bool, true, false, if◌then◌else◌, List, [], ◌∷◌, length, codes, slice_get, Option, Some, None, Result, Ok, Err}
 use Rattle.ldb_words.specs.Word.{sum_of}
 use Rattle.ldb_words.specs.declared.kinds.Kind.{Kind}
 use Rattle.ldb_words.specs.declared.kinds.Undef.{Undef}
@@ -165,6 +165,14 @@ abbrev pub live_at : Scene → Lvalue → List Leaf → Means (Unit {0})
 live_at sc (Named p cell) ls = gives tt
 live_at sc (Pointed p) ls = object_of sc p >>= λ found. looking (all_live ls found) >>= if_live
 
+-- more bytes than any object has
+abbrev pub BEYOND : ℤ
+BEYOND = pos 2147483647 *ℤ pos 2147483647
+
+-- a member's offset: 2^31 bytes or more leave every object
+abbrev pub further : ℕ → ℤ
+further n = if nat_lt n (2 ^ 31) then pos n else BEYOND
+
 -- a pointer moved by some bytes; the sum is exact, and stays within the object
 abbrev pub moved : Scene → (address : ℕ) → ℤ → Means ℕ
 moved sc p by = live sc p >>= λ o. or_pointer (address_at o (pos o.at +ℤ by))
@@ -203,7 +211,7 @@ moved_lvalue n (Pointed p) = Pointed (sum_of p n)
 -- a member so far from the start of a struct: through a pointer this is arithmetic on it
 abbrev pub member_at : Scene → ℕ → Lvalue → Means Lvalue
 member_at sc n (Named p cell) = gives (moved_lvalue n (Named p cell))
-member_at sc n (Pointed p) = moved sc p (pos n) >>= λ q. gives (Pointed q)
+member_at sc n (Pointed p) = moved sc p (further n) >>= λ q. gives (Pointed q)
 
 -- the address that an array becomes, and that `&` gives
 abbrev pub address_of : Lvalue → ℕ

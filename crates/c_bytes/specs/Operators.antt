@@ -1,5 +1,5 @@
 -- What the operators give on words over a target (C90 6.3.3 to 6.3.12).
-use Rattle.std.specs.Prelude.{ℕ, ℤ, pos, neg_ℤ, ◌-ℤ◌, ◌*ℤ◌, int_lt, int_le, not, ◌==◌, Option, Some, None, Result, Ok, Err, if◌then◌else◌}
+use Rattle.std.specs.Prelude.{ℕ, ℤ, pos, neg_ℤ, ◌-ℤ◌, ◌*ℤ◌, nat_lt, int_lt, int_le, not, ◌&&◌, ◌==◌, Option, Some, None, Result, Ok, Err, if◌then◌else◌}
 use Rattle.ldb_words.specs.Word.{word_of_signed}
 use Rattle.ldb_words.specs.declared.kinds.Undef.{Undef}
 use Rattle.c_tree.specs.declared.types.CType.{CType}
@@ -15,7 +15,7 @@ use Rattle.ps_step.specs.declared.fault.PsError.{PsError}
 use Rattle.ps_step.specs.Arithmetic.{quotient}
 use Rattle.ps_pointers.specs.Pointers.{offsets_in_one}
 use Rattle.dialect_model.specs.TableUse.{Kind, gives, fails, refuses, ◌>>=◌}
-use Rattle.c_bytes.specs.Lvalues.{Reason, IllTyped, Means, Scene, live, or_pointer, moved}
+use Rattle.c_bytes.specs.Lvalues.{Reason, IllTyped, Means, Scene, live, or_pointer, BEYOND, moved}
 
 abbrev pub defined : Result ℕ Undef → Means ℕ
 defined (Ok n) = gives n
@@ -40,9 +40,13 @@ abbrev pub counted : Result ℤ PsError → Means ℕ
 counted (Ok n) = gives (word_of_signed n)
 counted (Err e) = fails (Kind e)
 
+-- So many items of a size, or as many back, in bytes. An `unsigned` number of 2^31 or more leaves every object, but where the items have no bytes.
+abbrev pub items_by : (size : ℕ) → (number by : ℤ) → ℤ
+items_by size number by = if nat_lt 0 size && int_lt (pos 2147483647) number then BEYOND else pos size *ℤ by
+
 abbrev pub pointer_integer : Scene → BinaryOp → (size : ℕ) → CType → ℕ → ℕ → Means ℕ
-pointer_integer sc Add size t x n = moved sc x (pos size *ℤ number_of t n)
-pointer_integer sc Subtract size t x n = moved sc x (pos size *ℤ neg_ℤ (number_of t n))
+pointer_integer sc Add size t x n = moved sc x (items_by size (number_of t n) (number_of t n))
+pointer_integer sc Subtract size t x n = moved sc x (items_by size (number_of t n) (neg_ℤ (number_of t n)))
 pointer_integer sc Equal size t x n = gives (truth (x == n))
 pointer_integer sc Unequal size t x n = gives (truth (not (x == n)))
 pointer_integer sc op size t x n = refuses IllTyped

@@ -1,13 +1,13 @@
 -- Texts that grow by the pieces of an expression.
 use Rattle.std.proofs.Common.{◌≡◌, sym, ap, ◌∙◌, ℕ, ℤ, List, [], ◌∷◌, ◌++◌, codes, pos, append_assoc}
-use Rattle.std.specs.Fmt.{digits, signed_decimal}
+use Rattle.std.specs.Fmt.{digits}
 use Rattle.ps_text.specs.Code.{Code, Word, render}
 use Rattle.ps_emit.specs.Terms.{◌⋯◌, word, integer}
 use Rattle.ps_emit.specs.Grown.{Grows}
 use Rattle.ps_emit.proofs.Followed.{render_followed}
 use Rattle.expr_serve.specs.Literals.{in_digits}
 use Rattle.expr_serve.specs.Operators.{by_zero}
-use Rattle.expr_serve.specs.Codes.{large_first}
+use Rattle.expr_serve.specs.Codes.{unsigned_items}
 
 -- a piece whose text was appended
 pub grown : (k : Code) {a b ts : List ℕ} → b ≡ a ++ ts → ts ≡ render k → Grows k a b
@@ -52,18 +52,12 @@ second_of_and {a} {b} {c} {d} {k} p q r = record {
       ∙ ap (λ (x : List ℕ). a ++ (codes "0 eq { 0 } { " ++ (x ++ codes "} ifelse "))) (sym (render_followed k is_nonzero)));
 }
 
-spaced : (a x d sp y w v : List ℕ) → a ++ (x ++ ((d ++ sp) ++ (y ++ ((d ++ sp) ++ (w ++ v))))) ≡ a ++ (x ++ ((d ++ ((sp ++ y) ++ (d ++ (sp ++ w)))) ++ v))
-spaced a x d sp y w v = simp append_assoc
-
--- the steps for a large number
-pub in_steps : {a b c d e f : List ℕ} (size : ℤ) → b ≡ a ++ codes "dup 0 lt { exch 2147483647 " → Grows (integer size) b c → d ≡ c ++ codes "ptradd 1 " → Grows (integer size) d e → f ≡ e ++ codes "ptradd exch 2147483647 and } if "
-    → Grows (large_first size) a f
+-- an `unsigned` number of items
+pub in_items : {a b c d : List ℕ} (size : ℤ) → b ≡ a ++ codes "dup 0 lt { pop 2147483647 2147483647 } { " → Grows (integer size) b c → d ≡ c ++ codes "} ifelse ptradd "
+    → Grows (unsigned_items size) a d
 unfolding digits
-in_steps {a} {b} {c} {d} {e} {f} size p q r s t = record {
-  text =
-      rw (t, s.text, r, q.text, p)
-      (five a (codes "dup 0 lt { exch 2147483647 ") (render (integer size)) (codes "ptradd 1 ") (render (integer size)) (codes "ptradd exch 2147483647 and } if ")
-      ∙ spaced a (codes "dup 0 lt { exch 2147483647 ") (signed_decimal size) (codes " ") (codes "ptradd 1 ") (codes "ptradd exch 2147483647 and ") (codes "} if "));
+in_items {a} {b} {c} {d} size p q r = record {
+  text = rw (r, q.text, p) (three a (codes "dup 0 lt { pop 2147483647 2147483647 } { ") (render (integer size)) (codes "} ifelse ptradd "));
 }
 
 -- a name that is made of a string of hexadecimal digits

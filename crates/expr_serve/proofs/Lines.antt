@@ -24,7 +24,7 @@ use Rattle.expr_serve.specs.declared.emit.Standing.TheVariants.{Named, Pointed}
 use Rattle.expr_serve.specs.Texts.{IsLine}
 use Rattle.expr_serve.specs.Literals.{is_part, in_digits, literal}
 use Rattle.expr_serve.specs.Operators.{on_ints, on_unsigned, on_integers, on_pointers, on_one, by_zero, conversion, kind}
-use Rattle.expr_serve.specs.Codes.{standing_of, near, far, further, bytes_by, large_first, unsigned_steps, by_items, place_of_name, address_of, fetched, value_at, by_standing, place_further, as_spot, live_scalar, bytes_of, offset_of, offset_behind, tagged, all_leaves, live_leaves, live_struct, on_pointer, on_two_pointers, by_targets, on_two, value_code, place_code, spot_code, struct_code, whole_code, copying_code, setting_code, assignment_code, code_of, text_of}
+use Rattle.expr_serve.specs.Codes.{standing_of, near, far, further, bytes_by, signed_items, unsigned_items, by_items, place_of_name, address_of, fetched, value_at, by_standing, place_further, as_spot, live_scalar, bytes_of, offset_of, offset_behind, tagged, all_leaves, live_leaves, live_struct, on_pointer, on_two_pointers, by_targets, on_two, value_code, place_code, spot_code, struct_code, whole_code, copying_code, setting_code, assignment_code, code_of, text_of}
 
 abbrev is_line : List ℕ → Bool
 is_line [] = true
@@ -219,11 +219,10 @@ zero_lined x y p q = and_from (lined x) (lined y && true) p (and_from (lined y) 
 -- ---- pointers and places
 
 further_lined : (n : ℕ) → IsLined (further n)
-further_lined n = either (nat_lt n (2 ^ 31)) (near n) (far n) refl refl
+further_lined n = either (nat_lt n (2 ^ 31)) (near n) far refl refl
 
 items_lined : (is_back : Bool) (size : ℕ) (t : CType) → IsLined (by_items is_back size t)
-items_lined is_back size t =
-    join (unsigned_steps is_back size t) (integer (bytes_by is_back size) ⋯ word "ptradd") (either (is_unsigned t) (large_first (bytes_by is_back size)) Stop refl refl) refl
+items_lined is_back size t = either (is_unsigned t && nat_lt 0 size) (unsigned_items (bytes_by is_back size)) (signed_items (bytes_by is_back size)) refl refl
 
 address_lined : (s : Standing) → IsLined (address_of s)
 address_lined Named = refl

@@ -1,5 +1,5 @@
 -- The text of PostScript that has the value of a checked expression.
-use Rattle.std.specs.Prelude.{ℕ, ℤ, Bool, true, false, pos, neg_ℤ, ◌-◌, ◌^◌, nat_lt, nat_le, if◌then◌else◌, List, ◌++◌, codes, slice_get, Option, Some, None}
+use Rattle.std.specs.Prelude.{ℕ, ℤ, Bool, true, false, ◌&&◌, pos, neg_ℤ, ◌^◌, nat_lt, nat_le, if◌then◌else◌, List, ◌++◌, codes, slice_get, Option, Some, None}
 use Rattle.c_tree.specs.declared.types.CType.{CType}
 use Rattle.c_tree.specs.declared.types.CType.TheVariants.{Struct}
 use Rattle.c_tree.specs.declared.types.StructDef.{StructDef}
@@ -18,7 +18,7 @@ use Rattle.ps_emit.specs.Terms.{◌⋯◌, word, name, integer, number}
 use Rattle.expr_serve.specs.declared.emit.Standing.{Standing}
 use Rattle.expr_serve.specs.declared.emit.Standing.TheVariants.{Named, Pointed}
 use Rattle.expr_serve.specs.Literals.{literal}
-use Rattle.expr_serve.specs.Operators.{by_zero, on_ints, on_integers, on_pointers, on_one, conversion, kind}
+use Rattle.expr_serve.specs.Operators.{chosen, by_zero, on_ints, on_integers, on_pointers, on_one, conversion, kind}
 
 -- How the place of an lvalue stands among the operands: that of a name, and of its members, as a space and an offset; any other as a pointer.
 abbrev pub standing_of : Typed → Standing
@@ -33,41 +33,34 @@ by_standing Pointed x y = y
 
 -- ---- pointers
 
--- a pointer moved by as many bytes as the number on top
-abbrev pub moved : Code
-moved = integer (pos 1) ⋯ word "ptradd"
+-- as many items, and each as large, as no object has
+abbrev pub beyond : Code
+beyond = integer (pos 2147483647) ⋯ integer (pos 2147483647)
 
--- a pointer so many bytes further: the operator takes the number as one with a sign, so 2^31 or more are taken in steps
-abbrev pub half : Code
-half = integer (pos 2147483647) ⋯ moved ⋯ integer (pos 1) ⋯ moved
-
+-- a pointer so many bytes further: 2^31 or more leave every object
 abbrev pub near : ℕ → Code
-near n = number n ⋯ moved
+near n = number n ⋯ integer (pos 1) ⋯ word "ptradd"
 
-abbrev pub far : ℕ → Code
-far n = half ⋯ near (n - 2 ^ 31)
+abbrev pub far : Code
+far = beyond ⋯ word "ptradd"
 
 abbrev pub further : ℕ → Code
-further n = if nat_lt n (2 ^ 31) then near n else far n
-
--- A pointer moved by so many items of a size. An `unsigned` number of 2^31 or more is taken in steps.
-abbrev steps : ℤ → Code
-steps size =
-    word "exch" ⋯ integer (pos 2147483647) ⋯ integer size ⋯ word "ptradd" ⋯ integer (pos 1) ⋯ integer size ⋯ word "ptradd"
-    ⋯ word "exch" ⋯ integer (pos 2147483647) ⋯ word "and"
-
-abbrev pub large_first : ℤ → Code
-large_first size = word "dup" ⋯ integer (pos 0) ⋯ word "lt" ⋯ Proc (steps size) Stop ⋯ word "if"
+further n = if nat_lt n (2 ^ 31) then near n else far
 
 -- so many bytes further, or back
 abbrev pub bytes_by : (is_back : Bool) → ℕ → ℤ
 bytes_by is_back n = if is_back then neg_ℤ (pos n) else pos n
 
-abbrev pub unsigned_steps : (is_back : Bool) → (size : ℕ) → CType → Code
-unsigned_steps is_back size t = if is_unsigned t then large_first (bytes_by is_back size) else Stop
+-- A pointer moved by so many items of a size. The operator takes the number as one with a sign: an `unsigned` one of 2^31 or more leaves every object.
+abbrev pub signed_items : ℤ → Code
+signed_items size = integer size ⋯ word "ptradd"
 
+abbrev pub unsigned_items : ℤ → Code
+unsigned_items size = word "dup" ⋯ integer (pos 0) ⋯ word "lt" ⋯ chosen (word "pop" ⋯ beyond) (integer size) ⋯ word "ptradd"
+
+-- those of size 0 lead nowhere
 abbrev pub by_items : (is_back : Bool) → (size : ℕ) → CType → Code
-by_items is_back size t = unsigned_steps is_back size t ⋯ integer (bytes_by is_back size) ⋯ word "ptradd"
+by_items is_back size t = if is_unsigned t && nat_lt 0 size then unsigned_items (bytes_by is_back size) else signed_items (bytes_by is_back size)
 
 -- ---- places
 

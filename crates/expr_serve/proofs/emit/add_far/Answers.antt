@@ -1,6 +1,0 @@
-use Rattle.std.proofs.lemmas.Result.{on_ok_weaker}
-use Rattle.ps_emit.proofs.Followed.{◌and◌}
-use Rattle.expr_serve.proofs.emit.add_far.Goals as goal
-
-pub returns : goal.returns
-returns c = on_ok_weaker _ (λ e. c.in_ok-add_half.ensures and e) c.add_moved.ensures
