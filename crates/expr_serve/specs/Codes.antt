@@ -1,5 +1,5 @@
 -- The text of PostScript that has the value of a checked expression.
-use Rattle.std.specs.Prelude.{ℕ, ℤ, Bool, true, false, ◌&&◌, pos, neg_ℤ, ◌^◌, nat_lt, nat_le, if◌then◌else◌, List, ◌++◌, codes, slice_get, Option, Some, None}
+use Rattle.std.specs.Prelude.{ℕ, ℤ, Bool, true, false, ◌&&◌, pos, neg_ℤ, ◌^◌, nat_lt, if◌then◌else◌, List, ◌++◌, codes, slice_get, Option, Some, None}
 use Rattle.c_tree.specs.declared.types.CType.{CType}
 use Rattle.c_tree.specs.declared.types.CType.TheVariants.{Struct}
 use Rattle.c_tree.specs.declared.types.StructDef.{StructDef}
@@ -9,7 +9,7 @@ use Rattle.c_tree.specs.declared.typed.BinaryOp.TheVariants.{Add, Subtract}
 use Rattle.c_tree.specs.declared.typed.Typed.{Typed}
 use Rattle.c_tree.specs.declared.typed.Typed.TheVariants.{Comma', Assign', Choice', Or', And', Binary', Cast', Address', Follow', Unary', SizeOf', SizeOfType, Index', Dot', Arrow', Name, Constant, Parens'}
 use Rattle.c_tree.specs.Types.{type_of, target_of, is_unsigned, is_array, is_struct}
-use Rattle.c_tree.specs.Layout.{members_of, size_of}
+use Rattle.c_tree.specs.Layout.{members_of}
 use Rattle.c_judge.specs.declared.symbol.Symbol.{Symbol}
 use Rattle.c_judge.specs.declared.check.Mode.{Mode}
 use Rattle.c_judge.specs.declared.check.Mode.TheVariants.{Value, Assign}
@@ -18,6 +18,7 @@ use Rattle.ps_emit.specs.Terms.{◌⋯◌, word, name, integer, number}
 use Rattle.expr_serve.specs.declared.emit.Standing.{Standing}
 use Rattle.expr_serve.specs.declared.emit.Standing.TheVariants.{Named, Pointed}
 use Rattle.expr_serve.specs.Literals.{literal}
+use Rattle.expr_serve.specs.Types.{bytes_of, struct_leaves}
 use Rattle.expr_serve.specs.Operators.{chosen, by_zero, on_ints, on_integers, on_pointers, on_one, conversion, kind}
 
 -- How the place of an lvalue stands among the operands: that of a name, and of its members, as a space and an offset; any other as a pointer.
@@ -101,15 +102,7 @@ offset_in (Some m) = m.at
 abbrev pub brought : (is_below : Bool) → Code
 brought is_below = if is_below then integer (pos 2) ⋯ word "index" else word "dup"
 
--- the struct at a pointer, by its tag: all of its leaves have to be live
-abbrev pub tagged_leaves : List ℕ → Code
-tagged_leaves tag = literal tag ⋯ word "Struct" ⋯ word "Leaf"
-
 module _ (defs : List StructDef) where
-  -- the bytes of a type; one that has more than 1,048,576, as no expression's has, counts none
-  abbrev pub bytes_of : CType → ℕ
-  bytes_of t = if nat_le (size_of defs t) 1048576 then size_of defs t else 0
-
   -- the offset of a member, in a struct and in what a pointer to one leads to
   abbrev pub offset_of : CType → (member : ℕ) → ℕ
   offset_of (Struct s) m = offset_in (slice_get (members_of defs s) m)
@@ -119,13 +112,9 @@ module _ (defs : List StructDef) where
   offset_behind None m = 0
   offset_behind (Some t) m = offset_of t m
 
-  -- the struct at a pointer, by its type
-  abbrev pub tagged : Option StructDef → Code
-  tagged None = Stop
-  tagged (Some d) = tagged_leaves d.tag
-
+  -- the struct at a pointer: all of its leaves have to be live
   abbrev pub all_leaves : CType → Code
-  all_leaves (Struct s) = tagged (slice_get defs s)
+  all_leaves (Struct s) = struct_leaves defs s
   all_leaves _ = Stop
 
   -- a struct whose pointer is brought on top, and dropped again
@@ -139,12 +128,12 @@ module _ (defs : List StructDef) where
 
   -- a pointer to an item, and an integer
   abbrev pub on_pointer : BinaryOp → (item t : CType) → Code
-  on_pointer Add item t = by_items false (bytes_of item) t
-  on_pointer Subtract item t = by_items true (bytes_of item) t
+  on_pointer Add item t = by_items false (bytes_of defs item) t
+  on_pointer Subtract item t = by_items true (bytes_of defs item) t
   on_pointer op item t = on_ints op
 
   abbrev pub on_two_pointers : BinaryOp → (item : CType) → Code
-  on_two_pointers Subtract item = integer (pos (bytes_of item)) ⋯ word "ptrsub"
+  on_two_pointers Subtract item = integer (pos (bytes_of defs item)) ⋯ word "ptrsub"
   on_two_pointers op item = on_pointers op
 
   abbrev pub by_targets : BinaryOp → CType → CType → Option CType → Option CType → Code

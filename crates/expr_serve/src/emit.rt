@@ -5,7 +5,8 @@ ghost use Rattle.c_tree.specs.Types.{target_of as target};
 ghost use Rattle.ps_text.specs.Code.{Stop, Num, Word, render};
 ghost use Rattle.ps_emit.specs.Grown.{Grows};
 ghost use Rattle.expr_serve.specs.declared.emit.Standing.TheVariants.{Named, Pointed};
-ghost use Rattle.expr_serve.specs.Codes.{address_of, value_at, as_spot, live_scalar, by_items, further as further_code, place_further, place_of_name, bytes_of as bytes, offset_of as offset, offset_behind as behind, near, far, tagged_leaves, signed_items, unsigned_items, bytes_by, all_leaves, on_pointer, on_two_pointers, on_two};
+ghost use Rattle.expr_serve.specs.Types.{bytes_of as bytes};
+ghost use Rattle.expr_serve.specs.Codes.{address_of, value_at, as_spot, live_scalar, by_items, further as further_code, place_further, place_of_name, offset_of as offset, offset_behind as behind, near, far, signed_items, unsigned_items, bytes_by, on_pointer, on_two_pointers, on_two};
 
 use crate::literals::add_literal;
 use crate::operators::{is_unsigned, on_integers, on_ints, on_pointers};
@@ -180,28 +181,6 @@ pub fn offset_behind(t: &CType, m: u32, defs: &[StructDef]) -> u32
     match target_of(t) {
         Some(t) => offset_of(t, m, defs),
         None => 0,
-    }
-}
-
-/// Adds that all leaves of the struct with a tag are live.
-fn add_tagged(text: &mut Text, tag: &[u8]) -> Result<(), AllocError>
-    ensures { OnOk result (Grows (tagged_leaves tag.now) text.old text.new) }
-{
-    add_literal(text, tag)?;
-    add_word(text, b"Struct")?;
-    add_word(text, b"Leaf")
-}
-
-/// Adds that all leaves of the struct at a pointer are live.
-pub fn add_leaves(text: &mut Text, t: &CType, defs: &[StructDef]) -> Result<(), AllocError>
-    ensures { OnOk result (Grows (all_leaves defs.now t.now) text.old text.new) }
-{
-    match t {
-        CType::Struct(s) => match defs.get(*s as usize) {
-            Some(def) => add_tagged(text, def.tag.as_bytes()),
-            None => Ok(()),
-        },
-        _ => Ok(()),
     }
 }
 
