@@ -16,7 +16,8 @@ use Rattle.c_symbol.specs.declared.terminal.Terminal.{Terminal}
 use Rattle.c_statement.specs.declared.unit.External.{External}
 use Rattle.c_tokens.specs.Identifiers.{IsIdentifier, HasIdentifiers}
 use Rattle.c_tokens.specs.Units.{AreSpelled, terminals_in}
-use Rattle.c_file.specs.Programs.{Well, at_first, AllFiles}
+use Rattle.c_file.specs.Programs.{Well, tags_of, at_first, AllFiles}
+use Rattle.c_file.specs.Names.{Defining}
 use Rattle.c_file.specs.Files.{State}
 use Rattle.c_file.specs.Made as made
 use Rattle.slot_formed.specs.Tokens.{program_tokens}
@@ -37,7 +38,9 @@ use Rattle.compiled_tables.proofs.Tokens.{sum_more, few_structs, few_members}
 use Rattle.compiled_tables.proofs.Types.{type_words, structs_are_rows, symbols_are_rows}
 use Rattle.compiled_tables.proofs.Parts.{as_many, functions_parted, points_parted}
 use Rattle.compiled_tables.proofs.Units.{units_fit}
-use Rattle.compiled_tables.proofs.Objects.{few_held, objects_few}
+use Rattle.compiled_tables.specs.Weights.{Rates, AreCovered, total}
+use Rattle.compiled_tables.proofs.Costs.{of_defined}
+use Rattle.compiled_tables.proofs.Affordable.{few_tokens_weigh}
 
 -- ---- strings have room in the static data
 
@@ -90,11 +93,22 @@ few_symbols : (p : Program) → IsAffordable p → length p.symbols < 2 ^ 32
 few_symbols p h = let a = symbols_cost p.symbols in let b = h.bytes in omega arith
 
 -- static objects and strings are tokens
-pub few_statics : (q : State) (names : List (List ℕ)) (p : Program) (rows : made.HasRows q names p) (tags : List (List ℕ)) (us : List (List External)) (tss : List (List Terminal)) → AreSpelled us tss
-    → AllFiles tags (at_first tags) us Well q → length p.objects + length p.strings ≤ terminals_in tss
-few_statics q names p rows tags us tss s h =
-    let a = few_held tags us tss q s h in
-    let b = objects_few [] q.definitions in
+
+abbrev statics : Rates
+statics = record { constructor = 0; object = 1; object_symbol = 0; symbol = 0; point = 0; function = 0; struct = 0; member = 0; string = 1; token = 1 }
+
+statics_covered : AreCovered statics
+statics_covered = record { string = omega arith; struct = omega arith; constructor = omega arith; point = omega arith; local = omega arith; member = omega arith; object = omega arith; declared = omega arith; function = omega arith }
+
+objects_counted : (q : State) (ds : List Defining) → total (of_defined statics q) ds ≡ length ds
+objects_counted q [] = omega arith
+objects_counted q (d ∷ ds) = omega (arith, objects_counted q ds)
+
+pub few_statics : (q : State) (names : List (List ℕ)) (p : Program) (rows : made.HasRows q names p) (us : List (List External)) (tss : List (List Terminal)) → AreSpelled us tss
+    → AllFiles (tags_of us) (at_first (tags_of us)) us Well q → length p.objects + length p.strings ≤ terminals_in tss
+few_statics q names p rows us tss s h =
+    let a = few_tokens_weigh statics statics_covered q us h tss (terminals_in tss) s (omega arith) in
+    let b = objects_counted q (made.objects q) in
     let c = as_many (made.IsObjectOf q) (made.objects q) p.objects rows.objects in
     let d : length p.strings ≡ length q.strings = ap (λ (l : List (List ℕ)). length l) rows.strings in
     omega (arith, a, b, c, d)

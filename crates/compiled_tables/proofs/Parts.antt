@@ -9,6 +9,7 @@ use Rattle.c_body.specs.Stops.{Stop}
 use Rattle.c_file.specs.Files.{State, Bodied}
 use Rattle.c_file.specs.Made.{Each, IsFunctionOf, all_stops, points_from, all_points, functions_of, AreUnits, HasRows}
 use Rattle.ps_tables.specs.Rows.{weigh, total, weigh_units, points_in, points_of}
+use Rattle.compiled_tables.proofs.Files.{stop_count}
 
 -- ---- functions of files
 
@@ -72,6 +73,21 @@ as_many P [] (y ∷ ys) e = absurd e
 as_many P (x ∷ xs) [] e = absurd e
 as_many P (x ∷ xs) (y ∷ ys) e = ap suc (as_many P xs ys e.1)
 
+-- ---- points of functions
+
+module _ (q : State) where
+  stops_long : (f : ℕ) (ss : List Stop) → length (points_from q f ss) ≡ length ss
+  stops_long f [] = refl
+  stops_long f (s ∷ ss) = ap suc (stops_long f ss)
+
+  pub points_long : (f : ℕ) (bs : List Bodied) → length (all_points q f bs) ≡ stop_count bs
+  points_long f [] = refl
+  points_long f (b ∷ bs) =
+      let a = points_long (suc f) bs in
+      let c = length-append (points_from q f (all_stops q b)) (all_points q (suc f) bs) in
+      let d = stops_long f (all_stops q b) in
+      omega arith
+
 module _ (q : State) (names : List (List ℕ)) (p : Program) (rows : HasRows q names p) where
   pub functions_parted : (w : ℕ → ℕ) → weigh_units w p.units ≤ total w (length p.functions)
   functions_parted w =
@@ -82,27 +98,9 @@ module _ (q : State) (names : List (List ℕ)) (p : Program) (rows : HasRows q n
       let e : total w (0 + length q.bodies) ≡ total w (length p.functions) = ap (total w) (let x : 0 + length q.bodies ≡ length p.functions = omega arith in x) in
       omega arith
 
-  -- ---- points of functions
-
   numbered : (from n : ℕ) → length (numbers from n) ≡ n
   numbered from zero = refl
   numbered from (suc n) = ap suc (numbered (suc from) n)
-
-  stops_long : (f : ℕ) (ss : List Stop) → length (points_from q f ss) ≡ length ss
-  stops_long f [] = refl
-  stops_long f (s ∷ ss) = ap suc (stops_long f ss)
-
-  abbrev stop_count : List Bodied → ℕ
-  stop_count [] = 0
-  stop_count (b ∷ bs) = length (all_stops q b) + stop_count bs
-
-  points_long : (f : ℕ) (bs : List Bodied) → length (all_points q f bs) ≡ stop_count bs
-  points_long f [] = refl
-  points_long f (b ∷ bs) =
-      let a = points_long (suc f) bs in
-      let c = length-append (points_from q f (all_stops q b)) (all_points q (suc f) bs) in
-      let d = stops_long f (all_stops q b) in
-      omega arith
 
   abbrev function_points : List Function → ℕ
   function_points [] = 0
@@ -133,6 +131,6 @@ module _ (q : State) (names : List (List ℕ)) (p : Program) (rows : HasRows q n
   points_parted =
       let a = listed p.functions in
       let b = functions_long q.bodies p.functions rows.functions in
-      let c = points_long 0 q.bodies in
+      let c = points_long q 0 q.bodies in
       let d : length p.points ≡ length (all_points q 0 q.bodies) = ap (λ l. length l) rows.points in
       omega arith

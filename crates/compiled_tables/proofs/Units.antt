@@ -1,5 +1,5 @@
 -- Where the bytes that are counted for a program's items are within the limit of a text, the units have room.
-use Rattle.std.proofs.Common.{ℕ, ◌+◌, ◌*◌, ◌≤◌, List, [], ◌∷◌, length, map, arith}
+use Rattle.std.proofs.Common.{◌+◌, ◌*◌, ◌≤◌, List, [], ◌∷◌, length, map, arith}
 use Rattle.std.specs.Fmt.{digits}
 use Rattle.ps_scan.specs.Bytes.{is_white, is_special, is_regular, is_hexadecimal}
 use Rattle.ps_store.specs.Operators.{operator_number}
@@ -50,7 +50,7 @@ light_program p =
     let c = light_symbols p.symbols in
     omega arith
 
-few_files : (p : Program) → 1126 * length p.units ≤ (cost_of p).bytes
+pub few_files : (p : Program) → 1126 * length p.units ≤ (cost_of p).bytes
 few_files p = omega arith
 
 loaded_units : loaded.store.table.units + loaded.store.command.units ≤ 200000

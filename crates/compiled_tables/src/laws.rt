@@ -1,11 +1,13 @@
 // What holds of the tables of compiled programs.
 
-ghost use Rattle.std.specs.Prelude.{◌≡◌, ℕ, List, length, Ok};
+ghost use Rattle.std.specs.Prelude.{◌≡◌, ◌≤◌, ℕ, List, length};
+ghost use Rattle.c_symbol.specs.declared.terminal.Terminal.{Terminal};
+ghost use Rattle.c_statement.specs.declared.unit.External.{External};
+ghost use Rattle.c_tree.specs.declared.rows.Program.{Program};
+ghost use Rattle.c_check.specs.Faulty.{Checks};
+ghost use Rattle.c_tokens.specs.Units.{AreSpelled, terminals_in};
 ghost use Rattle.obj_file.specs.Image.{ImageFields};
-ghost use Rattle.ps_store.specs.StoreState.{StoreState};
-ghost use Rattle.ps_print.specs.Loaded.{loaded};
-ghost use Rattle.claims.specs.Tables.{RunsTable};
-ghost use Rattle.table_run.specs.Tables.{IsTableOf};
+ghost use Rattle.table_ends.specs.Joined.{MakesTable};
 ghost use Rattle.ldb_cc.specs.declared.aim.Aim.{Aim};
 ghost use Rattle.ldb_cc.specs.Built.{IsBuilt};
 ghost use Rattle.compiled_tables.specs.Conditions.{AreFileNames, IsAffordable};
@@ -17,13 +19,19 @@ use obj_placed::placed_word_by_word;
 use ps_tables::accepted_types_run;
 use table_ends::counted_tables_come;
 
-/// The table that is built of sources comes to a table for the image's target, behind the prelude and where there is no target, and so the claims on whole sessions have it: where files have names of at most 255 bytes, and what is counted for the program's items is within the limits.
+/// What is counted for the items of a checked program of at most 16 files and 40,000 tokens is within the limits of a table.
+pub fn programs_are_affordable()
+    ensures { (names : List (List ℕ)) (us : List (List External)) (tss : List (List Terminal)) (p : Program) → AreSpelled us tss → Checks names us (Ok p) → length names ≤ 16 → terminals_in tss ≤ 40000 → IsAffordable p }
+{}
+
+/// The table that is built of sources comes to a table for the image's target, behind the prelude and where there is no target, and to no fault but want of memory, and the claims on whole sessions have it: where there are at most 16 files, with names of at most 255 bytes.
 pub fn compiled_tables_come()
-    ensures { (aim : Aim) (names texts : List (List ℕ)) (image : ImageFields) (table : List ℕ) (built : IsBuilt aim names texts image table) → length names ≡ length texts → AreFileNames names → IsAffordable built.program → (s : StoreState) × IsTableOf table image.target (Ok s) × RunsTable loaded.store table image.target (Ok s) }
+    ensures { (aim : Aim) (names texts : List (List ℕ)) (image : ImageFields) (table : List ℕ) (built : IsBuilt aim names texts image table) → length names ≡ length texts → length names ≤ 16 → AreFileNames names → MakesTable table image.target }
 {
     checked_programs_are_accepted();
     files_are_texts();
     programs_have_few_tokens();
+    programs_are_affordable();
     names_are_identifiers();
     one_reading();
     placed_word_by_word();

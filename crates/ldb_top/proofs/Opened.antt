@@ -1,14 +1,13 @@
 -- Sessions that are begun, and why others aren't.
-use Rattle.std.proofs.Common.{◌≡◌, ℕ, true, false, List, [], ◌∷◌, ◌++◌, Option, None, Some, Ok, Err, inl, inr, sym, ap, ◌∙◌, subst}
+use Rattle.std.proofs.Common.{◌≡◌, ℕ, true, false, List, [], ◌∷◌, ◌++◌, Option, None, Some, Ok, Err, refl, sym, ap, ◌∙◌, subst}
 use Rattle.std.specs.declared.result.Result.{Result}
 use Rattle.std.specs.Prelude.{IfErr, IfOk}
 use Rattle.std.specs.FinMap as files
 use Rattle.ldb_edge.specs.Known.{FileMap}
 use Rattle.obj_file.specs.Image.{ImageFields, Reads}
-use Rattle.obj_file.specs.declared.image.ImageFault.{ImageFault}
-use Rattle.obj_file.specs.declared.image.ImageFault.TheVariants as fault
 use Rattle.ps_store.specs.StoreState.{StoreState}
 use Rattle.table_run.specs.declared.run.TableFault.{TableFault}
+use Rattle.table_run.specs.declared.run.TableFault.TheVariants as table
 use Rattle.table_run.specs.Tables.{IsTableOf}
 use Rattle.ldb_cc.specs.declared.aim.Aim.{Aim}
 use Rattle.ldb_cc.specs.declared.aim.Aim.TheVariants.{Mips, Sparc}
@@ -17,75 +16,52 @@ use Rattle.cc_call.specs.Found.{AreRead}
 use Rattle.nub_wire.specs.Delivery.{World}
 use Rattle.session.specs.declared.conversation.Session.{Session}
 use Rattle.ldb_top.specs.Files.{first_missing, is_long, IsRead}
-use Rattle.ldb_top.specs.Lines.{table_word, bad_table_line}
+use Rattle.ldb_top.specs.Lines.{table_word}
 use Rattle.ldb_top.specs.Names.{Names, aim_in, read_names}
 use Rattle.ldb_top.specs.declared.words.Aims.{Aims}
 use Rattle.ldb_top.specs.declared.words.Aims.TheVariants.{One, Both}
 use Rattle.ldb_top.specs.Words.{Form, Debug, Go}
 use Rattle.ldb_top.specs.declared.status.Stop.{Stop}
 use Rattle.ldb_top.specs.declared.status.Stop.TheVariants.{Read, NoMemory, Missing, TooLong, Refused, Bad}
-use Rattle.ldb_top.specs.Why.{IsTableWhy, IsTableStop, IsImageTold, IsBuildWhy, IsLoadWhy, BuildsFrom, LoadsFrom, AreProgram, AreCompiled, IsFileStop, IsInputStop, AreRight, Opens, IsWhy, AddsSide, AddsCompiled, IsCompiledFor, AddsFor, OverOne, OverBoth}
+use Rattle.ldb_top.specs.Stops.{IsBuildStop}
+use Rattle.ldb_top.specs.Why.{IsTableStop, IsBuildWhy, IsLoadWhy, BuildsFrom, LoadsFrom, AreProgram, AreCompiled, IsFileStop, IsInputStop, AreRight, Opens, IsWhy, AddsSide, AddsCompiled, IsCompiledFor, AddsFor, OverOne, OverBoth}
 use Rattle.ldb_top.proofs.Fronted.{all_on, missing_on}
 
 -- ---- sources, and an image
 
-pub table_why : (target : ℕ) (text line word : List ℕ) (f : TableFault) → IsTableOf text target (Err f) → table_word f ≡ Some word → line ≡ bad_table_line word → IsTableWhy target text line
-table_why target text line word f c w e = record { fault = f; comes = c; tells = record { word = word; word_is = w; line_is = e } }
+-- a text that comes to no fault but want of memory is no bad table
+no_bad : (target : ℕ) (text : List ℕ) (stop : Stop) → ((f : TableFault) → IsTableOf text target (Err f) → f ≡ table.NoMemory) → IsTableStop target text stop → stop ≡ NoMemory
+no_bad target text NoMemory only t = refl
+no_bad target text (Bad line) only t =
+    let none : None ≡ Some t.tells.word = subst (λ (f : TableFault). table_word f ≡ Some t.tells.word) (only t.fault t.comes) t.tells.word_is in
+    absurd cc
+no_bad target text Read only t = absurd t
+no_bad target text (Missing line) only t = absurd t
+no_bad target text (TooLong line) only t = absurd t
+no_bad target text (Refused line) only t = absurd t
 
-pub built_then : {A : Type 0} (aim : Aim) (names texts : List (List ℕ)) (image : ImageFields) (table : List ℕ) (r : Result A Stop) → IsBuilt aim names texts image table → IfErr r (IsTableStop image.target table) → BuildsFrom (Some aim) names texts r
-built_then aim names texts image table (Ok x) b t = (b.program, b.is_program)
-built_then aim names texts image table (Err NoMemory) b t = tt
-built_then aim names texts image table (Err (Bad line)) b t = record { image = image; text = table; built = b; told = t }
-built_then aim names texts image table (Err Read) b t = absurd t
-built_then aim names texts image table (Err (Missing line)) b t = absurd t
-built_then aim names texts image table (Err (TooLong line)) b t = absurd t
-built_then aim names texts image table (Err (Refused line)) b t = absurd t
+no_bad_table : {A : Type 0} (target : ℕ) (text : List ℕ) (r : Result A Stop) → ((f : TableFault) → IsTableOf text target (Err f) → f ≡ table.NoMemory) → IfErr r (IsTableStop target text) → IfErr r (λ stop. stop ≡ NoMemory)
+no_bad_table target text (Ok x) only t = tt
+no_bad_table target text (Err stop) only t = no_bad target text stop only t
 
--- what stops the first of both targets, or the second behind the first
-pub first_why : (names texts : List (List ℕ)) (stop : Stop) → IsBuildWhy (Some Mips) names texts stop → IsBuildWhy None names texts stop
-first_why names texts NoMemory w = tt
-first_why names texts (Refused line) w = w
-first_why names texts (Bad line) w = inl w
-first_why names texts Read w = absurd w
-first_why names texts (Missing line) w = absurd w
-first_why names texts (TooLong line) w = absurd w
+started_then : {A : Type 0} (names texts : List (List ℕ)) (r : Result A Stop) → AreProgram names texts → IfErr r (λ stop. stop ≡ NoMemory) → BuildsFrom names texts r
+started_then names texts (Ok x) p e = p
+started_then names texts (Err stop) p e = subst (IsBuildWhy names texts) (sym e) tt
 
-pub second_why : (names texts : List (List ℕ)) (stop : Stop) → AreCompiled Mips names texts → IsBuildWhy (Some Sparc) names texts stop → IsBuildWhy None names texts stop
-second_why names texts NoMemory first w = tt
-second_why names texts (Refused line) first w = w
-second_why names texts (Bad line) first w = inr (first, w)
-second_why names texts Read first w = absurd w
-second_why names texts (Missing line) first w = absurd w
-second_why names texts (TooLong line) first w = absurd w
+-- what stops sources that were compiled for a target, where this text is that of their table
+pub built_then : {A : Type 0} (aim : Aim) (names texts : List (List ℕ)) (image : ImageFields) (built_text text : List ℕ) (r : Result A Stop) → IsBuilt aim names texts image built_text → ((f : TableFault) → IsTableOf built_text image.target (Err f) → f ≡ table.NoMemory) → text ≡ built_text
+    → IfErr r (IsTableStop image.target text) → BuildsFrom names texts r
+built_then aim names texts image built_text text r built only e told =
+    started_then names texts r (built.program, built.is_program) (no_bad_table image.target built_text r only (subst (λ (x : List ℕ). IfErr r (IsTableStop image.target x)) e told))
 
--- by the targets that were asked for
-pub why_for : (aims : Aims) (aim : Option Aim) (names texts : List (List ℕ)) (stop : Stop) → aim_in aims ≡ aim → IsBuildWhy aim names texts stop → IsBuildWhy (aim_in aims) names texts stop
-why_for aims aim names texts stop e w = subst (λ (o : Option Aim). IsBuildWhy o names texts stop) (sym e) w
-
-pub started_then : {A : Type 0} (aim : Option Aim) (names texts : List (List ℕ)) (r : Result A Stop) → AreProgram names texts → IfErr r (λ stop. stop ≡ NoMemory) → BuildsFrom aim names texts r
-started_then aim names texts (Ok x) p e = p
-started_then aim names texts (Err stop) p e = subst (IsBuildWhy aim names texts) (sym e) tt
-
-pub wrong_image : (text table : List ℕ) (f : ImageFault) (stop : Stop) → Reads text (Err f) → IsImageTold f stop → IsLoadWhy text table stop
-wrong_image text table f NoMemory r t = tt
-wrong_image text table (fault.BadImage at) (Bad line) r t = inl (at, r, t)
-wrong_image text table fault.NoMemory (Bad line) r t = absurd t
-wrong_image text table (fault.BadImage at) Read r t = absurd t
-wrong_image text table (fault.BadImage at) (Missing line) r t = absurd t
-wrong_image text table (fault.BadImage at) (TooLong line) r t = absurd t
-wrong_image text table (fault.BadImage at) (Refused line) r t = absurd t
-wrong_image text table fault.NoMemory Read r t = absurd t
-wrong_image text table fault.NoMemory (Missing line) r t = absurd t
-wrong_image text table fault.NoMemory (TooLong line) r t = absurd t
-wrong_image text table fault.NoMemory (Refused line) r t = absurd t
-
-pub wrong_table : (text table : List ℕ) (image : ImageFields) (stop : Stop) → Reads text (Ok image) → IsTableStop image.target table stop → IsLoadWhy text table stop
-wrong_table text table image NoMemory w t = tt
-wrong_table text table image (Bad line) w t = inr (record { image = image; reads = w; told = t })
-wrong_table text table image Read w t = absurd t
-wrong_table text table image (Missing line) w t = absurd t
-wrong_table text table image (TooLong line) w t = absurd t
-wrong_table text table image (Refused line) w t = absurd t
+pub built_stops : {A : Type 0} (names texts : List (List ℕ)) (r : Result A Stop) → BuildsFrom names texts r → IfErr r IsBuildStop
+built_stops names texts (Ok x) b = tt
+built_stops names texts (Err NoMemory) b = tt
+built_stops names texts (Err (Refused line)) b = tt
+built_stops names texts (Err Read) b = absurd b
+built_stops names texts (Err (Missing line)) b = absurd b
+built_stops names texts (Err (TooLong line)) b = absurd b
+built_stops names texts (Err (Bad line)) b = absurd b
 
 pub loaded_then : (text table input : List ℕ) (image : ImageFields) (images : List ImageFields) (tables : List StoreState) (r : Result (Session World) Stop) → Reads text (Ok image) → (one : AddsSide image table [] images [] tables) → IfErr r (λ stop. stop ≡ NoMemory)
     → IfOk r (OverOne true input images tables) → LoadsFrom text table input r
@@ -152,11 +128,11 @@ right n known a i s = record { there = there known n a i; short = s }
 -- ---- all of it
 
 pub go_opens : (n : Names) (known : FileMap) (input : List ℕ) (texts : List (List ℕ)) (r : Result (Session World) Stop) → first_missing known n.about ≡ None → AreRead known n.about texts → first_missing known (n.input ∷ []) ≡ None → is_long (files.get known n.input) ≡ false
-    → files.get known n.input ≡ Some input → BuildsFrom n.aim n.about texts r → IfOk r (IsCompiledFor n.aim n.about texts input) → Opens Go n known r
+    → files.get known n.input ≡ Some input → BuildsFrom n.about texts r → IfOk r (IsCompiledFor n.aim n.about texts input) → Opens Go n known r
 go_opens n known input texts (Ok x) a t i s got b over = ((right n known a i s, (texts, t, b)), (input, got, (texts, t, over)))
 go_opens n known input texts (Err NoMemory) a t i s got b over = tt
 go_opens n known input texts (Err (Refused line)) a t i s got b over = (right n known a i s, (texts, t, b))
-go_opens n known input texts (Err (Bad line)) a t i s got b over = (right n known a i s, (texts, t, b))
+go_opens n known input texts (Err (Bad line)) a t i s got b over = absurd b
 go_opens n known input texts (Err Read) a t i s got b over = absurd b
 go_opens n known input texts (Err (Missing line)) a t i s got b over = absurd b
 go_opens n known input texts (Err (TooLong line)) a t i s got b over = absurd b

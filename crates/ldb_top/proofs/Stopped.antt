@@ -1,12 +1,11 @@
 -- What ends a call before its session, told.
-use Rattle.std.proofs.Common.{◌≡◌, ◌⊎◌, ◌<◌, ℕ, zero, suc, List, [], ◌∷◌, length, map, get_or, String, string_bytes, Option, Some, None, Ok, Err, inl, inr, ap, subst, ◌∙◌, arith}
+use Rattle.std.proofs.Common.{◌≡◌, ◌⊎◌, ◌<◌, ℕ, zero, suc, List, [], ◌∷◌, length, map, get_or, String, string_bytes, Option, Ok, Err, inl, inr, ap, subst, ◌∙◌, arith}
 use Rattle.std.specs.Global.{Global}
 use Rattle.std.specs.declared.result.Result.{Result}
 use Rattle.std.specs.Prelude.{OnOk, MatchResult}
 use Rattle.ldb_edge.specs.Known.{known_and}
 use Rattle.cc_call.specs.Lines.{name_in}
 use Rattle.cc_call.specs.declared.ended.Fault.{Fault}
-use Rattle.ldb_cc.specs.declared.aim.Aim.{Aim}
 use Rattle.nub_wire.specs.Delivery.{World}
 use Rattle.session.specs.declared.conversation.Session.{Session}
 use Rattle.ldb_top.specs.declared.status.Status.{Status}
@@ -14,10 +13,10 @@ use Rattle.ldb_top.specs.declared.status.Status.TheVariants as status
 use Rattle.ldb_top.specs.declared.status.Stop.{Stop}
 use Rattle.ldb_top.specs.declared.status.Stop.TheVariants.{Read, NoMemory, Missing, TooLong, Refused, Bad}
 use Rattle.ldb_top.specs.Causes.{IsMissed, TellsMissed}
-use Rattle.ldb_top.specs.Lines.{line_of, IsLine, IsTableLine}
+use Rattle.ldb_top.specs.Lines.{line_of, IsLine}
 use Rattle.ldb_top.specs.Names.{Names}
 use Rattle.ldb_top.specs.Stops.{ending_of, fault_of, IsMissing, IsReadStop, IsGoStop, IsDebugStop, IsOpenStop}
-use Rattle.ldb_top.specs.Why.{IsBadBuilt, IsBuildWhy, IsLoadWhy, BuildsFrom, LoadsFrom}
+use Rattle.ldb_top.specs.Why.{IsBuildWhy, IsLoadWhy, BuildsFrom, LoadsFrom}
 
 -- the name at a place
 pub name_read : (names : List (String Global)) (i : ℕ) (v : String Global) → i < length names → v ≡ get_or names i v → string_bytes v ≡ name_in (map string_bytes names) i
@@ -40,19 +39,13 @@ read_on missed input before mid now stop e s = subst (λ n. IsReadStop missed in
 
 -- ---- what is told of sources, and of an image and a table
 
--- a table that can't be used, of one target or of both
-bad_told : (aim : Option Aim) (names texts : List (List ℕ)) (line : List ℕ) → IsBadBuilt aim names texts line → IsTableLine line
-bad_told (Some aim) names texts line w = (w.told.fault, w.told.tells)
-bad_told None names texts line (inl w) = (w.told.fault, w.told.tells)
-bad_told None names texts line (inr w) = (w.1.told.fault, w.1.told.tells)
-
-go_stops : (aim : Option Aim) (names texts : List (List ℕ)) (stop : Stop) → IsBuildWhy aim names texts stop → IsGoStop names stop
-go_stops aim names texts NoMemory w = tt
-go_stops aim names texts (Refused line) w = (w.fault, w.tells)
-go_stops aim names texts (Bad line) w = bad_told aim names texts line w
-go_stops aim names texts Read w = absurd w
-go_stops aim names texts (Missing line) w = absurd w
-go_stops aim names texts (TooLong line) w = absurd w
+go_stops : (names texts : List (List ℕ)) (stop : Stop) → IsBuildWhy names texts stop → IsGoStop names stop
+go_stops names texts NoMemory w = tt
+go_stops names texts (Refused line) w = (w.fault, w.tells)
+go_stops names texts (Bad line) w = absurd w
+go_stops names texts Read w = absurd w
+go_stops names texts (Missing line) w = absurd w
+go_stops names texts (TooLong line) w = absurd w
 
 debug_stops : (text table : List ℕ) (stop : Stop) → IsLoadWhy text table stop → IsDebugStop stop
 debug_stops text table NoMemory w = tt
@@ -64,10 +57,10 @@ debug_stops text table (TooLong line) w = absurd w
 debug_stops text table (Refused line) w = absurd w
 
 -- a session that isn't begun once all files were read
-pub go_ends : {A : Type 0} (missed : List ℕ → Type 0) (input : List ℕ) (before now : ℕ) (aim : Option Aim) (names texts : List (List ℕ)) (r : Result A Stop) → BuildsFrom aim names texts r → now ≡ before
+pub go_ends : {A : Type 0} (missed : List ℕ → Type 0) (input : List ℕ) (before now : ℕ) (names texts : List (List ℕ)) (r : Result A Stop) → BuildsFrom names texts r → now ≡ before
     → MatchResult r (λ _. now ≡ before) (IsOpenStop (IsGoStop names) missed input before now)
-go_ends missed input before now aim names texts (Ok x) b e = e
-go_ends missed input before now aim names texts (Err stop) b e = inl (go_stops aim names texts stop b, e)
+go_ends missed input before now names texts (Ok x) b e = e
+go_ends missed input before now names texts (Err stop) b e = inl (go_stops names texts stop b, e)
 
 pub debug_ends : (missed : List ℕ → Type 0) (input : List ℕ) (before now : ℕ) (text table bytes : List ℕ) (r : Result (Session World) Stop) → LoadsFrom text table bytes r → now ≡ before
     → MatchResult r (λ _. now ≡ before) (IsOpenStop IsDebugStop missed input before now)
@@ -79,7 +72,7 @@ debug_ends missed input before now text table bytes (Err stop) b e = inl (debug_
 go_line : (n : Names) (stop : Stop) → IsGoStop n.about stop → IsLine n stop
 go_line n NoMemory s = tt
 go_line n (Refused line) s = s
-go_line n (Bad line) s = inr s
+go_line n (Bad line) s = absurd s
 go_line n Read s = absurd s
 go_line n (Missing line) s = absurd s
 go_line n (TooLong line) s = absurd s

@@ -20,8 +20,10 @@ OfDebug Refused = ⊥
 OfDebug Words = ⊥
 OfDebug _ = Unit {0}
 
+-- the tables of sources are good
 abbrev pub OfGo : Status → Type 0
 OfGo Words = ⊥
+OfGo BadFile = ⊥
 OfGo _ = Unit {0}
 
 -- `make` reads nothing
@@ -31,13 +33,12 @@ OfMake WriteFault = Unit {0}
 OfMake NoMemory = Unit {0}
 OfMake _ = ⊥
 
--- `self` reads nothing
+-- so is that of `self`, which reads nothing
 abbrev pub OfOwn : Status → Type 0
 OfOwn Done = Unit {0}
 OfOwn WriteFault = Unit {0}
 OfOwn NoMemory = Unit {0}
 OfOwn Refused = Unit {0}
-OfOwn BadFile = Unit {0}
 OfOwn _ = ⊥
 
 -- words of no form

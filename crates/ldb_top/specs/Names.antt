@@ -1,7 +1,8 @@
 -- The names of the files of a session, among its words.
-use Rattle.std.specs.Prelude.{ℕ, List, [], ◌∷◌, ◌++◌, map, string_bytes, codes, if◌then◌else◌, Option, None, Some}
+use Rattle.std.specs.Prelude.{ℕ, ◌≤◌, List, [], ◌∷◌, ◌++◌, length, map, string_bytes, codes, if◌then◌else◌, Option, None, Some}
 use Rattle.std.specs.Str.{bytes_eq}
 use Rattle.cc_call.specs.Lines.{name_in}
+use Rattle.compiled_tables.specs.Conditions.{AreFileNames}
 use Rattle.ldb_cc.specs.declared.aim.Aim.{Aim}
 use Rattle.ldb_cc.specs.declared.aim.Aim.TheVariants.{Mips, Sparc}
 use Rattle.ldb_top.specs.declared.words.Aims.{Aims}
@@ -9,6 +10,11 @@ use Rattle.ldb_top.specs.declared.words.Aims.TheVariants.{One, Both}
 use Rattle.ldb_top.specs.declared.words.DebugRequest.{DebugRequest}
 use Rattle.ldb_top.specs.declared.words.GoRequest.{GoRequest}
 use Rattle.ldb_top.specs.Words.{Form, Debug, Go, unscheduled}
+
+-- names of sources: at most 16, of at most 255 bytes each
+pub record AreSourceNames (names : List (List ℕ)) : Type 0 where
+  pub few : length names ≤ 16
+  pub short : AreFileNames names
 
 -- What the session is about: the sources, or the image and the table. Where sources are compiled for one target alone, that one.
 pub record Names : Type 0 where

@@ -11,7 +11,7 @@ use Rattle.ldb_top.specs.declared.status.Status.TheVariants as status
 use Rattle.ldb_top.specs.declared.status.Stop.{Stop}
 use Rattle.ldb_top.specs.declared.status.Stop.TheVariants.{Read, NoMemory, Missing, TooLong, Refused, Bad}
 use Rattle.ldb_top.specs.Causes.{IsMissed}
-use Rattle.ldb_top.specs.Lines.{long_line, IsRefusedLine, IsTableLine, IsBadLine}
+use Rattle.ldb_top.specs.Lines.{long_line, IsRefusedLine, IsBadLine}
 
 -- how a call ends by such a stop, if its line can be written
 abbrev pub ending_of : Stop → Result Status Fault
@@ -47,11 +47,10 @@ IsReadStop missed input before now (TooLong line) = (now ≡ before) × (line �
 IsReadStop missed input before now (Refused line) = ⊥
 IsReadStop missed input before now (Bad line) = ⊥
 
--- while sources are compiled and tables run
+-- while sources are compiled and their tables run, none of which is bad
 abbrev pub IsBuildStop : Stop → Type 0
 IsBuildStop NoMemory = Unit {0}
 IsBuildStop (Refused line) = Unit {0}
-IsBuildStop (Bad line) = Unit {0}
 IsBuildStop _ = ⊥
 
 -- while an image and a table are read
@@ -60,11 +59,10 @@ IsLoadStop NoMemory = Unit {0}
 IsLoadStop (Bad line) = Unit {0}
 IsLoadStop _ = ⊥
 
--- while sources with these names are made a session: the line tells of a fault of theirs, or of a table's
+-- while sources with these names are made a session: the line tells of a fault of theirs
 abbrev pub IsGoStop : (names : List (List ℕ)) → Stop → Type 0
 IsGoStop names NoMemory = Unit {0}
 IsGoStop names (Refused line) = IsRefusedLine names line
-IsGoStop names (Bad line) = IsTableLine line
 IsGoStop names _ = ⊥
 
 -- while an image and a table are: the line tells of a fault of one

@@ -66,29 +66,16 @@ pub record AreCompiled (aim : Aim) (names texts : List (List ℕ)) : Type 0 wher
   pub store : StoreState
   pub comes : IsTableOf text image.target (Ok store)
 
--- the table that was compiled of them for a target can't be used, as the line says
-pub record IsBadFrom (aim : Aim) (names texts : List (List ℕ)) (line : List ℕ) : Type 0 where
-  pub image : ImageFields
-  pub text : List ℕ
-  pub built : IsBuilt aim names texts image text
-  pub told : IsTableWhy image.target text line
+-- why none of them is begun with
+abbrev pub IsBuildWhy : (names texts : List (List ℕ)) → Stop → Type 0
+IsBuildWhy names texts NoMemory = Unit {0}
+IsBuildWhy names texts (Refused line) = IsRefusal names texts line
+IsBuildWhy names texts _ = ⊥
 
--- the first table that can't be used, of the one target, or of both, of which MIPS is first
-abbrev pub IsBadBuilt : Option Aim → (names texts : List (List ℕ)) → List ℕ → Type 0
-IsBadBuilt (Some aim) names texts line = IsBadFrom aim names texts line
-IsBadBuilt None names texts line = IsBadFrom Mips names texts line ⊎ (AreCompiled Mips names texts × IsBadFrom Sparc names texts line)
-
--- why none of them is begun with, where they are compiled for this target or for both: the table of a program may be found wanting
-abbrev pub IsBuildWhy : Option Aim → (names texts : List (List ℕ)) → Stop → Type 0
-IsBuildWhy aim names texts NoMemory = Unit {0}
-IsBuildWhy aim names texts (Refused line) = IsRefusal names texts line
-IsBuildWhy aim names texts (Bad line) = IsBadBuilt aim names texts line
-IsBuildWhy aim names texts _ = ⊥
-
--- they are a program, or it is said why not
-abbrev pub BuildsFrom : {A : Type 0} → Option Aim → (names texts : List (List ℕ)) → Result A Stop → Type 0
-BuildsFrom aim names texts (Ok begun) = AreProgram names texts
-BuildsFrom aim names texts (Err stop) = IsBuildWhy aim names texts stop
+-- they are a program, or it is said why not; the table of a program can be used
+abbrev pub BuildsFrom : {A : Type 0} → (names texts : List (List ℕ)) → Result A Stop → Type 0
+BuildsFrom names texts (Ok begun) = AreProgram names texts
+BuildsFrom names texts (Err stop) = IsBuildWhy names texts stop
 
 -- ---- an image and a table
 
@@ -253,9 +240,8 @@ abbrev pub IsRefusedFor : Form → Names → FileMap → List ℕ → Type 0
 IsRefusedFor Go n known line = AreRight n known × OfTexts (λ texts. IsRefusal n.about texts line) n known
 IsRefusedFor _ n known line = ⊥
 
--- an image or a table can't be used; the table of a program, in a call that compiles
+-- an image or a table can't be used
 abbrev pub IsBadFor : Form → Names → FileMap → List ℕ → Type 0
-IsBadFor Go n known line = AreRight n known × OfTexts (λ texts. IsBadBuilt n.aim n.about texts line) n known
 IsBadFor Debug n known line = AreRight n known × OfImage (λ text table_text. IsBadImage text table_text line) n known
 IsBadFor _ n known line = ⊥
 

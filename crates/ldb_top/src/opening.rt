@@ -1,12 +1,12 @@
 // Machines and their tables: what a session stands on.
-ghost use Rattle.std.specs.Prelude.{◌≡◌, ◌≤◌, ◌+◌, ◌⊎◌, ℕ, List, [], length, map, string_bytes, IfErr, IfOk, OnOk, MatchResult, Option, Some, Ok, Err, option_map};
+ghost use Rattle.std.specs.Prelude.{◌≡◌, ◌≤◌, ◌+◌, ◌⊎◌, ℕ, List, [], length, map, string_bytes, IfErr, IfOk, OnOk, MatchResult, Some, Ok, Err, option_map};
 ghost use Rattle.ldb_edge.specs.Known.{FileMap};
 ghost use Rattle.table_run.specs.Tables.{IsTableOf};
 ghost use Rattle.ldb_cc.specs.Scanning.{items_of};
 ghost use Rattle.ldb_cc.specs.Sources.{IsCause};
 ghost use Rattle.ldb_top.specs.Lines.{table_word};
-ghost use Rattle.ldb_top.specs.Names.{aim_in, names_in_debug, names_in_go};
-ghost use Rattle.ldb_top.specs.Stops.{IsBuildStop, IsLoadStop, IsGoStop, IsDebugStop, IsOpenStop};
+ghost use Rattle.ldb_top.specs.Names.{AreSourceNames, aim_in, names_in_debug, names_in_go};
+ghost use Rattle.ldb_top.specs.Stops.{IsLoadStop, IsGoStop, IsDebugStop, IsOpenStop};
 ghost use Rattle.ldb_top.specs.Why.{IsTableStop, IsImageTold, IsBuildWhy, BuildsFrom, AddsSide, AddsCompiled, AddsFor, IsCompiledFor, LoadsFrom, Opens, OverOne, OverBoth};
 ghost use Rattle.ldb_top.specs.Words.{Debug, Go};
 
@@ -14,6 +14,7 @@ use crate::reading::{line_with, read_file, read_input, read_sources};
 use crate::status::Stop;
 use crate::words::{Aims, DebugRequest, GoRequest};
 use cc_call::{is_refusal, names_of, refused_line};
+use compiled_tables::compiled_tables_come;
 use ldb_cc::{Aim, BuildFault, Built, compile};
 use ldb_edge::Files;
 use ldb_words::Text;
@@ -79,8 +80,7 @@ fn bad_image(alloc: Global, fault: ImageFault) -> Stop
 
 /// What is told of sources that are refused.
 fn refusal(alloc: Global, names: &[Text], fault: &BuildFault) -> Stop
-    ensures stop { IsBuildStop result }
-    ensures why { (aim : Option Aim) (texts : List (List ℕ)) → IsCause texts fault.now → IsBuildWhy aim names.now texts result }
+    ensures { (texts : List (List ℕ)) → IsCause texts fault.now → IsBuildWhy names.now texts result }
 {
     if !is_refusal(fault) {
         return Stop::NoMemory;
@@ -126,15 +126,16 @@ impl Sides {
         names: &[Text],
         texts: &[Vec<u8>],
     ) -> Result<(), Stop>
-        requires { length names.now ≡ length texts.now }
+        requires one_each { length names.now ≡ length texts.now }
+        requires named { AreSourceNames names.now }
         ensures count { OnOk result (length self.new.images.items ≡ length self.old.images.items + 1) }
-        ensures stop { IfErr result IsBuildStop }
-        ensures builds { BuildsFrom (Some aim) names.now (map items_of texts.now) result }
+        ensures builds { BuildsFrom names.now (map items_of texts.now) result }
         ensures adds { OnOk result (AddsCompiled aim names.now (map items_of texts.now) self.old.images.items self.new.images.items self.old.tables.items self.new.tables.items) }
     {
         match compile(alloc, aim, names, texts) {
             Ok(built) => {
                 let Built { image, table } = built;
+                compiled_tables_come();
                 self.add(alloc, image, table.as_bytes())
             }
             Err(fault) => Err(refusal(alloc, names, &fault)),
@@ -165,10 +166,10 @@ impl Sides {
 
 /// Compiles sources for one target or both.
 fn sides_of(alloc: Global, aims: Aims, names: &[Text], texts: &[Vec<u8>]) -> Result<Sides, Stop>
-    requires { length names.now ≡ length texts.now }
+    requires one_each { length names.now ≡ length texts.now }
+    requires named { AreSourceNames names.now }
     ensures count { IfOk result (λ sides. (length sides.images.items ≡ 1) ⊎ (length sides.images.items ≡ 2)) }
-    ensures stop { IfErr result IsBuildStop }
-    ensures builds { BuildsFrom (aim_in aims) names.now (map items_of texts.now) result }
+    ensures builds { BuildsFrom names.now (map items_of texts.now) result }
     ensures adds { IfOk result (λ sides. AddsFor (aim_in aims) names.now (map items_of texts.now) [] sides.images.items [] sides.tables.items) }
 {
     let mut sides = Sides::new(alloc);
@@ -191,9 +192,9 @@ pub fn begin(
     texts: &[Vec<u8>],
     input: &[u8],
 ) -> Result<Session<NearLink>, Stop>
-    requires { length names.now ≡ length texts.now }
-    ensures stop { IfErr result IsBuildStop }
-    ensures builds { BuildsFrom (aim_in aims) names.now (map items_of texts.now) result }
+    requires one_each { length names.now ≡ length texts.now }
+    requires named { AreSourceNames names.now }
+    ensures builds { BuildsFrom names.now (map items_of texts.now) result }
     ensures over { length input.now ≤ 16777216 → IfOk result (IsCompiledFor (aim_in aims) names.now (map items_of texts.now) input.now) }
 {
     let sides = sides_of(alloc, aims, names, texts)?;
@@ -211,8 +212,9 @@ fn open_texts(
     texts: &[Vec<u8>],
     input: &[u8],
 ) -> Result<Session<NearLink>, Stop>
-    requires { length texts.now ≡ length request.now.sources.now }
-    ensures builds { BuildsFrom (aim_in request.now.aims) (map string_bytes request.now.sources.now) (map items_of texts.now) result }
+    requires one_each { length texts.now ≡ length request.now.sources.now }
+    requires named { AreSourceNames (map string_bytes request.now.sources.now) }
+    ensures builds { BuildsFrom (map string_bytes request.now.sources.now) (map items_of texts.now) result }
     ensures over { length input.now ≤ 16777216
         → IfOk result (IsCompiledFor (aim_in request.now.aims) (map string_bytes request.now.sources.now) (map items_of texts.now) input.now) }
 {
@@ -226,6 +228,7 @@ pub fn open_go<F: Files>(
     request: &GoRequest<'_>,
     files: &mut F,
 ) -> Result<Session<NearLink>, Stop>
+    requires { AreSourceNames (map string_bytes request.now.sources.now) }
     ensures opens { (known : FileMap) → F.held files.old ≡ Some known → Opens Go (names_in_go request.now) known result }
     ensures same { F.held files.new ≡ F.held files.old }
     ensures write_faults { F.write_faults files.new ≡ F.write_faults files.old }

@@ -16,7 +16,7 @@ use Rattle.ps_emit.specs.declared.placement.Placement.{Placement}
 use Rattle.ps_emit.specs.Terms.{anchor_name}
 use Rattle.ps_emit.specs.Functions.{deferred}
 use Rattle.ps_emit.specs.Places.{file_in, object_label, label_front, without_ending, string_label}
-use Rattle.ps_emit.specs.Bounds.{Cost, all, constructors, of_member, of_object, per_struct, ◌and◌, cost_of}
+use Rattle.ps_emit.specs.Bounds.{Cost, all, constructors, of_member, of_object, of_symbol, per_struct, ◌and◌, cost_of}
 use Rattle.ps_tables.specs.Types.{written, type_cost, type_steps}
 use Rattle.ps_tables.specs.Tabled.{members_made, members_steps, structs_made, filling_made, filling_steps, strings_made, objects_made, objects_steps, object_units, object_steps, anchors_made, tags_made, units_made, top_made, top_steps, table_made, table_steps}
 use Rattle.ps_tables.specs.Bounded.{IsShortMember, IsShortStruct, IsShortObject, IsShortUnit, IsShort, deferred_units}
@@ -25,7 +25,7 @@ use Rattle.ps_tables.proofs.ObjectsRun.{short_decimal}
 
 -- ---- types
 
-type_takes : (defs : List StructDef) (t : CType) → type_steps (written defs t) ≤ constructors t * 30
+pub type_takes : (defs : List StructDef) (t : CType) → type_steps (written defs t) ≤ constructors t * 30
 type_takes defs Char = omega arith
 type_takes defs Int = omega arith
 type_takes defs Unsigned = omega arith
@@ -34,7 +34,7 @@ type_takes defs (Pointer' b t) = let e = type_takes defs t in let f = further_is
 type_takes defs (Array' b t n) = let e = type_takes defs t in let f = further_is (type_steps (written defs t)) 30 in omega arith
 type_takes defs (Struct s) = omega arith
 
-type_makes : (defs : List StructDef) (t : CType) → type_cost (written defs t) ≤ constructors t * 8
+pub type_makes : (defs : List StructDef) (t : CType) → type_cost (written defs t) ≤ constructors t * 8
 type_makes defs Char = omega arith
 type_makes defs Int = omega arith
 type_makes defs Unsigned = omega arith
@@ -136,15 +136,18 @@ units_make p fs (u ∷ us) h =
 
 -- ---- all of it
 
-pub table_takes : (p : Program) (at : Placement) → IsShort p at → table_steps p at ≤ (cost_of p).steps
-table_takes p at h =
+-- beside what is counted for units that are used, and their functions, points and symbols
+pub table_takes_beside : (p : Program) (at : Placement) → IsShort p at
+    → table_steps p at + (231 * length p.units + 90 * length p.functions + 32 * length p.points + (all (map of_symbol p.symbols)).steps) ≤ (cost_of p).steps
+table_takes_beside p at h =
     let a = structs_take p.defs p.defs in
     let b = objects_take p.defs p.objects in
     let c = h.placed in
     omega arith
 
-pub table_makes : (p : Program) (at : Placement) → IsShort p at → table_made p at ≤ (cost_of p).made + deferred_units p at.functions p.units
-table_makes p at h =
+pub table_makes_beside : (p : Program) (at : Placement) → IsShort p at
+    → table_made p at + (138 * length p.units + 100 * length p.functions + 10 * length p.points + (all (map of_symbol p.symbols)).made) ≤ (cost_of p).made + deferred_units p at.functions p.units
+table_makes_beside p at h =
     let few = h.few in
     let placed = h.placed in
     let a = structs_make p.defs p.defs h.structs in
@@ -153,3 +156,9 @@ table_makes p at h =
     let d = anchors_make 0 at.anchors (omega arith) in
     let e = units_make p at.functions p.units h.units in
     omega arith
+
+pub table_takes : (p : Program) (at : Placement) → IsShort p at → table_steps p at ≤ (cost_of p).steps
+table_takes p at h = let a = table_takes_beside p at h in omega arith
+
+pub table_makes : (p : Program) (at : Placement) → IsShort p at → table_made p at ≤ (cost_of p).made + deferred_units p at.functions p.units
+table_makes p at h = let a = table_makes_beside p at h in omega arith

@@ -35,6 +35,7 @@ pub mod Behind
 pub mod BehindRun
 pub mod Accepted
 pub mod Totals
+pub mod Spent
 pub mod NamesShort
 pub mod UnitsShort
 pub mod TextShort

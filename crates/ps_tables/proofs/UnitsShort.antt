@@ -22,7 +22,8 @@ use Rattle.ps_emit.proofs.Followed.{render_followed}
 use Rattle.ps_emit.proofs.Lengths.{IsShort, short_word, weight, Neat, weight_followed, neat_followed, neat_written, written_followed}
 use Rattle.ps_tables.specs.Rows.{IsPlaced, HasRows, weigh, total, weigh_units, points_in, points_of, IsAmong, AreAmong, OwnNames, IsBelow, IsParted}
 use Rattle.ps_tables.proofs.Totals.{at_item, total_more, total_linear, row_bytes, symbol_bytes, symbols_total}
-use Rattle.ps_tables.proofs.NamesShort.{symbols_written, Spent, among_built_ins, spent_all, spends}
+use Rattle.ps_tables.proofs.NamesShort.{symbols_written}
+use Rattle.ps_tables.proofs.Spent.{Spent, among_built_ins, spent_all, spends}
 
 -- a function without its symbols: 382 bytes with 9 saved registers, and 62 for each point
 abbrev pub function_bytes : Program → ℕ → ℕ
@@ -76,7 +77,7 @@ module _ (p : Program) (at : Placement) (rows : HasRows p at) (built_ins : (s : 
   ss = p.symbols
 
   abbrev Used : (made v : ℕ) → Type 0
-  Used made v = Spent ss built_ins low three high made v
+  Used made v = Spent ss (symbol_bytes ss) built_ins low three high made v
 
   -- ---- points
 
@@ -93,7 +94,7 @@ module _ (p : Program) (at : Placement) (rows : HasRows p at) (built_ins : (s : 
         let b = point_short address q in
         let c = symbols_written fs ss rows.placed rows.symbols rows.few_symbols h homed (coming (length ss) ss made q.symbol) in
         let f = written_followed (opened p fs h made q) (point_code address q) in
-        record { after = v + weigh (symbol_bytes ss) (coming (length ss) ss made q.symbol); used = spends ss built_ins low three (length ss) high made v q.symbol links scope u; short = omega arith }
+        record { after = v + weigh (symbol_bytes ss) (coming (length ss) ss made q.symbol); used = spends ss (symbol_bytes ss) built_ins low three (length ss) high made v q.symbol links scope u; short = omega arith }
 
     points_cost : (made v : ℕ) (xs addresses : List ℕ) → AllByRecursion IsWord addresses → AllByRecursion (λ x. IsAmong low high (symbol_at (slice_get p.points x))) xs → Used made v
         → Costs (62 * length xs) (made_by p fs made xs addresses) v (points_code p fs h made xs addresses)
@@ -151,7 +152,7 @@ module _ (p : Program) (at : Placement) (rows : HasRows p at) (built_ins : (s : 
   unit_written u l scope =
       let c = functions_cost 0 0 u.functions scope (among_built_ins (omega arith) (omega arith)) in
       let s = c.short in
-      let t = spent_all ss built_ins low three high (made_behind 0 u.functions) c.after l c.used in
+      let t = spent_all ss (symbol_bytes ss) built_ins low three high (made_behind 0 u.functions) c.after l c.used in
       omega arith
 
 -- ---- units

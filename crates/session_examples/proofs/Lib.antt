@@ -1,3 +1,6 @@
 pub mod Computing
 pub mod BareTable
 pub mod PausedText
+pub mod HazardMachine
+pub mod Continuing
+pub mod HazardSession

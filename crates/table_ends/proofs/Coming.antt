@@ -37,6 +37,7 @@ use Rattle.ps_tables.specs.Tabled.{table_made, table_steps, IsTop, EndsAtTop, Ru
 use Rattle.ps_tables.proofs.Stores.{later_grown}
 use Rattle.ps_tables.proofs.MembersRun.{further_is}
 use Rattle.claims.specs.Tables.{RunsTable}
+use Rattle.table_ends.specs.Joined.{MakesTable}
 use Rattle.table_ends.proofs.Joining.{tables_run}
 use Rattle.ps_tables.specs.Rows.{HasRows, IsParted}
 use Rattle.ps_tables.specs.Within.{IsWithin, HasTypes}
@@ -178,9 +179,20 @@ there p at run low high short room few =
     let a = is_there p at run low high short room few in
     (a.0, a.1, claimed (table_text p at) at.target a.0 low high a.1)
 
-pub counted_come : (p : Program) (at : Placement) → HasRows p at → IsParted p → HasTypes p → IsWithin p → 1 ≤ at.target → at.target ≤ 2
-    → (s : StoreState) × IsTableOf (table_text p at) at.target (Ok s) × RunsTable loaded.store (table_text p at) at.target (Ok s)
+-- a run that comes to a store comes to no fault but want of memory
+only_memory : (text : List ℕ) (target : ℕ) → ((result : Result StoreState TableFault) → IsTableOf text target result → result ≢ Err NoMemory → (s : StoreState) × (result ≡ Ok s)) → (f : TableFault) → IsTableOf text target (Err f) → f ≡ NoMemory
+only_memory text target comes NoMemory h = refl
+only_memory text target comes Shape h = let is = (comes (Err Shape) h (λ e. cc)).1 in absurd cc
+only_memory text target comes Spent h = let is = (comes (Err Spent) h (λ e. cc)).1 in absurd cc
+only_memory text target comes (Raised e) h = let is = (comes (Err (Raised e)) h (λ f. cc)).1 in absurd cc
+
+pub counted_come : (p : Program) (at : Placement) → HasRows p at → IsParted p → HasTypes p → IsWithin p → 1 ≤ at.target → at.target ≤ 2 → MakesTable (table_text p at) at.target
 counted_come p at rows parted types within low high =
     let a = few_units p at rows parted within in
     let b = within.units in
-    there p at (runnable p at rows parted within types) low high (text_within p at rows parted within) (omega arith) (few_steps p at rows parted within)
+    let room : loaded.store.table.units + loaded.store.command.units + text_units (table_text p at) + table_made p at ≤ 8000000 = omega arith in
+    let run = runnable p at rows parted within types in
+    let short = text_within p at rows parted within in
+    let few = few_steps p at rows parted within in
+    let made = there p at run low high short room few in
+    record { store = made.0; comes = made.1; claimed = made.2; only = only_memory (table_text p at) at.target (result_is p at run low high short room few) }

@@ -24,3 +24,10 @@ RunsAs prelude text target (Err NoMemory) = Unit {0}
 abbrev pub TablesRun : Type 0
 TablesRun =
     (prelude : StoreState) (text : List ℕ) (target : ℕ) (r : Result StoreState TableFault) → prelude ≡ loaded.store → (target ≡ MIPS) ⊎ (target ≡ SPARC) → IsTableOf text target r → RunsAs prelude text target r
+
+-- A text is the table of a target: it comes to a store, as the claims have it too, and to no fault but want of memory.
+pub record MakesTable (text : List ℕ) (target : ℕ) : Type 0 where
+  pub store : StoreState
+  pub comes : IsTableOf text target (Ok store)
+  pub claimed : RunsTable loaded.store text target (Ok store)
+  pub only : (f : TableFault) → IsTableOf text target (Err f) → f ≡ NoMemory

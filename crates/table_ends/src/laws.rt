@@ -15,7 +15,7 @@ ghost use Rattle.table_run.specs.declared.run.TableFault.{TableFault};
 ghost use Rattle.table_run.specs.declared.run.TableFault.TheVariants.{NoMemory};
 ghost use Rattle.table_run.specs.Tables.{IsTableOf};
 ghost use Rattle.claims.specs.Tables.{RunsTable};
-ghost use Rattle.table_ends.specs.Joined.{TablesRun};
+ghost use Rattle.table_ends.specs.Joined.{MakesTable, TablesRun};
 
 /// The store to which a table's text comes is one that the claims on whole sessions take the text to, behind the store that the prelude
 /// leaves, and so is the fault; but a table that left something in the part of commands is of another shape.
@@ -29,7 +29,7 @@ pub fn tables_come()
     ensures there { (p : Program) (at : Placement) → Runnable p at → 1 ≤ at.target → at.target ≤ 2 → length (table_text p at) ≤ 16777216 → loaded.store.table.units + loaded.store.command.units + text_units (table_text p at) + table_made p at ≤ 8000000 → table_steps p at + 2 ≤ 10000000 → (s : StoreState) × IsTableOf (table_text p at) at.target (Ok s) × RunsTable loaded.store (table_text p at) at.target (Ok s) }
 {}
 
-/// So it is of each program whose rows keep to names and words, whose units have their own functions, points and names, whose types run, and which costs not too much: placed in such rows for MIPS or SPARC, it has a table, and the claims on whole sessions have it.
+/// So it is of each program whose rows keep to names and words, whose units have their own functions, points and names, whose types run, and which costs not too much: placed in such rows for MIPS or SPARC, its text comes to a table, which the claims on whole sessions have, and to no fault but want of memory.
 pub fn counted_tables_come()
-    ensures { (p : Program) (at : Placement) → HasRows p at → IsParted p → HasTypes p → IsWithin p → 1 ≤ at.target → at.target ≤ 2 → (s : StoreState) × IsTableOf (table_text p at) at.target (Ok s) × RunsTable loaded.store (table_text p at) at.target (Ok s) }
+    ensures { (p : Program) (at : Placement) → HasRows p at → IsParted p → HasTypes p → IsWithin p → 1 ≤ at.target → at.target ≤ 2 → MakesTable (table_text p at) at.target }
 {}

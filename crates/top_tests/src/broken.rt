@@ -1,9 +1,12 @@
 // Sessions over links of which one call goes wrong.
+ghost use Rattle.std.specs.Prelude.{◌≡◌, ◌⊎◌, length};
 
+use crate::other_frame::OtherFrameFails;
 use ldb_cc::{Aim, Built, compile};
 use ldb_edge::MemSink;
 use ldb_words::Text;
 use near_link::{FaultyLink, Mishap, NearLink};
+use nub_wire::Link;
 use obj_file::Image;
 use ps_store::PsStore;
 use session::{Answer, End, Session, StartFault};
@@ -26,22 +29,22 @@ pub struct Wrong<'a> {
     pub told: &'a [u8],
 }
 
-/// What a session came to: it didn't begin; a reply was `target`, and it had ended from then on; all was as told; or something else.
+/// What a session came to: it didn't begin; the reply of this number, from 1 on, was `target`, and it had ended from then on; all was as told; or something else.
 #[derive(Clone, Copy, PartialEq, Eq)]
 enum Came {
     NotBegun,
-    Broken,
+    Broken(usize),
     AsTold,
     Otherwise,
 }
 
 impl Came {
-    fn name(self) -> &'static str {
+    fn append_to(self, alloc: Global, out: &mut Vec<u8>) -> Result<(), AllocError> {
         match self {
-            Came::NotBegun => "start ",
-            Came::Broken => "target ",
-            Came::AsTold => "told ",
-            Came::Otherwise => "otherwise ",
+            Came::NotBegun => append(out, "start "),
+            Came::Broken(number) => append(out, format!(in alloc; "{number} ")?.as_str()),
+            Came::AsTold => append(out, "told "),
+            Came::Otherwise => append(out, "otherwise "),
         }
     }
 }
@@ -49,32 +52,32 @@ impl Came {
 /// What a session came to, from the right transcript and its own.
 fn judged(told: &str, said: &str) -> Came {
     let mut wanted = told.split('\n');
-    let mut is_broken = false;
-    for line in said.split('\n') {
-        let want = wanted.next();
-        let is_right = match (is_broken, want) {
+    let mut broken = None;
+    for (before, line) in said.split('\n').enumerate() {
+        let is_right = match (broken, wanted.next()) {
             (_, None) => false,
-            (true, Some(_)) => line == "refused ended" || line == "",
-            (false, Some(want)) => {
-                is_broken = line == "target";
-                is_broken || line == want
+            (Some(_), Some(_)) => line == "refused ended" || line == "",
+            (None, Some(_)) if line == "target" => {
+                broken = Some(before.saturating_add(1));
+                true
             }
+            (None, Some(want)) => line == want,
         };
         if !is_right {
             return Came::Otherwise;
         }
     }
-    match (wanted.next(), is_broken) {
+    match (wanted.next(), broken) {
         (Some(_), _) => Came::Otherwise,
-        (None, true) => Came::Broken,
-        (None, false) => Came::AsTold,
+        (None, Some(number)) => Came::Broken(number),
+        (None, None) => Came::AsTold,
     }
 }
 
 /// The transcript of commands, and whether `quit` ends the session behind them.
-fn transcript_of(
+fn transcript_of<L: Link + Drop>(
     alloc: Global,
-    session: &mut Session<FaultyLink>,
+    session: &mut Session<L>,
     commands: &[u8],
 ) -> Result<(Vec<u8>, bool), AllocError> {
     let mut output = MemSink::new(Vec::new(alloc), Vec::new(alloc));
@@ -109,14 +112,14 @@ impl Wrong<'_> {
         Ok((images, tables))
     }
 
-    /// What the session comes to over a link to these images of which call number `at` goes wrong.
-    fn came_to(
+    /// A link to these images, and the stores that their tables leave.
+    fn started(
         &self,
         images: &[Image],
         tables: &[Text],
-        at: u64,
-        how: Mishap,
-    ) -> Result<Came, AllocError> {
+    ) -> Result<(NearLink, Vec<PsStore>), AllocError>
+        requires { (length images.now ≡ 1) ⊎ (length images.now ≡ 2) }
+    {
         let alloc = self.alloc;
         let mut stores = Vec::new(alloc);
         for (image, table) in images.iter().zip(tables) {
@@ -124,15 +127,57 @@ impl Wrong<'_> {
                 stores.push(store)?;
             }
         }
-        if images.len() != 1 && images.len() != 2 {
-            return Ok(Came::Otherwise);
-        }
-        let near = NearLink::new(alloc, images, Vec::new(alloc))?;
+        Ok((NearLink::new(alloc, images, Vec::new(alloc))?, stores))
+    }
+
+    /// Whether call number `at` of the session gives the first bytes of another frame than Done's.
+    fn begins_other(
+        &self,
+        near: NearLink,
+        stores: Vec<PsStore>,
+        at: u64,
+    ) -> Result<bool, AllocError> {
+        Ok(self.came_over(OtherFrameFails::new(near, at), stores)? != Came::AsTold)
+    }
+
+    /// What the session comes to over a link of which call number `at` goes wrong.
+    fn came_wrong(
+        &self,
+        near: NearLink,
+        stores: Vec<PsStore>,
+        at: u64,
+        how: Mishap,
+    ) -> Result<Came, AllocError> {
         self.came_over(FaultyLink::new(near, at, how), stores)
     }
 
+    /// What the session comes to over a link to these images of which call number `at` goes wrong. Done comes only in the place of the first bytes of another frame: where the call gives no such, all is as told.
+    fn came_to(
+        &self,
+        images: &[Image],
+        tables: &[Text],
+        at: u64,
+        how: Mishap,
+    ) -> Result<Came, AllocError> {
+        if images.len() != 1 && images.len() != 2 {
+            return Ok(Came::Otherwise);
+        }
+        if how == Mishap::Done {
+            let (near, stores) = self.started(images, tables)?;
+            if !self.begins_other(near, stores, at)? {
+                return Ok(Came::AsTold);
+            }
+        }
+        let (near, stores) = self.started(images, tables)?;
+        let came = self.came_wrong(near, stores, at, how)?;
+        match (how, came) {
+            (Mishap::Done, Came::AsTold) => Ok(Came::Otherwise),
+            _ => Ok(came),
+        }
+    }
+
     /// What the session over a link comes to, with these tables.
-    fn came_over(&self, link: FaultyLink, stores: Vec<PsStore>) -> Result<Came, AllocError> {
+    fn came_over<L: Link + Drop>(&self, link: L, stores: Vec<PsStore>) -> Result<Came, AllocError> {
         let alloc = self.alloc;
         let mut session = match Session::start(alloc, link, stores, &[], false) {
             Ok(session) => session,
@@ -159,14 +204,16 @@ impl Wrong<'_> {
             if came == Came::AsTold {
                 waiting = waiting.saturating_add(1);
                 if waiting == MOST_TOLD {
-                    append(out, came.name())?;
+                    came.append_to(self.alloc, out)?;
                     break;
                 }
             } else {
-                unnoticed = unnoticed.saturating_add(waiting);
+                if how != Mishap::Done {
+                    unnoticed = unnoticed.saturating_add(waiting);
+                }
                 waiting = 0;
                 if came != before {
-                    append(out, came.name())?;
+                    came.append_to(self.alloc, out)?;
                     before = came;
                 }
             }
@@ -190,6 +237,7 @@ impl Wrong<'_> {
     ) -> Result<(), AllocError> {
         let how = match how {
             b"fails" => Mishap::Fail,
+            b"done" => Mishap::Done,
             _ => Mishap::Silent,
         };
         match target {

@@ -3,6 +3,7 @@
 
 mod broken;
 mod edge;
+mod other_frame;
 mod own;
 mod sessions;
 

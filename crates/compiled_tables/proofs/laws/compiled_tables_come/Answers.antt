@@ -1,9 +1,7 @@
-use Rattle.std.proofs.Common.{◌≡◌, ◌∙◌, sym, subst, ℕ, ◌+◌, ◌≤◌, List, length, Ok, arith}
+use Rattle.std.proofs.Common.{◌≡◌, ◌∙◌, sym, subst, ℕ, ◌+◌, ◌≤◌, List, length, arith}
 use Rattle.c_lex.specs.Grammar.{start}
 use Rattle.c_typing.specs.Programs.{KeepsRules}
-use Rattle.ps_print.specs.Loaded.{loaded}
-use Rattle.claims.specs.Tables.{RunsTable}
-use Rattle.table_run.specs.Tables.{IsTableOf}
+use Rattle.table_ends.specs.Joined.{MakesTable}
 use Rattle.c_file.specs.Programs.{tags_of}
 use Rattle.ldb_cc.specs.Sources.{IsTree}
 use Rattle.ldb_cc.specs.Table.{placement_of}
@@ -18,7 +16,7 @@ use Rattle.compiled_tables.proofs.Compiled.{few_statics, within, types, parted, 
 use Rattle.compiled_tables.proofs.laws.compiled_tables_come.Goals as goal
 
 pub returns : goal.returns
-returns c aim names texts image table built long files affordable =
+returns c aim names texts image table built long sixteen files =
     let p = built.program in
     let is = built.is_program in
     let q = is.2.1.behind in
@@ -27,8 +25,9 @@ returns c aim names texts image table built long files affordable =
     let keeps : KeepsRules p = c.checked_programs_are_accepted.ensures names is.0 p is.2 as_long (of_texts _ (c.files_are_texts.ensures start) texts is.0 is.1.trees) in
     let identifiers : HasIdentifiers p = c.names_are_identifiers.ensures names is.0 p (of_texts IsOfText (λ text ts u h lexes unit. (text, ts, h, lexes, unit)) texts is.0 is.1.trees) is.2 in
     let short = spelled_shortly c.programs_have_few_tokens.ensures.joined c.one_reading.ensures.tokens texts is.0 is.1.few.0 40000 is.1.trees is.1.few.1.tokens is.1.few.2 in
+    let affordable = c.programs_are_affordable.ensures names is.0 short.0 p short.1 is.2 sixteen short.2 in
     let tokens : program_tokens p ≤ 40000 = omega (arith, c.programs_have_few_tokens.ensures.fewest names is.0 short.0 p short.1 is.2, short.2) in
-    let statics : length p.objects + length p.strings ≤ 40000 = omega (arith, few_statics q names p rows (tags_of is.0) is.0 short.0 short.1 is.2.1.files, short.2) in
+    let statics : length p.objects + length p.strings ≤ 40000 = omega (arith, few_statics q names p rows is.0 short.0 short.1 is.2.1.files, short.2) in
     let at = placement_of aim built.rows in
     let linked = built.image_of.linked in
     let runs_structs = c.accepted_types_run.ensures.structs p keeps in
@@ -41,8 +40,5 @@ returns c aim names texts image table built long files affordable =
     (types q names p at rows keeps tokens c.accepted_types_run.ensures.types runs_structs runs_objects files identifiers affordable statics)
     (within q names p at rows keeps tokens c.accepted_types_run.ensures.types runs_structs runs_objects files identifiers affordable statics)
     (low_byte aim) (high_byte aim) in
-    let target = built.image_of.is_for.target in (
-      come.0,
-      subst (λ (text : List ℕ). IsTableOf text image.target (Ok come.0)) (sym built.table_is) (subst (λ (n : ℕ). IsTableOf (table_text p at) n (Ok come.0)) (sym target) come.1),
-      subst (λ (text : List ℕ). RunsTable loaded.store text image.target (Ok come.0)) (sym built.table_is) (subst (λ (n : ℕ). RunsTable loaded.store (table_text p at) n (Ok come.0)) (sym target) come.2),
-    )
+    let target = built.image_of.is_for.target in
+    subst (λ (text : List ℕ). MakesTable text image.target) (sym built.table_is) (subst (MakesTable (table_text p at)) (sym target) come)

@@ -32,7 +32,7 @@ returns-in-Err-clause-cause g c = inr (c.in-Err.ensures.cause c.args.request.now
 
 pub returns-in-Ok-read_input-clause-cause : goal.returns-in-Ok-read_input-clause-cause
 returns-in-Ok-read_input-clause-cause g c =
-    go_ends (g.F.Files.missed c.read_input.new.files) c.args.request.now.input.now _ _ (names_in_go c.args.request.now).aim (names_in_go c.args.request.now).about (map items_of c.deref.result.now) c.open_texts.result c.open_texts.ensures.builds
+    go_ends (g.F.Files.missed c.read_input.new.files) c.args.request.now.input.now _ _ (names_in_go c.args.request.now).about (map items_of c.deref.result.now) c.open_texts.result c.open_texts.ensures.builds
     (c.in-Ok-read_input.ensures.cause ∙ c.in-Ok.ensures.cause)
 
 pub returns-clause-cause : goal.returns-clause-cause

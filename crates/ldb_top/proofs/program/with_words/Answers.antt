@@ -2,7 +2,11 @@ use Rattle.std.proofs.Common.{map, string_bytes, refl, sym, ap, ◌∙◌, Some}
 use Rattle.ldb_top.specs.declared.words.Request.{Request}
 use Rattle.ldb_top.specs.Words.{Debug, Go, Own, form_of, form_in}
 use Rattle.ldb_top.proofs.Left.{left_debug, left_go, made_in, unprinted, made_front}
+use Rattle.ldb_top.proofs.Sources.{source_names}
 use Rattle.ldb_top.proofs.program.with_words.Goals as goal
+
+pub run_go-requires : goal.run_go-requires
+run_go-requires g c = source_names (map string_bytes c.args.words.now) _ c.in-Some-Go.request c.in-Some-Go.field-0-is c.in-Some-Go.ensures.form c.in-Some-Go.ensures.named
 
 pub returns-in-Some-Debug-clause-files : goal.returns-in-Some-Debug-clause-files
 returns-in-Some-Debug-clause-files g c = left_debug (map string_bytes c.args.words.now) _ c.in-Some-Debug.request _ _ c.in-Some-Debug.field-0-is c.in-Some-Debug.ensures.form c.in-Some-Debug.ensures.named c.run_debug.ensures.kept

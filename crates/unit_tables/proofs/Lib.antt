@@ -1,0 +1,12 @@
+pub mod Numbered
+pub mod Elsewhere
+pub mod Amended
+pub mod Staying
+pub mod Types
+pub mod Exactly
+pub mod Symbols
+pub mod Points
+pub mod Functions
+pub mod Units
+pub mod Forced
+pub mod Bounded
