@@ -5,7 +5,6 @@ use Rattle.c_tree.specs.declared.types.CType.{CType}
 use Rattle.c_tree.specs.declared.types.CType.TheVariants.{Array', Struct}
 use Rattle.c_tree.specs.declared.types.StructDef.{StructDef}
 use Rattle.c_tree.specs.declared.types.Member.{Member}
-use Rattle.ps_text.specs.Code.{Code}
 use Rattle.ps_emit.specs.Terms.{◌⋯◌, word, name, integer, number}
 use Rattle.ps_emit.specs.Grown.{Grows}
 use Rattle.ps_emit.proofs.Followed.{◌and◌}
