@@ -2,14 +2,13 @@
 use Rattle.std.proofs.Common.{◌≡◌, refl, sym, subst, ℕ, List, ◌++◌, codes, pos, length}
 use Rattle.std.specs.Fmt.{digits}
 use Rattle.c_tree.specs.declared.types.CType.{CType}
-use Rattle.c_tree.specs.declared.types.CType.TheVariants.{Array', Struct}
+use Rattle.c_tree.specs.declared.types.CType.TheVariants.{Array'}
 use Rattle.c_tree.specs.declared.types.StructDef.{StructDef}
 use Rattle.c_tree.specs.declared.types.Member.{Member}
 use Rattle.ps_emit.specs.Terms.{◌⋯◌, word, name, integer, number}
 use Rattle.ps_emit.specs.Grown.{Grows}
 use Rattle.ps_emit.proofs.Followed.{◌and◌}
 use Rattle.expr_serve.specs.Types.{begun, with_structs, ended, array_begun, row_begun, with_size, with_members, bytes_of, type_code, row_code, each_row, filled_struct, filled_structs, struct_leaves}
-use Rattle.expr_serve.specs.Codes.{all_leaves}
 use Rattle.expr_serve.proofs.Growing.{grown}
 
 module _ (defs : List StructDef) where
@@ -19,9 +18,6 @@ module _ (defs : List StructDef) where
       subst (λ z. Grows (type_code defs z) a h) (sym is)
       (grown array_begun p refl and (subst (λ z. Grows (integer (pos (bytes_of defs z))) b c) is size and (grown (name "count") q refl
       and (count and (grown (name "to") r refl and (subst (λ z. Grows (type_code defs z) f g) same made and s))))))
-
-  pub struct_arm : (s : ℕ) (t : CType) {a b c : List ℕ} → t ≡ Struct s → Grows (number s) a b → Grows (word "load") b c → Grows (type_code defs t) a c
-  struct_arm s t {a} {b} {c} is g h = subst (λ z. Grows (type_code defs z) a c) (sym is) (g and h)
 
   pub row_grown : (m : Member) {a b c d e : List ℕ} → b ≡ a ++ codes "[ () " → Grows (number m.at) b c → Grows (type_code defs m.ctype) c d → Grows (word "]") d e → Grows (row_code defs m) a e
   row_grown m p at made q = grown row_begun p refl and (at and (made and q))
@@ -36,6 +32,3 @@ module _ (defs : List StructDef) where
       → Grows (struct_leaves defs s) a g
   unfolding digits
   leaves_grown s p count q filled n r = grown begun p refl and (count and (grown with_structs q refl and (filled and (n and grown ended r refl))))
-
-  pub leaves_of_struct : (s : ℕ) (t : CType) {a b : List ℕ} → t ≡ Struct s → Grows (struct_leaves defs s) a b → Grows (all_leaves defs t) a b
-  leaves_of_struct s t {a} {b} is g = subst (λ z. Grows (all_leaves defs z) a b) (sym is) g

@@ -1,5 +1,5 @@
 use Rattle.std.proofs.lemmas.Result.{on_ok_weaker}
-use Rattle.expr_serve.proofs.Making.{array_arm, struct_arm}
+use Rattle.expr_serve.proofs.Making.{array_arm}
 use Rattle.expr_serve.proofs.types.+add_type.Goals as goal
 
 pub returns-in_ok-add_type-in-Array : goal.returns-in_ok-add_type-in-Array
