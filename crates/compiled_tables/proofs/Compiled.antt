@@ -1,5 +1,5 @@
 -- The table of an accepted program runs.
-use Rattle.std.proofs.Common.{◌≡◌, ℕ, zero, suc, ◌+◌, ◌*◌, ◌<◌, ◌≤◌, ◌^◌, List, [], ◌∷◌, length, map, sum, Some, slice_get, sym, ap, subst, arith}
+use Rattle.std.proofs.Common.{◌≡◌, ℕ, zero, suc, ◌+◌, ◌*◌, ◌<◌, ◌≤◌, ◌^◌, List, [], ◌∷◌, length, map, sum, Some, slice_get, sym, ap, ◌∙◌, subst, arith}
 use Rattle.std.specs.List.{AllByRecursion}
 use Rattle.c_tree.specs.declared.types.CType.{CType}
 use Rattle.c_tree.specs.declared.types.StructDef.{StructDef}
@@ -8,6 +8,7 @@ use Rattle.c_tree.specs.declared.rows.UnitRow.{UnitRow}
 use Rattle.c_tree.specs.declared.rows.ObjectRow.{ObjectRow}
 use Rattle.c_tree.specs.declared.rows.SymbolRow.{SymbolRow}
 use Rattle.c_tree.specs.declared.rows.Function.{Function}
+use Rattle.c_tree.specs.declared.rows.Point.{Point}
 use Rattle.c_tree.specs.declared.rows.Referent.{Referent}
 use Rattle.c_tree.specs.declared.rows.Referent.TheVariants as refers
 use Rattle.c_typing.specs.Written.{IsFormed}
@@ -36,7 +37,9 @@ use Rattle.compiled_tables.specs.Conditions.{AreFileNames, IsAffordable}
 use Rattle.compiled_tables.proofs.Identifiers.{regular, named}
 use Rattle.compiled_tables.proofs.Tokens.{sum_more, few_structs, few_members}
 use Rattle.compiled_tables.proofs.Types.{type_words, structs_are_rows, symbols_are_rows}
-use Rattle.compiled_tables.proofs.Parts.{as_many, functions_parted, points_parted}
+use Rattle.compiled_tables.proofs.Files.{stop_count}
+use Rattle.compiled_tables.proofs.FileRows.{all_cost}
+use Rattle.compiled_tables.proofs.Parts.{as_many, points_long, functions_parted, points_parted}
 use Rattle.compiled_tables.proofs.Units.{units_fit}
 use Rattle.compiled_tables.specs.Weights.{Rates, AreCovered, total}
 use Rattle.compiled_tables.proofs.Costs.{of_defined}
@@ -50,13 +53,13 @@ strings_fit q n (t ∷ ts) h l = let s = sum_more (made.string_room q) t ts in (
 
 -- ---- files
 
-files_short : (q : State) (u : ℕ) (names : List (List ℕ)) (us : List UnitRow) → made.AreUnits q u names us → AreFileNames names → AllByRecursion (λ (r : UnitRow). length r.file ≤ 255) us
+pub files_short : (q : State) (u : ℕ) (names : List (List ℕ)) (us : List UnitRow) → made.AreUnits q u names us → AreFileNames names → AllByRecursion (λ (r : UnitRow). length r.file ≤ 255) us
 files_short q u [] [] h s = tt
 files_short q u [] (r ∷ us) h s = absurd h
 files_short q u (n ∷ ns) [] h s = absurd h
 files_short q u (n ∷ ns) (r ∷ us) h s = (let e : length r.file ≡ length n = ap (λ (l : List ℕ). length l) h.0 in let b : length n ≤ 255 = s.0 in omega arith, files_short q (suc u) ns us h.2 s.1)
 
-file_short : (us : List UnitRow) (i : ℕ) → AllByRecursion (λ (r : UnitRow). length r.file ≤ 255) us → length (file_in (slice_get us i)) ≤ 255
+pub file_short : (us : List UnitRow) (i : ℕ) → AllByRecursion (λ (r : UnitRow). length r.file ≤ 255) us → length (file_in (slice_get us i)) ≤ 255
 file_short [] i h = omega arith
 file_short (r ∷ us) zero h = h.0
 file_short (r ∷ us) (suc i) h = file_short us i h.1
@@ -89,29 +92,32 @@ symbols_cost (s ∷ ss) = let a = symbols_cost ss in let b = one s.refers s.ctyp
     one (refers.Function f) t = omega arith
     one refers.Declared t = omega arith
 
-few_symbols : (p : Program) → IsAffordable p → length p.symbols < 2 ^ 32
+pub few_symbols : (p : Program) → IsAffordable p → length p.symbols < 900000
 few_symbols p h = let a = symbols_cost p.symbols in let b = h.bytes in omega arith
 
--- static objects and strings are tokens
+-- static objects, strings, functions and points are tokens
 
-abbrev statics : Rates
-statics = record { constructor = 0; object = 1; object_symbol = 0; symbol = 0; point = 0; function = 0; struct = 0; member = 0; string = 1; token = 1 }
+abbrev items : Rates
+items = record { constructor = 0; object = 1; object_symbol = 0; symbol = 0; point = 1; function = 1; struct = 0; member = 0; string = 1; token = 1 }
 
-statics_covered : AreCovered statics
-statics_covered = record { string = omega arith; struct = omega arith; constructor = omega arith; point = omega arith; local = omega arith; member = omega arith; object = omega arith; declared = omega arith; function = omega arith }
+items_covered : AreCovered items
+items_covered = record { string = omega arith; struct = omega arith; constructor = omega arith; point = omega arith; local = omega arith; member = omega arith; object = omega arith; declared = omega arith; function = omega arith }
 
-objects_counted : (q : State) (ds : List Defining) → total (of_defined statics q) ds ≡ length ds
+objects_counted : (q : State) (ds : List Defining) → total (of_defined items q) ds ≡ length ds
 objects_counted q [] = omega arith
 objects_counted q (d ∷ ds) = omega (arith, objects_counted q ds)
 
-pub few_statics : (q : State) (names : List (List ℕ)) (p : Program) (rows : made.HasRows q names p) (us : List (List External)) (tss : List (List Terminal)) → AreSpelled us tss
-    → AllFiles (tags_of us) (at_first (tags_of us)) us Well q → length p.objects + length p.strings ≤ terminals_in tss
-few_statics q names p rows us tss s h =
-    let a = few_tokens_weigh statics statics_covered q us h tss (terminals_in tss) s (omega arith) in
+pub few_items : (q : State) (names : List (List ℕ)) (p : Program) (rows : made.HasRows q names p) (us : List (List External)) (tss : List (List Terminal)) → AreSpelled us tss
+    → AllFiles (tags_of us) (at_first (tags_of us)) us Well q → length p.objects + length p.strings + length p.functions + length p.points ≤ terminals_in tss
+few_items q names p rows us tss s h =
+    let a = few_tokens_weigh items items_covered q us h tss (terminals_in tss) s (omega arith) in
     let b = objects_counted q (made.objects q) in
     let c = as_many (made.IsObjectOf q) (made.objects q) p.objects rows.objects in
     let d : length p.strings ≡ length q.strings = ap (λ (l : List (List ℕ)). length l) rows.strings in
-    omega (arith, a, b, c, d)
+    let e = as_many (made.IsFunctionOf q) q.bodies p.functions rows.functions in
+    let f : length p.points ≡ stop_count q.bodies = ap (λ (l : List Point). length l) rows.points ∙ points_long q 0 q.bodies in
+    let g = (all_cost items items_covered us q h).points in
+    omega (arith, a, b, c, d, e, f, g)
 
 module _ (q : State) (names : List (List ℕ)) (p : Program) (at : Placement) (rows : made.HasRows q names p) (keeps : KeepsRules p) (tokens : program_tokens p ≤ 40000)
     (runs_types : (defs : List StructDef) (t : CType) → IsFormed defs t → RunsType defs t) (runs_structs : AllByRecursion (RunsRow p.defs) p.defs)
@@ -143,7 +149,7 @@ module _ (q : State) (names : List (List ℕ)) (p : Program) (at : Placement) (r
   has_rows anchors placed one =
       let o = statics in
       let f = few in
-      let many = few_symbols p affordable in
+      let many : length p.symbols < 2 ^ 32 = let l = few_symbols p affordable in omega arith in
       let room = rows.room in
       let strings : AllByRecursion (λ t. length t < 2 ^ 30) q.strings = strings_fit q 1048576 q.strings (omega arith) (omega arith) in
       record {

@@ -16,7 +16,7 @@ use Rattle.c_statement.specs.declared.unit.External.TheVariants.{Declaration, De
 use Rattle.c_typing.specs.Plain.{Plain, Struct}
 use Rattle.c_typing.specs.Expressions.{Denoted}
 use Rattle.c_judge.specs.Answers.{Answer, Known, Unknown, Broken}
-use Rattle.c_scope.specs.Environment.{Row, Visible, Environment, scope_of, struct_of}
+use Rattle.c_scope.specs.Environment.{Row, Visible, Environment, enter, scope_of, struct_of}
 use Rattle.c_scope.specs.Findings.{Finding, ◌beside◌}
 use Rattle.c_scope.specs.Declarators.{Shape, Object, Function, Parameter}
 use Rattle.c_judge.specs.Judgement.{spec_type, limited}
@@ -27,6 +27,7 @@ use Rattle.c_body.specs.Bodies.{after}
 use Rattle.c_file.specs.Names.{FileName}
 use Rattle.c_file.specs.Files.{State, Bodied, with_name, with_initial, with_definition, with_strings, row_of, after_what, what, after_name, after_all, body_environment, bodied, function_row, with_head, behind_body, after_function, with_spec, behind_known, Externals, Onward, AllExternals}
 use Rattle.compiled_tables.proofs.Owned.{all_append, Holds, Goes, goes_up, stays, goes_on, declares, leaves, along, AllStops, stops_wider, body_among, parameters_along, units_along, parameters_unit}
+use Rattle.compiled_tables.proofs.Scopes.{Passes, passes_none, passes_then, passes_declared, passes_left, body_passes, parameters_pass}
 
 -- ---- a declaration's type changes no names
 
@@ -92,6 +93,15 @@ abbrev pub stop_count : List Bodied → ℕ
 stop_count [] = 0
 stop_count (b ∷ bs) = length (stops_in b) + stop_count bs
 
+-- the points of bodies
+abbrev pub all_stops : List Bodied → List Stop
+all_stops [] = []
+all_stops (b ∷ bs) = stops_in b ++ all_stops bs
+
+all_stops_append : (xs ys : List Bodied) → all_stops (xs ++ ys) ≡ all_stops xs ++ all_stops ys
+all_stops_append [] ys = refl
+all_stops_append (x ∷ xs) ys = ap (λ (l : List Stop). stops_in x ++ l) (all_stops_append xs ys) ∙ sym (append_assoc (stops_in x) (all_stops xs) (all_stops ys))
+
 -- so many points stand before each body
 abbrev pub Counted : ℕ → List Bodied → Type 0
 Counted n [] = Unit {0}
@@ -128,9 +138,10 @@ module _ (low : ℕ) where
     pub own : AllByRecursion (IsOwn p.here.unit (length q.here.names)) new
     pub counted : Counted p.points new
     pub points : q.points ≡ p.points + stop_count new
+    pub passes : Passes p.here.names q.here.names p.here.visible q.here.visible (all_stops new)
 
   pub onto_self : (p : State) → Held p → Onto p p
-  onto_self p h = record { goes = stays low p.here.names p.here.visible h; unit = refl; new = []; bodies = sym (append-nil p.bodies); own = tt; counted = tt; points = omega arith }
+  onto_self p h = record { goes = stays low p.here.names p.here.visible h; unit = refl; new = []; bodies = sym (append-nil p.bodies); own = tt; counted = tt; points = omega arith; passes = passes_none p.here.names p.here.visible }
 
   pub onto_then : (p q r : State) → Onto p q → Onto q r → Onto p r
   onto_then p q r a b =
@@ -148,6 +159,7 @@ module _ (low : ℕ) where
         own = all_append (IsOwn p.here.unit (length r.here.names)) a.new b.new one two;
         counted = counted_append p.points a.new b.new a.counted (subst (λ n. Counted n b.new) x b.counted);
         points = omega arith;
+        passes = subst (Passes p.here.names r.here.names p.here.visible r.here.visible) (sym (all_stops_append a.new b.new)) (passes_then a.passes b.passes);
       }
 
   -- where names, bodies and points are the same
@@ -169,6 +181,8 @@ module _ (low : ℕ) where
         own = subst (λ (ns : List Row). AllByRecursion (IsOwn p.here.unit (length ns)) a.new) (sym s.names) a.own;
         counted = a.counted;
         points = s.points ∙ a.points;
+        passes = subst (λ (vs : List Visible). Passes p.here.names r.here.names p.here.visible vs (all_stops a.new)) (sym s.visible)
+            (subst (λ (ns : List Row). Passes p.here.names ns p.here.visible q.here.visible (all_stops a.new)) (sym s.names) a.passes);
       }
 
   held_alike : (p q : State) → Alike p q → Held p → Held q
@@ -177,7 +191,7 @@ module _ (low : ℕ) where
   -- ---- declared names
 
   named_onto : (p : State) (f : FileName) → Held p → Onto p (with_name p f)
-  named_onto p f h = record { goes = declares low p.here _ _ _ h; unit = refl; new = []; bodies = sym (append-nil p.bodies); own = tt; counted = tt; points = omega arith }
+  named_onto p f h = record { goes = declares low p.here _ _ _ h; unit = refl; new = []; bodies = sym (append-nil p.bodies); own = tt; counted = tt; points = omega arith; passes = passes_declared p.here _ _ _ }
 
   initial_alike : (s : Storage) (p : State) (f : FileName) (i : Option InitialTree) → Alike p (with_initial s p f i)
   initial_alike s p f None = record { names = refl; visible = refl; unit = refl; bodies = refl; points = refl }
@@ -219,6 +233,7 @@ module _ (low : ℕ) where
         own = (record { unit_is = u; among = body_among low (length w.names) v x entered.holds (omega arith) }, tt);
         counted = (refl, tt);
         points = omega arith;
+        passes = subst (Passes p.here.names w.names p.here.visible p.here.visible) (sym (append-nil (stops_of v x))) (passes_left (passes_then (parameters_pass (record (enter p.here) { locals = 0 }) ps) (body_passes v x)));
       }
 
   function_onto : (s : Storage) (d : DeclaratorTree) (x : StatementTree) (p : State) (a : Shape) → Held p → Onto p (after_function s d x p a)

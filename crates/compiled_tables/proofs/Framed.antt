@@ -34,7 +34,8 @@ use Rattle.ldb_cc.specs.declared.aim.Aim.{Aim}
 use Rattle.ldb_cc.specs.declared.aim.Aim.TheVariants.{Mips, Sparc}
 use Rattle.ldb_cc.specs.Built.{IsEmitted, IsImageOf}
 use Rattle.ps_tables.proofs.Totals.{at_item}
-use Rattle.ps_emit.specs.Lengths.{IsWord, IsInteger, IsPlace}
+use Rattle.ps_emit.specs.Lengths.{IsInteger}
+use Rattle.unit_tables.specs.Symbols.{RunsPlace}
 use Rattle.compiled_tables.specs.Conditions.{IsFramed}
 
 -- a difference of small numbers is one of the dialect's integers
@@ -108,22 +109,22 @@ module _ (linkage : ℕ) (f : SlotFunction) where
 -- ---- rows
 
 module _ (size : ℕ) (few : size ≤ GREATEST_FRAME) where
-  slot_place : (places : List ℕ) (x : ℕ) → AllByRecursion IsSmall places → IsPlace (Some (slot_by size (slice_get places x)))
+  slot_place : (places : List ℕ) (x : ℕ) → AllByRecursion IsSmall places → RunsPlace (Some (slot_by size (slice_get places x)))
   slot_place places x h = by (slice_get places x) refl
     where
-      by : (o : Option ℕ) → slice_get places x ≡ o → IsPlace (Some (slot_by size o))
+      by : (o : Option ℕ) → slice_get places x ≡ o → RunsPlace (Some (slot_by size o))
       by None e = nothing
       by (Some at) e = integer at size (let s = at_item IsSmall places x at h e in omega arith) (omega arith)
 
-  places_fit : (f : FlatFunction) → f.frame ≡ size → AllByRecursion IsSmall f.locals → (x : ℕ) (ls : List SlotLocal) → AllByRecursion IsLocal ls → AllByRecursion (λ l. IsPlace (Some l)) (local_places f x ls)
+  places_fit : (f : FlatFunction) → f.frame ≡ size → AllByRecursion IsSmall f.locals → (x : ℕ) (ls : List SlotLocal) → AllByRecursion IsLocal ls → AllByRecursion (λ l. RunsPlace (Some l)) (local_places f x ls)
   places_fit f e h x [] w = tt
   places_fit f e h x (l ∷ ls) w = (by l.home w.0.3, places_fit f e h (suc x) ls w.1)
     where
-      by : (k : Home) → (elim k as (λ h. Type 0) [ Block ↦ Unit {0} | Register r ↦ (r < 8) × IsScalar l ]) → IsPlace (Some (place_by f.frame (slice_get f.locals x) k))
-      by Block u = subst (λ n. IsPlace (Some (slot_by n (slice_get f.locals x)))) (sym e) (slot_place f.locals x h)
+      by : (k : Home) → (elim k as (λ h. Type 0) [ Block ↦ Unit {0} | Register r ↦ (r < 8) × IsScalar l ]) → RunsPlace (Some (place_by f.frame (slice_get f.locals x) k))
+      by Block u = subst (λ n. RunsPlace (Some (slot_by n (slice_get f.locals x)))) (sym e) (slot_place f.locals x h)
       by (Register r) u = let l = u.0 in omega arith
 
-  saved_fit : (ss : List (ℕ × ℕ)) → AllByRecursion (λ s. (s.0 < 32) × (s.1 ≤ 96)) ss → AllByRecursion (λ s. IsWord s.0 × IsInteger s.1) (map (saved_place size) ss)
+  saved_fit : (ss : List (ℕ × ℕ)) → AllByRecursion (λ s. (s.0 < 32) × (s.1 ≤ 96)) ss → AllByRecursion (λ s. (s.0 < 2 ^ 31) × IsInteger s.1) (map (saved_place size) ss)
   saved_fit [] h = tt
   saved_fit (s ∷ ss) h = ((let l = h.0.0 in omega arith, integer s.1 size (let l = h.0.1 in omega arith) (omega arith)), saved_fit ss h.1)
 

@@ -5,8 +5,11 @@ pub mod Parts
 pub mod Placed
 pub mod Framed
 pub mod Owned
+pub mod Scopes
 pub mod Files
+pub mod UnitStops
 pub mod Programs
+pub mod Followed
 pub mod Units
 pub mod Sums
 pub mod Mentions
@@ -24,3 +27,4 @@ pub mod FileRows
 pub mod Costs
 pub mod Affordable
 pub mod Compiled
+pub mod UnitRows

@@ -102,11 +102,11 @@ module _ (q : State) (names : List (List ℕ)) (p : Program) (rows : HasRows q n
   numbered from zero = refl
   numbered from (suc n) = ap suc (numbered (suc from) n)
 
-  abbrev function_points : List Function → ℕ
+  abbrev pub function_points : List Function → ℕ
   function_points [] = 0
   function_points (f ∷ fs) = length f.points + function_points fs
 
-  functions_long : (bs : List Bodied) (fs : List Function) → Each (IsFunctionOf q) bs fs → function_points fs ≡ stop_count bs
+  pub functions_long : (bs : List Bodied) (fs : List Function) → Each (IsFunctionOf q) bs fs → function_points fs ≡ stop_count bs
   functions_long [] [] e = refl
   functions_long [] (f ∷ fs) e = absurd e
   functions_long (b ∷ bs) [] e = absurd e

@@ -1,5 +1,5 @@
 -- The addresses in the rows of a linked image are words.
-use Rattle.std.proofs.Common.{◌≡◌, ℕ, suc, ◌+◌, ◌≤◌, ◌^◌, Bool, true, false, ◌&&◌, nat_le, nat_lt, List, [], ◌∷◌, length, map, Option, Some, slice_get, refl, sym, ap, ◌∙◌, subst, arith, append-nil}
+use Rattle.std.proofs.Common.{◌≡◌, ℕ, suc, ◌+◌, ◌<◌, ◌≤◌, ◌^◌, ℤ, Bool, true, false, ◌&&◌, nat_le, nat_lt, List, [], ◌∷◌, length, map, Option, Some, slice_get, refl, sym, ap, ◌∙◌, subst, arith, append-nil}
 use Rattle.std.proofs.lemmas.Bool.{leb-true, ltb-true}
 use Rattle.std.specs.List.{AllByRecursion, list_all}
 use Rattle.machine_state.specs.declared.layout.TheConstants.{TEXT, DATA, DATA_SIZE}
@@ -7,13 +7,16 @@ use Rattle.obj_file.specs.Image.{ImageFields}
 use Rattle.obj_file.specs.declared.object.Object.{Object}
 use Rattle.obj_file.specs.declared.object.StaticDef.{StaticDef}
 use Rattle.obj_file.specs.declared.object.FunctionRow.{FunctionRow}
+use Rattle.obj_file.specs.declared.object.LocalPlace.{LocalPlace}
+use Rattle.obj_file.specs.declared.object.LocalPlace.TheVariants.{Slot, Reg}
 use Rattle.obj_file.specs.declared.object.LoaderRows.{LoaderRows}
 use Rattle.obj_placed.specs.Placed.{IsFound, IsResolved, all_statics, anchors_at, placed_text, moved_point, moved_row}
 use Rattle.obj_placed.specs.Words.{ArePatched}
 use Rattle.link_image.specs.Linked.{linked_addresses, linked_address, linked_text}
 use Rattle.link_image.specs.Conditions.{point_lies, row_lies, has_rows_inside}
 use Rattle.link_image.specs.Links.{IsLinked}
-use Rattle.ps_emit.specs.Lengths.{IsWord}
+use Rattle.ps_emit.specs.Lengths.{IsWord, IsInteger, IsPlace}
+use Rattle.unit_tables.specs.Symbols.{RunsPlace}
 use Rattle.ps_tables.specs.Rows.{IsPlaced}
 use Rattle.compiled_tables.specs.Conditions.{IsFramed}
 
@@ -37,6 +40,15 @@ points_words size (x ∷ xs) l h =
     let k = ltb-true x size b.0 in
     (omega arith, points_words size xs l b.1)
 
+saved_words : (ss : List (ℕ × ℤ)) → AllByRecursion (λ (s : ℕ × ℤ). (s.0 < 2 ^ 31) × IsInteger s.1) ss → AllByRecursion (λ (s : ℕ × ℤ). IsWord s.0 × IsInteger s.1) ss
+saved_words [] h = tt
+saved_words (s ∷ ss) h = ((let l = h.0.0 in omega arith, h.0.1), saved_words ss h.1)
+
+local_words : (ls : List LocalPlace) → AllByRecursion (λ (l : LocalPlace). RunsPlace (Some l)) ls → AllByRecursion (λ (l : LocalPlace). IsPlace (Some l)) ls
+local_words [] h = tt
+local_words (Slot offset ∷ ls) h = (h.0, local_words ls h.1)
+local_words (Reg r ∷ ls) h = (let l = h.0 in omega arith, local_words ls h.1)
+
 row_words : (size : ℕ) (row : FunctionRow) → size ≤ 2 ^ 24 → row_lies size row ≡ true → IsFramed (moved_row TEXT row) → IsPlaced (moved_row TEXT row)
 row_words size row l h f =
     let a = both (nat_le row.entry row.end) (nat_le row.end size && list_all (point_lies size) row.points) h in
@@ -48,9 +60,9 @@ row_words size row l h f =
       end = omega arith;
       frame = f.frame;
       few_saved = f.few_saved;
-      saved = f.saved;
+      saved = saved_words (moved_row TEXT row).saved f.saved;
       points = points_words size row.points l b.1;
-      locals = f.locals;
+      locals = local_words (moved_row TEXT row).locals f.locals;
     }
 
 rows_words : (size : ℕ) (rows : List FunctionRow) → size ≤ 2 ^ 24 → list_all (row_lies size) rows ≡ true → AllByRecursion IsFramed (map (moved_row TEXT) rows) → AllByRecursion IsPlaced (map (moved_row TEXT) rows)

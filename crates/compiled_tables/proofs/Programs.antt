@@ -26,9 +26,16 @@ use Rattle.ps_emit.specs.Symbols.{up_in}
 use Rattle.ps_emit.specs.Functions.{symbol_at}
 use Rattle.ps_tables.specs.Rows.{IsAmong, points_in, AreAmong, OwnsNames, OwnNames, IsBelow, IsBuiltIn}
 use Rattle.compiled_tables.proofs.Owned.{all_append, Holds, IsLed, AllStops}
-use Rattle.compiled_tables.proofs.Files.{stops_in, stop_count, Counted, count_append, counted_append, IsOwn, Onto, file_onto}
+use Rattle.compiled_tables.proofs.Scopes.{Chained, chained_more, Agrees, agrees_front, Sorted, IsTop, all_map}
+use Rattle.compiled_tables.proofs.Files.{all_stops, stops_in, stop_count, Counted, count_append, counted_append, IsOwn, Onto, file_onto}
+use Rattle.compiled_tables.proofs.UnitStops.{unit_stops, only_here}
 
 -- ---- what a program has of each file, when it is read to its end
+
+-- points whose innermost names stand before a number, and which nest
+pub record Nested (ss : List SymbolRow) (high : ℕ) (xs : List Stop) : Type 0 where
+  pub sorted : Sorted ss xs
+  pub there : AllByRecursion (λ (x : Stop). (t : ℕ) → x.symbol ≡ Some t → t < high) xs
 
 -- the names of a file, from a number to another, in a program
 pub record Owns (q : State) (low high unit : ℕ) : Type 0 where
@@ -36,6 +43,7 @@ pub record Owns (q : State) (low high unit : ℕ) : Type 0 where
   pub within : high ≤ length q.here.names
   pub led : (s : ℕ) (r : Row) → low ≤ s → s < high → slice_get q.here.names s ≡ Some r → IsAmong low s r.up
   pub bodies : AllByRecursion (λ (b : Bodied). b.unit ≡ unit → AllStops low high (stops_in b)) q.bodies
+  pub nested : (ss : List SymbolRow) → Agrees ss q.here.names → Nested ss (length q.here.names) (unit_stops unit q.bodies)
 
 abbrev pub OwnsAll : State → (low unit count : ℕ) → Type 0
 OwnsAll q low unit zero = Unit {0}
@@ -102,6 +110,34 @@ record Starts (p : State) : Type 0 where
   three : 3 ≤ length p.here.names
   counted : Counted 0 p.bodies
   points : p.points ≡ stop_count p.bodies
+  rest : List Row
+  begins : p.here.names ≡ built_in_rows ++ rest
+
+abbrev LeadsTo : Option ℕ → Option Row → Type 0
+LeadsTo up None = ⊥
+LeadsTo up (Some r) = r.up ≡ up
+
+linked_to : (x : Option Row) (up : Option ℕ) → LeadsTo up x → (r : Row) × (x ≡ Some r) × (r.up ≡ up)
+linked_to None up h = absurd h
+linked_to (Some r) up h = (r, refl, h)
+
+start_chained : (p : State) → Starts p → Chained p.here.names p.here.visible
+start_chained p s =
+    let first : Chained built_in_rows built_ins = (linked_to (slice_get built_in_rows 2) (Some 1) refl, (linked_to (slice_get built_in_rows 1) (Some 0) refl, (linked_to (slice_get built_in_rows 0) None refl, tt))) in
+    subst (Chained p.here.names) (sym s.visible) (subst (λ (ns : List Row). Chained ns built_ins) (sym s.begins) (chained_more built_in_rows s.rest built_ins first))
+
+-- the points of one file's functions nest
+file_nested : (ss : List SymbolRow) (low : ℕ) (p r : State) (more : ℕ) → Starts p → (o : Onto low p r) → Agrees ss r.here.names → length r.here.names ≤ more → Nested ss more (all_stops o.new)
+file_nested ss low p r more s o a l =
+    let n = o.passes.nests ss a (start_chained p s) in
+    record {
+      sorted = n.sorted;
+      there = all_map (IsTop ss r.here.names p.here.visible r.here.visible) (λ (x : Stop). (t : ℕ) → x.symbol ≡ Some t → t < more) (all_stops o.new) (λ x top t e. let k = (top t e).0 in omega arith) n.tops;
+    }
+
+own_units : (low high unit : ℕ) (bs : List Bodied) → AllByRecursion (IsOwn low unit high) bs → AllByRecursion (λ (b : Bodied). b.unit ≡ unit) bs
+own_units low high unit [] h = tt
+own_units low high unit (b ∷ bs) h = (h.0.unit_is, own_units low high unit bs h.1)
 
 start_holds : (p : State) → Starts p → Holds (length p.here.names) p.here.names p.here.visible
 start_holds p s =
@@ -133,6 +169,8 @@ module _ (tags : List (List ℕ)) where
         three = omega arith;
         counted = subst (Counted 0) (sym o.bodies) (counted_append 0 p.bodies o.new s.counted (subst (λ n. Counted n o.new) (let e : p.points ≡ 0 + stop_count p.bodies = omega arith in e) o.counted));
         points = let e : stop_count r.bodies ≡ stop_count (p.bodies ++ o.new) = ap stop_count o.bodies in omega arith;
+        rest = s.rest ++ o.goes.rest;
+        begins = o.goes.more ∙ (ap (λ (ns : List Row). ns ++ o.goes.rest) s.begins ∙ append_assoc built_in_rows s.rest o.goes.rest);
       }
 
   lacks_some : (n : List ℕ) (k : Told) → (Lacks n before k) ≡ Well → ⊥
@@ -165,6 +203,9 @@ module _ (tags : List (List ℕ)) where
                 let z : 0 + i ≡ i = omega arith in
                 subst (λ n. IsAmong low n x.up) z (names_led low 0 r.here.names i x o.goes.holds.led (sym (ap (λ (ns : List Row). slice_get ns i) names ∙ within_front r.here.names l.rest i i_high) ∙ e) (omega (arith, low_i)));
             bodies = subst (AllByRecursion (λ (b : Bodied). b.unit ≡ u → AllStops low high (stops_in b))) (sym bodies) stops;
+            nested = λ ss a.
+                let are : unit_stops u q.bodies ≡ all_stops o.new = ap (unit_stops u) bodies ∙ only_here u p.bodies o.new l.new s.below (own_units low high u o.new o.own) behind in
+                subst (Nested ss (length q.here.names)) (sym are) (file_nested ss low p r (length q.here.names) s o (agrees_front ss r.here.names l.rest q.here.names names a) (omega arith));
           },
           subst (λ n. OwnsAll q high n count) same rest.owns,
         );
@@ -195,7 +236,7 @@ module _ (tags : List (List ℕ)) where
       by (Broken r at) o go = absurd (let z : Breaks r p.here.unit at ≡ Well = sym o.0 ∙ e in cc)
 
   first_starts : Starts (at_first tags)
-  first_starts = record { visible = refl; below = tt; three = omega arith; counted = tt; points = refl }
+  first_starts = record { visible = refl; below = tt; three = omega arith; counted = tt; points = refl; rest = []; begins = refl }
 
   pub all_read : (us : List (List External)) (q : State) → AllFiles tags (at_first tags) us Well q → OwnsAll q 3 0 (length us) × Counted 0 q.bodies
   all_read us q h = let r = all_files (at_first tags) us Well q h refl first_starts in (r.owns, r.counted)
@@ -212,13 +253,13 @@ each_at P (x ∷ xs) [] i y e h = absurd e
 each_at P (x ∷ xs) (z ∷ ys) zero y e h = let same : z ≡ y = cc in (x, refl, subst (P x) same e.0)
 each_at P (x ∷ xs) (z ∷ ys) (suc i) y e h = each_at P xs ys i y e.1 h
 
-each_long : {A B : Type 0} (P : A → B → Type 0) (xs : List A) (ys : List B) → Each P xs ys → length xs ≡ length ys
+pub each_long : {A B : Type 0} (P : A → B → Type 0) (xs : List A) (ys : List B) → Each P xs ys → length xs ≡ length ys
 each_long P [] [] e = refl
 each_long P [] (y ∷ ys) e = absurd e
 each_long P (x ∷ xs) [] e = absurd e
 each_long P (x ∷ xs) (y ∷ ys) e = ap suc (each_long P xs ys e.1)
 
-at_seam : (xs : List Point) (y : Point) (ys : List Point) → slice_get (xs ++ y ∷ ys) (length xs) ≡ Some y
+pub at_seam : (xs : List Point) (y : Point) (ys : List Point) → slice_get (xs ++ y ∷ ys) (length xs) ≡ Some y
 at_seam [] y ys = refl
 at_seam (x ∷ xs) y ys = at_seam xs y ys
 
@@ -289,7 +330,7 @@ module _ (q : State) (names : List (List ℕ)) (p : Program) (rows : HasRows q n
   own_names low unit (n ∷ ns) [] h c o = absurd h
   own_names low unit (n ∷ ns) (u ∷ us) h c o = (o.0, owned low o.0 unit u h.1 c o.1, own_names o.0 (suc unit) ns us h.2 c o.2)
 
-  units_long : (unit : ℕ) (ns : List (List ℕ)) (us : List UnitRow) → AreUnits q unit ns us → length us ≡ length ns
+  pub units_long : (unit : ℕ) (ns : List (List ℕ)) (us : List UnitRow) → AreUnits q unit ns us → length us ≡ length ns
   units_long unit [] [] h = refl
   units_long unit [] (u ∷ us) h = absurd h
   units_long unit (n ∷ ns) [] h = absurd h

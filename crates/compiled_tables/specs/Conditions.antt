@@ -1,21 +1,28 @@
 -- What is asked of sources, of their program and of where it is placed, for a table that runs. Each is said of the program or of the linker's rows.
-use Rattle.std.specs.Prelude.{ℕ, ◌≤◌, List, length, Some}
+use Rattle.std.specs.Prelude.{ℕ, ◌+◌, ◌<◌, ◌≤◌, ◌^◌, List, length, Some}
 use Rattle.std.specs.List.{AllByRecursion}
 use Rattle.c_tree.specs.declared.rows.Program.{Program}
+use Rattle.c_tree.specs.declared.rows.UnitRow.{UnitRow}
 use Rattle.obj_file.specs.declared.object.FunctionRow.{FunctionRow}
+use Rattle.ps_emit.specs.declared.placement.Placement.{Placement}
 use Rattle.ps_emit.specs.Bounds.{cost_of, units_of}
-use Rattle.ps_emit.specs.Lengths.{IsWord, IsInteger, IsPlace}
+use Rattle.ps_emit.specs.Lengths.{IsWord, IsInteger}
+use Rattle.ps_tables.specs.Bounded.{deferred_units}
+use Rattle.ps_tables.specs.Tabled.{table_made, table_steps}
+use Rattle.unit_tables.specs.Symbols.{RunsPlace}
+use Rattle.unit_tables.specs.Conditions.{RunsUnits, FunctionsFollowed}
+use Rattle.unit_tables.specs.Bounded.{units_steps, units_made}
 
 -- the names of files have at most 255 bytes
 abbrev pub AreFileNames : List (List ℕ) → Type 0
 AreFileNames names = AllByRecursion (λ n. length n ≤ 255) names
 
--- The frame of a function is a word, it saves at most 9 registers, and each of these and of its locals has a register or an offset that is a word.
+-- The frame of a function is a word, it saves at most 9 registers, and each of these and of its locals has a register or an offset that is an integer of the dialect.
 pub record IsFramed (row : FunctionRow) : Type 0 where
   pub frame : IsWord row.frame
   pub few_saved : length row.saved ≤ 9
-  pub saved : AllByRecursion (λ s. IsWord s.0 × IsInteger s.1) row.saved
-  pub locals : AllByRecursion (λ l. IsPlace (Some l)) row.locals
+  pub saved : AllByRecursion (λ s. (s.0 < 2 ^ 31) × IsInteger s.1) row.saved
+  pub locals : AllByRecursion (λ l. RunsPlace (Some l)) row.locals
 
 -- What is counted for the items of a program is within the limits: 16,777,216 bytes of text, seven tenths of the units of a store, and fewer steps than a run may
 -- take.
@@ -23,3 +30,10 @@ pub record IsAffordable (p : Program) : Type 0 where
   pub bytes : (cost_of p).bytes ≤ 16777216
   pub units : units_of p ≤ 5600000
   pub steps : (cost_of p).steps ≤ 9900000
+
+-- The units of a program run where it is placed, and with the table itself they take no more than is counted for the items, beside the units of the deferred texts.
+pub record HasRunningUnits (p : Program) (at : Placement) : Type 0 where
+  pub runs : RunsUnits p at.functions
+  pub followed : AllByRecursion (λ (u : UnitRow). FunctionsFollowed p at.functions 0 u.functions × (length u.functions ≤ 40000)) p.units
+  pub steps : table_steps p at + units_steps p at.functions p.units ≤ (cost_of p).steps
+  pub made : table_made p at + units_made p at.functions p.units ≤ (cost_of p).made + deferred_units p at.functions p.units

@@ -10,7 +10,8 @@ ghost use Rattle.obj_file.specs.Image.{ImageFields};
 ghost use Rattle.table_ends.specs.Joined.{MakesTable};
 ghost use Rattle.ldb_cc.specs.declared.aim.Aim.{Aim};
 ghost use Rattle.ldb_cc.specs.Built.{IsBuilt};
-ghost use Rattle.compiled_tables.specs.Conditions.{AreFileNames, IsAffordable};
+ghost use Rattle.ldb_cc.specs.Table.{placement_of};
+ghost use Rattle.compiled_tables.specs.Conditions.{AreFileNames, IsAffordable, HasRunningUnits};
 
 use c_accepted::{checked_programs_are_accepted, files_are_texts};
 use c_lex::one_reading;
@@ -18,6 +19,7 @@ use c_tokens::{names_are_identifiers, programs_have_few_tokens};
 use obj_placed::placed_word_by_word;
 use ps_tables::accepted_types_run;
 use table_ends::counted_tables_come;
+use unit_tables::units_are_bounded;
 
 /// What is counted for the items of a checked program of at most 16 files and 40,000 tokens is within the limits of a table.
 pub fn programs_are_affordable()
@@ -37,4 +39,19 @@ pub fn compiled_tables_come()
     placed_word_by_word();
     accepted_types_run();
     counted_tables_come();
+}
+
+/// The units of the table that is built of sources run: each asks for symbols one after another, so that those which it takes as made are made, and each leads outward to such. With the table itself they take no more steps and units than are counted for the program, beside the units of the deferred texts.
+pub fn compiled_units_run()
+    ensures { (aim : Aim) (names texts : List (List ℕ)) (image : ImageFields) (table : List ℕ) (built : IsBuilt aim names texts image table) → length names ≡ length texts → length names ≤ 16 → AreFileNames names → HasRunningUnits built.program (placement_of aim built.rows) }
+{
+    checked_programs_are_accepted();
+    files_are_texts();
+    programs_have_few_tokens();
+    programs_are_affordable();
+    names_are_identifiers();
+    one_reading();
+    placed_word_by_word();
+    accepted_types_run();
+    units_are_bounded();
 }

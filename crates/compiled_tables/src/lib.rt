@@ -3,4 +3,4 @@
 
 mod laws;
 
-pub use laws::{compiled_tables_come, programs_are_affordable};
+pub use laws::{compiled_tables_come, compiled_units_run, programs_are_affordable};

@@ -1,12 +1,12 @@
 -- What is known of words stays known.
-use Rattle.std.proofs.Common.{◌≡◌, ℕ, ℤ, pos, suc, ◌+◌, ◌<◌, ◌≤◌, Bool, true, false, ◌&&◌, ◌==◌, bytes_eq, if◌then◌else◌, Option, Some, None, List, [], ◌∷◌, ◌++◌, length, map, codes, refl, sym, ap, ◌∙◌, subst, arith, eqb→eq}
+use Rattle.std.proofs.Common.{◌≡◌, ℕ, ℤ, pos, zero, suc, ◌+◌, ◌<◌, ◌≤◌, Bool, true, false, ◌&&◌, ◌==◌, bytes_eq, if◌then◌else◌, Option, Some, None, List, [], ◌∷◌, ◌++◌, length, map, codes, refl, sym, ap, ◌∙◌, subst, arith, eqb→eq}
 use Rattle.std.specs.Prelude.{option_map}
 use Rattle.ldb_words.specs.Word.{signed}
 use Rattle.c_tree.specs.declared.types.StructDef.{StructDef}
 use Rattle.ps_store.specs.declared.object.Part.{Part}
 use Rattle.ps_store.specs.declared.object.Part.TheVariants.{Table, Command}
 use Rattle.ps_store.specs.declared.object.PsObj.{PsObj}
-use Rattle.ps_store.specs.declared.object.PsObj.TheVariants.{Int, Array, Dict, Op}
+use Rattle.ps_store.specs.declared.object.PsObj.TheVariants.{Int, Str, Array, Dict, Op, Null}
 use Rattle.ps_store.specs.declared.object.ArrayId.{ArrayId}
 use Rattle.ps_store.specs.declared.object.DictId.{DictId}
 use Rattle.ps_store.specs.declared.object.StringId.{StringId}
@@ -32,7 +32,7 @@ use Rattle.ps_tables.specs.Making.{AreThere, HasFields}
 use Rattle.ps_tables.specs.Later.{IsThere, IsOpen, Later}
 use Rattle.ps_tables.specs.Defined.{Puts}
 use Rattle.ps_tables.specs.Types.{of_arrays}
-use Rattle.ps_tables.specs.Senses.{Sense, Stands, Sized, Kind, Variables, Called, Structs, Listing, basic_fields, variable_fields, IsStruct, AreStructs, IsOf, HasSense, raised, Senses, HaveSenses, AreOther}
+use Rattle.ps_tables.specs.Senses.{Sense, Stands, Sized, Kind, Variables, Called, Structs, Objects, object_fields, IsObject, BeginWith, basic_fields, variable_fields, IsStruct, AreStructs, IsOf, HasSense, raised, Senses, HaveSenses, AreOther}
 use Rattle.ps_tables.proofs.Stores.{named_later, fields_later, has_array_later, body_later, open_later}
 use Rattle.ps_tables.proofs.Types.{value_of, fields_value}
 use Rattle.ps_tables.proofs.News.{fields_kept}
@@ -49,7 +49,7 @@ both : (a b : Bool) → (a && b) ≡ true → (a ≡ true) × (b ≡ true)
 both true b e = (refl, e)
 both false b e = absurd cc
 
-dict_is : (d e : DictId) → same_dict d e ≡ true → d ≡ e
+pub dict_is : (d e : DictId) → same_dict d e ≡ true → d ≡ e
 dict_is d e h =
     let two : (same_part d.part e.part ≡ true) × ((d.index == e.index) ≡ true) = both (same_part d.part e.part) (d.index == e.index) h in
     let p : d.part ≡ e.part = part_is d.part e.part two.0 in
@@ -148,6 +148,23 @@ module _ (s s' : StoreState) (e : DictId) (name : List ℕ) (v : PsObj) (puts : 
     structs_put few [] (d ∷ defs) h = absurd h
     structs_put few (x ∷ xs) [] h = absurd h
 
+    object_puts : (x : PsObj) → IsObject s x → IsObject s' x
+    object_puts x h = record {
+      dict = h.dict;
+      is = h.is;
+      kind = h.kind;
+      ctype = h.ctype;
+      place = h.place;
+      label = h.label;
+      name = h.name;
+      has = fields_puts h.dict (object_fields h.kind Null h.ctype (Array h.place true) (Str h.label false) (Str h.name false)) (apart h.dict h.kind _ h.has refl) h.has;
+    }
+
+    begin_puts : (n : ℕ) (xs : List PsObj) → BeginWith s n xs → BeginWith s' n xs
+    begin_puts zero xs h = tt
+    begin_puts (suc n) [] h = absurd h
+    begin_puts (suc n) (x ∷ xs) h = (object_puts x h.0, begin_puts n xs h.1)
+
     pub is_of_puts : (x : PsObj) (sense : Sense) → IsOf s x sense → IsOf s' x (raised up sense)
     is_of_puts x (Stands y) h = h
     is_of_puts x (Sized size) h = (h.0, h.1, h.2, h.3, fields_puts h.0 (basic_fields size h.1 h.2) (apart h.0 h.1 ((codes "size", Int (pos size)) ∷ (codes "printer", h.2) ∷ []) h.4 refl) h.4)
@@ -155,7 +172,7 @@ module _ (s s' : StoreState) (e : DictId) (name : List ℕ) (v : PsObj) (puts : 
     is_of_puts x Variables h = (h.0, h.1, h.2, fields_puts h.0 (variable_fields h.1) (apart h.0 h.1 _ h.3 refl) h.3)
     is_of_puts x (Called body) h = let b = body_puts body h.0 h.2 h.3 in (h.0, h.1, b.0, b.1)
     is_of_puts x (Structs few defs) h = (h.0, h.1, h.2, puts.arrays h.0 h.1 h.3, structs_put few h.1 defs h.4)
-    is_of_puts x Listing h = h
+    is_of_puts x (Objects count) h = (h.0, h.1, h.2, puts.arrays h.0 h.1 h.3, begin_puts count h.1 h.4)
 
     pub sense_puts : (word : List ℕ) (sense : Sense) → named s' ds word ≡ named s ds word → HasSense s ds word sense → HasSense s' ds word (raised up sense)
     sense_puts word sense same h = (h.0, same ∙ h.1, is_of_puts h.0 sense h.2)
@@ -167,7 +184,7 @@ raised_same Kind = refl
 raised_same Variables = refl
 raised_same (Called body) = refl
 raised_same (Structs few defs) = refl
-raised_same Listing = refl
+raised_same (Objects count) = refl
 
 -- a definition: the words but for this one
 abbrev pub AreFree : List ℕ → Senses → Type 0
@@ -260,6 +277,23 @@ module _ (u : ℕ) (s s' : StoreState) (later : Later u s s') (ds : List DictId)
   structs_later few [] (d ∷ defs) h = absurd h
   structs_later few (x ∷ xs) [] h = absurd h
 
+  object_later : (x : PsObj) → IsObject s x → IsObject s' x
+  object_later x h = record {
+    dict = h.dict;
+    is = h.is;
+    kind = h.kind;
+    ctype = h.ctype;
+    place = h.place;
+    label = h.label;
+    name = h.name;
+    has = fields_later u s s' later h.dict (object_fields h.kind Null h.ctype (Array h.place true) (Str h.label false) (Str h.name false)) h.has;
+  }
+
+  pub begin_later : (n : ℕ) (xs : List PsObj) → BeginWith s n xs → BeginWith s' n xs
+  begin_later zero xs h = tt
+  begin_later (suc n) [] h = absurd h
+  begin_later (suc n) (x ∷ xs) h = (object_later x h.0, begin_later n xs h.1)
+
   pub is_of_later : (x : PsObj) (sense : Sense) → IsOf s x sense → IsOf s' x sense
   is_of_later x (Stands y) h = h
   is_of_later x (Sized size) h = (h.0, h.1, h.2, h.3, fields_later u s s' later h.0 (basic_fields size h.1 h.2) h.4)
@@ -267,7 +301,7 @@ module _ (u : ℕ) (s s' : StoreState) (later : Later u s s') (ds : List DictId)
   is_of_later x Variables h = (h.0, h.1, h.2, fields_later u s s' later h.0 (variable_fields h.1) h.3)
   is_of_later x (Called body) h = (h.0, h.1, (has_array_later u s s' later h.0 h.2).has, body_later u s s' later body h.0 h.2 h.3)
   is_of_later x (Structs few defs) h = (h.0, h.1, h.2, later.arrays h.0 h.1 h.3, structs_later few h.1 defs h.4)
-  is_of_later x Listing h = h
+  is_of_later x (Objects count) h = (h.0, h.1, h.2, later.arrays h.0 h.1 h.3, begin_later count h.1 h.4)
 
   sense_later : (word : List ℕ) (sense : Sense) → HasSense s ds word sense → HasSense s' ds word sense
   sense_later word sense h = (h.0, named_later u s s' later ds word there ∙ h.1, is_of_later h.0 sense h.2)

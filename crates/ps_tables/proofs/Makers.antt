@@ -140,7 +140,7 @@ module _ (s : StoreState) (ds : List DictId) (is : IsMaking s ds) where
       let size : length inner.fields ≤ most m = most_made s ds m us inner.fields inner.are in
       record {
         fields = filled inner.fields keys ws;
-        are = (us, ws, inner.fields, parts.2, inner.are, refl);
+        are = (us, ws, inner.fields, parts.2, inner.are, refl, parts.3);
         makes = subst (λ (l : List PsObj). Makes (making_steps (More word m keys)) s ds (filled inner.fields keys ws) l items o under) (sym on)
             (makes_more s ds is (making_steps m) inner.fields keys (us ++ (ws ++ o)) ws o items under (body m) c inner.makes r.2 parts.4 (omega arith) (omega arith) (omega arith) (omega arith));
       }

@@ -1,5 +1,6 @@
 -- The static objects and strings of a table are defined.
-use Rattle.std.proofs.Common.{◌≡◌, ℕ, ℤ, pos, suc, ◌+◌, ◌*◌, ◌<◌, ◌≤◌, ◌^◌, true, false, Option, Some, None, List, [], ◌∷◌, ◌++◌, length, codes, decimal, refl, sym, ap, ◌∙◌, subst, arith, lt-ltb, length-append}
+use Rattle.std.proofs.Common.{◌≡◌, ℕ, ℤ, pos, suc, ◌+◌, ◌*◌, ◌<◌, ◌≤◌, ◌^◌, true, false, Option, Some, None, List, [], ◌∷◌, ◌++◌, length, codes, decimal, refl, sym, ap, ◌∙◌, subst, arith, lt-ltb, length-append, reverse, append_assoc, append-nil}
+use Rattle.std.proofs.lemmas.List.{reverse-append}
 use Rattle.std.specs.List.{AllByRecursion}
 use Rattle.std.specs.Fmt.{signed_decimal}
 use Rattle.std.proofs.lemmas.Fmt.{length-decimal-le}
@@ -12,7 +13,7 @@ use Rattle.c_tree.specs.declared.rows.Program.{Program}
 use Rattle.c_tree.specs.declared.rows.UnitRow.{UnitRow}
 use Rattle.c_tree.specs.declared.rows.ObjectRow.{ObjectRow}
 use Rattle.ps_store.specs.declared.object.PsObj.{PsObj}
-use Rattle.ps_store.specs.declared.object.PsObj.TheVariants.{Array, Dict}
+use Rattle.ps_store.specs.declared.object.PsObj.TheVariants.{Str, Array, Dict, Null}
 use Rattle.ps_store.specs.declared.object.DictId.{DictId}
 use Rattle.ps_store.specs.declared.object.StringId.{StringId}
 use Rattle.ps_store.specs.Operators.{operator_number}
@@ -29,15 +30,17 @@ use Rattle.ps_terms.specs.Printing.{further}
 use Rattle.ps_emit.specs.Terms.{◌⋯◌, anchor_name}
 use Rattle.ps_emit.specs.Types.{type_code}
 use Rattle.ps_emit.specs.Places.{object_label, string_label, objects_from, strings_from, objects_code}
+use Rattle.ps_tables.specs.Dictionaries.{Fields, filled, joined}
+use Rattle.ps_tables.specs.Making.{HasFields}
 use Rattle.ps_tables.specs.Later.{StandsAt}
-use Rattle.ps_tables.specs.Makers.{body, Ready}
+use Rattle.ps_tables.specs.Makers.{body, Ready, MadeBy}
 use Rattle.ps_tables.specs.TableWords.{new_string, new_object}
 use Rattle.ps_tables.specs.Types.{Many, Basic, written, type_cost, type_steps}
-use Rattle.ps_tables.specs.Pieces.{Piece, End, Row, Field, Make, code, cost, steps, left_by, Knows, HasRoom, Values, Bottom, Listed, after, Show}
+use Rattle.ps_tables.specs.Pieces.{Piece, End, Row, Field, Make, code, cost, steps, left_by, Knows, HasRoom, Values, Bottom, Written, Quoted, Listed, Entry, OfType, after, Show}
 use Rattle.ps_tables.specs.TablePieces.{anchor_body, objects_then, strings, objects}
 use Rattle.ps_tables.specs.Runnable.{RunsStruct, RunsObject, Runnable}
 use Rattle.ps_tables.specs.Defined.{in_table}
-use Rattle.ps_tables.specs.Senses.{Variables, Called, Listing, variable_fields, IsOf, HasSense, Knowing}
+use Rattle.ps_tables.specs.Senses.{Variables, Called, Objects, object_fields, IsObject, BeginWith, variable_fields, IsOf, HasSense, Knowing}
 use Rattle.ps_tables.specs.Reached.{Reaches}
 use Rattle.ps_tables.specs.Tabled.{strings_made, objects_made, objects_steps, object_units, object_steps}
 use Rattle.ps_tables.specs.WordsKnown.{Printers, string_body, object_body}
@@ -162,6 +165,87 @@ module _ (dict : DictId) (kind : PsObj) where
       let r : ℕ = steps (os' defs us (suc k) os rest) in
       further_is (suc (suc (suc (further t 0)))) (suc (further 29 r)) ∙ ap (λ n. suc (suc (suc n)) + suc (further 29 r)) (further_is t 0) ∙ omega arith
 
+-- ---- what is shown
+
+three : (us ws : List PsObj) (a b c d : PsObj) → a ∷ b ∷ c ∷ d ∷ [] ≡ us ++ ws → length us ≡ 3 → (us ≡ a ∷ b ∷ c ∷ []) × (ws ≡ d ∷ [])
+three [] ws a b c d e l = absurd (omega (arith, l))
+three (v ∷ []) ws a b c d e l = absurd (omega (arith, l))
+three (v ∷ w ∷ []) ws a b c d e l = absurd (omega (arith, l))
+three (v ∷ w ∷ x ∷ []) ws a b c d e l =
+    let p : v ≡ a = cc in
+    let q : w ≡ b = cc in
+    let r : x ≡ c = cc in
+    (ap (λ z. z ∷ w ∷ x ∷ []) p ∙ ap (λ z. a ∷ z ∷ x ∷ []) q ∙ ap (λ z. a ∷ b ∷ z ∷ []) r, cc)
+three (v ∷ w ∷ x ∷ y ∷ us) ws a b c d e l = absurd (omega (arith, l))
+
+module _ (dict : DictId) (kind : PsObj) (s : StoreState) where
+  object_shown : (o : ObjectRow) (defs : List StructDef) (label : List ℕ) (body : Code) (d : DictId) (ws : List PsObj) (fields : Fields) → HasFields s d fields → MadeBy s (new_object dict (variable_fields kind)) ws fields
+      → Show s ws (OfType (written defs o.ctype) (Quoted body (Written label (Written o.name Bottom)))) → IsObject s (Dict d)
+  object_shown o defs label body d ws fields has made shows =
+      let q = shows.4 in
+      let l = q.5 in
+      let m = l.4 in
+      let whole : ws ≡ shows.0 ∷ Array q.0 true ∷ Str l.0 false ∷ Str m.0 false ∷ [] =
+      shows.2 ∙ ap (λ (xs : List PsObj). shows.0 ∷ xs) (q.2 ∙ ap (λ (xs : List PsObj). Array q.0 true ∷ xs) (l.2 ∙ ap (λ (xs : List PsObj). Str l.0 false ∷ xs) (m.2 ∙ ap (λ (xs : List PsObj). Str m.0 false ∷ xs) m.4))) in
+      let r = three made.0 made.1 shows.0 (Array q.0 true) (Str l.0 false) (Str m.0 false) (sym whole ∙ made.3) made.6 in
+      let keys : List (List ℕ) = codes "type" ∷ codes "where" ∷ codes "label" ∷ [] in
+      let name : List (List ℕ) = codes "name" ∷ [] in
+      let inner : made.2 ≡ filled (joined [] (variable_fields kind)) keys (shows.0 ∷ Array q.0 true ∷ Str l.0 false ∷ []) = made.4 ∙ ap (filled (joined [] (variable_fields kind)) keys) r.0 in
+      let same : fields ≡ object_fields kind Null shows.0 (Array q.0 true) (Str l.0 false) (Str m.0 false) = made.5 ∙ ap (λ (f : Fields). filled f name made.1) inner ∙ ap (filled (filled (joined [] (variable_fields kind)) keys (shows.0 ∷ Array q.0 true ∷ Str l.0 false ∷ [])) name) r.1 in
+      record { dict = d; is = refl; kind = kind; ctype = shows.0; place = q.0; label = l.0; name = m.0; has = subst (λ (f : Fields). HasFields s d f) same has }
+
+  -- strings, the last one first
+  record StringsShown (zs : List PsObj) (vs : Values) : Type 0 where
+    pub front : List PsObj
+    pub back : List PsObj
+    pub are : zs ≡ front ++ back
+    pub shows : Show s back vs
+
+  strings_shown : (k anchor : ℕ) (ts : List (List ℕ)) (zs : List PsObj) (vs : Values) → Show s zs (after (strings dict (variable_fields kind) k anchor ts) vs) → StringsShown zs vs
+  strings_shown k anchor [] zs vs h = record { front = []; back = zs; are = refl; shows = h }
+  strings_shown k anchor (t ∷ ts) zs vs h =
+      let parts : Values = OfType (Many (Basic (codes "char") 1) (suc (length t))) (Quoted (anchor_body anchor) (Written (string_label k) Bottom)) in
+      let r : StringsShown zs (Entry (new_string dict (variable_fields kind)) parts vs) = strings_shown (suc k) (suc anchor) ts zs (Entry (new_string dict (variable_fields kind)) parts vs) h in
+      let e = r.shows in
+      record {
+        front = r.front ++ Dict e.0 ∷ [];
+        back = e.2;
+        are = r.are ∙ ap (λ (l : List PsObj). r.front ++ l) e.4 ∙ sym (append_assoc r.front (Dict e.0 ∷ []) e.2);
+        shows = e.9;
+      }
+
+  -- static objects, and strings behind them
+  record ObjectsShown (n : ℕ) (zs : List PsObj) (vs : Values) : Type 0 where
+    pub front : List PsObj
+    pub back : List PsObj
+    pub are : zs ≡ front ++ back
+    pub shows : Show s back vs
+    pub begin : BeginWith s n (reverse front)
+
+  objects_shown : (defs : List StructDef) (us : List UnitRow) (k : ℕ) (os : List ObjectRow) (j anchor : ℕ) (ts : List (List ℕ)) (zs : List PsObj) (vs : Values)
+      → Show s zs (after (objects_then dict (variable_fields kind) defs us k os (strings dict (variable_fields kind) j anchor ts)) vs) → ObjectsShown (length os) zs vs
+  objects_shown defs us k [] j anchor ts zs vs h = let r = strings_shown j anchor ts zs vs h in record { front = r.front; back = r.back; are = r.are; shows = r.shows; begin = tt }
+  objects_shown defs us k (o ∷ os) j anchor ts zs vs h =
+      let parts : Values = OfType (written defs o.ctype) (Quoted (anchor_body k) (Written (object_label us o) (Written o.name Bottom))) in
+      let entry : Values = Entry (new_object dict (variable_fields kind)) parts vs in
+      let r : ObjectsShown (length os) zs entry = objects_shown defs us (suc k) os j anchor ts zs entry h in
+      let e = r.shows in
+      let x : PsObj = Dict e.0 in
+      let turned : reverse (r.front ++ x ∷ []) ≡ x ∷ reverse r.front = reverse-append r.front (x ∷ []) in
+      record {
+        front = r.front ++ x ∷ [];
+        back = e.2;
+        are = r.are ∙ ap (λ (l : List PsObj). r.front ++ l) e.4 ∙ sym (append_assoc r.front (x ∷ []) e.2);
+        shows = e.9;
+        begin = subst (λ (l : List PsObj). BeginWith s (suc (length os)) l) (sym turned) (object_shown o defs (object_label us o) (anchor_body k) e.0 e.1 e.3 e.5 e.6 e.8, r.begin);
+      }
+
+  listing_shown : (q : Program) (x : PsObj) → Show s (x ∷ []) (after (objects dict (variable_fields kind) q) Bottom) → IsOf s x (Objects (length q.objects))
+  listing_shown q x h =
+      let r : ObjectsShown (length q.objects) h.1 Bottom = objects_shown q.defs q.units 0 q.objects 0 (length q.objects) q.strings h.1 Bottom h.5 in
+      let whole : h.1 ≡ r.front = r.are ∙ ap (λ (l : List PsObj). r.front ++ l) r.shows ∙ append-nil r.front in
+      (h.0, reverse h.1, head_is x (Array h.0 false) h.2 h.3, h.4, subst (λ (l : List PsObj). BeginWith s (length q.objects) (reverse l)) (sym whole) r.begin)
+
 -- ---- the definition
 
 module _ (index : ℕ) (ds : List DictId) (t : StringId) (under : List Item) (items_fit : length under + 100 ≤ 1000) (post : List ℕ) (p : Printers) where
@@ -194,13 +278,10 @@ module _ (index : ℕ) (ds : List DictId) (t : StringId) (under : List Item) (it
     objects_known s dict kind n b defs us knowing small few means ready (suc k) os rest (omega arith) typed.1 known,
   )
 
-  listing_is : (s : StoreState) (items : Values) (x : PsObj) → Show s (x ∷ []) (Listed items Bottom) → IsOf s x Listing
-  listing_is s items x h = (h.0, head_is x (Array h.0 false) h.2 h.3)
-
   pub objects_reached : (q : Program) (k : Code) (n b : ℕ) (s : StoreState) (at : ℕ) → AllByRecursion (RunsStruct q.defs) q.defs → length q.defs ≤ 90000 → AllByRecursion (RunsObject q.defs q.units) q.objects
       → AllByRecursion (λ x. length x < 2 ^ 30) q.strings → length q.objects + length q.strings ≤ 90000 → Knowing s index ds n (with_structs p b q.defs) → n < 900000
       → s.table.units + s.command.units + object_units q ≤ 8000000 → StandsAt s t at (render (objects_code q ⋯ k) ++ post)
-      → Reaches index ds t under (object_steps q) (object_units q) (n + 1) (with_objects p b q.defs) s at (render k ++ post)
+      → Reaches index ds t under (object_steps q) (object_units q) (n + 1) (with_objects p b (length q.objects) q.defs) s at (render k ++ post)
   objects_reached q k n b s at small few_defs typed short few_objects knowing few units_fit here =
       let all : List DictId = in_table index ∷ ds in
       let ws = with_structs p b q.defs in
@@ -229,10 +310,10 @@ module _ (index : ℕ) (ds : List DictId) (t : StringId) (under : List Item) (it
       let known : Knows s all items =
       objects_known s dict kind n b q.defs q.units knowing small few_defs means ready 0 q.objects rest (omega arith) typed
       (strings_known s dict kind n b q.defs knowing small few_defs means' ready' 0 (length q.objects) q.strings (omega arith) (omega arith) short) in
-      let r : Reaches index ds t under (further (steps (Field (codes "objects") value End)) 1) (cost (Field (codes "objects") value End) + units (Word (codes "def") Stop) + 1) (n + 1) (with_objects p b q.defs) s at (render k ++ post) =
-      defined_by index ds t under items_fit post (codes "objects") value Listing k n ws s at knowing (omega arith) lit_objects refl
+      let r : Reaches index ds t under (further (steps (Field (codes "objects") value End)) 1) (cost (Field (codes "objects") value End) + units (Word (codes "def") Stop) + 1) (n + 1) (with_objects p b (length q.objects) q.defs) s at (render k ++ post) =
+      defined_by index ds t under items_fit post (codes "objects") value (Objects (length q.objects)) k n ws s at knowing (omega arith) lit_objects refl
       (objects_room dict kind q.defs q.units 0 q.objects q.strings 0 (length q.objects) 2 (omega arith), omega arith) (omega arith, known, tt) free_objects refl refl (free_by (codes "objects") ws refl)
-      (λ s' x. listing_is s' (after items Bottom) x)
+      (λ s' x. listing_shown dict kind s' q x)
       (subst (λ (j : ℕ). s.table.units + s.command.units + j ≤ 8000000) (sym units_of) units_fit) (subst (λ (c : Code). StandsAt s t at (render c ++ post)) (sym (whole_is dict kind q k)) here) in
-      subst (λ (j : ℕ). Reaches index ds t under j (object_units q) (n + 1) (with_objects p b q.defs) s at (render k ++ post)) number
-      (subst (λ (j : ℕ). Reaches index ds t under (further (steps (Field (codes "objects") value End)) 1) j (n + 1) (with_objects p b q.defs) s at (render k ++ post)) units_of r)
+      subst (λ (j : ℕ). Reaches index ds t under j (object_units q) (n + 1) (with_objects p b (length q.objects) q.defs) s at (render k ++ post)) number
+      (subst (λ (j : ℕ). Reaches index ds t under (further (steps (Field (codes "objects") value End)) 1) j (n + 1) (with_objects p b (length q.objects) q.defs) s at (render k ++ post)) units_of r)

@@ -196,7 +196,7 @@ module _ (u : ℕ) (s s' : StoreState) (later : Later u s s') where
   made_later (Fresh room keys) vs fields h = h
   made_later (Begun word dict begun room keys) vs fields h = h
   made_later (Twice word dict begun room keys first second) vs fields h = h
-  made_later (More word m keys) vs fields h = (h.0, h.1, h.2, h.3, made_later m h.0 h.2 h.4, h.5)
+  made_later (More word m keys) vs fields h = (h.0, h.1, h.2, h.3, made_later m h.0 h.2 h.4, h.5, h.6)
   made_later (Told word m key name) vs fields h = (h.0, h.1, later.strings h.1 name h.2, made_later m vs h.0 h.3, h.4)
 
   pub open_later : (d : DictId) → IsOpen s d → IsOpen s' d

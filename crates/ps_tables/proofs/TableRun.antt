@@ -1,5 +1,5 @@
 -- The text of a table runs to its end.
-use Rattle.std.proofs.Common.{◌≡◌, ℕ, suc, ◌+◌, ◌*◌, ◌<◌, ◌≤◌, ◌^◌, true, List, [], ◌∷◌, ◌++◌, length, drop, refl, sym, ap, ◌∙◌, subst, arith, append-nil}
+use Rattle.std.proofs.Common.{◌≡◌, ℕ, suc, ◌+◌, ◌*◌, ◌<◌, ◌≤◌, ◌^◌, true, List, [], ◌∷◌, ◌++◌, length, drop, reverse, refl, sym, ap, ◌∙◌, subst, arith, append-nil}
 use Rattle.c_tree.specs.declared.rows.Program.{Program}
 use Rattle.ps_store.specs.declared.object.PsObj.{PsObj}
 use Rattle.ps_store.specs.declared.object.PsObj.TheVariants.{Str, Dict}
@@ -34,16 +34,17 @@ use Rattle.ps_tables.specs.Senses.{Knowing}
 use Rattle.ps_tables.specs.Reached.{Owned, Reaches}
 use Rattle.ps_tables.specs.WordsKnown.{Printers, AreNoMarks, printer_senses, word_senses}
 use Rattle.ps_tables.specs.PartsKnown.{with_structs, with_objects}
-use Rattle.ps_tables.specs.Tabled.{structs_made, filling_made, filling_steps, object_units, object_steps, top_made, top_steps, table_made, table_steps, IsTop, LeavesTop, EndsAtTop}
+use Rattle.ps_tables.specs.Tabled.{structs_made, filling_made, filling_steps, object_units, object_steps, top_made, top_steps, table_made, table_steps, LeavesTop, EndsAtTop}
+use Rattle.ps_tables.specs.Left.{LeavesTable}
 use Rattle.ps_tables.proofs.Going.{takes_then, taken}
 use Rattle.ps_tables.proofs.Texts.{step_reads}
 use Rattle.ps_tables.proofs.TablePieces.{top_performs}
-use Rattle.ps_tables.proofs.Sequence.{owned_then, owned_within, owned_later}
+use Rattle.ps_tables.proofs.Sequence.{owned_then, owned_within, owned_later, knowing_later}
 use Rattle.ps_tables.proofs.WordsKnown.{words_reached}
 use Rattle.ps_tables.proofs.MembersRun.{further_is, fill_all}
 use Rattle.ps_tables.proofs.StructsRun.{structs_reached}
 use Rattle.ps_tables.proofs.ObjectsRun.{objects_reached}
-use Rattle.ps_tables.proofs.TopRun.{top_cost, top_take, top_room, top_has, structs_long, Parts, parts}
+use Rattle.ps_tables.proofs.TopRun.{top_cost, top_take, top_room, TopShown, top_has, units_left_in, structs_long, Parts, parts}
 
 follow_stop : (c : Code) → (c ⋯ Stop) ≡ c
 follow_stop Stop = refl
@@ -65,7 +66,7 @@ module _ (index : ℕ) (ds : List DictId) (t : StringId) (pr : Printers) where
   pub definitions_reached : (p : Program) (at : Placement) (n : ℕ) (s : StoreState) (from : ℕ) → Runnable p at → AreNoMarks pr → Knowing s index ds n (printer_senses pr) → n < 800000
       → s.table.units + s.command.units + table_made p at ≤ 8000000 → StandsAt s t from (render (table_code p at) ++ [])
       → Reaches index ds t [] (139 + (4 + 19 * length p.defs) + filling_steps p.defs p.defs + object_steps p) (796 + (10 + length p.defs + structs_made p.defs) + filling_made p.defs p.defs + object_units p) (n + 20)
-      (with_objects pr (4 + length p.defs) p.defs) s from (render (top_code p at) ++ [])
+      (with_objects pr (4 + length p.defs) (length p.objects) p.defs) s from (render (top_code p at) ++ [])
   definitions_reached p at n s from run marks knowing few units_fit here =
       let few_defs = run.few_structs in
       let a : ℕ = 10 + length p.defs + structs_made p.defs in
@@ -81,7 +82,7 @@ module _ (index : ℕ) (ds : List DictId) (t : StringId) (pr : Printers) where
       let fl : Reaches index ds t [] (filling_steps p.defs p.defs) b (n + 18 + 1) (with_structs pr (4 + length p.defs) p.defs) st.store st.to (render last ++ []) =
       fill_all index ds t [] (omega arith) [] pr p.defs run.structs (omega arith) 0 p.defs last (n + 18 + 1) 4 st.store st.to st.knowing (omega arith) run.structs (omega arith) (omega arith) st.stands in
       let counted₃ = fl.owned.counted in
-      let ob : Reaches index ds t [] (object_steps p) c (n + 18 + 1 + 1) (with_objects pr (4 + length p.defs) p.defs) fl.store fl.to (render (top_code p at) ++ []) =
+      let ob : Reaches index ds t [] (object_steps p) c (n + 18 + 1 + 1) (with_objects pr (4 + length p.defs) (length p.objects) p.defs) fl.store fl.to (render (top_code p at) ++ []) =
       objects_reached index ds t [] (omega arith) [] pr p (top_code p at) (n + 18 + 1) (4 + length p.defs) fl.store fl.to run.structs (omega arith) run.objects run.strings run.few_objects fl.knowing (omega arith) (omega arith) fl.stands in
       let c₀ : PsCore = core s all [] (TextItem t from ∷ []) in
       let c₁ : PsCore = core w.store all [] (TextItem t w.to ∷ []) in
@@ -96,20 +97,20 @@ module _ (index : ℕ) (ds : List DictId) (t : StringId) (pr : Printers) where
       record {
         store = ob.store;
         to = ob.to;
-        knowing = subst (λ (m : ℕ). Knowing ob.store index ds m (with_objects pr (4 + length p.defs) p.defs)) (omega arith) ob.knowing;
+        knowing = subst (λ (m : ℕ). Knowing ob.store index ds m (with_objects pr (4 + length p.defs) (length p.objects) p.defs)) (omega arith) ob.knowing;
         owned = owned_then (796 + a + b) c s fl.store ob.store (owned_then (796 + a) b s st.store fl.store (owned_then 796 a s w.store st.store w.owned st.owned) fl.owned) ob.owned;
         stands = ob.stands;
         takes = subst (λ m. Takes m c₀ c₄) (further_is (139 + x + y) z) (takes_then (139 + x + y) z c₀ c₃ c₄ three ob.takes);
       }
 
   pub table_leaves : (p : Program) (at : Placement) (n : ℕ) (s : StoreState) (from : ℕ) → Runnable p at → AreNoMarks pr → Knowing s index ds n (printer_senses pr) → n < 800000
-      → s.table.units + s.command.units + table_made p at ≤ 8000000 → StandsAt s t from (render (table_code p at)) → LeavesTop index ds t (table_steps p at) (table_made p at) at.target s from
+      → s.table.units + s.command.units + table_made p at ≤ 8000000 → StandsAt s t from (render (table_code p at)) → LeavesTable index ds t pr (n + 20) p at s from
   table_leaves p at n s from run marks knowing few units_fit here =
       let few_defs = run.few_structs in
       let x : ℕ = 139 + (4 + 19 * length p.defs) + filling_steps p.defs p.defs + object_steps p in
       let u : ℕ = 796 + (10 + length p.defs + structs_made p.defs) + filling_made p.defs p.defs + object_units p in
       let b : ℕ = 4 + length p.defs in
-      let r : Reaches index ds t [] x u (n + 20) (with_objects pr b p.defs) s from (render (top_code p at) ++ []) =
+      let r : Reaches index ds t [] x u (n + 20) (with_objects pr b (length p.objects) p.defs) s from (render (top_code p at) ++ []) =
       definitions_reached p at n s from run marks knowing few units_fit (subst (λ (l : List ℕ). StandsAt s t from l) (sym (append-nil (render (table_code p at)))) here) in
       let counted = r.owned.counted in
       let k : Parts index ds pr r.store b p at = parts index ds pr r.store (n + 20) b p at r.knowing run.structs run.few_structs run.anchors run.few_anchors run.units run.few_units in
@@ -122,23 +123,35 @@ module _ (index : ℕ) (ds : List DictId) (t : StringId) (pr : Printers) where
       let whole : q.operands ++ [] ≡ Dict q.shows.0 ∷ [] = ap (λ l. l ++ []) (q.shows.3 ∙ ap (λ l. Dict q.shows.0 ∷ l) q.shows.6) in
       let c₁ : PsCore = core r.store all [] (TextItem t r.to ∷ []) in
       let c₂ : PsCore = core q.store all (Dict q.shows.0 ∷ []) (TextItem t q.to ∷ []) in
+      let shown : TopShown q.store at.target (after (anchors 0 at.anchors) Bottom) (after (tags 0 p.defs k.structs) Bottom) (after (units p at.functions p.units) Bottom) k.objects q.shows.0 =
+      top_has q.store at.target (after (anchors 0 at.anchors) Bottom) (after (tags 0 p.defs k.structs) Bottom) (after (units p at.functions p.units) Bottom) k.objects q.shows.0 q.shows.1 q.shows.4 q.shows.5 in
       let last : Takes (top_steps p at) c₁ c₂ = subst (λ m. Takes m c₁ c₂) taken (subst (λ l. Takes (steps (top p at k.objects k.structs)) c₁ (core q.store all l (TextItem t q.to ∷ []))) whole q.takes) in
       record {
-        store = q.store;
-        top = q.shows.0;
-        to = q.to;
-        is_top = top_has q.store at.target (after (anchors 0 at.anchors) Bottom) (after (tags 0 p.defs k.structs) Bottom) (after (units p at.functions p.units) Bottom) k.objects q.shows.0 q.shows.1 q.shows.4 q.shows.5;
-        owned = owned_within (u + cost (top p at k.objects k.structs)) (table_made p at) s q.store (omega arith)
-            (owned_then u (cost (top p at k.objects k.structs)) s r.store q.store r.owned (owned_later (cost (top p at k.objects k.structs)) r.store q.store all r.knowing.making q.later));
-        takes = subst (λ m. Takes m c₀ c₂) (further_is x (top_steps p at)) (takes_then x (top_steps p at) c₀ c₁ c₂ r.takes last);
-        ends = text_ends q.store (Dict q.shows.0 ∷ []) q.to q.stands;
+        knowing = knowing_later (cost (top p at k.objects k.structs)) r.store q.store q.later index ds (n + 20) (with_objects pr b (length p.objects) p.defs) r.knowing;
+        units = reverse shown.units;
+        holds = shown.holds;
+        are = units_left_in p at.functions q.store p.units shown.units shown.shows;
+        leaves = record {
+          store = q.store;
+          top = q.shows.0;
+          to = q.to;
+          is_top = shown.is_top;
+          owned = owned_within (u + cost (top p at k.objects k.structs)) (table_made p at) s q.store (omega arith)
+              (owned_then u (cost (top p at k.objects k.structs)) s r.store q.store r.owned (owned_later (cost (top p at k.objects k.structs)) r.store q.store all r.knowing.making q.later));
+          takes = subst (λ m. Takes m c₀ c₂) (further_is x (top_steps p at)) (takes_then x (top_steps p at) c₀ c₁ c₂ r.takes last);
+          ends = text_ends q.store (Dict q.shows.0 ∷ []) q.to q.stands;
+        };
       }
+
+  pub text_leaves_table : (p : Program) (at : Placement) (n : ℕ) (s : StoreState) → Runnable p at → AreNoMarks pr → Knowing s index ds n (printer_senses pr) → n < 800000 → s.table.units + s.command.units + table_made p at ≤ 8000000
+      → IsString s t (table_text p at) → LeavesTable index ds t pr (n + 20) p at s 0
+  unfolding table_text
+  text_leaves_table p at n s run marks knowing few units_fit is =
+      table_leaves p at n s 0 run marks knowing few units_fit (record { text = table_text p at; lead = []; is_lead = bare; is = is; here = refl; within = omega arith })
 
   pub text_leaves : (p : Program) (at : Placement) (n : ℕ) (s : StoreState) → Runnable p at → AreNoMarks pr → Knowing s index ds n (printer_senses pr) → n < 800000 → s.table.units + s.command.units + table_made p at ≤ 8000000 → IsString s t (table_text p at)
       → LeavesTop index ds t (table_steps p at) (table_made p at) at.target s 0
-  unfolding table_text
-  text_leaves p at n s run marks knowing few units_fit is =
-      table_leaves p at n s 0 run marks knowing few units_fit (record { text = table_text p at; lead = []; is_lead = bare; is = is; here = refl; within = omega arith })
+  text_leaves p at n s run marks knowing few units_fit is = (text_leaves_table p at n s run marks knowing few units_fit is).leaves
 
   -- a run of the text as an object
   pub runs_to_top : {D : Type 0} (Op : Operates D) (steps made target left : ℕ) (s : StoreState) (d d' : D) (m : ℕ) (c' : PsCore) (r : Answer) → LeavesTop index ds t steps made target s 0

@@ -1,5 +1,6 @@
 -- What stands behind a table's definitions leaves the table's top.
-use Rattle.std.proofs.Common.{◌≡◌, ℕ, ℤ, pos, suc, zero, ◌+◌, ◌*◌, ◌<◌, ◌≤◌, ◌^◌, ◌==◌, Bool, true, false, if◌then◌else◌, Option, Some, None, List, [], ◌∷◌, ◌++◌, length, codes, slice_get, refl, sym, ap, ◌∙◌, subst, arith}
+use Rattle.std.proofs.Common.{◌≡◌, ℕ, ℤ, pos, suc, zero, ◌+◌, ◌*◌, ◌<◌, ◌≤◌, ◌^◌, ◌==◌, Bool, true, false, if◌then◌else◌, Option, Some, None, List, [], ◌∷◌, ◌++◌, length, reverse, codes, slice_get, refl, sym, ap, ◌∙◌, subst, arith, append_assoc, append-nil}
+use Rattle.std.proofs.lemmas.List.{reverse-append}
 use Rattle.std.specs.List.{AllByRecursion}
 use Rattle.machine_state.specs.declared.layout.TheConstants.{SPARC}
 use Rattle.ldb_words.specs.Word.{signed}
@@ -27,18 +28,20 @@ use Rattle.ps_emit.specs.declared.placement.Placement.{Placement}
 use Rattle.ps_emit.specs.Terms.{anchor_name}
 use Rattle.ps_emit.specs.Functions.{deferred}
 use Rattle.ps_emit.specs.Table.{target_name}
-use Rattle.ps_tables.specs.Dictionaries.{Fields, updated, AreFields}
+use Rattle.ps_tables.specs.Dictionaries.{Fields, updated, filled, AreFields}
 use Rattle.ps_tables.specs.Making.{HasFields}
 use Rattle.ps_tables.specs.Makers.{making_steps}
+use Rattle.ps_tables.specs.TableWords.{new_unit}
 use Rattle.ps_tables.specs.Types.{type_steps}
-use Rattle.ps_tables.specs.Pieces.{Piece, End, Number, Literal, Chars, Quote, Value, Element, Make, Row, Loaded, Deferred, Field, Pairs, Typed, New, putting_steps, code, cost, steps, left_by, FieldsAlone, fields_in, IsValue, itself, Knows, HasRoom, Values, Bottom, This, Written, Listed, Under, Paired, after, pairs, Show}
+use Rattle.ps_tables.specs.Pieces.{Piece, End, Number, Literal, Chars, Quote, Value, Element, Make, Row, Loaded, Deferred, Field, Pairs, Typed, New, putting_steps, code, cost, steps, left_by, FieldsAlone, fields_in, IsValue, itself, Knows, HasRoom, Values, Bottom, This, Written, Listed, Entry, Runs, Under, Paired, after, pairs, Show}
 use Rattle.ps_tables.specs.TablePieces.{anchors, tags, units, top}
 use Rattle.ps_tables.specs.Runnable.{RunsStruct, RunsUnit}
 use Rattle.ps_tables.specs.Defined.{in_table}
-use Rattle.ps_tables.specs.Senses.{Called, Structs, Listing, AreStructs, HasSense, Knowing}
+use Rattle.ps_tables.specs.Senses.{Called, Structs, Objects, AreStructs, HasSense, Knowing}
 use Rattle.ps_tables.specs.WordsKnown.{Printers, unit_body}
 use Rattle.ps_tables.specs.PartsKnown.{with_objects}
 use Rattle.ps_tables.specs.Tabled.{anchors_made, tags_made, units_made, top_made, top_steps, IsTop}
+use Rattle.ps_tables.specs.Left.{IsDeferred, AreDeferred}
 use Rattle.ps_tables.proofs.Types.{value_of, fields_value}
 use Rattle.ps_tables.proofs.TypeTexts.{small_integer, structs_fine}
 use Rattle.ps_tables.proofs.Tokens.{head_is}
@@ -271,7 +274,14 @@ module _ (s : StoreState) (target : ℕ) (anchored tagged made_units : Values) (
   abbrev b₅ : Values
   b₅ = Under (codes "objects") (This (Array a false) Bottom) b₄
 
-  pub top_has : (d : DictId) (zs : List PsObj) → HasFields s d (pairs (top_values target anchored tagged made_units a) zs) → Show s zs (top_values target anchored tagged made_units a) → IsTop s d target
+  -- the top, and what is in the array of its units
+  pub record TopShown (d : DictId) : Type 0 where
+    pub is_top : IsTop s d target
+    pub units : List PsObj
+    pub holds : IsArray s is_top.units (reverse units)
+    pub shows : Show s units made_units
+
+  pub top_has : (d : DictId) (zs : List PsObj) → HasFields s d (pairs (top_values target anchored tagged made_units a) zs) → Show s zs (top_values target anchored tagged made_units a) → TopShown d
   top_has d zs has shows =
       let l₆ : Last s b₅ (codes "units") (Listed made_units Bottom) zs = last s b₅ (codes "units") (Listed made_units Bottom) zs shows in
       let l₅ : Last s b₄ (codes "objects") (This (Array a false) Bottom) l₆.ys = last s b₄ (codes "objects") (This (Array a false) Bottom) l₆.ys l₆.rest in
@@ -289,17 +299,62 @@ module _ (s : StoreState) (target : ℕ) (anchored tagged made_units : Values) (
       let same : pairs (top_values target anchored tagged made_units a) zs ≡ made = l₆.pairs_are ∙ ap (put (codes "units") l₆.v) e₅ in
       let are : AreFields s (entries_of s d) made = subst (λ (fs : Fields). AreFields s (entries_of s d) fs) same has.are in
       record {
-        version = fields_value s (entries_of s d) made (codes "ldb") are ∙ ap Some (head_is l₁.v (Int (pos 1)) l₁.shows.0 l₁.shows.1);
-        name = l₂.shows.0;
-        is_target = fields_value s (entries_of s d) made (codes "target") are ∙ ap Some (head_is l₂.v (Str l₂.shows.0 false) l₂.shows.1 l₂.shows.2);
-        told = l₂.shows.3;
-        anchors = l₃.shows.0;
-        has_anchors = fields_value s (entries_of s d) made (codes "anchors") are ∙ ap Some (head_is l₃.v (Dict l₃.shows.0) l₃.shows.2 l₃.shows.3);
-        structs = l₄.shows.0;
-        has_structs = fields_value s (entries_of s d) made (codes "structs") are ∙ ap Some (head_is l₄.v (Dict l₄.shows.0) l₄.shows.2 l₄.shows.3);
-        units = l₆.shows.0;
-        has_units = fields_value s (entries_of s d) made (codes "units") are ∙ ap Some (head_is l₆.v (Array l₆.shows.0 false) l₆.shows.2 l₆.shows.3);
+        units = l₆.shows.1;
+        holds = l₆.shows.4;
+        shows = l₆.shows.5;
+        is_top = record {
+          version = fields_value s (entries_of s d) made (codes "ldb") are ∙ ap Some (head_is l₁.v (Int (pos 1)) l₁.shows.0 l₁.shows.1);
+          name = l₂.shows.0;
+          is_target = fields_value s (entries_of s d) made (codes "target") are ∙ ap Some (head_is l₂.v (Str l₂.shows.0 false) l₂.shows.1 l₂.shows.2);
+          told = l₂.shows.3;
+          anchors = l₃.shows.0;
+          has_anchors = fields_value s (entries_of s d) made (codes "anchors") are ∙ ap Some (head_is l₃.v (Dict l₃.shows.0) l₃.shows.2 l₃.shows.3);
+          structs = l₄.shows.0;
+          has_structs = fields_value s (entries_of s d) made (codes "structs") are ∙ ap Some (head_is l₄.v (Dict l₄.shows.0) l₄.shows.2 l₄.shows.3);
+          units = l₆.shows.0;
+          has_units = fields_value s (entries_of s d) made (codes "units") are ∙ ap Some (head_is l₆.v (Array l₆.shows.0 false) l₆.shows.2 l₆.shows.3);
+        };
       }
+
+-- ---- the units
+
+module _ (p : Program) (fs : List FunctionRow) (s : StoreState) where
+  -- what is shown of them, the last one first
+  record UnitsShown (zs : List PsObj) (us : List UnitRow) (vs : Values) : Type 0 where
+    pub front : List PsObj
+    pub back : List PsObj
+    pub are : zs ≡ front ++ back
+    pub shows : Show s back vs
+    pub units : AreDeferred p fs s (reverse front) us
+
+  units_shown : (us : List UnitRow) (zs : List PsObj) (vs : Values) → Show s zs (after (units p fs us) vs) → UnitsShown zs us vs
+  units_shown [] zs vs h = record { front = []; back = zs; are = refl; shows = h; units = tt }
+  units_shown (u ∷ us) zs vs h =
+      let parts : Values = Runs (render (deferred p fs u)) (Written u.file Bottom) in
+      let r : UnitsShown zs us (Entry new_unit parts vs) = units_shown us zs (Entry new_unit parts vs) h in
+      let e = r.shows in
+      let t : StringId = e.8.0 in
+      let file : PsObj = Str e.8.4.0 false in
+      let two : e.1 ≡ Str t true ∷ file ∷ [] = e.8.2 ∙ ap (λ (l : List PsObj). Str t true ∷ l) (e.8.4.2 ∙ ap (λ (l : List PsObj). file ∷ l) e.8.4.4) in
+      let all : Fields = (codes "functions", Str t true) ∷ (codes "file", file) ∷ [] in
+      let same : e.3 ≡ all = e.6 ∙ ap (filled [] (codes "functions" ∷ codes "file" ∷ [])) two in
+      let opened = e.7 in
+      let x : PsObj = Dict e.0 in
+      let has : HasFields s (in_table opened.0) all = subst (λ (d : DictId). HasFields s d all) opened.1 (subst (λ (f : Fields). HasFields s e.0 f) same e.5) in
+      let turned : reverse (r.front ++ x ∷ []) ≡ x ∷ reverse r.front = reverse-append r.front (x ∷ []) in
+      record {
+        front = r.front ++ x ∷ [];
+        back = e.2;
+        are = r.are ∙ ap (λ (l : List PsObj). r.front ++ l) e.4 ∙ sym (append_assoc r.front (x ∷ []) e.2);
+        shows = e.9;
+        units = subst (λ (l : List PsObj). AreDeferred p fs s l (u ∷ us)) (sym turned) ((opened.0, t, ap Dict opened.1, record { file = file; fields = has; text = e.8.3 }), r.units);
+      }
+
+  pub units_left_in : (us : List UnitRow) (zs : List PsObj) → Show s zs (after (units p fs us) Bottom) → AreDeferred p fs s (reverse zs) us
+  units_left_in us zs h =
+      let r : UnitsShown zs us Bottom = units_shown us zs Bottom h in
+      let whole : zs ≡ r.front = r.are ∙ ap (λ (l : List PsObj). r.front ++ l) r.shows ∙ append-nil r.front in
+      subst (λ (l : List PsObj). AreDeferred p fs s (reverse l) us) (sym whole) r.units
 
 -- ---- what is known
 
@@ -314,13 +369,13 @@ module _ (index : ℕ) (ds : List DictId) (pr : Printers) where
     pub are : AreStructs s b structs p.defs
     pub knows : Knows s all (top p at objects structs)
 
-  pub parts : (s : StoreState) (n b : ℕ) (p : Program) (at : Placement) → Knowing s index ds n (with_objects pr b p.defs) → AllByRecursion (RunsStruct p.defs) p.defs → length p.defs ≤ 40000
+  pub parts : (s : StoreState) (n b : ℕ) (p : Program) (at : Placement) → Knowing s index ds n (with_objects pr b (length p.objects) p.defs) → AllByRecursion (RunsStruct p.defs) p.defs → length p.defs ≤ 40000
       → AllByRecursion (λ r. r.1 < 2 ^ 32) at.anchors → length at.anchors ≤ 40000 → AllByRecursion (RunsUnit p at.functions) p.units → length p.units ≤ 90000 → Parts s b p at
   parts s n b p at knowing small few_defs words few_anchors runs few_units =
-      let ws = with_objects pr b p.defs in
+      let ws = with_objects pr b (length p.objects) p.defs in
       let w : HasSense s all (codes "NewUnit") (Called unit_body) = sense_is s all ws (codes "NewUnit") (Called unit_body) knowing.have refl in
       let f : HasSense s all (codes "structs") (Structs b p.defs) = sense_is s all ws (codes "structs") (Structs b p.defs) knowing.have refl in
-      let o : HasSense s all (codes "objects") Listing = sense_is s all ws (codes "objects") Listing knowing.have refl in
+      let o : HasSense s all (codes "objects") (Objects (length p.objects)) = sense_is s all ws (codes "objects") (Objects (length p.objects)) knowing.have refl in
       let means : Means s all (codes "NewUnit") (Does unit_body) = (w.2.0, w.1 ∙ ap Some w.2.1, w.2.2, w.2.3) in
       let a : ArrayId = o.2.0 in
       let xs : List PsObj = f.2.1 in
@@ -356,7 +411,7 @@ module _ (index : ℕ) (ds : List DictId) (pr : Printers) where
                   (
                     lit_objects,
                     refl,
-                    (objects_fine, Array a false, o.1 ∙ ap Some o.2.1, itself (Array a false) tt, tt),
+                    (objects_fine, Array a false, o.1 ∙ ap Some o.2.2, itself (Array a false) tt, tt),
                     (lit_units, refl, (few_left, units_known p at.functions s all means p.units runs, tt), tt),
                   ),
                 ),

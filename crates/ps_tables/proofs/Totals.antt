@@ -22,7 +22,7 @@ total_more w a (suc b) h = by (total_more w a b) (nat_lt b a) refl
     by below false e = let l = ltb-false b a e in let m = below l in omega arith
 
 -- the first one apart
-total_shift : (v w : ℕ → ℕ) (n : ℕ) → ((i : ℕ) → v (suc i) ≡ w i) → total v (suc n) ≡ v 0 + total w n
+pub total_shift : (v w : ℕ → ℕ) (n : ℕ) → ((i : ℕ) → v (suc i) ≡ w i) → total v (suc n) ≡ v 0 + total w n
 total_shift v w zero h = omega arith
 total_shift v w (suc n) h = let e = total_shift v w n h in let f = h n in omega arith
 

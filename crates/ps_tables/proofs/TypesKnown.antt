@@ -64,12 +64,12 @@ bytes_are defs (Struct s) = refl
 
 -- ---- structs by their numbers
 
-record Nth (s : StoreState) (xs : List PsObj) (defs : List StructDef) (n : ℕ) : Type 0 where
+pub record Nth (s : StoreState) (xs : List PsObj) (defs : List StructDef) (n : ℕ) : Type 0 where
   pub object : PsObj
   pub at : slice_get xs n ≡ Some object
   pub sized : IsSized s object (struct_size_of defs n)
 
-nth : (all : List StructDef) (s : StoreState) (b : ℕ) (xs : List PsObj) (defs : List StructDef) (n : ℕ) → AllByRecursion (RunsStruct all) defs → AreStructs s b xs defs → n < length defs → Nth s xs defs n
+pub nth : (all : List StructDef) (s : StoreState) (b : ℕ) (xs : List PsObj) (defs : List StructDef) (n : ℕ) → AllByRecursion (RunsStruct all) defs → AreStructs s b xs defs → n < length defs → Nth s xs defs n
 nth all s b [] [] n small h few = absurd (omega arith)
 nth all s b [] (d ∷ defs) n small h few = absurd h
 nth all s b (x ∷ xs) [] n small h few = absurd h

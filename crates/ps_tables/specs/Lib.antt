@@ -15,6 +15,7 @@ pub mod Reached
 pub mod WordsKnown
 pub mod PartsKnown
 pub mod Tabled
+pub mod Left
 pub mod Bounded
 pub mod Behind
 pub mod Rows

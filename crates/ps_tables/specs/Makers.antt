@@ -81,7 +81,7 @@ MadeBy s (Fresh room keys) vs fields = fields ≡ filled [] keys vs
 MadeBy s (Begun word dict begun room keys) vs fields = fields ≡ filled (joined [] begun) keys vs
 MadeBy s (Twice word dict begun room keys first second) vs fields =
     (us : List PsObj) × (v : PsObj) × (vs ≡ us ++ v ∷ []) × (fields ≡ updated (updated (filled (joined [] begun) keys us) first v) second v)
-MadeBy s (More word m keys) vs fields = (us ws : List PsObj) × (inner : Fields) × (vs ≡ us ++ ws) × MadeBy s m us inner × (fields ≡ filled inner keys ws)
+MadeBy s (More word m keys) vs fields = (us ws : List PsObj) × (inner : Fields) × (vs ≡ us ++ ws) × MadeBy s m us inner × (fields ≡ filled inner keys ws) × (length us ≡ taken_by m)
 MadeBy s (Told word m key name) vs fields = (inner : Fields) × (t : StringId) × IsString s t name × MadeBy s m vs inner × (fields ≡ updated inner key (Name t false))
 
 -- the operands of a word make way for its dictionary

@@ -1,11 +1,12 @@
 -- What is known of the words of a table while it runs.
-use Rattle.std.specs.Prelude.{◌≡◌, ℕ, pos, ◌≤◌, true, false, Some, None, List, [], ◌∷◌, length, codes}
+use Rattle.std.specs.Prelude.{◌≡◌, ℕ, zero, suc, pos, ◌≤◌, true, false, Some, None, List, [], ◌∷◌, length, codes}
 use Rattle.ldb_words.specs.Word.{signed}
 use Rattle.c_tree.specs.declared.types.StructDef.{StructDef}
 use Rattle.ps_store.specs.declared.object.PsObj.{PsObj}
-use Rattle.ps_store.specs.declared.object.PsObj.TheVariants.{Int, Array, Dict, Null}
+use Rattle.ps_store.specs.declared.object.PsObj.TheVariants.{Int, Str, Array, Dict, Null}
 use Rattle.ps_store.specs.declared.object.ArrayId.{ArrayId}
 use Rattle.ps_store.specs.declared.object.DictId.{DictId}
+use Rattle.ps_store.specs.declared.object.StringId.{StringId}
 use Rattle.ps_store.specs.declared.key.Key.TheVariants.{Name as NameKey}
 use Rattle.ps_store.specs.Entries.{value_at}
 use Rattle.ps_store.specs.StoreState.{StoreState}
@@ -23,7 +24,7 @@ use Rattle.ps_tables.specs.Types.{of_arrays}
 
 -- What a word stands for: this object; a type of so many bytes; what the types of a kind, and what the symbols of variables have in common; a
 -- procedure of this term; an array of these structs, with so many entries at
--- most in each one's dictionary; an array.
+-- most in each one's dictionary; an array that begins with so many static objects.
 pub data Sense : Type 0 where
   Stands : (x : PsObj) → Sense
   Sized : (size : ℕ) → Sense
@@ -31,7 +32,7 @@ pub data Sense : Type 0 where
   Variables : Sense
   Called : (body : Code) → Sense
   Structs : (few : ℕ) (defs : List StructDef) → Sense
-  Listing : Sense
+  Objects : (count : ℕ) → Sense
 
 abbrev pub basic_fields : ℕ → (kind printer : PsObj) → Fields
 basic_fields size kind printer = (codes "kind", kind) ∷ (codes "size", Int (pos size)) ∷ (codes "printer", printer) ∷ []
@@ -55,6 +56,30 @@ AreStructs s few [] [] = Unit {0}
 AreStructs s few (x ∷ xs) (d ∷ ds) = IsStruct s few x d × AreStructs s few xs ds
 AreStructs s few xs ds = ⊥
 
+-- ---- static objects
+
+abbrev pub object_fields : (kind uplink ctype place label name : PsObj) → Fields
+object_fields kind uplink ctype place label name =
+    (codes "kind", kind) ∷ (codes "uplink", uplink) ∷ (codes "type", ctype) ∷ (codes "where", place) ∷ (codes "label", label) ∷ (codes "name", name) ∷ []
+
+-- the dictionary of a static object, whose place is a procedure
+pub record IsObject (s : StoreState) (x : PsObj) : Type 0 where
+  pub dict : DictId
+  pub is : x ≡ Dict dict
+  pub kind : PsObj
+  pub ctype : PsObj
+  pub place : ArrayId
+  pub label : StringId
+  pub name : StringId
+  pub has : HasFields s dict (object_fields kind Null ctype (Array place true) (Str label false) (Str name false))
+
+abbrev pub BeginWith : StoreState → ℕ → List PsObj → Type 0
+BeginWith s zero xs = Unit {0}
+BeginWith s (suc n) [] = ⊥
+BeginWith s (suc n) (x ∷ xs) = IsObject s x × BeginWith s n xs
+
+-- ---- senses
+
 -- an object is of such a sense
 abbrev pub IsOf : StoreState → PsObj → Sense → Type 0
 IsOf s x (Stands y) = x ≡ y
@@ -63,7 +88,7 @@ IsOf s x Kind = (d : DictId) × (kind printer : PsObj) × (x ≡ Dict d) × HasF
 IsOf s x Variables = (d : DictId) × (kind : PsObj) × (x ≡ Dict d) × HasFields s d (variable_fields kind)
 IsOf s x (Called body) = (a : ArrayId) × (x ≡ Array a true) × HasArray s a × Spells s (elements_of s a) body
 IsOf s x (Structs few defs) = (a : ArrayId) × (xs : List PsObj) × (x ≡ Array a false) × IsArray s a xs × AreStructs s few xs defs
-IsOf s x Listing = (a : ArrayId) × (x ≡ Array a false)
+IsOf s x (Objects count) = (a : ArrayId) × (xs : List PsObj) × (x ≡ Array a false) × IsArray s a xs × BeginWith s count xs
 
 abbrev pub HasSense : StoreState → List DictId → List ℕ → Sense → Type 0
 HasSense s ds word sense = (x : PsObj) × (named s ds word ≡ Some x) × IsOf s x sense

@@ -56,6 +56,7 @@ ghost use Rattle.ps_tables.specs.Senses.{Knowing};
 ghost use Rattle.ps_tables.specs.Reached.{Reaches};
 ghost use Rattle.ps_tables.specs.WordsKnown.{Printers, AreNoMarks, printer_senses, word_senses};
 ghost use Rattle.ps_tables.specs.Tabled.{table_made, table_steps, LeavesTop, EndsAtTop, RunsToTop};
+ghost use Rattle.ps_tables.specs.Left.{LeavesTable};
 
 use ps_run::Dialect;
 
@@ -116,9 +117,10 @@ pub fn words_are_known()
     ensures { (index n at : ℕ) (ds : List DictId) (t : StringId) (under : List Item) (post : List ℕ) (p : Printers) (k : Code) (s : StoreState) → length under + 100 ≤ 1000 → AreNoMarks p → Knowing s index ds n (printer_senses p) → n < 900000 → s.table.units + s.command.units + 796 ≤ 8000000 → StandsAt s t at (render (words ⋯ k) ++ post) → Reaches index ds t under 139 796 (n + 18) (word_senses ++ printer_senses p) s at (render k ++ post) }
 {}
 
-/// The text of a table is executed to its end without an error, where the names of the printers have their senses and nothing else is defined on top: it takes exactly so many steps, which ask nothing of a dialect, makes at most so many units, and leaves one dictionary and nothing else on the operands: the top of a table for the placement's target.
+/// The text of a table is executed to its end without an error, where the names of the printers have their senses and nothing else is defined on top: it takes exactly so many steps, which ask nothing of a dialect, makes at most so many units, and leaves one dictionary and nothing else on the operands: the top of a table for the placement's target. In the store that is left the words, the structs' types and the static objects have their senses, and the units, whose functions are still texts, stand in the top's array.
 pub fn tables_are_left()
-    ensures { (p : Program) (at : Placement) (printers : Printers) (s : StoreState) (index n : ℕ) (ds : List DictId) (t : StringId) → Runnable p at → AreNoMarks printers → Knowing s index ds n (printer_senses printers) → n < 800000 → IsString s t (table_text p at) → s.table.units + s.command.units + table_made p at ≤ 8000000 → LeavesTop index ds t (table_steps p at) (table_made p at) at.target s 0 }
+    ensures top { (p : Program) (at : Placement) (printers : Printers) (s : StoreState) (index n : ℕ) (ds : List DictId) (t : StringId) → Runnable p at → AreNoMarks printers → Knowing s index ds n (printer_senses printers) → n < 800000 → IsString s t (table_text p at) → s.table.units + s.command.units + table_made p at ≤ 8000000 → LeavesTop index ds t (table_steps p at) (table_made p at) at.target s 0 }
+    ensures table { (p : Program) (at : Placement) (printers : Printers) (s : StoreState) (index n : ℕ) (ds : List DictId) (t : StringId) → Runnable p at → AreNoMarks printers → Knowing s index ds n (printer_senses printers) → n < 800000 → IsString s t (table_text p at) → s.table.units + s.command.units + table_made p at ≤ 8000000 → LeavesTable index ds t printers (n + 20) p at s 0 }
 {}
 
 /// So a run of the text as an executable string, with steps to spare, ends without an error at the table's top, whatever the dialect.

@@ -1,12 +1,9 @@
 -- What stays known where one dictionary gets more under integers.
-use Rattle.std.proofs.Common.{◌≡◌, ℕ, ℤ, pos, suc, ◌+◌, ◌<◌, ◌≤◌, Bool, true, false, ◌&&◌, ◌==◌, Option, Some, None, List, [], ◌∷◌, ◌++◌, length, codes, refl, sym, ap, ◌∙◌, subst, arith, ne_eqb}
+use Rattle.std.proofs.Common.{◌≡◌, ℕ, ℤ, ◌+◌, ◌≤◌, false, Option, List, [], ◌∷◌, length, codes, refl, sym, ap, ◌∙◌, subst, arith}
 use Rattle.std.specs.Prelude.{option_map}
 use Rattle.c_tree.specs.declared.types.StructDef.{StructDef}
-use Rattle.ps_store.specs.declared.object.Part.{Part}
-use Rattle.ps_store.specs.declared.object.Part.TheVariants.{Table, Command}
 use Rattle.ps_store.specs.declared.object.PsObj.{PsObj}
 use Rattle.ps_store.specs.declared.object.PsObj.TheVariants.{Op}
-use Rattle.ps_store.specs.declared.object.ArrayId.{ArrayId}
 use Rattle.ps_store.specs.declared.object.DictId.{DictId}
 use Rattle.ps_store.specs.declared.object.StringId.{StringId}
 use Rattle.ps_store.specs.declared.object.Pair.{Pair}
@@ -16,21 +13,18 @@ use Rattle.ps_store.specs.declared.key.Key.TheVariants.{Name as NameKey, Int as 
 use Rattle.ps_store.specs.Entries.{value_at}
 use Rattle.ps_store.specs.Operators.{operator_number}
 use Rattle.ps_store.specs.StoreState.{StoreState}
-use Rattle.ps_store.specs.Store.{entries_of, elements_of}
+use Rattle.ps_store.specs.Store.{entries_of}
 use Rattle.ps_step.specs.Composites.{same_dict}
 use Rattle.ps_step.specs.Keys.{or_else, found_in, named}
-use Rattle.ps_text.specs.Code.{Code, Stop, Num, Word, Lit, Text, Proc}
-use Rattle.ps_text.specs.Grown.{HasArray, IsArray}
-use Rattle.ps_text.specs.Spells.{Spells}
 use Rattle.ps_tables.specs.Dictionaries.{Fields}
 use Rattle.ps_tables.specs.Making.{AreThere, IsMaking, HasFields}
 use Rattle.ps_tables.specs.Later.{IsThere, IsOpen, Later, StandsAt}
 use Rattle.ps_tables.specs.Defined.{in_table}
-use Rattle.ps_tables.specs.Senses.{Sense, Stands, Sized, Kind, Variables, Called, Structs, Listing, basic_fields, variable_fields, IsStruct, AreStructs, IsOf, HasSense, Senses, HaveSenses, AreOther, Knowing}
+use Rattle.ps_tables.specs.Senses.{Sense, Stands, Sized, Kind, Variables, Called, Structs, Objects, IsStruct, AreStructs, IsOf, Senses, HaveSenses, AreOther, Knowing}
 use Rattle.ps_tables.proofs.Known.{apart_by}
 use Rattle.unit_tables.specs.Kept.{Elsewhere, Lacks}
 use Rattle.unit_tables.specs.Amended.{PutsUnder, Amended, HasNoNames}
-use Rattle.unit_tables.proofs.Elsewhere.{found_kept, all_there, there_kept, body_kept, named_kept}
+use Rattle.unit_tables.proofs.Elsewhere.{found_kept, all_there, there_kept, body_kept, named_kept, begin_kept}
 
 -- ---- how a store comes of another one
 
@@ -166,7 +160,7 @@ module _ (u i : ℕ) (s s' : StoreState) (amended : Amended u (in_table i) s s')
     is_of_amended x Variables h = (h.0, h.1, h.2, named_fields h.0 h.1 _ h.3)
     is_of_amended x (Called body) h = let b = body_kept D s s' elsewhere body h.0 h.2 h.3 in (h.0, h.1, b.0, b.1)
     is_of_amended x (Structs few defs) h = (h.0, h.1, h.2, amended.arrays h.0 h.1 h.3, structs_amended few h.1 defs h.4)
-    is_of_amended x Listing h = h
+    is_of_amended x (Objects count) h = (h.0, h.1, h.2, amended.arrays h.0 h.1 h.3, begin_kept D s s' elsewhere lacks_all count h.1 h.4)
 
     senses_amended : (ds : List DictId) → AreOther ds D → AreThere s (D ∷ ds) → (ws : Senses) → HaveSenses s (D ∷ ds) ws → HaveSenses s' (D ∷ ds) ws
     senses_amended ds other there [] h = tt

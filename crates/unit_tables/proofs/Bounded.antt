@@ -1,9 +1,7 @@
 -- What is counted for the items of a program is no less than its units take.
-use Rattle.std.proofs.Common.{◌≡◌, inl, inr, ℕ, zero, suc, ◌+◌, ◌*◌, ◌<◌, ◌≤◌, Option, Some, None, List, [], ◌∷◌, length, map, slice_get, refl, sym, ap, ◌∙◌, subst, arith}
+use Rattle.std.proofs.Common.{◌≡◌, ℕ, ◌+◌, ◌*◌, ◌<◌, ◌≤◌, Option, Some, None, List, [], ◌∷◌, length, map, slice_get, refl, arith}
 use Rattle.std.specs.List.{AllByRecursion}
 use Rattle.obj_file.specs.declared.object.FunctionRow.{FunctionRow as Placed}
-use Rattle.obj_file.specs.declared.object.LocalPlace.{LocalPlace}
-use Rattle.c_tree.specs.declared.types.StructDef.{StructDef}
 use Rattle.c_tree.specs.declared.rows.Program.{Program}
 use Rattle.c_tree.specs.declared.rows.UnitRow.{UnitRow}
 use Rattle.c_tree.specs.declared.rows.Function.{Function}
@@ -11,21 +9,21 @@ use Rattle.c_tree.specs.declared.rows.Point.{Point}
 use Rattle.c_tree.specs.declared.rows.SymbolRow.{SymbolRow}
 use Rattle.ps_store.specs.Store.{text_units}
 use Rattle.ps_emit.specs.declared.placement.Placement.{Placement}
-use Rattle.ps_emit.specs.Bounds.{of_symbol, per_point, per_function, per_symbol, per_constructor, all, cost_of}
+use Rattle.ps_emit.specs.Bounds.{of_symbol, all, cost_of}
 use Rattle.ps_emit.specs.Places.{Homes, homes}
 use Rattle.ps_emit.specs.Symbols.{up_in, coming, made_with}
 use Rattle.ps_emit.specs.Functions.{symbol_at, made_by, made_in}
 use Rattle.ps_emit.specs.Lengths.{IsName}
-use Rattle.ps_tables.specs.Rows.{weigh, total, weigh_units, points_in, points_of, IsAmong, AreAmong, OwnsNames, OwnNames, IsBelow, IsBuiltIn, IsSymbol, IsPlaced, HasRows, IsParted}
+use Rattle.ps_tables.specs.Rows.{weigh, total, weigh_units, points_in, points_of, IsAmong, AreAmong, OwnNames, IsBelow, IsSymbol, IsPlaced, HasRows, IsParted}
 use Rattle.ps_tables.specs.Bounded.{IsShort, deferred_units}
 use Rattle.ps_tables.specs.Tabled.{table_made, table_steps}
 use Rattle.ps_tables.proofs.Bounded.{table_takes_beside, table_makes_beside}
 use Rattle.ps_tables.proofs.Totals.{at_item, total_more, total_shift, total_linear}
 use Rattle.ps_tables.proofs.Spent.{Spent, among_built_ins, spent_all, spends}
-use Rattle.unit_tables.specs.Symbols.{ArePlaces, symbol_steps, symbol_made, link_steps, link_made}
+use Rattle.unit_tables.specs.Symbols.{ArePlaces, link_steps, link_made}
 use Rattle.unit_tables.specs.Points.{row_steps, row_made, point_rows, with_point, steps_at, made_at, points_steps, points_made}
-use Rattle.unit_tables.specs.Conditions.{RunsPlaced, RunsUnits}
-use Rattle.unit_tables.specs.Functions.{rows_of, steps_in, units_in, with_function, function_rows, functions_steps, functions_made, unit_steps, unit_made}
+use Rattle.unit_tables.specs.Conditions.{RunsPlaced}
+use Rattle.unit_tables.specs.Functions.{steps_in, units_in, with_function, function_rows, functions_steps, functions_made, unit_steps, unit_made}
 use Rattle.unit_tables.specs.Bounded.{units_steps, units_made}
 use Rattle.unit_tables.proofs.Symbols.{symbol_takes, symbol_makes}
 use Rattle.unit_tables.proofs.Functions.{all_places}

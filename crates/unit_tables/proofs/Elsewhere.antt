@@ -1,5 +1,5 @@
 -- What stays of symbols, points and functions where one dictionary is changed that is none of theirs.
-use Rattle.std.proofs.Common.{◌≡◌, ℕ, ℤ, zero, suc, ◌+◌, ◌<◌, ◌≤◌, false, Option, Some, None, List, [], ◌∷◌, codes, refl, sym, ap, ◌∙◌, subst}
+use Rattle.std.proofs.Common.{◌≡◌, ℕ, ℤ, zero, suc, false, Option, List, [], ◌∷◌, codes, refl, sym, ap, ◌∙◌, subst}
 use Rattle.c_tree.specs.declared.types.StructDef.{StructDef}
 use Rattle.c_tree.specs.declared.rows.Program.{Program}
 use Rattle.c_tree.specs.declared.rows.SymbolRow.{SymbolRow}
@@ -27,13 +27,12 @@ use Rattle.ps_tables.specs.Dictionaries.{Fields, AreFields}
 use Rattle.ps_tables.specs.Making.{AreThere, HasFields}
 use Rattle.ps_tables.specs.Later.{IsThere}
 use Rattle.ps_tables.specs.Types.{Type', Basic, Nothing, To, Many, Numbered, IsSized, IsType, written}
-use Rattle.ps_tables.specs.Senses.{AreOther}
+use Rattle.ps_tables.specs.Senses.{IsObject, BeginWith, AreOther}
 use Rattle.ps_tables.proofs.Types.{fields_value}
 use Rattle.ps_tables.proofs.News.{fields_kept}
 use Rattle.ps_tables.proofs.Known.{apart_by}
 use Rattle.unit_tables.specs.Kept.{Elsewhere, Lacks}
 use Rattle.unit_tables.specs.Shown.{Has, IsOwn, IsSymbol, Chained, outermost, symbol, IsPoint, ArePoints, AreSaved, IsFunction}
-use Rattle.unit_tables.specs.Running.{object_fields, IsObject, BeginWith}
 use Rattle.unit_tables.specs.Functions.{rows_of, AreFunctions}
 
 module _ (changed : DictId) (s s' : StoreState) (kept : Elsewhere changed s s') where

@@ -1,5 +1,5 @@
 -- Words that make a dictionary of so many pairs, and a copy of the topmost one.
-use Rattle.std.proofs.Common.{◌≡◌, ℕ, suc, ◌+◌, ◌<◌, ◌≤◌, true, Some, List, [], ◌∷◌, ◌++◌, length, map, refl, sym, ap, ◌∙◌, subst, arith, length-append}
+use Rattle.std.proofs.Common.{◌≡◌, ℕ, suc, ◌+◌, ◌≤◌, true, List, [], ◌∷◌, ◌++◌, length, map, refl, sym, ap, ◌∙◌, subst, arith, length-append}
 use Rattle.ps_store.specs.declared.object.PsObj.{PsObj}
 use Rattle.ps_store.specs.declared.object.PsObj.TheVariants.{Array, Dict}
 use Rattle.ps_store.specs.declared.object.DictId.{DictId}
@@ -19,7 +19,7 @@ use Rattle.ps_text.specs.Code.{Code, Stop, Word, render}
 use Rattle.ps_text.specs.Grown.{HasArray}
 use Rattle.ps_text.specs.Spells.{Spells, Fine, units}
 use Rattle.ps_terms.specs.Machine.{Does, entered}
-use Rattle.ps_terms.specs.Stands.{Frames, bottom, core, Means}
+use Rattle.ps_terms.specs.Stands.{bottom, core, Means}
 use Rattle.ps_terms.specs.Printing.{further}
 use Rattle.ps_terms.proofs.Sound.{Enters, enters}
 use Rattle.ps_tables.specs.Taken.{Takes}
@@ -27,11 +27,10 @@ use Rattle.ps_tables.specs.Dictionaries.{Fields, AreFields, with_dict, next_dict
 use Rattle.ps_tables.specs.Making.{copying, taking_steps, IsMaking, HasFields, AreShort, Makes}
 use Rattle.ps_tables.specs.Later.{Later, StandsAt}
 use Rattle.ps_tables.specs.Makers.{Maker, body, making_steps, taken_by, most, calls, Ready, Leaves, MadeBy}
-use Rattle.ps_tables.specs.Pieces.{Values}
 use Rattle.ps_tables.proofs.Going.{takes_then, takes_one}
 use Rattle.ps_tables.proofs.Putting.{entries_there}
 use Rattle.ps_tables.proofs.Copies.{fields_length, copies_all}
-use Rattle.ps_tables.proofs.Stores.{later_then, later_within, later_made, making_later, fields_later, has_array_later, body_later, means_later, ready_later, stands_later, made_later, fields_are_later}
+use Rattle.ps_tables.proofs.Stores.{later_then, later_within, later_made, making_later, fields_later, has_array_later, body_later, means_later, ready_later, stands_later, fields_are_later}
 use Rattle.ps_tables.proofs.Makers.{short_made, leaves, body_frames}
 use Rattle.ps_tables.proofs.Tokens.{Acted, word_acts}
 

@@ -1,6 +1,7 @@
 -- The functions of a unit are run at their first use.
-use Rattle.std.proofs.Common.{◌≡◌, ◌≢◌, ℕ, suc, ◌+◌, ◌<◌, ◌≤◌, Bool, true, false, ◌&&◌, ◌==◌, is_some, if◌then◌else◌, Option, Some, None, Result, Ok, Err, List, [], ◌∷◌, length, reverse, codes, slice_index_or, slice_set, refl, sym, ap, ◌∙◌, subst, arith, eq-eqb, ne_eqb}
+use Rattle.std.proofs.Common.{◌≡◌, ◌≢◌, ℕ, suc, ◌+◌, ◌<◌, ◌≤◌, Bool, true, false, bytes_eq, ◌&&◌, ◌==◌, is_some, if◌then◌else◌, Option, Some, None, Result, Ok, Err, List, [], ◌∷◌, length, reverse, codes, slice_index_or, slice_set, refl, sym, ap, ◌∙◌, subst, arith, eq-eqb, ne_eqb}
 use Rattle.std.specs.Prelude.{option_map}
+use Rattle.std.specs.Cmp.Lexicographic.{bytes_decides}
 use Rattle.std.proofs.lemmas.List.{get_or-set_same, get_or-set_other, length-set}
 use Rattle.obj_file.specs.declared.object.FunctionRow.{FunctionRow as Placed}
 use Rattle.c_tree.specs.declared.rows.Program.{Program}
@@ -15,7 +16,7 @@ use Rattle.ps_store.specs.declared.object.DictId.{DictId}
 use Rattle.ps_store.specs.declared.object.StringId.{StringId}
 use Rattle.ps_store.specs.declared.object.Pair.{Pair}
 use Rattle.ps_store.specs.declared.key.Key.{Key}
-use Rattle.ps_store.specs.declared.key.Key.TheVariants.{Name as NameKey}
+use Rattle.ps_store.specs.declared.key.Key.TheVariants.{Name as NameKey, Int as IntKey, Bool as TruthKey}
 use Rattle.ps_store.specs.Key.{same_key}
 use Rattle.ps_store.specs.Entries.{value_at, with_value, replaced}
 use Rattle.ps_store.specs.Operators.{operator_number}
@@ -24,36 +25,36 @@ use Rattle.ps_store.specs.Store.{held, entries_of}
 use Rattle.ps_store.specs.Cut.{mark_of}
 use Rattle.ps_step.specs.declared.fault.PsFault.{PsFault}
 use Rattle.ps_step.specs.declared.fault.PsFault.TheVariants.{NoMemory}
-use Rattle.ps_step.specs.declared.item.Item.{Item}
 use Rattle.ps_step.specs.declared.item.Item.TheVariants.{Object, Text as TextItem}
 use Rattle.ps_step.specs.declared.machine.PsCore.{PsCore}
 use Rattle.ps_step.specs.Compare.{same_part}
 use Rattle.ps_step.specs.Composites.{same_dict}
 use Rattle.ps_step.specs.Keys.{or_else, found_in, named}
-use Rattle.ps_run.specs.Runs.{Answer, Operates, Runs}
+use Rattle.ps_run.specs.Runs.{Answer, Operates}
 use Rattle.ps_run.proofs.Apart.{finished}
 use Rattle.ps_text.specs.Code.{render}
-use Rattle.ps_text.specs.Grown.{IsArray}
 use Rattle.ps_terms.specs.Stands.{core}
 use Rattle.ps_terms.specs.Printing.{further}
 use Rattle.ps_emit.specs.Functions.{deferred}
-use Rattle.ps_force.specs.Forcing.{Forced, apart, closing, forced_by, placing, placing_left, Forces}
+use Rattle.ps_force.specs.Forcing.{Forced, apart, closing, forced_by, placing, Forces}
 use Rattle.ps_tables.specs.Dictionaries.{Fields, AreFields}
-use Rattle.ps_tables.specs.Making.{AreThere, HasFields}
-use Rattle.ps_tables.specs.Senses.{Sense, Stands, Sized, Kind, Variables, Called, Structs, Listing, Senses, IsOf, HaveSenses, AreOther}
+use Rattle.ps_tables.specs.Making.{AreThere}
+use Rattle.ps_tables.specs.Senses.{Sense, Stands, Sized, Kind, Variables, Called, Structs, Objects, Senses, IsOf, HaveSenses}
 use Rattle.ps_tables.specs.WordsKnown.{word_senses}
-use Rattle.ps_tables.specs.Later.{IsThere, Later}
+use Rattle.ps_tables.specs.Later.{IsThere}
 use Rattle.ps_tables.specs.Defined.{in_table}
+use Rattle.ps_tables.specs.Left.{IsDeferred}
 use Rattle.ps_tables.proofs.Going.{taken}
+use Rattle.ps_tables.proofs.Known.{dict_is}
 use Rattle.ps_tables.proofs.Kept.{Same, kept_string, kept_array}
 use Rattle.ps_tables.proofs.Types.{value_of, fields_value}
 use Rattle.ps_tables.proofs.News.{fields_kept}
 use Rattle.unit_tables.specs.Kept.{Elsewhere, Lacks}
 use Rattle.unit_tables.specs.Conditions.{RunsUnits, FunctionsFollowed}
-use Rattle.unit_tables.specs.Functions.{function_rows, AreFunctions, unit_steps, unit_made}
+use Rattle.unit_tables.specs.Functions.{function_rows, unit_steps, unit_made}
 use Rattle.unit_tables.specs.Units.{Furnished, LeavesFunctions}
-use Rattle.unit_tables.specs.Settled.{IsDeferred, HasFunctions, Gives}
-use Rattle.unit_tables.proofs.Elsewhere.{found_kept, all_there, body_kept, sized_kept, named_kept, begin_kept, functions_kept}
+use Rattle.unit_tables.specs.Settled.{HasFunctions, Gives}
+use Rattle.unit_tables.proofs.Elsewhere.{body_kept, sized_kept, named_kept, begin_kept, functions_kept}
 use Rattle.unit_tables.proofs.Units.{unit_leaves}
 
 -- ---- an entry that is settled
@@ -114,6 +115,22 @@ module _ (s : StoreState) (i : ℕ) (there : i < length s.table.dicts) (key : Ke
   settled_found old has =
       ap (λ (es : List (Key × Pair)). value_at es key) (get_or-set_same s.table.dicts i (replaced (entries_of s D) key v) [] there) ∙ replaced_found (entries_of s D) (ap is_some has)
 
+-- under other names a dictionary has what it had
+module _ (name : List ℕ) (v : PsObj) (other : List ℕ) (apart : bytes_eq other name ≡ false) where
+  replaced_apart : (es : List (Key × Pair)) → value_at (replaced es (NameKey name) v) (NameKey other) ≡ value_at es (NameKey other)
+  replaced_apart [] = refl
+  replaced_apart (e ∷ es) = by (replaced_apart es) (same_key (NameKey name) e.0) refl
+    where
+      far : (k : Key) → same_key (NameKey name) k ≡ true → same_key (NameKey other) k ≡ false
+      far (NameKey n) h = subst (λ (x : List ℕ). bytes_eq other x ≡ false) ((bytes_decides name n).0 h) apart
+      far (IntKey i) h = absurd cc
+      far (TruthKey b) h = absurd cc
+
+      by : value_at (replaced es (NameKey name) v) (NameKey other) ≡ value_at es (NameKey other) → (b : Bool) → same_key (NameKey name) e.0 ≡ b
+          → value_at (if b then with_value e v ∷ es else e ∷ replaced es (NameKey name) v) (NameKey other) ≡ value_at (e ∷ es) (NameKey other)
+      by rest true f = ap (λ (c : Bool). if c then Some v else value_at es (NameKey other)) (far e.0 f) ∙ sym (ap (λ (c : Bool). if c then Some e.1.value else value_at es (NameKey other)) (far e.0 f))
+      by rest false f = ap (λ (o : Option PsObj). if same_key (NameKey other) e.0 then Some e.1.value else o) rest
+
 -- ---- the run
 
 module _ {Dialect : Type 0} (Op : Operates Dialect) (program : Program) (fs : List Placed) (is_unit : RunsUnits program fs) where
@@ -170,6 +187,10 @@ module _ {Dialect : Type 0} (Op : Operates Dialect) (program : Program) (fs : Li
           arrays = λ a b h. after.arrays a b (before.arrays a b h);
           dicts = λ d apart_d h. let one = before.dicts d apart_d h in let two = after.dicts d apart_d one.0 in (two.0, two.1 ∙ one.1);
         };
+        own = subst (λ (n : ℕ). index < n) (sym (length-set l.store.table.dicts index (replaced (entries_of l.store D) KEY x))) kept.0;
+        names = λ name apart_name.
+            ap (λ (es : List (Key × Pair)). value_at es (NameKey name)) (get_or-set_same l.store.table.dicts index (replaced (entries_of l.store D) KEY x) [] kept.0)
+            ∙ replaced_apart (codes "functions") x name apart_name (entries_of l.store D) ∙ ap (λ (es : List (Key × Pair)). value_at es (NameKey name)) kept.1;
         base = l.later.base;
         closed = refl;
         counted = l.later.counted;
@@ -196,9 +217,32 @@ AreStill (w ∷ ws) = IsStill w.1 × AreStill ws
 words_still : AreStill word_senses
 words_still = (tt, (tt, (tt, (tt, (tt, (tt, (tt, (tt, (tt, (tt, (tt, (tt, (tt, (tt, (tt, (tt, (tt, (tt, tt))))))))))))))))))
 
-module _ (changed : DictId) (s s' : StoreState) (kept : Elsewhere changed s s') (lacks : Lacks s changed) (ds : List DictId) (other : AreOther ds changed) (there : AreThere s ds) where
-  named_same : (word : List ℕ) → named s' ds word ≡ named s ds word
-  named_same word = ap (λ (o : Option PsObj). or_else o (option_map (λ n. Op n) (operator_number word))) (found_kept changed s s' kept ds (NameKey word) other there)
+-- what is no operator's name may be found otherwise
+abbrev OthersAreFound : (s s' : StoreState) → List DictId → Type 0
+OthersAreFound s s' ds = (word : List ℕ) → bytes_eq word (codes "functions") ≡ false → found_in s' ds (NameKey word) ≡ found_in s ds (NameKey word)
+
+free_functions : operator_number (codes "functions") ≡ None
+unfolding operator_number
+free_functions = refl
+
+-- the words are others
+abbrev AreOthers : Senses → Type 0
+AreOthers [] = Unit {0}
+AreOthers (w ∷ ws) = (bytes_eq w.0 (codes "functions") ≡ false) × AreOthers ws
+
+words_other : AreOthers word_senses
+words_other = (refl, (refl, (refl, (refl, (refl, (refl, (refl, (refl, (refl, (refl, (refl, (refl, (refl, (refl, (refl, (refl, (refl, (refl, tt))))))))))))))))))
+
+module _ (changed : DictId) (s s' : StoreState) (kept : Elsewhere changed s s') (lacks : Lacks s changed) (ds : List DictId) (found : OthersAreFound s s' ds) (there : AreThere s' ds) where
+  named_same : (word : List ℕ) → bytes_eq word (codes "functions") ≡ false → named s' ds word ≡ named s ds word
+  named_same word apart = ap (λ (o : Option PsObj). or_else o (option_map (λ n. Op n) (operator_number word))) (found word apart)
+
+  no_operator : (word : List ℕ) (n : ℕ) → operator_number word ≡ Some n → bytes_eq word (codes "functions") ≡ false
+  no_operator word n e = by (bytes_eq word (codes "functions")) refl
+    where
+      by : (b : Bool) → bytes_eq word (codes "functions") ≡ b → b ≡ false
+      by false h = refl
+      by true h = let none : operator_number word ≡ None = ap operator_number ((bytes_decides word (codes "functions")).0 h) ∙ free_functions in absurd (let f : Some n ≡ None = sym e ∙ none in cc)
 
   is_of_kept : (x : PsObj) (sense : Sense) → IsStill sense → IsOf s x sense → IsOf s' x sense
   is_of_kept x (Stands y) still h = h
@@ -207,29 +251,29 @@ module _ (changed : DictId) (s s' : StoreState) (kept : Elsewhere changed s s') 
   is_of_kept x Variables still h = (h.0, h.1, h.2, named_kept changed s s' kept lacks h.0 h.1 _ h.3)
   is_of_kept x (Called body) still h = let b = body_kept changed s s' kept body h.0 h.2 h.3 in (h.0, h.1, b.0, b.1)
   is_of_kept x (Structs few defs) still h = absurd still
-  is_of_kept x Listing still h = h
+  is_of_kept x (Objects count) still h = (h.0, h.1, h.2, kept.arrays h.0 h.1 h.3, begin_kept changed s s' kept lacks count h.1 h.4)
 
-  senses_kept : (ws : Senses) → AreStill ws → HaveSenses s ds ws → HaveSenses s' ds ws
-  senses_kept [] still h = tt
-  senses_kept (w ∷ ws) still h = ((h.0.0, named_same w.0 ∙ h.0.1, is_of_kept h.0.0 w.1 still.0 h.0.2), senses_kept ws still.1 h.1)
+  senses_kept : (ws : Senses) → AreStill ws → AreOthers ws → HaveSenses s ds ws → HaveSenses s' ds ws
+  senses_kept [] still others h = tt
+  senses_kept (w ∷ ws) still others h = ((h.0.0, named_same w.0 others.0 ∙ h.0.1, is_of_kept h.0.0 w.1 still.0 h.0.2), senses_kept ws still.1 others.1 h.1)
 
   pub furnished_kept : (p : Program) → s'.part ≡ Table → s'.closed.dicts ≤ length s'.table.dicts → length s'.base ≤ length ds → Furnished p s ds → Furnished p s' ds
   furnished_kept p part closed base f = record {
-    making = record { part = part; closed = closed; there = all_there changed s s' kept ds other there; operators = λ name n e. named_same name ∙ f.making.operators name n e };
-    have = senses_kept word_senses words_still f.have;
-    no_kind = named_same (codes "kind") ∙ f.no_kind;
-    no_tag = named_same (codes "tag") ∙ f.no_tag;
+    making = record { part = part; closed = closed; there = there; operators = λ name n e. named_same name (no_operator name n e) ∙ f.making.operators name n e };
+    have = senses_kept word_senses words_still words_other f.have;
+    no_kind = named_same (codes "kind") refl ∙ f.no_kind;
+    no_tag = named_same (codes "tag") refl ∙ f.no_tag;
     structs = record {
       array = f.structs.array;
       items = f.structs.items;
-      means = named_same (codes "structs") ∙ f.structs.means;
+      means = named_same (codes "structs") refl ∙ f.structs.means;
       holds = kept.arrays f.structs.array f.structs.items f.structs.holds;
       sized = λ n l. let x = f.structs.sized n l in (x.0, x.1, sized_kept changed s s' kept lacks x.0 (struct_size_of p.defs n) x.2);
     };
     listed = record {
       array = f.listed.array;
       items = f.listed.items;
-      means = named_same (codes "objects") ∙ f.listed.means;
+      means = named_same (codes "objects") refl ∙ f.listed.means;
       holds = kept.arrays f.listed.array f.listed.items f.listed.holds;
       are = begin_kept changed s s' kept lacks (length p.objects) f.listed.items f.listed.are;
     };
@@ -258,13 +302,32 @@ module _ (p : Program) (fs : List Placed) (u : UnitRow) (c c' : PsCore) (index :
     dicts = h.elsewhere.dicts;
   }
 
-  pub furnished_stays : Furnished p (tabled c.store) (reverse c.store.base) → AreOther (reverse c.store.base) unit_dict → Furnished p (tabled c'.store) (reverse c'.store.base)
-  furnished_stays f other =
+  -- what the dictionaries of the stack have, where the unit's may be one of them
+  others_found : (ds : List DictId) → AreThere (tabled c.store) ds → OthersAreFound (tabled c.store) (tabled c'.store) ds
+  others_found [] there word apart = refl
+  others_found (d ∷ ds) there word apart =
+      let rest : found_in (tabled c'.store) ds (NameKey word) ≡ found_in (tabled c.store) ds (NameKey word) = others_found ds there.1 word apart in
+      ap (λ (o : Option PsObj). or_else o (found_in (tabled c'.store) ds (NameKey word))) (one (same_dict d unit_dict) refl) ∙ ap (or_else (value_at (entries_of (tabled c.store) d) (NameKey word))) rest
+    where
+      one : (b : Bool) → same_dict d unit_dict ≡ b → value_at (entries_of (tabled c'.store) d) (NameKey word) ≡ value_at (entries_of (tabled c.store) d) (NameKey word)
+      one true e = let same : d ≡ unit_dict = dict_is d unit_dict e in subst (λ (x : DictId). value_at (entries_of c'.store x) (NameKey word) ≡ value_at (entries_of c.store x) (NameKey word)) (sym same) (h.names word apart)
+      one false e = ap (λ (es : List (Key × Pair)). value_at es (NameKey word)) (h.elsewhere.dicts d e there.0).1
+
+  all_still : (ds : List DictId) → AreThere (tabled c.store) ds → AreThere (tabled c'.store) ds
+  all_still [] there = tt
+  all_still (d ∷ ds) there = (one (same_dict d unit_dict) refl, all_still ds there.1)
+    where
+      one : (b : Bool) → same_dict d unit_dict ≡ b → IsThere (tabled c'.store) d
+      one true e = subst (λ (x : DictId). IsThere (tabled c'.store) x) (sym (dict_is d unit_dict e)) h.own
+      one false e = (in_both.dicts d e there.0).0
+
+  pub furnished_stays : Furnished p (tabled c.store) (reverse c.store.base) → Furnished p (tabled c'.store) (reverse c'.store.base)
+  furnished_stays f =
       let ds : List DictId = reverse c.store.base in
       let closed : c'.store.closed.dicts ≤ length c'.store.table.dicts = subst (λ (m : Mark). m.dicts ≤ length c'.store.table.dicts) (sym h.closed) (omega arith) in
       let base : length c'.store.base ≤ length ds = subst (λ (b : List DictId). length b ≤ length ds) (sym h.base) f.base in
       let lacks : Lacks (tabled c.store) unit_dict = record { kind = lacks_in (codes "kind") refl; line = lacks_in (codes "line") refl; name = lacks_in (codes "name") refl; size = lacks_in (codes "size") refl } in
-      subst (λ (b : List DictId). Furnished p (tabled c'.store) (reverse b)) (sym h.base) (furnished_kept unit_dict (tabled c.store) (tabled c'.store) in_both lacks ds other f.making.there p refl closed base f)
+      subst (λ (b : List DictId). Furnished p (tabled c'.store) (reverse b)) (sym h.base) (furnished_kept unit_dict (tabled c.store) (tabled c'.store) in_both lacks ds (others_found ds f.making.there) (all_still ds f.making.there) p refl closed base f)
 
   -- the deferred entry of another unit
   pub deferred_stays : (v : UnitRow) (j : ℕ) (text : StringId) → (j ≡ index → ⊥) → IsDeferred p fs v c.store j text → IsDeferred p fs v c'.store j text

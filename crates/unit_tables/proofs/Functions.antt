@@ -1,6 +1,6 @@
 -- The functions of a unit are made.
 use Rattle.std.proofs.Common.{◌≡◌, ℕ, ℤ, pos, zero, suc, ◌+◌, ◌*◌, ◌<◌, ◌≤◌, ◌^◌, Bool, true, false, Option, Some, None, List, [], ◌∷◌, ◌++◌, length, reverse, codes, slice_get, refl, sym, ap, ◌∙◌, subst, arith, append_assoc, append-nil, length-append}
-use Rattle.std.proofs.lemmas.List.{reverse-append, length-reverse}
+use Rattle.std.proofs.lemmas.List.{reverse-append}
 use Rattle.std.specs.List.{AllByRecursion}
 use Rattle.ldb_words.specs.Word.{signed}
 use Rattle.ps_scan.specs.Bytes.{is_regular, is_white, is_special}
@@ -29,17 +29,17 @@ use Rattle.ps_text.proofs.Checks.{fine}
 use Rattle.ps_terms.specs.Machine.{Does}
 use Rattle.ps_terms.specs.Stands.{core, Means}
 use Rattle.ps_terms.specs.Printing.{further}
-use Rattle.ps_emit.specs.Terms.{◌⋯◌, word, bracketed}
+use Rattle.ps_emit.specs.Terms.{◌⋯◌}
 use Rattle.ps_emit.specs.Places.{Homes, homes}
-use Rattle.ps_emit.specs.Functions.{truth, saved_register, saved_code, points_code, made_by, function_code, function_in, made_in, functions_code}
+use Rattle.ps_emit.specs.Functions.{truth, saved_code, points_code, made_by, function_code, function_in, made_in, functions_code}
 use Rattle.ps_emit.specs.Lengths.{IsInteger}
 use Rattle.ps_tables.specs.Taken.{Takes}
 use Rattle.ps_tables.specs.Dictionaries.{Fields, filled}
 use Rattle.ps_tables.specs.Making.{IsMaking, HasFields, AreShort}
 use Rattle.ps_tables.specs.Later.{Later, StandsAt}
-use Rattle.ps_tables.specs.Makers.{body, calls, MadeBy}
+use Rattle.ps_tables.specs.Makers.{body, calls}
 use Rattle.ps_tables.specs.TableWords.{new_function}
-use Rattle.ps_tables.specs.Pieces.{Piece, End, Number, Chars, Value, Row, code, cost, steps, left_by, IsValue, Gives, truth as gives_true, falsehood, Knows, HasRoom, Values, Bottom, This, Written, Listed, after, Show, Performs}
+use Rattle.ps_tables.specs.Pieces.{Piece, End, Number, Value, Row, code, cost, steps, left_by, IsValue, truth as gives_true, falsehood, Knows, HasRoom, Values, Bottom, This, Listed, after, Show, Performs}
 use Rattle.ps_tables.specs.TablePieces.{saved}
 use Rattle.ps_tables.specs.Defined.{in_table}
 use Rattle.ps_tables.specs.Senses.{Called, HasSense}
@@ -51,7 +51,7 @@ use Rattle.ps_tables.proofs.Tokens.{Pushed}
 use Rattle.ps_tables.proofs.PieceSteps.{open_fine, open_number, opens, Closes, closes}
 use Rattle.ps_tables.proofs.Pieces.{performs}
 use Rattle.ps_tables.proofs.TablePieces.{assoc}
-use Rattle.ps_tables.proofs.MembersRun.{further_is, word_fine}
+use Rattle.ps_tables.proofs.MembersRun.{further_is}
 use Rattle.ps_tables.proofs.WordsKnown.{sense_is}
 use Rattle.unit_tables.specs.Amended.{Amended, HasNoNames}
 use Rattle.unit_tables.specs.Shown.{ArePoints, AreSaved, IsFunction}
@@ -178,7 +178,7 @@ whole_is b name entry end frame saved points k = on b
     on true = ap (λ c. Text name (Word (codes "true") (Num entry (Num end (Num frame (Word (codes "[") c)))))) inner
     on false = ap (λ c. Text name (Word (codes "false") (Num entry (Num end (Num frame (Word (codes "[") c)))))) inner
 
-all_places : (f : Function) (at : Placed) → RunsPlaced at → ArePlaces (homes at.locals f.locals)
+pub all_places : (f : Function) (at : Placed) → RunsPlaced at → ArePlaces (homes at.locals f.locals)
 all_places f at h x = on at.locals x h.locals
   where
     on : (ls : List LocalPlace) (n : ℕ) → AllByRecursion (λ (l : LocalPlace). RunsPlace (Some l)) ls → RunsPlace (slice_get ls n)
@@ -320,8 +320,7 @@ module _ (program : Program) (fs : List Placed) (is_unit : RunsUnits program fs)
       let size : cost piece ≡ text_units f.name + 7 + 8 * length at.saved = omega arith in
       let number : steps piece ≡ 7 + 4 * length at.saved = let e = further_is (steps (saved_parts at.saved)) 1 in omega arith in
       let p : Performs (cost piece) (steps piece) (after piece Bottom) s all o o t from (render k ++ post) under =
-      performs all t under items_fit post piece k Bottom s [] o from is
-      (
+      performs all t under items_fit post piece k Bottom s [] o from is (
         (of_function.name, tt),
         truth_known s is f.is_static numbers (any_fine at.entry, (any_fine at.end, (any_fine at.frame, (omega arith, saved_known s all at.saved placed.saved, tt)))),
       )

@@ -10,3 +10,4 @@ pub mod Functions
 pub mod Units
 pub mod Forced
 pub mod Bounded
+pub mod Furnishing

@@ -1,5 +1,5 @@
 -- A value is put under an integer of a dictionary.
-use Rattle.std.proofs.Common.{◌≡◌, ℕ, ℤ, suc, ◌+◌, ◌<◌, ◌≤◌, Bool, true, false, ◌&&◌, ◌==◌, nat_lt, is_some, if◌then◌else◌, Option, Some, None, Result, Ok, Err, List, [], ◌∷◌, ◌++◌, length, slice_index_or, slice_set, refl, sym, ap, ◌∙◌, subst, arith, length-append, eq-eqb, lt-ltb, le-leb, le-ltb}
+use Rattle.std.proofs.Common.{◌≡◌, ℕ, ℤ, ◌+◌, ◌<◌, ◌≤◌, Bool, true, false, ◌&&◌, ◌==◌, nat_lt, is_some, if◌then◌else◌, Option, Some, None, Ok, Err, List, [], ◌∷◌, ◌++◌, length, slice_index_or, slice_set, refl, sym, ap, ◌∙◌, subst, arith, length-append, eq-eqb, lt-ltb, le-leb, le-ltb}
 use Rattle.std.proofs.lemmas.List.{get_or-set_same, get_or-set_other, length-set}
 use Rattle.std.proofs.lemmas.Bool.Decides.{Decides-int_eq}
 use Rattle.ps_store.specs.declared.object.Part.{Part}
@@ -19,7 +19,6 @@ use Rattle.ps_step.specs.Results.{◌>>=◌, stored}
 use Rattle.ps_step.specs.Keys.{put_under}
 use Rattle.ps_step.specs.Compare.{same_part}
 use Rattle.ps_step.specs.Composites.{same_dict}
-use Rattle.ps_tables.specs.Later.{IsThere}
 use Rattle.ps_tables.proofs.Kept.{Same, kept_string, kept_array}
 use Rattle.ps_tables.proofs.Putting.{replaced_length}
 use Rattle.unit_tables.specs.Amended.{PutsUnder}

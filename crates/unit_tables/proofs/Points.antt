@@ -1,5 +1,5 @@
 -- The points of a function are made.
-use Rattle.std.proofs.Common.{◌≡◌, ◌⊎◌, inl, inr, ℕ, pos, zero, suc, ◌+◌, ◌<◌, ◌≤◌, ◌^◌, Bool, true, false, nat_lt, if◌then◌else◌, Option, Some, None, List, [], ◌∷◌, ◌++◌, length, reverse, codes, slice_get, refl, sym, ap, ◌∙◌, subst, arith, append_assoc, length-append, lt-ltb, le-ltb, ltb-true, ltb-false}
+use Rattle.std.proofs.Common.{◌≡◌, ◌⊎◌, inl, inr, ℕ, zero, suc, ◌+◌, ◌<◌, ◌≤◌, Bool, true, false, nat_lt, if◌then◌else◌, Option, Some, None, List, [], ◌∷◌, ◌++◌, length, reverse, codes, slice_get, refl, sym, ap, ◌∙◌, subst, arith, append_assoc, length-append, lt-ltb, le-ltb, ltb-false}
 use Rattle.std.proofs.lemmas.List.{reverse-append}
 use Rattle.std.specs.List.{AllByRecursion}
 use Rattle.ldb_words.specs.Word.{signed}
@@ -27,14 +27,14 @@ use Rattle.ps_terms.specs.Printing.{further}
 use Rattle.ps_emit.specs.Terms.{◌⋯◌}
 use Rattle.ps_emit.specs.Places.{Homes}
 use Rattle.ps_emit.specs.Symbols.{linked, up_in, coming, symbol_of, symbols_code, made_with}
-use Rattle.ps_emit.specs.Functions.{point_code, symbol_at, opened, point_in, points_code, made_by}
+use Rattle.ps_emit.specs.Functions.{point_code, symbol_at, point_in, points_code, made_by}
 use Rattle.ps_tables.specs.Taken.{Takes}
 use Rattle.ps_tables.specs.Dictionaries.{Fields, filled}
 use Rattle.ps_tables.specs.Making.{IsMaking, HasFields}
 use Rattle.ps_tables.specs.Later.{StandsAt}
 use Rattle.ps_tables.specs.Makers.{body}
 use Rattle.ps_tables.specs.TableWords.{new_point}
-use Rattle.ps_tables.specs.Pieces.{Piece, End, Number, Make, code, cost, steps, left_by, Knows, HasRoom, IsValue, Values, Bottom, This, Entry, after, Show, Performs}
+use Rattle.ps_tables.specs.Pieces.{Piece, End, Number, code, cost, steps, left_by, IsValue, Values, Bottom, This, after, Show, Performs}
 use Rattle.ps_tables.specs.Defined.{in_table}
 use Rattle.ps_tables.specs.Rows.{weigh}
 use Rattle.ps_tables.specs.Senses.{Called, HasSense}
@@ -49,11 +49,11 @@ use Rattle.unit_tables.specs.Amended.{Amended}
 use Rattle.unit_tables.specs.Shown.{IsPoint, ArePoints}
 use Rattle.unit_tables.specs.Running.{IsOutward, here, further as further_out, IsMade, first_made, Running}
 use Rattle.unit_tables.specs.Symbols.{linked_then, link_steps, link_made, symbol_steps, symbol_made, ArePlaces, RunsSymbol, DefinesSymbol}
-use Rattle.unit_tables.specs.Points.{point_parts, row_steps, row_made, IsFollowed, LeadLower, opened_steps, opened_made, point_steps, point_made, with_point, point_rows, steps_at, made_at, points_steps, points_made, AreFollowed}
+use Rattle.unit_tables.specs.Points.{point_parts, row_steps, row_made, IsFollowed, opened_steps, opened_made, point_steps, point_made, with_point, point_rows, steps_at, made_at, points_steps, points_made, AreFollowed}
 use Rattle.unit_tables.specs.Conditions.{RunsUnits}
 use Rattle.unit_tables.proofs.Amended.{amended_none, amended_then, amended_within, later_amended}
-use Rattle.unit_tables.proofs.Staying.{chain_amended, point_amended, points_amended, running_later, running_less}
-use Rattle.unit_tables.proofs.Symbols.{any_fine, link_takes, link_makes, link_room, Link, link_of, symbol_defined}
+use Rattle.unit_tables.proofs.Staying.{chain_amended, point_amended, running_later, running_less}
+use Rattle.unit_tables.proofs.Symbols.{any_fine, link_takes, link_makes, link_room, link_of, symbol_defined}
 
 new_point_fine : Fine (Word (codes "NewPoint") Stop)
 unfolding is_white is_special is_regular

@@ -1,5 +1,5 @@
 -- What stays of a unit's symbols, points and functions where its dictionary gets more.
-use Rattle.std.proofs.Common.{◌≡◌, ◌⊎◌, inl, inr, ℕ, ℤ, zero, suc, ◌+◌, ◌<◌, ◌≤◌, ◌^◌, Bool, true, false, Option, Some, None, List, [], ◌∷◌, length, codes, refl, sym, ap, ◌∙◌, subst, arith}
+use Rattle.std.proofs.Common.{◌≡◌, ◌⊎◌, inl, inr, ℕ, ℤ, ◌+◌, ◌<◌, ◌≤◌, ◌^◌, Bool, true, false, Option, Some, List, ◌∷◌, length, codes, refl, sym, ap, ◌∙◌, subst, arith}
 use Rattle.std.specs.Ordering.{int_eq}
 use Rattle.std.specs.Int.{w32}
 use Rattle.std.proofs.lemmas.Int.{of_z-to_z}
@@ -8,34 +8,28 @@ use Rattle.ldb_words.specs.Word.{signed, word_of_signed}
 use Rattle.c_tree.specs.declared.types.StructDef.{StructDef}
 use Rattle.c_tree.specs.declared.rows.SymbolRow.{SymbolRow}
 use Rattle.c_tree.specs.Layout.{struct_size_of}
-use Rattle.c_tree.specs.declared.rows.Referent.{Referent}
-use Rattle.c_tree.specs.declared.rows.Referent.TheVariants as refers
 use Rattle.c_tree.specs.declared.rows.Point.{Point}
 use Rattle.c_tree.specs.declared.rows.Function.{Function}
 use Rattle.obj_file.specs.declared.object.FunctionRow.{FunctionRow as Placed}
 use Rattle.ps_store.specs.declared.object.PsObj.{PsObj}
-use Rattle.ps_store.specs.declared.object.PsObj.TheVariants.{Dict, Null}
 use Rattle.ps_store.specs.declared.object.DictId.{DictId}
-use Rattle.ps_store.specs.declared.object.StringId.{StringId}
 use Rattle.ps_store.specs.declared.object.Pair.{Pair}
 use Rattle.ps_store.specs.declared.key.Key.{Key}
 use Rattle.ps_store.specs.declared.key.Key.TheVariants.{Int as IntKey}
-use Rattle.ps_store.specs.Key.{same_key}
 use Rattle.ps_store.specs.Entries.{value_at}
 use Rattle.ps_store.specs.StoreState.{StoreState}
 use Rattle.ps_store.specs.Store.{entries_of}
 use Rattle.ps_tables.specs.Making.{AreThere}
-use Rattle.ps_tables.specs.Later.{IsThere, Later}
+use Rattle.ps_tables.specs.Later.{Later}
 use Rattle.ps_tables.specs.Defined.{in_table}
 use Rattle.ps_tables.specs.Pieces.{IsValue}
-use Rattle.ps_tables.specs.Senses.{AreOther, Knowing}
-use Rattle.ps_tables.specs.Types.{written}
+use Rattle.ps_tables.specs.Senses.{AreOther}
 use Rattle.ps_tables.specs.WordsKnown.{word_senses}
 use Rattle.ps_tables.proofs.Sequence.{knowing_later}
 use Rattle.unit_tables.specs.Kept.{Elsewhere, Lacks}
 use Rattle.unit_tables.specs.Amended.{PutsUnder, Amended, HasNoNames}
 use Rattle.unit_tables.specs.Shown.{Chained, outermost, symbol, IsPoint, ArePoints, AreSaved, IsFunction}
-use Rattle.unit_tables.specs.Running.{object_fields, IsObject, BeginWith, HasObjects, HasStructs, IsDefined, Running}
+use Rattle.unit_tables.specs.Running.{HasObjects, HasStructs, IsDefined, Running}
 use Rattle.unit_tables.proofs.Elsewhere.{sized_kept, begin_kept, chain_kept, point_kept, points_kept, saved_kept, function_kept}
 use Rattle.unit_tables.proofs.Amended.{later_amended, puts_amended, named_amended, no_names_amended, elsewhere, lacks_all, knowing_amended}
 

@@ -1,12 +1,10 @@
 -- A symbol is made, and stands under its number.
-use Rattle.std.proofs.Common.{◌≡◌, ◌⊎◌, ℕ, ℤ, pos, negsuc, zero, suc, ◌+◌, ◌-◌, ◌*◌, ◌<◌, ◌≤◌, ◌^◌, Bool, true, false, Option, Some, None, Result, Ok, Err, List, [], ◌∷◌, ◌++◌, length, codes, slice_get, nat_lt, refl, sym, ap, ◌∙◌, subst, arith, ltb-true, ltb-false, le-ltb}
+use Rattle.std.proofs.Common.{◌≡◌, ◌⊎◌, ℕ, ℤ, pos, negsuc, zero, suc, ◌+◌, ◌-◌, ◌<◌, ◌≤◌, ◌^◌, Bool, true, false, Option, Some, None, Result, Ok, List, [], ◌∷◌, ◌++◌, length, codes, slice_get, nat_lt, refl, sym, ap, ◌∙◌, subst, arith, ltb-true, ltb-false, le-ltb}
 use Rattle.ldb_words.specs.Word.{signed}
 use Rattle.ps_scan.specs.Bytes.{is_regular, is_white, is_special}
 use Rattle.obj_file.specs.declared.object.FunctionRow.{FunctionRow as Placed}
 use Rattle.obj_file.specs.declared.object.LocalPlace.{LocalPlace}
 use Rattle.obj_file.specs.declared.object.LocalPlace.TheVariants.{Slot, Reg}
-use Rattle.c_tree.specs.declared.types.CType.{CType}
-use Rattle.c_tree.specs.declared.types.CType.TheVariants.{Char, Int as IntType, Unsigned, Void, Pointer', Array', Struct}
 use Rattle.c_tree.specs.declared.types.StructDef.{StructDef}
 use Rattle.c_tree.specs.declared.rows.SymbolRow.{SymbolRow}
 use Rattle.c_tree.specs.declared.rows.Referent.{Referent}
@@ -16,9 +14,6 @@ use Rattle.ps_store.specs.declared.object.PsObj.TheVariants.{Int, Name, Str, Arr
 use Rattle.ps_store.specs.declared.object.ArrayId.{ArrayId}
 use Rattle.ps_store.specs.declared.object.DictId.{DictId}
 use Rattle.ps_store.specs.declared.object.StringId.{StringId}
-use Rattle.ps_store.specs.declared.object.Mark.{Mark}
-use Rattle.ps_store.specs.declared.object.Pair.{Pair}
-use Rattle.ps_store.specs.declared.key.Key.{Key}
 use Rattle.ps_store.specs.declared.key.Key.TheVariants.{Int as IntKey}
 use Rattle.ps_store.specs.Operators.{operator_number}
 use Rattle.ps_store.specs.StoreState.{StoreState}
@@ -29,7 +24,7 @@ use Rattle.ps_step.specs.declared.item.Item.TheVariants.{Text as TextItem}
 use Rattle.ps_step.specs.declared.machine.PsCore.{PsCore}
 use Rattle.ps_step.specs.Results.{◌>>=◌, at as at_state}
 use Rattle.ps_step.specs.Keys.{or_else, found_in}
-use Rattle.ps_step.specs.Executing.{alone, acting}
+use Rattle.ps_step.specs.Executing.{alone}
 use Rattle.ps_run.specs.Step.{Next, settled, step}
 use Rattle.ps_text.specs.Code.{Code, Stop, Num, Word, Text, Proc, render}
 use Rattle.ps_text.specs.Grown.{IsString}
@@ -40,36 +35,37 @@ use Rattle.ps_terms.specs.Stands.{core, Means}
 use Rattle.ps_terms.specs.Printing.{further}
 use Rattle.ps_emit.specs.Terms.{◌⋯◌}
 use Rattle.ps_emit.specs.Types.{type_code}
-use Rattle.ps_emit.specs.Places.{Homes, declared_register, register_told, words_at, home_words}
+use Rattle.ps_emit.specs.Places.{Homes, declared_register, words_at, home_words}
 use Rattle.ps_emit.specs.Symbols.{linked, entry_in, object_symbol, local_symbol, function_symbol as function_symbol_code, symbol_by, symbol_code}
-use Rattle.ps_emit.specs.Bounds.{constructors, of_named, of_symbol}
+use Rattle.ps_emit.specs.Bounds.{of_named, of_symbol}
 use Rattle.ps_emit.specs.Lengths.{IsInteger}
 use Rattle.ps_tables.specs.Taken.{Takes}
 use Rattle.ps_tables.specs.Dictionaries.{Fields, updated, filled, joined}
-use Rattle.ps_tables.specs.Making.{copying, IsMaking, HasFields, AreShort}
+use Rattle.ps_tables.specs.Making.{IsMaking, HasFields}
 use Rattle.ps_tables.specs.Later.{IsThere, Later, StandsAt}
 use Rattle.ps_tables.specs.Makers.{Maker, body, making_steps, taken_by, most, calls, Ready, MadeBy}
 use Rattle.ps_tables.specs.TableWords.{new_symbol, function_symbol}
 use Rattle.ps_tables.specs.Types.{written, type_steps, type_cost, IsType}
-use Rattle.ps_tables.specs.Pieces.{Piece, End, Chars, Quote, Typed, Element, code, cost, steps, Knows, HasRoom, IsValue, nothing, Values, Bottom, This, Written, Quoted, OfType, after, Show, Performs}
+use Rattle.ps_tables.specs.Pieces.{Piece, End, Element, code, cost, steps, Knows, HasRoom, IsValue, nothing, Values, Bottom, This, Written, Quoted, OfType, after, Show, Performs}
 use Rattle.ps_tables.specs.Defined.{in_table}
 use Rattle.ps_tables.specs.Runnable.{RunsType}
-use Rattle.ps_tables.specs.Senses.{Variables, Called, variable_fields, HasSense, Knowing}
+use Rattle.ps_tables.specs.Senses.{object_fields, IsObject, BeginWith, Variables, Called, variable_fields, HasSense}
 use Rattle.ps_tables.specs.WordsKnown.{word_senses, symbol_body, function_symbol_body, object_symbol_body}
 use Rattle.ps_tables.proofs.Going.{takes_then, takes_one}
 use Rattle.ps_tables.proofs.Stores.{later_then, later_within, making_later, means_later, ready_later, fields_later}
 use Rattle.ps_tables.proofs.Types.{fields_value, type_later}
-use Rattle.ps_tables.proofs.TypeTexts.{null_fine, null_number, small_signed, small_fine, small_integer}
+use Rattle.ps_tables.proofs.TypeTexts.{null_fine, null_number, small_signed, small_integer}
 use Rattle.ps_tables.proofs.Tokens.{Acted, word_acts, Pushed, number_pushes}
 use Rattle.ps_tables.proofs.Pieces.{performs}
 use Rattle.ps_tables.proofs.TablePieces.{assoc}
 use Rattle.ps_tables.proofs.MembersRun.{further_is, word_fine}
+use Rattle.ps_tables.proofs.Bounded.{type_takes, type_makes}
 use Rattle.ps_tables.proofs.WordsKnown.{sense_is}
 use Rattle.ps_tables.proofs.TypesKnown.{type_is}
 use Rattle.unit_tables.proofs.Types.{type_known}
-use Rattle.unit_tables.specs.Amended.{PutsUnder, Amended}
-use Rattle.unit_tables.specs.Shown.{IsOwn, IsSymbol, Chained, outermost, symbol}
-use Rattle.unit_tables.specs.Running.{object_fields, IsObject, BeginWith, HasObjects, IsDefined, Running}
+use Rattle.unit_tables.specs.Amended.{PutsUnder}
+use Rattle.unit_tables.specs.Shown.{IsOwn, Chained, outermost, symbol}
+use Rattle.unit_tables.specs.Running.{HasObjects, IsDefined, Running}
 use Rattle.unit_tables.specs.Symbols.{linked_then, named_parts, object_parts, address_words, link_steps, link_made, steps_by, units_by, symbol_steps, symbol_made, RunsReferent, RunsPlace, ArePlaces, RunsSymbol, DefinesSymbol}
 use Rattle.unit_tables.proofs.Numbered.{put_store, puts_number, put_numbered}
 use Rattle.unit_tables.proofs.Amended.{amended_then, amended_within, later_amended, puts_amended}
@@ -598,24 +594,6 @@ module _ (defs : List StructDef) (ss : List SymbolRow) (objects i : ℕ) (ds : L
       }
 
 -- ---- what is counted
-
-type_takes : (defs : List StructDef) (t : CType) → type_steps (written defs t) ≤ constructors t * 30
-type_takes defs Char = omega arith
-type_takes defs IntType = omega arith
-type_takes defs Unsigned = omega arith
-type_takes defs Void = omega arith
-type_takes defs (Pointer' b t) = let e = type_takes defs t in let f = further_is (type_steps (written defs t)) 11 in omega arith
-type_takes defs (Array' b t n) = let e = type_takes defs t in let f = further_is (type_steps (written defs t)) 30 in omega arith
-type_takes defs (Struct s) = omega arith
-
-type_makes : (defs : List StructDef) (t : CType) → type_cost (written defs t) ≤ constructors t * 8
-type_makes defs Char = omega arith
-type_makes defs IntType = omega arith
-type_makes defs Unsigned = omega arith
-type_makes defs Void = omega arith
-type_makes defs (Pointer' b t) = let e = type_makes defs t in omega arith
-type_makes defs (Array' b t n) = let e = type_makes defs t in omega arith
-type_makes defs (Struct s) = omega arith
 
 -- no more than is counted for a symbol, where its name has at most 63 bytes
 pub symbol_takes : (defs : List StructDef) (row : SymbolRow) → symbol_steps defs row ≤ (of_symbol row).steps

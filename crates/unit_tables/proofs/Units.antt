@@ -1,7 +1,6 @@
 -- The deferred text of a unit is run to its end.
-use Rattle.std.proofs.Common.{◌≡◌, ℕ, pos, zero, suc, ◌+◌, ◌<◌, ◌≤◌, Bool, true, false, ◌&&◌, ◌==◌, nat_lt, nat_le, if◌then◌else◌, Option, Some, None, Result, Ok, Err, List, [], ◌∷◌, ◌++◌, length, reverse, codes, refl, sym, ap, ◌∙◌, subst, arith, ne_eqb, lt-ltb, leb-true, append-nil, length-append}
+use Rattle.std.proofs.Common.{◌≡◌, ℕ, pos, suc, ◌+◌, ◌<◌, ◌≤◌, Bool, true, false, ◌&&◌, ◌==◌, nat_le, if◌then◌else◌, Option, Some, Result, Ok, Err, List, [], ◌∷◌, ◌++◌, length, reverse, codes, refl, sym, ap, ◌∙◌, subst, arith, ne_eqb, lt-ltb, leb-true, append-nil, length-append}
 use Rattle.std.specs.Prelude.{option_map}
-use Rattle.std.specs.List.{AllByRecursion}
 use Rattle.ps_scan.specs.Bytes.{is_regular, is_white, is_special}
 use Rattle.obj_file.specs.declared.object.FunctionRow.{FunctionRow as Placed}
 use Rattle.c_tree.specs.declared.rows.Program.{Program}
@@ -14,14 +13,13 @@ use Rattle.ps_store.specs.declared.object.PsObj.TheVariants.{Int, Array, Dict, O
 use Rattle.ps_store.specs.declared.object.ArrayId.{ArrayId}
 use Rattle.ps_store.specs.declared.object.DictId.{DictId}
 use Rattle.ps_store.specs.declared.object.StringId.{StringId}
-use Rattle.ps_store.specs.declared.object.Mark.{Mark as Counts}
 use Rattle.ps_store.specs.declared.object.Pair.{Pair}
 use Rattle.ps_store.specs.declared.key.Key.{Key}
 use Rattle.ps_store.specs.declared.key.Key.TheVariants.{Name as NameKey}
 use Rattle.ps_store.specs.Entries.{value_at}
 use Rattle.ps_store.specs.Operators.{operator_number}
 use Rattle.ps_store.specs.StoreState.{StoreState}
-use Rattle.ps_store.specs.Store.{Given, held, entries_of, making_dict, text_units}
+use Rattle.ps_store.specs.Store.{Given, held, entries_of, making_dict}
 use Rattle.ps_step.specs.declared.fault.PsError.{PsError}
 use Rattle.ps_step.specs.declared.fault.PsError.TheVariants.{DictStackOverflow, DictStackUnderflow}
 use Rattle.ps_step.specs.declared.item.Item.{Item}
@@ -29,9 +27,7 @@ use Rattle.ps_step.specs.declared.item.Item.TheVariants.{Text as TextItem}
 use Rattle.ps_step.specs.declared.machine.PsCore.{PsCore}
 use Rattle.ps_step.specs.Results.{◌>>=◌, stored, at as at_state}
 use Rattle.ps_step.specs.Compare.{same_part}
-use Rattle.ps_step.specs.Composites.{same_dict}
 use Rattle.ps_step.specs.Keys.{or_else, found_in, named}
-use Rattle.ps_step.specs.State.{Made}
 use Rattle.ps_step.specs.Executing.{alone}
 use Rattle.ps_run.specs.Scan.{Nothing}
 use Rattle.ps_run.specs.Step.{Ended, Next, settled, step}
@@ -46,32 +42,30 @@ use Rattle.ps_terms.specs.Printing.{further}
 use Rattle.ps_emit.specs.Terms.{◌⋯◌}
 use Rattle.ps_emit.specs.Functions.{functions_code, deferred}
 use Rattle.ps_tables.specs.Taken.{Takes}
-use Rattle.ps_tables.specs.Dictionaries.{Fields, with_dict, next_dict}
-use Rattle.ps_tables.specs.Making.{AreThere, IsMaking, HasFields}
-use Rattle.ps_tables.specs.Later.{IsThere, Later, StandsAt}
+use Rattle.ps_tables.specs.Dictionaries.{with_dict, next_dict}
+use Rattle.ps_tables.specs.Making.{AreThere, IsMaking}
+use Rattle.ps_tables.specs.Later.{Later, StandsAt}
 use Rattle.ps_tables.specs.Defined.{in_table}
-use Rattle.ps_tables.specs.Pieces.{IsValue}
-use Rattle.ps_tables.specs.Senses.{Senses, HasSense, HaveSenses, AreOther}
+use Rattle.ps_tables.specs.Senses.{Senses, HaveSenses, AreOther}
 use Rattle.ps_tables.specs.WordsKnown.{word_senses}
 use Rattle.ps_tables.proofs.Going.{takes_then, takes_one}
 use Rattle.ps_tables.proofs.Putting.{entries_there}
 use Rattle.ps_tables.proofs.Words.{count_is, dict_made}
 use Rattle.ps_tables.proofs.Texts.{step_reads}
 use Rattle.ps_tables.proofs.Types.{sized_later}
-use Rattle.ps_tables.proofs.Stores.{later_then, later_within, later_made, making_later, named_later, fields_later, stands_later}
+use Rattle.ps_tables.proofs.Stores.{later_then, later_within, later_made, making_later, named_later, stands_later}
 use Rattle.ps_tables.proofs.Tokens.{Acted, word_acts, Pushed, number_pushes}
 use Rattle.ps_tables.proofs.PieceSteps.{open_fine, open_number, opens, Closes, closes}
 use Rattle.ps_tables.proofs.TablePieces.{assoc}
 use Rattle.ps_tables.proofs.MembersRun.{further_is}
-use Rattle.ps_tables.proofs.Known.{senses_later}
+use Rattle.ps_tables.proofs.Known.{begin_later, senses_later}
 use Rattle.unit_tables.specs.Amended.{Amended, HasNoNames}
-use Rattle.unit_tables.specs.Running.{IsObject, BeginWith, HasObjects, IsMade, Running}
+use Rattle.unit_tables.specs.Running.{IsMade, Running}
 use Rattle.unit_tables.specs.Conditions.{RunsUnits, FunctionsFollowed}
 use Rattle.unit_tables.specs.Functions.{functions_steps, functions_made, function_rows, AreFunctions, unit_steps, unit_made}
 use Rattle.unit_tables.specs.Units.{Furnished, LeavesFunctions}
 use Rattle.unit_tables.proofs.Amended.{amended_then, amended_within, later_amended, no_names_amended}
 use Rattle.unit_tables.proofs.Staying.{running_later}
-use Rattle.unit_tables.proofs.Symbols.{any_fine}
 use Rattle.unit_tables.proofs.Functions.{these, show_these, functions_few, FunctionsDone, made_after, functions_amended, functions_done}
 
 dict_fine : Fine (Word (codes "dict") Stop)
@@ -105,14 +99,6 @@ end_number = refl
 -- ---- furnished states
 
 module _ (u : ℕ) (s s' : StoreState) (later : Later u s s') where
-  begin_later : (n : ℕ) (xs : List PsObj) → BeginWith s n xs → BeginWith s' n xs
-  begin_later zero xs h = tt
-  begin_later (suc n) [] h = absurd h
-  begin_later (suc n) (x ∷ xs) h = (
-    record { dict = h.0.dict; is = h.0.is; kind = h.0.kind; ctype = h.0.ctype; place = h.0.place; label = h.0.label; name = h.0.name; has = fields_later u s s' later h.0.dict _ h.0.has },
-    begin_later n xs h.1,
-  )
-
   pub furnished_later : (p : Program) (ds : List DictId) → Furnished p s ds → Furnished p s' ds
   furnished_later p ds f = record {
     making = making_later u s s' later ds f.making;
@@ -131,7 +117,7 @@ module _ (u : ℕ) (s s' : StoreState) (later : Later u s s') where
       items = f.listed.items;
       means = named_later u s s' later ds (codes "objects") f.making.there ∙ f.listed.means;
       holds = later.arrays f.listed.array f.listed.items f.listed.holds;
-      are = begin_later (length p.objects) f.listed.items f.listed.are;
+      are = begin_later u s s' later ds f.making.there (length p.objects) f.listed.items f.listed.are;
     };
     few_dicts = f.few_dicts;
     base = subst (λ (b : List DictId). length b ≤ length ds) (sym later.base) f.base;

@@ -1,10 +1,8 @@
 -- What the units of a program take together when each is run once.
-use Rattle.std.specs.Prelude.{ℕ, ◌+◌, List, [], ◌∷◌, Option, Some, None, slice_get}
+use Rattle.std.specs.Prelude.{ℕ, ◌+◌, List, [], ◌∷◌}
 use Rattle.obj_file.specs.declared.object.FunctionRow.{FunctionRow as Placed}
 use Rattle.c_tree.specs.declared.rows.Program.{Program}
 use Rattle.c_tree.specs.declared.rows.UnitRow.{UnitRow}
-use Rattle.c_tree.specs.declared.rows.SymbolRow.{SymbolRow}
-use Rattle.ps_emit.specs.Bounds.{of_symbol}
 use Rattle.unit_tables.specs.Functions.{unit_steps, unit_made}
 
 module _ (p : Program) (fs : List Placed) where

@@ -1,11 +1,10 @@
 -- What a program and its placement keep to whose units run.
-use Rattle.std.specs.Prelude.{◌≡◌, ◌<◌, ◌≤◌, ◌^◌, ℕ, ℤ, List, [], ◌∷◌, length, Option, Some, None, slice_get}
+use Rattle.std.specs.Prelude.{◌<◌, ◌≤◌, ◌^◌, ℕ, ℤ, List, [], ◌∷◌, length, Option, Some, slice_get}
 use Rattle.std.specs.List.{AllByRecursion}
 use Rattle.obj_file.specs.declared.object.FunctionRow.{FunctionRow as Placed}
 use Rattle.obj_file.specs.declared.object.LocalPlace.{LocalPlace}
 use Rattle.c_tree.specs.declared.rows.Program.{Program}
 use Rattle.c_tree.specs.declared.rows.Function.{Function}
-use Rattle.c_tree.specs.declared.rows.SymbolRow.{SymbolRow}
 use Rattle.ps_emit.specs.Lengths.{IsInteger}
 use Rattle.ps_emit.specs.Functions.{made_in}
 use Rattle.unit_tables.specs.Symbols.{RunsPlace, RunsSymbol}

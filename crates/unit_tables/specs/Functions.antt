@@ -1,5 +1,5 @@
 -- How the functions of a unit are made: in how many steps, and with how many units at most.
-use Rattle.std.specs.Prelude.{ℕ, ℤ, pos, ◌+◌, ◌*◌, Bool, true, false, codes, Option, Some, None, List, [], ◌∷◌, length, slice_get}
+use Rattle.std.specs.Prelude.{ℕ, ℤ, ◌+◌, ◌*◌, Bool, true, false, codes, Option, Some, List, [], ◌∷◌, length, slice_get}
 use Rattle.ldb_words.specs.Word.{signed}
 use Rattle.obj_file.specs.declared.object.FunctionRow.{FunctionRow as Placed}
 use Rattle.c_tree.specs.declared.rows.Program.{Program}

@@ -1,7 +1,6 @@
 -- How the points of a function are made, with the symbols that come into scope there: in how many steps, and with how many units at most.
-use Rattle.std.specs.Prelude.{◌≡◌, ◌<◌, ℕ, ◌+◌, codes, Option, Some, None, List, [], ◌∷◌, length, reverse, slice_get}
+use Rattle.std.specs.Prelude.{◌≡◌, ◌<◌, ℕ, ◌+◌, codes, Option, Some, None, List, [], ◌∷◌, length, slice_get}
 use Rattle.ldb_words.specs.Word.{signed}
-use Rattle.obj_file.specs.declared.object.FunctionRow.{FunctionRow as Placed}
 use Rattle.c_tree.specs.declared.types.StructDef.{StructDef}
 use Rattle.c_tree.specs.declared.rows.SymbolRow.{SymbolRow}
 use Rattle.c_tree.specs.declared.rows.Point.{Point}

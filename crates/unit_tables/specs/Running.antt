@@ -1,14 +1,13 @@
 -- The state in which a unit's symbols are made.
-use Rattle.std.specs.Prelude.{◌≡◌, ◌<◌, ◌^◌, ℕ, zero, suc, nat_lt, if◌then◌else◌, false, true, codes, Option, Some, None, List, [], ◌∷◌, length, slice_get}
+use Rattle.std.specs.Prelude.{◌≡◌, ◌<◌, ◌^◌, ℕ, zero, suc, nat_lt, if◌then◌else◌, false, codes, Option, Some, None, List, ◌∷◌, length, slice_get}
 use Rattle.ldb_words.specs.Word.{signed}
 use Rattle.c_tree.specs.declared.types.StructDef.{StructDef}
 use Rattle.c_tree.specs.declared.rows.SymbolRow.{SymbolRow}
 use Rattle.c_tree.specs.Layout.{struct_size_of}
 use Rattle.ps_store.specs.declared.object.PsObj.{PsObj}
-use Rattle.ps_store.specs.declared.object.PsObj.TheVariants.{Str, Array, Dict, Null}
+use Rattle.ps_store.specs.declared.object.PsObj.TheVariants.{Array}
 use Rattle.ps_store.specs.declared.object.ArrayId.{ArrayId}
 use Rattle.ps_store.specs.declared.object.DictId.{DictId}
-use Rattle.ps_store.specs.declared.object.StringId.{StringId}
 use Rattle.ps_store.specs.declared.key.Key.TheVariants.{Int as IntKey}
 use Rattle.ps_store.specs.Entries.{value_at}
 use Rattle.ps_store.specs.StoreState.{StoreState}
@@ -16,10 +15,8 @@ use Rattle.ps_store.specs.Store.{entries_of}
 use Rattle.ps_step.specs.Keys.{named}
 use Rattle.ps_text.specs.Grown.{IsArray}
 use Rattle.ps_emit.specs.Symbols.{up_in}
-use Rattle.ps_tables.specs.Dictionaries.{Fields}
-use Rattle.ps_tables.specs.Making.{HasFields}
 use Rattle.ps_tables.specs.Defined.{in_table}
-use Rattle.ps_tables.specs.Senses.{Knowing}
+use Rattle.ps_tables.specs.Senses.{BeginWith, Knowing}
 use Rattle.ps_tables.specs.Types.{IsSized}
 use Rattle.ps_tables.specs.WordsKnown.{word_senses}
 use Rattle.unit_tables.specs.Amended.{HasNoNames}
@@ -43,28 +40,7 @@ first_made zero ss made x = None
 first_made (suc n) ss made None = None
 first_made (suc n) ss made (Some s) = if nat_lt s made then Some s else first_made n ss made (up_in (slice_get ss s))
 
--- ---- static objects
-
-abbrev pub object_fields : (kind uplink ctype place label name : PsObj) → Fields
-object_fields kind uplink ctype place label name =
-    (codes "kind", kind) ∷ (codes "uplink", uplink) ∷ (codes "type", ctype) ∷ (codes "where", place) ∷ (codes "label", label) ∷ (codes "name", name) ∷ []
-
--- a static object, as the table has it
-pub record IsObject (s : StoreState) (x : PsObj) : Type 0 where
-  pub dict : DictId
-  pub is : x ≡ Dict dict
-  pub kind : PsObj
-  pub ctype : PsObj
-  pub place : ArrayId
-  pub label : StringId
-  pub name : StringId
-  pub has : HasFields s dict (object_fields kind Null ctype (Array place true) (Str label false) (Str name false))
-
--- so many objects begin an array
-abbrev pub BeginWith : StoreState → ℕ → List PsObj → Type 0
-BeginWith s zero xs = Unit {0}
-BeginWith s (suc n) [] = ⊥
-BeginWith s (suc n) (x ∷ xs) = IsObject s x × BeginWith s n xs
+-- ---- arrays of the table
 
 -- `objects` is an array that begins with so many static objects
 pub record HasObjects (s : StoreState) (ds : List DictId) (count : ℕ) : Type 0 where

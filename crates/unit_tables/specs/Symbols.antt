@@ -1,5 +1,5 @@
 -- How a unit makes its symbols: what they are made of, in how many steps, and with how many units at most.
-use Rattle.std.specs.Prelude.{◌≡◌, ◌<◌, ◌≤◌, ◌^◌, ℕ, suc, pos, ◌+◌, codes, Option, Some, None, List, [], ◌∷◌, length, slice_get}
+use Rattle.std.specs.Prelude.{◌<◌, ◌≤◌, ◌^◌, ℕ, ◌+◌, codes, Option, Some, None, List, ◌∷◌, length, slice_get}
 use Rattle.ldb_words.specs.Word.{signed}
 use Rattle.obj_file.specs.declared.object.LocalPlace.{LocalPlace}
 use Rattle.obj_file.specs.declared.object.LocalPlace.TheVariants.{Slot, Reg}

@@ -1,8 +1,10 @@
 -- What the deferred text of a unit leaves.
-use Rattle.std.specs.Prelude.{◌≡◌, ◌<◌, ◌≤◌, ℕ, None, false, List, [], ◌∷◌, length, codes}
+use Rattle.std.specs.Prelude.{◌≡◌, ◌<◌, ◌≤◌, ℕ, Option, None, false, List, [], ◌∷◌, length, codes}
 use Rattle.obj_file.specs.declared.object.FunctionRow.{FunctionRow as Placed}
 use Rattle.c_tree.specs.declared.rows.Program.{Program}
 use Rattle.c_tree.specs.declared.rows.UnitRow.{UnitRow}
+use Rattle.ps_store.specs.declared.object.Part.TheVariants.{Table}
+use Rattle.ps_store.specs.declared.object.Mark.{Mark}
 use Rattle.ps_store.specs.declared.object.PsObj.{PsObj}
 use Rattle.ps_store.specs.declared.object.PsObj.TheVariants.{Array}
 use Rattle.ps_store.specs.declared.object.ArrayId.{ArrayId}
@@ -32,6 +34,10 @@ pub record Furnished (p : Program) (s : StoreState) (ds : List DictId) : Type 0 
   pub listed : HasObjects s ds (length p.objects)
   pub few_dicts : length ds < 64
   pub base : length s.base ≤ length ds
+
+-- a store that is closed, with these dictionaries as the base and a top; objects are made in the table's part
+abbrev pub closed_store : StoreState → Mark → List DictId → Option DictId → StoreState
+closed_store s closed base top = record { table = s.table; command = s.command; part = Table; closed = closed; base = base; top = top }
 
 -- In so many steps, which ask nothing of a dialect and raise no error, the text leads to its end, and leaves one array of the unit's functions and nothing
 -- else; so many units are made at most, and what was there is as it was.

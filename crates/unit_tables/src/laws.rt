@@ -1,6 +1,6 @@
 //! What holds of runs of a unit's functions.
 
-ghost use Rattle.std.specs.Prelude.{◌≡◌, ◌≢◌, ◌⊎◌, ℕ, suc, ◌+◌, ◌<◌, ◌≤◌, ◌^◌, ◌++◌, List, length, true, slice_get, codes, reverse, Result, Err, Some};
+ghost use Rattle.std.specs.Prelude.{◌≡◌, ◌≢◌, ◌⊎◌, ℕ, suc, ◌+◌, ◌<◌, ◌≤◌, ◌^◌, ◌++◌, List, length, true, slice_get, codes, reverse, Result, Err, Option, Some, ◌∷◌};
 ghost use Rattle.std.specs.List.{AllByRecursion};
 ghost use Rattle.obj_file.specs.declared.object.FunctionRow.{FunctionRow};
 ghost use Rattle.c_tree.specs.declared.types.StructDef.{StructDef};
@@ -29,16 +29,19 @@ ghost use Rattle.ps_emit.specs.Functions.{deferred};
 ghost use Rattle.ps_emit.specs.Bounds.{of_symbol, cost_of};
 ghost use Rattle.ps_tables.specs.Later.{StandsAt};
 ghost use Rattle.ps_tables.specs.Defined.{in_table};
-ghost use Rattle.ps_tables.specs.Senses.{AreOther};
 ghost use Rattle.ps_tables.specs.Bounded.{IsShort, deferred_units};
 ghost use Rattle.ps_tables.specs.Rows.{HasRows, IsParted};
 ghost use Rattle.ps_tables.specs.Tabled.{table_made, table_steps};
+ghost use Rattle.ps_tables.specs.Left.{IsDeferred, AreDeferred, LeavesTable};
+ghost use Rattle.ps_tables.specs.WordsKnown.{Printers};
 ghost use Rattle.unit_tables.specs.Running.{Running};
 ghost use Rattle.unit_tables.specs.Symbols.{symbol_steps, symbol_made, ArePlaces, RunsSymbol, DefinesSymbol};
 ghost use Rattle.unit_tables.specs.Conditions.{RunsPlaced, RunsUnits, FunctionsFollowed};
 ghost use Rattle.unit_tables.specs.Functions.{unit_steps, unit_made};
-ghost use Rattle.unit_tables.specs.Units.{Furnished, LeavesFunctions};
-ghost use Rattle.unit_tables.specs.Settled.{IsDeferred, HasFunctions, Gives};
+ghost use Rattle.unit_tables.specs.Units.{closed_store, Furnished, LeavesFunctions};
+ghost use Rattle.ps_store.specs.declared.object.Mark.{Mark};
+ghost use Rattle.ps_tables.specs.Runnable.{RunsStruct};
+ghost use Rattle.unit_tables.specs.Settled.{HasFunctions, Gives};
 ghost use Rattle.unit_tables.specs.Bounded.{units_steps, units_made};
 
 use ps_run::Dialect;
@@ -60,9 +63,9 @@ pub fn functions_are_forced<D: Dialect>()
     ensures { (p : Program) (fs : List FunctionRow) (u : UnitRow) (c c' : PsCore) (index left m : ℕ) (t : StringId) (d d' : D) (result : Result PsObj PsFault) → RunsUnits p fs → FunctionsFollowed p fs 0 u.functions → length u.functions ≤ 40000 → Furnished p (apart c).store (reverse c.store.base) → IsDeferred p fs u c.store index t → c.store.table.units + c.store.command.units + unit_made p fs u ≤ 8000000 → Forces D.operates (further (suc (unit_steps p fs u)) (suc left)) d c (in_table index) (NameKey (codes "functions")) (Str t true) result m d' c' → result ≢ Err NoMemory → Gives p fs u c index (suc left) d result m d' c' }
 {}
 
-/// Where the functions of a unit were given, what the run of a unit's text asks of a store holds again, where the unit's dictionary is none of the base; and the entry of each other unit is as it was. So the units can be used in any order.
+/// Where the functions of a unit were given, what the run of a unit's text asks of a store holds again; and the entry of each other unit is as it was. So the units can be used in any order.
 pub fn units_follow()
-    ensures furnished { (p : Program) (fs : List FunctionRow) (u : UnitRow) (c c' : PsCore) (index : ℕ) (x : PsObj) (t : StringId) → HasFunctions p fs u c.store c'.store index x → IsDeferred p fs u c.store index t → AreOther (reverse c.store.base) (in_table index) → Furnished p (apart c).store (reverse c.store.base) → Furnished p (apart c').store (reverse c'.store.base) }
+    ensures furnished { (p : Program) (fs : List FunctionRow) (u : UnitRow) (c c' : PsCore) (index : ℕ) (x : PsObj) (t : StringId) → HasFunctions p fs u c.store c'.store index x → IsDeferred p fs u c.store index t → Furnished p (apart c).store (reverse c.store.base) → Furnished p (apart c').store (reverse c'.store.base) }
     ensures deferred { (p : Program) (fs : List FunctionRow) (u v : UnitRow) (c c' : PsCore) (index other : ℕ) (x : PsObj) (t text : StringId) → HasFunctions p fs u c.store c'.store index x → IsDeferred p fs u c.store index t → other ≢ index → IsDeferred p fs v c.store other text → IsDeferred p fs v c'.store other text }
 {}
 
@@ -70,4 +73,10 @@ pub fn units_follow()
 pub fn units_are_bounded()
     ensures steps { (p : Program) (at : Placement) → HasRows p at → IsParted p → IsShort p at → AllByRecursion RunsPlaced at.functions → table_steps p at + units_steps p at.functions p.units ≤ (cost_of p).steps }
     ensures made { (p : Program) (at : Placement) → HasRows p at → IsParted p → IsShort p at → AllByRecursion RunsPlaced at.functions → table_made p at + units_made p at.functions p.units ≤ (cost_of p).made + deferred_units p at.functions p.units }
+{}
+
+/// The store that a table's text leaves is such as a run of a unit's functions asks for, once it is closed, with the dictionaries that stood when it began as the base; and so are the entries of its units, in their order.
+pub fn tables_are_furnished()
+    ensures furnished { (p : Program) (at : Placement) (printers : Printers) (s : StoreState) (index n from : ℕ) (ds : List DictId) (t : StringId) (closed : Mark) (base : List DictId) (top : Option DictId) (l : LeavesTable index ds t printers n p at s from) → AllByRecursion (RunsStruct p.defs) p.defs → length p.defs ≤ 90000 → length ds < 63 → length s.base ≤ suc (length ds) → closed.dicts ≤ length l.leaves.store.table.dicts → length base ≤ suc (length ds) → Furnished p (closed_store l.leaves.store closed base top) (in_table index ∷ ds) }
+    ensures deferred { (p : Program) (at : Placement) (printers : Printers) (s : StoreState) (index n from : ℕ) (ds : List DictId) (t : StringId) (closed : Mark) (base : List DictId) (top : Option DictId) (l : LeavesTable index ds t printers n p at s from) → AreDeferred p at.functions (closed_store l.leaves.store closed base top) l.units p.units }
 {}

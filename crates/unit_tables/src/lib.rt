@@ -4,5 +4,6 @@
 mod laws;
 
 pub use laws::{
-    functions_are_forced, symbols_are_defined, units_are_bounded, units_are_run, units_follow,
+    functions_are_forced, symbols_are_defined, tables_are_furnished, units_are_bounded,
+    units_are_run, units_follow,
 };

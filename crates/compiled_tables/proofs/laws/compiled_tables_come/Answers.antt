@@ -12,7 +12,7 @@ use Rattle.ldb_cc.proofs.Lengths.{as_many, of_texts, spelled_shortly}
 use Rattle.compiled_tables.proofs.Placed.{anchors_are_words, rows_are_placed}
 use Rattle.compiled_tables.proofs.Framed.{are_framed}
 use Rattle.compiled_tables.proofs.Programs.{names_are_own, built_ins_are}
-use Rattle.compiled_tables.proofs.Compiled.{few_statics, within, types, parted, has_rows, low_byte, high_byte}
+use Rattle.compiled_tables.proofs.Compiled.{few_items, within, types, parted, has_rows, low_byte, high_byte}
 use Rattle.compiled_tables.proofs.laws.compiled_tables_come.Goals as goal
 
 pub returns : goal.returns
@@ -27,7 +27,7 @@ returns c aim names texts image table built long sixteen files =
     let short = spelled_shortly c.programs_have_few_tokens.ensures.joined c.one_reading.ensures.tokens texts is.0 is.1.few.0 40000 is.1.trees is.1.few.1.tokens is.1.few.2 in
     let affordable = c.programs_are_affordable.ensures names is.0 short.0 p short.1 is.2 sixteen short.2 in
     let tokens : program_tokens p ≤ 40000 = omega (arith, c.programs_have_few_tokens.ensures.fewest names is.0 short.0 p short.1 is.2, short.2) in
-    let statics : length p.objects + length p.strings ≤ 40000 = omega (arith, few_statics q names p rows is.0 short.0 short.1 is.2.1.files, short.2) in
+    let statics : length p.objects + length p.strings ≤ 40000 = omega (arith, few_items q names p rows is.0 short.0 short.1 is.2.1.files, short.2) in
     let at = placement_of aim built.rows in
     let linked = built.image_of.linked in
     let runs_structs = c.accepted_types_run.ensures.structs p keeps in
