@@ -135,6 +135,14 @@ comes p at x run short room few is =
 
 -- ---- a use
 
+abbrev dict_given : Walked (DictId × PsObj) → DictId → DictId
+dict_given (Ok given) d = given.0
+dict_given (Err e) d = d
+
+abbrev text_given : Walked (DictId × PsObj) → PsObj → PsObj
+text_given (Ok given) x = given.1
+text_given (Err e) x = x
+
 pub forced : (p : Program) (fs : List Placed) (u : UnitRow) (c c' : PsCore) (k index left left' : ℕ) (t : StringId) (units : List PsObj) (answer : Answer) → RunsUnits p fs → FunctionsFollowed p fs 0 u.functions → length u.functions ≤ 40000
     → Furnished p (apart c).store (reverse c.store.base) → IsDeferred p fs u c.store index t → units_of c.store ≡ Ok units → slice_get units k ≡ Some (Dict (in_table index)) → c.store.table.units + c.store.command.units + unit_made p fs u ≤ 8000000
     → ForcesUnit k c (further (suc (unit_steps p fs u)) (suc left)) answer left' c' → Comes p fs u c index (suc left) answer left' c'
@@ -149,8 +157,8 @@ forced p fs u c c' k index left left' t units answer runs followed few furnished
     let one : Walked (DictId × PsObj) = Ok (D, Str t true) in
     let other : Walked (DictId × PsObj) = Ok (forces.unit, forces.text) in
     let same : one ≡ other = sym stands ∙ forces.stands in
-    let dict : forces.unit ≡ D = cc in
-    let text : forces.text ≡ Str t true = cc in
+    let dict : forces.unit ≡ D = ap (λ (w : Walked (DictId × PsObj)). dict_given w D) (sym same) in
+    let text : forces.text ≡ Str t true = ap (λ (w : Walked (DictId × PsObj)). text_given w (Str t true)) (sym same) in
     let f : Forces NoTarget (further (suc (unit_steps p fs u)) (suc left)) no_target c D FUNCTIONS (Str t true) forces.given left' forces.dial c' =
     subst (λ (x : PsObj). Forces NoTarget (further (suc (unit_steps p fs u)) (suc left)) no_target c D FUNCTIONS x forces.given left' forces.dial c') text
     (subst (λ (d : DictId). Forces NoTarget (further (suc (unit_steps p fs u)) (suc left)) no_target c d FUNCTIONS forces.text forces.given left' forces.dial c') dict forces.forces) in
