@@ -1,5 +1,5 @@
 -- A table's units are such as they are run, and come to their functions.
-use Rattle.std.proofs.Common.{◌≡◌, ◌≢◌, ℕ, suc, ◌+◌, ◌-◌, ◌<◌, ◌≤◌, Bool, true, false, ◌&&◌, nat_eq, if◌then◌else◌, Option, Some, None, Result, Ok, Err, List, [], ◌∷◌, length, reverse, codes, slice_get, refl, sym, ap, ◌∙◌, subst, arith}
+use Rattle.std.proofs.Common.{◌≡◌, ◌≢◌, ℕ, suc, ◌+◌, ◌-◌, ◌<◌, ◌≤◌, Bool, true, false, ◌&&◌, nat_eq, if◌then◌else◌, Option, Some, None, Ok, Err, List, [], ◌∷◌, length, reverse, codes, slice_get, refl, sym, ap, ◌∙◌, subst, arith}
 use Rattle.std.specs.Fmt.{digits}
 use Rattle.ps_scan.specs.Bytes.{is_regular, is_white, is_special, is_hexadecimal}
 use Rattle.c_tree.specs.declared.rows.Program.{Program}
@@ -8,19 +8,16 @@ use Rattle.obj_file.specs.declared.object.FunctionRow.{FunctionRow as Placed}
 use Rattle.ps_store.specs.declared.object.Part.{Part}
 use Rattle.ps_store.specs.declared.object.Part.TheVariants.{Table}
 use Rattle.ps_store.specs.declared.object.PsObj.{PsObj}
-use Rattle.ps_store.specs.declared.object.PsObj.TheVariants.{Str, Array, Dict}
+use Rattle.ps_store.specs.declared.object.PsObj.TheVariants.{Str, Dict}
 use Rattle.ps_store.specs.declared.object.DictId.{DictId}
 use Rattle.ps_store.specs.declared.object.StringId.{StringId}
-use Rattle.ps_store.specs.declared.key.Key.TheVariants.{Name as NameKey}
 use Rattle.ps_store.specs.Cut.{mark_of}
 use Rattle.ps_store.specs.Entries.{value_at}
 use Rattle.ps_store.specs.Operators.{operator_number}
 use Rattle.ps_store.specs.StoreState.{StoreState}
-use Rattle.ps_store.specs.Store.{Given, entries_of, elements_of, making_string, text_units}
+use Rattle.ps_store.specs.Store.{Given, entries_of, making_string, text_units}
 use Rattle.ps_step.specs.Results.{◌>>=◌}
-use Rattle.ps_step.specs.declared.fault.PsFault.{PsFault}
 use Rattle.ps_step.specs.declared.fault.PsFault.TheVariants as ps
-use Rattle.ps_step.specs.declared.item.Item.{Item}
 use Rattle.ps_step.specs.declared.item.Item.TheVariants.{Object}
 use Rattle.ps_step.specs.declared.machine.PsCore.{PsCore}
 use Rattle.ps_run.specs.Runs.{Answer, Runs}
@@ -31,15 +28,14 @@ use Rattle.ps_print.specs.Loaded.{loaded}
 use Rattle.ps_force.specs.Forcing.{apart, Forces}
 use Rattle.ps_emit.specs.declared.placement.Placement.{Placement}
 use Rattle.ps_emit.specs.Table.{table_text}
-use Rattle.table_model.specs.Reading.{Walked, or_missing, dict_in, entry, items_in}
+use Rattle.table_model.specs.Reading.{Walked, or_missing, items_in}
 use Rattle.table_model.specs.Rows.{units_of}
 use Rattle.dialect_model.specs.Dial.{no_target}
 use Rattle.dialect_model.specs.Forcing.{NoTarget, FUNCTIONS, deferred_in, deferred, answer_of, ForcesUnit}
 use Rattle.ps_bare.specs.Bare.{bare}
-use Rattle.table_run.specs.declared.run.TableFault.{TableFault}
 use Rattle.table_run.specs.declared.run.TableFault.TheVariants.{Shape}
 use Rattle.table_run.specs.Shape.{is_table}
-use Rattle.table_run.specs.Tables.{RunsString, runs_made, RunsBehind, dict_of, left_by, closed_with, table_with, table_in, IsTableOf}
+use Rattle.table_run.specs.Tables.{RunsString, runs_made, dict_of, closed_with, table_with, table_in, IsTableOf}
 use Rattle.ps_tables.specs.Later.{Later}
 use Rattle.ps_tables.specs.Runnable.{Runnable}
 use Rattle.ps_tables.specs.Defined.{in_table}
@@ -52,7 +48,7 @@ use Rattle.ps_tables.proofs.MembersRun.{further_is}
 use Rattle.ps_tables.proofs.BehindRun.{behind_leaves_table, behind_ends}
 use Rattle.unit_tables.specs.Conditions.{RunsUnits, FunctionsFollowed}
 use Rattle.unit_tables.specs.Functions.{unit_steps, unit_made}
-use Rattle.unit_tables.specs.Units.{closed_store, Furnished}
+use Rattle.unit_tables.specs.Units.{Furnished}
 use Rattle.unit_tables.specs.Settled.{Gives}
 use Rattle.unit_tables.proofs.Furnishing.{furnished_left, deferred_left}
 use Rattle.unit_tables.proofs.Forced.{forced_gives}

@@ -1,5 +1,5 @@
 -- The units of a table that its text came to, before and behind a use of them.
-use Rattle.std.specs.Prelude.{◌≡◌, ℕ, List, reverse, Result, Ok}
+use Rattle.std.specs.Prelude.{◌≡◌, ℕ, List, reverse, Ok}
 use Rattle.c_tree.specs.declared.rows.Program.{Program}
 use Rattle.c_tree.specs.declared.rows.UnitRow.{UnitRow}
 use Rattle.obj_file.specs.declared.object.FunctionRow.{FunctionRow as Placed}
