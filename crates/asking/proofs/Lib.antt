@@ -7,7 +7,7 @@ mod Rows
 mod Ps
 mod Ran
 mod Operands
-mod Unstored
+pub mod Unstored
 mod Lacking
 mod Typing
 mod Ending

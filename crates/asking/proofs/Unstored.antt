@@ -212,7 +212,7 @@ acts : (op : ℕ) → Keeps (act op)
 unfolding act
 acts op d c e = numbered operators each op d c e
 
-operates : (d : Dial) (c : PsCore) (op left : ℕ) (r : Answer) (d' : Dial) (c' : PsCore) (left' : ℕ) → Operates d c op left r d' c' left' → d.raw ≡ false → Stays d d'
+pub operates : (d : Dial) (c : PsCore) (op left : ℕ) (r : Answer) (d' : Dial) (c' : PsCore) (left' : ℕ) → Operates d c op left r d' c' left' → d.raw ≡ false → Stays d d'
 operates _ _ _ _ _ _ _ _ (operating.acted d d' c c' op left e) raw = got (Kept d) (act op d c) (d', c') (acts op d c raw) e
 operates _ _ _ _ _ _ _ _ (operating.raised d c op left e h) raw = (refl, refl)
 operates _ _ _ _ _ _ _ _ (operating.forced d d' c c₁ c' op u left m left' r h f on) raw = operates d c₁ op m r d' c' left' on raw

@@ -41,7 +41,7 @@ pub fn compiled_tables_come()
     counted_tables_come();
 }
 
-/// The units of the table that is built of sources run: each asks for symbols one after another, so that those which it takes as made are made, and each leads outward to such. With the table itself they take no more steps and units than are counted for the program, beside the units of the deferred texts.
+/// The rows of the program that sources become, and of where it is placed, keep the conditions under which the functions of its units are run: types of symbols run, names lead outward to lower numbers, and scopes nest, so that a name in scope at a point that stands before one that was made is on that one's chain. The table and its units, each used once, take no more steps and units of the store than are counted for the program, beside those of the deferred texts.
 pub fn compiled_units_run()
     ensures { (aim : Aim) (names texts : List (List ℕ)) (image : ImageFields) (table : List ℕ) (built : IsBuilt aim names texts image table) → length names ≡ length texts → length names ≤ 16 → AreFileNames names → HasRunningUnits built.program (placement_of aim built.rows) }
 {

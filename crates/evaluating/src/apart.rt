@@ -15,10 +15,12 @@ pub struct Apart<'a, W> {
 }
 
 impl<W: AbsMem + Drop> Dialect for Apart<'_, W> {
+    ghost use Rattle.std.specs.Prelude.{◌≡◌};
     ghost use Rattle.ps_store.specs.Settled.{Settled};
+    ghost use Rattle.evaluating.specs.Stepping.{DoesApart};
     ghost use Rattle.ps_store.proofs.Settling.{settled_same, settled_on};
 
-    ghost operates = { λ d c op left answer d' c' left'. Unit {0} };
+    ghost operates = { λ d c op left answer d' c' left'. (d'.talk.ghost_name ≡ d.talk.ghost_name) × DoesApart W.seen d.talk.now c op answer d'.talk.now c' };
 
     ghost remains = { Settled };
 

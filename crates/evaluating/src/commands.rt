@@ -1,8 +1,10 @@
 // The commands.
 
-ghost use Rattle.std.specs.Prelude.{◌≡◌, ◌≤◌};
+ghost use Rattle.std.specs.Prelude.{◌≡◌, ◌≤◌, IfErr};
 ghost use Rattle.ps_store.specs.Store.{closed_part};
 ghost use Rattle.table_asks.specs.Closing.{Settles};
+ghost use Rattle.table_asks.specs.Faults.{IsUnbroken};
+ghost use Rattle.evaluating.specs.Told.{OnlyReads, StoresNone, reasoned};
 
 use crate::depths::is_struct;
 use crate::leaves::{fetch_leaves, further, leaves_of};
@@ -21,7 +23,9 @@ use std::alloc::{AllocError, Global};
 use table_asks::{AskFault, Cause, Inquiry};
 
 /// The dialect's four errors are undefined steps, whichever procedure raised them.
-fn reasoned(fault: AskFault) -> AskFault {
+fn reasoned(fault: AskFault) -> AskFault
+    ensures { result ≡ reasoned fault }
+{
     match fault {
         AskFault::Raised(PsError::Overflow) => undefined(Undef::Overflow),
         AskFault::Raised(PsError::Division) => undefined(Undef::Division),
@@ -32,7 +36,9 @@ fn reasoned(fault: AskFault) -> AskFault {
 }
 
 /// A refusal for an undefined step.
-fn undefined(reason: Undef) -> AskFault {
+fn undefined(reason: Undef) -> AskFault
+    ensures { result ≡ AskFault.Refused (Cause.Undefined reason) }
+{
     AskFault::Refused(Cause::Undefined(reason))
 }
 
@@ -45,7 +51,9 @@ fn line(alloc: Global, word: &[u8], text: &[u8]) -> Result<Text, AllocError> {
 }
 
 /// The reply of a word and a text.
-fn reply(alloc: Global, word: &[u8], text: &[u8]) -> Result<Text, AskFault> {
+fn reply(alloc: Global, word: &[u8], text: &[u8]) -> Result<Text, AskFault>
+    ensures { IfErr result (λ fault. fault ≡ AskFault.NoMemory) }
+{
     match line(alloc, word, text) {
         Ok(line) => Ok(line),
         Err(_) => Err(AskFault::NoMemory),
@@ -63,6 +71,7 @@ fn value<W: AbsMem + Drop>(
     ensures within { inquiry.new.steps.taken ≤ inquiry.new.steps.limit }
     ensures limit { inquiry.new.steps.limit ≡ inquiry.old.steps.limit }
     ensures closed { Settles (closed_part inquiry.old.core.store) (closed_part inquiry.new.core.store) }
+    ensures told { StoresNone W.seen talk.old result talk.new }
 {
     let alloc = inquiry.core.operands.allocator();
     match read_text(inquiry, talk, frame, text, Mode::Value) {
@@ -85,6 +94,7 @@ pub fn evaluating<W: AbsMem + Drop>(
     ensures within { inquiry.new.steps.taken ≤ inquiry.new.steps.limit }
     ensures limit { inquiry.new.steps.limit ≡ inquiry.old.steps.limit }
     ensures closed { Settles (closed_part inquiry.old.core.store) (closed_part inquiry.new.core.store) }
+    ensures told { StoresNone W.seen talk.old result talk.new }
 {
     let alloc = inquiry.core.operands.allocator();
     match value(inquiry, talk, frame, text) {
@@ -104,6 +114,7 @@ pub fn coding<W: AbsMem + Drop>(
     ensures within { inquiry.new.steps.taken ≤ inquiry.new.steps.limit }
     ensures limit { inquiry.new.steps.limit ≡ inquiry.old.steps.limit }
     ensures closed { Settles (closed_part inquiry.old.core.store) (closed_part inquiry.new.core.store) }
+    ensures told { OnlyReads W.seen talk.old result talk.new }
 {
     let alloc = inquiry.core.operands.allocator();
     match read_text(inquiry, talk, frame, text, Mode::Value) {
@@ -157,7 +168,9 @@ fn leavings(
 }
 
 /// The place that an assignment is to; beneath it stands nothing, and above it the right side.
-fn target_left(inquiry: &Inquiry, read: &ReadText) -> Result<Place, AskFault> {
+fn target_left(inquiry: &Inquiry, read: &ReadText) -> Result<Place, AskFault>
+    ensures { IfErr result (λ fault. IsUnbroken fault) }
+{
     let above = if is_struct(&read.ctype) { 2 } else { 1 };
     match place_left(&inquiry.core, above) {
         Ok(place) => Ok(place),
@@ -172,7 +185,9 @@ fn right_side<W: AbsMem + Drop>(
     talk: &mut Operators<W>,
     read: &ReadText,
     leaves: &[Leaf],
-) -> Result<Vec<u32>, AskFault> {
+) -> Result<Vec<u32>, AskFault>
+    ensures told { OnlyReads W.seen talk.old result talk.new }
+{
     if is_struct(&read.ctype) {
         return match place_left(&inquiry.core, 0) {
             Err(error) => Err(AskFault::Raised(error)),
@@ -199,6 +214,7 @@ fn fetch_changes<W: AbsMem + Drop>(
     ensures within { inquiry.new.steps.taken ≤ inquiry.new.steps.limit }
     ensures limit { inquiry.new.steps.limit ≡ inquiry.old.steps.limit }
     ensures closed { Settles (closed_part inquiry.old.core.store) (closed_part inquiry.new.core.store) }
+    ensures told { OnlyReads W.seen talk.old result talk.new }
 {
     let place = match target_left(inquiry, read) {
         Err(fault) => return Err(fault),
@@ -244,6 +260,7 @@ pub fn assignment<W: AbsMem + Drop>(
     ensures within { inquiry.new.steps.taken ≤ inquiry.new.steps.limit }
     ensures limit { inquiry.new.steps.limit ≡ inquiry.old.steps.limit }
     ensures closed { Settles (closed_part inquiry.old.core.store) (closed_part inquiry.new.core.store) }
+    ensures told { StoresNone W.seen talk.old result talk.new }
 {
     let alloc = inquiry.core.operands.allocator();
     let read = match read_text(inquiry, talk, frame, text, Mode::Assign) {

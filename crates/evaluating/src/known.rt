@@ -2,6 +2,7 @@
 
 ghost use Rattle.std.specs.Prelude.{◌≡◌};
 ghost use Rattle.ps_store.specs.Store.{closed_part};
+ghost use Rattle.table_asks.specs.Faults.{IsUnbroken};
 
 use crate::depths::{Beyond, Extent, UNASKED, extent_within, small_size, struct_extent};
 use c_judge::{Symbol, array_of, pointer_to};
@@ -57,7 +58,9 @@ impl From<StoreFault> for Want {
 }
 
 /// What a command answers where a table doesn't tell a type.
-pub fn wanted(want: Want) -> AskFault {
+pub fn wanted(want: Want) -> AskFault
+    ensures { IsUnbroken result }
+{
     match want {
         Want::Lacks(lack) => AskFault::Raised(error_of(lack)),
         Want::NoMemory => AskFault::NoMemory,

@@ -1,5 +1,7 @@
 // The leaves of types, and what stands there.
 
+ghost use Rattle.evaluating.specs.Told.{OnlyReads};
+
 use abs_mem::AbsMem;
 use c_tree::{CType, Leaf, StructDef, members, size_of};
 use frame_bytes::{Frame, Place};
@@ -123,7 +125,9 @@ pub fn fetch_leaves<W: AbsMem + Drop>(
     frame: &Frame,
     place: Place,
     leaves: &[Leaf],
-) -> Result<Vec<u32>, AskFault> {
+) -> Result<Vec<u32>, AskFault>
+    ensures told { OnlyReads W.seen talk.old result talk.new }
+{
     talk.memory.set_frame(Some(frame));
     let mut values = Vec::new(alloc);
     for leaf in leaves {

@@ -1,8 +1,10 @@
 // How the text of a command is read: its frame, its grammar, its names and tags by the table, and the typing rules.
 
-ghost use Rattle.std.specs.Prelude.{◌≡◌, ◌≤◌};
+ghost use Rattle.std.specs.Prelude.{◌≡◌, ◌≤◌, IfErr};
 ghost use Rattle.ps_store.specs.Store.{closed_part};
 ghost use Rattle.table_asks.specs.Closing.{Settles};
+ghost use Rattle.table_asks.specs.Faults.{IsUnbroken};
+ghost use Rattle.evaluating.specs.Told.{OnlyReads};
 
 use crate::known::{Known, Want, wanted};
 use abs_mem::AbsMem;
@@ -31,7 +33,9 @@ pub struct ReadText {
 }
 
 /// What a command answers where an expression is refused.
-pub fn refused(refuse: Refuse) -> AskFault {
+pub fn refused(refuse: Refuse) -> AskFault
+    ensures { IsUnbroken result }
+{
     match refuse {
         Refuse::Syntax => AskFault::Refused(Cause::BadSyntax),
         Refuse::Scope => AskFault::Refused(Cause::NoScope),
@@ -50,6 +54,7 @@ fn answer_name(
 ) -> Result<(), AskFault>
     ensures steps { inquiry.new.steps ≡ inquiry.old.steps }
     ensures closed { closed_part inquiry.new.core.store ≡ closed_part inquiry.old.core.store }
+    ensures unbroken { IfErr result (λ fault. IsUnbroken fault) }
 {
     let symbol = match symbol_found(inquiry, scope, name.as_bytes()) {
         Err(fault) => return Err(fault),
@@ -74,6 +79,7 @@ fn answer_tag(
 ) -> Result<(), AskFault>
     ensures steps { inquiry.new.steps ≡ inquiry.old.steps }
     ensures closed { closed_part inquiry.new.core.store ≡ closed_part inquiry.old.core.store }
+    ensures unbroken { IfErr result (λ fault. IsUnbroken fault) }
 {
     match known.tag_told(&mut inquiry.core.store, tag.as_bytes()) {
         Err(want) => Err(wanted(want)),
@@ -93,6 +99,7 @@ fn serve(
 ) -> Result<(Text, CType), AskFault>
     ensures steps { inquiry.new.steps ≡ inquiry.old.steps }
     ensures closed { closed_part inquiry.new.core.store ≡ closed_part inquiry.old.core.store }
+    ensures unbroken { IfErr result (λ fault. IsUnbroken fault) }
 {
     let mut server = server;
     for _ in 0..=MOST_MENTIONS {
@@ -128,6 +135,7 @@ fn read_in(
 ) -> Result<ReadText, AskFault>
     ensures steps { inquiry.new.steps ≡ inquiry.old.steps }
     ensures closed { closed_part inquiry.new.core.store ≡ closed_part inquiry.old.core.store }
+    ensures unbroken { IfErr result (λ fault. IsUnbroken fault) }
 {
     let mut known = match Known::new(alloc, &mut inquiry.core.store) {
         Ok(known) => known,
@@ -157,6 +165,7 @@ pub fn read_text<W: AbsMem + Drop>(
     ensures within { inquiry.new.steps.taken ≤ inquiry.new.steps.limit }
     ensures limit { inquiry.new.steps.limit ≡ inquiry.old.steps.limit }
     ensures closed { Settles (closed_part inquiry.old.core.store) (closed_part inquiry.new.core.store) }
+    ensures told { OnlyReads W.seen talk.old result talk.new }
 {
     let alloc = inquiry.core.operands.allocator();
     let frame = match frame_found(inquiry, talk, number) {

@@ -3,6 +3,7 @@
 ghost use Rattle.std.specs.Prelude.{◌≡◌, ◌≤◌};
 ghost use Rattle.ps_store.specs.Store.{closed_part};
 ghost use Rattle.table_asks.specs.Closing.{Settles};
+ghost use Rattle.evaluating.specs.Told.{OnlyReads, StoresNone};
 
 use crate::known::{Want, wanted};
 use crate::reading::ReadText;
@@ -28,6 +29,7 @@ pub fn run_text<W: AbsMem + Drop>(
     ensures within { inquiry.new.steps.taken ≤ inquiry.new.steps.limit }
     ensures limit { inquiry.new.steps.limit ≡ inquiry.old.steps.limit }
     ensures closed { Settles (closed_part inquiry.old.core.store) (closed_part inquiry.new.core.store) }
+    ensures told { StoresNone W.seen talk.old result talk.new }
 {
     talk.view.standing = Standing::InFrame {
         frame: read.frame,
@@ -78,6 +80,7 @@ fn object_at<W: AbsMem + Drop>(
     ensures within { inquiry.new.steps.taken ≤ inquiry.new.steps.limit }
     ensures limit { inquiry.new.steps.limit ≡ inquiry.old.steps.limit }
     ensures closed { Settles (closed_part inquiry.old.core.store) (closed_part inquiry.new.core.store) }
+    ensures told { OnlyReads W.seen talk.old result talk.new }
 {
     let mut locator = Locator {
         target: talk.view.target,
@@ -105,6 +108,7 @@ pub fn check_writable<W: AbsMem + Drop>(
     ensures within { inquiry.new.steps.taken ≤ inquiry.new.steps.limit }
     ensures limit { inquiry.new.steps.limit ≡ inquiry.old.steps.limit }
     ensures closed { Settles (closed_part inquiry.old.core.store) (closed_part inquiry.new.core.store) }
+    ensures told { OnlyReads W.seen talk.old result talk.new }
 {
     if place.space != Space::Memory || place.at == 0 {
         return Ok(());

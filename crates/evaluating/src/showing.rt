@@ -1,8 +1,10 @@
 // Showing the value that a text left.
 
-ghost use Rattle.std.specs.Prelude.{◌≡◌, ◌≤◌};
+ghost use Rattle.std.specs.Prelude.{◌≡◌, ◌≤◌, IfErr};
 ghost use Rattle.ps_store.specs.Store.{closed_part};
 ghost use Rattle.table_asks.specs.Closing.{Settles};
+ghost use Rattle.table_asks.specs.Faults.{IsUnbroken};
+ghost use Rattle.evaluating.specs.Told.{OnlyReads, StoresNone};
 
 use crate::apart::Apart;
 use crate::depths::is_struct;
@@ -31,7 +33,9 @@ fn shown_place<W: AbsMem + Drop>(
     inquiry: &Inquiry,
     talk: &mut Operators<W>,
     read: &ReadText,
-) -> Result<Place, AskFault> {
+) -> Result<Place, AskFault>
+    ensures told { OnlyReads W.seen talk.old result talk.new }
+{
     if !is_struct(&read.ctype) {
         return match number_left(&inquiry.core, 0) {
             Err(error) => Err(AskFault::Raised(error)),
@@ -59,7 +63,9 @@ fn shown_place<W: AbsMem + Drop>(
 }
 
 /// The prelude's dictionary, the first of the base ones.
-fn prelude_of(inquiry: &Inquiry) -> Result<DictId, AskFault> {
+fn prelude_of(inquiry: &Inquiry) -> Result<DictId, AskFault>
+    ensures { IfErr result (λ fault. IsUnbroken fault) }
+{
     match inquiry.core.store.base().first() {
         Some(prelude) => Ok(*prelude),
         None => Err(AskFault::Raised(PsError::Undefined)),
@@ -87,7 +93,8 @@ fn stand(
     inquiry.core.operands.push(PsObj::Dict(ctype))
 }
 
-/// Runs a printer on the operands. Its own steps don't count for the command, but those of the units that it runs do.
+/// Runs a printer on the operands. Its own steps don't count for the command, but those of the units that it runs do. Its operators may
+/// not store to the target.
 fn run_printer<W: AbsMem + Drop>(
     inquiry: &mut Inquiry,
     talk: &mut Operators<W>,
@@ -97,7 +104,9 @@ fn run_printer<W: AbsMem + Drop>(
     ensures within { inquiry.new.steps.taken ≤ inquiry.new.steps.limit }
     ensures limit { inquiry.new.steps.limit ≡ inquiry.old.steps.limit }
     ensures closed { Settles (closed_part inquiry.old.core.store) (closed_part inquiry.new.core.store) }
+    ensures told { StoresNone W.seen talk.old result talk.new }
 {
+    talk.view.raw = false;
     let mut steps = Steps {
         taken: 0,
         limit: MOST_STEPS,
@@ -125,6 +134,7 @@ pub fn show<W: AbsMem + Drop>(
     ensures within { inquiry.new.steps.taken ≤ inquiry.new.steps.limit }
     ensures limit { inquiry.new.steps.limit ≡ inquiry.old.steps.limit }
     ensures closed { Settles (closed_part inquiry.old.core.store) (closed_part inquiry.new.core.store) }
+    ensures told { StoresNone W.seen talk.old result talk.new }
 {
     let place = match shown_place(alloc, inquiry, talk, read) {
         Err(fault) => return Err(fault),

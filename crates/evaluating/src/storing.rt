@@ -1,5 +1,7 @@
 // What an assignment changes.
 
+ghost use Rattle.evaluating.specs.Told.{StoresAll};
+
 use abs_mem::AbsMem;
 use frame_bytes::{Frame, Place};
 use ldb_words::{Kind, Many};
@@ -25,7 +27,9 @@ pub struct Changes {
 pub fn store_all<W: AbsMem + Drop>(
     talk: &mut Operators<W>,
     changes: &Changes,
-) -> Result<(), AskFault> {
+) -> Result<(), AskFault>
+    ensures { StoresAll W.seen talk.old result talk.new }
+{
     talk.memory.set_frame(Some(&changes.frame));
     for leaf in changes.leaves.as_slice() {
         match talk.memory.store(leaf.place, leaf.kind, leaf.value) {

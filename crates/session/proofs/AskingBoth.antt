@@ -33,9 +33,10 @@ use Rattle.side_meaning.specs.Stepping.{IsReady}
 use Rattle.side_meaning.specs.Asking.{IsAsked}
 use Rattle.side_meaning.proofs.Starting.{asks_stand, no_words}
 use Rattle.session.specs.declared.sides.SideRecord.{SideRecord}
-use Rattle.session.specs.Kept.{IsFailure}
-use Rattle.session.specs.Meant.{debugged, sides_of, Hosts, IsThere, AreThere, AreReadyFor, ComesTo, SetsBreaks, IsBare, IsPlain, IsInquiry, AskedOne, SaidOne, NotOne, RanOne, SaidAll, NotAll}
-use Rattle.session.specs.Undoing.{words_before, undone_host, StaysAt, IsGivenUp, ReadsBefore}
+use Rattle.session.specs.Kept.{IsFailure, IsUndone}
+use Rattle.session.specs.Wanting.{RunsNoneAsked}
+use Rattle.session.specs.Meant.{debugged, sides_of, Hosts, IsThere, AreThere, AreReadyFor, ComesTo, IsLook, SetsBreaks, IsBare, IsPlain, IsInquiry, AskedOne, SaidOne, NotOne, RanOne, SaidAll, NotAll}
+use Rattle.session.specs.Undoing.{words_before, undone_host, IsGivenUp, ReadsBefore}
 use Rattle.session.proofs.GivenUp.{undone_is as undone_host_is}
 use Rattle.side_meaning.proofs.Telling.{memories}
 use Rattle.abs_mem.specs.WireMeaning.{memory_of}
@@ -74,7 +75,7 @@ text_or : {P : Type 0} (c : Command) → IsInquiry c → ((text : List ℕ) → 
 text_or (command.Ps text) i is_so isnt = is_so text refl
 text_or c i is_so isnt = isnt (plain_no_text c i)
 
-breaks_or : {P : Type 0} (c : Command) → (SetsBreaks c → P) → ((SetsBreaks c → ⊥) → P) → P
+pub breaks_or : {P : Type 0} (c : Command) → (SetsBreaks c → P) → ((SetsBreaks c → ⊥) → P) → P
 breaks_or (command.Break spot) is_so isnt = is_so tt
 breaks_or (command.Clear spot) is_so isnt = is_so tt
 breaks_or c is_so isnt = isnt (λ h. h)
@@ -101,12 +102,32 @@ unsaid_is f e h = cc
 pub unwanted : (f : AskFault) → unsaid f ≡ Err NoMemory → IsFailure f
 unwanted f e = let is : f ≡ NoMemory = cc in subst IsFailure (sym is) tt
 
-failure_or : {P : Type 0} (f : AskFault) → (IsFailure f → P) → ((IsFailure f → ⊥) → P) → P
+pub failure_or : {P : Type 0} (f : AskFault) → (IsFailure f → P) → ((IsFailure f → ⊥) → P) → P
 failure_or (Refused cause) is_so isnt = isnt (λ h. h)
 failure_or (Raised e) is_so isnt = isnt (λ h. h)
 failure_or Spent is_so isnt = isnt (λ h. h)
 failure_or NoMemory is_so isnt = is_so tt
 failure_or (Broken f) is_so isnt = is_so tt
+
+-- one that runs no PostScript over the target sets breakpoints, or stores nothing
+pub runs_or : {P : Type 0} (c : Command) → RunsNoneAsked c → (SetsBreaks c → P) → ((SetsBreaks c → ⊥) → IsLook c → P) → P
+runs_or (command.Break spot) r sets looks = sets tt
+runs_or (command.Clear spot) r sets looks = sets tt
+runs_or command.Frames r sets looks = looks (λ h. h) tt
+runs_or (command.Frame n) r sets looks = looks (λ h. h) tt
+runs_or (command.Code text) r sets looks = looks (λ h. h) tt
+runs_or c r sets looks = absurd r
+
+pub runs_no_text : (c : Command) → RunsNoneAsked c → IsNoText c
+runs_no_text c r text e = subst RunsNoneAsked e r
+
+pub look_no_text : (c : Command) → IsLook c → IsNoText c
+look_no_text c l text e = subst IsLook e l
+
+pub look_sets : (c : Command) → IsLook c → SetsBreaks c → ⊥
+look_sets (command.Break spot) l s = l
+look_sets (command.Clear spot) l s = l
+look_sets c l s = s
 
 pub not_sets : (c : Command) → ((spot : Spot) → c ≢ command.Break spot) → ((spot : Spot) → c ≢ command.Clear spot) → SetsBreaks c → ⊥
 not_sets (command.Break spot) n m s = n spot refl
@@ -415,24 +436,21 @@ module _ (b : Behaviour) (c : Conduct) (o o1 : Option World) (first first' secon
         (λ n. subst (λ (z : AskFault). ComesTo f f3 D N (Err z)) (sym (otherwise n)) tt)
 
     -- and the first side is as it was
-    pub second_stays : SetsBreaks now → (o2 o3 : Option World) (f2 f3 : ℕ) (fault : AskFault) (before : List Point) (words : List WordThere) → ((h : Host) (beside : Option Host) → IsThere b c o1 second h beside → SetsBreaks now → Stands b c second.which o2 h beside)
+    pub first_back : SetsBreaks now → (o2 o3 : Option World) (f2 f3 : ℕ) (fault : AskFault) (before : List Point) (words : List WordThere)
         → ((h : Host) (beside : Option Host) → Stands b c first'.which o2 h beside → order_of first'.machine ≡ machine_order h.machine
         → IsGivenUp f2 f3 (Stands b c first'.which o3 (undone_host now (byte_of first'.machine) (drop (length before) first'.row.breaks.items) words h) beside) fault)
-        → before ≡ first.row.breaks.items → words ≡ words_before now (memory_of hs.first.machine) first.row.breaks.items → fault ≡ NoMemory → StaysAt b c o3 first.which hs.first
-    second_stays sets o2 o3 f2 f3 fault before words rests gives same read is =
-        second_wants (StaysAt b c o3 first.which hs.first) o2 (λ h beside x. rests h beside x sets)
-        (λ h x r y.
+        → before ≡ first.row.breaks.items → words ≡ words_before now (memory_of hs.first.machine) first.row.breaks.items → fault ≡ NoMemory → (x : SaidOne b c o1 first first' hs.first hs.second now st.first text) → Stands b c first'.which o2 x.asked.host hs.second
+        → Stands b c first.which o3 hs.first hs.second
+    first_back sets o2 o3 f2 f3 fault before words gives same read is x y =
         let target : byte_of first'.machine ≡ hs.first.machine.target = x.asked.there.target ∙ ap (λ (k : Host). k.machine.target) x.asked.alike.host in
-        let stands = subst (λ (z : AskFault). IsGivenUp f2 f3 (Stands b c first'.which o3 (undone_host now (byte_of first'.machine) (drop (length before) first'.row.breaks.items) words x.asked.host) (Some h)) z) is (gives x.asked.host (Some h) y x.asked.there.order) in
+        let stands = subst (λ (z : AskFault). IsGivenUp f2 f3 (Stands b c first'.which o3 (undone_host now (byte_of first'.machine) (drop (length before) first'.row.breaks.items) words x.asked.host) hs.second) z) is (gives x.asked.host hs.second y x.asked.there.order) in
         let back =
-        undone_host_is (debugged first hs.first) (debugged first' x.asked.host) st.first x.asked.after r.planted.machine r.stands.alike.breaks x.asked.alike (memories b c first.which o hs.first hs.second there.first_there.stands) now sets x.change words x.asked.one
-        read in (
-          Some h,
-          subst (λ (w : Side). Stands b c w o3 hs.first (Some h)) which
-              (subst (λ (k : Host). Stands b c first'.which o3 k (Some h)) back
-              (subst (λ (n : ℕ). Stands b c first'.which o3 (undone_host now n (drop (length first.row.breaks.items) first'.row.breaks.items) words x.asked.host) (Some h)) target
-              (subst (λ (ps : List Point). Stands b c first'.which o3 (undone_host now (byte_of first'.machine) (drop (length ps) first'.row.breaks.items) words x.asked.host) (Some h)) same stands))),
-        ))
+        undone_host_is (debugged first hs.first) (debugged first' x.asked.host) st.first x.asked.after ready.ready.0.planted.machine ready.ready.0.stands.alike.breaks x.asked.alike (memories b c first.which o hs.first hs.second there.first_there.stands) now sets x.change words x.asked.one
+        read in
+        subst (λ (w : Side). Stands b c w o3 hs.first hs.second) which
+        (subst (λ (k : Host). Stands b c first'.which o3 k hs.second) back
+        (subst (λ (n : ℕ). Stands b c first'.which o3 (undone_host now n (drop (length first.row.breaks.items) first'.row.breaks.items) words x.asked.host) hs.second) target
+        (subst (λ (ps : List Point). Stands b c first'.which o3 (undone_host now (byte_of first'.machine) (drop (length ps) first'.row.breaks.items) words x.asked.host) hs.second) same stands)))
 
 -- ---- behind what was read of the first side
 
@@ -457,5 +475,9 @@ read_failed f f1 S words D N (Refused cause) w = absurd w
 read_failed f f1 S words D N (Raised e) w = absurd w
 read_failed f f1 S words D N Spent w = absurd w
 
-pub read_stays : (f f1 : ℕ) (S : Type 0) (words : List WordThere) (fault : AskFault) → fault ≡ NoMemory → ReadsBefore f f1 S words (Err fault) → S
-read_stays f f1 S words fault e w = (subst (λ (z : AskFault). ReadsBefore f f1 S words (Err z)) e w).1
+pub read_rests : (A : Type 0) (f f1 : ℕ) (S : Type 0) (words : List WordThere) (fault : AskFault) → IsUndone {A = A} (Err fault) → ReadsBefore f f1 S words (Err fault) → S
+read_rests A f f1 S words NoMemory u w = w.1
+read_rests A f f1 S words (Broken x) u w = absurd u
+read_rests A f f1 S words (Refused cause) u w = absurd w
+read_rests A f f1 S words (Raised e) u w = absurd w
+read_rests A f f1 S words Spent u w = absurd w

@@ -78,7 +78,7 @@ module _ (b : Behaviour) (c : Conduct) (o : Option World) (side : Side) (order :
   fits_stored : (m : Regions) → StoresNumbers (machine_order h.machine) h.machine.memory m → TellsFitting b (with_regions h m)
   fits_stored m w = record { machine = λ (k : MachineState) y. x.fits.machine k (reached_from (reached b h.machine m w) y); ended = x.fits.ended }
 
-  stands_stored : (o' : Option World) (side' : Side) (order' : Order) (z : Bytes) → StoresNumbers (machine_order h.machine) h.machine.memory z.regions → WireTells c o' side' order' z (rest_of side order h beside)
+  pub stands_stored : (o' : Option World) (side' : Side) (order' : Order) (z : Bytes) → StoresNumbers (machine_order h.machine) h.machine.memory z.regions → WireTells c o' side' order' z (rest_of side order h beside)
       → Stands b c side o' (with_regions h z.regions) beside
   stands_stored o' side' order' z w t =
       let side_is : side' ≡ side = sym (ap (λ (r : WireRest). r.side) t.rest_is) in

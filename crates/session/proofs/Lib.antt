@@ -18,3 +18,8 @@ pub mod AskingBoth
 pub mod PuttingBack
 mod GivenUp
 pub mod AskingText
+mod Wanting
+mod Counting
+mod Looking
+mod Looked
+mod Tallying

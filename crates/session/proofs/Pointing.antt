@@ -65,7 +65,7 @@ last_told q t _ _ x wanting k = cc
 
 -- ---- the store behind the command
 
-cut_nothing : (h : Held) → cut h (mark_of no_objects) ≡ no_objects
+pub cut_nothing : (h : Held) → cut h (mark_of no_objects) ≡ no_objects
 cut_nothing h = let e : min 0 h.units ≡ 0 = omega arith in ap (λ (n : ℕ). record { arrays = []; dicts = []; strings = []; units = n }) e
 
 pub no_items : {A : Type 0} (xs : List A) → length xs ≡ 0 → xs ≡ []

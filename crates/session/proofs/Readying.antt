@@ -74,7 +74,7 @@ module _ (b : Behaviour) (c : Conduct) where
   SecondThere o it side h = (side.which ≡ Second) × IsThere b c o side h (Some it)
 
   -- the second side, once something was done to the first one
-  second_stays : (o o' : Option World) (first : SideRecord) (h it : Host) (second : Option SideRecord) (x : Option Host) → OnSecond (SecondThere o h) second x → first.which ≡ First → IsThere b c o' first it x → OnSecond (SecondThere o' it) second x
+  pub second_stays : (o o' : Option World) (first : SideRecord) (h it : Host) (second : Option SideRecord) (x : Option Host) → OnSecond (SecondThere o h) second x → first.which ≡ First → IsThere b c o' first it x → OnSecond (SecondThere o' it) second x
   second_stays o o' first h it None None q e y = tt
   second_stays o o' first h it (Some side) (Some g) q e y = (q.0, second_beside b c o o' first side g it (Some h) q.0 q.1 e y)
   second_stays o o' first h it None (Some g) q e y = absurd q

@@ -10,3 +10,4 @@ pub mod Asked
 pub mod Meant
 pub mod Pointed
 pub mod Starting
+pub mod Wanting

@@ -114,6 +114,20 @@ module _ {A : Type 0} (faults faults' : ℕ) (Done : A → Type 0) (Isnt : Troub
   ComesTo (Err (Broken (BadReply frame))) = ⊥
   ComesTo (Err (Broken (Outside p))) = ⊥
 
+-- The same where any trouble leaves what is said. A link that failed has counted it, and brought no bad reply; without memory nothing is said.
+abbrev pub FailsWell : (faults faults' : ℕ) → (Stays : Type 0) → AskFault → Type 0
+FailsWell faults faults' Stays (Refused cause) = Stays
+FailsWell faults faults' Stays (Raised e) = Stays
+FailsWell faults faults' Stays Spent = Stays
+FailsWell faults faults' Stays NoMemory = Unit {0}
+FailsWell faults faults' Stays (Broken LinkFault) = Rose faults faults'
+FailsWell faults faults' Stays (Broken (BadReply frame)) = ⊥
+FailsWell faults faults' Stays (Broken (Outside p)) = ⊥
+
+abbrev pub TalksWell : {A : Type 0} → (faults faults' : ℕ) → (Stays : Type 0) → Result A AskFault → Type 0
+TalksWell faults faults' Stays (Ok x) = Stays
+TalksWell faults faults' Stays (Err fault) = FailsWell faults faults' Stays fault
+
 abbrev pub TalksTo : (faults faults' : ℕ) → (Done : Type 0) → Result (Unit {0}) TalkFault → Type 0
 TalksTo faults faults' Done (Ok x) = Done
 TalksTo faults faults' Done (Err talk.LinkFault) = Rose faults faults'
@@ -161,6 +175,13 @@ module _ (b : Behaviour) (c : Conduct) (o : Option World) (first first' : SideRe
     pub there : AreThere b c o first' second' hosts
     pub prepared : ArePrepared ByContinue (sides_of first second hs) (sides_of first' second' hosts) st
     pub ready : AreReadyFor first' second' hosts st
+
+-- whatever words of a step stood are taken away
+pub record AllCleared (b : Behaviour) (c : Conduct) (o : Option World) (first first' : SideRecord) (second second' : Option SideRecord) (hs : Hosts) : Type 0 where
+  pub hosts : Hosts
+  pub there : AreThere b c o first' second' hosts
+  pub first_settled : IsSettled (debugged first hs.first) (debugged first' hosts.first)
+  pub second_settled : OnSecond IsSettled (second_of second hs.second) (second_of second' hosts.second)
 
 -- ---- a resume
 
@@ -225,6 +246,22 @@ IsSaid (command.Turns n) = Unit {0}
 IsSaid command.Quit = Unit {0}
 IsSaid c = IsAskable c
 
+-- one that is asked of each side and stores nothing in the target
+abbrev pub IsLook : Command → Type 0
+IsLook command.Frames = Unit {0}
+IsLook (command.Frame n) = Unit {0}
+IsLook (command.Print name) = Unit {0}
+IsLook (command.Eval text) = Unit {0}
+IsLook (command.Code text) = Unit {0}
+IsLook c = ⊥
+
+-- one that has an expression
+abbrev pub IsExpression : Command → Type 0
+IsExpression (command.Eval text) = Unit {0}
+IsExpression (command.Assign text) = Unit {0}
+IsExpression (command.Code text) = Unit {0}
+IsExpression c = ⊥
+
 abbrev pub IsSaidIfAny : Option Command → Type 0
 IsSaidIfAny None = Unit {0}
 IsSaidIfAny (Some c) = IsSaid c
@@ -252,6 +289,11 @@ module _ (b : Behaviour) (c : Conduct) (o : Option World) (side side' : SideReco
     pub result : Result Change Troubled
     pub found_memory : result ≢ Err Wanting
     pub asked : AskedOne result
+
+-- something was stored in its machine's memory
+pub record StoredThere (b : Behaviour) (c : Conduct) (o : Option World) (side : SideRecord) (beside : Option Host) : Type 0 where
+  pub host : Host
+  pub there : IsThere b c o side host beside
 
 -- ---- a command of all sides
 

@@ -46,10 +46,6 @@ undone_in c target added words b = b.regions
 abbrev pub undone_host : Command → (target : ℕ) → (added : List Point) → List WordThere → Host → Host
 undone_host c target added words h = with_regions h (undone_in c target added words (memory_of h.machine))
 
--- the side is at rest with this nub and machine
-abbrev pub StaysAt : Behaviour → Conduct → Option World → Side → Host → Type 0
-StaysAt b c o which h = (beside : Option Host) × Stands b c which o h beside
-
 -- why a command isn't done that was undone
 abbrev pub wanting : Result (Unit {0}) TalkFault → AskFault
 wanting (Ok x) = NoMemory

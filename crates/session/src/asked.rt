@@ -7,13 +7,15 @@ ghost use Rattle.ps_store.specs.Store.{closed_part};
 ghost use Rattle.table_points.specs.Named.{IsNamed};
 ghost use Rattle.table_asks.specs.Closing.{Settles};
 ghost use Rattle.session.specs.Asked.{Does, chosen_frame};
-ghost use Rattle.session.specs.Kept.{IsFailure, IsKept, IsQuery, SaysDone};
+ghost use Rattle.session.specs.Kept.{IsFailure, IsKept, IsQuery, IsUndone, SaysDone};
+ghost use Rattle.session.specs.Counted.{CountsAsk};
 ghost use Rattle.session.specs.Turned.{turned};
+ghost use Rattle.session.specs.Wanting.{RunsNoneAsked, StaysOne, TableStays};
 ghost use Rattle.resuming.specs.Standing.{Stands};
 ghost use Rattle.machine_state.specs.State.{Behaviour};
 ghost use Rattle.nub_wire.specs.Nub.{Host};
 ghost use Rattle.claims.specs.Side.{SideState};
-ghost use Rattle.session.specs.Meant.{IsThere, debugged, SaidOne, NotOne, RanOne, IsBare, IsPlain, IsInquiry, ComesTo};
+ghost use Rattle.session.specs.Meant.{IsThere, debugged, SaidOne, NotOne, RanOne, IsBare, IsPlain, IsInquiry, IsLook, ComesTo, TalksWell};
 ghost use Rattle.side_meaning.specs.Standing.{StandsFor};
 ghost use Rattle.side_meaning.specs.Stepping.{IsReady};
 ghost use Rattle.c_session.specs.declared.command.Command.TheVariants.{Ps};
@@ -42,7 +44,7 @@ fn told<W: AbsMem + Drop>(
     ensures word { IfOk result (λ text. SaysDone command.now text) }
     ensures frame { side.new.frame ≡ side.old.frame }
     ensures same { side.new ≡ record side.old { inquiry = side.new.inquiry; row = record side.old.row { breaks = side.new.row.breaks } } }
-    ensures closed { IsPlain command.now → Settles (closed_part side.old.inquiry.core.store) (closed_part side.new.inquiry.core.store) }
+    ensures closed { Settles (closed_part side.old.inquiry.core.store) (closed_part side.new.inquiry.core.store) }
     ensures named { IsPlain command.now → AllByRecursion (IsNamed side.new.inquiry.core.store) side.old.row.breaks.items → AllByRecursion (IsNamed side.new.inquiry.core.store) side.new.row.breaks.items }
     ensures does { Does W.seen W.leads command.now side.old.frame side.old.row.breaks.items side.old.inquiry talk.old result side.new.row.breaks.items side.new.inquiry talk.new }
 {
@@ -81,6 +83,8 @@ pub fn asked_text<L: Link + Drop>(
     ensures faults { result ≢ Err AskFault.NoMemory → L.faults talk.old.memory.below.below.below.link ≤ L.faults talk.new.memory.below.below.below.link }
     ensures meant { (b : Behaviour) (h : Host) (beside : Option Host) (a : SideState) → IsThere b L.conduct (L.world talk.old.memory.below.below.below.link) side.old h beside → IsReady (debugged side.old h) a → a.step_words ≡ []
         → ComesTo (L.faults talk.old.memory.below.below.below.link) (L.faults talk.new.memory.below.below.below.link) (λ said. SaidOne b L.conduct (L.world talk.new.memory.below.below.below.link) side.old side.new h beside (Ps text.now) a said) (NotOne b L.conduct (L.world talk.new.memory.below.below.below.link) side.old side.new h beside (Ps text.now) a) result }
+    ensures same { side.new ≡ record side.old { inquiry = side.new.inquiry } }
+    ensures count { CountsAsk (L.faults talk.old.memory.below.below.below.link) (L.faults talk.new.memory.below.below.below.link) result }
 {
     turn(talk, side);
     let mark = match begin_command(&mut side.inquiry) {
@@ -103,11 +107,18 @@ pub fn asked<L: Link + Drop>(
     ensures query { IsQuery command.now → IsKept side.old side.new }
     ensures which { side.new.which ≡ side.old.which }
     ensures faults { IsInquiry command.now → result ≢ Err AskFault.NoMemory → L.faults talk.old.memory.below.below.below.link ≤ L.faults talk.new.memory.below.below.below.link }
-    ensures count { IsBare command.now → L.faults talk.old.memory.below.below.below.link ≤ L.faults talk.new.memory.below.below.below.link }
+    ensures bare { IsBare command.now → L.faults talk.old.memory.below.below.below.link ≤ L.faults talk.new.memory.below.below.below.link }
     ensures wanting { (b : Behaviour) (h : Host) (beside : Option Host) → IsThere b L.conduct (L.world talk.old.memory.below.below.below.link) side.old h beside → IsBare command.now → result ≡ Err AskFault.NoMemory
         → Stands b L.conduct side.old.which (L.world talk.new.memory.below.below.below.link) h beside }
     ensures meant { (b : Behaviour) (h : Host) (beside : Option Host) (a : SideState) → IsThere b L.conduct (L.world talk.old.memory.below.below.below.link) side.old h beside → IsReady (debugged side.old h) a → a.step_words ≡ [] → IsInquiry command.now
         → ComesTo (L.faults talk.old.memory.below.below.below.link) (L.faults talk.new.memory.below.below.below.link) (λ text. SaidOne b L.conduct (L.world talk.new.memory.below.below.below.link) side.old side.new h beside command.now a text) (NotOne b L.conduct (L.world talk.new.memory.below.below.below.link) side.old side.new h beside command.now a) result }
+    ensures same { side.new ≡ record side.old { inquiry = side.new.inquiry; row = record side.old.row { breaks = side.new.row.breaks }; frame = side.new.frame } }
+    ensures table { RunsNoneAsked command.now → TableStays side.old.inquiry.core.store side.new.inquiry.core.store }
+    ensures stays { (b : Behaviour) (h : Host) (beside : Option Host) (a : SideState) → IsThere b L.conduct (L.world talk.old.memory.below.below.below.link) side.old h beside → IsReady (debugged side.old h) a → a.step_words ≡ [] → RunsNoneAsked command.now → IsUndone result
+        → StaysOne b L.conduct (L.world talk.new.memory.below.below.below.link) side.new h beside a }
+    ensures wants { IsBare command.now → result ≡ Err AskFault.NoMemory → L.faults talk.new.memory.below.below.below.link ≡ L.faults talk.old.memory.below.below.below.link }
+    ensures looked { (b : Behaviour) (h : Host) (beside : Option Host) → IsThere b L.conduct (L.world talk.old.memory.below.below.below.link) side.old h beside → IsLook command.now → TalksWell (L.faults talk.old.memory.below.below.below.link) (L.faults talk.new.memory.below.below.below.link) (IsThere b L.conduct (L.world talk.new.memory.below.below.below.link) side.new h beside) result }
+    ensures count { CountsAsk (L.faults talk.old.memory.below.below.below.link) (L.faults talk.new.memory.below.below.below.link) result }
 {
     if let Command::Ps(text) = command {
         return asked_text(talk, side, text.as_bytes());
@@ -154,6 +165,7 @@ pub fn ran<L: Link + Drop>(
     ensures failure { IfErr result (λ fault. IsFailure fault) }
     ensures meant { (b : Behaviour) (h : Host) (beside : Option Host) (a : SideState) → IsThere b L.conduct (L.world talk.old.memory.below.below.below.link) side.old h beside → IsReady (debugged side.old h) a → a.step_words ≡ []
         → ComesTo (L.faults talk.old.memory.below.below.below.link) (L.faults talk.new.memory.below.below.below.link) (λ u. RanOne b L.conduct (L.world talk.new.memory.below.below.below.link) side.old side.new h beside (Ps text.now) a) (λ e. ⊥) result }
+    ensures count { CountsAsk (L.faults talk.old.memory.below.below.below.link) (L.faults talk.new.memory.below.below.below.link) result }
 {
     match asked_text(talk, side, text) {
         Ok(_said) => Ok(()),
@@ -174,6 +186,8 @@ pub fn registers_of<L: Link + Drop>(
     ensures faults { L.faults talk.old.memory.below.below.below.link ≤ L.faults talk.new.memory.below.below.below.link }
     ensures meant { (b : Behaviour) (h : Host) (beside : Option Host) (a : SideState) → IsThere b L.conduct (L.world talk.old.memory.below.below.below.link) side.now h beside → StandsFor (debugged side.now h) a
         → ComesTo (L.faults talk.old.memory.below.below.below.link) (L.faults talk.new.memory.below.below.below.link) (λ text. IsThere b L.conduct (L.world talk.new.memory.below.below.below.link) side.now h beside × (text ≡ line (regs_text a))) (λ e. ⊥) result }
+    ensures wanting { (b : Behaviour) (h : Host) (beside : Option Host) → IsThere b L.conduct (L.world talk.old.memory.below.below.below.link) side.now h beside → result ≡ Err AskFault.NoMemory → IsThere b L.conduct (L.world talk.new.memory.below.below.below.link) side.now h beside }
+    ensures count { CountsAsk (L.faults talk.old.memory.below.below.below.link) (L.faults talk.new.memory.below.below.below.link) result }
 {
     turn(talk, side);
     registers(side.inquiry.core.operands.allocator(), talk)

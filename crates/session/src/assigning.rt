@@ -1,6 +1,11 @@
 // `assign` on one side.
 
+ghost use Rattle.std.specs.Prelude.{◌≡◌, Option};
+ghost use Rattle.machine_state.specs.State.{Behaviour};
+ghost use Rattle.nub_wire.specs.Nub.{Host};
+ghost use Rattle.session.specs.Counted.{CountsAsk};
 ghost use Rattle.session.specs.Kept.{IsKept};
+ghost use Rattle.session.specs.Meant.{IsThere, StoredThere, TalksWell};
 
 use crate::sides::{SideRecord, turn};
 use abs_mem::Wire;
@@ -15,7 +20,10 @@ pub fn assigned<L: Link + Drop>(
     side: &mut SideRecord,
     text: &[u8],
 ) -> Result<Changes, AskFault>
-    ensures { IsKept side.old side.new }
+    ensures kept { IsKept side.old side.new }
+    ensures which { side.new.which ≡ side.old.which }
+    ensures evaluated { (b : Behaviour) (h : Host) (beside : Option Host) → IsThere b L.conduct (L.world talk.old.memory.below.below.below.link) side.old h beside → TalksWell (L.faults talk.old.memory.below.below.below.link) (L.faults talk.new.memory.below.below.below.link) (IsThere b L.conduct (L.world talk.new.memory.below.below.below.link) side.new h beside) result }
+    ensures count { CountsAsk (L.faults talk.old.memory.below.below.below.link) (L.faults talk.new.memory.below.below.below.link) result }
 {
     turn(talk, side);
     let mark = match begin_command(&mut side.inquiry) {
@@ -32,7 +40,10 @@ pub fn store<L: Link + Drop>(
     talk: &mut Operators<Wire<L>>,
     side: &SideRecord,
     changes: &Changes,
-) -> Result<(), AskFault> {
+) -> Result<(), AskFault>
+    ensures stores { (b : Behaviour) (h : Host) (beside : Option Host) → IsThere b L.conduct (L.world talk.old.memory.below.below.below.link) side.now h beside → TalksWell (L.faults talk.old.memory.below.below.below.link) (L.faults talk.new.memory.below.below.below.link) (StoredThere b L.conduct (L.world talk.new.memory.below.below.below.link) side.now beside) result }
+    ensures count { CountsAsk (L.faults talk.old.memory.below.below.below.link) (L.faults talk.new.memory.below.below.below.link) result }
+{
     turn(talk, side);
     store_all(talk, changes)
 }

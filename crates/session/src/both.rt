@@ -1,14 +1,16 @@
 // A command that doesn't resume, on both sides.
 
-ghost use Rattle.std.specs.Prelude.{◌≡◌, ◌≢◌, ◌⊎◌, ℕ, List, [], IfOk, Ok, Err, Option, Some};
+ghost use Rattle.std.specs.Prelude.{◌≡◌, ◌≢◌, ◌⊎◌, ℕ, List, [], IfOk, IfErr, OnOk, Ok, Err, Option, Some};
 ghost use Rattle.session.specs.Kept.{IsFailure, IsKept, IsUndone, IsQuery, SaysDone};
 ghost use Rattle.machine_state.specs.State.{Behaviour};
 ghost use Rattle.nub_wire.specs.Nub.{Host};
 ghost use Rattle.c_session.specs.declared.command.Command.TheVariants.{Ps};
 ghost use Rattle.claims.specs.Side.{SessionState, SideState};
-ghost use Rattle.session.specs.Meant.{ComesTo, Hosts, IsThere, AreThere, AreReadyFor, SetsBreaks, IsInquiry, RanOne, SaidAll, NotAll, debugged, sides_of};
+ghost use Rattle.session.specs.Meant.{ComesTo, Hosts, IsThere, AreThere, AreReadyFor, IsLook, IsInquiry, TalksWell, RanOne, SaidAll, NotAll, debugged, sides_of};
 ghost use Rattle.abs_mem.specs.WireMeaning.{memory_of};
-ghost use Rattle.session.specs.Undoing.{words_before, IsGivenUp, StaysAt};
+ghost use Rattle.session.specs.Counted.{CountsAsk, CountsFault};
+ghost use Rattle.session.specs.Undoing.{words_before, IsGivenUp};
+ghost use Rattle.session.specs.Wanting.{RunsNoneAsked, StandAgain};
 ghost use Rattle.side_meaning.specs.Stepping.{IsReady};
 ghost use Rattle.side_meaning.specs.Sessions.{SidesStand};
 ghost use Rattle.asking_meaning.specs.Meant.{joined};
@@ -21,6 +23,7 @@ use crate::undoing::{given_up, words_before};
 use abs_mem::Wire;
 use c_session::Command;
 use debug_side::WordThere;
+use evaluating::Changes;
 use ldb_words::Text;
 use nub_wire::Link;
 use ps_ops::Operators;
@@ -42,6 +45,7 @@ fn undone<L: Link + Drop>(
     ensures failed { IsFailure fault → (result ≡ fault) × (second.new ≡ second.old) × (talk.new ≡ talk.old) }
     ensures meant { (text : List ℕ) (b : Behaviour) (h : Host) (beside : Option Host) (a : SideState) → command.now ≡ Ps text → (IsFailure fault → ⊥) → IsThere b L.conduct (L.world talk.old.memory.below.below.below.link) second.old h beside → IsReady (debugged second.old h) a → a.step_words ≡ []
         → ((result ≡ fault) × RanOne b L.conduct (L.world talk.new.memory.below.below.below.link) second.old second.new h beside (Ps text) a) ⊎ IsGivenUp (L.faults talk.old.memory.below.below.below.link) (L.faults talk.new.memory.below.below.below.link) (Unit {0}) result }
+    ensures count { (IsFailure fault → ⊥) → CountsFault (L.faults talk.old.memory.below.below.below.link) (L.faults talk.new.memory.below.below.below.link) result }
 {
     if is_failure(&fault) {
         return fault;
@@ -67,10 +71,12 @@ fn asked_behind<L: Link + Drop>(
     ensures second { IsUndone result → IsKept second.old second.new }
     ensures query { IsQuery command.now → IsKept first.old first.new × IsKept second.old second.new }
     ensures word { IfOk result (λ text. SaysDone command.now text) }
-    ensures stays { (b : Behaviour) (hs : Hosts) (st : SessionState) → AreThere b L.conduct (L.world talk.old.memory.below.below.below.link) first.old (Some second.old) hs → AreReadyFor first.old (Some second.old) hs st → SetsBreaks command.now
-        → words.now ≡ words_before command.now (memory_of hs.first.machine) first.old.row.breaks.items → result ≡ Err AskFault.NoMemory → StaysAt b L.conduct (L.world talk.new.memory.below.below.below.link) first.old.which hs.first }
+    ensures stays { (b : Behaviour) (hs : Hosts) (st : SessionState) → AreThere b L.conduct (L.world talk.old.memory.below.below.below.link) first.old (Some second.old) hs → AreReadyFor first.old (Some second.old) hs st → RunsNoneAsked command.now
+        → words.now ≡ words_before command.now (memory_of hs.first.machine) first.old.row.breaks.items → IsUndone result → StandAgain b L.conduct (L.world talk.new.memory.below.below.below.link) first.new (Some second.new) st }
     ensures meant { (b : Behaviour) (hs : Hosts) (st : SessionState) → AreThere b L.conduct (L.world talk.old.memory.below.below.below.link) first.old (Some second.old) hs → AreReadyFor first.old (Some second.old) hs st → IsInquiry command.now
         → ComesTo (L.faults talk.old.memory.below.below.below.link) (L.faults talk.new.memory.below.below.below.link) (λ text. SaidAll b L.conduct (L.world talk.new.memory.below.below.below.link) first.new (Some second.new) st (DoneOnBoth st command.now) text) (NotAll b L.conduct (L.world talk.new.memory.below.below.below.link) first.new (Some second.new) st (DoneOnBoth st command.now)) result }
+    ensures looked { (b : Behaviour) (hs : Hosts) → AreThere b L.conduct (L.world talk.old.memory.below.below.below.link) first.old (Some second.old) hs → IsLook command.now → TalksWell (L.faults talk.old.memory.below.below.below.link) (L.faults talk.new.memory.below.below.below.link) (Unit {0}) result }
+    ensures count { CountsAsk (L.faults talk.old.memory.below.below.below.link) (L.faults talk.new.memory.below.below.below.link) result }
 {
     let alloc = first.inquiry.core.operands.allocator();
     let frame = first.frame;
@@ -110,10 +116,12 @@ pub fn asked_both<L: Link + Drop>(
     ensures second { IsUndone result → IsKept second.old second.new }
     ensures query { IsQuery command.now → IsKept first.old first.new × IsKept second.old second.new }
     ensures word { IfOk result (λ text. SaysDone command.now text) }
-    ensures stays { (b : Behaviour) (hs : Hosts) (st : SessionState) → AreThere b L.conduct (L.world talk.old.memory.below.below.below.link) first.old (Some second.old) hs → AreReadyFor first.old (Some second.old) hs st → SetsBreaks command.now → result ≡ Err AskFault.NoMemory
-        → StaysAt b L.conduct (L.world talk.new.memory.below.below.below.link) first.old.which hs.first }
+    ensures stays { (b : Behaviour) (hs : Hosts) (st : SessionState) → AreThere b L.conduct (L.world talk.old.memory.below.below.below.link) first.old (Some second.old) hs → AreReadyFor first.old (Some second.old) hs st → RunsNoneAsked command.now → IsUndone result
+        → StandAgain b L.conduct (L.world talk.new.memory.below.below.below.link) first.new (Some second.new) st }
     ensures meant { (b : Behaviour) (hs : Hosts) (st : SessionState) → AreThere b L.conduct (L.world talk.old.memory.below.below.below.link) first.old (Some second.old) hs → AreReadyFor first.old (Some second.old) hs st → IsInquiry command.now
         → ComesTo (L.faults talk.old.memory.below.below.below.link) (L.faults talk.new.memory.below.below.below.link) (λ text. SaidAll b L.conduct (L.world talk.new.memory.below.below.below.link) first.new (Some second.new) st (DoneOnBoth st command.now) text) (NotAll b L.conduct (L.world talk.new.memory.below.below.below.link) first.new (Some second.new) st (DoneOnBoth st command.now)) result }
+    ensures looked { (b : Behaviour) (hs : Hosts) → AreThere b L.conduct (L.world talk.old.memory.below.below.below.link) first.old (Some second.old) hs → IsLook command.now → TalksWell (L.faults talk.old.memory.below.below.below.link) (L.faults talk.new.memory.below.below.below.link) (Unit {0}) result }
+    ensures count { CountsAsk (L.faults talk.old.memory.below.below.below.link) (L.faults talk.new.memory.below.below.below.link) result }
 {
     let words = match words_before(talk, first, command) {
         Ok(words) => words,
@@ -128,8 +136,10 @@ pub fn registers_both<L: Link + Drop>(
     first: &SideRecord,
     second: &SideRecord,
 ) -> Result<Text, AskFault>
-    ensures { (b : Behaviour) (hs : Hosts) (st : SessionState) → AreThere b L.conduct (L.world talk.old.memory.below.below.below.link) first.now (Some second.now) hs → SidesStand (sides_of first.now (Some second.now) hs) st
+    ensures meant { (b : Behaviour) (hs : Hosts) (st : SessionState) → AreThere b L.conduct (L.world talk.old.memory.below.below.below.link) first.now (Some second.now) hs → SidesStand (sides_of first.now (Some second.now) hs) st
         → ComesTo (L.faults talk.old.memory.below.below.below.link) (L.faults talk.new.memory.below.below.below.link) (λ text. AreThere b L.conduct (L.world talk.new.memory.below.below.below.link) first.now (Some second.now) hs × (text ≡ joined (all_regs st))) (λ e. ⊥) result }
+    ensures wanting { (b : Behaviour) (hs : Hosts) (st : SessionState) → AreThere b L.conduct (L.world talk.old.memory.below.below.below.link) first.now (Some second.now) hs → SidesStand (sides_of first.now (Some second.now) hs) st → result ≡ Err AskFault.NoMemory → AreThere b L.conduct (L.world talk.new.memory.below.below.below.link) first.now (Some second.now) hs }
+    ensures count { CountsAsk (L.faults talk.old.memory.below.below.below.link) (L.faults talk.new.memory.below.below.below.link) result }
 {
     let said = registers_of(talk, first);
     let mut text = match said {
@@ -148,10 +158,23 @@ pub fn registers_both<L: Link + Drop>(
 }
 
 /// The text that says that an assignment is done, or why there is none.
-fn set_text(alloc: Global) -> Result<Text, AskFault> {
+fn set_text(alloc: Global) -> Result<Text, AskFault>
+    ensures { IfErr result (λ fault. fault ≡ AskFault.NoMemory) }
+{
     match Text::from_slice(alloc, b"set\n") {
         Ok(text) => Ok(text),
         Err(_) => Err(AskFault::NoMemory),
+    }
+}
+
+/// What an assignment says, once it was stored.
+fn stored(done: Result<(), AskFault>, said: Text) -> Result<Text, AskFault>
+    ensures ok { OnOk done (result ≡ Ok said) }
+    ensures err { IfErr done (λ fault. result ≡ Err fault) }
+{
+    match done {
+        Ok(()) => Ok(said),
+        Err(fault) => Err(fault),
     }
 }
 
@@ -161,12 +184,37 @@ pub fn assign_one<L: Link + Drop>(
     first: &mut SideRecord,
     text: &[u8],
 ) -> Result<Text, AskFault>
-    ensures { IsKept first.old first.new }
+    ensures kept { IsKept first.old first.new }
+    ensures evaluated { (b : Behaviour) (h : Host) (beside : Option Host) → IsThere b L.conduct (L.world talk.old.memory.below.below.below.link) first.old h beside → TalksWell (L.faults talk.old.memory.below.below.below.link) (L.faults talk.new.memory.below.below.below.link) (Unit {0}) result }
+    ensures count { CountsAsk (L.faults talk.old.memory.below.below.below.link) (L.faults talk.new.memory.below.below.below.link) result }
 {
-    let said = set_text(first.inquiry.core.operands.allocator())?;
-    let changes = assigned(talk, first, text)?;
-    store(talk, first, &changes)?;
-    Ok(said)
+    let said = match set_text(first.inquiry.core.operands.allocator()) {
+        Ok(said) => said,
+        Err(fault) => return Err(fault),
+    };
+    match assigned(talk, first, text) {
+        Ok(changes) => stored(store(talk, first, &changes), said),
+        Err(fault) => Err(fault),
+    }
+}
+
+/// What is said where the second side alone doesn't do an assignment: the first side stores alone, but where the link failed or memory
+/// was wanting.
+fn stored_alone<L: Link + Drop>(
+    talk: &mut Operators<Wire<L>>,
+    first: &SideRecord,
+    changes: &Changes,
+    said: Text,
+    fault: AskFault,
+) -> Result<Text, AskFault>
+    ensures failed { IsFailure fault → (result ≡ Err fault) × (talk.new ≡ talk.old) }
+    ensures stores { (b : Behaviour) (h : Host) (beside : Option Host) → (IsFailure fault → ⊥) → IsThere b L.conduct (L.world talk.old.memory.below.below.below.link) first.now h beside → TalksWell (L.faults talk.old.memory.below.below.below.link) (L.faults talk.new.memory.below.below.below.link) (Unit {0}) result }
+    ensures count { (IsFailure fault → ⊥) → CountsAsk (L.faults talk.old.memory.below.below.below.link) (L.faults talk.new.memory.below.below.below.link) result }
+{
+    if is_failure(&fault) {
+        return Err(fault);
+    }
+    stored(store(talk, first, changes), said)
 }
 
 /// `assign` on both sides, which are both asked before the first one stores. Where the first side doesn't do it, no side stores,
@@ -179,18 +227,26 @@ pub fn assign_both<L: Link + Drop>(
 ) -> Result<Text, AskFault>
     ensures first { IsKept first.old first.new }
     ensures second { IsKept second.old second.new }
+    ensures evaluated { (b : Behaviour) (hs : Hosts) → AreThere b L.conduct (L.world talk.old.memory.below.below.below.link) first.old (Some second.old) hs → TalksWell (L.faults talk.old.memory.below.below.below.link) (L.faults talk.new.memory.below.below.below.link) (Unit {0}) result }
+    ensures count { CountsAsk (L.faults talk.old.memory.below.below.below.link) (L.faults talk.new.memory.below.below.below.link) result }
 {
-    let said = set_text(first.inquiry.core.operands.allocator())?;
-    let changes = assigned(talk, first, text)?;
-    let others = match assigned(talk, second, text) {
-        Ok(others) => Some(others),
-        Err(AskFault::Broken(why)) => return Err(AskFault::Broken(why)),
-        Err(AskFault::NoMemory) => return Err(AskFault::NoMemory),
-        Err(_) => None,
+    let said = match set_text(first.inquiry.core.operands.allocator()) {
+        Ok(said) => said,
+        Err(fault) => return Err(fault),
     };
-    store(talk, first, &changes)?;
-    if let Some(others) = others {
-        store(talk, second, &others)?;
+    let mine = assigned(talk, first, text);
+    let changes = match mine {
+        Ok(changes) => changes,
+        Err(fault) => return Err(fault),
+    };
+    let more = assigned(talk, second, text);
+    let others = match more {
+        Ok(others) => others,
+        Err(fault) => return stored_alone(talk, first, &changes, said, fault),
+    };
+    let here = store(talk, first, &changes);
+    match here {
+        Ok(()) => stored(store(talk, second, &others), said),
+        Err(fault) => Err(fault),
     }
-    Ok(said)
 }

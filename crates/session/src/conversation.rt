@@ -8,7 +8,7 @@ ghost use Rattle.cmd_lang.specs.Words.{is_empty};
 ghost use Rattle.c_session.specs.Commands.{Refusal, ByContinue, ByStep};
 ghost use Rattle.claims.specs.Outcome.{refused_by_state, all_regs, Begins, DoneOnBoth, AnswersCommand};
 ghost use Rattle.session.specs.Answered.{state_of, resume_of, refusal_reply, line_reply, limit_reply, Replies, Answers};
-ghost use Rattle.session.specs.Counted.{CountsOutput, CountsEnd, IsNoQuit};
+ghost use Rattle.session.specs.Counted.{CountsAnswer, CountsAsk, CountsOutput, CountsEnd, IsNoQuit};
 ghost use Rattle.session.specs.Kept.{IsKept, AreKept, KeepsMode, KeepsReply, IsUndone, AnswersFault, IsQuery, TellsTrouble, SaysDone};
 ghost use Rattle.session.specs.Resuming.{StandsStill, OnSecond, ReadyFor, HasRoomFor, AllBehind, Resumes, event_on, goes_on};
 ghost use Rattle.machine_state.specs.State.{Behaviour, MachineState};
@@ -17,7 +17,10 @@ ghost use Rattle.ps_store.specs.StoreState.{StoreState};
 ghost use Rattle.session.specs.Starting.{IsFirst, AreFirst, HasRisen, one_session, two_session};
 ghost use Rattle.nub_wire.specs.Nub.{Host};
 ghost use Rattle.claims.specs.Side.{SessionState};
-ghost use Rattle.session.specs.Meant.{IsThere, ComesTo, Settled, Hosts, AreSteady, AreThere, ResumesAll, SaidAll, NotAll, IsInquiry, IsAskable, IsSaid, IsSaidIfAny, AreReadyFor, Represents, AllPrepared, AllSettled, AnswersAs, MeantAnswers, ResumesAs, IsResumable, MayAlsoRun, sides_of};
+ghost use Rattle.session.specs.Meant.{IsThere, ComesTo, Settled, Hosts, AreSteady, AreThere, ResumesAll, SaidAll, NotAll, IsInquiry, IsExpression, IsLook, IsAskable, IsSaid, IsSaidIfAny, AreReadyFor, Represents, AllCleared, AllPrepared, AllSettled, TalksWell, AnswersAs, MeantAnswers, ResumesAs, IsResumable, MayAlsoRun, sides_of};
+ghost use Rattle.session.specs.Wanting.{RunsNone, RunsNoneAsked, RunsNoneIfAny, RunsNoneInquired, RepresentsAgain, StandAgain};
+ghost use Rattle.ldb_edge.specs.Count.{Rose};
+ghost use Rattle.resuming.specs.Runs.{CountsRun};
 ghost use Rattle.side_meaning.specs.Sessions.{SidesStand, IsStill};
 ghost use Rattle.debug_side.specs.Told.{MayRun};
 ghost use Rattle.debug_side.specs.Planting.{mem_fault};
@@ -150,6 +153,8 @@ fn taken_away<L: Link + Drop>(
     ensures faults { L.faults talk.old.memory.below.below.below.link ≤ L.faults talk.new.memory.below.below.below.link }
     ensures meant { (b : Behaviour) (h : Host) (beside : Option Host) → IsThere b L.conduct (L.world talk.old.memory.below.below.below.link) side.old h beside
         → ComesTo (L.faults talk.old.memory.below.below.below.link) (L.faults talk.new.memory.below.below.below.link) (λ u. Settled b L.conduct (L.world talk.new.memory.below.below.below.link) side.old side.new h beside) (λ e. ⊥) result }
+    ensures whole { IsUndone result → ⊥ }
+    ensures count { CountsAsk (L.faults talk.old.memory.below.below.below.link) (L.faults talk.new.memory.below.below.below.link) result }
 {
     match unprepared(talk, side) {
         Ok(()) => Ok(()),
@@ -255,6 +260,11 @@ impl<L: Link + Drop> Session<L> {
             → AnswersAs b L.conduct (L.world self.new.talk.memory.below.below.below.link) self.new.first self.new.second self.new.mode self.new.limit st (O.taken out.old) (O.taken out.new) (MeantAnswers b st (read_of self.old.raw line.now)) (L.faults self.old.talk.memory.below.below.below.link) (L.faults self.new.talk.memory.below.below.below.link) self.old.broken result }
         ensures raw { self.new.raw ≡ self.old.raw }
         ensures broken { KeepsReply self.old.broken self.new.broken self.new.mode }
+        ensures stays { (b : Behaviour) (hs : Hosts) (st : SessionState) → Represents b L.conduct (L.world self.old.talk.memory.below.below.below.link) self.old.first self.old.second self.old.mode self.old.limit hs st → RunsNoneIfAny (read_of self.old.raw line.now) → result ≡ Ok Answer.NoMemory
+            → RepresentsAgain b L.conduct (L.world self.new.talk.memory.below.below.below.link) self.new.first self.new.second self.new.mode self.new.limit st }
+        ensures target { (b : Behaviour) (hs : Hosts) (st : SessionState) (c : Command) → Represents b L.conduct (L.world self.old.talk.memory.below.below.below.link) self.old.first self.old.second self.old.mode self.old.limit hs st → read_of self.old.raw line.now ≡ Some c → c ≢ Continue → c ≢ Step
+            → (self.new.mode ≡ self.old.mode) ⊎ Rose (L.faults self.old.talk.memory.below.below.below.link) (L.faults self.new.talk.memory.below.below.below.link) }
+        ensures count { CountsAnswer (L.faults self.old.talk.memory.below.below.below.link) (L.faults self.new.talk.memory.below.below.below.link) self.old.broken self.new.mode result }
     {
         match read_command(self.alloc, line, self.raw) {
             Err(CmdFault::Line) => Ok(malformed(self.alloc, line)),
@@ -282,6 +292,9 @@ impl<L: Link + Drop> Session<L> {
             → AnswersAs b L.conduct (L.world self.new.talk.memory.below.below.below.link) self.new.first self.new.second self.new.mode self.new.limit st (O.taken out.old) (O.taken out.new) (MeantAnswers b st (Some command.now)) (L.faults self.old.talk.memory.below.below.below.link) (L.faults self.new.talk.memory.below.below.below.link) self.old.broken result }
         ensures raw { self.new.raw ≡ self.old.raw }
         ensures broken { KeepsReply self.old.broken self.new.broken self.new.mode }
+        ensures stays { (b : Behaviour) (hs : Hosts) (st : SessionState) → Represents b L.conduct (L.world self.old.talk.memory.below.below.below.link) self.old.first self.old.second self.old.mode self.old.limit hs st → RunsNone command.now → result ≡ Ok Answer.NoMemory → RepresentsAgain b L.conduct (L.world self.new.talk.memory.below.below.below.link) self.new.first self.new.second self.new.mode self.new.limit st }
+        ensures target { (b : Behaviour) (hs : Hosts) (st : SessionState) → Represents b L.conduct (L.world self.old.talk.memory.below.below.below.link) self.old.first self.old.second self.old.mode self.old.limit hs st → command.now ≢ Continue → command.now ≢ Step → command.now ≢ Quit → (self.new.mode ≡ self.old.mode) ⊎ Rose (L.faults self.old.talk.memory.below.below.below.link) (L.faults self.new.talk.memory.below.below.below.link) }
+        ensures count { CountsAnswer (L.faults self.old.talk.memory.below.below.below.link) (L.faults self.new.talk.memory.below.below.below.link) self.old.broken self.new.mode result }
     {
         if let Some(why) = refused_in(self.mode, command) {
             return Ok(answer(mode_reply(self.alloc, why)));
@@ -357,6 +370,8 @@ impl<L: Link + Drop> Session<L> {
         ensures raw { self.new.raw ≡ self.old.raw }
         ensures second { self.new.second ≡ self.old.second }
         ensures broken { self.new.broken ≡ self.old.broken }
+        ensures stays { (b : Behaviour) (hs : Hosts) (st : SessionState) → AreThere b L.conduct (L.world self.old.talk.memory.below.below.below.link) self.old.first self.old.second hs → SidesStand (sides_of self.old.first self.old.second hs) st → result ≡ Err AskFault.NoMemory → AreThere b L.conduct (L.world self.new.talk.memory.below.below.below.link) self.new.first self.new.second hs }
+        ensures count { CountsAsk (L.faults self.old.talk.memory.below.below.below.link) (L.faults self.new.talk.memory.below.below.below.link) result }
     {
         match &self.second {
             None => registers_of(&mut self.talk, &self.first),
@@ -375,6 +390,10 @@ impl<L: Link + Drop> Session<L> {
             → ComesTo (L.faults self.old.talk.memory.below.below.below.link) (L.faults self.new.talk.memory.below.below.below.link) (λ text. SaidAll b L.conduct (L.world self.new.talk.memory.below.below.below.link) self.new.first self.new.second st (DoneOnBoth st command.now) text) (NotAll b L.conduct (L.world self.new.talk.memory.below.below.below.link) self.new.first self.new.second st (DoneOnBoth st command.now)) result }
         ensures raw { self.new.raw ≡ self.old.raw }
         ensures broken { self.new.broken ≡ self.old.broken }
+        ensures stays { (b : Behaviour) (hs : Hosts) (st : SessionState) → AreThere b L.conduct (L.world self.old.talk.memory.below.below.below.link) self.old.first self.old.second hs → AreReadyFor self.old.first self.old.second hs st → RunsNoneAsked command.now → IsUndone result
+            → StandAgain b L.conduct (L.world self.new.talk.memory.below.below.below.link) self.new.first self.new.second st }
+        ensures looked { (b : Behaviour) (hs : Hosts) → AreThere b L.conduct (L.world self.old.talk.memory.below.below.below.link) self.old.first self.old.second hs → IsLook command.now → TalksWell (L.faults self.old.talk.memory.below.below.below.link) (L.faults self.new.talk.memory.below.below.below.link) (Unit {0}) result }
+        ensures count { CountsAsk (L.faults self.old.talk.memory.below.below.below.link) (L.faults self.new.talk.memory.below.below.below.link) result }
     {
         match &mut self.second {
             None => asked(&mut self.talk, &mut self.first, command),
@@ -389,6 +408,8 @@ impl<L: Link + Drop> Session<L> {
         ensures kept { IsKept self.old.first self.new.first × AreKept self.old.second self.new.second }
         ensures raw { self.new.raw ≡ self.old.raw }
         ensures broken { self.new.broken ≡ self.old.broken }
+        ensures evaluated { (b : Behaviour) (hs : Hosts) → AreThere b L.conduct (L.world self.old.talk.memory.below.below.below.link) self.old.first self.old.second hs → TalksWell (L.faults self.old.talk.memory.below.below.below.link) (L.faults self.new.talk.memory.below.below.below.link) (Unit {0}) result }
+        ensures count { CountsAsk (L.faults self.old.talk.memory.below.below.below.link) (L.faults self.new.talk.memory.below.below.below.link) result }
     {
         match &mut self.second {
             None => assign_one(&mut self.talk, &mut self.first, text),
@@ -407,6 +428,10 @@ impl<L: Link + Drop> Session<L> {
             → ComesTo (L.faults self.old.talk.memory.below.below.below.link) (L.faults self.new.talk.memory.below.below.below.link) (λ text. SaidAll b L.conduct (L.world self.new.talk.memory.below.below.below.link) self.new.first self.new.second st (AnswersCommand b st command.now) text) (NotAll b L.conduct (L.world self.new.talk.memory.below.below.below.link) self.new.first self.new.second st (AnswersCommand b st command.now)) result }
         ensures raw { self.new.raw ≡ self.old.raw }
         ensures broken { self.new.broken ≡ self.old.broken }
+        ensures stays { (b : Behaviour) (hs : Hosts) (st : SessionState) → Represents b L.conduct (L.world self.old.talk.memory.below.below.below.link) self.old.first self.old.second self.old.mode self.old.limit hs st → refused_by_state st.state command.now ≡ None → RunsNoneInquired command.now → IsUndone result
+            → StandAgain b L.conduct (L.world self.new.talk.memory.below.below.below.link) self.new.first self.new.second st }
+        ensures evaluated { (b : Behaviour) (hs : Hosts) (st : SessionState) → Represents b L.conduct (L.world self.old.talk.memory.below.below.below.link) self.old.first self.old.second self.old.mode self.old.limit hs st → refused_by_state st.state command.now ≡ None → IsExpression command.now → TalksWell (L.faults self.old.talk.memory.below.below.below.link) (L.faults self.new.talk.memory.below.below.below.link) (Unit {0}) result }
+        ensures count { CountsAsk (L.faults self.old.talk.memory.below.below.below.link) (L.faults self.new.talk.memory.below.below.below.link) result }
     {
         match self.settle() {
             Ok(()) => {}
@@ -430,6 +455,8 @@ impl<L: Link + Drop> Session<L> {
             → ComesTo (L.faults self.old.talk.memory.below.below.below.link) (L.faults self.new.talk.memory.below.below.below.link) (λ u. AllPrepared b L.conduct (L.world self.new.talk.memory.below.below.below.link) self.old.first self.new.first self.old.second self.new.second hs st ByStep) (NotAll b L.conduct (L.world self.new.talk.memory.below.below.below.link) self.new.first self.new.second st (Begins b ByStep st)) result }
         ensures raw { self.new.raw ≡ self.old.raw }
         ensures broken { self.new.broken ≡ self.old.broken }
+        ensures stays { (b : Behaviour) (hs : Hosts) (st : SessionState) → Represents b L.conduct (L.world self.old.talk.memory.below.below.below.link) self.old.first self.old.second self.old.mode self.old.limit hs st → IsStill st.state → IsUndone result → StandAgain b L.conduct (L.world self.new.talk.memory.below.below.below.link) self.new.first self.new.second st }
+        ensures count { CountsAsk (L.faults self.old.talk.memory.below.below.below.link) (L.faults self.new.talk.memory.below.below.below.link) result }
     {
         match prepared(&mut self.talk, &mut self.first) {
             Ok(()) => {}
@@ -463,6 +490,9 @@ impl<L: Link + Drop> Session<L> {
             → ComesTo (L.faults self.old.talk.memory.below.below.below.link) (L.faults self.new.talk.memory.below.below.below.link) (λ u. AllSettled b L.conduct (L.world self.new.talk.memory.below.below.below.link) self.old.first self.new.first self.old.second self.new.second hs st) (λ e. ⊥) result }
         ensures raw { self.new.raw ≡ self.old.raw }
         ensures broken { self.new.broken ≡ self.old.broken }
+        ensures whole { IsUndone result → ⊥ }
+        ensures cleared { (b : Behaviour) (hs : Hosts) → ((how : How) → self.old.mode ≢ Mode.Running how) → AreThere b L.conduct (L.world self.old.talk.memory.below.below.below.link) self.old.first self.old.second hs → OnOk result (AllCleared b L.conduct (L.world self.new.talk.memory.below.below.below.link) self.old.first self.new.first self.old.second self.new.second hs) }
+        ensures count { CountsAsk (L.faults self.old.talk.memory.below.below.below.link) (L.faults self.new.talk.memory.below.below.below.link) result }
     {
         if let Mode::Running(_) = self.mode {
             return Ok(());
@@ -490,6 +520,8 @@ impl<L: Link + Drop> Session<L> {
             → ComesTo (L.faults self.old.talk.memory.below.below.below.link) (L.faults self.new.talk.memory.below.below.below.link) (λ line. AllPrepared b L.conduct (L.world self.new.talk.memory.below.below.below.link) self.old.first self.new.first self.old.second self.new.second hs st (resume_of how)) (NotAll b L.conduct (L.world self.new.talk.memory.below.below.below.link) self.new.first self.new.second st (ResumesAs b (resume_of how) st)) result }
         ensures raw { self.new.raw ≡ self.old.raw }
         ensures broken { self.new.broken ≡ self.old.broken }
+        ensures stays { (b : Behaviour) (hs : Hosts) (st : SessionState) → Represents b L.conduct (L.world self.old.talk.memory.below.below.below.link) self.old.first self.old.second self.old.mode self.old.limit hs st → IsResumable st.state → IsUndone result → StandAgain b L.conduct (L.world self.new.talk.memory.below.below.below.link) self.new.first self.new.second st }
+        ensures count { CountsAsk (L.faults self.old.talk.memory.below.below.below.link) (L.faults self.new.talk.memory.below.below.below.link) result }
     {
         match (self.mode, how) {
             (Mode::Running(_), _) => {}
@@ -518,6 +550,7 @@ impl<L: Link + Drop> Session<L> {
             → ResumesAll b L.conduct (L.world self.new.talk.memory.below.below.below.link) self.old.first self.new.first self.old.second self.new.second hs self.old.limit (L.faults self.old.talk.memory.below.below.below.link) (L.faults self.new.talk.memory.below.below.below.link) (O.taken out.old) (O.taken out.new) result }
         ensures raw { self.new.raw ≡ self.old.raw }
         ensures broken { self.new.broken ≡ self.old.broken }
+        ensures cause { CountsRun (L.faults self.old.talk.memory.below.below.below.link) (L.faults self.new.talk.memory.below.below.below.link) (O.faults out.old) (O.faults out.new) result }
     {
         match &mut self.second {
             None => resumed_one(&mut self.talk, &mut self.first, self.limit, out),
@@ -539,6 +572,8 @@ impl<L: Link + Drop> Session<L> {
             → AnswersAs b L.conduct (L.world self.new.talk.memory.below.below.below.link) self.new.first self.new.second self.new.mode self.new.limit st (O.taken out.old) (O.taken out.new) (ResumesAs b (resume_of how) st) (L.faults self.old.talk.memory.below.below.below.link) (L.faults self.new.talk.memory.below.below.below.link) self.old.broken result }
         ensures raw { self.new.raw ≡ self.old.raw }
         ensures broken { KeepsReply self.old.broken self.new.broken self.new.mode }
+        ensures stays { (b : Behaviour) (hs : Hosts) (st : SessionState) → Represents b L.conduct (L.world self.old.talk.memory.below.below.below.link) self.old.first self.old.second self.old.mode self.old.limit hs st → IsResumable st.state → result ≡ Ok Answer.NoMemory → RepresentsAgain b L.conduct (L.world self.new.talk.memory.below.below.below.link) self.new.first self.new.second self.new.mode self.new.limit st }
+        ensures count { CountsAnswer (L.faults self.old.talk.memory.below.below.below.link) (L.faults self.new.talk.memory.below.below.below.link) self.old.broken self.new.mode result }
     {
         let line = match self.ready(how) {
             Ok(line) => line,

@@ -1,7 +1,9 @@
 // What is done before a step.
 
 ghost use Rattle.std.specs.Prelude.{◌≡◌, ◌⊎◌, ◌≤◌, [], true, IfOk, IfErr, OnOk, Option, Ok, Err};
-ghost use Rattle.session.specs.Kept.{IsKept};
+ghost use Rattle.table_asks.specs.Faults.{IsUnbroken};
+ghost use Rattle.session.specs.Counted.{CountsAsk, CountsTalk};
+ghost use Rattle.session.specs.Kept.{IsKept, IsUndone};
 ghost use Rattle.session.specs.Resuming.{HasRoomFor, StandsStill};
 ghost use Rattle.machine_state.specs.State.{Behaviour};
 ghost use Rattle.nub_wire.specs.Nub.{Host};
@@ -9,6 +11,7 @@ ghost use Rattle.claims.specs.Side.{SideState};
 ghost use Rattle.session.specs.Meant.{IsThere, debugged, ComesTo, Stepped, Unstepped, Settled, TalksTo};
 ghost use Rattle.session.specs.Pointed.{Last, AllTold, NoneTold};
 ghost use Rattle.session.specs.Turned.{turned};
+ghost use Rattle.session.specs.Wanting.{StaysOne, TableStays};
 ghost use Rattle.ps_store.specs.StoreState.{StoreState};
 ghost use Rattle.side_meaning.specs.Standing.{IsTable, StandsFor};
 
@@ -61,7 +64,9 @@ fn lasting(
 
 /// All points of a side's table.
 fn points_of(inquiry: &mut Inquiry) -> Result<Vec<Point>, AskFault>
-    ensures { (t : StoreState) → IsTable inquiry.old.core.store t → ComesTo 0 0 (λ points. AllTold inquiry.old.core.store inquiry.new.core.store t points.items) (NoneTold inquiry.old.core.store inquiry.new.core.store t) result }
+    ensures meant { (t : StoreState) → IsTable inquiry.old.core.store t → ComesTo 0 0 (λ points. AllTold inquiry.old.core.store inquiry.new.core.store t points.items) (NoneTold inquiry.old.core.store inquiry.new.core.store t) result }
+    ensures table { TableStays inquiry.old.core.store inquiry.new.core.store }
+    ensures unbroken { IfErr result (λ fault. IsUnbroken fault) }
 {
     let mark = match begin_command(inquiry) {
         Ok(mark) => mark,
@@ -86,6 +91,9 @@ pub fn prepared<L: Link + Drop>(
     ensures untouched { result ≡ Err AskFault.NoMemory → talk.new ≡ turned side.old talk.old }
     ensures meant { (b : Behaviour) (h : Host) (beside : Option Host) (a : SideState) → IsThere b L.conduct (L.world talk.old.memory.below.below.below.link) side.old h beside → StandsFor (debugged side.old h) a → a.step_words ≡ []
         → ComesTo (L.faults talk.old.memory.below.below.below.link) (L.faults talk.new.memory.below.below.below.link) (λ u. Stepped b L.conduct (L.world talk.new.memory.below.below.below.link) side.old side.new h beside a) (Unstepped b L.conduct (L.world talk.new.memory.below.below.below.link) side.old side.new h beside a) result }
+    ensures stays { (b : Behaviour) (h : Host) (beside : Option Host) (a : SideState) → IsThere b L.conduct (L.world talk.old.memory.below.below.below.link) side.old h beside → StandsFor (debugged side.old h) a → a.step_words ≡ [] → IsUndone result
+        → StaysOne b L.conduct (L.world talk.new.memory.below.below.below.link) side.new h beside a }
+    ensures count { CountsAsk (L.faults talk.old.memory.below.below.below.link) (L.faults talk.new.memory.below.below.below.link) result }
 {
     if !side.row.step_words.is_empty() {
         return Ok(());
@@ -119,6 +127,7 @@ pub fn unprepared<L: Link + Drop>(
     ensures faults { L.faults talk.old.memory.below.below.below.link ≤ L.faults talk.new.memory.below.below.below.link }
     ensures meant { (b : Behaviour) (h : Host) (beside : Option Host) → IsThere b L.conduct (L.world talk.old.memory.below.below.below.link) side.old h beside
         → TalksTo (L.faults talk.old.memory.below.below.below.link) (L.faults talk.new.memory.below.below.below.link) (Settled b L.conduct (L.world talk.new.memory.below.below.below.link) side.old side.new h beside) result }
+    ensures count { CountsTalk (L.faults talk.old.memory.below.below.below.link) (L.faults talk.new.memory.below.below.below.link) result }
 {
     turn(talk, side);
     let target = side.machine.byte();

@@ -71,6 +71,7 @@ pub fn resumed_one<L: Link + Drop, O: Sink>(
     ensures behind { IfOk result (λ all. OneBehind (event_on first.old all) first.old first.new) }
     ensures meant { (b : Behaviour) (hs : Hosts) → AreSteady b → AreThere b L.conduct (L.world talk.old.memory.below.below.below.link) first.old None hs → MayRun first.old.row.kept hs.first
         → ResumesAll b L.conduct (L.world talk.new.memory.below.below.below.link) first.old first.new None None hs limit (L.faults talk.old.memory.below.below.below.link) (L.faults talk.new.memory.below.below.below.link) (O.taken out.old) (O.taken out.new) result }
+    ensures cause { CountsRun (L.faults talk.old.memory.below.below.below.link) (L.faults talk.new.memory.below.below.below.link) (O.faults out.old) (O.faults out.new) result }
 {
     match resumed(talk, first, limit, out) {
         Err(fault) => Err(fault),
@@ -93,6 +94,7 @@ pub fn resumed_both<L: Link + Drop, O: Sink>(
     ensures behind { IfOk result (λ all. BothBehind (event_on first.old all) first.old first.new second.old second.new) }
     ensures meant { (b : Behaviour) (hs : Hosts) → AreSteady b → AreThere b L.conduct (L.world talk.old.memory.below.below.below.link) first.old (Some second.old) hs → MayRun first.old.row.kept hs.first → MayAlsoRun (Some second.old) hs.second
         → ResumesAll b L.conduct (L.world talk.new.memory.below.below.below.link) first.old first.new (Some second.old) (Some second.new) hs limit (L.faults talk.old.memory.below.below.below.link) (L.faults talk.new.memory.below.below.below.link) (O.taken out.old) (O.taken out.new) result }
+    ensures cause { CountsRun (L.faults talk.old.memory.below.below.below.link) (L.faults talk.new.memory.below.below.below.link) (O.faults out.old) (O.faults out.new) result }
 {
     let event = match resumed(talk, first, limit, out) {
         Ok(event) => event,

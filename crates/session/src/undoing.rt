@@ -5,6 +5,8 @@ ghost use Rattle.machine_state.specs.State.{Behaviour, order_of as machine_order
 ghost use Rattle.nub_wire.specs.Nub.{Host};
 ghost use Rattle.resuming.specs.Standing.{Stands};
 ghost use Rattle.abs_mem.specs.WireMeaning.{memory_of};
+ghost use Rattle.session.specs.Counted.{CountsAsk, CountsFault, CountsTalk};
+ghost use Rattle.session.specs.Kept.{IsFailure};
 ghost use Rattle.session.specs.Meant.{SetsBreaks};
 ghost use Rattle.session.specs.Turned.{byte_of, order_of};
 ghost use Rattle.session.specs.Undoing.{unread, words_before, undone_host, ReadsBefore, PutsBack, IsGivenUp, wanting};
@@ -41,6 +43,7 @@ pub fn words_before<L: Link + Drop>(
         → IfOk result (λ words. ReadsBefore (L.faults talk.old.memory.below.below.below.link) (L.faults talk.new.memory.below.below.below.link) (Stands b L.conduct side.now.which (L.world talk.new.memory.below.below.below.link) h beside) (words_before command.now (memory_of h.machine) side.now.row.breaks.items) (Ok words.items)) }
     ensures fails { (b : Behaviour) (h : Host) (beside : Option Host) → Stands b L.conduct side.now.which (L.world talk.old.memory.below.below.below.link) h beside → order_of side.now.machine ≡ machine_order h.machine
         → IfErr result (λ fault. ReadsBefore (L.faults talk.old.memory.below.below.below.link) (L.faults talk.new.memory.below.below.below.link) (Stands b L.conduct side.now.which (L.world talk.new.memory.below.below.below.link) h beside) (words_before command.now (memory_of h.machine) side.now.row.breaks.items) (Err fault)) }
+    ensures count { CountsAsk (L.faults talk.old.memory.below.below.below.link) (L.faults talk.new.memory.below.below.below.link) result }
 {
     let alloc = side.inquiry.core.operands.allocator();
     match command {
@@ -68,6 +71,7 @@ fn put_back<L: Link + Drop>(
     ensures other { (SetsBreaks command.now → ⊥) → (result ≡ Ok tt) × (talk.new ≡ talk.old) }
     ensures meant { (b : Behaviour) (h : Host) (beside : Option Host) → Stands b L.conduct side.now.which (L.world talk.old.memory.below.below.below.link) h beside → order_of side.now.machine ≡ machine_order h.machine
         → PutsBack (L.faults talk.old.memory.below.below.below.link) (L.faults talk.new.memory.below.below.below.link) (Stands b L.conduct side.now.which (L.world talk.new.memory.below.below.below.link) (undone_host command.now (byte_of side.now.machine) (drop count side.now.row.breaks.items) words.now h) beside) result }
+    ensures count { CountsTalk (L.faults talk.old.memory.below.below.below.link) (L.faults talk.new.memory.below.below.below.link) result }
 {
     let target = side.machine.byte();
     match command {
@@ -90,7 +94,8 @@ fn put_back<L: Link + Drop>(
 
 /// Why a command isn't done that was put back.
 fn wanting(back: Result<(), TalkFault>) -> AskFault
-    ensures { result ≡ wanting back }
+    ensures value { result ≡ wanting back }
+    ensures failure { IsFailure result }
 {
     match back {
         Ok(()) => AskFault::NoMemory,
@@ -108,12 +113,15 @@ pub fn given_up<L: Link + Drop>(
     words: &[WordThere],
     frame: u32,
 ) -> AskFault
+    ensures failure { IsFailure result }
     ensures breaks { first.new.row.breaks.items ≡ before.items }
     ensures frame { first.new.frame ≡ frame }
     ensures which { first.new.which ≡ first.old.which }
     ensures other { (SetsBreaks command.now → ⊥) → (result ≡ AskFault.NoMemory) × (talk.new ≡ talk.old) }
     ensures meant { (b : Behaviour) (h : Host) (beside : Option Host) → Stands b L.conduct first.old.which (L.world talk.old.memory.below.below.below.link) h beside → order_of first.old.machine ≡ machine_order h.machine
         → IsGivenUp (L.faults talk.old.memory.below.below.below.link) (L.faults talk.new.memory.below.below.below.link) (Stands b L.conduct first.old.which (L.world talk.new.memory.below.below.below.link) (undone_host command.now (byte_of first.old.machine) (drop (length before.items) first.old.row.breaks.items) words.now h) beside) result }
+    ensures same { first.new ≡ record first.old { row = record first.old.row { breaks = first.new.row.breaks }; frame = first.new.frame } }
+    ensures count { CountsFault (L.faults talk.old.memory.below.below.below.link) (L.faults talk.new.memory.below.below.below.link) result }
 {
     first.frame = frame;
     let back = put_back(talk, first, command, before.len(), words);

@@ -39,7 +39,7 @@ use Rattle.side_meaning.specs.Storing.{StoresNumbers, none_stored, stores, SameT
 
 -- ---- numbers that are stored
 
-more_stored : {o : Order} {r s t : Regions} → StoresNumbers o r s → StoresNumbers o s t → StoresNumbers o r t
+pub more_stored : {o : Order} {r s t : Regions} → StoresNumbers o r s → StoresNumbers o s t → StoresNumbers o r t
 more_stored x none_stored = x
 more_stored x (stores at width value w y is) = stores at width value w (more_stored x y) is
 
@@ -53,11 +53,11 @@ reached b m r s = reached_by b m m.memory r s refl
 
 -- ---- one store
 
-record Left (b b' : Bytes) : Type 0 where
-  order : b'.order ≡ b.order
-  stored : StoresNumbers b.order b.regions b'.regions
+pub record Left (b b' : Bytes) : Type 0 where
+  pub order : b'.order ≡ b.order
+  pub stored : StoresNumbers b.order b.regions b'.regions
 
-abbrev LeftIf : Bytes → Option Bytes → Type 0
+abbrev pub LeftIf : Bytes → Option Bytes → Type 0
 LeftIf b None = Unit {0}
 LeftIf b (Some b') = Left b b'
 
@@ -94,7 +94,7 @@ cell_left : (b : Bytes) (k : Kind) (v : ℕ) (w : Option ℕ) → LeftIf b (with
 cell_left b k v None = tt
 cell_left b k v (Some w) = record { order = refl; stored = none_stored }
 
-stored_left : (b : Bytes) (s : Space) (at : ℕ) (k : Kind) (v : ℕ) → LeftIf b (stored b s at k v)
+pub stored_left : (b : Bytes) (s : Space) (at : ℕ) (k : Kind) (v : ℕ) → LeftIf b (stored b s at k v)
 unfolding stored
 stored_left b Memory at k v = number_left b (record { from = at; width = width_of k }) v (width_known k)
 stored_left b Registers at k v = register_left b k v (word_address b.registers at)

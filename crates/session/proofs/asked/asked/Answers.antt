@@ -3,8 +3,14 @@ use Rattle.abs_mem.specs.WireMeaning.{WireLeads}
 use Rattle.c_session.specs.declared.command.Command.{Command}
 use Rattle.c_session.specs.declared.command.Command.TheVariants.{Ps}
 use Rattle.table_asks.specs.declared.fault.AskFault.TheVariants.{NoMemory}
-use Rattle.session.specs.Meant.{IsBare, SaidOne, NotOne, ComesTo}
+use Rattle.table_asks.specs.declared.inquiry.Inquiry.{Inquiry}
+use Rattle.session.specs.Meant.{IsBare, IsLook, SaidOne, NotOne, ComesTo}
+use Rattle.ps_store.specs.StoreState.{StoreState}
+use Rattle.session.specs.declared.sides.SideRecord.{SideRecord}
+use Rattle.session.specs.Wanting.{RunsNoneAsked, TableStays}
 use Rattle.session.proofs.Asking.{undone_meant, done_meant, count_of, count_unless, rests_wanting, plain_of}
+use Rattle.session.proofs.Wanting.{same_table, table_stays}
+use Rattle.session.proofs.Looked.{looked, asked_stays, unasked_stays, turned_counts, turned_wants}
 use Rattle.session.proofs.asked.asked.Goals as goal
 
 pub returns-in-Err-said-clause-meant : goal.returns-in-Err-said-clause-meant
@@ -19,7 +25,7 @@ returns-in-Err-said-clause-meant g c = λ b h beside a there ready none inquiry.
       store = c.in-Ok.ensures.store;
       mark_is = c.in-Ok.ensures.there;
       does = c.in-Err-said.ensures.does;
-      closed = c.in-Err-said.ensures.closed plain;
+      closed = c.in-Err-said.ensures.closed;
       named = c.in-Err-said.ensures.named plain;
       same = c.in-Err-said.ensures.same;
       kept = c.in-Err-said.ensures.kept;
@@ -39,7 +45,7 @@ returns-in-Ok-said-clause-meant g c = λ b h beside a there ready none inquiry.
       store = c.in-Ok.ensures.store;
       mark_is = c.in-Ok.ensures.there;
       does = c.in-Ok-said.ensures.does;
-      closed = c.in-Ok-said.ensures.closed plain;
+      closed = c.in-Ok-said.ensures.closed;
       named = c.in-Ok-said.ensures.named plain;
       same = c.in-Ok-said.ensures.same;
       kept = tt;
@@ -57,13 +63,13 @@ returns-in-Ok-said-clause-faults g c = λ inquiry some.
     count_unless g.L.Link.conduct g.L.Link.world g.L.Link.faults (λ m o n. WireLeads g.L.Link.took g.L.Link.gave m.link m.side o n.link n.side) c.args.side.now c.args.talk.now c.turn.new.talk c.told-said.new.talk c.args.command.now (Ok c.in-Ok-said.text) c.args.side.now.frame c.args.side.now.row.breaks.items
     c.told-said.new.side.row.breaks.items c.begin_command.new.inquiry c.told-said.new.side.inquiry c.turn.ensures c.in-Ok-said.ensures.does (plain_of c.args.command.now inquiry (λ text. c.in_default.not-Ps text)) (λ e. cc)
 
-pub returns-in-Err-said-clause-count : goal.returns-in-Err-said-clause-count
-returns-in-Err-said-clause-count g c = λ bare.
+pub returns-in-Err-said-clause-bare : goal.returns-in-Err-said-clause-bare
+returns-in-Err-said-clause-bare g c = λ bare.
     count_of g.L.Link.conduct g.L.Link.world g.L.Link.faults (λ m o n. WireLeads g.L.Link.took g.L.Link.gave m.link m.side o n.link n.side) c.args.side.now c.args.talk.now c.turn.new.talk c.told-said.new.talk c.args.command.now (Err c.in-Err-said.fault) c.args.side.now.frame c.args.side.now.row.breaks.items
     c.told-said.new.side.row.breaks.items c.begin_command.new.inquiry c.told-said.new.side.inquiry c.turn.ensures c.in-Err-said.ensures.does bare
 
-pub returns-in-Ok-said-clause-count : goal.returns-in-Ok-said-clause-count
-returns-in-Ok-said-clause-count g c = λ bare.
+pub returns-in-Ok-said-clause-bare : goal.returns-in-Ok-said-clause-bare
+returns-in-Ok-said-clause-bare g c = λ bare.
     count_of g.L.Link.conduct g.L.Link.world g.L.Link.faults (λ m o n. WireLeads g.L.Link.took g.L.Link.gave m.link m.side o n.link n.side) c.args.side.now c.args.talk.now c.turn.new.talk c.told-said.new.talk c.args.command.now (Ok c.in-Ok-said.text) c.args.side.now.frame c.args.side.now.row.breaks.items
     c.told-said.new.side.row.breaks.items c.begin_command.new.inquiry c.told-said.new.side.inquiry c.turn.ensures c.in-Ok-said.ensures.does bare
 
@@ -76,8 +82,8 @@ returns-in-Err-said-clause-wanting g c = λ b h beside x bare e.
 pub returns-in-Ps-clause-faults : goal.returns-in-Ps-clause-faults
 returns-in-Ps-clause-faults g c = λ inquiry some. c.asked_text.ensures.faults some
 
-pub returns-in-Ps-clause-count : goal.returns-in-Ps-clause-count
-returns-in-Ps-clause-count g c = λ bare. absurd (subst IsBare c.in-Ps.is bare)
+pub returns-in-Ps-clause-bare : goal.returns-in-Ps-clause-bare
+returns-in-Ps-clause-bare g c = λ bare. absurd (subst IsBare c.in-Ps.is bare)
 
 pub returns-in-Ps-clause-wanting : goal.returns-in-Ps-clause-wanting
 returns-in-Ps-clause-wanting g c = λ b h beside x bare e. absurd (subst IsBare c.in-Ps.is bare)
@@ -87,3 +93,67 @@ returns-in-Ps-clause-meant g c = λ b h beside a there ready none inquiry.
     let o = g.L.Link.world c.asked_text.new.talk.memory.below.below.below.link in
     subst (λ (now : Command). ComesTo (g.L.Link.faults c.args.talk.now.memory.below.below.below.link) (g.L.Link.faults c.asked_text.new.talk.memory.below.below.below.link) (λ text. SaidOne b g.L.Link.conduct o c.args.side.now c.asked_text.new.side h beside now a text)
     (NotOne b g.L.Link.conduct o c.args.side.now c.asked_text.new.side h beside now a) c.asked_text.result) (sym (c.in-Ps.is ∙ ap Ps (sym c.as_bytes.ensures))) (c.asked_text.ensures.meant b h beside a there ready none)
+
+pub returns-in-Err-said-clause-table : goal.returns-in-Err-said-clause-table
+returns-in-Err-said-clause-table g c = λ runs.
+    table_stays c.args.side.now.inquiry.core.store c.begin_command.new.inquiry.core.store c.told-said.new.side.inquiry.core.store c.end_command.new.inquiry.core.store c.in-Ok.mark c.in-Ok.ensures.store c.in-Ok.ensures.there c.in-Err-said.ensures.closed c.end_command.ensures.store
+
+pub returns-in-Err-said-clause-count : goal.returns-in-Err-said-clause-count
+returns-in-Err-said-clause-count g c =
+    turned_counts g.L.Link.conduct g.L.Link.world g.L.Link.faults (λ m o n. WireLeads g.L.Link.took g.L.Link.gave m.link m.side o n.link n.side) c.args.side.now c.args.talk.now c.turn.new.talk c.told-said.new.talk c.args.command.now (Err c.in-Err-said.fault) c.args.side.now.frame c.args.side.now.row.breaks.items c.told-said.new.side.row.breaks.items c.begin_command.new.inquiry
+    c.told-said.new.side.inquiry c.turn.ensures c.in-Err-said.ensures.does
+
+pub returns-in-Err-said-clause-looked : goal.returns-in-Err-said-clause-looked
+returns-in-Err-said-clause-looked g c = λ b h beside there look.
+    let table = table_stays c.args.side.now.inquiry.core.store c.begin_command.new.inquiry.core.store c.told-said.new.side.inquiry.core.store c.end_command.new.inquiry.core.store c.in-Ok.mark c.in-Ok.ensures.store c.in-Ok.ensures.there c.in-Err-said.ensures.closed c.end_command.ensures.store in
+    looked g.L.Link.conduct g.L.Link.world g.L.Link.faults (λ m o n. WireLeads g.L.Link.took g.L.Link.gave m.link m.side o n.link n.side) c.args.side.now c.args.talk.now c.turn.new.talk c.told-said.new.talk c.args.command.now c.args.side.now.frame c.told-said.new.side.row.breaks c.begin_command.new.inquiry c.told-said.new.side.inquiry c.turn.ensures (Err c.in-Err-said.fault) c.in-Err-said.ensures.does
+    b h beside there look (ap (λ (s : StoreState). s.part) c.in-Ok.ensures.store) (λ q. c.in-Err-said.ensures.query q) c.end_command.new.inquiry table (record c.told-said.new.side { inquiry = c.end_command.new.inquiry }) c.args.side.now.frame (ap (λ (s : SideRecord). record s { inquiry = c.end_command.new.inquiry }) c.in-Err-said.ensures.same)
+
+pub returns-in-Ok-said-clause-table : goal.returns-in-Ok-said-clause-table
+returns-in-Ok-said-clause-table g c = λ runs.
+    table_stays c.args.side.now.inquiry.core.store c.begin_command.new.inquiry.core.store c.told-said.new.side.inquiry.core.store c.end_command.new.inquiry.core.store c.in-Ok.mark c.in-Ok.ensures.store c.in-Ok.ensures.there c.in-Ok-said.ensures.closed c.end_command.ensures.store
+
+pub returns-in-Ok-said-clause-count : goal.returns-in-Ok-said-clause-count
+returns-in-Ok-said-clause-count g c =
+    turned_counts g.L.Link.conduct g.L.Link.world g.L.Link.faults (λ m o n. WireLeads g.L.Link.took g.L.Link.gave m.link m.side o n.link n.side) c.args.side.now c.args.talk.now c.turn.new.talk c.told-said.new.talk c.args.command.now (Ok c.in-Ok-said.text) c.args.side.now.frame c.args.side.now.row.breaks.items c.told-said.new.side.row.breaks.items c.begin_command.new.inquiry
+    c.told-said.new.side.inquiry c.turn.ensures c.in-Ok-said.ensures.does
+
+pub returns-in-Ok-said-clause-looked : goal.returns-in-Ok-said-clause-looked
+returns-in-Ok-said-clause-looked g c = λ b h beside there look.
+    let table = table_stays c.args.side.now.inquiry.core.store c.begin_command.new.inquiry.core.store c.told-said.new.side.inquiry.core.store c.end_command.new.inquiry.core.store c.in-Ok.mark c.in-Ok.ensures.store c.in-Ok.ensures.there c.in-Ok-said.ensures.closed c.end_command.ensures.store in
+    looked g.L.Link.conduct g.L.Link.world g.L.Link.faults (λ m o n. WireLeads g.L.Link.took g.L.Link.gave m.link m.side o n.link n.side) c.args.side.now c.args.talk.now c.turn.new.talk c.told-said.new.talk c.args.command.now c.args.side.now.frame c.told-said.new.side.row.breaks c.begin_command.new.inquiry c.told-said.new.side.inquiry c.turn.ensures (Ok c.in-Ok-said.text) c.in-Ok-said.ensures.does
+    b h beside there look (ap (λ (s : StoreState). s.part) c.in-Ok.ensures.store) (λ q. c.in-Ok-said.ensures.query q) c.end_command.new.inquiry table (record c.told-said.new.side { inquiry = c.end_command.new.inquiry; frame = c.chosen-side.result }) c.chosen-side.result (ap (λ (s : SideRecord). record s { inquiry = c.end_command.new.inquiry; frame = c.chosen-side.result }) c.in-Ok-said.ensures.same)
+
+pub returns-in-Err-said-clause-stays : goal.returns-in-Err-said-clause-stays
+returns-in-Err-said-clause-stays g c = λ b h beside a there ready none runs e.
+    let table = table_stays c.args.side.now.inquiry.core.store c.begin_command.new.inquiry.core.store c.told-said.new.side.inquiry.core.store c.end_command.new.inquiry.core.store c.in-Ok.mark c.in-Ok.ensures.store c.in-Ok.ensures.there c.in-Err-said.ensures.closed c.end_command.ensures.store in
+    asked_stays g.L.Link.conduct g.L.Link.world g.L.Link.faults (λ m o n. WireLeads g.L.Link.took g.L.Link.gave m.link m.side o n.link n.side) c.args.side.now c.args.talk.now c.turn.new.talk c.told-said.new.talk c.args.command.now c.args.side.now.frame c.told-said.new.side.row.breaks c.begin_command.new.inquiry c.told-said.new.side.inquiry c.turn.ensures c.in-Err-said.fault e
+    c.in-Err-said.ensures.does b h beside a there ready none runs c.in-Err-said.ensures.kept c.end_command.new.inquiry table (record c.told-said.new.side { inquiry = c.end_command.new.inquiry }) (ap (λ (s : SideRecord). record s { inquiry = c.end_command.new.inquiry }) c.in-Err-said.ensures.same)
+
+pub returns-in-Err-said-clause-wants : goal.returns-in-Err-said-clause-wants
+returns-in-Err-said-clause-wants g c = λ bare e.
+    let is : c.in-Err-said.fault ≡ NoMemory = cc in
+    turned_wants g.L.Link.conduct g.L.Link.world g.L.Link.faults (λ m o n. WireLeads g.L.Link.took g.L.Link.gave m.link m.side o n.link n.side) c.args.side.now c.args.talk.now c.turn.new.talk c.told-said.new.talk c.args.command.now c.in-Err-said.fault is c.args.side.now.frame c.args.side.now.row.breaks.items c.told-said.new.side.row.breaks.items c.begin_command.new.inquiry
+    c.told-said.new.side.inquiry c.turn.ensures c.in-Err-said.ensures.does bare
+
+pub returns-in-Err-clause-stays : goal.returns-in-Err-clause-stays
+returns-in-Err-clause-stays g c = λ b h beside a there ready none runs e.
+    unasked_stays g.L.Link.conduct g.L.Link.world g.L.Link.faults c.args.side.now c.args.talk.now c.turn.new.talk c.begin_command.new.inquiry c.in-Err.ensures.kept b h beside a c.turn.ensures there ready.stands
+
+pub returns-in-Err-clause-table : goal.returns-in-Err-clause-table
+returns-in-Err-clause-table g c = λ runs. subst (λ (i : Inquiry). TableStays c.args.side.now.inquiry.core.store i.core.store) (sym c.in-Err.ensures.kept) (same_table c.args.side.now.inquiry.core.store)
+
+pub returns-in-Err-clause-wants : goal.returns-in-Err-clause-wants
+returns-in-Err-clause-wants g c = λ bare e. ap (λ o. g.L.Link.faults o.memory.below.below.below.link) c.turn.ensures
+
+pub returns-in-Ps-clause-table : goal.returns-in-Ps-clause-table
+returns-in-Ps-clause-table g c = λ runs. absurd (subst RunsNoneAsked c.in-Ps.is runs)
+
+pub returns-in-Ps-clause-stays : goal.returns-in-Ps-clause-stays
+returns-in-Ps-clause-stays g c = λ b h beside a there ready none runs e. absurd (subst RunsNoneAsked c.in-Ps.is runs)
+
+pub returns-in-Ps-clause-wants : goal.returns-in-Ps-clause-wants
+returns-in-Ps-clause-wants g c = λ bare e. absurd (subst IsBare c.in-Ps.is bare)
+
+pub returns-in-Ps-clause-looked : goal.returns-in-Ps-clause-looked
+returns-in-Ps-clause-looked g c = λ b h beside there look. absurd (subst IsLook c.in-Ps.is look)

@@ -1,5 +1,6 @@
 use Rattle.abs_mem.specs.WireMeaning.{WireLeads}
 use Rattle.session.proofs.AskingText.{text_meant, text_count}
+use Rattle.session.proofs.Looked.{text_counts}
 use Rattle.session.proofs.asked.asked_text.Goals as goal
 
 pub returns-clause-meant : goal.returns-clause-meant
@@ -10,3 +11,7 @@ returns-clause-meant g c = λ b h beside a there ready none.
 pub returns-clause-faults : goal.returns-clause-faults
 returns-clause-faults g c = λ some.
     text_count g.L.Link.conduct g.L.Link.world g.L.Link.faults (λ m o n. WireLeads g.L.Link.took g.L.Link.gave m.link m.side o n.link n.side) c.args.side.now c.args.talk.now c.turn.new.talk c.running_text-said.new.talk c.turn.ensures c.running_text-said.result c.running_text-said.ensures.calls some
+
+pub returns-clause-count : goal.returns-clause-count
+returns-clause-count g c =
+    text_counts g.L.Link.conduct g.L.Link.world g.L.Link.faults (λ m o n. WireLeads g.L.Link.took g.L.Link.gave m.link m.side o n.link n.side) c.args.side.now c.args.talk.now c.turn.new.talk c.running_text-said.new.talk c.turn.ensures c.running_text-said.result c.running_text-said.ensures.calls

@@ -1,6 +1,7 @@
 use Rattle.c_session.specs.declared.command.Command.TheVariants.{Ps}
 use Rattle.session.specs.Meant.{SaidOne, NotOne, RanOne}
 use Rattle.session.proofs.AskingText.{text_ran, text_unsaid, text_failed}
+use Rattle.session.proofs.Looked.{counts_same}
 use Rattle.session.proofs.asked.ran.Goals as goal
 
 pub returns-in-Ok-clause-meant : goal.returns-in-Ok-clause-meant
@@ -18,3 +19,6 @@ pub returns-else-is_failure-clause-meant : goal.returns-else-is_failure-clause-m
 returns-else-is_failure-clause-meant g c = λ b h beside a there ready none.
     text_unsaid b g.L.Link.conduct (g.L.Link.world c.asked_text.new.talk.memory.below.below.below.link) c.args.side.now c.asked_text.new.side h beside c.args.text.now a (g.L.Link.faults c.args.talk.now.memory.below.below.below.link) (g.L.Link.faults c.asked_text.new.talk.memory.below.below.below.link) c.in-Err.fault
     (c.is_failure.ensures.no c.if-is_failure.false) (c.in-Err.ensures.meant b h beside a there ready none)
+
+pub returns-else-is_failure-clause-count : goal.returns-else-is_failure-clause-count
+returns-else-is_failure-clause-count g c = counts_same (g.L.Link.faults c.args.talk.now.memory.below.below.below.link) (g.L.Link.faults c.asked_text.new.talk.memory.below.below.below.link) c.in-Err.fault (c.is_failure.ensures.no c.if-is_failure.false) c.in-Err.ensures.count

@@ -2,10 +2,12 @@ use Rattle.std.proofs.Common.{◌≡◌, ◌∙◌, ℕ, List, subst, Some, Err}
 use Rattle.claims.specs.Outcome.{DoneOnBoth}
 use Rattle.abs_mem.specs.WireMeaning.{memory_of}
 use Rattle.resuming.specs.Standing.{Stands}
-use Rattle.table_asks.specs.declared.fault.AskFault.TheVariants.{NoMemory}
-use Rattle.session.specs.Meant.{SaidAll, NotAll, ComesTo}
+use Rattle.session.specs.Meant.{SaidAll, NotAll, ComesTo, TalksWell}
 use Rattle.session.specs.Undoing.{words_before}
-use Rattle.session.proofs.AskingBoth.{still_there, read_failed, read_stays, unsaid_is}
+use Rattle.session.proofs.Counting.{counts_on}
+use Rattle.session.proofs.Wanting.{stands_same}
+use Rattle.session.proofs.Looked.{read_well}
+use Rattle.session.proofs.AskingBoth.{still_there, read_failed, read_rests}
 use Rattle.session.proofs.both.asked_both.Goals as goal
 
 pub returns-in-Err-clause-meant : goal.returns-in-Err-clause-meant
@@ -17,12 +19,29 @@ returns-in-Err-clause-meant g c = λ b hs st there ready inquiry.
     (c.in-Err.ensures.fails b hs.first hs.second there.first_there.stands there.first_there.order)
 
 pub returns-in-Err-clause-stays : goal.returns-in-Err-clause-stays
-returns-in-Err-clause-stays g c = λ b hs st there ready sets is.
-    let first = c.args.first.now in (
-      hs.second,
-      read_stays (g.L.Link.faults c.args.talk.now.memory.below.below.below.link) (g.L.Link.faults c.words_before.new.talk.memory.below.below.below.link) (Stands b g.L.Link.conduct first.which (g.L.Link.world c.words_before.new.talk.memory.below.below.below.link) hs.first hs.second)
-          (words_before c.args.command.now (memory_of hs.first.machine) first.row.breaks.items) c.in-Err.fault (unsaid_is c.in-Err.fault NoMemory is) (c.in-Err.ensures.fails b hs.first hs.second there.first_there.stands there.first_there.order),
-    )
+returns-in-Err-clause-stays g c = λ b hs st there ready runs is.
+    let first = c.args.first.now in
+    let rests =
+    read_rests (List ℕ) (g.L.Link.faults c.args.talk.now.memory.below.below.below.link) (g.L.Link.faults c.words_before.new.talk.memory.below.below.below.link) (Stands b g.L.Link.conduct first.which (g.L.Link.world c.words_before.new.talk.memory.below.below.below.link) hs.first hs.second)
+    (words_before c.args.command.now (memory_of hs.first.machine) first.row.breaks.items) c.in-Err.fault is (c.in-Err.ensures.fails b hs.first hs.second there.first_there.stands there.first_there.order) in
+    stands_same b g.L.Link.conduct (g.L.Link.world c.words_before.new.talk.memory.below.below.below.link) first (Some c.args.second.now) hs st
+    (still_there b g.L.Link.conduct (g.L.Link.world c.args.talk.now.memory.below.below.below.link) (g.L.Link.world c.words_before.new.talk.memory.below.below.below.link) first c.args.second.now hs.first hs.second there rests) ready.sides
+
+pub returns-in-Err-clause-looked : goal.returns-in-Err-clause-looked
+returns-in-Err-clause-looked g c = λ b hs there look.
+    let first = c.args.first.now in
+    read_well (g.L.Link.faults c.args.talk.now.memory.below.below.below.link) (g.L.Link.faults c.words_before.new.talk.memory.below.below.below.link) (Stands b g.L.Link.conduct first.which (g.L.Link.world c.words_before.new.talk.memory.below.below.below.link) hs.first hs.second)
+    (words_before c.args.command.now (memory_of hs.first.machine) first.row.breaks.items) c.in-Err.fault (c.in-Err.ensures.fails b hs.first hs.second there.first_there.stands there.first_there.order)
+
+pub returns-clause-looked : goal.returns-clause-looked
+returns-clause-looked g c = λ b hs there look.
+    let y = c.in-Ok.ensures.read b hs.first hs.second there.first_there.stands there.first_there.order in
+    let now = still_there b g.L.Link.conduct (g.L.Link.world c.args.talk.now.memory.below.below.below.link) (g.L.Link.world c.words_before.new.talk.memory.below.below.below.link) c.args.first.now c.args.second.now hs.first hs.second there y.1 in
+    subst (λ (n : ℕ). TalksWell n (g.L.Link.faults c.asked_behind.new.talk.memory.below.below.below.link) (Unit {0}) c.asked_behind.result) y.0 (c.asked_behind.ensures.looked b hs now look)
+
+pub returns-clause-count : goal.returns-clause-count
+returns-clause-count g c =
+    counts_on (g.L.Link.faults c.args.talk.now.memory.below.below.below.link) (g.L.Link.faults c.words_before.new.talk.memory.below.below.below.link) (g.L.Link.faults c.asked_behind.new.talk.memory.below.below.below.link) c.asked_behind.result c.in-Ok.ensures.count c.asked_behind.ensures.count
 
 pub returns-clause-meant : goal.returns-clause-meant
 returns-clause-meant g c = λ b hs st there ready inquiry.

@@ -2,6 +2,7 @@ use Rattle.std.proofs.Common.{◌∙◌, ap, sym, subst, refl, inl, inr}
 use Rattle.c_session.specs.declared.command.Command.{Command}
 use Rattle.c_session.specs.declared.command.Command.TheVariants.{Ps}
 use Rattle.session.specs.Meant.{RanOne}
+use Rattle.session.proofs.Looked.{same_fault}
 use Rattle.session.proofs.AskingText.{run_failed}
 use Rattle.session.proofs.both.undone.Goals as goal
 
@@ -22,3 +23,15 @@ returns-in-Err-clause-meant g c = λ text b h beside a is n x ready none.
 
 pub returns-in_default-clause-meant : goal.returns-in_default-clause-meant
 returns-in_default-clause-meant g c = λ text b h beside a is n x ready none. absurd (c.in_default.not-Ps text is)
+
+pub returns-then-is_failure-clause-count : goal.returns-then-is_failure-clause-count
+returns-then-is_failure-clause-count g c = λ n. absurd (n (c.is_failure.ensures.yes c.if-is_failure.true))
+
+pub returns-in-Ok-clause-count : goal.returns-in-Ok-clause-count
+returns-in-Ok-clause-count g c = λ n. same_fault (g.L.Link.faults c.args.talk.now.memory.below.below.below.link) (g.L.Link.faults c.ran.new.talk.memory.below.below.below.link) c.args.fault c.in-Ok.ensures.count n
+
+pub returns-in-Err-clause-count : goal.returns-in-Err-clause-count
+returns-in-Err-clause-count g c = λ n. c.in-Err.ensures.count
+
+pub returns-in_default-clause-count : goal.returns-in_default-clause-count
+returns-in_default-clause-count g c = λ n. same_fault (g.L.Link.faults c.args.talk.now.memory.below.below.below.link) (g.L.Link.faults c.args.talk.now.memory.below.below.below.link) c.args.fault refl n

@@ -1,4 +1,7 @@
-use Rattle.std.proofs.Common.{None, Some}
+use Rattle.std.proofs.Common.{◌∙◌, subst, None, Some, Err}
+use Rattle.resuming.specs.declared.fault.RunFault.{RunFault}
+use Rattle.resuming.specs.Runs.{CountsRun}
+use Rattle.session.proofs.Tallying.{second_cause}
 use Rattle.session.proofs.Resumed.{first_failed, second_failed_so, both_done}
 use Rattle.session.proofs.resumes.resumed_both.Goals as goal
 
@@ -39,3 +42,11 @@ returns-clause-meant g c = λ b hs steady x may also.
       frame = c.settle_side-2.ensures.frame s;
       other = c.settle_side-2.ensures.other;
     })
+
+pub returns-in-Err-Talk-clause-cause : goal.returns-in-Err-Talk-clause-cause
+returns-in-Err-Talk-clause-cause g c =
+    let k = subst (λ (y : RunFault). CountsRun {A = Unit {0}} (g.L.Link.faults c.resumed.new.talk.memory.below.below.below.link) (g.L.Link.faults c.resumed-2.new.talk.memory.below.below.below.link) _ _ (Err y)) c.in-Err-Talk.field-0-is c.in-Err-Talk.ensures.cause in
+    rw c.in-Err-Talk.fault-is (second_cause (g.L.Link.faults c.args.talk.now.memory.below.below.below.link) (g.L.Link.faults c.resumed.new.talk.memory.below.below.below.link) (g.L.Link.faults c.resumed-2.new.talk.memory.below.below.below.link) _ _ (g.O.Sink.faults c.args.out.now) (g.O.Sink.faults c.resumed.new.out) c.in-Err-Talk.fault c.in-Ok.ensures.cause.0 c.in-Ok.ensures.cause.1 k)
+
+pub returns-clause-cause : goal.returns-clause-cause
+returns-clause-cause g c = (c.in-Ok-resumed.ensures.cause.0 ∙ c.in-Ok.ensures.cause.0, c.in-Ok.ensures.cause.1)

@@ -1,4 +1,4 @@
-use Rattle.std.proofs.Common.{◌≡◌, sym, subst, List, Ok, Err}
+use Rattle.std.proofs.Common.{◌≡◌, ◌∙◌, refl, ap, sym, subst, List, Ok, Err}
 use Rattle.table_points.specs.declared.row.Point.{Point}
 use Rattle.debug_side.specs.There.{words_at}
 use Rattle.c_session.specs.declared.command.Command.{Command}
@@ -6,6 +6,7 @@ use Rattle.table_asks.specs.declared.fault.AskFault.{AskFault}
 use Rattle.abs_mem.specs.WireMeaning.{memory_of}
 use Rattle.resuming.specs.Standing.{Stands}
 use Rattle.session.specs.Undoing.{words_before, ReadsBefore}
+use Rattle.session.proofs.Looked.{unread_counts}
 use Rattle.session.proofs.PuttingBack.{reads, not_read, nothing_before}
 use Rattle.session.proofs.undoing.words_before.Goals as goal
 
@@ -29,3 +30,9 @@ returns-in-Err-clause-fails g c = λ b h beside x same.
 
 pub returns-in_default-clause-read : goal.returns-in_default-clause-read
 returns-in_default-clause-read g c = λ b h beside x same. nothing_before _ _ c.args.command.now c.in_default.not-Clear (memory_of h.machine) c.args.side.now.row.breaks.items c.new.ensures.items x
+
+pub returns-in-Ok-clause-count : goal.returns-in-Ok-clause-count
+returns-in-Ok-clause-count g c = c.in-Ok.ensures.read.0.faults ∙ ap (λ o. g.L.Link.faults o.memory.below.below.below.link) c.turn.ensures
+
+pub returns-in-Err-clause-count : goal.returns-in-Err-clause-count
+returns-in-Err-clause-count g c = unread_counts (g.L.Link.faults c.args.talk.now.memory.below.below.below.link) (g.L.Link.faults c.turn.new.talk.memory.below.below.below.link) (g.L.Link.faults c.words_there.new.m.link) c.in-Err.fault c.unread.result c.unread.ensures (ap (λ o. g.L.Link.faults o.memory.below.below.below.link) c.turn.ensures) _ _ refl refl c.in-Err.ensures.fails

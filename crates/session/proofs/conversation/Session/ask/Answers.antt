@@ -1,8 +1,11 @@
 use Rattle.std.proofs.Common.{subst, Option}
 use Rattle.machine_state.specs.State.{Behaviour}
 use Rattle.claims.specs.Side.{SessionState}
-use Rattle.session.specs.Meant.{Hosts, AreThere, AreReadyFor}
+use Rattle.session.specs.Meant.{debugged, Hosts, AreThere, AreReadyFor}
 use Rattle.session.specs.declared.sides.SideRecord.{SideRecord}
+use Rattle.side_meaning.proofs.Starting.{no_words}
+use Rattle.session.proofs.Wanting.{first_wanted}
+use Rattle.session.proofs.Looked.{stays_well}
 use Rattle.session.proofs.AskingOne.{asked_alone}
 use Rattle.session.proofs.conversation.Session.ask.Goals as goal
 
@@ -17,3 +20,23 @@ returns-in-Some-clause-meant g c = λ (b : Behaviour) (hs : Hosts) (st : Session
     let now = c.args.self.now in
     let both = subst (λ (s : Option SideRecord). AreThere b g.L.Link.conduct (g.L.Link.world now.talk.memory.below.below.below.link) now.first s hs) c.in-Some.is there in
     c.asked_both.ensures.meant b hs st both (subst (λ (s : Option SideRecord). AreReadyFor now.first s hs st) c.in-Some.is ready) plain
+
+pub returns-in-None-clause-stays : goal.returns-in-None-clause-stays
+returns-in-None-clause-stays g c = λ (b : Behaviour) (hs : Hosts) (st : SessionState) there ready runs is.
+    let now = c.args.self.now in
+    first_wanted b g.L.Link.conduct st ready.still (g.L.Link.world now.talk.memory.below.below.below.link) (g.L.Link.world c.asked.new.talk.memory.below.below.below.link) now.first c.asked.new.side now.second hs there ready.sides c.asked.ensures.which
+    (c.asked.ensures.stays b hs.first hs.second st.first there.first_there ready.ready.0 (no_words st.state (debugged now.first hs.first) st.first ready.still ready.sides.first) runs is)
+
+pub returns-in-Some-clause-stays : goal.returns-in-Some-clause-stays
+returns-in-Some-clause-stays g c = λ (b : Behaviour) (hs : Hosts) (st : SessionState) there ready runs is.
+    let now = c.args.self.now in
+    c.asked_both.ensures.stays b hs st (subst (λ (s : Option SideRecord). AreThere b g.L.Link.conduct (g.L.Link.world now.talk.memory.below.below.below.link) now.first s hs) c.in-Some.is there) (subst (λ (s : Option SideRecord). AreReadyFor now.first s hs st) c.in-Some.is ready) runs is
+
+pub returns-in-None-clause-looked : goal.returns-in-None-clause-looked
+returns-in-None-clause-looked g c = λ (b : Behaviour) (hs : Hosts) there look.
+    stays_well (g.L.Link.faults c.args.self.now.talk.memory.below.below.below.link) (g.L.Link.faults c.asked.new.talk.memory.below.below.below.link) _ (Unit {0}) c.asked.result (λ x. tt) (c.asked.ensures.looked b hs.first hs.second there.first_there look)
+
+pub returns-in-Some-clause-looked : goal.returns-in-Some-clause-looked
+returns-in-Some-clause-looked g c = λ (b : Behaviour) (hs : Hosts) there look.
+    let now = c.args.self.now in
+    c.asked_both.ensures.looked b hs (subst (λ (s : Option SideRecord). AreThere b g.L.Link.conduct (g.L.Link.world now.talk.memory.below.below.below.link) now.first s hs) c.in-Some.is there) look

@@ -4,8 +4,13 @@ use Rattle.c_session.specs.declared.command.Command.TheVariants as command
 use Rattle.c_session.specs.Commands.{ByStep, ByContinue}
 use Rattle.claims.specs.Outcome.{refused_by_state, AnswersCommand}
 use Rattle.session.specs.Answered.{state_of, reason_of, limit_reply}
-use Rattle.session.specs.Meant.{AnswersAs, MeantAnswers, ResumesAs}
+use Rattle.session.specs.Meant.{AnswersAs, MeantAnswers, ResumesAs, SaidAll, NotAll}
 use Rattle.session.specs.declared.sides.SideRecord.{SideRecord}
+use Rattle.session.specs.declared.answers.Answer.TheVariants.{NoMemory}
+use Rattle.session.specs.Counted.{CountsAnswer, CountsAsk}
+use Rattle.session.specs.Wanting.{RepresentsAgain, StandAgain}
+use Rattle.session.proofs.Wanting.{represents_again}
+use Rattle.session.proofs.Tallying.{answer_is, same_counts, said_counts, represents_same, asks_or, comes_well, target_told, runs_inquired}
 use Rattle.session.specs.Kept.{IsKept, AreKept, TellsTrouble}
 use Rattle.session.proofs.Answering.{undone_leaves, refuses, refused, unrefused, answers_to, says_lines, new_limit, limit_line, replied, left_so, askable, continue_resumes, step_resumes}
 use Rattle.session.proofs.conversation.Session.obey.Goals as goal
@@ -95,3 +100,82 @@ returns-in_default-command-clause-undone g c = λ n s q told.
     undone_leaves (IsKept now.first mid.first × AreKept now.second mid.second) c.args.command.now mid.broken mid.mode new.mode c.reply.result c.inquire-said.ensures.query (subst (λ (z : List ℕ). TellsTrouble z (Ok c.reply.result)) (sym c.inquire-said.ensures.broken) told)
     c.inquire-said.result n s q c.inquire-said.ensures.word c.reply.ensures.ok c.reply.ensures.fault c.inquire-said.ensures.kept in
     (subst (λ (z : SideRecord). IsKept now.first z) (sym c.reply.ensures.first) kept.0, subst (λ (z : Option SideRecord). AreKept now.second z) (sym c.reply.ensures.second) kept.1)
+
+-- ---- the link's count, and what is answered without memory
+
+pub returns-in-Some-clause-count : goal.returns-in-Some-clause-count
+returns-in-Some-clause-count g c = same_counts (g.L.Link.faults c.args.self.now.talk.memory.below.below.below.link) (g.L.Link.faults c.args.self.now.talk.memory.below.below.below.link) c.args.self.now.broken c.args.self.now.mode c.answer.result refl
+
+pub returns-in-Some-clause-stays : goal.returns-in-Some-clause-stays
+returns-in-Some-clause-stays g c = λ b hs st x runs is.
+    let now = c.args.self.now in
+    represents_same b g.L.Link.conduct (g.L.Link.world now.talk.memory.below.below.below.link) now.first now.second now.mode now.limit hs st x
+
+pub returns-in-Continue-clause-stays : goal.returns-in-Continue-clause-stays
+returns-in-Continue-clause-stays g c = λ b hs st x runs is.
+    let e = ap (λ s. refused_by_state s c.args.command.now) x.state ∙ sym c.in_default.ensures in
+    c.resume.ensures.stays b hs st x (continue_resumes st.state (subst (λ d. refused_by_state st.state d ≡ None) c.in-Continue.is e)) is
+
+pub returns-in-Continue-clause-target : goal.returns-in-Continue-clause-target
+returns-in-Continue-clause-target g c = λ b hs st x n m q. absurd (n c.in-Continue.is)
+
+pub returns-in-Step-clause-stays : goal.returns-in-Step-clause-stays
+returns-in-Step-clause-stays g c = λ b hs st x runs is.
+    let e = ap (λ s. refused_by_state s c.args.command.now) x.state ∙ sym c.in_default.ensures in
+    c.resume-in-Step.ensures.stays b hs st x (step_resumes st.state (subst (λ d. refused_by_state st.state d ≡ None) c.in-Step.is e)) is
+
+pub returns-in-Step-clause-target : goal.returns-in-Step-clause-target
+returns-in-Step-clause-target g c = λ b hs st x n m q. absurd (m c.in-Step.is)
+
+pub returns-in-Turns-clause-stays : goal.returns-in-Turns-clause-stays
+returns-in-Turns-clause-stays g c = λ b hs st x runs is.
+    let now = c.args.self.now in
+    elim c.set_limit.ensures [
+      | inl h ↦ absurd (let e = sym h.0 ∙ answer_is c.set_limit.result NoMemory is in cc)
+      | inr h ↦ subst (λ s. RepresentsAgain b g.L.Link.conduct (g.L.Link.world s.talk.memory.below.below.below.link) s.first s.second s.mode s.limit st) (sym h.1)
+          (represents_same b g.L.Link.conduct (g.L.Link.world now.talk.memory.below.below.below.link) now.first now.second now.mode now.limit hs st x)
+    ]
+
+pub returns-in-Turns-clause-target : goal.returns-in-Turns-clause-target
+returns-in-Turns-clause-target g c = λ b hs st x n m q. elim c.set_limit.ensures [ inl h ↦ inl (ap (λ s. s.mode) h.1) | inr h ↦ inl (ap (λ s. s.mode) h.1) ]
+
+pub returns-in-Turns-clause-count : goal.returns-in-Turns-clause-count
+returns-in-Turns-clause-count g c =
+    let now = c.args.self.now in
+    same_counts (g.L.Link.faults now.talk.memory.below.below.below.link) (g.L.Link.faults c.set_limit.new.self.talk.memory.below.below.below.link) now.broken c.set_limit.new.self.mode c.set_limit.result
+    (elim c.set_limit.ensures [ inl h ↦ ap (λ s. g.L.Link.faults s.talk.memory.below.below.below.link) h.1 | inr h ↦ ap (λ s. g.L.Link.faults s.talk.memory.below.below.below.link) h.1 ])
+
+pub returns-in_default-command-clause-count : goal.returns-in_default-command-clause-count
+returns-in_default-command-clause-count g c =
+    let now = c.args.self.now in
+    let mid = c.inquire-said.new.self in
+    let new = c.reply.new.self in
+    subst (λ (z : List ℕ). CountsAnswer (g.L.Link.faults now.talk.memory.below.below.below.link) (g.L.Link.faults new.talk.memory.below.below.below.link) z new.mode (Ok c.reply.result)) c.inquire-said.ensures.broken
+    (said_counts (g.L.Link.faults now.talk.memory.below.below.below.link) (g.L.Link.faults new.talk.memory.below.below.below.link) mid.broken new.mode mid.mode c.inquire-said.result c.reply.result
+    (subst (λ (n : ℕ). CountsAsk (g.L.Link.faults now.talk.memory.below.below.below.link) n c.inquire-said.result) (ap (λ o. g.L.Link.faults o.memory.below.below.below.link) (sym c.reply.ensures.talk)) c.inquire-said.ensures.count) c.reply.ensures.fault)
+
+pub returns-in_default-command-clause-target : goal.returns-in_default-command-clause-target
+returns-in_default-command-clause-target g c = λ b hs st x n m q.
+    let now = c.args.self.now in
+    let mid = c.inquire-said.new.self in
+    let new = c.reply.new.self in
+    let cmd = c.args.command.now in
+    let d = c.in_default-command in
+    let e = ap (λ s. refused_by_state s cmd) x.state ∙ sym c.in_default.ensures in
+    let link = ap (λ o. g.L.Link.faults o.memory.below.below.below.link) c.reply.ensures.talk in
+    asks_or cmd d.not-Continue d.not-Step d.not-Turns q
+    (λ askable. target_told (g.L.Link.faults now.talk.memory.below.below.below.link) (g.L.Link.faults mid.talk.memory.below.below.below.link) (g.L.Link.faults new.talk.memory.below.below.below.link) mid.broken now.mode mid.mode new.mode c.inquire-said.result c.reply.result link c.inquire-said.ensures.mode (comes_well (g.L.Link.faults now.talk.memory.below.below.below.link) (g.L.Link.faults mid.talk.memory.below.below.below.link) (λ text. SaidAll b g.L.Link.conduct (g.L.Link.world mid.talk.memory.below.below.below.link) mid.first mid.second st (AnswersCommand b st cmd) text) (NotAll b g.L.Link.conduct (g.L.Link.world mid.talk.memory.below.below.below.link) mid.first mid.second st (AnswersCommand b st cmd)) c.inquire-said.result (c.inquire-said.ensures.meant b hs st x e askable)) c.reply.ensures.ok c.reply.ensures.fault)
+    (λ expression. target_told (g.L.Link.faults now.talk.memory.below.below.below.link) (g.L.Link.faults mid.talk.memory.below.below.below.link) (g.L.Link.faults new.talk.memory.below.below.below.link) mid.broken now.mode mid.mode new.mode c.inquire-said.result c.reply.result link c.inquire-said.ensures.mode (c.inquire-said.ensures.evaluated b hs st x e expression) c.reply.ensures.ok c.reply.ensures.fault)
+
+pub returns-in_default-command-clause-stays : goal.returns-in_default-command-clause-stays
+returns-in_default-command-clause-stays g c = λ b hs st x runs is.
+    let mid = c.inquire-said.new.self in
+    let new = c.reply.new.self in
+    let cmd = c.args.command.now in
+    let d = c.in_default-command in
+    let e = ap (λ s. refused_by_state s cmd) x.state ∙ sym c.in_default.ensures in
+    let none = c.reply.ensures.no_memory (answer_is c.reply.result NoMemory is) in
+    let again = c.inquire-said.ensures.stays b hs st x e (runs_inquired cmd runs d.not-Continue d.not-Step d.not-Turns) none.0 in
+    represents_again b g.L.Link.conduct (g.L.Link.world new.talk.memory.below.below.below.link) new.first new.second new.mode new.limit st (x.state ∙ ap (λ m. state_of m) (sym (none.1 ∙ c.inquire-said.ensures.mode))) (x.limit_is ∙ sym (c.reply.ensures.limit ∙ c.inquire-said.ensures.limit))
+    (subst (λ z. StandAgain b g.L.Link.conduct (g.L.Link.world z.memory.below.below.below.link) new.first new.second st) (sym c.reply.ensures.talk)
+    (subst (λ z. StandAgain b g.L.Link.conduct (g.L.Link.world mid.talk.memory.below.below.below.link) z new.second st) (sym c.reply.ensures.first) (subst (λ z. StandAgain b g.L.Link.conduct (g.L.Link.world mid.talk.memory.below.below.below.link) mid.first z st) (sym c.reply.ensures.second) again)))

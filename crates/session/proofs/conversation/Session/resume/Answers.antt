@@ -1,7 +1,14 @@
+use Rattle.session.specs.declared.line.Line.{Line}
 use Rattle.std.proofs.Common.{rules, ◌≡◌, ℕ, List, Ok, Err, inl, inr, ap, subst, sym, refl, ◌∙◌}
 use Rattle.ldb_edge.specs.Count.{Rose}
 use Rattle.claims.specs.Resumes.{state_after}
-use Rattle.session.specs.declared.answers.Answer.TheVariants.{Lines}
+use Rattle.session.specs.declared.answers.Answer.TheVariants.{Lines, NoMemory}
+use Rattle.resuming.specs.Runs.{CountsRun}
+use Rattle.session.specs.Counted.{CountsAnswer, CountsFault}
+use Rattle.session.specs.Wanting.{StandAgain}
+use Rattle.session.proofs.Wanting.{represents_again}
+use Rattle.session.proofs.Looked.{undone_as}
+use Rattle.session.proofs.Tallying.{answer_is, fault_counts, talk_ends}
 use Rattle.session.specs.Answered.{state_of, resume_of}
 use Rattle.resuming.specs.declared.fault.RunFault.{RunFault}
 use Rattle.session.specs.Meant.{AnswersAs, ResumesAs, ResumesAll}
@@ -111,3 +118,41 @@ returns-in-Err-Output-clause-meant g c = λ b hs st steady x may.
     let front = subst (λ (y : RunFault). ResumesAll b g.L.Link.conduct o2 before.first after.first before.second after.second p.hosts before.limit f1 f2 (g.O.Sink.taken c.args.out.now) (g.O.Sink.taken c.run.new.out) (Err y)) c.in-Err-Output.field-0-is
     (c.in-Err-Output.ensures.meant b p.hosts steady p.there m n) in
     cut b g.L.Link.conduct steady (resume_of c.args.how) o o1 o2 now.first before.first after.first now.second before.second after.second now.mode now.limit hs st x p before.limit _ _ c.in-Ok.ensures.limit front
+
+pub returns-in-Err-clause-count : goal.returns-in-Err-clause-count
+returns-in-Err-clause-count g c =
+    let now = c.args.self.now in
+    let ready = c.ready.new.self in
+    let reply = c.reply.new.self in
+    subst (λ (z : List ℕ). CountsAnswer (g.L.Link.faults now.talk.memory.below.below.below.link) (g.L.Link.faults reply.talk.memory.below.below.below.link) z reply.mode (Ok c.reply.result)) c.in-Err.ensures.broken
+    (fault_counts (g.L.Link.faults now.talk.memory.below.below.below.link) (g.L.Link.faults reply.talk.memory.below.below.below.link) ready.broken reply.mode ready.mode c.in-Err.fault c.reply.result
+    (subst (λ (n : ℕ). CountsFault (g.L.Link.faults now.talk.memory.below.below.below.link) n c.in-Err.fault) (ap (λ t. g.L.Link.faults t.memory.below.below.below.link) (sym c.reply.ensures.talk)) c.in-Err.ensures.count) c.reply.ensures.fault)
+
+pub returns-in-Ok-run-clause-count : goal.returns-in-Ok-run-clause-count
+returns-in-Ok-run-clause-count g c = inl (c.in-Ok-run.ensures.cause.0 ∙ c.in-Ok.ensures.count)
+
+pub returns-in-Err-Output-clause-count : goal.returns-in-Err-Output-clause-count
+returns-in-Err-Output-clause-count g c =
+    (subst (λ (y : RunFault). CountsRun {A = Unit {0}} (g.L.Link.faults c.ready.new.self.talk.memory.below.below.below.link) (g.L.Link.faults c.run.new.self.talk.memory.below.below.below.link) (g.O.Sink.faults c.args.out.now) (g.O.Sink.faults c.run.new.out) (Err y)) c.in-Err-Output.field-0-is c.in-Err-Output.ensures.cause).0 ∙ c.in-Ok.ensures.count
+
+pub returns-clause-count : goal.returns-clause-count
+returns-clause-count g c =
+    let now = c.args.self.now in
+    let before = c.ready.new.self in
+    let after = c.run.new.self in
+    let last = c.break_off.new.self in
+    let cause = subst (λ (y : RunFault). CountsRun {A = Unit {0}} (g.L.Link.faults before.talk.memory.below.below.below.link) (g.L.Link.faults after.talk.memory.below.below.below.link) (g.O.Sink.faults c.args.out.now) (g.O.Sink.faults c.run.new.out) (Err y)) c.in-Err-Talk.field-0-is c.in-Err-Talk.ensures.cause in
+    subst (λ (n : ℕ). CountsAnswer (g.L.Link.faults now.talk.memory.below.below.below.link) n now.broken last.mode (Ok c.break_off.result)) (ap (λ t. g.L.Link.faults t.memory.below.below.below.link) (sym c.break_off.ensures.talk))
+    (talk_ends (g.L.Link.faults now.talk.memory.below.below.below.link) (g.L.Link.faults before.talk.memory.below.below.below.link) (g.L.Link.faults after.talk.memory.below.below.below.link) (g.O.Sink.faults c.args.out.now) (g.O.Sink.faults c.run.new.out) now.broken last.mode c.break_off.result c.in-Err-Talk.field-0-0 c.in-Ok.ensures.count cause c.break_off.ensures.mode
+    (c.break_off.ensures.some ∙ ap (λ t. Lines t) (c.in-Err-Talk.ensures.broken ∙ c.in-Ok.ensures.broken)))
+
+pub returns-in-Err-clause-stays : goal.returns-in-Err-clause-stays
+returns-in-Err-clause-stays g c = λ b hs st x may is.
+    let now = c.args.self.now in
+    let ready = c.ready.new.self in
+    let reply = c.reply.new.self in
+    let none = c.reply.ensures.no_memory (answer_is c.reply.result NoMemory is) in
+    let again = c.in-Err.ensures.stays b hs st x may (undone_as (List ℕ) Line c.in-Err.fault none.0) in
+    represents_again b g.L.Link.conduct (g.L.Link.world reply.talk.memory.below.below.below.link) reply.first reply.second reply.mode reply.limit st (x.state ∙ ap (λ m. state_of m) (sym (none.1 ∙ c.in-Err.ensures.mode))) (x.limit_is ∙ sym (c.reply.ensures.limit ∙ c.in-Err.ensures.limit))
+    (subst (λ z. StandAgain b g.L.Link.conduct (g.L.Link.world z.memory.below.below.below.link) reply.first reply.second st) (sym c.reply.ensures.talk)
+    (subst (λ z. StandAgain b g.L.Link.conduct (g.L.Link.world ready.talk.memory.below.below.below.link) z reply.second st) (sym c.reply.ensures.first) (subst (λ z. StandAgain b g.L.Link.conduct (g.L.Link.world ready.talk.memory.below.below.below.link) ready.first z st) (sym c.reply.ensures.second) again)))

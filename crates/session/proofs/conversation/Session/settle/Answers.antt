@@ -3,6 +3,8 @@ use Rattle.machine_state.specs.State.{Behaviour}
 use Rattle.claims.specs.Side.{SessionState}
 use Rattle.session.specs.Meant.{Hosts}
 use Rattle.session.proofs.Words.{wire_of}
+use Rattle.session.proofs.Counting.{counts_on}
+use Rattle.session.proofs.Tallying.{clear_none, clear_some}
 use Rattle.session.proofs.Readying.{settle_none, settle_some, talks_some, first_failed}
 use Rattle.session.proofs.conversation.Session.settle.Goals as goal
 
@@ -21,6 +23,9 @@ returns-in-Err g c =
       faults = c.taken_away.ensures.faults;
       talks = λ (b : Behaviour) (hs : Hosts) there. first_failed b g.L.Link.conduct o o1 f f1 s.first c.taken_away.new.side s.second hs (λ u. Unit {0}) c.in-Err.fault there (c.in-Err.ensures.meant b);
       meant = λ (b : Behaviour) (hs : Hosts) (st : SessionState) is still. first_failed b g.L.Link.conduct o o1 f f1 s.first c.taken_away.new.side s.second hs (λ u. Unit {0}) c.in-Err.fault is.there (c.in-Err.ensures.meant b);
+      whole = c.in-Err.ensures.whole;
+      cleared = λ b hs n there. tt;
+      count = c.in-Err.ensures.count;
       raw = refl;
       broken = refl;
     }
@@ -41,6 +46,9 @@ returns-in-None g c =
       talks = λ (b : Behaviour) (hs : Hosts) there. tt;
       meant = λ (b : Behaviour) (hs : Hosts) (st : SessionState) is still.
           settle_none b g.L.Link.conduct o o1 f f1 s.first c.taken_away.new.side c.taken_away.ensures.which s.second c.in-None.is hs st is.there is.sides still (c.in-Ok.ensures.meant b);
+      whole = λ u. u;
+      cleared = λ (b : Behaviour) (hs : Hosts) n there. clear_none b g.L.Link.conduct o o1 f f1 s.first c.taken_away.new.side c.taken_away.ensures.which (c.in-Ok.ensures.meant b) s.second c.in-None.is hs there;
+      count = c.in-Ok.ensures.count;
       raw = refl;
       broken = refl;
     }
@@ -64,6 +72,14 @@ returns-in-Some g c =
       meant = λ (b : Behaviour) (hs : Hosts) (st : SessionState) is still.
           settle_some b g.L.Link.conduct o o1 f f1 s.first c.taken_away.new.side c.taken_away.ensures.which o2 f2 c.in-Some.second c.taken_away-in-Some.new.side c.taken_away-in-Some.ensures.which (c.in-Ok.ensures.meant b) s.second c.in-Some.is hs st c.taken_away-in-Some.result c.taken_away.ensures.faults is.there
           is.sides still (c.taken_away-in-Some.ensures.meant b);
+      whole = c.taken_away-in-Some.ensures.whole;
+      cleared = λ (b : Behaviour) (hs : Hosts) n there.
+          clear_some b g.L.Link.conduct o o1 f f1 s.first c.taken_away.new.side c.taken_away.ensures.which (c.in-Ok.ensures.meant b) o2 f2 c.in-Some.second c.taken_away-in-Some.new.side c.taken_away-in-Some.ensures.which s.second c.in-Some.is hs there c.taken_away-in-Some.result
+          (c.taken_away-in-Some.ensures.meant b);
+      count = counts_on f f1 f2 c.taken_away-in-Some.result c.in-Ok.ensures.count c.taken_away-in-Some.ensures.count;
       raw = refl;
       broken = refl;
     }
+
+pub returns-in-Running-clause-cleared : goal.returns-in-Running-clause-cleared
+returns-in-Running-clause-cleared g c = λ b hs n there. absurd (n _ c.in-Running.is)

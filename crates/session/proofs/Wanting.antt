@@ -1,0 +1,299 @@
+-- Sides that stand as before where a command found no memory.
+use Rattle.std.proofs.Common.{◌≡◌, ◌∙◌, refl, sym, ap, subst, inl, inr, ℕ, [], map, Option, Some, None, Result, Ok, Err, IfErr, ◌⊎◌}
+use Rattle.std.specs.Global.{Vec}
+use Rattle.std.specs.List.{AllByRecursion}
+use Rattle.machine_state.specs.Sound.{IsMemory}
+use Rattle.machine_state.specs.State.{Behaviour}
+use Rattle.nub_wire.specs.declared.link.Side.{Side}
+use Rattle.nub_wire.specs.declared.link.Side.TheVariants.{First, Second}
+use Rattle.nub_wire.specs.Rest.{other}
+use Rattle.nub_wire.specs.Nub.{Host}
+use Rattle.nub_wire.specs.Delivery.{Conduct, World}
+use Rattle.resuming.specs.Standing.{Stands}
+use Rattle.ps_store.specs.declared.object.Part.{Part}
+use Rattle.ps_store.specs.declared.object.Part.TheVariants.{Command}
+use Rattle.ps_store.specs.declared.object.Mark.{Mark}
+use Rattle.ps_store.specs.Held.{Held}
+use Rattle.ps_store.specs.StoreState.{StoreState}
+use Rattle.ps_store.specs.Store.{closed_part}
+use Rattle.ps_store.specs.Cut.{mark_of, cut}
+use Rattle.ps_store.specs.Settled.{Settled}
+use Rattle.ps_store.proofs.Settling.{settled_same}
+use Rattle.table_points.specs.declared.row.Point.{Point}
+use Rattle.table_points.specs.Rows.{row_in}
+use Rattle.table_points.specs.Named.{IsNamed}
+use Rattle.table_asks.specs.Closing.{Settles}
+use Rattle.table_asks.specs.declared.inquiry.Inquiry.{Inquiry}
+use Rattle.table_asks.specs.declared.fault.AskFault.{AskFault}
+use Rattle.table_asks.specs.declared.fault.AskFault.TheVariants.{Refused, Raised, Spent, NoMemory, Broken}
+use Rattle.table_asks.specs.Faults.{IsOwn, IsUnbroken}
+use Rattle.debug_side.proofs.Undoing.{all_undone}
+use Rattle.dialect_model.specs.TableUse.{TableUse}
+use Rattle.c_session.specs.Commands.{Resume, ByStep, ByContinue}
+use Rattle.claims.specs.Side.{SideState, SessionState, State, Fresh, Stopped, Running, Ended}
+use Rattle.side_meaning.specs.Standing.{Debugged, StandsFor, no_objects}
+use Rattle.side_meaning.specs.Stepping.{IsStill, IsSettled, IsReady}
+use Rattle.side_meaning.specs.Asking.{HasNames}
+use Rattle.side_meaning.specs.Sessions as sessions
+use Rattle.side_meaning.specs.Sessions.{OnSecond, StandsIn, SidesStand, Prepared, PreparedIn, SecondPrepared, ArePrepared}
+use Rattle.side_meaning.proofs.Asking.{names_stay}
+use Rattle.side_meaning.proofs.Beginning.{settled_stands, stands_with, step_undone, Undone}
+use Rattle.side_meaning.proofs.Starting.{no_words, in_state}
+use Rattle.side_meaning.proofs.Telling.{memories}
+use Rattle.session.specs.declared.modes.Mode.{Mode}
+use Rattle.session.specs.declared.sides.SideRecord.{SideRecord}
+use Rattle.session.specs.Answered.{state_of}
+use Rattle.session.specs.Meant.{debugged, IsThere, Hosts, second_of, sides_of, AreThere, AreReadyFor, AllPrepared, AllCleared, Represents}
+use Rattle.session.specs.Wanting.{TableStays, OnlyRan, StaysOne, WithTable, WithTables, StandAgain, RepresentsAgain}
+use Rattle.session.proofs.Pointing.{cut_nothing}
+use Rattle.session.proofs.Beside.{stands_beside, second_beside, first_beside}
+use Rattle.session.proofs.Readying.{second_stays, PutsOn, TakesAway}
+
+-- ---- a table
+
+pub same_table : (s : StoreState) → TableStays s s
+same_table s = record { names = λ d names. (record { breaks = refl; stands_at = refl; kept = refl }, names); nothing = λ e. e }
+
+abbrev in_command : StoreState → StoreState
+in_command s = record s { part = Command }
+
+-- from the begin of a command to its end
+module _ (s begun k t : StoreState) (m : Mark) (store : begun ≡ in_command s) (mark : m ≡ mark_of s.command) (closed : Settles (closed_part begun) (closed_part k)) (ends : t ≡ record k { part = Command; command = cut k.command m }) where
+  settled : Settled (closed_part (in_command s)) (closed_part k)
+  settled = closed (closed_part (in_command s)) (subst (λ (z : StoreState). Settled (closed_part (in_command s)) (closed_part z)) (sym store) (settled_same (closed_part (in_command s))))
+
+  abbrev last : StoreState
+  last = record k { part = Command; command = cut k.command m }
+
+  settled_last : Settled (closed_part k) (closed_part last)
+  settled_last = subst (λ (p : Part). Settled (closed_part k) (record (closed_part k) { part = p })) settled.part (settled_same (closed_part k))
+
+  names_last : (d : Debugged) → HasNames (record d { table = s }) → IsStill (record d { table = s }) (record d { table = last }) × HasNames (record d { table = last })
+  names_last d names =
+      let x = names_stay (record d { table = in_command s }) k settled (record { breaks = names.breaks; words = names.words; kept = names.kept }) in
+      let y = names_stay (record d { table = k }) last settled_last (record { breaks = x.1.breaks; words = x.1.words; kept = x.1.kept }) in
+      (record { breaks = y.0.breaks ∙ x.0.breaks; stands_at = refl; kept = y.0.kept ∙ x.0.kept }, record { breaks = y.1.breaks; words = y.1.words; kept = y.1.kept })
+
+  pub table_stays : TableStays s t
+  table_stays = record {
+    names = λ d names. subst (λ (z : StoreState). IsStill (record d { table = s }) (record d { table = z }) × HasNames (record d { table = z })) (sym ends) (names_last d names);
+    nothing = λ e. ap (λ (z : StoreState). z.command) ends ∙ (ap (λ (n : Mark). cut k.command n) (mark ∙ ap (λ (h : Held). mark_of h) e) ∙ cut_nothing k.command);
+  }
+
+-- points that aren't told
+pub points_unbroken : {A : Type 0} (told r : Result A AskFault) → IfErr told (λ (f : AskFault). IsOwn f) → IfErr r (λ (f : AskFault). (told ≡ Err f) ⊎ (f ≡ NoMemory)) → IfErr r (λ (f : AskFault). IsUnbroken f)
+points_unbroken told (Ok x) own err = tt
+points_unbroken told (Err (Broken x)) own (inl e) = subst (λ z. IfErr z (λ (f : AskFault). IsOwn f)) e own
+points_unbroken told (Err (Broken x)) own (inr e) = cc
+points_unbroken told (Err (Refused cause)) own err = tt
+points_unbroken told (Err (Raised e)) own err = tt
+points_unbroken told (Err Spent) own err = tt
+points_unbroken told (Err NoMemory) own err = tt
+
+-- ---- a side
+
+pub ran_same : (d : Debugged) (a : SideState) → StandsFor d a → OnlyRan d a
+ran_same d a for = record { table = a.table; stands = for }
+
+-- it has another table, and the breakpoints of before
+module _ (b : Behaviour) (c : Conduct) (o o' : Option World) (side : SideRecord) (h : Host) (beside : Option Host) (x : IsThere b c o side h beside) (i : Inquiry) (v : Vec Point) (n : ℕ) (breaks : v.items ≡ side.row.breaks.items)
+    (table : TableStays side.inquiry.core.store i.core.store) (stands : Stands b c side.which o' h beside) where
+  abbrev pub after : SideRecord
+  after = record side { inquiry = i; row = record side.row { breaks = v }; frame = n }
+
+  names : IsStill (debugged side h) (record (debugged side h) { table = i.core.store }) × HasNames (record (debugged side h) { table = i.core.store })
+  names = table.names (debugged side h) x.names
+
+  there_so : IsThere b c o' after h beside
+  there_so = record {
+    stands = stands;
+    context = x.context;
+    target = x.target;
+    order = x.order;
+    names = record {
+      breaks = subst (λ ps. AllByRecursion (IsNamed i.core.store) ps) (sym breaks) names.1.breaks;
+      words = names.1.words;
+      kept = names.1.kept;
+    };
+  }
+
+  pub there_stays : (side' : SideRecord) → side' ≡ after → IsThere b c o' side' h beside
+  there_stays side' e = subst (λ (z : SideRecord). IsThere b c o' z h beside) (sym e) there_so
+
+  -- and the chosen frame, and no word of a step is there
+  module _ (a : SideState) (for : StandsFor (debugged side h) a) (none : a.step_words ≡ []) (free : side.row.step_words.items ≡ []) (frame : n ≡ side.frame) where
+    ran_so : OnlyRan (debugged after h) a
+    ran_so = record {
+      table = in_command i.core.store;
+      stands = stands_with (debugged side h) (debugged after h) a (in_command i.core.store) for none free (record { same = refl; command = table.nothing for.table.command }) frame free
+          (record { breaks = ap (λ ps. map (row_in i.core.store) ps) breaks ∙ names.0.breaks; stands_at = refl; kept = names.0.kept }) refl;
+    }
+
+    pub one_stays : (side' : SideRecord) → side' ≡ after → StaysOne b c o' side' h beside a
+    one_stays side' e = subst (λ (z : SideRecord). StaysOne b c o' z h beside a) (sym e) (record { there = there_so; ran = ran_so })
+
+-- the words that were put, or stood still, were taken away
+pub cleared_ran : (how : Resume) (d d' d'' : Debugged) (a : SideState) → IsMemory d.host.machine.memory → StandsFor d a → a.step_words ≡ [] → Prepared how d d' a → IsSettled d' d'' → OnlyRan d'' a
+cleared_ran ByContinue d d' d'' a memory for none p s =
+    let y = settled_stands d d' a for none p in
+    let z = settled_stands d' d'' a y.stands none s in
+    ran_same d'' a z.stands
+cleared_ran ByStep d d' d'' a memory for none p s =
+    let w : Undone d'' a = step_undone (λ (target : _) (ps kept : _) (z d : _) m k. all_undone target z d ps kept m k) d d' a p.0 memory for none d'' p.1 s in
+    record { table = w.side.table; stands = w.stands }
+
+-- the second side, once the first one was asked
+pub first_there_still : (b : Behaviour) (c : Conduct) (o o' : Option World) (first first' : SideRecord) (second : Option SideRecord) (hs : Hosts) → first'.which ≡ first.which → AreThere b c o first second hs → IsThere b c o' first' hs.first hs.second → AreThere b c o' first' second hs
+first_there_still b c o o' first first' second hs which there x = record {
+  first_is = which ∙ there.first_is;
+  first_there = x;
+  second_there = second_stays b c o o' first' hs.first hs.first second hs.second there.second_there (which ∙ there.first_is) x;
+}
+
+-- ---- the session
+
+-- a side that does so, where the machine session's has no word of a step
+abbrev pub RanNone : Debugged → SideState → Type 0
+RanNone d a = OnlyRan d a × (a.step_words ≡ [])
+
+same_second : (x : Option SideState) → OnSecond WithTable x x
+same_second None = tt
+same_second (Some a) = refl
+
+pub stands_same : (b : Behaviour) (c : Conduct) (o : Option World) (first : SideRecord) (second : Option SideRecord) (hs : Hosts) (st : SessionState) → AreThere b c o first second hs → SidesStand (sides_of first second hs) st → StandAgain b c o first second st
+stands_same b c o first second hs st there sides = record { after = st; hosts = hs; there = there; sides = sides; tables = record { same = refl; first = refl; second = same_second st.second } }
+
+record SecondAgain (state : State) (d : Option Debugged) (a : Option SideState) : Type 0 where
+  after : Option SideState
+  stands : OnSecond (StandsIn state) d after
+  tables : OnSecond WithTable a after
+
+second_again : (state : State) (d : Option Debugged) (a : Option SideState) → sessions.IsStill state → OnSecond RanNone d a → SecondAgain state d a
+second_again state None None still r = record { after = None; stands = tt; tables = tt }
+second_again state (Some d) (Some a) still r = record { after = Some (record a { table = r.0.table }); stands = in_state state d (record a { table = r.0.table }) still r.0.stands r.1; tables = refl }
+second_again state None (Some a) still r = absurd r
+second_again state (Some d) None still r = absurd r
+
+second_same : (state : State) (d : Option Debugged) (a : Option SideState) → sessions.IsStill state → OnSecond (StandsIn state) d a → OnSecond RanNone d a
+second_same state None None still r = tt
+second_same state (Some d) (Some a) still r = (ran_same d a r.stands, no_words state d a still r)
+second_same state None (Some a) still r = absurd r
+second_same state (Some d) None still r = absurd r
+
+module _ (b : Behaviour) (c : Conduct) (st : SessionState) (still : sessions.IsStill st.state) where
+  pub stand_again : (o : Option World) (first : SideRecord) (second : Option SideRecord) (hs : Hosts) → AreThere b c o first second hs → OnlyRan (debugged first hs.first) st.first → st.first.step_words ≡ [] → OnSecond RanNone (second_of second hs.second) st.second
+      → StandAgain b c o first second st
+  stand_again o first second hs there one none two =
+      let more = second_again st.state (second_of second hs.second) st.second still two in
+      record {
+        after = record st { first = record st.first { table = one.table }; second = more.after };
+        hosts = hs;
+        there = there;
+        sides = record { first = in_state st.state (debugged first hs.first) (record st.first { table = one.table }) still one.stands none; second = more.stands };
+        tables = record { same = refl; first = refl; second = more.tables };
+      }
+
+  -- the first side alone was asked
+  pub first_wanted : (o o1 : Option World) (first first' : SideRecord) (second : Option SideRecord) (hs : Hosts) → AreThere b c o first second hs → SidesStand (sides_of first second hs) st → first'.which ≡ first.which → StaysOne b c o1 first' hs.first hs.second st.first
+      → StandAgain b c o1 first' second st
+  first_wanted o o1 first first' second hs there sides which s =
+      stand_again o1 first' second hs
+      (first_there_still b c o o1 first first' second hs which there s.there)
+      s.ran (no_words st.state (debugged first hs.first) st.first still sides.first) (second_same st.state (second_of second hs.second) st.second still sides.second)
+
+  -- both were asked, and what was done on the first side was undone
+  pub both_wanted : (o o' : Option World) (first second : SideRecord) (g h : Host) (s : SideState) (beside : Option Host) → st.second ≡ Some s → first.which ≡ First → second.which ≡ Second → StaysOne b c o' first g (Some h) st.first → StaysOne b c o second h beside s
+      → st.first.step_words ≡ [] → s.step_words ≡ [] → StandAgain b c o' first (Some second) st
+  both_wanted o o' first second g h s beside is e k x y none more =
+      stand_again o' first (Some second) (record { first = g; second = Some h })
+      (record { first_is = e; first_there = x.there; second_there = (k, second_beside b c o o' first second h g beside k y.there e x.there) })
+      x.ran none (subst (λ (z : Option SideState). OnSecond RanNone (Some (debugged second h)) z) (sym is) (y.ran, more))
+
+  -- the second side alone found no memory, and the first one was undone
+  pub given_again : (o o1 o2 o3 : Option World) (first first' first'' second second' : SideRecord) (hs : Hosts) → AreThere b c o first (Some second) hs → AreReadyFor first (Some second) hs st → first'.which ≡ first.which → first''.which ≡ first'.which → second'.which ≡ second.which
+      → (g : Host) → IsThere b c o1 first' g hs.second
+      → ((h : Host) (beside : Option Host) (a : SideState) → IsThere b c o1 second h beside → IsReady (debugged second h) a → a.step_words ≡ [] → StaysOne b c o2 second' h beside a)
+      → (Stands b c first'.which o2 g hs.second → StaysOne b c o3 first'' hs.first hs.second st.first) → StandAgain b c o3 first'' (Some second') st
+  given_again o o1 o2 o3 first first' first'' second second' hs there ready which again second_which g mid stays back = by hs.second st.second there ready refl mid back
+    where
+      by : (x : Option Host) (y : Option SideState) → AreThere b c o first (Some second) (record { first = hs.first; second = x }) → AreReadyFor first (Some second) (record { first = hs.first; second = x }) (record st { second = y }) → st.second ≡ y
+          → IsThere b c o1 first' g x → (Stands b c first'.which o2 g x → StaysOne b c o3 first'' hs.first x st.first) → StandAgain b c o3 first'' (Some second') st
+      by None y t r e m k = absurd t.second_there
+      by (Some h) None t r e m k = absurd r.ready.1
+      by (Some h) (Some s) t r e m k =
+          let none = no_words st.state (debugged first hs.first) st.first still r.sides.first in
+          let more = no_words st.state (debugged second h) s still r.sides.second in
+          let waits : IsThere b c o1 second h (Some g) = second_beside b c o o1 first' second h g (Some hs.first) t.second_there.0 t.second_there.1 (which ∙ t.first_is) m in
+          let u = stays h (Some g) s waits r.ready.1 more in
+          let other_is : second.which ≡ other first'.which = t.second_there.0 ∙ ap other (sym (which ∙ t.first_is)) in
+          let rests : Stands b c first'.which o2 g (Some h) = stands_beside b c o1 o2 g h (Some h) first'.which m.stands (subst (λ (w : Side). Stands b c w o2 h (Some g)) (second_which ∙ other_is) u.there.stands) in
+          both_wanted o2 o3 first'' second' hs.first h s (Some g) e (again ∙ (which ∙ t.first_is)) (second_which ∙ t.second_there.0) (k rests) u none more
+
+  -- ---- behind what was done before a resume
+
+  prepared_so : (how : Resume) (state : State) (d d' : Debugged) (a : SideState) → sessions.IsStill state → PreparedIn state how d d' a → Prepared how d d' a
+  prepared_so how Fresh d d' a s p = p
+  prepared_so how Stopped d d' a s p = p
+  prepared_so how (Running began) d d' a s p = absurd s
+  prepared_so how Ended d d' a s p = absurd s
+
+  first_cleared : (how : Resume) (d d' d'' : Debugged) → IsMemory d.host.machine.memory → StandsIn st.state d st.first → PreparedIn st.state how d d' st.first → IsSettled d' d'' → OnlyRan d'' st.first
+  first_cleared how d d' d'' memory for p s = cleared_ran how d d' d'' st.first memory for.stands (no_words st.state d st.first still for) (prepared_so how st.state d d' st.first still p) s
+
+  second_cleared : (how : Resume) (d d' d'' : Option Debugged) (a : Option SideState) → sessions.IfSecond (λ (z : Debugged). IsMemory z.host.machine.memory) d → OnSecond (StandsIn st.state) d a → SecondPrepared st.state how d d' a → OnSecond IsSettled d' d'' → OnSecond RanNone d'' a
+  second_cleared how (Some d) (Some d') (Some d'') (Some a) memory for p s =
+      let none = no_words st.state d a still for in
+      (cleared_ran how d d' d'' a memory for.stands none (prepared_so how st.state d d' a still p) s, none)
+  second_cleared how None None None None memory for p s = tt
+  second_cleared how None None (Some d'') a memory for p s = absurd s
+  second_cleared how None None None (Some a) memory for p s = absurd for
+  second_cleared how None (Some d') d'' a memory for p s = absurd p
+  second_cleared how (Some d) None d'' a memory for p s = absurd p
+  second_cleared how (Some d) (Some d') None a memory for p s = absurd s
+  second_cleared how (Some d) (Some d') (Some d'') None memory for p s = absurd for
+
+  second_memory : (o : Option World) (h : Host) (second : Option SideRecord) (x : Option Host) → OnSecond (λ (side : SideRecord) (g : Host). (side.which ≡ Second) × IsThere b c o side g (Some h)) second x → sessions.IfSecond (λ (z : Debugged). IsMemory z.host.machine.memory) (second_of second x)
+  second_memory o h None None q = tt
+  second_memory o h None (Some g) q = tt
+  second_memory o h (Some side) None q = tt
+  second_memory o h (Some side) (Some g) q = memories b c side.which o g (Some h) q.1.stands
+
+  -- the words of the second side were not put, and those of the first one were taken away
+  pub second_unput : (o o1 o2 o3 : Option World) (f f1 f2 f3 : ℕ) (first first' first'' second second' : SideRecord) (hs : Hosts) → first'.which ≡ first.which → first''.which ≡ first'.which → second'.which ≡ second.which → AreThere b c o first (Some second) hs
+      → SidesStand (sides_of first (Some second) hs) st → PutsOn b c o o1 f f1 first first' (Ok tt)
+      → ((h : Host) (beside : Option Host) (a : SideState) → IsThere b c o1 second h beside → StandsFor (debugged second h) a → a.step_words ≡ [] → StaysOne b c o2 second' h beside a)
+      → TakesAway b c o2 o3 f2 f3 first' first'' (Ok tt) → StandAgain b c o3 first'' (Some second') st
+  second_unput o o1 o2 o3 f f1 f2 f3 first first' first'' second second' hs which again second_which there sides puts stays away = by hs.second st.second there sides refl
+    where
+      by : (x : Option Host) (y : Option SideState) → AreThere b c o first (Some second) (record { first = hs.first; second = x }) → SidesStand (sides_of first (Some second) (record { first = hs.first; second = x })) (record st { second = y }) → st.second ≡ y
+          → StandAgain b c o3 first'' (Some second') st
+      by None y t r e = absurd t.second_there
+      by (Some g) None t r e = absurd r.second
+      by (Some g) (Some s) t r e =
+          let none = no_words st.state (debugged first hs.first) st.first still r.first in
+          let more = no_words st.state (debugged second g) s still r.second in
+          let put = puts hs.first (Some g) st.first t.first_there r.first.stands none in
+          let waits : IsThere b c o1 second g (Some put.host) = second_beside b c o o1 first' second g put.host (Some hs.first) t.second_there.0 t.second_there.1 (which ∙ t.first_is) put.there in
+          let u = stays g (Some put.host) s waits r.second.stands more in
+          let back = away put.host (Some g) (first_beside b c o1 o2 first' second' put.host g (Some g) (which ∙ t.first_is) put.there (second_which ∙ t.second_there.0) u.there) in
+          let w : Undone (debugged first'' back.host) st.first =
+          step_undone (λ (target : _) (ps kept : _) (z d : _) m k. all_undone target z d ps kept m k) (debugged first hs.first) (debugged first' put.host) st.first put.use_after (memories b c first.which o hs.first (Some g) t.first_there.stands) r.first.stands none
+          (debugged first'' back.host) put.stepped back.settled in
+          both_wanted o2 o3 first'' second' back.host g s (Some put.host) e (again ∙ (which ∙ t.first_is)) (second_which ∙ t.second_there.0) (record { there = back.there; ran = record { table = w.side.table; stands = w.stands } }) u none more
+
+  -- all is taken away again
+  pub unprepared : (how : Resume) (o o1 o2 : Option World) (first first' first'' : SideRecord) (second second' second'' : Option SideRecord) (hs : Hosts) → AreThere b c o first second hs → SidesStand (sides_of first second hs) st
+      → (p : AllPrepared b c o1 first first' second second' hs st how) → AllCleared b c o2 first' first'' second' second'' p.hosts → StandAgain b c o2 first'' second'' st
+  unprepared how o o1 o2 first first' first'' second second' second'' hs there sides p s =
+      stand_again o2 first'' second'' s.hosts s.there
+      (first_cleared how (debugged first hs.first) (debugged first' p.hosts.first) (debugged first'' s.hosts.first) (memories b c first.which o hs.first hs.second there.first_there.stands) sides.first p.prepared.first s.first_settled)
+      (no_words st.state (debugged first hs.first) st.first still sides.first)
+      (second_cleared how (second_of second hs.second) (second_of second' p.hosts.second) (second_of second'' s.hosts.second) st.second (second_memory o hs.first second hs.second there.second_there) sides.second p.prepared.second s.second_settled)
+
+pub represents_again : (b : Behaviour) (c : Conduct) (o : Option World) (first : SideRecord) (second : Option SideRecord) (mode : Mode) (limit : ℕ) (st : SessionState) → st.state ≡ state_of mode → st.limit ≡ limit → StandAgain b c o first second st → RepresentsAgain b c o first second mode limit st
+represents_again b c o first second mode limit st state lim s = record {
+  after = s.after;
+  hosts = s.hosts;
+  represents = record { there = s.there; sides = s.sides; state = ap (λ (z : SessionState). z.state) s.tables.same ∙ state; limit_is = ap (λ (z : SessionState). z.limit) s.tables.same ∙ lim };
+  tables = s.tables;
+}

@@ -1,0 +1,99 @@
+use Rattle.std.proofs.Common.{◌∙◌, ap, sym, subst, Option, Some, Err}
+use Rattle.nub_wire.specs.Nub.{Host}
+use Rattle.table_asks.specs.declared.fault.AskFault.{AskFault}
+use Rattle.session.specs.Counted.{CountsAsk, CountsFault}
+use Rattle.session.specs.Meant.{Hosts, IsThere, FailsWell, TalksWell}
+use Rattle.session.proofs.Counting.{fault_on, counts_on}
+use Rattle.session.proofs.Beside.{second_beside, first_beside}
+use Rattle.session.proofs.AskingBoth.{failure_or}
+use Rattle.session.proofs.Looked.{only_well, fails_on, well_on, well_there, with_second_there, counts_same, stored_counts, stored_well, unset_counts, unset_well}
+use Rattle.session.proofs.both.assign_both.Goals as goal
+
+pub returns-in-Err-clause-count : goal.returns-in-Err-clause-count
+returns-in-Err-clause-count g c = unset_counts (g.L.Link.faults c.args.talk.now.memory.below.below.below.link) c.in-Err.fault c.in-Err.ensures
+
+pub returns-in-Err-clause-evaluated : goal.returns-in-Err-clause-evaluated
+returns-in-Err-clause-evaluated g c = λ b hs there. unset_well (g.L.Link.faults c.args.talk.now.memory.below.below.below.link) c.in-Err.fault c.in-Err.ensures
+
+pub returns-in-Err-mine-clause-evaluated : goal.returns-in-Err-mine-clause-evaluated
+returns-in-Err-mine-clause-evaluated g c = λ b hs there. only_well (g.L.Link.faults c.args.talk.now.memory.below.below.below.link) (g.L.Link.faults c.assigned-mine.new.talk.memory.below.below.below.link) _ c.in-Err-mine.fault (c.in-Err-mine.ensures.evaluated b hs.first hs.second there.first_there)
+
+pub returns-in-Err-more-clause-count : goal.returns-in-Err-more-clause-count
+returns-in-Err-more-clause-count g c =
+    let f = (g.L.Link.faults c.args.talk.now.memory.below.below.below.link) in
+    let f1 = (g.L.Link.faults c.assigned-mine.new.talk.memory.below.below.below.link) in
+    let f2 = (g.L.Link.faults c.assigned-more.new.talk.memory.below.below.below.link) in
+    let f3 = (g.L.Link.faults c.stored_alone.new.talk.memory.below.below.below.link) in
+    failure_or c.in-Err-more.fault
+    (λ is. let w = c.stored_alone.ensures.failed is in
+    subst (λ r. CountsAsk f f3 r) (sym w.0) (subst (λ n. CountsFault f n c.in-Err-more.fault) (ap (λ o. g.L.Link.faults o.memory.below.below.below.link) (sym w.1)) (fault_on f f1 f2 c.in-Err-more.fault c.in-Ok-mine.ensures.count c.in-Err-more.ensures.count)))
+    (λ n. counts_on f f2 f3 c.stored_alone.result (counts_same f1 f2 c.in-Err-more.fault n c.in-Err-more.ensures.count ∙ c.in-Ok-mine.ensures.count) (c.stored_alone.ensures.count n))
+
+pub returns-in-Err-more-clause-evaluated : goal.returns-in-Err-more-clause-evaluated
+returns-in-Err-more-clause-evaluated g c = λ b (hs : Hosts) there.
+    let f = (g.L.Link.faults c.args.talk.now.memory.below.below.below.link) in
+    let f1 = (g.L.Link.faults c.assigned-mine.new.talk.memory.below.below.below.link) in
+    let f2 = (g.L.Link.faults c.assigned-more.new.talk.memory.below.below.below.link) in
+    let f3 = (g.L.Link.faults c.stored_alone.new.talk.memory.below.below.below.link) in
+    let o1 = (g.L.Link.world c.assigned-mine.new.talk.memory.below.below.below.link) in
+    let o2 = (g.L.Link.world c.assigned-more.new.talk.memory.below.below.below.link) in
+    let one = c.assigned-mine.new.side in
+    let two = c.assigned-more.new.side in
+    with_second_there b g.L.Link.conduct (g.L.Link.world c.args.talk.now.memory.below.below.below.link) o1 c.args.first.now one c.args.second.now hs c.assigned-mine.ensures.which there (c.in-Ok-mine.ensures.evaluated b hs.first hs.second there.first_there) (TalksWell f f3 (Unit {0}) c.stored_alone.result)
+    (λ h mine waits e k.
+    let more = c.in-Err-more.ensures.evaluated b h (Some hs.first) waits in
+    failure_or c.in-Err-more.fault
+    (λ is. let w = c.stored_alone.ensures.failed is in
+    subst (λ r. TalksWell f f3 (Unit {0}) r) (sym w.0)
+    (subst (λ n. FailsWell f n (Unit {0}) c.in-Err-more.fault) (ap (λ o. g.L.Link.faults o.memory.below.below.below.link) (sym w.1)) (fails_on f f1 f2 (Unit {0}) c.in-Err-more.fault c.in-Ok-mine.ensures.count (only_well f1 f2 _ c.in-Err-more.fault more))))
+    (λ n.
+    let other = well_there f1 f2 _ c.in-Err-more.fault n more in
+    let here = first_beside b g.L.Link.conduct o1 o2 one two hs.first h (Some h) e mine (c.assigned-more.ensures.which ∙ k) other in
+    well_on f f2 f3 (Unit {0}) c.stored_alone.result (counts_same f1 f2 c.in-Err-more.fault n c.in-Err-more.ensures.count ∙ c.in-Ok-mine.ensures.count) (c.stored_alone.ensures.stores b hs.first (Some h) n here)))
+
+pub returns-in-Err-here-clause-count : goal.returns-in-Err-here-clause-count
+returns-in-Err-here-clause-count g c =
+    let f = (g.L.Link.faults c.args.talk.now.memory.below.below.below.link) in
+    let f2 = (g.L.Link.faults c.assigned-more.new.talk.memory.below.below.below.link) in
+    fault_on f f2 (g.L.Link.faults c.store-here.new.talk.memory.below.below.below.link) c.in-Err-here.fault (c.in-Ok-more.ensures.count ∙ c.in-Ok-mine.ensures.count) c.in-Err-here.ensures.count
+
+pub returns-in-Ok-here-clause-count : goal.returns-in-Ok-here-clause-count
+returns-in-Ok-here-clause-count g c =
+    let f = (g.L.Link.faults c.args.talk.now.memory.below.below.below.link) in
+    let f3 = (g.L.Link.faults c.store-here.new.talk.memory.below.below.below.link) in
+    let f4 = (g.L.Link.faults c.store.new.talk.memory.below.below.below.link) in
+    counts_on f f3 f4 c.stored.result (c.in-Ok-here.ensures.count ∙ (c.in-Ok-more.ensures.count ∙ c.in-Ok-mine.ensures.count)) (stored_counts f3 f4 c.store.result c.in-Ok.said c.stored.result c.stored.ensures.ok c.stored.ensures.err c.store.ensures.count)
+
+pub returns-in-Err-here-clause-evaluated : goal.returns-in-Err-here-clause-evaluated
+returns-in-Err-here-clause-evaluated g c = λ b (hs : Hosts) there.
+    let f = (g.L.Link.faults c.args.talk.now.memory.below.below.below.link) in
+    let f2 = (g.L.Link.faults c.assigned-more.new.talk.memory.below.below.below.link) in
+    let f3 = (g.L.Link.faults c.store-here.new.talk.memory.below.below.below.link) in
+    let o1 = (g.L.Link.world c.assigned-mine.new.talk.memory.below.below.below.link) in
+    let o2 = (g.L.Link.world c.assigned-more.new.talk.memory.below.below.below.link) in
+    let one = c.assigned-mine.new.side in
+    let two = c.assigned-more.new.side in
+    with_second_there b g.L.Link.conduct (g.L.Link.world c.args.talk.now.memory.below.below.below.link) o1 c.args.first.now one c.args.second.now hs c.assigned-mine.ensures.which there (c.in-Ok-mine.ensures.evaluated b hs.first hs.second there.first_there) (FailsWell f f3 (Unit {0}) c.in-Err-here.fault)
+    (λ h mine waits e k.
+    let other = c.in-Ok-more.ensures.evaluated b h (Some hs.first) waits in
+    let here = first_beside b g.L.Link.conduct o1 o2 one two hs.first h (Some h) e mine (c.assigned-more.ensures.which ∙ k) other in
+    fails_on f f2 f3 (Unit {0}) c.in-Err-here.fault (c.in-Ok-more.ensures.count ∙ c.in-Ok-mine.ensures.count) (only_well f2 f3 _ c.in-Err-here.fault (c.in-Err-here.ensures.stores b hs.first (Some h) here)))
+
+pub returns-in-Ok-here-clause-evaluated : goal.returns-in-Ok-here-clause-evaluated
+returns-in-Ok-here-clause-evaluated g c = λ b (hs : Hosts) there.
+    let f = (g.L.Link.faults c.args.talk.now.memory.below.below.below.link) in
+    let f3 = (g.L.Link.faults c.store-here.new.talk.memory.below.below.below.link) in
+    let f4 = (g.L.Link.faults c.store.new.talk.memory.below.below.below.link) in
+    let o1 = (g.L.Link.world c.assigned-mine.new.talk.memory.below.below.below.link) in
+    let o2 = (g.L.Link.world c.assigned-more.new.talk.memory.below.below.below.link) in
+    let o3 = (g.L.Link.world c.store-here.new.talk.memory.below.below.below.link) in
+    let one = c.assigned-mine.new.side in
+    let two = c.assigned-more.new.side in
+    with_second_there b g.L.Link.conduct (g.L.Link.world c.args.talk.now.memory.below.below.below.link) o1 c.args.first.now one c.args.second.now hs c.assigned-mine.ensures.which there (c.in-Ok-mine.ensures.evaluated b hs.first hs.second there.first_there) (TalksWell f f4 (Unit {0}) c.stored.result)
+    (λ h mine waits e k.
+    let other = c.in-Ok-more.ensures.evaluated b h (Some hs.first) waits in
+    let here = first_beside b g.L.Link.conduct o1 o2 one two hs.first h (Some h) e mine (c.assigned-more.ensures.which ∙ k) other in
+    let put = c.in-Ok-here.ensures.stores b hs.first (Some h) here in
+    let then = second_beside b g.L.Link.conduct o2 o3 one two h put.host (Some hs.first) (c.assigned-more.ensures.which ∙ k) other e put.there in
+    well_on f f3 f4 (Unit {0}) c.stored.result (c.in-Ok-here.ensures.count ∙ (c.in-Ok-more.ensures.count ∙ c.in-Ok-mine.ensures.count))
+    (stored_well f3 f4 _ c.store.result c.in-Ok.said c.stored.result c.stored.ensures.ok c.stored.ensures.err (c.store.ensures.stores b h (Some put.host) then)))

@@ -1,0 +1,18 @@
+use Rattle.session.proofs.Looked.{stored_counts, stored_well}
+use Rattle.session.proofs.both.stored_alone.Goals as goal
+
+pub returns-then-is_failure-clause-stores : goal.returns-then-is_failure-clause-stores
+returns-then-is_failure-clause-stores g c = λ b h beside n there. absurd (n (c.is_failure.ensures.yes c.if-is_failure.true))
+
+pub returns-then-is_failure-clause-count : goal.returns-then-is_failure-clause-count
+returns-then-is_failure-clause-count g c = λ n. absurd (n (c.is_failure.ensures.yes c.if-is_failure.true))
+
+pub returns-clause-failed : goal.returns-clause-failed
+returns-clause-failed g c = λ is. absurd (c.is_failure.ensures.no c.if-is_failure.false is)
+
+pub returns-clause-stores : goal.returns-clause-stores
+returns-clause-stores g c = λ b h beside n there.
+    stored_well (g.L.Link.faults c.args.talk.now.memory.below.below.below.link) (g.L.Link.faults c.store.new.talk.memory.below.below.below.link) _ c.store.result c.args.said c.stored.result c.stored.ensures.ok c.stored.ensures.err (c.store.ensures.stores b h beside there)
+
+pub returns-clause-count : goal.returns-clause-count
+returns-clause-count g c = λ n. stored_counts (g.L.Link.faults c.args.talk.now.memory.below.below.below.link) (g.L.Link.faults c.store.new.talk.memory.below.below.below.link) c.store.result c.args.said c.stored.result c.stored.ensures.ok c.stored.ensures.err c.store.ensures.count
