@@ -12,6 +12,7 @@ use Rattle.ps_step.specs.declared.item.Item.TheVariants as item
 use Rattle.ps_step.specs.declared.machine.PsCore.{PsCore}
 use Rattle.ps_run.specs.Runs.{Answer, Operates, Runs, ended, next}
 use Rattle.ps_run.specs.Step.{Ended, step}
+use Rattle.ps_run.proofs.Apart.{finished}
 use Rattle.ps_text.specs.Grown.{IsString}
 use Rattle.ps_text.proofs.Growing.{MadeText, text_made}
 use Rattle.ps_terms.specs.Stands.{core}
@@ -29,7 +30,9 @@ use Rattle.ps_tables.specs.Tabled.{table_made, table_steps, LeavesTop, EndsAtTop
 use Rattle.ps_tables.specs.Behind.{prelude_dict, loaded_printers}
 use Rattle.ps_tables.proofs.Stores.{later_grown}
 use Rattle.ps_tables.proofs.Sequence.{knowing_later}
-use Rattle.ps_tables.proofs.TableRun.{text_leaves, runs_to_top}
+use Rattle.ps_tables.specs.Left.{LeavesTable}
+use Rattle.ps_tables.proofs.Going.{taken}
+use Rattle.ps_tables.proofs.TableRun.{text_leaves_table, runs_to_top}
 use Rattle.ps_tables.proofs.Behind.{no_marks, stacked, no_operands, prelude_known}
 
 abbrev S : StoreState
@@ -72,13 +75,17 @@ same_start : (t : StringId) (s : StoreState) → begins_with t s ≡ core s (in_
 same_start t s =
     ap (λ (ds : List DictId). core s ds loaded.operands (Object (Str t true) ∷ [])) stacked ∙ ap (λ (o : List PsObj). core s (in_table 1 ∷ prelude_dict) o (Object (Str t true) ∷ [])) no_operands
 
--- the text leaves the top of a table there
-pub behind_leaves : (p : Program) (at : Placement) (t : StringId) (s : StoreState) → Runnable p at → length (table_text p at) ≤ 16777216 → S.table.units + S.command.units + text_units (table_text p at) + table_made p at ≤ 8000000
-    → making_string S (table_text p at) ≡ Ok (t, s) → LeavesTop 1 prelude_dict t (table_steps p at) (table_made p at) at.target s 0
-behind_leaves p at t s run short room made =
+-- the text leaves a table there
+pub behind_leaves_table : (p : Program) (at : Placement) (t : StringId) (s : StoreState) → Runnable p at → length (table_text p at) ≤ 16777216 → S.table.units + S.command.units + text_units (table_text p at) + table_made p at ≤ 8000000
+    → making_string S (table_text p at) ≡ Ok (t, s) → LeavesTable 1 prelude_dict t loaded_printers 20 p at s 0
+behind_leaves_table p at t s run short room made =
     let b : Begun t s (table_text p at) = begun t s (table_text p at) short (omega arith) made in
     let counted = b.counted in
-    text_leaves 1 prelude_dict t loaded_printers p at 0 s run no_marks b.knowing (omega arith) (omega arith) b.is
+    text_leaves_table 1 prelude_dict t loaded_printers p at 0 s run no_marks b.knowing (omega arith) (omega arith) b.is
+
+pub behind_leaves : (p : Program) (at : Placement) (t : StringId) (s : StoreState) → Runnable p at → length (table_text p at) ≤ 16777216 → S.table.units + S.command.units + text_units (table_text p at) + table_made p at ≤ 8000000
+    → making_string S (table_text p at) ≡ Ok (t, s) → LeavesTop 1 prelude_dict t (table_steps p at) (table_made p at) at.target s 0
+behind_leaves p at t s run short room made = (behind_leaves_table p at t s run short room made).leaves
 
 module _ {D : Type 0} (Op : Operates D) where
   pub behind_runs : (p : Program) (at : Placement) (t : StringId) (s : StoreState) (left m : ℕ) (d d' : D) (c' : PsCore) (r : Answer) → Runnable p at → length (table_text p at) ≤ 16777216
@@ -88,6 +95,18 @@ module _ {D : Type 0} (Op : Operates D) where
       let n : ℕ = further (suc (table_steps p at)) (suc left) in
       runs_to_top 1 prelude_dict t loaded_printers Op (table_steps p at) (table_made p at) at.target left s d d' m c' r (behind_leaves p at t s run short room made)
       (subst (λ (c : PsCore). Runs Op n d c r m d' c') (same_start t s) runs)
+
+  -- where a run ends by what the text leaves
+  pub behind_ends : (p : Program) (at : Placement) (t : StringId) (s : StoreState) (l : LeavesTop 1 prelude_dict t (table_steps p at) (table_made p at) at.target s 0) (left m : ℕ) (d d' : D) (c' : PsCore) (r : Answer)
+      → Runs Op (further (suc (table_steps p at)) (suc left)) d (begins_with t s) r m d' c' → c' ≡ core l.store (in_table 1 ∷ prelude_dict) (Dict l.top ∷ []) []
+  behind_ends p at t s l left m d d' c' r runs =
+      let n : ℕ = further (suc (table_steps p at)) (suc left) in
+      let all : List DictId = in_table 1 ∷ prelude_dict in
+      let c₀ : PsCore = core s all [] (Object (Str t true) ∷ []) in
+      let c₁ : PsCore = core s all [] (item.Text t 0 ∷ []) in
+      let c₂ : PsCore = core l.store all (Dict l.top ∷ []) (item.Text t l.to ∷ []) in
+      let c₃ : PsCore = core l.store all (Dict l.top ∷ []) [] in
+      (finished Op left d c₂ c₃ r m d' c' l.ends (taken Op (suc (table_steps p at)) (suc left) m d d' c₀ c₂ c' r (c₁, refl, l.takes) (subst (λ (c : PsCore). Runs Op n d c r m d' c') (same_start t s) runs))).core
 
   -- steps that ask nothing of a dialect, up to an end, are a run
   ran : (k n : ℕ) (d : D) (c c₁ c₂ : PsCore) → Takes k c c₁ → step c₁ ≡ Ended c₂ → Runs Op (further k (suc n)) d c (Ok tt) (suc n) d c₂
