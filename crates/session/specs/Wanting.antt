@@ -1,4 +1,5 @@
--- What a command leaves that found no memory: a session that stands for the machine session as before, of whose tables units may have been run.
+-- What a command leaves that found no memory: a session that stands for the machine session as before, over the tables that it has then. (Units of them
+-- may have been run; that nothing else became of them isn't said here.)
 use Rattle.std.specs.Prelude.{◌≡◌, ℕ, [], Option, Some, None}
 use Rattle.machine_state.specs.State.{Behaviour}
 use Rattle.nub_wire.specs.Nub.{Host}
