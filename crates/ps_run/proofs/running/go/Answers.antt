@@ -1,8 +1,12 @@
-use Rattle.std.proofs.Common.{◌≡◌, ◌-◌, ◌+◌, suc, Err, ◌∙◌, ap, arith}
+use Rattle.std.proofs.Common.{◌≡◌, ◌-◌, ◌+◌, suc, Err, refl, ◌∙◌, ap, arith}
 use Rattle.ps_run.proofs.Going.{at_limit, at_end, at_fault, at_next, at_asked, at_broken, remains_by, fault_told, never_spent}
-use Rattle.ps_run.specs.Reaching.{in_step}
+use Rattle.ps_store.specs.Store.{closed_part}
+use Rattle.ps_run.specs.Reaching.{here, in_step}
 use Rattle.ps_run.proofs.Reaching.{then_stepped, then_answered, then_short}
 use Rattle.ps_run.proofs.running.go.Goals as goal
+
+pub loop-steps-init : goal.loop-steps-init
+loop-steps-init g c = record { limit = refl; closed = g.met.D.Dialect.stays (closed_part c.args.core.now.store); within = c.requires; more = omega arith; reached = here; rest = λ r m d c' run. run }
 
 pub returns-in-Ok-Ended-clause-runs : goal.returns-in-Ok-Ended-clause-runs
 returns-in-Ok-Ended-clause-runs g c = λ _.
