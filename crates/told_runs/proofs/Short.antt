@@ -1,11 +1,11 @@
 -- A run over a memory of which memory ran out, operator by operator.
-use Rattle.std.proofs.Common.{◌≡◌, ◌≢◌, ◌∙◌, ℕ, suc, List, Option, None, Ok, Err, refl, ap}
+use Rattle.std.proofs.Common.{◌≡◌, ◌≢◌, ◌∙◌, ℕ, suc, List, Option, None, Ok, Err, refl}
 use Rattle.machine_state.specs.Regions.{Regions}
 use Rattle.abs_mem.specs.Meaning.{Seen}
 use Rattle.ps_step.specs.declared.fault.PsFault.{PsFault}
 use Rattle.ps_step.specs.declared.fault.PsFault.TheVariants.{Error, Spent, Link, NoMemory}
 use Rattle.ps_step.specs.declared.machine.PsCore.{PsCore}
-use Rattle.ps_run.specs.Runs.{Answer, Asked, Settles}
+use Rattle.ps_run.specs.Runs.{Answer, Settles}
 use Rattle.ps_run.specs.Reaching.{Reaches, here, stepped, answered, RanShort, in_step, in_operator}
 use Rattle.ps_run.proofs.Reaching.{short_keeps}
 use Rattle.dialect_model.specs.Dial.{Dial}
