@@ -23,7 +23,7 @@ use Rattle.dialect_model.specs.TableUse.{Refused as RefusedFor, Spent as StepsSp
 use Rattle.dialect_model.specs.Running.{Run, running}
 use Rattle.ps_ops.specs.Desk.{dial_of}
 use Rattle.ps_ops.specs.declared.dialect.Operators.{Operators}
-use Rattle.told_runs.specs.Told.{desk, target, Tells, IsTold}
+use Rattle.told_runs.specs.Told.{desk, target, Tells, IsTold, ReachesTold}
 use Rattle.table_asks.specs.declared.fault.Cause.{Cause}
 use Rattle.table_asks.specs.declared.fault.AskFault.{AskFault}
 use Rattle.table_asks.specs.declared.fault.AskFault.TheVariants.{Refused, Raised, Spent, NoMemory, Broken}
@@ -32,7 +32,7 @@ use Rattle.table_asks.specs.Asking.{left_of, used_by, Comes}
 use Rattle.table_asks.specs.Closing.{Settles}
 use Rattle.table_asks.specs.Running.{RunsOver}
 use Rattle.asking.specs.Printing.{Ends, EndsOnTold, EndsFrom, target_with, used_at, RanFrom}
-use Rattle.asking.proofs.Unstored.{runs_stay}
+use Rattle.asking.proofs.Unstored.{runs_stay, reaches_stay}
 
 -- what is made stays the command's
 pub part_stays : (s s' : StoreState) → Settles (closed_part s) (closed_part s') → s.part ≡ Command → s'.part ≡ Command
@@ -56,7 +56,7 @@ module _ {R A B : Type 0} (m : Regions → Eval Cause A) (k : Regions → A → 
   fails_from (Refused cause) h = λ regions rest t. let w = h regions rest t in (w.0, fails_then (m regions) (k regions) start new (RefusedFor cause) w.1)
   fails_from (Raised e) h = λ regions rest t. let w = h regions rest t in (w.0, fails_then (m regions) (k regions) start new (Kind e) w.1)
   fails_from Spent h = λ regions rest t. let w = h regions rest t in (w.0, fails_then (m regions) (k regions) start new StepsSpent w.1)
-  fails_from NoMemory h = tt
+  fails_from NoMemory h = h
   fails_from (Broken LinkFault) h = tt
   fails_from (Broken (BadReply frame)) h = h
   fails_from (Broken (Outside p)) h = tt
@@ -74,7 +74,7 @@ module _ {R A B : Type 0} (m : Regions → Eval Cause A) (k : Regions → A → 
     then_from (Err (Refused cause)) h = on_told (Err (RefusedFor cause)) h
     then_from (Err (Raised e)) h = on_told (Err (Kind e)) h
     then_from (Err Spent) h = on_told (Err StepsSpent) h
-    then_from (Err NoMemory) h = tt
+    then_from (Err NoMemory) h = λ regions rest t. h regions rest (first regions rest t).0
     then_from (Err (Broken LinkFault)) h = tt
     then_from (Err (Broken (BadReply frame))) h = λ regions rest t. h regions rest (first regions rest t).0
     then_from (Err (Broken (Outside p))) h = tt
@@ -92,11 +92,21 @@ module _ {R A : Type 0} (m : Eval Cause A) (at : Regions → Target) (old new : 
   asked_fails (Refused cause) h = asked_ends (Err (RefusedFor cause)) (h began)
   asked_fails (Raised e) h = asked_ends (Err (Kind e)) (h began)
   asked_fails Spent h = asked_ends (Err StepsSpent) (h began)
-  asked_fails NoMemory h = tt
+  asked_fails NoMemory h = λ regions rest t. t
   asked_fails (Broken f) h = absurd (h began)
 
 abbrev some_target : Target → Option Target
 some_target t = Some t
+
+some_is : (t t' : Target) → some_target t ≡ some_target t' → t ≡ t'
+some_is t t' h = cc
+
+-- a run whose operators may not store to the target, as far as it went
+pub told_so_far : {W R : Type 0} (seen : W → Seen R) (o o' : Operators W) → o.view.raw ≡ false → (n : ℕ) (c : PsCore) (regions : Regions) (rest : R) → ReachesTold seen rest regions n o c o'
+    → (target seen o').tells (memory_bytes (target_with o regions)) rest
+told_so_far seen o o' dark n c regions rest h =
+    let still = reaches_stay n (dial_of (desk o) regions) c h.left' h.dial h.core h.reaches dark in
+    subst (λ (t : Target). (target seen o').tells (memory_bytes t) rest) (some_is (target_with o' h.regions') (target_with o regions) (h.target ∙ still.0)) h.tells
 
 -- ---- a run
 
@@ -105,9 +115,6 @@ module _ {W R : Type 0} (seen : W → Seen R) (what : PsObj) (j i' : Inquiry) (o
   RunsAs answer =
       (regions : Regions) (rest : R) → Tells seen o regions rest
       → (execution : List Item) × IsTold seen rest regions (left_of j) o (with_execution j.core (Object what ∷ [])) answer (left_of i') o' (with_execution i'.core execution)
-
-  some_is : (t t' : Target) → some_target t ≡ some_target t' → t ≡ t'
-  some_is t t' h = cc
 
   -- the dial after it has the same target
   module _ (answer : Answer) (regions : Regions) (rest : R) (execution : List Item) (is : IsTold seen rest regions (left_of j) o (with_execution j.core (Object what ∷ [])) answer (left_of i') o' (with_execution i'.core execution)) where
@@ -164,7 +171,7 @@ module _ {W R : Type 0} (seen : W → Seen R) (what : PsObj) (j i' : Inquiry) (o
     pub run_fails : (f : AskFault) → RunsOver seen what j o (Err f) i' o' → EndsFrom whole (target_with o) before (target seen o) (Err f) i' (target seen o')
     run_fails (Raised e) h = stopped (ps.Error e) h
     run_fails Spent h = stopped ps.Spent h
-    run_fails NoMemory h = tt
+    run_fails NoMemory h = λ regions rest t. told_so_far seen o o' dark (left_of j) (with_execution j.core (Object what ∷ [])) regions rest (h regions rest t)
     run_fails (Broken LinkFault) h = tt
     run_fails (Broken (BadReply frame)) h = h
     run_fails (Broken (Outside p)) h = tt

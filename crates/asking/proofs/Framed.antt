@@ -56,7 +56,7 @@ module _ {R : Type 0} (v : View) (order : Order) (n : ℕ) (name : List ℕ) (i 
   look_fails (Refused cause) h = looked_ends (Err (RefusedFor cause)) h.0 h.1
   look_fails (Raised e) h = looked_ends (Err (Kind e)) h.0 h.1
   look_fails Spent h = looked_ends (Err StepsSpent) h.0 h.1
-  look_fails NoMemory h = tt
+  look_fails NoMemory h = λ regions rest t. h.0.keeps (memory_bytes (at regions)) rest t
   look_fails (Broken LinkFault) h = tt
   look_fails (Broken (BadReply frame)) h = λ regions rest t. h.never (memory_bytes (at regions)) rest t
   look_fails (Broken (Outside p)) h = tt

@@ -65,7 +65,7 @@ module _ {W R : Type 0} (seen : W → Seen R) (x : DictId) (f : Frame) (scope : 
         placing (Err (Raised e)) i' s
         (fails_from (λ regions. beginning) (λ regions c. running what (dial_in (at regions) f scope) c) at start s s i' (Raised e)
         (λ regions rest t. (t, record { use_after = start; comes = subst (λ (z : PsError). beginning {R = Cause} start (Err (Kind z)) start) (sym h.0) (not_made i.core.store (left_of i) part h.2 h.3); store = sym h.1; left = sym left })))
-    begin_fails NoMemory i' h left part = tt
+    begin_fails NoMemory i' h left part = λ regions rest t. t
     begin_fails Spent i' h left part = absurd h
     begin_fails (Refused cause) i' h left part = absurd h
     begin_fails (Broken b) i' h left part = absurd h

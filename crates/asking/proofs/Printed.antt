@@ -76,11 +76,22 @@ module _ {W R : Type 0} (seen : W → Seen R) (x : DictId) (f : Frame) (scope : 
       unshown (Refused cause) h part = with_type (Err (Refused cause)) i' (target seen t') (unshown_on (RefusedFor cause) h part)
       unshown (Raised e) h part = with_type (Err (Raised e)) i' (target seen t') (unshown_on (Kind e) h part)
       unshown Spent h part = with_type (Err Spent) i' (target seen t') (unshown_on StepsSpent h part)
-      unshown NoMemory h part = tt
+      unshown NoMemory h part =
+          λ regions rest told_here.
+          let r = place part regions rest told_here in
+          subst (λ (b : Target). (target seen t').tells (memory_bytes b) rest) r.same (h r.raw r.own r.execution r.regions' rest r.tells)
       unshown (Broken LinkFault) h part = tt
       unshown (Broken (BadReply frame)) h part =
           with_type (Err (Broken (BadReply frame))) i' (target seen t') (λ regions rest told_here. (let r = place part regions rest told_here in h r.raw r.own r.execution r.regions' rest r.tells))
       unshown (Broken (Outside p)) h part = tt
+
+      -- there is no memory for the line
+      pub unworded : ShownOver seen type j u (Ok tt) i' t' → EndsOver whole at i s (Err NoMemory) i' (target seen t')
+      unworded h part =
+          λ regions rest told_here.
+          let r = place part regions rest told_here in
+          let v = h r.raw r.own r.execution r.regions' rest r.tells in
+          subst (λ (b : Target). (target seen t').tells (memory_bytes b) rest) (v.same ∙ r.same) v.tells
 
       pub shown_done : ShownOver seen type j u (Ok tt) i' t' → (text : List ℕ) → text ≡ codes "value " ++ (t'.out ++ 10 ∷ []) → EndsOver whole at i s (Ok text) i' (target seen t')
       shown_done h text says part =

@@ -22,14 +22,14 @@ module _ {W R : Type 0} (seen : W → Seen R) (leads : W → Option (List ℕ) �
   pub ran_unbroken : (A : Type 0) (f : AskFault) → IsUnbroken f → leads a None a → RanOver seen leads {A = A} a (Err f) a
   ran_unbroken A (Raised e) own h = (refl, h)
   ran_unbroken A Spent own h = (refl, h)
-  ran_unbroken A NoMemory own h = tt
+  ran_unbroken A NoMemory own h = (refl, h)
   ran_unbroken A (Refused cause) own h = (refl, h)
   ran_unbroken A (Broken x) own h = absurd own
 
   pub ran_own : (A : Type 0) (f : AskFault) → IsOwn f → leads a None a → RanOver seen leads {A = A} a (Err f) a
   ran_own A (Raised e) own h = (refl, h)
   ran_own A Spent own h = (refl, h)
-  ran_own A NoMemory own h = tt
+  ran_own A NoMemory own h = (refl, h)
   ran_own A (Refused cause) own h = absurd own
   ran_own A (Broken x) own h = absurd own
 
@@ -45,7 +45,7 @@ module _ {W R : Type 0} (seen : W → Seen R) (leads : W → Option (List ℕ) �
   -- an object that isn't put on top
   pub ran_pushed : (A : Type 0) (f : PsFault) (old new : PsCore) (made : Made) → Does (Err f) old new made → leads a None a → RanOver seen leads {A = A} a (Err (fault_of_run f None)) a
   ran_pushed A (ps.Error e) old new made h k = (refl, k)
-  ran_pushed A ps.NoMemory old new made h k = tt
+  ran_pushed A ps.NoMemory old new made h k = (refl, k)
   ran_pushed A ps.Spent old new made h k = absurd h
   ran_pushed A ps.Link old new made h k = absurd h
 
@@ -59,7 +59,7 @@ module _ {W R : Type 0} (seen : W → Seen R) (leads : W → Option (List ℕ) �
     ran_then (Err (Refused cause)) h k = led_further None h k
     ran_then (Err (Raised e)) h k = led_further None h k
     ran_then (Err Spent) h k = led_further None h k
-    ran_then (Err NoMemory) h k = tt
+    ran_then (Err NoMemory) h k = led_further None h k
     ran_then (Err (Broken LinkFault)) h k = rose_then (seen a).faults (seen b).faults (seen c).faults h.0 k
     ran_then (Err (Broken (BadReply frame))) h k = led_further (Some frame.items) h k
     ran_then (Err (Broken (Outside p))) h k = absurd k
@@ -73,7 +73,7 @@ module _ {W R : Type 0} (seen : W → Seen R) (leads : W → Option (List ℕ) �
     asked_ran B (Refused cause) h k = (h.0.faults, k)
     asked_ran B (Raised e) h k = (h.0.faults, k)
     asked_ran B Spent h k = (h.0.faults, k)
-    asked_ran B NoMemory h k = tt
+    asked_ran B NoMemory h k = (h.0.faults, k)
     asked_ran B (Broken LinkFault) h k = h
     asked_ran B (Broken (BadReply frame)) h k = (h.faults, k)
     asked_ran B (Broken (Outside p)) h k = absurd h

@@ -94,7 +94,7 @@ module _ {W R : Type 0} (seen : W → Seen R) (type : DictId) (i : Inquiry) (o :
 
     pub push_fails : (f : PsFault) (i' : Inquiry) → Does (Err f) i.core i'.core (pushing (Dict type) i.core) → left_of i' ≡ left_of i → EndsFrom whole (target_with o) start s (Err (fault_of_run f None)) i' s
     push_fails (ps.Error e) i' h left = push_stops e i' h.0 h.1 left
-    push_fails ps.NoMemory i' h left = tt
+    push_fails ps.NoMemory i' h left = λ regions rest t. t
     push_fails ps.Spent i' h left = absurd h
     push_fails ps.Link i' h left = absurd h
 

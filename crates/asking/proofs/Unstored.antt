@@ -8,6 +8,8 @@ use Rattle.ps_step.specs.Results.{◌>>=◌}
 use Rattle.ps_step.specs.State.{Made}
 use Rattle.ps_step.specs.Operands.{quadruple_of}
 use Rattle.ps_run.specs.Runs.{Answer, Runs, spent, ended, failed, next, asked, broken}
+use Rattle.ps_run.specs.Reaching.{Reaches}
+use Rattle.ps_run.proofs.Reaching.{reaches_keeps}
 use Rattle.frame_bytes.specs.declared.frame.Space.{Space}
 use Rattle.frame_bytes.specs.declared.frame.Space.TheVariants.{Memory, Registers, Immediate}
 use Rattle.frame_bytes.specs.declared.frame.Place.{Place}
@@ -233,3 +235,12 @@ runs_stay _ _ _ _ _ _ _ (asked n k m d d₁ d' c c₁ c₂ c' op r s a run) raw 
     let first = operates d c₁ op n a.given d₁ a.core k a.operates raw in
     stays_on d d₁ d' first (runs_stay k d₁ c₂ r m d' c' run (first.1 ∙ raw))
 runs_stay _ _ _ _ _ _ _ (broken n k d d₁ c c₁ c₂ op g f s a how) raw = operates d c₁ op n a.given d₁ a.core k a.operates raw
+
+-- and as far as they go
+abbrev StaysDark : Dial → Dial → Type 0
+StaysDark d d' = d.raw ≡ false → Stays d d'
+
+pub reaches_stay : (n : ℕ) (d : Dial) (c : PsCore) (m : ℕ) (d' : Dial) (c' : PsCore) → Reaches Operates n d c m d' c' → d.raw ≡ false → (d'.target ≡ d.target) × (d'.raw ≡ d.raw)
+reaches_stay n d c m d' c' h =
+    reaches_keeps Operates StaysDark (λ d raw. (refl, refl)) (λ d d₁ d₂ h k raw. (let first = h raw in stays_on d d₁ d₂ first (k (first.1 ∙ raw))))
+    (λ d c op left r d' c' left' other does raw. operates d c op left r d' c' left' does raw) n d c m d' c' h

@@ -128,22 +128,26 @@ pub record Ends {A : Type 0} (m : Eval Cause A) (before : TableUse) (r : Result 
   pub store : use_after.store ≡ new.core.store
   pub left : use_after.left ≡ left_of new
 
+-- the target's bytes that were told are told still
+abbrev pub TellsStill : {R : Type 0} → (Regions → Target) → (old new : Seen R) → Type 0
+TellsStill {R = R} at s s' = (regions : Regions) (rest : R) → s.tells (memory_bytes (at regions)) rest → s'.tells (memory_bytes (at regions)) rest
+
 module _ {R A : Type 0} (m : Regions → Eval Cause A) (at : Regions → Target) (before : TableUse) (s : Seen R) where
   abbrev pub EndsOnTold : Result A (Trouble Cause) → Inquiry → Seen R → Type 0
   EndsOnTold r new s' = (regions : Regions) (rest : R) → s.tells (memory_bytes (at regions)) rest → s'.tells (memory_bytes (at regions)) rest × Ends (m regions) before r new
 
-  -- Over the bytes that are told the part comes to this from here on, and they are told after it. A bad reply came only where no bytes were told.
+  -- Over the bytes that are told the part comes to this from here on, and they are told after it, also where memory ran out. A bad reply came only where no bytes were told.
   abbrev pub EndsFrom : Result A AskFault → Inquiry → Seen R → Type 0
   EndsFrom (Ok x) new s' = EndsOnTold (Ok x) new s'
   EndsFrom (Err (Refused cause)) new s' = EndsOnTold (Err (RefusedFor cause)) new s'
   EndsFrom (Err (Raised e)) new s' = EndsOnTold (Err (Kind e)) new s'
   EndsFrom (Err Spent) new s' = EndsOnTold (Err StepsSpent) new s'
-  EndsFrom (Err NoMemory) new s' = Unit {0}
+  EndsFrom (Err NoMemory) new s' = TellsStill at s s'
   EndsFrom (Err (Broken (BadReply frame))) new s' = (regions : Regions) (rest : R) → s.tells (memory_bytes (at regions)) rest → ⊥
   EndsFrom (Err (Broken f)) new s' = Unit {0}
 
 -- A command that runs PostScript and stores nothing to the target, where what it makes is its own: over the bytes that are told it comes to this, and they are told after it.
--- Where memory ran out, or the link failed, nothing is said; a bad reply came only where no bytes were told.
+-- Where memory ran out they are told too. Where the link failed nothing is said; a bad reply came only where no bytes were told.
 abbrev pub EndsOver : {R A : Type 0} → (Target → Eval Cause A) → (Regions → Target) → (old : Inquiry) → Seen R → Result A AskFault → Inquiry → Seen R → Type 0
 EndsOver m at old s r new s' = old.core.store.part ≡ Command → EndsFrom (λ regions. m (at regions)) at (use_of old.core.store (left_of old)) s r new s'
 

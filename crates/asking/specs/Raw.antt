@@ -15,6 +15,7 @@ use Rattle.ps_step.specs.declared.fault.PsError.TheVariants.{LimitCheck}
 use Rattle.ps_step.specs.declared.machine.PsCore.{PsCore}
 use Rattle.ps_step.specs.Text.{text_of}
 use Rattle.ps_run.specs.Runs.{Answer, Runs}
+use Rattle.ps_run.specs.Reaching.{Reaches}
 use Rattle.frame_bytes.specs.Bytes.{Bytes}
 use Rattle.abs_mem.specs.Meaning.{Seen}
 use Rattle.abs_mem.specs.declared.memory.MemFault.TheVariants.{BadReply}
@@ -89,6 +90,11 @@ pub data RunsPs (d : Dial) (text : List ℕ) (t : TableUse) : Result (List ℕ) 
   ended : {run : Run} {t' : TableUse} {answer : Answer} {left : ℕ} {d' : Dial} {c : PsCore} → ps_ready d text t (Ok run) t'
       → Runs Operates t'.left run.dial run.core answer left d' c → RunsPs d text t (ps_result answer c) d' c.store left
 
+-- `ps` over a dial, as far as it came before memory ran out: it doesn't come to run, or a run of it goes so far. With the dial that it has there.
+pub data RunsPsSoFar (d : Dial) (text : List ℕ) (t : TableUse) : Dial → Type 0 where
+  not_run : RunsPsSoFar d text t d
+  so_far : {run : Run} {t' : TableUse} {left : ℕ} {d' : Dial} {c : PsCore} → ps_ready d text t (Ok run) t' → Reaches Operates t'.left run.dial run.core left d' c → RunsPsSoFar d text t d'
+
 module _ {W R : Type 0} (seen : W → Seen R) (text : List ℕ) where
   -- over the bytes that are told, where what is made is the command's; the bytes that `ps` leaves are told after it
   abbrev PsAs : Inquiry → Operators W → Result (List ℕ) (Trouble Cause) → Inquiry → Operators W → Type 0
@@ -97,12 +103,19 @@ module _ {W R : Type 0} (seen : W → Seen R) (text : List ℕ) where
       → (regions' : Regions) × Tells seen o' regions' rest
       × RunsPs (dial_of (desk o) regions) text (use_of i.core.store (left_of i)) r (dial_of (desk o') regions') i'.core.store (left_of i')
 
-  -- Where memory ran out, or the memory of the target gave no answer, nothing is said of the run; a bad reply came only where no bytes were told.
+  -- over the bytes that are told; the bytes that `ps` has at that place are told after it
+  abbrev pub PsSoFar : Inquiry → Operators W → Operators W → Type 0
+  PsSoFar i o o' =
+      i.core.store.part ≡ Command → (regions : Regions) (rest : R) → Tells seen o regions rest
+      → (regions' : Regions) × Tells seen o' regions' rest
+      × (d' : Dial) × RunsPsSoFar (dial_of (desk o) regions) text (use_of i.core.store (left_of i)) d' × ((dial_of (desk o') regions').target ≡ d'.target)
+
+  -- Where memory ran out the text ran so far. Where the memory of the target gave no answer nothing is said of the run; a bad reply came only where no bytes were told.
   abbrev pub PsOver : Inquiry → Operators W → Result (List ℕ) AskFault → Inquiry → Operators W → Type 0
   PsOver i o (Ok x) i' o' = PsAs i o (Ok x) i' o'
   PsOver i o (Err (Raised e)) i' o' = PsAs i o (Err (Kind e)) i' o'
   PsOver i o (Err Spent) i' o' = PsAs i o (Err StepsSpent) i' o'
-  PsOver i o (Err NoMemory) i' o' = Unit {0}
+  PsOver i o (Err NoMemory) i' o' = PsSoFar i o o'
   PsOver i o (Err (Broken (BadReply frame))) i' o' = (regions : Regions) (rest : R) → Tells seen o regions rest → ⊥
   PsOver i o (Err (Broken f)) i' o' = Unit {0}
   PsOver i o (Err (Refused cause)) i' o' = ⊥

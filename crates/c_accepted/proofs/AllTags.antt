@@ -1,7 +1,7 @@
 -- The tags of a program are those that its files mention.
 use Rattle.std.proofs.Common.{◌≡◌, refl, sym, ap, ℕ, Bool, true, false, ◌||◌, true≢false, List, [], ◌∷◌, ◌++◌, bytes_eq, if◌then◌else◌}
 use Rattle.std.proofs.lemmas.Slice.Eq.{bytes_eq-Decides}
-use Rattle.c_statement.specs.declared.unit.External.{External}
+use Rattle.c_trees.specs.declared.unit.External.{External}
 use Rattle.c_typing.specs.Declarations.{is_named}
 use Rattle.c_mentions.specs.Tags.{in_all, in_external, each_once}
 use Rattle.c_file.specs.Programs.{tags_of}

@@ -6,7 +6,7 @@ use Rattle.std.proofs.Math.Seq.{take-suc}
 use Rattle.std.proofs.lemmas.List.{take_all, map-append}
 use Rattle.std.proofs.lemmas.Option.{slice_get-get_or}
 use Rattle.c_lex.specs.declared.token.Place.{Place}
-use Rattle.c_expr.specs.Tree.{Tree, Call, With}
+use Rattle.c_trees.specs.Expressions.{Tree, Call, With}
 use Rattle.c_tree.specs.declared.typed.Typed.{Typed, Row_of-Typed, end_of-Typed, more_of-Typed}
 use Rattle.c_tree.specs.declared.typed.Typed.TheVariants.{Call'}
 use Rattle.c_tree.specs.Rows.{exprs}

@@ -2,11 +2,11 @@
 use Rattle.std.proofs.Common.{◌≡◌, ◌≤◌, ◌<◌, refl, sym, ap, ◌∙◌, subst, arith, ℕ, suc, Bool, true, false, ◌||◌, true≢false, List, [], ◌∷◌, ◌++◌, length, length-append, Option, Some, None}
 use Rattle.std.specs.Prelude.{nat_lt, if◌then◌else◌}
 use Rattle.std.specs.List.{AllByRecursion}
-use Rattle.c_expr.specs.Tree as tree
-use Rattle.c_expr.specs.Tree.{Tree}
-use Rattle.c_expr.specs.declared.tree.Spec.{Spec}
-use Rattle.c_expr.specs.declared.tree.Spec.TheVariants as spec
-use Rattle.c_declaration.specs.Tree.{DeclaratorTree, Name, Parens, Pointers, Array, Function as Applied, Taking, Named, Unnamed, begins}
+use Rattle.c_trees.specs.Expressions as tree
+use Rattle.c_trees.specs.Expressions.{Tree}
+use Rattle.c_trees.specs.declared.expression.Spec.{Spec}
+use Rattle.c_trees.specs.declared.expression.Spec.TheVariants as spec
+use Rattle.c_trees.specs.Declarators.{DeclaratorTree, Name, Parens, Pointers, Array, Function as Applied, Taking, Named, Unnamed, begins}
 use Rattle.c_typing.specs.Plain as plain
 use Rattle.c_typing.specs.Plain.{Plain, is_scalar, is_void, is_struct, is_complete, value_type}
 use Rattle.c_typing.specs.Declarations.{is_result}

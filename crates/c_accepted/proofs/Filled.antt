@@ -2,8 +2,8 @@
 use Rattle.std.proofs.Common.{◌≡◌, ◌≤◌, refl, sym, ap, ◌∙◌, subst, arith, ℕ, zero, suc, ◌+◌, ◌-◌, ◌*◌, Bool, true, false, true≢false, List, [], ◌∷◌, ◌++◌, length, map, take, drop, replicate, slice_get, append_assoc, length-append, Option, Some, None, option_map, if◌then◌else◌}
 use Rattle.std.specs.Prelude.{nat_le, nat_lt}
 use Rattle.c_lex.specs.declared.token.Place.{Place}
-use Rattle.c_expr.specs.Tree.{Tree}
-use Rattle.c_declaration.specs.InitialTree.{InitialTree, Value, Braces, Item}
+use Rattle.c_trees.specs.Expressions.{Tree}
+use Rattle.c_trees.specs.Initializers.{InitialTree, Value, Braces, Item}
 use Rattle.ldb_words.specs.declared.kinds.Kind.{Kind}
 use Rattle.c_tree.specs.declared.types.StructDef.{StructDef}
 use Rattle.c_tree.specs.declared.types.Member.{Member}

@@ -2,8 +2,8 @@
 use Rattle.std.proofs.Common.{◌≡◌, refl, sym, ap, ◌∙◌, subst, arith, ℕ, zero, suc, ◌+◌, List, [], ◌∷◌, ◌++◌, length, map, length-append, Some}
 use Rattle.std.specs.Prelude.{slice_get}
 use Rattle.std.proofs.lemmas.List.{map-append}
-use Rattle.c_expr.specs.Tree.{Tree}
-use Rattle.c_statement.specs.Tree.{StatementTree, Closed}
+use Rattle.c_trees.specs.Expressions.{Tree}
+use Rattle.c_trees.specs.Statements.{StatementTree, Closed}
 use Rattle.c_tree.specs.declared.typed.Stmt.{Stmt}
 use Rattle.c_tree.specs.declared.typed.Stmt.TheVariants as typed
 use Rattle.c_tree.specs.declared.rows.Program.{Program}

@@ -1,7 +1,7 @@
 -- The program that the checker gives is accepted.
 use Rattle.std.proofs.Common.{◌≡◌, ℕ, ◌+◌, List, length}
 use Rattle.std.specs.Prelude.{Ok}
-use Rattle.c_statement.specs.declared.unit.External.{External}
+use Rattle.c_trees.specs.declared.unit.External.{External}
 use Rattle.c_tree.specs.declared.rows.Program.{Program}
 use Rattle.c_typing.specs.Programs.{KeepsRules}
 use Rattle.c_file.specs.Programs.{tags_of}

@@ -2,12 +2,12 @@
 use Rattle.std.proofs.Common.{◌≡◌, ◌≤◌, ◌<◌, refl, sym, ap, ◌∙◌, subst, arith, ℕ, zero, suc, ◌+◌, Bool, true, false, not, ◌&&◌, ◌||◌, true≢false, List, [], ◌∷◌, ◌++◌, length, map, drop, Option, Some, None}
 use Rattle.std.specs.Prelude.{slice_get, if◌then◌else◌, ◌==◌, bytes_eq, codes}
 use Rattle.std.specs.List.{AllByRecursion}
-use Rattle.c_expr.specs.Tree.{Tree}
-use Rattle.c_declaration.specs.InitialTree.{InitialTree, Value, Braces, Item}
-use Rattle.c_declaration.specs.declared.tree.Declared.{Declared}
-use Rattle.c_statement.specs.Tree.{StatementTree, Empty, Evaluate, Begun, Declares, Also, Closed, If, IfElse, Headed, Do, Break, Continue, Return}
-use Rattle.c_statement.specs.declared.tree.Head.{Head}
-use Rattle.c_statement.specs.declared.tree.Head.TheVariants as head
+use Rattle.c_trees.specs.Expressions.{Tree}
+use Rattle.c_trees.specs.Initializers.{InitialTree, Value, Braces, Item}
+use Rattle.c_trees.specs.declared.declaration.Declared.{Declared}
+use Rattle.c_trees.specs.Statements.{StatementTree, Empty, Evaluate, Begun, Declares, Also, Closed, If, IfElse, Headed, Do, Break, Continue, Return}
+use Rattle.c_trees.specs.declared.statement.Head.{Head}
+use Rattle.c_trees.specs.declared.statement.Head.TheVariants as head
 use Rattle.c_tree.specs.declared.rows.Program.{Program}
 use Rattle.c_tree.specs.declared.rows.UnitRow.{UnitRow}
 use Rattle.c_tree.specs.declared.rows.Function.{Function as FunctionRow}

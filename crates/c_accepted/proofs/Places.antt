@@ -6,8 +6,8 @@ use Rattle.std.proofs.lemmas.Slice.Eq.{bytes_eq-Decides}
 use Rattle.c_symbol.specs.declared.symbol.LeafKind.TheVariants as leaf
 use Rattle.c_symbol.specs.declared.symbol.PrefixOp.TheVariants.{Address}
 use Rattle.c_symbol.specs.declared.symbol.BinaryOp.TheVariants.{Add}
-use Rattle.c_expr.specs.Tree.{Tree, Leaf, Index, Prefix, Binary}
-use Rattle.c_declaration.specs.InitialTree.{InitialTree, Value, Braces, Item}
+use Rattle.c_trees.specs.Expressions.{Tree, Leaf, Index, Prefix, Binary}
+use Rattle.c_trees.specs.Initializers.{InitialTree, Value, Braces, Item}
 use Rattle.c_tree.specs.declared.types.StructDef.{StructDef}
 use Rattle.c_tree.specs.declared.types.Member.{Member}
 use Rattle.c_tree.specs.Layout.{members_of}

@@ -2,15 +2,15 @@
 use Rattle.std.proofs.Common.{ℕ, Bool, List, [], ◌∷◌, ◌++◌, Option, Some}
 use Rattle.c_lex.specs.declared.token.Place.{Place}
 use Rattle.c_symbol.specs.declared.terminal.Terminal.{Terminal}
-use Rattle.c_expr.specs.Tree.{Tree}
+use Rattle.c_trees.specs.Expressions.{Tree}
 use Rattle.c_expr.specs.Grammar.{IsExpr}
-use Rattle.c_declaration.specs.InitialTree.{InitialTree}
-use Rattle.c_declaration.specs.declared.tree.Declared.{Declared}
-use Rattle.c_declaration.specs.declared.tree.Local.{Local}
+use Rattle.c_trees.specs.Initializers.{InitialTree}
+use Rattle.c_trees.specs.declared.declaration.Declared.{Declared}
+use Rattle.c_trees.specs.declared.declaration.Local.{Local}
 use Rattle.c_declaration.specs.Grammar as grammar
 use Rattle.c_declaration.specs.Grammar.{value, braces, braces_comma, first_item, next_item, IsDeclared, plain, with_initial, AreDeclared, one_name, more_names, IsLocal, local}
-use Rattle.c_statement.specs.Tree.{StatementTree}
-use Rattle.c_statement.specs.declared.tree.Head.{Head}
+use Rattle.c_trees.specs.Statements.{StatementTree}
+use Rattle.c_trees.specs.declared.statement.Head.{Head}
 use Rattle.c_statement.specs.declared.state.Control.{Control}
 use Rattle.c_statement.specs.Grammar as statement
 use Rattle.c_statement.specs.Grammar.{IsOptional, absent, present, IsControl, controlled, while_head, switch_head, for_head, case_head, default_head, opened, next_local, IsStatement, empty_statement, expression_statement, block, if_only, if_else, headed, do_while, break_statement, continue_statement, return_statement, IsElse, up_to_else, IsBlock, closed, IsBegun, only_declarations, next_statement}

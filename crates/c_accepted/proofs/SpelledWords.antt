@@ -5,7 +5,7 @@ use Rattle.c_lex.specs.declared.token.Place.{Place}
 use Rattle.c_symbol.specs.declared.terminal.Terminal.{Terminal}
 use Rattle.c_symbol.specs.declared.symbol.Symbol.{Symbol}
 use Rattle.c_symbol.specs.declared.symbol.Symbol.TheVariants as symbol
-use Rattle.c_expr.specs.Tree.{Tree}
+use Rattle.c_trees.specs.Expressions.{Tree}
 use Rattle.c_expr.specs.Grammar.{IsAbstract, stars, around, bounded, unbounded, IsExpr, leaf, paren, index, member, after, prefixed, sizeof_type, cast, binary, choice, call, call_with, IsCall, first_argument, next_argument}
 use Rattle.c_accepted.specs.Sources.{IsWord, AreWords}
 use Rattle.c_accepted.proofs.Runs.{all_first, all_second}

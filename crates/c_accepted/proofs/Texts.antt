@@ -6,14 +6,14 @@ use Rattle.c_lex.specs.declared.token.Token.{Token}
 use Rattle.c_lex.specs.Grammar.{Lexes}
 use Rattle.c_symbol.specs.declared.terminal.Terminal.{Terminal}
 use Rattle.c_symbol.specs.Terminals.{terminals}
-use Rattle.c_expr.specs.Tree.{Tree}
+use Rattle.c_trees.specs.Expressions.{Tree}
 use Rattle.c_expr.specs.Grammar.{IsExpr}
-use Rattle.c_declaration.specs.InitialTree.{InitialTree}
-use Rattle.c_declaration.specs.declared.tree.Declared.{Declared}
-use Rattle.c_declaration.specs.declared.tree.Head.{Head}
+use Rattle.c_trees.specs.Initializers.{InitialTree}
+use Rattle.c_trees.specs.declared.declaration.Declared.{Declared}
+use Rattle.c_trees.specs.declared.declaration.Head.{Head}
 use Rattle.c_declaration.specs.Grammar.{IsInitial, value, braces, braces_comma, first_item, next_item, IsFileDeclared, bare, with_value, AreFileDeclared, one_file_name, more_file_names, IsHead, only_spec, with_names}
 use Rattle.c_declaration.specs.Grammar as grammar
-use Rattle.c_statement.specs.declared.unit.External.{External}
+use Rattle.c_trees.specs.declared.unit.External.{External}
 use Rattle.c_mentions.specs.Literals.{Literal}
 use Rattle.c_syntax.specs.Grammar.{IsExternal, declaration, definition, IsUnit, first_external, next_external}
 use Rattle.c_accepted.specs.Sources.{AreApart, IsApart, AreWords, IsInitializer, AreItems, IsDeclared, IsText}

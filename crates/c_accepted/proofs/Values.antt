@@ -8,7 +8,7 @@ use Rattle.std.proofs.lemmas.Int.{of_z-to_z}
 use Rattle.ldb_words.specs.Word.{word_of_signed}
 use Rattle.ldb_words.specs.declared.kinds.Kind.TheVariants.{Byte, Word, Address}
 use Rattle.c_symbol.specs.declared.symbol.LeafKind.TheVariants as leaf
-use Rattle.c_expr.specs.Tree.{Tree, Leaf}
+use Rattle.c_trees.specs.Expressions.{Tree, Leaf}
 use Rattle.c_tree.specs.declared.rows.Program.{Program}
 use Rattle.c_operators.specs.Bits.{low_byte}
 use Rattle.c_typing.specs.Plain.{Plain, Char, Int, Unsigned, Void, Pointer, Array, Struct, same}

@@ -1,14 +1,14 @@
 -- The structs at each place of a program are sound, and stay so.
 use Rattle.std.proofs.Common.{◌≡◌, refl, sym, ap, ◌∙◌, subst, arith, ℕ, zero, suc, Bool, true, true≢false, List, [], ◌∷◌, ◌++◌, length, map, Option, Some, None}
 use Rattle.std.specs.Prelude.{slice_get}
-use Rattle.c_declaration.specs.Tree.{DeclaratorTree}
-use Rattle.c_declaration.specs.InitialTree.{InitialTree}
-use Rattle.c_declaration.specs.declared.tree.Declared.{Declared}
-use Rattle.c_declaration.specs.declared.tree.Storage.{Storage}
-use Rattle.c_expr.specs.declared.tree.Spec.{Spec}
-use Rattle.c_statement.specs.Tree.{StatementTree, Empty, Evaluate, Begun, Declares, Also, Closed, If, IfElse, Headed, Do, Break, Continue, Return}
-use Rattle.c_statement.specs.declared.unit.External.{External}
-use Rattle.c_statement.specs.declared.unit.External.TheVariants.{Declaration, Definition}
+use Rattle.c_trees.specs.Declarators.{DeclaratorTree}
+use Rattle.c_trees.specs.Initializers.{InitialTree}
+use Rattle.c_trees.specs.declared.declaration.Declared.{Declared}
+use Rattle.c_trees.specs.declared.declaration.Storage.{Storage}
+use Rattle.c_trees.specs.declared.expression.Spec.{Spec}
+use Rattle.c_trees.specs.Statements.{StatementTree, Empty, Evaluate, Begun, Declares, Also, Closed, If, IfElse, Headed, Do, Break, Continue, Return}
+use Rattle.c_trees.specs.declared.unit.External.{External}
+use Rattle.c_trees.specs.declared.unit.External.TheVariants.{Declaration, Definition}
 use Rattle.c_tree.specs.declared.types.StructDef.{StructDef}
 use Rattle.c_tree.specs.Layout.{members_of, members_in}
 use Rattle.c_typing.specs.Plain.{Plain, is_empty}

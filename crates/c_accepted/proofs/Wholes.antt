@@ -1,14 +1,14 @@
 -- Objects are defined with complete types.
 use Rattle.std.proofs.Common.{◌≡◌, refl, sym, ap, ◌∙◌, subst, ℕ, zero, suc, Bool, true, false, true≢false, List, [], ◌∷◌, ◌++◌, length, Option, Some, None, if◌then◌else◌}
 use Rattle.std.specs.List.{AllByRecursion}
-use Rattle.c_declaration.specs.Tree.{DeclaratorTree, begins}
-use Rattle.c_declaration.specs.InitialTree.{InitialTree, Value, Braces, Item}
-use Rattle.c_declaration.specs.declared.tree.Declared.{Declared}
-use Rattle.c_declaration.specs.declared.tree.Storage.{Storage}
-use Rattle.c_declaration.specs.declared.tree.Storage.TheVariants as storage
-use Rattle.c_statement.specs.Tree.{StatementTree}
-use Rattle.c_statement.specs.declared.unit.External.{External}
-use Rattle.c_statement.specs.declared.unit.External.TheVariants.{Declaration, Definition}
+use Rattle.c_trees.specs.Declarators.{DeclaratorTree, begins}
+use Rattle.c_trees.specs.Initializers.{InitialTree, Value, Braces, Item}
+use Rattle.c_trees.specs.declared.declaration.Declared.{Declared}
+use Rattle.c_trees.specs.declared.declaration.Storage.{Storage}
+use Rattle.c_trees.specs.declared.declaration.Storage.TheVariants as storage
+use Rattle.c_trees.specs.Statements.{StatementTree}
+use Rattle.c_trees.specs.declared.unit.External.{External}
+use Rattle.c_trees.specs.declared.unit.External.TheVariants.{Declaration, Definition}
 use Rattle.c_tree.specs.declared.types.StructDef.{StructDef}
 use Rattle.c_typing.specs.Plain.{Plain, Char, Int, Unsigned, Void, Pointer, Array, Struct, is_complete}
 use Rattle.c_typing.specs.Expressions as typing

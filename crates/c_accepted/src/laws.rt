@@ -1,6 +1,6 @@
 // What holds of expressions that the checker takes.
 ghost use Rattle.std.specs.Prelude.{◌≡◌};
-ghost use Rattle.c_expr.specs.Tree.{Tree};
+ghost use Rattle.c_trees.specs.Expressions.{Tree};
 ghost use Rattle.c_tree.specs.declared.typed.Typed.{Typed};
 ghost use Rattle.c_typing.specs.Constants as constants;
 ghost use Rattle.c_typing.specs.Expressions as typing;

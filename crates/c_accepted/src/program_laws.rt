@@ -1,6 +1,6 @@
 // What holds of the programs that the checker gives.
 ghost use Rattle.std.specs.Prelude.{◌≡◌, ℕ, List, length, Ok};
-ghost use Rattle.c_statement.specs.declared.unit.External.{External};
+ghost use Rattle.c_trees.specs.declared.unit.External.{External};
 ghost use Rattle.c_tree.specs.declared.rows.Program.{Program};
 ghost use Rattle.c_typing.specs.Programs.{KeepsRules};
 ghost use Rattle.c_check.specs.Faulty.{Checks};

@@ -5,7 +5,7 @@ ghost use Rattle.c_lex.specs.declared.token.Place.{Place};
 ghost use Rattle.c_lex.specs.declared.token.Token.{Token};
 ghost use Rattle.c_lex.specs.Grammar.{Lexes};
 ghost use Rattle.c_symbol.specs.Terminals.{terminals};
-ghost use Rattle.c_statement.specs.declared.unit.External.{External};
+ghost use Rattle.c_trees.specs.declared.unit.External.{External};
 ghost use Rattle.c_syntax.specs.Grammar.{IsUnit};
 ghost use Rattle.c_accepted.specs.Sources.{IsText};
 

@@ -2,8 +2,8 @@
 use Rattle.std.proofs.Common.{arith, ◌≡◌, ◌≤◌, ◌<◌, ◌+◌, ℕ, zero, suc, nat_eq, Bool, true, false, List, [], ◌∷◌, length, drop, slice_index_or, refl, sym, ap, ◌∙◌}
 use Rattle.std.proofs.Math.Seq.{drop-cons}
 use Rattle.c_lex.specs.declared.token.Place.{Place}
-use Rattle.c_declaration.specs.declared.tree.Local.{Local}
-use Rattle.c_statement.specs.Tree.{StatementTree, Begun, Declares, Also, Closed, with_locals, with_statements}
+use Rattle.c_trees.specs.declared.declaration.Local.{Local}
+use Rattle.c_trees.specs.Statements.{StatementTree, Begun, Declares, Also, Closed, with_locals, with_statements}
 use Rattle.c_body.specs.Bodies.{statement_at, is_plain_block}
 
 at_locals : (b : StatementTree) (ls : List Local) → statement_at (with_locals b ls) ≡ statement_at b

@@ -2,7 +2,7 @@
 use Rattle.std.proofs.Common.{arith, ◌≡◌, ℕ, zero, suc, Bool, true, false, List, [], ◌∷◌, ◌++◌, length, ◌∙◌, refl, ap, sym, Option, Some, None, option_map, slice_get, map, if◌then◌else◌}
 use Rattle.std.proofs.lemmas.List.{append-nil, append_assoc}
 use Rattle.c_lex.specs.declared.token.Place.{Place}
-use Rattle.c_expr.specs.Tree.{Tree, Call, With, Bounded, Unbounded, with_arguments, with_bounds}
+use Rattle.c_trees.specs.Expressions.{Tree, Call, With, Bounded, Unbounded, with_arguments, with_bounds}
 use Rattle.c_tree.specs.declared.types.CType.{CType}
 use Rattle.c_typing.specs.Plain.{Plain, plain}
 use Rattle.c_typing.specs.Expressions.{Object, Function}
@@ -11,8 +11,8 @@ use Rattle.c_scope.specs.declared.link.Link.{Link}
 use Rattle.c_scope.specs.Environment.{Environment, denoted_by}
 use Rattle.c_scope.specs.Table.{rows}
 use Rattle.c_body.specs.Calls.{called, called_declarator, called_items, of_all, of_part}
-use Rattle.c_declaration.specs.Tree.{DeclaratorTree, Function as Applied, Taking, with_parameters}
-use Rattle.c_declaration.specs.InitialTree.{InitialTree, Braces, Item, with_items}
+use Rattle.c_trees.specs.Declarators.{DeclaratorTree, Function as Applied, Taking, with_parameters}
+use Rattle.c_trees.specs.Initializers.{InitialTree, Braces, Item, with_items}
 use Rattle.c_body.specs.Passing.{is_callable}
 
 module _ (v : Environment) where

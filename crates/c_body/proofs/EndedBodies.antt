@@ -2,8 +2,8 @@
 use Rattle.std.proofs.Common.{arith, ◌≡◌, ℕ, suc, ◌+◌, List, [], ◌∷◌, ◌++◌, length, map, refl, sym, ap, ◌∙◌, subst, Option, Some, None, IsSome, Result, Ok, Err, OnOk, IfErr}
 use Rattle.ldb_words.specs.declared.text.Text.{Text}
 use Rattle.c_lex.specs.declared.token.Place.{Place}
-use Rattle.c_declaration.specs.declared.tree.Local.{Local}
-use Rattle.c_statement.specs.Tree.{StatementTree, Begun, Declares, Also, Closed, with_locals, with_statements}
+use Rattle.c_trees.specs.declared.declaration.Local.{Local}
+use Rattle.c_trees.specs.Statements.{StatementTree, Begun, Declares, Also, Closed, with_locals, with_statements}
 use Rattle.c_tree.specs.declared.typed.Stmt.{Stmt}
 use Rattle.c_typing.specs.Plain.{Plain}
 use Rattle.c_judge.specs.declared.fault.Fault.{Fault}

@@ -2,15 +2,15 @@
 use Rattle.std.proofs.Common.{◌≡◌, ℕ, List, [], ◌∷◌, ◌++◌, ◌∙◌, refl, ap, sym, subst, Some, Ok, Err}
 use Rattle.std.proofs.lemmas.List.{append-nil, append_assoc}
 use Rattle.c_lex.specs.declared.token.Place.{Place}
-use Rattle.c_declaration.specs.declared.tree.Local.{Local}
-use Rattle.c_statement.specs.Tree.{StatementTree, Begun, Declares, Also, with_locals, with_statements}
+use Rattle.c_trees.specs.declared.declaration.Local.{Local}
+use Rattle.c_trees.specs.Statements.{StatementTree, Begun, Declares, Also, with_locals, with_statements}
 use Rattle.c_scope.specs.Environment.{Environment}
 use Rattle.c_scope.specs.Findings.{nothing, asked}
 use Rattle.c_body.specs.Bodies.{Label, labels_before, labels_in, label_found, start_of, value_in}
 use Rattle.c_scope.specs.Spelling.{is_number}
 use Rattle.c_judge.specs.declared.fault.Fault.{Fault}
 use Rattle.c_judge.specs.declared.fault.Fault.TheVariants as fault
-use Rattle.c_expr.specs.Tree.{Tree}
+use Rattle.c_trees.specs.Expressions.{Tree}
 use Rattle.c_mentions.specs.Literals.{in_tree}
 use Rattle.c_body.specs.Calls.{called}
 use Rattle.c_body.specs.Becoming.{IsLabel}

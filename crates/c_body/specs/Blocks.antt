@@ -1,7 +1,7 @@
 -- Blocks as far as they are checked.
 use Rattle.std.specs.Prelude.{◌≡◌, List, [], ◌∷◌, ◌++◌, Vec, Option, Result, Ok, Err}
 use Rattle.std.specs.declared.alloc.Global.{Global}
-use Rattle.c_statement.specs.Tree.{StatementTree, Begun, Closed, with_locals, with_statements}
+use Rattle.c_trees.specs.Statements.{StatementTree, Begun, Closed, with_locals, with_statements}
 use Rattle.c_tree.specs.declared.typed.Site.{Site}
 use Rattle.c_tree.specs.declared.typed.Stmt.{Stmt}
 use Rattle.c_tree.specs.declared.typed.DeclaredLocal.{DeclaredLocal}

@@ -2,7 +2,7 @@
 use Rattle.std.specs.Prelude.{◌≡◌, ℕ, Bool, Option, Some, None, Result, Ok, Err}
 use Rattle.std.specs.BTreeSet.{contains}
 use Rattle.std.specs.Ordering.{nat_cmp}
-use Rattle.c_expr.specs.Tree.{Tree}
+use Rattle.c_trees.specs.Expressions.{Tree}
 use Rattle.c_typing.specs.declared.constant.Constant.{Constant}
 use Rattle.c_typing.specs.declared.constant.Constant.TheVariants.{Number}
 use Rattle.c_judge.specs.declared.fault.Fault.{Fault}

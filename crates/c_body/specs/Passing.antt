@@ -1,6 +1,6 @@
 -- How a walk passes an expression, before anything is asked of it.
 use Rattle.std.specs.Prelude.{◌≡◌, ℕ, Bool, true, false, List, [], ◌∷◌, ◌++◌, Option, Some, None, Result, Ok, Err}
-use Rattle.c_expr.specs.Tree.{Tree}
+use Rattle.c_trees.specs.Expressions.{Tree}
 use Rattle.c_typing.specs.Expressions.{Denoted, Function}
 use Rattle.c_judge.specs.declared.part.Part.{Part}
 use Rattle.c_judge.specs.declared.fault.Fault.{Fault}

@@ -1,8 +1,8 @@
 -- How a walk passes the declaration of a local.
 use Rattle.std.specs.Prelude.{◌≡◌, ℕ, Bool, true, false, List, [], ◌∷◌, ◌++◌, Option, Some, None, Result, Ok, Err}
-use Rattle.c_expr.specs.declared.tree.Spec.{Spec}
-use Rattle.c_declaration.specs.declared.tree.Declared.{Declared}
-use Rattle.c_declaration.specs.declared.tree.Local.{Local}
+use Rattle.c_trees.specs.declared.expression.Spec.{Spec}
+use Rattle.c_trees.specs.declared.declaration.Declared.{Declared}
+use Rattle.c_trees.specs.declared.declaration.Local.{Local}
 use Rattle.c_tree.specs.declared.typed.DeclaredLocal.{DeclaredLocal}
 use Rattle.c_tree.specs.declared.types.CType.{CType}
 use Rattle.c_typing.specs.Plain.{plain}

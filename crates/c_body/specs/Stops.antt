@@ -1,14 +1,14 @@
 -- The stopping points of a function's body, in the order of the source: each stands at a token, and has the innermost name in scope there.
 use Rattle.std.specs.Prelude.{ℕ, List, [], ◌∷◌, ◌++◌, Option, Some, None}
 use Rattle.c_lex.specs.declared.token.Place.{Place}
-use Rattle.c_expr.specs.Tree.{Tree}
-use Rattle.c_declaration.specs.Tree.{begins}
-use Rattle.c_declaration.specs.InitialTree.{InitialTree}
-use Rattle.c_declaration.specs.declared.tree.Declared.{Declared}
-use Rattle.c_declaration.specs.declared.tree.Local.{Local}
-use Rattle.c_statement.specs.Tree.{StatementTree, Empty, Evaluate, Begun, Declares, Also, Closed, If, IfElse, Headed, Do, Break, Continue, Return}
-use Rattle.c_statement.specs.declared.tree.Head.{Head}
-use Rattle.c_statement.specs.declared.tree.Head.TheVariants as head
+use Rattle.c_trees.specs.Expressions.{Tree}
+use Rattle.c_trees.specs.Declarators.{begins}
+use Rattle.c_trees.specs.Initializers.{InitialTree}
+use Rattle.c_trees.specs.declared.declaration.Declared.{Declared}
+use Rattle.c_trees.specs.declared.declaration.Local.{Local}
+use Rattle.c_trees.specs.Statements.{StatementTree, Empty, Evaluate, Begun, Declares, Also, Closed, If, IfElse, Headed, Do, Break, Continue, Return}
+use Rattle.c_trees.specs.declared.statement.Head.{Head}
+use Rattle.c_trees.specs.declared.statement.Head.TheVariants as head
 use Rattle.c_judge.specs.Places.{place_of}
 use Rattle.c_scope.specs.Environment.{Environment, enter, innermost}
 use Rattle.c_body.specs.Locals.{after_local}

@@ -1,7 +1,7 @@
 -- What the code's walks and bodies are.
 use Rattle.std.specs.Prelude.{◌≡◌, ℕ, suc, List, map, Option, Some, None, Result, Ok, Err}
 use Rattle.ldb_words.specs.declared.text.Text.{Text}
-use Rattle.c_statement.specs.Tree.{StatementTree}
+use Rattle.c_trees.specs.Statements.{StatementTree}
 use Rattle.c_tree.specs.declared.typed.Stmt.{Stmt}
 use Rattle.c_typing.specs.Plain.{Plain}
 use Rattle.c_judge.specs.declared.fault.Fault.{Fault}

@@ -1,7 +1,7 @@
 // Blocks.
 ghost use Rattle.std.specs.Prelude.{[], ◌∷◌, ◌++◌, ◌≡◌, true};
-ghost use Rattle.c_statement.specs.Tree as tree;
-ghost use Rattle.c_statement.specs.Tree.{Begun};
+ghost use Rattle.c_trees.specs.Statements as tree;
+ghost use Rattle.c_trees.specs.Statements.{Begun};
 ghost use Rattle.c_typing.specs.Plain.{Plain};
 ghost use Rattle.c_judge.specs.Elaboration.{site_of};
 ghost use Rattle.c_body.specs.Bodies.{Around as Surroundings, is_plain_block, statement_at};
@@ -13,11 +13,11 @@ ghost use Rattle.c_body.specs.Walking.{walk_of};
 use crate::locals::at_locals;
 use crate::making::with_next;
 use crate::walk::Walk;
-use c_declaration::Local;
 use c_judge::{Fault, place_of};
 use c_lex::Place;
-use c_statement::{Statement, StatementNode};
 use c_tree::{DeclaredLocal, Stmt};
+use c_trees::declaration::Local;
+use c_trees::statement::{Statement, StatementNode};
 use std::alloc::Global;
 
 /// What stands in a block, in order: the locals that it declares, and its statements.

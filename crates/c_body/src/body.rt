@@ -15,8 +15,8 @@ use crate::walk::{Counts, Stop, Walk};
 use c_judge::Fault;
 use c_lex::Place;
 use c_scope::Environment;
-use c_statement::Statement;
 use c_tree::{CType, Stmt};
+use c_trees::statement::Statement;
 use ldb_words::Text;
 use std::alloc::Global;
 

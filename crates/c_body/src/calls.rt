@@ -6,9 +6,9 @@ ghost use Rattle.c_scope.specs.Here.{environment_of};
 ghost use Rattle.c_body.specs.Passing.{is_callable};
 ghost use Rattle.c_mentions.specs.Tags.{now};
 
-use c_expr::{Abstract, Expr, Node, TypeName};
 use c_scope::Environment;
 use c_symbol::LeafKind;
+use c_trees::expression::{Abstract, Expr, Node, TypeName};
 use ldb_words::Text;
 use std::alloc::AllocError;
 

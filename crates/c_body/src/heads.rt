@@ -1,8 +1,8 @@
 // What stands before the statement of a loop, a `switch` or a label.
 ghost use Rattle.std.specs.Prelude.{[], ◌≡◌, option_map};
 ghost use Rattle.c_typing.specs.Plain.{Plain};
-ghost use Rattle.c_statement.specs.Tree.{StatementTree};
-ghost use Rattle.c_statement.specs.declared.tree.Head.TheVariants as head;
+ghost use Rattle.c_trees.specs.Statements.{StatementTree};
+ghost use Rattle.c_trees.specs.declared.statement.Head.TheVariants as head;
 ghost use Rattle.c_judge.specs.Elaboration.{site_of};
 ghost use Rattle.c_body.specs.declared.heads.CheckedHead.TheVariants as checked;
 ghost use Rattle.c_body.specs.Bodies.{Around as Surroundings, differ, is_plain_block, labels_in, statement_at};
@@ -18,12 +18,12 @@ use crate::blocks::{is_plain_block, statement_at};
 use crate::making::{kept, site_of, with_next};
 use crate::parts::{at_label, at_part_stop, at_stop, labels_differ};
 use crate::walk::{Asking, Walk};
-use c_expr::Expr;
 use c_judge::Fault;
 use c_lex::Place;
 use c_scope::Environment;
-use c_statement::Statement;
 use c_tree::{Pointed, Site};
+use c_trees::expression::Expr;
+use c_trees::statement::Statement;
 use std::alloc::Global;
 
 /// What stands before the statement of a loop, a `switch` or a label, once it is checked.

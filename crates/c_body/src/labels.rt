@@ -7,10 +7,10 @@ ghost use Rattle.c_scope.specs.Here.{environment_of};
 ghost use Rattle.c_body.specs.Labels.{label_of, is_seen, IsConstant, IsLabelValue};
 ghost use Rattle.c_body.specs.Calls.{of_all};
 
-use c_expr::Expr;
 use c_judge::{Constant, Fault, place_of};
 use c_scope::{Environment, judged_in};
-use c_statement::{Statement, StatementNode};
+use c_trees::expression::Expr;
+use c_trees::statement::{Statement, StatementNode};
 use std::alloc::{AllocError, Global};
 use std::collections::BTreeSet;
 

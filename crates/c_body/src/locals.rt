@@ -1,6 +1,6 @@
 // The declarations of a block: the type of each local, its name and its initializer.
 ghost use Rattle.std.specs.Prelude.{◌≡◌, ◌&&◌, ◌++◌, [], ◌∷◌, IfOk, option_map, Some, OnOk, map};
-ghost use Rattle.c_declaration.specs.InitialTree.{Value};
+ghost use Rattle.c_trees.specs.Initializers.{Value};
 ghost use Rattle.c_typing.specs.Plain.{plain, is_scalar};
 ghost use Rattle.c_typing.specs.Expressions.{Object};
 ghost use Rattle.c_typing.specs.Rules as rule;
@@ -25,13 +25,13 @@ use crate::parts::pointed;
 use crate::passing::{at_expression, point, push_texts};
 use crate::uses::called_in_declarator;
 use crate::walk::Walk;
-use c_declaration::{Declarator, Declared, Initial, InitialNode, Local};
-use c_expr::{Expr, Spec};
 use c_judge::{Fault, Part, converts, copied, is_complete, place_of};
 use c_lex::Place;
 use c_mentions::in_declarator;
 use c_scope::{Environment, Shape, declarator_place, name_in, named_type, shape};
 use c_tree::{CType, DeclaredLocal, Pointed};
+use c_trees::declaration::{Declarator, Declared, Initial, InitialNode, Local};
+use c_trees::expression::{Expr, Spec};
 use ldb_words::Text;
 use std::alloc::{AllocError, Global};
 

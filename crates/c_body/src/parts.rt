@@ -5,7 +5,7 @@ ghost use Rattle.c_judge.specs.Judges.{Gives};
 ghost use Rattle.c_judge.specs.Elaboration.{site_of};
 ghost use Rattle.c_judge.specs.Parts.{judged_of};
 ghost use Rattle.c_scope.specs.Findings.{fine};
-ghost use Rattle.c_statement.specs.Tree as tree;
+ghost use Rattle.c_trees.specs.Statements as tree;
 ghost use Rattle.c_scope.specs.Here.{environment_of};
 ghost use Rattle.c_mentions.specs.Literals.{in_tree, in_part};
 ghost use Rattle.c_body.specs.Bodies.{part, returned, start_of, label_found, labels_in, differ};
@@ -19,12 +19,12 @@ ghost use Rattle.c_body.specs.Walking.{walk_of};
 use crate::labels::{differ, label_value, labels_in};
 use crate::passing::{at_expression, gathered, point};
 use crate::walk::{Asking, Walk};
-use c_expr::Expr;
 use c_judge::{Fault, Part, converts, is_integer, is_scalar, is_void, may_drop, place_of, type_of};
 use c_lex::Place;
 use c_scope::Environment;
-use c_statement::Statement;
 use c_tree::{CType, Pointed, Site, Stmt};
+use c_trees::expression::Expr;
+use c_trees::statement::Statement;
 use std::alloc::Global;
 
 /// Whether an expression is what it is asked.

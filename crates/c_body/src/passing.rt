@@ -14,11 +14,11 @@ ghost use Rattle.c_body.specs.Walking.{walk_of};
 
 use crate::calls::called;
 use crate::walk::{Stop, Walk};
-use c_expr::Expr;
 use c_judge::{Fault, Part, judge};
 use c_lex::Place;
 use c_mentions::{Literal, in_tree, literal_numbers};
 use c_scope::Environment;
+use c_trees::expression::Expr;
 use ldb_words::Text;
 use std::alloc::{AllocError, Global};
 

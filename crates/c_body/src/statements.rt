@@ -1,7 +1,7 @@
 // Statements, each in its own form. The walk goes as deep as they are nested.
 ghost use Rattle.std.specs.Prelude.{◌≡◌, IfOk};
-ghost use Rattle.c_statement.specs.Tree as tree;
-ghost use Rattle.c_statement.specs.declared.tree.Head.{Head};
+ghost use Rattle.c_trees.specs.Statements as tree;
+ghost use Rattle.c_trees.specs.declared.statement.Head.{Head};
 ghost use Rattle.c_typing.specs.Plain.{Plain, plain};
 ghost use Rattle.c_judge.specs.Elaboration.{site_of};
 ghost use Rattle.c_body.specs.Bodies as bodies;
@@ -19,11 +19,11 @@ use crate::making::{
 };
 use crate::parts::{at_return, at_stop};
 use crate::walk::{Asking, Walk};
-use c_expr::Expr;
 use c_judge::{Fault, place_of};
 use c_lex::Place;
-use c_statement::{Statement, StatementNode};
 use c_tree::{CType, Stmt};
+use c_trees::expression::Expr;
+use c_trees::statement::{Statement, StatementNode};
 use std::alloc::Global;
 
 /// Checks a statement of a function with this result, and answers the first rule that is broken in it. There is no statement where a name in it is

@@ -5,11 +5,11 @@ ghost use Rattle.c_scope.specs.Here.{environment_of};
 ghost use Rattle.c_mentions.specs.Tags.{now};
 
 use crate::calls::{called, called_abstract, called_part};
-use c_declaration::{
+use c_scope::Environment;
+use c_trees::declaration::{
     Declarator, DeclaratorNode, FileSpec, Initial, InitialNode, MemberPart, Parameter,
     ParameterNode,
 };
-use c_scope::Environment;
 use ldb_words::Text;
 use std::alloc::AllocError;
 

@@ -1,7 +1,7 @@
 -- What is told of a program is its first fault, and its rows are those of a program without faults.
 use Rattle.std.proofs.Common.{◌≡◌, ℕ, suc, Bool, true, false, List, [], ◌∷◌, map, length, ◌∙◌, sym, refl, ap, subst, Option, Some, None, Result, Ok, Err, if◌then◌else◌}
-use Rattle.c_statement.specs.declared.unit.External.{External}
-use Rattle.c_statement.specs.declared.unit.Unit.{Unit as File}
+use Rattle.c_trees.specs.declared.unit.External.{External}
+use Rattle.c_trees.specs.declared.unit.Unit.{Unit as File}
 use Rattle.c_tree.specs.declared.rows.Program.{Program}
 use Rattle.c_file.specs.declared.state.State.{State as Standing}
 use Rattle.c_file.specs.declared.state.FileFault.{FileFault}

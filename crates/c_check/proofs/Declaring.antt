@@ -4,16 +4,16 @@ use Rattle.std.specs.Prelude.{codes, ◌+◌}
 use Rattle.c_symbol.specs.declared.symbol.LeafKind.TheVariants as leaf
 use Rattle.c_symbol.specs.declared.symbol.PrefixOp.TheVariants as prefix
 use Rattle.c_symbol.specs.declared.symbol.BinaryOp.TheVariants as binary
-use Rattle.c_expr.specs.declared.tree.Spec.TheVariants as spec
-use Rattle.c_expr.specs.Tree.{Tree, Leaf, Prefix, Binary}
-use Rattle.c_declaration.specs.Tree.{DeclaratorTree, Name, Pointers, Array, Function, Taking, Named as Taken}
-use Rattle.c_declaration.specs.declared.tree.FileSpec.TheVariants.{Named}
-use Rattle.c_declaration.specs.declared.tree.Storage.TheVariants as storage
-use Rattle.c_declaration.specs.InitialTree.{InitialTree, Value, Braces, Item}
-use Rattle.c_statement.specs.Tree.{Empty, Begun, Declares, Also, Closed, Headed, Return}
-use Rattle.c_statement.specs.declared.tree.Head.TheVariants as head
-use Rattle.c_statement.specs.declared.unit.External.{External}
-use Rattle.c_statement.specs.declared.unit.External.TheVariants.{Declaration, Definition}
+use Rattle.c_trees.specs.declared.expression.Spec.TheVariants as spec
+use Rattle.c_trees.specs.Expressions.{Tree, Leaf, Prefix, Binary}
+use Rattle.c_trees.specs.Declarators.{DeclaratorTree, Name, Pointers, Array, Function, Taking, Named as Taken}
+use Rattle.c_trees.specs.declared.declaration.FileSpec.TheVariants.{Named}
+use Rattle.c_trees.specs.declared.declaration.Storage.TheVariants as storage
+use Rattle.c_trees.specs.Initializers.{InitialTree, Value, Braces, Item}
+use Rattle.c_trees.specs.Statements.{Empty, Begun, Declares, Also, Closed, Headed, Return}
+use Rattle.c_trees.specs.declared.statement.Head.TheVariants as head
+use Rattle.c_trees.specs.declared.unit.External.{External}
+use Rattle.c_trees.specs.declared.unit.External.TheVariants.{Declaration, Definition}
 use Rattle.c_defs.specs.Depths.{deepest}
 use Rattle.c_file.specs.Programs.{Rule, Faults, AllFiles, Well, at_first, tags_of}
 use Rattle.c_file.specs.Files.{State}

@@ -6,14 +6,14 @@ use Rattle.c_symbol.specs.declared.symbol.LeafKind.TheVariants as leaf
 use Rattle.c_symbol.specs.declared.symbol.PrefixOp.TheVariants as prefix
 use Rattle.c_symbol.specs.declared.symbol.AssignOp.TheVariants as assign
 use Rattle.c_symbol.specs.declared.symbol.BinaryOp.TheVariants as binary
-use Rattle.c_expr.specs.declared.tree.Spec.TheVariants as spec
-use Rattle.c_expr.specs.Tree.{Leaf, Call, Prefix, Binary}
-use Rattle.c_declaration.specs.Tree.{Name, Function}
-use Rattle.c_declaration.specs.declared.tree.FileSpec.TheVariants.{Named}
-use Rattle.c_declaration.specs.declared.tree.Storage.TheVariants as storage
-use Rattle.c_statement.specs.Tree.{StatementTree, Evaluate, Begun, Also, Closed, Return}
-use Rattle.c_statement.specs.declared.unit.External.{External}
-use Rattle.c_statement.specs.declared.unit.External.TheVariants.{Declaration, Definition}
+use Rattle.c_trees.specs.declared.expression.Spec.TheVariants as spec
+use Rattle.c_trees.specs.Expressions.{Leaf, Call, Prefix, Binary}
+use Rattle.c_trees.specs.Declarators.{Name, Function}
+use Rattle.c_trees.specs.declared.declaration.FileSpec.TheVariants.{Named}
+use Rattle.c_trees.specs.declared.declaration.Storage.TheVariants as storage
+use Rattle.c_trees.specs.Statements.{StatementTree, Evaluate, Begun, Also, Closed, Return}
+use Rattle.c_trees.specs.declared.unit.External.{External}
+use Rattle.c_trees.specs.declared.unit.External.TheVariants.{Declaration, Definition}
 use Rattle.c_defs.specs.Depths.{deepest}
 use Rattle.c_file.specs.Programs.{Rule, Twice, Undefined, NoMain, Faults}
 

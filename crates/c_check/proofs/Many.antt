@@ -1,9 +1,9 @@
 -- Where functions have more than 16 parameters.
 use Rattle.std.proofs.Common.{◌≡◌, ◌+◌, ◌≤◌, ℕ, suc, Bool, true, false, ◌||◌, nat_lt, length, List, [], ◌∷◌, ◌∙◌, refl, ap, sym, arith}
 use Rattle.c_lex.specs.declared.token.Place.{Place}
-use Rattle.c_declaration.specs.declared.tree.Local.{Local}
-use Rattle.c_declaration.specs.Tree.{DeclaratorTree, Function, Taking, with_parameters}
-use Rattle.c_statement.specs.Tree.{StatementTree, Begun, Declares, Also, with_locals, with_statements}
+use Rattle.c_trees.specs.declared.declaration.Local.{Local}
+use Rattle.c_trees.specs.Declarators.{DeclaratorTree, Function, Taking, with_parameters}
+use Rattle.c_trees.specs.Statements.{StatementTree, Begun, Declares, Also, with_locals, with_statements}
 use Rattle.c_file.specs.Programs.{any, takes_many, parameters_of, many_below, many_in_local}
 
 or_assoc : (a b c : Bool) → ((a || b) || c) ≡ (a || (b || c))

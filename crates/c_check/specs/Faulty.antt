@@ -1,6 +1,6 @@
 -- What the code answers of the faults of a program.
 use Rattle.std.specs.Prelude.{◌≡◌, ◌<◌, ℕ, false, List, Option, Some, None, Result, Ok, Err}
-use Rattle.c_statement.specs.declared.unit.External.{External}
+use Rattle.c_trees.specs.declared.unit.External.{External}
 use Rattle.c_tree.specs.declared.rows.Program.{Program}
 use Rattle.c_file.specs.declared.state.State.{State as Standing}
 use Rattle.c_check.specs.declared.faults.CheckFault.{CheckFault}

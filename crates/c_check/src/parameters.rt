@@ -2,10 +2,11 @@
 ghost use Rattle.std.specs.Prelude.{◌≡◌};
 ghost use Rattle.c_file.specs.Programs.{any, takes_many, many_in, many_in_local, many_below, many_in_part, many_in_spec, many};
 
-use c_declaration::{
+use c_trees::declaration::{
     Declarator, DeclaratorNode, Declared, FileSpec, Local, MemberPart, Parameter, ParameterNode,
 };
-use c_statement::{External, Statement, StatementNode};
+use c_trees::statement::{Statement, StatementNode};
+use c_trees::unit::External;
 
 /// The greatest number of parameters of a function.
 const MOST: usize = 16;

@@ -8,8 +8,8 @@ use crate::faults::{CheckFault, fault_behind};
 use crate::parameters::any_many;
 use crate::tables::{Tables, rows_of};
 use c_file::{FileFault, State, all_files};
-use c_statement::Unit;
 use c_tree::Program;
+use c_trees::unit::Unit;
 use ldb_words::{Many, Text};
 use std::alloc::Global;
 

@@ -14,8 +14,8 @@ use Rattle.c_symbol.specs.declared.symbol.Symbol.TheVariants.{Leaf, Word, Binary
 use Rattle.c_expr.specs.First.{first}
 use Rattle.c_expr.specs.Machine.{start}
 use Rattle.c_expr.specs.Inside.{offer}
-use Rattle.c_expr.specs.Tree.{Tree}
-use Rattle.c_expr.specs.Tree as expr
+use Rattle.c_trees.specs.Expressions.{Tree}
+use Rattle.c_trees.specs.Expressions as expr
 use Rattle.c_expr.specs.Grown as expr_grown
 use Rattle.c_expr.specs.Grammar.{AreStars, no_star, star, spec_of, stars_height, is_nothing, IsSpec, one_word, unsigned_int, tagged, IsExpr, IsAbstract}
 use Rattle.c_expr.specs.Grammar as abstract
@@ -24,10 +24,10 @@ use Rattle.c_expr.specs.declared.inside.Offered.{Offered}
 use Rattle.c_expr.specs.declared.inside.Offered.TheVariants as offered
 use Rattle.c_expr.specs.declared.state.Parser.{Parser}
 use Rattle.c_expr.specs.declared.grown.Grown.{Grown}
-use Rattle.c_expr.specs.declared.tree.Spec.{Spec}
-use Rattle.c_expr.specs.declared.tree.Spec.TheVariants.{Unsigned, UnsignedInt, Void, Struct}
-use Rattle.c_declaration.specs.Tree.{DeclaratorTree, begins}
-use Rattle.c_declaration.specs.Tree as tree
+use Rattle.c_trees.specs.declared.expression.Spec.{Spec}
+use Rattle.c_trees.specs.declared.expression.Spec.TheVariants.{Unsigned, UnsignedInt, Void, Struct}
+use Rattle.c_trees.specs.Declarators.{DeclaratorTree, begins}
+use Rattle.c_trees.specs.Declarators as tree
 use Rattle.c_declaration.specs.declared.built.Built.{Built}
 use Rattle.c_declaration.specs.declared.front.Stars.{Stars}
 use Rattle.c_declaration.specs.declared.state.Taking.{Taking}

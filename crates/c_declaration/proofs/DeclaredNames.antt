@@ -12,10 +12,10 @@ use Rattle.c_symbol.specs.declared.symbol.Symbol.{Symbol}
 use Rattle.c_symbol.specs.declared.symbol.Symbol.TheVariants.{Leaf, Word, Binary, OpenParen, OpenBracket, OpenBrace, Semicolon}
 use Rattle.c_expr.specs.declared.frame.Least.TheVariants.{Assignment}
 use Rattle.c_expr.specs.Inside.{closes}
-use Rattle.c_declaration.specs.Tree.{DeclaratorTree}
-use Rattle.c_declaration.specs.InitialTree.{InitialTree}
+use Rattle.c_trees.specs.Declarators.{DeclaratorTree}
+use Rattle.c_trees.specs.Initializers.{InitialTree}
 use Rattle.c_declaration.specs.declared.built.Built.{Built}
-use Rattle.c_declaration.specs.declared.tree.Declared.{Declared}
+use Rattle.c_trees.specs.declared.declaration.Declared.{Declared}
 use Rattle.c_declaration.specs.declared.state.DeclaratorParser.{DeclaratorParser}
 use Rattle.c_declaration.specs.declared.state.InitialParser.{InitialParser}
 use Rattle.c_declaration.specs.declared.state.Mode.TheVariants.{Front, Direct}

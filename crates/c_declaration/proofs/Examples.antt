@@ -9,16 +9,16 @@ use Rattle.c_symbol.specs.declared.symbol.BinaryOp.TheVariants.{Comma, Assign, M
 use Rattle.c_symbol.specs.declared.symbol.TypeWord.TheVariants as a_word
 use Rattle.c_symbol.specs.declared.symbol.Symbol.{Symbol}
 use Rattle.c_symbol.specs.declared.symbol.Symbol.TheVariants.{Leaf, Word, Binary, Struct as StructWord, OpenParen, CloseParen, OpenBracket, CloseBracket, OpenBrace, CloseBrace, Semicolon}
-use Rattle.c_expr.specs.declared.tree.Spec.TheVariants.{Int, Char, Void}
+use Rattle.c_trees.specs.declared.expression.Spec.TheVariants.{Int, Char, Void}
 use Rattle.c_expr.specs.Grammar.{no_star, star, one_word}
 use Rattle.c_expr.specs.Grammar as expr
-use Rattle.c_declaration.specs.Tree as tree
-use Rattle.c_declaration.specs.Tree.{DeclaratorTree}
-use Rattle.c_declaration.specs.declared.tree.Local.{Local}
-use Rattle.c_declaration.specs.declared.tree.Head.{Head}
-use Rattle.c_declaration.specs.declared.tree.FileSpec.TheVariants as file_spec
-use Rattle.c_declaration.specs.declared.tree.MemberPart.TheVariants.{Opens, Row, Closes}
-use Rattle.c_declaration.specs.declared.tree.Storage.TheVariants as storage
+use Rattle.c_trees.specs.Declarators as tree
+use Rattle.c_trees.specs.Declarators.{DeclaratorTree}
+use Rattle.c_trees.specs.declared.declaration.Local.{Local}
+use Rattle.c_trees.specs.declared.declaration.Head.{Head}
+use Rattle.c_trees.specs.declared.declaration.FileSpec.TheVariants as file_spec
+use Rattle.c_trees.specs.declared.declaration.MemberPart.TheVariants.{Opens, Row, Closes}
+use Rattle.c_trees.specs.declared.declaration.Storage.TheVariants as storage
 use Rattle.c_declaration.specs.declared.state.ReadHead.TheVariants.{Declaration, Function}
 use Rattle.c_declaration.specs.declared.step.Step.TheVariants.{Goes, Ends}
 use Rattle.c_declaration.specs.Grammar.{IsDirect, IsDeclarator, IsLocal, unmarked, name, void_parameters, direct, pointers, plain, one_name, local}

@@ -3,7 +3,7 @@ use Rattle.std.proofs.Common.{◌≡◌, ℕ, Bool, true, false, List, [], ◌�
 use Rattle.std.proofs.lemmas.List.{append_cancel_right}
 use Rattle.c_lex.specs.declared.token.Place.{Place}
 use Rattle.c_symbol.specs.declared.terminal.Terminal.{Terminal}
-use Rattle.c_expr.specs.Tree.{Tree}
+use Rattle.c_trees.specs.Expressions.{Tree}
 use Rattle.c_expr.specs.Grammar.{IsExpr}
 use Rattle.c_expr.specs.Grown as expr
 use Rattle.c_expr.specs.Frames.{least_of}

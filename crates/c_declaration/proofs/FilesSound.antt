@@ -10,16 +10,16 @@ use Rattle.c_symbol.specs.declared.symbol.TypeWord.TheVariants as a_word
 use Rattle.c_symbol.specs.declared.symbol.Symbol.{Symbol}
 use Rattle.c_symbol.specs.declared.symbol.Symbol.TheVariants.{Leaf, Word, Binary, Keyword, Struct as StructWord, OpenBrace, CloseBrace, Semicolon}
 use Rattle.c_expr.specs.Grammar.{spec_of, IsSpec, one_word, tagged}
-use Rattle.c_expr.specs.declared.tree.Spec.{Spec}
-use Rattle.c_expr.specs.declared.tree.Spec.TheVariants.{Unsigned, Struct}
-use Rattle.c_declaration.specs.Tree.{DeclaratorTree}
+use Rattle.c_trees.specs.declared.expression.Spec.{Spec}
+use Rattle.c_trees.specs.declared.expression.Spec.TheVariants.{Unsigned, Struct}
+use Rattle.c_trees.specs.Declarators.{DeclaratorTree}
 use Rattle.c_declaration.specs.declared.built.Built.{Built}
-use Rattle.c_declaration.specs.declared.tree.Declared.{Declared}
-use Rattle.c_declaration.specs.declared.tree.Storage.{Storage}
-use Rattle.c_declaration.specs.declared.tree.Storage.TheVariants.{Plain, Extern, Static}
-use Rattle.c_declaration.specs.declared.tree.FileSpec.{FileSpec}
-use Rattle.c_declaration.specs.declared.tree.FileSpec.TheVariants as file_spec
-use Rattle.c_declaration.specs.declared.tree.MemberPart.{MemberPart}
+use Rattle.c_trees.specs.declared.declaration.Declared.{Declared}
+use Rattle.c_trees.specs.declared.declaration.Storage.{Storage}
+use Rattle.c_trees.specs.declared.declaration.Storage.TheVariants.{Plain, Extern, Static}
+use Rattle.c_trees.specs.declared.declaration.FileSpec.{FileSpec}
+use Rattle.c_trees.specs.declared.declaration.FileSpec.TheVariants as file_spec
+use Rattle.c_trees.specs.declared.declaration.MemberPart.{MemberPart}
 use Rattle.c_declaration.specs.declared.state.NameParser.{NameParser}
 use Rattle.c_declaration.specs.declared.state.ReadName.{ReadName}
 use Rattle.c_declaration.specs.declared.state.ReadName.TheVariants.{Bare, With}

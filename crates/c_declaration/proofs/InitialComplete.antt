@@ -9,14 +9,14 @@ use Rattle.c_symbol.specs.declared.symbol.Symbol.TheVariants.{Binary, OpenBrace,
 use Rattle.c_expr.specs.First.{first}
 use Rattle.c_expr.specs.Machine.{start}
 use Rattle.c_expr.specs.Inside.{closes, offer}
-use Rattle.c_expr.specs.Tree.{Tree}
+use Rattle.c_trees.specs.Expressions.{Tree}
 use Rattle.c_expr.specs.Grammar.{IsExpr}
 use Rattle.c_expr.specs.declared.frame.Least.TheVariants.{Assignment}
 use Rattle.c_expr.specs.declared.inside.Offered.{Offered}
 use Rattle.c_expr.specs.declared.inside.Offered.TheVariants as offered
 use Rattle.c_expr.specs.declared.state.Parser.{Parser}
 use Rattle.c_expr.specs.declared.grown.Grown.{Grown}
-use Rattle.c_declaration.specs.InitialTree.{InitialTree, Value, Braces, Item}
+use Rattle.c_trees.specs.Initializers.{InitialTree, Value, Braces, Item}
 use Rattle.c_declaration.specs.declared.built.Built.{Built}
 use Rattle.c_declaration.specs.declared.state.OpenBraces.{OpenBraces}
 use Rattle.c_declaration.specs.declared.state.InitialMode.{InitialMode}

@@ -14,7 +14,7 @@ use Rattle.c_expr.specs.declared.inside.Offered.{Offered}
 use Rattle.c_expr.specs.declared.inside.Offered.TheVariants as offered
 use Rattle.c_expr.specs.declared.state.Parser.{Parser}
 use Rattle.c_expr.specs.declared.grown.Grown.{Grown}
-use Rattle.c_declaration.specs.InitialTree.{InitialTree, Value, Braces, Item}
+use Rattle.c_trees.specs.Initializers.{InitialTree, Value, Braces, Item}
 use Rattle.c_declaration.specs.declared.built.Built.{Built}
 use Rattle.c_declaration.specs.declared.state.OpenBraces.{OpenBraces}
 use Rattle.c_declaration.specs.declared.state.InitialMode.{InitialMode}

@@ -3,11 +3,11 @@ use Rattle.std.proofs.Common.{◌≡◌, ℕ, ◌≤◌, ◌<◌, List, [], ◌�
 use Rattle.std.proofs.lemmas.Bool.{cases_lt}
 use Rattle.c_symbol.specs.declared.terminal.Terminal.{Terminal}
 use Rattle.c_symbol.specs.declared.symbol.Symbol.TheVariants.{OpenBrace, Semicolon}
-use Rattle.c_declaration.specs.Tree.{DeclaratorTree}
+use Rattle.c_trees.specs.Declarators.{DeclaratorTree}
 use Rattle.c_declaration.specs.declared.built.Built.{Built}
-use Rattle.c_declaration.specs.declared.tree.Local.{Local}
-use Rattle.c_declaration.specs.declared.tree.Head.{Head}
-use Rattle.c_declaration.specs.declared.tree.FunctionHead.{FunctionHead}
+use Rattle.c_trees.specs.declared.declaration.Local.{Local}
+use Rattle.c_trees.specs.declared.declaration.Head.{Head}
+use Rattle.c_trees.specs.declared.declaration.FunctionHead.{FunctionHead}
 use Rattle.c_declaration.specs.declared.state.LocalParser.{LocalParser}
 use Rattle.c_declaration.specs.declared.state.ReadLocal.{ReadLocal}
 use Rattle.c_declaration.specs.declared.state.FileParser.{FileParser}

@@ -5,17 +5,17 @@ use Rattle.std.proofs.Math.Nat.{max-le, le-max_left, le-max_right}
 use Rattle.std.proofs.lemmas.Bool.{cases_lt}
 use Rattle.std.proofs.lemmas.Bool.Decides.{nat_tests}
 use Rattle.c_lex.specs.declared.token.Place.{Place}
-use Rattle.c_expr.specs.declared.tree.Spec.{Spec}
-use Rattle.c_expr.specs.Tree.{Tree, Stars, Around, Unbounded}
+use Rattle.c_trees.specs.declared.expression.Spec.{Spec}
+use Rattle.c_trees.specs.Expressions.{Tree, Stars, Around, Unbounded}
 use Rattle.c_expr.specs.Grammar.{stars_height}
 use Rattle.c_expr.specs.Grown as expr_grown
 use Rattle.c_declaration.specs.declared.built.Built.{Built}
 use Rattle.c_declaration.specs.declared.front.Stars as front
-use Rattle.c_declaration.specs.Tree.{DeclaratorTree}
-use Rattle.c_declaration.specs.Tree as tree
-use Rattle.c_declaration.specs.InitialTree.{InitialTree, Value}
+use Rattle.c_trees.specs.Declarators.{DeclaratorTree}
+use Rattle.c_trees.specs.Declarators as tree
+use Rattle.c_trees.specs.Initializers.{InitialTree, Value}
 use Rattle.c_declaration.specs.Grown.{cut, taller, grow, grow_two, grow_list, expr_of, pointers_of, unnamed_of, stars_of, around_of, unbounded_of, value_of, bare_name, bare_of}
-use Rattle.c_declaration.specs.declared.tree.Declared.{Declared}
+use Rattle.c_trees.specs.declared.declaration.Declared.{Declared}
 
 pub if_true : {T : Type 0} (b : Bool) (x y : T) → b ≡ true → (if b then x else y) ≡ x
 if_true b x y e = ap (λ v. if v then x else y) e

@@ -1,9 +1,9 @@
 -- One more parameter, initializer or bound.
 use Rattle.std.proofs.Common.{◌≡◌, List, [], ◌∷◌, ◌++◌, Option, refl}
-use Rattle.c_expr.specs.Tree as expr
-use Rattle.c_expr.specs.Tree.{Tree, bound_behind, with_bounds}
-use Rattle.c_declaration.specs.Tree.{DeclaratorTree, Taking, begins, with_parameters}
-use Rattle.c_declaration.specs.InitialTree.{InitialTree, Item, with_items}
+use Rattle.c_trees.specs.Expressions as expr
+use Rattle.c_trees.specs.Expressions.{Tree, bound_behind, with_bounds}
+use Rattle.c_trees.specs.Declarators.{DeclaratorTree, Taking, begins, with_parameters}
+use Rattle.c_trees.specs.Initializers.{InitialTree, Item, with_items}
 
 pub one_more_parameter : (d : DeclaratorTree) (ps : List DeclaratorTree) (p : DeclaratorTree) → with_parameters d (ps ++ p ∷ []) ≡ Taking (with_parameters d ps) p
 one_more_parameter d [] p = refl

@@ -12,15 +12,15 @@ use Rattle.c_expr.specs.First.{first}
 use Rattle.c_expr.specs.Machine.{start}
 use Rattle.c_expr.specs.Inside.{offer}
 use Rattle.c_expr.specs.Grammar.{spec_of}
-use Rattle.c_expr.specs.Tree.{Tree}
+use Rattle.c_trees.specs.Expressions.{Tree}
 use Rattle.c_expr.specs.declared.frame.Least.TheVariants.{Constant}
 use Rattle.c_expr.specs.declared.grown.Grown.{Grown}
 use Rattle.c_expr.specs.declared.inside.Offered.{Offered}
 use Rattle.c_expr.specs.declared.inside.Offered.TheVariants as offered
-use Rattle.c_expr.specs.declared.tree.Spec.{Spec}
-use Rattle.c_expr.specs.declared.tree.Spec.TheVariants.{Unsigned, UnsignedInt, Void, Struct}
+use Rattle.c_trees.specs.declared.expression.Spec.{Spec}
+use Rattle.c_trees.specs.declared.expression.Spec.TheVariants.{Unsigned, UnsignedInt, Void, Struct}
 use Rattle.c_expr.specs.declared.state.Parser.{Parser}
-use Rattle.c_declaration.specs.Tree.{DeclaratorTree}
+use Rattle.c_trees.specs.Declarators.{DeclaratorTree}
 use Rattle.c_declaration.specs.Grammar.{is_void_type}
 use Rattle.c_declaration.specs.declared.built.Built.{Built}
 use Rattle.c_declaration.specs.declared.front.Stars.{Stars}

@@ -1,16 +1,16 @@
 -- Trees with their heights, grown until they are too high.
 use Rattle.std.specs.Prelude.{ℕ, ◌+◌, max, List, [], ◌∷◌, ◌++◌, Bool, true, false, Option, Some, None, nat_le, nat_lt, if◌then◌else◌}
 use Rattle.c_lex.specs.declared.token.Place.{Place}
-use Rattle.c_expr.specs.declared.tree.Spec.{Spec}
+use Rattle.c_trees.specs.declared.expression.Spec.{Spec}
 use Rattle.c_expr.specs.declared.grown.Built as expr_built
-use Rattle.c_expr.specs.Tree.{Tree, Stars, Around, Bounded, Unbounded}
+use Rattle.c_trees.specs.Expressions.{Tree, Stars, Around, Bounded, Unbounded}
 use Rattle.c_expr.specs.Grammar.{stars_height}
 use Rattle.c_declaration.specs.declared.built.Built.{Built}
 use Rattle.c_declaration.specs.declared.front.Stars as front
-use Rattle.c_declaration.specs.declared.tree.Declared.{Declared}
-use Rattle.c_declaration.specs.Tree.{DeclaratorTree, begins}
-use Rattle.c_declaration.specs.Tree as tree
-use Rattle.c_declaration.specs.InitialTree.{InitialTree, Value, Braces, Item}
+use Rattle.c_trees.specs.declared.declaration.Declared.{Declared}
+use Rattle.c_trees.specs.Declarators.{DeclaratorTree, begins}
+use Rattle.c_trees.specs.Declarators as tree
+use Rattle.c_trees.specs.Initializers.{InitialTree, Value, Braces, Item}
 
 -- the tree where it is at most 64 high
 abbrev pub cut : {T : Type 0} → T → ℕ → Option (Built T)

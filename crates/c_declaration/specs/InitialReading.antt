@@ -11,7 +11,7 @@ use Rattle.c_expr.specs.declared.frame.Least.TheVariants.{Assignment}
 use Rattle.c_expr.specs.declared.inside.Offered.{Offered}
 use Rattle.c_expr.specs.declared.inside.Offered.TheVariants as offered
 use Rattle.c_expr.specs.declared.state.Parser.{Parser}
-use Rattle.c_declaration.specs.InitialTree.{InitialTree}
+use Rattle.c_trees.specs.Initializers.{InitialTree}
 use Rattle.c_declaration.specs.declared.built.Built.{Built}
 use Rattle.c_declaration.specs.declared.state.OpenBraces.{OpenBraces}
 use Rattle.c_declaration.specs.declared.state.InitialMode.{InitialMode}

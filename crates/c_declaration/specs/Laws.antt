@@ -6,12 +6,12 @@ use Rattle.c_symbol.specs.declared.symbol.Symbol.{Symbol}
 use Rattle.c_symbol.specs.declared.symbol.Symbol.TheVariants.{OpenParen, OpenBracket, OpenBrace}
 use Rattle.c_expr.specs.declared.frame.Least.TheVariants.{Assignment}
 use Rattle.c_expr.specs.Inside.{closes}
-use Rattle.c_declaration.specs.Tree.{DeclaratorTree}
-use Rattle.c_declaration.specs.InitialTree.{InitialTree}
+use Rattle.c_trees.specs.Declarators.{DeclaratorTree}
+use Rattle.c_trees.specs.Initializers.{InitialTree}
 use Rattle.c_declaration.specs.declared.built.Built.{Built}
-use Rattle.c_declaration.specs.declared.tree.Local.{Local}
-use Rattle.c_declaration.specs.declared.tree.Head.{Head}
-use Rattle.c_declaration.specs.declared.tree.FunctionHead.{FunctionHead}
+use Rattle.c_trees.specs.declared.declaration.Local.{Local}
+use Rattle.c_trees.specs.declared.declaration.Head.{Head}
+use Rattle.c_trees.specs.declared.declaration.FunctionHead.{FunctionHead}
 use Rattle.c_declaration.specs.declared.state.LocalParser.{LocalParser}
 use Rattle.c_declaration.specs.declared.state.LocalParser.TheVariants as local
 use Rattle.c_declaration.specs.declared.state.ReadLocal.{ReadLocal}

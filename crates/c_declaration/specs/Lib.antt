@@ -1,9 +1,3 @@
-pub mod Tree
-pub mod InitialTree
-pub mod Sizes
-pub mod Stored
-pub mod InitialStored
-pub mod View
 pub mod Grammar
 pub mod Feeding
 pub mod Grown

@@ -9,13 +9,13 @@ use Rattle.c_symbol.specs.declared.symbol.TypeWord.TheVariants as a_word
 use Rattle.c_symbol.specs.declared.symbol.Symbol.{Symbol}
 use Rattle.c_symbol.specs.declared.symbol.Symbol.TheVariants.{Leaf, Word, Binary, Keyword, Struct as StructWord, Semicolon}
 use Rattle.c_expr.specs.Grammar.{spec_of}
-use Rattle.c_expr.specs.declared.tree.Spec.{Spec}
-use Rattle.c_expr.specs.declared.tree.Spec.TheVariants.{Struct}
-use Rattle.c_declaration.specs.Tree.{DeclaratorTree}
-use Rattle.c_declaration.specs.InitialTree.{InitialTree}
+use Rattle.c_trees.specs.declared.expression.Spec.{Spec}
+use Rattle.c_trees.specs.declared.expression.Spec.TheVariants.{Struct}
+use Rattle.c_trees.specs.Declarators.{DeclaratorTree}
+use Rattle.c_trees.specs.Initializers.{InitialTree}
 use Rattle.c_declaration.specs.declared.built.Built.{Built}
-use Rattle.c_declaration.specs.declared.tree.Declared.{Declared}
-use Rattle.c_declaration.specs.declared.tree.Local.{Local}
+use Rattle.c_trees.specs.declared.declaration.Declared.{Declared}
+use Rattle.c_trees.specs.declared.declaration.Local.{Local}
 use Rattle.c_declaration.specs.declared.state.NameParser.{NameParser}
 use Rattle.c_declaration.specs.declared.state.ReadName.{ReadName}
 use Rattle.c_declaration.specs.declared.state.ReadName.TheVariants.{Bare, With}

@@ -5,8 +5,8 @@ use Rattle.c_symbol.specs.declared.symbol.AssignOp.TheVariants.{Plain}
 use Rattle.c_symbol.specs.declared.symbol.BinaryOp.TheVariants.{Assign}
 use Rattle.c_symbol.specs.declared.symbol.Symbol.{Symbol}
 use Rattle.c_symbol.specs.declared.symbol.Symbol.TheVariants.{Binary}
-use Rattle.c_declaration.specs.Tree.{DeclaratorTree}
-use Rattle.c_declaration.specs.InitialTree.{InitialTree}
+use Rattle.c_trees.specs.Declarators.{DeclaratorTree}
+use Rattle.c_trees.specs.Initializers.{InitialTree}
 use Rattle.c_declaration.specs.declared.built.Built.{Built}
 use Rattle.c_declaration.specs.declared.state.DeclaratorParser.{DeclaratorParser}
 use Rattle.c_declaration.specs.declared.state.InitialParser.{InitialParser}

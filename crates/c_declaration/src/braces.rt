@@ -1,12 +1,13 @@
 // Initializers, grown until they are too high.
 ghost use Rattle.std.specs.Prelude.{◌≡◌, ◌+◌, IfOk, Some, max};
-ghost use Rattle.c_declaration.specs.InitialTree.{Item};
+ghost use Rattle.c_trees.specs.Initializers.{Item};
 ghost use Rattle.c_declaration.specs.Grown.{grow_list, value_of, value_at, braces_of, item_of, closed_of};
 
 use crate::built::{Built, MOST_HEIGHT, greater};
-use crate::tree::{Initial, InitialNode};
-use c_expr::{Boxed, Expr};
+use c_expr::Boxed;
 use c_lex::Place;
+use c_trees::declaration::{Initial, InitialNode};
+use c_trees::expression::Expr;
 use std::alloc::{AllocError, Global};
 use std::marker::Model;
 
@@ -20,9 +21,9 @@ pub struct BuiltBraces {
 
 impl Model for BuiltBraces {
     ghost use Rattle.std.specs.Coded.{codes};
-    ghost use Rattle.c_declaration.specs.contracts.tree.Initial as i;
+    ghost use Rattle.c_trees.specs.contracts.declaration.Initial as i;
     ghost use Rattle.c_declaration.specs.declared.built.Built.{Built};
-    ghost use Rattle.c_declaration.specs.InitialTree.{InitialTree, Braces, with_items};
+    ghost use Rattle.c_trees.specs.Initializers.{InitialTree, Braces, with_items};
 
     ghost Value = { Built InitialTree };
 

@@ -2,7 +2,7 @@
 ghost use Rattle.std.specs.Prelude.{◌≡◌, max};
 ghost use Rattle.c_declaration.specs.Grown.{taller, expr_of};
 
-use c_expr::Expr;
+use c_trees::expression::Expr;
 
 /// A tree and its height.
 #[derive(Drop)]

@@ -11,11 +11,12 @@ use crate::function::{taking_of, whole_function};
 use crate::grown::{named_of, parens_of, unnamed_of};
 use crate::state::{DeclaratorParser, DeclaratorStep, Frame, Mode, Taking};
 use crate::step::Step;
-use crate::tree::{Declarator, Parameter};
 use crate::unnamed::around_of;
-use c_expr::{Abstract, Boxed, Spec, Stack, SynFault};
+use c_expr::{Boxed, Stack, SynFault};
 use c_lex::Place;
 use c_symbol::{BinaryOp, Symbol};
+use c_trees::declaration::{Declarator, Parameter};
+use c_trees::expression::{Abstract, Spec};
 use std::alloc::{AllocError, Global};
 
 /// Reading goes on.

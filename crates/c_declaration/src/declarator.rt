@@ -16,11 +16,12 @@ use crate::front::Stars;
 use crate::function::function_of;
 use crate::grown::{array_of, name_of, open_array_of, pointed};
 use crate::state::{Bounded, DeclaratorParser, DeclaratorStep, Frame, Mode, Taking};
-use crate::tree::Declarator;
 use crate::unnamed::{bounded_of, stars_of, unbounded_of};
-use c_expr::{Abstract, Boxed, Grown, Least, Offered, Parser, Spec, Stack, SynFault, offer};
+use c_expr::{Boxed, Grown, Least, Offered, Parser, Stack, SynFault, offer};
 use c_lex::{Keyword, Place};
 use c_symbol::{BinaryOp, LeafKind, Symbol, Terminal, TypeWord};
+use c_trees::declaration::Declarator;
+use c_trees::expression::{Abstract, Spec};
 use ldb_words::Text;
 use std::alloc::{AllocError, Global};
 

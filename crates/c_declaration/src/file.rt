@@ -15,12 +15,13 @@ use crate::state::{
     FileFront, FileParser, FileStep, MembersParser, NameParser, Names, ReadHead, ReadName,
 };
 use crate::step::Step;
-use crate::tree::{
-    Declarator, Declared, FileSpec, FunctionHead, Head, Initial, MemberPart, Storage,
-};
-use c_expr::{Spec, SynFault};
+use c_expr::SynFault;
 use c_lex::{Keyword, Place};
 use c_symbol::{BinaryOp, LeafKind, Symbol, Terminal};
+use c_trees::declaration::{
+    Declarator, Declared, FileSpec, FunctionHead, Head, Initial, MemberPart, Storage,
+};
+use c_trees::expression::Spec;
 use ldb_words::{Many, Text};
 use std::alloc::{AllocError, Global};
 

@@ -1,13 +1,13 @@
 // Functions whose parameters are being read.
 ghost use Rattle.std.specs.Prelude.{◌≡◌, ◌+◌, IfOk, Some, max};
-ghost use Rattle.c_declaration.specs.Tree.{Taking};
+ghost use Rattle.c_trees.specs.Declarators.{Taking};
 ghost use Rattle.c_declaration.specs.Grown.{grow_list, function_of, taking_of};
 
 use crate::built::{Built, MOST_HEIGHT, greater};
 use crate::grown::begins;
-use crate::tree::{Declarator, DeclaratorNode, Parameter};
 use c_expr::Boxed;
 use c_lex::Place;
+use c_trees::declaration::{Declarator, DeclaratorNode, Parameter};
 use std::alloc::{AllocError, Global};
 use std::marker::Model;
 
@@ -22,9 +22,9 @@ pub struct BuiltFunction {
 
 impl Model for BuiltFunction {
     ghost use Rattle.std.specs.Coded.{codes};
-    ghost use Rattle.c_declaration.specs.contracts.tree.Declarator as d;
+    ghost use Rattle.c_trees.specs.contracts.declaration.Declarator as d;
     ghost use Rattle.c_declaration.specs.declared.built.Built.{Built};
-    ghost use Rattle.c_declaration.specs.Tree.{DeclaratorTree, Function, with_parameters};
+    ghost use Rattle.c_trees.specs.Declarators.{DeclaratorTree, Function, with_parameters};
 
     ghost Value = { Built DeclaratorTree };
 

@@ -1,14 +1,15 @@
 // Declarators and parameters, grown until they are too high.
 ghost use Rattle.std.specs.Prelude.{◌≡◌, IfOk, Some, None, max};
-ghost use Rattle.c_declaration.specs.Tree.{begins};
-ghost use Rattle.c_declaration.specs.View.{tree_of, parameter_of};
+ghost use Rattle.c_trees.specs.Declarators.{begins};
+ghost use Rattle.c_trees.specs.DeclarationView.{tree_of, parameter_of};
 ghost use Rattle.c_declaration.specs.Grown.{taller, name_of, parens_of, array_of, open_array_of, higher_pointers, pointed, named_of, unnamed_of};
 
 use crate::built::{Built, greater, taller};
 use crate::front::Stars;
-use crate::tree::{Declarator, DeclaratorNode, Parameter, ParameterNode};
-use c_expr::{Abstract, Boxed, Expr, Spec};
+use c_expr::Boxed;
 use c_lex::Place;
+use c_trees::declaration::{Declarator, DeclaratorNode, Parameter, ParameterNode};
+use c_trees::expression::{Abstract, Expr, Spec};
 use ldb_words::Text;
 use std::alloc::{AllocError, Global};
 

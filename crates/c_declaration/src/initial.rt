@@ -10,10 +10,10 @@ use crate::braces::{BuiltBraces, braces_of, closed_of, item_of, value_of};
 use crate::built::{Built, expr_of};
 use crate::state::{InitialMode, InitialParser, InitialStep, OpenBraces};
 use crate::step::Step;
-use crate::tree::Initial;
 use c_expr::{Boxed, Least, Offered, Parser, Stack, SynFault, offer};
 use c_lex::Place;
 use c_symbol::{BinaryOp, Symbol, Terminal};
+use c_trees::declaration::Initial;
 use std::alloc::{AllocError, Global};
 
 /// Reading goes on.

@@ -16,11 +16,14 @@ mod members;
 mod name;
 mod state;
 mod step;
-mod tree;
 mod unnamed;
 
 pub use braces::BuiltBraces;
 pub use built::Built;
+pub use c_trees::declaration::{
+    Declarator, DeclaratorNode, Declared, FileSpec, FunctionHead, Head, Initial, InitialNode,
+    Local, MemberPart, Parameter, ParameterNode, Storage,
+};
 pub use declarator::declarator_offer;
 pub use file::file_offer;
 pub use front::Stars;
@@ -39,7 +42,3 @@ pub use state::{
     Taking,
 };
 pub use step::Step;
-pub use tree::{
-    Declarator, DeclaratorNode, Declared, FileSpec, FunctionHead, Head, Initial, InitialNode,
-    Local, MemberPart, Parameter, ParameterNode, Storage,
-};

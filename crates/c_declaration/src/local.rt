@@ -9,10 +9,11 @@ use crate::declarator::{both_words, spec_of};
 use crate::name::name_offer;
 use crate::state::{LocalFront, LocalParser, LocalStep, NameParser, ReadLocal, ReadName};
 use crate::step::Step;
-use crate::tree::{Declarator, Declared, Initial, Local};
-use c_expr::{Boxed, Spec, SynFault};
+use c_expr::{Boxed, SynFault};
 use c_lex::{Keyword, Place};
 use c_symbol::{BinaryOp, LeafKind, Symbol, Terminal, TypeWord};
+use c_trees::declaration::{Declarator, Declared, Initial, Local};
+use c_trees::expression::Spec;
 use ldb_words::{Many, Text};
 use std::alloc::{AllocError, Global};
 

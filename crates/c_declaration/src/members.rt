@@ -9,10 +9,11 @@ use crate::initial::is_open_brace;
 use crate::local::is_int;
 use crate::state::{DeclaratorParser, MembersParser, MembersStep, RowMode, RowType};
 use crate::step::Step;
-use crate::tree::{Declarator, MemberPart};
-use c_expr::{Boxed, Spec, SynFault};
+use c_expr::{Boxed, SynFault};
 use c_lex::Place;
 use c_symbol::{BinaryOp, LeafKind, Symbol, Terminal};
+use c_trees::declaration::{Declarator, MemberPart};
+use c_trees::expression::Spec;
 use ldb_words::{Many, Text};
 use std::alloc::{AllocError, Global};
 

@@ -8,9 +8,9 @@ use crate::declarator::declarator_offer;
 use crate::initial::initial_offer;
 use crate::state::{DeclaratorParser, InitialParser, NameParser, NameStep, ReadName};
 use crate::step::Step;
-use crate::tree::Declarator;
 use c_expr::{Boxed, SynFault};
 use c_symbol::{AssignOp, BinaryOp, Symbol, Terminal};
+use c_trees::declaration::Declarator;
 use std::alloc::Global;
 
 /// Whether a token is a `=`.

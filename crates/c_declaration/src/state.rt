@@ -5,11 +5,12 @@ use crate::built::Built;
 use crate::front::Stars;
 use crate::function::BuiltFunction;
 use crate::step::Step;
-use crate::tree::{
+use c_expr::{Boxed, Parser, Stack};
+use c_lex::Place;
+use c_trees::declaration::{
     Declarator, Declared, FileSpec, FunctionHead, Head, Initial, Local, MemberPart, Storage,
 };
-use c_expr::{Abstract, Boxed, Parser, Spec, Stack};
-use c_lex::Place;
+use c_trees::expression::{Abstract, Spec};
 use ldb_words::Many;
 
 /// A function's declarator whose parameters are being read: whether the next one is the first, and the `*` before it all.

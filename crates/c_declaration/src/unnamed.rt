@@ -1,11 +1,11 @@
 // Declarators without a name (C90 6.5.5), grown until they are too high.
 ghost use Rattle.std.specs.Prelude.{◌≡◌, ◌≤◌, ◌+◌, IfOk, Some, max};
-ghost use Rattle.c_expr.specs.Tree.{Bounded, bound_behind};
+ghost use Rattle.c_trees.specs.Expressions.{Bounded, bound_behind};
 ghost use Rattle.c_expr.specs.Grammar.{stars_height};
 ghost use Rattle.c_declaration.specs.Grown.{grow_list, stars_of, around_of, bounded_of, unbounded_of};
 
 use crate::built::{Built, MOST_HEIGHT, greater};
-use c_expr::{Abstract, Expr};
+use c_trees::expression::{Abstract, Expr};
 use std::alloc::{AllocError, Global};
 
 /// The height of a list of so many `*`, where there are some.

@@ -3,9 +3,9 @@
 #![tactic(auto)]
 
 use c_declaration::{FileParser, LocalParser, ReadHead, ReadLocal};
-use c_expr::Expr;
-use c_statement::Unit;
 use c_tree::{Program, Typed};
+use c_trees::expression::Expr;
+use c_trees::unit::Unit;
 
 /// Lets an expression go.
 pub fn discard_expr(expr: Expr) {

@@ -4,8 +4,8 @@ use Rattle.std.specs.Prelude.{if◌then◌else◌}
 use Rattle.c_lex.specs.declared.token.Place.{Place}
 use Rattle.c_symbol.specs.declared.terminal.Terminal.{Terminal}
 use Rattle.c_symbol.specs.declared.symbol.TypeWord.TheVariants as a_word
-use Rattle.c_expr.specs.declared.tree.Spec.{Spec}
-use Rattle.c_expr.specs.declared.tree.Spec.TheVariants.{Unsigned, UnsignedInt, Struct}
+use Rattle.c_trees.specs.declared.expression.Spec.{Spec}
+use Rattle.c_trees.specs.declared.expression.Spec.TheVariants.{Unsigned, UnsignedInt, Struct}
 use Rattle.c_symbol.specs.declared.symbol.LeafKind.TheVariants.{Name}
 use Rattle.c_symbol.specs.declared.symbol.BinaryOp.TheVariants.{Multiply, Comma}
 use Rattle.c_symbol.specs.declared.symbol.PrefixOp.{PrefixOp}
@@ -22,7 +22,7 @@ use Rattle.c_expr.specs.declared.state.Part.TheVariants.{Front, Back}
 use Rattle.c_expr.specs.declared.state.Mode.{Mode}
 use Rattle.c_expr.specs.declared.state.Mode.TheVariants.{Want, Have, Naming, Typing, Tagging}
 use Rattle.c_expr.specs.declared.state.Parser.{Parser}
-use Rattle.c_expr.specs.Tree.{Tree, Leaf, Paren, Index, Call, With, Member, After, Prefix, SizeofType, Binary, Choice, Stars, Around, Bounded, Unbounded}
+use Rattle.c_trees.specs.Expressions.{Tree, Leaf, Paren, Index, Call, With, Member, After, Prefix, SizeofType, Binary, Choice, Stars, Around, Bounded, Unbounded}
 use Rattle.c_expr.specs.Levels.{level_of, left_of, ends_of}
 use Rattle.c_expr.specs.Grown.{cut, grow_list, leaf_of, paren_of, index_of, call_of, with_of, called_of, member_of, after_of, around_of, sizeof_type_of}
 use Rattle.c_expr.specs.Frames.{least_of, need, need_of, call_part, closer_of, reduce, sizeof_place, frame_level, plug}

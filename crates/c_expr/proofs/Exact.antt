@@ -6,7 +6,7 @@ use Rattle.c_symbol.specs.Terminals.{terminal_of, terminals}
 use Rattle.c_expr.specs.declared.frame.Least.TheVariants.{Expression}
 use Rattle.c_expr.specs.declared.grown.Built.{Built}
 use Rattle.c_expr.specs.declared.grown.Grown.{Grown}
-use Rattle.c_expr.specs.Tree.{Tree}
+use Rattle.c_trees.specs.Expressions.{Tree}
 use Rattle.c_expr.specs.Grammar.{Spells}
 use Rattle.c_lex.specs.declared.token.Token.{Token}
 use Rattle.c_expr.specs.Machine.{start, whole, reading, Reads}

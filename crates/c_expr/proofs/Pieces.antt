@@ -7,8 +7,8 @@ use Rattle.std.proofs.lemmas.Bool.Decides.{nat_tests}
 use Rattle.c_lex.specs.declared.token.Place.{Place}
 use Rattle.c_expr.specs.declared.grown.Built.{Built}
 use Rattle.c_expr.specs.declared.grown.Grown.{Grown}
-use Rattle.c_expr.specs.declared.tree.Spec.{Spec}
-use Rattle.c_expr.specs.Tree.{Tree, SizeofType, Cast, Stars, Around, Unbounded}
+use Rattle.c_trees.specs.declared.expression.Spec.{Spec}
+use Rattle.c_trees.specs.Expressions.{Tree, SizeofType, Cast, Stars, Around, Unbounded}
 use Rattle.c_expr.specs.Grammar.{stars_height, name_height}
 use Rattle.c_expr.specs.Grown.{cut, taller, grow, grow_two, grow_three, grow_list, stars_of, around_of, unbounded_of, sized, cast_tree}
 

@@ -1,6 +1,6 @@
 -- One more argument, and one more bound.
 use Rattle.std.proofs.Common.{◌≡◌, List, [], ◌∷◌, ◌++◌, Option, refl}
-use Rattle.c_expr.specs.Tree.{Tree, With, with_arguments, bound_behind, with_bounds}
+use Rattle.c_trees.specs.Expressions.{Tree, With, with_arguments, bound_behind, with_bounds}
 
 pub one_more_argument : (t : Tree) (args : List Tree) (a : Tree) → with_arguments t (args ++ a ∷ []) ≡ With (with_arguments t args) a
 one_more_argument t [] a = refl

@@ -7,8 +7,8 @@ use Rattle.c_symbol.specs.declared.terminal.Terminal.{Terminal}
 use Rattle.c_symbol.specs.declared.symbol.Access.{Access}
 use Rattle.c_symbol.specs.declared.symbol.TypeWord.{TypeWord}
 use Rattle.c_symbol.specs.declared.symbol.TypeWord.TheVariants as a_word
-use Rattle.c_expr.specs.declared.tree.Spec.{Spec}
-use Rattle.c_expr.specs.declared.tree.Spec.TheVariants.{Unsigned, UnsignedInt, Struct}
+use Rattle.c_trees.specs.declared.expression.Spec.{Spec}
+use Rattle.c_trees.specs.declared.expression.Spec.TheVariants.{Unsigned, UnsignedInt, Struct}
 use Rattle.c_symbol.specs.declared.symbol.LeafKind.TheVariants.{Name, Constant, Character, Text}
 use Rattle.c_symbol.specs.declared.symbol.BinaryOp.{BinaryOp}
 use Rattle.c_symbol.specs.declared.symbol.BinaryOp.TheVariants as op
@@ -27,7 +27,7 @@ use Rattle.c_expr.specs.declared.state.Part.TheVariants.{Front, Back}
 use Rattle.c_expr.specs.declared.state.Mode.{Mode}
 use Rattle.c_expr.specs.declared.state.Mode.TheVariants.{Want, Have, Naming, Typing, Tagging}
 use Rattle.c_expr.specs.declared.state.Parser.{Parser}
-use Rattle.c_expr.specs.Tree.{Tree, Leaf, Paren, Index, Call, With, Member, After, SizeofType, Stars, Around, Bounded, Unbounded}
+use Rattle.c_trees.specs.Expressions.{Tree, Leaf, Paren, Index, Call, With, Member, After, SizeofType, Stars, Around, Bounded, Unbounded}
 use Rattle.c_expr.specs.Levels.{level_of, left_of, ends_of}
 use Rattle.c_expr.specs.Grown.{cut, grow, grow_list, call_of, with_of, called_of, grow_two, leaf_of, paren_of, index_of, after_of, around_of, bounded_of, unbounded_of, sized, sizeof_type_of}
 use Rattle.c_symbol.specs.declared.symbol.Step.{Step}

@@ -3,7 +3,7 @@ use Rattle.std.proofs.Common.{◌≡◌, ℕ, suc, ◌≤◌, max, Bool, true, f
 use Rattle.std.specs.Prelude.{if◌then◌else◌}
 use Rattle.c_lex.specs.declared.token.Place.{Place}
 use Rattle.c_symbol.specs.declared.terminal.Terminal.{Terminal}
-use Rattle.c_expr.specs.declared.tree.Spec.{Spec}
+use Rattle.c_trees.specs.declared.expression.Spec.{Spec}
 use Rattle.c_symbol.specs.declared.symbol.BinaryOp.{BinaryOp}
 use Rattle.c_symbol.specs.declared.symbol.BinaryOp.TheVariants as op
 use Rattle.c_symbol.specs.declared.symbol.PrefixOp.{PrefixOp}
@@ -18,7 +18,7 @@ use Rattle.c_expr.specs.declared.state.Part.{Part}
 use Rattle.c_expr.specs.declared.state.Part.TheVariants.{Front, Back}
 use Rattle.c_expr.specs.declared.state.Mode.{Mode}
 use Rattle.c_expr.specs.declared.state.Mode.TheVariants.{Want, Have, Naming, Typing, Tagging}
-use Rattle.c_expr.specs.Tree.{Tree, Prefix, Cast, Binary, Choice}
+use Rattle.c_trees.specs.Expressions.{Tree, Prefix, Cast, Binary, Choice}
 use Rattle.c_expr.specs.Levels.{level_of, left_of}
 use Rattle.c_expr.specs.Grown.{cut, grow, call_of, grow_two, grow_three, cast_tree}
 use Rattle.c_expr.specs.Frames.{need, need_of, reduce, frame_level, plug}

@@ -2,8 +2,8 @@
 use Rattle.std.specs.Prelude.{ℕ, Bool, true, false, nat_le, if◌then◌else◌, List, [], ◌∷◌, Option, Some, None}
 use Rattle.c_lex.specs.declared.token.Place.{Place}
 use Rattle.c_symbol.specs.declared.symbol.PrefixOp.TheVariants.{Sizeof}
-use Rattle.c_expr.specs.declared.tree.Spec.{Spec}
-use Rattle.c_expr.specs.declared.tree.Spec.TheVariants.{Unsigned}
+use Rattle.c_trees.specs.declared.expression.Spec.{Spec}
+use Rattle.c_trees.specs.declared.expression.Spec.TheVariants.{Unsigned}
 use Rattle.c_expr.specs.declared.grown.Grown.{Grown}
 use Rattle.c_expr.specs.declared.call.GrownCall.{GrownCall}
 use Rattle.c_expr.specs.declared.frame.Least.{Least}

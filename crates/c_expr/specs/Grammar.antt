@@ -14,9 +14,9 @@ use Rattle.c_symbol.specs.declared.symbol.BinaryOp.{BinaryOp}
 use Rattle.c_symbol.specs.declared.symbol.BinaryOp.TheVariants.{Comma, BitAnd, Multiply, Add, Subtract}
 use Rattle.c_symbol.specs.declared.symbol.Symbol.{Symbol}
 use Rattle.c_symbol.specs.declared.symbol.Symbol.TheVariants as symbol
-use Rattle.c_expr.specs.declared.tree.Spec.{Spec}
-use Rattle.c_expr.specs.declared.tree.Spec.TheVariants.{Char, Int, Unsigned, UnsignedInt, Void, Struct}
-use Rattle.c_expr.specs.Tree.{Tree, Leaf, Paren, Index, Call, With, Member, After, Prefix, SizeofType, Cast, Binary, Choice, Stars, Around, Bounded, Unbounded}
+use Rattle.c_trees.specs.declared.expression.Spec.{Spec}
+use Rattle.c_trees.specs.declared.expression.Spec.TheVariants.{Char, Int, Unsigned, UnsignedInt, Void, Struct}
+use Rattle.c_trees.specs.Expressions.{Tree, Leaf, Paren, Index, Call, With, Member, After, Prefix, SizeofType, Cast, Binary, Choice, Stars, Around, Bounded, Unbounded}
 use Rattle.c_expr.specs.Levels.{level_of, left_of, right_of, operand_of}
 
 -- how a prefix operator is written

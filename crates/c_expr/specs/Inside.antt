@@ -5,7 +5,7 @@ use Rattle.c_symbol.specs.declared.terminal.Terminal.{Terminal}
 use Rattle.c_symbol.specs.declared.symbol.BinaryOp.TheVariants.{Comma}
 use Rattle.c_symbol.specs.declared.symbol.Symbol.{Symbol}
 use Rattle.c_symbol.specs.declared.symbol.Symbol.TheVariants.{Binary, Colon, CloseParen, CloseBracket, CloseBrace, Semicolon}
-use Rattle.c_expr.specs.Tree.{Tree}
+use Rattle.c_trees.specs.Expressions.{Tree}
 use Rattle.c_expr.specs.Grammar.{IsExpr}
 use Rattle.c_expr.specs.declared.grown.Grown.{Grown}
 use Rattle.c_expr.specs.declared.frame.Least.{Least}

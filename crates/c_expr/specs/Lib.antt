@@ -1,8 +1,4 @@
 pub mod First
-pub mod Tree
-pub mod Sizes
-pub mod Stored
-pub mod View
 pub mod Levels
 pub mod Grammar
 pub mod Grown

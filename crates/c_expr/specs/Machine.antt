@@ -11,8 +11,8 @@ use Rattle.c_symbol.specs.declared.symbol.PrefixOp.TheVariants as ops
 use Rattle.c_symbol.specs.declared.symbol.Symbol.{Symbol}
 use Rattle.c_symbol.specs.declared.symbol.Symbol.TheVariants.{Leaf, Word, Binary, Step, Access as Selects, Complement, Not, Sizeof, Struct as StructWord, Question, Colon, OpenParen, CloseParen, OpenBracket, CloseBracket}
 use Rattle.c_symbol.specs.declared.symbol.TypeWord.TheVariants as a_word
-use Rattle.c_expr.specs.declared.tree.Spec.{Spec}
-use Rattle.c_expr.specs.declared.tree.Spec.TheVariants.{UnsignedInt, Struct}
+use Rattle.c_trees.specs.declared.expression.Spec.{Spec}
+use Rattle.c_trees.specs.declared.expression.Spec.TheVariants.{UnsignedInt, Struct}
 use Rattle.c_expr.specs.Grammar.{spec_of}
 use Rattle.c_expr.specs.declared.grown.Built.{Built}
 use Rattle.c_expr.specs.declared.grown.Grown.{Grown}

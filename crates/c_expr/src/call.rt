@@ -1,6 +1,6 @@
 // Calls whose arguments are being read.
 ghost use Rattle.std.specs.Prelude.{◌≡◌, ◌+◌, IfOk, Some, max};
-ghost use Rattle.c_expr.specs.Tree.{With};
+ghost use Rattle.c_trees.specs.Expressions.{With};
 ghost use Rattle.c_expr.specs.Grown.{grow_list, call_of, with_of, called_of};
 
 use crate::boxed::Boxed;
@@ -21,9 +21,9 @@ pub struct BuiltCall {
 
 impl Model for BuiltCall {
     ghost use Rattle.std.specs.Coded.{codes};
-    ghost use Rattle.c_expr.specs.contracts.tree.Expr as e;
+    ghost use Rattle.c_trees.specs.contracts.expression.Expr as e;
     ghost use Rattle.c_expr.specs.declared.grown.Built.{Built};
-    ghost use Rattle.c_expr.specs.Tree.{Call, with_arguments};
+    ghost use Rattle.c_trees.specs.Expressions.{Call, with_arguments};
 
     ghost Value = { Built };
 

@@ -1,6 +1,6 @@
 // Declarators in the names of types, and what they are part of.
 ghost use Rattle.std.specs.Prelude.{◌≡◌, ◌≤◌, ◌+◌, IfOk, Some, max};
-ghost use Rattle.c_expr.specs.Tree.{Bounded, bound_behind};
+ghost use Rattle.c_trees.specs.Expressions.{Bounded, bound_behind};
 ghost use Rattle.c_expr.specs.Grammar.{stars_height, name_height};
 ghost use Rattle.c_expr.specs.Grown.{grow_list, stars_of, around_of, bounded_of, unbounded_of, sized, sizeof_type_of, cast_tree, cast_of};
 
@@ -19,7 +19,7 @@ pub struct BuiltAbstract {
 
 impl Model for BuiltAbstract {
     ghost use Rattle.std.specs.Coded.{codes};
-    ghost use Rattle.c_expr.specs.contracts.tree.Expr as e;
+    ghost use Rattle.c_trees.specs.contracts.expression.Expr as e;
     ghost use Rattle.c_expr.specs.declared.grown.Built.{Built};
 
     ghost Value = { Built };

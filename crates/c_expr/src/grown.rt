@@ -1,6 +1,6 @@
 // Parts of an expression, grown until they are too high.
 ghost use Rattle.std.specs.Prelude.{◌≡◌, IfOk, max, Some};
-ghost use Rattle.c_expr.specs.View.{tree_of};
+ghost use Rattle.c_trees.specs.ExpressionView.{tree_of};
 ghost use Rattle.c_expr.specs.Grown.{taller, leaf_of, paren_of, index_of, member_of, after_of, prefix_of, binary_of, choice_of};
 ghost use Rattle.c_expr.specs.Levels.{level_of};
 

@@ -14,10 +14,10 @@ mod name;
 mod read;
 mod stack;
 mod state;
-mod tree;
 mod want;
 
 pub use boxed::Boxed;
+pub use c_trees::expression::{Abstract, Expr, Node, Spec, TypeName};
 pub use call::{BuiltCall, GrownCall};
 pub use declarator::BuiltAbstract;
 pub use frame::{Frame, Least};
@@ -27,4 +27,3 @@ pub use machine::shift;
 pub use read::{one_tree, parse_expr};
 pub use stack::Stack;
 pub use state::{Mode, Parser, Part, SynFault};
-pub use tree::{Abstract, Expr, Node, Spec, TypeName};

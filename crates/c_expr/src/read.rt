@@ -5,7 +5,7 @@ ghost use Rattle.c_symbol.specs.declared.terminal.Terminal.{Terminal};
 ghost use Rattle.c_expr.specs.Machine.{Gives, Reads, ended, whole, start};
 ghost use Rattle.c_expr.specs.Feeding.{shift_some, feed};
 ghost use Rattle.c_expr.specs.declared.frame.Least.TheVariants.{Expression};
-ghost use Rattle.c_expr.specs.Tree.{Tree};
+ghost use Rattle.c_trees.specs.Expressions.{Tree};
 ghost use Rattle.c_expr.specs.Grammar.{Spells};
 ghost use Rattle.c_expr.specs.Parses.{Parses};
 

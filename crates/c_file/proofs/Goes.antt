@@ -1,12 +1,12 @@
 -- External declarations go on from one program so far to the next.
 use Rattle.std.proofs.Common.{◌≡◌, ◌++◌, ◌∷◌, ◌+◌, ◌&&◌, not, [], ℕ, zero, suc, Bool, List, length, Option, Some, None, Result, Ok, Err, refl, sym, ap, ◌∙◌, subst, append_assoc, length-append, arith}
-use Rattle.c_declaration.specs.Tree.{DeclaratorTree, begins}
-use Rattle.c_declaration.specs.declared.tree.FileSpec.{FileSpec}
-use Rattle.c_declaration.specs.declared.tree.FunctionHead.{FunctionHead}
-use Rattle.c_declaration.specs.declared.tree.Head.{Head}
-use Rattle.c_declaration.specs.declared.tree.Storage.{Storage}
-use Rattle.c_statement.specs.Tree.{StatementTree}
-use Rattle.c_statement.specs.declared.unit.External.TheVariants.{Declaration, Definition}
+use Rattle.c_trees.specs.Declarators.{DeclaratorTree, begins}
+use Rattle.c_trees.specs.declared.declaration.FileSpec.{FileSpec}
+use Rattle.c_trees.specs.declared.declaration.FunctionHead.{FunctionHead}
+use Rattle.c_trees.specs.declared.declaration.Head.{Head}
+use Rattle.c_trees.specs.declared.declaration.Storage.{Storage}
+use Rattle.c_trees.specs.Statements.{StatementTree}
+use Rattle.c_trees.specs.declared.unit.External.TheVariants.{Declaration, Definition}
 use Rattle.c_tree.specs.declared.rows.Function.{Function as Row}
 use Rattle.c_tree.specs.declared.types.CType.{CType}
 use Rattle.c_typing.specs.Plain.{Plain, plain}

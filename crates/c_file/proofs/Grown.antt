@@ -1,8 +1,8 @@
 -- What statements and parameters declare: names stand behind those before them, each of them a local object, and come into scope before them.
 use Rattle.std.proofs.Common.{◌≡◌, ◌++◌, ◌∷◌, ◌+◌, [], ℕ, suc, Bool, true, false, List, length, Option, Some, None, refl, sym, ap, ◌∙◌, subst, append_assoc, length-append, arith}
-use Rattle.c_declaration.specs.declared.tree.Declared.{Declared}
-use Rattle.c_expr.specs.declared.tree.Spec.{Spec}
-use Rattle.c_statement.specs.Tree.{StatementTree, Empty, Evaluate, Begun, Declares, Also, Closed, If, IfElse, Headed, Do, Break, Continue, Return}
+use Rattle.c_trees.specs.declared.declaration.Declared.{Declared}
+use Rattle.c_trees.specs.declared.expression.Spec.{Spec}
+use Rattle.c_trees.specs.Statements.{StatementTree, Empty, Evaluate, Begun, Declares, Also, Closed, If, IfElse, Headed, Do, Break, Continue, Return}
 use Rattle.c_typing.specs.Plain.{Plain}
 use Rattle.c_typing.specs.Expressions as typing
 use Rattle.c_judge.specs.Answers.{Answer, Known, Unknown, Broken}

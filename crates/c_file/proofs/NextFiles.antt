@@ -1,6 +1,6 @@
 -- From one file to the next.
 use Rattle.std.proofs.Common.{◌≡◌, ◌≤◌, ◌++◌, ◌∷◌, [], ℕ, suc, List, length, map, Option, Some, None, refl, sym, ap, ◌∙◌, subst, arith}
-use Rattle.c_statement.specs.declared.unit.External.{External}
+use Rattle.c_trees.specs.declared.unit.External.{External}
 use Rattle.c_judge.specs.declared.fault.Fault.{Fault}
 use Rattle.c_judge.specs.Answers.{Answer, Known, Unknown, Broken}
 use Rattle.c_scope.specs.declared.environment.Environment.{Environment as Here}

@@ -1,6 +1,6 @@
 -- External declarations one after another, and files.
 use Rattle.std.proofs.Common.{◌≡◌, ◌++◌, ◌∷◌, [], ℕ, suc, List, length, map, Option, Some, None, refl, sym, ap, ◌∙◌, subst}
-use Rattle.c_statement.specs.declared.unit.External.{External}
+use Rattle.c_trees.specs.declared.unit.External.{External}
 use Rattle.c_judge.specs.Answers.{Answer, Known, Unknown, Broken}
 use Rattle.c_file.specs.Files.{State, Externals, AllExternals, Onward}
 use Rattle.c_scope.specs.Findings.{Finding, Fine, fine, nothing, ◌beside◌}

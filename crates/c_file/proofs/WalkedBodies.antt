@@ -1,6 +1,6 @@
 -- A body that has been looked through.
 use Rattle.std.proofs.Common.{◌≡◌, ◌≤◌, ◌++◌, ◌∷◌, ◌+◌, ◌-◌, [], ℕ, zero, suc, Bool, true, List, length, drop, map, Option, Some, None, Result, Ok, Err, refl, sym, ap, ◌∙◌, subst, length-append, arith}
-use Rattle.c_statement.specs.Tree.{StatementTree}
+use Rattle.c_trees.specs.Statements.{StatementTree}
 use Rattle.c_tree.specs.declared.rows.Local.{Local}
 use Rattle.c_typing.specs.Plain.{Plain}
 use Rattle.c_judge.specs.declared.fault.Fault.{Fault}

@@ -1,6 +1,6 @@
 -- How the code goes from file to file.
 use Rattle.std.specs.Prelude.{◌≡◌, ◌++◌, [], ℕ, suc, List, length, Option, None, Result, Ok, Err}
-use Rattle.c_statement.specs.declared.unit.External.{External}
+use Rattle.c_trees.specs.declared.unit.External.{External}
 use Rattle.c_scope.specs.declared.environment.Environment.{Environment as Here}
 use Rattle.c_file.specs.declared.state.State.{State as Standing}
 use Rattle.c_file.specs.declared.state.FileFault.{FileFault}

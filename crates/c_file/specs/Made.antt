@@ -1,6 +1,6 @@
 -- Which checked program the files become: its rows, each in the order of the source.
 use Rattle.std.specs.Prelude.{◌≡◌, ◌≤◌, sum, ℕ, zero, suc, ◌+◌, ◌-◌, Bool, true, false, not, ◌&&◌, ◌||◌, ◌==◌, if◌then◌else◌, List, [], ◌∷◌, ◌++◌, map, length, drop, Option, Some, None, bytes_eq}
-use Rattle.c_statement.specs.declared.unit.External.{External}
+use Rattle.c_trees.specs.declared.unit.External.{External}
 use Rattle.c_tree.specs.declared.rows.Program.{Program}
 use Rattle.c_tree.specs.declared.rows.UnitRow.{UnitRow}
 use Rattle.c_tree.specs.declared.rows.ObjectRow.{ObjectRow}

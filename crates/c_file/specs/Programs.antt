@@ -1,16 +1,16 @@
 -- What is found wrong with a program of some files (C90 5.1, 6.7), in the order in which faults are told.
 use Rattle.std.specs.Prelude.{◌≡◌, ℕ, zero, suc, ◌+◌, Bool, true, false, not, ◌&&◌, ◌||◌, nat_le, nat_lt, ◌==◌, if◌then◌else◌, List, [], ◌∷◌, ◌++◌, map, length, Option, Some, None, bytes_eq, codes}
-use Rattle.c_declaration.specs.Tree.{DeclaratorTree, Name, Parens, Pointers, Array, Function, Taking, Named, Unnamed}
-use Rattle.c_declaration.specs.declared.tree.Declared.{Declared}
-use Rattle.c_declaration.specs.declared.tree.FileSpec.{FileSpec}
-use Rattle.c_declaration.specs.declared.tree.FileSpec.TheVariants as file
-use Rattle.c_declaration.specs.declared.tree.Local.{Local}
-use Rattle.c_declaration.specs.declared.tree.MemberPart.{MemberPart}
-use Rattle.c_declaration.specs.declared.tree.MemberPart.TheVariants.{Opens, Row, Closes}
-use Rattle.c_statement.specs.Tree.{StatementTree, Declares, Also, Closed, If, IfElse, Headed, Do}
-use Rattle.c_statement.specs.declared.unit.External.{External}
-use Rattle.c_statement.specs.declared.unit.Unit.{Unit}
-use Rattle.c_statement.specs.declared.unit.External.TheVariants.{Declaration, Definition}
+use Rattle.c_trees.specs.Declarators.{DeclaratorTree, Name, Parens, Pointers, Array, Function, Taking, Named, Unnamed}
+use Rattle.c_trees.specs.declared.declaration.Declared.{Declared}
+use Rattle.c_trees.specs.declared.declaration.FileSpec.{FileSpec}
+use Rattle.c_trees.specs.declared.declaration.FileSpec.TheVariants as file
+use Rattle.c_trees.specs.declared.declaration.Local.{Local}
+use Rattle.c_trees.specs.declared.declaration.MemberPart.{MemberPart}
+use Rattle.c_trees.specs.declared.declaration.MemberPart.TheVariants.{Opens, Row, Closes}
+use Rattle.c_trees.specs.Statements.{StatementTree, Declares, Also, Closed, If, IfElse, Headed, Do}
+use Rattle.c_trees.specs.declared.unit.External.{External}
+use Rattle.c_trees.specs.declared.unit.Unit.{Unit}
+use Rattle.c_trees.specs.declared.unit.External.TheVariants.{Declaration, Definition}
 use Rattle.c_tree.specs.declared.types.StructDef.{StructDef}
 use Rattle.c_typing.specs.Plain.{Plain, Array, is_empty}
 use Rattle.c_typing.specs.Expressions as typing

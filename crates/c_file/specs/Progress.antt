@@ -1,6 +1,6 @@
 -- How the code's state of a program goes on over a part of it.
 use Rattle.std.specs.Prelude.{◌≡◌, ◌++◌, ◌∷◌, [], ℕ, Bool, suc, List, map, length, Option, Some, None, Result, Ok, Err}
-use Rattle.c_declaration.specs.declared.tree.FileSpec.{FileSpec}
+use Rattle.c_trees.specs.declared.declaration.FileSpec.{FileSpec}
 use Rattle.c_tree.specs.declared.types.CType.{CType}
 use Rattle.c_tree.specs.declared.rows.Local.{Local}
 use Rattle.c_tree.specs.declared.rows.Point.{Point}

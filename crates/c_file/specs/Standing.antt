@@ -1,6 +1,6 @@
 -- What the code's state of a program is.
 use Rattle.std.specs.Prelude.{◌≡◌, ℕ, List, map, length, Option, Some, None, Result, Ok, Err}
-use Rattle.c_statement.specs.declared.unit.External.{External}
+use Rattle.c_trees.specs.declared.unit.External.{External}
 use Rattle.c_tree.specs.declared.rows.Function.{Function}
 use Rattle.c_file.specs.declared.state.State.{State as Standing}
 use Rattle.c_file.specs.declared.state.Called.{Called as CalledRow}

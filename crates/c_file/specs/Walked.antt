@@ -1,9 +1,9 @@
 -- How the code goes over a function's body.
 use Rattle.std.specs.Prelude.{◌≡◌, ◌++◌, ◌∷◌, ◌+◌, ◌-◌, [], ℕ, suc, Bool, List, map, length, drop, Option, Some, None, Result, Ok, Err}
 use Rattle.ldb_words.specs.declared.text.Text.{Text}
-use Rattle.c_declaration.specs.Tree.{DeclaratorTree}
-use Rattle.c_declaration.specs.declared.tree.Storage.{Storage}
-use Rattle.c_statement.specs.Tree.{StatementTree}
+use Rattle.c_trees.specs.Declarators.{DeclaratorTree}
+use Rattle.c_trees.specs.declared.declaration.Storage.{Storage}
+use Rattle.c_trees.specs.Statements.{StatementTree}
 use Rattle.c_tree.specs.declared.rows.Function.{Function as Row}
 use Rattle.c_tree.specs.declared.rows.Point.{Point}
 use Rattle.c_tree.specs.declared.typed.Stmt.{Stmt}

@@ -1,6 +1,6 @@
 // The declared names of a declaration at file scope (C90 6.5, 6.7.2).
 ghost use Rattle.std.specs.Prelude.{◌≡◌, ◌++◌, map, Some, None, OnOk, false};
-ghost use Rattle.c_declaration.specs.Tree.{begins};
+ghost use Rattle.c_trees.specs.Declarators.{begins};
 ghost use Rattle.c_typing.specs.Plain.{Plain, plain};
 ghost use Rattle.c_typing.specs.Expressions as typing;
 ghost use Rattle.c_judge.specs.Answers.{Known};
@@ -24,12 +24,12 @@ use crate::file_names::FileName;
 use crate::function_rows::{add_declarator_calls, add_initial_calls};
 use crate::standing::{is_static, object_standing, object_type, parameter_types};
 use crate::state::{Awaited, Called, Started, State};
-use c_declaration::{Declared, Initial, Storage};
 use c_initial::{Initialized, LatePlace, initial};
 use c_judge::{Fault, copied};
 use c_mentions::strings_in_declarator;
 use c_scope::{Meaning, Parameter, Shape, declarator_place, name_in, shape};
 use c_tree::CType;
+use c_trees::declaration::{Declared, Initial, Storage};
 use ldb_words::Text;
 use std::alloc::{AllocError, Global};
 

@@ -1,19 +1,20 @@
 // External declarations (C90 6.7).
 ghost use Rattle.c_file.specs.Files.{Externals, AllExternals};
 ghost use Rattle.c_file.specs.Progress.{Begins, GoesOn};
-ghost use Rattle.c_statement.specs.declared.unit.External.TheVariants as external;
+ghost use Rattle.c_trees.specs.declared.unit.External.TheVariants as external;
 
 use crate::declarations::all_declared;
 use crate::function_rows::add_spec_calls;
 use crate::functions::function;
 use crate::state::State;
-use c_declaration::{FileSpec, FunctionHead, Head};
 use c_judge::Fault;
 use c_mentions::strings_in_spec;
 use c_scope::{Shape, shape};
-use c_statement::{External, Statement};
 use c_struct::specified;
 use c_tree::CType;
+use c_trees::declaration::{FileSpec, FunctionHead, Head};
+use c_trees::statement::Statement;
+use c_trees::unit::External;
 use std::alloc::Global;
 
 /// The type that a declaration begins with.

@@ -12,10 +12,10 @@ ghost use Rattle.c_scope.specs.Here.{environment_of};
 
 use crate::state::Called;
 use c_body::{Stop, called_in_declarator, called_in_initial, called_in_spec};
-use c_declaration::{Declarator, FileSpec, Initial};
 use c_judge::{Symbol, copied};
 use c_scope::Environment;
 use c_tree::{Local, Point};
+use c_trees::declaration::{Declarator, FileSpec, Initial};
 use ldb_words::{Many, Text};
 use std::alloc::{AllocError, Global};
 

@@ -1,6 +1,6 @@
 // Functions with bodies (C90 6.7.1).
 ghost use Rattle.std.specs.Prelude.{◌≡◌, ◌≤◌, ◌∷◌, [], ◌&&◌, map, length, true, not, Some, IfOk, OnOk};
-ghost use Rattle.c_declaration.specs.Tree.{begins};
+ghost use Rattle.c_trees.specs.Declarators.{begins};
 ghost use Rattle.c_typing.specs.Plain.{plain};
 ghost use Rattle.c_judge.specs.Judges.{Gives};
 ghost use Rattle.c_scope.specs.Declarators as shape;
@@ -23,12 +23,12 @@ use crate::names::is_built_in;
 use crate::standing::{is_static, parameter_types};
 use crate::state::State;
 use c_body::{Body, Counts, Stop, check_body};
-use c_declaration::{Declarator, Storage};
 use c_judge::{Fault, copied};
 use c_mentions::strings_in_declarator;
 use c_scope::{Environment, Mark, Meaning, Parameter, Shape, declarator_place, name_in};
-use c_statement::{Statement, StatementNode};
 use c_tree::{CType, Function, Local, Site, Stmt};
+use c_trees::declaration::{Declarator, Storage};
+use c_trees::statement::{Statement, StatementNode};
 use ldb_words::{Many, Text};
 use std::alloc::{AllocError, Global};
 

@@ -10,11 +10,11 @@ ghost use Rattle.c_file.specs.Files.{is_static, is_extern, object_type, may_stan
 ghost use Rattle.c_scope.specs.Here.{environment_of};
 ghost use Rattle.c_scope.specs.Shapes.{parameter_of};
 
-use c_declaration::{Initial, Storage};
 use c_initial::with_initial_bound;
 use c_judge::{Fault, copied, is_complete, limited};
 use c_scope::{Environment, Parameter};
 use c_tree::CType;
+use c_trees::declaration::{Initial, Storage};
 use ldb_words::Many;
 use std::alloc::{AllocError, Global};
 

@@ -6,7 +6,7 @@ ghost use Rattle.c_file.specs.Programs.{externals_of, tags_of};
 
 use c_defs::Numbers;
 use c_mentions::in_externals;
-use c_statement::Unit;
+use c_trees::unit::Unit;
 use ldb_words::Text;
 use std::alloc::{AllocError, Global};
 

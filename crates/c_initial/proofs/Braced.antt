@@ -2,7 +2,7 @@
 use Rattle.std.proofs.Common.{arith, ◌≡◌, ◌≢◌, ◌+◌, ◌≤◌, ℕ, zero, suc, true, false, List, [], ◌∷◌, ◌++◌, length, drop, refl, sym, ap, subst, ◌∙◌, length-append, Option, Some, None}
 use Rattle.std.proofs.lemmas.List.{append_assoc}
 use Rattle.c_lex.specs.declared.token.Place.{Place}
-use Rattle.c_declaration.specs.InitialTree.{InitialTree, Braces, Item, with_items}
+use Rattle.c_trees.specs.Initializers.{InitialTree, Braces, Item, with_items}
 use Rattle.c_tree.specs.declared.types.StructDef.{StructDef}
 use Rattle.c_typing.specs.Plain.{Plain, Array}
 use Rattle.c_judge.specs.Answers.{Broken}

@@ -2,8 +2,8 @@
 use Rattle.std.proofs.Common.{arith, ◌≡◌, ◌≤◌, ◌+◌, ◌-◌, ◌*◌, ℕ, zero, suc, Bool, true, false, ◌&&◌, ◌||◌, nat_le, nat_lt, if◌then◌else◌, List, [], ◌∷◌, ◌++◌, length, map, take, drop, replicate, slice_get, refl, sym, ap, ◌∙◌, length-append, Option, Some, None, option_map}
 use Rattle.std.proofs.lemmas.List.{length-replicate, length-map}
 use Rattle.c_lex.specs.declared.token.Place.{Place}
-use Rattle.c_expr.specs.Tree.{Tree}
-use Rattle.c_declaration.specs.InitialTree.{InitialTree, Value, Braces, Item}
+use Rattle.c_trees.specs.Expressions.{Tree}
+use Rattle.c_trees.specs.Initializers.{InitialTree, Value, Braces, Item}
 use Rattle.c_tree.specs.declared.types.StructDef.{StructDef}
 use Rattle.c_tree.specs.declared.types.Member.{Member}
 use Rattle.c_tree.specs.Layout.{members_of}

@@ -1,6 +1,6 @@
 -- Expressions as initializers of pointers.
 use Rattle.std.proofs.Common.{arith, ◌≡◌, ℕ, zero, suc, Bool, true, false, ◌||◌, ◌==◌, List, [], ◌∷◌, refl, sym, ap, ◌∙◌, Option, Some, None}
-use Rattle.c_expr.specs.Tree.{Tree}
+use Rattle.c_trees.specs.Expressions.{Tree}
 use Rattle.c_typing.specs.Plain.{Plain}
 use Rattle.c_typing.specs.declared.constant.Constant.{Constant}
 use Rattle.c_typing.specs.declared.constant.Constant.TheVariants.{Variable, Undefined, Number}

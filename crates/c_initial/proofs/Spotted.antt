@@ -8,7 +8,7 @@ use Rattle.c_symbol.specs.declared.symbol.PrefixOp.{PrefixOp}
 use Rattle.c_symbol.specs.declared.symbol.PrefixOp.TheVariants as prefix
 use Rattle.c_symbol.specs.declared.symbol.BinaryOp.{BinaryOp}
 use Rattle.c_symbol.specs.declared.symbol.BinaryOp.TheVariants as binary
-use Rattle.c_expr.specs.Tree.{Tree, Leaf, Index, Call, With, Prefix, Binary, with_arguments}
+use Rattle.c_trees.specs.Expressions.{Tree, Leaf, Index, Call, With, Prefix, Binary, with_arguments}
 use Rattle.c_tree.specs.declared.types.CType.{CType}
 use Rattle.c_typing.specs.Plain.{Array, plain}
 use Rattle.c_typing.specs.Expressions.{Denoted, Object, Function}

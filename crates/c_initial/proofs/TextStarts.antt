@@ -1,8 +1,8 @@
 -- Calls are no strings, and lists in braces have so many items.
 use Rattle.std.proofs.Common.{◌≡◌, ◌+◌, List, [], ◌∷◌, length, refl, None, arith}
 use Rattle.c_lex.specs.declared.token.Place.{Place}
-use Rattle.c_expr.specs.Tree.{Tree, Call, With, with_arguments}
-use Rattle.c_declaration.specs.InitialTree.{InitialTree, Braces, Item, with_items}
+use Rattle.c_trees.specs.Expressions.{Tree, Call, With, with_arguments}
+use Rattle.c_trees.specs.Initializers.{InitialTree, Braces, Item, with_items}
 use Rattle.c_initial.specs.Initials.{text_of, count_of}
 
 with_more : (c e : Tree) (es : List Tree) → text_of (with_arguments (With c e) es) ≡ None

@@ -1,7 +1,7 @@
 -- What static objects hold at first (C90 6.5.7): one item for each leaf, where an object is named by its name.
 use Rattle.std.specs.Prelude.{ℕ, ◌+◌, ◌*◌, ◌-◌, List, [], ◌∷◌, ◌++◌, map, length, replicate, drop, Option, Some, None}
-use Rattle.c_expr.specs.Tree.{Tree}
-use Rattle.c_declaration.specs.InitialTree.{InitialTree, Value, Braces, Item}
+use Rattle.c_trees.specs.Expressions.{Tree}
+use Rattle.c_trees.specs.Initializers.{InitialTree, Value, Braces, Item}
 use Rattle.c_tree.specs.declared.types.StructDef.{StructDef}
 use Rattle.c_tree.specs.declared.types.Member.{Member as MemberRow}
 use Rattle.c_tree.specs.Layout.{members_of}

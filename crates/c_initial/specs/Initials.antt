@@ -3,8 +3,8 @@ use Rattle.std.specs.Prelude.{ℕ, zero, suc, Bool, true, false, ◌&&◌, ◌||
 use Rattle.c_symbol.specs.declared.symbol.LeafKind.TheVariants as leaf
 use Rattle.c_symbol.specs.declared.symbol.PrefixOp.TheVariants.{Address}
 use Rattle.c_symbol.specs.declared.symbol.BinaryOp.TheVariants.{Add}
-use Rattle.c_expr.specs.Tree.{Tree, Leaf, Index, Prefix, Binary}
-use Rattle.c_declaration.specs.InitialTree.{InitialTree, Value, Braces, Item}
+use Rattle.c_trees.specs.Expressions.{Tree, Leaf, Index, Prefix, Binary}
+use Rattle.c_trees.specs.Initializers.{InitialTree, Value, Braces, Item}
 use Rattle.c_tree.specs.Layout.{members_of}
 use Rattle.c_typing.specs.Plain.{Plain, Char, Pointer, Array, Struct, plain, same}
 use Rattle.c_typing.specs.Expressions.{Denoted, Object}

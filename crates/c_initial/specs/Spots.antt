@@ -6,7 +6,7 @@ use Rattle.c_symbol.specs.declared.symbol.PrefixOp.{PrefixOp}
 use Rattle.c_symbol.specs.declared.symbol.PrefixOp.TheVariants.{Address}
 use Rattle.c_symbol.specs.declared.symbol.BinaryOp.{BinaryOp}
 use Rattle.c_symbol.specs.declared.symbol.BinaryOp.TheVariants.{Add}
-use Rattle.c_expr.specs.Tree.{Tree, Leaf, Index}
+use Rattle.c_trees.specs.Expressions.{Tree, Leaf, Index}
 use Rattle.c_typing.specs.Plain.{Plain, Array, plain}
 use Rattle.c_typing.specs.Expressions.{Denoted, Object}
 use Rattle.c_judge.specs.declared.symbol.Symbol.{Symbol}

@@ -1,6 +1,6 @@
 -- What the code's initializers give.
 use Rattle.std.specs.Prelude.{◌≡◌, ℕ, List, [], ◌∷◌, ◌++◌, map, replicate, Option, Some, None, Result, Ok, Err}
-use Rattle.c_declaration.specs.InitialTree.{InitialTree}
+use Rattle.c_trees.specs.Initializers.{InitialTree}
 use Rattle.c_typing.specs.Plain.{Plain}
 use Rattle.c_judge.specs.declared.fault.Fault.{Fault}
 use Rattle.c_judge.specs.Answers.{Broken}

@@ -1,6 +1,6 @@
 -- What expressions give as initializers, by what is known of them.
 use Rattle.std.specs.Prelude.{◌≡◌, ℕ, Bool, false, ◌==◌, List, [], ◌∷◌, ◌++◌, Option, Some, None, Result, Ok, Err}
-use Rattle.c_expr.specs.Tree.{Tree}
+use Rattle.c_trees.specs.Expressions.{Tree}
 use Rattle.c_typing.specs.Plain.{Plain}
 use Rattle.c_judge.specs.Places.{place_of}
 use Rattle.c_typing.specs.declared.constant.Constant.{Constant}

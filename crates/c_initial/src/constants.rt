@@ -9,9 +9,9 @@ ghost use Rattle.c_initial.specs.Initials.{number, number_in};
 ghost use Rattle.c_scope.specs.Refused.{Tells};
 ghost use Rattle.c_scope.specs.Here.{environment_of};
 
-use c_expr::Expr;
 use c_judge::{Constant, Fault, Part};
 use c_scope::{Environment, Refusal, judged_in};
+use c_trees::expression::Expr;
 use std::alloc::{AllocError, Global};
 
 /// What a part is as a constant expression.

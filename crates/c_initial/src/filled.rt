@@ -1,6 +1,6 @@
 // What holds of initializers of static objects.
 ghost use Rattle.std.specs.Prelude.{◌≡◌, ℕ, true, length};
-ghost use Rattle.c_declaration.specs.InitialTree.{InitialTree};
+ghost use Rattle.c_trees.specs.Initializers.{InitialTree};
 ghost use Rattle.c_typing.specs.Plain.{Plain, is_complete};
 ghost use Rattle.c_defs.specs.Depths.{deepest, is_within};
 ghost use Rattle.c_scope.specs.Environment as around;

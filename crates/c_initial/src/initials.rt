@@ -4,10 +4,10 @@ ghost use Rattle.c_typing.specs.Plain.{plain};
 ghost use Rattle.c_mentions.specs.Tags.{now};
 ghost use Rattle.c_initial.specs.Initials.{text_of, fits, count_of, rule_of, is_aggregate};
 
-use c_declaration::{Initial, InitialNode};
-use c_expr::{Expr, Node};
 use c_symbol::LeafKind;
 use c_tree::CType;
+use c_trees::declaration::{Initial, InitialNode};
+use c_trees::expression::{Expr, Node};
 use ldb_words::Text;
 
 /// The text of a string literal.

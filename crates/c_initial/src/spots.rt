@@ -10,11 +10,11 @@ ghost use Rattle.c_initial.specs.Spots.{object_in, object_of, item_in, whole_in,
 ghost use Rattle.c_scope.specs.Here.{environment_of};
 
 use crate::constants::number;
-use c_expr::{Expr, Node};
 use c_judge::{Symbol, same};
 use c_scope::Environment;
 use c_symbol::{BinaryOp, LeafKind, PrefixOp};
 use c_tree::CType;
+use c_trees::expression::{Expr, Node};
 use ldb_words::Text;
 use std::alloc::{AllocError, Global};
 

@@ -1,6 +1,6 @@
 // The walk through the initializer of a static object (C90 6.5.7). It goes as deep as the initializer is nested.
 ghost use Rattle.std.specs.Prelude.{◌≡◌, ◌+◌, length, option_map};
-ghost use Rattle.c_declaration.specs.InitialTree.{Value, Braces, with_items};
+ghost use Rattle.c_trees.specs.Initializers.{Value, Braces, with_items};
 ghost use Rattle.c_typing.specs.Plain.{plain};
 ghost use Rattle.c_scope.specs.Spelling.{initial_at};
 ghost use Rattle.c_initial.specs.Initials.{part_of, initial_found, late_in};
@@ -13,11 +13,11 @@ use crate::initials::{is_aggregate, rule_of};
 use crate::starts::Initialized;
 use crate::values::add_value;
 use crate::zeros::add_rest;
-use c_declaration::{Initial, InitialNode};
 use c_judge::place_of;
 use c_lex::Place;
 use c_scope::{Environment, Refusal};
 use c_tree::{CType, StructDef, members};
+use c_trees::declaration::{Initial, InitialNode};
 use std::alloc::Global;
 
 /// The offset where an initializer begins.

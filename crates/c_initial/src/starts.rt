@@ -1,6 +1,6 @@
 // What static objects hold at first (C90 6.5.7).
 ghost use Rattle.std.specs.Prelude.{◌≡◌, ◌+◌, IfOk};
-ghost use Rattle.c_declaration.specs.InitialTree.{Braces, with_items};
+ghost use Rattle.c_trees.specs.Initializers.{Braces, with_items};
 ghost use Rattle.c_typing.specs.Plain.{plain};
 ghost use Rattle.c_scope.specs.Here.{environment_of};
 ghost use Rattle.c_initial.specs.Initials.{bound_set, with_bound};
@@ -8,11 +8,11 @@ ghost use Rattle.c_initial.specs.Starts.{IsInitialized};
 
 use crate::initials::text_of;
 use crate::starting::add_initial;
-use c_declaration::{Initial, InitialNode};
 use c_judge::Fault;
 use c_lex::Place;
 use c_scope::{Environment, fault_of};
 use c_tree::CType;
+use c_trees::declaration::{Initial, InitialNode};
 use ldb_words::Text;
 use std::alloc::{AllocError, Global};
 

@@ -1,6 +1,6 @@
 // Expressions as initializers of static objects (C90 6.5.7).
 ghost use Rattle.std.specs.Prelude.{◌≡◌, ◌+◌, ◌++◌, ◌||◌, [], ◌∷◌, length, map, option_map, IfOk, OnOk, Some};
-ghost use Rattle.c_declaration.specs.InitialTree.{Value};
+ghost use Rattle.c_trees.specs.Initializers.{Value};
 ghost use Rattle.c_typing.specs.Plain.{plain, Pointer, Array};
 ghost use Rattle.c_judge.specs.Judgement.{judged};
 ghost use Rattle.c_judge.specs.Places.{place_of};
@@ -23,11 +23,11 @@ use crate::initials::{fits, text_of};
 use crate::spots::{StaticPlace, is_spot, spot};
 use crate::starts::{Begin, Initialized, LatePlace};
 use crate::zeros::add_zeros;
-use c_expr::Expr;
 use c_judge::{Constant, converted, place_of, same};
 use c_mentions::in_tree;
 use c_scope::{Environment, Refusal};
 use c_tree::{CType, TooBig, size_of};
+use c_trees::expression::Expr;
 use ldb_words::Text;
 use std::alloc::{AllocError, Global};
 

@@ -1,7 +1,7 @@
 -- A call is no name alone, and begins where what is called does.
 use Rattle.std.proofs.Common.{◌≡◌, List, [], ◌∷◌, refl, None}
 use Rattle.c_lex.specs.declared.token.Place.{Place}
-use Rattle.c_expr.specs.Tree.{Tree, Call, With, with_arguments}
+use Rattle.c_trees.specs.Expressions.{Tree, Call, With, with_arguments}
 use Rattle.c_judge.specs.Judgement.{name_alone}
 use Rattle.c_judge.specs.Places.{place_of}
 

@@ -1,7 +1,7 @@
 -- What a declarator declares, from its `*`, its bounds and the declarator in parentheses.
 use Rattle.std.proofs.Common.{◌≡◌, ◌<◌, ℕ, suc, List, [], ◌∷◌, length, drop, slice_index_or, ◌∙◌, sym, refl, ap, subst, Result, Ok, Err, Option, Some, None}
 use Rattle.std.proofs.Math.Seq.{drop-cons}
-use Rattle.c_expr.specs.Tree.{Tree, Stars, Around, Bounded, Unbounded, behind_stars, with_bounds}
+use Rattle.c_trees.specs.Expressions.{Tree, Stars, Around, Bounded, Unbounded, behind_stars, with_bounds}
 use Rattle.c_tree.specs.declared.types.CType.{CType}
 use Rattle.c_typing.specs.Plain.{Plain, plain}
 use Rattle.c_judge.specs.declared.part.Part.{Part}

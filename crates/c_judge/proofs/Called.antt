@@ -1,7 +1,7 @@
 -- What a call becomes.
 use Rattle.std.proofs.Common.{◌≡◌, ℕ, Bool, true, false, ◌||◌, not, if◌then◌else◌, List, [], ◌∷◌, ◌++◌, length, ◌∙◌, sym, refl, ap, subst, map, Result, Ok, Err, Option, Some, None}
 use Rattle.c_lex.specs.declared.token.Place.{Place}
-use Rattle.c_expr.specs.Tree.{Tree, Call, With, with_arguments}
+use Rattle.c_trees.specs.Expressions.{Tree, Call, With, with_arguments}
 use Rattle.c_tree.specs.declared.typed.Typed.{Typed}
 use Rattle.c_tree.specs.declared.typed.Typed.TheVariants.{Call'}
 use Rattle.c_judge.specs.declared.part.Part.{Part}

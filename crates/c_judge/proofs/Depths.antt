@@ -1,7 +1,7 @@
 -- Measures of recursions over trees: more than the depth of each part.
 use Rattle.std.proofs.Common.{◌≡◌, ◌≤◌, ◌<◌, ◌+◌, ℕ, zero, suc, length, slice_index_or, List, [], ◌∷◌, ◌++◌, ◌∙◌, sym, ap, Option, Some, None, arith}
 use Rattle.c_lex.specs.declared.token.Place.{Place}
-use Rattle.c_expr.specs.Tree.{Tree, Call, With, Bounded, Unbounded, depth, with_arguments, with_bounds}
+use Rattle.c_trees.specs.Expressions.{Tree, Call, With, Bounded, Unbounded, depth, with_arguments, with_bounds}
 
 abbrev pub bound_depth : Option Tree → ℕ
 bound_depth None = 1

@@ -3,7 +3,7 @@ use Rattle.std.proofs.Common.{◌≡◌, ℕ, refl, ap, sym, subst, Option, Some
 use Rattle.c_judge.specs.declared.fault.Fault.{Fault}
 use Rattle.c_judge.specs.declared.fault.Fault.TheVariants.{Unknown, Rule, NoMemory}
 use Rattle.c_judge.specs.declared.part.Part.{Part}
-use Rattle.c_expr.specs.Tree.{Tree}
+use Rattle.c_trees.specs.Expressions.{Tree}
 use Rattle.c_judge.specs.Scope.{Scope}
 use Rattle.c_judge.specs.Answers.{Answer, ◌then◌, two, both_known, joint}
 use Rattle.c_judge.specs.Answers as answer

@@ -1,7 +1,7 @@
 -- The first name that is not in scope and the first forbidden form, of calls and of declarators.
 use Rattle.std.proofs.Common.{◌≡◌, ℕ, List, [], ◌∷◌, ◌∙◌, refl, ap, Option, Some, None}
 use Rattle.c_lex.specs.declared.token.Place.{Place}
-use Rattle.c_expr.specs.Tree.{Tree, Call, With, Bounded, Unbounded, with_arguments, with_bounds}
+use Rattle.c_trees.specs.Expressions.{Tree, Call, With, Bounded, Unbounded, with_arguments, with_bounds}
 use Rattle.c_judge.specs.Scope.{Scope}
 use Rattle.c_judge.specs.Forms.{first_of, unknown, unknown_all, unknown_bounds, forbidden, forbidden_bounds, forbidden_beside}
 use Rattle.c_judge.specs.Places.{place_of}

@@ -1,7 +1,7 @@
 -- Calls from what is called and their arguments.
 use Rattle.std.proofs.Common.{◌≡◌, ◌+◌, suc, List, [], ◌∷◌, ◌++◌, length, refl, subst, arith}
 use Rattle.c_lex.specs.declared.token.Place.{Place}
-use Rattle.c_expr.specs.Tree.{Tree, Call, With, with_arguments}
+use Rattle.c_trees.specs.Expressions.{Tree, Call, With, with_arguments}
 use Rattle.c_tree.specs.declared.typed.Typed.{Typed}
 use Rattle.c_judge.specs.Scope.{Scope}
 use Rattle.c_judge.specs.Answers.{Answer, Known, Unknown, Broken, ◌then◌, two}

@@ -5,8 +5,8 @@ use Rattle.c_symbol.specs.declared.symbol.Access.{Access}
 use Rattle.c_symbol.specs.declared.symbol.Step.{Step}
 use Rattle.c_symbol.specs.declared.symbol.PrefixOp.{PrefixOp}
 use Rattle.c_symbol.specs.declared.symbol.BinaryOp.{BinaryOp}
-use Rattle.c_expr.specs.declared.tree.Spec.{Spec}
-use Rattle.c_expr.specs.Tree.{Tree, Paren, Index, Member, After, Prefix, SizeofType, Cast, Binary, Choice}
+use Rattle.c_trees.specs.declared.expression.Spec.{Spec}
+use Rattle.c_trees.specs.Expressions.{Tree, Paren, Index, Member, After, Prefix, SizeofType, Cast, Binary, Choice}
 use Rattle.c_tree.specs.declared.types.CType.{CType}
 use Rattle.c_tree.specs.declared.typed.Typed.{Typed}
 use Rattle.c_tree.specs.Types.{head_of}

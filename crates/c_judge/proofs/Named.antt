@@ -2,7 +2,7 @@
 use Rattle.std.proofs.Common.{◌≡◌, ℕ, List, ◌∙◌, sym, ap, subst, refl, Some, Result, ℤ}
 use Rattle.c_lex.specs.declared.token.Place.{Place}
 use Rattle.c_symbol.specs.declared.symbol.LeafKind.TheVariants as kind
-use Rattle.c_expr.specs.Tree.{Leaf}
+use Rattle.c_trees.specs.Expressions.{Leaf}
 use Rattle.c_tree.specs.declared.typed.Typed.{Typed}
 use Rattle.c_tree.specs.declared.typed.Typed.TheVariants.{Name, Literal}
 use Rattle.c_judge.specs.declared.part.Part.{Part}

@@ -1,6 +1,6 @@
 -- The bounds of an array of arrays.
 use Rattle.std.specs.Prelude.{ℕ, List, [], ◌∷◌, Option, Some, None}
-use Rattle.c_expr.specs.Tree.{Tree}
+use Rattle.c_trees.specs.Expressions.{Tree}
 use Rattle.c_typing.specs.Plain.{Plain}
 use Rattle.c_judge.specs.Scope.{Scope, defs_of}
 use Rattle.c_judge.specs.Answers.{Answer, Broken, two, ◌then◌}

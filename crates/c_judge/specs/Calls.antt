@@ -1,6 +1,6 @@
 -- Calls of checked parts.
 use Rattle.std.specs.Prelude.{◌≡◌, ℕ, Bool, if◌then◌else◌, List, [], ◌∷◌, ◌++◌, map, Result, Ok, Err, Option, Some, None, slice_get}
-use Rattle.c_expr.specs.Tree.{Tree}
+use Rattle.c_trees.specs.Expressions.{Tree}
 use Rattle.c_tree.specs.declared.typed.Typed.{Typed}
 use Rattle.c_judge.specs.declared.part.Part.{Part}
 use Rattle.c_judge.specs.declared.calls.Calling.{Calling as Called}

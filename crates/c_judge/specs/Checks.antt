@@ -1,6 +1,6 @@
 -- What the checker of an expression in a session answers.
 use Rattle.std.specs.Prelude.{◌≡◌, ℕ, List, not, ◌&&◌, Bool, if◌then◌else◌, Some, None, Result, Ok, Err}
-use Rattle.c_expr.specs.Tree.{Tree}
+use Rattle.c_trees.specs.Expressions.{Tree}
 use Rattle.c_tree.specs.declared.typed.Typed.{Typed}
 use Rattle.c_typing.specs.Plain.{is_void}
 use Rattle.c_typing.specs.Rules.{Operand, may_drop}

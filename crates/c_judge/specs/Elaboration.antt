@@ -12,7 +12,7 @@ use Rattle.c_symbol.specs.declared.symbol.PrefixOp.{PrefixOp}
 use Rattle.c_symbol.specs.declared.symbol.PrefixOp.TheVariants as prefix
 use Rattle.c_symbol.specs.declared.symbol.BinaryOp.{BinaryOp}
 use Rattle.c_symbol.specs.declared.symbol.BinaryOp.TheVariants as written
-use Rattle.c_expr.specs.Tree.{Tree, Leaf, Paren, Index, Call, With, Member, After, Prefix, SizeofType, Cast, Binary, Choice}
+use Rattle.c_trees.specs.Expressions.{Tree, Leaf, Paren, Index, Call, With, Member, After, Prefix, SizeofType, Cast, Binary, Choice}
 use Rattle.c_tree.specs.declared.typed.Site.{Site}
 use Rattle.c_tree.specs.declared.typed.Head.{Head}
 use Rattle.c_tree.specs.declared.typed.BinaryOp.{BinaryOp as Operator}

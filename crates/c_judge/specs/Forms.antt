@@ -8,7 +8,7 @@ use Rattle.c_symbol.specs.declared.symbol.AssignOp.TheVariants.{Plain}
 use Rattle.c_symbol.specs.declared.symbol.BinaryOp.{BinaryOp}
 use Rattle.c_symbol.specs.declared.symbol.BinaryOp.TheVariants.{Assign}
 use Rattle.c_lex.specs.declared.token.Place.{Place}
-use Rattle.c_expr.specs.Tree.{Tree, Leaf, Paren, Index, Call, With, Member, After, Prefix, SizeofType, Cast, Binary, Choice, Stars, Around, Bounded, Unbounded}
+use Rattle.c_trees.specs.Expressions.{Tree, Leaf, Paren, Index, Call, With, Member, After, Prefix, SizeofType, Cast, Binary, Choice, Stars, Around, Bounded, Unbounded}
 use Rattle.c_judge.specs.Scope.{Scope}
 use Rattle.c_judge.specs.Places.{place_of}
 use Rattle.c_judge.specs.declared.check.Mode.{Mode}

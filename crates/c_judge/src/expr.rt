@@ -1,7 +1,7 @@
 // The judgement of expressions. It goes as deep as the tree is nested.
 ghost use Rattle.std.specs.Prelude.{◌≡◌, length};
-ghost use Rattle.c_expr.specs.Tree as tree;
-ghost use Rattle.c_expr.specs.Tree.{with_arguments};
+ghost use Rattle.c_trees.specs.Expressions as tree;
+ghost use Rattle.c_trees.specs.Expressions.{with_arguments};
 ghost use Rattle.c_typing.specs.Plain.{Plain};
 ghost use Rattle.c_judge.specs.Answers.{Known, Answer};
 ghost use Rattle.c_judge.specs.Judgement.{declared, spec_type};
@@ -21,9 +21,9 @@ use crate::nodes::{
 use crate::part::Part;
 use crate::place::place_of;
 use crate::scope::Scope;
-use c_expr::{Abstract, Expr, Node, TypeName};
 use c_lex::Place;
 use c_tree::CType;
+use c_trees::expression::{Abstract, Expr, Node, TypeName};
 use std::alloc::Global;
 
 /// Judges an expression: gives it with its types, or says why there are none.

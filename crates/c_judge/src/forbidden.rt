@@ -4,9 +4,9 @@ ghost use Rattle.c_judge.specs.Forms.{first_of, forbidden, forbidden_leaf, forbi
 ghost use Rattle.c_judge.specs.Places.{place_of};
 
 use crate::check::Mode;
-use c_expr::{Abstract, Expr, Node};
 use c_lex::Place;
 use c_symbol::{AssignOp, BinaryOp, LeafKind, PrefixOp};
+use c_trees::expression::{Abstract, Expr, Node};
 
 /// A string is forbidden.
 fn forbidden_leaf(at: Place, kind: LeafKind) -> Option<u32>

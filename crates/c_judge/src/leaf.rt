@@ -1,6 +1,6 @@
 // Names, constants and strings.
 ghost use Rattle.std.specs.Prelude.{◌≡◌, ℕ, List, Some};
-ghost use Rattle.c_expr.specs.Tree as tree;
+ghost use Rattle.c_trees.specs.Expressions as tree;
 ghost use Rattle.c_typing.specs.Plain.{plain};
 ghost use Rattle.c_symbol.specs.declared.symbol.LeafKind.TheVariants as kind;
 ghost use Rattle.c_judge.specs.Judgement.{spec_type, folded, integer_type, leaf_of, named};
@@ -15,10 +15,10 @@ use crate::operators::{head, part_of};
 use crate::part::{Facts, Part};
 use crate::scope::Scope;
 use crate::types::{array_of, copied};
-use c_expr::Spec;
 use c_lex::{Integer, Place};
 use c_symbol::LeafKind;
 use c_tree::{CType, Typed};
+use c_trees::expression::Spec;
 use c_typing::Constant;
 use ldb_words::Text;
 use std::alloc::Global;

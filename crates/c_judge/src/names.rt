@@ -5,8 +5,8 @@ ghost use Rattle.c_judge.specs.Judges.{scope_of};
 
 use crate::leaf::number_of;
 use crate::scope::Scope;
-use c_expr::{Abstract, Expr, Node};
 use c_symbol::LeafKind;
+use c_trees::expression::{Abstract, Expr, Node};
 use ldb_words::Text;
 
 /// A name that is not in scope.

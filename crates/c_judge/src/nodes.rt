@@ -1,9 +1,9 @@
 // Nodes of checked parts, each of which may have failed.
 ghost use Rattle.std.specs.Prelude.{◌≡◌, Some, None};
 ghost use Rattle.c_lex.specs.declared.token.Place.{Place};
-ghost use Rattle.c_expr.specs.Tree as tree;
-ghost use Rattle.c_expr.specs.Tree.{Tree};
-ghost use Rattle.c_expr.specs.declared.tree.Spec.{Spec};
+ghost use Rattle.c_trees.specs.Expressions as tree;
+ghost use Rattle.c_trees.specs.Expressions.{Tree};
+ghost use Rattle.c_trees.specs.declared.expression.Spec.{Spec};
 ghost use Rattle.c_typing.specs.Plain.{Plain};
 ghost use Rattle.c_judge.specs.Answers.{Answer, Known, ◌then◌};
 ghost use Rattle.c_judge.specs.Scope.{Scope as Names};

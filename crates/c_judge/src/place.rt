@@ -2,8 +2,8 @@
 ghost use Rattle.std.specs.Prelude.{◌≡◌};
 ghost use Rattle.c_judge.specs.Places.{place_of};
 
-use c_expr::{Expr, Node};
 use c_lex::Place;
+use c_trees::expression::{Expr, Node};
 
 /// The place of the first token of an expression.
 #[tactic(auto, using(crate::proofs::Alone::place_call))]

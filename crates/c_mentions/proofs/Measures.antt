@@ -1,14 +1,14 @@
 -- Measures of recursions over trees: more than the depth of each part.
 use Rattle.std.proofs.Common.{◌≡◌, ◌≤◌, ◌<◌, ◌+◌, ℕ, zero, suc, length, slice_index_or, List, [], ◌∷◌, Option, Some, None, arith}
 use Rattle.c_lex.specs.declared.token.Place.{Place}
-use Rattle.c_expr.specs.Tree.{Tree, Call, With, Bounded, Unbounded, with_arguments, with_bounds}
-use Rattle.c_expr.specs.Tree as tree
-use Rattle.c_declaration.specs.InitialTree.{InitialTree, Braces, Item, with_items}
-use Rattle.c_declaration.specs.InitialTree as initial
-use Rattle.c_declaration.specs.declared.tree.Local.{Local}
-use Rattle.c_declaration.specs.Tree.{DeclaratorTree, Function, Taking, depth, with_parameters}
-use Rattle.c_statement.specs.Tree.{StatementTree, Begun, Declares, Also, with_locals, with_statements}
-use Rattle.c_statement.specs.Tree as statement
+use Rattle.c_trees.specs.Expressions.{Tree, Call, With, Bounded, Unbounded, with_arguments, with_bounds}
+use Rattle.c_trees.specs.Expressions as tree
+use Rattle.c_trees.specs.Initializers.{InitialTree, Braces, Item, with_items}
+use Rattle.c_trees.specs.Initializers as initial
+use Rattle.c_trees.specs.declared.declaration.Local.{Local}
+use Rattle.c_trees.specs.Declarators.{DeclaratorTree, Function, Taking, depth, with_parameters}
+use Rattle.c_trees.specs.Statements.{StatementTree, Begun, Declares, Also, with_locals, with_statements}
+use Rattle.c_trees.specs.Statements as statement
 
 abbrev pub parameter_depths : List DeclaratorTree → ℕ
 parameter_depths [] = 0

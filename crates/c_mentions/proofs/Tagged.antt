@@ -2,11 +2,11 @@
 use Rattle.std.proofs.Common.{◌≡◌, ℕ, List, [], ◌∷◌, ◌++◌, ◌∙◌, refl, ap, sym, Option, Some, None}
 use Rattle.std.proofs.lemmas.List.{append_assoc}
 use Rattle.c_lex.specs.declared.token.Place.{Place}
-use Rattle.c_expr.specs.Tree.{Tree, Call, With, Bounded, Unbounded, with_arguments, with_bounds}
-use Rattle.c_declaration.specs.Tree.{DeclaratorTree, Function, Taking, with_parameters}
-use Rattle.c_declaration.specs.InitialTree.{InitialTree, Braces, Item, with_items}
-use Rattle.c_declaration.specs.declared.tree.Local.{Local}
-use Rattle.c_statement.specs.Tree.{StatementTree, Begun, Declares, Also, with_locals, with_statements}
+use Rattle.c_trees.specs.Expressions.{Tree, Call, With, Bounded, Unbounded, with_arguments, with_bounds}
+use Rattle.c_trees.specs.Declarators.{DeclaratorTree, Function, Taking, with_parameters}
+use Rattle.c_trees.specs.Initializers.{InitialTree, Braces, Item, with_items}
+use Rattle.c_trees.specs.declared.declaration.Local.{Local}
+use Rattle.c_trees.specs.Statements.{StatementTree, Begun, Declares, Also, with_locals, with_statements}
 use Rattle.c_mentions.specs.Tags.{in_all, in_part, in_tree, in_declarator, in_initial, in_local, in_statement}
 
 nil : (xs : List (List ℕ)) → xs ≡ xs ++ []

@@ -2,14 +2,14 @@
 ghost use Rattle.std.specs.Prelude.{◌≡◌, ◌++◌, ◌<◌, ◌^◌, length, map, IfOk, OnOk};
 ghost use Rattle.c_mentions.specs.Literals.{literal, in_leaf, in_tree, in_part, in_all, in_declarator, in_member, in_file_spec, in_value, in_declared, in_local, in_statement};
 
-use c_declaration::{
+use c_lex::Place;
+use c_symbol::LeafKind;
+use c_trees::declaration::{
     Declarator, DeclaratorNode, Declared, FileSpec, Initial, InitialNode, Local, MemberPart,
     Parameter, ParameterNode,
 };
-use c_expr::{Abstract, Expr, Node, TypeName};
-use c_lex::Place;
-use c_statement::{Statement, StatementNode};
-use c_symbol::LeafKind;
+use c_trees::expression::{Abstract, Expr, Node, TypeName};
+use c_trees::statement::{Statement, StatementNode};
 use ldb_words::Text;
 use std::alloc::{AllocError, Global};
 use std::collections::BTreeMap;

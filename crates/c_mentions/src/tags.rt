@@ -3,13 +3,14 @@ ghost use Rattle.std.specs.Prelude.{◌≡◌, ◌++◌, ◌<◌, ◌^◌, lengt
 ghost use Rattle.c_defs.specs.Numbers.{Finds};
 ghost use Rattle.c_mentions.specs.Tags.{now, in_spec, in_tree, in_part, in_all, in_declarator, in_initial, in_declared, in_local, in_statement, in_member, in_file_spec, in_external, each_once};
 
-use c_declaration::{
+use c_defs::Numbers;
+use c_trees::declaration::{
     Declarator, DeclaratorNode, Declared, FileSpec, Initial, InitialNode, Local, MemberPart,
     Parameter, ParameterNode,
 };
-use c_defs::Numbers;
-use c_expr::{Abstract, Expr, Node, Spec, TypeName};
-use c_statement::{External, Statement, StatementNode};
+use c_trees::expression::{Abstract, Expr, Node, Spec, TypeName};
+use c_trees::statement::{Statement, StatementNode};
+use c_trees::unit::External;
 use ldb_words::Text;
 use std::alloc::{AllocError, Global};
 

@@ -4,7 +4,7 @@ ghost use Rattle.c_mentions.specs.Tags.{now};
 ghost use Rattle.c_mentions.specs.Literals.{literal, texts, in_declarator, in_file_spec};
 
 use crate::literals::{Literal, in_declarator, in_file_spec};
-use c_declaration::{Declarator, FileSpec};
+use c_trees::declaration::{Declarator, FileSpec};
 use ldb_words::Text;
 use std::alloc::{AllocError, Global};
 

@@ -1,8 +1,8 @@
 -- Measures of recursions over trees of expressions: more than the depth of each part.
 use Rattle.std.proofs.Common.{◌≡◌, ◌≤◌, ◌<◌, ◌+◌, ℕ, zero, suc, length, slice_index_or, List, [], ◌∷◌, Option, Some, None, arith}
 use Rattle.c_lex.specs.declared.token.Place.{Place}
-use Rattle.c_expr.specs.Tree.{Tree, Call, With, Bounded, Unbounded, with_arguments, with_bounds}
-use Rattle.c_expr.specs.Tree as tree
+use Rattle.c_trees.specs.Expressions.{Tree, Call, With, Bounded, Unbounded, with_arguments, with_bounds}
+use Rattle.c_trees.specs.Expressions as tree
 
 abbrev pub argument_depths : List Tree → ℕ
 argument_depths [] = 0

@@ -2,7 +2,7 @@
 use Rattle.std.proofs.Common.{◌≡◌, List, [], ◌∷◌, ◌++◌, ◌∙◌, refl, ap, sym, Option, Some, None}
 use Rattle.std.proofs.lemmas.List.{append_assoc}
 use Rattle.c_lex.specs.declared.token.Place.{Place}
-use Rattle.c_expr.specs.Tree.{Tree, Call, With, Bounded, Unbounded, with_arguments, with_bounds}
+use Rattle.c_trees.specs.Expressions.{Tree, Call, With, Bounded, Unbounded, with_arguments, with_bounds}
 use Rattle.c_names.specs.declared.mention.Mention.{Mention}
 use Rattle.c_names.specs.Mentions.{mentions, in_all, in_part}
 

@@ -3,8 +3,8 @@
 ghost use Rattle.std.specs.Prelude.{◌≡◌, ◌∷◌, ◌++◌, [], IfOk, OnOk};
 ghost use Rattle.c_names.specs.Mentions.{of_leaf, of_spec, mentions as mentions_in, in_all, in_part};
 
-use c_expr::{Abstract, Expr, Node, Spec, TypeName};
 use c_symbol::LeafKind;
+use c_trees::expression::{Abstract, Expr, Node, Spec, TypeName};
 use ldb_words::Text;
 use std::alloc::{AllocError, Global};
 

@@ -2,7 +2,7 @@
 use Rattle.std.proofs.Common.{◌≡◌, refl, sym, subst, ℕ, List, Option, Some, None, inl, inr}
 use Rattle.c_lex.proofs.Lexing.{one_list}
 use Rattle.c_symbol.specs.Terminals.{terminals}
-use Rattle.c_expr.specs.Tree.{Tree}
+use Rattle.c_trees.specs.Expressions.{Tree}
 use Rattle.c_expr.specs.Grammar.{Spells}
 use Rattle.c_expr.proofs.Exact.{one}
 use Rattle.c_tree.specs.declared.typed.Typed.{Typed}

@@ -1,6 +1,6 @@
 -- What a text is read as keeps to the typing rules.
 use Rattle.std.proofs.Common.{◌≡◌, ap, subst, ℕ, List, Option}
-use Rattle.c_expr.specs.Tree.{Tree}
+use Rattle.c_trees.specs.Expressions.{Tree}
 use Rattle.c_tree.specs.declared.typed.Typed.{Typed}
 use Rattle.c_tree.specs.declared.rows.Program.{Program}
 use Rattle.c_typing.specs.Statements.{locals_at, function_at}

@@ -7,7 +7,7 @@ use Rattle.c_lex.specs.Keywords.{keyword_of}
 use Rattle.c_lex.specs.Literals.{starts}
 use Rattle.c_lex.specs.Grammar.{HasTokens, is_some}
 use Rattle.c_symbol.specs.Terminals.{terminals}
-use Rattle.c_expr.specs.Tree.{Tree}
+use Rattle.c_trees.specs.Expressions.{Tree}
 use Rattle.c_expr.specs.Grammar.{Spells}
 use Rattle.c_tree.specs.declared.typed.Typed.{Typed}
 use Rattle.c_tree.specs.declared.rows.Program.{Program}

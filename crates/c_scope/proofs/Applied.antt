@@ -1,7 +1,7 @@
 -- A function's declarator with its parameters.
 use Rattle.std.proofs.Common.{arith, ◌≡◌, ◌<◌, ◌+◌, ℕ, zero, suc, false, List, [], ◌∷◌, length, refl, ap, ◌∙◌, slice_index_or}
 use Rattle.c_lex.specs.declared.token.Place.{Place}
-use Rattle.c_declaration.specs.Tree.{DeclaratorTree, Function, Taking, begins, depth, with_parameters}
+use Rattle.c_trees.specs.Declarators.{DeclaratorTree, Function, Taking, begins, depth, with_parameters}
 use Rattle.c_typing.specs.Plain.{Plain}
 use Rattle.c_judge.specs.Answers.{Answer, Known, Unknown, Broken, ◌then◌}
 use Rattle.c_scope.specs.Environment.{Environment}

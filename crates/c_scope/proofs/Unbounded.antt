@@ -11,7 +11,7 @@ use Rattle.c_scope.specs.Environment.{Environment}
 use Rattle.c_scope.specs.Declarators.{unnamed, unnamed_within}
 use Rattle.c_scope.specs.Gathered.{open_bound, is_outermost}
 use Rattle.c_scope.proofs.Thens.{gives, fails}
-use Rattle.c_expr.specs.Tree.{Tree, depth, behind_stars, with_bounds, bound_behind, Bounded, Unbounded, Stars, Around}
+use Rattle.c_trees.specs.Expressions.{Tree, depth, behind_stars, with_bounds, bound_behind, Bounded, Unbounded, Stars, Around}
 
 abbrev pub inner_depth : {B : Type 0} → (B → Tree) → Option B → ℕ
 inner_depth value None = 0

@@ -1,8 +1,8 @@
 -- What a declarator declares, from the type that its declaration begins with (C90 6.5.4).
 use Rattle.std.specs.Prelude.{ℕ, Bool, true, false, ◌&&◌, if◌then◌else◌, List, [], ◌∷◌, ◌++◌, map, Option, Some, None}
-use Rattle.c_expr.specs.Tree as tree
-use Rattle.c_expr.specs.Tree.{Tree}
-use Rattle.c_declaration.specs.Tree.{DeclaratorTree, Name, Parens, Pointers, Array, Function as Applied, Taking, Named, Unnamed, begins}
+use Rattle.c_trees.specs.Expressions as tree
+use Rattle.c_trees.specs.Expressions.{Tree}
+use Rattle.c_trees.specs.Declarators.{DeclaratorTree, Name, Parens, Pointers, Array, Function as Applied, Taking, Named, Unnamed, begins}
 use Rattle.c_typing.specs.Plain as plain
 use Rattle.c_typing.specs.Plain.{Plain, is_complete, is_scalar, is_void, value_type, same}
 use Rattle.c_typing.specs.Declarations.{is_result, is_named}

@@ -1,6 +1,6 @@
 -- The parameters of a function's declarator, one after another.
 use Rattle.std.specs.Prelude.{ℕ, Bool, false, ◌==◌, if◌then◌else◌, List, [], ◌∷◌, Option, Some, None}
-use Rattle.c_declaration.specs.Tree.{DeclaratorTree, begins}
+use Rattle.c_trees.specs.Declarators.{DeclaratorTree, begins}
 use Rattle.c_typing.specs.Plain.{Plain}
 use Rattle.c_judge.specs.Answers.{Answer, Known, Broken, ◌then◌}
 use Rattle.c_scope.specs.Environment.{Environment}

@@ -1,6 +1,6 @@
 -- Where a part of a program begins, and what kind of constant one is.
 use Rattle.std.specs.Prelude.{ℕ, Bool, true, false}
-use Rattle.c_declaration.specs.InitialTree.{InitialTree, Value, Braces, Item}
+use Rattle.c_trees.specs.Initializers.{InitialTree, Value, Braces, Item}
 use Rattle.c_typing.specs.declared.constant.Constant.{Constant}
 use Rattle.c_typing.specs.declared.constant.Constant.TheVariants.{Number}
 use Rattle.c_judge.specs.Places.{place_of}

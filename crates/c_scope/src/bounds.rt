@@ -7,9 +7,9 @@ ghost use Rattle.c_scope.specs.Here.{environment_of};
 
 use crate::environment::Environment;
 use crate::judging::judged_in;
-use c_expr::Expr;
 use c_judge::{Fault, array_of, bounded, is_complete, limited, place_of};
 use c_tree::CType;
+use c_trees::expression::Expr;
 use std::alloc::Global;
 
 /// So many items of a type, by a bound that is a constant expression.

@@ -1,10 +1,10 @@
 // The names of declarators.
 ghost use Rattle.std.specs.Prelude.{◌≡◌};
-ghost use Rattle.c_declaration.specs.Tree.{begins};
+ghost use Rattle.c_trees.specs.Declarators.{begins};
 ghost use Rattle.c_scope.specs.Declarators.{name_in, is_name};
 
-use c_declaration::{Declarator, DeclaratorNode, Parameter, ParameterNode};
 use c_lex::Place;
+use c_trees::declaration::{Declarator, DeclaratorNode, Parameter, ParameterNode};
 use ldb_words::Text;
 
 /// The name that a declarator declares.

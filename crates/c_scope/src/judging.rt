@@ -8,9 +8,9 @@ ghost use Rattle.c_scope.specs.Environment.{scope_of};
 ghost use Rattle.c_scope.specs.Here.{environment_of};
 
 use crate::environment::Environment;
-use c_expr::{Expr, Spec};
 use c_judge::{Fault, Part, judge, spec_type};
 use c_tree::CType;
+use c_trees::expression::{Expr, Spec};
 use std::alloc::Global;
 use std::collections::BTreeMap;
 

@@ -1,7 +1,7 @@
 // What a declarator declares: one function for each form. It goes as deep as the declarator is nested.
 ghost use Rattle.std.specs.Prelude.{◌≡◌, false, [], map, Some, None};
-ghost use Rattle.c_declaration.specs.Tree as tree;
-ghost use Rattle.c_declaration.specs.Tree.{begins, with_parameters};
+ghost use Rattle.c_trees.specs.Declarators as tree;
+ghost use Rattle.c_trees.specs.Declarators.{begins, with_parameters};
 ghost use Rattle.c_typing.specs.Plain.{Plain, plain};
 ghost use Rattle.c_judge.specs.Answers.{Answer, ◌then◌};
 ghost use Rattle.c_judge.specs.Judges.{Denotes, Gives};
@@ -18,11 +18,11 @@ use crate::judging::named_type;
 use crate::parameter::{function, parameter, with_one};
 use crate::shapes::{Parameter, Shape};
 use crate::unnamed::unnamed;
-use c_declaration::{Declarator, DeclaratorNode, Parameter as Written, ParameterNode};
-use c_expr::{Abstract, Expr, Spec};
 use c_judge::{Fault, pointers};
 use c_lex::Place;
 use c_tree::CType;
+use c_trees::declaration::{Declarator, DeclaratorNode, Parameter as Written, ParameterNode};
+use c_trees::expression::{Abstract, Expr, Spec};
 use std::alloc::Global;
 
 /// What a declarator declares, from the type that its declaration begins with.

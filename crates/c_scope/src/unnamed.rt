@@ -1,6 +1,6 @@
 // Types of parameters without a name.
 ghost use Rattle.std.specs.Prelude.{◌≡◌, ℕ};
-ghost use Rattle.c_expr.specs.Tree.{behind_stars, with_bounds};
+ghost use Rattle.c_trees.specs.Expressions.{behind_stars, with_bounds};
 ghost use Rattle.c_typing.specs.Plain.{plain};
 ghost use Rattle.c_judge.specs.Judges.{Denotes};
 ghost use Rattle.c_scope.specs.Declarators.{unnamed, unnamed_within};
@@ -9,9 +9,9 @@ ghost use Rattle.c_scope.specs.Here.{environment_of};
 
 use crate::bounds::{with_bound, without_bound};
 use crate::environment::Environment;
-use c_expr::{Abstract, Expr};
 use c_judge::{Fault, pointers};
 use c_tree::CType;
+use c_trees::expression::{Abstract, Expr};
 use std::alloc::Global;
 
 /// The type of a parameter without a name, in which the outermost bound may be missing.

@@ -8,7 +8,7 @@ use Rattle.c_lex.specs.declared.token.TokenKind.TheVariants.{Identifier}
 use Rattle.c_lex.specs.Grammar.{IsToken, Longest, HasTokens, token, ended, token_at, start}
 use Rattle.c_symbol.specs.declared.symbol.LeafKind.TheVariants.{Name as ANode}
 use Rattle.c_symbol.specs.Terminals.{terminal_of}
-use Rattle.c_expr.specs.Tree.{Tree, Leaf}
+use Rattle.c_trees.specs.Expressions.{Tree, Leaf}
 use Rattle.c_expr.specs.Grammar.{leaf}
 use Rattle.c_tree.specs.declared.types.CType.TheVariants.{Int}
 use Rattle.c_tree.specs.declared.typed.Typed.{Typed}

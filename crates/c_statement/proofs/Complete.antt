@@ -7,7 +7,7 @@ use Rattle.c_lex.specs.declared.keyword.Keyword.TheVariants as word
 use Rattle.c_symbol.specs.declared.terminal.Terminal.{Terminal}
 use Rattle.c_symbol.specs.declared.symbol.Symbol.{Symbol}
 use Rattle.c_symbol.specs.declared.symbol.Symbol.TheVariants as symbol
-use Rattle.c_expr.specs.Tree.{Tree}
+use Rattle.c_trees.specs.Expressions.{Tree}
 use Rattle.c_expr.specs.Grammar.{IsExpr}
 use Rattle.c_expr.specs.declared.grown.Grown.{Grown}
 use Rattle.c_expr.specs.declared.frame.Least.{Least}
@@ -21,8 +21,8 @@ use Rattle.c_expr.specs.Inside.{closes, offer, until as read_until}
 use Rattle.c_expr.proofs.Embedded.{ends_there}
 use Rattle.c_declaration.specs.declared.built.Built.{Built}
 use Rattle.c_declaration.specs.Grown.{cut}
-use Rattle.c_statement.specs.declared.tree.Head.{Head}
-use Rattle.c_statement.specs.declared.tree.Head.TheVariants as head
+use Rattle.c_trees.specs.declared.statement.Head.{Head}
+use Rattle.c_trees.specs.declared.statement.Head.TheVariants as head
 use Rattle.c_statement.specs.declared.state.Control.{Control}
 use Rattle.c_statement.specs.declared.state.Control.TheVariants as control
 use Rattle.c_statement.specs.declared.state.Frame.{Frame}
@@ -38,7 +38,7 @@ use Rattle.c_statement.specs.declared.state.Closer.TheVariants as closer
 use Rattle.c_statement.specs.declared.state.Mode.{Mode}
 use Rattle.c_statement.specs.declared.state.Mode.TheVariants.{Begin, Items, Declaring, After, Done, Paren, Ends, Colon, May, Value}
 use Rattle.c_statement.specs.declared.state.Reader.{Reader}
-use Rattle.c_statement.specs.Tree.{StatementTree, Empty, Evaluate, Begun, Declares, Also, Closed, If, IfElse, Headed, Do, Break, Continue, Return}
+use Rattle.c_trees.specs.Statements.{StatementTree, Empty, Evaluate, Begun, Declares, Also, Closed, If, IfElse, Headed, Do, Break, Continue, Return}
 use Rattle.c_statement.specs.Parts.{kept, taller, paired, expr_part, absent_part, present_part, statement_part, placed, evaluate_of, return_of, if_of, if_else_of, headed_of, do_of, for_of, begun_of, declares_of, also_of, closed_of}
 use Rattle.c_statement.specs.Grammar.{IsWord, IsOptional, absent, present, keyword_of, IsControl, controlled, IsHead, while_head, switch_head, for_head, case_head, default_head}
 use Rattle.c_statement.specs.Machine.{Next, goes, least_for, closer_of, is_closer, control_frame, with_optional, used, valued, value_begins, waits, keyword, begins, paren, colon, maybe, shift_mode, run}

@@ -4,7 +4,7 @@ use Rattle.std.specs.Prelude.{if◌then◌else◌}
 use Rattle.std.proofs.Math.Nat.{max-le, le-max_left, le-max_right}
 use Rattle.std.proofs.lemmas.Bool.{cases_lt}
 use Rattle.std.proofs.lemmas.Bool.Decides.{nat_tests}
-use Rattle.c_expr.specs.Tree.{Tree}
+use Rattle.c_trees.specs.Expressions.{Tree}
 use Rattle.c_expr.specs.Grown.{cut as expr_cut}
 use Rattle.c_declaration.specs.declared.built.Built.{Built}
 use Rattle.c_declaration.specs.Grown.{cut}

@@ -1,7 +1,7 @@
 -- One more declaration, and one more statement.
 use Rattle.std.proofs.Common.{◌≡◌, List, [], ◌∷◌, ◌++◌, refl}
-use Rattle.c_declaration.specs.declared.tree.Local.{Local}
-use Rattle.c_statement.specs.Tree.{StatementTree, Declares, Also, with_locals, with_statements}
+use Rattle.c_trees.specs.declared.declaration.Local.{Local}
+use Rattle.c_trees.specs.Statements.{StatementTree, Declares, Also, with_locals, with_statements}
 
 pub one_more_local : (b : StatementTree) (ls : List Local) (l : Local) → with_locals b (ls ++ l ∷ []) ≡ Declares (with_locals b ls) l
 one_more_local b [] l = refl

@@ -6,11 +6,11 @@ use Rattle.c_lex.specs.declared.keyword.Keyword.TheVariants as word
 use Rattle.c_symbol.specs.declared.terminal.Terminal.{Terminal}
 use Rattle.c_symbol.specs.declared.symbol.Symbol.{Symbol}
 use Rattle.c_symbol.specs.declared.symbol.Symbol.TheVariants as symbol
-use Rattle.c_expr.specs.Tree.{Tree}
+use Rattle.c_trees.specs.Expressions.{Tree}
 use Rattle.c_expr.specs.declared.frame.Least.TheVariants.{Expression}
 use Rattle.c_expr.specs.Machine.{start}
 use Rattle.c_declaration.specs.declared.built.Built.{Built}
-use Rattle.c_declaration.specs.declared.tree.Local.{Local}
+use Rattle.c_trees.specs.declared.declaration.Local.{Local}
 use Rattle.c_declaration.specs.declared.step.Step.{Step}
 use Rattle.c_declaration.specs.declared.step.Step.TheVariants as step
 use Rattle.c_declaration.specs.declared.state.LocalParser.{LocalParser}
@@ -33,7 +33,7 @@ use Rattle.c_statement.specs.declared.state.Closer.TheVariants as closer
 use Rattle.c_statement.specs.declared.state.Mode.{Mode}
 use Rattle.c_statement.specs.declared.state.Mode.TheVariants.{Begin, Items, Declaring, After, Done, Paren, Ends, Colon, May, Value}
 use Rattle.c_statement.specs.declared.state.Reader.{Reader}
-use Rattle.c_statement.specs.Tree.{StatementTree, Empty, Evaluate, Begun, Declares, Also, Closed, If, IfElse, Headed, Do, Break, Continue, Return}
+use Rattle.c_trees.specs.Statements.{StatementTree, Empty, Evaluate, Begun, Declares, Also, Closed, If, IfElse, Headed, Do, Break, Continue, Return}
 use Rattle.c_statement.specs.Parts.{kept, taller, paired, statement_part, placed, evaluate_of, return_of, if_of, if_else_of, headed_of, do_of, begun_of, declares_of, also_of, closed_of}
 use Rattle.c_statement.specs.Grammar.{IsWord, IsOptional, keyword_of, IsControl, controlled, IsHead, IsOpened, opened, next_local, IsStatement, empty_statement, expression_statement, block, if_only, if_else, headed, do_while, break_statement, continue_statement, return_statement, IsElse, up_to_else, IsBlock, closed, IsBegun, only_declarations, next_statement}
 use Rattle.c_statement.specs.Machine.{Next, goes, is_closer, waits, begins, ends_block, inside, declaring, starts_local, items, settle, on_else, until, behind, after, paren, semicolon, shift_mode, shift, run, start_block}

@@ -5,15 +5,15 @@ use Rattle.c_lex.specs.declared.keyword.Keyword.{Keyword}
 use Rattle.c_lex.specs.declared.keyword.Keyword.TheVariants as word
 use Rattle.c_symbol.specs.declared.terminal.Terminal.{Terminal}
 use Rattle.c_symbol.specs.declared.symbol.Symbol.TheVariants as symbol
-use Rattle.c_expr.specs.Tree.{Tree}
+use Rattle.c_trees.specs.Expressions.{Tree}
 use Rattle.c_expr.specs.Grammar.{IsExpr}
-use Rattle.c_declaration.specs.declared.tree.Local.{Local}
+use Rattle.c_trees.specs.declared.declaration.Local.{Local}
 use Rattle.c_declaration.specs.Grammar.{Is, IsLocal}
-use Rattle.c_statement.specs.declared.tree.Head.{Head}
-use Rattle.c_statement.specs.declared.tree.Head.TheVariants as head
+use Rattle.c_trees.specs.declared.statement.Head.{Head}
+use Rattle.c_trees.specs.declared.statement.Head.TheVariants as head
 use Rattle.c_statement.specs.declared.state.Control.{Control}
 use Rattle.c_statement.specs.declared.state.Control.TheVariants as control
-use Rattle.c_statement.specs.Tree.{StatementTree, Empty, Evaluate, Begun, Declares, Also, Closed, If, IfElse, Headed, Do, Break, Continue, Return}
+use Rattle.c_trees.specs.Statements.{StatementTree, Empty, Evaluate, Begun, Declares, Also, Closed, If, IfElse, Headed, Do, Break, Continue, Return}
 
 abbrev pub IsWord : Terminal → Keyword → Type 0
 IsWord t k = Is t (symbol.Keyword k)

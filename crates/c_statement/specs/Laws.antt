@@ -5,7 +5,7 @@ use Rattle.c_declaration.specs.declared.built.Built.{Built}
 use Rattle.c_declaration.specs.Grown.{cut}
 use Rattle.c_statement.specs.declared.state.Mode.TheVariants.{Done}
 use Rattle.c_statement.specs.declared.state.Reader.{Reader}
-use Rattle.c_statement.specs.Tree.{StatementTree}
+use Rattle.c_trees.specs.Statements.{StatementTree}
 use Rattle.c_statement.specs.Grammar.{IsBlock}
 use Rattle.c_statement.specs.Machine.{run, goes, start_block}
 

@@ -6,7 +6,7 @@ use Rattle.c_lex.specs.declared.keyword.Keyword.TheVariants as word
 use Rattle.c_symbol.specs.declared.terminal.Terminal.{Terminal}
 use Rattle.c_symbol.specs.declared.symbol.Symbol.{Symbol}
 use Rattle.c_symbol.specs.declared.symbol.Symbol.TheVariants.{CloseParen, Semicolon, Colon as ColonSign, Struct as StructWord, Word as TypeWord, Keyword as Word}
-use Rattle.c_expr.specs.Tree.{Tree}
+use Rattle.c_trees.specs.Expressions.{Tree}
 use Rattle.c_expr.specs.First.{first}
 use Rattle.c_expr.specs.Machine.{start}
 use Rattle.c_expr.specs.Inside.{offer}
@@ -24,9 +24,9 @@ use Rattle.c_declaration.specs.declared.state.LocalParser.{LocalParser}
 use Rattle.c_declaration.specs.declared.state.LocalParser.TheVariants as local
 use Rattle.c_declaration.specs.declared.state.ReadLocal.{ReadLocal}
 use Rattle.c_declaration.specs.LocalReading.{local_offer}
-use Rattle.c_statement.specs.declared.tree.Head.{Head}
-use Rattle.c_statement.specs.declared.tree.Head.TheVariants as head
-use Rattle.c_statement.specs.Tree.{StatementTree, Empty, Break, Continue}
+use Rattle.c_trees.specs.declared.statement.Head.{Head}
+use Rattle.c_trees.specs.declared.statement.Head.TheVariants as head
+use Rattle.c_trees.specs.Statements.{StatementTree, Empty, Break, Continue}
 use Rattle.c_statement.specs.declared.state.Control.{Control}
 use Rattle.c_statement.specs.declared.state.Control.TheVariants as control
 use Rattle.c_statement.specs.declared.state.Frame.{Frame}

@@ -1,10 +1,10 @@
 // Blocks of which the `}` is still to come.
 ghost use Rattle.std.specs.Prelude.{◌≡◌, IfOk};
-ghost use Rattle.c_statement.specs.Tree.{Begun, Declares, Also, Closed};
+ghost use Rattle.c_trees.specs.Statements.{Begun, Declares, Also, Closed};
 
-use crate::tree::{Statement, StatementNode};
-use c_declaration::Local;
 use c_lex::Place;
+use c_trees::declaration::Local;
+use c_trees::statement::{Statement, StatementNode};
 use ldb_words::Many;
 use std::alloc::{AllocError, Global};
 use std::marker::Model;
@@ -26,8 +26,8 @@ pub struct Block {
 
 impl Model for Opened {
     ghost use Rattle.std.specs.Coded.{codes};
-    ghost use Rattle.c_statement.specs.contracts.tree.Statement as s;
-    ghost use Rattle.c_statement.specs.Tree.{StatementTree, Begun, with_locals};
+    ghost use Rattle.c_trees.specs.contracts.statement.Statement as s;
+    ghost use Rattle.c_trees.specs.Statements.{StatementTree, Begun, with_locals};
 
     ghost Value = { StatementTree };
 
@@ -38,8 +38,8 @@ impl Model for Opened {
 
 impl Model for Block {
     ghost use Rattle.std.specs.Coded.{codes};
-    ghost use Rattle.c_statement.specs.contracts.tree.Statement as s;
-    ghost use Rattle.c_statement.specs.Tree.{StatementTree, Begun, with_locals, with_statements};
+    ghost use Rattle.c_trees.specs.contracts.statement.Statement as s;
+    ghost use Rattle.c_trees.specs.Statements.{StatementTree, Begun, with_locals, with_statements};
 
     ghost Value = { StatementTree };
 

@@ -3,7 +3,8 @@ ghost use Rattle.std.specs.Prelude.{◌≡◌, max};
 ghost use Rattle.c_statement.specs.Parts.{taller, paired, expr_part, absent_part, present_part};
 
 use c_declaration::Built;
-use c_expr::{Boxed, Expr};
+use c_expr::Boxed;
+use c_trees::expression::Expr;
 
 /// The greatest height of a statement.
 pub const MOST_HEIGHT: u32 = 64;

@@ -6,10 +6,11 @@ ghost use Rattle.c_statement.specs.Machine.{ends_before, top_ends, plug, settle,
 
 use crate::parts::{headed_of, if_else_of, if_of};
 use crate::state::{Frame, Outer};
-use crate::tree::Statement;
 use c_declaration::Built;
-use c_expr::{Boxed, Expr, Stack};
+use c_expr::{Boxed, Stack};
 use c_lex::Place;
+use c_trees::expression::Expr;
+use c_trees::statement::Statement;
 use std::alloc::{AllocError, Global};
 
 /// Whether a statement ends behind its part, before `else` or before another token.

@@ -8,15 +8,13 @@ mod laws;
 mod machine;
 mod parts;
 mod state;
-mod tree;
-mod unit;
 mod value;
 
 pub use block::{Block, Opened};
+pub use c_trees::statement::{Head, Statement, StatementNode};
+pub use c_trees::unit::{External, Unit};
 pub use laws::blocks_are_read;
 pub use machine::shift;
 pub use state::{
     At, Closer, Control, Frame, Mode, Opener, Optional, Outer, Purpose, Reader, Required,
 };
-pub use tree::{Head, Statement, StatementNode};
-pub use unit::{External, Unit};

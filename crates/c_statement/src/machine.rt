@@ -14,12 +14,12 @@ use crate::parts::{
     empty, placed,
 };
 use crate::state::{At, Control, Frame, Mode, Opener, Optional, Outer, Purpose, Reader, Required};
-use crate::tree::Statement;
 use crate::value::{begin, maybe, value_begins, valued, waits};
 use c_declaration::{Built, LocalParser, Step, local_offer};
 use c_expr::{Boxed, Stack, SynFault};
 use c_lex::{Keyword, Place};
 use c_symbol::{Symbol, Terminal};
+use c_trees::statement::Statement;
 use std::alloc::{AllocError, Global};
 
 /// What comes next changes, and nothing is begun or ended.

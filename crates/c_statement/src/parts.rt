@@ -1,16 +1,18 @@
 // Statements, put together from their parts.
 ghost use Rattle.std.specs.Prelude.{◌≡◌, IfOk, Some};
-ghost use Rattle.c_statement.specs.Tree.{Empty, Break, Continue, Headed};
-ghost use Rattle.c_statement.specs.View.{statement_of};
-ghost use Rattle.c_statement.specs.declared.tree.Head.TheVariants.{While as WhileHead, Switch as SwitchHead, Case as CaseHead, Default as DefaultHead};
+ghost use Rattle.c_trees.specs.Statements.{Empty, Break, Continue, Headed};
+ghost use Rattle.c_trees.specs.StatementView.{statement_of};
+ghost use Rattle.c_trees.specs.declared.statement.Head.TheVariants.{While as WhileHead, Switch as SwitchHead, Case as CaseHead, Default as DefaultHead};
 ghost use Rattle.c_statement.specs.Parts.{kept, placed, statement_part, evaluate_of, return_of, if_of, if_else_of, headed_of, do_of, for_of, begun_of, declares_of, also_of, closed_of};
 
 use crate::block::{Block, Opened};
 use crate::built::{paired, taller};
-use crate::tree::{Head, Statement, StatementNode};
-use c_declaration::{Built, Local};
-use c_expr::{Boxed, Expr};
+use c_declaration::Built;
+use c_expr::Boxed;
 use c_lex::Place;
+use c_trees::declaration::Local;
+use c_trees::expression::Expr;
+use c_trees::statement::{Head, Statement, StatementNode};
 use std::alloc::{AllocError, Global};
 
 /// A statement of this height.

@@ -2,10 +2,11 @@
 ghost use Rattle.std.specs.Prelude.{◌≡◌};
 
 use crate::block::{Block, Opened};
-use crate::tree::{Head, Statement};
 use c_declaration::{Built, LocalParser};
-use c_expr::{Boxed, Expr, Parser, Stack};
+use c_expr::{Boxed, Parser, Stack};
 use c_lex::Place;
+use c_trees::expression::Expr;
+use c_trees::statement::{Head, Statement};
 use std::marker::Model;
 
 /// Keywords before a controlling expression.

@@ -14,9 +14,10 @@ use crate::parts::{
 };
 use crate::state::{Closer, Control, Frame, Mode, Optional, Purpose, Reader, Required};
 use c_declaration::Built;
-use c_expr::{Boxed, Expr, Grown, Least, Offered, Parser, Stack, SynFault, offer};
+use c_expr::{Boxed, Grown, Least, Offered, Parser, Stack, SynFault, offer};
 use c_lex::Place;
 use c_symbol::{Symbol, Terminal};
+use c_trees::expression::Expr;
 use std::alloc::{AllocError, Global};
 
 /// What an expression that must stand must be.

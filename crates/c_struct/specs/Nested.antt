@@ -1,6 +1,6 @@
 -- The structs that are open, as the code keeps them.
 use Rattle.std.specs.Prelude.{List, [], ◌∷◌, Result, Ok, Err}
-use Rattle.c_declaration.specs.declared.tree.MemberPart.{MemberPart}
+use Rattle.c_trees.specs.declared.declaration.MemberPart.{MemberPart}
 use Rattle.c_tree.specs.declared.types.StructDef.{StructDef}
 use Rattle.c_typing.specs.Plain.{Plain}
 use Rattle.c_judge.specs.declared.fault.Fault.{Fault}

@@ -1,6 +1,6 @@
 -- What the code answers of the type that a declaration begins with. Behind a rule that is broken nothing is asked of what is declared.
 use Rattle.std.specs.Prelude.{List, Result, Ok, Err}
-use Rattle.c_declaration.specs.declared.tree.FileSpec.{FileSpec}
+use Rattle.c_trees.specs.declared.declaration.FileSpec.{FileSpec}
 use Rattle.c_tree.specs.declared.types.CType.{CType}
 use Rattle.c_tree.specs.declared.types.StructDef.{StructDef}
 use Rattle.c_typing.specs.Plain.{Plain, plain}

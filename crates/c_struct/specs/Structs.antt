@@ -1,6 +1,6 @@
 -- Structs with their members (C90 6.5.2.1).
 use Rattle.std.specs.Prelude.{◌≡◌, ℕ, Bool, true, false, not, ◌&&◌, ◌||◌, if◌then◌else◌, List, [], ◌∷◌, ◌++◌, map, length, Option, Some, None, bytes_eq, slice_get, ◌==◌}
-use Rattle.c_declaration.specs.Tree.{DeclaratorTree, begins}
+use Rattle.c_trees.specs.Declarators.{DeclaratorTree, begins}
 use Rattle.c_tree.specs.declared.types.StructDef.{StructDef}
 use Rattle.c_tree.specs.declared.types.Member.{Member as MemberRow}
 use Rattle.c_tree.specs.Layout.{IsLaidOut, members_of}

@@ -1,7 +1,7 @@
 // The type that a declaration at file scope begins with, where structs are completed.
 ghost use Rattle.std.specs.Prelude.{◌≡◌, List, [], ◌∷◌, ◌++◌, OnOk};
-ghost use Rattle.c_declaration.specs.declared.tree.MemberPart.TheVariants.{Opens, Row, Closes};
-ghost use Rattle.c_declaration.specs.declared.tree.FileSpec.TheVariants.{Members};
+ghost use Rattle.c_trees.specs.declared.declaration.MemberPart.TheVariants.{Opens, Row, Closes};
+ghost use Rattle.c_trees.specs.declared.declaration.FileSpec.TheVariants.{Members};
 ghost use Rattle.c_lex.specs.declared.token.Place as token;
 ghost use Rattle.c_tree.specs.declared.types.StructDef as types;
 ghost use Rattle.c_scope.specs.Environment as around;
@@ -13,12 +13,12 @@ ghost use Rattle.c_struct.specs.Specified.{Answers, IsSpecified};
 use crate::completing::complete;
 use crate::members::{OpenStruct, opened};
 use crate::struct_members::add_declarators;
-use c_declaration::{Declarator, FileSpec, MemberPart};
-use c_expr::Spec;
 use c_judge::Fault;
 use c_lex::Place;
 use c_scope::{Environment, fault_of, named_type};
 use c_tree::{CType, StructDef};
+use c_trees::declaration::{Declarator, FileSpec, MemberPart};
+use c_trees::expression::Spec;
 use ldb_words::Text;
 use std::alloc::{AllocError, Global};
 

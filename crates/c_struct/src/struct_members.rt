@@ -1,6 +1,6 @@
 // Members that are declared in a struct (C90 6.5.2.1).
 ghost use Rattle.std.specs.Prelude.{◌≡◌, OnOk};
-ghost use Rattle.c_declaration.specs.Tree.{begins};
+ghost use Rattle.c_trees.specs.Declarators.{begins};
 ghost use Rattle.c_typing.specs.Plain.{plain};
 ghost use Rattle.c_judge.specs.Answers.{◌then◌};
 ghost use Rattle.c_scope.specs.Declarators.{shape, name_in};
@@ -10,10 +10,10 @@ ghost use Rattle.c_struct.specs.Opened.{members_in, HasNames, Adds};
 ghost use Rattle.c_scope.specs.Here.{environment_of};
 
 use crate::members::{OpenStruct, add_member};
-use c_declaration::Declarator;
 use c_judge::{Fault, copied};
 use c_scope::{Environment, Shape, declarator_place, name_in, shape};
 use c_tree::CType;
+use c_trees::declaration::Declarator;
 use ldb_words::Text;
 use std::alloc::Global;
 

@@ -6,8 +6,8 @@ use Rattle.c_symbol.specs.declared.symbol.Symbol.TheVariants as symbol
 use Rattle.c_declaration.specs.declared.built.Built.{Built}
 use Rattle.c_declaration.specs.declared.step.Step.{Step}
 use Rattle.c_declaration.specs.declared.step.Step.TheVariants as step
-use Rattle.c_declaration.specs.declared.tree.Head.{Head}
-use Rattle.c_declaration.specs.declared.tree.FunctionHead.{FunctionHead}
+use Rattle.c_trees.specs.declared.declaration.Head.{Head}
+use Rattle.c_trees.specs.declared.declaration.FunctionHead.{FunctionHead}
 use Rattle.c_declaration.specs.declared.state.FileParser.{FileParser}
 use Rattle.c_declaration.specs.declared.state.FileParser.TheVariants as file
 use Rattle.c_declaration.specs.declared.state.ReadHead.{ReadHead}
@@ -17,7 +17,7 @@ use Rattle.c_declaration.specs.Feeding.{feed}
 use Rattle.c_declaration.specs.Grammar.{Is}
 use Rattle.c_declaration.specs.Grown.{cut}
 use Rattle.c_declaration.specs.Laws.{kept, reading_file, HeadEnds, FunctionEnds}
-use Rattle.c_statement.specs.Tree.{StatementTree}
+use Rattle.c_trees.specs.Statements.{StatementTree}
 use Rattle.c_statement.specs.Grammar.{IsOpened, opened, next_local, IsBlock, closed, IsBegun, only_declarations, next_statement}
 use Rattle.c_statement.specs.Laws.{BlockEnds}
 use Rattle.c_statement.specs.Machine.{begins, start_block, begun_block}
@@ -25,7 +25,7 @@ use Rattle.c_statement.specs.Machine as block
 use Rattle.c_statement.specs.declared.state.Mode.{Mode as BlockMode}
 use Rattle.c_statement.specs.declared.state.Mode.TheVariants.{Done}
 use Rattle.c_statement.specs.declared.state.Reader.{Reader}
-use Rattle.c_statement.specs.declared.unit.External.{External}
+use Rattle.c_trees.specs.declared.unit.External.{External}
 use Rattle.c_syntax.specs.declared.state.Kept.{Kept}
 use Rattle.c_syntax.specs.declared.state.Kept.TheVariants.{All}
 use Rattle.c_syntax.specs.declared.state.Mode.{Mode}

@@ -5,7 +5,7 @@ use Rattle.c_symbol.specs.declared.terminal.Terminal.{Terminal}
 use Rattle.c_symbol.specs.Terminals.{terminal_of, terminals}
 use Rattle.c_expr.specs.declared.state.SynFault.{SynFault}
 use Rattle.c_expr.specs.declared.state.SynFault.TheVariants.{Syntax, Deep, NoMemory}
-use Rattle.c_statement.specs.declared.unit.External.{External}
+use Rattle.c_trees.specs.declared.unit.External.{External}
 use Rattle.c_syntax.specs.declared.state.Kept.{Kept}
 use Rattle.c_syntax.specs.declared.state.Kept.TheVariants.{All, TooDeep}
 use Rattle.c_syntax.specs.declared.state.Mode.{Mode}

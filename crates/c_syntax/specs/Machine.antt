@@ -8,21 +8,21 @@ use Rattle.c_expr.specs.declared.state.SynFault.TheVariants.{Syntax, Deep, NoMem
 use Rattle.c_declaration.specs.declared.built.Built.{Built}
 use Rattle.c_declaration.specs.declared.step.Step.{Step}
 use Rattle.c_declaration.specs.declared.step.Step.TheVariants as step
-use Rattle.c_declaration.specs.declared.tree.Head.{Head}
-use Rattle.c_declaration.specs.declared.tree.FunctionHead.{FunctionHead}
+use Rattle.c_trees.specs.declared.declaration.Head.{Head}
+use Rattle.c_trees.specs.declared.declaration.FunctionHead.{FunctionHead}
 use Rattle.c_declaration.specs.declared.state.FileParser.{FileParser}
 use Rattle.c_declaration.specs.declared.state.FileParser.TheVariants as file
 use Rattle.c_declaration.specs.declared.state.ReadHead.{ReadHead}
 use Rattle.c_declaration.specs.declared.state.ReadHead.TheVariants as read
 use Rattle.c_declaration.specs.FileReading.{file_offer}
-use Rattle.c_statement.specs.Tree.{StatementTree}
+use Rattle.c_trees.specs.Statements.{StatementTree}
 use Rattle.c_statement.specs.declared.state.Mode.{Mode as BlockMode}
 use Rattle.c_statement.specs.declared.state.Mode.TheVariants.{Done}
 use Rattle.c_statement.specs.declared.state.Reader.{Reader}
 use Rattle.c_statement.specs.Machine.{begun_block}
 use Rattle.c_statement.specs.Machine as block
-use Rattle.c_statement.specs.declared.unit.External.{External}
-use Rattle.c_statement.specs.declared.unit.External.TheVariants.{Declaration, Definition}
+use Rattle.c_trees.specs.declared.unit.External.{External}
+use Rattle.c_trees.specs.declared.unit.External.TheVariants.{Declaration, Definition}
 use Rattle.c_syntax.specs.declared.state.Kept.{Kept}
 use Rattle.c_syntax.specs.declared.state.Kept.TheVariants.{All, TooDeep}
 use Rattle.c_syntax.specs.declared.state.Mode.{Mode}

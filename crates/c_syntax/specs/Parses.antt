@@ -3,8 +3,8 @@ use Rattle.std.specs.Prelude.{◌≡◌, ℕ, ◌≤◌, ◌<◌, List, Result, 
 use Rattle.c_symbol.specs.declared.terminal.Terminal.{Terminal}
 use Rattle.c_expr.specs.declared.state.SynFault.{SynFault}
 use Rattle.c_expr.specs.declared.state.SynFault.TheVariants.{Syntax, Deep, NoMemory}
-use Rattle.c_statement.specs.declared.unit.External.{External}
-use Rattle.c_statement.specs.declared.unit.Unit.{Unit as UnitTree}
+use Rattle.c_trees.specs.declared.unit.External.{External}
+use Rattle.c_trees.specs.declared.unit.Unit.{Unit as UnitTree}
 use Rattle.c_syntax.specs.Grammar.{IsUnit}
 
 -- The answer is the tokens' unit, nested at most 64 deep. Syntax comes where they are none, and Deep where they are one that is nested more deeply.

@@ -6,7 +6,8 @@ mod read;
 mod state;
 
 pub use c_expr::{SynFault, parse_expr};
-pub use c_statement::{External, Statement, StatementNode, Unit};
+pub use c_trees::statement::{Statement, StatementNode};
+pub use c_trees::unit::{External, Unit};
 pub use machine::shift;
 pub use read::{one_unit, parse_unit};
 pub use state::{Kept, Mode, UnitParser};

@@ -5,11 +5,14 @@ ghost use Rattle.c_statement.specs.Machine as block;
 ghost use Rattle.c_syntax.specs.Machine.{Gives, one_more, both, kept_at, more, declared_of, defined_by, defined_of, deep_place, bodied, ended, headed, shift, start};
 
 use crate::state::{Kept, Mode, UnitParser};
-use c_declaration::{Built, FileParser, FunctionHead, Head, ReadHead, Step, file_offer};
+use c_declaration::{Built, FileParser, ReadHead, Step, file_offer};
 use c_expr::{Boxed, SynFault};
 use c_lex::Place;
-use c_statement::{External, Mode as BlockMode, Reader, Statement, shift as shift_block};
+use c_statement::{Mode as BlockMode, Reader, shift as shift_block};
 use c_symbol::Terminal;
+use c_trees::declaration::{FunctionHead, Head};
+use c_trees::statement::Statement;
+use c_trees::unit::External;
 use ldb_words::Many;
 use std::alloc::{AllocError, Global};
 

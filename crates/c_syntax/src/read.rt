@@ -8,8 +8,8 @@ use crate::machine::shift;
 use crate::state::{Kept, Mode, UnitParser};
 use c_expr::SynFault;
 use c_lex::{Place, Token};
-use c_statement::Unit;
 use c_symbol::{Joiner, Terminal, terminal_of};
+use c_trees::unit::Unit;
 use std::alloc::Global;
 
 /// A terminal more, where there is one.

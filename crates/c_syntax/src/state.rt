@@ -1,9 +1,11 @@
 // What was read so far of a unit.
 
-use c_declaration::{FileParser, FunctionHead};
+use c_declaration::FileParser;
 use c_expr::Boxed;
 use c_lex::Place;
-use c_statement::{External, Reader};
+use c_statement::Reader;
+use c_trees::declaration::FunctionHead;
+use c_trees::unit::External;
 use ldb_words::Many;
 
 /// The external declarations that were read, or where the first one begins that is nested too deeply.

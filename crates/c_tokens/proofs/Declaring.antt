@@ -3,14 +3,14 @@ use Rattle.std.proofs.Common.{◌≡◌, refl, sym, ap, ◌∙◌, subst, ℕ, z
 use Rattle.std.specs.Prelude.{slice_get, ◌==◌, if◌then◌else◌}
 use Rattle.std.specs.List.{AllByRecursion}
 use Rattle.std.proofs.lemmas.Bool.{eqb-true}
-use Rattle.c_expr.specs.declared.tree.Spec.{Spec}
-use Rattle.c_declaration.specs.Tree.{DeclaratorTree, Name, Parens, Pointers, Array, Function as Applied, Taking, Named, Unnamed, begins}
-use Rattle.c_declaration.specs.declared.tree.Declared.{Declared}
-use Rattle.c_declaration.specs.declared.tree.FileSpec.{FileSpec}
-use Rattle.c_declaration.specs.declared.tree.FileSpec.TheVariants as file
-use Rattle.c_declaration.specs.declared.tree.MemberPart.{MemberPart}
-use Rattle.c_declaration.specs.declared.tree.MemberPart.TheVariants.{Opens, Row as MemberRow, Closes}
-use Rattle.c_statement.specs.Tree.{StatementTree, Declares, Also, Closed, If, IfElse, Headed, Do}
+use Rattle.c_trees.specs.declared.expression.Spec.{Spec}
+use Rattle.c_trees.specs.Declarators.{DeclaratorTree, Name, Parens, Pointers, Array, Function as Applied, Taking, Named, Unnamed, begins}
+use Rattle.c_trees.specs.declared.declaration.Declared.{Declared}
+use Rattle.c_trees.specs.declared.declaration.FileSpec.{FileSpec}
+use Rattle.c_trees.specs.declared.declaration.FileSpec.TheVariants as file
+use Rattle.c_trees.specs.declared.declaration.MemberPart.{MemberPart}
+use Rattle.c_trees.specs.declared.declaration.MemberPart.TheVariants.{Opens, Row as MemberRow, Closes}
+use Rattle.c_trees.specs.Statements.{StatementTree, Declares, Also, Closed, If, IfElse, Headed, Do}
 use Rattle.c_tree.specs.declared.types.StructDef.{StructDef}
 use Rattle.c_tree.specs.declared.types.Member.{Member}
 use Rattle.c_typing.specs.Plain.{Plain, Struct, is_scalar, value_type}

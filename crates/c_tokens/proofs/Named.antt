@@ -5,14 +5,14 @@ use Rattle.c_lex.specs.declared.token.Place.{Place}
 use Rattle.c_symbol.specs.declared.terminal.Terminal.{Terminal}
 use Rattle.c_symbol.specs.declared.symbol.TypeWord.{TypeWord}
 use Rattle.c_symbol.specs.declared.symbol.TypeWord.TheVariants as word
-use Rattle.c_expr.specs.declared.tree.Spec.{Spec}
-use Rattle.c_expr.specs.Tree.{Tree}
+use Rattle.c_trees.specs.declared.expression.Spec.{Spec}
+use Rattle.c_trees.specs.Expressions.{Tree}
 use Rattle.c_expr.specs.Grammar.{IsSpec, one_word, unsigned_int, tagged, IsAbstract, stars, around, bounded, unbounded, spec_of, IsExpr, leaf, paren, index, member, after, prefixed, sizeof_type, cast, binary, choice, call, call_with, IsCall, first_argument, next_argument}
-use Rattle.c_declaration.specs.Tree as tree
-use Rattle.c_declaration.specs.Tree.{DeclaratorTree}
-use Rattle.c_declaration.specs.InitialTree.{InitialTree}
-use Rattle.c_declaration.specs.declared.tree.Declared.{Declared}
-use Rattle.c_declaration.specs.declared.tree.Local.{Local}
+use Rattle.c_trees.specs.Declarators as tree
+use Rattle.c_trees.specs.Declarators.{DeclaratorTree}
+use Rattle.c_trees.specs.Initializers.{InitialTree}
+use Rattle.c_trees.specs.declared.declaration.Declared.{Declared}
+use Rattle.c_trees.specs.declared.declaration.Local.{Local}
 use Rattle.c_declaration.specs.Grammar.{IsDirect, name, parens, array, open_array, no_parameters, void_parameters, parameters, IsDeclarator, direct, pointers, AreParameters, first_parameter, next_parameter, IsParameter, named, unnamed, IsInitial, value, braces, braces_comma, AreItems, first_item, next_item, IsDeclared, plain, with_initial, AreDeclared, one_name, more_names, IsLocal, local}
 use Rattle.c_mentions.specs.Tags.{in_spec, in_tree, in_all, in_declarator, in_initial, in_declared, in_local}
 use Rattle.c_scope.specs.Declarators.{name_in}

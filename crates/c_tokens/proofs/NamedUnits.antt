@@ -3,22 +3,22 @@ use Rattle.std.proofs.Common.{ℕ, Bool, List, [], ◌∷◌, ◌++◌, Option}
 use Rattle.std.specs.List.{AllByRecursion}
 use Rattle.c_lex.specs.declared.token.Place.{Place}
 use Rattle.c_symbol.specs.declared.terminal.Terminal.{Terminal}
-use Rattle.c_expr.specs.Tree.{Tree}
-use Rattle.c_declaration.specs.Tree.{DeclaratorTree}
-use Rattle.c_declaration.specs.declared.tree.Declared.{Declared}
-use Rattle.c_declaration.specs.declared.tree.FileSpec.{FileSpec}
-use Rattle.c_declaration.specs.declared.tree.FileSpec.TheVariants as file
-use Rattle.c_declaration.specs.declared.tree.MemberPart.{MemberPart}
-use Rattle.c_declaration.specs.declared.tree.MemberPart.TheVariants.{Opens, Row, Closes}
-use Rattle.c_declaration.specs.declared.tree.Head.{Head as Declaring}
-use Rattle.c_declaration.specs.declared.tree.FunctionHead.{FunctionHead}
+use Rattle.c_trees.specs.Expressions.{Tree}
+use Rattle.c_trees.specs.Declarators.{DeclaratorTree}
+use Rattle.c_trees.specs.declared.declaration.Declared.{Declared}
+use Rattle.c_trees.specs.declared.declaration.FileSpec.{FileSpec}
+use Rattle.c_trees.specs.declared.declaration.FileSpec.TheVariants as file
+use Rattle.c_trees.specs.declared.declaration.MemberPart.{MemberPart}
+use Rattle.c_trees.specs.declared.declaration.MemberPart.TheVariants.{Opens, Row, Closes}
+use Rattle.c_trees.specs.declared.declaration.Head.{Head as Declaring}
+use Rattle.c_trees.specs.declared.declaration.FunctionHead.{FunctionHead}
 use Rattle.c_declaration.specs.Grammar as grammar
 use Rattle.c_declaration.specs.Grammar.{AreDeclarators, one_declarator, more_declarators, AreMembers, no_members, named_row, struct_row, IsFileSpec, named_spec, struct_spec, IsFileDeclared, bare, with_value, AreFileDeclared, one_file_name, more_file_names, only_spec, with_names, IsFunctionHead, function_head}
-use Rattle.c_statement.specs.Tree.{StatementTree, Declares, Also, Closed, If, IfElse, Headed, Do}
-use Rattle.c_statement.specs.declared.tree.Head.{Head}
+use Rattle.c_trees.specs.Statements.{StatementTree, Declares, Also, Closed, If, IfElse, Headed, Do}
+use Rattle.c_trees.specs.declared.statement.Head.{Head}
 use Rattle.c_statement.specs.declared.state.Control.{Control}
-use Rattle.c_statement.specs.declared.unit.External.{External}
-use Rattle.c_statement.specs.declared.unit.External.TheVariants.{Declaration, Definition}
+use Rattle.c_trees.specs.declared.unit.External.{External}
+use Rattle.c_trees.specs.declared.unit.External.TheVariants.{Declaration, Definition}
 use Rattle.c_statement.specs.Grammar.{IsOptional, absent, present, IsControl, controlled, IsHead, while_head, switch_head, for_head, case_head, default_head, IsOpened, opened, next_local, IsStatement, empty_statement, expression_statement, block, if_only, if_else, headed, do_while, break_statement, continue_statement, return_statement, IsElse, up_to_else, IsBlock, closed, IsBegun, only_declarations, next_statement}
 use Rattle.c_syntax.specs.Grammar.{IsExternal, declaration, definition, IsUnit, first_external, next_external}
 use Rattle.c_mentions.specs.Tags.{in_spec, in_tree, in_part, in_all, in_declarator, in_initial, in_declared, in_local, in_head, in_statement, in_member, in_file_spec, in_external}

@@ -4,8 +4,8 @@ use Rattle.c_lex.specs.declared.token.Place.{Place}
 use Rattle.c_symbol.specs.declared.terminal.Terminal.{Terminal}
 use Rattle.c_symbol.specs.declared.symbol.TypeWord.{TypeWord}
 use Rattle.c_symbol.specs.declared.symbol.TypeWord.TheVariants as word
-use Rattle.c_expr.specs.declared.tree.Spec.{Spec}
-use Rattle.c_expr.specs.Tree.{Tree, Leaf, Paren, Index, Call, With, Member, After, Prefix, SizeofType, Cast, Binary, Choice, Stars, Around, Bounded, Unbounded}
+use Rattle.c_trees.specs.declared.expression.Spec.{Spec}
+use Rattle.c_trees.specs.Expressions.{Tree, Leaf, Paren, Index, Call, With, Member, After, Prefix, SizeofType, Cast, Binary, Choice, Stars, Around, Bounded, Unbounded}
 use Rattle.c_mentions.specs.Tags.{in_spec, in_tree}
 use Rattle.c_expr.specs.Grammar.{IsSpec, one_word, unsigned_int, tagged, IsAbstract, stars, around, bounded, unbounded, spec_of, IsExpr, leaf, paren, index, member, after, prefixed, sizeof_type, cast, binary, choice, call, call_with, IsCall, first_argument, next_argument}
 

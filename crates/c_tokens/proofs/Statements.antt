@@ -2,10 +2,10 @@
 use Rattle.std.proofs.Common.{◌≡◌, ℕ, ◌+◌, ◌≤◌, Bool, List, [], ◌∷◌, ◌++◌, length, length-append, Option, Some, None, arith}
 use Rattle.c_lex.specs.declared.token.Place.{Place}
 use Rattle.c_symbol.specs.declared.terminal.Terminal.{Terminal}
-use Rattle.c_expr.specs.Tree.{Tree}
-use Rattle.c_statement.specs.Tree.{StatementTree, Empty, Evaluate, Begun, Declares, Also, Closed, If, IfElse, Headed, Do, Break, Continue, Return}
-use Rattle.c_statement.specs.declared.tree.Head.{Head}
-use Rattle.c_statement.specs.declared.tree.Head.TheVariants as head
+use Rattle.c_trees.specs.Expressions.{Tree}
+use Rattle.c_trees.specs.Statements.{StatementTree, Empty, Evaluate, Begun, Declares, Also, Closed, If, IfElse, Headed, Do, Break, Continue, Return}
+use Rattle.c_trees.specs.declared.statement.Head.{Head}
+use Rattle.c_trees.specs.declared.statement.Head.TheVariants as head
 use Rattle.c_statement.specs.declared.state.Control.{Control}
 use Rattle.c_statement.specs.Grammar.{IsOptional, absent, present, IsControl, controlled, IsHead, while_head, switch_head, for_head, case_head, default_head, IsOpened, opened, next_local, IsStatement, empty_statement, expression_statement, block, if_only, if_else, headed, do_while, break_statement, continue_statement, return_statement, IsElse, up_to_else, IsBlock, closed, IsBegun, only_declarations, next_statement}
 use Rattle.c_mentions.specs.Tags.{in_tree, in_part, in_local, in_head, in_statement}

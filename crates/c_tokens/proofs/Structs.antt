@@ -3,12 +3,12 @@ use Rattle.std.proofs.Common.{◌≡◌, refl, sym, ap, ℕ, zero, suc, ◌+◌,
 use Rattle.std.proofs.lemmas.List.{length-map}
 use Rattle.std.specs.Prelude.{slice_get, ◌==◌, if◌then◌else◌}
 use Rattle.c_symbol.specs.declared.terminal.Terminal.{Terminal}
-use Rattle.c_expr.specs.declared.tree.Spec.{Spec}
-use Rattle.c_declaration.specs.Tree.{DeclaratorTree, begins}
-use Rattle.c_declaration.specs.declared.tree.FileSpec.{FileSpec}
-use Rattle.c_declaration.specs.declared.tree.FileSpec.TheVariants as file
-use Rattle.c_declaration.specs.declared.tree.MemberPart.{MemberPart}
-use Rattle.c_declaration.specs.declared.tree.MemberPart.TheVariants.{Opens, Row, Closes}
+use Rattle.c_trees.specs.declared.expression.Spec.{Spec}
+use Rattle.c_trees.specs.Declarators.{DeclaratorTree, begins}
+use Rattle.c_trees.specs.declared.declaration.FileSpec.{FileSpec}
+use Rattle.c_trees.specs.declared.declaration.FileSpec.TheVariants as file
+use Rattle.c_trees.specs.declared.declaration.MemberPart.{MemberPart}
+use Rattle.c_trees.specs.declared.declaration.MemberPart.TheVariants.{Opens, Row, Closes}
 use Rattle.c_declaration.specs.Grammar.{AreDeclarators, one_declarator, more_declarators, AreMembers, no_members, named_row, struct_row, IsFileSpec, named_spec, struct_spec}
 use Rattle.c_mentions.specs.Tags.{in_spec, in_all, in_declarator, in_member, in_file_spec}
 use Rattle.c_tree.specs.declared.types.StructDef.{StructDef}

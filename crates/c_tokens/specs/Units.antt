@@ -1,7 +1,7 @@
 -- Files and the terminals with which they are written.
 use Rattle.std.specs.Prelude.{ℕ, ◌+◌, List, [], ◌∷◌, length}
 use Rattle.c_symbol.specs.declared.terminal.Terminal.{Terminal}
-use Rattle.c_statement.specs.declared.unit.External.{External}
+use Rattle.c_trees.specs.declared.unit.External.{External}
 use Rattle.c_syntax.specs.Grammar.{IsUnit}
 
 -- each file is the unit that its terminals spell

@@ -4,7 +4,7 @@ ghost use Rattle.std.specs.List.{AllByRecursion};
 ghost use Rattle.c_lex.specs.declared.token.Token.{Token};
 ghost use Rattle.c_symbol.specs.declared.terminal.Terminal.{Terminal};
 ghost use Rattle.c_symbol.specs.Terminals.{terminals};
-ghost use Rattle.c_statement.specs.declared.unit.External.{External};
+ghost use Rattle.c_trees.specs.declared.unit.External.{External};
 ghost use Rattle.c_tree.specs.declared.rows.Program.{Program};
 ghost use Rattle.c_check.specs.Faulty.{Checks};
 ghost use Rattle.slot_formed.specs.Tokens.{program_tokens};

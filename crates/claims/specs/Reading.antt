@@ -5,7 +5,7 @@ use Rattle.c_tree.specs.declared.types.StructDef.{StructDef}
 use Rattle.c_tree.specs.declared.types.Member.{Member}
 use Rattle.c_tree.specs.declared.typed.Typed.{Typed}
 use Rattle.c_typing.specs.Plain.{plain}
-use Rattle.c_expr.specs.Tree.{Tree}
+use Rattle.c_trees.specs.Expressions.{Tree}
 use Rattle.c_names.specs.declared.mention.Mention.{Mention}
 use Rattle.c_names.specs.declared.mention.Mention.TheVariants as mention
 use Rattle.c_names.specs.Mentions.{mentions}

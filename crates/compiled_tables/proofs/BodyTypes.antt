@@ -2,9 +2,9 @@
 use Rattle.std.proofs.Common.{◌≡◌, refl, ap, ℕ, suc, ◌+◌, ◌*◌, ◌≤◌, Bool, true, false, if◌then◌else◌, List, [], ◌∷◌, ◌++◌, Some, None, arith}
 use Rattle.std.proofs.Math.Nat.{mul-le-mul_left}
 use Rattle.std.specs.Prelude.{not, ◌&&◌, ◌||◌}
-use Rattle.c_expr.specs.declared.tree.Spec.{Spec}
-use Rattle.c_declaration.specs.Tree.{DeclaratorTree, Name, Parens, Pointers, Array, Function as Applied, Taking, Named, Unnamed, begins}
-use Rattle.c_declaration.specs.declared.tree.Declared.{Declared}
+use Rattle.c_trees.specs.declared.expression.Spec.{Spec}
+use Rattle.c_trees.specs.Declarators.{DeclaratorTree, Name, Parens, Pointers, Array, Function as Applied, Taking, Named, Unnamed, begins}
+use Rattle.c_trees.specs.declared.declaration.Declared.{Declared}
 use Rattle.c_typing.specs.Plain as plain
 use Rattle.c_typing.specs.Plain.{Plain, is_complete, is_scalar, value_type}
 use Rattle.c_typing.specs.Declarations.{is_result}

@@ -14,7 +14,7 @@ use Rattle.c_tree.specs.declared.rows.Referent.TheVariants as refers
 use Rattle.c_typing.specs.Written.{IsFormed}
 use Rattle.c_typing.specs.Programs.{KeepsRules}
 use Rattle.c_symbol.specs.declared.terminal.Terminal.{Terminal}
-use Rattle.c_statement.specs.declared.unit.External.{External}
+use Rattle.c_trees.specs.declared.unit.External.{External}
 use Rattle.c_tokens.specs.Identifiers.{IsIdentifier, HasIdentifiers}
 use Rattle.c_tokens.specs.Units.{AreSpelled, terminals_in}
 use Rattle.c_file.specs.Programs.{Well, tags_of, at_first, AllFiles}

@@ -1,15 +1,15 @@
 -- What a part of a program weighs is at most what its tokens pay for.
 use Rattle.std.proofs.Common.{ℕ, ◌+◌, ◌*◌, ◌≤◌, List, [], ◌∷◌, length, arith}
 use Rattle.std.proofs.Math.Nat.{mul-le-mul_left, mul-le-mul_right}
-use Rattle.c_declaration.specs.Tree.{DeclaratorTree, Name, Parens, Pointers, Array, Function, Taking, Named, Unnamed}
-use Rattle.c_declaration.specs.declared.tree.Declared.{Declared}
-use Rattle.c_declaration.specs.declared.tree.FileSpec.{FileSpec}
-use Rattle.c_declaration.specs.declared.tree.FileSpec.TheVariants as file
-use Rattle.c_declaration.specs.declared.tree.MemberPart.{MemberPart}
-use Rattle.c_declaration.specs.declared.tree.MemberPart.TheVariants.{Opens, Row, Closes}
-use Rattle.c_statement.specs.Tree.{StatementTree, Empty, Evaluate, Begun, Declares, Also, Closed, If, IfElse, Headed, Do, Break, Continue, Return}
-use Rattle.c_statement.specs.declared.unit.External.{External}
-use Rattle.c_statement.specs.declared.unit.External.TheVariants.{Declaration, Definition}
+use Rattle.c_trees.specs.Declarators.{DeclaratorTree, Name, Parens, Pointers, Array, Function, Taking, Named, Unnamed}
+use Rattle.c_trees.specs.declared.declaration.Declared.{Declared}
+use Rattle.c_trees.specs.declared.declaration.FileSpec.{FileSpec}
+use Rattle.c_trees.specs.declared.declaration.FileSpec.TheVariants as file
+use Rattle.c_trees.specs.declared.declaration.MemberPart.{MemberPart}
+use Rattle.c_trees.specs.declared.declaration.MemberPart.TheVariants.{Opens, Row, Closes}
+use Rattle.c_trees.specs.Statements.{StatementTree, Empty, Evaluate, Begun, Declares, Also, Closed, If, IfElse, Headed, Do, Break, Continue, Return}
+use Rattle.c_trees.specs.declared.unit.External.{External}
+use Rattle.c_trees.specs.declared.unit.External.TheVariants.{Declaration, Definition}
 use Rattle.c_symbol.specs.declared.terminal.Terminal.{Terminal}
 use Rattle.c_mentions.specs.Literals.{in_declarator, in_file_spec, in_statement}
 use Rattle.c_mentions.specs.Tags.{in_external}

@@ -1,14 +1,14 @@
 -- The names that a file declares lead outward among themselves and to built-ins, and so are those in scope at its points.
 use Rattle.std.proofs.Common.{◌≡◌, inl, inr, ℕ, suc, ◌+◌, ◌≤◌, Bool, List, [], ◌∷◌, ◌++◌, length, Option, Some, None, refl, sym, ap, ◌∙◌, subst, arith, length-append, append-nil, append_assoc}
 use Rattle.std.specs.List.{AllByRecursion}
-use Rattle.c_expr.specs.Tree.{Tree}
-use Rattle.c_expr.specs.declared.tree.Spec.{Spec}
-use Rattle.c_declaration.specs.InitialTree.{InitialTree}
-use Rattle.c_declaration.specs.declared.tree.Declared.{Declared}
-use Rattle.c_declaration.specs.declared.tree.Local.{Local}
-use Rattle.c_statement.specs.Tree.{StatementTree, Empty, Evaluate, Begun, Declares, Also, Closed, If, IfElse, Headed, Do, Break, Continue, Return}
-use Rattle.c_statement.specs.declared.tree.Head.{Head}
-use Rattle.c_statement.specs.declared.tree.Head.TheVariants as head
+use Rattle.c_trees.specs.Expressions.{Tree}
+use Rattle.c_trees.specs.declared.expression.Spec.{Spec}
+use Rattle.c_trees.specs.Initializers.{InitialTree}
+use Rattle.c_trees.specs.declared.declaration.Declared.{Declared}
+use Rattle.c_trees.specs.declared.declaration.Local.{Local}
+use Rattle.c_trees.specs.Statements.{StatementTree, Empty, Evaluate, Begun, Declares, Also, Closed, If, IfElse, Headed, Do, Break, Continue, Return}
+use Rattle.c_trees.specs.declared.statement.Head.{Head}
+use Rattle.c_trees.specs.declared.statement.Head.TheVariants as head
 use Rattle.c_typing.specs.Plain.{Plain}
 use Rattle.c_typing.specs.Expressions.{Denoted}
 use Rattle.c_typing.specs.Expressions as typing

@@ -1,7 +1,7 @@
 -- How many constructors the type has that a declarator makes of another.
 use Rattle.std.proofs.Common.{◌≡◌, refl, sym, ap, ℕ, zero, suc, ◌+◌, ◌≤◌, Bool, true, false, if◌then◌else◌, List, [], Some, None, arith}
-use Rattle.c_declaration.specs.Tree.{DeclaratorTree, Name, Parens, Pointers, Array, Function as Applied, Taking, Named, Unnamed, begins}
-use Rattle.c_expr.specs.Tree.{Tree}
+use Rattle.c_trees.specs.Declarators.{DeclaratorTree, Name, Parens, Pointers, Array, Function as Applied, Taking, Named, Unnamed, begins}
+use Rattle.c_trees.specs.Expressions.{Tree}
 use Rattle.c_tree.specs.declared.types.StructDef.{StructDef}
 use Rattle.c_typing.specs.Plain as types
 use Rattle.c_typing.specs.Plain.{Plain, is_void, is_complete}

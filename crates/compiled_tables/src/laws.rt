@@ -2,7 +2,7 @@
 
 ghost use Rattle.std.specs.Prelude.{◌≡◌, ◌≤◌, ℕ, List, length};
 ghost use Rattle.c_symbol.specs.declared.terminal.Terminal.{Terminal};
-ghost use Rattle.c_statement.specs.declared.unit.External.{External};
+ghost use Rattle.c_trees.specs.declared.unit.External.{External};
 ghost use Rattle.c_tree.specs.declared.rows.Program.{Program};
 ghost use Rattle.c_check.specs.Faulty.{Checks};
 ghost use Rattle.c_tokens.specs.Units.{AreSpelled, terminals_in};

@@ -5,7 +5,7 @@ use Rattle.c_symbol.specs.declared.symbol.LeafKind.{LeafKind}
 use Rattle.c_symbol.specs.declared.symbol.LeafKind.TheVariants as leaf
 use Rattle.c_lex.proofs.Lexing.{one_list}
 use Rattle.c_symbol.specs.Terminals.{terminals}
-use Rattle.c_expr.specs.Tree.{Tree, Leaf, Paren, Index, Call, With, Member, After, Prefix, SizeofType, Cast, Binary, Choice, Stars, Around, Bounded, Unbounded}
+use Rattle.c_trees.specs.Expressions.{Tree, Leaf, Paren, Index, Call, With, Member, After, Prefix, SizeofType, Cast, Binary, Choice, Stars, Around, Bounded, Unbounded}
 use Rattle.c_expr.specs.Grammar.{Spells}
 use Rattle.c_expr.proofs.Exact.{one}
 use Rattle.c_tree.specs.declared.types.StructDef.{StructDef}

@@ -7,7 +7,7 @@ use Rattle.c_lex.specs.Grammar.{Faults, start, HasTokens, HasFault}
 use Rattle.c_lex.proofs.Lexing.{one_list, not_both}
 use Rattle.c_symbol.specs.declared.terminal.Terminal.{Terminal}
 use Rattle.c_symbol.specs.Terminals.{terminals}
-use Rattle.c_expr.specs.Tree.{Tree}
+use Rattle.c_trees.specs.Expressions.{Tree}
 use Rattle.c_expr.specs.Grammar.{Spells}
 use Rattle.c_expr.specs.declared.state.SynFault.{SynFault}
 use Rattle.c_expr.specs.declared.state.SynFault.TheVariants.{Syntax, Deep}

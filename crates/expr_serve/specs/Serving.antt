@@ -4,7 +4,7 @@ use Rattle.std.specs.List.{list_any}
 use Rattle.c_lex.specs.declared.token.Token.{Token}
 use Rattle.c_lex.specs.Grammar.{HasTokens}
 use Rattle.c_symbol.specs.Terminals.{terminals}
-use Rattle.c_expr.specs.Tree.{Tree}
+use Rattle.c_trees.specs.Expressions.{Tree}
 use Rattle.c_expr.specs.Grammar.{Spells}
 use Rattle.c_names.specs.declared.mention.Mention.{Mention}
 use Rattle.c_names.specs.declared.mention.Mention.TheVariants as mention

@@ -16,11 +16,12 @@ ghost use Rattle.expr_serve.specs.Serving.{IsByGrammar, IsParsed, IsChecked, ref
 
 use crate::coder::text_of;
 use crate::fault::Refuse;
-use c_expr::{Expr, SynFault, parse_expr};
+use c_expr::{SynFault, parse_expr};
 use c_judge::{ExprFault, Mode, Symbol, check_expr, copied, head_of, value_type};
 use c_lex::{LexFault, Token, tokens};
 use c_names::{Mention, mentions};
 use c_tree::{CType, Member, StructDef, Typed};
+use c_trees::expression::Expr;
 use ldb_words::{Many, Text};
 use std::alloc::{AllocError, Global};
 

@@ -2,9 +2,10 @@
 
 use crate::lexing::tokens_of;
 use c_discard::{discard_expr, discard_typed};
-use c_expr::{Expr, parse_expr};
+use c_expr::parse_expr;
 use c_judge::{ExprFault, Mode, Symbol, check_expr};
 use c_tree::{CType, Member, StructDef, Typed};
+use c_trees::expression::Expr;
 use ldb_words::{Many, Text};
 use std::alloc::{AllocError, Global};
 use std::rc::Rc;

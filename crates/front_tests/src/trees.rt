@@ -2,17 +2,19 @@
 
 use crate::lexing::tokens_of;
 use c_declaration::{
-    Declarator, DeclaratorNode, FileParser, FileStep, Head, InitialNode, LocalParser, LocalStep,
-    ParameterNode, ReadHead, ReadLocal, Step, file_offer, local_offer,
+    FileParser, FileStep, LocalParser, LocalStep, ReadHead, ReadLocal, Step, file_offer,
+    local_offer,
 };
 use c_discard::{
     discard_expr, discard_file_parser, discard_head, discard_local, discard_local_parser,
     discard_unit,
 };
-use c_expr::{Expr, Node, SynFault, parse_expr};
+use c_expr::{SynFault, parse_expr};
 use c_lex::Token;
 use c_symbol::{BinaryOp, Joiner, Symbol, terminal_of};
 use c_syntax::{External, Unit, parse_unit};
+use c_trees::declaration::{Declarator, DeclaratorNode, Head, InitialNode, ParameterNode};
+use c_trees::expression::{Expr, Node};
 use std::alloc::{AllocError, Global};
 use test_rows::append;
 

@@ -5,7 +5,7 @@ use Rattle.c_lex.specs.declared.token.Token.{Token}
 use Rattle.c_lex.specs.Grammar.{Lexes, start}
 use Rattle.c_symbol.specs.declared.terminal.Terminal.{Terminal}
 use Rattle.c_symbol.specs.Terminals.{terminals}
-use Rattle.c_statement.specs.declared.unit.External.{External}
+use Rattle.c_trees.specs.declared.unit.External.{External}
 use Rattle.c_syntax.specs.Grammar.{IsUnit}
 use Rattle.c_file.specs.Made.{Each}
 use Rattle.c_tokens.specs.Units.{AreSpelled, terminals_in}

@@ -6,8 +6,8 @@ use Rattle.c_lex.specs.declared.token.Token.{Token}
 use Rattle.c_lex.specs.declared.token.Place.{Place}
 use Rattle.c_lex.specs.Grammar.{Lexes, start}
 use Rattle.c_symbol.specs.Terminals.{terminals}
-use Rattle.c_statement.specs.declared.unit.External.{External}
-use Rattle.c_statement.specs.declared.unit.Unit.{Unit as UnitTree}
+use Rattle.c_trees.specs.declared.unit.External.{External}
+use Rattle.c_trees.specs.declared.unit.Unit.{Unit as UnitTree}
 use Rattle.c_syntax.specs.Grammar.{IsUnit}
 use Rattle.c_file.specs.Programs.{externals_of}
 use Rattle.c_file.specs.Made.{Each}

@@ -2,7 +2,7 @@
 use Rattle.std.proofs.Common.{◌≡◌, ◌<◌, ◌≤◌, ℕ, zero, suc, false, List, [], ◌∷◌, length, map, get_or, Option, Err, refl, sym, ap, subst, arith}
 use Rattle.std.specs.Global.{Vec}
 use Rattle.std.specs.List.{list_any}
-use Rattle.c_statement.specs.declared.unit.External.{External}
+use Rattle.c_trees.specs.declared.unit.External.{External}
 use Rattle.c_file.specs.Programs.{Fault, Faults}
 use Rattle.c_check.specs.declared.faults.CheckFault.{CheckFault}
 use Rattle.c_check.specs.declared.faults.CheckFault.TheVariants as check

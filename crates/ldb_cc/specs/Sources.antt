@@ -4,7 +4,7 @@ use Rattle.std.specs.List.{AllByRecursion, list_any}
 use Rattle.c_lex.specs.declared.token.Token.{Token}
 use Rattle.c_lex.specs.Grammar.{Lexes, Faults as FaultsAt, start, after}
 use Rattle.c_symbol.specs.Terminals.{terminals}
-use Rattle.c_statement.specs.declared.unit.External.{External}
+use Rattle.c_trees.specs.declared.unit.External.{External}
 use Rattle.c_syntax.specs.Grammar.{IsUnit}
 use Rattle.c_tree.specs.declared.rows.Program.{Program}
 use Rattle.c_file.specs.Programs.{Fault, Faults}

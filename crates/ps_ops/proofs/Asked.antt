@@ -56,7 +56,7 @@ module _ {R : Type 0} (op : ℕ) (k : Desk) (s : Seen R) (c : PsCore) where
     d.1,
     λ rg r t. (h.0.keeps (memory_of k rg) r t, refl, a rg ∙ ap (λ m. m >>= λ x. with_state (dial_of k rg) (leave x)) (h.1.holds (memory_of k rg) r t) ∙ ap (with_state (dial_of k rg)) d.0),
   )
-  look_leaves f leave x s' (Err NoMemory) c' a h d = record { faults = h.0.faults; keeps = λ rg r t. h.0.keeps (memory_of k rg) r t }
+  look_leaves f leave x s' (Err NoMemory) c' a h d = (record { faults = h.0.faults; keeps = λ rg r t. h.0.keeps (memory_of k rg) r t }, λ rg r t. refl)
   look_leaves f leave x s' (Err Spent) c' a h d = absurd d
   look_leaves f leave x s' (Err Link) c' a h d = absurd d
 
@@ -64,14 +64,14 @@ module _ {R : Type 0} (op : ℕ) (k : Desk) (s : Seen R) (c : PsCore) where
   pub state_acts : (made : Made) (r : Answer) (c' : PsCore) → ((rg : Regions) → act op (dial_of k rg) c ≡ with_state (dial_of k rg) made) → Does r c c' made → ActsOn op k s c (left r) k s c'
   state_acts made (Ok x) c' a d = (refl, λ rg r t. (rg, t, a rg ∙ ap (with_state (dial_of k rg)) d))
   state_acts made (Err (Error e)) c' a d = (refl, d.1, λ rg r t. (t, refl, a rg ∙ ap (with_state (dial_of k rg)) d.0))
-  state_acts made (Err NoMemory) c' a d = record { faults = refl; keeps = λ rg r t. t }
+  state_acts made (Err NoMemory) c' a d = (record { faults = refl; keeps = λ rg r t. t }, λ rg r t. refl)
   state_acts made (Err Spent) c' a d = absurd d
   state_acts made (Err Link) c' a d = absurd d
 
   pub alone_acts : (r : Answer) (c' : PsCore) → ((d : Dial) → ActsAlone op d c r c') → ActsOn op k s c (left r) k s c'
   alone_acts (Ok x) c' h = (refl, λ rg r t. (rg, t, h (dial_of k rg)))
   alone_acts (Err (Error e)) c' h = let one = h (dial_of k no_regions) in (refl, one.1, λ rg r t. let all = h (dial_of k rg) in (t, refl, all.0))
-  alone_acts (Err NoMemory) c' h = record { faults = refl; keeps = λ rg r t. t }
+  alone_acts (Err NoMemory) c' h = (record { faults = refl; keeps = λ rg r t. t }, λ rg r t. refl)
   alone_acts (Err Spent) c' h = absurd (h (dial_of k no_regions))
   alone_acts (Err Link) c' h = absurd (h (dial_of k no_regions))
 
@@ -94,7 +94,7 @@ module _ {R : Type 0} (op : ℕ) (k : Desk) (s : Seen R) (c : PsCore) where
           ∙ ap (λ g. with_text (dial_of k rg) (appending 1 g k.out c)) d.0,
     ),
   )
-  text_acts f given x s' (Err NoMemory) out c' a h d = record { faults = h.0.faults; keeps = λ rg r t. h.0.keeps (memory_of k rg) r t }
+  text_acts f given x s' (Err NoMemory) out c' a h d = (record { faults = h.0.faults; keeps = λ rg r t. h.0.keeps (memory_of k rg) r t }, λ rg r t. refl)
   text_acts f given x s' (Err Spent) out c' a h d = absurd d
   text_acts f given x s' (Err Link) out c' a h d = absurd d
 

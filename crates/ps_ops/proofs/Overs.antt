@@ -15,7 +15,7 @@ use Rattle.abs_mem.specs.declared.memory.MemFault.TheVariants.{Outside, LinkFaul
 use Rattle.ps_places.specs.declared.access.Trouble.{Trouble}
 use Rattle.ps_places.specs.declared.access.Trouble.TheVariants.{Ps, Broken}
 use Rattle.ps_places.specs.Accesses as accesses
-use Rattle.ps_places.specs.Accesses.{Over}
+use Rattle.ps_places.specs.Accesses.{Over, ButCell}
 use Rattle.ps_append.specs.Characters.{AppendsChars, appending_chars}
 use Rattle.dialect_model.specs.Dial.{Dial, Acted, bytes_in, with_bytes}
 use Rattle.dialect_model.specs.Acting.{with_told, with_text}
@@ -65,6 +65,13 @@ module _ {R : Type 0} (n : ℕ) (k : Desk) (s s₁ s' : Seen R) (c c' : PsCore) 
             ∙ ap (λ o. dial_of (record k { order = o; out = out }) rg) (sym there.order_is),
       )
 
+  -- but for the cell
+  but_cell : ButCell before after → (rg : Regions) (r : R) → s.tells (memory_of k rg) r → AliasTells s' places order (record (bytes rg) { cell = None }) (rest r)
+  but_cell h rg r t =
+      let given = h.keeps (bytes rg) (rest r) (told rg r t) in
+      let now : CellTells (alias_seen places order s') cell (record (bytes rg) { cell = given.0 }) (rest r) = given.1 in
+      now.below
+
   rose : Rose s₁.faults s'.faults → Rose s.faults s'.faults
   rose h = subst (λ n. Rose n s'.faults) looked.0.faults h
 
@@ -95,15 +102,16 @@ module _ {R : Type 0} (n : ℕ) (k : Desk) (s s₁ s' : Seen R) (c c' : PsCore) 
                 ∙ ap (with_told (dial_of k rg)) (h.2 (bytes rg) (rest r) (told rg r t)),
           ),
     )
-    over_acts (Err (Ps NoMemory)) h = record {
-      faults = h.faults ∙ looked.0.faults;
-      keeps =
-          λ rg r t.
-          let given = h.keeps (bytes rg) (rest r) (told rg r t) in
-          let now : CellTells (alias_seen places order s') cell (record (bytes rg) { cell = given.0 }) (rest r) = given.1 in
-          let there : AliasTells s' places order (record (bytes rg) { cell = None }) (rest r) = now.below in
-          subst (λ o. s'.tells (memory_of (record k { order = o; cell = cell }) rg) r) there.order_is there.below;
-    }
+    over_acts (Err (Ps NoMemory)) h = (
+      record {
+        faults = h.faults ∙ looked.0.faults;
+        keeps =
+            λ rg r t.
+            let there = but_cell h rg r t in
+            subst (λ o. s'.tells (memory_of (record k { order = o; cell = cell }) rg) r) there.order_is there.below;
+      },
+      λ rg r t. let there = but_cell h rg r t in ap (λ o. (dial_of (record k { order = o }) rg).target) (sym there.order_is),
+    )
     over_acts (Err (Ps Spent)) h = absurd h
     over_acts (Err (Ps Link)) h = absurd h
     over_acts (Err (Broken LinkFault)) h = rose h
@@ -133,7 +141,10 @@ module _ {R : Type 0} (n : ℕ) (k : Desk) (s s₁ s' : Seen R) (c c' : PsCore) 
                 ∙ ap (with_text (dial_of k rg)) (h.3 (bytes rg) (rest r) (told rg r t)),
           ),
     )
-    chars_act out (Err (Ps NoMemory)) h = record { faults = h.faults ∙ looked.0.faults; keeps = λ rg r t. let on = still out h rg r t in on.0 }
+    chars_act out (Err (Ps NoMemory)) h = (
+      record { faults = h.faults ∙ looked.0.faults; keeps = λ rg r t. let on = still out h rg r t in on.0 },
+      λ rg r t. let on = still out h rg r t in ap (λ (d : Dial). d.target) on.1,
+    )
     chars_act out (Err (Ps Spent)) h = absurd h
     chars_act out (Err (Ps Link)) h = absurd h
     chars_act out (Err (Broken LinkFault)) h = rose h

@@ -138,7 +138,7 @@ module _ {R : Type 0} (op : ℕ) (k : Desk) (s : Seen R) (c : PsCore) (n : ℕ) 
 
   pub wanting_on : m ≤ n → closed_part c'.store ≡ closed_part c₁.store → ActsOn op k₁ s₁ c₁ (Err Wanting) k' s' c' → OperatesOn k s c op n (Err NoMemory) k' s' c' m fault
   wanting_on b closed h =
-      (b, λ e. absurd (let a = e in cc), (keeps_acts op k s c n k₁ s₁ c₁ m far k' s' c' h, λ rg r t. let before = far.told rg r t in acting before.2 closed))
+      (b, λ e. absurd (let a = e in cc), (keeps_acts op k s c n k₁ s₁ c₁ m far k' s' c' h.0, λ rg r t. let before = far.told rg r t in acting before.2 (h.1 rg r before.0 ∙ ap (λ (d : Dial). d.target) before.1) closed))
 
   broken_by : (why : MemFault) → ActsOn op k₁ s₁ c₁ (Err (Broken why)) k' s' c' → KeepsFault (Some why) k s s'
   broken_by LinkFault h = rose_acts op k s c n k₁ s₁ c₁ m far k' s' c' h

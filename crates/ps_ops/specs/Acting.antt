@@ -23,10 +23,10 @@ pub data Prepares (d : Dial) (op : ℕ) (c : PsCore) (left : ℕ) : PsCore → �
   begun : Prepares d op c left c left
   further : {c₁ c₂ : PsCore} {u m n : ℕ} → Prepares d op c left c₁ m → act op d c₁ ≡ Err (Wants u) → ForcesUnit u c₁ m (Ok tt) n c₂ → Prepares d op c left c₂ n
 
--- Memory ran out once such units were run: under the operator itself, and the steps are those that were left then; or in the run
--- of one more unit that it needed, and the dial is as it was. What is closed is as the units that were run left it.
+-- Memory ran out once such units were run: under the operator itself, which left the target, and the steps are those that were left
+-- then; or in the run of one more unit that it needed, and the dial is as it was. What is closed is as the units that were run left it.
 pub data RunsShort (d : Dial) (op : ℕ) (c : PsCore) (left : ℕ) : Dial → PsCore → ℕ → Type 0 where
-  acting : {d' : Dial} {c₁ c' : PsCore} {m : ℕ} → Prepares d op c left c₁ m → closed_part c'.store ≡ closed_part c₁.store → RunsShort d op c left d' c' m
+  acting : {d' : Dial} {c₁ c' : PsCore} {m : ℕ} → Prepares d op c left c₁ m → d'.target ≡ d.target → closed_part c'.store ≡ closed_part c₁.store → RunsShort d op c left d' c' m
   running : {c₁ c' : PsCore} {u m n : ℕ} → Prepares d op c left c₁ m → act op d c₁ ≡ Err (Wants u) → IsDeferred c₁.store u → closed_part c'.store ≡ closed_part c₁.store → n ≤ m → RunsShort d op c left d c' n
 
 module _ {R : Type 0} where
@@ -39,6 +39,10 @@ module _ {R : Type 0} where
   pub record KeepsMemory (k : Desk) (s : Seen R) (k' : Desk) (s' : Seen R) : Type 0 where
     pub faults : s'.faults ≡ s.faults
     pub keeps : (rg : Regions) (r : R) → s.tells (memory_of k rg) r → s'.tells (memory_of k' rg) r
+
+  -- and the dials over them have the same target
+  abbrev pub KeepsTarget : (k : Desk) → Seen R → (k' : Desk) → Type 0
+  KeepsTarget k s k' = (rg : Regions) (r : R) → s.tells (memory_of k rg) r → (dial_of k' rg).target ≡ (dial_of k rg).target
 
   -- An operator was run once. Where it only raises an error or needs a unit all is as before. Where memory ran out the target's
   -- bytes are. Where the memory gave no answer nothing is said of the state.
@@ -53,7 +57,7 @@ module _ {R : Type 0} where
       (s'.faults ≡ s.faults) × (c' ≡ c)
       × ((rg : Regions) (r : R) → s.tells (memory_of k rg) r
       → s'.tells (memory_of k' rg) r × (dial_of k' rg ≡ dial_of k rg) × (act op (dial_of k rg) c ≡ Err (Wants u)) × IsDeferred c.store u)
-  ActsOn op k s c (Err Wanting) k' s' c' = KeepsMemory k s k' s'
+  ActsOn op k s c (Err Wanting) k' s' c' = KeepsMemory k s k' s' × KeepsTarget k s k'
   ActsOn op k s c (Err (Broken LinkFault)) k' s' c' = Rose s.faults s'.faults
   ActsOn op k s c (Err (Broken (BadReply frame))) k' s' c' = NeverTold k s s'
   ActsOn op k s c (Err (Broken (Outside p))) k' s' c' = ⊥

@@ -1,4 +1,5 @@
 pub mod Readings
 pub mod Going
+pub mod Reaching
 pub mod Tops
 pub mod Apart

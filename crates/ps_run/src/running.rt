@@ -6,6 +6,7 @@ ghost use Rattle.ps_step.specs.declared.fault.PsFault.TheVariants.{NoMemory as O
 ghost use Rattle.ps_step.specs.declared.item.Item.TheVariants.{Object};
 ghost use Rattle.ps_step.specs.State.{with_execution};
 ghost use Rattle.ps_run.specs.Runs.{Asked, Runs, RunsObject, TellsSteps, fault_with};
+ghost use Rattle.ps_run.specs.Reaching.{RanShort};
 
 use crate::dialect::{Dialect, Steps};
 use crate::step::{Progress, raise, step};
@@ -64,6 +65,7 @@ fn go<D: Dialect>(core: &mut PsCore, dialect: &mut D, steps: &mut Steps) -> Resu
     ensures closed { D.remains (closed_part core.old.store) (closed_part core.new.store) }
     ensures told { TellsSteps result (steps.new.limit - steps.new.taken) }
     ensures runs { result ≢ Err OutOfMemory → Runs D.operates (steps.old.limit - steps.old.taken) dialect.old core.old result (steps.new.limit - steps.new.taken) dialect.new core.new }
+    ensures short { result ≡ Err OutOfMemory → RanShort D.operates (steps.old.limit - steps.old.taken) dialect.old core.old dialect.new }
 {
     while steps.taken < steps.limit {
         match step(core) {
@@ -99,6 +101,7 @@ fn start<D: Dialect>(
     ensures closed { D.remains (closed_part core.old.store) (closed_part core.new.store) }
     ensures told { TellsSteps result (steps.new.limit - steps.new.taken) }
     ensures runs { result ≢ Err OutOfMemory → Runs D.operates (steps.old.limit - steps.old.taken) dialect.old (with_execution core.old (Object what ∷ [])) result (steps.new.limit - steps.new.taken) dialect.new core.new }
+    ensures short { result ≡ Err OutOfMemory → RanShort D.operates (steps.old.limit - steps.old.taken) dialect.old (with_execution core.old (Object what ∷ [])) dialect.new }
 {
     core.execution.push(Item::Object(what))?;
     go(core, dialect, steps)
@@ -107,9 +110,10 @@ fn start<D: Dialect>(
 /// Runs an object on an execution stack of its own, and puts back the one that it found.
 ///
 /// Error comes exactly where the step's definition raises one that no `stopped` of this run catches and steps are left,
-/// Spent exactly where the steps reach their limit, and Link where an operator of the dialect answers it. Whatever comes,
-/// also where memory runs out, what is closed of the store has become only what the dialect says (`remains`): under
-/// `NoDialect` it is as before.
+/// Spent exactly where the steps reach their limit, and Link where an operator of the dialect answers it. Where memory
+/// runs out, the dialect is as the last operators left it that the run's definition asks for, in its order. Whatever comes,
+/// also then, what is closed of the store has become only what the dialect says (`remains`): under `NoDialect` it is as
+/// before.
 pub fn run<D: Dialect>(
     core: &mut PsCore,
     dialect: &mut D,
@@ -124,6 +128,7 @@ pub fn run<D: Dialect>(
     ensures closed { D.remains (closed_part core.old.store) (closed_part core.new.store) }
     ensures told { TellsSteps result (steps.new.limit - steps.new.taken) }
     ensures runs { RunsObject D.operates (steps.old.limit - steps.old.taken) what dialect.old core.old result (steps.new.limit - steps.new.taken) dialect.new core.new }
+    ensures short { result ≡ Err OutOfMemory → RanShort D.operates (steps.old.limit - steps.old.taken) dialect.old (with_execution core.old (Object what ∷ [])) dialect.new }
 {
     let outer = core.execution.take_all();
     let result = start(core, dialect, what, steps);

@@ -1,14 +1,16 @@
 -- A run over the memory of a target: how it stands with the link after it.
-use Rattle.std.proofs.Common.{◌≡◌, ◌≢◌, ◌∙◌, refl, sym, ap, subst, ℕ, zero, suc, List, Option, Some, None, Result, Ok, Err}
+use Rattle.std.proofs.Common.{◌≡◌, ◌≢◌, ◌∙◌, refl, sym, ap, subst, ℕ, zero, suc, List, [], ◌∷◌, Option, Some, None, Result, Ok, Err}
 use Rattle.ldb_edge.specs.Count.{Rose}
 use Rattle.ps_store.specs.declared.object.PsObj.{PsObj}
 use Rattle.ps_step.specs.declared.fault.PsError.{PsError}
 use Rattle.ps_step.specs.declared.fault.PsFault.{PsFault}
 use Rattle.ps_step.specs.declared.fault.PsFault.TheVariants as ps
 use Rattle.ps_step.specs.declared.machine.PsCore.{PsCore}
-use Rattle.ps_step.specs.State.{Made}
+use Rattle.ps_step.specs.declared.item.Item.TheVariants.{Object}
+use Rattle.ps_step.specs.State.{Made, with_execution}
 use Rattle.ps_step.specs.Effects.{Does as DoesStep}
 use Rattle.ps_run.specs.Runs.{Answer, Runs, RunsObject, Settles, fault_with, spent, ended, failed, next, asked, broken}
+use Rattle.ps_run.specs.Reaching.{RanShort}
 use Rattle.frame_bytes.specs.Bytes.{Bytes}
 use Rattle.abs_mem.specs.Meaning.{Seen, Same}
 use Rattle.abs_mem.specs.declared.memory.MemFault.{MemFault}
@@ -18,6 +20,7 @@ use Rattle.ps_ops.specs.Acting.{KeepsFault, LedKept}
 use Rattle.ps_ops.specs.Desk.{Desk}
 use Rattle.ps_ops.specs.declared.dialect.Operators.{Operators}
 use Rattle.told_runs.specs.Told.{desk, Does}
+use Rattle.told_runs.proofs.Short.{short_quiet}
 use Rattle.dialect_model.specs.TableUse.{Eval}
 use Rattle.table_asks.specs.declared.fault.Cause.{Cause}
 use Rattle.table_asks.specs.declared.fault.AskFault.{AskFault}
@@ -26,6 +29,9 @@ use Rattle.table_asks.specs.declared.inquiry.Inquiry.{Inquiry}
 use Rattle.table_asks.specs.Faults.{IsOwn, IsUnbroken, fault_of_run}
 use Rattle.table_asks.specs.Asking.{ComesOver, LedAsk}
 use Rattle.table_asks.specs.Running.{IsLed, RanOver}
+
+abbrev pub fails : PsFault → Answer
+fails f = Err f
 
 module _ {W R : Type 0} (seen : W → Seen R) (leads : W → Option (List ℕ) → W → Type 0) where
   -- ---- one part after another
@@ -38,7 +44,7 @@ module _ {W R : Type 0} (seen : W → Seen R) (leads : W → Option (List ℕ) �
   ran_on a b c (Err (Refused cause)) go h k = led_on a b c None (go None) h k
   ran_on a b c (Err (Raised e)) go h k = led_on a b c None (go None) h k
   ran_on a b c (Err Spent) go h k = led_on a b c None (go None) h k
-  ran_on a b c (Err NoMemory) go h k = tt
+  ran_on a b c (Err NoMemory) go h k = led_on a b c None (go None) h k
   ran_on a b c (Err (Broken LinkFault)) go h k = rose_then (seen a).faults (seen b).faults (seen c).faults h.0 k
   ran_on a b c (Err (Broken (BadReply frame))) go h k = led_on a b c (Some frame.items) (go (Some frame.items)) h k
   ran_on a b c (Err (Broken (Outside p))) go h k = absurd k
@@ -48,7 +54,7 @@ module _ {W R : Type 0} (seen : W → Seen R) (leads : W → Option (List ℕ) �
   ran_as A B a b (Refused cause) h = h
   ran_as A B a b (Raised e) h = h
   ran_as A B a b Spent h = h
-  ran_as A B a b NoMemory h = tt
+  ran_as A B a b NoMemory h = h
   ran_as A B a b (Broken LinkFault) h = h
   ran_as A B a b (Broken (BadReply frame)) h = h
   ran_as A B a b (Broken (Outside p)) h = absurd h
@@ -59,7 +65,7 @@ module _ {W R : Type 0} (seen : W → Seen R) (leads : W → Option (List ℕ) �
   ran_asked m old new a b (Err (Refused cause)) h k = (h.0.faults, k)
   ran_asked m old new a b (Err (Raised e)) h k = (h.0.faults, k)
   ran_asked m old new a b (Err Spent) h k = (h.0.faults, k)
-  ran_asked m old new a b (Err NoMemory) h k = tt
+  ran_asked m old new a b (Err NoMemory) h k = (h.0.faults, k)
   ran_asked m old new a b (Err (Broken LinkFault)) h k = h
   ran_asked m old new a b (Err (Broken (BadReply frame))) h k = (h.faults, k)
   ran_asked m old new a b (Err (Broken (Outside p))) h k = absurd h
@@ -69,19 +75,19 @@ module _ {W R : Type 0} (seen : W → Seen R) (leads : W → Option (List ℕ) �
   ran_unbroken A a (Refused cause) h u = (refl, h)
   ran_unbroken A a (Raised e) h u = (refl, h)
   ran_unbroken A a Spent h u = (refl, h)
-  ran_unbroken A a NoMemory h u = tt
+  ran_unbroken A a NoMemory h u = (refl, h)
   ran_unbroken A a (Broken x) h u = absurd u
 
   pub ran_own : (A : Type 0) (a : W) (f : AskFault) → leads a None a → IsOwn f → RanOver seen leads {A = A} a (Err f) a
   ran_own A a (Refused cause) h u = absurd u
   ran_own A a (Raised e) h u = (refl, h)
   ran_own A a Spent h u = (refl, h)
-  ran_own A a NoMemory h u = tt
+  ran_own A a NoMemory h u = (refl, h)
   ran_own A a (Broken x) h u = absurd u
 
   pub ran_made : (A : Type 0) (a : W) (f : PsFault) (old new : PsCore) (made : Made) → leads a None a → DoesStep (Err f) old new made → RanOver seen leads {A = A} a (Err (fault_of_run f None)) a
   ran_made A a (ps.Error e) old new made h d = (refl, h)
-  ran_made A a ps.NoMemory old new made h d = tt
+  ran_made A a ps.NoMemory old new made h d = (refl, h)
   ran_made A a ps.Spent old new made h d = absurd d
   ran_made A a ps.Link old new made h d = absurd d
 
@@ -101,7 +107,7 @@ module _ {W R : Type 0} (seen : W → Seen R) (leads : W → Option (List ℕ) �
   Ended o (Ok x) o' = IsLed seen leads (target o) None (target o')
   Ended o (Err (ps.Error e)) o' = IsLed seen leads (target o) None (target o')
   Ended o (Err ps.Spent) o' = IsLed seen leads (target o) None (target o')
-  Ended o (Err ps.NoMemory) o' = Unit {0}
+  Ended o (Err ps.NoMemory) o' = IsLed seen leads (target o) None (target o')
   Ended o (Err ps.Link) o' = ByFault (target o) o'.fault (target o')
 
   by_fault : (k : Desk) (a b : W) (x : Option MemFault) → KeepsFault x k (seen a) (seen b) → LedKept leads a (Err ps.Link) b x → ByFault a x b
@@ -114,7 +120,7 @@ module _ {W R : Type 0} (seen : W → Seen R) (leads : W → Option (List ℕ) �
   one o c op left (Ok x) o' c' left' d = (d.1.2.0, d.2)
   one o c op left (Err (ps.Error e)) o' c' left' d = (d.1.2.0, d.2)
   one o c op left (Err ps.Spent) o' c' left' d = (d.1.2.0, d.2)
-  one o c op left (Err ps.NoMemory) o' c' left' d = tt
+  one o c op left (Err ps.NoMemory) o' c' left' d = (d.1.2.0.faults, d.2)
   one o c op left (Err ps.Link) o' c' left' d = by_fault (desk o) (target o) (target o') o'.fault d.1.2 d.2
 
   -- an error that was caught
@@ -129,24 +135,24 @@ module _ {W R : Type 0} (seen : W → Seen R) (leads : W → Option (List ℕ) �
   raised_as o o' e (ps.Error x) c c' s h = h
   raised_as o o' e ps.Spent c c' s h = absurd s
   raised_as o o' e ps.Link c c' s h = absurd s
-  raised_as o o' e ps.NoMemory c c' s h = tt
+  raised_as o o' e ps.NoMemory c c' s h = h
 
   stopped : (o o' : Operators W) (given : Answer) (g : PsFault) (c c' : PsCore) → Settles given c (Err g) c' → Ended o given o' → Ended o (Err g) o'
   stopped o o' (Ok x) g c c' s h = absurd (let k = s.0 in cc)
   stopped o o' (Err (ps.Error e)) g c c' s h = raised_as o o' e g c c' s h
   stopped o o' (Err ps.Spent) g c c' s h = subst (λ (r : Answer). Ended o r o') (sym s.0) h
-  stopped o o' (Err ps.NoMemory) g c c' s h = subst (λ (r : Answer). Ended o r o') (sym s.0) tt
+  stopped o o' (Err ps.NoMemory) g c c' s h = subst (λ (r : Answer). Ended o r o') (sym s.0) h
   stopped o o' (Err ps.Link) g c c' s h = subst (λ (r : Answer). Ended o r o') (sym s.0) h
 
   with_steps : (o o' : Operators W) (k : ℕ) (g : PsFault) → Ended o (Err g) o' → Ended o (Err (fault_with k g)) o'
   with_steps o o' zero (ps.Error e) h = h
   with_steps o o' zero ps.Spent h = h
   with_steps o o' zero ps.Link h = h
-  with_steps o o' zero ps.NoMemory h = tt
+  with_steps o o' zero ps.NoMemory h = h
   with_steps o o' (suc k) (ps.Error e) h = h
   with_steps o o' (suc k) ps.Spent h = h
   with_steps o o' (suc k) ps.Link h = h
-  with_steps o o' (suc k) ps.NoMemory h = tt
+  with_steps o o' (suc k) ps.NoMemory h = h
 
   module _ (stays : (m : W) → leads m None m) (goes_on : (a b c : W) (o : Option (List ℕ)) → leads a None b → leads b o c → leads a o c) where
     fault_on : (a b c : W) (x : Option MemFault) → IsLed seen leads a None b → ByFault b x c → ByFault a x c
@@ -159,7 +165,7 @@ module _ {W R : Type 0} (seen : W → Seen R) (leads : W → Option (List ℕ) �
     ended_on o u o' (Ok x) h k = led_on (target o) (target u) (target o') None (goes_on (target o) (target u) (target o') None) h k
     ended_on o u o' (Err (ps.Error e)) h k = led_on (target o) (target u) (target o') None (goes_on (target o) (target u) (target o') None) h k
     ended_on o u o' (Err ps.Spent) h k = led_on (target o) (target u) (target o') None (goes_on (target o) (target u) (target o') None) h k
-    ended_on o u o' (Err ps.NoMemory) h k = tt
+    ended_on o u o' (Err ps.NoMemory) h k = led_on (target o) (target u) (target o') None (goes_on (target o) (target u) (target o') None) h k
     ended_on o u o' (Err ps.Link) h k = fault_on (target o) (target u) (target o') o'.fault h k
 
     here : (o : Operators W) → IsLed seen leads (target o) None (target o)
@@ -184,7 +190,7 @@ module _ {W R : Type 0} (seen : W → Seen R) (leads : W → Option (List ℕ) �
     fault_ended : (o o' : Operators W) (f : PsFault) → Ended o (Err f) o' → RanOver seen leads {A = Unit {0}} (target o) (Err (fault_of_run f o'.fault)) (target o')
     fault_ended o o' (ps.Error e) h = h
     fault_ended o o' ps.Spent h = h
-    fault_ended o o' ps.NoMemory h = tt
+    fault_ended o o' ps.NoMemory h = h
     fault_ended o o' ps.Link h = fault_kept (target o) (target o') o'.fault h
 
     object_ended : (n : ℕ) (what : PsObj) (o : Operators W) (c : PsCore) (r : Answer) (m : ℕ) (o' : Operators W) (c' : PsCore) → r ≢ Err ps.NoMemory → RunsObject (Does seen leads) n what o c r m o' c' → Ended o r o'
@@ -193,8 +199,9 @@ module _ {W R : Type 0} (seen : W → Seen R) (leads : W → Option (List ℕ) �
     pub run_answered : (n : ℕ) (what : PsObj) (o : Operators W) (c : PsCore) (r : Answer) (m : ℕ) (o' : Operators W) (c' : PsCore) → r ≡ Ok tt → RunsObject (Does seen leads) n what o c r m o' c' → IsLed seen leads (target o) None (target o')
     run_answered n what o c r m o' c' e h = subst (λ (x : Answer). Ended o x o') e (object_ended n what o c r m o' c' (λ k. let i = sym e ∙ k in cc) h)
 
-    pub run_stopped : (n : ℕ) (what : PsObj) (o : Operators W) (c : PsCore) (f : PsFault) (m : ℕ) (o' : Operators W) (c' : PsCore) → RunsObject (Does seen leads) n what o c (Err f) m o' c' → RanOver seen leads {A = Unit {0}} (target o) (Err (fault_of_run f o'.fault)) (target o')
-    run_stopped n what o c (ps.Error e) m o' c' h = fault_ended o o' (ps.Error e) (object_ended n what o c (Err (ps.Error e)) m o' c' (λ k. cc) h)
-    run_stopped n what o c ps.Spent m o' c' h = fault_ended o o' ps.Spent (object_ended n what o c (Err ps.Spent) m o' c' (λ k. cc) h)
-    run_stopped n what o c ps.Link m o' c' h = fault_ended o o' ps.Link (object_ended n what o c (Err ps.Link) m o' c' (λ k. cc) h)
-    run_stopped n what o c ps.NoMemory m o' c' h = tt
+    pub run_stopped : (n : ℕ) (what : PsObj) (o : Operators W) (c : PsCore) (f : PsFault) (m : ℕ) (o' : Operators W) (c' : PsCore) → RunsObject (Does seen leads) n what o c (Err f) m o' c'
+        → (fails f ≡ Err ps.NoMemory → RanShort (Does seen leads) n o (with_execution c (Object what ∷ [])) o') → RanOver seen leads {A = Unit {0}} (target o) (Err (fault_of_run f o'.fault)) (target o')
+    run_stopped n what o c (ps.Error e) m o' c' h k = fault_ended o o' (ps.Error e) (object_ended n what o c (Err (ps.Error e)) m o' c' (λ k. cc) h)
+    run_stopped n what o c ps.Spent m o' c' h k = fault_ended o o' ps.Spent (object_ended n what o c (Err ps.Spent) m o' c' (λ k. cc) h)
+    run_stopped n what o c ps.Link m o' c' h k = fault_ended o o' ps.Link (object_ended n what o c (Err ps.Link) m o' c' (λ k. cc) h)
+    run_stopped n what o c ps.NoMemory m o' c' h k = short_quiet seen leads stays goes_on n o (with_execution c (Object what ∷ [])) o' (k refl)

@@ -55,7 +55,7 @@ module _ {W R : Type 0} (seen : W → Seen R) (leads : W → Option (List ℕ) �
     pub tells : Tells seen o' regions' rest
     pub does : Operates (dial_of (desk o) regions) c op left answer (dial_of (desk o') regions') c' left'
 
-  does_told : (rest : R) (rg : Regions) (o : Operators W) (c : PsCore) (op left : ℕ) (r : Answer) (o' : Operators W) (c' : PsCore) (left' : ℕ) → r ≢ Err Link → r ≢ Err NoMemory
+  pub does_told : (rest : R) (rg : Regions) (o : Operators W) (c : PsCore) (op left : ℕ) (r : Answer) (o' : Operators W) (c' : PsCore) (left' : ℕ) → r ≢ Err Link → r ≢ Err NoMemory
       → Does seen leads o c op left r o' c' left' → Tells seen o rg rest → DoesTold rest rg o c op left r o' c' left'
   does_told rest rg o c op left (Ok x) o' c' left' l n d t = (let after = d.1.2.1 rg rest t in record { regions' = after.0; tells = after.1; does = after.2 })
   does_told rest rg o c op left (Err (Error e)) o' c' left' l n d t = (let after = d.1.2.1 rg rest t in record { regions' = after.0; tells = after.1; does = after.2 })
@@ -69,7 +69,7 @@ module _ {W R : Type 0} (seen : W → Seen R) (leads : W → Option (List ℕ) �
     pub tells : Tells seen o' regions' rest
     pub asks : Asked Operates (dial_of (desk o) regions) c op left answer (dial_of (desk o') regions') c' left'
 
-  asked_told : (rest : R) (rg : Regions) (o : Operators W) (c : PsCore) (op left : ℕ) (r : Answer) (o' : Operators W) (c' : PsCore) (left' : ℕ) → r ≢ Err Link → r ≢ Err NoMemory
+  pub asked_told : (rest : R) (rg : Regions) (o : Operators W) (c : PsCore) (op left : ℕ) (r : Answer) (o' : Operators W) (c' : PsCore) (left' : ℕ) → r ≢ Err Link → r ≢ Err NoMemory
       → Asked (Does seen leads) o c op left r o' c' left' → Tells seen o rg rest → AskedTold rest rg o c op left r o' c' left'
   asked_told rest rg o c op left r o' c' left' l n a t =
       let does : DoesTold rest rg o c op left a.given o' a.core left' =

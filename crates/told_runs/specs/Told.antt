@@ -10,6 +10,7 @@ use Rattle.ps_store.specs.StoreState.{StoreState}
 use Rattle.ps_step.specs.declared.item.Item.{Item}
 use Rattle.ps_step.specs.declared.machine.PsCore.{PsCore}
 use Rattle.ps_run.specs.Runs.{Answer, Operates as Dialect, Runs}
+use Rattle.ps_run.specs.Reaching.{Reaches}
 use Rattle.ps_terms.specs.Faring.{Fares}
 use Rattle.dialect_model.specs.Dial.{Dial}
 use Rattle.dialect_model.specs.Operating.{Operates}
@@ -49,6 +50,16 @@ module _ {W R : Type 0} (seen : W → Seen R) where
     pub regions' : Regions
     pub tells : Tells o' regions' rest
     pub runs : Runs Operates left (dial_of (desk o) regions) c answer left' (dial_of (desk o') regions') c'
+
+  -- A run of the dialect, over these regions, goes so far, and the target that it has there is told with the same rest.
+  pub record ReachesTold (rest : R) (regions : Regions) (left : ℕ) (o : Operators W) (c : PsCore) (o' : Operators W) : Type 0 where
+    pub regions' : Regions
+    pub left' : ℕ
+    pub dial : Dial
+    pub core : PsCore
+    pub tells : Tells o' regions' rest
+    pub reaches : Reaches Operates left (dial_of (desk o) regions) c left' dial core
+    pub target : (dial_of (desk o') regions').target ≡ dial.target
 
   -- It fares as a run of the dialect does, and leaves regions that are told with the same rest.
   pub record FaresTold (needs : Dial → PsCore → ℕ → Bool) (first : StoreState) (rest : R) (ds : List DictId) (left : ℕ) (dial : Dial) (operands : List PsObj) (items : List Item) (answer : Answer) (left' : ℕ) (o' : Operators W) (c' : PsCore) : Type 0 where

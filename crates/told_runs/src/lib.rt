@@ -4,5 +4,5 @@
 mod laws;
 mod running;
 
-pub use laws::{runs_are_told, runs_fare_as_the_dialects};
+pub use laws::{runs_are_told, runs_fare_as_the_dialects, short_runs_are_told};
 pub use running::run_over;

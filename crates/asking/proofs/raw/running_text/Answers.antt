@@ -1,10 +1,11 @@
 use Rattle.std.proofs.Common.{◌≡◌, refl, sym, subst, ℕ, List, None, Ok, Err}
 use Rattle.ps_ops.specs.declared.dialect.Operators.{Operators}
 use Rattle.table_asks.specs.declared.fault.AskFault.{AskFault}
+use Rattle.table_asks.specs.declared.fault.AskFault.TheVariants.{NoMemory}
 use Rattle.table_asks.specs.Asking.{left_of}
 use Rattle.table_asks.specs.Running.{RanOver, IsLed}
 use Rattle.asking.specs.Raw.{PsOver}
-use Rattle.asking.proofs.Ps.{begin_fails, string_fails, text_done, text_fails}
+use Rattle.asking.proofs.Ps.{begin_fails, string_fails, text_done, text_wants, text_fails}
 use Rattle.asking.proofs.Ran.{ran_own, ran_as}
 use Rattle.asking.proofs.raw.running_text.Goals as goal
 
@@ -62,10 +63,20 @@ returns-in-Ok-operands_text-clause-calls g c =
     subst (λ (o : Operators g.row.W.Denot). IsLed g.W.AbsMem.seen g.W.AbsMem.leads o.memory.below.below.below None after) c.begin_talk.ensures c.in-Ok-run_object.ensures.calls
 
 pub returns-in-Err-operands_text-clause-meaning : goal.returns-in-Err-operands_text-clause-meaning
-returns-in-Err-operands_text-clause-meaning g c = tt
+returns-in-Err-operands_text-clause-meaning g c =
+    let seen = g.W.AbsMem.seen in
+    let i = c.args.inquiry.now in
+    let b = c.begin_run.new.inquiry in
+    let j = record b { core = record b.core { store = c.make_string.new.self } } in
+    let new = c.run_object.new.inquiry in
+    let left : left_of b ≡ left_of i = cc in
+    subst (λ (o : Operators g.row.W.Denot). PsOver seen c.args.text.now i o (Err NoMemory) new c.run_object.new.talk) c.begin_talk.ensures
+    (text_wants seen c.args.text.now i new c.begin_talk.new.talk c.run_object.new.talk b c.in-Ok.ensures.begins c.in-Ok-make_string.t j c.in-Ok-make_string.ensures.does refl left c.in-Ok-run_object.ensures.meaning)
 
 pub returns-in-Err-operands_text-clause-calls : goal.returns-in-Err-operands_text-clause-calls
-returns-in-Err-operands_text-clause-calls g c = tt
+returns-in-Err-operands_text-clause-calls g c =
+    let after = c.run_object.new.talk.memory.below.below.below in
+    subst (λ (o : Operators g.row.W.Denot). IsLed g.W.AbsMem.seen g.W.AbsMem.leads o.memory.below.below.below None after) c.begin_talk.ensures c.in-Ok-run_object.ensures.calls
 
 pub returns-in-Err-run_object-clause-meaning : goal.returns-in-Err-run_object-clause-meaning
 returns-in-Err-run_object-clause-meaning g c =

@@ -1,6 +1,6 @@
 use Rattle.std.proofs.Common.{ℕ, List, Err}
 use Rattle.asking.proofs.Ran.{ran_as, ran_unbroken, led_further, ran_then}
-use Rattle.asking.proofs.Printed.{type_fails, unplaced, unshown, shown_done}
+use Rattle.asking.proofs.Printed.{type_fails, unplaced, unshown, unworded, shown_done}
 use Rattle.asking.proofs.shown.print_symbol.Goals as goal
 
 pub returns-in-Err-clause-calls : goal.returns-in-Err-clause-calls
@@ -20,7 +20,11 @@ returns-in-Ok-value_text-clause-calls g c =
     led_further g.W.AbsMem.seen g.W.AbsMem.leads m between after (g.met.W.AbsMem.goes_on m between after) _ c.in-Ok-place.ensures.calls c.in-Ok-show.ensures.calls
 
 pub returns-in-Err-value_text-clause-calls : goal.returns-in-Err-value_text-clause-calls
-returns-in-Err-value_text-clause-calls g c = tt
+returns-in-Err-value_text-clause-calls g c =
+    let m = c.args.talk.now.memory.below.below.below in
+    let between = c.place.new.talk.memory.below.below.below in
+    let after = c.show.new.talk.memory.below.below.below in
+    led_further g.W.AbsMem.seen g.W.AbsMem.leads m between after (g.met.W.AbsMem.goes_on m between after) _ c.in-Ok-place.ensures.calls c.in-Ok-show.ensures.calls
 
 pub returns-in-Err-show-clause-calls : goal.returns-in-Err-show-clause-calls
 returns-in-Err-show-clause-calls g c =
@@ -41,7 +45,8 @@ returns-in-Ok-value_text-clause-meaning g c =
     shown_done g.W.AbsMem.seen c.args.symbol c.args.frame c.args.scope c.args.inquiry.now c.args.talk.now c.in-Ok.ctype c.in-Ok.ensures.meaning c.place.new.inquiry c.show.new.inquiry c.place.new.talk c.show.new.talk c.in-Ok-place.ensures.meaning c.in-Ok-show.ensures.meaning c.in-Ok-value_text.text c.in-Ok-value_text.ensures
 
 pub returns-in-Err-value_text-clause-meaning : goal.returns-in-Err-value_text-clause-meaning
-returns-in-Err-value_text-clause-meaning g c = λ part. tt
+returns-in-Err-value_text-clause-meaning g c =
+    unworded g.W.AbsMem.seen c.args.symbol c.args.frame c.args.scope c.args.inquiry.now c.args.talk.now c.in-Ok.ctype c.in-Ok.ensures.meaning c.place.new.inquiry c.show.new.inquiry c.place.new.talk c.show.new.talk c.in-Ok-place.ensures.meaning c.in-Ok-show.ensures.meaning
 
 pub returns-in-Err-show-clause-meaning : goal.returns-in-Err-show-clause-meaning
 returns-in-Err-show-clause-meaning g c =

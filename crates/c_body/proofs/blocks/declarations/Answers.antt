@@ -1,5 +1,5 @@
 use Rattle.std.proofs.Common.{Ok, Err, Some, ◌+◌, drop, refl, sym, subst, ◌∙◌}
-use Rattle.c_statement.specs.Tree.{StatementTree, Begun, Declares, with_locals}
+use Rattle.c_trees.specs.Statements.{StatementTree, Begun, Declares, with_locals}
 use Rattle.c_judge.specs.Elaboration.{site_of}
 use Rattle.c_body.specs.Walking.{walk_of}
 use Rattle.c_body.proofs.PassedParts.{Goes, step}

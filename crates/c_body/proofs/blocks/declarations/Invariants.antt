@@ -1,5 +1,5 @@
 use Rattle.std.proofs.Common.{◌≡◌, drop, Ok}
-use Rattle.c_statement.specs.Tree.{StatementTree, Begun, with_locals}
+use Rattle.c_trees.specs.Statements.{StatementTree, Begun, with_locals}
 use Rattle.c_typing.specs.Plain.{Plain}
 use Rattle.c_judge.specs.Elaboration.{site_of}
 use Rattle.c_body.specs.Bodies.{Around}

@@ -1,5 +1,5 @@
 use Rattle.std.proofs.Common.{◌≡◌, map, None, IsSome, Ok, Err, refl, sym, ap, subst, ◌∙◌}
-use Rattle.c_statement.specs.Tree.{StatementTree}
+use Rattle.c_trees.specs.Statements.{StatementTree}
 use Rattle.c_typing.specs.Plain.{plain}
 use Rattle.c_judge.specs.declared.fault.Fault.{Fault}
 use Rattle.c_judge.specs.Elaboration.{site_of}

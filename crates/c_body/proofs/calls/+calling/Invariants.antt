@@ -1,5 +1,5 @@
 use Rattle.std.proofs.Common.{◌≡◌, ◌+◌, ◌*◌, ◌++◌, map, drop}
-use Rattle.c_expr.specs.Tree.{depth}
+use Rattle.c_trees.specs.Expressions.{depth}
 use Rattle.c_body.specs.Calls.{called, of_all, of_part}
 use Rattle.c_scope.specs.Here.{environment_of}
 use Rattle.c_mentions.specs.Tags.{now}

@@ -1,6 +1,6 @@
 use Rattle.std.proofs.Common.{◌≡◌, [], ◌∷◌, Some, None, Ok, Err, sym, subst, ◌∙◌}
 use Rattle.std.specs.Prelude.{Bool, ◌&&◌}
-use Rattle.c_declaration.specs.InitialTree.{Value}
+use Rattle.c_trees.specs.Initializers.{Value}
 use Rattle.c_judge.specs.Judgement.{Judged}
 use Rattle.c_judge.specs.Places.{place_of}
 use Rattle.c_typing.specs.Plain.{plain, is_scalar}

@@ -1,5 +1,5 @@
 use Rattle.std.proofs.Common.{◌≡◌, [], ◌∷◌, Some, None, Ok, Err, not, refl, ap, sym, subst, ◌∙◌}
-use Rattle.c_statement.specs.Tree as tree
+use Rattle.c_trees.specs.Statements as tree
 use Rattle.c_typing.specs.Plain.{plain, is_void}
 use Rattle.c_typing.specs.Rules.{converts}
 use Rattle.c_body.specs.Becoming.{Becomes}

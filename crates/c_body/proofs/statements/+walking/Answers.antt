@@ -1,7 +1,7 @@
 use Rattle.std.proofs.Common.{arith, ◌≡◌, Ok, Err, ◌+◌, drop, refl, sym, ap, subst, ◌∙◌}
-use Rattle.c_statement.specs.Tree.{StatementTree, Begun, If, IfElse, Do, Headed, Also, with_locals, with_statements}
-use Rattle.c_statement.specs.View.{statement_of}
-use Rattle.c_statement.specs.declared.tree.Head.TheVariants as head
+use Rattle.c_trees.specs.Statements.{StatementTree, Begun, If, IfElse, Do, Headed, Also, with_locals, with_statements}
+use Rattle.c_trees.specs.StatementView.{statement_of}
+use Rattle.c_trees.specs.declared.statement.Head.TheVariants as head
 use Rattle.c_typing.specs.Plain.{plain}
 use Rattle.c_judge.specs.Elaboration.{site_of}
 use Rattle.c_body.specs.declared.walk.Asking.TheVariants.{Tested}

@@ -1,5 +1,5 @@
 use Rattle.std.proofs.Common.{◌≡◌, ◌+◌, ◌*◌, drop, Ok}
-use Rattle.c_statement.specs.Tree.{StatementTree, depth, with_statements}
+use Rattle.c_trees.specs.Statements.{StatementTree, depth, with_statements}
 use Rattle.c_typing.specs.Plain.{plain}
 use Rattle.c_judge.specs.Elaboration.{site_of}
 use Rattle.c_body.specs.Blocks.{PassesInside, inside_of}

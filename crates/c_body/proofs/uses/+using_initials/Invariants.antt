@@ -1,5 +1,5 @@
 use Rattle.std.proofs.Common.{◌≡◌, ◌+◌, ◌*◌, ◌++◌, map, drop}
-use Rattle.c_declaration.specs.InitialTree.{depth}
+use Rattle.c_trees.specs.Initializers.{depth}
 use Rattle.c_body.specs.Calls.{called_items, of_all}
 use Rattle.c_scope.specs.Here.{environment_of}
 use Rattle.c_mentions.specs.Tags.{now}

@@ -1,5 +1,5 @@
 use Rattle.std.proofs.Common.{◌≡◌, ◌*◌, ◌+◌, drop}
-use Rattle.c_statement.specs.Tree.{depth}
+use Rattle.c_trees.specs.Statements.{depth}
 use Rattle.c_file.specs.Programs.{any, many_below}
 use Rattle.c_mentions.proofs.Measures.{statement_depths}
 use Rattle.c_check.proofs.parameters.+stating.Given as goal

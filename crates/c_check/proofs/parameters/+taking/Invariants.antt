@@ -1,5 +1,5 @@
 use Rattle.std.proofs.Common.{◌≡◌, ◌*◌, ◌+◌, drop}
-use Rattle.c_declaration.specs.Tree.{depth}
+use Rattle.c_trees.specs.Declarators.{depth}
 use Rattle.c_file.specs.Programs.{any, takes_many}
 use Rattle.c_mentions.proofs.Measures.{parameter_depths}
 use Rattle.c_check.proofs.parameters.+taking.Given as goal

@@ -1,5 +1,5 @@
 use Rattle.std.proofs.Common.{◌≡◌, ℕ, suc, ◌+◌, max, nat_lt, Option, Some, sym, ◌∙◌, ap, ap₂, le-leb}
-use Rattle.c_declaration.specs.InitialTree.{InitialTree, Braces, Item, with_items}
+use Rattle.c_trees.specs.Initializers.{InitialTree, Braces, Item, with_items}
 use Rattle.c_declaration.specs.declared.built.Built.{Built}
 use Rattle.c_declaration.proofs.Pieces.{if_true}
 use Rattle.c_declaration.proofs.Pushed.{one_more_item}

@@ -1,5 +1,5 @@
 use Rattle.std.proofs.Common.{◌≡◌, ℕ, suc, ◌+◌, max, nat_lt, Option, Some, sym, ◌∙◌, ap, ap₂, le-leb}
-use Rattle.c_declaration.specs.Tree.{DeclaratorTree, Function, Taking, with_parameters}
+use Rattle.c_trees.specs.Declarators.{DeclaratorTree, Function, Taking, with_parameters}
 use Rattle.c_declaration.specs.declared.built.Built.{Built}
 use Rattle.c_declaration.proofs.Pieces.{if_true}
 use Rattle.c_declaration.proofs.Pushed.{one_more_parameter}

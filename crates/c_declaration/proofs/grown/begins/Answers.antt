@@ -1,6 +1,6 @@
 use Rattle.std.proofs.Common.{sym, ◌∙◌, ap}
-use Rattle.c_declaration.specs.Tree.{begins, Function}
-use Rattle.c_declaration.specs.View.{tree_of}
+use Rattle.c_trees.specs.Declarators.{begins, Function}
+use Rattle.c_trees.specs.DeclarationView.{tree_of}
 use Rattle.c_declaration.proofs.Pushed.{begins_with}
 use Rattle.c_declaration.proofs.grown.begins.Goals as goal
 

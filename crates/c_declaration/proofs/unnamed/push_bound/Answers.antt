@@ -1,5 +1,5 @@
 use Rattle.std.proofs.Common.{sym, ◌∙◌, ap}
-use Rattle.c_expr.specs.Tree.{behind_stars, bound_behind, with_bounds}
+use Rattle.c_trees.specs.Expressions.{behind_stars, bound_behind, with_bounds}
 use Rattle.c_declaration.proofs.Pushed.{one_more_bound}
 use Rattle.c_declaration.proofs.unnamed.push_bound.Goals as goal
 

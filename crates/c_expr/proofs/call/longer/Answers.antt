@@ -1,5 +1,5 @@
 use Rattle.std.proofs.Common.{ℕ, suc, ◌+◌, max, nat_lt, Option, Some, sym, ◌∙◌, ap, ap₂, le-leb}
-use Rattle.c_expr.specs.Tree.{Tree, Call, With, with_arguments}
+use Rattle.c_trees.specs.Expressions.{Tree, Call, With, with_arguments}
 use Rattle.c_expr.specs.declared.grown.Built.{Built}
 use Rattle.c_expr.proofs.Pieces.{if_true}
 use Rattle.c_expr.proofs.Pushed.{one_more_argument}

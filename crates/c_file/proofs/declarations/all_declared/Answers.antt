@@ -1,6 +1,6 @@
 use Rattle.std.proofs.Common.{◌≡◌, ◌+◌, ◌∷◌, suc, drop, List, sym, ap, ◌∙◌, arith}
 use Rattle.std.proofs.Math.Seq.{drop-cons}
-use Rattle.c_declaration.specs.declared.tree.Declared.{Declared}
+use Rattle.c_trees.specs.declared.declaration.Declared.{Declared}
 use Rattle.c_typing.specs.Plain.{plain}
 use Rattle.c_file.specs.Files.{all_found, after_all, declared_found, after_name}
 use Rattle.c_scope.specs.Findings.{◌beside◌}

@@ -1,5 +1,5 @@
 use Rattle.std.proofs.Common.{map, sym, false}
-use Rattle.c_declaration.specs.Tree.{begins}
+use Rattle.c_trees.specs.Declarators.{begins}
 use Rattle.c_typing.specs.Plain.{plain}
 use Rattle.c_judge.specs.Answers.{Known}
 use Rattle.c_scope.specs.Declarators as shape

@@ -1,5 +1,5 @@
 use Rattle.std.proofs.Common.{map, sym, ap, subst, false}
-use Rattle.c_declaration.specs.Tree.{begins}
+use Rattle.c_trees.specs.Declarators.{begins}
 use Rattle.c_typing.specs.Plain.{plain}
 use Rattle.c_typing.specs.Expressions as typing
 use Rattle.c_file.specs.Files.{row_of, with_name, with_strings}

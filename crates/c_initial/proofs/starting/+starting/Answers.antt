@@ -1,5 +1,5 @@
 use Rattle.std.proofs.Common.{◌+◌, ◌++◌, length, refl, sym, ap, ◌∙◌}
-use Rattle.c_declaration.specs.InitialTree.{Braces, with_items}
+use Rattle.c_trees.specs.Initializers.{Braces, with_items}
 use Rattle.c_typing.specs.Plain.{plain}
 use Rattle.c_judge.specs.Answers.{Broken}
 use Rattle.c_scope.specs.Here.{environment_of}

@@ -1,5 +1,5 @@
 use Rattle.std.proofs.Common.{◌*◌, ◌+◌}
-use Rattle.c_declaration.specs.InitialTree.{depth}
+use Rattle.c_trees.specs.Initializers.{depth}
 use Rattle.c_typing.specs.Plain.{plain}
 use Rattle.c_scope.specs.Here.{environment_of}
 use Rattle.c_initial.specs.Starts.{given_of}

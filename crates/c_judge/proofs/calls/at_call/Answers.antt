@@ -1,5 +1,5 @@
 use Rattle.std.proofs.Common.{subst, length}
-use Rattle.c_expr.specs.Tree.{Call, with_arguments}
+use Rattle.c_trees.specs.Expressions.{Call, with_arguments}
 use Rattle.c_judge.specs.Calls.{Gathers}
 use Rattle.c_judge.specs.Judges.{scope_of}
 use Rattle.c_judge.proofs.Called.{call_judges, call_fails}

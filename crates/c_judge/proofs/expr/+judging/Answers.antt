@@ -1,7 +1,7 @@
 use Rattle.std.proofs.Common.{rules, ◌≡◌, ◌<◌, ◌+◌, ◌-◌, ◌∙◌, ap, sym, subst, suc, take, drop, length, [], ◌∷◌, ◌++◌, None, arith}
 use Rattle.std.proofs.lemmas.List.{take_more, take_all, length-take-le}
-use Rattle.c_expr.specs.Tree.{Call, Member, behind_stars, with_arguments}
-use Rattle.c_expr.specs.View.{tree_of}
+use Rattle.c_trees.specs.Expressions.{Call, Member, behind_stars, with_arguments}
+use Rattle.c_trees.specs.ExpressionView.{tree_of}
 use Rattle.c_typing.specs.Plain.{plain}
 use Rattle.c_judge.specs.Bounds.{one_bound, all_bounds}
 use Rattle.c_judge.specs.Calls.{Calls, Gathers}

@@ -1,5 +1,5 @@
 use Rattle.std.proofs.Common.{◌≤◌, ◌*◌, ◌+◌, ◌-◌, take, drop, length}
-use Rattle.c_expr.specs.Tree.{Call, depth, with_arguments}
+use Rattle.c_trees.specs.Expressions.{Call, depth, with_arguments}
 use Rattle.c_typing.specs.Plain.{Plain}
 use Rattle.c_judge.specs.Answers.{Answer}
 use Rattle.c_judge.specs.Bounds.{all_bounds}

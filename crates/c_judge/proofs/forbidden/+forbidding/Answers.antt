@@ -1,5 +1,5 @@
 use Rattle.std.proofs.Common.{rules, ◌≡◌, ◌+◌, ap, arith}
-use Rattle.c_expr.specs.Tree.{depth}
+use Rattle.c_trees.specs.Expressions.{depth}
 use Rattle.c_judge.proofs.Depths.{bound_depth, bound_item}
 use Rattle.c_judge.proofs.forbidden.+forbidding.Goals as goal
 

@@ -1,5 +1,5 @@
 use Rattle.std.proofs.Common.{◌≡◌, ◌*◌, ◌+◌, drop}
-use Rattle.c_expr.specs.Tree.{depth}
+use Rattle.c_trees.specs.Expressions.{depth}
 use Rattle.c_judge.specs.Forms.{forbidden_bounds}
 use Rattle.c_judge.proofs.Depths.{bound_depths}
 use Rattle.c_judge.proofs.forbidden.+forbidding.Given as goal

@@ -1,5 +1,5 @@
 use Rattle.std.proofs.Common.{◌≡◌, ◌*◌, ◌+◌, drop}
-use Rattle.c_expr.specs.Tree.{depth}
+use Rattle.c_trees.specs.Expressions.{depth}
 use Rattle.c_judge.specs.Judges.{scope_of}
 use Rattle.c_judge.specs.Forms.{unknown_all, unknown_bounds}
 use Rattle.c_judge.proofs.Depths.{depths, bound_depths}

@@ -1,5 +1,5 @@
 use Rattle.std.proofs.Common.{◌≡◌, ◌+◌, ◌*◌, ◌++◌, map, drop}
-use Rattle.c_expr.specs.Tree.{depth}
+use Rattle.c_trees.specs.Expressions.{depth}
 use Rattle.c_mentions.specs.Literals.{literal, in_all, in_part, in_tree}
 use Rattle.c_mentions.proofs.Measures.{argument_depths, bound_depths, bound_depth}
 use Rattle.c_mentions.proofs.literals.+quoting.Given as goal

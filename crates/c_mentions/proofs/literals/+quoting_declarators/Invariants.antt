@@ -1,5 +1,5 @@
 use Rattle.std.proofs.Common.{◌≡◌, ◌+◌, ◌*◌, ◌++◌, map, drop}
-use Rattle.c_declaration.specs.Tree.{depth}
+use Rattle.c_trees.specs.Declarators.{depth}
 use Rattle.c_mentions.specs.Literals.{literal, in_all, in_declarator}
 use Rattle.c_mentions.proofs.Measures.{parameter_depths}
 use Rattle.c_mentions.proofs.literals.+quoting_declarators.Given as goal

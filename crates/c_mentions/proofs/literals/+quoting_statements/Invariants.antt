@@ -1,5 +1,5 @@
 use Rattle.std.proofs.Common.{◌≡◌, ◌+◌, ◌*◌, ◌++◌, map, drop}
-use Rattle.c_statement.specs.Tree.{depth}
+use Rattle.c_trees.specs.Statements.{depth}
 use Rattle.c_mentions.specs.Literals.{literal, in_all, in_statement}
 use Rattle.c_mentions.proofs.Measures.{statement_depths}
 use Rattle.c_mentions.proofs.literals.+quoting_statements.Given as goal

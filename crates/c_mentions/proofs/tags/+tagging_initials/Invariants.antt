@@ -1,5 +1,5 @@
 use Rattle.std.proofs.Common.{◌≡◌, ◌+◌, ◌*◌, ◌++◌, map, drop}
-use Rattle.c_declaration.specs.InitialTree.{depth}
+use Rattle.c_trees.specs.Initializers.{depth}
 use Rattle.c_mentions.specs.Tags.{now, in_all, in_initial}
 use Rattle.c_mentions.proofs.Measures.{item_depths}
 use Rattle.c_mentions.proofs.tags.+tagging_initials.Given as goal

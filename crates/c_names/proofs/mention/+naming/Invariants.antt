@@ -1,5 +1,5 @@
 use Rattle.std.proofs.Common.{◌≡◌, ◌+◌, ◌*◌, ◌++◌, drop}
-use Rattle.c_expr.specs.Tree.{depth}
+use Rattle.c_trees.specs.Expressions.{depth}
 use Rattle.c_names.specs.Mentions.{mentions, in_all, in_part}
 use Rattle.c_names.proofs.Measures.{argument_depths, bound_depths, bound_depth}
 use Rattle.c_names.proofs.mention.+naming.Given as goal

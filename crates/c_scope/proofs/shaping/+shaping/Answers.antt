@@ -1,6 +1,6 @@
 use Rattle.std.proofs.Common.{[], map, sym, ap, ◌∙◌, subst}
-use Rattle.c_declaration.specs.Tree.{Array}
-use Rattle.c_declaration.specs.View.{tree_of}
+use Rattle.c_trees.specs.Declarators.{Array}
+use Rattle.c_trees.specs.DeclarationView.{tree_of}
 use Rattle.c_typing.specs.Plain.{plain}
 use Rattle.c_judge.specs.Answers.{◌then◌}
 use Rattle.c_judge.specs.Judges.{Gives, IsFault}

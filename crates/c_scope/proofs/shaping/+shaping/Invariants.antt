@@ -1,5 +1,5 @@
 use Rattle.std.proofs.Common.{◌≡◌, ◌*◌, ◌+◌, drop, [], map}
-use Rattle.c_declaration.specs.Tree.{depth}
+use Rattle.c_trees.specs.Declarators.{depth}
 use Rattle.c_scope.specs.Gathered.{gathered}
 use Rattle.c_scope.specs.Here.{environment_of}
 use Rattle.c_scope.specs.Shapes.{parameter_of}

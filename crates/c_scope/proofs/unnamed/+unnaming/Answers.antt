@@ -1,5 +1,5 @@
 use Rattle.std.proofs.Common.{arith, ◌≡◌, ◌-◌, take, sym, ap, ◌∙◌, subst}
-use Rattle.c_expr.specs.Tree.{behind_stars, with_bounds}
+use Rattle.c_trees.specs.Expressions.{behind_stars, with_bounds}
 use Rattle.c_typing.specs.Plain.{plain}
 use Rattle.c_judge.specs.Answers.{Known}
 use Rattle.c_judge.specs.Judgement.{pointers}

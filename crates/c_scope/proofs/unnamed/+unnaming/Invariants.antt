@@ -1,5 +1,5 @@
 use Rattle.std.proofs.Common.{◌≡◌, ◌≤◌, ◌*◌, ◌+◌, ℕ, take, length}
-use Rattle.c_expr.specs.Tree.{depth, behind_stars, with_bounds}
+use Rattle.c_trees.specs.Expressions.{depth, behind_stars, with_bounds}
 use Rattle.c_typing.specs.Plain.{plain}
 use Rattle.c_scope.specs.Declarators.{unnamed_within}
 use Rattle.c_scope.specs.Here.{environment_of}

@@ -2,7 +2,7 @@ use Rattle.std.proofs.Common.{sym, ◌∙◌, ap, subst, Option}
 use Rattle.c_lex.specs.declared.keyword.Keyword.{Keyword}
 use Rattle.c_symbol.specs.declared.symbol.Symbol.{Symbol}
 use Rattle.c_declaration.specs.declared.built.Built.{Built}
-use Rattle.c_statement.specs.Tree.{StatementTree, Empty}
+use Rattle.c_trees.specs.Statements.{StatementTree, Empty}
 use Rattle.c_statement.specs.Parts.{statement_part, begun_of}
 use Rattle.c_statement.specs.declared.state.Mode.TheVariants.{After, Items}
 use Rattle.c_statement.specs.Machine.{Next, Gives, goes, begins, begins_word}

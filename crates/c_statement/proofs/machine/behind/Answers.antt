@@ -1,7 +1,7 @@
 use Rattle.std.proofs.Common.{◌≡◌, List, Option, None, drop, sym, ◌∙◌, ap, subst}
 use Rattle.c_expr.specs.First.{first}
 use Rattle.c_declaration.specs.declared.built.Built.{Built}
-use Rattle.c_statement.specs.Tree.{StatementTree}
+use Rattle.c_trees.specs.Statements.{StatementTree}
 use Rattle.c_statement.specs.Parts.{also_of}
 use Rattle.c_statement.specs.declared.state.Frame.{Frame}
 use Rattle.c_statement.specs.declared.state.Outer.{Outer}

@@ -1,7 +1,7 @@
 use Rattle.std.proofs.Common.{◌≡◌, List, ◌∷◌, Option, sym, ◌∙◌, ap, subst}
 use Rattle.c_declaration.specs.declared.built.Built.{Built}
 use Rattle.c_declaration.proofs.Pieces.{if_true, if_false}
-use Rattle.c_statement.specs.Tree.{StatementTree}
+use Rattle.c_trees.specs.Statements.{StatementTree}
 use Rattle.c_statement.specs.Parts.{closed_of}
 use Rattle.c_statement.specs.declared.state.Frame.{Frame}
 use Rattle.c_statement.specs.declared.state.Frame.TheVariants as frame

@@ -3,7 +3,7 @@ use Rattle.c_declaration.specs.declared.built.Built.{Built}
 use Rattle.c_declaration.specs.declared.state.LocalParser.TheVariants as local
 use Rattle.c_declaration.specs.LocalReading.{local_offer}
 use Rattle.c_declaration.proofs.Pieces.{if_true, if_false}
-use Rattle.c_statement.specs.Tree.{StatementTree}
+use Rattle.c_trees.specs.Statements.{StatementTree}
 use Rattle.c_statement.specs.Machine.{Next, Gives, starts_local, declaring, inside}
 use Rattle.c_statement.proofs.machine.items.Goals as goal
 

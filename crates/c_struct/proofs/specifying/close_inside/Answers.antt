@@ -1,6 +1,6 @@
 use Rattle.std.proofs.Common.{◌≡◌, length, refl, sym, subst, Err, arith}
 use Rattle.std.proofs.lemmas.Grind.{common_steps}
-use Rattle.c_declaration.specs.declared.tree.MemberPart.TheVariants.{Closes}
+use Rattle.c_trees.specs.declared.declaration.MemberPart.TheVariants.{Closes}
 use Rattle.c_judge.specs.declared.fault.Fault.{Fault}
 use Rattle.c_scope.specs.Here.{environment_of}
 use Rattle.c_struct.specs.Nested.{opens_of, AllNamed, Passes}

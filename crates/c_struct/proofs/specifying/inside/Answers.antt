@@ -1,5 +1,5 @@
 use Rattle.std.proofs.Common.{[], drop, ◌+◌, List, sym, subst, ◌∙◌}
-use Rattle.c_declaration.specs.declared.tree.MemberPart.{MemberPart}
+use Rattle.c_trees.specs.declared.declaration.MemberPart.{MemberPart}
 use Rattle.c_scope.specs.Here.{environment_of}
 use Rattle.c_struct.specs.Specifies.{Inside}
 use Rattle.c_struct.specs.Nested.{opens_of}

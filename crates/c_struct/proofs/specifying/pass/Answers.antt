@@ -1,6 +1,6 @@
 use Rattle.std.proofs.Common.{sym, ap, ◌∙◌, subst}
-use Rattle.c_declaration.specs.declared.tree.MemberPart.{MemberPart}
-use Rattle.c_declaration.specs.declared.tree.MemberPart.TheVariants.{Row}
+use Rattle.c_trees.specs.declared.declaration.MemberPart.{MemberPart}
+use Rattle.c_trees.specs.declared.declaration.MemberPart.TheVariants.{Row}
 use Rattle.c_scope.specs.Here.{environment_of}
 use Rattle.c_struct.specs.Nested.{opens_of, Passes}
 use Rattle.c_struct.proofs.specifying.pass.Goals as goal

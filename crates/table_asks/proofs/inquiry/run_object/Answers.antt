@@ -26,7 +26,7 @@ returns-in-Err-clause-calls g c =
     let new = c.run.new in
     let is : c.fault_of_run.result ≡ fault_of_run c.in-Err.fault new.dialect.fault = c.fault_of_run.ensures.value ∙ ap (fault_of_run c.in-Err.fault) c.take.ensures.value in
     subst (λ (f : AskFault). RanOver g.W.AbsMem.seen g.W.AbsMem.leads {A = Unit {0}} c.args.talk.now.memory.below.below.below (Err f) new.dialect.memory.below.below.below) (sym is)
-    (run_stopped g.W.AbsMem.seen g.W.AbsMem.leads g.met.W.AbsMem.stays g.met.W.AbsMem.goes_on (inquiry.steps.limit - inquiry.steps.taken) c.args.what c.args.talk.now inquiry.core c.in-Err.fault (new.steps.limit - new.steps.taken) new.dialect new.core c.in-Err.ensures.runs)
+    (run_stopped g.W.AbsMem.seen g.W.AbsMem.leads g.met.W.AbsMem.stays g.met.W.AbsMem.goes_on (inquiry.steps.limit - inquiry.steps.taken) c.args.what c.args.talk.now inquiry.core c.in-Err.fault (new.steps.limit - new.steps.taken) new.dialect new.core c.in-Err.ensures.runs c.in-Err.ensures.short)
 
 pub returns-in-Ok-clause-meaning : goal.returns-in-Ok-clause-meaning
 returns-in-Ok-clause-meaning g c =
@@ -40,4 +40,4 @@ returns-in-Err-clause-meaning g c =
     let new : Inquiry = record { core = c.run.new.core; steps = c.run.new.steps } in
     subst (λ (kept : Option MemFault). RunsOver g.W.AbsMem.seen c.args.what inquiry c.args.talk.now (Err c.fault_of_run.result) new (record dialect { fault = kept })) (sym c.take.ensures.after)
     (subst (λ (f : AskFault). RunsOver g.W.AbsMem.seen c.args.what inquiry c.args.talk.now (Err f) new (record dialect { fault = None })) (sym c.fault_of_run.ensures.value)
-    (told_stopped g.W.AbsMem.seen g.W.AbsMem.leads c.args.what inquiry new c.args.talk.now dialect c.in-Err.fault c.take.result c.take.ensures.value c.in-Err.ensures.runs))
+    (told_stopped g.W.AbsMem.seen g.W.AbsMem.leads c.args.what inquiry new c.args.talk.now dialect c.in-Err.fault c.take.result c.take.ensures.value c.in-Err.ensures.runs c.in-Err.ensures.short))

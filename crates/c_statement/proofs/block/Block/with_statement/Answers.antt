@@ -1,5 +1,5 @@
 use Rattle.std.proofs.Common.{sym, ◌∙◌, ap}
-use Rattle.c_statement.specs.Tree.{Begun, Also, with_locals, with_statements}
+use Rattle.c_trees.specs.Statements.{Begun, Also, with_locals, with_statements}
 use Rattle.c_statement.proofs.Pushed.{one_more_statement}
 use Rattle.c_statement.proofs.block.Block.with_statement.Goals as goal
 

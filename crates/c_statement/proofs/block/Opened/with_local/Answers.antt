@@ -1,5 +1,5 @@
 use Rattle.std.proofs.Common.{sym, ◌∙◌, ap}
-use Rattle.c_statement.specs.Tree.{Begun, Declares, with_locals}
+use Rattle.c_trees.specs.Statements.{Begun, Declares, with_locals}
 use Rattle.c_statement.proofs.Pushed.{one_more_local}
 use Rattle.c_statement.proofs.block.Opened.with_local.Goals as goal
 

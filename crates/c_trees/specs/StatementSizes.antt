@@ -2,7 +2,7 @@
 use Rattle.std.specs.Prelude.{ℕ, ◌+◌, ◌≤◌, List, [], ◌∷◌}
 use Rattle.std.proofs.Common.{arith}
 use denote.Param.Weighed.{most}
-use Rattle.c_statement.specs.Tree.{StatementTree, Also, depth, with_statements}
+use Rattle.c_trees.specs.Statements.{StatementTree, Also, depth, with_statements}
 
 pub grows_statements : (b : StatementTree) (ss : List StatementTree) → depth b ≤ depth (with_statements b ss)
 grows_statements b [] = omega arith

@@ -6,7 +6,7 @@ use Rattle.c_symbol.specs.declared.symbol.Step.{Step}
 use Rattle.c_symbol.specs.declared.symbol.Access.{Access}
 use Rattle.c_symbol.specs.declared.symbol.PrefixOp.{PrefixOp}
 use Rattle.c_symbol.specs.declared.symbol.BinaryOp.{BinaryOp}
-use Rattle.c_expr.specs.declared.tree.Spec.{Spec}
+use Rattle.c_trees.specs.declared.expression.Spec.{Spec}
 
 pub data Tree : Type 0 where
   Leaf : Place → LeafKind → List ℕ → Tree

@@ -1,9 +1,9 @@
 -- Trees of statements, without where they lie in memory. A block is written from the left: one more declaration or statement behind those before.
 use Rattle.std.specs.Prelude.{ℕ, ◌+◌, List, [], ◌∷◌, Option}
 use Rattle.c_lex.specs.declared.token.Place.{Place}
-use Rattle.c_expr.specs.Tree.{Tree}
-use Rattle.c_declaration.specs.declared.tree.Local.{Local}
-use Rattle.c_statement.specs.declared.tree.Head.{Head}
+use Rattle.c_trees.specs.Expressions.{Tree}
+use Rattle.c_trees.specs.declared.declaration.Local.{Local}
+use Rattle.c_trees.specs.declared.statement.Head.{Head}
 
 pub data StatementTree : Type 0 where
   Empty : Place → StatementTree

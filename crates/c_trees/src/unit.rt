@@ -1,7 +1,7 @@
-// Trees of units.
+//! Trees of units.
 
-use crate::tree::Statement;
-use c_declaration::{FunctionHead, Head};
+use crate::declaration::{FunctionHead, Head};
+use crate::statement::Statement;
 use ldb_words::Many;
 
 /// An external declaration (C90 6.7): a declaration, or the definition of a function, whose body is a block.

@@ -1,8 +1,8 @@
 -- The tree that an expression is.
-use Rattle.c_expr.specs.Tree.{Tree, with_arguments}
-use Rattle.c_expr.specs.Tree as tree
-use Rattle.c_expr.specs.declared.tree.Node.{Node}
-use Rattle.c_expr.specs.declared.tree.Node.TheVariants.{Leaf, Paren, Index, Call, Member, After, Prefix, SizeofType, Cast, Binary, Choice}
+use Rattle.c_trees.specs.Expressions.{Tree, with_arguments}
+use Rattle.c_trees.specs.Expressions as tree
+use Rattle.c_trees.specs.declared.expression.Node.{Node}
+use Rattle.c_trees.specs.declared.expression.Node.TheVariants.{Leaf, Paren, Index, Call, Member, After, Prefix, SizeofType, Cast, Binary, Choice}
 
 abbrev pub tree_of : Node → Tree
 tree_of (Leaf at kind text) = tree.Leaf at kind text

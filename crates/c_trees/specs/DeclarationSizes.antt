@@ -2,9 +2,9 @@
 use Rattle.std.specs.Prelude.{ℕ, ◌+◌, ◌≤◌, List, [], ◌∷◌}
 use Rattle.std.proofs.Common.{arith}
 use denote.Param.Weighed.{most}
-use Rattle.c_declaration.specs.Tree.{DeclaratorTree, Taking, depth, with_parameters}
-use Rattle.c_declaration.specs.InitialTree.{InitialTree, Item, with_items}
-use Rattle.c_declaration.specs.InitialTree as initial
+use Rattle.c_trees.specs.Declarators.{DeclaratorTree, Taking, depth, with_parameters}
+use Rattle.c_trees.specs.Initializers.{InitialTree, Item, with_items}
+use Rattle.c_trees.specs.Initializers as initial
 
 pub grows_parameters : (d : DeclaratorTree) (ps : List DeclaratorTree) → depth d ≤ depth (with_parameters d ps)
 grows_parameters d [] = omega arith

@@ -2,9 +2,9 @@
 use Rattle.std.specs.Prelude.{◌≡◌, ℕ, Bool, List, [], ◌∷◌, Option, refl}
 use Rattle.std.proofs.Common.{◌∙◌, ap}
 use Rattle.c_lex.specs.declared.token.Place.{Place}
-use Rattle.c_expr.specs.declared.tree.Spec.{Spec}
-use Rattle.c_expr.specs.Tree.{Tree}
-use Rattle.c_declaration.specs.Tree.{DeclaratorTree, Name, Parens, Pointers, Array, Function, Taking, Named, Unnamed}
+use Rattle.c_trees.specs.declared.expression.Spec.{Spec}
+use Rattle.c_trees.specs.Expressions.{Tree}
+use Rattle.c_trees.specs.Declarators.{DeclaratorTree, Name, Parens, Pointers, Array, Function, Taking, Named, Unnamed}
 
 pub data Item : Type 0 where
   name : Place → List ℕ → Item

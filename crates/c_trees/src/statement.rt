@@ -1,7 +1,7 @@
-// Trees of statements.
+//! Trees of statements.
 
-use c_declaration::Local;
-use c_expr::Expr;
+use crate::declaration::Local;
+use crate::expression::Expr;
 use c_lex::Place;
 use ldb_words::Many;
 use std::marker::Model;
@@ -46,24 +46,24 @@ pub enum Head {
 impl Model for Statement {
     ghost use Rattle.std.specs.Prelude.{List};
     ghost use Rattle.std.specs.Coded.{codes, code_by};
-    ghost use Rattle.c_expr.specs.contracts.tree.Expr as e;
-    ghost use Rattle.c_declaration.specs.contracts.tree.Declarator as d;
-    ghost use Rattle.c_declaration.specs.contracts.tree.Initial as i;
-    ghost use Rattle.c_statement.specs.Tree.{StatementTree, depth};
-    ghost use Rattle.c_statement.specs.Stored.{Item, items_of, tree_from, tree_from-items_of};
+    ghost use Rattle.c_trees.specs.contracts.expression.Expr as e;
+    ghost use Rattle.c_trees.specs.contracts.declaration.Declarator as d;
+    ghost use Rattle.c_trees.specs.contracts.declaration.Initial as i;
+    ghost use Rattle.c_trees.specs.Statements.{StatementTree, depth};
+    ghost use Rattle.c_trees.specs.StatementStored.{Item, items_of, tree_from, tree_from-items_of};
 
     ghost Value = { StatementTree };
 
     ghost coded = { code_by (List Item) (Prim.hlevel (codes, e.the_row.coded, d.the_row.coded, i.the_row.coded)) items_of tree_from tree_from-items_of };
 
-    ghost use Rattle.c_statement.specs.View.{statement_of};
+    ghost use Rattle.c_trees.specs.StatementView.{statement_of};
 
     ghost view = { λ s. statement_of s.node };
 
     ghost size = { depth };
 
     ghost use Rattle.std.proofs.Common.{arith};
-    ghost use Rattle.c_statement.specs.Sizes.{grows_statements, most_statements};
+    ghost use Rattle.c_trees.specs.StatementSizes.{grows_statements, most_statements};
 
     ghost size_decreases = { λ a h. Prim.grind (arith, grows_statements, most_statements) };
 }

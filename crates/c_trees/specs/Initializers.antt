@@ -1,7 +1,7 @@
 -- Trees of initializers, without where they lie in memory.
 use Rattle.std.specs.Prelude.{ℕ, ◌+◌, List, [], ◌∷◌}
 use Rattle.c_lex.specs.declared.token.Place.{Place}
-use Rattle.c_expr.specs.Tree.{Tree}
+use Rattle.c_trees.specs.Expressions.{Tree}
 
 pub data InitialTree : Type 0 where
   Value : Tree → InitialTree

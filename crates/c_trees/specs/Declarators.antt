@@ -1,8 +1,8 @@
 -- Trees of declarators and of parameters, without where they lie in memory. Each alternative of a declarator has the place of its first token.
 use Rattle.std.specs.Prelude.{ℕ, ◌+◌, Bool, List, [], ◌∷◌, Option}
 use Rattle.c_lex.specs.declared.token.Place.{Place}
-use Rattle.c_expr.specs.declared.tree.Spec.{Spec}
-use Rattle.c_expr.specs.Tree.{Tree}
+use Rattle.c_trees.specs.declared.expression.Spec.{Spec}
+use Rattle.c_trees.specs.Expressions.{Tree}
 
 pub data DeclaratorTree : Type 0 where
   Name : Place → List ℕ → DeclaratorTree

@@ -1,4 +1,4 @@
-// Trees of expressions.
+//! Trees of expressions.
 
 use c_lex::Place;
 use c_symbol::{Access, BinaryOp, LeafKind, PrefixOp, Step};
@@ -63,8 +63,8 @@ pub enum Node {
 impl Model for Abstract {
     ghost use Rattle.std.specs.Prelude.{List};
     ghost use Rattle.std.specs.Coded.{codes, code_by};
-    ghost use Rattle.c_expr.specs.Tree.{Tree, depth, behind_stars, with_bounds};
-    ghost use Rattle.c_expr.specs.Stored.{Item, items_of, tree_from, tree_from-items_of};
+    ghost use Rattle.c_trees.specs.Expressions.{Tree, depth, behind_stars, with_bounds};
+    ghost use Rattle.c_trees.specs.ExpressionStored.{Item, items_of, tree_from, tree_from-items_of};
 
     ghost Value = { Tree };
 
@@ -74,7 +74,7 @@ impl Model for Abstract {
 
     ghost size = { depth };
 
-    ghost use Rattle.c_expr.specs.Sizes.{abstract_falls};
+    ghost use Rattle.c_trees.specs.ExpressionSizes.{abstract_falls};
 
     ghost size_decreases = { λ a h. abstract_falls a };
 }
@@ -82,21 +82,21 @@ impl Model for Abstract {
 impl Model for Expr {
     ghost use Rattle.std.specs.Prelude.{List};
     ghost use Rattle.std.specs.Coded.{codes, code_by};
-    ghost use Rattle.c_expr.specs.Tree.{Tree, depth};
-    ghost use Rattle.c_expr.specs.Stored.{Item, items_of, tree_from, tree_from-items_of};
+    ghost use Rattle.c_trees.specs.Expressions.{Tree, depth};
+    ghost use Rattle.c_trees.specs.ExpressionStored.{Item, items_of, tree_from, tree_from-items_of};
 
     ghost Value = { Tree };
 
     ghost coded = { code_by (List Item) (Prim.hlevel codes) items_of tree_from tree_from-items_of };
 
-    ghost use Rattle.c_expr.specs.View.{tree_of};
+    ghost use Rattle.c_trees.specs.ExpressionView.{tree_of};
 
     ghost view = { λ e. tree_of e.node };
 
     ghost size = { depth };
 
     ghost use Rattle.std.proofs.Common.{arith};
-    ghost use Rattle.c_expr.specs.Sizes.{grows_arguments, most_arguments};
+    ghost use Rattle.c_trees.specs.ExpressionSizes.{grows_arguments, most_arguments};
 
     ghost size_decreases = { λ a h. Prim.grind (arith, grows_arguments, most_arguments) };
 }

@@ -8,8 +8,8 @@ use Rattle.c_symbol.specs.declared.symbol.Step.{Step}
 use Rattle.c_symbol.specs.declared.symbol.Access.{Access}
 use Rattle.c_symbol.specs.declared.symbol.PrefixOp.{PrefixOp}
 use Rattle.c_symbol.specs.declared.symbol.BinaryOp.{BinaryOp}
-use Rattle.c_expr.specs.declared.tree.Spec.{Spec}
-use Rattle.c_expr.specs.Tree.{Tree, Leaf, Paren, Index, Call, With, Member, After, Prefix, SizeofType, Cast, Binary, Choice, Stars, Around, Bounded, Unbounded}
+use Rattle.c_trees.specs.declared.expression.Spec.{Spec}
+use Rattle.c_trees.specs.Expressions.{Tree, Leaf, Paren, Index, Call, With, Member, After, Prefix, SizeofType, Cast, Binary, Choice, Stars, Around, Bounded, Unbounded}
 
 pub data Item : Type 0 where
   leaf : Place → LeafKind → List ℕ → Item

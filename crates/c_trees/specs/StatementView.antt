@@ -1,10 +1,10 @@
 -- The tree that a statement is.
 use Rattle.std.specs.Prelude.{Option, Some, None}
-use Rattle.c_statement.specs.Tree.{StatementTree, with_locals, with_statements}
-use Rattle.c_statement.specs.Tree as tree
-use Rattle.c_statement.specs.declared.tree.Head.TheVariants as head
-use Rattle.c_statement.specs.declared.tree.StatementNode.{StatementNode}
-use Rattle.c_statement.specs.declared.tree.StatementNode.TheVariants.{Empty, Evaluate, Block, If, While, Do, For, Switch, Case, Default, Break, Continue, Return}
+use Rattle.c_trees.specs.Statements.{StatementTree, with_locals, with_statements}
+use Rattle.c_trees.specs.Statements as tree
+use Rattle.c_trees.specs.declared.statement.Head.TheVariants as head
+use Rattle.c_trees.specs.declared.statement.StatementNode.{StatementNode}
+use Rattle.c_trees.specs.declared.statement.StatementNode.TheVariants.{Empty, Evaluate, Block, If, While, Do, For, Switch, Case, Default, Break, Continue, Return}
 
 abbrev pub statement_of : StatementNode → StatementTree
 statement_of (Empty at) = tree.Empty at

@@ -2,9 +2,9 @@
 use Rattle.std.specs.Prelude.{ℕ, ◌+◌, ◌≤◌, max, List, [], ◌∷◌, Option, Some, None}
 use Rattle.std.proofs.Common.{arith}
 use denote.Param.Weighed.{most}
-use Rattle.c_expr.specs.declared.tree.Abstract.TheInside.{Inside}
-use Rattle.c_expr.specs.declared.tree.Abstract.TheDeep.{deep-Abstract}
-use Rattle.c_expr.specs.Tree.{Tree, With, Stars, Around, Bounded, Unbounded, depth, with_arguments, behind_stars, with_bounds}
+use Rattle.c_trees.specs.declared.expression.Abstract.TheInside.{Inside}
+use Rattle.c_trees.specs.declared.expression.Abstract.TheDeep.{deep-Abstract}
+use Rattle.c_trees.specs.Expressions.{Tree, With, Stars, Around, Bounded, Unbounded, depth, with_arguments, behind_stars, with_bounds}
 
 pub grows_arguments : (t : Tree) (args : List Tree) → depth t ≤ depth (with_arguments t args)
 grows_arguments t [] = omega arith

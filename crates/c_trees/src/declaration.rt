@@ -1,6 +1,6 @@
-// Trees of declarators, initializers and declarations.
+//! Trees of declarators, initializers and declarations.
 
-use c_expr::{Abstract, Expr, Spec};
+use crate::expression::{Abstract, Expr, Spec};
 use c_lex::Place;
 use ldb_words::{Many, Text};
 use std::marker::Model;
@@ -122,22 +122,22 @@ pub struct FunctionHead {
 impl Model for Declarator {
     ghost use Rattle.std.specs.Prelude.{List};
     ghost use Rattle.std.specs.Coded.{codes, code_by};
-    ghost use Rattle.c_expr.specs.contracts.tree.Expr as e;
-    ghost use Rattle.c_declaration.specs.Tree.{DeclaratorTree, depth};
-    ghost use Rattle.c_declaration.specs.Stored.{Item, items_of, tree_from, tree_from-items_of};
+    ghost use Rattle.c_trees.specs.contracts.expression.Expr as e;
+    ghost use Rattle.c_trees.specs.Declarators.{DeclaratorTree, depth};
+    ghost use Rattle.c_trees.specs.DeclaratorStored.{Item, items_of, tree_from, tree_from-items_of};
 
     ghost Value = { DeclaratorTree };
 
     ghost coded = { code_by (List Item) (Prim.hlevel (codes, e.the_row.coded)) items_of tree_from tree_from-items_of };
 
-    ghost use Rattle.c_declaration.specs.View.{tree_of};
+    ghost use Rattle.c_trees.specs.DeclarationView.{tree_of};
 
     ghost view = { λ d. tree_of d.node };
 
     ghost size = { depth };
 
     ghost use Rattle.std.proofs.Common.{arith};
-    ghost use Rattle.c_declaration.specs.Sizes.{grows_parameters, most_parameters};
+    ghost use Rattle.c_trees.specs.DeclarationSizes.{grows_parameters, most_parameters};
 
     ghost size_decreases = { λ a h. Prim.grind (arith, grows_parameters, most_parameters) };
 }
@@ -145,15 +145,15 @@ impl Model for Declarator {
 impl Model for Parameter {
     ghost use Rattle.std.specs.Prelude.{List};
     ghost use Rattle.std.specs.Coded.{codes, code_by};
-    ghost use Rattle.c_expr.specs.contracts.tree.Expr as e;
-    ghost use Rattle.c_declaration.specs.Tree.{DeclaratorTree, depth};
-    ghost use Rattle.c_declaration.specs.Stored.{Item, items_of, tree_from, tree_from-items_of};
+    ghost use Rattle.c_trees.specs.contracts.expression.Expr as e;
+    ghost use Rattle.c_trees.specs.Declarators.{DeclaratorTree, depth};
+    ghost use Rattle.c_trees.specs.DeclaratorStored.{Item, items_of, tree_from, tree_from-items_of};
 
     ghost Value = { DeclaratorTree };
 
     ghost coded = { code_by (List Item) (Prim.hlevel (codes, e.the_row.coded)) items_of tree_from tree_from-items_of };
 
-    ghost use Rattle.c_declaration.specs.View.{parameter_of};
+    ghost use Rattle.c_trees.specs.DeclarationView.{parameter_of};
 
     ghost view = { λ p. parameter_of p.node };
 
@@ -167,22 +167,22 @@ impl Model for Parameter {
 impl Model for Initial {
     ghost use Rattle.std.specs.Prelude.{List};
     ghost use Rattle.std.specs.Coded.{codes, code_by};
-    ghost use Rattle.c_expr.specs.contracts.tree.Expr as e;
-    ghost use Rattle.c_declaration.specs.InitialTree.{InitialTree, depth};
-    ghost use Rattle.c_declaration.specs.InitialStored.{Item, items_of, tree_from, tree_from-items_of};
+    ghost use Rattle.c_trees.specs.contracts.expression.Expr as e;
+    ghost use Rattle.c_trees.specs.Initializers.{InitialTree, depth};
+    ghost use Rattle.c_trees.specs.InitializerStored.{Item, items_of, tree_from, tree_from-items_of};
 
     ghost Value = { InitialTree };
 
     ghost coded = { code_by (List Item) (Prim.hlevel (codes, e.the_row.coded)) items_of tree_from tree_from-items_of };
 
-    ghost use Rattle.c_declaration.specs.View.{initial_of};
+    ghost use Rattle.c_trees.specs.DeclarationView.{initial_of};
 
     ghost view = { λ i. initial_of i.node };
 
     ghost size = { depth };
 
     ghost use Rattle.std.proofs.Common.{arith};
-    ghost use Rattle.c_declaration.specs.Sizes.{grows_items, most_items};
+    ghost use Rattle.c_trees.specs.DeclarationSizes.{grows_items, most_items};
 
     ghost size_decreases = { λ a h. Prim.grind (arith, grows_items, most_items) };
 }

@@ -1,0 +1,14 @@
+pub mod Expressions
+pub mod ExpressionSizes
+pub mod ExpressionStored
+pub mod ExpressionView
+pub mod Declarators
+pub mod Initializers
+pub mod DeclarationSizes
+pub mod DeclaratorStored
+pub mod InitializerStored
+pub mod DeclarationView
+pub mod Statements
+pub mod StatementSizes
+pub mod StatementStored
+pub mod StatementView
