@@ -1,13 +1,14 @@
 -- Texts that grow by the pieces of an expression.
-use Rattle.std.proofs.Common.{◌≡◌, sym, ap, ◌∙◌, ℕ, ℤ, List, [], ◌∷◌, ◌++◌, codes, pos, append_assoc}
-use Rattle.std.specs.Fmt.{digits, signed_decimal}
+use Rattle.std.proofs.Common.{◌≡◌, ◌≢◌, refl, sym, ap, subst, ◌∙◌, ℕ, Bool, true, false, if◌then◌else◌, List, [], ◌∷◌, ◌++◌, codes, pos, append_assoc}
+use Rattle.std.proofs.lemmas.Bool.{ne_eqb}
+use Rattle.std.specs.Fmt.{digits}
 use Rattle.ps_text.specs.Code.{Code, Word, render}
 use Rattle.ps_emit.specs.Terms.{◌⋯◌, word, integer}
 use Rattle.ps_emit.specs.Grown.{Grows}
 use Rattle.ps_emit.proofs.Followed.{render_followed}
 use Rattle.expr_serve.specs.Literals.{in_digits}
 use Rattle.expr_serve.specs.Operators.{by_zero}
-use Rattle.expr_serve.specs.Codes.{large_first}
+use Rattle.expr_serve.specs.Codes.{bytes_by, halved, beyond, large_items, unsigned_items}
 
 -- a piece whose text was appended
 pub grown : (k : Code) {a b ts : List ℕ} → b ≡ a ++ ts → ts ≡ render k → Grows k a b
@@ -52,18 +53,30 @@ second_of_and {a} {b} {c} {d} {k} p q r = record {
       ∙ ap (λ (x : List ℕ). a ++ (codes "0 eq { 0 } { " ++ (x ++ codes "} ifelse "))) (sym (render_followed k is_nonzero)));
 }
 
-spaced : (a x d sp y w v : List ℕ) → a ++ (x ++ ((d ++ sp) ++ (y ++ ((d ++ sp) ++ (w ++ v))))) ≡ a ++ (x ++ ((d ++ ((sp ++ y) ++ (d ++ (sp ++ w)))) ++ v))
-spaced a x d sp y w v = simp append_assoc
-
--- the steps for a large number
-pub in_steps : {a b c d e f : List ℕ} (size : ℤ) → b ≡ a ++ codes "dup 0 lt { exch 2147483647 " → Grows (integer size) b c → d ≡ c ++ codes "ptradd 1 " → Grows (integer size) d e → f ≡ e ++ codes "ptradd exch 2147483647 and } if "
-    → Grows (large_first size) a f
+-- what a large number of items is taken by
+pub beyond_grown : {a b : List ℕ} (is_back : Bool) (size : ℕ) → size ≢ 1 → b ≡ a ++ codes "pop 2147483647 2147483647 " → Grows (large_items is_back size) a b
 unfolding digits
-in_steps {a} {b} {c} {d} {e} {f} size p q r s t = record {
+beyond_grown {a} {b} is_back size h p =
+    subst (λ x. Grows (if x then halved (bytes_by is_back 1) (bytes_by is_back 2) else beyond) a b) (sym (ne_eqb size 1 h)) (grown beyond p refl)
+
+pub further_grown : {a b : List ℕ} (is_back : Bool) (size : ℕ) → size ≡ 1 → is_back ≡ false → b ≡ a ++ codes "exch 1 index 1 and 1 ptradd exch 1 ushr 2 " → Grows (large_items is_back size) a b
+unfolding digits
+further_grown {a} {b} is_back size h e p =
+    subst (λ n. Grows (large_items is_back n) a b) (sym h) (subst (λ x. Grows (large_items x 1) a b) (sym e) (grown (halved (bytes_by false 1) (bytes_by false 2)) p refl))
+
+pub back_grown : {a b : List ℕ} (is_back : Bool) (size : ℕ) → size ≡ 1 → is_back ≡ true → b ≡ a ++ codes "exch 1 index 1 and -1 ptradd exch 1 ushr -2 " → Grows (large_items is_back size) a b
+unfolding digits
+back_grown {a} {b} is_back size h e p =
+    subst (λ n. Grows (large_items is_back n) a b) (sym h) (subst (λ x. Grows (large_items x 1) a b) (sym e) (grown (halved (bytes_by true 1) (bytes_by true 2)) p refl))
+
+-- an `unsigned` number of items
+pub in_items : {a b c d e f : List ℕ} (is_back : Bool) (size : ℕ) → b ≡ a ++ codes "dup 0 lt { " → Grows (large_items is_back size) b c → d ≡ c ++ codes "} { " → Grows (integer (bytes_by is_back size)) d e
+    → f ≡ e ++ codes "} ifelse ptradd " → Grows (unsigned_items is_back size) a f
+unfolding digits
+in_items {a} {b} {c} {d} {e} {f} is_back size p q r s t = record {
   text =
       rw (t, s.text, r, q.text, p)
-      (five a (codes "dup 0 lt { exch 2147483647 ") (render (integer size)) (codes "ptradd 1 ") (render (integer size)) (codes "ptradd exch 2147483647 and } if ")
-      ∙ spaced a (codes "dup 0 lt { exch 2147483647 ") (signed_decimal size) (codes " ") (codes "ptradd 1 ") (codes "ptradd exch 2147483647 and ") (codes "} if "));
+      (five a (codes "dup 0 lt { ") (render (large_items is_back size)) (codes "} { ") (render (integer (bytes_by is_back size))) (codes "} ifelse ptradd "));
 }
 
 -- a name that is made of a string of hexadecimal digits

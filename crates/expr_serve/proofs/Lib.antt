@@ -1,5 +1,6 @@
 pub mod Texts
 mod Growing
+mod Making
 mod Arms
 mod Examples
 mod Refusing

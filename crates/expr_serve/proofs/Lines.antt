@@ -6,6 +6,7 @@ use Rattle.std.specs.Fmt.{digit_glyph, digits_onto, digits, decimal, signed_deci
 use Rattle.c_tree.specs.declared.types.CType.{CType}
 use Rattle.c_tree.specs.declared.types.CType.TheVariants.{Char, Int, Unsigned, Void, Pointer', Array', Struct}
 use Rattle.c_tree.specs.declared.types.StructDef.{StructDef}
+use Rattle.c_tree.specs.declared.types.Member.{Member}
 use Rattle.c_tree.specs.declared.typed.BinaryOp.{BinaryOp}
 use Rattle.c_tree.specs.declared.typed.BinaryOp.TheVariants as binary
 use Rattle.c_tree.specs.declared.typed.UnaryOp.{UnaryOp}
@@ -18,13 +19,14 @@ use Rattle.c_judge.specs.declared.symbol.Symbol.{Symbol}
 use Rattle.c_judge.specs.declared.check.Mode.{Mode}
 use Rattle.c_judge.specs.declared.check.Mode.TheVariants as mode
 use Rattle.ps_text.specs.Code.{Code, Stop, Num, Word, Lit, Text, Proc, render}
-use Rattle.ps_emit.specs.Terms.{◌⋯◌, word, integer}
+use Rattle.ps_emit.specs.Terms.{◌⋯◌, word, integer, number}
 use Rattle.expr_serve.specs.declared.emit.Standing.{Standing}
 use Rattle.expr_serve.specs.declared.emit.Standing.TheVariants.{Named, Pointed}
 use Rattle.expr_serve.specs.Texts.{IsLine}
+use Rattle.expr_serve.specs.Types.{bytes_of, ended, type_code, row_code, each_row, filled_struct, filled_structs}
 use Rattle.expr_serve.specs.Literals.{is_part, in_digits, literal}
 use Rattle.expr_serve.specs.Operators.{on_ints, on_unsigned, on_integers, on_pointers, on_one, by_zero, conversion, kind}
-use Rattle.expr_serve.specs.Codes.{standing_of, near, far, further, bytes_by, large_first, unsigned_steps, by_items, place_of_name, address_of, fetched, value_at, by_standing, place_further, as_spot, live_scalar, bytes_of, offset_of, offset_behind, tagged, all_leaves, live_leaves, live_struct, on_pointer, on_two_pointers, by_targets, on_two, value_code, place_code, spot_code, struct_code, whole_code, copying_code, setting_code, assignment_code, code_of, text_of}
+use Rattle.expr_serve.specs.Codes.{standing_of, near, far, further, bytes_by, halved, beyond, large_items, signed_items, unsigned_items, by_items, place_of_name, address_of, fetched, value_at, by_standing, place_further, as_spot, live_scalar, offset_of, offset_behind, all_leaves, live_leaves, live_struct, on_pointer, on_two_pointers, by_targets, on_two, value_code, place_code, spot_code, struct_code, whole_code, copying_code, setting_code, assignment_code, code_of, text_of}
 
 abbrev is_line : List ℕ → Bool
 is_line [] = true
@@ -36,7 +38,8 @@ lined Stop = true
 lined (Num i rest) = lined rest
 lined (Word name rest) = is_line name && lined rest
 lined (Lit name rest) = is_line name && lined rest
-lined (Text bytes rest) = false
+lined (Text [] rest) = lined rest
+lined (Text (b ∷ bs) rest) = false
 lined (Proc body rest) = lined body && lined rest
 
 abbrev IsLined : Code → Type 0
@@ -93,7 +96,8 @@ render_line Stop p = refl
 render_line (Num i rest) p = append_line (signed_decimal i) (32 ∷ render rest) (number_line i) (render_line rest p)
 render_line (Word name rest) p = let h = and_parts (is_line name) (lined rest) p in append_line name (32 ∷ render rest) h.0 (render_line rest h.1)
 render_line (Lit name rest) p = let h = and_parts (is_line name) (lined rest) p in append_line name (32 ∷ render rest) h.0 (render_line rest h.1)
-render_line (Text bytes rest) p = cc
+render_line (Text [] rest) p = render_line rest p
+render_line (Text (b ∷ bs) rest) p = cc
 render_line (Proc body rest) p = let h = and_parts (lined body) (lined rest) p in append_line (render body) (125 ∷ 32 ∷ render rest) (render_line body h.0) (render_line rest h.1)
 
 join : (a b : Code) → IsLined a → IsLined b → IsLined (a ⋯ b)
@@ -101,7 +105,8 @@ join Stop b p q = q
 join (Num i rest) b p q = join rest b p q
 join (Word name rest) b p q = let h = and_parts (is_line name) (lined rest) p in and_from (is_line name) (lined (rest ⋯ b)) h.0 (join rest b h.1 q)
 join (Lit name rest) b p q = let h = and_parts (is_line name) (lined rest) p in and_from (is_line name) (lined (rest ⋯ b)) h.0 (join rest b h.1 q)
-join (Text bytes rest) b p q = cc
+join (Text [] rest) b p q = join rest b p q
+join (Text (x ∷ xs) rest) b p q = cc
 join (Proc body rest) b p q = let h = and_parts (lined body) (lined rest) p in and_from (lined body) (lined (rest ⋯ b)) h.0 (join rest b h.1 q)
 
 either : (b : Bool) (x y : Code) → IsLined x → IsLined y → IsLined (if b then x else y)
@@ -221,9 +226,12 @@ zero_lined x y p q = and_from (lined x) (lined y && true) p (and_from (lined y) 
 further_lined : (n : ℕ) → IsLined (further n)
 further_lined n = either (nat_lt n (2 ^ 31)) (near n) (far n) refl refl
 
+large_lined : (is_back : Bool) (size : ℕ) → IsLined (large_items is_back size)
+large_lined is_back size = either (size == 1) (halved (bytes_by is_back 1) (bytes_by is_back 2)) beyond refl refl
+
 items_lined : (is_back : Bool) (size : ℕ) (t : CType) → IsLined (by_items is_back size t)
 items_lined is_back size t =
-    join (unsigned_steps is_back size t) (integer (bytes_by is_back size) ⋯ word "ptradd") (either (is_unsigned t) (large_first (bytes_by is_back size)) Stop refl refl) refl
+    either (is_unsigned t && nat_lt 0 size) (unsigned_items is_back size) (signed_items is_back size) (and_from (lined (large_items is_back size)) true (large_lined is_back size) refl) refl
 
 address_lined : (s : Standing) → IsLined (address_of s)
 address_lined Named = refl
@@ -254,9 +262,23 @@ place_of_name_lined None = refl
 place_of_name_lined (Some x) = join (literal x.name) (word "Where") (literal_lined x.name) refl
 
 module _ (defs : List StructDef) where
-  tagged_lined : (d : Option StructDef) → IsLined (tagged defs d)
-  tagged_lined None = refl
-  tagged_lined (Some d) = join (literal d.tag) (word "Struct" ⋯ word "Leaf") (literal_lined d.tag) refl
+  type_lined : (t : CType) → IsLined (type_code defs t)
+  type_lined Char = refl
+  type_lined Int = refl
+  type_lined Unsigned = refl
+  type_lined Void = refl
+  type_lined (Pointer' b t) = refl
+  type_lined (Array' b t n) = join (type_code defs t) (word ">>") (type_lined t) refl
+  type_lined (Struct s) = refl
+
+  rows_lined : (ms : List Member) → IsLined (each_row defs ms)
+  rows_lined [] = refl
+  rows_lined (m ∷ ms) = join (row_code defs m) (each_row defs ms) (join (type_code defs m.ctype) (word "]") (type_lined m.ctype) refl) (rows_lined ms)
+
+  structs_lined : (s : ℕ) (ds : List StructDef) → IsLined (filled_structs defs s ds)
+  structs_lined s [] = refl
+  structs_lined s (d ∷ ds) =
+      join (filled_struct defs s d) (filled_structs defs (suc s) ds) (join (each_row defs d.members) (word "]" ⋯ word "put") (rows_lined d.members) refl) (structs_lined (suc s) ds)
 
   leaves_lined : (t : CType) → IsLined (all_leaves defs t)
   leaves_lined Char = refl
@@ -265,7 +287,7 @@ module _ (defs : List StructDef) where
   leaves_lined Void = refl
   leaves_lined (Pointer' b t) = refl
   leaves_lined (Array' b t n) = refl
-  leaves_lined (Struct s) = tagged_lined (slice_get defs s)
+  leaves_lined (Struct s) = join (filled_structs defs 0 defs) (number s ⋯ ended) (structs_lined 0 defs) refl
 
   live_leaves_lined : (is_below : Bool) (t : CType) → IsLined (live_leaves defs is_below t)
   live_leaves_lined true t = join (all_leaves defs t) (word "pop" ⋯ word "pop") (leaves_lined t) refl

@@ -1,5 +1,5 @@
 -- The text of PostScript that has the value of a checked expression.
-use Rattle.std.specs.Prelude.{ℕ, ℤ, Bool, true, false, pos, neg_ℤ, ◌-◌, ◌^◌, nat_lt, nat_le, if◌then◌else◌, List, ◌++◌, codes, slice_get, Option, Some, None}
+use Rattle.std.specs.Prelude.{ℕ, ℤ, Bool, true, false, ◌&&◌, pos, neg_ℤ, ◌/◌, ◌%◌, ◌^◌, ◌==◌, nat_lt, if◌then◌else◌, List, ◌++◌, codes, slice_get, Option, Some, None}
 use Rattle.c_tree.specs.declared.types.CType.{CType}
 use Rattle.c_tree.specs.declared.types.CType.TheVariants.{Struct}
 use Rattle.c_tree.specs.declared.types.StructDef.{StructDef}
@@ -9,7 +9,7 @@ use Rattle.c_tree.specs.declared.typed.BinaryOp.TheVariants.{Add, Subtract}
 use Rattle.c_tree.specs.declared.typed.Typed.{Typed}
 use Rattle.c_tree.specs.declared.typed.Typed.TheVariants.{Comma', Assign', Choice', Or', And', Binary', Cast', Address', Follow', Unary', SizeOf', SizeOfType, Index', Dot', Arrow', Name, Constant, Parens'}
 use Rattle.c_tree.specs.Types.{type_of, target_of, is_unsigned, is_array, is_struct}
-use Rattle.c_tree.specs.Layout.{members_of, size_of}
+use Rattle.c_tree.specs.Layout.{members_of}
 use Rattle.c_judge.specs.declared.symbol.Symbol.{Symbol}
 use Rattle.c_judge.specs.declared.check.Mode.{Mode}
 use Rattle.c_judge.specs.declared.check.Mode.TheVariants.{Value, Assign}
@@ -18,7 +18,8 @@ use Rattle.ps_emit.specs.Terms.{◌⋯◌, word, name, integer, number}
 use Rattle.expr_serve.specs.declared.emit.Standing.{Standing}
 use Rattle.expr_serve.specs.declared.emit.Standing.TheVariants.{Named, Pointed}
 use Rattle.expr_serve.specs.Literals.{literal}
-use Rattle.expr_serve.specs.Operators.{by_zero, on_ints, on_integers, on_pointers, on_one, conversion, kind}
+use Rattle.expr_serve.specs.Types.{bytes_of, struct_leaves}
+use Rattle.expr_serve.specs.Operators.{chosen, by_zero, on_ints, on_integers, on_pointers, on_one, conversion, kind}
 
 -- How the place of an lvalue stands among the operands: that of a name, and of its members, as a space and an offset; any other as a pointer.
 abbrev pub standing_of : Typed → Standing
@@ -33,41 +34,44 @@ by_standing Pointed x y = y
 
 -- ---- pointers
 
--- a pointer moved by as many bytes as the number on top
-abbrev pub moved : Code
-moved = integer (pos 1) ⋯ word "ptradd"
-
--- a pointer so many bytes further: the operator takes the number as one with a sign, so 2^31 or more are taken in steps
-abbrev pub half : Code
-half = integer (pos 2147483647) ⋯ moved ⋯ integer (pos 1) ⋯ moved
-
+-- The operator takes a number with a sign, and multiplies it by a size exactly. A pointer so many bytes further: 2^31 or more are the lowest bit, and then half of them
+-- by two.
 abbrev pub near : ℕ → Code
-near n = number n ⋯ moved
+near n = number n ⋯ integer (pos 1) ⋯ word "ptradd"
 
 abbrev pub far : ℕ → Code
-far n = half ⋯ near (n - 2 ^ 31)
+far n = near (n % 2) ⋯ number (n / 2) ⋯ integer (pos 2) ⋯ word "ptradd"
 
 abbrev pub further : ℕ → Code
 further n = if nat_lt n (2 ^ 31) then near n else far n
-
--- A pointer moved by so many items of a size. An `unsigned` number of 2^31 or more is taken in steps.
-abbrev steps : ℤ → Code
-steps size =
-    word "exch" ⋯ integer (pos 2147483647) ⋯ integer size ⋯ word "ptradd" ⋯ integer (pos 1) ⋯ integer size ⋯ word "ptradd"
-    ⋯ word "exch" ⋯ integer (pos 2147483647) ⋯ word "and"
-
-abbrev pub large_first : ℤ → Code
-large_first size = word "dup" ⋯ integer (pos 0) ⋯ word "lt" ⋯ Proc (steps size) Stop ⋯ word "if"
 
 -- so many bytes further, or back
 abbrev pub bytes_by : (is_back : Bool) → ℕ → ℤ
 bytes_by is_back n = if is_back then neg_ℤ (pos n) else pos n
 
-abbrev pub unsigned_steps : (is_back : Bool) → (size : ℕ) → CType → Code
-unsigned_steps is_back size t = if is_unsigned t then large_first (bytes_by is_back size) else Stop
+-- An `unsigned` number of 2^31 or more, and the size to multiply it by: of single bytes it is taken as above; of larger items it leads out of every object, as some other
+-- number does.
+abbrev pub halved : (one two : ℤ) → Code
+halved one two =
+    word "exch" ⋯ integer (pos 1) ⋯ word "index" ⋯ integer (pos 1) ⋯ word "and" ⋯ integer one ⋯ word "ptradd"
+    ⋯ word "exch" ⋯ integer (pos 1) ⋯ word "ushr" ⋯ integer two
 
+abbrev pub beyond : Code
+beyond = word "pop" ⋯ integer (pos 2147483647) ⋯ integer (pos 2147483647)
+
+abbrev pub large_items : (is_back : Bool) → (size : ℕ) → Code
+large_items is_back size = if size == 1 then halved (bytes_by is_back 1) (bytes_by is_back 2) else beyond
+
+-- a pointer moved by so many items of a size
+abbrev pub signed_items : (is_back : Bool) → (size : ℕ) → Code
+signed_items is_back size = integer (bytes_by is_back size) ⋯ word "ptradd"
+
+abbrev pub unsigned_items : (is_back : Bool) → (size : ℕ) → Code
+unsigned_items is_back size = word "dup" ⋯ integer (pos 0) ⋯ word "lt" ⋯ chosen (large_items is_back size) (integer (bytes_by is_back size)) ⋯ word "ptradd"
+
+-- those of size 0 lead nowhere
 abbrev pub by_items : (is_back : Bool) → (size : ℕ) → CType → Code
-by_items is_back size t = unsigned_steps is_back size t ⋯ integer (bytes_by is_back size) ⋯ word "ptradd"
+by_items is_back size t = if is_unsigned t && nat_lt 0 size then unsigned_items is_back size else signed_items is_back size
 
 -- ---- places
 
@@ -108,15 +112,7 @@ offset_in (Some m) = m.at
 abbrev pub brought : (is_below : Bool) → Code
 brought is_below = if is_below then integer (pos 2) ⋯ word "index" else word "dup"
 
--- the struct at a pointer, by its tag: all of its leaves have to be live
-abbrev pub tagged_leaves : List ℕ → Code
-tagged_leaves tag = literal tag ⋯ word "Struct" ⋯ word "Leaf"
-
 module _ (defs : List StructDef) where
-  -- the bytes of a type; one that has more than 1,048,576, as no expression's has, counts none
-  abbrev pub bytes_of : CType → ℕ
-  bytes_of t = if nat_le (size_of defs t) 1048576 then size_of defs t else 0
-
   -- the offset of a member, in a struct and in what a pointer to one leads to
   abbrev pub offset_of : CType → (member : ℕ) → ℕ
   offset_of (Struct s) m = offset_in (slice_get (members_of defs s) m)
@@ -126,13 +122,9 @@ module _ (defs : List StructDef) where
   offset_behind None m = 0
   offset_behind (Some t) m = offset_of t m
 
-  -- the struct at a pointer, by its type
-  abbrev pub tagged : Option StructDef → Code
-  tagged None = Stop
-  tagged (Some d) = tagged_leaves d.tag
-
+  -- the struct at a pointer: all of its leaves have to be live
   abbrev pub all_leaves : CType → Code
-  all_leaves (Struct s) = tagged (slice_get defs s)
+  all_leaves (Struct s) = struct_leaves defs s
   all_leaves _ = Stop
 
   -- a struct whose pointer is brought on top, and dropped again
@@ -146,12 +138,12 @@ module _ (defs : List StructDef) where
 
   -- a pointer to an item, and an integer
   abbrev pub on_pointer : BinaryOp → (item t : CType) → Code
-  on_pointer Add item t = by_items false (bytes_of item) t
-  on_pointer Subtract item t = by_items true (bytes_of item) t
+  on_pointer Add item t = by_items false (bytes_of defs item) t
+  on_pointer Subtract item t = by_items true (bytes_of defs item) t
   on_pointer op item t = on_ints op
 
   abbrev pub on_two_pointers : BinaryOp → (item : CType) → Code
-  on_two_pointers Subtract item = integer (pos (bytes_of item)) ⋯ word "ptrsub"
+  on_two_pointers Subtract item = integer (pos (bytes_of defs item)) ⋯ word "ptrsub"
   on_two_pointers op item = on_pointers op
 
   abbrev pub by_targets : BinaryOp → CType → CType → Option CType → Option CType → Code

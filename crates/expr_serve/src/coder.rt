@@ -7,10 +7,11 @@ ghost use Rattle.ps_emit.specs.Terms.{◌⋯◌};
 ghost use Rattle.expr_serve.specs.Codes.{standing_of as standing_in, value_at, value_code, place_code, spot_code, struct_code, whole_code, copying_code, setting_code, assignment_code, brought as brought_code, live_leaves, live_struct, code_of, text_of as text_in};
 
 use crate::emit::{
-    Standing, add_further, add_leaves, add_member, add_number, add_operator, add_place, add_size,
-    add_word, address, live_leaf, offset_behind, offset_of, spot, value,
+    Standing, add_further, add_member, add_number, add_operator, add_place, add_size, add_word,
+    address, live_leaf, offset_behind, offset_of, spot, value,
 };
 use crate::operators::{conversion, on_one};
+use crate::types::add_leaves;
 use c_judge::{Mode, Symbol, head_of};
 use c_tree::{BinaryOp, CType, StructDef, Typed};
 use ldb_words::Text;

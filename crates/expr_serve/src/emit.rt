@@ -5,7 +5,8 @@ ghost use Rattle.c_tree.specs.Types.{target_of as target};
 ghost use Rattle.ps_text.specs.Code.{Stop, Num, Word, render};
 ghost use Rattle.ps_emit.specs.Grown.{Grows};
 ghost use Rattle.expr_serve.specs.declared.emit.Standing.TheVariants.{Named, Pointed};
-ghost use Rattle.expr_serve.specs.Codes.{address_of, value_at, as_spot, live_scalar, by_items, further as further_code, place_further, place_of_name, bytes_of as bytes, offset_of as offset, offset_behind as behind, near, far, half, tagged_leaves, large_first, bytes_by, unsigned_steps, all_leaves, on_pointer, on_two_pointers, on_two};
+ghost use Rattle.expr_serve.specs.Types.{bytes_of as bytes};
+ghost use Rattle.expr_serve.specs.Codes.{address_of, value_at, as_spot, live_scalar, by_items, further as further_code, place_further, place_of_name, offset_of as offset, offset_behind as behind, near, far, large_items, signed_items, unsigned_items, bytes_by, on_pointer, on_two_pointers, on_two};
 
 use crate::literals::add_literal;
 use crate::operators::{is_unsigned, on_integers, on_ints, on_pointers};
@@ -183,28 +184,6 @@ pub fn offset_behind(t: &CType, m: u32, defs: &[StructDef]) -> u32
     }
 }
 
-/// Adds that all leaves of the struct with a tag are live.
-fn add_tagged(text: &mut Text, tag: &[u8]) -> Result<(), AllocError>
-    ensures { OnOk result (Grows (tagged_leaves tag.now) text.old text.new) }
-{
-    add_literal(text, tag)?;
-    add_word(text, b"Struct")?;
-    add_word(text, b"Leaf")
-}
-
-/// Adds that all leaves of the struct at a pointer are live.
-pub fn add_leaves(text: &mut Text, t: &CType, defs: &[StructDef]) -> Result<(), AllocError>
-    ensures { OnOk result (Grows (all_leaves defs.now t.now) text.old text.new) }
-{
-    match t {
-        CType::Struct(s) => match defs.get(*s as usize) {
-            Some(def) => add_tagged(text, def.tag.as_bytes()),
-            None => Ok(()),
-        },
-        _ => Ok(()),
-    }
-}
-
 // ---- pointers
 
 /// Adds a pointer so many bytes further, fewer than 2^31.
@@ -216,20 +195,14 @@ fn add_moved(text: &mut Text, bytes: u32) -> Result<(), AllocError>
     add_word(text, b"ptradd")
 }
 
-/// Adds a pointer 2^31 bytes further.
-fn add_half(text: &mut Text) -> Result<(), AllocError>
-    ensures { OnOk result (Grows half text.old text.new) }
-{
-    text.append(b"2147483647 1 ptradd 1 1 ptradd ")
-}
-
-/// Adds a pointer so many bytes further, 2^31 or more.
+/// Adds a pointer so many bytes further, 2^31 or more: the lowest bit, and then half of them by two.
 fn add_far(text: &mut Text, bytes: u32) -> Result<(), AllocError>
-    requires { 2 ^ 31 ≤ bytes }
     ensures { OnOk result (Grows (far bytes) text.old text.new) }
 {
-    add_half(text)?;
-    add_moved(text, bytes - 0x8000_0000)
+    add_moved(text, bytes % 2)?;
+    add_number(text, bytes / 2)?;
+    add_integer(text, 2)?;
+    add_word(text, b"ptradd")
 }
 
 /// Adds a pointer so many bytes further.
@@ -276,44 +249,51 @@ fn add_counted(text: &mut Text, is_back: bool, bytes: u32) -> Result<(), AllocEr
     add_integer(text, counted(is_back, bytes))
 }
 
-/// Adds the steps for an `unsigned` number of 2^31 or more, with which a pointer is moved by so many items of a size.
-fn add_steps(text: &mut Text, is_back: bool, size: u32) -> Result<(), AllocError>
-    requires { size ≤ 1048576 }
-    ensures { OnOk result (Grows (large_first (bytes_by is_back size)) text.old text.new) }
+/// Adds what an `unsigned` number of 2^31 or more, of items of a size, is taken by: single bytes in two steps. Of larger items it
+/// leaves every object.
+fn add_large(text: &mut Text, is_back: bool, size: u32) -> Result<(), AllocError>
+    ensures { OnOk result (Grows (large_items is_back size) text.old text.new) }
 {
-    text.append(b"dup 0 lt { exch 2147483647 ")?;
-    add_counted(text, is_back, size)?;
-    text.append(b"ptradd 1 ")?;
-    add_counted(text, is_back, size)?;
-    text.append(b"ptradd exch 2147483647 and } if ")
-}
-
-/// Adds those steps where the number is `unsigned`.
-fn add_unsigned_steps(
-    text: &mut Text,
-    is_back: bool,
-    size: u32,
-    t: &CType,
-) -> Result<(), AllocError>
-    requires { size ≤ 1048576 }
-    ensures { OnOk result (Grows (unsigned_steps is_back size t.now) text.old text.new) }
-{
-    if is_unsigned(t) {
-        add_steps(text, is_back, size)
+    if size != 1 {
+        text.append(b"pop 2147483647 2147483647 ")
+    } else if is_back {
+        text.append(b"exch 1 index 1 and -1 ptradd exch 1 ushr -2 ")
     } else {
-        Ok(())
+        text.append(b"exch 1 index 1 and 1 ptradd exch 1 ushr 2 ")
     }
 }
 
-/// Adds a pointer moved by so many items of a size. The operator takes the number as one with a sign, so an `unsigned` one of
-/// 2^31 or more is taken in steps.
+/// Adds a pointer moved by so many items of a size, where their number has a sign.
+fn add_signed_items(text: &mut Text, is_back: bool, size: u32) -> Result<(), AllocError>
+    requires { size ≤ 1048576 }
+    ensures { OnOk result (Grows (signed_items is_back size) text.old text.new) }
+{
+    add_counted(text, is_back, size)?;
+    add_word(text, b"ptradd")
+}
+
+/// The same where their number is `unsigned`.
+fn add_unsigned_items(text: &mut Text, is_back: bool, size: u32) -> Result<(), AllocError>
+    requires { size ≤ 1048576 }
+    ensures { OnOk result (Grows (unsigned_items is_back size) text.old text.new) }
+{
+    text.append(b"dup 0 lt { ")?;
+    add_large(text, is_back, size)?;
+    text.append(b"} { ")?;
+    add_counted(text, is_back, size)?;
+    text.append(b"} ifelse ptradd ")
+}
+
+/// Adds a pointer moved by so many items of a size. Those of size 0 lead nowhere.
 fn add_items(text: &mut Text, is_back: bool, size: u32, t: &CType) -> Result<(), AllocError>
     requires { size ≤ 1048576 }
     ensures { OnOk result (Grows (by_items is_back size t.now) text.old text.new) }
 {
-    add_unsigned_steps(text, is_back, size, t)?;
-    add_counted(text, is_back, size)?;
-    add_word(text, b"ptradd")
+    if is_unsigned(t) && size > 0 {
+        add_unsigned_items(text, is_back, size)
+    } else {
+        add_signed_items(text, is_back, size)
+    }
 }
 
 // ---- two operands

@@ -9,6 +9,7 @@ mod laws;
 mod literals;
 mod operators;
 mod serving;
+mod types;
 
 pub use fault::Refuse;
 pub use laws::scope_is_answered;

@@ -4,4 +4,6 @@ mod Names
 mod Stepping
 mod Operating
 mod Values
+mod Places
+mod Reading
 mod Texts

@@ -113,3 +113,27 @@ ushr_is = refl
 pub ult_is : operator_number (codes "ult") ≡ Some 83
 unfolding operator_number
 ult_is = refl
+
+pub anchor_is : operator_number (codes "Anchor") ≡ Some 61
+unfolding operator_number
+anchor_is = refl
+
+pub absolute_is : operator_number (codes "Absolute") ≡ Some 62
+unfolding operator_number
+absolute_is = refl
+
+pub local_is : operator_number (codes "Local") ≡ Some 63
+unfolding operator_number
+local_is = refl
+
+pub register_is : operator_number (codes "Register") ≡ Some 64
+unfolding operator_number
+register_is = refl
+
+pub where_is : operator_number (codes "Where") ≡ Some 66
+unfolding operator_number
+where_is = refl
+
+pub fetch_is : operator_number (codes "fetch") ≡ Some 67
+unfolding operator_number
+fetch_is = refl

@@ -88,7 +88,7 @@ shifted_byte b h = by (nat_lt b 128) refl
 abbrev word_done : ℕ → Result ℕ Undef
 word_done n = Ok n
 
-done_same : (x y : ℕ) → word_done x ≡ word_done y → x ≡ y
+pub done_same : (x y : ℕ) → word_done x ≡ word_done y → x ≡ y
 done_same x y h = cc
 
 pub byte_is : (x v w : ℕ) → v ≡ x * 2 ^ 24 % 2 ^ 32 → signed_shift_right v 24 ≡ Ok w → w ≡ low_byte x

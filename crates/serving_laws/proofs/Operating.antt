@@ -48,19 +48,19 @@ use Rattle.serving_laws.proofs.Names.{exch_is, and_is as and_named, or_is as or_
 use Rattle.serving_laws.proofs.Stepping.{Reaches, Fails, Then, makes, at_bottom, number_reaches, manual_reaches, dialect_reaches, chosen_reaches}
 
 -- operands that are left
-abbrev left_by : List PsObj → Result (List PsObj) PsError
+abbrev pub left_by : List PsObj → Result (List PsObj) PsError
 left_by o = Ok o
 
-abbrev failed_by : PsError → Result (List PsObj) PsError
+abbrev pub failed_by : PsError → Result (List PsObj) PsError
 failed_by e = Err e
 
-left_same : (a b : List PsObj) → left_by a ≡ left_by b → a ≡ b
+pub left_same : (a b : List PsObj) → left_by a ≡ left_by b → a ≡ b
 left_same a b h = cc
 
-failed_same : (e f : PsError) → failed_by e ≡ failed_by f → e ≡ f
+pub failed_same : (e f : PsError) → failed_by e ≡ failed_by f → e ≡ f
 failed_same e f h = cc
 
-left_failed : (a : List PsObj) (e : PsError) → left_by a ≡ failed_by e → ⊥
+pub left_failed : (a : List PsObj) (e : PsError) → left_by a ≡ failed_by e → ⊥
 left_failed a e h = cc
 
 beq_true : (b : Bool) → beq b true ≡ b
@@ -177,7 +177,7 @@ module _ (s : StoreState) (ds : List DictId) (are : AreOperators s ds) (d : Dial
 
   -- ---- what each operator of the dialect does
 
-  uadd_acts : (c : PsCore) → act 16 d c ≡ with_state d (on_two word_op.Add c)
+  pub uadd_acts : (c : PsCore) → act 16 d c ≡ with_state d (on_two word_op.Add c)
   unfolding act
   uadd_acts c = refl
 

@@ -37,7 +37,7 @@ use Rattle.serving_laws.proofs.Names.{ifelse_is}
 pub at_bottom : (s : StoreState) (under items : List Item) → Frames s under items [] → items ≡ under
 at_bottom s under _ bottom = refl
 
-entered_few : (k : Code) → length (entered k []) ≤ 1
+pub entered_few : (k : Code) → length (entered k []) ≤ 1
 entered_few Stop = omega arith
 entered_few (Num i rest) = omega arith
 entered_few (Word name rest) = omega arith
@@ -51,7 +51,7 @@ not_stopped s under _ _ bottom e = e
 not_stopped s under _ _ (frame a n items k ks has sp below) e = not_stopped s under items ks below e
 
 -- what an operator of the dialect makes: a dial and a state, an error, or it needs a unit
-abbrev done : Dial → PsCore → Act
+abbrev pub done : Dial → PsCore → Act
 done d c = Ok (d, c)
 
 abbrev raises : PsError → Act
@@ -231,6 +231,33 @@ module _ (s : StoreState) (ds : List DictId) (are : AreOperators s ds) where
     asked_reaches op o items items' asks none x does goes bad (suc n) r m d' c' other run =
         let met : Met Operates d (core s ds o items') op n r m d' c' = behind Operates n d (core s ds o items) (Asks op (core s ds o items')) r m d' c' asks run in
         operated_reaches op n (core s ds o items') o items' refl none x does goes bad met.asked.given met.dialect met.asked.core met.left met.asked.operates met.answer met.core met.asked.settles r m d' c' other met.follows
+
+    -- ---- an operator of the dialect that leaves another state
+
+    made_reaches : (op n : ℕ) (c : PsCore) (o' : List PsObj) (items' : List Item) → act op d c ≡ done d (core s ds o' items') → Reaches o' items'
+        → (given : Answer) (d₁ : Dial) (c₁ : PsCore) (k : ℕ) → Operates d c op n given d₁ c₁ k
+        → (answer : Answer) (c₂ : PsCore) → Settles given c₁ answer c₂
+        → (r : Answer) (m : ℕ) (d' : Dial) (c' : PsCore) → r ≢ Err NoMemory → Follows Operates answer k d₁ c₂ r m d' c' → Good r m d' c'
+    made_reaches op n c o' items' does go _ _ _ _ (acted _ d₁ _ c₁ _ _ e) answer c₂ settles r m d' c' other follows =
+        let same : done d₁ c₁ ≡ done d (core s ds o' items') = sym e ∙ does in
+        let rest : Runs Operates n d₁ c₂ r m d' c' = subst (λ a. Follows Operates a n d₁ c₂ r m d' c') settles.0 follows in
+        go n r m d' c' other
+        (subst (λ x. Runs Operates n x (core s ds o' items') r m d' c') (same_dial d₁ d c₁ (core s ds o' items') same)
+        (subst (λ x. Runs Operates n d₁ x r m d' c') (settles.1 ∙ same_core d₁ d c₁ (core s ds o' items') same) rest))
+    made_reaches op n c o' items' does go _ _ _ _ (raised _ _ _ _ x e) answer c₂ settles r m d' c' other follows = absurd (done_raises d (core s ds o' items') x (sym does ∙ e))
+    made_reaches op n c o' items' does go _ _ _ _ (forced _ d₁ _ c₃ c₁ _ u _ k k' given e run more) answer c₂ settles r m d' c' other follows =
+        absurd (done_needs d (core s ds o' items') u (sym does ∙ e))
+    made_reaches op n c o' items' does go _ _ _ _ (broken _ _ c₁ _ u _ k g e run) answer c₂ settles r m d' c' other follows = absurd (done_needs d (core s ds o' items') u (sym does ∙ e))
+    made_reaches op n c o' items' does go _ _ _ _ (wanting _ _ _ _) answer c₂ settles r m d' c' other follows =
+        let closes : Closes (Err (fault_with n NoMemory)) n d c₂ r m d' c' = subst (λ a. Follows Operates a n d c₂ r m d' c') settles.0 follows in
+        absurd (other (closes.answered ∙ ap Err (no_memory n)))
+
+    pub acted_reaches : (op : ℕ) (o o' : List PsObj) (items items₁ items' : List Item) → step (core s ds o items) ≡ Asks op (core s ds o items₁)
+        → act op d (core s ds o items₁) ≡ done d (core s ds o' items') → Reaches o' items' → Reaches o items
+    acted_reaches op o o' items items₁ items' asks does go zero r m d' c' other run = starved (core s ds o items) r m d' c' run
+    acted_reaches op o o' items items₁ items' asks does go (suc n) r m d' c' other run =
+        let met : Met Operates d (core s ds o items₁) op n r m d' c' = behind Operates n d (core s ds o items) (Asks op (core s ds o items₁)) r m d' c' asks run in
+        made_reaches op n (core s ds o items₁) o' items' does go met.asked.given met.dialect met.asked.core met.left met.asked.operates met.answer met.core met.asked.settles r m d' c' other met.follows
 
     -- ---- objects of a procedure, at its place
 

@@ -50,7 +50,8 @@ use Rattle.c_bytes.specs.Evaluation.{value_of, place_of}
 use Rattle.expr_serve.specs.Operators as pieces
 use Rattle.expr_serve.specs.declared.emit.Standing.{Standing}
 use Rattle.expr_serve.specs.declared.emit.Standing.TheVariants.{Pointed}
-use Rattle.expr_serve.specs.Codes.{value_code, place_code, standing_of, address_of, fetched, value_at, bytes_of, on_two, by_targets as two_by}
+use Rattle.expr_serve.specs.Types.{bytes_of}
+use Rattle.expr_serve.specs.Codes.{value_code, place_code, standing_of, address_of, fetched, value_at, on_two, by_targets as two_by}
 use Rattle.serving_laws.specs.Plain.{AreTaken, IsPlain, IsLed, RoomFor}
 use Rattle.serving_laws.specs.Left.{AreOperators, AreLeft, Leaves, leaves, fails, spends}
 use Rattle.serving_laws.proofs.Small.{Small, words_small, one_small, byte_small}

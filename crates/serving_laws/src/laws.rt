@@ -1,6 +1,6 @@
 // What holds of texts that have the value of an expression.
 
-ghost use Rattle.std.specs.Prelude.{◌≡◌, ◌≤◌, ◌+◌, suc, true, false, List, ◌∷◌, None, length, codes};
+ghost use Rattle.std.specs.Prelude.{◌≡◌, ◌≤◌, ◌+◌, ℕ, Bool, suc, true, false, List, ◌∷◌, None, length, codes};
 ghost use Rattle.c_tree.specs.declared.typed.Typed.{Typed};
 ghost use Rattle.c_tree.specs.Types.{type_of, is_struct};
 ghost use Rattle.c_judge.specs.declared.symbol.Symbol.{Symbol};
@@ -25,6 +25,7 @@ ghost use Rattle.c_bytes.specs.Lvalues.{Scene};
 ghost use Rattle.expr_serve.specs.Codes.{value_code, text_of};
 ghost use Rattle.serving_laws.specs.Plain.{IsPlain, RoomFor};
 ghost use Rattle.serving_laws.specs.Left.{AreOperators, AreLeft, AreServed};
+ghost use Rattle.serving_laws.specs.Named.{HasSpaces, IsRead, dial_in, dictionaries_in, AreRead};
 
 /// A text of a scalar expression that needs no memory, once it is executed as a string, is read as one procedure, which is run: it leaves the expression's value, or the run
 /// ends by the error of what is undefined in it. The text's words and numbers are tokens, and the store has room for its objects.
@@ -36,4 +37,12 @@ pub fn texts_are_served()
 /// are; or the run ends by the error of what is undefined in it. No `stopped` is open, and the stacks have room.
 pub fn values_are_left()
     ensures { (sc : Scene) (t : TableUse) (names : List Symbol) (e : Typed) (s : StoreState) (ds : List DictId) (o : List PsObj) (items : List Item) (a : ArrayId) (d : Dial) → AreOperators s ds → IsPlain sc.defs e → RoomFor e (length o) (length items) → under_stopped items ≡ None → HasArray s a → Spells s (elements_of s a) (value_code names sc.defs e) → AreLeft sc e t s ds o items d (core s ds o (Object (Array a true) ∷ items)) }
+{}
+
+/// A procedure with the pieces of an expression that reads or takes one place that a name tells (a scalar variable or member, an array of these, or `&`), once it is executed,
+/// leaves the value that the expression has over the target's bytes, in whatever frame of whichever target; or the run ends since the target doesn't hold a byte of the place.
+/// What the expression means takes of the steps those of the table's own procedure alone. The dialect's operators see the scene's target and frame; the name's symbol is the one
+/// in scope, and has a procedure as compiled tables have (`IsNamed`); no dictionary gives an operator's name another meaning, no `stopped` is open, and the stacks have room.
+pub fn named_places_are_read()
+    ensures { (sc : Scene) (s : StoreState) (cell : ℕ) (own : DictId) (names : List Symbol) (e : Typed) (o : List PsObj) (items : List Item) (a : ArrayId) (out : List ℕ) (raw : Bool) → HasSpaces s → AreOperators s (dictionaries_in s own) → IsRead sc s names e → length o + 5 ≤ 100000 → length items + 3 ≤ 1000 → under_stopped items ≡ None → HasArray s a → Spells s (elements_of s a) (value_code names sc.defs e) → AreRead sc e s cell own o items (dial_in sc cell out raw) (core s (dictionaries_in s own) o (Object (Array a true) ∷ items)) }
 {}

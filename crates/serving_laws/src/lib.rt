@@ -3,4 +3,4 @@
 
 mod laws;
 
-pub use laws::{texts_are_served, values_are_left};
+pub use laws::{named_places_are_read, texts_are_served, values_are_left};
