@@ -35,7 +35,7 @@ use Rattle.ldb_top.specs.Conversing.{Grows, IsOver, Here, here, IsSo, IsPart, Go
 use Rattle.ldb_top.specs.Fronts.{BreaksOff}
 use Rattle.ldb_top.specs.Late.{asks_quit}
 use Rattle.ldb_top.specs.Said.{IsFront}
-use Rattle.ldb_top.proofs.Conversations.{said_or_not, unsaid_asks, read_line, front_so, blank_none, none_rose, refused_answers, line_alone, AnswersLine, RefusesLine}
+use Rattle.ldb_top.proofs.Conversations.{said_or_not, read_line, front_so, blank_none, none_rose, refused_answers, line_alone, AnswersLine, RefusesLine}
 use Rattle.ldb_top.proofs.Lates.{same_quit, quits_not}
 
 -- ---- fronts
@@ -142,7 +142,7 @@ module _ (fault : Fault) (unread : fault ≢ Read) (raw : Bool) (st : SessionSta
   -- a line that is open
   open_part : (told put : List ℕ) → is_empty line ≡ false → ¬ IsSaidIfAny (read_of raw line) → refused_in st.state (read_of raw line) ≡ None → taken' ≡ known_and taken told → out' ≡ Some (st.written ++ put) → Part
   open_part told put full unsaid e took added =
-      line_part fault raw st line lines taken out taken' out' told (st.written ++ put) full took added (λ cs. inr (inr (inr (inl ((unsaid_asks (read_of raw line) unsaid, e, inl unsaid), record { rest = put; is = refl })))))
+      line_part fault raw st line lines taken out taken' out' told (st.written ++ put) full took added (λ cs. inr (inr (inr (inl ((unsaid, e), record { rest = put; is = refl })))))
 
   -- the reply to a line that the state refuses, by what the line is
   refused_line : (c : Option Command) (u : Refusal) → read_of s.raw line ≡ c → refused_in st.state c ≡ Some u → RefusesLine s s' line bytes r → Replied (refusal_reply u) r × (bytes ≡ [])

@@ -25,10 +25,11 @@ use Rattle.session.specs.declared.conversation.Session.{Session}
 use Rattle.session.specs.Answered.{state_of, refusal_reply}
 use Rattle.session.specs.Answered.{Answers as Replied}
 use Rattle.session.specs.Meant.{Hosts, Represents, Answered, AnswersAs, MeantAnswers, IsSaidIfAny}
+use Rattle.session.specs.Wanting.{LeavesIfAny, RepresentsAgain, WithSides}
 use Rattle.ldb_top.specs.declared.serving.Next.{Next}
 use Rattle.ldb_top.specs.declared.serving.Next.TheVariants as next
 use Rattle.ldb_top.specs.Ahead.{Lines, line_and, lines_if}
-use Rattle.ldb_top.specs.Conversed.{commands_in, wanting_line, asks_sides, refused_in, IsOpen, Converses, Told}
+use Rattle.ldb_top.specs.Conversed.{commands_in, wanting_line, asks_sides, refused_in, IsPassed, IsOpen, IsNext, Converses, Told}
 use Rattle.ldb_top.specs.Fronts.{BreaksOff}
 use Rattle.ldb_top.specs.Conversing.{Grows, IsOver, Here, here, IsSo, GoesSo, NextIsSo}
 use Rattle.ldb_top.specs.Late.{asks_quit}
@@ -54,25 +55,7 @@ said_or_not (Some Regs) = inl tt
 said_or_not (Some (Code x)) = inr (λ h. h)
 said_or_not (Some (Ps x)) = inl tt
 
--- a command of which it isn't told asks the sides
-pub unsaid_asks : (c : Option Command) → ¬ IsSaidIfAny c → asks_sides c ≡ true
-unsaid_asks None n = absurd (n tt)
-unsaid_asks (Some (Break x)) n = refl
-unsaid_asks (Some (Clear x)) n = refl
-unsaid_asks (Some Continue) n = refl
-unsaid_asks (Some Step) n = refl
-unsaid_asks (Some (Turns x)) n = absurd (n tt)
-unsaid_asks (Some Frames) n = refl
-unsaid_asks (Some (Frame x)) n = refl
-unsaid_asks (Some (Print x)) n = refl
-unsaid_asks (Some (Eval x)) n = refl
-unsaid_asks (Some (Assign x)) n = refl
-unsaid_asks (Some Quit) n = absurd (n tt)
-unsaid_asks (Some Regs) n = refl
-unsaid_asks (Some (Code x)) n = refl
-unsaid_asks (Some (Ps x)) n = refl
-
--- and of the others it does not
+-- a line that asks none
 abbrev AsksNone : Option Command → Type 0
 AsksNone c = (c ≡ None) ⊎ ((c ≡ Some Quit) ⊎ ((n : ℕ) × (c ≡ Some (Turns n))))
 
@@ -98,6 +81,30 @@ blank_line raw line ls e = ap (λ b. if b then commands_in raw ls else read_of r
 
 pub read_line : (raw : Bool) (line : List ℕ) (ls : List (List ℕ)) → is_empty line ≡ false → commands_in raw (line ∷ ls) ≡ read_of raw line ∷ commands_in raw ls
 read_line raw line ls e = ap (λ b. if b then commands_in raw ls else read_of raw line ∷ commands_in raw ls) e
+
+-- ---- what a session says of a line
+
+pub none_rose : Rose 0 0 → ⊥
+none_rose r = omega (arith, r.higher)
+
+-- what a session answers to a line
+abbrev pub AnswersLine : (s s' : Session World) → (line : List ℕ) → SessionState → (kept kept' : Option (List ℕ)) → Result Answer End → Type 0
+AnswersLine s s' line st kept kept' r =
+    (hs : Hosts) → Represents machine_behaviour near_conduct (Some s.talk.memory.below.below.below.link) s.first s.second s.mode s.limit hs st → is_empty line ≡ false → IsSaidIfAny (read_of s.raw line)
+    → AnswersAs machine_behaviour near_conduct (Some s'.talk.memory.below.below.below.link) s'.first s'.second s'.mode s'.limit st kept kept' (MeantAnswers machine_behaviour st (read_of s.raw line)) 0 0 s.broken r
+
+-- what it answers to a command that its state refuses
+abbrev pub RefusesLine : (s s' : Session World) → (line bytes : List ℕ) → Result Answer End → Type 0
+RefusesLine s s' line bytes r = (k : Command) (u : Refusal) → read_of s.raw line ≡ Some k → refused_by_state (state_of s.mode) k ≡ Some u → Replied (refusal_reply u) r × (s' ≡ s) × (bytes ≡ [])
+
+-- it stands for the machine session as before, but for what such a line may leave
+abbrev pub StandsAgain : (s s' : Session World) → (line : List ℕ) → SessionState → Type 0
+StandsAgain s s' line st = RepresentsAgain (LeavesIfAny (read_of s.raw line)) machine_behaviour near_conduct (Some s'.talk.memory.below.below.below.link) s'.first s'.second s'.mode s'.limit st
+
+-- so it is behind an answer that there was no memory
+abbrev pub PassesLine : (s s' : Session World) → (line : List ℕ) → SessionState → Result Answer End → Type 0
+PassesLine s s' line st r =
+    (hs : Hosts) → Represents machine_behaviour near_conduct (Some s.talk.memory.below.below.below.link) s.first s.second s.mode s.limit hs st → r ≡ Ok answer.NoMemory → StandsAgain s s' line st
 
 -- ---- one line
 
@@ -131,7 +138,7 @@ module _ (R : SessionState → List (Option Command) → (transcript output : Li
 
 -- a line that is open
 open_so : (raw : Bool) (st : SessionState) (s' : Session World) (line : List ℕ) (lines : Option Lines) (taken taken' out out' : Option (List ℕ)) (text bytes : List ℕ) → is_empty line ≡ false → taken' ≡ known_and taken text
-    → out' ≡ Some (st.written ++ bytes) → ((more : List ℕ) → IsOpen st (read_of raw line) (text ++ more)) → GoesSo raw st (here (line_and line lines) taken out) s' (here lines taken' out')
+    → out' ≡ Some (st.written ++ bytes) → IsOpen st (read_of raw line) → GoesSo raw st (here (line_and line lines) taken out) s' (here lines taken' out')
 open_so raw st s' line lines taken taken' out out' text bytes full told put is_open =
     inr (λ t o g h. front_so Converses raw st line lines taken out t o (λ ls before e known.
     let took : Grows (Some (before ++ text)) t = subst (λ x. Grows x t) (told ∙ ap (λ k. known_and k text) known) g in
@@ -141,7 +148,7 @@ open_so raw st s' line lines taken taken' out out' text bytes full told put is_o
       output = st.written ++ (bytes ++ held.more);
       taken_is = took.is ∙ ap Some (append_assoc before text took.more);
       out_is = held.is ∙ ap Some (append_assoc st.written bytes held.more);
-      so = subst (λ (cs : List (Option Command)). Converses st cs (text ++ took.more) (st.written ++ (bytes ++ held.more))) (sym (read_line raw line ls.0 full)) (inr (inl (is_open took.more, record { rest = bytes ++ held.more; is = refl })));
+      so = subst (λ (cs : List (Option Command)). Converses st cs (text ++ took.more) (st.written ++ (bytes ++ held.more))) (sym (read_line raw line ls.0 full)) (inr (inl (is_open, record { rest = bytes ++ held.more; is = refl })));
     }))
 
 -- a line of blanks
@@ -156,6 +163,20 @@ blank_so raw st s s' line lines taken taken' out out' blank over same told put =
       part = λ f t o so. front_told (BreaksOff f) raw st st line lines taken taken' out out' t o [] told (λ ls rest output c. subst (λ (cs : List (Option Command)). BreaksOff f st cs rest output) (sym (blank_line raw line ls blank)) c) so;
     })
 
+-- a line behind which the session stands for this machine session
+on_so : (raw : Bool) (st after : SessionState) (s' : Session World) (line : List ℕ) (lines : Option Lines) (taken taken' out out' : Option (List ℕ)) (text : List ℕ) → is_empty line ≡ false → IsOver raw s' after → IsNext IsPassed machine_behaviour st (read_of raw line) text after
+    → taken' ≡ known_and taken text → out' ≡ Some after.written → GoesSo raw st (here (line_and line lines) taken out) s' (here lines taken' out')
+on_so raw st after s' line lines taken taken' out out' text full over is told put =
+    inl (record {
+      session = after;
+      over = over;
+      put = put;
+      on = λ t o so. front_told Converses raw st after line lines taken taken' out out' t o text told (λ ls rest output c.
+          subst (λ (cs : List (Option Command)). Converses st cs (text ++ rest) output) (sym (read_line raw line ls full)) (inr (inr (text, rest, after, is, refl, c)))) so;
+      part = λ f t o so. front_told (BreaksOff f) raw st after line lines taken taken' out out' t o text told (λ ls rest output c.
+          subst (λ (cs : List (Option Command)). BreaksOff f st cs (text ++ rest) output) (sym (read_line raw line ls full)) (inr (inr (inr (inr (text, rest, after, is, refl, c)))))) so;
+    })
+
 -- a line that was answered
 answered_so : (raw : Bool) (st : SessionState) (s s' : Session World) (line : List ℕ) (lines : Option Lines) (taken taken' out out' kept : Option (List ℕ)) (text bytes : List ℕ) → is_empty line ≡ false → IsOver raw s st → s'.raw ≡ s.raw
     → Answered machine_behaviour near_conduct (Some s'.talk.memory.below.below.below.link) s'.first s'.second s'.mode s'.limit st (Some []) kept (MeantAnswers machine_behaviour st (read_of s.raw line)) text → kept ≡ Some bytes
@@ -163,29 +184,23 @@ answered_so : (raw : Bool) (st : SessionState) (s s' : Session World) (line : Li
 answered_so raw st s s' line lines taken taken' out out' kept text bytes full over raws a holds told put =
     let says : Answers machine_behaviour st (read_of raw line) a.reply a.after = subst (λ r. Answers machine_behaviour st (read_of r line) a.reply a.after) over.raw_is a.says in
     let added : a.output ≡ bytes = cc (a.put, holds) in
-    inl (record {
-      session = a.after;
-      over = record { hosts = a.hosts; represents = a.represents; raw_is = raws ∙ over.raw_is };
-      put = put ∙ ap Some (sym (a.written ∙ ap (λ x. st.written ++ x) added));
-      on = λ t o so. front_told Converses raw st a.after line lines taken taken' out out' t o text told (λ ls rest output c.
-          subst (λ (cs : List (Option Command)). Converses st cs (text ++ rest) output) (sym (read_line raw line ls full)) (inr (inr (a.reply, rest, a.after, says, ap (λ x. x ++ rest) a.text_is, c)))) so;
-      part = λ f t o so. front_told (BreaksOff f) raw st a.after line lines taken taken' out out' t o text told (λ ls rest output c.
-          subst (λ (cs : List (Option Command)). BreaksOff f st cs (text ++ rest) output) (sym (read_line raw line ls full)) (inr (inr (inr (inr (a.reply, rest, a.after, says, ap (λ x. x ++ rest) a.text_is, c)))))) so;
-    })
+    on_so raw st a.after s' line lines taken taken' out out' text full (record { hosts = a.hosts; represents = a.represents; raw_is = raws ∙ over.raw_is }) (inl (a.reply, says, a.text_is)) told
+    (put ∙ ap Some (sym (a.written ∙ ap (λ x. st.written ++ x) added)))
+
+-- a line that is passed
+passed_so : (raw : Bool) (st : SessionState) (s s' : Session World) (line : List ℕ) (lines : Option Lines) (taken taken' out out' : Option (List ℕ)) (bytes : List ℕ) → is_empty line ≡ false → IsOver raw s st → s'.raw ≡ s.raw → StandsAgain s s' line st
+    → bytes ≡ [] → asks_sides (read_of raw line) ≡ true → refused_in st.state (read_of raw line) ≡ None
+    → taken' ≡ known_and taken wanting_line → out' ≡ Some (st.written ++ bytes) → GoesSo raw st (here (line_and line lines) taken out) s' (here lines taken' out')
+passed_so raw st s s' line lines taken taken' out out' bytes full over raws again nothing asks why told put =
+    on_so raw st again.after s' line lines taken taken' out out' wanting_line full (record { hosts = again.hosts; represents = again.represents; raw_is = raws ∙ over.raw_is })
+    (inr (record { asks = asks; unrefused = why; reply_is = refl; leaves = subst (λ r. WithSides (LeavesIfAny (read_of r line)) st again.after) over.raw_is again.changed })) told
+    (put ∙ ap Some (ap (λ x. st.written ++ x) nothing ∙ append-nil st.written ∙ sym (ap (λ (x : SessionState). x.written) again.changed.same)))
 
 -- a line that was answered and left the session as it was
 stays_so : (raw : Bool) (st : SessionState) (s s' : Session World) (line : List ℕ) (lines : Option Lines) (taken taken' out out' : Option (List ℕ)) (reply : Reply) → is_empty line ≡ false → IsOver raw s st → s' ≡ s → Answers machine_behaviour st (read_of raw line) reply st
     → taken' ≡ known_and taken (joined reply) → out' ≡ Some st.written → GoesSo raw st (here (line_and line lines) taken out) s' (here lines taken' out')
 stays_so raw st s s' line lines taken taken' out out' reply full over same says told put =
-    inl (record {
-      session = st;
-      over = subst (λ (x : Session World). IsOver raw x st) (sym same) over;
-      put = put;
-      on = λ t o so. front_told Converses raw st st line lines taken taken' out out' t o (joined reply) told (λ ls rest output c.
-          subst (λ (cs : List (Option Command)). Converses st cs (joined reply ++ rest) output) (sym (read_line raw line ls full)) (inr (inr (reply, rest, st, says, refl, c)))) so;
-      part = λ f t o so. front_told (BreaksOff f) raw st st line lines taken taken' out out' t o (joined reply) told (λ ls rest output c.
-          subst (λ (cs : List (Option Command)). BreaksOff f st cs (joined reply ++ rest) output) (sym (read_line raw line ls full)) (inr (inr (inr (inr (reply, rest, st, says, refl, c)))))) so;
-    })
+    on_so raw st st s' line lines taken taken' out out' (joined reply) full (subst (λ (x : Session World). IsOver raw x st) (sym same) over) (inl (reply, says, refl)) told put
 
 -- the machine session's answer to a line that the state refuses
 pub refused_answers : (st : SessionState) (c : Option Command) (u : Refusal) → refused_in st.state c ≡ Some u → Answers machine_behaviour st c (refusal_text u ∷ []) st
@@ -235,19 +250,6 @@ either_none false o e = refl
 pub blank_none : (raw : Bool) (line : List ℕ) → is_empty line ≡ true → read_of raw line ≡ None
 blank_none raw line e = either_none (nat_le (length line) 1000) _ (nothing_read raw (without_blanks line) e)
 
-pub none_rose : Rose 0 0 → ⊥
-none_rose r = omega (arith, r.higher)
-
--- what a session answers to a line
-abbrev pub AnswersLine : (s s' : Session World) → (line : List ℕ) → SessionState → (kept kept' : Option (List ℕ)) → Result Answer End → Type 0
-AnswersLine s s' line st kept kept' r =
-    (hs : Hosts) → Represents machine_behaviour near_conduct (Some s.talk.memory.below.below.below.link) s.first s.second s.mode s.limit hs st → is_empty line ≡ false → IsSaidIfAny (read_of s.raw line)
-    → AnswersAs machine_behaviour near_conduct (Some s'.talk.memory.below.below.below.link) s'.first s'.second s'.mode s'.limit st kept kept' (MeantAnswers machine_behaviour st (read_of s.raw line)) 0 0 s.broken r
-
--- what it answers to a command that its state refuses
-abbrev pub RefusesLine : (s s' : Session World) → (line bytes : List ℕ) → Result Answer End → Type 0
-RefusesLine s s' line bytes r = (k : Command) (u : Refusal) → read_of s.raw line ≡ Some k → refused_by_state (state_of s.mode) k ≡ Some u → Replied (refusal_reply u) r × (s' ≡ s) × (bytes ≡ [])
-
 -- a line that is no command, and `turns`, where there was no memory for the reply
 pub record StaysWanting (s s' : Session World) (line : List ℕ) : Type 0 where
   pub malformed : read_of s.raw line ≡ None → s' ≡ s
@@ -259,11 +261,11 @@ module _ (raw : Bool) (st : SessionState) (s s' : Session World) (line : List �
   refused_why None u e why f = absurd (let w = why in cc)
   refused_why (Some k) u e why f = f k u e (subst (λ x. refused_by_state x k ≡ Some u) over.represents.state why)
 
-  -- a command of which nothing else is said, by whether the state refuses it
-  unsaid_so : (text : List ℕ) (why : Option Refusal) → refused_in st.state (read_of raw line) ≡ why → ¬ IsSaidIfAny (read_of raw line) → is_empty line ≡ false → r ≡ Ok (answer.Lines text) → RefusesLine s s' line bytes r
+  -- a command of which it isn't told what it says, by whether the state refuses it
+  untold_so : (text : List ℕ) (why : Option Refusal) → refused_in st.state (read_of raw line) ≡ why → ¬ IsSaidIfAny (read_of raw line) → is_empty line ≡ false → r ≡ Ok (answer.Lines text) → RefusesLine s s' line bytes r
       → taken' ≡ known_and taken text → out' ≡ Some (st.written ++ bytes) → GoesSo raw st (here (line_and line lines) taken out) s' (here lines taken' out')
-  unsaid_so text None e unsaid full is refuses told put = open_so raw st s' line lines taken taken' out out' text bytes full told put (λ more. (unsaid_asks (read_of raw line) unsaid, e, inl unsaid))
-  unsaid_so text (Some u) e unsaid full is refuses told put =
+  untold_so text None e untold full is refuses told put = open_so raw st s' line lines taken taken' out out' text bytes full told put (untold, e)
+  untold_so text (Some u) e untold full is refuses told put =
       let said = refused_why (read_of s.raw line) u refl (subst (λ x. refused_in st.state (read_of x line) ≡ Some u) (sym over.raw_is) e) refuses in
       let reply : text ≡ refusal_reply u = subst (Replied (refusal_reply u)) is said.0 in
       refused_so raw st s s' line lines taken taken' out out' u full over said.1 e (told ∙ ap (λ x. known_and taken x) reply) (put ∙ ap (λ x. Some (st.written ++ x)) said.2 ∙ ap Some (append-nil st.written))
@@ -276,8 +278,8 @@ module _ (raw : Bool) (st : SessionState) (s s' : Session World) (line : List �
         | inl off ↦ absurd (none_rose off.0)
         | inr a ↦ answered_so raw st s s' line lines taken taken' out out' kept' text bytes full over raws (subst (λ k. Answered machine_behaviour near_conduct (Some s'.talk.memory.below.below.below.link) s'.first s'.second s'.mode s'.limit st k kept' (MeantAnswers machine_behaviour st (read_of s.raw line)) text) none a) holds told put
       ]
-  said_so text c e (inr unsaid) full is raws none holds meant refuses told put =
-      unsaid_so text (refused_in st.state (read_of raw line)) refl (subst (λ x. ¬ IsSaidIfAny x) (e ∙ ap (λ x. read_of x line) over.raw_is) unsaid) full is refuses told put
+  said_so text c e (inr untold) full is raws none holds meant refuses told put =
+      untold_so text (refused_in st.state (read_of raw line)) refl (subst (λ x. ¬ IsSaidIfAny x) (e ∙ ap (λ x. read_of x line) over.raw_is) untold) full is refuses told put
 
   lines_either : (text : List ℕ) (b : Bool) → is_empty line ≡ b → r ≡ Ok (answer.Lines text) → (is_empty line ≡ true → r ≡ Ok (answer.Lines [])) → (read_of s.raw line ≡ None → (s' ≡ s) × (bytes ≡ [])) → s'.raw ≡ s.raw → kept ≡ Some [] → kept' ≡ Some bytes
       → AnswersLine s s' line st kept kept' r → RefusesLine s s' line bytes r → taken' ≡ known_and taken text → out' ≡ Some (st.written ++ bytes) → GoesSo raw st (here (line_and line lines) taken out) s' (here lines taken' out')
@@ -310,22 +312,23 @@ module _ (raw : Bool) (st : SessionState) (s s' : Session World) (line : List �
       let unrefused : refused_in st.state (Some (Turns turns.0)) ≡ None = subst (λ k. refused_in st.state k ≡ None) turns.1 why in
       (stays.turned turns.0 (ap (λ x. read_of x line) over.raw_is ∙ (e ∙ turns.1)) (subst (λ x. refused_by_state x (Turns turns.0) ≡ None) over.represents.state unrefused), subst (λ (k : Option Command). Answers machine_behaviour st k wanting_reply st) (sym turns.1) (wanting_turns st turns.0 unrefused))
 
-  wanting_why : (why : Option Refusal) → refused_in st.state (read_of raw line) ≡ why → (asks_sides (read_of raw line) ≡ true) ⊎ AsksNone (read_of raw line) → (read_of raw line ≡ Some Quit → ⊥) → bytes ≡ [] → is_empty line ≡ false → StaysWanting s s' line → RefusesLine s s' line bytes r
+  wanting_why : (why : Option Refusal) → refused_in st.state (read_of raw line) ≡ why → (asks_sides (read_of raw line) ≡ true) ⊎ AsksNone (read_of raw line) → (read_of raw line ≡ Some Quit → ⊥) → bytes ≡ [] → is_empty line ≡ false → StaysWanting s s' line → s'.raw ≡ s.raw → StandsAgain s s' line st → RefusesLine s s' line bytes r
       → taken' ≡ known_and taken wanting_line → out' ≡ Some (st.written ++ bytes) → GoesSo raw st (here (line_and line lines) taken out) s' (here lines taken' out')
-  wanting_why (Some u) e asks unquit nothing full stays refuses told put =
+  wanting_why (Some u) e asks unquit nothing full stays raws again refuses told put =
       let said = refused_why (read_of s.raw line) u refl (subst (λ x. refused_in st.state (read_of x line) ≡ Some u) (sym over.raw_is) e) refuses in
       stays_wanting said.1 nothing full (wanting_refused st (read_of raw line) u e) told put
-  wanting_why None e (inl asks) unquit nothing full stays refuses told put = open_so raw st s' line lines taken taken' out out' wanting_line bytes full told put (λ more. (asks, e, inr (record { rest = more; is = refl })))
-  wanting_why None e (inr none) unquit nothing full stays refuses told put =
+  wanting_why None e (inl asks) unquit nothing full stays raws again refuses told put = passed_so raw st s s' line lines taken taken' out out' bytes full over raws again nothing asks e told put
+  wanting_why None e (inr none) unquit nothing full stays raws again refuses told put =
       let settled = wanting_settled (read_of raw line) refl none unquit e stays in
       stays_wanting settled.0 nothing full settled.1 told put
 
   -- for want of memory
-  pub wanting_so : r ≡ Ok answer.NoMemory → (is_empty line ≡ true → r ≡ Ok (answer.Lines [])) → (read_of s.raw line ≡ Some Quit → r ≡ Err end.Quit) → bytes ≡ [] → StaysWanting s s' line → RefusesLine s s' line bytes r
+  pub wanting_so : r ≡ Ok answer.NoMemory → (is_empty line ≡ true → r ≡ Ok (answer.Lines [])) → (read_of s.raw line ≡ Some Quit → r ≡ Err end.Quit) → bytes ≡ [] → StaysWanting s s' line → s'.raw ≡ s.raw → RefusesLine s s' line bytes r → PassesLine s s' line st r
       → taken' ≡ known_and taken wanting_line → out' ≡ Some (st.written ++ bytes) → GoesSo raw st (here (line_and line lines) taken out) s' (here lines taken' out')
-  wanting_so is blank quit nothing stays refuses told put =
+  wanting_so is blank quit nothing stays raws refuses passes told put =
       let full : is_empty line ≡ false = not_blank (is_empty line) refl blank (λ e. cc) in
-      wanting_why (refused_in st.state (read_of raw line)) refl (asks_or_not (read_of raw line)) (λ q. (let e : r ≡ Err end.Quit = quit (ap (λ x. read_of x line) over.raw_is ∙ q) in cc)) nothing full stays refuses told put
+      let again : StandsAgain s s' line st = passes over.hosts over.represents is in
+      wanting_why (refused_in st.state (read_of raw line)) refl (asks_or_not (read_of raw line)) (λ q. (let e : r ≡ Err end.Quit = quit (ap (λ x. read_of x line) over.raw_is ∙ q) in cc)) nothing full stays raws again refuses told put
 
   -- for `quit`
   pub ended_so : r ≡ Err end.Quit → (is_empty line ≡ true → r ≡ Ok (answer.Lines [])) → read_of s.raw line ≡ Some Quit → bytes ≡ [] → out' ≡ Some (st.written ++ bytes) → IsSo raw st (here (line_and line lines) taken out) taken out'

@@ -14,6 +14,7 @@ use Rattle.claims.specs.Lines.{Reply}
 use Rattle.claims.specs.Carries.{Converses as MachineConverses}
 use Rattle.claims.specs.Outcome.{Answers, refused_by_state}
 use Rattle.session.specs.Meant.{IsSaidIfAny}
+use Rattle.session.specs.Wanting.{WithSides, LeavesIfAny}
 use Rattle.ldb_top.specs.Ahead.{Lines}
 use Rattle.ldb_top.specs.Late.{asks_quit}
 use Rattle.ldb_top.specs.Lines.{late_line}
@@ -42,31 +43,48 @@ asks_sides (Some (Turns n)) = false
 asks_sides (Some Quit) = false
 asks_sides (Some c) = true
 
--- From such a line on nothing is said of the transcript: a command that asks the sides, in a state that doesn't refuse it, and whose
--- meaning the session's contract doesn't tell, or for which there was no memory.
-abbrev pub IsOpen : SessionState → Option Command → (transcript : List ℕ) → Type 0
-IsOpen st c transcript = (asks_sides c ≡ true) × (refused_in st.state c ≡ None) × ((¬ IsSaidIfAny c) ⊎ IsFront wanting_line transcript)
+-- ---- lines that aren't answered as in the machine session
+
+-- A command that asks the sides, in a state that doesn't refuse it, and for which there was no memory. Behind it the session is as before, over the
+-- tables that it has then; `ps` may have stored numbers to the target.
+pub record IsPassed (st : SessionState) (c : Option Command) (reply : List ℕ) (next : SessionState) : Type 0 where
+  pub asks : asks_sides c ≡ true
+  pub unrefused : refused_in st.state c ≡ None
+  pub reply_is : reply ≡ wanting_line
+  pub leaves : WithSides (LeavesIfAny c) st next
+
+-- A command whose meaning the session's contract doesn't tell, in a state that doesn't refuse it: from there on nothing is said of the transcript.
+abbrev pub IsOpen : SessionState → Option Command → Type 0
+IsOpen st c = (¬ IsSaidIfAny c) × (refused_in st.state c ≡ None)
 
 -- ---- a conversation
 
-module _ (Open : SessionState → Option Command → (transcript : List ℕ) → Type 0) where
-  -- The lines from a session on: the bytes of the transcript, and what the first side's machine put in all. `quit` and the end of
-  -- the lines end it. An open line leaves what follows it open, but that what was put before it stays.
-  abbrev pub ConversesBut : Behaviour → SessionState → List (Option Command) → (transcript output : List ℕ) → Type 0
-  ConversesBut b st [] transcript output = (transcript ≡ []) × (output ≡ st.written)
-  ConversesBut b st (c ∷ cs) transcript output =
-      ((asks_quit c ≡ true) × (transcript ≡ []) × (output ≡ st.written))
-      ⊎ ((Open st c transcript × IsFront st.written output)
-      ⊎ ((reply : Reply) × (rest : List ℕ) × (next : SessionState) × Answers b st c reply next × (transcript ≡ joined reply ++ rest) × ConversesBut b next cs rest output))
+module _ (Passed : SessionState → Option Command → (reply : List ℕ) → SessionState → Type 0) where
+  -- a reply to a line, and the session behind it: an answer of the machine session, or the line is passed
+  abbrev pub IsNext : Behaviour → SessionState → Option Command → (reply : List ℕ) → SessionState → Type 0
+  IsNext b st c reply next = ((lines : Reply) × Answers b st c lines next × (reply ≡ joined lines)) ⊎ Passed st c reply next
 
--- What the machine session answers, up to the first line that is open. Without open lines this is the conversation of the machine
--- session, whose lines are joined to bytes (`conversations_are_joined`).
+  module _ (Open : SessionState → Option Command → Type 0) where
+    -- The lines from a session on: the bytes of the transcript, and what the first side's machine put in all. `quit` and the end of
+    -- the lines end it. An open line leaves what follows it open, but that what was put before it stays.
+    abbrev pub ConversesBut : Behaviour → SessionState → List (Option Command) → (transcript output : List ℕ) → Type 0
+    ConversesBut b st [] transcript output = (transcript ≡ []) × (output ≡ st.written)
+    ConversesBut b st (c ∷ cs) transcript output =
+        ((asks_quit c ≡ true) × (transcript ≡ []) × (output ≡ st.written))
+        ⊎ ((Open st c × IsFront st.written output)
+        ⊎ ((reply : List ℕ) × (rest : List ℕ) × (next : SessionState) × IsNext b st c reply next × (transcript ≡ reply ++ rest) × ConversesBut b next cs rest output))
+
+-- What the machine session answers, up to the first line that is open, with the lines between that are passed. Without either this is the
+-- conversation of the machine session, whose lines are joined to bytes (`conversations_are_joined`).
 abbrev pub Converses : SessionState → List (Option Command) → (transcript output : List ℕ) → Type 0
-Converses st cs transcript output = ConversesBut IsOpen machine_behaviour st cs transcript output
+Converses st cs transcript output = ConversesBut IsPassed IsOpen machine_behaviour st cs transcript output
 
--- no line is open
-abbrev pub NoneOpen : SessionState → Option Command → (transcript : List ℕ) → Type 0
-NoneOpen st c transcript = ⊥
+-- no line is passed, and none open
+abbrev pub NonePassed : SessionState → Option Command → (reply : List ℕ) → SessionState → Type 0
+NonePassed st c reply next = ⊥
+
+abbrev pub NoneOpen : SessionState → Option Command → Type 0
+NoneOpen st c = ⊥
 
 -- ---- a session
 
@@ -94,8 +112,8 @@ HasConversedLate raw st lines taken taken' out = (between : Option (List ℕ)) �
 abbrev pub IsJoined : Behaviour → SessionState → List (Option Command) → (transcript output : List ℕ) → Type 0
 IsJoined b st cs transcript output = (reply : Reply) × (transcript ≡ joined reply) × MachineConverses b st cs reply output
 
--- without open lines both are the same
+-- without passed and open lines both are the same
 abbrev pub ConversationsAreJoined : Type 0
 ConversationsAreJoined =
     (b : Behaviour) (st : SessionState) (cs : List (Option Command)) (transcript output : List ℕ)
-    → (ConversesBut NoneOpen b st cs transcript output → IsJoined b st cs transcript output) × (IsJoined b st cs transcript output → ConversesBut NoneOpen b st cs transcript output)
+    → (ConversesBut NonePassed NoneOpen b st cs transcript output → IsJoined b st cs transcript output) × (IsJoined b st cs transcript output → ConversesBut NonePassed NoneOpen b st cs transcript output)

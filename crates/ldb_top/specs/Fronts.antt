@@ -10,7 +10,7 @@ use Rattle.claims.specs.Side.{SessionState}
 use Rattle.claims.specs.Lines.{Reply}
 use Rattle.claims.specs.Outcome.{Answers}
 use Rattle.ldb_top.specs.Ahead.{Lines}
-use Rattle.ldb_top.specs.Conversed.{Told, IsOpen, HasConversed, commands_in, wanting_line}
+use Rattle.ldb_top.specs.Conversed.{Told, IsNext, IsPassed, IsOpen, HasConversed, commands_in, wanting_line}
 use Rattle.ldb_top.specs.Late.{asks_quit, LateAs}
 use Rattle.ldb_top.specs.Lines.{late_line}
 use Rattle.ldb_top.specs.Said.{IsFront}
@@ -48,8 +48,8 @@ module _ (fault : Fault) where
       ((told ≡ []) × (put ≡ st.written))
       ⊎ (IsAnsweredInPart fault st c told put
       ⊎ (IsWanting fault st c told put
-      ⊎ ((IsOpen st c told × IsFront st.written put)
-      ⊎ ((reply : Reply) × (rest : List ℕ) × (next : SessionState) × Answers machine_behaviour st c reply next × (told ≡ joined reply ++ rest) × BreaksOff next cs rest put))))
+      ⊎ ((IsOpen st c × IsFront st.written put)
+      ⊎ ((reply : List ℕ) × (rest : List ℕ) × (next : SessionState) × IsNext IsPassed machine_behaviour st c reply next × (told ≡ reply ++ rest) × BreaksOff next cs rest put))))
 
   -- From a machine session on, where the lines ahead and what the transcript had taken are told: what it took behind this, and what
   -- the output file holds, is a conversation that was broken off.

@@ -72,7 +72,8 @@ returns-in-Ok-NoMemory-clause-so g c = λ raw st lines over put.
         | inr stays ↦ stays.1
       ];
     })
-    (λ k u e why. (let h = c.command-answer.ensures.refused k u e why in (h.0, h.1, cc (h.2, c.bytes.ensures, c.new-written.ensures.taken, c.new.ensures.items)))) told (c.in-Ok.ensures.added st.written put))
+    c.command-answer.ensures.raw (λ k u e why. (let h = c.command-answer.ensures.refused k u e why in (h.0, h.1, cc (h.2, c.bytes.ensures, c.new-written.ensures.taken, c.new.ensures.items))))
+    (λ hs represents is. c.command-answer.ensures.stays machine_behaviour hs st represents is) told (c.in-Ok.ensures.added st.written put))
 
 pub returns-in-Err-Quit-clause-so : goal.returns-in-Err-Quit-clause-so
 returns-in-Err-Quit-clause-so g c = λ raw st lines over put.
