@@ -147,21 +147,21 @@ module _ {W R : Type 0} (seen : W → Seen R) (leads : W → Option (List ℕ) �
   does_counts (command.Ps text) r d = nothing_counts r d.0 d.1
 
   -- one that isn't done leaves the target as it was
-  still_told : {A B : Type 0} (fault : AskFault) → IsUndone {A = A} (Err fault) → Looks {A = B} (Err fault) → ToldStill
-  still_told (Refused cause) u d = d
-  still_told (Raised e) u d = d
-  still_told Spent u d = d
-  still_told NoMemory u d = d
-  still_told (Broken x) u d = absurd u
+  still_told : (A B : Type 0) (fault : AskFault) → IsUndone {A = A} (Err fault) → Looks {A = B} (Err fault) → ToldStill
+  still_told A B (Refused cause) u d = d
+  still_told A B (Raised e) u d = d
+  still_told A B Spent u d = d
+  still_told A B NoMemory u d = d
+  still_told A B (Broken x) u d = absurd u
 
   pub undone_same : (now : Command) (fault : AskFault) → IsAskedAlone now → IsUndone {A = List ℕ} (Err fault) → j.core.store.part ≡ CommandPart → Does seen leads now frame ps j o (Err fault) ps' k o' → ToldStill
-  undone_same (command.Break spot) fault alone u part d = still_told {A = List ℕ} {B = Stored} fault u (asks_look {A = Stored} (λ b. asked_breaks.breaking o.view.target (rows_in k.core.store ps) b spot) (Err fault) d)
-  undone_same (command.Clear spot) fault alone u part d = still_told {A = List ℕ} {B = Stored} fault u (asks_look {A = Stored} (λ b. asked_breaks.clearing o.view.target (rows_in k.core.store ps) b spot) (Err fault) d)
-  undone_same command.Frames fault alone u part d = still_told {A = List ℕ} {B = List ℕ} fault u (does_look command.Frames (Err fault) tt part d)
-  undone_same (command.Frame n) fault alone u part d = still_told {A = List ℕ} {B = List ℕ} fault u (does_look (command.Frame n) (Err fault) tt part d)
-  undone_same (command.Print name) fault alone u part d = still_told {A = List ℕ} {B = List ℕ} fault u (does_look (command.Print name) (Err fault) tt part d)
-  undone_same (command.Eval text) fault alone u part d = still_told {A = List ℕ} {B = List ℕ} fault u (does_look (command.Eval text) (Err fault) tt part d)
-  undone_same (command.Code text) fault alone u part d = still_told {A = List ℕ} {B = List ℕ} fault u (does_look (command.Code text) (Err fault) tt part d)
+  undone_same (command.Break spot) fault alone u part d = still_told (List ℕ) Stored fault u (asks_look {A = Stored} (λ b. asked_breaks.breaking o.view.target (rows_in k.core.store ps) b spot) (Err fault) d)
+  undone_same (command.Clear spot) fault alone u part d = still_told (List ℕ) Stored fault u (asks_look {A = Stored} (λ b. asked_breaks.clearing o.view.target (rows_in k.core.store ps) b spot) (Err fault) d)
+  undone_same command.Frames fault alone u part d = still_told (List ℕ) (List ℕ) fault u (does_look command.Frames (Err fault) tt part d)
+  undone_same (command.Frame n) fault alone u part d = still_told (List ℕ) (List ℕ) fault u (does_look (command.Frame n) (Err fault) tt part d)
+  undone_same (command.Print name) fault alone u part d = still_told (List ℕ) (List ℕ) fault u (does_look (command.Print name) (Err fault) tt part d)
+  undone_same (command.Eval text) fault alone u part d = still_told (List ℕ) (List ℕ) fault u (does_look (command.Eval text) (Err fault) tt part d)
+  undone_same (command.Code text) fault alone u part d = still_told (List ℕ) (List ℕ) fault u (does_look (command.Code text) (Err fault) tt part d)
   undone_same c fault alone u part d = absurd alone
 
   pub wants_count : (now : Command) → IsBare now → Does seen leads now frame ps j o (Err NoMemory) ps' k o' → behind.faults ≡ before.faults

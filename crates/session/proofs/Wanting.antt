@@ -12,7 +12,7 @@ use Rattle.nub_wire.specs.Nub.{Host}
 use Rattle.nub_wire.specs.Delivery.{Conduct, World}
 use Rattle.resuming.specs.Standing.{Stands}
 use Rattle.ps_store.specs.declared.object.Part.{Part}
-use Rattle.ps_store.specs.declared.object.Part.TheVariants.{Command}
+use Rattle.ps_store.specs.declared.object.Part.TheVariants.{Command as CommandPart}
 use Rattle.ps_store.specs.declared.object.Mark.{Mark}
 use Rattle.ps_store.specs.Held.{Held}
 use Rattle.ps_store.specs.StoreState.{StoreState}
@@ -60,15 +60,15 @@ pub same_table : (s : StoreState) → TableStays s s
 same_table s = record { names = λ d names. (record { breaks = refl; stands_at = refl; kept = refl }, names); nothing = λ e. e }
 
 abbrev in_command : StoreState → StoreState
-in_command s = record s { part = Command }
+in_command s = record s { part = CommandPart }
 
 -- from the begin of a command to its end
-module _ (s begun k t : StoreState) (m : Mark) (store : begun ≡ in_command s) (mark : m ≡ mark_of s.command) (closed : Settles (closed_part begun) (closed_part k)) (ends : t ≡ record k { part = Command; command = cut k.command m }) where
+module _ (s begun k t : StoreState) (m : Mark) (store : begun ≡ in_command s) (mark : m ≡ mark_of s.command) (closed : Settles (closed_part begun) (closed_part k)) (ends : t ≡ record k { part = CommandPart; command = cut k.command m }) where
   settled : Settled (closed_part (in_command s)) (closed_part k)
   settled = closed (closed_part (in_command s)) (subst (λ (z : StoreState). Settled (closed_part (in_command s)) (closed_part z)) (sym store) (settled_same (closed_part (in_command s))))
 
   abbrev last : StoreState
-  last = record k { part = Command; command = cut k.command m }
+  last = record k { part = CommandPart; command = cut k.command m }
 
   settled_last : Settled (closed_part k) (closed_part last)
   settled_last = subst (λ (p : Part). Settled (closed_part k) (record (closed_part k) { part = p })) settled.part (settled_same (closed_part k))

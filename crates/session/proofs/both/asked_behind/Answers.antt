@@ -14,7 +14,7 @@ use Rattle.claims.specs.Side.{SideState}
 use Rattle.side_meaning.proofs.Starting.{no_words}
 use Rattle.session.specs.declared.sides.SideRecord.{SideRecord}
 use Rattle.session.specs.Counted.{CountsFault}
-use Rattle.session.specs.Wanting.{StaysOne, WithTable, WithNumbers, StandAgain}
+use Rattle.session.specs.Wanting.{StaysOne, StoresOne, WithTable, WithNumbers, StandAgain}
 use Rattle.session.proofs.Asking.{none_mapped}
 use Rattle.session.proofs.Counting.{fault_on}
 use Rattle.session.proofs.Wanting.{one_stays, stands_same, same_numbers, first_wanted, given_again}
@@ -186,7 +186,7 @@ returns-in-Err-said-clause-stores g c = λ b hs st there ready is u.
     let o1 = g.L.Link.world c.asked-said.new.talk.memory.below.below.below.link in
     let o2 = g.L.Link.world c.undone.new.talk.memory.below.below.below.link in
     let none = no_words st.state (debugged first hs.first) st.first ready.still ready.sides.first in
-    let one = λ unbroken. c.in-Err-said.ensures.stores b hs.first hs.second st.first there.first_there ready.ready.0 none is unbroken in
+    let one : IsUnbroken c.in-Err-said.fault → StoresOne b g.L.Link.conduct o1 first c.asked-said.new.side hs.first hs.second st.first = λ unbroken. c.in-Err-said.ensures.stores b hs.first hs.second st.first there.first_there ready.ready.0 none is unbroken in
     failure_or c.in-Err-said.fault
     (λ failed.
     let w = c.undone.ensures.failed failed in

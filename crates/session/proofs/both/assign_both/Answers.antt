@@ -56,8 +56,8 @@ returns-in-Err-more-clause-evaluated g c = λ b (hs : Hosts) there.
     let here = first_beside b g.L.Link.conduct o1 o2 one two hs.first h (Some h) e mine (c.assigned-more.ensures.which ∙ k) other in
     well_on f f2 f3 (Unit {0}) c.stored_alone.result (counts_same f1 f2 c.in-Err-more.fault n c.in-Err-more.ensures.count ∙ c.in-Ok-mine.ensures.count) (c.stored_alone.ensures.stores b hs.first (Some h) n here)))
 
-pub returns-in-Err-here-clause-count : goal.returns-in-Err-here-clause-count
-returns-in-Err-here-clause-count g c =
+pub returns-clause-count : goal.returns-clause-count
+returns-clause-count g c =
     let f = (g.L.Link.faults c.args.talk.now.memory.below.below.below.link) in
     let f2 = (g.L.Link.faults c.assigned-more.new.talk.memory.below.below.below.link) in
     let f3 = (g.L.Link.faults c.store-here.new.talk.memory.below.below.below.link) in
@@ -70,8 +70,8 @@ returns-in-Ok-here-clause-count g c =
     let f4 = (g.L.Link.faults c.store.new.talk.memory.below.below.below.link) in
     counts_on f f3 f4 c.stored_on_both.result (c.in-Ok-here.ensures.count ∙ (c.in-Ok-more.ensures.count ∙ c.in-Ok-mine.ensures.count)) (c.stored_on_both.ensures.count f3 f4 c.store.ensures.count)
 
-pub returns-in-Err-here-clause-evaluated : goal.returns-in-Err-here-clause-evaluated
-returns-in-Err-here-clause-evaluated g c = λ b (hs : Hosts) there.
+pub returns-clause-evaluated : goal.returns-clause-evaluated
+returns-clause-evaluated g c = λ b (hs : Hosts) there.
     let f = (g.L.Link.faults c.args.talk.now.memory.below.below.below.link) in
     let f2 = (g.L.Link.faults c.assigned-more.new.talk.memory.below.below.below.link) in
     let f3 = (g.L.Link.faults c.store-here.new.talk.memory.below.below.below.link) in
@@ -141,8 +141,8 @@ returns-in-Err-more-clause-stays g c = λ b (hs : Hosts) (st : SessionState) the
     (λ h beside a x r none. side_stays b g.L.Link.conduct o1 o2 c.args.second.now two h beside x a r none c.assigned-more.ensures.same c.assigned-more.ensures.table (undone_there (List ℕ) f1 f2 _ c.in-Err-more.fault undone (c.in-Err-more.ensures.evaluated b h beside x)))))
     (λ n. absurd (c.stored_alone.ensures.whole n u))
 
-pub returns-in-Err-here-clause-stays : goal.returns-in-Err-here-clause-stays
-returns-in-Err-here-clause-stays g c = λ b hs st there ready u. absurd (c.stored.ensures.whole c.in-Err-here.ensures.last u)
+pub returns-clause-stays : goal.returns-clause-stays
+returns-clause-stays g c = λ b hs st there ready u. absurd (c.stored.ensures.whole c.in-Err-here.ensures.last u)
 
 pub returns-in-Ok-here-clause-stays : goal.returns-in-Ok-here-clause-stays
 returns-in-Ok-here-clause-stays g c = λ b hs st there ready u. absurd (c.stored_on_both.ensures.whole c.store.ensures.last u)
