@@ -130,7 +130,6 @@ returns-in-Err-said-clause-stays g c = λ b h beside a there ready none runs e.
     asked_stays g.L.Link.conduct g.L.Link.world g.L.Link.faults (λ m o n. WireLeads g.L.Link.took g.L.Link.gave m.link m.side o n.link n.side) c.args.side.now c.args.talk.now c.turn.new.talk c.told-said.new.talk c.args.command.now c.args.side.now.frame c.told-said.new.side.row.breaks c.begin_command.new.inquiry c.told-said.new.side.inquiry c.turn.ensures c.in-Err-said.fault e
     c.in-Err-said.ensures.does b h beside a there ready none runs (ap (λ (s : StoreState). s.part) c.in-Ok.ensures.store) c.in-Err-said.ensures.kept c.end_command.new.inquiry table (record c.told-said.new.side { inquiry = c.end_command.new.inquiry }) (ap (λ (s : SideRecord). record s { inquiry = c.end_command.new.inquiry }) c.in-Err-said.ensures.same)
 
-
 pub returns-in-Err-clause-stays : goal.returns-in-Err-clause-stays
 returns-in-Err-clause-stays g c = λ b h beside a there ready none runs e.
     unasked_stays g.L.Link.conduct g.L.Link.world g.L.Link.faults c.args.side.now c.args.talk.now c.turn.new.talk c.begin_command.new.inquiry c.in-Err.ensures.kept b h beside a c.turn.ensures there ready.stands
@@ -138,13 +137,11 @@ returns-in-Err-clause-stays g c = λ b h beside a there ready none runs e.
 pub returns-in-Err-clause-table : goal.returns-in-Err-clause-table
 returns-in-Err-clause-table g c = λ runs. subst (λ (i : Inquiry). TableStays c.args.side.now.inquiry.core.store i.core.store) (sym c.in-Err.ensures.kept) (same_table c.args.side.now.inquiry.core.store)
 
-
 pub returns-in-Ps-clause-table : goal.returns-in-Ps-clause-table
 returns-in-Ps-clause-table g c = λ runs. absurd (subst IsAskedAlone c.in-Ps.is runs)
 
 pub returns-in-Ps-clause-stays : goal.returns-in-Ps-clause-stays
 returns-in-Ps-clause-stays g c = λ b h beside a there ready none runs e. absurd (subst IsAskedAlone c.in-Ps.is runs)
-
 
 pub returns-in-Ps-clause-looked : goal.returns-in-Ps-clause-looked
 returns-in-Ps-clause-looked g c = λ b h beside there look. absurd (subst IsLook c.in-Ps.is look)
