@@ -27,10 +27,10 @@ use Rattle.table_asks.specs.declared.fault.AskFault.TheVariants.{Refused, Raised
 use Rattle.table_asks.specs.declared.inquiry.Inquiry.{Inquiry}
 use Rattle.table_asks.specs.Asking.{left_of, SettlesWalk}
 use Rattle.table_asks.specs.Faults.{memory_fault}
-use Rattle.table_asks.specs.Running.{RanOver, RunsOver}
+use Rattle.table_asks.specs.Running.{RanOver, RunsOver, RunsSoFar}
 use Rattle.ps_step.specs.State.{with_execution}
 use Rattle.ps_step.specs.declared.item.Item.TheVariants.{Object}
-use Rattle.asking.proofs.Unstored.{runs_stay}
+use Rattle.asking.proofs.Unstored.{runs_stay, reaches_stay}
 use Rattle.evaluating.specs.Told.{reasoned, Keeps, Fails, StoresNone, StoresAll, Changed, StoresLeaves, none_stored, stores}
 
 module _ {W R : Type 0} (seen : W → Seen R) where
@@ -49,43 +49,25 @@ module _ {W R : Type 0} (seen : W → Seen R) where
   keeps_on a b c h k = record { faults = k.faults ∙ h.faults; keeps = λ rg r t. k.keeps rg r (h.keeps rg r t) }
 
   -- a part that fails, behind one that kept the memory
-  pub fails_on : (V V' : Type 0) (a b c : Operators W) → Keeps seen a b → (V → V') → (f : AskFault) → Fails seen V b f c → Fails seen V' a f c
-  fails_on V V' a b c h to (Refused cause) k = keeps_on a b c h k
-  fails_on V V' a b c h to (Raised e) k = keeps_on a b c h k
-  fails_on V V' a b c h to Spent k = keeps_on a b c h k
-  fails_on V V' a b c h to NoMemory k = to k
-  fails_on V V' a b c h to (Broken LinkFault) k = rose_then (target seen a).faults (target seen b).faults (target seen c).faults h.faults k
-  fails_on V V' a b c h to (Broken (BadReply frame)) k = record { faults = k.faults ∙ h.faults; never = λ rg r t. k.never rg r (h.keeps rg r t) }
-  fails_on V V' a b c h to (Broken (Outside p)) k = absurd k
-
-  -- of what only reads
-  abbrev pub ReadFails : Operators W → AskFault → Operators W → Type 0
-  ReadFails o f o' = Fails seen (Keeps seen o o') o f o'
-
-  -- of what runs PostScript
-  abbrev pub RunFails : Operators W → AskFault → Operators W → Type 0
-  RunFails o f o' = Fails seen (Unit {0}) o f o'
-
-  pub reads_fail : (a b c : Operators W) → Keeps seen a b → (f : AskFault) → ReadFails b f c → ReadFails a f c
-  reads_fail a b c h f k = fails_on (Keeps seen b c) (Keeps seen a c) a b c h (keeps_on a b c h) f k
-
-  pub runs_fail : (a b c : Operators W) → Keeps seen a b → (f : AskFault) → RunFails b f c → RunFails a f c
-  runs_fail a b c h f k = fails_on (Unit {0}) (Unit {0}) a b c h (λ u. u) f k
-
-  -- what only reads stores nothing
-  pub reads_none : (a b c : Operators W) → Keeps seen a b → (f : AskFault) → ReadFails b f c → RunFails a f c
-  reads_none a b c h f k = fails_on (Keeps seen b c) (Unit {0}) a b c h (λ u. tt) f k
+  pub fails_on : (a b c : Operators W) → Keeps seen a b → (f : AskFault) → Fails seen b f c → Fails seen a f c
+  fails_on a b c h (Refused cause) k = keeps_on a b c h k
+  fails_on a b c h (Raised e) k = keeps_on a b c h k
+  fails_on a b c h Spent k = keeps_on a b c h k
+  fails_on a b c h NoMemory k = keeps_on a b c h k
+  fails_on a b c h (Broken LinkFault) k = rose_then (target seen a).faults (target seen b).faults (target seen c).faults h.faults k
+  fails_on a b c h (Broken (BadReply frame)) k = record { faults = k.faults ∙ h.faults; never = λ rg r t. k.never rg r (h.keeps rg r t) }
+  fails_on a b c h (Broken (Outside p)) k = absurd k
 
   -- an error of the dialect, told as a refusal
-  reasoned_as : (a c : Operators W) (f : AskFault) → RunFails a f c → RunFails a (reasoned f) c
+  reasoned_as : (a c : Operators W) (f : AskFault) → Fails seen a f c → Fails seen a (reasoned f) c
   reasoned_as a c (Raised error.Overflow) k = k
   reasoned_as a c (Raised error.Division) k = k
   reasoned_as a c (Raised error.Shift) k = k
   reasoned_as a c (Raised error.Pointer) k = k
   reasoned_as a c other k = k
 
-  pub run_reasoned : (a c : Operators W) (f why : AskFault) → why ≡ reasoned f → RunFails a f c → RunFails a why c
-  run_reasoned a c f why is k = subst (λ (z : AskFault). RunFails a z c) (sym is) (reasoned_as a c f k)
+  pub reasoned_told : (a c : Operators W) (f why : AskFault) → why ≡ reasoned f → Fails seen a f c → Fails seen a why c
+  reasoned_told a c f why is k = subst (λ (z : AskFault). Fails seen a z c) (sym is) (reasoned_as a c f k)
 
   -- ---- the memory of the target alone
 
@@ -123,19 +105,19 @@ module _ {W R : Type 0} (seen : W → Seen R) where
   err_is f g e = cc
 
   -- or it wasn't
-  settles_unbroken : (o : Operators W) (w : W) (u : ℕ) (i i' : Inquiry) (f : AskFault) → Keeps seen o (with_memory o w) → SettlesWalk (walk.Unforced u) i (Err f) i' → ReadFails o f (with_memory o w)
+  settles_unbroken : (o : Operators W) (w : W) (u : ℕ) (i i' : Inquiry) (f : AskFault) → Keeps seen o (with_memory o w) → SettlesWalk (walk.Unforced u) i (Err f) i' → Fails seen o f (with_memory o w)
   settles_unbroken o w u i i' (Refused cause) h k = absurd k
   settles_unbroken o w u i i' (Raised e) h k = h
   settles_unbroken o w u i i' Spent h k = h
   settles_unbroken o w u i i' NoMemory h k = h
   settles_unbroken o w u i i' (Broken x) h k = absurd k
 
-  pub walk_fails : {A : Type 0} (m : Bytes → Walked A) (o : Operators W) (t : Seen R) (w : W) (fault : WalkFault) (f : AskFault) (i i' : Inquiry) → Same (target seen o) t → Walks m t (Err fault) (seen w) → SettlesWalk fault i (Err f) i' → ReadFails o f (with_memory o w)
-  walk_fails m o t w (walk.Memory (Outside p)) f i i' h k e = subst (λ (x : AskFault). ReadFails o x (with_memory o w)) (sym (err_is f _ e.0)) (same_keeps o w (same_on (target seen o) t (seen w) h k.0))
-  walk_fails m o t w (walk.Memory LinkFault) f i i' h k e = subst (λ (x : AskFault). ReadFails o x (with_memory o w)) (sym (err_is f _ e.0)) (rose_then (target seen o).faults t.faults (seen w).faults h.faults k)
+  pub walk_fails : {A : Type 0} (m : Bytes → Walked A) (o : Operators W) (t : Seen R) (w : W) (fault : WalkFault) (f : AskFault) (i i' : Inquiry) → Same (target seen o) t → Walks m t (Err fault) (seen w) → SettlesWalk fault i (Err f) i' → Fails seen o f (with_memory o w)
+  walk_fails m o t w (walk.Memory (Outside p)) f i i' h k e = subst (λ (x : AskFault). Fails seen o x (with_memory o w)) (sym (err_is f _ e.0)) (same_keeps o w (same_on (target seen o) t (seen w) h k.0))
+  walk_fails m o t w (walk.Memory LinkFault) f i i' h k e = subst (λ (x : AskFault). Fails seen o x (with_memory o w)) (sym (err_is f _ e.0)) (rose_then (target seen o).faults t.faults (seen w).faults h.faults k)
   walk_fails m o t w (walk.Memory (BadReply frame)) f i i' h k e =
-      subst (λ (x : AskFault). ReadFails o x (with_memory o w)) (sym (err_is f _ e.0)) (untold_never o w (record { faults = k.faults ∙ h.faults; never = λ b r x. k.never b r (h.keeps b r x) }))
-  walk_fails m o t w (walk.Shape missing) f i i' h k e = subst (λ (x : AskFault). ReadFails o x (with_memory o w)) (sym (err_is f _ e.0)) (same_keeps o w (same_on (target seen o) t (seen w) h k.0))
+      subst (λ (x : AskFault). Fails seen o x (with_memory o w)) (sym (err_is f _ e.0)) (untold_never o w (record { faults = k.faults ∙ h.faults; never = λ b r x. k.never b r (h.keeps b r x) }))
+  walk_fails m o t w (walk.Shape missing) f i i' h k e = subst (λ (x : AskFault). Fails seen o x (with_memory o w)) (sym (err_is f _ e.0)) (same_keeps o w (same_on (target seen o) t (seen w) h k.0))
   walk_fails m o t w (walk.Unforced u) f i i' h k e = settles_unbroken o w u i i' f (same_keeps o w (same_on (target seen o) t (seen w) h k.0)) e
 
   -- ---- the memory of a frame
@@ -164,7 +146,7 @@ module _ {W R : Type 0} (seen : W → Seen R) where
   pub fetch_keeps : (o o' : Operators W) (p : Place) (k : Kind) (v : ℕ) → Fetches (joined o) p k (Ok v) (joined o') → Keeps seen o o'
   fetch_keeps o o' p k v h = joined_keeps o o' h.0
 
-  pub fetch_fails : (o o' : Operators W) (p : Place) (k : Kind) (fault : MemFault) → Fetches (joined o) p k (Err fault) (joined o') → ReadFails o (memory_fault fault) o'
+  pub fetch_fails : (o o' : Operators W) (p : Place) (k : Kind) (fault : MemFault) → Fetches (joined o) p k (Err fault) (joined o') → Fails seen o (memory_fault fault) o'
   fetch_fails o o' p k (Outside q) h = joined_keeps o o' h.1
   fetch_fails o o' p k LinkFault h = h
   fetch_fails o o' p k (BadReply frame) h = record { faults = h.faults; never = λ rg r t. h.never (bytes o rg) (rest o r) (joined_told o rg r t) }
@@ -189,14 +171,25 @@ module _ {W R : Type 0} (seen : W → Seen R) where
           subst (λ (m : Regions). (target seen o').tells (memory_of (desk o') m) r) (ap (λ (z : Target). z.regions) is) y.1.tells;
     }
 
+    -- memory ran out
+    short_keeps : (target seen o').faults ≡ (target seen o).faults → RunsSoFar seen what i o o' → Keeps seen o o'
+    short_keeps e h = record {
+      faults = e;
+      keeps = λ rg r t.
+          let y = h rg r t in
+          let w = reaches_stay (left_of i) (dial_of (desk o) rg) (with_execution i.core (Object what ∷ [])) y.left' y.dial y.core y.reaches dark in
+          let is : target_of o'.view o'.memory.below.below.order y.regions' ≡ target_of o.view o.memory.below.below.order rg = target_is _ _ (y.target ∙ w.0) in
+          subst (λ (m : Regions). (target seen o').tells (memory_of (desk o') m) r) (ap (λ (z : Target). z.regions) is) y.tells;
+    }
+
     pub ran_keeps : RanOver seen leads {A = Unit {0}} o.memory.below.below.below (Ok tt) o'.memory.below.below.below → RunsOver seen what i o (Ok tt) i' o' → Keeps seen o o'
     ran_keeps ran runs = told_keeps (Ok tt) ran.0 runs
 
-    pub ran_fails : (f : AskFault) → RanOver seen leads {A = Unit {0}} o.memory.below.below.below (Err f) o'.memory.below.below.below → RunsOver seen what i o (Err f) i' o' → RunFails o f o'
+    pub ran_fails : (f : AskFault) → RanOver seen leads {A = Unit {0}} o.memory.below.below.below (Err f) o'.memory.below.below.below → RunsOver seen what i o (Err f) i' o' → Fails seen o f o'
     ran_fails (Refused cause) ran runs = absurd runs
     ran_fails (Raised e) ran runs = told_keeps _ ran.0 runs
     ran_fails Spent ran runs = told_keeps _ ran.0 runs
-    ran_fails NoMemory ran runs = tt
+    ran_fails NoMemory ran runs = short_keeps ran.0 runs
     ran_fails (Broken LinkFault) ran runs = ran
     ran_fails (Broken (BadReply frame)) ran runs = record { faults = ran.0; never = runs }
     ran_fails (Broken (Outside p)) ran runs = absurd ran
@@ -209,7 +202,7 @@ module _ {W R : Type 0} (seen : W → Seen R) where
   -- one part behind another
   pub runs_on : {A : Type 0} (a b c : Operators W) → Keeps seen a b → (r : Result A AskFault) → StoresNone seen b r c → StoresNone seen a r c
   runs_on a b c h (Ok x) k = keeps_on seen a b c h k
-  runs_on a b c h (Err f) k = runs_fail seen a b c h f k
+  runs_on a b c h (Err f) k = fails_on seen a b c h f k
 
   -- where what stands beside the memory was changed before it
   pub through : {A : Type 0} (a b b' c : Operators W) → b'.memory.below.below.below ≡ b.memory.below.below.below → b'.memory.below.below.order ≡ b.memory.below.below.order → Keeps seen a b → (r : Result A AskFault) → StoresNone seen b' r c → StoresNone seen a r c

@@ -6,8 +6,12 @@ use Rattle.ps_store.specs.declared.object.PsObj.{PsObj}
 use Rattle.ps_step.specs.declared.fault.PsError.{PsError}
 use Rattle.ps_step.specs.declared.fault.PsFault.{PsFault}
 use Rattle.ps_step.specs.declared.fault.PsFault.TheVariants as ps
+use Rattle.ps_step.specs.declared.item.Item.TheVariants.{Object}
 use Rattle.ps_step.specs.declared.machine.PsCore.{PsCore}
+use Rattle.ps_step.specs.State.{with_execution}
 use Rattle.ps_run.specs.Runs.{Operates as Dialect, Answer, Runs, RunsObject, Settles, fault_with, spent, ended, failed, next, asked, broken}
+use Rattle.ps_run.specs.Reaching.{RanShort}
+use Rattle.ps_run.proofs.Reaching.{short_keeps}
 use Rattle.abs_mem.specs.Meaning.{Seen}
 use Rattle.abs_mem.specs.declared.memory.MemFault.{MemFault}
 use Rattle.abs_mem.specs.declared.memory.MemFault.TheVariants.{Outside, LinkFault, BadReply}
@@ -23,9 +27,9 @@ use Rattle.table_asks.specs.declared.fault.AskFault.{AskFault}
 use Rattle.table_asks.specs.declared.fault.AskFault.TheVariants.{Refused, Raised, Spent, NoMemory, Broken}
 use Rattle.table_asks.specs.Faults.{fault_of_run}
 use Rattle.asking.proofs.Unstored.{operates}
-use Rattle.evaluating.specs.Told.{Keeps}
+use Rattle.evaluating.specs.Told.{Keeps, Fails}
 use Rattle.evaluating.specs.Stepping.{DoesApart}
-use Rattle.evaluating.proofs.Keeping.{keeps_here, keeps_on, target_is, RunFails}
+use Rattle.evaluating.proofs.Keeping.{keeps_here, keeps_on, target_is}
 
 module _ {W R : Type 0} (seen : W → Seen R) where
   -- the memory was kept, and may not be stored to still
@@ -37,7 +41,7 @@ module _ {W R : Type 0} (seen : W → Seen R) where
   Left o (Ok x) o' = Dark o o'
   Left o (Err (ps.Error e)) o' = Dark o o'
   Left o (Err ps.Spent) o' = Dark o o'
-  Left o (Err ps.NoMemory) o' = Unit {0}
+  Left o (Err ps.NoMemory) o' = Dark o o'
   Left o (Err ps.Link) o' = KeepsFault o'.fault (desk o) (target seen o) (target seen o')
 
   -- ---- one operator
@@ -60,7 +64,7 @@ module _ {W R : Type 0} (seen : W → Seen R) where
   one o o' c c' op (Ok x) dark d = told o o' c c' op d.left d.left' (Ok x) dark d.view d.operates.2.0 d.operates.2.1
   one o o' c c' op (Err (ps.Error e)) dark d = told o o' c c' op d.left d.left' (Err (ps.Error e)) dark d.view d.operates.2.0 d.operates.2.1
   one o o' c c' op (Err ps.Spent) dark d = told o o' c c' op d.left d.left' (Err ps.Spent) dark d.view d.operates.2.0 d.operates.2.1
-  one o o' c c' op (Err ps.NoMemory) dark d = tt
+  one o o' c c' op (Err ps.NoMemory) dark d = record { keeps = d.operates.2.0; raw = ap (λ (v : View). v.raw) d.view ∙ dark }
   one o o' c c' op (Err ps.Link) dark d = d.operates.2
 
   pub spent_apart : {L : Type 0} (o o' : Operators W) (c c' : PsCore) (op n m : ℕ) (f : PsFault) → f ≡ ps.Spent → (o'.view ≡ o.view) × OperatesOn (desk o) (target seen o) c op n (Err f) (desk o') (target seen o') c' m o'.fault × L → DoesApart seen o c op (Err ps.Spent) o' c'
@@ -78,24 +82,31 @@ module _ {W R : Type 0} (seen : W → Seen R) where
   raised_as o o' e (ps.Error x) c c' s h = h
   raised_as o o' e ps.Spent c c' s h = absurd s
   raised_as o o' e ps.Link c c' s h = absurd s
-  raised_as o o' e ps.NoMemory c c' s h = tt
+  raised_as o o' e ps.NoMemory c c' s h = h
 
   stopped : (o o' : Operators W) (given : Answer) (g : PsFault) (c c' : PsCore) → Settles given c (Err g) c' → Left o given o' → Left o (Err g) o'
   stopped o o' (Ok x) g c c' s h = absurd (let k = s.0 in cc)
   stopped o o' (Err (ps.Error e)) g c c' s h = raised_as o o' e g c c' s h
   stopped o o' (Err ps.Spent) g c c' s h = subst (λ (r : Answer). Left o r o') (sym s.0) h
-  stopped o o' (Err ps.NoMemory) g c c' s h = subst (λ (r : Answer). Left o r o') (sym s.0) tt
+  stopped o o' (Err ps.NoMemory) g c c' s h = subst (λ (r : Answer). Left o r o') (sym s.0) h
   stopped o o' (Err ps.Link) g c c' s h = subst (λ (r : Answer). Left o r o') (sym s.0) h
 
   with_steps : (o o' : Operators W) (k : ℕ) (g : PsFault) → Left o (Err g) o' → Left o (Err (fault_with k g)) o'
   with_steps o o' zero (ps.Error e) h = h
   with_steps o o' zero ps.Spent h = h
   with_steps o o' zero ps.Link h = h
-  with_steps o o' zero ps.NoMemory h = tt
+  with_steps o o' zero ps.NoMemory h = h
   with_steps o o' (suc k) (ps.Error e) h = h
   with_steps o o' (suc k) ps.Spent h = h
   with_steps o o' (suc k) ps.Link h = h
-  with_steps o o' (suc k) ps.NoMemory h = tt
+  with_steps o o' (suc k) ps.NoMemory h = h
+
+  left_dark : (o o' : Operators W) (r : Answer) → r ≢ Err ps.Link → Left o r o' → Dark o o'
+  left_dark o o' (Ok x) n h = h
+  left_dark o o' (Err (ps.Error e)) n h = h
+  left_dark o o' (Err ps.Spent) n h = h
+  left_dark o o' (Err ps.NoMemory) n h = h
+  left_dark o o' (Err ps.Link) n h = absurd (n refl)
 
   -- ---- one after another
 
@@ -112,46 +123,43 @@ module _ {W R : Type 0} (seen : W → Seen R) where
   left_on a b c (Ok x) h k = dark_on a b c h k
   left_on a b c (Err (ps.Error e)) h k = dark_on a b c h k
   left_on a b c (Err ps.Spent) h k = dark_on a b c h k
-  left_on a b c (Err ps.NoMemory) h k = tt
+  left_on a b c (Err ps.NoMemory) h k = dark_on a b c h k
   left_on a b c (Err ps.Link) h k = fault_on a b c c.fault h.keeps k
 
   -- by the fault that is kept
   abbrev pub LeftBy : Operators W → PsFault → Option MemFault → Operators W → Type 0
   LeftBy o (ps.Error e) x o' = Keeps seen o o'
   LeftBy o ps.Spent x o' = Keeps seen o o'
-  LeftBy o ps.NoMemory x o' = Unit {0}
+  LeftBy o ps.NoMemory x o' = Keeps seen o o'
   LeftBy o ps.Link x o' = KeepsFault x (desk o) (target seen o) (target seen o')
 
   left_since : (a b c : Operators W) (f : PsFault) → Keeps seen a b → Left b (Err f) c → LeftBy a f c.fault c
   left_since a b c (ps.Error e) h k = keeps_on seen a b c h k.keeps
   left_since a b c ps.Spent h k = keeps_on seen a b c h k.keeps
-  left_since a b c ps.NoMemory h k = tt
+  left_since a b c ps.NoMemory h k = keeps_on seen a b c h k.keeps
   left_since a b c ps.Link h k = fault_on a b c c.fault h k
 
   abbrev run_err : PsFault → Answer
   run_err f = Err f
 
-  fault_is : (f g : PsFault) → run_err f ≡ Err g → f ≡ g
-  fault_is f g e = cc
-
-  kept_fault : (a b : Operators W) (x : Option MemFault) → KeepsFault x (desk a) (target seen a) (target seen b) → RunFails seen a (fault_of_run ps.Link x) b
+  kept_fault : (a b : Operators W) (x : Option MemFault) → KeepsFault x (desk a) (target seen a) (target seen b) → Fails seen a (fault_of_run ps.Link x) b
   kept_fault a b (Some LinkFault) h = h
   kept_fault a b (Some (BadReply frame)) h = h
   kept_fault a b (Some (Outside p)) h = h
   kept_fault a b None h = absurd h
 
-  told_by : (old new : Operators W) (f : PsFault) (x : Option MemFault) → (f ≢ ps.NoMemory → LeftBy old f x new) → RunFails seen old (fault_of_run f x) new
-  told_by old new (ps.Error e) x h = h (λ k. cc)
-  told_by old new ps.Spent x h = h (λ k. cc)
-  told_by old new ps.NoMemory x h = tt
-  told_by old new ps.Link x h = kept_fault old new x (h (λ k. cc))
+  told_by : (old new : Operators W) (f : PsFault) (x : Option MemFault) → LeftBy old f x new → Fails seen old (fault_of_run f x) new
+  told_by old new (ps.Error e) x h = h
+  told_by old new ps.Spent x h = h
+  told_by old new ps.NoMemory x h = h
+  told_by old new ps.Link x h = kept_fault old new x h
 
   -- so a fault of the run is told
-  pub fault_told : (old new : Operators W) (f : PsFault) (x : Option MemFault) (why : AskFault) → why ≡ fault_of_run f x → (f ≢ ps.NoMemory → LeftBy old f x new) → RunFails seen old why new
-  fault_told old new f x why is h = subst (λ (z : AskFault). RunFails seen old z new) (sym is) (told_by old new f x h)
+  pub fault_told : (old new : Operators W) (f : PsFault) (x : Option MemFault) (why : AskFault) → why ≡ fault_of_run f x → LeftBy old f x new → Fails seen old why new
+  fault_told old new f x why is h = subst (λ (z : AskFault). Fails seen old z new) (sym is) (told_by old new f x h)
 
-  here : (o : Operators W) → o.view.raw ≡ false → Dark o o
-  here o dark = record { keeps = keeps_here seen o o refl refl; raw = dark }
+  at_rest : (o : Operators W) → o.view.raw ≡ false → Dark o o
+  at_rest o dark = record { keeps = keeps_here seen o o refl refl; raw = dark }
 
   -- ---- a run, under a dialect that shows what the operators do
 
@@ -162,9 +170,9 @@ module _ {W R : Type 0} (seen : W → Seen R) where
     Ran d r d' = (name d' ≡ name d) × Left (talk d) r (talk d')
 
     runs : (n : ℕ) (d : D) (c : PsCore) (r : Answer) (m : ℕ) (d' : D) (c' : PsCore) → Runs Op n d c r m d' c' → (talk d).view.raw ≡ false → Ran d r d'
-    runs _ _ _ _ _ _ _ (spent d c) dark = (refl, here (talk d) dark)
-    runs _ _ _ _ _ _ _ (ended n d c c' s) dark = (refl, here (talk d) dark)
-    runs _ _ _ _ _ _ _ (failed n d c c' e f s how) dark = (refl, subst (λ (x : PsFault). Left (talk d) (Err x) (talk d)) (sym how) (with_steps (talk d) (talk d) n (ps.Error e) (here (talk d) dark)))
+    runs _ _ _ _ _ _ _ (spent d c) dark = (refl, at_rest (talk d) dark)
+    runs _ _ _ _ _ _ _ (ended n d c c' s) dark = (refl, at_rest (talk d) dark)
+    runs _ _ _ _ _ _ _ (failed n d c c' e f s how) dark = (refl, subst (λ (x : PsFault). Left (talk d) (Err x) (talk d)) (sym how) (with_steps (talk d) (talk d) n (ps.Error e) (at_rest (talk d) dark)))
     runs _ _ _ _ _ _ _ (next n m d d' c c₁ c' r s run) dark = runs n d c₁ r m d' c' run dark
     runs _ _ _ _ _ _ _ (asked n k m d d₁ d' c c₁ c₂ c' op r s a run) dark =
         let y = shows d c₁ op n a.given d₁ a.core k a.operates in
@@ -175,22 +183,36 @@ module _ {W R : Type 0} (seen : W → Seen R) where
         let y = shows d c₁ op n a.given d₁ a.core k a.operates in
         (y.0, subst (λ (x : PsFault). Left (talk d) (Err x) (talk d₁)) (sym how) (with_steps (talk d) (talk d₁) k g (stopped (talk d) (talk d₁) a.given g a.core c₂ a.settles (one (talk d) (talk d₁) c₁ a.core op a.given dark y.1))))
 
-    object_runs : (n : ℕ) (what : PsObj) (d : D) (c : PsCore) (r : Answer) (m : ℕ) (d' : D) (c' : PsCore) → r ≢ Err ps.NoMemory → RunsObject Op n what d c r m d' c' → (talk d).view.raw ≡ false → Ran d r d'
-    object_runs n what d c r m d' c' other h dark = let run = h other in runs n d _ r m d' _ run.1 dark
+    -- memory ran out
+    abbrev Darkens : D → D → Type 0
+    Darkens d d' = (talk d).view.raw ≡ false → (name d' ≡ name d) × Dark (talk d) (talk d')
 
-    pub run_keeps : (n : ℕ) (what : PsObj) (d : D) (c : PsCore) (r : Answer) (m : ℕ) (d' : D) (c' : PsCore) → r ≡ Ok tt → RunsObject Op n what d c r m d' c' → (talk d).view.raw ≡ false → (name d' ≡ name d) × Keeps seen (talk d) (talk d')
-    run_keeps n what d c r m d' c' e h dark =
-        let w : Ran d (Ok tt) d' = subst (λ (x : Answer). Ran d x d') e (object_runs n what d c r m d' c' (λ k. let i = sym e ∙ k in cc) h dark) in
-        (w.0, w.1.keeps)
+    ran_short : (n : ℕ) (d d' : D) (c : PsCore) → RanShort Op n d c d' → Darkens d d'
+    ran_short n d d' c short =
+        short_keeps Op Darkens (λ d dark. (refl, at_rest (talk d) dark)) (λ d d₁ d₂ h k dark. let x = h dark in let y = k x.1.raw in (y.0 ∙ x.0, dark_on (talk d) (talk d₁) (talk d₂) x.1 y.1))
+        (λ d c op n r d' c' k whole h dark. let y = shows d c op n r d' c' k h in (y.0, left_dark (talk d) (talk d') r whole (one (talk d) (talk d') c c' op r dark y.1))) n d c d' short
+
+    -- however an object's run ended
+    object_runs : (n : ℕ) (what : PsObj) (d : D) (c : PsCore) (r : Answer) (m : ℕ) (d' : D) (c' : PsCore) → RunsObject Op n what d c r m d' c' → (r ≡ Err ps.NoMemory → RanShort Op n d (with_execution c (Object what ∷ [])) d') → (talk d).view.raw ≡ false → Ran d r d'
+    object_runs n what d c (Ok tt) m d' c' h short dark = let run = h (λ e. cc) in runs n d _ (Ok tt) m d' _ run.1 dark
+    object_runs n what d c (Err (ps.Error e)) m d' c' h short dark = let run = h (λ e. cc) in runs n d _ (Err (ps.Error e)) m d' _ run.1 dark
+    object_runs n what d c (Err ps.Spent) m d' c' h short dark = let run = h (λ e. cc) in runs n d _ (Err ps.Spent) m d' _ run.1 dark
+    object_runs n what d c (Err ps.Link) m d' c' h short dark = let run = h (λ e. cc) in runs n d _ (Err ps.Link) m d' _ run.1 dark
+    object_runs n what d c (Err ps.NoMemory) m d' c' h short dark = ran_short n d d' _ (short refl) dark
 
     -- since a time before, when the memory was the same
-    pub run_kept : (old : Operators W) (n : ℕ) (what : PsObj) (d : D) (c : PsCore) (r : Answer) (m : ℕ) (d' : D) (c' : PsCore) → r ≡ Ok tt → RunsObject Op n what d c r m d' c' → (talk d).view.raw ≡ false → (talk d).memory ≡ old.memory → (name d' ≡ name d) × Keeps seen old (talk d')
-    run_kept old n what d c r m d' c' e h dark same =
-        let w = run_keeps n what d c r m d' c' e h dark in
-        (w.0, keeps_on seen old (talk d) (talk d') (keeps_here seen old (talk d) (ap (λ x. x.below.below.below) same) (ap (λ x. x.below.below.order) same)) w.1)
+    module _ (old : Operators W) (d : D) (same : (talk d).memory ≡ old.memory) where
+      begun : Keeps seen old (talk d)
+      begun = keeps_here seen old (talk d) (ap (λ x. x.below.below.below) same) (ap (λ x. x.below.below.order) same)
 
-    pub run_failed : (old : Operators W) (n : ℕ) (what : PsObj) (d : D) (c : PsCore) (f : PsFault) (m : ℕ) (d' : D) (c' : PsCore) → RunsObject Op n what d c (Err f) m d' c' → f ≢ ps.NoMemory → (talk d).view.raw ≡ false → (talk d).memory ≡ old.memory
-        → (name d' ≡ name d) × LeftBy old f (talk d').fault (talk d')
-    run_failed old n what d c f m d' c' h other dark same =
-        let w = object_runs n what d c (Err f) m d' c' (λ k. other (fault_is f ps.NoMemory k)) h dark in
-        (w.0, left_since old (talk d) (talk d') f (keeps_here seen old (talk d) (ap (λ x. x.below.below.below) same) (ap (λ x. x.below.below.order) same)) w.1)
+      pub run_kept : (n : ℕ) (what : PsObj) (c : PsCore) (r : Answer) (m : ℕ) (d' : D) (c' : PsCore) → r ≡ Ok tt → RunsObject Op n what d c r m d' c' → (r ≡ Err ps.NoMemory → RanShort Op n d (with_execution c (Object what ∷ [])) d') → (talk d).view.raw ≡ false
+          → (name d' ≡ name d) × Keeps seen old (talk d')
+      run_kept n what c r m d' c' e h short dark =
+          let w : Ran d (Ok tt) d' = subst (λ (x : Answer). Ran d x d') e (object_runs n what d c r m d' c' h short dark) in
+          (w.0, keeps_on seen old (talk d) (talk d') begun w.1.keeps)
+
+      pub run_failed : (n : ℕ) (what : PsObj) (c : PsCore) (f : PsFault) (m : ℕ) (d' : D) (c' : PsCore) → RunsObject Op n what d c (Err f) m d' c' → (run_err f ≡ Err ps.NoMemory → RanShort Op n d (with_execution c (Object what ∷ [])) d') → (talk d).view.raw ≡ false
+          → (name d' ≡ name d) × LeftBy old f (talk d').fault (talk d')
+      run_failed n what c f m d' c' h short dark =
+          let w = object_runs n what d c (Err f) m d' c' h short dark in
+          (w.0, left_since old (talk d) (talk d') f begun w.1)

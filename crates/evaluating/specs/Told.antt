@@ -43,26 +43,19 @@ module _ {W R : Type 0} (seen : W → Seen R) where
         → (r' : Regions) × StoresLeaves o.memory.below.below.order r o'.memory.below.below.order r' × (target seen o').tells (memory_of (desk o') r') rest
 
   -- Why a part has no result. A link that failed has counted it. A bad reply, which is no fault, came only where no bytes were told.
-  abbrev pub Fails : (Wants : Type 0) → Operators W → AskFault → Operators W → Type 0
-  Fails Wants o (Refused cause) o' = Keeps o o'
-  Fails Wants o (Raised e) o' = Keeps o o'
-  Fails Wants o Spent o' = Keeps o o'
-  Fails Wants o NoMemory o' = Wants
-  Fails Wants o (Broken LinkFault) o' = Rose (target seen o).faults (target seen o').faults
-  Fails Wants o (Broken (BadReply frame)) o' = NeverTold (desk o) (target seen o) (target seen o')
-  Fails Wants o (Broken (Outside p)) o' = ⊥
+  abbrev pub Fails : Operators W → AskFault → Operators W → Type 0
+  Fails o (Refused cause) o' = Keeps o o'
+  Fails o (Raised e) o' = Keeps o o'
+  Fails o Spent o' = Keeps o o'
+  Fails o NoMemory o' = Keeps o o'
+  Fails o (Broken LinkFault) o' = Rose (target seen o).faults (target seen o').faults
+  Fails o (Broken (BadReply frame)) o' = NeverTold (desk o) (target seen o) (target seen o')
+  Fails o (Broken (Outside p)) o' = ⊥
 
-  abbrev pub Comes : {A : Type 0} → (Wants : Type 0) → Operators W → Result A AskFault → Operators W → Type 0
-  Comes Wants o (Ok x) o' = Keeps o o'
-  Comes Wants o (Err f) o' = Fails Wants o f o'
-
-  -- The memory is read alone, and stays as it is.
-  abbrev pub OnlyReads : {A : Type 0} → Operators W → Result A AskFault → Operators W → Type 0
-  OnlyReads o r o' = Comes (Keeps o o') o r o'
-
-  -- The same of a part that runs PostScript, whose operators may not store to the target: where memory ran out nothing is said.
+  -- Nothing is stored to the target, also by PostScript that is run, whose operators may not, and also where memory ran out.
   abbrev pub StoresNone : {A : Type 0} → Operators W → Result A AskFault → Operators W → Type 0
-  StoresNone o r o' = Comes (Unit {0}) o r o'
+  StoresNone o (Ok x) o' = Keeps o o'
+  StoresNone o (Err f) o' = Fails o f o'
 
   -- Numbers are stored in leaves, up to one that is outside.
   abbrev pub StoresAll : Operators W → Result (Unit {0}) AskFault → Operators W → Type 0

@@ -4,7 +4,7 @@ ghost use Rattle.std.specs.Prelude.{◌≡◌, ◌≤◌, IfErr};
 ghost use Rattle.ps_store.specs.Store.{closed_part};
 ghost use Rattle.table_asks.specs.Closing.{Settles};
 ghost use Rattle.table_asks.specs.Faults.{IsUnbroken};
-ghost use Rattle.evaluating.specs.Told.{OnlyReads, StoresNone, reasoned};
+ghost use Rattle.evaluating.specs.Told.{StoresNone, reasoned};
 
 use crate::depths::is_struct;
 use crate::leaves::{fetch_leaves, further, leaves_of};
@@ -114,7 +114,7 @@ pub fn coding<W: AbsMem + Drop>(
     ensures within { inquiry.new.steps.taken ≤ inquiry.new.steps.limit }
     ensures limit { inquiry.new.steps.limit ≡ inquiry.old.steps.limit }
     ensures closed { Settles (closed_part inquiry.old.core.store) (closed_part inquiry.new.core.store) }
-    ensures told { OnlyReads W.seen talk.old result talk.new }
+    ensures told { StoresNone W.seen talk.old result talk.new }
 {
     let alloc = inquiry.core.operands.allocator();
     match read_text(inquiry, talk, frame, text, Mode::Value) {
@@ -186,7 +186,7 @@ fn right_side<W: AbsMem + Drop>(
     read: &ReadText,
     leaves: &[Leaf],
 ) -> Result<Vec<u32>, AskFault>
-    ensures told { OnlyReads W.seen talk.old result talk.new }
+    ensures told { StoresNone W.seen talk.old result talk.new }
 {
     if is_struct(&read.ctype) {
         return match place_left(&inquiry.core, 0) {
@@ -214,7 +214,7 @@ fn fetch_changes<W: AbsMem + Drop>(
     ensures within { inquiry.new.steps.taken ≤ inquiry.new.steps.limit }
     ensures limit { inquiry.new.steps.limit ≡ inquiry.old.steps.limit }
     ensures closed { Settles (closed_part inquiry.old.core.store) (closed_part inquiry.new.core.store) }
-    ensures told { OnlyReads W.seen talk.old result talk.new }
+    ensures told { StoresNone W.seen talk.old result talk.new }
 {
     let place = match target_left(inquiry, read) {
         Err(fault) => return Err(fault),

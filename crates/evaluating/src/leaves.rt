@@ -1,6 +1,6 @@
 // The leaves of types, and what stands there.
 
-ghost use Rattle.evaluating.specs.Told.{OnlyReads};
+ghost use Rattle.evaluating.specs.Told.{StoresNone};
 
 use abs_mem::AbsMem;
 use c_tree::{CType, Leaf, StructDef, members, size_of};
@@ -126,7 +126,7 @@ pub fn fetch_leaves<W: AbsMem + Drop>(
     place: Place,
     leaves: &[Leaf],
 ) -> Result<Vec<u32>, AskFault>
-    ensures told { OnlyReads W.seen talk.old result talk.new }
+    ensures told { StoresNone W.seen talk.old result talk.new }
 {
     talk.memory.set_frame(Some(frame));
     let mut values = Vec::new(alloc);

@@ -4,7 +4,7 @@ ghost use Rattle.std.specs.Prelude.{◌≡◌, ◌≤◌, IfErr};
 ghost use Rattle.ps_store.specs.Store.{closed_part};
 ghost use Rattle.table_asks.specs.Closing.{Settles};
 ghost use Rattle.table_asks.specs.Faults.{IsUnbroken};
-ghost use Rattle.evaluating.specs.Told.{OnlyReads};
+ghost use Rattle.evaluating.specs.Told.{StoresNone};
 
 use crate::known::{Known, Want, wanted};
 use abs_mem::AbsMem;
@@ -165,7 +165,7 @@ pub fn read_text<W: AbsMem + Drop>(
     ensures within { inquiry.new.steps.taken ≤ inquiry.new.steps.limit }
     ensures limit { inquiry.new.steps.limit ≡ inquiry.old.steps.limit }
     ensures closed { Settles (closed_part inquiry.old.core.store) (closed_part inquiry.new.core.store) }
-    ensures told { OnlyReads W.seen talk.old result talk.new }
+    ensures told { StoresNone W.seen talk.old result talk.new }
 {
     let alloc = inquiry.core.operands.allocator();
     let frame = match frame_found(inquiry, talk, number) {

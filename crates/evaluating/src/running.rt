@@ -3,7 +3,7 @@
 ghost use Rattle.std.specs.Prelude.{◌≡◌, ◌≤◌};
 ghost use Rattle.ps_store.specs.Store.{closed_part};
 ghost use Rattle.table_asks.specs.Closing.{Settles};
-ghost use Rattle.evaluating.specs.Told.{OnlyReads, StoresNone};
+ghost use Rattle.evaluating.specs.Told.{StoresNone};
 
 use crate::known::{Want, wanted};
 use crate::reading::ReadText;
@@ -80,7 +80,7 @@ fn object_at<W: AbsMem + Drop>(
     ensures within { inquiry.new.steps.taken ≤ inquiry.new.steps.limit }
     ensures limit { inquiry.new.steps.limit ≡ inquiry.old.steps.limit }
     ensures closed { Settles (closed_part inquiry.old.core.store) (closed_part inquiry.new.core.store) }
-    ensures told { OnlyReads W.seen talk.old result talk.new }
+    ensures told { StoresNone W.seen talk.old result talk.new }
 {
     let mut locator = Locator {
         target: talk.view.target,
@@ -108,7 +108,7 @@ pub fn check_writable<W: AbsMem + Drop>(
     ensures within { inquiry.new.steps.taken ≤ inquiry.new.steps.limit }
     ensures limit { inquiry.new.steps.limit ≡ inquiry.old.steps.limit }
     ensures closed { Settles (closed_part inquiry.old.core.store) (closed_part inquiry.new.core.store) }
-    ensures told { OnlyReads W.seen talk.old result talk.new }
+    ensures told { StoresNone W.seen talk.old result talk.new }
 {
     if place.space != Space::Memory || place.at == 0 {
         return Ok(());

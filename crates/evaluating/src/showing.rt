@@ -4,7 +4,7 @@ ghost use Rattle.std.specs.Prelude.{◌≡◌, ◌≤◌, IfErr};
 ghost use Rattle.ps_store.specs.Store.{closed_part};
 ghost use Rattle.table_asks.specs.Closing.{Settles};
 ghost use Rattle.table_asks.specs.Faults.{IsUnbroken};
-ghost use Rattle.evaluating.specs.Told.{OnlyReads, StoresNone};
+ghost use Rattle.evaluating.specs.Told.{StoresNone};
 
 use crate::apart::Apart;
 use crate::depths::is_struct;
@@ -34,7 +34,7 @@ fn shown_place<W: AbsMem + Drop>(
     talk: &mut Operators<W>,
     read: &ReadText,
 ) -> Result<Place, AskFault>
-    ensures told { OnlyReads W.seen talk.old result talk.new }
+    ensures told { StoresNone W.seen talk.old result talk.new }
 {
     if !is_struct(&read.ctype) {
         return match number_left(&inquiry.core, 0) {

@@ -7,3 +7,11 @@ mod Values
 mod Places
 mod Reading
 mod Texts
+mod Taking
+mod Evaluating
+mod Objects
+mod Pointing
+mod Comparing
+mod Pointers
+mod Evaluated
+mod Examples

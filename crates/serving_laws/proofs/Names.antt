@@ -137,3 +137,19 @@ where_is = refl
 pub fetch_is : operator_number (codes "fetch") ≡ Some 67
 unfolding operator_number
 fetch_is = refl
+
+pub ptradd_is : operator_number (codes "ptradd") ≡ Some 84
+unfolding operator_number
+ptradd_is = refl
+
+pub ptrsub_is : operator_number (codes "ptrsub") ≡ Some 85
+unfolding operator_number
+ptrsub_is = refl
+
+pub ptrcmp_is : operator_number (codes "ptrcmp") ≡ Some 86
+unfolding operator_number
+ptrcmp_is = refl
+
+pub leaf_is : operator_number (codes "Leaf") ≡ Some 87
+unfolding operator_number
+leaf_is = refl

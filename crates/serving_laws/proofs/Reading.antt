@@ -103,7 +103,7 @@ int_fetched = record { kind = WordKind; name = codes "w"; named = refl; kind_is 
 unsigned_fetched : IsFetched ctype.Unsigned
 unsigned_fetched = record { kind = WordKind; name = codes "w"; named = refl; kind_is = refl; piece = refl; plain = refl; same = λ v. refl }
 
-scalars_fetched : (t : CType) → IsScalar t → IsFetched t
+pub scalars_fetched : (t : CType) → IsScalar t → IsFetched t
 scalars_fetched ctype.Char w = char_fetched
 scalars_fetched ctype.Int w = int_fetched
 scalars_fetched ctype.Unsigned w = unsigned_fetched
@@ -114,7 +114,7 @@ scalars_fetched (ctype.Struct n) w = absurd w
 
 -- ---- places that are held
 
-data IsHeld : Place → Type 0 where
+pub data IsHeld : Place → Type 0 where
   in_memory : (n : ℕ) → n < 2 ^ 32 → IsHeld (place Memory n)
   in_registers : (n : ℕ) → n < 2 ^ 32 → IsHeld (place Registers n)
 
@@ -129,11 +129,11 @@ further_held : (p : Place) (n : ℕ) → IsHeld p → IsHeld (record { space = p
 further_held _ n (in_memory m h) = in_memory ((m + n) % 2 ^ 32) (omega arith)
 further_held _ n (in_registers m h) = in_registers ((m + n) % 2 ^ 32) (omega arith)
 
-small : (p : Place) → IsHeld p → p.at < 2 ^ 32
+pub small : (p : Place) → IsHeld p → p.at < 2 ^ 32
 small _ (in_memory m h) = h
 small _ (in_registers m h) = h
 
-all_held : (sc : Scene) (s : StoreState) (names : List Symbol) (e : Typed) (t : CType) (p : Place) → Stands sc s names e t p → IsHeld p
+pub all_held : (sc : Scene) (s : StoreState) (names : List Symbol) (e : Typed) (t : CType) (p : Place) → Stands sc s names e t p → IsHeld p
 all_held sc s names _ _ _ (by_name h n p x) = held sc s x.code p x.leads
 all_held sc s names _ _ _ (in_struct h b a t k m row p st is get low) = further_held p row.at (all_held sc s names a t p st)
 all_held sc s names _ _ _ (in_parens h b a t p st) = all_held sc s names a t p st
@@ -144,7 +144,7 @@ place_is s c _ spaces e (in_registers n h) = rw (e, spaces.registers, back n h) 
 
 -- ---- pieces of lvalues
 
-stands_named : (sc : Scene) (s : StoreState) (names : List Symbol) (e : Typed) (t : CType) (p : Place) → Stands sc s names e t p → standing_of e ≡ standing.Named
+pub stands_named : (sc : Scene) (s : StoreState) (names : List Symbol) (e : Typed) (t : CType) (p : Place) → Stands sc s names e t p → standing_of e ≡ standing.Named
 stands_named sc s names _ _ _ (by_name h n p x) = refl
 stands_named sc s names _ _ _ (in_struct h b a t k m row p st is get low) = stands_named sc s names a t p st
 stands_named sc s names _ _ _ (in_parens h b a t p st) = stands_named sc s names a t p st
@@ -165,7 +165,7 @@ member_code names sc s a t k m row p st is get rest =
     further_is : place_further (standing_of a) (offset_of sc.defs (type_of a) m) ≡ Num (signed row.at) (Word (codes "uadd") Stop)
     further_is = ap (λ (z : Standing). place_further z (offset_of sc.defs (type_of a) m)) (stands_named sc s names a t p st) ∙ ap (λ (n : ℕ). place_further standing.Named n) offset_is
 
-value_code_is : (names : List Symbol) (sc : Scene) (s : StoreState) (e : Typed) (t : CType) (p : Place) → Stands sc s names e t p → value_code names sc.defs e ≡ (place_code names sc.defs e ⋯ value_at standing.Named t)
+pub value_code_is : (names : List Symbol) (sc : Scene) (s : StoreState) (e : Typed) (t : CType) (p : Place) → Stands sc s names e t p → value_code names sc.defs e ≡ (place_code names sc.defs e ⋯ value_at standing.Named t)
 value_code_is names sc s _ _ _ (by_name h n p x) = refl
 value_code_is names sc s _ _ _ (in_struct h b a t k m row p st is get low) =
     ap (λ (z : Standing). (place_code names sc.defs a ⋯ place_further (standing_of a) (offset_of sc.defs (type_of a) m)) ⋯ value_at z h.ctype) (stands_named sc s names a t p st)
@@ -227,7 +227,7 @@ module _ (sc : Scene) (s : StoreState) (ds : List DictId) (cell : ℕ) (out : Li
     few_after : (after : List Item) (rest : Code) → Frames s under after (entered rest []) → length after < 1000
     few_after after rest f = let e = frames_length s under after (entered rest []) f in let k = entered_few rest in omega (arith, e, k, room)
 
-    name_reaches : (name : List ℕ) (rest : Code) (o : List PsObj) (items : List Item) → length o < 100000 → Frames s under items (Lit name rest ∷ [])
+    pub name_reaches : (name : List ℕ) (rest : Code) (o : List PsObj) (items : List Item) → length o < 100000 → Frames s under items (Lit name rest ∷ [])
         → ((u : StringId) → bytes_of s u ≡ name → Behind rest (Name u false ∷ o)) → Reached o items
     name_reaches name rest o items few f go =
         let l : MeetsName sc s ds cell out raw are under items name rest = meets_name sc s ds cell out raw are under items name rest f in
@@ -246,7 +246,7 @@ module _ (sc : Scene) (s : StoreState) (ds : List DictId) (cell : ℕ) (out : Li
         (followed way.steps o (placed p o) (Object (Array x.body true) ∷ m.after) m.after way.path (go m.after m.frames)))
 
     -- what stands there
-    fetch_reaches : HasSpaces s → (k : Kind) (name : List ℕ) → kind_named name ≡ Ok k → (p : Place) → IsHeld p → (rest : Code) (o : List PsObj) (items : List Item) → length o + 5 ≤ 100000
+    pub fetch_reaches : HasSpaces s → (k : Kind) (name : List ℕ) → kind_named name ≡ Ok k → (p : Place) → IsHeld p → (rest : Code) (o : List PsObj) (items : List Item) → length o + 5 ≤ 100000
         → Frames s under items (Lit name (Word (codes "fetch") rest) ∷ [])
         → ((v : ℕ) → fetched_at (bytes_with sc cell) p k ≡ Some v → Behind rest (held_of k v ∷ o))
         → (fetched_at (bytes_with sc cell) p k ≡ None → Fails s ds are d Good spent RangeCheck) → Reached (placed p o) items
@@ -264,7 +264,7 @@ module _ (sc : Scene) (s : StoreState) (ds : List DictId) (cell : ℕ) (out : Li
         by_error None e x h = subst (Fails s ds are d Good spent) (failed_same RangeCheck x h) (bad e)
 
     -- the place of an lvalue
-    lvalue_reaches : (names : List Symbol) (e : Typed) (t : CType) (p : Place) → Stands sc s names e t p → (rest : Code) (o : List PsObj) (items : List Item) → length o + 5 ≤ 100000
+    pub lvalue_reaches : (names : List Symbol) (e : Typed) (t : CType) (p : Place) → Stands sc s names e t p → (rest : Code) (o : List PsObj) (items : List Item) → length o + 5 ≤ 100000
         → Frames s under items (entered (place_code names sc.defs e ⋯ rest) []) → Behind rest (placed p o) → Reached o items
     lvalue_reaches names _ _ _ (by_name h n p x) rest o items few f go =
         place_reaches names n p x rest o items few (subst (λ (k : Code). Frames s under items (entered (k ⋯ rest) [])) (name_code names sc s n p x) f) go
@@ -278,7 +278,7 @@ module _ (sc : Scene) (s : StoreState) (ds : List DictId) (cell : ℕ) (out : Li
         (λ u e. absurd (never p.at row.at u e))))
 
     -- its address
-    address_reaches : (p : Place) (rest : Code) (o : List PsObj) (items : List Item) → Frames s under items (Word (codes "exch") (Word (codes "pop") rest) ∷ []) → Behind rest (integer p.at ∷ o) → Reached (placed p o) items
+    pub address_reaches : (p : Place) (rest : Code) (o : List PsObj) (items : List Item) → Frames s under items (Word (codes "exch") (Word (codes "pop") rest) ∷ []) → Behind rest (integer p.at ∷ o) → Reached (placed p o) items
     address_reaches p rest o items f go =
         manual_reaches s ds are d Good spent under (codes "exch") 0 (Word (codes "pop") rest) (placed p o) (space_name p.space ∷ integer p.at ∷ o) items exch_is (λ after. refl) f
         (λ after g. manual_reaches s ds are d Good spent under (codes "pop") 2 rest (space_name p.space ∷ integer p.at ∷ o) (integer p.at ∷ o) after pop_is (λ after. refl) g go)
@@ -373,16 +373,16 @@ module _ (sc : Scene) (s : StoreState) (cell : ℕ) (own : DictId) (names : List
       rw (f.plain, f.kind_is)
       (Err (Raised RangeCheck), by_left k, (Ok tt, by_left k, (refl, refl), subst (λ (b : Option ℕ). or_range b (by_left k) (Err (Raised RangeCheck)) (by_left k)) (sym e) (refl, refl)), (refl, refl))
 
-  scalar_means : (e : Typed) (t : CType) (p : Place) → Stands sc s names e t p → (f : IsFetched t) (v : ℕ) → fetched_at (bytes_with sc cell) p f.kind ≡ Some v → ComesTo sc e (use_in s cell own) (Ok (converted t v))
+  pub scalar_means : (e : Typed) (t : CType) (p : Place) → Stands sc s names e t p → (f : IsFetched t) (v : ℕ) → fetched_at (bytes_with sc cell) p f.kind ≡ Some v → ComesTo sc e (use_in s cell own) (Ok (converted t v))
   scalar_means e t p st f v held_there = record { taken = steps_of e t p st; comes = λ k. value_means e t p st (Ok (converted t v)) k (loaded t f p v held_there (suc k)) }
 
-  unheld_means : (e : Typed) (t : CType) (p : Place) → Stands sc s names e t p → (f : IsFetched t) → fetched_at (bytes_with sc cell) p f.kind ≡ None → ComesTo sc e (use_in s cell own) (Err (Raised RangeCheck))
+  pub unheld_means : (e : Typed) (t : CType) (p : Place) → Stands sc s names e t p → (f : IsFetched t) → fetched_at (bytes_with sc cell) p f.kind ≡ None → ComesTo sc e (use_in s cell own) (Err (Raised RangeCheck))
   unheld_means e t p st f none_there = record { taken = steps_of e t p st; comes = λ k. value_means e t p st (Err (Raised RangeCheck)) k (unheld t f p none_there (suc k)) }
 
-  array_means : (e : Typed) (t : CType) (p : Place) → Stands sc s names e t p → is_array t ≡ true → ComesTo sc e (use_in s cell own) (Ok p.at)
+  pub array_means : (e : Typed) (t : CType) (p : Place) → Stands sc s names e t p → is_array t ≡ true → ComesTo sc e (use_in s cell own) (Ok p.at)
   array_means e t p st is = record { taken = steps_of e t p st; comes = λ k. value_means e t p st (Ok p.at) k (rw is (refl, refl)) }
 
-  address_means : (h : Head) (b : _) (e : Typed) (t : CType) (p : Place) → Stands sc s names e t p → ComesTo sc (Address' h b e) (use_in s cell own) (Ok p.at)
+  pub address_means : (h : Head) (b : _) (e : Typed) (t : CType) (p : Place) → Stands sc s names e t p → ComesTo sc (Address' h b e) (use_in s cell own) (Ok p.at)
   address_means h b e t p st = record { taken = steps_of e t p st; comes = λ k. (Ok (Named p cell), by_left (suc k), place_means e t p st k, (refl, refl)) }
 
 -- ---- whole runs

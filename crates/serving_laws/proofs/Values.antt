@@ -151,7 +151,7 @@ led_stands defs (Constant _ _) p = absurd p
 led_stands defs (Literal _ _) p = absurd p
 
 -- what a conversion makes of a word is one
-converted_small : (t : CType) (v : ℕ) → v < 2 ^ 32 → converted t v < 2 ^ 32
+pub converted_small : (t : CType) (v : ℕ) → v < 2 ^ 32 → converted t v < 2 ^ 32
 converted_small ctype.Char v h = byte_small v
 converted_small ctype.Int v h = h
 converted_small ctype.Unsigned v h = h

@@ -1,3 +1,4 @@
 pub mod Plain
 pub mod Left
 pub mod Named
+pub mod Evaluated

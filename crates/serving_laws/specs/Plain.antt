@@ -5,7 +5,7 @@ use Rattle.c_tree.specs.declared.types.CType.{CType}
 use Rattle.c_tree.specs.declared.typed.BinaryOp.{BinaryOp}
 use Rattle.c_tree.specs.declared.typed.BinaryOp.TheVariants.{Equal, Unequal}
 use Rattle.c_tree.specs.declared.typed.Typed.{Typed}
-use Rattle.c_tree.specs.declared.typed.Typed.TheVariants.{Comma', Choice', Or', And', Binary', Cast', Address', Follow', Unary', SizeOf', SizeOfType, Constant, Parens'}
+use Rattle.c_tree.specs.declared.typed.Typed.TheVariants.{Comma', Choice', Or', And', Binary', Cast', Address', Follow', Unary', SizeOf', SizeOfType, Index', Dot', Arrow', Constant, Parens'}
 use Rattle.c_tree.specs.Types.{type_of, target_of, is_array}
 use Rattle.c_tree.specs.Layout.{size_of}
 
@@ -49,5 +49,8 @@ RoomFor (Cast' _ _ a) o i = RoomFor a o i
 RoomFor (Address' _ _ a) o i = RoomFor a o i
 RoomFor (Follow' _ _ a) o i = RoomFor a o i
 RoomFor (Unary' _ op _ a) o i = RoomFor a o i
+RoomFor (Index' _ _ a _ b) o i = RoomFor a o i × RoomFor b (suc o) i
+RoomFor (Dot' _ _ a m) o i = RoomFor a o i
+RoomFor (Arrow' _ _ a m) o i = RoomFor a o i
 RoomFor (Parens' _ _ a) o i = RoomFor a o i
 RoomFor _ o i = (o + 5 ≤ 100000) × (i + 3 ≤ 1000)

@@ -25,6 +25,8 @@ ghost use Rattle.c_bytes.specs.Lvalues.{Scene};
 ghost use Rattle.expr_serve.specs.Codes.{value_code, text_of};
 ghost use Rattle.serving_laws.specs.Plain.{IsPlain, RoomFor};
 ghost use Rattle.serving_laws.specs.Left.{AreOperators, AreLeft, AreServed};
+ghost use Rattle.machine_state.specs.Sound.{IsMemory};
+ghost use Rattle.serving_laws.specs.Evaluated.{IsEvaluated, AreEvaluated};
 ghost use Rattle.serving_laws.specs.Named.{HasSpaces, IsRead, dial_in, dictionaries_in, AreRead};
 
 /// A text of a scalar expression that needs no memory, once it is executed as a string, is read as one procedure, which is run: it leaves the expression's value, or the run
@@ -45,4 +47,13 @@ pub fn values_are_left()
 /// in scope, and has a procedure as compiled tables have (`IsNamed`); no dictionary gives an operator's name another meaning, no `stopped` is open, and the stacks have room.
 pub fn named_places_are_read()
     ensures { (sc : Scene) (s : StoreState) (cell : ℕ) (own : DictId) (names : List Symbol) (e : Typed) (o : List PsObj) (items : List Item) (a : ArrayId) (out : List ℕ) (raw : Bool) → HasSpaces s → AreOperators s (dictionaries_in s own) → IsRead sc s names e → length o + 5 ≤ 100000 → length items + 3 ≤ 1000 → under_stopped items ≡ None → HasArray s a → Spells s (elements_of s a) (value_code names sc.defs e) → AreRead sc e s cell own o items (dial_in sc cell out raw) (core s (dictionaries_in s own) o (Object (Array a true) ∷ items)) }
+{}
+
+/// A procedure with the pieces of an expression, once it is executed, leaves the value that the expression has over the target's bytes, in whatever frame of whichever target;
+/// or the run ends by the error of why it has none: what is undefined in it, a leaf that isn't live where a pointer leads, a byte that the target doesn't hold, or what the table
+/// lacks. Operators, conversions, conditions, sizes, constants and places that names tell nest in any way, and so do reads through pointers, their sums, orders and differences
+/// where no unit of the table has to be run first (`IsEvaluated`). What the expression means takes of the steps those of the table's own procedures alone. The target's memory
+/// holds bytes, and the rest is as for `named_places_are_read`.
+pub fn expressions_are_evaluated()
+    ensures { (sc : Scene) (s : StoreState) (cell : ℕ) (own : DictId) (names : List Symbol) (e : Typed) (o : List PsObj) (items : List Item) (a : ArrayId) (out : List ℕ) (raw : Bool) → HasSpaces s → AreOperators s (dictionaries_in s own) → IsMemory sc.target.regions → IsEvaluated sc s names e → RoomFor e (length o) (length items) → under_stopped items ≡ None → HasArray s a → Spells s (elements_of s a) (value_code names sc.defs e) → AreEvaluated sc e s cell own o items (dial_in sc cell out raw) (core s (dictionaries_in s own) o (Object (Array a true) ∷ items)) }
 {}

@@ -3,4 +3,6 @@
 
 mod laws;
 
-pub use laws::{named_places_are_read, texts_are_served, values_are_left};
+pub use laws::{
+    expressions_are_evaluated, named_places_are_read, texts_are_served, values_are_left,
+};

@@ -33,8 +33,8 @@ use Rattle.side_meaning.specs.Stepping.{IsReady}
 use Rattle.side_meaning.specs.Asking.{IsAsked}
 use Rattle.side_meaning.proofs.Starting.{asks_stand, no_words}
 use Rattle.session.specs.declared.sides.SideRecord.{SideRecord}
-use Rattle.session.specs.Kept.{IsFailure, IsUndone}
-use Rattle.session.specs.Wanting.{RunsNoneAsked}
+use Rattle.session.specs.Kept.{IsFailure, IsQuery, IsUndone}
+use Rattle.session.specs.Wanting.{IsAskedAlone, IsText}
 use Rattle.session.specs.Meant.{debugged, sides_of, Hosts, IsThere, AreThere, AreReadyFor, ComesTo, IsLook, SetsBreaks, IsBare, IsPlain, IsInquiry, AskedOne, SaidOne, NotOne, RanOne, SaidAll, NotAll}
 use Rattle.session.specs.Undoing.{words_before, undone_host, IsGivenUp, ReadsBefore}
 use Rattle.session.proofs.GivenUp.{undone_is as undone_host_is}
@@ -51,7 +51,7 @@ use Rattle.session.proofs.Readying.{hosts}
 
 -- ---- a side of which nothing is asked
 
-asked_none : (d : Debugged) (a : SideState) → IsReady d a → a.step_words ≡ [] → IsAsked d d a a
+pub asked_none : (d : Debugged) (a : SideState) → IsReady d a → a.step_words ≡ [] → IsAsked d d a a
 asked_none d a r none = record {
   words = none_mapped (row_in d.table) d.row.step_words.items (sym r.planted.words ∙ none);
   table = r.stands.table;
@@ -109,17 +109,28 @@ failure_or Spent is_so isnt = isnt (λ h. h)
 failure_or NoMemory is_so isnt = is_so tt
 failure_or (Broken f) is_so isnt = is_so tt
 
--- one that runs no PostScript over the target sets breakpoints, or stores nothing
-pub runs_or : {P : Type 0} (c : Command) → RunsNoneAsked c → (SetsBreaks c → P) → ((SetsBreaks c → ⊥) → IsLook c → P) → P
-runs_or (command.Break spot) r sets looks = sets tt
-runs_or (command.Clear spot) r sets looks = sets tt
-runs_or command.Frames r sets looks = looks (λ h. h) tt
-runs_or (command.Frame n) r sets looks = looks (λ h. h) tt
-runs_or (command.Code text) r sets looks = looks (λ h. h) tt
-runs_or c r sets looks = absurd r
+-- one that is asked alone sets breakpoints, or stores nothing
+pub alone_or : {P : Type 0} (c : Command) → IsAskedAlone c → (SetsBreaks c → P) → ((SetsBreaks c → ⊥) → IsLook c → P) → P
+alone_or (command.Break spot) r sets looks = sets tt
+alone_or (command.Clear spot) r sets looks = sets tt
+alone_or command.Frames r sets looks = looks (λ h. h) tt
+alone_or (command.Frame n) r sets looks = looks (λ h. h) tt
+alone_or (command.Print name) r sets looks = looks (λ h. h) tt
+alone_or (command.Eval text) r sets looks = looks (λ h. h) tt
+alone_or (command.Code text) r sets looks = looks (λ h. h) tt
+alone_or c r sets looks = absurd r
 
-pub runs_no_text : (c : Command) → RunsNoneAsked c → IsNoText c
-runs_no_text c r text e = subst RunsNoneAsked e r
+pub alone_no_text : (c : Command) → IsAskedAlone c → IsNoText c
+alone_no_text c r text e = subst IsAskedAlone e r
+
+-- a text sets none, and is a query
+pub text_sets : (c : Command) → IsText c → SetsBreaks c → ⊥
+text_sets (command.Ps text) t s = s
+text_sets c t s = t
+
+pub text_query : (c : Command) → IsText c → IsQuery c
+text_query (command.Ps text) t = tt
+text_query c t = absurd t
 
 pub look_no_text : (c : Command) → IsLook c → IsNoText c
 look_no_text c l text e = subst IsLook e l

@@ -58,7 +58,7 @@ use Rattle.side_meaning.specs.Stepping.{IsStill, IsReady}
 use Rattle.side_meaning.specs.Asking.{HasNames}
 use Rattle.side_meaning.specs.Storing.{StoresNumbers, KeepsTarget}
 use Rattle.side_meaning.proofs.Asking.{names_stay}
-use Rattle.side_meaning.proofs.Storing.{reached, same_target, runs_kept}
+use Rattle.side_meaning.proofs.Storing.{reached, same_target, runs_kept, reaches_keep}
 use Rattle.session.specs.declared.sides.SideRecord.{SideRecord}
 use Rattle.session.specs.Turned.{byte_of, order_of, turned}
 use Rattle.session.specs.Kept.{IsFailure}
@@ -111,10 +111,16 @@ ready_dial : (d : Dial) (text : List ℕ) (a : Result PsCore (Trouble Cause)) (u
 ready_dial d text (Ok core) u t run w = texted_dial d core u t (making_string u.store text) run w
 ready_dial d text (Err e) u t run w = absurd (let h = w.0 in cc)
 
-text_keeps : (d d' : Dial) (text : List ℕ) (t : TableUse) (r : Result (List ℕ) (Trouble Cause)) (s : StoreState) (n : ℕ) → asked_raw.RunsPs d text t r d' s n → KeepsTarget d.target d'.target
+pub text_keeps : (d d' : Dial) (text : List ℕ) (t : TableUse) (r : Result (List ℕ) (Trouble Cause)) (s : StoreState) (n : ℕ) → asked_raw.RunsPs d text t r d' s n → KeepsTarget d.target d'.target
 text_keeps d _ text t _ _ _ (asked_raw.not_begun w) = same_target d.target
 text_keeps d _ text t _ _ _ (asked_raw.ended {run = run} {t' = t'} {answer = answer} {left = left} {d' = d'} {c = c} w runs) =
     subst (λ (x : Dial). KeepsTarget x.target d'.target) (ready_dial d text w.0 w.1 t' run w.3) (runs_kept t'.left left run.dial d' run.core c answer runs)
+
+-- and where memory ran out
+pub text_keeps_so_far : (d d' : Dial) (text : List ℕ) (t : TableUse) → asked_raw.RunsPsSoFar d text t d' → KeepsTarget d.target d'.target
+text_keeps_so_far d _ text t asked_raw.not_run = same_target d.target
+text_keeps_so_far d _ text t (asked_raw.so_far {run = run} {t' = t'} {left = left} {d' = d'} {c = c} w runs) =
+    subst (λ (x : Dial). KeepsTarget x.target d'.target) (ready_dial d text w.0 w.1 t' run w.3) (reaches_keep t'.left left run.dial d' run.core c runs)
 
 -- ---- the dial
 

@@ -22,7 +22,7 @@ use Rattle.table_asks.specs.Running.{RanOver}
 use Rattle.asking.specs.Doing.{Asks, ChangesOver}
 use Rattle.asking.specs.Doing.{Change as Stored}
 use Rattle.ps_ops.specs.declared.dialect.Operators.{Operators}
-use Rattle.evaluating.specs.Told.{Comes, StoresAll}
+use Rattle.evaluating.specs.Told.{StoresNone, StoresAll}
 use Rattle.session.specs.Kept.{IsBrokenOff}
 use Rattle.session.specs.Counted.{CountsFault, CountsAsk, CountsTalk}
 
@@ -38,7 +38,7 @@ pub unbroken_counts : (f : ℕ) (e : AskFault) → IsUnbroken e → CountsFault 
 unbroken_counts f (Refused cause) u = refl
 unbroken_counts f (Raised e) u = refl
 unbroken_counts f Spent u = refl
-unbroken_counts f NoMemory u = tt
+unbroken_counts f NoMemory u = refl
 unbroken_counts f (Broken x) u = absurd u
 
 pub unbroken_on : (f f' : ℕ) → f' ≡ f → (e : AskFault) → IsUnbroken e → CountsFault f f' e
@@ -58,7 +58,7 @@ module _ {R : Type 0} (s s' : Seen R) where
   asks_counts m i i' (Err (Refused cause)) d = d.0.faults
   asks_counts m i i' (Err (Raised e)) d = d.0.faults
   asks_counts m i i' (Err Spent) d = d.0.faults
-  asks_counts m i i' (Err NoMemory) d = tt
+  asks_counts m i i' (Err NoMemory) d = d.0.faults
   asks_counts m i i' (Err (Broken LinkFault)) d = d
   asks_counts m i i' (Err (Broken (BadReply bad))) d = d.faults
   asks_counts m i i' (Err (Broken (Outside p))) d = absurd d
@@ -71,7 +71,7 @@ module _ {R : Type 0} (s s' : Seen R) where
   pub read_counts : {A : Type 0} (f : Bytes → Option A) (r : Result A AskFault) → Asks s f r s' → CountsAsk s.faults s'.faults r
   read_counts f (Ok x) d = d.0.faults
   read_counts f (Err (Raised e)) d = d.1.faults
-  read_counts f (Err NoMemory) d = tt
+  read_counts f (Err NoMemory) d = d.faults
   read_counts f (Err (Broken LinkFault)) d = d
   read_counts f (Err (Broken (BadReply bad))) d = d.faults
   read_counts f (Err (Broken (Outside p))) d = absurd d
@@ -94,7 +94,7 @@ module _ {W R : Type 0} (seen : W → Seen R) where
   ran_counts leads x y (Err (Refused cause)) d = d.0
   ran_counts leads x y (Err (Raised e)) d = d.0
   ran_counts leads x y (Err Spent) d = d.0
-  ran_counts leads x y (Err NoMemory) d = tt
+  ran_counts leads x y (Err NoMemory) d = d.0
   ran_counts leads x y (Err (Broken LinkFault)) d = d
   ran_counts leads x y (Err (Broken (BadReply bad))) d = d.0
   ran_counts leads x y (Err (Broken (Outside p))) d = absurd d
@@ -103,15 +103,15 @@ module _ {W R : Type 0} (seen : W → Seen R) where
   faults o = (seen o.memory.below.below.below).faults
 
   -- `eval`, `code` and `assign`
-  pub comes_counts : {A : Type 0} (V : Type 0) (o o' : Operators W) (r : Result A AskFault) → Comes seen V o r o' → CountsAsk (faults o) (faults o') r
-  comes_counts V o o' (Ok x) d = d.faults
-  comes_counts V o o' (Err (Refused cause)) d = d.faults
-  comes_counts V o o' (Err (Raised e)) d = d.faults
-  comes_counts V o o' (Err Spent) d = d.faults
-  comes_counts V o o' (Err NoMemory) d = tt
-  comes_counts V o o' (Err (Broken LinkFault)) d = d
-  comes_counts V o o' (Err (Broken (BadReply bad))) d = d.faults
-  comes_counts V o o' (Err (Broken (Outside p))) d = absurd d
+  pub comes_counts : {A : Type 0} (o o' : Operators W) (r : Result A AskFault) → StoresNone seen o r o' → CountsAsk (faults o) (faults o') r
+  comes_counts o o' (Ok x) d = d.faults
+  comes_counts o o' (Err (Refused cause)) d = d.faults
+  comes_counts o o' (Err (Raised e)) d = d.faults
+  comes_counts o o' (Err Spent) d = d.faults
+  comes_counts o o' (Err NoMemory) d = d.faults
+  comes_counts o o' (Err (Broken LinkFault)) d = d
+  comes_counts o o' (Err (Broken (BadReply bad))) d = d.faults
+  comes_counts o o' (Err (Broken (Outside p))) d = absurd d
 
   pub leaves_counts : (o o' : Operators W) (r : Result (Unit {0}) AskFault) → StoresAll seen o r o' → CountsAsk (faults o) (faults o') r
   leaves_counts o o' (Ok x) d = d.faults

@@ -20,6 +20,7 @@ mod GivenUp
 pub mod AskingText
 mod Wanting
 mod Counting
+mod Storing
 mod Looking
 mod Looked
 mod Tallying

@@ -1,5 +1,5 @@
 -- A command of one side that was begun and ended: what it leaves of the side, and of the count of the link's faults.
-use Rattle.std.proofs.Common.{◌≡◌, ◌∙◌, refl, sym, ap, subst, ℕ, List, [], Option, Some, None, Result, Ok, Err, OnOk, IfErr}
+use Rattle.std.proofs.Common.{◌≡◌, ◌≢◌, ◌∙◌, refl, sym, ap, subst, ℕ, List, [], Option, Some, None, Result, Ok, Err, OnOk, IfErr}
 use Rattle.std.specs.Global.{Vec}
 use Rattle.machine_state.specs.State.{Behaviour}
 use Rattle.nub_wire.specs.Nub.{Host}
@@ -44,22 +44,23 @@ use Rattle.side_meaning.specs.Stepping.{IsReady}
 use Rattle.session.specs.declared.sides.SideRecord.{SideRecord}
 use Rattle.session.specs.Turned.{byte_of, order_of, turned}
 use Rattle.session.specs.Asked.{Does}
-use Rattle.session.specs.Kept.{IsFailure, IsQuery, IsUndone}
+use Rattle.session.specs.Kept.{IsFailure, IsQuery, IsStoreFault, IsUndone}
 use Rattle.session.specs.Counted.{CountsFault, CountsAsk, CountsTalk}
 use Rattle.session.specs.Meant.{debugged, Hosts, IsThere, AreThere, IsBare, IsLook, ComesTo, FailsWell, TalksWell, StoredThere}
-use Rattle.session.specs.Wanting.{RunsNoneAsked, TableStays, StaysOne}
+use Rattle.session.specs.Wanting.{IsAskedAlone, TableStays, StaysOne}
 use Rattle.session.proofs.Asking.{none_mapped, seen_by}
 use Rattle.session.proofs.Wanting.{ran_same, there_stays, one_stays}
 use Rattle.session.proofs.Beside.{second_beside, first_beside}
+use Rattle.ps_step.specs.declared.fault.PsError.{PsError}
 use Rattle.session.proofs.Counting.{fault_on, ran_counts, puts_counts, read_counts, comes_counts, leaves_counts}
-use Rattle.session.proofs.Looking.{does_look, comes_look, look_breaks, does_counts, undone_same, wants_count, looks_well, leaves_well, stands_still}
+use Rattle.session.proofs.Looking.{does_look, comes_look, look_breaks, does_counts, undone_same, looks_well, leaves_well, stands_still}
 
 -- what stays where a talk goes well
 fails_to : (f f' : ℕ) (P Q : Type 0) (e : AskFault) → (P → Q) → FailsWell f f' P e → FailsWell f f' Q e
 fails_to f f' P Q (Refused cause) to d = to d
 fails_to f f' P Q (Raised e) to d = to d
 fails_to f f' P Q Spent to d = to d
-fails_to f f' P Q NoMemory to d = tt
+fails_to f f' P Q NoMemory to d = to d
 fails_to f f' P Q (Broken LinkFault) to d = d
 fails_to f f' P Q (Broken (BadReply frame)) to d = d
 fails_to f f' P Q (Broken (Outside p)) to d = d
@@ -76,18 +77,18 @@ module _ {L : Type 0} (c : Conduct) (world : L → Option World) (faults : L →
       subst (λ (z : Operators (Wire L)). StaysOne b c (world z.memory.below.below.below.link) (record side { inquiry = i }) h beside a) (sym e)
       (subst (λ (z : Inquiry). StaysOne b c (world old.memory.below.below.below.link) (record side { inquiry = z }) h beside a) (sym same) (record { there = x; ran = ran_same (debugged side h) a for }))
 
+  pub unasked_there : (side : SideRecord) (old t : Operators (Wire L)) (i : Inquiry) → i ≡ side.inquiry → (b : Behaviour) (h : Host) (beside : Option Host) → t ≡ turned side old → IsThere b c (world old.memory.below.below.below.link) side h beside
+      → IsThere b c (world t.memory.below.below.below.link) (record side { inquiry = i }) h beside
+  unasked_there side old t i same b h beside e x =
+      subst (λ (z : Operators (Wire L)). IsThere b c (world z.memory.below.below.below.link) (record side { inquiry = i }) h beside) (sym e)
+      (subst (λ (z : Inquiry). IsThere b c (world old.memory.below.below.below.link) (record side { inquiry = z }) h beside) (sym same) x)
+
   module _ (leads : Wire L → Option (List ℕ) → Wire L → Type 0) (side : SideRecord) (old t new : Operators (Wire L)) (now : Command) where
     pub turned_counts : (r : Result (List ℕ) AskFault) (frame : ℕ) (ps ps' : List Point) (j k : Inquiry) → t ≡ turned side old → Does (seen_by c world faults) leads now frame ps j t r ps' k new
         → CountsAsk (faults old.memory.below.below.below.link) (faults new.memory.below.below.below.link) r
     turned_counts r frame ps ps' j k e d =
         subst (λ (z : Operators (Wire L)). CountsAsk (faults z.memory.below.below.below.link) (faults new.memory.below.below.below.link) r) e
         (does_counts (seen_by c world faults) leads frame ps ps' j k t new now r d)
-
-    pub turned_wants : (fault : AskFault) → fault ≡ NoMemory → (frame : ℕ) (ps ps' : List Point) (j k : Inquiry) → t ≡ turned side old → Does (seen_by c world faults) leads now frame ps j t (Err fault) ps' k new → IsBare now
-        → faults new.memory.below.below.below.link ≡ faults old.memory.below.below.below.link
-    turned_wants fault is frame ps ps' j k e d bare =
-        wants_count (seen_by c world faults) leads frame ps ps' j k t new now bare (subst (λ (y : AskFault). Does (seen_by c world faults) leads now frame ps j t (Err y) ps' k new) is d)
-        ∙ ap (λ (z : Operators (Wire L)). faults z.memory.below.below.below.link) e
 
     -- the side behind it
     module _ (frame : ℕ) (v : Vec Point) (j k : Inquiry) (e : t ≡ turned side old) where
@@ -103,12 +104,12 @@ module _ {L : Type 0} (c : Conduct) (world : L → Option World) (faults : L →
           (looks_well c world faults b side old new h beside there r (does_look seen leads frame side.row.breaks.items v.items j k (turned side old) new now r look part does))
 
       pub asked_stays : (fault : AskFault) → IsUndone {A = List ℕ} (Err fault) → Does (seen_by c world faults) leads now frame side.row.breaks.items j t (Err fault) v.items k new → (b : Behaviour) (h : Host) (beside : Option Host) (a : SideState) → IsThere b c (world old.memory.below.below.below.link) side h beside
-          → IsReady (debugged side h) a → a.step_words ≡ [] → RunsNoneAsked now → v.items ≡ side.row.breaks.items → (i : Inquiry) → TableStays side.inquiry.core.store i.core.store → (side' : SideRecord) → side' ≡ record side { inquiry = i; row = record side.row { breaks = v } }
+          → IsReady (debugged side h) a → a.step_words ≡ [] → IsAskedAlone now → j.core.store.part ≡ CommandPart → v.items ≡ side.row.breaks.items → (i : Inquiry) → TableStays side.inquiry.core.store i.core.store → (side' : SideRecord) → side' ≡ record side { inquiry = i; row = record side.row { breaks = v } }
           → StaysOne b c (world new.memory.below.below.below.link) side' h beside a
-      asked_stays fault is d b h beside a there ready none runs breaks i table side' same =
+      asked_stays fault is d b h beside a there ready none alone part breaks i table side' same =
           let seen = seen_by c world faults in
           let does : Does seen leads now frame side.row.breaks.items j (turned side old) (Err fault) v.items k new = subst (λ (z : Operators (Wire L)). Does seen leads now frame side.row.breaks.items j z (Err fault) v.items k new) e d in
-          let told = undone_same seen leads frame side.row.breaks.items v.items j k (turned side old) new now fault runs is does in
+          let told = undone_same seen leads frame side.row.breaks.items v.items j k (turned side old) new now fault alone is part does in
           one_stays b c (world old.memory.below.below.below.link) (world new.memory.below.below.below.link) side h beside there i v side.frame breaks table (stands_still c world faults b side old new h beside there told) a ready.stands none
           (none_mapped (row_in side.inquiry.core.store) side.row.step_words.items (sym ready.planted.words ∙ none)) refl side' same
 
@@ -142,7 +143,7 @@ module _ {L : Type 0} (c : Conduct) (world : L → Option World) (faults : L →
   pub assigned_counts : {A : Type 0} (r : Result A AskFault) → StoresNone (seen_by c world faults) t r new → CountsAsk (faults old.memory.below.below.below.link) (faults new.memory.below.below.below.link) r
   assigned_counts r d =
       subst (λ (z : Operators (Wire L)). CountsAsk (faults z.memory.below.below.below.link) (faults new.memory.below.below.below.link) r) e
-      (comes_counts (seen_by c world faults) (Unit {0}) t new r d)
+      (comes_counts (seen_by c world faults) t new r d)
 
   pub assigned_well : {A : Type 0} (r : Result A AskFault) → StoresNone (seen_by c world faults) t r new → (b : Behaviour) (h : Host) (beside : Option Host) → IsThere b c (world old.memory.below.below.below.link) side h beside → (i : Inquiry) → TableStays side.inquiry.core.store i.core.store
       → TalksWell (faults old.memory.below.below.below.link) (faults new.memory.below.below.below.link) (IsThere b c (world new.memory.below.below.below.link) (record side { inquiry = i }) h beside) r
@@ -152,7 +153,16 @@ module _ {L : Type 0} (c : Conduct) (world : L → Option World) (faults : L →
       let told : StoresNone seen start r new = subst (λ (z : Operators (Wire L)). StoresNone seen z r new) e d in
       stays_well (faults old.memory.below.below.below.link) (faults new.memory.below.below.below.link) (Stands b c side.which (world new.memory.below.below.below.link) h beside) (IsThere b c (world new.memory.below.below.below.link) (record side { inquiry = i }) h beside) r
       (λ stands. there_stays b c (world old.memory.below.below.below.link) (world new.memory.below.below.below.link) side h beside there i side.row.breaks side.frame refl table stands (record side { inquiry = i }) refl)
-      (looks_well c world faults b side old new h beside there r (comes_look seen (λ a o b. Unit {0}) 0 [] [] side.inquiry side.inquiry start new (Unit {0}) r told))
+      (looks_well c world faults b side old new h beside there r (comes_look seen (λ a o b. Unit {0}) 0 [] [] side.inquiry side.inquiry start new r told))
+
+  -- nothing else keeps it from being stored
+  pub store_last : (r : Result (Unit {0}) AskFault) → StoresAll (seen_by c world faults) t r new → IfErr r (λ (f : AskFault). IsStoreFault f)
+  store_last (Ok x) d = tt
+  store_last (Err (Raised e)) d = tt
+  store_last (Err (Broken x)) d = tt
+  store_last (Err (Refused cause)) d = absurd d
+  store_last (Err Spent) d = absurd d
+  store_last (Err NoMemory) d = absurd d
 
   pub store_counts : (r : Result (Unit {0}) AskFault) → StoresAll (seen_by c world faults) t r new → CountsAsk (faults old.memory.below.below.below.link) (faults new.memory.below.below.below.link) r
   store_counts r d =
@@ -173,6 +183,14 @@ fails_on f f1 f2 P e k d = subst (λ n. FailsWell n f2 P e) k d
 
 pub well_on : {A : Type 0} (f f1 f2 : ℕ) (P : Type 0) (r : Result A AskFault) → f1 ≡ f → TalksWell f1 f2 P r → TalksWell f f2 P r
 well_on f f1 f2 P r e d = subst (λ n. TalksWell n f2 P r) e d
+
+-- what isn't done, and isn't a failure of the link
+pub undone_there : (A : Type 0) (f f' : ℕ) (P : Type 0) (e : AskFault) → IsUndone {A = A} (Err e) → FailsWell f f' P e → P
+undone_there A f f' P (Refused cause) u d = d
+undone_there A f f' P (Raised e) u d = d
+undone_there A f f' P Spent u d = d
+undone_there A f f' P NoMemory u d = d
+undone_there A f f' P (Broken x) u d = absurd u
 
 -- what isn't a failure
 pub well_there : (f f' : ℕ) (P : Type 0) (e : AskFault) → (IsFailure e → ⊥) → FailsWell f f' P e → P
@@ -203,7 +221,7 @@ pub undone_counts : (f f1 f2 : ℕ) (fault answer : AskFault) → CountsFault f 
 undone_counts f f1 f2 (Refused cause) answer d same more = fault_on f f1 f2 answer d (more (λ h. h))
 undone_counts f f1 f2 (Raised e) answer d same more = fault_on f f1 f2 answer d (more (λ h. h))
 undone_counts f f1 f2 Spent answer d same more = fault_on f f1 f2 answer d (more (λ h. h))
-undone_counts f f1 f2 NoMemory answer d same more = let w = same tt in subst (λ (z : AskFault). CountsFault f f2 z) (sym w.0) tt
+undone_counts f f1 f2 NoMemory answer d same more = let w = same tt in subst (λ (z : AskFault). CountsFault f f2 z) (sym w.0) (w.1 ∙ d)
 undone_counts f f1 f2 (Broken x) answer d same more = let w = same tt in subst (λ (z : AskFault). CountsFault f f2 z) (sym w.0) (subst (λ n. CountsFault f n (Broken x)) (sym w.1) d)
 
 -- both are there, once the second one was asked
@@ -276,7 +294,7 @@ read_well f f' S words Spent w = absurd w
 -- ---- what stands at breakpoints
 
 pub unread_counts : {R : Type 0} (f f1 f2 : ℕ) (fault : ReadFault) (why : AskFault) → why ≡ unread fault → f1 ≡ f → (s s' : Seen R) → s.faults ≡ f1 → s'.faults ≡ f2 → FailsToRead fault s s' → CountsFault f f2 why
-unread_counts f f1 f2 read.NoMemory why is e s s' p q d = subst (λ (z : AskFault). CountsFault f f2 z) (sym is) tt
+unread_counts f f1 f2 read.NoMemory why is e s s' p q d = subst (λ (z : AskFault). CountsFault f f2 z) (sym is) (sym q ∙ (d.faults ∙ (p ∙ e)))
 unread_counts f f1 f2 (read.Talk talk.LinkFault) why is e s s' p q d = subst (λ (z : AskFault). CountsFault f f2 z) (sym is) (subst (λ n. Rose n f2) (p ∙ e) (subst (λ n. Rose s.faults n) q d))
 unread_counts f f1 f2 (read.Talk (talk.BadReply frame)) why is e s s' p q d = subst (λ (z : AskFault). CountsFault f f2 z) (sym is) (sym q ∙ (d.faults ∙ (p ∙ e)))
 
@@ -292,12 +310,12 @@ pub same_fault : (f f' : ℕ) (e : AskFault) → f' ≡ f → (IsFailure e → �
 same_fault f f' (Refused cause) k n = k
 same_fault f f' (Raised e) k n = k
 same_fault f f' Spent k n = k
-same_fault f f' NoMemory k n = tt
+same_fault f f' NoMemory k n = k
 same_fault f f' (Broken x) k n = absurd (n tt)
 
 -- a command that was put back
 pub back_counts : (f f' : ℕ) (back : Result (Unit {0}) TalkFault) (why : AskFault) → why ≡ wanting back → CountsTalk f f' back → CountsFault f f' why
-back_counts f f' (Ok x) why is k = subst (λ (z : AskFault). CountsFault f f' z) (sym is) tt
+back_counts f f' (Ok x) why is k = subst (λ (z : AskFault). CountsFault f f' z) (sym is) k
 back_counts f f' (Err talk.LinkFault) why is k = subst (λ (z : AskFault). CountsFault f f' z) (sym is) k
 back_counts f f' (Err (talk.BadReply frame)) why is k = subst (λ (z : AskFault). CountsFault f f' z) (sym is) k
 
@@ -309,18 +327,18 @@ put_counts c world faults side old t m e P r d =
 -- ---- an assignment's reply
 
 pub unset_counts : (f : ℕ) (e : AskFault) → e ≡ NoMemory → CountsFault f f e
-unset_counts f e is = subst (λ (z : AskFault). CountsFault f f z) (sym is) tt
+unset_counts f e is = subst (λ (z : AskFault). CountsFault f f z) (sym is) refl
 
 pub unset_well : (f : ℕ) (e : AskFault) → e ≡ NoMemory → FailsWell f f (Unit {0}) e
 unset_well f e is = subst (λ (z : AskFault). FailsWell f f (Unit {0}) z) (sym is) tt
 
-pub stored_counts : (f f' : ℕ) (done : Result (Unit {0}) AskFault) (said : List ℕ) (r : Result (List ℕ) AskFault) → OnOk done (r ≡ Ok said) → IfErr done (λ (e : AskFault). r ≡ Err e) → CountsAsk f f' done → CountsAsk f f' r
-stored_counts f f' (Ok x) said r ok err k = subst (λ z. CountsAsk f f' z) (sym ok) k
-stored_counts f f' (Err e) said r ok err k = subst (λ z. CountsAsk f f' z) (sym err) k
-
-pub stored_well : (f f' : ℕ) (P : Type 0) (done : Result (Unit {0}) AskFault) (said : List ℕ) (r : Result (List ℕ) AskFault) → OnOk done (r ≡ Ok said) → IfErr done (λ (e : AskFault). r ≡ Err e) → TalksWell f f' P done → TalksWell f f' (Unit {0}) r
-stored_well f f' P (Ok x) said r ok err k = subst (λ z. TalksWell f f' (Unit {0}) z) (sym ok) tt
-stored_well f f' P (Err e) said r ok err k = subst (λ z. TalksWell f f' (Unit {0}) z) (sym err) (only_well f f' P e k)
+-- what it says, once it was stored
+pub stored_whole : (e : AskFault) → ((x : PsError) → e ≢ Raised x) → IsStoreFault e → IsUndone {A = List ℕ} (Err e) → ⊥
+stored_whole (Raised x) n last u = n x refl
+stored_whole (Broken x) n last u = u
+stored_whole (Refused cause) n last u = last
+stored_whole Spent n last u = last
+stored_whole NoMemory n last u = last
 
 -- the second one, once the first was asked, with both as they are then
 pub with_second_there : (b : Behaviour) (c : Conduct) (o o1 : Option World) (first first' second : SideRecord) (hs : Hosts) → first'.which ≡ first.which → AreThere b c o first (Some second) hs → IsThere b c o1 first' hs.first hs.second → (P : Type 0)

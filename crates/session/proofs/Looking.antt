@@ -28,12 +28,13 @@ use Rattle.table_asks.specs.declared.inquiry.Inquiry.{Inquiry}
 use Rattle.table_asks.specs.Asking.{ComesOver}
 use Rattle.table_asks.specs.Running.{RanOver}
 use Rattle.table_model.specs.Frames.{row_of_target}
+use Rattle.asking.specs.Doing.{Change as Stored}
 use Rattle.asking.specs.Breaks as asked_breaks
 use Rattle.asking.specs.Breaks.{rows_in}
 use Rattle.asking.specs.Frames as asked_frames
 use Rattle.asking.specs.Printing as asked_printing
 use Rattle.asking.specs.Printing.{EndsOver, target_with}
-use Rattle.evaluating.specs.Told.{Keeps, Comes, OnlyReads, StoresAll, Changed, StoresLeaves, none_stored, stores}
+use Rattle.evaluating.specs.Told.{Keeps, StoresNone, StoresAll, Changed, StoresLeaves, none_stored, stores}
 use Rattle.side_meaning.specs.Storing.{StoresNumbers}
 use Rattle.side_meaning.specs.Storing.{none_stored as no_numbers}
 use Rattle.side_meaning.proofs.Storing.{LeftIf, more_stored, stored_left}
@@ -43,7 +44,7 @@ use Rattle.session.specs.Asked.{Does}
 use Rattle.session.specs.Kept.{IsQuery, IsUndone}
 use Rattle.session.specs.Counted.{CountsAsk}
 use Rattle.session.specs.Meant.{IsThere, IsBare, IsLook, SetsBreaks, ComesTo, TalksWell, StoredThere}
-use Rattle.session.specs.Wanting.{RunsNoneAsked}
+use Rattle.session.specs.Wanting.{IsAskedAlone}
 use Rattle.session.proofs.Asking.{seen_by, target_told}
 use Rattle.session.proofs.AskingText.{stands_stored}
 use Rattle.session.proofs.Counting.{asks_counts, stores_counts, ran_counts, comes_counts}
@@ -66,7 +67,7 @@ module _ {W R : Type 0} (seen : W → Seen R) (leads : W → Option (List ℕ) �
   Looks (Err (Refused cause)) = ToldStill
   Looks (Err (Raised e)) = ToldStill
   Looks (Err Spent) = ToldStill
-  Looks (Err NoMemory) = Unit {0}
+  Looks (Err NoMemory) = ToldStill
   Looks (Err (Broken LinkFault)) = Rose before.faults behind.faults
   Looks (Err (Broken (BadReply bad))) = (regions : Regions) (rest : R) → before.tells (memory_bytes (target_with o regions)) rest → ⊥
   Looks (Err (Broken (Outside p))) = ⊥
@@ -82,27 +83,27 @@ module _ {W R : Type 0} (seen : W → Seen R) (leads : W → Option (List ℕ) �
   asks_look m (Err (Refused cause)) d = same_told d.0
   asks_look m (Err (Raised e)) d = same_told d.0
   asks_look m (Err Spent) d = same_told d.0
-  asks_look m (Err NoMemory) d = tt
+  asks_look m (Err NoMemory) d = same_told d.0
   asks_look m (Err (Broken LinkFault)) d = d
   asks_look m (Err (Broken (BadReply bad))) d = λ regions rest t. d.never (memory_bytes (target_with o regions)) rest t
   asks_look m (Err (Broken (Outside p))) d = d
 
-  pub comes_look : {A : Type 0} (V : Type 0) (r : Result A AskFault) → Comes seen V o r o' → Looks r
-  comes_look V (Ok x) d = keeps_told d
-  comes_look V (Err (Refused cause)) d = keeps_told d
-  comes_look V (Err (Raised e)) d = keeps_told d
-  comes_look V (Err Spent) d = keeps_told d
-  comes_look V (Err NoMemory) d = tt
-  comes_look V (Err (Broken LinkFault)) d = d
-  comes_look V (Err (Broken (BadReply bad))) d = λ regions rest t. d.never regions rest t
-  comes_look V (Err (Broken (Outside p))) d = d
+  pub comes_look : {A : Type 0} (r : Result A AskFault) → StoresNone seen o r o' → Looks r
+  comes_look (Ok x) d = keeps_told d
+  comes_look (Err (Refused cause)) d = keeps_told d
+  comes_look (Err (Raised e)) d = keeps_told d
+  comes_look (Err Spent) d = keeps_told d
+  comes_look (Err NoMemory) d = keeps_told d
+  comes_look (Err (Broken LinkFault)) d = d
+  comes_look (Err (Broken (BadReply bad))) d = λ regions rest t. d.never regions rest t
+  comes_look (Err (Broken (Outside p))) d = d
 
   prints_look : (name : List ℕ) (r : Result (List ℕ) AskFault) → j.core.store.part ≡ CommandPart → EndsOver (asked_printing.printing frame name) (target_with o) j before r k behind → RanOver seen leads o.memory.below.below.below r o'.memory.below.below.below → Looks r
   prints_look name (Ok x) part d h = λ regions rest t. (o.memory.below.below.order, (d part regions rest t).0)
   prints_look name (Err (Refused cause)) part d h = λ regions rest t. (o.memory.below.below.order, (d part regions rest t).0)
   prints_look name (Err (Raised e)) part d h = λ regions rest t. (o.memory.below.below.order, (d part regions rest t).0)
   prints_look name (Err Spent) part d h = λ regions rest t. (o.memory.below.below.order, (d part regions rest t).0)
-  prints_look name (Err NoMemory) part d h = tt
+  prints_look name (Err NoMemory) part d h = λ regions rest t. (o.memory.below.below.order, d part regions rest t)
   prints_look name (Err (Broken LinkFault)) part d h = h
   prints_look name (Err (Broken (BadReply bad))) part d h = λ regions rest t. d part regions rest t
   prints_look name (Err (Broken (Outside p))) part d h = h
@@ -111,8 +112,8 @@ module _ {W R : Type 0} (seen : W → Seen R) (leads : W → Option (List ℕ) �
   does_look command.Frames r look part d = asks_look (asked_frames.listing (row_of_target o.view.target) o.view.context) r d.0
   does_look (command.Frame n) r look part d = asks_look (asked_frames.choosing (row_of_target o.view.target) o.view.context n) r d.0
   does_look (command.Print name) r look part d = prints_look name r part d.0 d.1
-  does_look (command.Eval text) r look part d = comes_look (Unit {0}) r d
-  does_look (command.Code text) r look part d = comes_look (Keeps seen o o') r d
+  does_look (command.Eval text) r look part d = comes_look r d
+  does_look (command.Code text) r look part d = comes_look r d
   does_look c r look part d = absurd look
 
   -- the breakpoints are as before
@@ -135,8 +136,8 @@ module _ {W R : Type 0} (seen : W → Seen R) (leads : W → Option (List ℕ) �
   does_counts command.Frames r d = asks_counts before behind (asked_frames.listing (row_of_target o.view.target) o.view.context) j k r d.0
   does_counts (command.Frame n) r d = asks_counts before behind (asked_frames.choosing (row_of_target o.view.target) o.view.context n) j k r d.0
   does_counts (command.Print name) r d = ran_counts seen leads o.memory.below.below.below o'.memory.below.below.below r d.1
-  does_counts (command.Eval text) r d = comes_counts seen (Unit {0}) o o' r d
-  does_counts (command.Code text) r d = comes_counts seen (Keeps seen o o') o o' r d
+  does_counts (command.Eval text) r d = comes_counts seen o o' r d
+  does_counts (command.Code text) r d = comes_counts seen o o' r d
   does_counts command.Continue r d = nothing_counts r d.0 d.1
   does_counts command.Step r d = nothing_counts r d.0 d.1
   does_counts (command.Turns n) r d = nothing_counts r d.0 d.1
@@ -146,27 +147,22 @@ module _ {W R : Type 0} (seen : W → Seen R) (leads : W → Option (List ℕ) �
   does_counts (command.Ps text) r d = nothing_counts r d.0 d.1
 
   -- one that isn't done leaves the target as it was
-  asks_undone : {A : Type 0} (m : Bytes → Eval Cause A) (fault : AskFault) → IsUndone {A = A} (Err fault) → ComesOver m j before (Err fault) k behind → ToldStill
-  asks_undone m (Refused cause) u d = same_told d.0
-  asks_undone m (Raised e) u d = same_told d.0
-  asks_undone m Spent u d = same_told d.0
-  asks_undone m NoMemory u d = same_told d.0
-  asks_undone m (Broken x) u d = absurd u
+  still_told : (A B : Type 0) (fault : AskFault) → IsUndone {A = A} (Err fault) → Looks {A = B} (Err fault) → ToldStill
+  still_told A B (Refused cause) u d = d
+  still_told A B (Raised e) u d = d
+  still_told A B Spent u d = d
+  still_told A B NoMemory u d = d
+  still_told A B (Broken x) u d = absurd u
 
-  comes_undone : (fault : AskFault) → IsUndone {A = List ℕ} (Err fault) → OnlyReads seen {A = List ℕ} o (Err fault) o' → ToldStill
-  comes_undone (Refused cause) u d = keeps_told d
-  comes_undone (Raised e) u d = keeps_told d
-  comes_undone Spent u d = keeps_told d
-  comes_undone NoMemory u d = keeps_told d
-  comes_undone (Broken x) u d = absurd u
-
-  pub undone_same : (now : Command) (fault : AskFault) → RunsNoneAsked now → IsUndone {A = List ℕ} (Err fault) → Does seen leads now frame ps j o (Err fault) ps' k o' → ToldStill
-  undone_same (command.Break spot) fault runs u d = asks_undone (λ b. asked_breaks.breaking o.view.target (rows_in k.core.store ps) b spot) fault u d
-  undone_same (command.Clear spot) fault runs u d = asks_undone (λ b. asked_breaks.clearing o.view.target (rows_in k.core.store ps) b spot) fault u d
-  undone_same command.Frames fault runs u d = asks_undone (asked_frames.listing (row_of_target o.view.target) o.view.context) fault u d.0
-  undone_same (command.Frame n) fault runs u d = asks_undone (asked_frames.choosing (row_of_target o.view.target) o.view.context n) fault u d.0
-  undone_same (command.Code text) fault runs u d = comes_undone fault u d
-  undone_same c fault runs u d = absurd runs
+  pub undone_same : (now : Command) (fault : AskFault) → IsAskedAlone now → IsUndone {A = List ℕ} (Err fault) → j.core.store.part ≡ CommandPart → Does seen leads now frame ps j o (Err fault) ps' k o' → ToldStill
+  undone_same (command.Break spot) fault alone u part d = still_told (List ℕ) Stored fault u (asks_look {A = Stored} (λ b. asked_breaks.breaking o.view.target (rows_in k.core.store ps) b spot) (Err fault) d)
+  undone_same (command.Clear spot) fault alone u part d = still_told (List ℕ) Stored fault u (asks_look {A = Stored} (λ b. asked_breaks.clearing o.view.target (rows_in k.core.store ps) b spot) (Err fault) d)
+  undone_same command.Frames fault alone u part d = still_told (List ℕ) (List ℕ) fault u (does_look command.Frames (Err fault) tt part d)
+  undone_same (command.Frame n) fault alone u part d = still_told (List ℕ) (List ℕ) fault u (does_look (command.Frame n) (Err fault) tt part d)
+  undone_same (command.Print name) fault alone u part d = still_told (List ℕ) (List ℕ) fault u (does_look (command.Print name) (Err fault) tt part d)
+  undone_same (command.Eval text) fault alone u part d = still_told (List ℕ) (List ℕ) fault u (does_look (command.Eval text) (Err fault) tt part d)
+  undone_same (command.Code text) fault alone u part d = still_told (List ℕ) (List ℕ) fault u (does_look (command.Code text) (Err fault) tt part d)
+  undone_same c fault alone u part d = absurd alone
 
   pub wants_count : (now : Command) → IsBare now → Does seen leads now frame ps j o (Err NoMemory) ps' k o' → behind.faults ≡ before.faults
   wants_count (command.Break spot) bare d = d.0.faults
@@ -216,7 +212,7 @@ module _ {L : Type 0} (c : Conduct) (world : L → Option World) (faults : L →
   looks_well (Err (Refused cause)) d = stands_still d
   looks_well (Err (Raised e)) d = stands_still d
   looks_well (Err Spent) d = stands_still d
-  looks_well (Err NoMemory) d = tt
+  looks_well (Err NoMemory) d = stands_still d
   looks_well (Err (Broken LinkFault)) d = d
   looks_well (Err (Broken (BadReply bad))) d = d h.machine.memory rest told
   looks_well (Err (Broken (Outside p))) d = d

@@ -31,13 +31,14 @@ use Rattle.session.specs.declared.modes.Mode.TheVariants as mode
 use Rattle.session.specs.declared.sides.SideRecord.{SideRecord}
 use Rattle.session.specs.Kept.{AnswersFault, IsBrokenOff, IsUndone}
 use Rattle.session.specs.Counted.{CountsFault, CountsAsk, CountsTalk, CountsAnswer}
-use Rattle.session.specs.Meant.{debugged, IsThere, Hosts, second_of, sides_of, AreThere, ComesTo, TalksWell, Settled, AllPrepared, AllCleared, Represents, IsAskable, IsExpression, IsLook}
-use Rattle.session.specs.Wanting.{RunsNone, RunsNoneAsked, RunsNoneInquired, RunsNoneIfAny, StandAgain, RepresentsAgain, WithTables}
+use Rattle.session.specs.Meant.{debugged, IsThere, Hosts, second_of, sides_of, AreThere, ComesTo, TalksWell, Settled, AllPrepared, AllCleared, IsInquiry, IsAskable, IsExpression, IsLook}
+use Rattle.session.specs.Wanting.{IsAskedAlone, IsInquired, IsText, WithTable, StandAgain}
+use Rattle.session.proofs.AskingOne.{asked_still}
 use Rattle.session.proofs.Beside.{second_beside, first_beside}
 use Rattle.session.proofs.Counting.{fault_on}
 use Rattle.session.proofs.Looked.{undone_as}
 use Rattle.session.proofs.Readying.{TakesAway, second_stays}
-use Rattle.session.proofs.Wanting.{stands_same, unprepared, represents_again}
+use Rattle.session.proofs.Wanting.{unprepared}
 
 -- ---- answers
 
@@ -51,14 +52,14 @@ module _ (f f' : ℕ) (broken : List ℕ) (new : Mode) where
   -- nothing was asked of the link
   pub same_counts : (a : Answer) → f' ≡ f → CountsAnswer f f' broken new (Ok a)
   same_counts (answer.Lines text) e = inl e
-  same_counts answer.NoMemory e = tt
+  same_counts answer.NoMemory e = e
 
   pub fault_counts : (old : Mode) (fault : AskFault) (a : Answer) → CountsFault f f' fault → AnswersFault broken old new fault a → CountsAnswer f f' broken new (Ok a)
   fault_counts old (Refused cause) a k w = same_counts a k
   fault_counts old (Raised e) a k w = same_counts a k
   fault_counts old Spent a k w = same_counts a k
   fault_counts old NoMemory (answer.Lines text) k w = absurd w.1
-  fault_counts old NoMemory answer.NoMemory k w = tt
+  fault_counts old NoMemory answer.NoMemory k w = k
   fault_counts old (Broken LinkFault) (answer.Lines text) k w = inr (k, w.0, lines_are text broken w.1)
     where
       lines : List ℕ → Answer
@@ -66,7 +67,7 @@ module _ (f f' : ℕ) (broken : List ℕ) (new : Mode) where
 
       lines_are : (t u : List ℕ) → lines t ≡ answer.Lines u → t ≡ u
       lines_are t u e = cc
-  fault_counts old (Broken LinkFault) answer.NoMemory k w = tt
+  fault_counts old (Broken LinkFault) answer.NoMemory k w = absurd (let e = w.1 in cc)
   fault_counts old (Broken (BadReply frame)) a k w = same_counts a k
   fault_counts old (Broken (Outside p)) a k w = absurd k
 
@@ -94,23 +95,23 @@ pub left_wants : (A : Type 0) (taken : Result (Unit {0}) AskFault) (fault why : 
 left_wants A (Ok tt) fault why ok err whole is = (refl, subst (λ (z : AskFault). IsUndone {A = A} (Err z)) ok is)
 left_wants A (Err e) fault why ok err whole is = absurd (whole (undone_as A (Unit {0}) e (subst (λ (z : AskFault). IsUndone {A = A} (Err z)) err is)))
 
-pub left_counts : (f f1 f2 f3 : ℕ) (taken : Result (Unit {0}) AskFault) (fault why : AskFault) → OnOk taken (why ≡ fault) → IfErr taken (λ (x : AskFault). why ≡ x) → f1 ≡ f → CountsFault f1 f2 fault → IsUnbroken fault → (fault ≡ NoMemory → f2 ≡ f1) → CountsAsk f2 f3 taken → CountsFault f f3 why
-left_counts f f1 f2 f3 taken fault why ok err e k u n m =
-    let same : f2 ≡ f1 = same_by fault k u n in
+pub left_counts : (f f1 f2 f3 : ℕ) (taken : Result (Unit {0}) AskFault) (fault why : AskFault) → OnOk taken (why ≡ fault) → IfErr taken (λ (x : AskFault). why ≡ x) → f1 ≡ f → CountsFault f1 f2 fault → IsUnbroken fault → CountsAsk f2 f3 taken → CountsFault f f3 why
+left_counts f f1 f2 f3 taken fault why ok err e k u m =
+    let same : f2 ≡ f1 = same_by fault k u in
     by taken ok err m (same ∙ e)
   where
-    same_by : (x : AskFault) → CountsFault f1 f2 x → IsUnbroken x → (x ≡ NoMemory → f2 ≡ f1) → f2 ≡ f1
-    same_by (Refused cause) k u n = k
-    same_by (Raised x) k u n = k
-    same_by Spent k u n = k
-    same_by NoMemory k u n = n refl
-    same_by (Broken x) k u n = absurd u
+    same_by : (x : AskFault) → CountsFault f1 f2 x → IsUnbroken x → f2 ≡ f1
+    same_by (Refused cause) k u = k
+    same_by (Raised x) k u = k
+    same_by Spent k u = k
+    same_by NoMemory k u = k
+    same_by (Broken x) k u = absurd u
 
     still : (x : AskFault) → IsUnbroken x → f3 ≡ f → CountsFault f f3 x
     still (Refused cause) u e = e
     still (Raised x) u e = e
     still Spent u e = e
-    still NoMemory u e = tt
+    still NoMemory u e = e
     still (Broken x) u e = absurd u
 
     by : (t : Result (Unit {0}) AskFault) → OnOk t (why ≡ fault) → IfErr t (λ (x : AskFault). why ≡ x) → CountsAsk f2 f3 t → f2 ≡ f → CountsFault f f3 why
@@ -119,7 +120,7 @@ left_counts f f1 f2 f3 taken fault why ok err e k u n m =
 
 -- memory was wanting for a line
 pub wanted_counts : (f f1 f2 : ℕ) (taken : Result (Unit {0}) AskFault) (why : AskFault) → f1 ≡ f → OnOk taken (why ≡ NoMemory) → IfErr taken (λ (x : AskFault). why ≡ x) → CountsAsk f1 f2 taken → CountsFault f f2 why
-wanted_counts f f1 f2 (Ok x) why same ok err k = subst (λ (z : AskFault). CountsFault f f2 z) (sym ok) tt
+wanted_counts f f1 f2 (Ok x) why same ok err k = subst (λ (z : AskFault). CountsFault f f2 z) (sym ok) (k ∙ same)
 wanted_counts f f1 f2 (Err x) why same ok err k = subst (λ (z : AskFault). CountsFault f f2 z) (sym err) (fault_on f f1 f2 x same k)
 
 -- ---- words of a step that are taken away
@@ -162,48 +163,13 @@ module _ (b : Behaviour) (c : Conduct) (o o1 : Option World) (f f1 : ℕ) (first
 
 module _ (b : Behaviour) (c : Conduct) (st : SessionState) (still : IsStill st.state) where
   pub unready : (how : Resume) (o o1 o2 : Option World) (first first' first'' : SideRecord) (second second' second'' : Option SideRecord) (hs : Hosts) → AreThere b c o first second hs → SidesStand (sides_of first second hs) st → (p : AllPrepared b c o1 first first' second second' hs st how)
-      → (r : Result (Unit {0}) AskFault) → r ≡ unit_ok → OnOk r (AllCleared b c o2 first' first'' second' second'' p.hosts) → StandAgain b c o2 first'' second'' st
+      → (r : Result (Unit {0}) AskFault) → r ≡ unit_ok → OnOk r (AllCleared b c o2 first' first'' second' second'' p.hosts) → StandAgain WithTable b c o2 first'' second'' st
   unready how o o1 o2 first first' first'' second second' second'' hs there sides p r is cleared =
       unprepared b c st still how o o1 o2 first first' first'' second second' second'' hs there sides p (subst (λ (z : Result (Unit {0}) AskFault). OnOk z (AllCleared b c o2 first' first'' second' second'' p.hosts)) is cleared)
 
 -- ---- whole commands
 
-pub represents_same : (b : Behaviour) (c : Conduct) (o : Option World) (first : SideRecord) (second : Option SideRecord) (m : Mode) (limit : ℕ) (hs : Hosts) (st : SessionState) → Represents b c o first second m limit hs st → RepresentsAgain b c o first second m limit st
-represents_same b c o first second m limit hs st x = represents_again b c o first second m limit st x.state x.limit_is (stands_same b c o first second hs st x.there x.sides)
-
 -- a command that asks where the session stands, or was never resumed
-pub runs_still : (s : State) (c : Command) → RunsNoneAsked c → refused_by_state s c ≡ None → IsStill s
-runs_still Fresh c p e = tt
-runs_still Stopped c p e = tt
-runs_still (Running how) (command.Break spot) p e = cc
-runs_still (Running how) (command.Clear spot) p e = cc
-runs_still (Running how) command.Frames p e = cc
-runs_still (Running how) (command.Frame k) p e = cc
-runs_still (Running how) (command.Code text) p e = cc
-runs_still (Running how) command.Regs p e = absurd p
-runs_still (Running how) command.Continue p e = absurd p
-runs_still (Running how) command.Step p e = absurd p
-runs_still (Running how) (command.Turns k) p e = absurd p
-runs_still (Running how) command.Quit p e = absurd p
-runs_still (Running how) (command.Print name) p e = absurd p
-runs_still (Running how) (command.Eval text) p e = absurd p
-runs_still (Running how) (command.Assign text) p e = absurd p
-runs_still (Running how) (command.Ps text) p e = absurd p
-runs_still Ended (command.Break spot) p e = cc
-runs_still Ended (command.Clear spot) p e = cc
-runs_still Ended command.Frames p e = cc
-runs_still Ended (command.Frame k) p e = cc
-runs_still Ended (command.Code text) p e = cc
-runs_still Ended command.Regs p e = absurd p
-runs_still Ended command.Continue p e = absurd p
-runs_still Ended command.Step p e = absurd p
-runs_still Ended (command.Turns k) p e = absurd p
-runs_still Ended command.Quit p e = absurd p
-runs_still Ended (command.Print name) p e = absurd p
-runs_still Ended (command.Eval text) p e = absurd p
-runs_still Ended (command.Assign text) p e = absurd p
-runs_still Ended (command.Ps text) p e = absurd p
-
 pub expression_still : (s : State) (c : Command) → IsExpression c → refused_by_state s c ≡ None → IsStill s
 expression_still Fresh c p e = tt
 expression_still Stopped c p e = tt
@@ -236,9 +202,30 @@ expression_still Ended command.Quit p e = absurd p
 expression_still Ended (command.Print name) p e = absurd p
 expression_still Ended (command.Ps text) p e = absurd p
 
-pub runs_asked : (c : Command) → RunsNoneInquired c → c ≢ command.Regs → RunsNoneAsked c
-runs_asked command.Regs h n = absurd (n refl)
-runs_asked c h n = h
+-- one that is asked alone is meant, or has an expression
+meant_or : {P : Type 0} (c : Command) → IsAskedAlone c → (IsInquiry c → P) → (IsExpression c → P) → P
+meant_or (command.Eval text) h meant expr = expr tt
+meant_or (command.Code text) h meant expr = expr tt
+meant_or (command.Break spot) h meant expr = meant tt
+meant_or (command.Clear spot) h meant expr = meant tt
+meant_or command.Frames h meant expr = meant tt
+meant_or (command.Frame n) h meant expr = meant tt
+meant_or (command.Print name) h meant expr = meant tt
+meant_or c h meant expr = absurd h
+
+pub alone_still : (s : State) (c : Command) → IsAskedAlone c → refused_by_state s c ≡ None → IsStill s
+alone_still s c h e = meant_or c h (λ meant. asked_still s c meant e) (λ expr. expression_still s c expr e)
+
+-- what the sides are asked, but for registers and assignments
+pub inquired_or : {P : Type 0} (c : Command) → IsInquired c → c ≢ command.Regs → ((text : List ℕ) → c ≢ command.Assign text) → (IsAskedAlone c → P) → (IsText c → P) → P
+inquired_or command.Regs h n m alone is_text = absurd (n refl)
+inquired_or (command.Assign text) h n m alone is_text = absurd (m text refl)
+inquired_or (command.Ps text) h n m alone is_text = is_text tt
+inquired_or c h n m alone is_text = alone h
+
+pub text_inquiry : (c : Command) → IsText c → IsInquiry c
+text_inquiry (command.Ps text) h = tt
+text_inquiry c h = absurd h
 
 pub expression_look : (c : Command) → IsExpression c → ((text : List ℕ) → c ≢ command.Assign text) → IsLook c
 expression_look (command.Eval text) h n = tt
@@ -246,11 +233,21 @@ expression_look (command.Code text) h n = tt
 expression_look (command.Assign text) h n = absurd (n _ refl)
 expression_look c h n = absurd h
 
-pub runs_inquired : (c : Command) → RunsNone c → c ≢ command.Continue → c ≢ command.Step → ((n : ℕ) → c ≢ command.Turns n) → RunsNoneInquired c
-runs_inquired command.Continue h n m k = absurd (n refl)
-runs_inquired command.Step h n m k = absurd (m refl)
-runs_inquired (command.Turns t) h n m k = absurd (k t refl)
-runs_inquired c h n m k = h
+pub is_inquired : (c : Command) → c ≢ command.Continue → c ≢ command.Step → ((n : ℕ) → c ≢ command.Turns n) → c ≢ command.Quit → IsInquired c
+is_inquired command.Continue n m k q = absurd (n refl)
+is_inquired command.Step n m k q = absurd (m refl)
+is_inquired (command.Turns t) n m k q = absurd (k t refl)
+is_inquired command.Quit n m k q = absurd (q refl)
+is_inquired (command.Break spot) n m k q = tt
+is_inquired (command.Clear spot) n m k q = tt
+is_inquired command.Frames n m k q = tt
+is_inquired (command.Frame t) n m k q = tt
+is_inquired command.Regs n m k q = tt
+is_inquired (command.Print name) n m k q = tt
+is_inquired (command.Eval text) n m k q = tt
+is_inquired (command.Assign text) n m k q = tt
+is_inquired (command.Code text) n m k q = tt
+is_inquired (command.Ps text) n m k q = tt
 
 -- a command that asks is one whose answers are meant, or has an expression
 pub asks_or : {P : Type 0} (c : Command) → c ≢ command.Continue → c ≢ command.Step → ((n : ℕ) → c ≢ command.Turns n) → c ≢ command.Quit → (IsAskable c → P) → (IsExpression c → P) → P

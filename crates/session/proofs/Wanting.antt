@@ -1,9 +1,10 @@
 -- Sides that stand as before where a command found no memory.
-use Rattle.std.proofs.Common.{◌≡◌, ◌∙◌, refl, sym, ap, subst, inl, inr, ℕ, [], map, Option, Some, None, Result, Ok, Err, IfErr, ◌⊎◌}
+use Rattle.std.proofs.Common.{◌≡◌, ◌≢◌, ◌∙◌, refl, sym, ap, subst, inl, inr, ℕ, List, [], map, Option, Some, None, Result, Ok, Err, IfErr, ◌⊎◌}
 use Rattle.std.specs.Global.{Vec}
 use Rattle.std.specs.List.{AllByRecursion}
 use Rattle.machine_state.specs.Sound.{IsMemory}
-use Rattle.machine_state.specs.State.{Behaviour}
+use Rattle.machine_state.specs.Regions.{Regions}
+use Rattle.machine_state.specs.State.{Behaviour, order_of}
 use Rattle.nub_wire.specs.declared.link.Side.{Side}
 use Rattle.nub_wire.specs.declared.link.Side.TheVariants.{First, Second}
 use Rattle.nub_wire.specs.Rest.{other}
@@ -11,7 +12,7 @@ use Rattle.nub_wire.specs.Nub.{Host}
 use Rattle.nub_wire.specs.Delivery.{Conduct, World}
 use Rattle.resuming.specs.Standing.{Stands}
 use Rattle.ps_store.specs.declared.object.Part.{Part}
-use Rattle.ps_store.specs.declared.object.Part.TheVariants.{Command}
+use Rattle.ps_store.specs.declared.object.Part.TheVariants.{Command as CommandPart}
 use Rattle.ps_store.specs.declared.object.Mark.{Mark}
 use Rattle.ps_store.specs.Held.{Held}
 use Rattle.ps_store.specs.StoreState.{StoreState}
@@ -30,10 +31,13 @@ use Rattle.table_asks.specs.Faults.{IsOwn, IsUnbroken}
 use Rattle.debug_side.proofs.Undoing.{all_undone}
 use Rattle.dialect_model.specs.TableUse.{TableUse}
 use Rattle.c_session.specs.Commands.{Resume, ByStep, ByContinue}
+use Rattle.c_session.specs.declared.command.Command.{Command}
+use Rattle.c_session.specs.declared.command.Command.TheVariants as command
 use Rattle.claims.specs.Side.{SideState, SessionState, State, Fresh, Stopped, Running, Ended}
 use Rattle.side_meaning.specs.Standing.{Debugged, StandsFor, no_objects}
 use Rattle.side_meaning.specs.Stepping.{IsStill, IsSettled, IsReady}
 use Rattle.side_meaning.specs.Asking.{HasNames}
+use Rattle.side_meaning.specs.Storing.{StoresNumbers, none_stored}
 use Rattle.side_meaning.specs.Sessions as sessions
 use Rattle.side_meaning.specs.Sessions.{OnSecond, StandsIn, SidesStand, Prepared, PreparedIn, SecondPrepared, ArePrepared}
 use Rattle.side_meaning.proofs.Asking.{names_stay}
@@ -44,7 +48,8 @@ use Rattle.session.specs.declared.modes.Mode.{Mode}
 use Rattle.session.specs.declared.sides.SideRecord.{SideRecord}
 use Rattle.session.specs.Answered.{state_of}
 use Rattle.session.specs.Meant.{debugged, IsThere, Hosts, second_of, sides_of, AreThere, AreReadyFor, AllPrepared, AllCleared, Represents}
-use Rattle.session.specs.Wanting.{TableStays, OnlyRan, StaysOne, WithTable, WithTables, StandAgain, RepresentsAgain}
+use Rattle.session.specs.Wanting.{TableStays, OnlyRan, StaysOne, WithTable, WithNumbers, WithSides, IsText, Leaves, LeavesIfAny, StandAgain, RepresentsAgain}
+use Rattle.session.proofs.Asking.{none_mapped}
 use Rattle.session.proofs.Pointing.{cut_nothing}
 use Rattle.session.proofs.Beside.{stands_beside, second_beside, first_beside}
 use Rattle.session.proofs.Readying.{second_stays, PutsOn, TakesAway}
@@ -55,15 +60,15 @@ pub same_table : (s : StoreState) → TableStays s s
 same_table s = record { names = λ d names. (record { breaks = refl; stands_at = refl; kept = refl }, names); nothing = λ e. e }
 
 abbrev in_command : StoreState → StoreState
-in_command s = record s { part = Command }
+in_command s = record s { part = CommandPart }
 
 -- from the begin of a command to its end
-module _ (s begun k t : StoreState) (m : Mark) (store : begun ≡ in_command s) (mark : m ≡ mark_of s.command) (closed : Settles (closed_part begun) (closed_part k)) (ends : t ≡ record k { part = Command; command = cut k.command m }) where
+module _ (s begun k t : StoreState) (m : Mark) (store : begun ≡ in_command s) (mark : m ≡ mark_of s.command) (closed : Settles (closed_part begun) (closed_part k)) (ends : t ≡ record k { part = CommandPart; command = cut k.command m }) where
   settled : Settled (closed_part (in_command s)) (closed_part k)
   settled = closed (closed_part (in_command s)) (subst (λ (z : StoreState). Settled (closed_part (in_command s)) (closed_part z)) (sym store) (settled_same (closed_part (in_command s))))
 
   abbrev last : StoreState
-  last = record k { part = Command; command = cut k.command m }
+  last = record k { part = CommandPart; command = cut k.command m }
 
   settled_last : Settled (closed_part k) (closed_part last)
   settled_last = subst (λ (p : Part). Settled (closed_part k) (record (closed_part k) { part = p })) settled.part (settled_same (closed_part k))
@@ -132,6 +137,13 @@ module _ (b : Behaviour) (c : Conduct) (o o' : Option World) (side : SideRecord)
     pub one_stays : (side' : SideRecord) → side' ≡ after → StaysOne b c o' side' h beside a
     one_stays side' e = subst (λ (z : SideRecord). StaysOne b c o' z h beside a) (sym e) (record { there = there_so; ran = ran_so })
 
+-- so it does where it is there still
+pub side_stays : (b : Behaviour) (c : Conduct) (o o' : Option World) (side side' : SideRecord) (h : Host) (beside : Option Host) → IsThere b c o side h beside → (a : SideState) → IsReady (debugged side h) a → a.step_words ≡ [] → side' ≡ record side { inquiry = side'.inquiry }
+    → TableStays side.inquiry.core.store side'.inquiry.core.store → IsThere b c o' side' h beside → StaysOne b c o' side' h beside a
+side_stays b c o o' side side' h beside x a ready none same table there =
+    one_stays b c o o' side h beside x side'.inquiry side.row.breaks side.frame refl table (subst (λ (w : Side). Stands b c w o' h beside) (ap (λ (z : SideRecord). z.which) same) there.stands) a ready.stands none
+    (none_mapped (row_in side.inquiry.core.store) side.row.step_words.items (sym ready.planted.words ∙ none)) refl side' same
+
 -- the words that were put, or stood still, were taken away
 pub cleared_ran : (how : Resume) (d d' d'' : Debugged) (a : SideState) → IsMemory d.host.machine.memory → StandsFor d a → a.step_words ≡ [] → Prepared how d d' a → IsSettled d' d'' → OnlyRan d'' a
 cleared_ran ByContinue d d' d'' a memory for none p s =
@@ -156,12 +168,54 @@ first_there_still b c o o' first first' second hs which there x = record {
 abbrev pub RanNone : Debugged → SideState → Type 0
 RanNone d a = OnlyRan d a × (a.step_words ≡ [])
 
-same_second : (x : Option SideState) → OnSecond WithTable x x
-same_second None = tt
-same_second (Some a) = refl
+abbrev pub Change : Type 1
+Change = SideState → SideState → Type 0
 
-pub stands_same : (b : Behaviour) (c : Conduct) (o : Option World) (first : SideRecord) (second : Option SideRecord) (hs : Hosts) (st : SessionState) → AreThere b c o first second hs → SidesStand (sides_of first second hs) st → StandAgain b c o first second st
-stands_same b c o first second hs st there sides = record { after = st; hosts = hs; there = there; sides = sides; tables = record { same = refl; first = refl; second = same_second st.second } }
+pub second_all : (P : Change) (x : Option SideState) → ((a : SideState) → P a a) → OnSecond P x x
+second_all P None h = tt
+second_all P (Some a) h = h a
+
+pub stands_same : (P : Change) → ((a : SideState) → P a a) → (b : Behaviour) (c : Conduct) (o : Option World) (first : SideRecord) (second : Option SideRecord) (hs : Hosts) (st : SessionState) → AreThere b c o first second hs → SidesStand (sides_of first second hs) st → StandAgain P b c o first second st
+stands_same P same b c o first second hs st there sides = record { after = st; hosts = hs; there = there; sides = sides; changed = record { same = refl; first = same st.first; second = second_all P st.second same } }
+
+-- what is changed less is changed so
+second_as : (P Q : Change) (x y : Option SideState) → ((a a' : SideState) → P a a' → Q a a') → OnSecond P x y → OnSecond Q x y
+second_as P Q None None to h = tt
+second_as P Q (Some a) (Some a') to h = to a a' h
+second_as P Q None (Some a) to h = absurd h
+second_as P Q (Some a) None to h = absurd h
+
+sides_as : (P Q : Change) (st st' : SessionState) → ((a a' : SideState) → P a a' → Q a a') → WithSides P st st' → WithSides Q st st'
+sides_as P Q st st' to w = record { same = w.same; first = to st.first st'.first w.first; second = second_as P Q st.second st'.second to w.second }
+
+pub again_as : (P Q : Change) → ((a a' : SideState) → P a a' → Q a a') → (b : Behaviour) (c : Conduct) (o : Option World) (first : SideRecord) (second : Option SideRecord) (st : SessionState) → StandAgain P b c o first second st → StandAgain Q b c o first second st
+again_as P Q to b c o first second st s = record { after = s.after; hosts = s.hosts; there = s.there; sides = s.sides; changed = sides_as P Q st s.after to s.changed }
+
+pub represents_as : (P Q : Change) → ((a a' : SideState) → P a a' → Q a a') → (b : Behaviour) (c : Conduct) (o : Option World) (first : SideRecord) (second : Option SideRecord) (mode : Mode) (limit : ℕ) (st : SessionState) → RepresentsAgain P b c o first second mode limit st → RepresentsAgain Q b c o first second mode limit st
+represents_as P Q to b c o first second mode limit st s = record { after = s.after; hosts = s.hosts; represents = s.represents; changed = sides_as P Q st s.after to s.changed }
+
+-- what a command leaves
+pub table_leaves : (c : Command) (a a' : SideState) → WithTable a a' → Leaves c a a'
+table_leaves (command.Ps text) a a' h = record { same = h ∙ ap (λ (m : Regions). record a { machine = record a.machine { memory = m }; table = a'.table }) (ap (λ (z : SideState). z.machine.memory) (sym h)); stores = subst (λ (m : Regions). StoresNumbers (order_of a.machine) a.machine.memory m) (ap (λ (z : SideState). z.machine.memory) (sym h)) none_stored }
+table_leaves c a a' h = h
+
+pub numbers_leave : (c : Command) → IsText c → (a a' : SideState) → WithNumbers a a' → Leaves c a a'
+numbers_leave (command.Ps text) is a a' h = h
+numbers_leave c is a a' h = absurd is
+
+pub text_is : (c : Command) → IsText c → ((text : List ℕ) → c ≢ command.Ps text) → ⊥
+text_is (command.Ps text) h n = n text refl
+text_is c h n = h
+
+pub same_leaves : (c : Command) (a : SideState) → Leaves c a a
+same_leaves c a = table_leaves c a a refl
+
+pub same_numbers : (a : SideState) → WithNumbers a a
+same_numbers a = record { same = refl; stores = none_stored }
+
+pub same_leaves_if_any : (c : Option Command) (a : SideState) → LeavesIfAny c a a
+same_leaves_if_any None a = refl
+same_leaves_if_any (Some c) a = same_leaves c a
 
 record SecondAgain (state : State) (d : Option Debugged) (a : Option SideState) : Type 0 where
   after : Option SideState
@@ -182,7 +236,7 @@ second_same state (Some d) None still r = absurd r
 
 module _ (b : Behaviour) (c : Conduct) (st : SessionState) (still : sessions.IsStill st.state) where
   pub stand_again : (o : Option World) (first : SideRecord) (second : Option SideRecord) (hs : Hosts) → AreThere b c o first second hs → OnlyRan (debugged first hs.first) st.first → st.first.step_words ≡ [] → OnSecond RanNone (second_of second hs.second) st.second
-      → StandAgain b c o first second st
+      → StandAgain WithTable b c o first second st
   stand_again o first second hs there one none two =
       let more = second_again st.state (second_of second hs.second) st.second still two in
       record {
@@ -190,12 +244,12 @@ module _ (b : Behaviour) (c : Conduct) (st : SessionState) (still : sessions.IsS
         hosts = hs;
         there = there;
         sides = record { first = in_state st.state (debugged first hs.first) (record st.first { table = one.table }) still one.stands none; second = more.stands };
-        tables = record { same = refl; first = refl; second = more.tables };
+        changed = record { same = refl; first = refl; second = more.tables };
       }
 
   -- the first side alone was asked
   pub first_wanted : (o o1 : Option World) (first first' : SideRecord) (second : Option SideRecord) (hs : Hosts) → AreThere b c o first second hs → SidesStand (sides_of first second hs) st → first'.which ≡ first.which → StaysOne b c o1 first' hs.first hs.second st.first
-      → StandAgain b c o1 first' second st
+      → StandAgain WithTable b c o1 first' second st
   first_wanted o o1 first first' second hs there sides which s =
       stand_again o1 first' second hs
       (first_there_still b c o o1 first first' second hs which there s.there)
@@ -203,21 +257,42 @@ module _ (b : Behaviour) (c : Conduct) (st : SessionState) (still : sessions.IsS
 
   -- both were asked, and what was done on the first side was undone
   pub both_wanted : (o o' : Option World) (first second : SideRecord) (g h : Host) (s : SideState) (beside : Option Host) → st.second ≡ Some s → first.which ≡ First → second.which ≡ Second → StaysOne b c o' first g (Some h) st.first → StaysOne b c o second h beside s
-      → st.first.step_words ≡ [] → s.step_words ≡ [] → StandAgain b c o' first (Some second) st
+      → st.first.step_words ≡ [] → s.step_words ≡ [] → StandAgain WithTable b c o' first (Some second) st
   both_wanted o o' first second g h s beside is e k x y none more =
       stand_again o' first (Some second) (record { first = g; second = Some h })
       (record { first_is = e; first_there = x.there; second_there = (k, second_beside b c o o' first second h g beside k y.there e x.there) })
       x.ran none (subst (λ (z : Option SideState). OnSecond RanNone (Some (debugged second h)) z) (sym is) (y.ran, more))
 
+  -- both were asked, and nothing was done on either
+  pub second_asked : (o o1 o2 : Option World) (first first' second second' : SideRecord) (hs : Hosts) → AreThere b c o first (Some second) hs → AreReadyFor first (Some second) hs st → first'.which ≡ first.which → second'.which ≡ second.which → StaysOne b c o1 first' hs.first hs.second st.first
+      → ((h : Host) (beside : Option Host) (a : SideState) → IsThere b c o1 second h beside → IsReady (debugged second h) a → a.step_words ≡ [] → StaysOne b c o2 second' h beside a) → StandAgain WithTable b c o2 first' (Some second') st
+  second_asked o o1 o2 first first' second second' hs there ready which second_which x stays = by hs.second st.second there ready refl x
+    where
+      by : (k : Option Host) (s : Option SideState) → AreThere b c o first (Some second) (record { first = hs.first; second = k }) → AreReadyFor first (Some second) (record { first = hs.first; second = k }) (record st { second = s }) → st.second ≡ s → StaysOne b c o1 first' hs.first k st.first
+          → StandAgain WithTable b c o2 first' (Some second') st
+      by None s t r e x = absurd t.second_there
+      by (Some h) None t r e x = absurd r.ready.1
+      by (Some h) (Some s) t r e x =
+          let more = no_words st.state (debugged second h) s still r.sides.second in
+          let waits : IsThere b c o1 second h (Some hs.first) = second_beside b c o o1 first' second h hs.first (Some hs.first) t.second_there.0 t.second_there.1 (which ∙ t.first_is) x.there in
+          let y = stays h (Some hs.first) s waits r.ready.1 more in
+          stand_again o2 first' (Some second') (record { first = hs.first; second = Some h })
+          (record {
+            first_is = which ∙ t.first_is;
+            first_there = first_beside b c o1 o2 first' second' hs.first h (Some h) (which ∙ t.first_is) x.there (second_which ∙ t.second_there.0) y.there;
+            second_there = (second_which ∙ t.second_there.0, y.there);
+          })
+          x.ran (no_words st.state (debugged first hs.first) st.first still r.sides.first) (subst (λ (z : Option SideState). OnSecond RanNone (Some (debugged second' h)) z) (sym e) (y.ran, more))
+
   -- the second side alone found no memory, and the first one was undone
   pub given_again : (o o1 o2 o3 : Option World) (first first' first'' second second' : SideRecord) (hs : Hosts) → AreThere b c o first (Some second) hs → AreReadyFor first (Some second) hs st → first'.which ≡ first.which → first''.which ≡ first'.which → second'.which ≡ second.which
       → (g : Host) → IsThere b c o1 first' g hs.second
       → ((h : Host) (beside : Option Host) (a : SideState) → IsThere b c o1 second h beside → IsReady (debugged second h) a → a.step_words ≡ [] → StaysOne b c o2 second' h beside a)
-      → (Stands b c first'.which o2 g hs.second → StaysOne b c o3 first'' hs.first hs.second st.first) → StandAgain b c o3 first'' (Some second') st
+      → (Stands b c first'.which o2 g hs.second → StaysOne b c o3 first'' hs.first hs.second st.first) → StandAgain WithTable b c o3 first'' (Some second') st
   given_again o o1 o2 o3 first first' first'' second second' hs there ready which again second_which g mid stays back = by hs.second st.second there ready refl mid back
     where
       by : (x : Option Host) (y : Option SideState) → AreThere b c o first (Some second) (record { first = hs.first; second = x }) → AreReadyFor first (Some second) (record { first = hs.first; second = x }) (record st { second = y }) → st.second ≡ y
-          → IsThere b c o1 first' g x → (Stands b c first'.which o2 g x → StaysOne b c o3 first'' hs.first x st.first) → StandAgain b c o3 first'' (Some second') st
+          → IsThere b c o1 first' g x → (Stands b c first'.which o2 g x → StaysOne b c o3 first'' hs.first x st.first) → StandAgain WithTable b c o3 first'' (Some second') st
       by None y t r e m k = absurd t.second_there
       by (Some h) None t r e m k = absurd r.ready.1
       by (Some h) (Some s) t r e m k =
@@ -262,11 +337,11 @@ module _ (b : Behaviour) (c : Conduct) (st : SessionState) (still : sessions.IsS
   pub second_unput : (o o1 o2 o3 : Option World) (f f1 f2 f3 : ℕ) (first first' first'' second second' : SideRecord) (hs : Hosts) → first'.which ≡ first.which → first''.which ≡ first'.which → second'.which ≡ second.which → AreThere b c o first (Some second) hs
       → SidesStand (sides_of first (Some second) hs) st → PutsOn b c o o1 f f1 first first' (Ok tt)
       → ((h : Host) (beside : Option Host) (a : SideState) → IsThere b c o1 second h beside → StandsFor (debugged second h) a → a.step_words ≡ [] → StaysOne b c o2 second' h beside a)
-      → TakesAway b c o2 o3 f2 f3 first' first'' (Ok tt) → StandAgain b c o3 first'' (Some second') st
+      → TakesAway b c o2 o3 f2 f3 first' first'' (Ok tt) → StandAgain WithTable b c o3 first'' (Some second') st
   second_unput o o1 o2 o3 f f1 f2 f3 first first' first'' second second' hs which again second_which there sides puts stays away = by hs.second st.second there sides refl
     where
       by : (x : Option Host) (y : Option SideState) → AreThere b c o first (Some second) (record { first = hs.first; second = x }) → SidesStand (sides_of first (Some second) (record { first = hs.first; second = x })) (record st { second = y }) → st.second ≡ y
-          → StandAgain b c o3 first'' (Some second') st
+          → StandAgain WithTable b c o3 first'' (Some second') st
       by None y t r e = absurd t.second_there
       by (Some g) None t r e = absurd r.second
       by (Some g) (Some s) t r e =
@@ -283,17 +358,20 @@ module _ (b : Behaviour) (c : Conduct) (st : SessionState) (still : sessions.IsS
 
   -- all is taken away again
   pub unprepared : (how : Resume) (o o1 o2 : Option World) (first first' first'' : SideRecord) (second second' second'' : Option SideRecord) (hs : Hosts) → AreThere b c o first second hs → SidesStand (sides_of first second hs) st
-      → (p : AllPrepared b c o1 first first' second second' hs st how) → AllCleared b c o2 first' first'' second' second'' p.hosts → StandAgain b c o2 first'' second'' st
+      → (p : AllPrepared b c o1 first first' second second' hs st how) → AllCleared b c o2 first' first'' second' second'' p.hosts → StandAgain WithTable b c o2 first'' second'' st
   unprepared how o o1 o2 first first' first'' second second' second'' hs there sides p s =
       stand_again o2 first'' second'' s.hosts s.there
       (first_cleared how (debugged first hs.first) (debugged first' p.hosts.first) (debugged first'' s.hosts.first) (memories b c first.which o hs.first hs.second there.first_there.stands) sides.first p.prepared.first s.first_settled)
       (no_words st.state (debugged first hs.first) st.first still sides.first)
       (second_cleared how (second_of second hs.second) (second_of second' p.hosts.second) (second_of second'' s.hosts.second) st.second (second_memory o hs.first second hs.second there.second_there) sides.second p.prepared.second s.second_settled)
 
-pub represents_again : (b : Behaviour) (c : Conduct) (o : Option World) (first : SideRecord) (second : Option SideRecord) (mode : Mode) (limit : ℕ) (st : SessionState) → st.state ≡ state_of mode → st.limit ≡ limit → StandAgain b c o first second st → RepresentsAgain b c o first second mode limit st
-represents_again b c o first second mode limit st state lim s = record {
+pub represents_again : (P : Change) (b : Behaviour) (c : Conduct) (o : Option World) (first : SideRecord) (second : Option SideRecord) (mode : Mode) (limit : ℕ) (st : SessionState) → st.state ≡ state_of mode → st.limit ≡ limit → StandAgain P b c o first second st → RepresentsAgain P b c o first second mode limit st
+represents_again P b c o first second mode limit st state lim s = record {
   after = s.after;
   hosts = s.hosts;
-  represents = record { there = s.there; sides = s.sides; state = ap (λ (z : SessionState). z.state) s.tables.same ∙ state; limit_is = ap (λ (z : SessionState). z.limit) s.tables.same ∙ lim };
-  tables = s.tables;
+  represents = record { there = s.there; sides = s.sides; state = ap (λ (z : SessionState). z.state) s.changed.same ∙ state; limit_is = ap (λ (z : SessionState). z.limit) s.changed.same ∙ lim };
+  changed = s.changed;
 }
+
+pub represents_same : (P : Change) → ((a : SideState) → P a a) → (b : Behaviour) (c : Conduct) (o : Option World) (first : SideRecord) (second : Option SideRecord) (m : Mode) (limit : ℕ) (hs : Hosts) (st : SessionState) → Represents b c o first second m limit hs st → RepresentsAgain P b c o first second m limit st
+represents_same P same b c o first second m limit hs st x = represents_again P b c o first second m limit st x.state x.limit_is (stands_same P same b c o first second hs st x.there x.sides)

@@ -14,7 +14,7 @@ use Rattle.asking.specs.Doing.{ChangesOver}
 use Rattle.asking.specs.Breaks.{rows_in, breaking, clearing}
 use Rattle.asking.specs.Frames.{listing, choosing}
 use Rattle.asking.specs.Printing.{EndsOver, printing, target_with}
-use Rattle.evaluating.specs.Told.{OnlyReads, StoresNone}
+use Rattle.evaluating.specs.Told.{StoresNone}
 
 module _ {W R : Type 0} (seen : W → Seen R) (leads : W → Option (List ℕ) → W → Type 0) where
   -- the memory of the target, as operators see it
@@ -29,7 +29,7 @@ module _ {W R : Type 0} (seen : W → Seen R) (leads : W → Option (List ℕ) �
   Does (command.Frame n) frame ps i o r ps' i' o' = ComesOver (choosing (row_of_target o.view.target) o.view.context n) i (target o) r i' (target o') × (ps' ≡ ps)
   Does (command.Print name) frame ps i o r ps' i' o' = EndsOver (printing frame name) (target_with o) i (target o) r i' (target o') × RanOver seen leads o.memory.below.below.below r o'.memory.below.below.below × (ps' ≡ ps)
   Does (command.Eval text) frame ps i o r ps' i' o' = StoresNone seen o r o'
-  Does (command.Code text) frame ps i o r ps' i' o' = OnlyReads seen o r o'
+  Does (command.Code text) frame ps i o r ps' i' o' = StoresNone seen o r o'
   Does c frame ps i o r ps' i' o' = IfErr r (λ f. ⊥) × (o' ≡ o)
 
 -- the chosen frame where the command is done

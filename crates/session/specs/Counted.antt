@@ -33,12 +33,12 @@ IsNoQuit r = Unit {0}
 
 -- ---- the link
 
--- The link's fault raises its count, and nothing else does; without memory nothing is said.
+-- the link's fault raises its count, and nothing else does
 abbrev pub CountsFault : (old new : ℕ) → AskFault → Type 0
 CountsFault old new (ask.Refused cause) = new ≡ old
 CountsFault old new (ask.Raised e) = new ≡ old
 CountsFault old new ask.Spent = new ≡ old
-CountsFault old new ask.NoMemory = Unit {0}
+CountsFault old new ask.NoMemory = new ≡ old
 CountsFault old new (ask.Broken LinkFault) = Rose old new
 CountsFault old new (ask.Broken (BadReply frame)) = new ≡ old
 CountsFault old new (ask.Broken (Outside p)) = ⊥
@@ -55,6 +55,6 @@ CountsTalk old new (Err (talk.BadReply frame)) = new ≡ old
 -- behind a command whose link failed the session has ended by its last reply
 abbrev pub CountsAnswer : (old new : ℕ) → (broken : List ℕ) → Mode → Result Answer End → Type 0
 CountsAnswer old new broken mode (Ok (Lines text)) = (new ≡ old) ⊎ IsBrokenOff old new broken mode text
-CountsAnswer old new broken mode (Ok NoMemory) = Unit {0}
+CountsAnswer old new broken mode (Ok NoMemory) = new ≡ old
 CountsAnswer old new broken mode (Err Quit) = new ≡ old
 CountsAnswer old new broken mode (Err OutFault) = new ≡ old

@@ -58,6 +58,14 @@ IsFailure (Refused c) = ⊥
 IsFailure (Raised e) = ⊥
 IsFailure Spent = ⊥
 
+-- an address was outside, or the link failed
+abbrev pub IsStoreFault : AskFault → Type 0
+IsStoreFault (Broken f) = Unit {0}
+IsStoreFault (Raised e) = Unit {0}
+IsStoreFault (Refused c) = ⊥
+IsStoreFault Spent = ⊥
+IsStoreFault NoMemory = ⊥
+
 -- how a fault is answered: the session ends where its link failed, and else its state stays
 abbrev pub AnswersFault : (broken : List ℕ) (old new : Mode) → AskFault → Answer → Type 0
 AnswersFault broken old new (Broken f) answer = (new ≡ Ended) × (answer ≡ Lines broken)

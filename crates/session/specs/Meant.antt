@@ -114,12 +114,12 @@ module _ {A : Type 0} (faults faults' : ℕ) (Done : A → Type 0) (Isnt : Troub
   ComesTo (Err (Broken (BadReply frame))) = ⊥
   ComesTo (Err (Broken (Outside p))) = ⊥
 
--- The same where any trouble leaves what is said. A link that failed has counted it, and brought no bad reply; without memory nothing is said.
+-- The same where any trouble leaves what is said, want of memory too. A link that failed has counted it, and brought no bad reply.
 abbrev pub FailsWell : (faults faults' : ℕ) → (Stays : Type 0) → AskFault → Type 0
 FailsWell faults faults' Stays (Refused cause) = Stays
 FailsWell faults faults' Stays (Raised e) = Stays
 FailsWell faults faults' Stays Spent = Stays
-FailsWell faults faults' Stays NoMemory = Unit {0}
+FailsWell faults faults' Stays NoMemory = Stays
 FailsWell faults faults' Stays (Broken LinkFault) = Rose faults faults'
 FailsWell faults faults' Stays (Broken (BadReply frame)) = ⊥
 FailsWell faults faults' Stays (Broken (Outside p)) = ⊥

@@ -1,7 +1,7 @@
--- What a command leaves that found no memory: a session that stands for the machine session as before, over the tables that it has then. (Units of them
--- may have been run; that nothing else became of them isn't said here.)
-use Rattle.std.specs.Prelude.{◌≡◌, ℕ, [], Option, Some, None}
-use Rattle.machine_state.specs.State.{Behaviour}
+-- What a command leaves that found no memory: a session that stands for the machine session as before, over the tables that it has then, and
+-- behind `ps` with what its text had stored. (Units of the tables may have been run; that nothing else became of them isn't said here.)
+use Rattle.std.specs.Prelude.{◌≡◌, ℕ, [], Option, Some, None, Result, Err}
+use Rattle.machine_state.specs.State.{Behaviour, order_of}
 use Rattle.nub_wire.specs.Nub.{Host}
 use Rattle.nub_wire.specs.Delivery.{Conduct, World}
 use Rattle.ps_store.specs.StoreState.{StoreState}
@@ -10,32 +10,30 @@ use Rattle.c_session.specs.declared.command.Command.TheVariants as command
 use Rattle.claims.specs.Side.{SideState, SessionState}
 use Rattle.side_meaning.specs.Standing.{Debugged, StandsFor, no_objects}
 use Rattle.side_meaning.specs.Stepping.{IsStill}
-use Rattle.side_meaning.specs.Asking.{HasNames}
+use Rattle.side_meaning.specs.Asking.{HasNames, IsAsked}
 use Rattle.side_meaning.specs.Sessions.{OnSecond, SidesStand}
+use Rattle.side_meaning.specs.Storing.{StoresNumbers}
 use Rattle.session.specs.declared.modes.Mode.{Mode}
 use Rattle.session.specs.declared.sides.SideRecord.{SideRecord}
-use Rattle.session.specs.Meant.{debugged, sides_of, Hosts, IsThere, AreThere, Represents, IsBare}
+use Rattle.session.specs.Meant.{debugged, sides_of, Hosts, IsThere, AreThere, Represents, IsPlain}
 
--- one that runs no PostScript over the target, asked of each side
-abbrev pub RunsNoneAsked : Command → Type 0
-RunsNoneAsked (command.Code text) = Unit {0}
-RunsNoneAsked c = IsBare c
+-- one that is asked of each side, but for `ps`
+abbrev pub IsAskedAlone : Command → Type 0
+IsAskedAlone (command.Eval text) = Unit {0}
+IsAskedAlone (command.Code text) = Unit {0}
+IsAskedAlone c = IsPlain c
 
--- `regs` too
-abbrev pub RunsNoneInquired : Command → Type 0
-RunsNoneInquired command.Regs = Unit {0}
-RunsNoneInquired c = RunsNoneAsked c
+-- a text of PostScript, which alone may store to the target where it isn't done
+abbrev pub IsText : Command → Type 0
+IsText (command.Ps text) = Unit {0}
+IsText c = ⊥
 
--- any command that does so: not `print`, `eval`, `assign` and `ps`
-abbrev pub RunsNone : Command → Type 0
-RunsNone command.Continue = Unit {0}
-RunsNone command.Step = Unit {0}
-RunsNone (command.Turns n) = Unit {0}
-RunsNone c = RunsNoneInquired c
-
-abbrev pub RunsNoneIfAny : Option Command → Type 0
-RunsNoneIfAny None = Unit {0}
-RunsNoneIfAny (Some c) = RunsNone c
+-- one that is answered by what the sides tell
+abbrev pub IsInquired : Command → Type 0
+IsInquired command.Regs = Unit {0}
+IsInquired (command.Assign text) = Unit {0}
+IsInquired (command.Ps text) = Unit {0}
+IsInquired c = IsAskedAlone c
 
 -- ---- a table
 
@@ -43,6 +41,26 @@ RunsNoneIfAny (Some c) = RunsNone c
 pub record TableStays (s t : StoreState) : Type 0 where
   pub names : (d : Debugged) → HasNames (record d { table = s }) → IsStill (record d { table = s }) (record d { table = t }) × HasNames (record d { table = t })
   pub nothing : s.command ≡ no_objects → t.command ≡ no_objects
+
+-- ---- what is changed of a side
+
+abbrev pub WithTable : (a a' : SideState) → Type 0
+WithTable a a' = a' ≡ record a { table = a'.table }
+
+-- numbers were stored in the memory of its machine, too
+pub record WithNumbers (a a' : SideState) : Type 0 where
+  pub same : a' ≡ record a { machine = record a.machine { memory = a'.machine.memory }; table = a'.table }
+  pub stores : StoresNumbers (order_of a.machine) a.machine.memory a'.machine.memory
+
+-- by a command that found no memory
+abbrev pub Leaves : Command → (a a' : SideState) → Type 0
+Leaves (command.Ps text) a a' = WithNumbers a a'
+Leaves c a a' = WithTable a a'
+
+-- a line without a command leaves all as it is
+abbrev pub LeavesIfAny : Option Command → (a a' : SideState) → Type 0
+LeavesIfAny None a a' = a' ≡ a
+LeavesIfAny (Some c) a a' = Leaves c a a'
 
 -- ---- a side
 
@@ -56,29 +74,34 @@ pub record StaysOne (b : Behaviour) (c : Conduct) (o : Option World) (side : Sid
   pub there : IsThere b c o side h beside
   pub ran : OnlyRan (debugged side h) a
 
+-- behind a text of PostScript: they are at rest, and numbers were stored on both sides alike
+pub record StoresOne (b : Behaviour) (c : Conduct) (o : Option World) (side side' : SideRecord) (h : Host) (beside : Option Host) (a : SideState) : Type 0 where
+  pub host : Host
+  pub after : SideState
+  pub there : IsThere b c o side' host beside
+  pub alike : IsAsked (debugged side h) (debugged side' host) a after
+  pub numbers : WithNumbers a after
+
 -- ---- the session
 
-abbrev pub WithTable : (a a' : SideState) → Type 0
-WithTable a a' = a' ≡ record a { table = a'.table }
-
--- the machine session with other tables: memory, registers, breakpoints, chosen frames, limit and output are as before
-pub record WithTables (st st' : SessionState) : Type 0 where
+-- the machine session with other sides: its limit and its output are as before
+pub record WithSides (P : (a a' : SideState) → Type 0) (st st' : SessionState) : Type 0 where
   pub same : st' ≡ record st { first = st'.first; second = st'.second }
-  pub first : WithTable st.first st'.first
-  pub second : OnSecond WithTable st.second st'.second
+  pub first : P st.first st'.first
+  pub second : OnSecond P st.second st'.second
 
-module _ (b : Behaviour) (c : Conduct) (o : Option World) (first : SideRecord) (second : Option SideRecord) where
+module _ (P : (a a' : SideState) → Type 0) (b : Behaviour) (c : Conduct) (o : Option World) (first : SideRecord) (second : Option SideRecord) where
   -- the sides stand for those of such a machine session
   pub record StandAgain (st : SessionState) : Type 0 where
     pub after : SessionState
     pub hosts : Hosts
     pub there : AreThere b c o first second hosts
     pub sides : SidesStand (sides_of first second hosts) after
-    pub tables : WithTables st after
+    pub changed : WithSides P st after
 
   -- and so does the session
   pub record RepresentsAgain (mode : Mode) (limit : ℕ) (st : SessionState) : Type 0 where
     pub after : SessionState
     pub hosts : Hosts
     pub represents : Represents b c o first second mode limit hosts after
-    pub tables : WithTables st after
+    pub changed : WithSides P st after

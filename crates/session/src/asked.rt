@@ -6,11 +6,12 @@ ghost use Rattle.abs_mem.specs.WireMeaning.{wire_seen};
 ghost use Rattle.ps_store.specs.Store.{closed_part};
 ghost use Rattle.table_points.specs.Named.{IsNamed};
 ghost use Rattle.table_asks.specs.Closing.{Settles};
+ghost use Rattle.table_asks.specs.Faults.{IsUnbroken};
 ghost use Rattle.session.specs.Asked.{Does, chosen_frame};
 ghost use Rattle.session.specs.Kept.{IsFailure, IsKept, IsQuery, IsUndone, SaysDone};
 ghost use Rattle.session.specs.Counted.{CountsAsk};
 ghost use Rattle.session.specs.Turned.{turned};
-ghost use Rattle.session.specs.Wanting.{RunsNoneAsked, StaysOne, TableStays};
+ghost use Rattle.session.specs.Wanting.{IsAskedAlone, IsText, StaysOne, StoresOne, TableStays};
 ghost use Rattle.resuming.specs.Standing.{Stands};
 ghost use Rattle.machine_state.specs.State.{Behaviour};
 ghost use Rattle.nub_wire.specs.Nub.{Host};
@@ -84,6 +85,8 @@ pub fn asked_text<L: Link + Drop>(
     ensures meant { (b : Behaviour) (h : Host) (beside : Option Host) (a : SideState) → IsThere b L.conduct (L.world talk.old.memory.below.below.below.link) side.old h beside → IsReady (debugged side.old h) a → a.step_words ≡ []
         → ComesTo (L.faults talk.old.memory.below.below.below.link) (L.faults talk.new.memory.below.below.below.link) (λ said. SaidOne b L.conduct (L.world talk.new.memory.below.below.below.link) side.old side.new h beside (Ps text.now) a said) (NotOne b L.conduct (L.world talk.new.memory.below.below.below.link) side.old side.new h beside (Ps text.now) a) result }
     ensures same { side.new ≡ record side.old { inquiry = side.new.inquiry } }
+    ensures stores { (b : Behaviour) (h : Host) (beside : Option Host) (a : SideState) → IsThere b L.conduct (L.world talk.old.memory.below.below.below.link) side.old h beside → IsReady (debugged side.old h) a → a.step_words ≡ [] → IfErr result (λ fault. IsUnbroken fault)
+        → StoresOne b L.conduct (L.world talk.new.memory.below.below.below.link) side.old side.new h beside a }
     ensures count { CountsAsk (L.faults talk.old.memory.below.below.below.link) (L.faults talk.new.memory.below.below.below.link) result }
 {
     turn(talk, side);
@@ -113,9 +116,11 @@ pub fn asked<L: Link + Drop>(
     ensures meant { (b : Behaviour) (h : Host) (beside : Option Host) (a : SideState) → IsThere b L.conduct (L.world talk.old.memory.below.below.below.link) side.old h beside → IsReady (debugged side.old h) a → a.step_words ≡ [] → IsInquiry command.now
         → ComesTo (L.faults talk.old.memory.below.below.below.link) (L.faults talk.new.memory.below.below.below.link) (λ text. SaidOne b L.conduct (L.world talk.new.memory.below.below.below.link) side.old side.new h beside command.now a text) (NotOne b L.conduct (L.world talk.new.memory.below.below.below.link) side.old side.new h beside command.now a) result }
     ensures same { side.new ≡ record side.old { inquiry = side.new.inquiry; row = record side.old.row { breaks = side.new.row.breaks }; frame = side.new.frame } }
-    ensures table { RunsNoneAsked command.now → TableStays side.old.inquiry.core.store side.new.inquiry.core.store }
-    ensures stays { (b : Behaviour) (h : Host) (beside : Option Host) (a : SideState) → IsThere b L.conduct (L.world talk.old.memory.below.below.below.link) side.old h beside → IsReady (debugged side.old h) a → a.step_words ≡ [] → RunsNoneAsked command.now → IsUndone result
+    ensures table { IsAskedAlone command.now → TableStays side.old.inquiry.core.store side.new.inquiry.core.store }
+    ensures stays { (b : Behaviour) (h : Host) (beside : Option Host) (a : SideState) → IsThere b L.conduct (L.world talk.old.memory.below.below.below.link) side.old h beside → IsReady (debugged side.old h) a → a.step_words ≡ [] → IsAskedAlone command.now → IsUndone result
         → StaysOne b L.conduct (L.world talk.new.memory.below.below.below.link) side.new h beside a }
+    ensures stores { (b : Behaviour) (h : Host) (beside : Option Host) (a : SideState) → IsThere b L.conduct (L.world talk.old.memory.below.below.below.link) side.old h beside → IsReady (debugged side.old h) a → a.step_words ≡ [] → IsText command.now → IfErr result (λ fault. IsUnbroken fault)
+        → StoresOne b L.conduct (L.world talk.new.memory.below.below.below.link) side.old side.new h beside a }
     ensures wants { IsBare command.now → result ≡ Err AskFault.NoMemory → L.faults talk.new.memory.below.below.below.link ≡ L.faults talk.old.memory.below.below.below.link }
     ensures looked { (b : Behaviour) (h : Host) (beside : Option Host) → IsThere b L.conduct (L.world talk.old.memory.below.below.below.link) side.old h beside → IsLook command.now → TalksWell (L.faults talk.old.memory.below.below.below.link) (L.faults talk.new.memory.below.below.below.link) (IsThere b L.conduct (L.world talk.new.memory.below.below.below.link) side.new h beside) result }
     ensures count { CountsAsk (L.faults talk.old.memory.below.below.below.link) (L.faults talk.new.memory.below.below.below.link) result }
@@ -163,6 +168,8 @@ pub fn ran<L: Link + Drop>(
     ensures kept { IsKept side.old side.new }
     ensures which { side.new.which ≡ side.old.which }
     ensures failure { IfErr result (λ fault. IsFailure fault) }
+    ensures stores { (b : Behaviour) (h : Host) (beside : Option Host) (a : SideState) → IsThere b L.conduct (L.world talk.old.memory.below.below.below.link) side.old h beside → IsReady (debugged side.old h) a → a.step_words ≡ [] → IfErr result (λ fault. IsUnbroken fault)
+        → StoresOne b L.conduct (L.world talk.new.memory.below.below.below.link) side.old side.new h beside a }
     ensures meant { (b : Behaviour) (h : Host) (beside : Option Host) (a : SideState) → IsThere b L.conduct (L.world talk.old.memory.below.below.below.link) side.old h beside → IsReady (debugged side.old h) a → a.step_words ≡ []
         → ComesTo (L.faults talk.old.memory.below.below.below.link) (L.faults talk.new.memory.below.below.below.link) (λ u. RanOne b L.conduct (L.world talk.new.memory.below.below.below.link) side.old side.new h beside (Ps text.now) a) (λ e. ⊥) result }
     ensures count { CountsAsk (L.faults talk.old.memory.below.below.below.link) (L.faults talk.new.memory.below.below.below.link) result }

@@ -1,11 +1,12 @@
 // `assign` on one side.
 
-ghost use Rattle.std.specs.Prelude.{◌≡◌, Option};
+ghost use Rattle.std.specs.Prelude.{◌≡◌, IfErr, Option};
 ghost use Rattle.machine_state.specs.State.{Behaviour};
 ghost use Rattle.nub_wire.specs.Nub.{Host};
 ghost use Rattle.session.specs.Counted.{CountsAsk};
-ghost use Rattle.session.specs.Kept.{IsKept};
+ghost use Rattle.session.specs.Kept.{IsKept, IsStoreFault};
 ghost use Rattle.session.specs.Meant.{IsThere, StoredThere, TalksWell};
+ghost use Rattle.session.specs.Wanting.{TableStays};
 
 use crate::sides::{SideRecord, turn};
 use abs_mem::Wire;
@@ -22,6 +23,8 @@ pub fn assigned<L: Link + Drop>(
 ) -> Result<Changes, AskFault>
     ensures kept { IsKept side.old side.new }
     ensures which { side.new.which ≡ side.old.which }
+    ensures same { side.new ≡ record side.old { inquiry = side.new.inquiry } }
+    ensures table { TableStays side.old.inquiry.core.store side.new.inquiry.core.store }
     ensures evaluated { (b : Behaviour) (h : Host) (beside : Option Host) → IsThere b L.conduct (L.world talk.old.memory.below.below.below.link) side.old h beside → TalksWell (L.faults talk.old.memory.below.below.below.link) (L.faults talk.new.memory.below.below.below.link) (IsThere b L.conduct (L.world talk.new.memory.below.below.below.link) side.new h beside) result }
     ensures count { CountsAsk (L.faults talk.old.memory.below.below.below.link) (L.faults talk.new.memory.below.below.below.link) result }
 {
@@ -42,6 +45,7 @@ pub fn store<L: Link + Drop>(
     changes: &Changes,
 ) -> Result<(), AskFault>
     ensures stores { (b : Behaviour) (h : Host) (beside : Option Host) → IsThere b L.conduct (L.world talk.old.memory.below.below.below.link) side.now h beside → TalksWell (L.faults talk.old.memory.below.below.below.link) (L.faults talk.new.memory.below.below.below.link) (StoredThere b L.conduct (L.world talk.new.memory.below.below.below.link) side.now beside) result }
+    ensures last { IfErr result (λ fault. IsStoreFault fault) }
     ensures count { CountsAsk (L.faults talk.old.memory.below.below.below.link) (L.faults talk.new.memory.below.below.below.link) result }
 {
     turn(talk, side);

@@ -1,7 +1,7 @@
 // A command that doesn't resume, on both sides.
 
 ghost use Rattle.std.specs.Prelude.{◌≡◌, ◌≢◌, ◌⊎◌, ℕ, List, [], IfOk, IfErr, OnOk, Ok, Err, Option, Some};
-ghost use Rattle.session.specs.Kept.{IsFailure, IsKept, IsUndone, IsQuery, SaysDone};
+ghost use Rattle.session.specs.Kept.{IsFailure, IsKept, IsStoreFault, IsUndone, IsQuery, SaysDone};
 ghost use Rattle.machine_state.specs.State.{Behaviour};
 ghost use Rattle.nub_wire.specs.Nub.{Host};
 ghost use Rattle.c_session.specs.declared.command.Command.TheVariants.{Ps};
@@ -10,14 +10,16 @@ ghost use Rattle.session.specs.Meant.{ComesTo, Hosts, IsThere, AreThere, AreRead
 ghost use Rattle.abs_mem.specs.WireMeaning.{memory_of};
 ghost use Rattle.session.specs.Counted.{CountsAsk, CountsFault};
 ghost use Rattle.session.specs.Undoing.{words_before, IsGivenUp};
-ghost use Rattle.session.specs.Wanting.{RunsNoneAsked, StandAgain};
+ghost use Rattle.session.specs.Wanting.{IsAskedAlone, IsText, StandAgain, StaysOne, StoresOne, WithNumbers, WithTable};
 ghost use Rattle.side_meaning.specs.Stepping.{IsReady};
 ghost use Rattle.side_meaning.specs.Sessions.{SidesStand};
+ghost use Rattle.table_asks.specs.Faults.{IsUnbroken};
 ghost use Rattle.asking_meaning.specs.Meant.{joined};
 ghost use Rattle.claims.specs.Outcome.{DoneOnBoth, all_regs};
 
 use crate::asked::{asked, is_failure, ran, registers_of};
 use crate::assigning::{assigned, store};
+use crate::replies::error_reply;
 use crate::sides::SideRecord;
 use crate::undoing::{given_up, words_before};
 use abs_mem::Wire;
@@ -27,6 +29,7 @@ use evaluating::Changes;
 use ldb_words::Text;
 use nub_wire::Link;
 use ps_ops::Operators;
+use ps_run::PsError;
 use std::alloc::Global;
 use table_asks::AskFault;
 
@@ -45,6 +48,8 @@ fn undone<L: Link + Drop>(
     ensures failed { IsFailure fault → (result ≡ fault) × (second.new ≡ second.old) × (talk.new ≡ talk.old) }
     ensures meant { (text : List ℕ) (b : Behaviour) (h : Host) (beside : Option Host) (a : SideState) → command.now ≡ Ps text → (IsFailure fault → ⊥) → IsThere b L.conduct (L.world talk.old.memory.below.below.below.link) second.old h beside → IsReady (debugged second.old h) a → a.step_words ≡ []
         → ((result ≡ fault) × RanOne b L.conduct (L.world talk.new.memory.below.below.below.link) second.old second.new h beside (Ps text) a) ⊎ IsGivenUp (L.faults talk.old.memory.below.below.below.link) (L.faults talk.new.memory.below.below.below.link) (Unit {0}) result }
+    ensures stores { (b : Behaviour) (h : Host) (beside : Option Host) (a : SideState) → (IsFailure fault → ⊥) → IsThere b L.conduct (L.world talk.old.memory.below.below.below.link) second.old h beside → IsReady (debugged second.old h) a → a.step_words ≡ [] → IsText command.now → IsUnbroken result
+        → StoresOne b L.conduct (L.world talk.new.memory.below.below.below.link) second.old second.new h beside a }
     ensures count { (IsFailure fault → ⊥) → CountsFault (L.faults talk.old.memory.below.below.below.link) (L.faults talk.new.memory.below.below.below.link) result }
 {
     if is_failure(&fault) {
@@ -71,8 +76,10 @@ fn asked_behind<L: Link + Drop>(
     ensures second { IsUndone result → IsKept second.old second.new }
     ensures query { IsQuery command.now → IsKept first.old first.new × IsKept second.old second.new }
     ensures word { IfOk result (λ text. SaysDone command.now text) }
-    ensures stays { (b : Behaviour) (hs : Hosts) (st : SessionState) → AreThere b L.conduct (L.world talk.old.memory.below.below.below.link) first.old (Some second.old) hs → AreReadyFor first.old (Some second.old) hs st → RunsNoneAsked command.now
-        → words.now ≡ words_before command.now (memory_of hs.first.machine) first.old.row.breaks.items → IsUndone result → StandAgain b L.conduct (L.world talk.new.memory.below.below.below.link) first.new (Some second.new) st }
+    ensures stays { (b : Behaviour) (hs : Hosts) (st : SessionState) → AreThere b L.conduct (L.world talk.old.memory.below.below.below.link) first.old (Some second.old) hs → AreReadyFor first.old (Some second.old) hs st → IsAskedAlone command.now
+        → words.now ≡ words_before command.now (memory_of hs.first.machine) first.old.row.breaks.items → IsUndone result → StandAgain WithTable b L.conduct (L.world talk.new.memory.below.below.below.link) first.new (Some second.new) st }
+    ensures stores { (b : Behaviour) (hs : Hosts) (st : SessionState) → AreThere b L.conduct (L.world talk.old.memory.below.below.below.link) first.old (Some second.old) hs → AreReadyFor first.old (Some second.old) hs st → IsText command.now → IsUndone result
+        → StandAgain WithNumbers b L.conduct (L.world talk.new.memory.below.below.below.link) first.new (Some second.new) st }
     ensures meant { (b : Behaviour) (hs : Hosts) (st : SessionState) → AreThere b L.conduct (L.world talk.old.memory.below.below.below.link) first.old (Some second.old) hs → AreReadyFor first.old (Some second.old) hs st → IsInquiry command.now
         → ComesTo (L.faults talk.old.memory.below.below.below.link) (L.faults talk.new.memory.below.below.below.link) (λ text. SaidAll b L.conduct (L.world talk.new.memory.below.below.below.link) first.new (Some second.new) st (DoneOnBoth st command.now) text) (NotAll b L.conduct (L.world talk.new.memory.below.below.below.link) first.new (Some second.new) st (DoneOnBoth st command.now)) result }
     ensures looked { (b : Behaviour) (hs : Hosts) → AreThere b L.conduct (L.world talk.old.memory.below.below.below.link) first.old (Some second.old) hs → IsLook command.now → TalksWell (L.faults talk.old.memory.below.below.below.link) (L.faults talk.new.memory.below.below.below.link) (Unit {0}) result }
@@ -116,8 +123,10 @@ pub fn asked_both<L: Link + Drop>(
     ensures second { IsUndone result → IsKept second.old second.new }
     ensures query { IsQuery command.now → IsKept first.old first.new × IsKept second.old second.new }
     ensures word { IfOk result (λ text. SaysDone command.now text) }
-    ensures stays { (b : Behaviour) (hs : Hosts) (st : SessionState) → AreThere b L.conduct (L.world talk.old.memory.below.below.below.link) first.old (Some second.old) hs → AreReadyFor first.old (Some second.old) hs st → RunsNoneAsked command.now → IsUndone result
-        → StandAgain b L.conduct (L.world talk.new.memory.below.below.below.link) first.new (Some second.new) st }
+    ensures stays { (b : Behaviour) (hs : Hosts) (st : SessionState) → AreThere b L.conduct (L.world talk.old.memory.below.below.below.link) first.old (Some second.old) hs → AreReadyFor first.old (Some second.old) hs st → IsAskedAlone command.now → IsUndone result
+        → StandAgain WithTable b L.conduct (L.world talk.new.memory.below.below.below.link) first.new (Some second.new) st }
+    ensures stores { (b : Behaviour) (hs : Hosts) (st : SessionState) → AreThere b L.conduct (L.world talk.old.memory.below.below.below.link) first.old (Some second.old) hs → AreReadyFor first.old (Some second.old) hs st → IsText command.now → IsUndone result
+        → StandAgain WithNumbers b L.conduct (L.world talk.new.memory.below.below.below.link) first.new (Some second.new) st }
     ensures meant { (b : Behaviour) (hs : Hosts) (st : SessionState) → AreThere b L.conduct (L.world talk.old.memory.below.below.below.link) first.old (Some second.old) hs → AreReadyFor first.old (Some second.old) hs st → IsInquiry command.now
         → ComesTo (L.faults talk.old.memory.below.below.below.link) (L.faults talk.new.memory.below.below.below.link) (λ text. SaidAll b L.conduct (L.world talk.new.memory.below.below.below.link) first.new (Some second.new) st (DoneOnBoth st command.now) text) (NotAll b L.conduct (L.world talk.new.memory.below.below.below.link) first.new (Some second.new) st (DoneOnBoth st command.now)) result }
     ensures looked { (b : Behaviour) (hs : Hosts) → AreThere b L.conduct (L.world talk.old.memory.below.below.below.link) first.old (Some second.old) hs → IsLook command.now → TalksWell (L.faults talk.old.memory.below.below.below.link) (L.faults talk.new.memory.below.below.below.link) (Unit {0}) result }
@@ -157,23 +166,47 @@ pub fn registers_both<L: Link + Drop>(
     }
 }
 
-/// The text that says that an assignment is done, or why there is none.
-fn set_text(alloc: Global) -> Result<Text, AskFault>
+/// What an assignment may say: that it is done, or that a place is outside. Memory for both is taken before anything is stored.
+#[derive(Drop)]
+struct Sayings {
+    set: Text,
+    outside: Text,
+}
+
+/// What an assignment may say, or why there is no memory for it.
+fn sayings_for(alloc: Global) -> Result<Sayings, AskFault>
     ensures { IfErr result (λ fault. fault ≡ AskFault.NoMemory) }
 {
-    match Text::from_slice(alloc, b"set\n") {
-        Ok(text) => Ok(text),
+    let Ok(set) = Text::from_slice(alloc, b"set\n") else {
+        return Err(AskFault::NoMemory);
+    };
+    match error_reply(alloc, PsError::RangeCheck) {
+        Ok(outside) => Ok(Sayings { set, outside }),
         Err(_) => Err(AskFault::NoMemory),
     }
 }
 
 /// What an assignment says, once it was stored.
-fn stored(done: Result<(), AskFault>, said: Text) -> Result<Text, AskFault>
-    ensures ok { OnOk done (result ≡ Ok said) }
-    ensures err { IfErr done (λ fault. result ≡ Err fault) }
+fn stored(done: Result<(), AskFault>, said: Sayings) -> Result<Text, AskFault>
+    ensures count { (f f' : ℕ) → CountsAsk f f' done → CountsAsk f f' result }
+    ensures well { (f f' : ℕ) → TalksWell f f' (Unit {0}) done → TalksWell f f' (Unit {0}) result }
+    ensures whole { IfErr done (λ fault. IsStoreFault fault) → IsUndone result → ⊥ }
 {
     match done {
-        Ok(()) => Ok(said),
+        Ok(()) => Ok(said.set),
+        Err(AskFault::Raised(_)) => Ok(said.outside),
+        Err(fault) => Err(fault),
+    }
+}
+
+/// What an assignment says that the first side has stored, once the second one has.
+fn stored_on_both(done: Result<(), AskFault>, said: Sayings) -> Result<Text, AskFault>
+    ensures count { (f f' : ℕ) → CountsAsk f f' done → CountsAsk f f' result }
+    ensures well { (f f' : ℕ) → TalksWell f f' (Unit {0}) done → TalksWell f f' (Unit {0}) result }
+    ensures whole { IfErr done (λ fault. IsStoreFault fault) → IsUndone result → ⊥ }
+{
+    match done {
+        Ok(()) | Err(AskFault::Raised(_)) => Ok(said.set),
         Err(fault) => Err(fault),
     }
 }
@@ -185,10 +218,13 @@ pub fn assign_one<L: Link + Drop>(
     text: &[u8],
 ) -> Result<Text, AskFault>
     ensures kept { IsKept first.old first.new }
+    ensures which { first.new.which ≡ first.old.which }
     ensures evaluated { (b : Behaviour) (h : Host) (beside : Option Host) → IsThere b L.conduct (L.world talk.old.memory.below.below.below.link) first.old h beside → TalksWell (L.faults talk.old.memory.below.below.below.link) (L.faults talk.new.memory.below.below.below.link) (Unit {0}) result }
+    ensures stays { (b : Behaviour) (h : Host) (beside : Option Host) (a : SideState) → IsThere b L.conduct (L.world talk.old.memory.below.below.below.link) first.old h beside → IsReady (debugged first.old h) a → a.step_words ≡ [] → IsUndone result
+        → StaysOne b L.conduct (L.world talk.new.memory.below.below.below.link) first.new h beside a }
     ensures count { CountsAsk (L.faults talk.old.memory.below.below.below.link) (L.faults talk.new.memory.below.below.below.link) result }
 {
-    let said = match set_text(first.inquiry.core.operands.allocator()) {
+    let said = match sayings_for(first.inquiry.core.operands.allocator()) {
         Ok(said) => said,
         Err(fault) => return Err(fault),
     };
@@ -204,11 +240,12 @@ fn stored_alone<L: Link + Drop>(
     talk: &mut Operators<Wire<L>>,
     first: &SideRecord,
     changes: &Changes,
-    said: Text,
+    said: Sayings,
     fault: AskFault,
 ) -> Result<Text, AskFault>
     ensures failed { IsFailure fault → (result ≡ Err fault) × (talk.new ≡ talk.old) }
     ensures stores { (b : Behaviour) (h : Host) (beside : Option Host) → (IsFailure fault → ⊥) → IsThere b L.conduct (L.world talk.old.memory.below.below.below.link) first.now h beside → TalksWell (L.faults talk.old.memory.below.below.below.link) (L.faults talk.new.memory.below.below.below.link) (Unit {0}) result }
+    ensures whole { (IsFailure fault → ⊥) → IsUndone result → ⊥ }
     ensures count { (IsFailure fault → ⊥) → CountsAsk (L.faults talk.old.memory.below.below.below.link) (L.faults talk.new.memory.below.below.below.link) result }
 {
     if is_failure(&fault) {
@@ -218,7 +255,7 @@ fn stored_alone<L: Link + Drop>(
 }
 
 /// `assign` on both sides, which are both asked before the first one stores. Where the first side doesn't do it, no side stores,
-/// and where the second one alone refuses it, the first one stores alone.
+/// and where the second one alone refuses it, the first one stores alone. All memory is taken before that.
 pub fn assign_both<L: Link + Drop>(
     talk: &mut Operators<Wire<L>>,
     first: &mut SideRecord,
@@ -228,9 +265,11 @@ pub fn assign_both<L: Link + Drop>(
     ensures first { IsKept first.old first.new }
     ensures second { IsKept second.old second.new }
     ensures evaluated { (b : Behaviour) (hs : Hosts) → AreThere b L.conduct (L.world talk.old.memory.below.below.below.link) first.old (Some second.old) hs → TalksWell (L.faults talk.old.memory.below.below.below.link) (L.faults talk.new.memory.below.below.below.link) (Unit {0}) result }
+    ensures stays { (b : Behaviour) (hs : Hosts) (st : SessionState) → AreThere b L.conduct (L.world talk.old.memory.below.below.below.link) first.old (Some second.old) hs → AreReadyFor first.old (Some second.old) hs st → IsUndone result
+        → StandAgain WithTable b L.conduct (L.world talk.new.memory.below.below.below.link) first.new (Some second.new) st }
     ensures count { CountsAsk (L.faults talk.old.memory.below.below.below.link) (L.faults talk.new.memory.below.below.below.link) result }
 {
-    let said = match set_text(first.inquiry.core.operands.allocator()) {
+    let said = match sayings_for(first.inquiry.core.operands.allocator()) {
         Ok(said) => said,
         Err(fault) => return Err(fault),
     };
@@ -246,7 +285,7 @@ pub fn assign_both<L: Link + Drop>(
     };
     let here = store(talk, first, &changes);
     match here {
-        Ok(()) => stored(store(talk, second, &others), said),
-        Err(fault) => Err(fault),
+        Ok(()) => stored_on_both(store(talk, second, &others), said),
+        Err(fault) => stored(Err(fault), said),
     }
 }

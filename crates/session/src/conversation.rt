@@ -18,7 +18,7 @@ ghost use Rattle.session.specs.Starting.{IsFirst, AreFirst, HasRisen, one_sessio
 ghost use Rattle.nub_wire.specs.Nub.{Host};
 ghost use Rattle.claims.specs.Side.{SessionState};
 ghost use Rattle.session.specs.Meant.{IsThere, ComesTo, Settled, Hosts, AreSteady, AreThere, ResumesAll, SaidAll, NotAll, IsInquiry, IsExpression, IsLook, IsAskable, IsSaid, IsSaidIfAny, AreReadyFor, Represents, AllCleared, AllPrepared, AllSettled, TalksWell, AnswersAs, MeantAnswers, ResumesAs, IsResumable, MayAlsoRun, sides_of};
-ghost use Rattle.session.specs.Wanting.{RunsNone, RunsNoneAsked, RunsNoneIfAny, RunsNoneInquired, RepresentsAgain, StandAgain};
+ghost use Rattle.session.specs.Wanting.{IsAskedAlone, IsInquired, IsText, Leaves, LeavesIfAny, RepresentsAgain, StandAgain, WithNumbers, WithTable};
 ghost use Rattle.ldb_edge.specs.Count.{Rose};
 ghost use Rattle.resuming.specs.Runs.{CountsRun};
 ghost use Rattle.side_meaning.specs.Sessions.{SidesStand, IsStill};
@@ -238,8 +238,8 @@ impl<L: Link + Drop> Session<L> {
     /// into the output, and leaves the session's state as it was or ends the session; the breakpoints and the chosen frames stay, but
     /// where it is `break`, `clear` or `frame` and is done, or its link failed. `continue` and `step` tell the event of all
     /// sides, or aren't begun, or end the session. Without memory the session's state, its limit, its breakpoints and its chosen
-    /// frames are as before, and nothing was put into the output; units of tables that were run stay so, and what a text of PostScript
-    /// stored in the target stays.
+    /// frames are as before, and so are its targets and the count of the link's faults, and nothing was put into the output; units of
+    /// tables that were run stay so, and what a text of PostScript stored in the target stays.
     pub fn command<O: Sink>(&mut self, line: &[u8], out: &mut O) -> Result<Answer, End>
         ensures quit { read_of self.old.raw line.now ≡ Some Quit → result ≡ Err End.Quit }
         ensures quits { result ≡ Err End.Quit → read_of self.old.raw line.now ≡ Some Quit }
@@ -260,8 +260,8 @@ impl<L: Link + Drop> Session<L> {
             → AnswersAs b L.conduct (L.world self.new.talk.memory.below.below.below.link) self.new.first self.new.second self.new.mode self.new.limit st (O.taken out.old) (O.taken out.new) (MeantAnswers b st (read_of self.old.raw line.now)) (L.faults self.old.talk.memory.below.below.below.link) (L.faults self.new.talk.memory.below.below.below.link) self.old.broken result }
         ensures raw { self.new.raw ≡ self.old.raw }
         ensures broken { KeepsReply self.old.broken self.new.broken self.new.mode }
-        ensures stays { (b : Behaviour) (hs : Hosts) (st : SessionState) → Represents b L.conduct (L.world self.old.talk.memory.below.below.below.link) self.old.first self.old.second self.old.mode self.old.limit hs st → RunsNoneIfAny (read_of self.old.raw line.now) → result ≡ Ok Answer.NoMemory
-            → RepresentsAgain b L.conduct (L.world self.new.talk.memory.below.below.below.link) self.new.first self.new.second self.new.mode self.new.limit st }
+        ensures stays { (b : Behaviour) (hs : Hosts) (st : SessionState) → Represents b L.conduct (L.world self.old.talk.memory.below.below.below.link) self.old.first self.old.second self.old.mode self.old.limit hs st → result ≡ Ok Answer.NoMemory
+            → RepresentsAgain (LeavesIfAny (read_of self.old.raw line.now)) b L.conduct (L.world self.new.talk.memory.below.below.below.link) self.new.first self.new.second self.new.mode self.new.limit st }
         ensures target { (b : Behaviour) (hs : Hosts) (st : SessionState) (c : Command) → Represents b L.conduct (L.world self.old.talk.memory.below.below.below.link) self.old.first self.old.second self.old.mode self.old.limit hs st → read_of self.old.raw line.now ≡ Some c → c ≢ Continue → c ≢ Step
             → (self.new.mode ≡ self.old.mode) ⊎ Rose (L.faults self.old.talk.memory.below.below.below.link) (L.faults self.new.talk.memory.below.below.below.link) }
         ensures count { CountsAnswer (L.faults self.old.talk.memory.below.below.below.link) (L.faults self.new.talk.memory.below.below.below.link) self.old.broken self.new.mode result }
@@ -292,7 +292,7 @@ impl<L: Link + Drop> Session<L> {
             → AnswersAs b L.conduct (L.world self.new.talk.memory.below.below.below.link) self.new.first self.new.second self.new.mode self.new.limit st (O.taken out.old) (O.taken out.new) (MeantAnswers b st (Some command.now)) (L.faults self.old.talk.memory.below.below.below.link) (L.faults self.new.talk.memory.below.below.below.link) self.old.broken result }
         ensures raw { self.new.raw ≡ self.old.raw }
         ensures broken { KeepsReply self.old.broken self.new.broken self.new.mode }
-        ensures stays { (b : Behaviour) (hs : Hosts) (st : SessionState) → Represents b L.conduct (L.world self.old.talk.memory.below.below.below.link) self.old.first self.old.second self.old.mode self.old.limit hs st → RunsNone command.now → result ≡ Ok Answer.NoMemory → RepresentsAgain b L.conduct (L.world self.new.talk.memory.below.below.below.link) self.new.first self.new.second self.new.mode self.new.limit st }
+        ensures stays { (b : Behaviour) (hs : Hosts) (st : SessionState) → Represents b L.conduct (L.world self.old.talk.memory.below.below.below.link) self.old.first self.old.second self.old.mode self.old.limit hs st → command.now ≢ Quit → result ≡ Ok Answer.NoMemory → RepresentsAgain (Leaves command.now) b L.conduct (L.world self.new.talk.memory.below.below.below.link) self.new.first self.new.second self.new.mode self.new.limit st }
         ensures target { (b : Behaviour) (hs : Hosts) (st : SessionState) → Represents b L.conduct (L.world self.old.talk.memory.below.below.below.link) self.old.first self.old.second self.old.mode self.old.limit hs st → command.now ≢ Continue → command.now ≢ Step → command.now ≢ Quit → (self.new.mode ≡ self.old.mode) ⊎ Rose (L.faults self.old.talk.memory.below.below.below.link) (L.faults self.new.talk.memory.below.below.below.link) }
         ensures count { CountsAnswer (L.faults self.old.talk.memory.below.below.below.link) (L.faults self.new.talk.memory.below.below.below.link) self.old.broken self.new.mode result }
     {
@@ -390,8 +390,10 @@ impl<L: Link + Drop> Session<L> {
             → ComesTo (L.faults self.old.talk.memory.below.below.below.link) (L.faults self.new.talk.memory.below.below.below.link) (λ text. SaidAll b L.conduct (L.world self.new.talk.memory.below.below.below.link) self.new.first self.new.second st (DoneOnBoth st command.now) text) (NotAll b L.conduct (L.world self.new.talk.memory.below.below.below.link) self.new.first self.new.second st (DoneOnBoth st command.now)) result }
         ensures raw { self.new.raw ≡ self.old.raw }
         ensures broken { self.new.broken ≡ self.old.broken }
-        ensures stays { (b : Behaviour) (hs : Hosts) (st : SessionState) → AreThere b L.conduct (L.world self.old.talk.memory.below.below.below.link) self.old.first self.old.second hs → AreReadyFor self.old.first self.old.second hs st → RunsNoneAsked command.now → IsUndone result
-            → StandAgain b L.conduct (L.world self.new.talk.memory.below.below.below.link) self.new.first self.new.second st }
+        ensures stays { (b : Behaviour) (hs : Hosts) (st : SessionState) → AreThere b L.conduct (L.world self.old.talk.memory.below.below.below.link) self.old.first self.old.second hs → AreReadyFor self.old.first self.old.second hs st → IsAskedAlone command.now → IsUndone result
+            → StandAgain WithTable b L.conduct (L.world self.new.talk.memory.below.below.below.link) self.new.first self.new.second st }
+        ensures stores { (b : Behaviour) (hs : Hosts) (st : SessionState) → AreThere b L.conduct (L.world self.old.talk.memory.below.below.below.link) self.old.first self.old.second hs → AreReadyFor self.old.first self.old.second hs st → IsText command.now → IsUndone result
+            → StandAgain WithNumbers b L.conduct (L.world self.new.talk.memory.below.below.below.link) self.new.first self.new.second st }
         ensures looked { (b : Behaviour) (hs : Hosts) → AreThere b L.conduct (L.world self.old.talk.memory.below.below.below.link) self.old.first self.old.second hs → IsLook command.now → TalksWell (L.faults self.old.talk.memory.below.below.below.link) (L.faults self.new.talk.memory.below.below.below.link) (Unit {0}) result }
         ensures count { CountsAsk (L.faults self.old.talk.memory.below.below.below.link) (L.faults self.new.talk.memory.below.below.below.link) result }
     {
@@ -409,6 +411,8 @@ impl<L: Link + Drop> Session<L> {
         ensures raw { self.new.raw ≡ self.old.raw }
         ensures broken { self.new.broken ≡ self.old.broken }
         ensures evaluated { (b : Behaviour) (hs : Hosts) → AreThere b L.conduct (L.world self.old.talk.memory.below.below.below.link) self.old.first self.old.second hs → TalksWell (L.faults self.old.talk.memory.below.below.below.link) (L.faults self.new.talk.memory.below.below.below.link) (Unit {0}) result }
+        ensures stays { (b : Behaviour) (hs : Hosts) (st : SessionState) → AreThere b L.conduct (L.world self.old.talk.memory.below.below.below.link) self.old.first self.old.second hs → AreReadyFor self.old.first self.old.second hs st → IsUndone result
+            → StandAgain WithTable b L.conduct (L.world self.new.talk.memory.below.below.below.link) self.new.first self.new.second st }
         ensures count { CountsAsk (L.faults self.old.talk.memory.below.below.below.link) (L.faults self.new.talk.memory.below.below.below.link) result }
     {
         match &mut self.second {
@@ -428,8 +432,8 @@ impl<L: Link + Drop> Session<L> {
             → ComesTo (L.faults self.old.talk.memory.below.below.below.link) (L.faults self.new.talk.memory.below.below.below.link) (λ text. SaidAll b L.conduct (L.world self.new.talk.memory.below.below.below.link) self.new.first self.new.second st (AnswersCommand b st command.now) text) (NotAll b L.conduct (L.world self.new.talk.memory.below.below.below.link) self.new.first self.new.second st (AnswersCommand b st command.now)) result }
         ensures raw { self.new.raw ≡ self.old.raw }
         ensures broken { self.new.broken ≡ self.old.broken }
-        ensures stays { (b : Behaviour) (hs : Hosts) (st : SessionState) → Represents b L.conduct (L.world self.old.talk.memory.below.below.below.link) self.old.first self.old.second self.old.mode self.old.limit hs st → refused_by_state st.state command.now ≡ None → RunsNoneInquired command.now → IsUndone result
-            → StandAgain b L.conduct (L.world self.new.talk.memory.below.below.below.link) self.new.first self.new.second st }
+        ensures stays { (b : Behaviour) (hs : Hosts) (st : SessionState) → Represents b L.conduct (L.world self.old.talk.memory.below.below.below.link) self.old.first self.old.second self.old.mode self.old.limit hs st → refused_by_state st.state command.now ≡ None → IsInquired command.now → IsUndone result
+            → StandAgain (Leaves command.now) b L.conduct (L.world self.new.talk.memory.below.below.below.link) self.new.first self.new.second st }
         ensures evaluated { (b : Behaviour) (hs : Hosts) (st : SessionState) → Represents b L.conduct (L.world self.old.talk.memory.below.below.below.link) self.old.first self.old.second self.old.mode self.old.limit hs st → refused_by_state st.state command.now ≡ None → IsExpression command.now → TalksWell (L.faults self.old.talk.memory.below.below.below.link) (L.faults self.new.talk.memory.below.below.below.link) (Unit {0}) result }
         ensures count { CountsAsk (L.faults self.old.talk.memory.below.below.below.link) (L.faults self.new.talk.memory.below.below.below.link) result }
     {
@@ -455,7 +459,7 @@ impl<L: Link + Drop> Session<L> {
             → ComesTo (L.faults self.old.talk.memory.below.below.below.link) (L.faults self.new.talk.memory.below.below.below.link) (λ u. AllPrepared b L.conduct (L.world self.new.talk.memory.below.below.below.link) self.old.first self.new.first self.old.second self.new.second hs st ByStep) (NotAll b L.conduct (L.world self.new.talk.memory.below.below.below.link) self.new.first self.new.second st (Begins b ByStep st)) result }
         ensures raw { self.new.raw ≡ self.old.raw }
         ensures broken { self.new.broken ≡ self.old.broken }
-        ensures stays { (b : Behaviour) (hs : Hosts) (st : SessionState) → Represents b L.conduct (L.world self.old.talk.memory.below.below.below.link) self.old.first self.old.second self.old.mode self.old.limit hs st → IsStill st.state → IsUndone result → StandAgain b L.conduct (L.world self.new.talk.memory.below.below.below.link) self.new.first self.new.second st }
+        ensures stays { (b : Behaviour) (hs : Hosts) (st : SessionState) → Represents b L.conduct (L.world self.old.talk.memory.below.below.below.link) self.old.first self.old.second self.old.mode self.old.limit hs st → IsStill st.state → IsUndone result → StandAgain WithTable b L.conduct (L.world self.new.talk.memory.below.below.below.link) self.new.first self.new.second st }
         ensures count { CountsAsk (L.faults self.old.talk.memory.below.below.below.link) (L.faults self.new.talk.memory.below.below.below.link) result }
     {
         match prepared(&mut self.talk, &mut self.first) {
@@ -520,7 +524,7 @@ impl<L: Link + Drop> Session<L> {
             → ComesTo (L.faults self.old.talk.memory.below.below.below.link) (L.faults self.new.talk.memory.below.below.below.link) (λ line. AllPrepared b L.conduct (L.world self.new.talk.memory.below.below.below.link) self.old.first self.new.first self.old.second self.new.second hs st (resume_of how)) (NotAll b L.conduct (L.world self.new.talk.memory.below.below.below.link) self.new.first self.new.second st (ResumesAs b (resume_of how) st)) result }
         ensures raw { self.new.raw ≡ self.old.raw }
         ensures broken { self.new.broken ≡ self.old.broken }
-        ensures stays { (b : Behaviour) (hs : Hosts) (st : SessionState) → Represents b L.conduct (L.world self.old.talk.memory.below.below.below.link) self.old.first self.old.second self.old.mode self.old.limit hs st → IsResumable st.state → IsUndone result → StandAgain b L.conduct (L.world self.new.talk.memory.below.below.below.link) self.new.first self.new.second st }
+        ensures stays { (b : Behaviour) (hs : Hosts) (st : SessionState) → Represents b L.conduct (L.world self.old.talk.memory.below.below.below.link) self.old.first self.old.second self.old.mode self.old.limit hs st → IsResumable st.state → IsUndone result → StandAgain WithTable b L.conduct (L.world self.new.talk.memory.below.below.below.link) self.new.first self.new.second st }
         ensures count { CountsAsk (L.faults self.old.talk.memory.below.below.below.link) (L.faults self.new.talk.memory.below.below.below.link) result }
     {
         match (self.mode, how) {
@@ -572,7 +576,7 @@ impl<L: Link + Drop> Session<L> {
             → AnswersAs b L.conduct (L.world self.new.talk.memory.below.below.below.link) self.new.first self.new.second self.new.mode self.new.limit st (O.taken out.old) (O.taken out.new) (ResumesAs b (resume_of how) st) (L.faults self.old.talk.memory.below.below.below.link) (L.faults self.new.talk.memory.below.below.below.link) self.old.broken result }
         ensures raw { self.new.raw ≡ self.old.raw }
         ensures broken { KeepsReply self.old.broken self.new.broken self.new.mode }
-        ensures stays { (b : Behaviour) (hs : Hosts) (st : SessionState) → Represents b L.conduct (L.world self.old.talk.memory.below.below.below.link) self.old.first self.old.second self.old.mode self.old.limit hs st → IsResumable st.state → result ≡ Ok Answer.NoMemory → RepresentsAgain b L.conduct (L.world self.new.talk.memory.below.below.below.link) self.new.first self.new.second self.new.mode self.new.limit st }
+        ensures stays { (b : Behaviour) (hs : Hosts) (st : SessionState) → Represents b L.conduct (L.world self.old.talk.memory.below.below.below.link) self.old.first self.old.second self.old.mode self.old.limit hs st → IsResumable st.state → result ≡ Ok Answer.NoMemory → RepresentsAgain WithTable b L.conduct (L.world self.new.talk.memory.below.below.below.link) self.new.first self.new.second self.new.mode self.new.limit st }
         ensures count { CountsAnswer (L.faults self.old.talk.memory.below.below.below.link) (L.faults self.new.talk.memory.below.below.below.link) self.old.broken self.new.mode result }
     {
         let line = match self.ready(how) {

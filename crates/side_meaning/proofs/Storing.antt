@@ -18,6 +18,7 @@ use Rattle.ps_step.specs.declared.machine.PsCore.{PsCore}
 use Rattle.ps_step.specs.Results.{◌>>=◌}
 use Rattle.ps_step.specs.State.{Made}
 use Rattle.ps_run.specs.Runs.{Answer, Asked, Runs, spent, ended, failed, next, asked, broken}
+use Rattle.ps_run.specs.Reaching.{Reaches, here, stepped, answered}
 use Rattle.ps_words.specs.declared.words.WordOperator.{WordOperator}
 use Rattle.ps_words.specs.declared.words.WordOperator.TheVariants.{SignedAdd, SignedSubtract, SignedMultiply, SignedDivide, SignedRemainder, Divide, Remainder, Add, Subtract, Multiply, ShiftLeft, SignedShiftRight, ShiftRight}
 use Rattle.ps_words.specs.Operators.{on_two, negating, below}
@@ -35,7 +36,7 @@ use Rattle.dialect_model.specs.Acting.{with_state, with_told, with_text, space_b
 use Rattle.dialect_model.specs.Operators.{Operator, operators, act_of, act}
 use Rattle.dialect_model.specs.Operating as dialect
 use Rattle.dialect_model.specs.Operating.{Operates}
-use Rattle.side_meaning.specs.Storing.{StoresNumbers, none_stored, stores, SameTarget, KeepsTarget, RunsStoreNumbers, NumbersAreReached}
+use Rattle.side_meaning.specs.Storing.{StoresNumbers, none_stored, stores, SameTarget, KeepsTarget, RunsStoreNumbers, ReachesStoreNumbers, NumbersAreReached}
 
 -- ---- numbers that are stored
 
@@ -372,3 +373,8 @@ runs_kept _ _ _ _ _ _ _ (failed n d c c' e f s how) = same_target d.target
 runs_kept _ _ _ _ _ _ _ (next n m d d' c c₁ c' r s run) = runs_kept n m d d' c₁ c' r run
 runs_kept _ _ _ _ _ _ _ (asked n k m d d₁ d' c c₁ c₂ c' op r s a run) = more_kept d.target d₁.target d'.target (operates_kept a.operates) (runs_kept k m d₁ d' c₂ c' r run)
 runs_kept _ _ _ _ _ _ _ (broken n k d d₁ c c₁ c₂ op g f s a how) = operates_kept a.operates
+
+pub reaches_keep : ReachesStoreNumbers
+reaches_keep n _ d _ c _ here = same_target d.target
+reaches_keep n _ d d' c _ (stepped {n = m} {c₁ = c₁} r s) = reaches_keep n (suc m) d d' c c₁ r
+reaches_keep n _ d d' c _ (answered {n = m} {d₁ = d₁} {c₁ = c₁} r s a) = more_kept d.target d₁.target d'.target (reaches_keep n (suc m) d d₁ c c₁ r) (operates_kept a.operates)

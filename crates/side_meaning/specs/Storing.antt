@@ -7,6 +7,7 @@ use Rattle.machine_state.specs.State.{MachineState, Behaviour, order_of}
 use Rattle.nub_wire.specs.Fits.{Reached}
 use Rattle.ps_step.specs.declared.machine.PsCore.{PsCore}
 use Rattle.ps_run.specs.Runs.{Answer, Runs}
+use Rattle.ps_run.specs.Reaching.{Reaches}
 use Rattle.dialect_model.specs.Dial.{Dial, Target}
 use Rattle.dialect_model.specs.Operating.{Operates}
 
@@ -31,6 +32,10 @@ KeepsTarget (Some t) None = ⊥
 -- Whatever is run, it stores numbers to its target, and changes nothing else of that.
 abbrev pub RunsStoreNumbers : Type 0
 RunsStoreNumbers = (left left' : ℕ) (d d' : Dial) (c c' : PsCore) (answer : Answer) → Runs Operates left d c answer left' d' c' → KeepsTarget d.target d'.target
+
+-- So does what was run of one by a time.
+abbrev pub ReachesStoreNumbers : Type 0
+ReachesStoreNumbers = (left left' : ℕ) (d d' : Dial) (c c' : PsCore) → Reaches Operates left d c left' d' c' → KeepsTarget d.target d'.target
 
 -- So a machine with what it leaves is one that can be reached.
 abbrev pub NumbersAreReached : Type 0

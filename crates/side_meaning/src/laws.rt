@@ -4,7 +4,7 @@ ghost use Rattle.side_meaning.specs.Asking.{RowsStay, NamesStay, WordsAreNamed, 
 ghost use Rattle.side_meaning.specs.Resuming.{ResumesAreMeant, TheyMayRun};
 ghost use Rattle.side_meaning.specs.Sessions.{ResumesAreAnswered, SidesBegin, SidesSettle, AsksStand, LimitsStand};
 ghost use Rattle.side_meaning.specs.Stepping.{StepsAreMeant, NoStepIsMeant, StepsAreUndone, StepsAreAgain, ContinuesAreMeant, StepsBegin, PointsFail, WordsFail, ContinuesAreWhole, StepsAreWhole};
-ghost use Rattle.side_meaning.specs.Storing.{RunsStoreNumbers, NumbersAreReached};
+ghost use Rattle.side_meaning.specs.Storing.{RunsStoreNumbers, ReachesStoreNumbers, NumbersAreReached};
 ghost use Rattle.side_meaning.specs.Telling.{MemoriesAreTold, PlantsAreTold, ClearsAreTold, ResumesAreTold};
 
 /// A resume of a side that stands for one of the machine session comes to that one's event and puts its output, and the side stands
@@ -80,5 +80,6 @@ pub fn calls_are_told()
 /// machine with what it leaves is one that can be reached from the one before.
 pub fn texts_store_numbers()
     ensures runs { RunsStoreNumbers }
+    ensures reaches { ReachesStoreNumbers }
     ensures machines { NumbersAreReached }
 {}

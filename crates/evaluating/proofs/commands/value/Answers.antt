@@ -1,8 +1,8 @@
-use Rattle.evaluating.proofs.Keeping.{keeps_on, runs_on, runs_fail}
+use Rattle.evaluating.proofs.Keeping.{keeps_on, runs_on, fails_on}
 use Rattle.evaluating.proofs.commands.value.Goals as goal
 
 pub returns-in-Err-run_text-clause-told : goal.returns-in-Err-run_text-clause-told
-returns-in-Err-run_text-clause-told g c = runs_fail g.W.AbsMem.seen c.args.talk.now c.read_text.new.talk c.run_text.new.talk c.in-Ok.ensures.told c.in-Err-run_text.fault c.in-Err-run_text.ensures.told
+returns-in-Err-run_text-clause-told g c = fails_on g.W.AbsMem.seen c.args.talk.now c.read_text.new.talk c.run_text.new.talk c.in-Ok.ensures.told c.in-Err-run_text.fault c.in-Err-run_text.ensures.told
 
 pub returns-clause-told : goal.returns-clause-told
 returns-clause-told g c =

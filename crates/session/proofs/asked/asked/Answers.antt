@@ -7,10 +7,10 @@ use Rattle.table_asks.specs.declared.inquiry.Inquiry.{Inquiry}
 use Rattle.session.specs.Meant.{IsBare, IsLook, SaidOne, NotOne, ComesTo}
 use Rattle.ps_store.specs.StoreState.{StoreState}
 use Rattle.session.specs.declared.sides.SideRecord.{SideRecord}
-use Rattle.session.specs.Wanting.{RunsNoneAsked, TableStays}
+use Rattle.session.specs.Wanting.{IsAskedAlone, TableStays}
 use Rattle.session.proofs.Asking.{undone_meant, done_meant, count_of, count_unless, rests_wanting, plain_of}
-use Rattle.session.proofs.Wanting.{same_table, table_stays}
-use Rattle.session.proofs.Looked.{looked, asked_stays, unasked_stays, turned_counts, turned_wants}
+use Rattle.session.proofs.Wanting.{same_table, table_stays, text_is}
+use Rattle.session.proofs.Looked.{looked, asked_stays, unasked_stays, unasked_there, turned_counts}
 use Rattle.session.proofs.asked.asked.Goals as goal
 
 pub returns-in-Err-said-clause-meant : goal.returns-in-Err-said-clause-meant
@@ -128,13 +128,7 @@ pub returns-in-Err-said-clause-stays : goal.returns-in-Err-said-clause-stays
 returns-in-Err-said-clause-stays g c = λ b h beside a there ready none runs e.
     let table = table_stays c.args.side.now.inquiry.core.store c.begin_command.new.inquiry.core.store c.told-said.new.side.inquiry.core.store c.end_command.new.inquiry.core.store c.in-Ok.mark c.in-Ok.ensures.store c.in-Ok.ensures.there c.in-Err-said.ensures.closed c.end_command.ensures.store in
     asked_stays g.L.Link.conduct g.L.Link.world g.L.Link.faults (λ m o n. WireLeads g.L.Link.took g.L.Link.gave m.link m.side o n.link n.side) c.args.side.now c.args.talk.now c.turn.new.talk c.told-said.new.talk c.args.command.now c.args.side.now.frame c.told-said.new.side.row.breaks c.begin_command.new.inquiry c.told-said.new.side.inquiry c.turn.ensures c.in-Err-said.fault e
-    c.in-Err-said.ensures.does b h beside a there ready none runs c.in-Err-said.ensures.kept c.end_command.new.inquiry table (record c.told-said.new.side { inquiry = c.end_command.new.inquiry }) (ap (λ (s : SideRecord). record s { inquiry = c.end_command.new.inquiry }) c.in-Err-said.ensures.same)
-
-pub returns-in-Err-said-clause-wants : goal.returns-in-Err-said-clause-wants
-returns-in-Err-said-clause-wants g c = λ bare e.
-    let is : c.in-Err-said.fault ≡ NoMemory = cc in
-    turned_wants g.L.Link.conduct g.L.Link.world g.L.Link.faults (λ m o n. WireLeads g.L.Link.took g.L.Link.gave m.link m.side o n.link n.side) c.args.side.now c.args.talk.now c.turn.new.talk c.told-said.new.talk c.args.command.now c.in-Err-said.fault is c.args.side.now.frame c.args.side.now.row.breaks.items c.told-said.new.side.row.breaks.items c.begin_command.new.inquiry
-    c.told-said.new.side.inquiry c.turn.ensures c.in-Err-said.ensures.does bare
+    c.in-Err-said.ensures.does b h beside a there ready none runs (ap (λ (s : StoreState). s.part) c.in-Ok.ensures.store) c.in-Err-said.ensures.kept c.end_command.new.inquiry table (record c.told-said.new.side { inquiry = c.end_command.new.inquiry }) (ap (λ (s : SideRecord). record s { inquiry = c.end_command.new.inquiry }) c.in-Err-said.ensures.same)
 
 pub returns-in-Err-clause-stays : goal.returns-in-Err-clause-stays
 returns-in-Err-clause-stays g c = λ b h beside a there ready none runs e.
@@ -143,17 +137,29 @@ returns-in-Err-clause-stays g c = λ b h beside a there ready none runs e.
 pub returns-in-Err-clause-table : goal.returns-in-Err-clause-table
 returns-in-Err-clause-table g c = λ runs. subst (λ (i : Inquiry). TableStays c.args.side.now.inquiry.core.store i.core.store) (sym c.in-Err.ensures.kept) (same_table c.args.side.now.inquiry.core.store)
 
-pub returns-in-Err-clause-wants : goal.returns-in-Err-clause-wants
-returns-in-Err-clause-wants g c = λ bare e. ap (λ o. g.L.Link.faults o.memory.below.below.below.link) c.turn.ensures
-
 pub returns-in-Ps-clause-table : goal.returns-in-Ps-clause-table
-returns-in-Ps-clause-table g c = λ runs. absurd (subst RunsNoneAsked c.in-Ps.is runs)
+returns-in-Ps-clause-table g c = λ runs. absurd (subst IsAskedAlone c.in-Ps.is runs)
 
 pub returns-in-Ps-clause-stays : goal.returns-in-Ps-clause-stays
-returns-in-Ps-clause-stays g c = λ b h beside a there ready none runs e. absurd (subst RunsNoneAsked c.in-Ps.is runs)
-
-pub returns-in-Ps-clause-wants : goal.returns-in-Ps-clause-wants
-returns-in-Ps-clause-wants g c = λ bare e. absurd (subst IsBare c.in-Ps.is bare)
+returns-in-Ps-clause-stays g c = λ b h beside a there ready none runs e. absurd (subst IsAskedAlone c.in-Ps.is runs)
 
 pub returns-in-Ps-clause-looked : goal.returns-in-Ps-clause-looked
 returns-in-Ps-clause-looked g c = λ b h beside there look. absurd (subst IsLook c.in-Ps.is look)
+
+pub returns-in-Err-clause-looked : goal.returns-in-Err-clause-looked
+returns-in-Err-clause-looked g c = λ b h beside there look.
+    unasked_there g.L.Link.conduct g.L.Link.world g.L.Link.faults c.args.side.now c.args.talk.now c.turn.new.talk c.begin_command.new.inquiry c.in-Err.ensures.kept b h beside c.turn.ensures there
+
+-- ---- a text of PostScript
+
+pub returns-in-Ps-clause-stores : goal.returns-in-Ps-clause-stores
+returns-in-Ps-clause-stores g c = λ b h beside a there ready none is unbroken. c.asked_text.ensures.stores b h beside a there ready none unbroken
+
+pub returns-in-Err-clause-stores : goal.returns-in-Err-clause-stores
+returns-in-Err-clause-stores g c = λ b h beside a there ready none is unbroken. absurd (text_is c.args.command.now is (λ text. c.in_default.not-Ps text))
+
+pub returns-in-Err-said-clause-stores : goal.returns-in-Err-said-clause-stores
+returns-in-Err-said-clause-stores g c = λ b h beside a there ready none is unbroken. absurd (text_is c.args.command.now is (λ text. c.in_default.not-Ps text))
+
+pub returns-in-Ok-said-clause-stores : goal.returns-in-Ok-said-clause-stores
+returns-in-Ok-said-clause-stores g c = λ b h beside a there ready none is unbroken. absurd (text_is c.args.command.now is (λ text. c.in_default.not-Ps text))

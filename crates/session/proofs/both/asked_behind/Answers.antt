@@ -1,5 +1,5 @@
 use Rattle.side_meaning.specs.Stepping.{IsReady}
-use Rattle.std.proofs.Common.{◌≡◌, ◌∙◌, ap, sym, subst, ℕ, List, length, drop, [], Option, Some, Ok, Err, arith}
+use Rattle.std.proofs.Common.{◌≡◌, ◌∙◌, refl, ap, sym, subst, ℕ, List, length, drop, [], Option, Some, Ok, Err, arith}
 use Rattle.resuming.specs.Standing.{Stands}
 use Rattle.table_asks.specs.declared.fault.AskFault.TheVariants.{NoMemory, Broken}
 use Rattle.session.specs.Turned.{byte_of}
@@ -14,13 +14,15 @@ use Rattle.claims.specs.Side.{SideState}
 use Rattle.side_meaning.proofs.Starting.{no_words}
 use Rattle.session.specs.declared.sides.SideRecord.{SideRecord}
 use Rattle.session.specs.Counted.{CountsFault}
-use Rattle.session.specs.Wanting.{StaysOne, StandAgain}
+use Rattle.session.specs.Wanting.{StaysOne, StoresOne, WithTable, WithNumbers, StandAgain}
 use Rattle.session.proofs.Asking.{none_mapped}
 use Rattle.session.proofs.Counting.{fault_on}
-use Rattle.session.proofs.Wanting.{one_stays, stands_same, first_wanted, given_again}
+use Rattle.session.proofs.Wanting.{one_stays, stands_same, same_numbers, first_wanted, given_again}
+use Rattle.session.proofs.Storing.{stored_back, undone_unbroken, done_unbroken, first_numbers, both_numbers}
 use Rattle.session.specs.Kept.{IsUndone}
+use Rattle.table_asks.specs.Faults.{IsUnbroken}
 use Rattle.session.proofs.Looked.{only_well, fails_on, second_well, undone_counts, undone_wants}
-use Rattle.session.proofs.AskingBoth.{IsAnswer, unwanted, breaks_or, runs_or, runs_no_text, look_no_text, look_sets, sets_bare, sets_inquiry, first_back, undone_both, second_told, second_failed, second_wanted}
+use Rattle.session.proofs.AskingBoth.{IsAnswer, failure_or, text_sets, text_query, unwanted, breaks_or, alone_or, alone_no_text, look_no_text, look_sets, sets_bare, sets_inquiry, first_back, undone_both, second_told, second_failed, second_wanted}
 use Rattle.session.proofs.both.asked_behind.Goals as goal
 
 pub returns-in-Err-said-clause-meant : goal.returns-in-Err-said-clause-meant
@@ -98,7 +100,7 @@ returns-in-NoMemory-clause-stays g c = λ b hs st there ready runs read is.
     (no_words st.state (debugged first hs.first) st.first ready.still ready.sides.first) words c.given_up.ensures.frame c.given_up.new.first same in
     let more : (h : Host) (beside : Option Host) (a : SideState) → IsThere b g.L.Link.conduct o1 c.args.second.now h beside → IsReady (debugged c.args.second.now h) a → a.step_words ≡ [] → StaysOne b g.L.Link.conduct o2 c.asked-more.new.side h beside a =
     λ h beside a x y n. c.in-Err-more.ensures.stays b h beside a x y n runs (subst (λ (z : AskFault). IsUndone {A = List ℕ} (Err z)) (sym c.in-NoMemory.is) tt) in
-    runs_or now runs
+    alone_or now runs
     (λ sets.
     let asks = c.in-Ok-said.ensures.meant b hs.first hs.second st.first there.first_there ready.ready.0 (no_words st.state (debugged first hs.first) st.first ready.still ready.sides.first) (sets_inquiry now sets) in
     given_again b g.L.Link.conduct st ready.still o o1 o2 o3 first c.asked-said.new.side c.given_up.new.first c.args.second.now c.asked-more.new.side hs there ready c.asked-said.ensures.which c.given_up.ensures.which c.asked-more.ensures.which asks.asked.host asks.asked.there more
@@ -114,15 +116,15 @@ returns-in-NoMemory-clause-stays g c = λ b hs st there ready runs read is.
 
 pub returns-in-Err-said-clause-stays : goal.returns-in-Err-said-clause-stays
 returns-in-Err-said-clause-stays g c = λ b hs st there ready runs read is.
-    let w = c.undone.ensures.other (runs_no_text c.args.command.now runs) in
+    let w = c.undone.ensures.other (alone_no_text c.args.command.now runs) in
     let first = c.args.first.now in
     let again = first_wanted b g.L.Link.conduct st ready.still (g.L.Link.world c.args.talk.now.memory.below.below.below.link) (g.L.Link.world c.asked-said.new.talk.memory.below.below.below.link) first c.asked-said.new.side (Some c.args.second.now) hs there ready.sides c.asked-said.ensures.which
     (c.in-Err-said.ensures.stays b hs.first hs.second st.first there.first_there ready.ready.0 (no_words st.state (debugged first hs.first) st.first ready.still ready.sides.first) runs (subst (λ (z : AskFault). IsUndone {A = List ℕ} (Err z)) w.0 is)) in
-    subst (λ (z : SideRecord). StandAgain b g.L.Link.conduct (g.L.Link.world c.undone.new.talk.memory.below.below.below.link) c.asked-said.new.side (Some z) st) (sym w.1)
-    (subst (λ (z : _). StandAgain b g.L.Link.conduct (g.L.Link.world z.memory.below.below.below.link) c.asked-said.new.side (Some c.args.second.now) st) (sym w.2) again)
+    subst (λ (z : SideRecord). StandAgain WithTable b g.L.Link.conduct (g.L.Link.world c.undone.new.talk.memory.below.below.below.link) c.asked-said.new.side (Some z) st) (sym w.1)
+    (subst (λ (z : _). StandAgain WithTable b g.L.Link.conduct (g.L.Link.world z.memory.below.below.below.link) c.asked-said.new.side (Some c.args.second.now) st) (sym w.2) again)
 
 pub returns-in-Err-clause-stays : goal.returns-in-Err-clause-stays
-returns-in-Err-clause-stays g c = λ b hs st there ready runs read is. stands_same b g.L.Link.conduct (g.L.Link.world c.args.talk.now.memory.below.below.below.link) c.args.first.now (Some c.args.second.now) hs st there ready.sides
+returns-in-Err-clause-stays g c = λ b hs st there ready runs read is. stands_same WithTable (λ a. refl) b g.L.Link.conduct (g.L.Link.world c.args.talk.now.memory.below.below.below.link) c.args.first.now (Some c.args.second.now) hs st there ready.sides
 
 -- ---- the link's count, and what stores nothing
 
@@ -163,10 +165,50 @@ returns-in-Broken-clause-looked g c = λ b hs there look.
 
 pub returns-in-NoMemory-clause-count : goal.returns-in-NoMemory-clause-count
 returns-in-NoMemory-clause-count g c =
-    breaks_or c.args.command.now
-    (λ sets. fault_on (g.L.Link.faults c.args.talk.now.memory.below.below.below.link) (g.L.Link.faults c.asked-more.new.talk.memory.below.below.below.link) (g.L.Link.faults c.given_up.new.talk.memory.below.below.below.link) c.given_up.result (c.in-Err-more.ensures.wants (sets_bare c.args.command.now sets) (ap (λ z. Err z) c.in-NoMemory.is) ∙ c.in-Ok-said.ensures.count) c.given_up.ensures.count)
-    (λ n. subst (λ (e : AskFault). CountsFault (g.L.Link.faults c.args.talk.now.memory.below.below.below.link) (g.L.Link.faults c.given_up.new.talk.memory.below.below.below.link) e) (sym (c.given_up.ensures.other n).0) tt)
+    let f1 = g.L.Link.faults c.asked-said.new.talk.memory.below.below.below.link in
+    let f2 = g.L.Link.faults c.asked-more.new.talk.memory.below.below.below.link in
+    fault_on (g.L.Link.faults c.args.talk.now.memory.below.below.below.link) f2 (g.L.Link.faults c.given_up.new.talk.memory.below.below.below.link) c.given_up.result (subst (λ (e : AskFault). CountsFault f1 f2 e) c.in-NoMemory.is c.in-Err-more.ensures.count ∙ c.in-Ok-said.ensures.count) c.given_up.ensures.count
 
 pub returns-in-NoMemory-clause-looked : goal.returns-in-NoMemory-clause-looked
 returns-in-NoMemory-clause-looked g c = λ b hs there look.
     subst (λ (e : AskFault). FailsWell (g.L.Link.faults c.args.talk.now.memory.below.below.below.link) (g.L.Link.faults c.given_up.new.talk.memory.below.below.below.link) (Unit {0}) e) (sym (c.given_up.ensures.other (look_sets c.args.command.now look)).0) tt
+
+-- ---- a text of PostScript
+
+pub returns-in-Err-clause-stores : goal.returns-in-Err-clause-stores
+returns-in-Err-clause-stores g c = λ b hs st there ready is u. stands_same WithNumbers same_numbers b g.L.Link.conduct (g.L.Link.world c.args.talk.now.memory.below.below.below.link) c.args.first.now (Some c.args.second.now) hs st there ready.sides
+
+pub returns-in-Err-said-clause-stores : goal.returns-in-Err-said-clause-stores
+returns-in-Err-said-clause-stores g c = λ b hs st there ready is u.
+    let first = c.args.first.now in
+    let second = c.args.second.now in
+    let o = g.L.Link.world c.args.talk.now.memory.below.below.below.link in
+    let o1 = g.L.Link.world c.asked-said.new.talk.memory.below.below.below.link in
+    let o2 = g.L.Link.world c.undone.new.talk.memory.below.below.below.link in
+    let none = no_words st.state (debugged first hs.first) st.first ready.still ready.sides.first in
+    let one : IsUnbroken c.in-Err-said.fault → StoresOne b g.L.Link.conduct o1 first c.asked-said.new.side hs.first hs.second st.first = λ unbroken. c.in-Err-said.ensures.stores b hs.first hs.second st.first there.first_there ready.ready.0 none is unbroken in
+    failure_or c.in-Err-said.fault
+    (λ failed.
+    let w = c.undone.ensures.failed failed in
+    subst (λ (z : SideRecord). StandAgain WithNumbers b g.L.Link.conduct o2 c.asked-said.new.side (Some z) st) (sym w.1)
+    (subst (λ (z : _). StandAgain WithNumbers b g.L.Link.conduct (g.L.Link.world z.memory.below.below.below.link) c.asked-said.new.side (Some second) st) (sym w.2)
+    (first_numbers b g.L.Link.conduct o o1 first c.asked-said.new.side c.asked-said.ensures.which st (Some second) hs there ready (one (undone_unbroken (List ℕ) c.in-Err-said.fault (subst (λ (z : AskFault). IsUndone {A = List ℕ} (Err z)) w.0 u))))))
+    (λ n.
+    both_numbers b g.L.Link.conduct o o1 first c.asked-said.new.side c.asked-said.ensures.which st o2 second c.undone.new.second c.undone.ensures.which
+    (λ h beside a x r k. c.undone.ensures.stores b h beside a n x r k is (undone_unbroken (List ℕ) c.undone.result u)) hs there ready (one (done_unbroken c.in-Err-said.fault n)))
+
+pub returns-in-NoMemory-clause-stores : goal.returns-in-NoMemory-clause-stores
+returns-in-NoMemory-clause-stores g c = λ b hs st there ready is u.
+    let first = c.args.first.now in
+    let second = c.args.second.now in
+    let o = g.L.Link.world c.args.talk.now.memory.below.below.below.link in
+    let o1 = g.L.Link.world c.asked-said.new.talk.memory.below.below.below.link in
+    let o2 = g.L.Link.world c.asked-more.new.talk.memory.below.below.below.link in
+    let none = no_words st.state (debugged first hs.first) st.first ready.still ready.sides.first in
+    let one = c.in-Ok-said.ensures.stores b hs.first hs.second st.first there.first_there ready.ready.0 none is tt in
+    let kept = c.asked-said.ensures.query (text_query c.args.command.now is) in
+    let breaks = c.given_up.ensures.breaks ∙ (c.in-Ok.ensures.items ∙ (c.as_slice.ensures.value ∙ sym kept.0)) in
+    let back = stored_back b g.L.Link.conduct o1 first c.asked-said.new.side hs.first hs.second st.first c.given_up.new.first.row.breaks c.given_up.new.first.frame breaks (c.given_up.ensures.frame ∙ sym kept.1) one c.given_up.new.first c.given_up.ensures.same in
+    subst (λ (z : _). StandAgain WithNumbers b g.L.Link.conduct (g.L.Link.world z.memory.below.below.below.link) c.given_up.new.first (Some c.asked-more.new.side) st) (sym (c.given_up.ensures.other (text_sets c.args.command.now is)).1)
+    (both_numbers b g.L.Link.conduct o o1 first c.given_up.new.first (c.given_up.ensures.which ∙ c.asked-said.ensures.which) st o2 second c.asked-more.new.side c.asked-more.ensures.which
+    (λ h beside a x r k. c.in-Err-more.ensures.stores b h beside a x r k is (subst (λ (z : AskFault). IsUnbroken z) (sym c.in-NoMemory.is) tt)) hs there ready back)

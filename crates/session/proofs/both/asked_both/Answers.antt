@@ -1,11 +1,12 @@
-use Rattle.std.proofs.Common.{◌≡◌, ◌∙◌, ℕ, List, subst, Some, Err}
+use Rattle.std.proofs.Common.{◌≡◌, ◌∙◌, refl, ℕ, List, subst, Some, Err}
 use Rattle.claims.specs.Outcome.{DoneOnBoth}
 use Rattle.abs_mem.specs.WireMeaning.{memory_of}
 use Rattle.resuming.specs.Standing.{Stands}
 use Rattle.session.specs.Meant.{SaidAll, NotAll, ComesTo, TalksWell}
 use Rattle.session.specs.Undoing.{words_before}
 use Rattle.session.proofs.Counting.{counts_on}
-use Rattle.session.proofs.Wanting.{stands_same}
+use Rattle.session.specs.Wanting.{WithTable, WithNumbers}
+use Rattle.session.proofs.Wanting.{stands_same, same_numbers}
 use Rattle.session.proofs.Looked.{read_well}
 use Rattle.session.proofs.AskingBoth.{still_there, read_failed, read_rests}
 use Rattle.session.proofs.both.asked_both.Goals as goal
@@ -24,7 +25,16 @@ returns-in-Err-clause-stays g c = λ b hs st there ready runs is.
     let rests =
     read_rests (List ℕ) (g.L.Link.faults c.args.talk.now.memory.below.below.below.link) (g.L.Link.faults c.words_before.new.talk.memory.below.below.below.link) (Stands b g.L.Link.conduct first.which (g.L.Link.world c.words_before.new.talk.memory.below.below.below.link) hs.first hs.second)
     (words_before c.args.command.now (memory_of hs.first.machine) first.row.breaks.items) c.in-Err.fault is (c.in-Err.ensures.fails b hs.first hs.second there.first_there.stands there.first_there.order) in
-    stands_same b g.L.Link.conduct (g.L.Link.world c.words_before.new.talk.memory.below.below.below.link) first (Some c.args.second.now) hs st
+    stands_same WithTable (λ a. refl) b g.L.Link.conduct (g.L.Link.world c.words_before.new.talk.memory.below.below.below.link) first (Some c.args.second.now) hs st
+    (still_there b g.L.Link.conduct (g.L.Link.world c.args.talk.now.memory.below.below.below.link) (g.L.Link.world c.words_before.new.talk.memory.below.below.below.link) first c.args.second.now hs.first hs.second there rests) ready.sides
+
+pub returns-in-Err-clause-stores : goal.returns-in-Err-clause-stores
+returns-in-Err-clause-stores g c = λ b hs st there ready runs is.
+    let first = c.args.first.now in
+    let rests =
+    read_rests (List ℕ) (g.L.Link.faults c.args.talk.now.memory.below.below.below.link) (g.L.Link.faults c.words_before.new.talk.memory.below.below.below.link) (Stands b g.L.Link.conduct first.which (g.L.Link.world c.words_before.new.talk.memory.below.below.below.link) hs.first hs.second)
+    (words_before c.args.command.now (memory_of hs.first.machine) first.row.breaks.items) c.in-Err.fault is (c.in-Err.ensures.fails b hs.first hs.second there.first_there.stands there.first_there.order) in
+    stands_same WithNumbers same_numbers b g.L.Link.conduct (g.L.Link.world c.words_before.new.talk.memory.below.below.below.link) first (Some c.args.second.now) hs st
     (still_there b g.L.Link.conduct (g.L.Link.world c.args.talk.now.memory.below.below.below.link) (g.L.Link.world c.words_before.new.talk.memory.below.below.below.link) first c.args.second.now hs.first hs.second there rests) ready.sides
 
 pub returns-in-Err-clause-looked : goal.returns-in-Err-clause-looked
@@ -58,3 +68,9 @@ returns-clause-stays g c = λ b hs st there ready sets is.
     let y = c.in-Ok.ensures.read b hs.first hs.second there.first_there.stands there.first_there.order in
     let now = still_there b g.L.Link.conduct (g.L.Link.world c.args.talk.now.memory.below.below.below.link) (g.L.Link.world c.words_before.new.talk.memory.below.below.below.link) c.args.first.now c.args.second.now hs.first hs.second there y.1 in
     c.asked_behind.ensures.stays b hs st now ready sets (c.as_slice.ensures.value ∙ y.2) is
+
+pub returns-clause-stores : goal.returns-clause-stores
+returns-clause-stores g c = λ b hs st there ready text is.
+    let y = c.in-Ok.ensures.read b hs.first hs.second there.first_there.stands there.first_there.order in
+    let now = still_there b g.L.Link.conduct (g.L.Link.world c.args.talk.now.memory.below.below.below.link) (g.L.Link.world c.words_before.new.talk.memory.below.below.below.link) c.args.first.now c.args.second.now hs.first hs.second there y.1 in
+    c.asked_behind.ensures.stores b hs st now ready text is

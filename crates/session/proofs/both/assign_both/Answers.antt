@@ -1,12 +1,17 @@
-use Rattle.std.proofs.Common.{◌∙◌, ap, sym, subst, Option, Some, Err}
+use Rattle.std.proofs.Common.{◌∙◌, refl, ap, sym, subst, ℕ, List, Option, Some, Result, Err}
 use Rattle.nub_wire.specs.Nub.{Host}
 use Rattle.table_asks.specs.declared.fault.AskFault.{AskFault}
 use Rattle.session.specs.Counted.{CountsAsk, CountsFault}
-use Rattle.session.specs.Meant.{Hosts, IsThere, FailsWell, TalksWell}
+use Rattle.claims.specs.Side.{SessionState}
+use Rattle.side_meaning.proofs.Starting.{no_words}
+use Rattle.session.specs.Kept.{IsUndone}
+use Rattle.session.specs.Meant.{debugged, Hosts, IsThere, FailsWell, TalksWell}
+use Rattle.session.specs.Wanting.{WithTable, StandAgain}
 use Rattle.session.proofs.Counting.{fault_on, counts_on}
 use Rattle.session.proofs.Beside.{second_beside, first_beside}
 use Rattle.session.proofs.AskingBoth.{failure_or}
-use Rattle.session.proofs.Looked.{only_well, fails_on, well_on, well_there, with_second_there, counts_same, stored_counts, stored_well, unset_counts, unset_well}
+use Rattle.session.proofs.Looked.{stays_well, only_well, fails_on, well_on, well_there, undone_there, with_second_there, counts_same, unset_counts, unset_well}
+use Rattle.session.proofs.Wanting.{stands_same, first_wanted, second_asked, side_stays}
 use Rattle.session.proofs.both.assign_both.Goals as goal
 
 pub returns-in-Err-clause-count : goal.returns-in-Err-clause-count
@@ -51,21 +56,22 @@ returns-in-Err-more-clause-evaluated g c = λ b (hs : Hosts) there.
     let here = first_beside b g.L.Link.conduct o1 o2 one two hs.first h (Some h) e mine (c.assigned-more.ensures.which ∙ k) other in
     well_on f f2 f3 (Unit {0}) c.stored_alone.result (counts_same f1 f2 c.in-Err-more.fault n c.in-Err-more.ensures.count ∙ c.in-Ok-mine.ensures.count) (c.stored_alone.ensures.stores b hs.first (Some h) n here)))
 
-pub returns-in-Err-here-clause-count : goal.returns-in-Err-here-clause-count
-returns-in-Err-here-clause-count g c =
+pub returns-clause-count : goal.returns-clause-count
+returns-clause-count g c =
     let f = (g.L.Link.faults c.args.talk.now.memory.below.below.below.link) in
     let f2 = (g.L.Link.faults c.assigned-more.new.talk.memory.below.below.below.link) in
-    fault_on f f2 (g.L.Link.faults c.store-here.new.talk.memory.below.below.below.link) c.in-Err-here.fault (c.in-Ok-more.ensures.count ∙ c.in-Ok-mine.ensures.count) c.in-Err-here.ensures.count
+    let f3 = (g.L.Link.faults c.store-here.new.talk.memory.below.below.below.link) in
+    c.stored.ensures.count f f3 (fault_on f f2 f3 c.in-Err-here.fault (c.in-Ok-more.ensures.count ∙ c.in-Ok-mine.ensures.count) c.in-Err-here.ensures.count)
 
 pub returns-in-Ok-here-clause-count : goal.returns-in-Ok-here-clause-count
 returns-in-Ok-here-clause-count g c =
     let f = (g.L.Link.faults c.args.talk.now.memory.below.below.below.link) in
     let f3 = (g.L.Link.faults c.store-here.new.talk.memory.below.below.below.link) in
     let f4 = (g.L.Link.faults c.store.new.talk.memory.below.below.below.link) in
-    counts_on f f3 f4 c.stored.result (c.in-Ok-here.ensures.count ∙ (c.in-Ok-more.ensures.count ∙ c.in-Ok-mine.ensures.count)) (stored_counts f3 f4 c.store.result c.in-Ok.said c.stored.result c.stored.ensures.ok c.stored.ensures.err c.store.ensures.count)
+    counts_on f f3 f4 c.stored_on_both.result (c.in-Ok-here.ensures.count ∙ (c.in-Ok-more.ensures.count ∙ c.in-Ok-mine.ensures.count)) (c.stored_on_both.ensures.count f3 f4 c.store.ensures.count)
 
-pub returns-in-Err-here-clause-evaluated : goal.returns-in-Err-here-clause-evaluated
-returns-in-Err-here-clause-evaluated g c = λ b (hs : Hosts) there.
+pub returns-clause-evaluated : goal.returns-clause-evaluated
+returns-clause-evaluated g c = λ b (hs : Hosts) there.
     let f = (g.L.Link.faults c.args.talk.now.memory.below.below.below.link) in
     let f2 = (g.L.Link.faults c.assigned-more.new.talk.memory.below.below.below.link) in
     let f3 = (g.L.Link.faults c.store-here.new.talk.memory.below.below.below.link) in
@@ -73,11 +79,11 @@ returns-in-Err-here-clause-evaluated g c = λ b (hs : Hosts) there.
     let o2 = (g.L.Link.world c.assigned-more.new.talk.memory.below.below.below.link) in
     let one = c.assigned-mine.new.side in
     let two = c.assigned-more.new.side in
-    with_second_there b g.L.Link.conduct (g.L.Link.world c.args.talk.now.memory.below.below.below.link) o1 c.args.first.now one c.args.second.now hs c.assigned-mine.ensures.which there (c.in-Ok-mine.ensures.evaluated b hs.first hs.second there.first_there) (FailsWell f f3 (Unit {0}) c.in-Err-here.fault)
+    with_second_there b g.L.Link.conduct (g.L.Link.world c.args.talk.now.memory.below.below.below.link) o1 c.args.first.now one c.args.second.now hs c.assigned-mine.ensures.which there (c.in-Ok-mine.ensures.evaluated b hs.first hs.second there.first_there) (TalksWell f f3 (Unit {0}) c.stored.result)
     (λ h mine waits e k.
     let other = c.in-Ok-more.ensures.evaluated b h (Some hs.first) waits in
     let here = first_beside b g.L.Link.conduct o1 o2 one two hs.first h (Some h) e mine (c.assigned-more.ensures.which ∙ k) other in
-    fails_on f f2 f3 (Unit {0}) c.in-Err-here.fault (c.in-Ok-more.ensures.count ∙ c.in-Ok-mine.ensures.count) (only_well f2 f3 _ c.in-Err-here.fault (c.in-Err-here.ensures.stores b hs.first (Some h) here)))
+    c.stored.ensures.well f f3 (fails_on f f2 f3 (Unit {0}) c.in-Err-here.fault (c.in-Ok-more.ensures.count ∙ c.in-Ok-mine.ensures.count) (only_well f2 f3 _ c.in-Err-here.fault (c.in-Err-here.ensures.stores b hs.first (Some h) here))))
 
 pub returns-in-Ok-here-clause-evaluated : goal.returns-in-Ok-here-clause-evaluated
 returns-in-Ok-here-clause-evaluated g c = λ b (hs : Hosts) there.
@@ -89,11 +95,54 @@ returns-in-Ok-here-clause-evaluated g c = λ b (hs : Hosts) there.
     let o3 = (g.L.Link.world c.store-here.new.talk.memory.below.below.below.link) in
     let one = c.assigned-mine.new.side in
     let two = c.assigned-more.new.side in
-    with_second_there b g.L.Link.conduct (g.L.Link.world c.args.talk.now.memory.below.below.below.link) o1 c.args.first.now one c.args.second.now hs c.assigned-mine.ensures.which there (c.in-Ok-mine.ensures.evaluated b hs.first hs.second there.first_there) (TalksWell f f4 (Unit {0}) c.stored.result)
+    with_second_there b g.L.Link.conduct (g.L.Link.world c.args.talk.now.memory.below.below.below.link) o1 c.args.first.now one c.args.second.now hs c.assigned-mine.ensures.which there (c.in-Ok-mine.ensures.evaluated b hs.first hs.second there.first_there) (TalksWell f f4 (Unit {0}) c.stored_on_both.result)
     (λ h mine waits e k.
     let other = c.in-Ok-more.ensures.evaluated b h (Some hs.first) waits in
     let here = first_beside b g.L.Link.conduct o1 o2 one two hs.first h (Some h) e mine (c.assigned-more.ensures.which ∙ k) other in
     let put = c.in-Ok-here.ensures.stores b hs.first (Some h) here in
     let then = second_beside b g.L.Link.conduct o2 o3 one two h put.host (Some hs.first) (c.assigned-more.ensures.which ∙ k) other e put.there in
-    well_on f f3 f4 (Unit {0}) c.stored.result (c.in-Ok-here.ensures.count ∙ (c.in-Ok-more.ensures.count ∙ c.in-Ok-mine.ensures.count))
-    (stored_well f3 f4 _ c.store.result c.in-Ok.said c.stored.result c.stored.ensures.ok c.stored.ensures.err (c.store.ensures.stores b h (Some put.host) then)))
+    well_on f f3 f4 (Unit {0}) c.stored_on_both.result (c.in-Ok-here.ensures.count ∙ (c.in-Ok-more.ensures.count ∙ c.in-Ok-mine.ensures.count))
+    (c.stored_on_both.ensures.well f3 f4 (stays_well f3 f4 _ (Unit {0}) c.store.result (λ x. tt) (c.store.ensures.stores b h (Some put.host) then))))
+
+-- ---- without memory
+
+pub returns-in-Err-clause-stays : goal.returns-in-Err-clause-stays
+returns-in-Err-clause-stays g c = λ b hs st there ready u. stands_same WithTable (λ a. refl) b g.L.Link.conduct (g.L.Link.world c.args.talk.now.memory.below.below.below.link) c.args.first.now (Some c.args.second.now) hs st there ready.sides
+
+pub returns-in-Err-mine-clause-stays : goal.returns-in-Err-mine-clause-stays
+returns-in-Err-mine-clause-stays g c = λ b (hs : Hosts) (st : SessionState) there ready u.
+    let f = (g.L.Link.faults c.args.talk.now.memory.below.below.below.link) in
+    let f1 = (g.L.Link.faults c.assigned-mine.new.talk.memory.below.below.below.link) in
+    let o = (g.L.Link.world c.args.talk.now.memory.below.below.below.link) in
+    let o1 = (g.L.Link.world c.assigned-mine.new.talk.memory.below.below.below.link) in
+    let first = c.args.first.now in
+    let one = c.assigned-mine.new.side in
+    let mine = undone_there (List ℕ) f f1 _ c.in-Err-mine.fault u (c.in-Err-mine.ensures.evaluated b hs.first hs.second there.first_there) in
+    first_wanted b g.L.Link.conduct st ready.still o o1 first one (Some c.args.second.now) hs there ready.sides c.assigned-mine.ensures.which
+    (side_stays b g.L.Link.conduct o o1 first one hs.first hs.second there.first_there st.first ready.ready.0 (no_words st.state (debugged first hs.first) st.first ready.still ready.sides.first) c.assigned-mine.ensures.same c.assigned-mine.ensures.table mine)
+
+pub returns-in-Err-more-clause-stays : goal.returns-in-Err-more-clause-stays
+returns-in-Err-more-clause-stays g c = λ b (hs : Hosts) (st : SessionState) there ready u.
+    let f1 = (g.L.Link.faults c.assigned-mine.new.talk.memory.below.below.below.link) in
+    let f2 = (g.L.Link.faults c.assigned-more.new.talk.memory.below.below.below.link) in
+    let o = (g.L.Link.world c.args.talk.now.memory.below.below.below.link) in
+    let o1 = (g.L.Link.world c.assigned-mine.new.talk.memory.below.below.below.link) in
+    let o2 = (g.L.Link.world c.assigned-more.new.talk.memory.below.below.below.link) in
+    let first = c.args.first.now in
+    let one = c.assigned-mine.new.side in
+    let two = c.assigned-more.new.side in
+    failure_or c.in-Err-more.fault
+    (λ is.
+    let w = c.stored_alone.ensures.failed is in
+    let undone = subst (λ (z : Result (List ℕ) AskFault). IsUndone z) w.0 u in
+    subst (λ (z : _). StandAgain WithTable b g.L.Link.conduct (g.L.Link.world z.memory.below.below.below.link) one (Some two) st) (sym w.1)
+    (second_asked b g.L.Link.conduct st ready.still o o1 o2 first one c.args.second.now two hs there ready c.assigned-mine.ensures.which c.assigned-more.ensures.which
+    (side_stays b g.L.Link.conduct o o1 first one hs.first hs.second there.first_there st.first ready.ready.0 (no_words st.state (debugged first hs.first) st.first ready.still ready.sides.first) c.assigned-mine.ensures.same c.assigned-mine.ensures.table (c.in-Ok-mine.ensures.evaluated b hs.first hs.second there.first_there))
+    (λ h beside a x r none. side_stays b g.L.Link.conduct o1 o2 c.args.second.now two h beside x a r none c.assigned-more.ensures.same c.assigned-more.ensures.table (undone_there (List ℕ) f1 f2 _ c.in-Err-more.fault undone (c.in-Err-more.ensures.evaluated b h beside x)))))
+    (λ n. absurd (c.stored_alone.ensures.whole n u))
+
+pub returns-clause-stays : goal.returns-clause-stays
+returns-clause-stays g c = λ b hs st there ready u. absurd (c.stored.ensures.whole c.in-Err-here.ensures.last u)
+
+pub returns-in-Ok-here-clause-stays : goal.returns-in-Ok-here-clause-stays
+returns-in-Ok-here-clause-stays g c = λ b hs st there ready u. absurd (c.stored_on_both.ensures.whole c.store.ensures.last u)

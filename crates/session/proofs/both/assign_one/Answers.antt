@@ -1,9 +1,11 @@
-use Rattle.std.proofs.Common.{◌∙◌, sym, subst, Err}
+use Rattle.std.proofs.Common.{◌∙◌, ℕ, List, sym, subst, Err}
 use Rattle.table_asks.specs.declared.fault.AskFault.{AskFault}
 use Rattle.session.specs.Counted.{CountsFault}
 use Rattle.session.specs.Meant.{TalksWell}
 use Rattle.session.proofs.Counting.{counts_on}
-use Rattle.session.proofs.Looked.{only_well, well_on, stored_counts, stored_well, unset_counts, unset_well}
+use Rattle.session.specs.Meant.{debugged}
+use Rattle.session.proofs.Wanting.{ran_same, side_stays}
+use Rattle.session.proofs.Looked.{stays_well, only_well, well_on, undone_there, unset_counts, unset_well}
 use Rattle.session.proofs.both.assign_one.Goals as goal
 
 pub returns-in-Err-clause-count : goal.returns-in-Err-clause-count
@@ -13,13 +15,24 @@ pub returns-in-Err-clause-evaluated : goal.returns-in-Err-clause-evaluated
 returns-in-Err-clause-evaluated g c = λ b h beside there. unset_well (g.L.Link.faults c.args.talk.now.memory.below.below.below.link) c.in-Err.fault c.in-Err.ensures
 
 pub returns-in-Ok-assigned-clause-count : goal.returns-in-Ok-assigned-clause-count
-returns-in-Ok-assigned-clause-count g c =
-    counts_on (g.L.Link.faults c.args.talk.now.memory.below.below.below.link) (g.L.Link.faults c.assigned.new.talk.memory.below.below.below.link) (g.L.Link.faults c.store.new.talk.memory.below.below.below.link) c.stored.result c.in-Ok-assigned.ensures.count (stored_counts (g.L.Link.faults c.assigned.new.talk.memory.below.below.below.link) (g.L.Link.faults c.store.new.talk.memory.below.below.below.link) c.store.result c.in-Ok.said c.stored.result c.stored.ensures.ok c.stored.ensures.err c.store.ensures.count)
+returns-in-Ok-assigned-clause-count g c = counts_on (g.L.Link.faults c.args.talk.now.memory.below.below.below.link) (g.L.Link.faults c.assigned.new.talk.memory.below.below.below.link) (g.L.Link.faults c.store.new.talk.memory.below.below.below.link) c.stored.result c.in-Ok-assigned.ensures.count (c.stored.ensures.count (g.L.Link.faults c.assigned.new.talk.memory.below.below.below.link) (g.L.Link.faults c.store.new.talk.memory.below.below.below.link) c.store.ensures.count)
 
 pub returns-in-Ok-assigned-clause-evaluated : goal.returns-in-Ok-assigned-clause-evaluated
 returns-in-Ok-assigned-clause-evaluated g c = λ b h beside there.
     well_on (g.L.Link.faults c.args.talk.now.memory.below.below.below.link) (g.L.Link.faults c.assigned.new.talk.memory.below.below.below.link) (g.L.Link.faults c.store.new.talk.memory.below.below.below.link) (Unit {0}) c.stored.result c.in-Ok-assigned.ensures.count
-    (stored_well (g.L.Link.faults c.assigned.new.talk.memory.below.below.below.link) (g.L.Link.faults c.store.new.talk.memory.below.below.below.link) _ c.store.result c.in-Ok.said c.stored.result c.stored.ensures.ok c.stored.ensures.err (c.store.ensures.stores b h beside (c.in-Ok-assigned.ensures.evaluated b h beside there)))
+    (c.stored.ensures.well (g.L.Link.faults c.assigned.new.talk.memory.below.below.below.link) (g.L.Link.faults c.store.new.talk.memory.below.below.below.link) (stays_well (g.L.Link.faults c.assigned.new.talk.memory.below.below.below.link) (g.L.Link.faults c.store.new.talk.memory.below.below.below.link) _ (Unit {0}) c.store.result (λ x. tt) (c.store.ensures.stores b h beside (c.in-Ok-assigned.ensures.evaluated b h beside there))))
 
 pub returns-in-Err-assigned-clause-evaluated : goal.returns-in-Err-assigned-clause-evaluated
 returns-in-Err-assigned-clause-evaluated g c = λ b h beside there. only_well (g.L.Link.faults c.args.talk.now.memory.below.below.below.link) (g.L.Link.faults c.assigned.new.talk.memory.below.below.below.link) _ c.in-Err-assigned.fault (c.in-Err-assigned.ensures.evaluated b h beside there)
+
+pub returns-in-Ok-assigned-clause-stays : goal.returns-in-Ok-assigned-clause-stays
+returns-in-Ok-assigned-clause-stays g c = λ b h beside a there ready none u. absurd (c.stored.ensures.whole c.store.ensures.last u)
+
+pub returns-in-Err-assigned-clause-stays : goal.returns-in-Err-assigned-clause-stays
+returns-in-Err-assigned-clause-stays g c = λ b h beside a there ready none u.
+    let fault = c.in-Err-assigned.fault in
+    side_stays b g.L.Link.conduct (g.L.Link.world c.args.talk.now.memory.below.below.below.link) (g.L.Link.world c.assigned.new.talk.memory.below.below.below.link) c.args.first.now c.assigned.new.side h beside there a ready none c.assigned.ensures.same c.assigned.ensures.table
+    (undone_there (List ℕ) (g.L.Link.faults c.args.talk.now.memory.below.below.below.link) (g.L.Link.faults c.assigned.new.talk.memory.below.below.below.link) _ fault u (c.in-Err-assigned.ensures.evaluated b h beside there))
+
+pub returns-in-Err-clause-stays : goal.returns-in-Err-clause-stays
+returns-in-Err-clause-stays g c = λ b h beside a there ready none u. record { there = there; ran = ran_same (debugged c.args.first.now h) a ready.stands }

@@ -1,4 +1,4 @@
-use Rattle.session.proofs.Looked.{stored_counts, stored_well}
+use Rattle.session.proofs.Looked.{stays_well}
 use Rattle.session.proofs.both.stored_alone.Goals as goal
 
 pub returns-then-is_failure-clause-stores : goal.returns-then-is_failure-clause-stores
@@ -11,8 +11,13 @@ pub returns-clause-failed : goal.returns-clause-failed
 returns-clause-failed g c = λ is. absurd (c.is_failure.ensures.no c.if-is_failure.false is)
 
 pub returns-clause-stores : goal.returns-clause-stores
-returns-clause-stores g c = λ b h beside n there.
-    stored_well (g.L.Link.faults c.args.talk.now.memory.below.below.below.link) (g.L.Link.faults c.store.new.talk.memory.below.below.below.link) _ c.store.result c.args.said c.stored.result c.stored.ensures.ok c.stored.ensures.err (c.store.ensures.stores b h beside there)
+returns-clause-stores g c = λ b h beside n there. c.stored.ensures.well (g.L.Link.faults c.args.talk.now.memory.below.below.below.link) (g.L.Link.faults c.store.new.talk.memory.below.below.below.link) (stays_well (g.L.Link.faults c.args.talk.now.memory.below.below.below.link) (g.L.Link.faults c.store.new.talk.memory.below.below.below.link) _ (Unit {0}) c.store.result (λ x. tt) (c.store.ensures.stores b h beside there))
 
 pub returns-clause-count : goal.returns-clause-count
-returns-clause-count g c = λ n. stored_counts (g.L.Link.faults c.args.talk.now.memory.below.below.below.link) (g.L.Link.faults c.store.new.talk.memory.below.below.below.link) c.store.result c.args.said c.stored.result c.stored.ensures.ok c.stored.ensures.err c.store.ensures.count
+returns-clause-count g c = λ n. c.stored.ensures.count (g.L.Link.faults c.args.talk.now.memory.below.below.below.link) (g.L.Link.faults c.store.new.talk.memory.below.below.below.link) c.store.ensures.count
+
+pub returns-then-is_failure-clause-whole : goal.returns-then-is_failure-clause-whole
+returns-then-is_failure-clause-whole g c = λ n u. absurd (n (c.is_failure.ensures.yes c.if-is_failure.true))
+
+pub returns-clause-whole : goal.returns-clause-whole
+returns-clause-whole g c = λ n u. c.stored.ensures.whole c.store.ensures.last u

@@ -4,6 +4,7 @@ use Rattle.c_session.specs.declared.command.Command.TheVariants.{Ps}
 use Rattle.session.specs.Meant.{RanOne}
 use Rattle.session.proofs.Looked.{same_fault}
 use Rattle.session.proofs.AskingText.{run_failed}
+use Rattle.session.proofs.Wanting.{text_is}
 use Rattle.session.proofs.both.undone.Goals as goal
 
 pub returns-then-is_failure-clause-meant : goal.returns-then-is_failure-clause-meant
@@ -35,3 +36,15 @@ returns-in-Err-clause-count g c = λ n. c.in-Err.ensures.count
 
 pub returns-in_default-clause-count : goal.returns-in_default-clause-count
 returns-in_default-clause-count g c = λ n. same_fault (g.L.Link.faults c.args.talk.now.memory.below.below.below.link) (g.L.Link.faults c.args.talk.now.memory.below.below.below.link) c.args.fault refl n
+
+pub returns-then-is_failure-clause-stores : goal.returns-then-is_failure-clause-stores
+returns-then-is_failure-clause-stores g c = λ b h beside a n there ready none is unbroken. absurd (n (c.is_failure.ensures.yes c.if-is_failure.true))
+
+pub returns-in-Ok-clause-stores : goal.returns-in-Ok-clause-stores
+returns-in-Ok-clause-stores g c = λ b h beside a n there ready none is unbroken. c.in-Ok.ensures.stores b h beside a there ready none tt
+
+pub returns-in-Err-clause-stores : goal.returns-in-Err-clause-stores
+returns-in-Err-clause-stores g c = λ b h beside a n there ready none is unbroken. c.in-Err.ensures.stores b h beside a there ready none unbroken
+
+pub returns-in_default-clause-stores : goal.returns-in_default-clause-stores
+returns-in_default-clause-stores g c = λ b h beside a n there ready none is unbroken. absurd (text_is c.args.command.now is (λ text. c.in_default.not-Ps text))

@@ -1,10 +1,11 @@
-use Rattle.std.proofs.Common.{subst, Option}
+use Rattle.std.proofs.Common.{subst, ℕ, List, Option}
 use Rattle.machine_state.specs.State.{Behaviour}
 use Rattle.claims.specs.Side.{SessionState}
 use Rattle.session.specs.Meant.{debugged, Hosts, AreThere, AreReadyFor}
 use Rattle.session.specs.declared.sides.SideRecord.{SideRecord}
 use Rattle.side_meaning.proofs.Starting.{no_words}
 use Rattle.session.proofs.Wanting.{first_wanted}
+use Rattle.session.proofs.Storing.{first_numbers, result_unbroken}
 use Rattle.session.proofs.Looked.{stays_well}
 use Rattle.session.proofs.AskingOne.{asked_alone}
 use Rattle.session.proofs.conversation.Session.ask.Goals as goal
@@ -40,3 +41,14 @@ pub returns-in-Some-clause-looked : goal.returns-in-Some-clause-looked
 returns-in-Some-clause-looked g c = λ (b : Behaviour) (hs : Hosts) there look.
     let now = c.args.self.now in
     c.asked_both.ensures.looked b hs (subst (λ (s : Option SideRecord). AreThere b g.L.Link.conduct (g.L.Link.world now.talk.memory.below.below.below.link) now.first s hs) c.in-Some.is there) look
+
+pub returns-in-None-clause-stores : goal.returns-in-None-clause-stores
+returns-in-None-clause-stores g c = λ (b : Behaviour) (hs : Hosts) (st : SessionState) there ready text is.
+    let now = c.args.self.now in
+    first_numbers b g.L.Link.conduct (g.L.Link.world now.talk.memory.below.below.below.link) (g.L.Link.world c.asked.new.talk.memory.below.below.below.link) now.first c.asked.new.side c.asked.ensures.which st now.second hs there ready
+    (c.asked.ensures.stores b hs.first hs.second st.first there.first_there ready.ready.0 (no_words st.state (debugged now.first hs.first) st.first ready.still ready.sides.first) text (result_unbroken (List ℕ) c.asked.result is))
+
+pub returns-in-Some-clause-stores : goal.returns-in-Some-clause-stores
+returns-in-Some-clause-stores g c = λ (b : Behaviour) (hs : Hosts) (st : SessionState) there ready text is.
+    let now = c.args.self.now in
+    c.asked_both.ensures.stores b hs st (subst (λ (s : Option SideRecord). AreThere b g.L.Link.conduct (g.L.Link.world now.talk.memory.below.below.below.link) now.first s hs) c.in-Some.is there) (subst (λ (s : Option SideRecord). AreReadyFor now.first s hs st) c.in-Some.is ready) text is

@@ -6,11 +6,11 @@ use Rattle.claims.specs.Side.{SessionState}
 use Rattle.claims.specs.Outcome.{DoneOnBoth, AnswersCommand, refused_by_state}
 use Rattle.side_meaning.specs.Sessions.{SidesStand}
 use Rattle.session.specs.Meant.{Hosts, AreThere, sides_of, ComesTo, SaidAll, NotAll, IsExpression}
-use Rattle.session.specs.Wanting.{RunsNoneInquired}
+use Rattle.session.specs.Wanting.{WithTable, WithNumbers, Leaves}
 use Rattle.session.proofs.Counting.{counts_on}
-use Rattle.session.proofs.Wanting.{stands_same}
+use Rattle.session.proofs.Wanting.{stands_same, same_leaves, again_as, table_leaves, numbers_leave}
 use Rattle.session.proofs.Looked.{well_on, undone_as, undone_regs, unit_well}
-use Rattle.session.proofs.Tallying.{runs_asked, runs_still, expression_still, expression_look}
+use Rattle.session.proofs.Tallying.{alone_still, inquired_or, text_inquiry, expression_still, expression_look}
 use Rattle.session.proofs.AskingOne.{inquiry_answers, inquiry_for, asked_still, regs_by, said_since, regs_since}
 use Rattle.session.proofs.conversation.Session.inquire.Goals as goal
 
@@ -53,11 +53,17 @@ returns-in_default g c = record {
       said_since b g.L.Link.conduct (g.L.Link.world new.talk.memory.below.below.below.link) new.first new.second st f f1 f2 (DoneOnBoth st cmd) (AnswersCommand b st cmd)
       (inquiry_answers b st cmd inquiry) c.in-Ok.ensures.faults c.ask.result
       (c.ask.ensures.meant b y.hosts st y.there y.ready inquiry);
-  stays = λ (b : Behaviour) (hs : Hosts) (st : SessionState) x e runs is.
+  stays = λ (b : Behaviour) (hs : Hosts) (st : SessionState) x e inquired is.
       let cmd = c.args.command.now in
-      let asked = runs_asked cmd runs c.in_default.not-Regs in
-      let y = c.in-Ok.ensures.meant b hs st x (runs_still st.state cmd asked e) in
-      c.ask.ensures.stays b y.hosts st y.there y.ready asked is;
+      let new = c.ask.new.self in
+      let o = g.L.Link.world new.talk.memory.below.below.below.link in
+      inquired_or cmd inquired c.in_default.not-Regs (λ text. c.in_default.not-Assign text)
+      (λ alone.
+      let y = c.in-Ok.ensures.meant b hs st x (alone_still st.state cmd alone e) in
+      again_as WithTable (Leaves cmd) (table_leaves cmd) b g.L.Link.conduct o new.first new.second st (c.ask.ensures.stays b y.hosts st y.there y.ready alone is))
+      (λ text.
+      let y = c.in-Ok.ensures.meant b hs st x (asked_still st.state cmd (text_inquiry cmd text) e) in
+      again_as WithNumbers (Leaves cmd) (numbers_leave cmd text) b g.L.Link.conduct o new.first new.second st (c.ask.ensures.stores b y.hosts st y.there y.ready text is));
   evaluated = λ (b : Behaviour) (hs : Hosts) (st : SessionState) x e expression.
       let cmd = c.args.command.now in
       let y = c.in-Ok.ensures.meant b hs st x (expression_still st.state cmd expression e) in
@@ -79,7 +85,7 @@ returns-in-Regs-clause-stays g c = λ (b : Behaviour) (hs : Hosts) (st : Session
     (λ still. let y = c.in-Ok.ensures.meant b hs st x still in (y.hosts, y.there, y.ready.sides))
     (λ how same. subst Stand (sym (c.in-Ok.ensures.running how same)) (hs, x.there, x.sides)) in
     let none = undone_regs (g.L.Link.faults mid.talk.memory.below.below.below.link) (g.L.Link.faults new.talk.memory.below.below.below.link) _ c.registers.result (c.registers.ensures.meant b here.0 st here.1 here.2) u in
-    stands_same b g.L.Link.conduct (g.L.Link.world new.talk.memory.below.below.below.link) new.first new.second here.0 st (c.registers.ensures.stays b here.0 st here.1 here.2 none)
+    stands_same (Leaves c.args.command.now) (same_leaves c.args.command.now) b g.L.Link.conduct (g.L.Link.world new.talk.memory.below.below.below.link) new.first new.second here.0 st (c.registers.ensures.stays b here.0 st here.1 here.2 none)
     (subst (λ (z : _). SidesStand (sides_of z new.second here.0) st) (sym c.registers.ensures.first) (subst (λ (z : _). SidesStand (sides_of mid.first z here.0) st) (sym c.registers.ensures.second) here.2))
 
 pub returns-in-Regs-clause-evaluated : goal.returns-in-Regs-clause-evaluated
@@ -89,7 +95,11 @@ pub returns-in-Regs-clause-count : goal.returns-in-Regs-clause-count
 returns-in-Regs-clause-count g c = counts_on (g.L.Link.faults c.args.self.now.talk.memory.below.below.below.link) (g.L.Link.faults c.settle.new.self.talk.memory.below.below.below.link) (g.L.Link.faults c.registers.new.self.talk.memory.below.below.below.link) c.registers.result c.in-Ok.ensures.count c.registers.ensures.count
 
 pub returns-in-Assign-clause-stays : goal.returns-in-Assign-clause-stays
-returns-in-Assign-clause-stays g c = λ b hs st x e runs u. absurd (subst RunsNoneInquired c.in-Assign.is runs)
+returns-in-Assign-clause-stays g c = λ (b : Behaviour) (hs : Hosts) (st : SessionState) x e inquired u.
+    let cmd = c.args.command.now in
+    let new = c.assign.new.self in
+    let y = c.in-Ok.ensures.meant b hs st x (expression_still st.state cmd (subst IsExpression (sym c.in-Assign.is) tt) e) in
+    again_as WithTable (Leaves cmd) (table_leaves cmd) b g.L.Link.conduct (g.L.Link.world new.talk.memory.below.below.below.link) new.first new.second st (c.assign.ensures.stays b y.hosts st y.there y.ready u)
 
 pub returns-in-Assign-clause-evaluated : goal.returns-in-Assign-clause-evaluated
 returns-in-Assign-clause-evaluated g c = λ (b : Behaviour) (hs : Hosts) (st : SessionState) x e expression.

@@ -83,7 +83,7 @@ returns-else-is_broken-clause-stays g c = λ (b : Behaviour) (hs : Hosts) (st : 
 pub returns-else-is_broken-clause-count : goal.returns-else-is_broken-clause-count
 returns-else-is_broken-clause-count g c =
     left_counts (g.L.Link.faults (wire_of c.args.self.now.talk).link) (g.L.Link.faults (wire_of c.prepared.new.talk).link) (g.L.Link.faults (wire_of c.prepared-in-Some.new.talk).link) (g.L.Link.faults (wire_of c.taken_away.new.talk).link) c.taken_away.result c.in-Err-prepared.fault c.left.result c.left.ensures.ok c.left.ensures.err
-    c.in-Ok.ensures.count c.in-Err-prepared.ensures.count (c.is_broken.ensures.whole c.if-is_broken.false) (λ k. ap (λ (z : _). g.L.Link.faults (wire_of z).link) (c.in-Err-prepared.ensures.untouched (ap (λ (z : _). Err z) k))) c.taken_away.ensures.count
+    c.in-Ok.ensures.count c.in-Err-prepared.ensures.count (c.is_broken.ensures.whole c.if-is_broken.false) c.taken_away.ensures.count
 
 pub returns-in-Ok-prepared-clause-count : goal.returns-in-Ok-prepared-clause-count
 returns-in-Ok-prepared-clause-count g c = c.in-Ok-prepared.ensures.count ∙ c.in-Ok.ensures.count

@@ -1,4 +1,4 @@
-use Rattle.std.proofs.Common.{◌≡◌, ◌∙◌, ◌≤◌, sym, ap, subst, arith}
+use Rattle.std.proofs.Common.{◌≡◌, ◌∙◌, ◌≤◌, refl, sym, ap, subst, arith}
 use Rattle.machine_state.specs.State.{Behaviour}
 use Rattle.claims.specs.Side.{SessionState}
 use Rattle.session.specs.declared.conversation.Session.{Session}
@@ -8,7 +8,7 @@ use Rattle.session.specs.Answered.{state_of, resume_of}
 use Rattle.session.specs.Meant.{Hosts, AllPrepared, NotAll, ResumesAs}
 use Rattle.c_session.specs.Commands.{ByStep, ByContinue}
 use Rattle.table_asks.specs.declared.fault.AskFault.TheVariants.{NoMemory}
-use Rattle.session.specs.Wanting.{StandAgain}
+use Rattle.session.specs.Wanting.{WithTable, StandAgain}
 use Rattle.session.proofs.Wanting.{stands_same}
 use Rattle.session.proofs.Looked.{undone_as}
 use Rattle.session.proofs.Tallying.{left_wants, wanted_counts, unready}
@@ -98,7 +98,7 @@ returns-in-Err-line_for-clause-stays g c = λ (b : Behaviour) (hs : Hosts) (st :
     elim c.match-self.branch [
       | in-Running-default w1 ↦
           let same : n ≡ s = c.settle-in-Err-line_for.ensures.running w1.in-Running-default.field-0-0 (ap (λ (z : Session g.row.L.Denot). z.mode) w1.self-is ∙ w1.in-Running-default.is-0) ∙ w1.self-is in
-          subst (λ (z : Session g.row.L.Denot). StandAgain b g.L.Link.conduct (g.L.Link.world (wire_of z.talk).link) z.first z.second st) (sym same) (stands_same b g.L.Link.conduct o s.first s.second hs st is.there is.sides)
+          subst (λ (z : Session g.row.L.Denot). StandAgain WithTable b g.L.Link.conduct (g.L.Link.world (wire_of z.talk).link) z.first z.second st) (sym same) (stands_same WithTable (λ a. refl) b g.L.Link.conduct o s.first s.second hs st is.there is.sides)
       | in_default-ByContinue+in-Ok w1 ↦
           let still = is_still s.mode st w1.in_default-ByContinue.not-Running-0 is.state may in
           let mid = w1.settle.new.self in

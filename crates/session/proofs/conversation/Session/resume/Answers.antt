@@ -5,7 +5,7 @@ use Rattle.claims.specs.Resumes.{state_after}
 use Rattle.session.specs.declared.answers.Answer.TheVariants.{Lines, NoMemory}
 use Rattle.resuming.specs.Runs.{CountsRun}
 use Rattle.session.specs.Counted.{CountsAnswer, CountsFault}
-use Rattle.session.specs.Wanting.{StandAgain}
+use Rattle.session.specs.Wanting.{WithTable, StandAgain}
 use Rattle.session.proofs.Wanting.{represents_again}
 use Rattle.session.proofs.Looked.{undone_as}
 use Rattle.session.proofs.Tallying.{answer_is, fault_counts, talk_ends}
@@ -153,6 +153,6 @@ returns-in-Err-clause-stays g c = λ b hs st x may is.
     let reply = c.reply.new.self in
     let none = c.reply.ensures.no_memory (answer_is c.reply.result NoMemory is) in
     let again = c.in-Err.ensures.stays b hs st x may (undone_as (List ℕ) Line c.in-Err.fault none.0) in
-    represents_again b g.L.Link.conduct (g.L.Link.world reply.talk.memory.below.below.below.link) reply.first reply.second reply.mode reply.limit st (x.state ∙ ap (λ m. state_of m) (sym (none.1 ∙ c.in-Err.ensures.mode))) (x.limit_is ∙ sym (c.reply.ensures.limit ∙ c.in-Err.ensures.limit))
-    (subst (λ z. StandAgain b g.L.Link.conduct (g.L.Link.world z.memory.below.below.below.link) reply.first reply.second st) (sym c.reply.ensures.talk)
-    (subst (λ z. StandAgain b g.L.Link.conduct (g.L.Link.world ready.talk.memory.below.below.below.link) z reply.second st) (sym c.reply.ensures.first) (subst (λ z. StandAgain b g.L.Link.conduct (g.L.Link.world ready.talk.memory.below.below.below.link) ready.first z st) (sym c.reply.ensures.second) again)))
+    represents_again WithTable b g.L.Link.conduct (g.L.Link.world reply.talk.memory.below.below.below.link) reply.first reply.second reply.mode reply.limit st (x.state ∙ ap (λ m. state_of m) (sym (none.1 ∙ c.in-Err.ensures.mode))) (x.limit_is ∙ sym (c.reply.ensures.limit ∙ c.in-Err.ensures.limit))
+    (subst (λ z. StandAgain WithTable b g.L.Link.conduct (g.L.Link.world z.memory.below.below.below.link) reply.first reply.second st) (sym c.reply.ensures.talk)
+    (subst (λ z. StandAgain WithTable b g.L.Link.conduct (g.L.Link.world ready.talk.memory.below.below.below.link) z reply.second st) (sym c.reply.ensures.first) (subst (λ z. StandAgain WithTable b g.L.Link.conduct (g.L.Link.world ready.talk.memory.below.below.below.link) ready.first z st) (sym c.reply.ensures.second) again)))
