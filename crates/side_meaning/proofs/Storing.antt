@@ -17,8 +17,8 @@ use Rattle.ps_step.specs.declared.fault.PsError.{PsError}
 use Rattle.ps_step.specs.declared.machine.PsCore.{PsCore}
 use Rattle.ps_step.specs.Results.{◌>>=◌}
 use Rattle.ps_step.specs.State.{Made}
+use Rattle.ps_run.proofs.Reaching.{reaches_keeps}
 use Rattle.ps_run.specs.Runs.{Answer, Asked, Runs, spent, ended, failed, next, asked, broken}
-use Rattle.ps_run.specs.Reaching.{Reaches, here, stepped, answered}
 use Rattle.ps_words.specs.declared.words.WordOperator.{WordOperator}
 use Rattle.ps_words.specs.declared.words.WordOperator.TheVariants.{SignedAdd, SignedSubtract, SignedMultiply, SignedDivide, SignedRemainder, Divide, Remainder, Add, Subtract, Multiply, ShiftLeft, SignedShiftRight, ShiftRight}
 use Rattle.ps_words.specs.Operators.{on_two, negating, below}
@@ -375,6 +375,5 @@ runs_kept _ _ _ _ _ _ _ (asked n k m d d₁ d' c c₁ c₂ c' op r s a run) = mo
 runs_kept _ _ _ _ _ _ _ (broken n k d d₁ c c₁ c₂ op g f s a how) = operates_kept a.operates
 
 pub reaches_keep : ReachesStoreNumbers
-reaches_keep n _ d _ c _ here = same_target d.target
-reaches_keep n _ d d' c _ (stepped {n = m} {c₁ = c₁} r s) = reaches_keep n (suc m) d d' c c₁ r
-reaches_keep n _ d d' c _ (answered {n = m} {d₁ = d₁} {c₁ = c₁} r s a) = more_kept d.target d₁.target d'.target (reaches_keep n (suc m) d d₁ c c₁ r) (operates_kept a.operates)
+reaches_keep n m d d' c c' h = reaches_keeps Operates (λ (e e' : Dial). KeepsTarget e.target e'.target) (λ e. same_target e.target) (λ e f g first second. more_kept e.target f.target g.target first second)
+    (λ e x op k r f y left no does. operates_kept does) n d c m d' c' h
