@@ -135,8 +135,8 @@ module _ {L : Type 0} (c : Conduct) (world : L → Option World) (faults : L →
   puts (Err Spent) u over = let y = over in_part regions rest told in ended (Err StepsSpent) y.0 y.1 y.2
   puts (Err NoMemory) u over =
       let y = over in_part regions rest told in
-      let kept = text_keeps_so_far (dial_of (desk start) regions) y.2 text (use_of begun.core.store (left_of begun)) y.3.0 in
-      record { regions' = y.0; stored = (subst (λ (t : Option Target). KeepsTarget (dial_of (desk start) regions).target t) (sym y.3.1) kept).stores; tells = y.1 }
+      let kept = text_keeps_so_far (dial_of (desk start) regions) y.2 text (use_of begun.core.store (left_of begun)) y.3 in
+      record { regions' = y.0; stored = (subst (λ (t : Option Target). KeepsTarget (dial_of (desk start) regions).target t) (sym y.4) kept).stores; tells = y.1 }
   puts (Err (Refused cause)) u over = absurd over
   puts (Err (Broken x)) u over = absurd u
 
